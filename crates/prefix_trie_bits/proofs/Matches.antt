@@ -1,0 +1,139 @@
+-- The longest and the shortest string of a bitmap that begins another.
+use Rattle.std.proofs.Common.{◌≡◌, ℕ, suc, ◌+◌, ◌-◌, ◌*◌, ◌/◌, ◌%◌, ◌^◌, ◌<◌, ◌≤◌, Bool, true, false, List, length, take, refl, sym, ap, ap₂, ◌∙◌, subst, arith, min, bit_and, pow_pos, pow-suc}
+use Rattle.std.specs.Int.{bit_at, leading_zeros, trailing_zeros, w32}
+use Rattle.std.proofs.lemmas.Nat.{le-div, div_below, and_le_l}
+use Rattle.std.proofs.lemmas.Nat.Bits.{bit_at_and, bit_at-lt, bit_at-zero, bit_at_above, bit_at-trailing_zeros}
+use Rattle.std.proofs.lemmas.List.{length-take-le}
+use Rattle.std.proofs.lemmas.Bool.{cases_lt}
+use Rattle.std.proofs.Common.{inl, inr}
+use Rattle.prefix_trie_bits.specs.Bits.{digits, begins}
+use Rattle.prefix_trie_bits.specs.BitStrings.{length-digits}
+use Rattle.prefix_trie_bits.specs.Begins.{begins-take, begins-length, take-begins}
+use Rattle.prefix_trie_bits.specs.Places.{has, value_bit, stands, HoldsValues, NoneBegins, IsLongest, IsShortest}
+use Rattle.prefix_trie_bits.proofs.Ranks.{bit-set, has-from}
+use Rattle.prefix_trie_bits.proofs.Strings.{top_length, length-short, string-bit, value_bit-longer}
+
+not-true : (b : Bool) → (b ≡ true → ⊥) → b ≡ false
+not-true true f = absurd (f refl)
+not-true false f = refl
+
+has-and : (a b i : ℕ) → has a i ≡ true → has b i ≡ true → has (bit_and a b) i ≡ true
+has-and a b i h k =
+    has-from _ i 1 (bit_at_and a b i ∙ ap₂ (λ x y. min x y) (bit-set a i h) (bit-set b i k))
+
+has-left : (a b i : ℕ) → has (bit_and a b) i ≡ true → has a i ≡ true
+has-left a b i h =
+    let e : min (bit_at a i) (bit_at b i) ≡ 1 = sym (bit_at_and a b i) ∙ bit-set _ i h in
+    has-from a i 1 (omega (arith, e, bit_at-lt a i))
+
+has-right : (a b i : ℕ) → has (bit_and a b) i ≡ true → has b i ≡ true
+has-right a b i h =
+    let e : min (bit_at a i) (bit_at b i) ≡ 1 = sym (bit_at_and a b i) ∙ bit-set _ i h in
+    has-from b i 1 (omega (arith, e, bit_at-lt b i))
+
+none-of-zero : (x i : ℕ) → x ≡ 0 → has x i ≡ true → ⊥
+none-of-zero x i e h =
+    let k : bit_at x i ≡ 0 = ap (λ y. bit_at y i) e ∙ bit_at-zero i in omega (arith, bit-set x i h)
+
+pub top-bit : (x j : ℕ) → 2 ^ j ≤ x → x < 2 ^ suc j → has x j ≡ true
+top-bit x j l h =
+    let up : x / 2 ^ j < 2 = div_below x (2 ^ j) 2 (pow_pos j) (double (2 ^ j) (2 ^ suc j) (pow-suc 2 j) h) in
+    let down : 1 ≤ x / 2 ^ j = le-div 1 x (2 ^ j) (pow_pos j) (single (2 ^ j) l) in
+    has-from x j 1 (one (x / 2 ^ j) down up)
+  where
+    double : (p q : ℕ) → q ≡ p * 2 → x < q → x < 2 * p
+    double p q e k = omega arith
+
+    single : (p : ℕ) → p ≤ x → 1 * p ≤ x
+    single p k = omega arith
+
+    one : (y : ℕ) → 1 ≤ y → y < 2 → y % 2 ≡ 1
+    one y a b = omega arith
+
+module _ (bitmap mask : ℕ) (rest : List Bool) (small : bitmap < 2 ^ 31) (holds : HoldsValues mask (λ s. begins s rest)) where
+  in-both : (i : ℕ) → i ≤ 4 → i ≤ length rest → stands bitmap rest i ≡ true → has (bit_and bitmap mask) (value_bit (take i rest)) ≡ true
+  in-both i short within h =
+      let n : length (take i rest) ≡ i = length-take-le i rest within in
+      has-and bitmap mask (value_bit (take i rest)) h (holds (take i rest) (omega arith) ∙ take-begins i rest)
+
+  pub none_begins : bit_and bitmap mask ≡ 0 → NoneBegins bitmap rest
+  none_begins e i short within =
+      not-true _ (λ h. none-of-zero (bit_and bitmap mask) (value_bit (take i rest)) e (in-both i short within h))
+
+  bit-below : (b : ℕ) → has (bit_and bitmap mask) b ≡ true → b < 31
+  bit-below b h = elim (cases_lt b 31) [
+    | inl l ↦ l
+    | inr g ↦ let z : bit_at bitmap b ≡ 0 = bit_at_above bitmap 31 b small g in
+        absurd (omega (arith, bit-set bitmap b (has-left bitmap mask b h)))
+  ]
+
+  -- a bit of both bitmaps is that of a string that begins rest
+  found : (b : ℕ) → has (bit_and bitmap mask) b ≡ true → (n : ℕ) × (n ≤ 4) × (n ≤ length rest) × (b ≡ value_bit (take n rest)) × (has bitmap b ≡ true)
+  found b h =
+      let l = bit-below b h in
+      let t = top_length (b + 1) (omega arith) (omega arith) in
+      let n = 31 - leading_zeros w32 (b + 1) in
+      let short = length-short b n l t.0 t.1 in
+      let s = digits n (b + 1 - 1 * 2 ^ n % 4294967296) in
+      let is : value_bit s ≡ b = string-bit b n l t.0 t.1 in
+      let long : length s ≡ n = length-digits n (b + 1 - 1 * 2 ^ n % 4294967296) in
+      let e : begins s rest ≡ true =
+      sym (holds s (subst (λ x. x ≤ 4) (sym long) short)) ∙ ap (λ x. has mask x) is ∙ has-right bitmap mask b h in
+      let within : length s ≤ length rest = begins-length s rest e in
+      (n, short, subst (λ x. x ≤ length rest) long within, sym is ∙ ap value_bit (sym (begins-take s rest e) ∙ ap (λ x. take x rest) long), has-left bitmap mask b h)
+
+  pub longest_is : (j : ℕ) → 2 ^ j ≤ bit_and bitmap mask → bit_and bitmap mask < 2 ^ suc j → IsLongest bitmap rest j
+  longest_is j l h =
+      let f = found j (top-bit (bit_and bitmap mask) j l h) in
+      record {
+        len = f.0;
+        short = f.1;
+        within = f.2;
+        bit_is = f.3;
+        set = f.4;
+        none_longer = λ i above i-short i-within. not-true _ (λ st. over i above i-within (in-both i i-short i-within st));
+      }
+    where
+      over : (i : ℕ) → (found j (top-bit (bit_and bitmap mask) j l h)).0 < i → i ≤ length rest → has (bit_and bitmap mask) (value_bit (take i rest)) ≡ true → ⊥
+      over i above i-within st =
+          let f = found j (top-bit (bit_and bitmap mask) j l h) in
+          let a : length (take f.0 rest) ≡ f.0 = length-take-le f.0 rest f.2 in
+          let b : length (take i rest) ≡ i = length-take-le i rest i-within in
+          let longer : value_bit (take f.0 rest) < value_bit (take i rest) =
+          value_bit-longer (take f.0 rest) (take i rest) (omega arith) in
+          let up : suc j ≤ value_bit (take i rest) = omega (arith, f.3) in
+          let z : bit_at (bit_and bitmap mask) (value_bit (take i rest)) ≡ 0 =
+          bit_at_above (bit_and bitmap mask) (suc j) (value_bit (take i rest)) h up in
+          omega (arith, z, bit-set _ _ st)
+
+  pub shortest_is : (t : ℕ) → has (bit_and bitmap mask) t ≡ true → ((i : ℕ) → i < t → bit_at (bit_and bitmap mask) i ≡ 0) → IsShortest bitmap rest t
+  shortest_is t h before =
+      let f = found t h in
+      record {
+        len = f.0;
+        short = f.1;
+        within = f.2;
+        bit_is = f.3;
+        set = f.4;
+        none_shorter = λ i below. not-true _ (λ st. under i below (in-both i (omega (arith, f.1)) (omega (arith, f.2)) st));
+      }
+    where
+      under : (i : ℕ) → i < (found t h).0 → has (bit_and bitmap mask) (value_bit (take i rest)) ≡ true → ⊥
+      under i below st =
+          let f = found t h in
+          let a : length (take f.0 rest) ≡ f.0 = length-take-le f.0 rest f.2 in
+          let b : length (take i rest) ≡ i = length-take-le i rest (omega (arith, f.2)) in
+          let shorter : value_bit (take i rest) < value_bit (take f.0 rest) =
+          value_bit-longer (take i rest) (take f.0 rest) (omega arith) in
+          let low : value_bit (take i rest) < t = omega (arith, f.3) in
+          omega (arith, before (value_bit (take i rest)) low, bit-set _ _ st)
+
+  pub longest_found : (bit_and bitmap mask ≡ 0 → ⊥) → IsLongest bitmap rest (31 - leading_zeros w32 (bit_and bitmap mask))
+  longest_found ne =
+      let t = top_length (bit_and bitmap mask) (omega arith) (omega (arith, and_le_l bitmap mask)) in
+      longest_is (31 - leading_zeros w32 (bit_and bitmap mask)) t.0 t.1
+
+  pub shortest_found : (bit_and bitmap mask ≡ 0 → ⊥) → IsShortest bitmap rest (trailing_zeros w32 (bit_and bitmap mask))
+  shortest_found ne =
+      let t = bit_at-trailing_zeros w32 (bit_and bitmap mask) (omega arith) (omega (arith, and_le_l bitmap mask)) in
+      shortest_is (trailing_zeros w32 (bit_and bitmap mask)) (has-from _ _ 1 t.1) t.2

@@ -1,0 +1,14 @@
+-- Lemmas on the model, and its worked rows.
+pub mod Members
+pub mod Homes
+pub mod Pruning
+pub mod Ordered
+pub mod Visits
+pub mod Matches
+pub mod Listings
+pub mod Halves
+pub mod Plain
+pub mod WorkedRows
+pub mod WorkedFacts
+pub mod Steps
+pub mod Askings

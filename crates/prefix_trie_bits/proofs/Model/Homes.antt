@@ -1,0 +1,26 @@
+-- Where a question's own node stands.
+use Rattle.std.proofs.Common.{◌≡◌, ℕ, ◌*◌, ◌/◌, ◌%◌, ◌≤◌, Bool, true, List, length, arith, length-take-le}
+use Rattle.prefix_trie_bits.specs.Bits.{begins}
+use Rattle.prefix_trie_bits.specs.Begins.{take-begins, begins-linear, begins-length}
+use Rattle.prefix_trie_bits.specs.Model.Nodes.{home}
+
+pub home-begins : (q : List Bool) → begins (home q) q ≡ true
+home-begins q = take-begins (5 * (length q / 5)) q
+
+pub home-length : (q : List Bool) → length (home q) ≡ 5 * (length q / 5)
+home-length q = length-take-le (5 * (length q / 5)) q (omega arith)
+
+times-five : (l k : ℕ) → l ≡ 5 * k → l % 5 ≡ 0
+times-five l k e = omega (arith, e)
+
+pub home-depth : (q : List Bool) → length (home q) % 5 ≡ 0
+home-depth q = times-five (length (home q)) (length q / 5) (home-length q)
+
+below-fifth : (s l : ℕ) → s ≤ l → s % 5 ≡ 0 → s ≤ 5 * (l / 5)
+below-fifth s l h e = omega (arith, h, e)
+
+-- each beginning of such a length begins it
+pub home-longest : (s q : List Bool) → begins s q ≡ true → length s % 5 ≡ 0 → begins s (home q) ≡ true
+home-longest s q e five =
+    let short : length s ≤ length (home q) = omega (arith, home-length q, below-fifth (length s) (length q) (begins-length s q e) five) in
+    begins-linear s (home q) q e (home-begins q) short

@@ -1,0 +1,149 @@
+-- The listing and its selections.
+use Rattle.std.proofs.Common.{◌≡◌, ◌≢◌, ℕ, ◌%◌, Bool, true, false, cond, not, ◌&&◌, T, List, [], ◌∷◌, ◌++◌, length, filter, is_lt, is_le, Ordering, Less, Equal, Greater, refl, sym, ap, ◌∙◌, subst, arith, inl, inr, true≢false}
+use lib.Dec.{T as IsT}
+use Rattle.std.specs.Ordering.{ordering_reverse}
+use Rattle.std.specs.FinMap.{entries_sorted, is_sorted}
+use Rattle.std.specs.FinMap.Entries.{below_all}
+use Rattle.prefix_trie_bits.specs.Bits.{begins}
+use Rattle.prefix_trie_bits.specs.Begins.{begins-length, begins-trans}
+use Rattle.prefix_trie_bits.specs.Order.{listing_cmp, listing_total, listing-refl, listing-common, IsBefore}
+use Rattle.prefix_trie_bits.specs.Model.Entries.{Entries, AreWithin}
+use Rattle.prefix_trie_bits.specs.Model.Selections.{listing, listing_from, listing_after}
+use Rattle.prefix_trie_bits.specs.Model.Nodes.{is_root, has_node, needed, AreNodes}
+use Rattle.prefix_trie_bits.specs.Laws.Listings.{ListingLaws}
+use Rattle.prefix_trie_bits.proofs.Model.Members.{and-first, and-second, needs, needs_root, needed_for}
+use Rattle.prefix_trie_bits.proofs.Model.Ordered.{t-true, true-t, lt-less, sorted-tail, sorted-head, entries-retained}
+use Rattle.prefix_trie_bits.proofs.Model.Pruning.{begins-nil, too_long}
+
+-- the order in words
+begins-cons : (b : Bool) (s t : List Bool) → begins s t ≡ true → begins (b ∷ s) (b ∷ t) ≡ true
+unfolding begins
+begins-cons true s t e = e
+begins-cons false s t e = e
+
+abbrev tail-of : List Bool → List Bool
+tail-of [] = []
+tail-of (b ∷ s) = s
+
+other-tail : (a b : Bool) (s t : List Bool) → (s ≢ t) → (a ∷ s ≢ b ∷ t)
+other-tail a b s t f e = f (ap tail-of e)
+
+longer : (b : Bool) (s t : List Bool) → IsBefore s t → IsBefore (b ∷ s) (b ∷ t)
+longer b s t (inl (e, f)) = inl (begins-cons b s t e, other-tail b b s t f)
+longer b s t (inr (c, x, y, e, f)) = inr (b ∷ c, x, y, ap (λ z. b ∷ z) e, ap (λ z. b ∷ z) f)
+
+less-before : (s t : List Bool) → listing_cmp s t ≡ Less → IsBefore s t
+less-before [] [] e = absurd (true≢false (sym (ap is_lt e)))
+less-before [] (b ∷ t) e = inl (begins-nil (b ∷ t), λ h. true≢false (ap is_root h))
+less-before (a ∷ s) [] e = absurd (true≢false (sym (ap is_lt e)))
+less-before (true ∷ s) (true ∷ t) e = longer true s t (less-before s t e)
+less-before (true ∷ s) (false ∷ t) e = absurd (true≢false (sym (ap is_lt e)))
+less-before (false ∷ s) (true ∷ t) e = inr ([], s, t, refl, refl)
+less-before (false ∷ s) (false ∷ t) e = longer false s t (less-before s t e)
+
+begun-less : (s t : List Bool) → begins s t ≡ true → (s ≢ t) → listing_cmp s t ≡ Less
+unfolding begins
+begun-less [] [] e f = absurd (f refl)
+begun-less [] (b ∷ t) e f = refl
+begun-less (a ∷ s) [] e f = absurd (true≢false (sym e))
+begun-less (true ∷ s) (true ∷ t) e f = begun-less s t e (λ h. f (ap (λ x. true ∷ x) h))
+begun-less (true ∷ s) (false ∷ t) e f = absurd (true≢false (sym e))
+begun-less (false ∷ s) (true ∷ t) e f = absurd (true≢false (sym e))
+begun-less (false ∷ s) (false ∷ t) e f = begun-less s t e (λ h. f (ap (λ x. false ∷ x) h))
+
+before-less : (s t : List Bool) → IsBefore s t → listing_cmp s t ≡ Less
+before-less s t (inl (e, f)) = begun-less s t e f
+before-less s t (inr (c, x, y, e, f)) =
+    subst (λ z. listing_cmp z t ≡ Less) (sym e) (subst (λ z. listing_cmp (c ++ false ∷ x) z ≡ Less) (sym f) (listing-common c (false ∷ x) (true ∷ y)))
+
+back : (s t : List Bool) → listing_cmp s t ≡ Less → listing_cmp t s ≡ Greater
+back s t e = listing_total.antisymm t s ∙ ap ordering_reverse e
+
+le-lt : (o : Ordering) → is_lt o ≡ true → is_le o ≡ true
+le-lt Less e = refl
+le-lt Equal e = refl
+le-lt Greater e = e
+
+module _ {X : Type 0} where
+  all-behind : (s : List Bool) (es : List (List Bool × X)) → T (below_all listing_cmp s es) → filter (λ e. is_lt (listing_cmp s e.0)) es ≡ es
+  all-behind s [] h = refl
+  all-behind s (x ∷ es) h =
+      let all = t-true (is_lt (listing_cmp s x.0) && below_all listing_cmp s es) h in
+      let less = and-first (is_lt (listing_cmp s x.0)) (below_all listing_cmp s es) all in
+      ap (λ b. cond b (x ∷ filter (λ e. is_lt (listing_cmp s e.0)) es) (filter (λ e. is_lt (listing_cmp s e.0)) es)) less
+      ∙ ap (λ ys. x ∷ ys) (all-behind s es (true-t (below_all listing_cmp s es) (and-second (is_lt (listing_cmp s x.0)) (below_all listing_cmp s es) all)))
+
+  -- what comes before the last item of a sorted list is before it
+  heads-before : (x : List Bool × X) (read : List (List Bool × X)) (last : List Bool × X) (rest : List (List Bool × X)) → T (below_all listing_cmp x.0 (read ++ last ∷ rest)) → listing_cmp x.0 last.0 ≡ Less
+  heads-before x [] last rest h = lt-less (listing_cmp x.0 last.0) (and-first (is_lt (listing_cmp x.0 last.0)) (below_all listing_cmp x.0 rest) (t-true (is_lt (listing_cmp x.0 last.0) && below_all listing_cmp x.0 rest) h))
+  heads-before x (r ∷ read) last rest h =
+      heads-before x read last rest (true-t (below_all listing_cmp x.0 (read ++ last ∷ rest)) (and-second (is_lt (listing_cmp x.0 r.0)) (below_all listing_cmp x.0 (read ++ last ∷ rest)) (t-true (is_lt (listing_cmp x.0 r.0) && below_all listing_cmp x.0 (read ++ last ∷ rest)) h)))
+
+  after-last : (read : List (List Bool × X)) (last : List Bool × X) (rest : List (List Bool × X)) → T (is_sorted listing_cmp (read ++ last ∷ rest)) → filter (λ e. is_lt (listing_cmp last.0 e.0)) (read ++ last ∷ rest) ≡ rest
+  after-last [] last rest h =
+      ap (λ o. cond (is_lt o) (last ∷ filter (λ e. is_lt (listing_cmp last.0 e.0)) rest) (filter (λ e. is_lt (listing_cmp last.0 e.0)) rest)) (listing-refl last.0)
+      ∙ all-behind last.0 rest (sorted-head last rest h)
+  after-last (x ∷ read) last rest h =
+      ap (λ o. cond (is_lt o) (x ∷ filter (λ e. is_lt (listing_cmp last.0 e.0)) (read ++ last ∷ rest)) (filter (λ e. is_lt (listing_cmp last.0 e.0)) (read ++ last ∷ rest)))
+      (back x.0 last.0 (heads-before x read last rest (sorted-head x (read ++ last ∷ rest) h)))
+      ∙ after-last read last rest (sorted-tail x (read ++ last ∷ rest) h)
+
+  all-from : (s : List Bool) (es : List (List Bool × X)) → T (below_all listing_cmp s es) → filter (λ e. is_le (listing_cmp s e.0)) es ≡ es
+  all-from s [] h = refl
+  all-from s (x ∷ es) h =
+      let all = t-true (is_lt (listing_cmp s x.0) && below_all listing_cmp s es) h in
+      let less = le-lt (listing_cmp s x.0) (and-first (is_lt (listing_cmp s x.0)) (below_all listing_cmp s es) all) in
+      ap (λ b. cond b (x ∷ filter (λ e. is_le (listing_cmp s e.0)) es) (filter (λ e. is_le (listing_cmp s e.0)) es)) less
+      ∙ ap (λ ys. x ∷ ys) (all-from s es (true-t (below_all listing_cmp s es) (and-second (is_lt (listing_cmp s x.0)) (below_all listing_cmp s es) all)))
+
+  from-last : (read : List (List Bool × X)) (last : List Bool × X) (rest : List (List Bool × X)) → T (is_sorted listing_cmp (read ++ last ∷ rest)) → filter (λ e. is_le (listing_cmp last.0 e.0)) (read ++ last ∷ rest) ≡ last ∷ rest
+  from-last [] last rest h =
+      ap (λ o. cond (is_le o) (last ∷ filter (λ e. is_le (listing_cmp last.0 e.0)) rest) (filter (λ e. is_le (listing_cmp last.0 e.0)) rest)) (listing-refl last.0)
+      ∙ ap (λ ys. last ∷ ys) (all-from last.0 rest (sorted-head last rest h))
+  from-last (x ∷ read) last rest h =
+      ap (λ o. cond (is_le o) (x ∷ filter (λ e. is_le (listing_cmp last.0 e.0)) (read ++ last ∷ rest)) (filter (λ e. is_le (listing_cmp last.0 e.0)) (read ++ last ∷ rest)))
+      (back x.0 last.0 (heads-before x read last rest (sorted-head x (read ++ last ∷ rest) h)))
+      ∙ from-last read last rest (sorted-tail x (read ++ last ∷ rest) h)
+
+module _ {T : Type 0} where
+  resumes : (m : Entries T) (read : List (List Bool × T)) (last : List Bool × T) (rest : List (List Bool × T)) → listing m ≡ read ++ last ∷ rest → listing_after m last.0 ≡ rest
+  resumes m read last rest e =
+      ap (filter (λ x. is_lt (listing_cmp last.0 x.0))) e
+      ∙ after-last read last rest (subst (λ es. IsT (is_sorted listing_cmp es)) e (entries_sorted m))
+
+  resumes_at : (m : Entries T) (read : List (List Bool × T)) (last : List Bool × T) (rest : List (List Bool × T)) → listing m ≡ read ++ last ∷ rest → listing_from m last.0 ≡ last ∷ rest
+  resumes_at m read last rest e =
+      ap (filter (λ x. is_le (listing_cmp last.0 x.0))) e
+      ∙ from-last read last rest (subst (λ es. IsT (is_sorted listing_cmp es)) e (entries_sorted m))
+
+  pub needed_are_nodes : (width : ℕ) (m : Entries T) → AreWithin width m → AreNodes width m (needed m)
+  needed_are_nodes width m within = record {
+    within = λ s e. elim (needed_for m s e) [
+      | inl root ↦ omega (arith, ap length root)
+      | inr why ↦ omega (arith, begins-length s why.key why.begins_it, within why.key why.stored)
+    ];
+    depths = λ s e. elim (needed_for m s e) [
+      | inl root ↦ ap (λ x. length x % 5) root
+      | inr why ↦ why.five
+    ];
+    rooted = needs_root m;
+    closed = λ s t e b five. elim (needed_for m t e) [
+      | inl root ↦ subst (λ x. has_node (needed m) x ≡ true) (sym (only_root s t b root)) (needs_root m)
+      | inr why ↦ needs m s why.key five why.stored (begins-trans s t why.key b why.begins_it)
+    ];
+    hold_needed = λ s e. e;
+  }
+    where
+      only_root : (s t : List Bool) → begins s t ≡ true → t ≡ [] → s ≡ []
+      only_root [] t b e = refl
+      only_root (x ∷ s) t b e = absurd (too_long x s (subst (λ y. begins (x ∷ s) y ≡ true) e b))
+
+pub listing_laws : (T : Type 0) → ListingLaws T
+listing_laws T = record {
+  order = λ s t. (less-before s t, before-less s t);
+  resumes = resumes;
+  resumes_at = resumes_at;
+  removed = λ m q. entries-retained m (λ s. not (begins q s));
+  handed = λ m q. entries-retained m (λ s. begins q s);
+  needed_are_nodes = needed_are_nodes;
+}

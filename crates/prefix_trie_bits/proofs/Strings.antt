@@ -1,0 +1,201 @@
+-- Value bits of strings, and the strings of value bits.
+use Rattle.std.proofs.Common.{◌≡◌, ℕ, suc, ◌+◌, ◌-◌, ◌*◌, ◌/◌, ◌%◌, ◌^◌, ◌<◌, ◌≤◌, Bool, List, [], ◌∷◌, ◌++◌, length, take, drop, sym, ap, ap₂, ◌∙◌, subst, arith, inl, inr, pow_pos, pow-suc, min, mod-eq_of_lt, add-one}
+use Rattle.std.specs.Int.{leading_zeros, w32}
+use Rattle.std.proofs.lemmas.Nat.{leading_top, pow_below, one_shl}
+use Rattle.std.proofs.lemmas.Bool.{cases_lt, cases_eq}
+use Rattle.std.proofs.lemmas.List.{length-drop, take_all, take-take, length-take-le, length-append}
+use Rattle.prefix_trie_bits.specs.Bits.{bit, number, digits, begins, zeros}
+use Rattle.prefix_trie_bits.specs.BitStrings.{number-append, same-from-number, number-lt, number-digits, length-digits, digits-number}
+use Rattle.prefix_trie_bits.specs.Begins.{same_bool, begins-take, begins-from-take, begins-trans, take-begins}
+use Rattle.prefix_trie_bits.specs.Windows.{window-inside, window-of-front, length-window, digits-of-number, window-below}
+use Rattle.prefix_trie_bits.specs.Places.{value_bit}
+
+pub pow-le : (a b : ℕ) → a ≤ b → 2 ^ a ≤ 2 ^ b
+pow-le a b l = elim (cases_eq a b) [
+  | inl e ↦ let p : 2 ^ a ≡ 2 ^ b = ap (λ x. 2 ^ x) e in omega arith
+  | inr ne ↦ omega (arith, pow_below a b (omega arith))
+]
+
+-- a string's value bit is one less than the number of its bits behind a 1
+pub value_bit-suc : (s : List Bool) → value_bit s + 1 ≡ 2 ^ length s + number s
+value_bit-suc s = let p = pow_pos (length s) in omega arith
+
+pub value_bit-high : (s : List Bool) → value_bit s + 1 < 2 ^ suc (length s)
+value_bit-high s =
+    let p : 2 ^ suc (length s) ≡ 2 ^ length s * 2 = pow-suc 2 (length s) in
+    omega (arith, p, number-lt s, value_bit-suc s)
+
+pub value_bit-low : (s : List Bool) → 2 ^ length s ≤ value_bit s + 1
+value_bit-low s = omega (arith, value_bit-suc s)
+
+pub value_bit-small : (s : List Bool) → length s ≤ 4 → value_bit s < 31
+value_bit-small s l =
+    let p : 2 ^ suc (length s) ≤ 32 = pow-le (suc (length s)) 5 (omega arith) in omega (arith, p, value_bit-high s)
+
+-- a longer string has a higher bit
+pub value_bit-longer : (s t : List Bool) → length s < length t → value_bit s < value_bit t
+value_bit-longer s t l =
+    omega (arith, value_bit-high s, value_bit-low t, pow-le (suc (length s)) (length t) (omega arith))
+
+-- the length of a number
+pub power-unique : (x a b : ℕ) → 2 ^ a ≤ x → x < 2 ^ suc a → 2 ^ b ≤ x → x < 2 ^ suc b → a ≡ b
+power-unique x a b la ha lb hb =
+    elim (cases_lt a b) [
+      | inl l ↦ absurd (omega (arith, pow-le (suc a) b (omega arith)))
+      | inr g ↦ elim (cases_eq a b) [ inl e ↦ e | inr ne ↦ absurd (omega (arith, pow-le (suc b) a (omega arith))) ]
+    ]
+
+-- ---- the string of a value bit
+
+pub top_length : (x : ℕ) → 0 < x → x < 4294967296 → (2 ^ (31 - leading_zeros w32 x) ≤ x) × (x < 2 ^ suc (31 - leading_zeros w32 x))
+top_length x p h =
+    let t = leading_top 32 x p h in
+    let e : t.0 ≡ 31 - leading_zeros w32 x = omega (arith, t.1) in
+    (subst (λ n. 2 ^ n ≤ x) e t.2, subst (λ n. x < 2 ^ suc n) e t.3)
+
+module _ (b n : ℕ) (small : b < 31) (above : 2 ^ n ≤ b + 1) (below : b + 1 < 2 ^ suc n) where
+  pub length-short : n ≤ 4
+  length-short =
+      elim (cases_lt n 5) [ inl l ↦ omega arith | inr g ↦ let p : 32 ≤ 2 ^ n = pow-le 5 n g in absurd (omega arith) ]
+
+  one-shifted : 1 * 2 ^ n % 4294967296 ≡ 2 ^ n
+  one-shifted = one_shl n 32 (let h = length-short in omega arith)
+
+  pub rest-sub : 1 * 2 ^ n % 4294967296 ≤ b + 1
+  rest-sub = subst (λ x. x ≤ b + 1) (sym one-shifted) above
+
+  pub rest-fits : b + 1 - 1 * 2 ^ n % 4294967296 < 2 ^ n
+  rest-fits =
+      let p : 2 ^ suc n ≡ 2 ^ n * 2 = pow-suc 2 n in
+      subst (λ x. b + 1 - x < 2 ^ n) (sym one-shifted) (omega arith)
+
+  pub string-bit : value_bit (digits n (b + 1 - 1 * 2 ^ n % 4294967296)) ≡ b
+  string-bit =
+      let r = b + 1 - 1 * 2 ^ n % 4294967296 in
+      let e : r + 2 ^ n ≡ b + 1 = sum (1 * 2 ^ n % 4294967296) one-shifted in
+      let k : number (digits n r) ≡ r = number-digits n r ∙ mod-eq_of_lt rest-fits in
+      ap (λ l. 2 ^ l - 1 + number (digits n r)) (length-digits n r) ∙
+      ap (λ x. 2 ^ n - 1 + x) k ∙ back (2 ^ n) r e (pow_pos n)
+    where
+      sum : (x : ℕ) → x ≡ 2 ^ n → b + 1 - x + 2 ^ n ≡ b + 1
+      sum x e = omega arith
+
+      back : (p r : ℕ) → r + p ≡ b + 1 → 0 < p → p - 1 + r ≡ b
+      back p r e l = omega arith
+
+  pub string-only : (s : List Bool) → value_bit s ≡ b → s ≡ digits n (b + 1 - 1 * 2 ^ n % 4294967296)
+  string-only s e =
+      let l : length s ≡ n =
+      power-unique (b + 1) (length s) n (subst (λ x. 2 ^ length s ≤ x + 1) e (value_bit-low s)) (subst (λ x. x + 1 < 2 ^ suc (length s)) e (value_bit-high s)) above below in
+      let k : number s ≡ b + 1 - 1 * 2 ^ n % 4294967296 =
+      less (1 * 2 ^ n % 4294967296) (2 ^ length s) (number s) (one-shifted ∙ ap (λ x. 2 ^ x) (sym l)) (sym (value_bit-suc s) ∙ ap (λ x. x + 1) e) in
+      sym (digits-number s) ∙ ap₂ digits l k
+    where
+      less : (x p m : ℕ) → x ≡ p → p + m ≡ b + 1 → m ≡ b + 1 - x
+      less x p m e f = omega arith
+
+-- ---- a key's string below a node, of which the code reads windows
+
+length-below : (b : List Bool) (depth len : ℕ) → depth ≤ len → len ≤ length b → length (drop depth (take len b)) ≡ len - depth
+length-below b depth len h l =
+    length-drop depth (take len b) ∙ ap (λ n. n - depth) (length-take-le len b l)
+
+-- what a window within a key's length says
+pub window-is : (b z : List Bool) (depth len n : ℕ) → depth + n ≤ len → len ≤ length b → take n (drop depth (b ++ z)) ≡ take n (drop depth (take len b))
+window-is b z depth len n h l =
+    window-inside b z depth n (omega arith) ∙ sym (window-of-front b len depth n h)
+
+pub all-of-window : (b z : List Bool) (depth len : ℕ) → depth ≤ len → len ≤ length b → take (len - depth) (drop depth (b ++ z)) ≡ drop depth (take len b)
+all-of-window b z depth len h l =
+    window-is b z depth len (len - depth) (omega arith) l ∙
+    take_all (len - depth) (drop depth (take len b)) (omega (arith, length-below b depth len h l))
+
+length-four : (b : List Bool) (depth : ℕ) → depth ≤ length b → length (take 4 (drop depth (b ++ zeros 5))) ≡ 4
+length-four b depth l =
+    length-window (b ++ zeros 5) depth 4 (omega (arith, length-append b (zeros 5)))
+
+pub pos-below : (b : List Bool) (depth x : ℕ) → depth ≤ length b → x ≡ number (take 4 (drop depth (b ++ zeros 5))) → x < 16
+pos-below b depth x l e =
+    subst (λ y. y < 16) (sym e) (window-below (take 4 (drop depth (b ++ zeros 5))) 4 (length-four b depth l))
+
+-- the string that the index of a table of masks stands for
+pub index-string : (b : List Bool) (depth len level x : ℕ) → depth ≤ len → len ≤ length b → level ≡ min (len - depth) 4 → x ≡ number (take 4 (drop depth (b ++ zeros 5))) → take ((16 * level + x) / 16) (digits 4 ((16 * level + x) % 16)) ≡ take 4 (drop depth (take len b))
+index-string b depth len level x h l level-is x-is =
+    let small = pos-below b depth x (omega arith) x-is in
+    ap₂ (λ m k. take m (digits 4 k)) (row level x small) (column level x small) ∙
+    ap (λ s. take level s) (ap (digits 4) x-is ∙ digits-of-number (take 4 (drop depth (b ++ zeros 5))) 4 (length-four b depth (omega arith))) ∙
+    take-take level 4 (drop depth (b ++ zeros 5)) (omega arith) ∙
+    window-is b (zeros 5) depth len level (omega arith) l ∙
+    elim (cases_lt (len - depth) 4) [
+      | inl short ↦
+          let n : length (drop depth (take len b)) ≡ len - depth = length-below b depth len h l in
+          take_all level (drop depth (take len b)) (omega arith) ∙ sym (take_all 4 (drop depth (take len b)) (omega arith))
+      | inr long ↦ let e : level ≡ 4 = omega arith in ap (λ m. take m (drop depth (take len b))) e
+    ]
+  where
+    row : (a y : ℕ) → y < 16 → (16 * a + y) / 16 ≡ a
+    row a y h = omega arith
+
+    column : (a y : ℕ) → y < 16 → (16 * a + y) % 16 ≡ y
+    column a y h = omega arith
+
+-- ---- what the first four bits decide
+
+pub begins-four : (s t : List Bool) → length s ≤ 4 → begins s (take 4 t) ≡ begins s t
+begins-four s t l =
+    same_bool _ _
+    (λ e. begins-trans s (take 4 t) t e (take-begins 4 t))
+    (λ e. begins-from-take s (take 4 t) (length s) (take-take (length s) 4 t l ∙ begins-take s t e))
+
+pub four-of-short : (b : List Bool) (depth len : ℕ) → depth ≤ len → len < depth + 5 → len ≤ length b → take 4 (drop depth (take len b)) ≡ drop depth (take len b)
+four-of-short b depth len h last l =
+    let n = length-below b depth len h l in take_all 4 (drop depth (take len b)) (omega arith)
+
+-- ---- what the code computes of a value bit
+
+pub value_bit_from_window : (b : List Bool) (depth len x : ℕ) → depth ≤ len → len < depth + 5 → len ≤ length b → x ≡ number (take (len - depth) (drop depth (b ++ zeros 5))) → 1 * 2 ^ (len - depth) % 4294967296 - 1 + x ≡ value_bit (drop depth (take len b))
+value_bit_from_window b depth len x h last l e =
+    ap₂ (λ p m. p - 1 + m) (one_shl (len - depth) 32 (omega arith)) (e ∙ ap number (all-of-window b (zeros 5) depth len h l)) ∙
+    ap (λ n. 2 ^ n - 1 + number (drop depth (take len b))) (sym (length-below b depth len h l))
+
+pub value_bit_window_small : (b : List Bool) (depth len x : ℕ) → depth ≤ len → len < depth + 5 → len ≤ length b → x ≡ number (take (len - depth) (drop depth (b ++ zeros 5))) → 1 * 2 ^ (len - depth) % 4294967296 - 1 + x < 31
+value_bit_window_small b depth len x h last l e =
+    subst (λ y. y < 31) (sym (value_bit_from_window b depth len x h last l e))
+    (value_bit-small (drop depth (take len b)) (let n = length-below b depth len h l in omega arith))
+
+-- ---- one bit more
+
+number-one : (s : List Bool) (b : Bool) → number (s ++ b ∷ []) ≡ number s * 2 + bit b
+unfolding number
+number-one s b = number-append s (b ∷ []) ∙ last (number s) (bit b)
+  where
+    last : (x y : ℕ) → x * 2 + (y * 1 + 0) ≡ x * 2 + y
+    last x y = omega arith
+
+length-one : (s : List Bool) (b : Bool) → length (s ++ b ∷ []) ≡ suc (length s)
+length-one s b = length-append s (b ∷ []) ∙ add-one (length s)
+
+-- the value bits below a value bit
+pub value_bit-step : (s : List Bool) (b : Bool) → value_bit (s ++ b ∷ []) ≡ 2 * value_bit s + 1 + bit b
+value_bit-step s b =
+    ap₂ (λ n m. 2 ^ n - 1 + m) (length-one s b) (number-one s b) ∙
+    ap (λ p. p - 1 + (number s * 2 + bit b)) (pow-suc 2 (length s)) ∙
+    twice (2 ^ length s) (number s) (bit b) (pow_pos (length s))
+  where
+    twice : (p m x : ℕ) → 0 < p → p * 2 - 1 + (m * 2 + x) ≡ 2 * (p - 1 + m) + 1 + x
+    twice p m x h = omega arith
+
+-- the children below a value bit of the last level
+pub child_bit-step : (s : List Bool) (b : Bool) → length s ≡ 4 → number (s ++ b ∷ []) ≡ 2 * (value_bit s - 15) + bit b
+child_bit-step s b e = number-one s b ∙ below (value_bit s) (number s) (ap (λ n. 2 ^ n - 1 + number s) e)
+  where
+    below : (v m : ℕ) → v ≡ 15 + m → m * 2 + bit b ≡ 2 * (v - 15) + bit b
+    below v m f = omega arith
+
+-- strings with one value bit are one
+pub value_bit-injective : (s t : List Bool) → value_bit s ≡ value_bit t → s ≡ t
+value_bit-injective s t e =
+    let l : length s ≡ length t =
+    power-unique (value_bit t + 1) (length s) (length t) (subst (λ x. 2 ^ length s ≤ x + 1) e (value_bit-low s)) (subst (λ x. x + 1 < 2 ^ suc (length s)) e (value_bit-high s)) (value_bit-low t) (value_bit-high t) in
+    let p : 2 ^ length s ≡ 2 ^ length t = ap (λ n. 2 ^ n) l in
+    same-from-number s t l (omega (arith, value_bit-suc s, value_bit-suc t))

@@ -1,0 +1,6 @@
+use Rattle.prefix_trie_bits.specs.Places.{strings}
+use Rattle.prefix_trie_bits.proofs.Picks.{pick-none}
+use Rattle.prefix_trie_bits.proofs.node.PlacesDefault.default.Goals as goal
+
+pub returns : goal.returns
+returns c = pick-none (strings 5)

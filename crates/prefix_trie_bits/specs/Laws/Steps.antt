@@ -1,0 +1,48 @@
+-- What every step of the model keeps.
+use Rattle.std.specs.Prelude.{◌≡◌, ◌≢◌, ℕ, ◌≤◌, Bool, true, false, not, nat_le, List, length, ◌++◌, None}
+use Rattle.std.specs.FinMap.{get}
+use Rattle.prefix_trie_bits.specs.Bits.{begins}
+use Rattle.prefix_trie_bits.specs.Order.{same_string}
+use Rattle.prefix_trie_bits.specs.Model.Entries.{Entries, AreWithin, with_entry, without_entry}
+use Rattle.prefix_trie_bits.specs.Model.Nodes.{AreNodes, IsTidy, needed, with_needed, nodes_without}
+use Rattle.prefix_trie_bits.specs.Model.Step.{State, Call, Insert, Get, Lpm, Spm, Remove, RemoveKeepTree, RemoveChildren, RetainAtLeast, Clear, Len, NodeCount, AddressCount, ListAll, ListFrom, Children, Cover, CallFits, Reply, Refused, Refusal, Step, Run}
+
+-- what holds of every map: keys within the width, and a set of nodes for them
+pub record IsMap {T : Type 0} (width : ℕ) (s : State T) : Type 0 where
+  pub keys_within : AreWithin width s.entries
+  pub are_nodes : AreNodes width s.entries s.nodes
+
+-- whether the call may write or remove the key k
+abbrev pub touches : {P T : Type 0} → (P → List Bool) → Call P T → List Bool → Bool
+touches path (Insert q v) k = same_string k (path q)
+touches path (Get q) k = false
+touches path (Lpm q) k = false
+touches path (Spm q) k = false
+touches path (Remove q) k = same_string k (path q)
+touches path (RemoveKeepTree q) k = same_string k (path q)
+touches path (RemoveChildren q) k = begins (path q) k
+touches path (RetainAtLeast n) k = not (nat_le n (length k))
+touches path Clear k = true
+touches path Len k = false
+touches path NodeCount k = false
+touches path AddressCount k = false
+touches path ListAll k = false
+touches path (ListFrom q inclusive) k = false
+touches path (Children q) k = false
+touches path (Cover q) k = false
+
+pub record StepLaws (P T : Type 0) : Type 0 where
+  pub stays_map : (path : P → List Bool) (back : List Bool → P) (width : ℕ) (s : State T) (call : Call P T) (reply : Reply P T) (t : State T)
+      → CallFits (λ q. length (path q) ≤ width) call → Step path back width s call reply t → IsMap width s → IsMap width t
+  pub stays_tidy : (path : P → List Bool) (back : List Bool → P) (width : ℕ) (s : State T) (call : Call P T) (reply : Reply P T) (t : State T)
+      → ((q : P) → call ≢ RemoveKeepTree q) → Step path back width s call reply t → IsMap width s → IsTidy s.entries s.nodes → IsTidy t.entries t.nodes
+  -- an entry that a call neither writes nor removes is as it was
+  pub untouched : (path : P → List Bool) (back : List Bool → P) (width : ℕ) (s : State T) (call : Call P T) (reply : Reply P T) (t : State T) (k : List Bool)
+      → touches path call k ≡ false → Step path back width s call reply t → get t.entries k ≡ get s.entries k
+  pub refused_as_before : (path : P → List Bool) (back : List Bool → P) (width : ℕ) (s : State T) (call : Call P T) (cause : Refusal) (t : State T)
+      → Step path back width s call (Refused cause) t → t ≡ s
+  pub runs_join : (path : P → List Bool) (back : List Bool → P) (width : ℕ) (s t u : State T) (calls more : List (Call P T)) (replies rest : List (Reply P T))
+      → Run path back width s calls replies t → Run path back width t more rest u → Run path back width s (calls ++ more) (replies ++ rest) u
+  -- setting a new key of a tidy map and removing it again leaves the nodes as they were
+  pub set_and_removed : (width : ℕ) (m : Entries T) (s : List Bool) (v : T) → AreWithin width m → length s ≤ width → get m s ≡ None
+      → (without_entry (with_entry m s v) s ≡ m) × (nodes_without (with_needed (needed m) s) (with_entry m s v) s ≡ needed m)

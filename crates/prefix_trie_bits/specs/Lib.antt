@@ -1,0 +1,12 @@
+pub mod Bits
+pub mod BitStrings
+pub mod Begins
+pub mod Windows
+pub mod Order
+pub mod Keys
+pub mod Places
+pub mod Walks
+pub mod Model
+pub mod Laws
+pub mod Rows
+pub mod Facts

@@ -1,0 +1,48 @@
+-- How an array is cut into blocks. The sizes are the crate's code's; the rest is this project's own.
+use Rattle.std.specs.Prelude.{◌≡◌, ℕ, ◌+◌, Bool, ◌==◌, ◌&&◌, List, [], ◌∷◌, ◌++◌, Option, length, filter, find, Contains, IsPermutation, nat_le, nat_lt}
+use Rattle.std.specs.FinMap.{FinMap, keys}
+use Rattle.prefix_trie_bits.specs.Bits.{begins}
+use Rattle.prefix_trie_bits.specs.Order.{listing_cmp}
+use Rattle.prefix_trie_bits.specs.Model.Entries.{Entries}
+use Rattle.prefix_trie_bits.specs.Model.Nodes.{Nodes}
+
+-- the sizes of value blocks
+abbrev pub value_block_sizes : List ℕ
+value_block_sizes = 1 ∷ 2 ∷ 4 ∷ 8 ∷ 16 ∷ 24 ∷ 31 ∷ []
+
+-- the sizes of child blocks
+abbrev pub child_block_sizes : List ℕ
+child_block_sizes = 1 ∷ 2 ∷ 4 ∷ 8 ∷ 16 ∷ 24 ∷ 32 ∷ []
+
+-- the smallest of the sizes that holds n
+abbrev pub smallest_size : List ℕ → ℕ → Option ℕ
+smallest_size sizes n = find (λ size. nat_le n size) sizes
+
+-- a block: where it starts, and its size
+pub record Block : Type 0 where
+  pub start : ℕ
+  pub size : ℕ
+
+-- each block has one of the sizes, the first starts at `first`, each next one where the one before ends, the last ends at `end`
+abbrev pub Tiles : List ℕ → ℕ → List Block → ℕ → Type 0
+Tiles sizes first [] end = end ≡ first
+Tiles sizes first (b ∷ bs) end = Contains sizes b.size × (b.start ≡ first) × Tiles sizes (first + b.size) bs end
+
+-- the live blocks followed by the free ones are a rearrangement of blocks that tile the array
+pub record AreBlocksOf (sizes : List ℕ) (first : ℕ) (live free : List Block) (end : ℕ) : Type 0 where
+  pub blocks : List Block
+  pub tiles : Tiles sizes first blocks end
+  pub rearranged : IsPermutation (live ++ free) blocks
+
+-- a size for each holder's value block, or for each parent's child block, by the node's path
+abbrev pub Sizes : Type 0
+Sizes = FinMap listing_cmp ℕ
+
+module _ {T : Type 0} where
+  -- how many entries are a node's own
+  abbrev pub own_entries : Entries T → List Bool → ℕ
+  own_entries m p = length (filter (λ s. begins p s && nat_lt (length s) (length p + 5)) (keys m))
+
+-- how many children a node has
+abbrev pub child_count : Nodes → List Bool → ℕ
+child_count n p = length (filter (λ s. begins p s && (length s == length p + 5)) (keys n))

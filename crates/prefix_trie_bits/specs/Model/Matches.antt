@@ -1,0 +1,52 @@
+-- The stored keys that begin a question, the longest and the shortest of them.
+-- From the crate's documentation of `get_lpm`, `get_spm` and `cover`.
+use Rattle.std.specs.Prelude.{◌≡◌, ◌≤◌, Bool, true, List, [], ◌∷◌, length, Option, Some, None}
+use Rattle.std.specs.FinMap.{get, contains_key}
+use Rattle.prefix_trie_bits.specs.Bits.{begins}
+use Rattle.prefix_trie_bits.specs.Model.Entries.{Entries}
+use Rattle.prefix_trie_bits.specs.Model.Selections.{listing_covering}
+
+module _ {X : Type 0} where
+  -- the first item of a list, if there is one
+  abbrev pub first_item : List X → Option X
+  first_item [] = None
+  first_item (x ∷ xs) = Some x
+
+  -- the last item of a list, if there is one
+  abbrev pub last_item : List X → Option X
+  last_item [] = None
+  last_item (x ∷ []) = Some x
+  last_item (x ∷ y ∷ xs) = last_item (y ∷ xs)
+
+module _ {T : Type 0} where
+  -- the pairs whose keys begin the question, the shortest first
+  abbrev pub covers : Entries T → List Bool → List (List Bool × T)
+  covers m q = listing_covering m q
+
+  -- e is a pair of the map whose key begins the question
+  pub record IsMatch (m : Entries T) (q : List Bool) (e : List Bool × T) : Type 0 where
+    pub stored : get m e.0 ≡ Some e.1
+    pub begins_it : begins e.0 q ≡ true
+
+  -- no stored key that begins the question is longer
+  pub record IsLongestMatch (m : Entries T) (q : List Bool) (e : List Bool × T) : Type 0 where
+    pub matches : IsMatch m q e
+    pub longest : (s : List Bool) → contains_key m s ≡ true → begins s q ≡ true → length s ≤ length e.0
+
+  -- no stored key that begins the question is shorter
+  pub record IsShortestMatch (m : Entries T) (q : List Bool) (e : List Bool × T) : Type 0 where
+    pub matches : IsMatch m q e
+    pub shortest : (s : List Bool) → contains_key m s ≡ true → begins s q ≡ true → length e.0 ≤ length s
+
+  -- the longest stored key that begins the question, with its value
+  abbrev pub longest_match : Entries T → List Bool → Option (List Bool × T)
+  longest_match m q = last_item (covers m q)
+
+  -- the shortest stored key that begins the question, with its value
+  abbrev pub shortest_match : Entries T → List Bool → Option (List Bool × T)
+  shortest_match m q = first_item (covers m q)
+
+  -- what a match answers: the prefix rebuilt from its key, and its value
+  abbrev pub shown_match : {P : Type 0} → (List Bool → P) → Option (List Bool × T) → Option (P × T)
+  shown_match back None = None
+  shown_match back (Some e) = Some (back e.0, e.1)

@@ -1,0 +1,102 @@
+-- The order of a listing: a string before its extensions, and 0 before 1 at the first difference.
+use Rattle.std.proofs.Common.{◌≡◌, ◌≢◌, ◌⊎◌, is_eq, suc, ◌^◌, ap, ◌<◌, Bool, true, false, List, [], ◌∷◌, ◌++◌, length, refl, arith, Ordering, Less, Equal}
+use Rattle.std.specs.Ordering.{bool_cmp}
+use Rattle.std.specs.Cmp.{IsTotalOrder, bool_cmp_total}
+use Rattle.std.specs.Cmp.Lexicographic.{slice_cmp, lists_total}
+use Rattle.std.specs.FinMap.{IsAntisymmetric, slice_cmp-IsAntisymmetric}
+use Rattle.prefix_trie_bits.specs.Bits.{number, begins}
+use Rattle.prefix_trie_bits.specs.BitStrings.{number-lt}
+
+abbrev pub listing_cmp : List Bool → List Bool → Ordering
+listing_cmp = slice_cmp bool_cmp
+
+-- whether two strings are one
+abbrev pub same_string : List Bool → List Bool → Bool
+same_string s t = is_eq (listing_cmp s t)
+
+-- the same order in words: s is before t if s begins t and is another string, or s has 0 and t has 1 at the first difference
+abbrev pub IsBefore : List Bool → List Bool → Type 0
+IsBefore s t =
+    ((begins s t ≡ true) × (s ≢ t))
+    ⊎ ((common : List Bool) × (x : List Bool) × (y : List Bool) × (s ≡ common ++ false ∷ x) × (t ≡ common ++ true ∷ y))
+
+pub listing_total : IsTotalOrder listing_cmp
+listing_total = lists_total bool_cmp_total
+
+bits-same : IsAntisymmetric bool_cmp
+bits-same true true e = refl
+bits-same true false e = cc
+bits-same false true e = cc
+bits-same false false e = refl
+
+-- strings that tie are one
+pub listing_same : IsAntisymmetric listing_cmp
+listing_same = slice_cmp-IsAntisymmetric bits-same
+
+pub listing-refl : (s : List Bool) → listing_cmp s s ≡ Equal
+listing-refl [] = refl
+listing-refl (true ∷ s) = listing-refl s
+listing-refl (false ∷ s) = listing-refl s
+
+-- a common beginning counts for nothing
+pub listing-common : (s t u : List Bool) → listing_cmp (s ++ t) (s ++ u) ≡ listing_cmp t u
+listing-common [] t u = refl
+listing-common (true ∷ s) t u = listing-common s t u
+listing-common (false ∷ s) t u = listing-common s t u
+
+-- a string is before its extensions
+pub listing-extension : (s t : List Bool) → begins s t ≡ true → length s < length t → listing_cmp s t ≡ Less
+unfolding begins
+listing-extension [] [] e h = absurd (omega (arith, h))
+listing-extension [] (b ∷ t) e h = refl
+listing-extension (a ∷ s) [] e h = cc
+listing-extension (true ∷ s) (true ∷ t) e h = listing-extension s t e (omega (arith, h))
+listing-extension (true ∷ s) (false ∷ t) e h = cc
+listing-extension (false ∷ s) (true ∷ t) e h = cc
+listing-extension (false ∷ s) (false ∷ t) e h = listing-extension s t e (omega (arith, h))
+
+-- strings that differ within both stay in order whatever follows
+pub listing-apart : (s t x y : List Bool) → listing_cmp s t ≡ Less → begins s t ≡ false → listing_cmp (s ++ x) (t ++ y) ≡ Less
+unfolding begins
+listing-apart [] t x y l e = cc
+listing-apart (a ∷ s) [] x y l e = cc
+listing-apart (true ∷ s) (true ∷ t) x y l e = listing-apart s t x y l e
+listing-apart (true ∷ s) (false ∷ t) x y l e = cc
+listing-apart (false ∷ s) (true ∷ t) x y l e = refl
+listing-apart (false ∷ s) (false ∷ t) x y l e = listing-apart s t x y l e
+
+-- what stands between two extensions of q is one
+pub listing-between : (q s u t : List Bool) → begins q s ≡ true → begins q t ≡ true → listing_cmp s u ≡ Less → listing_cmp u t ≡ Less → begins q u ≡ true
+unfolding begins
+listing-between [] s u t e f l m = refl
+listing-between (a ∷ q) [] u t e f l m = cc
+listing-between (a ∷ q) (b ∷ s) u [] e f l m = cc
+listing-between (a ∷ q) (b ∷ s) [] (d ∷ t) e f l m = cc
+listing-between (true ∷ q) (true ∷ s) (true ∷ u) (true ∷ t) e f l m = listing-between q s u t e f l m
+listing-between (true ∷ q) (true ∷ s) (true ∷ u) (false ∷ t) e f l m = cc
+listing-between (true ∷ q) (true ∷ s) (false ∷ u) (d ∷ t) e f l m = cc
+listing-between (true ∷ q) (false ∷ s) (c ∷ u) (d ∷ t) e f l m = cc
+listing-between (false ∷ q) (true ∷ s) (c ∷ u) (d ∷ t) e f l m = cc
+listing-between (false ∷ q) (false ∷ s) (c ∷ u) (true ∷ t) e f l m = cc
+listing-between (false ∷ q) (false ∷ s) (true ∷ u) (false ∷ t) e f l m = cc
+listing-between (false ∷ q) (false ∷ s) (false ∷ u) (false ∷ t) e f l m = listing-between q s u t e f l m
+
+-- strings of one length are listed as their numbers
+pub listing-numbers : (s t : List Bool) → length s ≡ length t → number s < number t → listing_cmp s t ≡ Less
+unfolding number
+listing-numbers [] [] e h = absurd (omega (arith, h))
+listing-numbers [] (b ∷ t) e h = absurd (omega (arith, e))
+listing-numbers (a ∷ s) [] e h = absurd (omega (arith, e))
+listing-numbers (true ∷ s) (true ∷ t) e h =
+    listing-numbers s t (omega (arith, e)) (omega (arith, h, ap (λ k. 2 ^ k) (tail-length s t e)))
+  where
+    tail-length : (x y : List Bool) → suc (length x) ≡ suc (length y) → length x ≡ length y
+    tail-length x y q = omega (arith, q)
+listing-numbers (true ∷ s) (false ∷ t) e h =
+    absurd (omega (arith, h, number-lt t, ap (λ k. 2 ^ k) (tail-length s t e)))
+  where
+    tail-length : (x y : List Bool) → suc (length x) ≡ suc (length y) → length x ≡ length y
+    tail-length x y q = omega (arith, q)
+listing-numbers (false ∷ s) (true ∷ t) e h = refl
+listing-numbers (false ∷ s) (false ∷ t) e h =
+    listing-numbers s t (omega (arith, e)) (omega (arith, h))

@@ -1,0 +1,92 @@
+-- The places of a node: strings of at most five bits below its path.
+use Rattle.std.specs.Prelude.{◌≡◌, ◌≢◌, ℕ, zero, suc, ◌+◌, ◌-◌, ◌/◌, ◌%◌, ◌^◌, ◌<◌, ◌≤◌, Bool, true, false, cond, nat_lt, ◌==◌, List, [], ◌∷◌, ◌++◌, length, map, filter, take}
+use Rattle.std.specs.Int.{bit_at}
+use Rattle.std.specs.Ordering.{is_lt}
+use Rattle.prefix_trie_bits.specs.Bits.{number}
+use Rattle.prefix_trie_bits.specs.Order.{listing_cmp}
+use Rattle.prefix_trie_bits.specs.declared.node.Place.{Place}
+use Rattle.prefix_trie_bits.specs.declared.node.Place.TheVariants.{Value, Child}
+
+-- whether bit k of a bitmap is set
+abbrev pub has : ℕ → ℕ → Bool
+has bitmap k = bit_at bitmap k == 1
+
+-- the value bit of a string of at most four bits; a string of five has the child bit `number s`
+abbrev pub value_bit : List Bool → ℕ
+value_bit s = 2 ^ length s - 1 + number s
+
+-- the strings of at most n bits, each before its extensions, and 0 before 1
+unfoldable pub strings : ℕ → List (List Bool)
+strings zero = [] ∷ []
+strings (suc n) = [] ∷ (map (λ s. false ∷ s) (strings n) ++ map (λ s. true ∷ s) (strings n))
+
+-- how many of the bits below b are set
+unfoldable pub ones_below : ℕ → ℕ → ℕ
+ones_below zero bitmap = 0
+ones_below (suc b) bitmap = ones_below b bitmap + cond (has bitmap b) 1 0
+
+-- the elements at the set bits of m
+unfoldable pub pick : {X : Type 0} → ℕ → List X → List X
+pick m [] = []
+pick m (x ∷ xs) = cond (m % 2 == 1) (x ∷ pick (m / 2) xs) (pick (m / 2) xs)
+
+-- the value bits in a mask are those of the strings that pass a test
+abbrev pub HoldsValues : ℕ → (List Bool → Bool) → Type 0
+HoldsValues mask test = (s : List Bool) → length s ≤ 4 → has mask (value_bit s) ≡ test s
+
+-- the child bits in a mask are those of the strings that pass a test
+abbrev pub HoldsChildren : ℕ → (List Bool → Bool) → Type 0
+HoldsChildren mask test = (s : List Bool) → length s ≡ 5 → has mask (number s) ≡ test s
+
+-- whether the bit of a place is in the masks
+abbrev pub is_in : ℕ → ℕ → List Bool → Bool
+is_in values children s = cond (nat_lt (length s) 5) (has values (value_bit s)) (has children (number s))
+
+-- the strings whose bits are in the masks, in listing order
+abbrev pub places : ℕ → ℕ → List (List Bool)
+places values children = filter (is_in values children) (strings 5)
+
+abbrev pub place_of : List Bool → Place
+place_of s = cond (nat_lt (length s) 5) (Value (value_bit s)) (Child (number s))
+
+abbrev pub is_before : List Bool → List Bool → Bool
+is_before s t = is_lt (listing_cmp s t)
+
+-- a value stands in the bitmap at the first j bits of a string
+abbrev pub stands : ℕ → List Bool → ℕ → Bool
+stands bitmap rest j = has bitmap (value_bit (take j rest))
+
+-- b is the value bit of the longest string in the bitmap that begins rest
+pub record IsLongest (bitmap : ℕ) (rest : List Bool) (b : ℕ) : Type 0 where
+  pub len : ℕ
+  pub short : len ≤ 4
+  pub within : len ≤ length rest
+  pub bit_is : b ≡ value_bit (take len rest)
+  pub set : has bitmap b ≡ true
+  pub none_longer : (i : ℕ) → len < i → i ≤ 4 → i ≤ length rest → stands bitmap rest i ≡ false
+
+-- b is the value bit of the shortest string in the bitmap that begins rest
+pub record IsShortest (bitmap : ℕ) (rest : List Bool) (b : ℕ) : Type 0 where
+  pub len : ℕ
+  pub short : len ≤ 4
+  pub within : len ≤ length rest
+  pub bit_is : b ≡ value_bit (take len rest)
+  pub set : has bitmap b ≡ true
+  pub none_shorter : (i : ℕ) → i < len → stands bitmap rest i ≡ false
+
+-- no string in the bitmap begins rest
+abbrev pub NoneBegins : ℕ → List Bool → Type 0
+NoneBegins bitmap rest = (i : ℕ) → i ≤ 4 → i ≤ length rest → stands bitmap rest i ≡ false
+
+-- the string at place p was the first of the list, and the others are left
+pub record TakesPlace (old new : List (List Bool)) (p : Place) : Type 0 where
+  pub string : List Bool
+  pub short : length string ≤ 5
+  pub first : old ≡ string ∷ new
+  pub place : p ≡ place_of string
+
+-- bit k is clear in m and set in m', and the other bits are the same
+pub record Sets (m k m' : ℕ) : Type 0 where
+  pub clear : has m k ≡ false
+  pub present : has m' k ≡ true
+  pub others : (d : ℕ) → d ≢ k → has m' d ≡ has m d

@@ -1,0 +1,9 @@
+//! Keys and prefixes as strings of bits, the model of a map from such strings to values, and the places of one node.
+#![tactic(auto)]
+
+mod digits;
+pub mod laws;
+pub mod node;
+#[cfg(test)]
+mod node_tests;
+pub mod prefix;
