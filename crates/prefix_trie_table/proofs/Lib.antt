@@ -1,0 +1,5 @@
+pub mod Shifts
+pub mod Tilings
+pub mod RunLemmas
+pub mod Soundness
+pub mod Spending

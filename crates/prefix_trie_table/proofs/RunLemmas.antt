@@ -1,0 +1,149 @@
+-- A write to one run of a list leaves each run that is apart from it.
+use Rattle.std.proofs.Common.{set, ◌≡◌, ℕ, zero, suc, ◌+◌, ◌-◌, ◌<◌, ◌≤◌, ◌⊎◌, inl, inr, ⊎_elim, List, ◌++◌, length, get_or, take, drop, insert, remove, swap, ◌≢◌, refl, sym, ap, ◌∙◌, subst, arith, append_assoc, length-append, length-take, length-drop, take-append-drop, drop-drop}
+use Rattle.std.proofs.lemmas.List.{take_at, drop_at, take-append-le, drop-append-le, length-take-le, length-set, set-append_left, set-append_right, drop-set-lt, take_all, get_or-take, get_or-drop, ext_get_or}
+use Rattle.std.proofs.lemmas.List.Edits.{insert-append_left, insert-append_right, remove-append_left, remove-append_right, length-insert, length-remove, length-swap, Swapped, swapped_from_swap}
+use Rattle.std.proofs.lemmas.Bool.{cases_lt, cases_eq}
+use Rattle.std.proofs.lemmas.Slice.{drop-append-drop}
+use Rattle.prefix_trie_table.specs.Runs.{run, put_run, swap_runs}
+use Rattle.prefix_trie_table.specs.Store.{Disjoint}
+
+module _ {X : Type 0} where
+  pub length-run : (xs : List X) (a n : ℕ) → a + n ≤ length xs → length (run xs a n) ≡ n
+  length-run xs a n inside = length-take-le n (drop a xs) (omega (arith, length-drop a xs))
+
+  pub length-put_run : (xs : List X) (a : ℕ) (ys : List X) → a + length ys ≤ length xs → length (put_run xs a ys) ≡ length xs
+  length-put_run xs a ys inside =
+      omega (arith, length-append (take a xs) (ys ++ drop (a + length ys) xs), length-append ys (drop (a + length ys) xs), length-take a xs, length-drop (a + length ys) xs)
+
+  -- what stands in a run of the front
+  pub run-append_left : (xs ys : List X) (a n : ℕ) → a + n ≤ length xs → run (xs ++ ys) a n ≡ run xs a n
+  run-append_left xs ys a n inside =
+      rw (drop-append-le a xs ys (omega arith)) (take-append-le n (drop a xs) ys (omega (arith, length-drop a xs)))
+
+  pub run-append_right : (xs ys : List X) (n : ℕ) → n ≡ length ys → run (xs ++ ys) (length xs) n ≡ ys
+  run-append_right xs ys n e =
+      rw (drop_at xs ys (length xs) refl) (ap (λ m. take m ys) e ∙ take_all (length ys) ys (omega arith))
+
+  -- a list round its run
+  pub round_run : (xs : List X) (a n : ℕ) → xs ≡ take a xs ++ (run xs a n ++ drop (a + n) xs)
+  round_run xs a n =
+      sym (take-append-drop a xs) ∙ ap (λ ys. take a xs ++ ys) (sym (take-append-drop n (drop a xs)) ∙ ap (λ ys. run xs a n ++ ys) (drop-drop n a xs))
+
+  pub run-put_run_same : (xs : List X) (a : ℕ) (ys : List X) → a + length ys ≤ length xs → run (put_run xs a ys) a (length ys) ≡ ys
+  run-put_run_same xs a ys inside =
+      rw (drop_at (take a xs) (ys ++ drop (a + length ys) xs) a (length-take-le a xs (omega arith))) (take_at ys (drop (a + length ys) xs) (length ys) refl)
+
+  pub run-put_run_other : (xs : List X) (a : ℕ) (ys : List X) (b n : ℕ) → a + length ys ≤ length xs → Disjoint (a, length ys) (b, n) → run (put_run xs a ys) b n ≡ run xs b n
+  run-put_run_other xs a ys b n inside apart =
+      ⊎_elim (λ (after : a + length ys ≤ b).
+      let gone : drop b (put_run xs a ys) ≡ drop b xs = ap (λ zs. drop b zs) (sym (append_assoc (take a xs) ys (drop (a + length ys) xs))) ∙ drop-append-drop (a + length ys) xs (take a xs ++ ys) b after (let e : length (take a xs) ≡ a = length-take-le a xs (omega arith) in omega (arith, length-append (take a xs) ys)) in
+      ap (λ zs. take n zs) gone)
+      (λ (before : b + n ≤ a).
+      let front : b + n ≤ length (take a xs) = (let e : length (take a xs) ≡ a = length-take-le a xs (omega arith) in omega arith) in
+      run-append_left (take a xs) (ys ++ drop (a + length ys) xs) b n front ∙ sym (run-append_left (take a xs) (drop a xs) b n front) ∙ ap (λ zs. run zs b n) (take-append-drop a xs)) apart
+
+  pub length-moved : (ys : List X) (i j : ℕ) (x : X) → i < length ys → j < length ys → length (insert (remove ys i) j x) ≡ length ys
+  length-moved ys i j x hi hj =
+      let less : length (remove ys i) + 1 ≡ length ys = length-remove ys i hi in
+      omega (arith, length-insert (remove ys i) j x (omega arith))
+
+  -- one place of a run taken out, and one put in: the rest of the list stays
+  pub moved_in_run : (xs : List X) (a n i j : ℕ) (x : X) → a + n ≤ length xs → i < n → j < n → insert (remove xs (a + i)) (a + j) x ≡ put_run xs a (insert (remove (run xs a n) i) j x)
+  moved_in_run xs a n i j x inside hi hj =
+      let mid : length (run xs a n) ≡ n = length-run xs a n inside in
+      let front : length (take a xs) ≡ a = length-take-le a xs (omega arith) in
+      let less : length (remove (run xs a n) i) + 1 ≡ n = length-remove (run xs a n) i (omega arith) ∙ mid in
+      let out : remove xs (a + i) ≡ take a xs ++ (remove (run xs a n) i ++ drop (a + n) xs) = ap (λ zs. remove zs (a + i)) (round_run xs a n) ∙ remove-append_right (take a xs) (run xs a n ++ drop (a + n) xs) a (a + i) front (omega arith) ∙ ap (λ zs. take a xs ++ zs) (ap (λ k. remove (run xs a n ++ drop (a + n) xs) k) (let e : a + i - a ≡ i = omega arith in e) ∙ remove-append_left (run xs a n) (drop (a + n) xs) i (omega arith)) in
+      let back : insert (take a xs ++ (remove (run xs a n) i ++ drop (a + n) xs)) (a + j) x ≡ take a xs ++ (insert (remove (run xs a n) i) j x ++ drop (a + n) xs) = insert-append_right (take a xs) (remove (run xs a n) i ++ drop (a + n) xs) a (a + j) x front (omega arith) ∙ ap (λ zs. take a xs ++ zs) (ap (λ k. insert (remove (run xs a n) i ++ drop (a + n) xs) k x) (let e : a + j - a ≡ j = omega arith in e) ∙ insert-append_left (remove (run xs a n) i) (drop (a + n) xs) j x (omega arith)) in
+      ap (λ zs. insert zs (a + j) x) out ∙ back ∙ ap (λ k. take a xs ++ (insert (remove (run xs a n) i) j x ++ drop (a + k) xs)) (sym (length-moved (run xs a n) i j x (omega arith) (omega arith) ∙ mid))
+
+  -- a write to the front of a run is a write of the whole run
+  pub put_run_part : (xs : List X) (a n : ℕ) (ys : List X) → a + n ≤ length xs → length ys ≤ n → put_run xs a ys ≡ put_run xs a (ys ++ drop (length ys) (run xs a n))
+  put_run_part xs a n ys inside fits =
+      let whole : length (ys ++ drop (length ys) (run xs a n)) ≡ n = (let r = length-run xs a n inside in omega (arith, length-append ys (drop (length ys) (run xs a n)), length-drop (length ys) (run xs a n))) in
+      let rest : drop (length ys) (run xs a n) ++ drop (a + n) xs ≡ drop (a + length ys) xs = sym (drop-append-le (length ys) (run xs a n) (drop (a + n) xs) (let r = length-run xs a n inside in omega arith)) ∙ ap (λ zs. drop (length ys) (run xs a n ++ zs)) (sym (drop-drop n a xs)) ∙ ap (λ zs. drop (length ys) zs) (take-append-drop n (drop a xs)) ∙ drop-drop (length ys) a xs in
+      ap (λ zs. take a xs ++ zs) (ap (λ zs. ys ++ zs) (sym rest) ∙ sym (append_assoc ys (drop (length ys) (run xs a n)) (drop (a + n) xs)) ∙ ap (λ k. (ys ++ drop (length ys) (run xs a n)) ++ drop (a + k) xs) (sym whole))
+
+  -- an item of a list, and of a run of it
+  get_or-run : (xs : List X) (a n i : ℕ) (d : X) → i < n → get_or (run xs a n) i d ≡ get_or xs (a + i) d
+  get_or-run xs a n i d h = get_or-take n (drop a xs) i d h ∙ get_or-drop a xs i d
+
+  get_or-put_run_in : (xs : List X) (a : ℕ) (ys : List X) (i : ℕ) (d : X) → a + length ys ≤ length xs → i < length ys → get_or (put_run xs a ys) (a + i) d ≡ get_or ys i d
+  get_or-put_run_in xs a ys i d inside h =
+      sym (get_or-run (put_run xs a ys) a (length ys) i d h) ∙ ap (λ zs. get_or zs i d) (run-put_run_same xs a ys inside)
+
+  get_or-put_run_out : (xs : List X) (a : ℕ) (ys : List X) (k : ℕ) (d : X) → a + length ys ≤ length xs → (k < a) ⊎ (a + length ys ≤ k) → get_or (put_run xs a ys) k d ≡ get_or xs k d
+  get_or-put_run_out xs a ys k d inside out =
+      let apart : Disjoint (a, length ys) (k, 1) = ⊎_elim (λ (h : k < a). inr (let e : k + 1 ≤ a = omega arith in e)) (λ (h : a + length ys ≤ k). inl h) out in
+      let one : (zs : List X) → get_or zs k d ≡ get_or (run zs k 1) 0 d = λ zs. ap (λ m. get_or zs m d) (let e : k ≡ k + 0 = omega arith in e) ∙ sym (get_or-run zs k 1 0 d (omega arith)) in
+      one (put_run xs a ys) ∙ ap (λ zs. get_or zs 0 d) (run-put_run_other xs a ys k 1 inside apart) ∙ sym (one xs)
+
+  -- where each item stands after two runs were exchanged
+  record Exchanged (xs zs : List X) (a b n : ℕ) (d : X) : Type 0 where
+    at_a : (i : ℕ) → i < n → get_or zs (a + i) d ≡ get_or xs (b + i) d
+    at_b : (i : ℕ) → i < n → get_or zs (b + i) d ≡ get_or xs (a + i) d
+    elsewhere : (k : ℕ) → (k < a) ⊎ (a + n ≤ k) → (k < b) ⊎ (b + n ≤ k) → get_or zs k d ≡ get_or xs k d
+
+  pub length-swap_runs : (xs : List X) (a b n : ℕ) → length (swap_runs xs a b n) ≡ length xs
+  length-swap_runs xs a b zero = refl
+  length-swap_runs xs a b (suc n) = length-swap (swap_runs xs a b n) (a + n) (b + n) ∙ length-swap_runs xs a b n
+
+  exchanged : (xs : List X) (a b n : ℕ) (d : X) → a + n ≤ length xs → b + n ≤ length xs → (a + n ≤ b) ⊎ (b + n ≤ a) → Exchanged xs (swap_runs xs a b n) a b n d
+  exchanged xs a b zero d ha hb apart =
+      record { at_a = λ i h. absurd (omega arith); at_b = λ i h. absurd (omega arith); elsewhere = λ k h j. refl }
+  exchanged xs a b (suc n) d ha hb apart =
+      let zs : List X = swap_runs xs a b n in
+      let len : length (swap_runs xs a b n) ≡ length xs = length-swap_runs xs a b n in
+      let less : (a + n ≤ b) ⊎ (b + n ≤ a) = ⊎_elim (λ (h : a + suc n ≤ b). inl (let e : a + n ≤ b = omega arith in e)) (λ (h : b + suc n ≤ a). inr (let e : b + n ≤ a = omega arith in e)) apart in
+      let before : Exchanged xs (swap_runs xs a b n) a b n d = exchanged xs a b n d (omega arith) (omega arith) less in
+      let step : Swapped (λ i. get_or (swap_runs xs a b n) i d) (λ i. get_or (swap (swap_runs xs a b n) (a + n) (b + n)) i d) (a + n) (b + n) = swapped_from_swap (swap_runs xs a b n) (swap (swap_runs xs a b n) (a + n) (b + n)) (a + n) (b + n) d (omega arith) (omega arith) refl in
+      let a_out : (a + n < b) ⊎ (b + n ≤ a + n) = ⊎_elim (λ (h : a + suc n ≤ b). inl (let e : a + n < b = omega arith in e)) (λ (h : b + suc n ≤ a). inr (let e : b + n ≤ a + n = omega arith in e)) apart in
+      let b_out : (b + n < a) ⊎ (a + n ≤ b + n) = ⊎_elim (λ (h : a + suc n ≤ b). inr (let e : a + n ≤ b + n = omega arith in e)) (λ (h : b + suc n ≤ a). inl (let e : b + n < a = omega arith in e)) apart in
+      let had_a : get_or (swap_runs xs a b n) (a + n) d ≡ get_or xs (a + n) d = before.elsewhere (a + n) (inr (let e : a + n ≤ a + n = omega arith in e)) a_out in
+      let had_b : get_or (swap_runs xs a b n) (b + n) d ≡ get_or xs (b + n) d = before.elsewhere (b + n) b_out (inr (let e : b + n ≤ b + n = omega arith in e)) in
+      record {
+        at_a = λ i h. ⊎_elim (λ (e : i ≡ n). subst (λ j. get_or (swap (swap_runs xs a b n) (a + n) (b + n)) (a + j) d ≡ get_or xs (b + j) d) (sym e) (step.0 ∙ had_b)) (λ (ne : i ≢ n). step.2 (a + i) (λ e. ne (let f : i ≡ n = omega arith in f)) (λ e. ⊎_elim (λ (q : a + suc n ≤ b). absurd (omega arith)) (λ (q : b + suc n ≤ a). absurd (omega arith)) apart) ∙ before.at_a i (let f : i < n = omega arith in f)) (cases_eq i n);
+        at_b = λ i h. ⊎_elim (λ (e : i ≡ n). subst (λ j. get_or (swap (swap_runs xs a b n) (a + n) (b + n)) (b + j) d ≡ get_or xs (a + j) d) (sym e) (step.1 ∙ had_a)) (λ (ne : i ≢ n). step.2 (b + i) (λ e. ⊎_elim (λ (q : a + suc n ≤ b). absurd (omega arith)) (λ (q : b + suc n ≤ a). absurd (omega arith)) apart) (λ e. ne (let f : i ≡ n = omega arith in f)) ∙ before.at_b i (let f : i < n = omega arith in f)) (cases_eq i n);
+        elsewhere = λ k out_a out_b. step.2 k (λ e. ⊎_elim (λ (q : k < a). absurd (omega arith)) (λ (q : a + suc n ≤ k). absurd (omega arith)) out_a) (λ e. ⊎_elim (λ (q : k < b). absurd (omega arith)) (λ (q : b + suc n ≤ k). absurd (omega arith)) out_b) ∙ before.elsewhere k (⊎_elim (λ (q : k < a). inl q) (λ (q : a + suc n ≤ k). inr (let e : a + n ≤ k = omega arith in e)) out_a) (⊎_elim (λ (q : k < b). inl q) (λ (q : b + suc n ≤ k). inr (let e : b + n ≤ k = omega arith in e)) out_b);
+      }
+
+  -- two runs that are apart are exchanged: each holds what the other held, and the rest stays
+  pub swap_runs_is : (xs : List X) (a b n : ℕ) (d : X) → a + n ≤ length xs → b + n ≤ length xs → Disjoint (a, n) (b, n) → swap_runs xs a b n ≡ put_run (put_run xs a (run xs b n)) b (run xs a n)
+  swap_runs_is xs a b n d ha hb apart =
+      let zs : List X = swap_runs xs a b n in
+      let ra : List X = run xs a n in
+      let rb : List X = run xs b n in
+      let na : length (run xs a n) ≡ n = length-run xs a n ha in
+      let nb : length (run xs b n) ≡ n = length-run xs b n hb in
+      let ys : List X = put_run xs a (run xs b n) in
+      let ny : length (put_run xs a (run xs b n)) ≡ length xs = length-put_run xs a (run xs b n) (omega arith) in
+      let nw : length (put_run (put_run xs a (run xs b n)) b (run xs a n)) ≡ length xs = length-put_run (put_run xs a (run xs b n)) b (run xs a n) (omega arith) ∙ ny in
+      let m : Exchanged xs (swap_runs xs a b n) a b n d = exchanged xs a b n d ha hb apart in
+      let Same : ℕ → Type 0 = λ k. get_or (swap_runs xs a b n) k d ≡ get_or (put_run (put_run xs a (run xs b n)) b (run xs a n)) k d in
+      let in_b : (i : ℕ) → i < n → Same (b + i) = λ i h. m.at_b i h ∙ sym (get_or-put_run_in (put_run xs a (run xs b n)) b (run xs a n) i d (omega arith) (omega arith) ∙ get_or-run xs a n i d h) in
+      let out_b : (k : ℕ) → (k < b) ⊎ (b + n ≤ k) → get_or (put_run (put_run xs a (run xs b n)) b (run xs a n)) k d ≡ get_or (put_run xs a (run xs b n)) k d = λ k o. get_or-put_run_out (put_run xs a (run xs b n)) b (run xs a n) k d (omega arith) (⊎_elim (λ (q : k < b). inl q) (λ (q : b + n ≤ k). inr (let e : b + length (run xs a n) ≤ k = omega arith in e)) o) in
+      let in_a : (i : ℕ) → i < n → Same (a + i) = λ i h. m.at_a i h ∙ sym (out_b (a + i) (⊎_elim (λ (q : a + n ≤ b). inl (let e : a + i < b = omega arith in e)) (λ (q : b + n ≤ a). inr (let e : b + n ≤ a + i = omega arith in e)) apart) ∙ get_or-put_run_in xs a (run xs b n) i d (omega arith) (omega arith) ∙ get_or-run xs b n i d h) in
+      let off : (k : ℕ) → (k < a) ⊎ (a + n ≤ k) → (k < b) ⊎ (b + n ≤ k) → Same k = λ k oa ob. m.elsewhere k oa ob ∙ sym (out_b k ob ∙ get_or-put_run_out xs a (run xs b n) k d (omega arith) (⊎_elim (λ (q : k < a). inl q) (λ (q : a + n ≤ k). inr (let e : a + length (run xs b n) ≤ k = omega arith in e)) oa)) in
+      ext_get_or d (swap_runs xs a b n) (put_run (put_run xs a (run xs b n)) b (run xs a n)) (length-swap_runs xs a b n ∙ sym nw) (λ k h.
+      ⊎_elim (λ (before_a : k < a).
+      ⊎_elim (λ (before_b : k < b). off k (inl before_a) (inl before_b))
+      (λ (from_b : b ≤ k).
+      ⊎_elim (λ (inside : k < b + n). subst Same (let e : b + (k - b) ≡ k = omega arith in e) (in_b (k - b) (omega arith))) (λ (past : b + n ≤ k). off k (inl before_a) (inr past)) (cases_lt k (b + n))) (cases_lt k b))
+      (λ (from_a : a ≤ k).
+      ⊎_elim (λ (inside : k < a + n). subst Same (let e : a + (k - a) ≡ k = omega arith in e) (in_a (k - a) (omega arith)))
+      (λ (past_a : a + n ≤ k).
+      ⊎_elim (λ (before_b : k < b). off k (inr past_a) (inl before_b))
+      (λ (from_b : b ≤ k).
+      ⊎_elim (λ (inside : k < b + n). subst Same (let e : b + (k - b) ≡ k = omega arith in e) (in_b (k - b) (omega arith))) (λ (past : b + n ≤ k). off k (inr past_a) (inr past)) (cases_lt k (b + n))) (cases_lt k b)) (cases_lt k (a + n))) (cases_lt k a))
+
+  -- one place of a run is written
+  pub set_in_run : (xs : List X) (a n i : ℕ) (x : X) → a + n ≤ length xs → i < n → set xs (a + i) x ≡ put_run xs a (set (run xs a n) i x)
+  set_in_run xs a n i x inside h =
+      let mid : length (run xs a n) ≡ n = length-run xs a n inside in
+      let front : length (take a xs) ≡ a = length-take-le a xs (omega arith) in
+      let whole : length (set (run xs a n) i x) ≡ n = length-set (run xs a n) i x ∙ mid in
+      ap (λ zs. set zs (a + i) x) (round_run xs a n) ∙ set-append_right (take a xs) (run xs a n ++ drop (a + n) xs) a (a + i) x front (omega arith) ∙ ap (λ zs. take a xs ++ zs) (ap (λ k. set (run xs a n ++ drop (a + n) xs) k x) (let e : a + i - a ≡ i = omega arith in e) ∙ set-append_left (run xs a n) (drop (a + n) xs) i x (omega arith)) ∙ ap (λ k. take a xs ++ (set (run xs a n) i x ++ drop (a + k) xs)) (sym whole)
+
+  -- a place before a run is written
+  pub run-set_before : (xs : List X) (a n i : ℕ) (x : X) → i < a → run (set xs i x) a n ≡ run xs a n
+  run-set_before xs a n i x h = ap (λ zs. take n zs) (drop-set-lt a xs i x h)

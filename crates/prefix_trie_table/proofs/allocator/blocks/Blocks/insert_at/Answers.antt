@@ -1,0 +1,33 @@
+use Rattle.std.proofs.Common.{◌≡◌, ◌+◌, ◌<◌, ◌≤◌, ◌∷◌, ◌++◌, [], List, Some, length, insert, refl, sym, ap, arith, subst, ◌∙◌}
+use Rattle.std.proofs.lemmas.List.{nil_from_length}
+use Rattle.prefix_trie_table.specs.Store.{Sound, tier_at, block, held, Spends, tier_lacking, tier_for}
+use Rattle.prefix_trie_table.proofs.Soundness.{block_inside, tier_for_holds}
+use Rattle.prefix_trie_table.proofs.Spending.{Spends-taken, Spends-inserted, Spends-then}
+use Rattle.prefix_trie_table.proofs.allocator.blocks.Blocks.insert_at.Goals as goal
+
+pub insert_within-requires-clause-room : goal.insert_within-requires-clause-room
+insert_within-requires-clause-room g c =
+    let u = c.requires.holds in
+    let w = block_inside g.S.Slot.vacant _ _ _ (c.take-new.ensures.sound (held c.args.k c.args.start u.size u.items ++ u.live) u.sound) in
+    omega (arith, w.before, w.positive)
+
+pub returns-then-count-eq0-clause-spends : goal.returns-then-count-eq0-clause-spends
+returns-then-count-eq0-clause-spends g c =
+    let u = c.requires.holds in
+    let ts = c.args.self.now.tiers in
+    let w = block_inside g.S.Slot.vacant _ _ _ (c.take-new.ensures.sound (held c.args.k c.args.start u.size u.items ++ u.live) u.sound) in
+    let found : tier_for ts 1 ≡ Some c.unwrap-tier.result = sym c.tier_for.ensures ∙ c.unwrap-tier.ensures in
+    let is : tier_lacking ts c.args.k c.args.count ≡ Some c.unwrap-tier.result = ap (λ n. tier_lacking ts c.args.k n) c.if-count-eq0.true ∙ found in
+    let s1 = Spends-taken c.args.self.now c.take-new.new.self c.unwrap-tier.result (tier_for_holds ts 1 c.unwrap-tier.result found).0 c.take-new.ensures.value in
+    let s2 = Spends-inserted c.take-new.new.self c.insert_within.new.self c.take-new.result 0 0 c.args.value c.insert_within.ensures.slots w.after (omega (arith, w.before, w.positive)) (omega arith) in
+    subst (λ o. Spends c.args.self.now c.insert_within.new.self o) (sym is) (Spends-then _ _ _ _ s1 s2)
+
+pub returns-then-count-eq0-clause-sound : goal.returns-then-count-eq0-clause-sound
+returns-then-count-eq0-clause-sound g c = λ n xs live s count.
+    let none : xs ≡ [] = nil_from_length xs (omega (arith, c.if-count-eq0.true)) in
+    let at : c.args.place ≡ 0 = omega (arith, c.if-count-eq0.true, c.requires.place) in
+    let s' : Sound g.S.Slot.vacant live c.args.self.now = subst (λ ys. Sound g.S.Slot.vacant (held c.args.k c.args.start n ys ++ live) c.args.self.now) none s in
+    let taken = c.take-new.ensures.sound live s' in
+    let w = block_inside g.S.Slot.vacant _ _ _ taken in
+    let put = c.insert_within.ensures.sound (block c.unwrap-tier.result c.take-new.result (tier_at c.args.self.now.tiers c.unwrap-tier.result).size []) live taken refl refl w.positive in
+    rw (none, at) put

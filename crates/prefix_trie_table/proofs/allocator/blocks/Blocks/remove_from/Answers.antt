@@ -1,0 +1,103 @@
+use Rattle.std.proofs.Common.{◌≡◌, ◌-◌, ◌∷◌, [], length, remove, refl, sym, ap, arith, rules, subst}
+use Rattle.std.proofs.lemmas.List.{nil_from_length}
+use Rattle.std.proofs.lemmas.List.Edits.{length-remove}
+use Rattle.prefix_trie_table.specs.Store.{Store, Sound, tier_at, block}
+use Rattle.prefix_trie_table.proofs.Soundness.{block_inside, fits_block, has_place, tier_of_block, tier_for_holds}
+use Rattle.prefix_trie_table.specs.Store.{Keeps}
+use Rattle.prefix_trie_table.proofs.Spending.{Spends-given, Keeps-spends, Keeps-then, Keeps-same, Keeps-removed}
+use Rattle.prefix_trie_table.proofs.allocator.blocks.Blocks.remove_from.Goals as goal
+use Rattle.prefix_trie_table.proofs.allocator.blocks.Blocks.remove_from.Goals.{in-Some+then-tier-k+in_default-step_down, in-Some+else-tier-k, in_default}
+
+pub remove_within-value-requires-clause-within : goal.remove_within-value-requires-clause-within
+remove_within-value-requires-clause-within g c =
+    let u = c.requires.in_use in
+    let b = block c.args.k c.args.start u.size u.items in
+    omega (arith, u.is_count, (block_inside g.S.Slot.vacant b u.live _ u.sound).before, fits_block g.S.Slot.vacant b u.live _ u.sound)
+
+pub give_back-requires-clause-within : goal.give_back-requires-clause-within
+give_back-requires-clause-within g c =
+    let u = c.requires.in_use in
+    (has_place g.S.Slot.vacant _ _ _ (c.remove_within-value.ensures.sound (block c.args.k c.args.start u.size u.items) u.live u.sound refl u.is_count)).0
+
+pub give_back-requires-clause-place : goal.give_back-requires-clause-place
+give_back-requires-clause-place g c =
+    let u = c.requires.in_use in
+    (has_place g.S.Slot.vacant _ _ _ (c.remove_within-value.ensures.sound (block c.args.k c.args.start u.size u.items) u.live u.sound refl u.is_count)).1
+
+pub returns-then-rest-eq0-clause-value : goal.returns-then-rest-eq0-clause-value
+returns-then-rest-eq0-clause-value g c = λ n xs live sound count.
+    c.remove_within-value.ensures.value (block c.args.k c.args.start n xs) live sound refl count
+
+pub returns-then-rest-eq0-clause-sound : goal.returns-then-rest-eq0-clause-sound
+returns-then-rest-eq0-clause-sound g c = λ n xs live sound count.
+    let none : remove xs c.args.place ≡ [] = nil_from_length (remove xs c.args.place) (omega (arith, length-remove xs c.args.place (omega (arith, c.requires.place)), c.if-rest-eq0.true)) in
+    c.give_back.ensures.sound live n (subst (λ ys. Sound g.S.Slot.vacant (block c.args.k c.args.start n ys ∷ live) c.remove_within-value.new.self) none (c.remove_within-value.ensures.sound (block c.args.k c.args.start n xs) live sound refl count))
+
+pub step_down-requires-clause-in_use : goal.step_down-requires-clause-in_use
+step_down-requires-clause-in_use g c =
+    let u = c.requires.in_use in
+    record {
+      live = u.live;
+      size = u.size;
+      items = remove u.items c.args.place;
+      is_count = omega (arith, u.is_count, length-remove u.items c.args.place (omega (arith, c.requires.place, u.is_count)));
+      sound = c.remove_within-value.ensures.sound (block c.args.k c.args.start u.size u.items) u.live u.sound refl u.is_count;
+    }
+
+pub step_down-requires-clause-holds : goal.step_down-requires-clause-holds
+step_down-requires-clause-holds g c =
+    (tier_for_holds c.remove_within-value.new.self.tiers (c.args.count - 1) c.in-Some.tier (sym c.in-Some.ensures)).1
+
+pub returns-in-Some-step_down-clause-value : goal.returns-in-Some-step_down-clause-value
+returns-in-Some-step_down-clause-value g c = λ n xs live sound count.
+    c.remove_within-value.ensures.value (block c.args.k c.args.start n xs) live sound refl count
+
+pub returns-in-Some-step_down-clause-sound : goal.returns-in-Some-step_down-clause-sound
+returns-in-Some-step_down-clause-sound g c = λ n xs live sound count.
+    let less : length (remove xs c.args.place) ≡ c.args.count - 1 = omega (arith, length-remove xs c.args.place (omega (arith, c.requires.place))) in
+    let removed = c.remove_within-value.ensures.sound (block c.args.k c.args.start n xs) live sound refl count in
+    let size : (tier_at c.remove_within-value.new.self.tiers c.in-Some.tier).size ≡ (tier_at c.args.self.now.tiers c.in-Some.tier).size = ap (λ (v : Store g.row.S.Denot). (tier_at v.tiers c.in-Some.tier).size) c.remove_within-value.ensures.slots in
+    subst (λ m. Sound g.S.Slot.vacant (block c.in-Some.tier c.in-Some-step_down.new m (remove xs c.args.place) ∷ live) c.step_down.new.self) size (c.in-Some-step_down.ensures.sound n (remove xs c.args.place) live removed less)
+
+pub returns-clause-value : goal.returns-clause-value
+returns-clause-value g c = λ n xs live sound count.
+    c.remove_within-value.ensures.value (block c.args.k c.args.start n xs) live sound refl count
+
+pub returns-clause-sound : goal.returns-clause-sound
+returns-clause-sound g c = λ n xs live sound count.
+    let removed = c.remove_within-value.ensures.sound (block c.args.k c.args.start n xs) live sound refl count in
+    let size : n ≡ (tier_at c.args.self.now.tiers c.args.k).size = (tier_of_block g.S.Slot.vacant (block c.args.k c.args.start n xs) live _ sound).size_is in
+    let same : c.match-tier_for.self ≡ c.remove_within-value.new.self = elim c.match-tier_for.branch [ in-Some+then-tier-k+in_default-step_down w ↦ search rules | in-Some+else-tier-k w ↦ w.self-is | in_default w ↦ w.self-is ] in
+    subst (λ v. Sound g.S.Slot.vacant (block c.args.k c.args.start (tier_at c.args.self.now.tiers c.args.k).size (remove xs c.args.place) ∷ live) v) (sym same) (subst (λ m. Sound g.S.Slot.vacant (block c.args.k c.args.start m (remove xs c.args.place) ∷ live) c.remove_within-value.new.self) size removed)
+
+pub returns-then-rest-eq0-clause-keeps : goal.returns-then-rest-eq0-clause-keeps
+returns-then-rest-eq0-clause-keeps g c =
+    let u = c.requires.in_use in
+    let b = block c.args.k c.args.start u.size u.items in
+    let w0 = block_inside g.S.Slot.vacant b u.live _ u.sound in
+    let fits = fits_block g.S.Slot.vacant b u.live _ u.sound in
+    let cut = Keeps-removed c.args.self.now c.remove_within-value.new.self c.args.start c.args.count c.args.place g.S.Slot.vacant c.remove_within-value.ensures.slots w0.after (omega (arith, u.is_count, w0.before, fits)) c.requires.place in
+    Keeps-then _ _ _ cut (Keeps-spends _ _ _ (Spends-given c.remove_within-value.new.self c.give_back.new.self c.args.k c.args.start (has_place g.S.Slot.vacant _ _ _ (c.remove_within-value.ensures.sound b u.live u.sound refl u.is_count)).0 c.give_back.ensures.starts))
+
+pub returns-in-Some-step_down-clause-keeps : goal.returns-in-Some-step_down-clause-keeps
+returns-in-Some-step_down-clause-keeps g c =
+    let u = c.requires.in_use in
+    let b = block c.args.k c.args.start u.size u.items in
+    let w0 = block_inside g.S.Slot.vacant b u.live _ u.sound in
+    let fits = fits_block g.S.Slot.vacant b u.live _ u.sound in
+    let cut = Keeps-removed c.args.self.now c.remove_within-value.new.self c.args.start c.args.count c.args.place g.S.Slot.vacant c.remove_within-value.ensures.slots w0.after (omega (arith, u.is_count, w0.before, fits)) c.requires.place in
+    Keeps-then _ _ _ cut c.step_down.ensures.keeps
+
+pub returns-clause-keeps : goal.returns-clause-keeps
+returns-clause-keeps g c =
+    let u = c.requires.in_use in
+    let b = block c.args.k c.args.start u.size u.items in
+    let w0 = block_inside g.S.Slot.vacant b u.live _ u.sound in
+    let fits = fits_block g.S.Slot.vacant b u.live _ u.sound in
+    let cut = Keeps-removed c.args.self.now c.remove_within-value.new.self c.args.start c.args.count c.args.place g.S.Slot.vacant c.remove_within-value.ensures.slots w0.after (omega (arith, u.is_count, w0.before, fits)) c.requires.place in
+    let last : Keeps c.remove_within-value.new.self c.match-tier_for.self = (elim c.match-tier_for.branch [
+      | in-Some+then-tier-k+in_default-step_down w ↦ subst (λ v. Keeps c.remove_within-value.new.self v) (sym w.self-is) w.step_down.ensures.keeps
+      | in-Some+else-tier-k w ↦ Keeps-same _ _ w.self-is
+      | in_default w ↦ Keeps-same _ _ w.self-is
+    ]) in
+    Keeps-then _ _ _ cut last

@@ -1,0 +1,6 @@
+use Rattle.std.proofs.Common.{◌≡◌, map, take}
+use Rattle.prefix_trie_table.specs.Store.{no_blocks}
+use Rattle.prefix_trie_table.proofs.allocator.blocks.empty_lists.Given as goal
+
+abbrev pub invariant-loop-size : goal.invariant-loop-size
+invariant-loop-size g l = l.lists.items ≡ map no_blocks (take l.size-index l.sizes)

@@ -1,0 +1,3 @@
+pub mod Runs
+pub mod Store
+pub mod Cells

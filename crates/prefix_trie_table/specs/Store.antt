@@ -1,0 +1,192 @@
+-- What contracts see of an array that is cut into blocks.
+use Rattle.std.specs.Prelude.{◌≡◌, ℕ, zero, suc, ◌+◌, ◌-◌, ◌*◌, ◌≤◌, ◌<◌, ◌==◌, ◌⊎◌, List, [], ◌∷◌, ◌++◌, Option, length, take, map, count_by, sum_by, replicate, slice_index_or, slice_set, All, IsPermutation, position, nat_le, nat_lt, ◌&&◌, if◌then◌else◌, None, Some, ◌≢◌, IsSomeAnd}
+use Rattle.prefix_trie_table.specs.Runs.{run}
+
+-- the blocks of one size: how many stand in the array, and where the free ones start
+pub record Tier : Type 0 where
+  pub size : ℕ
+  pub made : ℕ
+  pub starts : List ℕ
+
+-- the array, the place where its first block starts, its tiers, and the length that it never passes
+pub record Store (S : Type 0) : Type 0 where
+  pub slots : List S
+  pub first : ℕ
+  pub tiers : List Tier
+  pub limit : ℕ
+
+-- a block in use: its tier, where it starts, its size, and the list that it holds
+pub record Block (S : Type 0) : Type 0 where
+  pub tier : ℕ
+  pub start : ℕ
+  pub size : ℕ
+  pub items : List S
+
+-- the tier at k, which is one of those in the store
+abbrev pub tier_at : List Tier → ℕ → Tier
+tier_at ts k = slice_index_or ts k (record { size = 0; made = 0; starts = [] })
+
+-- the slots that blocks of these tiers take
+abbrev pub slots_made : List Tier → ℕ
+slots_made ts = sum_by (λ t. t.size * t.made) ts
+
+-- start and size of a block in use
+abbrev pub extent : {S : Type 0} → Block S → ℕ × ℕ
+extent b = (b.start, b.size)
+
+-- a start beside a size
+abbrev pub of_size : ℕ → ℕ → ℕ × ℕ
+of_size n s = (s, n)
+
+-- start and size of each free block
+abbrev pub free_extents : List Tier → List (ℕ × ℕ)
+free_extents [] = []
+free_extents (t ∷ ts) = map (of_size t.size) t.starts ++ free_extents ts
+
+-- the first block starts at `first`, each next one where the one before ends, and the last ends at `end`
+abbrev pub IsTiling : ℕ → List (ℕ × ℕ) → ℕ → Type 0
+IsTiling first [] end = first ≡ end
+IsTiling first (e ∷ es) end = (e.0 ≡ first) × (0 < e.1) × IsTiling (first + e.1) es end
+
+-- two extents have no slot in common
+abbrev pub Disjoint : ℕ × ℕ → ℕ × ℕ → Type 0
+Disjoint e f = (e.0 + e.1 ≤ f.0) ⊎ (f.0 + f.1 ≤ e.0)
+
+-- the block is one of its tier
+pub record IsOfTier {S : Type 0} (ts : List Tier) (b : Block S) : Type 0 where
+  pub within : b.tier < length ts
+  pub size_is : b.size ≡ (tier_at ts b.tier).size
+
+-- a list, and vacant slots up to n in all
+abbrev pub filled : {S : Type 0} → S → ℕ → List S → List S
+filled vacant n xs = xs ++ replicate (n - length xs) vacant
+
+-- the block's slots hold its items, and then nothing
+abbrev pub HoldsItems : {S : Type 0} → S → List S → Block S → Type 0
+HoldsItems vacant slots b = run slots b.start b.size ≡ filled vacant b.size b.items
+
+-- each slot of the extent is vacant
+abbrev pub IsVacant : {S : Type 0} → S → List S → ℕ × ℕ → Type 0
+IsVacant vacant slots e = run slots e.0 e.1 ≡ replicate e.1 vacant
+
+-- the blocks in use and the free ones are a rearrangement of blocks that tile the array; each tier counts its own, each
+-- block in use holds its items, and each free slot is vacant
+pub record Sound {S : Type 0} (vacant : S) (live : List (Block S)) (v : Store S) : Type 0 where
+  pub tiling : List (ℕ × ℕ)
+  pub tiles : IsTiling v.first tiling (length v.slots)
+  pub rearranged : IsPermutation tiling (map extent live ++ free_extents v.tiers)
+  pub of_tier : All (IsOfTier v.tiers) live
+  pub counted : (k : ℕ) → k < length v.tiers → (tier_at v.tiers k).made ≡ length (tier_at v.tiers k).starts + count_by (λ b. b.tier == k) live
+  pub held : All (HoldsItems vacant v.slots) live
+  pub vacated : All (IsVacant vacant v.slots) (free_extents v.tiers)
+
+-- the store with another tier in the place of the one at k
+abbrev pub with_tier : {S : Type 0} → Store S → ℕ → Tier → Store S
+with_tier v k t = record v { tiers = slice_set v.tiers k t }
+
+-- a block of tier k that was made at the array's end, free
+abbrev pub grown : {S : Type 0} → S → Store S → ℕ → Store S
+grown vacant v k =
+    let t = tier_at v.tiers k in
+    record v { slots = v.slots ++ replicate t.size vacant; tiers = slice_set v.tiers k (record t { made = t.made + 1; starts = t.starts ++ length v.slots ∷ [] }) }
+
+-- a block that holds these
+abbrev pub block : {S : Type 0} → ℕ → ℕ → ℕ → List S → Block S
+block k start size items = record { tier = k; start = start; size = size; items = items }
+
+-- the block of tier k that starts there is in use, and holds `count` values
+pub record InUse {S : Type 0} (vacant : S) (v : Store S) (k start count : ℕ) : Type 0 where
+  pub live : List (Block S)
+  pub size : ℕ
+  pub items : List S
+  pub is_count : length items ≡ count
+  pub sound : Sound vacant (block k start size items ∷ live) v
+
+-- the first tier whose blocks have n slots or more
+abbrev pub tier_for : List Tier → ℕ → Option ℕ
+tier_for ts n = position (λ t. nat_le n t.size) ts
+
+-- m blocks of tier k were made, one after another
+abbrev pub grown_times : {S : Type 0} → S → Store S → ℕ → ℕ → Store S
+grown_times vacant v k zero = v
+grown_times vacant v k (suc m) = grown vacant (grown_times vacant v k m) k
+
+-- the tier of this size of which no block is made
+abbrev pub no_blocks : ℕ → Tier
+no_blocks n = record { size = n; made = 0; starts = [] }
+
+-- the last free block of tier k is taken
+abbrev pub taken : List Tier → ℕ → List Tier
+taken ts k = slice_set ts k (record (tier_at ts k) { starts = take (length (tier_at ts k).starts - 1) (tier_at ts k).starts })
+
+-- a block of tier k is given back
+abbrev pub given : List Tier → ℕ → ℕ → List Tier
+given ts k start = slice_set ts k (record (tier_at ts k) { starts = (tier_at ts k).starts ++ start ∷ [] })
+
+-- the array, its first block's place and its limit are as long and as high as before
+abbrev pub SameRoom : {S : Type 0} → Store S → Store S → Type 0
+SameRoom v w = (length w.slots ≡ length v.slots) × (w.first ≡ v.first) × (w.limit ≡ v.limit)
+
+-- the block that holds these, where there are any
+abbrev pub held : {S : Type 0} → ℕ → ℕ → ℕ → List S → List (Block S)
+held k start size [] = []
+held k start size (x ∷ xs) = block k start size (x ∷ xs) ∷ []
+
+abbrev pub size_in : List ℕ → ℕ → ℕ
+size_in sizes k = slice_index_or sizes k 0
+
+abbrev pub tier_sizes : List Tier → List ℕ
+tier_sizes ts = map (λ t. t.size) ts
+
+-- a list of so many values stands in a block of tier k from `start` on, or, if it has none, nowhere
+pub record HasList {S : Type 0} (vacant : S) (v : Store S) (k start count : ℕ) : Type 0 where
+  pub live : List (Block S)
+  pub size : ℕ
+  pub items : List S
+  pub is_count : length items ≡ count
+  pub sound : Sound vacant (held k start size items ++ live) v
+
+abbrev pub free_at : List Tier → ℕ → ℕ
+free_at ts k = length (tier_at ts k).starts
+
+-- the tier of which a block must be free before a list of so many values in a block of tier k takes one more
+abbrev pub tier_lacking : List Tier → ℕ → ℕ → Option ℕ
+tier_lacking ts k count = if nat_lt 0 count && nat_lt count (tier_at ts k).size then None else tier_for ts (count + 1)
+
+-- there is room for one more
+abbrev pub IsReady : List Tier → ℕ → ℕ → Type 0
+IsReady ts k count =
+    ((0 < count) × (count < (tier_at ts k).size)) ⊎ IsSomeAnd (tier_for ts (count + 1)) (λ to. 0 < free_at ts to)
+
+-- what stands before the first block is the same
+abbrev pub SameBefore : {S : Type 0} → Store S → Store S → Type 0
+SameBefore {S} v w = (i : ℕ) (d : S) → i < v.first → slice_index_or w.slots i d ≡ slice_index_or v.slots i d
+
+-- no slot was made, nothing before the first block was written, and at most a free block of this tier was taken
+pub record Spends {S : Type 0} (v w : Store S) (o : Option ℕ) : Type 0 where
+  pub room : SameRoom v w
+  pub sizes : tier_sizes w.tiers ≡ tier_sizes v.tiers
+  pub before : SameBefore v w
+  pub free : (j : ℕ) → free_at v.tiers j ≤ free_at w.tiers j + 1
+  pub kept : (j : ℕ) → o ≢ Some j → free_at v.tiers j ≤ free_at w.tiers j
+
+-- free blocks were made, and nothing else
+pub record Prepared {S : Type 0} (v w : Store S) : Type 0 where
+  pub first_is : w.first ≡ v.first
+  pub sizes : tier_sizes w.tiers ≡ tier_sizes v.tiers
+  pub kept : (i : ℕ) (d : S) → i < length v.slots → slice_index_or w.slots i d ≡ slice_index_or v.slots i d
+  pub free : (j : ℕ) → free_at v.tiers j ≤ free_at w.tiers j
+  pub longer : length v.slots ≤ length w.slots
+
+-- there is room for one more in a list, and for so many lists of one item
+pub record Enough (ts : List Tier) (k count lists : ℕ) : Type 0 where
+  pub ready : IsReady ts k count
+  pub singles : lists ≤ free_at ts 0
+  pub both : tier_lacking ts k count ≡ Some 0 → lists + 1 ≤ free_at ts 0
+
+-- the first block starts where it did, the sizes are the same, and nothing before the first block was written
+pub record Keeps {S : Type 0} (v w : Store S) : Type 0 where
+  pub first_is : w.first ≡ v.first
+  pub sizes : tier_sizes w.tiers ≡ tier_sizes v.tiers
+  pub before : SameBefore v w
+  pub longer : length v.slots ≤ length w.slots

@@ -1,0 +1,5 @@
+//! Blocks of seven sizes in one array, for nodes and for values.
+pub mod blocks;
+pub mod free_list;
+pub mod node;
+pub mod slots;

@@ -1,0 +1,85 @@
+//! The blocks of one size: a stack of the free ones, with a place for each block that was made.
+ghost use Rattle.std.specs.Prelude.{◌≡◌, ℕ, ◌+◌, ◌^◌, ◌<◌, ◌≤◌, ◌↔◌, [], ◌∷◌, ◌++◌, length, IsTrue, OnOk, OnErr, vec_len, vec_capacity};
+
+use std::alloc::{AllocError, Allocator};
+use std::marker::Model;
+
+#[derive(Drop)]
+pub struct FreeList<A: Allocator> {
+    size: u32,
+    made: u32,
+    starts: Vec<u32, A>,
+}
+
+// Clauses see the size, the number made and the free starts. A place is kept for each block made.
+impl<A: Allocator> Model for FreeList<A> {
+    ghost use Rattle.std.specs.Prelude.{◌≤◌, vec_len, vec_capacity};
+    ghost use Rattle.prefix_trie_table.specs.Store.{Tier};
+
+    ghost Value = { Tier };
+
+    ghost view = { λ a. record { size = a.size; made = a.made; starts = a.starts.items } };
+
+    ghost invariant = { λ a. (vec_len a.starts ≤ a.made) × (a.made ≤ vec_capacity a.starts) };
+}
+
+impl<A: Allocator> FreeList<A> {
+    pub fn new(alloc: A, size: u32) -> Self
+        ensures { result ≡ record { size = size; made = 0; starts = [] } }
+    {
+        FreeList {
+            size,
+            made: 0,
+            starts: Vec::new(alloc),
+        }
+    }
+
+    pub fn size(&self) -> u32
+        ensures { result ≡ self.now.size }
+    {
+        self.size
+    }
+
+    pub fn made(&self) -> u32
+        ensures { result ≡ self.now.made }
+    {
+        self.made
+    }
+
+    pub fn free(&self) -> usize
+        ensures count { result ≡ length self.now.starts }
+        ensures within { length self.now.starts ≤ self.now.made }
+    {
+        self.starts.len()
+    }
+
+    /// Counts a block that begins at `start` as made and free.
+    pub fn push_made(&mut self, start: u32) -> Result<(), AllocError>
+        requires { self.old.made + 1 < 2 ^ 32 }
+        ensures ok { OnOk result (self.new ≡ record self.old { made = self.old.made + 1; starts = self.old.starts ++ start ∷ [] }) }
+        ensures err { OnErr result (self.new ≡ self.old) }
+    {
+        let places = self.made as usize + 1 - self.starts.len();
+        self.starts.reserve(places)?;
+        self.starts.push_reserved(start);
+        self.made += 1;
+        Ok(())
+    }
+
+    /// Takes a free block.
+    pub fn pop(&mut self) -> u32
+        requires { 0 < length self.old.starts }
+        ensures starts { self.old.starts ≡ self.new.starts ++ result ∷ [] }
+        ensures rest { self.new ≡ record self.old { starts = self.new.starts } }
+    {
+        self.starts.take_last()
+    }
+
+    /// Gives a block back. It asks for no memory.
+    pub fn push(&mut self, start: u32)
+        requires { length self.old.starts < self.old.made }
+        ensures { self.new ≡ record self.old { starts = self.old.starts ++ start ∷ [] } }
+    {
+        self.starts.push_reserved(start);
+    }
+}

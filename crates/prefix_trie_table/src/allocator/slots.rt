@@ -1,0 +1,70 @@
+//! Work on a run of places of a vector. None of these asks for memory.
+ghost use Rattle.std.specs.Prelude.{◌≡◌, ℕ, ◌+◌, ◌<◌, ◌≤◌, ◌++◌, length, replicate, insert, remove, vec_len, vec_capacity, slice_index_or};
+ghost use Rattle.prefix_trie_table.specs.Runs.{swap_runs};
+
+use std::alloc::Allocator;
+use std::mem;
+
+/// What can stand in a place of the array, with a value for a place that is not used.
+pub trait Slot: Drop {
+    ghost vacant: { Self };
+
+    fn vacant() -> Self
+        ensures { result ≡ vacant };
+}
+
+impl<T: Drop> Slot for Option<T> {
+    ghost use Rattle.std.specs.Prelude.{None};
+
+    ghost vacant = { None };
+
+    fn vacant() -> Self {
+        None
+    }
+}
+
+/// Appends unused places, for which there is room.
+pub fn push_vacant<S: Slot, A: Allocator>(slots: &mut Vec<S, A>, count: u32)
+    requires { vec_len slots.old + count ≤ vec_capacity slots.old }
+    ensures { slots.new.items ≡ slots.old.items ++ replicate count S.vacant }
+{
+    for _i in 0..count {
+        slots.push_reserved(S::vacant());
+    }
+}
+
+/// Puts `value` at `from`, moves what stood from there to before `to` one place on, and lets what stood at `to` go.
+pub fn shift_in<S: Slot, A: Allocator>(slots: &mut Vec<S, A>, from: usize, to: usize, value: S)
+    requires in_order { from ≤ to }
+    requires within { to < vec_len slots.old }
+    ensures items { slots.new.items ≡ insert (remove slots.old.items to) from value }
+    ensures len { vec_len slots.new ≡ vec_len slots.old }
+{
+    slots[from..to + 1].rotate_right(1);
+    slots[from] = value;
+}
+
+/// Takes the value at `from`, moves what stood from there to `to` one place back, and leaves the place `to` unused.
+pub fn shift_out<S: Slot, A: Allocator>(slots: &mut Vec<S, A>, from: usize, to: usize) -> S
+    requires in_order { from ≤ to }
+    requires within { to < vec_len slots.old }
+    ensures value { result ≡ slice_index_or slots.old.items from result }
+    ensures items { slots.new.items ≡ insert (remove slots.old.items from) to S.vacant }
+    ensures len { vec_len slots.new ≡ vec_len slots.old }
+{
+    let value = mem::replace(&mut slots[from], S::vacant());
+    slots[from..to + 1].rotate_left(1);
+    value
+}
+
+/// Exchanges two runs of `count` places.
+pub fn exchange<S, A: Allocator>(slots: &mut Vec<S, A>, a: usize, b: usize, count: usize)
+    requires a_within { a + count ≤ vec_len slots.old }
+    requires b_within { b + count ≤ vec_len slots.old }
+    ensures items { slots.new.items ≡ swap_runs slots.old.items a b count }
+    ensures len { vec_len slots.new ≡ vec_len slots.old }
+{
+    for i in 0..count {
+        slots.swap(a + i, b + i);
+    }
+}
