@@ -2,4 +2,5 @@
 pub mod blocks;
 pub mod free_list;
 pub mod node;
+pub mod nodes;
 pub mod slots;

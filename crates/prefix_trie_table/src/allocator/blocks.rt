@@ -2,9 +2,11 @@
 ghost use Rattle.std.specs.Prelude.{MatchResult, ◌≡◌, ℕ, ◌+◌, ◌-◌, ◌^◌, ◌<◌, ◌≤◌, ◌↔◌, [], ◌∷◌, ◌++◌, List, Some, length, replicate, insert, remove, All, map, None, IfOk, IsTrue, IsOk, IsErr, OnOk, OnErr, nat_lt, if◌then◌else◌, IfErr, IfSome, IfNone, IsSome, IsSomeAnd, MatchOption, ◌⊎◌, vec_len, vec_capacity, slice_index_or, slice_set};
 ghost use Rattle.prefix_trie_table.specs.Runs.{swap_runs};
 ghost use Rattle.prefix_trie_table.specs.Store.{Tier, Store, Block, Sound, tier_at, slots_made, with_tier, grown, grown_times, block, InUse, tier_for, no_blocks, taken, given, SameRoom, held, HasList, IsReady, tier_lacking, tier_sizes, free_at, Spends, SameBefore, Prepared, Enough, Keeps};
+ghost use Rattle.prefix_trie_table.specs.Cells.{blank_node, cell_sizes, node_sizes};
 ghost use Rattle.prefix_trie_bits.specs.declared.prefix.Refusal.TheVariants.{Memory, IndexRange};
 
 use crate::allocator::free_list::FreeList;
+use crate::allocator::node::Node;
 use crate::allocator::slots::{Slot, exchange, push_vacant, shift_in, shift_out};
 use prefix_trie_bits::prefix::Refusal;
 use std::alloc::{AllocError, Allocator};
@@ -407,10 +409,41 @@ pub fn cells<T: Drop, A: Allocator + Clone>(
     alloc: &A,
     limit: u32,
 ) -> Result<Blocks<Option<T>, A>, AllocError>
-    ensures empty { IfOk result (λ b. b ≡ record { slots = []; first = 0; tiers = map no_blocks CELL_SIZES; limit = limit }) }
+    ensures empty { IfOk result (λ b. b ≡ record { slots = []; first = 0; tiers = map no_blocks cell_sizes; limit = limit }) }
     ensures sound { IfOk result (λ b. Sound None [] b) }
 {
     let lists = empty_lists(alloc, &CELL_SIZES)?;
     let slots = Vec::new(alloc.clone()?);
+    Ok(Blocks::new(slots, lists, limit))
+}
+
+/// The block sizes of nodes.
+pub const NODE_SIZES: [u32; 7] = [1, 2, 4, 8, 16, 24, 32];
+
+/// An array of nodes with a blank one and no block.
+pub(super) fn node_blocks<A: Allocator + Clone>(
+    alloc: &A,
+    limit: u32,
+) -> Result<Blocks<Node, A>, Refusal>
+    ensures empty { IfOk result (λ b. b ≡ record { slots = blank_node ∷ []; first = 1; tiers = map no_blocks node_sizes; limit = limit }) }
+    ensures sound { IfOk result (λ b. Sound blank_node [] b) }
+    ensures range { IfErr result (λ e. (e ≡ IndexRange) ↔ (limit ≡ 0)) }
+    ensures room { limit ≡ 0 → IsErr result }
+{
+    if limit == 0 {
+        return Err(Refusal::IndexRange);
+    }
+    node_array(alloc, limit).map_err(|_| Refusal::Memory)
+}
+
+/// The same, with room for a root.
+fn node_array<A: Allocator + Clone>(alloc: &A, limit: u32) -> Result<Blocks<Node, A>, AllocError>
+    requires { 0 < limit }
+    ensures empty { IfOk result (λ b. b ≡ record { slots = blank_node ∷ []; first = 1; tiers = map no_blocks node_sizes; limit = limit }) }
+    ensures sound { IfOk result (λ b. Sound blank_node [] b) }
+{
+    let lists = empty_lists(alloc, &NODE_SIZES)?;
+    let mut slots = Vec::new(alloc.clone()?);
+    slots.push(Node::blank())?;
     Ok(Blocks::new(slots, lists, limit))
 }

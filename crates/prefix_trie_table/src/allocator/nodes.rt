@@ -1,0 +1,139 @@
+//! The array of nodes. Every read of a node is counted.
+ghost use Rattle.std.specs.Prelude.{◌≡◌, ℕ, ◌+◌, ◌-◌, ◌^◌, ◌<◌, ◌≤◌, ◌↔◌, ◌⊎◌, [], ◌∷◌, ◌++◌, List, Some, None, IfOk, IfErr, IsOk, IsErr, IsSome, OnOk, OnErr, length, map, insert, remove, slice_index_or, slice_set};
+ghost use Rattle.prefix_trie_table.specs.Cells.{blank_node, node_at, node_sizes};
+ghost use Rattle.prefix_trie_table.specs.Store.{Store, Block, Sound, tier_at, slots_made, block, held, HasList, IsReady, tier_lacking, tier_for, no_blocks, Spends, Prepared, Enough, Keeps};
+ghost use Rattle.prefix_trie_bits.specs.declared.prefix.Refusal.TheVariants.{IndexRange};
+
+use crate::allocator::blocks::{BlockRef, Blocks, node_blocks};
+use crate::allocator::node::{Node, NodeSlot};
+use prefix_trie_bits::prefix::Refusal;
+use std::alloc::Allocator;
+use std::marker::{Model, PhantomData};
+
+/// A counter of node reads. Its number exists in contracts alone, and nothing here makes a counter.
+pub trait Tick: Sized + Drop {
+    // how many reads were counted
+    ghost count: { Self → ℕ };
+
+    /// Counts one read more.
+    fn tick(&mut self)
+        ensures { count self.new ≡ count self.old + 1 };
+}
+
+/// The array of nodes: the root at slot 0, outside every block, and behind it the blocks of children.
+/// `visit` and `put` are the only ways to read and to write a node, and `visit` counts.
+#[derive(Drop)]
+pub struct NodeAllocator<A: Allocator, V: Drop> {
+    blocks: Blocks<Node, A>,
+    counter: PhantomData<V>,
+}
+
+// Clauses see what they see of the blocks.
+impl<A: Allocator, V: Drop> Model for NodeAllocator<A, V> {
+    ghost use Rattle.prefix_trie_table.specs.Store.{Store};
+    ghost use Rattle.prefix_trie_table.specs.declared.allocator.node.Node.{Node};
+
+    ghost Value = { Store Node };
+
+    ghost view = { λ a. a.blocks };
+}
+
+impl<A: Allocator + Clone, V: Drop> NodeAllocator<A, V> {
+    /// An array with a blank root and no block, which is never longer than `limit`. Refused with `IndexRange` where
+    /// `limit` is 0, and else only for memory.
+    pub fn new(alloc: &A, limit: u32) -> Result<Self, Refusal>
+        ensures empty { IfOk result (λ a. a ≡ record { slots = blank_node ∷ []; first = 1; tiers = map no_blocks node_sizes; limit = limit }) }
+        ensures sound { IfOk result (λ a. Sound blank_node [] a) }
+        ensures range { IfErr result (λ e. (e ≡ IndexRange) ↔ (limit ≡ 0)) }
+        ensures room { limit ≡ 0 → IsErr result }
+    {
+        let blocks = node_blocks(alloc, limit)?;
+        Ok(NodeAllocator {
+            blocks,
+            counter: PhantomData,
+        })
+    }
+}
+
+impl<A: Allocator, V: Tick> NodeAllocator<A, V> {
+    ghost use Rattle.prefix_trie_table.specs.declared.allocator.node.Node.{Node};
+
+    /// The node in a slot. The counter goes up by one.
+    #[inline]
+    pub fn visit(&self, at: NodeSlot, counter: &mut V) -> Node
+        requires { at.start + at.place < length self.now.slots }
+        ensures node { result ≡ node_at self.now.slots (at.start + at.place) }
+        ensures one_more { V.count counter.new ≡ V.count counter.old + 1 }
+    {
+        counter.tick();
+        *self.blocks.at(at.start, at.place)
+    }
+}
+
+impl<A: Allocator, V: Drop> NodeAllocator<A, V> {
+    ghost use Rattle.prefix_trie_table.specs.declared.allocator.node.Node.{Node};
+
+    /// Writes a node over the one in a slot.
+    #[inline]
+    pub fn put(&mut self, at: NodeSlot, node: Node)
+        requires { at.start + at.place < length self.old.slots }
+        ensures slots { self.new ≡ record self.old { slots = slice_set self.old.slots (at.start + at.place) node } }
+        ensures sound { (b : Block Node) (live : List (Block Node)) → Sound blank_node (b ∷ live) self.old → b.start ≡ at.start → at.place < length b.items → Sound blank_node (record b { items = slice_set b.items at.place node } ∷ live) self.new }
+        ensures before { (live : List (Block Node)) → at.start + at.place < self.old.first → Sound blank_node live self.old → Sound blank_node live self.new }
+    {
+        self.blocks.put(at.start, at.place, node);
+    }
+
+    /// The number of slots.
+    #[inline]
+    pub fn len(&self) -> usize
+        ensures len { result ≡ length self.now.slots }
+        ensures made { result ≡ self.now.first + slots_made self.now.tiers }
+        ensures limit { result ≤ self.now.limit }
+    {
+        self.blocks.len()
+    }
+
+    /// As `Blocks::prepare`.
+    pub fn prepare(&mut self, k: usize, count: u32, lists: usize) -> Result<(), Refusal>
+        requires tier { 0 < count → k < length self.old.tiers }
+        requires single { tier_for self.old.tiers 1 ≡ Some 0 }
+        requires fits { IsSome (tier_for self.old.tiers (count + 1)) }
+        requires few { lists + 1 < 2 ^ 64 }
+        ensures enough { OnOk result (Enough self.new.tiers k count lists) }
+        ensures prepared { Prepared self.old self.new }
+        ensures sound { (live : List (Block Node)) → Sound blank_node live self.old → Sound blank_node live self.new }
+    {
+        self.blocks.prepare(k, count, lists)
+    }
+
+    /// As `Blocks::insert_at`.
+    pub fn insert_at(
+        &mut self,
+        k: usize,
+        start: u32,
+        count: u32,
+        place: u32,
+        node: Node,
+    ) -> BlockRef
+        requires holds { HasList blank_node self.old k start count }
+        requires ready { IsReady self.old.tiers k count }
+        requires place { place ≤ count }
+        ensures spends { Spends self.old self.new (tier_lacking self.old.tiers k count) }
+        ensures sound { (n : ℕ) (xs : List Node) (live : List (Block Node)) → Sound blank_node (held k start n xs ++ live) self.old → length xs ≡ count → Sound blank_node (block result.tier result.start (tier_at self.old.tiers result.tier).size (insert xs place node) ∷ live) self.new }
+    {
+        self.blocks.insert_at(k, start, count, place, node)
+    }
+
+    /// As `Blocks::remove_at`.
+    pub fn remove_at(&mut self, k: usize, start: u32, count: u32, place: u32) -> (Node, BlockRef)
+        requires holds { HasList blank_node self.old k start count }
+        requires place { place < count }
+        ensures keeps { Keeps self.old self.new }
+        ensures tier { (result.1.tier ≡ 0) ⊎ (result.1.tier < length self.new.tiers) }
+        ensures value { (n : ℕ) (xs : List Node) (live : List (Block Node)) → Sound blank_node (held k start n xs ++ live) self.old → length xs ≡ count → result.0 ≡ slice_index_or xs place result.0 }
+        ensures sound { (n : ℕ) (xs : List Node) (live : List (Block Node)) → Sound blank_node (held k start n xs ++ live) self.old → length xs ≡ count → Sound blank_node (held result.1.tier result.1.start (tier_at self.old.tiers result.1.tier).size (remove xs place) ++ live) self.new }
+    {
+        self.blocks.remove_at(k, start, count, place)
+    }
+}
