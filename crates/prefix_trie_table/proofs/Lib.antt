@@ -3,3 +3,16 @@ pub mod Tilings
 pub mod RunLemmas
 pub mod Soundness
 pub mod Spending
+pub mod Digits
+pub mod Bits
+pub mod BitLists
+pub mod Paths
+pub mod Starts
+pub mod Keys
+pub mod Trees
+pub mod Children
+pub mod Values
+pub mod Shapes
+pub mod Going
+pub mod Finding
+pub mod Counted

@@ -2,3 +2,4 @@
 #![tactic(auto)]
 
 pub mod allocator;
+pub mod table;

@@ -1,0 +1,53 @@
+-- Bits of a bitmap of 32 bits, and what the calls of `node` say of them.
+use Rattle.std.proofs.Common.{◌≡◌, ◌≢◌, ℕ, zero, suc, ◌+◌, ◌<◌, ◌≤◌, ◌⊎◌, inl, inr, Bool, true, false, cond, ◌||◌, List, length, length-append, refl, sym, ap, ap₂, ◌∙◌, arith, subst, nat_eq, ltb, eqb}
+use Rattle.std.specs.Int.{bit_at}
+use Rattle.std.proofs.lemmas.Nat.Bits.{bit_at-zero}
+use Rattle.std.proofs.lemmas.Bool.{false≢true, ltb-true, lt-ltb}
+use Rattle.std.proofs.lemmas.Bool.Decides.{eqb_tells}
+use Rattle.prefix_trie_bits.specs.Places.{has, ones_below, Sets}
+use Rattle.prefix_trie_table.specs.Bitmaps.{has_bit, if_set, bits_below, rank}
+
+cond_left : (a b : Bool) → cond a b false ≡ true → (a ≡ true) × (b ≡ true)
+cond_left true b e = (refl, e)
+cond_left false b e = absurd (false≢true e)
+
+pub has_bit-below : (n b : ℕ) → has_bit n b ≡ true → b < 32
+unfolding has_bit
+has_bit-below n b h = ltb-true b 32 (cond_left _ _ h).0
+
+pub has_bit-zero : (b : ℕ) → has_bit 0 b ≡ false
+unfolding has_bit
+has_bit-zero b = elim (ltb b 32) as (λ v. cond v (eqb (bit_at 0 b) 1) false ≡ false) [ true ↦ ap (λ n. eqb n 1) (bit_at-zero b) | false ↦ refl ]
+
+-- within 32 bits it is the bit of the bitmap
+pub has_bit-is : (n b : ℕ) → b < 32 → has_bit n b ≡ has n b
+unfolding has_bit
+has_bit-is n b h = ap (λ t. cond t (has n b) false) (lt-ltb b 32 h)
+
+has_bit-past : (n b : ℕ) → ltb b 32 ≡ false → has_bit n b ≡ false
+unfolding has_bit
+has_bit-past n b h = ap (λ t. cond t (has n b) false) h
+
+-- a bit set beside the others
+pub has_bit-sets : (m k m' i : ℕ) → Sets m k m' → k < 32 → has_bit m' i ≡ (nat_eq i k || has_bit m i)
+has_bit-sets m k m' i sets h =
+    elim (eqb_tells i k) as (λ _. has_bit m' i ≡ (nat_eq i k || has_bit m i)) [
+      | inl t ↦ rw t.0 (ap (has_bit m') t.1 ∙ has_bit-is m' k h ∙ sets.present)
+      | inr t ↦ rw t.0 (go (ltb i 32) refl t.1)
+    ]
+  where
+    go : (b : Bool) → ltb i 32 ≡ b → i ≢ k → has_bit m' i ≡ has_bit m i
+    go true e ne = has_bit-is m' i (ltb-true i 32 e) ∙ sets.others i ne ∙ sym (has_bit-is m i (ltb-true i 32 e))
+    go false e ne = has_bit-past m' i e ∙ sym (has_bit-past m i e)
+
+if_set-length : (s : Bool) (b : ℕ) → length (if_set s b) ≡ cond s 1 0
+if_set-length true b = refl
+if_set-length false b = refl
+
+-- the rank that the calls of `node` compute
+pub rank-ones : (m b : ℕ) → b ≤ 32 → rank m b ≡ ones_below b m
+unfolding rank ones_below
+rank-ones m zero h = refl
+rank-ones m (suc b) h =
+    length-append (bits_below m b) (if_set (has_bit m b) b) ∙
+    ap₂ (λ x y. x + y) (rank-ones m b (omega arith)) (if_set-length (has_bit m b) b ∙ ap (λ s. cond s 1 0) (has_bit-is m b (omega arith)))

@@ -1,0 +1,23 @@
+use Rattle.std.proofs.Common.{◌≡◌, ◌+◌, take, ap, sym, ◌∙◌}
+use Rattle.std.specs.FinMap.{get}
+use Rattle.prefix_trie_bits.specs.Model.Visits.{visits}
+use Rattle.prefix_trie_table.proofs.Counted.{visits_counted}
+use Rattle.prefix_trie_table.proofs.Shapes.{shape_nodes, shape_entries}
+use Rattle.prefix_trie_table.proofs.table.Table.find.Goals as goal
+
+pub returns-clause-value : goal.returns-clause-value
+returns-clause-value g c =
+    let t = c.self.invariant.table in
+    let q = take c.args.len (g.K.Key.bits c.args.key) in
+    c.find_value.ensures.value t.reading t.paths t.values t.holds
+    ∙ sym (shape_entries t.reading t.values t.paths c.self.inside.nodes c.self.inside.cells t.holds c.self.inside.shape.0 c.self.inside.shape.1 q)
+    ∙ ap (λ s. get s.entries q) c.self.view_is
+
+pub returns-clause-visits : goal.returns-clause-visits
+returns-clause-visits g c =
+    let t = c.self.invariant.table in
+    let q = take c.args.len (g.K.Key.bits c.args.key) in
+    let met = c.find_value.ensures.visits t.reading t.paths t.holds.hold in
+    met.2
+    ∙ ap (λ n. g.V.Tick.count c.args.counter.now + n) (sym (visits_counted t.reading t.paths c.self.inside.nodes t.holds.hold c.self.inside.shape.0.nodes (shape_nodes t.reading t.values t.paths c.self.inside.nodes c.self.inside.cells t.holds c.self.inside.shape.0 c.self.inside.shape.1) q met.0 met.1))
+    ∙ ap (λ s. g.V.Tick.count c.args.counter.now + visits s.nodes q) c.self.view_is

@@ -1,0 +1,25 @@
+-- The set bits of a node's bitmap, in order.
+use Rattle.std.specs.Prelude.{ℕ, zero, suc, Bool, true, false, cond, List, [], ◌∷◌, ◌++◌, length, ltb}
+use Rattle.prefix_trie_bits.specs.Places.{has}
+
+-- whether bit b of a bitmap of 32 bits is set
+unfoldable pub has_bit : ℕ → ℕ → Bool
+has_bit bitmap b = cond (ltb b 32) (has bitmap b) false
+
+-- the element where the test holds
+abbrev pub if_set : Bool → ℕ → List ℕ
+if_set true b = b ∷ []
+if_set false b = []
+
+-- the set bits below b, lowest first
+abbrev pub bits_below : ℕ → ℕ → List ℕ
+bits_below bitmap zero = []
+bits_below bitmap (suc b) = bits_below bitmap b ++ if_set (has_bit bitmap b) b
+
+-- the set bits
+unfoldable pub bits : ℕ → List ℕ
+bits bitmap = bits_below bitmap 32
+
+-- how many set bits are below b
+unfoldable pub rank : ℕ → ℕ → ℕ
+rank bitmap b = length (bits_below bitmap b)

@@ -1,0 +1,18 @@
+-- A bit string as the way from the root to its own node, five bits a step, and its place in that node.
+use Rattle.std.specs.Prelude.{ℕ, Bool, List, [], ◌∷◌}
+use Rattle.prefix_trie_bits.specs.Bits.{number}
+use Rattle.prefix_trie_bits.specs.Places.{value_bit}
+
+-- the steps to the string's own node: each five bits as a number
+abbrev pub path_of : List Bool → List ℕ
+path_of (a ∷ b ∷ c ∷ d ∷ e ∷ s) = number (a ∷ b ∷ c ∷ d ∷ e ∷ []) ∷ path_of s
+path_of s = []
+
+-- the bits behind the last whole step
+abbrev pub rest_of : List Bool → List Bool
+rest_of (a ∷ b ∷ c ∷ d ∷ e ∷ s) = rest_of s
+rest_of s = s
+
+-- the string's value bit in its own node
+abbrev pub bit_of : List Bool → ℕ
+bit_of s = value_bit (rest_of s)

@@ -1,0 +1,254 @@
+-- Nodes and values by path, and the blocks in which they stand.
+use Rattle.std.specs.Prelude.{◌≡◌, ℕ, zero, suc, ◌+◌, ◌<◌, ◌≤◌, Bool, true, false, cond, List, [], ◌∷◌, ◌++◌, map, flat_map, slice_index_or, Option, None, Some, is_some, take, length, ◌||◌}
+use Rattle.std.specs.Ordering.{nat_cmp, eq_by_cmp}
+use Rattle.std.specs.Cmp.Lexicographic.{slice_cmp}
+use Rattle.std.specs.List.{list_any}
+use Rattle.prefix_trie_table.specs.declared.allocator.node.Node.{Node}
+use Rattle.prefix_trie_table.specs.Bitmaps.{has_bit, rank, bits}
+use Rattle.prefix_trie_table.specs.Cells.{blank_node, node_at, node_sizes, cell_sizes}
+pub use Rattle.prefix_trie_table.specs.Store.{held, size_in, tier_sizes}
+use Rattle.prefix_trie_table.specs.Store.{Tier, Store, Block, Sound, block, IsReady, Enough}
+
+-- the slot of the child c of a node
+abbrev pub child_slot : Node → ℕ → ℕ
+child_slot n c = n.child_block + rank n.child_bitmap c
+
+unfoldable pub child : List Node → Node → ℕ → Option Node
+child nodes n c = cond (has_bit n.child_bitmap c) (Some (node_at nodes (child_slot n c))) None
+
+abbrev pub below : List Node → Option Node → ℕ → Option Node
+below nodes None c = None
+below nodes (Some n) c = child nodes n c
+
+abbrev pub read_from : List Node → Option Node → List ℕ → Option Node
+read_from nodes at [] = at
+read_from nodes at (c ∷ cs) = read_from nodes (below nodes at c) cs
+
+-- the node with a path
+unfoldable pub read : List Node → List ℕ → Option Node
+read nodes path = read_from nodes (Some (node_at nodes 0)) path
+
+abbrev pub same_path : List ℕ → List ℕ → Bool
+same_path q k = eq_by_cmp (slice_cmp nat_cmp) q k
+
+abbrev pub one_if : Bool → ℕ
+one_if true = 1
+one_if false = 0
+
+-- how often a path stands in a list
+abbrev pub times : List ℕ → List (List ℕ) → ℕ
+times q [] = 0
+times q (p ∷ ps) = one_if (same_path q p) + times q ps
+
+-- a list without its first p
+abbrev pub without : List ℕ → List (List ℕ) → List (List ℕ)
+without p [] = []
+without p (q ∷ qs) = cond (same_path p q) qs (q ∷ without p qs)
+
+abbrev pub node_or_blank : Option Node → Node
+node_or_blank None = blank_node
+node_or_blank (Some n) = n
+
+-- whether a node has the child c, and a value at bit b
+abbrev pub has_child : Option Node → ℕ → Bool
+has_child None c = false
+has_child (Some n) c = has_bit n.child_bitmap c
+
+abbrev pub has_value : Option Node → ℕ → Bool
+has_value None b = false
+has_value (Some n) b = has_bit n.value_bitmap b
+
+-- the children of the node at p, in order
+abbrev pub child_items : (List ℕ → Option Node) → List ℕ → ℕ → List Node
+child_items nodes p bitmap = map (λ c. node_or_blank (nodes (p ++ c ∷ []))) (bits bitmap)
+
+abbrev pub child_blocks_of : List ℕ → (List ℕ → Option Node) → List ℕ → Option Node → List (Block Node)
+child_blocks_of sizes nodes p None = []
+child_blocks_of sizes nodes p (Some n) = held n.child_tier n.child_block (size_in sizes n.child_tier) (child_items nodes p n.child_bitmap)
+
+-- the block of children of the node at p
+abbrev pub child_blocks : List ℕ → (List ℕ → Option Node) → List ℕ → List (Block Node)
+child_blocks sizes nodes p = child_blocks_of sizes nodes p (nodes p)
+
+-- where the node at a path stands
+pub data IsSlot (nodes : List ℕ → Option Node) : List ℕ → ℕ → Type 0 where
+  at_root : IsSlot nodes [] 0
+  at_child : (p : List ℕ) (c : ℕ) (n : Node) → nodes p ≡ Some n → has_bit n.child_bitmap c ≡ true → IsSlot nodes (p ++ c ∷ []) (child_slot n c)
+
+-- the array holds these nodes, whose paths are listed, and nothing else
+pub record NodesHold (sizes : List ℕ) (nodes : List ℕ → Option Node) (paths : List (List ℕ)) (v : Store Node) : Type 0 where
+  pub rooted : nodes [] ≡ Some (node_at v.slots 0)
+  pub linked : (p : List ℕ) (c : ℕ) → is_some (nodes (p ++ c ∷ [])) ≡ has_child (nodes p) c
+  pub listed : (q : List ℕ) → times q paths ≡ one_if (is_some (nodes q))
+  pub sound : Sound blank_node (flat_map (child_blocks sizes nodes) paths) v
+  pub first_is : v.first ≡ 1
+  pub sizes_are : tier_sizes v.tiers ≡ sizes
+
+module _ {T : Type 0} where
+  abbrev pub value_blocks_of : List ℕ → (List ℕ → ℕ → Option T) → List ℕ → Option Node → List (Block (Option T))
+  value_blocks_of sizes values p None = []
+  value_blocks_of sizes values p (Some n) = held n.value_tier n.value_block (size_in sizes n.value_tier) (map (values p) (bits n.value_bitmap))
+
+  -- the block of values of the node at p
+  abbrev pub value_blocks : List ℕ → (List ℕ → Option Node) → (List ℕ → ℕ → Option T) → List ℕ → List (Block (Option T))
+  value_blocks sizes nodes values p = value_blocks_of sizes values p (nodes p)
+
+  -- the array holds the values of these nodes, and nothing else
+  pub record CellsHold (sizes : List ℕ) (nodes : List ℕ → Option Node) (values : List ℕ → ℕ → Option T) (paths : List (List ℕ)) (w : Store (Option T)) : Type 0 where
+    pub set_where : (p : List ℕ) (b : ℕ) → is_some (values p b) ≡ has_value (nodes p) b
+    pub sound : Sound None (flat_map (value_blocks sizes nodes values) paths) w
+    pub sizes_are : tier_sizes w.tiers ≡ sizes
+    pub within : (p : List ℕ) (b : ℕ) → is_some (values p b) ≡ true → b < 31
+
+-- the nodes where p has become m, with a blank child c more
+abbrev pub with_child : (List ℕ → Option Node) → List ℕ → Node → ℕ → List ℕ → Option Node
+with_child nodes p m c q =
+    cond (same_path q (p ++ c ∷ [])) (Some blank_node) (cond (same_path q p) (Some m) (nodes q))
+
+-- the nodes where p has become m, with the child c less
+abbrev pub lacking_child : (List ℕ → Option Node) → List ℕ → Node → ℕ → List ℕ → Option Node
+lacking_child nodes p m c q =
+    cond (same_path q (p ++ c ∷ [])) None (cond (same_path q p) (Some m) (nodes q))
+
+-- the nodes where p has become m
+abbrev pub with_node : (List ℕ → Option Node) → List ℕ → Node → List ℕ → Option Node
+with_node nodes p m q = cond (same_path q p) (Some m) (nodes q)
+
+module _ {T : Type 0} where
+  -- the values with another at bit b of the node at p
+  abbrev pub with_value : (List ℕ → ℕ → Option T) → List ℕ → ℕ → Option T → List ℕ → ℕ → Option T
+  with_value values p b x q i = cond (same_path (q ++ i ∷ []) (p ++ b ∷ [])) x (values q i)
+
+-- a node stands at this slot
+pub record AtNode (v : Store Node) (slot : ℕ) : Type 0 where
+  pub reading : List ℕ → Option Node
+  pub paths : List (List ℕ)
+  pub path : List ℕ
+  pub node : Node
+  pub hold : NodesHold node_sizes reading paths v
+  pub stands : IsSlot reading path slot
+  pub is : reading path ≡ Some node
+
+-- the node n at p has a blank child c more, which stands at a slot
+pub record ChildAdded (reading : List ℕ → Option Node) (paths : List (List ℕ)) (p : List ℕ) (n : Node) (c : ℕ) (w : Store Node) (slot : ℕ) : Type 0 where
+  pub node : Node
+  pub hold : NodesHold node_sizes (with_child reading p node c) ((p ++ c ∷ []) ∷ paths) w
+  pub stands : IsSlot (with_child reading p node c) (p ++ c ∷ []) slot
+  pub value_bitmap : node.value_bitmap ≡ n.value_bitmap
+  pub value_block : node.value_block ≡ n.value_block
+  pub value_tier : node.value_tier ≡ n.value_tier
+
+-- the same of a node and of the values
+pub record AtValues {T : Type 0} (v : Store Node) (w : Store (Option T)) (slot : ℕ) : Type 0 where
+  pub reading : List ℕ → Option Node
+  pub paths : List (List ℕ)
+  pub values : List ℕ → ℕ → Option T
+  pub path : List ℕ
+  pub node : Node
+  pub hold : NodesHold node_sizes reading paths v
+  pub cells : CellsHold cell_sizes reading values paths w
+  pub stands : IsSlot reading path slot
+  pub is : reading path ≡ Some node
+
+-- how many values a node has of its own
+abbrev pub own_count : Option Node → ℕ
+own_count None = 0
+own_count (Some n) = rank n.value_bitmap 32
+
+-- how many values the nodes at these paths have
+abbrev pub entry_count : (List ℕ → Option Node) → List (List ℕ) → ℕ
+entry_count nodes [] = 0
+entry_count nodes (p ∷ ps) = own_count (nodes p) + entry_count nodes ps
+
+-- the node at p has another value at bit b
+pub record ValueSet {T : Type 0} (reading : List ℕ → Option Node) (paths : List (List ℕ)) (values : List ℕ → ℕ → Option T) (p : List ℕ) (b : ℕ) (x : Option T) (v : Store Node) (w : Store (Option T)) : Type 0 where
+  pub node : Node
+  pub hold : NodesHold node_sizes (with_node reading p node) paths v
+  pub cells : CellsHold cell_sizes (with_node reading p node) (with_value values p b x) paths w
+  pub counted : own_count (Some node) + one_if (is_some (values p b)) ≡ own_count (reading p) + one_if (is_some x)
+
+-- the way down a path ends at its node of this depth: there a node stands, and below it none does, or the path ends
+pub record IsEnd (nodes : List ℕ → Option Node) (path : List ℕ) (depth : ℕ) : Type 0 where
+  pub within : depth ≤ length path
+  pub stands : is_some (nodes (take depth path)) ≡ true
+  pub stops : depth < length path → is_some (nodes (take (depth + 1) path)) ≡ false
+
+-- the deepest node on a path stands at a slot
+pub record Deepest (reading : List ℕ → Option Node) (path : List ℕ) (depth slot : ℕ) (v : Store Node) : Type 0 where
+  pub node : Node
+  pub stands : IsSlot reading (take depth path) slot
+  pub is : reading (take depth path) ≡ Some node
+
+-- all starts of a path, itself among them
+abbrev pub starts : List ℕ → List (List ℕ)
+starts [] = [] ∷ []
+starts (c ∷ cs) = [] ∷ map (λ p. c ∷ p) (starts cs)
+
+-- whether q is a beginning of a path
+abbrev pub is_start : List ℕ → List ℕ → Bool
+is_start q path = list_any (same_path q) (starts path)
+
+-- the nodes and the values hold what a table has
+pub record Holds {T : Type 0} (reading : List ℕ → Option Node) (values : List ℕ → ℕ → Option T) (paths : List (List ℕ)) (v : Store Node) (w : Store (Option T)) : Type 0 where
+  pub hold : NodesHold node_sizes reading paths v
+  pub cells : CellsHold cell_sizes reading values paths w
+
+-- they hold something
+pub record IsTable {T : Type 0} (v : Store Node) (w : Store (Option T)) : Type 0 where
+  pub reading : List ℕ → Option Node
+  pub values : List ℕ → ℕ → Option T
+  pub paths : List (List ℕ)
+  pub holds : Holds reading values paths v w
+
+-- the beginning of a path of so many digits leads to a node at a slot
+pub record StandsAt {T : Type 0} (v : Store Node) (w : Store (Option T)) (path : List ℕ) (depth slot : ℕ) : Type 0 where
+  pub table : IsTable v w
+  pub deep : Deepest table.reading path depth slot v
+
+-- a value can be added at a bit
+pub record ValueReady {T : Type 0} (n : Node) (w : Store (Option T)) (b : ℕ) : Type 0 where
+  pub ready : IsReady w.tiers n.value_tier (rank n.value_bitmap 32)
+  pub missing : has_bit n.value_bitmap b ≡ false
+
+-- the nodes on the beginning of a path of so many digits were added, and the last stands at a slot
+pub record Walked {T : Type 0} (reading : List ℕ → Option Node) (values : List ℕ → ℕ → Option T) (before : List (List ℕ)) (path : List ℕ) (depth slot : ℕ) (v : Store Node) (w : Store (Option T)) : Type 0 where
+  pub later : List ℕ → Option Node
+  pub paths : List (List ℕ)
+  pub holds : Holds later values paths v w
+  pub deep : Deepest later path depth slot v
+  pub grown : (q : List ℕ) → is_some (later q) ≡ (is_some (reading q) || is_start q (take depth path))
+  pub counted : entry_count later paths ≡ entry_count reading before
+
+-- a value was put at a bit of the node with a path, and the nodes on the path were added
+pub record EntryAdded {T : Type 0} (reading : List ℕ → Option Node) (values : List ℕ → ℕ → Option T) (before : List (List ℕ)) (path : List ℕ) (b : ℕ) (x : Option T) (v : Store Node) (w : Store (Option T)) : Type 0 where
+  pub later : List ℕ → Option Node
+  pub paths : List (List ℕ)
+  pub holds : Holds later (with_value values path b x) paths v w
+  pub grown : (q : List ℕ) → is_some (later q) ≡ (is_some (reading q) || is_start q path)
+  pub counted : entry_count later paths + one_if (is_some (values path b)) ≡ entry_count reading before + one_if (is_some x)
+
+module _ {T : Type 0} where
+  -- the value at bit b of a node
+  unfoldable pub value_in : List (Option T) → Node → ℕ → Option T
+  value_in cells n b = cond (has_bit n.value_bitmap b) (slice_index_or cells (n.value_block + rank n.value_bitmap b) None) None
+
+  abbrev pub value_of : List (Option T) → Option Node → ℕ → Option T
+  value_of cells None b = None
+  value_of cells (Some n) b = value_in cells n b
+
+-- the child c of the node at p, which had nothing, is gone
+pub record ChildGone {T : Type 0} (reading : List ℕ → Option Node) (paths : List (List ℕ)) (values : List ℕ → ℕ → Option T) (p : List ℕ) (c : ℕ) (v : Store Node) (w : Store (Option T)) : Type 0 where
+  pub node : Node
+  pub holds : Holds (lacking_child reading p node c) values (without (p ++ c ∷ []) paths) v w
+
+-- a node without values and children
+pub record IsBare (n : Node) : Type 0 where
+  pub no_children : (i : ℕ) → has_bit n.child_bitmap i ≡ false
+  pub no_values : (i : ℕ) → has_bit n.value_bitmap i ≡ false
+
+-- the value at a bit of the node with a path was taken, and the nodes stay
+pub record EntryTaken {T : Type 0} (reading : List ℕ → Option Node) (values : List ℕ → ℕ → Option T) (path : List ℕ) (b : ℕ) (v : Store Node) (w : Store (Option T)) : Type 0 where
+  pub later : List ℕ → Option Node
+  pub paths : List (List ℕ)
+  pub holds : Holds later (with_value values path b None) paths v w
+  pub same : (q : List ℕ) → is_some (later q) ≡ is_some (reading q)

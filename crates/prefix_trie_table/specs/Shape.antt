@@ -1,0 +1,55 @@
+-- What contracts see of a table, and that the nodes and the cells determine it.
+use Rattle.std.specs.Prelude.{◌≡◌, ℕ, Bool, List, ◌&&◌, is_some, Option, refl}
+use Rattle.std.proofs.Common.{sym, ◌∙◌}
+use Rattle.std.specs.Coded.{Coded, code_by, coded×, coded_list, coded_ℕ, coded_bool, coded_option, Coded-set}
+use base.Stored.{coded_unit}
+use Rattle.std.specs.FinMap.{get, same_map, code, contains_key}
+use mathlib.Core.HLevel.{Π_prop, Σ_prop_path}
+use Rattle.prefix_trie_bits.specs.Order.{listing_total, listing_same}
+use Rattle.prefix_trie_bits.specs.Model.Entries.{Entries}
+use Rattle.prefix_trie_bits.specs.Model.Nodes.{Nodes, has_node, is_node_depth}
+use Rattle.prefix_trie_bits.specs.Model.Step.{State}
+use Rattle.prefix_trie_bits.specs.Model.Room.{Room}
+use Rattle.prefix_trie_bits.proofs.Model.Members.{marks}
+use Rattle.prefix_trie_table.specs.declared.allocator.node.Node.{Node}
+use Rattle.prefix_trie_table.specs.Digits.{path_of, bit_of}
+use Rattle.prefix_trie_table.specs.Forest.{read, value_of}
+
+-- what contracts see of a table: its entries, its nodes and its room
+pub record Contents (T : Type 0) : Type 0 where
+  pub entries : Entries T
+  pub nodes : Nodes
+  pub room : Room
+
+abbrev pub contents_code : {T : Type 0} → Coded T → Coded (Contents T)
+contents_code {T} c =
+    code_by (Entries T × (Nodes × (ℕ × (ℕ × ℕ))))
+    (coded× (code (coded_list coded_bool) c) (coded× (code (coded_list coded_bool) coded_unit) (coded× coded_ℕ (coded× coded_ℕ coded_ℕ))))
+    (λ s. (s.entries, (s.nodes, (s.room.limit, (s.room.node_slots, s.room.cell_slots)))))
+    (λ p. record { entries = p.0; nodes = p.1.0; room = record { limit = p.1.1.0; node_slots = p.1.1.1.0; cell_slots = p.1.1.1.1 } }) (λ _. refl)
+
+module _ {T : Type 0} where
+  -- the entries and the nodes are those of these arrays: each string is looked up at its own node
+  abbrev pub IsShapeOf : List Node → List (Option T) → State T → Type 0
+  IsShapeOf nodes cells shape =
+      ((s : List Bool) → has_node shape.nodes s ≡ (is_node_depth s && is_some (read nodes (path_of s))))
+      × ((s : List Bool) → get shape.entries s ≡ value_of cells (read nodes (path_of s)) (bit_of s))
+
+  pub IsShapeOf-prop : Coded T → (nodes : List Node) (cells : List (Option T)) (shape : State T) → IsProp (IsShapeOf nodes cells shape)
+  IsShapeOf-prop c nodes cells shape = λ x y i. (
+    Π_prop (λ _. Coded-set coded_bool _ _) x.0 y.0 i,
+    Π_prop (λ _. Coded-set (coded_option c) _ _) x.1 y.1 i,
+  )
+
+  pub same_shape : (nodes : List Node) (cells : List (Option T)) (s t : State T) → IsShapeOf nodes cells s → IsShapeOf nodes cells t → s ≡ t
+  same_shape nodes cells s t h k =
+      let entries : s.entries ≡ t.entries = same_map listing_total listing_same s.entries t.entries (λ q. h.1 q ∙ sym (k.1 q)) in
+      let nodes : s.nodes ≡ t.nodes = same_map listing_total listing_same s.nodes t.nodes (λ q. marks (get s.nodes q) (get t.nodes q) (h.0 q ∙ sym (k.0 q))) in
+      λ i. record { entries = entries i; nodes = nodes i }
+
+  -- the one shape that the nodes and the cells have
+  abbrev pub Shaped : List Node → List (Option T) → Type 0
+  Shaped nodes cells = (shape : State T) × IsShapeOf nodes cells shape
+
+  pub Shaped-prop : Coded T → (nodes : List Node) (cells : List (Option T)) → IsProp (Shaped nodes cells)
+  Shaped-prop c nodes cells = λ x y. Σ_prop_path (IsShapeOf-prop c nodes cells) (same_shape nodes cells x.0 y.0 x.1 y.1)

@@ -1,0 +1,25 @@
+-- What holds of the fields of every table, and of a way down.
+use Rattle.std.specs.Prelude.{◌≡◌, ℕ, ◌+◌, ◌*◌, ◌≤◌, Bool, false, List, Option, length, take, slice_index_or}
+use Rattle.std.specs.FinMap.{len}
+use Rattle.prefix_trie_bits.specs.Model.Step.{State}
+use Rattle.prefix_trie_table.specs.declared.allocator.node.Node.{Node}
+use Rattle.prefix_trie_table.specs.Bitmaps.{has_bit}
+use Rattle.prefix_trie_table.specs.Cells.{node_at, node_sizes}
+use Rattle.prefix_trie_table.specs.Digits.{path_of}
+use Rattle.prefix_trie_table.specs.Store.{Store}
+use Rattle.prefix_trie_table.specs.Forest.{NodesHold, IsTable, Deepest, entry_count}
+
+-- the arrays hold a table with these entries and nodes, the count is that of the entries, and both arrays have one limit
+pub record IsTableOf {T : Type 0} (v : Store Node) (w : Store (Option T)) (count : ℕ) (shape : State T) : Type 0 where
+  pub table : IsTable v w
+  pub counted : count ≡ entry_count table.reading table.paths
+  pub sized : count ≡ len shape.entries
+  pub one_limit : w.limit ≡ v.limit
+
+-- the way of the first len bits of b was followed as far as nodes stand, to this node in this slot
+pub record IsReached (b : List Bool) (len level : ℕ) (node : Node) (slot : ℕ) (v : Store Node) : Type 0 where
+  pub long : len ≤ length b
+  pub whole : 5 * level ≤ len
+  pub node_is : node ≡ node_at v.slots slot
+  pub deepest : (reading : List ℕ → Option Node) (paths : List (List ℕ)) → NodesHold node_sizes reading paths v → Deepest reading (path_of (take len b)) level slot v
+  pub missing : 5 * level + 5 ≤ len → has_bit node.child_bitmap (slice_index_or (path_of (take len b)) level 0) ≡ false

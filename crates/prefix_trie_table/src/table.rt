@@ -1,0 +1,114 @@
+//! The table: values by bit strings, in a trie of nodes of five levels.
+//!
+//! A bit string is handed in as a key and a length: the first `len` bits of the key. Contracts see a table as its entries,
+//! a finite map from bit strings to values, its nodes, a finite set of bit strings, and its room. They see no slot, no
+//! block and no bitmap.
+mod insertion;
+mod lookup;
+
+ghost use Rattle.std.specs.Prelude.{◌≡◌, ℕ, ◌+◌, ◌≤◌, take, IfOk, OnOk, IfErr, OnErr, IsOk, IsTrue};
+ghost use Rattle.std.specs.Option.{option_copied};
+ghost use Rattle.std.specs.FinMap.{get, contains_key, len};
+ghost use Rattle.prefix_trie_bits.specs.Model.Entries.{no_entries, with_entry};
+ghost use Rattle.prefix_trie_bits.specs.Model.Nodes.{root_alone, with_needed};
+ghost use Rattle.prefix_trie_bits.specs.Model.Visits.{visits};
+ghost use Rattle.prefix_trie_table.specs.Shape.{Shaped, Shaped-prop};
+
+use crate::allocator::blocks::{Blocks, cells};
+use crate::allocator::nodes::{NodeAllocator, Tick};
+use crate::table::insertion::insert_value;
+use crate::table::lookup::find_value;
+use prefix_trie_bits::prefix::{Key, Refusal, Refused};
+use std::alloc::Allocator;
+use std::marker::Model;
+
+/// Values by bit strings.
+#[derive(Drop)]
+pub struct Table<T: Drop, A: Allocator, V: Tick> {
+    nodes: NodeAllocator<A, V>,
+    cells: Blocks<Option<T>, A>,
+    count: usize,
+    ghost shape: { Shaped nodes.slots cells.slots } by { Shaped-prop T.code nodes.slots cells.slots },
+}
+
+// Clauses see the entries, the nodes and the room.
+impl<T: Drop, A: Allocator, V: Tick> Model for Table<T, A, V> {
+    ghost use Rattle.prefix_trie_table.specs.Shape.{Contents, contents_code};
+
+    ghost Value = { Contents T };
+
+    ghost coded = { contents_code T.code };
+
+    ghost use Rattle.std.specs.Prelude.{length};
+    ghost use Rattle.prefix_trie_table.specs.Tables.{IsTableOf};
+
+    ghost view = { λ t. record { entries = t.shape.0.entries; nodes = t.shape.0.nodes; room = record { limit = t.nodes.limit; node_slots = length t.nodes.slots; cell_slots = length t.cells.slots } } };
+
+    ghost invariant = { λ t. IsTableOf t.nodes t.cells t.count t.shape.0 };
+}
+
+impl<T: Drop, A: Allocator + Clone, V: Tick> Table<T, A, V> {
+    /// An empty table, whose arrays are never longer than `limit` slots. Refused with `IndexRange` where `limit` is 0,
+    /// since the root needs a slot, and else only for memory.
+    pub fn new(alloc: A, limit: u32) -> Result<Self, Refusal>
+        ensures entries { IfOk result (λ t. t.entries ≡ no_entries) }
+        ensures nodes { IfOk result (λ t. t.nodes ≡ root_alone) }
+        ensures room { IfOk result (λ t. t.room ≡ record { limit = limit; node_slots = 1; cell_slots = 0 }) }
+    {
+        let nodes = NodeAllocator::new(&alloc, limit)?;
+        let Ok(cells) = cells(&alloc, limit) else {
+            return Err(Refusal::Memory);
+        };
+        Ok(Table {
+            nodes,
+            cells,
+            count: 0,
+        })
+    }
+}
+
+impl<T: Drop, A: Allocator, V: Tick> Table<T, A, V> {
+    /// The number of entries.
+    #[inline]
+    pub fn len(&self) -> usize
+        ensures { result ≡ len self.now.entries }
+    {
+        self.count
+    }
+
+    /// The value at a bit string. Each node on the way is read once.
+    #[inline]
+    pub fn find<K: Key>(&self, key: K, len: u32, counter: &mut V) -> Option<&T>
+        requires key { K.IsKey key }
+        requires within { len ≤ K.bit_width }
+        ensures value { option_copied result ≡ get self.now.entries (take len (K.bits key)) }
+        ensures visits { V.count counter.new ≡ V.count counter.old + visits self.now.nodes (take len (K.bits key)) }
+    {
+        find_value(&self.nodes, &self.cells, key, len, counter)
+    }
+
+    /// Sets the value at a bit string, and adds the nodes on its way that are missing. It asks for all room that it needs
+    /// before its first change; refused, it hands the value back and leaves entries and nodes as they were.
+    pub fn insert<K: Key>(
+        &mut self,
+        key: K,
+        len: u32,
+        value: T,
+        counter: &mut V,
+    ) -> Result<Option<T>, Refused<T>>
+        requires key { K.IsKey key }
+        requires within { len ≤ K.bit_width }
+        ensures before { IfOk result (λ before. before ≡ get self.old.entries (take len (K.bits key))) }
+        ensures entries { OnOk result (self.new.entries ≡ with_entry self.old.entries (take len (K.bits key)) value) }
+        ensures nodes { OnOk result (self.new.nodes ≡ with_needed self.old.nodes (take len (K.bits key))) }
+        ensures unchanged { OnErr result ((self.new.entries ≡ self.old.entries) × (self.new.nodes ≡ self.old.nodes)) }
+        ensures returned { IfErr result (λ refused. refused.value ≡ value) }
+        ensures stored { IsTrue (contains_key self.old.entries (take len (K.bits key))) → IsOk result }
+    {
+        let before = insert_value(&mut self.nodes, &mut self.cells, key, len, value, counter)?;
+        if before.is_none() {
+            self.count += 1;
+        }
+        Ok(before)
+    }
+}

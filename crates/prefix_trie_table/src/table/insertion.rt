@@ -1,0 +1,177 @@
+//! Setting a value.
+#![tactic(none)]
+ghost use Rattle.std.specs.Prelude.{◌≡◌, ◌≢◌, ℕ, ◌+◌, ◌-◌, ◌*◌, ◌<◌, ◌≤◌, List, Option, Some, take, length, slice_index_or, false, true, is_some, IfErr, IsOk, MatchResult};
+ghost use Rattle.prefix_trie_table.specs.declared.allocator.node.Node.{Node};
+ghost use Rattle.prefix_trie_table.specs.Bitmaps.{has_bit as is_set, rank as rank_of};
+ghost use Rattle.prefix_trie_table.specs.Cells.{node_at, node_sizes, cell_sizes};
+ghost use Rattle.prefix_trie_table.specs.Digits.{path_of, bit_of};
+ghost use Rattle.prefix_trie_table.specs.Store.{IsReady, tier_lacking, free_at, Enough};
+ghost use Rattle.prefix_trie_table.specs.Forest.{IsSlot, NodesHold, CellsHold, Holds, IsTable, AtNode, AtValues, ChildAdded, ValueSet, Deepest, StandsAt, ValueReady, EntryAdded};
+
+use crate::allocator::blocks::Blocks;
+use crate::allocator::node::{Node, NodeSlot};
+use crate::allocator::nodes::{NodeAllocator, Tick};
+use crate::table::lookup::{Reached, descend};
+use prefix_trie_bits::node::{child_bit_of, count, has_bit, rank, value_bit_of, with_bit};
+use prefix_trie_bits::prefix::{Key, Refusal, Refused};
+use std::alloc::Allocator;
+
+/// Adds a missing child, for whose block there is room, to the node in a slot, and answers where it stands.
+fn add_child<A: Allocator, V: Tick>(
+    nodes: &mut NodeAllocator<A, V>,
+    at: NodeSlot,
+    node: Node,
+    child: u32,
+) -> NodeSlot
+    requires child { child < 32 }
+    requires stands { AtNode nodes.old (at.start + at.place) }
+    requires node { node ≡ node_at nodes.old.slots (at.start + at.place) }
+    requires missing { is_set node.child_bitmap child ≡ false }
+    requires ready { IsReady nodes.old.tiers node.child_tier (rank_of node.child_bitmap 32) }
+    ensures free { (j : ℕ) → free_at nodes.old.tiers j ≤ free_at nodes.new.tiers j + 1 }
+    ensures kept { (j : ℕ) → tier_lacking nodes.old.tiers node.child_tier (rank_of node.child_bitmap 32) ≢ Some j → free_at nodes.old.tiers j ≤ free_at nodes.new.tiers j }
+    ensures added { (reading : List ℕ → Option Node) (paths : List (List ℕ)) (p : List ℕ) (n : Node) → NodesHold node_sizes reading paths nodes.old → IsSlot reading p (at.start + at.place) → reading p ≡ Some n → ChildAdded reading paths p n child nodes.new (result.start + result.place) }
+{
+    let place = rank(node.child_bitmap, child);
+    let block = nodes.insert_at(
+        node.child_tier as usize,
+        node.child_block,
+        count(node.child_bitmap),
+        place,
+        Node::blank(),
+    );
+    let child_bitmap = with_bit(node.child_bitmap, child);
+    nodes.put(
+        at,
+        Node {
+            value_bitmap: node.value_bitmap,
+            child_bitmap,
+            value_block: node.value_block,
+            child_block: block.start,
+            value_tier: node.value_tier,
+            child_tier: block.tier as u8,
+        },
+    );
+    NodeSlot {
+        start: block.start,
+        place,
+    }
+}
+
+/// Adds a missing value, for whose block there is room, to the node in a slot.
+fn add_value<T: Drop, A: Allocator, V: Tick>(
+    nodes: &mut NodeAllocator<A, V>,
+    cells: &mut Blocks<Option<T>, A>,
+    at: NodeSlot,
+    node: Node,
+    bit: u32,
+    value: T,
+)
+    requires bit { bit < 31 }
+    requires stands { AtValues nodes.old cells.old (at.start + at.place) }
+    requires node { node ≡ node_at nodes.old.slots (at.start + at.place) }
+    requires missing { is_set node.value_bitmap bit ≡ false }
+    requires ready { IsReady cells.old.tiers node.value_tier (rank_of node.value_bitmap 32) }
+    ensures added { (reading : List ℕ → Option Node) (paths : List (List ℕ)) (values : List ℕ → ℕ → Option T) (p : List ℕ) (n : Node) → NodesHold node_sizes reading paths nodes.old → CellsHold cell_sizes reading values paths cells.old → IsSlot reading p (at.start + at.place) → reading p ≡ Some n → ValueSet reading paths values p bit (Some value) nodes.new cells.new }
+{
+    let place = rank(node.value_bitmap, bit);
+    let block = cells.insert_at(
+        node.value_tier as usize,
+        node.value_block,
+        count(node.value_bitmap),
+        place,
+        Some(value),
+    );
+    let value_bitmap = with_bit(node.value_bitmap, bit);
+    nodes.put(
+        at,
+        Node {
+            value_bitmap,
+            child_bitmap: node.child_bitmap,
+            value_block: block.start,
+            child_block: node.child_block,
+            value_tier: block.tier as u8,
+            child_tier: node.child_tier,
+        },
+    );
+}
+
+/// Puts another value where the node in a slot has one, and answers the one that was there.
+fn replace_value<T: Drop, A: Allocator, V: Tick>(
+    nodes: &NodeAllocator<A, V>,
+    cells: &mut Blocks<Option<T>, A>,
+    at: NodeSlot,
+    node: Node,
+    bit: u32,
+    value: T,
+) -> Option<T>
+    requires bit { bit < 31 }
+    requires stands { AtValues nodes.now cells.old (at.start + at.place) }
+    requires node { node ≡ node_at nodes.now.slots (at.start + at.place) }
+    requires there { is_set node.value_bitmap bit ≡ true }
+    ensures before { (reading : List ℕ → Option Node) (paths : List (List ℕ)) (values : List ℕ → ℕ → Option T) (p : List ℕ) (n : Node) → NodesHold node_sizes reading paths nodes.now → CellsHold cell_sizes reading values paths cells.old → IsSlot reading p (at.start + at.place) → reading p ≡ Some n → result ≡ values p bit }
+    ensures replaced { (reading : List ℕ → Option Node) (paths : List (List ℕ)) (values : List ℕ → ℕ → Option T) (p : List ℕ) (n : Node) → NodesHold node_sizes reading paths nodes.now → CellsHold cell_sizes reading values paths cells.old → IsSlot reading p (at.start + at.place) → reading p ≡ Some n → ValueSet reading paths values p bit (Some value) nodes.now cells.new }
+{
+    cells.put(node.value_block, rank(node.value_bitmap, bit), Some(value))
+}
+
+/// Obtains all blocks that a new value needs, below or in the deepest node on its way. Refused, nothing else has changed.
+fn prepare<T: Drop, A: Allocator, V: Tick>(
+    nodes: &mut NodeAllocator<A, V>,
+    cells: &mut Blocks<Option<T>, A>,
+    reached: &Reached,
+    len: u32,
+) -> Result<(), Refusal>
+{
+    let depth = 5 * reached.level;
+    let node = &reached.node;
+    if depth + 5 > len {
+        return cells.prepare(node.value_tier as usize, count(node.value_bitmap), 0);
+    }
+    cells.prepare(0, 0, 0)?;
+    let below = (len - depth) / 5 - 1;
+    nodes.prepare(node.child_tier as usize, count(node.child_bitmap), below as usize)
+}
+
+/// Adds the nodes of a way that are missing, below the deepest that is there, and a value at the last.
+fn add_entry<K: Key, T: Drop, A: Allocator, V: Tick>(
+    nodes: &mut NodeAllocator<A, V>,
+    cells: &mut Blocks<Option<T>, A>,
+    reached: Reached,
+    key: K,
+    len: u32,
+    value: T,
+)
+{
+    let Reached { mut at, mut node, level } = reached;
+    for step in level..len / 5 {
+        at = add_child(nodes, at, node, child_bit_of(key, 5 * step));
+        node = Node::blank();
+    }
+    add_value(nodes, cells, at, node, value_bit_of(key, len / 5 * 5, len), value);
+}
+
+/// Sets the value at a bit string, and adds the nodes of its way that are missing. On a refusal nothing is added.
+pub fn insert_value<K: Key, T: Drop, A: Allocator, V: Tick>(
+    nodes: &mut NodeAllocator<A, V>,
+    cells: &mut Blocks<Option<T>, A>,
+    key: K,
+    len: u32,
+    value: T,
+    counter: &mut V,
+) -> Result<Option<T>, Refused<T>>
+{
+    let reached = descend(nodes, key, len, counter);
+    let depth = 5 * reached.level;
+    if depth + 5 > len {
+        let bit = value_bit_of(key, depth, len);
+        if has_bit(reached.node.value_bitmap, bit) {
+            return Ok(replace_value(nodes, cells, reached.at, reached.node, bit, value));
+        }
+    }
+    if let Err(cause) = prepare(nodes, cells, &reached, len) {
+        return Err(Refused { cause, value });
+    }
+    add_entry(nodes, cells, reached, key, len, value);
+    Ok(None)
+}

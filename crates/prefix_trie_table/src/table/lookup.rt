@@ -1,0 +1,81 @@
+//! Going down from the root, and reading a value.
+ghost use Rattle.std.specs.Prelude.{◌≡◌, ℕ, ◌+◌, ◌≤◌, List, Option, take};
+ghost use Rattle.std.specs.Option.{option_copied};
+ghost use Rattle.prefix_trie_table.specs.declared.allocator.node.Node.{Node};
+ghost use Rattle.prefix_trie_table.specs.Cells.{node_sizes};
+ghost use Rattle.prefix_trie_table.specs.Digits.{path_of, bit_of};
+ghost use Rattle.prefix_trie_table.specs.Forest.{NodesHold, Holds, IsTable, IsEnd};
+ghost use Rattle.prefix_trie_table.specs.Tables.{IsReached};
+
+use crate::allocator::blocks::Blocks;
+use crate::allocator::node::{Node, NodeSlot};
+use crate::allocator::nodes::{NodeAllocator, Tick};
+use prefix_trie_bits::node::{child_bit_of, has_bit, rank, value_bit_of};
+use prefix_trie_bits::prefix::Key;
+use std::alloc::Allocator;
+
+/// The deepest node on a way from the root: where it stands, what it holds, and how many steps of five bits lead there.
+#[derive(Clone, Copy)]
+pub struct Reached {
+    pub at: NodeSlot,
+    pub node: Node,
+    pub level: u32,
+}
+
+/// Goes down the way of a bit string as far as nodes stand, and reads each of them once.
+pub fn descend<K: Key, A: Allocator, V: Tick>(
+    nodes: &NodeAllocator<A, V>,
+    key: K,
+    len: u32,
+    counter: &mut V,
+) -> Reached
+    requires key { K.IsKey key }
+    requires within { len ≤ K.bit_width }
+    requires sound { (reading : List ℕ → Option Node) × (paths : List (List ℕ)) × NodesHold node_sizes reading paths nodes.now }
+    ensures reached { IsReached (K.bits key) len result.level result.node (result.at.start + result.at.place) nodes.now }
+    ensures visits { V.count counter.new ≡ V.count counter.old + (result.level + 1) }
+{
+    let mut at = NodeSlot::ROOT;
+    let mut node = nodes.visit(at, counter);
+    let mut level = 0;
+    while 5 * level + 5 <= len {
+        let child = child_bit_of(key, 5 * level);
+        if !has_bit(node.child_bitmap, child) {
+            return Reached { at, node, level };
+        }
+        at = NodeSlot {
+            start: node.child_block,
+            place: rank(node.child_bitmap, child),
+        };
+        node = nodes.visit(at, counter);
+        level += 1;
+    }
+    Reached { at, node, level }
+}
+
+/// The value at a bit string.
+pub fn find_value<'a, K: Key, T: Drop, A: Allocator, V: Tick>(
+    nodes: &NodeAllocator<A, V>,
+    cells: &'a Blocks<Option<T>, A>,
+    key: K,
+    len: u32,
+    counter: &mut V,
+) -> Option<&'a T>
+    requires key { K.IsKey key }
+    requires within { len ≤ K.bit_width }
+    requires table { IsTable nodes.now cells.now }
+    ensures value { (reading : List ℕ → Option Node) (paths : List (List ℕ)) (values : List ℕ → ℕ → Option T) → Holds reading values paths nodes.now cells.now → option_copied result ≡ values (path_of (take len (K.bits key))) (bit_of (take len (K.bits key))) }
+    ensures visits { (reading : List ℕ → Option Node) (paths : List (List ℕ)) → NodesHold node_sizes reading paths nodes.now → (level : ℕ) × IsEnd reading (path_of (take len (K.bits key))) level × (V.count counter.new ≡ V.count counter.old + (level + 1)) }
+{
+    let reached = descend(nodes, key, len, counter);
+    let depth = 5 * reached.level;
+    if depth + 5 <= len {
+        return None;
+    }
+    let bit = value_bit_of(key, depth, len);
+    let bitmap = reached.node.value_bitmap;
+    if !has_bit(bitmap, bit) {
+        return None;
+    }
+    cells.at(reached.node.value_block, rank(bitmap, bit)).as_ref()
+}
