@@ -2,7 +2,7 @@
 use Rattle.std.proofs.Common.{◌≡◌, ◌≢◌, ℕ, zero, suc, ◌+◌, ◌-◌, ◌<◌, ◌≤◌, ⊎_elim, Bool, true, false, cond, List, [], ◌∷◌, ◌++◌, length, get_or, set, map, insert, remove, refl, sym, ap, ap₂, ◌∙◌, subst, arith, append_assoc, length-append}
 use Rattle.std.proofs.lemmas.List.{map-append, length-map, get_or-map, get_or-append-add, set-append_right, append-nil}
 use Rattle.std.proofs.lemmas.Bool.{cases_eq}
-use Rattle.std.proofs.lemmas.List.Edits.{insert-append_right, remove-append_right}
+use Rattle.std.proofs.lemmas.List.Edits.{insert-append_right, remove-append_right, length-insert}
 use Rattle.prefix_trie_table.proofs.Bits.{has_bit-zero}
 use Rattle.prefix_trie_table.specs.Bitmaps.{has_bit, if_set, bits_below, bits, rank}
 
@@ -187,3 +187,9 @@ rank-zero-all = none 32
     none : (n : ℕ) → length (bits_below 0 n) ≡ 0
     none zero = refl
     none (suc n) = length-append (bits_below 0 n) (if_set (has_bit 0 n) n) ∙ ap₂ (λ x y. x + y) (none n) (length-if_set (has_bit 0 n) n ∙ ap (λ b. cond b 1 0) (has_bit-zero n))
+
+-- one bit more is one more set
+pub rank-more-one : (old new b : ℕ) → b < 32 → has_bit old b ≡ false → has_bit new b ≡ true → ((i : ℕ) → i ≢ b → has_bit new i ≡ has_bit old i) → rank new 32 ≡ rank old 32 + 1
+rank-more-one old new b h was is same =
+    let m = map_insert (λ i. i) (λ i. i) old new b h was is same (λ i n. refl) in
+    sym (rank-all (λ i. i) new) ∙ ap (λ (xs : List ℕ). length xs) m.1 ∙ length-insert (map (λ i. i) (bits old)) (rank old b) b m.0 ∙ ap (λ n. n + 1) (rank-all (λ i. i) old)

@@ -16,3 +16,7 @@ pub mod Shapes
 pub mod Going
 pub mod Finding
 pub mod Counted
+pub mod EntryCounts
+pub mod Adding
+pub mod Growing
+pub mod Inserting
