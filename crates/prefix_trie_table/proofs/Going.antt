@@ -94,3 +94,31 @@ module _ (b : List Bool) (len level slot : ℕ) (node : Node) (v : Store Node) (
   down_more place bit place_is reading paths hold =
       deepest_more reading paths v (path_of (take len b)) level slot hold (down.deepest reading paths hold) place node (step-inside b len level within inside) down.node_is (down_bit ∙ bit)
       (place_is ∙ sym (rank-ones node.child_bitmap x (omega arith)) ∙ ap (rank node.child_bitmap) (sym (step-read b len level within x inside read)))
+
+-- ---- whole steps of a length
+
+pub level_inside : (level len : ℕ) → level < len / 5 → 5 * level + 5 ≤ len
+level_inside level len h = omega (arith, h)
+
+pub level_last : (level len : ℕ) → level ≡ len / 5 → len < 5 * level + 5
+level_last level len e = omega (arith, e)
+
+pub level_whole : (level len : ℕ) → level ≡ len / 5 → 5 * level ≤ len
+level_whole level len e = omega (arith, e)
+
+pub level_within : (level len : ℕ) → 5 * level ≤ len → level ≤ len / 5
+level_within level len h = omega (arith, h)
+
+pub level_past : (level len : ℕ) → len < 5 * level + 5 → 5 * level ≤ len → level ≡ len / 5
+level_past level len h k = omega (arith, h, k)
+
+-- the value bit that the code reads at the depth of the last whole step
+pub bit-read-last : (b : List Bool) (len : ℕ) → len ≤ length b → (x : ℕ) → x ≡ value_bit (drop (len / 5 * 5) (take len b)) → bit_of (take len b) ≡ x
+bit-read-last b len within x e =
+    bit-read b len (len / 5) within x (level_whole (len / 5) len refl) (level_last (len / 5) len refl) (e ∙ ap (λ d. value_bit (drop d (take len b))) (turn (len / 5)))
+  where
+    turn : (n : ℕ) → n * 5 ≡ 5 * n
+    turn n = omega arith
+
+pub steps-all : (b : List Bool) (len : ℕ) → len ≤ length b → length (path_of (take len b)) ≡ len / 5
+steps-all b len within = steps-length b len 0 within

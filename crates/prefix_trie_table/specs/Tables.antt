@@ -1,12 +1,12 @@
 -- What holds of the fields of every table, and of a way down.
-use Rattle.std.specs.Prelude.{◌≡◌, ℕ, ◌+◌, ◌*◌, ◌≤◌, Bool, false, List, Option, length, take, slice_index_or}
+use Rattle.std.specs.Prelude.{◌≡◌, ℕ, ◌+◌, ◌-◌, ◌*◌, ◌/◌, ◌<◌, ◌≤◌, Bool, false, List, Option, length, take, slice_index_or}
 use Rattle.std.specs.FinMap.{len}
 use Rattle.prefix_trie_bits.specs.Model.Step.{State}
 use Rattle.prefix_trie_table.specs.declared.allocator.node.Node.{Node}
-use Rattle.prefix_trie_table.specs.Bitmaps.{has_bit}
+use Rattle.prefix_trie_table.specs.Bitmaps.{has_bit, rank}
 use Rattle.prefix_trie_table.specs.Cells.{node_at, node_sizes}
 use Rattle.prefix_trie_table.specs.Digits.{path_of}
-use Rattle.prefix_trie_table.specs.Store.{Store}
+use Rattle.prefix_trie_table.specs.Store.{Store, IsReady, Enough}
 use Rattle.prefix_trie_table.specs.Forest.{NodesHold, IsTable, Deepest, entry_count}
 
 -- the arrays hold a table with these entries and nodes, the count is that of the entries, and both arrays have one limit
@@ -23,3 +23,9 @@ pub record IsReached (b : List Bool) (len level : ℕ) (node : Node) (slot : ℕ
   pub node_is : node ≡ node_at v.slots slot
   pub deepest : (reading : List ℕ → Option Node) (paths : List (List ℕ)) → NodesHold node_sizes reading paths v → Deepest reading (path_of (take len b)) level slot v
   pub missing : 5 * level + 5 ≤ len → has_bit node.child_bitmap (slice_index_or (path_of (take len b)) level 0) ≡ false
+
+-- all blocks stand free that a new value of len bits needs, where this is the deepest node on its way, of this level
+pub record HasRoom {T : Type 0} (v : Store Node) (w : Store (Option T)) (node : Node) (level len : ℕ) : Type 0 where
+  pub here : len < 5 * level + 5 → IsReady w.tiers node.value_tier (rank node.value_bitmap 32)
+  pub below : 5 * level + 5 ≤ len → IsReady w.tiers 0 0
+  pub children : 5 * level + 5 ≤ len → Enough v.tiers node.child_tier (rank node.child_bitmap 32) (len / 5 - (level + 1))

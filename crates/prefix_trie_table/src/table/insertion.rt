@@ -1,12 +1,12 @@
 //! Setting a value.
-#![tactic(none)]
-ghost use Rattle.std.specs.Prelude.{◌≡◌, ◌≢◌, ℕ, ◌+◌, ◌-◌, ◌*◌, ◌<◌, ◌≤◌, List, Option, Some, take, length, slice_index_or, false, true, is_some, IfErr, IsOk, MatchResult};
+ghost use Rattle.std.specs.Prelude.{◌≡◌, ◌≢◌, ℕ, ◌+◌, ◌*◌, ◌<◌, ◌≤◌, List, Option, Some, take, false, true, is_some, IfErr, IsOk, MatchResult, OnOk, None};
 ghost use Rattle.prefix_trie_table.specs.declared.allocator.node.Node.{Node};
 ghost use Rattle.prefix_trie_table.specs.Bitmaps.{has_bit as is_set, rank as rank_of};
-ghost use Rattle.prefix_trie_table.specs.Cells.{node_at, node_sizes, cell_sizes};
+ghost use Rattle.prefix_trie_table.specs.Cells.{blank_node, node_at, node_sizes, cell_sizes};
 ghost use Rattle.prefix_trie_table.specs.Digits.{path_of, bit_of};
-ghost use Rattle.prefix_trie_table.specs.Store.{IsReady, tier_lacking, free_at, Enough};
-ghost use Rattle.prefix_trie_table.specs.Forest.{IsSlot, NodesHold, CellsHold, Holds, IsTable, AtNode, AtValues, ChildAdded, ValueSet, Deepest, StandsAt, ValueReady, EntryAdded};
+ghost use Rattle.prefix_trie_table.specs.Store.{Block, Sound, IsReady, tier_lacking, free_at, Prepared};
+ghost use Rattle.prefix_trie_table.specs.Forest.{IsSlot, NodesHold, CellsHold, Holds, IsTable, AtNode, AtValues, ChildAdded, ValueSet, StandsAt, EntryAdded};
+ghost use Rattle.prefix_trie_table.specs.Tables.{IsReached, HasRoom};
 
 use crate::allocator::blocks::Blocks;
 use crate::allocator::node::{Node, NodeSlot};
@@ -115,13 +115,25 @@ fn replace_value<T: Drop, A: Allocator, V: Tick>(
     cells.put(node.value_block, rank(node.value_bitmap, bit), Some(value))
 }
 
-/// Obtains all blocks that a new value needs, below or in the deepest node on its way. Refused, nothing else has changed.
+/// Obtains all blocks that a new value of `len` bits needs, where the node reached is the deepest on its way. Refused,
+/// nothing has changed but that some blocks may be free that were not there.
 fn prepare<T: Drop, A: Allocator, V: Tick>(
     nodes: &mut NodeAllocator<A, V>,
     cells: &mut Blocks<Option<T>, A>,
     reached: &Reached,
     len: u32,
 ) -> Result<(), Refusal>
+    requires stands { AtValues nodes.old cells.old (reached.now.at.start + reached.now.at.place) }
+    requires node { reached.now.node ≡ node_at nodes.old.slots (reached.now.at.start + reached.now.at.place) }
+    requires whole { 5 * reached.now.level ≤ len }
+    requires short { len ≤ 128 }
+    requires few_values { len < 5 * reached.now.level + 5 → rank_of reached.now.node.value_bitmap 32 < 31 }
+    requires few_children { 5 * reached.now.level + 5 ≤ len → rank_of reached.now.node.child_bitmap 32 < 32 }
+    ensures room { OnOk result (HasRoom nodes.new cells.new reached.now.node reached.now.level len) }
+    ensures nodes { Prepared nodes.old nodes.new }
+    ensures cells { Prepared cells.old cells.new }
+    ensures nodes_sound { (live : List (Block Node)) → Sound blank_node live nodes.old → Sound blank_node live nodes.new }
+    ensures cells_sound { (live : List (Block (Option T))) → Sound None live cells.old → Sound None live cells.new }
 {
     let depth = 5 * reached.level;
     let node = &reached.node;
@@ -129,7 +141,7 @@ fn prepare<T: Drop, A: Allocator, V: Tick>(
         return cells.prepare(node.value_tier as usize, count(node.value_bitmap), 0);
     }
     cells.prepare(0, 0, 0)?;
-    let below = (len - depth) / 5 - 1;
+    let below = len / 5 - (reached.level + 1);
     nodes.prepare(node.child_tier as usize, count(node.child_bitmap), below as usize)
 }
 
@@ -142,10 +154,18 @@ fn add_entry<K: Key, T: Drop, A: Allocator, V: Tick>(
     len: u32,
     value: T,
 )
+    requires key { K.IsKey key }
+    requires within { len ≤ K.bit_width }
+    requires stands { StandsAt nodes.old cells.old (path_of (take len (K.bits key))) reached.level (reached.at.start + reached.at.place) }
+    requires reached { IsReached (K.bits key) len reached.level reached.node (reached.at.start + reached.at.place) nodes.old }
+    requires lacks { len < 5 * reached.level + 5 → is_set reached.node.value_bitmap (bit_of (take len (K.bits key))) ≡ false }
+    requires room { HasRoom nodes.old cells.old reached.node reached.level len }
+    ensures added { (reading : List ℕ → Option Node) (paths : List (List ℕ)) (values : List ℕ → ℕ → Option T) → Holds reading values paths nodes.old cells.old → EntryAdded reading values paths (path_of (take len (K.bits key))) (bit_of (take len (K.bits key))) (Some value) nodes.new cells.new }
 {
-    let Reached { mut at, mut node, level } = reached;
-    for step in level..len / 5 {
-        at = add_child(nodes, at, node, child_bit_of(key, 5 * step));
+    let mut at = reached.at;
+    let mut node = reached.node;
+    for level in reached.level..len / 5 {
+        at = add_child(nodes, at, node, child_bit_of(key, 5 * level));
         node = Node::blank();
     }
     add_value(nodes, cells, at, node, value_bit_of(key, len / 5 * 5, len), value);
@@ -160,6 +180,12 @@ pub fn insert_value<K: Key, T: Drop, A: Allocator, V: Tick>(
     value: T,
     counter: &mut V,
 ) -> Result<Option<T>, Refused<T>>
+    requires key { K.IsKey key }
+    requires within { len ≤ K.bit_width }
+    requires table { IsTable nodes.old cells.old }
+    ensures inserted { (reading : List ℕ → Option Node) (paths : List (List ℕ)) (values : List ℕ → ℕ → Option T) → Holds reading values paths nodes.old cells.old → MatchResult result (λ before. (before ≡ values (path_of (take len (K.bits key))) (bit_of (take len (K.bits key)))) × EntryAdded reading values paths (path_of (take len (K.bits key))) (bit_of (take len (K.bits key))) (Some value) nodes.new cells.new) (λ _. Holds reading values paths nodes.new cells.new) }
+    ensures returned { IfErr result (λ refused. refused.value ≡ value) }
+    ensures stored { (reading : List ℕ → Option Node) (paths : List (List ℕ)) (values : List ℕ → ℕ → Option T) → Holds reading values paths nodes.old cells.old → is_some (values (path_of (take len (K.bits key))) (bit_of (take len (K.bits key)))) ≡ true → IsOk result }
 {
     let reached = descend(nodes, key, len, counter);
     let depth = 5 * reached.level;

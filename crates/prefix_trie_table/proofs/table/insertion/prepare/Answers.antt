@@ -1,0 +1,63 @@
+use Rattle.std.proofs.Common.{◌≡◌, ℕ, ◌+◌, ◌-◌, ◌*◌, ◌/◌, ◌<◌, ◌≤◌, None, sym, ap, ◌∙◌, subst, arith}
+use Rattle.std.proofs.lemmas.Result.{on_ok_weaker}
+use Rattle.prefix_trie_table.specs.Bitmaps.{rank}
+use Rattle.prefix_trie_table.specs.Cells.{blank_node}
+use Rattle.prefix_trie_table.specs.Store.{IsReady, Enough}
+use Rattle.prefix_trie_table.specs.Tables.{HasRoom}
+use Rattle.prefix_trie_table.proofs.Bits.{rank-ones}
+use Rattle.prefix_trie_table.proofs.Spending.{single_node, single_cell}
+use Rattle.prefix_trie_table.proofs.Adding.{at_values, has_list, has_values}
+use Rattle.prefix_trie_table.proofs.Inserting.{list_tier, node_fits, cell_fits}
+use Rattle.prefix_trie_table.proofs.table.insertion.prepare.Goals as goal
+
+pub prepare-requires-clause-tier : goal.prepare-requires-clause-tier
+prepare-requires-clause-tier g c = λ some.
+    let n = c.args.reached.now.node in
+    list_tier None c.args.cells.now n.value_tier n.value_block c.count.result (has_values c.args.nodes.now c.args.cells.now _ n c.count.result c.requires.stands c.requires.node (c.count.ensures ∙ sym (rank-ones n.value_bitmap 32 (omega arith)))) some
+
+pub prepare-requires-clause-single : goal.prepare-requires-clause-single
+prepare-requires-clause-single g c = single_cell c.args.cells.now.tiers c.requires.stands.cells.sizes_are
+
+pub prepare-requires-clause-fits : goal.prepare-requires-clause-fits
+prepare-requires-clause-fits g c =
+    let few = c.requires.few_values (omega (arith, c.if-depth-len.true)) in
+    cell_fits c.args.cells.now.tiers c.count.result c.requires.stands.cells.sizes_are (omega (arith, few, rank-ones c.args.reached.now.node.value_bitmap 32 (omega arith), c.count.ensures))
+
+pub returns-then-depth-len-clause-room : goal.returns-then-depth-len-clause-room
+returns-then-depth-len-clause-room g c =
+    let n = c.args.reached.now.node in
+    let same : c.count.result ≡ rank n.value_bitmap 32 = c.count.ensures ∙ sym (rank-ones n.value_bitmap 32 (omega arith)) in
+    on_ok_weaker c.prepare.result (λ (enough : Enough c.prepare.new.self.tiers n.value_tier c.count.result 0). record {
+      here = λ _. subst (λ k. IsReady c.prepare.new.self.tiers n.value_tier k) same enough.ready;
+      below = λ more. absurd (omega (arith, more, c.if-depth-len.true));
+      children = λ more. absurd (omega (arith, more, c.if-depth-len.true));
+    }) c.prepare.ensures.enough
+
+pub prepare-requires-2-clause-single : goal.prepare-requires-2-clause-single
+prepare-requires-2-clause-single g c = single_cell c.args.cells.now.tiers c.requires.stands.cells.sizes_are
+
+pub prepare-requires-2-clause-fits : goal.prepare-requires-2-clause-fits
+prepare-requires-2-clause-fits g c = cell_fits c.args.cells.now.tiers 0 c.requires.stands.cells.sizes_are (omega arith)
+
+pub prepare-requires-3-clause-tier : goal.prepare-requires-3-clause-tier
+prepare-requires-3-clause-tier g c = λ some.
+    let n = c.args.reached.now.node in
+    list_tier blank_node c.args.nodes.now n.child_tier n.child_block c.count-2.result (has_list c.args.nodes.now _ n c.count-2.result (at_values _ _ _ c.requires.stands) c.requires.node (c.count-2.ensures ∙ sym (rank-ones n.child_bitmap 32 (omega arith)))) some
+
+pub prepare-requires-3-clause-single : goal.prepare-requires-3-clause-single
+prepare-requires-3-clause-single g c = single_node c.args.nodes.now.tiers c.requires.stands.hold.sizes_are
+
+pub prepare-requires-3-clause-fits : goal.prepare-requires-3-clause-fits
+prepare-requires-3-clause-fits g c =
+    let few = c.requires.few_children (omega (arith, c.if-depth-len.false)) in
+    node_fits c.args.nodes.now.tiers c.count-2.result c.requires.stands.hold.sizes_are (omega (arith, few, rank-ones c.args.reached.now.node.child_bitmap 32 (omega arith), c.count-2.ensures))
+
+pub returns-clause-room : goal.returns-clause-room
+returns-clause-room g c =
+    let n = c.args.reached.now.node in
+    let same : c.count-2.result ≡ rank n.child_bitmap 32 = c.count-2.ensures ∙ sym (rank-ones n.child_bitmap 32 (omega arith)) in
+    on_ok_weaker c.prepare-3.result (λ (enough : Enough c.prepare-3.new.self.tiers n.child_tier c.count-2.result (c.args.len / 5 - (c.args.reached.now.level + 1))). record {
+      here = λ less. absurd (omega (arith, less, c.if-depth-len.false));
+      below = λ _. c.in_ok-prepare.ensures.enough.ready;
+      children = λ _. subst (λ k. Enough c.prepare-3.new.self.tiers n.child_tier k (c.args.len / 5 - (c.args.reached.now.level + 1))) same enough;
+    }) c.prepare-3.ensures.enough
