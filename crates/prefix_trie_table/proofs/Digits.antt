@@ -1,7 +1,7 @@
 -- What the steps and the value bit say of a bit string.
 use Rattle.std.proofs.Common.{◌≡◌, ◌≢◌, ℕ, zero, suc, ◌+◌, ◌-◌, ◌*◌, ◌/◌, ◌%◌, ◌<◌, ◌≤◌, Bool, true, false, ◌&&◌, ◌||◌, List, [], ◌∷◌, ◌++◌, length, take, drop, get_or, refl, sym, ap, ap₂, ◌∙◌, subst, arith}
 use Rattle.prefix_trie_bits.specs.Bits.{number, begins, same_bit}
-use Rattle.prefix_trie_bits.specs.BitStrings.{same-from-number}
+use Rattle.prefix_trie_bits.specs.BitStrings.{same-from-number, number-lt}
 use Rattle.prefix_trie_bits.specs.Places.{value_bit}
 use Rattle.prefix_trie_bits.proofs.Strings.{value_bit-injective}
 use Rattle.prefix_trie_table.specs.Digits.{path_of, rest_of, bit_of}
@@ -54,6 +54,16 @@ step-is (a ∷ b ∷ c ∷ []) k h = absurd (omega arith)
 step-is (a ∷ b ∷ []) k h = absurd (omega arith)
 step-is (a ∷ []) k h = absurd (omega arith)
 step-is [] k h = absurd (omega arith)
+
+-- a step is one of 32
+pub step-small : (s : List Bool) (k : ℕ) → k < length (path_of s) → get_or (path_of s) k 0 < 32
+step-small (a ∷ b ∷ c ∷ d ∷ e ∷ s) zero h = number-lt (a ∷ b ∷ c ∷ d ∷ e ∷ [])
+step-small (a ∷ b ∷ c ∷ d ∷ e ∷ s) (suc k) h = step-small s k (omega arith)
+step-small (a ∷ b ∷ c ∷ d ∷ []) k h = absurd (omega arith)
+step-small (a ∷ b ∷ c ∷ []) k h = absurd (omega arith)
+step-small (a ∷ b ∷ []) k h = absurd (omega arith)
+step-small (a ∷ []) k h = absurd (omega arith)
+step-small [] k h = absurd (omega arith)
 
 -- the first steps are those of a beginning
 pub path-take : (k : ℕ) (s : List Bool) → 5 * k ≤ length s → path_of (take (5 * k) s) ≡ take k (path_of s)

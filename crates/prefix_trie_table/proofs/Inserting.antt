@@ -1,5 +1,5 @@
 -- What an insertion asks for and leaves.
-use Rattle.std.proofs.Common.{◌≡◌, ◌≢◌, ℕ, zero, suc, ◌+◌, ◌-◌, ◌<◌, ◌≤◌, ◌⊎◌, inl, inr, ⊎_elim, Bool, true, false, cond, ◌||◌, nat_lt, nat_le, List, [], ◌∷◌, ◌++◌, length, get_or, take, drop, map, Option, None, Some, is_some, IsSome, refl, sym, ap, ◌∙◌, subst, arith, not, append_assoc, append-nil}
+use Rattle.std.proofs.Common.{◌*◌, leb-true, ◌≡◌, ◌≢◌, ℕ, zero, suc, ◌+◌, ◌-◌, ◌<◌, ◌≤◌, ◌⊎◌, inl, inr, ⊎_elim, Bool, true, false, cond, ◌||◌, nat_lt, nat_le, List, [], ◌∷◌, ◌++◌, length, get_or, take, drop, map, Option, None, Some, is_some, IsSome, refl, sym, ap, ◌∙◌, subst, arith, not, append_assoc, append-nil}
 use Rattle.std.proofs.lemmas.List.{take_more, take_all, take-append-drop}
 use Rattle.std.proofs.lemmas.Bool.{false≢true, cases_Bool, lt-ltb}
 use Rattle.std.specs.List.{list_any, position, prefix_len, position_or_len}
@@ -7,14 +7,19 @@ use Rattle.std.proofs.lemmas.Bool.Decides.{nat_tests}
 use Rattle.prefix_trie_table.specs.declared.allocator.node.Node.{Node}
 use Rattle.prefix_trie_table.specs.Bitmaps.{has_bit, rank}
 use Rattle.prefix_trie_table.specs.Store.{Tier, Store, Sound, Block, block, held, HasList, Prepared, Enough, IsReady, tier_for, tier_sizes}
-use Rattle.prefix_trie_table.specs.Forest.{is_start, same_path, IsSlot, NodesHold, CellsHold, Holds, IsTable, StandsAt, ValueReady, Deepest, has_child, has_value}
+use Rattle.prefix_trie_table.specs.Forest.{IsSlot, NodesHold, CellsHold, Holds, Deepest, AtValues, has_value}
 use Rattle.prefix_trie_table.specs.Cells.{blank_node, node_at, node_sizes, cell_sizes}
 use Rattle.prefix_trie_table.proofs.Tilings.{all_within}
 use Rattle.prefix_trie_table.proofs.Soundness.{tier_of_block}
 use Rattle.prefix_trie_table.proofs.Paths.{same_path-itself, snoc_ind}
 use Rattle.prefix_trie_table.proofs.Spending.{tier_for_sizes}
 use Rattle.prefix_trie_table.proofs.BitLists.{rank-more, rank-lacks}
-use Rattle.prefix_trie_table.proofs.Trees.{slot_holds, held_some, is_none-None}
+use Rattle.prefix_trie_table.specs.Digits.{path_of, bit_of}
+use Rattle.prefix_trie_table.specs.Tables.{IsReached}
+use Rattle.prefix_trie_table.proofs.Digits.{step-small}
+use Rattle.prefix_trie_table.proofs.Going.{step-inside}
+use Rattle.prefix_trie_table.proofs.Finding.{no_value_below, no_value_at}
+use Rattle.prefix_trie_table.proofs.Trees.{reads, slot_holds, held_some}
 
 -- free blocks that were made change nothing
 pub nodes_prepared : (reading : List ℕ → Option Node) (paths : List (List ℕ)) (v x : Store Node) → NodesHold node_sizes reading paths v → Prepared v x → ((live : List (Block Node)) → Sound blank_node live v → Sound blank_node live x) → NodesHold node_sizes reading paths x
@@ -84,3 +89,37 @@ few_values reading values paths w p n b cells is small lacks =
     let up : rank m 32 ≡ rank m 31 + cond (has_bit m 31) 1 0 = rank-more m 31 in
     let none : ◌≡◌ {A = ℕ} (cond (has_bit m 31) 1 0) 0 = ap (λ s. cond s 1 0) last in
     omega (arith, less, up, none)
+
+-- what `descend` reached is reached still where free blocks were made
+pub reached_still : (b : List Bool) (len level slot : ℕ) (node : Node) (v x : Store Node) (reading : List ℕ → Option Node) (paths : List (List ℕ)) → IsReached b len level node slot v → NodesHold node_sizes reading paths v → Prepared v x → NodesHold node_sizes reading paths x → IsReached b len level node slot x
+reached_still b len level slot node v x reading paths at hold done later =
+    let deep = at.deepest reading paths hold in
+    record {
+      long = at.long;
+      whole = at.whole;
+      node_is = at.node_is ∙ sym (node_still reading paths v x _ slot deep.node hold deep.stands deep.is done);
+      deepest = λ other ps h.
+        let same : reading ≡ other = (λ i q. (sym (reads node_sizes reading paths x later q) ∙ reads node_sizes other ps x h q) i) in
+        subst (λ f. Deepest f (path_of (take len b)) level slot x) same (record { node = deep.node; stands = deep.stands; is = deep.is });
+      missing = at.missing;
+    }
+
+module _ (b : List Bool) (len level slot : ℕ) (node : Node) (v : Store Node) (at : IsReached b len level node slot v) where
+  -- a node that lacks a child has room for one more
+  pub few_children : 5 * level + 5 ≤ len → rank node.child_bitmap 32 < 32
+  few_children more =
+      rank-lacks node.child_bitmap 32 (get_or (path_of (take len b)) level 0) (step-small (take len b) level (step-inside b len level at.long more)) (at.missing more)
+
+  module _ {T : Type 0} (reading : List ℕ → Option Node) (values : List ℕ → ℕ → Option T) (paths : List (List ℕ)) (w : Store (Option T)) (holds : Holds reading values paths v w) where
+    -- no value is there where the node reached has none, or is not the string's own
+    pub lacks_value : (len < 5 * level + 5 → has_bit node.value_bitmap (bit_of (take len b)) ≡ false) → values (path_of (take len b)) (bit_of (take len b)) ≡ None
+    lacks_value lacks = elim (cases_Bool (nat_le (5 * level + 5) len)) as (λ _. values (path_of (take len b)) (bit_of (take len b)) ≡ None) [
+      | inl e ↦ no_value_below b len level slot node v at reading values paths w holds (leb-true (5 * level + 5) len e)
+      | inr e ↦ let less : len < 5 * level + 5 = grind (arith, nat_tests) in no_value_at b len level slot node v at reading values paths w holds less (lacks less)
+    ]
+
+    -- what the calls that change its node ask
+    pub reached_values : AtValues v w slot
+    reached_values =
+        let deep = at.deepest reading paths holds.hold in
+        record { reading = reading; paths = paths; values = values; path = _; node = deep.node; hold = holds.hold; cells = holds.cells; stands = deep.stands; is = deep.is }
