@@ -8,6 +8,7 @@ pub mod Matches
 pub mod Listings
 pub mod Halves
 pub mod Plain
+pub mod Played
 pub mod WorkedRows
 pub mod WorkedFacts
 pub mod Steps

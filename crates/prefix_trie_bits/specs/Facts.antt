@@ -8,16 +8,12 @@ use Rattle.prefix_trie_bits.specs.Model.Asking.{AsksInOrder}
 use Rattle.prefix_trie_bits.specs.Model.WritingWalk.{WritingWalk, walk_over, Next, Passes}
 use Rattle.prefix_trie_bits.specs.Model.Blocks.{Block, AreBlocksOf, value_block_sizes, child_block_sizes, smallest_size, own_entries, child_count}
 use Rattle.prefix_trie_bits.specs.Model.HandsOut.{HandsOut}
-use Rattle.prefix_trie_bits.specs.Model.Step.{State, Call, Insert, Remove, RemoveKeepTree, Reply, Value, Run}
-use Rattle.prefix_trie_bits.specs.Rows.{path_at, back_at, new_map}
-
--- the state that these calls lead to from a new map has a property
-abbrev pub After : ℕ → List (Call (ℕ × ℕ) ℕ × Reply (ℕ × ℕ) ℕ) → (State ℕ → Type 0) → Type 0
-After width row Holds = (t : State ℕ) × Run (path_at width) (back_at width) width new_map (map (λ c. c.0) row) (map (λ c. c.1) row) t × Holds t
+use Rattle.prefix_trie_bits.specs.Model.Step.{State, Insert, Remove, RemoveKeepTree, Value}
+use Rattle.prefix_trie_bits.specs.Rows.Examples.{path_at, back_at, Row, LeadsTo}
 
 -- seven nodes are read for 32 bits
 abbrev pub Visits32 : Type 0
-Visits32 = After 32 ((Insert (0x01020300, 32) 1, Value None) ∷ (Insert (0x01020301, 32) 2, Value None) ∷ []) (λ t.
+Visits32 = LeadsTo 32 ((Insert (0x01020300, 32) 1, Value None) ∷ (Insert (0x01020301, 32) 2, Value None) ∷ []) (λ t.
     (visits t.nodes (path_at 32 (0x01020301, 32)) ≡ 7)
     × (visits_to_match t.entries t.nodes (path_at 32 (0x01020301, 32)) ≡ 7)
     × (visits t.nodes (path_at 32 (0x01020301, 29)) ≡ 6)
@@ -25,27 +21,27 @@ Visits32 = After 32 ((Insert (0x01020300, 32) 1, Value None) ∷ (Insert (0x0102
 
 -- twenty-six for 128 bits
 abbrev pub Visits128 : Type 0
-Visits128 = After 128 ((Insert (0, 125) 1, Value None) ∷ (Insert (1, 128) 2, Value None) ∷ []) (λ t.
+Visits128 = LeadsTo 128 ((Insert (0, 125) 1, Value None) ∷ (Insert (1, 128) 2, Value None) ∷ []) (λ t.
     (visits t.nodes (path_at 128 (1, 128)) ≡ 26) × (visits_to_match t.entries t.nodes (path_at 128 (1, 128)) ≡ 26))
 
 -- a lookup that stops at the shortest match reads fewer: 10.0.0.0/8, 10.1.0.0/16, 10.1.1.0/24 and 10.1.1.0/25, asked for 10.1.1.0/24
 abbrev pub VisitsToMatch : Type 0
-VisitsToMatch = After 32 ((Insert (0x0a000000, 8) 0, Value None) ∷ (Insert (0x0a010000, 16) 1, Value None) ∷ (Insert (0x0a010100, 24) 2, Value None) ∷ (Insert (0x0a010100, 25) 4, Value None) ∷ []) (λ t.
+VisitsToMatch = LeadsTo 32 ((Insert (0x0a000000, 8) 0, Value None) ∷ (Insert (0x0a010000, 16) 1, Value None) ∷ (Insert (0x0a010100, 24) 2, Value None) ∷ (Insert (0x0a010100, 25) 4, Value None) ∷ []) (λ t.
     (visits t.nodes (path_at 32 (0x0a010100, 24)) ≡ 5) × (visits_to_match t.entries t.nodes (path_at 32 (0x0a010100, 24)) ≡ 2))
 
 -- two far keys: eleven parents, two of whose children are the root's, and two holders
 abbrev pub TwoFarKeys : Type 0
-TwoFarKeys = After 32 ((Insert (0, 32) 1, Value None) ∷ (Remove (0, 32), Value (Some 1)) ∷ (Insert (0xffffffff, 32) 2, Value None) ∷ (Insert (0, 32) 3, Value None) ∷ []) (λ t.
+TwoFarKeys = LeadsTo 32 ((Insert (0, 32) 1, Value None) ∷ (Remove (0, 32), Value (Some 1)) ∷ (Insert (0xffffffff, 32) 2, Value None) ∷ (Insert (0, 32) 3, Value None) ∷ []) (λ t.
     (length (parents t.nodes) ≡ 11) × (length (holders t.entries t.nodes) ≡ 2) × (child_count t.nodes [] ≡ 2) × (child_count t.nodes (path_at 32 (0, 5)) ≡ 1))
 
 -- nodes that were kept are parents, and no holders
 abbrev pub KeptTree : Type 0
-KeptTree = After 32 ((Insert (0, 16) 1, Value None) ∷ (RemoveKeepTree (0, 16), Value (Some 1)) ∷ []) (λ t.
+KeptTree = LeadsTo 32 ((Insert (0, 16) 1, Value None) ∷ (RemoveKeepTree (0, 16), Value (Some 1)) ∷ []) (λ t.
     (length (parents t.nodes) ≡ 3) × (holders t.entries t.nodes ≡ []) × (visits t.nodes (path_at 32 (0, 32)) ≡ 4))
 
 -- two values of the root and one below it; after one is removed the root has one
 abbrev pub OwnEntries : Type 0
-OwnEntries = After 8 ((Insert (0, 1) 1, Value None) ∷ (Insert (128, 1) 2, Value None) ∷ (Insert (0, 5) 3, Value None) ∷ []) (λ t.
+OwnEntries = LeadsTo 8 ((Insert (0, 1) 1, Value None) ∷ (Insert (128, 1) 2, Value None) ∷ (Insert (0, 5) 3, Value None) ∷ []) (λ t.
     (own_entries t.entries [] ≡ 2) × (own_entries t.entries (path_at 8 (0, 5)) ≡ 1) × (length (holders t.entries t.nodes) ≡ 2) × (child_count t.nodes [] ≡ 1))
 
 -- the smallest sizes
@@ -80,11 +76,11 @@ OddAskings =
     ((false ∷ [], 1) ∷ (false ∷ false ∷ false ∷ [], 4) ∷ (false ∷ true ∷ false ∷ [], 5) ∷ [])
 
 -- four entries of eight bits, the last three written plus 10 by a walk that starts behind (5, 8)
-abbrev pub five_calls : List (Call (ℕ × ℕ) ℕ × Reply (ℕ × ℕ) ℕ)
+abbrev pub five_calls : Row
 five_calls = (Insert (0, 5) 1, Value None) ∷ (Insert (4, 6) 2, Value None) ∷ (Insert (6, 8) 3, Value None) ∷ (Insert (8, 5) 4, Value None) ∷ (Insert (128, 1) 5, Value None) ∷ []
 
 abbrev pub WrittenWalk : Type 0
-WrittenWalk = After 8 five_calls (λ t.
+WrittenWalk = LeadsTo 8 five_calls (λ t.
     (first : WritingWalk ℕ) × (second : WritingWalk ℕ) × (third : WritingWalk ℕ) × (last : WritingWalk ℕ)
     × Passes (walk_over t.entries t.nodes (listing_after t.entries (path_at 8 (5, 8)))) (path_at 8 (6, 8)) 13 first
     × Passes first (path_at 8 (8, 5)) 14 second
@@ -93,11 +89,11 @@ WrittenWalk = After 8 five_calls (λ t.
     × (values last.entries ≡ 1 ∷ 2 ∷ 13 ∷ 14 ∷ 15 ∷ []))
 
 -- handing out 192.168.0.0/22 of six networks: three of five nodes' entries go, and the second map has five nodes too
-abbrev pub six_calls : List (Call (ℕ × ℕ) ℕ × Reply (ℕ × ℕ) ℕ)
+abbrev pub six_calls : Row
 six_calls = (Insert (0xc0a80000, 21) 1, Value None) ∷ (Insert (0xc0a80000, 22) 2, Value None) ∷ (Insert (0xc0a80000, 23) 3, Value None) ∷ (Insert (0xc0a80000, 24) 4, Value None) ∷ (Insert (0xc0a80400, 22) 5, Value None) ∷ (Insert (0xc0a80400, 23) 6, Value None) ∷ []
 
 abbrev pub HandedOut : Type 0
-HandedOut = After 32 six_calls (λ t.
+HandedOut = LeadsTo 32 six_calls (λ t.
     (second : State ℕ) × (after : State ℕ) × HandsOut t (path_at 32 (0xc0a80000, 22)) second after
     × (shown (back_at 32) (listing second.entries) ≡ ((0xc0a80000, 22), 2) ∷ ((0xc0a80000, 23), 3) ∷ ((0xc0a80000, 24), 4) ∷ [])
     × (len second.nodes ≡ 5) × (own_entries second.entries (path_at 32 (0xc0a80000, 20)) ≡ 3)
