@@ -2,6 +2,8 @@
 -- From the crate's documentation of the calls; which nodes a removal leaves is this project's own.
 use Rattle.std.specs.Prelude.{◌≡◌, ◌⊎◌, ℕ, Bool, false, cond, List, [], ◌∷◌, Option, ⊤}
 use Rattle.std.specs.FinMap.{get, contains_key, len}
+pub use Rattle.prefix_trie_bits.specs.declared.prefix.Refusal.{Refusal}
+pub use Rattle.prefix_trie_bits.specs.declared.prefix.Refusal.TheVariants.{Memory, IndexRange}
 use Rattle.prefix_trie_bits.specs.Model.Entries.{Entries, no_entries, with_entry, without_entry, without_below, part_at_least}
 use Rattle.prefix_trie_bits.specs.Model.Selections.{listing, listing_from, listing_after, listing_below, listing_covering, shown}
 use Rattle.prefix_trie_bits.specs.Model.Matches.{longest_match, shortest_match, shown_match}
@@ -12,10 +14,6 @@ use Rattle.prefix_trie_bits.specs.Model.Addresses.{address_answer}
 pub record State (T : Type 0) : Type 0 where
   pub entries : Entries T
   pub nodes : Nodes
-
-pub data Refusal : Type 0 where
-  Memory : Refusal
-  IndexRange : Refusal
 
 pub data Call (P T : Type 0) : Type 0 where
   Insert : P → T → Call P T
