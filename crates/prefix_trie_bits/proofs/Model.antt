@@ -2,6 +2,7 @@
 pub mod Members
 pub mod Homes
 pub mod Pruning
+pub mod NodeSets
 pub mod Ordered
 pub mod Visits
 pub mod Matches

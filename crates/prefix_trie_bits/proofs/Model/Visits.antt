@@ -252,7 +252,7 @@ begins-within k q s e =
 module _ {T : Type 0} where
   to_match : (width : ℕ) (m : Entries T) (n : Nodes) (q : List Bool) (e : List Bool × T) → AreNodes width m n → shortest_match m q ≡ Some e → visits_to_match m n q ≡ length e.0 / 5 + 1
   to_match width m n q e good is =
-      let found = ((match_laws T).first_is_shortest m q e).0 is in
+      let found = ((match_laws T).shortest_is m q e).0 is in
       let stored : contains_key m e.0 ≡ true = ap is_some found.matches.stored in
       let node : has_node n (home e.0) ≡ true = good.hold_needed (home e.0) (needs m (home e.0) e.0 (home-depth e.0) stored (home-begins e.0)) in
       ap (visits_of_match n q) is
