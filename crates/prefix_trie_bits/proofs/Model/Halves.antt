@@ -4,7 +4,7 @@ use Rattle.std.specs.List.{list_any}
 use Rattle.std.proofs.lemmas.List.Elements.{filter-append}
 use Rattle.prefix_trie_bits.specs.Bits.{begins, same_bit}
 use Rattle.prefix_trie_bits.specs.Model.Nodes.{is_root}
-use Rattle.prefix_trie_bits.specs.Model.Addresses.{strings, covered, addresses, address_answer}
+use Rattle.prefix_trie_bits.specs.Model.Addresses.{full_strings, covered, addresses, address_answer}
 use Rattle.prefix_trie_bits.specs.Model.Entries.{Entries}
 use Rattle.prefix_trie_bits.specs.Laws.Addresses.{AddressLaws}
 use Rattle.std.specs.FinMap.{keys, contains_key}
@@ -49,11 +49,11 @@ filter-tails b ks (s ∷ ss) =
 
 -- each half by itself
 pub covered-suc : (w : ℕ) (ks : List (List Bool)) → covered (suc w) ks ≡ covered w (tails false ks) + covered w (tails true ks)
-unfolding covered strings
+unfolding covered full_strings
 covered-suc w ks =
-    ap length (filter-append (λ s. list_any (λ k. begins k s) ks) (map (λ s. false ∷ s) (strings w)) (map (λ s. true ∷ s) (strings w)))
-    ∙ length-append (filter (λ s. list_any (λ k. begins k s) ks) (map (λ s. false ∷ s) (strings w))) (filter (λ s. list_any (λ k. begins k s) ks) (map (λ s. true ∷ s) (strings w)))
-    ∙ ap₂ (λ a b. a + b) (filter-tails false ks (strings w)) (filter-tails true ks (strings w))
+    ap length (filter-append (λ s. list_any (λ k. begins k s) ks) (map (λ s. false ∷ s) (full_strings w)) (map (λ s. true ∷ s) (full_strings w)))
+    ∙ length-append (filter (λ s. list_any (λ k. begins k s) ks) (map (λ s. false ∷ s) (full_strings w))) (filter (λ s. list_any (λ k. begins k s) ks) (map (λ s. true ∷ s) (full_strings w)))
+    ∙ ap₂ (λ a b. a + b) (filter-tails false ks (full_strings w)) (filter-tails true ks (full_strings w))
 
 root-tails : (b : Bool) (ks : List (List Bool)) → list_any is_root ks ≡ true → list_any is_root (tails b ks) ≡ true
 root-tails b [] e = absurd (true≢false (sym e))
@@ -65,7 +65,7 @@ root-tails b ((a ∷ k) ∷ ks) e =
     ]
 
 one-key : (ks : List (List Bool)) → covered 0 ks ≡ cond (list_any is_root ks) 1 0
-unfolding covered strings begins
+unfolding covered full_strings begins
 one-key ks = ap (λ x. length {A = List Bool} (cond x ([] ∷ []) [])) (roots ks) ∙ elim (list_any is_root ks) as (λ x. length {A = List Bool} (cond x ([] ∷ []) []) ≡ cond x 1 0) [ true ↦ refl | false ↦ refl ]
   where
     roots : (ks : List (List Bool)) → list_any (λ k. begins k []) ks ≡ list_any is_root ks

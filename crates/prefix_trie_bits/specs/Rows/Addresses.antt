@@ -32,7 +32,7 @@ Row35 = Gives 8 (
     (AddressCount, Addresses (Some (3))) ∷
     [])
 
--- row 35, second part: 128 bits, where all addresses are one more than a number holds
+-- row 35, second part: 128 bits; all addresses together are answered by None
 abbrev pub Row35_wide : Type 0
 Row35_wide = Gives 128 (
     (Insert (0, 128) 0, Value None) ∷
