@@ -1,6 +1,6 @@
 -- Worked facts that no reply shows: visits, holders and parents, block sizes, tilings, asking, a writing walk, handing out.
 -- They are this project's own, and go with worked rows.
-use Rattle.std.specs.Prelude.{◌≡◌, ℕ, ◌+◌, ◌%◌, ◌==◌, true, false, List, [], ◌∷◌, map, length, Some, None}
+use Rattle.std.specs.Prelude.{◌≡◌, ℕ, ◌+◌, ◌%◌, ◌==◌, true, false, [], ◌∷◌, length, Some, None}
 use Rattle.std.specs.FinMap.{len, values}
 use Rattle.prefix_trie_bits.specs.Model.Selections.{listing, listing_after, shown}
 use Rattle.prefix_trie_bits.specs.Model.Nodes.{holders, parents}

@@ -1,5 +1,5 @@
 -- Counting the strings that some string of a list begins, half by half.
-use Rattle.std.proofs.Common.{◌≡◌, ◌≤◌, Option, Some, None, subst, eq-eqb, ℕ, suc, zero, ◌+◌, ◌^◌, Bool, true, false, cond, ◌&&◌, ◌||◌, List, [], ◌∷◌, length, map, filter, refl, sym, ap, ap₂, ◌∙◌, arith, true≢false, length-append}
+use Rattle.std.proofs.Common.{◌≡◌, ◌≤◌, Some, None, subst, eq-eqb, ℕ, suc, zero, ◌+◌, ◌^◌, Bool, true, false, cond, ◌&&◌, ◌||◌, List, [], ◌∷◌, length, map, filter, refl, sym, ap, ap₂, ◌∙◌, arith, true≢false, length-append}
 use Rattle.std.specs.List.{list_any}
 use Rattle.std.proofs.lemmas.List.Elements.{filter-append}
 use Rattle.prefix_trie_bits.specs.Bits.{begins, same_bit}

@@ -1,5 +1,5 @@
 -- A worked row holds where the plain model answers as it says.
-use Rattle.std.proofs.Common.{◌≡◌, ℕ, Bool, List, [], ◌∷◌, map, Option, Some, None, refl, ap, subst, ◌∙◌, sym}
+use Rattle.std.proofs.Common.{◌≡◌, ℕ, Bool, List, [], ◌∷◌, map, Option, Some, None, refl, ap, subst}
 use Rattle.prefix_trie_bits.specs.Model.Step.{State, Call, Reply, Value, Match, Done, Count, Addresses, Items, Refused, Refusal, Run}
 use Rattle.prefix_trie_bits.specs.Rows.Examples.{path_at, back_at, new_map, Row, calls, replies, Gives, LeadsTo}
 use Rattle.prefix_trie_bits.proofs.Model.Plain.{from_new, ends, Shows, Marks, root_mark, calls_of, play_all, end_entries, end_nodes}
@@ -39,7 +39,7 @@ gives {width} {row} e =
     record {
       last = ran.0;
       run = subst (λ cs. Run (path_at width) (back_at width) width new_map cs (replies row) ran.0) (calls-fated width row)
-      (subst (λ rs. Run (path_at width) (back_at width) width new_map (calls_of (path_at width) (back_at width) width (fated row)) rs ran.0) e ran.1);
+          (subst (λ rs. Run (path_at width) (back_at width) width new_map (calls_of (path_at width) (back_at width) width (fated row)) rs ran.0) e ran.1);
     }
 
 pub leads : {width : ℕ} {row : Row} {Holds : State ℕ → Type 0} → answers width row ≡ replies row

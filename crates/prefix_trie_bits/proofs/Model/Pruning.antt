@@ -4,7 +4,7 @@ use Rattle.std.specs.List.{list_any, list_all}
 use Rattle.std.specs.FinMap.{contains_key, keys, retain_keys}
 use Rattle.std.proofs.lemmas.Bool.Decides.{nat_tests}
 use Rattle.prefix_trie_bits.specs.Bits.{begins}
-use Rattle.prefix_trie_bits.specs.Begins.{same_bool, begins-trans, begins-refl, begins-linear, begins-antisymm, begins-length}
+use Rattle.prefix_trie_bits.specs.Begins.{begins-trans, begins-refl, begins-linear, begins-antisymm, begins-length}
 use Rattle.prefix_trie_bits.specs.Order.{same_string}
 use Rattle.prefix_trie_bits.specs.Model.Entries.{Entries, without_entry, without_below}
 use Rattle.prefix_trie_bits.specs.Model.Nodes.{Nodes, has_node, home, needed, AreNodes, IsTidy, is_root, is_pruned, pruned, nodes_not_below, nodes_without, nodes_without_below}

@@ -1,14 +1,13 @@
 -- What every step of the model keeps.
-use Rattle.std.proofs.Common.{◌≡◌, ◌≢◌, ◌⊎◌, ◌<◌, map, take, get_or, ℕ, ◌+◌, ◌%◌, ◌≤◌, Bool, true, false, cond, not, ◌&&◌, ◌||◌, List, [], ◌∷◌, ◌++◌, length, Some, None, is_some, refl, sym, ap, ◌∙◌, subst, arith, inl, inr, true≢false, eqb-true, eq-eqb, nat_le}
+use Rattle.std.proofs.Common.{◌≡◌, ◌≢◌, ◌<◌, map, take, get_or, ℕ, ◌+◌, ◌≤◌, Bool, true, false, cond, not, List, [], ◌∷◌, ◌++◌, length, Some, None, is_some, refl, sym, ap, ◌∙◌, subst, inl, inr, true≢false, nat_le}
 use Rattle.std.specs.List.{All}
 use Rattle.std.proofs.lemmas.List.{take_more, map-append}
 use Rattle.std.proofs.lemmas.List.Elements.{All-head, All-tail}
-use Rattle.std.specs.FinMap.{get, contains_key, same_map, get-empty, get-insert, get-remove, get-retain_keys, retain_keys}
+use Rattle.std.specs.FinMap.{get, contains_key, get-empty}
 use Rattle.prefix_trie_bits.specs.Bits.{begins}
-use Rattle.prefix_trie_bits.specs.Begins.{begins-length, begins-trans}
-use Rattle.prefix_trie_bits.specs.Order.{listing_cmp, listing_total, listing_same, same_string}
+use Rattle.prefix_trie_bits.specs.Order.{listing_cmp, same_string}
 use Rattle.prefix_trie_bits.specs.Model.Entries.{Entries, AreWithin, no_entries, with_entry, without_entry, without_below, part_at_least}
-use Rattle.prefix_trie_bits.specs.Model.Nodes.{Nodes, has_node, root_alone, is_node_depth, nodes_above, with_needed, needed, AreNodes, IsTidy, nodes_without}
+use Rattle.prefix_trie_bits.specs.Model.Nodes.{Nodes, with_needed, needed, AreNodes, IsTidy, nodes_without}
 use Rattle.prefix_trie_bits.specs.Model.Step.{State, Call, Insert, Get, Lpm, Spm, Remove, RemoveKeepTree, RemoveChildren, RetainAtLeast, Clear, Len, NodeCount, AddressCount, ListAll, ListFrom, Children, Cover, CallFits, Reply, Value, Match, Done, Count, Addresses, Items, Refused, Refusal, Lists, Step, Run}
 use Rattle.prefix_trie_bits.specs.Laws.Steps.{IsMap, StepKeeps, StepLaws, touches}
 use Rattle.prefix_trie_bits.proofs.Model.Members.{and-second, same_string-is, has-retained, get-with_entry, get-without_entry, get-without_below, get-part_at_least, same_entries}

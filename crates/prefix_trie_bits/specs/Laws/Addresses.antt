@@ -1,5 +1,5 @@
 -- How many addresses a map covers.
-use Rattle.std.specs.Prelude.{◌≡◌, ℕ, ◌+◌, ◌^◌, ◌≤◌, true, false, List, [], None}
+use Rattle.std.specs.Prelude.{◌≡◌, ℕ, ◌^◌, ◌≤◌, true, [], None}
 use Rattle.std.specs.FinMap.{contains_key}
 use Rattle.prefix_trie_bits.specs.Model.Entries.{Entries, no_entries}
 use Rattle.prefix_trie_bits.specs.Model.Addresses.{addresses, address_answer}

@@ -1,7 +1,7 @@
 -- Worked rows: how many addresses a map covers.
 use Rattle.std.specs.Prelude.{◌+◌, ◌^◌, [], ◌∷◌, Some, None}
 use Rattle.prefix_trie_bits.specs.Model.Step.{Insert, Len, AddressCount, Value, Count, Addresses}
-use Rattle.prefix_trie_bits.specs.Rows.Examples.{Gives, counted}
+use Rattle.prefix_trie_bits.specs.Rows.Examples.{Gives}
 
 -- row 11: two halves cover all addresses
 abbrev pub Row11 : Type 0
