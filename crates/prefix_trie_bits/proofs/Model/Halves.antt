@@ -1,13 +1,13 @@
 -- Counting the strings that some string of a list begins, half by half.
 use Rattle.std.proofs.Common.{◌≡◌, ◌≤◌, Some, None, subst, eq-eqb, ℕ, suc, zero, ◌+◌, ◌^◌, Bool, true, false, cond, ◌&&◌, ◌||◌, List, [], ◌∷◌, length, map, filter, refl, sym, ap, ap₂, ◌∙◌, arith, true≢false, length-append}
-use Rattle.std.specs.List.{list_any}
 use Rattle.std.proofs.lemmas.List.Elements.{filter-append}
+use Rattle.std.specs.List.{list_any}
+use Rattle.std.specs.FinMap.{keys, contains_key}
 use Rattle.prefix_trie_bits.specs.Bits.{begins, same_bit}
 use Rattle.prefix_trie_bits.specs.Model.Nodes.{is_root}
 use Rattle.prefix_trie_bits.specs.Model.Addresses.{full_strings, covered, addresses, address_answer}
 use Rattle.prefix_trie_bits.specs.Model.Entries.{Entries}
 use Rattle.prefix_trie_bits.specs.Laws.Addresses.{AddressLaws}
-use Rattle.std.specs.FinMap.{keys, contains_key}
 use Rattle.prefix_trie_bits.proofs.Model.Members.{of-key}
 use Rattle.prefix_trie_bits.proofs.Model.Ordered.{entries-empty}
 

@@ -1,8 +1,8 @@
 -- The covers of a question, the first and the last of them.
 use Rattle.std.proofs.Common.{◌≡◌, ◌⊎◌, ◌≤◌, ◌<◌, Bool, true, false, cond, T, List, [], ◌∷◌, ◌++◌, length, is_some, Less, Option, Some, None, refl, sym, ap, ◌∙◌, subst, arith, inl, inr, true≢false, unwrap_or}
 use lib.Dec.{T as IsT}
-use Rattle.std.specs.List.{list_any, Contains}
 use Rattle.std.proofs.lemmas.List.Elements.{Contains-append_left, Contains-append_right, Contains-push}
+use Rattle.std.specs.List.{list_any, Contains}
 use Rattle.std.specs.FinMap.{entries, entries_sorted, get, contains_key, keys, get-entries, is_sorted, find}
 use Rattle.std.specs.FinMap.Entries.{is_sorted-where_key, find-where_key}
 use Rattle.prefix_trie_bits.specs.Bits.{begins}
@@ -11,7 +11,7 @@ use Rattle.prefix_trie_bits.specs.Order.{listing_cmp, listing_same, same_string}
 use Rattle.prefix_trie_bits.specs.Model.Entries.{Entries}
 use Rattle.prefix_trie_bits.specs.Model.Matches.{first_item, last_item, covers, IsMatch, IsLongestMatch, IsShortestMatch, longest_match, shortest_match}
 use Rattle.prefix_trie_bits.specs.Laws.Matches.{MatchLaws}
-use Rattle.prefix_trie_bits.proofs.Model.Members.{some-key, of-key, same_string-is}
+use Rattle.prefix_trie_bits.proofs.Model.Members.{some-key, some-value, of-key, same_string-is}
 use Rattle.prefix_trie_bits.proofs.Model.Ordered.{each-behind, sorted-tail, sorted-head, sorted-neighbours, shorter-first, found_first, found_later, Contains-from_find, find-from_Contains}
 
 pub one_of_length : (q s t : List Bool) → begins s q ≡ true → begins t q ≡ true → length s ≡ length t → s ≡ t
@@ -19,10 +19,6 @@ one_of_length q s t e f l = begins-same-length s t (begins-linear s t q e f (ome
 
 same_Some : {A : Type 0} (x y : A) → Some x ≡ Some y → x ≡ y
 same_Some x y e = ap (λ o. unwrap_or o x) e
-
-some-value : {A : Type 0} (o : Option A) → is_some o ≡ true → (v : A) × (o ≡ Some v)
-some-value None e = absurd (true≢false (sym e))
-some-value (Some v) e = (v, refl)
 
 shorter-or-same : (q s t : List Bool) → begins s q ≡ true → begins t q ≡ true → (s ≡ t) ⊎ (listing_cmp s t ≡ Less) → length s ≤ length t
 shorter-or-same q s t e f (inl same) = omega (arith, ap length same)

@@ -44,6 +44,11 @@ same_string-is s t e = listing_same s t ((Equal-is (listing_cmp s t)).0 e)
 pub is-same_string : (s t : List Bool) → s ≡ t → same_string s t ≡ true
 is-same_string s t e = subst (λ x. same_string s x ≡ true) e (ap is_eq (listing-refl s))
 
+-- the value of an option that has one
+pub some-value : {A : Type 0} (o : Option A) → is_some o ≡ true → (v : A) × (o ≡ Some v)
+some-value None e = absurd (true≢false (sym e))
+some-value (Some v) e = (v, refl)
+
 -- what stands at a member of a set
 marks : (o p : Option (Unit {0})) → is_some o ≡ is_some p → o ≡ p
 marks None None e = refl

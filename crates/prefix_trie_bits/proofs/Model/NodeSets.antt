@@ -1,5 +1,6 @@
 -- Sets of nodes, the nodes that keys need, and what setting or removing a key makes of them.
 use Rattle.std.proofs.Common.{◌≡◌, ◌≢◌, ◌↔◌, ◌⊎◌, ℕ, ◌%◌, ◌≤◌, Bool, true, false, ◌&&◌, ◌||◌, List, [], ◌∷◌, length, is_some, refl, sym, ap, ◌∙◌, subst, arith, inl, inr, true≢false, eqb-true, eq-eqb}
+use Rattle.std.proofs.Math.Bool.{and_comm, or_comm}
 use Rattle.std.specs.FinMap.{contains_key, get-empty}
 use Rattle.prefix_trie_bits.specs.Bits.{begins}
 use Rattle.prefix_trie_bits.specs.Begins.{begins-length, begins-refl, begins-trans}
@@ -11,24 +12,12 @@ use Rattle.prefix_trie_bits.proofs.Model.Homes.{home-begins, home-depth, home-lo
 use Rattle.prefix_trie_bits.proofs.Model.Members.{or-cases, or-left, or-right, and-first, and-second, and-join, same_string-is, is-same_string, has-inserted, has-with_nodes, has-root_alone, any-node_above, needs, needs_root, needed_for, same_nodes}
 use Rattle.prefix_trie_bits.proofs.Model.Pruning.{for_fewer, removed_fewer, too_long}
 
-or-turned : (a b : Bool) → (a || b) ≡ (b || a)
-or-turned true true = refl
-or-turned true false = refl
-or-turned false true = refl
-or-turned false false = refl
-
-and-turned : (a b : Bool) → (a && b) ≡ (b && a)
-and-turned true true = refl
-and-turned true false = refl
-and-turned false true = refl
-and-turned false false = refl
-
 -- the nodes with those that a key needs
 pub has-with_needed : (n : Nodes) (s t : List Bool) → has_node (with_needed n s) t ≡ (has_node n t || (begins t s && is_node_depth t))
 has-with_needed n s t =
     has-with_nodes n (nodes_above s) t
-    ∙ ap (λ b. b || has_node n t) (any-node_above t s ∙ and-turned (is_node_depth t) (begins t s))
-    ∙ or-turned (begins t s && is_node_depth t) (has_node n t)
+    ∙ ap (λ b. b || has_node n t) (any-node_above t s ∙ and_comm (is_node_depth t) (begins t s))
+    ∙ or_comm (begins t s && is_node_depth t) (has_node n t)
 
 in_old : (n : Nodes) (s q : List Bool) → has_node n q ≡ true → has_node (with_needed n s) q ≡ true
 in_old n s q e = has-with_needed n s q ∙ or-left (has_node n q) (begins q s && is_node_depth q) e

@@ -1,8 +1,8 @@
 -- What every step of the model keeps.
 use Rattle.std.proofs.Common.{◌≡◌, ◌≢◌, ◌<◌, map, take, get_or, ℕ, ◌+◌, ◌≤◌, Bool, true, false, cond, not, List, [], ◌∷◌, ◌++◌, length, Some, None, is_some, refl, sym, ap, ◌∙◌, subst, inl, inr, true≢false, nat_le}
-use Rattle.std.specs.List.{All}
 use Rattle.std.proofs.lemmas.List.{take_more, map-append}
 use Rattle.std.proofs.lemmas.List.Elements.{All-head, All-tail}
+use Rattle.std.specs.List.{All}
 use Rattle.std.specs.FinMap.{get, contains_key, get-empty}
 use Rattle.prefix_trie_bits.specs.Bits.{begins}
 use Rattle.prefix_trie_bits.specs.Order.{listing_cmp, same_string}
@@ -208,10 +208,18 @@ module _ {P T : Type 0} (path : P → List Bool) (back : List Bool → P) (width
   run_stays_map s (c ∷ cs) replies t fit (reply, later, mid, e, step, ran) h =
       run_stays_map mid cs later t (All-tail (CallFits (λ q. length (path q) ≤ width)) c cs fit) ran (stays_map path back width s c reply mid (All-head (CallFits (λ q. length (path q) ≤ width)) c cs fit) step h)
 
+  pub run_stays_tidy : (s : State T) (calls : List (Call P T)) (replies : List (Reply P T)) (t : State T) → All (CallFits (λ q. length (path q) ≤ width)) calls → All (λ call. (q : P) → call ≢ RemoveKeepTree q) calls → Run path back width s calls replies t → IsMap width s → IsTidy s.entries s.nodes → IsTidy t.entries t.nodes
+  run_stays_tidy s [] replies t fit other (none, e) h tidy = subst (λ x. IsTidy x.entries x.nodes) (sym e) tidy
+  run_stays_tidy s (c ∷ cs) replies t fit other (reply, later, mid, e, step, ran) h tidy =
+      run_stays_tidy mid cs later t (All-tail (CallFits (λ q. length (path q) ≤ width)) c cs fit) (All-tail (λ call. (q : P) → call ≢ RemoveKeepTree q) c cs other) ran
+      (stays_map path back width s c reply mid (All-head (CallFits (λ q. length (path q) ≤ width)) c cs fit) step h)
+      (stays_tidy path back width s c reply mid (All-head (λ call. (q : P) → call ≢ RemoveKeepTree q) c cs other) step h tidy)
+
 pub step_laws : (P T : Type 0) → StepLaws P T
 step_laws P T = record {
   of_step = keeps;
   run_stays_map = run_stays_map;
+  run_stays_tidy = run_stays_tidy;
   runs_join = runs_join;
   set_and_removed = set_and_removed;
 }

@@ -49,6 +49,10 @@ pub record StepLaws (P T : Type 0) : Type 0 where
   -- a run from a map leads to a map
   pub run_stays_map : (path : P → List Bool) (back : List Bool → P) (width : ℕ) (s : State T) (calls : List (Call P T)) (replies : List (Reply P T)) (t : State T)
       → All (CallFits (λ q. length (path q) ≤ width)) calls → Run path back width s calls replies t → IsMap width s → IsMap width t
+  -- and a tidy one to a tidy one, where no call is `remove_keep_tree`
+  pub run_stays_tidy : (path : P → List Bool) (back : List Bool → P) (width : ℕ) (s : State T) (calls : List (Call P T)) (replies : List (Reply P T)) (t : State T)
+      → All (CallFits (λ q. length (path q) ≤ width)) calls → All (λ call. (q : P) → call ≢ RemoveKeepTree q) calls
+      → Run path back width s calls replies t → IsMap width s → IsTidy s.entries s.nodes → IsTidy t.entries t.nodes
   -- two runs, the second from where the first one led, are one
   pub runs_join : (path : P → List Bool) (back : List Bool → P) (width : ℕ) (s t u : State T) (calls more : List (Call P T)) (replies rest : List (Reply P T))
       → Run path back width s calls replies t → Run path back width t more rest u → Run path back width s (calls ++ more) (replies ++ rest) u
