@@ -1,5 +1,6 @@
--- Worked examples of what replies do not show: visits, holders, parents, block sizes, asking, writing walks, handing out.
-use Rattle.std.specs.Prelude.{◌≡◌, ℕ, ◌+◌, ◌%◌, ◌==◌, true, false, List, [], ◌∷◌, map, length, Some, None}
+-- Worked facts that no reply shows: visits, holders and parents, block sizes, tilings, asking, a writing walk, handing out.
+-- They are this project's own, and go with worked rows.
+use Rattle.std.specs.Prelude.{◌≡◌, ℕ, ◌+◌, ◌%◌, ◌==◌, true, false, [], ◌∷◌, length, Some, None}
 use Rattle.std.specs.FinMap.{len, values}
 use Rattle.prefix_trie_bits.specs.Model.Selections.{listing, listing_after, shown}
 use Rattle.prefix_trie_bits.specs.Model.Nodes.{holders, parents}
@@ -8,47 +9,54 @@ use Rattle.prefix_trie_bits.specs.Model.Asking.{AsksInOrder}
 use Rattle.prefix_trie_bits.specs.Model.WritingWalk.{WritingWalk, walk_over, Next, Passes}
 use Rattle.prefix_trie_bits.specs.Model.Blocks.{Block, AreBlocksOf, value_block_sizes, child_block_sizes, smallest_size, own_entries, child_count}
 use Rattle.prefix_trie_bits.specs.Model.HandsOut.{HandsOut}
-use Rattle.prefix_trie_bits.specs.Model.Step.{State, Call, Insert, Remove, RemoveKeepTree, Reply, Value, Run}
-use Rattle.prefix_trie_bits.specs.Rows.{path_at, back_at, new_map}
+use Rattle.prefix_trie_bits.specs.Model.Step.{State, Insert, Remove, RemoveKeepTree, Value}
+use Rattle.prefix_trie_bits.specs.Rows.Examples.{path_at, back_at, Row, LeadsTo, sets}
 
--- the state that these calls lead to from a new map has a property
-abbrev pub After : ℕ → List (Call (ℕ × ℕ) ℕ × Reply (ℕ × ℕ) ℕ) → (State ℕ → Type 0) → Type 0
-After width row Holds = (t : State ℕ) × Run (path_at width) (back_at width) width new_map (map (λ c. c.0) row) (map (λ c. c.1) row) t × Holds t
-
--- seven nodes are read for 32 bits
+-- two of row 5's keys: seven nodes are read for 32 bits, six for 29, and the root alone for a question with another first bit
 abbrev pub Visits32 : Type 0
-Visits32 = After 32 ((Insert (0x01020300, 32) 1, Value None) ∷ (Insert (0x01020301, 32) 2, Value None) ∷ []) (λ t.
+Visits32 = LeadsTo 32 (sets (((0x01020300, 32), 1) ∷ ((0x01020301, 32), 2) ∷ [])) (λ t.
     (visits t.nodes (path_at 32 (0x01020301, 32)) ≡ 7)
     × (visits_to_match t.entries t.nodes (path_at 32 (0x01020301, 32)) ≡ 7)
     × (visits t.nodes (path_at 32 (0x01020301, 29)) ≡ 6)
     × (visits t.nodes (path_at 32 (0x81020301, 32)) ≡ 1))
 
--- twenty-six for 128 bits
+-- row 6's map: twenty-six nodes are read for 128 bits
 abbrev pub Visits128 : Type 0
-Visits128 = After 128 ((Insert (0, 125) 1, Value None) ∷ (Insert (1, 128) 2, Value None) ∷ []) (λ t.
+Visits128 = LeadsTo 128 (sets (((0, 125), 1) ∷ ((1, 128), 2) ∷ [])) (λ t.
     (visits t.nodes (path_at 128 (1, 128)) ≡ 26) × (visits_to_match t.entries t.nodes (path_at 128 (1, 128)) ≡ 26))
 
--- a lookup that stops at the shortest match reads fewer: 10.0.0.0/8, 10.1.0.0/16, 10.1.1.0/24 and 10.1.1.0/25, asked for 10.1.1.0/24
+-- four of row 25's networks, asked for 10.1.1.0/24: a lookup that stops at the shortest match reads two nodes of five
 abbrev pub VisitsToMatch : Type 0
-VisitsToMatch = After 32 ((Insert (0x0a000000, 8) 0, Value None) ∷ (Insert (0x0a010000, 16) 1, Value None) ∷ (Insert (0x0a010100, 24) 2, Value None) ∷ (Insert (0x0a010100, 25) 4, Value None) ∷ []) (λ t.
+VisitsToMatch = LeadsTo 32 (sets (((0x0a000000, 8), 0) ∷ ((0x0a010000, 16), 1) ∷ ((0x0a010100, 24), 2) ∷ ((0x0a010100, 25), 4) ∷ [])) (λ t.
     (visits t.nodes (path_at 32 (0x0a010100, 24)) ≡ 5) × (visits_to_match t.entries t.nodes (path_at 32 (0x0a010100, 24)) ≡ 2))
 
--- two far keys: eleven parents, two of whose children are the root's, and two holders
+-- row 37's map with its two far keys: eleven parents, two holders, and two children of the root
 abbrev pub TwoFarKeys : Type 0
-TwoFarKeys = After 32 ((Insert (0, 32) 1, Value None) ∷ (Remove (0, 32), Value (Some 1)) ∷ (Insert (0xffffffff, 32) 2, Value None) ∷ (Insert (0, 32) 3, Value None) ∷ []) (λ t.
-    (length (parents t.nodes) ≡ 11) × (length (holders t.entries t.nodes) ≡ 2) × (child_count t.nodes [] ≡ 2) × (child_count t.nodes (path_at 32 (0, 5)) ≡ 1))
+TwoFarKeys = LeadsTo 32 (
+    (Insert (0, 32) 1, Value None) ∷
+    (Remove (0, 32), Value (Some 1)) ∷
+    (Insert (0xffffffff, 32) 2, Value None) ∷
+    (Insert (0, 32) 3, Value None) ∷
+    []) (λ t.
+    (length (parents t.nodes) ≡ 11)
+    × (length (holders t.entries t.nodes) ≡ 2)
+    × (child_count t.nodes [] ≡ 2)
+    × (child_count t.nodes (path_at 32 (0, 5)) ≡ 1))
 
--- nodes that were kept are parents, and no holders
+-- row 32's map after `remove_keep_tree`: the nodes that stay are parents, and none is a holder
 abbrev pub KeptTree : Type 0
-KeptTree = After 32 ((Insert (0, 16) 1, Value None) ∷ (RemoveKeepTree (0, 16), Value (Some 1)) ∷ []) (λ t.
+KeptTree = LeadsTo 32 ((Insert (0, 16) 1, Value None) ∷ (RemoveKeepTree (0, 16), Value (Some 1)) ∷ []) (λ t.
     (length (parents t.nodes) ≡ 3) × (holders t.entries t.nodes ≡ []) × (visits t.nodes (path_at 32 (0, 32)) ≡ 4))
 
--- two values of the root and one below it; after one is removed the root has one
+-- row 38's map as first filled: the root has two entries of its own, and its child one
 abbrev pub OwnEntries : Type 0
-OwnEntries = After 8 ((Insert (0, 1) 1, Value None) ∷ (Insert (128, 1) 2, Value None) ∷ (Insert (0, 5) 3, Value None) ∷ []) (λ t.
-    (own_entries t.entries [] ≡ 2) × (own_entries t.entries (path_at 8 (0, 5)) ≡ 1) × (length (holders t.entries t.nodes) ≡ 2) × (child_count t.nodes [] ≡ 1))
+OwnEntries = LeadsTo 8 (sets (((0, 1), 1) ∷ ((128, 1), 2) ∷ ((0, 5), 3) ∷ [])) (λ t.
+    (own_entries t.entries [] ≡ 2)
+    × (own_entries t.entries (path_at 8 (0, 5)) ≡ 1)
+    × (length (holders t.entries t.nodes) ≡ 2)
+    × (child_count t.nodes [] ≡ 1))
 
--- the smallest sizes
+-- the smallest sizes that hold 3, 8, 9 and 25 items; 32 values fit no value block
 pub record SmallestSizes : Type 0 where
   pub three : smallest_size value_block_sizes 3 ≡ Some 4
   pub eight : smallest_size value_block_sizes 8 ≡ Some 8
@@ -57,34 +65,40 @@ pub record SmallestSizes : Type 0 where
   pub children_25 : smallest_size child_block_sizes 25 ≡ Some 32
   pub too_many : smallest_size value_block_sizes 32 ≡ None
 
+-- the block of a size that starts at a slot
 abbrev pub at_slot : ℕ → ℕ → Block
 at_slot start size = record { start = start; size = size }
 
--- a cell array of 86 slots that was grown from 1 to 31, one block live
+-- row 14's array of values: 86 slots, the block of 31 live and one of each other size free
 abbrev pub GrownCells : Type 0
-GrownCells = AreBlocksOf value_block_sizes 0 (at_slot 55 31 ∷ []) (at_slot 0 1 ∷ at_slot 1 2 ∷ at_slot 3 4 ∷ at_slot 7 8 ∷ at_slot 15 16 ∷ at_slot 31 24 ∷ []) 86
+GrownCells =
+    AreBlocksOf value_block_sizes 0 (at_slot 55 31 ∷ [])
+    (at_slot 0 1 ∷ at_slot 1 2 ∷ at_slot 3 4 ∷ at_slot 7 8 ∷ at_slot 15 16 ∷ at_slot 31 24 ∷ []) 86
 
--- a node array of 88 slots, the root at slot 0
+-- row 15's array of nodes: 88 slots with the root at slot 0, the block of 32 live and one of each other size free
 abbrev pub GrownNodes : Type 0
-GrownNodes = AreBlocksOf child_block_sizes 1 (at_slot 56 32 ∷ []) (at_slot 1 1 ∷ at_slot 2 2 ∷ at_slot 4 4 ∷ at_slot 8 8 ∷ at_slot 16 16 ∷ at_slot 32 24 ∷ []) 88
+GrownNodes =
+    AreBlocksOf child_block_sizes 1 (at_slot 56 32 ∷ [])
+    (at_slot 1 1 ∷ at_slot 2 2 ∷ at_slot 4 4 ∷ at_slot 8 8 ∷ at_slot 16 16 ∷ at_slot 32 24 ∷ []) 88
 
--- an array without blocks ends where its first block would start
+-- an array of nodes without blocks has the root's slot alone
 abbrev pub NoBlocks : Type 0
 NoBlocks = AreBlocksOf child_block_sizes 1 [] [] 1
 
--- a test that is asked in listing order, and answers true at its first, third and fifth asking
+-- row 42: a test that is asked in listing order, and answers true at its first, third and fifth asking
 abbrev pub OddAskings : Type 0
 OddAskings =
     AsksInOrder (λ f _ (_ : ℕ) b f'. (b ≡ (f % 2 == 0)) × (f' ≡ f + 1)) 0
     ((false ∷ [], 1) ∷ (false ∷ false ∷ [], 2) ∷ (false ∷ false ∷ false ∷ [], 4) ∷ (false ∷ true ∷ [], 3) ∷ (false ∷ true ∷ false ∷ [], 5) ∷ [])
     ((false ∷ [], 1) ∷ (false ∷ false ∷ false ∷ [], 4) ∷ (false ∷ true ∷ false ∷ [], 5) ∷ [])
 
--- four entries of eight bits, the last three written plus 10 by a walk that starts behind (5, 8)
-abbrev pub five_calls : List (Call (ℕ × ℕ) ℕ × Reply (ℕ × ℕ) ℕ)
-five_calls = (Insert (0, 5) 1, Value None) ∷ (Insert (4, 6) 2, Value None) ∷ (Insert (6, 8) 3, Value None) ∷ (Insert (8, 5) 4, Value None) ∷ (Insert (128, 1) 5, Value None) ∷ []
+-- row 34's five entries
+abbrev five_calls : Row
+five_calls = sets (((0, 5), 1) ∷ ((4, 6), 2) ∷ ((6, 8), 3) ∷ ((8, 5), 4) ∷ ((128, 1), 5) ∷ [])
 
+-- row 34: a writing walk that starts behind (5, 8) adds ten to each value that it lends, and no other value changes
 abbrev pub WrittenWalk : Type 0
-WrittenWalk = After 8 five_calls (λ t.
+WrittenWalk = LeadsTo 8 five_calls (λ t.
     (first : WritingWalk ℕ) × (second : WritingWalk ℕ) × (third : WritingWalk ℕ) × (last : WritingWalk ℕ)
     × Passes (walk_over t.entries t.nodes (listing_after t.entries (path_at 8 (5, 8)))) (path_at 8 (6, 8)) 13 first
     × Passes first (path_at 8 (8, 5)) 14 second
@@ -92,17 +106,21 @@ WrittenWalk = After 8 five_calls (λ t.
     × Next third None last
     × (values last.entries ≡ 1 ∷ 2 ∷ 13 ∷ 14 ∷ 15 ∷ []))
 
--- handing out 192.168.0.0/22 of six networks: three of five nodes' entries go, and the second map has five nodes too
-abbrev pub six_calls : List (Call (ℕ × ℕ) ℕ × Reply (ℕ × ℕ) ℕ)
-six_calls = (Insert (0xc0a80000, 21) 1, Value None) ∷ (Insert (0xc0a80000, 22) 2, Value None) ∷ (Insert (0xc0a80000, 23) 3, Value None) ∷ (Insert (0xc0a80000, 24) 4, Value None) ∷ (Insert (0xc0a80400, 22) 5, Value None) ∷ (Insert (0xc0a80400, 23) 6, Value None) ∷ []
+-- row 9's six networks
+abbrev six_calls : Row
+six_calls =
+    sets (((0xc0a80000, 21), 1) ∷ ((0xc0a80000, 22), 2) ∷ ((0xc0a80000, 23), 3) ∷ ((0xc0a80000, 24), 4) ∷ ((0xc0a80400, 22), 5) ∷
+    ((0xc0a80400, 23), 6) ∷ [])
 
+-- row 47: handing out 192.168.0.0/22 gives a second map of three entries, and both maps have five nodes
 abbrev pub HandedOut : Type 0
-HandedOut = After 32 six_calls (λ t.
+HandedOut = LeadsTo 32 six_calls (λ t.
     (second : State ℕ) × (after : State ℕ) × HandsOut t (path_at 32 (0xc0a80000, 22)) second after
     × (shown (back_at 32) (listing second.entries) ≡ ((0xc0a80000, 22), 2) ∷ ((0xc0a80000, 23), 3) ∷ ((0xc0a80000, 24), 4) ∷ [])
     × (len second.nodes ≡ 5) × (own_entries second.entries (path_at 32 (0xc0a80000, 20)) ≡ 3)
     × (values after.entries ≡ 1 ∷ 5 ∷ 6 ∷ []) × (len after.nodes ≡ 5))
 
+-- the facts of this file
 pub record FactsHold : Type 0 where
   pub visits32 : Visits32
   pub visits128 : Visits128

@@ -1,4 +1,4 @@
--- What contracts compare a map with: entries, nodes and the calls on them.
+-- What contracts compare a map with: its entries, its nodes, and what each call answers and leaves.
 pub mod Entries
 pub mod Selections
 pub mod Matches

@@ -1,44 +1,99 @@
-//! The laws of the model, and its worked rows: each function does nothing, and its contract is a law.
+//! What follows from the definitions of the model, and worked rows of it. Each function does nothing: its contract is
+//! a law or a list of rows, so that the check proves it.
 
+ghost use Rattle.prefix_trie_bits.specs.Laws.Addresses.{AddressLaws};
 ghost use Rattle.prefix_trie_bits.specs.Laws.Listings.{ListingLaws};
 ghost use Rattle.prefix_trie_bits.specs.Laws.Matches.{MatchLaws};
+ghost use Rattle.prefix_trie_bits.specs.Laws.Nodes.{NodeLaws};
 ghost use Rattle.prefix_trie_bits.specs.Laws.Pruning.{PruningLaws};
 ghost use Rattle.prefix_trie_bits.specs.Laws.Steps.{StepLaws};
 ghost use Rattle.prefix_trie_bits.specs.Laws.Visits.{VisitLaws};
 ghost use Rattle.prefix_trie_bits.specs.Facts.{FactsHold};
-ghost use Rattle.prefix_trie_bits.specs.Rows.{RowsHold};
+ghost use Rattle.prefix_trie_bits.specs.Rows.Addresses.{AddressesHold};
+ghost use Rattle.prefix_trie_bits.specs.Rows.Limits.{LimitsHold};
+ghost use Rattle.prefix_trie_bits.specs.Rows.Lookups.{LookupsHold};
+ghost use Rattle.prefix_trie_bits.specs.Rows.Removals.{RemovalsHold};
+ghost use Rattle.prefix_trie_bits.specs.Rows.Walks.{WalksHold};
+ghost use Rattle.prefix_trie_bits.specs.Rows.Widths.{WidthsHold};
 
-/// What a removal leaves of the nodes.
-pub fn pruning_laws<T>()
-    ensures { PruningLaws T }
-{}
-
-/// How many nodes a lookup reads at most.
-pub fn visit_laws<T>()
-    ensures { VisitLaws T }
-{}
-
-/// The longest and the shortest match, and the covers.
-pub fn match_laws<T>()
-    ensures { MatchLaws T }
-{}
-
-/// The listing and its selections.
+/// The listing has each pair of the map once, in listing order: a string before its extensions, and 0 before 1. A walk
+/// that starts behind the last item read gives the rest of the listing. `remove_children` removes exactly what
+/// `children` lists, which is what is handed out.
 pub fn listing_laws<T>()
     ensures { ListingLaws T }
 {}
 
-/// The worked examples.
-pub fn rows()
-    ensures { RowsHold }
+/// The covers of a question are the pairs whose keys begin it, each longer than the one before; the first is the
+/// shortest match and the last the longest. There is a match exactly if some key begins the question.
+pub fn match_laws<T>()
+    ensures { MatchLaws T }
 {}
 
-/// Worked examples of what replies do not show.
-pub fn facts()
-    ensures { FactsHold }
+/// The nodes that keys need are the root and each beginning of a key whose length is a multiple of five. They are a set
+/// of nodes as each map has one. Setting a key adds its beginnings of such lengths, and setting a stored key or removing
+/// a key leaves such a set without any change.
+pub fn node_laws<T>()
+    ensures { NodeLaws T }
 {}
 
-/// What every step of the model keeps.
+/// A removal takes out exactly the nodes on the way to its own that have no entry and no node off the way left below
+/// them. What it leaves lies between the nodes that the keys left need and those that stood before, is a set of nodes,
+/// and is tidy where it was tidy before.
+pub fn pruning_laws<T>()
+    ensures { PruningLaws T }
+{}
+
+/// A lookup reads at least the root, and at most one node for each five bits of the question and one more. Where the
+/// node k levels down is its last one, it reads k + 1. A lookup that stops at the shortest match reads that match's own
+/// node last.
+pub fn visit_laws<T>()
+    ensures { VisitLaws T }
+{}
+
+/// A map covers at most all addresses, none without entries, and all with a stored prefix of length 0.
+pub fn address_laws<T>()
+    ensures { AddressLaws T }
+{}
+
+/// Every step leaves a map a map, and a tidy one tidy but for `remove_keep_tree`. It leaves each entry that it neither
+/// sets nor removes as it was, and a refused one leaves all as it was. Runs keep maps and tidy maps too, and join. A new
+/// key set in a tidy map and removed again leaves its entries and its nodes as they were.
 pub fn step_laws<P, T>()
     ensures { StepLaws P T }
+{}
+
+/// Worked rows: exact lookups, and longest and shortest matches.
+pub fn worked_lookups()
+    ensures { LookupsHold }
+{}
+
+/// Worked rows: listings, cursors and children.
+pub fn worked_walks()
+    ensures { WalksHold }
+{}
+
+/// Worked rows: what removals leave of the entries and of the nodes.
+pub fn worked_removals()
+    ensures { RemovalsHold }
+{}
+
+/// Worked rows: maps that are full, and new keys refused for want of slots.
+pub fn worked_limits()
+    ensures { LimitsHold }
+{}
+
+/// Worked rows: each width, and the last node of each.
+pub fn worked_widths()
+    ensures { WidthsHold }
+{}
+
+/// Worked rows: how many addresses a map covers.
+pub fn worked_addresses()
+    ensures { AddressesHold }
+{}
+
+/// Worked facts that no reply shows: visits, holders and parents, block sizes, tilings, the order of asking, a writing
+/// walk and handing out.
+pub fn worked_facts()
+    ensures { FactsHold }
 {}

@@ -1,16 +1,15 @@
--- One turn of `retain`, and its end.
-use Rattle.std.proofs.Common.{◌≡◌, ℕ, ◌+◌, ◌<◌, ◌≤◌, Bool, true, false, List, [], ◌∷◌, ◌++◌, length, take, drop, get_or, ap, sym, ◌∙◌, refl, subst, arith, suc, add-one, filter, cond}
-use Rattle.std.proofs.lemmas.List.{drop_more, drop_all, take_more, append_assoc, append-nil, take_all, length-take-le}
-use Rattle.std.specs.List.{remove}
-use Rattle.std.proofs.Math.Seq.{drop-append_seam, take-append_seam}
+-- Asking a test at each entry in turn: one turn of a loop, its end, and what is kept.
+use Rattle.std.proofs.Common.{◌≡◌, ℕ, ◌+◌, ◌<◌, ◌≤◌, Bool, true, false, List, [], ◌∷◌, ◌++◌, length, take, drop, get_or, ap, sym, ◌∙◌, refl, subst, arith, suc, add-one, filter, cond, is_lt, ◌&&◌}
 use lib.Dec.{T as IsT}
-use Rattle.std.proofs.Common.{is_lt, ◌&&◌}
+use Rattle.std.proofs.lemmas.List.{drop_more, drop_all, take_more, append_assoc, append-nil, take_all, length-take-le}
+use Rattle.std.proofs.Math.Seq.{drop-append_seam, take-append_seam}
+use Rattle.std.specs.List.{remove}
 use Rattle.std.specs.FinMap.{is_sorted}
 use Rattle.std.specs.FinMap.Entries.{below_all}
 use Rattle.prefix_trie_bits.specs.Order.{listing_cmp}
+use Rattle.prefix_trie_bits.specs.Model.Asking.{AsksInOrder, MayAskInOrder}
 use Rattle.prefix_trie_bits.proofs.Model.Members.{and-first, and-second, and-join}
 use Rattle.prefix_trie_bits.proofs.Model.Ordered.{t-true, true-t, sorted-head, sorted-tail}
-use Rattle.prefix_trie_bits.specs.Model.Asking.{AsksInOrder, MayAskInOrder}
 
 -- the entry at a place, and those behind it
 pub drop_entry : {X : Type 0} (es : List X) (at : ℕ) (e : X) → at < length es → e ≡ get_or es at e → drop at es ≡ e ∷ drop (at + 1) es

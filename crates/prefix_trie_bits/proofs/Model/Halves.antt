@@ -1,10 +1,15 @@
 -- Counting the strings that some string of a list begins, half by half.
-use Rattle.std.proofs.Common.{◌≡◌, ℕ, suc, zero, ◌+◌, ◌^◌, Bool, true, false, cond, ◌&&◌, ◌||◌, List, [], ◌∷◌, length, map, filter, refl, sym, ap, ap₂, ◌∙◌, arith, true≢false, length-append}
-use Rattle.std.specs.List.{list_any}
+use Rattle.std.proofs.Common.{◌≡◌, ◌≤◌, Some, None, subst, eq-eqb, ℕ, suc, zero, ◌+◌, ◌^◌, Bool, true, false, cond, ◌&&◌, ◌||◌, List, [], ◌∷◌, length, map, filter, refl, sym, ap, ap₂, ◌∙◌, arith, true≢false, length-append}
 use Rattle.std.proofs.lemmas.List.Elements.{filter-append}
+use Rattle.std.specs.List.{list_any}
+use Rattle.std.specs.FinMap.{keys, contains_key}
 use Rattle.prefix_trie_bits.specs.Bits.{begins, same_bit}
 use Rattle.prefix_trie_bits.specs.Model.Nodes.{is_root}
-use Rattle.prefix_trie_bits.specs.Model.Addresses.{strings, covered}
+use Rattle.prefix_trie_bits.specs.Model.Addresses.{full_strings, covered, addresses, address_answer}
+use Rattle.prefix_trie_bits.specs.Model.Entries.{Entries}
+use Rattle.prefix_trie_bits.specs.Laws.Addresses.{AddressLaws}
+use Rattle.prefix_trie_bits.proofs.Model.Members.{of-key}
+use Rattle.prefix_trie_bits.proofs.Model.Ordered.{entries-empty}
 
 -- what is left of the strings after their first bit, where it is b; the empty string stays
 abbrev pub tails : Bool → List (List Bool) → List (List Bool)
@@ -44,11 +49,11 @@ filter-tails b ks (s ∷ ss) =
 
 -- each half by itself
 pub covered-suc : (w : ℕ) (ks : List (List Bool)) → covered (suc w) ks ≡ covered w (tails false ks) + covered w (tails true ks)
-unfolding covered strings
+unfolding covered full_strings
 covered-suc w ks =
-    ap length (filter-append (λ s. list_any (λ k. begins k s) ks) (map (λ s. false ∷ s) (strings w)) (map (λ s. true ∷ s) (strings w)))
-    ∙ length-append (filter (λ s. list_any (λ k. begins k s) ks) (map (λ s. false ∷ s) (strings w))) (filter (λ s. list_any (λ k. begins k s) ks) (map (λ s. true ∷ s) (strings w)))
-    ∙ ap₂ (λ a b. a + b) (filter-tails false ks (strings w)) (filter-tails true ks (strings w))
+    ap length (filter-append (λ s. list_any (λ k. begins k s) ks) (map (λ s. false ∷ s) (full_strings w)) (map (λ s. true ∷ s) (full_strings w)))
+    ∙ length-append (filter (λ s. list_any (λ k. begins k s) ks) (map (λ s. false ∷ s) (full_strings w))) (filter (λ s. list_any (λ k. begins k s) ks) (map (λ s. true ∷ s) (full_strings w)))
+    ∙ ap₂ (λ a b. a + b) (filter-tails false ks (full_strings w)) (filter-tails true ks (full_strings w))
 
 root-tails : (b : Bool) (ks : List (List Bool)) → list_any is_root ks ≡ true → list_any is_root (tails b ks) ≡ true
 root-tails b [] e = absurd (true≢false (sym e))
@@ -60,7 +65,7 @@ root-tails b ((a ∷ k) ∷ ks) e =
     ]
 
 one-key : (ks : List (List Bool)) → covered 0 ks ≡ cond (list_any is_root ks) 1 0
-unfolding covered strings begins
+unfolding covered full_strings begins
 one-key ks = ap (λ x. length {A = List Bool} (cond x ([] ∷ []) [])) (roots ks) ∙ elim (list_any is_root ks) as (λ x. length {A = List Bool} (cond x ([] ∷ []) []) ≡ cond x 1 0) [ true ↦ refl | false ↦ refl ]
   where
     roots : (ks : List (List Bool)) → list_any (λ k. begins k []) ks ≡ list_any is_root ks
@@ -102,3 +107,29 @@ covered-halves (suc w) ks =
     ]
     by same [] = covered-none (suc w)
     by same (k ∷ rest) = covered-suc w (k ∷ rest) ∙ ap₂ (λ a b. a + b) (same (tails false (k ∷ rest))) (same (tails true (k ∷ rest)))
+
+twice : (w a b : ℕ) → a ≤ 2 ^ w → b ≤ 2 ^ w → a + b ≤ 2 ^ suc w
+twice w a b e f = omega (arith, e, f)
+
+one_or_none : (b : Bool) → cond b 1 0 ≤ 1
+one_or_none true = omega arith
+one_or_none false = omega arith
+
+covered-most : (w : ℕ) (ks : List (List Bool)) → covered w ks ≤ 2 ^ w
+covered-most zero ks = subst (λ n. n ≤ 1) (sym (one-key ks)) (one_or_none (list_any is_root ks))
+covered-most (suc w) ks =
+    subst (λ n. n ≤ 2 ^ suc w) (sym (covered-suc w ks))
+    (twice w (covered w (tails false ks)) (covered w (tails true ks)) (covered-most w (tails false ks)) (covered-most w (tails true ks)))
+
+module _ {T : Type 0} where
+  all-covered : (width : ℕ) (m : Entries T) → contains_key m [] ≡ true → address_answer width m ≡ None
+  all-covered width m has =
+      let all : addresses width m ≡ 2 ^ width = covered-root width (keys m) (of-key m is_root [] has refl) in
+      ap (λ b. cond b None (Some (addresses width m))) (eq-eqb (addresses width m) (2 ^ width) all)
+
+pub address_laws : (T : Type 0) → AddressLaws T
+address_laws T = record {
+  at_most = λ width m. covered-most width (keys m);
+  of_no_entries = λ width. ap (covered width) (ap (map (λ e. e.0)) (entries-empty T)) ∙ covered-none width;
+  of_root = all-covered;
+}

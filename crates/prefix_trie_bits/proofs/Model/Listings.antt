@@ -1,19 +1,19 @@
 -- The listing and its selections.
-use Rattle.std.proofs.Common.{◌≡◌, ◌≢◌, ℕ, ◌%◌, Bool, true, false, cond, not, ◌&&◌, T, List, [], ◌∷◌, ◌++◌, length, filter, is_lt, is_le, Ordering, Less, Equal, Greater, refl, sym, ap, ◌∙◌, subst, arith, inl, inr, true≢false}
+use Rattle.std.proofs.Common.{◌≡◌, ◌≢◌, ◌↔◌, ◌⊎◌, Bool, true, false, cond, not, ◌&&◌, T, List, [], ◌∷◌, ◌++◌, filter, is_lt, is_le, Ordering, Less, Equal, Greater, refl, sym, ap, ◌∙◌, subst, Some, inl, inr, true≢false}
 use lib.Dec.{T as IsT}
 use Rattle.std.specs.Ordering.{ordering_reverse}
-use Rattle.std.specs.FinMap.{entries_sorted, is_sorted}
+use Rattle.std.specs.List.{Contains}
+use Rattle.std.specs.FinMap.{entries_sorted, get, get-entries, is_sorted}
 use Rattle.std.specs.FinMap.Entries.{below_all}
 use Rattle.prefix_trie_bits.specs.Bits.{begins}
-use Rattle.prefix_trie_bits.specs.Begins.{begins-length, begins-trans}
-use Rattle.prefix_trie_bits.specs.Order.{listing_cmp, listing_total, listing-refl, listing-common, IsBefore}
-use Rattle.prefix_trie_bits.specs.Model.Entries.{Entries, AreWithin}
+use Rattle.prefix_trie_bits.specs.Order.{listing_cmp, listing_total, listing_same, listing-refl, listing-common, IsBefore}
+use Rattle.prefix_trie_bits.specs.Model.Entries.{Entries}
 use Rattle.prefix_trie_bits.specs.Model.Selections.{listing, listing_from, listing_after}
-use Rattle.prefix_trie_bits.specs.Model.Nodes.{is_root, has_node, needed, AreNodes}
+use Rattle.prefix_trie_bits.specs.Model.Nodes.{is_root}
 use Rattle.prefix_trie_bits.specs.Laws.Listings.{ListingLaws}
-use Rattle.prefix_trie_bits.proofs.Model.Members.{and-first, and-second, needs, needs_root, needed_for}
-use Rattle.prefix_trie_bits.proofs.Model.Ordered.{t-true, true-t, lt-less, sorted-tail, sorted-head, entries-retained}
-use Rattle.prefix_trie_bits.proofs.Model.Pruning.{begins-nil, too_long}
+use Rattle.prefix_trie_bits.proofs.Model.Members.{and-first, and-second}
+use Rattle.prefix_trie_bits.proofs.Model.Ordered.{t-true, true-t, lt-less, sorted-tail, sorted-head, sorted-neighbours, Contains-from_find, find-from_Contains, entries-retained}
+use Rattle.prefix_trie_bits.proofs.Model.Pruning.{begins-nil}
 
 -- the order in words
 begins-cons : (b : Bool) (s t : List Bool) → begins s t ≡ true → begins (b ∷ s) (b ∷ t) ≡ true
@@ -116,34 +116,36 @@ module _ {T : Type 0} where
       ap (filter (λ x. is_le (listing_cmp last.0 x.0))) e
       ∙ from-last read last rest (subst (λ es. IsT (is_sorted listing_cmp es)) e (entries_sorted m))
 
-  pub needed_are_nodes : (width : ℕ) (m : Entries T) → AreWithin width m → AreNodes width m (needed m)
-  needed_are_nodes width m within = record {
-    within = λ s e. elim (needed_for m s e) [
-      | inl root ↦ omega (arith, ap length root)
-      | inr why ↦ omega (arith, begins-length s why.key why.begins_it, within why.key why.stored)
-    ];
-    depths = λ s e. elim (needed_for m s e) [
-      | inl root ↦ ap (λ x. length x % 5) root
-      | inr why ↦ why.five
-    ];
-    rooted = needs_root m;
-    closed = λ s t e b five. elim (needed_for m t e) [
-      | inl root ↦ subst (λ x. has_node (needed m) x ≡ true) (sym (only_root s t b root)) (needs_root m)
-      | inr why ↦ needs m s why.key five why.stored (begins-trans s t why.key b why.begins_it)
-    ];
-    hold_needed = λ s e. e;
-  }
-    where
-      only_root : (s t : List Bool) → begins s t ≡ true → t ≡ [] → s ≡ []
-      only_root [] t b e = refl
-      only_root (x ∷ s) t b e = absurd (too_long x s (subst (λ y. begins (x ∷ s) y ≡ true) e b))
+  has_each : (m : Entries T) (s : List Bool) (v : T) → (get m s ≡ Some v) ↔ Contains (listing m) (s, v)
+  has_each m s v = (
+    λ e. Contains-from_find (listing m) s v (sym (get-entries m s) ∙ e),
+    λ has. get-entries m s ∙ find-from_Contains (listing m) (s, v) (entries_sorted m) has,
+  )
+
+  in_order : (m : Entries T) (front rest : List (List Bool × T)) (d e : List Bool × T) → listing m ≡ front ++ d ∷ e ∷ rest → IsBefore d.0 e.0
+  in_order m front rest d e is = less-before d.0 e.0 (sorted-neighbours front rest d e (subst (λ es. IsT (is_sorted listing_cmp es)) is (entries_sorted m)))
+
+le-cases : (s t : List Bool) (o : Ordering) → listing_cmp s t ≡ o → is_le o ≡ true → (s ≡ t) ⊎ IsBefore s t
+le-cases s t Less e h = inr (less-before s t e)
+le-cases s t Equal e h = inl (listing_same s t e)
+le-cases s t Greater e h = absurd (true≢false (sym h))
+
+order_or_same : (s t : List Bool) → (is_le (listing_cmp s t) ≡ true) ↔ ((s ≡ t) ⊎ IsBefore s t)
+order_or_same s t = (
+  le-cases s t (listing_cmp s t) refl,
+  λ h. elim h [
+    | inl same ↦ subst (λ x. is_le (listing_cmp s x) ≡ true) same (ap is_le (listing-refl s))
+    | inr before ↦ ap is_le (before-less s t before)
+  ],
+)
 
 pub listing_laws : (T : Type 0) → ListingLaws T
 listing_laws T = record {
   order = λ s t. (less-before s t, before-less s t);
-  resumes = resumes;
-  resumes_at = resumes_at;
+  order_or_same = order_or_same;
+  has_each = has_each;
+  in_order = in_order;
+  resumes = λ m read last rest e. record { behind = resumes m read last rest e; at = resumes_at m read last rest e };
   removed = λ m q. entries-retained m (λ s. not (begins q s));
   handed = λ m q. entries-retained m (λ s. begins q s);
-  needed_are_nodes = needed_are_nodes;
 }

@@ -1,7 +1,8 @@
 -- The covers of a question, the first and the last of them.
-use Rattle.std.proofs.Common.{◌≡◌, ◌⊎◌, ◌≤◌, Bool, true, false, cond, T, List, [], ◌∷◌, length, is_some, Less, Option, Some, None, refl, sym, ap, ◌∙◌, subst, arith, inl, inr, true≢false, unwrap_or}
+use Rattle.std.proofs.Common.{◌≡◌, ◌⊎◌, ◌≤◌, ◌<◌, Bool, true, false, cond, T, List, [], ◌∷◌, ◌++◌, length, is_some, Less, Option, Some, None, refl, sym, ap, ◌∙◌, subst, arith, inl, inr, true≢false, unwrap_or}
 use lib.Dec.{T as IsT}
-use Rattle.std.specs.List.{list_any}
+use Rattle.std.proofs.lemmas.List.Elements.{Contains-append_left, Contains-append_right, Contains-push}
+use Rattle.std.specs.List.{list_any, Contains}
 use Rattle.std.specs.FinMap.{entries, entries_sorted, get, contains_key, keys, get-entries, is_sorted, find}
 use Rattle.std.specs.FinMap.Entries.{is_sorted-where_key, find-where_key}
 use Rattle.prefix_trie_bits.specs.Bits.{begins}
@@ -10,8 +11,8 @@ use Rattle.prefix_trie_bits.specs.Order.{listing_cmp, listing_same, same_string}
 use Rattle.prefix_trie_bits.specs.Model.Entries.{Entries}
 use Rattle.prefix_trie_bits.specs.Model.Matches.{first_item, last_item, covers, IsMatch, IsLongestMatch, IsShortestMatch, longest_match, shortest_match}
 use Rattle.prefix_trie_bits.specs.Laws.Matches.{MatchLaws}
-use Rattle.prefix_trie_bits.proofs.Model.Members.{some-key, of-key, is-same_string, same_string-is}
-use Rattle.prefix_trie_bits.proofs.Model.Ordered.{each-behind, sorted-tail, sorted-head, shorter-first, not_itself}
+use Rattle.prefix_trie_bits.proofs.Model.Members.{some-key, some-value, of-key, same_string-is}
+use Rattle.prefix_trie_bits.proofs.Model.Ordered.{each-behind, sorted-tail, sorted-head, sorted-neighbours, shorter-first, found_first, found_later, Contains-from_find, find-from_Contains}
 
 pub one_of_length : (q s t : List Bool) → begins s q ≡ true → begins t q ≡ true → length s ≡ length t → s ≡ t
 one_of_length q s t e f l = begins-same-length s t (begins-linear s t q e f (omega (arith, l))) l
@@ -19,27 +20,11 @@ one_of_length q s t e f l = begins-same-length s t (begins-linear s t q e f (ome
 same_Some : {A : Type 0} (x y : A) → Some x ≡ Some y → x ≡ y
 same_Some x y e = ap (λ o. unwrap_or o x) e
 
-some-value : {A : Type 0} (o : Option A) → is_some o ≡ true → (v : A) × (o ≡ Some v)
-some-value None e = absurd (true≢false (sym e))
-some-value (Some v) e = (v, refl)
-
 shorter-or-same : (q s t : List Bool) → begins s q ≡ true → begins t q ≡ true → (s ≡ t) ⊎ (listing_cmp s t ≡ Less) → length s ≤ length t
 shorter-or-same q s t e f (inl same) = omega (arith, ap length same)
 shorter-or-same q s t e f (inr less) = omega (arith, shorter-first q s t e f less)
 
 module _ {X : Type 0} where
-  found_first : (x : List Bool × X) (es : List (List Bool × X)) → find listing_cmp x.0 (x ∷ es) ≡ Some x.1
-  found_first x es = ap (λ b. cond b (Some x.1) (find listing_cmp x.0 es)) (is-same_string x.0 x.0 refl)
-
-  -- an item further on is none before it
-  found_later : (x : List Bool × X) (es : List (List Bool × X)) (k : List Bool) (v : X) → T (is_sorted listing_cmp (x ∷ es)) → find listing_cmp k es ≡ Some v → find listing_cmp k (x ∷ es) ≡ Some v
-  found_later x es k v h e =
-      elim (same_string k x.0) as (λ b. same_string k x.0 ≡ b → cond b (Some x.1) (find listing_cmp k es) ≡ Some v) [
-        | true ↦ λ same.
-            absurd (not_itself x.0 k (each-behind x.0 es k v (sorted-head x es h) e) (sym (same_string-is k x.0 same)))
-        | false ↦ λ _. e
-      ] refl
-
   -- the first comes before each other
   first-found : (es : List (List Bool × X)) (e : List Bool × X) → first_item es ≡ Some e → find listing_cmp e.0 es ≡ Some e.1
   first-found [] e h = absurd (true≢false (sym (ap is_some h)))
@@ -167,11 +152,41 @@ module _ {T : Type 0} where
         | Some e ↦ λ _. refl
       ] refl)
 
+module _ {X : Type 0} where
+  last_item-push : (front : List X) (e : X) → last_item (front ++ e ∷ []) ≡ Some e
+  last_item-push [] e = refl
+  last_item-push (x ∷ []) e = refl
+  last_item-push (x ∷ y ∷ front) e = last_item-push (y ∷ front) e
+
+  within-first : (front back : List X) (d e : X) → Contains (front ++ d ∷ e ∷ back) d
+  within-first front back d e = Contains-append_right front (d ∷ e ∷ back) d (Contains-append_left (d ∷ []) (e ∷ back) d (Contains-push [] d))
+
+  within-second : (front back : List X) (d e : X) → Contains (front ++ d ∷ e ∷ back) e
+  within-second front back d e =
+      Contains-append_right front (d ∷ e ∷ back) e (Contains-append_right (d ∷ []) (e ∷ back) e (Contains-append_left (e ∷ []) back e (Contains-push [] e)))
+
+module _ {T : Type 0} where
+  pub IsMatch-from_covers : (m : Entries T) (q : List Bool) (e : List Bool × T) → Contains (covers m q) e → IsMatch m q e
+  IsMatch-from_covers m q e has = covers-has m q e (find-from_Contains (covers m q) e (covers-sorted m q) has)
+
+  pub covers-from_IsMatch : (m : Entries T) (q : List Bool) (e : List Bool × T) → IsMatch m q e → Contains (covers m q) e
+  covers-from_IsMatch m q e f = Contains-from_find (covers m q) e.0 e.1 (has-covers m q e.0 e.1 f.stored f.begins_it)
+
+  by_length : (m : Entries T) (q : List Bool) (front back : List (List Bool × T)) (d e : List Bool × T) → covers m q ≡ front ++ d ∷ e ∷ back → length d.0 < length e.0
+  by_length m q front back d e is =
+      let first = IsMatch-from_covers m q d (subst (λ es. Contains es d) (sym is) (within-first front back d e)) in
+      let second = IsMatch-from_covers m q e (subst (λ es. Contains es e) (sym is) (within-second front back d e)) in
+      shorter-first q d.0 e.0 first.begins_it second.begins_it (sorted-neighbours front back d e (subst (λ es. IsT (is_sorted listing_cmp es)) is (covers-sorted m q)))
+
 pub match_laws : (T : Type 0) → MatchLaws T
 match_laws T = record {
   one_of_length = one_of_length;
-  last_is_longest = λ m q e. (last-longest m q e, longest-last m q e);
-  first_is_shortest = λ m q e. (first-shortest m q e, shortest-first m q e);
+  are_matches = λ m q e. (IsMatch-from_covers m q e, covers-from_IsMatch m q e);
+  by_length = by_length;
+  first_cover = λ m q first rest is. first-shortest m q first (ap first_item is);
+  last_cover = λ m q front last is. last-longest m q last (ap last_item is ∙ last_item-push front last);
+  longest_is = λ m q e. (last-longest m q e, longest-last m q e);
+  shortest_is = λ m q e. (first-shortest m q e, shortest-first m q e);
   some_longest = λ m q. some-cover m q (longest_match m q) (last-none (covers m q)) (λ e h. (last-longest m q e h).matches);
   some_shortest = λ m q. some-cover m q (shortest_match m q) (first-none (covers m q)) (λ e h. (first-shortest m q e h).matches);
 }

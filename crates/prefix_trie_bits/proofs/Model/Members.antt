@@ -1,11 +1,12 @@
--- What keys and nodes a map of a shape has.
-use Rattle.std.proofs.Common.{◌≡◌, ◌⊎◌, ◌%◌, Bool, true, false, cond, not, ◌&&◌, ◌||◌, List, [], ◌∷◌, ◌++◌, length, map, filter, flat_map, is_some, is_eq, Option, Some, None, refl, sym, ap, ◌∙◌, subst, inl, inr, true≢false, eqb-true, eq-eqb}
+-- What an entry map or a set of nodes of a shape has, and when two of them are one.
+use Rattle.std.proofs.Common.{◌≡◌, ◌⊎◌, ◌%◌, Bool, true, false, cond, not, ◌&&◌, ◌||◌, List, [], ◌∷◌, ◌++◌, length, map, filter, flat_map, is_some, is_eq, Option, Some, None, refl, sym, ap, ◌∙◌, subst, inl, inr, true≢false, eqb-true, eq-eqb, ℕ, nat_le}
 use Rattle.std.specs.Cmp.{Equal-is}
 use Rattle.std.specs.List.{list_any, list_all}
-use Rattle.std.specs.FinMap.{FinMap, empty, get, contains_key, insert, remove, retain_keys, keys, get-empty, get-insert, get-remove, get-retain_keys, contains_key-keys}
+use Rattle.std.specs.FinMap.{FinMap, empty, get, contains_key, insert, remove, retain_keys, keys, get-empty, get-insert, get-remove, get-retain_keys, contains_key-keys, same_map}
 use Rattle.prefix_trie_bits.specs.Bits.{begins, same_bit}
 use Rattle.prefix_trie_bits.specs.Order.{listing_cmp, listing_total, listing_same, listing-refl, same_string}
-use Rattle.prefix_trie_bits.specs.Model.Entries.{Entries}
+use Rattle.prefix_trie_bits.specs.Begins.{same_bool}
+use Rattle.prefix_trie_bits.specs.Model.Entries.{Entries, with_entry, without_entry, without_below, part_below, part_at_least}
 use Rattle.prefix_trie_bits.specs.Model.Nodes.{Nodes, has_node, root_alone, with_nodes, beginnings, is_node_depth, nodes_above, needed}
 
 pub or-cases : (a b : Bool) → (a || b) ≡ true → (a ≡ true) ⊎ (b ≡ true)
@@ -43,8 +44,13 @@ same_string-is s t e = listing_same s t ((Equal-is (listing_cmp s t)).0 e)
 pub is-same_string : (s t : List Bool) → s ≡ t → same_string s t ≡ true
 is-same_string s t e = subst (λ x. same_string s x ≡ true) e (ap is_eq (listing-refl s))
 
+-- the value of an option that has one
+pub some-value : {A : Type 0} (o : Option A) → is_some o ≡ true → (v : A) × (o ≡ Some v)
+some-value None e = absurd (true≢false (sym e))
+some-value (Some v) e = (v, refl)
+
 -- what stands at a member of a set
-pub marks : (o p : Option (Unit {0})) → is_some o ≡ is_some p → o ≡ p
+marks : (o p : Option (Unit {0})) → is_some o ≡ is_some p → o ≡ p
 marks None None e = refl
 marks None (Some u) e = absurd (true≢false (sym e))
 marks (Some u) None e = absurd (true≢false e)
@@ -225,3 +231,38 @@ module _ {T : Type 0} where
             inr (record { key = k.0; stored = k.1; begins_it = k.2; five = eqb-true (length q % 5) 0 (and-first (is_node_depth q) (list_any (λ k. begins q k) (keys m)) h) })
         | inr h ↦ inl (same_string-is q [] h)
       ]
+
+-- what an entry map has at each key after a change
+pub turned : {X : Type 0} (b : Bool) (x y : X) → cond (not b) x y ≡ cond b y x
+turned true x y = refl
+turned false x y = refl
+
+module _ {T : Type 0} where
+  pub get-with_entry : (m : Entries T) (s : List Bool) (v : T) (t : List Bool) → get (with_entry m s v) t ≡ cond (same_string t s) (Some v) (get m t)
+  get-with_entry m s v t = get-insert listing_total m s v t
+
+  pub get-without_entry : (m : Entries T) (s t : List Bool) → get (without_entry m s) t ≡ cond (same_string t s) None (get m t)
+  get-without_entry m s t = get-remove listing_total m s t
+
+  get-retained : (m : Entries T) (p : List Bool → Bool) (t : List Bool) → get (retain_keys m p) t ≡ cond (p t) (get m t) None
+  get-retained m p t = get-retain_keys m p t (λ x e. ap p (sym (listing_same t x e)))
+
+  pub get-without_below : (m : Entries T) (q t : List Bool) → get (without_below m q) t ≡ cond (begins q t) None (get m t)
+  get-without_below m q t = get-retained m (λ s. not (begins q s)) t ∙ turned (begins q t) (get m t) None
+
+  pub get-part_below : (m : Entries T) (q t : List Bool) → get (part_below m q) t ≡ cond (begins q t) (get m t) None
+  get-part_below m q t = get-retained m (λ s. begins q s) t
+
+  pub get-part_at_least : (m : Entries T) (n : ℕ) (t : List Bool) → get (part_at_least m n) t ≡ cond (nat_le n (length t)) (get m t) None
+  get-part_at_least m n t = get-retained m (λ s. nat_le n (length s)) t
+
+  -- two entry maps with the same value at each key are one
+  pub same_entries : (m n : Entries T) → ((s : List Bool) → get m s ≡ get n s) → m ≡ n
+  same_entries m n same = same_map listing_total listing_same m n same
+
+-- two sets of nodes with the same members are one
+pub same_members : (n k : Nodes) → ((s : List Bool) → has_node n s ≡ has_node k s) → n ≡ k
+same_members n k same = same_map listing_total listing_same n k (λ s. marks _ _ (same s))
+
+pub same_nodes : (n k : Nodes) → ((s : List Bool) → has_node n s ≡ true → has_node k s ≡ true) → ((s : List Bool) → has_node k s ≡ true → has_node n s ≡ true) → n ≡ k
+same_nodes n k f g = same_members n k (λ s. same_bool (has_node n s) (has_node k s) (f s) (g s))

@@ -1,13 +1,15 @@
 -- Lists of entries in listing order, and what each operation makes of the listing.
-use Rattle.std.proofs.Common.{◌≡◌, ◌≤◌, ◌<◌, Bool, true, false, cond, not, ◌&&◌, nat_lt, T, List, [], ◌∷◌, length, filter, is_lt, Ordering, Less, Equal, Greater, Option, Some, None, is_some, refl, sym, ap, ◌∙◌, subst, arith, true≢false}
+use Rattle.std.proofs.Common.{◌≡◌, ◌≤◌, ◌<◌, Bool, true, false, cond, not, ◌&&◌, nat_lt, T, List, [], ◌∷◌, ◌++◌, length, filter, is_lt, Ordering, Less, Equal, Greater, Some, None, is_some, refl, sym, ap, ◌∙◌, subst, arith, true≢false, inl, inr, unwrap_or}
+use Rattle.std.proofs.lemmas.List.Elements.{Contains-append_left, Contains-append_right, Contains-append_cases, Contains-push, Contains-push_cases}
+use Rattle.std.proofs.lemmas.Bool.Decides.{nat_tests}
+use Rattle.std.specs.List.{Contains}
 use Rattle.std.specs.Ordering.{ordering_reverse}
 use Rattle.std.specs.FinMap.{FinMap, entries, entries_sorted, empty, get, remove, retain_keys, from_sorted, len-entries, len-empty, entries-from_sorted, get-from_sorted, get-retain_keys, get-remove, get-entries, same_map, find, is_sorted}
 use Rattle.std.specs.FinMap.Entries.{below_all, where_key, is_sorted-where_key, find-where_key}
-use Rattle.std.proofs.lemmas.Bool.Decides.{nat_tests}
 use Rattle.prefix_trie_bits.specs.Bits.{begins}
 use Rattle.prefix_trie_bits.specs.Begins.{begins-linear, begins-same-length}
 use Rattle.prefix_trie_bits.specs.Order.{listing_cmp, listing_total, listing_same, listing-refl, listing-extension, same_string}
-use Rattle.prefix_trie_bits.proofs.Model.Members.{and-first, and-second, same_string-is}
+use Rattle.prefix_trie_bits.proofs.Model.Members.{and-first, and-second, same_string-is, is-same_string, turned}
 
 pub t-true : (b : Bool) → T b → b ≡ true
 t-true true h = refl
@@ -59,6 +61,50 @@ module _ {X : Type 0} where
   pub sorted-head : (x : List Bool × X) (es : List (List Bool × X)) → T (is_sorted listing_cmp (x ∷ es)) → T (below_all listing_cmp x.0 es)
   sorted-head x es h = true-t (below_all listing_cmp x.0 es) (and-first (below_all listing_cmp x.0 es) (is_sorted listing_cmp es) (t-true (below_all listing_cmp x.0 es && is_sorted listing_cmp es) h))
 
+  -- the value of an item that a sorted list has
+  pub found_first : (x : List Bool × X) (es : List (List Bool × X)) → find listing_cmp x.0 (x ∷ es) ≡ Some x.1
+  found_first x es = ap (λ b. cond b (Some x.1) (find listing_cmp x.0 es)) (is-same_string x.0 x.0 refl)
+
+  -- an item further on is none before it
+  pub found_later : (x : List Bool × X) (es : List (List Bool × X)) (k : List Bool) (v : X) → T (is_sorted listing_cmp (x ∷ es)) → find listing_cmp k es ≡ Some v → find listing_cmp k (x ∷ es) ≡ Some v
+  found_later x es k v h e =
+      elim (same_string k x.0) as (λ b. same_string k x.0 ≡ b → cond b (Some x.1) (find listing_cmp k es) ≡ Some v) [
+        | true ↦ λ same.
+            absurd (not_itself x.0 k (each-behind x.0 es k v (sorted-head x es h) e) (sym (same_string-is k x.0 same)))
+        | false ↦ λ _. e
+      ] refl
+
+  -- of two items of a sorted list that stand side by side, the first comes first
+  pub sorted-neighbours : (front back : List (List Bool × X)) (d e : List Bool × X) → T (is_sorted listing_cmp (front ++ d ∷ e ∷ back)) → listing_cmp d.0 e.0 ≡ Less
+  sorted-neighbours [] back d e h =
+      let all = t-true (is_lt (listing_cmp d.0 e.0) && below_all listing_cmp d.0 back) (sorted-head d (e ∷ back) h) in
+      lt-less (listing_cmp d.0 e.0) (and-first (is_lt (listing_cmp d.0 e.0)) (below_all listing_cmp d.0 back) all)
+  sorted-neighbours (x ∷ front) back d e h = sorted-neighbours front back d e (sorted-tail x (front ++ d ∷ e ∷ back) h)
+
+  -- what a look-up finds in a list stands in it, and of a sorted list a look-up finds each item
+  pub Contains-from_find : (es : List (List Bool × X)) (k : List Bool) (v : X) → find listing_cmp k es ≡ Some v → Contains es (k, v)
+  Contains-from_find [] k v e = absurd (true≢false (sym (ap is_some e)))
+  Contains-from_find (x ∷ es) k v e =
+      elim (same_string k x.0) as (λ b. same_string k x.0 ≡ b → cond b (Some x.1) (find listing_cmp k es) ≡ Some v → Contains (x ∷ es) (k, v)) [
+        | true ↦ λ same f.
+            let key : k ≡ x.0 = same_string-is k x.0 same in
+            let value : x.1 ≡ v = ap (λ o. unwrap_or o x.1) f in
+            let item : x ≡ (k, v) = λ i. (sym key i, value i) in
+            subst (λ y. Contains (x ∷ es) y) item (Contains-append_left (x ∷ []) es x (Contains-push [] x))
+        | false ↦ λ _ f. Contains-append_right (x ∷ []) es (k, v) (Contains-from_find es k v f)
+      ] refl e
+
+  pub find-from_Contains : (es : List (List Bool × X)) (e : List Bool × X) → T (is_sorted listing_cmp es) → Contains es e → find listing_cmp e.0 es ≡ Some e.1
+  find-from_Contains [] e h has = absurd (omega (arith, has.1))
+  find-from_Contains (x ∷ es) e h has =
+      elim (Contains-append_cases (x ∷ []) es e has) [
+        | inl here ↦ elim (Contains-push_cases [] x e here) [
+          | inl none ↦ absurd (omega (arith, none.1))
+          | inr is ↦ subst (λ y. find listing_cmp y.0 (x ∷ es) ≡ Some y.1) is (found_first x es)
+        ]
+        | inr there ↦ found_later x es e.0 e.1 h (find-from_Contains es e (sorted-tail x es h) there)
+      ]
+
   no_items : (es : List (List Bool × X)) → length es ≡ 0 → es ≡ []
   no_items [] e = refl
   no_items (x ∷ es) e = absurd (omega (arith, e))
@@ -73,14 +119,10 @@ module _ {X : Type 0} where
       ∙ sym (find-where_key listing_cmp p q (λ x e. ap p (sym (listing_same q x e))) (entries m)) ∙ sym (get-from_sorted listing_cmp (where_key listing_cmp p (entries m)) q sorted)) in
       ap entries same ∙ entries-from_sorted listing_cmp (where_key listing_cmp p (entries m)) sorted
 
-  turned : (b : Bool) (x y : Option X) → cond b x y ≡ cond (not b) y x
-  turned true x y = refl
-  turned false x y = refl
-
   pub entries-removed : (m : FinMap listing_cmp X) (k : List Bool) → entries (remove m k) ≡ filter (λ e. not (same_string e.0 k)) (entries m)
   entries-removed m k =
       ap entries (same_map listing_total listing_same (remove m k) (retain_keys m (λ s. not (same_string s k)))
-      (λ q. get-remove listing_total m k q ∙ turned (same_string q k) None (get m q)
+      (λ q. get-remove listing_total m k q ∙ sym (turned (same_string q k) (get m q) None)
       ∙ sym (get-retain_keys m (λ s. not (same_string s k)) q (λ x e. ap (λ s. not (same_string s k)) (sym (listing_same q x e))))))
       ∙ entries-retained m (λ s. not (same_string s k))
 

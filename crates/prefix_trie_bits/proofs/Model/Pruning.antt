@@ -1,15 +1,15 @@
 -- What removals leave of the nodes.
-use Rattle.std.proofs.Common.{◌≡◌, ℕ, ◌%◌, ◌≤◌, Bool, true, false, cond, not, ◌&&◌, ◌||◌, nat_lt, List, [], ◌∷◌, length, refl, sym, ◌∙◌, subst, arith, inl, inr, true≢false}
+use Rattle.std.proofs.Common.{◌≡◌, ◌≢◌, ℕ, ◌%◌, ◌≤◌, Bool, true, false, cond, not, ◌&&◌, ◌||◌, nat_lt, List, [], ◌∷◌, length, refl, sym, ◌∙◌, subst, arith, inl, inr, true≢false}
 use Rattle.std.specs.List.{list_any, list_all}
-use Rattle.std.specs.FinMap.{contains_key, keys, same_map, retain_keys}
+use Rattle.std.specs.FinMap.{contains_key, keys, retain_keys}
 use Rattle.std.proofs.lemmas.Bool.Decides.{nat_tests}
 use Rattle.prefix_trie_bits.specs.Bits.{begins}
-use Rattle.prefix_trie_bits.specs.Begins.{same_bool, begins-trans, begins-refl, begins-linear, begins-antisymm, begins-length}
-use Rattle.prefix_trie_bits.specs.Order.{listing_total, listing_same, same_string}
+use Rattle.prefix_trie_bits.specs.Begins.{begins-trans, begins-refl, begins-linear, begins-antisymm, begins-length}
+use Rattle.prefix_trie_bits.specs.Order.{same_string}
 use Rattle.prefix_trie_bits.specs.Model.Entries.{Entries, without_entry, without_below}
 use Rattle.prefix_trie_bits.specs.Model.Nodes.{Nodes, has_node, home, needed, AreNodes, IsTidy, is_root, is_pruned, pruned, nodes_not_below, nodes_without, nodes_without_below}
-use Rattle.prefix_trie_bits.specs.Laws.Pruning.{IsPruning, PruningLaws}
-use Rattle.prefix_trie_bits.proofs.Model.Members.{or-cases, or-right, and-first, and-second, and-join, not-true, from-not, same_string-is, is-same_string, some-key, of-key, each-key, all-keys, has-retained, has-removed, needs, needs_root, needed_for, marks}
+use Rattle.prefix_trie_bits.specs.Laws.Pruning.{IsTakenOut, IsPruning, PruningLaws}
+use Rattle.prefix_trie_bits.proofs.Model.Members.{or-cases, or-right, and-first, and-second, and-join, not-true, from-not, same_string-is, is-same_string, some-key, of-key, each-key, all-keys, has-retained, has-removed, needs, needs_root, needed_for, same_nodes}
 use Rattle.prefix_trie_bits.proofs.Model.Homes.{home-begins, home-depth, home-longest}
 
 pub not-so : (b : Bool) → (b ≡ true → ⊥) → b ≡ false
@@ -26,11 +26,6 @@ too_long x xs h = true≢false (sym h)
 pub begins-nil : (s : List Bool) → begins [] s ≡ true
 unfolding begins
 begins-nil s = refl
-
--- two sets with the same members are one
-pub same_nodes : (n k : Nodes) → ((s : List Bool) → has_node n s ≡ true → has_node k s ≡ true) → ((s : List Bool) → has_node k s ≡ true → has_node n s ≡ true) → n ≡ k
-same_nodes n k f g =
-    same_map listing_total listing_same n k (λ s. marks _ _ (same_bool (has_node n s) (has_node k s) (f s) (g s)))
 
 has-cond : (b : Bool) (n k : Nodes) (s : List Bool) → has_node (cond b n k) s ≡ cond b (has_node n s) (has_node k s)
 has-cond true n k s = refl
@@ -299,5 +294,57 @@ module _ {T : Type 0} where
   pub remove_children_law : (width : ℕ) (m : Entries T) (n : Nodes) (q : List Bool) → AreNodes width m n → IsPruning width m (without_below m q) n (nodes_without_below n m q)
   remove_children_law width m n q good = below_by width m n q good (has_node n (home q)) refl
 
+not_empty : (t : List Bool) → t ≢ [] → not (is_root t) ≡ true
+not_empty [] other = absurd (other refl)
+not_empty (b ∷ t) other = refl
+
+is_empty : (t : List Bool) → t ≡ [] → not (is_root t) ≡ true → ⊥
+is_empty t root e = clash (is_root t) (subst (λ x. is_root x ≡ true) (sym root) refl) (from-not (is_root t) e)
+
+module _ {T : Type 0} where
+  -- pruning, in words
+  taken-out : (n : Nodes) (m : Entries T) (q t : List Bool) → has_node n (home q) ≡ true → Goes n m (home q) t → IsTakenOut n m q t
+  taken-out n m q t at g = record {
+    home_there = at;
+    on_way = g.on_way;
+    not_root = λ root. is_empty t root g.not_root;
+    no_key = λ k has. not-so (begins t k) (λ e. clash (list_any (λ s. begins t s) (keys m)) (of-key m (λ s. begins t s) k has e) g.no_key);
+    alone = λ u has below. elim (or-cases (not (begins t u)) (begins u (home q)) (each-key n (λ x. not (begins t x) || begins x (home q)) u g.alone has)) [
+      | inl nay ↦ absurd (clash (begins t u) below (from-not (begins t u) nay))
+      | inr yea ↦ yea
+    ];
+  }
+
+  goes-out : (n : Nodes) (m : Entries T) (q t : List Bool) → IsTakenOut n m q t → Goes n m (home q) t
+  goes-out n m q t out = record {
+    no_key = not-so (list_any (λ s. begins t s) (keys m)) (λ some.
+        let k = some-key m (λ s. begins t s) some in
+        clash (begins t k.0) k.2 (out.no_key k.0 k.1));
+    on_way = out.on_way;
+    not_root = not_empty t out.not_root;
+    alone = all-keys n (λ u. not (begins t u) || begins u (home q)) (λ u at. elim (begins t u) as (λ x. begins t u ≡ x → (not x || begins u (home q)) ≡ true) [
+      | true ↦ λ below. out.alone u at below
+      | false ↦ λ _. refl
+    ] refl);
+  }
+
+  gone-taken : (n : Nodes) (m : Entries T) (q t : List Bool) → has_node n t ≡ true → has_node (pruned n m q) t ≡ false → IsTakenOut n m q t
+  gone-taken n m q t at gone =
+      elim (has_node n (home q)) as (λ a. has_node n (home q) ≡ a → IsTakenOut n m q t) [
+        | true ↦ λ there. elim (is_pruned n m (home q) t) as (λ b. is_pruned n m (home q) t ≡ b → IsTakenOut n m q t) [
+          | true ↦ λ out. taken-out n m q t there (goes n m (home q) t out)
+          | false ↦ λ left. absurd (clash (has_node (pruned n m q) t) (stays n m q t at (λ _ out. clash (is_pruned n m (home q) t) out left)) gone)
+        ] refl
+        | false ↦ λ away. absurd (clash (has_node (pruned n m q) t) (stays n m q t at (λ there _. clash (has_node n (home q)) there away)) gone)
+      ] refl
+
+  taken-gone : (n : Nodes) (m : Entries T) (q t : List Bool) → IsTakenOut n m q t → has_node (pruned n m q) t ≡ false
+  taken-gone n m q t out = not-so (has_node (pruned n m q) t) (λ left. spared n m q t left out.home_there (goes_from n m (home q) t (goes-out n m q t out)))
+
 pub pruning_laws : (T : Type 0) → PruningLaws T
-pruning_laws T = record { of_remove = remove_law; of_remove_children = remove_children_law }
+pruning_laws T = record {
+  in_words = λ n m q t at. (gone-taken n m q t at, taken-gone n m q t);
+  none_added = stood;
+  of_remove = remove_law;
+  of_remove_children = remove_children_law;
+}

@@ -1,123 +1,20 @@
 -- What every step of the model keeps.
-use Rattle.std.proofs.Common.{◌≡◌, ◌≢◌, ◌⊎◌, ◌<◌, map, take, get_or, ℕ, ◌+◌, ◌%◌, ◌≤◌, Bool, true, false, cond, not, ◌&&◌, ◌||◌, List, [], ◌∷◌, ◌++◌, length, Some, None, is_some, refl, sym, ap, ◌∙◌, subst, arith, inl, inr, true≢false, eqb-true, eq-eqb, nat_le}
+use Rattle.std.proofs.Common.{◌≡◌, ◌≢◌, ◌<◌, map, take, get_or, ℕ, ◌+◌, ◌≤◌, Bool, true, false, cond, not, List, [], ◌∷◌, ◌++◌, length, Some, None, is_some, refl, sym, ap, ◌∙◌, subst, inl, inr, true≢false, nat_le}
 use Rattle.std.proofs.lemmas.List.{take_more, map-append}
-use Rattle.std.specs.FinMap.{get, contains_key, same_map, get-empty, get-insert, get-remove, get-retain_keys, retain_keys}
+use Rattle.std.proofs.lemmas.List.Elements.{All-head, All-tail}
+use Rattle.std.specs.List.{All}
+use Rattle.std.specs.FinMap.{get, contains_key, get-empty}
 use Rattle.prefix_trie_bits.specs.Bits.{begins}
-use Rattle.prefix_trie_bits.specs.Begins.{begins-length, begins-trans}
-use Rattle.prefix_trie_bits.specs.Order.{listing_cmp, listing_total, listing_same, same_string}
+use Rattle.prefix_trie_bits.specs.Order.{listing_cmp, same_string}
 use Rattle.prefix_trie_bits.specs.Model.Entries.{Entries, AreWithin, no_entries, with_entry, without_entry, without_below, part_at_least}
-use Rattle.prefix_trie_bits.specs.Model.Nodes.{Nodes, has_node, root_alone, is_node_depth, nodes_above, with_needed, needed, AreNodes, IsTidy, nodes_without}
+use Rattle.prefix_trie_bits.specs.Model.Nodes.{Nodes, with_needed, needed, AreNodes, IsTidy, nodes_without}
 use Rattle.prefix_trie_bits.specs.Model.Step.{State, Call, Insert, Get, Lpm, Spm, Remove, RemoveKeepTree, RemoveChildren, RetainAtLeast, Clear, Len, NodeCount, AddressCount, ListAll, ListFrom, Children, Cover, CallFits, Reply, Value, Match, Done, Count, Addresses, Items, Refused, Refusal, Lists, Step, Run}
-use Rattle.prefix_trie_bits.specs.Laws.Steps.{IsMap, StepLaws, touches}
-use Rattle.prefix_trie_bits.proofs.Model.Members.{or-cases, or-left, or-right, and-first, and-second, and-join, same_string-is, is-same_string, has-retained, has-inserted, has-with_nodes, has-root_alone, any-node_above, needs, needs_root, needed_for}
-use Rattle.prefix_trie_bits.proofs.Model.Pruning.{same_nodes, remove_law, remove_children_law, for_fewer, removed_fewer, below_fewer, too_long}
-use Rattle.prefix_trie_bits.proofs.Model.Listings.{needed_are_nodes}
-
--- the nodes with those that a key needs
-has-with_needed : (n : Nodes) (s q : List Bool) → has_node (with_needed n s) q ≡ ((is_node_depth q && begins q s) || has_node n q)
-has-with_needed n s q = has-with_nodes n (nodes_above s) q ∙ ap (λ b. b || has_node n q) (any-node_above q s)
-
-in_old : (n : Nodes) (s q : List Bool) → has_node n q ≡ true → has_node (with_needed n s) q ≡ true
-in_old n s q e = has-with_needed n s q ∙ or-right (is_node_depth q && begins q s) (has_node n q) e
-
-in_new : (n : Nodes) (s q : List Bool) → length q % 5 ≡ 0 → begins q s ≡ true → has_node (with_needed n s) q ≡ true
-in_new n s q five b = has-with_needed n s q ∙ or-left (is_node_depth q && begins q s) (has_node n q) (and-join (is_node_depth q) (begins q s) (eq-eqb (length q % 5) 0 five) b)
-
-record OnWay (s q : List Bool) : Type 0 where
-  five : length q % 5 ≡ 0
-  begins_it : begins q s ≡ true
-
-which : (n : Nodes) (s q : List Bool) → has_node (with_needed n s) q ≡ true → (OnWay s q) ⊎ (has_node n q ≡ true)
-which n s q e =
-    elim (or-cases (is_node_depth q && begins q s) (has_node n q) (sym (has-with_needed n s q) ∙ e)) [
-      | inl h ↦ inl (record { five = eqb-true (length q % 5) 0 (and-first (is_node_depth q) (begins q s) h); begins_it = and-second (is_node_depth q) (begins q s) h })
-      | inr h ↦ inr h
-    ]
+use Rattle.prefix_trie_bits.specs.Laws.Steps.{IsMap, StepKeeps, StepLaws, touches}
+use Rattle.prefix_trie_bits.proofs.Model.Members.{and-second, same_string-is, has-retained, get-with_entry, get-without_entry, get-without_below, get-part_at_least, same_entries}
+use Rattle.prefix_trie_bits.proofs.Model.Pruning.{remove_law, remove_children_law, removed_fewer, below_fewer}
+use Rattle.prefix_trie_bits.proofs.Model.NodeSets.{key_cases, needed_insert, needed_stored, AreNodes-with_entry, AreNodes-stored, AreNodes-without_entry, AreNodes-no_entries, AreNodes-needed, tidy-no_entries}
 
 module _ {T : Type 0} where
-  key_cases : (m : Entries T) (s k : List Bool) (v : T) → contains_key (with_entry m s v) k ≡ true → (k ≡ s) ⊎ (contains_key m k ≡ true)
-  key_cases m s k v e =
-      elim (or-cases (same_string k s) (contains_key m k) (sym (has-inserted m s v k) ∙ e)) [
-        | inl h ↦ inl (same_string-is k s h)
-        | inr h ↦ inr h
-      ]
-
-  old_key : (m : Entries T) (s k : List Bool) (v : T) → contains_key m k ≡ true → contains_key (with_entry m s v) k ≡ true
-  old_key m s k v e = has-inserted m s v k ∙ or-right (same_string k s) (contains_key m k) e
-
-  new_key : (m : Entries T) (s : List Bool) (v : T) → contains_key (with_entry m s v) s ≡ true
-  new_key m s v = has-inserted m s v s ∙ or-left (same_string s s) (contains_key m s) (is-same_string s s refl)
-
-  -- what the map with s needs
-  needed_with : (m : Entries T) (s q : List Bool) (v : T) → has_node (needed (with_entry m s v)) q ≡ true → (OnWay s q) ⊎ (has_node (needed m) q ≡ true)
-  needed_with m s q v e =
-      elim (needed_for (with_entry m s v) q e) [
-        | inl root ↦ inr (subst (λ x. has_node (needed m) x ≡ true) (sym root) (needs_root m))
-        | inr why ↦ elim (key_cases m s why.key v why.stored) [
-          | inl is ↦ inl (record { five = why.five; begins_it = subst (λ x. begins q x ≡ true) is why.begins_it })
-          | inr old ↦ inr (needs m q why.key why.five old why.begins_it)
-        ]
-      ]
-
-  insert_nodes : (width : ℕ) (m : Entries T) (n : Nodes) (s : List Bool) (v : T) → length s ≤ width → AreNodes width m n → AreNodes width (with_entry m s v) (with_needed n s)
-  insert_nodes width m n s v short good = record {
-    within = λ q e. elim (which n s q e) [ inl w ↦ omega (arith, begins-length q s w.begins_it, short) | inr h ↦ good.within q h ];
-    depths = λ q e. elim (which n s q e) [ inl w ↦ w.five | inr h ↦ good.depths q h ];
-    rooted = in_old n s [] good.rooted;
-    closed = λ r q e b five. elim (which n s q e) [
-      | inl w ↦ in_new n s r five (begins-trans r q s b w.begins_it)
-      | inr h ↦ in_old n s r (good.closed r q h b five)
-    ];
-    hold_needed = λ q e. elim (needed_with m s q v e) [
-      | inl w ↦ in_new n s q w.five w.begins_it
-      | inr h ↦ in_old n s q (good.hold_needed q h)
-    ];
-  }
-
-  stored_same : (m : Entries T) (s q : List Bool) (v : T) → contains_key m s ≡ true → has_node (needed (with_entry m s v)) q ≡ true → has_node (needed m) q ≡ true
-  stored_same m s q v has e = elim (needed_with m s q v e) [ inl w ↦ needs m q s w.five has w.begins_it | inr h ↦ h ]
-
-  stored_nodes : (width : ℕ) (m : Entries T) (n : Nodes) (s : List Bool) (v : T) → contains_key m s ≡ true → AreNodes width m n → AreNodes width (with_entry m s v) n
-  stored_nodes width m n s v has good = record { within = good.within; depths = good.depths; rooted = good.rooted; closed = good.closed; hold_needed = λ q e. good.hold_needed q (stored_same m s q v has e) }
-
-  more_needed : (m : Entries T) (s q : List Bool) (v : T) → has_node (needed m) q ≡ true → has_node (needed (with_entry m s v)) q ≡ true
-  more_needed m s q v e =
-      elim (needed_for m q e) [
-        | inl root ↦ subst (λ x. has_node (needed (with_entry m s v)) x ≡ true) (sym root) (needs_root (with_entry m s v))
-        | inr why ↦ needs (with_entry m s v) q why.key why.five (old_key m s why.key v why.stored) why.begins_it
-      ]
-
-  pub needed_insert : (m : Entries T) (s : List Bool) (v : T) → with_needed (needed m) s ≡ needed (with_entry m s v)
-  needed_insert m s v =
-      same_nodes (with_needed (needed m) s) (needed (with_entry m s v))
-      (λ q e. elim (which (needed m) s q e) [ inl w ↦ needs (with_entry m s v) q s w.five (new_key m s v) w.begins_it | inr h ↦ more_needed m s q v h ])
-      (λ q e. elim (needed_with m s q v e) [ inl w ↦ in_new (needed m) s q w.five w.begins_it | inr h ↦ in_old (needed m) s q h ])
-
-  pub needed_stored : (m : Entries T) (s : List Bool) (v : T) → contains_key m s ≡ true → needed m ≡ needed (with_entry m s v)
-  needed_stored m s v has = same_nodes (needed m) (needed (with_entry m s v)) (λ q. more_needed m s q v) (λ q. stored_same m s q v has)
-
-  empty_nodes : (width : ℕ) → AreNodes width (no_entries {T = T}) root_alone
-  empty_nodes width = record {
-    within = λ s e. omega (arith, ap length (root_only s e));
-    depths = λ s e. ap (λ x. length x % 5) (root_only s e);
-    rooted = has-root_alone [] ∙ refl;
-    closed = λ s t e b five. begun s (subst (λ x. begins s x ≡ true) (root_only t e) b);
-    hold_needed = λ s e. elim (needed_for (no_entries {T = T}) s e) [
-      | inl root ↦ subst (λ x. has_node root_alone x ≡ true) (sym root) (has-root_alone [] ∙ refl)
-      | inr why ↦ absurd (true≢false (sym why.stored ∙ has_none why.key))
-    ];
-  }
-    where
-      root_only : (s : List Bool) → has_node root_alone s ≡ true → s ≡ []
-      root_only s e = same_string-is s [] (sym (has-root_alone s) ∙ e)
-
-      begun : (s : List Bool) → begins s [] ≡ true → has_node root_alone s ≡ true
-      begun [] b = has-root_alone [] ∙ refl
-      begun (x ∷ xs) b = absurd (too_long x xs b)
-
-      has_none : (k : List Bool) → contains_key (no_entries {T = T}) k ≡ false
-      has_none k = ap is_some (get-empty listing_cmp k)
-
   -- keys within the width stay so
   insert_within : (width : ℕ) (m : Entries T) (s : List Bool) (v : T) → length s ≤ width → AreWithin width m → AreWithin width (with_entry m s v)
   insert_within width m s v short within k e = elim (key_cases m s k v e) [ inl is ↦ subst (λ x. length x ≤ width) (sym is) short | inr old ↦ within k old ]
@@ -129,15 +26,12 @@ module _ {T : Type 0} where
   part_fewer m n k e = and-second (nat_le n (length k)) (contains_key m k) (sym (has-retained m (λ s. nat_le n (length s)) k) ∙ e)
 
   pub nodes_cond : (width : ℕ) (m : Entries T) (n : Nodes) (s : List Bool) (v : T) → length s ≤ width → AreNodes width m n → (b : Bool) → contains_key m s ≡ b → AreNodes width (with_entry m s v) (cond b n (with_needed n s))
-  nodes_cond width m n s v short good true e = stored_nodes width m n s v e good
-  nodes_cond width m n s v short good false e = insert_nodes width m n s v short good
+  nodes_cond width m n s v short good true e = AreNodes-stored width m n s v good e
+  nodes_cond width m n s v short good false e = AreNodes-with_entry width m n s v good short
 
   pub tidy_cond : (m : Entries T) (n : Nodes) (s : List Bool) (v : T) → IsTidy m n → (b : Bool) → contains_key m s ≡ b → IsTidy (with_entry m s v) (cond b n (with_needed n s))
   tidy_cond m n s v tidy true e = tidy ∙ needed_stored m s v e
   tidy_cond m n s v tidy false e = ap (λ x. with_needed x s) tidy ∙ needed_insert m s v
-
-empty_tidy : (T : Type 0) → root_alone ≡ needed (no_entries {T = T})
-empty_tidy T = same_nodes root_alone (needed (no_entries {T = T})) (λ s e. subst (λ x. has_node (needed (no_entries {T = T})) x ≡ true) (sym (same_string-is s [] (sym (has-root_alone s) ∙ e))) (needs_root (no_entries {T = T}))) (λ s e. (empty_nodes {T = T} 0).hold_needed s e)
 
 none_within : (T : Type 0) (width : ℕ) → AreWithin width (no_entries {T = T})
 none_within T width k e = absurd (true≢false (sym e ∙ ap is_some (get-empty listing_cmp k)))
@@ -159,13 +53,13 @@ module _ {P T : Type 0} (path : P → List Bool) (back : List Bool → P) (width
   stays_map s (Remove q) reply t fits (r, e) h =
       subst (IsMap width) (sym e) (record { keys_within = fewer_within width s.entries (without_entry s.entries (path q)) (removed_fewer s.entries (path q)) h.keys_within; are_nodes = (remove_law width s.entries s.nodes (path q) h.are_nodes).are_nodes })
   stays_map s (RemoveKeepTree q) reply t fits (r, e) h =
-      subst (IsMap width) (sym e) (record { keys_within = fewer_within width s.entries (without_entry s.entries (path q)) (removed_fewer s.entries (path q)) h.keys_within; are_nodes = for_fewer width s.entries (without_entry s.entries (path q)) s.nodes (removed_fewer s.entries (path q)) h.are_nodes })
+      subst (IsMap width) (sym e) (record { keys_within = fewer_within width s.entries (without_entry s.entries (path q)) (removed_fewer s.entries (path q)) h.keys_within; are_nodes = AreNodes-without_entry width s.entries s.nodes (path q) h.are_nodes })
   stays_map s (RemoveChildren q) reply t fits (r, e) h =
       subst (IsMap width) (sym e) (record { keys_within = fewer_within width s.entries (without_below s.entries (path q)) (below_fewer s.entries (path q)) h.keys_within; are_nodes = (remove_children_law width s.entries s.nodes (path q) h.are_nodes).are_nodes })
   stays_map s (RetainAtLeast n) reply t fits (r, e) h =
       let within = fewer_within width s.entries (part_at_least s.entries n) (part_fewer s.entries n) h.keys_within in
-      subst (IsMap width) (sym e) (record { keys_within = within; are_nodes = needed_are_nodes width (part_at_least s.entries n) within })
-  stays_map s Clear reply t fits (r, e) h = subst (IsMap width) (sym e) (record { keys_within = none_within T width; are_nodes = empty_nodes width })
+      subst (IsMap width) (sym e) (record { keys_within = within; are_nodes = AreNodes-needed width (part_at_least s.entries n) within })
+  stays_map s Clear reply t fits (r, e) h = subst (IsMap width) (sym e) (record { keys_within = none_within T width; are_nodes = AreNodes-no_entries width })
   stays_map s Len reply t fits (r, e) h = same_state s t e h
   stays_map s NodeCount reply t fits (r, e) h = same_state s t e h
   stays_map s AddressCount reply t fits (r, e) h = same_state s t e h
@@ -191,7 +85,7 @@ module _ {P T : Type 0} (path : P → List Bool) (back : List Bool → P) (width
   stays_tidy s (RemoveKeepTree q) reply t other (r, e) h tidy = absurd (other q refl)
   stays_tidy s (RemoveChildren q) reply t other (r, e) h tidy = subst TidyState (sym e) ((remove_children_law width s.entries s.nodes (path q) h.are_nodes).stays_tidy tidy)
   stays_tidy s (RetainAtLeast n) reply t other (r, e) h tidy = subst TidyState (sym e) refl
-  stays_tidy s Clear reply t other (r, e) h tidy = subst TidyState (sym e) (empty_tidy T)
+  stays_tidy s Clear reply t other (r, e) h tidy = subst TidyState (sym e) (tidy-no_entries T)
   stays_tidy s Len reply t other (r, e) h tidy = same_tidy s t e tidy
   stays_tidy s NodeCount reply t other (r, e) h tidy = same_tidy s t e tidy
   stays_tidy s AddressCount reply t other (r, e) h tidy = same_tidy s t e tidy
@@ -242,26 +136,26 @@ from-no : (b : Bool) → not b ≡ false → b ≡ true
 from-no true e = refl
 from-no false e = absurd (true≢false e)
 
+away_from : {X : Type 0} (b : Bool) (x y : X) → b ≡ false → cond b x y ≡ y
+away_from b x y e = ap (λ c. cond c x y) e
+
+at_least : {X : Type 0} (b : Bool) (x y : X) → not b ≡ false → cond b x y ≡ x
+at_least b x y e = ap (λ c. cond c x y) (from-no b e)
+
 module _ {P T : Type 0} (path : P → List Bool) (back : List Bool → P) (width : ℕ) where
   still : (s t : State T) (k : List Bool) → t ≡ s → get t.entries k ≡ get s.entries k
   still s t k e = ap (λ x. get x.entries k) e
 
-  without_other : (m : Entries T) (q k : List Bool) → same_string k q ≡ false → get (without_entry m q) k ≡ get m k
-  without_other m q k e = get-remove listing_total m q k ∙ ap (λ b. cond b None (get m k)) e
-
-  kept_part : (m : Entries T) (p : List Bool → Bool) (k : List Bool) → p k ≡ true → get (retain_keys m p) k ≡ get m k
-  kept_part m p k e = get-retain_keys m p k (λ x h. ap p (sym (listing_same k x h))) ∙ ap (λ b. cond b (get m k) None) e
-
   pub untouched : (s : State T) (call : Call P T) (reply : Reply P T) (t : State T) (k : List Bool) → touches path call k ≡ false → Step path back width s call reply t → get t.entries k ≡ get s.entries k
-  untouched s (Insert q v) reply t k away (inl (r, e)) = ap (λ x. get x.entries k) e ∙ get-insert listing_total s.entries (path q) v k ∙ ap (λ b. cond b (Some v) (get s.entries k)) away
+  untouched s (Insert q v) reply t k away (inl (r, e)) = ap (λ x. get x.entries k) e ∙ get-with_entry s.entries (path q) v k ∙ away_from (same_string k (path q)) _ _ away
   untouched s (Insert q v) reply t k away (inr (_, cause, r, e)) = still s t k e
   untouched s (Get q) reply t k away (r, e) = still s t k e
   untouched s (Lpm q) reply t k away (r, e) = still s t k e
   untouched s (Spm q) reply t k away (r, e) = still s t k e
-  untouched s (Remove q) reply t k away (r, e) = ap (λ x. get x.entries k) e ∙ without_other s.entries (path q) k away
-  untouched s (RemoveKeepTree q) reply t k away (r, e) = ap (λ x. get x.entries k) e ∙ without_other s.entries (path q) k away
-  untouched s (RemoveChildren q) reply t k away (r, e) = ap (λ x. get x.entries k) e ∙ kept_part s.entries (λ x. not (begins (path q) x)) k (ap not away)
-  untouched s (RetainAtLeast n) reply t k away (r, e) = ap (λ x. get x.entries k) e ∙ kept_part s.entries (λ x. nat_le n (length x)) k (from-no (nat_le n (length k)) away)
+  untouched s (Remove q) reply t k away (r, e) = ap (λ x. get x.entries k) e ∙ get-without_entry s.entries (path q) k ∙ away_from (same_string k (path q)) _ _ away
+  untouched s (RemoveKeepTree q) reply t k away (r, e) = ap (λ x. get x.entries k) e ∙ get-without_entry s.entries (path q) k ∙ away_from (same_string k (path q)) _ _ away
+  untouched s (RemoveChildren q) reply t k away (r, e) = ap (λ x. get x.entries k) e ∙ get-without_below s.entries (path q) k ∙ away_from (begins (path q) k) _ _ away
+  untouched s (RetainAtLeast n) reply t k away (r, e) = ap (λ x. get x.entries k) e ∙ get-part_at_least s.entries n k ∙ at_least (nat_le n (length k)) _ _ away
   untouched s Clear reply t k away h = absurd (true≢false away)
   untouched s Len reply t k away (r, e) = still s t k e
   untouched s NodeCount reply t k away (r, e) = still s t k e
@@ -293,19 +187,39 @@ module _ {T : Type 0} where
   set_and_removed : (width : ℕ) (m : Entries T) (s : List Bool) (v : T) → AreWithin width m → length s ≤ width → get m s ≡ None → (without_entry (with_entry m s v) s ≡ m) × (nodes_without (with_needed (needed m) s) (with_entry m s v) s ≡ needed m)
   set_and_removed width m s v within short none =
       let same : without_entry (with_entry m s v) s ≡ m =
-      same_map listing_total listing_same (without_entry (with_entry m s v) s) m
-      (λ q. get-remove listing_total (with_entry m s v) s q ∙ ap (cond (same_string q s) None) (get-insert listing_total m s v q) ∙ undone (same_string q s) m s q v refl none) in (
+      same_entries (without_entry (with_entry m s v) s) m
+      (λ q. get-without_entry (with_entry m s v) s q ∙ ap (cond (same_string q s) None) (get-with_entry m s v q) ∙ undone (same_string q s) m s q v refl none) in (
         same,
-        (remove_law width (with_entry m s v) (with_needed (needed m) s) s (insert_nodes width m (needed m) s v short (needed_are_nodes width m within))).stays_tidy (needed_insert m s v)
+        (remove_law width (with_entry m s v) (with_needed (needed m) s) s (AreNodes-with_entry width m (needed m) s v (AreNodes-needed width m within) short)).stays_tidy (needed_insert m s v)
             ∙ ap needed same,
       )
 
+module _ {P T : Type 0} (path : P → List Bool) (back : List Bool → P) (width : ℕ) where
+  keeps : (s : State T) (call : Call P T) (reply : Reply P T) (t : State T) → Step path back width s call reply t → StepKeeps path back width s call reply t
+  keeps s call reply t step = record {
+    stays_map = λ fits h. stays_map path back width s call reply t fits step h;
+    stays_tidy = λ other h tidy. stays_tidy path back width s call reply t other step h tidy;
+    untouched = λ k away. untouched path back width s call reply t k away step;
+    refused_as_before = λ cause e. refused_as_before path back width s call cause t (subst (λ r. Step path back width s call r t) e step);
+  }
+
+  pub run_stays_map : (s : State T) (calls : List (Call P T)) (replies : List (Reply P T)) (t : State T) → All (CallFits (λ q. length (path q) ≤ width)) calls → Run path back width s calls replies t → IsMap width s → IsMap width t
+  run_stays_map s [] replies t fit (none, e) h = subst (IsMap width) (sym e) h
+  run_stays_map s (c ∷ cs) replies t fit (reply, later, mid, e, step, ran) h =
+      run_stays_map mid cs later t (All-tail (CallFits (λ q. length (path q) ≤ width)) c cs fit) ran (stays_map path back width s c reply mid (All-head (CallFits (λ q. length (path q) ≤ width)) c cs fit) step h)
+
+  pub run_stays_tidy : (s : State T) (calls : List (Call P T)) (replies : List (Reply P T)) (t : State T) → All (CallFits (λ q. length (path q) ≤ width)) calls → All (λ call. (q : P) → call ≢ RemoveKeepTree q) calls → Run path back width s calls replies t → IsMap width s → IsTidy s.entries s.nodes → IsTidy t.entries t.nodes
+  run_stays_tidy s [] replies t fit other (none, e) h tidy = subst (λ x. IsTidy x.entries x.nodes) (sym e) tidy
+  run_stays_tidy s (c ∷ cs) replies t fit other (reply, later, mid, e, step, ran) h tidy =
+      run_stays_tidy mid cs later t (All-tail (CallFits (λ q. length (path q) ≤ width)) c cs fit) (All-tail (λ call. (q : P) → call ≢ RemoveKeepTree q) c cs other) ran
+      (stays_map path back width s c reply mid (All-head (CallFits (λ q. length (path q) ≤ width)) c cs fit) step h)
+      (stays_tidy path back width s c reply mid (All-head (λ call. (q : P) → call ≢ RemoveKeepTree q) c cs other) step h tidy)
+
 pub step_laws : (P T : Type 0) → StepLaws P T
 step_laws P T = record {
-  stays_map = stays_map;
-  stays_tidy = stays_tidy;
-  untouched = untouched;
-  refused_as_before = refused_as_before;
+  of_step = keeps;
+  run_stays_map = run_stays_map;
+  run_stays_tidy = run_stays_tidy;
   runs_join = runs_join;
   set_and_removed = set_and_removed;
 }

@@ -1,34 +1,22 @@
 -- How many beginnings of a question a set of nodes has.
-use Rattle.std.proofs.Common.{◌≡◌, suc, ℕ, ◌+◌, ◌*◌, ◌/◌, ◌%◌, ◌≤◌, ◌<◌, Bool, true, false, cond, ◌&&◌, ◌||◌, nat_le, T, List, [], ◌∷◌, length, map, filter, is_lt, Some, None, refl, sym, ap, ◌∙◌, arith, true≢false, Option}
-use Rattle.std.proofs.Common.{take, is_some, length-take-le, nat_lt, ◌⊎◌, inl, inr}
+use Rattle.std.proofs.Common.{◌≡◌, suc, ℕ, ◌+◌, ◌*◌, ◌/◌, ◌%◌, ◌≤◌, ◌<◌, Bool, true, false, cond, ◌&&◌, ◌||◌, nat_le, T, List, [], ◌∷◌, length, map, filter, is_lt, Some, None, refl, sym, ap, ◌∙◌, arith, true≢false, Option, take, is_some, length-take-le, nat_lt, ◌⊎◌, inl, inr, leb-true, le-leb}
 use Rattle.std.proofs.lemmas.Bool.Decides.{nat_tests}
-use Rattle.std.specs.FinMap.{find, get-entries}
-use Rattle.std.specs.FinMap.Entries.{find-where_key}
-use Rattle.prefix_trie_bits.specs.Begins.{take-begins, begins-linear}
-use Rattle.prefix_trie_bits.specs.Order.{listing_same}
-use Rattle.prefix_trie_bits.proofs.Model.Ordered.{each-behind}
-use Rattle.prefix_trie_bits.proofs.Model.Members.{same_string-is}
-use Rattle.std.proofs.Common.{leb-true, le-leb}
-use Rattle.std.specs.FinMap.{contains_key}
-use Rattle.prefix_trie_bits.specs.Begins.{begins-trans, same_bool}
-use Rattle.prefix_trie_bits.specs.Model.Nodes.{home}
-use Rattle.prefix_trie_bits.proofs.Model.Members.{needs, and-join}
-use Rattle.prefix_trie_bits.proofs.Model.Homes.{home-depth, home-begins}
-use Rattle.prefix_trie_bits.proofs.Model.Matches.{match_laws}
+use Rattle.std.specs.FinMap.{find, get-entries, contains_key, entries, entries_sorted, keys, contains_key-keys, is_sorted}
+use Rattle.std.specs.FinMap.Entries.{find-where_key, below_all, is_sorted-where_key}
 use Rattle.std.specs.List.{list_any}
-use Rattle.std.specs.FinMap.{entries, entries_sorted, keys, contains_key-keys, is_sorted}
-use Rattle.std.specs.FinMap.Entries.{below_all, is_sorted-where_key}
+use Rattle.prefix_trie_bits.specs.Begins.{take-begins, begins-linear, begins-trans, same_bool, begins-length}
+use Rattle.prefix_trie_bits.specs.Order.{listing_same, listing_cmp, same_string}
 use Rattle.prefix_trie_bits.specs.Bits.{begins}
-use Rattle.prefix_trie_bits.specs.Begins.{begins-length}
-use Rattle.prefix_trie_bits.specs.Order.{listing_cmp, same_string}
+use Rattle.prefix_trie_bits.specs.Model.Nodes.{home, Nodes, has_node, AreNodes}
 use Rattle.prefix_trie_bits.specs.Model.Entries.{Entries}
 use Rattle.prefix_trie_bits.specs.Model.Matches.{shortest_match}
-use Rattle.prefix_trie_bits.specs.Model.Nodes.{Nodes, has_node, AreNodes}
 use Rattle.prefix_trie_bits.specs.Model.Visits.{visits, visits_of_match, visits_to_match}
 use Rattle.prefix_trie_bits.specs.Laws.Visits.{VisitLaws}
-use Rattle.prefix_trie_bits.proofs.Model.Members.{and-first, and-second, or-left, or-right, is-same_string, of-key}
+use Rattle.prefix_trie_bits.proofs.Model.Ordered.{each-behind, t-true, true-t, lt-less, shorter-first, sorted-tail, sorted-head}
+use Rattle.prefix_trie_bits.proofs.Model.Homes.{home-depth, home-begins}
+use Rattle.prefix_trie_bits.proofs.Model.Matches.{match_laws}
+use Rattle.prefix_trie_bits.proofs.Model.Members.{some-value, same_string-is, needs, and-join, and-first, and-second, or-left, or-right, is-same_string, of-key}
 use Rattle.prefix_trie_bits.proofs.Model.Pruning.{begins-nil}
-use Rattle.prefix_trie_bits.proofs.Model.Ordered.{t-true, true-t, lt-less, shorter-first, sorted-tail, sorted-head}
 
 deeper : (l d k : ℕ) → l % 5 ≡ 0 → 5 * d ≡ k → k < l → 5 * (d + 1) ≤ l
 deeper l d k five is h = omega (arith, five, is, h)
@@ -159,10 +147,6 @@ module _ {X : Type 0} where
         | false ↦ λ _ g. g
       ] refl h
 
-  some-found : (o : Option X) → is_some o ≡ true → (v : X) × (o ≡ Some v)
-  some-found None e = absurd (true≢false (sym e))
-  some-found (Some v) e = (v, refl)
-
   at-least : (q : List Bool) (k c d : ℕ) (es : List (List Bool × X)) → 5 * k ≤ length q → c ≤ k + 1 → T (is_sorted listing_cmp es) → Along q d es → HasFrom q c k es → k + 1 ≤ length es + c
   at-least q k c d [] short le h a has =
       elim (nat_lt k c) as (λ b. nat_lt k c ≡ b → k + 1 ≤ 0 + c) [
@@ -183,7 +167,7 @@ module _ {X : Type 0} where
                   (λ j from to. in-tail (take (5 * j) q) e es (λ equal. other-length c j here (take (5 * j) q) here_long (take-long j k q to short) (omega (arith, from)) (is ∙ sym equal)) (has j (omega (arith, from)) to)) in
                   omega (arith, rest)
               | false ↦ λ other.
-                  let behind = some-found (find listing_cmp here es) (in-tail here e es (λ equal. true≢false (sym (is-same_string here e.0 equal) ∙ other)) (has c (omega arith) ge)) in
+                  let behind = some-value (find listing_cmp here es) (in-tail here e es (λ equal. true≢false (sym (is-same_string here e.0 equal) ∙ other)) (has c (omega arith) ge)) in
                   let less = each-behind e.0 es here behind.0 (sorted-head e es h) behind.1 in
                   let shorter = shorter-first q e.0 here a.0 (take-begins (5 * c) q) less in
                   let rest = at-least q k c d es short le (sorted-tail e es h) a.3
@@ -252,7 +236,7 @@ begins-within k q s e =
 module _ {T : Type 0} where
   to_match : (width : ℕ) (m : Entries T) (n : Nodes) (q : List Bool) (e : List Bool × T) → AreNodes width m n → shortest_match m q ≡ Some e → visits_to_match m n q ≡ length e.0 / 5 + 1
   to_match width m n q e good is =
-      let found = ((match_laws T).first_is_shortest m q e).0 is in
+      let found = ((match_laws T).shortest_is m q e).0 is in
       let stored : contains_key m e.0 ≡ true = ap is_some found.matches.stored in
       let node : has_node n (home e.0) ≡ true = good.hold_needed (home e.0) (needs m (home e.0) e.0 (home-depth e.0) stored (home-begins e.0)) in
       ap (visits_of_match n q) is

@@ -10,22 +10,12 @@ use Rattle.prefix_trie_bits.specs.Model.Matches.{first_item}
 use Rattle.prefix_trie_bits.specs.Model.Nodes.{Nodes, home, needed, nodes_without_below}
 use Rattle.prefix_trie_bits.specs.Model.Visits.{visits_of_match, visits_to_match}
 use Rattle.prefix_trie_bits.specs.Model.WritingWalk.{WritingWalk, walk_over}
-use Rattle.prefix_trie_bits.specs.Model.Step.{State, Call, Insert, Remove, RemoveKeepTree, Refusal, Run}
-use Rattle.prefix_trie_bits.specs.Rows.{path_at, back_at, new_map}
+use Rattle.prefix_trie_bits.specs.Model.Step.{State}
+use Rattle.prefix_trie_bits.specs.Rows.Examples.{path_at, back_at}
 use Rattle.prefix_trie_bits.specs.Facts.{Visits32, Visits128, VisitsToMatch, TwoFarKeys, KeptTree, OwnEntries, SmallestSizes, GrownCells, GrownNodes, NoBlocks, OddAskings, WrittenWalk, HandedOut, FactsHold, at_slot}
-use Rattle.prefix_trie_bits.proofs.Model.Plain.{from_new, ends, keys_of, Shows, Marks, calls_of, play_all, end_entries, end_nodes, needed-is, needed_marks, pruned_marks, marks_not_below, nodes_without_below-is}
+use Rattle.prefix_trie_bits.proofs.Model.Plain.{keys_of, Shows, Marks, needed-is, needed_marks, pruned_marks, marks_not_below, nodes_without_below-is}
 use Rattle.prefix_trie_bits.proofs.Model.Ordered.{entries-retained}
-
-abbrev Calls : Type 0
-Calls = List (Call (ℕ × ℕ) ℕ × Option Refusal)
-
--- the run of the plain model, with a property of where it ends
-after : (width : ℕ) (cs : Calls) (Holds : State ℕ → Type 0)
-    → ((t : State ℕ) → Shows t (end_entries (path_at width) (back_at width) width [] (([], tt) ∷ []) cs) (end_nodes (path_at width) (back_at width) width [] (([], tt) ∷ []) cs) → Holds t)
-    → (t : State ℕ) × Run (path_at width) (back_at width) width new_map (calls_of (path_at width) (back_at width) width cs) (play_all (path_at width) (back_at width) width [] (([], tt) ∷ []) cs) t × Holds t
-after width cs Holds shows =
-    let ran = from_new (path_at width) (back_at width) width cs in
-    (ran.0, ran.1, shows ran.0 (ends (path_at width) (back_at width) width cs))
+use Rattle.prefix_trie_bits.proofs.Model.Played.{leads}
 
 -- what is said of the lists of a state's entries and nodes
 said : {A : Type 0} (f : List (List Bool × ℕ) → Marks → A) (t : State ℕ) {es : List (List Bool × ℕ)} {ns : Marks} → Shows t es ns → f (entries t.entries) (entries t.nodes) ≡ f es ns
@@ -64,7 +54,7 @@ children_in p ns = length (filter (λ s. begins p s && (length s == length p + 5
 
 visits32 : Visits32
 unfolding digits number begins
-visits32 = after 32 ((Insert (0x01020300, 32) 1, None) ∷ (Insert (0x01020301, 32) 2, None) ∷ []) _ (λ t s. (
+visits32 = leads refl (λ t s. (
   said (λ es ns. visits_in (path_at 32 (0x01020301, 32)) ns) t s,
   to_match t.entries t.nodes (path_at 32 (0x01020301, 32)) ∙ said (λ es ns. to_match_in (path_at 32 (0x01020301, 32)) es ns) t s,
   said (λ es ns. visits_in (path_at 32 (0x01020301, 29)) ns) t s,
@@ -73,21 +63,21 @@ visits32 = after 32 ((Insert (0x01020300, 32) 1, None) ∷ (Insert (0x01020301, 
 
 visits128 : Visits128
 unfolding digits number begins
-visits128 = after 128 ((Insert (0, 125) 1, None) ∷ (Insert (1, 128) 2, None) ∷ []) _ (λ t s. (
+visits128 = leads refl (λ t s. (
   said (λ es ns. visits_in (path_at 128 (1, 128)) ns) t s,
   to_match t.entries t.nodes (path_at 128 (1, 128)) ∙ said (λ es ns. to_match_in (path_at 128 (1, 128)) es ns) t s,
 ))
 
 visits_to_first : VisitsToMatch
 unfolding digits number begins
-visits_to_first = after 32 ((Insert (0x0a000000, 8) 0, None) ∷ (Insert (0x0a010000, 16) 1, None) ∷ (Insert (0x0a010100, 24) 2, None) ∷ (Insert (0x0a010100, 25) 4, None) ∷ []) _ (λ t s. (
+visits_to_first = leads refl (λ t s. (
   said (λ es ns. visits_in (path_at 32 (0x0a010100, 24)) ns) t s,
   to_match t.entries t.nodes (path_at 32 (0x0a010100, 24)) ∙ said (λ es ns. to_match_in (path_at 32 (0x0a010100, 24)) es ns) t s,
 ))
 
 two_far_keys : TwoFarKeys
 unfolding digits number begins
-two_far_keys = after 32 ((Insert (0, 32) 1, None) ∷ (Remove (0, 32), None) ∷ (Insert (0xffffffff, 32) 2, None) ∷ (Insert (0, 32) 3, None) ∷ []) _ (λ t s. (
+two_far_keys = leads refl (λ t s. (
   said (λ es ns. length (parents_in ns)) t s,
   said (λ es ns. length (holders_in es ns)) t s,
   said (λ es ns. children_in [] ns) t s,
@@ -96,7 +86,7 @@ two_far_keys = after 32 ((Insert (0, 32) 1, None) ∷ (Remove (0, 32), None) ∷
 
 kept_tree : KeptTree
 unfolding digits number begins
-kept_tree = after 32 ((Insert (0, 16) 1, None) ∷ (RemoveKeepTree (0, 16), None) ∷ []) _ (λ t s. (
+kept_tree = leads refl (λ t s. (
   said (λ es ns. length (parents_in ns)) t s,
   said (λ es ns. holders_in es ns) t s,
   said (λ es ns. visits_in (path_at 32 (0, 32)) ns) t s,
@@ -104,7 +94,7 @@ kept_tree = after 32 ((Insert (0, 16) 1, None) ∷ (RemoveKeepTree (0, 16), None
 
 own : OwnEntries
 unfolding digits number begins
-own = after 8 ((Insert (0, 1) 1, None) ∷ (Insert (128, 1) 2, None) ∷ (Insert (0, 5) 3, None) ∷ []) _ (λ t s. (
+own = leads refl (λ t s. (
   said (λ es ns. own_in [] es) t s,
   said (λ es ns. own_in (path_at 8 (0, 5)) es) t s,
   said (λ es ns. length (holders_in es ns)) t s,
@@ -171,7 +161,7 @@ behind_in es = keys_of (filter (λ e. is_lt (listing_cmp (path_at 8 (5, 8)) e.0)
 
 written : WrittenWalk
 unfolding digits number begins
-written = after 8 ((Insert (0, 5) 1, None) ∷ (Insert (4, 6) 2, None) ∷ (Insert (6, 8) 3, None) ∷ (Insert (8, 5) 4, None) ∷ (Insert (128, 1) 5, None) ∷ []) _ (λ t s.
+written = leads refl (λ t s.
     let a = path_at 8 (6, 8) in
     let b = path_at 8 (8, 5) in
     let c = path_at 8 (128, 1) in
@@ -199,7 +189,7 @@ left_marks q es ns = cond (is_some (find listing_cmp (home q) ns)) (pruned_marks
 
 handed : HandedOut
 unfolding digits number begins
-handed = after 32 ((Insert (0xc0a80000, 21) 1, None) ∷ (Insert (0xc0a80000, 22) 2, None) ∷ (Insert (0xc0a80000, 23) 3, None) ∷ (Insert (0xc0a80000, 24) 4, None) ∷ (Insert (0xc0a80400, 22) 5, None) ∷ (Insert (0xc0a80400, 23) 6, None) ∷ []) _ (λ t s.
+handed = leads refl (λ t s.
     let q = path_at 32 (0xc0a80000, 22) in
     let m = part_below t.entries q in
     let listed = entries-retained t.entries (λ k. begins q k) ∙ ap (filter (λ e. begins q e.0)) s.of_entries in

@@ -1,9 +1,20 @@
 -- What a removal leaves of the nodes.
-use Rattle.std.specs.Prelude.{◌≡◌, ℕ, Bool, true, List}
+use Rattle.std.specs.Prelude.{◌≡◌, ◌≢◌, ◌↔◌, ℕ, Bool, true, false, List, []}
+use Rattle.std.specs.FinMap.{contains_key}
+use Rattle.prefix_trie_bits.specs.Bits.{begins}
 use Rattle.prefix_trie_bits.specs.Model.Entries.{Entries, without_entry, without_below}
-use Rattle.prefix_trie_bits.specs.Model.Nodes.{Nodes, has_node, needed, AreNodes, IsTidy, nodes_without, nodes_without_below}
+use Rattle.prefix_trie_bits.specs.Model.Nodes.{Nodes, has_node, home, needed, pruned, AreNodes, IsTidy, nodes_without, nodes_without_below}
 
 module _ {T : Type 0} where
+  -- the node t is taken out by a removal at q that leaves the entries m: q's own node is there, and t is on the way to it, is
+  -- not the root, begins no key that is left, and has only such nodes below it as are on the way too
+  pub record IsTakenOut (n : Nodes) (m : Entries T) (q t : List Bool) : Type 0 where
+    pub home_there : has_node n (home q) ≡ true
+    pub on_way : begins t (home q) ≡ true
+    pub not_root : t ≢ []
+    pub no_key : (k : List Bool) → contains_key m k ≡ true → begins t k ≡ false
+    pub alone : (u : List Bool) → has_node n u ≡ true → begins t u ≡ true → begins u (home q) ≡ true
+
   -- the nodes left lie between those that the entries left need and those that stood before, are the needed ones where they
   -- were so before, and are a set of nodes
   pub record IsPruning (width : ℕ) (m left : Entries T) (n nodes_left : Nodes) : Type 0 where
@@ -12,7 +23,13 @@ module _ {T : Type 0} where
     pub stays_tidy : IsTidy m n → IsTidy left nodes_left
     pub are_nodes : AreNodes width left nodes_left
 
--- of `remove` and of `remove_children`
 pub record PruningLaws (T : Type 0) : Type 0 where
-  pub of_remove : (width : ℕ) (m : Entries T) (n : Nodes) (q : List Bool) → AreNodes width m n → IsPruning width m (without_entry m q) n (nodes_without n m q)
-  pub of_remove_children : (width : ℕ) (m : Entries T) (n : Nodes) (q : List Bool) → AreNodes width m n → IsPruning width m (without_below m q) n (nodes_without_below n m q)
+  -- pruning takes out exactly these nodes, and adds none
+  pub in_words : (n : Nodes) (m : Entries T) (q t : List Bool) → has_node n t ≡ true
+      → (has_node (pruned n m q) t ≡ false) ↔ IsTakenOut n m q t
+  pub none_added : (n : Nodes) (m : Entries T) (q t : List Bool) → has_node (pruned n m q) t ≡ true → has_node n t ≡ true
+  -- of `remove` and of `remove_children`
+  pub of_remove : (width : ℕ) (m : Entries T) (n : Nodes) (q : List Bool) → AreNodes width m n
+      → IsPruning width m (without_entry m q) n (nodes_without n m q)
+  pub of_remove_children : (width : ℕ) (m : Entries T) (n : Nodes) (q : List Bool) → AreNodes width m n
+      → IsPruning width m (without_below m q) n (nodes_without_below n m q)

@@ -1,5 +1,5 @@
 -- What every step of the model keeps.
-use Rattle.std.specs.Prelude.{◌≡◌, ◌≢◌, ℕ, ◌≤◌, Bool, true, false, not, nat_le, List, length, ◌++◌, None}
+use Rattle.std.specs.Prelude.{◌≡◌, ◌≢◌, ℕ, ◌≤◌, Bool, true, false, not, nat_le, List, length, ◌++◌, None, All}
 use Rattle.std.specs.FinMap.{get}
 use Rattle.prefix_trie_bits.specs.Bits.{begins}
 use Rattle.prefix_trie_bits.specs.Order.{same_string}
@@ -12,7 +12,7 @@ pub record IsMap {T : Type 0} (width : ℕ) (s : State T) : Type 0 where
   pub keys_within : AreWithin width s.entries
   pub are_nodes : AreNodes width s.entries s.nodes
 
--- whether the call may write or remove the key k
+-- whether a call may set or remove the key k
 abbrev pub touches : {P T : Type 0} → (P → List Bool) → Call P T → List Bool → Bool
 touches path (Insert q v) k = same_string k (path q)
 touches path (Get q) k = false
@@ -31,18 +31,31 @@ touches path (ListFrom q inclusive) k = false
 touches path (Children q) k = false
 touches path (Cover q) k = false
 
+module _ {P T : Type 0} (path : P → List Bool) (back : List Bool → P) (width : ℕ) where
+  -- what a step from s to t keeps
+  pub record StepKeeps (s : State T) (call : Call P T) (reply : Reply P T) (t : State T) : Type 0 where
+    -- a map stays one, where the prefix that the call is handed fits
+    pub stays_map : CallFits (λ q. length (path q) ≤ width) call → IsMap width s → IsMap width t
+    -- a tidy map stays tidy, unless the call is `remove_keep_tree`
+    pub stays_tidy : ((q : P) → call ≢ RemoveKeepTree q) → IsMap width s → IsTidy s.entries s.nodes → IsTidy t.entries t.nodes
+    -- an entry that the call neither writes nor removes is as it was
+    pub untouched : (k : List Bool) → touches path call k ≡ false → get t.entries k ≡ get s.entries k
+    -- a refusal leaves the map as it was
+    pub refused_as_before : (cause : Refusal) → reply ≡ Refused cause → t ≡ s
+
 pub record StepLaws (P T : Type 0) : Type 0 where
-  pub stays_map : (path : P → List Bool) (back : List Bool → P) (width : ℕ) (s : State T) (call : Call P T) (reply : Reply P T) (t : State T)
-      → CallFits (λ q. length (path q) ≤ width) call → Step path back width s call reply t → IsMap width s → IsMap width t
-  pub stays_tidy : (path : P → List Bool) (back : List Bool → P) (width : ℕ) (s : State T) (call : Call P T) (reply : Reply P T) (t : State T)
-      → ((q : P) → call ≢ RemoveKeepTree q) → Step path back width s call reply t → IsMap width s → IsTidy s.entries s.nodes → IsTidy t.entries t.nodes
-  -- an entry that a call neither writes nor removes is as it was
-  pub untouched : (path : P → List Bool) (back : List Bool → P) (width : ℕ) (s : State T) (call : Call P T) (reply : Reply P T) (t : State T) (k : List Bool)
-      → touches path call k ≡ false → Step path back width s call reply t → get t.entries k ≡ get s.entries k
-  pub refused_as_before : (path : P → List Bool) (back : List Bool → P) (width : ℕ) (s : State T) (call : Call P T) (cause : Refusal) (t : State T)
-      → Step path back width s call (Refused cause) t → t ≡ s
+  pub of_step : (path : P → List Bool) (back : List Bool → P) (width : ℕ) (s : State T) (call : Call P T) (reply : Reply P T) (t : State T)
+      → Step path back width s call reply t → StepKeeps path back width s call reply t
+  -- a run from a map leads to a map
+  pub run_stays_map : (path : P → List Bool) (back : List Bool → P) (width : ℕ) (s : State T) (calls : List (Call P T)) (replies : List (Reply P T)) (t : State T)
+      → All (CallFits (λ q. length (path q) ≤ width)) calls → Run path back width s calls replies t → IsMap width s → IsMap width t
+  -- and a tidy one to a tidy one, where no call is `remove_keep_tree`
+  pub run_stays_tidy : (path : P → List Bool) (back : List Bool → P) (width : ℕ) (s : State T) (calls : List (Call P T)) (replies : List (Reply P T)) (t : State T)
+      → All (CallFits (λ q. length (path q) ≤ width)) calls → All (λ call. (q : P) → call ≢ RemoveKeepTree q) calls
+      → Run path back width s calls replies t → IsMap width s → IsTidy s.entries s.nodes → IsTidy t.entries t.nodes
+  -- two runs, the second from where the first one led, are one
   pub runs_join : (path : P → List Bool) (back : List Bool → P) (width : ℕ) (s t u : State T) (calls more : List (Call P T)) (replies rest : List (Reply P T))
       → Run path back width s calls replies t → Run path back width t more rest u → Run path back width s (calls ++ more) (replies ++ rest) u
-  -- setting a new key of a tidy map and removing it again leaves the nodes as they were
+  -- a new key set in a tidy map and removed again leaves its entries and its nodes as they were
   pub set_and_removed : (width : ℕ) (m : Entries T) (s : List Bool) (v : T) → AreWithin width m → length s ≤ width → get m s ≡ None
       → (without_entry (with_entry m s v) s ≡ m) × (nodes_without (with_needed (needed m) s) (with_entry m s v) s ≡ needed m)

@@ -6,20 +6,20 @@ use Rattle.std.specs.FinMap.{keys}
 use Rattle.prefix_trie_bits.specs.Bits.{begins}
 use Rattle.prefix_trie_bits.specs.Model.Entries.{Entries}
 
--- all bit strings of a length
-unfoldable pub strings : ℕ → List (List Bool)
-strings zero = [] ∷ []
-strings (suc w) = map (λ s. false ∷ s) (strings w) ++ map (λ s. true ∷ s) (strings w)
+-- all bit strings of a length, in listing order
+unfoldable pub full_strings : ℕ → List (List Bool)
+full_strings zero = [] ∷ []
+full_strings (suc w) = map (λ s. false ∷ s) (full_strings w) ++ map (λ s. true ∷ s) (full_strings w)
 
--- how many strings as long as the width some string of a list begins
+-- how many of the strings that are as long as the width some string of the list begins; each is counted once
 unfoldable pub covered : ℕ → List (List Bool) → ℕ
-covered width ks = length (filter (λ s. list_any (λ k. begins k s) ks) (strings width))
+covered width ks = length (filter (λ s. list_any (λ k. begins k s) ks) (full_strings width))
 
 module _ {T : Type 0} where
-  -- how many strings as long as the width some key begins
+  -- how many of the strings that are as long as the width some key begins
   abbrev pub addresses : ℕ → Entries T → ℕ
   addresses width m = covered width (keys m)
 
-  -- what `address_count` answers: nothing exactly if that is all of them
+  -- what `address_count` answers: None exactly if that is all of them
   abbrev pub address_answer : ℕ → Entries T → Option ℕ
   address_answer width m = cond (addresses width m == 2 ^ width) None (Some (addresses width m))

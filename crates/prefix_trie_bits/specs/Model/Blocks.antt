@@ -1,4 +1,4 @@
--- How an array is cut into blocks. The sizes are the crate's code's; the rest is this project's own.
+-- How an array is cut into blocks. The sizes are those of the crate's code; the rest is this project's own.
 use Rattle.std.specs.Prelude.{◌≡◌, ℕ, ◌+◌, Bool, ◌==◌, ◌&&◌, List, [], ◌∷◌, ◌++◌, Option, length, filter, find, Contains, IsPermutation, nat_le, nat_lt}
 use Rattle.std.specs.FinMap.{FinMap, keys}
 use Rattle.prefix_trie_bits.specs.Bits.{begins}
@@ -6,24 +6,24 @@ use Rattle.prefix_trie_bits.specs.Order.{listing_cmp}
 use Rattle.prefix_trie_bits.specs.Model.Entries.{Entries}
 use Rattle.prefix_trie_bits.specs.Model.Nodes.{Nodes}
 
--- the sizes of value blocks
+-- the sizes of value blocks, in slots
 abbrev pub value_block_sizes : List ℕ
 value_block_sizes = 1 ∷ 2 ∷ 4 ∷ 8 ∷ 16 ∷ 24 ∷ 31 ∷ []
 
--- the sizes of child blocks
+-- the sizes of child blocks, in slots
 abbrev pub child_block_sizes : List ℕ
 child_block_sizes = 1 ∷ 2 ∷ 4 ∷ 8 ∷ 16 ∷ 24 ∷ 32 ∷ []
 
--- the smallest of the sizes that holds n
+-- the smallest of the sizes that holds n items, if one does
 abbrev pub smallest_size : List ℕ → ℕ → Option ℕ
 smallest_size sizes n = find (λ size. nat_le n size) sizes
 
--- a block: where it starts, and its size
+-- a block: its first slot, and how many slots it has
 pub record Block : Type 0 where
   pub start : ℕ
   pub size : ℕ
 
--- each block has one of the sizes, the first starts at `first`, each next one where the one before ends, the last ends at `end`
+-- the blocks lie end to end from the slot `first` to the slot `end`, each of one of the sizes. Without blocks `end` is `first`
 abbrev pub Tiles : List ℕ → ℕ → List Block → ℕ → Type 0
 Tiles sizes first [] end = end ≡ first
 Tiles sizes first (b ∷ bs) end = Contains sizes b.size × (b.start ≡ first) × Tiles sizes (first + b.size) bs end
@@ -34,15 +34,15 @@ pub record AreBlocksOf (sizes : List ℕ) (first : ℕ) (live free : List Block)
   pub tiles : Tiles sizes first blocks end
   pub rearranged : IsPermutation (live ++ free) blocks
 
--- a size for each holder's value block, or for each parent's child block, by the node's path
+-- the size of each holder's value block, or of each parent's child block, by the string at which the node stands
 abbrev pub Sizes : Type 0
 Sizes = FinMap listing_cmp ℕ
 
 module _ {T : Type 0} where
-  -- how many entries are a node's own
+  -- how many entries belong to the node p itself
   abbrev pub own_entries : Entries T → List Bool → ℕ
   own_entries m p = length (filter (λ s. begins p s && nat_lt (length s) (length p + 5)) (keys m))
 
--- how many children a node has
+-- how many children the node p has
 abbrev pub child_count : Nodes → List Bool → ℕ
 child_count n p = length (filter (λ s. begins p s && (length s == length p + 5)) (keys n))

@@ -1,40 +1,40 @@
--- The entries of a map: a finite map from bit strings to values, and what the calls change in it.
--- From the crate's documentation of `PrefixMap`: two prefixes with the same path are one key.
+-- The entries of a map, and what the calls change in them.
+-- From the crate's documentation of `PrefixMap`: a key is a prefix's path, so two prefixes with the same path are one key.
 use Rattle.std.specs.Prelude.{◌≡◌, ℕ, ◌≤◌, Bool, true, not, List, [], ◌∷◌, length, nat_le}
 use Rattle.std.specs.FinMap.{FinMap, empty, contains_key, insert, remove, retain_keys}
 use Rattle.prefix_trie_bits.specs.Bits.{begins}
 use Rattle.prefix_trie_bits.specs.Order.{listing_cmp}
 
--- a finite map from bit strings to values, kept in listing order
+-- a finite map from bit strings to values, its pairs in listing order
 abbrev pub Entries : Type 0 → Type 0
 Entries T = FinMap listing_cmp T
 
 module _ {T : Type 0} where
-  -- the empty map
+  -- no entries
   abbrev pub no_entries : Entries T
   no_entries = empty
 
-  -- the map with s set to v
+  -- the entries with s set to v, whether s was stored or not
   abbrev pub with_entry : Entries T → List Bool → T → Entries T
   with_entry m s v = insert m s v
 
-  -- the map without s
+  -- the entries without s
   abbrev pub without_entry : Entries T → List Bool → Entries T
   without_entry m s = remove m s
 
-  -- the map without all keys that q begins
+  -- the entries without those whose keys q begins, q's own among them
   abbrev pub without_below : Entries T → List Bool → Entries T
   without_below m q = retain_keys m (λ s. not (begins q s))
 
-  -- the part of the map whose keys q begins
+  -- the entries whose keys q begins, q's own among them
   abbrev pub part_below : Entries T → List Bool → Entries T
   part_below m q = retain_keys m (λ s. begins q s)
 
-  -- the part of the map whose keys have at least n bits
+  -- the entries whose keys have n bits or more
   abbrev pub part_at_least : Entries T → ℕ → Entries T
   part_at_least m n = retain_keys m (λ s. nat_le n (length s))
 
-  -- the map after setting the key of each item in turn
+  -- the entries after the items are set in turn, each under its path: of two with the same path the later one stays
   abbrev pub put_all : {P : Type 0} → (P → List Bool) → List (P × T) → Entries T → Entries T
   put_all path [] m = m
   put_all path (x ∷ xs) m = put_all path xs (with_entry m (path x.0) x.1)

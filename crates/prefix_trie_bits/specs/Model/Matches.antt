@@ -1,4 +1,4 @@
--- The stored keys that begin a question, the longest and the shortest of them.
+-- The stored keys that begin a question, and the longest and the shortest of them.
 -- From the crate's documentation of `get_lpm`, `get_spm` and `cover`.
 use Rattle.std.specs.Prelude.{◌≡◌, ◌≤◌, Bool, true, List, [], ◌∷◌, length, Option, Some, None}
 use Rattle.std.specs.FinMap.{get, contains_key}
@@ -19,34 +19,34 @@ module _ {X : Type 0} where
   last_item (x ∷ y ∷ xs) = last_item (y ∷ xs)
 
 module _ {T : Type 0} where
-  -- the pairs whose keys begin the question, the shortest first
+  -- the pairs whose keys begin the question q, the shortest first
   abbrev pub covers : Entries T → List Bool → List (List Bool × T)
   covers m q = listing_covering m q
 
-  -- e is a pair of the map whose key begins the question
+  -- e is a pair of the map, and its key begins the question
   pub record IsMatch (m : Entries T) (q : List Bool) (e : List Bool × T) : Type 0 where
     pub stored : get m e.0 ≡ Some e.1
     pub begins_it : begins e.0 q ≡ true
 
-  -- no stored key that begins the question is longer
+  -- e is such a pair, and no stored key that begins the question is longer
   pub record IsLongestMatch (m : Entries T) (q : List Bool) (e : List Bool × T) : Type 0 where
     pub matches : IsMatch m q e
     pub longest : (s : List Bool) → contains_key m s ≡ true → begins s q ≡ true → length s ≤ length e.0
 
-  -- no stored key that begins the question is shorter
+  -- e is such a pair, and no stored key that begins the question is shorter
   pub record IsShortestMatch (m : Entries T) (q : List Bool) (e : List Bool × T) : Type 0 where
     pub matches : IsMatch m q e
     pub shortest : (s : List Bool) → contains_key m s ≡ true → begins s q ≡ true → length e.0 ≤ length s
 
-  -- the longest stored key that begins the question, with its value
+  -- the pair with the longest stored key that begins the question, if there is one
   abbrev pub longest_match : Entries T → List Bool → Option (List Bool × T)
   longest_match m q = last_item (covers m q)
 
-  -- the shortest stored key that begins the question, with its value
+  -- the pair with the shortest stored key that begins the question, if there is one
   abbrev pub shortest_match : Entries T → List Bool → Option (List Bool × T)
   shortest_match m q = first_item (covers m q)
 
-  -- what a match answers: the prefix rebuilt from its key, and its value
+  -- a match as users see it: in place of the key the prefix rebuilt from it
   abbrev pub shown_match : {P : Type 0} → (List Bool → P) → Option (List Bool × T) → Option (P × T)
   shown_match back None = None
   shown_match back (Some e) = Some (back e.0, e.1)

@@ -1,4 +1,4 @@
--- The listing of a map, and the selections that walks give: filters of the listing, which keep its order.
+-- The listing of a map, and the selections of it that walks give. Each is a filter of the listing, so it keeps the order.
 -- From the crate's documentation of `iter`, `iter_from`, `children` and `cover`.
 use Rattle.std.specs.Prelude.{Bool, List, map, filter}
 use Rattle.std.proofs.Common.{is_lt, is_le}
@@ -12,22 +12,22 @@ module _ {T : Type 0} where
   abbrev pub listing : Entries T → List (List Bool × T)
   listing m = entries m
 
-  -- those at q or after it
+  -- the pairs whose keys are q or after it
   abbrev pub listing_from : Entries T → List Bool → List (List Bool × T)
   listing_from m q = filter (λ e. is_le (listing_cmp q e.0)) (listing m)
 
-  -- those strictly after q
+  -- the pairs whose keys are strictly after q; extensions of q are
   abbrev pub listing_after : Entries T → List Bool → List (List Bool × T)
   listing_after m q = filter (λ e. is_lt (listing_cmp q e.0)) (listing m)
 
-  -- those whose keys q begins
+  -- the pairs whose keys q begins, q's own among them
   abbrev pub listing_below : Entries T → List Bool → List (List Bool × T)
   listing_below m q = filter (λ e. begins q e.0) (listing m)
 
-  -- those whose keys begin q
+  -- the pairs whose keys begin q, q's own among them; so the shorter keys first
   abbrev pub listing_covering : Entries T → List Bool → List (List Bool × T)
   listing_covering m q = filter (λ e. begins e.0 q) (listing m)
 
-  -- the items as users see them: each key as the prefix rebuilt from it
+  -- pairs as users see them: in place of each key the prefix rebuilt from it
   abbrev pub shown : {P : Type 0} → (List Bool → P) → List (List Bool × T) → List (P × T)
   shown back es = map (λ e. (back e.0, e.1)) es

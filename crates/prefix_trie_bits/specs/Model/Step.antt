@@ -1,22 +1,21 @@
--- What one call does to a map, and what it answers: the model's table.
--- From the crate's documentation of the calls; which nodes a removal leaves is this project's own.
+-- What each call answers, and what it makes of the map; and runs of calls.
+-- From the crate's documentation of the calls; that calls may be refused, and which nodes a removal leaves, is this project's own.
 use Rattle.std.specs.Prelude.{◌≡◌, ◌⊎◌, ℕ, Bool, false, cond, List, [], ◌∷◌, Option, ⊤}
 use Rattle.std.specs.FinMap.{get, contains_key, len}
+pub use Rattle.prefix_trie_bits.specs.declared.prefix.Refusal.{Refusal}
+pub use Rattle.prefix_trie_bits.specs.declared.prefix.Refusal.TheVariants.{Memory, IndexRange}
 use Rattle.prefix_trie_bits.specs.Model.Entries.{Entries, no_entries, with_entry, without_entry, without_below, part_at_least}
 use Rattle.prefix_trie_bits.specs.Model.Selections.{listing, listing_from, listing_after, listing_below, listing_covering, shown}
 use Rattle.prefix_trie_bits.specs.Model.Matches.{longest_match, shortest_match, shown_match}
 use Rattle.prefix_trie_bits.specs.Model.Nodes.{Nodes, root_alone, with_needed, needed, nodes_without, nodes_without_below}
 use Rattle.prefix_trie_bits.specs.Model.Addresses.{address_answer}
 
--- what a contract sees of a map: its entries and its nodes
+-- what contracts see of a map: its entries and its nodes
 pub record State (T : Type 0) : Type 0 where
   pub entries : Entries T
   pub nodes : Nodes
 
-pub data Refusal : Type 0 where
-  Memory : Refusal
-  IndexRange : Refusal
-
+-- a call, with what it is handed. `ListFrom q inclusive` asks for the entries after q, and where `inclusive` is true for q's too
 pub data Call (P T : Type 0) : Type 0 where
   Insert : P → T → Call P T
   Get : P → Call P T
@@ -35,6 +34,7 @@ pub data Call (P T : Type 0) : Type 0 where
   Children : P → Call P T
   Cover : P → Call P T
 
+-- a reply
 pub data Reply (P T : Type 0) : Type 0 where
   Value : Option T → Reply P T
   Match : Option (P × T) → Reply P T
@@ -45,7 +45,7 @@ pub data Reply (P T : Type 0) : Type 0 where
   Refused : Refusal → Reply P T
 
 module _ {P T : Type 0} where
-  -- the prefix that the call hands in, if any, fits
+  -- the prefix that a call is handed, if there is one, fits
   abbrev pub CallFits : (P → Type 0) → Call P T → Type 0
   CallFits Fits (Insert q v) = Fits q
   CallFits Fits (Get q) = Fits q
@@ -64,19 +64,20 @@ module _ {P T : Type 0} where
   CallFits Fits (Children q) = Fits q
   CallFits Fits (Cover q) = Fits q
 
-  -- a list of items was answered, or refused for want of memory; the map is as it was
+  -- the reply is the list of these items, or a refusal for want of memory; the map is as it was
   abbrev pub Lists : State T → List (P × T) → Reply P T → State T → Type 0
   Lists s items reply t = ((reply ≡ Items items) ⊎ (reply ≡ Refused Memory)) × (t ≡ s)
 
 module _ {S C R : Type 0} (OneStep : S → C → R → S → Type 0) where
-  -- the calls lead from s to t, one step and one reply for each call in turn
+  -- a run from s to t: one step and one reply for each call in turn
   abbrev pub Runs : S → List C → List R → S → Type 0
   Runs s [] replies t = (replies ≡ []) × (t ≡ s)
   Runs s (call ∷ calls) replies t =
       (reply : R) × (later : List R) × (u : S) × (replies ≡ reply ∷ later) × OneStep s call reply u × Runs u calls later t
 
 module _ {P T : Type 0} (path : P → List Bool) (back : List Bool → P) (width : ℕ) where
-  -- the call takes the map from s to t, with the reply
+  -- a step: the call, answered by the reply, takes the map from s to t. The insertion of a new key may be refused, for
+  -- whichever cause; the map is then as it was
   abbrev pub Step : State T → Call P T → Reply P T → State T → Type 0
   Step s (Insert q v) reply t =
       let stored = contains_key s.entries (path q) in
@@ -112,6 +113,6 @@ module _ {P T : Type 0} (path : P → List Bool) (back : List Bool → P) (width
   Step s (Children q) reply t = Lists s (shown back (listing_below s.entries (path q))) reply t
   Step s (Cover q) reply t = Lists s (shown back (listing_covering s.entries (path q))) reply t
 
-  -- a list of calls takes the map from s to t, with the replies
+  -- a run of the model: the calls, answered by the replies, take the map from s to t
   abbrev pub Run : State T → List (Call P T) → List (Reply P T) → State T → Type 0
   Run = Runs Step

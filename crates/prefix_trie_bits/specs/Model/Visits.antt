@@ -1,4 +1,4 @@
--- How many nodes a lookup reads.
+-- How many nodes a lookup reads, each counted once.
 -- From Eatherton, Dittia and Varghese's tree bitmap; the exact number is this project's own.
 use Rattle.std.specs.Prelude.{ℕ, ◌&&◌, Bool, List, Option, Some, None, length, filter, nat_le}
 use Rattle.std.specs.FinMap.{keys}
@@ -7,19 +7,20 @@ use Rattle.prefix_trie_bits.specs.Model.Entries.{Entries}
 use Rattle.prefix_trie_bits.specs.Model.Matches.{shortest_match}
 use Rattle.prefix_trie_bits.specs.Model.Nodes.{Nodes}
 
--- the number of nodes on the way to q
+-- how many nodes stand on the way to q: what a lookup of q reads
 abbrev pub visits : Nodes → List Bool → ℕ
 visits n q = length (filter (λ s. begins s q) (keys n))
 
--- the number of nodes on the way to q that are no longer than a bound
+-- how many of them are no longer than k
 abbrev pub visits_within : Nodes → List Bool → ℕ → ℕ
 visits_within n q k = length (filter (λ s. begins s q && nat_le (length s) k) (keys n))
 
 module _ {T : Type 0} where
+  -- the number for a lookup that stops at a match, or finds none
   abbrev pub visits_of_match : Nodes → List Bool → Option (List Bool × T) → ℕ
   visits_of_match n q None = visits n q
   visits_of_match n q (Some e) = visits_within n q (length e.0)
 
-  -- the number for a lookup that stops at the shortest match, where there is one
+  -- the number for a lookup that stops at the shortest match, as `get_spm`, `get_spm_prefix` and `is_covered` do
   abbrev pub visits_to_match : Entries T → Nodes → List Bool → ℕ
   visits_to_match m n q = visits_of_match n q (shortest_match m q)

@@ -1,9 +1,10 @@
--- A walk that lends one value at a time for writing: `iter_mut` and its kin. This project's own form.
+-- A walk that lends one value at a time for writing, as `iter_mut`, `iter_from_mut`, `children_mut` and `values_mut` do.
+-- From the crate's documentation of these calls; the form is this project's own.
 use Rattle.std.specs.Prelude.{◌≡◌, Bool, List, [], ◌∷◌, map, Option, Some, None}
 use Rattle.prefix_trie_bits.specs.Model.Entries.{Entries, with_entry}
 use Rattle.prefix_trie_bits.specs.Model.Nodes.{Nodes}
 
--- the entries as they are now, the nodes, the keys still to come, and the key lent now, if any
+-- the entries as they stand, the nodes, the keys still to come, and the key whose value is lent now, if any
 pub record WritingWalk (T : Type 0) : Type 0 where
   pub entries : Entries T
   pub nodes : Nodes
@@ -15,12 +16,13 @@ module _ {T : Type 0} where
   abbrev pub walk_over : Entries T → Nodes → List (List Bool × T) → WritingWalk T
   walk_over m n selection = record { entries = m; nodes = n; to_come = map (λ e. e.0) selection; lent = None }
 
-  -- `next` lends the first key still to come, and none where there is none; it changes no entry
+  -- `next` lends the value of the first key still to come, or ends where none is left. What was lent before is lent no more.
+  -- No entry changes
   abbrev pub Next : WritingWalk T → Option (List Bool) → WritingWalk T → Type 0
   Next w None after = (w.to_come ≡ []) × (after ≡ record w { lent = None })
   Next w (Some k) after = (w.to_come ≡ k ∷ after.to_come) × (after ≡ record w { to_come = after.to_come; lent = Some k })
 
-  -- a write sets the map at the key lent, and nothing else
+  -- a write sets the entry of the key lent, and nothing else
   abbrev pub Write : WritingWalk T → T → WritingWalk T → Type 0
   Write w v after = (k : List Bool) × (w.lent ≡ Some k) × (after ≡ record w { entries = with_entry w.entries k v })
 
@@ -28,6 +30,6 @@ module _ {T : Type 0} where
   abbrev pub Passes : WritingWalk T → List Bool → T → WritingWalk T → Type 0
   Passes w k v after = (mid : WritingWalk T) × Next w (Some k) mid × Write mid v after
 
-  -- when the walk is let go, the map has these entries and the nodes from before
+  -- what a walk leaves when it is let go: a map with its entries as they stand, and the nodes as they were
   abbrev pub Leaves : WritingWalk T → Entries T → Nodes → Type 0
   Leaves w m n = (m ≡ w.entries) × (n ≡ w.nodes)

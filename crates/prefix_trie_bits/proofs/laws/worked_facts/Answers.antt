@@ -1,5 +1,5 @@
 use Rattle.prefix_trie_bits.proofs.Model.WorkedFacts.{facts_hold}
-use Rattle.prefix_trie_bits.proofs.laws.facts.Goals as goal
+use Rattle.prefix_trie_bits.proofs.laws.worked_facts.Goals as goal
 
 pub returns : goal.returns
 returns c = facts_hold

@@ -1,0 +1,49 @@
+-- A worked row holds where the plain model answers as it says.
+use Rattle.std.proofs.Common.{◌≡◌, ℕ, Bool, List, [], ◌∷◌, map, Option, Some, None, refl, ap, subst}
+use Rattle.prefix_trie_bits.specs.Model.Step.{State, Call, Reply, Value, Match, Done, Count, Addresses, Items, Refused, Refusal, Run}
+use Rattle.prefix_trie_bits.specs.Rows.Examples.{path_at, back_at, new_map, Row, calls, replies, Gives, LeadsTo}
+use Rattle.prefix_trie_bits.proofs.Model.Plain.{from_new, ends, Shows, Marks, root_mark, calls_of, play_all, end_entries, end_nodes}
+
+-- why a call is refused, if it is
+abbrev fate_of : Reply (ℕ × ℕ) ℕ → Option Refusal
+fate_of (Value o) = None
+fate_of (Match o) = None
+fate_of Done = None
+fate_of (Count n) = None
+fate_of (Addresses o) = None
+fate_of (Items es) = None
+fate_of (Refused cause) = Some cause
+
+-- the calls of a row, each with its fate
+abbrev pub fated : Row → List (Call (ℕ × ℕ) ℕ × Option Refusal)
+fated row = map (λ c. (c.0, fate_of c.1)) row
+
+calls-fated : (width : ℕ) (row : Row) → calls_of (path_at width) (back_at width) width (fated row) ≡ calls row
+calls-fated width [] = refl
+calls-fated width (c ∷ row) = ap (λ cs. c.0 ∷ cs) (calls-fated width row)
+
+-- what the plain model answers to a row's calls
+abbrev pub answers : ℕ → Row → List (Reply (ℕ × ℕ) ℕ)
+answers width row = play_all (path_at width) (back_at width) width [] root_mark (fated row)
+
+-- the entries and the nodes that the plain model ends with
+abbrev pub last_entries : ℕ → Row → List (List Bool × ℕ)
+last_entries width row = end_entries (path_at width) (back_at width) width [] root_mark (fated row)
+
+abbrev pub last_marks : ℕ → Row → Marks
+last_marks width row = end_nodes (path_at width) (back_at width) width [] root_mark (fated row)
+
+pub gives : {width : ℕ} {row : Row} → answers width row ≡ replies row → Gives width row
+gives {width} {row} e =
+    let ran = from_new (path_at width) (back_at width) width (fated row) in
+    record {
+      last = ran.0;
+      run = subst (λ cs. Run (path_at width) (back_at width) width new_map cs (replies row) ran.0) (calls-fated width row)
+          (subst (λ rs. Run (path_at width) (back_at width) width new_map (calls_of (path_at width) (back_at width) width (fated row)) rs ran.0) e ran.1);
+    }
+
+pub leads : {width : ℕ} {row : Row} {Holds : State ℕ → Type 0} → answers width row ≡ replies row
+    → ((t : State ℕ) → Shows t (last_entries width row) (last_marks width row) → Holds t) → LeadsTo width row Holds
+unfolding gives
+leads {width} {row} e holds =
+    record { gives = gives e; holds = holds (from_new (path_at width) (back_at width) width (fated row)).0 (ends (path_at width) (back_at width) width (fated row)) }

@@ -1,0 +1,5 @@
+use Rattle.prefix_trie_bits.proofs.Model.WorkedRows.{addresses_hold}
+use Rattle.prefix_trie_bits.proofs.laws.worked_addresses.Goals as goal
+
+pub returns : goal.returns
+returns c = addresses_hold

@@ -1,0 +1,5 @@
+use Rattle.prefix_trie_bits.proofs.Model.WorkedRows.{limits_hold}
+use Rattle.prefix_trie_bits.proofs.laws.worked_limits.Goals as goal
+
+pub returns : goal.returns
+returns c = limits_hold

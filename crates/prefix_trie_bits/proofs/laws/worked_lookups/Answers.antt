@@ -1,0 +1,5 @@
+use Rattle.prefix_trie_bits.proofs.Model.WorkedRows.{lookups_hold}
+use Rattle.prefix_trie_bits.proofs.laws.worked_lookups.Goals as goal
+
+pub returns : goal.returns
+returns c = lookups_hold

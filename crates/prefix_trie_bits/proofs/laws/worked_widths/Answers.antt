@@ -1,0 +1,5 @@
+use Rattle.prefix_trie_bits.proofs.Model.WorkedRows.{widths_hold}
+use Rattle.prefix_trie_bits.proofs.laws.worked_widths.Goals as goal
+
+pub returns : goal.returns
+returns c = widths_hold

@@ -1,0 +1,13 @@
+-- How many addresses a map covers.
+use Rattle.std.specs.Prelude.{◌≡◌, ℕ, ◌^◌, ◌≤◌, true, [], None}
+use Rattle.std.specs.FinMap.{contains_key}
+use Rattle.prefix_trie_bits.specs.Model.Entries.{Entries, no_entries}
+use Rattle.prefix_trie_bits.specs.Model.Addresses.{addresses, address_answer}
+
+pub record AddressLaws (T : Type 0) : Type 0 where
+  -- no more than there are
+  pub at_most : (width : ℕ) (m : Entries T) → addresses width m ≤ 2 ^ width
+  -- a map without entries covers none
+  pub of_no_entries : (width : ℕ) → addresses width (no_entries {T = T}) ≡ 0
+  -- a stored prefix of length 0 covers all, and `address_count` then answers None
+  pub of_root : (width : ℕ) (m : Entries T) → contains_key m [] ≡ true → address_answer width m ≡ None
