@@ -4,8 +4,9 @@ ghost use Rattle.std.proofs.Common.{lit≤, eqb-true};
 ghost use Rattle.prefix_trie_bits.specs.Keys.{number_keys};
 ghost use Rattle.prefix_trie_bits.specs.Bits.{number, digits};
 
-use crate::digits::{extend_of, extend_of_wide, keep_of, keep_of_wide, window_of, window_of_wide};
+use crate::digits::{extend_of, keep_of, window_of};
 use crate::prefix::Key;
+use crate::wide_digits;
 
 impl Key for u8 {
     ghost bit_width = { 8 };
@@ -263,16 +264,16 @@ impl Key for u128 {
 
     #[inline]
     fn window(self, depth: u32, n: u32) -> u32 {
-        window_of_wide(self, 128, depth, n)
+        wide_digits::window_of(self, 128, depth, n)
     }
 
     #[inline]
     fn keep(self, len: u32) -> u128 {
-        keep_of_wide(self, 128, len)
+        wide_digits::keep_of(self, 128, len)
     }
 
     #[inline]
     fn extend(self, depth: u32, n: u32, tail: u32) -> u128 {
-        extend_of_wide(self, 128, depth, n, tail)
+        wide_digits::extend_of(self, 128, depth, n, tail)
     }
 }

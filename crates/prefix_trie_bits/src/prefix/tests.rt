@@ -5,6 +5,7 @@ ghost use Rattle.prefix_trie_bits.specs.Keys.{number_keys};
 ghost use Rattle.prefix_trie_bits.specs.Bits.{number, digits, zeros};
 
 use crate::prefix::{Ipv4Prefix, Ipv6Prefix, Key, Prefix, Refusal, Refused};
+use std::test::Fail;
 
 #[test]
 fn keys(rt: HostRuntime) {
