@@ -182,6 +182,7 @@ pub trait Prefix: Sized + Debug + Drop {
         self.repr().is_key() && u32::from(self.prefix_len()) <= Self::num_bits()
     }
 
+    // the laws of paths, lengths and host bits
     ghost prefix_laws: { PrefixLaws Self.R.bit_width Self.R.IsKey Self.R.bits Self.R.key_of repr_of len_of path IsFitting from_parts back };
 }
 
@@ -190,11 +191,11 @@ pub trait Prefix: Sized + Debug + Drop {
 pub enum Refusal {
     /// A request for memory was refused.
     Memory = 1,
-    /// A slot's index would pass the limit.
+    /// The slots needed pass the limit.
     IndexRange = 2,
 }
 
-/// A refusal that hands back the value that was to be stored.
+/// A refusal that hands back the value that was not stored.
 #[derive(PartialEq, Eq, Debug, Drop)]
 pub struct Refused<T> {
     /// Why the call was refused.

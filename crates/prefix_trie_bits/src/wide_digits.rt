@@ -1,4 +1,4 @@
-//! What a key of at most 128 bits computes on its number, as in `digits` for at most 64.
+//! What a key of at most 128 bits computes on its number, as `digits` does for 64, where shifts are cheaper.
 ghost use Rattle.std.specs.Prelude.{◌≡◌, ℕ, ◌+◌, ◌-◌, ◌*◌, ◌/◌, ◌%◌, ◌^◌, ◌<◌, ◌≤◌, ◌++◌, List, Bool, take, drop};
 ghost use Rattle.prefix_trie_bits.specs.Bits.{number, digits, zeros};
 
@@ -10,6 +10,7 @@ pub(crate) fn window_of(value: u128, width: u32, depth: u32, n: u32) -> u32
     requires few { n ≤ 5 }
     ensures { result ≡ number (take n (drop depth (digits width value ++ zeros 5))) }
 {
+    // all five bits, so that no shift is as wide as the number
     let end = depth + 5;
     let shifted = if end <= width {
         value >> (width - end)
