@@ -1,4 +1,5 @@
 -- The order of a listing: a string before its extensions, and 0 before 1 at the first difference.
+-- From the crate's documentation of its iterators: lexicographic order.
 use Rattle.std.proofs.Common.{◌≡◌, ◌≢◌, ◌⊎◌, is_eq, suc, ◌^◌, ap, ◌<◌, Bool, true, false, List, [], ◌∷◌, ◌++◌, length, refl, arith, Ordering, Less, Equal}
 use Rattle.std.specs.Ordering.{bool_cmp}
 use Rattle.std.specs.Cmp.{IsTotalOrder, bool_cmp_total}
@@ -7,6 +8,7 @@ use Rattle.std.specs.FinMap.{IsAntisymmetric, slice_cmp-IsAntisymmetric}
 use Rattle.prefix_trie_bits.specs.Bits.{number, begins}
 use Rattle.prefix_trie_bits.specs.BitStrings.{number-lt}
 
+-- the order, as a comparison
 abbrev pub listing_cmp : List Bool → List Bool → Ordering
 listing_cmp = slice_cmp bool_cmp
 
@@ -20,6 +22,7 @@ IsBefore s t =
     ((begins s t ≡ true) × (s ≢ t))
     ⊎ ((common : List Bool) × (x : List Bool) × (y : List Bool) × (s ≡ common ++ false ∷ x) × (t ≡ common ++ true ∷ y))
 
+-- it is a total order
 pub listing_total : IsTotalOrder listing_cmp
 listing_total = lists_total bool_cmp_total
 
@@ -33,6 +36,7 @@ bits-same false false e = refl
 pub listing_same : IsAntisymmetric listing_cmp
 listing_same = slice_cmp-IsAntisymmetric bits-same
 
+-- a string ties with itself
 pub listing-refl : (s : List Bool) → listing_cmp s s ≡ Equal
 listing-refl [] = refl
 listing-refl (true ∷ s) = listing-refl s
@@ -81,6 +85,9 @@ listing-between (false ∷ q) (false ∷ s) (c ∷ u) (true ∷ t) e f l m = cc
 listing-between (false ∷ q) (false ∷ s) (true ∷ u) (false ∷ t) e f l m = cc
 listing-between (false ∷ q) (false ∷ s) (false ∷ u) (false ∷ t) e f l m = listing-between q s u t e f l m
 
+tail-length : (x y : List Bool) → suc (length x) ≡ suc (length y) → length x ≡ length y
+tail-length x y q = omega (arith, q)
+
 -- strings of one length are listed as their numbers
 pub listing-numbers : (s t : List Bool) → length s ≡ length t → number s < number t → listing_cmp s t ≡ Less
 unfolding number
@@ -89,14 +96,8 @@ listing-numbers [] (b ∷ t) e h = absurd (omega (arith, e))
 listing-numbers (a ∷ s) [] e h = absurd (omega (arith, e))
 listing-numbers (true ∷ s) (true ∷ t) e h =
     listing-numbers s t (omega (arith, e)) (omega (arith, h, ap (λ k. 2 ^ k) (tail-length s t e)))
-  where
-    tail-length : (x y : List Bool) → suc (length x) ≡ suc (length y) → length x ≡ length y
-    tail-length x y q = omega (arith, q)
 listing-numbers (true ∷ s) (false ∷ t) e h =
     absurd (omega (arith, h, number-lt t, ap (λ k. 2 ^ k) (tail-length s t e)))
-  where
-    tail-length : (x y : List Bool) → suc (length x) ≡ suc (length y) → length x ≡ length y
-    tail-length x y q = omega (arith, q)
 listing-numbers (false ∷ s) (true ∷ t) e h = refl
 listing-numbers (false ∷ s) (false ∷ t) e h =
     listing-numbers s t (omega (arith, e)) (omega (arith, h))

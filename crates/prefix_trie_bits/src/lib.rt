@@ -7,3 +7,4 @@ pub mod node;
 #[cfg(test)]
 mod node_tests;
 pub mod prefix;
+mod wide_digits;
