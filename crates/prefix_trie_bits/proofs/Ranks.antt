@@ -3,7 +3,7 @@ use Rattle.std.proofs.Common.{◌≡◌, ℕ, zero, suc, ◌+◌, ◌-◌, ◌*�
 use Rattle.std.specs.Int.{bit_at, bit_not, w32}
 use Rattle.std.specs.List.{range_with_len}
 use Rattle.std.specs.Int.RustNames.{count_ones}
-use Rattle.std.proofs.lemmas.Nat.{ones_cat, ones_le_self, zero_from_ones, and_le_l, mod-pow-add, mod_below, and_mask, one_shl}
+use Rattle.std.proofs.lemmas.Nat.{ones_cat, ones_le_self, zero_from_ones, and_le_l, mod-pow-add, mod_below, and_mask, one_shl, or_lt, pow_below}
 use Rattle.std.proofs.lemmas.Nat.Bits.{bit_at-lt, bit_at-suc, bit_at_set_same, bit_at_set_other, bit_at_clear_same, bit_at_clear_other, bit_at_above}
 use Rattle.std.proofs.lemmas.Bool.{cases_lt, cases_eq}
 use Rattle.std.proofs.lemmas.Bool.Decides.{nat_tests}
@@ -239,3 +239,11 @@ clear_bit_sets m k l small h = record {
     | inr above ↦ ap (λ x. eqb x 1) (bit_at_above m 32 d small above ∙ sym (bit_at_above _ 32 d (omega (arith, and_le_l m (bit_not w32 (1 * 2 ^ k % 4294967296)))) above))
   ];
 }
+
+pub set_bit-small : (m k : ℕ) → m < 2 ^ 31 → k < 31 → bit_or m (1 * 2 ^ k % 4294967296) < 2 ^ 31
+set_bit-small m k small l =
+    or_lt 31 m _ small (subst (λ x. x < 2 ^ 31) (sym (one_shl k 32 (omega arith))) (pow_below k 31 l))
+
+pub clear_bit-small : (m k : ℕ) → m < 2 ^ 31 → bit_and m (bit_not w32 (1 * 2 ^ k % 4294967296)) < 2 ^ 31
+clear_bit-small m k small =
+    omega (arith, and_le_l m (bit_not w32 (1 * 2 ^ k % 4294967296)))

@@ -118,12 +118,10 @@ pub pos-below : (b : List Bool) (depth x : ℕ) → depth ≤ length b → x ≡
 pos-below b depth x l e =
     subst (λ y. y < 16) (sym e) (window-below (take 4 (drop depth (b ++ zeros 5))) 4 (length-four b depth l))
 
--- the string that the index of a table of masks stands for
-pub index-string : (b : List Bool) (depth len level x : ℕ) → depth ≤ len → len ≤ length b → level ≡ min (len - depth) 4 → x ≡ number (take 4 (drop depth (b ++ zeros 5))) → take ((16 * level + x) / 16) (digits 4 ((16 * level + x) % 16)) ≡ take 4 (drop depth (take len b))
-index-string b depth len level x h l level-is x-is =
-    let small = pos-below b depth x (omega arith) x-is in
-    ap₂ (λ m k. take m (digits 4 k)) (row level x small) (column level x small) ∙
-    ap (λ s. take level s) (ap (digits 4) x-is ∙ digits-of-number (take 4 (drop depth (b ++ zeros 5))) 4 (length-four b depth (omega arith))) ∙
+-- the string that a level and four bits stand for
+pub level-string : (b : List Bool) (depth len level pos : ℕ) → depth ≤ len → len ≤ length b → level ≡ min (len - depth) 4 → pos ≡ number (take 4 (drop depth (b ++ zeros 5))) → take level (digits 4 pos) ≡ take 4 (drop depth (take len b))
+level-string b depth len level pos h l level-is pos-is =
+    ap (λ s. take level s) (ap (digits 4) pos-is ∙ digits-of-number (take 4 (drop depth (b ++ zeros 5))) 4 (length-four b depth (omega arith))) ∙
     take-take level 4 (drop depth (b ++ zeros 5)) (omega arith) ∙
     window-is b (zeros 5) depth len level (omega arith) l ∙
     elim (cases_lt (len - depth) 4) [
@@ -132,12 +130,6 @@ index-string b depth len level x h l level-is x-is =
           take_all level (drop depth (take len b)) (omega arith) ∙ sym (take_all 4 (drop depth (take len b)) (omega arith))
       | inr long ↦ let e : level ≡ 4 = omega arith in ap (λ m. take m (drop depth (take len b))) e
     ]
-  where
-    row : (a y : ℕ) → y < 16 → (16 * a + y) / 16 ≡ a
-    row a y h = omega arith
-
-    column : (a y : ℕ) → y < 16 → (16 * a + y) % 16 ≡ y
-    column a y h = omega arith
 
 -- ---- what the first four bits decide
 
