@@ -125,7 +125,8 @@ ones_below-half (suc b) m =
     regroup : (x y z : ℕ) → x + y + z ≡ x + (y + z)
     regroup x y z = omega arith
 
-low-cases : (m : ℕ) (P : Bool → ℕ → Type 0) → (m % 2 ≡ 1 → P true 1) → (m % 2 ≡ 0 → P false 0) → P (eqb (m % 2) 1) (m % 2)
+-- what holds of both values of the lowest bit
+pub low-cases : (m : ℕ) (P : Bool → ℕ → Type 0) → (m % 2 ≡ 1 → P true 1) → (m % 2 ≡ 0 → P false 0) → P (eqb (m % 2) 1) (m % 2)
 low-cases m P f g = go (m % 2) (lt m) f g
   where
     lt : (x : ℕ) → x % 2 < 2
@@ -211,6 +212,11 @@ ones_below-sets (suc b) m k m' sets =
       | inl e ↦ more-here b k _ _ _ _ (ones_below-sets b m k m' sets) (ap (λ x. cond x 1 0) (ap (λ x. has m x) e ∙ sets.clear)) (ap (λ x. cond x 1 0) (ap (λ x. has m' x) e ∙ sets.present)) e
       | inr ne ↦ more-there b k _ _ _ _ (ones_below-sets b m k m' sets) (ap (λ x. cond x 1 0) (sets.others b ne)) ne
     ]
+
+-- the rank of the bit itself stays, as those below it do
+pub ones_below-same : (m k m' : ℕ) → Sets m k m' → ones_below k m' ≡ ones_below k m
+ones_below-same m k m' sets =
+    ones_below-sets k m k m' sets ∙ grind (arith, nat_tests)
 
 pub count_ones-below : (w m : ℕ) → m < 2 ^ w → ones_below w m ≡ count_ones m
 count_ones-below w m small = ones_below-is w m ∙ ap count_ones (mod-eq_of_lt small)

@@ -155,6 +155,13 @@ value_bit_window_small b depth len x h last l e =
     subst (λ y. y < 31) (sym (value_bit_from_window b depth len x h last l e))
     (value_bit-small (drop depth (take len b)) (let n = length-below b depth len h l in omega arith))
 
+-- what the code reads as a child bit
+pub child_bit_from_window : (b : List Bool) (depth x : ℕ) → depth + 5 ≤ length b → x ≡ number (take 5 (drop depth (b ++ zeros 5))) → x ≡ number (take 5 (drop depth b))
+child_bit_from_window b depth x h e = e ∙ ap number (window-inside b (zeros 5) depth 5 h)
+
+pub child_bit-small : (b : List Bool) (depth : ℕ) → depth + 5 ≤ length b → number (take 5 (drop depth b)) < 32
+child_bit-small b depth h = window-below (take 5 (drop depth b)) 5 (length-window b depth 5 h)
+
 -- ---- one bit more
 
 number-one : (s : List Bool) (b : Bool) → number (s ++ b ∷ []) ≡ number s * 2 + bit b
