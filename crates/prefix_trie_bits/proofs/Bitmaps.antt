@@ -1,5 +1,5 @@
 -- The bits of `|` and `&` of two bitmaps, and of bitmaps side by side.
-use Rattle.std.proofs.Common.{◌≡◌, ℕ, suc, zero, ◌+◌, ◌-◌, ◌*◌, ◌^◌, ◌<◌, ◌≤◌, Bool, true, false, ◌&&◌, ◌||◌, eqb, inl, inr, bit_and, bit_or, min, max, refl, sym, ap, ◌∙◌, arith, add-zero, pow_pos}
+use Rattle.std.proofs.Common.{◌≡◌, ℕ, suc, zero, ◌-◌, ◌*◌, ◌^◌, ◌<◌, ◌≤◌, Bool, true, false, ◌&&◌, ◌||◌, eqb, bit_and, bit_or, min, max, refl, sym, ap, ◌∙◌, arith, add-zero, pow_pos}
 use Rattle.std.specs.Int.{bit_at}
 use Rattle.std.proofs.lemmas.Nat.Bits.{bit_at_or, bit_at_and, bit_at-lt, bit_at-zero, bit_at_above, bit_at_cat_low, bit_at_cat_high}
 use Rattle.prefix_trie_bits.specs.Places.{has}

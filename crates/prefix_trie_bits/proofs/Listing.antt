@@ -1,5 +1,5 @@
 -- The listing of all places, by computing, and the loop that brings set bits into its order.
-use Rattle.std.proofs.Common.{◌≡◌, ℕ, ◌+◌, ◌-◌, ◌*◌, ◌%◌, ◌^◌, ◌<◌, ◌≤◌, Bool, true, false, ◌||◌, ◌&&◌, nat_eq, nat_lt, eqb-true, ltb-true, cond, List, [], length, map, Option, Some, refl, sym, ap, ap₂, ◌∙◌, subst, inl, inr, bit_and, bit_or, mod-eq_of_lt, arith, get_or}
+use Rattle.std.proofs.Common.{◌≡◌, ℕ, ◌+◌, ◌-◌, ◌*◌, ◌%◌, ◌^◌, ◌<◌, Bool, true, false, ◌||◌, ◌&&◌, nat_eq, nat_lt, eqb-true, ltb-true, cond, List, [], length, map, Some, refl, sym, ap, ap₂, ◌∙◌, subst, inl, inr, bit_and, bit_or, mod-eq_of_lt, arith, get_or}
 use Rattle.std.specs.List.{slice_get}
 use Rattle.std.specs.Int.{trailing_zeros, w64}
 use Rattle.std.proofs.lemmas.Nat.{or_lt, one_shl, pow_below}
