@@ -1,6 +1,9 @@
 pub mod Checks
 pub mod Tables
+pub mod Bitmaps
 pub mod Listing
+pub mod Ordered
+pub mod Selecting
 pub mod Ranks
 pub mod Picks
 pub mod Strings

@@ -1,8 +1,8 @@
 -- The longest and the shortest string of a bitmap that begins another.
-use Rattle.std.proofs.Common.{◌≡◌, ℕ, suc, ◌+◌, ◌-◌, ◌*◌, ◌/◌, ◌%◌, ◌^◌, ◌<◌, ◌≤◌, Bool, true, false, List, length, take, refl, sym, ap, ap₂, ◌∙◌, subst, arith, min, bit_and, pow_pos, pow-suc}
+use Rattle.std.proofs.Common.{◌≡◌, ℕ, suc, ◌+◌, ◌-◌, ◌*◌, ◌/◌, ◌%◌, ◌^◌, ◌<◌, ◌≤◌, Bool, true, false, ◌&&◌, List, length, take, refl, sym, ap, ap₂, ◌∙◌, subst, arith, bit_and, pow_pos, pow-suc}
 use Rattle.std.specs.Int.{bit_at, leading_zeros, trailing_zeros, w32}
 use Rattle.std.proofs.lemmas.Nat.{le-div, div_below, and_le_l}
-use Rattle.std.proofs.lemmas.Nat.Bits.{bit_at_and, bit_at-lt, bit_at-zero, bit_at_above, bit_at-trailing_zeros}
+use Rattle.std.proofs.lemmas.Nat.Bits.{bit_at-zero, bit_at_above, bit_at-trailing_zeros}
 use Rattle.std.proofs.lemmas.List.{length-take-le}
 use Rattle.std.proofs.lemmas.Bool.{cases_lt}
 use Rattle.std.proofs.Common.{inl, inr}
@@ -10,26 +10,14 @@ use Rattle.prefix_trie_bits.specs.Bits.{digits, begins}
 use Rattle.prefix_trie_bits.specs.BitStrings.{length-digits}
 use Rattle.prefix_trie_bits.specs.Begins.{begins-take, begins-length, take-begins}
 use Rattle.prefix_trie_bits.specs.Places.{has, value_bit, stands, HoldsValues, NoneBegins, IsLongest, IsShortest}
+use Rattle.prefix_trie_bits.proofs.Checks.{both}
 use Rattle.prefix_trie_bits.proofs.Ranks.{bit-set, has-from}
+use Rattle.prefix_trie_bits.proofs.Bitmaps.{has-and}
 use Rattle.prefix_trie_bits.proofs.Strings.{top_length, length-short, string-bit, value_bit-longer}
 
 not-true : (b : Bool) → (b ≡ true → ⊥) → b ≡ false
 not-true true f = absurd (f refl)
 not-true false f = refl
-
-has-and : (a b i : ℕ) → has a i ≡ true → has b i ≡ true → has (bit_and a b) i ≡ true
-has-and a b i h k =
-    has-from _ i 1 (bit_at_and a b i ∙ ap₂ (λ x y. min x y) (bit-set a i h) (bit-set b i k))
-
-has-left : (a b i : ℕ) → has (bit_and a b) i ≡ true → has a i ≡ true
-has-left a b i h =
-    let e : min (bit_at a i) (bit_at b i) ≡ 1 = sym (bit_at_and a b i) ∙ bit-set _ i h in
-    has-from a i 1 (omega (arith, e, bit_at-lt a i))
-
-has-right : (a b i : ℕ) → has (bit_and a b) i ≡ true → has b i ≡ true
-has-right a b i h =
-    let e : min (bit_at a i) (bit_at b i) ≡ 1 = sym (bit_at_and a b i) ∙ bit-set _ i h in
-    has-from b i 1 (omega (arith, e, bit_at-lt b i))
 
 none-of-zero : (x i : ℕ) → x ≡ 0 → has x i ≡ true → ⊥
 none-of-zero x i e h =
@@ -50,11 +38,14 @@ top-bit x j l h =
     one : (y : ℕ) → 1 ≤ y → y < 2 → y % 2 ≡ 1
     one y a b = omega arith
 
+in-each : (a b i : ℕ) → has (bit_and a b) i ≡ true → (has a i ≡ true) × (has b i ≡ true)
+in-each a b i h = both (has a i) (has b i) (sym (has-and a b i) ∙ h)
+
 module _ (bitmap mask : ℕ) (rest : List Bool) (small : bitmap < 2 ^ 31) (holds : HoldsValues mask (λ s. begins s rest)) where
   in-both : (i : ℕ) → i ≤ 4 → i ≤ length rest → stands bitmap rest i ≡ true → has (bit_and bitmap mask) (value_bit (take i rest)) ≡ true
   in-both i short within h =
       let n : length (take i rest) ≡ i = length-take-le i rest within in
-      has-and bitmap mask (value_bit (take i rest)) h (holds (take i rest) (omega arith) ∙ take-begins i rest)
+      has-and bitmap mask (value_bit (take i rest)) ∙ ap₂ (λ x y. x && y) h (holds.bits (take i rest) (omega arith) ∙ take-begins i rest)
 
   pub none_begins : bit_and bitmap mask ≡ 0 → NoneBegins bitmap rest
   none_begins e i short within =
@@ -64,7 +55,7 @@ module _ (bitmap mask : ℕ) (rest : List Bool) (small : bitmap < 2 ^ 31) (holds
   bit-below b h = elim (cases_lt b 31) [
     | inl l ↦ l
     | inr g ↦ let z : bit_at bitmap b ≡ 0 = bit_at_above bitmap 31 b small g in
-        absurd (omega (arith, bit-set bitmap b (has-left bitmap mask b h)))
+        absurd (omega (arith, bit-set bitmap b (in-each bitmap mask b h).0))
   ]
 
   -- a bit of both bitmaps is that of a string that begins rest
@@ -78,9 +69,9 @@ module _ (bitmap mask : ℕ) (rest : List Bool) (small : bitmap < 2 ^ 31) (holds
       let is : value_bit s ≡ b = string-bit b n l t.0 t.1 in
       let long : length s ≡ n = length-digits n (b + 1 - 1 * 2 ^ n % 4294967296) in
       let e : begins s rest ≡ true =
-      sym (holds s (subst (λ x. x ≤ 4) (sym long) short)) ∙ ap (λ x. has mask x) is ∙ has-right bitmap mask b h in
+      sym (holds.bits s (subst (λ x. x ≤ 4) (sym long) short)) ∙ ap (λ x. has mask x) is ∙ (in-each bitmap mask b h).1 in
       let within : length s ≤ length rest = begins-length s rest e in
-      (n, short, subst (λ x. x ≤ length rest) long within, sym is ∙ ap value_bit (sym (begins-take s rest e) ∙ ap (λ x. take x rest) long), has-left bitmap mask b h)
+      (n, short, subst (λ x. x ≤ length rest) long within, sym is ∙ ap value_bit (sym (begins-take s rest e) ∙ ap (λ x. take x rest) long), (in-each bitmap mask b h).0)
 
   pub longest_is : (j : ℕ) → 2 ^ j ≤ bit_and bitmap mask → bit_and bitmap mask < 2 ^ suc j → IsLongest bitmap rest j
   longest_is j l h =

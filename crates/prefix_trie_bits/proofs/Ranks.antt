@@ -3,7 +3,7 @@ use Rattle.std.proofs.Common.{◌≡◌, ℕ, zero, suc, ◌+◌, ◌-◌, ◌*�
 use Rattle.std.specs.Int.{bit_at, bit_not, w32}
 use Rattle.std.specs.List.{range_with_len}
 use Rattle.std.specs.Int.RustNames.{count_ones}
-use Rattle.std.proofs.lemmas.Nat.{ones_cat, ones_le_self, zero_from_ones, and_le_l, mod-pow-add, mod_below, and_mask, one_shl}
+use Rattle.std.proofs.lemmas.Nat.{ones_cat, ones_le_self, zero_from_ones, and_le_l, mod-pow-add, mod_below, and_mask, one_shl, or_lt, pow_below}
 use Rattle.std.proofs.lemmas.Nat.Bits.{bit_at-lt, bit_at-suc, bit_at_set_same, bit_at_set_other, bit_at_clear_same, bit_at_clear_other, bit_at_above}
 use Rattle.std.proofs.lemmas.Bool.{cases_lt, cases_eq}
 use Rattle.std.proofs.lemmas.Bool.Decides.{nat_tests}
@@ -125,7 +125,8 @@ ones_below-half (suc b) m =
     regroup : (x y z : ℕ) → x + y + z ≡ x + (y + z)
     regroup x y z = omega arith
 
-low-cases : (m : ℕ) (P : Bool → ℕ → Type 0) → (m % 2 ≡ 1 → P true 1) → (m % 2 ≡ 0 → P false 0) → P (eqb (m % 2) 1) (m % 2)
+-- what holds of both values of the lowest bit
+pub low-cases : (m : ℕ) (P : Bool → ℕ → Type 0) → (m % 2 ≡ 1 → P true 1) → (m % 2 ≡ 0 → P false 0) → P (eqb (m % 2) 1) (m % 2)
 low-cases m P f g = go (m % 2) (lt m) f g
   where
     lt : (x : ℕ) → x % 2 < 2
@@ -212,6 +213,11 @@ ones_below-sets (suc b) m k m' sets =
       | inr ne ↦ more-there b k _ _ _ _ (ones_below-sets b m k m' sets) (ap (λ x. cond x 1 0) (sets.others b ne)) ne
     ]
 
+-- the rank of the bit itself stays, as those below it do
+pub ones_below-same : (m k m' : ℕ) → Sets m k m' → ones_below k m' ≡ ones_below k m
+ones_below-same m k m' sets =
+    ones_below-sets k m k m' sets ∙ grind (arith, nat_tests)
+
 pub count_ones-below : (w m : ℕ) → m < 2 ^ w → ones_below w m ≡ count_ones m
 count_ones-below w m small = ones_below-is w m ∙ ap count_ones (mod-eq_of_lt small)
 
@@ -239,3 +245,11 @@ clear_bit_sets m k l small h = record {
     | inr above ↦ ap (λ x. eqb x 1) (bit_at_above m 32 d small above ∙ sym (bit_at_above _ 32 d (omega (arith, and_le_l m (bit_not w32 (1 * 2 ^ k % 4294967296)))) above))
   ];
 }
+
+pub set_bit-small : (m k : ℕ) → m < 2 ^ 31 → k < 31 → bit_or m (1 * 2 ^ k % 4294967296) < 2 ^ 31
+set_bit-small m k small l =
+    or_lt 31 m _ small (subst (λ x. x < 2 ^ 31) (sym (one_shl k 32 (omega arith))) (pow_below k 31 l))
+
+pub clear_bit-small : (m k : ℕ) → m < 2 ^ 31 → bit_and m (bit_not w32 (1 * 2 ^ k % 4294967296)) < 2 ^ 31
+clear_bit-small m k small =
+    omega (arith, and_le_l m (bit_not w32 (1 * 2 ^ k % 4294967296)))

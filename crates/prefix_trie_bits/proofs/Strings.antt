@@ -1,5 +1,5 @@
 -- Value bits of strings, and the strings of value bits.
-use Rattle.std.proofs.Common.{◌≡◌, ℕ, suc, ◌+◌, ◌-◌, ◌*◌, ◌/◌, ◌%◌, ◌^◌, ◌<◌, ◌≤◌, Bool, List, [], ◌∷◌, ◌++◌, length, take, drop, sym, ap, ap₂, ◌∙◌, subst, arith, inl, inr, pow_pos, pow-suc, min, mod-eq_of_lt, add-one}
+use Rattle.std.proofs.Common.{◌≡◌, ℕ, suc, ◌+◌, ◌-◌, ◌*◌, ◌%◌, ◌^◌, ◌<◌, ◌≤◌, Bool, List, [], ◌∷◌, ◌++◌, length, take, drop, sym, ap, ap₂, ◌∙◌, subst, arith, inl, inr, pow_pos, pow-suc, min, mod-eq_of_lt, add-one}
 use Rattle.std.specs.Int.{leading_zeros, w32}
 use Rattle.std.proofs.lemmas.Nat.{leading_top, pow_below, one_shl}
 use Rattle.std.proofs.lemmas.Bool.{cases_lt, cases_eq}
@@ -118,12 +118,10 @@ pub pos-below : (b : List Bool) (depth x : ℕ) → depth ≤ length b → x ≡
 pos-below b depth x l e =
     subst (λ y. y < 16) (sym e) (window-below (take 4 (drop depth (b ++ zeros 5))) 4 (length-four b depth l))
 
--- the string that the index of a table of masks stands for
-pub index-string : (b : List Bool) (depth len level x : ℕ) → depth ≤ len → len ≤ length b → level ≡ min (len - depth) 4 → x ≡ number (take 4 (drop depth (b ++ zeros 5))) → take ((16 * level + x) / 16) (digits 4 ((16 * level + x) % 16)) ≡ take 4 (drop depth (take len b))
-index-string b depth len level x h l level-is x-is =
-    let small = pos-below b depth x (omega arith) x-is in
-    ap₂ (λ m k. take m (digits 4 k)) (row level x small) (column level x small) ∙
-    ap (λ s. take level s) (ap (digits 4) x-is ∙ digits-of-number (take 4 (drop depth (b ++ zeros 5))) 4 (length-four b depth (omega arith))) ∙
+-- the string that a level and four bits stand for
+pub level-string : (b : List Bool) (depth len level pos : ℕ) → depth ≤ len → len ≤ length b → level ≡ min (len - depth) 4 → pos ≡ number (take 4 (drop depth (b ++ zeros 5))) → take level (digits 4 pos) ≡ take 4 (drop depth (take len b))
+level-string b depth len level pos h l level-is pos-is =
+    ap (λ s. take level s) (ap (digits 4) pos-is ∙ digits-of-number (take 4 (drop depth (b ++ zeros 5))) 4 (length-four b depth (omega arith))) ∙
     take-take level 4 (drop depth (b ++ zeros 5)) (omega arith) ∙
     window-is b (zeros 5) depth len level (omega arith) l ∙
     elim (cases_lt (len - depth) 4) [
@@ -132,12 +130,6 @@ index-string b depth len level x h l level-is x-is =
           take_all level (drop depth (take len b)) (omega arith) ∙ sym (take_all 4 (drop depth (take len b)) (omega arith))
       | inr long ↦ let e : level ≡ 4 = omega arith in ap (λ m. take m (drop depth (take len b))) e
     ]
-  where
-    row : (a y : ℕ) → y < 16 → (16 * a + y) / 16 ≡ a
-    row a y h = omega arith
-
-    column : (a y : ℕ) → y < 16 → (16 * a + y) % 16 ≡ y
-    column a y h = omega arith
 
 -- ---- what the first four bits decide
 
@@ -162,6 +154,13 @@ pub value_bit_window_small : (b : List Bool) (depth len x : ℕ) → depth ≤ l
 value_bit_window_small b depth len x h last l e =
     subst (λ y. y < 31) (sym (value_bit_from_window b depth len x h last l e))
     (value_bit-small (drop depth (take len b)) (let n = length-below b depth len h l in omega arith))
+
+-- what the code reads as a child bit
+pub child_bit_from_window : (b : List Bool) (depth x : ℕ) → depth + 5 ≤ length b → x ≡ number (take 5 (drop depth (b ++ zeros 5))) → x ≡ number (take 5 (drop depth b))
+child_bit_from_window b depth x h e = e ∙ ap number (window-inside b (zeros 5) depth 5 h)
+
+pub child_bit-small : (b : List Bool) (depth : ℕ) → depth + 5 ≤ length b → number (take 5 (drop depth b)) < 32
+child_bit-small b depth h = window-below (take 5 (drop depth b)) 5 (length-window b depth 5 h)
 
 -- ---- one bit more
 

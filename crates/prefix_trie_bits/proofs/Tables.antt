@@ -1,78 +1,120 @@
--- Each entry of the tables of masks, by computing.
-use Rattle.std.proofs.Common.{◌≡◌, ℕ, ◌/◌, ◌%◌, ◌<◌, ◌≤◌, Bool, true, ◌||◌, not, nat_eq, List, length, take, refl, arith, get_or}
+-- Each entry of the tables, by computing: a test over the whole table, and what it says of an entry.
+use Rattle.std.proofs.Common.{◌≡◌, ℕ, ◌+◌, ◌*◌, ◌<◌, ◌≤◌, Bool, true, ◌||◌, ◌&&◌, not, nat_eq, nat_lt, ltb-true, List, length, take, refl, subst, arith, get_or}
 use Rattle.std.specs.Bool.{beq}
 use Rattle.prefix_trie_bits.specs.Bits.{number, digits, begins}
-use Rattle.prefix_trie_bits.specs.Places.{has, value_bit, strings, is_in, is_before}
-use Rattle.prefix_trie_bits.specs.declared.node.TheConstants.{MATCHES, VALUES_COVERED, CHILDREN_COVERED, FROM_VALUE, BEHIND_CHILD}
-use Rattle.prefix_trie_bits.proofs.Checks.{below, each, at_below, at_string, same}
+use Rattle.prefix_trie_bits.specs.Places.{has, value_bit, strings, is_in, is_before, HoldsValues, HoldsChildren, HoldsPlaces}
+use Rattle.prefix_trie_bits.specs.declared.node.masks.TheConstants.{MATCHES, VALUES_COVERED, CHILDREN_COVERED}
+use Rattle.prefix_trie_bits.specs.declared.node.order.TheConstants.{FROM_VALUE, BEHIND_CHILD}
+use Rattle.prefix_trie_bits.proofs.Checks.{below, each, at_below, at_string, both, same}
 
--- the string of an index of the tables of masks
-abbrev pub string_at : ℕ → List Bool
-string_at i = take (i / 16) (digits 4 (i % 16))
+-- ---- the tests of masks
 
-unfoldable match_test : ℕ → Bool
-match_test i = each (λ s. beq (has (get_or MATCHES i 0) (value_bit s)) (begins s (string_at i))) (strings 4)
+unfoldable values_hold : ℕ → (List Bool → Bool) → Bool
+values_hold mask test = nat_lt mask 2147483648 && each (λ s. beq (has mask (value_bit s)) (test s)) (strings 4)
 
-matches-right : below match_test 80 ≡ true
-unfolding below match_test each strings begins digits number
-matches-right = refl
+values-held : (mask : ℕ) (test : List Bool → Bool) → values_hold mask test ≡ true → HoldsValues mask test
+unfolding values_hold
+values-held mask test h =
+    let b = both (nat_lt mask 2147483648) _ h in
+    record {
+      bits = λ s l. same _ _ (at_string 4 (λ t. beq (has mask (value_bit t)) (test t)) b.1 s l);
+      small = ltb-true mask 2147483648 b.0;
+    }
 
-pub match_entry : (i : ℕ) → i < 80 → (s : List Bool) → length s ≤ 4 → has (get_or MATCHES i 0) (value_bit s) ≡ begins s (string_at i)
-unfolding match_test
-match_entry i h s l =
-    same _ _ (at_string 4 (λ t. beq (has (get_or MATCHES i 0) (value_bit t)) (begins t (string_at i))) (at_below match_test 80 matches-right i h) s l)
-
-unfoldable value_cover_test : ℕ → Bool
-value_cover_test i = each (λ s. beq (has (get_or VALUES_COVERED i 0) (value_bit s)) (begins (string_at i) s)) (strings 4)
-
-value-covers-right : below value_cover_test 80 ≡ true
-unfolding below value_cover_test each strings begins digits number
-value-covers-right = refl
-
-pub value_cover_entry : (i : ℕ) → i < 80 → (s : List Bool) → length s ≤ 4 → has (get_or VALUES_COVERED i 0) (value_bit s) ≡ begins (string_at i) s
-unfolding value_cover_test
-value_cover_entry i h s l =
-    same _ _ (at_string 4 (λ t. beq (has (get_or VALUES_COVERED i 0) (value_bit t)) (begins (string_at i) t)) (at_below value_cover_test 80 value-covers-right i h) s l)
-
-unfoldable child_cover_test : ℕ → Bool
-child_cover_test i = each (λ s. not (nat_eq (length s) 5) || beq (has (get_or CHILDREN_COVERED i 0) (number s)) (begins (string_at i) s)) (strings 5)
-
-child-covers-right : below child_cover_test 80 ≡ true
-unfolding below child_cover_test each strings begins digits number
-child-covers-right = refl
+unfoldable children_hold : ℕ → (List Bool → Bool) → Bool
+children_hold mask test = each (λ s. not (nat_eq (length s) 5) || beq (has mask (number s)) (test s)) (strings 5)
 
 of-five : (n : ℕ) (x : Bool) → n ≡ 5 → (not (nat_eq n 5) || x) ≡ true → x ≡ true
 of-five n x e h = (rw e at h)
 
-pub child_cover_entry : (i : ℕ) → i < 80 → (s : List Bool) → length s ≡ 5 → has (get_or CHILDREN_COVERED i 0) (number s) ≡ begins (string_at i) s
-unfolding child_cover_test
-child_cover_entry i h s l =
+children-held : (mask : ℕ) (test : List Bool → Bool) → children_hold mask test ≡ true → HoldsChildren mask test
+unfolding children_hold
+children-held mask test h s l =
     same _ _
     (of-five (length s) _ l
-    (at_string 5 (λ t. not (nat_eq (length t) 5) || beq (has (get_or CHILDREN_COVERED i 0) (number t)) (begins (string_at i) t)) (at_below child_cover_test 80 child-covers-right i h) s (omega arith)))
+    (at_string 5 (λ t. not (nat_eq (length t) 5) || beq (has mask (number t)) (test t)) h s (omega arith)))
 
--- what comes from a value bit on
+unfoldable places_hold : ℕ → ℕ → (List Bool → Bool) → Bool
+places_hold values children test = nat_lt values 2147483648 && each (λ s. beq (is_in values children s) (test s)) (strings 5)
+
+places-held : (values children : ℕ) (test : List Bool → Bool) → places_hold values children test ≡ true → HoldsPlaces values children test
+unfolding places_hold
+places-held values children test h =
+    let b = both (nat_lt values 2147483648) _ h in
+    record {
+      bits = λ s l. same _ _ (at_string 5 (λ t. beq (is_in values children t) (test t)) b.1 s l);
+      small = ltb-true values 2147483648 b.0;
+    }
+
+-- ---- the tables of masks: five levels of sixteen
+
+unfoldable rows : (ℕ → ℕ → Bool) → Bool
+rows test = below (λ level. below (test level) 16) 5
+
+at_row : (test : ℕ → ℕ → Bool) → rows test ≡ true → (level pos : ℕ) → level ≤ 4 → pos < 16 → test level pos ≡ true
+unfolding rows
+at_row test h level pos l p =
+    at_below (test level) 16 (at_below (λ k. below (test k) 16) 5 h level (omega arith)) pos p
+
+unfoldable match_test : ℕ → ℕ → Bool
+match_test level pos = values_hold (get_or MATCHES (16 * level + pos) 0) (λ s. begins s (take level (digits 4 pos)))
+
+matches-right : rows match_test ≡ true
+unfolding rows below match_test values_hold each strings begins digits number
+matches-right = refl
+
+pub match-entry : (level pos : ℕ) → level ≤ 4 → pos < 16 → HoldsValues (get_or MATCHES (16 * level + pos) 0) (λ s. begins s (take level (digits 4 pos)))
+unfolding match_test
+match-entry level pos l p = values-held _ _ (at_row match_test matches-right level pos l p)
+
+unfoldable value_cover_test : ℕ → ℕ → Bool
+value_cover_test level pos = values_hold (get_or VALUES_COVERED (16 * level + pos) 0) (begins (take level (digits 4 pos)))
+
+value-covers-right : rows value_cover_test ≡ true
+unfolding rows below value_cover_test values_hold each strings begins digits number
+value-covers-right = refl
+
+pub value-cover-entry : (level pos : ℕ) → level ≤ 4 → pos < 16 → HoldsValues (get_or VALUES_COVERED (16 * level + pos) 0) (begins (take level (digits 4 pos)))
+unfolding value_cover_test
+value-cover-entry level pos l p =
+    values-held _ _ (at_row value_cover_test value-covers-right level pos l p)
+
+unfoldable child_cover_test : ℕ → ℕ → Bool
+child_cover_test level pos = children_hold (get_or CHILDREN_COVERED (16 * level + pos) 0) (begins (take level (digits 4 pos)))
+
+child-covers-right : rows child_cover_test ≡ true
+unfolding rows below child_cover_test children_hold each strings begins digits number
+child-covers-right = refl
+
+pub child-cover-entry : (level pos : ℕ) → level ≤ 4 → pos < 16 → HoldsChildren (get_or CHILDREN_COVERED (16 * level + pos) 0) (begins (take level (digits 4 pos)))
+unfolding child_cover_test
+child-cover-entry level pos l p =
+    children-held _ _ (at_row child_cover_test child-covers-right level pos l p)
+
+-- ---- what comes from a value bit on, and behind a child bit
+
 unfoldable from_value_test : List Bool → Bool
-from_value_test t = each (λ s. beq (is_in (get_or FROM_VALUE (value_bit t) (0, 0)).0 (get_or FROM_VALUE (value_bit t) (0, 0)).1 s) (not (is_before s t))) (strings 5)
+from_value_test t = places_hold (get_or FROM_VALUE (value_bit t) (0, 0)).0 (get_or FROM_VALUE (value_bit t) (0, 0)).1 (λ s. not (is_before s t))
 
 from-values-right : each from_value_test (strings 4) ≡ true
-unfolding from_value_test each strings number
+unfolding from_value_test places_hold each strings number
 from-values-right = refl
 
-pub from_value_entry : (t : List Bool) → length t ≤ 4 → (s : List Bool) → length s ≤ 5 → is_in (get_or FROM_VALUE (value_bit t) (0, 0)).0 (get_or FROM_VALUE (value_bit t) (0, 0)).1 s ≡ not (is_before s t)
+pub from-value-entry : (b : ℕ) (t : List Bool) → length t ≤ 4 → value_bit t ≡ b → HoldsPlaces (get_or FROM_VALUE b (0, 0)).0 (get_or FROM_VALUE b (0, 0)).1 (λ s. not (is_before s t))
 unfolding from_value_test
-from_value_entry t h s l =
-    same _ _ (at_string 5 (λ u. beq (is_in (get_or FROM_VALUE (value_bit t) (0, 0)).0 (get_or FROM_VALUE (value_bit t) (0, 0)).1 u) (not (is_before u t))) (at_string 4 from_value_test from-values-right t h) s l)
+from-value-entry b t l e =
+    subst (λ k. HoldsPlaces (get_or FROM_VALUE k (0, 0)).0 (get_or FROM_VALUE k (0, 0)).1 (λ s. not (is_before s t))) e
+    (places-held _ _ _ (at_string 4 from_value_test from-values-right t l))
 
--- what is behind a child bit
 unfoldable behind_child_test : List Bool → Bool
-behind_child_test t = not (nat_eq (length t) 5) || each (λ s. beq (is_in (get_or BEHIND_CHILD (number t) (0, 0)).0 (get_or BEHIND_CHILD (number t) (0, 0)).1 s) (is_before t s)) (strings 5)
+behind_child_test t = not (nat_eq (length t) 5) || places_hold (get_or BEHIND_CHILD (number t) (0, 0)).0 (get_or BEHIND_CHILD (number t) (0, 0)).1 (is_before t)
 
 behind-children-right : each behind_child_test (strings 5) ≡ true
-unfolding behind_child_test each strings number
+unfolding behind_child_test places_hold each strings number
 behind-children-right = refl
 
-pub behind_child_entry : (t : List Bool) → length t ≡ 5 → (s : List Bool) → length s ≤ 5 → is_in (get_or BEHIND_CHILD (number t) (0, 0)).0 (get_or BEHIND_CHILD (number t) (0, 0)).1 s ≡ is_before t s
+pub behind-child-entry : (b : ℕ) (t : List Bool) → length t ≡ 5 → number t ≡ b → HoldsPlaces (get_or BEHIND_CHILD b (0, 0)).0 (get_or BEHIND_CHILD b (0, 0)).1 (is_before t)
 unfolding behind_child_test
-behind_child_entry t h s l =
-    same _ _ (at_string 5 (λ u. beq (is_in (get_or BEHIND_CHILD (number t) (0, 0)).0 (get_or BEHIND_CHILD (number t) (0, 0)).1 u) (is_before t u)) (of-five (length t) _ h (at_string 5 behind_child_test behind-children-right t (omega arith))) s l)
+behind-child-entry b t l e =
+    subst (λ k. HoldsPlaces (get_or BEHIND_CHILD k (0, 0)).0 (get_or BEHIND_CHILD k (0, 0)).1 (is_before t)) e
+    (places-held _ _ _ (of-five (length t) _ l (at_string 5 behind_child_test behind-children-right t (omega arith))))

@@ -1,4 +1,5 @@
--- The places of a node: strings of at most five bits below its path.
+-- The places of a node of a tree bitmap (Eatherton, Dittia and Varghese): strings of at most five bits below its path.
+-- The numbers of the bits are those of the crate prefix-trie.
 use Rattle.std.specs.Prelude.{◌≡◌, ◌≢◌, ℕ, zero, suc, ◌+◌, ◌-◌, ◌/◌, ◌%◌, ◌^◌, ◌<◌, ◌≤◌, Bool, true, false, cond, nat_lt, ◌==◌, List, [], ◌∷◌, ◌++◌, length, map, filter, take}
 use Rattle.std.specs.Int.{bit_at}
 use Rattle.std.specs.Ordering.{is_lt}
@@ -15,6 +16,10 @@ has bitmap k = bit_at bitmap k == 1
 abbrev pub value_bit : List Bool → ℕ
 value_bit s = 2 ^ length s - 1 + number s
 
+-- the number that a 1 and then the string write, which counts the places level by level: `value_bit s + 1`, or 32 and the child bit
+abbrev pub heap_number : List Bool → ℕ
+heap_number s = 2 ^ length s + number s
+
 -- the strings of at most n bits, each before its extensions, and 0 before 1
 unfoldable pub strings : ℕ → List (List Bool)
 strings zero = [] ∷ []
@@ -30,11 +35,12 @@ unfoldable pub pick : {X : Type 0} → ℕ → List X → List X
 pick m [] = []
 pick m (x ∷ xs) = cond (m % 2 == 1) (x ∷ pick (m / 2) xs) (pick (m / 2) xs)
 
--- the value bits in a mask are those of the strings that pass a test
-abbrev pub HoldsValues : ℕ → (List Bool → Bool) → Type 0
-HoldsValues mask test = (s : List Bool) → length s ≤ 4 → has mask (value_bit s) ≡ test s
+-- a mask of value bits holds exactly those of the strings that pass a test; there is no value bit 31
+pub record HoldsValues (mask : ℕ) (test : List Bool → Bool) : Type 0 where
+  pub bits : (s : List Bool) → length s ≤ 4 → has mask (value_bit s) ≡ test s
+  pub small : mask < 2 ^ 31
 
--- the child bits in a mask are those of the strings that pass a test
+-- a mask of child bits holds exactly those of the strings that pass a test
 abbrev pub HoldsChildren : ℕ → (List Bool → Bool) → Type 0
 HoldsChildren mask test = (s : List Bool) → length s ≡ 5 → has mask (number s) ≡ test s
 
@@ -42,13 +48,20 @@ HoldsChildren mask test = (s : List Bool) → length s ≡ 5 → has mask (numbe
 abbrev pub is_in : ℕ → ℕ → List Bool → Bool
 is_in values children s = cond (nat_lt (length s) 5) (has values (value_bit s)) (has children (number s))
 
+-- a value mask and a child mask hold exactly the places that pass a test
+pub record HoldsPlaces (values children : ℕ) (test : List Bool → Bool) : Type 0 where
+  pub bits : (s : List Bool) → length s ≤ 5 → is_in values children s ≡ test s
+  pub small : values < 2 ^ 31
+
 -- the strings whose bits are in the masks, in listing order
 abbrev pub places : ℕ → ℕ → List (List Bool)
 places values children = filter (is_in values children) (strings 5)
 
+-- the place of a string: its value bit, or of five bits its child bit
 abbrev pub place_of : List Bool → Place
 place_of s = cond (nat_lt (length s) 5) (Value (value_bit s)) (Child (number s))
 
+-- whether s is listed before t
 abbrev pub is_before : List Bool → List Bool → Bool
 is_before s t = is_lt (listing_cmp s t)
 

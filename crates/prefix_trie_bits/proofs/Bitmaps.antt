@@ -1,0 +1,56 @@
+-- The bits of `|` and `&` of two bitmaps, and of bitmaps side by side.
+use Rattle.std.proofs.Common.{◌≡◌, ℕ, suc, zero, ◌-◌, ◌*◌, ◌^◌, ◌<◌, ◌≤◌, Bool, true, false, ◌&&◌, ◌||◌, eqb, bit_and, bit_or, min, max, refl, sym, ap, ◌∙◌, arith, add-zero, pow_pos}
+use Rattle.std.specs.Int.{bit_at}
+use Rattle.std.proofs.lemmas.Nat.Bits.{bit_at_or, bit_at_and, bit_at-lt, bit_at-zero, bit_at_above, bit_at_cat_low, bit_at_cat_high}
+use Rattle.prefix_trie_bits.specs.Places.{has}
+use Rattle.prefix_trie_bits.proofs.Ranks.{has-from}
+
+pub has-or : (a b i : ℕ) → has (bit_or a b) i ≡ (has a i || has b i)
+has-or a b i =
+    ap (λ x. eqb x 1) (bit_at_or a b i) ∙ go (bit_at a i) (bit_at b i) (bit_at-lt a i) (bit_at-lt b i)
+  where
+    go : (x y : ℕ) → x < 2 → y < 2 → eqb (max x y) 1 ≡ (eqb x 1 || eqb y 1)
+    go zero zero l m = refl
+    go zero (suc zero) l m = refl
+    go (suc zero) zero l m = refl
+    go (suc zero) (suc zero) l m = refl
+    go zero (suc (suc y)) l m = absurd (omega arith)
+    go (suc zero) (suc (suc y)) l m = absurd (omega arith)
+    go (suc (suc x)) y l m = absurd (omega arith)
+
+pub has-and : (a b i : ℕ) → has (bit_and a b) i ≡ (has a i && has b i)
+has-and a b i =
+    ap (λ x. eqb x 1) (bit_at_and a b i) ∙ go (bit_at a i) (bit_at b i) (bit_at-lt a i) (bit_at-lt b i)
+  where
+    go : (x y : ℕ) → x < 2 → y < 2 → eqb (min x y) 1 ≡ (eqb x 1 && eqb y 1)
+    go zero zero l m = refl
+    go zero (suc zero) l m = refl
+    go (suc zero) zero l m = refl
+    go (suc zero) (suc zero) l m = refl
+    go zero (suc (suc y)) l m = absurd (omega arith)
+    go (suc zero) (suc (suc y)) l m = absurd (omega arith)
+    go (suc (suc x)) y l m = absurd (omega arith)
+
+pub has-zero : (i : ℕ) → has 0 i ≡ false
+has-zero i = ap (λ x. eqb x 1) (bit_at-zero i)
+
+pub or-false : (x : Bool) → (x || false) ≡ x
+or-false true = refl
+or-false false = refl
+
+pub or-true : (x : Bool) → (x || true) ≡ true
+or-true true = refl
+or-true false = refl
+
+-- ---- a bitmap shifted up
+
+pub has-shifted_low : (m k i : ℕ) → i < k → has (m * 2 ^ k) i ≡ false
+has-shifted_low m k i l =
+    has-from _ i 0 (ap (λ y. bit_at y i) (sym (add-zero (m * 2 ^ k))) ∙ bit_at_cat_low m k 0 i l ∙ bit_at-zero i)
+
+pub has-shifted : (m k i : ℕ) → k ≤ i → has (m * 2 ^ k) i ≡ has m (i - k)
+has-shifted m k i l =
+    ap (λ x. eqb x 1) (ap (λ y. bit_at y i) (sym (add-zero (m * 2 ^ k))) ∙ bit_at_cat_high m k 0 i (pow_pos k) l)
+
+pub has-above : (m w i : ℕ) → m < 2 ^ w → w ≤ i → has m i ≡ false
+has-above m w i small l = has-from m i 0 (bit_at_above m w i small l)

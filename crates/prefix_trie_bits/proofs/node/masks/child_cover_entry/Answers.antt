@@ -1,0 +1,5 @@
+use Rattle.prefix_trie_bits.proofs.Tables.{child-cover-entry}
+use Rattle.prefix_trie_bits.proofs.node.masks.child_cover_entry.Goals as goal
+
+pub returns : goal.returns
+returns c = child-cover-entry c.args.level c.args.pos c.requires.level c.requires.pos

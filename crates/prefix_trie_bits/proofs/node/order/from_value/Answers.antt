@@ -1,0 +1,5 @@
+use Rattle.prefix_trie_bits.proofs.Tables.{from-value-entry}
+use Rattle.prefix_trie_bits.proofs.node.order.from_value.Goals as goal
+
+pub returns : goal.returns
+returns c = from-value-entry c.args.bit

@@ -1,5 +1,0 @@
-use Rattle.prefix_trie_bits.proofs.Ranks.{rank_is}
-use Rattle.prefix_trie_bits.proofs.node.rank.Goals as goal
-
-pub returns : goal.returns
-returns c = rank_is c.args.bitmap c.args.k c.requires

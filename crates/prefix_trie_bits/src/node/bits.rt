@@ -1,0 +1,101 @@
+//! The bits that strings below a node's path have in its two bitmaps, and ranks.
+ghost use Rattle.std.specs.Prelude.{◌≡◌, ℕ, ◌+◌, ◌^◌, ◌<◌, ◌≤◌, List, Bool, take, drop, true, false};
+ghost use Rattle.prefix_trie_bits.specs.Bits.{number, digits};
+ghost use Rattle.prefix_trie_bits.specs.Places.{has, value_bit, ones_below, Sets};
+
+use crate::prefix::Key;
+
+/// Whether bit `k` of a bitmap is set.
+#[inline]
+pub fn has_bit(bitmap: u32, k: u32) -> bool
+    requires { k < 32 }
+    ensures { result ≡ has bitmap k }
+{
+    (bitmap >> k) & 1 == 1
+}
+
+/// How many of the bits below bit `k` are set.
+///
+/// In the full bitmap of a node this is the place of `k` in the node's block. A filtered bitmap
+/// gives other ranks, which are no places.
+#[inline]
+pub fn rank(bitmap: u32, k: u32) -> u32
+    requires { k < 32 }
+    ensures { result ≡ ones_below k bitmap }
+{
+    (bitmap & ((1 << k) - 1)).count_ones()
+}
+
+/// How many bits are set: the number of items in the node's block.
+#[inline]
+pub fn count(bitmap: u32) -> u32
+    ensures { result ≡ ones_below 32 bitmap }
+{
+    bitmap.count_ones()
+}
+
+/// The bitmap with bit `k` set, which was clear.
+#[inline]
+pub fn with_bit(bitmap: u32, k: u32) -> u32
+    requires bit { k < 32 }
+    requires clear { has bitmap k ≡ false }
+    ensures sets { Sets bitmap k result }
+    ensures small { bitmap < 2 ^ 31 → k < 31 → result < 2 ^ 31 }
+{
+    bitmap | 1 << k
+}
+
+/// The bitmap with bit `k` cleared, which was set.
+#[inline]
+pub fn without_bit(bitmap: u32, k: u32) -> u32
+    requires bit { k < 32 }
+    requires set { has bitmap k ≡ true }
+    ensures clears { Sets result k bitmap }
+    ensures small { bitmap < 2 ^ 31 → result < 2 ^ 31 }
+{
+    bitmap & !(1 << k)
+}
+
+/// The value bit, 0 to 30, of a key of `len` bits in its own node, whose path has `depth` bits.
+///
+/// A string of j bits below the path, 0 to 4, has the value bit 2^j - 1 + its number.
+#[inline]
+pub fn value_bit_of<K: Key>(key: K, depth: u32, len: u32) -> u32
+    requires key { K.IsKey key }
+    requires whole { depth ≤ len }
+    requires last { len < depth + 5 }
+    requires within { len ≤ K.bit_width }
+    ensures value { result ≡ value_bit (drop depth (take len (K.bits key))) }
+    ensures small { result < 31 }
+{
+    let n = len - depth;
+    (1 << n) - 1 + key.window(depth, n)
+}
+
+/// The child bit, 0 to 31, of a key below a node whose path has `depth` bits.
+///
+/// It is the number of the five bits from `depth` on.
+#[inline]
+pub fn child_bit_of<K: Key>(key: K, depth: u32) -> u32
+    requires key { K.IsKey key }
+    requires within { depth + 5 ≤ K.bit_width }
+    ensures value { result ≡ number (take 5 (drop depth (K.bits key))) }
+    ensures small { result < 32 }
+{
+    key.window(depth, 5)
+}
+
+/// The length and the number of the string that has a value bit, as `Key::extend` takes them.
+///
+/// For example bit 28 is that of 1101: length 4, number 13.
+#[inline]
+pub fn string_of(bit: u32) -> (u32, u32)
+    requires { bit < 31 }
+    ensures short { result.0 ≤ 4 }
+    ensures fits { result.1 < 2 ^ result.0 }
+    ensures bit { value_bit (digits result.0 result.1) ≡ bit }
+    ensures only { (s : List Bool) → value_bit s ≡ bit → s ≡ digits result.0 result.1 }
+{
+    let n = 31 - (bit + 1).leading_zeros();
+    (n, bit + 1 - (1 << n))
+}
