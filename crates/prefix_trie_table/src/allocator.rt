@@ -1,6 +1,6 @@
 //! Blocks of seven sizes in one array, for nodes and for values.
 pub mod blocks;
-pub mod free_list;
+mod free_list;
 pub mod node;
 pub mod nodes;
 pub mod slots;

@@ -42,7 +42,7 @@ impl<S: Slot, A: Allocator> Model for Blocks<S, A> {
 
 impl<S: Slot, A: Allocator> Blocks<S, A> {
     /// Slots that stand outside every block, lists of blocks of which none is made, and a limit.
-    pub fn new(slots: Vec<S, A>, lists: Vec<FreeList<A>, A>, limit: u32) -> Self
+    fn new(slots: Vec<S, A>, lists: Vec<FreeList<A>, A>, limit: u32) -> Self
         requires within { vec_len slots ≤ limit }
         requires sizes { All (λ t. 0 < t.size) lists.items }
         requires none_made { All (λ t. (t.made ≡ 0) × (t.starts ≡ [])) lists.items }
@@ -59,6 +59,7 @@ impl<S: Slot, A: Allocator> Blocks<S, A> {
     }
 
     /// The number of slots.
+    #[inline]
     pub fn len(&self) -> usize
         ensures len { result ≡ length self.now.slots }
         ensures made { result ≡ self.now.first + slots_made self.now.tiers }
@@ -111,7 +112,7 @@ impl<S: Slot, A: Allocator> Blocks<S, A> {
     }
 
     /// Sees to it that `n` blocks of tier `k` are free, and makes those that lack. After a refusal those made stay free.
-    pub fn obtain(&mut self, k: usize, n: usize) -> Result<(), Refusal>
+    fn obtain(&mut self, k: usize, n: usize) -> Result<(), Refusal>
         requires { k < length self.old.tiers }
         ensures made { OnOk result (self.new ≡ grown_times S.vacant self.old k (n - length (tier_at self.old.tiers k).starts)) }
         ensures err { OnErr result ((m : ℕ) × (length (tier_at self.old.tiers k).starts + m < n) × (self.new ≡ grown_times S.vacant self.old k m)) }
@@ -129,7 +130,7 @@ impl<S: Slot, A: Allocator> Blocks<S, A> {
     }
 
     /// Takes a free block of tier `k`.
-    pub fn take(&mut self, k: usize) -> u32
+    fn take(&mut self, k: usize) -> u32
         requires within { k < length self.old.tiers }
         requires ready { 0 < length (tier_at self.old.tiers k).starts }
         ensures starts { (tier_at self.old.tiers k).starts ≡ (tier_at self.new.tiers k).starts ++ result ∷ [] }
@@ -142,7 +143,7 @@ impl<S: Slot, A: Allocator> Blocks<S, A> {
     }
 
     /// Gives a block of tier `k` back, whose slots are vacant. It asks for no memory.
-    pub fn give_back(&mut self, k: usize, start: u32)
+    fn give_back(&mut self, k: usize, start: u32)
         requires within { k < length self.old.tiers }
         requires place { length (tier_at self.old.tiers k).starts < (tier_at self.old.tiers k).made }
         ensures starts { self.new ≡ with_tier self.old k (record (tier_at self.old.tiers k) { starts = (tier_at self.old.tiers k).starts ++ start ∷ [] }) }
@@ -153,7 +154,7 @@ impl<S: Slot, A: Allocator> Blocks<S, A> {
     }
 
     /// Puts a value into a block that has room for it, whose list has `count` values.
-    pub fn insert_within(&mut self, start: u32, count: u32, place: u32, value: S)
+    fn insert_within(&mut self, start: u32, count: u32, place: u32, value: S)
         requires room { start + count < length self.old.slots }
         requires place { place ≤ count }
         ensures slots { self.new ≡ record self.old { slots = insert (remove self.old.slots (start + count)) (start + place) value } }
@@ -170,7 +171,7 @@ impl<S: Slot, A: Allocator> Blocks<S, A> {
     }
 
     /// Takes a value out of a block whose list has `count` values.
-    pub fn remove_within(&mut self, start: u32, count: u32, place: u32) -> S
+    fn remove_within(&mut self, start: u32, count: u32, place: u32) -> S
         requires within { start + count ≤ length self.old.slots }
         requires place { place < count }
         ensures slots { self.new ≡ record self.old { slots = insert (remove self.old.slots (start + place)) (start + count - 1) S.vacant } }
@@ -187,6 +188,7 @@ impl<S: Slot, A: Allocator> Blocks<S, A> {
     }
 
     /// Writes one slot, of a block in use or before the first block, and hands out what stood there.
+    #[inline]
     pub fn put(&mut self, start: u32, place: u32, value: S) -> S
         requires { start + place < length self.old.slots }
         ensures slots { self.new ≡ record self.old { slots = slice_set self.old.slots (start + place) value } }
@@ -198,6 +200,7 @@ impl<S: Slot, A: Allocator> Blocks<S, A> {
     }
 
     /// Reads one slot.
+    #[inline]
     pub fn at(&self, start: u32, place: u32) -> &S
         requires { start + place < length self.now.slots }
         ensures slot { result.now ≡ slice_index_or self.now.slots (start + place) result.now }
@@ -218,7 +221,7 @@ impl<S: Slot, A: Allocator> Blocks<S, A> {
     }
 
     /// Moves the list of a block to a free block of tier `to`, puts a value into it, and gives the old block back.
-    pub fn insert_moving(
+    fn insert_moving(
         &mut self,
         k: usize,
         start: u32,
@@ -252,7 +255,7 @@ impl<S: Slot, A: Allocator> Blocks<S, A> {
     }
 
     /// Moves the list of a block to a block of tier `to`, if one is free or can be made, and gives the old block back.
-    pub fn step_down(&mut self, k: usize, start: u32, to: usize, count: u32) -> Option<u32>
+    fn step_down(&mut self, k: usize, start: u32, to: usize, count: u32) -> Option<u32>
         requires in_use { InUse S.vacant self.old k start count }
         requires within { to < length self.old.tiers }
         requires holds { count ≤ (tier_at self.old.tiers to).size }
@@ -273,7 +276,7 @@ impl<S: Slot, A: Allocator> Blocks<S, A> {
     }
 
     /// Puts a value into the list of a block: where that is full, the list moves to the smallest block that holds it, of which one is free.
-    pub fn insert_into(&mut self, k: usize, start: u32, count: u32, place: u32, value: S) -> BlockRef
+    fn insert_into(&mut self, k: usize, start: u32, count: u32, place: u32, value: S) -> BlockRef
         requires in_use { InUse S.vacant self.old k start count }
         requires ready { (count < (tier_at self.old.tiers k).size) ⊎ IsSomeAnd (tier_for self.old.tiers (count + 1)) (λ to. 0 < length (tier_at self.old.tiers to).starts) }
         requires place { place ≤ count }
@@ -344,7 +347,7 @@ impl<S: Slot, A: Allocator> Blocks<S, A> {
 
     /// Takes a value out of the list of a block. A block whose list is then empty is given back. Else, where a smaller tier holds
     /// the rest, the list moves to a block of the smallest, if one is free or can be made.
-    pub fn remove_from(&mut self, k: usize, start: u32, count: u32, place: u32) -> (S, Option<BlockRef>)
+    fn remove_from(&mut self, k: usize, start: u32, count: u32, place: u32) -> (S, Option<BlockRef>)
         requires in_use { InUse S.vacant self.old k start count }
         requires place { place < count }
         ensures none { IsSome result.1 ↔ (1 < count) }
@@ -402,7 +405,7 @@ fn empty_lists<A: Allocator + Clone>(
 }
 
 /// The block sizes of cells.
-pub const CELL_SIZES: [u32; 7] = [1, 2, 4, 8, 16, 24, 31];
+const CELL_SIZES: [u32; 7] = [1, 2, 4, 8, 16, 24, 31];
 
 /// An array of cells with no block.
 pub fn cells<T: Drop, A: Allocator + Clone>(
@@ -418,7 +421,7 @@ pub fn cells<T: Drop, A: Allocator + Clone>(
 }
 
 /// The block sizes of nodes.
-pub const NODE_SIZES: [u32; 7] = [1, 2, 4, 8, 16, 24, 32];
+const NODE_SIZES: [u32; 7] = [1, 2, 4, 8, 16, 24, 32];
 
 /// An array of nodes with a blank one and no block.
 pub(super) fn node_blocks<A: Allocator + Clone>(
