@@ -3,3 +3,4 @@ pub mod Tilings
 pub mod RunLemmas
 pub mod Soundness
 pub mod Spending
+pub mod Turnovers
