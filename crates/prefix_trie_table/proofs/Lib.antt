@@ -4,3 +4,4 @@ pub mod RunLemmas
 pub mod Soundness
 pub mod Spending
 pub mod Turnovers
+pub mod Preparing

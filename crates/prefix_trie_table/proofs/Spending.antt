@@ -130,7 +130,7 @@ lacking_none true o e some = refl
 lacking_none false None e some = absurd (false≢true some)
 lacking_none false (Some x) e some = absurd (let f : ◌≡◌ {A = Option ℕ} (Some x) None = e in cc)
 
-lacking_some : (b : Bool) (o : Option ℕ) (t : ℕ) → (if b then None else o) ≡ Some t → o ≡ Some t
+pub lacking_some : (b : Bool) (o : Option ℕ) (t : ℕ) → (if b then None else o) ≡ Some t → o ≡ Some t
 lacking_some true o t e = absurd (let f : ◌≡◌ {A = Option ℕ} None (Some t) = e in cc)
 lacking_some false o t e = e
 

@@ -63,6 +63,9 @@ tiers_set P ts k t inside here there j =
     ⊎_elim (λ (e : j ≡ k). subst (λ i. P i (tier_at (set ts k t) i)) (sym e) (subst (P k) (sym (get_or-set_same ts k t _ inside)) here)) (λ (n : j ≢ k). subst (P j) (sym (get_or-set_other ts k j t _ n)) (there j n)) (cases_eq j k)
 
 module _ {S : Type 0} where
+  pub tiers_stay : (v w : Store S) → tier_sizes w.tiers ≡ tier_sizes v.tiers → length w.tiers ≡ length v.tiers
+  tiers_stay v w e = sym (length-map w.tiers (λ t. t.size)) ∙ ap (λ ns. length ns) e ∙ length-map v.tiers (λ t. t.size)
+
   pub Turnover-same : (v w : Store S) → w ≡ v → Turnover v w none_at none_at none_at
   Turnover-same v w e = subst (λ x. Turnover v x none_at none_at none_at) (sym e) (record {
     made_is = λ j. omega arith;
@@ -110,11 +113,8 @@ module _ {S : Type 0} where
   Turnover-grown_times vacant v k (suc m) inside =
       let w : Store S = grown_times vacant v k m in
       let before = Turnover-grown_times vacant v k m inside in
-      let last = Turnover-grown vacant w (grown vacant w k) k (omega (arith, tiers_stay w before.sizes)) refl in
+      let last = Turnover-grown vacant w (grown vacant w k) k (omega (arith, tiers_stay v w before.sizes)) refl in
       Turnover-as v (grown vacant w k) _ _ _ (many_at k (suc m)) none_at none_at (Turnover-then v w (grown vacant w k) _ _ _ _ _ _ before last) (λ j. (let h = many-add k m 1 j in let e : many_at k (m + 1) j ≡ many_at k (suc m) j = ap (λ n. many_at k n j) (let f : m + 1 ≡ suc m = omega arith in f) in omega arith)) (λ j. refl)
-    where
-      tiers_stay : (w : Store S) → tier_sizes w.tiers ≡ tier_sizes v.tiers → length w.tiers ≡ length v.tiers
-      tiers_stay w e = sym (length-map w.tiers (λ t. t.size)) ∙ ap (λ ns. length ns) e ∙ length-map v.tiers (λ t. t.size)
 
   pub Turnover-taken : (v w : Store S) (k : ℕ) → k < length v.tiers → 0 < free_at v.tiers k → w ≡ record v { tiers = taken v.tiers k } → Turnover v w none_at (many_at k 1) none_at
   Turnover-taken v w k inside ready e = subst (λ x. Turnover v x none_at (many_at k 1) none_at) (sym e) (record {

@@ -1,7 +1,7 @@
 //! An array cut into blocks of a few sizes.
-ghost use Rattle.std.specs.Prelude.{MatchResult, ◌≡◌, ℕ, ◌+◌, ◌-◌, ◌^◌, ◌<◌, ◌≤◌, ◌↔◌, [], ◌∷◌, ◌++◌, List, Some, length, replicate, insert, remove, All, map, None, IfOk, IsTrue, IsOk, IsErr, OnOk, OnErr, nat_lt, if◌then◌else◌, IfErr, IfSome, IfNone, IsSome, IsSomeAnd, MatchOption, ◌⊎◌, vec_len, vec_capacity, slice_index_or, slice_set};
+ghost use Rattle.std.specs.Prelude.{MatchResult, ◌≡◌, ℕ, ◌+◌, ◌-◌, ◌*◌, ◌^◌, ◌<◌, ◌≤◌, ◌↔◌, [], ◌∷◌, ◌++◌, List, Some, length, replicate, insert, remove, All, map, None, IfOk, IsTrue, IsOk, IsErr, OnOk, OnErr, nat_lt, if◌then◌else◌, IfErr, IfSome, IfNone, IsSome, IsSomeAnd, MatchOption, ◌⊎◌, vec_len, vec_capacity, slice_index_or, slice_set};
 ghost use Rattle.prefix_trie_table.specs.Runs.{swap_runs};
-ghost use Rattle.prefix_trie_table.specs.Store.{Tier, Store, Block, Sound, tier_at, slots_made, with_tier, grown, grown_times, block, InUse, tier_for, no_blocks, taken, given, SameRoom, held, HasList, IsReady, tier_lacking, tier_sizes, free_at, Spends, SameBefore, Prepared, Enough, Keeps};
+ghost use Rattle.prefix_trie_table.specs.Store.{Tier, Store, Block, Sound, tier_at, slots_made, with_tier, grown, grown_times, block, InUse, tier_for, no_blocks, taken, given, SameRoom, held, HasList, IsReady, tier_lacking, tier_sizes, free_at, Spends, SameBefore, Prepared, Enough, Keeps, Turnover, CutShort, none_at, one_at, size_in, blocks_lacking, lacking_slots, tier_outgrown, tier_entered, tier_left};
 ghost use Rattle.prefix_trie_table.specs.Cells.{blank_node, cell_sizes, node_sizes};
 ghost use Rattle.prefix_trie_bits.specs.declared.prefix.Refusal.TheVariants.{Memory, IndexRange};
 
@@ -313,6 +313,12 @@ impl<S: Slot, A: Allocator> Blocks<S, A> {
         requires single { tier_for self.old.tiers 1 ≡ Some 0 }
         requires fits { IsSome (tier_for self.old.tiers (count + 1)) }
         requires few { lists + 1 < 2 ^ 64 }
+        ensures made { OnOk result (Turnover self.old self.new (blocks_lacking self.old.tiers k count lists) none_at none_at) }
+        ensures short { OnErr result (CutShort self.old self.new (blocks_lacking self.old.tiers k count lists)) }
+        ensures range { IfErr result (λ e. e ≡ IndexRange → self.old.limit < length self.old.slots + lacking_slots self.old.tiers k count lists) }
+        ensures granted { ((j : ℕ) → blocks_lacking self.old.tiers k count lists j ≡ 0) → IsOk result }
+        ensures unchanged { ((j : ℕ) → blocks_lacking self.old.tiers k count lists j ≡ 0) → self.new ≡ self.old }
+        ensures bound { (most : ℕ) → All (λ size. size ≤ most) (tier_sizes self.old.tiers) → lacking_slots self.old.tiers k count lists ≤ most + size_in (tier_sizes self.old.tiers) 0 * lists }
         ensures enough { OnOk result (Enough self.new.tiers k count lists) }
         ensures prepared { Prepared self.old self.new }
         ensures sound { (live : List (Block S)) → Sound S.vacant live self.old → Sound S.vacant live self.new }
