@@ -140,11 +140,27 @@ module _ {S : Type 0} where
       new : Tier
       new = record (tier_at v.tiers k) { starts = (tier_at v.tiers k).starts ++ start ∷ [] }
 
-  pub Turnover-written : (v w : Store S) (xs : List S) → w ≡ record v { slots = xs } → length xs ≡ length v.slots → Turnover v w none_at none_at none_at
-  Turnover-written v w xs e len = subst (λ x. Turnover v x none_at none_at none_at) (sym e) (record {
-    made_is = λ j. omega arith;
-    free_is = λ j. omega arith;
+  pub Turnover-written : (v w : Store S) (xs : List S) → w ≡ record v { slots = xs } → length w.slots ≡ length v.slots → Turnover v w none_at none_at none_at
+  Turnover-written v w xs e len = record {
+    made_is = λ j. ap (λ (x : Store S). (tier_at x.tiers j).made) e ∙ (let h : (tier_at v.tiers j).made ≡ (tier_at v.tiers j).made + 0 = omega arith in h);
+    free_is = λ j. (let h : free_at w.tiers j ≡ free_at v.tiers j = ap (λ (x : Store S). free_at x.tiers j) e in omega arith);
     longer = (let n = slots_of-none (tier_sizes v.tiers) none_at (λ j. refl) in omega arith);
-    sizes = refl;
-    limit_is = refl;
-  })
+    sizes = ap (λ (x : Store S). tier_sizes x.tiers) e;
+    limit_is = ap (λ (x : Store S). x.limit) e;
+  }
+
+  -- a free block is taken, and slots are written
+  pub Turnover-entered : (v w x : Store S) (to : ℕ) (xs : List S) → to < length v.tiers → 0 < free_at v.tiers to → w ≡ record v { tiers = taken v.tiers to } → x ≡ record w { slots = xs } → length x.slots ≡ length w.slots → Turnover v x none_at (many_at to 1) none_at
+  Turnover-entered v w x to xs inside ready ew ex lx =
+      Turnover-as v x _ _ _ none_at (many_at to 1) none_at (Turnover-then v w x _ _ _ _ _ _ (Turnover-taken v w to inside ready ew) (Turnover-written w x xs ex lx)) (λ j. refl) (λ j. omega arith)
+
+  -- slots are written, and a block is given back
+  pub Turnover-left : (x y z : Store S) (k start : ℕ) (ys : List S) → k < length x.tiers → y ≡ record x { slots = ys } → length y.slots ≡ length x.slots → z ≡ with_tier y k (record (tier_at y.tiers k) { starts = (tier_at y.tiers k).starts ++ start ∷ [] }) → Turnover x z none_at none_at (many_at k 1)
+  Turnover-left x y z k start ys inside ey ly ez =
+      let a = Turnover-written x y ys ey ly in
+      Turnover-as x z _ _ _ none_at none_at (many_at k 1) (Turnover-then x y z _ _ _ _ _ _ a (Turnover-given y z k start (omega (arith, tiers_stay x y a.sizes)) ez)) (λ j. refl) (λ j. omega arith)
+
+  -- a list moved from a block to another
+  pub Turnover-moved : (v x z : Store S) (k to : ℕ) → Turnover v x none_at (many_at to 1) none_at → Turnover x z none_at none_at (many_at k 1) → Turnover v z none_at (many_at to 1) (many_at k 1)
+  Turnover-moved v x z k to a b =
+      Turnover-as v z _ _ _ none_at (many_at to 1) (many_at k 1) (Turnover-then v x z _ _ _ _ _ _ a b) (λ j. refl) (λ j. omega arith)

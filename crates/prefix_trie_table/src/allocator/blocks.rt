@@ -1,7 +1,7 @@
 //! An array cut into blocks of a few sizes.
 ghost use Rattle.std.specs.Prelude.{MatchResult, ◌≡◌, ℕ, ◌+◌, ◌-◌, ◌*◌, ◌^◌, ◌<◌, ◌≤◌, ◌↔◌, [], ◌∷◌, ◌++◌, List, Some, length, replicate, insert, remove, All, map, None, IfOk, IsTrue, IsOk, IsErr, OnOk, OnErr, nat_lt, if◌then◌else◌, IfErr, IfSome, IfNone, IsSome, IsSomeAnd, MatchOption, ◌⊎◌, vec_len, vec_capacity, slice_index_or, slice_set};
 ghost use Rattle.prefix_trie_table.specs.Runs.{swap_runs};
-ghost use Rattle.prefix_trie_table.specs.Store.{Tier, Store, Block, Sound, tier_at, slots_made, with_tier, grown, grown_times, block, InUse, tier_for, no_blocks, taken, given, SameRoom, held, HasList, IsReady, tier_lacking, tier_sizes, free_at, Spends, SameBefore, Prepared, Enough, Keeps, Turnover, CutShort, none_at, one_at, size_in, blocks_lacking, lacking_slots, tier_outgrown, tier_entered, tier_left};
+ghost use Rattle.prefix_trie_table.specs.Store.{Tier, Store, Block, Sound, tier_at, slots_made, with_tier, grown, grown_times, block, InUse, tier_for, no_blocks, taken, given, SameRoom, held, HasList, IsReady, tier_lacking, tier_sizes, free_at, Spends, SameBefore, Prepared, Enough, Keeps, Turnover, CutShort, none_at, one_at, many_at, size_in, blocks_lacking, lacking_slots, tier_outgrown, tier_entered, tier_left};
 ghost use Rattle.prefix_trie_table.specs.Cells.{blank_node, cell_sizes, node_sizes};
 ghost use Rattle.prefix_trie_bits.specs.declared.prefix.Refusal.TheVariants.{Memory, IndexRange};
 
@@ -238,6 +238,7 @@ impl<S: Slot, A: Allocator> Blocks<S, A> {
         ensures room { SameRoom self.old self.new }
         ensures tiers { self.new.tiers ≡ given (taken self.old.tiers to) k start }
         ensures spends { Spends self.old self.new (Some to) }
+        ensures turned { Turnover self.old self.new none_at (many_at to 1) (many_at k 1) }
         ensures sound { (n : ℕ) (xs : List S) (live : List (Block S)) → Sound S.vacant (block k start n xs ∷ live) self.old → length xs ≡ count → Sound S.vacant (block to result (tier_at self.old.tiers to).size (insert xs place value) ∷ live) self.new }
     {
         let new = self.take(to);
@@ -285,6 +286,8 @@ impl<S: Slot, A: Allocator> Blocks<S, A> {
         ensures room { SameRoom self.old self.new }
         ensures spends { Spends self.old self.new (if nat_lt count (tier_at self.old.tiers k).size then None else tier_for self.old.tiers (count + 1)) }
         ensures tiers { self.new.tiers ≡ (if nat_lt count (tier_at self.old.tiers k).size then self.old.tiers else given (taken self.old.tiers result.tier) k start) }
+        ensures stayed { count < (tier_at self.old.tiers k).size → Turnover self.old self.new none_at none_at none_at }
+        ensures moved { (tier_at self.old.tiers k).size ≤ count → Turnover self.old self.new none_at (many_at result.tier 1) (many_at k 1) }
         ensures sound { (n : ℕ) (xs : List S) (live : List (Block S)) → Sound S.vacant (block k start n xs ∷ live) self.old → length xs ≡ count → Sound S.vacant (block result.tier result.start (tier_at self.old.tiers result.tier).size (insert xs place value) ∷ live) self.new }
     {
         if count < self.size_of(k) {
@@ -339,6 +342,8 @@ impl<S: Slot, A: Allocator> Blocks<S, A> {
         requires holds { HasList S.vacant self.old k start count }
         requires ready { IsReady self.old.tiers k count }
         requires place { place ≤ count }
+        ensures tier { MatchOption (tier_lacking self.old.tiers k count) (result ≡ record { tier = k; start = start }) (λ to. result.tier ≡ to) }
+        ensures turnover { Turnover self.old self.new none_at (one_at (tier_lacking self.old.tiers k count)) (one_at (tier_outgrown self.old.tiers k count)) }
         ensures spends { Spends self.old self.new (tier_lacking self.old.tiers k count) }
         ensures sound { (n : ℕ) (xs : List S) (live : List (Block S)) → Sound S.vacant (held k start n xs ++ live) self.old → length xs ≡ count → Sound S.vacant (block result.tier result.start (tier_at self.old.tiers result.tier).size (insert xs place value) ∷ live) self.new }
     {
