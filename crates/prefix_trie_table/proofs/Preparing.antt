@@ -5,11 +5,7 @@ use Rattle.std.proofs.lemmas.Bool.{cases_eq}
 use Rattle.prefix_trie_table.specs.Store.{Tier, Store, tier_for, tier_at, grown_times, tier_sizes, size_in, free_at, many_at, one_at, none_at, slots_of, tier_lacking, blocks_needed, blocks_lacking, lacking_slots, Turnover, CutShort}
 use Rattle.prefix_trie_table.proofs.Soundness.{tier_for_holds}
 use Rattle.prefix_trie_table.proofs.Spending.{size_at, lacking_some}
-use Rattle.prefix_trie_table.proofs.Turnovers.{many_here, many_other, many-add, slots_of-le, slots_of-add, slots_of-none, slots_of-many, Turnover-same, Turnover-then, Turnover-as, Turnover-grown_times, tiers_stay}
-
--- what is needed of a tier beyond the free ones
-many-sub : (k m : ℕ) (f : ℕ → ℕ) (j : ℕ) → many_at k (m - f k) j ≡ many_at k m j - f j
-many-sub k m f j = ⊎_elim (λ (e : j ≡ k). subst (λ i. many_at k (m - f k) i ≡ many_at k m i - f i) (sym e) (let a = many_here k (m - f k) in let b = many_here k m in omega arith)) (λ (n : j ≢ k). (let a = many_other k (m - f k) j n in let b = many_other k m j n in omega arith)) (cases_eq j k)
+use Rattle.prefix_trie_table.proofs.Turnovers.{many_here, many_other, many-add, many-sub, slots_of-le, slots_of-add, slots_of-none, slots_of-many, Turnover-same, Turnover-then, Turnover-as, Turnover-grown_times, tiers_stay}
 
 module _ {S : Type 0} where
   -- of the lacking blocks some were made, and the rest are of tier t, of which s must be free

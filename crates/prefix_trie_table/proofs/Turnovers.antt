@@ -20,6 +20,10 @@ many_next k m j = ⊎_elim (λ (e : j ≡ k). ap (many_at (suc k) m) (ap suc e) 
 pub many-add : (k m n j : ℕ) → many_at k (m + n) j ≡ many_at k m j + many_at k n j
 many-add k m n j = ⊎_elim (λ (e : j ≡ k). (let a = many_here k m in let b = many_here k n in let c = many_here k (m + n) in subst (λ i. many_at k (m + n) i ≡ many_at k m i + many_at k n i) (sym e) (omega arith))) (λ (d : j ≢ k). (let a = many_other k m j d in let b = many_other k n j d in let c = many_other k (m + n) j d in omega arith)) (cases_eq j k)
 
+-- what is needed of a tier beyond the free ones
+pub many-sub : (k m : ℕ) (f : ℕ → ℕ) (j : ℕ) → many_at k (m - f k) j ≡ many_at k m j - f j
+many-sub k m f j = ⊎_elim (λ (e : j ≡ k). subst (λ i. many_at k (m - f k) i ≡ many_at k m i - f i) (sym e) (let a = many_here k (m - f k) in let b = many_here k m in omega arith)) (λ (n : j ≢ k). (let a = many_other k (m - f k) j n in let b = many_other k m j n in omega arith)) (cases_eq j k)
+
 pub slots_of-le : (sizes : List ℕ) (m n : ℕ → ℕ) → ((j : ℕ) → m j ≤ n j) → slots_of sizes m ≤ slots_of sizes n
 slots_of-le [] m n le = omega arith
 slots_of-le (size ∷ sizes) m n le =
@@ -56,6 +60,10 @@ slots_of-many (size ∷ sizes) (suc k) m inside =
     let here : size * many_at (suc k) m 0 ≡ size * 0 = ap (λ x. size * x) (many_other (suc k) m 0 (λ e. omega arith)) in
     let next = slots_of-many sizes k m (omega arith) in
     omega arith
+
+-- a list that lost its last was not empty
+pub some_free : (xs ys : List ℕ) (x : ℕ) → xs ≡ ys ++ x ∷ [] → 0 < length xs
+some_free xs ys x e = (let n : length xs ≡ length (ys ++ x ∷ []) = ap (λ zs. length zs) e in omega (arith, length-append ys (x ∷ [])))
 
 -- each tier after one was set
 tiers_set : (P : ℕ → Tier → Type 0) (ts : List Tier) (k : ℕ) (t : Tier) → k < length ts → P k t → ((j : ℕ) → j ≢ k → P j (tier_at ts j)) → (j : ℕ) → P j (tier_at (set ts k t) j)

@@ -1,5 +1,5 @@
 //! An array cut into blocks of a few sizes.
-ghost use Rattle.std.specs.Prelude.{MatchResult, ◌≡◌, ℕ, ◌+◌, ◌-◌, ◌*◌, ◌^◌, ◌<◌, ◌≤◌, ◌↔◌, [], ◌∷◌, ◌++◌, List, Some, length, replicate, insert, remove, All, map, None, IfOk, IsTrue, IsOk, IsErr, OnOk, OnErr, nat_lt, if◌then◌else◌, IfErr, IfSome, IfNone, IsSome, IsSomeAnd, MatchOption, ◌⊎◌, vec_len, vec_capacity, slice_index_or, slice_set};
+ghost use Rattle.std.specs.Prelude.{MatchResult, ◌≡◌, ◌≢◌, ℕ, ◌+◌, ◌-◌, ◌*◌, ◌^◌, ◌<◌, ◌≤◌, ◌↔◌, [], ◌∷◌, ◌++◌, List, Some, length, replicate, insert, remove, All, map, None, IfOk, IsTrue, IsOk, IsErr, OnOk, OnErr, nat_lt, if◌then◌else◌, IfErr, IfSome, IfNone, IsSome, IsSomeAnd, MatchOption, ◌⊎◌, vec_len, vec_capacity, slice_index_or, slice_set};
 ghost use Rattle.prefix_trie_table.specs.Runs.{swap_runs};
 ghost use Rattle.prefix_trie_table.specs.Store.{Tier, Store, Block, Sound, tier_at, slots_made, with_tier, grown, grown_times, block, InUse, tier_for, no_blocks, taken, given, SameRoom, held, HasList, IsReady, tier_lacking, tier_sizes, free_at, Spends, SameBefore, Prepared, Enough, Keeps, Turnover, CutShort, none_at, one_at, many_at, size_in, blocks_lacking, lacking_slots, tier_outgrown, tier_entered, tier_left};
 ghost use Rattle.prefix_trie_table.specs.Cells.{blank_node, cell_sizes, node_sizes};
@@ -265,6 +265,7 @@ impl<S: Slot, A: Allocator> Blocks<S, A> {
         ensures keeps { Keeps self.old self.new }
         ensures room { IfSome result (λ _. SameRoom (grown_times S.vacant self.old to (1 - length (tier_at self.old.tiers to).starts)) self.new) }
         ensures tiers { IfSome result (λ _. self.new.tiers ≡ given (taken (grown_times S.vacant self.old to (1 - length (tier_at self.old.tiers to).starts)).tiers to) k start) }
+        ensures turned { IfSome result (λ _. Turnover self.old self.new (many_at to (1 - free_at self.old.tiers to)) (many_at to 1) (many_at k 1)) }
         ensures sound { IfSome result (λ new. (n : ℕ) (xs : List S) (live : List (Block S)) → Sound S.vacant (block k start n xs ∷ live) self.old → length xs ≡ count → Sound S.vacant (block to new (tier_at self.old.tiers to).size xs ∷ live) self.new) }
     {
         if self.obtain(to, 1).is_err() {
@@ -365,6 +366,9 @@ impl<S: Slot, A: Allocator> Blocks<S, A> {
         ensures keeps { Keeps self.old self.new }
         ensures tier { IfSome result.1 (λ p. (p.tier ≡ k) ⊎ (tier_for self.old.tiers (count - 1) ≡ Some p.tier)) }
         ensures smaller { (to : ℕ) → tier_for self.old.tiers (count - 1) ≡ Some to → to < k → 0 < length (tier_at self.old.tiers to).starts → IfSome result.1 (λ p. p.tier ≡ to) }
+        ensures gone { IfNone result.1 (Turnover self.old self.new none_at none_at (many_at k 1)) }
+        ensures stayed { IfSome result.1 (λ p. p.tier ≡ k → (p.start ≡ start) × Turnover self.old self.new none_at none_at none_at) }
+        ensures moved { IfSome result.1 (λ p. p.tier ≢ k → Turnover self.old self.new (many_at p.tier (1 - free_at self.old.tiers p.tier)) (many_at p.tier 1) (many_at k 1)) }
         ensures value { (n : ℕ) (xs : List S) (live : List (Block S)) → Sound S.vacant (block k start n xs ∷ live) self.old → length xs ≡ count → result.0 ≡ slice_index_or xs place result.0 }
         ensures sound { (n : ℕ) (xs : List S) (live : List (Block S)) → Sound S.vacant (block k start n xs ∷ live) self.old → length xs ≡ count → MatchOption result.1 (Sound S.vacant live self.new) (λ p. Sound S.vacant (block p.tier p.start (tier_at self.old.tiers p.tier).size (remove xs place) ∷ live) self.new) }
     {
@@ -390,6 +394,11 @@ impl<S: Slot, A: Allocator> Blocks<S, A> {
         requires place { place < count }
         ensures keeps { Keeps self.old self.new }
         ensures tier { (result.1.tier ≡ 0) ⊎ (result.1.tier < length self.new.tiers) }
+        ensures gone { count ≡ 1 → result.1 ≡ record { tier = 0; start = 0 } }
+        ensures smallest { 1 < count → (result.1.tier ≡ k) ⊎ (tier_for self.old.tiers (count - 1) ≡ Some result.1.tier) }
+        ensures stays { 1 < count → result.1.tier ≡ k → result.1.start ≡ start }
+        ensures smaller { (to : ℕ) → 1 < count → tier_for self.old.tiers (count - 1) ≡ Some to → 0 < free_at self.old.tiers to → result.1.tier ≡ to }
+        ensures turnover { Turnover self.old self.new (λ j. one_at (tier_entered k count result.1.tier) j - free_at self.old.tiers j) (one_at (tier_entered k count result.1.tier)) (one_at (tier_left k count result.1.tier)) }
         ensures value { (n : ℕ) (xs : List S) (live : List (Block S)) → Sound S.vacant (held k start n xs ++ live) self.old → length xs ≡ count → result.0 ≡ slice_index_or xs place result.0 }
         ensures sound { (n : ℕ) (xs : List S) (live : List (Block S)) → Sound S.vacant (held k start n xs ++ live) self.old → length xs ≡ count → Sound S.vacant (held result.1.tier result.1.start (tier_at self.old.tiers result.1.tier).size (remove xs place) ++ live) self.new }
     {

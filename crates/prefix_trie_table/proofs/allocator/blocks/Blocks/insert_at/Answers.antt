@@ -4,8 +4,8 @@ use Rattle.prefix_trie_table.specs.Store.{Sound, tier_at, block, held, Spends, t
 use Rattle.prefix_trie_table.proofs.Soundness.{block_inside, tier_for_holds}
 use Rattle.prefix_trie_table.proofs.Spending.{Spends-taken, Spends-inserted, Spends-then}
 use Rattle.prefix_trie_table.specs.Store.{Turnover, tier_outgrown, none_at, one_at, many_at}
-use Rattle.std.proofs.Common.{None, length-append}
-use Rattle.prefix_trie_table.proofs.Turnovers.{Turnover-entered}
+use Rattle.std.proofs.Common.{None}
+use Rattle.prefix_trie_table.proofs.Turnovers.{Turnover-entered, some_free}
 use Rattle.prefix_trie_table.proofs.allocator.blocks.Blocks.insert_at.Goals as goal
 
 pub insert_within-requires-clause-room : goal.insert_within-requires-clause-room
@@ -42,6 +42,5 @@ returns-then-count-eq0-clause-turnover g c =
     let found : tier_for ts 1 ≡ Some c.unwrap-tier.result = sym c.tier_for.ensures ∙ c.unwrap-tier.ensures in
     let is : tier_lacking ts c.args.k c.args.count ≡ Some c.unwrap-tier.result = ap (λ n. tier_lacking ts c.args.k n) c.if-count-eq0.true ∙ found in
     let none : tier_outgrown ts c.args.k c.args.count ≡ None = ap (λ n. tier_outgrown ts c.args.k n) c.if-count-eq0.true in
-    let one : length (tier_at ts c.unwrap-tier.result).starts ≡ length ((tier_at c.take-new.new.self.tiers c.unwrap-tier.result).starts ++ c.take-new.result ∷ []) = ap (λ xs. length xs) c.take-new.ensures.starts in
-    let entered = Turnover-entered c.args.self.now c.take-new.new.self w c.unwrap-tier.result _ (tier_for_holds ts 1 c.unwrap-tier.result found).0 (omega (arith, one, length-append (tier_at c.take-new.new.self.tiers c.unwrap-tier.result).starts (c.take-new.result ∷ []))) c.take-new.ensures.value c.insert_within.ensures.slots c.insert_within.ensures.len in
+    let entered = Turnover-entered c.args.self.now c.take-new.new.self w c.unwrap-tier.result _ (tier_for_holds ts 1 c.unwrap-tier.result found).0 (some_free _ _ _ c.take-new.ensures.starts) c.take-new.ensures.value c.insert_within.ensures.slots c.insert_within.ensures.len in
     subst (λ o. Turnover c.args.self.now w none_at (one_at o) (one_at (tier_outgrown ts c.args.k c.args.count))) (sym is) (subst (λ o. Turnover c.args.self.now w none_at (many_at c.unwrap-tier.result 1) (one_at o)) (sym none) entered)
