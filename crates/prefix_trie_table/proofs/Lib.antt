@@ -5,4 +5,3 @@ pub mod Soundness
 pub mod Spending
 pub mod Turnovers
 pub mod Preparing
-pub mod Placing

@@ -18,7 +18,6 @@ module _ {S : Type 0} where
   pub record LastWay (v w : Store S) (lacking : ℕ → ℕ) (t s : ℕ) : Type 0 where
     pub way : Way v w lacking t s
     pub all : (j : ℕ) → lacking j ≤ way.made j + many_at t (s - free_at w.tiers t) j
-    pub still : ((j : ℕ) → lacking j ≡ 0) → w ≡ v
 
   needs : (v : Store S) (k count lists : ℕ) (o : Option ℕ) (j : ℕ) → tier_lacking v.tiers k count ≡ o → blocks_lacking v.tiers k count lists j ≡ one_at o j + many_at 0 lists j - free_at v.tiers j
   needs v k count lists o j e = ap (λ p. one_at p j + many_at 0 lists j - free_at v.tiers j) e
@@ -31,7 +30,6 @@ module _ {S : Type 0} where
       rest = λ j. (let a = many-sub 0 singles (free_at v.tiers) j in let b = needs v k count lists o j is in let c = need j in omega arith);
     };
     all = λ j. (let a = many-sub 0 singles (free_at v.tiers) j in let b = needs v k count lists o j is in let c = need j in omega arith);
-    still = λ h. refl;
   })
 
   pub way_first : (v : Store S) (k count lists t : ℕ) → tier_lacking v.tiers k count ≡ Some t → Way v v (blocks_lacking v.tiers k count lists) t 1
@@ -45,13 +43,14 @@ module _ {S : Type 0} where
   way_second vacant v w k count lists t is other inside e = subst (λ x. LastWay v x (blocks_lacking v.tiers k count lists) 0 lists) (sym e) (record {
     way = record { made = many_at t m; turnover = turned; rest = λ j. (let h = sum j in omega arith) };
     all = λ j. (let h = sum j in omega arith);
-    still = λ none. (let h : m ≡ 0 = (let a = none t in let b = needs v k count lists (Some t) t is in let c = many_here t 1 in omega arith) in ap (λ n. grown_times vacant v t n) h);
   })
     where
       m : ℕ
       m = 1 - free_at v.tiers t
+
       turned : Turnover v (grown_times vacant v t m) (many_at t m) none_at none_at
       turned = Turnover-grown_times vacant v t m inside
+
       sum : (j : ℕ) → many_at t m j + many_at 0 (lists - free_at (grown_times vacant v t m).tiers 0) j ≡ blocks_lacking v.tiers k count lists j
       sum j =
           let free : free_at (grown_times vacant v t m).tiers 0 ≡ free_at v.tiers 0 = (let a = turned.free_is 0 in let b = many_other t m 0 (λ z. other (sym z)) in omega arith) in
@@ -66,11 +65,6 @@ module _ {S : Type 0} where
       let a = last.way.turnover in
       let b = Turnover-grown_times vacant w t (s - free_at w.tiers t) (omega (arith, tiers_stay v w a.sizes)) in
       subst (λ y. Turnover v y lacking none_at none_at) (sym e) (Turnover-as v (grown_times vacant w t (s - free_at w.tiers t)) _ _ _ lacking none_at none_at (Turnover-then v w (grown_times vacant w t (s - free_at w.tiers t)) _ _ _ _ _ _ a b) (λ j. (let p = last.way.rest j in let q = last.all j in omega arith)) (λ j. refl))
-
-  pub way_still : (vacant : S) (v w x : Store S) (lacking : ℕ → ℕ) (t s : ℕ) → LastWay v w lacking t s → x ≡ grown_times vacant w t (s - free_at w.tiers t) → ((j : ℕ) → lacking j ≡ 0) → x ≡ v
-  way_still vacant v w x lacking t s last e none =
-      let h : s - free_at w.tiers t ≡ 0 = (let a = last.way.rest t in let b = none t in let c = many_here t (s - free_at w.tiers t) in omega arith) in
-      e ∙ ap (λ n. grown_times vacant w t n) h ∙ last.still none
 
   -- some of the rest were made, and the next one was refused
   turned_short : (vacant : S) (v w : Store S) (lacking : ℕ → ℕ) (t s m : ℕ) (way : Way v w lacking t s) → t < length v.tiers → Turnover v (grown_times vacant w t m) (λ j. way.made j + many_at t m j) none_at none_at
@@ -98,15 +92,15 @@ module _ {S : Type 0} where
   pub way_range : (vacant : S) (v w x : Store S) (lacking : ℕ → ℕ) (t s m : ℕ) → Way v w lacking t s → t < length v.tiers → free_at w.tiers t + m < s → x ≡ grown_times vacant w t m → x.limit < length x.slots + (tier_at x.tiers t).size → v.limit < length v.slots + slots_of (tier_sizes v.tiers) lacking
   way_range vacant v w x lacking t s m way inside less e =
       subst (λ (y : Store S). y.limit < length y.slots + (tier_at y.tiers t).size → v.limit < length v.slots + slots_of (tier_sizes v.tiers) lacking) (sym e) (λ (full : (grown_times vacant w t m).limit < length (grown_times vacant w t m).slots + (tier_at (grown_times vacant w t m).tiers t).size).
-        (let turned = turned_short vacant v w lacking t s m way inside in
-        let made : ℕ → ℕ = λ j. way.made j + many_at t m j in
-        let a = turned.longer in
-        let b = turned.limit_is in
-        let size : (tier_at (grown_times vacant w t m).tiers t).size ≡ size_in (tier_sizes v.tiers) t = size_at (grown_times vacant w t m).tiers t ∙ ap (λ ns. size_in ns t) turned.sizes in
-        let c = slots_of-le (tier_sizes v.tiers) (λ j. made j + many_at t 1 j) lacking (fewer_short v w lacking t s m way less) in
-        let d = slots_of-add (tier_sizes v.tiers) made (many_at t 1) in
-        let f = slots_of-many (tier_sizes v.tiers) t 1 (omega (arith, length-map v.tiers (λ t. t.size))) in
-        omega arith))
+      (let turned = turned_short vacant v w lacking t s m way inside in
+      let made : ℕ → ℕ = λ j. way.made j + many_at t m j in
+      let a = turned.longer in
+      let b = turned.limit_is in
+      let size : (tier_at (grown_times vacant w t m).tiers t).size ≡ size_in (tier_sizes v.tiers) t = size_at (grown_times vacant w t m).tiers t ∙ ap (λ ns. size_in ns t) turned.sizes in
+      let c = slots_of-le (tier_sizes v.tiers) (λ j. made j + many_at t 1 j) lacking (fewer_short v w lacking t s m way less) in
+      let d = slots_of-add (tier_sizes v.tiers) made (many_at t 1) in
+      let f = slots_of-many (tier_sizes v.tiers) t 1 (omega (arith, length-map v.tiers (λ t. t.size))) in
+      omega arith))
 
 -- the tier that is lacking is one of those there are
 pub lacking_inside : (ts : List Tier) (k count t : ℕ) → tier_lacking ts k count ≡ Some t → t < length ts

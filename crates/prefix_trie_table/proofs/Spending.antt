@@ -184,7 +184,7 @@ module _ {S : Type 0} where
 
   pub enough : (v w : Store S) (k count lists singles : ℕ) → Prepared v w → IsSome (tier_for v.tiers (count + 1)) → singles ≤ free_at w.tiers 0
       → ((tier_lacking v.tiers k count ≡ Some 0) × (singles ≡ lists + 1))
-        ⊎ (((t : ℕ) × (tier_lacking v.tiers k count ≡ Some t) × (t ≢ 0) × (0 < free_at w.tiers t) × (singles ≡ lists)) ⊎ ((tier_lacking v.tiers k count ≡ None) × (singles ≡ lists)))
+      ⊎ (((t : ℕ) × (tier_lacking v.tiers k count ≡ Some t) × (t ≢ 0) × (0 < free_at w.tiers t) × (singles ≡ lists)) ⊎ ((tier_lacking v.tiers k count ≡ None) × (singles ≡ lists)))
       → Enough w.tiers k count lists
   enough v w k count lists singles done some free (inl a) = record {
     ready = ready_taken v.tiers w.tiers k count 0 done.sizes a.0 (let e = a.1 in omega arith);

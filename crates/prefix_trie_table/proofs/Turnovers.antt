@@ -112,6 +112,7 @@ module _ {S : Type 0} where
     where
       new : Tier
       new = record (tier_at v.tiers k) { made = (tier_at v.tiers k).made + 1; starts = (tier_at v.tiers k).starts ++ length v.slots ∷ [] }
+
       length_sizes : length (tier_sizes v.tiers) ≡ length v.tiers
       length_sizes = length-map v.tiers (λ t. t.size)
 

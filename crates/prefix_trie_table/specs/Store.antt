@@ -220,6 +220,10 @@ blocks_needed ts k count lists j = one_at (tier_lacking ts k count) j + many_at 
 abbrev pub blocks_lacking : List Tier → ℕ → ℕ → ℕ → ℕ → ℕ
 blocks_lacking ts k count lists j = blocks_needed ts k count lists j - free_at ts j
 
+-- the block that is made where a list of so many values in a block of tier k loses one and enters tier `to`, if none was free
+abbrev pub blocks_entered : List Tier → ℕ → ℕ → ℕ → ℕ → ℕ
+blocks_entered ts k count to j = one_at (tier_entered k count to) j - free_at ts j
+
 -- the slots of the lacking blocks
 abbrev pub lacking_slots : List Tier → ℕ → ℕ → ℕ → ℕ
 lacking_slots ts k count lists = slots_of (tier_sizes ts) (blocks_lacking ts k count lists)

@@ -34,7 +34,12 @@ pub(super) fn push_vacant<S: Slot, A: Allocator>(slots: &mut Vec<S, A>, count: u
 }
 
 /// Puts `value` at `from`, moves what stood from there to before `to` one place on, and lets what stood at `to` go.
-pub(super) fn shift_in<S: Slot, A: Allocator>(slots: &mut Vec<S, A>, from: usize, to: usize, value: S)
+pub(super) fn shift_in<S: Slot, A: Allocator>(
+    slots: &mut Vec<S, A>,
+    from: usize,
+    to: usize,
+    value: S,
+)
     requires in_order { from ≤ to }
     requires within { to < vec_len slots.old }
     ensures items { slots.new.items ≡ insert (remove slots.old.items to) from value }

@@ -3,7 +3,7 @@ use Rattle.prefix_trie_bits.specs.declared.prefix.Refusal.TheVariants.{IndexRang
 use Rattle.prefix_trie_table.specs.Store.{Store, Enough, Prepared, Turnover, CutShort, tier_lacking, free_at, blocks_lacking, none_at, many_at, slots_of, tier_sizes}
 use Rattle.prefix_trie_table.proofs.Spending.{Prepared-same, Prepared-then, enough}
 use Rattle.prefix_trie_table.proofs.Soundness.{tier_for_holds}
-use Rattle.prefix_trie_table.proofs.Preparing.{LastWay, Way, way_same, way_first, way_second, way_done, way_still, way_short, way_range, need_first, lacking_inside, lacking_bound}
+use Rattle.prefix_trie_table.proofs.Preparing.{LastWay, Way, way_same, way_first, way_second, way_done, way_short, way_range, need_first, lacking_inside, lacking_bound}
 use Rattle.prefix_trie_table.proofs.allocator.blocks.Blocks.prepare.Given as given
 use Rattle.prefix_trie_table.proofs.allocator.blocks.Blocks.prepare.Goals as goal
 use Rattle.prefix_trie_table.proofs.allocator.blocks.Blocks.prepare.Goals.{in-Some+then-tier-eq0, in-Some+else-tier-eq0+in_ok-obtain, in_default}
@@ -36,13 +36,18 @@ returns-clause-enough g c =
     let w = c.obtain-2.new.self in
     let all : Prepared v w = returns-clause-prepared g c in
     on_ok c.obtain-2.result (λ (free : c.match-lacking.singles ≤ free_at w.tiers 0).
-      enough v w c.args.k c.args.count c.args.lists c.match-lacking.singles all c.requires.fits free
-      (elim c.match-lacking.branch [
-        | in-Some+then-tier-eq0 w1 ↦ inl (sym c.lacking.ensures ∙ w1.in-Some.is ∙ ap Some w1.if-tier-eq0.true, w1.singles-is)
-        | in-Some+else-tier-eq0+in_ok-obtain w1 ↦ inr (inl (w1.in-Some.tier, sym c.lacking.ensures ∙ w1.in-Some.is, w1.if-tier-eq0.false,
-            (let a = w1.in_ok-obtain.ensures.ready in let b = c.obtain-2.ensures.prepared.free w1.in-Some.tier in let e : free_at c.match-lacking.self.tiers w1.in-Some.tier ≡ free_at w1.obtain.new.self.tiers w1.in-Some.tier = ap (λ (x : Store g.row.S.Denot). free_at x.tiers w1.in-Some.tier) w1.self-is in omega (arith, a, b, e)), w1.singles-is))
-        | in_default w1 ↦ inr (inr (sym c.lacking.ensures ∙ w1.in_default.is, w1.singles-is))
-      ])) c.obtain-2.ensures.ready
+    enough v w c.args.k c.args.count c.args.lists c.match-lacking.singles all c.requires.fits free
+    (elim c.match-lacking.branch [
+      | in-Some+then-tier-eq0 w1 ↦ inl (sym c.lacking.ensures ∙ w1.in-Some.is ∙ ap Some w1.if-tier-eq0.true, w1.singles-is)
+      | in-Some+else-tier-eq0+in_ok-obtain w1 ↦ inr (inl (
+        w1.in-Some.tier,
+        sym c.lacking.ensures ∙ w1.in-Some.is,
+        w1.if-tier-eq0.false,
+        (let a = w1.in_ok-obtain.ensures.ready in let b = c.obtain-2.ensures.prepared.free w1.in-Some.tier in let e : free_at c.match-lacking.self.tiers w1.in-Some.tier ≡ free_at w1.obtain.new.self.tiers w1.in-Some.tier = ap (λ (x : Store g.row.S.Denot). free_at x.tiers w1.in-Some.tier) w1.self-is in omega (arith, a, b, e)),
+        w1.singles-is,
+      ))
+      | in_default w1 ↦ inr (inr (sym c.lacking.ensures ∙ w1.in_default.is, w1.singles-is))
+    ])) c.obtain-2.ensures.ready
 
 -- what is left to make before the last call
 last : (g : given.Over) (c : goal.After-obtain-2 g) → LastWay c.args.self.now c.match-lacking.self (blocks_lacking c.args.self.now.tiers c.args.k c.args.count c.args.lists) 0 c.match-lacking.singles
@@ -51,7 +56,7 @@ last g c =
     elim c.match-lacking.branch [
       | in-Some+then-tier-eq0 w ↦ way_same v _ c.args.k c.args.count c.args.lists c.match-lacking.singles (Some 0) w.self-is (sym c.lacking.ensures ∙ w.in-Some.is ∙ ap Some w.if-tier-eq0.true) (λ j. need_first c.args.lists c.match-lacking.singles j w.singles-is)
       | in-Some+else-tier-eq0+in_ok-obtain w ↦ (let is : tier_lacking v.tiers c.args.k c.args.count ≡ Some w.in-Some.tier = sym c.lacking.ensures ∙ w.in-Some.is in
-        subst (λ n. LastWay v c.match-lacking.self (blocks_lacking v.tiers c.args.k c.args.count c.args.lists) 0 n) (sym w.singles-is) (way_second g.S.Slot.vacant v _ c.args.k c.args.count c.args.lists w.in-Some.tier is w.if-tier-eq0.false (lacking_inside v.tiers c.args.k c.args.count w.in-Some.tier is) (w.self-is ∙ w.in_ok-obtain.ensures.made)))
+          subst (λ n. LastWay v c.match-lacking.self (blocks_lacking v.tiers c.args.k c.args.count c.args.lists) 0 n) (sym w.singles-is) (way_second g.S.Slot.vacant v _ c.args.k c.args.count c.args.lists w.in-Some.tier is w.if-tier-eq0.false (lacking_inside v.tiers c.args.k c.args.count w.in-Some.tier is) (w.self-is ∙ w.in_ok-obtain.ensures.made)))
       | in_default w ↦ way_same v _ c.args.k c.args.count c.args.lists c.match-lacking.singles None w.self-is (sym c.lacking.ensures ∙ w.in_default.is) (λ j. (let e : many_at 0 c.match-lacking.singles j ≡ many_at 0 c.args.lists j = ap (λ n. many_at 0 n j) w.singles-is in omega arith))
     ]
 

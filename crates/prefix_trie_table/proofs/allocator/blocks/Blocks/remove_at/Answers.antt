@@ -5,8 +5,7 @@ use Rattle.prefix_trie_table.specs.Store.{Sound, Block, tier_at, tier_for, block
 use Rattle.prefix_trie_table.proofs.Soundness.{tier_of_block}
 use Rattle.prefix_trie_table.proofs.Spending.{list_block, block_list, no_list}
 use Rattle.std.proofs.Common.{◌-◌, Some, Option, inl}
-use Rattle.prefix_trie_table.proofs.Soundness.{fits_block}
-use Rattle.prefix_trie_table.proofs.Placing.{tier_for-first}
+use Rattle.prefix_trie_table.proofs.Soundness.{fits_block, tier_for-first}
 use Rattle.prefix_trie_table.proofs.allocator.blocks.Blocks.remove_at.Goals as goal
 
 pub remove_from-value-requires-clause-in_use : goal.remove_from-value-requires-clause-in_use
@@ -52,9 +51,9 @@ returns-in-Some-clause-smaller g c = λ to more is free.
     let size : u.size ≡ (tier_at c.args.self.now.tiers c.args.k).size = (tier_of_block g.S.Slot.vacant b u.live _ s).size_is in
     let first = tier_for-first c.args.self.now.tiers (c.args.count - 1) c.args.k to is (omega (arith, fits_block g.S.Slot.vacant b u.live _ s, u.is_count, size)) in
     ⊎_elim
-      (λ (less : to < c.args.k). rw c.in-Some.is at (c.remove_from-value.ensures.smaller to is less free))
-      (λ (h : c.args.k ≤ to). ⊎_elim
-        (λ (e : c.in-Some.place.tier ≡ c.args.k). omega arith)
-        (λ (e : tier_for c.args.self.now.tiers (c.args.count - 1) ≡ Some c.in-Some.place.tier). (let f : ◌≡◌ {A = Option ℕ} (Some c.in-Some.place.tier) (Some to) = sym e ∙ is in cc))
-        (rw c.in-Some.is at c.remove_from-value.ensures.tier))
-      (cases_lt to c.args.k)
+    (λ (less : to < c.args.k). rw c.in-Some.is at (c.remove_from-value.ensures.smaller to is less free))
+    (λ (h : c.args.k ≤ to). ⊎_elim
+    (λ (e : c.in-Some.place.tier ≡ c.args.k). omega arith)
+    (λ (e : tier_for c.args.self.now.tiers (c.args.count - 1) ≡ Some c.in-Some.place.tier). (let f : ◌≡◌ {A = Option ℕ} (Some c.in-Some.place.tier) (Some to) = sym e ∙ is in cc))
+    (rw c.in-Some.is at c.remove_from-value.ensures.tier))
+    (cases_lt to c.args.k)

@@ -69,10 +69,10 @@ returns-clause-value g c = λ n xs live sound count.
 -- the list stays in its block
 nothing_moved : (g : given.Over) (c : goal.Joined-tier_for g) → c.match-tier_for.self ≡ c.remove_within-value.new.self
 nothing_moved g c = elim c.match-tier_for.branch [
-    | in-Some+then-tier-k+in_default-step_down w ↦ search rules
-    | in-Some+else-tier-k w ↦ w.self-is
-    | in_default w ↦ w.self-is
-  ]
+  | in-Some+then-tier-k+in_default-step_down w ↦ search rules
+  | in-Some+else-tier-k w ↦ w.self-is
+  | in_default w ↦ w.self-is
+]
 
 pub returns-clause-sound : goal.returns-clause-sound
 returns-clause-sound g c = λ n xs live sound count.
