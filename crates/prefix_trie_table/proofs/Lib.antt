@@ -3,6 +3,8 @@ pub mod Tilings
 pub mod RunLemmas
 pub mod Soundness
 pub mod Spending
+pub mod Turnovers
+pub mod Preparing
 pub mod Digits
 pub mod Bits
 pub mod BitLists

@@ -5,7 +5,7 @@ use Rattle.std.proofs.lemmas.List.Edits.{insert-append_left, insert-append_right
 use Rattle.std.proofs.lemmas.List.Elements.{All-nil, All-cons, All-head, All-tail, All-weaker, All-same, All-set, All-map}
 use Rattle.std.proofs.lemmas.List.Sums.{sum_by-cons, sum_by-set}
 use Rattle.std.proofs.lemmas.List.Sorted.{All-permutation, IsPermutation-refl, IsPermutation-sym, IsPermutation-trans, IsPermutation-cons, IsPermutation-to_front, IsPermutation-middle, IsPermutation-append_left, IsPermutation-append_right, IsPermutation-map, sum_by-IsPermutation}
-use Rattle.std.proofs.lemmas.Bool.{cases_eq}
+use Rattle.std.proofs.lemmas.Bool.{cases_eq, cases_lt, false≢true, le-leb}
 use Rattle.std.proofs.lemmas.List.Quantifiers.{position-Some}
 use Rattle.std.proofs.lemmas.Bool.Decides.{nat_tests}
 use Rattle.prefix_trie_table.specs.Runs.{run, put_run, swap_runs}
@@ -306,6 +306,12 @@ tier_for_holds ts n k e =
     let found = position-Some (λ (t : Tier). leb n t.size) ts k (record { size = 0; made = 0; starts = [] }) e in
     let passes : leb n (tier_at ts k).size ≡ true = found.1 in
     (found.0, grind (arith, nat_tests))
+
+-- the smallest block that holds n is none larger than one that does
+pub tier_for-first : (ts : List Tier) (n k to : ℕ) → tier_for ts n ≡ Some to → n ≤ (tier_at ts k).size → to ≤ k
+tier_for-first ts n k to e fits =
+    let found = position-Some (λ (t : Tier). leb n t.size) ts to (record { size = 0; made = 0; starts = [] }) e in
+    ⊎_elim (λ (before : k < to). absurd (false≢true (sym (found.2 k before) ∙ le-leb n (tier_at ts k).size fits))) (λ (h : to ≤ k). h) (cases_lt k to)
 
 -- no block is made
 slots_made_none : (ts : List Tier) → All (λ t. (t.made ≡ 0) × (t.starts ≡ [])) ts → slots_made ts ≡ 0

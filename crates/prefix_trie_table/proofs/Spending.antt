@@ -130,7 +130,7 @@ lacking_none true o e some = refl
 lacking_none false None e some = absurd (false≢true some)
 lacking_none false (Some x) e some = absurd (let f : ◌≡◌ {A = Option ℕ} (Some x) None = e in cc)
 
-lacking_some : (b : Bool) (o : Option ℕ) (t : ℕ) → (if b then None else o) ≡ Some t → o ≡ Some t
+pub lacking_some : (b : Bool) (o : Option ℕ) (t : ℕ) → (if b then None else o) ≡ Some t → o ≡ Some t
 lacking_some true o t e = absurd (let f : ◌≡◌ {A = Option ℕ} None (Some t) = e in cc)
 lacking_some false o t e = e
 
@@ -157,11 +157,12 @@ lacking_same ts us k count e =
 
 module _ {S : Type 0} where
   pub Prepared-same : (v w : Store S) → w ≡ v → Prepared v w
-  Prepared-same v w e = subst (λ x. Prepared v x) (sym e) (record { first_is = refl; sizes = refl; kept = λ i d h. refl; free = λ j. omega arith; longer = omega arith })
+  Prepared-same v w e = subst (λ x. Prepared v x) (sym e) (record { first_is = refl; limit_is = refl; sizes = refl; kept = λ i d h. refl; free = λ j. omega arith; longer = omega arith })
 
   pub Prepared-then : (v w x : Store S) → Prepared v w → Prepared w x → Prepared v x
   Prepared-then v w x a b = record {
     first_is = b.first_is ∙ a.first_is;
+    limit_is = b.limit_is ∙ a.limit_is;
     sizes = b.sizes ∙ a.sizes;
     kept = λ i d h. b.kept i d (let l = a.longer in omega arith) ∙ a.kept i d h;
     free = λ j. (let p = a.free j in let q = b.free j in omega arith);
@@ -171,6 +172,7 @@ module _ {S : Type 0} where
   pub Prepared-grown : (vacant : S) (v w : Store S) (k : ℕ) → k < length v.tiers → w ≡ grown vacant v k → Prepared v w
   Prepared-grown vacant v w k inside e = subst (λ x. Prepared v x) (sym e) (record {
     first_is = refl;
+    limit_is = refl;
     sizes = sizes_set v.tiers k (new_tier v k) refl;
     kept = λ i d h. get_or_append_left v.slots (replicate (tier_at v.tiers k).size vacant) d i h;
     free = λ j. ⊎_elim (λ p. (let f : free_at v.tiers j ≡ free_at v.tiers k = ap (free_at v.tiers) p.0 in let g = p.1 in omega (arith, length-append (tier_at v.tiers k).starts (length v.slots ∷ [])))) (λ p. (let g = p.1 in omega arith)) (free_set v.tiers k j (new_tier v k) inside);
@@ -182,7 +184,7 @@ module _ {S : Type 0} where
 
   pub enough : (v w : Store S) (k count lists singles : ℕ) → Prepared v w → IsSome (tier_for v.tiers (count + 1)) → singles ≤ free_at w.tiers 0
       → ((tier_lacking v.tiers k count ≡ Some 0) × (singles ≡ lists + 1))
-        ⊎ (((t : ℕ) × (tier_lacking v.tiers k count ≡ Some t) × (t ≢ 0) × (0 < free_at w.tiers t) × (singles ≡ lists)) ⊎ ((tier_lacking v.tiers k count ≡ None) × (singles ≡ lists)))
+      ⊎ (((t : ℕ) × (tier_lacking v.tiers k count ≡ Some t) × (t ≢ 0) × (0 < free_at w.tiers t) × (singles ≡ lists)) ⊎ ((tier_lacking v.tiers k count ≡ None) × (singles ≡ lists)))
       → Enough w.tiers k count lists
   enough v w k count lists singles done some free (inl a) = record {
     ready = ready_taken v.tiers w.tiers k count 0 done.sizes a.0 (let e = a.1 in omega arith);
@@ -202,13 +204,13 @@ module _ {S : Type 0} where
 
 module _ {S : Type 0} where
   pub Keeps-spends : (v w : Store S) (o : Option ℕ) → Spends v w o → Keeps v w
-  Keeps-spends v w o s = record { first_is = s.room.1; sizes = s.sizes; before = s.before; longer = (let e = s.room.0 in omega arith) }
+  Keeps-spends v w o s = record { first_is = s.room.1; limit_is = s.room.2; sizes = s.sizes; before = s.before; longer = (let e = s.room.0 in omega arith) }
 
   pub Keeps-prepared : (v w : Store S) → v.first ≤ length v.slots → Prepared v w → Keeps v w
-  Keeps-prepared v w low p = record { first_is = p.first_is; sizes = p.sizes; before = λ i d h. p.kept i d (omega arith); longer = p.longer }
+  Keeps-prepared v w low p = record { first_is = p.first_is; limit_is = p.limit_is; sizes = p.sizes; before = λ i d h. p.kept i d (omega arith); longer = p.longer }
 
   pub Keeps-then : (v w x : Store S) → Keeps v w → Keeps w x → Keeps v x
-  Keeps-then v w x a b = record { first_is = b.first_is ∙ a.first_is; sizes = b.sizes ∙ a.sizes; before = λ i d h. b.before i d (let e = a.first_is in omega arith) ∙ a.before i d h; longer = (let p = a.longer in let q = b.longer in omega arith) }
+  Keeps-then v w x a b = record { first_is = b.first_is ∙ a.first_is; limit_is = b.limit_is ∙ a.limit_is; sizes = b.sizes ∙ a.sizes; before = λ i d h. b.before i d (let e = a.first_is in omega arith) ∙ a.before i d h; longer = (let p = a.longer in let q = b.longer in omega arith) }
 
   pub Keeps-same : (v w : Store S) → w ≡ v → Keeps v w
   Keeps-same v w e = Keeps-spends v w None (Spends-same v w e)

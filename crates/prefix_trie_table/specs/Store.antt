@@ -132,9 +132,11 @@ abbrev pub held : {S : Type 0} → ℕ → ℕ → ℕ → List S → List (Bloc
 held k start size [] = []
 held k start size (x ∷ xs) = block k start size (x ∷ xs) ∷ []
 
+-- the size at k
 abbrev pub size_in : List ℕ → ℕ → ℕ
 size_in sizes k = slice_index_or sizes k 0
 
+-- the size of each tier's blocks
 abbrev pub tier_sizes : List Tier → List ℕ
 tier_sizes ts = map (λ t. t.size) ts
 
@@ -146,12 +148,25 @@ pub record HasList {S : Type 0} (vacant : S) (v : Store S) (k start count : ℕ)
   pub is_count : length items ≡ count
   pub sound : Sound vacant (held k start size items ++ live) v
 
+-- how many blocks of tier k are free
 abbrev pub free_at : List Tier → ℕ → ℕ
 free_at ts k = length (tier_at ts k).starts
 
 -- the tier of which a block must be free before a list of so many values in a block of tier k takes one more
 abbrev pub tier_lacking : List Tier → ℕ → ℕ → Option ℕ
 tier_lacking ts k count = if nat_lt 0 count && nat_lt count (tier_at ts k).size then None else tier_for ts (count + 1)
+
+-- the tier of the block that such a list then leaves, which is full
+abbrev pub tier_outgrown : List Tier → ℕ → ℕ → Option ℕ
+tier_outgrown ts k count = if nat_lt 0 count && nat_le (tier_at ts k).size count then Some k else None
+
+-- the tier of which a block is taken where a list of so many values in a block of tier k loses one and then stands in tier `to`
+abbrev pub tier_entered : ℕ → ℕ → ℕ → Option ℕ
+tier_entered k count to = if nat_le count 1 then None else (if to == k then None else Some to)
+
+-- the tier of the block that such a list leaves
+abbrev pub tier_left : ℕ → ℕ → ℕ → Option ℕ
+tier_left k count to = if nat_le count 1 then Some k else (if to == k then None else Some k)
 
 -- there is room for one more
 abbrev pub IsReady : List Tier → ℕ → ℕ → Type 0
@@ -170,9 +185,60 @@ pub record Spends {S : Type 0} (v w : Store S) (o : Option ℕ) : Type 0 where
   pub free : (j : ℕ) → free_at v.tiers j ≤ free_at w.tiers j + 1
   pub kept : (j : ℕ) → o ≢ Some j → free_at v.tiers j ≤ free_at w.tiers j
 
+-- m at tier k, and 0 at each other
+abbrev pub many_at : ℕ → ℕ → ℕ → ℕ
+many_at k m j = if j == k then m else 0
+
+-- 1 at the tier that is named, and 0 at each other
+abbrev pub one_at : Option ℕ → ℕ → ℕ
+one_at None j = 0
+one_at (Some k) j = many_at k 1 j
+
+-- 0 at each tier
+abbrev pub none_at : ℕ → ℕ
+none_at j = 0
+
+-- the slots of so many blocks of each of these sizes
+abbrev pub slots_of : List ℕ → (ℕ → ℕ) → ℕ
+slots_of [] n = 0
+slots_of (size ∷ sizes) n = size * n 0 + slots_of sizes (λ j. n (suc j))
+
+-- so many blocks of each tier were made, taken from the free ones, and given back; the slots are as many more as those made have
+pub record Turnover {S : Type 0} (v w : Store S) (made took gave : ℕ → ℕ) : Type 0 where
+  pub made_is : (j : ℕ) → (tier_at w.tiers j).made ≡ (tier_at v.tiers j).made + made j
+  pub free_is : (j : ℕ) → free_at w.tiers j + took j ≡ free_at v.tiers j + made j + gave j
+  pub longer : length w.slots ≡ length v.slots + slots_of (tier_sizes v.tiers) made
+  pub sizes : tier_sizes w.tiers ≡ tier_sizes v.tiers
+  pub limit_is : w.limit ≡ v.limit
+
+-- how many blocks of tier j must be free before a list of so many values in a block of tier k takes one more, and so many
+-- others take their first, each in a block of tier 0
+abbrev pub blocks_needed : List Tier → ℕ → ℕ → ℕ → ℕ → ℕ
+blocks_needed ts k count lists j = one_at (tier_lacking ts k count) j + many_at 0 lists j
+
+-- those of them beyond the free ones
+abbrev pub blocks_lacking : List Tier → ℕ → ℕ → ℕ → ℕ → ℕ
+blocks_lacking ts k count lists j = blocks_needed ts k count lists j - free_at ts j
+
+-- the block that is made where a list of so many values in a block of tier k loses one and enters tier `to`, if none was free
+abbrev pub blocks_entered : List Tier → ℕ → ℕ → ℕ → ℕ → ℕ
+blocks_entered ts k count to j = one_at (tier_entered k count to) j - free_at ts j
+
+-- the slots of the lacking blocks
+abbrev pub lacking_slots : List Tier → ℕ → ℕ → ℕ → ℕ
+lacking_slots ts k count lists = slots_of (tier_sizes ts) (blocks_lacking ts k count lists)
+
+-- of the blocks that are lacking some were made, which are free, and one of tier `short` was refused
+pub record CutShort {S : Type 0} (v w : Store S) (lacking : ℕ → ℕ) : Type 0 where
+  pub made : ℕ → ℕ
+  pub short : ℕ
+  pub fewer : (j : ℕ) → made j + many_at short 1 j ≤ lacking j
+  pub turnover : Turnover v w made none_at none_at
+
 -- free blocks were made, and nothing else
 pub record Prepared {S : Type 0} (v w : Store S) : Type 0 where
   pub first_is : w.first ≡ v.first
+  pub limit_is : w.limit ≡ v.limit
   pub sizes : tier_sizes w.tiers ≡ tier_sizes v.tiers
   pub kept : (i : ℕ) (d : S) → i < length v.slots → slice_index_or w.slots i d ≡ slice_index_or v.slots i d
   pub free : (j : ℕ) → free_at v.tiers j ≤ free_at w.tiers j
@@ -187,6 +253,7 @@ pub record Enough (ts : List Tier) (k count lists : ℕ) : Type 0 where
 -- the first block starts where it did, the sizes are the same, and nothing before the first block was written
 pub record Keeps {S : Type 0} (v w : Store S) : Type 0 where
   pub first_is : w.first ≡ v.first
+  pub limit_is : w.limit ≡ v.limit
   pub sizes : tier_sizes w.tiers ≡ tier_sizes v.tiers
   pub before : SameBefore v w
   pub longer : length v.slots ≤ length w.slots

@@ -1,7 +1,7 @@
 //! The array of nodes. Every read of a node is counted.
-ghost use Rattle.std.specs.Prelude.{◌≡◌, ℕ, ◌+◌, ◌-◌, ◌^◌, ◌<◌, ◌≤◌, ◌↔◌, ◌⊎◌, [], ◌∷◌, ◌++◌, List, Some, None, IfOk, IfErr, IsOk, IsErr, IsSome, OnOk, OnErr, length, map, insert, remove, slice_index_or, slice_set};
+ghost use Rattle.std.specs.Prelude.{◌≡◌, ℕ, ◌+◌, ◌-◌, ◌*◌, ◌^◌, ◌<◌, ◌≤◌, ◌↔◌, ◌⊎◌, [], ◌∷◌, ◌++◌, List, Some, None, IfOk, IfErr, IsOk, IsErr, IsSome, OnOk, OnErr, MatchOption, All, length, map, insert, remove, slice_index_or, slice_set};
 ghost use Rattle.prefix_trie_table.specs.Cells.{blank_node, node_at, node_sizes};
-ghost use Rattle.prefix_trie_table.specs.Store.{Store, Block, Sound, tier_at, slots_made, block, held, HasList, IsReady, tier_lacking, tier_for, no_blocks, Spends, Prepared, Enough, Keeps};
+ghost use Rattle.prefix_trie_table.specs.Store.{Store, Block, Sound, tier_at, slots_made, block, held, HasList, IsReady, tier_lacking, tier_for, no_blocks, Spends, Prepared, Enough, Keeps, Turnover, CutShort, none_at, one_at, free_at, size_in, tier_sizes, blocks_lacking, lacking_slots, blocks_entered, tier_outgrown, tier_entered, tier_left};
 ghost use Rattle.prefix_trie_bits.specs.declared.prefix.Refusal.TheVariants.{IndexRange};
 
 use crate::allocator::blocks::{BlockRef, Blocks, node_blocks};
@@ -20,8 +20,8 @@ pub trait Tick: Sized + Drop {
         ensures { count self.new ≡ count self.old + 1 };
 }
 
-/// The array of nodes: the root at slot 0, outside every block, and behind it the blocks of children.
-/// `visit` and `put` are the only ways to read and to write a node, and `visit` counts.
+/// The array of nodes: the root at slot 0, outside every block, and behind it the blocks, each with the children of one node.
+/// `visit` is the only way to read a node, and counts, and `put` and the changes of a block are the only ways to write one.
 #[derive(Drop)]
 pub struct NodeAllocator<A: Allocator, V: Drop> {
     blocks: Blocks<Node, A>,
@@ -39,10 +39,11 @@ impl<A: Allocator, V: Drop> Model for NodeAllocator<A, V> {
 }
 
 impl<A: Allocator + Clone, V: Drop> NodeAllocator<A, V> {
-    /// An array with a blank root and no block, which is never longer than `limit`. Refused with `IndexRange` where
-    /// `limit` is 0, and else only for memory.
+    /// An array with a blank root and no block, which is never longer than `limit`. Refused with `IndexRange` exactly where
+    /// `limit` is 0, and with `Memory` only where memory was refused.
     pub fn new(alloc: &A, limit: u32) -> Result<Self, Refusal>
-        ensures empty { IfOk result (λ a. a ≡ record { slots = blank_node ∷ []; first = 1; tiers = map no_blocks node_sizes; limit = limit }) }
+        ensures empty { IfOk result
+            (λ a. a ≡ record { slots = blank_node ∷ []; first = 1; tiers = map no_blocks node_sizes; limit = limit }) }
         ensures sound { IfOk result (λ a. Sound blank_node [] a) }
         ensures range { IfErr result (λ e. (e ≡ IndexRange) ↔ (limit ≡ 0)) }
         ensures room { limit ≡ 0 → IsErr result }
@@ -78,13 +79,17 @@ impl<A: Allocator, V: Drop> NodeAllocator<A, V> {
     pub fn put(&mut self, at: NodeSlot, node: Node)
         requires { at.start + at.place < length self.old.slots }
         ensures slots { self.new ≡ record self.old { slots = slice_set self.old.slots (at.start + at.place) node } }
-        ensures sound { (b : Block Node) (live : List (Block Node)) → Sound blank_node (b ∷ live) self.old → b.start ≡ at.start → at.place < length b.items → Sound blank_node (record b { items = slice_set b.items at.place node } ∷ live) self.new }
-        ensures before { (live : List (Block Node)) → at.start + at.place < self.old.first → Sound blank_node live self.old → Sound blank_node live self.new }
+        ensures sound { (b : Block Node) (live : List (Block Node))
+            → Sound blank_node (b ∷ live) self.old
+            → b.start ≡ at.start → at.place < length b.items
+            → Sound blank_node (record b { items = slice_set b.items at.place node } ∷ live) self.new }
+        ensures before { (live : List (Block Node)) → at.start + at.place < self.old.first
+            → Sound blank_node live self.old → Sound blank_node live self.new }
     {
         self.blocks.put(at.start, at.place, node);
     }
 
-    /// The number of slots.
+    /// The number of slots: 1, and of each size the blocks that were made, used or free. Never more than the limit.
     #[inline]
     pub fn len(&self) -> usize
         ensures len { result ≡ length self.now.slots }
@@ -94,45 +99,92 @@ impl<A: Allocator, V: Drop> NodeAllocator<A, V> {
         self.blocks.len()
     }
 
-    /// As `Blocks::prepare`.
+    /// How many slots a block of tier `k` has.
+    pub fn size_of(&self, k: usize) -> u32
+        requires { k < length self.now.tiers }
+        ensures { result ≡ (tier_at self.now.tiers k).size }
+    {
+        self.blocks.size_of(k)
+    }
+
+    /// How many blocks of tier `k` were made, used or free.
+    pub fn made_of(&self, k: usize) -> u32
+        requires { k < length self.now.tiers }
+        ensures { result ≡ (tier_at self.now.tiers k).made }
+    {
+        self.blocks.made_of(k)
+    }
+
+    /// How many blocks of tier `k` are free. The others that were made hold the children of a node.
+    pub fn free_of(&self, k: usize) -> usize
+        requires { k < length self.now.tiers }
+        ensures { result ≡ length (tier_at self.now.tiers k).starts }
+    {
+        self.blocks.free_of(k)
+    }
+
+    /// As `Blocks::prepare`: sees to it that a list of `count` nodes can take one more, and that `lists` others can then take
+    /// their first. Refused only where a block lacks beyond the free ones.
     pub fn prepare(&mut self, k: usize, count: u32, lists: usize) -> Result<(), Refusal>
         requires tier { 0 < count → k < length self.old.tiers }
         requires single { tier_for self.old.tiers 1 ≡ Some 0 }
         requires fits { IsSome (tier_for self.old.tiers (count + 1)) }
         requires few { lists + 1 < 2 ^ 64 }
+        ensures made { OnOk result (Turnover self.old self.new (blocks_lacking self.old.tiers k count lists) none_at none_at) }
+        ensures short { OnErr result (CutShort self.old self.new (blocks_lacking self.old.tiers k count lists)) }
+        ensures range { IfErr result (λ e. e ≡ IndexRange
+            → self.old.limit < length self.old.slots + lacking_slots self.old.tiers k count lists) }
+        ensures granted { ((j : ℕ) → blocks_lacking self.old.tiers k count lists j ≡ 0)
+            → IsOk result }
+        ensures unchanged { ((j : ℕ) → blocks_lacking self.old.tiers k count lists j ≡ 0)
+            → self.new ≡ self.old }
+        ensures bound { (most : ℕ) → All (λ size. size ≤ most) (tier_sizes self.old.tiers)
+            → lacking_slots self.old.tiers k count lists ≤ most + size_in (tier_sizes self.old.tiers) 0 * lists }
         ensures enough { OnOk result (Enough self.new.tiers k count lists) }
         ensures prepared { Prepared self.old self.new }
-        ensures sound { (live : List (Block Node)) → Sound blank_node live self.old → Sound blank_node live self.new }
+        ensures sound { (live : List (Block Node)) → Sound blank_node live self.old
+            → Sound blank_node live self.new }
     {
         self.blocks.prepare(k, count, lists)
     }
 
-    /// As `Blocks::insert_at`.
-    pub fn insert_at(
-        &mut self,
-        k: usize,
-        start: u32,
-        count: u32,
-        place: u32,
-        node: Node,
-    ) -> BlockRef
+    /// As `Blocks::insert_at`: puts a node into a list of `count` nodes, and says where the list stands then.
+    pub fn insert_at(&mut self, k: usize, start: u32, count: u32, place: u32, node: Node) -> BlockRef
         requires holds { HasList blank_node self.old k start count }
         requires ready { IsReady self.old.tiers k count }
         requires place { place ≤ count }
+        ensures tier { MatchOption (tier_lacking self.old.tiers k count) (result ≡ record { tier = k; start = start })
+            (λ to. result.tier ≡ to) }
+        ensures turnover { Turnover self.old self.new none_at
+            (one_at (tier_lacking self.old.tiers k count)) (one_at (tier_outgrown self.old.tiers k count)) }
         ensures spends { Spends self.old self.new (tier_lacking self.old.tiers k count) }
-        ensures sound { (n : ℕ) (xs : List Node) (live : List (Block Node)) → Sound blank_node (held k start n xs ++ live) self.old → length xs ≡ count → Sound blank_node (block result.tier result.start (tier_at self.old.tiers result.tier).size (insert xs place node) ∷ live) self.new }
+        ensures sound { (n : ℕ) (xs : List Node) (live : List (Block Node))
+            → Sound blank_node (held k start n xs ++ live) self.old → length xs ≡ count
+            → Sound blank_node (block result.tier result.start (tier_at self.old.tiers result.tier).size (insert xs place node) ∷ live) self.new }
     {
         self.blocks.insert_at(k, start, count, place, node)
     }
 
-    /// As `Blocks::remove_at`.
+    /// As `Blocks::remove_at`: takes a node out of a list of `count` nodes, and says where the rest stands.
     pub fn remove_at(&mut self, k: usize, start: u32, count: u32, place: u32) -> (Node, BlockRef)
         requires holds { HasList blank_node self.old k start count }
         requires place { place < count }
         ensures keeps { Keeps self.old self.new }
         ensures tier { (result.1.tier ≡ 0) ⊎ (result.1.tier < length self.new.tiers) }
-        ensures value { (n : ℕ) (xs : List Node) (live : List (Block Node)) → Sound blank_node (held k start n xs ++ live) self.old → length xs ≡ count → result.0 ≡ slice_index_or xs place result.0 }
-        ensures sound { (n : ℕ) (xs : List Node) (live : List (Block Node)) → Sound blank_node (held k start n xs ++ live) self.old → length xs ≡ count → Sound blank_node (held result.1.tier result.1.start (tier_at self.old.tiers result.1.tier).size (remove xs place) ++ live) self.new }
+        ensures gone { count ≡ 1 → result.1 ≡ record { tier = 0; start = 0 } }
+        ensures smallest { 1 < count → (result.1.tier ≡ k)
+            ⊎ (tier_for self.old.tiers (count - 1) ≡ Some result.1.tier) }
+        ensures stays { 1 < count → result.1.tier ≡ k → result.1.start ≡ start }
+        ensures smaller { (to : ℕ) → 1 < count → tier_for self.old.tiers (count - 1) ≡ Some to
+            → 0 < free_at self.old.tiers to → result.1.tier ≡ to }
+        ensures turnover { Turnover self.old self.new (blocks_entered self.old.tiers k count result.1.tier)
+            (one_at (tier_entered k count result.1.tier)) (one_at (tier_left k count result.1.tier)) }
+        ensures value { (n : ℕ) (xs : List Node) (live : List (Block Node))
+            → Sound blank_node (held k start n xs ++ live) self.old → length xs ≡ count
+            → result.0 ≡ slice_index_or xs place result.0 }
+        ensures sound { (n : ℕ) (xs : List Node) (live : List (Block Node))
+            → Sound blank_node (held k start n xs ++ live) self.old → length xs ≡ count
+            → Sound blank_node (held result.1.tier result.1.start (tier_at self.old.tiers result.1.tier).size (remove xs place) ++ live) self.new }
     {
         self.blocks.remove_at(k, start, count, place)
     }

@@ -24,7 +24,7 @@ impl<T: Drop> Slot for Option<T> {
 }
 
 /// Appends unused places, for which there is room.
-pub fn push_vacant<S: Slot, A: Allocator>(slots: &mut Vec<S, A>, count: u32)
+pub(super) fn push_vacant<S: Slot, A: Allocator>(slots: &mut Vec<S, A>, count: u32)
     requires { vec_len slots.old + count ≤ vec_capacity slots.old }
     ensures { slots.new.items ≡ slots.old.items ++ replicate count S.vacant }
 {
@@ -34,7 +34,12 @@ pub fn push_vacant<S: Slot, A: Allocator>(slots: &mut Vec<S, A>, count: u32)
 }
 
 /// Puts `value` at `from`, moves what stood from there to before `to` one place on, and lets what stood at `to` go.
-pub fn shift_in<S: Slot, A: Allocator>(slots: &mut Vec<S, A>, from: usize, to: usize, value: S)
+pub(super) fn shift_in<S: Slot, A: Allocator>(
+    slots: &mut Vec<S, A>,
+    from: usize,
+    to: usize,
+    value: S,
+)
     requires in_order { from ≤ to }
     requires within { to < vec_len slots.old }
     ensures items { slots.new.items ≡ insert (remove slots.old.items to) from value }
@@ -45,7 +50,7 @@ pub fn shift_in<S: Slot, A: Allocator>(slots: &mut Vec<S, A>, from: usize, to: u
 }
 
 /// Takes the value at `from`, moves what stood from there to `to` one place back, and leaves the place `to` unused.
-pub fn shift_out<S: Slot, A: Allocator>(slots: &mut Vec<S, A>, from: usize, to: usize) -> S
+pub(super) fn shift_out<S: Slot, A: Allocator>(slots: &mut Vec<S, A>, from: usize, to: usize) -> S
     requires in_order { from ≤ to }
     requires within { to < vec_len slots.old }
     ensures value { result ≡ slice_index_or slots.old.items from result }
@@ -58,7 +63,7 @@ pub fn shift_out<S: Slot, A: Allocator>(slots: &mut Vec<S, A>, from: usize, to: 
 }
 
 /// Exchanges two runs of `count` places.
-pub fn exchange<S, A: Allocator>(slots: &mut Vec<S, A>, a: usize, b: usize, count: usize)
+pub(super) fn exchange<S, A: Allocator>(slots: &mut Vec<S, A>, a: usize, b: usize, count: usize)
     requires a_within { a + count ≤ vec_len slots.old }
     requires b_within { b + count ≤ vec_len slots.old }
     ensures items { slots.new.items ≡ swap_runs slots.old.items a b count }

@@ -3,6 +3,9 @@ use Rattle.std.proofs.lemmas.List.{nil_from_length}
 use Rattle.prefix_trie_table.specs.Store.{Sound, tier_at, block, held, Spends, tier_lacking, tier_for}
 use Rattle.prefix_trie_table.proofs.Soundness.{block_inside, tier_for_holds}
 use Rattle.prefix_trie_table.proofs.Spending.{Spends-taken, Spends-inserted, Spends-then}
+use Rattle.prefix_trie_table.specs.Store.{Turnover, tier_outgrown, none_at, one_at, many_at}
+use Rattle.std.proofs.Common.{None}
+use Rattle.prefix_trie_table.proofs.Turnovers.{Turnover-entered, some_free}
 use Rattle.prefix_trie_table.proofs.allocator.blocks.Blocks.insert_at.Goals as goal
 
 pub insert_within-requires-clause-room : goal.insert_within-requires-clause-room
@@ -31,3 +34,13 @@ returns-then-count-eq0-clause-sound g c = λ n xs live s count.
     let w = block_inside g.S.Slot.vacant _ _ _ taken in
     let put = c.insert_within.ensures.sound (block c.unwrap-tier.result c.take-new.result (tier_at c.args.self.now.tiers c.unwrap-tier.result).size []) live taken refl refl w.positive in
     rw (none, at) put
+
+pub returns-then-count-eq0-clause-turnover : goal.returns-then-count-eq0-clause-turnover
+returns-then-count-eq0-clause-turnover g c =
+    let ts = c.args.self.now.tiers in
+    let w = c.insert_within.new.self in
+    let found : tier_for ts 1 ≡ Some c.unwrap-tier.result = sym c.tier_for.ensures ∙ c.unwrap-tier.ensures in
+    let is : tier_lacking ts c.args.k c.args.count ≡ Some c.unwrap-tier.result = ap (λ n. tier_lacking ts c.args.k n) c.if-count-eq0.true ∙ found in
+    let none : tier_outgrown ts c.args.k c.args.count ≡ None = ap (λ n. tier_outgrown ts c.args.k n) c.if-count-eq0.true in
+    let entered = Turnover-entered c.args.self.now c.take-new.new.self w c.unwrap-tier.result _ (tier_for_holds ts 1 c.unwrap-tier.result found).0 (some_free _ _ _ c.take-new.ensures.starts) c.take-new.ensures.value c.insert_within.ensures.slots c.insert_within.ensures.len in
+    subst (λ o. Turnover c.args.self.now w none_at (one_at o) (one_at (tier_outgrown ts c.args.k c.args.count))) (sym is) (subst (λ o. Turnover c.args.self.now w none_at (many_at c.unwrap-tier.result 1) (one_at o)) (sym none) entered)

@@ -5,6 +5,7 @@ use Rattle.prefix_trie_table.proofs.Spending.{Spends-inserted}
 use Rattle.std.proofs.Common.{◌<◌, nat_lt, None, if◌then◌else◌, ap}
 use Rattle.std.proofs.lemmas.Bool.{lt-ltb}
 use Rattle.prefix_trie_table.specs.Store.{Spends, tier_for}
+use Rattle.prefix_trie_table.proofs.Turnovers.{Turnover-written}
 use Rattle.prefix_trie_table.proofs.allocator.blocks.Blocks.insert_into.Goals as goal
 
 pub size_of-requires : goal.size_of-requires
@@ -37,3 +38,7 @@ returns-then-count-size_of-clause-spends g c =
     let w = block_inside g.S.Slot.vacant b u.live _ u.sound in
     let small : c.args.count < (tier_at c.args.self.now.tiers c.args.k).size = omega (arith, c.size_of.ensures) in
     rw (lt-ltb c.args.count (tier_at c.args.self.now.tiers c.args.k).size small) (Spends-inserted c.args.self.now c.insert_within.new.self c.args.start c.args.count c.args.place c.args.value c.insert_within.ensures.slots w.after (omega (arith, w.before, size, small)) c.requires.place)
+
+pub returns-then-count-size_of-clause-stayed : goal.returns-then-count-size_of-clause-stayed
+returns-then-count-size_of-clause-stayed g c = λ _.
+    Turnover-written c.args.self.now c.insert_within.new.self _ c.insert_within.ensures.slots c.insert_within.ensures.len

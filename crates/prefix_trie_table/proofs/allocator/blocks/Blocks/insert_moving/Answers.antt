@@ -2,6 +2,8 @@ use Rattle.std.proofs.Common.{◌∷◌, [], refl, arith}
 use Rattle.prefix_trie_table.specs.Store.{tier_at, block}
 use Rattle.prefix_trie_table.proofs.Soundness.{Sound-exchanged, block_inside, fits_block, has_place}
 use Rattle.prefix_trie_table.proofs.Spending.{Spends-taken, Spends-given, Spends-inserted, Spends-swapped, Spends-then}
+use Rattle.prefix_trie_table.proofs.Soundness.{tier_of_block}
+use Rattle.prefix_trie_table.proofs.Turnovers.{Turnover-entered, Turnover-left, Turnover-moved, tiers_stay}
 use Rattle.prefix_trie_table.proofs.allocator.blocks.Blocks.insert_moving.Goals as goal
 
 pub move_items-requires-clause-from_within : goal.move_items-requires-clause-from_within
@@ -75,3 +77,11 @@ returns-clause-spends g c =
     let s3 = Spends-inserted c.move_items.new.self c.insert_within.new.self c.take-new.result c.args.count c.args.place c.args.value c.insert_within.ensures.slots at_m.after (omega (arith, at_m.before, c.requires.holds)) c.requires.place in
     let s4 = Spends-given c.insert_within.new.self c.give_back.new.self c.args.k c.args.start (has_place g.S.Slot.vacant _ _ _ i).0 c.give_back.ensures.starts in
     Spends-then _ _ _ _ (Spends-then _ _ _ _ (Spends-then _ _ _ _ s1 s2) s3) s4
+
+pub returns-clause-turned : goal.returns-clause-turned
+returns-clause-turned g c =
+    let u = c.requires.in_use in
+    let inside = (tier_of_block g.S.Slot.vacant (block c.args.k c.args.start u.size u.items) u.live _ u.sound).within in
+    let entered = Turnover-entered c.args.self.now c.take-new.new.self c.move_items.new.self c.args.to _ c.requires.within c.requires.ready c.take-new.ensures.value c.move_items.ensures.slots c.move_items.ensures.len in
+    let left = Turnover-left c.move_items.new.self c.insert_within.new.self c.give_back.new.self c.args.k c.args.start _ (omega (arith, inside, tiers_stay c.args.self.now c.move_items.new.self entered.sizes)) c.insert_within.ensures.slots c.insert_within.ensures.len c.give_back.ensures.starts in
+    Turnover-moved c.args.self.now c.move_items.new.self c.give_back.new.self c.args.k c.args.to entered left

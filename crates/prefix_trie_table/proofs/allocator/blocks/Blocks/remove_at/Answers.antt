@@ -1,9 +1,11 @@
-use Rattle.std.proofs.Common.{◌≡◌, ◌+◌, ◌<◌, ◌∷◌, ◌++◌, length, remove, refl, sym, ap, arith, subst, MatchOption, IsSome, is_some, true, false, ◌≤◌, ◌∙◌, ⊎_elim, inr}
+use Rattle.std.proofs.Common.{◌≡◌, ◌+◌, ◌<◌, ◌∷◌, ◌++◌, length, remove, refl, sym, ap, arith, subst, MatchOption, IsSome, is_some, ℕ, true, false, ◌≤◌, ◌∙◌, ⊎_elim, inr}
 use Rattle.std.proofs.lemmas.List.Edits.{length-remove}
 use Rattle.std.proofs.lemmas.Bool.{false≢true, cases_lt}
-use Rattle.prefix_trie_table.specs.Store.{Sound, Block, tier_at, block}
+use Rattle.prefix_trie_table.specs.Store.{Sound, Block, tier_at, tier_for, block}
 use Rattle.prefix_trie_table.proofs.Soundness.{tier_of_block}
 use Rattle.prefix_trie_table.proofs.Spending.{list_block, block_list, no_list}
+use Rattle.std.proofs.Common.{◌-◌, Some, Option, inl}
+use Rattle.prefix_trie_table.proofs.Soundness.{fits_block, tier_for-first}
 use Rattle.prefix_trie_table.proofs.allocator.blocks.Blocks.remove_at.Goals as goal
 
 pub remove_from-value-requires-clause-in_use : goal.remove_from-value-requires-clause-in_use
@@ -40,3 +42,18 @@ returns-in-Some-clause-tier g c =
     let all = c.remove_from-value.ensures.sound u.size u.items u.live (list_block g.S.Slot.vacant c.args.k c.args.start u.size u.items u.live _ (omega (arith, u.is_count, c.requires.place)) u.sound) u.is_count in
     let one : Sound g.S.Slot.vacant (block c.in-Some.place.tier c.in-Some.place.start (tier_at c.args.self.now.tiers c.in-Some.place.tier).size (remove u.items c.args.place) ∷ u.live) c.remove_from-value.new.self = subst (λ o. MatchOption o (Sound g.S.Slot.vacant u.live c.remove_from-value.new.self) (λ p. Sound g.S.Slot.vacant (block p.tier p.start (tier_at c.args.self.now.tiers p.tier).size (remove u.items c.args.place) ∷ u.live) c.remove_from-value.new.self)) c.in-Some.is all in
     inr (tier_of_block g.S.Slot.vacant _ _ _ one).within
+
+pub returns-in-Some-clause-smaller : goal.returns-in-Some-clause-smaller
+returns-in-Some-clause-smaller g c = λ to more is free.
+    let u = c.requires.holds in
+    let b = block c.args.k c.args.start u.size u.items in
+    let s = list_block g.S.Slot.vacant c.args.k c.args.start u.size u.items u.live _ (omega (arith, u.is_count, c.requires.place)) u.sound in
+    let size : u.size ≡ (tier_at c.args.self.now.tiers c.args.k).size = (tier_of_block g.S.Slot.vacant b u.live _ s).size_is in
+    let first = tier_for-first c.args.self.now.tiers (c.args.count - 1) c.args.k to is (omega (arith, fits_block g.S.Slot.vacant b u.live _ s, u.is_count, size)) in
+    ⊎_elim
+    (λ (less : to < c.args.k). rw c.in-Some.is at (c.remove_from-value.ensures.smaller to is less free))
+    (λ (h : c.args.k ≤ to). ⊎_elim
+    (λ (e : c.in-Some.place.tier ≡ c.args.k). omega arith)
+    (λ (e : tier_for c.args.self.now.tiers (c.args.count - 1) ≡ Some c.in-Some.place.tier). (let f : ◌≡◌ {A = Option ℕ} (Some c.in-Some.place.tier) (Some to) = sym e ∙ is in cc))
+    (rw c.in-Some.is at c.remove_from-value.ensures.tier))
+    (cases_lt to c.args.k)

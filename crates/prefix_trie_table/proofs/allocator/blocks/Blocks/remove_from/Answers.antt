@@ -5,6 +5,9 @@ use Rattle.prefix_trie_table.specs.Store.{Store, Sound, tier_at, block}
 use Rattle.prefix_trie_table.proofs.Soundness.{block_inside, fits_block, has_place, tier_of_block, tier_for_holds}
 use Rattle.prefix_trie_table.specs.Store.{Keeps}
 use Rattle.prefix_trie_table.proofs.Spending.{Spends-given, Keeps-spends, Keeps-then, Keeps-same, Keeps-removed}
+use Rattle.prefix_trie_table.specs.Store.{Turnover, none_at}
+use Rattle.prefix_trie_table.proofs.Turnovers.{Turnover-written, Turnover-left}
+use Rattle.prefix_trie_table.proofs.allocator.blocks.Blocks.remove_from.Given as given
 use Rattle.prefix_trie_table.proofs.allocator.blocks.Blocks.remove_from.Goals as goal
 use Rattle.prefix_trie_table.proofs.allocator.blocks.Blocks.remove_from.Goals.{in-Some+then-tier-k+in_default-step_down, in-Some+else-tier-k, in_default}
 
@@ -63,12 +66,19 @@ pub returns-clause-value : goal.returns-clause-value
 returns-clause-value g c = λ n xs live sound count.
     c.remove_within-value.ensures.value (block c.args.k c.args.start n xs) live sound refl count
 
+-- the list stays in its block
+nothing_moved : (g : given.Over) (c : goal.Joined-tier_for g) → c.match-tier_for.self ≡ c.remove_within-value.new.self
+nothing_moved g c = elim c.match-tier_for.branch [
+  | in-Some+then-tier-k+in_default-step_down w ↦ search rules
+  | in-Some+else-tier-k w ↦ w.self-is
+  | in_default w ↦ w.self-is
+]
+
 pub returns-clause-sound : goal.returns-clause-sound
 returns-clause-sound g c = λ n xs live sound count.
     let removed = c.remove_within-value.ensures.sound (block c.args.k c.args.start n xs) live sound refl count in
     let size : n ≡ (tier_at c.args.self.now.tiers c.args.k).size = (tier_of_block g.S.Slot.vacant (block c.args.k c.args.start n xs) live _ sound).size_is in
-    let same : c.match-tier_for.self ≡ c.remove_within-value.new.self = elim c.match-tier_for.branch [ in-Some+then-tier-k+in_default-step_down w ↦ search rules | in-Some+else-tier-k w ↦ w.self-is | in_default w ↦ w.self-is ] in
-    subst (λ v. Sound g.S.Slot.vacant (block c.args.k c.args.start (tier_at c.args.self.now.tiers c.args.k).size (remove xs c.args.place) ∷ live) v) (sym same) (subst (λ m. Sound g.S.Slot.vacant (block c.args.k c.args.start m (remove xs c.args.place) ∷ live) c.remove_within-value.new.self) size removed)
+    subst (λ v. Sound g.S.Slot.vacant (block c.args.k c.args.start (tier_at c.args.self.now.tiers c.args.k).size (remove xs c.args.place) ∷ live) v) (sym (nothing_moved g c)) (subst (λ m. Sound g.S.Slot.vacant (block c.args.k c.args.start m (remove xs c.args.place) ∷ live) c.remove_within-value.new.self) size removed)
 
 pub returns-then-rest-eq0-clause-keeps : goal.returns-then-rest-eq0-clause-keeps
 returns-then-rest-eq0-clause-keeps g c =
@@ -101,3 +111,13 @@ returns-clause-keeps g c =
       | in_default w ↦ Keeps-same _ _ w.self-is
     ]) in
     Keeps-then _ _ _ cut last
+
+pub returns-then-rest-eq0-clause-gone : goal.returns-then-rest-eq0-clause-gone
+returns-then-rest-eq0-clause-gone g c =
+    let u = c.requires.in_use in
+    let inside = (tier_of_block g.S.Slot.vacant (block c.args.k c.args.start u.size u.items) u.live _ u.sound).within in
+    Turnover-left c.args.self.now c.remove_within-value.new.self c.give_back.new.self c.args.k c.args.start _ inside c.remove_within-value.ensures.slots c.remove_within-value.ensures.len c.give_back.ensures.starts
+
+pub returns-clause-stayed : goal.returns-clause-stayed
+returns-clause-stayed g c = λ _.
+    (refl, subst (λ v. Turnover c.args.self.now v none_at none_at none_at) (sym (nothing_moved g c)) (Turnover-written c.args.self.now c.remove_within-value.new.self _ c.remove_within-value.ensures.slots c.remove_within-value.ensures.len))

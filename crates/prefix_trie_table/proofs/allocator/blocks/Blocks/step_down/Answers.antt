@@ -2,6 +2,10 @@ use Rattle.std.proofs.Common.{◌≤◌, ◌∷◌, [], refl, arith, subst}
 use Rattle.prefix_trie_table.specs.Store.{Sound, tier_at, block}
 use Rattle.prefix_trie_table.proofs.Soundness.{Sound-exchanged, block_inside, fits_block, has_place}
 use Rattle.prefix_trie_table.proofs.Spending.{Spends-taken, Spends-given, Spends-swapped, Keeps-spends, Keeps-prepared, Keeps-then}
+use Rattle.std.proofs.Common.{◌≡◌, ◌-◌, rules, sym}
+use Rattle.prefix_trie_table.specs.Store.{Store, Turnover, grown_times, free_at, many_at, none_at}
+use Rattle.prefix_trie_table.proofs.Soundness.{tier_of_block}
+use Rattle.prefix_trie_table.proofs.Turnovers.{Turnover-as, Turnover-then, Turnover-grown_times, Turnover-entered, Turnover-given, Turnover-moved, some_free, tiers_stay}
 use Rattle.prefix_trie_table.proofs.allocator.blocks.Blocks.step_down.Goals as goal
 
 pub move_items-requires-clause-from_within : goal.move_items-requires-clause-from_within
@@ -65,3 +69,15 @@ returns-clause-keeps g c =
     let k2 = Keeps-spends _ _ _ (Spends-swapped c.take-new.new.self c.move_items.new.self c.args.start c.take-new.result c.args.count c.move_items.ensures.slots at_a.after at_b.after (omega (arith, u.is_count, at_a.before, fits)) (omega (arith, at_b.before, room))) in
     let k3 = Keeps-spends _ _ _ (Spends-given c.move_items.new.self c.give_back.new.self c.args.k c.args.start (has_place g.S.Slot.vacant _ _ _ m).0 c.give_back.ensures.starts) in
     Keeps-then _ _ _ k0 (Keeps-then _ _ _ k1 (Keeps-then _ _ _ k2 k3))
+
+pub returns-clause-turned : goal.returns-clause-turned
+returns-clause-turned g c =
+    let v = c.args.self.now in
+    let u = c.requires.in_use in
+    let inside = (tier_of_block g.S.Slot.vacant (block c.args.k c.args.start u.size u.items) u.live _ u.sound).within in
+    let grew : c.obtain.new.self ≡ grown_times g.S.Slot.vacant v c.args.to (1 - free_at v.tiers c.args.to) = search rules in
+    let obtained : Turnover v c.obtain.new.self (many_at c.args.to (1 - free_at v.tiers c.args.to)) none_at none_at = subst (λ x. Turnover v x (many_at c.args.to (1 - free_at v.tiers c.args.to)) none_at none_at) (sym grew) (Turnover-grown_times g.S.Slot.vacant v c.args.to (1 - free_at v.tiers c.args.to) c.requires.within) in
+    let entered = Turnover-entered c.obtain.new.self c.take-new.new.self c.move_items.new.self c.args.to _ (omega (arith, c.obtain.ensures.count, c.requires.within)) (some_free _ _ _ c.take-new.ensures.starts) c.take-new.ensures.value c.move_items.ensures.slots c.move_items.ensures.len in
+    let left = Turnover-given c.move_items.new.self c.give_back.new.self c.args.k c.args.start (omega (arith, inside, c.obtain.ensures.count, tiers_stay c.obtain.new.self c.move_items.new.self entered.sizes)) c.give_back.ensures.starts in
+    let moved = Turnover-moved c.obtain.new.self c.move_items.new.self c.give_back.new.self c.args.k c.args.to entered left in
+    Turnover-as v c.give_back.new.self _ _ _ (many_at c.args.to (1 - free_at v.tiers c.args.to)) (many_at c.args.to 1) (many_at c.args.k 1) (Turnover-then v c.obtain.new.self c.give_back.new.self _ _ _ _ _ _ obtained moved) (λ j. omega arith) (λ j. omega arith)
