@@ -5,3 +5,4 @@ pub mod Soundness
 pub mod Spending
 pub mod Turnovers
 pub mod Preparing
+pub mod Fitting
