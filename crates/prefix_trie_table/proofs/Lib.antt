@@ -2,6 +2,7 @@ pub mod Shifts
 pub mod Tilings
 pub mod RunLemmas
 pub mod Soundness
+pub mod Fitting
 pub mod Spending
 pub mod Turnovers
 pub mod Preparing

@@ -164,8 +164,10 @@ module _ {T : Type 0} (v : Store Node) (w : Store (Option T)) (limit : ℕ) (v_i
 
   pub new_table : (s : Shaped v.slots w.slots) → IsTableOf v w 0 s.0
   new_table s = record {
-    table = record { reading = root_reading; values = no_values; paths = [] ∷ []; holds = new_holds };
-    counted = sym root_counted;
+    held = record {
+      table = record { reading = root_reading; values = no_values; paths = [] ∷ []; holds = new_holds };
+      counted = sym root_counted;
+    };
     sized = sym (ap (λ (x : State T). len x.entries) (new_only s) ∙ len-empty _ T);
     one_limit = ap (λ (x : Store (Option T)). x.limit) w_is ∙ sym (ap (λ (x : Store Node). x.limit) v_is);
   }

@@ -3,14 +3,13 @@ use Rattle.std.specs.Prelude.{◌≡◌, ℕ, Bool, List, ◌&&◌, is_some, Opt
 use Rattle.std.proofs.Common.{sym, ◌∙◌}
 use Rattle.std.specs.Coded.{Coded, code_by, coded×, coded_list, coded_ℕ, coded_bool, coded_option, Coded-set}
 use base.Stored.{coded_unit}
-use Rattle.std.specs.FinMap.{get, same_map, code, contains_key}
+use Rattle.std.specs.FinMap.{get, code}
 use mathlib.Core.HLevel.{Π_prop, Σ_prop_path}
-use Rattle.prefix_trie_bits.specs.Order.{listing_total, listing_same}
 use Rattle.prefix_trie_bits.specs.Model.Entries.{Entries}
 use Rattle.prefix_trie_bits.specs.Model.Nodes.{Nodes, has_node, is_node_depth}
 use Rattle.prefix_trie_bits.specs.Model.Step.{State}
 use Rattle.prefix_trie_bits.specs.Model.Room.{Room}
-use Rattle.prefix_trie_bits.proofs.Model.Members.{marks}
+use Rattle.prefix_trie_bits.proofs.Model.Members.{same_entries, same_members}
 use Rattle.prefix_trie_table.specs.declared.allocator.node.Node.{Node}
 use Rattle.prefix_trie_table.specs.Digits.{path_of, bit_of}
 use Rattle.prefix_trie_table.specs.Forest.{read, value_of}
@@ -43,8 +42,8 @@ module _ {T : Type 0} where
 
   pub same_shape : (nodes : List Node) (cells : List (Option T)) (s t : State T) → IsShapeOf nodes cells s → IsShapeOf nodes cells t → s ≡ t
   same_shape nodes cells s t h k =
-      let entries : s.entries ≡ t.entries = same_map listing_total listing_same s.entries t.entries (λ q. h.1 q ∙ sym (k.1 q)) in
-      let nodes : s.nodes ≡ t.nodes = same_map listing_total listing_same s.nodes t.nodes (λ q. marks (get s.nodes q) (get t.nodes q) (h.0 q ∙ sym (k.0 q))) in
+      let entries : s.entries ≡ t.entries = same_entries s.entries t.entries (λ q. h.1 q ∙ sym (k.1 q)) in
+      let nodes : s.nodes ≡ t.nodes = same_members s.nodes t.nodes (λ q. h.0 q ∙ sym (k.0 q)) in
       λ i. record { entries = entries i; nodes = nodes i }
 
   -- the one shape that the nodes and the cells have

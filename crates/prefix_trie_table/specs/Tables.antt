@@ -9,10 +9,14 @@ use Rattle.prefix_trie_table.specs.Digits.{path_of}
 use Rattle.prefix_trie_table.specs.Store.{Store, IsReady, Enough}
 use Rattle.prefix_trie_table.specs.Forest.{NodesHold, IsTable, Deepest, entry_count}
 
--- the arrays hold a table with these entries and nodes, the count is that of the entries, and both arrays have one limit
-pub record IsTableOf {T : Type 0} (v : Store Node) (w : Store (Option T)) (count : ℕ) (shape : State T) : Type 0 where
+-- the arrays hold a table of so many entries
+pub record IsCounted {T : Type 0} (v : Store Node) (w : Store (Option T)) (count : ℕ) : Type 0 where
   pub table : IsTable v w
   pub counted : count ≡ entry_count table.reading table.paths
+
+-- the arrays hold a table with these entries and nodes, the count is that of the entries, and both arrays have one limit
+pub record IsTableOf {T : Type 0} (v : Store Node) (w : Store (Option T)) (count : ℕ) (shape : State T) : Type 0 where
+  pub held : IsCounted v w count
   pub sized : count ≡ len shape.entries
   pub one_limit : w.limit ≡ v.limit
 

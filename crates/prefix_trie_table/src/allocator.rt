@@ -14,3 +14,5 @@ mod free_list;
 pub mod node;
 pub mod nodes;
 pub mod slots;
+#[cfg(test)]
+mod tests;

@@ -16,7 +16,7 @@ ghost use Rattle.prefix_trie_table.specs.Shape.{Shaped, Shaped-prop};
 
 use crate::allocator::blocks::{Blocks, cells};
 use crate::allocator::nodes::{NodeAllocator, Tick};
-use crate::table::insertion::insert_value;
+use crate::table::insertion::insert_entry;
 use crate::table::lookup::find_value;
 use prefix_trie_bits::prefix::{Key, Refusal, Refused};
 use std::alloc::Allocator;
@@ -105,10 +105,14 @@ impl<T: Drop, A: Allocator, V: Tick> Table<T, A, V> {
         ensures returned { IfErr result (λ refused. refused.value ≡ value) }
         ensures stored { IsTrue (contains_key self.old.entries (take len (K.bits key))) → IsOk result }
     {
-        let before = insert_value(&mut self.nodes, &mut self.cells, key, len, value, counter)?;
-        if before.is_none() {
-            self.count += 1;
-        }
-        Ok(before)
+        insert_entry(
+            &mut self.nodes,
+            &mut self.cells,
+            &mut self.count,
+            key,
+            len,
+            value,
+            counter,
+        )
     }
 }

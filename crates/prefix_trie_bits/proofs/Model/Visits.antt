@@ -185,42 +185,47 @@ depth-of j l e = omega (arith, e)
 exact-number : (a k : ℕ) → a + 0 ≤ k + 1 → k + 1 ≤ a + 0 → a ≡ k + 1
 exact-number a k h g = omega (arith, h, g)
 
+-- the number for a set of whole nodes that is closed: what a lookup's way down counts
+pub visits-exact : (n : Nodes) (q : List Bool) (k : ℕ) → ((s : List Bool) → has_node n s ≡ true → length s % 5 ≡ 0) → ((s t : List Bool) → has_node n t ≡ true → begins s t ≡ true → length s % 5 ≡ 0 → has_node n s ≡ true)
+    → 5 * k ≤ length q → has_node n (take (5 * k) q) ≡ true → (length q < 5 * (k + 1)) ⊎ (has_node n (take (5 * (k + 1)) q) ≡ false) → visits n q ≡ k + 1
+visits-exact n q k depths closed short there ends =
+    let found = filter (λ e. begins e.0 q) (entries n) in
+    let sorted = is_sorted-where_key listing_cmp (λ s. begins s q) (entries n) (entries_sorted n) in
+    let along = along-filter q (entries n) (λ s at. depths s (contains_key-keys n s ∙ at)) in
+    let most = at-most q k 0 found (omega arith) sorted along (short-filter q k (entries n) (λ s at b. no_deeper s (contains_key-keys n s ∙ at) b)) in
+    let least = at-least q k 0 0 found short (omega arith) sorted along (λ j _ to. has_each j to) in
+    length-keys (λ s. begins s q) (entries n) ∙ exact-number (length found) k most least
+  where
+    no_deeper : (s : List Bool) → has_node n s ≡ true → begins s q ≡ true → length s ≤ 5 * k
+    no_deeper s at b =
+        elim (nat_lt (5 * k) (length s)) as (λ x. nat_lt (5 * k) (length s) ≡ x → length s ≤ 5 * k) [
+          | true ↦ λ e.
+              let lt : 5 * k < length s = grind (arith, nat_tests) in
+              let long : 5 * (k + 1) ≤ length s = deeper-node (length s) k (depths s at) lt in
+              let in_q : length s ≤ length q = begins-length s q b in
+              let below_long : length (take (5 * (k + 1)) q) ≡ 5 * (k + 1) = length-take-le (5 * (k + 1)) q (omega (arith, long, in_q)) in
+              let above : begins (take (5 * (k + 1)) q) s ≡ true = begins-linear (take (5 * (k + 1)) q) s q (take-begins (5 * (k + 1)) q) b (omega (arith, below_long, long)) in
+              let node : has_node n (take (5 * (k + 1)) q) ≡ true = closed (take (5 * (k + 1)) q) s at above (depth-of (k + 1) (length (take (5 * (k + 1)) q)) below_long) in
+              elim ends [
+                | inl over ↦ absurd (omega (arith, over, long, in_q))
+                | inr missing ↦ absurd (true≢false (sym node ∙ missing))
+              ]
+          | false ↦ λ e. grind (arith, nat_tests)
+        ] refl
+
+    has_each : (j : ℕ) → j ≤ k → is_some (find listing_cmp (take (5 * j) q) (filter (λ e. begins e.0 q) (entries n))) ≡ true
+    has_each j to =
+        let j_long : length (take (5 * j) q) ≡ 5 * j = take-long j k q to short in
+        let k_long : length (take (5 * k) q) ≡ 5 * k = take-long k k q (omega arith) short in
+        let above : begins (take (5 * j) q) (take (5 * k) q) ≡ true = begins-linear (take (5 * j) q) (take (5 * k) q) q (take-begins (5 * j) q) (take-begins (5 * k) q) (omega (arith, j_long, k_long, to)) in
+        let node : has_node n (take (5 * j) q) ≡ true = closed (take (5 * j) q) (take (5 * k) q) there above (depth-of j (length (take (5 * j) q)) j_long) in
+        ap is_some (find-where_key listing_cmp (λ s. begins s q) (take (5 * j) q) (λ x e. ap (λ s. begins s q) (sym (listing_same (take (5 * j) q) x e))) (entries n) ∙ ap (λ b. cond b (find listing_cmp (take (5 * j) q) (entries n)) None) (take-begins (5 * j) q))
+        ∙ ap is_some (sym (get-entries n (take (5 * j) q))) ∙ node
+
 module _ {T : Type 0} where
   exact : (width : ℕ) (m : Entries T) (n : Nodes) (q : List Bool) (k : ℕ) → AreNodes width m n → 5 * k ≤ length q → has_node n (take (5 * k) q) ≡ true
       → (length q < 5 * (k + 1)) ⊎ (has_node n (take (5 * (k + 1)) q) ≡ false) → visits n q ≡ k + 1
-  exact width m n q k good short there ends =
-      let found = filter (λ e. begins e.0 q) (entries n) in
-      let sorted = is_sorted-where_key listing_cmp (λ s. begins s q) (entries n) (entries_sorted n) in
-      let along = along-filter q (entries n) (λ s at. good.depths s (contains_key-keys n s ∙ at)) in
-      let most = at-most q k 0 found (omega arith) sorted along (short-filter q k (entries n) (λ s at b. no_deeper s (contains_key-keys n s ∙ at) b)) in
-      let least = at-least q k 0 0 found short (omega arith) sorted along (λ j _ to. has_each j to) in
-      length-keys (λ s. begins s q) (entries n) ∙ exact-number (length found) k most least
-    where
-      no_deeper : (s : List Bool) → has_node n s ≡ true → begins s q ≡ true → length s ≤ 5 * k
-      no_deeper s at b =
-          elim (nat_lt (5 * k) (length s)) as (λ x. nat_lt (5 * k) (length s) ≡ x → length s ≤ 5 * k) [
-            | true ↦ λ e.
-                let lt : 5 * k < length s = grind (arith, nat_tests) in
-                let long : 5 * (k + 1) ≤ length s = deeper-node (length s) k (good.depths s at) lt in
-                let in_q : length s ≤ length q = begins-length s q b in
-                let below_long : length (take (5 * (k + 1)) q) ≡ 5 * (k + 1) = length-take-le (5 * (k + 1)) q (omega (arith, long, in_q)) in
-                let above : begins (take (5 * (k + 1)) q) s ≡ true = begins-linear (take (5 * (k + 1)) q) s q (take-begins (5 * (k + 1)) q) b (omega (arith, below_long, long)) in
-                let node : has_node n (take (5 * (k + 1)) q) ≡ true = good.closed (take (5 * (k + 1)) q) s at above (depth-of (k + 1) (length (take (5 * (k + 1)) q)) below_long) in
-                elim ends [
-                  | inl over ↦ absurd (omega (arith, over, long, in_q))
-                  | inr missing ↦ absurd (true≢false (sym node ∙ missing))
-                ]
-            | false ↦ λ e. grind (arith, nat_tests)
-          ] refl
-
-      has_each : (j : ℕ) → j ≤ k → is_some (find listing_cmp (take (5 * j) q) (filter (λ e. begins e.0 q) (entries n))) ≡ true
-      has_each j to =
-          let j_long : length (take (5 * j) q) ≡ 5 * j = take-long j k q to short in
-          let k_long : length (take (5 * k) q) ≡ 5 * k = take-long k k q (omega arith) short in
-          let above : begins (take (5 * j) q) (take (5 * k) q) ≡ true = begins-linear (take (5 * j) q) (take (5 * k) q) q (take-begins (5 * j) q) (take-begins (5 * k) q) (omega (arith, j_long, k_long, to)) in
-          let node : has_node n (take (5 * j) q) ≡ true = good.closed (take (5 * j) q) (take (5 * k) q) there above (depth-of j (length (take (5 * j) q)) j_long) in
-          ap is_some (find-where_key listing_cmp (λ s. begins s q) (take (5 * j) q) (λ x e. ap (λ s. begins s q) (sym (listing_same (take (5 * j) q) x e))) (entries n) ∙ ap (λ b. cond b (find listing_cmp (take (5 * j) q) (entries n)) None) (take-begins (5 * j) q))
-          ∙ ap is_some (sym (get-entries n (take (5 * j) q))) ∙ node
+  exact width m n q k good short there ends = visits-exact n q k good.depths good.closed short there ends
 
 filter-same : (p r : List Bool → Bool) → ((s : List Bool) → p s ≡ r s) → (ss : List (List Bool)) → filter p ss ≡ filter r ss
 filter-same p r same [] = refl

@@ -247,8 +247,8 @@ impl<S: Slot, A: Allocator> Blocks<S, A> {
         ensures sound { (live : List (Block S)) → Sound S.vacant live self.old
             → Sound S.vacant live self.new }
     {
-        let size = self.lists[k].size();
-        let len = self.slots.len();
+        let size = self.size_of(k);
+        let len = self.len();
         if len + size as usize > self.limit as usize {
             return Err(Refusal::IndexRange);
         }
@@ -396,13 +396,13 @@ impl<S: Slot, A: Allocator> Blocks<S, A> {
     fn insert_moving(
         &mut self,
         k: usize,
-        start: u32,
+        outgrown: u32,
         to: usize,
         count: u32,
         place: u32,
         value: S,
     ) -> u32
-        requires in_use { InUse S.vacant self.old k start count }
+        requires in_use { InUse S.vacant self.old k outgrown count }
         requires within { to < length self.old.tiers }
         requires ready { 0 < length (tier_at self.old.tiers to).starts }
         requires holds { count < (tier_at self.old.tiers to).size }
@@ -410,13 +410,13 @@ impl<S: Slot, A: Allocator> Blocks<S, A> {
         ensures spends { Spends self.old self.new (Some to) }
         ensures turned { Turnover self.old self.new none_at (many_at to 1) (many_at k 1) }
         ensures sound { (n : ℕ) (xs : List S) (live : List (Block S))
-            → Sound S.vacant (block k start n xs ∷ live) self.old → length xs ≡ count
+            → Sound S.vacant (block k outgrown n xs ∷ live) self.old → length xs ≡ count
             → Sound S.vacant (block to result (tier_at self.old.tiers to).size (insert xs place value) ∷ live) self.new }
     {
         let new = self.take(to);
-        self.move_items(start, new, count);
+        self.move_items(outgrown, new, count);
         self.insert_within(new, count, place, value);
-        self.give_back(k, start);
+        self.give_back(k, outgrown);
         new
     }
 

@@ -5,8 +5,8 @@ ghost use Rattle.prefix_trie_table.specs.Bitmaps.{has_bit as is_set, rank as ran
 ghost use Rattle.prefix_trie_table.specs.Cells.{blank_node, node_at, node_sizes, cell_sizes};
 ghost use Rattle.prefix_trie_table.specs.Digits.{path_of, bit_of};
 ghost use Rattle.prefix_trie_table.specs.Store.{Block, Sound, IsReady, tier_lacking, free_at, Prepared};
-ghost use Rattle.prefix_trie_table.specs.Forest.{IsSlot, NodesHold, CellsHold, Holds, IsTable, AtNode, AtValues, ChildAdded, ValueSet, StandsAt, EntryAdded};
-ghost use Rattle.prefix_trie_table.specs.Tables.{IsReached, HasRoom};
+ghost use Rattle.prefix_trie_table.specs.Forest.{IsSlot, NodesHold, CellsHold, Holds, IsTable, AtNode, AtValues, ChildAdded, ValueSet, StandsAt, EntryAdded, one_if};
+ghost use Rattle.prefix_trie_table.specs.Tables.{IsReached, HasRoom, IsCounted};
 
 use crate::allocator::blocks::Blocks;
 use crate::allocator::node::{Node, NodeSlot};
@@ -172,7 +172,7 @@ fn add_entry<K: Key, T: Drop, A: Allocator, V: Tick>(
 }
 
 /// Sets the value at a bit string, and adds the nodes of its way that are missing. On a refusal nothing is added.
-pub fn insert_value<K: Key, T: Drop, A: Allocator, V: Tick>(
+fn insert_value<K: Key, T: Drop, A: Allocator, V: Tick>(
     nodes: &mut NodeAllocator<A, V>,
     cells: &mut Blocks<Option<T>, A>,
     key: K,
@@ -200,4 +200,32 @@ pub fn insert_value<K: Key, T: Drop, A: Allocator, V: Tick>(
     }
     add_entry(nodes, cells, reached, key, len, value);
     Ok(None)
+}
+
+/// As `insert_value`, and counts a new value.
+pub fn insert_entry<K: Key, T: Drop, A: Allocator, V: Tick>(
+    nodes: &mut NodeAllocator<A, V>,
+    cells: &mut Blocks<Option<T>, A>,
+    entries: &mut usize,
+    key: K,
+    len: u32,
+    value: T,
+    counter: &mut V,
+) -> Result<Option<T>, Refused<T>>
+    requires key { K.IsKey key }
+    requires within { len ≤ K.bit_width }
+    requires table { IsCounted nodes.old cells.old entries.old }
+    ensures inserted { (reading : List ℕ → Option Node) (paths : List (List ℕ)) (values : List ℕ → ℕ → Option T) → Holds reading values paths nodes.old cells.old → MatchResult result (λ before. (before ≡ values (path_of (take len (K.bits key))) (bit_of (take len (K.bits key)))) × EntryAdded reading values paths (path_of (take len (K.bits key))) (bit_of (take len (K.bits key))) (Some value) nodes.new cells.new) (λ _. Holds reading values paths nodes.new cells.new) }
+    ensures counted { MatchResult result (λ before. entries.new + one_if (is_some before) ≡ entries.old + 1) (λ _. entries.new ≡ entries.old) }
+    ensures returned { IfErr result (λ refused. refused.value ≡ value) }
+    ensures stored { (reading : List ℕ → Option Node) (paths : List (List ℕ)) (values : List ℕ → ℕ → Option T) → Holds reading values paths nodes.old cells.old → is_some (values (path_of (take len (K.bits key))) (bit_of (take len (K.bits key)))) ≡ true → IsOk result }
+{
+    let before = insert_value(nodes, cells, key, len, value, counter)?;
+    if before.is_none() {
+        // Each entry has a cell, so the count is within the array's length.
+        let slots = cells.len();
+        prove!(*entries < slots);
+        *entries += 1;
+    }
+    Ok(before)
 }

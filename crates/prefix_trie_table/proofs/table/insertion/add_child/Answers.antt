@@ -45,6 +45,6 @@ pub returns-clause-added : goal.returns-clause-added
 returns-clause-added g c = λ reading paths p n hold stands is.
     let same : c.count.result ≡ rank c.args.node.child_bitmap 32 = c.count.ensures ∙ sym (rank-ones c.args.node.child_bitmap 32 (omega arith)) in
     added c.args.nodes.now c.insert_at-block.new.self c.put.new.self (c.args.at.start + c.args.at.place) c.rank-place.result c.args.child c.insert_at-block.result.tier c.insert_at-block.result.start c.with_bit-child_bitmap.result _ c.args.node _
-    c.requires.node c.with_bit-child_bitmap.ensures refl c.insert_at-block.ensures.spends
+    c.requires.node c.with_bit-child_bitmap.ensures.sets refl c.insert_at-block.ensures.spends
     (λ size xs live s count. subst (λ (b : Node). Sound blank_node (block c.insert_at-block.result.tier c.insert_at-block.result.start (tier_at c.args.nodes.now.tiers c.insert_at-block.result.tier).size (insert xs c.rank-place.result b) ∷ live) c.insert_at-block.new.self) c.blank.ensures (c.insert_at-block.ensures.sound size xs live s (count ∙ sym same)))
     (c.rank-place.ensures ∙ sym (rank-ones c.args.node.child_bitmap c.args.child (omega (arith, c.requires.child)))) c.requires.child c.requires.missing c.put.ensures.slots reading paths p n hold stands is

@@ -9,7 +9,7 @@ use Rattle.prefix_trie_table.proofs.allocator.blocks.Blocks.insert_moving.Goals 
 pub move_items-requires-clause-from_within : goal.move_items-requires-clause-from_within
 move_items-requires-clause-from_within g c =
     let u = c.requires.in_use in
-    let a = block c.args.k c.args.start u.size u.items in
+    let a = block c.args.k c.args.outgrown u.size u.items in
     let b = block c.args.to c.take-new.result (tier_at c.args.self.now.tiers c.args.to).size [] in
     let s = Sound-exchanged g.S.Slot.vacant b a u.live _ (c.take-new.ensures.sound (a ∷ u.live) u.sound) in
     omega (arith, u.is_count, (block_inside g.S.Slot.vacant a (b ∷ u.live) _ s).before, fits_block g.S.Slot.vacant a (b ∷ u.live) _ s)
@@ -17,14 +17,14 @@ move_items-requires-clause-from_within g c =
 pub move_items-requires-clause-to_within : goal.move_items-requires-clause-to_within
 move_items-requires-clause-to_within g c =
     let u = c.requires.in_use in
-    let a = block c.args.k c.args.start u.size u.items in
+    let a = block c.args.k c.args.outgrown u.size u.items in
     let b = block c.args.to c.take-new.result (tier_at c.args.self.now.tiers c.args.to).size [] in
     omega (arith, (block_inside g.S.Slot.vacant b (a ∷ u.live) _ (c.take-new.ensures.sound (a ∷ u.live) u.sound)).before, c.requires.holds)
 
 pub insert_within-requires-clause-room : goal.insert_within-requires-clause-room
 insert_within-requires-clause-room g c =
     let u = c.requires.in_use in
-    let a = block c.args.k c.args.start u.size u.items in
+    let a = block c.args.k c.args.outgrown u.size u.items in
     let b = block c.args.to c.take-new.result (tier_at c.args.self.now.tiers c.args.to).size [] in
     let s = Sound-exchanged g.S.Slot.vacant b a u.live _ (c.take-new.ensures.sound (a ∷ u.live) u.sound) in
     let m = Sound-exchanged g.S.Slot.vacant _ _ u.live _ (c.move_items.ensures.sound a b u.live s refl refl u.is_count refl (omega (arith, c.requires.holds))) in
@@ -33,7 +33,7 @@ insert_within-requires-clause-room g c =
 pub give_back-requires-clause-within : goal.give_back-requires-clause-within
 give_back-requires-clause-within g c =
     let u = c.requires.in_use in
-    let a = block c.args.k c.args.start u.size u.items in
+    let a = block c.args.k c.args.outgrown u.size u.items in
     let b = block c.args.to c.take-new.result (tier_at c.args.self.now.tiers c.args.to).size [] in
     let s = Sound-exchanged g.S.Slot.vacant b a u.live _ (c.take-new.ensures.sound (a ∷ u.live) u.sound) in
     let m = Sound-exchanged g.S.Slot.vacant _ _ u.live _ (c.move_items.ensures.sound a b u.live s refl refl u.is_count refl (omega (arith, c.requires.holds))) in
@@ -43,7 +43,7 @@ give_back-requires-clause-within g c =
 pub give_back-requires-clause-place : goal.give_back-requires-clause-place
 give_back-requires-clause-place g c =
     let u = c.requires.in_use in
-    let a = block c.args.k c.args.start u.size u.items in
+    let a = block c.args.k c.args.outgrown u.size u.items in
     let b = block c.args.to c.take-new.result (tier_at c.args.self.now.tiers c.args.to).size [] in
     let s = Sound-exchanged g.S.Slot.vacant b a u.live _ (c.take-new.ensures.sound (a ∷ u.live) u.sound) in
     let m = Sound-exchanged g.S.Slot.vacant _ _ u.live _ (c.move_items.ensures.sound a b u.live s refl refl u.is_count refl (omega (arith, c.requires.holds))) in
@@ -52,7 +52,7 @@ give_back-requires-clause-place g c =
 
 pub returns-clause-sound : goal.returns-clause-sound
 returns-clause-sound g c = λ n xs live sound count.
-    let a = block c.args.k c.args.start n xs in
+    let a = block c.args.k c.args.outgrown n xs in
     let b = block c.args.to c.take-new.result (tier_at c.args.self.now.tiers c.args.to).size [] in
     let s = Sound-exchanged g.S.Slot.vacant b a live _ (c.take-new.ensures.sound (a ∷ live) sound) in
     let m = Sound-exchanged g.S.Slot.vacant _ _ live _ (c.move_items.ensures.sound a b live s refl refl count refl (omega (arith, c.requires.holds))) in
@@ -62,7 +62,7 @@ returns-clause-sound g c = λ n xs live sound count.
 pub returns-clause-spends : goal.returns-clause-spends
 returns-clause-spends g c =
     let u = c.requires.in_use in
-    let a = block c.args.k c.args.start u.size u.items in
+    let a = block c.args.k c.args.outgrown u.size u.items in
     let b = block c.args.to c.take-new.result (tier_at c.args.self.now.tiers c.args.to).size [] in
     let s0 = c.take-new.ensures.sound (a ∷ u.live) u.sound in
     let s = Sound-exchanged g.S.Slot.vacant b a u.live _ s0 in
@@ -73,15 +73,15 @@ returns-clause-spends g c =
     let at_m = block_inside g.S.Slot.vacant (record b { items = u.items }) (record a { items = [] } ∷ u.live) _ m in
     let fits = fits_block g.S.Slot.vacant a (b ∷ u.live) _ s in
     let s1 = Spends-taken c.args.self.now c.take-new.new.self c.args.to c.requires.within c.take-new.ensures.value in
-    let s2 = Spends-swapped c.take-new.new.self c.move_items.new.self c.args.start c.take-new.result c.args.count c.move_items.ensures.slots at_a.after at_b.after (omega (arith, u.is_count, at_a.before, fits)) (omega (arith, at_b.before, c.requires.holds)) in
+    let s2 = Spends-swapped c.take-new.new.self c.move_items.new.self c.args.outgrown c.take-new.result c.args.count c.move_items.ensures.slots at_a.after at_b.after (omega (arith, u.is_count, at_a.before, fits)) (omega (arith, at_b.before, c.requires.holds)) in
     let s3 = Spends-inserted c.move_items.new.self c.insert_within.new.self c.take-new.result c.args.count c.args.place c.args.value c.insert_within.ensures.slots at_m.after (omega (arith, at_m.before, c.requires.holds)) c.requires.place in
-    let s4 = Spends-given c.insert_within.new.self c.give_back.new.self c.args.k c.args.start (has_place g.S.Slot.vacant _ _ _ i).0 c.give_back.ensures.starts in
+    let s4 = Spends-given c.insert_within.new.self c.give_back.new.self c.args.k c.args.outgrown (has_place g.S.Slot.vacant _ _ _ i).0 c.give_back.ensures.starts in
     Spends-then _ _ _ _ (Spends-then _ _ _ _ (Spends-then _ _ _ _ s1 s2) s3) s4
 
 pub returns-clause-turned : goal.returns-clause-turned
 returns-clause-turned g c =
     let u = c.requires.in_use in
-    let inside = (tier_of_block g.S.Slot.vacant (block c.args.k c.args.start u.size u.items) u.live _ u.sound).within in
+    let inside = (tier_of_block g.S.Slot.vacant (block c.args.k c.args.outgrown u.size u.items) u.live _ u.sound).within in
     let entered = Turnover-entered c.args.self.now c.take-new.new.self c.move_items.new.self c.args.to _ c.requires.within c.requires.ready c.take-new.ensures.value c.move_items.ensures.slots c.move_items.ensures.len in
-    let left = Turnover-left c.move_items.new.self c.insert_within.new.self c.give_back.new.self c.args.k c.args.start _ (omega (arith, inside, tiers_stay c.args.self.now c.move_items.new.self entered.sizes)) c.insert_within.ensures.slots c.insert_within.ensures.len c.give_back.ensures.starts in
+    let left = Turnover-left c.move_items.new.self c.insert_within.new.self c.give_back.new.self c.args.k c.args.outgrown _ (omega (arith, inside, tiers_stay c.args.self.now c.move_items.new.self entered.sizes)) c.insert_within.ensures.slots c.insert_within.ensures.len c.give_back.ensures.starts in
     Turnover-moved c.args.self.now c.move_items.new.self c.give_back.new.self c.args.k c.args.to entered left
