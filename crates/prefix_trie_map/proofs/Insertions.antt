@@ -1,0 +1,56 @@
+-- What an insertion leaves of a map's nodes, and that it is a step of the model.
+use Rattle.std.proofs.Common.{◌≡◌, ℕ, ◌≤◌, ◌%◌, Bool, true, false, ◌&&◌, ◌||◌, List, length, cond, Option, Result, Ok, Err, IfOk, OnOk, OnErr, IsOk, IsTrue, refl, sym, ap, ◌∙◌, subst, inl, inr, eqb-true}
+use Rattle.std.specs.FinMap.{get, contains_key}
+use Rattle.prefix_trie_bits.specs.declared.prefix.Refused.{Refused}
+use Rattle.prefix_trie_bits.specs.Bits.{begins}
+use Rattle.prefix_trie_bits.specs.Model.Entries.{Entries, with_entry}
+use Rattle.prefix_trie_bits.specs.Model.Nodes.{Nodes, has_node, is_node_depth, with_needed, AreNodes}
+use Rattle.prefix_trie_bits.specs.Model.Step.{Reply, Step, Insert}
+use Rattle.prefix_trie_bits.proofs.Model.Members.{or-cases, or-left, and-first, and-second, needs, same_nodes}
+use Rattle.prefix_trie_bits.proofs.Model.NodeSets.{has-with_needed, AreNodes-with_entry}
+use Rattle.prefix_trie_table.specs.Shape.{Contents}
+use Rattle.prefix_trie_map.specs.Steps.{state, inserted}
+
+module _ {T : Type 0} where
+  stands : (width : ℕ) (m : Entries T) (n : Nodes) (s q : List Bool) → AreNodes width m n → contains_key m s ≡ true → has_node (with_needed n s) q ≡ true → has_node n q ≡ true
+  stands width m n s q good stored e =
+      elim (or-cases (has_node n q) (begins q s && is_node_depth q) (sym (has-with_needed n s q) ∙ e)) [
+        | inl before ↦ before
+        | inr way ↦ good.hold_needed q (needs m q s (eqb-true (length q % 5) 0 (and-second (begins q s) (is_node_depth q) way)) stored (and-first (begins q s) (is_node_depth q) way))
+      ]
+
+  -- a stored key needs no node that is not there
+  pub with_needed-stored : (width : ℕ) (m : Entries T) (n : Nodes) (s : List Bool) → AreNodes width m n → contains_key m s ≡ true → with_needed n s ≡ n
+  with_needed-stored width m n s good stored =
+      same_nodes (with_needed n s) n (λ q. stands width m n s q good stored)
+      (λ q e. has-with_needed n s q ∙ or-left (has_node n q) (begins q s && is_node_depth q) e)
+
+  -- what an insertion at s answers and leaves
+  pub record Inserts (old new : Contents T) (s : List Bool) (v : T) (result : Result (Option T) (Refused T)) : Type 0 where
+    pub before : IfOk result (λ before. before ≡ get old.entries s)
+    pub entries : OnOk result (new.entries ≡ with_entry old.entries s v)
+    pub nodes : OnOk result (new.nodes ≡ with_needed old.nodes s)
+    pub unchanged : OnErr result ((new.entries ≡ old.entries) × (new.nodes ≡ old.nodes))
+    pub stored : IsTrue (contains_key old.entries s) → IsOk result
+
+  -- the nodes stay those of a map
+  pub AreNodes-inserted : (width : ℕ) (old new : Contents T) (s : List Bool) (v : T) (result : Result (Option T) (Refused T)) → AreNodes width old.entries old.nodes → length s ≤ width → Inserts old new s v result → AreNodes width new.entries new.nodes
+  AreNodes-inserted width old new s v (Ok before) good short h =
+      subst (λ m. AreNodes width m new.nodes) (sym h.entries)
+      (subst (λ n. AreNodes width (with_entry old.entries s v) n) (sym h.nodes) (AreNodes-with_entry width old.entries old.nodes s v good short))
+  AreNodes-inserted width old new s v (Err refused) good short h =
+      subst (λ m. AreNodes width m new.nodes) (sym h.unchanged.0)
+      (subst (λ n. AreNodes width old.entries n) (sym h.unchanged.1) good)
+
+  nodes_left : (width : ℕ) (m : Entries T) (n : Nodes) (s : List Bool) (b : Bool) → contains_key m s ≡ b → AreNodes width m n → with_needed n s ≡ cond b n (with_needed n s)
+  nodes_left width m n s true is good = with_needed-stored width m n s good is
+  nodes_left width m n s false is good = refl
+
+  -- it is a step of the model
+  pub Step-inserted : {P : Type 0} (path : P → List Bool) (back : List Bool → P) (width : ℕ) (old new : Contents T) (q : P) (v : T) (result : Result (Option T) (Refused T)) → AreNodes width old.entries old.nodes → Inserts old new (path q) v result → Step path back width (state old) (Insert q v) (inserted result) (state new)
+  Step-inserted path back width old new q v (Ok before) good h =
+      let left = h.nodes ∙ nodes_left width old.entries old.nodes (path q) (contains_key old.entries (path q)) refl good in
+      inl (ap Reply.Value h.before, λ i. record { entries = h.entries i; nodes = left i })
+  Step-inserted path back width old new q v (Err refused) good h =
+      let missing : (b : Bool) → (IsTrue b → IsOk (Err {A = Option T} refused)) → b ≡ false = λ b. elim b as (λ b. (IsTrue b → IsOk (Err refused)) → b ≡ false) [ true ↦ λ k. absurd (k refl) | false ↦ λ _. refl ] in
+      inr (missing (contains_key old.entries (path q)) h.stored, (refused.cause, (refl, λ i. record { entries = h.unchanged.0 i; nodes = h.unchanged.1 i })))

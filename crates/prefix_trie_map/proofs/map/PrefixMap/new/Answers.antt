@@ -1,0 +1,12 @@
+use Rattle.std.proofs.Common.{sym, subst}
+use Rattle.prefix_trie_bits.specs.Model.Entries.{no_entries}
+use Rattle.prefix_trie_bits.specs.Model.Nodes.{AreNodes}
+use Rattle.prefix_trie_bits.proofs.Model.NodeSets.{AreNodes-no_entries}
+use Rattle.prefix_trie_map.proofs.map.PrefixMap.new.Goals as goal
+
+pub invariant_of-result : goal.invariant_of-result
+invariant_of-result g c =
+    let width = g.P.R.Key.bit_width in
+    let made = c.in_ok-new.ensures in
+    subst (λ m. AreNodes width m c.in_ok-new.field-0.nodes) (sym made.entries)
+    (subst (λ n. AreNodes width (no_entries {T = g.row.T.Denot}) n) (sym made.nodes) (AreNodes-no_entries width))

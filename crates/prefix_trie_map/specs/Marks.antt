@@ -1,0 +1,8 @@
+-- The number that a tally stands for.
+use Rattle.std.specs.Prelude.{ℕ, ◌+◌, Option, Some, None}
+use Rattle.std.specs.declared.snapshot.Snapshot.{Snapshot}
+
+-- one more than the tally before it, and 0 where there is none
+abbrev pub marks : Option (Snapshot ℕ) → ℕ
+marks None = 0
+marks (Some before) = before.value + 1

@@ -1,0 +1,4 @@
+//! Maps from prefixes to values, over a table of bit strings.
+#![tactic(auto)]
+
+pub mod map;

@@ -1,0 +1,136 @@
+//! Maps from prefixes to values, looked up exactly.
+//!
+//! The path of a prefix, its first `prefix_len` bits, is its key: two prefixes with the same path are one key, whatever their
+//! host bits. Contracts see a map as its entries, a finite map from paths to values, its nodes, and its room, which is its
+//! limit and the lengths of its two arrays.
+ghost use Rattle.std.specs.Prelude.{◌≡◌, ℕ, ◌+◌, ◌-◌, ◌^◌, ◌/◌, ◌≤◌, ◌↔◌, length, IfOk, OnOk, IfErr, OnErr, IsOk, IsTrue};
+ghost use Rattle.std.specs.Option.{option_copied};
+ghost use Rattle.std.specs.FinMap.{get, contains_key, len};
+ghost use Rattle.prefix_trie_bits.specs.declared.prefix.Refusal.TheVariants.{Memory, IndexRange};
+ghost use Rattle.prefix_trie_bits.specs.Model.Entries.{no_entries, with_entry};
+ghost use Rattle.prefix_trie_bits.specs.Model.Nodes.{root_alone, with_needed};
+ghost use Rattle.prefix_trie_bits.specs.Model.Room.{MayPassLimit};
+ghost use Rattle.prefix_trie_bits.specs.Model.Step.{Step, Insert};
+ghost use Rattle.prefix_trie_bits.specs.Model.Visits.{visits};
+ghost use Rattle.prefix_trie_map.specs.Steps.{state, inserted};
+
+mod visits;
+
+use prefix_trie_bits::prefix::{Prefix, Refusal, Refused};
+use prefix_trie_table::table::Table;
+use std::alloc::Allocator;
+use std::marker::{Model, PhantomData};
+
+pub use visits::Visits;
+
+/// A map from prefixes to values, in memory of the allocator `A`.
+///
+/// Prefixes are not kept: of a key the map knows its path alone. Every call that takes a prefix asks that it fits.
+///
+/// ```text
+/// let mut map = PrefixMap::new(alloc)?;
+/// map.insert((0x0a010000_u32, 16_u8), 1)   Ok(None)
+/// map.insert((0x0a01ffff_u32, 16_u8), 2)   Ok(Some(1)), since both have one path
+/// map.get(&(0x0a010000_u32, 16_u8))        Some(&2)
+/// map.get(&(0x0a010000_u32, 17_u8))        None
+/// ```
+#[derive(Drop)]
+pub struct PrefixMap<P: Prefix, T: Drop, A: Allocator> {
+    table: Table<T, A, Visits>,
+    marker: PhantomData<P>,
+}
+
+// Contracts see the table's entries, nodes and room. The nodes are always such as the keys of P need.
+impl<P: Prefix, T: Drop, A: Allocator> Model for PrefixMap<P, T, A> {
+    ghost use Rattle.prefix_trie_table.specs.Shape.{Contents, contents_code};
+    ghost use Rattle.prefix_trie_bits.specs.Model.Nodes.{AreNodes};
+
+    ghost Value = { Contents T };
+
+    ghost coded = { contents_code T.code };
+
+    ghost view = { λ m. m.table };
+
+    ghost invariant = { λ m. AreNodes P.R.bit_width m.table.entries m.table.nodes };
+}
+
+impl<P: Prefix, T: Drop, A: Allocator + Clone> PrefixMap<P, T, A> {
+    /// An empty map. Refused only for memory, and then no map exists.
+    ///
+    /// Neither of its arrays will ever be longer than `u32::MAX` slots.
+    #[inline]
+    pub fn new(alloc: A) -> Result<Self, Refusal>
+        ensures entries { IfOk result (λ map. map.entries ≡ no_entries) }
+        ensures nodes { IfOk result (λ map. map.nodes ≡ root_alone) }
+        ensures room { IfOk result (λ map. map.room ≡ record { limit = 2 ^ 32 - 1; node_slots = 1; cell_slots = 0 }) }
+        ensures only_memory { IfErr result (λ refusal. refusal ≡ Memory) }
+    {
+        Ok(PrefixMap {
+            table: Table::new(alloc, u32::MAX)?,
+            marker: PhantomData,
+        })
+    }
+}
+
+impl<P: Prefix, T: Drop, A: Allocator> PrefixMap<P, T, A> {
+    /// The number of entries.
+    #[inline]
+    pub fn len(&self) -> usize
+        ensures { result ≡ len self.now.entries }
+    {
+        self.table.len()
+    }
+
+    /// Whether there are no entries.
+    #[inline]
+    pub fn is_empty(&self) -> bool
+        ensures { IsTrue result ↔ (self.now.entries ≡ no_entries) }
+    {
+        self.table.len() == 0
+    }
+
+    /// The value stored for exactly this prefix.
+    #[inline]
+    pub fn get(&self, prefix: &P) -> Option<&T>
+        requires { P.IsFitting prefix.now }
+        ensures { option_copied result ≡ get self.now.entries (P.path prefix.now) }
+    {
+        self.get_counted(prefix).0
+    }
+
+    /// The answer of `get`, and how many nodes it read: each node on the prefix's way once, and so at most one for each
+    /// five bits of the prefix, and one more.
+    #[inline]
+    pub fn get_counted(&self, prefix: &P) -> (Option<&T>, Visits)
+        requires { P.IsFitting prefix.now }
+        ensures value { option_copied result.0 ≡ get self.now.entries (P.path prefix.now) }
+        ensures exact { result.1 ≡ visits self.now.nodes (P.path prefix.now) }
+        ensures bound { result.1 ≤ length (P.path prefix.now) / 5 + 1 }
+    {
+        let mut visits = Visits::new();
+        let len = u32::from(prefix.prefix_len());
+        let answer = self.table.find(prefix.repr(), len, &mut visits);
+        (answer, visits)
+    }
+
+    /// Sets the value for a prefix, and answers the one that was there before. A stored prefix is never refused.
+    ///
+    /// A new one is refused with `Memory` where a request for memory is refused, and with `IndexRange` where the slots
+    /// that it needs pass the limit. Refused, it hands the value back, and the map has the entries that it had.
+    #[inline]
+    pub fn insert(&mut self, prefix: P, value: T) -> Result<Option<T>, Refused<T>>
+        requires { P.IsFitting prefix }
+        ensures before { IfOk result (λ before. before ≡ get self.old.entries (P.path prefix)) }
+        ensures entries { OnOk result (self.new.entries ≡ with_entry self.old.entries (P.path prefix) value) }
+        ensures nodes { OnOk result (self.new.nodes ≡ with_needed self.old.nodes (P.path prefix)) }
+
+        // A refusal changes neither the entries nor the nodes.
+        ensures unchanged { OnErr result (state self.new ≡ state self.old) }
+        ensures returned { IfErr result (λ refused. refused.value ≡ value) }
+        ensures stored { IsTrue (contains_key self.old.entries (P.path prefix)) → IsOk result }
+        ensures step { Step P.path P.back P.R.bit_width (state self.old) (Insert prefix value) (inserted result) (state self.new) }
+    {
+        let len = u32::from(prefix.prefix_len());
+        self.table.insert(prefix.repr(), len, value, &mut Visits::new())
+    }
+}

@@ -1,0 +1,69 @@
+//! The counter of the nodes that a lookup reads.
+ghost use Rattle.std.specs.Prelude.{◌≡◌, ℕ};
+
+use prefix_trie_table::allocator::nodes::Tick;
+use std::marker::Model;
+use std::mem::replace;
+use std::snapshot::Snapshot;
+
+// One mark more than the tally before it, or no mark. It is never kept: a snapshot of it is.
+#[derive(Drop)]
+struct Tally {
+    before: Option<Snapshot<Tally>>,
+}
+
+impl Model for Tally {
+    ghost use Rattle.std.specs.Prelude.{ℕ};
+    ghost use Rattle.prefix_trie_map.specs.Marks.{marks};
+
+    ghost Value = { ℕ };
+
+    ghost view = { λ t. marks t.before };
+
+    ghost size = { λ n. n };
+
+    ghost use Rattle.prefix_trie_map.specs.MarksFall.{marks-fall};
+
+    ghost size_decreases = { λ t h. marks-fall t.before };
+}
+
+/// How many nodes a lookup read. It takes no bytes: the number exists in contracts alone.
+///
+/// Only a lookup makes one, and only a read of a node adds one to it.
+#[derive(Drop)]
+pub struct Visits {
+    last: Snapshot<Tally>,
+}
+
+// A contract sees the number.
+impl Model for Visits {
+    ghost use Rattle.std.specs.Prelude.{ℕ};
+
+    ghost Value = { ℕ };
+
+    ghost view = { λ v. v.last.value };
+}
+
+impl Visits {
+    /// No read so far.
+    #[inline]
+    pub(super) fn new() -> Visits
+        ensures { result ≡ 0 }
+    {
+        Visits {
+            last: Snapshot::of(&Tally { before: None }),
+        }
+    }
+}
+
+impl Tick for Visits {
+    ghost count = { λ v. v };
+
+    #[inline]
+    fn tick(&mut self) {
+        let before = replace(&mut self.last, Snapshot::of(&Tally { before: None }));
+        self.last = Snapshot::of(&Tally {
+            before: Some(before),
+        });
+    }
+}
