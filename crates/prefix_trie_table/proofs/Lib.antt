@@ -23,3 +23,4 @@ pub mod EntryCounts
 pub mod Adding
 pub mod Growing
 pub mod Inserting
+pub mod Rooms

@@ -1,5 +1,5 @@
 -- What contracts see of a table, before and after an insertion.
-use Rattle.std.proofs.Common.{◌≡◌, ℕ, ◌+◌, ◌%◌, ◌==◌, Bool, true, false, cond, ◌&&◌, ◌||◌, List, [], ◌∷◌, ◌++◌, length, get_or, map, Option, None, Some, is_some, refl, sym, ap, ap₂, ◌∙◌, subst, arith, inl, inr, eqb-true}
+use Rattle.std.proofs.Common.{◌≡◌, ℕ, ◌+◌, ◌%◌, ◌==◌, Bool, true, false, cond, ◌&&◌, ◌||◌, List, [], ◌∷◌, ◌++◌, length, get_or, map, Option, None, Some, is_some, Result, Ok, Err, MatchResult, IfOk, OnOk, OnErr, refl, sym, ap, ap₂, ◌∙◌, subst, arith, inl, inr, eqb-true}
 use Rattle.std.proofs.lemmas.Bool.{false≢true, cases_Bool}
 use Rattle.std.specs.FinMap.{get, get-insert, get-empty, insert, len-insert, len-empty, contains_key, len}
 use Rattle.std.specs.List.{list_any}
@@ -17,7 +17,7 @@ use Rattle.prefix_trie_table.specs.Digits.{path_of, bit_of}
 use Rattle.prefix_trie_table.specs.Store.{Store, Sound, no_blocks, tier_sizes}
 use Rattle.prefix_trie_table.specs.Forest.{read, value_in, value_of, same_path, one_if, is_start, NodesHold, CellsHold, Holds, EntryAdded, child_blocks, value_blocks, value_blocks_of, held, size_in, has_child, has_value, with_value, entry_count}
 use Rattle.prefix_trie_table.specs.Shape.{IsShapeOf, Shaped, same_shape}
-use Rattle.prefix_trie_table.specs.Tables.{IsTableOf}
+use Rattle.prefix_trie_table.specs.Tables.{IsTableOf, IsCounted, Grows}
 use Rattle.prefix_trie_table.proofs.Bits.{has_bit-zero}
 use Rattle.prefix_trie_table.proofs.BitLists.{rank-zero-all}
 use Rattle.prefix_trie_table.proofs.Paths.{same_path-itself, same_path-not, same_path-true, same_path-equal, snoc_not_nil}
@@ -171,3 +171,84 @@ module _ {T : Type 0} (v : Store Node) (w : Store (Option T)) (limit : ℕ) (v_i
     sized = sym (ap (λ (x : State T). len x.entries) (new_only s) ∙ len-empty _ T);
     one_limit = ap (λ (x : Store (Option T)). x.limit) w_is ∙ sym (ap (λ (x : Store Node). x.limit) v_is);
   }
+
+-- one entry more, or as many
+one_more : (c n l : ℕ) (b : Bool) → c ≡ l → n + one_if b ≡ c + 1 → n ≡ cond b l (l + 1)
+one_more c n l true e f = omega (arith, e, f)
+one_more c n l false e f = omega (arith, e, f)
+
+-- an insertion: what it leaves of the table
+module _ {T : Type 0} (key : List Bool) (x : T) (v v2 : Store Node) (w w2 : Store (Option T)) (count count2 : ℕ) (s : Shaped v.slots w.slots) (is : IsTableOf v w count s.0) where
+  held_by : Holds is.held.table.reading is.held.table.values is.held.table.paths v w
+  held_by = is.held.table.holds
+
+  entry_is : get s.0.entries key ≡ is.held.table.values (path_of key) (bit_of key)
+  entry_is = shape_entries is.held.table.reading is.held.table.values is.held.table.paths v w held_by s.0 s.1 key
+
+  module _ {E : Type 0} where
+    -- what the call says of the values and the nodes that the old arrays hold
+    abbrev pub Leaves : Result (Option T) E → Type 0
+    Leaves r =
+        (reading : List ℕ → Option Node) (paths : List (List ℕ)) (values : List ℕ → ℕ → Option T) → Holds reading values paths v w
+        → MatchResult r (λ before. (before ≡ values (path_of key) (bit_of key)) × EntryAdded reading values paths (path_of key) (bit_of key) (Some x) v2 w2) (λ _. Holds reading values paths v2 w2)
+
+    abbrev pub Counts : Result (Option T) E → Type 0
+    Counts r = MatchResult r (λ before. count2 + one_if (is_some before) ≡ count + 1) (λ _. count2 ≡ count)
+
+    -- the shape that is left
+    abbrev pub shape_left : Result (Option T) E → State T
+    shape_left (Ok before) = shape_with s.0 key x
+    shape_left (Err e) = s.0
+
+    pub left_is : (r : Result (Option T) E) → Leaves r → IsShapeOf v2.slots w2.slots (shape_left r)
+    left_is (Ok before) left = shape_added is.held.table.reading is.held.table.values is.held.table.paths v v2 w w2 held_by key x s.0 s.1 (left is.held.table.reading is.held.table.paths is.held.table.values held_by).1
+    left_is (Err e) left = shape_kept is.held.table.reading is.held.table.values is.held.table.paths v v2 w w2 held_by s.0 s.1 (left is.held.table.reading is.held.table.paths is.held.table.values held_by)
+
+    pub left_shape : (r : Result (Option T) E) → Leaves r → Shaped v2.slots w2.slots
+    left_shape r left = (shape_left r, left_is r left)
+
+    pub left_only : (r : Result (Option T) E) → Leaves r → (t : Shaped v2.slots w2.slots) → t.0 ≡ shape_left r
+    left_only r left t = same_shape v2.slots w2.slots t.0 (shape_left r) t.1 (left_is r left)
+
+    counted_left : (r : Result (Option T) E) → Leaves r → Counts r → IsCounted v2 w2 count2
+    counted_left (Ok before) left counts =
+        let a = left is.held.table.reading is.held.table.paths is.held.table.values held_by in
+        let had : one_if (is_some before) ≡ one_if (is_some (is.held.table.values (path_of key) (bit_of key))) = ap (λ o. one_if (is_some o)) a.0 in
+        record {
+          table = record { reading = a.1.later; values = with_value is.held.table.values (path_of key) (bit_of key) (Some x); paths = a.1.paths; holds = a.1.holds };
+          counted = (let n = a.1.counted in let h = is.held.counted in omega (arith, n, h, had, counts));
+        }
+    counted_left (Err e) left counts = record {
+      table = record { reading = is.held.table.reading; values = is.held.table.values; paths = is.held.table.paths; holds = left is.held.table.reading is.held.table.paths is.held.table.values held_by };
+      counted = counts ∙ is.held.counted;
+    }
+
+    sized_left : (r : Result (Option T) E) → Leaves r → Counts r → count2 ≡ len (shape_left r).entries
+    sized_left (Ok before) left counts =
+        let a = left is.held.table.reading is.held.table.paths is.held.table.values held_by in
+        let had : is_some before ≡ contains_key s.0.entries key = ap is_some (a.0 ∙ sym entry_is) in
+        one_more count count2 (len s.0.entries) (is_some before) is.sized counts ∙ ap (λ b. cond b (len s.0.entries) (len s.0.entries + 1)) had ∙ sym (len-insert listing_total s.0.entries key x)
+    sized_left (Err e) left counts = counts ∙ is.sized
+
+    pub table_left : (r : Result (Option T) E) → Leaves r → Counts r → Grows v v2 56 → Grows w w2 31 → (t : Shaped v2.slots w2.slots) → IsTableOf v2 w2 count2 t.0
+    table_left r left counts nodes cells t = record {
+      held = counted_left r left counts;
+      sized = sized_left r left counts ∙ ap (λ (y : State T). len y.entries) (sym (left_only r left t));
+      one_limit = cells.limit_is ∙ is.one_limit ∙ sym nodes.limit_is;
+    }
+
+    pub before_left : (r : Result (Option T) E) → Leaves r → IfOk r (λ before. before ≡ get s.0.entries key)
+    before_left (Ok before) left = (left is.held.table.reading is.held.table.paths is.held.table.values held_by).0 ∙ sym entry_is
+    before_left (Err e) left = tt
+
+    pub entries_left : (r : Result (Option T) E) → Leaves r → (t : Shaped v2.slots w2.slots) → OnOk r (t.0.entries ≡ with_entry s.0.entries key x)
+    entries_left (Ok before) left t = ap (λ (y : State T). y.entries) (left_only (Ok before) left t)
+    entries_left (Err e) left t = tt
+
+    pub nodes_left : (r : Result (Option T) E) → Leaves r → (t : Shaped v2.slots w2.slots) → OnOk r (t.0.nodes ≡ with_needed s.0.nodes key)
+    nodes_left (Ok before) left t = ap (λ (y : State T). y.nodes) (left_only (Ok before) left t)
+    nodes_left (Err e) left t = tt
+
+    pub same_left : (r : Result (Option T) E) → Leaves r → (t : Shaped v2.slots w2.slots) → OnErr r ((t.0.entries ≡ s.0.entries) × (t.0.nodes ≡ s.0.nodes))
+    same_left (Ok before) left t = tt
+    same_left (Err e) left t = (ap (λ (y : State T). y.entries) (left_only (Err e) left t), ap (λ (y : State T). y.nodes) (left_only (Err e) left t))

@@ -1,5 +1,5 @@
 -- What holds of the fields of every table, and of a way down.
-use Rattle.std.specs.Prelude.{◌≡◌, ℕ, ◌+◌, ◌-◌, ◌*◌, ◌/◌, ◌<◌, ◌≤◌, Bool, false, List, Option, length, take, slice_index_or}
+use Rattle.std.specs.Prelude.{◌≡◌, ℕ, ◌+◌, ◌-◌, ◌*◌, ◌/◌, ◌<◌, ◌≤◌, ◌⊎◌, Bool, false, List, Option, length, take, slice_index_or}
 use Rattle.std.specs.FinMap.{len}
 use Rattle.prefix_trie_bits.specs.Model.Step.{State}
 use Rattle.prefix_trie_table.specs.declared.allocator.node.Node.{Node}
@@ -33,3 +33,13 @@ pub record HasRoom {T : Type 0} (v : Store Node) (w : Store (Option T)) (node : 
   pub here : len < 5 * level + 5 → IsReady w.tiers node.value_tier (rank node.value_bitmap 32)
   pub below : 5 * level + 5 ≤ len → IsReady w.tiers 0 0
   pub children : 5 * level + 5 ≤ len → Enough v.tiers node.child_tier (rank node.child_bitmap 32) (len / 5 - (level + 1))
+
+-- an array is as long as it was or longer by so many slots at most, and its limit is the same
+pub record Grows {S : Type 0} (v w : Store S) (most : ℕ) : Type 0 where
+  pub limit_is : w.limit ≡ v.limit
+  pub longer : length v.slots ≤ length w.slots
+  pub at_most : length w.slots ≤ length v.slots + most
+
+-- the slots of one insertion's blocks may pass the limit: a block of 32 nodes and 24 of one, or a block of 31 cells
+abbrev pub MayPass : {T : Type 0} → Store Node → Store (Option T) → Type 0
+MayPass v w = (v.limit < length v.slots + 56) ⊎ (w.limit < length w.slots + 31)

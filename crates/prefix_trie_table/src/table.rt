@@ -6,12 +6,14 @@
 mod insertion;
 mod lookup;
 
-ghost use Rattle.std.specs.Prelude.{◌≡◌, ℕ, ◌+◌, ◌≤◌, take, IfOk, OnOk, IfErr, OnErr, IsOk, IsTrue};
+ghost use Rattle.std.specs.Prelude.{◌≡◌, ℕ, ◌+◌, ◌≤◌, take, IfOk, OnOk, IfErr, OnErr, IsOk, IsErr, IsTrue, ◌↔◌};
 ghost use Rattle.std.specs.Option.{option_copied};
 ghost use Rattle.std.specs.FinMap.{get, contains_key, len};
 ghost use Rattle.prefix_trie_bits.specs.Model.Entries.{no_entries, with_entry};
 ghost use Rattle.prefix_trie_bits.specs.Model.Nodes.{root_alone, with_needed};
 ghost use Rattle.prefix_trie_bits.specs.Model.Visits.{visits};
+ghost use Rattle.prefix_trie_bits.specs.Model.Room.{MayPassLimit};
+ghost use Rattle.prefix_trie_bits.specs.declared.prefix.Refusal.TheVariants.{IndexRange};
 ghost use Rattle.prefix_trie_table.specs.Shape.{Shaped, Shaped-prop};
 
 use crate::allocator::blocks::{Blocks, cells};
@@ -54,6 +56,8 @@ impl<T: Drop, A: Allocator + Clone, V: Tick> Table<T, A, V> {
         ensures entries { IfOk result (λ t. t.entries ≡ no_entries) }
         ensures nodes { IfOk result (λ t. t.nodes ≡ root_alone) }
         ensures room { IfOk result (λ t. t.room ≡ record { limit = limit; node_slots = 1; cell_slots = 0 }) }
+        ensures range { IfErr result (λ cause. (cause ≡ IndexRange) ↔ (limit ≡ 0)) }
+        ensures none { limit ≡ 0 → IsErr result }
     {
         let nodes = NodeAllocator::new(&alloc, limit)?;
         let Ok(cells) = cells(&alloc, limit) else {
@@ -103,7 +107,11 @@ impl<T: Drop, A: Allocator, V: Tick> Table<T, A, V> {
         ensures nodes { OnOk result (self.new.nodes ≡ with_needed self.old.nodes (take len (K.bits key))) }
         ensures unchanged { OnErr result ((self.new.entries ≡ self.old.entries) × (self.new.nodes ≡ self.old.nodes)) }
         ensures returned { IfErr result (λ refused. refused.value ≡ value) }
-        ensures stored { IsTrue (contains_key self.old.entries (take len (K.bits key))) → IsOk result }
+        ensures stored { IsTrue (contains_key self.old.entries (take len (K.bits key))) → IsOk result × (self.new.room ≡ self.old.room) }
+        ensures range { IfErr result (λ refused. refused.cause ≡ IndexRange → MayPassLimit self.old.room) }
+        ensures room { (self.new.room.limit ≡ self.old.room.limit)
+            × (self.old.room.node_slots ≤ self.new.room.node_slots) × (self.new.room.node_slots ≤ self.old.room.node_slots + 56)
+            × (self.old.room.cell_slots ≤ self.new.room.cell_slots) × (self.new.room.cell_slots ≤ self.old.room.cell_slots + 31) }
     {
         insert_entry(
             &mut self.nodes,

@@ -4,9 +4,10 @@ ghost use Rattle.prefix_trie_table.specs.declared.allocator.node.Node.{Node};
 ghost use Rattle.prefix_trie_table.specs.Bitmaps.{has_bit as is_set, rank as rank_of};
 ghost use Rattle.prefix_trie_table.specs.Cells.{blank_node, node_at, node_sizes, cell_sizes};
 ghost use Rattle.prefix_trie_table.specs.Digits.{path_of, bit_of};
-ghost use Rattle.prefix_trie_table.specs.Store.{Block, Sound, IsReady, tier_lacking, free_at, Prepared};
+ghost use Rattle.prefix_trie_table.specs.Store.{Block, Sound, IsReady, tier_lacking, free_at, Prepared, SameRoom};
 ghost use Rattle.prefix_trie_table.specs.Forest.{IsSlot, NodesHold, CellsHold, Holds, IsTable, AtNode, AtValues, ChildAdded, ValueSet, StandsAt, EntryAdded, one_if};
-ghost use Rattle.prefix_trie_table.specs.Tables.{IsReached, HasRoom, IsCounted};
+ghost use Rattle.prefix_trie_table.specs.Tables.{IsReached, HasRoom, IsCounted, Grows, MayPass};
+ghost use Rattle.prefix_trie_bits.specs.declared.prefix.Refusal.TheVariants.{IndexRange};
 
 use crate::allocator::blocks::Blocks;
 use crate::allocator::node::{Node, NodeSlot};
@@ -28,6 +29,7 @@ fn add_child<A: Allocator, V: Tick>(
     requires node { node ≡ node_at nodes.old.slots (at.start + at.place) }
     requires missing { is_set node.child_bitmap child ≡ false }
     requires ready { IsReady nodes.old.tiers node.child_tier (rank_of node.child_bitmap 32) }
+    ensures room { SameRoom nodes.old nodes.new }
     ensures free { (j : ℕ) → free_at nodes.old.tiers j ≤ free_at nodes.new.tiers j + 1 }
     ensures kept { (j : ℕ) → tier_lacking nodes.old.tiers node.child_tier (rank_of node.child_bitmap 32) ≢ Some j → free_at nodes.old.tiers j ≤ free_at nodes.new.tiers j }
     ensures added { (reading : List ℕ → Option Node) (paths : List (List ℕ)) (p : List ℕ) (n : Node) → NodesHold node_sizes reading paths nodes.old → IsSlot reading p (at.start + at.place) → reading p ≡ Some n → ChildAdded reading paths p n child nodes.new (result.start + result.place) }
@@ -72,6 +74,8 @@ fn add_value<T: Drop, A: Allocator, V: Tick>(
     requires node { node ≡ node_at nodes.old.slots (at.start + at.place) }
     requires missing { is_set node.value_bitmap bit ≡ false }
     requires ready { IsReady cells.old.tiers node.value_tier (rank_of node.value_bitmap 32) }
+    ensures node_room { SameRoom nodes.old nodes.new }
+    ensures cell_room { SameRoom cells.old cells.new }
     ensures added { (reading : List ℕ → Option Node) (paths : List (List ℕ)) (values : List ℕ → ℕ → Option T) (p : List ℕ) (n : Node) → NodesHold node_sizes reading paths nodes.old → CellsHold cell_sizes reading values paths cells.old → IsSlot reading p (at.start + at.place) → reading p ≡ Some n → ValueSet reading paths values p bit (Some value) nodes.new cells.new }
 {
     let place = rank(node.value_bitmap, bit);
@@ -109,6 +113,7 @@ fn replace_value<T: Drop, A: Allocator, V: Tick>(
     requires stands { AtValues nodes.now cells.old (at.start + at.place) }
     requires node { node ≡ node_at nodes.now.slots (at.start + at.place) }
     requires there { is_set node.value_bitmap bit ≡ true }
+    ensures room { SameRoom cells.old cells.new }
     ensures before { (reading : List ℕ → Option Node) (paths : List (List ℕ)) (values : List ℕ → ℕ → Option T) (p : List ℕ) (n : Node) → NodesHold node_sizes reading paths nodes.now → CellsHold cell_sizes reading values paths cells.old → IsSlot reading p (at.start + at.place) → reading p ≡ Some n → result ≡ values p bit }
     ensures replaced { (reading : List ℕ → Option Node) (paths : List (List ℕ)) (values : List ℕ → ℕ → Option T) (p : List ℕ) (n : Node) → NodesHold node_sizes reading paths nodes.now → CellsHold cell_sizes reading values paths cells.old → IsSlot reading p (at.start + at.place) → reading p ≡ Some n → ValueSet reading paths values p bit (Some value) nodes.now cells.new }
 {
@@ -130,6 +135,9 @@ fn prepare<T: Drop, A: Allocator, V: Tick>(
     requires few_values { len < 5 * reached.now.level + 5 → rank_of reached.now.node.value_bitmap 32 < 31 }
     requires few_children { 5 * reached.now.level + 5 ≤ len → rank_of reached.now.node.child_bitmap 32 < 32 }
     ensures room { OnOk result (HasRoom nodes.new cells.new reached.now.node reached.now.level len) }
+    ensures range { IfErr result (λ cause. cause ≡ IndexRange → MayPass nodes.old cells.old) }
+    ensures node_room { Grows nodes.old nodes.new 56 }
+    ensures cell_room { Grows cells.old cells.new 31 }
     ensures nodes { Prepared nodes.old nodes.new }
     ensures cells { Prepared cells.old cells.new }
     ensures nodes_sound { (live : List (Block Node)) → Sound blank_node live nodes.old → Sound blank_node live nodes.new }
@@ -160,6 +168,8 @@ fn add_entry<K: Key, T: Drop, A: Allocator, V: Tick>(
     requires reached { IsReached (K.bits key) len reached.level reached.node (reached.at.start + reached.at.place) nodes.old }
     requires lacks { len < 5 * reached.level + 5 → is_set reached.node.value_bitmap (bit_of (take len (K.bits key))) ≡ false }
     requires room { HasRoom nodes.old cells.old reached.node reached.level len }
+    ensures node_room { SameRoom nodes.old nodes.new }
+    ensures cell_room { SameRoom cells.old cells.new }
     ensures added { (reading : List ℕ → Option Node) (paths : List (List ℕ)) (values : List ℕ → ℕ → Option T) → Holds reading values paths nodes.old cells.old → EntryAdded reading values paths (path_of (take len (K.bits key))) (bit_of (take len (K.bits key))) (Some value) nodes.new cells.new }
 {
     let mut at = reached.at;
@@ -184,8 +194,11 @@ fn insert_value<K: Key, T: Drop, A: Allocator, V: Tick>(
     requires within { len ≤ K.bit_width }
     requires table { IsTable nodes.old cells.old }
     ensures inserted { (reading : List ℕ → Option Node) (paths : List (List ℕ)) (values : List ℕ → ℕ → Option T) → Holds reading values paths nodes.old cells.old → MatchResult result (λ before. (before ≡ values (path_of (take len (K.bits key))) (bit_of (take len (K.bits key)))) × EntryAdded reading values paths (path_of (take len (K.bits key))) (bit_of (take len (K.bits key))) (Some value) nodes.new cells.new) (λ _. Holds reading values paths nodes.new cells.new) }
+    ensures range { IfErr result (λ refused. refused.cause ≡ IndexRange → MayPass nodes.old cells.old) }
+    ensures node_room { Grows nodes.old nodes.new 56 }
+    ensures cell_room { Grows cells.old cells.new 31 }
     ensures returned { IfErr result (λ refused. refused.value ≡ value) }
-    ensures stored { (reading : List ℕ → Option Node) (paths : List (List ℕ)) (values : List ℕ → ℕ → Option T) → Holds reading values paths nodes.old cells.old → is_some (values (path_of (take len (K.bits key))) (bit_of (take len (K.bits key)))) ≡ true → IsOk result }
+    ensures stored { (reading : List ℕ → Option Node) (paths : List (List ℕ)) (values : List ℕ → ℕ → Option T) → Holds reading values paths nodes.old cells.old → is_some (values (path_of (take len (K.bits key))) (bit_of (take len (K.bits key)))) ≡ true → IsOk result × SameRoom nodes.old nodes.new × SameRoom cells.old cells.new }
 {
     let reached = descend(nodes, key, len, counter);
     let depth = 5 * reached.level;
@@ -217,8 +230,11 @@ pub fn insert_entry<K: Key, T: Drop, A: Allocator, V: Tick>(
     requires table { IsCounted nodes.old cells.old entries.old }
     ensures inserted { (reading : List ℕ → Option Node) (paths : List (List ℕ)) (values : List ℕ → ℕ → Option T) → Holds reading values paths nodes.old cells.old → MatchResult result (λ before. (before ≡ values (path_of (take len (K.bits key))) (bit_of (take len (K.bits key)))) × EntryAdded reading values paths (path_of (take len (K.bits key))) (bit_of (take len (K.bits key))) (Some value) nodes.new cells.new) (λ _. Holds reading values paths nodes.new cells.new) }
     ensures counted { MatchResult result (λ before. entries.new + one_if (is_some before) ≡ entries.old + 1) (λ _. entries.new ≡ entries.old) }
+    ensures range { IfErr result (λ refused. refused.cause ≡ IndexRange → MayPass nodes.old cells.old) }
+    ensures node_room { Grows nodes.old nodes.new 56 }
+    ensures cell_room { Grows cells.old cells.new 31 }
     ensures returned { IfErr result (λ refused. refused.value ≡ value) }
-    ensures stored { (reading : List ℕ → Option Node) (paths : List (List ℕ)) (values : List ℕ → ℕ → Option T) → Holds reading values paths nodes.old cells.old → is_some (values (path_of (take len (K.bits key))) (bit_of (take len (K.bits key)))) ≡ true → IsOk result }
+    ensures stored { (reading : List ℕ → Option Node) (paths : List (List ℕ)) (values : List ℕ → ℕ → Option T) → Holds reading values paths nodes.old cells.old → is_some (values (path_of (take len (K.bits key))) (bit_of (take len (K.bits key)))) ≡ true → IsOk result × SameRoom nodes.old nodes.new × SameRoom cells.old cells.new }
 {
     let before = insert_value(nodes, cells, key, len, value, counter)?;
     if before.is_none() {

@@ -1,4 +1,4 @@
-use Rattle.std.proofs.Common.{◌≡◌, ℕ, ◌+◌, ◌-◌, ◌*◌, ◌/◌, ◌<◌, ◌≤◌, List, Some, take, length, get_or, false, sym, ap, ◌∙◌, subst, arith}
+use Rattle.std.proofs.Common.{◌≡◌, ℕ, ◌+◌, ◌-◌, ◌*◌, ◌/◌, ◌<◌, ◌≤◌, List, Some, take, length, get_or, false, refl, sym, ap, ◌∙◌, subst, arith}
 use Rattle.prefix_trie_table.specs.declared.allocator.node.Node.{Node}
 use Rattle.prefix_trie_table.specs.Bitmaps.{has_bit, rank}
 use Rattle.prefix_trie_table.specs.Cells.{blank_node, node_at}
@@ -9,6 +9,7 @@ use Rattle.prefix_trie_table.proofs.Bits.{has_bit-zero}
 use Rattle.prefix_trie_table.proofs.Spending.{single_node}
 use Rattle.prefix_trie_table.proofs.Going.{step-read, level_inside, level_last, level_within, bit-read-last, steps-all}
 use Rattle.prefix_trie_table.proofs.Growing.{walked_start, walked_more, entry_added, enough_next, enough_below, value_below}
+use Rattle.prefix_trie_table.proofs.Rooms.{SameRoom-then}
 use Rattle.prefix_trie_table.proofs.table.insertion.add_entry.Goals as goal
 
 pub loop-level-init : goal.loop-level-init
@@ -25,6 +26,7 @@ loop-level-init g c =
       value = λ e. record { ready = room.here (level_last level len e); missing = c.requires.lacks (level_last level len e) };
       within = level_within level len at.whole;
       from = omega arith;
+      room = (refl, refl, refl);
     }
 
 pub add_child-at-requires-clause-missing : goal.add_child-at-requires-clause-missing
@@ -57,6 +59,7 @@ loop-level-preserved g c =
       value = λ h. value_below c.blank-node.result c.args.cells.now (bit_of (take c.args.len b)) c.blank-node.ensures (c.requires.room.below (level_inside c.args.reached.level c.args.len (let f = inv.from in omega arith)));
       within = omega (arith, inside);
       from = (let f = inv.from in omega arith);
+      room = SameRoom-then c.args.nodes.now c.loop-level.nodes c.add_child-at.new.nodes inv.room c.add_child-at.ensures.room;
     }
 
 pub add_value-requires-clause-stands : goal.add_value-requires-clause-stands
@@ -71,9 +74,9 @@ add_value-requires-clause-missing g c =
     let last : c.loop-level.level ≡ c.args.len / 5 = (let w = c.loop-level.invariant.within in omega (arith, w, c.loop-level-test.false)) in
     ap (has_bit c.loop-level.node.value_bitmap) (sym (bit-read-last b c.args.len c.requires.reached.long c.value_bit_of.result c.value_bit_of.ensures.value)) ∙ (c.loop-level.invariant.value last).missing
 
-pub returns : goal.returns
-returns g c = record { added = λ reading paths values holds.
+pub returns-clause-added : goal.returns-clause-added
+returns-clause-added g c = λ reading paths values holds.
     let b = g.K.Key.bits c.args.key in
     let last : c.loop-level.level ≡ c.args.len / 5 = (let w = c.loop-level.invariant.within in omega (arith, w, c.loop-level-test.false)) in
     subst (λ i. EntryAdded reading values paths (path_of (take c.args.len b)) i (Some c.args.value) c.add_value.new.nodes c.add_value.new.cells) (sym (bit-read-last b c.args.len c.requires.reached.long c.value_bit_of.result c.value_bit_of.ensures.value))
-    (entry_added reading values paths (path_of (take c.args.len b)) c.loop-level.level (c.loop-level.at.start + c.loop-level.at.place) c.value_bit_of.result (Some c.args.value) c.loop-level.nodes c.add_value.new.nodes c.args.cells.now c.add_value.new.cells (c.loop-level.invariant.walked reading paths values holds (c.requires.reached.deepest reading paths holds.hold)) (last ∙ sym (steps-all b c.args.len c.requires.reached.long)) (λ nodes ps q m h cells stands is. c.add_value.ensures.added nodes ps values q m h cells stands is)) }
+    (entry_added reading values paths (path_of (take c.args.len b)) c.loop-level.level (c.loop-level.at.start + c.loop-level.at.place) c.value_bit_of.result (Some c.args.value) c.loop-level.nodes c.add_value.new.nodes c.args.cells.now c.add_value.new.cells (c.loop-level.invariant.walked reading paths values holds (c.requires.reached.deepest reading paths holds.hold)) (last ∙ sym (steps-all b c.args.len c.requires.reached.long)) (λ nodes ps q m h cells stands is. c.add_value.ensures.added nodes ps values q m h cells stands is))

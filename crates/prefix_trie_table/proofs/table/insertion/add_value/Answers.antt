@@ -32,10 +32,10 @@ overflow_cast-block g c =
 pub put-requires : goal.put-requires
 put-requires g c = (at_is c.args.nodes.now (c.args.at.start + c.args.at.place) (at_values _ _ _ c.requires.stands)).1
 
-pub returns : goal.returns
-returns g c = record { added = λ reading paths values p n hold cells stands is.
+pub returns-clause-added : goal.returns-clause-added
+returns-clause-added g c = λ reading paths values p n hold cells stands is.
     let same : c.count.result ≡ rank c.args.node.value_bitmap 32 = c.count.ensures ∙ sym (rank-ones c.args.node.value_bitmap 32 (omega arith)) in
     values_added c.args.nodes.now c.put.new.self c.args.cells.now c.insert_at-block.new.self (c.args.at.start + c.args.at.place) c.rank-place.result c.args.bit c.insert_at-block.result.tier c.insert_at-block.result.start c.with_bit-value_bitmap.result _ c.args.node _ c.args.value
     c.requires.node c.with_bit-value_bitmap.ensures.sets refl c.insert_at-block.ensures.spends
     (λ size xs live s count. c.insert_at-block.ensures.sound size xs live s (count ∙ sym same))
-    (c.rank-place.ensures ∙ sym (rank-ones c.args.node.value_bitmap c.args.bit (omega (arith, c.requires.bit)))) (omega (arith, c.requires.bit)) c.requires.missing c.requires.bit c.put.ensures.slots reading paths values p n hold cells stands is }
+    (c.rank-place.ensures ∙ sym (rank-ones c.args.node.value_bitmap c.args.bit (omega (arith, c.requires.bit)))) (omega (arith, c.requires.bit)) c.requires.missing c.requires.bit c.put.ensures.slots reading paths values p n hold cells stands is

@@ -1,4 +1,5 @@
 use Rattle.std.proofs.Common.{◌≡◌, ℕ, ◌+◌, ◌*◌, ◌<◌, ◌≤◌, List, Option, None, Some, is_some, take, true, false, sym, ap, ◌∙◌, subst, arith}
+use Rattle.std.proofs.lemmas.Bool.{false≢true}
 use Rattle.std.proofs.lemmas.List.{take_all}
 use Rattle.prefix_trie_table.specs.declared.allocator.node.Node.{Node}
 use Rattle.prefix_trie_table.specs.Bitmaps.{has_bit}
@@ -59,10 +60,10 @@ pub returns-in-Err-clause-stored : goal.returns-in-Err-clause-stored
 returns-in-Err-clause-stored g c = λ reading paths values holds some.
     let b = g.K.Key.bits c.args.key in
     let at = c.descend-reached.ensures.reached in
-    sym (ap is_some (lacks_value b c.args.len c.descend-reached.result.level _ c.descend-reached.result.node c.args.nodes.now at reading values paths c.args.cells.now holds (λ less. elim c.if-depth-len.branch [
+    absurd (false≢true (sym (ap is_some (lacks_value b c.args.len c.descend-reached.result.level _ c.descend-reached.result.node c.args.nodes.now at reading values paths c.args.cells.now holds (λ less. elim c.if-depth-len.branch [
       | then-depth-len+else-has_bit w ↦ value_bit_is b c.args.len c.descend-reached.result.level _ c.descend-reached.result.node c.args.nodes.now at reading values paths c.args.cells.now holds less w.value_bit_of-bit.result w.value_bit_of-bit.ensures.small w.value_bit_of-bit.ensures.value ∙ sym w.has_bit.ensures ∙ w.if-has_bit.false
       | else-depth-len w ↦ absurd (omega (arith, less, w.if-depth-len.false))
-    ]))) ∙ some
+    ]))) ∙ some))
 
 pub add_entry-requires-clause-stands : goal.add_entry-requires-clause-stands
 add_entry-requires-clause-stands g c =
@@ -97,3 +98,12 @@ returns-clause-inserted g c = λ reading paths values holds.
       | else-depth-len w ↦ absurd (omega (arith, less, w.if-depth-len.false))
     ])),
     c.add_entry.ensures.added reading paths values (record { hold = nodes_prepared reading paths _ _ holds.hold c.prepare.ensures.nodes c.prepare.ensures.nodes_sound; cells = cells_prepared reading values paths _ _ holds.cells c.prepare.ensures.cells c.prepare.ensures.cells_sound }))
+
+pub returns-clause-stored : goal.returns-clause-stored
+returns-clause-stored g c = λ reading paths values holds some.
+    let b = g.K.Key.bits c.args.key in
+    let at = c.descend-reached.ensures.reached in
+    absurd (false≢true (sym (ap is_some (lacks_value b c.args.len c.descend-reached.result.level _ c.descend-reached.result.node c.args.nodes.now at reading values paths c.args.cells.now holds (λ less. elim c.if-depth-len.branch [
+      | then-depth-len+else-has_bit w ↦ value_bit_is b c.args.len c.descend-reached.result.level _ c.descend-reached.result.node c.args.nodes.now at reading values paths c.args.cells.now holds less w.value_bit_of-bit.result w.value_bit_of-bit.ensures.small w.value_bit_of-bit.ensures.value ∙ sym w.has_bit.ensures ∙ w.if-has_bit.false
+      | else-depth-len w ↦ absurd (omega (arith, less, w.if-depth-len.false))
+    ]))) ∙ some))

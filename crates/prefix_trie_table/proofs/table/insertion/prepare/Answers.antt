@@ -1,13 +1,16 @@
-use Rattle.std.proofs.Common.{◌≡◌, ℕ, ◌+◌, ◌-◌, ◌*◌, ◌/◌, ◌<◌, ◌≤◌, None, sym, ap, ◌∙◌, subst, arith}
-use Rattle.std.proofs.lemmas.Result.{on_ok_weaker}
+use Rattle.std.proofs.Common.{◌≡◌, ℕ, ◌+◌, ◌-◌, ◌*◌, ◌/◌, ◌<◌, ◌≤◌, None, Option, length, inl, inr, sym, ap, ◌∙◌, subst, arith}
+use Rattle.std.proofs.lemmas.Result.{on_ok_weaker, err_from_is_err_and, IfErr-weaker}
+use Rattle.prefix_trie_bits.specs.declared.prefix.Refusal.TheVariants.{IndexRange}
+use Rattle.prefix_trie_table.specs.declared.allocator.node.Node.{Node}
 use Rattle.prefix_trie_table.specs.Bitmaps.{rank}
 use Rattle.prefix_trie_table.specs.Cells.{blank_node}
-use Rattle.prefix_trie_table.specs.Store.{IsReady, Enough}
-use Rattle.prefix_trie_table.specs.Tables.{HasRoom}
+use Rattle.prefix_trie_table.specs.Store.{Store, IsReady, Enough}
+use Rattle.prefix_trie_table.specs.Tables.{HasRoom, MayPass}
 use Rattle.prefix_trie_table.proofs.Bits.{rank-ones}
 use Rattle.prefix_trie_table.proofs.Spending.{single_node, single_cell}
 use Rattle.prefix_trie_table.proofs.Adding.{at_values, has_list, has_values}
 use Rattle.prefix_trie_table.proofs.Inserting.{list_tier, node_fits, cell_fits}
+use Rattle.prefix_trie_table.proofs.Rooms.{Grows-made, nodes_lacking, cells_lacking, few_steps}
 use Rattle.prefix_trie_table.proofs.table.insertion.prepare.Goals as goal
 
 pub prepare-requires-clause-tier : goal.prepare-requires-clause-tier
@@ -61,3 +64,41 @@ returns-clause-room g c =
       below = λ _. c.in_ok-prepare.ensures.enough.ready;
       children = λ _. subst (λ k. Enough c.prepare-3.new.self.tiers n.child_tier k (c.args.len / 5 - (c.args.reached.now.level + 1))) same enough;
     }) c.prepare-3.ensures.enough
+
+pub returns-then-depth-len-clause-cell_room : goal.returns-then-depth-len-clause-cell_room
+returns-then-depth-len-clause-cell_room g c =
+    Grows-made c.prepare.result c.args.cells.now c.prepare.new.self _ 31 c.prepare.ensures.made c.prepare.ensures.short (cells_lacking c.args.cells.now.tiers c.args.reached.now.node.value_tier c.count.result c.requires.stands.cells.sizes_are c.prepare.ensures.bound)
+
+-- slots that pass the limit pass it with the most that one insertion lacks
+cells_pass : {T : Type 0} (v : Store Node) (w : Store (Option T)) (lacking : ℕ) → lacking ≤ 31 → w.limit < length w.slots + lacking → MayPass v w
+cells_pass v w lacking less h = inr (omega arith)
+
+nodes_pass : {T : Type 0} (v : Store Node) (w : Store (Option T)) (lacking : ℕ) → lacking ≤ 56 → v.limit < length v.slots + lacking → MayPass v w
+nodes_pass v w lacking less h = inl (omega arith)
+
+pub returns-then-depth-len-clause-range : goal.returns-then-depth-len-clause-range
+returns-then-depth-len-clause-range g c =
+    IfErr-weaker c.prepare.result _ (λ cause. cause ≡ IndexRange → MayPass c.args.nodes.now c.args.cells.now)
+    (λ cause h is. cells_pass c.args.nodes.now c.args.cells.now _ (cells_lacking c.args.cells.now.tiers c.args.reached.now.node.value_tier c.count.result c.requires.stands.cells.sizes_are c.prepare.ensures.bound) (h is)) c.prepare.ensures.range
+
+pub returns-in_err-prepare-clause-range : goal.returns-in_err-prepare-clause-range
+returns-in_err-prepare-clause-range g c =
+    let p = err_from_is_err_and c.from_residual.result c.from_residual.ensures.1 in
+    rw (p.1, p.2) (λ is. cells_pass c.args.nodes.now c.args.cells.now _ (cells_lacking c.args.cells.now.tiers 0 0 c.requires.stands.cells.sizes_are c.prepare-2.ensures.bound) (c.in_err-prepare.ensures.range is))
+
+pub returns-in_err-prepare-clause-cell_room : goal.returns-in_err-prepare-clause-cell_room
+returns-in_err-prepare-clause-cell_room g c =
+    Grows-made c.prepare-2.result c.args.cells.now c.prepare-2.new.self _ 31 c.prepare-2.ensures.made c.prepare-2.ensures.short (cells_lacking c.args.cells.now.tiers 0 0 c.requires.stands.cells.sizes_are c.prepare-2.ensures.bound)
+
+pub returns-clause-range : goal.returns-clause-range
+returns-clause-range g c =
+    IfErr-weaker c.prepare-3.result _ (λ cause. cause ≡ IndexRange → MayPass c.args.nodes.now c.args.cells.now)
+    (λ cause h is. nodes_pass c.args.nodes.now c.args.cells.now _ (nodes_lacking c.args.nodes.now.tiers c.args.reached.now.node.child_tier c.count-2.result (c.args.len / 5 - (c.args.reached.now.level + 1)) c.requires.stands.hold.sizes_are c.prepare-3.ensures.bound (few_steps c.args.len c.args.reached.now.level c.requires.short)) (h is)) c.prepare-3.ensures.range
+
+pub returns-clause-node_room : goal.returns-clause-node_room
+returns-clause-node_room g c =
+    Grows-made c.prepare-3.result c.args.nodes.now c.prepare-3.new.self _ 56 c.prepare-3.ensures.made c.prepare-3.ensures.short (nodes_lacking c.args.nodes.now.tiers c.args.reached.now.node.child_tier c.count-2.result (c.args.len / 5 - (c.args.reached.now.level + 1)) c.requires.stands.hold.sizes_are c.prepare-3.ensures.bound (few_steps c.args.len c.args.reached.now.level c.requires.short))
+
+pub returns-clause-cell_room : goal.returns-clause-cell_room
+returns-clause-cell_room g c =
+    Grows-made c.prepare-2.result c.args.cells.now c.prepare-2.new.self _ 31 c.prepare-2.ensures.made c.prepare-2.ensures.short (cells_lacking c.args.cells.now.tiers 0 0 c.requires.stands.cells.sizes_are c.prepare-2.ensures.bound)
