@@ -1,5 +1,5 @@
 -- What an insertion leaves of a map's nodes, and that it is a step of the model.
-use Rattle.std.proofs.Common.{◌≡◌, ℕ, ◌≤◌, ◌%◌, Bool, true, false, ◌&&◌, ◌||◌, List, length, cond, Option, Result, Ok, Err, IfOk, OnOk, OnErr, IsOk, IsTrue, refl, sym, ap, ◌∙◌, subst, inl, inr, eqb-true}
+use Rattle.std.proofs.Common.{◌≡◌, ℕ, ◌≤◌, ◌%◌, Bool, true, false, ◌&&◌, List, length, cond, Option, Result, Ok, Err, IfOk, OnOk, OnErr, IsOk, IsTrue, refl, sym, ap, ◌∙◌, subst, inl, inr, eqb-true, true≢false}
 use Rattle.std.specs.FinMap.{get, contains_key}
 use Rattle.prefix_trie_bits.specs.declared.prefix.Refused.{Refused}
 use Rattle.prefix_trie_bits.specs.Bits.{begins}
@@ -10,6 +10,10 @@ use Rattle.prefix_trie_bits.proofs.Model.Members.{or-cases, or-left, and-first, 
 use Rattle.prefix_trie_bits.proofs.Model.NodeSets.{has-with_needed, AreNodes-with_entry}
 use Rattle.prefix_trie_table.specs.Shape.{Contents}
 use Rattle.prefix_trie_map.specs.Steps.{state, inserted}
+
+not_stored : (b : Bool) → (IsTrue b → ⊥) → b ≡ false
+not_stored true h = absurd (h refl)
+not_stored false h = refl
 
 module _ {T : Type 0} where
   stands : (width : ℕ) (m : Entries T) (n : Nodes) (s q : List Bool) → AreNodes width m n → contains_key m s ≡ true → has_node (with_needed n s) q ≡ true → has_node n q ≡ true
@@ -52,5 +56,4 @@ module _ {T : Type 0} where
       let left = h.nodes ∙ nodes_left width old.entries old.nodes (path q) (contains_key old.entries (path q)) refl good in
       inl (ap Reply.Value h.before, λ i. record { entries = h.entries i; nodes = left i })
   Step-inserted path back width old new q v (Err refused) good h =
-      let missing : (b : Bool) → (IsTrue b → IsOk (Err {A = Option T} refused)) → b ≡ false = λ b. elim b as (λ b. (IsTrue b → IsOk (Err refused)) → b ≡ false) [ true ↦ λ k. absurd (k refl) | false ↦ λ _. refl ] in
-      inr (missing (contains_key old.entries (path q)) h.stored, (refused.cause, (refl, λ i. record { entries = h.unchanged.0 i; nodes = h.unchanged.1 i })))
+      inr (not_stored (contains_key old.entries (path q)) (λ has. true≢false (sym (h.stored has))), refused.cause, refl, λ i. record { entries = h.unchanged.0 i; nodes = h.unchanged.1 i })

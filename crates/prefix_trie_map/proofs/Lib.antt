@@ -1,1 +1,2 @@
 pub mod Insertions
+pub mod Refusals

@@ -1,7 +1,6 @@
 -- An insertion as a step of the model. This project's own.
 use Rattle.std.specs.Prelude.{Option, Result, Ok, Err}
 use Rattle.prefix_trie_bits.specs.declared.prefix.Refused.{Refused}
-use Rattle.prefix_trie_bits.specs.Model.Step as Model
 use Rattle.prefix_trie_bits.specs.Model.Step.{State, Reply}
 use Rattle.prefix_trie_table.specs.Shape.{Contents}
 

@@ -20,7 +20,6 @@ use prefix_trie_bits::prefix::{Prefix, Refusal, Refused};
 use prefix_trie_table::table::Table;
 use std::alloc::Allocator;
 use std::marker::{Model, PhantomData};
-
 pub use visits::Visits;
 
 /// A map from prefixes to values, in memory of the allocator `A`.
@@ -125,12 +124,21 @@ impl<P: Prefix, T: Drop, A: Allocator> PrefixMap<P, T, A> {
         ensures nodes { OnOk result (self.new.nodes ≡ with_needed self.old.nodes (P.path prefix)) }
 
         // A refusal changes neither the entries nor the nodes.
-        ensures unchanged { OnErr result (state self.new ≡ state self.old) }
+        ensures unchanged { OnErr result ((self.new.entries ≡ self.old.entries) × (self.new.nodes ≡ self.old.nodes)) }
         ensures returned { IfErr result (λ refused. refused.value ≡ value) }
-        ensures stored { IsTrue (contains_key self.old.entries (P.path prefix)) → IsOk result }
+        ensures range { IfErr result (λ refused. refused.cause ≡ IndexRange → MayPassLimit self.old.room) }
+
+        // A stored key needs no room, and is never refused.
+        ensures stored { IsTrue (contains_key self.old.entries (P.path prefix)) → IsOk result × (self.new.room ≡ self.old.room) }
+        ensures limit { self.new.room.limit ≡ self.old.room.limit }
+        ensures node_slots { (self.old.room.node_slots ≤ self.new.room.node_slots) × (self.new.room.node_slots ≤ self.old.room.node_slots + 56) }
+        ensures cell_slots { (self.old.room.cell_slots ≤ self.new.room.cell_slots) × (self.new.room.cell_slots ≤ self.old.room.cell_slots + 31) }
+
+        // All this is one step of the model.
         ensures step { Step P.path P.back P.R.bit_width (state self.old) (Insert prefix value) (inserted result) (state self.new) }
     {
         let len = u32::from(prefix.prefix_len());
-        self.table.insert(prefix.repr(), len, value, &mut Visits::new())
+        self.table
+            .insert(prefix.repr(), len, value, &mut Visits::new())
     }
 }

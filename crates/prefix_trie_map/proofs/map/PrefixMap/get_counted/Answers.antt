@@ -1,4 +1,4 @@
-use Rattle.std.proofs.Common.{rules, ◌≡◌, ◌+◌, ◌/◌, ◌≤◌, length, arith}
+use Rattle.std.proofs.Common.{rules, ◌≡◌, arith}
 use Rattle.prefix_trie_bits.specs.Model.Visits.{visits}
 use Rattle.prefix_trie_bits.proofs.Model.Visits.{visits-bound}
 use Rattle.prefix_trie_map.proofs.map.PrefixMap.get_counted.Goals as goal

@@ -1,7 +1,9 @@
 use Rattle.std.proofs.Common.{sym, subst}
+use Rattle.std.proofs.lemmas.Result.{err_from_is_err_and}
 use Rattle.prefix_trie_bits.specs.Model.Entries.{no_entries}
 use Rattle.prefix_trie_bits.specs.Model.Nodes.{AreNodes}
 use Rattle.prefix_trie_bits.proofs.Model.NodeSets.{AreNodes-no_entries}
+use Rattle.prefix_trie_map.proofs.Refusals.{only_memory}
 use Rattle.prefix_trie_map.proofs.map.PrefixMap.new.Goals as goal
 
 pub invariant_of-result : goal.invariant_of-result
@@ -10,3 +12,8 @@ invariant_of-result g c =
     let made = c.in_ok-new.ensures in
     subst (λ m. AreNodes width m c.in_ok-new.field-0.nodes) (sym made.entries)
     (subst (λ n. AreNodes width (no_entries {T = g.row.T.Denot}) n) (sym made.nodes) (AreNodes-no_entries width))
+
+pub returns-in_err-new-clause-only_memory : goal.returns-in_err-new-clause-only_memory
+returns-in_err-new-clause-only_memory g c =
+    let p = err_from_is_err_and c.from_residual.result c.from_residual.ensures.1 in
+    rw (p.1, p.2) (only_memory c.in_err-new.field-0.0 4294967294 c.in_err-new.ensures.range.0)

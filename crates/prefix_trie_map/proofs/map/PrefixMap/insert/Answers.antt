@@ -1,0 +1,32 @@
+use Rattle.std.proofs.Common.{rules, ◌≡◌, take, subst}
+use Rattle.prefix_trie_bits.specs.Keys.{path_within}
+use Rattle.prefix_trie_bits.specs.Model.Nodes.{AreNodes}
+use Rattle.prefix_trie_table.specs.Shape.{Contents}
+use Rattle.prefix_trie_map.proofs.Insertions.{Inserts, AreNodes-inserted, Step-inserted}
+use Rattle.prefix_trie_map.proofs.map.PrefixMap.insert.Given as given
+use Rattle.prefix_trie_map.proofs.map.PrefixMap.insert.Goals as goal
+
+-- what the table's insertion answers and leaves, by the prefix's path
+inserts : (g : given.Over) (c : goal.After-drop-prefix g) → Inserts c.args.self.now c.insert.new.self (g.P.Prefix.path c.args.prefix) c.args.value c.insert.result
+inserts g c =
+    let key : take c.from-len.result (g.P.R.Key.bits c.repr.result) ≡ g.P.Prefix.path c.args.prefix = search rules in
+    let made = c.insert.ensures in
+    subst (λ old. Inserts old c.insert.new.self (g.P.Prefix.path c.args.prefix) c.args.value c.insert.result) c.self.view_is
+    (subst (λ s. Inserts c.self.inside.table c.insert.new.self s c.args.value c.insert.result) key
+    (record { before = made.before; entries = made.entries; nodes = made.nodes; unchanged = made.unchanged; stored = λ has. (made.stored has).0 }))
+
+-- the nodes before it are those of a map
+good : (g : given.Over) (c : goal.After-drop-prefix g) → AreNodes g.P.R.Key.bit_width c.args.self.now.entries c.args.self.now.nodes
+good g c = subst (λ (m : Contents g.row.T.Denot). AreNodes g.P.R.Key.bit_width m.entries m.nodes) c.self.view_is c.self.invariant
+
+pub invariant_of-self : goal.invariant_of-self
+invariant_of-self g c =
+    AreNodes-inserted g.P.R.Key.bit_width c.args.self.now c.insert.new.self (g.P.Prefix.path c.args.prefix) c.args.value c.insert.result (good g c)
+    (path_within g.met.P.Prefix.prefix_laws c.args.prefix c.requires) (inserts g c)
+
+pub returns-clause-before : goal.returns-clause-before
+returns-clause-before g c = (inserts g c).before
+
+pub returns-clause-step : goal.returns-clause-step
+returns-clause-step g c =
+    Step-inserted g.P.Prefix.path g.P.Prefix.back g.P.R.Key.bit_width c.args.self.now c.insert.new.self c.args.prefix c.args.value c.insert.result (good g c) (inserts g c)
