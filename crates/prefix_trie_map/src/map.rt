@@ -85,7 +85,7 @@ impl<P: Prefix, T: Drop, A: Allocator> PrefixMap<P, T, A> {
     pub fn is_empty(&self) -> bool
         ensures { IsTrue result ↔ (self.now.entries ≡ no_entries) }
     {
-        self.table.len() == 0
+        self.len() == 0
     }
 
     /// The value stored for exactly this prefix.
@@ -137,8 +137,8 @@ impl<P: Prefix, T: Drop, A: Allocator> PrefixMap<P, T, A> {
         // All this is one step of the model.
         ensures step { Step P.path P.back P.R.bit_width (state self.old) (Insert prefix value) (inserted result) (state self.new) }
     {
+        let key = prefix.repr();
         let len = u32::from(prefix.prefix_len());
-        self.table
-            .insert(prefix.repr(), len, value, &mut Visits::new())
+        self.table.insert(key, len, value, &mut Visits::new())
     }
 }

@@ -9,7 +9,7 @@ use Rattle.prefix_trie_map.proofs.map.PrefixMap.insert.Goals as goal
 -- what the table's insertion answers and leaves, by the prefix's path
 inserts : (g : given.Over) (c : goal.After-drop-prefix g) → Inserts c.args.self.now c.insert.new.self (g.P.Prefix.path c.args.prefix) c.args.value c.insert.result
 inserts g c =
-    let key : take c.from-len.result (g.P.R.Key.bits c.repr.result) ≡ g.P.Prefix.path c.args.prefix = search rules in
+    let key : take c.from-len.result (g.P.R.Key.bits c.repr-key.result) ≡ g.P.Prefix.path c.args.prefix = search rules in
     let made = c.insert.ensures in
     subst (λ old. Inserts old c.insert.new.self (g.P.Prefix.path c.args.prefix) c.args.value c.insert.result) c.self.view_is
     (subst (λ s. Inserts c.self.inside.table c.insert.new.self s c.args.value c.insert.result) key

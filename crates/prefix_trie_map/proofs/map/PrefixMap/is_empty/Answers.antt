@@ -6,7 +6,7 @@ use Rattle.prefix_trie_map.proofs.map.PrefixMap.is_empty.Goals as goal
 pub returns : goal.returns
 returns g c =
     let entries = c.args.self.now.entries in
-    let counted : c.len.result ≡ len entries = c.len.ensures ∙ ap (λ m. len m.entries) c.self.view_is in (
+    let counted : c.len.result ≡ len entries = c.len.ensures in (
       λ zero. empty_of_len entries (sym counted ∙ eqb-true c.len.result 0 zero),
       λ none. eq-eqb c.len.result 0 (counted ∙ ap len none ∙ len-empty listing_cmp g.row.T.Denot),
     )

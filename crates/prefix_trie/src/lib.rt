@@ -1,0 +1,17 @@
+//! Maps from fixed-width prefixes to values, such as routes by IP networks.
+//!
+//! A prefix is a number and a length: the first bits of the number, its path, are what counts. The maps are tries whose nodes
+//! span five bits each. Memory comes from an allocator that is handed in, and a call that finds none is refused and leaves
+//! the map as it was. What each call does is proved: its contract says what it answers and what it makes of the map.
+#![tactic(auto)]
+
+#[cfg(test)]
+mod example;
+pub mod map;
+#[cfg(test)]
+mod refusing;
+#[cfg(test)]
+mod tests;
+
+pub use prefix_trie_bits::prefix::{Ipv4Prefix, Ipv6Prefix, Key, Prefix, Refusal, Refused};
+pub use prefix_trie_map::map::{PrefixMap, Visits};
