@@ -149,7 +149,14 @@ impl<A: Allocator, V: Drop> NodeAllocator<A, V> {
     }
 
     /// As `Blocks::insert_at`: puts a node into a list of `count` nodes, and says where the list stands then.
-    pub fn insert_at(&mut self, k: usize, start: u32, count: u32, place: u32, node: Node) -> BlockRef
+    pub fn insert_at(
+        &mut self,
+        k: usize,
+        start: u32,
+        count: u32,
+        place: u32,
+        node: Node,
+    ) -> BlockRef
         requires holds { HasList blank_node self.old k start count }
         requires ready { IsReady self.old.tiers k count }
         requires place { place ≤ count }

@@ -103,12 +103,24 @@ fn array_of_nodes(rt: HostRuntime) -> Result<(), Fail> {
     assert_eq!(rt; nodes.prepare(0, 0, 1), Err(Refusal::IndexRange));
     assert_eq!(rt; nodes.len(), 2);
     assert_eq!(rt; nodes.prepare(0, 0, 0), Ok(()));
-    let at = nodes.insert_at(0, 0, 0, 0, Node { child_bitmap: 5, ..Node::blank() });
+    let at = nodes.insert_at(
+        0,
+        0,
+        0,
+        0,
+        Node {
+            child_bitmap: 5,
+            ..Node::blank()
+        },
+    );
     assert_eq!(rt; at.start, 1);
     nodes.put(NodeSlot::ROOT, Node::blank());
     let (node, rest) = nodes.remove_at(at.tier, at.start, 1, 0);
     assert_eq!(rt; node.child_bitmap, 5);
     assert_eq!(rt; rest.start, 0);
-    assert_eq!(rt; (nodes.size_of(0), nodes.made_of(0), nodes.free_of(0)), (1, 1, 1));
+    assert_eq!(rt;
+        (nodes.size_of(0), nodes.made_of(0), nodes.free_of(0)),
+        (1, 1, 1)
+    );
     Ok(())
 }
