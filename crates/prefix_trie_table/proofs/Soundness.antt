@@ -331,9 +331,6 @@ none_free [] none = refl
 none_free (t ∷ ts) none =
     ap (λ xs. map (of_size t.size) xs ++ free_extents ts) (none 0 t (omega arith)).1 ∙ none_free ts (All-tail (λ u. (u.made ≡ 0) × (u.starts ≡ [])) t ts none)
 
-pub none_made-no_blocks : (sizes : List ℕ) → All (λ t. (t.made ≡ 0) × (t.starts ≡ [])) (map no_blocks sizes)
-none_made-no_blocks sizes = All-map (λ t. (t.made ≡ 0) × (t.starts ≡ [])) no_blocks sizes (λ k d h. (refl, refl))
-
 module _ {S : Type 0} where
   pub Sound-new : (vacant : S) (v : Store S) → v.first ≡ length v.slots → All (λ t. (t.made ≡ 0) × (t.starts ≡ [])) v.tiers → Sound vacant [] v
   Sound-new vacant v whole none =
