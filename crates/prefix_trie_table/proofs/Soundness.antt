@@ -326,6 +326,10 @@ slots_made_none (t ∷ ts) none =
 pub no_slots_made : (ts : List Tier) → All (λ t. (t.made ≡ 0) × (t.starts ≡ [])) ts → slots_made ts ≡ 0
 no_slots_made ts none = slots_made_none ts none
 
+-- no block is made where all are forgotten
+pub none_made : (ts : List Tier) → All (λ t. (t.made ≡ 0) × (t.starts ≡ [])) (map (λ t. no_blocks t.size) ts)
+none_made ts = All-map (λ t. (t.made ≡ 0) × (t.starts ≡ [])) (λ (t : Tier). no_blocks t.size) ts (λ k d h. (refl, refl))
+
 none_free : (ts : List Tier) → All (λ t. (t.made ≡ 0) × (t.starts ≡ [])) ts → free_extents ts ≡ []
 none_free [] none = refl
 none_free (t ∷ ts) none =

@@ -1,5 +1,6 @@
 //! The blocks of one size: a stack of the free ones, with a place for each block that was made.
-ghost use Rattle.std.specs.Prelude.{◌≡◌, ℕ, ◌+◌, ◌^◌, ◌<◌, ◌≤◌, ◌↔◌, [], ◌∷◌, ◌++◌, length, IsTrue, OnOk, OnErr, vec_len, vec_capacity};
+ghost use Rattle.std.specs.Prelude.{◌≡◌, ℕ, ◌+◌, ◌^◌, ◌<◌, ◌≤◌, ◌↔◌, [], ◌∷◌, ◌++◌, length, map, IsTrue, OnOk, OnErr, vec_len, vec_capacity};
+ghost use Rattle.prefix_trie_table.specs.Store.{no_blocks};
 
 use std::alloc::{AllocError, Allocator};
 use std::marker::Model;
@@ -86,5 +87,21 @@ impl<A: Allocator> FreeList<A> {
         ensures { self.new ≡ record self.old { starts = self.old.starts ++ start ∷ [] } }
     {
         self.starts.push_reserved(start);
+    }
+    /// Forgets all blocks, the free ones too. The places that were reserved stay.
+    pub fn clear(&mut self)
+        ensures { self.new ≡ no_blocks self.old.size }
+    {
+        self.starts.clear();
+        self.made = 0;
+    }
+}
+
+/// Forgets all blocks of all sizes.
+pub fn clear_all<A: Allocator>(lists: &mut Vec<FreeList<A>, A>)
+    ensures { lists.new.items ≡ map (λ t. no_blocks t.size) lists.old.items }
+{
+    for list in lists.iter_mut() {
+        list.clear();
     }
 }

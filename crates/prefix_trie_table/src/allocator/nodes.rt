@@ -195,4 +195,18 @@ impl<A: Allocator, V: Drop> NodeAllocator<A, V> {
     {
         self.blocks.remove_at(k, start, count, place)
     }
+
+    /// Takes all nodes out but the root, which is then blank. It asks for no memory, and gives none back.
+    pub fn clear(&mut self)
+        requires first { self.old.first ≡ 1 }
+        requires root { 0 < length self.old.slots }
+        ensures value { self.new ≡ record self.old {
+          slots = blank_node ∷ [];
+          tiers = map (λ t. no_blocks t.size) self.old.tiers;
+        } }
+        ensures sound { Sound blank_node [] self.new }
+    {
+        self.blocks.clear();
+        self.blocks.put(0, 0, Node::blank());
+    }
 }

@@ -75,6 +75,8 @@ fn values_of_one_node(rt: HostRuntime) -> Result<(), Fail> {
     }
     assert_eq!(rt; blocks.len(), 86);
     assert_eq!(rt; free_of_each(&blocks), [1, 1, 1, 1, 1, 1, 1]);
+    blocks.clear();
+    assert_eq!(rt; blocks.len(), 0);
     Ok(())
 }
 
@@ -122,5 +124,7 @@ fn array_of_nodes(rt: HostRuntime) -> Result<(), Fail> {
         (nodes.size_of(0), nodes.made_of(0), nodes.free_of(0)),
         (1, 1, 1)
     );
+    nodes.clear();
+    assert_eq!(rt; nodes.len(), 1);
     Ok(())
 }
