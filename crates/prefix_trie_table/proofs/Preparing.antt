@@ -1,11 +1,11 @@
 -- Which blocks `prepare` makes.
-use Rattle.std.proofs.Common.{◌≡◌, ◌≢◌, ℕ, zero, suc, ◌+◌, ◌-◌, ◌*◌, ◌<◌, ◌≤◌, ⊎_elim, List, length, All, nat_lt, ◌&&◌, Option, None, Some, refl, sym, ap, ◌∙◌, subst, arith}
+use Rattle.std.proofs.Common.{◌≡◌, ◌≢◌, ℕ, ◌+◌, ◌-◌, ◌*◌, ◌<◌, ◌≤◌, ⊎_elim, List, length, All, nat_lt, ◌&&◌, Option, None, Some, refl, sym, ap, ◌∙◌, subst, arith}
 use Rattle.std.proofs.lemmas.List.{length-map}
 use Rattle.std.proofs.lemmas.Bool.{cases_eq}
-use Rattle.prefix_trie_table.specs.Store.{Tier, Store, tier_for, tier_at, grown_times, tier_sizes, size_in, free_at, many_at, one_at, none_at, slots_of, tier_lacking, blocks_needed, blocks_lacking, lacking_slots, Turnover, CutShort}
+use Rattle.prefix_trie_table.specs.Store.{Tier, Store, tier_for, tier_at, grown_times, tier_sizes, size_in, free_at, many_at, one_at, none_at, slots_of, tier_lacking, blocks_lacking, lacking_slots, Turnover, CutShort}
 use Rattle.prefix_trie_table.proofs.Soundness.{tier_for_holds}
 use Rattle.prefix_trie_table.proofs.Spending.{size_at, lacking_some}
-use Rattle.prefix_trie_table.proofs.Turnovers.{many_here, many_other, many-add, many-sub, slots_of-le, slots_of-add, slots_of-none, slots_of-many, Turnover-same, Turnover-then, Turnover-as, Turnover-grown_times, tiers_stay}
+use Rattle.prefix_trie_table.proofs.Turnovers.{many_other, many-add, many-sub, slots_of-le, slots_of-add, slots_of-none, slots_of-many, Turnover-same, Turnover-then, Turnover-as, Turnover-grown_times, tiers_stay}
 
 module _ {S : Type 0} where
   -- of the lacking blocks some were made, and the rest are of tier t, of which s must be free

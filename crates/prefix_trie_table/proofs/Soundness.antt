@@ -326,13 +326,14 @@ slots_made_none (t ∷ ts) none =
 pub no_slots_made : (ts : List Tier) → All (λ t. (t.made ≡ 0) × (t.starts ≡ [])) ts → slots_made ts ≡ 0
 no_slots_made ts none = slots_made_none ts none
 
+-- no block is made where all are forgotten
+pub none_made : (ts : List Tier) → All (λ t. (t.made ≡ 0) × (t.starts ≡ [])) (map (λ t. no_blocks t.size) ts)
+none_made ts = All-map (λ t. (t.made ≡ 0) × (t.starts ≡ [])) (λ (t : Tier). no_blocks t.size) ts (λ k d h. (refl, refl))
+
 none_free : (ts : List Tier) → All (λ t. (t.made ≡ 0) × (t.starts ≡ [])) ts → free_extents ts ≡ []
 none_free [] none = refl
 none_free (t ∷ ts) none =
     ap (λ xs. map (of_size t.size) xs ++ free_extents ts) (none 0 t (omega arith)).1 ∙ none_free ts (All-tail (λ u. (u.made ≡ 0) × (u.starts ≡ [])) t ts none)
-
-pub none_made-no_blocks : (sizes : List ℕ) → All (λ t. (t.made ≡ 0) × (t.starts ≡ [])) (map no_blocks sizes)
-none_made-no_blocks sizes = All-map (λ t. (t.made ≡ 0) × (t.starts ≡ [])) no_blocks sizes (λ k d h. (refl, refl))
 
 module _ {S : Type 0} where
   pub Sound-new : (vacant : S) (v : Store S) → v.first ≡ length v.slots → All (λ t. (t.made ≡ 0) × (t.starts ≡ [])) v.tiers → Sound vacant [] v

@@ -1,10 +1,10 @@
 -- What the calls on blocks leave of the rest.
-use Rattle.std.proofs.Common.{◌≡◌, ◌≢◌, ℕ, zero, suc, ◌+◌, ◌-◌, ◌<◌, ◌≤◌, ◌⊎◌, inl, inr, ⊎_elim, Bool, true, false, cond, not, ◌&&◌, nat_lt, nat_le, if◌then◌else◌, IsSome, IsSomeAnd, replicate, List, [], ◌∷◌, ◌++◌, length, get_or, set, take, drop, map, insert, remove, swap, Option, None, Some, refl, sym, ap, ◌∙◌, subst, arith, length-append}
-use Rattle.std.proofs.lemmas.List.{get_or-set_same, get_or-set_other, length-set, length-take-le}
-use Rattle.std.proofs.lemmas.List.Edits.{get_or-insert_below, get_or-remove_below, length-insert, length-remove, length-swap, Swapped, swapped_from_swap}
-use Rattle.std.proofs.lemmas.Bool.{cases_eq, cases_lt}
+use Rattle.std.proofs.Common.{◌≡◌, ◌≢◌, ℕ, zero, suc, ◌+◌, ◌-◌, ◌<◌, ◌≤◌, ◌⊎◌, inl, inr, ⊎_elim, Bool, true, false, cond, not, ◌&&◌, nat_lt, nat_le, if◌then◌else◌, IsSome, IsSomeAnd, replicate, List, [], ◌∷◌, ◌++◌, length, get_or, set, take, insert, remove, swap, Option, None, Some, refl, sym, ap, ◌∙◌, subst, arith, length-append}
+use Rattle.std.proofs.lemmas.List.{get_or-set_same, get_or-set_other, length-take-le}
+use Rattle.std.proofs.lemmas.List.Edits.{get_or-insert_below, get_or-remove_below, length-insert, length-remove, Swapped, swapped_from_swap}
+use Rattle.std.proofs.lemmas.Bool.{cases_eq}
 use Rattle.prefix_trie_table.specs.Runs.{swap_runs}
-use Rattle.prefix_trie_table.specs.Store.{Tier, Store, Block, tier_at, with_tier, taken, given, SameRoom, SameBefore, Spends, Keeps, Prepared, Enough, IsReady, tier_lacking, tier_for, grown, tier_sizes, free_at, size_in, held, block, Sound}
+use Rattle.prefix_trie_table.specs.Store.{Tier, Store, Block, tier_at, with_tier, taken, Spends, Keeps, Prepared, Enough, IsReady, tier_lacking, tier_for, grown, tier_sizes, free_at, size_in, held, block, Sound}
 use Rattle.prefix_trie_table.specs.Cells.{node_sizes, cell_sizes}
 use Rattle.std.specs.List.{prefix_len, position_or_len, position}
 use Rattle.std.proofs.lemmas.List.{length-map, get_or_append_left}

@@ -1,10 +1,10 @@
 -- What calls on blocks make, take and give back.
-use Rattle.std.proofs.Common.{◌≡◌, ◌≢◌, ℕ, zero, suc, ◌+◌, ◌-◌, ◌*◌, ◌<◌, ◌≤◌, ◌⊎◌, inl, inr, ⊎_elim, true, false, cond, eqb, replicate, List, [], ◌∷◌, ◌++◌, length, get_or, set, take, map, Option, None, Some, refl, sym, ap, ◌∙◌, subst, arith, length-append}
+use Rattle.std.proofs.Common.{◌≡◌, ◌≢◌, ℕ, zero, suc, ◌+◌, ◌-◌, ◌*◌, ◌<◌, ◌≤◌, ⊎_elim, replicate, List, [], ◌∷◌, ◌++◌, length, set, take, refl, sym, ap, ◌∙◌, subst, arith, length-append}
 use Rattle.std.proofs.Math.Nat.{mul-add, mul-le-mul_left}
-use Rattle.std.proofs.lemmas.List.{get_or-set_same, get_or-set_other, length-set, length-map, length-take-le, length-replicate}
-use Rattle.std.proofs.lemmas.Bool.{cases_eq, eq-eqb}
+use Rattle.std.proofs.lemmas.List.{get_or-set_same, get_or-set_other, length-map, length-take-le, length-replicate}
+use Rattle.std.proofs.lemmas.Bool.{cases_eq}
 use Rattle.std.proofs.lemmas.Bool.Decides.{nat_tests}
-use Rattle.prefix_trie_table.specs.Store.{Tier, Store, tier_at, with_tier, taken, given, grown, grown_times, tier_sizes, size_in, free_at, many_at, one_at, none_at, slots_of, Turnover, CutShort}
+use Rattle.prefix_trie_table.specs.Store.{Tier, Store, tier_at, with_tier, taken, grown, grown_times, tier_sizes, size_in, free_at, many_at, none_at, slots_of, Turnover}
 use Rattle.prefix_trie_table.proofs.Spending.{size_at, sizes_set}
 
 pub many_here : (k m : ℕ) → many_at k m k ≡ m

@@ -1,4 +1,4 @@
--- What contracts see of an array that is cut into blocks.
+-- What contracts see of an array that is cut into blocks: this project's own, for the block allocator of the crate's node tables.
 use Rattle.std.specs.Prelude.{◌≡◌, ℕ, zero, suc, ◌+◌, ◌-◌, ◌*◌, ◌≤◌, ◌<◌, ◌==◌, ◌⊎◌, List, [], ◌∷◌, ◌++◌, Option, length, take, map, count_by, sum_by, replicate, slice_index_or, slice_set, All, IsPermutation, position, nat_le, nat_lt, ◌&&◌, if◌then◌else◌, None, Some, ◌≢◌, IsSomeAnd}
 use Rattle.prefix_trie_table.specs.Runs.{run}
 
@@ -118,10 +118,6 @@ no_blocks n = record { size = n; made = 0; starts = [] }
 -- the last free block of tier k is taken
 abbrev pub taken : List Tier → ℕ → List Tier
 taken ts k = slice_set ts k (record (tier_at ts k) { starts = take (length (tier_at ts k).starts - 1) (tier_at ts k).starts })
-
--- a block of tier k is given back
-abbrev pub given : List Tier → ℕ → ℕ → List Tier
-given ts k start = slice_set ts k (record (tier_at ts k) { starts = (tier_at ts k).starts ++ start ∷ [] })
 
 -- the array, its first block's place and its limit are as long and as high as before
 abbrev pub SameRoom : {S : Type 0} → Store S → Store S → Type 0

@@ -1,11 +1,11 @@
 //! An array that is cut into blocks of a few sizes. A block in use holds one list, from its first slot on.
-ghost use Rattle.std.specs.Prelude.{MatchResult, ◌≡◌, ◌≢◌, ℕ, ◌+◌, ◌-◌, ◌*◌, ◌^◌, ◌<◌, ◌≤◌, ◌↔◌, [], ◌∷◌, ◌++◌, List, Some, length, replicate, insert, remove, All, map, None, IfOk, IsTrue, IsOk, IsErr, OnOk, OnErr, nat_lt, if◌then◌else◌, IfErr, IfSome, IfNone, IsSome, IsSomeAnd, MatchOption, ◌⊎◌, vec_len, vec_capacity, slice_index_or, slice_set};
+ghost use Rattle.std.specs.Prelude.{MatchResult, ◌≡◌, ◌≢◌, ℕ, ◌+◌, ◌-◌, ◌*◌, ◌^◌, ◌<◌, ◌≤◌, ◌↔◌, [], ◌∷◌, ◌++◌, List, Some, length, take, replicate, insert, remove, All, map, None, IfOk, IsTrue, IsOk, IsErr, OnOk, OnErr, nat_lt, if◌then◌else◌, IfErr, IfSome, IfNone, IsSome, IsSomeAnd, MatchOption, ◌⊎◌, vec_len, vec_capacity, slice_index_or, slice_set};
 ghost use Rattle.prefix_trie_table.specs.Runs.{swap_runs};
-ghost use Rattle.prefix_trie_table.specs.Store.{Tier, Store, Block, Sound, tier_at, slots_made, with_tier, grown, grown_times, block, InUse, tier_for, no_blocks, taken, given, SameRoom, held, HasList, IsReady, tier_lacking, tier_sizes, free_at, Spends, SameBefore, Prepared, Enough, Keeps, Turnover, CutShort, none_at, one_at, many_at, size_in, blocks_lacking, lacking_slots, tier_outgrown, tier_entered, tier_left, blocks_entered};
+ghost use Rattle.prefix_trie_table.specs.Store.{Tier, Store, Block, Sound, tier_at, slots_made, with_tier, grown, grown_times, block, InUse, tier_for, no_blocks, taken, SameRoom, held, HasList, IsReady, tier_lacking, tier_sizes, free_at, Spends, SameBefore, Prepared, Enough, Keeps, Turnover, CutShort, none_at, one_at, many_at, size_in, blocks_lacking, lacking_slots, tier_outgrown, tier_entered, tier_left, blocks_entered};
 ghost use Rattle.prefix_trie_table.specs.Cells.{blank_node, cell_sizes, node_sizes};
 ghost use Rattle.prefix_trie_bits.specs.declared.prefix.Refusal.TheVariants.{Memory, IndexRange};
 
-use crate::allocator::free_list::FreeList;
+use crate::allocator::free_list::{FreeList, clear_all};
 use crate::allocator::node::Node;
 use crate::allocator::slots::{Slot, exchange, push_vacant, shift_in, shift_out};
 use prefix_trie_bits::prefix::Refusal;
@@ -22,6 +22,13 @@ pub struct BlockRef {
 
 /// The array, and for each size the list of its free blocks. Who holds a block is not known here: a caller keeps, for each
 /// list, a `BlockRef` and the number of its values, and hands both to each call on it.
+///
+/// ```text
+/// let mut cells = cells(&alloc, limit)?;
+/// cells.prepare(0, 0, 0)?;                       // room for the first value of a list
+/// let at = cells.insert_at(0, 0, 0, 0, Some(7)); // which then stands in a block of one slot
+/// let (value, rest) = cells.remove_at(at.tier, at.start, 1, 0);
+/// ```
 #[derive(Drop)]
 pub struct Blocks<S: Slot, A: Allocator> {
     slots: Vec<S, A>,
@@ -194,6 +201,19 @@ impl<S: Slot, A: Allocator> Blocks<S, A> {
             Some(place) => (value, place),
             None => (value, BlockRef { tier: 0, start: 0 }),
         }
+    }
+
+    /// Takes all blocks out of the array, and lets the values in them go. What stands before the first block stays.
+    /// It asks for no memory, and gives none back.
+    pub fn clear(&mut self)
+        ensures value { self.new ≡ record self.old {
+          slots = take self.old.first self.old.slots;
+          tiers = map (λ t. no_blocks t.size) self.old.tiers;
+        } }
+        ensures sound { Sound S.vacant [] self.new }
+    {
+        self.slots.truncate(self.first as usize);
+        clear_all(&mut self.lists);
     }
 }
 

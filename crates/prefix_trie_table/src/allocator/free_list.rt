@@ -1,9 +1,11 @@
 //! The blocks of one size: a stack of the free ones, with a place for each block that was made.
-ghost use Rattle.std.specs.Prelude.{◌≡◌, ℕ, ◌+◌, ◌^◌, ◌<◌, ◌≤◌, ◌↔◌, [], ◌∷◌, ◌++◌, length, IsTrue, OnOk, OnErr, vec_len, vec_capacity};
+ghost use Rattle.std.specs.Prelude.{◌≡◌, ℕ, ◌+◌, ◌^◌, ◌<◌, ◌≤◌, ◌↔◌, [], ◌∷◌, ◌++◌, length, map, IsTrue, OnOk, OnErr, vec_len, vec_capacity};
+ghost use Rattle.prefix_trie_table.specs.Store.{no_blocks};
 
 use std::alloc::{AllocError, Allocator};
 use std::marker::Model;
 
+/// The size of the blocks, how many were made, and where the free ones start.
 #[derive(Drop)]
 pub struct FreeList<A: Allocator> {
     size: u32,
@@ -24,6 +26,7 @@ impl<A: Allocator> Model for FreeList<A> {
 }
 
 impl<A: Allocator> FreeList<A> {
+    /// The list of a size of which no block is made.
     pub fn new(alloc: A, size: u32) -> Self
         ensures { result ≡ record { size = size; made = 0; starts = [] } }
     {
@@ -34,18 +37,21 @@ impl<A: Allocator> FreeList<A> {
         }
     }
 
+    /// How many slots a block has.
     pub fn size(&self) -> u32
         ensures { result ≡ self.now.size }
     {
         self.size
     }
 
+    /// How many blocks were made, used or free.
     pub fn made(&self) -> u32
         ensures { result ≡ self.now.made }
     {
         self.made
     }
 
+    /// How many blocks are free.
     pub fn free(&self) -> usize
         ensures count { result ≡ length self.now.starts }
         ensures within { length self.now.starts ≤ self.now.made }
@@ -53,7 +59,7 @@ impl<A: Allocator> FreeList<A> {
         self.starts.len()
     }
 
-    /// Counts a block that begins at `start` as made and free.
+    /// Counts a block that begins at `start` as made and free, and reserves its place. Refused only for memory.
     pub fn push_made(&mut self, start: u32) -> Result<(), AllocError>
         requires { self.old.made + 1 < 2 ^ 32 }
         ensures ok { OnOk result (self.new ≡ record self.old { made = self.old.made + 1; starts = self.old.starts ++ start ∷ [] }) }
@@ -75,11 +81,27 @@ impl<A: Allocator> FreeList<A> {
         self.starts.take_last()
     }
 
-    /// Gives a block back. It asks for no memory.
+    /// Gives a block back, whose place was reserved when it was made: this asks for no memory.
     pub fn push(&mut self, start: u32)
         requires { length self.old.starts < self.old.made }
         ensures { self.new ≡ record self.old { starts = self.old.starts ++ start ∷ [] } }
     {
         self.starts.push_reserved(start);
+    }
+    /// Forgets all blocks, the free ones too. The places that were reserved stay.
+    pub fn clear(&mut self)
+        ensures { self.new ≡ no_blocks self.old.size }
+    {
+        self.starts.clear();
+        self.made = 0;
+    }
+}
+
+/// Forgets all blocks of all sizes.
+pub fn clear_all<A: Allocator>(lists: &mut Vec<FreeList<A>, A>)
+    ensures { lists.new.items ≡ map (λ t. no_blocks t.size) lists.old.items }
+{
+    for list in lists.iter_mut() {
+        list.clear();
     }
 }

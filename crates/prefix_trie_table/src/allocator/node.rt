@@ -19,6 +19,7 @@ impl Node {
     ghost use Rattle.prefix_trie_table.specs.Cells.{blank_node};
 
     /// A node without values and children.
+    #[inline]
     pub fn blank() -> Node
         ensures { result ≡ blank_node }
     {

@@ -149,7 +149,14 @@ impl<A: Allocator, V: Drop> NodeAllocator<A, V> {
     }
 
     /// As `Blocks::insert_at`: puts a node into a list of `count` nodes, and says where the list stands then.
-    pub fn insert_at(&mut self, k: usize, start: u32, count: u32, place: u32, node: Node) -> BlockRef
+    pub fn insert_at(
+        &mut self,
+        k: usize,
+        start: u32,
+        count: u32,
+        place: u32,
+        node: Node,
+    ) -> BlockRef
         requires holds { HasList blank_node self.old k start count }
         requires ready { IsReady self.old.tiers k count }
         requires place { place ≤ count }
@@ -187,5 +194,19 @@ impl<A: Allocator, V: Drop> NodeAllocator<A, V> {
             → Sound blank_node (held result.1.tier result.1.start (tier_at self.old.tiers result.1.tier).size (remove xs place) ++ live) self.new }
     {
         self.blocks.remove_at(k, start, count, place)
+    }
+
+    /// Takes all nodes out but the root, which is then blank. It asks for no memory, and gives none back.
+    pub fn clear(&mut self)
+        requires first { self.old.first ≡ 1 }
+        requires root { 0 < length self.old.slots }
+        ensures value { self.new ≡ record self.old {
+          slots = blank_node ∷ [];
+          tiers = map (λ t. no_blocks t.size) self.old.tiers;
+        } }
+        ensures sound { Sound blank_node [] self.new }
+    {
+        self.blocks.clear();
+        self.blocks.put(0, 0, Node::blank());
     }
 }

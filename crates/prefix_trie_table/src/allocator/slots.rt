@@ -1,14 +1,16 @@
-//! Work on a run of places of a vector. None of these asks for memory.
+//! What a slot of an array can hold, and work on runs of slots. None of these asks for memory.
 ghost use Rattle.std.specs.Prelude.{◌≡◌, ℕ, ◌+◌, ◌<◌, ◌≤◌, ◌++◌, length, replicate, insert, remove, vec_len, vec_capacity, slice_index_or};
 ghost use Rattle.prefix_trie_table.specs.Runs.{swap_runs};
 
 use std::alloc::Allocator;
 use std::mem;
 
-/// What can stand in a place of the array, with a value for a place that is not used.
+/// What can stand in a slot of an array of blocks, with a value for a slot that is not used.
 pub trait Slot: Drop {
+    // the value of a slot that is not used
     ghost vacant: { Self };
 
+    /// The value of a slot that is not used.
     fn vacant() -> Self
         ensures { result ≡ vacant };
 }

@@ -75,6 +75,8 @@ fn values_of_one_node(rt: HostRuntime) -> Result<(), Fail> {
     }
     assert_eq!(rt; blocks.len(), 86);
     assert_eq!(rt; free_of_each(&blocks), [1, 1, 1, 1, 1, 1, 1]);
+    blocks.clear();
+    assert_eq!(rt; blocks.len(), 0);
     Ok(())
 }
 
@@ -103,12 +105,26 @@ fn array_of_nodes(rt: HostRuntime) -> Result<(), Fail> {
     assert_eq!(rt; nodes.prepare(0, 0, 1), Err(Refusal::IndexRange));
     assert_eq!(rt; nodes.len(), 2);
     assert_eq!(rt; nodes.prepare(0, 0, 0), Ok(()));
-    let at = nodes.insert_at(0, 0, 0, 0, Node { child_bitmap: 5, ..Node::blank() });
+    let at = nodes.insert_at(
+        0,
+        0,
+        0,
+        0,
+        Node {
+            child_bitmap: 5,
+            ..Node::blank()
+        },
+    );
     assert_eq!(rt; at.start, 1);
     nodes.put(NodeSlot::ROOT, Node::blank());
     let (node, rest) = nodes.remove_at(at.tier, at.start, 1, 0);
     assert_eq!(rt; node.child_bitmap, 5);
     assert_eq!(rt; rest.start, 0);
-    assert_eq!(rt; (nodes.size_of(0), nodes.made_of(0), nodes.free_of(0)), (1, 1, 1));
+    assert_eq!(rt;
+        (nodes.size_of(0), nodes.made_of(0), nodes.free_of(0)),
+        (1, 1, 1)
+    );
+    nodes.clear();
+    assert_eq!(rt; nodes.len(), 1);
     Ok(())
 }

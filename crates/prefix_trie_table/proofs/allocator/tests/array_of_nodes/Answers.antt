@@ -1,5 +1,5 @@
-use Rattle.std.proofs.Common.{◌≡◌, ◌+◌, [], ◌∷◌, refl, rules, ap, ◌∙◌, arith}
-use Rattle.prefix_trie_table.specs.Store.{Sound, Store, tier_sizes}
+use Rattle.std.proofs.Common.{◌≡◌, [], refl, rules, ◌∙◌, arith}
+use Rattle.prefix_trie_table.specs.Store.{Sound, tier_sizes}
 use Rattle.prefix_trie_table.specs.Cells.{blank_node, node_sizes}
 use Rattle.prefix_trie_table.proofs.Spending.{single_node}
 use Rattle.prefix_trie_table.proofs.Fitting.{node_fits, empty_list, one_item}

@@ -1,4 +1,4 @@
-use Rattle.std.proofs.Common.{◌≡◌, ◌+◌, ◌<◌, ◌++◌, length, insert, arith}
+use Rattle.std.proofs.Common.{◌++◌, insert, arith}
 use Rattle.std.proofs.lemmas.List.Edits.{length-insert}
 use Rattle.prefix_trie_table.specs.Store.{tier_at, held}
 use Rattle.prefix_trie_table.proofs.Spending.{block_list}

@@ -1,6 +1,4 @@
-use Rattle.std.proofs.Common.{◌≡◌, None, [], refl, rules}
-use Rattle.prefix_trie_table.specs.Store.{Sound, tier_sizes}
-use Rattle.prefix_trie_table.specs.Cells.{cell_sizes}
+use Rattle.std.proofs.Common.{None, [], rules}
 use Rattle.prefix_trie_table.proofs.Spending.{single_cell}
 use Rattle.prefix_trie_table.proofs.Fitting.{cell_fits, empty_list}
 use Rattle.prefix_trie_table.proofs.allocator.tests.values_of_one_node.Goals as goal

@@ -1,4 +1,4 @@
-use Rattle.std.proofs.Common.{◌≡◌, ◌+◌, ◌<◌, ◌≤◌, ◌∷◌, ◌++◌, [], List, Some, length, insert, refl, sym, ap, arith, subst, ◌∙◌}
+use Rattle.std.proofs.Common.{◌≡◌, ◌++◌, [], Some, refl, sym, ap, arith, subst, ◌∙◌}
 use Rattle.std.proofs.lemmas.List.{nil_from_length}
 use Rattle.prefix_trie_table.specs.Store.{Sound, tier_at, block, held, Spends, tier_lacking, tier_for}
 use Rattle.prefix_trie_table.proofs.Soundness.{block_inside, tier_for_holds}

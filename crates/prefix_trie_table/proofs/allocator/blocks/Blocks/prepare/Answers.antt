@@ -1,6 +1,6 @@
-use Rattle.std.proofs.Common.{◌≡◌, ◌≢◌, ℕ, ◌+◌, ◌<◌, ◌≤◌, ◌⊎◌, inl, inr, Option, None, Some, Result, Ok, Err, OnOk, OnErr, IfErr, ◌↔◌, length, refl, sym, ap, ◌∙◌, subst, arith, rules}
+use Rattle.std.proofs.Common.{◌≡◌, ◌+◌, ◌<◌, ◌≤◌, inl, inr, None, Some, Result, Ok, Err, OnOk, OnErr, IfErr, ◌↔◌, length, sym, ap, ◌∙◌, subst, arith, rules}
 use Rattle.prefix_trie_bits.specs.declared.prefix.Refusal.TheVariants.{IndexRange}
-use Rattle.prefix_trie_table.specs.Store.{Store, Enough, Prepared, Turnover, CutShort, tier_lacking, free_at, blocks_lacking, none_at, many_at, slots_of, tier_sizes}
+use Rattle.prefix_trie_table.specs.Store.{Store, Prepared, tier_lacking, free_at, blocks_lacking, many_at, slots_of, tier_sizes}
 use Rattle.prefix_trie_table.proofs.Spending.{Prepared-same, Prepared-then, enough}
 use Rattle.prefix_trie_table.proofs.Soundness.{tier_for_holds}
 use Rattle.prefix_trie_table.proofs.Preparing.{LastWay, Way, way_same, way_first, way_second, way_done, way_short, way_range, need_first, lacking_inside, lacking_bound}

@@ -1,10 +1,10 @@
-use Rattle.std.proofs.Common.{◌≡◌, ◌+◌, ◌<◌, ◌∷◌, ◌++◌, length, remove, refl, sym, ap, arith, subst, MatchOption, IsSome, is_some, ℕ, true, false, ◌≤◌, ◌∙◌, ⊎_elim, inr}
+use Rattle.std.proofs.Common.{◌≡◌, ◌<◌, ◌∷◌, remove, sym, ap, arith, subst, MatchOption, IsSome, is_some, ℕ, ◌≤◌, ◌∙◌, ⊎_elim, inr}
 use Rattle.std.proofs.lemmas.List.Edits.{length-remove}
 use Rattle.std.proofs.lemmas.Bool.{false≢true, cases_lt}
-use Rattle.prefix_trie_table.specs.Store.{Sound, Block, tier_at, tier_for, block}
+use Rattle.prefix_trie_table.specs.Store.{Sound, tier_at, tier_for, block}
 use Rattle.prefix_trie_table.proofs.Soundness.{tier_of_block}
 use Rattle.prefix_trie_table.proofs.Spending.{list_block, block_list, no_list}
-use Rattle.std.proofs.Common.{◌-◌, Some, Option, inl}
+use Rattle.std.proofs.Common.{◌-◌, Some, Option}
 use Rattle.prefix_trie_table.proofs.Soundness.{fits_block, tier_for-first}
 use Rattle.prefix_trie_table.proofs.allocator.blocks.Blocks.remove_at.Goals as goal
 

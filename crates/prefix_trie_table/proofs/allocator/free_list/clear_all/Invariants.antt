@@ -1,0 +1,7 @@
+use Rattle.std.proofs.Common.{◌≡◌, ◌++◌, map, take, drop}
+use Rattle.prefix_trie_table.specs.Store.{no_blocks}
+use Rattle.prefix_trie_table.proofs.allocator.free_list.clear_all.Given as goal
+
+abbrev pub invariant-loop-list : goal.invariant-loop-list
+invariant-loop-list g l =
+    l.list-items ≡ map (λ t. no_blocks t.size) (take l.list-index l.initial.list-items) ++ drop l.list-index l.initial.list-items
