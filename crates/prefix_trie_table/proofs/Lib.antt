@@ -24,3 +24,4 @@ pub mod Adding
 pub mod Growing
 pub mod Inserting
 pub mod Rooms
+pub mod Matching

@@ -5,6 +5,7 @@
 //! block and no bitmap.
 mod insertion;
 mod lookup;
+mod matching;
 
 ghost use Rattle.std.specs.Prelude.{◌≡◌, ℕ, ◌+◌, ◌≤◌, take, IfOk, OnOk, IfErr, OnErr, IsOk, IsErr, IsTrue, ◌↔◌};
 ghost use Rattle.std.specs.Option.{option_copied};
