@@ -25,3 +25,4 @@ pub mod Growing
 pub mod Inserting
 pub mod Rooms
 pub mod Matching
+pub mod Matched
