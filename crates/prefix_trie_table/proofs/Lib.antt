@@ -24,3 +24,5 @@ pub mod Adding
 pub mod Growing
 pub mod Inserting
 pub mod Rooms
+pub mod Matching
+pub mod Matched

@@ -6,3 +6,4 @@ pub mod Digits
 pub mod Forest
 pub mod Shape
 pub mod Tables
+pub mod Matching

@@ -5,11 +5,13 @@
 //! block and no bitmap.
 mod insertion;
 mod lookup;
+mod matching;
 
-ghost use Rattle.std.specs.Prelude.{◌≡◌, ℕ, ◌+◌, ◌≤◌, take, IfOk, OnOk, IfErr, OnErr, IsOk, IsErr, IsTrue, ◌↔◌};
+ghost use Rattle.std.specs.Prelude.{◌≡◌, ℕ, ◌+◌, ◌≤◌, take, IfOk, OnOk, IfErr, OnErr, IsOk, IsErr, IsTrue, ◌↔◌, MatchOption, None, Some};
 ghost use Rattle.std.specs.Option.{option_copied};
 ghost use Rattle.std.specs.FinMap.{get, contains_key, len};
 ghost use Rattle.prefix_trie_bits.specs.Model.Entries.{no_entries, with_entry};
+ghost use Rattle.prefix_trie_bits.specs.Model.Matches.{longest_match};
 ghost use Rattle.prefix_trie_bits.specs.Model.Nodes.{root_alone, with_needed};
 ghost use Rattle.prefix_trie_bits.specs.Model.Visits.{visits};
 ghost use Rattle.prefix_trie_bits.specs.Model.Room.{MayPassLimit};
@@ -20,6 +22,7 @@ use crate::allocator::blocks::{Blocks, cells};
 use crate::allocator::nodes::{NodeAllocator, Tick};
 use crate::table::insertion::insert_entry;
 use crate::table::lookup::find_value;
+use crate::table::matching::{longest_on_way, value_of_match};
 use prefix_trie_bits::prefix::{Key, Refusal, Refused};
 use std::alloc::Allocator;
 use std::marker::Model;
@@ -89,6 +92,23 @@ impl<T: Drop, A: Allocator, V: Tick> Table<T, A, V> {
         ensures visits { V.count counter.new ≡ V.count counter.old + visits self.now.nodes (take len (K.bits key)) }
     {
         find_value(&self.nodes, &self.cells, key, len, counter)
+    }
+
+    /// The value at the longest beginning of a bit string that has one, behind the number of bits of that beginning. Each
+    /// node on the way is read once.
+    pub fn find_longest<K: Key>(&self, key: K, len: u32, counter: &mut V) -> Option<(u32, &T)>
+        requires key { K.IsKey key }
+        requires within { len ≤ K.bit_width }
+        ensures value { MatchOption result
+            (longest_match self.now.entries (take len (K.bits key)) ≡ None)
+            (λ found. (found.0 ≤ len)
+                × (longest_match self.now.entries (take len (K.bits key)) ≡ Some (take found.0 (take len (K.bits key)), found.1.now))) }
+        ensures visits { V.count counter.new ≡ V.count counter.old + visits self.now.nodes (take len (K.bits key)) }
+    {
+        let Some(found) = longest_on_way(&self.nodes, key, len, counter) else {
+            return None;
+        };
+        value_of_match(&self.cells, found)
     }
 
     /// Sets the value at a bit string, and adds the nodes on its way that are missing. It asks for all room that it needs

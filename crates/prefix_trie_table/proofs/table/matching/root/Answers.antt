@@ -1,0 +1,17 @@
+use Rattle.std.proofs.Common.{◌≡◌, ◌+◌, ◌*◌, ◌<◌, ◌≤◌, ℕ, [], length, take, arith}
+use Rattle.prefix_trie_table.specs.Digits.{path_of}
+use Rattle.prefix_trie_table.proofs.Going.{deepest_root, deepest_in}
+use Rattle.prefix_trie_table.proofs.table.matching.root.Goals as goal
+
+pub visit-node-requires : goal.visit-node-requires
+visit-node-requires g c =
+    let s = c.requires.sound in
+    deepest_in s.reading s.paths c.args.nodes.now [] 0 0 s.hold (deepest_root s.reading s.paths c.args.nodes.now [] s.hold)
+
+pub returns-clause-on_way : goal.returns-clause-on_way
+returns-clause-on_way g c = λ b len long. record {
+  long = long;
+  whole = omega arith;
+  node_is = c.visit-node.ensures.node;
+  deepest = λ reading paths hold. deepest_root reading paths c.args.nodes.now (path_of (take len b)) hold;
+}

@@ -1,0 +1,49 @@
+-- Which beginnings of a bit string have a value, and the way on which they stand.
+use Rattle.std.specs.Prelude.{◌≡◌, ℕ, ◌+◌, ◌*◌, ◌<◌, ◌≤◌, Bool, true, false, List, Option, Some, length, take, MatchOption}
+use Rattle.prefix_trie_table.specs.declared.allocator.node.Node.{Node}
+use Rattle.prefix_trie_table.specs.declared.table.matching.Match.{Match}
+use Rattle.prefix_trie_table.specs.Bitmaps.{has_bit}
+use Rattle.prefix_trie_table.specs.Cells.{node_at, node_sizes}
+use Rattle.prefix_trie_table.specs.Digits.{path_of, bit_of}
+use Rattle.prefix_trie_table.specs.Store.{Store}
+use Rattle.prefix_trie_table.specs.Forest.{NodesHold, Deepest, has_value}
+
+-- whether the first i bits of q have a value
+abbrev pub holds_value : (List ℕ → Option Node) → List Bool → ℕ → Bool
+holds_value reading q i = has_value (reading (path_of (take i q))) (bit_of (take i q))
+
+-- no beginning of q has a value whose length is `first` or more and below `end`
+abbrev pub NoneHeld : (List ℕ → Option Node) → List Bool → ℕ → ℕ → Type 0
+NoneHeld reading q first end = (i : ℕ) → first ≤ i → i < end → i ≤ length q → holds_value reading q i ≡ false
+
+-- the first n bits of q have a value, at this bit of this node
+pub record IsHeld (reading : List ℕ → Option Node) (q : List Bool) (n bit : ℕ) (node : Node) : Type 0 where
+  pub within : n ≤ length q
+  pub is : reading (path_of (take n q)) ≡ Some node
+  pub bit_is : bit_of (take n q) ≡ bit
+  pub small : bit < 31
+  pub set : has_bit node.value_bitmap bit ≡ true
+
+-- of the beginnings of q whose length is `first` or more and below `end`, the longest that has a value, if any has one
+abbrev pub LongestHeld : (List ℕ → Option Node) → List Bool → ℕ → ℕ → Option Match → Type 0
+LongestHeld reading q first end o =
+    MatchOption o (NoneHeld reading q first end) (λ m. IsHeld reading q m.len m.bit m.node × NoneHeld reading q (m.len + 1) end)
+
+-- the shortest that has one
+abbrev pub ShortestHeld : (List ℕ → Option Node) → List Bool → ℕ → ℕ → Option Match → Type 0
+ShortestHeld reading q first end o =
+    MatchOption o (NoneHeld reading q first end) (λ m. IsHeld reading q m.len m.bit m.node × NoneHeld reading q first m.len)
+
+-- the array holds nodes, and none of them has a value bit 31
+pub record HasNodes (v : Store Node) : Type 0 where
+  pub reading : List ℕ → Option Node
+  pub paths : List (List ℕ)
+  pub hold : NodesHold node_sizes reading paths v
+  pub few : (p : List ℕ) (n : Node) → reading p ≡ Some n → has_bit n.value_bitmap 31 ≡ false
+
+-- the way of the first len bits of b leads to this node in this slot
+pub record IsOnWay (b : List Bool) (len level : ℕ) (node : Node) (slot : ℕ) (v : Store Node) : Type 0 where
+  pub long : len ≤ length b
+  pub whole : 5 * level ≤ len
+  pub node_is : node ≡ node_at v.slots slot
+  pub deepest : (reading : List ℕ → Option Node) (paths : List (List ℕ)) → NodesHold node_sizes reading paths v → Deepest reading (path_of (take len b)) level slot v

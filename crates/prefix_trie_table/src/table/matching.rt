@@ -1,0 +1,143 @@
+//! The longest and the shortest beginning of a bit string that has a value.
+ghost use Rattle.std.specs.Prelude.{◌≡◌, ℕ, ◌+◌, ◌*◌, ◌/◌, ◌^◌, ◌<◌, ◌≤◌, Bool, List, Option, None, Some, false, take, length, MatchOption, slice_index_or};
+ghost use Rattle.prefix_trie_table.specs.declared.allocator.node.Node.{Node};
+ghost use Rattle.prefix_trie_table.specs.Bitmaps.{has_bit as is_set, rank as rank_of};
+ghost use Rattle.prefix_trie_table.specs.Cells.{node_sizes};
+ghost use Rattle.prefix_trie_table.specs.Digits.{path_of};
+ghost use Rattle.prefix_trie_table.specs.Forest.{NodesHold, IsEnd};
+ghost use Rattle.prefix_trie_table.specs.Tables.{IsReached};
+ghost use Rattle.prefix_trie_table.specs.Matching.{HasNodes, IsOnWay, LongestHeld, ShortestHeld};
+
+use crate::allocator::blocks::Blocks;
+use crate::allocator::node::{Node, NodeSlot};
+use crate::allocator::nodes::{NodeAllocator, Tick};
+use crate::table::lookup::Reached;
+use prefix_trie_bits::node::{child_bit_of, has_bit, longest_match, rank, shortest_match, string_of};
+use prefix_trie_bits::prefix::Key;
+use std::alloc::Allocator;
+
+/// A value whose string begins the one asked for: how long that string is, the node that holds the value, and its bit.
+#[derive(Clone, Copy)]
+pub struct Match {
+    pub len: u32,
+    pub node: Node,
+    pub bit: u32,
+}
+
+/// The root, where every way begins.
+#[inline]
+fn root<A: Allocator, V: Tick>(nodes: &NodeAllocator<A, V>, counter: &mut V) -> Reached
+    requires sound { HasNodes nodes.now }
+    ensures level { result.level ≡ 0 }
+    ensures on_way { (b : List Bool) (len : ℕ) → len ≤ length b
+        → IsOnWay b len 0 result.node (result.at.start + result.at.place) nodes.now }
+    ensures visits { V.count counter.new ≡ V.count counter.old + 1 }
+{
+    let at = NodeSlot::ROOT;
+    let node = nodes.visit(at, counter);
+    Reached { at, node, level: 0 }
+}
+
+/// The next node on the way of a bit string, if it is there.
+#[inline]
+fn step_down<K: Key, A: Allocator, V: Tick>(
+    nodes: &NodeAllocator<A, V>,
+    from: Reached,
+    key: K,
+    len: u32,
+    counter: &mut V,
+) -> Option<Reached>
+    requires key { K.IsKey key }
+    requires within { len ≤ K.bit_width }
+    requires sound { HasNodes nodes.now }
+    requires on_way { IsOnWay (K.bits key) len from.level from.node (from.at.start + from.at.place) nodes.now }
+    ensures step { MatchOption result
+        (IsReached (K.bits key) len from.level from.node (from.at.start + from.at.place) nodes.now)
+        (λ next. (next.level ≡ from.level + 1) × IsOnWay (K.bits key) len next.level next.node (next.at.start + next.at.place) nodes.now) }
+    ensures visits { MatchOption result (V.count counter.new ≡ V.count counter.old) (λ _. V.count counter.new ≡ V.count counter.old + 1) }
+{
+    let depth = 5 * from.level;
+    if depth + 5 > len {
+        return None;
+    }
+    let child = child_bit_of(key, depth);
+    if !has_bit(from.node.child_bitmap, child) {
+        return None;
+    }
+    let at = NodeSlot {
+        start: from.node.child_block,
+        place: rank(from.node.child_bitmap, child),
+    };
+    let node = nodes.visit(at, counter);
+    Some(Reached {
+        at,
+        node,
+        level: from.level + 1,
+    })
+}
+
+/// The longest beginning of a bit string that has its value in this node on the way.
+#[inline]
+fn longest_in<K: Key>(here: Reached, key: K, len: u32) -> Option<Match>
+    requires key { K.IsKey key }
+    requires within { len ≤ K.bit_width }
+    requires whole { 5 * here.level ≤ len }
+    requires few { is_set here.node.value_bitmap 31 ≡ false }
+    ensures { (reading : List ℕ → Option Node) → reading (take here.level (path_of (take len (K.bits key)))) ≡ Some here.node
+        → LongestHeld reading (take len (K.bits key)) (5 * here.level) (5 * here.level + 5) result }
+{
+    let depth = 5 * here.level;
+    let Some(bit) = longest_match(here.node.value_bitmap, key, depth, len) else {
+        return None;
+    };
+    Some(Match {
+        len: depth + string_of(bit).0,
+        node: here.node,
+        bit,
+    })
+}
+
+/// The longest beginning of a bit string that has a value. Each node on the way is read once.
+pub fn longest_on_way<K: Key, A: Allocator, V: Tick>(
+    nodes: &NodeAllocator<A, V>,
+    key: K,
+    len: u32,
+    counter: &mut V,
+) -> Option<Match>
+    requires key { K.IsKey key }
+    requires within { len ≤ K.bit_width }
+    requires sound { HasNodes nodes.now }
+    ensures found { (reading : List ℕ → Option Node) (paths : List (List ℕ)) → NodesHold node_sizes reading paths nodes.now
+        → LongestHeld reading (take len (K.bits key)) 0 (len + 1) result }
+    ensures visits { (reading : List ℕ → Option Node) (paths : List (List ℕ)) → NodesHold node_sizes reading paths nodes.now
+        → (level : ℕ) × IsEnd reading (path_of (take len (K.bits key))) level × (V.count counter.new ≡ V.count counter.old + (level + 1)) }
+{
+    let mut here = root(nodes, counter);
+    let mut best = None;
+    'way: loop {
+        best = longest_in(here, key, len).or(best);
+        let Some(next) = step_down(nodes, here, key, len, counter) else {
+            return best;
+        };
+        here = next;
+    }
+}
+
+/// The value of a match, behind the length of its string.
+#[inline]
+pub fn value_of_match<'a, T: Drop, A: Allocator>(
+    cells: &'a Blocks<Option<T>, A>,
+    found: Match,
+) -> Option<(u32, &'a T)>
+    requires bit { found.bit < 31 }
+    requires stands { found.node.value_block + rank_of found.node.value_bitmap found.bit < length cells.now.slots }
+    ensures { MatchOption result
+        (slice_index_or cells.now.slots (found.node.value_block + rank_of found.node.value_bitmap found.bit) None ≡ None)
+        (λ r. (r.0 ≡ found.len) × (slice_index_or cells.now.slots (found.node.value_block + rank_of found.node.value_bitmap found.bit) None ≡ Some r.1.now)) }
+{
+    let place = rank(found.node.value_bitmap, found.bit);
+    let Some(value) = cells.at(found.node.value_block, place).as_ref() else {
+        return None;
+    };
+    Some((found.len, value))
+}
