@@ -163,3 +163,8 @@ module _ (reading : List ℕ → Option Node) (q : List Bool) (a b c : ℕ) wher
   pub longest_or : (o later : Option Match) → LongestHeld reading q a b o → LongestHeld reading q b c later → LongestHeld reading q a c (option_or later o)
   longest_or o None low high = longest_none o low high
   longest_or o (Some m) low high = high
+
+  -- nothing before, and what is found behind is the first
+  pub shortest_behind : NoneHeld reading q a b → (o : Option Match) → ShortestHeld reading q b c o → ShortestHeld reading q a c o
+  shortest_behind low None high = none_join reading q a b c low high
+  shortest_behind low (Some m) high = (high.0, none_join reading q a b m.len low high.1)

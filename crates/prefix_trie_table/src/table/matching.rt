@@ -1,5 +1,5 @@
 //! The longest and the shortest beginning of a bit string that has a value.
-ghost use Rattle.std.specs.Prelude.{◌≡◌, ℕ, ◌+◌, ◌*◌, ◌/◌, ◌^◌, ◌<◌, ◌≤◌, Bool, List, Option, None, Some, false, take, length, MatchOption, slice_index_or};
+ghost use Rattle.std.specs.Prelude.{◌≡◌, ℕ, ◌+◌, ◌*◌, ◌/◌, ◌^◌, ◌<◌, ◌≤◌, Bool, List, Option, None, Some, false, take, length, IfSome, MatchOption, slice_index_or};
 ghost use Rattle.prefix_trie_table.specs.declared.allocator.node.Node.{Node};
 ghost use Rattle.prefix_trie_table.specs.Bitmaps.{has_bit as is_set, rank as rank_of};
 ghost use Rattle.prefix_trie_table.specs.Cells.{node_sizes};
@@ -118,6 +118,58 @@ pub fn longest_on_way<K: Key, A: Allocator, V: Tick>(
         best = longest_in(here, key, len).or(best);
         let Some(next) = step_down(nodes, here, key, len, counter) else {
             return best;
+        };
+        here = next;
+    }
+}
+
+/// The shortest beginning of a bit string that has its value in this node on the way.
+#[inline]
+fn shortest_in<K: Key>(here: Reached, key: K, len: u32) -> Option<Match>
+    requires key { K.IsKey key }
+    requires within { len ≤ K.bit_width }
+    requires whole { 5 * here.level ≤ len }
+    requires few { is_set here.node.value_bitmap 31 ≡ false }
+    ensures found { (reading : List ℕ → Option Node) → reading (take here.level (path_of (take len (K.bits key)))) ≡ Some here.node
+        → ShortestHeld reading (take len (K.bits key)) (5 * here.level) (5 * here.level + 5) result }
+    ensures own { IfSome result (λ m. (5 * here.level ≤ m.len) × (m.len < 5 * here.level + 5)) }
+{
+    let depth = 5 * here.level;
+    let Some(bit) = shortest_match(here.node.value_bitmap, key, depth, len) else {
+        return None;
+    };
+    Some(Match {
+        len: depth + string_of(bit).0,
+        node: here.node,
+        bit,
+    })
+}
+
+/// The shortest beginning of a bit string that has a value. The nodes on the way are read once each, down to the one of
+/// that beginning.
+pub fn shortest_on_way<K: Key, A: Allocator, V: Tick>(
+    nodes: &NodeAllocator<A, V>,
+    key: K,
+    len: u32,
+    counter: &mut V,
+) -> Option<Match>
+    requires key { K.IsKey key }
+    requires within { len ≤ K.bit_width }
+    requires sound { HasNodes nodes.now }
+    ensures found { (reading : List ℕ → Option Node) (paths : List (List ℕ)) → NodesHold node_sizes reading paths nodes.now
+        → ShortestHeld reading (take len (K.bits key)) 0 (len + 1) result }
+    ensures visits { (reading : List ℕ → Option Node) (paths : List (List ℕ)) → NodesHold node_sizes reading paths nodes.now
+        → MatchOption result
+            ((level : ℕ) × IsEnd reading (path_of (take len (K.bits key))) level × (V.count counter.new ≡ V.count counter.old + (level + 1)))
+            (λ m. V.count counter.new ≡ V.count counter.old + (m.len / 5 + 1)) }
+{
+    let mut here = root(nodes, counter);
+    'way: loop {
+        if let Some(found) = shortest_in(here, key, len) {
+            return Some(found);
+        }
+        let Some(next) = step_down(nodes, here, key, len, counter) else {
+            return None;
         };
         here = next;
     }
