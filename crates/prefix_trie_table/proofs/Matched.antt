@@ -14,12 +14,12 @@ use Rattle.prefix_trie_bits.proofs.Model.Members.{some-value}
 use Rattle.prefix_trie_bits.proofs.Model.Visits.{begins-within}
 use Rattle.prefix_trie_table.specs.declared.allocator.node.Node.{Node}
 use Rattle.prefix_trie_table.specs.declared.table.matching.Match.{Match}
-use Rattle.prefix_trie_table.specs.Bitmaps.{has_bit, rank}
+use Rattle.prefix_trie_table.specs.Bitmaps.{has_bit}
 use Rattle.prefix_trie_table.specs.Cells.{node_sizes, cell_sizes}
 use Rattle.prefix_trie_table.specs.Digits.{path_of, bit_of}
 use Rattle.prefix_trie_table.specs.Store.{Store}
 use Rattle.prefix_trie_table.specs.Forest.{Holds, IsTable, IsEnd, has_value}
-use Rattle.prefix_trie_table.specs.Matching.{holds_value, HasNodes, IsHeld, NoneHeld, LongestHeld, ShortestHeld}
+use Rattle.prefix_trie_table.specs.Matching.{holds_value, HasNodes, IsHeld, NoneHeld, cell_slot}
 use Rattle.prefix_trie_table.specs.Shape.{IsShapeOf}
 use Rattle.prefix_trie_table.proofs.Digits.{path-length}
 use Rattle.prefix_trie_table.proofs.Values.{value_stands}
@@ -42,7 +42,7 @@ module _ {T : Type 0} where
 
   -- the cell of a match
   abbrev pub cell_of : Store (Option T) → Match → Option T
-  cell_of w m = get_or w.slots (m.node.value_block + rank m.node.value_bitmap m.bit) None
+  cell_of w m = get_or w.slots (cell_slot m) None
 
   module _ (v : Store Node) (w : Store (Option T)) (t : IsTable v w) (s : State T) (is : IsShapeOf v.slots w.slots s) (b : List Bool) (len : ℕ) (long : len ≤ length b) where
     -- the bit string that was looked up
@@ -85,11 +85,11 @@ module _ {T : Type 0} where
 
     -- a match, and its cell
     module _ (m : Match) (held : IsHeld t.reading (take len b) m.len m.bit m.node) where
-      stands_at : (get_or w.slots (m.node.value_block + rank m.node.value_bitmap m.bit) None ≡ t.values (path_of (take m.len (take len b))) m.bit) × (m.node.value_block + rank m.node.value_bitmap m.bit < length w.slots)
+      stands_at : (get_or w.slots (cell_slot m) None ≡ t.values (path_of (take m.len (take len b))) m.bit) × (cell_slot m < length w.slots)
       stands_at =
           let h = value_stands cell_sizes node_sizes t.reading t.paths v t.holds.hold t.values w t.holds.cells (path_of (take m.len asked)) m.node m.bit held.is held.set in (h.1, h.2)
 
-      pub cell_inside : m.node.value_block + rank m.node.value_bitmap m.bit < length w.slots
+      pub cell_inside : cell_slot m < length w.slots
       cell_inside = stands_at.1
 
       value_at : get s.entries (take m.len (take len b)) ≡ cell_of w m
