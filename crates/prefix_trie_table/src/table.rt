@@ -13,9 +13,9 @@ ghost use Rattle.std.specs.Prelude.{◌≡◌, ℕ, ◌+◌, ◌≤◌, take, If
 ghost use Rattle.std.specs.Option.{option_copied};
 ghost use Rattle.std.specs.FinMap.{get, contains_key, len};
 ghost use Rattle.prefix_trie_bits.specs.Model.Entries.{no_entries, with_entry};
-ghost use Rattle.prefix_trie_bits.specs.Model.Matches.{longest_match};
+ghost use Rattle.prefix_trie_bits.specs.Model.Matches.{longest_match, shortest_match};
 ghost use Rattle.prefix_trie_bits.specs.Model.Nodes.{root_alone, with_needed};
-ghost use Rattle.prefix_trie_bits.specs.Model.Visits.{visits};
+ghost use Rattle.prefix_trie_bits.specs.Model.Visits.{visits, visits_to_match};
 ghost use Rattle.prefix_trie_bits.specs.Model.Room.{MayPassLimit};
 ghost use Rattle.prefix_trie_bits.specs.declared.prefix.Refusal.TheVariants.{IndexRange};
 ghost use Rattle.prefix_trie_table.specs.Shape.{Shaped, Shaped-prop};
@@ -24,7 +24,7 @@ use crate::allocator::blocks::{Blocks, cells};
 use crate::allocator::nodes::{NodeAllocator, Tick};
 use crate::table::insertion::insert_entry;
 use crate::table::lookup::find_value;
-use crate::table::matching::{longest_on_way, value_of_match};
+use crate::table::matching::{longest_on_way, shortest_on_way, value_of_match};
 use prefix_trie_bits::prefix::{Key, Refusal, Refused};
 use std::alloc::Allocator;
 use std::marker::Model;
@@ -114,10 +114,31 @@ impl<T: Drop, A: Allocator, V: Tick> Table<T, A, V> {
         ensures value { MatchOption result
             (longest_match self.now.entries (take len (K.bits key)) ≡ None)
             (λ found. (found.0 ≤ len)
-                × (longest_match self.now.entries (take len (K.bits key)) ≡ Some (take found.0 (take len (K.bits key)), found.1.now))) }
-        ensures visits { V.count counter.new ≡ V.count counter.old + visits self.now.nodes (take len (K.bits key)) }
+                × (longest_match self.now.entries (take len (K.bits key))
+                    ≡ Some (take found.0 (take len (K.bits key)), found.1.now))) }
+        ensures visits { V.count counter.new
+            ≡ V.count counter.old + visits self.now.nodes (take len (K.bits key)) }
     {
         let Some(found) = longest_on_way(&self.nodes, key, len, counter) else {
+            return None;
+        };
+        value_of_match(&self.cells, found)
+    }
+
+    /// The value at the shortest beginning of a bit string that has one, behind the number of bits of that beginning. The
+    /// nodes on the way are read once each, and none below the one that holds the value.
+    pub fn find_shortest<K: Key>(&self, key: K, len: u32, counter: &mut V) -> Option<(u32, &T)>
+        requires key { K.IsKey key }
+        requires within { len ≤ K.bit_width }
+        ensures value { MatchOption result
+            (shortest_match self.now.entries (take len (K.bits key)) ≡ None)
+            (λ found. (found.0 ≤ len)
+                × (shortest_match self.now.entries (take len (K.bits key))
+                    ≡ Some (take found.0 (take len (K.bits key)), found.1.now))) }
+        ensures visits { V.count counter.new ≡ V.count counter.old
+            + visits_to_match self.now.entries self.now.nodes (take len (K.bits key)) }
+    {
+        let Some(found) = shortest_on_way(&self.nodes, key, len, counter) else {
             return None;
         };
         value_of_match(&self.cells, found)
