@@ -20,7 +20,9 @@ use Rattle.prefix_trie_table.proofs.Values.{values_first, value_stands, value_ad
 pub at_is : (v : Store Node) (slot : ℕ) (a : AtNode v slot) → (node_at v.slots slot ≡ a.node) × (slot < length v.slots)
 at_is v slot a = slot_holds node_sizes a.reading a.paths v a.hold a.path slot a.node a.stands a.is
 
-pub has_list : (v : Store Node) (slot : ℕ) (k : Node) (count : ℕ) → AtNode v slot → k ≡ node_at v.slots slot → count ≡ rank k.child_bitmap 32 → HasList blank_node v k.child_tier k.child_block count
+-- a node's children are a list in their block
+pub has_list : (v : Store Node) (slot : ℕ) (k : Node) (count : ℕ) → AtNode v slot → k ≡ node_at v.slots slot → count ≡ rank k.child_bitmap 32 →
+    HasList blank_node v k.child_tier k.child_block count
 has_list v slot k count a read is_count =
     let at = at_is v slot a in
     let same : k ≡ a.node = read ∙ at.0 in
@@ -33,45 +35,68 @@ has_list v slot k count a read is_count =
     }
 
 -- one of the tiers
-pub tier_small : {S : Type 0} (vacant : S) (b : Block S) (live : List (Block S)) (u : Store S) (sizes : List ℕ) → Sound vacant (b ∷ live) u → tier_sizes u.tiers ≡ sizes → b.tier < length sizes
+pub tier_small : {S : Type 0} (vacant : S) (b : Block S) (live : List (Block S)) (u : Store S) (sizes : List ℕ) → Sound vacant (b ∷ live) u →
+    tier_sizes u.tiers ≡ sizes → b.tier < length sizes
 tier_small vacant b live u sizes s e =
     let w = (tier_of_block vacant b live u s).within in
     let n : length sizes ≡ length u.tiers = ap (λ (xs : List ℕ). length xs) (sym e) ∙ length-map u.tiers (λ t. t.size) in omega arith
 
+-- a blank child put into the list of children, and the node written with it, add the child
 pub added : (v u w : Store Node) (slot place c tier start bitmap : ℕ) (o : Option ℕ) (k m : Node)
     → k ≡ node_at v.slots slot
     → Sets k.child_bitmap c bitmap
-    → m ≡ record { value_bitmap = k.value_bitmap; child_bitmap = bitmap; value_block = k.value_block; child_block = start; value_tier = k.value_tier; child_tier = tier }
+    → m ≡ record {
+      value_bitmap = k.value_bitmap;
+      child_bitmap = bitmap;
+      value_block = k.value_block;
+      child_block = start;
+      value_tier = k.value_tier;
+      child_tier = tier;
+    }
     → Spends v u o
-    → ((n : ℕ) (xs : List Node) (live : List (Block Node)) → Sound blank_node (held k.child_tier k.child_block n xs ++ live) v → length xs ≡ rank k.child_bitmap 32 → Sound blank_node (block tier start (tier_at v.tiers tier).size (insert xs place blank_node) ∷ live) u)
+    → ((n : ℕ) (xs : List Node) (live : List (Block Node)) → Sound blank_node (held k.child_tier k.child_block n xs ++ live) v →
+    length xs ≡ rank k.child_bitmap 32 → Sound blank_node (block tier start (tier_at v.tiers tier).size (insert xs place blank_node) ∷ live) u)
     → place ≡ rank k.child_bitmap c → c < 32 → has_bit k.child_bitmap c ≡ false → w ≡ record u { slots = set u.slots slot m }
-    → (reading : List ℕ → Option Node) (paths : List (List ℕ)) (p : List ℕ) (n : Node) → NodesHold node_sizes reading paths v → IsSlot reading p slot → reading p ≡ Some n
+    → (reading : List ℕ → Option Node) (paths : List (List ℕ)) (p : List ℕ) (n : Node) → NodesHold node_sizes reading paths v →
+    IsSlot reading p slot → reading p ≡ Some n
     → ChildAdded reading paths p n c w (start + place)
 added v u w slot place c tier start bitmap o k m read sets m_is spends put place_is digit missing w_is reading paths p n hold stands is =
     let at = slot_holds node_sizes reading paths v hold p slot n stands is in
     let same : k ≡ n = read ∙ at.0 in
     let here : reading p ≡ Some k = is ∙ ap Some (sym same) in
     let size : (tier_at v.tiers tier).size ≡ size_in node_sizes tier = size_at v.tiers tier ∙ ap (λ ns. size_in ns tier) hold.sizes_are in
-    let more : (i : ℕ) → has_bit m.child_bitmap i ≡ (nat_eq i c || has_bit k.child_bitmap i) = λ i. ap (λ (x : Node). has_bit x.child_bitmap i) m_is ∙ has_bit-sets k.child_bitmap c bitmap i sets digit in
+    let more : (i : ℕ) → has_bit m.child_bitmap i ≡ (nat_eq i c || has_bit k.child_bitmap i) = λ i. ap (λ (x : Node). has_bit x.child_bitmap i) m_is
+    ∙ has_bit-sets k.child_bitmap c bitmap i sets digit in
     let items : List Node = child_items reading p k.child_bitmap in
     let live : List (Block Node) = flat_map (child_blocks node_sizes reading) (without p paths) in
-    let written : Sound blank_node (block tier start (tier_at v.tiers tier).size (insert (child_items reading p k.child_bitmap) place blank_node) ∷ live) u = put (size_in node_sizes k.child_tier) (child_items reading p k.child_bitmap) live (own_first node_sizes reading paths v hold p k here) (rank-all (λ d. elim (reading (p ++ d ∷ [])) as (λ _. Node) [ None ↦ blank_node | Some x ↦ x ]) k.child_bitmap) in
+    let written : Sound blank_node (block tier start (tier_at v.tiers tier).size
+    (insert (child_items reading p k.child_bitmap) place blank_node) ∷ live) u =
+    put (size_in node_sizes k.child_tier) (child_items reading p k.child_bitmap) live (own_first node_sizes reading paths v hold p k here)
+    (rank-all (λ d. elim (reading (p ++ d ∷ [])) as (λ _. Node) [ None ↦ blank_node | Some x ↦ x ]) k.child_bitmap) in
     let tier_is : m.child_tier ≡ tier = ap (λ (x : Node). x.child_tier) m_is in
     let start_is : m.child_block ≡ start = ap (λ (x : Node). x.child_block) m_is in
-    let sound : Sound blank_node (block m.child_tier m.child_block (size_in node_sizes m.child_tier) (insert (child_items reading p k.child_bitmap) (rank k.child_bitmap c) blank_node) ∷ live) u =
-      subst (λ (b : Block Node). Sound blank_node (b ∷ live) u) (λ i. block (sym tier_is i) (sym start_is i) ((size ∙ ap (size_in node_sizes) (sym tier_is)) i) (insert (child_items reading p k.child_bitmap) (place_is i) blank_node)) written in
-    let grown = child_added node_sizes reading paths v hold p slot k m c u stands here digit missing more (spends.room.1 ∙ hold.first_is) (spends.sizes ∙ hold.sizes_are) (spends.before 0 blank_node (let f = hold.first_is in omega arith)) sound in
+    let sound : Sound blank_node (block m.child_tier m.child_block (size_in node_sizes m.child_tier)
+    (insert (child_items reading p k.child_bitmap) (rank k.child_bitmap c) blank_node) ∷ live) u =
+    subst (λ (b : Block Node). Sound blank_node (b ∷ live) u)
+    (λ i. block (sym tier_is i) (sym start_is i) ((size ∙ ap (size_in node_sizes) (sym tier_is)) i)
+    (insert (child_items reading p k.child_bitmap) (place_is i) blank_node)) written in
+    let grown = child_added node_sizes reading paths v hold p slot k m c u stands here digit missing more (spends.room.1 ∙ hold.first_is)
+    (spends.sizes ∙ hold.sizes_are) (spends.before 0 blank_node (let f = hold.first_is in omega arith)) sound in
     let bit : has_bit m.child_bitmap c ≡ true = more c ∙ ap (λ b. b || has_bit k.child_bitmap c) (same_number c) in
-    let rank_is : rank m.child_bitmap c ≡ rank k.child_bitmap c = rank-same k.child_bitmap m.child_bitmap c (λ i h. more i ∙ ap (λ b. b || has_bit k.child_bitmap i) (other_number i c (λ e. omega arith))) in
+    let rank_is : rank m.child_bitmap c ≡ rank k.child_bitmap c =
+    rank-same k.child_bitmap m.child_bitmap c (λ i h. more i ∙ ap (λ b. b || has_bit k.child_bitmap i) (other_number i c (λ e. omega arith))) in
     record {
       node = m;
       hold = subst (λ x. NodesHold node_sizes (with_child reading p m c) ((p ++ c ∷ []) ∷ paths) x) (sym w_is) grown;
-      stands = subst (λ s. IsSlot (with_child reading p m c) (p ++ c ∷ []) s) (let e : m.child_block + rank m.child_bitmap c ≡ start + place = omega arith in e) (at_child p c m (changed_here reading p m c (Some blank_node) p refl) bit);
+      stands = subst (λ s. IsSlot (with_child reading p m c) (p ++ c ∷ []) s)
+          (let e : m.child_block + rank m.child_bitmap c ≡ start + place = omega arith in e)
+          (at_child p c m (changed_here reading p m c (Some blank_node) p refl) bit);
       value_bitmap = ap (λ (x : Node). x.value_bitmap) m_is ∙ ap (λ (x : Node). x.value_bitmap) same;
       value_block = ap (λ (x : Node). x.value_block) m_is ∙ ap (λ (x : Node). x.value_block) same;
       value_tier = ap (λ (x : Node). x.value_tier) m_is ∙ ap (λ (x : Node). x.value_tier) same;
     }
 
+-- a node replaced by itself
 pub with_same : (reading : List ℕ → Option Node) (p : List ℕ) (k : Node) → reading p ≡ Some k → with_node reading p k ≡ reading
 with_same reading p k is = λ i q. same q (same_or q p) i
   where
@@ -80,10 +105,13 @@ with_same reading p k is = λ i q. same q (same_or q p) i
     same q (inr ne) = with_other reading p k q ne
 
 module _ {T : Type 0} where
+  -- the node alone
   abbrev pub at_values : (v : Store Node) (w : Store (Option T)) (slot : ℕ) → AtValues v w slot → AtNode v slot
   at_values v w slot a = record { reading = a.reading; paths = a.paths; path = a.path; node = a.node; hold = a.hold; stands = a.stands; is = a.is }
 
-  pub has_values : (v : Store Node) (w : Store (Option T)) (slot : ℕ) (k : Node) (count : ℕ) → AtValues v w slot → k ≡ node_at v.slots slot → count ≡ rank k.value_bitmap 32 → HasList None w k.value_tier k.value_block count
+  -- a node's values are a list in their block
+  pub has_values : (v : Store Node) (w : Store (Option T)) (slot : ℕ) (k : Node) (count : ℕ) → AtValues v w slot → k ≡ node_at v.slots slot →
+      count ≡ rank k.value_bitmap 32 → HasList None w k.value_tier k.value_block count
   has_values v w slot k count a read is_count =
       let at = at_is v slot (at_values v w slot a) in
       let same : k ≡ a.node = read ∙ at.0 in
@@ -95,42 +123,67 @@ module _ {T : Type 0} where
         sound = values_first cell_sizes node_sizes a.reading a.paths v a.hold a.values w a.cells a.path k (a.is ∙ ap Some (sym same));
       }
 
+  -- a value put into the list of values, and the node written with it, set the value
   pub values_added : (v v2 : Store Node) (w u : Store (Option T)) (slot place b tier start bitmap : ℕ) (o : Option ℕ) (k m : Node) (x : T)
       → k ≡ node_at v.slots slot
       → Sets k.value_bitmap b bitmap
-      → m ≡ record { value_bitmap = bitmap; child_bitmap = k.child_bitmap; value_block = start; child_block = k.child_block; value_tier = tier; child_tier = k.child_tier }
+      → m ≡ record {
+        value_bitmap = bitmap;
+        child_bitmap = k.child_bitmap;
+        value_block = start;
+        child_block = k.child_block;
+        value_tier = tier;
+        child_tier = k.child_tier;
+      }
       → Spends w u o
-      → ((n : ℕ) (xs : List (Option T)) (live : List (Block (Option T))) → Sound None (held k.value_tier k.value_block n xs ++ live) w → length xs ≡ rank k.value_bitmap 32 → Sound None (block tier start (tier_at w.tiers tier).size (insert xs place (Some x)) ∷ live) u)
+      → ((n : ℕ) (xs : List (Option T)) (live : List (Block (Option T))) → Sound None (held k.value_tier k.value_block n xs ++ live) w →
+      length xs ≡ rank k.value_bitmap 32 → Sound None (block tier start (tier_at w.tiers tier).size (insert xs place (Some x)) ∷ live) u)
       → place ≡ rank k.value_bitmap b → b < 32 → has_bit k.value_bitmap b ≡ false → b < 31 → v2 ≡ record v { slots = set v.slots slot m }
-      → (reading : List ℕ → Option Node) (paths : List (List ℕ)) (values : List ℕ → ℕ → Option T) (p : List ℕ) (n : Node) → NodesHold node_sizes reading paths v → CellsHold cell_sizes reading values paths w → IsSlot reading p slot → reading p ≡ Some n
+      → (reading : List ℕ → Option Node) (paths : List (List ℕ)) (values : List ℕ → ℕ → Option T) (p : List ℕ) (n : Node) →
+      NodesHold node_sizes reading paths v → CellsHold cell_sizes reading values paths w → IsSlot reading p slot → reading p ≡ Some n
       → ValueSet reading paths values p b (Some x) v2 u
-  values_added v v2 w u slot place b tier start bitmap o k m x read sets m_is spends put place_is digit missing small v2_is reading paths values p n hold cells stands is =
+  values_added v v2 w u slot place b tier start bitmap o k m x read sets m_is spends put place_is digit missing small v2_is reading paths values p n
+      hold cells stands is =
       let at = slot_holds node_sizes reading paths v hold p slot n stands is in
       let same : k ≡ n = read ∙ at.0 in
       let here : reading p ≡ Some k = is ∙ ap Some (sym same) in
       let size : (tier_at w.tiers tier).size ≡ size_in cell_sizes tier = size_at w.tiers tier ∙ ap (λ ns. size_in ns tier) cells.sizes_are in
-      let more : (i : ℕ) → has_bit m.value_bitmap i ≡ (nat_eq i b || has_bit k.value_bitmap i) = λ i. ap (λ (y : Node). has_bit y.value_bitmap i) m_is ∙ has_bit-sets k.value_bitmap b bitmap i sets digit in
+      let more : (i : ℕ) → has_bit m.value_bitmap i ≡ (nat_eq i b || has_bit k.value_bitmap i) = λ i. ap (λ (y : Node). has_bit y.value_bitmap i) m_is
+      ∙ has_bit-sets k.value_bitmap b bitmap i sets digit in
       let bit : has_bit m.value_bitmap b ≡ true = more b ∙ ap (λ t. t || has_bit k.value_bitmap b) (same_number b) in
-      let stay : (i : ℕ) → i ≢ b → has_bit m.value_bitmap i ≡ has_bit k.value_bitmap i = λ i ne. more i ∙ ap (λ t. t || has_bit k.value_bitmap i) (other_number i b ne) in
+      let stay : (i : ℕ) → i ≢ b → has_bit m.value_bitmap i ≡ has_bit k.value_bitmap i = λ i ne. more i
+      ∙ ap (λ t. t || has_bit k.value_bitmap i) (other_number i b ne) in
       let live : List (Block (Option T)) = flat_map (value_blocks cell_sizes reading values) (without p paths) in
-      let written : Sound None (block tier start (tier_at w.tiers tier).size (insert (map (values p) (bits k.value_bitmap)) place (Some x)) ∷ live) u = put (size_in cell_sizes k.value_tier) (map (values p) (bits k.value_bitmap)) live (values_first cell_sizes node_sizes reading paths v hold values w cells p k here) (rank-all (values p) k.value_bitmap) in
+      let written : Sound None (block tier start (tier_at w.tiers tier).size (insert (map (values p) (bits k.value_bitmap)) place (Some x)) ∷ live)
+      u = put (size_in cell_sizes k.value_tier) (map (values p) (bits k.value_bitmap)) live
+      (values_first cell_sizes node_sizes reading paths v hold values w cells p k here) (rank-all (values p) k.value_bitmap) in
       let tier_is : m.value_tier ≡ tier = ap (λ (y : Node). y.value_tier) m_is in
       let start_is : m.value_block ≡ start = ap (λ (y : Node). y.value_block) m_is in
-      let sound : Sound None (block m.value_tier m.value_block (size_in cell_sizes m.value_tier) (insert (map (values p) (bits k.value_bitmap)) (rank k.value_bitmap b) (Some x)) ∷ live) u =
-        subst (λ (c : Block (Option T)). Sound None (c ∷ live) u) (λ i. block (sym tier_is i) (sym start_is i) ((size ∙ ap (size_in cell_sizes) (sym tier_is)) i) (insert (map (values p) (bits k.value_bitmap)) (place_is i) (Some x))) written in
+      let sound : Sound None (block m.value_tier m.value_block (size_in cell_sizes m.value_tier)
+      (insert (map (values p) (bits k.value_bitmap)) (rank k.value_bitmap b) (Some x)) ∷ live) u =
+      subst (λ (c : Block (Option T)). Sound None (c ∷ live) u)
+      (λ i. block (sym tier_is i) (sym start_is i) ((size ∙ ap (size_in cell_sizes) (sym tier_is)) i)
+      (insert (map (values p) (bits k.value_bitmap)) (place_is i) (Some x))) written in
       record {
         node = m;
-        hold = subst (λ y. NodesHold node_sizes (with_node reading p m) paths y) (sym v2_is) (node_changed node_sizes reading paths v hold p slot k m stands here (ap (λ (y : Node). y.child_bitmap) m_is) (ap (λ (y : Node). y.child_block) m_is) (ap (λ (y : Node). y.child_tier) m_is));
-        cells = value_added cell_sizes node_sizes reading paths v hold values w cells p k m b (Some x) here stay bit small u digit missing refl (spends.sizes ∙ cells.sizes_are) sound;
-        counted = added_one (rank m.value_bitmap 32) (rank k.value_bitmap 32) (own_count (reading p)) (is_some (values p b)) (rank-more-one k.value_bitmap m.value_bitmap b digit missing bit stay) (ap own_count here) (cells.set_where p b ∙ ap (λ o. has_value o b) here ∙ missing);
+        hold = subst (λ y. NodesHold node_sizes (with_node reading p m) paths y) (sym v2_is)
+            (node_changed node_sizes reading paths v hold p slot k m stands here (ap (λ (y : Node). y.child_bitmap) m_is)
+            (ap (λ (y : Node). y.child_block) m_is) (ap (λ (y : Node). y.child_tier) m_is));
+        cells = value_added cell_sizes node_sizes reading paths v hold values w cells p k m b (Some x) here stay bit small u digit missing refl
+            (spends.sizes ∙ cells.sizes_are) sound;
+        counted = added_one (rank m.value_bitmap 32) (rank k.value_bitmap 32) (own_count (reading p)) (is_some (values p b))
+            (rank-more-one k.value_bitmap m.value_bitmap b digit missing bit stay) (ap own_count here)
+            (cells.set_where p b ∙ ap (λ o. has_value o b) here ∙ missing);
       }
     where
       added_one : (now was own : ℕ) (had : Bool) → now ≡ was + 1 → own ≡ was → had ≡ false → now + one_if had ≡ own + 1
       added_one now was own had e f none = ap (λ h. now + one_if h) none ∙ omega (arith, e, f)
 
   -- a value that is there stands in its cell
-  pub value_at : (v : Store Node) (w : Store (Option T)) (slot place b : ℕ) (k : Node) → k ≡ node_at v.slots slot → place ≡ rank k.value_bitmap b → has_bit k.value_bitmap b ≡ true
-      → (reading : List ℕ → Option Node) (paths : List (List ℕ)) (values : List ℕ → ℕ → Option T) (p : List ℕ) (n : Node) → NodesHold node_sizes reading paths v → CellsHold cell_sizes reading values paths w → IsSlot reading p slot → reading p ≡ Some n
+  pub value_at : (v : Store Node) (w : Store (Option T)) (slot place b : ℕ) (k : Node) → k ≡ node_at v.slots slot → place ≡ rank k.value_bitmap b →
+      has_bit k.value_bitmap b ≡ true
+      → (reading : List ℕ → Option Node) (paths : List (List ℕ)) (values : List ℕ → ℕ → Option T) (p : List ℕ) (n : Node) →
+      NodesHold node_sizes reading paths v → CellsHold cell_sizes reading values paths w → IsSlot reading p slot → reading p ≡ Some n
       → (k.value_block + place < length w.slots) × (get_or w.slots (k.value_block + place) None ≡ values p b)
   value_at v w slot place b k read place_is bit reading paths values p n hold cells stands is =
       let at = slot_holds node_sizes reading paths v hold p slot n stands is in
@@ -138,8 +191,11 @@ module _ {T : Type 0} where
       let there = value_stands cell_sizes node_sizes reading paths v hold values w cells p k b (is ∙ ap Some (sym same)) bit in
       ((let x = there.2 in omega arith), ap (λ i. get_or w.slots (k.value_block + i) None) place_is ∙ there.1)
 
-  pub values_replaced : (v : Store Node) (w u : Store (Option T)) (slot place b : ℕ) (k : Node) (x : T) → k ≡ node_at v.slots slot → place ≡ rank k.value_bitmap b → has_bit k.value_bitmap b ≡ true → u ≡ record w { slots = set w.slots (k.value_block + place) (Some x) }
-      → (reading : List ℕ → Option Node) (paths : List (List ℕ)) (values : List ℕ → ℕ → Option T) (p : List ℕ) (n : Node) → NodesHold node_sizes reading paths v → CellsHold cell_sizes reading values paths w → IsSlot reading p slot → reading p ≡ Some n
+  -- a value written over another sets the value
+  pub values_replaced : (v : Store Node) (w u : Store (Option T)) (slot place b : ℕ) (k : Node) (x : T) → k ≡ node_at v.slots slot →
+      place ≡ rank k.value_bitmap b → has_bit k.value_bitmap b ≡ true → u ≡ record w { slots = set w.slots (k.value_block + place) (Some x) }
+      → (reading : List ℕ → Option Node) (paths : List (List ℕ)) (values : List ℕ → ℕ → Option T) (p : List ℕ) (n : Node) →
+      NodesHold node_sizes reading paths v → CellsHold cell_sizes reading values paths w → IsSlot reading p slot → reading p ≡ Some n
       → ValueSet reading paths values p b (Some x) v u
   values_replaced v w u slot place b k x read place_is bit u_is reading paths values p n hold cells stands is =
       let at = slot_holds node_sizes reading paths v hold p slot n stands is in
@@ -149,6 +205,7 @@ module _ {T : Type 0} where
       record {
         node = k;
         hold = subst (λ f. NodesHold node_sizes f paths v) (sym (with_same reading p k here)) hold;
-        cells = subst (λ y. CellsHold cell_sizes (with_node reading p k) (with_value values p b (Some x)) paths y) (ap (λ i. record w { slots = set w.slots (k.value_block + i) (Some x) }) (sym place_is) ∙ sym u_is) put;
+        cells = subst (λ y. CellsHold cell_sizes (with_node reading p k) (with_value values p b (Some x)) paths y)
+            (ap (λ i. record w { slots = set w.slots (k.value_block + i) (Some x) }) (sym place_is) ∙ sym u_is) put;
         counted = ap₂ (λ a c. a + one_if c) (ap own_count (sym here)) (cells.set_where p b ∙ ap (λ o. has_value o b) here ∙ bit);
       }

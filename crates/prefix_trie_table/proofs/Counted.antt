@@ -27,16 +27,20 @@ past-five : (k n l : ℕ) → n ≤ k → n ≡ l / 5 → l < 5 * (k + 1)
 past-five k n l h e = omega (arith, h, e)
 
 -- the nodes are the strings whose ways lead to nodes
-module _ (reading : List ℕ → Option Node) (paths : List (List ℕ)) (v : Store Node) (hold : NodesHold node_sizes reading paths v) (n : Nodes) (are : (s : List Bool) → has_node n s ≡ (is_node_depth s && is_some (reading (path_of s)))) where
+module _ (reading : List ℕ → Option Node) (paths : List (List ℕ)) (v : Store Node) (hold : NodesHold node_sizes reading paths v) (n : Nodes)
+    (are : (s : List Bool) → has_node n s ≡ (is_node_depth s && is_some (reading (path_of s)))) where
+  -- nodes stand at multiples of five bits
   pub nodes_depths : (s : List Bool) → has_node n s ≡ true → length s % 5 ≡ 0
   nodes_depths s h = eqb-true (length s % 5) 0 (and-first (is_node_depth s) (is_some (reading (path_of s))) (sym (are s) ∙ h))
 
   nodes_some : (s : List Bool) → has_node n s ≡ true → is_some (reading (path_of s)) ≡ true
   nodes_some s h = and-second (is_node_depth s) (is_some (reading (path_of s))) (sym (are s) ∙ h)
 
+  -- above each node stand all that its path passes
   pub nodes_closed : (s t : List Bool) → has_node n t ≡ true → begins s t ≡ true → length s % 5 ≡ 0 → has_node n s ≡ true
   nodes_closed s t h b five =
-      are s ∙ and-join (is_node_depth s) (is_some (reading (path_of s))) (eq-eqb (length s % 5) 0 five) (prefix_some node_sizes reading paths v hold (path_of s) (path_of t) (nodes_some t h) (begins-way s t five ∙ b))
+      are s ∙ and-join (is_node_depth s) (is_some (reading (path_of s))) (eq-eqb (length s % 5) 0 five)
+      (prefix_some node_sizes reading paths v hold (path_of s) (path_of t) (nodes_some t h) (begins-way s t five ∙ b))
 
   -- the string of so many steps of q
   node_on_way : (q : List Bool) (k : ℕ) → k ≤ length (path_of q) → has_node n (take (5 * k) q) ≡ is_some (reading (take k (path_of q)))
@@ -48,8 +52,10 @@ module _ (reading : List ℕ → Option Node) (paths : List (List ℕ)) (v : Sto
   -- the nodes met on the way to q
   pub visits_counted : (q : List Bool) (level : ℕ) → IsEnd reading (path_of q) level → visits n q ≡ level + 1
   visits_counted q level end =
-      visits-exact n q level nodes_depths nodes_closed (within-five level (length (path_of q)) (length q) end.within (path-length q)) (node_on_way q level end.within ∙ end.stands)
+      visits-exact n q level nodes_depths nodes_closed (within-five level (length (path_of q)) (length q) end.within (path-length q))
+      (node_on_way q level end.within ∙ end.stands)
       (elim (cases_Bool (nat_lt level (length (path_of q)))) as (λ _. (length q < 5 * (level + 1)) ⊎ (has_node n (take (5 * (level + 1)) q) ≡ false)) [
-        | inl e ↦ let inside : level < length (path_of q) = ltb-true level (length (path_of q)) e in inr (node_on_way q (level + 1) (omega arith) ∙ end.stops inside)
+        | inl e ↦ let inside : level < length (path_of q) = ltb-true level (length (path_of q)) e in
+            inr (node_on_way q (level + 1) (omega arith) ∙ end.stops inside)
         | inr e ↦ let past : length (path_of q) ≤ level = grind (arith, nat_tests) in inl (past-five level (length (path_of q)) (length q) past (path-length q))
       ])

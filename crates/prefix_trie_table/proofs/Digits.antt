@@ -9,6 +9,7 @@ use Rattle.prefix_trie_table.specs.Digits.{path_of, rest_of, bit_of}
 more : (n l : ℕ) → n ≡ l / 5 → suc n ≡ suc (suc (suc (suc (suc l)))) / 5
 more n l e = omega arith
 
+-- a way has a step for each five bits
 pub path-length : (s : List Bool) → length (path_of s) ≡ length s / 5
 path-length (a ∷ b ∷ c ∷ d ∷ e ∷ s) = more (length (path_of s)) (length s) (path-length s)
 path-length (a ∷ b ∷ c ∷ d ∷ []) = refl
@@ -17,6 +18,7 @@ path-length (a ∷ b ∷ []) = refl
 path-length (a ∷ []) = refl
 path-length [] = refl
 
+-- what is behind the last step is shorter than a step
 pub rest-short : (s : List Bool) → length (rest_of s) ≤ 4
 rest-short (a ∷ b ∷ c ∷ d ∷ e ∷ s) = rest-short s
 rest-short (a ∷ b ∷ c ∷ d ∷ []) = omega arith
@@ -37,6 +39,7 @@ take-five n a b c d e s = ap (λ k. take k (a ∷ b ∷ c ∷ d ∷ e ∷ s)) (f
     five : (n : ℕ) → 5 * suc n ≡ suc (suc (suc (suc (suc (5 * n)))))
     five n = omega arith
 
+-- it is what is left when the steps are dropped
 pub rest-is : (s : List Bool) → rest_of s ≡ drop (5 * length (path_of s)) s
 rest-is (a ∷ b ∷ c ∷ d ∷ e ∷ s) = rest-is s ∙ sym (drop-five (length (path_of s)) a b c d e s)
 rest-is (a ∷ b ∷ c ∷ d ∷ []) = refl

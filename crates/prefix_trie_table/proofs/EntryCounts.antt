@@ -18,17 +18,21 @@ use Rattle.prefix_trie_table.proofs.Trees.{times_out_same, listed_once}
 use Rattle.prefix_trie_table.proofs.Children.{same_or, with_here, with_other, changed_below, changed_here, changed_other}
 
 -- one node's own first
-pub count_out : (f : List ℕ → Option Node) (p : List ℕ) (paths : List (List ℕ)) → 0 < times p paths → entry_count f paths ≡ own_count (f p) + entry_count f (without p paths)
+pub count_out : (f : List ℕ → Option Node) (p : List ℕ) (paths : List (List ℕ)) → 0 < times p paths →
+    entry_count f paths ≡ own_count (f p) + entry_count f (without p paths)
 count_out f p [] h = absurd (omega arith)
-count_out f p (x ∷ paths) h = elim (cases_Bool (same_path p x)) as (λ _. own_count (f x) + entry_count f paths ≡ own_count (f p) + entry_count f (cond (same_path p x) paths (x ∷ without p paths))) [
-  | inl hit ↦ rw hit (ap (λ y. own_count (f y) + entry_count f paths) (sym (same_path-true p x hit)))
-  | inr miss ↦
-      let more : 0 < times p paths = (let e : one_if (same_path p x) ≡ 0 = ap one_if miss in omega arith) in
-      let ih : entry_count f paths ≡ own_count (f p) + entry_count f (without p paths) = count_out f p paths more in
-      rw miss (omega arith)
-]
+count_out f p (x ∷ paths) h = elim (cases_Bool (same_path p x)) as (λ _. own_count (f x) + entry_count f paths ≡ own_count (f p) + entry_count f
+    (cond (same_path p x) paths (x ∷ without p paths))) [
+      | inl hit ↦ rw hit (ap (λ y. own_count (f y) + entry_count f paths) (sym (same_path-true p x hit)))
+      | inr miss ↦
+          let more : 0 < times p paths = (let e : one_if (same_path p x) ≡ 0 = ap one_if miss in omega arith) in
+          let ih : entry_count f paths ≡ own_count (f p) + entry_count f (without p paths) = count_out f p paths more in
+          rw miss (omega arith)
+    ]
 
-pub count_same : (f g : List ℕ → Option Node) (paths : List (List ℕ)) → ((q : List ℕ) → 0 < times q paths → own_count (g q) ≡ own_count (f q)) → entry_count g paths ≡ entry_count f paths
+-- nodes with as many values each have as many in all
+pub count_same : (f g : List ℕ → Option Node) (paths : List (List ℕ)) → ((q : List ℕ) → 0 < times q paths → own_count (g q) ≡ own_count (f q)) →
+    entry_count g paths ≡ entry_count f paths
 count_same f g [] same = refl
 count_same f g (x ∷ paths) same =
     let here : own_count (g x) ≡ own_count (f x) = same x (let e : one_if (same_path x x) ≡ 1 = ap one_if (same_path-itself x) in omega arith) in
@@ -36,22 +40,24 @@ count_same f g (x ∷ paths) same =
     ap₂ (λ a b. a + b) here rest
 
 -- the node at p becomes m
-pub count_with_node : (f : List ℕ → Option Node) (p : List ℕ) (m : Node) (paths : List (List ℕ)) → times p paths ≡ 1 → entry_count (with_node f p m) paths + own_count (f p) ≡ entry_count f paths + own_count (Some m)
+pub count_with_node : (f : List ℕ → Option Node) (p : List ℕ) (m : Node) (paths : List (List ℕ)) → times p paths ≡ 1 →
+    entry_count (with_node f p m) paths + own_count (f p) ≡ entry_count f paths + own_count (Some m)
 count_with_node f p m paths once =
     let none_p : times p (without p paths) ≡ 0 = times_out_same p paths once in
     let before = count_out f p paths (omega arith) in
     let after = count_out (with_node f p m) p paths (omega arith) in
     let here : own_count (with_node f p m p) ≡ own_count (Some m) = ap own_count (with_here f p m p refl) in
     let rest : entry_count (with_node f p m) (without p paths) ≡ entry_count f (without p paths) = count_same f (with_node f p m) (without p paths)
-      (λ q h. ap own_count (with_other f p m q (λ e. let z : times q (without p paths) ≡ 0 = ap (λ y. times y (without p paths)) e ∙ none_p in omega arith))) in
+    (λ q h. ap own_count (with_other f p m q (λ e. let z : times q (without p paths) ≡ 0 = ap (λ y. times y (without p paths)) e ∙ none_p in omega arith))) in
     omega (arith, before, after, here, rest)
 
 -- the node n at p becomes m, which has as many values, and has a blank child more
-pub count_with_child : (f : List ℕ → Option Node) (p : List ℕ) (n m : Node) (c : ℕ) (paths : List (List ℕ)) → f p ≡ Some n → m.value_bitmap ≡ n.value_bitmap → times (p ++ c ∷ []) paths ≡ 0 → entry_count (with_child f p m c) ((p ++ c ∷ []) ∷ paths) ≡ entry_count f paths
+pub count_with_child : (f : List ℕ → Option Node) (p : List ℕ) (n m : Node) (c : ℕ) (paths : List (List ℕ)) → f p ≡ Some n →
+    m.value_bitmap ≡ n.value_bitmap → times (p ++ c ∷ []) paths ≡ 0 → entry_count (with_child f p m c) ((p ++ c ∷ []) ∷ paths) ≡ entry_count f paths
 count_with_child f p n m c paths is same none =
     let new : own_count (with_child f p m c (p ++ c ∷ [])) ≡ 0 = ap own_count (changed_below f p m c (Some blank_node) (p ++ c ∷ []) refl) ∙ rank-zero-all in
     let rest : entry_count (with_child f p m c) paths ≡ entry_count f paths = count_same f (with_child f p m c) paths
-      (λ q h. by q (λ e. let z : times q paths ≡ 0 = ap (λ y. times y paths) e ∙ none in omega arith) (same_or q p)) in
+    (λ q h. by q (λ e. let z : times q paths ≡ 0 = ap (λ y. times y paths) e ∙ none in omega arith) (same_or q p)) in
     omega (arith, new, rest)
   where
     by : (q : List ℕ) → q ≢ p ++ c ∷ [] → (q ≡ p) ⊎ (q ≢ p) → own_count (with_child f p m c q) ≡ own_count (f q)
@@ -91,13 +97,24 @@ module _ {S : Type 0} (vacant : S) (slots : List S) where
   items-sum : (live : List (Block S)) → All (HoldsItems vacant slots) live → items_count live ≤ sum_by size_of_extent (map extent live)
   items-sum [] h = omega arith
   items-sum (b ∷ bs) h =
-      omega (arith, sum_by-cons size_of_extent (extent b) (map extent bs), items-sum bs (All-tail (HoldsItems vacant slots) b bs h), item_fits b (All-head (HoldsItems vacant slots) b bs h))
+      omega (
+        arith,
+        sum_by-cons size_of_extent (extent b) (map extent bs),
+        items-sum bs (All-tail (HoldsItems vacant slots) b bs h),
+        item_fits b (All-head (HoldsItems vacant slots) b bs h),
+      )
 
 -- the blocks in use hold no more items than there are slots
 pub items_bound : {S : Type 0} (vacant : S) (live : List (Block S)) (v : Store S) → Sound vacant live v → items_count live ≤ length v.slots
 items_bound vacant live v s =
     let all = sum_by-IsPermutation size_of_extent s.tiling (map extent live ++ free_extents v.tiers) s.rearranged in
-    omega (arith, tiling-sum v.first (length v.slots) s.tiling s.tiles, all, sum_by-append size_of_extent (map extent live) (free_extents v.tiers), items-sum vacant v.slots live s.held)
+    omega (
+      arith,
+      tiling-sum v.first (length v.slots) s.tiling s.tiles,
+      all,
+      sum_by-append size_of_extent (map extent live) (free_extents v.tiers),
+      items-sum vacant v.slots live s.held,
+    )
 
 held-items : {S : Type 0} (k start size : ℕ) (xs : List S) → items_count (held k start size xs) ≡ length xs
 held-items k start size [] = refl
@@ -106,14 +123,17 @@ held-items k start size (x ∷ xs) = omega arith
 module _ {T : Type 0} (nodes : List ℕ → Option Node) (values : List ℕ → ℕ → Option T) where
   own_items : (p : List ℕ) (o : Option Node) → items_count (value_blocks_of cell_sizes values p o) ≡ own_count o
   own_items p None = refl
-  own_items p (Some n) = held-items n.value_tier n.value_block (size_in cell_sizes n.value_tier) (map (values p) (bits n.value_bitmap)) ∙ rank-all (values p) n.value_bitmap
+  own_items p (Some n) = held-items n.value_tier n.value_block (size_in cell_sizes n.value_tier) (map (values p) (bits n.value_bitmap))
+      ∙ rank-all (values p) n.value_bitmap
 
   all_items : (paths : List (List ℕ)) → items_count (flat_map (value_blocks cell_sizes nodes values) paths) ≡ entry_count nodes paths
   all_items [] = refl
   all_items (p ∷ paths) =
-      items_count-append (value_blocks cell_sizes nodes values p) (flat_map (value_blocks cell_sizes nodes values) paths) ∙ ap₂ (λ a b. a + b) (own_items p (nodes p)) (all_items paths)
+      items_count-append (value_blocks cell_sizes nodes values p) (flat_map (value_blocks cell_sizes nodes values) paths)
+      ∙ ap₂ (λ a b. a + b) (own_items p (nodes p)) (all_items paths)
 
 -- there are no more entries than cells
-pub entries_bound : {T : Type 0} (nodes : List ℕ → Option Node) (values : List ℕ → ℕ → Option T) (paths : List (List ℕ)) (w : Store (Option T)) → CellsHold cell_sizes nodes values paths w → entry_count nodes paths ≤ length w.slots
+pub entries_bound : {T : Type 0} (nodes : List ℕ → Option Node) (values : List ℕ → ℕ → Option T) (paths : List (List ℕ)) (w : Store (Option T)) →
+    CellsHold cell_sizes nodes values paths w → entry_count nodes paths ≤ length w.slots
 entries_bound nodes values paths w cells =
     subst (λ n. n ≤ length w.slots) (all_items nodes values paths) (items_bound None (flat_map (value_blocks cell_sizes nodes values) paths) w cells.sound)

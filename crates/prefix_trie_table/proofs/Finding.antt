@@ -28,71 +28,92 @@ needs_node None c h = absurd (false≢true h)
 needs_node (Some n) c h = refl
 
 -- the beginnings of a node's path lead to nodes
-pub prefix_some : (sizes : List ℕ) (nodes : List ℕ → Option Node) (paths : List (List ℕ)) (v : Store Node) → NodesHold sizes nodes paths v → (q p : List ℕ) → is_some (nodes p) ≡ true → is_start q p ≡ true → is_some (nodes q) ≡ true
+pub prefix_some : (sizes : List ℕ) (nodes : List ℕ → Option Node) (paths : List (List ℕ)) (v : Store Node) → NodesHold sizes nodes paths v →
+    (q p : List ℕ) → is_some (nodes p) ≡ true → is_start q p ≡ true → is_some (nodes q) ≡ true
 prefix_some sizes nodes paths v hold q = snoc_ind (λ p. is_some (nodes p) ≡ true → is_start q p ≡ true → is_some (nodes q) ≡ true)
     (λ some h. ⊎_elim (λ (e : same_path q [] ≡ true). at_end [] e some) (λ (e : false ≡ true). absurd (false≢true e)) (or_either (same_path q []) false h))
-    (λ p c ih some h. ⊎_elim (λ (e : is_start q p ≡ true). ih (needs_node (nodes p) c (sym (hold.linked p c) ∙ some)) e) (λ (e : (same_path q (p ++ c ∷ []) || false) ≡ true). at_end (p ++ c ∷ []) (sym (or_false_right (same_path q (p ++ c ∷ []))) ∙ e) some) (or_either (is_start q p) (same_path q (p ++ c ∷ []) || false) (sym (is_start-snoc q p c) ∙ h)))
+    (λ p c ih some h. ⊎_elim (λ (e : is_start q p ≡ true). ih (needs_node (nodes p) c (sym (hold.linked p c) ∙ some)) e)
+    (λ (e : (same_path q (p ++ c ∷ []) || false) ≡ true). at_end (p ++ c ∷ []) (sym (or_false_right (same_path q (p ++ c ∷ []))) ∙ e) some)
+    (or_either (is_start q p) (same_path q (p ++ c ∷ []) || false) (sym (is_start-snoc q p c) ∙ h)))
   where
     at_end : (p : List ℕ) → same_path q p ≡ true → is_some (nodes p) ≡ true → is_some (nodes q) ≡ true
-    at_end p e some = ⊎_elim (λ (f : q ≡ p). ap (λ y. is_some (nodes y)) f ∙ some) (λ (n : q ≢ p). absurd (false≢true (sym (same_path-not q p n) ∙ e))) (same_or q p)
+    at_end p e some = ⊎_elim (λ (f : q ≡ p). ap (λ y. is_some (nodes y)) f ∙ some)
+        (λ (n : q ≢ p). absurd (false≢true (sym (same_path-not q p n) ∙ e))) (same_or q p)
 
 -- below the end of the way no node stands
-pub none_below : (nodes : List ℕ → Option Node) (paths : List (List ℕ)) (v : Store Node) (path : List ℕ) (depth : ℕ) → NodesHold node_sizes nodes paths v → IsEnd nodes path depth → depth < length path → nodes path ≡ None
+pub none_below : (nodes : List ℕ → Option Node) (paths : List (List ℕ)) (v : Store Node) (path : List ℕ) (depth : ℕ) →
+    NodesHold node_sizes nodes paths v → IsEnd nodes path depth → depth < length path → nodes path ≡ None
 none_below nodes paths v path depth hold end inside =
     elim (cases_Bool (is_some (nodes path))) as (λ _. nodes path ≡ None) [
-      | inl e ↦ absurd (false≢true (sym (end.stops inside) ∙ prefix_some node_sizes nodes paths v hold (take (depth + 1) path) path e (is_start_take (depth + 1) path)))
+      | inl e ↦ absurd (false≢true (sym (end.stops inside)
+          ∙ prefix_some node_sizes nodes paths v hold (take (depth + 1) path) path e (is_start_take (depth + 1) path)))
       | inr e ↦ is_none-None (nodes path) e
     ]
 
-module _ (b : List Bool) (len level slot : ℕ) (node : Node) (v : Store Node) (at : IsReached b len level node slot v) (reading : List ℕ → Option Node) (paths : List (List ℕ)) (hold : NodesHold node_sizes reading paths v) where
+module _ (b : List Bool) (len level slot : ℕ) (node : Node) (v : Store Node) (at : IsReached b len level node slot v) (reading : List ℕ → Option Node)
+    (paths : List (List ℕ)) (hold : NodesHold node_sizes reading paths v) where
   abbrev way : List ℕ
   way = path_of (take len b)
 
   -- the way has been followed to its end
   pub reached_end : IsEnd reading (path_of (take len b)) level
   reached_end = elim (cases_Bool (nat_le (5 * level + 5) len)) as (λ _. IsEnd reading (path_of (take len b)) level) [
-      | inl e ↦
-          let more : 5 * level + 5 ≤ len = leb-true (5 * level + 5) len e in
-          let inside = step-inside b len level at.long more in
-          deepest_end reading paths v (path_of (take len b)) level slot hold (at.deepest reading paths hold) node (omega arith) at.node_is (λ _. at.missing more)
-      | inr e ↦
-          let less : len < 5 * level + 5 = grind (arith, nat_tests) in
-          let last = steps-end b len level at.long at.whole less in
-          deepest_end reading paths v (path_of (take len b)) level slot hold (at.deepest reading paths hold) node (omega arith) at.node_is (λ h. absurd (omega arith))
-    ]
+    | inl e ↦
+        let more : 5 * level + 5 ≤ len = leb-true (5 * level + 5) len e in
+        let inside = step-inside b len level at.long more in
+        deepest_end reading paths v (path_of (take len b)) level slot hold (at.deepest reading paths hold) node (omega arith) at.node_is
+        (λ _. at.missing more)
+    | inr e ↦
+        let less : len < 5 * level + 5 = grind (arith, nat_tests) in
+        let last = steps-end b len level at.long at.whole less in
+        deepest_end reading paths v (path_of (take len b)) level slot hold (at.deepest reading paths hold) node (omega arith) at.node_is
+        (λ h. absurd (omega arith))
+  ]
 
   -- the node reached is the string's own
   pub reached_own : len < 5 * level + 5 → reading (path_of (take len b)) ≡ Some node
   reached_own less =
-      ap reading (sym (take_all level (path_of (take len b)) (omega (arith, steps-end b len level at.long at.whole less)))) ∙ deepest_is reading paths v (path_of (take len b)) level slot hold (at.deepest reading paths hold) node at.node_is
+      ap reading (sym (take_all level (path_of (take len b)) (omega (arith, steps-end b len level at.long at.whole less))))
+      ∙ deepest_is reading paths v (path_of (take len b)) level slot hold (at.deepest reading paths hold) node at.node_is
 
   -- the node of the string is not there
   pub reached_none : 5 * level + 5 ≤ len → reading (path_of (take len b)) ≡ None
   reached_none more = none_below reading paths v (path_of (take len b)) level hold reached_end (step-inside b len level at.long more)
 
-module _ {T : Type 0} (b : List Bool) (len level slot : ℕ) (node : Node) (v : Store Node) (at : IsReached b len level node slot v) (reading : List ℕ → Option Node) (values : List ℕ → ℕ → Option T) (paths : List (List ℕ)) (w : Store (Option T)) (holds : Holds reading values paths v w) where
+module _ {T : Type 0} (b : List Bool) (len level slot : ℕ) (node : Node) (v : Store Node) (at : IsReached b len level node slot v)
+    (reading : List ℕ → Option Node) (values : List ℕ → ℕ → Option T) (paths : List (List ℕ)) (w : Store (Option T))
+    (holds : Holds reading values paths v w) where
   -- no value where the node is missing
   pub no_value_below : 5 * level + 5 ≤ len → values (path_of (take len b)) (bit_of (take len b)) ≡ None
   no_value_below more =
-      is_none-None (values (path_of (take len b)) (bit_of (take len b))) (holds.cells.set_where (path_of (take len b)) (bit_of (take len b)) ∙ ap (λ o. has_value o (bit_of (take len b))) (reached_none b len level slot node v at reading paths holds.hold more))
+      is_none-None (values (path_of (take len b)) (bit_of (take len b)))
+      (holds.cells.set_where (path_of (take len b)) (bit_of (take len b))
+      ∙ ap (λ o. has_value o (bit_of (take len b))) (reached_none b len level slot node v at reading paths holds.hold more))
 
   -- no value where the node has none
   pub no_value_at : len < 5 * level + 5 → has_bit node.value_bitmap (bit_of (take len b)) ≡ false → values (path_of (take len b)) (bit_of (take len b)) ≡ None
   no_value_at less clear =
-      is_none-None (values (path_of (take len b)) (bit_of (take len b))) (holds.cells.set_where (path_of (take len b)) (bit_of (take len b)) ∙ ap (λ o. has_value o (bit_of (take len b))) (reached_own b len level slot node v at reading paths holds.hold less) ∙ clear)
+      is_none-None (values (path_of (take len b)) (bit_of (take len b)))
+      (holds.cells.set_where (path_of (take len b)) (bit_of (take len b))
+      ∙ ap (λ o. has_value o (bit_of (take len b))) (reached_own b len level slot node v at reading paths holds.hold less) ∙ clear)
 
   module _ (less : len < 5 * level + 5) (x : ℕ) (small : x < 31) (read : x ≡ value_bit (drop (5 * level) (take len b))) where
     -- whether the node has a value there
     pub value_bit_is : has_bit node.value_bitmap (bit_of (take len b)) ≡ has node.value_bitmap x
     value_bit_is = ap (has_bit node.value_bitmap) (bit-read b len level at.long x at.whole less read) ∙ has_bit-is node.value_bitmap x (omega arith)
 
+    -- no value where the bit that the code reads is clear
     pub no_value_here : has node.value_bitmap x ≡ false → values (path_of (take len b)) (bit_of (take len b)) ≡ None
     no_value_here clear = no_value_at less (value_bit_is ∙ clear)
 
     -- the cell of the value
-    pub value_here : (place : ℕ) → has node.value_bitmap x ≡ true → place ≡ ones_below x node.value_bitmap → (node.value_block + place < length w.slots) × (get_or w.slots (node.value_block + place) None ≡ values (path_of (take len b)) (bit_of (take len b)))
+    pub value_here : (place : ℕ) → has node.value_bitmap x ≡ true → place ≡ ones_below x node.value_bitmap →
+        (node.value_block + place < length w.slots) ×
+        (get_or w.slots (node.value_block + place) None ≡ values (path_of (take len b)) (bit_of (take len b)))
     value_here place set is =
         let bit = bit-read b len level at.long x at.whole less read in
-        let here = value_stands cell_sizes node_sizes reading paths v holds.hold values w holds.cells (path_of (take len b)) node (bit_of (take len b)) (reached_own b len level slot node v at reading paths holds.hold less) (value_bit_is ∙ set) in
-        let place_is : place ≡ rank node.value_bitmap (bit_of (take len b)) = is ∙ sym (rank-ones node.value_bitmap x (omega arith)) ∙ ap (rank node.value_bitmap) (sym bit) in
+        let here = value_stands cell_sizes node_sizes reading paths v holds.hold values w holds.cells (path_of (take len b)) node
+        (bit_of (take len b)) (reached_own b len level slot node v at reading paths holds.hold less) (value_bit_is ∙ set) in
+        let place_is : place ≡ rank node.value_bitmap (bit_of (take len b)) = is ∙ sym (rank-ones node.value_bitmap x (omega arith))
+        ∙ ap (rank node.value_bitmap) (sym bit) in
         ((let h = here.2 in omega arith), ap (λ i. get_or w.slots (node.value_block + i) None) place_is ∙ here.1)

@@ -22,9 +22,11 @@ use Rattle.prefix_trie_table.proofs.Finding.{no_value_below, no_value_at}
 use Rattle.prefix_trie_table.proofs.Trees.{reads, slot_holds, held_some}
 
 -- free blocks that were made change nothing
-pub nodes_prepared : (reading : List ℕ → Option Node) (paths : List (List ℕ)) (v x : Store Node) → NodesHold node_sizes reading paths v → Prepared v x → ((live : List (Block Node)) → Sound blank_node live v → Sound blank_node live x) → NodesHold node_sizes reading paths x
+pub nodes_prepared : (reading : List ℕ → Option Node) (paths : List (List ℕ)) (v x : Store Node) → NodesHold node_sizes reading paths v →
+    Prepared v x → ((live : List (Block Node)) → Sound blank_node live v → Sound blank_node live x) → NodesHold node_sizes reading paths x
 nodes_prepared reading paths v x hold done sound = record {
-  rooted = hold.rooted ∙ ap Some (sym (done.kept 0 blank_node (let w = (all_within v.first (length v.slots) hold.sound.tiling hold.sound.tiles).1 in let f = hold.first_is in omega arith)));
+  rooted = hold.rooted ∙ ap Some (sym (done.kept 0 blank_node
+      (let w = (all_within v.first (length v.slots) hold.sound.tiling hold.sound.tiles).1 in let f = hold.first_is in omega arith)));
   linked = hold.linked;
   listed = hold.listed;
   sound = sound _ hold.sound;
@@ -32,7 +34,10 @@ nodes_prepared reading paths v x hold done sound = record {
   sizes_are = done.sizes ∙ hold.sizes_are;
 }
 
-pub cells_prepared : {T : Type 0} (reading : List ℕ → Option Node) (values : List ℕ → ℕ → Option T) (paths : List (List ℕ)) (w x : Store (Option T)) → CellsHold cell_sizes reading values paths w → Prepared w x → ((live : List (Block (Option T))) → Sound None live w → Sound None live x) → CellsHold cell_sizes reading values paths x
+-- and the values that they held
+pub cells_prepared : {T : Type 0} (reading : List ℕ → Option Node) (values : List ℕ → ℕ → Option T) (paths : List (List ℕ)) (w x : Store (Option T)) →
+    CellsHold cell_sizes reading values paths w → Prepared w x → ((live : List (Block (Option T))) → Sound None live w → Sound None live x) →
+    CellsHold cell_sizes reading values paths x
 cells_prepared reading values paths w x cells done sound = record {
   set_where = cells.set_where;
   sound = sound _ cells.sound;
@@ -43,7 +48,8 @@ cells_prepared reading values paths w x cells done sound = record {
 -- the tier of a list that has items
 pub list_tier : {S : Type 0} (vacant : S) (v : Store S) (k start count : ℕ) → HasList vacant v k start count → 0 < count → k < length v.tiers
 list_tier {S} vacant v k start count h some =
-    let s : Sound vacant (block k start h.size h.items ∷ h.live) v = subst (λ bs. Sound vacant (bs ++ h.live) v) (held_some k start h.size h.items (let e = h.is_count in omega arith)) h.sound in
+    let s : Sound vacant (block k start h.size h.items ∷ h.live) v =
+    subst (λ bs. Sound vacant (bs ++ h.live) v) (held_some k start h.size h.items (let e = h.is_count in omega arith)) h.sound in
     (tier_of_block vacant (block k start h.size h.items) h.live v s).within
 
 -- a list that has a size that passes
@@ -58,27 +64,34 @@ position_there : (f : ℕ → Bool) (xs : List ℕ) (k : ℕ) → k < length xs 
 position_there f xs k h e =
     ap (λ b. is_some (cond b (Some (position_or_len f xs)) None)) (lt-ltb (position_or_len f xs) (length xs) (passes_first f xs k h e))
 
+-- some block holds one child more
 pub node_fits : (ts : List Tier) (count : ℕ) → tier_sizes ts ≡ node_sizes → count < 32 → IsSome (tier_for ts (count + 1))
 node_fits ts count e few =
-    subst IsSome (sym (tier_for_sizes ts (count + 1) ∙ ap (λ ns. position (λ s. nat_le (count + 1) s) ns) e)) (position_there (λ s. nat_le (count + 1) s) node_sizes 6 (omega arith) (le_leb (count + 1) 32 (omega arith)))
+    subst IsSome (sym (tier_for_sizes ts (count + 1) ∙ ap (λ ns. position (λ s. nat_le (count + 1) s) ns) e))
+    (position_there (λ s. nat_le (count + 1) s) node_sizes 6 (omega arith) (le_leb (count + 1) 32 (omega arith)))
   where
     le_leb : (a b : ℕ) → a ≤ b → nat_le a b ≡ true
     le_leb a b h = grind (arith, nat_tests)
 
+-- some block holds one value more
 pub cell_fits : (ts : List Tier) (count : ℕ) → tier_sizes ts ≡ cell_sizes → count < 31 → IsSome (tier_for ts (count + 1))
 cell_fits ts count e few =
-    subst IsSome (sym (tier_for_sizes ts (count + 1) ∙ ap (λ ns. position (λ s. nat_le (count + 1) s) ns) e)) (position_there (λ s. nat_le (count + 1) s) cell_sizes 6 (omega arith) (le_leb (count + 1) 31 (omega arith)))
+    subst IsSome (sym (tier_for_sizes ts (count + 1) ∙ ap (λ ns. position (λ s. nat_le (count + 1) s) ns) e))
+    (position_there (λ s. nat_le (count + 1) s) cell_sizes 6 (omega arith) (le_leb (count + 1) 31 (omega arith)))
   where
     le_leb : (a b : ℕ) → a ≤ b → nat_le a b ≡ true
     le_leb a b h = grind (arith, nat_tests)
 
 -- free blocks that were made leave each node that is there
-pub node_still : (reading : List ℕ → Option Node) (paths : List (List ℕ)) (v x : Store Node) (p : List ℕ) (slot : ℕ) (n : Node) → NodesHold node_sizes reading paths v → IsSlot reading p slot → reading p ≡ Some n → Prepared v x → node_at x.slots slot ≡ node_at v.slots slot
+pub node_still : (reading : List ℕ → Option Node) (paths : List (List ℕ)) (v x : Store Node) (p : List ℕ) (slot : ℕ) (n : Node) →
+    NodesHold node_sizes reading paths v → IsSlot reading p slot → reading p ≡ Some n → Prepared v x → node_at x.slots slot ≡ node_at v.slots slot
 node_still reading paths v x p slot n hold stands is done =
     done.kept slot blank_node (slot_holds node_sizes reading paths v hold p slot n stands is).1
 
 -- a node that lacks a value has room for one more
-pub few_values : {T : Type 0} (reading : List ℕ → Option Node) (values : List ℕ → ℕ → Option T) (paths : List (List ℕ)) (w : Store (Option T)) (p : List ℕ) (n : Node) (b : ℕ) → CellsHold cell_sizes reading values paths w → reading p ≡ Some n → b < 31 → has_bit n.value_bitmap b ≡ false → rank n.value_bitmap 32 < 31
+pub few_values : {T : Type 0} (reading : List ℕ → Option Node) (values : List ℕ → ℕ → Option T) (paths : List (List ℕ)) (w : Store (Option T))
+    (p : List ℕ) (n : Node) (b : ℕ) → CellsHold cell_sizes reading values paths w → reading p ≡ Some n → b < 31 → has_bit n.value_bitmap b ≡ false →
+    rank n.value_bitmap 32 < 31
 few_values reading values paths w p n b cells is small lacks =
     let m : ℕ = n.value_bitmap in
     let last : has_bit n.value_bitmap 31 ≡ false = (elim (cases_Bool (has_bit n.value_bitmap 31)) as (λ _. has_bit n.value_bitmap 31 ≡ false) [
@@ -91,7 +104,9 @@ few_values reading values paths w p n b cells is small lacks =
     omega (arith, less, up, none)
 
 -- what `descend` reached is reached still where free blocks were made
-pub reached_still : (b : List Bool) (len level slot : ℕ) (node : Node) (v x : Store Node) (reading : List ℕ → Option Node) (paths : List (List ℕ)) → IsReached b len level node slot v → NodesHold node_sizes reading paths v → Prepared v x → NodesHold node_sizes reading paths x → IsReached b len level node slot x
+pub reached_still : (b : List Bool) (len level slot : ℕ) (node : Node) (v x : Store Node) (reading : List ℕ → Option Node) (paths : List (List ℕ)) →
+    IsReached b len level node slot v → NodesHold node_sizes reading paths v → Prepared v x → NodesHold node_sizes reading paths x →
+    IsReached b len level node slot x
 reached_still b len level slot node v x reading paths at hold done later =
     let deep = at.deepest reading paths hold in
     record {
@@ -99,8 +114,8 @@ reached_still b len level slot node v x reading paths at hold done later =
       whole = at.whole;
       node_is = at.node_is ∙ sym (node_still reading paths v x _ slot deep.node hold deep.stands deep.is done);
       deepest = λ other ps h.
-        let same : reading ≡ other = (λ i q. (sym (reads node_sizes reading paths x later q) ∙ reads node_sizes other ps x h q) i) in
-        subst (λ f. Deepest f (path_of (take len b)) level slot x) same (record { node = deep.node; stands = deep.stands; is = deep.is });
+          let same : reading ≡ other = (λ i q. (sym (reads node_sizes reading paths x later q) ∙ reads node_sizes other ps x h q) i) in
+          subst (λ f. Deepest f (path_of (take len b)) level slot x) same (record { node = deep.node; stands = deep.stands; is = deep.is });
       missing = at.missing;
     }
 
@@ -108,18 +123,33 @@ module _ (b : List Bool) (len level slot : ℕ) (node : Node) (v : Store Node) (
   -- a node that lacks a child has room for one more
   pub few_children : 5 * level + 5 ≤ len → rank node.child_bitmap 32 < 32
   few_children more =
-      rank-lacks node.child_bitmap 32 (get_or (path_of (take len b)) level 0) (step-small (take len b) level (step-inside b len level at.long more)) (at.missing more)
+      rank-lacks node.child_bitmap 32 (get_or (path_of (take len b)) level 0) (step-small (take len b) level (step-inside b len level at.long more))
+      (at.missing more)
 
-  module _ {T : Type 0} (reading : List ℕ → Option Node) (values : List ℕ → ℕ → Option T) (paths : List (List ℕ)) (w : Store (Option T)) (holds : Holds reading values paths v w) where
+  module _ {T : Type 0} (reading : List ℕ → Option Node) (values : List ℕ → ℕ → Option T) (paths : List (List ℕ)) (w : Store (Option T))
+      (holds : Holds reading values paths v w) where
     -- no value is there where the node reached has none, or is not the string's own
-    pub lacks_value : (len < 5 * level + 5 → has_bit node.value_bitmap (bit_of (take len b)) ≡ false) → values (path_of (take len b)) (bit_of (take len b)) ≡ None
+    pub lacks_value : (len < 5 * level + 5 → has_bit node.value_bitmap (bit_of (take len b)) ≡ false) →
+        values (path_of (take len b)) (bit_of (take len b)) ≡ None
     lacks_value lacks = elim (cases_Bool (nat_le (5 * level + 5) len)) as (λ _. values (path_of (take len b)) (bit_of (take len b)) ≡ None) [
       | inl e ↦ no_value_below b len level slot node v at reading values paths w holds (leb-true (5 * level + 5) len e)
-      | inr e ↦ let less : len < 5 * level + 5 = grind (arith, nat_tests) in no_value_at b len level slot node v at reading values paths w holds less (lacks less)
+      | inr e ↦ let less : len < 5 * level + 5 = grind (arith, nat_tests) in
+          no_value_at b len level slot node v at reading values paths w holds less (lacks less)
     ]
 
     -- what the calls that change its node ask
     pub reached_values : AtValues v w slot
     reached_values =
         let deep = at.deepest reading paths holds.hold in
-        record { reading = reading; paths = paths; values = values; path = _; node = deep.node; hold = holds.hold; cells = holds.cells; stands = deep.stands; is = deep.is }
+        record {
+          reading = reading;
+          paths = paths;
+          values = values;
+          path = _;
+          node = deep.node;
+          hold = holds.hold;
+          cells = holds.cells;
+          stands =
+              deep.stands;
+          is = deep.is;
+        }

@@ -36,17 +36,17 @@ same_way s t h k e = string_is s t e (ap value_bit (no_rest s h ∙ sym (no_rest
 pub begins-way : (t s : List Bool) → length t % 5 ≡ 0 → is_start (path_of t) (path_of s) ≡ begins t s
 begins-way t s h = same_bool _ _
     (λ e.
-      let r = is_start-is (path_of t) (path_of s) e in
-      let k : ℕ = length (path_of t) in
-      let first : take k (path_of s) ≡ path_of t = ap (take k) r.1 ∙ take_at (path_of t) r.0 k refl in
-      let five : 5 * k ≡ length t = five-times (length t) k h (path-length t) in
-      let less : k ≤ length (path_of s) = omega (arith, ap length r.1, length-append (path_of t) r.0) in
-      let within : 5 * k ≤ length s = fifth k (length (path_of s)) (length s) less (path-length s) in
-      let long : length (take (5 * k) s) ≡ 5 * k = length-take-le (5 * k) s within in
-      begins-from-take t s (5 * k) (same_way (take (5 * k) s) t (ap (λ n. n % 5) (long ∙ five) ∙ h) h (path-take k s within ∙ first)))
+    let r = is_start-is (path_of t) (path_of s) e in
+    let k : ℕ = length (path_of t) in
+    let first : take k (path_of s) ≡ path_of t = ap (take k) r.1 ∙ take_at (path_of t) r.0 k refl in
+    let five : 5 * k ≡ length t = five-times (length t) k h (path-length t) in
+    let less : k ≤ length (path_of s) = omega (arith, ap length r.1, length-append (path_of t) r.0) in
+    let within : 5 * k ≤ length s = fifth k (length (path_of s)) (length s) less (path-length s) in
+    let long : length (take (5 * k) s) ≡ 5 * k = length-take-le (5 * k) s within in
+    begins-from-take t s (5 * k) (same_way (take (5 * k) s) t (ap (λ n. n % 5) (long ∙ five) ∙ h) h (path-take k s within ∙ first)))
     (λ e.
-      let k : ℕ = length (path_of t) in
-      let five : 5 * k ≡ length t = five-times (length t) k h (path-length t) in
-      let within : 5 * k ≤ length s = omega (arith, begins-length t s e, five) in
-      let first : take k (path_of s) ≡ path_of t = sym (path-take k s within) ∙ ap (λ n. path_of (take n s)) five ∙ ap path_of (begins-take t s e) in
-      subst (λ p. is_start p (path_of s) ≡ true) first (is_start_take k (path_of s)))
+    let k : ℕ = length (path_of t) in
+    let five : 5 * k ≡ length t = five-times (length t) k h (path-length t) in
+    let within : 5 * k ≤ length s = omega (arith, begins-length t s e, five) in
+    let first : take k (path_of s) ≡ path_of t = sym (path-take k s within) ∙ ap (λ n. path_of (take n s)) five ∙ ap path_of (begins-take t s e) in
+    subst (λ p. is_start p (path_of s) ≡ true) first (is_start_take k (path_of s)))

@@ -1,23 +1,27 @@
 -- The longest and the shortest match of a table's entries, from the beginnings of a bit string that have values.
-use Rattle.std.proofs.Common.{◌≡◌, ℕ, ◌+◌, ◌/◌, ◌<◌, ◌≤◌, Bool, true, false, List, length, get_or, take, Option, None, Some, is_some, MatchOption, refl, sym, ap, ◌∙◌, subst, arith, inl, inr, true≢false}
+use Rattle.std.proofs.Common.{◌≡◌, ℕ, ◌+◌, ◌/◌, ◌<◌, ◌≤◌, Bool, true, false, ◌&&◌, nat_le, List, length, get_or, take, Option, None, Some, is_some, MatchOption, refl, sym, ap, ◌∙◌, subst, arith, inl, inr, true≢false}
 use Rattle.std.proofs.lemmas.Bool.{false≢true, cases_lt}
-use Rattle.std.proofs.lemmas.List.{length-take-le}
-use Rattle.std.specs.FinMap.{get, contains_key}
+use Rattle.std.proofs.lemmas.List.{length-take-le, take_all}
+use Rattle.std.proofs.lemmas.List.Elements.{filter_agree}
+use Rattle.std.specs.FinMap.{get, contains_key, keys}
 use Rattle.prefix_trie_bits.specs.Bits.{begins}
 use Rattle.prefix_trie_bits.specs.Begins.{begins-take, begins-length, take-begins}
 use Rattle.prefix_trie_bits.specs.Model.Matches.{IsMatch, longest_match, shortest_match}
 use Rattle.prefix_trie_bits.specs.Model.Step.{State}
-use Rattle.prefix_trie_bits.specs.Model.Visits.{visits}
+use Rattle.prefix_trie_bits.specs.Model.Visits.{visits, visits_of_match, visits_to_match}
 use Rattle.prefix_trie_bits.proofs.Model.Matches.{match_laws}
+use Rattle.prefix_trie_bits.proofs.Model.Members.{some-value}
+use Rattle.prefix_trie_bits.proofs.Model.Visits.{begins-within}
 use Rattle.prefix_trie_table.specs.declared.allocator.node.Node.{Node}
 use Rattle.prefix_trie_table.specs.declared.table.matching.Match.{Match}
-use Rattle.prefix_trie_table.specs.Bitmaps.{has_bit, rank}
+use Rattle.prefix_trie_table.specs.Bitmaps.{has_bit}
 use Rattle.prefix_trie_table.specs.Cells.{node_sizes, cell_sizes}
 use Rattle.prefix_trie_table.specs.Digits.{path_of, bit_of}
 use Rattle.prefix_trie_table.specs.Store.{Store}
 use Rattle.prefix_trie_table.specs.Forest.{Holds, IsTable, IsEnd, has_value}
-use Rattle.prefix_trie_table.specs.Matching.{holds_value, HasNodes, IsHeld, NoneHeld, LongestHeld, ShortestHeld}
+use Rattle.prefix_trie_table.specs.Matching.{holds_value, HasNodes, IsHeld, NoneHeld, cell_slot}
 use Rattle.prefix_trie_table.specs.Shape.{IsShapeOf}
+use Rattle.prefix_trie_table.proofs.Digits.{path-length}
 use Rattle.prefix_trie_table.proofs.Values.{value_stands}
 use Rattle.prefix_trie_table.proofs.Shapes.{shape_nodes, shape_entries}
 use Rattle.prefix_trie_table.proofs.Counted.{visits_counted}
@@ -38,7 +42,7 @@ module _ {T : Type 0} where
 
   -- the cell of a match
   abbrev pub cell_of : Store (Option T) → Match → Option T
-  cell_of w m = get_or w.slots (m.node.value_block + rank m.node.value_bitmap m.bit) None
+  cell_of w m = get_or w.slots (cell_slot m) None
 
   module _ (v : Store Node) (w : Store (Option T)) (t : IsTable v w) (s : State T) (is : IsShapeOf v.slots w.slots s) (b : List Bool) (len : ℕ) (long : len ≤ length b) where
     -- the bit string that was looked up
@@ -75,13 +79,17 @@ module _ {T : Type 0} where
     met_is before after met =
         met.2 ∙ ap (λ n. before + n) (sym (visits_counted t.reading t.paths v t.holds.hold s.nodes (shape_nodes t.reading t.values t.paths v w t.holds s is) asked met.0 met.1))
 
+    pub met_none : (before after : ℕ) → NoneHeld t.reading (take len b) 0 (len + 1) → (level : ℕ) × IsEnd t.reading (path_of (take len b)) level × (after ≡ before + (level + 1)) → after ≡ before + visits_to_match s.entries s.nodes (take len b)
+    met_none before after none met =
+        met_is before after met ∙ ap (λ o. before + visits_of_match s.nodes asked o) (sym (shortest_none none))
+
     -- a match, and its cell
     module _ (m : Match) (held : IsHeld t.reading (take len b) m.len m.bit m.node) where
-      stands_at : (get_or w.slots (m.node.value_block + rank m.node.value_bitmap m.bit) None ≡ t.values (path_of (take m.len (take len b))) m.bit) × (m.node.value_block + rank m.node.value_bitmap m.bit < length w.slots)
+      stands_at : (get_or w.slots (cell_slot m) None ≡ t.values (path_of (take m.len (take len b))) m.bit) × (cell_slot m < length w.slots)
       stands_at =
           let h = value_stands cell_sizes node_sizes t.reading t.paths v t.holds.hold t.values w t.holds.cells (path_of (take m.len asked)) m.node m.bit held.is held.set in (h.1, h.2)
 
-      pub cell_inside : m.node.value_block + rank m.node.value_bitmap m.bit < length w.slots
+      pub cell_inside : cell_slot m < length w.slots
       cell_inside = stands_at.1
 
       value_at : get s.entries (take m.len (take len b)) ≡ cell_of w m
@@ -119,6 +127,25 @@ module _ {T : Type 0} where
             | inr g ↦ omega (arith, match_length)
           ];
       })
+
+      -- the nodes met down to its own
+      own_end : IsEnd t.reading (path_of (take m.len (take len b))) (m.len / 5)
+      own_end =
+          let steps : length (path_of (take m.len asked)) ≡ m.len / 5 = path-length (take m.len asked) ∙ ap (λ n. n / 5) match_length in
+          record {
+            within = omega (arith, steps);
+            stands = ap (λ p. is_some (t.reading p)) (take_all (m.len / 5) (path_of (take m.len asked)) (omega (arith, steps))) ∙ ap is_some held.is;
+            stops = λ more. absurd (omega (arith, steps));
+          }
+
+      met_to_match : (x : T) → shortest_match s.entries (take len b) ≡ Some (take m.len (take len b), x) → visits_to_match s.entries s.nodes (take len b) ≡ m.len / 5 + 1
+      met_to_match x e =
+          ap (visits_of_match s.nodes asked) e
+          ∙ ap length (filter_agree (λ k. begins k asked && nat_le (length k) (length (take m.len asked))) (λ k. begins k (take m.len asked)) (λ k. begins-within (take m.len asked) asked k (take-begins m.len asked)) (keys s.nodes))
+          ∙ visits_counted t.reading t.paths v t.holds.hold s.nodes (shape_nodes t.reading t.values t.paths v w t.holds s is) (take m.len asked) (m.len / 5) own_end
+
+      pub met_shortest : NoneHeld t.reading (take len b) 0 m.len → visits_to_match s.entries s.nodes (take len b) ≡ m.len / 5 + 1
+      met_shortest none = let x = some-value (cell_of w m) cell_some in met_to_match x.0 (shortest_at none x.0 x.1)
 
       -- what a call hands out that reads the cell
       module _ {R : Type 0} (now : R → T) where

@@ -160,6 +160,21 @@ module _ (reading : List ℕ → Option Node) (q : List Bool) (a b c : ℕ) wher
   longest_none (Some m) low high = (low.0, none_join reading q (m.len + 1) b c low.1 high)
 
   -- what is found behind is longer
-  pub longest_or : (o later : Option Match) → LongestHeld reading q a b o → LongestHeld reading q b c later → LongestHeld reading q a c (option_or later o)
+  longest_or : (o later : Option Match) → LongestHeld reading q a b o → LongestHeld reading q b c later → LongestHeld reading q a c (option_or later o)
   longest_or o None low high = longest_none o low high
   longest_or o (Some m) low high = high
+
+  -- nothing before, and what is found behind is the first
+  pub shortest_behind : NoneHeld reading q a b → (o : Option Match) → ShortestHeld reading q b c o → ShortestHeld reading q a c o
+  shortest_behind low None high = none_join reading q a b c low high
+  shortest_behind low (Some m) high = (high.0, none_join reading q a b m.len low high.1)
+
+-- the best so far, after the node on the way was searched
+pub longest_now : (b : List Bool) (len level slot : ℕ) (node : Node) (v : Store Node) → IsOnWay b len level node slot v
+    → (reading : List ℕ → Option Node) (paths : List (List ℕ)) → NodesHold node_sizes reading paths v → (best here result : Option Match)
+    → LongestHeld reading (take len b) 0 (5 * level) best
+    → ((nodes : List ℕ → Option Node) → nodes (take level (path_of (take len b))) ≡ Some node → LongestHeld nodes (take len b) (5 * level) (5 * level + 5) here)
+    → result ≡ option_or here best → LongestHeld reading (take len b) 0 (5 * level + 5) result
+longest_now b len level slot node v at reading paths hold best here result so_far found is =
+    subst (LongestHeld reading (take len b) 0 (5 * level + 5)) (sym is)
+    (longest_or reading (take len b) 0 (5 * level) (5 * level + 5) best here so_far (found reading (on_way_is b len level slot node v at reading paths hold)))

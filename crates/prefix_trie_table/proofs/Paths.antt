@@ -45,27 +45,36 @@ snoc_not_same p c e = omega (arith, length-append p (c ∷ []), ap length e)
 
 pub times_without : (p q : List ℕ) (paths : List (List ℕ)) → 0 < times p paths → times q paths ≡ one_if (same_path q p) + times q (without p paths)
 times_without p q [] h = absurd (omega arith)
-times_without p q (x ∷ paths) h = elim (cases_Bool (same_path p x)) as (λ _. one_if (same_path q x) + times q paths ≡ one_if (same_path q p) + times q (cond (same_path p x) paths (x ∷ without p paths))) [
-  | inl hit ↦ rw hit (ap (λ y. one_if (same_path q y) + times q paths) (sym (same_path-true p x hit)))
-  | inr miss ↦
-      let more : 0 < times p paths = (let e : one_if (same_path p x) ≡ 0 = ap one_if miss in omega arith) in
-      let ih : times q paths ≡ one_if (same_path q p) + times q (without p paths) = times_without p q paths more in
-      rw miss (omega arith)
-]
+times_without p q (x ∷ paths) h = elim (cases_Bool (same_path p x)) as (λ _. one_if (same_path q x) + times q paths ≡ one_if (same_path q p) + times q
+    (cond (same_path p x) paths (x ∷ without p paths))) [
+      | inl hit ↦ rw hit (ap (λ y. one_if (same_path q y) + times q paths) (sym (same_path-true p x hit)))
+      | inr miss ↦
+          let more : 0 < times p paths = (let e : one_if (same_path p x) ≡ 0 = ap one_if miss in omega arith) in
+          let ih : times q paths ≡ one_if (same_path q p) + times q (without p paths) = times_without p q paths more in
+          rw miss (omega arith)
+    ]
 
 module _ {Y : Type 0} where
   pub swap_fronts : (xs ys zs : List Y) → IsPermutation (xs ++ (ys ++ zs)) (ys ++ (xs ++ zs))
   swap_fronts xs ys zs =
-      subst (λ us. IsPermutation us (ys ++ (xs ++ zs))) (append_assoc xs ys zs) (subst (λ us. IsPermutation ((xs ++ ys) ++ zs) us) (append_assoc ys xs zs) (IsPermutation-append_left zs (xs ++ ys) (ys ++ xs) (IsPermutation-append_comm xs ys)))
+      subst (λ us. IsPermutation us (ys ++ (xs ++ zs))) (append_assoc xs ys zs)
+      (subst (λ us. IsPermutation ((xs ++ ys) ++ zs) us) (append_assoc ys xs zs)
+      (IsPermutation-append_left zs (xs ++ ys) (ys ++ xs) (IsPermutation-append_comm xs ys)))
 
-  pub flat_map_out : (f : List ℕ → List Y) (p : List ℕ) (paths : List (List ℕ)) → 0 < times p paths → IsPermutation (flat_map f paths) (f p ++ flat_map f (without p paths))
+  pub flat_map_out : (f : List ℕ → List Y) (p : List ℕ) (paths : List (List ℕ)) → 0 < times p paths →
+      IsPermutation (flat_map f paths) (f p ++ flat_map f (without p paths))
   flat_map_out f p [] h = absurd (omega arith)
-  flat_map_out f p (x ∷ paths) h = elim (cases_Bool (same_path p x)) as (λ _. IsPermutation (f x ++ flat_map f paths) (f p ++ flat_map f (cond (same_path p x) paths (x ∷ without p paths)))) [
-    | inl hit ↦ rw hit (subst (λ y. IsPermutation (f x ++ flat_map f paths) (f y ++ flat_map f paths)) (sym (same_path-true p x hit)) (IsPermutation-refl (f x ++ flat_map f paths)))
-    | inr miss ↦
-        let more : 0 < times p paths = (let e : one_if (same_path p x) ≡ 0 = ap one_if miss in omega arith) in
-        rw miss (IsPermutation-trans (f x ++ flat_map f paths) (f x ++ (f p ++ flat_map f (without p paths))) (f p ++ (f x ++ flat_map f (without p paths))) (IsPermutation-append_right (f x) (flat_map f paths) (f p ++ flat_map f (without p paths)) (flat_map_out f p paths more)) (swap_fronts (f x) (f p) (flat_map f (without p paths))))
-  ]
+  flat_map_out f p (x ∷ paths) h = elim (cases_Bool (same_path p x)) as (λ _. IsPermutation (f x ++ flat_map f paths)
+      (f p ++ flat_map f (cond (same_path p x) paths (x ∷ without p paths)))) [
+        | inl hit ↦ rw hit (subst (λ y. IsPermutation (f x ++ flat_map f paths) (f y ++ flat_map f paths)) (sym (same_path-true p x hit))
+            (IsPermutation-refl (f x ++ flat_map f paths)))
+        | inr miss ↦
+            let more : 0 < times p paths = (let e : one_if (same_path p x) ≡ 0 = ap one_if miss in omega arith) in
+            rw miss (IsPermutation-trans (f x ++ flat_map f paths) (f x ++ (f p ++ flat_map f (without p paths)))
+            (f p ++ (f x ++ flat_map f (without p paths)))
+            (IsPermutation-append_right (f x) (flat_map f paths) (f p ++ flat_map f (without p paths)) (flat_map_out f p paths more))
+            (swap_fronts (f x) (f p) (flat_map f (without p paths))))
+      ]
 
   pub flat_map_same : (f g : List ℕ → List Y) (paths : List (List ℕ)) → ((q : List ℕ) → 0 < times q paths → g q ≡ f q) → flat_map g paths ≡ flat_map f paths
   flat_map_same f g [] same = refl

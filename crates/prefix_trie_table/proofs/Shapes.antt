@@ -27,7 +27,8 @@ use Rattle.prefix_trie_table.proofs.Children.{blank_blocks, bits-zero}
 use Rattle.prefix_trie_table.proofs.Values.{value_stands}
 
 module _ {T : Type 0} where
-  value_in-there : (cells : List (Option T)) (n : Node) (b : ℕ) → has_bit n.value_bitmap b ≡ true → value_in cells n b ≡ get_or cells (n.value_block + rank n.value_bitmap b) None
+  value_in-there : (cells : List (Option T)) (n : Node) (b : ℕ) → has_bit n.value_bitmap b ≡ true →
+      value_in cells n b ≡ get_or cells (n.value_block + rank n.value_bitmap b) None
   unfolding value_in
   value_in-there cells n b h = ap (λ s. cond s (get_or cells (n.value_block + rank n.value_bitmap b) None) None) h
 
@@ -35,7 +36,8 @@ module _ {T : Type 0} where
   unfolding value_in
   value_in-missing cells n b h = ap (λ s. cond s (get_or cells (n.value_block + rank n.value_bitmap b) None) None) h
 
-  module _ (reading : List ℕ → Option Node) (values : List ℕ → ℕ → Option T) (paths : List (List ℕ)) (v : Store Node) (w : Store (Option T)) (holds : Holds reading values paths v w) where
+  module _ (reading : List ℕ → Option Node) (values : List ℕ → ℕ → Option T) (paths : List (List ℕ)) (v : Store Node) (w : Store (Option T))
+      (holds : Holds reading values paths v w) where
     value_at_node : (q : List ℕ) (b : ℕ) (o : Option Node) → reading q ≡ o → value_of w.slots o b ≡ values q b
     value_at_node q b None e = sym (is_none-None (values q b) (holds.cells.set_where q b ∙ ap (λ o. has_value o b) e))
     value_at_node q b (Some n) e = elim (cases_Bool (has_bit n.value_bitmap b)) as (λ _. value_in w.slots n b ≡ values q b) [
@@ -43,6 +45,7 @@ module _ {T : Type 0} where
       | inr miss ↦ value_in-missing w.slots n b miss ∙ sym (is_none-None (values q b) (holds.cells.set_where q b ∙ ap (λ o. has_value o b) e ∙ miss))
     ]
 
+    -- each path reads its own node
     pub reads_node : (q : List ℕ) → read v.slots q ≡ reading q
     reads_node q = reads node_sizes reading paths v holds.hold q
 
@@ -50,12 +53,20 @@ module _ {T : Type 0} where
     pub reads_value : (q : List ℕ) (b : ℕ) → value_of w.slots (read v.slots q) b ≡ values q b
     reads_value q b = ap (λ o. value_of w.slots o b) (reads_node q) ∙ value_at_node q b (reading q) refl
 
-    pub shape_of : (s : State T) → ((q : List Bool) → has_node s.nodes q ≡ (is_node_depth q && is_some (reading (path_of q)))) → ((q : List Bool) → get s.entries q ≡ values (path_of q) (bit_of q)) → IsShapeOf v.slots w.slots s
-    shape_of s nodes entries = (λ q. nodes q ∙ ap (λ o. is_node_depth q && is_some o) (sym (reads_node (path_of q))), λ q. entries q ∙ sym (reads_value (path_of q) (bit_of q)))
+    -- what the readings give is the shape of the arrays
+    pub shape_of : (s : State T) → ((q : List Bool) → has_node s.nodes q ≡ (is_node_depth q && is_some (reading (path_of q)))) →
+        ((q : List Bool) → get s.entries q ≡ values (path_of q) (bit_of q)) → IsShapeOf v.slots w.slots s
+    shape_of s nodes entries = (
+      λ q. nodes q ∙ ap (λ o. is_node_depth q && is_some o) (sym (reads_node (path_of q))),
+      λ q. entries q
+          ∙ sym (reads_value (path_of q) (bit_of q)),
+    )
 
+    -- and the shape has these nodes
     pub shape_nodes : (s : State T) → IsShapeOf v.slots w.slots s → (q : List Bool) → has_node s.nodes q ≡ (is_node_depth q && is_some (reading (path_of q)))
     shape_nodes s is q = is.0 q ∙ ap (λ o. is_node_depth q && is_some o) (reads_node (path_of q))
 
+    -- and these entries
     pub shape_entries : (s : State T) → IsShapeOf v.slots w.slots s → (q : List Bool) → get s.entries q ≡ values (path_of q) (bit_of q)
     shape_entries s is q = is.1 q ∙ reads_value (path_of q) (bit_of q)
 
@@ -63,11 +74,16 @@ module _ {T : Type 0} where
   abbrev pub shape_with : State T → List Bool → T → State T
   shape_with s key x = record { entries = with_entry s.entries key x; nodes = with_needed s.nodes key }
 
-  module _ (reading : List ℕ → Option Node) (values : List ℕ → ℕ → Option T) (paths : List (List ℕ)) (v v2 : Store Node) (w w2 : Store (Option T)) (holds : Holds reading values paths v w) where
-    pub shape_added : (key : List Bool) (x : T) (s : State T) → IsShapeOf v.slots w.slots s → EntryAdded reading values paths (path_of key) (bit_of key) (Some x) v2 w2 → IsShapeOf v2.slots w2.slots (shape_with s key x)
+  module _ (reading : List ℕ → Option Node) (values : List ℕ → ℕ → Option T) (paths : List (List ℕ)) (v v2 : Store Node) (w w2 : Store (Option T))
+      (holds : Holds reading values paths v w) where
+    -- the shape after an entry was added
+    pub shape_added : (key : List Bool) (x : T) (s : State T) → IsShapeOf v.slots w.slots s →
+        EntryAdded reading values paths (path_of key) (bit_of key) (Some x) v2 w2 → IsShapeOf v2.slots w2.slots (shape_with s key x)
     shape_added key x s is a = shape_of a.later (with_value values (path_of key) (bit_of key) (Some x)) a.paths v2 w2 a.holds (shape_with s key x)
-      (λ q. has-with_nodes s.nodes (nodes_above key) q ∙ ap₂ (λ a b. a || b) (any-node_above q key) (shape_nodes reading values paths v w holds s is q) ∙ at_depth q (is_node_depth q) refl ∙ ap (λ t. is_node_depth q && t) (sym (a.grown (path_of q))))
-      (λ q. get-insert listing_total s.entries key x q ∙ ap₂ (λ t o. cond t (Some x) o) (same_key q key) (shape_entries reading values paths v w holds s is q))
+        (λ q. has-with_nodes s.nodes (nodes_above key) q
+        ∙ ap₂ (λ a b. a || b) (any-node_above q key) (shape_nodes reading values paths v w holds s is q) ∙ at_depth q (is_node_depth q) refl
+        ∙ ap (λ t. is_node_depth q && t) (sym (a.grown (path_of q))))
+        (λ q. get-insert listing_total s.entries key x q ∙ ap₂ (λ t o. cond t (Some x) o) (same_key q key) (shape_entries reading values paths v w holds s is q))
       where
         both : (a b c : Bool) → a ≡ c → (a || b) ≡ (b || c)
         both true true c e = refl
@@ -75,12 +91,17 @@ module _ {T : Type 0} where
         both false true c e = refl
         both false false c e = e
 
-        at_depth : (q : List Bool) (d : Bool) → is_node_depth q ≡ d → ((d && begins q key) || (d && is_some (reading (path_of q)))) ≡ (d && (is_some (reading (path_of q)) || is_start (path_of q) (path_of key)))
+        at_depth : (q : List Bool) (d : Bool) → is_node_depth q ≡ d →
+            ((d && begins q key) || (d && is_some (reading (path_of q)))) ≡ (d && (is_some (reading (path_of q)) || is_start (path_of q)
+            (path_of key)))
         at_depth q false e = refl
-        at_depth q true e = both (begins q key) (is_some (reading (path_of q))) (is_start (path_of q) (path_of key)) (sym (begins-way q key (eqb-true (length q % 5) 0 e)))
+        at_depth q true e = both (begins q key) (is_some (reading (path_of q))) (is_start (path_of q) (path_of key))
+            (sym (begins-way q key (eqb-true (length q % 5) 0 e)))
 
+    -- and where nothing was
     pub shape_kept : (s : State T) → IsShapeOf v.slots w.slots s → Holds reading values paths v2 w2 → IsShapeOf v2.slots w2.slots s
-    shape_kept s is later = shape_of reading values paths v2 w2 later s (shape_nodes reading values paths v w holds s is) (shape_entries reading values paths v w holds s is)
+    shape_kept s is later = shape_of reading values paths v2 w2 later s (shape_nodes reading values paths v w holds s is)
+        (shape_entries reading values paths v w holds s is)
 
 -- the table with the root alone
 abbrev pub root_reading : List ℕ → Option Node
@@ -92,14 +113,18 @@ root_below q c = ap (λ b. cond b (Some blank_node) None) (same_path-not (q ++ c
 root_here : root_reading [] ≡ Some blank_node
 root_here = ap (λ b. cond b (Some blank_node) None) (same_path-itself [])
 
+-- the root alone has no values
 pub root_counted : entry_count root_reading ([] ∷ []) ≡ 0
 root_counted = omega (arith, rank-zero-all)
 
 module _ {T : Type 0} where
+  -- no values at all
   abbrev pub no_values : List ℕ → ℕ → Option T
   no_values q b = None
 
-  pub root_holds : (v : Store Node) (w : Store (Option T)) → v.slots ≡ blank_node ∷ [] → v.first ≡ 1 → v.tiers ≡ map no_blocks node_sizes → Sound blank_node [] v → w.tiers ≡ map no_blocks cell_sizes → Sound None [] w → Holds root_reading no_values ([] ∷ []) v w
+  -- two new arrays hold the root alone
+  pub root_holds : (v : Store Node) (w : Store (Option T)) → v.slots ≡ blank_node ∷ [] → v.first ≡ 1 → v.tiers ≡ map no_blocks node_sizes →
+      Sound blank_node [] v → w.tiers ≡ map no_blocks cell_sizes → Sound None [] w → Holds root_reading no_values ([] ∷ []) v w
   root_holds v w slots first tiers sound cell_tiers cell_sound = record {
     hold = record {
       rooted = root_here ∙ ap (λ xs. Some (node_at xs 0)) (sym slots);
@@ -111,7 +136,9 @@ module _ {T : Type 0} where
     };
     cells = record {
       set_where = λ p b. sym (no_value (same_path p []) b);
-      sound = subst (λ bs. Sound None (bs ++ []) w) (sym (ap (value_blocks_of cell_sizes no_values []) root_here ∙ ap (λ bs. held 0 0 (size_in cell_sizes 0) (map (no_values []) bs)) bits-zero)) cell_sound;
+      sound = subst (λ bs. Sound None (bs ++ []) w)
+          (sym (ap (value_blocks_of cell_sizes no_values []) root_here
+          ∙ ap (λ bs. held 0 0 (size_in cell_sizes 0) (map (no_values []) bs)) bits-zero)) cell_sound;
       sizes_are = ap tier_sizes cell_tiers;
       within = λ p b some. absurd (false≢true some);
     };
@@ -129,13 +156,15 @@ module _ {T : Type 0} where
       count true = refl
       count false = refl
 
+  -- the shape of the root alone
   abbrev pub root_shape : State T
   root_shape = record { entries = no_entries; nodes = root_alone }
 
+  -- it is that of two new arrays
   pub shaped_root : (v : Store Node) (w : Store (Option T)) → Holds root_reading no_values ([] ∷ []) v w → IsShapeOf v.slots w.slots root_shape
   shaped_root v w holds = shape_of root_reading no_values ([] ∷ []) v w holds root_shape
-    (λ q. has-root_alone q ∙ at_root q ∙ ap (λ b. is_node_depth q && b) (either (same_path (path_of q) [])))
-    (λ q. get-empty _ q)
+      (λ q. has-root_alone q ∙ at_root q ∙ ap (λ b. is_node_depth q && b) (either (same_path (path_of q) [])))
+      (λ q. get-empty _ q)
     where
       either : (b : Bool) → b ≡ is_some (cond b (Some blank_node) None)
       either true = refl
@@ -147,21 +176,28 @@ module _ {T : Type 0} where
 
       at_root : (q : List Bool) → same_string q [] ≡ (is_node_depth q && same_path (path_of q) [])
       at_root q = same_bool _ _
-        (λ h. let e : q ≡ [] = same_string-is q [] h in subst (λ x. (is_node_depth x && same_path (path_of x) []) ≡ true) (sym e) refl)
-        (λ h. let w = and_true (is_node_depth q) (same_path (path_of q) []) h in is-same_string q [] (same_way q [] (eqb-true (length q % 5) 0 w.0) refl (same_path-true (path_of q) [] w.1)))
+          (λ h. let e : q ≡ [] = same_string-is q [] h in subst (λ x. (is_node_depth x && same_path (path_of x) []) ≡ true) (sym e) refl)
+          (λ h. let w = and_true (is_node_depth q) (same_path (path_of q) []) h in
+          is-same_string q [] (same_way q [] (eqb-true (length q % 5) 0 w.0) refl (same_path-true (path_of q) [] w.1)))
 
 -- a new table
-module _ {T : Type 0} (v : Store Node) (w : Store (Option T)) (limit : ℕ) (v_is : v ≡ record { slots = blank_node ∷ []; first = 1; tiers = map no_blocks node_sizes; limit = limit }) (v_sound : Sound blank_node [] v) (w_is : w ≡ record { slots = []; first = 0; tiers = map no_blocks cell_sizes; limit = limit }) (w_sound : Sound None [] w) where
+module _ {T : Type 0} (v : Store Node) (w : Store (Option T)) (limit : ℕ)
+    (v_is : v ≡ record { slots = blank_node ∷ []; first = 1; tiers = map no_blocks node_sizes; limit = limit }) (v_sound : Sound blank_node [] v)
+    (w_is : w ≡ record { slots = []; first = 0; tiers = map no_blocks cell_sizes; limit = limit }) (w_sound : Sound None [] w) where
   new_holds : Holds root_reading no_values ([] ∷ []) v w
   new_holds =
-      root_holds v w (ap (λ (x : Store Node). x.slots) v_is) (ap (λ (x : Store Node). x.first) v_is) (ap (λ (x : Store Node). x.tiers) v_is) v_sound (ap (λ (x : Store (Option T)). x.tiers) w_is) w_sound
+      root_holds v w (ap (λ (x : Store Node). x.slots) v_is) (ap (λ (x : Store Node). x.first) v_is) (ap (λ (x : Store Node). x.tiers) v_is) v_sound
+      (ap (λ (x : Store (Option T)). x.tiers) w_is) w_sound
 
+  -- two new arrays have the shape of the root alone
   pub new_shape : IsShapeOf v.slots w.slots root_shape
   new_shape = shaped_root v w new_holds
 
+  -- and no other
   pub new_only : (s : Shaped v.slots w.slots) → s.0 ≡ root_shape
   new_only s = same_shape v.slots w.slots s.0 root_shape s.1 new_shape
 
+  -- and are a table without entries
   pub new_table : (s : Shaped v.slots w.slots) → IsTableOf v w 0 s.0
   new_table s = record {
     held = record {
@@ -178,7 +214,8 @@ one_more c n l true e f = omega (arith, e, f)
 one_more c n l false e f = omega (arith, e, f)
 
 -- an insertion: what it leaves of the table
-module _ {T : Type 0} (key : List Bool) (x : T) (v v2 : Store Node) (w w2 : Store (Option T)) (count count2 : ℕ) (s : Shaped v.slots w.slots) (is : IsTableOf v w count s.0) where
+module _ {T : Type 0} (key : List Bool) (x : T) (v v2 : Store Node) (w w2 : Store (Option T)) (count count2 : ℕ) (s : Shaped v.slots w.slots)
+    (is : IsTableOf v w count s.0) where
   held_by : Holds is.held.table.reading is.held.table.values is.held.table.paths v w
   held_by = is.held.table.holds
 
@@ -190,8 +227,10 @@ module _ {T : Type 0} (key : List Bool) (x : T) (v v2 : Store Node) (w w2 : Stor
     abbrev pub Leaves : Result (Option T) E → Type 0
     Leaves r =
         (reading : List ℕ → Option Node) (paths : List (List ℕ)) (values : List ℕ → ℕ → Option T) → Holds reading values paths v w
-        → MatchResult r (λ before. (before ≡ values (path_of key) (bit_of key)) × EntryAdded reading values paths (path_of key) (bit_of key) (Some x) v2 w2) (λ _. Holds reading values paths v2 w2)
+        → MatchResult r (λ before. (before ≡ values (path_of key) (bit_of key)) ×
+        EntryAdded reading values paths (path_of key) (bit_of key) (Some x) v2 w2) (λ _. Holds reading values paths v2 w2)
 
+    -- what an insertion leaves of the count
     abbrev pub Counts : Result (Option T) E → Type 0
     Counts r = MatchResult r (λ before. count2 + one_if (is_some before) ≡ count + 1) (λ _. count2 ≡ count)
 
@@ -200,13 +239,18 @@ module _ {T : Type 0} (key : List Bool) (x : T) (v v2 : Store Node) (w w2 : Stor
     shape_left (Ok before) = shape_with s.0 key x
     shape_left (Err e) = s.0
 
+    -- what an insertion leaves is the shape of what it leaves of the arrays
     pub left_is : (r : Result (Option T) E) → Leaves r → IsShapeOf v2.slots w2.slots (shape_left r)
-    left_is (Ok before) left = shape_added is.held.table.reading is.held.table.values is.held.table.paths v v2 w w2 held_by key x s.0 s.1 (left is.held.table.reading is.held.table.paths is.held.table.values held_by).1
-    left_is (Err e) left = shape_kept is.held.table.reading is.held.table.values is.held.table.paths v v2 w w2 held_by s.0 s.1 (left is.held.table.reading is.held.table.paths is.held.table.values held_by)
+    left_is (Ok before) left = shape_added is.held.table.reading is.held.table.values is.held.table.paths v v2 w w2 held_by key x s.0 s.1
+        (left is.held.table.reading is.held.table.paths is.held.table.values held_by).1
+    left_is (Err e) left = shape_kept is.held.table.reading is.held.table.values is.held.table.paths v v2 w w2 held_by s.0 s.1
+        (left is.held.table.reading is.held.table.paths is.held.table.values held_by)
 
+    -- so these have a shape
     pub left_shape : (r : Result (Option T) E) → Leaves r → Shaped v2.slots w2.slots
     left_shape r left = (shape_left r, left_is r left)
 
+    -- and no other
     pub left_only : (r : Result (Option T) E) → Leaves r → (t : Shaped v2.slots w2.slots) → t.0 ≡ shape_left r
     left_only r left t = same_shape v2.slots w2.slots t.0 (shape_left r) t.1 (left_is r left)
 
@@ -215,11 +259,22 @@ module _ {T : Type 0} (key : List Bool) (x : T) (v v2 : Store Node) (w w2 : Stor
         let a = left is.held.table.reading is.held.table.paths is.held.table.values held_by in
         let had : one_if (is_some before) ≡ one_if (is_some (is.held.table.values (path_of key) (bit_of key))) = ap (λ o. one_if (is_some o)) a.0 in
         record {
-          table = record { reading = a.1.later; values = with_value is.held.table.values (path_of key) (bit_of key) (Some x); paths = a.1.paths; holds = a.1.holds };
+          table = record {
+            reading = a.1.later;
+            values = with_value is.held.table.values (path_of key) (bit_of key) (Some x);
+            paths = a.1.paths;
+            holds = a.1.holds;
+          };
           counted = (let n = a.1.counted in let h = is.held.counted in omega (arith, n, h, had, counts));
         }
     counted_left (Err e) left counts = record {
-      table = record { reading = is.held.table.reading; values = is.held.table.values; paths = is.held.table.paths; holds = left is.held.table.reading is.held.table.paths is.held.table.values held_by };
+      table = record {
+        reading = is.held.table.reading;
+        values = is.held.table.values;
+        paths = is.held.table.paths;
+        holds =
+            left is.held.table.reading is.held.table.paths is.held.table.values held_by;
+      };
       counted = counts ∙ is.held.counted;
     }
 
@@ -227,28 +282,35 @@ module _ {T : Type 0} (key : List Bool) (x : T) (v v2 : Store Node) (w w2 : Stor
     sized_left (Ok before) left counts =
         let a = left is.held.table.reading is.held.table.paths is.held.table.values held_by in
         let had : is_some before ≡ contains_key s.0.entries key = ap is_some (a.0 ∙ sym entry_is) in
-        one_more count count2 (len s.0.entries) (is_some before) is.sized counts ∙ ap (λ b. cond b (len s.0.entries) (len s.0.entries + 1)) had ∙ sym (len-insert listing_total s.0.entries key x)
+        one_more count count2 (len s.0.entries) (is_some before) is.sized counts ∙ ap (λ b. cond b (len s.0.entries) (len s.0.entries + 1)) had
+        ∙ sym (len-insert listing_total s.0.entries key x)
     sized_left (Err e) left counts = counts ∙ is.sized
 
-    pub table_left : (r : Result (Option T) E) → Leaves r → Counts r → Grows v v2 56 → Grows w w2 31 → (t : Shaped v2.slots w2.slots) → IsTableOf v2 w2 count2 t.0
+    -- and are a table
+    pub table_left : (r : Result (Option T) E) → Leaves r → Counts r → Grows v v2 56 → Grows w w2 31 → (t : Shaped v2.slots w2.slots) →
+        IsTableOf v2 w2 count2 t.0
     table_left r left counts nodes cells t = record {
       held = counted_left r left counts;
       sized = sized_left r left counts ∙ ap (λ (y : State T). len y.entries) (sym (left_only r left t));
       one_limit = cells.limit_is ∙ is.one_limit ∙ sym nodes.limit_is;
     }
 
+    -- the answer is the value that was there
     pub before_left : (r : Result (Option T) E) → Leaves r → IfOk r (λ before. before ≡ get s.0.entries key)
     before_left (Ok before) left = (left is.held.table.reading is.held.table.paths is.held.table.values held_by).0 ∙ sym entry_is
     before_left (Err e) left = tt
 
+    -- the entries that an insertion leaves
     pub entries_left : (r : Result (Option T) E) → Leaves r → (t : Shaped v2.slots w2.slots) → OnOk r (t.0.entries ≡ with_entry s.0.entries key x)
     entries_left (Ok before) left t = ap (λ (y : State T). y.entries) (left_only (Ok before) left t)
     entries_left (Err e) left t = tt
 
+    -- the nodes that it leaves
     pub nodes_left : (r : Result (Option T) E) → Leaves r → (t : Shaped v2.slots w2.slots) → OnOk r (t.0.nodes ≡ with_needed s.0.nodes key)
     nodes_left (Ok before) left t = ap (λ (y : State T). y.nodes) (left_only (Ok before) left t)
     nodes_left (Err e) left t = tt
 
+    -- a refused insertion leaves both as they were
     pub same_left : (r : Result (Option T) E) → Leaves r → (t : Shaped v2.slots w2.slots) → OnErr r ((t.0.entries ≡ s.0.entries) × (t.0.nodes ≡ s.0.nodes))
     same_left (Ok before) left t = tt
     same_left (Err e) left t = (ap (λ (y : State T). y.entries) (left_only (Err e) left t), ap (λ (y : State T). y.nodes) (left_only (Err e) left t))

@@ -19,6 +19,7 @@ pub held_some : {S : Type 0} (k start size : ℕ) (xs : List S) → 0 < length x
 held_some k start size [] h = absurd (omega arith)
 held_some k start size (x ∷ xs) h = refl
 
+-- a list without items has no block
 pub held_none : {S : Type 0} (k start size : ℕ) (xs : List S) → length xs ≡ 0 → held k start size xs ≡ []
 held_none k start size [] h = refl
 held_none k start size (x ∷ xs) h = absurd (omega arith)
@@ -28,10 +29,12 @@ read_from-snoc nodes at [] c = refl
 read_from-snoc nodes at (x ∷ p) c = read_from-snoc nodes (below nodes at x) p c
 
 module _ (nodes : List Node) where
+  -- the empty path leads to the root
   pub read-nil : read nodes [] ≡ Some (node_at nodes 0)
   unfolding read
   read-nil = refl
 
+  -- a step more leads to a child
   pub read-snoc : (p : List ℕ) (c : ℕ) → read nodes (p ++ c ∷ []) ≡ below nodes (read nodes p) c
   unfolding read
   read-snoc p c = read_from-snoc nodes (Some (node_at nodes 0)) p c
@@ -54,13 +57,19 @@ is_some-Some (Some x) h = refl
 
 -- the blocks of all nodes, with those of one node first
 module _ (sizes : List ℕ) (nodes : List ℕ → Option Node) (paths : List (List ℕ)) where
-  pub node_first : {S : Type 0} (vacant : S) (f : List ℕ → List (Block S)) (v : Store S) (p : List ℕ) → 0 < times p paths → Sound vacant (flat_map f paths) v → Sound vacant (f p ++ flat_map f (without p paths)) v
+  -- the blocks of one node can be put first
+  pub node_first : {S : Type 0} (vacant : S) (f : List ℕ → List (Block S)) (v : Store S) (p : List ℕ) → 0 < times p paths →
+      Sound vacant (flat_map f paths) v → Sound vacant (f p ++ flat_map f (without p paths)) v
   node_first vacant f v p h s = Sound-permuted vacant (flat_map f paths) (f p ++ flat_map f (without p paths)) v (flat_map_out f p paths h) s
 
-  pub node_back : {S : Type 0} (vacant : S) (f : List ℕ → List (Block S)) (v : Store S) (p : List ℕ) → 0 < times p paths → Sound vacant (f p ++ flat_map f (without p paths)) v → Sound vacant (flat_map f paths) v
-  node_back vacant f v p h s = Sound-permuted vacant (f p ++ flat_map f (without p paths)) (flat_map f paths) v (IsPermutation-sym (flat_map f paths) (f p ++ flat_map f (without p paths)) (flat_map_out f p paths h)) s
+  -- and back
+  pub node_back : {S : Type 0} (vacant : S) (f : List ℕ → List (Block S)) (v : Store S) (p : List ℕ) → 0 < times p paths →
+      Sound vacant (f p ++ flat_map f (without p paths)) v → Sound vacant (flat_map f paths) v
+  node_back vacant f v p h s = Sound-permuted vacant (f p ++ flat_map f (without p paths)) (flat_map f paths) v
+      (IsPermutation-sym (flat_map f paths) (f p ++ flat_map f (without p paths)) (flat_map_out f p paths h)) s
 
 module _ (sizes : List ℕ) (nodes : List ℕ → Option Node) (paths : List (List ℕ)) (v : Store Node) (hold : NodesHold sizes nodes paths v) where
+  -- the path of a node is listed once
   pub listed_once : (p : List ℕ) (n : Node) → nodes p ≡ Some n → times p paths ≡ 1
   listed_once p n e = hold.listed p ∙ ap (λ o. one_if (is_some o)) e
 
@@ -69,36 +78,51 @@ module _ (sizes : List ℕ) (nodes : List ℕ → Option Node) (paths : List (Li
   block_of p n = block n.child_tier n.child_block (size_in sizes n.child_tier) (child_items nodes p n.child_bitmap)
 
   -- a node's own blocks first
-  pub own_first : (p : List ℕ) (n : Node) → nodes p ≡ Some n → Sound blank_node (held n.child_tier n.child_block (size_in sizes n.child_tier) (child_items nodes p n.child_bitmap) ++ flat_map (child_blocks sizes nodes) (without p paths)) v
+  pub own_first : (p : List ℕ) (n : Node) → nodes p ≡ Some n →
+      Sound blank_node (held n.child_tier n.child_block (size_in sizes n.child_tier) (child_items nodes p n.child_bitmap) ++ flat_map
+      (child_blocks sizes nodes) (without p paths)) v
   own_first p n e =
       let h : 0 < times p paths = (let t = listed_once p n e in omega arith) in
-      subst (λ o. Sound blank_node (child_blocks_of sizes nodes p o ++ flat_map (child_blocks sizes nodes) (without p paths)) v) e (node_first sizes nodes paths blank_node (child_blocks sizes nodes) v p h hold.sound)
+      subst (λ o. Sound blank_node (child_blocks_of sizes nodes p o ++ flat_map (child_blocks sizes nodes) (without p paths)) v) e
+      (node_first sizes nodes paths blank_node (child_blocks sizes nodes) v p h hold.sound)
 
-  pub block_first : (p : List ℕ) (n : Node) → nodes p ≡ Some n → 0 < length (child_items nodes p n.child_bitmap) → Sound blank_node (block_of p n ∷ flat_map (child_blocks sizes nodes) (without p paths)) v
+  -- the children's block of one node, first among all
+  pub block_first : (p : List ℕ) (n : Node) → nodes p ≡ Some n → 0 < length (child_items nodes p n.child_bitmap) →
+      Sound blank_node (block_of p n ∷ flat_map (child_blocks sizes nodes) (without p paths)) v
   block_first p n e h =
-      subst (λ bs. Sound blank_node (bs ++ flat_map (child_blocks sizes nodes) (without p paths)) v) (held_some n.child_tier n.child_block (size_in sizes n.child_tier) (child_items nodes p n.child_bitmap) h) (own_first p n e)
+      subst (λ bs. Sound blank_node (bs ++ flat_map (child_blocks sizes nodes) (without p paths)) v)
+      (held_some n.child_tier n.child_block (size_in sizes n.child_tier) (child_items nodes p n.child_bitmap) h) (own_first p n e)
 
   -- where a child stands
   pub child_stands : (p : List ℕ) (n : Node) (c : ℕ) → nodes p ≡ Some n → has_bit n.child_bitmap c ≡ true
-      → (rank n.child_bitmap c < length (child_items nodes p n.child_bitmap)) × (node_at v.slots (child_slot n c) ≡ node_or_blank (nodes (p ++ c ∷ []))) × (child_slot n c < length v.slots) × (0 < child_slot n c)
+      → (rank n.child_bitmap c < length (child_items nodes p n.child_bitmap)) ×
+      (node_at v.slots (child_slot n c) ≡ node_or_blank (nodes (p ++ c ∷ []))) × (child_slot n c < length v.slots) × (0 < child_slot n c)
   child_stands p n c e bit =
       let f : ℕ → Node = λ d. node_or_blank (nodes (p ++ d ∷ [])) in
       let g = map_get f n.child_bitmap c blank_node (has_bit-below n.child_bitmap c bit) bit in
       let s : Sound blank_node (block_of p n ∷ flat_map (child_blocks sizes nodes) (without p paths)) v = block_first p n e (let x = g.0 in omega arith) in
       let w = block_inside blank_node (block_of p n) (flat_map (child_blocks sizes nodes) (without p paths)) v s in
-      let fits : length (child_items nodes p n.child_bitmap) ≤ size_in sizes n.child_tier = fits_block blank_node (block_of p n) (flat_map (child_blocks sizes nodes) (without p paths)) v s in
-      (g.0, slot_of_block blank_node (block_of p n) (flat_map (child_blocks sizes nodes) (without p paths)) v (rank n.child_bitmap c) blank_node g.0 s ∙ g.1, (let x = g.0 in let y = w.before in omega arith), (let x = w.after in let y = hold.first_is in omega arith))
+      let fits : length (child_items nodes p n.child_bitmap) ≤ size_in sizes n.child_tier =
+      fits_block blank_node (block_of p n) (flat_map (child_blocks sizes nodes) (without p paths)) v s in (
+        g.0,
+        slot_of_block blank_node (block_of p n) (flat_map (child_blocks sizes nodes) (without p paths)) v (rank n.child_bitmap c) blank_node g.0 s
+            ∙ g.1,
+        (let x = g.0 in let y = w.before in omega arith),
+        (let x = w.after in let y = hold.first_is in omega arith),
+      )
 
   reads_below : (q : List ℕ) (c : ℕ) (o : Option Node) → nodes q ≡ o → below v.slots o c ≡ nodes (q ++ c ∷ [])
   reads_below q c None e = sym (is_none-None (nodes (q ++ c ∷ [])) (hold.linked q c ∙ ap (λ o. has_child o c) e))
   reads_below q c (Some n) e = elim (cases_Bool (has_bit n.child_bitmap c)) as (λ _. child v.slots n c ≡ nodes (q ++ c ∷ [])) [
-    | inl hit ↦ child-there v.slots n c hit ∙ ap Some (child_stands q n c e hit).1 ∙ sym (is_some-Some (nodes (q ++ c ∷ [])) (hold.linked q c ∙ ap (λ o. has_child o c) e ∙ hit))
+    | inl hit ↦ child-there v.slots n c hit ∙ ap Some (child_stands q n c e hit).1
+        ∙ sym (is_some-Some (nodes (q ++ c ∷ [])) (hold.linked q c ∙ ap (λ o. has_child o c) e ∙ hit))
     | inr miss ↦ child-missing v.slots n c miss ∙ sym (is_none-None (nodes (q ++ c ∷ [])) (hold.linked q c ∙ ap (λ o. has_child o c) e ∙ miss))
   ]
 
   -- each path leads through the array to its node
   pub reads : (q : List ℕ) → read v.slots q ≡ nodes q
-  reads = snoc_ind (λ q. read v.slots q ≡ nodes q) (read-nil v.slots ∙ sym hold.rooted) (λ q c ih. read-snoc v.slots q c ∙ ap (λ o. below v.slots o c) ih ∙ reads_below q c (nodes q) refl)
+  reads = snoc_ind (λ q. read v.slots q ≡ nodes q) (read-nil v.slots ∙ sym hold.rooted)
+      (λ q c ih. read-snoc v.slots q c ∙ ap (λ o. below v.slots o c) ih ∙ reads_below q c (nodes q) refl)
 
   -- what stands at a slot
   pub slot_holds : (p : List ℕ) (s : ℕ) (n : Node) → IsSlot nodes p s → nodes p ≡ Some n → (node_at v.slots s ≡ n) × (s < length v.slots)
@@ -108,12 +132,17 @@ module _ (sizes : List ℕ) (nodes : List ℕ → Option Node) (paths : List (Li
   slot_holds p s n (at_child q c m is bit) e = let w = child_stands q m c is bit in (w.1 ∙ ap node_or_blank e, w.2)
 
 -- a node whose children are the same
-child_blocks_of-same : (sizes : List ℕ) (nodes later : List ℕ → Option Node) (q : List ℕ) (o : Option Node) → ((c : ℕ) → later (q ++ c ∷ []) ≡ nodes (q ++ c ∷ [])) → child_blocks_of sizes later q o ≡ child_blocks_of sizes nodes q o
+child_blocks_of-same : (sizes : List ℕ) (nodes later : List ℕ → Option Node) (q : List ℕ) (o : Option Node) →
+    ((c : ℕ) → later (q ++ c ∷ []) ≡ nodes (q ++ c ∷ [])) → child_blocks_of sizes later q o ≡ child_blocks_of sizes nodes q o
 child_blocks_of-same sizes nodes later q None below = refl
 child_blocks_of-same sizes nodes later q (Some n) below =
-    ap (held n.child_tier n.child_block (size_in sizes n.child_tier)) (map_same (λ c. node_or_blank (nodes (q ++ c ∷ []))) (λ c. node_or_blank (later (q ++ c ∷ []))) n.child_bitmap n.child_bitmap (λ i. refl) (λ c. ap node_or_blank (below c)))
+    ap (held n.child_tier n.child_block (size_in sizes n.child_tier))
+    (map_same (λ c. node_or_blank (nodes (q ++ c ∷ []))) (λ c. node_or_blank (later (q ++ c ∷ []))) n.child_bitmap n.child_bitmap (λ i. refl)
+    (λ c. ap node_or_blank (below c)))
 
-pub child_blocks-same : (sizes : List ℕ) (nodes later : List ℕ → Option Node) (q : List ℕ) → later q ≡ nodes q → ((c : ℕ) → later (q ++ c ∷ []) ≡ nodes (q ++ c ∷ [])) → child_blocks sizes later q ≡ child_blocks sizes nodes q
+-- the same node and the same children have the same block
+pub child_blocks-same : (sizes : List ℕ) (nodes later : List ℕ → Option Node) (q : List ℕ) → later q ≡ nodes q →
+    ((c : ℕ) → later (q ++ c ∷ []) ≡ nodes (q ++ c ∷ [])) → child_blocks sizes later q ≡ child_blocks sizes nodes q
 child_blocks-same sizes nodes later q here below =
     ap (child_blocks_of sizes later q) here ∙ child_blocks_of-same sizes nodes later q (nodes q) below
 
@@ -139,8 +168,11 @@ module _ (sizes : List ℕ) (nodes : List ℕ → Option Node) (paths : List (Li
       → Sound blank_node (own ++ flat_map (child_blocks sizes nodes) rest) u
       → Sound blank_node (own ++ flat_map (child_blocks sizes later) rest) (record u { slots = set u.slots s m })
   node_set rest p s n m later own u parents (at_root) is first kept under here sound =
-      let same : flat_map (child_blocks sizes later) rest ≡ flat_map (child_blocks sizes nodes) rest = flat_map_same (child_blocks sizes nodes) (child_blocks sizes later) rest (λ q h. child_blocks-same sizes nodes later q (kept q h) (λ c. under q c h (snoc_not_nil q c))) in
-      subst (λ bs. Sound blank_node (own ++ bs) (record u { slots = set u.slots 0 m })) (sym same) (Sound-set_before blank_node (own ++ flat_map (child_blocks sizes nodes) rest) u 0 m (omega arith) sound)
+      let same : flat_map (child_blocks sizes later) rest ≡ flat_map (child_blocks sizes nodes) rest =
+      flat_map_same (child_blocks sizes nodes) (child_blocks sizes later) rest
+      (λ q h. child_blocks-same sizes nodes later q (kept q h) (λ c. under q c h (snoc_not_nil q c))) in
+      subst (λ bs. Sound blank_node (own ++ bs) (record u { slots = set u.slots 0 m })) (sym same)
+      (Sound-set_before blank_node (own ++ flat_map (child_blocks sizes nodes) rest) u 0 m (omega arith) sound)
   node_set rest p s n m later own u parents (at_child q c k parent bit) is first kept under here sound =
       let twice : List (List ℕ) = without q rest in
       let in_rest : times q rest ≡ 1 = parents q c refl in
@@ -150,16 +182,40 @@ module _ (sizes : List ℕ) (nodes : List ℕ → Option Node) (paths : List (Li
       let start = child_stands sizes nodes paths v hold q k c parent bit in
       let items : List Node = child_items nodes q k.child_bitmap in
       let b : Block Node = block k.child_tier k.child_block (size_in sizes k.child_tier) (child_items nodes q k.child_bitmap) in
-      let b' : Block Node = block k.child_tier k.child_block (size_in sizes k.child_tier) (set (child_items nodes q k.child_bitmap) (rank k.child_bitmap c) m) in
-      let f_is : child_blocks sizes nodes q ≡ b ∷ [] = ap (child_blocks_of sizes nodes q) parent ∙ held_some k.child_tier k.child_block (size_in sizes k.child_tier) (child_items nodes q k.child_bitmap) (let x = start.0 in omega arith) in
-      let items_are : child_items later q k.child_bitmap ≡ set (child_items nodes q k.child_bitmap) (rank k.child_bitmap c) m = map_set (λ d. node_or_blank (nodes (q ++ d ∷ []))) (λ d. node_or_blank (later (q ++ d ∷ []))) k.child_bitmap c (has_bit-below k.child_bitmap c bit) bit (λ i ne. ap node_or_blank (under q i there (λ e. ne (snoc_inj q q i c e).1))) ∙ ap (λ y. set (child_items nodes q k.child_bitmap) (rank k.child_bitmap c) (node_or_blank y)) here in
-      let g_is : child_blocks sizes later q ≡ b' ∷ [] = ap (child_blocks_of sizes later q) (kept q there ∙ parent) ∙ ap (held k.child_tier k.child_block (size_in sizes k.child_tier)) items_are ∙ held_some k.child_tier k.child_block (size_in sizes k.child_tier) (set (child_items nodes q k.child_bitmap) (rank k.child_bitmap c) m) (let x = start.0 in let l = length-set (child_items nodes q k.child_bitmap) (rank k.child_bitmap c) m in omega arith) in
-      let tail_is : flat_map (child_blocks sizes later) twice ≡ flat_map (child_blocks sizes nodes) twice = flat_map_same (child_blocks sizes nodes) (child_blocks sizes later) twice (λ x h.
-        let in_rest_x : 0 < times x rest = (let e = times_without q x rest there in omega arith) in
-        child_blocks-same sizes nodes later x (kept x in_rest_x) (λ d. under x d in_rest_x (λ e. let z : times x twice ≡ 0 = ap (λ y. times y twice) (snoc_inj x q d c e).0 ∙ times_out_same q rest in_rest in absurd (omega arith)))) in
-      let out : (f : List ℕ → List (Block Node)) → IsPermutation (own ++ flat_map f rest) (f q ++ (own ++ flat_map f twice)) = λ f. IsPermutation-trans (own ++ flat_map f rest) (own ++ (f q ++ flat_map f twice)) (f q ++ (own ++ flat_map f twice)) (IsPermutation-append_right own (flat_map f rest) (f q ++ flat_map f twice) (flat_map_out f q rest there)) (swap_fronts own (f q) (flat_map f twice)) in
-      let front : Sound blank_node (b ∷ (own ++ flat_map (child_blocks sizes nodes) twice)) u = subst (λ bs. Sound blank_node (bs ++ (own ++ flat_map (child_blocks sizes nodes) twice)) u) f_is (Sound-permuted blank_node (own ++ flat_map (child_blocks sizes nodes) rest) (child_blocks sizes nodes q ++ (own ++ flat_map (child_blocks sizes nodes) twice)) u (out (child_blocks sizes nodes)) sound) in
+      let b' : Block Node = block k.child_tier k.child_block (size_in sizes k.child_tier)
+      (set (child_items nodes q k.child_bitmap) (rank k.child_bitmap c) m) in
+      let f_is : child_blocks sizes nodes q ≡ b ∷ [] = ap (child_blocks_of sizes nodes q) parent
+      ∙ held_some k.child_tier k.child_block (size_in sizes k.child_tier) (child_items nodes q k.child_bitmap) (let x = start.0 in omega arith) in
+      let items_are : child_items later q k.child_bitmap ≡ set (child_items nodes q k.child_bitmap) (rank k.child_bitmap c) m =
+      map_set (λ d. node_or_blank (nodes (q ++ d ∷ []))) (λ d. node_or_blank (later (q ++ d ∷ []))) k.child_bitmap c
+      (has_bit-below k.child_bitmap c bit) bit (λ i ne. ap node_or_blank (under q i there (λ e. ne (snoc_inj q q i c e).1)))
+      ∙ ap (λ y. set (child_items nodes q k.child_bitmap) (rank k.child_bitmap c) (node_or_blank y)) here in
+      let g_is : child_blocks sizes later q ≡ b' ∷ [] = ap (child_blocks_of sizes later q) (kept q there ∙ parent)
+      ∙ ap (held k.child_tier k.child_block (size_in sizes k.child_tier)) items_are
+      ∙ held_some k.child_tier k.child_block (size_in sizes k.child_tier) (set (child_items nodes q k.child_bitmap) (rank k.child_bitmap c) m)
+      (let x = start.0 in let l = length-set (child_items nodes q k.child_bitmap) (rank k.child_bitmap c) m in omega arith) in
+      let tail_is : flat_map (child_blocks sizes later) twice ≡ flat_map (child_blocks sizes nodes) twice =
+      flat_map_same (child_blocks sizes nodes) (child_blocks sizes later) twice (λ x h.
+      let in_rest_x : 0 < times x rest = (let e = times_without q x rest there in omega arith) in
+      child_blocks-same sizes nodes later x (kept x in_rest_x)
+      (λ d. under x d in_rest_x (λ e. let z : times x twice ≡ 0 = ap (λ y. times y twice) (snoc_inj x q d c e).0
+      ∙ times_out_same q rest in_rest in absurd (omega arith)))) in
+      let out : (f : List ℕ → List (Block Node)) →
+      IsPermutation (own ++ flat_map f rest) (f q ++ (own ++ flat_map f twice)) =
+      λ f. IsPermutation-trans (own ++ flat_map f rest) (own ++ (f q ++ flat_map f twice)) (f q ++ (own ++ flat_map f twice))
+      (IsPermutation-append_right own (flat_map f rest) (f q ++ flat_map f twice) (flat_map_out f q rest there))
+      (swap_fronts own (f q) (flat_map f twice)) in
+      let front : Sound blank_node (b ∷ (own ++ flat_map (child_blocks sizes nodes) twice)) u =
+      subst (λ bs. Sound blank_node (bs ++ (own ++ flat_map (child_blocks sizes nodes) twice)) u) f_is
+      (Sound-permuted blank_node (own ++ flat_map (child_blocks sizes nodes) rest)
+      (child_blocks sizes nodes q ++ (own ++ flat_map (child_blocks sizes nodes) twice)) u (out (child_blocks sizes nodes)) sound) in
       let w : Store Node = record u { slots = set u.slots (child_slot k c) m } in
-      let written : Sound blank_node (b' ∷ (own ++ flat_map (child_blocks sizes nodes) twice)) w = Sound-set blank_node b (own ++ flat_map (child_blocks sizes nodes) twice) u (rank k.child_bitmap c) m start.0 front in
-      let renamed : Sound blank_node (child_blocks sizes later q ++ (own ++ flat_map (child_blocks sizes later) twice)) w = subst (λ bs. Sound blank_node (bs ++ (own ++ flat_map (child_blocks sizes later) twice)) w) (sym g_is) (subst (λ bs. Sound blank_node (b' ∷ (own ++ bs)) w) (sym tail_is) written) in
-      Sound-permuted blank_node (child_blocks sizes later q ++ (own ++ flat_map (child_blocks sizes later) twice)) (own ++ flat_map (child_blocks sizes later) rest) w (IsPermutation-sym (own ++ flat_map (child_blocks sizes later) rest) (child_blocks sizes later q ++ (own ++ flat_map (child_blocks sizes later) twice)) (out (child_blocks sizes later))) renamed
+      let written : Sound blank_node (b' ∷ (own ++ flat_map (child_blocks sizes nodes) twice)) w =
+      Sound-set blank_node b (own ++ flat_map (child_blocks sizes nodes) twice) u (rank k.child_bitmap c) m start.0 front in
+      let renamed : Sound blank_node (child_blocks sizes later q ++ (own ++ flat_map (child_blocks sizes later) twice)) w =
+      subst (λ bs. Sound blank_node (bs ++ (own ++ flat_map (child_blocks sizes later) twice)) w) (sym g_is)
+      (subst (λ bs. Sound blank_node (b' ∷ (own ++ bs)) w) (sym tail_is) written) in
+      Sound-permuted blank_node (child_blocks sizes later q ++ (own ++ flat_map (child_blocks sizes later) twice))
+      (own ++ flat_map (child_blocks sizes later) rest) w
+      (IsPermutation-sym (own ++ flat_map (child_blocks sizes later) rest)
+      (child_blocks sizes later q ++ (own ++ flat_map (child_blocks sizes later) twice)) (out (child_blocks sizes later))) renamed

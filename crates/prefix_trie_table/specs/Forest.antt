@@ -13,13 +13,16 @@ use Rattle.prefix_trie_table.specs.Store.{Tier, Store, Block, Sound, block, IsRe
 abbrev pub child_slot : Node → ℕ → ℕ
 child_slot n c = n.child_block + rank n.child_bitmap c
 
+-- the child c of a node, if it is there
 unfoldable pub child : List Node → Node → ℕ → Option Node
 child nodes n c = cond (has_bit n.child_bitmap c) (Some (node_at nodes (child_slot n c))) None
 
+-- the same of a node that may be missing
 abbrev pub below : List Node → Option Node → ℕ → Option Node
 below nodes None c = None
 below nodes (Some n) c = child nodes n c
 
+-- the node that the steps lead to from another
 abbrev pub read_from : List Node → Option Node → List ℕ → Option Node
 read_from nodes at [] = at
 read_from nodes at (c ∷ cs) = read_from nodes (below nodes at c) cs
@@ -28,9 +31,11 @@ read_from nodes at (c ∷ cs) = read_from nodes (below nodes at c) cs
 unfoldable pub read : List Node → List ℕ → Option Node
 read nodes path = read_from nodes (Some (node_at nodes 0)) path
 
+-- whether two paths are the same
 abbrev pub same_path : List ℕ → List ℕ → Bool
 same_path q k = eq_by_cmp (slice_cmp nat_cmp) q k
 
+-- 1 where it holds, and else 0
 abbrev pub one_if : Bool → ℕ
 one_if true = 1
 one_if false = 0
@@ -45,6 +50,7 @@ abbrev pub without : List ℕ → List (List ℕ) → List (List ℕ)
 without p [] = []
 without p (q ∷ qs) = cond (same_path p q) qs (q ∷ without p qs)
 
+-- the node, or a blank one where there is none
 abbrev pub node_or_blank : Option Node → Node
 node_or_blank None = blank_node
 node_or_blank (Some n) = n
@@ -54,6 +60,7 @@ abbrev pub has_child : Option Node → ℕ → Bool
 has_child None c = false
 has_child (Some n) c = has_bit n.child_bitmap c
 
+-- whether a node has a value at bit b
 abbrev pub has_value : Option Node → ℕ → Bool
 has_value None b = false
 has_value (Some n) b = has_bit n.value_bitmap b
@@ -62,6 +69,7 @@ has_value (Some n) b = has_bit n.value_bitmap b
 abbrev pub child_items : (List ℕ → Option Node) → List ℕ → ℕ → List Node
 child_items nodes p bitmap = map (λ c. node_or_blank (nodes (p ++ c ∷ []))) (bits bitmap)
 
+-- the block of children of a node, if it is there and has children
 abbrev pub child_blocks_of : List ℕ → (List ℕ → Option Node) → List ℕ → Option Node → List (Block Node)
 child_blocks_of sizes nodes p None = []
 child_blocks_of sizes nodes p (Some n) = held n.child_tier n.child_block (size_in sizes n.child_tier) (child_items nodes p n.child_bitmap)
@@ -85,6 +93,7 @@ pub record NodesHold (sizes : List ℕ) (nodes : List ℕ → Option Node) (path
   pub sizes_are : tier_sizes v.tiers ≡ sizes
 
 module _ {T : Type 0} where
+  -- the block of values of a node, if it is there and has values
   abbrev pub value_blocks_of : List ℕ → (List ℕ → ℕ → Option T) → List ℕ → Option Node → List (Block (Option T))
   value_blocks_of sizes values p None = []
   value_blocks_of sizes values p (Some n) = held n.value_tier n.value_block (size_in sizes n.value_tier) (map (values p) (bits n.value_bitmap))
@@ -94,7 +103,8 @@ module _ {T : Type 0} where
   value_blocks sizes nodes values p = value_blocks_of sizes values p (nodes p)
 
   -- the array holds the values of these nodes, and nothing else
-  pub record CellsHold (sizes : List ℕ) (nodes : List ℕ → Option Node) (values : List ℕ → ℕ → Option T) (paths : List (List ℕ)) (w : Store (Option T)) : Type 0 where
+  pub record CellsHold (sizes : List ℕ) (nodes : List ℕ → Option Node) (values : List ℕ → ℕ → Option T) (paths : List (List ℕ))
+      (w : Store (Option T)) : Type 0 where
     pub set_where : (p : List ℕ) (b : ℕ) → is_some (values p b) ≡ has_value (nodes p) b
     pub sound : Sound None (flat_map (value_blocks sizes nodes values) paths) w
     pub sizes_are : tier_sizes w.tiers ≡ sizes
@@ -161,7 +171,8 @@ entry_count nodes [] = 0
 entry_count nodes (p ∷ ps) = own_count (nodes p) + entry_count nodes ps
 
 -- the node at p has another value at bit b
-pub record ValueSet {T : Type 0} (reading : List ℕ → Option Node) (paths : List (List ℕ)) (values : List ℕ → ℕ → Option T) (p : List ℕ) (b : ℕ) (x : Option T) (v : Store Node) (w : Store (Option T)) : Type 0 where
+pub record ValueSet {T : Type 0} (reading : List ℕ → Option Node) (paths : List (List ℕ)) (values : List ℕ → ℕ → Option T) (p : List ℕ) (b : ℕ)
+    (x : Option T) (v : Store Node) (w : Store (Option T)) : Type 0 where
   pub node : Node
   pub hold : NodesHold node_sizes (with_node reading p node) paths v
   pub cells : CellsHold cell_sizes (with_node reading p node) (with_value values p b x) paths w
@@ -189,7 +200,8 @@ abbrev pub is_start : List ℕ → List ℕ → Bool
 is_start q path = list_any (same_path q) (starts path)
 
 -- the nodes and the values hold what a table has
-pub record Holds {T : Type 0} (reading : List ℕ → Option Node) (values : List ℕ → ℕ → Option T) (paths : List (List ℕ)) (v : Store Node) (w : Store (Option T)) : Type 0 where
+pub record Holds {T : Type 0} (reading : List ℕ → Option Node) (values : List ℕ → ℕ → Option T) (paths : List (List ℕ)) (v : Store Node)
+    (w : Store (Option T)) : Type 0 where
   pub hold : NodesHold node_sizes reading paths v
   pub cells : CellsHold cell_sizes reading values paths w
 
@@ -211,7 +223,8 @@ pub record ValueReady {T : Type 0} (n : Node) (w : Store (Option T)) (b : ℕ) :
   pub missing : has_bit n.value_bitmap b ≡ false
 
 -- the nodes on the beginning of a path of so many digits were added, and the last stands at a slot
-pub record Walked {T : Type 0} (reading : List ℕ → Option Node) (values : List ℕ → ℕ → Option T) (before : List (List ℕ)) (path : List ℕ) (depth slot : ℕ) (v : Store Node) (w : Store (Option T)) : Type 0 where
+pub record Walked {T : Type 0} (reading : List ℕ → Option Node) (values : List ℕ → ℕ → Option T) (before : List (List ℕ)) (path : List ℕ)
+    (depth slot : ℕ) (v : Store Node) (w : Store (Option T)) : Type 0 where
   pub later : List ℕ → Option Node
   pub paths : List (List ℕ)
   pub holds : Holds later values paths v w
@@ -220,7 +233,8 @@ pub record Walked {T : Type 0} (reading : List ℕ → Option Node) (values : Li
   pub counted : entry_count later paths ≡ entry_count reading before
 
 -- a value was put at a bit of the node with a path, and the nodes on the path were added
-pub record EntryAdded {T : Type 0} (reading : List ℕ → Option Node) (values : List ℕ → ℕ → Option T) (before : List (List ℕ)) (path : List ℕ) (b : ℕ) (x : Option T) (v : Store Node) (w : Store (Option T)) : Type 0 where
+pub record EntryAdded {T : Type 0} (reading : List ℕ → Option Node) (values : List ℕ → ℕ → Option T) (before : List (List ℕ)) (path : List ℕ) (b : ℕ)
+    (x : Option T) (v : Store Node) (w : Store (Option T)) : Type 0 where
   pub later : List ℕ → Option Node
   pub paths : List (List ℕ)
   pub holds : Holds later (with_value values path b x) paths v w
@@ -232,12 +246,14 @@ module _ {T : Type 0} where
   unfoldable pub value_in : List (Option T) → Node → ℕ → Option T
   value_in cells n b = cond (has_bit n.value_bitmap b) (slice_index_or cells (n.value_block + rank n.value_bitmap b) None) None
 
+  -- the same of a node that may be missing
   abbrev pub value_of : List (Option T) → Option Node → ℕ → Option T
   value_of cells None b = None
   value_of cells (Some n) b = value_in cells n b
 
 -- the child c of the node at p, which had nothing, is gone
-pub record ChildGone {T : Type 0} (reading : List ℕ → Option Node) (paths : List (List ℕ)) (values : List ℕ → ℕ → Option T) (p : List ℕ) (c : ℕ) (v : Store Node) (w : Store (Option T)) : Type 0 where
+pub record ChildGone {T : Type 0} (reading : List ℕ → Option Node) (paths : List (List ℕ)) (values : List ℕ → ℕ → Option T) (p : List ℕ) (c : ℕ)
+    (v : Store Node) (w : Store (Option T)) : Type 0 where
   pub node : Node
   pub holds : Holds (lacking_child reading p node c) values (without (p ++ c ∷ []) paths) v w
 
@@ -247,7 +263,8 @@ pub record IsBare (n : Node) : Type 0 where
   pub no_values : (i : ℕ) → has_bit n.value_bitmap i ≡ false
 
 -- the value at a bit of the node with a path was taken, and the nodes stay
-pub record EntryTaken {T : Type 0} (reading : List ℕ → Option Node) (values : List ℕ → ℕ → Option T) (path : List ℕ) (b : ℕ) (v : Store Node) (w : Store (Option T)) : Type 0 where
+pub record EntryTaken {T : Type 0} (reading : List ℕ → Option Node) (values : List ℕ → ℕ → Option T) (path : List ℕ) (b : ℕ) (v : Store Node)
+    (w : Store (Option T)) : Type 0 where
   pub later : List ℕ → Option Node
   pub paths : List (List ℕ)
   pub holds : Holds later (with_value values path b None) paths v w

@@ -2,7 +2,7 @@
 use Rattle.std.specs.Prelude.{◌≡◌, ℕ, ◌+◌, ◌*◌, ◌<◌, ◌≤◌, Bool, true, false, List, Option, Some, length, take, MatchOption}
 use Rattle.prefix_trie_table.specs.declared.allocator.node.Node.{Node}
 use Rattle.prefix_trie_table.specs.declared.table.matching.Match.{Match}
-use Rattle.prefix_trie_table.specs.Bitmaps.{has_bit}
+use Rattle.prefix_trie_table.specs.Bitmaps.{has_bit, rank}
 use Rattle.prefix_trie_table.specs.Cells.{node_at, node_sizes}
 use Rattle.prefix_trie_table.specs.Digits.{path_of, bit_of}
 use Rattle.prefix_trie_table.specs.Store.{Store}
@@ -23,6 +23,10 @@ pub record IsHeld (reading : List ℕ → Option Node) (q : List Bool) (n bit : 
   pub bit_is : bit_of (take n q) ≡ bit
   pub small : bit < 31
   pub set : has_bit node.value_bitmap bit ≡ true
+
+-- the slot of the cell of a match
+abbrev pub cell_slot : Match → ℕ
+cell_slot m = m.node.value_block + rank m.node.value_bitmap m.bit
 
 -- of the beginnings of q whose length is `first` or more and below `end`, the longest that has a value, if any has one
 abbrev pub LongestHeld : (List ℕ → Option Node) → List Bool → ℕ → ℕ → Option Match → Type 0

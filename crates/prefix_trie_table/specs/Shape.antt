@@ -20,6 +20,7 @@ pub record Contents (T : Type 0) : Type 0 where
   pub nodes : Nodes
   pub room : Room
 
+-- contents are given by their parts
 abbrev pub contents_code : {T : Type 0} → Coded T → Coded (Contents T)
 contents_code {T} c =
     code_by (Entries T × (Nodes × (ℕ × (ℕ × ℕ))))
@@ -34,12 +35,14 @@ module _ {T : Type 0} where
       ((s : List Bool) → has_node shape.nodes s ≡ (is_node_depth s && is_some (read nodes (path_of s))))
       × ((s : List Bool) → get shape.entries s ≡ value_of cells (read nodes (path_of s)) (bit_of s))
 
+  -- that they are has one proof at most
   pub IsShapeOf-prop : Coded T → (nodes : List Node) (cells : List (Option T)) (shape : State T) → IsProp (IsShapeOf nodes cells shape)
   IsShapeOf-prop c nodes cells shape = λ x y i. (
     Π_prop (λ _. Coded-set coded_bool _ _) x.0 y.0 i,
     Π_prop (λ _. Coded-set (coded_option c) _ _) x.1 y.1 i,
   )
 
+  -- two shapes of the same arrays are one
   pub same_shape : (nodes : List Node) (cells : List (Option T)) (s t : State T) → IsShapeOf nodes cells s → IsShapeOf nodes cells t → s ≡ t
   same_shape nodes cells s t h k =
       let entries : s.entries ≡ t.entries = same_entries s.entries t.entries (λ q. h.1 q ∙ sym (k.1 q)) in
@@ -50,5 +53,6 @@ module _ {T : Type 0} where
   abbrev pub Shaped : List Node → List (Option T) → Type 0
   Shaped nodes cells = (shape : State T) × IsShapeOf nodes cells shape
 
+  -- the arrays have one shape at most
   pub Shaped-prop : Coded T → (nodes : List Node) (cells : List (Option T)) → IsProp (Shaped nodes cells)
   Shaped-prop c nodes cells = λ x y. Σ_prop_path (IsShapeOf-prop c nodes cells) (same_shape nodes cells x.0 y.0 x.1 y.1)

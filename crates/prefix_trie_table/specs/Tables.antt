@@ -1,13 +1,13 @@
 -- What holds of the fields of every table, and of a way down.
-use Rattle.std.specs.Prelude.{◌≡◌, ℕ, ◌+◌, ◌-◌, ◌*◌, ◌/◌, ◌<◌, ◌≤◌, ◌⊎◌, Bool, false, List, Option, length, take, slice_index_or}
+use Rattle.std.specs.Prelude.{◌≡◌, ℕ, ◌+◌, ◌-◌, ◌*◌, ◌/◌, ◌<◌, ◌≤◌, ◌⊎◌, Bool, false, List, Option, Some, length, take, slice_index_or}
 use Rattle.std.specs.FinMap.{len}
 use Rattle.prefix_trie_bits.specs.Model.Step.{State}
 use Rattle.prefix_trie_table.specs.declared.allocator.node.Node.{Node}
 use Rattle.prefix_trie_table.specs.Bitmaps.{has_bit, rank}
 use Rattle.prefix_trie_table.specs.Cells.{node_at, node_sizes}
-use Rattle.prefix_trie_table.specs.Digits.{path_of}
+use Rattle.prefix_trie_table.specs.Digits.{path_of, bit_of}
 use Rattle.prefix_trie_table.specs.Store.{Store, IsReady, Enough}
-use Rattle.prefix_trie_table.specs.Forest.{NodesHold, IsTable, Deepest, entry_count}
+use Rattle.prefix_trie_table.specs.Forest.{NodesHold, Holds, IsTable, Deepest, EntryAdded, entry_count}
 
 -- the arrays hold a table of so many entries
 pub record IsCounted {T : Type 0} (v : Store Node) (w : Store (Option T)) (count : ℕ) : Type 0 where
@@ -25,7 +25,8 @@ pub record IsReached (b : List Bool) (len level : ℕ) (node : Node) (slot : ℕ
   pub long : len ≤ length b
   pub whole : 5 * level ≤ len
   pub node_is : node ≡ node_at v.slots slot
-  pub deepest : (reading : List ℕ → Option Node) (paths : List (List ℕ)) → NodesHold node_sizes reading paths v → Deepest reading (path_of (take len b)) level slot v
+  pub deepest : (reading : List ℕ → Option Node) (paths : List (List ℕ)) → NodesHold node_sizes reading paths v →
+      Deepest reading (path_of (take len b)) level slot v
   pub missing : 5 * level + 5 ≤ len → has_bit node.child_bitmap (slice_index_or (path_of (take len b)) level 0) ≡ false
 
 -- all blocks stand free that a new value of len bits needs, where this is the deepest node on its way, of this level
@@ -43,3 +44,18 @@ pub record Grows {S : Type 0} (v w : Store S) (most : ℕ) : Type 0 where
 -- the slots of one insertion's blocks may pass the limit: a block of 32 nodes and 24 of one, or a block of 31 cells
 abbrev pub MayPass : {T : Type 0} → Store Node → Store (Option T) → Type 0
 MayPass v w = (v.limit < length v.slots + 56) ⊎ (w.limit < length w.slots + 31)
+
+module _ {T : Type 0} where
+  -- a fact about each way to read these arrays as a table: its nodes, their paths and its values
+  abbrev pub ForHeld : Store Node → Store (Option T) → ((List ℕ → Option Node) → List (List ℕ) → (List ℕ → ℕ → Option T) → Type 0) → Type 0
+  ForHeld v w P =
+      (reading : List ℕ → Option Node) (paths : List (List ℕ)) (values : List ℕ → ℕ → Option T) → Holds reading values paths v w → P reading paths values
+
+  -- the value at the first len bits of b
+  abbrev pub own_value : (List ℕ → ℕ → Option T) → List Bool → ℕ → Option T
+  own_value values b len = values (path_of (take len b)) (bit_of (take len b))
+
+  -- the value at the first len bits of b was set to x, and the nodes on the way were added
+  abbrev pub EntrySet : (List ℕ → Option Node) → List (List ℕ) → (List ℕ → ℕ → Option T) → List Bool → ℕ → T → Store Node → Store (Option T) → Type 0
+  EntrySet reading paths values b len x v w =
+      EntryAdded reading values paths (path_of (take len b)) (bit_of (take len b)) (Some x) v w

@@ -6,14 +6,16 @@
 mod insertion;
 mod lookup;
 mod matching;
+#[cfg(test)]
+mod tests;
 
 ghost use Rattle.std.specs.Prelude.{◌≡◌, ℕ, ◌+◌, ◌≤◌, take, IfOk, OnOk, IfErr, OnErr, IsOk, IsErr, IsTrue, ◌↔◌, MatchOption, None, Some};
 ghost use Rattle.std.specs.Option.{option_copied};
 ghost use Rattle.std.specs.FinMap.{get, contains_key, len};
 ghost use Rattle.prefix_trie_bits.specs.Model.Entries.{no_entries, with_entry};
-ghost use Rattle.prefix_trie_bits.specs.Model.Matches.{longest_match};
+ghost use Rattle.prefix_trie_bits.specs.Model.Matches.{longest_match, shortest_match};
 ghost use Rattle.prefix_trie_bits.specs.Model.Nodes.{root_alone, with_needed};
-ghost use Rattle.prefix_trie_bits.specs.Model.Visits.{visits};
+ghost use Rattle.prefix_trie_bits.specs.Model.Visits.{visits, visits_to_match};
 ghost use Rattle.prefix_trie_bits.specs.Model.Room.{MayPassLimit};
 ghost use Rattle.prefix_trie_bits.specs.declared.prefix.Refusal.TheVariants.{IndexRange};
 ghost use Rattle.prefix_trie_table.specs.Shape.{Shaped, Shaped-prop};
@@ -22,7 +24,7 @@ use crate::allocator::blocks::{Blocks, cells};
 use crate::allocator::nodes::{NodeAllocator, Tick};
 use crate::table::insertion::insert_entry;
 use crate::table::lookup::find_value;
-use crate::table::matching::{longest_on_way, value_of_match};
+use crate::table::matching::{longest_on_way, shortest_on_way, value_of_match};
 use prefix_trie_bits::prefix::{Key, Refusal, Refused};
 use std::alloc::Allocator;
 use std::marker::Model;
@@ -47,7 +49,15 @@ impl<T: Drop, A: Allocator, V: Tick> Model for Table<T, A, V> {
     ghost use Rattle.std.specs.Prelude.{length};
     ghost use Rattle.prefix_trie_table.specs.Tables.{IsTableOf};
 
-    ghost view = { λ t. record { entries = t.shape.0.entries; nodes = t.shape.0.nodes; room = record { limit = t.nodes.limit; node_slots = length t.nodes.slots; cell_slots = length t.cells.slots } } };
+    ghost view = { λ t. record {
+      entries = t.shape.0.entries;
+      nodes = t.shape.0.nodes;
+      room = record {
+        limit = t.nodes.limit;
+        node_slots = length t.nodes.slots;
+        cell_slots = length t.cells.slots;
+      };
+    } };
 
     ghost invariant = { λ t. IsTableOf t.nodes t.cells t.count t.shape.0 };
 }
@@ -58,7 +68,8 @@ impl<T: Drop, A: Allocator + Clone, V: Tick> Table<T, A, V> {
     pub fn new(alloc: A, limit: u32) -> Result<Self, Refusal>
         ensures entries { IfOk result (λ t. t.entries ≡ no_entries) }
         ensures nodes { IfOk result (λ t. t.nodes ≡ root_alone) }
-        ensures room { IfOk result (λ t. t.room ≡ record { limit = limit; node_slots = 1; cell_slots = 0 }) }
+        ensures room { IfOk result
+            (λ t. t.room ≡ record { limit = limit; node_slots = 1; cell_slots = 0 }) }
         ensures range { IfErr result (λ cause. (cause ≡ IndexRange) ↔ (limit ≡ 0)) }
         ensures none { limit ≡ 0 → IsErr result }
     {
@@ -89,7 +100,8 @@ impl<T: Drop, A: Allocator, V: Tick> Table<T, A, V> {
         requires key { K.IsKey key }
         requires within { len ≤ K.bit_width }
         ensures value { option_copied result ≡ get self.now.entries (take len (K.bits key)) }
-        ensures visits { V.count counter.new ≡ V.count counter.old + visits self.now.nodes (take len (K.bits key)) }
+        ensures visits { V.count counter.new
+            ≡ V.count counter.old + visits self.now.nodes (take len (K.bits key)) }
     {
         find_value(&self.nodes, &self.cells, key, len, counter)
     }
@@ -102,10 +114,31 @@ impl<T: Drop, A: Allocator, V: Tick> Table<T, A, V> {
         ensures value { MatchOption result
             (longest_match self.now.entries (take len (K.bits key)) ≡ None)
             (λ found. (found.0 ≤ len)
-                × (longest_match self.now.entries (take len (K.bits key)) ≡ Some (take found.0 (take len (K.bits key)), found.1.now))) }
-        ensures visits { V.count counter.new ≡ V.count counter.old + visits self.now.nodes (take len (K.bits key)) }
+                × (longest_match self.now.entries (take len (K.bits key))
+                    ≡ Some (take found.0 (take len (K.bits key)), found.1.now))) }
+        ensures visits { V.count counter.new
+            ≡ V.count counter.old + visits self.now.nodes (take len (K.bits key)) }
     {
         let Some(found) = longest_on_way(&self.nodes, key, len, counter) else {
+            return None;
+        };
+        value_of_match(&self.cells, found)
+    }
+
+    /// The value at the shortest beginning of a bit string that has one, behind the number of bits of that beginning. The
+    /// nodes on the way are read once each, and none below the one that holds the value.
+    pub fn find_shortest<K: Key>(&self, key: K, len: u32, counter: &mut V) -> Option<(u32, &T)>
+        requires key { K.IsKey key }
+        requires within { len ≤ K.bit_width }
+        ensures value { MatchOption result
+            (shortest_match self.now.entries (take len (K.bits key)) ≡ None)
+            (λ found. (found.0 ≤ len)
+                × (shortest_match self.now.entries (take len (K.bits key))
+                    ≡ Some (take found.0 (take len (K.bits key)), found.1.now))) }
+        ensures visits { V.count counter.new ≡ V.count counter.old
+            + visits_to_match self.now.entries self.now.nodes (take len (K.bits key)) }
+    {
+        let Some(found) = shortest_on_way(&self.nodes, key, len, counter) else {
             return None;
         };
         value_of_match(&self.cells, found)
@@ -122,16 +155,24 @@ impl<T: Drop, A: Allocator, V: Tick> Table<T, A, V> {
     ) -> Result<Option<T>, Refused<T>>
         requires key { K.IsKey key }
         requires within { len ≤ K.bit_width }
-        ensures before { IfOk result (λ before. before ≡ get self.old.entries (take len (K.bits key))) }
-        ensures entries { OnOk result (self.new.entries ≡ with_entry self.old.entries (take len (K.bits key)) value) }
-        ensures nodes { OnOk result (self.new.nodes ≡ with_needed self.old.nodes (take len (K.bits key))) }
-        ensures unchanged { OnErr result ((self.new.entries ≡ self.old.entries) × (self.new.nodes ≡ self.old.nodes)) }
+        ensures before { IfOk result
+            (λ before. before ≡ get self.old.entries (take len (K.bits key))) }
+        ensures entries { OnOk result
+            (self.new.entries ≡ with_entry self.old.entries (take len (K.bits key)) value) }
+        ensures nodes { OnOk result
+            (self.new.nodes ≡ with_needed self.old.nodes (take len (K.bits key))) }
+        ensures unchanged { OnErr result
+            ((self.new.entries ≡ self.old.entries) × (self.new.nodes ≡ self.old.nodes)) }
         ensures returned { IfErr result (λ refused. refused.value ≡ value) }
-        ensures stored { IsTrue (contains_key self.old.entries (take len (K.bits key))) → IsOk result × (self.new.room ≡ self.old.room) }
-        ensures range { IfErr result (λ refused. refused.cause ≡ IndexRange → MayPassLimit self.old.room) }
+        ensures stored { IsTrue (contains_key self.old.entries (take len (K.bits key)))
+            → IsOk result × (self.new.room ≡ self.old.room) }
+        ensures range { IfErr result
+            (λ refused. refused.cause ≡ IndexRange → MayPassLimit self.old.room) }
         ensures room { (self.new.room.limit ≡ self.old.room.limit)
-            × (self.old.room.node_slots ≤ self.new.room.node_slots) × (self.new.room.node_slots ≤ self.old.room.node_slots + 56)
-            × (self.old.room.cell_slots ≤ self.new.room.cell_slots) × (self.new.room.cell_slots ≤ self.old.room.cell_slots + 31) }
+            × (self.old.room.node_slots ≤ self.new.room.node_slots)
+            × (self.new.room.node_slots ≤ self.old.room.node_slots + 56)
+            × (self.old.room.cell_slots ≤ self.new.room.cell_slots)
+            × (self.new.room.cell_slots ≤ self.old.room.cell_slots + 31) }
     {
         insert_entry(
             &mut self.nodes,

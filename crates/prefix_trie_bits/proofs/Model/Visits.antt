@@ -232,7 +232,7 @@ filter-same p r same [] = refl
 filter-same p r same (s ∷ ss) = ap (λ b. cond b (s ∷ filter p ss) (filter p ss)) (same s) ∙ ap (λ xs. cond (r s) (s ∷ xs) xs) (filter-same p r same ss)
 
 -- a beginning of q that is no longer than another one begins that one
-begins-within : (k q s : List Bool) → begins k q ≡ true → (begins s q && nat_le (length s) (length k)) ≡ begins s k
+pub begins-within : (k q s : List Bool) → begins k q ≡ true → (begins s q && nat_le (length s) (length k)) ≡ begins s k
 begins-within k q s e =
     same_bool (begins s q && nat_le (length s) (length k)) (begins s k)
     (λ h. begins-linear s k q (and-first (begins s q) (nat_le (length s) (length k)) h) e (leb-true (length s) (length k) (and-second (begins s q) (nat_le (length s) (length k)) h)))

@@ -5,8 +5,8 @@ ghost use Rattle.prefix_trie_table.specs.Bitmaps.{has_bit as is_set, rank as ran
 ghost use Rattle.prefix_trie_table.specs.Cells.{blank_node, node_at, node_sizes, cell_sizes};
 ghost use Rattle.prefix_trie_table.specs.Digits.{path_of, bit_of};
 ghost use Rattle.prefix_trie_table.specs.Store.{Block, Sound, IsReady, tier_lacking, free_at, Prepared, SameRoom};
-ghost use Rattle.prefix_trie_table.specs.Forest.{IsSlot, NodesHold, CellsHold, Holds, IsTable, AtNode, AtValues, ChildAdded, ValueSet, StandsAt, EntryAdded, one_if};
-ghost use Rattle.prefix_trie_table.specs.Tables.{IsReached, HasRoom, IsCounted, Grows, MayPass};
+ghost use Rattle.prefix_trie_table.specs.Forest.{IsSlot, NodesHold, CellsHold, Holds, IsTable, AtNode, AtValues, ChildAdded, ValueSet, StandsAt, one_if};
+ghost use Rattle.prefix_trie_table.specs.Tables.{IsReached, HasRoom, IsCounted, Grows, MayPass, ForHeld, own_value, EntrySet};
 ghost use Rattle.prefix_trie_bits.specs.declared.prefix.Refusal.TheVariants.{IndexRange};
 
 use crate::allocator::blocks::Blocks;
@@ -31,8 +31,13 @@ fn add_child<A: Allocator, V: Tick>(
     requires ready { IsReady nodes.old.tiers node.child_tier (rank_of node.child_bitmap 32) }
     ensures room { SameRoom nodes.old nodes.new }
     ensures free { (j : ℕ) → free_at nodes.old.tiers j ≤ free_at nodes.new.tiers j + 1 }
-    ensures kept { (j : ℕ) → tier_lacking nodes.old.tiers node.child_tier (rank_of node.child_bitmap 32) ≢ Some j → free_at nodes.old.tiers j ≤ free_at nodes.new.tiers j }
-    ensures added { (reading : List ℕ → Option Node) (paths : List (List ℕ)) (p : List ℕ) (n : Node) → NodesHold node_sizes reading paths nodes.old → IsSlot reading p (at.start + at.place) → reading p ≡ Some n → ChildAdded reading paths p n child nodes.new (result.start + result.place) }
+    ensures kept { (j : ℕ)
+        → tier_lacking nodes.old.tiers node.child_tier (rank_of node.child_bitmap 32) ≢ Some j
+        → free_at nodes.old.tiers j ≤ free_at nodes.new.tiers j }
+    ensures added { (reading : List ℕ → Option Node) (paths : List (List ℕ)) (p : List ℕ) (n : Node)
+        → NodesHold node_sizes reading paths nodes.old
+        → IsSlot reading p (at.start + at.place) → reading p ≡ Some n
+        → ChildAdded reading paths p n child nodes.new (result.start + result.place) }
 {
     let place = rank(node.child_bitmap, child);
     let block = nodes.insert_at(
@@ -76,7 +81,12 @@ fn add_value<T: Drop, A: Allocator, V: Tick>(
     requires ready { IsReady cells.old.tiers node.value_tier (rank_of node.value_bitmap 32) }
     ensures node_room { SameRoom nodes.old nodes.new }
     ensures cell_room { SameRoom cells.old cells.new }
-    ensures added { (reading : List ℕ → Option Node) (paths : List (List ℕ)) (values : List ℕ → ℕ → Option T) (p : List ℕ) (n : Node) → NodesHold node_sizes reading paths nodes.old → CellsHold cell_sizes reading values paths cells.old → IsSlot reading p (at.start + at.place) → reading p ≡ Some n → ValueSet reading paths values p bit (Some value) nodes.new cells.new }
+    ensures added { (reading : List ℕ → Option Node) (paths : List (List ℕ))
+        (values : List ℕ → ℕ → Option T) (p : List ℕ) (n : Node)
+        → NodesHold node_sizes reading paths nodes.old
+        → CellsHold cell_sizes reading values paths cells.old
+        → IsSlot reading p (at.start + at.place) → reading p ≡ Some n
+        → ValueSet reading paths values p bit (Some value) nodes.new cells.new }
 {
     let place = rank(node.value_bitmap, bit);
     let block = cells.insert_at(
@@ -114,8 +124,18 @@ fn replace_value<T: Drop, A: Allocator, V: Tick>(
     requires node { node ≡ node_at nodes.now.slots (at.start + at.place) }
     requires there { is_set node.value_bitmap bit ≡ true }
     ensures room { SameRoom cells.old cells.new }
-    ensures before { (reading : List ℕ → Option Node) (paths : List (List ℕ)) (values : List ℕ → ℕ → Option T) (p : List ℕ) (n : Node) → NodesHold node_sizes reading paths nodes.now → CellsHold cell_sizes reading values paths cells.old → IsSlot reading p (at.start + at.place) → reading p ≡ Some n → result ≡ values p bit }
-    ensures replaced { (reading : List ℕ → Option Node) (paths : List (List ℕ)) (values : List ℕ → ℕ → Option T) (p : List ℕ) (n : Node) → NodesHold node_sizes reading paths nodes.now → CellsHold cell_sizes reading values paths cells.old → IsSlot reading p (at.start + at.place) → reading p ≡ Some n → ValueSet reading paths values p bit (Some value) nodes.now cells.new }
+    ensures before { (reading : List ℕ → Option Node) (paths : List (List ℕ))
+        (values : List ℕ → ℕ → Option T) (p : List ℕ) (n : Node)
+        → NodesHold node_sizes reading paths nodes.now
+        → CellsHold cell_sizes reading values paths cells.old
+        → IsSlot reading p (at.start + at.place) → reading p ≡ Some n
+        → result ≡ values p bit }
+    ensures replaced { (reading : List ℕ → Option Node) (paths : List (List ℕ))
+        (values : List ℕ → ℕ → Option T) (p : List ℕ) (n : Node)
+        → NodesHold node_sizes reading paths nodes.now
+        → CellsHold cell_sizes reading values paths cells.old
+        → IsSlot reading p (at.start + at.place) → reading p ≡ Some n
+        → ValueSet reading paths values p bit (Some value) nodes.now cells.new }
 {
     cells.put(node.value_block, rank(node.value_bitmap, bit), Some(value))
 }
@@ -128,20 +148,27 @@ fn prepare<T: Drop, A: Allocator, V: Tick>(
     reached: &Reached,
     len: u32,
 ) -> Result<(), Refusal>
-    requires stands { AtValues nodes.old cells.old (reached.now.at.start + reached.now.at.place) }
-    requires node { reached.now.node ≡ node_at nodes.old.slots (reached.now.at.start + reached.now.at.place) }
+    requires stands { AtValues nodes.old cells.old
+        (reached.now.at.start + reached.now.at.place) }
+    requires node { reached.now.node
+        ≡ node_at nodes.old.slots (reached.now.at.start + reached.now.at.place) }
     requires whole { 5 * reached.now.level ≤ len }
     requires short { len ≤ 128 }
-    requires few_values { len < 5 * reached.now.level + 5 → rank_of reached.now.node.value_bitmap 32 < 31 }
-    requires few_children { 5 * reached.now.level + 5 ≤ len → rank_of reached.now.node.child_bitmap 32 < 32 }
-    ensures room { OnOk result (HasRoom nodes.new cells.new reached.now.node reached.now.level len) }
+    requires few_values { len < 5 * reached.now.level + 5
+        → rank_of reached.now.node.value_bitmap 32 < 31 }
+    requires few_children { 5 * reached.now.level + 5 ≤ len
+        → rank_of reached.now.node.child_bitmap 32 < 32 }
+    ensures room { OnOk result
+        (HasRoom nodes.new cells.new reached.now.node reached.now.level len) }
     ensures range { IfErr result (λ cause. cause ≡ IndexRange → MayPass nodes.old cells.old) }
     ensures node_room { Grows nodes.old nodes.new 56 }
     ensures cell_room { Grows cells.old cells.new 31 }
     ensures nodes { Prepared nodes.old nodes.new }
     ensures cells { Prepared cells.old cells.new }
-    ensures nodes_sound { (live : List (Block Node)) → Sound blank_node live nodes.old → Sound blank_node live nodes.new }
-    ensures cells_sound { (live : List (Block (Option T))) → Sound None live cells.old → Sound None live cells.new }
+    ensures nodes_sound { (live : List (Block Node)) → Sound blank_node live nodes.old
+        → Sound blank_node live nodes.new }
+    ensures cells_sound { (live : List (Block (Option T))) → Sound None live cells.old
+        → Sound None live cells.new }
 {
     let depth = 5 * reached.level;
     let node = &reached.node;
@@ -150,7 +177,11 @@ fn prepare<T: Drop, A: Allocator, V: Tick>(
     }
     cells.prepare(0, 0, 0)?;
     let below = len / 5 - (reached.level + 1);
-    nodes.prepare(node.child_tier as usize, count(node.child_bitmap), below as usize)
+    nodes.prepare(
+        node.child_tier as usize,
+        count(node.child_bitmap),
+        below as usize,
+    )
 }
 
 /// Adds the nodes of a way that are missing, below the deepest that is there, and a value at the last.
@@ -164,13 +195,17 @@ fn add_entry<K: Key, T: Drop, A: Allocator, V: Tick>(
 )
     requires key { K.IsKey key }
     requires within { len ≤ K.bit_width }
-    requires stands { StandsAt nodes.old cells.old (path_of (take len (K.bits key))) reached.level (reached.at.start + reached.at.place) }
-    requires reached { IsReached (K.bits key) len reached.level reached.node (reached.at.start + reached.at.place) nodes.old }
-    requires lacks { len < 5 * reached.level + 5 → is_set reached.node.value_bitmap (bit_of (take len (K.bits key))) ≡ false }
+    requires stands { StandsAt nodes.old cells.old (path_of (take len (K.bits key)))
+        reached.level (reached.at.start + reached.at.place) }
+    requires reached { IsReached (K.bits key) len
+        reached.level reached.node (reached.at.start + reached.at.place) nodes.old }
+    requires lacks { len < 5 * reached.level + 5
+        → is_set reached.node.value_bitmap (bit_of (take len (K.bits key))) ≡ false }
     requires room { HasRoom nodes.old cells.old reached.node reached.level len }
     ensures node_room { SameRoom nodes.old nodes.new }
     ensures cell_room { SameRoom cells.old cells.new }
-    ensures added { (reading : List ℕ → Option Node) (paths : List (List ℕ)) (values : List ℕ → ℕ → Option T) → Holds reading values paths nodes.old cells.old → EntryAdded reading values paths (path_of (take len (K.bits key))) (bit_of (take len (K.bits key))) (Some value) nodes.new cells.new }
+    ensures added { ForHeld nodes.old cells.old (λ reading paths values.
+        EntrySet reading paths values (K.bits key) len value nodes.new cells.new) }
 {
     let mut at = reached.at;
     let mut node = reached.node;
@@ -178,7 +213,14 @@ fn add_entry<K: Key, T: Drop, A: Allocator, V: Tick>(
         at = add_child(nodes, at, node, child_bit_of(key, 5 * level));
         node = Node::blank();
     }
-    add_value(nodes, cells, at, node, value_bit_of(key, len / 5 * 5, len), value);
+    add_value(
+        nodes,
+        cells,
+        at,
+        node,
+        value_bit_of(key, len / 5 * 5, len),
+        value,
+    );
 }
 
 /// Sets the value at a bit string, and adds the nodes of its way that are missing. On a refusal nothing is added.
@@ -193,12 +235,18 @@ fn insert_value<K: Key, T: Drop, A: Allocator, V: Tick>(
     requires key { K.IsKey key }
     requires within { len ≤ K.bit_width }
     requires table { IsTable nodes.old cells.old }
-    ensures inserted { (reading : List ℕ → Option Node) (paths : List (List ℕ)) (values : List ℕ → ℕ → Option T) → Holds reading values paths nodes.old cells.old → MatchResult result (λ before. (before ≡ values (path_of (take len (K.bits key))) (bit_of (take len (K.bits key)))) × EntryAdded reading values paths (path_of (take len (K.bits key))) (bit_of (take len (K.bits key))) (Some value) nodes.new cells.new) (λ _. Holds reading values paths nodes.new cells.new) }
-    ensures range { IfErr result (λ refused. refused.cause ≡ IndexRange → MayPass nodes.old cells.old) }
+    ensures inserted { ForHeld nodes.old cells.old (λ reading paths values. MatchResult result
+        (λ before. (before ≡ own_value values (K.bits key) len)
+        × EntrySet reading paths values (K.bits key) len value nodes.new cells.new)
+        (λ _. Holds reading values paths nodes.new cells.new)) }
+    ensures range { IfErr result
+        (λ refused. refused.cause ≡ IndexRange → MayPass nodes.old cells.old) }
     ensures node_room { Grows nodes.old nodes.new 56 }
     ensures cell_room { Grows cells.old cells.new 31 }
     ensures returned { IfErr result (λ refused. refused.value ≡ value) }
-    ensures stored { (reading : List ℕ → Option Node) (paths : List (List ℕ)) (values : List ℕ → ℕ → Option T) → Holds reading values paths nodes.old cells.old → is_some (values (path_of (take len (K.bits key))) (bit_of (take len (K.bits key)))) ≡ true → IsOk result × SameRoom nodes.old nodes.new × SameRoom cells.old cells.new }
+    ensures stored { ForHeld nodes.old cells.old (λ reading paths values.
+        is_some (own_value values (K.bits key) len) ≡ true
+        → IsOk result × SameRoom nodes.old nodes.new × SameRoom cells.old cells.new) }
 {
     let reached = descend(nodes, key, len, counter);
     let depth = 5 * reached.level;
@@ -228,13 +276,19 @@ pub fn insert_entry<K: Key, T: Drop, A: Allocator, V: Tick>(
     requires key { K.IsKey key }
     requires within { len ≤ K.bit_width }
     requires table { IsCounted nodes.old cells.old entries.old }
-    ensures inserted { (reading : List ℕ → Option Node) (paths : List (List ℕ)) (values : List ℕ → ℕ → Option T) → Holds reading values paths nodes.old cells.old → MatchResult result (λ before. (before ≡ values (path_of (take len (K.bits key))) (bit_of (take len (K.bits key)))) × EntryAdded reading values paths (path_of (take len (K.bits key))) (bit_of (take len (K.bits key))) (Some value) nodes.new cells.new) (λ _. Holds reading values paths nodes.new cells.new) }
+    ensures inserted { ForHeld nodes.old cells.old (λ reading paths values. MatchResult result
+        (λ before. (before ≡ own_value values (K.bits key) len)
+        × EntrySet reading paths values (K.bits key) len value nodes.new cells.new)
+        (λ _. Holds reading values paths nodes.new cells.new)) }
     ensures counted { MatchResult result (λ before. entries.new + one_if (is_some before) ≡ entries.old + 1) (λ _. entries.new ≡ entries.old) }
-    ensures range { IfErr result (λ refused. refused.cause ≡ IndexRange → MayPass nodes.old cells.old) }
+    ensures range { IfErr result
+        (λ refused. refused.cause ≡ IndexRange → MayPass nodes.old cells.old) }
     ensures node_room { Grows nodes.old nodes.new 56 }
     ensures cell_room { Grows cells.old cells.new 31 }
     ensures returned { IfErr result (λ refused. refused.value ≡ value) }
-    ensures stored { (reading : List ℕ → Option Node) (paths : List (List ℕ)) (values : List ℕ → ℕ → Option T) → Holds reading values paths nodes.old cells.old → is_some (values (path_of (take len (K.bits key))) (bit_of (take len (K.bits key)))) ≡ true → IsOk result × SameRoom nodes.old nodes.new × SameRoom cells.old cells.new }
+    ensures stored { ForHeld nodes.old cells.old (λ reading paths values.
+        is_some (own_value values (K.bits key) len) ≡ true
+        → IsOk result × SameRoom nodes.old nodes.new × SameRoom cells.old cells.new) }
 {
     let before = insert_value(nodes, cells, key, len, value, counter)?;
     if before.is_none() {

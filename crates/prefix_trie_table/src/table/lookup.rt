@@ -3,9 +3,9 @@ ghost use Rattle.std.specs.Prelude.{◌≡◌, ℕ, ◌+◌, ◌≤◌, List, Op
 ghost use Rattle.std.specs.Option.{option_copied};
 ghost use Rattle.prefix_trie_table.specs.declared.allocator.node.Node.{Node};
 ghost use Rattle.prefix_trie_table.specs.Cells.{node_sizes};
-ghost use Rattle.prefix_trie_table.specs.Digits.{path_of, bit_of};
-ghost use Rattle.prefix_trie_table.specs.Forest.{NodesHold, Holds, IsTable, IsEnd};
-ghost use Rattle.prefix_trie_table.specs.Tables.{IsReached};
+ghost use Rattle.prefix_trie_table.specs.Digits.{path_of};
+ghost use Rattle.prefix_trie_table.specs.Forest.{NodesHold, IsTable, IsEnd};
+ghost use Rattle.prefix_trie_table.specs.Tables.{IsReached, ForHeld, own_value};
 
 use crate::allocator::blocks::Blocks;
 use crate::allocator::node::{Node, NodeSlot};
@@ -31,8 +31,10 @@ pub fn descend<K: Key, A: Allocator, V: Tick>(
 ) -> Reached
     requires key { K.IsKey key }
     requires within { len ≤ K.bit_width }
-    requires sound { (reading : List ℕ → Option Node) × (paths : List (List ℕ)) × NodesHold node_sizes reading paths nodes.now }
-    ensures reached { IsReached (K.bits key) len result.level result.node (result.at.start + result.at.place) nodes.now }
+    requires sound { (reading : List ℕ → Option Node) × (paths : List (List ℕ))
+        × NodesHold node_sizes reading paths nodes.now }
+    ensures reached { IsReached (K.bits key) len
+        result.level result.node (result.at.start + result.at.place) nodes.now }
     ensures visits { V.count counter.new ≡ V.count counter.old + (result.level + 1) }
 {
     let mut at = NodeSlot::ROOT;
@@ -64,8 +66,12 @@ pub fn find_value<'a, K: Key, T: Drop, A: Allocator, V: Tick>(
     requires key { K.IsKey key }
     requires within { len ≤ K.bit_width }
     requires table { IsTable nodes.now cells.now }
-    ensures value { (reading : List ℕ → Option Node) (paths : List (List ℕ)) (values : List ℕ → ℕ → Option T) → Holds reading values paths nodes.now cells.now → option_copied result ≡ values (path_of (take len (K.bits key))) (bit_of (take len (K.bits key))) }
-    ensures visits { (reading : List ℕ → Option Node) (paths : List (List ℕ)) → NodesHold node_sizes reading paths nodes.now → (level : ℕ) × IsEnd reading (path_of (take len (K.bits key))) level × (V.count counter.new ≡ V.count counter.old + (level + 1)) }
+    ensures value { ForHeld nodes.now cells.now (λ reading paths values.
+        option_copied result ≡ own_value values (K.bits key) len) }
+    ensures visits { (reading : List ℕ → Option Node) (paths : List (List ℕ))
+        → NodesHold node_sizes reading paths nodes.now
+        → (level : ℕ) × IsEnd reading (path_of (take len (K.bits key))) level
+        × (V.count counter.new ≡ V.count counter.old + (level + 1)) }
 {
     let reached = descend(nodes, key, len, counter);
     let depth = 5 * reached.level;
@@ -77,5 +83,7 @@ pub fn find_value<'a, K: Key, T: Drop, A: Allocator, V: Tick>(
     if !has_bit(bitmap, bit) {
         return None;
     }
-    cells.at(reached.node.value_block, rank(bitmap, bit)).as_ref()
+    cells
+        .at(reached.node.value_block, rank(bitmap, bit))
+        .as_ref()
 }

@@ -1,12 +1,12 @@
 //! The longest and the shortest beginning of a bit string that has a value.
-ghost use Rattle.std.specs.Prelude.{◌≡◌, ℕ, ◌+◌, ◌*◌, ◌/◌, ◌^◌, ◌<◌, ◌≤◌, Bool, List, Option, None, Some, false, take, length, MatchOption, slice_index_or};
+ghost use Rattle.std.specs.Prelude.{◌≡◌, ℕ, ◌+◌, ◌*◌, ◌/◌, ◌^◌, ◌<◌, ◌≤◌, Bool, List, Option, None, Some, false, take, length, IfSome, MatchOption, slice_index_or};
 ghost use Rattle.prefix_trie_table.specs.declared.allocator.node.Node.{Node};
-ghost use Rattle.prefix_trie_table.specs.Bitmaps.{has_bit as is_set, rank as rank_of};
+ghost use Rattle.prefix_trie_table.specs.Bitmaps.{has_bit as is_set};
 ghost use Rattle.prefix_trie_table.specs.Cells.{node_sizes};
 ghost use Rattle.prefix_trie_table.specs.Digits.{path_of};
 ghost use Rattle.prefix_trie_table.specs.Forest.{NodesHold, IsEnd};
 ghost use Rattle.prefix_trie_table.specs.Tables.{IsReached};
-ghost use Rattle.prefix_trie_table.specs.Matching.{HasNodes, IsOnWay, LongestHeld, ShortestHeld};
+ghost use Rattle.prefix_trie_table.specs.Matching.{HasNodes, IsOnWay, LongestHeld, ShortestHeld, cell_slot};
 
 use crate::allocator::blocks::Blocks;
 use crate::allocator::node::{Node, NodeSlot};
@@ -53,8 +53,11 @@ fn step_down<K: Key, A: Allocator, V: Tick>(
     requires on_way { IsOnWay (K.bits key) len from.level from.node (from.at.start + from.at.place) nodes.now }
     ensures step { MatchOption result
         (IsReached (K.bits key) len from.level from.node (from.at.start + from.at.place) nodes.now)
-        (λ next. (next.level ≡ from.level + 1) × IsOnWay (K.bits key) len next.level next.node (next.at.start + next.at.place) nodes.now) }
-    ensures visits { MatchOption result (V.count counter.new ≡ V.count counter.old) (λ _. V.count counter.new ≡ V.count counter.old + 1) }
+        (λ next. (next.level ≡ from.level + 1)
+            × IsOnWay (K.bits key) len next.level next.node (next.at.start + next.at.place) nodes.now) }
+    ensures visits { MatchOption result
+        (V.count counter.new ≡ V.count counter.old)
+        (λ _. V.count counter.new ≡ V.count counter.old + 1) }
 {
     let depth = 5 * from.level;
     if depth + 5 > len {
@@ -83,7 +86,8 @@ fn longest_in<K: Key>(here: Reached, key: K, len: u32) -> Option<Match>
     requires within { len ≤ K.bit_width }
     requires whole { 5 * here.level ≤ len }
     requires few { is_set here.node.value_bitmap 31 ≡ false }
-    ensures { (reading : List ℕ → Option Node) → reading (take here.level (path_of (take len (K.bits key)))) ≡ Some here.node
+    ensures { (reading : List ℕ → Option Node)
+        → reading (take here.level (path_of (take len (K.bits key)))) ≡ Some here.node
         → LongestHeld reading (take len (K.bits key)) (5 * here.level) (5 * here.level + 5) result }
 {
     let depth = 5 * here.level;
@@ -107,10 +111,13 @@ pub fn longest_on_way<K: Key, A: Allocator, V: Tick>(
     requires key { K.IsKey key }
     requires within { len ≤ K.bit_width }
     requires sound { HasNodes nodes.now }
-    ensures found { (reading : List ℕ → Option Node) (paths : List (List ℕ)) → NodesHold node_sizes reading paths nodes.now
+    ensures found { (reading : List ℕ → Option Node) (paths : List (List ℕ))
+        → NodesHold node_sizes reading paths nodes.now
         → LongestHeld reading (take len (K.bits key)) 0 (len + 1) result }
-    ensures visits { (reading : List ℕ → Option Node) (paths : List (List ℕ)) → NodesHold node_sizes reading paths nodes.now
-        → (level : ℕ) × IsEnd reading (path_of (take len (K.bits key))) level × (V.count counter.new ≡ V.count counter.old + (level + 1)) }
+    ensures visits { (reading : List ℕ → Option Node) (paths : List (List ℕ))
+        → NodesHold node_sizes reading paths nodes.now
+        → (level : ℕ) × IsEnd reading (path_of (take len (K.bits key))) level
+            × (V.count counter.new ≡ V.count counter.old + (level + 1)) }
 {
     let mut here = root(nodes, counter);
     let mut best = None;
@@ -123,6 +130,62 @@ pub fn longest_on_way<K: Key, A: Allocator, V: Tick>(
     }
 }
 
+/// The shortest beginning of a bit string that has its value in this node on the way.
+#[inline]
+fn shortest_in<K: Key>(here: Reached, key: K, len: u32) -> Option<Match>
+    requires key { K.IsKey key }
+    requires within { len ≤ K.bit_width }
+    requires whole { 5 * here.level ≤ len }
+    requires few { is_set here.node.value_bitmap 31 ≡ false }
+    ensures found { (reading : List ℕ → Option Node)
+        → reading (take here.level (path_of (take len (K.bits key)))) ≡ Some here.node
+        → ShortestHeld reading (take len (K.bits key)) (5 * here.level) (5 * here.level + 5) result }
+    ensures own { IfSome result (λ m. (5 * here.level ≤ m.len) × (m.len < 5 * here.level + 5)) }
+{
+    let depth = 5 * here.level;
+    let Some(bit) = shortest_match(here.node.value_bitmap, key, depth, len) else {
+        return None;
+    };
+    Some(Match {
+        len: depth + string_of(bit).0,
+        node: here.node,
+        bit,
+    })
+}
+
+/// The shortest beginning of a bit string that has a value. The nodes on the way are read once each, down to the one of
+/// that beginning.
+pub fn shortest_on_way<K: Key, A: Allocator, V: Tick>(
+    nodes: &NodeAllocator<A, V>,
+    key: K,
+    len: u32,
+    counter: &mut V,
+) -> Option<Match>
+    requires key { K.IsKey key }
+    requires within { len ≤ K.bit_width }
+    requires sound { HasNodes nodes.now }
+    ensures found { (reading : List ℕ → Option Node) (paths : List (List ℕ))
+        → NodesHold node_sizes reading paths nodes.now
+        → ShortestHeld reading (take len (K.bits key)) 0 (len + 1) result }
+    ensures visits { (reading : List ℕ → Option Node) (paths : List (List ℕ))
+        → NodesHold node_sizes reading paths nodes.now
+        → MatchOption result
+            ((level : ℕ) × IsEnd reading (path_of (take len (K.bits key))) level
+                × (V.count counter.new ≡ V.count counter.old + (level + 1)))
+            (λ m. V.count counter.new ≡ V.count counter.old + (m.len / 5 + 1)) }
+{
+    let mut here = root(nodes, counter);
+    'way: loop {
+        if let Some(found) = shortest_in(here, key, len) {
+            return Some(found);
+        }
+        let Some(next) = step_down(nodes, here, key, len, counter) else {
+            return None;
+        };
+        here = next;
+    }
+}
+
 /// The value of a match, behind the length of its string.
 #[inline]
 pub fn value_of_match<'a, T: Drop, A: Allocator>(
@@ -130,10 +193,11 @@ pub fn value_of_match<'a, T: Drop, A: Allocator>(
     found: Match,
 ) -> Option<(u32, &'a T)>
     requires bit { found.bit < 31 }
-    requires stands { found.node.value_block + rank_of found.node.value_bitmap found.bit < length cells.now.slots }
+    requires stands { cell_slot found < length cells.now.slots }
     ensures { MatchOption result
-        (slice_index_or cells.now.slots (found.node.value_block + rank_of found.node.value_bitmap found.bit) None ≡ None)
-        (λ r. (r.0 ≡ found.len) × (slice_index_or cells.now.slots (found.node.value_block + rank_of found.node.value_bitmap found.bit) None ≡ Some r.1.now)) }
+        (slice_index_or cells.now.slots (cell_slot found) None ≡ None)
+        (λ r. (r.0 ≡ found.len)
+            × (slice_index_or cells.now.slots (cell_slot found) None ≡ Some r.1.now)) }
 {
     let place = rank(found.node.value_bitmap, found.bit);
     let Some(value) = cells.at(found.node.value_block, place).as_ref() else {

@@ -19,5 +19,8 @@ returns-clause-visits g c =
     let q = take c.args.len (g.K.Key.bits c.args.key) in
     let met = c.find_value.ensures.visits t.reading t.paths t.holds.hold in
     met.2
-    ∙ ap (λ n. g.V.Tick.count c.args.counter.now + n) (sym (visits_counted t.reading t.paths c.self.inside.nodes t.holds.hold c.self.inside.shape.0.nodes (shape_nodes t.reading t.values t.paths c.self.inside.nodes c.self.inside.cells t.holds c.self.inside.shape.0 c.self.inside.shape.1) q met.0 met.1))
+    ∙ ap (λ n. g.V.Tick.count c.args.counter.now + n)
+    (sym (visits_counted t.reading t.paths c.self.inside.nodes t.holds.hold c.self.inside.shape.0.nodes
+    (shape_nodes t.reading t.values t.paths c.self.inside.nodes c.self.inside.cells t.holds c.self.inside.shape.0 c.self.inside.shape.1) q met.0
+    met.1))
     ∙ ap (λ s. g.V.Tick.count c.args.counter.now + visits s.nodes q) c.self.view_is

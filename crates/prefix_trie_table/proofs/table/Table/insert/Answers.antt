@@ -8,42 +8,56 @@ use Rattle.prefix_trie_table.proofs.table.Table.insert.Goals as goal
 
 pub invariant_of-self-inside : goal.invariant_of-self-inside
 invariant_of-self-inside g c =
-    let q = take c.args.len (g.K.Key.bits c.args.key) in
-    (left_shape q c.args.value c.self.inside.nodes c.insert_entry.new.nodes c.self.inside.cells c.insert_entry.new.cells c.self.inside.count c.insert_entry.new.entries c.self.inside.shape c.self.invariant c.insert_entry.result c.insert_entry.ensures.inserted, tt)
+    let q = take c.args.len (g.K.Key.bits c.args.key) in (
+      left_shape q c.args.value c.self.inside.nodes c.insert_entry.new.nodes c.self.inside.cells c.insert_entry.new.cells c.self.inside.count
+          c.insert_entry.new.entries c.self.inside.shape c.self.invariant c.insert_entry.result c.insert_entry.ensures.inserted,
+      tt,
+    )
 
 pub invariant_of-self : goal.invariant_of-self
 invariant_of-self g c =
     let q = take c.args.len (g.K.Key.bits c.args.key) in
-    table_left q c.args.value c.self.inside.nodes c.insert_entry.new.nodes c.self.inside.cells c.insert_entry.new.cells c.self.inside.count c.insert_entry.new.entries c.self.inside.shape c.self.invariant c.insert_entry.result c.insert_entry.ensures.inserted c.insert_entry.ensures.counted c.insert_entry.ensures.node_room c.insert_entry.ensures.cell_room c.self-1.given.0
+    table_left q c.args.value c.self.inside.nodes c.insert_entry.new.nodes c.self.inside.cells c.insert_entry.new.cells c.self.inside.count
+    c.insert_entry.new.entries c.self.inside.shape c.self.invariant c.insert_entry.result c.insert_entry.ensures.inserted
+    c.insert_entry.ensures.counted c.insert_entry.ensures.node_room c.insert_entry.ensures.cell_room c.self-1.given.0
 
 pub returns-clause-before : goal.returns-clause-before
 returns-clause-before g c =
     let q = take c.args.len (g.K.Key.bits c.args.key) in
     subst (λ (s : Contents g.row.T.Denot). IfOk c.insert_entry.result (λ before. before ≡ get s.entries q)) c.self.view_is
-    (before_left q c.args.value c.self.inside.nodes c.insert_entry.new.nodes c.self.inside.cells c.insert_entry.new.cells c.self.inside.count c.insert_entry.new.entries c.self.inside.shape c.self.invariant c.insert_entry.result c.insert_entry.ensures.inserted)
+    (before_left q c.args.value c.self.inside.nodes c.insert_entry.new.nodes c.self.inside.cells c.insert_entry.new.cells c.self.inside.count
+    c.insert_entry.new.entries c.self.inside.shape c.self.invariant c.insert_entry.result c.insert_entry.ensures.inserted)
 
 pub returns-clause-entries : goal.returns-clause-entries
 returns-clause-entries g c =
     let q = take c.args.len (g.K.Key.bits c.args.key) in
     subst (λ (s : Contents g.row.T.Denot). OnOk c.insert_entry.result (c.self-1.given.0.0.entries ≡ with_entry s.entries q c.args.value)) c.self.view_is
-    (entries_left q c.args.value c.self.inside.nodes c.insert_entry.new.nodes c.self.inside.cells c.insert_entry.new.cells c.self.inside.count c.insert_entry.new.entries c.self.inside.shape c.self.invariant c.insert_entry.result c.insert_entry.ensures.inserted c.self-1.given.0)
+    (entries_left q c.args.value c.self.inside.nodes c.insert_entry.new.nodes c.self.inside.cells c.insert_entry.new.cells c.self.inside.count
+    c.insert_entry.new.entries c.self.inside.shape c.self.invariant c.insert_entry.result c.insert_entry.ensures.inserted c.self-1.given.0)
 
 pub returns-clause-nodes : goal.returns-clause-nodes
 returns-clause-nodes g c =
     let q = take c.args.len (g.K.Key.bits c.args.key) in
     subst (λ (s : Contents g.row.T.Denot). OnOk c.insert_entry.result (c.self-1.given.0.0.nodes ≡ with_needed s.nodes q)) c.self.view_is
-    (nodes_left q c.args.value c.self.inside.nodes c.insert_entry.new.nodes c.self.inside.cells c.insert_entry.new.cells c.self.inside.count c.insert_entry.new.entries c.self.inside.shape c.self.invariant c.insert_entry.result c.insert_entry.ensures.inserted c.self-1.given.0)
+    (nodes_left q c.args.value c.self.inside.nodes c.insert_entry.new.nodes c.self.inside.cells c.insert_entry.new.cells c.self.inside.count
+    c.insert_entry.new.entries c.self.inside.shape c.self.invariant c.insert_entry.result c.insert_entry.ensures.inserted c.self-1.given.0)
 
 pub returns-clause-unchanged : goal.returns-clause-unchanged
 returns-clause-unchanged g c =
     let q = take c.args.len (g.K.Key.bits c.args.key) in
-    subst (λ (s : Contents g.row.T.Denot). OnErr c.insert_entry.result ((c.self-1.given.0.0.entries ≡ s.entries) × (c.self-1.given.0.0.nodes ≡ s.nodes))) c.self.view_is
-    (same_left q c.args.value c.self.inside.nodes c.insert_entry.new.nodes c.self.inside.cells c.insert_entry.new.cells c.self.inside.count c.insert_entry.new.entries c.self.inside.shape c.self.invariant c.insert_entry.result c.insert_entry.ensures.inserted c.self-1.given.0)
+    subst (λ (s : Contents g.row.T.Denot). OnErr c.insert_entry.result
+    ((c.self-1.given.0.0.entries ≡ s.entries) × (c.self-1.given.0.0.nodes ≡ s.nodes))) c.self.view_is
+    (same_left q c.args.value c.self.inside.nodes c.insert_entry.new.nodes c.self.inside.cells c.insert_entry.new.cells c.self.inside.count
+    c.insert_entry.new.entries c.self.inside.shape c.self.invariant c.insert_entry.result c.insert_entry.ensures.inserted c.self-1.given.0)
 
 pub returns-clause-stored : goal.returns-clause-stored
 returns-clause-stored g c = λ there.
     let t = c.self.invariant.held.table in
     let q = take c.args.len (g.K.Key.bits c.args.key) in
-    let some = ap (λ o. is_some o) (sym (shape_entries t.reading t.values t.paths c.self.inside.nodes c.self.inside.cells t.holds c.self.inside.shape.0 c.self.inside.shape.1 q) ∙ ap (λ (s : Contents g.row.T.Denot). get s.entries q) c.self.view_is) in
-    let kept = c.insert_entry.ensures.stored t.reading t.paths t.values t.holds (some ∙ there) in
-    (kept.0, (λ i. record { limit = kept.1.2 i; node_slots = kept.1.0 i; cell_slots = kept.2.0 i }) ∙ ap (λ (s : Contents g.row.T.Denot). s.room) c.self.view_is)
+    let some = ap (λ o. is_some o) (sym (shape_entries t.reading t.values t.paths c.self.inside.nodes c.self.inside.cells t.holds
+    c.self.inside.shape.0 c.self.inside.shape.1 q) ∙ ap (λ (s : Contents g.row.T.Denot). get s.entries q) c.self.view_is) in
+    let kept = c.insert_entry.ensures.stored t.reading t.paths t.values t.holds (some ∙ there) in (
+      kept.0,
+      (λ i. record { limit = kept.1.2 i; node_slots = kept.1.0 i; cell_slots = kept.2.0 i })
+          ∙ ap (λ (s : Contents g.row.T.Denot). s.room) c.self.view_is,
+    )

@@ -10,24 +10,36 @@ use Rattle.prefix_trie_table.proofs.table.insertion.add_child.Goals as goal
 
 pub insert_at-block-requires-clause-holds : goal.insert_at-block-requires-clause-holds
 insert_at-block-requires-clause-holds g c =
-    has_list c.args.nodes.now (c.args.at.start + c.args.at.place) c.args.node c.count.result c.requires.stands c.requires.node (c.count.ensures ∙ sym (rank-ones c.args.node.child_bitmap 32 (omega arith)))
+    has_list c.args.nodes.now (c.args.at.start + c.args.at.place) c.args.node c.count.result c.requires.stands c.requires.node
+    (c.count.ensures ∙ sym (rank-ones c.args.node.child_bitmap 32 (omega arith)))
 
 pub insert_at-block-requires-clause-ready : goal.insert_at-block-requires-clause-ready
 insert_at-block-requires-clause-ready g c =
-    subst (λ n. IsReady c.args.nodes.now.tiers c.args.node.child_tier n) (rank-ones c.args.node.child_bitmap 32 (omega arith) ∙ sym c.count.ensures) c.requires.ready
+    subst (λ n. IsReady c.args.nodes.now.tiers c.args.node.child_tier n) (rank-ones c.args.node.child_bitmap 32 (omega arith) ∙ sym c.count.ensures)
+    c.requires.ready
 
 pub insert_at-block-requires-clause-place : goal.insert_at-block-requires-clause-place
 insert_at-block-requires-clause-place g c =
-    omega (arith, rank-within c.args.node.child_bitmap c.args.child c.requires.child, rank-ones c.args.node.child_bitmap c.args.child (omega (arith, c.requires.child)), rank-ones c.args.node.child_bitmap 32 (omega arith), c.rank-place.ensures, c.count.ensures)
+    omega (
+      arith,
+      rank-within c.args.node.child_bitmap c.args.child c.requires.child,
+      rank-ones c.args.node.child_bitmap c.args.child (omega (arith, c.requires.child)),
+      rank-ones c.args.node.child_bitmap 32 (omega arith),
+      c.rank-place.ensures,
+      c.count.ensures,
+    )
 
 pub with_bit-child_bitmap-requires-clause-clear : goal.with_bit-child_bitmap-requires-clause-clear
 with_bit-child_bitmap-requires-clause-clear g c = sym (has_bit-is c.args.node.child_bitmap c.args.child c.requires.child) ∙ c.requires.missing
 
 pub overflow_cast-block : goal.overflow_cast-block
 overflow_cast-block g c =
-    let h = has_list c.args.nodes.now (c.args.at.start + c.args.at.place) c.args.node c.count.result c.requires.stands c.requires.node (c.count.ensures ∙ sym (rank-ones c.args.node.child_bitmap 32 (omega arith))) in
+    let h = has_list c.args.nodes.now (c.args.at.start + c.args.at.place) c.args.node c.count.result c.requires.stands c.requires.node
+    (c.count.ensures ∙ sym (rank-ones c.args.node.child_bitmap 32 (omega arith))) in
     let s = c.insert_at-block.ensures.sound h.size h.items h.live h.sound h.is_count in
-    let small : c.insert_at-block.result.tier < 7 = tier_small blank_node _ h.live c.insert_at-block.new.self node_sizes s (c.insert_at-block.ensures.spends.sizes ∙ c.requires.stands.hold.sizes_are) in
+    let small : c.insert_at-block.result.tier < 7 =
+    tier_small blank_node _ h.live c.insert_at-block.new.self node_sizes s
+    (c.insert_at-block.ensures.spends.sizes ∙ c.requires.stands.hold.sizes_are) in
     omega arith
 
 pub put-requires : goal.put-requires
@@ -44,7 +56,12 @@ returns-clause-kept g c = λ j other.
 pub returns-clause-added : goal.returns-clause-added
 returns-clause-added g c = λ reading paths p n hold stands is.
     let same : c.count.result ≡ rank c.args.node.child_bitmap 32 = c.count.ensures ∙ sym (rank-ones c.args.node.child_bitmap 32 (omega arith)) in
-    added c.args.nodes.now c.insert_at-block.new.self c.put.new.self (c.args.at.start + c.args.at.place) c.rank-place.result c.args.child c.insert_at-block.result.tier c.insert_at-block.result.start c.with_bit-child_bitmap.result _ c.args.node _
+    added c.args.nodes.now c.insert_at-block.new.self c.put.new.self (c.args.at.start + c.args.at.place) c.rank-place.result c.args.child
+    c.insert_at-block.result.tier c.insert_at-block.result.start c.with_bit-child_bitmap.result _ c.args.node _
     c.requires.node c.with_bit-child_bitmap.ensures.sets refl c.insert_at-block.ensures.spends
-    (λ size xs live s count. subst (λ (b : Node). Sound blank_node (block c.insert_at-block.result.tier c.insert_at-block.result.start (tier_at c.args.nodes.now.tiers c.insert_at-block.result.tier).size (insert xs c.rank-place.result b) ∷ live) c.insert_at-block.new.self) c.blank.ensures (c.insert_at-block.ensures.sound size xs live s (count ∙ sym same)))
-    (c.rank-place.ensures ∙ sym (rank-ones c.args.node.child_bitmap c.args.child (omega (arith, c.requires.child)))) c.requires.child c.requires.missing c.put.ensures.slots reading paths p n hold stands is
+    (λ size xs live s count. subst (λ (b : Node). Sound blank_node
+    (block c.insert_at-block.result.tier c.insert_at-block.result.start (tier_at c.args.nodes.now.tiers c.insert_at-block.result.tier).size
+    (insert xs c.rank-place.result b) ∷ live) c.insert_at-block.new.self) c.blank.ensures
+    (c.insert_at-block.ensures.sound size xs live s (count ∙ sym same)))
+    (c.rank-place.ensures ∙ sym (rank-ones c.args.node.child_bitmap c.args.child (omega (arith, c.requires.child)))) c.requires.child
+    c.requires.missing c.put.ensures.slots reading paths p n hold stands is

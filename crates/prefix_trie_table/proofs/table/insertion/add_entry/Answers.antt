@@ -19,7 +19,8 @@ loop-level-init g c =
     let at = c.requires.reached in
     let room = c.requires.room in
     record {
-      walked = λ reading paths values holds deep. walked_start reading values paths (path_of (take c.args.len (g.K.Key.bits c.args.key))) c.args.reached.level (c.args.reached.at.start + c.args.reached.at.place) c.args.nodes.now c.args.cells.now holds deep;
+      walked = λ reading paths values holds deep. walked_start reading values paths (path_of (take c.args.len (g.K.Key.bits c.args.key)))
+          c.args.reached.level (c.args.reached.at.start + c.args.reached.at.place) c.args.nodes.now c.args.cells.now holds deep;
       node = at.node_is;
       missing = λ h. at.missing (level_inside level len h);
       enough = λ h. room.children (level_inside level len h);
@@ -33,7 +34,8 @@ pub add_child-at-requires-clause-missing : goal.add_child-at-requires-clause-mis
 add_child-at-requires-clause-missing g c =
     let b = g.K.Key.bits c.args.key in
     let inside : c.loop-level.level < c.args.len / 5 = c.loop-level-test.true in
-    let step = step-read b c.args.len c.loop-level.level c.requires.reached.long c.child_bit_of.result (level_inside c.loop-level.level c.args.len inside) c.child_bit_of.ensures.value in
+    let step = step-read b c.args.len c.loop-level.level c.requires.reached.long c.child_bit_of.result
+    (level_inside c.loop-level.level c.args.len inside) c.child_bit_of.ensures.value in
     ap (has_bit c.loop-level.node.child_bitmap) (sym step) ∙ c.loop-level.invariant.missing inside
 
 pub loop-level-preserved : goal.loop-level-preserved
@@ -45,18 +47,31 @@ loop-level-preserved g c =
     let now = c.loop-level.level in
     let inside : c.loop-level.level < c.args.len / 5 = c.loop-level-test.true in
     let within : c.loop-level.level < length (path_of (take c.args.len b)) = omega (arith, inside, steps-all b c.args.len c.requires.reached.long) in
-    let step = step-read b c.args.len c.loop-level.level c.requires.reached.long c.child_bit_of.result (level_inside c.loop-level.level c.args.len inside) c.child_bit_of.ensures.value in
-    let lacks : has_bit (node_at c.loop-level.nodes.slots (c.loop-level.at.start + c.loop-level.at.place)).child_bitmap c.child_bit_of.result ≡ false = ap (λ (k : Node). has_bit k.child_bitmap c.child_bit_of.result) (sym inv.node) ∙ ap (has_bit c.loop-level.node.child_bitmap) (sym step) ∙ inv.missing inside in
-    let first = walked_more s.table.reading s.table.values s.table.paths path now (c.loop-level.at.start + c.loop-level.at.place) c.child_bit_of.result (c.add_child-at.result.start + c.add_child-at.result.place) c.loop-level.nodes c.add_child-at.new.nodes c.args.cells.now (inv.walked s.table.reading s.table.paths s.table.values s.table.holds s.deep) within (sym step) lacks c.add_child-at.ensures.added in
-    let blank : c.blank-node.result ≡ node_at c.add_child-at.new.nodes.slots (c.add_child-at.result.start + c.add_child-at.result.place) = c.blank-node.ensures ∙ sym first.1 in
+    let step = step-read b c.args.len c.loop-level.level c.requires.reached.long c.child_bit_of.result
+    (level_inside c.loop-level.level c.args.len inside) c.child_bit_of.ensures.value in
+    let lacks : has_bit (node_at c.loop-level.nodes.slots (c.loop-level.at.start + c.loop-level.at.place)).child_bitmap
+    c.child_bit_of.result ≡ false = ap (λ (k : Node). has_bit k.child_bitmap c.child_bit_of.result) (sym inv.node)
+    ∙ ap (has_bit c.loop-level.node.child_bitmap) (sym step) ∙ inv.missing inside in
+    let first = walked_more s.table.reading s.table.values s.table.paths path now (c.loop-level.at.start + c.loop-level.at.place)
+    c.child_bit_of.result (c.add_child-at.result.start + c.add_child-at.result.place) c.loop-level.nodes c.add_child-at.new.nodes c.args.cells.now
+    (inv.walked s.table.reading s.table.paths s.table.values s.table.holds s.deep) within (sym step) lacks c.add_child-at.ensures.added in
+    let blank : c.blank-node.result ≡ node_at c.add_child-at.new.nodes.slots (c.add_child-at.result.start + c.add_child-at.result.place) =
+    c.blank-node.ensures ∙ sym first.1 in
     let single : tier_for c.add_child-at.new.nodes.tiers 1 ≡ Some 0 = single_node c.add_child-at.new.nodes.tiers first.0.holds.hold.sizes_are in
-    let free : c.args.len / 5 - (now + 1) ≤ free_at c.add_child-at.new.nodes.tiers 0 = enough_next c.loop-level.nodes.tiers c.add_child-at.new.nodes.tiers c.loop-level.node.child_tier (rank c.loop-level.node.child_bitmap 32) (c.args.len / 5 - (now + 1)) (inv.enough inside) c.add_child-at.ensures.free c.add_child-at.ensures.kept in
+    let free : c.args.len / 5 - (now + 1) ≤ free_at c.add_child-at.new.nodes.tiers 0 =
+    enough_next c.loop-level.nodes.tiers c.add_child-at.new.nodes.tiers c.loop-level.node.child_tier (rank c.loop-level.node.child_bitmap 32)
+    (c.args.len / 5 - (now + 1)) (inv.enough inside) c.add_child-at.ensures.free c.add_child-at.ensures.kept in
     record {
-      walked = λ reading paths values holds deep. (walked_more reading values paths path now (c.loop-level.at.start + c.loop-level.at.place) c.child_bit_of.result (c.add_child-at.result.start + c.add_child-at.result.place) c.loop-level.nodes c.add_child-at.new.nodes c.args.cells.now (inv.walked reading paths values holds deep) within (sym step) lacks c.add_child-at.ensures.added).0;
+      walked = λ reading paths values holds deep.
+          (walked_more reading values paths path now (c.loop-level.at.start + c.loop-level.at.place) c.child_bit_of.result
+          (c.add_child-at.result.start + c.add_child-at.result.place) c.loop-level.nodes c.add_child-at.new.nodes c.args.cells.now
+          (inv.walked reading paths values holds deep) within (sym step) lacks c.add_child-at.ensures.added).0;
       node = blank;
       missing = λ h. ap (λ (k : Node). has_bit k.child_bitmap (get_or path (now + 1) 0)) c.blank-node.ensures ∙ has_bit-zero (get_or path (now + 1) 0);
-      enough = λ h. enough_below c.blank-node.result c.add_child-at.new.nodes.tiers (c.args.len / 5 - (now + 1 + 1)) c.blank-node.ensures single (omega (arith, h, free));
-      value = λ h. value_below c.blank-node.result c.args.cells.now (bit_of (take c.args.len b)) c.blank-node.ensures (c.requires.room.below (level_inside c.args.reached.level c.args.len (let f = inv.from in omega arith)));
+      enough = λ h. enough_below c.blank-node.result c.add_child-at.new.nodes.tiers (c.args.len / 5 - (now + 1 + 1)) c.blank-node.ensures single
+          (omega (arith, h, free));
+      value = λ h. value_below c.blank-node.result c.args.cells.now (bit_of (take c.args.len b)) c.blank-node.ensures
+          (c.requires.room.below (level_inside c.args.reached.level c.args.len (let f = inv.from in omega arith)));
       within = omega (arith, inside);
       from = (let f = inv.from in omega arith);
       room = SameRoom-then c.args.nodes.now c.loop-level.nodes c.add_child-at.new.nodes inv.room c.add_child-at.ensures.room;
@@ -66,17 +81,34 @@ pub add_value-requires-clause-stands : goal.add_value-requires-clause-stands
 add_value-requires-clause-stands g c =
     let s = c.requires.stands in
     let a = c.loop-level.invariant.walked s.table.reading s.table.paths s.table.values s.table.holds s.deep in
-    record { reading = a.later; paths = a.paths; values = s.table.values; path = _; node = a.deep.node; hold = a.holds.hold; cells = a.holds.cells; stands = a.deep.stands; is = a.deep.is }
+    record {
+      reading = a.later;
+      paths = a.paths;
+      values = s.table.values;
+      path = _;
+      node = a.deep.node;
+      hold = a.holds.hold;
+      cells = a.holds.cells;
+      stands = a.deep.stands;
+      is = a.deep.is;
+    }
 
 pub add_value-requires-clause-missing : goal.add_value-requires-clause-missing
 add_value-requires-clause-missing g c =
     let b = g.K.Key.bits c.args.key in
     let last : c.loop-level.level ≡ c.args.len / 5 = (let w = c.loop-level.invariant.within in omega (arith, w, c.loop-level-test.false)) in
-    ap (has_bit c.loop-level.node.value_bitmap) (sym (bit-read-last b c.args.len c.requires.reached.long c.value_bit_of.result c.value_bit_of.ensures.value)) ∙ (c.loop-level.invariant.value last).missing
+    ap (has_bit c.loop-level.node.value_bitmap)
+    (sym (bit-read-last b c.args.len c.requires.reached.long c.value_bit_of.result c.value_bit_of.ensures.value))
+    ∙ (c.loop-level.invariant.value last).missing
 
 pub returns-clause-added : goal.returns-clause-added
 returns-clause-added g c = λ reading paths values holds.
     let b = g.K.Key.bits c.args.key in
     let last : c.loop-level.level ≡ c.args.len / 5 = (let w = c.loop-level.invariant.within in omega (arith, w, c.loop-level-test.false)) in
-    subst (λ i. EntryAdded reading values paths (path_of (take c.args.len b)) i (Some c.args.value) c.add_value.new.nodes c.add_value.new.cells) (sym (bit-read-last b c.args.len c.requires.reached.long c.value_bit_of.result c.value_bit_of.ensures.value))
-    (entry_added reading values paths (path_of (take c.args.len b)) c.loop-level.level (c.loop-level.at.start + c.loop-level.at.place) c.value_bit_of.result (Some c.args.value) c.loop-level.nodes c.add_value.new.nodes c.args.cells.now c.add_value.new.cells (c.loop-level.invariant.walked reading paths values holds (c.requires.reached.deepest reading paths holds.hold)) (last ∙ sym (steps-all b c.args.len c.requires.reached.long)) (λ nodes ps q m h cells stands is. c.add_value.ensures.added nodes ps values q m h cells stands is))
+    subst (λ i. EntryAdded reading values paths (path_of (take c.args.len b)) i (Some c.args.value) c.add_value.new.nodes c.add_value.new.cells)
+    (sym (bit-read-last b c.args.len c.requires.reached.long c.value_bit_of.result c.value_bit_of.ensures.value))
+    (entry_added reading values paths (path_of (take c.args.len b)) c.loop-level.level (c.loop-level.at.start + c.loop-level.at.place)
+    c.value_bit_of.result (Some c.args.value) c.loop-level.nodes c.add_value.new.nodes c.args.cells.now c.add_value.new.cells
+    (c.loop-level.invariant.walked reading paths values holds (c.requires.reached.deepest reading paths holds.hold))
+    (last ∙ sym (steps-all b c.args.len c.requires.reached.long))
+    (λ nodes ps q m h cells stands is. c.add_value.ensures.added nodes ps values q m h cells stands is))

@@ -9,24 +9,36 @@ use Rattle.prefix_trie_table.proofs.table.insertion.add_value.Goals as goal
 
 pub insert_at-block-requires-clause-holds : goal.insert_at-block-requires-clause-holds
 insert_at-block-requires-clause-holds g c =
-    has_values c.args.nodes.now c.args.cells.now (c.args.at.start + c.args.at.place) c.args.node c.count.result c.requires.stands c.requires.node (c.count.ensures ∙ sym (rank-ones c.args.node.value_bitmap 32 (omega arith)))
+    has_values c.args.nodes.now c.args.cells.now (c.args.at.start + c.args.at.place) c.args.node c.count.result c.requires.stands c.requires.node
+    (c.count.ensures ∙ sym (rank-ones c.args.node.value_bitmap 32 (omega arith)))
 
 pub insert_at-block-requires-clause-ready : goal.insert_at-block-requires-clause-ready
 insert_at-block-requires-clause-ready g c =
-    subst (λ n. IsReady c.args.cells.now.tiers c.args.node.value_tier n) (rank-ones c.args.node.value_bitmap 32 (omega arith) ∙ sym c.count.ensures) c.requires.ready
+    subst (λ n. IsReady c.args.cells.now.tiers c.args.node.value_tier n) (rank-ones c.args.node.value_bitmap 32 (omega arith) ∙ sym c.count.ensures)
+    c.requires.ready
 
 pub insert_at-block-requires-clause-place : goal.insert_at-block-requires-clause-place
 insert_at-block-requires-clause-place g c =
-    omega (arith, rank-within c.args.node.value_bitmap c.args.bit (omega (arith, c.requires.bit)), rank-ones c.args.node.value_bitmap c.args.bit (omega (arith, c.requires.bit)), rank-ones c.args.node.value_bitmap 32 (omega arith), c.rank-place.ensures, c.count.ensures)
+    omega (
+      arith,
+      rank-within c.args.node.value_bitmap c.args.bit (omega (arith, c.requires.bit)),
+      rank-ones c.args.node.value_bitmap c.args.bit (omega (arith, c.requires.bit)),
+      rank-ones c.args.node.value_bitmap 32 (omega arith),
+      c.rank-place.ensures,
+      c.count.ensures,
+    )
 
 pub with_bit-value_bitmap-requires-clause-clear : goal.with_bit-value_bitmap-requires-clause-clear
 with_bit-value_bitmap-requires-clause-clear g c = sym (has_bit-is c.args.node.value_bitmap c.args.bit (omega (arith, c.requires.bit))) ∙ c.requires.missing
 
 pub overflow_cast-block : goal.overflow_cast-block
 overflow_cast-block g c =
-    let h = has_values c.args.nodes.now c.args.cells.now (c.args.at.start + c.args.at.place) c.args.node c.count.result c.requires.stands c.requires.node (c.count.ensures ∙ sym (rank-ones c.args.node.value_bitmap 32 (omega arith))) in
+    let h = has_values c.args.nodes.now c.args.cells.now (c.args.at.start + c.args.at.place) c.args.node c.count.result c.requires.stands
+    c.requires.node (c.count.ensures ∙ sym (rank-ones c.args.node.value_bitmap 32 (omega arith))) in
     let s = c.insert_at-block.ensures.sound h.size h.items h.live h.sound h.is_count in
-    let small : c.insert_at-block.result.tier < 7 = tier_small None _ h.live c.insert_at-block.new.self cell_sizes s (c.insert_at-block.ensures.spends.sizes ∙ c.requires.stands.cells.sizes_are) in
+    let small : c.insert_at-block.result.tier < 7 =
+    tier_small None _ h.live c.insert_at-block.new.self cell_sizes s
+    (c.insert_at-block.ensures.spends.sizes ∙ c.requires.stands.cells.sizes_are) in
     omega arith
 
 pub put-requires : goal.put-requires
@@ -35,7 +47,9 @@ put-requires g c = (at_is c.args.nodes.now (c.args.at.start + c.args.at.place) (
 pub returns-clause-added : goal.returns-clause-added
 returns-clause-added g c = λ reading paths values p n hold cells stands is.
     let same : c.count.result ≡ rank c.args.node.value_bitmap 32 = c.count.ensures ∙ sym (rank-ones c.args.node.value_bitmap 32 (omega arith)) in
-    values_added c.args.nodes.now c.put.new.self c.args.cells.now c.insert_at-block.new.self (c.args.at.start + c.args.at.place) c.rank-place.result c.args.bit c.insert_at-block.result.tier c.insert_at-block.result.start c.with_bit-value_bitmap.result _ c.args.node _ c.args.value
+    values_added c.args.nodes.now c.put.new.self c.args.cells.now c.insert_at-block.new.self (c.args.at.start + c.args.at.place) c.rank-place.result
+    c.args.bit c.insert_at-block.result.tier c.insert_at-block.result.start c.with_bit-value_bitmap.result _ c.args.node _ c.args.value
     c.requires.node c.with_bit-value_bitmap.ensures.sets refl c.insert_at-block.ensures.spends
     (λ size xs live s count. c.insert_at-block.ensures.sound size xs live s (count ∙ sym same))
-    (c.rank-place.ensures ∙ sym (rank-ones c.args.node.value_bitmap c.args.bit (omega (arith, c.requires.bit)))) (omega (arith, c.requires.bit)) c.requires.missing c.requires.bit c.put.ensures.slots reading paths values p n hold cells stands is
+    (c.rank-place.ensures ∙ sym (rank-ones c.args.node.value_bitmap c.args.bit (omega (arith, c.requires.bit)))) (omega (arith, c.requires.bit))
+    c.requires.missing c.requires.bit c.put.ensures.slots reading paths values p n hold cells stands is

@@ -15,7 +15,8 @@ use Rattle.prefix_trie_table.proofs.table.insertion.insert_value.Goals.{then-dep
 
 pub replace_value-requires-clause-there : goal.replace_value-requires-clause-there
 replace_value-requires-clause-there g c =
-    has_bit-is c.descend-reached.result.node.value_bitmap c.value_bit_of-bit.result (omega (arith, c.value_bit_of-bit.ensures.small)) ∙ sym c.has_bit.ensures ∙ c.if-has_bit.true
+    has_bit-is c.descend-reached.result.node.value_bitmap c.value_bit_of-bit.result (omega (arith, c.value_bit_of-bit.ensures.small))
+    ∙ sym c.has_bit.ensures ∙ c.if-has_bit.true
 
 pub returns-then-has_bit-clause-inserted : goal.returns-then-has_bit-clause-inserted
 returns-then-has_bit-clause-inserted g c = λ reading paths values holds.
@@ -26,13 +27,20 @@ returns-then-has_bit-clause-inserted g c = λ reading paths values holds.
     let deep = at.deepest reading paths holds.hold in
     let own = reached_own b c.args.len level _ c.descend-reached.result.node c.args.nodes.now at reading paths holds.hold less in
     let end = steps-end b c.args.len level at.long at.whole less in
-    let whole : take c.descend-reached.result.level (path_of (take c.args.len b)) ≡ path_of (take c.args.len b) = take_all c.descend-reached.result.level (path_of (take c.args.len b)) (omega (arith, end)) in
-    let bit = bit-read b c.args.len level at.long c.value_bit_of-bit.result at.whole less c.value_bit_of-bit.ensures.value in
-    (c.replace_value.ensures.before reading paths values (path_of (take c.args.len b)) c.descend-reached.result.node holds.hold holds.cells (subst (λ p. IsSlot reading p (c.descend-reached.result.at.start + c.descend-reached.result.at.place)) whole deep.stands) own ∙ ap (values (path_of (take c.args.len b))) (sym bit),
-    subst (λ i. EntryAdded reading values paths (path_of (take c.args.len b)) i (Some c.args.value) c.args.nodes.now c.replace_value.new.cells) (sym bit)
-      (entry_added reading values paths (path_of (take c.args.len b)) c.descend-reached.result.level (c.descend-reached.result.at.start + c.descend-reached.result.at.place) c.value_bit_of-bit.result (Some c.args.value) c.args.nodes.now c.args.nodes.now c.args.cells.now c.replace_value.new.cells
-      (walked_start reading values paths (path_of (take c.args.len b)) c.descend-reached.result.level (c.descend-reached.result.at.start + c.descend-reached.result.at.place) c.args.nodes.now c.args.cells.now holds deep) (sym end)
-      (λ nodes ps q m h cells stands is. c.replace_value.ensures.replaced nodes ps values q m h cells stands is)))
+    let whole : take c.descend-reached.result.level (path_of (take c.args.len b)) ≡ path_of (take c.args.len b) =
+    take_all c.descend-reached.result.level (path_of (take c.args.len b)) (omega (arith, end)) in
+    let bit = bit-read b c.args.len level at.long c.value_bit_of-bit.result at.whole less c.value_bit_of-bit.ensures.value in (
+      c.replace_value.ensures.before reading paths values (path_of (take c.args.len b)) c.descend-reached.result.node holds.hold holds.cells
+          (subst (λ p. IsSlot reading p (c.descend-reached.result.at.start + c.descend-reached.result.at.place)) whole deep.stands) own
+          ∙ ap (values (path_of (take c.args.len b))) (sym bit),
+      subst (λ i. EntryAdded reading values paths (path_of (take c.args.len b)) i (Some c.args.value) c.args.nodes.now c.replace_value.new.cells) (sym bit)
+          (entry_added reading values paths (path_of (take c.args.len b)) c.descend-reached.result.level
+          (c.descend-reached.result.at.start + c.descend-reached.result.at.place) c.value_bit_of-bit.result (Some c.args.value) c.args.nodes.now
+          c.args.nodes.now c.args.cells.now c.replace_value.new.cells
+          (walked_start reading values paths (path_of (take c.args.len b)) c.descend-reached.result.level
+          (c.descend-reached.result.at.start + c.descend-reached.result.at.place) c.args.nodes.now c.args.cells.now holds deep) (sym end)
+          (λ nodes ps q m h cells stands is. c.replace_value.ensures.replaced nodes ps values q m h cells stands is)),
+    )
 
 pub prepare-requires-clause-few_values : goal.prepare-requires-clause-few_values
 prepare-requires-clause-few_values g c = λ less.
@@ -41,14 +49,18 @@ prepare-requires-clause-few_values g c = λ less.
     let at = c.descend-reached.ensures.reached in
     elim c.if-depth-len.branch [
       | then-depth-len+else-has_bit w ↦
-          few_values t.reading t.values t.paths c.args.cells.now (path_of (take c.args.len b)) c.descend-reached.result.node w.value_bit_of-bit.result t.holds.cells
-          (reached_own b c.args.len c.descend-reached.result.level _ c.descend-reached.result.node c.args.nodes.now at t.reading t.paths t.holds.hold less) w.value_bit_of-bit.ensures.small
-          (has_bit-is c.descend-reached.result.node.value_bitmap w.value_bit_of-bit.result (omega (arith, w.value_bit_of-bit.ensures.small)) ∙ sym w.has_bit.ensures ∙ w.if-has_bit.false)
+          few_values t.reading t.values t.paths c.args.cells.now (path_of (take c.args.len b)) c.descend-reached.result.node w.value_bit_of-bit.result
+          t.holds.cells
+          (reached_own b c.args.len c.descend-reached.result.level _ c.descend-reached.result.node c.args.nodes.now at t.reading t.paths t.holds.hold
+          less) w.value_bit_of-bit.ensures.small
+          (has_bit-is c.descend-reached.result.node.value_bitmap w.value_bit_of-bit.result (omega (arith, w.value_bit_of-bit.ensures.small))
+          ∙ sym w.has_bit.ensures ∙ w.if-has_bit.false)
       | else-depth-len w ↦ absurd (omega (arith, less, w.if-depth-len.false))
     ]
 
 pub prepare-requires-clause-few_children : goal.prepare-requires-clause-few_children
-prepare-requires-clause-few_children g c = few_children (g.K.Key.bits c.args.key) c.args.len c.descend-reached.result.level _ c.descend-reached.result.node c.args.nodes.now c.descend-reached.ensures.reached
+prepare-requires-clause-few_children g c = few_children (g.K.Key.bits c.args.key) c.args.len c.descend-reached.result.level _
+    c.descend-reached.result.node c.args.nodes.now c.descend-reached.ensures.reached
 
 pub returns-in-Err-clause-inserted : goal.returns-in-Err-clause-inserted
 returns-in-Err-clause-inserted g c = λ reading paths values holds. record {
@@ -60,8 +72,11 @@ pub returns-in-Err-clause-stored : goal.returns-in-Err-clause-stored
 returns-in-Err-clause-stored g c = λ reading paths values holds some.
     let b = g.K.Key.bits c.args.key in
     let at = c.descend-reached.ensures.reached in
-    absurd (false≢true (sym (ap is_some (lacks_value b c.args.len c.descend-reached.result.level _ c.descend-reached.result.node c.args.nodes.now at reading values paths c.args.cells.now holds (λ less. elim c.if-depth-len.branch [
-      | then-depth-len+else-has_bit w ↦ value_bit_is b c.args.len c.descend-reached.result.level _ c.descend-reached.result.node c.args.nodes.now at reading values paths c.args.cells.now holds less w.value_bit_of-bit.result w.value_bit_of-bit.ensures.small w.value_bit_of-bit.ensures.value ∙ sym w.has_bit.ensures ∙ w.if-has_bit.false
+    absurd (false≢true (sym (ap is_some (lacks_value b c.args.len c.descend-reached.result.level _ c.descend-reached.result.node c.args.nodes.now at
+    reading values paths c.args.cells.now holds (λ less. elim c.if-depth-len.branch [
+      | then-depth-len+else-has_bit w ↦ value_bit_is b c.args.len c.descend-reached.result.level _ c.descend-reached.result.node c.args.nodes.now at
+          reading values paths c.args.cells.now holds less w.value_bit_of-bit.result w.value_bit_of-bit.ensures.small w.value_bit_of-bit.ensures.value
+          ∙ sym w.has_bit.ensures ∙ w.if-has_bit.false
       | else-depth-len w ↦ absurd (omega (arith, less, w.if-depth-len.false))
     ]))) ∙ some))
 
@@ -70,14 +85,26 @@ add_entry-requires-clause-stands g c =
     let t = c.requires.table in
     let deep = c.descend-reached.ensures.reached.deepest t.reading t.paths t.holds.hold in
     record {
-      table = record { reading = t.reading; values = t.values; paths = t.paths; holds = record { hold = nodes_prepared t.reading t.paths _ _ t.holds.hold c.prepare.ensures.nodes c.prepare.ensures.nodes_sound; cells = cells_prepared t.reading t.values t.paths _ _ t.holds.cells c.prepare.ensures.cells c.prepare.ensures.cells_sound } };
+      table = record {
+        reading = t.reading;
+        values = t.values;
+        paths = t.paths;
+        holds =
+            record {
+              hold = nodes_prepared t.reading t.paths _ _ t.holds.hold c.prepare.ensures.nodes c.prepare.ensures.nodes_sound;
+              cells =
+                  cells_prepared t.reading t.values t.paths _ _ t.holds.cells c.prepare.ensures.cells c.prepare.ensures.cells_sound;
+            };
+      };
       deep = record { node = deep.node; stands = deep.stands; is = deep.is };
     }
 
 pub add_entry-requires-clause-reached : goal.add_entry-requires-clause-reached
 add_entry-requires-clause-reached g c =
     let t = c.requires.table in
-    reached_still (g.K.Key.bits c.args.key) c.args.len c.descend-reached.result.level _ c.descend-reached.result.node c.args.nodes.now c.prepare.new.nodes t.reading t.paths c.descend-reached.ensures.reached t.holds.hold c.prepare.ensures.nodes (nodes_prepared t.reading t.paths _ _ t.holds.hold c.prepare.ensures.nodes c.prepare.ensures.nodes_sound)
+    reached_still (g.K.Key.bits c.args.key) c.args.len c.descend-reached.result.level _ c.descend-reached.result.node c.args.nodes.now
+    c.prepare.new.nodes t.reading t.paths c.descend-reached.ensures.reached t.holds.hold c.prepare.ensures.nodes
+    (nodes_prepared t.reading t.paths _ _ t.holds.hold c.prepare.ensures.nodes c.prepare.ensures.nodes_sound)
 
 pub add_entry-requires-clause-lacks : goal.add_entry-requires-clause-lacks
 add_entry-requires-clause-lacks g c =
@@ -85,25 +112,39 @@ add_entry-requires-clause-lacks g c =
     let t = c.requires.table in
     let at = c.descend-reached.ensures.reached in
     (λ less. elim c.if-depth-len.branch [
-      | then-depth-len+else-has_bit w ↦ value_bit_is b c.args.len c.descend-reached.result.level _ c.descend-reached.result.node c.args.nodes.now at t.reading t.values t.paths c.args.cells.now t.holds less w.value_bit_of-bit.result w.value_bit_of-bit.ensures.small w.value_bit_of-bit.ensures.value ∙ sym w.has_bit.ensures ∙ w.if-has_bit.false
+      | then-depth-len+else-has_bit w ↦ value_bit_is b c.args.len c.descend-reached.result.level _ c.descend-reached.result.node c.args.nodes.now at
+          t.reading t.values t.paths c.args.cells.now t.holds less w.value_bit_of-bit.result w.value_bit_of-bit.ensures.small
+          w.value_bit_of-bit.ensures.value ∙ sym w.has_bit.ensures ∙ w.if-has_bit.false
       | else-depth-len w ↦ absurd (omega (arith, less, w.if-depth-len.false))
     ])
 
 pub returns-clause-inserted : goal.returns-clause-inserted
 returns-clause-inserted g c = λ reading paths values holds.
     let b = g.K.Key.bits c.args.key in
-    let at = c.descend-reached.ensures.reached in
-    (sym (lacks_value b c.args.len c.descend-reached.result.level _ c.descend-reached.result.node c.args.nodes.now at reading values paths c.args.cells.now holds (λ less. elim c.if-depth-len.branch [
-      | then-depth-len+else-has_bit w ↦ value_bit_is b c.args.len c.descend-reached.result.level _ c.descend-reached.result.node c.args.nodes.now at reading values paths c.args.cells.now holds less w.value_bit_of-bit.result w.value_bit_of-bit.ensures.small w.value_bit_of-bit.ensures.value ∙ sym w.has_bit.ensures ∙ w.if-has_bit.false
-      | else-depth-len w ↦ absurd (omega (arith, less, w.if-depth-len.false))
-    ])),
-    c.add_entry.ensures.added reading paths values (record { hold = nodes_prepared reading paths _ _ holds.hold c.prepare.ensures.nodes c.prepare.ensures.nodes_sound; cells = cells_prepared reading values paths _ _ holds.cells c.prepare.ensures.cells c.prepare.ensures.cells_sound }))
+    let at = c.descend-reached.ensures.reached in (
+      sym (lacks_value b c.args.len c.descend-reached.result.level _ c.descend-reached.result.node c.args.nodes.now at reading values paths
+          c.args.cells.now holds (λ less. elim c.if-depth-len.branch [
+            | then-depth-len+else-has_bit w ↦ value_bit_is b c.args.len c.descend-reached.result.level _ c.descend-reached.result.node c.args.nodes.now at
+                reading values paths c.args.cells.now holds less w.value_bit_of-bit.result w.value_bit_of-bit.ensures.small w.value_bit_of-bit.ensures.value
+                ∙ sym w.has_bit.ensures ∙ w.if-has_bit.false
+            | else-depth-len w ↦ absurd (omega (arith, less, w.if-depth-len.false))
+          ])),
+      c.add_entry.ensures.added reading paths values
+          (record {
+            hold = nodes_prepared reading paths _ _ holds.hold c.prepare.ensures.nodes c.prepare.ensures.nodes_sound;
+            cells =
+                cells_prepared reading values paths _ _ holds.cells c.prepare.ensures.cells c.prepare.ensures.cells_sound;
+          }),
+    )
 
 pub returns-clause-stored : goal.returns-clause-stored
 returns-clause-stored g c = λ reading paths values holds some.
     let b = g.K.Key.bits c.args.key in
     let at = c.descend-reached.ensures.reached in
-    absurd (false≢true (sym (ap is_some (lacks_value b c.args.len c.descend-reached.result.level _ c.descend-reached.result.node c.args.nodes.now at reading values paths c.args.cells.now holds (λ less. elim c.if-depth-len.branch [
-      | then-depth-len+else-has_bit w ↦ value_bit_is b c.args.len c.descend-reached.result.level _ c.descend-reached.result.node c.args.nodes.now at reading values paths c.args.cells.now holds less w.value_bit_of-bit.result w.value_bit_of-bit.ensures.small w.value_bit_of-bit.ensures.value ∙ sym w.has_bit.ensures ∙ w.if-has_bit.false
+    absurd (false≢true (sym (ap is_some (lacks_value b c.args.len c.descend-reached.result.level _ c.descend-reached.result.node c.args.nodes.now at
+    reading values paths c.args.cells.now holds (λ less. elim c.if-depth-len.branch [
+      | then-depth-len+else-has_bit w ↦ value_bit_is b c.args.len c.descend-reached.result.level _ c.descend-reached.result.node c.args.nodes.now at
+          reading values paths c.args.cells.now holds less w.value_bit_of-bit.result w.value_bit_of-bit.ensures.small w.value_bit_of-bit.ensures.value
+          ∙ sym w.has_bit.ensures ∙ w.if-has_bit.false
       | else-depth-len w ↦ absurd (omega (arith, less, w.if-depth-len.false))
     ]))) ∙ some))

@@ -16,7 +16,9 @@ use Rattle.prefix_trie_table.proofs.table.insertion.prepare.Goals as goal
 pub prepare-requires-clause-tier : goal.prepare-requires-clause-tier
 prepare-requires-clause-tier g c = λ some.
     let n = c.args.reached.now.node in
-    list_tier None c.args.cells.now n.value_tier n.value_block c.count.result (has_values c.args.nodes.now c.args.cells.now _ n c.count.result c.requires.stands c.requires.node (c.count.ensures ∙ sym (rank-ones n.value_bitmap 32 (omega arith)))) some
+    list_tier None c.args.cells.now n.value_tier n.value_block c.count.result
+    (has_values c.args.nodes.now c.args.cells.now _ n c.count.result c.requires.stands c.requires.node
+    (c.count.ensures ∙ sym (rank-ones n.value_bitmap 32 (omega arith)))) some
 
 pub prepare-requires-clause-single : goal.prepare-requires-clause-single
 prepare-requires-clause-single g c = single_cell c.args.cells.now.tiers c.requires.stands.cells.sizes_are
@@ -24,7 +26,8 @@ prepare-requires-clause-single g c = single_cell c.args.cells.now.tiers c.requir
 pub prepare-requires-clause-fits : goal.prepare-requires-clause-fits
 prepare-requires-clause-fits g c =
     let few = c.requires.few_values (omega (arith, c.if-depth-len.true)) in
-    cell_fits c.args.cells.now.tiers c.count.result c.requires.stands.cells.sizes_are (omega (arith, few, rank-ones c.args.reached.now.node.value_bitmap 32 (omega arith), c.count.ensures))
+    cell_fits c.args.cells.now.tiers c.count.result c.requires.stands.cells.sizes_are
+    (omega (arith, few, rank-ones c.args.reached.now.node.value_bitmap 32 (omega arith), c.count.ensures))
 
 pub returns-then-depth-len-clause-room : goal.returns-then-depth-len-clause-room
 returns-then-depth-len-clause-room g c =
@@ -45,7 +48,9 @@ prepare-requires-2-clause-fits g c = cell_fits c.args.cells.now.tiers 0 c.requir
 pub prepare-requires-3-clause-tier : goal.prepare-requires-3-clause-tier
 prepare-requires-3-clause-tier g c = λ some.
     let n = c.args.reached.now.node in
-    list_tier blank_node c.args.nodes.now n.child_tier n.child_block c.count-2.result (has_list c.args.nodes.now _ n c.count-2.result (at_values _ _ _ c.requires.stands) c.requires.node (c.count-2.ensures ∙ sym (rank-ones n.child_bitmap 32 (omega arith)))) some
+    list_tier blank_node c.args.nodes.now n.child_tier n.child_block c.count-2.result
+    (has_list c.args.nodes.now _ n c.count-2.result (at_values _ _ _ c.requires.stands) c.requires.node
+    (c.count-2.ensures ∙ sym (rank-ones n.child_bitmap 32 (omega arith)))) some
 
 pub prepare-requires-3-clause-single : goal.prepare-requires-3-clause-single
 prepare-requires-3-clause-single g c = single_node c.args.nodes.now.tiers c.requires.stands.hold.sizes_are
@@ -53,13 +58,15 @@ prepare-requires-3-clause-single g c = single_node c.args.nodes.now.tiers c.requ
 pub prepare-requires-3-clause-fits : goal.prepare-requires-3-clause-fits
 prepare-requires-3-clause-fits g c =
     let few = c.requires.few_children (omega (arith, c.if-depth-len.false)) in
-    node_fits c.args.nodes.now.tiers c.count-2.result c.requires.stands.hold.sizes_are (omega (arith, few, rank-ones c.args.reached.now.node.child_bitmap 32 (omega arith), c.count-2.ensures))
+    node_fits c.args.nodes.now.tiers c.count-2.result c.requires.stands.hold.sizes_are
+    (omega (arith, few, rank-ones c.args.reached.now.node.child_bitmap 32 (omega arith), c.count-2.ensures))
 
 pub returns-clause-room : goal.returns-clause-room
 returns-clause-room g c =
     let n = c.args.reached.now.node in
     let same : c.count-2.result ≡ rank n.child_bitmap 32 = c.count-2.ensures ∙ sym (rank-ones n.child_bitmap 32 (omega arith)) in
-    on_ok_weaker c.prepare-3.result (λ (enough : Enough c.prepare-3.new.self.tiers n.child_tier c.count-2.result (c.args.len / 5 - (c.args.reached.now.level + 1))). record {
+    on_ok_weaker c.prepare-3.result
+    (λ (enough : Enough c.prepare-3.new.self.tiers n.child_tier c.count-2.result (c.args.len / 5 - (c.args.reached.now.level + 1))). record {
       here = λ less. absurd (omega (arith, less, c.if-depth-len.false));
       below = λ _. c.in_ok-prepare.ensures.enough.ready;
       children = λ _. subst (λ k. Enough c.prepare-3.new.self.tiers n.child_tier k (c.args.len / 5 - (c.args.reached.now.level + 1))) same enough;
@@ -67,7 +74,9 @@ returns-clause-room g c =
 
 pub returns-then-depth-len-clause-cell_room : goal.returns-then-depth-len-clause-cell_room
 returns-then-depth-len-clause-cell_room g c =
-    Grows-made c.prepare.result c.args.cells.now c.prepare.new.self _ 31 c.prepare.ensures.made c.prepare.ensures.short (cells_lacking c.args.cells.now.tiers c.args.reached.now.node.value_tier c.count.result c.requires.stands.cells.sizes_are c.prepare.ensures.bound)
+    Grows-made c.prepare.result c.args.cells.now c.prepare.new.self _ 31 c.prepare.ensures.made c.prepare.ensures.short
+    (cells_lacking c.args.cells.now.tiers c.args.reached.now.node.value_tier c.count.result c.requires.stands.cells.sizes_are
+    c.prepare.ensures.bound)
 
 -- slots that pass the limit pass it with the most that one insertion lacks
 cells_pass : {T : Type 0} (v : Store Node) (w : Store (Option T)) (lacking : ℕ) → lacking ≤ 31 → w.limit < length w.slots + lacking → MayPass v w
@@ -79,26 +88,36 @@ nodes_pass v w lacking less h = inl (omega arith)
 pub returns-then-depth-len-clause-range : goal.returns-then-depth-len-clause-range
 returns-then-depth-len-clause-range g c =
     IfErr-weaker c.prepare.result _ (λ cause. cause ≡ IndexRange → MayPass c.args.nodes.now c.args.cells.now)
-    (λ cause h is. cells_pass c.args.nodes.now c.args.cells.now _ (cells_lacking c.args.cells.now.tiers c.args.reached.now.node.value_tier c.count.result c.requires.stands.cells.sizes_are c.prepare.ensures.bound) (h is)) c.prepare.ensures.range
+    (λ cause h is. cells_pass c.args.nodes.now c.args.cells.now _
+    (cells_lacking c.args.cells.now.tiers c.args.reached.now.node.value_tier c.count.result c.requires.stands.cells.sizes_are
+    c.prepare.ensures.bound) (h is)) c.prepare.ensures.range
 
 pub returns-in_err-prepare-clause-range : goal.returns-in_err-prepare-clause-range
 returns-in_err-prepare-clause-range g c =
     let p = err_from_is_err_and c.from_residual.result c.from_residual.ensures.1 in
-    rw (p.1, p.2) (λ is. cells_pass c.args.nodes.now c.args.cells.now _ (cells_lacking c.args.cells.now.tiers 0 0 c.requires.stands.cells.sizes_are c.prepare-2.ensures.bound) (c.in_err-prepare.ensures.range is))
+    rw (p.1, p.2) (λ is. cells_pass c.args.nodes.now c.args.cells.now _
+    (cells_lacking c.args.cells.now.tiers 0 0 c.requires.stands.cells.sizes_are c.prepare-2.ensures.bound) (c.in_err-prepare.ensures.range is))
 
 pub returns-in_err-prepare-clause-cell_room : goal.returns-in_err-prepare-clause-cell_room
 returns-in_err-prepare-clause-cell_room g c =
-    Grows-made c.prepare-2.result c.args.cells.now c.prepare-2.new.self _ 31 c.prepare-2.ensures.made c.prepare-2.ensures.short (cells_lacking c.args.cells.now.tiers 0 0 c.requires.stands.cells.sizes_are c.prepare-2.ensures.bound)
+    Grows-made c.prepare-2.result c.args.cells.now c.prepare-2.new.self _ 31 c.prepare-2.ensures.made c.prepare-2.ensures.short
+    (cells_lacking c.args.cells.now.tiers 0 0 c.requires.stands.cells.sizes_are c.prepare-2.ensures.bound)
 
 pub returns-clause-range : goal.returns-clause-range
 returns-clause-range g c =
     IfErr-weaker c.prepare-3.result _ (λ cause. cause ≡ IndexRange → MayPass c.args.nodes.now c.args.cells.now)
-    (λ cause h is. nodes_pass c.args.nodes.now c.args.cells.now _ (nodes_lacking c.args.nodes.now.tiers c.args.reached.now.node.child_tier c.count-2.result (c.args.len / 5 - (c.args.reached.now.level + 1)) c.requires.stands.hold.sizes_are c.prepare-3.ensures.bound (few_steps c.args.len c.args.reached.now.level c.requires.short)) (h is)) c.prepare-3.ensures.range
+    (λ cause h is. nodes_pass c.args.nodes.now c.args.cells.now _
+    (nodes_lacking c.args.nodes.now.tiers c.args.reached.now.node.child_tier c.count-2.result (c.args.len / 5 - (c.args.reached.now.level + 1))
+    c.requires.stands.hold.sizes_are c.prepare-3.ensures.bound (few_steps c.args.len c.args.reached.now.level c.requires.short)) (h is))
+    c.prepare-3.ensures.range
 
 pub returns-clause-node_room : goal.returns-clause-node_room
 returns-clause-node_room g c =
-    Grows-made c.prepare-3.result c.args.nodes.now c.prepare-3.new.self _ 56 c.prepare-3.ensures.made c.prepare-3.ensures.short (nodes_lacking c.args.nodes.now.tiers c.args.reached.now.node.child_tier c.count-2.result (c.args.len / 5 - (c.args.reached.now.level + 1)) c.requires.stands.hold.sizes_are c.prepare-3.ensures.bound (few_steps c.args.len c.args.reached.now.level c.requires.short))
+    Grows-made c.prepare-3.result c.args.nodes.now c.prepare-3.new.self _ 56 c.prepare-3.ensures.made c.prepare-3.ensures.short
+    (nodes_lacking c.args.nodes.now.tiers c.args.reached.now.node.child_tier c.count-2.result (c.args.len / 5 - (c.args.reached.now.level + 1))
+    c.requires.stands.hold.sizes_are c.prepare-3.ensures.bound (few_steps c.args.len c.args.reached.now.level c.requires.short))
 
 pub returns-clause-cell_room : goal.returns-clause-cell_room
 returns-clause-cell_room g c =
-    Grows-made c.prepare-2.result c.args.cells.now c.prepare-2.new.self _ 31 c.prepare-2.ensures.made c.prepare-2.ensures.short (cells_lacking c.args.cells.now.tiers 0 0 c.requires.stands.cells.sizes_are c.prepare-2.ensures.bound)
+    Grows-made c.prepare-2.result c.args.cells.now c.prepare-2.new.self _ 31 c.prepare-2.ensures.made c.prepare-2.ensures.short
+    (cells_lacking c.args.cells.now.tiers 0 0 c.requires.stands.cells.sizes_are c.prepare-2.ensures.bound)

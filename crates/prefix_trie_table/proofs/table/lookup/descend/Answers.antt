@@ -9,11 +9,14 @@ visit-node-requires g c =
     deepest_in s.0 s.1 c.args.nodes.now [] 0 0 s.2 (deepest_root s.0 s.1 c.args.nodes.now [] s.2)
 
 pub loop-level-init : goal.loop-level-init
-loop-level-init g c = (record {
-  whole = omega arith;
-  node_is = c.visit-node.ensures.node;
-  deepest = λ reading paths hold. deepest_root reading paths c.args.nodes.now (path_of (take c.args.len (g.K.Key.bits c.args.key))) hold;
-}, c.visit-node.ensures.one_more)
+loop-level-init g c = (
+  record {
+    whole = omega arith;
+    node_is = c.visit-node.ensures.node;
+    deepest = λ reading paths hold. deepest_root reading paths c.args.nodes.now (path_of (take c.args.len (g.K.Key.bits c.args.key))) hold;
+  },
+  c.visit-node.ensures.one_more,
+)
 
 pub returns-then-not-has_bit-clause-reached : goal.returns-then-not-has_bit-clause-reached
 returns-then-not-has_bit-clause-reached g c =
@@ -25,7 +28,8 @@ returns-then-not-has_bit-clause-reached g c =
       whole = down.whole;
       node_is = down.node_is;
       deepest = down.deepest;
-      missing = λ inside. down_bit b c.args.len c.loop-level.level _ c.loop-level.node c.args.nodes.now long down c.child_bit_of-child.result c.child_bit_of-child.ensures.small c.child_bit_of-child.ensures.value inside ∙ sym c.has_bit.ensures ∙ c.if-not-has_bit.true;
+      missing = λ inside. down_bit b c.args.len c.loop-level.level _ c.loop-level.node c.args.nodes.now long down c.child_bit_of-child.result
+          c.child_bit_of-child.ensures.small c.child_bit_of-child.ensures.value inside ∙ sym c.has_bit.ensures ∙ c.if-not-has_bit.true;
     }
 
 pub returns-clause-reached : goal.returns-clause-reached
@@ -46,15 +50,21 @@ visit-node-requires-in-loop-level g c =
     let s = c.requires.sound in
     let long : c.args.len ≤ length b = omega (arith, g.met.K.Key.key_laws.bits_length c.args.key c.requires.key, c.requires.within) in
     deepest_in s.0 s.1 c.args.nodes.now (path_of (take c.args.len b)) (c.loop-level.level + 1) _ s.2
-    (down_more b c.args.len c.loop-level.level _ c.loop-level.node c.args.nodes.now long c.loop-level.invariant.0 c.child_bit_of-child.result c.child_bit_of-child.ensures.small c.child_bit_of-child.ensures.value c.loop-level-test.true c.rank.result (sym c.has_bit.ensures ∙ c.if-not-has_bit.false) c.rank.ensures s.0 s.1 s.2)
+    (down_more b c.args.len c.loop-level.level _ c.loop-level.node c.args.nodes.now long c.loop-level.invariant.0 c.child_bit_of-child.result
+    c.child_bit_of-child.ensures.small c.child_bit_of-child.ensures.value c.loop-level-test.true c.rank.result
+    (sym c.has_bit.ensures ∙ c.if-not-has_bit.false) c.rank.ensures s.0 s.1 s.2)
 
 pub loop-level-preserved : goal.loop-level-preserved
 loop-level-preserved g c =
     let b = g.K.Key.bits c.args.key in
     let long : c.args.len ≤ length b = omega (arith, g.met.K.Key.key_laws.bits_length c.args.key c.requires.key, c.requires.within) in
-    let inside : 5 * c.loop-level.level + 5 ≤ c.args.len = c.loop-level-test.true in
-    (record {
-      whole = omega arith;
-      node_is = c.visit-node-in-loop-level.ensures.node;
-      deepest = down_more b c.args.len c.loop-level.level _ c.loop-level.node c.args.nodes.now long c.loop-level.invariant.0 c.child_bit_of-child.result c.child_bit_of-child.ensures.small c.child_bit_of-child.ensures.value inside c.rank.result (sym c.has_bit.ensures ∙ c.if-not-has_bit.false) c.rank.ensures;
-    }, omega (arith, c.visit-node-in-loop-level.ensures.one_more, c.loop-level.invariant.1))
+    let inside : 5 * c.loop-level.level + 5 ≤ c.args.len = c.loop-level-test.true in (
+      record {
+        whole = omega arith;
+        node_is = c.visit-node-in-loop-level.ensures.node;
+        deepest = down_more b c.args.len c.loop-level.level _ c.loop-level.node c.args.nodes.now long c.loop-level.invariant.0
+            c.child_bit_of-child.result c.child_bit_of-child.ensures.small c.child_bit_of-child.ensures.value inside c.rank.result
+            (sym c.has_bit.ensures ∙ c.if-not-has_bit.false) c.rank.ensures;
+      },
+      omega (arith, c.visit-node-in-loop-level.ensures.one_more, c.loop-level.invariant.1),
+    )

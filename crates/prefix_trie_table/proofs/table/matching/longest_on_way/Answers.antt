@@ -2,7 +2,7 @@ use Rattle.std.proofs.Common.{◌≡◌, ◌+◌, ◌*◌, ◌<◌, ◌≤◌, �
 use Rattle.prefix_trie_table.specs.Matching.{IsOnWay, LongestHeld}
 use Rattle.prefix_trie_table.specs.Digits.{path_of}
 use Rattle.prefix_trie_table.proofs.Finding.{reached_end}
-use Rattle.prefix_trie_table.proofs.Matching.{on_way_is, none_past, longest_none, longest_or}
+use Rattle.prefix_trie_table.proofs.Matching.{on_way_is, none_past, longest_none, longest_now}
 use Rattle.prefix_trie_table.proofs.table.matching.longest_on_way.Goals as goal
 
 pub way-init : goal.way-init
@@ -27,9 +27,9 @@ returns-in_default-clause-found g c = λ reading paths hold.
     let b = g.K.Key.bits c.args.key in
     let q = take c.args.len b in
     let level = c.way.here.level in
-    let found = longest_or reading q 0 (5 * level) (5 * level + 5) c.way.best c.longest_in.result (c.way.invariant.best reading paths hold) (c.longest_in.ensures reading (on_way_is b c.args.len level _ c.way.here.node c.args.nodes.now c.way.invariant.on_way reading paths hold)) in
+    let found = longest_now b c.args.len level _ c.way.here.node c.args.nodes.now c.way.invariant.on_way reading paths hold c.way.best c.longest_in.result c.or-best.result (c.way.invariant.best reading paths hold) c.longest_in.ensures c.or-best.ensures in
     let end = reached_end b c.args.len level _ c.way.here.node c.args.nodes.now c.in_default.ensures.step reading paths hold in
-    longest_none reading q 0 (5 * level + 5) (c.args.len + 1) c.or-best.result (subst (LongestHeld reading q 0 (5 * level + 5)) (sym c.or-best.ensures) found) (none_past reading paths c.args.nodes.now q level (c.args.len + 1) hold end)
+    longest_none reading q 0 (5 * level + 5) (c.args.len + 1) c.or-best.result found (none_past reading paths c.args.nodes.now q level (c.args.len + 1) hold end)
 
 pub returns-in_default-clause-visits : goal.returns-in_default-clause-visits
 returns-in_default-clause-visits g c = λ reading paths hold.
@@ -45,7 +45,7 @@ way-preserved g c =
       on_way = c.in-Some.ensures.step.1;
       counted = omega (arith, c.in-Some.ensures.visits, c.in-Some.ensures.step.0, c.way.invariant.counted);
       best = λ reading paths hold.
-        let found = longest_or reading q 0 (5 * level) (5 * level + 5) c.way.best c.longest_in.result (c.way.invariant.best reading paths hold) (c.longest_in.ensures reading (on_way_is b c.args.len level _ c.way.here.node c.args.nodes.now c.way.invariant.on_way reading paths hold)) in
+        let found = longest_now b c.args.len level _ c.way.here.node c.args.nodes.now c.way.invariant.on_way reading paths hold c.way.best c.longest_in.result c.or-best.result (c.way.invariant.best reading paths hold) c.longest_in.ensures c.or-best.ensures in
         let more : 5 * level + 5 ≡ 5 * c.in-Some.next.level = omega (arith, c.in-Some.ensures.step.0) in
-        subst (λ n. LongestHeld reading q 0 n c.or-best.result) more (subst (LongestHeld reading q 0 (5 * level + 5)) (sym c.or-best.ensures) found);
+        subst (λ n. LongestHeld reading q 0 n c.or-best.result) more found;
     }
