@@ -66,23 +66,21 @@ fn find<K: Key>(values: &Values, key: K, len: u32) -> Option<u32>
 fn keys_of_32_bits(rt: HostRuntime) -> Result<(), Fail> {
     let mut values = Values::new(rt.alloc(), u32::MAX).map_err(|_| AllocError)?;
     let insertions = [
-        (0xdead_beef_u32, 0, None),
-        (0x7ead_beef, 1, None),
-        (0xbead_beef, 2, None),
-        (0xeead_beef, 3, None),
-        (0xddad_beef, 4, None),
-        (0xd7ad_beef, 5, None),
-        (0xd4ad_beef, 6, None),
-        (0xdaad_beef, 7, None),
-        (0xffff_ffff, 32, None),
-        (0xffff_fffe, 32, None),
-        (0xd000_0000, 5, Some(5)),
-        (0x0000_0000, 0, Some(0)),
+        (0xdead_beef_u32, 0, 0, None),
+        (0x7ead_beef, 1, 1, None),
+        (0xbead_beef, 2, 2, None),
+        (0xeead_beef, 3, 3, None),
+        (0xddad_beef, 4, 4, None),
+        (0xd7ad_beef, 5, 5, None),
+        (0xd4ad_beef, 6, 6, None),
+        (0xdaad_beef, 7, 7, None),
+        (0xffff_ffff, 32, 8, None),
+        (0xffff_fffe, 32, 9, None),
+        (0xd000_0000, 5, 10, Some(5)),
+        (0x0000_0000, 0, 11, Some(0)),
     ];
-    let mut value = 0;
-    for (key, len, before) in insertions {
+    for (key, len, value, before) in insertions {
         assert_eq!(rt; insert(&mut values, key, len, value)?, before, "{value}");
-        value += 1;
     }
     assert_eq!(rt; values.len(), 10);
     let lookups = [
