@@ -125,6 +125,21 @@ fn ipv6_networks_with_text(rt: HostRuntime) -> Result<(), Fail> {
 }
 
 #[test]
+fn the_longest_match(rt: HostRuntime) -> Result<(), Fail> {
+    let mut map = PrefixMap::new(rt.alloc())?;
+    assert_eq!(rt; map.get_lpm(&(0x0a01_0203_u32, 32_u8)), None);
+    assert_eq!(rt; map.insert((0x0a00_0000, 8), 'a'), Ok(None));
+    assert_eq!(rt; map.insert((0x0a01_ffff, 16), 'b'), Ok(None));
+    assert_eq!(rt; map.get_lpm(&(0x0a01_0203, 32)), Some(((0x0a01_0000, 16), &'b')));
+    assert_eq!(rt; map.get_lpm(&(0x0a01_0203, 16)), Some(((0x0a01_0000, 16), &'b')));
+    assert_eq!(rt; map.get_lpm(&(0x0a01_0203, 15)), Some(((0x0a00_0000, 8), &'a')));
+    assert_eq!(rt; map.get_lpm(&(0x0b00_0000, 32)), None);
+    let (answer, _visits) = map.get_lpm_counted(&(0x0a02_0203, 32));
+    assert_eq!(rt; answer, Some(((0x0a00_0000, 8), &'a')));
+    Ok(())
+}
+
+#[test]
 fn a_counter_has_no_bytes(rt: HostRuntime) {
     assert_eq!(rt; size_of::<Visits>(), 0);
 }

@@ -1,4 +1,4 @@
-//! Maps from prefixes to values, looked up exactly.
+//! Maps from prefixes to values, looked up exactly and by longest match.
 //!
 //! The path of a prefix, its first `prefix_len` bits, is its key: two prefixes with the same path are one key, whatever their
 //! host bits. Contracts see a map as its entries, a finite map from paths to values, its nodes, and its room, which is its
@@ -33,6 +33,7 @@ pub use visits::Visits;
 /// map.insert((0x0a01ffff_u32, 16_u8), 2)   Ok(Some(1)), since both have one path
 /// map.get(&(0x0a010000_u32, 16_u8))        Some(&2)
 /// map.get(&(0x0a010000_u32, 17_u8))        None
+/// map.get_lpm(&(0x0a010203_u32, 32_u8))    Some(((0x0a010000, 16), &2))
 /// ```
 #[derive(Drop)]
 pub struct PrefixMap<P: Prefix, T: Drop, A: Allocator> {
@@ -138,11 +139,11 @@ impl<P: Prefix, T: Drop, A: Allocator> PrefixMap<P, T, A> {
         let mut visits = Visits::new();
         let key = prefix.repr();
         let len = u32::from(prefix.prefix_len());
-        let answer = match self.table.find_longest(key, len, &mut visits) {
+        let longest = match self.table.find_longest(key, len, &mut visits) {
             Some((found, value)) => Some((rebuilt(key, found), value)),
             None => None,
         };
-        (answer, visits)
+        (longest, visits)
     }
 
     /// Sets the value for a prefix, and answers the one that was there before. A stored prefix is never refused.
