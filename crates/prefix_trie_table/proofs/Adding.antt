@@ -1,18 +1,17 @@
 -- What the calls that add leave of a table.
-use Rattle.std.proofs.Common.{◌≡◌, ◌≢◌, ℕ, zero, suc, ◌+◌, ◌-◌, ◌*◌, ◌%◌, ◌^◌, ◌<◌, ◌≤◌, ◌⊎◌, inl, inr, ⊎_elim, Bool, true, false, cond, ◌||◌, nat_eq, bit_or, List, [], ◌∷◌, ◌++◌, length, get_or, take, set, insert, remove, map, flat_map, Option, None, Some, is_some, refl, sym, ap, ap₂, ◌∙◌, subst, arith}
-use Rattle.std.proofs.lemmas.List.{length-map, length-set, get_or_default, take_more}
-use Rattle.std.proofs.lemmas.List.Elements.{All-head}
+use Rattle.std.proofs.Common.{◌≡◌, ◌≢◌, ℕ, ◌+◌, ◌<◌, ◌⊎◌, inl, inr, Bool, true, false, ◌||◌, nat_eq, List, [], ◌∷◌, ◌++◌, length, get_or, set, insert, map, flat_map, Option, None, Some, is_some, refl, sym, ap, ap₂, ◌∙◌, subst, arith}
+use Rattle.std.proofs.lemmas.List.{length-map}
 use Rattle.prefix_trie_bits.specs.Places.{Sets}
 use Rattle.prefix_trie_table.specs.declared.allocator.node.Node.{Node}
 use Rattle.prefix_trie_table.specs.Bitmaps.{has_bit, bits, rank}
-use Rattle.prefix_trie_table.specs.Store.{Store, Block, Sound, IsOfTier, block, held, HasList, Spends, tier_at, tier_sizes, size_in}
-use Rattle.prefix_trie_table.specs.Forest.{child_slot, without, child_items, child_blocks, IsSlot, at_root, at_child, NodesHold, with_child, AtNode, ChildAdded, AtValues, ValueSet, CellsHold, value_blocks, with_node, with_value, has_value, own_count, one_if}
+use Rattle.prefix_trie_table.specs.Store.{Store, Block, Sound, block, held, HasList, Spends, tier_at, tier_sizes, size_in}
+use Rattle.prefix_trie_table.specs.Forest.{without, child_items, child_blocks, IsSlot, at_child, NodesHold, with_child, AtNode, ChildAdded, AtValues, ValueSet, CellsHold, value_blocks, with_node, with_value, has_value, own_count, one_if}
 use Rattle.prefix_trie_table.specs.Cells.{blank_node, node_at, node_sizes, cell_sizes}
 use Rattle.prefix_trie_table.proofs.Soundness.{tier_of_block}
 use Rattle.prefix_trie_table.proofs.Spending.{size_at}
 use Rattle.prefix_trie_table.proofs.Bits.{has_bit-sets}
 use Rattle.prefix_trie_table.proofs.BitLists.{rank-all, rank-same, rank-more-one}
-use Rattle.prefix_trie_table.proofs.Trees.{own_first, slot_holds, is_some-Some}
+use Rattle.prefix_trie_table.proofs.Trees.{own_first, slot_holds}
 use Rattle.prefix_trie_table.proofs.Children.{child_added, changed_here, same_number, other_number, same_or, with_here, with_other, node_changed}
 use Rattle.prefix_trie_table.proofs.Values.{values_first, value_stands, value_added, value_replaced}
 

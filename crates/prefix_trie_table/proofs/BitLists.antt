@@ -1,6 +1,6 @@
 -- What stands for each set bit, when one bit is set or cleared.
 use Rattle.std.proofs.Common.{◌≡◌, ◌≢◌, ℕ, zero, suc, ◌+◌, ◌-◌, ◌<◌, ◌≤◌, ⊎_elim, Bool, true, false, cond, List, [], ◌∷◌, ◌++◌, length, get_or, set, map, insert, remove, refl, sym, ap, ap₂, ◌∙◌, subst, arith, append_assoc, length-append}
-use Rattle.std.proofs.lemmas.List.{map-append, length-map, get_or-map, get_or-append-add, set-append_right, append-nil}
+use Rattle.std.proofs.lemmas.List.{map-append, length-map, get_or-append-add, append-nil}
 use Rattle.std.proofs.lemmas.Bool.{cases_eq}
 use Rattle.std.proofs.lemmas.List.Edits.{insert-append_right, remove-append_right, length-insert}
 use Rattle.prefix_trie_table.proofs.Bits.{has_bit-zero}

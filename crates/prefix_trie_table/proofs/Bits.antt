@@ -1,5 +1,5 @@
 -- Bits of a bitmap of 32 bits, and what the calls of `node` say of them.
-use Rattle.std.proofs.Common.{◌≡◌, ◌≢◌, ℕ, zero, suc, ◌+◌, ◌<◌, ◌≤◌, ◌⊎◌, inl, inr, Bool, true, false, cond, ◌||◌, List, length, length-append, refl, sym, ap, ap₂, ◌∙◌, arith, subst, nat_eq, ltb, eqb}
+use Rattle.std.proofs.Common.{◌≡◌, ◌≢◌, ℕ, zero, suc, ◌+◌, ◌<◌, ◌≤◌, inl, inr, Bool, true, false, cond, ◌||◌, length, length-append, refl, sym, ap, ap₂, ◌∙◌, arith, nat_eq, ltb, eqb}
 use Rattle.std.specs.Int.{bit_at}
 use Rattle.std.proofs.lemmas.Nat.Bits.{bit_at-zero}
 use Rattle.std.proofs.lemmas.Bool.{false≢true, ltb-true, lt-ltb}

@@ -1,8 +1,8 @@
 -- A node gains a child, loses one, or is another.
-use Rattle.std.proofs.Common.{◌≡◌, ◌≢◌, ℕ, zero, suc, ◌+◌, ◌-◌, ◌<◌, ◌≤◌, ◌⊎◌, inl, inr, ⊎_elim, Bool, true, false, cond, ◌||◌, nat_eq, List, [], ◌∷◌, ◌++◌, length, get_or, set, insert, remove, map, flat_map, Option, None, Some, is_some, IsPermutation, refl, sym, ap, ◌∙◌, subst, arith, append_assoc, length-append}
+use Rattle.std.proofs.Common.{◌≡◌, ◌≢◌, ℕ, zero, suc, ◌+◌, ◌<◌, ◌⊎◌, inl, inr, ⊎_elim, true, false, cond, ◌||◌, nat_eq, List, [], ◌∷◌, ◌++◌, length, set, insert, remove, map, flat_map, Option, None, Some, is_some, IsPermutation, refl, sym, ap, ◌∙◌, subst, arith, length-append}
 use Rattle.std.proofs.lemmas.Bool.{false≢true, cases_Bool}
 use Rattle.std.proofs.lemmas.Bool.Decides.{eqb_tells}
-use Rattle.std.proofs.lemmas.List.{length-set, get_or-set_same, get_or-set_other}
+use Rattle.std.proofs.lemmas.List.{get_or-set_same, get_or-set_other}
 use Rattle.std.proofs.lemmas.List.Edits.{length-insert}
 use Rattle.prefix_trie_table.specs.declared.allocator.node.Node.{Node}
 use Rattle.prefix_trie_table.specs.Bitmaps.{has_bit, bits_below, bits, rank, if_set}
@@ -10,12 +10,12 @@ use Rattle.prefix_trie_table.specs.Store.{Store, Block, Sound, block}
 use Rattle.prefix_trie_table.specs.Forest.{child_slot, same_path, one_if, times, without, node_or_blank, held, size_in, has_child, child_items, child_blocks_of, child_blocks, IsSlot, at_root, at_child, NodesHold, tier_sizes, with_child, lacking_child, with_node}
 use Rattle.prefix_trie_table.specs.Cells.{blank_node, node_at}
 use Rattle.prefix_trie_table.proofs.Tilings.{all_within}
-use Rattle.prefix_trie_table.proofs.Bits.{has_bit-below, has_bit-zero}
-use Rattle.prefix_trie_table.proofs.BitLists.{map_get, map_set, map_same, map_insert, map_remove}
-use Rattle.prefix_trie_table.proofs.Paths.{same_path-true, same_path-itself, same_path-equal, same_path-not, snoc_inj, snoc_not_nil, snoc_not_same, times_without, flat_map_out, flat_map_same}
+use Rattle.prefix_trie_table.proofs.Bits.{has_bit-zero}
+use Rattle.prefix_trie_table.proofs.BitLists.{map_same, map_insert, map_remove}
+use Rattle.prefix_trie_table.proofs.Paths.{same_path-true, same_path-equal, same_path-not, snoc_inj, snoc_not_nil, snoc_not_same, times_without, flat_map_out}
 use Rattle.std.proofs.lemmas.List.Sorted.{IsPermutation-append_right}
 use Rattle.prefix_trie_table.proofs.Soundness.{Sound-permuted}
-use Rattle.prefix_trie_table.proofs.Trees.{is_none-None, held_some, held_none, node_first, node_back, listed_once, own_first, block_first, child_stands, slot_holds, child_blocks-same, times_out, times_out_same, node_set}
+use Rattle.prefix_trie_table.proofs.Trees.{is_none-None, held_some, node_back, listed_once, own_first, child_stands, times_out, times_out_same, node_set}
 
 bits_below-zero : (n : ℕ) → bits_below 0 n ≡ []
 bits_below-zero zero = refl

@@ -1,6 +1,6 @@
 -- How many nodes the way down meets, and how many entries a table can have.
-use Rattle.std.proofs.Common.{◌≡◌, ℕ, ◌+◌, ◌*◌, ◌/◌, ◌%◌, ◌<◌, ◌≤◌, ◌==◌, ◌⊎◌, inl, inr, Bool, true, false, ◌&&◌, List, length, take, Option, is_some, sym, ap, ap₂, ◌∙◌, subst, arith, nat_lt, eqb-true, eq-eqb, ltb-true}
-use Rattle.std.proofs.lemmas.Bool.{false≢true, cases_Bool}
+use Rattle.std.proofs.Common.{◌≡◌, ℕ, ◌+◌, ◌*◌, ◌/◌, ◌%◌, ◌<◌, ◌≤◌, ◌⊎◌, inl, inr, Bool, true, false, ◌&&◌, List, length, take, Option, is_some, sym, ap₂, ◌∙◌, arith, nat_lt, eqb-true, eq-eqb, ltb-true}
+use Rattle.std.proofs.lemmas.Bool.{cases_Bool}
 use Rattle.std.proofs.lemmas.Bool.Decides.{nat_tests}
 use Rattle.std.proofs.lemmas.List.{length-take-le}
 use Rattle.prefix_trie_bits.specs.Bits.{begins}
@@ -12,7 +12,7 @@ use Rattle.prefix_trie_table.specs.declared.allocator.node.Node.{Node}
 use Rattle.prefix_trie_table.specs.Cells.{node_sizes}
 use Rattle.prefix_trie_table.specs.Digits.{path_of}
 use Rattle.prefix_trie_table.specs.Store.{Store}
-use Rattle.prefix_trie_table.specs.Forest.{is_start, NodesHold, IsEnd}
+use Rattle.prefix_trie_table.specs.Forest.{NodesHold, IsEnd}
 use Rattle.prefix_trie_table.proofs.Digits.{path-length, path-take}
 use Rattle.prefix_trie_table.proofs.Keys.{begins-way}
 use Rattle.prefix_trie_table.proofs.Finding.{prefix_some}

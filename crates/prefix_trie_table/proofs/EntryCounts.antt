@@ -1,20 +1,18 @@
 -- How many entries the nodes have: what a change of one node does to it, and that the cells bound it.
-use Rattle.std.proofs.Common.{◌≡◌, ◌≢◌, ℕ, ◌+◌, ◌-◌, ◌<◌, ◌≤◌, ◌⊎◌, inl, inr, ⊎_elim, Bool, true, false, cond, List, [], ◌∷◌, ◌++◌, length, length-append, length-take, take, drop, map, flat_map, replicate, sum_by, All, Option, None, Some, is_some, IsPermutation, refl, sym, ap, ap₂, ◌∙◌, subst, arith}
-use Rattle.std.proofs.lemmas.Bool.{false≢true, cases_Bool}
-use Rattle.std.proofs.lemmas.List.{length-map}
+use Rattle.std.proofs.Common.{◌≡◌, ◌≢◌, ℕ, ◌+◌, ◌-◌, ◌<◌, ◌≤◌, ◌⊎◌, inl, inr, cond, List, [], ◌∷◌, ◌++◌, length, length-append, length-take, take, drop, map, flat_map, replicate, sum_by, All, Option, None, Some, refl, sym, ap, ap₂, ◌∙◌, subst, arith}
+use Rattle.std.proofs.lemmas.Bool.{cases_Bool}
 use Rattle.std.proofs.lemmas.List.Elements.{All-head, All-tail}
 use Rattle.std.proofs.lemmas.List.Sums.{sum_by-cons, sum_by-append}
 use Rattle.std.proofs.lemmas.List.Sorted.{sum_by-IsPermutation}
 use Rattle.prefix_trie_table.specs.declared.allocator.node.Node.{Node}
-use Rattle.prefix_trie_table.specs.Bitmaps.{has_bit, bits, rank}
-use Rattle.prefix_trie_table.specs.Cells.{blank_node, node_sizes, cell_sizes}
+use Rattle.prefix_trie_table.specs.Bitmaps.{bits, rank}
+use Rattle.prefix_trie_table.specs.Cells.{blank_node, cell_sizes}
 use Rattle.prefix_trie_table.specs.Runs.{run}
 use Rattle.prefix_trie_table.specs.Store.{Store, Block, Sound, IsTiling, HoldsItems, extent, free_extents, filled, held, size_in}
-use Rattle.prefix_trie_table.specs.Forest.{same_path, one_if, times, without, own_count, entry_count, NodesHold, CellsHold, with_node, with_child, value_blocks, value_blocks_of, has_child}
+use Rattle.prefix_trie_table.specs.Forest.{same_path, one_if, times, without, own_count, entry_count, CellsHold, with_node, with_child, value_blocks, value_blocks_of}
 use Rattle.prefix_trie_table.proofs.BitLists.{rank-all, rank-zero-all}
-use Rattle.prefix_trie_table.proofs.RunLemmas.{length-run}
-use Rattle.prefix_trie_table.proofs.Paths.{same_path-itself, same_path-true, snoc_not_same}
-use Rattle.prefix_trie_table.proofs.Trees.{times_out_same, listed_once}
+use Rattle.prefix_trie_table.proofs.Paths.{same_path-itself, same_path-true}
+use Rattle.prefix_trie_table.proofs.Trees.{times_out_same}
 use Rattle.prefix_trie_table.proofs.Children.{same_or, with_here, with_other, changed_below, changed_here, changed_other}
 
 -- one node's own first

@@ -1,15 +1,11 @@
 -- A path grows digit by digit.
-use Rattle.std.proofs.Common.{◌≡◌, ◌≢◌, ℕ, zero, suc, ◌+◌, ◌-◌, ◌<◌, ◌≤◌, ◌⊎◌, inl, inr, ⊎_elim, Bool, true, false, cond, ◌||◌, nat_lt, nat_le, List, [], ◌∷◌, ◌++◌, length, get_or, take, map, Option, None, Some, is_some, IsSome, IsSomeAnd, refl, sym, ap, ◌∙◌, subst, arith, not}
-use Rattle.std.proofs.lemmas.List.{map-append, take_more, take_all}
-use Rattle.std.proofs.lemmas.List.Folds.{list_any-append}
-use Rattle.std.proofs.lemmas.Bool.{false≢true, cases_Bool, lt-ltb}
-use Rattle.std.specs.List.{list_any, position, prefix_len, position_or_len}
+use Rattle.std.proofs.Common.{◌≡◌, ◌≢◌, ℕ, zero, suc, ◌+◌, ◌<◌, ◌≤◌, ◌⊎◌, inl, inr, Bool, true, false, ◌||◌, List, [], ◌∷◌, ◌++◌, length, get_or, take, Option, None, Some, is_some, refl, sym, ap, ◌∙◌, subst, arith}
+use Rattle.std.proofs.lemmas.List.{take_more, take_all}
 use Rattle.prefix_trie_table.specs.declared.allocator.node.Node.{Node}
 use Rattle.prefix_trie_table.specs.Bitmaps.{has_bit, rank}
-use Rattle.prefix_trie_table.specs.Store.{Tier, Store, Sound, Block, Prepared, Enough, IsReady, tier_lacking, tier_for, tier_sizes, free_at}
-use Rattle.prefix_trie_table.specs.Forest.{same_path, is_start, one_if, own_count, entry_count, IsSlot, NodesHold, CellsHold, Holds, IsTable, StandsAt, ValueReady, Walked, EntryAdded, Deepest, ChildAdded, ValueSet, with_child, with_node, has_child}
+use Rattle.prefix_trie_table.specs.Store.{Tier, Store, Enough, IsReady, tier_lacking, tier_for, free_at}
+use Rattle.prefix_trie_table.specs.Forest.{same_path, is_start, one_if, own_count, entry_count, IsSlot, NodesHold, CellsHold, Holds, ValueReady, Walked, EntryAdded, Deepest, ChildAdded, ValueSet, with_child, with_node, has_child}
 use Rattle.prefix_trie_table.specs.Cells.{blank_node, node_at, node_sizes, cell_sizes}
-use Rattle.prefix_trie_table.proofs.Tilings.{all_within}
 use Rattle.prefix_trie_table.proofs.Bits.{has_bit-zero}
 use Rattle.prefix_trie_table.proofs.Paths.{same_path-equal, same_path-not}
 use Rattle.prefix_trie_table.proofs.Starts.{is_start-snoc}
@@ -18,7 +14,7 @@ use Rattle.prefix_trie_table.proofs.EntryCounts.{count_with_child, count_with_no
 use Rattle.prefix_trie_table.proofs.Spending.{ready_taken}
 use Rattle.prefix_trie_table.proofs.BitLists.{rank-zero-all}
 use Rattle.prefix_trie_table.proofs.Trees.{slot_holds}
-use Rattle.prefix_trie_table.proofs.Children.{bits-zero, changed_below, changed_here, same_or, some_stays, with_here, with_other}
+use Rattle.prefix_trie_table.proofs.Children.{changed_below, same_or, some_stays, with_here, with_other}
 use Rattle.prefix_trie_table.proofs.Values.{cells_with_child}
 
 or_same : (a b : Bool) → (b ≡ true → a ≡ true) → a ≡ (a || b)

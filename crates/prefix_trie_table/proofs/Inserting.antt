@@ -1,17 +1,15 @@
 -- What an insertion asks for and leaves.
-use Rattle.std.proofs.Common.{◌*◌, leb-true, ◌≡◌, ◌≢◌, ℕ, zero, suc, ◌+◌, ◌-◌, ◌<◌, ◌≤◌, ◌⊎◌, inl, inr, ⊎_elim, Bool, true, false, cond, ◌||◌, nat_lt, nat_le, List, [], ◌∷◌, ◌++◌, length, get_or, take, drop, map, Option, None, Some, is_some, IsSome, refl, sym, ap, ◌∙◌, subst, arith, not, append_assoc, append-nil}
-use Rattle.std.proofs.lemmas.List.{take_more, take_all, take-append-drop}
-use Rattle.std.proofs.lemmas.Bool.{false≢true, cases_Bool, lt-ltb}
-use Rattle.std.specs.List.{list_any, position, prefix_len, position_or_len}
+use Rattle.std.proofs.Common.{◌*◌, leb-true, ◌≡◌, ℕ, zero, suc, ◌+◌, ◌<◌, ◌≤◌, inl, inr, Bool, true, false, cond, nat_le, List, [], ◌∷◌, ◌++◌, length, get_or, take, Option, None, Some, is_some, IsSome, sym, ap, ◌∙◌, subst, arith, not}
+use Rattle.std.proofs.lemmas.Bool.{cases_Bool, lt-ltb}
+use Rattle.std.specs.List.{position, prefix_len, position_or_len}
 use Rattle.std.proofs.lemmas.Bool.Decides.{nat_tests}
 use Rattle.prefix_trie_table.specs.declared.allocator.node.Node.{Node}
 use Rattle.prefix_trie_table.specs.Bitmaps.{has_bit, rank}
-use Rattle.prefix_trie_table.specs.Store.{Tier, Store, Sound, Block, block, held, HasList, Prepared, Enough, IsReady, tier_for, tier_sizes}
+use Rattle.prefix_trie_table.specs.Store.{Tier, Store, Sound, Block, block, HasList, Prepared, tier_for, tier_sizes}
 use Rattle.prefix_trie_table.specs.Forest.{IsSlot, NodesHold, CellsHold, Holds, Deepest, AtValues, has_value}
 use Rattle.prefix_trie_table.specs.Cells.{blank_node, node_at, node_sizes, cell_sizes}
 use Rattle.prefix_trie_table.proofs.Tilings.{all_within}
 use Rattle.prefix_trie_table.proofs.Soundness.{tier_of_block}
-use Rattle.prefix_trie_table.proofs.Paths.{same_path-itself, snoc_ind}
 use Rattle.prefix_trie_table.proofs.Spending.{tier_for_sizes}
 use Rattle.prefix_trie_table.proofs.BitLists.{rank-more, rank-lacks}
 use Rattle.prefix_trie_table.specs.Digits.{path_of, bit_of}

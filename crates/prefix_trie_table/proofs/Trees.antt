@@ -1,9 +1,9 @@
 -- The node array read by paths.
-use Rattle.std.proofs.Common.{◌≡◌, ◌≢◌, ℕ, zero, suc, ◌+◌, ◌-◌, ◌<◌, ◌≤◌, inl, inr, Bool, true, false, cond, List, [], ◌∷◌, ◌++◌, length, get_or, set, map, flat_map, Option, None, Some, is_some, IsPermutation, refl, sym, ap, ◌∙◌, subst, arith, append_assoc, length-append}
+use Rattle.std.proofs.Common.{◌≡◌, ◌≢◌, ℕ, ◌<◌, ◌≤◌, inl, inr, true, false, cond, List, [], ◌∷◌, ◌++◌, length, set, flat_map, Option, None, Some, is_some, IsPermutation, refl, sym, ap, ◌∙◌, subst, arith}
 use Rattle.std.proofs.lemmas.Bool.{false≢true, cases_Bool}
-use Rattle.std.proofs.lemmas.List.Sorted.{IsPermutation-refl, IsPermutation-sym, IsPermutation-trans, IsPermutation-append_right}
+use Rattle.std.proofs.lemmas.List.Sorted.{IsPermutation-sym, IsPermutation-trans, IsPermutation-append_right}
 use Rattle.prefix_trie_table.specs.declared.allocator.node.Node.{Node}
-use Rattle.prefix_trie_table.specs.Bitmaps.{has_bit, bits, rank}
+use Rattle.prefix_trie_table.specs.Bitmaps.{has_bit, rank}
 use Rattle.prefix_trie_table.specs.Store.{Store, Block, Sound, block}
 use Rattle.prefix_trie_table.specs.Forest.{child_slot, child, below, read_from, read, same_path, one_if, times, without, node_or_blank, held, size_in, has_child, child_items, child_blocks_of, child_blocks, IsSlot, at_root, at_child, NodesHold}
 use Rattle.prefix_trie_table.specs.Cells.{blank_node, node_at}
@@ -12,7 +12,7 @@ use Rattle.prefix_trie_table.proofs.Bits.{has_bit-below}
 use Rattle.prefix_trie_table.proofs.Tilings.{all_within}
 use Rattle.std.proofs.lemmas.List.{length-set}
 use Rattle.prefix_trie_table.proofs.BitLists.{map_get, map_set, map_same}
-use Rattle.prefix_trie_table.proofs.Paths.{same_path-true, same_path-itself, same_path-equal, same_path-not, snoc_ind, snoc_inj, snoc_not_nil, snoc_not_same, times_without, swap_fronts, flat_map_out, flat_map_same}
+use Rattle.prefix_trie_table.proofs.Paths.{same_path-itself, same_path-not, snoc_ind, snoc_inj, snoc_not_nil, times_without, swap_fronts, flat_map_out, flat_map_same}
 
 -- what a list that is not empty is held in
 pub held_some : {S : Type 0} (k start size : ℕ) (xs : List S) → 0 < length xs → held k start size xs ≡ block k start size xs ∷ []

@@ -1,18 +1,17 @@
 -- The cells read by paths, and what changes of nodes and of values leave.
-use Rattle.std.proofs.Common.{◌≡◌, ◌≢◌, ℕ, zero, suc, ◌+◌, ◌-◌, ◌<◌, ◌≤◌, ◌⊎◌, inl, inr, ⊎_elim, Bool, true, false, cond, ◌||◌, nat_eq, List, [], ◌∷◌, ◌++◌, length, get_or, set, insert, remove, map, flat_map, Option, None, Some, is_some, IsPermutation, refl, sym, ap, ◌∙◌, subst, arith}
-use Rattle.std.proofs.lemmas.Bool.{false≢true, cases_Bool}
+use Rattle.std.proofs.Common.{◌≡◌, ◌≢◌, ℕ, ◌+◌, ◌<◌, ◌≤◌, ◌⊎◌, inl, inr, true, false, cond, List, [], ◌∷◌, ◌++◌, length, get_or, set, insert, remove, map, flat_map, Option, None, Some, is_some, refl, sym, ap, ◌∙◌, subst, arith}
 use Rattle.std.proofs.lemmas.List.{length-set}
 use Rattle.std.proofs.lemmas.List.Edits.{length-insert}
 use Rattle.prefix_trie_table.specs.declared.allocator.node.Node.{Node}
 use Rattle.prefix_trie_table.specs.Bitmaps.{has_bit, bits, rank}
 use Rattle.prefix_trie_table.specs.Store.{Store, Block, Sound, block}
-use Rattle.prefix_trie_table.specs.Forest.{same_path, one_if, times, without, held, size_in, has_value, has_child, IsSlot, NodesHold, CellsHold, value_blocks, value_blocks_of, tier_sizes, with_child, lacking_child, with_node, with_value}
+use Rattle.prefix_trie_table.specs.Forest.{same_path, one_if, times, without, held, size_in, has_value, has_child, NodesHold, CellsHold, value_blocks, value_blocks_of, tier_sizes, with_child, lacking_child, with_node, with_value}
 use Rattle.prefix_trie_table.specs.Cells.{blank_node}
-use Rattle.prefix_trie_table.proofs.Soundness.{Sound-permuted, Sound-set, slot_of_block, block_inside, fits_block}
+use Rattle.prefix_trie_table.proofs.Soundness.{Sound-set, slot_of_block, block_inside, fits_block}
 use Rattle.prefix_trie_table.proofs.Bits.{has_bit-below, has_bit-zero}
 use Rattle.prefix_trie_table.proofs.BitLists.{map_get, map_set, map_same, map_insert, map_remove}
-use Rattle.prefix_trie_table.proofs.Paths.{same_path-equal, same_path-not, snoc_inj, snoc_not_same, times_without, flat_map_out, flat_map_same}
-use Rattle.prefix_trie_table.proofs.Trees.{is_none-None, held_some, held_none, node_first, node_back, listed_once, times_out, times_out_same}
+use Rattle.prefix_trie_table.proofs.Paths.{same_path-equal, same_path-not, snoc_inj, flat_map_same}
+use Rattle.prefix_trie_table.proofs.Trees.{is_none-None, held_some, node_first, node_back, listed_once, times_out_same}
 use Rattle.prefix_trie_table.proofs.Children.{bits-zero, bits-none, same_or, number_or, changed_below, changed_here, changed_other, with_here, with_other}
 
 module _ {T : Type 0} (sizes node_sizes : List ℕ) (nodes : List ℕ → Option Node) (paths : List (List ℕ)) (v : Store Node)

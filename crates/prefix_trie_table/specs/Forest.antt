@@ -1,5 +1,5 @@
 -- Nodes and values by path, and the blocks in which they stand.
-use Rattle.std.specs.Prelude.{◌≡◌, ℕ, zero, suc, ◌+◌, ◌<◌, ◌≤◌, Bool, true, false, cond, List, [], ◌∷◌, ◌++◌, map, flat_map, slice_index_or, Option, None, Some, is_some, take, length, ◌||◌}
+use Rattle.std.specs.Prelude.{◌≡◌, ℕ, ◌+◌, ◌<◌, ◌≤◌, Bool, true, false, cond, List, [], ◌∷◌, ◌++◌, map, flat_map, slice_index_or, Option, None, Some, is_some, take, length, ◌||◌}
 use Rattle.std.specs.Ordering.{nat_cmp, eq_by_cmp}
 use Rattle.std.specs.Cmp.Lexicographic.{slice_cmp}
 use Rattle.std.specs.List.{list_any}
@@ -7,7 +7,7 @@ use Rattle.prefix_trie_table.specs.declared.allocator.node.Node.{Node}
 use Rattle.prefix_trie_table.specs.Bitmaps.{has_bit, rank, bits}
 use Rattle.prefix_trie_table.specs.Cells.{blank_node, node_at, node_sizes, cell_sizes}
 pub use Rattle.prefix_trie_table.specs.Store.{held, size_in, tier_sizes}
-use Rattle.prefix_trie_table.specs.Store.{Tier, Store, Block, Sound, block, IsReady, Enough}
+use Rattle.prefix_trie_table.specs.Store.{Store, Block, Sound, IsReady}
 
 -- the slot of the child c of a node
 abbrev pub child_slot : Node → ℕ → ℕ

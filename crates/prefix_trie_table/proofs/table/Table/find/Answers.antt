@@ -1,4 +1,4 @@
-use Rattle.std.proofs.Common.{◌≡◌, ◌+◌, take, ap, sym, ◌∙◌}
+use Rattle.std.proofs.Common.{◌+◌, take, ap, sym, ◌∙◌}
 use Rattle.std.specs.FinMap.{get}
 use Rattle.prefix_trie_bits.specs.Model.Visits.{visits}
 use Rattle.prefix_trie_table.proofs.Counted.{visits_counted}

@@ -1,4 +1,4 @@
-use Rattle.std.proofs.Common.{◌≡◌, ap, sym, ◌∙◌}
+use Rattle.std.proofs.Common.{ap}
 use Rattle.prefix_trie_bits.specs.Model.Step.{State}
 use Rattle.prefix_trie_table.proofs.Shapes.{root_shape, new_shape, new_only, new_table}
 use Rattle.prefix_trie_table.proofs.table.Table.new.Goals as goal

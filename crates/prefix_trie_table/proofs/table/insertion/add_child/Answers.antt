@@ -1,4 +1,4 @@
-use Rattle.std.proofs.Common.{◌≡◌, ◌+◌, ◌<◌, ◌≤◌, ◌∷◌, false, ap, sym, ◌∙◌, refl, subst, arith, insert}
+use Rattle.std.proofs.Common.{◌≡◌, ◌+◌, ◌<◌, ◌≤◌, ◌∷◌, ap, sym, ◌∙◌, refl, subst, arith, insert}
 use Rattle.prefix_trie_table.specs.declared.allocator.node.Node.{Node}
 use Rattle.prefix_trie_table.specs.Bitmaps.{rank}
 use Rattle.prefix_trie_table.specs.Cells.{blank_node, node_sizes}

@@ -1,7 +1,7 @@
-use Rattle.std.proofs.Common.{◌≡◌, ℕ, ◌+◌, ◌-◌, ◌*◌, ◌/◌, ◌<◌, ◌≤◌, List, Some, take, length, get_or, false, refl, sym, ap, ◌∙◌, subst, arith}
+use Rattle.std.proofs.Common.{◌≡◌, ◌+◌, ◌-◌, ◌/◌, ◌<◌, ◌≤◌, Some, take, length, get_or, false, refl, sym, ap, ◌∙◌, subst, arith}
 use Rattle.prefix_trie_table.specs.declared.allocator.node.Node.{Node}
 use Rattle.prefix_trie_table.specs.Bitmaps.{has_bit, rank}
-use Rattle.prefix_trie_table.specs.Cells.{blank_node, node_at}
+use Rattle.prefix_trie_table.specs.Cells.{node_at}
 use Rattle.prefix_trie_table.specs.Digits.{path_of, bit_of}
 use Rattle.prefix_trie_table.specs.Store.{free_at, tier_for}
 use Rattle.prefix_trie_table.specs.Forest.{EntryAdded}

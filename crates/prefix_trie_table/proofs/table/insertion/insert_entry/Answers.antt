@@ -1,6 +1,6 @@
-use Rattle.std.proofs.Common.{◌≡◌, ◌+◌, ◌<◌, ◌≤◌, false, is_some, not, take, sym, ap, ◌∙◌, arith, length}
+use Rattle.std.proofs.Common.{◌≡◌, false, is_some, not, take, sym, ap, ◌∙◌, arith}
 use Rattle.prefix_trie_table.specs.Digits.{path_of, bit_of}
-use Rattle.prefix_trie_table.specs.Forest.{entry_count, one_if, with_value}
+use Rattle.prefix_trie_table.specs.Forest.{one_if}
 use Rattle.prefix_trie_table.proofs.EntryCounts.{entries_bound}
 use Rattle.prefix_trie_table.proofs.table.insertion.insert_entry.Goals as goal
 

@@ -1,15 +1,13 @@
-use Rattle.std.proofs.Common.{◌≡◌, ℕ, ◌+◌, ◌*◌, ◌<◌, ◌≤◌, List, Option, None, Some, is_some, take, true, false, sym, ap, ◌∙◌, subst, arith}
+use Rattle.std.proofs.Common.{◌≡◌, ◌+◌, ◌*◌, ◌<◌, Some, is_some, take, sym, ap, ◌∙◌, subst, arith}
 use Rattle.std.proofs.lemmas.Bool.{false≢true}
 use Rattle.std.proofs.lemmas.List.{take_all}
-use Rattle.prefix_trie_table.specs.declared.allocator.node.Node.{Node}
-use Rattle.prefix_trie_table.specs.Bitmaps.{has_bit}
-use Rattle.prefix_trie_table.specs.Digits.{path_of, bit_of}
-use Rattle.prefix_trie_table.specs.Forest.{Holds, ValueSet, EntryAdded, IsSlot}
+use Rattle.prefix_trie_table.specs.Digits.{path_of}
+use Rattle.prefix_trie_table.specs.Forest.{EntryAdded, IsSlot}
 use Rattle.prefix_trie_table.proofs.Bits.{has_bit-is}
-use Rattle.prefix_trie_table.proofs.Going.{bit-read, steps-end, steps-all, level_past}
+use Rattle.prefix_trie_table.proofs.Going.{bit-read, steps-end}
 use Rattle.prefix_trie_table.proofs.Finding.{value_bit_is, reached_own}
 use Rattle.prefix_trie_table.proofs.Growing.{walked_start, entry_added}
-use Rattle.prefix_trie_table.proofs.Inserting.{nodes_prepared, cells_prepared, reached_still, few_values, few_children, lacks_value, reached_values}
+use Rattle.prefix_trie_table.proofs.Inserting.{nodes_prepared, cells_prepared, reached_still, few_values, few_children, lacks_value}
 use Rattle.prefix_trie_table.proofs.table.insertion.insert_value.Goals as goal
 use Rattle.prefix_trie_table.proofs.table.insertion.insert_value.Goals.{then-depth-len+else-has_bit, else-depth-len}
 

@@ -1,4 +1,4 @@
-use Rattle.std.proofs.Common.{◌≡◌, ◌+◌, ◌*◌, ◌<◌, ℕ, None, sym, ◌∙◌, arith}
+use Rattle.std.proofs.Common.{◌+◌, None, sym, ◌∙◌, arith}
 use Rattle.std.proofs.lemmas.List.{get_or_default}
 use Rattle.prefix_trie_table.proofs.Finding.{reached_end, no_value_below, no_value_here, value_here}
 use Rattle.prefix_trie_table.proofs.table.lookup.find_value.Goals as goal
