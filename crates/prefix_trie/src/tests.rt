@@ -38,7 +38,14 @@ fn each_request_of_a_first_insertion_refused(rt: HostRuntime) -> Result<(), Fail
         if answer == Ok(None) {
             break;
         }
-        assert_eq!(rt; answer, Err(Refused { cause: Refusal::Memory, value: 9 }), "at {passed}");
+        assert_eq!(rt;
+            answer,
+            Err(Refused {
+                cause: Refusal::Memory,
+                value: 9
+            }),
+            "at {passed}"
+        );
         assert_eq!(rt; map.len(), 0);
         assert_eq!(rt; map.get(&(0, 32)), None);
         assert_eq!(rt; map.insert((0, 32), 9), Ok(None));
@@ -130,9 +137,18 @@ fn the_longest_match(rt: HostRuntime) -> Result<(), Fail> {
     assert_eq!(rt; map.get_lpm(&(0x0a01_0203_u32, 32_u8)), None);
     assert_eq!(rt; map.insert((0x0a00_0000, 8), 'a'), Ok(None));
     assert_eq!(rt; map.insert((0x0a01_ffff, 16), 'b'), Ok(None));
-    assert_eq!(rt; map.get_lpm(&(0x0a01_0203, 32)), Some(((0x0a01_0000, 16), &'b')));
-    assert_eq!(rt; map.get_lpm(&(0x0a01_0203, 16)), Some(((0x0a01_0000, 16), &'b')));
-    assert_eq!(rt; map.get_lpm(&(0x0a01_0203, 15)), Some(((0x0a00_0000, 8), &'a')));
+    assert_eq!(rt;
+        map.get_lpm(&(0x0a01_0203, 32)),
+        Some(((0x0a01_0000, 16), &'b'))
+    );
+    assert_eq!(rt;
+        map.get_lpm(&(0x0a01_0203, 16)),
+        Some(((0x0a01_0000, 16), &'b'))
+    );
+    assert_eq!(rt;
+        map.get_lpm(&(0x0a01_0203, 15)),
+        Some(((0x0a00_0000, 8), &'a'))
+    );
     assert_eq!(rt; map.get_lpm(&(0x0b00_0000, 32)), None);
     let (answer, _visits) = map.get_lpm_counted(&(0x0a02_0203, 32));
     assert_eq!(rt; answer, Some(((0x0a00_0000, 8), &'a')));

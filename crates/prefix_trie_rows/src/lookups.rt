@@ -15,10 +15,12 @@ fn network(addr: u32, len: u8) -> Ipv4Prefix
 /// Row 1: a map answers for the networks that it holds, and for no other.
 pub fn exact(alloc: Global) -> Result<bool, Refusal> {
     let mut map = PrefixMap::new(alloc)?;
-    Ok(map.insert(network(0xc0a8_0000, 23), 1) == Ok(None)
-        && map.insert(network(0xc0a8_0100, 24), 2) == Ok(None)
-        && map.insert(network(0xc0a8_0100, 24), 3) == Ok(Some(2))
-        && map.get(&network(0xc0a8_0100, 24)) == Some(&3)
-        && map.get(&network(0xc0a8_0200, 24)).is_none()
-        && map.get(&network(0xc0a8_0180, 25)).is_none())
+    Ok(
+        map.insert(network(0xc0a8_0000, 23), 1) == Ok(None)
+            && map.insert(network(0xc0a8_0100, 24), 2) == Ok(None)
+            && map.insert(network(0xc0a8_0100, 24), 3) == Ok(Some(2))
+            && map.get(&network(0xc0a8_0100, 24)) == Some(&3)
+            && map.get(&network(0xc0a8_0200, 24)).is_none()
+            && map.get(&network(0xc0a8_0180, 25)).is_none(),
+    )
 }

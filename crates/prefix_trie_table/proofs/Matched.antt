@@ -111,21 +111,21 @@ module _ {T : Type 0} where
       longest_at none x e = ((match_laws T).longest_is s.entries asked (take m.len asked, x)).1 (record {
         matches = is_match x e;
         longest = λ k has h.
-          let within : length k ≤ length asked = begins-length k asked h in
-          elim (cases_lt m.len (length k)) as (λ _. length k ≤ length (take m.len asked)) [
-            | inl l ↦ absurd (true≢false (sym (match_held k has h) ∙ none (length k) (omega arith) (omega (arith, asked_length)) within))
-            | inr g ↦ omega (arith, match_length)
-          ];
+            let within : length k ≤ length asked = begins-length k asked h in
+            elim (cases_lt m.len (length k)) as (λ _. length k ≤ length (take m.len asked)) [
+              | inl l ↦ absurd (true≢false (sym (match_held k has h) ∙ none (length k) (omega arith) (omega (arith, asked_length)) within))
+              | inr g ↦ omega (arith, match_length)
+            ];
       })
 
       shortest_at : NoneHeld t.reading (take len b) 0 m.len → (x : T) → cell_of w m ≡ Some x → shortest_match s.entries (take len b) ≡ Some (take m.len (take len b), x)
       shortest_at none x e = ((match_laws T).shortest_is s.entries asked (take m.len asked, x)).1 (record {
         matches = is_match x e;
         shortest = λ k has h.
-          elim (cases_lt (length k) m.len) as (λ _. length (take m.len asked) ≤ length k) [
-            | inl l ↦ absurd (true≢false (sym (match_held k has h) ∙ none (length k) (omega arith) l (begins-length k asked h)))
-            | inr g ↦ omega (arith, match_length)
-          ];
+            elim (cases_lt (length k) m.len) as (λ _. length (take m.len asked) ≤ length k) [
+              | inl l ↦ absurd (true≢false (sym (match_held k has h) ∙ none (length k) (omega arith) l (begins-length k asked h)))
+              | inr g ↦ omega (arith, match_length)
+            ];
       })
 
       -- the nodes met down to its own

@@ -65,9 +65,9 @@ module _ (q : List Bool) (level i : ℕ) (from : 5 * level ≤ i) (within : i �
 
 pub none_join : (reading : List ℕ → Option Node) (q : List Bool) (a b c : ℕ) → NoneHeld reading q a b → NoneHeld reading q b c → NoneHeld reading q a c
 none_join reading q a b c low high i from to within = elim (cases_lt i b) [
-    | inl l ↦ low i from l within
-    | inr g ↦ high i g to within
-  ]
+  | inl l ↦ low i from l within
+  | inr g ↦ high i g to within
+]
 
 -- ---- what the node on the way has
 
@@ -107,7 +107,7 @@ module _ (q : List Bool) (level : ℕ) (whole : 5 * level ≤ length q) (reading
         let e : l.len ≡ d = bit-length l.len bit d x l.within l.bit_is only in
         subst (λ n. IsHeld reading q (5 * level + n) bit node × NoneHeld reading q (5 * level + n + 1) (5 * level + 5)) e (
           held_here l.len bit l.short l.within l.bit_is l.set,
-          λ i from last within. held_is q level i (omega arith) within last reading node is ∙ l.none_longer (i - 5 * level) (omega arith) (omega arith) (omega (arith, rest-length))
+          λ i from last within. held_is q level i (omega arith) within last reading node is ∙ l.none_longer (i - 5 * level) (omega arith) (omega arith) (omega (arith, rest-length)),
         )
 
     pub shortest_here : IsShortest node.value_bitmap (drop (5 * level) q) bit → IsHeld reading q (5 * level + d) bit node × NoneHeld reading q (5 * level) (5 * level + d)
@@ -116,7 +116,7 @@ module _ (q : List Bool) (level : ℕ) (whole : 5 * level ≤ length q) (reading
         let short : l.len ≤ 4 = l.short in
         subst (λ n. IsHeld reading q (5 * level + n) bit node × NoneHeld reading q (5 * level) (5 * level + n)) e (
           held_here l.len bit l.short l.within l.bit_is l.set,
-          λ i from last within. held_is q level i from within (omega arith) reading node is ∙ l.none_shorter (i - 5 * level) (omega arith)
+          λ i from last within. held_is q level i from within (omega arith) reading node is ∙ l.none_shorter (i - 5 * level) (omega arith),
         )
 
 pub longest-small : (bitmap bit : ℕ) (rest : List Bool) → IsLongest bitmap rest bit → bit < 31

@@ -114,8 +114,8 @@ impl<T: Drop, A: Allocator, V: Tick> Table<T, A, V> {
         ensures value { MatchOption result
             (longest_match self.now.entries (take len (K.bits key)) ≡ None)
             (λ found. (found.0 ≤ len)
-                × (longest_match self.now.entries (take len (K.bits key))
-                    ≡ Some (take found.0 (take len (K.bits key)), found.1.now))) }
+            × (longest_match self.now.entries (take len (K.bits key))
+            ≡ Some (take found.0 (take len (K.bits key)), found.1.now))) }
         ensures visits { V.count counter.new
             ≡ V.count counter.old + visits self.now.nodes (take len (K.bits key)) }
     {
@@ -133,8 +133,8 @@ impl<T: Drop, A: Allocator, V: Tick> Table<T, A, V> {
         ensures value { MatchOption result
             (shortest_match self.now.entries (take len (K.bits key)) ≡ None)
             (λ found. (found.0 ≤ len)
-                × (shortest_match self.now.entries (take len (K.bits key))
-                    ≡ Some (take found.0 (take len (K.bits key)), found.1.now))) }
+            × (shortest_match self.now.entries (take len (K.bits key))
+            ≡ Some (take found.0 (take len (K.bits key)), found.1.now))) }
         ensures visits { V.count counter.new ≡ V.count counter.old
             + visits_to_match self.now.entries self.now.nodes (take len (K.bits key)) }
     {

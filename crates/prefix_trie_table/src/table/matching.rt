@@ -12,7 +12,9 @@ use crate::allocator::blocks::Blocks;
 use crate::allocator::node::{Node, NodeSlot};
 use crate::allocator::nodes::{NodeAllocator, Tick};
 use crate::table::lookup::Reached;
-use prefix_trie_bits::node::{child_bit_of, has_bit, longest_match, rank, shortest_match, string_of};
+use prefix_trie_bits::node::{
+    child_bit_of, has_bit, longest_match, rank, shortest_match, string_of,
+};
 use prefix_trie_bits::prefix::Key;
 use std::alloc::Allocator;
 
@@ -54,7 +56,7 @@ fn step_down<K: Key, A: Allocator, V: Tick>(
     ensures step { MatchOption result
         (IsReached (K.bits key) len from.level from.node (from.at.start + from.at.place) nodes.now)
         (λ next. (next.level ≡ from.level + 1)
-            × IsOnWay (K.bits key) len next.level next.node (next.at.start + next.at.place) nodes.now) }
+        × IsOnWay (K.bits key) len next.level next.node (next.at.start + next.at.place) nodes.now) }
     ensures visits { MatchOption result
         (V.count counter.new ≡ V.count counter.old)
         (λ _. V.count counter.new ≡ V.count counter.old + 1) }
@@ -117,7 +119,7 @@ pub fn longest_on_way<K: Key, A: Allocator, V: Tick>(
     ensures visits { (reading : List ℕ → Option Node) (paths : List (List ℕ))
         → NodesHold node_sizes reading paths nodes.now
         → (level : ℕ) × IsEnd reading (path_of (take len (K.bits key))) level
-            × (V.count counter.new ≡ V.count counter.old + (level + 1)) }
+        × (V.count counter.new ≡ V.count counter.old + (level + 1)) }
 {
     let mut here = root(nodes, counter);
     let mut best = None;
@@ -170,9 +172,9 @@ pub fn shortest_on_way<K: Key, A: Allocator, V: Tick>(
     ensures visits { (reading : List ℕ → Option Node) (paths : List (List ℕ))
         → NodesHold node_sizes reading paths nodes.now
         → MatchOption result
-            ((level : ℕ) × IsEnd reading (path_of (take len (K.bits key))) level
-                × (V.count counter.new ≡ V.count counter.old + (level + 1)))
-            (λ m. V.count counter.new ≡ V.count counter.old + (m.len / 5 + 1)) }
+        ((level : ℕ) × IsEnd reading (path_of (take len (K.bits key))) level
+        × (V.count counter.new ≡ V.count counter.old + (level + 1)))
+        (λ m. V.count counter.new ≡ V.count counter.old + (m.len / 5 + 1)) }
 {
     let mut here = root(nodes, counter);
     'way: loop {
@@ -197,7 +199,7 @@ pub fn value_of_match<'a, T: Drop, A: Allocator>(
     ensures { MatchOption result
         (slice_index_or cells.now.slots (cell_slot found) None ≡ None)
         (λ r. (r.0 ≡ found.len)
-            × (slice_index_or cells.now.slots (cell_slot found) None ≡ Some r.1.now)) }
+        × (slice_index_or cells.now.slots (cell_slot found) None ≡ Some r.1.now)) }
 {
     let place = rank(found.node.value_bitmap, found.bit);
     let Some(value) = cells.at(found.node.value_block, place).as_ref() else {

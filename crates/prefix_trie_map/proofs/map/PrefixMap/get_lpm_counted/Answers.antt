@@ -14,22 +14,22 @@ returns-clause-value g c =
     let key : take c.from-len.result bits ≡ path = search rules in
     let same : entries ≡ c.args.self.now.entries = search rules in
     elim c.match-find_longest.branch [
-    | in-Some w ↦
-        let back = g.P.Prefix.back in
-        let n = w.in-Some.found in
-        let found = w.in-Some.ensures.value in
-        let shown : shown_match back (longest_match entries (take c.from-len.result bits)) ≡ Some (w.rebuilt.result, w.in-Some.value.now) =
-            ap (shown_match back) found.1 ∙ ap (λ p. Some (p, w.in-Some.value.now))
-            (ap back (take-take n c.from-len.result bits found.0) ∙ sym w.rebuilt.ensures) in
-        let asked : shown_match back (longest_match c.args.self.now.entries path) ≡ Some (w.rebuilt.result, w.in-Some.value.now) =
-            subst (λ m. shown_match back (longest_match m path) ≡ Some (w.rebuilt.result, w.in-Some.value.now)) same
-            (subst (λ s. shown_match back (longest_match entries s) ≡ Some (w.rebuilt.result, w.in-Some.value.now)) key shown) in
-        subst (λ a. MatchOption a (longest_match c.args.self.now.entries path ≡ None) (λ f. shown_match back (longest_match c.args.self.now.entries path) ≡ Some (f.0, f.1.now))) (sym w.answer-is) asked
-    | in-None w ↦
-        let none : longest_match c.args.self.now.entries path ≡ None =
-            subst (λ m. longest_match m path ≡ None) same
-            (subst (λ s. longest_match entries s ≡ None) key w.in-None.ensures.value) in
-        subst (λ a. MatchOption a (longest_match c.args.self.now.entries path ≡ None) (λ f. shown_match g.P.Prefix.back (longest_match c.args.self.now.entries path) ≡ Some (f.0, f.1.now))) (sym w.answer-is) none
+      | in-Some w ↦
+          let back = g.P.Prefix.back in
+          let n = w.in-Some.found in
+          let found = w.in-Some.ensures.value in
+          let shown : shown_match back (longest_match entries (take c.from-len.result bits)) ≡ Some (w.rebuilt.result, w.in-Some.value.now) =
+          ap (shown_match back) found.1 ∙ ap (λ p. Some (p, w.in-Some.value.now))
+          (ap back (take-take n c.from-len.result bits found.0) ∙ sym w.rebuilt.ensures) in
+          let asked : shown_match back (longest_match c.args.self.now.entries path) ≡ Some (w.rebuilt.result, w.in-Some.value.now) =
+          subst (λ m. shown_match back (longest_match m path) ≡ Some (w.rebuilt.result, w.in-Some.value.now)) same
+          (subst (λ s. shown_match back (longest_match entries s) ≡ Some (w.rebuilt.result, w.in-Some.value.now)) key shown) in
+          subst (λ a. MatchOption a (longest_match c.args.self.now.entries path ≡ None) (λ f. shown_match back (longest_match c.args.self.now.entries path) ≡ Some (f.0, f.1.now))) (sym w.answer-is) asked
+      | in-None w ↦
+          let none : longest_match c.args.self.now.entries path ≡ None =
+          subst (λ m. longest_match m path ≡ None) same
+          (subst (λ s. longest_match entries s ≡ None) key w.in-None.ensures.value) in
+          subst (λ a. MatchOption a (longest_match c.args.self.now.entries path ≡ None) (λ f. shown_match g.P.Prefix.back (longest_match c.args.self.now.entries path) ≡ Some (f.0, f.1.now))) (sym w.answer-is) none
     ]
 
 pub returns-clause-bound : goal.returns-clause-bound

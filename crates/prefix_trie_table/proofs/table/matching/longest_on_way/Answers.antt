@@ -45,7 +45,7 @@ way-preserved g c =
       on_way = c.in-Some.ensures.step.1;
       counted = omega (arith, c.in-Some.ensures.visits, c.in-Some.ensures.step.0, c.way.invariant.counted);
       best = λ reading paths hold.
-        let found = longest_now b c.args.len level _ c.way.here.node c.args.nodes.now c.way.invariant.on_way reading paths hold c.way.best c.longest_in.result c.or-best.result (c.way.invariant.best reading paths hold) c.longest_in.ensures c.or-best.ensures in
-        let more : 5 * level + 5 ≡ 5 * c.in-Some.next.level = omega (arith, c.in-Some.ensures.step.0) in
-        subst (λ n. LongestHeld reading q 0 n c.or-best.result) more found;
+          let found = longest_now b c.args.len level _ c.way.here.node c.args.nodes.now c.way.invariant.on_way reading paths hold c.way.best c.longest_in.result c.or-best.result (c.way.invariant.best reading paths hold) c.longest_in.ensures c.or-best.ensures in
+          let more : 5 * level + 5 ≡ 5 * c.in-Some.next.level = omega (arith, c.in-Some.ensures.step.0) in
+          subst (λ n. LongestHeld reading q 0 n c.or-best.result) more found;
     }

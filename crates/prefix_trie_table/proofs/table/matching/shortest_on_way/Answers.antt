@@ -53,7 +53,7 @@ way-preserved g c =
       on_way = c.in-Some-step_down.ensures.step.1;
       counted = omega (arith, c.in-Some-step_down.ensures.visits, c.in-Some-step_down.ensures.step.0, c.way.invariant.counted);
       none = λ reading paths hold.
-        let is = on_way_is b c.args.len level _ c.way.here.node c.args.nodes.now c.way.invariant.on_way reading paths hold in
-        let more : 5 * level + 5 ≡ 5 * c.in-Some-step_down.next.level = omega (arith, c.in-Some-step_down.ensures.step.0) in
-        subst (NoneHeld reading q 0) more (none_join reading q 0 (5 * level) (5 * level + 5) (c.way.invariant.none reading paths hold) (c.in_default.ensures.found reading is));
+          let is = on_way_is b c.args.len level _ c.way.here.node c.args.nodes.now c.way.invariant.on_way reading paths hold in
+          let more : 5 * level + 5 ≡ 5 * c.in-Some-step_down.next.level = omega (arith, c.in-Some-step_down.ensures.step.0) in
+          subst (NoneHeld reading q 0) more (none_join reading q 0 (5 * level) (5 * level + 5) (c.way.invariant.none reading paths hold) (c.in_default.ensures.found reading is));
     }

@@ -27,10 +27,12 @@ visit-node-requires g c =
 pub returns-clause-step : goal.returns-clause-step
 returns-clause-step g c =
     let b = g.K.Key.bits c.args.key in
-    let at = c.requires.on_way in
-    (refl, record {
-      long = at.long;
-      whole = omega (arith, c.if-depth-len.false);
-      node_is = c.visit-node.ensures.node;
-      deepest = down_more b c.args.len c.args.from.level _ c.args.from.node c.args.nodes.now at.long (on_way_down b c.args.len c.args.from.level _ c.args.from.node c.args.nodes.now at) c.child_bit_of-child.result c.child_bit_of-child.ensures.small c.child_bit_of-child.ensures.value (omega (arith, c.if-depth-len.false)) c.rank.result (sym c.has_bit.ensures ∙ c.if-not-has_bit.false) c.rank.ensures;
-    })
+    let at = c.requires.on_way in (
+      refl,
+      record {
+        long = at.long;
+        whole = omega (arith, c.if-depth-len.false);
+        node_is = c.visit-node.ensures.node;
+        deepest = down_more b c.args.len c.args.from.level _ c.args.from.node c.args.nodes.now at.long (on_way_down b c.args.len c.args.from.level _ c.args.from.node c.args.nodes.now at) c.child_bit_of-child.result c.child_bit_of-child.ensures.small c.child_bit_of-child.ensures.value (omega (arith, c.if-depth-len.false)) c.rank.result (sym c.has_bit.ensures ∙ c.if-not-has_bit.false) c.rank.ensures;
+      },
+    )

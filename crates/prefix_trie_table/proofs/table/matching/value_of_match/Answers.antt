@@ -27,6 +27,8 @@ returns-in_default g c =
 
 pub returns : goal.returns
 returns g c =
-    let n = c.args.found.node in
-    (refl, cell-is c.args.cells.now.slots n.value_block c.rank-place.result (rank n.value_bitmap c.args.found.bit) c.at.result.now (place-is c.rank-place.result n.value_bitmap c.args.found.bit c.requires.bit c.rank-place.ensures) c.requires.stands c.at.ensures.slot
-    ∙ sym c.in-Some.ensures.value)
+    let n = c.args.found.node in (
+      refl,
+      cell-is c.args.cells.now.slots n.value_block c.rank-place.result (rank n.value_bitmap c.args.found.bit) c.at.result.now (place-is c.rank-place.result n.value_bitmap c.args.found.bit c.requires.bit c.rank-place.ensures) c.requires.stands c.at.ensures.slot
+          ∙ sym c.in-Some.ensures.value,
+    )
