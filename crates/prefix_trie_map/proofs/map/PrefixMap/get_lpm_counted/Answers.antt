@@ -24,12 +24,12 @@ returns-clause-value g c =
           let asked : shown_match back (longest_match c.args.self.now.entries path) ≡ Some (w.rebuilt.result, w.in-Some.value.now) =
           subst (λ m. shown_match back (longest_match m path) ≡ Some (w.rebuilt.result, w.in-Some.value.now)) same
           (subst (λ s. shown_match back (longest_match entries s) ≡ Some (w.rebuilt.result, w.in-Some.value.now)) key shown) in
-          subst (λ a. MatchOption a (longest_match c.args.self.now.entries path ≡ None) (λ f. shown_match back (longest_match c.args.self.now.entries path) ≡ Some (f.0, f.1.now))) (sym w.answer-is) asked
+          subst (λ a. MatchOption a (longest_match c.args.self.now.entries path ≡ None) (λ f. shown_match back (longest_match c.args.self.now.entries path) ≡ Some (f.0, f.1.now))) (sym w.longest-is) asked
       | in-None w ↦
           let none : longest_match c.args.self.now.entries path ≡ None =
           subst (λ m. longest_match m path ≡ None) same
           (subst (λ s. longest_match entries s ≡ None) key w.in-None.ensures.value) in
-          subst (λ a. MatchOption a (longest_match c.args.self.now.entries path ≡ None) (λ f. shown_match g.P.Prefix.back (longest_match c.args.self.now.entries path) ≡ Some (f.0, f.1.now))) (sym w.answer-is) none
+          subst (λ a. MatchOption a (longest_match c.args.self.now.entries path ≡ None) (λ f. shown_match g.P.Prefix.back (longest_match c.args.self.now.entries path) ≡ Some (f.0, f.1.now))) (sym w.longest-is) none
     ]
 
 pub returns-clause-bound : goal.returns-clause-bound
