@@ -3,6 +3,7 @@ pub mod Entries
 pub mod Selections
 pub mod Matches
 pub mod Nodes
+pub mod NodeListings
 pub mod Visits
 pub mod Addresses
 pub mod Asking
