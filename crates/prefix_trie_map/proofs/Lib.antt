@@ -1,2 +1,4 @@
+pub mod Covers
 pub mod Insertions
+pub mod Lookups
 pub mod Refusals
