@@ -26,3 +26,6 @@ pub mod Inserting
 pub mod Rooms
 pub mod Matching
 pub mod Matched
+pub mod Subtrees
+pub mod Spots
+pub mod Stacks

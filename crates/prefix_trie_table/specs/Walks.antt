@@ -39,11 +39,11 @@ HasTree T width v = (t : Tree T) × IsTree width v t
 abbrev pub slot_of : Seat → ℕ
 slot_of seat = seat.start + seat.place
 
-module _ {K : Type 0} where
-  -- the string of a spot's node
-  abbrev pub string_at : (K → List Bool) → Spot K → List Bool
-  string_at bits p = take p.depth (bits p.key)
+-- the node has this place
+abbrev pub IsPlaceOf : Node → List Bool → Type 0
+IsPlaceOf n s = (length s ≤ 5) × (is_in n.value_bitmap n.child_bitmap s ≡ true)
 
+module _ {K : Type 0} where
   -- the spot is at a node of the array, and only places that the node has are still to come
   pub record IsSpot (IsKey : K → Type 0) (bits : K → List Bool) (width : ℕ) (v : Store Node) (p : Spot K) : Type 0 where
     pub key : IsKey p.key
@@ -51,7 +51,7 @@ module _ {K : Type 0} where
     pub depth_is : p.depth ≡ 5 * level
     pub within : p.depth ≤ width
     pub stands : read v.slots (path_of (take p.depth (bits p.key))) ≡ Some p.node
-    pub each : All (λ s. (length s ≤ 5) × (is_in p.node.value_bitmap p.node.child_bitmap s ≡ true)) (to_come p.places)
+    pub each : All (IsPlaceOf p.node) (to_come p.places)
 
   -- each spot is a level below the one before, and the first is at this depth
   abbrev pub IsTrail : (K → Type 0) → (K → List Bool) → ℕ → Store Node → ℕ → List (Spot K) → Type 0
@@ -91,14 +91,15 @@ module _ {K : Type 0} where
       pub reads : slice_index_or t.cells.slots (slot_of seat) None ≡ Some value
       pub gives : GivesEntry IsKey bits width key len value old new
 
--- a bound on the steps below a node with so many levels below it
+-- k times x and k + 1 more
+unfoldable pub many : ℕ → ℕ → ℕ
+many zero x = 1
+many (suc k) x = x + 1 + many k x
+
+-- a bound on the steps at a node with so many levels below it, which has 63 places
 unfoldable pub most : ℕ → ℕ
 most zero = 1
 most (suc n) = many 63 (most n)
-  where
-    many : ℕ → ℕ → ℕ
-    many zero x = 1
-    many (suc k) x = x + 1 + many k x
 
 -- a bound on the steps at these places, where so many levels are below
 abbrev pub weight_of : ℕ → List (List Bool) → ℕ

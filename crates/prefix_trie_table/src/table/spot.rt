@@ -1,10 +1,10 @@
 //! A place in the middle of a table, from which a walk goes on: a node and which of its places are still to come.
-ghost use Rattle.std.specs.Prelude.{◌≡◌, ℕ, ◌+◌, ◌<◌, ◌≤◌, List, Bool, [], false, Some, None, length, slice_index_or};
+ghost use Rattle.std.specs.Prelude.{◌≡◌, ℕ, ◌+◌, ◌<◌, ◌≤◌, [], false, Some, None, All, length, slice_index_or};
 ghost use Rattle.prefix_trie_bits.specs.Places.{places};
 ghost use Rattle.prefix_trie_bits.specs.Walks.{to_come};
 ghost use Rattle.prefix_trie_table.specs.Bitmaps.{has_bit as is_set};
 ghost use Rattle.prefix_trie_table.specs.Cells.{node_at};
-ghost use Rattle.prefix_trie_table.specs.Walks.{Tree, IsTree, HasTree, IsSpot, Steps, slot_of};
+ghost use Rattle.prefix_trie_table.specs.Walks.{Tree, IsTree, HasTree, IsSpot, IsPlaceOf, Steps, slot_of};
 
 use crate::allocator::blocks::Blocks;
 use crate::allocator::node::{Node, NodeSlot};
@@ -67,6 +67,7 @@ pub fn enter<K: Key, A: Allocator, V: Tick>(
     ensures key { result.key ≡ key }
     ensures depth { result.depth ≡ depth }
     ensures places { to_come result.places ≡ places result.node.value_bitmap result.node.child_bitmap }
+    ensures each { All (IsPlaceOf result.node) (to_come result.places) }
 {
     let node = nodes.visit(at, counter);
     let places = Places::new(node.value_bitmap, node.child_bitmap);
