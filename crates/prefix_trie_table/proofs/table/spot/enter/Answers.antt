@@ -1,4 +1,4 @@
-use Rattle.std.proofs.Common.{◌≡◌, ap, sym, ◌∙◌, subst}
+use Rattle.std.proofs.Common.{◌≡◌, ◌<◌, ap, ◌∙◌, arith}
 use Rattle.std.specs.List.{Contains}
 use Rattle.std.proofs.lemmas.List.Elements.{All-weaker, All-contains_itself}
 use Rattle.prefix_trie_bits.specs.Walks.{to_come}
@@ -9,7 +9,7 @@ use Rattle.prefix_trie_table.proofs.table.spot.enter.Goals as goal
 
 pub new-places-requires : goal.new-places-requires
 new-places-requires g c =
-    clear-small c.visit-node.result.value_bitmap c.type_inv.node.value_bitmap (ap (λ n. has_bit n.value_bitmap 31) c.visit-node.ensures.node ∙ c.requires.few)
+    clear-small c.visit-node.result.value_bitmap (omega arith) (ap (λ n. has_bit n.value_bitmap 31) c.visit-node.ensures.node ∙ c.requires.few)
 
 pub returns-clause-each : goal.returns-clause-each
 returns-clause-each g c =
