@@ -1,4 +1,8 @@
-use Rattle.std.proofs.Common.{◌≡◌, ◌<◌, ◌∙◌, length, sym, ap, subst, arith}
+use Rattle.std.proofs.Common.{◌≡◌, ◌<◌, ◌∙◌, List, [], ◌∷◌, length, refl, sym, ap, subst, arith}
+use Rattle.std.proofs.lemmas.Bool.{false≢true}
+use Rattle.arrayvec.specs.ArrayVec.{ArrayVec}
+use Rattle.prefix_trie_table.specs.declared.table.spot.Spot.{Spot}
+use Rattle.prefix_trie_table.specs.Walks.{pending}
 use Rattle.prefix_trie_table.proofs.Stacks.{spot-popped, stack-popped, stack-room, child-room, stack-put, stack-child, pending-entry, pending-child, pending-done, weight-deeper, weight-popped}
 use Rattle.prefix_trie_table.proofs.table.walk.advance.Goals as goal
 
@@ -69,7 +73,13 @@ loop-spot-preserved g c =
       same = λ t tree. pending-done c.loop-spot.stack.items c.pop.new.self.items c.in-Some.spot c.in-Some.ensures.items g.K.Key.bits t.shape.entries (c.in-Done.ensures t tree).0 ∙ c.loop-spot.invariant.same t tree;
     }
 
-pub returns-clause-entry : goal.returns-clause-entry
-returns-clause-entry g c =
-    λ t tree. ?
+no-items : {X : Type 0} (xs : List X) → (0 < length xs → ⊥) → xs ≡ []
+no-items [] h = refl
+no-items (x ∷ xs) h = absurd (h (omega arith))
 
+pub returns-clause-entry : goal.returns-clause-entry
+returns-clause-entry g c = λ t tree.
+    let none : c.loop-spot.stack.items ≡ [] = no-items c.loop-spot.stack.items (λ h. false≢true (c.in_default.ensures.variant.1 h)) in (
+      sym (c.loop-spot.invariant.same t tree) ∙ ap (pending g.K.Key.bits t.shape.entries) none,
+      ap (λ (w : ArrayVec (Spot g.row.K.Denot)). pending g.K.Key.bits t.shape.entries w.items) c.in_default.ensures.empty ∙ ap (pending g.K.Key.bits t.shape.entries) none,
+    )
