@@ -1,5 +1,5 @@
 //! A place in the middle of a table, from which a walk goes on: a node and which of its places are still to come.
-ghost use Rattle.std.specs.Prelude.{◌≡◌, ℕ, ◌+◌, ◌<◌, ◌≤◌, [], false, Some, None, All, length, slice_index_or};
+ghost use Rattle.std.specs.Prelude.{◌≡◌, ℕ, ◌+◌, ◌<◌, ◌≤◌, [], ⊤, false, Some, None, All, length, slice_index_or};
 ghost use Rattle.prefix_trie_bits.specs.Places.{places};
 ghost use Rattle.prefix_trie_bits.specs.Walks.{to_come};
 ghost use Rattle.prefix_trie_table.specs.Bitmaps.{has_bit as is_set};
@@ -11,15 +11,28 @@ use crate::allocator::node::{Node, NodeSlot};
 use crate::allocator::nodes::{NodeAllocator, Tick};
 use prefix_trie_bits::node::{Place, Places, rank, string_of};
 use prefix_trie_bits::prefix::Key;
-use std::alloc::Allocator;
+use std::alloc::{AllocError, Allocator};
 
 /// A node, its path as the first `depth` bits of a key, and the places of the node that are still to come.
-#[derive(Clone, Copy)]
 pub struct Spot<K: Key> {
     node: Node,
     key: K,
     depth: u32,
     places: Places,
+}
+
+impl<K: Key> Copy for Spot<K> {}
+
+// A copy is the same spot, and takes no memory.
+impl<K: Key> Clone for Spot<K> {
+    ghost is_clone = { λ p q. q ≡ p };
+
+    ghost is_infallible = { λ _. ⊤ };
+
+    #[inline]
+    fn clone(&self) -> Result<Self, AllocError> {
+        Ok(*self)
+    }
 }
 
 impl<K: Key> Default for Spot<K> {
