@@ -29,3 +29,4 @@ pub mod Matched
 pub mod Subtrees
 pub mod Spots
 pub mod Stacks
+pub mod Walking

@@ -1,0 +1,54 @@
+-- What the arrays and the spots of a walk say of what is still to come.
+use Rattle.std.proofs.Common.{◌≡◌, ℕ, Bool, List, Option, None, Some, refl, sym, ap, ◌∙◌, subst}
+use Rattle.std.specs.Borrow.{Bor}
+use Rattle.prefix_trie_bits.specs.Model.Step.{State}
+use Rattle.prefix_trie_table.specs.declared.allocator.node.Node.{Node}
+use Rattle.prefix_trie_table.specs.declared.table.spot.Spot.{Spot}
+use Rattle.prefix_trie_table.specs.Store.{Store}
+use Rattle.prefix_trie_table.specs.Shape.{same_shape}
+use Rattle.prefix_trie_table.specs.Walks.{IsTree, IsStack, pending, ShapeOf, rest_of_walk, IsWalk}
+
+module _ {K T : Type 0} (IsKey : K → Type 0) (bits : K → List Bool) (width : ℕ) where
+  -- a walk has arrays, which hold a table
+  pub record Rest (arrays : Option (Bor (Store Node) × Bor (Store (Option T)))) (shape : ShapeOf arrays) (ps : List (Spot K)) (v : Store Node) (w : Store (Option T)) : Type 0 where
+    pub state : State T
+    pub tree : IsTree width v (record { cells = w; shape = state })
+    pub stack : IsStack IsKey bits width v ps
+    pub rest : rest_of_walk bits arrays shape ps ≡ pending bits state.entries ps
+    pub later : (u : ShapeOf arrays) (qs : List (Spot K)) → IsStack IsKey bits width v qs → IsWalk IsKey bits width arrays u qs
+    pub later_rest : (u : ShapeOf arrays) (qs : List (Spot K)) → rest_of_walk bits arrays u qs ≡ pending bits state.entries qs
+
+  rest_some : (b : Bor (Store Node) × Bor (Store (Option T))) (shape : ShapeOf (Some b)) (ps : List (Spot K)) → IsWalk IsKey bits width (Some b) shape ps →
+      Rest (Some b) shape ps b.0.now b.1.now
+  rest_some b shape ps h = record {
+    state = shape.0;
+    tree = h.0;
+    stack = h.1;
+    rest = refl;
+    later = λ u qs k. (
+      subst (λ (x : State T). IsTree width b.0.now (record { cells = b.1.now; shape = x })) (same_shape b.0.now.slots b.1.now.slots shape.0 u.0 shape.1 u.1) h.0,
+      k,
+    );
+    later_rest = λ u qs. ap (λ (x : State T). pending bits x.entries qs) (same_shape b.0.now.slots b.1.now.slots u.0 shape.0 u.1 shape.1);
+  }
+
+  pub rest_at : (arrays : Option (Bor (Store Node) × Bor (Store (Option T)))) (a : Bor (Store Node) × Bor (Store (Option T))) → arrays ≡ Some a →
+      (shape : ShapeOf arrays) (ps : List (Spot K)) → IsWalk IsKey bits width arrays shape ps → Rest arrays shape ps a.0.now a.1.now
+  rest_at None a e shape ps h = absurd (cc)
+  rest_at (Some b) a e shape ps h =
+      let same : b ≡ a = cc in subst (λ (x : Bor (Store Node) × Bor (Store (Option T))). Rest (Some b) shape ps x.0.now x.1.now) same (rest_some b shape ps h)
+
+  -- the arrays have one shape, whichever is named
+  pub same_rest : (arrays : Option (Bor (Store Node) × Bor (Store (Option T)))) (s u : ShapeOf arrays) (ps qs : List (Spot K)) → qs ≡ ps →
+      rest_of_walk bits arrays u qs ≡ rest_of_walk bits arrays s ps
+  same_rest None s u ps qs e = refl
+  same_rest (Some a) s u ps qs e =
+      ap (λ (x : State T). pending bits x.entries qs) (same_shape a.0.now.slots a.1.now.slots u.0 s.0 u.1 s.1) ∙ ap (pending bits s.0.entries) e
+
+  pub same_walk : (arrays : Option (Bor (Store Node) × Bor (Store (Option T)))) (s u : ShapeOf arrays) (ps qs : List (Spot K)) → qs ≡ ps →
+      IsWalk IsKey bits width arrays s ps → IsWalk IsKey bits width arrays u qs
+  same_walk None s u ps qs e h = tt
+  same_walk (Some a) s u ps qs e h = (
+    subst (λ (x : State T). IsTree width a.0.now (record { cells = a.1.now; shape = x })) (same_shape a.0.now.slots a.1.now.slots s.0 u.0 s.1 u.1) h.0,
+    subst (IsStack IsKey bits width a.0.now) (sym e) h.1,
+  )
