@@ -1,12 +1,14 @@
 -- What the arrays and the spots of a walk say of what is still to come.
-use Rattle.std.proofs.Common.{◌≡◌, ℕ, Bool, List, Option, None, Some, refl, sym, ap, ◌∙◌, subst}
+use Rattle.std.proofs.Common.{◌≡◌, ℕ, Bool, List, ◌∷◌, take, Option, None, Some, refl, sym, ap, ◌∙◌, subst}
+use Rattle.std.specs.Prelude.{slice_index_or}
 use Rattle.std.specs.Borrow.{Bor}
 use Rattle.prefix_trie_bits.specs.Model.Step.{State}
 use Rattle.prefix_trie_table.specs.declared.allocator.node.Node.{Node}
 use Rattle.prefix_trie_table.specs.declared.table.spot.Spot.{Spot}
 use Rattle.prefix_trie_table.specs.Store.{Store}
 use Rattle.prefix_trie_table.specs.Shape.{same_shape}
-use Rattle.prefix_trie_table.specs.Walks.{IsTree, IsStack, pending, ShapeOf, rest_of_walk, IsWalk}
+use Rattle.prefix_trie_table.specs.declared.table.spot.Seat.{Seat}
+use Rattle.prefix_trie_table.specs.Walks.{Tree, IsTree, IsStack, pending, slot_of, GivesEntry, GivesSeat, ShapeOf, rest_of_walk, IsWalk}
 
 module _ {K T : Type 0} (IsKey : K → Type 0) (bits : K → List Bool) (width : ℕ) where
   -- a walk has arrays, which hold a table
@@ -52,3 +54,16 @@ module _ {K T : Type 0} (IsKey : K → Type 0) (bits : K → List Bool) (width :
     subst (λ (x : State T). IsTree width a.0.now (record { cells = a.1.now; shape = x })) (same_shape a.0.now.slots a.1.now.slots s.0 u.0 s.1 u.1) h.0,
     subst (IsStack IsKey bits width a.0.now) (sym e) h.1,
   )
+
+  -- the value that is read at its seat is the one that comes next
+  pub gives_read : (t : Tree T) (key : K) (len : ℕ) (seat : Seat) (p q old new : List (List Bool × T)) (x : T) → GivesSeat IsKey bits width t key len seat p q →
+      slice_index_or t.cells.slots (slot_of seat) None ≡ Some x → old ≡ p → new ≡ q → GivesEntry IsKey bits width key len x old new
+  gives_read t key len seat p q old new x h reads before after =
+      let both : Some h.value ≡ Some x = sym h.reads ∙ reads in
+      let same : h.value ≡ x = cc in
+      record {
+        is_key = h.gives.is_key;
+        short = h.gives.short;
+        first = before ∙ h.gives.first ∙ ap (λ v. (take len (bits key), v) ∷ q) same ∙ ap (λ es. (take len (bits key), x) ∷ es) (sym after);
+        filled = h.gives.filled;
+      }
