@@ -17,12 +17,13 @@ use Rattle.prefix_trie_table.specs.Bitmaps.{has_bit, rank}
 use Rattle.prefix_trie_table.specs.Cells.{node_at, node_sizes, cell_sizes}
 use Rattle.prefix_trie_table.specs.Digits.{path_of, rest_of, bit_of}
 use Rattle.prefix_trie_table.specs.Store.{Store}
-use Rattle.prefix_trie_table.specs.Forest.{read, read_from, below, child, child_slot, has_value, value_of}
+use Rattle.prefix_trie_table.specs.Forest.{read, read_from, below, child, child_slot, has_value, value_of, at_root}
 use Rattle.prefix_trie_table.specs.Walks.{Tree, IsTree}
 use Rattle.prefix_trie_table.proofs.Bits.{has_bit-is}
-use Rattle.prefix_trie_table.proofs.Trees.{is_none-None, read-snoc, child-there, child-missing, child_stands}
+use Rattle.prefix_trie_table.proofs.Trees.{is_none-None, reads, slot_holds, read-snoc, child-there, child-missing, child_stands}
 use Rattle.prefix_trie_table.proofs.Values.{value_stands}
 use Rattle.prefix_trie_table.proofs.Shapes.{reads_node, shape_entries}
+use Rattle.prefix_trie_table.proofs.Matched.{has_nodes}
 
 -- ---- ways of joined strings
 
@@ -108,6 +109,17 @@ module _ {T : Type 0} (width : ℕ) (v : Store Node) (t : Tree T) (tree : IsTree
       let way : path_of k ≡ path_of q ++ path_of (drop (length q) k) = ap path_of (begins-rest q k e) ∙ path-append q (drop (length q) k) whole in
       let none : read v.slots (path_of k) ≡ None = ap (read v.slots) way ∙ read-missing v.slots (path_of q) (path_of (drop (length q) k)) missing in
       absurd (false≢true (sym (ap is_some (tree.shaped.1 k ∙ ap (λ o. value_of t.cells.slots o (bit_of k)) none)) ∙ has))))
+
+  -- a node that stands has no value bit 31
+  pub few_at : (p : List ℕ) (n : Node) → read v.slots p ≡ Some n → has_bit n.value_bitmap 31 ≡ false
+  few_at p n is =
+      let h = has_nodes v t.cells tree.table in h.few p n (sym (reads node_sizes h.reading h.paths v h.hold p) ∙ is)
+
+  -- the root has a slot
+  pub root_inside : 0 < length v.slots
+  root_inside =
+      let h = tree.table.holds.hold in
+      (slot_holds node_sizes tree.table.reading tree.table.paths v h [] 0 (node_at v.slots 0) at_root h.rooted).1
 
   module _ (q : List Bool) (n : Node) (whole : length q % 5 ≡ 0) (stands : read v.slots (path_of q) ≡ Some n) where
     node_is : tree.table.reading (path_of q) ≡ Some n
@@ -199,12 +211,7 @@ module _ {T : Type 0} (width : ℕ) (v : Store Node) (t : Tree T) (tree : IsTree
 
         -- which has no value bit 31
         pub child_few : has_bit (node_at v.slots (child_slot n (number s))).value_bitmap 31 ≡ false
-        child_few = not_true (has_bit (node_at v.slots (child_slot n (number s))).value_bitmap 31) (λ e.
-            let h = tree.table.holds.cells in
-            let is : tree.table.reading (path_of (q ++ s)) ≡ Some (node_at v.slots (child_slot n (number s))) =
-            sym (reads_node tree.table.reading tree.table.values tree.table.paths v t.cells tree.table.holds (path_of (q ++ s))) ∙ child_is in
-            let l : 31 < 31 = h.within (path_of (q ++ s)) 31 (h.set_where (path_of (q ++ s)) 31 ∙ ap (λ o. has_value o 31) is ∙ e) in
-            omega arith)
+        child_few = few_at (path_of (q ++ s)) (node_at v.slots (child_slot n (number s))) child_is
 
         -- and its string is no longer than the width
         pub child_fits : length q + 5 ≤ width
