@@ -1,5 +1,5 @@
 -- What the next place of a spot gives.
-use Rattle.std.proofs.Common.{◌≡◌, ℕ, zero, suc, ◌+◌, ◌-◌, ◌*◌, ◌/◌, ◌%◌, ◌^◌, ◌<◌, ◌≤◌, Bool, true, false, cond, nat_lt, List, [], ◌∷◌, ◌++◌, length, take, filter, get_or, Option, None, Some, refl, sym, ap, ap₂, ◌∙◌, subst, arith, inl, inr, length-append}
+use Rattle.std.proofs.Common.{◌≡◌, ℕ, zero, suc, ◌+◌, ◌-◌, ◌*◌, ◌/◌, ◌%◌, ◌<◌, ◌≤◌, Bool, true, false, cond, List, [], ◌∷◌, ◌++◌, length, take, filter, get_or, None, Some, refl, sym, ap, ◌∙◌, subst, arith, inl, inr, length-append}
 use Rattle.std.specs.List.{All}
 use Rattle.std.proofs.lemmas.Bool.{cases_lt, lt-ltb, le-ltb}
 use Rattle.std.proofs.lemmas.List.{length-take-le}
@@ -7,9 +7,8 @@ use Rattle.std.proofs.lemmas.List.Elements.{All-head, All-tail}
 use Rattle.prefix_trie_bits.specs.Bits.{number, digits, zeros}
 use Rattle.prefix_trie_bits.specs.BitStrings.{length-digits, digits-number}
 use Rattle.prefix_trie_bits.specs.Windows.{take-extend}
-use Rattle.prefix_trie_bits.specs.Places.{has, ones_below, value_bit, is_in, places, place_of, strings, TakesPlace}
+use Rattle.prefix_trie_bits.specs.Places.{has, ones_below, value_bit, is_in, places, place_of, strings}
 use Rattle.prefix_trie_bits.specs.Walks.{to_come}
-use Rattle.prefix_trie_bits.specs.declared.node.Place.{Place}
 use Rattle.prefix_trie_bits.specs.declared.node.Place.TheVariants.{Value, Child as ChildPlace}
 use Rattle.prefix_trie_bits.specs.declared.node.Places.{Places}
 use Rattle.prefix_trie_bits.specs.Model.Selections.{listing_below}
@@ -19,13 +18,12 @@ use Rattle.prefix_trie_bits.proofs.Strings.{value_bit-small}
 use Rattle.prefix_trie_bits.proofs.Model.NodeListings.{listing_at_child}
 use Rattle.prefix_trie_table.specs.declared.allocator.node.Node.{Node}
 use Rattle.prefix_trie_table.specs.declared.table.spot.Spot.{Spot}
-use Rattle.prefix_trie_table.specs.declared.table.spot.Seat.{Seat}
 use Rattle.prefix_trie_table.specs.Bitmaps.{has_bit, rank}
 use Rattle.prefix_trie_table.specs.Cells.{node_at}
 use Rattle.prefix_trie_table.specs.Digits.{path_of}
 use Rattle.prefix_trie_table.specs.Store.{Store}
 use Rattle.prefix_trie_table.specs.Forest.{read, child_slot}
-use Rattle.prefix_trie_table.specs.Walks.{Tree, IsTree, IsSpot, IsPlaceOf, still, GivesEntry, GivesSeat, slot_of, many, most, weight_of, weight}
+use Rattle.prefix_trie_table.specs.Walks.{Tree, IsTree, IsSpot, IsPlaceOf, still, GivesSeat, many, most, weight_of, weight}
 use Rattle.prefix_trie_table.proofs.Bits.{rank-ones}
 use Rattle.prefix_trie_table.proofs.Subtrees.{is_in-value, is_in-child, number-small, stored_value, value_read, value_inside, value_listed, value_fits, child_is, child_inside, child_few, child_fits, all_places}
 

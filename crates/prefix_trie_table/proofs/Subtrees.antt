@@ -1,12 +1,11 @@
 -- What a table has at the places of a node and below them.
-use Rattle.std.proofs.Common.{◌≡◌, ℕ, suc, ◌+◌, ◌%◌, ◌^◌, ◌<◌, ◌≤◌, Bool, true, false, cond, nat_lt, List, [], ◌∷◌, ◌++◌, length, drop, get_or, Option, None, Some, is_some, refl, sym, ap, ap₂, ◌∙◌, subst, arith, inl, inr, append-nil, length-append, ◌&&◌, ◌==◌}
+use Rattle.std.proofs.Common.{◌≡◌, ℕ, suc, ◌+◌, ◌%◌, ◌^◌, ◌<◌, ◌≤◌, Bool, true, false, cond, List, [], ◌∷◌, ◌++◌, length, drop, get_or, Option, None, Some, is_some, refl, sym, ap, ap₂, ◌∙◌, subst, arith, inl, inr, append-nil, length-append, ◌&&◌, ◌==◌}
 use Rattle.std.proofs.lemmas.Bool.{false≢true, cases_lt, lt-ltb, le-ltb}
-use Rattle.std.specs.FinMap.{get, contains_key}
+use Rattle.std.specs.FinMap.{get}
 use Rattle.prefix_trie_bits.specs.Bits.{number, begins}
 use Rattle.prefix_trie_bits.specs.Begins.{begins-rest}
 use Rattle.prefix_trie_bits.specs.BitStrings.{number-lt}
 use Rattle.prefix_trie_bits.specs.Places.{has, value_bit, is_in, places}
-use Rattle.prefix_trie_bits.specs.Model.Entries.{Entries}
 use Rattle.prefix_trie_bits.specs.Model.Nodes.{has_node, is_node_depth}
 use Rattle.prefix_trie_bits.specs.Model.Selections.{listing_below}
 use Rattle.prefix_trie_bits.specs.Model.NodeListings.{listing_at_place, listing_at_places}

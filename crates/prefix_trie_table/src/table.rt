@@ -11,8 +11,6 @@ pub mod spot;
 mod tests;
 pub mod walk;
 
-pub use walk::Walk;
-
 ghost use Rattle.std.specs.Prelude.{◌≡◌, ℕ, ◌+◌, ◌≤◌, take, IfOk, OnOk, IfErr, OnErr, IsOk, IsErr, IsTrue, ◌↔◌, MatchOption, None, Some};
 ghost use Rattle.std.specs.Option.{option_copied};
 ghost use Rattle.std.specs.FinMap.{get, contains_key, len};
@@ -34,6 +32,7 @@ use crate::table::walk::walk_of;
 use prefix_trie_bits::prefix::{Key, Refusal, Refused};
 use std::alloc::Allocator;
 use std::marker::Model;
+pub use walk::Walk;
 
 /// Values by bit strings.
 #[derive(Drop)]

@@ -1,4 +1,4 @@
-use Rattle.std.proofs.Common.{◌<◌, sym, subst, arith}
+use Rattle.std.proofs.Common.{sym, subst, arith}
 use Rattle.prefix_trie_bits.specs.Model.Entries.{AreWithin}
 use Rattle.prefix_trie_bits.specs.Model.Nodes.{AreNodes}
 use Rattle.prefix_trie_table.specs.Shape.{Contents}

@@ -1,4 +1,4 @@
-use Rattle.std.proofs.Common.{◌<◌, ◌∙◌, sym, arith}
+use Rattle.std.proofs.Common.{◌∙◌, sym, arith}
 use Rattle.prefix_trie_table.specs.Walks.{Tree}
 use Rattle.prefix_trie_table.proofs.Walking.{rest_at, gives_read}
 use Rattle.prefix_trie_table.proofs.table.walk.Walk.next.Goals as goal
