@@ -15,12 +15,14 @@ ghost use Rattle.prefix_trie_bits.specs.Model.Step.{Step, Insert};
 ghost use Rattle.prefix_trie_bits.specs.Model.Visits.{visits};
 ghost use Rattle.prefix_trie_map.specs.Steps.{state, inserted};
 
+mod iter;
 mod visits;
 
 use prefix_trie_bits::prefix::{Key, Prefix, Refusal, Refused};
 use prefix_trie_table::table::Table;
 use std::alloc::Allocator;
 use std::marker::{Model, PhantomData};
+pub use iter::{Iter, Keys, Values};
 pub use visits::Visits;
 
 /// A map from prefixes to values, in memory of the allocator `A`.

@@ -1,15 +1,65 @@
 //! The walks that lend a map's entries, in listing order. Contracts see each as the list of the items still to come.
-ghost use Rattle.std.specs.Prelude.{◌≡◌, [], map, length};
+ghost use Rattle.std.specs.Prelude.{◌≡◌, ◌<◌, ◌^◌, [], map, length};
 ghost use Rattle.std.specs.Iterator.{at_most};
-ghost use Rattle.std.specs.Map.Iter.{TakesFirst, deref};
-ghost use Rattle.prefix_trie_bits.specs.Model.Selections.{shown};
+ghost use Rattle.std.specs.Map.Iter.{TakesFirst, ShowsInOrder, GivesInOrder, deref};
+ghost use Rattle.prefix_trie_bits.specs.Model.Selections.{listing, shown};
 ghost use Rattle.prefix_trie_map.specs.Walks.{lent_item};
 
-use crate::map::{Visits, rebuilt};
+use crate::map::{PrefixMap, Visits, rebuilt};
 use prefix_trie_bits::prefix::Prefix;
 use prefix_trie_table::table::Walk;
 use std::alloc::Allocator;
+use std::iter::IntoIterator;
 use std::marker::{Model, PhantomData};
+
+impl<P: Prefix, T: Drop, A: Allocator> PrefixMap<P, T, A> {
+    /// The entries in listing order: a prefix comes before those that it contains, and of two that differ in a bit the one
+    /// with 0 comes first. Prefixes come without host bits.
+    #[inline]
+    pub fn iter(&self) -> Iter<'_, P, T, A>
+        ensures items { result ≡ shown P.back (listing self.now.entries) }
+        ensures fits { length result < 2 ^ 64 }
+        ensures runs { ShowsInOrder (lent_item {P = P} {T = T}) }
+    {
+        // The proof learns from it that the number of entries fits.
+        let _ = self.len();
+        let walk = self.table.walk(&mut Visits::new());
+        Iter::over(walk)
+    }
+
+    /// The prefixes in listing order, without host bits.
+    #[inline]
+    pub fn keys(&self) -> Keys<'_, P, T, A>
+        ensures items { result ≡ map (λ e. P.back e.0) (listing self.now.entries) }
+        ensures fits { length result < 2 ^ 64 }
+        ensures runs { GivesInOrder P }
+    {
+        Keys::new(self.iter())
+    }
+
+    /// The values, in the listing order of their prefixes.
+    #[inline]
+    pub fn values(&self) -> Values<'_, P, T, A>
+        ensures items { result ≡ map (λ e. e.1) (listing self.now.entries) }
+        ensures fits { length result < 2 ^ 64 }
+        ensures runs { ShowsInOrder (deref {X = T}) }
+    {
+        Values::new(self.iter())
+    }
+}
+
+impl<'a, P: Prefix, T: Drop, A: Allocator> IntoIterator for &'a PrefixMap<P, T, A> {
+    type Item = (P, &'a T);
+
+    type IntoIter = Iter<'a, P, T, A>;
+
+    ghost into_iter_gives = { λ s it. (it ≡ shown P.back (listing s.now.entries)) × (length it < 2 ^ 64) × ShowsInOrder (lent_item {P = P} {T = T}) };
+
+    #[inline]
+    fn into_iter(self) -> Iter<'a, P, T, A> {
+        self.iter()
+    }
+}
 
 /// The entries of a map in listing order: each prefix, without host bits, with its value lent.
 ///
@@ -33,8 +83,8 @@ impl<'a, P: Prefix, T: Drop, A: Allocator> Model for Iter<'a, P, T, A> {
 impl<'a, P: Prefix, T: Drop, A: Allocator> Iter<'a, P, T, A> {
     /// The walk of a table, by prefixes.
     #[inline]
-    pub(super) fn new(walk: Walk<'a, P::R, T, A, Visits>) -> Self
-        ensures { result ≡ shown P.back walk }
+    pub(super) fn over(walk: Walk<'a, P::R, T, A, Visits>) -> Self
+        ensures { result ≡ shown P.back walk.entry }
     {
         Iter {
             walk,
@@ -100,7 +150,7 @@ impl<'a, P: Prefix, T: Drop, A: Allocator> Keys<'a, P, T, A> {
     /// The prefixes of a walk.
     #[inline]
     pub(super) fn new(inner: Iter<'a, P, T, A>) -> Self
-        ensures { result ≡ map (λ e. e.0) inner }
+        ensures { result ≡ map (λ e. e.0) inner.entry }
     {
         Keys { inner }
     }
@@ -161,7 +211,7 @@ impl<'a, P: Prefix, T: Drop, A: Allocator> Values<'a, P, T, A> {
     /// The values of a walk.
     #[inline]
     pub(super) fn new(inner: Iter<'a, P, T, A>) -> Self
-        ensures { result ≡ map (λ e. e.1) inner }
+        ensures { result ≡ map (λ e. e.1) inner.entry }
     {
         Values { inner }
     }
