@@ -16,6 +16,8 @@ ghost use Rattle.prefix_trie_bits.specs.Model.Visits.{visits};
 ghost use Rattle.prefix_trie_map.specs.Steps.{state, inserted};
 
 mod iter;
+#[cfg(test)]
+mod iter_tests;
 mod visits;
 
 use prefix_trie_bits::prefix::{Key, Prefix, Refusal, Refused};

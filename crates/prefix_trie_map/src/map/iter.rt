@@ -1,5 +1,6 @@
 //! The walks that lend a map's entries, in listing order. Contracts see each as the list of the items still to come.
 ghost use Rattle.std.specs.Prelude.{◌≡◌, ◌<◌, ◌^◌, [], map, length};
+ghost use Rattle.std.specs.FinMap.{len};
 ghost use Rattle.std.specs.Iterator.{at_most};
 ghost use Rattle.std.specs.Map.Iter.{TakesFirst, ShowsInOrder, GivesInOrder, deref};
 ghost use Rattle.prefix_trie_bits.specs.Model.Selections.{listing, shown};
@@ -18,7 +19,8 @@ impl<P: Prefix, T: Drop, A: Allocator> PrefixMap<P, T, A> {
     #[inline]
     pub fn iter(&self) -> Iter<'_, P, T, A>
         ensures items { result ≡ shown P.back (listing self.now.entries) }
-        ensures fits { length result < 2 ^ 64 }
+        ensures counted { length result ≡ len self.now.entries }
+        ensures fits { len self.now.entries < 2 ^ 64 }
         ensures runs { ShowsInOrder (lent_item {P = P} {T = T}) }
     {
         // The proof learns from it that the number of entries fits.
@@ -31,7 +33,8 @@ impl<P: Prefix, T: Drop, A: Allocator> PrefixMap<P, T, A> {
     #[inline]
     pub fn keys(&self) -> Keys<'_, P, T, A>
         ensures items { result ≡ map (λ e. P.back e.0) (listing self.now.entries) }
-        ensures fits { length result < 2 ^ 64 }
+        ensures counted { length result ≡ len self.now.entries }
+        ensures fits { len self.now.entries < 2 ^ 64 }
         ensures runs { GivesInOrder P }
     {
         Keys::new(self.iter())
@@ -41,7 +44,8 @@ impl<P: Prefix, T: Drop, A: Allocator> PrefixMap<P, T, A> {
     #[inline]
     pub fn values(&self) -> Values<'_, P, T, A>
         ensures items { result ≡ map (λ e. e.1) (listing self.now.entries) }
-        ensures fits { length result < 2 ^ 64 }
+        ensures counted { length result ≡ len self.now.entries }
+        ensures fits { len self.now.entries < 2 ^ 64 }
         ensures runs { ShowsInOrder (deref {X = T}) }
     {
         Values::new(self.iter())
@@ -53,7 +57,7 @@ impl<'a, P: Prefix, T: Drop, A: Allocator> IntoIterator for &'a PrefixMap<P, T, 
 
     type IntoIter = Iter<'a, P, T, A>;
 
-    ghost into_iter_gives = { λ s it. (it ≡ shown P.back (listing s.now.entries)) × (length it < 2 ^ 64) × ShowsInOrder (lent_item {P = P} {T = T}) };
+    ghost into_iter_gives = { λ s it. (it ≡ shown P.back (listing s.now.entries)) × (length it ≡ len s.now.entries) × (len s.now.entries < 2 ^ 64) × ShowsInOrder (lent_item {P = P} {T = T}) };
 
     #[inline]
     fn into_iter(self) -> Iter<'a, P, T, A> {
