@@ -20,11 +20,11 @@ mod iter;
 mod iter_tests;
 mod visits;
 
+pub use iter::{Iter, Keys, Values};
 use prefix_trie_bits::prefix::{Key, Prefix, Refusal, Refused};
 use prefix_trie_table::table::Table;
 use std::alloc::Allocator;
 use std::marker::{Model, PhantomData};
-pub use iter::{Iter, Keys, Values};
 pub use visits::Visits;
 
 /// A map from prefixes to values, in memory of the allocator `A`.

@@ -81,7 +81,10 @@ fn entries_in_listing_order(rt: HostRuntime) -> Result<(), Fail> {
 fn prefixes_in_listing_order(rt: HostRuntime) -> Result<(), Fail> {
     let map = four_entries(rt.alloc())?;
     let keys = all_keys(rt.alloc(), &map)?;
-    assert_eq!(rt; keys.as_slice(), &[(0x80, 1), (0xa0, 3), (0xa2, 7), (0xa5, 8)][..]);
+    assert_eq!(rt;
+        keys.as_slice(),
+        &[(0x80, 1), (0xa0, 3), (0xa2, 7), (0xa5, 8)][..]
+    );
     let mut walk = map.keys();
     assert_eq!(rt; walk.next(), Some((0x80, 1)));
     let mut again = walk.clone();
