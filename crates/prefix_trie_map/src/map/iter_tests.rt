@@ -1,7 +1,8 @@
 //! What callers of the walks learn from their contracts, and walks at a concrete type.
-ghost use Rattle.std.specs.Prelude.{◌≡◌, ◌<◌, ◌^◌, map, sum, IfOk};
+ghost use Rattle.std.specs.Prelude.{◌≡◌, map, nat_le, IfOk};
 ghost use Rattle.std.specs.FinMap.{len};
-ghost use Rattle.prefix_trie_bits.specs.Model.Selections.{listing};
+ghost use Rattle.std.specs.List.{list_all};
+ghost use Rattle.prefix_trie_bits.specs.Model.Selections.{listing, shown};
 
 use crate::map::{Iter, Keys, PrefixMap, Values};
 use prefix_trie_bits::prefix::Prefix;
@@ -35,26 +36,32 @@ fn all_keys<P: Prefix, T: Drop, A: Allocator>(
     m.keys().collect(alloc)
 }
 
-// The sum of all values.
-fn total<P: Prefix, A: Allocator>(m: &PrefixMap<P, u32, A>) -> u32
-    requires { sum (map (λ e. e.1) (listing m.now.entries)) < 2 ^ 32 }
-    ensures { result ≡ sum (map (λ e. e.1) (listing m.now.entries)) }
+// Whether no value is below this one.
+fn none_below<P: Prefix, A: Allocator>(m: &PrefixMap<P, u32, A>, least: u32) -> bool
+    ensures { result ≡ list_all (λ e. nat_le least e.1) (shown P.back (listing m.now.entries)) }
 {
-    let mut n = 0;
     for (_, value) in m {
-        n += *value;
+        if *value < least {
+            return false;
+        }
     }
-    n
+    true
 }
 
 // Four entries, two of them below one that has the first three bits.
 fn four_entries(alloc: Global) -> Result<PrefixMap<(u8, u8), char, Global>, Fail> {
     let mut map = PrefixMap::new(alloc)?;
-    map.insert((0xa5, 8), 'd').map_err(|_| Fail::new("memory"))?;
-    map.insert((0xbf, 3), 'b').map_err(|_| Fail::new("memory"))?;
-    map.insert((0xff, 1), 'a').map_err(|_| Fail::new("memory"))?;
-    map.insert((0xa3, 7), 'c').map_err(|_| Fail::new("memory"))?;
-    Ok(map)
+    let answers = (
+        map.insert((0xa5, 8), 'd'),
+        map.insert((0xbf, 3), 'b'),
+        map.insert((0xff, 1), 'a'),
+        map.insert((0xa3, 7), 'c'),
+    );
+    if answers == (Ok(None), Ok(None), Ok(None), Ok(None)) {
+        Ok(map)
+    } else {
+        Err(Fail::new("an insertion"))
+    }
 }
 
 #[test]
@@ -122,8 +129,10 @@ fn loop_over_a_map(rt: HostRuntime) -> Result<(), Fail> {
     assert_eq!(rt; lens, 1378);
     let empty = PrefixMap::<(u8, u8), char, _>::new(rt.alloc())?;
     assert!(rt; empty.iter().next().is_none());
-    let mut sums = PrefixMap::new(rt.alloc())?;
-    assert_eq!(rt; sums.insert((0_u8, 0_u8), 3_u32), Ok(None));
-    assert_eq!(rt; sums.insert((0_u8, 8_u8), 4), Ok(None));
+    let mut numbers = PrefixMap::new(rt.alloc())?;
+    assert_eq!(rt; numbers.insert((0_u8, 0_u8), 3_u32), Ok(None));
+    assert_eq!(rt; numbers.insert((0, 8), 4), Ok(None));
+    assert!(rt; none_below(&numbers, 3));
+    assert!(rt; !none_below(&numbers, 4));
     Ok(())
 }
