@@ -26,3 +26,7 @@ pub mod Inserting
 pub mod Rooms
 pub mod Matching
 pub mod Matched
+pub mod Subtrees
+pub mod Spots
+pub mod Stacks
+pub mod Walking
