@@ -1,12 +1,13 @@
 //! The walks that lend a map's entries, in listing order. Contracts see each as the list of the items still to come.
-ghost use Rattle.std.specs.Prelude.{◌≡◌, ◌<◌, ◌^◌, [], map, length};
+ghost use Rattle.std.specs.Prelude.{◌≡◌, ◌<◌, ◌≤◌, ◌^◌, ◌-◌, ◌++◌, [], map, length, take};
 ghost use Rattle.std.specs.FinMap.{len};
 ghost use Rattle.std.specs.Iterator.{at_most};
 ghost use Rattle.std.specs.Map.Iter.{TakesFirst, ShowsInOrder, GivesInOrder, deref};
+ghost use Rattle.prefix_trie_bits.specs.Bits.{zeros};
 ghost use Rattle.prefix_trie_bits.specs.Model.Selections.{listing, shown};
 ghost use Rattle.prefix_trie_map.specs.Walks.{lent_item};
 
-use crate::map::{PrefixMap, Visits, rebuilt};
+use crate::map::{PrefixMap, Visits};
 use prefix_trie_bits::prefix::Prefix;
 use prefix_trie_table::table::Walk;
 use std::alloc::Allocator;
@@ -132,8 +133,19 @@ impl<'a, P: Prefix, T: Drop, A: Allocator> Iterator for Iter<'a, P, T, A> {
         let Some((key, len, value)) = self.walk.next(&mut Visits::new()) else {
             return None;
         };
-        Some((rebuilt(key, len), value))
+        Some((without_host_bits(key, len), value))
     }
+}
+
+/// The prefix of a key that has zeros behind its length.
+#[inline]
+fn without_host_bits<P: Prefix>(key: P::R, len: u32) -> P
+    requires key { P.R.IsKey key }
+    requires within { len ≤ P.R.bit_width }
+    requires filled { P.R.bits key ≡ take len (P.R.bits key) ++ zeros (P.R.bit_width - len) }
+    ensures { result ≡ P.back (take len (P.R.bits key)) }
+{
+    P::from_repr_len(key, len as u8)
 }
 
 /// The prefixes of a map in listing order, without host bits.
