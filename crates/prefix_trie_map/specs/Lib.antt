@@ -2,3 +2,4 @@ pub mod Covers
 pub mod Marks
 pub mod MarksFall
 pub mod Steps
+pub mod Walks
