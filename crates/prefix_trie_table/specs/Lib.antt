@@ -7,3 +7,5 @@ pub mod Forest
 pub mod Shape
 pub mod Tables
 pub mod Matching
+pub mod Items
+pub mod Covers
