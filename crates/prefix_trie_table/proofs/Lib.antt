@@ -27,3 +27,4 @@ pub mod Rooms
 pub mod Matching
 pub mod Matched
 pub mod Covers
+pub mod Covered
