@@ -15,8 +15,12 @@ ghost use Rattle.prefix_trie_bits.specs.Model.Step.{Step, Insert};
 ghost use Rattle.prefix_trie_bits.specs.Model.Visits.{visits};
 ghost use Rattle.prefix_trie_map.specs.Steps.{state, inserted};
 
+mod cover;
+#[cfg(test)]
+mod cover_tests;
 mod visits;
 
+pub use cover::{Cover, CoverKeys, CoverValues};
 use prefix_trie_bits::prefix::{Key, Prefix, Refusal, Refused};
 use prefix_trie_table::table::Table;
 use std::alloc::Allocator;

@@ -22,7 +22,7 @@ use Rattle.prefix_trie_table.specs.Cells.{node_sizes}
 use Rattle.prefix_trie_table.specs.Forest.{NodesHold}
 use Rattle.prefix_trie_table.specs.Tables.{IsReached}
 use Rattle.prefix_trie_table.specs.Matching.{NoneHeld, IsOnWay}
-use Rattle.prefix_trie_table.specs.Covers.{AreLeft, TakesMatch, TakesShortest, NextHeld, IsCovering, GoesOn}
+use Rattle.prefix_trie_table.specs.Covers.{AreLeft, TakesMatch, TakesShortest, NextHeld, IsCovering, GoesOn, IsCover}
 use Rattle.prefix_trie_table.proofs.Finding.{reached_end}
 use Rattle.prefix_trie_table.proofs.Matching.{held_is, held_here, none_join, none_past, on_way_is, steps-within}
 
@@ -242,3 +242,10 @@ at_root b len level node slot matches v long top on_way left = record {
   high = omega arith;
   left = left;
 }
+
+-- what holds of a walk's fields holds after a step
+pub cover_on : {K T : Type 0} {IsKey : K → Type 0} {bits : K → List Bool} (width : ℕ) (key : K) (len level deeper : ℕ) (node below : Node) (slot place matches rest : ℕ)
+    (o : Option Match) (v : Store Node) (w : Store (Option T)) (at : IsCover IsKey bits width key len level node slot matches v w)
+    → GoesOn (bits key) len deeper below place rest at.first o v → IsCover IsKey bits width key len deeper below place rest v w
+cover_on width key len level deeper node below slot place matches rest o v w at gone =
+    record { is_key = at.is_key; short = at.short; table = at.table; first = gone.later; stands = gone.stands }
