@@ -1,16 +1,16 @@
 -- The entries that a walk over the beginnings of a bit string has still to give.
-use Rattle.std.proofs.Common.{◌≡◌, ◌⊎◌, ℕ, ◌+◌, ◌-◌, ◌*◌, ◌<◌, ◌≤◌, Bool, true, false, cond, ◌&&◌, ◌||◌, nat_le, List, [], ◌∷◌, length, length-drop, filter, take, drop, Option, None, Some, is_some, MatchOption, refl, sym, ap, ◌∙◌, subst, add-sub_of_le, arith, inl, inr, true≢false}
+use Rattle.std.proofs.Common.{◌≡◌, ◌⊎◌, ℕ, ◌+◌, ◌-◌, ◌*◌, ◌<◌, ◌≤◌, Bool, true, false, cond, ◌&&◌, ◌||◌, nat_le, List, [], ◌∷◌, length, length-drop, filter, take, drop, Option, None, Some, is_some, refl, sym, ap, ◌∙◌, subst, add-sub_of_le, arith, inl, inr}
 use lib.Dec.{T as IsT}
 use Rattle.std.proofs.lemmas.Bool.{le-leb, lt-leb, cases_lt, false≢true}
 use Rattle.std.proofs.lemmas.List.{length-take-le, drop-take, take-take}
 use Rattle.std.proofs.lemmas.List.Elements.{Contains-append_left, Contains-append_right, Contains-push, Contains-push_cases, Contains-append_cases}
 use Rattle.std.specs.List.{Contains}
-use Rattle.std.specs.FinMap.{get, entries, entries_sorted, is_sorted}
+use Rattle.std.specs.FinMap.{entries, entries_sorted, is_sorted}
 use Rattle.std.specs.FinMap.Entries.{is_sorted-where_key}
 use Rattle.prefix_trie_bits.specs.Bits.{begins}
 use Rattle.prefix_trie_bits.specs.Begins.{begins-take, begins-length, take-begins}
 use Rattle.prefix_trie_bits.specs.Order.{listing_cmp}
-use Rattle.prefix_trie_bits.specs.Places.{has, value_bit, stands}
+use Rattle.prefix_trie_bits.specs.Places.{has, value_bit}
 use Rattle.prefix_trie_bits.specs.Model.Entries.{Entries}
 use Rattle.prefix_trie_bits.specs.Model.Matches.{covers, IsMatch}
 use Rattle.prefix_trie_bits.specs.Model.Step.{State}
@@ -18,7 +18,6 @@ use Rattle.prefix_trie_bits.proofs.Model.Matches.{IsMatch-from_covers, covers-fr
 use Rattle.prefix_trie_bits.proofs.Model.Ordered.{each-behind, find-from_Contains, sorted-head, sorted-tail, shorter-first}
 use Rattle.prefix_trie_table.specs.declared.allocator.node.Node.{Node}
 use Rattle.prefix_trie_table.specs.declared.table.matching.Match.{Match}
-use Rattle.prefix_trie_table.specs.Digits.{path_of}
 use Rattle.prefix_trie_table.specs.Store.{Store}
 use Rattle.prefix_trie_table.specs.Forest.{IsTable}
 use Rattle.prefix_trie_table.specs.Matching.{holds_value, IsHeld, NoneHeld, cell_slot}

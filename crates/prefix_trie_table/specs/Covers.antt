@@ -1,5 +1,5 @@
 -- Where a walk over the beginnings of a bit string stands, and what it has still to give.
-use Rattle.std.specs.Prelude.{◌≡◌, ℕ, ◌+◌, ◌*◌, ◌≤◌, Bool, true, ◌&&◌, ◌||◌, nat_le, List, Option, None, Some, length, take, drop, filter, MatchOption}
+use Rattle.std.specs.Prelude.{◌≡◌, ℕ, ◌+◌, ◌*◌, ◌≤◌, Bool, ◌&&◌, ◌||◌, nat_le, List, Option, Some, length, take, drop, filter, MatchOption}
 use Rattle.prefix_trie_bits.specs.Bits.{begins}
 use Rattle.prefix_trie_bits.specs.Model.Matches.{covers}
 use Rattle.prefix_trie_bits.specs.Model.Entries.{Entries}

@@ -1,7 +1,6 @@
-use Rattle.std.proofs.Common.{◌≡◌, ◌+◌, ◌*◌, ◌^◌, ◌<◌, ℕ, sym, ap, ◌∙◌, arith}
+use Rattle.std.proofs.Common.{◌≡◌, ◌^◌, ◌<◌, ℕ, arith}
 use Rattle.std.specs.Int.{bit_at, trailing_zeros, w32}
-use Rattle.std.proofs.lemmas.Nat.Bits.{bit_at-trailing_zeros, bit_at_above}
-use Rattle.prefix_trie_bits.specs.Places.{has}
+use Rattle.std.proofs.lemmas.Nat.Bits.{bit_at-trailing_zeros}
 use Rattle.prefix_trie_bits.proofs.Ranks.{has-from}
 use Rattle.prefix_trie_table.proofs.Covers.{takes_none, takes_some, match-small}
 use Rattle.prefix_trie_table.proofs.table.cover.take_match.Goals as goal
