@@ -1,6 +1,8 @@
 //! What callers of the covering walks learn from their contracts, and such walks at concrete types.
-ghost use Rattle.std.specs.Prelude.{◌≡◌, ◌<◌, ◌≤◌, ◌^◌, map, length, IfOk};
+ghost use Rattle.std.specs.Prelude.{◌≡◌, ◌<◌, ◌≤◌, ◌^◌, map, length, nat_le, IfOk};
+ghost use Rattle.std.specs.List.{list_all};
 ghost use Rattle.prefix_trie_bits.specs.Model.Matches.{covers};
+ghost use Rattle.prefix_trie_bits.specs.Model.Selections.{shown};
 
 use crate::map::PrefixMap;
 use prefix_trie_bits::prefix::{Ipv4Prefix, Prefix};
@@ -25,6 +27,19 @@ fn all_keys<P: Prefix, T: Drop, A: Allocator>(
     ensures { IfOk result (λ v. v.items ≡ map (λ e. P.back e.0) (covers m.now.entries (P.path prefix.now))) }
 {
     m.cover_keys(prefix).collect(alloc)
+}
+
+// Whether no value stored for those prefixes is below this one.
+fn none_below<P: Prefix, A: Allocator>(m: &PrefixMap<P, u32, A>, prefix: &P, least: u32) -> bool
+    requires { P.IsFitting prefix.now }
+    ensures { result ≡ list_all (λ e. nat_le least e.1) (shown P.back (covers m.now.entries (P.path prefix.now))) }
+{
+    for (_, value) in m.cover(prefix) {
+        if *value < least {
+            return false;
+        }
+    }
+    true
 }
 
 fn network(addr: u32, len: u8) -> Result<Ipv4Prefix, Fail>
@@ -74,13 +89,15 @@ fn networks_around_one(rt: HostRuntime) -> Result<(), Fail> {
 #[test]
 fn both_lengths_at_the_end(rt: HostRuntime) -> Result<(), Fail> {
     let mut map = PrefixMap::new(rt.alloc())?;
-    assert_eq!(rt; map.insert((0x8000_u16, 15_u8), 1), Ok(None));
+    assert_eq!(rt; map.insert((0x8000_u16, 15_u8), 1_u32), Ok(None));
     assert_eq!(rt; map.insert((0x8001, 16), 2), Ok(None));
     let asked = (0x8001, 16);
     let mut values = map.cover_values(&asked);
     assert_eq!(rt; values.next(), Some(&1));
     assert_eq!(rt; values.next(), Some(&2));
     assert_eq!(rt; values.next(), None);
+    assert!(rt; none_below(&map, &asked, 1));
+    assert!(rt; !none_below(&map, &asked, 2));
     let keys = all_keys(rt.alloc(), &map, &asked)?;
     assert_eq!(rt; keys.as_slice(), &[(0x8000, 15), (0x8001, 16)][..]);
     Ok(())
