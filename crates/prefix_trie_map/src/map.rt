@@ -12,12 +12,16 @@ ghost use Rattle.prefix_trie_bits.specs.Model.Room.{MayPassLimit};
 ghost use Rattle.prefix_trie_bits.specs.Model.Step.{Step, Insert};
 ghost use Rattle.prefix_trie_map.specs.Steps.{state, inserted};
 
+mod cover;
+#[cfg(test)]
+mod cover_tests;
 mod iter;
 #[cfg(test)]
 mod iter_tests;
 mod lookup;
 mod visits;
 
+pub use cover::{Cover, CoverKeys, CoverValues};
 pub use iter::{Iter, Keys, Values};
 use prefix_trie_bits::prefix::{Prefix, Refusal, Refused};
 use prefix_trie_table::table::Table;

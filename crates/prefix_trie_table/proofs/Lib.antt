@@ -30,3 +30,5 @@ pub mod Subtrees
 pub mod Spots
 pub mod Stacks
 pub mod Walking
+pub mod Covers
+pub mod Covered

@@ -97,11 +97,11 @@ module _ {T : Type 0} where
           shape_entries t.reading t.values t.paths v w t.holds s is (take m.len asked) ∙ ap (t.values (path_of (take m.len asked))) held.bit_is ∙ sym stands_at.0
 
       -- the value is there
-      cell_some : is_some (cell_of w m) ≡ true
+      pub cell_some : is_some (cell_of w m) ≡ true
       cell_some =
           ap is_some (sym value_at) ∙ stored-is m.len ∙ ap (λ o. has_value o (bit_of (take m.len asked))) held.is ∙ ap (has_bit m.node.value_bitmap) held.bit_is ∙ held.set
 
-      is_match : (x : T) → cell_of w m ≡ Some x → IsMatch s.entries (take len b) (take m.len (take len b), x)
+      pub is_match : (x : T) → cell_of w m ≡ Some x → IsMatch s.entries (take len b) (take m.len (take len b), x)
       is_match x e = record { stored = value_at ∙ e; begins_it = take-begins m.len asked }
 
       match_length : length (take m.len (take len b)) ≡ m.len

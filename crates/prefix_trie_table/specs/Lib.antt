@@ -8,3 +8,5 @@ pub mod Shape
 pub mod Tables
 pub mod Matching
 pub mod Walks
+pub mod Items
+pub mod Covers

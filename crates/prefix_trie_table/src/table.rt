@@ -3,6 +3,7 @@
 //! A bit string is handed in as a key and a length: the first `len` bits of the key. Contracts see a table as its entries,
 //! a finite map from bit strings to values, its nodes, a finite set of bit strings, and its room. They see no slot, no
 //! block and no bitmap.
+mod cover;
 mod insertion;
 mod lookup;
 mod matching;
@@ -25,6 +26,7 @@ ghost use Rattle.prefix_trie_table.specs.Shape.{Shaped, Shaped-prop};
 
 use crate::allocator::blocks::{Blocks, cells};
 use crate::allocator::nodes::{NodeAllocator, Tick};
+pub use crate::table::cover::Cover;
 use crate::table::insertion::insert_entry;
 use crate::table::lookup::find_value;
 use crate::table::matching::{longest_on_way, shortest_on_way, value_of_match};

@@ -28,7 +28,7 @@ pub struct Match {
 
 /// The root, where every way begins.
 #[inline]
-fn root<A: Allocator, V: Tick>(nodes: &NodeAllocator<A, V>, counter: &mut V) -> Reached
+pub fn root<A: Allocator, V: Tick>(nodes: &NodeAllocator<A, V>, counter: &mut V) -> Reached
     requires sound { HasNodes nodes.now }
     ensures level { result.level ≡ 0 }
     ensures on_way { (b : List Bool) (len : ℕ) → len ≤ length b
@@ -42,7 +42,7 @@ fn root<A: Allocator, V: Tick>(nodes: &NodeAllocator<A, V>, counter: &mut V) -> 
 
 /// The next node on the way of a bit string, if it is there.
 #[inline]
-fn step_down<K: Key, A: Allocator, V: Tick>(
+pub fn step_down<K: Key, A: Allocator, V: Tick>(
     nodes: &NodeAllocator<A, V>,
     from: Reached,
     key: K,

@@ -1,0 +1,9 @@
+-- What a walk over a table gives.
+use Rattle.std.specs.Prelude.{◌≡◌, ℕ, ◌≤◌, Bool, List, ◌∷◌, take}
+
+-- the walk gives the first of the entries still to come: its key is the first len bits of a number
+pub record GivesEntry {K T : Type 0} (IsKey : K → Type 0) (bits : K → List Bool) (width : ℕ) (key : K) (len : ℕ) (value : T)
+    (old new : List (List Bool × T)) : Type 0 where
+  pub is_key : IsKey key
+  pub short : len ≤ width
+  pub first : old ≡ (take len (bits key), value) ∷ new
