@@ -26,3 +26,4 @@ pub mod Inserting
 pub mod Rooms
 pub mod Matching
 pub mod Matched
+pub mod Lending

@@ -4,6 +4,9 @@ pub mod Cells
 pub mod Bitmaps
 pub mod Digits
 pub mod Forest
+pub mod Slots
+pub mod Lending
 pub mod Shape
 pub mod Tables
 pub mod Matching
+pub mod TableLending

@@ -5,7 +5,7 @@ use Rattle.std.specs.Coded.{Coded, code_by, coded×, coded_list, coded_ℕ, code
 use base.Stored.{coded_unit}
 use Rattle.std.specs.FinMap.{get, code}
 use mathlib.Core.HLevel.{Π_prop, Σ_prop_path}
-use Rattle.prefix_trie_bits.specs.Model.Entries.{Entries}
+use Rattle.prefix_trie_bits.specs.Model.Entries.{Entries, with_entry}
 use Rattle.prefix_trie_bits.specs.Model.Nodes.{Nodes, has_node, is_node_depth}
 use Rattle.prefix_trie_bits.specs.Model.Step.{State}
 use Rattle.prefix_trie_bits.specs.Model.Room.{Room}
@@ -19,6 +19,10 @@ pub record Contents (T : Type 0) : Type 0 where
   pub entries : Entries T
   pub nodes : Nodes
   pub room : Room
+
+-- the contents with x at a bit string, the nodes and the room as they are
+abbrev pub with_value_at : {T : Type 0} → Contents T → List Bool → T → Contents T
+with_value_at s q x = record s { entries = with_entry s.entries q x }
 
 -- contents are given by their parts
 abbrev pub contents_code : {T : Type 0} → Coded T → Coded (Contents T)

@@ -4,8 +4,10 @@
 //! a finite map from bit strings to values, its nodes, a finite set of bit strings, and its room. They see no slot, no
 //! block and no bitmap.
 mod insertion;
+mod lending;
 mod lookup;
 mod matching;
+pub mod seat;
 #[cfg(test)]
 mod tests;
 

@@ -1,0 +1,148 @@
+-- What a table is after a value of it was written over where it stands.
+use Rattle.std.proofs.Common.{◌≡◌, ℕ, ◌+◌, ◌<◌, Bool, true, cond, List, length, get_or, set, Option, None, Some, IfSome, IsSome, MatchOption, is_some, refl, sym, ap, ap₂, ◌∙◌, subst, arith, inr}
+use Rattle.std.proofs.lemmas.Bool.{false≢true}
+use Rattle.std.proofs.lemmas.List.{length-set}
+use borrow.Follows.Closed.{read_of}
+use Rattle.std.specs.Borrow.{MutBor}
+use Rattle.std.specs.Option.{option_copied_mut, ghost_name_of}
+use Rattle.std.specs.FinMap.{get, get-insert, len-insert, contains_key, len}
+use Rattle.prefix_trie_bits.specs.Order.{listing_total}
+use Rattle.prefix_trie_bits.specs.Model.Entries.{with_entry}
+use Rattle.prefix_trie_bits.specs.Model.Step.{State}
+use Rattle.prefix_trie_table.specs.declared.allocator.node.Node.{Node}
+use Rattle.prefix_trie_table.specs.declared.table.seat.Seat.{Seat}
+use Rattle.prefix_trie_table.specs.Bitmaps.{rank}
+use Rattle.prefix_trie_table.specs.Cells.{node_sizes, cell_sizes}
+use Rattle.prefix_trie_table.specs.Digits.{path_of, bit_of}
+use Rattle.prefix_trie_table.specs.Store.{Store}
+use Rattle.prefix_trie_table.specs.Forest.{Holds, IsTable, CellsHold, with_node, with_value, has_value}
+use Rattle.prefix_trie_table.specs.Slots.{with_slot, with_cell, HasValue, IsSeat, SeatOf}
+use Rattle.prefix_trie_table.specs.Shape.{Contents, with_value_at, IsShapeOf, Shaped, same_shape}
+use Rattle.prefix_trie_table.specs.Tables.{IsTableOf, IsCounted}
+use Rattle.prefix_trie_table.proofs.Keys.{same_key}
+use Rattle.prefix_trie_table.proofs.Adding.{with_same}
+use Rattle.prefix_trie_table.proofs.Shapes.{shape_of, shape_nodes, shape_entries}
+use Rattle.prefix_trie_table.proofs.Trees.{is_none-None}
+use Rattle.prefix_trie_table.proofs.Values.{value_stands, value_replaced}
+
+module _ {T : Type 0} (v : Store Node) (w : Store (Option T)) (t : IsTable v w) (q : List Bool) where
+  -- the cell of a seat
+  module _ (seat : Seat) (at : IsSeat t.reading (path_of q) (bit_of q) seat) where
+    pub cell_there : (seat.start + seat.place < length w.slots) × (get_or w.slots (seat.start + seat.place) None ≡ t.values (path_of q) (bit_of q))
+    cell_there =
+        let there = value_stands cell_sizes node_sizes t.reading t.paths v t.holds.hold t.values w t.holds.cells (path_of q) at.node (bit_of q) at.is at.set in
+        (let x = there.2 in let e = at.slot_is in omega arith, ap (λ i. get_or w.slots i None) at.slot_is ∙ there.1)
+
+    pub value_there : is_some (t.values (path_of q) (bit_of q)) ≡ true
+    value_there = t.holds.cells.set_where (path_of q) (bit_of q) ∙ ap (λ o. has_value o (bit_of q)) at.is ∙ at.set
+
+    pub seat_has : HasValue w seat
+    seat_has = record { stands = cell_there.0; stored = ap is_some cell_there.1 ∙ value_there }
+
+    -- the arrays with another value there
+    pub written : (x : T) → Holds t.reading (with_value t.values (path_of q) (bit_of q) (Some x)) t.paths v (with_cell w (Some seat) x)
+    written x =
+        let put = value_replaced cell_sizes node_sizes t.reading t.paths v t.holds.hold t.values w t.holds.cells (path_of q) at.node (bit_of q) (Some x) at.is at.set refl in
+        record {
+          hold = t.holds.hold;
+          cells = subst (λ f. CellsHold cell_sizes f (with_value t.values (path_of q) (bit_of q) (Some x)) t.paths (with_cell w (Some seat) x)) (with_same t.reading (path_of q) at.node at.is)
+              (subst (λ i. CellsHold cell_sizes (with_node t.reading (path_of q) at.node) (with_value t.values (path_of q) (bit_of q) (Some x)) t.paths (with_slot w i (Some x))) (sym at.slot_is) put);
+        }
+
+-- the state with x at q
+abbrev pub state_with : {T : Type 0} → State T → List Bool → T → State T
+state_with s q x = record s { entries = with_entry s.entries q x }
+
+-- what contracts see of a table in these arrays
+abbrev pub seen_of : {T : Type 0} → Store Node → Store (Option T) → State T → Contents T
+seen_of v w s = record { entries = s.entries; nodes = s.nodes; room = record { limit = v.limit; node_slots = length v.slots; cell_slots = length w.slots } }
+
+-- a value lent out of a table
+module _ {T : Type 0} (v : Store Node) (w : Store (Option T)) (count : ℕ) (s : Shaped v.slots w.slots) (is : IsTableOf v w count s.0) (q : List Bool) where
+  abbrev table : IsTable v w
+  table = is.held.table
+
+  pub stored_is : get s.0.entries q ≡ table.values (path_of q) (bit_of q)
+  stored_is = shape_entries table.reading table.values table.paths v w table.holds s.0 s.1 q
+
+  -- the state that is left, where the seat is that of q
+  abbrev pub state_left : Option Seat → T → State T
+  state_left None x = s.0
+  state_left (Some seat) x = state_with s.0 q x
+
+  pub left_is : (o : Option Seat) → SeatOf table.reading q o → (x : T) → IsShapeOf v.slots (with_cell w o x).slots (state_left o x)
+  left_is None at x = s.1
+  left_is (Some seat) at x =
+      shape_of table.reading (with_value table.values (path_of q) (bit_of q) (Some x)) table.paths v (with_cell w (Some seat) x) (written v w table q seat at x) (state_with s.0 q x)
+      (shape_nodes table.reading table.values table.paths v w table.holds s.0 s.1)
+      (λ k. get-insert listing_total s.0.entries q x k ∙ ap₂ (λ t o. cond t (Some x) o) (same_key k q) (shape_entries table.reading table.values table.paths v w table.holds s.0 s.1 k))
+
+  -- so the arrays that are left have a shape
+  pub left_shape : (o : Option Seat) → SeatOf table.reading q o → (x : T) → Shaped v.slots (with_cell w o x).slots
+  left_shape o at x = (state_left o x, left_is o at x)
+
+  -- and no other
+  pub left_only : (o : Option Seat) → SeatOf table.reading q o → (x : T) → (t : Shaped v.slots (with_cell w o x).slots) → t.0 ≡ state_left o x
+  left_only o at x t = same_shape v.slots (with_cell w o x).slots t.0 (state_left o x) t.1 (left_is o at x)
+
+  left_table : (o : Option Seat) → SeatOf table.reading q o → (x : T) → IsTableOf v (with_cell w o x) count (state_left o x)
+  left_table None at x = is
+  left_table (Some seat) at x = record {
+    held = record {
+      table = record {
+        reading = table.reading;
+        values = with_value table.values (path_of q) (bit_of q) (Some x);
+        paths = table.paths;
+        holds = written v w table q seat at x;
+      };
+      counted = is.held.counted;
+    };
+    sized = is.sized ∙ ap (λ b. cond b (len s.0.entries) (len s.0.entries + 1)) (sym (ap is_some stored_is ∙ value_there v w table q seat at))
+        ∙ sym (len-insert listing_total s.0.entries q x);
+    one_limit = is.one_limit;
+  }
+
+  -- and are a table
+  pub table_left : (o : Option Seat) → SeatOf table.reading q o → (x : T) → (t : Shaped v.slots (with_cell w o x).slots) → IsTableOf v (with_cell w o x) count t.0
+  table_left o at x t = subst (λ (y : State T). IsTableOf v (with_cell w o x) count y) (sym (left_only o at x t)) (left_table o at x)
+
+  -- the seat's value can be lent
+  pub can_lend : (o : Option Seat) → SeatOf table.reading q o → IfSome o (λ seat. HasValue w seat)
+  can_lend None at = tt
+  can_lend (Some seat) at = seat_has v w table q seat at
+
+  -- the value lent is the one at q
+  pub value_lent : (o : Option Seat) → SeatOf table.reading q o → (r : Option (MutBor T)) →
+      MatchOption o (r ≡ None) (λ seat. option_copied_mut r ≡ get_or w.slots (seat.start + seat.place) None) → option_copied_mut r ≡ get s.0.entries q
+  value_lent None at r e =
+      ap option_copied_mut e ∙ sym (stored_is ∙ is_none-None (table.values (path_of q) (bit_of q)) (table.holds.cells.set_where (path_of q) (bit_of q) ∙ at))
+  value_lent (Some seat) at r e = e ∙ (cell_there v w table q seat at).1 ∙ sym stored_is
+
+  -- the table as it was, by any of its shapes
+  pub table_kept : (u : Shaped v.slots w.slots) → IsTableOf v w count u.0
+  table_kept u = subst (λ (y : State T). IsTableOf v w count y) (same_shape v.slots w.slots s.0 u.0 s.1 u.1) is
+
+  written_seen : (o : Option Seat) → SeatOf table.reading q o → (seat : Seat) (x : T) → o ≡ Some seat → (t : Shaped v.slots (with_cell w o x).slots) →
+      seen_of v (with_cell w o x) t.0 ≡ with_value_at (seen_of v w s.0) q x
+  written_seen None at seat x e t = absurd (false≢true (ap is_some e))
+  written_seen (Some there) at seat x e t =
+      let left = left_only (Some there) at x t in
+      λ i. record {
+        entries = (left i).entries;
+        nodes = (left i).nodes;
+        room = record { limit = v.limit; node_slots = length v.slots; cell_slots = length-set w.slots (there.start + there.place) (Some x) i };
+      }
+
+  -- where a value is lent only at a seat, the table ends with another value at q, or as it is
+  pub lender_left : (o : Option Seat) → SeatOf table.reading q o → (r : Option (MutBor T)) (G : T → Contents T) →
+      MatchOption o (r ≡ None) (λ seat. option_copied_mut r ≡ get_or w.slots (seat.start + seat.place) None) →
+      ((seat : Seat) (x : T) → o ≡ Some seat → with_value_at (seen_of v w s.0) q x ≡ G x) →
+      (t : (x : T) → Shaped v.slots (with_cell w o x).slots) (u : Shaped v.slots w.slots) →
+      read_of (ghost_name_of r) (λ x. seen_of v (with_cell w o x) (t x).0) (seen_of v w u.0) ≡ read_of (ghost_name_of r) G (seen_of v w s.0)
+  lender_left None at r G e same t u =
+      let kept : seen_of v w u.0 ≡ seen_of v w s.0 = ap (seen_of v w) (same_shape v.slots w.slots u.0 s.0 u.1 s.1) in
+      subst (λ (y : Option (MutBor T)). read_of (ghost_name_of y) (λ x. seen_of v w (t x).0) (seen_of v w u.0) ≡ read_of (ghost_name_of y) G (seen_of v w s.0)) (sym e)
+      (λ i. inr (kept i))
+  lender_left (Some seat) at r G e same t u =
+      let kept : seen_of v w u.0 ≡ seen_of v w s.0 = ap (seen_of v w) (same_shape v.slots w.slots u.0 s.0 u.1 s.1) in
+      λ i. read_of (ghost_name_of r) (λ x. (written_seen (Some seat) at seat x refl (t x) ∙ same seat x refl) i) (kept i)
