@@ -97,7 +97,7 @@ module _ {T : Type 0} where
           shape_entries t.reading t.values t.paths v w t.holds s is (take m.len asked) ∙ ap (t.values (path_of (take m.len asked))) held.bit_is ∙ sym stands_at.0
 
       -- the value is there
-      cell_some : is_some (cell_of w m) ≡ true
+      pub cell_some : is_some (cell_of w m) ≡ true
       cell_some =
           ap is_some (sym value_at) ∙ stored-is m.len ∙ ap (λ o. has_value o (bit_of (take m.len asked))) held.is ∙ ap (has_bit m.node.value_bitmap) held.bit_is ∙ held.set
 
@@ -107,7 +107,7 @@ module _ {T : Type 0} where
       match_length : length (take m.len (take len b)) ≡ m.len
       match_length = length-take-le m.len asked held.within
 
-      longest_at : NoneHeld t.reading (take len b) (m.len + 1) (len + 1) → (x : T) → cell_of w m ≡ Some x → longest_match s.entries (take len b) ≡ Some (take m.len (take len b), x)
+      pub longest_at : NoneHeld t.reading (take len b) (m.len + 1) (len + 1) → (x : T) → cell_of w m ≡ Some x → longest_match s.entries (take len b) ≡ Some (take m.len (take len b), x)
       longest_at none x e = ((match_laws T).longest_is s.entries asked (take m.len asked, x)).1 (record {
         matches = is_match x e;
         longest = λ k has h.
@@ -117,6 +117,10 @@ module _ {T : Type 0} where
               | inr g ↦ omega (arith, match_length)
             ];
       })
+
+      -- the longest match is at its string
+      pub longest_there : NoneHeld t.reading (take len b) (m.len + 1) (len + 1) → (x : T) × (longest_match s.entries (take len b) ≡ Some (take m.len (take len b), x))
+      longest_there none = let x = some-value (cell_of w m) cell_some in (x.0, longest_at none x.0 x.1)
 
       shortest_at : NoneHeld t.reading (take len b) 0 m.len → (x : T) → cell_of w m ≡ Some x → shortest_match s.entries (take len b) ≡ Some (take m.len (take len b), x)
       shortest_at none x e = ((match_laws T).shortest_is s.entries asked (take m.len asked, x)).1 (record {

@@ -3,7 +3,9 @@ ghost use Rattle.std.specs.Prelude.{◌≡◌, ℕ, ◌+◌, ◌<◌, ◌≤◌,
 ghost use Rattle.std.specs.Option.{option_copied_mut};
 ghost use Rattle.std.specs.Borrow.{sem};
 ghost use Rattle.std.specs.FinMap.{get};
+ghost use Rattle.prefix_trie_bits.specs.Model.Matches.{longest_match};
 ghost use Rattle.prefix_trie_bits.specs.Model.Visits.{visits};
+ghost use Rattle.prefix_trie_table.specs.Matching.{SeatAt};
 ghost use Rattle.prefix_trie_table.specs.Slots.{HasValue};
 ghost use Rattle.prefix_trie_table.specs.Lending.{lends_held, lends_cell, lends_cell_if};
 
@@ -11,6 +13,7 @@ use crate::allocator::blocks::Blocks;
 use crate::allocator::nodes::Tick;
 use crate::table::Table;
 use crate::table::lookup::find_seat;
+use crate::table::matching::{Match, longest_on_way};
 use crate::table::seat::Seat;
 use prefix_trie_bits::prefix::Key;
 use std::alloc::Allocator;
@@ -53,8 +56,19 @@ fn lend_if<T: Drop, A: Allocator>(
     Some(lend(cells, seat))
 }
 
+/// The seat of a match. The number of bits of its string goes to `found`.
+#[inline]
+fn seat_of(longest: Option<Match>, found: &mut u32) -> Option<Seat>
+    requires { IfSome longest (λ m. m.bit < 31) }
+    ensures { SeatAt longest result found.new }
+{
+    let longest = longest?;
+    *found = longest.len;
+    Some(longest.seat())
+}
+
 impl<T: Drop, A: Allocator, V: Tick> Table<T, A, V> {
-    ghost use Rattle.prefix_trie_table.specs.TableLending.{lends_entry_if};
+    ghost use Rattle.prefix_trie_table.specs.TableLending.{lends_entry_if, lends_longest_if};
 
     /// The value at a bit string, for writing. What is written through it becomes the value there, and nothing else changes.
     /// Each node on the way is read once.
@@ -68,6 +82,32 @@ impl<T: Drop, A: Allocator, V: Tick> Table<T, A, V> {
             ≡ V.count counter.old + visits self.old.nodes (take len (K.bits key)) }
     {
         let seat = find_seat(&self.nodes, key, len, counter);
+        lend_if(&mut self.cells, seat)
+    }
+    /// The value at the longest beginning of a bit string that has one, for writing. The number of bits of that beginning goes
+    /// to `found`. What is written through the answer becomes the value there, and nothing else changes. Each node on the way
+    /// is read once.
+    #[inline]
+    pub fn find_longest_mut<K: Key>(
+        &mut self,
+        key: K,
+        len: u32,
+        found: &mut u32,
+        counter: &mut V,
+    ) -> Option<&mut T>
+        requires key { K.IsKey key }
+        requires within { len ≤ K.bit_width }
+        ensures* writes_back { sem 𝓛 (lends_longest_if T.row A.row V.row A.Allocator V.Tick self.entry (take len (K.bits key)) result) }
+        ensures value { MatchOption result
+            (longest_match self.old.entries (take len (K.bits key)) ≡ None)
+            (λ value. (found.new ≤ len)
+            × (longest_match self.old.entries (take len (K.bits key))
+            ≡ Some (take found.new (take len (K.bits key)), value.now))) }
+        ensures visits { V.count counter.new
+            ≡ V.count counter.old + visits self.old.nodes (take len (K.bits key)) }
+    {
+        let longest = longest_on_way(&self.nodes, key, len, counter);
+        let seat = seat_of(longest, found);
         lend_if(&mut self.cells, seat)
     }
 }
