@@ -1,3 +1,4 @@
 pub mod Marks
 pub mod MarksFall
 pub mod Steps
+pub mod Lending

@@ -1,5 +1,5 @@
 -- What a table is after a value of it was written over where it stands.
-use Rattle.std.proofs.Common.{◌≡◌, ℕ, ◌+◌, ◌<◌, ◌≤◌, Bool, true, cond, List, length, take, get_or, set, Option, None, Some, IfSome, IsSome, MatchOption, is_some, refl, sym, ap, ap₂, ◌∙◌, subst, arith, inr}
+use Rattle.std.proofs.Common.{◌≡◌, ℕ, ◌+◌, ◌<◌, ◌≤◌, Bool, true, cond, if◌then◌else◌, List, length, take, get_or, set, Option, None, Some, IfSome, IsSome, MatchOption, is_some, refl, sym, ap, ap₂, ◌∙◌, subst, arith, inr}
 use Rattle.std.proofs.lemmas.Bool.{false≢true}
 use Rattle.std.proofs.lemmas.List.{length-set, length-take-le}
 use borrow.Follows.Closed.{read_of}
@@ -20,7 +20,7 @@ use Rattle.prefix_trie_table.specs.Store.{Store}
 use Rattle.prefix_trie_table.specs.Forest.{Holds, IsTable, CellsHold, with_node, with_value, has_value}
 use Rattle.prefix_trie_table.specs.Matching.{IsHeld, NoneHeld, LongestHeld, SeatAt, match_seat, cell_slot}
 use Rattle.prefix_trie_table.specs.Slots.{with_slot, with_cell, HasValue, IsSeat, SeatOf}
-use Rattle.prefix_trie_table.specs.Shape.{Contents, with_value_at, with_match_at, with_longest_at, IsShapeOf, Shaped, same_shape}
+use Rattle.prefix_trie_table.specs.Shape.{Contents, with_value_at, with_stored_at, with_match_at, with_longest_at, IsShapeOf, Shaped, same_shape}
 use Rattle.prefix_trie_table.specs.Tables.{IsTableOf, IsCounted}
 use Rattle.prefix_trie_table.proofs.Keys.{same_key}
 use Rattle.prefix_trie_table.proofs.Adding.{with_same}
@@ -114,6 +114,14 @@ module _ {T : Type 0} (v : Store Node) (w : Store (Option T)) (count : ℕ) (s :
   pub can_lend : (o : Option Seat) → IfSome o (λ seat. IsSeat table.reading (path_of q) (bit_of q) seat) → IfSome o (λ seat. HasValue w seat)
   can_lend None at = tt
   can_lend (Some seat) at = seat_has v w table q seat at
+
+  -- where there is a seat, a value is stored
+  pub stored_written : (o : Option Seat) → IfSome o (λ seat. IsSeat table.reading (path_of q) (bit_of q) seat) → (seat : Seat) (x : T) → o ≡ Some seat →
+      with_value_at (seen_of v w s.0) q x ≡ with_stored_at (seen_of v w s.0) q x
+  stored_written None at seat x e = absurd (false≢true (ap is_some e))
+  stored_written (Some there) at seat x e =
+      let stored : contains_key s.0.entries q ≡ true = ap is_some stored_is ∙ value_there v w table q there at in
+      ap (λ b. if b then with_value_at (seen_of v w s.0) q x else seen_of v w s.0) (sym stored)
 
   -- where the seat is that of q or missing, it is that of q
   pub seat_of : (o : Option Seat) → SeatOf table.reading q o → IfSome o (λ seat. IsSeat table.reading (path_of q) (bit_of q) seat)

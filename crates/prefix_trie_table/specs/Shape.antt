@@ -1,9 +1,9 @@
 -- What contracts see of a table, and that the nodes and the cells determine it.
-use Rattle.std.specs.Prelude.{◌≡◌, ℕ, Bool, List, ◌&&◌, is_some, Option, None, Some, refl}
+use Rattle.std.specs.Prelude.{◌≡◌, ℕ, Bool, List, ◌&&◌, is_some, Option, None, Some, if◌then◌else◌, refl}
 use Rattle.std.proofs.Common.{sym, ◌∙◌}
 use Rattle.std.specs.Coded.{Coded, code_by, coded×, coded_list, coded_ℕ, coded_bool, coded_option, Coded-set}
 use base.Stored.{coded_unit}
-use Rattle.std.specs.FinMap.{get, code}
+use Rattle.std.specs.FinMap.{get, contains_key, code}
 use mathlib.Core.HLevel.{Π_prop, Σ_prop_path}
 use Rattle.prefix_trie_bits.specs.Model.Entries.{Entries, with_entry}
 use Rattle.prefix_trie_bits.specs.Model.Matches.{longest_match}
@@ -24,6 +24,10 @@ pub record Contents (T : Type 0) : Type 0 where
 -- the contents with x at a bit string, the nodes and the room as they are
 abbrev pub with_value_at : {T : Type 0} → Contents T → List Bool → T → Contents T
 with_value_at s q x = record s { entries = with_entry s.entries q x }
+
+-- the same where a value is stored there, and else the contents
+abbrev pub with_stored_at : {T : Type 0} → Contents T → List Bool → T → Contents T
+with_stored_at s q x = if contains_key s.entries q then with_value_at s q x else s
 
 -- the contents with x at the key of a match, if there is one
 abbrev pub with_match_at : {T : Type 0} → Contents T → Option (List Bool × T) → T → Contents T

@@ -5,7 +5,7 @@ use Rattle.prefix_trie_table.specs.Shape.{Contents, with_value_at}
 use Rattle.prefix_trie_table.specs.Slots.{SeatOf}
 use Rattle.prefix_trie_table.proofs.Counted.{visits_counted}
 use Rattle.prefix_trie_table.proofs.Shapes.{shape_nodes}
-use Rattle.prefix_trie_table.proofs.Lending.{seat_of, can_lend, left_shape, table_left, table_kept, value_lent, lender_left}
+use Rattle.prefix_trie_table.proofs.Lending.{seat_of, can_lend, left_shape, table_left, table_kept, value_lent, lender_left, stored_written}
 use Rattle.prefix_trie_table.proofs.table.Table.find_mut.Goals as goal
 
 pub lend_if-requires : goal.lend_if-requires
@@ -40,7 +40,7 @@ returns g c =
     let at = c.find_seat-seat.ensures.seat t.reading t.paths t.holds.hold in
     let met = c.find_seat-seat.ensures.visits t.reading t.paths t.holds.hold in
     rw (← c.self.view_is) (
-      lender_left i.nodes i.cells i.count i.shape c.self.invariant q c.find_seat-seat.result (seat_of i.nodes i.cells i.count i.shape c.self.invariant q c.find_seat-seat.result at) c.lend_if.result _ c.lend_if.ensures.value (λ seat x e. refl)
+      lender_left i.nodes i.cells i.count i.shape c.self.invariant q c.find_seat-seat.result (seat_of i.nodes i.cells i.count i.shape c.self.invariant q c.find_seat-seat.result at) c.lend_if.result _ c.lend_if.ensures.value (stored_written i.nodes i.cells i.count i.shape c.self.invariant q c.find_seat-seat.result (seat_of i.nodes i.cells i.count i.shape c.self.invariant q c.find_seat-seat.result at))
           (λ x. ((c.self-1.given c.lend_if.result).0 x).0) (c.self-1.given c.lend_if.result).1.0,
       record {
         writes_back = tt;
