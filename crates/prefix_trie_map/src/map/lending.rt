@@ -1,5 +1,5 @@
 //! Lookups that lend a value for writing.
-ghost use Rattle.std.specs.Prelude.{◌≡◌, ℕ, ◌+◌, ◌/◌, ◌≤◌, length, MatchOption, None, Some};
+ghost use Rattle.std.specs.Prelude.{◌≡◌, List, Bool, ℕ, ◌+◌, ◌/◌, ◌≤◌, length, MatchOption, None, Some};
 ghost use Rattle.std.specs.Option.{option_copied_mut};
 ghost use Rattle.std.specs.Borrow.{sem};
 ghost use Rattle.std.specs.FinMap.{get};
@@ -18,7 +18,7 @@ impl<P: Prefix, T: Drop, A: Allocator> PrefixMap<P, T, A> {
     #[inline]
     pub fn get_mut(&mut self, prefix: &P) -> Option<&mut T>
         requires { P.IsFitting prefix.now }
-        ensures* writes_back { sem 𝓛 (lends_entry_if P.row T.row A.row P.R.row P.Prefix P.R.Key A.Allocator self.entry (P.path prefix.now) result) }
+        ensures* writes_back { sem 𝓛 (lends_entry_if P.row T.row A.row P.R.row P.Prefix.own P.Debug P.R.Key.own P.R.PartialEq P.R.Debug A.Allocator self.entry (P.path prefix.now) result) }
         ensures value { option_copied_mut result ≡ get self.old.entries (P.path prefix.now) }
     {
         let len = u32::from(prefix.prefix_len());
@@ -45,7 +45,7 @@ impl<P: Prefix, T: Drop, A: Allocator> PrefixMap<P, T, A> {
     #[inline]
     pub fn get_lpm_value_mut(&mut self, prefix: &P) -> Option<&mut T>
         requires { P.IsFitting prefix.now }
-        ensures* writes_back { sem 𝓛 (lends_longest_if P.row T.row A.row P.R.row P.Prefix P.R.Key A.Allocator self.entry (P.path prefix.now) result) }
+        ensures* writes_back { sem 𝓛 (lends_longest_if P.row T.row A.row P.R.row P.Prefix.own P.Debug P.R.Key.own P.R.PartialEq P.R.Debug A.Allocator self.entry (P.path prefix.now) result) }
         ensures value { MatchOption result
             (longest_match self.old.entries (P.path prefix.now) ≡ None)
             (λ value. (p : List Bool) × (longest_match self.old.entries (P.path prefix.now) ≡ Some (p, value.now))) }
