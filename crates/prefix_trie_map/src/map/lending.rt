@@ -7,6 +7,9 @@ ghost use Rattle.prefix_trie_bits.specs.Model.Matches.{longest_match, shown_matc
 ghost use Rattle.prefix_trie_bits.specs.Model.Visits.{visits};
 ghost use Rattle.prefix_trie_map.specs.Lending.{lends_entry_if, lends_longest_if};
 
+#[cfg(test)]
+mod tests;
+
 use crate::map::visits::Visits;
 use crate::map::{PrefixMap, rebuilt};
 use prefix_trie_bits::prefix::Prefix;
