@@ -1,12 +1,12 @@
 -- What stands, or does not, at the end of the way down.
-use Rattle.std.proofs.Common.{◌≡◌, ◌≢◌, ℕ, ◌+◌, ◌*◌, ◌<◌, ◌≤◌, inl, inr, ⊎_elim, Bool, true, false, ◌||◌, List, [], ◌∷◌, ◌++◌, length, get_or, take, drop, Option, None, Some, is_some, refl, sym, ap, ap₂, ◌∙◌, arith, nat_le, leb-true}
+use Rattle.std.proofs.Common.{◌≡◌, ◌≢◌, ℕ, ◌+◌, ◌*◌, ◌<◌, ◌≤◌, inl, inr, ⊎_elim, Bool, true, false, ◌||◌, List, [], ◌∷◌, ◌++◌, length, take, drop, Option, None, Some, is_some, refl, sym, ap, ap₂, ◌∙◌, arith, nat_le, leb-true}
 use Rattle.std.proofs.lemmas.Bool.Decides.{nat_tests}
 use Rattle.std.proofs.lemmas.Bool.{false≢true, cases_Bool}
 use Rattle.std.proofs.lemmas.List.{take_all}
 use Rattle.prefix_trie_bits.specs.Places.{has, ones_below, value_bit}
 use Rattle.prefix_trie_table.specs.declared.allocator.node.Node.{Node}
 use Rattle.prefix_trie_table.specs.Bitmaps.{has_bit, rank}
-use Rattle.prefix_trie_table.specs.Cells.{node_sizes, cell_sizes}
+use Rattle.prefix_trie_table.specs.Cells.{node_sizes}
 use Rattle.prefix_trie_table.specs.Digits.{path_of, bit_of}
 use Rattle.prefix_trie_table.specs.declared.table.seat.Seat.{Seat}
 use Rattle.prefix_trie_table.specs.Slots.{IsSeat}
@@ -18,7 +18,6 @@ use Rattle.prefix_trie_table.proofs.Paths.{same_path-not, snoc_ind}
 use Rattle.prefix_trie_table.proofs.Starts.{is_start-snoc, is_start_take, or_either}
 use Rattle.prefix_trie_table.proofs.Trees.{is_none-None}
 use Rattle.prefix_trie_table.proofs.Children.{same_or}
-use Rattle.prefix_trie_table.proofs.Values.{value_stands}
 use Rattle.prefix_trie_table.proofs.Going.{step-inside, steps-end, bit-read, deepest_is, deepest_end}
 
 or_false_right : (a : Bool) → (a || false) ≡ a

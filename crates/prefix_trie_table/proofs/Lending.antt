@@ -1,5 +1,5 @@
 -- What a table is after a value of it was written over where it stands.
-use Rattle.std.proofs.Common.{◌≡◌, ℕ, ◌+◌, ◌<◌, ◌≤◌, Bool, true, cond, if◌then◌else◌, List, length, take, get_or, set, Option, None, Some, IfSome, IsSome, MatchOption, is_some, refl, sym, ap, ap₂, ◌∙◌, subst, arith, inr}
+use Rattle.std.proofs.Common.{◌≡◌, ℕ, ◌+◌, ◌<◌, ◌≤◌, Bool, true, cond, if◌then◌else◌, List, length, take, get_or, Option, None, Some, IfSome, MatchOption, is_some, refl, sym, ap, ap₂, ◌∙◌, subst, arith, inr}
 use Rattle.std.proofs.lemmas.Bool.{false≢true}
 use Rattle.std.proofs.lemmas.List.{length-set, length-take-le}
 use borrow.Follows.Closed.{read_of}
@@ -21,7 +21,7 @@ use Rattle.prefix_trie_table.specs.Forest.{Holds, IsTable, CellsHold, with_node,
 use Rattle.prefix_trie_table.specs.Matching.{IsHeld, NoneHeld, LongestHeld, SeatAt, match_seat, cell_slot}
 use Rattle.prefix_trie_table.specs.Slots.{with_slot, with_cell, HasValue, IsSeat, SeatOf}
 use Rattle.prefix_trie_table.specs.Shape.{Contents, with_value_at, with_stored_at, with_match_at, with_longest_at, IsShapeOf, Shaped, same_shape}
-use Rattle.prefix_trie_table.specs.Tables.{IsTableOf, IsCounted}
+use Rattle.prefix_trie_table.specs.Tables.{IsTableOf}
 use Rattle.prefix_trie_table.proofs.Keys.{same_key}
 use Rattle.prefix_trie_table.proofs.Adding.{with_same}
 use Rattle.prefix_trie_table.proofs.Matched.{cell_some, longest_at, longest_there, longest_none}

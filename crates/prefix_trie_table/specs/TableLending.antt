@@ -2,7 +2,6 @@
 use Rattle.std.specs.Prelude.{Bool, List, Option}
 use Rattle.std.specs.Borrow.{LendsIf, Fml, RattleType, MutBor}
 use Rattle.std.specs.declared.alloc.Allocator as alloc
-use Rattle.prefix_trie_bits.specs.Model.Entries.{with_entry}
 use Rattle.prefix_trie_table.specs.declared.allocator.nodes.Tick as tick
 use Rattle.prefix_trie_table.specs.contracts.table.Table as table
 use Rattle.prefix_trie_table.specs.Shape.{Contents, with_stored_at, with_longest_at}

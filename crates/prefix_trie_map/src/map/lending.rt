@@ -25,8 +25,7 @@ impl<P: Prefix, T: Drop, A: Allocator> PrefixMap<P, T, A> {
         ensures value { option_copied_mut result ≡ get self.old.entries (P.path prefix.now) }
     {
         let len = u32::from(prefix.prefix_len());
-        self.table
-            .find_mut(prefix.repr(), len, &mut Visits::new())
+        self.table.find_mut(prefix.repr(), len, &mut Visits::new())
     }
 
     /// The answer of `get_mut`, and how many nodes it read: each node on the prefix's way once, as `get_counted` does.

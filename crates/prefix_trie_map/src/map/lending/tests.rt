@@ -92,16 +92,25 @@ fn a_stored_value_is_written(rt: HostRuntime) -> Result<(), Fail> {
     assert_eq!(rt; map.insert((0x0a00_0000_u32, 8_u8), first), Ok(None));
     assert!(rt; write(&mut map, &(0x0aff_0000, 8), second));
     assert!(rt; !write(&mut map, &(0x0a00_0000, 9), third));
-    assert_eq!(rt; map.get(&(0x0a00_0000, 8)).map(|text| text.as_str()), Some("second"));
+    assert_eq!(rt;
+        map.get(&(0x0a00_0000, 8)).map(|text| text.as_str()),
+        Some("second")
+    );
     let (stored, _visits) = map.get_mut_counted(&(0x0a00_0000, 8));
     if let Some(text) = stored {
         text.push_str(" time")?;
     }
-    assert_eq!(rt; map.get(&(0x0a00_0000, 8)).map(|text| text.as_str()), Some("second time"));
+    assert_eq!(rt;
+        map.get(&(0x0a00_0000, 8)).map(|text| text.as_str()),
+        Some("second time")
+    );
     if let Some((prefix, text)) = map.get_lpm_mut(&(0x0a01_0203, 32)) {
         assert_eq!(rt; prefix, (0x0a00_0000, 8));
         text.clear();
     }
-    assert_eq!(rt; map.get(&(0x0a00_0000, 8)).map(|text| text.as_str()), Some(""));
+    assert_eq!(rt;
+        map.get(&(0x0a00_0000, 8)).map(|text| text.as_str()),
+        Some("")
+    );
     Ok(())
 }

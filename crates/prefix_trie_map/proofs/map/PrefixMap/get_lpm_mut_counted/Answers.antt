@@ -1,4 +1,4 @@
-use Rattle.std.proofs.Common.{rules, ◌≡◌, ◌≤◌, Option, Some, take, sym, ap, ◌∙◌, subst, arith, MatchOption, None}
+use Rattle.std.proofs.Common.{rules, ◌≡◌, Some, take, sym, ap, ◌∙◌, subst, arith, MatchOption, None}
 use Rattle.std.proofs.lemmas.List.{take-take}
 use Rattle.prefix_trie_bits.specs.Model.Matches.{longest_match, shown_match}
 use Rattle.prefix_trie_bits.specs.Model.Visits.{visits}

@@ -1,5 +1,4 @@
-use Rattle.std.proofs.Common.{ℕ, ◌≤◌, ◌+◌, length, take, ap, ◌∙◌, arith}
-use Rattle.prefix_trie_bits.specs.Model.Visits.{visits}
+use Rattle.std.proofs.Common.{◌≤◌, ◌+◌, length, take, arith}
 use Rattle.prefix_trie_table.proofs.Matched.{has_nodes, met_is}
 use Rattle.prefix_trie_table.proofs.Lending.{can_lend, left_shape, table_left, table_kept, lender_left, longest_seat, longest_written, longest_lent, longest_small}
 use Rattle.prefix_trie_table.proofs.table.Table.find_longest_mut.Goals as goal

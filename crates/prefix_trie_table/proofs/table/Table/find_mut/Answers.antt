@@ -1,8 +1,4 @@
-use Rattle.std.proofs.Common.{◌+◌, Option, take, refl, sym, ap, ◌∙◌}
-use Rattle.prefix_trie_bits.specs.Model.Visits.{visits}
-use Rattle.prefix_trie_table.specs.declared.table.seat.Seat.{Seat}
-use Rattle.prefix_trie_table.specs.Shape.{Contents, with_value_at}
-use Rattle.prefix_trie_table.specs.Slots.{SeatOf}
+use Rattle.std.proofs.Common.{◌+◌, take, sym, ap, ◌∙◌}
 use Rattle.prefix_trie_table.proofs.Counted.{visits_counted}
 use Rattle.prefix_trie_table.proofs.Shapes.{shape_nodes}
 use Rattle.prefix_trie_table.proofs.Lending.{seat_of, can_lend, left_shape, table_left, table_kept, value_lent, lender_left, stored_written}

@@ -1,4 +1,4 @@
-use Rattle.std.proofs.Common.{◌+◌, refl, sym, ◌∙◌, arith}
+use Rattle.std.proofs.Common.{refl, sym, ◌∙◌, arith}
 use Rattle.prefix_trie_table.proofs.Finding.{reached_end, no_seat_below, no_seat_here, seat_here}
 use Rattle.prefix_trie_table.proofs.table.lookup.find_seat.Goals as goal
 
