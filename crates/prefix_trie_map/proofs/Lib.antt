@@ -3,3 +3,4 @@ pub mod Insertions
 pub mod Lookups
 pub mod Refusals
 pub mod Runs
+pub mod Lending

@@ -3,3 +3,4 @@ pub mod Marks
 pub mod MarksFall
 pub mod Steps
 pub mod Walks
+pub mod Lending

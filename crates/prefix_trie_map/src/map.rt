@@ -18,6 +18,7 @@ mod cover_tests;
 mod iter;
 #[cfg(test)]
 mod iter_tests;
+mod lending;
 mod lookup;
 mod visits;
 

@@ -32,3 +32,4 @@ pub mod Stacks
 pub mod Walking
 pub mod Covers
 pub mod Covered
+pub mod Lending

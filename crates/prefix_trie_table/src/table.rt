@@ -5,8 +5,10 @@
 //! block and no bitmap.
 mod cover;
 mod insertion;
+mod lending;
 mod lookup;
 mod matching;
+pub mod seat;
 pub mod spot;
 #[cfg(test)]
 mod tests;
