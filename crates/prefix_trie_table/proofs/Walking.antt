@@ -16,8 +16,9 @@ use Rattle.prefix_trie_table.specs.Cells.{node_at}
 use Rattle.prefix_trie_table.specs.Digits.{path_of}
 use Rattle.prefix_trie_table.specs.Forest.{read}
 use Rattle.prefix_trie_table.specs.Shape.{Shaped, IsShapeOf, same_shape}
-use Rattle.prefix_trie_table.specs.declared.table.spot.Seat.{Seat}
-use Rattle.prefix_trie_table.specs.Walks.{Tree, IsTree, IsSpot, IsPlaceOf, IsStack, still, pending, slot_of, GivesEntry, GivesSeat, ShapeOf, rest_of_walk, IsWalk}
+use Rattle.prefix_trie_table.specs.declared.table.seat.Seat.{Seat}
+use Rattle.prefix_trie_table.specs.Items.{GivesFilled}
+use Rattle.prefix_trie_table.specs.Walks.{Tree, IsTree, IsSpot, IsPlaceOf, IsStack, still, pending, slot_of, GivesSeat, ShapeOf, rest_of_walk, IsWalk}
 use Rattle.prefix_trie_table.proofs.Trees.{read-nil}
 use Rattle.prefix_trie_table.proofs.Subtrees.{all_places}
 
@@ -68,7 +69,7 @@ module _ {K T : Type 0} (IsKey : K → Type 0) (bits : K → List Bool) (width :
 
   -- the value that is read at its seat is the one that comes next
   pub gives_read : (t : Tree T) (key : K) (len : ℕ) (seat : Seat) (p q old new : List (List Bool × T)) (x : T) → GivesSeat IsKey bits width t key len seat p q →
-      slice_index_or t.cells.slots (slot_of seat) None ≡ Some x → old ≡ p → new ≡ q → GivesEntry IsKey bits width key len x old new
+      slice_index_or t.cells.slots (slot_of seat) None ≡ Some x → old ≡ p → new ≡ q → GivesFilled IsKey bits width key len x old new
   gives_read t key len seat p q old new x h reads before after =
       let both : Some h.value ≡ Some x = sym h.reads ∙ reads in
       let same : h.value ≡ x = cc in

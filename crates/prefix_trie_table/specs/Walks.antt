@@ -10,13 +10,14 @@ use Rattle.prefix_trie_bits.specs.Model.Nodes.{AreNodes}
 use Rattle.prefix_trie_bits.specs.Model.NodeListings.{listing_at_places}
 use Rattle.prefix_trie_bits.specs.Model.Step.{State}
 use Rattle.prefix_trie_table.specs.declared.table.spot.Spot.{Spot}
-use Rattle.prefix_trie_table.specs.declared.table.spot.Seat.{Seat}
+use Rattle.prefix_trie_table.specs.declared.table.seat.Seat.{Seat}
 use Rattle.prefix_trie_table.specs.declared.table.spot.Step.{Step}
 use Rattle.prefix_trie_table.specs.declared.table.spot.Step.TheVariants.{Entry, Child, Done}
 use Rattle.prefix_trie_table.specs.declared.allocator.node.Node.{Node}
 use Rattle.prefix_trie_table.specs.Digits.{path_of}
 use Rattle.prefix_trie_table.specs.Store.{Store}
 use Rattle.prefix_trie_table.specs.Forest.{IsTable, read}
+use Rattle.prefix_trie_table.specs.Items.{GivesFilled}
 use Rattle.prefix_trie_table.specs.Shape.{IsShapeOf, Shaped, Shaped-prop}
 
 -- the values of a table, and its entries and nodes
@@ -77,19 +78,12 @@ module _ {K : Type 0} where
     pending bits m [] = []
     pending bits m (p ∷ ps) = pending bits m ps ++ still bits m p
 
-    -- the first len bits of the key and the value were the first still to come, and the key has zeros behind
-    pub record GivesEntry (IsKey : K → Type 0) (bits : K → List Bool) (width : ℕ) (key : K) (len : ℕ) (value : T) (old new : List (List Bool × T)) : Type 0 where
-      pub is_key : IsKey key
-      pub short : len ≤ width
-      pub first : old ≡ (take len (bits key), value) ∷ new
-      pub filled : bits key ≡ take len (bits key) ++ zeros (width - len)
-
-    -- the same of the value at a seat
+    -- the value at a seat is that of the first pair still to come
     pub record GivesSeat (IsKey : K → Type 0) (bits : K → List Bool) (width : ℕ) (t : Tree T) (key : K) (len : ℕ) (seat : Seat) (old new : List (List Bool × T)) : Type 0 where
       pub value : T
       pub stands : slot_of seat < length t.cells.slots
       pub reads : slice_index_or t.cells.slots (slot_of seat) None ≡ Some value
-      pub gives : GivesEntry IsKey bits width key len value old new
+      pub gives : GivesFilled IsKey bits width key len value old new
 
 -- k times x and k + 1 more
 unfoldable pub many : ℕ → ℕ → ℕ

@@ -7,7 +7,8 @@ ghost use Rattle.prefix_trie_bits.specs.Model.Matches.{covers};
 ghost use Rattle.prefix_trie_bits.specs.Model.Selections.{shown};
 ghost use Rattle.prefix_trie_map.specs.Walks.{lent_item};
 
-use crate::map::{PrefixMap, Visits, rebuilt};
+use crate::map::lookup::rebuilt;
+use crate::map::{PrefixMap, Visits};
 use prefix_trie_bits::prefix::Prefix;
 use prefix_trie_table::table::Cover as TableCover;
 use std::alloc::Allocator;

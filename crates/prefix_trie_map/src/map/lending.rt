@@ -10,8 +10,9 @@ ghost use Rattle.prefix_trie_map.specs.Lending.{lends_entry_if, lends_longest_if
 #[cfg(test)]
 mod tests;
 
+use crate::map::PrefixMap;
+use crate::map::lookup::rebuilt;
 use crate::map::visits::Visits;
-use crate::map::{PrefixMap, rebuilt};
 use prefix_trie_bits::prefix::Prefix;
 use std::alloc::Allocator;
 

@@ -84,6 +84,7 @@ impl<T: Drop, A: Allocator, V: Tick> Table<T, A, V> {
         let seat = find_seat(&self.nodes, key, len, counter);
         lend_if(&mut self.cells, seat)
     }
+
     /// The value at the longest beginning of a bit string that has one, for writing. The number of bits of that beginning goes
     /// to `found`. What is written through the answer becomes the value there, and nothing else changes. Each node on the way
     /// is read once.

@@ -9,6 +9,7 @@ ghost use Rattle.prefix_trie_table.specs.Walks.{Tree, IsTree, HasTree, IsSpot, I
 use crate::allocator::blocks::Blocks;
 use crate::allocator::node::{Node, NodeSlot};
 use crate::allocator::nodes::{NodeAllocator, Tick};
+use crate::table::seat::Seat;
 use prefix_trie_bits::node::{Place, Places, rank, string_of};
 use prefix_trie_bits::prefix::Key;
 use std::alloc::{AllocError, Allocator};
@@ -45,13 +46,6 @@ impl<K: Key> Default for Spot<K> {
             places: Places::default(),
         }
     }
-}
-
-/// Where a value stands: the first slot of its block, and its place in that block.
-#[derive(Clone, Copy)]
-pub struct Seat {
-    start: u32,
-    place: u32,
 }
 
 /// What the next place of a spot is.

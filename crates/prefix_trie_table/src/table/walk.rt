@@ -3,12 +3,14 @@ ghost use Rattle.std.specs.Prelude.{◌≡◌, ◌<◌, [], MatchOption};
 ghost use Rattle.prefix_trie_bits.specs.Model.Selections.{listing};
 ghost use Rattle.prefix_trie_bits.specs.Model.Step.{State};
 ghost use Rattle.prefix_trie_table.specs.Shape.{IsShapeOf};
-ghost use Rattle.prefix_trie_table.specs.Walks.{Tree, IsTree, HasTree, IsStack, pending, GivesSeat, GivesEntry, ShapeOf, ShapeOf-prop};
+ghost use Rattle.prefix_trie_table.specs.Items.{GivesFilled};
+ghost use Rattle.prefix_trie_table.specs.Walks.{Tree, IsTree, HasTree, IsStack, pending, GivesSeat, ShapeOf, ShapeOf-prop};
 
 use crate::allocator::blocks::Blocks;
 use crate::allocator::node::NodeSlot;
 use crate::allocator::nodes::{NodeAllocator, Tick};
-use crate::table::spot::{Seat, Spot, Step, enter, next_at, value_at};
+use crate::table::seat::Seat;
+use crate::table::spot::{Spot, Step, enter, next_at, value_at};
 use arrayvec::ArrayVec;
 use prefix_trie_bits::prefix::Key;
 use std::alloc::Allocator;
@@ -39,7 +41,7 @@ impl<'a, K: Key, T: Drop, A: Allocator, V: Tick> Walk<'a, K, T, A, V> {
     #[inline]
     pub fn next(&mut self, counter: &mut V) -> Option<(K, u32, &'a T)>
         ensures { MatchOption result ((self.old ≡ []) × (self.new ≡ []))
-            (λ r. GivesEntry K.IsKey K.bits K.bit_width r.0 r.1 r.2.now self.old self.new) }
+            (λ r. GivesFilled K.IsKey K.bits K.bit_width r.0 r.1 r.2.now self.old self.new) }
     {
         let Some((nodes, cells)) = self.arrays else {
             return None;
