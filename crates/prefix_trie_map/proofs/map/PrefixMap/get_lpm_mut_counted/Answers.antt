@@ -3,13 +3,13 @@ use Rattle.std.proofs.lemmas.List.{take-take}
 use Rattle.prefix_trie_bits.specs.Model.Matches.{longest_match, shown_match}
 use Rattle.prefix_trie_bits.specs.Model.Visits.{visits}
 use Rattle.prefix_trie_bits.proofs.Model.Visits.{visits-bound}
-use Rattle.prefix_trie_map.proofs.Lending.{AreNodes-with_longest_at}
+use Rattle.prefix_trie_map.proofs.Lending.{IsMap-with_longest_at}
 use Rattle.prefix_trie_map.proofs.map.PrefixMap.get_lpm_mut_counted.Goals as goal
 use Rattle.prefix_trie_map.proofs.map.PrefixMap.get_lpm_mut_counted.Goals.{in-Some, in-None}
 
 pub invariant_of-self-lent : goal.invariant_of-self-lent
 invariant_of-self-lent g c = λ x.
-    AreNodes-with_longest_at g.P.R.Key.bit_width c.self.inside.table (take c.from-len.result (g.P.R.Key.bits c.repr-key.result)) x c.self.invariant
+    IsMap-with_longest_at g.P.R.Key.bit_width c.self.inside.table c.self.invariant (take c.from-len.result (g.P.R.Key.bits c.repr-key.result)) x
 
 pub returns-clause-value : goal.returns-clause-value
 returns-clause-value g c =
@@ -41,4 +41,4 @@ pub returns-clause-bound : goal.returns-clause-bound
 returns-clause-bound g c =
     let path = g.P.Prefix.path c.args.prefix.now in
     let counted : c.find_longest_mut-value.new.counter ≡ visits c.self.inside.table.nodes path = search rules in
-    omega (arith, counted, visits-bound c.self.inside.table.nodes path c.self.invariant.depths)
+    omega (arith, counted, visits-bound c.self.inside.table.nodes path c.self.invariant.are_nodes.depths)
