@@ -25,6 +25,6 @@ pub mod Growing
 pub mod Inserting
 pub mod Rooms
 pub mod Matching
-pub mod Matched
 pub mod Covers
 pub mod Covered
+pub mod Matched

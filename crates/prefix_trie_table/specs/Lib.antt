@@ -6,6 +6,6 @@ pub mod Digits
 pub mod Forest
 pub mod Shape
 pub mod Tables
-pub mod Matching
 pub mod Items
 pub mod Covers
+pub mod Matching
