@@ -28,11 +28,11 @@ ghost use Rattle.prefix_trie_table.specs.Shape.{Shaped, Shaped-prop};
 
 use crate::allocator::blocks::{Blocks, cells};
 use crate::allocator::nodes::{NodeAllocator, Tick};
-pub use crate::table::cover::Cover;
 use crate::table::insertion::insert_entry;
 use crate::table::lookup::find_value;
 use crate::table::matching::{longest_on_way, shortest_on_way, value_of_match};
 use crate::table::walk::walk_of;
+pub use cover::Cover;
 use prefix_trie_bits::prefix::{Key, Refusal, Refused};
 use std::alloc::Allocator;
 use std::marker::Model;

@@ -16,7 +16,8 @@ use prefix_trie_bits::prefix::Key;
 use std::alloc::Allocator;
 use std::marker::Model;
 
-/// The entries whose keys begin a bit string that are still to come, the shortest first.
+/// The entries whose keys begin a bit string that are still to come, the shortest first. It stands at a node on the way of
+/// that string, and keeps one bit for each match of that node that is still to come.
 #[derive(Drop)]
 pub struct Cover<'a, K: Key, T: Drop, A: Allocator, V: Tick> {
     nodes: &'a NodeAllocator<A, V>,
@@ -42,7 +43,8 @@ impl<'a, K: Key, T: Drop, A: Allocator, V: Tick> Model for Cover<'a, K, T, A, V>
 }
 
 impl<'a, K: Key, T: Drop, A: Allocator, V: Tick> Cover<'a, K, T, A, V> {
-    /// The next entry: a key, how many bits of it count, and the value. A node is read when the walk comes to it.
+    /// The next entry: a key, how many bits of it count, and the value. Each further node is read once, when the walk comes
+    /// to it.
     #[inline]
     pub fn next(&mut self, counter: &mut V) -> Option<(K, u32, &'a T)>
         ensures { MatchOption result
@@ -59,6 +61,7 @@ impl<'a, K: Key, T: Drop, A: Allocator, V: Tick> Cover<'a, K, T, A, V> {
         ) else {
             return None;
         };
+        // What matches has a value.
         let Some((len, value)) = value_of_match(self.cells, found) else {
             return None;
         };
@@ -67,7 +70,8 @@ impl<'a, K: Key, T: Drop, A: Allocator, V: Tick> Cover<'a, K, T, A, V> {
 }
 
 impl<T: Drop, A: Allocator, V: Tick> Table<T, A, V> {
-    /// The entries whose keys begin a bit string, the shortest first.
+    /// The entries whose keys begin a bit string, the shortest first. The root is read at once.
+    #[inline]
     pub fn cover<K: Key>(&self, key: K, len: u32, counter: &mut V) -> Cover<'_, K, T, A, V>
         requires key { K.IsKey key }
         requires within { len ≤ K.bit_width }
