@@ -26,3 +26,7 @@ pub mod Inserting
 pub mod Rooms
 pub mod Matching
 pub mod Matched
+pub mod SlotSums
+pub mod PathLists
+pub mod NodeCounts
+pub mod PathStrings
