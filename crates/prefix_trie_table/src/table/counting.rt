@@ -22,8 +22,8 @@ impl<T: Drop, A: Allocator, V: Tick> Table<T, A, V> {
     }
 }
 
-/// The number of nodes in an array. Each node but the root is a child of one other, and free slots hold blank nodes: so it
-/// is 1 and the children of all slots.
+/// The number of nodes in an array. Each but the root is the child of one other, and a slot without a node is blank: so it
+/// is 1 and the number of children of every slot.
 fn nodes_in<A: Allocator, V: Tick>(nodes: &NodeAllocator<A, V>, counter: &mut V) -> usize
     requires { (reading : List ℕ → Option Node) × (paths : List (List ℕ))
         × NodesHold node_sizes reading paths nodes.now }
