@@ -1,6 +1,5 @@
 -- The nodes of a table are the root and the children that all slots name.
-use Rattle.std.proofs.Common.{◌≡◌, ℕ, ◌+◌, ◌*◌, ◌^◌, ◌<◌, ◌≤◌, List, [], ◌∷◌, ◌++◌, length, take, map, flat_map, get_or, sum_by, All, Option, None, Some, refl, sym, ap, ◌∙◌, subst, arith}
-use Rattle.std.proofs.lemmas.List.{take_more, length-map}
+use Rattle.std.proofs.Common.{◌≡◌, ℕ, ◌+◌, ◌^◌, ◌<◌, ◌≤◌, List, [], ◌∷◌, length, take, flat_map, sum_by, All, Option, None, Some, refl, sym, ap, ◌∙◌, arith}
 use Rattle.std.proofs.lemmas.List.Elements.{All-nil, All-cons}
 use Rattle.std.proofs.lemmas.List.Concat.{length-flat_map}
 use Rattle.std.proofs.lemmas.List.Sums.{sum_by-cons, sum_by_more, sum_by_more_le, sum_by-le}
@@ -9,7 +8,7 @@ use Rattle.prefix_trie_bits.specs.Places.{ones_below}
 use Rattle.prefix_trie_table.specs.declared.allocator.node.Node.{Node}
 use Rattle.prefix_trie_table.specs.Bitmaps.{bits, rank}
 use Rattle.prefix_trie_table.specs.Cells.{blank_node, node_at}
-use Rattle.prefix_trie_table.specs.Store.{Store, Block, held, size_in}
+use Rattle.prefix_trie_table.specs.Store.{Store, held, size_in}
 use Rattle.prefix_trie_table.specs.Forest.{node_or_blank, child_items, child_blocks, child_blocks_of, NodesHold}
 use Rattle.prefix_trie_table.proofs.Bits.{rank-ones}
 use Rattle.prefix_trie_table.proofs.BitLists.{rank-all, rank-le, rank-zero-all}

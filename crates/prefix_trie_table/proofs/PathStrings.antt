@@ -1,7 +1,6 @@
 -- The string at which the node of a path stands, and that there are as many nodes as paths.
-use Rattle.std.proofs.Common.{◌≡◌, ℕ, zero, suc, ◌+◌, ◌*◌, ◌%◌, ◌^◌, ◌<◌, ◌≤◌, inl, inr, Bool, true, false, cond, ◌&&◌, ◌||◌, List, [], ◌∷◌, ◌++◌, length, length-append, map, Option, None, Some, is_some, refl, sym, ap, ap₂, ◌∙◌, subst, arith, eqb-true, eq-eqb}
+use Rattle.std.proofs.Common.{◌≡◌, ℕ, suc, ◌+◌, ◌%◌, ◌^◌, ◌<◌, ◌≤◌, inl, inr, Bool, true, false, cond, ◌&&◌, ◌||◌, List, [], ◌∷◌, ◌++◌, length, length-append, map, Option, None, Some, is_some, refl, sym, ap, ap₂, ◌∙◌, subst, arith, eqb-true, eq-eqb}
 use Rattle.std.proofs.lemmas.Bool.{false≢true, cases_Bool, false_from_ne_true}
-use Rattle.std.proofs.lemmas.List.{length-map}
 use Rattle.std.proofs.lemmas.List.Elements.{All-nil, All-push, All-head, All-tail}
 use Rattle.std.specs.Prelude.{All}
 use Rattle.std.specs.List.{list_any}
@@ -18,7 +17,7 @@ use Rattle.prefix_trie_table.specs.Store.{Store}
 use Rattle.prefix_trie_table.specs.Forest.{same_path, one_if, times, has_child, NodesHold}
 use Rattle.prefix_trie_table.proofs.Bits.{has_bit-below}
 use Rattle.prefix_trie_table.proofs.Keys.{same_way}
-use Rattle.prefix_trie_table.proofs.Paths.{same_path-true, same_path-equal, same_path-itself, same_path-not, snoc_ind}
+use Rattle.prefix_trie_table.proofs.Paths.{same_path-true, same_path-itself, snoc_ind}
 
 -- the string to which a path leads: five bits for each step
 abbrev pub string_at : List ℕ → List Bool
@@ -50,10 +49,6 @@ string_path [] h = refl
 string_path (c ∷ path) h =
     path_more c (string_at path)
     ∙ ap₂ (λ d p. d ∷ p) (small c _ (All-head IsStep c path h) (number-digits 5 c)) (string_path path (All-tail IsStep c path h))
-
--- strings of paths in a list
-strings_at : List (List ℕ) → List (List Bool)
-strings_at paths = map string_at paths
 
 listed-string : (p : List ℕ) (paths : List (List ℕ)) → 0 < times p paths → list_any (same_string (string_at p)) (map string_at paths) ≡ true
 listed-string p [] h = absurd (omega arith)
