@@ -95,6 +95,18 @@ fn pairs_of_128_bits(rt: HostRuntime) -> Result<(), Fail> {
     assert_eq!(rt; map.get(&(1, 128)), Some(&2));
     assert_eq!(rt; map.get(&(2, 128)), None);
     assert_eq!(rt; map.len(), 2);
+    assert_eq!(rt; map.node_count(), 26);
+    Ok(())
+}
+
+#[test]
+fn a_node_for_each_five_bits(rt: HostRuntime) -> Result<(), Fail> {
+    let mut map = PrefixMap::new(rt.alloc())?;
+    assert_eq!(rt; map.node_count(), 1);
+    assert_eq!(rt; map.insert((0_u32, 32_u8), 'a'), Ok(None));
+    assert_eq!(rt; map.node_count(), 7);
+    assert_eq!(rt; map.insert((0, 31), 'b'), Ok(None));
+    assert_eq!(rt; map.node_count(), 7);
     Ok(())
 }
 

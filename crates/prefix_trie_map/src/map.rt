@@ -20,6 +20,7 @@ mod iter;
 mod iter_tests;
 mod lending;
 mod lookup;
+mod counting;
 mod visits;
 
 pub use cover::{Cover, CoverKeys, CoverValues};

@@ -33,3 +33,7 @@ pub mod Walking
 pub mod Covers
 pub mod Covered
 pub mod Lending
+pub mod SlotSums
+pub mod PathLists
+pub mod NodeCounts
+pub mod PathStrings

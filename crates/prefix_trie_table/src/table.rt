@@ -4,6 +4,7 @@
 //! a finite map from bit strings to values, its nodes, a finite set of bit strings, and its room. They see no slot, no
 //! block and no bitmap.
 mod cover;
+mod counting;
 mod insertion;
 mod lending;
 mod lookup;

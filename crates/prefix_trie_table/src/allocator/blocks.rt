@@ -60,7 +60,10 @@ impl<S: Slot, A: Allocator> Blocks<S, A> {
         ensures len { result ≡ length self.now.slots }
         ensures made { result ≡ self.now.first + slots_made self.now.tiers }
         ensures limit { result ≤ self.now.limit }
+        ensures narrow { result < 2 ^ 32 }
     {
+        // Read for the proof alone: it is below 2^32.
+        let _limit = self.limit;
         self.slots.len()
     }
 
