@@ -1,2 +1,3 @@
 pub mod Insertions
 pub mod Refusals
+pub mod Removals

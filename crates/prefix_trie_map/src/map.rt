@@ -15,6 +15,7 @@ ghost use Rattle.prefix_trie_bits.specs.Model.Step.{Step, Insert};
 ghost use Rattle.prefix_trie_bits.specs.Model.Visits.{visits};
 ghost use Rattle.prefix_trie_map.specs.Steps.{state, inserted};
 
+mod removal;
 mod visits;
 
 use prefix_trie_bits::prefix::{Key, Prefix, Refusal, Refused};

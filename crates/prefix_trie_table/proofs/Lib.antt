@@ -24,5 +24,6 @@ pub mod Adding
 pub mod Growing
 pub mod Inserting
 pub mod Rooms
+pub mod Clearing
 pub mod Matching
 pub mod Matched

@@ -6,6 +6,7 @@
 mod insertion;
 mod lookup;
 mod matching;
+mod removal;
 #[cfg(test)]
 mod tests;
 
@@ -25,6 +26,7 @@ use crate::allocator::nodes::{NodeAllocator, Tick};
 use crate::table::insertion::insert_entry;
 use crate::table::lookup::find_value;
 use crate::table::matching::{longest_on_way, shortest_on_way, value_of_match};
+use crate::table::removal::clear_entries;
 use prefix_trie_bits::prefix::{Key, Refusal, Refused};
 use std::alloc::Allocator;
 use std::marker::Model;
@@ -183,5 +185,15 @@ impl<T: Drop, A: Allocator, V: Tick> Table<T, A, V> {
             value,
             counter,
         )
+    }
+
+    /// Takes all entries out, and all nodes but the root. It asks for no memory, and gives none back.
+    pub fn clear(&mut self)
+        ensures entries { self.new.entries ≡ no_entries }
+        ensures nodes { self.new.nodes ≡ root_alone }
+        ensures room { self.new.room
+            ≡ record { limit = self.old.room.limit; node_slots = 1; cell_slots = 0 } }
+    {
+        clear_entries(&mut self.nodes, &mut self.cells, &mut self.count);
     }
 }
