@@ -25,5 +25,8 @@ pub mod Growing
 pub mod Inserting
 pub mod Rooms
 pub mod Clearing
+pub mod Bare
+pub mod Removing
+pub mod Emptying
 pub mod Matching
 pub mod Matched
