@@ -4,3 +4,4 @@ pub mod Lookups
 pub mod Refusals
 pub mod Runs
 pub mod Lending
+pub mod Removals

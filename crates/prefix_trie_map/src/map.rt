@@ -12,6 +12,7 @@ ghost use Rattle.prefix_trie_bits.specs.Model.Room.{MayPassLimit};
 ghost use Rattle.prefix_trie_bits.specs.Model.Step.{Step, Insert};
 ghost use Rattle.prefix_trie_map.specs.Steps.{state, inserted};
 
+mod counting;
 mod cover;
 #[cfg(test)]
 mod cover_tests;
@@ -20,7 +21,7 @@ mod iter;
 mod iter_tests;
 mod lending;
 mod lookup;
-mod counting;
+mod removal;
 mod visits;
 
 pub use cover::{Cover, CoverKeys, CoverValues};

@@ -24,6 +24,14 @@ pub mod Adding
 pub mod Growing
 pub mod Inserting
 pub mod Rooms
+pub mod Clearing
+pub mod Bare
+pub mod Removing
+pub mod Emptying
+pub mod Ways
+pub mod Pruning
+pub mod Placing
+pub mod Removed
 pub mod Matching
 pub mod Matched
 pub mod Subtrees

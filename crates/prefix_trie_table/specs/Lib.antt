@@ -13,3 +13,4 @@ pub mod Walks
 pub mod Items
 pub mod Covers
 pub mod TableLending
+pub mod Removals

@@ -9,6 +9,7 @@ mod insertion;
 mod lending;
 mod lookup;
 mod matching;
+mod removal;
 pub mod seat;
 pub mod spot;
 #[cfg(test)]
@@ -18,9 +19,9 @@ pub mod walk;
 ghost use Rattle.std.specs.Prelude.{◌≡◌, ℕ, ◌+◌, ◌≤◌, take, IfOk, OnOk, IfErr, OnErr, IsOk, IsErr, IsTrue, ◌↔◌, MatchOption, None, Some};
 ghost use Rattle.std.specs.Option.{option_copied};
 ghost use Rattle.std.specs.FinMap.{get, contains_key, len};
-ghost use Rattle.prefix_trie_bits.specs.Model.Entries.{no_entries, with_entry, AreWithin};
+ghost use Rattle.prefix_trie_bits.specs.Model.Entries.{no_entries, with_entry, without_entry, AreWithin};
 ghost use Rattle.prefix_trie_bits.specs.Model.Matches.{longest_match, shortest_match};
-ghost use Rattle.prefix_trie_bits.specs.Model.Nodes.{root_alone, with_needed, AreNodes};
+ghost use Rattle.prefix_trie_bits.specs.Model.Nodes.{root_alone, with_needed, nodes_without, AreNodes};
 ghost use Rattle.prefix_trie_bits.specs.Model.Selections.{listing};
 ghost use Rattle.prefix_trie_bits.specs.Model.Visits.{visits, visits_to_match};
 ghost use Rattle.prefix_trie_bits.specs.Model.Room.{MayPassLimit};
@@ -32,6 +33,7 @@ use crate::allocator::nodes::{NodeAllocator, Tick};
 use crate::table::insertion::insert_entry;
 use crate::table::lookup::find_value;
 use crate::table::matching::{longest_on_way, shortest_on_way, value_of_match};
+use crate::table::removal::{clear_entries, remove_entry, remove_value};
 use crate::table::walk::walk_of;
 pub use cover::Cover;
 use prefix_trie_bits::prefix::{Key, Refusal, Refused};
@@ -202,5 +204,66 @@ impl<T: Drop, A: Allocator, V: Tick> Table<T, A, V> {
             value,
             counter,
         )
+    }
+
+    /// Takes the value at a bit string out, if it is there, and then the nodes that have nothing left, from the string's own
+    /// node upward: so it prunes also where that node has no such value. Never refused; as for blocks, it does as
+    /// `remove_keep_tree`.
+    pub fn remove<K: Key>(&mut self, key: K, len: u32, counter: &mut V) -> Option<T>
+        requires key { K.IsKey key }
+        requires within { len ≤ K.bit_width }
+        ensures value { result ≡ get self.old.entries (take len (K.bits key)) }
+        ensures entries { self.new.entries
+            ≡ without_entry self.old.entries (take len (K.bits key)) }
+        ensures nodes { self.new.nodes
+            ≡ nodes_without self.old.nodes self.old.entries (take len (K.bits key)) }
+        ensures room { (self.new.room.limit ≡ self.old.room.limit)
+            × (self.old.room.node_slots ≤ self.new.room.node_slots)
+            × (self.new.room.node_slots ≤ self.old.room.node_slots + 24)
+            × (self.old.room.cell_slots ≤ self.new.room.cell_slots)
+            × (self.new.room.cell_slots ≤ self.old.room.cell_slots + 24) }
+    {
+        remove_entry(
+            &mut self.nodes,
+            &mut self.cells,
+            &mut self.count,
+            key,
+            len,
+            counter,
+        )
+    }
+
+    /// Takes the value at a bit string out, if it is there, and keeps all nodes. Never refused: where its node's values fit
+    /// a smaller block they move there if one is free or can be made, and stay in the old one else.
+    pub fn remove_keep_tree<K: Key>(&mut self, key: K, len: u32, counter: &mut V) -> Option<T>
+        requires key { K.IsKey key }
+        requires within { len ≤ K.bit_width }
+        ensures value { result ≡ get self.old.entries (take len (K.bits key)) }
+        ensures entries { self.new.entries
+            ≡ without_entry self.old.entries (take len (K.bits key)) }
+        ensures nodes { self.new.nodes ≡ self.old.nodes }
+        ensures room { (self.new.room.limit ≡ self.old.room.limit)
+            × (self.new.room.node_slots ≡ self.old.room.node_slots)
+            × (self.old.room.cell_slots ≤ self.new.room.cell_slots)
+            × (self.new.room.cell_slots ≤ self.old.room.cell_slots + 24) }
+    {
+        remove_value(
+            &mut self.nodes,
+            &mut self.cells,
+            &mut self.count,
+            key,
+            len,
+            counter,
+        )
+    }
+
+    /// Takes all entries out, and all nodes but the root. It asks for no memory, and gives none back.
+    pub fn clear(&mut self)
+        ensures entries { self.new.entries ≡ no_entries }
+        ensures nodes { self.new.nodes ≡ root_alone }
+        ensures room { self.new.room
+            ≡ record { limit = self.old.room.limit; node_slots = 1; cell_slots = 0 } }
+    {
+        clear_entries(&mut self.nodes, &mut self.cells, &mut self.count);
     }
 }
