@@ -1,6 +1,9 @@
 -- A map stays one where a value of it is written over.
-use Rattle.std.proofs.Common.{◌≡◌, ℕ, Bool, true, false, List, Option, None, Some, if◌then◌else◌, is_some, refl, ap, ◌∙◌, inl, inr}
-use Rattle.std.specs.FinMap.{contains_key}
+use Rattle.std.proofs.Common.{◌≡◌, ℕ, Bool, true, false, List, Option, None, Some, if◌then◌else◌, is_some, refl, sym, ap, ◌∙◌, inl, inr}
+use borrow.Follows.Closed.{read_of}
+use Rattle.std.specs.Borrow.{MutBor}
+use Rattle.std.specs.FinMap.{get, contains_key}
+use Rattle.std.specs.Option.{option_copied_mut, ghost_name_of}
 use Rattle.prefix_trie_bits.specs.Laws.Steps.{IsMap}
 use Rattle.prefix_trie_bits.specs.Model.Matches.{longest_match}
 use Rattle.prefix_trie_bits.proofs.Model.Matches.{match_laws}
@@ -35,3 +38,11 @@ module _ {T : Type 0} (width : ℕ) (m : Contents T) (good : IsMap width (state 
     -- the value of the longest match, if there is one
     pub IsMap-with_longest_at : IsMap width (state (with_longest_at m q x))
     IsMap-with_longest_at = at_match (longest_match m.entries q) refl
+
+-- where the value at a path is lent, a value is stored there
+pub stored_lent : {T : Type 0} (m : Contents T) (q : List Bool) (r : Option (MutBor T)) → option_copied_mut r ≡ get m.entries q →
+    read_of (ghost_name_of r) (with_stored_at m q) m ≡ read_of (ghost_name_of r) (with_value_at m q) m
+stored_lent m q None e = refl
+stored_lent m q (Some lent) e =
+    let stored : contains_key m.entries q ≡ true = ap is_some (sym e) in
+    λ i. inl (lent.ghost_name, λ x. if stored i then with_value_at m q x else m)
