@@ -10,6 +10,7 @@ mod example;
 pub mod map;
 #[cfg(test)]
 mod refusing;
+pub mod replay;
 #[cfg(test)]
 mod tests;
 
