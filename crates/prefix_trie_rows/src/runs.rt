@@ -17,18 +17,48 @@ pub fn host_bits(alloc: Global) -> Result<bool, Refusal> {
         Call::List,
     ];
     let replies = run(alloc, &mut map, &calls).map_err(|_| Refusal::Memory)?;
-    let [
-        Reply::Value(None),
-        Reply::Value(None),
-        Reply::Value(None),
-        Reply::Match(Some(((128, 1), 2))),
-        Reply::Match(Some(((0, 0), 1))),
-        Reply::Value(None),
-        Reply::Count(3),
-        Reply::Entries(entries),
-    ] = replies.as_slice()
-    else {
+    let [root, half, whole, in_half, in_root, absent, len, list] = replies.as_slice() else {
         return Ok(false);
     };
-    Ok(entries.as_slice() == [((0, 0), 1), ((1, 8), 3), ((128, 1), 2)].as_slice())
+    Ok(
+        is_value(root, None)
+            && is_value(half, None)
+            && is_value(whole, None)
+            && is_match(in_half, Some(((128, 1), 2)))
+            && is_match(in_root, Some(((0, 0), 1)))
+            && is_value(absent, None)
+            && is_count(len, 3)
+            && is_list(list, &[((0, 0), 1), ((1, 8), 3), ((128, 1), 2)]),
+    )
+}
+
+/// A reply of a map of eight bits.
+type Answer = Reply<(u8, u8), Global>;
+
+fn is_value(reply: &Answer, expected: Option<u64>) -> bool {
+    match reply {
+        Reply::Value(value) => *value == expected,
+        _ => false,
+    }
+}
+
+fn is_match(reply: &Answer, expected: Option<((u8, u8), u64)>) -> bool {
+    match reply {
+        Reply::Match(found) => *found == expected,
+        _ => false,
+    }
+}
+
+fn is_count(reply: &Answer, expected: usize) -> bool {
+    match reply {
+        Reply::Count(count) => *count == expected,
+        _ => false,
+    }
+}
+
+fn is_list(reply: &Answer, expected: &[((u8, u8), u64)]) -> bool {
+    match reply {
+        Reply::Entries(entries) => entries.as_slice() == expected,
+        _ => false,
+    }
 }
