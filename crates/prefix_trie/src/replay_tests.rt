@@ -55,19 +55,23 @@ fn each_request_of_a_run_refused(rt: HostRuntime) -> Result<(), Fail> {
     let mut refusals = 0;
     for passed in 0..MANY {
         let mut map = PrefixMap::new(&heap)?;
+        assert_eq!(rt; map.insert((0_u8, 0_u8), 7), Ok(None));
         let calls = [
-            Call::Insert((0_u8, 1_u8), 1),
-            Call::Get((0, 1)),
+            Call::Insert((3, 8), 1),
+            Call::Get((3, 8)),
             Call::List,
             Call::Len,
         ];
         heap.refuse(passed, 1);
         let outcome = run(&heap, &mut map, &calls);
         heap.refuse(0, 0);
+        refusals = passed;
         let Ok(replies) = outcome else {
-            // The room for the replies comes first.
+            // The room for the replies is asked for first.
             assert_eq!(rt; passed, 0);
-            assert!(rt; map.is_empty());
+            assert_eq!(rt; map.len(), 1);
+            assert_eq!(rt; map.get(&(0, 0)), Some(&7));
+            assert_eq!(rt; map.get(&(3, 8)), None);
             continue;
         };
         let [inserted, got, listed, counted] = replies.as_slice() else {
@@ -77,24 +81,27 @@ fn each_request_of_a_run_refused(rt: HostRuntime) -> Result<(), Fail> {
             (
                 Reply::Refused(Refusal::Memory),
                 Reply::Value(None),
-                Reply::Entries(all),
-                Reply::Count(0),
-            ) => assert!(rt; all.is_empty() && map.is_empty()),
+                Reply::Entries(entries),
+                Reply::Count(1),
+            ) => {
+                assert_eq!(rt; entries.as_slice(), [((0, 0), 7)].as_slice());
+                assert_eq!(rt; map.get(&(3, 8)), None);
+            }
             (
                 Reply::Value(None),
                 Reply::Value(Some(1)),
                 Reply::Refused(Refusal::Memory),
-                Reply::Count(1),
-            ) => assert_eq!(rt; map.get(&(0, 1)), Some(&1)),
-            (Reply::Value(None), Reply::Value(Some(1)), Reply::Entries(all), Reply::Count(1)) => {
-                assert_eq!(rt; all.as_slice(), [((0, 1), 1)].as_slice());
-                break;
-            }
+                Reply::Count(2),
+            ) => assert_eq!(rt; map.get(&(3, 8)), Some(&1)),
+            (Reply::Value(None), Reply::Value(Some(1)), Reply::Entries(entries), Reply::Count(2)) =>
+                {
+                    assert_eq!(rt; entries.as_slice(), [((0, 0), 7), ((3, 8), 1)].as_slice());
+                    break;
+                }
             _ => return Err(Fail::new("another reply")),
         }
-        refusals = passed + 1;
     }
     // One for the replies, one or more for the insertion, and one for the list.
-    assert!(rt; 3 <= refusals && refusals < MANY);
+    assert!(rt; 3 <= refusals && refusals < MANY - 1);
     Ok(())
 }
