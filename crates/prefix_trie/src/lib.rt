@@ -10,6 +10,9 @@ mod example;
 pub mod map;
 #[cfg(test)]
 mod refusing;
+pub mod replay;
+#[cfg(test)]
+mod replay_tests;
 #[cfg(test)]
 mod tests;
 

@@ -1,16 +1,7 @@
 //! The rows of lookups.
-ghost use Rattle.std.specs.Prelude.{◌≡◌, ◌≤◌};
-
-use prefix_trie::{Ipv4Prefix, PrefixMap, Refusal};
+use crate::networks::network;
+use prefix_trie::{PrefixMap, Refusal};
 use std::alloc::Global;
-
-/// The network of an address and a length of at most 32.
-fn network(addr: u32, len: u8) -> Ipv4Prefix
-    requires { len ≤ 32 }
-    ensures { result ≡ (addr, len) }
-{
-    Ipv4Prefix::new(addr, len).unwrap()
-}
 
 /// Row 1: a map answers for the networks that it holds, and for no other.
 pub fn exact(alloc: Global) -> Result<bool, Refusal> {
