@@ -11,6 +11,8 @@ pub mod map;
 #[cfg(test)]
 mod refusing;
 #[cfg(test)]
+mod removal_tests;
+#[cfg(test)]
 mod tests;
 
 pub use prefix_trie_bits::prefix::{Ipv4Prefix, Ipv6Prefix, Key, Prefix, Refusal, Refused};
