@@ -4,6 +4,7 @@ pub mod Homes
 pub mod Pruning
 pub mod NodeSets
 pub mod Ordered
+pub mod NodeListings
 pub mod Visits
 pub mod Matches
 pub mod Listings

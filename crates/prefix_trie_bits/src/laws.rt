@@ -18,7 +18,8 @@ ghost use Rattle.prefix_trie_bits.specs.Rows.Widths.{WidthsHold};
 
 /// The listing has each pair of the map once, in listing order: a string before its extensions, and 0 before 1. A walk
 /// that starts behind the last item read gives the rest of the listing. `remove_children` removes exactly what
-/// `children` lists, which is what is handed out.
+/// `children` lists, which is what is handed out. What is below a string is what stands at the places of a node there, one
+/// after another.
 pub fn listing_laws<T>()
     ensures { ListingLaws T }
 {}

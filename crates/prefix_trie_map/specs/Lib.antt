@@ -1,3 +1,6 @@
+pub mod Covers
 pub mod Marks
 pub mod MarksFall
 pub mod Steps
+pub mod Walks
+pub mod Lending

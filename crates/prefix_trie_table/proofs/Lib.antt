@@ -34,3 +34,14 @@ pub mod Placing
 pub mod Removed
 pub mod Matching
 pub mod Matched
+pub mod Subtrees
+pub mod Spots
+pub mod Stacks
+pub mod Walking
+pub mod Covers
+pub mod Covered
+pub mod Lending
+pub mod SlotSums
+pub mod PathLists
+pub mod NodeCounts
+pub mod PathStrings

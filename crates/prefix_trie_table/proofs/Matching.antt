@@ -80,7 +80,7 @@ module _ (q : List Bool) (level : ℕ) (whole : 5 * level ≤ length q) (reading
       held_is q level i from within last reading node is ∙ none (i - 5 * level) (omega arith) (omega (arith, rest-length))
 
   -- a value behind the first n bits of the rest
-  held_here : (n bit : ℕ) → n ≤ 4 → n ≤ length (drop (5 * level) q) → bit ≡ value_bit (take n (drop (5 * level) q)) → has node.value_bitmap bit ≡ true → IsHeld reading q (5 * level + n) bit node
+  pub held_here : (n bit : ℕ) → n ≤ 4 → n ≤ length (drop (5 * level) q) → bit ≡ value_bit (take n (drop (5 * level) q)) → has node.value_bitmap bit ≡ true → IsHeld reading q (5 * level + n) bit node
   held_here n bit short within bit_is set =
       let inside : 5 * level + n ≤ length q = omega (arith, rest-length) in
       let own : bit_of (take (5 * level + n) q) ≡ bit = own_bit q level (5 * level + n) (omega arith) inside (omega arith) ∙ ap (λ k. value_bit (take k (drop (5 * level) q))) (back (5 * level) n) ∙ sym bit_is in

@@ -13,6 +13,7 @@ use Rattle.prefix_trie_bits.specs.Model.Nodes.{is_root}
 use Rattle.prefix_trie_bits.specs.Laws.Listings.{ListingLaws}
 use Rattle.prefix_trie_bits.proofs.Model.Members.{and-first, and-second}
 use Rattle.prefix_trie_bits.proofs.Model.Ordered.{t-true, true-t, lt-less, sorted-tail, sorted-head, sorted-neighbours, Contains-from_find, find-from_Contains, entries-retained}
+use Rattle.prefix_trie_bits.proofs.Model.NodeListings.{listing_by_places}
 use Rattle.prefix_trie_bits.proofs.Model.Pruning.{begins-nil}
 
 -- the order in words
@@ -148,4 +149,5 @@ listing_laws T = record {
   resumes = λ m read last rest e. record { behind = resumes m read last rest e; at = resumes_at m read last rest e };
   removed = λ m q. entries-retained m (λ s. not (begins q s));
   handed = λ m q. entries-retained m (λ s. begins q s);
+  by_places = listing_by_places;
 }

@@ -6,6 +6,8 @@ use Rattle.prefix_trie_bits.specs.Bits.{begins}
 use Rattle.prefix_trie_bits.specs.Order.{listing_cmp, IsBefore}
 use Rattle.prefix_trie_bits.specs.Model.Entries.{Entries, without_below, part_below}
 use Rattle.prefix_trie_bits.specs.Model.Selections.{listing, listing_from, listing_after, listing_below}
+use Rattle.prefix_trie_bits.specs.Places.{strings}
+use Rattle.prefix_trie_bits.specs.Model.NodeListings.{listing_at_places}
 
 module _ {T : Type 0} where
   -- a walk that has read `read` and then `last` has `rest` still to come
@@ -30,3 +32,5 @@ pub record ListingLaws (T : Type 0) : Type 0 where
   -- `remove_children` removes exactly what `children` lists, which is what is handed out
   pub removed : (m : Entries T) (q : List Bool) → listing (without_below m q) ≡ filter (λ e. not (begins q e.0)) (listing m)
   pub handed : (m : Entries T) (q : List Bool) → listing (part_below m q) ≡ listing_below m q
+  -- the pairs below a string are those at the places of a node there, in the order of the places
+  pub by_places : (m : Entries T) (s : List Bool) → listing_below m s ≡ listing_at_places m s (strings 5)
