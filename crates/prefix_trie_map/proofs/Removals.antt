@@ -1,5 +1,5 @@
 -- What the calls that take entries out leave of a map.
-use Rattle.std.proofs.Common.{◌≡◌, ℕ, List, Bool, refl, sym, ap, subst}
+use Rattle.std.proofs.Common.{◌≡◌, ℕ, List, Bool, refl, sym, subst}
 use Rattle.prefix_trie_bits.specs.Model.Entries.{no_entries, without_entry}
 use Rattle.prefix_trie_bits.specs.Model.Nodes.{root_alone, nodes_without}
 use Rattle.prefix_trie_bits.specs.Model.Step.{State, Clear, Done}

@@ -2,7 +2,6 @@
 use Rattle.std.specs.Prelude.{◌≡◌, ℕ, zero, suc, ◌+◌, ◌-◌, ◌*◌, ◌/◌, ◌<◌, ◌≤◌, Bool, true, List, [], ◌∷◌, ◌++◌, length, take, map, slice_index_or, Option, None, Some, All, ⊤}
 use Rattle.std.specs.Borrow.{Bor}
 use Rattle.std.specs.Coded.{Coded}
-use Rattle.prefix_trie_bits.specs.Bits.{zeros}
 use Rattle.prefix_trie_bits.specs.Places.{is_in}
 use Rattle.prefix_trie_bits.specs.Walks.{to_come}
 use Rattle.prefix_trie_bits.specs.Model.Entries.{Entries, AreWithin}
