@@ -67,7 +67,8 @@ pub fn run<P: Prefix, A: Allocator + Clone>(
     requires { All (IsFittingCall P.IsFitting) calls.now }
 
     // The calls with their replies are a run of the model, from the entries and nodes that the map had to those it has.
-    ensures run { IfOk result (λ replies. Run P.path P.back P.R.bit_width (state map.old) (calls_of calls.now) (replies_of replies.items) (state map.new)) }
+    ensures run { IfOk result (λ replies. Run P.path P.back P.R.bit_width
+        (state map.old) (calls_of calls.now) (replies_of replies.items) (state map.new)) }
     ensures one_each { IfOk result (λ replies. vec_len replies ≡ length calls.now) }
     ensures none_carried_out { OnErr result (map.new ≡ map.old) }
 {
@@ -86,7 +87,8 @@ fn answer<P: Prefix, A: Allocator + Clone>(
     call: &Call<P>,
 ) -> Reply<P, A>
     requires { IsFittingCall P.IsFitting call.now }
-    ensures { Step P.path P.back P.R.bit_width (state map.old) (call_of call.now) (reply_of result) (state map.new) }
+    ensures { Step P.path P.back P.R.bit_width
+        (state map.old) (call_of call.now) (reply_of result) (state map.new) }
 {
     match call {
         Call::Insert(prefix, value) => match map.insert(same_path(prefix), *value) {

@@ -44,9 +44,6 @@ module _ {K : Type 0} (all below : List (Site K)) (p : Site K) (popped : all ≡
   pub weight-popped : total_weight all ≡ total_weight below + weight p
   weight-popped = ap total_weight popped ∙ weight-push below p
 
-  pub weight-deeper : (q c : Site K) → weight c + weight q < weight p → total_weight ((below ++ q ∷ []) ++ c ∷ []) < total_weight all
-  weight-deeper q c h = omega (arith, h, weight-popped, weight-push (below ++ q ∷ []) c, weight-push below q)
-
   module _ {T : Type 0} (bits : K → List Bool) (m : Entries T) where
     pub pending-popped : pending bits m all ≡ still bits m p ++ pending bits m below
     pending-popped = ap (pending bits m) popped ∙ pending-push bits m below p
@@ -86,14 +83,6 @@ module _ {K : Type 0} (all below : List (Site K)) (p : Site K) (popped : all ≡
     -- the spot is put back as q
     pub stack-put : (q : Site K) → q.depth ≡ p.depth → IsSpot IsKey bits width v q → IsStack IsKey bits width v (below ++ q ∷ [])
     stack-put q d i = restart IsKey bits width v (start all) (below ++ q ∷ []) (put-at q d i)
-
-    -- and the child c above it
-    pub stack-child : (q c : Site K) → q.depth ≡ p.depth → IsSpot IsKey bits width v q → c.depth ≡ p.depth + 5 → IsSpot IsKey bits width v c →
-        IsStack IsKey bits width v ((below ++ q ∷ []) ++ c ∷ [])
-    stack-child q c d i e j =
-        restart IsKey bits width v (start all) ((below ++ q ∷ []) ++ c ∷ [])
-        (trail-push IsKey bits width v (start all) (below ++ q ∷ []) c (put-at q d i)
-        (omega (arith, e, trail-at.1, length-append below (q ∷ []))) j)
 
 -- a key that has the same bits as far as the deepest spot goes serves as well
 module _ {K : Type 0} (IsKey : K → Type 0) (bits : K → List Bool) (width : ℕ) (v : Store Node) (key other : K) (is_key : IsKey other) (d : ℕ) (same : take d (bits other) ≡ take d (bits key)) where
