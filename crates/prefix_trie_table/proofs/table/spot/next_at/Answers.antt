@@ -1,4 +1,4 @@
-use Rattle.std.proofs.Common.{◌≡◌, length, refl, sym, ap, ◌∙◌, subst, arith}
+use Rattle.std.proofs.Common.{◌≡◌, length, refl, sym, ap, ◌∙◌, arith}
 use Rattle.prefix_trie_bits.specs.BitStrings.{length-digits}
 use Rattle.prefix_trie_table.proofs.Spots.{place-value, place-child, place-small, place-child-small, goes_on, lighter, value_room, gives_value, child_room, child_stands_at, child_without, child_spot, child_still, child_lighter, child_way}
 use Rattle.prefix_trie_table.specs.Walks.{site}

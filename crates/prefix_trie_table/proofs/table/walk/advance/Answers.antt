@@ -4,7 +4,7 @@ use Rattle.std.proofs.lemmas.List.{length-map}
 use Rattle.arrayvec.specs.ArrayVec.{ArrayVec}
 use Rattle.prefix_trie_table.specs.declared.table.spot.Spot.{Spot}
 use Rattle.prefix_trie_table.specs.Walks.{IsStack, pending, site, sites, total_weight}
-use Rattle.prefix_trie_table.proofs.Stacks.{spot-popped, stack-popped, stack-room, child-room, stack-put, stack-child_way, pending-entry, pending-child_way, pending-done, weight-deeper_way, weight-popped, sites-push, sites-popped}
+use Rattle.prefix_trie_table.proofs.Stacks.{spot-popped, stack-popped, stack-room, child-room, stack-put, stack-child_way, pending-entry, pending-child_way, pending-done, weight-deeper_way, weight-popped, sites-popped}
 use Rattle.prefix_trie_table.proofs.table.walk.advance.Goals as goal
 
 pub next_at-requires-clause-spot : goal.next_at-requires-clause-spot

@@ -1,4 +1,4 @@
-use Rattle.std.proofs.Common.{◌∙◌, [], ◌∷◌, ◌++◌, sym, ap, subst}
+use Rattle.std.proofs.Common.{◌∙◌, [], ◌∷◌, ◌++◌, ap}
 use Rattle.prefix_trie_table.specs.Cells.{node_at}
 use Rattle.prefix_trie_table.specs.Walks.{site, sites}
 use Rattle.prefix_trie_table.proofs.Trees.{read-nil}
