@@ -1,11 +1,11 @@
 -- The map without entries, and that an insertion is a step of the model.
-use Rattle.std.proofs.Common.{◌≡◌, ℕ, ◌≤◌, ◌%◌, Bool, true, false, ◌&&◌, List, length, cond, Option, Result, is_some, Ok, Err, IfOk, OnOk, OnErr, IsOk, IsTrue, refl, sym, ap, ◌∙◌, subst, inl, inr, eqb-true, true≢false}
+use Rattle.std.proofs.Common.{◌≡◌, ℕ, ◌%◌, Bool, true, false, ◌&&◌, List, length, cond, Option, Result, is_some, Ok, Err, IfOk, OnOk, OnErr, IsOk, IsTrue, refl, sym, ap, ◌∙◌, inl, inr, eqb-true, true≢false}
 use Rattle.std.specs.FinMap.{get, contains_key, get-empty}
 use Rattle.prefix_trie_bits.specs.declared.prefix.Refused.{Refused}
 use Rattle.prefix_trie_bits.specs.Bits.{begins}
 use Rattle.prefix_trie_bits.specs.Order.{listing_cmp}
 use Rattle.prefix_trie_bits.specs.Laws.Steps.{IsMap}
-use Rattle.prefix_trie_bits.specs.Model.Entries.{Entries, AreWithin, no_entries, with_entry}
+use Rattle.prefix_trie_bits.specs.Model.Entries.{Entries, no_entries, with_entry}
 use Rattle.prefix_trie_bits.specs.Model.Nodes.{Nodes, has_node, root_alone, is_node_depth, with_needed, AreNodes}
 use Rattle.prefix_trie_bits.specs.Model.Step.{Reply, Step, Insert}
 use Rattle.prefix_trie_bits.proofs.Model.Members.{or-cases, or-left, and-first, and-second, needs, same_nodes}

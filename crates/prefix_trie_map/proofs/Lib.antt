@@ -1,3 +1,5 @@
+pub mod Covers
 pub mod Insertions
+pub mod Lookups
 pub mod Refusals
 pub mod Runs

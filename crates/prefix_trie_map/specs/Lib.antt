@@ -1,3 +1,4 @@
+pub mod Covers
 pub mod Marks
 pub mod MarksFall
 pub mod Steps

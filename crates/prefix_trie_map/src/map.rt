@@ -3,25 +3,23 @@
 //! The path of a prefix, its first `prefix_len` bits, is its key: two prefixes with the same path are one key, whatever their
 //! host bits. Contracts see a map as its entries, a finite map from paths to values, its nodes, and its room, which is its
 //! limit and the lengths of its two arrays.
-ghost use Rattle.std.specs.Prelude.{◌≡◌, ℕ, ◌+◌, ◌-◌, ◌^◌, ◌/◌, ◌≤◌, ◌↔◌, length, take, MatchOption, None, Some, IfOk, OnOk, IfErr, OnErr, IsOk, IsTrue};
-ghost use Rattle.std.specs.Option.{option_copied};
+ghost use Rattle.std.specs.Prelude.{◌≡◌, ℕ, ◌+◌, ◌-◌, ◌^◌, ◌≤◌, ◌↔◌, IfOk, OnOk, IfErr, OnErr, IsOk, IsTrue};
 ghost use Rattle.std.specs.FinMap.{get, contains_key, len};
 ghost use Rattle.prefix_trie_bits.specs.declared.prefix.Refusal.TheVariants.{Memory, IndexRange};
 ghost use Rattle.prefix_trie_bits.specs.Model.Entries.{no_entries, with_entry};
-ghost use Rattle.prefix_trie_bits.specs.Model.Matches.{longest_match, shown_match};
 ghost use Rattle.prefix_trie_bits.specs.Model.Nodes.{root_alone, with_needed};
 ghost use Rattle.prefix_trie_bits.specs.Model.Room.{MayPassLimit};
 ghost use Rattle.prefix_trie_bits.specs.Model.Step.{Step, Insert};
-ghost use Rattle.prefix_trie_bits.specs.Model.Visits.{visits};
 ghost use Rattle.prefix_trie_map.specs.Steps.{state, inserted};
 
 mod iter;
 #[cfg(test)]
 mod iter_tests;
+mod lookup;
 mod visits;
 
 pub use iter::{Iter, Keys, Values};
-use prefix_trie_bits::prefix::{Key, Prefix, Refusal, Refused};
+use prefix_trie_bits::prefix::{Prefix, Refusal, Refused};
 use prefix_trie_table::table::Table;
 use std::alloc::Allocator;
 use std::marker::{Model, PhantomData};
@@ -95,62 +93,6 @@ impl<P: Prefix, T: Drop, A: Allocator> PrefixMap<P, T, A> {
         self.len() == 0
     }
 
-    /// The value stored for exactly this prefix.
-    #[inline]
-    pub fn get(&self, prefix: &P) -> Option<&T>
-        requires { P.IsFitting prefix.now }
-        ensures { option_copied result ≡ get self.now.entries (P.path prefix.now) }
-    {
-        self.get_counted(prefix).0
-    }
-
-    /// The answer of `get`, and how many nodes it read: each node on the prefix's way once, and so at most one for each
-    /// five bits of the prefix, and one more.
-    #[inline]
-    pub fn get_counted(&self, prefix: &P) -> (Option<&T>, Visits)
-        requires { P.IsFitting prefix.now }
-        ensures value { option_copied result.0 ≡ get self.now.entries (P.path prefix.now) }
-        ensures exact { result.1 ≡ visits self.now.nodes (P.path prefix.now) }
-        ensures bound { result.1 ≤ length (P.path prefix.now) / 5 + 1 }
-    {
-        let mut visits = Visits::new();
-        let len = u32::from(prefix.prefix_len());
-        let answer = self.table.find(prefix.repr(), len, &mut visits);
-        (answer, visits)
-    }
-
-    /// The longest stored prefix that contains this one, without its host bits, and the value stored for it. A stored prefix
-    /// contains itself.
-    #[inline]
-    pub fn get_lpm(&self, prefix: &P) -> Option<(P, &T)>
-        requires { P.IsFitting prefix.now }
-        ensures { MatchOption result
-            (longest_match self.now.entries (P.path prefix.now) ≡ None)
-            (λ found. shown_match P.back (longest_match self.now.entries (P.path prefix.now)) ≡ Some (found.0, found.1.now)) }
-    {
-        self.get_lpm_counted(prefix).0
-    }
-
-    /// The answer of `get_lpm`, and how many nodes it read: each node on the prefix's way once, as `get_counted` does.
-    #[inline]
-    pub fn get_lpm_counted(&self, prefix: &P) -> (Option<(P, &T)>, Visits)
-        requires { P.IsFitting prefix.now }
-        ensures value { MatchOption result.0
-            (longest_match self.now.entries (P.path prefix.now) ≡ None)
-            (λ found. shown_match P.back (longest_match self.now.entries (P.path prefix.now)) ≡ Some (found.0, found.1.now)) }
-        ensures exact { result.1 ≡ visits self.now.nodes (P.path prefix.now) }
-        ensures bound { result.1 ≤ length (P.path prefix.now) / 5 + 1 }
-    {
-        let mut visits = Visits::new();
-        let key = prefix.repr();
-        let len = u32::from(prefix.prefix_len());
-        let longest = match self.table.find_longest(key, len, &mut visits) {
-            Some((found, value)) => Some((rebuilt(key, found), value)),
-            None => None,
-        };
-        (longest, visits)
-    }
-
     /// Sets the value for a prefix, and answers the one that was there before. A stored prefix is never refused.
     ///
     /// A new one is refused with `Memory` where a request for memory is refused, and with `IndexRange` where the slots
@@ -180,14 +122,4 @@ impl<P: Prefix, T: Drop, A: Allocator> PrefixMap<P, T, A> {
         let len = u32::from(prefix.prefix_len());
         self.table.insert(key, len, value, &mut Visits::new())
     }
-}
-
-/// The prefix of the first bits of a key, without host bits.
-#[inline]
-fn rebuilt<P: Prefix>(key: P::R, len: u32) -> P
-    requires key { P.R.IsKey key }
-    requires within { len ≤ P.R.bit_width }
-    ensures { result ≡ P.back (take len (P.R.bits key)) }
-{
-    P::from_repr_len(key.keep(len), len as u8)
 }

@@ -1,0 +1,26 @@
+-- The first and the last of the items that cover a question.
+use Rattle.std.proofs.Common.{◌≡◌, ◌≢◌, ◌↔◌, Bool, true, List, [], ◌∷◌, is_some, refl}
+use Rattle.prefix_trie_bits.specs.Model.Matches.{first_item, last_item, shown_match}
+use Rattle.prefix_trie_bits.specs.Model.Selections.{listing_covering, shown}
+use Rattle.prefix_trie_map.specs.Covers.{CoverLaws}
+
+module _ {P T : Type 0} where
+  last-shown : (back : List Bool → P) (es : List (List Bool × T)) → shown_match back (last_item es) ≡ last_item (shown back es)
+  last-shown back [] = refl
+  last-shown back (e ∷ []) = refl
+  last-shown back (d ∷ e ∷ es) = last-shown back (e ∷ es)
+
+  first-shown : (back : List Bool → P) (es : List (List Bool × T)) → shown_match back (first_item es) ≡ first_item (shown back es)
+  first-shown back [] = refl
+  first-shown back (e ∷ es) = refl
+
+  some-shown : (back : List Bool → P) (es : List (List Bool × T)) → (is_some (first_item es) ≡ true) ↔ (shown back es ≢ [])
+  some-shown back [] = (λ e. cc, λ h. absurd (h refl))
+  some-shown back (e ∷ es) = (λ _ h. cc, λ _. refl)
+
+pub cover_laws : (P T : Type 0) → CoverLaws P T
+cover_laws P T = record {
+  longest_is_last = λ back m q. last-shown back (listing_covering m q);
+  shortest_is_first = λ back m q. first-shown back (listing_covering m q);
+  some_covers = λ back m q. some-shown back (listing_covering m q);
+}

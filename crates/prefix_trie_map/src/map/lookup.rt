@@ -1,0 +1,251 @@
+//! Lookups: of exactly a prefix, and of the longest and the shortest stored prefix that contains one.
+//!
+//! Each has a form that also says how many nodes it read. The plain form is the first part of that answer: `Visits` has no
+//! bytes, so it costs nothing to make it.
+ghost use Rattle.std.specs.Prelude.{◌≡◌, ◌+◌, ◌/◌, ◌≤◌, length, take, MatchOption, None, Some, IfSome, IsSomeAnd};
+ghost use Rattle.std.specs.Option.{option_copied, option_map, is_some};
+ghost use Rattle.std.specs.FinMap.{get, contains_key};
+ghost use Rattle.prefix_trie_bits.specs.Model.Matches.{longest_match, shortest_match, shown_match};
+ghost use Rattle.prefix_trie_bits.specs.Model.Visits.{visits, visits_to_match};
+
+use crate::map::PrefixMap;
+use crate::map::visits::Visits;
+use prefix_trie_bits::prefix::{Key, Prefix};
+use std::alloc::Allocator;
+
+impl<P: Prefix, T: Drop, A: Allocator> PrefixMap<P, T, A> {
+    /// The value stored for exactly this prefix.
+    #[inline]
+    pub fn get(&self, prefix: &P) -> Option<&T>
+        requires { P.IsFitting prefix.now }
+        ensures { option_copied result ≡ get self.now.entries (P.path prefix.now) }
+    {
+        self.get_counted(prefix).0
+    }
+
+    /// The answer of `get`, and how many nodes it read: each node on the prefix's way once, and so at most one for each
+    /// five bits of the prefix, and one more.
+    #[inline]
+    pub fn get_counted(&self, prefix: &P) -> (Option<&T>, Visits)
+        requires { P.IsFitting prefix.now }
+        ensures value { option_copied result.0 ≡ get self.now.entries (P.path prefix.now) }
+        ensures exact { result.1 ≡ visits self.now.nodes (P.path prefix.now) }
+        ensures bound { result.1 ≤ length (P.path prefix.now) / 5 + 1 }
+    {
+        let mut visits = Visits::new();
+        let len = u32::from(prefix.prefix_len());
+        let answer = self.table.find(prefix.repr(), len, &mut visits);
+        (answer, visits)
+    }
+
+    /// Whether a value is stored for exactly this prefix.
+    #[inline]
+    pub fn contains_key(&self, prefix: &P) -> bool
+        requires { P.IsFitting prefix.now }
+        ensures { result ≡ contains_key self.now.entries (P.path prefix.now) }
+    {
+        self.contains_key_counted(prefix).0
+    }
+
+    /// The answer of `contains_key`, and how many nodes it read: as many as `get_counted`.
+    #[inline]
+    pub fn contains_key_counted(&self, prefix: &P) -> (bool, Visits)
+        requires { P.IsFitting prefix.now }
+        ensures value { result.0 ≡ contains_key self.now.entries (P.path prefix.now) }
+        ensures exact { result.1 ≡ visits self.now.nodes (P.path prefix.now) }
+        ensures bound { result.1 ≤ length (P.path prefix.now) / 5 + 1 }
+    {
+        let (value, visits) = self.get_counted(prefix);
+        (value.is_some(), visits)
+    }
+
+    /// This prefix without its host bits, and the value stored for exactly it.
+    #[inline]
+    pub fn get_key_value(&self, prefix: &P) -> Option<(P, &T)>
+        requires { P.IsFitting prefix.now }
+        ensures { MatchOption result
+            (get self.now.entries (P.path prefix.now) ≡ None)
+            (λ found. (found.0 ≡ P.back (P.path prefix.now)) × (get self.now.entries (P.path prefix.now) ≡ Some found.1.now)) }
+    {
+        self.get_key_value_counted(prefix).0
+    }
+
+    /// The answer of `get_key_value`, and how many nodes it read: as many as `get_counted`.
+    #[inline]
+    pub fn get_key_value_counted(&self, prefix: &P) -> (Option<(P, &T)>, Visits)
+        requires { P.IsFitting prefix.now }
+        ensures value { MatchOption result.0
+            (get self.now.entries (P.path prefix.now) ≡ None)
+            (λ found. (found.0 ≡ P.back (P.path prefix.now)) × (get self.now.entries (P.path prefix.now) ≡ Some found.1.now)) }
+        ensures exact { result.1 ≡ visits self.now.nodes (P.path prefix.now) }
+        ensures bound { result.1 ≤ length (P.path prefix.now) / 5 + 1 }
+    {
+        let (value, visits) = self.get_counted(prefix);
+        let pair = match value {
+            Some(value) => Some((
+                rebuilt(prefix.repr(), u32::from(prefix.prefix_len())),
+                value,
+            )),
+            None => None,
+        };
+        (pair, visits)
+    }
+
+    /// The longest stored prefix that contains this one, without its host bits, and the value stored for it. A stored prefix
+    /// contains itself.
+    #[inline]
+    pub fn get_lpm(&self, prefix: &P) -> Option<(P, &T)>
+        requires { P.IsFitting prefix.now }
+        ensures { MatchOption result
+            (longest_match self.now.entries (P.path prefix.now) ≡ None)
+            (λ found. shown_match P.back (longest_match self.now.entries (P.path prefix.now)) ≡ Some (found.0, found.1.now)) }
+    {
+        self.get_lpm_counted(prefix).0
+    }
+
+    /// The answer of `get_lpm`, and how many nodes it read: each node on the prefix's way once, as `get_counted` does.
+    #[inline]
+    pub fn get_lpm_counted(&self, prefix: &P) -> (Option<(P, &T)>, Visits)
+        requires { P.IsFitting prefix.now }
+        ensures value { MatchOption result.0
+            (longest_match self.now.entries (P.path prefix.now) ≡ None)
+            (λ found. shown_match P.back (longest_match self.now.entries (P.path prefix.now)) ≡ Some (found.0, found.1.now)) }
+        ensures exact { result.1 ≡ visits self.now.nodes (P.path prefix.now) }
+        ensures bound { result.1 ≤ length (P.path prefix.now) / 5 + 1 }
+    {
+        let mut visits = Visits::new();
+        let key = prefix.repr();
+        let len = u32::from(prefix.prefix_len());
+        let longest = self.table.find_longest(key, len, &mut visits);
+        (rebuilt_match(key, longest), visits)
+    }
+
+    /// The longest stored prefix that contains this one, without its host bits.
+    #[inline]
+    pub fn get_lpm_prefix(&self, prefix: &P) -> Option<P>
+        requires { P.IsFitting prefix.now }
+        ensures { result ≡ option_map (λ found. P.back found.0) (longest_match self.now.entries (P.path prefix.now)) }
+    {
+        self.get_lpm_prefix_counted(prefix).0
+    }
+
+    /// The answer of `get_lpm_prefix`, and how many nodes it read: as many as `get_lpm_counted`.
+    #[inline]
+    pub fn get_lpm_prefix_counted(&self, prefix: &P) -> (Option<P>, Visits)
+        requires { P.IsFitting prefix.now }
+        ensures value { result.0 ≡ option_map (λ found. P.back found.0) (longest_match self.now.entries (P.path prefix.now)) }
+        ensures exact { result.1 ≡ visits self.now.nodes (P.path prefix.now) }
+        ensures bound { result.1 ≤ length (P.path prefix.now) / 5 + 1 }
+    {
+        let (longest, visits) = self.get_lpm_counted(prefix);
+        (prefix_of(longest), visits)
+    }
+
+    /// The shortest stored prefix that contains this one, without its host bits, and the value stored for it. A stored
+    /// prefix contains itself.
+    #[inline]
+    pub fn get_spm(&self, prefix: &P) -> Option<(P, &T)>
+        requires { P.IsFitting prefix.now }
+        ensures { MatchOption result
+            (shortest_match self.now.entries (P.path prefix.now) ≡ None)
+            (λ found. shown_match P.back (shortest_match self.now.entries (P.path prefix.now)) ≡ Some (found.0, found.1.now)) }
+    {
+        self.get_spm_counted(prefix).0
+    }
+
+    /// The answer of `get_spm`, and how many nodes it read: those on the prefix's way, once each, and none below the one that
+    /// holds the match.
+    #[inline]
+    pub fn get_spm_counted(&self, prefix: &P) -> (Option<(P, &T)>, Visits)
+        requires { P.IsFitting prefix.now }
+        ensures value { MatchOption result.0
+            (shortest_match self.now.entries (P.path prefix.now) ≡ None)
+            (λ found. shown_match P.back (shortest_match self.now.entries (P.path prefix.now)) ≡ Some (found.0, found.1.now)) }
+        ensures exact { result.1 ≡ visits_to_match self.now.entries self.now.nodes (P.path prefix.now) }
+        ensures bound { result.1 ≤ length (P.path prefix.now) / 5 + 1 }
+    {
+        let mut visits = Visits::new();
+        let key = prefix.repr();
+        let len = u32::from(prefix.prefix_len());
+        let shortest = self.table.find_shortest(key, len, &mut visits);
+        (rebuilt_match(key, shortest), visits)
+    }
+
+    /// The shortest stored prefix that contains this one, without its host bits.
+    #[inline]
+    pub fn get_spm_prefix(&self, prefix: &P) -> Option<P>
+        requires { P.IsFitting prefix.now }
+        ensures { result ≡ option_map (λ found. P.back found.0) (shortest_match self.now.entries (P.path prefix.now)) }
+    {
+        self.get_spm_prefix_counted(prefix).0
+    }
+
+    /// The answer of `get_spm_prefix`, and how many nodes it read: as many as `get_spm_counted`.
+    #[inline]
+    pub fn get_spm_prefix_counted(&self, prefix: &P) -> (Option<P>, Visits)
+        requires { P.IsFitting prefix.now }
+        ensures value { result.0 ≡ option_map (λ found. P.back found.0) (shortest_match self.now.entries (P.path prefix.now)) }
+        ensures exact { result.1 ≡ visits_to_match self.now.entries self.now.nodes (P.path prefix.now) }
+        ensures bound { result.1 ≤ length (P.path prefix.now) / 5 + 1 }
+    {
+        let (shortest, visits) = self.get_spm_counted(prefix);
+        (prefix_of(shortest), visits)
+    }
+
+    /// Whether a stored prefix contains this one. A stored prefix contains itself.
+    #[inline]
+    pub fn is_covered(&self, prefix: &P) -> bool
+        requires { P.IsFitting prefix.now }
+        ensures { result ≡ is_some (shortest_match self.now.entries (P.path prefix.now)) }
+    {
+        self.is_covered_counted(prefix).0
+    }
+
+    /// The answer of `is_covered`, and how many nodes it read: as many as `get_spm_counted`.
+    #[inline]
+    pub fn is_covered_counted(&self, prefix: &P) -> (bool, Visits)
+        requires { P.IsFitting prefix.now }
+        ensures value { result.0 ≡ is_some (shortest_match self.now.entries (P.path prefix.now)) }
+        ensures exact { result.1 ≡ visits_to_match self.now.entries self.now.nodes (P.path prefix.now) }
+        ensures bound { result.1 ≤ length (P.path prefix.now) / 5 + 1 }
+    {
+        let (shortest, visits) = self.get_spm_counted(prefix);
+        (shortest.is_some(), visits)
+    }
+}
+
+/// The prefix of the first bits of a key, without host bits.
+#[inline]
+fn rebuilt<P: Prefix>(key: P::R, len: u32) -> P
+    requires key { P.R.IsKey key }
+    requires within { len ≤ P.R.bit_width }
+    ensures { result ≡ P.back (take len (P.R.bits key)) }
+{
+    P::from_repr_len(key.keep(len), len as u8)
+}
+
+/// A match of the table, with the prefix in place of its length.
+#[inline]
+fn rebuilt_match<P: Prefix, T>(key: P::R, found: Option<(u32, &T)>) -> Option<(P, &T)>
+    requires key { P.R.IsKey key }
+    requires within { IfSome found (λ f. f.0 ≤ P.R.bit_width) }
+    ensures { MatchOption result
+        (found.entry ≡ None)
+        (λ shown. IsSomeAnd found.entry (λ f. (shown.0 ≡ P.back (take f.0 (P.R.bits key))) × (shown.1.now ≡ f.1.now))) }
+{
+    match found {
+        Some((len, value)) => Some((rebuilt(key, len), value)),
+        None => None,
+    }
+}
+
+/// The prefix of a match, without its value.
+#[inline]
+fn prefix_of<P: Prefix, T>(found: Option<(P, &T)>) -> Option<P>
+    ensures { result ≡ option_map (λ f. f.0) found.entry }
+{
+    match found {
+        Some((prefix, _)) => Some(prefix),
+        None => None,
+    }
+}
