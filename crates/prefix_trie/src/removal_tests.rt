@@ -57,3 +57,18 @@ fn a_removal_needs_no_memory(rt: HostRuntime) -> Result<(), Fail> {
     assert!(rt; map.is_empty());
     Ok(())
 }
+
+#[test]
+fn nodes_off_the_way_stay(rt: HostRuntime) -> Result<(), Fail> {
+    let mut map = PrefixMap::new(rt.alloc())?;
+    assert_eq!(rt; map.insert((0_u32, 32_u8), 1_u8), Ok(None));
+    assert_eq!(rt; map.remove_keep_tree(&(0, 32)), Some(1));
+    assert_eq!(rt; map.node_count(), 7);
+    assert_eq!(rt; map.insert((0x8000_0000, 5), 2), Ok(None));
+    assert_eq!(rt; map.node_count(), 8);
+    assert_eq!(rt; map.remove(&(0x8000_0000, 5)), Some(2));
+    assert_eq!(rt; map.node_count(), 7);
+    map.clear();
+    assert_eq!(rt; map.node_count(), 1);
+    Ok(())
+}

@@ -15,3 +15,19 @@ pub fn exact(alloc: Global) -> Result<bool, Refusal> {
             && map.get(&network(0xc0a8_0180, 25)).is_none(),
     )
 }
+
+/// Row 3: the longest and the shortest network that contain a network.
+pub fn matches(alloc: Global) -> Result<bool, Refusal> {
+    let mut map = PrefixMap::new(alloc)?;
+    let inner = network(0xc0a8_0100, 24);
+    let outer = network(0xc0a8_0000, 23);
+    let host = network(0xc0a8_0101, 32);
+    Ok(
+        map.insert(inner, 1) == Ok(None)
+            && map.insert(outer, 2) == Ok(None)
+            && map.get_lpm(&host) == Some((inner, &1))
+            && map.get_lpm(&network(0xc0a8_0000, 24)) == Some((outer, &2))
+            && map.get_lpm(&network(0xc0a8_0200, 24)).is_none()
+            && map.get_spm(&host) == Some((outer, &2)),
+    )
+}

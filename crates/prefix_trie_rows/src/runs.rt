@@ -3,6 +3,31 @@ use prefix_trie::replay::{Call, Reply, run};
 use prefix_trie::{PrefixMap, Refusal};
 use std::alloc::Global;
 
+/// Row 27: a reply to each call, and what `Clear` leaves.
+pub fn replies_in_order(alloc: Global) -> Result<bool, Refusal> {
+    let mut map = PrefixMap::new(alloc)?;
+    let calls = [
+        Call::Insert((0_u8, 1_u8), 7),
+        Call::Lpm((64, 2)),
+        Call::NodeCount,
+        Call::List,
+        Call::Clear,
+        Call::Len,
+    ];
+    let replies = run(alloc, &mut map, &calls).map_err(|_| Refusal::Memory)?;
+    let [inserted, found, nodes, list, cleared, len] = replies.as_slice() else {
+        return Ok(false);
+    };
+    Ok(
+        is_value(inserted, None)
+            && is_match(found, Some(((0, 1), 7)))
+            && is_count(nodes, 1)
+            && is_list(list, &[((0, 1), 7)])
+            && is_done(cleared)
+            && is_count(len, 0),
+    )
+}
+
 /// Row 28: the bits behind a prefix's length count for nothing, and replies show prefixes without them.
 pub fn host_bits(alloc: Global) -> Result<bool, Refusal> {
     let mut map = PrefixMap::new(alloc)?;
@@ -54,6 +79,10 @@ fn is_count(reply: &Answer, expected: usize) -> bool {
         Reply::Count(count) => *count == expected,
         _ => false,
     }
+}
+
+fn is_done(reply: &Answer) -> bool {
+    matches!(reply, Reply::Done)
 }
 
 fn is_list(reply: &Answer, expected: &[((u8, u8), u64)]) -> bool {

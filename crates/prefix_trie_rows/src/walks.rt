@@ -15,3 +15,22 @@ pub fn in_listing_order(alloc: Global) -> Result<bool, Refusal> {
             && map.values().copied().eq([1, 2, 4, 3, 5]),
     )
 }
+
+/// Row 25: the networks that contain one, the shortest first.
+pub fn around_a_network(alloc: Global) -> Result<bool, Refusal> {
+    let mut map = PrefixMap::new(alloc)?;
+    let all_new = map.insert(network(0x0a00_0000, 8), 0) == Ok(None)
+        && map.insert(network(0x0a01_0000, 16), 1) == Ok(None)
+        && map.insert(network(0x0a01_0100, 24), 2) == Ok(None)
+        && map.insert(network(0x0a01_0200, 24), 3) == Ok(None)
+        && map.insert(network(0x0a01_0100, 25), 4) == Ok(None)
+        && map.insert(network(0x0b00_0000, 8), 5) == Ok(None);
+    let mut around = map.cover(&network(0x0a01_0100, 24));
+    Ok(
+        all_new
+            && around.next() == Some((network(0x0a00_0000, 8), &0))
+            && around.next() == Some((network(0x0a01_0000, 16), &1))
+            && around.next() == Some((network(0x0a01_0100, 24), &2))
+            && around.next().is_none(),
+    )
+}
