@@ -10,14 +10,14 @@ use std::alloc::{AllocError, Allocator, Global};
 use std::test::Fail;
 
 // How many entries a walk finds.
-fn count<P: Prefix<R = u8>, T: Drop, A: Allocator>(m: &PrefixMap<P, T, A>) -> usize
+fn count<P: Prefix, T: Drop, A: Allocator>(m: &PrefixMap<P, T, A>) -> usize
     ensures { result ≡ len m.now.entries }
 {
     m.iter().count()
 }
 
 // How many entries a walk finds, and a clone of it.
-fn count_twice<P: Prefix<R = u8>, T: Drop, A: Allocator>(m: &PrefixMap<P, T, A>) -> (usize, usize)
+fn count_twice<P: Prefix, T: Drop, A: Allocator>(m: &PrefixMap<P, T, A>) -> (usize, usize)
     ensures first { result.0 ≡ len m.now.entries }
     ensures second { result.1 ≡ len m.now.entries }
 {
@@ -27,7 +27,7 @@ fn count_twice<P: Prefix<R = u8>, T: Drop, A: Allocator>(m: &PrefixMap<P, T, A>)
 }
 
 // All prefixes in listing order.
-fn all_keys<P: Prefix<R = u8>, T: Drop, A: Allocator>(
+fn all_keys<P: Prefix, T: Drop, A: Allocator>(
     alloc: A,
     m: &PrefixMap<P, T, A>,
 ) -> Result<Vec<P, A>, AllocError>
@@ -37,7 +37,7 @@ fn all_keys<P: Prefix<R = u8>, T: Drop, A: Allocator>(
 }
 
 // Whether no value is below this one.
-fn none_below<P: Prefix<R = u8>, A: Allocator>(m: &PrefixMap<P, u32, A>, least: u32) -> bool
+fn none_below<P: Prefix, A: Allocator>(m: &PrefixMap<P, u32, A>, least: u32) -> bool
     ensures { result ≡ list_all (λ e. nat_le least e.1) (shown P.back (listing m.now.entries)) }
 {
     for (_, value) in m {
