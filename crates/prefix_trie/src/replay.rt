@@ -1,7 +1,8 @@
 //! A list of calls, run on a map.
-ghost use Rattle.std.specs.Prelude.{◌≡◌, All, IfOk, OnErr, length, vec_len};
-ghost use Rattle.prefix_trie_bits.specs.Model.Selections.{listing, shown};
-ghost use Rattle.prefix_trie_bits.specs.Model.Step.{Step, Run};
+ghost use Rattle.std.specs.Prelude.{◌≡◌, All, IfOk, OnErr, MatchResult, length, vec_len};
+ghost use Rattle.prefix_trie_bits.specs.Model.Selections.{listing, listing_covering, shown};
+ghost use Rattle.prefix_trie_bits.specs.Model.Step.{Step, Run, Items, Refused};
+ghost use Rattle.prefix_trie_bits.specs.declared.prefix.Refusal.TheVariants.{Memory};
 ghost use Rattle.prefix_trie_map.specs.Steps.{state};
 ghost use Rattle.prefix_trie_map.specs.Walks.{lent_item};
 ghost use Rattle.prefix_trie.specs.Replay.{IsFittingCall, call_of, calls_of, reply_of, replies_of};
@@ -32,6 +33,8 @@ pub enum Call<P> {
     NodeCount,
     /// `iter`: all entries, in listing order.
     List,
+    /// `cover`: the entries whose prefixes contain this one, the shortest first.
+    Cover(P),
 }
 
 /// What a call answered. Prefixes come without host bits.
@@ -45,9 +48,9 @@ pub enum Reply<P, A: Allocator> {
     Done,
     /// To `Len` and `NodeCount`.
     Count(usize),
-    /// To `List`.
+    /// To `List` and `Cover`.
     Entries(Vec<(P, u64), A>),
-    /// An insertion or a list was refused. The map has the entries and the nodes that it had.
+    /// To `Insert`, `List` and `Cover` where they were refused. The map has the entries and the nodes that it had.
     Refused(Refusal),
 }
 
@@ -55,12 +58,17 @@ pub enum Reply<P, A: Allocator> {
 ///
 /// After any list of calls, every call answers as a finite map from bit strings to values does: `Insert` sets the value at
 /// the path of its prefix and gives the one that was there, `Get` gives the value at the path of its prefix, `Lpm` the
-/// longest stored beginning of that path and its value, `Len` the number of entries, and `List` all of them, each once and
-/// in listing order.
+/// longest stored beginning of that path and its value, and `Spm` the shortest. `Remove` and `RemoveKeepTree` take the
+/// entry at that path out and give its value, and `Clear` takes all entries out. `Len` gives the number of entries, `List`
+/// all of them, each once and in listing order, and `Cover` those whose paths begin that of its prefix, the shortest first.
+///
+/// `NodeCount` gives the number of nodes. They too are those of the model: `Insert` adds those that lack on its path,
+/// `Remove` takes those away that have nothing left, from the node of its path upward, `Clear` leaves the root alone, and
+/// the other calls leave the nodes as they are.
 ///
 /// Asks that every prefix handed in fits. Room for all replies is asked for first, so `Err` means that no call was carried
-/// out. An insertion that is refused is answered by the cause, and a list for which no memory is found by
-/// `Refused(Memory)`. Both leave the entries and the nodes of the map as they were, and the run goes on.
+/// out. An insertion that is refused is answered by the cause, and a list for which no memory is found, to `List` or to
+/// `Cover`, by `Refused(Memory)`. Each leaves the entries and the nodes of the map as they were, and the run goes on.
 ///
 /// ```text
 /// let mut map = PrefixMap::new(alloc)?;
@@ -69,7 +77,10 @@ pub enum Reply<P, A: Allocator> {
 ///     Call::Get((0x0a01_0203, 32)),                Reply::Value(None)
 ///     Call::Lpm((0x0a01_0203, 32)),                Reply::Match(Some(((0x0a01_0000, 16), 1)))
 ///     Call::Len,                                   Reply::Count(1)
-///     Call::List,                                  Reply::Entries([((0x0a01_0000, 16), 1)])
+///     Call::Cover((0x0a01_0203, 32)),              Reply::Entries([((0x0a01_0000, 16), 1)])
+///     Call::Remove((0x0a01_0203, 16)),             Reply::Value(Some(1))
+///     Call::NodeCount,                             Reply::Count(1)
+///     Call::List,                                  Reply::Entries([])
 /// ])
 /// ```
 pub fn run<P: Prefix, A: Allocator + Clone>(
@@ -119,10 +130,8 @@ fn answer<P: Prefix, A: Allocator + Clone>(
         }
         Call::Len => Reply::Count(map.len()),
         Call::NodeCount => Reply::Count(map.node_count()),
-        Call::List => match listed(alloc, map) {
-            Ok(entries) => Reply::Entries(entries),
-            Err(_) => Reply::Refused(Refusal::Memory),
-        },
+        Call::List => list_reply(listed(alloc, map)),
+        Call::Cover(prefix) => list_reply(covered(alloc, map, prefix)),
     }
 }
 
@@ -151,8 +160,31 @@ fn listed<P: Prefix, A: Allocator + Clone>(
     ensures { IfOk result (λ entries. entries.items ≡ shown P.back (listing map.now.entries)) }
 {
     let mut entries = Vec::with_capacity(alloc.clone()?, map.len())?;
-    for (prefix, value) in map.iter() {
-        entries.push_reserved((prefix, *value));
-    }
+    entries.extend(map.iter().map(owned))?;
     Ok(entries)
+}
+
+/// The entries whose prefixes contain this one, the shortest first. A first walk counts them, and room for so many is asked
+/// for before the second.
+fn covered<P: Prefix, A: Allocator + Clone>(
+    alloc: &A,
+    map: &PrefixMap<P, u64, A>,
+    prefix: &P,
+) -> Result<Vec<(P, u64), A>, AllocError>
+    requires { P.IsFitting prefix.now }
+    ensures { IfOk result (λ entries. entries.items ≡ shown P.back (listing_covering map.now.entries (P.path prefix.now))) }
+{
+    let mut entries = Vec::with_capacity(alloc.clone()?, map.cover(prefix).count())?;
+    entries.extend(map.cover(prefix).map(owned))?;
+    Ok(entries)
+}
+
+/// The entries, or the refusal where no memory was found for them.
+fn list_reply<P, A: Allocator>(listed: Result<Vec<(P, u64), A>, AllocError>) -> Reply<P, A>
+    ensures { MatchResult listed (λ entries. reply_of result ≡ Items entries.items) (λ _. reply_of result ≡ Refused Memory) }
+{
+    match listed {
+        Ok(entries) => Reply::Entries(entries),
+        Err(_) => Reply::Refused(Refusal::Memory),
+    }
 }
