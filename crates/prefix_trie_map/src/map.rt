@@ -22,6 +22,7 @@ mod iter_tests;
 mod lending;
 mod lookup;
 mod removal;
+mod slots;
 mod visits;
 
 pub use cover::{Cover, CoverKeys, CoverValues};
@@ -76,10 +77,7 @@ impl<P: Prefix, T: Drop, A: Allocator + Clone> PrefixMap<P, T, A> {
         ensures room { IfOk result (λ map. map.room ≡ record { limit = 2 ^ 32 - 1; node_slots = 1; cell_slots = 0 }) }
         ensures only_memory { IfErr result (λ refusal. refusal ≡ Memory) }
     {
-        Ok(PrefixMap {
-            table: Table::new(alloc, u32::MAX)?,
-            marker: PhantomData,
-        })
+        Self::with_slot_limit(alloc, u32::MAX)
     }
 }
 
