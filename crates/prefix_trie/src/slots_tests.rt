@@ -60,7 +60,7 @@ fn slots_of_a_full_root(rt: HostRuntime) -> Result<(), Fail> {
     for place in 0..16_u8 {
         for len in 0..5_u8 {
             let addr = place << 4;
-            if addr & !(0xff_00_u16 >> len) as u8 == 0 {
+            if addr & (0xff >> len) == 0 {
                 assert_eq!(rt; map.insert((addr, len), place), Ok(None));
             }
         }
