@@ -20,6 +20,8 @@ pub mod replay;
 #[cfg(test)]
 mod replay_tests;
 #[cfg(test)]
+mod slots_tests;
+#[cfg(test)]
 mod tests;
 #[cfg(test)]
 mod walk_tests;

@@ -1,5 +1,5 @@
 -- Which refusals there are.
-use Rattle.std.proofs.Common.{◌≡◌, ℕ, suc, refl, arith}
+use Rattle.std.proofs.Common.{◌≡◌, ◌↔◌, ℕ, suc, Result, Ok, Err, IfErr, refl, arith}
 use Rattle.prefix_trie_bits.specs.declared.prefix.Refusal.{Refusal}
 use Rattle.prefix_trie_bits.specs.declared.prefix.Refusal.TheVariants.{Memory, IndexRange}
 
@@ -7,3 +7,9 @@ use Rattle.prefix_trie_bits.specs.declared.prefix.Refusal.TheVariants.{Memory, I
 pub only_memory : (cause : Refusal) (limit : ℕ) → (cause ≡ IndexRange → suc limit ≡ 0) → cause ≡ Memory
 only_memory Memory limit h = refl
 only_memory IndexRange limit h = absurd (omega (arith, h refl))
+
+-- so of an answer
+pub refused_for_memory : {X : Type 0} (answer : Result X Refusal) (limit : ℕ) → IfErr answer (λ cause. (cause ≡ IndexRange) ↔ (suc limit ≡ 0)) →
+    IfErr answer (λ cause. cause ≡ Memory)
+refused_for_memory (Ok x) limit h = tt
+refused_for_memory (Err cause) limit h = only_memory cause limit h.0

@@ -22,6 +22,7 @@ mod iter_tests;
 mod lending;
 mod lookup;
 mod removal;
+mod slots;
 mod visits;
 
 pub use cover::{Cover, CoverKeys, CoverValues};
@@ -76,10 +77,7 @@ impl<P: Prefix, T: Drop, A: Allocator + Clone> PrefixMap<P, T, A> {
         ensures room { IfOk result (λ map. map.room ≡ record { limit = 2 ^ 32 - 1; node_slots = 1; cell_slots = 0 }) }
         ensures only_memory { IfErr result (λ refusal. refusal ≡ Memory) }
     {
-        Ok(PrefixMap {
-            table: Table::new(alloc, u32::MAX)?,
-            marker: PhantomData,
-        })
+        Self::with_slot_limit(alloc, u32::MAX)
     }
 }
 
@@ -121,6 +119,7 @@ impl<P: Prefix, T: Drop, A: Allocator> PrefixMap<P, T, A> {
         ensures limit { self.new.room.limit ≡ self.old.room.limit }
         ensures node_slots { (self.old.room.node_slots ≤ self.new.room.node_slots) × (self.new.room.node_slots ≤ self.old.room.node_slots + 56) }
         ensures cell_slots { (self.old.room.cell_slots ≤ self.new.room.cell_slots) × (self.new.room.cell_slots ≤ self.old.room.cell_slots + 31) }
+        ensures within { (self.new.room.node_slots ≤ self.new.room.limit) × (self.new.room.cell_slots ≤ self.new.room.limit) }
 
         // All this is one step of the model.
         ensures step { Step P.path P.back P.R.bit_width (state self.old) (Insert prefix value) (inserted result) (state self.new) }

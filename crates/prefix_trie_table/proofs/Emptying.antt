@@ -16,7 +16,7 @@ use Rattle.prefix_trie_table.specs.Store.{Store}
 use Rattle.prefix_trie_table.specs.Forest.{one_if, Holds, IsSlot, at_root, at_child, child_slot, node_or_blank, own_count, has_value, with_node, with_value}
 use Rattle.prefix_trie_table.specs.Removals.{Shrinks, SameChildren, ValueTaken, EntryTaken}
 use Rattle.prefix_trie_table.specs.Shape.{IsShapeOf, Shaped, same_shape}
-use Rattle.prefix_trie_table.specs.Tables.{IsReached, IsTableOf, IsCounted, ForHeld}
+use Rattle.prefix_trie_table.specs.Tables.{IsReached, IsTableOf, IsCounted, Grows, ForHeld}
 use Rattle.prefix_trie_table.proofs.Children.{same_or, with_here, with_other}
 use Rattle.prefix_trie_table.proofs.EntryCounts.{count_with_node}
 use Rattle.prefix_trie_table.proofs.Finding.{reached_own}
@@ -143,9 +143,9 @@ module _ {T : Type 0} (key : List Bool) (v v2 : Store Node) (w w2 : Store (Optio
 
   -- arrays that have this shape are a table
   pub table_without : (left : State T) → IsShapeOf v2.slots w2.slots left → left.entries ≡ without_entry s.0.entries key →
-      count2 + one_if (is_some removed) ≡ count → IsCounted v2 w2 count2 → v2.limit ≡ v.limit → w2.limit ≡ w.limit → w2.first ≡ w.first →
+      count2 + one_if (is_some removed) ≡ count → IsCounted v2 w2 count2 → Grows v v2 24 → Grows w w2 24 →
       (t : Shaped v2.slots w2.slots) → IsTableOf v2 w2 count2 t.0
-  table_without left shape entries fewer counted nodes_limit cells_limit first t =
+  table_without left shape entries fewer counted nodes cells t =
       let only : t.0 ≡ left = same_shape v2.slots w2.slots t.0 left t.1 shape in
       record {
         held = counted;
@@ -153,8 +153,10 @@ module _ {T : Type 0} (key : List Bool) (v v2 : Store Node) (w w2 : Store (Optio
             ∙ ap (λ b. cond b (len s.0.entries - 1) (len s.0.entries)) (ap is_some removed_is)
             ∙ sym (len-remove listing_total s.0.entries key)
             ∙ ap len (sym entries) ∙ ap (λ (y : State T). len y.entries) (sym only);
-        cells_first = first ∙ is.cells_first;
-        one_limit = cells_limit ∙ is.one_limit ∙ sym nodes_limit;
+        cells_first = cells.first_is ∙ is.cells_first;
+        one_limit = cells.limit_is ∙ is.one_limit ∙ sym nodes.limit_is;
+        nodes_within = nodes.within is.nodes_within;
+        cells_within = cells.within is.cells_within;
       }
 
   module _ (taken : ForHeld v w (λ reading paths values. EntryTaken reading paths values (path_of key) (bit_of key) v2 w w2)) where

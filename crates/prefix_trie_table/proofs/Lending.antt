@@ -104,6 +104,8 @@ module _ {T : Type 0} (v : Store Node) (w : Store (Option T)) (count : ℕ) (s :
     sized = is.sized ∙ ap (λ b. cond b (len s.0.entries) (len s.0.entries + 1)) (sym (ap is_some stored_is ∙ value_there v w table q seat at))
         ∙ sym (len-insert listing_total s.0.entries q x);
     one_limit = is.one_limit;
+    nodes_within = is.nodes_within;
+    cells_within = (let l = length-set w.slots (seat.start + seat.place) (Some x) in let h = is.cells_within in omega (arith, l, h));
     cells_first = is.cells_first;
   }
 

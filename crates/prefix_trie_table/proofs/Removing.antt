@@ -78,6 +78,7 @@ module _ {S : Type 0} (v w : Store S) (k count to : ℕ) (took gave : ℕ → �
     limit_is = keeps.limit_is;
     longer = keeps.longer;
     at_most = (let l = turned.longer in omega arith);
+    within = keeps.within;
   }
 
   module _ (vacant : S) (start : ℕ) (sizes : List ℕ) (sizes_are : tier_sizes v.tiers ≡ sizes) (seven : length sizes ≡ 7) (few : (j : ℕ) → j ≤ 5 → size_in sizes j ≤ 24)
@@ -261,6 +262,7 @@ grows_written v w x slot m most grows e = subst (λ y. Grows v y most) (sym e) (
   limit_is = grows.limit_is;
   longer = (let l = length-set w.slots slot m in let h = grows.longer in omega arith);
   at_most = (let l = length-set w.slots slot m in let h = grows.at_most in omega arith);
+  within = λ h. (let l = length-set w.slots slot m in let k = grows.within h in omega (arith, l, k));
 })
 
 -- what is given back, and then more

@@ -2,18 +2,18 @@
 use Rattle.std.proofs.Common.{◌≡◌, ℕ, ◌+◌, ◌-◌, ◌*◌, ◌/◌, ◌≤◌, List, [], ◌∷◌, Result, Ok, Err, OnOk, OnErr, All, refl, sym, ap, ◌∙◌, subst, arith, lit≤}
 use Rattle.std.proofs.lemmas.List.Elements.{All-nil, All-cons}
 use Rattle.prefix_trie_table.specs.Cells.{node_sizes, cell_sizes}
-use Rattle.prefix_trie_table.specs.Store.{Store, Tier, Turnover, CutShort, SameRoom, slots_of, none_at, tier_sizes, size_in, lacking_slots}
+use Rattle.prefix_trie_table.specs.Store.{Store, Tier, Turnover, CutShort, Prepared, SameRoom, slots_of, none_at, tier_sizes, size_in, lacking_slots}
 use Rattle.prefix_trie_table.specs.Tables.{Grows}
 use Rattle.prefix_trie_table.proofs.Turnovers.{slots_of-le}
 
 module _ {S : Type 0} where
   -- the same room is no growth
   pub Grows-none : (v w : Store S) (most : ℕ) → SameRoom v w → Grows v w most
-  Grows-none v w most room = record { first_is = room.1; limit_is = room.2; longer = (let e = room.0 in omega arith); at_most = (let e = room.0 in omega arith) }
+  Grows-none v w most room = record { first_is = room.1; limit_is = room.2; longer = (let e = room.0 in omega arith); at_most = (let e = room.0 in omega arith); within = λ h. (let e = room.0 in let l = room.2 in omega (arith, e, l, h)) }
 
   -- nor is the same array
   pub Grows-same : (v w : Store S) (most : ℕ) → w ≡ v → Grows v w most
-  Grows-same v w most e = subst (λ x. Grows v x most) (sym e) (record { first_is = refl; limit_is = refl; longer = omega arith; at_most = omega arith })
+  Grows-same v w most e = subst (λ x. Grows v x most) (sym e) (record { first_is = refl; limit_is = refl; longer = omega arith; at_most = omega arith; within = λ h. h })
 
   -- nothing grows after
   pub Grows-then : (v w x : Store S) (most : ℕ) → Grows v w most → SameRoom w x → Grows v x most
@@ -22,6 +22,7 @@ module _ {S : Type 0} where
     limit_is = room.2 ∙ g.limit_is;
     longer = (let e = room.0 in let a = g.longer in omega arith);
     at_most = (let e = room.0 in let a = g.at_most in omega arith);
+    within = λ h. (let e = room.0 in let l = room.2 in let a = g.within h in omega (arith, e, l, a));
   }
 
   -- nor does anything grow before
@@ -31,6 +32,7 @@ module _ {S : Type 0} where
     limit_is = g.limit_is ∙ room.2;
     longer = (let e = room.0 in let a = g.longer in omega arith);
     at_most = (let e = room.0 in let a = g.at_most in omega arith);
+    within = λ h. g.within (let e = room.0 in let l = room.2 in omega (arith, e, l, h));
   }
 
   -- twice the same room
@@ -39,21 +41,23 @@ module _ {S : Type 0} where
 
   -- what a call leaves that made blocks, all or not
   pub Grows-made : {X E : Type 0} (r : Result X E) (v w : Store S) (lacking : ℕ → ℕ) (most : ℕ) → OnOk r (Turnover v w lacking none_at none_at) →
-      OnErr r (CutShort v w lacking) → w.first ≡ v.first → slots_of (tier_sizes v.tiers) lacking ≤ most → Grows v w most
-  Grows-made (Ok x) v w lacking most done short first bound = record {
-    first_is = first;
+      OnErr r (CutShort v w lacking) → Prepared v w → slots_of (tier_sizes v.tiers) lacking ≤ most → Grows v w most
+  Grows-made (Ok x) v w lacking most done short p bound = record {
+    first_is = p.first_is;
     limit_is = done.limit_is;
     longer = (let e = done.longer in omega arith);
     at_most = (let e = done.longer in omega arith);
+    within = p.within;
   }
-  Grows-made (Err x) v w lacking most done short first bound =
+  Grows-made (Err x) v w lacking most done short p bound =
       let t = short.turnover in
       let less = slots_of-le (tier_sizes v.tiers) short.made lacking (λ j. (let h = short.fewer j in omega arith)) in
       record {
-        first_is = first;
+        first_is = p.first_is;
         limit_is = t.limit_is;
         longer = (let e = t.longer in omega arith);
         at_most = (let e = t.longer in omega arith);
+        within = p.within;
       }
 
 -- no block is larger

@@ -1,6 +1,6 @@
 -- What contracts see of a table, before and after an insertion.
-use Rattle.std.proofs.Common.{◌≡◌, ℕ, ◌+◌, ◌%◌, Bool, true, false, cond, ◌&&◌, ◌||◌, List, [], ◌∷◌, ◌++◌, length, get_or, map, Option, None, Some, is_some, Result, Ok, Err, MatchResult, IfOk, OnOk, OnErr, refl, sym, ap, ap₂, ◌∙◌, subst, arith, inl, inr, eqb-true}
-use Rattle.std.proofs.lemmas.Bool.{false≢true, cases_Bool}
+use Rattle.std.proofs.Common.{◌≡◌, ℕ, ◌+◌, ◌<◌, ◌%◌, Bool, true, false, cond, ◌&&◌, ◌||◌, List, [], ◌∷◌, ◌++◌, length, get_or, map, Option, None, Some, is_some, Result, Ok, Err, MatchResult, IfOk, OnOk, OnErr, refl, sym, ap, ap₂, ◌∙◌, subst, arith, inl, inr, eqb-true}
+use Rattle.std.proofs.lemmas.Bool.{false≢true, cases_Bool, cases_lt}
 use Rattle.std.specs.FinMap.{get, get-insert, get-empty, len-insert, len-empty, contains_key, len}
 use Rattle.prefix_trie_bits.specs.Bits.{begins}
 use Rattle.prefix_trie_bits.specs.Begins.{same_bool}
@@ -179,6 +179,13 @@ module _ {T : Type 0} where
           (λ h. let w = and_true (is_node_depth q) (same_path (path_of q) []) h in
           is-same_string q [] (same_way q [] (eqb-true (length q % 5) 0 w.0) refl (same_path-true (path_of q) [] w.1)))
 
+-- a limit that is not none is one slot at least
+pub some_limit : (limit : ℕ) → (limit ≡ 0 → ⊥) → 0 < limit
+some_limit limit h = elim (cases_lt 0 limit) as (λ _. 0 < limit) [
+  | inl some ↦ some
+  | inr none ↦ absurd (h (omega (arith, none)))
+]
+
 -- a new table
 module _ {T : Type 0} (v : Store Node) (w : Store (Option T)) (limit : ℕ)
     (v_is : v ≡ record { slots = blank_node ∷ []; first = 1; tiers = map no_blocks node_sizes; limit = limit }) (v_sound : Sound blank_node [] v)
@@ -197,8 +204,8 @@ module _ {T : Type 0} (v : Store Node) (w : Store (Option T)) (limit : ℕ)
   new_only s = same_shape v.slots w.slots s.0 root_shape s.1 new_shape
 
   -- and are a table without entries
-  pub new_table : (s : Shaped v.slots w.slots) → IsTableOf v w 0 s.0
-  new_table s = record {
+  pub new_table : 0 < limit → (s : Shaped v.slots w.slots) → IsTableOf v w 0 s.0
+  new_table some s = record {
     held = record {
       table = record { reading = root_reading; values = no_values; paths = [] ∷ []; holds = new_holds };
       counted = sym root_counted;
@@ -206,6 +213,8 @@ module _ {T : Type 0} (v : Store Node) (w : Store (Option T)) (limit : ℕ)
     sized = sym (ap (λ (x : State T). len x.entries) (new_only s) ∙ len-empty _ T);
     cells_first = ap (λ (x : Store (Option T)). x.first) w_is;
     one_limit = ap (λ (x : Store (Option T)). x.limit) w_is ∙ sym (ap (λ (x : Store Node). x.limit) v_is);
+    nodes_within = (let n = ap (λ (x : Store Node). length x.slots) v_is in let l = ap (λ (x : Store Node). x.limit) v_is in omega (arith, n, l, some));
+    cells_within = (let n = ap (λ (x : Store (Option T)). length x.slots) w_is in omega (arith, n));
   }
 
 -- one entry more, or as many
@@ -294,6 +303,8 @@ module _ {T : Type 0} (key : List Bool) (x : T) (v v2 : Store Node) (w w2 : Stor
       sized = sized_left r left counts ∙ ap (λ (y : State T). len y.entries) (sym (left_only r left t));
       cells_first = cells.first_is ∙ is.cells_first;
       one_limit = cells.limit_is ∙ is.one_limit ∙ sym nodes.limit_is;
+      nodes_within = nodes.within is.nodes_within;
+      cells_within = cells.within is.cells_within;
     }
 
     -- the answer is the value that was there

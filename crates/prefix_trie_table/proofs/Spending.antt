@@ -7,7 +7,7 @@ use Rattle.prefix_trie_table.specs.Runs.{swap_runs}
 use Rattle.prefix_trie_table.specs.Store.{Tier, Store, Block, tier_at, with_tier, taken, Spends, Keeps, Prepared, Enough, IsReady, tier_lacking, tier_for, grown, tier_sizes, free_at, size_in, held, block, Sound}
 use Rattle.prefix_trie_table.specs.Cells.{node_sizes, cell_sizes}
 use Rattle.std.specs.List.{prefix_len, position_or_len, position}
-use Rattle.std.proofs.lemmas.List.{length-map, get_or_append_left}
+use Rattle.std.proofs.lemmas.List.{length-map, length-replicate, get_or_append_left}
 use Rattle.std.proofs.lemmas.Bool.{false≢true, ltb-true}
 use Rattle.prefix_trie_table.proofs.RunLemmas.{length-swap_runs}
 
@@ -157,7 +157,7 @@ lacking_same ts us k count e =
 
 module _ {S : Type 0} where
   pub Prepared-same : (v w : Store S) → w ≡ v → Prepared v w
-  Prepared-same v w e = subst (λ x. Prepared v x) (sym e) (record { first_is = refl; limit_is = refl; sizes = refl; kept = λ i d h. refl; free = λ j. omega arith; longer = omega arith })
+  Prepared-same v w e = subst (λ x. Prepared v x) (sym e) (record { first_is = refl; limit_is = refl; sizes = refl; kept = λ i d h. refl; free = λ j. omega arith; longer = omega arith; within = λ h. h })
 
   pub Prepared-then : (v w x : Store S) → Prepared v w → Prepared w x → Prepared v x
   Prepared-then v w x a b = record {
@@ -167,16 +167,18 @@ module _ {S : Type 0} where
     kept = λ i d h. b.kept i d (let l = a.longer in omega arith) ∙ a.kept i d h;
     free = λ j. (let p = a.free j in let q = b.free j in omega arith);
     longer = (let p = a.longer in let q = b.longer in omega arith);
+    within = λ h. b.within (a.within h);
   }
 
-  pub Prepared-grown : (vacant : S) (v w : Store S) (k : ℕ) → k < length v.tiers → w ≡ grown vacant v k → Prepared v w
-  Prepared-grown vacant v w k inside e = subst (λ x. Prepared v x) (sym e) (record {
+  pub Prepared-grown : (vacant : S) (v w : Store S) (k : ℕ) → k < length v.tiers → length v.slots + (tier_at v.tiers k).size ≤ v.limit → w ≡ grown vacant v k → Prepared v w
+  Prepared-grown vacant v w k inside fits e = subst (λ x. Prepared v x) (sym e) (record {
     first_is = refl;
     limit_is = refl;
     sizes = sizes_set v.tiers k (new_tier v k) refl;
     kept = λ i d h. get_or_append_left v.slots (replicate (tier_at v.tiers k).size vacant) d i h;
     free = λ j. ⊎_elim (λ p. (let f : free_at v.tiers j ≡ free_at v.tiers k = ap (free_at v.tiers) p.0 in let g = p.1 in omega (arith, length-append (tier_at v.tiers k).starts (length v.slots ∷ [])))) (λ p. (let g = p.1 in omega arith)) (free_set v.tiers k j (new_tier v k) inside);
     longer = omega (arith, length-append v.slots (replicate (tier_at v.tiers k).size vacant));
+    within = λ h. omega (arith, fits, length-append v.slots (replicate (tier_at v.tiers k).size vacant), length-replicate (tier_at v.tiers k).size vacant);
   })
     where
       new_tier : Store S → ℕ → Tier
@@ -204,13 +206,13 @@ module _ {S : Type 0} where
 
 module _ {S : Type 0} where
   pub Keeps-spends : (v w : Store S) (o : Option ℕ) → Spends v w o → Keeps v w
-  Keeps-spends v w o s = record { first_is = s.room.1; limit_is = s.room.2; sizes = s.sizes; before = s.before; longer = (let e = s.room.0 in omega arith) }
+  Keeps-spends v w o s = record { first_is = s.room.1; limit_is = s.room.2; sizes = s.sizes; before = s.before; longer = (let e = s.room.0 in omega arith); within = λ h. (let e = s.room.0 in let l = s.room.2 in omega (arith, e, l, h)) }
 
   pub Keeps-prepared : (v w : Store S) → v.first ≤ length v.slots → Prepared v w → Keeps v w
-  Keeps-prepared v w low p = record { first_is = p.first_is; limit_is = p.limit_is; sizes = p.sizes; before = λ i d h. p.kept i d (omega arith); longer = p.longer }
+  Keeps-prepared v w low p = record { first_is = p.first_is; limit_is = p.limit_is; sizes = p.sizes; before = λ i d h. p.kept i d (omega arith); longer = p.longer; within = p.within }
 
   pub Keeps-then : (v w x : Store S) → Keeps v w → Keeps w x → Keeps v x
-  Keeps-then v w x a b = record { first_is = b.first_is ∙ a.first_is; limit_is = b.limit_is ∙ a.limit_is; sizes = b.sizes ∙ a.sizes; before = λ i d h. b.before i d (let e = a.first_is in omega arith) ∙ a.before i d h; longer = (let p = a.longer in let q = b.longer in omega arith) }
+  Keeps-then v w x a b = record { first_is = b.first_is ∙ a.first_is; limit_is = b.limit_is ∙ a.limit_is; sizes = b.sizes ∙ a.sizes; before = λ i d h. b.before i d (let e = a.first_is in omega arith) ∙ a.before i d h; longer = (let p = a.longer in let q = b.longer in omega arith); within = λ h. b.within (a.within h) }
 
   pub Keeps-same : (v w : Store S) → w ≡ v → Keeps v w
   Keeps-same v w e = Keeps-spends v w None (Spends-same v w e)

@@ -231,7 +231,7 @@ pub record CutShort {S : Type 0} (v w : Store S) (lacking : ℕ → ℕ) : Type 
   pub fewer : (j : ℕ) → made j + many_at short 1 j ≤ lacking j
   pub turnover : Turnover v w made none_at none_at
 
--- free blocks were made, and nothing else
+-- free blocks were made, and nothing else; where the limit held it holds
 pub record Prepared {S : Type 0} (v w : Store S) : Type 0 where
   pub first_is : w.first ≡ v.first
   pub limit_is : w.limit ≡ v.limit
@@ -239,6 +239,7 @@ pub record Prepared {S : Type 0} (v w : Store S) : Type 0 where
   pub kept : (i : ℕ) (d : S) → i < length v.slots → slice_index_or w.slots i d ≡ slice_index_or v.slots i d
   pub free : (j : ℕ) → free_at v.tiers j ≤ free_at w.tiers j
   pub longer : length v.slots ≤ length w.slots
+  pub within : length v.slots ≤ v.limit → length w.slots ≤ w.limit
 
 -- there is room for one more in a list, and for so many lists of one item
 pub record Enough (ts : List Tier) (k count lists : ℕ) : Type 0 where
@@ -246,10 +247,12 @@ pub record Enough (ts : List Tier) (k count lists : ℕ) : Type 0 where
   pub singles : lists ≤ free_at ts 0
   pub both : tier_lacking ts k count ≡ Some 0 → lists + 1 ≤ free_at ts 0
 
--- the first block starts where it did, the sizes are the same, and nothing before the first block was written
+-- the first block starts where it did, the sizes are the same, nothing before the first block was written, and where the limit
+-- held it holds
 pub record Keeps {S : Type 0} (v w : Store S) : Type 0 where
   pub first_is : w.first ≡ v.first
   pub limit_is : w.limit ≡ v.limit
   pub sizes : tier_sizes w.tiers ≡ tier_sizes v.tiers
   pub before : SameBefore v w
   pub longer : length v.slots ≤ length w.slots
+  pub within : length v.slots ≤ v.limit → length w.slots ≤ w.limit

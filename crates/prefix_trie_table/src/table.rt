@@ -194,6 +194,8 @@ impl<T: Drop, A: Allocator, V: Tick> Table<T, A, V> {
             × (self.new.room.node_slots ≤ self.old.room.node_slots + 56)
             × (self.old.room.cell_slots ≤ self.new.room.cell_slots)
             × (self.new.room.cell_slots ≤ self.old.room.cell_slots + 31) }
+        ensures limit { (self.new.room.node_slots ≤ self.new.room.limit)
+            × (self.new.room.cell_slots ≤ self.new.room.limit) }
     {
         insert_entry(
             &mut self.nodes,
@@ -222,6 +224,8 @@ impl<T: Drop, A: Allocator, V: Tick> Table<T, A, V> {
             × (self.new.room.node_slots ≤ self.old.room.node_slots + 24)
             × (self.old.room.cell_slots ≤ self.new.room.cell_slots)
             × (self.new.room.cell_slots ≤ self.old.room.cell_slots + 24) }
+        ensures limit { (self.new.room.node_slots ≤ self.new.room.limit)
+            × (self.new.room.cell_slots ≤ self.new.room.limit) }
     {
         remove_entry(
             &mut self.nodes,
@@ -246,6 +250,8 @@ impl<T: Drop, A: Allocator, V: Tick> Table<T, A, V> {
             × (self.new.room.node_slots ≡ self.old.room.node_slots)
             × (self.old.room.cell_slots ≤ self.new.room.cell_slots)
             × (self.new.room.cell_slots ≤ self.old.room.cell_slots + 24) }
+        ensures limit { (self.new.room.node_slots ≤ self.new.room.limit)
+            × (self.new.room.cell_slots ≤ self.new.room.limit) }
     {
         remove_value(
             &mut self.nodes,

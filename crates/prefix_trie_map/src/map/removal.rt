@@ -28,6 +28,7 @@ impl<P: Prefix, T: Drop, A: Allocator> PrefixMap<P, T, A> {
         ensures limit { self.new.room.limit ≡ self.old.room.limit }
         ensures node_slots { (self.old.room.node_slots ≤ self.new.room.node_slots) × (self.new.room.node_slots ≤ self.old.room.node_slots + 24) }
         ensures cell_slots { (self.old.room.cell_slots ≤ self.new.room.cell_slots) × (self.new.room.cell_slots ≤ self.old.room.cell_slots + 24) }
+        ensures within { (self.new.room.node_slots ≤ self.new.room.limit) × (self.new.room.cell_slots ≤ self.new.room.limit) }
 
         // It is one step of the model.
         ensures step { Step P.path P.back P.R.bit_width (state self.old) (Remove prefix.now) (Value result) (state self.new) }
@@ -48,6 +49,7 @@ impl<P: Prefix, T: Drop, A: Allocator> PrefixMap<P, T, A> {
         ensures limit { self.new.room.limit ≡ self.old.room.limit }
         ensures node_slots { self.new.room.node_slots ≡ self.old.room.node_slots }
         ensures cell_slots { (self.old.room.cell_slots ≤ self.new.room.cell_slots) × (self.new.room.cell_slots ≤ self.old.room.cell_slots + 24) }
+        ensures within { (self.new.room.node_slots ≤ self.new.room.limit) × (self.new.room.cell_slots ≤ self.new.room.limit) }
 
         // It is one step of the model.
         ensures step { Step P.path P.back P.R.bit_width (state self.old) (RemoveKeepTree prefix.now) (Value result) (state self.new) }

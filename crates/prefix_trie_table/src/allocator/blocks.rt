@@ -278,6 +278,7 @@ impl<S: Slot, A: Allocator> Blocks<S, A> {
         requires { k < length self.old.tiers }
         ensures made { OnOk result (self.new ≡ grown S.vacant self.old k) }
         ensures err { OnErr result (self.new ≡ self.old) }
+        ensures within { OnOk result (length self.old.slots + (tier_at self.old.tiers k).size ≤ self.old.limit) }
         ensures range { IfErr result
             (λ e. (e ≡ IndexRange) ↔ (self.old.limit < length self.old.slots + (tier_at self.old.tiers k).size)) }
         ensures free { OnOk result (length (tier_at self.new.tiers k).starts ≡ length (tier_at self.old.tiers k).starts + 1) }

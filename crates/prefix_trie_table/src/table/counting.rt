@@ -1,5 +1,5 @@
-//! Counting the nodes.
-ghost use Rattle.std.specs.Prelude.{◌≡◌, ℕ, ◌+◌, List, Option, length};
+//! Counting the nodes and the slots.
+ghost use Rattle.std.specs.Prelude.{◌≡◌, ℕ, ◌+◌, ◌≤◌, List, Option, length};
 ghost use Rattle.std.specs.FinMap.{len};
 ghost use Rattle.prefix_trie_table.specs.declared.allocator.node.Node.{Node};
 ghost use Rattle.prefix_trie_table.specs.Cells.{node_sizes};
@@ -19,6 +19,24 @@ impl<T: Drop, A: Allocator, V: Tick> Table<T, A, V> {
         ensures visits { V.count counter.new ≡ V.count counter.old + self.now.room.node_slots }
     {
         nodes_in(&self.nodes, counter)
+    }
+
+    /// How many slots the array of nodes has. Never more than the limit.
+    #[inline]
+    pub fn node_slots(&self) -> usize
+        ensures slots { result ≡ self.now.room.node_slots }
+        ensures within { result ≤ self.now.room.limit }
+    {
+        self.nodes.len()
+    }
+
+    /// How many slots the array of values has. Never more than the limit.
+    #[inline]
+    pub fn cell_slots(&self) -> usize
+        ensures slots { result ≡ self.now.room.cell_slots }
+        ensures within { result ≤ self.now.room.limit }
+    {
+        self.cells.len()
     }
 }
 

@@ -1,7 +1,7 @@
-use Rattle.std.proofs.Common.{ap, sym, subst}
+use Rattle.std.proofs.Common.{ap, sym, subst, arith}
 use Rattle.prefix_trie_bits.specs.Model.Step.{State}
 use Rattle.prefix_trie_table.specs.Tables.{IsTableOf}
-use Rattle.prefix_trie_table.proofs.Clearing.{under_limit}
+use Rattle.prefix_trie_table.proofs.Clearing.{under_limit, root_slot}
 use Rattle.prefix_trie_table.proofs.Shapes.{root_shape, new_shape, new_only, new_table}
 use Rattle.prefix_trie_table.proofs.table.Table.clear.Goals as goal
 
@@ -19,7 +19,8 @@ pub invariant_of-self : goal.invariant_of-self
 invariant_of-self g c =
     subst (λ n. IsTableOf c.clear_entries.new.nodes c.clear_entries.new.cells n c.self-1.given.0.0) (sym c.clear_entries.ensures.none)
     (new_table c.clear_entries.new.nodes c.clear_entries.new.cells c.self.inside.nodes.limit c.clear_entries.ensures.nodes
-    c.clear_entries.ensures.nodes_sound (under_limit _ _ _ c.clear_entries.ensures.cells c.self.invariant.one_limit) c.clear_entries.ensures.cells_sound c.self-1.given.0)
+    c.clear_entries.ensures.nodes_sound (under_limit _ _ _ c.clear_entries.ensures.cells c.self.invariant.one_limit) c.clear_entries.ensures.cells_sound
+    (let r = root_slot c.self.inside.nodes c.self.inside.cells c.self.invariant.held.table in let h = c.self.invariant.nodes_within in omega (arith, r, h)) c.self-1.given.0)
 
 pub returns-clause-entries : goal.returns-clause-entries
 returns-clause-entries g c =

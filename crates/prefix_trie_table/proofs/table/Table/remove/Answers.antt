@@ -32,8 +32,8 @@ invariant_of-self g c =
     c.remove_entry.ensures.removed) refl c.remove_entry.ensures.counted
     (counted_removed q c.self.inside.nodes c.remove_entry.new.nodes c.self.inside.cells c.remove_entry.new.cells c.self.inside.count
     c.remove_entry.new.entries c.self.inside.shape c.self.invariant c.remove_entry.result c.remove_entry.ensures.value
-    c.remove_entry.ensures.removed c.remove_entry.ensures.counted) c.remove_entry.ensures.node_room.limit_is c.remove_entry.ensures.cell_room.limit_is
-    c.remove_entry.ensures.cell_room.first_is c.self-1.given.0
+    c.remove_entry.ensures.removed c.remove_entry.ensures.counted) c.remove_entry.ensures.node_room c.remove_entry.ensures.cell_room
+    c.self-1.given.0
 
 pub returns-clause-value : goal.returns-clause-value
 returns-clause-value g c =

@@ -3,6 +3,7 @@ use Rattle.std.specs.FinMap.{get}
 use Rattle.prefix_trie_bits.specs.Model.Entries.{without_entry}
 use Rattle.prefix_trie_bits.specs.Model.Step.{State}
 use Rattle.prefix_trie_table.proofs.Emptying.{removed_is, table_without, kept_shape, kept_only, counted_without}
+use Rattle.prefix_trie_table.proofs.Rooms.{Grows-none}
 use Rattle.prefix_trie_table.proofs.table.Table.remove_keep_tree.Goals as goal
 
 pub invariant_of-self-inside : goal.invariant_of-self-inside
@@ -27,8 +28,8 @@ invariant_of-self g c =
     c.remove_value.ensures.taken) refl c.remove_value.ensures.counted
     (counted_without q c.self.inside.nodes c.remove_value.new.nodes c.self.inside.cells c.remove_value.new.cells c.self.inside.count
     c.remove_value.new.entries c.self.inside.shape c.self.invariant c.remove_value.result c.remove_value.ensures.value
-    c.remove_value.ensures.taken c.remove_value.ensures.counted) c.remove_value.ensures.node_room.2 c.remove_value.ensures.cell_room.limit_is
-    c.remove_value.ensures.cell_room.first_is c.self-1.given.0
+    c.remove_value.ensures.taken c.remove_value.ensures.counted) (Grows-none _ _ 24 c.remove_value.ensures.node_room)
+    c.remove_value.ensures.cell_room c.self-1.given.0
 
 pub returns-clause-value : goal.returns-clause-value
 returns-clause-value g c =

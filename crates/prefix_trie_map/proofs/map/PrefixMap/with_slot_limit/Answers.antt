@@ -1,0 +1,12 @@
+use Rattle.std.proofs.Common.{sym, subst}
+use Rattle.prefix_trie_bits.specs.Model.Entries.{no_entries}
+use Rattle.prefix_trie_bits.specs.Laws.Steps.{IsMap}
+use Rattle.prefix_trie_map.proofs.Insertions.{IsMap-empty}
+use Rattle.prefix_trie_map.proofs.map.PrefixMap.with_slot_limit.Goals as goal
+
+pub invariant_of-result : goal.invariant_of-result
+invariant_of-result g c =
+    let width = g.P.R.Key.bit_width in
+    let made = c.in_ok-new.ensures in
+    subst (λ m. IsMap width (record { entries = m; nodes = c.in_ok-new.field-0.nodes })) (sym made.entries)
+    (subst (λ n. IsMap width (record { entries = no_entries {T = g.row.T.Denot}; nodes = n })) (sym made.nodes) (IsMap-empty width))
