@@ -2,3 +2,4 @@ pub mod Covers
 pub mod Insertions
 pub mod Lookups
 pub mod Refusals
+pub mod Removals

@@ -13,6 +13,7 @@ ghost use Rattle.prefix_trie_bits.specs.Model.Step.{Step, Insert};
 ghost use Rattle.prefix_trie_map.specs.Steps.{state, inserted};
 
 mod lookup;
+mod removal;
 mod visits;
 
 use prefix_trie_bits::prefix::{Prefix, Refusal, Refused};

@@ -24,5 +24,9 @@ pub mod Adding
 pub mod Growing
 pub mod Inserting
 pub mod Rooms
+pub mod Clearing
+pub mod Bare
+pub mod Removing
+pub mod Emptying
 pub mod Matching
 pub mod Matched

@@ -9,15 +9,16 @@ use Rattle.prefix_trie_table.proofs.Turnovers.{slots_of-le}
 module _ {S : Type 0} where
   -- the same room is no growth
   pub Grows-none : (v w : Store S) (most : ℕ) → SameRoom v w → Grows v w most
-  Grows-none v w most room = record { limit_is = room.2; longer = (let e = room.0 in omega arith); at_most = (let e = room.0 in omega arith) }
+  Grows-none v w most room = record { first_is = room.1; limit_is = room.2; longer = (let e = room.0 in omega arith); at_most = (let e = room.0 in omega arith) }
 
   -- nor is the same array
   pub Grows-same : (v w : Store S) (most : ℕ) → w ≡ v → Grows v w most
-  Grows-same v w most e = subst (λ x. Grows v x most) (sym e) (record { limit_is = refl; longer = omega arith; at_most = omega arith })
+  Grows-same v w most e = subst (λ x. Grows v x most) (sym e) (record { first_is = refl; limit_is = refl; longer = omega arith; at_most = omega arith })
 
   -- nothing grows after
   pub Grows-then : (v w x : Store S) (most : ℕ) → Grows v w most → SameRoom w x → Grows v x most
   Grows-then v w x most g room = record {
+    first_is = room.1 ∙ g.first_is;
     limit_is = room.2 ∙ g.limit_is;
     longer = (let e = room.0 in let a = g.longer in omega arith);
     at_most = (let e = room.0 in let a = g.at_most in omega arith);
@@ -29,16 +30,18 @@ module _ {S : Type 0} where
 
   -- what a call leaves that made blocks, all or not
   pub Grows-made : {X E : Type 0} (r : Result X E) (v w : Store S) (lacking : ℕ → ℕ) (most : ℕ) → OnOk r (Turnover v w lacking none_at none_at) →
-      OnErr r (CutShort v w lacking) → slots_of (tier_sizes v.tiers) lacking ≤ most → Grows v w most
-  Grows-made (Ok x) v w lacking most done short bound = record {
+      OnErr r (CutShort v w lacking) → w.first ≡ v.first → slots_of (tier_sizes v.tiers) lacking ≤ most → Grows v w most
+  Grows-made (Ok x) v w lacking most done short first bound = record {
+    first_is = first;
     limit_is = done.limit_is;
     longer = (let e = done.longer in omega arith);
     at_most = (let e = done.longer in omega arith);
   }
-  Grows-made (Err x) v w lacking most done short bound =
+  Grows-made (Err x) v w lacking most done short first bound =
       let t = short.turnover in
       let less = slots_of-le (tier_sizes v.tiers) short.made lacking (λ j. (let h = short.fewer j in omega arith)) in
       record {
+        first_is = first;
         limit_is = t.limit_is;
         longer = (let e = t.longer in omega arith);
         at_most = (let e = t.longer in omega arith);

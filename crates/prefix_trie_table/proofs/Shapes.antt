@@ -204,6 +204,7 @@ module _ {T : Type 0} (v : Store Node) (w : Store (Option T)) (limit : ℕ)
       counted = sym root_counted;
     };
     sized = sym (ap (λ (x : State T). len x.entries) (new_only s) ∙ len-empty _ T);
+    cells_first = ap (λ (x : Store (Option T)). x.first) w_is;
     one_limit = ap (λ (x : Store (Option T)). x.limit) w_is ∙ sym (ap (λ (x : Store Node). x.limit) v_is);
   }
 
@@ -291,6 +292,7 @@ module _ {T : Type 0} (key : List Bool) (x : T) (v v2 : Store Node) (w w2 : Stor
     table_left r left counts nodes cells t = record {
       held = counted_left r left counts;
       sized = sized_left r left counts ∙ ap (λ (y : State T). len y.entries) (sym (left_only r left t));
+      cells_first = cells.first_is ∙ is.cells_first;
       one_limit = cells.limit_is ∙ is.one_limit ∙ sym nodes.limit_is;
     }
 

@@ -250,22 +250,3 @@ module _ {T : Type 0} where
   abbrev pub value_of : List (Option T) → Option Node → ℕ → Option T
   value_of cells None b = None
   value_of cells (Some n) b = value_in cells n b
-
--- the child c of the node at p, which had nothing, is gone
-pub record ChildGone {T : Type 0} (reading : List ℕ → Option Node) (paths : List (List ℕ)) (values : List ℕ → ℕ → Option T) (p : List ℕ) (c : ℕ)
-    (v : Store Node) (w : Store (Option T)) : Type 0 where
-  pub node : Node
-  pub holds : Holds (lacking_child reading p node c) values (without (p ++ c ∷ []) paths) v w
-
--- a node without values and children
-pub record IsBare (n : Node) : Type 0 where
-  pub no_children : (i : ℕ) → has_bit n.child_bitmap i ≡ false
-  pub no_values : (i : ℕ) → has_bit n.value_bitmap i ≡ false
-
--- the value at a bit of the node with a path was taken, and the nodes stay
-pub record EntryTaken {T : Type 0} (reading : List ℕ → Option Node) (values : List ℕ → ℕ → Option T) (path : List ℕ) (b : ℕ) (v : Store Node)
-    (w : Store (Option T)) : Type 0 where
-  pub later : List ℕ → Option Node
-  pub paths : List (List ℕ)
-  pub holds : Holds later (with_value values path b None) paths v w
-  pub same : (q : List ℕ) → is_some (later q) ≡ is_some (reading q)

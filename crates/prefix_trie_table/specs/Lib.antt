@@ -7,3 +7,4 @@ pub mod Forest
 pub mod Shape
 pub mod Tables
 pub mod Matching
+pub mod Removals

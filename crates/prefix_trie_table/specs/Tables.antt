@@ -14,10 +14,12 @@ pub record IsCounted {T : Type 0} (v : Store Node) (w : Store (Option T)) (count
   pub table : IsTable v w
   pub counted : count ≡ entry_count table.reading table.paths
 
--- the arrays hold a table with these entries and nodes, the count is that of the entries, and both arrays have one limit
+-- the arrays hold a table with these entries and nodes, the count is that of the entries, no cell stands outside the blocks,
+-- and both arrays have one limit
 pub record IsTableOf {T : Type 0} (v : Store Node) (w : Store (Option T)) (count : ℕ) (shape : State T) : Type 0 where
   pub held : IsCounted v w count
   pub sized : count ≡ len shape.entries
+  pub cells_first : w.first ≡ 0
   pub one_limit : w.limit ≡ v.limit
 
 -- the way of the first len bits of b was followed as far as nodes stand, to this node in this slot
@@ -35,8 +37,10 @@ pub record HasRoom {T : Type 0} (v : Store Node) (w : Store (Option T)) (node : 
   pub below : 5 * level + 5 ≤ len → IsReady w.tiers 0 0
   pub children : 5 * level + 5 ≤ len → Enough v.tiers node.child_tier (rank node.child_bitmap 32) (len / 5 - (level + 1))
 
--- an array is as long as it was or longer by so many slots at most, and its limit is the same
+-- an array is as long as it was or longer by so many slots at most, its first block starts where it did, and its limit is
+-- the same
 pub record Grows {S : Type 0} (v w : Store S) (most : ℕ) : Type 0 where
+  pub first_is : w.first ≡ v.first
   pub limit_is : w.limit ≡ v.limit
   pub longer : length v.slots ≤ length w.slots
   pub at_most : length w.slots ≤ length v.slots + most

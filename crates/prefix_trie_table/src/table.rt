@@ -6,13 +6,14 @@
 mod insertion;
 mod lookup;
 mod matching;
+mod removal;
 #[cfg(test)]
 mod tests;
 
 ghost use Rattle.std.specs.Prelude.{◌≡◌, ℕ, ◌+◌, ◌≤◌, take, IfOk, OnOk, IfErr, OnErr, IsOk, IsErr, IsTrue, ◌↔◌, MatchOption, None, Some};
 ghost use Rattle.std.specs.Option.{option_copied};
 ghost use Rattle.std.specs.FinMap.{get, contains_key, len};
-ghost use Rattle.prefix_trie_bits.specs.Model.Entries.{no_entries, with_entry};
+ghost use Rattle.prefix_trie_bits.specs.Model.Entries.{no_entries, with_entry, without_entry};
 ghost use Rattle.prefix_trie_bits.specs.Model.Matches.{longest_match, shortest_match};
 ghost use Rattle.prefix_trie_bits.specs.Model.Nodes.{root_alone, with_needed};
 ghost use Rattle.prefix_trie_bits.specs.Model.Visits.{visits, visits_to_match};
@@ -25,6 +26,7 @@ use crate::allocator::nodes::{NodeAllocator, Tick};
 use crate::table::insertion::insert_entry;
 use crate::table::lookup::find_value;
 use crate::table::matching::{longest_on_way, shortest_on_way, value_of_match};
+use crate::table::removal::{clear_entries, remove_value};
 use prefix_trie_bits::prefix::{Key, Refusal, Refused};
 use std::alloc::Allocator;
 use std::marker::Model;
@@ -183,5 +185,39 @@ impl<T: Drop, A: Allocator, V: Tick> Table<T, A, V> {
             value,
             counter,
         )
+    }
+
+    /// Takes the value at a bit string out, if it is there, and keeps all nodes. Never refused: where its node's values fit
+    /// a smaller block they move there if one is free or can be made, and stay in the old one else.
+    pub fn remove_keep_tree<K: Key>(&mut self, key: K, len: u32, counter: &mut V) -> Option<T>
+        requires key { K.IsKey key }
+        requires within { len ≤ K.bit_width }
+        ensures value { result ≡ get self.old.entries (take len (K.bits key)) }
+        ensures entries { self.new.entries
+            ≡ without_entry self.old.entries (take len (K.bits key)) }
+        ensures nodes { self.new.nodes ≡ self.old.nodes }
+        ensures room { (self.new.room.limit ≡ self.old.room.limit)
+            × (self.new.room.node_slots ≡ self.old.room.node_slots)
+            × (self.old.room.cell_slots ≤ self.new.room.cell_slots)
+            × (self.new.room.cell_slots ≤ self.old.room.cell_slots + 24) }
+    {
+        remove_value(
+            &mut self.nodes,
+            &mut self.cells,
+            &mut self.count,
+            key,
+            len,
+            counter,
+        )
+    }
+
+    /// Takes all entries out, and all nodes but the root. It asks for no memory, and gives none back.
+    pub fn clear(&mut self)
+        ensures entries { self.new.entries ≡ no_entries }
+        ensures nodes { self.new.nodes ≡ root_alone }
+        ensures room { self.new.room
+            ≡ record { limit = self.old.room.limit; node_slots = 1; cell_slots = 0 } }
+    {
+        clear_entries(&mut self.nodes, &mut self.cells, &mut self.count);
     }
 }

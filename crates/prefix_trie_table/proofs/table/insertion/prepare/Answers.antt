@@ -74,7 +74,7 @@ returns-clause-room g c =
 
 pub returns-then-depth-len-clause-cell_room : goal.returns-then-depth-len-clause-cell_room
 returns-then-depth-len-clause-cell_room g c =
-    Grows-made c.prepare.result c.args.cells.now c.prepare.new.self _ 31 c.prepare.ensures.made c.prepare.ensures.short
+    Grows-made c.prepare.result c.args.cells.now c.prepare.new.self _ 31 c.prepare.ensures.made c.prepare.ensures.short c.prepare.ensures.prepared.first_is
     (cells_lacking c.args.cells.now.tiers c.args.reached.now.node.value_tier c.count.result c.requires.stands.cells.sizes_are
     c.prepare.ensures.bound)
 
@@ -100,7 +100,7 @@ returns-in_err-prepare-clause-range g c =
 
 pub returns-in_err-prepare-clause-cell_room : goal.returns-in_err-prepare-clause-cell_room
 returns-in_err-prepare-clause-cell_room g c =
-    Grows-made c.prepare-2.result c.args.cells.now c.prepare-2.new.self _ 31 c.prepare-2.ensures.made c.prepare-2.ensures.short
+    Grows-made c.prepare-2.result c.args.cells.now c.prepare-2.new.self _ 31 c.prepare-2.ensures.made c.prepare-2.ensures.short c.prepare-2.ensures.prepared.first_is
     (cells_lacking c.args.cells.now.tiers 0 0 c.requires.stands.cells.sizes_are c.prepare-2.ensures.bound)
 
 pub returns-clause-range : goal.returns-clause-range
@@ -113,11 +113,11 @@ returns-clause-range g c =
 
 pub returns-clause-node_room : goal.returns-clause-node_room
 returns-clause-node_room g c =
-    Grows-made c.prepare-3.result c.args.nodes.now c.prepare-3.new.self _ 56 c.prepare-3.ensures.made c.prepare-3.ensures.short
+    Grows-made c.prepare-3.result c.args.nodes.now c.prepare-3.new.self _ 56 c.prepare-3.ensures.made c.prepare-3.ensures.short c.prepare-3.ensures.prepared.first_is
     (nodes_lacking c.args.nodes.now.tiers c.args.reached.now.node.child_tier c.count-2.result (c.args.len / 5 - (c.args.reached.now.level + 1))
     c.requires.stands.hold.sizes_are c.prepare-3.ensures.bound (few_steps c.args.len c.args.reached.now.level c.requires.short))
 
 pub returns-clause-cell_room : goal.returns-clause-cell_room
 returns-clause-cell_room g c =
-    Grows-made c.prepare-2.result c.args.cells.now c.prepare-2.new.self _ 31 c.prepare-2.ensures.made c.prepare-2.ensures.short
+    Grows-made c.prepare-2.result c.args.cells.now c.prepare-2.new.self _ 31 c.prepare-2.ensures.made c.prepare-2.ensures.short c.prepare-2.ensures.prepared.first_is
     (cells_lacking c.args.cells.now.tiers 0 0 c.requires.stands.cells.sizes_are c.prepare-2.ensures.bound)

@@ -1,0 +1,47 @@
+//! Taking entries out.
+ghost use Rattle.std.specs.Prelude.{◌≡◌, ◌+◌, ◌≤◌};
+ghost use Rattle.std.specs.FinMap.{get};
+ghost use Rattle.prefix_trie_bits.specs.Model.Entries.{no_entries, without_entry};
+ghost use Rattle.prefix_trie_bits.specs.Model.Nodes.{root_alone};
+ghost use Rattle.prefix_trie_bits.specs.Model.Step.{Step, RemoveKeepTree, Clear, Done, Value};
+ghost use Rattle.prefix_trie_map.specs.Steps.{state};
+
+use crate::map::{PrefixMap, Visits};
+use prefix_trie_bits::prefix::{Key, Prefix};
+use std::alloc::Allocator;
+
+impl<P: Prefix, T: Drop, A: Allocator> PrefixMap<P, T, A> {
+    /// Takes the entry of a prefix out, and hands out its value. All nodes stay, those that have nothing left too. Never
+    /// refused.
+    #[inline]
+    pub fn remove_keep_tree(&mut self, prefix: &P) -> Option<T>
+        requires { P.IsFitting prefix.now }
+        ensures value { result ≡ get self.old.entries (P.path prefix.now) }
+        ensures entries { self.new.entries ≡ without_entry self.old.entries (P.path prefix.now) }
+        ensures nodes { self.new.nodes ≡ self.old.nodes }
+        ensures limit { self.new.room.limit ≡ self.old.room.limit }
+        ensures node_slots { self.new.room.node_slots ≡ self.old.room.node_slots }
+        ensures cell_slots { (self.old.room.cell_slots ≤ self.new.room.cell_slots) × (self.new.room.cell_slots ≤ self.old.room.cell_slots + 24) }
+
+        // It is one step of the model.
+        ensures step { Step P.path P.back P.R.bit_width (state self.old) (RemoveKeepTree prefix.now) (Value result) (state self.new) }
+    {
+        let key = prefix.repr();
+        let len = u32::from(prefix.prefix_len());
+        self.table.remove_keep_tree(key, len, &mut Visits::new())
+    }
+
+    /// Takes all entries out. It asks for no memory, and gives none back.
+    #[inline]
+    pub fn clear(&mut self)
+        ensures entries { self.new.entries ≡ no_entries }
+        ensures nodes { self.new.nodes ≡ root_alone }
+        ensures room { self.new.room
+            ≡ record { limit = self.old.room.limit; node_slots = 1; cell_slots = 0 } }
+
+        // It is one step of the model.
+        ensures step { Step P.path P.back P.R.bit_width (state self.old) Clear Done (state self.new) }
+    {
+        self.table.clear();
+    }
+}

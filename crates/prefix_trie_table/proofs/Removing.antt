@@ -1,0 +1,183 @@
+-- What the calls that take a value or a child out leave of the arrays.
+use Rattle.std.proofs.Common.{◌≡◌, ◌≢◌, ℕ, zero, suc, ◌+◌, ◌-◌, ◌*◌, ◌<◌, ◌≤◌, ◌⊎◌, inl, inr, ⊎_elim, Bool, true, false, cond, not, nat_le, nat_eq, List, [], ◌∷◌, ◌++◌, length, get_or, set, remove, map, flat_map, Option, None, Some, is_some, refl, sym, ap, ◌∙◌, subst, arith, lit≤}
+use Rattle.std.specs.List.{position}
+use Rattle.std.proofs.lemmas.List.{length-map}
+use Rattle.std.proofs.lemmas.List.Quantifiers.{position-Some}
+use Rattle.std.proofs.lemmas.Bool.{true≢false, cases_lt}
+use Rattle.std.proofs.lemmas.Bool.Decides.{nat_tests}
+use Rattle.prefix_trie_bits.specs.Places.{Sets}
+use Rattle.prefix_trie_table.specs.declared.allocator.node.Node.{Node}
+use Rattle.prefix_trie_table.specs.Bitmaps.{has_bit, bits, rank}
+use Rattle.prefix_trie_table.specs.Cells.{blank_node, node_at, node_sizes, cell_sizes}
+use Rattle.prefix_trie_table.specs.Store.{Store, Tier, Block, Sound, block, held, HasList, Keeps, Turnover, SameRoom, tier_at, tier_for, tier_sizes, size_in, free_at, slots_of, one_at, many_at, blocks_entered, tier_entered}
+use Rattle.prefix_trie_table.specs.Forest.{child_slot, without, child_items, child_blocks, IsSlot, NodesHold, CellsHold, Holds, value_blocks, with_node, with_value, lacking_child, has_child, node_or_blank, own_count}
+use Rattle.prefix_trie_table.specs.Removals.{Shrinks, SameChildren, ValueTaken}
+use Rattle.prefix_trie_table.specs.Tables.{Grows}
+use Rattle.prefix_trie_table.proofs.Bare.{cleared, was_set, others_stay, one_fewer}
+use Rattle.prefix_trie_table.proofs.BitLists.{rank-all}
+use Rattle.prefix_trie_table.proofs.Children.{child_removed, node_changed, number_or}
+use Rattle.prefix_trie_table.proofs.Soundness.{fits_block, tier_of_block}
+use Rattle.prefix_trie_table.proofs.Spending.{size_at, tier_for_sizes}
+use Rattle.prefix_trie_table.proofs.Trees.{own_first, slot_holds, held_some}
+use Rattle.prefix_trie_table.proofs.Turnovers.{many_here, slots_of-le, slots_of-none, slots_of-many}
+use Rattle.prefix_trie_table.proofs.Values.{values_first, value_removed, cells_lacking_child}
+
+-- ---- by how much an array grows where a list loses an item
+
+-- the sizes but the largest
+pub few_nodes : (to : ℕ) → to ≤ 5 → size_in node_sizes to ≤ 24
+few_nodes zero h = lit≤ tt
+few_nodes (suc zero) h = lit≤ tt
+few_nodes (suc (suc zero)) h = lit≤ tt
+few_nodes (suc (suc (suc zero))) h = lit≤ tt
+few_nodes (suc (suc (suc (suc zero)))) h = lit≤ tt
+few_nodes (suc (suc (suc (suc (suc zero))))) h = lit≤ tt
+few_nodes (suc (suc (suc (suc (suc (suc n)))))) h = absurd (omega (arith, h))
+
+pub few_cells : (to : ℕ) → to ≤ 5 → size_in cell_sizes to ≤ 24
+few_cells zero h = lit≤ tt
+few_cells (suc zero) h = lit≤ tt
+few_cells (suc (suc zero)) h = lit≤ tt
+few_cells (suc (suc (suc zero))) h = lit≤ tt
+few_cells (suc (suc (suc (suc zero)))) h = lit≤ tt
+few_cells (suc (suc (suc (suc (suc zero))))) h = lit≤ tt
+few_cells (suc (suc (suc (suc (suc (suc n)))))) h = absurd (omega (arith, h))
+
+le_true : (a b : ℕ) → a ≤ b → nat_le a b ≡ true
+le_true a b h = grind (arith, nat_tests)
+
+-- a size that holds one item less than a size does is no larger
+no_larger : (sizes : List ℕ) (k to count : ℕ) → count ≤ size_in sizes k → position (λ s. nat_le (count - 1) s) sizes ≡ Some to → to ≤ k
+no_larger sizes k to count fits is =
+    let first = position-Some (λ s. nat_le (count - 1) s) sizes to 0 is in
+    elim (cases_lt k to) as (λ _. to ≤ k) [
+      | inl less ↦ absurd (true≢false (sym (le_true (count - 1) (size_in sizes k) (omega (arith, fits))) ∙ first.2 k less))
+      | inr more ↦ omega arith
+    ]
+
+left_none : (k count to j : ℕ) → count ≤ 1 → one_at (tier_entered k count to) j ≡ 0
+left_none k count to j h = rw (le_true count 1 h) refl
+
+entered_none : (k count to j : ℕ) → 1 < count → to ≡ k → one_at (tier_entered k count to) j ≡ 0
+entered_none k count to j h e = grind (arith, nat_tests)
+
+entered_one : (k count to j : ℕ) → 1 < count → to ≢ k → one_at (tier_entered k count to) j ≡ many_at to 1 j
+entered_one k count to j h ne = grind (arith, nat_tests)
+
+module _ {S : Type 0} (vacant : S) (v w : Store S) (k start count to : ℕ) (took gave : ℕ → ℕ) (keeps : Keeps v w)
+    (turned : Turnover v w (blocks_entered v.tiers k count to) took gave) where
+  -- no block is made where the list is empty afterwards
+  pub same_room : count ≤ 1 → SameRoom v w
+  same_room h =
+      let none = slots_of-none (tier_sizes v.tiers) (blocks_entered v.tiers k count to) (λ j. (let e = left_none k count to j h in omega arith)) in
+      ((let l = turned.longer in omega arith), keeps.first_is, keeps.limit_is)
+
+  grows_by : slots_of (tier_sizes v.tiers) (blocks_entered v.tiers k count to) ≤ 24 → Grows v w 24
+  grows_by h = record {
+    first_is = keeps.first_is;
+    limit_is = keeps.limit_is;
+    longer = keeps.longer;
+    at_most = (let l = turned.longer in omega arith);
+  }
+
+  module _ (sizes : List ℕ) (sizes_are : tier_sizes v.tiers ≡ sizes) (seven : length sizes ≡ 7) (few : (j : ℕ) → j ≤ 5 → size_in sizes j ≤ 24)
+      (list : HasList vacant v k start count) (smallest : 1 < count → (to ≡ k) ⊎ (tier_for v.tiers (count - 1) ≡ Some to)) where
+    -- the tier of the list, and that its block holds it
+    list_fits : 0 < count → (k < 7) × (count ≤ size_in sizes k)
+    list_fits some =
+        let s : Sound vacant (block k start list.size list.items ∷ list.live) v =
+        subst (λ bs. Sound vacant (bs ++ list.live) v) (held_some k start list.size list.items (let e = list.is_count in omega arith)) list.sound in
+        let of = tier_of_block vacant (block k start list.size list.items) list.live v s in
+        let fits : length list.items ≤ list.size = fits_block vacant (block k start list.size list.items) list.live v s in
+        let tiers : length v.tiers ≡ 7 = sym (length-map v.tiers (λ t. t.size)) ∙ ap (λ (ns : List ℕ). length ns) sizes_are ∙ seven in
+        let size : list.size ≡ size_in sizes k = of.size_is ∙ size_at v.tiers k ∙ ap (λ ns. size_in ns k) sizes_are in
+        ((let x = of.within in omega arith), (let e = list.is_count in omega arith))
+
+    entered_few : 1 < count → to ≢ k → tier_for v.tiers (count - 1) ≡ Some to → slots_of (tier_sizes v.tiers) (blocks_entered v.tiers k count to) ≤ 24
+    entered_few more other is =
+        let at = list_fits (omega arith) in
+        let le : to ≤ k = no_larger sizes k to count at.1 (sym (tier_for_sizes v.tiers (count - 1) ∙ ap (λ ns. position (λ s. nat_le (count - 1) s) ns) sizes_are) ∙ is) in
+        let small : to ≤ 5 = below_six le at.0 other in
+        let less = slots_of-le (tier_sizes v.tiers) (blocks_entered v.tiers k count to) (many_at to 1)
+        (λ j. (let e = entered_one k count to j more other in omega arith)) in
+        let one : slots_of (tier_sizes v.tiers) (many_at to 1) ≡ size_in sizes to * 1 =
+        ap (λ ns. slots_of ns (many_at to 1)) sizes_are ∙ slots_of-many sizes to 1 (omega arith) in
+        let bound = few to small in
+        omega (arith, less, one, bound)
+      where
+        below_six : to ≤ k → k < 7 → to ≢ k → to ≤ 5
+        below_six le less ne = grind arith
+
+    -- a list that loses an item lets its array grow by 24 slots at most
+    pub grows_few : Grows v w 24
+    grows_few = elim (cases_lt 1 count) as (λ _. Grows v w 24) [
+      | inl more ↦ elim (number_or to k) as (λ _. Grows v w 24) [
+        | inl same ↦ grows_by (let n = slots_of-none (tier_sizes v.tiers) (blocks_entered v.tiers k count to)
+            (λ j. (let e = entered_none k count to j more same in omega arith)) in omega arith)
+        | inr other ↦ grows_by (entered_few more other (⊎_elim (λ (e : to ≡ k). absurd (other e)) (λ (e : tier_for v.tiers (count - 1) ≡ Some to). e) (smallest more)))
+      ]
+      | inr few_left ↦ grows_by (let n = slots_of-none (tier_sizes v.tiers) (blocks_entered v.tiers k count to)
+          (λ j. (let e = left_none k count to j (omega arith) in omega arith)) in omega arith)
+    ]
+
+-- ---- the reading of the arrays where a value is gone
+
+module _ {T : Type 0} where
+  -- the list without a value, and the node written with it, lack the value
+  pub values_taken : (v v2 : Store Node) (w u : Store (Option T)) (slot place b tier start bitmap : ℕ) (k m : Node)
+      → k ≡ node_at v.slots slot
+      → Sets bitmap b k.value_bitmap
+      → m ≡ record {
+        value_bitmap = bitmap;
+        child_bitmap = k.child_bitmap;
+        value_block = start;
+        child_block = k.child_block;
+        value_tier = tier;
+        child_tier = k.child_tier;
+      }
+      → Keeps w u
+      → ((n : ℕ) (xs : List (Option T)) (live : List (Block (Option T))) → Sound None (held k.value_tier k.value_block n xs ++ live) w →
+      length xs ≡ rank k.value_bitmap 32 → Sound None (held tier start (tier_at w.tiers tier).size (remove xs place) ++ live) u)
+      → place ≡ rank k.value_bitmap b → b < 31 → has_bit k.value_bitmap b ≡ true → v2 ≡ record v { slots = set v.slots slot m }
+      → Shrinks w.tiers k.value_tier (rank k.value_bitmap 32) tier
+      → (reading : List ℕ → Option Node) (paths : List (List ℕ)) (values : List ℕ → ℕ → Option T) (p : List ℕ) (n : Node) →
+      NodesHold node_sizes reading paths v → CellsHold cell_sizes reading values paths w → IsSlot reading p slot → reading p ≡ Some n
+      → ValueTaken reading paths values p b n m v2 w u
+  values_taken v v2 w u slot place b tier start bitmap k m read sets m_is keeps cut place_is small there v2_is shrinks reading paths values p n hold
+      cells stands is =
+      let at = slot_holds node_sizes reading paths v hold p slot n stands is in
+      let same : k ≡ n = read ∙ at.0 in
+      let here : reading p ≡ Some k = is ∙ ap Some (sym same) in
+      let size : (tier_at w.tiers tier).size ≡ size_in cell_sizes tier = size_at w.tiers tier ∙ ap (λ ns. size_in ns tier) cells.sizes_are in
+      let bits_are : m.value_bitmap ≡ bitmap = ap (λ (y : Node). y.value_bitmap) m_is in
+      let digit : b < 32 = omega arith in
+      let gone : has_bit m.value_bitmap b ≡ false = ap (λ y. has_bit y b) bits_are ∙ cleared bitmap k.value_bitmap b sets digit in
+      let stay : (i : ℕ) → i ≢ b → has_bit m.value_bitmap i ≡ has_bit k.value_bitmap i = λ i ne. ap (λ y. has_bit y i) bits_are
+      ∙ others_stay bitmap k.value_bitmap b sets digit i ne in
+      let live : List (Block (Option T)) = flat_map (value_blocks cell_sizes reading values) (without p paths) in
+      let left = cut (size_in cell_sizes k.value_tier) (map (values p) (bits k.value_bitmap)) live
+      (values_first cell_sizes node_sizes reading paths v hold values w cells p k here) (rank-all (values p) k.value_bitmap) in
+      let tier_is : m.value_tier ≡ tier = ap (λ (y : Node). y.value_tier) m_is in
+      let start_is : m.value_block ≡ start = ap (λ (y : Node). y.value_block) m_is in
+      let sound : Sound None (held m.value_tier m.value_block (size_in cell_sizes m.value_tier)
+      (remove (map (values p) (bits k.value_bitmap)) (rank k.value_bitmap b)) ++ live) u =
+      subst (λ (bs : List (Block (Option T))). Sound None (bs ++ live) u)
+      (λ i. held (sym tier_is i) (sym start_is i) ((size ∙ ap (size_in cell_sizes) (sym tier_is)) i)
+      (remove (map (values p) (bits k.value_bitmap)) (place_is i))) left in
+      record {
+        hold = subst (λ y. NodesHold node_sizes (with_node reading p m) paths y) (sym v2_is)
+            (node_changed node_sizes reading paths v hold p slot k m stands here (ap (λ (y : Node). y.child_bitmap) m_is)
+            (ap (λ (y : Node). y.child_block) m_is) (ap (λ (y : Node). y.child_tier) m_is));
+        cells = value_removed cell_sizes node_sizes reading paths v hold values w cells p k m b None here stay gone small u digit there refl
+            (keeps.sizes ∙ cells.sizes_are) sound;
+        fewer = (let f = one_fewer bitmap k.value_bitmap b sets digit in
+            let r : rank m.value_bitmap 32 ≡ rank bitmap 32 = ap (λ y. rank y 32) bits_are in
+            let o : rank k.value_bitmap 32 ≡ rank n.value_bitmap 32 = ap (λ (y : Node). rank y.value_bitmap 32) same in omega arith);
+        children = record {
+          bitmap = ap (λ (y : Node). y.child_bitmap) m_is ∙ ap (λ (y : Node). y.child_bitmap) same;
+          block = ap (λ (y : Node). y.child_block) m_is ∙ ap (λ (y : Node). y.child_block) same;
+          tier = ap (λ (y : Node). y.child_tier) m_is ∙ ap (λ (y : Node). y.child_tier) same;
+        };
+        shrinks = subst (λ t. Shrinks w.tiers n.value_tier (rank n.value_bitmap 32) t) (sym tier_is)
+            (subst (λ (y : Node). Shrinks w.tiers y.value_tier (rank y.value_bitmap 32) tier) same shrinks);
+      }

@@ -1,0 +1,56 @@
+use Rattle.std.proofs.Common.{◌≡◌, take, ap, sym, ◌∙◌, refl}
+use Rattle.std.specs.FinMap.{get}
+use Rattle.prefix_trie_bits.specs.Model.Entries.{without_entry}
+use Rattle.prefix_trie_bits.specs.Model.Step.{State}
+use Rattle.prefix_trie_table.proofs.Emptying.{removed_is, table_without, kept_shape, kept_only, counted_without}
+use Rattle.prefix_trie_table.proofs.table.Table.remove_keep_tree.Goals as goal
+
+pub invariant_of-self-inside : goal.invariant_of-self-inside
+invariant_of-self-inside g c =
+    let q = take c.args.len (g.K.Key.bits c.args.key) in (
+      (
+        record { entries = without_entry c.self.inside.shape.0.entries q; nodes = c.self.inside.shape.0.nodes },
+        kept_shape q c.self.inside.nodes c.remove_value.new.nodes c.self.inside.cells c.remove_value.new.cells c.self.inside.count
+            c.remove_value.new.entries c.self.inside.shape c.self.invariant c.remove_value.result c.remove_value.ensures.value
+            c.remove_value.ensures.taken,
+      ),
+      tt,
+    )
+
+pub invariant_of-self : goal.invariant_of-self
+invariant_of-self g c =
+    let q = take c.args.len (g.K.Key.bits c.args.key) in
+    table_without q c.self.inside.nodes c.remove_value.new.nodes c.self.inside.cells c.remove_value.new.cells c.self.inside.count
+    c.remove_value.new.entries c.self.inside.shape c.self.invariant c.remove_value.result c.remove_value.ensures.value
+    _ (kept_shape q c.self.inside.nodes c.remove_value.new.nodes c.self.inside.cells c.remove_value.new.cells c.self.inside.count
+    c.remove_value.new.entries c.self.inside.shape c.self.invariant c.remove_value.result c.remove_value.ensures.value
+    c.remove_value.ensures.taken) refl c.remove_value.ensures.counted
+    (counted_without q c.self.inside.nodes c.remove_value.new.nodes c.self.inside.cells c.remove_value.new.cells c.self.inside.count
+    c.remove_value.new.entries c.self.inside.shape c.self.invariant c.remove_value.result c.remove_value.ensures.value
+    c.remove_value.ensures.taken c.remove_value.ensures.counted) c.remove_value.ensures.node_room.2 c.remove_value.ensures.cell_room.limit_is
+    c.remove_value.ensures.cell_room.first_is c.self-1.given.0
+
+pub returns-clause-value : goal.returns-clause-value
+returns-clause-value g c =
+    let q = take c.args.len (g.K.Key.bits c.args.key) in
+    removed_is q c.self.inside.nodes c.remove_value.new.nodes c.self.inside.cells c.remove_value.new.cells c.self.inside.count
+    c.remove_value.new.entries c.self.inside.shape c.self.invariant c.remove_value.result c.remove_value.ensures.value
+    ∙ ap (λ s. get s.entries q) c.self.view_is
+
+pub returns-clause-entries : goal.returns-clause-entries
+returns-clause-entries g c =
+    let q = take c.args.len (g.K.Key.bits c.args.key) in
+    ap (λ (s : State g.row.T.Denot). s.entries)
+    (kept_only q c.self.inside.nodes c.remove_value.new.nodes c.self.inside.cells c.remove_value.new.cells c.self.inside.count
+    c.remove_value.new.entries c.self.inside.shape c.self.invariant c.remove_value.result c.remove_value.ensures.value
+    c.remove_value.ensures.taken c.self-1.given.0)
+    ∙ ap (λ s. without_entry s.entries q) c.self.view_is
+
+pub returns-clause-nodes : goal.returns-clause-nodes
+returns-clause-nodes g c =
+    let q = take c.args.len (g.K.Key.bits c.args.key) in
+    ap (λ (s : State g.row.T.Denot). s.nodes)
+    (kept_only q c.self.inside.nodes c.remove_value.new.nodes c.self.inside.cells c.remove_value.new.cells c.self.inside.count
+    c.remove_value.new.entries c.self.inside.shape c.self.invariant c.remove_value.result c.remove_value.ensures.value
+    c.remove_value.ensures.taken c.self-1.given.0)
+    ∙ ap (λ s. s.nodes) c.self.view_is

@@ -1,0 +1,84 @@
+use Rattle.std.proofs.Common.{◌≡◌, ◌+◌, ◌-◌, ◌/◌, true, is_some, sym, ap, ◌∙◌, arith}
+use Rattle.prefix_trie_table.specs.Bitmaps.{has_bit as is_set}
+use Rattle.prefix_trie_table.specs.Forest.{one_if}
+use Rattle.prefix_trie_table.proofs.Bits.{has_bit-is}
+use Rattle.prefix_trie_table.proofs.Emptying.{own_node, own_slot, none_there, none_taken, some_there, value_there, entry_taken}
+use Rattle.prefix_trie_table.proofs.table.removal.take_entry.Goals as goal
+
+pub returns-then-not-has_bit-clause-value : goal.returns-then-not-has_bit-clause-value
+returns-then-not-has_bit-clause-value g c = λ reading paths values holds.
+    sym (none_there (g.K.Key.bits c.args.key) c.args.len _ c.args.node c.args.nodes.now c.requires.reached c.value_bit_of-bit.result
+    c.value_bit_of-bit.ensures.value reading paths values c.args.cells.now holds
+    (has_bit-is c.args.node.value_bitmap c.value_bit_of-bit.result (omega (arith, c.value_bit_of-bit.ensures.small))
+    ∙ sym c.has_bit.ensures ∙ c.if-not-has_bit.true))
+
+pub returns-then-not-has_bit-clause-taken : goal.returns-then-not-has_bit-clause-taken
+returns-then-not-has_bit-clause-taken g c = λ reading paths values holds.
+    none_taken (g.K.Key.bits c.args.key) c.args.len _ c.args.node c.args.nodes.now c.requires.reached c.value_bit_of-bit.result
+    c.value_bit_of-bit.ensures.value reading paths values c.args.cells.now holds
+    (has_bit-is c.args.node.value_bitmap c.value_bit_of-bit.result (omega (arith, c.value_bit_of-bit.ensures.small))
+    ∙ sym c.has_bit.ensures ∙ c.if-not-has_bit.true)
+
+pub take_value-taken-requires-clause-there : goal.take_value-taken-requires-clause-there
+take_value-taken-requires-clause-there g c =
+    has_bit-is c.args.node.value_bitmap c.value_bit_of-bit.result (omega (arith, c.value_bit_of-bit.ensures.small))
+    ∙ sym c.has_bit.ensures ∙ c.if-not-has_bit.false
+
+pub overflow_sub-entries : goal.overflow_sub-entries
+overflow_sub-entries g c =
+    let t = c.requires.table.table in
+    let there : is_set c.args.node.value_bitmap c.value_bit_of-bit.result ≡ true =
+    has_bit-is c.args.node.value_bitmap c.value_bit_of-bit.result (omega (arith, c.value_bit_of-bit.ensures.small))
+    ∙ sym c.has_bit.ensures ∙ c.if-not-has_bit.false in
+    let own = own_node (g.K.Key.bits c.args.key) c.args.len _ c.args.node c.args.nodes.now c.requires.reached c.value_bit_of-bit.result
+    c.value_bit_of-bit.ensures.value t.reading t.paths t.values c.args.cells.now t.holds in
+    let slot = own_slot (g.K.Key.bits c.args.key) c.args.len _ c.args.node c.args.nodes.now c.requires.reached c.value_bit_of-bit.result
+    c.value_bit_of-bit.ensures.value t.reading t.paths t.values c.args.cells.now t.holds in
+    let some = some_there (g.K.Key.bits c.args.key) c.args.len _ c.args.node c.args.nodes.now c.requires.reached c.value_bit_of-bit.result
+    c.value_bit_of-bit.ensures.value t.reading t.paths t.values c.args.cells.now t.holds c.take_value-taken.result.0 c.take_value-taken.result.1
+    c.take_value-taken.new.nodes c.take_value-taken.new.cells there in
+    let a = entry_taken (g.K.Key.bits c.args.key) c.args.len _ c.args.node c.args.nodes.now c.requires.reached c.value_bit_of-bit.result
+    c.value_bit_of-bit.ensures.value t.reading t.paths t.values c.args.cells.now t.holds c.take_value-taken.result.0 c.take_value-taken.result.1
+    c.take_value-taken.new.nodes c.take_value-taken.new.cells there
+    (c.take_value-taken.ensures.taken t.reading t.paths t.values _ c.args.node t.holds.hold t.holds.cells slot own) in
+    omega (arith, a.0.counted, ap one_if some, c.requires.table.counted)
+
+pub returns-clause-value : goal.returns-clause-value
+returns-clause-value g c = λ reading paths values holds.
+    let there : is_set c.args.node.value_bitmap c.value_bit_of-bit.result ≡ true =
+    has_bit-is c.args.node.value_bitmap c.value_bit_of-bit.result (omega (arith, c.value_bit_of-bit.ensures.small))
+    ∙ sym c.has_bit.ensures ∙ c.if-not-has_bit.false in
+    let own = own_node (g.K.Key.bits c.args.key) c.args.len _ c.args.node c.args.nodes.now c.requires.reached c.value_bit_of-bit.result
+    c.value_bit_of-bit.ensures.value reading paths values c.args.cells.now holds in
+    let slot = own_slot (g.K.Key.bits c.args.key) c.args.len _ c.args.node c.args.nodes.now c.requires.reached c.value_bit_of-bit.result
+    c.value_bit_of-bit.ensures.value reading paths values c.args.cells.now holds in
+    value_there (g.K.Key.bits c.args.key) c.args.len _ c.args.node c.args.nodes.now c.requires.reached c.value_bit_of-bit.result
+    c.value_bit_of-bit.ensures.value reading paths values c.args.cells.now holds c.take_value-taken.result.0 c.take_value-taken.result.1
+    c.take_value-taken.new.nodes c.take_value-taken.new.cells there
+    (c.take_value-taken.ensures.value reading paths values _ c.args.node holds.hold holds.cells slot own)
+
+pub returns-clause-taken : goal.returns-clause-taken
+returns-clause-taken g c = λ reading paths values holds.
+    let there : is_set c.args.node.value_bitmap c.value_bit_of-bit.result ≡ true =
+    has_bit-is c.args.node.value_bitmap c.value_bit_of-bit.result (omega (arith, c.value_bit_of-bit.ensures.small))
+    ∙ sym c.has_bit.ensures ∙ c.if-not-has_bit.false in
+    let own = own_node (g.K.Key.bits c.args.key) c.args.len _ c.args.node c.args.nodes.now c.requires.reached c.value_bit_of-bit.result
+    c.value_bit_of-bit.ensures.value reading paths values c.args.cells.now holds in
+    let slot = own_slot (g.K.Key.bits c.args.key) c.args.len _ c.args.node c.args.nodes.now c.requires.reached c.value_bit_of-bit.result
+    c.value_bit_of-bit.ensures.value reading paths values c.args.cells.now holds in
+    entry_taken (g.K.Key.bits c.args.key) c.args.len _ c.args.node c.args.nodes.now c.requires.reached c.value_bit_of-bit.result
+    c.value_bit_of-bit.ensures.value reading paths values c.args.cells.now holds c.take_value-taken.result.0 c.take_value-taken.result.1
+    c.take_value-taken.new.nodes c.take_value-taken.new.cells there
+    (c.take_value-taken.ensures.taken reading paths values _ c.args.node holds.hold holds.cells slot own)
+
+pub returns-clause-counted : goal.returns-clause-counted
+returns-clause-counted g c =
+    let t = c.requires.table.table in
+    let there : is_set c.args.node.value_bitmap c.value_bit_of-bit.result ≡ true =
+    has_bit-is c.args.node.value_bitmap c.value_bit_of-bit.result (omega (arith, c.value_bit_of-bit.ensures.small))
+    ∙ sym c.has_bit.ensures ∙ c.if-not-has_bit.false in
+    let some = some_there (g.K.Key.bits c.args.key) c.args.len _ c.args.node c.args.nodes.now c.requires.reached c.value_bit_of-bit.result
+    c.value_bit_of-bit.ensures.value t.reading t.paths t.values c.args.cells.now t.holds c.take_value-taken.result.0 c.take_value-taken.result.1
+    c.take_value-taken.new.nodes c.take_value-taken.new.cells there in
+    let value = returns-clause-value g c t.reading t.paths t.values t.holds in
+    omega (arith, overflow_sub-entries g c, ap (λ o. one_if (is_some o)) value, ap one_if some)

@@ -1,0 +1,68 @@
+use Rattle.std.proofs.Common.{◌≡◌, ℕ, ◌+◌, ◌<◌, ◌≤◌, ◌⊎◌, Option, Some, None, get_or, length, map, sym, ap, ◌∙◌, refl, subst, arith}
+use Rattle.prefix_trie_table.specs.declared.allocator.node.Node.{Node}
+use Rattle.prefix_trie_table.specs.Bitmaps.{rank, bits}
+use Rattle.prefix_trie_table.specs.Cells.{node_sizes, cell_sizes}
+use Rattle.prefix_trie_table.specs.Removals.{Shrinks}
+use Rattle.prefix_trie_table.proofs.Bits.{has_bit-is, rank-ones}
+use Rattle.prefix_trie_table.proofs.BitLists.{rank-below, rank-all, map_get}
+use Rattle.prefix_trie_table.proofs.Adding.{at_is, at_values, has_values}
+use Rattle.prefix_trie_table.proofs.Trees.{slot_holds}
+use Rattle.prefix_trie_table.proofs.Values.{values_first}
+use Rattle.prefix_trie_table.proofs.Removing.{values_taken, grows_few, few_cells}
+use Rattle.prefix_trie_table.proofs.table.removal.take_value.Goals as goal
+
+pub remove_at-value-requires-clause-holds : goal.remove_at-value-requires-clause-holds
+remove_at-value-requires-clause-holds g c =
+    has_values c.args.nodes.now c.args.cells.now (c.args.at.start + c.args.at.place) c.args.node c.count.result c.requires.stands c.requires.node
+    (c.count.ensures ∙ sym (rank-ones c.args.node.value_bitmap 32 (omega arith)))
+
+pub remove_at-value-requires-clause-place : goal.remove_at-value-requires-clause-place
+remove_at-value-requires-clause-place g c =
+    omega (
+      arith,
+      rank-below c.args.node.value_bitmap c.args.bit (omega (arith, c.requires.bit)) c.requires.there,
+      rank-ones c.args.node.value_bitmap c.args.bit (omega (arith, c.requires.bit)),
+      rank-ones c.args.node.value_bitmap 32 (omega arith),
+      c.rank.ensures,
+      c.count.ensures,
+    )
+
+pub without_bit-requires-clause-set : goal.without_bit-requires-clause-set
+without_bit-requires-clause-set g c = sym (has_bit-is c.args.node.value_bitmap c.args.bit (omega (arith, c.requires.bit))) ∙ c.requires.there
+
+pub returns-clause-cell_room : goal.returns-clause-cell_room
+returns-clause-cell_room g c =
+    let list = has_values c.args.nodes.now c.args.cells.now (c.args.at.start + c.args.at.place) c.args.node c.count.result c.requires.stands
+    c.requires.node (c.count.ensures ∙ sym (rank-ones c.args.node.value_bitmap 32 (omega arith))) in
+    grows_few None c.args.cells.now c.remove_at-value.new.self c.args.node.value_tier c.args.node.value_block c.count.result
+    c.remove_at-value.result.1.tier _ _ c.remove_at-value.ensures.keeps c.remove_at-value.ensures.turnover cell_sizes
+    c.requires.stands.cells.sizes_are refl few_cells list c.remove_at-value.ensures.smallest
+
+pub returns-clause-value : goal.returns-clause-value
+returns-clause-value g c = λ reading paths values p n hold cells stands is.
+    let at = slot_holds node_sizes reading paths c.args.nodes.now hold p (c.args.at.start + c.args.at.place) n stands is in
+    let here = is ∙ ap Some (sym (c.requires.node ∙ at.0)) in
+    let same : c.count.result ≡ rank c.args.node.value_bitmap 32 = c.count.ensures ∙ sym (rank-ones c.args.node.value_bitmap 32 (omega arith)) in
+    let place : c.rank.result ≡ rank c.args.node.value_bitmap c.args.bit =
+    c.rank.ensures ∙ sym (rank-ones c.args.node.value_bitmap c.args.bit (omega (arith, c.requires.bit))) in
+    let got = map_get (values p) c.args.node.value_bitmap c.args.bit c.remove_at-value.result.0 (omega (arith, c.requires.bit)) c.requires.there in
+    c.remove_at-value.ensures.value _ (map (values p) (bits c.args.node.value_bitmap)) _
+    (values_first cell_sizes node_sizes reading paths c.args.nodes.now hold values c.args.cells.now cells p c.args.node here)
+    (rank-all (values p) c.args.node.value_bitmap ∙ sym same)
+    ∙ ap (λ i. get_or (map (values p) (bits c.args.node.value_bitmap)) i c.remove_at-value.result.0) place ∙ got.1
+
+pub returns-clause-taken : goal.returns-clause-taken
+returns-clause-taken g c = λ reading paths values p n hold cells stands is.
+    let same : c.count.result ≡ rank c.args.node.value_bitmap 32 = c.count.ensures ∙ sym (rank-ones c.args.node.value_bitmap 32 (omega arith)) in
+    values_taken c.args.nodes.now c.put.new.self c.args.cells.now c.remove_at-value.new.self (c.args.at.start + c.args.at.place) c.rank.result
+    c.args.bit c.remove_at-value.result.1.tier c.remove_at-value.result.1.start c.without_bit.result c.args.node _
+    c.requires.node c.without_bit.ensures.clears refl c.remove_at-value.ensures.keeps
+    (λ size xs live s count. c.remove_at-value.ensures.sound size xs live s (count ∙ sym same))
+    (c.rank.ensures ∙ sym (rank-ones c.args.node.value_bitmap c.args.bit (omega (arith, c.requires.bit)))) c.requires.bit c.requires.there
+    c.put.ensures.slots
+    (subst (λ n. Shrinks c.args.cells.now.tiers c.args.node.value_tier n c.remove_at-value.result.1.tier) same
+    (record {
+      gone = λ one. ap (λ r. r.tier) (c.remove_at-value.ensures.gone one);
+      smallest = c.remove_at-value.ensures.smallest;
+      smaller = c.remove_at-value.ensures.smaller;
+    })) reading paths values p n hold cells stands is

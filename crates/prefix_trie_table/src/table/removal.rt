@@ -1,0 +1,153 @@
+//! Taking values out.
+ghost use Rattle.std.specs.Prelude.{◌≡◌, ℕ, ◌+◌, ◌*◌, ◌/◌, ◌<◌, ◌≤◌, [], ◌∷◌, List, Option, Some, map, take, None, true, is_some};
+ghost use Rattle.prefix_trie_table.specs.declared.allocator.node.Node.{Node};
+ghost use Rattle.prefix_trie_table.specs.Bitmaps.{has_bit as is_set};
+ghost use Rattle.prefix_trie_table.specs.Cells.{blank_node, node_at, node_sizes, cell_sizes};
+ghost use Rattle.prefix_trie_table.specs.Digits.{path_of, bit_of};
+ghost use Rattle.prefix_trie_table.specs.Store.{Sound, SameRoom, no_blocks};
+ghost use Rattle.prefix_trie_table.specs.Forest.{IsSlot, NodesHold, CellsHold, IsTable, AtValues, one_if};
+ghost use Rattle.prefix_trie_table.specs.Removals.{ValueTaken, EntryTaken};
+ghost use Rattle.prefix_trie_table.specs.Tables.{IsReached, IsCounted, Grows, ForHeld, own_value};
+
+use crate::allocator::blocks::Blocks;
+use crate::allocator::node::{Node, NodeSlot};
+use crate::allocator::nodes::{NodeAllocator, Tick};
+use crate::table::lookup::descend;
+use prefix_trie_bits::node::{count, has_bit, rank, value_bit_of, without_bit};
+use prefix_trie_bits::prefix::Key;
+use std::alloc::Allocator;
+
+/// Takes all values out, and all nodes but the root.
+pub fn clear_entries<T: Drop, A: Allocator, V: Tick>(
+    nodes: &mut NodeAllocator<A, V>,
+    cells: &mut Blocks<Option<T>, A>,
+    entries: &mut usize,
+)
+    requires table { IsTable nodes.old cells.old }
+    requires first { cells.old.first ≡ 0 }
+    ensures nodes { nodes.new ≡ record {
+      slots = blank_node ∷ [];
+      first = 1;
+      tiers = map no_blocks node_sizes;
+      limit = nodes.old.limit;
+    } }
+    ensures nodes_sound { Sound blank_node [] nodes.new }
+    ensures cells { cells.new ≡ record {
+      slots = [];
+      first = 0;
+      tiers = map no_blocks cell_sizes;
+      limit = cells.old.limit;
+    } }
+    ensures cells_sound { Sound None [] cells.new }
+    ensures none { entries.new ≡ 0 }
+{
+    nodes.clear();
+    cells.clear();
+    *entries = 0;
+}
+
+/// Takes a value that is there out of the node in a slot, and answers it and what the node is then.
+fn take_value<T: Drop, A: Allocator, V: Tick>(
+    nodes: &mut NodeAllocator<A, V>,
+    cells: &mut Blocks<Option<T>, A>,
+    at: NodeSlot,
+    node: Node,
+    bit: u32,
+) -> (Option<T>, Node)
+    requires bit { bit < 31 }
+    requires stands { AtValues nodes.old cells.old (at.start + at.place) }
+    requires node { node ≡ node_at nodes.old.slots (at.start + at.place) }
+    requires there { is_set node.value_bitmap bit ≡ true }
+    ensures node_room { SameRoom nodes.old nodes.new }
+    ensures cell_room { Grows cells.old cells.new 24 }
+    ensures value { (reading : List ℕ → Option Node) (paths : List (List ℕ))
+        (values : List ℕ → ℕ → Option T) (p : List ℕ) (n : Node)
+        → NodesHold node_sizes reading paths nodes.old
+        → CellsHold cell_sizes reading values paths cells.old
+        → IsSlot reading p (at.start + at.place) → reading p ≡ Some n
+        → result.0 ≡ values p bit }
+    ensures taken { (reading : List ℕ → Option Node) (paths : List (List ℕ))
+        (values : List ℕ → ℕ → Option T) (p : List ℕ) (n : Node)
+        → NodesHold node_sizes reading paths nodes.old
+        → CellsHold cell_sizes reading values paths cells.old
+        → IsSlot reading p (at.start + at.place) → reading p ≡ Some n
+        → ValueTaken reading paths values p bit n result.1 nodes.new cells.old cells.new }
+{
+    let (value, rest) = cells.remove_at(
+        node.value_tier as usize,
+        node.value_block,
+        count(node.value_bitmap),
+        rank(node.value_bitmap, bit),
+    );
+    let left = Node {
+        value_bitmap: without_bit(node.value_bitmap, bit),
+        child_bitmap: node.child_bitmap,
+        value_block: rest.start,
+        child_block: node.child_block,
+        value_tier: rest.tier as u8,
+        child_tier: node.child_tier,
+    };
+    nodes.put(at, left);
+    (value, left)
+}
+
+/// Takes the value at a bit string out of the string's own node, if it is there, and answers it and what the node is then.
+fn take_entry<K: Key, T: Drop, A: Allocator, V: Tick>(
+    nodes: &mut NodeAllocator<A, V>,
+    cells: &mut Blocks<Option<T>, A>,
+    entries: &mut usize,
+    key: K,
+    len: u32,
+    at: NodeSlot,
+    node: Node,
+) -> (Option<T>, Node)
+    requires key { K.IsKey key }
+    requires within { len ≤ K.bit_width }
+    requires reached { IsReached (K.bits key) len (len / 5) node (at.start + at.place) nodes.old }
+    requires table { IsCounted nodes.old cells.old entries.old }
+    ensures value { ForHeld nodes.old cells.old (λ reading paths values.
+        result.0 ≡ own_value values (K.bits key) len) }
+    ensures taken { ForHeld nodes.old cells.old (λ reading paths values.
+        (t : EntryTaken reading paths values (path_of (take len (K.bits key)))
+        (bit_of (take len (K.bits key))) nodes.new cells.old cells.new)
+        × (t.later (path_of (take len (K.bits key))) ≡ Some result.1)) }
+    ensures counted { entries.new + one_if (is_some result.0) ≡ entries.old }
+    ensures node_room { SameRoom nodes.old nodes.new }
+    ensures cell_room { Grows cells.old cells.new 24 }
+{
+    let bit = value_bit_of(key, len / 5 * 5, len);
+    if !has_bit(node.value_bitmap, bit) {
+        return (None, node);
+    }
+    let taken = take_value(nodes, cells, at, node, bit);
+    *entries -= 1;
+    taken
+}
+
+/// Takes the value at a bit string out, if it is there. All nodes stay.
+pub fn remove_value<K: Key, T: Drop, A: Allocator, V: Tick>(
+    nodes: &mut NodeAllocator<A, V>,
+    cells: &mut Blocks<Option<T>, A>,
+    entries: &mut usize,
+    key: K,
+    len: u32,
+    counter: &mut V,
+) -> Option<T>
+    requires key { K.IsKey key }
+    requires within { len ≤ K.bit_width }
+    requires table { IsCounted nodes.old cells.old entries.old }
+    ensures value { ForHeld nodes.old cells.old (λ reading paths values.
+        result ≡ own_value values (K.bits key) len) }
+    ensures taken { ForHeld nodes.old cells.old (λ reading paths values.
+        EntryTaken reading paths values (path_of (take len (K.bits key)))
+        (bit_of (take len (K.bits key))) nodes.new cells.old cells.new) }
+    ensures counted { entries.new + one_if (is_some result) ≡ entries.old }
+    ensures node_room { SameRoom nodes.old nodes.new }
+    ensures cell_room { Grows cells.old cells.new 24 }
+{
+    let reached = descend(nodes, key, len, counter);
+    if 5 * reached.level + 5 <= len {
+        return None;
+    }
+    take_entry(nodes, cells, entries, key, len, reached.at, reached.node).0
+}
