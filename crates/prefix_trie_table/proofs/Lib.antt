@@ -30,3 +30,7 @@ pub mod Removing
 pub mod Emptying
 pub mod Matching
 pub mod Matched
+pub mod Subtrees
+pub mod Spots
+pub mod Stacks
+pub mod Walking

@@ -8,3 +8,4 @@ pub mod Shape
 pub mod Tables
 pub mod Matching
 pub mod Removals
+pub mod Walks

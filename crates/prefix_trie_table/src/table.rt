@@ -7,15 +7,18 @@ mod insertion;
 mod lookup;
 mod matching;
 mod removal;
+pub mod spot;
 #[cfg(test)]
 mod tests;
+pub mod walk;
 
 ghost use Rattle.std.specs.Prelude.{◌≡◌, ℕ, ◌+◌, ◌≤◌, take, IfOk, OnOk, IfErr, OnErr, IsOk, IsErr, IsTrue, ◌↔◌, MatchOption, None, Some};
 ghost use Rattle.std.specs.Option.{option_copied};
 ghost use Rattle.std.specs.FinMap.{get, contains_key, len};
-ghost use Rattle.prefix_trie_bits.specs.Model.Entries.{no_entries, with_entry, without_entry};
+ghost use Rattle.prefix_trie_bits.specs.Model.Entries.{no_entries, with_entry, without_entry, AreWithin};
 ghost use Rattle.prefix_trie_bits.specs.Model.Matches.{longest_match, shortest_match};
-ghost use Rattle.prefix_trie_bits.specs.Model.Nodes.{root_alone, with_needed};
+ghost use Rattle.prefix_trie_bits.specs.Model.Nodes.{root_alone, with_needed, AreNodes};
+ghost use Rattle.prefix_trie_bits.specs.Model.Selections.{listing};
 ghost use Rattle.prefix_trie_bits.specs.Model.Visits.{visits, visits_to_match};
 ghost use Rattle.prefix_trie_bits.specs.Model.Room.{MayPassLimit};
 ghost use Rattle.prefix_trie_bits.specs.declared.prefix.Refusal.TheVariants.{IndexRange};
@@ -27,9 +30,11 @@ use crate::table::insertion::insert_entry;
 use crate::table::lookup::find_value;
 use crate::table::matching::{longest_on_way, shortest_on_way, value_of_match};
 use crate::table::removal::{clear_entries, remove_value};
+use crate::table::walk::walk_of;
 use prefix_trie_bits::prefix::{Key, Refusal, Refused};
 use std::alloc::Allocator;
 use std::marker::Model;
+pub use walk::Walk;
 
 /// Values by bit strings.
 #[derive(Drop)]
@@ -144,6 +149,15 @@ impl<T: Drop, A: Allocator, V: Tick> Table<T, A, V> {
             return None;
         };
         value_of_match(&self.cells, found)
+    }
+
+    /// All entries, in listing order. The root is read at once.
+    pub fn walk<K: Key>(&self, counter: &mut V) -> Walk<'_, K, T, A, V>
+        requires within { AreWithin K.bit_width self.now.entries }
+        requires nodes { AreNodes K.bit_width self.now.entries self.now.nodes }
+        ensures { result ≡ listing self.now.entries }
+    {
+        walk_of(&self.nodes, &self.cells, counter)
     }
 
     /// Sets the value at a bit string, and adds the nodes on its way that are missing. It asks for all room that it needs

@@ -1,0 +1,17 @@
+use Rattle.std.proofs.Common.{ap, ◌∙◌, arith}
+use Rattle.std.specs.List.{Contains}
+use Rattle.std.proofs.lemmas.List.Elements.{All-weaker, All-contains_itself}
+use Rattle.prefix_trie_bits.specs.Walks.{to_come}
+use Rattle.prefix_trie_table.specs.Bitmaps.{has_bit}
+use Rattle.prefix_trie_table.specs.Walks.{IsPlaceOf}
+use Rattle.prefix_trie_table.proofs.Matching.{clear-small}
+use Rattle.prefix_trie_table.proofs.table.spot.enter.Goals as goal
+
+pub new-places-requires : goal.new-places-requires
+new-places-requires g c =
+    clear-small c.visit-node.result.value_bitmap (omega arith) (ap (λ n. has_bit n.value_bitmap 31) c.visit-node.ensures.node ∙ c.requires.few)
+
+pub returns-clause-each : goal.returns-clause-each
+returns-clause-each g c =
+    All-weaker (Contains (to_come c.new-places.result)) (IsPlaceOf c.visit-node.result) (λ s h. (c.new-places.ensures.each s).0 h) (to_come c.new-places.result)
+    (All-contains_itself (to_come c.new-places.result))

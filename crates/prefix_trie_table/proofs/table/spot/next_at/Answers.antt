@@ -1,0 +1,94 @@
+use Rattle.std.proofs.Common.{◌≡◌, length, refl, sym, ap, ◌∙◌, subst, arith}
+use Rattle.prefix_trie_bits.specs.BitStrings.{length-digits}
+use Rattle.prefix_trie_table.proofs.Spots.{place-value, place-child, place-small, place-child-small, goes_on, lighter, value_room, gives_value, child_room, child_stands_at, child_without, child_spot, child_still, child_lighter}
+use Rattle.prefix_trie_table.proofs.table.spot.next_at.Goals as goal
+
+pub string_of-n-requires : goal.string_of-n-requires
+string_of-n-requires g c =
+    let taken = c.in-Some.ensures.place in
+    place-small taken.string c.in-Value.bit taken.short (sym c.in-Value.is ∙ taken.place)
+
+pub rank-requires : goal.rank-requires
+rank-requires g c =
+    let taken = c.in-Some.ensures.place in
+    let small = place-small taken.string c.in-Value.bit taken.short (sym c.in-Value.is ∙ taken.place) in omega (arith, small)
+
+pub extend-requires-clause-within : goal.extend-requires-clause-within
+extend-requires-clause-within g c =
+    let p = c.args.spot.now in
+    let at = c.requires.spot in
+    let long = g.met.K.Key.key_laws.bits_length p.key at.key in
+    let taken = c.in-Some.ensures.place in
+    let is = place-value taken.string c.in-Value.bit taken.short (sym c.in-Value.is ∙ taken.place) in
+    let room = value_room g.K.Key.IsKey g.K.Key.bits g.K.Key.bit_width c.args.nodes.now p at long taken.string c.next_place.new.self taken.first c.requires.tree.0 c.requires.tree.1 is.0 in
+    let n_is : length taken.string ≡ c.string_of-n.result.0 = ap length (c.string_of-n.ensures.only taken.string (sym is.1)) ∙ length-digits c.string_of-n.result.0 c.string_of-n.result.1 in
+    omega (arith, room, n_is)
+
+pub returns-in-Value : goal.returns-in-Value
+returns-in-Value g c =
+    λ t tree.
+    let p = c.args.spot.now in
+    let at = c.requires.spot in
+    let long = g.met.K.Key.key_laws.bits_length p.key at.key in
+    let taken = c.in-Some.ensures.place in
+    let is = place-value taken.string c.in-Value.bit taken.short (sym c.in-Value.is ∙ taken.place) in (
+      gives_value g.K.Key.IsKey g.K.Key.bits g.K.Key.bit_width c.args.nodes.now p at long taken.string c.next_place.new.self taken.first t tree is.0 c.extend.result c.extend.ensures.key c.string_of-n.result.0 c.string_of-n.result.1 (c.string_of-n.ensures.only taken.string (sym is.1)) c.extend.ensures.value c.in-Value.bit c.rank.result is.1 c.rank.ensures,
+      lighter g.K.Key.IsKey g.K.Key.bits g.K.Key.bit_width c.args.nodes.now p at long taken.string c.next_place.new.self taken.first,
+      goes_on g.K.Key.IsKey g.K.Key.bits g.K.Key.bit_width c.args.nodes.now p at long taken.string c.next_place.new.self taken.first,
+      refl,
+    )
+
+pub rank-requires-in-Child : goal.rank-requires-in-Child
+rank-requires-in-Child g c =
+    let taken = c.in-Some.ensures.place in
+    place-child-small taken.string c.in-Child.child taken.short (sym c.in-Child.is ∙ taken.place)
+
+pub extend-key-requires-clause-within : goal.extend-key-requires-clause-within
+extend-key-requires-clause-within g c =
+    let p = c.args.spot.now in
+    let at = c.requires.spot in
+    let long = g.met.K.Key.key_laws.bits_length p.key at.key in
+    let taken = c.in-Some.ensures.place in
+    let is = place-child taken.string c.in-Child.child taken.short (sym c.in-Child.is ∙ taken.place) in
+    child_room g.K.Key.IsKey g.K.Key.bits g.K.Key.bit_width c.args.nodes.now p at long taken.string c.next_place.new.self taken.first c.requires.tree.0 c.requires.tree.1 is.0
+
+pub extend-key-requires-clause-fits : goal.extend-key-requires-clause-fits
+extend-key-requires-clause-fits g c =
+    let taken = c.in-Some.ensures.place in
+    place-child-small taken.string c.in-Child.child taken.short (sym c.in-Child.is ∙ taken.place)
+
+pub enter-requires-clause-stands : goal.enter-requires-clause-stands
+enter-requires-clause-stands g c =
+    let p = c.args.spot.now in
+    let at = c.requires.spot in
+    let long = g.met.K.Key.key_laws.bits_length p.key at.key in
+    let taken = c.in-Some.ensures.place in
+    let is = place-child taken.string c.in-Child.child taken.short (sym c.in-Child.is ∙ taken.place) in
+    child_stands_at g.K.Key.IsKey g.K.Key.bits g.K.Key.bit_width c.args.nodes.now p at long taken.string c.next_place.new.self taken.first c.requires.tree.0 c.requires.tree.1 is.0 c.in-Child.child c.rank-in-Child.result is.1 c.rank-in-Child.ensures
+
+pub enter-requires-clause-few : goal.enter-requires-clause-few
+enter-requires-clause-few g c =
+    let p = c.args.spot.now in
+    let at = c.requires.spot in
+    let long = g.met.K.Key.key_laws.bits_length p.key at.key in
+    let taken = c.in-Some.ensures.place in
+    let is = place-child taken.string c.in-Child.child taken.short (sym c.in-Child.is ∙ taken.place) in
+    child_without g.K.Key.IsKey g.K.Key.bits g.K.Key.bit_width c.args.nodes.now p at long taken.string c.next_place.new.self taken.first c.requires.tree.0 c.requires.tree.1 is.0 c.in-Child.child c.rank-in-Child.result is.1 c.rank-in-Child.ensures
+
+pub returns-in-Child : goal.returns-in-Child
+returns-in-Child g c =
+    λ t tree.
+    let p = c.args.spot.now in
+    let at = c.requires.spot in
+    let long = g.met.K.Key.key_laws.bits_length p.key at.key in
+    let taken = c.in-Some.ensures.place in
+    let is = place-child taken.string c.in-Child.child taken.short (sym c.in-Child.is ∙ taken.place) in
+    let is_key = subst g.K.Key.IsKey (sym c.enter.ensures.key) c.extend-key.ensures.key in
+    let extended = ap g.K.Key.bits c.enter.ensures.key ∙ c.extend-key.ensures.value in (
+      child_still g.K.Key.IsKey g.K.Key.bits g.K.Key.bit_width c.args.nodes.now p at long taken.string c.next_place.new.self taken.first t tree is.0 c.in-Child.child c.rank-in-Child.result is.1 c.rank-in-Child.ensures c.enter.result is_key extended c.enter.ensures.depth c.enter.ensures.node c.enter.ensures.places c.enter.ensures.each,
+      child_lighter g.K.Key.IsKey g.K.Key.bits g.K.Key.bit_width c.args.nodes.now p at long taken.string c.next_place.new.self taken.first t tree is.0 c.in-Child.child c.rank-in-Child.result is.1 c.rank-in-Child.ensures c.enter.result is_key extended c.enter.ensures.depth c.enter.ensures.node c.enter.ensures.places c.enter.ensures.each g.met.K.Key.key_laws.at_most_128,
+      goes_on g.K.Key.IsKey g.K.Key.bits g.K.Key.bit_width c.args.nodes.now p at long taken.string c.next_place.new.self taken.first,
+      refl,
+      child_spot g.K.Key.IsKey g.K.Key.bits g.K.Key.bit_width c.args.nodes.now p at long taken.string c.next_place.new.self taken.first t tree is.0 c.in-Child.child c.rank-in-Child.result is.1 c.rank-in-Child.ensures c.enter.result is_key extended c.enter.ensures.depth c.enter.ensures.node c.enter.ensures.places c.enter.ensures.each,
+      c.enter.ensures.depth,
+    )

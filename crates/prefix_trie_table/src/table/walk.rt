@@ -1,0 +1,124 @@
+//! The walk that lends the values of a table, in listing order.
+ghost use Rattle.std.specs.Prelude.{◌≡◌, ◌<◌, [], MatchOption};
+ghost use Rattle.prefix_trie_bits.specs.Model.Selections.{listing};
+ghost use Rattle.prefix_trie_bits.specs.Model.Step.{State};
+ghost use Rattle.prefix_trie_table.specs.Shape.{IsShapeOf};
+ghost use Rattle.prefix_trie_table.specs.Walks.{Tree, IsTree, HasTree, IsStack, pending, GivesSeat, GivesEntry, ShapeOf, ShapeOf-prop};
+
+use crate::allocator::blocks::Blocks;
+use crate::allocator::node::NodeSlot;
+use crate::allocator::nodes::{NodeAllocator, Tick};
+use crate::table::spot::{Seat, Spot, Step, enter, next_at, value_at};
+use arrayvec::ArrayVec;
+use prefix_trie_bits::prefix::Key;
+use std::alloc::Allocator;
+use std::marker::Model;
+
+/// The entries of a table that are still to come, in listing order.
+#[derive(Drop)]
+pub struct Walk<'a, K: Key, T: Drop, A: Allocator, V: Tick> {
+    arrays: Option<(&'a NodeAllocator<A, V>, &'a Blocks<Option<T>, A>)>,
+    stack: ArrayVec<Spot<K>, 26>,
+    ghost shape: { ShapeOf arrays } by { ShapeOf-prop T.code arrays },
+}
+
+// Clauses see the pairs still to come.
+impl<'a, K: Key, T: Drop, A: Allocator, V: Tick> Model for Walk<'a, K, T, A, V> {
+    ghost use Rattle.std.specs.Prelude.{List, Bool};
+    ghost use Rattle.prefix_trie_table.specs.Walks.{rest_of_walk, IsWalk};
+
+    ghost Value = { List (List Bool × T) };
+
+    ghost view = { λ w. rest_of_walk K.bits w.arrays w.shape w.stack.items };
+
+    ghost invariant = { λ w. IsWalk K.IsKey K.bits K.bit_width w.arrays w.shape w.stack.items };
+}
+
+impl<'a, K: Key, T: Drop, A: Allocator, V: Tick> Walk<'a, K, T, A, V> {
+    /// Takes the next entry: its key, the key's length in bits, and its value. Each node that the walk comes to is read once.
+    #[inline]
+    pub fn next(&mut self, counter: &mut V) -> Option<(K, u32, &'a T)>
+        ensures { MatchOption result ((self.old ≡ []) × (self.new ≡ []))
+            (λ r. GivesEntry K.IsKey K.bits K.bit_width r.0 r.1 r.2.now self.old self.new) }
+    {
+        let Some((nodes, cells)) = self.arrays else {
+            return None;
+        };
+        let Some((key, len, seat)) = advance::<K, A, V, T>(nodes, &mut self.stack, counter) else {
+            return None;
+        };
+        Some((key, len, value_at(cells, seat)))
+    }
+
+    /// The same walk, at the same place. It takes no memory.
+    pub fn clone(&self) -> Self
+        ensures { result ≡ self.now }
+    {
+        let Ok(stack) = self.stack.clone() else {
+            unreachable!();
+        };
+        Walk {
+            arrays: self.arrays,
+            stack,
+        }
+    }
+}
+
+impl<'a, K: Key, T: Drop, A: Allocator, V: Tick> Default for Walk<'a, K, T, A, V> {
+    ghost is_default = { λ w. w ≡ [] };
+
+    /// The walk with nothing to come.
+    fn default() -> Self {
+        Walk {
+            arrays: None,
+            stack: ArrayVec::new(),
+        }
+    }
+}
+
+/// The walk of all entries that the arrays hold. The root is read.
+pub fn walk_of<'a, K: Key, T: Drop, A: Allocator, V: Tick>(
+    nodes: &'a NodeAllocator<A, V>,
+    cells: &'a Blocks<Option<T>, A>,
+    counter: &mut V,
+) -> Walk<'a, K, T, A, V>
+    requires { (s : State T) × IsTree K.bit_width nodes.now (record { cells = cells.now; shape = s }) }
+    ensures { (s : State T) → IsShapeOf nodes.now.slots cells.now.slots s → result ≡ listing s.entries }
+{
+    let mut stack = ArrayVec::new();
+    stack.push(enter(nodes, NodeSlot::ROOT, K::zero(), 0, counter));
+    Walk {
+        arrays: Some((nodes, cells)),
+        stack,
+    }
+}
+
+/// The next entry of a walk that stands at these spots, the last of which is the deepest.
+pub fn advance<K: Key, A: Allocator, V: Tick, T: Drop>(
+    nodes: &NodeAllocator<A, V>,
+    stack: &mut ArrayVec<Spot<K>, 26>,
+    counter: &mut V,
+) -> Option<(K, u32, Seat)>
+    requires tree { HasTree T K.bit_width nodes.now }
+    requires stack { IsStack K.IsKey K.bits K.bit_width nodes.now stack.old.items }
+    ensures stack { IsStack K.IsKey K.bits K.bit_width nodes.now stack.new.items }
+    ensures entry { (t : Tree T) → IsTree K.bit_width nodes.now t → MatchOption result
+        ((pending K.bits t.shape.entries stack.old.items ≡ []) × (pending K.bits t.shape.entries stack.new.items ≡ []))
+        (λ r. GivesSeat K.IsKey K.bits K.bit_width t r.0 r.1 r.2
+        (pending K.bits t.shape.entries stack.old.items) (pending K.bits t.shape.entries stack.new.items)) }
+{
+    while let Some(mut spot) = stack.pop() {
+        match next_at::<K, A, V, T>(nodes, &mut spot, counter) {
+            Step::Entry(key, len, seat) => {
+                stack.push(spot);
+                return Some((key, len, seat));
+            }
+            Step::Child(child) => {
+                stack.push(spot);
+                stack.push(child);
+            }
+            Step::Done => {}
+        }
+    }
+    None
+}
