@@ -1,7 +1,7 @@
 -- A table from which all was taken out.
-use Rattle.std.proofs.Common.{◌≡◌, ℕ, ◌<◌, List, [], ◌∷◌, length, map, Option, refl, sym, ap, ◌∙◌}
+use Rattle.std.proofs.Common.{◌≡◌, ℕ, ◌<◌, List, [], ◌∷◌, length, map, Option, refl, ap, ◌∙◌}
 use Rattle.prefix_trie_table.specs.declared.allocator.node.Node.{Node}
-use Rattle.prefix_trie_table.specs.Cells.{blank_node, node_sizes, cell_sizes}
+use Rattle.prefix_trie_table.specs.Cells.{node_sizes, cell_sizes}
 use Rattle.prefix_trie_table.specs.Store.{Store, Tier, no_blocks, tier_sizes}
 use Rattle.prefix_trie_table.specs.Forest.{IsTable, at_root}
 use Rattle.prefix_trie_table.proofs.Trees.{slot_holds}

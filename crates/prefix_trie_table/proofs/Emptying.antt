@@ -1,23 +1,22 @@
 -- An entry taken out, and what contracts see of it.
-use Rattle.std.proofs.Common.{◌≡◌, ◌≢◌, ℕ, ◌+◌, ◌-◌, ◌*◌, ◌/◌, ◌<◌, ◌≤◌, ◌⊎◌, inl, inr, Bool, true, false, cond, ◌&&◌, List, [], ◌∷◌, ◌++◌, length, take, drop, Option, None, Some, is_some, refl, sym, ap, ap₂, ◌∙◌, subst, arith}
+use Rattle.std.proofs.Common.{◌≡◌, ◌≢◌, ℕ, ◌+◌, ◌-◌, ◌*◌, ◌/◌, ◌<◌, ◌⊎◌, inl, inr, Bool, true, false, cond, ◌&&◌, List, [], ◌∷◌, ◌++◌, take, drop, Option, None, Some, is_some, refl, sym, ap, ap₂, ◌∙◌, subst, arith}
 use Rattle.std.proofs.lemmas.Bool.{false≢true}
 use Rattle.std.proofs.lemmas.List.{take_all}
-use Rattle.std.specs.FinMap.{get, contains_key, len, len-remove}
-use Rattle.prefix_trie_bits.specs.Order.{listing_total, same_string}
-use Rattle.prefix_trie_bits.specs.Model.Entries.{Entries, without_entry}
-use Rattle.prefix_trie_bits.specs.Model.Nodes.{has_node, is_node_depth}
+use Rattle.std.specs.FinMap.{get, len, len-remove}
+use Rattle.prefix_trie_bits.specs.Order.{listing_total}
+use Rattle.prefix_trie_bits.specs.Model.Entries.{without_entry}
+use Rattle.prefix_trie_bits.specs.Model.Nodes.{is_node_depth}
 use Rattle.prefix_trie_bits.specs.Model.Step.{State}
 use Rattle.prefix_trie_bits.proofs.Model.Members.{get-without_entry}
 use Rattle.prefix_trie_bits.specs.Places.{value_bit}
 use Rattle.prefix_trie_table.specs.declared.allocator.node.Node.{Node}
 use Rattle.prefix_trie_table.specs.Bitmaps.{has_bit, rank}
-use Rattle.prefix_trie_table.specs.Cells.{node_sizes, cell_sizes}
 use Rattle.prefix_trie_table.specs.Digits.{path_of, bit_of}
 use Rattle.prefix_trie_table.specs.Store.{Store}
-use Rattle.prefix_trie_table.specs.Forest.{same_path, one_if, Holds, IsSlot, at_root, at_child, child_slot, node_or_blank, own_count, entry_count, has_value, with_node, with_value}
+use Rattle.prefix_trie_table.specs.Forest.{one_if, Holds, IsSlot, at_root, at_child, child_slot, node_or_blank, own_count, has_value, with_node, with_value}
 use Rattle.prefix_trie_table.specs.Removals.{Shrinks, ValueTaken, EntryTaken}
 use Rattle.prefix_trie_table.specs.Shape.{IsShapeOf, Shaped, same_shape}
-use Rattle.prefix_trie_table.specs.Tables.{IsReached, IsTableOf, IsCounted, ForHeld, Grows}
+use Rattle.prefix_trie_table.specs.Tables.{IsReached, IsTableOf, IsCounted, ForHeld}
 use Rattle.prefix_trie_table.proofs.Children.{same_or, with_here, with_other}
 use Rattle.prefix_trie_table.proofs.EntryCounts.{count_with_node}
 use Rattle.prefix_trie_table.proofs.Finding.{reached_own}
@@ -62,6 +61,10 @@ module _ {T : Type 0} (reading : List ℕ → Option Node) (values : List ℕ �
           (λ i. values ((snoc_inj q path j b e).0 i) ((snoc_inj q path j b e).1 i)) ∙ none
           ∙ sym (ap (λ t. cond t None (values q j)) (same_path-equal (q ++ j ∷ []) (path ++ b ∷ []) e))
       unchanged q j (inr ne) = sym (ap (λ t. cond t None (values q j)) (same_path-not (q ++ j ∷ []) (path ++ b ∷ []) ne))
+
+  -- where the node is missing, there is no value
+  pub no_value : (path : List ℕ) (b : ℕ) → reading path ≡ None → values path b ≡ None
+  no_value path b none = is_none-None (values path b) (holds.cells.set_where path b ∙ ap (λ o. has_value o b) none)
 
   -- a value that its node has lost is taken
   pub value_taken : (path : List ℕ) (b : ℕ) (n m : Node) (v2 : Store Node) (w2 : Store (Option T)) → reading path ≡ Some n →

@@ -28,6 +28,10 @@ pub mod Clearing
 pub mod Bare
 pub mod Removing
 pub mod Emptying
+pub mod Ways
+pub mod Pruning
+pub mod Placing
+pub mod Removed
 pub mod Matching
 pub mod Matched
 pub mod Subtrees

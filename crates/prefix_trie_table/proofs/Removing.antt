@@ -1,7 +1,7 @@
 -- What the calls that take a value or a child out leave of the arrays.
-use Rattle.std.proofs.Common.{◌≡◌, ◌≢◌, ℕ, zero, suc, ◌+◌, ◌-◌, ◌*◌, ◌<◌, ◌≤◌, ◌⊎◌, inl, inr, ⊎_elim, Bool, true, false, cond, not, nat_le, nat_eq, List, [], ◌∷◌, ◌++◌, length, get_or, set, remove, map, flat_map, Option, None, Some, is_some, refl, sym, ap, ◌∙◌, subst, arith, lit≤}
+use Rattle.std.proofs.Common.{◌≡◌, ◌≢◌, ℕ, zero, suc, ◌-◌, ◌*◌, ◌<◌, ◌≤◌, ◌⊎◌, inl, inr, ⊎_elim, true, false, nat_le, List, [], ◌∷◌, ◌++◌, length, set, remove, map, flat_map, Option, None, Some, refl, sym, ap, ◌∙◌, subst, arith, lit≤}
 use Rattle.std.specs.List.{position}
-use Rattle.std.proofs.lemmas.List.{length-map}
+use Rattle.std.proofs.lemmas.List.{length-map, length-set}
 use Rattle.std.proofs.lemmas.List.Quantifiers.{position-Some}
 use Rattle.std.proofs.lemmas.Bool.{true≢false, cases_lt}
 use Rattle.std.proofs.lemmas.Bool.Decides.{nat_tests}
@@ -9,18 +9,18 @@ use Rattle.prefix_trie_bits.specs.Places.{Sets}
 use Rattle.prefix_trie_table.specs.declared.allocator.node.Node.{Node}
 use Rattle.prefix_trie_table.specs.Bitmaps.{has_bit, bits, rank}
 use Rattle.prefix_trie_table.specs.Cells.{blank_node, node_at, node_sizes, cell_sizes}
-use Rattle.prefix_trie_table.specs.Store.{Store, Tier, Block, Sound, block, held, HasList, Keeps, Turnover, SameRoom, tier_at, tier_for, tier_sizes, size_in, free_at, slots_of, one_at, many_at, blocks_entered, tier_entered}
-use Rattle.prefix_trie_table.specs.Forest.{child_slot, without, child_items, child_blocks, IsSlot, NodesHold, CellsHold, Holds, value_blocks, with_node, with_value, lacking_child, has_child, node_or_blank, own_count}
-use Rattle.prefix_trie_table.specs.Removals.{Shrinks, SameChildren, ValueTaken}
+use Rattle.prefix_trie_table.specs.Store.{Store, Block, Sound, block, held, HasList, Keeps, Turnover, SameRoom, tier_at, tier_for, tier_sizes, size_in, slots_of, one_at, many_at, blocks_entered, tier_entered}
+use Rattle.prefix_trie_table.specs.Forest.{without, child_items, child_blocks, IsSlot, NodesHold, CellsHold, value_blocks, with_node, lacking_child, node_or_blank}
+use Rattle.prefix_trie_table.specs.Removals.{Shrinks, ValueTaken, ChildDropped, GivesBack}
 use Rattle.prefix_trie_table.specs.Tables.{Grows}
-use Rattle.prefix_trie_table.proofs.Bare.{cleared, was_set, others_stay, one_fewer}
+use Rattle.prefix_trie_table.proofs.Bare.{no_bit, cleared, others_stay, one_fewer}
 use Rattle.prefix_trie_table.proofs.BitLists.{rank-all}
 use Rattle.prefix_trie_table.proofs.Children.{child_removed, node_changed, number_or}
 use Rattle.prefix_trie_table.proofs.Soundness.{fits_block, tier_of_block}
 use Rattle.prefix_trie_table.proofs.Spending.{size_at, tier_for_sizes}
 use Rattle.prefix_trie_table.proofs.Trees.{own_first, slot_holds, held_some}
-use Rattle.prefix_trie_table.proofs.Turnovers.{many_here, slots_of-le, slots_of-none, slots_of-many}
-use Rattle.prefix_trie_table.proofs.Values.{values_first, value_removed, cells_lacking_child}
+use Rattle.prefix_trie_table.proofs.Turnovers.{slots_of-le, slots_of-none, slots_of-many}
+use Rattle.prefix_trie_table.proofs.Values.{values_first, value_removed}
 
 -- ---- by how much an array grows where a list loses an item
 
@@ -64,7 +64,7 @@ entered_none k count to j h e = grind (arith, nat_tests)
 entered_one : (k count to j : ℕ) → 1 < count → to ≢ k → one_at (tier_entered k count to) j ≡ many_at to 1 j
 entered_one k count to j h ne = grind (arith, nat_tests)
 
-module _ {S : Type 0} (vacant : S) (v w : Store S) (k start count to : ℕ) (took gave : ℕ → ℕ) (keeps : Keeps v w)
+module _ {S : Type 0} (v w : Store S) (k count to : ℕ) (took gave : ℕ → ℕ) (keeps : Keeps v w)
     (turned : Turnover v w (blocks_entered v.tiers k count to) took gave) where
   -- no block is made where the list is empty afterwards
   pub same_room : count ≤ 1 → SameRoom v w
@@ -80,7 +80,7 @@ module _ {S : Type 0} (vacant : S) (v w : Store S) (k start count to : ℕ) (too
     at_most = (let l = turned.longer in omega arith);
   }
 
-  module _ (sizes : List ℕ) (sizes_are : tier_sizes v.tiers ≡ sizes) (seven : length sizes ≡ 7) (few : (j : ℕ) → j ≤ 5 → size_in sizes j ≤ 24)
+  module _ (vacant : S) (start : ℕ) (sizes : List ℕ) (sizes_are : tier_sizes v.tiers ≡ sizes) (seven : length sizes ≡ 7) (few : (j : ℕ) → j ≤ 5 → size_in sizes j ≤ 24)
       (list : HasList vacant v k start count) (smallest : 1 < count → (to ≡ k) ⊎ (tier_for v.tiers (count - 1) ≡ Some to)) where
     -- the tier of the list, and that its block holds it
     list_fits : 0 < count → (k < 7) × (count ≤ size_in sizes k)
@@ -181,3 +181,95 @@ module _ {T : Type 0} where
         shrinks = subst (λ t. Shrinks w.tiers n.value_tier (rank n.value_bitmap 32) t) (sym tier_is)
             (subst (λ (y : Node). Shrinks w.tiers y.value_tier (rank y.value_bitmap 32) tier) same shrinks);
       }
+
+-- ---- the reading of the arrays where a child is gone
+
+-- the list without a child that has no children, and the node written with it, lack the child
+pub children_dropped : (v u v2 : Store Node) (slot place c tier start bitmap : ℕ) (k m : Node)
+    → k ≡ node_at v.slots slot
+    → Sets bitmap c k.child_bitmap
+    → m ≡ record {
+      value_bitmap = k.value_bitmap;
+      child_bitmap = bitmap;
+      value_block = k.value_block;
+      child_block = start;
+      value_tier = k.value_tier;
+      child_tier = tier;
+    }
+    → Keeps v u
+    → ((n : ℕ) (xs : List Node) (live : List (Block Node)) → Sound blank_node (held k.child_tier k.child_block n xs ++ live) v →
+    length xs ≡ rank k.child_bitmap 32 → Sound blank_node (held tier start (tier_at v.tiers tier).size (remove xs place) ++ live) u)
+    → place ≡ rank k.child_bitmap c → c < 32 → v2 ≡ record u { slots = set u.slots slot m }
+    → Shrinks v.tiers k.child_tier (rank k.child_bitmap 32) tier
+    → (reading : List ℕ → Option Node) (paths : List (List ℕ)) (p : List ℕ) (n leaf : Node) →
+    NodesHold node_sizes reading paths v → IsSlot reading p slot → reading p ≡ Some n → reading (p ++ c ∷ []) ≡ Some leaf →
+    rank leaf.child_bitmap 32 ≡ 0
+    → ChildDropped reading paths p c n m v v2
+children_dropped v u v2 slot place c tier start bitmap k m read sets m_is keeps cut place_is digit v2_is shrinks reading paths p n leaf hold stands is
+    below bare =
+    let at = slot_holds node_sizes reading paths v hold p slot n stands is in
+    let same : k ≡ n = read ∙ at.0 in
+    let here : reading p ≡ Some k = is ∙ ap Some (sym same) in
+    let size : (tier_at v.tiers tier).size ≡ size_in node_sizes tier = size_at v.tiers tier ∙ ap (λ ns. size_in ns tier) hold.sizes_are in
+    let bits_are : m.child_bitmap ≡ bitmap = ap (λ (y : Node). y.child_bitmap) m_is in
+    let gone : has_bit m.child_bitmap c ≡ false = ap (λ y. has_bit y c) bits_are ∙ cleared bitmap k.child_bitmap c sets digit in
+    let stay : (i : ℕ) → i ≢ c → has_bit m.child_bitmap i ≡ has_bit k.child_bitmap i = λ i ne. ap (λ y. has_bit y i) bits_are
+    ∙ others_stay bitmap k.child_bitmap c sets digit i ne in
+    let live : List (Block Node) = flat_map (child_blocks node_sizes reading) (without p paths) in
+    let left = cut (size_in node_sizes k.child_tier) (child_items reading p k.child_bitmap) live
+    (own_first node_sizes reading paths v hold p k here) (rank-all (λ d. node_or_blank (reading (p ++ d ∷ []))) k.child_bitmap) in
+    let tier_is : m.child_tier ≡ tier = ap (λ (y : Node). y.child_tier) m_is in
+    let start_is : m.child_block ≡ start = ap (λ (y : Node). y.child_block) m_is in
+    let sound : Sound blank_node (held m.child_tier m.child_block (size_in node_sizes m.child_tier)
+    (remove (child_items reading p k.child_bitmap) (rank k.child_bitmap c)) ++ live) u =
+    subst (λ (bs : List (Block Node)). Sound blank_node (bs ++ live) u)
+    (λ i. held (sym tier_is i) (sym start_is i) ((size ∙ ap (size_in node_sizes) (sym tier_is)) i)
+    (remove (child_items reading p k.child_bitmap) (place_is i))) left in
+    record {
+      hold = subst (λ y. NodesHold node_sizes (lacking_child reading p m c) (without (p ++ c ∷ []) paths) y) (sym v2_is)
+          (child_removed node_sizes reading paths v hold p slot k m leaf c u stands here digit below (λ i. no_bit leaf.child_bitmap i bare) gone stay
+          (keeps.first_is ∙ hold.first_is) (keeps.sizes ∙ hold.sizes_are) (keeps.before 0 blank_node (let f = hold.first_is in omega arith)) sound);
+      values = record {
+        bitmap = ap (λ (y : Node). y.value_bitmap) m_is ∙ ap (λ (y : Node). y.value_bitmap) same;
+        block = ap (λ (y : Node). y.value_block) m_is ∙ ap (λ (y : Node). y.value_block) same;
+        tier = ap (λ (y : Node). y.value_tier) m_is ∙ ap (λ (y : Node). y.value_tier) same;
+      };
+      shrinks = subst (λ t. Shrinks v.tiers n.child_tier (rank n.child_bitmap 32) t) (sym tier_is)
+          (subst (λ (y : Node). Shrinks v.tiers y.child_tier (rank y.child_bitmap 32) tier) same shrinks);
+    }
+
+-- where the last child went, no block was made or taken
+pub gives_back : {S : Type 0} (v w : Store S) (k count to : ℕ) (gave : ℕ → ℕ) → Keeps v w
+    → Turnover v w (blocks_entered v.tiers k count to) (one_at (tier_entered k count to)) gave → count ≤ 1 → GivesBack v w
+gives_back v w k count to gave keeps turned few = record {
+  room = same_room v w k count to _ _ keeps turned few;
+  sizes = keeps.sizes;
+  free = λ j. (let f = turned.free_is j in let e = left_none k count to j few in omega arith);
+}
+
+-- a node written leaves the room and the free blocks
+pub gives_written : {S : Type 0} (v w x : Store S) (slot : ℕ) (m : S) → GivesBack v w → x ≡ record w { slots = set w.slots slot m } → GivesBack v x
+gives_written v w x slot m back e = subst (λ y. GivesBack v y) (sym e) (record {
+  room = (length-set w.slots slot m ∙ back.room.0, back.room.1, back.room.2);
+  sizes = back.sizes;
+  free = back.free;
+})
+
+pub grows_written : {S : Type 0} (v w x : Store S) (slot : ℕ) (m : S) (most : ℕ) → Grows v w most → x ≡ record w { slots = set w.slots slot m } → Grows v x most
+grows_written v w x slot m most grows e = subst (λ y. Grows v y most) (sym e) (record {
+  first_is = grows.first_is;
+  limit_is = grows.limit_is;
+  longer = (let l = length-set w.slots slot m in let h = grows.longer in omega arith);
+  at_most = (let l = length-set w.slots slot m in let h = grows.at_most in omega arith);
+})
+
+-- what is given back, and then more
+pub gives_same : {S : Type 0} (v : Store S) → GivesBack v v
+gives_same v = record { room = (refl, refl, refl); sizes = refl; free = λ j. omega arith }
+
+pub gives_then : {S : Type 0} (v w x : Store S) → GivesBack v w → GivesBack w x → GivesBack v x
+gives_then v w x a b = record {
+  room = (b.room.0 ∙ a.room.0, b.room.1 ∙ a.room.1, b.room.2 ∙ a.room.2);
+  sizes = b.sizes ∙ a.sizes;
+  free = λ j. (let f = a.free j in let h = b.free j in omega arith);
+}

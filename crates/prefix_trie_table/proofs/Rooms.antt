@@ -24,6 +24,15 @@ module _ {S : Type 0} where
     at_most = (let e = room.0 in let a = g.at_most in omega arith);
   }
 
+  -- nor does anything grow before
+  pub Grows-after : (v w x : Store S) (most : ℕ) → SameRoom v w → Grows w x most → Grows v x most
+  Grows-after v w x most room g = record {
+    first_is = g.first_is ∙ room.1;
+    limit_is = g.limit_is ∙ room.2;
+    longer = (let e = room.0 in let a = g.longer in omega arith);
+    at_most = (let e = room.0 in let a = g.at_most in omega arith);
+  }
+
   -- twice the same room
   pub SameRoom-then : (v w x : Store S) → SameRoom v w → SameRoom w x → SameRoom v x
   SameRoom-then v w x a b = (b.0 ∙ a.0, b.1 ∙ a.1, b.2 ∙ a.2)

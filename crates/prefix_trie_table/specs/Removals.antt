@@ -1,10 +1,11 @@
 -- What the calls that take values out leave, by path.
-use Rattle.std.specs.Prelude.{◌≡◌, ◌≢◌, ℕ, ◌+◌, ◌-◌, ◌<◌, ◌⊎◌, Bool, true, List, Option, None, Some, is_some}
+use Rattle.std.specs.Prelude.{◌≡◌, ◌≢◌, ℕ, ◌+◌, ◌-◌, ◌<◌, ◌≤◌, ◌⊎◌, true, false, List, [], ◌∷◌, ◌++◌, length, take, slice_index_or, Option, None, Some, is_some}
 use Rattle.prefix_trie_table.specs.declared.allocator.node.Node.{Node}
+use Rattle.prefix_trie_table.specs.declared.allocator.node.NodeSlot.{NodeSlot}
 use Rattle.prefix_trie_table.specs.Bitmaps.{rank}
 use Rattle.prefix_trie_table.specs.Cells.{node_sizes, cell_sizes}
-use Rattle.prefix_trie_table.specs.Store.{Store, Tier, tier_for, free_at}
-use Rattle.prefix_trie_table.specs.Forest.{NodesHold, CellsHold, Holds, IsSlot, with_node, with_value, own_count, entry_count, one_if}
+use Rattle.prefix_trie_table.specs.Store.{Store, Tier, SameRoom, tier_for, tier_sizes, free_at}
+use Rattle.prefix_trie_table.specs.Forest.{NodesHold, CellsHold, Holds, IsSlot, lacking_child, without, is_start, with_node, with_value, own_count, entry_count, one_if}
 
 -- a list of so many items in a block of tier k has lost one, and stands in tier `to` now: an empty rest nowhere, which is
 -- written as tier 0, another in its old block or in one of the smallest size that holds it, and there if such a one was free
@@ -18,6 +19,12 @@ pub record SameChildren (n m : Node) : Type 0 where
   pub bitmap : m.child_bitmap ≡ n.child_bitmap
   pub block : m.child_block ≡ n.child_block
   pub tier : m.child_tier ≡ n.child_tier
+
+-- two nodes have the same values in the same block
+pub record SameValues (n m : Node) : Type 0 where
+  pub bitmap : m.value_bitmap ≡ n.value_bitmap
+  pub block : m.value_block ≡ n.value_block
+  pub tier : m.value_tier ≡ n.value_tier
 
 module _ {T : Type 0} where
   -- the node n at p, now m, has lost its value at bit b, and the other nodes and values are as they were
@@ -41,3 +48,77 @@ module _ {T : Type 0} where
     pub counted : entry_count later paths + one_if (is_some (values path b)) ≡ entry_count reading paths
     pub shrinks : (n m : Node) → reading path ≡ Some n → later path ≡ Some m → is_some (values path b) ≡ true →
         Shrinks before.tiers n.value_tier (rank n.value_bitmap 32) m.value_tier
+
+-- a node without values and children
+pub record IsBare (n : Node) : Type 0 where
+  pub no_values : rank n.value_bitmap 32 ≡ 0
+  pub no_children : rank n.child_bitmap 32 ≡ 0
+
+-- a node with a value or a child
+abbrev pub IsStocked : Node → Type 0
+IsStocked n = (0 < rank n.value_bitmap 32) ⊎ (0 < rank n.child_bitmap 32)
+
+-- no block was made or taken, so those free before are free
+pub record GivesBack {S : Type 0} (v w : Store S) : Type 0 where
+  pub room : SameRoom v w
+  pub sizes : tier_sizes w.tiers ≡ tier_sizes v.tiers
+  pub free : (j : ℕ) → free_at v.tiers j ≤ free_at w.tiers j
+
+-- the slot of the k-th node on a way
+abbrev pub slot_in : List NodeSlot → ℕ → ℕ
+slot_in way k = let s = slice_index_or way k (record { start = 0; place = 0 }) in s.start + s.place
+
+-- these are the slots of the nodes on the way to a path, as far as this level
+abbrev pub IsWay : (List ℕ → Option Node) → List ℕ → List NodeSlot → ℕ → Type 0
+IsWay reading path way level = (k : ℕ) → k ≤ level → IsSlot reading (take k path) (slot_in way k)
+
+-- the child c of the node n at p, which has no children, is gone, and the node is m then
+pub record ChildDropped (reading : List ℕ → Option Node) (paths : List (List ℕ)) (p : List ℕ) (c : ℕ) (n m : Node) (before after : Store Node) : Type 0 where
+  pub hold : NodesHold node_sizes (lacking_child reading p m c) (without (p ++ c ∷ []) paths) after
+  pub values : SameValues n m
+  pub shrinks : Shrinks before.tiers n.child_tier (rank n.child_bitmap 32) m.child_tier
+
+-- nodes were taken out one after another, each of them bare when it went
+pub data Drops (reading : List ℕ → Option Node) (paths : List (List ℕ)) : (List ℕ → Option Node) → List (List ℕ) → Type 0 where
+  none : Drops reading paths reading paths
+  more : (later : List ℕ → Option Node) (left : List (List ℕ)) (v : Store Node) (p : List ℕ) (c : ℕ) (n m leaf : Node) → Drops reading paths later left →
+      NodesHold node_sizes later left v → later p ≡ Some n → later (p ++ c ∷ []) ≡ Some leaf → IsBare leaf → SameValues n m →
+      Drops reading paths (lacking_child later p m c) (without (p ++ c ∷ []) left)
+
+-- the way to a path was pruned up to its node at this level, which is `node` then: the nodes below it on the way are gone, and
+-- those above it and off the way are as they were. The node itself has lost a child, or is the last of the way
+pub record PrunedTo (reading : List ℕ → Option Node) (paths : List (List ℕ)) (path : List ℕ) (level : ℕ) (node : Node) (before after : Store Node) : Type 0 where
+  pub later : List ℕ → Option Node
+  pub left : List (List ℕ)
+  pub hold : NodesHold node_sizes later left after
+  pub drops : Drops reading paths later left
+  pub within : level ≤ length path
+  pub is : later (take level path) ≡ Some node
+  pub gone : (k : ℕ) → level < k → k ≤ length path → later (take k path) ≡ None
+  pub above : (k : ℕ) → k < level → later (take k path) ≡ reading (take k path)
+  pub off : (q : List ℕ) → is_start q path ≡ false → later q ≡ reading q
+  pub shrinks : (n : Node) → level < length path → reading (take level path) ≡ Some n →
+      SameValues n node × Shrinks before.tiers n.child_tier (rank n.child_bitmap 32) node.child_tier
+
+-- the way to a path was pruned as far up as nodes are bare
+pub record Pruned (reading : List ℕ → Option Node) (paths : List (List ℕ)) (path : List ℕ) (before after : Store Node) : Type 0 where
+  pub level : ℕ
+  pub node : Node
+  pub to : PrunedTo reading paths path level node before after
+  pub stops : (level ≡ 0) ⊎ IsStocked node
+
+-- a node stands at the end of the way to a path, and these are the slots of the nodes on the way
+pub record AtEnd (path : List ℕ) (way : List NodeSlot) (node : Node) (v : Store Node) : Type 0 where
+  pub reading : List ℕ → Option Node
+  pub paths : List (List ℕ)
+  pub hold : NodesHold node_sizes reading paths v
+  pub slots : IsWay reading path way (length path)
+  pub is : reading path ≡ Some node
+
+-- the value at bit b of the node with a path was taken, where there was one, and the way to that node was pruned; where the
+-- node is missing, nothing changed
+abbrev pub EntryRemoved : {T : Type 0} → (List ℕ → Option Node) → List (List ℕ) → (List ℕ → ℕ → Option T) → List ℕ → ℕ → Store (Option T) → Store Node →
+    Store (Option T) → Type 0
+EntryRemoved reading paths values path b before v after =
+    ((reading path ≡ None) × EntryTaken reading paths values path b v before after)
+    ⊎ ((u : Store Node) × (is_some (reading path) ≡ true) × (t : EntryTaken reading paths values path b u before after) × Pruned t.later paths path u v)

@@ -17,7 +17,7 @@ ghost use Rattle.std.specs.Option.{option_copied};
 ghost use Rattle.std.specs.FinMap.{get, contains_key, len};
 ghost use Rattle.prefix_trie_bits.specs.Model.Entries.{no_entries, with_entry, without_entry, AreWithin};
 ghost use Rattle.prefix_trie_bits.specs.Model.Matches.{longest_match, shortest_match};
-ghost use Rattle.prefix_trie_bits.specs.Model.Nodes.{root_alone, with_needed, AreNodes};
+ghost use Rattle.prefix_trie_bits.specs.Model.Nodes.{root_alone, with_needed, nodes_without, AreNodes};
 ghost use Rattle.prefix_trie_bits.specs.Model.Selections.{listing};
 ghost use Rattle.prefix_trie_bits.specs.Model.Visits.{visits, visits_to_match};
 ghost use Rattle.prefix_trie_bits.specs.Model.Room.{MayPassLimit};
@@ -29,7 +29,7 @@ use crate::allocator::nodes::{NodeAllocator, Tick};
 use crate::table::insertion::insert_entry;
 use crate::table::lookup::find_value;
 use crate::table::matching::{longest_on_way, shortest_on_way, value_of_match};
-use crate::table::removal::{clear_entries, remove_value};
+use crate::table::removal::{clear_entries, remove_entry, remove_value};
 use crate::table::walk::walk_of;
 use prefix_trie_bits::prefix::{Key, Refusal, Refused};
 use std::alloc::Allocator;
@@ -197,6 +197,33 @@ impl<T: Drop, A: Allocator, V: Tick> Table<T, A, V> {
             key,
             len,
             value,
+            counter,
+        )
+    }
+
+    /// Takes the value at a bit string out, if it is there, and then the nodes that have nothing left, from the string's own
+    /// node upward: so it prunes also where that node has no such value. Never refused; as for blocks, it does as
+    /// `remove_keep_tree`.
+    pub fn remove<K: Key>(&mut self, key: K, len: u32, counter: &mut V) -> Option<T>
+        requires key { K.IsKey key }
+        requires within { len ≤ K.bit_width }
+        ensures value { result ≡ get self.old.entries (take len (K.bits key)) }
+        ensures entries { self.new.entries
+            ≡ without_entry self.old.entries (take len (K.bits key)) }
+        ensures nodes { self.new.nodes
+            ≡ nodes_without self.old.nodes self.old.entries (take len (K.bits key)) }
+        ensures room { (self.new.room.limit ≡ self.old.room.limit)
+            × (self.old.room.node_slots ≤ self.new.room.node_slots)
+            × (self.new.room.node_slots ≤ self.old.room.node_slots + 24)
+            × (self.old.room.cell_slots ≤ self.new.room.cell_slots)
+            × (self.new.room.cell_slots ≤ self.old.room.cell_slots + 24) }
+    {
+        remove_entry(
+            &mut self.nodes,
+            &mut self.cells,
+            &mut self.count,
+            key,
+            len,
             counter,
         )
     }

@@ -2,8 +2,8 @@
 ghost use Rattle.std.specs.Prelude.{◌≡◌, ◌+◌, ◌≤◌};
 ghost use Rattle.std.specs.FinMap.{get};
 ghost use Rattle.prefix_trie_bits.specs.Model.Entries.{no_entries, without_entry};
-ghost use Rattle.prefix_trie_bits.specs.Model.Nodes.{root_alone};
-ghost use Rattle.prefix_trie_bits.specs.Model.Step.{Step, RemoveKeepTree, Clear, Done, Value};
+ghost use Rattle.prefix_trie_bits.specs.Model.Nodes.{root_alone, nodes_without};
+ghost use Rattle.prefix_trie_bits.specs.Model.Step.{Step, Remove, RemoveKeepTree, Clear, Done, Value};
 ghost use Rattle.prefix_trie_map.specs.Steps.{state};
 
 use crate::map::{PrefixMap, Visits};
@@ -11,6 +11,32 @@ use prefix_trie_bits::prefix::{Key, Prefix};
 use std::alloc::Allocator;
 
 impl<P: Prefix, T: Drop, A: Allocator> PrefixMap<P, T, A> {
+    /// Takes the entry of a prefix out, and hands out its value. Then the nodes that have nothing left go, from the prefix's
+    /// own node upward, also where there was no such entry; empty nodes elsewhere stay. Never refused.
+    ///
+    /// ```text
+    /// map.insert((0x0a010000_u32, 16_u8), 1)   Ok(None)
+    /// map.remove(&(0x0a010203_u32, 16_u8))     Some(1)
+    /// map.remove(&(0x0a010000_u32, 16_u8))     None
+    /// ```
+    #[inline]
+    pub fn remove(&mut self, prefix: &P) -> Option<T>
+        requires { P.IsFitting prefix.now }
+        ensures value { result ≡ get self.old.entries (P.path prefix.now) }
+        ensures entries { self.new.entries ≡ without_entry self.old.entries (P.path prefix.now) }
+        ensures nodes { self.new.nodes ≡ nodes_without self.old.nodes self.old.entries (P.path prefix.now) }
+        ensures limit { self.new.room.limit ≡ self.old.room.limit }
+        ensures node_slots { (self.old.room.node_slots ≤ self.new.room.node_slots) × (self.new.room.node_slots ≤ self.old.room.node_slots + 24) }
+        ensures cell_slots { (self.old.room.cell_slots ≤ self.new.room.cell_slots) × (self.new.room.cell_slots ≤ self.old.room.cell_slots + 24) }
+
+        // It is one step of the model.
+        ensures step { Step P.path P.back P.R.bit_width (state self.old) (Remove prefix.now) (Value result) (state self.new) }
+    {
+        let key = prefix.repr();
+        let len = u32::from(prefix.prefix_len());
+        self.table.remove(key, len, &mut Visits::new())
+    }
+
     /// Takes the entry of a prefix out, and hands out its value. All nodes stay, those that have nothing left too. Never
     /// refused.
     #[inline]

@@ -45,7 +45,7 @@ impl Slot for Node {
 }
 
 /// Where a node stands: the first slot of its block, and its place in that block.
-#[derive(Clone, Copy)]
+#[derive(Clone, Copy, Default)]
 pub struct NodeSlot {
     pub start: u32,
     pub place: u32,

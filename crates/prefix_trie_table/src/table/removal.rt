@@ -1,19 +1,20 @@
 //! Taking values out.
-ghost use Rattle.std.specs.Prelude.{◌≡◌, ℕ, ◌+◌, ◌*◌, ◌/◌, ◌<◌, ◌≤◌, [], ◌∷◌, List, Option, Some, map, take, None, true, is_some};
+ghost use Rattle.std.specs.Prelude.{◌≡◌, ℕ, ◌+◌, ◌*◌, ◌/◌, ◌<◌, ◌≤◌, [], ◌∷◌, ◌++◌, List, Option, Some, map, take, length, None, true, false, is_some, IfSome, IfNone};
 ghost use Rattle.prefix_trie_table.specs.declared.allocator.node.Node.{Node};
-ghost use Rattle.prefix_trie_table.specs.Bitmaps.{has_bit as is_set};
+ghost use Rattle.prefix_trie_table.specs.Bitmaps.{has_bit as is_set, rank as rank_of};
 ghost use Rattle.prefix_trie_table.specs.Cells.{blank_node, node_at, node_sizes, cell_sizes};
 ghost use Rattle.prefix_trie_table.specs.Digits.{path_of, bit_of};
 ghost use Rattle.prefix_trie_table.specs.Store.{Sound, SameRoom, no_blocks};
-ghost use Rattle.prefix_trie_table.specs.Forest.{IsSlot, NodesHold, CellsHold, IsTable, AtValues, one_if};
-ghost use Rattle.prefix_trie_table.specs.Removals.{ValueTaken, EntryTaken};
+ghost use Rattle.prefix_trie_table.specs.Forest.{IsSlot, NodesHold, CellsHold, IsTable, AtNode, AtValues, one_if};
+ghost use Rattle.prefix_trie_table.specs.Removals.{ValueTaken, EntryTaken, IsBare, IsStocked, GivesBack, ChildDropped, IsWay, AtEnd, Pruned, EntryRemoved};
 ghost use Rattle.prefix_trie_table.specs.Tables.{IsReached, IsCounted, Grows, ForHeld, own_value};
 
 use crate::allocator::blocks::Blocks;
 use crate::allocator::node::{Node, NodeSlot};
 use crate::allocator::nodes::{NodeAllocator, Tick};
 use crate::table::lookup::descend;
-use prefix_trie_bits::node::{count, has_bit, rank, value_bit_of, without_bit};
+use arrayvec::ArrayVec;
+use prefix_trie_bits::node::{child_bit_of, count, has_bit, rank, value_bit_of, without_bit};
 use prefix_trie_bits::prefix::Key;
 use std::alloc::Allocator;
 
@@ -150,4 +151,159 @@ pub fn remove_value<K: Key, T: Drop, A: Allocator, V: Tick>(
         return None;
     }
     take_entry(nodes, cells, entries, key, len, reached.at, reached.node).0
+}
+
+/// The slots of the nodes on a way, from the root to the string's own node, and this node.
+#[derive(Drop)]
+struct Way {
+    slots: ArrayVec<NodeSlot, 26>,
+    at: NodeSlot,
+    node: Node,
+}
+
+/// Goes down the way of a bit string to the string's own node, and keeps the way. `None` where a node of it is missing.
+fn descend_keeping_way<K: Key, A: Allocator, V: Tick>(
+    nodes: &NodeAllocator<A, V>,
+    key: K,
+    len: u32,
+    counter: &mut V,
+) -> Option<Way>
+    requires key { K.IsKey key }
+    requires within { len ≤ K.bit_width }
+    requires sound { (reading : List ℕ → Option Node) × (paths : List (List ℕ))
+        × NodesHold node_sizes reading paths nodes.now }
+    ensures found { IfSome result (λ way. IsReached (K.bits key) len (len / 5)
+        way.node (way.at.start + way.at.place) nodes.now
+        × (len / 5 < length way.slots.items)
+        × ((reading : List ℕ → Option Node) (paths : List (List ℕ))
+        → NodesHold node_sizes reading paths nodes.now
+        → IsWay reading (path_of (take len (K.bits key))) way.slots.items (len / 5))) }
+    ensures missing { IfNone result ((reading : List ℕ → Option Node) (paths : List (List ℕ))
+        → NodesHold node_sizes reading paths nodes.now
+        → reading (path_of (take len (K.bits key))) ≡ None) }
+{
+    let mut slots = ArrayVec::new();
+    let mut at = NodeSlot::ROOT;
+    let mut node = nodes.visit(at, counter);
+    slots.push(at);
+    for level in 0..len / 5 {
+        let child = child_bit_of(key, 5 * level);
+        if !has_bit(node.child_bitmap, child) {
+            return None;
+        }
+        at = NodeSlot {
+            start: node.child_block,
+            place: rank(node.child_bitmap, child),
+        };
+        node = nodes.visit(at, counter);
+        slots.push(at);
+    }
+    Some(Way { slots, at, node })
+}
+
+/// Whether a node has neither values nor children.
+#[inline]
+fn is_bare(node: Node) -> bool
+    ensures bare { result ≡ true → IsBare node }
+    ensures stocked { result ≡ false → IsStocked node }
+{
+    count(node.value_bitmap) + count(node.child_bitmap) == 0
+}
+
+/// Takes a child that has no children out of the node in a slot, and answers what the node is then.
+fn drop_child<A: Allocator, V: Tick>(
+    nodes: &mut NodeAllocator<A, V>,
+    at: NodeSlot,
+    child: u32,
+    counter: &mut V,
+) -> Node
+    requires child { child < 32 }
+    requires stands { AtNode nodes.old (at.start + at.place) }
+    requires there { is_set (node_at nodes.old.slots (at.start + at.place)).child_bitmap child
+        ≡ true }
+    ensures room { Grows nodes.old nodes.new 24 }
+    ensures last { rank_of result.child_bitmap 32 ≡ 0 → GivesBack nodes.old nodes.new }
+    ensures dropped { (reading : List ℕ → Option Node) (paths : List (List ℕ)) (p : List ℕ)
+        (n leaf : Node)
+        → NodesHold node_sizes reading paths nodes.old
+        → IsSlot reading p (at.start + at.place) → reading p ≡ Some n
+        → reading (p ++ child ∷ []) ≡ Some leaf → rank_of leaf.child_bitmap 32 ≡ 0
+        → ChildDropped reading paths p child n result nodes.old nodes.new }
+{
+    let node = nodes.visit(at, counter);
+    let (_, rest) = nodes.remove_at(
+        node.child_tier as usize,
+        node.child_block,
+        count(node.child_bitmap),
+        rank(node.child_bitmap, child),
+    );
+    let left = Node {
+        value_bitmap: node.value_bitmap,
+        child_bitmap: without_bit(node.child_bitmap, child),
+        value_block: node.value_block,
+        child_block: rest.start,
+        value_tier: node.value_tier,
+        child_tier: rest.tier as u8,
+    };
+    nodes.put(at, left);
+    left
+}
+
+/// Takes out the nodes of a way that have nothing left, from its end upward. The root stays.
+fn prune_up<K: Key, A: Allocator, V: Tick>(
+    nodes: &mut NodeAllocator<A, V>,
+    way: &[NodeSlot],
+    key: K,
+    len: u32,
+    node: Node,
+    counter: &mut V,
+)
+    requires key { K.IsKey key }
+    requires within { len ≤ K.bit_width }
+    requires long { len / 5 < length way.now }
+    requires stands { AtEnd (path_of (take len (K.bits key))) way.now node nodes.old }
+    ensures room { Grows nodes.old nodes.new 24 }
+    ensures pruned { (reading : List ℕ → Option Node) (paths : List (List ℕ))
+        → NodesHold node_sizes reading paths nodes.old
+        → IsWay reading (path_of (take len (K.bits key))) way.now (len / 5)
+        → reading (path_of (take len (K.bits key))) ≡ Some node
+        → Pruned reading paths (path_of (take len (K.bits key))) nodes.old nodes.new }
+{
+    let mut level = len / 5;
+    let mut node = node;
+    while level > 0 && is_bare(node) {
+        level -= 1;
+        let at = way[level as usize];
+        node = drop_child(nodes, at, child_bit_of(key, 5 * level), counter);
+    }
+}
+
+/// Takes the value at a bit string out, if it is there, and then the nodes of its way that have nothing left, from the
+/// string's own node upward. Where this node is missing nothing changes.
+pub fn remove_entry<K: Key, T: Drop, A: Allocator, V: Tick>(
+    nodes: &mut NodeAllocator<A, V>,
+    cells: &mut Blocks<Option<T>, A>,
+    entries: &mut usize,
+    key: K,
+    len: u32,
+    counter: &mut V,
+) -> Option<T>
+    requires key { K.IsKey key }
+    requires within { len ≤ K.bit_width }
+    requires table { IsCounted nodes.old cells.old entries.old }
+    ensures value { ForHeld nodes.old cells.old (λ reading paths values.
+        result ≡ own_value values (K.bits key) len) }
+    ensures removed { ForHeld nodes.old cells.old (λ reading paths values.
+        EntryRemoved reading paths values (path_of (take len (K.bits key)))
+        (bit_of (take len (K.bits key))) cells.old nodes.new cells.new) }
+    ensures counted { entries.new + one_if (is_some result) ≡ entries.old }
+    ensures node_room { Grows nodes.old nodes.new 24 }
+    ensures cell_room { Grows cells.old cells.new 24 }
+{
+    let Some(way) = descend_keeping_way(nodes, key, len, counter) else {
+        return None;
+    };
+    let (value, node) = take_entry(nodes, cells, entries, key, len, way.at, way.node);
+    prune_up(nodes, &way.slots, key, len, node, counter);
+    value
 }

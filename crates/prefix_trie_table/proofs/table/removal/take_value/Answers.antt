@@ -1,11 +1,10 @@
-use Rattle.std.proofs.Common.{◌≡◌, ℕ, ◌+◌, ◌<◌, ◌≤◌, ◌⊎◌, Option, Some, None, get_or, length, map, sym, ap, ◌∙◌, refl, subst, arith}
-use Rattle.prefix_trie_table.specs.declared.allocator.node.Node.{Node}
+use Rattle.std.proofs.Common.{◌≡◌, ◌+◌, Some, None, get_or, map, sym, ap, ◌∙◌, refl, subst, arith}
 use Rattle.prefix_trie_table.specs.Bitmaps.{rank, bits}
 use Rattle.prefix_trie_table.specs.Cells.{node_sizes, cell_sizes}
 use Rattle.prefix_trie_table.specs.Removals.{Shrinks}
 use Rattle.prefix_trie_table.proofs.Bits.{has_bit-is, rank-ones}
 use Rattle.prefix_trie_table.proofs.BitLists.{rank-below, rank-all, map_get}
-use Rattle.prefix_trie_table.proofs.Adding.{at_is, at_values, has_values}
+use Rattle.prefix_trie_table.proofs.Adding.{has_values}
 use Rattle.prefix_trie_table.proofs.Trees.{slot_holds}
 use Rattle.prefix_trie_table.proofs.Values.{values_first}
 use Rattle.prefix_trie_table.proofs.Removing.{values_taken, grows_few, few_cells}
@@ -34,8 +33,8 @@ pub returns-clause-cell_room : goal.returns-clause-cell_room
 returns-clause-cell_room g c =
     let list = has_values c.args.nodes.now c.args.cells.now (c.args.at.start + c.args.at.place) c.args.node c.count.result c.requires.stands
     c.requires.node (c.count.ensures ∙ sym (rank-ones c.args.node.value_bitmap 32 (omega arith))) in
-    grows_few None c.args.cells.now c.remove_at-value.new.self c.args.node.value_tier c.args.node.value_block c.count.result
-    c.remove_at-value.result.1.tier _ _ c.remove_at-value.ensures.keeps c.remove_at-value.ensures.turnover cell_sizes
+    grows_few c.args.cells.now c.remove_at-value.new.self c.args.node.value_tier c.count.result
+    c.remove_at-value.result.1.tier _ _ c.remove_at-value.ensures.keeps c.remove_at-value.ensures.turnover None c.args.node.value_block cell_sizes
     c.requires.stands.cells.sizes_are refl few_cells list c.remove_at-value.ensures.smallest
 
 pub returns-clause-value : goal.returns-clause-value

@@ -1,0 +1,59 @@
+-- Strings by the way to their node and their place in it.
+use Rattle.std.proofs.Common.{◌≡◌, ℕ, suc, ◌+◌, ◌-◌, ◌*◌, ◌^◌, ◌%◌, ◌<◌, ◌≤◌, Bool, List, [], ◌∷◌, ◌++◌, length, refl, ap, ◌∙◌, arith, w32}
+use Rattle.std.specs.Int.{leading_zeros}
+use Rattle.prefix_trie_bits.specs.Bits.{number, digits}
+use Rattle.prefix_trie_bits.specs.BitStrings.{length-digits, number-bits}
+use Rattle.prefix_trie_bits.specs.Places.{value_bit}
+use Rattle.prefix_trie_bits.proofs.Strings.{top_length, length-short, string-bit}
+use Rattle.prefix_trie_table.specs.Digits.{path_of, rest_of}
+
+short_path : (r : List Bool) → length r ≤ 4 → (path_of r ≡ []) × (rest_of r ≡ r)
+short_path (a ∷ b ∷ c ∷ d ∷ e ∷ s) h = absurd (omega (arith, h))
+short_path (a ∷ b ∷ c ∷ d ∷ []) h = (refl, refl)
+short_path (a ∷ b ∷ c ∷ []) h = (refl, refl)
+short_path (a ∷ b ∷ []) h = (refl, refl)
+short_path (a ∷ []) h = (refl, refl)
+short_path [] h = (refl, refl)
+
+five_less : (l k : ℕ) → suc (suc (suc (suc (suc l)))) ≡ 5 * k → l ≡ 5 * (k - 1)
+five_less l k e = omega (arith, e)
+
+-- a string below a node's string has its way
+pub below_node : (k : ℕ) (s r : List Bool) → length s ≡ 5 * k → length r ≤ 4 → (path_of (s ++ r) ≡ path_of s) × (rest_of (s ++ r) ≡ r)
+below_node k (a ∷ b ∷ c ∷ d ∷ e ∷ s) r long h =
+    let ih = below_node (k - 1) s r (five_less (length s) k long) h in
+    (ap (λ p. number (a ∷ b ∷ c ∷ d ∷ e ∷ []) ∷ p) ih.0, ih.1)
+below_node k (a ∷ b ∷ c ∷ d ∷ []) r long h = absurd (omega (arith, long))
+below_node k (a ∷ b ∷ c ∷ []) r long h = absurd (omega (arith, long))
+below_node k (a ∷ b ∷ []) r long h = absurd (omega (arith, long))
+below_node k (a ∷ []) r long h = absurd (omega (arith, long))
+below_node k [] r long h = short_path r h
+
+five_path : (r : List Bool) → length r ≡ 5 → path_of r ≡ number r ∷ []
+five_path (a ∷ b ∷ c ∷ d ∷ e ∷ []) h = refl
+five_path (a ∷ b ∷ c ∷ d ∷ e ∷ x ∷ s) h = absurd (omega (arith, h))
+five_path (a ∷ b ∷ c ∷ d ∷ []) h = absurd (omega (arith, h))
+five_path (a ∷ b ∷ c ∷ []) h = absurd (omega (arith, h))
+five_path (a ∷ b ∷ []) h = absurd (omega (arith, h))
+five_path (a ∷ []) h = absurd (omega (arith, h))
+five_path [] h = absurd (omega (arith, h))
+
+-- five bits more are a step more
+pub step_below : (k : ℕ) (s : List Bool) (c : ℕ) → length s ≡ 5 * k → c < 32 → path_of (s ++ digits 5 c) ≡ path_of s ++ c ∷ []
+step_below k (x ∷ y ∷ z ∷ u ∷ v ∷ s) c long h =
+    ap (λ p. number (x ∷ y ∷ z ∷ u ∷ v ∷ []) ∷ p) (step_below (k - 1) s c (five_less (length s) k long) h)
+step_below k (x ∷ y ∷ z ∷ u ∷ []) c long h = absurd (omega (arith, long))
+step_below k (x ∷ y ∷ z ∷ []) c long h = absurd (omega (arith, long))
+step_below k (x ∷ y ∷ []) c long h = absurd (omega (arith, long))
+step_below k (x ∷ []) c long h = absurd (omega (arith, long))
+step_below k [] c long h = five_path (digits 5 c) (length-digits 5 c) ∙ ap (λ n. n ∷ []) (number-bits 5 c h)
+
+-- each value bit is that of a string
+pub string_at : (b : ℕ) → b < 31 → (r : List Bool) × (length r ≤ 4) × (value_bit r ≡ b)
+string_at b small =
+    let top = top_length (b + 1) (omega arith) (omega (arith, small)) in
+    let n : ℕ = 31 - leading_zeros w32 (b + 1) in (
+      digits n (b + 1 - 1 * 2 ^ n % 4294967296),
+      (let l = length-digits n (b + 1 - 1 * 2 ^ n % 4294967296) in let s = length-short b n small top.0 top.1 in omega arith),
+      string-bit b n small top.0 top.1,
+    )

@@ -1,0 +1,61 @@
+use Rattle.std.proofs.Common.{take, ap, ◌∙◌, refl}
+use Rattle.std.specs.FinMap.{get}
+use Rattle.prefix_trie_bits.specs.Model.Entries.{without_entry}
+use Rattle.prefix_trie_bits.specs.Model.Nodes.{nodes_without}
+use Rattle.prefix_trie_bits.specs.Model.Step.{State}
+use Rattle.prefix_trie_table.proofs.Emptying.{removed_is, table_without}
+use Rattle.prefix_trie_table.proofs.Removed.{removed_shape, removed_only, counted_removed}
+use Rattle.prefix_trie_table.proofs.table.Table.remove.Goals as goal
+
+pub invariant_of-self-inside : goal.invariant_of-self-inside
+invariant_of-self-inside g c =
+    let q = take c.args.len (g.K.Key.bits c.args.key) in (
+      (
+        record {
+          entries = without_entry c.self.inside.shape.0.entries q;
+          nodes = nodes_without c.self.inside.shape.0.nodes c.self.inside.shape.0.entries q;
+        },
+        removed_shape q c.self.inside.nodes c.remove_entry.new.nodes c.self.inside.cells c.remove_entry.new.cells c.self.inside.count
+            c.remove_entry.new.entries c.self.inside.shape c.self.invariant c.remove_entry.result c.remove_entry.ensures.value
+            c.remove_entry.ensures.removed,
+      ),
+      tt,
+    )
+
+pub invariant_of-self : goal.invariant_of-self
+invariant_of-self g c =
+    let q = take c.args.len (g.K.Key.bits c.args.key) in
+    table_without q c.self.inside.nodes c.remove_entry.new.nodes c.self.inside.cells c.remove_entry.new.cells c.self.inside.count
+    c.remove_entry.new.entries c.self.inside.shape c.self.invariant c.remove_entry.result c.remove_entry.ensures.value
+    _ (removed_shape q c.self.inside.nodes c.remove_entry.new.nodes c.self.inside.cells c.remove_entry.new.cells c.self.inside.count
+    c.remove_entry.new.entries c.self.inside.shape c.self.invariant c.remove_entry.result c.remove_entry.ensures.value
+    c.remove_entry.ensures.removed) refl c.remove_entry.ensures.counted
+    (counted_removed q c.self.inside.nodes c.remove_entry.new.nodes c.self.inside.cells c.remove_entry.new.cells c.self.inside.count
+    c.remove_entry.new.entries c.self.inside.shape c.self.invariant c.remove_entry.result c.remove_entry.ensures.value
+    c.remove_entry.ensures.removed c.remove_entry.ensures.counted) c.remove_entry.ensures.node_room.limit_is c.remove_entry.ensures.cell_room.limit_is
+    c.remove_entry.ensures.cell_room.first_is c.self-1.given.0
+
+pub returns-clause-value : goal.returns-clause-value
+returns-clause-value g c =
+    let q = take c.args.len (g.K.Key.bits c.args.key) in
+    removed_is q c.self.inside.nodes c.remove_entry.new.nodes c.self.inside.cells c.remove_entry.new.cells c.self.inside.count
+    c.remove_entry.new.entries c.self.inside.shape c.self.invariant c.remove_entry.result c.remove_entry.ensures.value
+    ∙ ap (λ s. get s.entries q) c.self.view_is
+
+pub returns-clause-entries : goal.returns-clause-entries
+returns-clause-entries g c =
+    let q = take c.args.len (g.K.Key.bits c.args.key) in
+    ap (λ (s : State g.row.T.Denot). s.entries)
+    (removed_only q c.self.inside.nodes c.remove_entry.new.nodes c.self.inside.cells c.remove_entry.new.cells c.self.inside.count
+    c.remove_entry.new.entries c.self.inside.shape c.self.invariant c.remove_entry.result c.remove_entry.ensures.value
+    c.remove_entry.ensures.removed c.self-1.given.0)
+    ∙ ap (λ s. without_entry s.entries q) c.self.view_is
+
+pub returns-clause-nodes : goal.returns-clause-nodes
+returns-clause-nodes g c =
+    let q = take c.args.len (g.K.Key.bits c.args.key) in
+    ap (λ (s : State g.row.T.Denot). s.nodes)
+    (removed_only q c.self.inside.nodes c.remove_entry.new.nodes c.self.inside.cells c.remove_entry.new.cells c.self.inside.count
+    c.remove_entry.new.entries c.self.inside.shape c.self.invariant c.remove_entry.result c.remove_entry.ensures.value
+    c.remove_entry.ensures.removed c.self-1.given.0)
+    ∙ ap (λ s. nodes_without s.nodes s.entries q) c.self.view_is

@@ -1,0 +1,17 @@
+use Rattle.std.proofs.Common.{◌≡◌, ℕ, ◌+◌, ◌/◌, ◌≤◌, List, Option, take, length}
+use Rattle.prefix_trie_table.specs.declared.allocator.node.Node.{Node}
+use Rattle.prefix_trie_table.specs.Cells.{node_sizes}
+use Rattle.prefix_trie_table.specs.Digits.{path_of}
+use Rattle.prefix_trie_table.specs.Forest.{NodesHold}
+use Rattle.prefix_trie_table.specs.Removals.{IsWay}
+use Rattle.prefix_trie_table.proofs.Going.{IsDown}
+use Rattle.prefix_trie_table.proofs.table.removal.descend_keeping_way.Given as goal
+
+abbrev pub invariant-loop-level : goal.invariant-loop-level
+invariant-loop-level g l =
+    let path : List ℕ = path_of (take l.len (g.K.Key.bits l.key)) in record {
+      down : IsDown path l.len l.level l.node (l.at.start + l.at.place) l.nodes;
+      way : (reading : List ℕ → Option Node) (paths : List (List ℕ)) → NodesHold node_sizes reading paths l.nodes → IsWay reading path l.slots.items l.level;
+      long : length l.slots.items ≡ l.level + 1;
+      within : l.level ≤ l.len / 5;
+    }

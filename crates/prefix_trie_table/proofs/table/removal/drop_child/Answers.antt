@@ -1,0 +1,75 @@
+use Rattle.std.proofs.Common.{◌≡◌, ◌+◌, ap, sym, ◌∙◌, refl, subst, arith}
+use Rattle.prefix_trie_table.specs.declared.allocator.node.Node.{Node}
+use Rattle.prefix_trie_table.specs.Bitmaps.{has_bit, rank}
+use Rattle.prefix_trie_table.specs.Cells.{blank_node, node_sizes}
+use Rattle.prefix_trie_table.specs.Removals.{Shrinks}
+use Rattle.prefix_trie_table.proofs.Bare.{one_fewer}
+use Rattle.prefix_trie_table.proofs.Bits.{has_bit-is, rank-ones}
+use Rattle.prefix_trie_table.proofs.BitLists.{rank-below}
+use Rattle.prefix_trie_table.proofs.Adding.{at_is, has_list}
+use Rattle.prefix_trie_table.proofs.Removing.{children_dropped, grows_few, few_nodes, gives_back, gives_written, grows_written}
+use Rattle.prefix_trie_table.proofs.table.removal.drop_child.Goals as goal
+
+pub visit-node-requires : goal.visit-node-requires
+visit-node-requires g c = (at_is c.args.nodes.now (c.args.at.start + c.args.at.place) c.requires.stands).1
+
+pub remove_at-requires-clause-holds : goal.remove_at-requires-clause-holds
+remove_at-requires-clause-holds g c =
+    has_list c.args.nodes.now (c.args.at.start + c.args.at.place) c.visit-node.result c.count.result c.requires.stands c.visit-node.ensures.node
+    (c.count.ensures ∙ sym (rank-ones c.visit-node.result.child_bitmap 32 (omega arith)))
+
+pub remove_at-requires-clause-place : goal.remove_at-requires-clause-place
+remove_at-requires-clause-place g c =
+    omega (
+      arith,
+      rank-below c.visit-node.result.child_bitmap c.args.child c.requires.child
+          (ap (λ (n : Node). has_bit n.child_bitmap c.args.child) c.visit-node.ensures.node ∙ c.requires.there),
+      rank-ones c.visit-node.result.child_bitmap c.args.child (omega (arith, c.requires.child)),
+      rank-ones c.visit-node.result.child_bitmap 32 (omega arith),
+      c.rank.ensures,
+      c.count.ensures,
+    )
+
+pub without_bit-requires-clause-set : goal.without_bit-requires-clause-set
+without_bit-requires-clause-set g c =
+    sym (has_bit-is c.visit-node.result.child_bitmap c.args.child c.requires.child)
+    ∙ ap (λ (n : Node). has_bit n.child_bitmap c.args.child) c.visit-node.ensures.node ∙ c.requires.there
+
+pub returns-clause-room : goal.returns-clause-room
+returns-clause-room g c =
+    let list = has_list c.args.nodes.now (c.args.at.start + c.args.at.place) c.visit-node.result c.count.result c.requires.stands
+    c.visit-node.ensures.node (c.count.ensures ∙ sym (rank-ones c.visit-node.result.child_bitmap 32 (omega arith))) in
+    grows_written c.args.nodes.now c.remove_at.new.self c.put.new.self _ _ 24
+    (grows_few c.args.nodes.now c.remove_at.new.self c.visit-node.result.child_tier c.count.result
+    c.remove_at.result.1.tier _ _ c.remove_at.ensures.keeps c.remove_at.ensures.turnover blank_node c.visit-node.result.child_block node_sizes
+    c.requires.stands.hold.sizes_are refl few_nodes list c.remove_at.ensures.smallest) c.put.ensures.slots
+
+pub returns-clause-last : goal.returns-clause-last
+returns-clause-last g c = λ none.
+    gives_written c.args.nodes.now c.remove_at.new.self c.put.new.self _ _
+    (gives_back c.args.nodes.now c.remove_at.new.self c.visit-node.result.child_tier c.count.result c.remove_at.result.1.tier _
+    c.remove_at.ensures.keeps c.remove_at.ensures.turnover
+    (omega (
+      arith,
+      none,
+      one_fewer c.without_bit.result c.visit-node.result.child_bitmap c.args.child c.without_bit.ensures.clears c.requires.child,
+      rank-ones c.visit-node.result.child_bitmap 32 (omega arith),
+      c.count.ensures,
+    ))) c.put.ensures.slots
+
+pub returns-clause-dropped : goal.returns-clause-dropped
+returns-clause-dropped g c = λ reading paths p n leaf hold stands is below bare.
+    let same : c.count.result ≡ rank c.visit-node.result.child_bitmap 32 =
+    c.count.ensures ∙ sym (rank-ones c.visit-node.result.child_bitmap 32 (omega arith)) in
+    children_dropped c.args.nodes.now c.remove_at.new.self c.put.new.self (c.args.at.start + c.args.at.place) c.rank.result c.args.child
+    c.remove_at.result.1.tier c.remove_at.result.1.start c.without_bit.result c.visit-node.result _
+    c.visit-node.ensures.node c.without_bit.ensures.clears refl c.remove_at.ensures.keeps
+    (λ size xs live s count. c.remove_at.ensures.sound size xs live s (count ∙ sym same))
+    (c.rank.ensures ∙ sym (rank-ones c.visit-node.result.child_bitmap c.args.child (omega (arith, c.requires.child)))) c.requires.child
+    c.put.ensures.slots
+    (subst (λ n. Shrinks c.args.nodes.now.tiers c.visit-node.result.child_tier n c.remove_at.result.1.tier) same
+    (record {
+      gone = λ one. ap (λ r. r.tier) (c.remove_at.ensures.gone one);
+      smallest = c.remove_at.ensures.smallest;
+      smaller = c.remove_at.ensures.smaller;
+    })) reading paths p n leaf hold stands is below bare

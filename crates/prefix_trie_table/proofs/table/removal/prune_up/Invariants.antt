@@ -1,0 +1,24 @@
+use Rattle.std.proofs.Common.{◌≡◌, ℕ, ◌/◌, ◌≤◌, List, Option, Some, take}
+use Rattle.prefix_trie_table.specs.declared.allocator.node.Node.{Node}
+use Rattle.prefix_trie_table.specs.Bitmaps.{rank}
+use Rattle.prefix_trie_table.specs.Cells.{node_sizes}
+use Rattle.prefix_trie_table.specs.Digits.{path_of}
+use Rattle.prefix_trie_table.specs.Forest.{NodesHold}
+use Rattle.prefix_trie_table.specs.Removals.{IsWay, GivesBack}
+use Rattle.prefix_trie_table.specs.Tables.{Grows}
+use Rattle.prefix_trie_table.proofs.Pruning.{Pruning}
+use Rattle.prefix_trie_table.proofs.table.removal.prune_up.Given as goal
+
+abbrev pub invariant-loop-level : goal.invariant-loop-level
+invariant-loop-level g l =
+    let path : List ℕ = path_of (take l.len (g.K.Key.bits l.key)) in record {
+      pruned : (reading : List ℕ → Option Node) (paths : List (List ℕ)) → NodesHold node_sizes reading paths l.initial.nodes →
+          IsWay reading path l.way (l.len / 5) → reading path ≡ Some l.initial.node →
+          Pruning reading paths path l.way l.level l.node l.initial.nodes l.nodes;
+      room : Grows l.initial.nodes l.nodes 24;
+      last : rank l.node.child_bitmap 32 ≡ 0 → GivesBack l.initial.nodes l.nodes;
+      within : l.level ≤ l.len / 5;
+    }
+
+abbrev pub decreases-loop-level : goal.decreases-loop-level
+decreases-loop-level g l = l.level

@@ -1,0 +1,47 @@
+use Rattle.std.proofs.Common.{◌/◌, ◌≤◌, inl, inr, List, length, take, is_some, refl, sym, ap, subst}
+use Rattle.prefix_trie_table.specs.declared.allocator.node.NodeSlot.{NodeSlot}
+use Rattle.prefix_trie_table.specs.Digits.{path_of}
+use Rattle.prefix_trie_table.specs.Removals.{IsWay}
+use Rattle.prefix_trie_table.proofs.Emptying.{nothing_taken, no_value}
+use Rattle.prefix_trie_table.proofs.Finding.{reached_own}
+use Rattle.prefix_trie_table.proofs.Going.{level_last, steps-all}
+use Rattle.prefix_trie_table.proofs.table.removal.remove_entry.Goals as goal
+
+pub returns-in_default-clause-removed : goal.returns-in_default-clause-removed
+returns-in_default-clause-removed g c = λ reading paths values holds.
+    let none = c.in_default.ensures.missing reading paths holds.hold in
+    inl (none, nothing_taken reading values paths c.args.nodes.now c.args.cells.now holds _ _ (no_value reading values paths _ _ holds _ _ none))
+
+pub prune_up-requires-clause-stands : goal.prune_up-requires-clause-stands
+prune_up-requires-clause-stands g c =
+    let b = g.K.Key.bits c.args.key in
+    let path = path_of (take c.args.len b) in
+    let t = c.requires.table.table in
+    let long : c.args.len ≤ length b = c.in-Some.ensures.found.0.long in
+    let taken = c.take_entry-value.ensures.taken t.reading t.paths t.values t.holds in
+    record {
+      reading = taken.0.later;
+      paths = t.paths;
+      hold = taken.0.holds.hold;
+      slots = subst (λ n. IsWay taken.0.later path c.deref.result.now n) (sym (steps-all b c.args.len long))
+          (subst (λ (xs : List NodeSlot). IsWay taken.0.later path xs (c.args.len / 5)) (sym c.deref.ensures.0)
+          (λ k h. taken.0.stands _ _ (c.in-Some.ensures.found.2 t.reading t.paths t.holds.hold k h)));
+      is = taken.1;
+    }
+
+pub returns-clause-removed : goal.returns-clause-removed
+returns-clause-removed g c = λ reading paths values holds.
+    let b = g.K.Key.bits c.args.key in
+    let path = path_of (take c.args.len b) in
+    let own = reached_own b c.args.len (c.args.len / 5) _ c.in-Some.way.node c.args.nodes.now c.in-Some.ensures.found.0 reading paths holds.hold
+    (level_last (c.args.len / 5) c.args.len refl) in
+    let taken = c.take_entry-value.ensures.taken reading paths values holds in
+    let slots : IsWay taken.0.later path c.deref.result.now (c.args.len / 5) =
+    subst (λ (xs : List NodeSlot). IsWay taken.0.later path xs (c.args.len / 5)) (sym c.deref.ensures.0)
+    (λ k h. taken.0.stands _ _ (c.in-Some.ensures.found.2 reading paths holds.hold k h)) in
+    inr (
+      c.take_entry-value.new.nodes,
+      ap is_some own,
+      taken.0,
+      c.prune_up.ensures.pruned taken.0.later paths taken.0.holds.hold slots taken.1,
+    )
