@@ -38,3 +38,10 @@ pub mod Subtrees
 pub mod Spots
 pub mod Stacks
 pub mod Walking
+pub mod Asked
+pub mod AskedBelow
+pub mod Retained
+pub mod Seen
+pub mod Placed
+pub mod Lowered
+pub mod Rooted

@@ -9,3 +9,4 @@ pub mod Tables
 pub mod Matching
 pub mod Removals
 pub mod Walks
+pub mod Retaining
