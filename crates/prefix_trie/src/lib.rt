@@ -6,12 +6,23 @@
 #![tactic(auto)]
 
 #[cfg(test)]
+mod counted_tests;
+#[cfg(test)]
 mod example;
 pub mod map;
 #[cfg(test)]
+mod refused_removal_tests;
+#[cfg(test)]
 mod refusing;
 #[cfg(test)]
+mod removal_tests;
+pub mod replay;
+#[cfg(test)]
+mod replay_tests;
+#[cfg(test)]
 mod tests;
+#[cfg(test)]
+mod walk_tests;
 
 pub use prefix_trie_bits::prefix::{Ipv4Prefix, Ipv6Prefix, Key, Prefix, Refusal, Refused};
 pub use prefix_trie_map::map::{PrefixMap, Visits};

@@ -1,2 +1,2 @@
-//! Maps from prefixes to values.
-pub use prefix_trie_map::map::PrefixMap;
+//! Maps from prefixes to values, and their walks.
+pub use prefix_trie_map::map::{Cover, CoverKeys, CoverValues, Iter, Keys, PrefixMap, Values};

@@ -95,6 +95,18 @@ fn pairs_of_128_bits(rt: HostRuntime) -> Result<(), Fail> {
     assert_eq!(rt; map.get(&(1, 128)), Some(&2));
     assert_eq!(rt; map.get(&(2, 128)), None);
     assert_eq!(rt; map.len(), 2);
+    assert_eq!(rt; map.node_count(), 26);
+    Ok(())
+}
+
+#[test]
+fn a_node_for_each_five_bits(rt: HostRuntime) -> Result<(), Fail> {
+    let mut map = PrefixMap::new(rt.alloc())?;
+    assert_eq!(rt; map.node_count(), 1);
+    assert_eq!(rt; map.insert((0_u32, 32_u8), 'a'), Ok(None));
+    assert_eq!(rt; map.node_count(), 7);
+    assert_eq!(rt; map.insert((0, 31), 'b'), Ok(None));
+    assert_eq!(rt; map.node_count(), 7);
     Ok(())
 }
 
@@ -158,4 +170,30 @@ fn the_longest_match(rt: HostRuntime) -> Result<(), Fail> {
 #[test]
 fn a_counter_has_no_bytes(rt: HostRuntime) {
     assert_eq!(rt; size_of::<Visits>(), 0);
+}
+
+#[test]
+fn matches_of_three_networks(rt: HostRuntime) -> Result<(), Fail> {
+    let mut map = PrefixMap::new(rt.alloc())?;
+    assert_eq!(rt; map.insert((0xc0a8_01ff_u32, 24_u8), 1_u8), Ok(None));
+    assert_eq!(rt; map.insert((0xc0a8_0000, 23), 2), Ok(None));
+    let host = (0xc0a8_0101, 32);
+    assert_eq!(rt; map.get_spm(&host), Some(((0xc0a8_0000, 23), &2)));
+    assert_eq!(rt; map.get_spm_prefix(&host), Some((0xc0a8_0000, 23)));
+    assert_eq!(rt; map.get_lpm_prefix(&host), Some((0xc0a8_0100, 24)));
+    assert!(rt; map.is_covered(&host));
+    assert!(rt; !map.contains_key(&host));
+    assert_eq!(rt; map.get_key_value(&host), None);
+    // Without the host bits that it was inserted with.
+    assert_eq!(rt;
+        map.get_key_value(&(0xc0a8_01aa, 24)),
+        Some(((0xc0a8_0100, 24), &1))
+    );
+    assert!(rt; map.contains_key(&(0xc0a8_01aa, 24)));
+    let outside = (0xc0a8_0200, 24);
+    assert_eq!(rt; map.get_spm(&outside), None);
+    assert_eq!(rt; map.get_spm_prefix(&outside), None);
+    assert_eq!(rt; map.get_lpm_prefix(&outside), None);
+    assert!(rt; !map.is_covered(&outside));
+    Ok(())
 }

@@ -1,13 +1,15 @@
--- What an insertion leaves of a map's nodes, and that it is a step of the model.
-use Rattle.std.proofs.Common.{◌≡◌, ℕ, ◌≤◌, ◌%◌, Bool, true, false, ◌&&◌, List, length, cond, Option, Result, Ok, Err, IfOk, OnOk, OnErr, IsOk, IsTrue, refl, sym, ap, ◌∙◌, subst, inl, inr, eqb-true, true≢false}
-use Rattle.std.specs.FinMap.{get, contains_key}
+-- The map without entries, and that an insertion is a step of the model.
+use Rattle.std.proofs.Common.{◌≡◌, ℕ, ◌%◌, Bool, true, false, ◌&&◌, List, length, cond, Option, Result, is_some, Ok, Err, IfOk, OnOk, OnErr, IsOk, IsTrue, refl, sym, ap, ◌∙◌, inl, inr, eqb-true, true≢false}
+use Rattle.std.specs.FinMap.{get, contains_key, get-empty}
 use Rattle.prefix_trie_bits.specs.declared.prefix.Refused.{Refused}
 use Rattle.prefix_trie_bits.specs.Bits.{begins}
-use Rattle.prefix_trie_bits.specs.Model.Entries.{Entries, with_entry}
-use Rattle.prefix_trie_bits.specs.Model.Nodes.{Nodes, has_node, is_node_depth, with_needed, AreNodes}
+use Rattle.prefix_trie_bits.specs.Order.{listing_cmp}
+use Rattle.prefix_trie_bits.specs.Laws.Steps.{IsMap}
+use Rattle.prefix_trie_bits.specs.Model.Entries.{Entries, no_entries, with_entry}
+use Rattle.prefix_trie_bits.specs.Model.Nodes.{Nodes, has_node, root_alone, is_node_depth, with_needed, AreNodes}
 use Rattle.prefix_trie_bits.specs.Model.Step.{Reply, Step, Insert}
 use Rattle.prefix_trie_bits.proofs.Model.Members.{or-cases, or-left, and-first, and-second, needs, same_nodes}
-use Rattle.prefix_trie_bits.proofs.Model.NodeSets.{has-with_needed, AreNodes-with_entry}
+use Rattle.prefix_trie_bits.proofs.Model.NodeSets.{has-with_needed, AreNodes-no_entries}
 use Rattle.prefix_trie_table.specs.Shape.{Contents}
 use Rattle.prefix_trie_map.specs.Steps.{state, inserted}
 
@@ -16,6 +18,10 @@ not_stored true h = absurd (h refl)
 not_stored false h = refl
 
 module _ {T : Type 0} where
+  -- no entries and the root alone are a map
+  pub IsMap-empty : (width : ℕ) → IsMap width (record { entries = no_entries {T = T}; nodes = root_alone })
+  IsMap-empty width = record { keys_within = λ k e. absurd (true≢false (sym e ∙ ap is_some (get-empty listing_cmp k))); are_nodes = AreNodes-no_entries width }
+
   stands : (width : ℕ) (m : Entries T) (n : Nodes) (s q : List Bool) → AreNodes width m n → contains_key m s ≡ true → has_node (with_needed n s) q ≡ true → has_node n q ≡ true
   stands width m n s q good stored e =
       elim (or-cases (has_node n q) (begins q s && is_node_depth q) (sym (has-with_needed n s q) ∙ e)) [
@@ -36,15 +42,6 @@ module _ {T : Type 0} where
     pub nodes : OnOk result (new.nodes ≡ with_needed old.nodes s)
     pub unchanged : OnErr result ((new.entries ≡ old.entries) × (new.nodes ≡ old.nodes))
     pub stored : IsTrue (contains_key old.entries s) → IsOk result
-
-  -- the nodes stay those of a map
-  pub AreNodes-inserted : (width : ℕ) (old new : Contents T) (s : List Bool) (v : T) (result : Result (Option T) (Refused T)) → AreNodes width old.entries old.nodes → length s ≤ width → Inserts old new s v result → AreNodes width new.entries new.nodes
-  AreNodes-inserted width old new s v (Ok before) good short h =
-      subst (λ m. AreNodes width m new.nodes) (sym h.entries)
-      (subst (λ n. AreNodes width (with_entry old.entries s v) n) (sym h.nodes) (AreNodes-with_entry width old.entries old.nodes s v good short))
-  AreNodes-inserted width old new s v (Err refused) good short h =
-      subst (λ m. AreNodes width m new.nodes) (sym h.unchanged.0)
-      (subst (λ n. AreNodes width old.entries n) (sym h.unchanged.1) good)
 
   nodes_left : (width : ℕ) (m : Entries T) (n : Nodes) (s : List Bool) (b : Bool) → contains_key m s ≡ b → AreNodes width m n → with_needed n s ≡ cond b n (with_needed n s)
   nodes_left width m n s true is good = with_needed-stored width m n s good is

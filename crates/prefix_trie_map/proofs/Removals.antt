@@ -1,32 +1,39 @@
 -- What the calls that take entries out leave of a map.
-use Rattle.std.proofs.Common.{◌≡◌, ℕ, Bool, List, sym, ap, ◌∙◌, subst}
-use Rattle.std.specs.FinMap.{contains_key}
-use Rattle.prefix_trie_bits.specs.Model.Entries.{Entries, AreWithin, no_entries, without_entry}
-use Rattle.prefix_trie_bits.specs.Model.Nodes.{Nodes, root_alone, nodes_without, AreNodes}
-use Rattle.prefix_trie_bits.proofs.Model.NodeSets.{AreNodes-no_entries, AreNodes-without_entry}
+use Rattle.std.proofs.Common.{◌≡◌, ℕ, List, Bool, refl, sym, subst}
+use Rattle.prefix_trie_bits.specs.Model.Entries.{no_entries, without_entry}
+use Rattle.prefix_trie_bits.specs.Model.Nodes.{root_alone, nodes_without}
+use Rattle.prefix_trie_bits.specs.Model.Step.{State, Clear, Done}
+use Rattle.prefix_trie_bits.specs.Laws.Steps.{IsMap}
+use Rattle.prefix_trie_bits.proofs.Model.NodeSets.{AreNodes-without_entry}
 use Rattle.prefix_trie_bits.proofs.Model.Pruning.{removed_fewer, remove_law}
+use Rattle.prefix_trie_bits.proofs.Model.Steps.{stays_map}
 
 module _ {T : Type 0} where
-  -- without entries the root alone is a set of nodes
-  pub AreNodes-cleared : (width : ℕ) (m : Entries T) (n : Nodes) → m ≡ no_entries → n ≡ root_alone → AreNodes width m n
-  AreNodes-cleared width m n entries nodes =
-      subst (λ k. AreNodes width k n) (sym entries)
-      (subst (λ k. AreNodes width (no_entries {T = T}) k) (sym nodes) (AreNodes-no_entries width))
+  state_is : (s : State T) (m : State T) → s.entries ≡ m.entries → s.nodes ≡ m.nodes → s ≡ m
+  state_is s m entries nodes = λ i. record { entries = entries i; nodes = nodes i }
 
-  -- the nodes stay those of a map where a key goes and no node does
-  pub AreNodes-removed : (width : ℕ) (m left : Entries T) (n nodes_left : Nodes) (s : List Bool) → left ≡ without_entry m s → nodes_left ≡ n →
-      AreNodes width m n → AreNodes width left nodes_left
-  AreNodes-removed width m left n nodes_left s entries nodes good =
-      subst (λ k. AreNodes width k nodes_left) (sym entries)
-      (subst (λ k. AreNodes width (without_entry m s) k) (sym nodes) (AreNodes-without_entry width m n s good))
+  -- a map stays one where a key goes and no node does
+  pub IsMap-removed : (width : ℕ) (s left : State T) (q : List Bool) → left.entries ≡ without_entry s.entries q → left.nodes ≡ s.nodes →
+      IsMap width s → IsMap width left
+  IsMap-removed width s left q entries nodes good =
+      subst (IsMap width) (sym (state_is left (record { entries = without_entry s.entries q; nodes = s.nodes }) entries nodes))
+      (record {
+        keys_within = λ k there. good.keys_within k (removed_fewer s.entries q k there);
+        are_nodes = AreNodes-without_entry width s.entries s.nodes q good.are_nodes;
+      })
 
-  -- the keys stay within the width where one goes
-  pub AreWithin-removed : (width : ℕ) (m left : Entries T) (s : List Bool) → left ≡ without_entry m s → AreWithin width m → AreWithin width left
-  AreWithin-removed width m left s entries within = λ k there. within k (removed_fewer m s k (ap (λ e. contains_key e k) (sym entries) ∙ there))
+  -- and where the way to the key is pruned
+  pub IsMap-pruned : (width : ℕ) (s left : State T) (q : List Bool) → left.entries ≡ without_entry s.entries q →
+      left.nodes ≡ nodes_without s.nodes s.entries q → IsMap width s → IsMap width left
+  IsMap-pruned width s left q entries nodes good =
+      subst (IsMap width) (sym (state_is left (record { entries = without_entry s.entries q; nodes = nodes_without s.nodes s.entries q }) entries nodes))
+      (record {
+        keys_within = λ k there. good.keys_within k (removed_fewer s.entries q k there);
+        are_nodes = (remove_law width s.entries s.nodes q good.are_nodes).are_nodes;
+      })
 
-  -- the nodes stay those of a map where a key goes and the way to it is pruned
-  pub AreNodes-pruned : (width : ℕ) (m left : Entries T) (n nodes_left : Nodes) (s : List Bool) → left ≡ without_entry m s →
-      nodes_left ≡ nodes_without n m s → AreNodes width m n → AreNodes width left nodes_left
-  AreNodes-pruned width m left n nodes_left s entries nodes good =
-      subst (λ k. AreNodes width k nodes_left) (sym entries)
-      (subst (λ k. AreNodes width (without_entry m s) k) (sym nodes) (remove_law width m n s good).are_nodes)
+-- a map without entries is one
+pub IsMap-cleared : (P : Type 0) {T : Type 0} (path : P → List Bool) (back : List Bool → P) (width : ℕ) (s left : State T) → left.entries ≡ no_entries →
+    left.nodes ≡ root_alone → IsMap width s → IsMap width left
+IsMap-cleared P {T} path back width s left entries nodes good =
+    stays_map {P = P} {T = T} path back width s Clear Done left tt (refl, (λ i. record { entries = entries i; nodes = nodes i })) good

@@ -12,10 +12,20 @@ ghost use Rattle.prefix_trie_bits.specs.Model.Room.{MayPassLimit};
 ghost use Rattle.prefix_trie_bits.specs.Model.Step.{Step, Insert};
 ghost use Rattle.prefix_trie_map.specs.Steps.{state, inserted};
 
+mod counting;
+mod cover;
+#[cfg(test)]
+mod cover_tests;
+mod iter;
+#[cfg(test)]
+mod iter_tests;
+mod lending;
 mod lookup;
 mod removal;
 mod visits;
 
+pub use cover::{Cover, CoverKeys, CoverValues};
+pub use iter::{Iter, Keys, Values};
 use prefix_trie_bits::prefix::{Prefix, Refusal, Refused};
 use prefix_trie_table::table::Table;
 use std::alloc::Allocator;
@@ -40,10 +50,11 @@ pub struct PrefixMap<P: Prefix, T: Drop, A: Allocator> {
     marker: PhantomData<P>,
 }
 
-// Contracts see the table's entries, nodes and room. The nodes are always such as the keys of P need.
+// Contracts see the table's entries, nodes and room. No key is longer than those of P, and the nodes are such as keys need.
 impl<P: Prefix, T: Drop, A: Allocator> Model for PrefixMap<P, T, A> {
     ghost use Rattle.prefix_trie_table.specs.Shape.{Contents, contents_code};
-    ghost use Rattle.prefix_trie_bits.specs.Model.Nodes.{AreNodes};
+    ghost use Rattle.prefix_trie_bits.specs.Laws.Steps.{IsMap};
+    ghost use Rattle.prefix_trie_map.specs.Steps.{state};
 
     ghost Value = { Contents T };
 
@@ -51,7 +62,7 @@ impl<P: Prefix, T: Drop, A: Allocator> Model for PrefixMap<P, T, A> {
 
     ghost view = { λ m. m.table };
 
-    ghost invariant = { λ m. AreNodes P.R.bit_width m.table.entries m.table.nodes };
+    ghost invariant = { λ m. IsMap P.R.bit_width (state m.table) };
 }
 
 impl<P: Prefix, T: Drop, A: Allocator + Clone> PrefixMap<P, T, A> {

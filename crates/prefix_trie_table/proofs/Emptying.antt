@@ -14,7 +14,7 @@ use Rattle.prefix_trie_table.specs.Bitmaps.{has_bit, rank}
 use Rattle.prefix_trie_table.specs.Digits.{path_of, bit_of}
 use Rattle.prefix_trie_table.specs.Store.{Store}
 use Rattle.prefix_trie_table.specs.Forest.{one_if, Holds, IsSlot, at_root, at_child, child_slot, node_or_blank, own_count, has_value, with_node, with_value}
-use Rattle.prefix_trie_table.specs.Removals.{Shrinks, ValueTaken, EntryTaken}
+use Rattle.prefix_trie_table.specs.Removals.{Shrinks, SameChildren, ValueTaken, EntryTaken}
 use Rattle.prefix_trie_table.specs.Shape.{IsShapeOf, Shaped, same_shape}
 use Rattle.prefix_trie_table.specs.Tables.{IsReached, IsTableOf, IsCounted, ForHeld}
 use Rattle.prefix_trie_table.proofs.Children.{same_or, with_here, with_other}
@@ -42,6 +42,13 @@ slots_same reading p n m q s (at_child r d k parent bit) is bits block = go (sam
         (at_child r d m (with_here reading p m r e) (ap (λ b. has_bit b d) bits ∙ ap (λ (x : Node). has_bit x.child_bitmap d) (sym (same e)) ∙ bit))
     go (inr ne) = at_child r d k (with_other reading p m r ne ∙ parent) bit
 
+same_children : (n m : Node) → n ≡ m → SameChildren n m
+same_children n m e = record {
+  bitmap = ap (λ (x : Node). x.child_bitmap) (sym e);
+  block = ap (λ (x : Node). x.child_block) (sym e);
+  tier = ap (λ (x : Node). x.child_tier) (sym e);
+}
+
 module _ {T : Type 0} (reading : List ℕ → Option Node) (values : List ℕ → ℕ → Option T) (paths : List (List ℕ)) (v : Store Node) (w : Store (Option T))
     (holds : Holds reading values paths v w) where
   -- nothing is there, so nothing changes
@@ -53,6 +60,8 @@ module _ {T : Type 0} (reading : List ℕ → Option Node) (values : List ℕ �
     others = λ q ne. refl;
     stands = λ q slot at. at;
     counted = (let z : one_if (is_some (values path b)) ≡ 0 = ap (λ o. one_if (is_some o)) none in omega arith);
+    kept = λ none. refl;
+    children = λ n m a c. same_children n m (ap node_or_blank (sym a ∙ c));
     shrinks = λ n m a c there. absurd (false≢true (sym (ap is_some none) ∙ there));
   }
     where
@@ -82,6 +91,11 @@ module _ {T : Type 0} (reading : List ℕ → Option Node) (values : List ℕ �
           let o : own_count (reading path) ≡ own_count (Some n) = ap own_count is in
           let one : one_if (is_some (values path b)) ≡ 1 = ap one_if there in
           let f = a.fewer in omega arith);
+      kept = λ none. absurd (false≢true (sym none ∙ there));
+      children = λ n2 m2 e f.
+          let first : n ≡ n2 = ap node_or_blank (sym is ∙ e) in
+          let last : m ≡ m2 = ap node_or_blank (sym (with_here reading path m path refl) ∙ f) in
+          subst (λ y. SameChildren y m2) first (subst (λ y. SameChildren n y) last a.children);
       shrinks = λ n2 m2 e f _.
           let first : n ≡ n2 = ap node_or_blank (sym is ∙ e) in
           let last : m ≡ m2 = ap node_or_blank (sym (with_here reading path m path refl) ∙ f) in

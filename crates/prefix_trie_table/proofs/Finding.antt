@@ -1,13 +1,15 @@
 -- What stands, or does not, at the end of the way down.
-use Rattle.std.proofs.Common.{◌≡◌, ◌≢◌, ℕ, ◌+◌, ◌*◌, ◌<◌, ◌≤◌, inl, inr, ⊎_elim, Bool, true, false, ◌||◌, List, [], ◌∷◌, ◌++◌, length, get_or, take, drop, Option, None, Some, is_some, refl, sym, ap, ◌∙◌, arith, nat_le, leb-true}
+use Rattle.std.proofs.Common.{◌≡◌, ◌≢◌, ℕ, ◌+◌, ◌*◌, ◌<◌, ◌≤◌, inl, inr, ⊎_elim, Bool, true, false, ◌||◌, List, [], ◌∷◌, ◌++◌, length, take, drop, Option, None, Some, is_some, refl, sym, ap, ap₂, ◌∙◌, arith, nat_le, leb-true}
 use Rattle.std.proofs.lemmas.Bool.Decides.{nat_tests}
 use Rattle.std.proofs.lemmas.Bool.{false≢true, cases_Bool}
 use Rattle.std.proofs.lemmas.List.{take_all}
 use Rattle.prefix_trie_bits.specs.Places.{has, ones_below, value_bit}
 use Rattle.prefix_trie_table.specs.declared.allocator.node.Node.{Node}
 use Rattle.prefix_trie_table.specs.Bitmaps.{has_bit, rank}
-use Rattle.prefix_trie_table.specs.Cells.{node_sizes, cell_sizes}
+use Rattle.prefix_trie_table.specs.Cells.{node_sizes}
 use Rattle.prefix_trie_table.specs.Digits.{path_of, bit_of}
+use Rattle.prefix_trie_table.specs.declared.table.seat.Seat.{Seat}
+use Rattle.prefix_trie_table.specs.Slots.{IsSeat}
 use Rattle.prefix_trie_table.specs.Store.{Store}
 use Rattle.prefix_trie_table.specs.Forest.{same_path, is_start, NodesHold, Holds, IsEnd, has_child, has_value}
 use Rattle.prefix_trie_table.specs.Tables.{IsReached}
@@ -16,7 +18,6 @@ use Rattle.prefix_trie_table.proofs.Paths.{same_path-not, snoc_ind}
 use Rattle.prefix_trie_table.proofs.Starts.{is_start-snoc, is_start_take, or_either}
 use Rattle.prefix_trie_table.proofs.Trees.{is_none-None}
 use Rattle.prefix_trie_table.proofs.Children.{same_or}
-use Rattle.prefix_trie_table.proofs.Values.{value_stands}
 use Rattle.prefix_trie_table.proofs.Going.{step-inside, steps-end, bit-read, deepest_is, deepest_end}
 
 or_false_right : (a : Bool) → (a || false) ≡ a
@@ -50,6 +51,12 @@ none_below nodes paths v path depth hold end inside =
       | inr e ↦ is_none-None (nodes path) e
     ]
 
+-- whether the node reached has a value at the bit that the code reads
+bit_set : (b : List Bool) (len level slot : ℕ) (node : Node) (v : Store Node) → IsReached b len level node slot v → len < 5 * level + 5 → (x : ℕ) → x < 31 →
+    x ≡ value_bit (drop (5 * level) (take len b)) → has_bit node.value_bitmap (bit_of (take len b)) ≡ has node.value_bitmap x
+bit_set b len level slot node v at less x small read =
+    ap (has_bit node.value_bitmap) (bit-read b len level at.long x at.whole less read) ∙ has_bit-is node.value_bitmap x (omega arith)
+
 module _ (b : List Bool) (len level slot : ℕ) (node : Node) (v : Store Node) (at : IsReached b len level node slot v) (reading : List ℕ → Option Node)
     (paths : List (List ℕ)) (hold : NodesHold node_sizes reading paths v) where
   abbrev way : List ℕ
@@ -80,6 +87,26 @@ module _ (b : List Bool) (len level slot : ℕ) (node : Node) (v : Store Node) (
   pub reached_none : 5 * level + 5 ≤ len → reading (path_of (take len b)) ≡ None
   reached_none more = none_below reading paths v (path_of (take len b)) level hold reached_end (step-inside b len level at.long more)
 
+  -- no value where the node is missing
+  pub no_seat_below : 5 * level + 5 ≤ len → has_value (reading (path_of (take len b))) (bit_of (take len b)) ≡ false
+  no_seat_below more = ap (λ o. has_value o (bit_of (take len b))) (reached_none more)
+
+  module _ (less : len < 5 * level + 5) (x : ℕ) (small : x < 31) (read : x ≡ value_bit (drop (5 * level) (take len b))) where
+    -- no value where the bit that the code reads is clear
+    pub no_seat_here : has node.value_bitmap x ≡ false → has_value (reading (path_of (take len b))) (bit_of (take len b)) ≡ false
+    no_seat_here clear = ap (λ o. has_value o (bit_of (take len b))) (reached_own less) ∙ bit_set b len level slot node v at less x small read ∙ clear
+
+    -- the seat of the value
+    pub seat_here : (seat : Seat) → has node.value_bitmap x ≡ true → seat.start ≡ node.value_block → seat.place ≡ ones_below x node.value_bitmap →
+        IsSeat reading (path_of (take len b)) (bit_of (take len b)) seat
+    seat_here seat set start place = record {
+      node = node;
+      is = reached_own less;
+      set = bit_set b len level slot node v at less x small read ∙ set;
+      slot_is = ap₂ (λ m n. m + n) start (place ∙ sym (rank-ones node.value_bitmap x (omega arith))
+          ∙ ap (rank node.value_bitmap) (sym (bit-read b len level at.long x at.whole less read)));
+    }
+
 module _ {T : Type 0} (b : List Bool) (len level slot : ℕ) (node : Node) (v : Store Node) (at : IsReached b len level node slot v)
     (reading : List ℕ → Option Node) (values : List ℕ → ℕ → Option T) (paths : List (List ℕ)) (w : Store (Option T))
     (holds : Holds reading values paths v w) where
@@ -100,20 +127,4 @@ module _ {T : Type 0} (b : List Bool) (len level slot : ℕ) (node : Node) (v : 
   module _ (less : len < 5 * level + 5) (x : ℕ) (small : x < 31) (read : x ≡ value_bit (drop (5 * level) (take len b))) where
     -- whether the node has a value there
     pub value_bit_is : has_bit node.value_bitmap (bit_of (take len b)) ≡ has node.value_bitmap x
-    value_bit_is = ap (has_bit node.value_bitmap) (bit-read b len level at.long x at.whole less read) ∙ has_bit-is node.value_bitmap x (omega arith)
-
-    -- no value where the bit that the code reads is clear
-    pub no_value_here : has node.value_bitmap x ≡ false → values (path_of (take len b)) (bit_of (take len b)) ≡ None
-    no_value_here clear = no_value_at less (value_bit_is ∙ clear)
-
-    -- the cell of the value
-    pub value_here : (place : ℕ) → has node.value_bitmap x ≡ true → place ≡ ones_below x node.value_bitmap →
-        (node.value_block + place < length w.slots) ×
-        (get_or w.slots (node.value_block + place) None ≡ values (path_of (take len b)) (bit_of (take len b)))
-    value_here place set is =
-        let bit = bit-read b len level at.long x at.whole less read in
-        let here = value_stands cell_sizes node_sizes reading paths v holds.hold values w holds.cells (path_of (take len b)) node
-        (bit_of (take len b)) (reached_own b len level slot node v at reading paths holds.hold less) (value_bit_is ∙ set) in
-        let place_is : place ≡ rank node.value_bitmap (bit_of (take len b)) = is ∙ sym (rank-ones node.value_bitmap x (omega arith))
-        ∙ ap (rank node.value_bitmap) (sym bit) in
-        ((let h = here.2 in omega arith), ap (λ i. get_or w.slots (node.value_block + i) None) place_is ∙ here.1)
+    value_bit_is = bit_set b len level slot node v at less x small read

@@ -38,6 +38,13 @@ pub mod Subtrees
 pub mod Spots
 pub mod Stacks
 pub mod Walking
+pub mod Covers
+pub mod Covered
+pub mod Lending
+pub mod SlotSums
+pub mod PathLists
+pub mod NodeCounts
+pub mod PathStrings
 pub mod Asked
 pub mod AskedBelow
 pub mod Retained

@@ -1,5 +1,5 @@
 -- The longest and the shortest match of a table's entries, from the beginnings of a bit string that have values.
-use Rattle.std.proofs.Common.{◌≡◌, ℕ, ◌+◌, ◌/◌, ◌<◌, ◌≤◌, Bool, true, false, ◌&&◌, nat_le, List, length, get_or, take, Option, None, Some, is_some, MatchOption, refl, sym, ap, ◌∙◌, subst, arith, inl, inr, true≢false}
+use Rattle.std.proofs.Common.{◌≡◌, ℕ, ◌+◌, ◌/◌, ◌<◌, ◌≤◌, Bool, true, false, ◌&&◌, nat_le, List, length, get_or, take, Option, None, Some, is_some, MatchOption, refl, sym, ap, ◌∙◌, arith, inl, inr, true≢false}
 use Rattle.std.proofs.lemmas.Bool.{false≢true, cases_lt}
 use Rattle.std.proofs.lemmas.List.{length-take-le, take_all}
 use Rattle.std.proofs.lemmas.List.Elements.{filter_agree}
@@ -18,7 +18,7 @@ use Rattle.prefix_trie_table.specs.Bitmaps.{has_bit}
 use Rattle.prefix_trie_table.specs.Cells.{node_sizes, cell_sizes}
 use Rattle.prefix_trie_table.specs.Digits.{path_of, bit_of}
 use Rattle.prefix_trie_table.specs.Store.{Store}
-use Rattle.prefix_trie_table.specs.Forest.{Holds, IsTable, IsEnd, has_value}
+use Rattle.prefix_trie_table.specs.Forest.{IsTable, IsEnd, has_value}
 use Rattle.prefix_trie_table.specs.Matching.{holds_value, HasNodes, IsHeld, NoneHeld, cell_slot}
 use Rattle.prefix_trie_table.specs.Shape.{IsShapeOf}
 use Rattle.prefix_trie_table.proofs.Digits.{path-length}
@@ -97,17 +97,17 @@ module _ {T : Type 0} where
           shape_entries t.reading t.values t.paths v w t.holds s is (take m.len asked) ∙ ap (t.values (path_of (take m.len asked))) held.bit_is ∙ sym stands_at.0
 
       -- the value is there
-      cell_some : is_some (cell_of w m) ≡ true
+      pub cell_some : is_some (cell_of w m) ≡ true
       cell_some =
           ap is_some (sym value_at) ∙ stored-is m.len ∙ ap (λ o. has_value o (bit_of (take m.len asked))) held.is ∙ ap (has_bit m.node.value_bitmap) held.bit_is ∙ held.set
 
-      is_match : (x : T) → cell_of w m ≡ Some x → IsMatch s.entries (take len b) (take m.len (take len b), x)
+      pub is_match : (x : T) → cell_of w m ≡ Some x → IsMatch s.entries (take len b) (take m.len (take len b), x)
       is_match x e = record { stored = value_at ∙ e; begins_it = take-begins m.len asked }
 
       match_length : length (take m.len (take len b)) ≡ m.len
       match_length = length-take-le m.len asked held.within
 
-      longest_at : NoneHeld t.reading (take len b) (m.len + 1) (len + 1) → (x : T) → cell_of w m ≡ Some x → longest_match s.entries (take len b) ≡ Some (take m.len (take len b), x)
+      pub longest_at : NoneHeld t.reading (take len b) (m.len + 1) (len + 1) → (x : T) → cell_of w m ≡ Some x → longest_match s.entries (take len b) ≡ Some (take m.len (take len b), x)
       longest_at none x e = ((match_laws T).longest_is s.entries asked (take m.len asked, x)).1 (record {
         matches = is_match x e;
         longest = λ k has h.
@@ -117,6 +117,10 @@ module _ {T : Type 0} where
               | inr g ↦ omega (arith, match_length)
             ];
       })
+
+      -- the longest match is at its string
+      pub longest_there : NoneHeld t.reading (take len b) (m.len + 1) (len + 1) → (x : T) × (longest_match s.entries (take len b) ≡ Some (take m.len (take len b), x))
+      longest_there none = let x = some-value (cell_of w m) cell_some in (x.0, longest_at none x.0 x.1)
 
       shortest_at : NoneHeld t.reading (take len b) 0 m.len → (x : T) → cell_of w m ≡ Some x → shortest_match s.entries (take len b) ≡ Some (take m.len (take len b), x)
       shortest_at none x e = ((match_laws T).shortest_is s.entries asked (take m.len asked, x)).1 (record {

@@ -1,5 +1,5 @@
 -- Which beginnings of a bit string have values, node by node on its way.
-use Rattle.std.proofs.Common.{◌≡◌, ℕ, ◌+◌, ◌-◌, ◌*◌, ◌/◌, ◌^◌, ◌<◌, ◌≤◌, Bool, true, false, List, length, length-drop, take, drop, Option, None, Some, is_some, MatchOption, refl, sym, ap, ap₂, ◌∙◌, subst, arith, inl, inr, add-sub_of_le}
+use Rattle.std.proofs.Common.{◌≡◌, ℕ, ◌+◌, ◌-◌, ◌*◌, ◌/◌, ◌^◌, ◌<◌, ◌≤◌, Bool, true, false, List, length, length-drop, take, drop, Option, None, Some, is_some, refl, sym, ap, ap₂, ◌∙◌, subst, arith, inl, inr, add-sub_of_le}
 use Rattle.std.specs.Int.{bit_at}
 use Rattle.std.specs.Option.{option_or}
 use Rattle.std.proofs.lemmas.Bool.{false≢true, cases_Bool, cases_lt}
@@ -13,7 +13,7 @@ use Rattle.prefix_trie_table.specs.declared.allocator.node.Node.{Node}
 use Rattle.prefix_trie_table.specs.declared.table.matching.Match.{Match}
 use Rattle.prefix_trie_table.specs.Bitmaps.{has_bit}
 use Rattle.prefix_trie_table.specs.Cells.{node_sizes}
-use Rattle.prefix_trie_table.specs.Digits.{path_of, rest_of, bit_of}
+use Rattle.prefix_trie_table.specs.Digits.{path_of, bit_of}
 use Rattle.prefix_trie_table.specs.Store.{Store}
 use Rattle.prefix_trie_table.specs.Forest.{NodesHold, IsEnd, has_value}
 use Rattle.prefix_trie_table.specs.Matching.{holds_value, NoneHeld, IsHeld, IsOnWay, LongestHeld, ShortestHeld}
@@ -80,7 +80,7 @@ module _ (q : List Bool) (level : ℕ) (whole : 5 * level ≤ length q) (reading
       held_is q level i from within last reading node is ∙ none (i - 5 * level) (omega arith) (omega (arith, rest-length))
 
   -- a value behind the first n bits of the rest
-  held_here : (n bit : ℕ) → n ≤ 4 → n ≤ length (drop (5 * level) q) → bit ≡ value_bit (take n (drop (5 * level) q)) → has node.value_bitmap bit ≡ true → IsHeld reading q (5 * level + n) bit node
+  pub held_here : (n bit : ℕ) → n ≤ 4 → n ≤ length (drop (5 * level) q) → bit ≡ value_bit (take n (drop (5 * level) q)) → has node.value_bitmap bit ≡ true → IsHeld reading q (5 * level + n) bit node
   held_here n bit short within bit_is set =
       let inside : 5 * level + n ≤ length q = omega (arith, rest-length) in
       let own : bit_of (take (5 * level + n) q) ≡ bit = own_bit q level (5 * level + n) (omega arith) inside (omega arith) ∙ ap (λ k. value_bit (take k (drop (5 * level) q))) (back (5 * level) n) ∙ sym bit_is in

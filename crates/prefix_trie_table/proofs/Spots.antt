@@ -2,7 +2,7 @@
 use Rattle.std.proofs.Common.{◌≡◌, ℕ, zero, suc, ◌+◌, ◌-◌, ◌*◌, ◌/◌, ◌%◌, ◌<◌, ◌≤◌, Bool, true, false, cond, List, [], ◌∷◌, ◌++◌, length, take, filter, get_or, None, Some, refl, sym, ap, ◌∙◌, subst, arith, inl, inr, length-append}
 use Rattle.std.specs.List.{All}
 use Rattle.std.proofs.lemmas.Bool.{cases_lt, lt-ltb, le-ltb}
-use Rattle.std.proofs.lemmas.List.{length-take-le}
+use Rattle.std.proofs.lemmas.List.{length-take-le, take-append-le, take-take}
 use Rattle.std.proofs.lemmas.List.Elements.{All-head, All-tail}
 use Rattle.prefix_trie_bits.specs.Bits.{number, digits, zeros}
 use Rattle.prefix_trie_bits.specs.BitStrings.{length-digits, digits-number}
@@ -17,13 +17,12 @@ use Rattle.prefix_trie_bits.proofs.Listing.{count-strings}
 use Rattle.prefix_trie_bits.proofs.Strings.{value_bit-small}
 use Rattle.prefix_trie_bits.proofs.Model.NodeListings.{listing_at_child}
 use Rattle.prefix_trie_table.specs.declared.allocator.node.Node.{Node}
-use Rattle.prefix_trie_table.specs.declared.table.spot.Spot.{Spot}
 use Rattle.prefix_trie_table.specs.Bitmaps.{has_bit, rank}
 use Rattle.prefix_trie_table.specs.Cells.{node_at}
 use Rattle.prefix_trie_table.specs.Digits.{path_of}
 use Rattle.prefix_trie_table.specs.Store.{Store}
 use Rattle.prefix_trie_table.specs.Forest.{read, child_slot}
-use Rattle.prefix_trie_table.specs.Walks.{Tree, IsTree, IsSpot, IsPlaceOf, still, GivesSeat, many, most, weight_of, weight}
+use Rattle.prefix_trie_table.specs.Walks.{Site, Tree, IsTree, IsSpot, IsPlaceOf, still, GivesSeat, many, most, weight_of, weight}
 use Rattle.prefix_trie_table.proofs.Bits.{rank-ones}
 use Rattle.prefix_trie_table.proofs.Subtrees.{is_in-value, is_in-child, number-small, stored_value, value_read, value_inside, value_listed, value_fits, child_is, child_inside, child_few, child_fits, all_places}
 
@@ -96,7 +95,7 @@ whole-more u s h five = omega (arith, h, five, length-append u s)
 whole-levels : (d l : ℕ) → d ≡ 5 * l → d % 5 ≡ 0
 whole-levels d l e = omega (arith, e)
 
-module _ {K : Type 0} (IsKey : K → Type 0) (bits : K → List Bool) (width : ℕ) (v : Store Node) (p : Spot K) (at : IsSpot IsKey bits width v p)
+module _ {K : Type 0} (IsKey : K → Type 0) (bits : K → List Bool) (width : ℕ) (v : Store Node) (p : Site K) (at : IsSpot IsKey bits width v p)
     (long : length (bits p.key) ≡ width) where
   pub string-length : length (take p.depth (bits p.key)) ≡ p.depth
   string-length = let w = at.within in length-take-le p.depth (bits p.key) (omega (arith, w, long))
@@ -106,7 +105,7 @@ module _ {K : Type 0} (IsKey : K → Type 0) (bits : K → List Bool) (width : �
 
   module _ (s : List Bool) (later : Places) (first : to_come p.places ≡ s ∷ to_come later) where
     -- the spot afterwards
-    abbrev after : Spot K
+    abbrev after : Site K
     after = record { node = p.node; key = p.key; depth = p.depth; places = later }
 
     here : IsPlaceOf p.node s
@@ -204,7 +203,7 @@ module _ {K : Type 0} (IsKey : K → Type 0) (bits : K → List Bool) (width : �
               (child_few width v t tree (take p.depth (bits p.key)) p.node whole at.stands s five bit_set)
 
           -- the child, with all its places
-          module _ (c : Spot K) (is_key : IsKey c.key)
+          module _ (c : Site K) (is_key : IsKey c.key)
               (extended : bits c.key ≡ take p.depth (bits p.key) ++ digits 5 b ++ zeros (width - (p.depth + 5)))
               (depth_is : c.depth ≡ p.depth + 5) (node_is : c.node ≡ node_at v.slots (p.node.child_block + place))
               (all : to_come c.places ≡ places c.node.value_bitmap c.node.child_bitmap) (each : All (IsPlaceOf c.node) (to_come c.places)) where
@@ -231,6 +230,13 @@ module _ {K : Type 0} (IsKey : K → Type 0) (bits : K → List Bool) (width : �
               stands = child_node;
               each = each;
             }
+
+            -- the spot's path begins the child's key too
+            pub child_way : take p.depth (bits c.key) ≡ take p.depth (bits p.key)
+            child_way =
+                sym (take-take p.depth c.depth (bits c.key) (omega (arith, depth_is))) ∙ ap (take p.depth) child_string
+                ∙ take-append-le p.depth (take p.depth (bits p.key)) s (omega (arith, string-length))
+                ∙ take-take p.depth p.depth (bits p.key) (omega arith)
 
             child_whole : length (take c.depth (bits c.key)) % 5 ≡ 0
             child_whole = ap (λ u. length u % 5) child_string ∙ whole-more (take p.depth (bits p.key)) s whole five

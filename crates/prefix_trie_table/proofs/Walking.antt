@@ -10,28 +10,28 @@ use Rattle.prefix_trie_bits.specs.Model.NodeListings.{listing_at_places}
 use Rattle.prefix_trie_bits.specs.Model.Step.{State}
 use Rattle.prefix_trie_bits.proofs.Model.NodeListings.{listing_of_root}
 use Rattle.prefix_trie_table.specs.declared.allocator.node.Node.{Node}
-use Rattle.prefix_trie_table.specs.declared.table.spot.Spot.{Spot}
 use Rattle.prefix_trie_table.specs.Store.{Store}
 use Rattle.prefix_trie_table.specs.Cells.{node_at}
 use Rattle.prefix_trie_table.specs.Digits.{path_of}
 use Rattle.prefix_trie_table.specs.Forest.{read}
 use Rattle.prefix_trie_table.specs.Shape.{Shaped, IsShapeOf, same_shape}
-use Rattle.prefix_trie_table.specs.declared.table.spot.Seat.{Seat}
-use Rattle.prefix_trie_table.specs.Walks.{Tree, IsTree, IsSpot, IsPlaceOf, IsStack, still, pending, slot_of, GivesEntry, GivesSeat, ShapeOf, rest_of_walk, IsWalk}
+use Rattle.prefix_trie_table.specs.declared.table.seat.Seat.{Seat}
+use Rattle.prefix_trie_table.specs.Items.{GivesFilled}
+use Rattle.prefix_trie_table.specs.Walks.{Site, Tree, IsTree, IsSpot, IsPlaceOf, IsStack, still, pending, slot_of, GivesSeat, ShapeOf, rest_of_walk, IsWalk}
 use Rattle.prefix_trie_table.proofs.Trees.{read-nil}
 use Rattle.prefix_trie_table.proofs.Subtrees.{all_places}
 
 module _ {K T : Type 0} (IsKey : K → Type 0) (bits : K → List Bool) (width : ℕ) where
   -- a walk has arrays, which hold a table
-  pub record Rest (arrays : Option (Bor (Store Node) × Bor (Store (Option T)))) (shape : ShapeOf arrays) (ps : List (Spot K)) (v : Store Node) (w : Store (Option T)) : Type 0 where
+  pub record Rest (arrays : Option (Bor (Store Node) × Bor (Store (Option T)))) (shape : ShapeOf arrays) (ps : List (Site K)) (v : Store Node) (w : Store (Option T)) : Type 0 where
     pub state : State T
     pub tree : IsTree width v (record { cells = w; shape = state })
     pub stack : IsStack IsKey bits width v ps
     pub rest : rest_of_walk bits arrays shape ps ≡ pending bits state.entries ps
-    pub later : (u : ShapeOf arrays) (qs : List (Spot K)) → IsStack IsKey bits width v qs → IsWalk IsKey bits width arrays u qs
-    pub later_rest : (u : ShapeOf arrays) (qs : List (Spot K)) → rest_of_walk bits arrays u qs ≡ pending bits state.entries qs
+    pub later : (u : ShapeOf arrays) (qs : List (Site K)) → IsStack IsKey bits width v qs → IsWalk IsKey bits width arrays u qs
+    pub later_rest : (u : ShapeOf arrays) (qs : List (Site K)) → rest_of_walk bits arrays u qs ≡ pending bits state.entries qs
 
-  rest_some : (b : Bor (Store Node) × Bor (Store (Option T))) (shape : ShapeOf (Some b)) (ps : List (Spot K)) → IsWalk IsKey bits width (Some b) shape ps →
+  rest_some : (b : Bor (Store Node) × Bor (Store (Option T))) (shape : ShapeOf (Some b)) (ps : List (Site K)) → IsWalk IsKey bits width (Some b) shape ps →
       Rest (Some b) shape ps b.0.now b.1.now
   rest_some b shape ps h = record {
     state = shape.0;
@@ -46,19 +46,19 @@ module _ {K T : Type 0} (IsKey : K → Type 0) (bits : K → List Bool) (width :
   }
 
   pub rest_at : (arrays : Option (Bor (Store Node) × Bor (Store (Option T)))) (a : Bor (Store Node) × Bor (Store (Option T))) → arrays ≡ Some a →
-      (shape : ShapeOf arrays) (ps : List (Spot K)) → IsWalk IsKey bits width arrays shape ps → Rest arrays shape ps a.0.now a.1.now
+      (shape : ShapeOf arrays) (ps : List (Site K)) → IsWalk IsKey bits width arrays shape ps → Rest arrays shape ps a.0.now a.1.now
   rest_at None a e shape ps h = absurd (cc)
   rest_at (Some b) a e shape ps h =
       let same : b ≡ a = cc in subst (λ (x : Bor (Store Node) × Bor (Store (Option T))). Rest (Some b) shape ps x.0.now x.1.now) same (rest_some b shape ps h)
 
   -- the arrays have one shape, whichever is named
-  pub same_rest : (arrays : Option (Bor (Store Node) × Bor (Store (Option T)))) (s u : ShapeOf arrays) (ps qs : List (Spot K)) → qs ≡ ps →
+  pub same_rest : (arrays : Option (Bor (Store Node) × Bor (Store (Option T)))) (s u : ShapeOf arrays) (ps qs : List (Site K)) → qs ≡ ps →
       rest_of_walk bits arrays u qs ≡ rest_of_walk bits arrays s ps
   same_rest None s u ps qs e = refl
   same_rest (Some a) s u ps qs e =
       ap (λ (x : State T). pending bits x.entries qs) (same_shape a.0.now.slots a.1.now.slots u.0 s.0 u.1 s.1) ∙ ap (pending bits s.0.entries) e
 
-  pub same_walk : (arrays : Option (Bor (Store Node) × Bor (Store (Option T)))) (s u : ShapeOf arrays) (ps qs : List (Spot K)) → qs ≡ ps →
+  pub same_walk : (arrays : Option (Bor (Store Node) × Bor (Store (Option T)))) (s u : ShapeOf arrays) (ps qs : List (Site K)) → qs ≡ ps →
       IsWalk IsKey bits width arrays s ps → IsWalk IsKey bits width arrays u qs
   same_walk None s u ps qs e h = tt
   same_walk (Some a) s u ps qs e h = (
@@ -68,7 +68,7 @@ module _ {K T : Type 0} (IsKey : K → Type 0) (bits : K → List Bool) (width :
 
   -- the value that is read at its seat is the one that comes next
   pub gives_read : (t : Tree T) (key : K) (len : ℕ) (seat : Seat) (p q old new : List (List Bool × T)) (x : T) → GivesSeat IsKey bits width t key len seat p q →
-      slice_index_or t.cells.slots (slot_of seat) None ≡ Some x → old ≡ p → new ≡ q → GivesEntry IsKey bits width key len x old new
+      slice_index_or t.cells.slots (slot_of seat) None ≡ Some x → old ≡ p → new ≡ q → GivesFilled IsKey bits width key len x old new
   gives_read t key len seat p q old new x h reads before after =
       let both : Some h.value ≡ Some x = sym h.reads ∙ reads in
       let same : h.value ≡ x = cc in
@@ -80,7 +80,7 @@ module _ {K T : Type 0} (IsKey : K → Type 0) (bits : K → List Bool) (width :
       }
 
   -- a walk that stands at the root, with all its places
-  module _ (v : Store Node) (w : Store (Option T)) (s : State T) (tree : IsTree width v (record { cells = w; shape = s })) (c : Spot K) (is_key : IsKey c.key)
+  module _ (v : Store Node) (w : Store (Option T)) (s : State T) (tree : IsTree width v (record { cells = w; shape = s })) (c : Site K) (is_key : IsKey c.key)
       (depth_is : c.depth ≡ 0) (node_is : c.node ≡ node_at v.slots 0) (all : to_come c.places ≡ places c.node.value_bitmap c.node.child_bitmap)
       (each : All (IsPlaceOf c.node) (to_come c.places)) where
     root_string : take c.depth (bits c.key) ≡ []
@@ -106,7 +106,7 @@ module _ {K T : Type 0} (IsKey : K → Type 0) (bits : K → List Bool) (width :
         ∙ ap (listing_below s.entries) root_string ∙ listing_of_root s.entries
 
     -- is a walk
-    pub root_walk : (u : Shaped v.slots w.slots) (ps : List (Spot K)) → ps ≡ c ∷ [] →
+    pub root_walk : (u : Shaped v.slots w.slots) (ps : List (Site K)) → ps ≡ c ∷ [] →
         IsTree width v (record { cells = w; shape = u.0 }) × IsStack IsKey bits width v ps
     root_walk u ps e = (
       subst (λ (x : State T). IsTree width v (record { cells = w; shape = x })) (same_shape v.slots w.slots s u.0 tree.shaped u.1) tree,
@@ -114,7 +114,7 @@ module _ {K T : Type 0} (IsKey : K → Type 0) (bits : K → List Bool) (width :
     )
 
     -- and has the whole listing to come
-    pub root_rest : (u : Shaped v.slots w.slots) (ps : List (Spot K)) → ps ≡ c ∷ [] → (x : State T) → IsShapeOf v.slots w.slots x →
+    pub root_rest : (u : Shaped v.slots w.slots) (ps : List (Site K)) → ps ≡ c ∷ [] → (x : State T) → IsShapeOf v.slots w.slots x →
         pending bits u.0.entries ps ≡ listing x.entries
     root_rest u ps e x is =
         ap (pending bits u.0.entries) e ∙ ap (λ (y : State T). still bits y.entries c) (same_shape v.slots w.slots u.0 s u.1 tree.shaped)

@@ -4,9 +4,14 @@ pub mod Cells
 pub mod Bitmaps
 pub mod Digits
 pub mod Forest
+pub mod Slots
+pub mod Lending
 pub mod Shape
 pub mod Tables
 pub mod Matching
-pub mod Removals
 pub mod Walks
+pub mod Items
+pub mod Covers
+pub mod TableLending
+pub mod Removals
 pub mod Retaining

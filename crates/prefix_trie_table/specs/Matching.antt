@@ -1,7 +1,8 @@
 -- Which beginnings of a bit string have a value, and the way on which they stand.
-use Rattle.std.specs.Prelude.{◌≡◌, ℕ, ◌+◌, ◌*◌, ◌<◌, ◌≤◌, Bool, true, false, List, Option, Some, length, take, MatchOption}
+use Rattle.std.specs.Prelude.{◌≡◌, ℕ, ◌+◌, ◌*◌, ◌<◌, ◌≤◌, Bool, true, false, List, Option, None, Some, length, take, MatchOption}
 use Rattle.prefix_trie_table.specs.declared.allocator.node.Node.{Node}
 use Rattle.prefix_trie_table.specs.declared.table.matching.Match.{Match}
+use Rattle.prefix_trie_table.specs.declared.table.seat.Seat.{Seat}
 use Rattle.prefix_trie_table.specs.Bitmaps.{has_bit, rank}
 use Rattle.prefix_trie_table.specs.Cells.{node_at, node_sizes}
 use Rattle.prefix_trie_table.specs.Digits.{path_of, bit_of}
@@ -27,6 +28,14 @@ pub record IsHeld (reading : List ℕ → Option Node) (q : List Bool) (n bit : 
 -- the slot of the cell of a match
 abbrev pub cell_slot : Match → ℕ
 cell_slot m = m.node.value_block + rank m.node.value_bitmap m.bit
+
+-- where the value of a match stands
+abbrev pub match_seat : Match → Seat
+match_seat m = record { start = m.node.value_block; place = rank m.node.value_bitmap m.bit }
+
+-- the seat of a match and the length of its string, if there is one
+abbrev pub SeatAt : Option Match → Option Seat → ℕ → Type 0
+SeatAt o seat n = MatchOption o (seat ≡ None) (λ m. (seat ≡ Some (match_seat m)) × (n ≡ m.len))
 
 -- of the beginnings of q whose length is `first` or more and below `end`, the longest that has a value, if any has one
 abbrev pub LongestHeld : (List ℕ → Option Node) → List Bool → ℕ → ℕ → Option Match → Type 0

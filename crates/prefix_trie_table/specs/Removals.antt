@@ -36,8 +36,8 @@ module _ {T : Type 0} where
     pub children : SameChildren n m
     pub shrinks : Shrinks before.tiers n.value_tier (rank n.value_bitmap 32) m.value_tier
 
-  -- the value at bit b of the node with a path was taken, where there was one. The other nodes are as they were, and each
-  -- node stands where it stood
+  -- the value at bit b of the node with a path was taken, where there was one, and this node has the children that it had.
+  -- The other nodes are as they were, and each node stands where it stood
   pub record EntryTaken (reading : List ℕ → Option Node) (paths : List (List ℕ)) (values : List ℕ → ℕ → Option T) (path : List ℕ) (b : ℕ)
       (v : Store Node) (before after : Store (Option T)) : Type 0 where
     pub later : List ℕ → Option Node
@@ -46,6 +46,8 @@ module _ {T : Type 0} where
     pub others : (q : List ℕ) → q ≢ path → later q ≡ reading q
     pub stands : (q : List ℕ) (slot : ℕ) → IsSlot reading q slot → IsSlot later q slot
     pub counted : entry_count later paths + one_if (is_some (values path b)) ≡ entry_count reading paths
+    pub kept : is_some (values path b) ≡ false → later path ≡ reading path
+    pub children : (n m : Node) → reading path ≡ Some n → later path ≡ Some m → SameChildren n m
     pub shrinks : (n m : Node) → reading path ≡ Some n → later path ≡ Some m → is_some (values path b) ≡ true →
         Shrinks before.tiers n.value_tier (rank n.value_bitmap 32) m.value_tier
 

@@ -1,11 +1,12 @@
 -- What contracts see of a table, and that the nodes and the cells determine it.
-use Rattle.std.specs.Prelude.{◌≡◌, ℕ, Bool, List, ◌&&◌, is_some, Option, refl}
+use Rattle.std.specs.Prelude.{◌≡◌, ℕ, Bool, List, ◌&&◌, is_some, Option, None, Some, if◌then◌else◌, refl}
 use Rattle.std.proofs.Common.{sym, ◌∙◌}
 use Rattle.std.specs.Coded.{Coded, code_by, coded×, coded_list, coded_ℕ, coded_bool, coded_option, Coded-set}
 use base.Stored.{coded_unit}
-use Rattle.std.specs.FinMap.{get, code}
+use Rattle.std.specs.FinMap.{get, contains_key, code}
 use mathlib.Core.HLevel.{Π_prop, Σ_prop_path}
-use Rattle.prefix_trie_bits.specs.Model.Entries.{Entries}
+use Rattle.prefix_trie_bits.specs.Model.Entries.{Entries, with_entry}
+use Rattle.prefix_trie_bits.specs.Model.Matches.{longest_match}
 use Rattle.prefix_trie_bits.specs.Model.Nodes.{Nodes, has_node, is_node_depth}
 use Rattle.prefix_trie_bits.specs.Model.Step.{State}
 use Rattle.prefix_trie_bits.specs.Model.Room.{Room}
@@ -19,6 +20,23 @@ pub record Contents (T : Type 0) : Type 0 where
   pub entries : Entries T
   pub nodes : Nodes
   pub room : Room
+
+-- the contents with x at a bit string, the nodes and the room as they are
+abbrev pub with_value_at : {T : Type 0} → Contents T → List Bool → T → Contents T
+with_value_at s q x = record s { entries = with_entry s.entries q x }
+
+-- the same where a value is stored there, and else the contents
+abbrev pub with_stored_at : {T : Type 0} → Contents T → List Bool → T → Contents T
+with_stored_at s q x = if contains_key s.entries q then with_value_at s q x else s
+
+-- the contents with x at the key of a match, if there is one
+abbrev pub with_match_at : {T : Type 0} → Contents T → Option (List Bool × T) → T → Contents T
+with_match_at s None x = s
+with_match_at s (Some e) x = with_value_at s e.0 x
+
+-- the contents with x at the longest key that begins q, if one does
+abbrev pub with_longest_at : {T : Type 0} → Contents T → List Bool → T → Contents T
+with_longest_at s q x = with_match_at s (longest_match s.entries q) x
 
 -- contents are given by their parts
 abbrev pub contents_code : {T : Type 0} → Coded T → Coded (Contents T)

@@ -1,22 +1,23 @@
 -- What a walk of a table has still to come, and what its steps give.
-use Rattle.std.specs.Prelude.{◌≡◌, ℕ, zero, suc, ◌+◌, ◌-◌, ◌*◌, ◌/◌, ◌<◌, ◌≤◌, Bool, true, List, [], ◌∷◌, ◌++◌, length, take, slice_index_or, Option, None, Some, All, ⊤}
+use Rattle.std.specs.Prelude.{◌≡◌, ℕ, zero, suc, ◌+◌, ◌-◌, ◌*◌, ◌/◌, ◌<◌, ◌≤◌, Bool, true, List, [], ◌∷◌, ◌++◌, length, take, map, slice_index_or, Option, None, Some, All, ⊤}
 use Rattle.std.specs.Borrow.{Bor}
 use Rattle.std.specs.Coded.{Coded}
-use Rattle.prefix_trie_bits.specs.Bits.{zeros}
 use Rattle.prefix_trie_bits.specs.Places.{is_in}
 use Rattle.prefix_trie_bits.specs.Walks.{to_come}
 use Rattle.prefix_trie_bits.specs.Model.Entries.{Entries, AreWithin}
 use Rattle.prefix_trie_bits.specs.Model.Nodes.{AreNodes}
 use Rattle.prefix_trie_bits.specs.Model.NodeListings.{listing_at_places}
 use Rattle.prefix_trie_bits.specs.Model.Step.{State}
+use Rattle.prefix_trie_bits.specs.declared.node.Places.{Places}
 use Rattle.prefix_trie_table.specs.declared.table.spot.Spot.{Spot}
-use Rattle.prefix_trie_table.specs.declared.table.spot.Seat.{Seat}
+use Rattle.prefix_trie_table.specs.declared.table.seat.Seat.{Seat}
 use Rattle.prefix_trie_table.specs.declared.table.spot.Step.{Step}
 use Rattle.prefix_trie_table.specs.declared.table.spot.Step.TheVariants.{Entry, Child, Done}
 use Rattle.prefix_trie_table.specs.declared.allocator.node.Node.{Node}
 use Rattle.prefix_trie_table.specs.Digits.{path_of}
 use Rattle.prefix_trie_table.specs.Store.{Store}
 use Rattle.prefix_trie_table.specs.Forest.{IsTable, read}
+use Rattle.prefix_trie_table.specs.Items.{GivesFilled}
 use Rattle.prefix_trie_table.specs.Shape.{IsShapeOf, Shaped, Shaped-prop}
 
 -- the values of a table, and its entries and nodes
@@ -35,6 +36,21 @@ pub record IsTree {T : Type 0} (width : ℕ) (v : Store Node) (t : Tree T) : Typ
 abbrev pub HasTree : (T : Type 0) → ℕ → Store Node → Type 0
 HasTree T width v = (t : Tree T) × IsTree width v t
 
+-- a spot with a key that its path begins
+pub record Site (K : Type 0) : Type 0 where
+  pub node : Node
+  pub key : K
+  pub depth : ℕ
+  pub places : Places
+
+-- a spot on the way of this key
+abbrev pub site : {K : Type 0} → K → Spot → Site K
+site key p = record { node = p.node; key = key; depth = p.depth; places = p.places }
+
+-- spots on the way of this key
+abbrev pub sites : {K : Type 0} → K → List Spot → List (Site K)
+sites key ps = map (site key) ps
+
 -- the slot of a seat
 abbrev pub slot_of : Seat → ℕ
 slot_of seat = seat.start + seat.place
@@ -45,7 +61,7 @@ IsPlaceOf n s = (length s ≤ 5) × (is_in n.value_bitmap n.child_bitmap s ≡ t
 
 module _ {K : Type 0} where
   -- the spot is at a node of the array, and only places that the node has are still to come
-  pub record IsSpot (IsKey : K → Type 0) (bits : K → List Bool) (width : ℕ) (v : Store Node) (p : Spot K) : Type 0 where
+  pub record IsSpot (IsKey : K → Type 0) (bits : K → List Bool) (width : ℕ) (v : Store Node) (p : Site K) : Type 0 where
     pub key : IsKey p.key
     pub level : ℕ
     pub depth_is : p.depth ≡ 5 * level
@@ -54,42 +70,35 @@ module _ {K : Type 0} where
     pub each : All (IsPlaceOf p.node) (to_come p.places)
 
   -- each spot is a level below the one before, and the first is at this depth
-  abbrev pub IsTrail : (K → Type 0) → (K → List Bool) → ℕ → Store Node → ℕ → List (Spot K) → Type 0
+  abbrev pub IsTrail : (K → Type 0) → (K → List Bool) → ℕ → Store Node → ℕ → List (Site K) → Type 0
   IsTrail IsKey bits width v n [] = ⊤
   IsTrail IsKey bits width v n (p ∷ ps) = (p.depth ≡ n) × IsSpot IsKey bits width v p × IsTrail IsKey bits width v (n + 5) ps
 
   -- the depth at which a stack starts
-  abbrev pub start : List (Spot K) → ℕ
+  abbrev pub start : List (Site K) → ℕ
   start [] = 0
   start (p ∷ ps) = p.depth
 
   -- the spots stand one below the other, from any depth on
-  abbrev pub IsStack : (K → Type 0) → (K → List Bool) → ℕ → Store Node → List (Spot K) → Type 0
+  abbrev pub IsStack : (K → Type 0) → (K → List Bool) → ℕ → Store Node → List (Site K) → Type 0
   IsStack IsKey bits width v ps = IsTrail IsKey bits width v (start ps) ps
 
   module _ {T : Type 0} where
     -- the pairs still to come at a spot
-    abbrev pub still : (K → List Bool) → Entries T → Spot K → List (List Bool × T)
+    abbrev pub still : (K → List Bool) → Entries T → Site K → List (List Bool × T)
     still bits m p = listing_at_places m (take p.depth (bits p.key)) (to_come p.places)
 
     -- the pairs still to come at a stack of spots, the last of which is the deepest
-    abbrev pub pending : (K → List Bool) → Entries T → List (Spot K) → List (List Bool × T)
+    abbrev pub pending : (K → List Bool) → Entries T → List (Site K) → List (List Bool × T)
     pending bits m [] = []
     pending bits m (p ∷ ps) = pending bits m ps ++ still bits m p
 
-    -- the first len bits of the key and the value were the first still to come, and the key has zeros behind
-    pub record GivesEntry (IsKey : K → Type 0) (bits : K → List Bool) (width : ℕ) (key : K) (len : ℕ) (value : T) (old new : List (List Bool × T)) : Type 0 where
-      pub is_key : IsKey key
-      pub short : len ≤ width
-      pub first : old ≡ (take len (bits key), value) ∷ new
-      pub filled : bits key ≡ take len (bits key) ++ zeros (width - len)
-
-    -- the same of the value at a seat
+    -- the value at a seat is that of the first pair still to come
     pub record GivesSeat (IsKey : K → Type 0) (bits : K → List Bool) (width : ℕ) (t : Tree T) (key : K) (len : ℕ) (seat : Seat) (old new : List (List Bool × T)) : Type 0 where
       pub value : T
       pub stands : slot_of seat < length t.cells.slots
       pub reads : slice_index_or t.cells.slots (slot_of seat) None ≡ Some value
-      pub gives : GivesEntry IsKey bits width key len value old new
+      pub gives : GivesFilled IsKey bits width key len value old new
 
 -- k times x and k + 1 more
 unfoldable pub many : ℕ → ℕ → ℕ
@@ -107,23 +116,24 @@ weight_of n [] = 1
 weight_of n (s ∷ ss) = most n + 1 + weight_of n ss
 
 -- a bound on the steps at a spot
-abbrev pub weight : {K : Type 0} → Spot K → ℕ
+abbrev pub weight : {K : Type 0} → Site K → ℕ
 weight p = weight_of ((130 - p.depth) / 5) (to_come p.places)
 
 -- a bound on the steps at a stack
-abbrev pub total_weight : {K : Type 0} → List (Spot K) → ℕ
+abbrev pub total_weight : {K : Type 0} → List (Site K) → ℕ
 total_weight [] = 0
 total_weight (p ∷ ps) = weight p + total_weight ps
 
 module _ {K T : Type 0} (IsKey : K → Type 0) (bits : K → List Bool) (width : ℕ) (v : Store Node) (t : Tree T) where
   -- a step at the spot p gave this, and left the spot q
-  abbrev pub Steps : Spot K → Step K → Spot K → Type 0
+  abbrev pub Steps : Site K → Step K → Site K → Type 0
   Steps p (Entry key len seat) q =
       GivesSeat IsKey bits width t key len seat (still bits t.shape.entries p) (still bits t.shape.entries q)
       × (weight q < weight p) × IsSpot IsKey bits width v q × (q.depth ≡ p.depth)
-  Steps p (Child c) q =
-      (still bits t.shape.entries p ≡ still bits t.shape.entries c ++ still bits t.shape.entries q)
-      × (weight c + weight q < weight p) × IsSpot IsKey bits width v q × (q.depth ≡ p.depth) × IsSpot IsKey bits width v c × (c.depth ≡ p.depth + 5)
+  Steps p (Child c key) q =
+      (still bits t.shape.entries p ≡ still bits t.shape.entries (site key c) ++ still bits t.shape.entries q)
+      × (weight (site key c) + weight q < weight p) × IsSpot IsKey bits width v q × (q.depth ≡ p.depth)
+      × IsSpot IsKey bits width v (site key c) × (c.depth ≡ p.depth + 5) × (take p.depth (bits key) ≡ take p.depth (bits p.key))
   Steps p Done q = (still bits t.shape.entries p ≡ []) × (0 < weight p)
 
 module _ {T : Type 0} where
@@ -138,12 +148,12 @@ module _ {T : Type 0} where
 
   module _ {K : Type 0} where
     -- a walk without arrays has nothing to come
-    abbrev pub rest_of_walk : (K → List Bool) → (arrays : Option (Bor (Store Node) × Bor (Store (Option T)))) → ShapeOf arrays → List (Spot K) → List (List Bool × T)
+    abbrev pub rest_of_walk : (K → List Bool) → (arrays : Option (Bor (Store Node) × Bor (Store (Option T)))) → ShapeOf arrays → List (Site K) → List (List Bool × T)
     rest_of_walk bits None shape ps = []
     rest_of_walk bits (Some a) shape ps = pending bits shape.0.entries ps
 
     -- the spots of a walk are those of the table in the arrays
-    abbrev pub IsWalk : (K → Type 0) → (K → List Bool) → ℕ → (arrays : Option (Bor (Store Node) × Bor (Store (Option T)))) → ShapeOf arrays → List (Spot K) → Type 0
+    abbrev pub IsWalk : (K → Type 0) → (K → List Bool) → ℕ → (arrays : Option (Bor (Store Node) × Bor (Store (Option T)))) → ShapeOf arrays → List (Site K) → Type 0
     IsWalk IsKey bits width None shape ps = ⊤
     IsWalk IsKey bits width (Some a) shape ps =
         IsTree width a.0.now (record { cells = a.1.now; shape = shape.0 }) × IsStack IsKey bits width a.0.now ps

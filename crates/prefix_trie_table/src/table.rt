@@ -3,11 +3,15 @@
 //! A bit string is handed in as a key and a length: the first `len` bits of the key. Contracts see a table as its entries,
 //! a finite map from bit strings to values, its nodes, a finite set of bit strings, and its room. They see no slot, no
 //! block and no bitmap.
+mod counting;
+mod cover;
 mod insertion;
+mod lending;
 mod lookup;
 mod matching;
 mod removal;
 pub mod retain;
+pub mod seat;
 pub mod spot;
 #[cfg(test)]
 mod tests;
@@ -34,6 +38,7 @@ use crate::table::matching::{longest_on_way, shortest_on_way, value_of_match};
 use crate::table::removal::{clear_entries, remove_entry, remove_value};
 use crate::table::retain::{Keep, retain_entries};
 use crate::table::walk::walk_of;
+pub use cover::Cover;
 use prefix_trie_bits::prefix::{Key, Refusal, Refused};
 use std::alloc::Allocator;
 use std::marker::Model;
@@ -264,6 +269,7 @@ impl<T: Drop, A: Allocator, V: Tick> Table<T, A, V> {
         requires may_ask { MayAskInOrder F.asks F.accepts keep (listing self.old.entries) }
         ensures kept { AsksInOrder F.asks keep (listing self.old.entries) (listing self.new.entries) }
         ensures nodes { self.new.nodes ≡ needed self.new.entries }
+        ensures fits { AreWithin K.bit_width self.new.entries }
         ensures room { (self.new.room.limit ≡ self.old.room.limit)
             × (self.old.room.node_slots ≤ self.new.room.node_slots)
             × (self.old.room.cell_slots ≤ self.new.room.cell_slots) }

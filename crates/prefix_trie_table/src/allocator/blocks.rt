@@ -3,6 +3,9 @@ ghost use Rattle.std.specs.Prelude.{MatchResult, ◌≡◌, ◌≢◌, ℕ, ◌+
 ghost use Rattle.prefix_trie_table.specs.Runs.{swap_runs};
 ghost use Rattle.prefix_trie_table.specs.Store.{Tier, Store, Block, Sound, tier_at, slots_made, with_tier, grown, grown_times, block, InUse, tier_for, no_blocks, taken, SameRoom, held, HasList, IsReady, tier_lacking, tier_sizes, free_at, Spends, SameBefore, Prepared, Enough, Keeps, Turnover, CutShort, none_at, one_at, many_at, size_in, blocks_lacking, lacking_slots, tier_outgrown, tier_entered, tier_left, blocks_entered};
 ghost use Rattle.prefix_trie_table.specs.Cells.{blank_node, cell_sizes, node_sizes};
+ghost use Rattle.std.specs.Borrow.{sem};
+ghost use Rattle.prefix_trie_table.specs.Slots.{with_slot};
+ghost use Rattle.prefix_trie_table.specs.Lending.{lends_slot};
 ghost use Rattle.prefix_trie_bits.specs.declared.prefix.Refusal.TheVariants.{Memory, IndexRange};
 
 use crate::allocator::free_list::{FreeList, clear_all};
@@ -57,7 +60,10 @@ impl<S: Slot, A: Allocator> Blocks<S, A> {
         ensures len { result ≡ length self.now.slots }
         ensures made { result ≡ self.now.first + slots_made self.now.tiers }
         ensures limit { result ≤ self.now.limit }
+        ensures narrow { result < 2 ^ 32 }
     {
+        // Read for the proof alone: it is below 2^32.
+        let _limit = self.limit;
         self.slots.len()
     }
 
@@ -95,6 +101,19 @@ impl<S: Slot, A: Allocator> Blocks<S, A> {
             → result.now ≡ slice_index_or b.items place result.now }
     {
         &self.slots[start as usize + place as usize]
+    }
+
+    /// The value in a slot, for writing: of the block that starts at `start`, the one at `place`.
+    #[inline]
+    pub fn at_mut(&mut self, start: u32, place: u32) -> &mut S
+        requires { start + place < length self.old.slots }
+        ensures* writes_back { sem 𝓛 (lends_slot S.row A.row S.Slot A.Allocator self.entry (start + place) result) }
+        ensures slot { result.now ≡ slice_index_or self.old.slots (start + place) result.now }
+        ensures sound { (value : S) (b : Block S) (live : List (Block S)) → Sound S.vacant (b ∷ live) self.old
+            → b.start ≡ start → place < length b.items
+            → Sound S.vacant (record b { items = slice_set b.items place value } ∷ live) (with_slot self.old (start + place) value) }
+    {
+        &mut self.slots[start as usize + place as usize]
     }
 
     /// Writes over the value in a slot, of a block in use or before the first block, and hands out what stood there.

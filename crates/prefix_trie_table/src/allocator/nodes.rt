@@ -95,6 +95,7 @@ impl<A: Allocator, V: Drop> NodeAllocator<A, V> {
         ensures len { result ≡ length self.now.slots }
         ensures made { result ≡ self.now.first + slots_made self.now.tiers }
         ensures limit { result ≤ self.now.limit }
+        ensures narrow { result < 2 ^ 32 }
     {
         self.blocks.len()
     }

@@ -6,10 +6,12 @@ ghost use Rattle.prefix_trie_table.specs.Cells.{node_sizes};
 ghost use Rattle.prefix_trie_table.specs.Digits.{path_of};
 ghost use Rattle.prefix_trie_table.specs.Forest.{NodesHold, IsTable, IsEnd};
 ghost use Rattle.prefix_trie_table.specs.Tables.{IsReached, ForHeld, own_value};
+ghost use Rattle.prefix_trie_table.specs.Slots.{SeatOf};
 
 use crate::allocator::blocks::Blocks;
 use crate::allocator::node::{Node, NodeSlot};
 use crate::allocator::nodes::{NodeAllocator, Tick};
+use crate::table::seat::Seat;
 use prefix_trie_bits::node::{child_bit_of, has_bit, rank, value_bit_of};
 use prefix_trie_bits::prefix::Key;
 use std::alloc::Allocator;
@@ -55,6 +57,42 @@ pub fn descend<K: Key, A: Allocator, V: Tick>(
     Reached { at, node, level }
 }
 
+/// Where the value at a bit string stands, if there is one.
+#[inline]
+pub fn find_seat<K: Key, A: Allocator, V: Tick>(
+    nodes: &NodeAllocator<A, V>,
+    key: K,
+    len: u32,
+    counter: &mut V,
+) -> Option<Seat>
+    requires key { K.IsKey key }
+    requires within { len ≤ K.bit_width }
+    requires sound { (reading : List ℕ → Option Node) × (paths : List (List ℕ))
+        × NodesHold node_sizes reading paths nodes.now }
+    ensures seat { (reading : List ℕ → Option Node) (paths : List (List ℕ))
+        → NodesHold node_sizes reading paths nodes.now
+        → SeatOf reading (take len (K.bits key)) result }
+    ensures visits { (reading : List ℕ → Option Node) (paths : List (List ℕ))
+        → NodesHold node_sizes reading paths nodes.now
+        → (level : ℕ) × IsEnd reading (path_of (take len (K.bits key))) level
+        × (V.count counter.new ≡ V.count counter.old + (level + 1)) }
+{
+    let reached = descend(nodes, key, len, counter);
+    let depth = 5 * reached.level;
+    if depth + 5 <= len {
+        return None;
+    }
+    let bit = value_bit_of(key, depth, len);
+    let bitmap = reached.node.value_bitmap;
+    if !has_bit(bitmap, bit) {
+        return None;
+    }
+    Some(Seat {
+        start: reached.node.value_block,
+        place: rank(bitmap, bit),
+    })
+}
+
 /// The value at a bit string.
 pub fn find_value<'a, K: Key, T: Drop, A: Allocator, V: Tick>(
     nodes: &NodeAllocator<A, V>,
@@ -73,17 +111,6 @@ pub fn find_value<'a, K: Key, T: Drop, A: Allocator, V: Tick>(
         → (level : ℕ) × IsEnd reading (path_of (take len (K.bits key))) level
         × (V.count counter.new ≡ V.count counter.old + (level + 1)) }
 {
-    let reached = descend(nodes, key, len, counter);
-    let depth = 5 * reached.level;
-    if depth + 5 <= len {
-        return None;
-    }
-    let bit = value_bit_of(key, depth, len);
-    let bitmap = reached.node.value_bitmap;
-    if !has_bit(bitmap, bit) {
-        return None;
-    }
-    cells
-        .at(reached.node.value_block, rank(bitmap, bit))
-        .as_ref()
+    let seat = find_seat(nodes, key, len, counter)?;
+    cells.at(seat.start, seat.place).as_ref()
 }

@@ -6,12 +6,13 @@ ghost use Rattle.prefix_trie_table.specs.Cells.{node_sizes};
 ghost use Rattle.prefix_trie_table.specs.Digits.{path_of};
 ghost use Rattle.prefix_trie_table.specs.Forest.{NodesHold, IsEnd};
 ghost use Rattle.prefix_trie_table.specs.Tables.{IsReached};
-ghost use Rattle.prefix_trie_table.specs.Matching.{HasNodes, IsOnWay, LongestHeld, ShortestHeld, cell_slot};
+ghost use Rattle.prefix_trie_table.specs.Matching.{HasNodes, IsOnWay, LongestHeld, ShortestHeld, cell_slot, match_seat};
 
 use crate::allocator::blocks::Blocks;
 use crate::allocator::node::{Node, NodeSlot};
 use crate::allocator::nodes::{NodeAllocator, Tick};
 use crate::table::lookup::Reached;
+use crate::table::seat::Seat;
 use prefix_trie_bits::node::{
     child_bit_of, has_bit, longest_match, rank, shortest_match, string_of,
 };
@@ -26,9 +27,23 @@ pub struct Match {
     pub bit: u32,
 }
 
+impl Match {
+    /// Where the value stands.
+    #[inline]
+    pub fn seat(self) -> Seat
+        requires { self.bit < 31 }
+        ensures { result ≡ match_seat self }
+    {
+        Seat {
+            start: self.node.value_block,
+            place: rank(self.node.value_bitmap, self.bit),
+        }
+    }
+}
+
 /// The root, where every way begins.
 #[inline]
-fn root<A: Allocator, V: Tick>(nodes: &NodeAllocator<A, V>, counter: &mut V) -> Reached
+pub fn root<A: Allocator, V: Tick>(nodes: &NodeAllocator<A, V>, counter: &mut V) -> Reached
     requires sound { HasNodes nodes.now }
     ensures level { result.level ≡ 0 }
     ensures on_way { (b : List Bool) (len : ℕ) → len ≤ length b
@@ -42,7 +57,7 @@ fn root<A: Allocator, V: Tick>(nodes: &NodeAllocator<A, V>, counter: &mut V) -> 
 
 /// The next node on the way of a bit string, if it is there.
 #[inline]
-fn step_down<K: Key, A: Allocator, V: Tick>(
+pub fn step_down<K: Key, A: Allocator, V: Tick>(
     nodes: &NodeAllocator<A, V>,
     from: Reached,
     key: K,
@@ -201,8 +216,8 @@ pub fn value_of_match<'a, T: Drop, A: Allocator>(
         (λ r. (r.0 ≡ found.len)
         × (slice_index_or cells.now.slots (cell_slot found) None ≡ Some r.1.now)) }
 {
-    let place = rank(found.node.value_bitmap, found.bit);
-    let Some(value) = cells.at(found.node.value_block, place).as_ref() else {
+    let seat = found.seat();
+    let Some(value) = cells.at(seat.start, seat.place).as_ref() else {
         return None;
     };
     Some((found.len, value))

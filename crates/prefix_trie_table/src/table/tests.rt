@@ -115,6 +115,7 @@ fn all_keys_of_8_bits(rt: HostRuntime) -> Result<(), Fail> {
     }
     assert_eq!(rt; values.len(), 256);
     assert_eq!(rt; values.nodes.len(), 88);
+    assert_eq!(rt; values.node_count(&mut Counter::new()), 33);
     assert_eq!(rt; values.cells.len(), 263);
     for key in 0..=255u8 {
         assert_eq!(rt; find(&values, key, 8), Some(u32::from(key)));
@@ -131,6 +132,7 @@ fn key_of_128_bits(rt: HostRuntime) -> Result<(), Fail> {
     assert_eq!(rt; insert(&mut values, u128::MAX, 128, 8)?, Some(7));
     assert_eq!(rt; values.len(), 1);
     assert_eq!(rt; values.nodes.len(), 26);
+    assert_eq!(rt; values.node_count(&mut Counter::new()), 26);
     assert_eq!(rt; values.cells.len(), 1);
     assert_eq!(rt; find(&values, u128::MAX, 128), Some(8));
     assert_eq!(rt; find(&values, u128::MAX, 127), None);

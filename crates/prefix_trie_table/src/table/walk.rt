@@ -3,12 +3,14 @@ ghost use Rattle.std.specs.Prelude.{◌≡◌, ◌<◌, [], MatchOption};
 ghost use Rattle.prefix_trie_bits.specs.Model.Selections.{listing};
 ghost use Rattle.prefix_trie_bits.specs.Model.Step.{State};
 ghost use Rattle.prefix_trie_table.specs.Shape.{IsShapeOf};
-ghost use Rattle.prefix_trie_table.specs.Walks.{Tree, IsTree, HasTree, IsStack, pending, GivesSeat, GivesEntry, ShapeOf, ShapeOf-prop};
+ghost use Rattle.prefix_trie_table.specs.Items.{GivesFilled};
+ghost use Rattle.prefix_trie_table.specs.Walks.{Tree, IsTree, HasTree, IsStack, pending, sites, GivesSeat, ShapeOf, ShapeOf-prop};
 
 use crate::allocator::blocks::Blocks;
 use crate::allocator::node::NodeSlot;
 use crate::allocator::nodes::{NodeAllocator, Tick};
-use crate::table::spot::{Seat, Spot, Step, enter, next_at, value_at};
+use crate::table::seat::Seat;
+use crate::table::spot::{Spot, Step, enter, next_at, value_at};
 use arrayvec::ArrayVec;
 use prefix_trie_bits::prefix::Key;
 use std::alloc::Allocator;
@@ -18,20 +20,22 @@ use std::marker::Model;
 #[derive(Drop)]
 pub struct Walk<'a, K: Key, T: Drop, A: Allocator, V: Tick> {
     arrays: Option<(&'a NodeAllocator<A, V>, &'a Blocks<Option<T>, A>)>,
-    stack: ArrayVec<Spot<K>, 26>,
+    // The path of each spot begins it.
+    key: K,
+    stack: ArrayVec<Spot, 26>,
     ghost shape: { ShapeOf arrays } by { ShapeOf-prop T.code arrays },
 }
 
 // Clauses see the pairs still to come.
 impl<'a, K: Key, T: Drop, A: Allocator, V: Tick> Model for Walk<'a, K, T, A, V> {
     ghost use Rattle.std.specs.Prelude.{List, Bool};
-    ghost use Rattle.prefix_trie_table.specs.Walks.{rest_of_walk, IsWalk};
+    ghost use Rattle.prefix_trie_table.specs.Walks.{rest_of_walk, IsWalk, sites};
 
     ghost Value = { List (List Bool × T) };
 
-    ghost view = { λ w. rest_of_walk K.bits w.arrays w.shape w.stack.items };
+    ghost view = { λ w. rest_of_walk K.bits w.arrays w.shape (sites w.key w.stack.items) };
 
-    ghost invariant = { λ w. IsWalk K.IsKey K.bits K.bit_width w.arrays w.shape w.stack.items };
+    ghost invariant = { λ w. IsWalk K.IsKey K.bits K.bit_width w.arrays w.shape (sites w.key w.stack.items) };
 }
 
 impl<'a, K: Key, T: Drop, A: Allocator, V: Tick> Walk<'a, K, T, A, V> {
@@ -39,12 +43,17 @@ impl<'a, K: Key, T: Drop, A: Allocator, V: Tick> Walk<'a, K, T, A, V> {
     #[inline]
     pub fn next(&mut self, counter: &mut V) -> Option<(K, u32, &'a T)>
         ensures { MatchOption result ((self.old ≡ []) × (self.new ≡ []))
-            (λ r. GivesEntry K.IsKey K.bits K.bit_width r.0 r.1 r.2.now self.old self.new) }
+            (λ r. GivesFilled K.IsKey K.bits K.bit_width r.0 r.1 r.2.now self.old self.new) }
     {
         let Some((nodes, cells)) = self.arrays else {
             return None;
         };
-        let Some((key, len, seat)) = advance::<K, A, V, T>(nodes, &mut self.stack, counter) else {
+        let Some((key, len, seat)) = advance::<K, A, V, T>(
+            nodes,
+            &mut self.stack,
+            &mut self.key,
+            counter,
+        ) else {
             return None;
         };
         Some((key, len, value_at(cells, seat)))
@@ -59,6 +68,7 @@ impl<'a, K: Key, T: Drop, A: Allocator, V: Tick> Walk<'a, K, T, A, V> {
         };
         Walk {
             arrays: self.arrays,
+            key: self.key,
             stack,
         }
     }
@@ -71,6 +81,7 @@ impl<'a, K: Key, T: Drop, A: Allocator, V: Tick> Default for Walk<'a, K, T, A, V
     fn default() -> Self {
         Walk {
             arrays: None,
+            key: K::zero(),
             stack: ArrayVec::new(),
         }
     }
@@ -86,36 +97,39 @@ pub fn walk_of<'a, K: Key, T: Drop, A: Allocator, V: Tick>(
     ensures { (s : State T) → IsShapeOf nodes.now.slots cells.now.slots s → result ≡ listing s.entries }
 {
     let mut stack = ArrayVec::new();
-    stack.push(enter(nodes, NodeSlot::ROOT, K::zero(), 0, counter));
+    stack.push(enter(nodes, NodeSlot::ROOT, 0, counter));
     Walk {
         arrays: Some((nodes, cells)),
+        key: K::zero(),
         stack,
     }
 }
 
-/// The next entry of a walk that stands at these spots, the last of which is the deepest.
+/// The next entry of a walk that stands at these spots, the last of which is the deepest, and whose paths begin the key.
 pub fn advance<K: Key, A: Allocator, V: Tick, T: Drop>(
     nodes: &NodeAllocator<A, V>,
-    stack: &mut ArrayVec<Spot<K>, 26>,
+    stack: &mut ArrayVec<Spot, 26>,
+    key: &mut K,
     counter: &mut V,
 ) -> Option<(K, u32, Seat)>
     requires tree { HasTree T K.bit_width nodes.now }
-    requires stack { IsStack K.IsKey K.bits K.bit_width nodes.now stack.old.items }
-    ensures stack { IsStack K.IsKey K.bits K.bit_width nodes.now stack.new.items }
+    requires stack { IsStack K.IsKey K.bits K.bit_width nodes.now (sites key.old stack.old.items) }
+    ensures stack { IsStack K.IsKey K.bits K.bit_width nodes.now (sites key.new stack.new.items) }
     ensures entry { (t : Tree T) → IsTree K.bit_width nodes.now t → MatchOption result
-        ((pending K.bits t.shape.entries stack.old.items ≡ []) × (pending K.bits t.shape.entries stack.new.items ≡ []))
+        ((pending K.bits t.shape.entries (sites key.old stack.old.items) ≡ []) × (pending K.bits t.shape.entries (sites key.new stack.new.items) ≡ []))
         (λ r. GivesSeat K.IsKey K.bits K.bit_width t r.0 r.1 r.2
-        (pending K.bits t.shape.entries stack.old.items) (pending K.bits t.shape.entries stack.new.items)) }
+        (pending K.bits t.shape.entries (sites key.old stack.old.items)) (pending K.bits t.shape.entries (sites key.new stack.new.items))) }
 {
     while let Some(mut spot) = stack.pop() {
-        match next_at::<K, A, V, T>(nodes, &mut spot, counter) {
-            Step::Entry(key, len, seat) => {
+        match next_at::<K, A, V, T>(nodes, &mut spot, *key, counter) {
+            Step::Entry(found, len, seat) => {
                 stack.push(spot);
-                return Some((key, len, seat));
+                return Some((found, len, seat));
             }
-            Step::Child(child) => {
+            Step::Child(child, below) => {
                 stack.push(spot);
                 stack.push(child);
+                *key = below;
             }
             Step::Done => {}
         }

@@ -21,4 +21,4 @@ pub returns-clause-bound : goal.returns-clause-bound
 returns-clause-bound g c =
     let path = g.P.Prefix.path c.args.prefix.now in
     let counted : c.find_longest-longest.new.counter ≡ visits c.self.inside.table.nodes path = search rules in
-    omega (arith, counted, visits-bound c.self.inside.table.nodes path c.self.invariant.depths)
+    omega (arith, counted, visits-bound c.self.inside.table.nodes path c.self.invariant.are_nodes.depths)

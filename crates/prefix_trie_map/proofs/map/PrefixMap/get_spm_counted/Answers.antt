@@ -37,4 +37,4 @@ returns-clause-bound g c =
     let path = g.P.Prefix.path c.args.prefix.now in
     let entries = c.self.inside.table.entries in
     let nodes = c.self.inside.table.nodes in
-    omega (arith, counted g c, (visit_laws _).fewer_to_match entries nodes path, visits-bound nodes path c.self.invariant.depths)
+    omega (arith, counted g c, (visit_laws _).fewer_to_match entries nodes path, visits-bound nodes path c.self.invariant.are_nodes.depths)

@@ -1,8 +1,11 @@
 use Rattle.std.proofs.Common.{rules, ◌≡◌, take, subst}
 use Rattle.prefix_trie_bits.specs.Keys.{path_within}
-use Rattle.prefix_trie_bits.specs.Model.Nodes.{AreNodes}
+use Rattle.prefix_trie_bits.specs.Laws.Steps.{IsMap}
 use Rattle.prefix_trie_table.specs.Shape.{Contents}
-use Rattle.prefix_trie_map.proofs.Insertions.{Inserts, AreNodes-inserted, Step-inserted}
+use Rattle.prefix_trie_bits.specs.Model.Step.{Step, Insert}
+use Rattle.prefix_trie_bits.proofs.Model.Steps.{stays_map}
+use Rattle.prefix_trie_map.specs.Steps.{state, inserted}
+use Rattle.prefix_trie_map.proofs.Insertions.{Inserts, Step-inserted}
 use Rattle.prefix_trie_map.proofs.map.PrefixMap.insert.Given as given
 use Rattle.prefix_trie_map.proofs.map.PrefixMap.insert.Goals as goal
 
@@ -15,18 +18,22 @@ inserts g c =
     (subst (λ s. Inserts c.self.inside.table c.insert.new.self s c.args.value c.insert.result) key
     (record { before = made.before; entries = made.entries; nodes = made.nodes; unchanged = made.unchanged; stored = λ has. (made.stored has).0 }))
 
--- the nodes before it are those of a map
-good : (g : given.Over) (c : goal.After-drop-prefix g) → AreNodes g.P.R.Key.bit_width c.args.self.now.entries c.args.self.now.nodes
-good g c = subst (λ (m : Contents g.row.T.Denot). AreNodes g.P.R.Key.bit_width m.entries m.nodes) c.self.view_is c.self.invariant
+-- before it the map is one
+good : (g : given.Over) (c : goal.After-drop-prefix g) → IsMap g.P.R.Key.bit_width (state c.args.self.now)
+good g c = subst (λ (m : Contents g.row.T.Denot). IsMap g.P.R.Key.bit_width (state m)) c.self.view_is c.self.invariant
+
+-- it is a step of the model
+step : (g : given.Over) (c : goal.After-drop-prefix g) → Step g.P.Prefix.path g.P.Prefix.back g.P.R.Key.bit_width (state c.args.self.now) (Insert c.args.prefix c.args.value) (inserted c.insert.result) (state c.insert.new.self)
+step g c =
+    Step-inserted g.P.Prefix.path g.P.Prefix.back g.P.R.Key.bit_width c.args.self.now c.insert.new.self c.args.prefix c.args.value c.insert.result (good g c).are_nodes (inserts g c)
 
 pub invariant_of-self : goal.invariant_of-self
 invariant_of-self g c =
-    AreNodes-inserted g.P.R.Key.bit_width c.args.self.now c.insert.new.self (g.P.Prefix.path c.args.prefix) c.args.value c.insert.result (good g c)
-    (path_within g.met.P.Prefix.prefix_laws c.args.prefix c.requires) (inserts g c)
+    stays_map g.P.Prefix.path g.P.Prefix.back g.P.R.Key.bit_width (state c.args.self.now) (Insert c.args.prefix c.args.value) (inserted c.insert.result) (state c.insert.new.self)
+    (path_within g.met.P.Prefix.prefix_laws c.args.prefix c.requires) (step g c) (good g c)
 
 pub returns-clause-before : goal.returns-clause-before
 returns-clause-before g c = (inserts g c).before
 
 pub returns-clause-step : goal.returns-clause-step
-returns-clause-step g c =
-    Step-inserted g.P.Prefix.path g.P.Prefix.back g.P.R.Key.bit_width c.args.self.now c.insert.new.self c.args.prefix c.args.value c.insert.result (good g c) (inserts g c)
+returns-clause-step g c = step g c

@@ -1,8 +1,8 @@
 use Rattle.std.proofs.Common.{sym, subst}
 use Rattle.std.proofs.lemmas.Result.{err_from_is_err_and}
 use Rattle.prefix_trie_bits.specs.Model.Entries.{no_entries}
-use Rattle.prefix_trie_bits.specs.Model.Nodes.{AreNodes}
-use Rattle.prefix_trie_bits.proofs.Model.NodeSets.{AreNodes-no_entries}
+use Rattle.prefix_trie_bits.specs.Laws.Steps.{IsMap}
+use Rattle.prefix_trie_map.proofs.Insertions.{IsMap-empty}
 use Rattle.prefix_trie_map.proofs.Refusals.{only_memory}
 use Rattle.prefix_trie_map.proofs.map.PrefixMap.new.Goals as goal
 
@@ -10,8 +10,8 @@ pub invariant_of-result : goal.invariant_of-result
 invariant_of-result g c =
     let width = g.P.R.Key.bit_width in
     let made = c.in_ok-new.ensures in
-    subst (λ m. AreNodes width m c.in_ok-new.field-0.nodes) (sym made.entries)
-    (subst (λ n. AreNodes width (no_entries {T = g.row.T.Denot}) n) (sym made.nodes) (AreNodes-no_entries width))
+    subst (λ m. IsMap width (record { entries = m; nodes = c.in_ok-new.field-0.nodes })) (sym made.entries)
+    (subst (λ n. IsMap width (record { entries = no_entries {T = g.row.T.Denot}; nodes = n })) (sym made.nodes) (IsMap-empty width))
 
 pub returns-in_err-new-clause-only_memory : goal.returns-in_err-new-clause-only_memory
 returns-in_err-new-clause-only_memory g c =

@@ -68,3 +68,14 @@ returns-clause-nodes g c =
     }) in
     let same : all.after ≡ c.self-1.given.0.0 = same_shape c.retain_entries.new.nodes.slots c.retain_entries.new.cells.slots all.after c.self-1.given.0.0 all.trie.shaped c.self-1.given.0.1 in
     subst (λ (x : State g.row.T.Denot). x.nodes ≡ needed x.entries) same all.tidy
+
+pub returns-clause-fits : goal.returns-clause-fits
+returns-clause-fits g c =
+    let all = c.retain_entries.ensures.kept c.self.inside.shape.0 (record {
+      table = c.self.invariant;
+      shaped = c.self.inside.shape.1;
+      within = subst (λ (s : Contents g.row.T.Denot). AreWithin g.K.Key.bit_width s.entries) (sym c.self.view_is) c.requires.within;
+      nodes = subst (λ (s : Contents g.row.T.Denot). AreNodes g.K.Key.bit_width s.entries s.nodes) (sym c.self.view_is) c.requires.nodes;
+    }) in
+    let same : all.after ≡ c.self-1.given.0.0 = same_shape c.retain_entries.new.nodes.slots c.retain_entries.new.cells.slots all.after c.self-1.given.0.0 all.trie.shaped c.self-1.given.0.1 in
+    subst (λ (x : State g.row.T.Denot). AreWithin g.K.Key.bit_width x.entries) same all.trie.within

@@ -1,4 +1,4 @@
-use Rattle.std.proofs.Common.{◌≡◌, ◌+◌, ◌*◌, ◌<◌, ◌≤◌, ℕ, [], length, take, arith}
+use Rattle.std.proofs.Common.{[], take, arith}
 use Rattle.prefix_trie_table.specs.Digits.{path_of}
 use Rattle.prefix_trie_table.proofs.Going.{deepest_root, deepest_in}
 use Rattle.prefix_trie_table.proofs.table.matching.root.Goals as goal

@@ -1,4 +1,4 @@
-use Rattle.std.proofs.Common.{◌≡◌, ◌*◌, ◌≤◌, length, take, arith}
+use Rattle.std.proofs.Common.{◌≤◌, length, take, arith}
 use Rattle.prefix_trie_table.proofs.Matching.{clear-small, steps-within, none_here, shortest_here, shortest-small}
 use Rattle.prefix_trie_table.proofs.table.matching.shortest_in.Goals as goal
 

@@ -1,6 +1,6 @@
-use Rattle.std.proofs.Common.{◌≡◌, ◌+◌, ◌*◌, ◌≤◌, ◌<◌, ℕ, length, take, refl, sym, ◌∙◌, arith}
+use Rattle.std.proofs.Common.{◌+◌, take, refl, sym, ◌∙◌, arith}
 use Rattle.prefix_trie_table.specs.Digits.{path_of}
-use Rattle.prefix_trie_table.proofs.Going.{deepest_in, down_bit, down_more, IsDown}
+use Rattle.prefix_trie_table.proofs.Going.{deepest_in, down_bit, down_more}
 use Rattle.prefix_trie_table.proofs.Matching.{on_way_down}
 use Rattle.prefix_trie_table.proofs.table.matching.step_down.Goals as goal
 

@@ -1,6 +1,7 @@
-use Rattle.std.proofs.Common.{◌≡◌, length, refl, sym, ap, ◌∙◌, subst, arith}
+use Rattle.std.proofs.Common.{◌≡◌, length, refl, sym, ap, ◌∙◌, arith}
 use Rattle.prefix_trie_bits.specs.BitStrings.{length-digits}
-use Rattle.prefix_trie_table.proofs.Spots.{place-value, place-child, place-small, place-child-small, goes_on, lighter, value_room, gives_value, child_room, child_stands_at, child_without, child_spot, child_still, child_lighter}
+use Rattle.prefix_trie_table.proofs.Spots.{place-value, place-child, place-small, place-child-small, goes_on, lighter, value_room, gives_value, child_room, child_stands_at, child_without, child_spot, child_still, child_lighter, child_way}
+use Rattle.prefix_trie_table.specs.Walks.{site}
 use Rattle.prefix_trie_table.proofs.table.spot.next_at.Goals as goal
 
 pub string_of-n-requires : goal.string_of-n-requires
@@ -15,7 +16,7 @@ rank-requires g c =
 
 pub extend-requires-clause-within : goal.extend-requires-clause-within
 extend-requires-clause-within g c =
-    let p = c.args.spot.now in
+    let p = site c.args.key c.args.spot.now in
     let at = c.requires.spot in
     let long = g.met.K.Key.key_laws.bits_length p.key at.key in
     let taken = c.in-Some.ensures.place in
@@ -27,7 +28,7 @@ extend-requires-clause-within g c =
 pub returns-in-Value : goal.returns-in-Value
 returns-in-Value g c =
     λ t tree.
-    let p = c.args.spot.now in
+    let p = site c.args.key c.args.spot.now in
     let at = c.requires.spot in
     let long = g.met.K.Key.key_laws.bits_length p.key at.key in
     let taken = c.in-Some.ensures.place in
@@ -43,23 +44,23 @@ rank-requires-in-Child g c =
     let taken = c.in-Some.ensures.place in
     place-child-small taken.string c.in-Child.child taken.short (sym c.in-Child.is ∙ taken.place)
 
-pub extend-key-requires-clause-within : goal.extend-key-requires-clause-within
-extend-key-requires-clause-within g c =
-    let p = c.args.spot.now in
+pub extend-below-requires-clause-within : goal.extend-below-requires-clause-within
+extend-below-requires-clause-within g c =
+    let p = site c.args.key c.args.spot.now in
     let at = c.requires.spot in
     let long = g.met.K.Key.key_laws.bits_length p.key at.key in
     let taken = c.in-Some.ensures.place in
     let is = place-child taken.string c.in-Child.child taken.short (sym c.in-Child.is ∙ taken.place) in
     child_room g.K.Key.IsKey g.K.Key.bits g.K.Key.bit_width c.args.nodes.now p at long taken.string c.next_place.new.self taken.first c.requires.tree.0 c.requires.tree.1 is.0
 
-pub extend-key-requires-clause-fits : goal.extend-key-requires-clause-fits
-extend-key-requires-clause-fits g c =
+pub extend-below-requires-clause-fits : goal.extend-below-requires-clause-fits
+extend-below-requires-clause-fits g c =
     let taken = c.in-Some.ensures.place in
     place-child-small taken.string c.in-Child.child taken.short (sym c.in-Child.is ∙ taken.place)
 
 pub enter-requires-clause-stands : goal.enter-requires-clause-stands
 enter-requires-clause-stands g c =
-    let p = c.args.spot.now in
+    let p = site c.args.key c.args.spot.now in
     let at = c.requires.spot in
     let long = g.met.K.Key.key_laws.bits_length p.key at.key in
     let taken = c.in-Some.ensures.place in
@@ -68,7 +69,7 @@ enter-requires-clause-stands g c =
 
 pub enter-requires-clause-few : goal.enter-requires-clause-few
 enter-requires-clause-few g c =
-    let p = c.args.spot.now in
+    let p = site c.args.key c.args.spot.now in
     let at = c.requires.spot in
     let long = g.met.K.Key.key_laws.bits_length p.key at.key in
     let taken = c.in-Some.ensures.place in
@@ -78,17 +79,19 @@ enter-requires-clause-few g c =
 pub returns-in-Child : goal.returns-in-Child
 returns-in-Child g c =
     λ t tree.
-    let p = c.args.spot.now in
+    let p = site c.args.key c.args.spot.now in
     let at = c.requires.spot in
     let long = g.met.K.Key.key_laws.bits_length p.key at.key in
     let taken = c.in-Some.ensures.place in
     let is = place-child taken.string c.in-Child.child taken.short (sym c.in-Child.is ∙ taken.place) in
-    let is_key = subst g.K.Key.IsKey (sym c.enter.ensures.key) c.extend-key.ensures.key in
-    let extended = ap g.K.Key.bits c.enter.ensures.key ∙ c.extend-key.ensures.value in (
-      child_still g.K.Key.IsKey g.K.Key.bits g.K.Key.bit_width c.args.nodes.now p at long taken.string c.next_place.new.self taken.first t tree is.0 c.in-Child.child c.rank-in-Child.result is.1 c.rank-in-Child.ensures c.enter.result is_key extended c.enter.ensures.depth c.enter.ensures.node c.enter.ensures.places c.enter.ensures.each,
-      child_lighter g.K.Key.IsKey g.K.Key.bits g.K.Key.bit_width c.args.nodes.now p at long taken.string c.next_place.new.self taken.first t tree is.0 c.in-Child.child c.rank-in-Child.result is.1 c.rank-in-Child.ensures c.enter.result is_key extended c.enter.ensures.depth c.enter.ensures.node c.enter.ensures.places c.enter.ensures.each g.met.K.Key.key_laws.at_most_128,
+    let is_key = c.extend-below.ensures.key in
+    let extended = c.extend-below.ensures.value in
+    let child = site c.extend-below.result c.enter.result in (
+      child_still g.K.Key.IsKey g.K.Key.bits g.K.Key.bit_width c.args.nodes.now p at long taken.string c.next_place.new.self taken.first t tree is.0 c.in-Child.child c.rank-in-Child.result is.1 c.rank-in-Child.ensures child is_key extended c.enter.ensures.depth c.enter.ensures.node c.enter.ensures.places c.enter.ensures.each,
+      child_lighter g.K.Key.IsKey g.K.Key.bits g.K.Key.bit_width c.args.nodes.now p at long taken.string c.next_place.new.self taken.first t tree is.0 c.in-Child.child c.rank-in-Child.result is.1 c.rank-in-Child.ensures child is_key extended c.enter.ensures.depth c.enter.ensures.node c.enter.ensures.places c.enter.ensures.each g.met.K.Key.key_laws.at_most_128,
       goes_on g.K.Key.IsKey g.K.Key.bits g.K.Key.bit_width c.args.nodes.now p at long taken.string c.next_place.new.self taken.first,
       refl,
-      child_spot g.K.Key.IsKey g.K.Key.bits g.K.Key.bit_width c.args.nodes.now p at long taken.string c.next_place.new.self taken.first t tree is.0 c.in-Child.child c.rank-in-Child.result is.1 c.rank-in-Child.ensures c.enter.result is_key extended c.enter.ensures.depth c.enter.ensures.node c.enter.ensures.places c.enter.ensures.each,
+      child_spot g.K.Key.IsKey g.K.Key.bits g.K.Key.bit_width c.args.nodes.now p at long taken.string c.next_place.new.self taken.first t tree is.0 c.in-Child.child c.rank-in-Child.result is.1 c.rank-in-Child.ensures child is_key extended c.enter.ensures.depth c.enter.ensures.node c.enter.ensures.places c.enter.ensures.each,
       c.enter.ensures.depth,
+      child_way g.K.Key.IsKey g.K.Key.bits g.K.Key.bit_width c.args.nodes.now p at long taken.string c.next_place.new.self taken.first t tree is.0 c.in-Child.child c.rank-in-Child.result is.1 c.rank-in-Child.ensures child is_key extended c.enter.ensures.depth c.enter.ensures.node c.enter.ensures.places c.enter.ensures.each,
     )

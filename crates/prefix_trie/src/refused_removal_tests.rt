@@ -1,0 +1,111 @@
+//! Removals with each of their requests for memory refused in turn.
+use crate::refusing::Refusing;
+use crate::{Ipv4Prefix, PrefixMap};
+use std::alloc::Global;
+use std::test::Fail;
+
+/// More requests than the removals of a test make.
+const MANY: u64 = 100;
+
+/// How far apart 31 groups of five networks stand, and the networks in a group.
+#[derive(Clone, Copy)]
+struct Groups {
+    between: u32,
+    within: u32,
+    len: u8,
+}
+
+/// Each group in a node of its own.
+const IN_A_NODE: Groups = Groups {
+    between: 1 << 7,
+    within: 1 << 3,
+    len: 29,
+};
+
+/// Each network in a node of its own, and those of a group below one node.
+const BELOW_A_NODE: Groups = Groups {
+    between: 1 << 12,
+    within: 1 << 7,
+    len: 25,
+};
+
+type Held<'a> = PrefixMap<Ipv4Prefix, u32, &'a Refusing<Global>>;
+
+fn network(groups: Groups, group: u32, item: u32) -> Result<Ipv4Prefix, Fail> {
+    let start = group.wrapping_mul(groups.between);
+    let addr = start.wrapping_add(item.wrapping_mul(groups.within));
+    Ok(Ipv4Prefix::new(addr, groups.len).ok_or("a length above 32")?)
+}
+
+/// All networks stored, a group after the other: then a group takes the small blocks that the one before it left.
+fn stored<'a>(heap: &'a Refusing<Global>, groups: Groups) -> Result<Held<'a>, Fail> {
+    let mut map = PrefixMap::new(heap)?;
+    for group in 0..31 {
+        for item in 0..5 {
+            if map.insert(network(groups, group, item)?, item) != Ok(None) {
+                return Err(Fail::new("an insertion"));
+            }
+        }
+    }
+    Ok(map)
+}
+
+/// Takes all networks out, the first of each group before any second: then a group needs small blocks that none has left.
+/// Answers whether each removal answered in full.
+fn all_taken_out(map: &mut Held<'_>, groups: Groups, keep_tree: bool) -> Result<bool, Fail> {
+    for item in 0..5 {
+        for group in 0..31 {
+            let asked = network(groups, group, item)?;
+            let answer = if keep_tree {
+                map.remove_keep_tree(&asked)
+            } else {
+                map.remove(&asked)
+            };
+            if answer != Some(item) || map.get(&asked).is_some() {
+                return Ok(false);
+            }
+        }
+    }
+    Ok(map.is_empty())
+}
+
+/// Takes all networks out time and again, with another request refused each time. Answers how many requests were refused, or
+/// None where a removal did not answer in full.
+fn refused_in_turn(
+    heap: &Refusing<Global>,
+    groups: Groups,
+    keep_tree: bool,
+) -> Result<Option<u64>, Fail> {
+    for passed in 0..MANY {
+        let mut map = stored(heap, groups)?;
+        let before = heap.requests();
+        heap.refuse(passed, 1);
+        let answered = all_taken_out(&mut map, groups, keep_tree)?;
+        heap.refuse(0, 0);
+        if !answered {
+            return Ok(None);
+        }
+        if heap.requests().wrapping_sub(before) <= passed {
+            return Ok(Some(passed));
+        }
+    }
+    Ok(None)
+}
+
+#[test]
+fn each_request_for_values_refused(rt: HostRuntime) -> Result<(), Fail> {
+    let heap = Refusing::new(rt.alloc());
+    for keep_tree in [false, true] {
+        let refusals = refused_in_turn(&heap, IN_A_NODE, keep_tree)?;
+        assert!(rt; refusals.is_some_and(|count| 0 < count), "{refusals:?}");
+    }
+    Ok(())
+}
+
+#[test]
+fn each_request_for_nodes_refused(rt: HostRuntime) -> Result<(), Fail> {
+    let heap = Refusing::new(rt.alloc());
+    let refusals = refused_in_turn(&heap, BELOW_A_NODE, false)?;
+    assert!(rt; refusals.is_some_and(|count| 0 < count), "{refusals:?}");
+    Ok(())
+}

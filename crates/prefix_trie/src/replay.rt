@@ -1,0 +1,158 @@
+//! A list of calls, run on a map.
+ghost use Rattle.std.specs.Prelude.{◌≡◌, All, IfOk, OnErr, length, vec_len};
+ghost use Rattle.prefix_trie_bits.specs.Model.Selections.{listing, shown};
+ghost use Rattle.prefix_trie_bits.specs.Model.Step.{Step, Run};
+ghost use Rattle.prefix_trie_map.specs.Steps.{state};
+ghost use Rattle.prefix_trie_map.specs.Walks.{lent_item};
+ghost use Rattle.prefix_trie.specs.Replay.{IsFittingCall, call_of, calls_of, reply_of, replies_of};
+
+use crate::{Prefix, PrefixMap, Refusal};
+use std::alloc::{AllocError, Allocator};
+
+/// A call of a map from prefixes to numbers, with what it is handed.
+#[derive(Drop)]
+pub enum Call<P> {
+    /// `insert`: sets the value for this prefix.
+    Insert(P, u64),
+    /// `get`: the value stored for exactly this prefix.
+    Get(P),
+    /// `get_lpm`: the longest stored prefix that contains this one, and its value.
+    Lpm(P),
+    /// `get_spm`: the shortest stored prefix that contains this one, and its value.
+    Spm(P),
+    /// `remove`: takes the entry of this prefix out, and then the nodes on its way that have nothing left.
+    Remove(P),
+    /// `remove_keep_tree`: takes the entry of this prefix out, and leaves all nodes.
+    RemoveKeepTree(P),
+    /// `clear`: takes all entries out, and leaves the root alone.
+    Clear,
+    /// `len`: the number of entries.
+    Len,
+    /// `node_count`: the number of nodes, the root among them.
+    NodeCount,
+    /// `iter`: all entries, in listing order.
+    List,
+}
+
+/// What a call answered. Prefixes come without host bits.
+#[derive(Drop)]
+pub enum Reply<P, A: Allocator> {
+    /// To `Insert`, `Remove` and `RemoveKeepTree` the value that was there before, to `Get` the value.
+    Value(Option<u64>),
+    /// To `Lpm` and `Spm`.
+    Match(Option<(P, u64)>),
+    /// To `Clear`.
+    Done,
+    /// To `Len` and `NodeCount`.
+    Count(usize),
+    /// To `List`.
+    Entries(Vec<(P, u64), A>),
+    /// An insertion or a list was refused. The map has the entries and the nodes that it had.
+    Refused(Refusal),
+}
+
+/// Carries out the calls in order, and gives one reply for each.
+///
+/// After any list of calls, every call answers as a finite map from bit strings to values does: `Insert` sets the value at
+/// the path of its prefix and gives the one that was there, `Get` gives the value at the path of its prefix, `Lpm` the
+/// longest stored beginning of that path and its value, `Len` the number of entries, and `List` all of them, each once and
+/// in listing order.
+///
+/// Asks that every prefix handed in fits. Room for all replies is asked for first, so `Err` means that no call was carried
+/// out. An insertion that is refused is answered by the cause, and a list for which no memory is found by
+/// `Refused(Memory)`. Both leave the entries and the nodes of the map as they were, and the run goes on.
+///
+/// ```text
+/// let mut map = PrefixMap::new(alloc)?;
+/// run(alloc, &mut map, &[
+///     Call::Insert((0x0a01_0000_u32, 16_u8), 1),   Reply::Value(None)
+///     Call::Get((0x0a01_0203, 32)),                Reply::Value(None)
+///     Call::Lpm((0x0a01_0203, 32)),                Reply::Match(Some(((0x0a01_0000, 16), 1)))
+///     Call::Len,                                   Reply::Count(1)
+///     Call::List,                                  Reply::Entries([((0x0a01_0000, 16), 1)])
+/// ])
+/// ```
+pub fn run<P: Prefix, A: Allocator + Clone>(
+    alloc: A,
+    map: &mut PrefixMap<P, u64, A>,
+    calls: &[Call<P>],
+) -> Result<Vec<Reply<P, A>, A>, AllocError>
+    requires { All (IsFittingCall P.IsFitting) calls.now }
+
+    // The calls with their replies are a run of the model, from the entries and nodes that the map had to those it has.
+    ensures run { IfOk result (λ replies. Run P.path P.back P.R.bit_width
+        (state map.old) (calls_of calls.now) (replies_of replies.items) (state map.new)) }
+    ensures one_each { IfOk result (λ replies. vec_len replies ≡ length calls.now) }
+    ensures none_carried_out { OnErr result (map.new ≡ map.old) }
+{
+    let mut replies = Vec::with_capacity(alloc.clone()?, calls.len())?;
+    for call in calls {
+        let reply = answer(&alloc, map, call);
+        replies.push_reserved(reply);
+    }
+    Ok(replies)
+}
+
+/// Carries out one call.
+fn answer<P: Prefix, A: Allocator + Clone>(
+    alloc: &A,
+    map: &mut PrefixMap<P, u64, A>,
+    call: &Call<P>,
+) -> Reply<P, A>
+    requires { IsFittingCall P.IsFitting call.now }
+    ensures { Step P.path P.back P.R.bit_width
+        (state map.old) (call_of call.now) (reply_of result) (state map.new) }
+{
+    match call {
+        Call::Insert(prefix, value) => match map.insert(same_path(prefix), *value) {
+            Ok(before) => Reply::Value(before),
+            Err(refused) => Reply::Refused(refused.cause),
+        },
+        Call::Get(prefix) => Reply::Value(map.get_counted(prefix).0.copied()),
+        Call::Lpm(prefix) => Reply::Match(map.get_lpm_counted(prefix).0.map(owned)),
+        Call::Spm(prefix) => Reply::Match(map.get_spm_counted(prefix).0.map(owned)),
+        Call::Remove(prefix) => Reply::Value(map.remove(prefix)),
+        Call::RemoveKeepTree(prefix) => Reply::Value(map.remove_keep_tree(prefix)),
+        Call::Clear => {
+            map.clear();
+            Reply::Done
+        }
+        Call::Len => Reply::Count(map.len()),
+        Call::NodeCount => Reply::Count(map.node_count()),
+        Call::List => match listed(alloc, map) {
+            Ok(entries) => Reply::Entries(entries),
+            Err(_) => Reply::Refused(Refusal::Memory),
+        },
+    }
+}
+
+/// A prefix with the same path, since one that is lent cannot be handed on.
+fn same_path<P: Prefix>(prefix: &P) -> P
+    requires { P.IsFitting prefix.now }
+    ensures fits { P.IsFitting result }
+    ensures path { P.path result ≡ P.path prefix.now }
+{
+    P::from_repr_len(prefix.repr(), prefix.prefix_len())
+}
+
+/// An entry with its value copied.
+fn owned<P>(lent: (P, &u64)) -> (P, u64)
+    ensures { result ≡ lent_item lent.entry }
+{
+    let (prefix, value) = lent;
+    (prefix, *value)
+}
+
+/// All entries in listing order. Room for them is asked for first.
+fn listed<P: Prefix, A: Allocator + Clone>(
+    alloc: &A,
+    map: &PrefixMap<P, u64, A>,
+) -> Result<Vec<(P, u64), A>, AllocError>
+    ensures { IfOk result (λ entries. entries.items ≡ shown P.back (listing map.now.entries)) }
+{
+    let mut entries = Vec::with_capacity(alloc.clone()?, map.len())?;
+    for (prefix, value) in map.iter() {
+        entries.push_reserved((prefix, *value));
+    }
+    Ok(entries)
+}

@@ -1,0 +1,48 @@
+-- A map stays one where a value of it is written over.
+use Rattle.std.proofs.Common.{◌≡◌, ℕ, Bool, true, false, List, Option, None, Some, if◌then◌else◌, is_some, refl, sym, ap, ◌∙◌, inl, inr}
+use borrow.Follows.Closed.{read_of}
+use Rattle.std.specs.Borrow.{MutBor}
+use Rattle.std.specs.FinMap.{get, contains_key}
+use Rattle.std.specs.Option.{option_copied_mut, ghost_name_of}
+use Rattle.prefix_trie_bits.specs.Laws.Steps.{IsMap}
+use Rattle.prefix_trie_bits.specs.Model.Matches.{longest_match}
+use Rattle.prefix_trie_bits.proofs.Model.Matches.{match_laws}
+use Rattle.prefix_trie_bits.proofs.Model.NodeSets.{AreNodes-stored, key_cases}
+use Rattle.prefix_trie_table.specs.Shape.{Contents, with_value_at, with_stored_at, with_match_at, with_longest_at}
+use Rattle.prefix_trie_map.specs.Steps.{state}
+
+module _ {T : Type 0} (width : ℕ) (m : Contents T) (good : IsMap width (state m)) where
+  -- another value at a stored key
+  set_again : (k : List Bool) (x : T) → contains_key m.entries k ≡ true → IsMap width (state (with_value_at m k x))
+  set_again k x has = record {
+    keys_within = λ q h. elim (key_cases m.entries k q x h) [
+      | inl is ↦ good.keys_within q (ap (contains_key m.entries) is ∙ has)
+      | inr old ↦ good.keys_within q old
+    ];
+    are_nodes = AreNodes-stored width m.entries m.nodes k x good.are_nodes has;
+  }
+
+  module _ (q : List Bool) (x : T) where
+    at_stored : (b : Bool) → contains_key m.entries q ≡ b → IsMap width (state (if b then with_value_at m q x else m))
+    at_stored true has = set_again q x has
+    at_stored false has = good
+
+    -- the value at a path, if one is stored there
+    pub IsMap-with_stored_at : IsMap width (state (with_stored_at m q x))
+    IsMap-with_stored_at = at_stored (contains_key m.entries q) refl
+
+    at_match : (o : Option (List Bool × T)) → longest_match m.entries q ≡ o → IsMap width (state (with_match_at m o x))
+    at_match None is = good
+    at_match (Some e) is = set_again e.0 x (ap is_some (((match_laws T).longest_is m.entries q e).0 is).matches.stored)
+
+    -- the value of the longest match, if there is one
+    pub IsMap-with_longest_at : IsMap width (state (with_longest_at m q x))
+    IsMap-with_longest_at = at_match (longest_match m.entries q) refl
+
+-- where the value at a path is lent, a value is stored there
+pub stored_lent : {T : Type 0} (m : Contents T) (q : List Bool) (r : Option (MutBor T)) → option_copied_mut r ≡ get m.entries q →
+    read_of (ghost_name_of r) (with_stored_at m q) m ≡ read_of (ghost_name_of r) (with_value_at m q) m
+stored_lent m q None e = refl
+stored_lent m q (Some lent) e =
+    let stored : contains_key m.entries q ≡ true = ap is_some (sym e) in
+    λ i. inl (lent.ghost_name, λ x. if stored i then with_value_at m q x else m)

@@ -1,0 +1,23 @@
+use Rattle.std.proofs.Common.{rules, ◌≡◌, length, ap, ◌∙◌, arith}
+use Rattle.std.proofs.lemmas.List.{length-map}
+use Rattle.prefix_trie_bits.specs.Keys.{path_within}
+use Rattle.prefix_trie_bits.specs.Model.Matches.{covers}
+use Rattle.prefix_trie_bits.specs.Model.Selections.{shown}
+use Rattle.prefix_trie_table.proofs.Covered.{covers_few}
+use Rattle.prefix_trie_map.specs.Walks.{lent_item}
+use Rattle.prefix_trie_map.proofs.Runs.{shows_in_order}
+use Rattle.prefix_trie_map.proofs.map.PrefixMap.cover.Goals as goal
+
+pub returns-clause-counted : goal.returns-clause-counted
+returns-clause-counted g c =
+    let found = covers c.args.self.now.entries (g.P.Prefix.path c.args.prefix.now) in
+    let items : c.over.result ≡ shown g.P.Prefix.back found = search rules in
+    ap length items ∙ length-map found (λ e. (g.P.Prefix.back e.0, e.1))
+
+pub returns-clause-fits : goal.returns-clause-fits
+returns-clause-fits g c =
+    let path = g.P.Prefix.path c.args.prefix.now in
+    omega (arith, covers_few c.args.self.now.entries path, path_within g.met.P.Prefix.prefix_laws c.args.prefix.now c.requires, g.met.P.Prefix.prefix_laws.keys.at_most_128)
+
+pub returns-clause-runs : goal.returns-clause-runs
+returns-clause-runs g c = shows_in_order lent_item

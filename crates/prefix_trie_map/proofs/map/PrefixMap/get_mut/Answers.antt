@@ -1,0 +1,27 @@
+use borrow.Follows.Closed.{read_of}
+use Rattle.std.proofs.Common.{rules, ◌≡◌, take, ap, ◌∙◌, subst}
+use Rattle.std.specs.FinMap.{get}
+use Rattle.std.specs.Option.{ghost_name_of}
+use Rattle.prefix_trie_table.specs.Shape.{with_value_at, with_stored_at}
+use Rattle.prefix_trie_map.proofs.Lending.{IsMap-with_stored_at, stored_lent}
+use Rattle.prefix_trie_map.proofs.map.PrefixMap.get_mut.Goals as goal
+
+pub invariant_of-self-lent : goal.invariant_of-self-lent
+invariant_of-self-lent g c = λ r. (
+  λ x. IsMap-with_stored_at g.P.R.Key.bit_width c.self.inside.table c.self.invariant (take c.from-len.result (g.P.R.Key.bits c.repr.result)) x,
+  c.self.invariant,
+)
+
+pub returns : goal.returns
+returns g c =
+    let m = c.self.inside.table in
+    let q = take c.from-len.result (g.P.R.Key.bits c.repr.result) in
+    let path = g.P.Prefix.path c.args.prefix.now in
+    let name = ghost_name_of c.find_mut.result in
+    let key : q ≡ path = search rules in
+    let same : m ≡ c.args.self.now = c.self.view_is in (
+      subst (λ n. read_of name (with_stored_at m q) m ≡ read_of name (with_value_at n path) n) same
+          (subst (λ s. read_of name (with_stored_at m q) m ≡ read_of name (with_value_at m s) m) key
+          (stored_lent m q c.find_mut.result c.find_mut.ensures.value)),
+      record { writes_back = tt; value = c.find_mut.ensures.value ∙ ap (get m.entries) key ∙ ap (λ n. get n.entries path) same },
+    )

@@ -1,0 +1,21 @@
+-- What a map ends as, where a `&mut` to one of its values is returned.
+use Rattle.std.specs.Prelude.{Bool, List, Option}
+use Rattle.std.specs.Borrow.{LendsIf, Fml, RattleType, MutBor}
+use Rattle.std.specs.declared.alloc.Allocator as alloc
+use Rattle.std.specs.declared.cmp.PartialEq as partial
+use Rattle.std.specs.declared.fmt.Debug as debug
+use Rattle.prefix_trie_bits.specs.declared.prefix.Prefix as prefix
+use Rattle.prefix_trie_bits.specs.declared.prefix.Key as key
+use Rattle.prefix_trie_table.specs.Shape.{Contents, with_value_at, with_longest_at}
+use Rattle.prefix_trie_map.specs.contracts.map.PrefixMap as map
+
+module _ (P T A R : RattleType) (p : prefix.Ghosts P.Denot R.Denot) (shows : debug.Ghosts P.Denot) (k : key.Ghosts R.Denot)
+    (same : partial.Ghosts R.Denot) (writes : debug.Ghosts R.Denot) (a : alloc.Ghosts A.Denot) (m : MutBor (Contents T.Denot)) (q : List Bool)
+    (r : Option (MutBor T.Denot)) where
+  -- once the borrow r ends, the value at q is the last one written through r, and at `None` the map is as it was
+  abbrev pub lends_entry_if : Fml
+  lends_entry_if = LendsIf (map.the_row P T A R p shows k same writes a) T m r (with_value_at m.now q) m.now
+
+  -- the same of the longest key that begins q
+  abbrev pub lends_longest_if : Fml
+  lends_longest_if = LendsIf (map.the_row P T A R p shows k same writes a) T m r (with_longest_at m.now q) m.now

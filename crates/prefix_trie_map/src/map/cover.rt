@@ -1,0 +1,194 @@
+//! The walks over the entries whose prefixes contain a prefix, the shortest first. Contracts see each as the list of the
+//! items still to come.
+ghost use Rattle.std.specs.Prelude.{◌≡◌, ◌≤◌, map, length};
+ghost use Rattle.std.specs.Iterator.{at_most};
+ghost use Rattle.std.specs.Map.Iter.{TakesFirst, ShowsInOrder, GivesInOrder, deref};
+ghost use Rattle.prefix_trie_bits.specs.Model.Matches.{covers};
+ghost use Rattle.prefix_trie_bits.specs.Model.Selections.{shown};
+ghost use Rattle.prefix_trie_map.specs.Walks.{lent_item};
+
+use crate::map::lookup::rebuilt;
+use crate::map::{PrefixMap, Visits};
+use prefix_trie_bits::prefix::Prefix;
+use prefix_trie_table::table::Cover as TableCover;
+use std::alloc::Allocator;
+use std::marker::{Model, PhantomData};
+
+impl<P: Prefix, T: Drop, A: Allocator> PrefixMap<P, T, A> {
+    /// The entries whose prefixes contain this one, the shortest first. A stored prefix contains itself. Prefixes come
+    /// without host bits, and there are 129 of them at most, since no two are of one length.
+    ///
+    /// ```text
+    /// 10.0.0.0/8, 10.1.0.0/16, 10.1.1.0/24, 10.1.1.0/25 and 11.0.0.0/8 are stored
+    /// map.cover(10.1.1.0/24)   gives 10.0.0.0/8, 10.1.0.0/16 and 10.1.1.0/24
+    /// ```
+    #[inline]
+    pub fn cover(&self, prefix: &P) -> Cover<'_, P, T, A>
+        requires { P.IsFitting prefix.now }
+        ensures items { result ≡ shown P.back (covers self.now.entries (P.path prefix.now)) }
+        ensures counted { length result ≡ length (covers self.now.entries (P.path prefix.now)) }
+        ensures fits { length (covers self.now.entries (P.path prefix.now)) ≤ 129 }
+        ensures runs { ShowsInOrder (lent_item {P = P} {T = T}) }
+    {
+        let len = u32::from(prefix.prefix_len());
+        let walk = self.table.cover(prefix.repr(), len, &mut Visits::new());
+        Cover::over(walk)
+    }
+
+    /// The stored prefixes that contain this one, as `cover` gives them.
+    #[inline]
+    pub fn cover_keys(&self, prefix: &P) -> CoverKeys<'_, P, T, A>
+        requires { P.IsFitting prefix.now }
+        ensures items { result ≡ map (λ e. P.back e.0) (covers self.now.entries (P.path prefix.now)) }
+        ensures counted { length result ≡ length (covers self.now.entries (P.path prefix.now)) }
+        ensures fits { length (covers self.now.entries (P.path prefix.now)) ≤ 129 }
+        ensures runs { GivesInOrder P }
+    {
+        CoverKeys::new(self.cover(prefix))
+    }
+
+    /// The values stored for the prefixes that contain this one, as `cover` gives them.
+    #[inline]
+    pub fn cover_values(&self, prefix: &P) -> CoverValues<'_, P, T, A>
+        requires { P.IsFitting prefix.now }
+        ensures items { result ≡ map (λ e. e.1) (covers self.now.entries (P.path prefix.now)) }
+        ensures counted { length result ≡ length (covers self.now.entries (P.path prefix.now)) }
+        ensures fits { length (covers self.now.entries (P.path prefix.now)) ≤ 129 }
+        ensures runs { ShowsInOrder (deref {X = T}) }
+    {
+        CoverValues::new(self.cover(prefix))
+    }
+}
+
+/// The entries whose prefixes contain a prefix, the shortest first: each prefix, without host bits, with its value lent.
+///
+/// The walk takes no memory, and after its last item it answers `None` each time.
+#[derive(Drop)]
+pub struct Cover<'a, P: Prefix, T: Drop, A: Allocator> {
+    walk: TableCover<'a, P::R, T, A, Visits>,
+    marker: PhantomData<P>,
+}
+
+impl<'a, P: Prefix, T: Drop, A: Allocator> Model for Cover<'a, P, T, A> {
+    ghost use Rattle.std.specs.Prelude.{List};
+    ghost use Rattle.prefix_trie_bits.specs.Model.Selections.{shown};
+
+    ghost Value = { List (P × T) };
+
+    ghost view = { λ c. shown P.back c.walk };
+}
+
+impl<'a, P: Prefix, T: Drop, A: Allocator> Cover<'a, P, T, A> {
+    /// The walk of a table, by prefixes.
+    #[inline]
+    fn over(walk: TableCover<'a, P::R, T, A, Visits>) -> Self
+        ensures { result ≡ shown P.back walk.entry }
+    {
+        Cover {
+            walk,
+            marker: PhantomData,
+        }
+    }
+}
+
+impl<'a, P: Prefix, T: Drop, A: Allocator> Iterator for Cover<'a, P, T, A> {
+    type Item = (P, &'a T);
+
+    ghost next_gives = { TakesFirst lent_item };
+
+    ghost remaining = { λ items. at_most (length items) };
+
+    #[inline]
+    fn next(&mut self) -> Option<(P, &'a T)> {
+        let Some((key, len, value)) = self.walk.next(&mut Visits::new()) else {
+            return None;
+        };
+        Some((rebuilt(key, len), value))
+    }
+}
+
+/// The stored prefixes that contain a prefix, the shortest first and without host bits.
+#[derive(Drop)]
+pub struct CoverKeys<'a, P: Prefix, T: Drop, A: Allocator> {
+    inner: Cover<'a, P, T, A>,
+}
+
+impl<'a, P: Prefix, T: Drop, A: Allocator> Model for CoverKeys<'a, P, T, A> {
+    ghost use Rattle.std.specs.Prelude.{List, map};
+
+    ghost Value = { List P };
+
+    ghost view = { λ c. map (λ e. e.0) c.inner };
+}
+
+impl<'a, P: Prefix, T: Drop, A: Allocator> CoverKeys<'a, P, T, A> {
+    /// The prefixes of a walk.
+    #[inline]
+    fn new(inner: Cover<'a, P, T, A>) -> Self
+        ensures { result ≡ map (λ e. e.0) inner.entry }
+    {
+        CoverKeys { inner }
+    }
+}
+
+impl<'a, P: Prefix, T: Drop, A: Allocator> Iterator for CoverKeys<'a, P, T, A> {
+    type Item = P;
+
+    ghost next_gives = { TakesFirst (λ p. p) };
+
+    ghost remaining = { λ items. at_most (length items) };
+
+    #[inline]
+    fn next(&mut self) -> Option<P> {
+        let Some((prefix, _)) = self.inner.next() else {
+            return None;
+        };
+        Some(prefix)
+    }
+}
+
+/// The values stored for the prefixes that contain a prefix, that of the shortest first.
+#[derive(Drop)]
+pub struct CoverValues<'a, P: Prefix, T: Drop, A: Allocator> {
+    inner: Cover<'a, P, T, A>,
+}
+
+impl<'a, P: Prefix, T: Drop, A: Allocator> Model for CoverValues<'a, P, T, A> {
+    ghost use Rattle.std.specs.Prelude.{List, map};
+
+    ghost Value = { List T };
+
+    ghost view = { λ c. map (λ e. e.1) c.inner };
+}
+
+impl<'a, P: Prefix, T: Drop, A: Allocator> CoverValues<'a, P, T, A> {
+    /// The values of a walk.
+    #[inline]
+    fn new(inner: Cover<'a, P, T, A>) -> Self
+        ensures { result ≡ map (λ e. e.1) inner.entry }
+    {
+        CoverValues { inner }
+    }
+}
+
+impl<'a, P: Prefix, T: Drop, A: Allocator> Iterator for CoverValues<'a, P, T, A> {
+    type Item = &'a T;
+
+    ghost next_gives = { TakesFirst deref };
+
+    ghost remaining = { λ items. at_most (length items) };
+
+    #[inline]
+    fn next(&mut self) -> Option<&'a T> {
+        let Some((_, value)) = self.inner.next() else {
+            return None;
+        };
+        Some(value)
+    }
+
+    // The default does not know that what is lent lives as long as the map.
+    #[inline]
+    fn size_hint(&self) -> (usize, Option<usize>) {
+        (0, None)
+    }
+}

@@ -1,0 +1,277 @@
+//! The walks that lend a map's entries, in listing order. Contracts see each as the list of the items still to come.
+ghost use Rattle.std.specs.Prelude.{◌≡◌, ◌<◌, ◌≤◌, ◌^◌, ◌-◌, ◌++◌, [], map, length, take};
+ghost use Rattle.std.specs.FinMap.{len};
+ghost use Rattle.std.specs.Iterator.{at_most};
+ghost use Rattle.std.specs.Map.Iter.{TakesFirst, ShowsInOrder, GivesInOrder, deref};
+ghost use Rattle.prefix_trie_bits.specs.Bits.{zeros};
+ghost use Rattle.prefix_trie_bits.specs.Model.Selections.{listing, shown};
+ghost use Rattle.prefix_trie_map.specs.Walks.{lent_item};
+
+use crate::map::{PrefixMap, Visits};
+use prefix_trie_bits::prefix::Prefix;
+use prefix_trie_table::table::Walk;
+use std::alloc::Allocator;
+use std::iter::IntoIterator;
+use std::marker::{Model, PhantomData};
+
+impl<P: Prefix, T: Drop, A: Allocator> PrefixMap<P, T, A> {
+    /// The entries in listing order: a prefix comes before those that it contains, and of two that differ in a bit the one
+    /// with 0 comes first. Prefixes come without host bits.
+    #[inline]
+    pub fn iter(&self) -> Iter<'_, P, T, A>
+        ensures items { result ≡ shown P.back (listing self.now.entries) }
+        ensures counted { length result ≡ len self.now.entries }
+        ensures fits { len self.now.entries < 2 ^ 64 }
+        ensures runs { ShowsInOrder (lent_item {P = P} {T = T}) }
+    {
+        // The proof learns from it that the number of entries fits.
+        let _ = self.len();
+        let walk = self.table.walk(&mut Visits::new());
+        Iter::over(walk)
+    }
+
+    /// The prefixes in listing order, without host bits.
+    #[inline]
+    pub fn keys(&self) -> Keys<'_, P, T, A>
+        ensures items { result ≡ map (λ e. P.back e.0) (listing self.now.entries) }
+        ensures counted { length result ≡ len self.now.entries }
+        ensures fits { len self.now.entries < 2 ^ 64 }
+        ensures runs { GivesInOrder P }
+    {
+        Keys::new(self.iter())
+    }
+
+    /// The values, in the listing order of their prefixes.
+    #[inline]
+    pub fn values(&self) -> Values<'_, P, T, A>
+        ensures items { result ≡ map (λ e. e.1) (listing self.now.entries) }
+        ensures counted { length result ≡ len self.now.entries }
+        ensures fits { len self.now.entries < 2 ^ 64 }
+        ensures runs { ShowsInOrder (deref {X = T}) }
+    {
+        Values::new(self.iter())
+    }
+}
+
+impl<'a, P: Prefix, T: Drop, A: Allocator> IntoIterator for &'a PrefixMap<P, T, A> {
+    type Item = (P, &'a T);
+
+    type IntoIter = Iter<'a, P, T, A>;
+
+    ghost into_iter_gives = { λ s it. (it ≡ shown P.back (listing s.now.entries)) × (length it ≡ len s.now.entries) × (len s.now.entries < 2 ^ 64) × ShowsInOrder (lent_item {P = P} {T = T}) };
+
+    #[inline]
+    fn into_iter(self) -> Iter<'a, P, T, A> {
+        self.iter()
+    }
+}
+
+/// The entries of a map in listing order: each prefix, without host bits, with its value lent.
+///
+/// A prefix comes before those that it contains, and of two that differ in a bit the one with 0 first. The walk takes no
+/// memory, and after its last item it answers `None` each time.
+#[derive(Drop)]
+pub struct Iter<'a, P: Prefix, T: Drop, A: Allocator> {
+    walk: Walk<'a, P::R, T, A, Visits>,
+    marker: PhantomData<P>,
+}
+
+impl<'a, P: Prefix, T: Drop, A: Allocator> Model for Iter<'a, P, T, A> {
+    ghost use Rattle.std.specs.Prelude.{List};
+    ghost use Rattle.prefix_trie_bits.specs.Model.Selections.{shown};
+
+    ghost Value = { List (P × T) };
+
+    ghost view = { λ it. shown P.back it.walk };
+}
+
+impl<'a, P: Prefix, T: Drop, A: Allocator> Iter<'a, P, T, A> {
+    /// The walk of a table, by prefixes.
+    #[inline]
+    pub(super) fn over(walk: Walk<'a, P::R, T, A, Visits>) -> Self
+        ensures { result ≡ shown P.back walk.entry }
+    {
+        Iter {
+            walk,
+            marker: PhantomData,
+        }
+    }
+
+    /// The same walk, at the same place.
+    #[inline]
+    pub fn clone(&self) -> Self
+        ensures { result ≡ self.now }
+    {
+        Iter {
+            walk: self.walk.clone(),
+            marker: PhantomData,
+        }
+    }
+}
+
+impl<'a, P: Prefix, T: Drop, A: Allocator> Default for Iter<'a, P, T, A> {
+    ghost is_default = { λ it. it ≡ [] };
+
+    #[inline]
+    fn default() -> Self {
+        Iter {
+            walk: Walk::default(),
+            marker: PhantomData,
+        }
+    }
+}
+
+impl<'a, P: Prefix, T: Drop, A: Allocator> Iterator for Iter<'a, P, T, A> {
+    type Item = (P, &'a T);
+
+    ghost next_gives = { TakesFirst lent_item };
+
+    ghost remaining = { λ items. at_most (length items) };
+
+    #[inline]
+    fn next(&mut self) -> Option<(P, &'a T)> {
+        let Some((key, len, value)) = self.walk.next(&mut Visits::new()) else {
+            return None;
+        };
+        Some((without_host_bits(key, len), value))
+    }
+}
+
+/// The prefix of a key that has zeros behind its length.
+#[inline]
+fn without_host_bits<P: Prefix>(key: P::R, len: u32) -> P
+    requires key { P.R.IsKey key }
+    requires within { len ≤ P.R.bit_width }
+    requires filled { P.R.bits key ≡ take len (P.R.bits key) ++ zeros (P.R.bit_width - len) }
+    ensures { result ≡ P.back (take len (P.R.bits key)) }
+{
+    P::from_repr_len(key, len as u8)
+}
+
+/// The prefixes of a map in listing order, without host bits.
+#[derive(Drop)]
+pub struct Keys<'a, P: Prefix, T: Drop, A: Allocator> {
+    inner: Iter<'a, P, T, A>,
+}
+
+impl<'a, P: Prefix, T: Drop, A: Allocator> Model for Keys<'a, P, T, A> {
+    ghost use Rattle.std.specs.Prelude.{List, map};
+
+    ghost Value = { List P };
+
+    ghost view = { λ it. map (λ e. e.0) it.inner };
+}
+
+impl<'a, P: Prefix, T: Drop, A: Allocator> Keys<'a, P, T, A> {
+    /// The prefixes of a walk.
+    #[inline]
+    pub(super) fn new(inner: Iter<'a, P, T, A>) -> Self
+        ensures { result ≡ map (λ e. e.0) inner.entry }
+    {
+        Keys { inner }
+    }
+
+    /// The same walk, at the same place.
+    #[inline]
+    pub fn clone(&self) -> Self
+        ensures { result ≡ self.now }
+    {
+        Keys {
+            inner: self.inner.clone(),
+        }
+    }
+}
+
+impl<'a, P: Prefix, T: Drop, A: Allocator> Default for Keys<'a, P, T, A> {
+    ghost is_default = { λ it. it ≡ [] };
+
+    #[inline]
+    fn default() -> Self {
+        Keys {
+            inner: Iter::default(),
+        }
+    }
+}
+
+impl<'a, P: Prefix, T: Drop, A: Allocator> Iterator for Keys<'a, P, T, A> {
+    type Item = P;
+
+    ghost next_gives = { TakesFirst (λ p. p) };
+
+    ghost remaining = { λ items. at_most (length items) };
+
+    #[inline]
+    fn next(&mut self) -> Option<P> {
+        let Some((prefix, _)) = self.inner.next() else {
+            return None;
+        };
+        Some(prefix)
+    }
+}
+
+/// The values of a map, lent in the listing order of their prefixes.
+#[derive(Drop)]
+pub struct Values<'a, P: Prefix, T: Drop, A: Allocator> {
+    inner: Iter<'a, P, T, A>,
+}
+
+impl<'a, P: Prefix, T: Drop, A: Allocator> Model for Values<'a, P, T, A> {
+    ghost use Rattle.std.specs.Prelude.{List, map};
+
+    ghost Value = { List T };
+
+    ghost view = { λ it. map (λ e. e.1) it.inner };
+}
+
+impl<'a, P: Prefix, T: Drop, A: Allocator> Values<'a, P, T, A> {
+    /// The values of a walk.
+    #[inline]
+    pub(super) fn new(inner: Iter<'a, P, T, A>) -> Self
+        ensures { result ≡ map (λ e. e.1) inner.entry }
+    {
+        Values { inner }
+    }
+
+    /// The same walk, at the same place.
+    #[inline]
+    pub fn clone(&self) -> Self
+        ensures { result ≡ self.now }
+    {
+        Values {
+            inner: self.inner.clone(),
+        }
+    }
+}
+
+impl<'a, P: Prefix, T: Drop, A: Allocator> Default for Values<'a, P, T, A> {
+    ghost is_default = { λ it. it ≡ [] };
+
+    #[inline]
+    fn default() -> Self {
+        Values {
+            inner: Iter::default(),
+        }
+    }
+}
+
+impl<'a, P: Prefix, T: Drop, A: Allocator> Iterator for Values<'a, P, T, A> {
+    type Item = &'a T;
+
+    ghost next_gives = { TakesFirst deref };
+
+    ghost remaining = { λ items. at_most (length items) };
+
+    #[inline]
+    fn next(&mut self) -> Option<&'a T> {
+        let Some((_, value)) = self.inner.next() else {
+            return None;
+        };
+        Some(value)
+    }
+
+    // The default does not know that what is lent lives as long as the map.
+    #[inline]
+    fn size_hint(&self) -> (usize, Option<usize>) {
+        (0, None)
+    }
+}

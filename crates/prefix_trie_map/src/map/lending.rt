@@ -1,0 +1,96 @@
+//! Lookups that lend a value for writing.
+ghost use Rattle.std.specs.Prelude.{◌≡◌, List, Bool, ℕ, ◌+◌, ◌/◌, ◌≤◌, length, MatchOption, None, Some};
+ghost use Rattle.std.specs.Option.{option_copied_mut};
+ghost use Rattle.std.specs.Borrow.{sem};
+ghost use Rattle.std.specs.FinMap.{get};
+ghost use Rattle.prefix_trie_bits.specs.Model.Matches.{longest_match, shown_match};
+ghost use Rattle.prefix_trie_bits.specs.Model.Visits.{visits};
+ghost use Rattle.prefix_trie_map.specs.Lending.{lends_entry_if, lends_longest_if};
+
+#[cfg(test)]
+mod tests;
+
+use crate::map::PrefixMap;
+use crate::map::lookup::rebuilt;
+use crate::map::visits::Visits;
+use prefix_trie_bits::prefix::Prefix;
+use std::alloc::Allocator;
+
+impl<P: Prefix, T: Drop, A: Allocator> PrefixMap<P, T, A> {
+    /// The value stored for exactly this prefix, for writing. What is written through it is then the value stored, and nothing
+    /// else changes.
+    #[inline]
+    pub fn get_mut(&mut self, prefix: &P) -> Option<&mut T>
+        requires { P.IsFitting prefix.now }
+        ensures* writes_back { sem 𝓛 (lends_entry_if P.row T.row A.row P.R.row P.Prefix.own P.Debug P.R.Key.own P.R.PartialEq P.R.Debug A.Allocator self.entry (P.path prefix.now) result) }
+        ensures value { option_copied_mut result ≡ get self.old.entries (P.path prefix.now) }
+    {
+        let len = u32::from(prefix.prefix_len());
+        self.table.find_mut(prefix.repr(), len, &mut Visits::new())
+    }
+
+    /// The answer of `get_mut`, and how many nodes it read: each node on the prefix's way once, as `get_counted` does.
+    #[inline]
+    pub fn get_mut_counted(&mut self, prefix: &P) -> (Option<&mut T>, Visits)
+        requires { P.IsFitting prefix.now }
+        ensures value { option_copied_mut result.0 ≡ get self.old.entries (P.path prefix.now) }
+        ensures exact { result.1 ≡ visits self.old.nodes (P.path prefix.now) }
+        ensures bound { result.1 ≤ length (P.path prefix.now) / 5 + 1 }
+    {
+        let mut visits = Visits::new();
+        let len = u32::from(prefix.prefix_len());
+        let answer = self.table.find_mut(prefix.repr(), len, &mut visits);
+        (answer, visits)
+    }
+
+    /// The value of the longest stored prefix that contains this one, for writing: what `get_lpm_mut` lends, without the
+    /// prefix. What is written through it is then the value stored for that prefix, and nothing else changes.
+    #[inline]
+    pub fn get_lpm_value_mut(&mut self, prefix: &P) -> Option<&mut T>
+        requires { P.IsFitting prefix.now }
+        ensures* writes_back { sem 𝓛 (lends_longest_if P.row T.row A.row P.R.row P.Prefix.own P.Debug P.R.Key.own P.R.PartialEq P.R.Debug A.Allocator self.entry (P.path prefix.now) result) }
+        ensures value { MatchOption result
+            (longest_match self.old.entries (P.path prefix.now) ≡ None)
+            (λ value. (p : List Bool) × (longest_match self.old.entries (P.path prefix.now) ≡ Some (p, value.now))) }
+    {
+        let len = u32::from(prefix.prefix_len());
+        self.table
+            .find_longest_mut(prefix.repr(), len, &mut 0, &mut Visits::new())
+    }
+
+    /// The longest stored prefix that contains this one, without its host bits, and the value stored for it, for writing. A
+    /// stored prefix contains itself.
+    #[inline]
+    pub fn get_lpm_mut(&mut self, prefix: &P) -> Option<(P, &mut T)>
+        requires { P.IsFitting prefix.now }
+        ensures { MatchOption result
+            (longest_match self.old.entries (P.path prefix.now) ≡ None)
+            (λ found. shown_match P.back (longest_match self.old.entries (P.path prefix.now)) ≡ Some (found.0, found.1.now)) }
+    {
+        self.get_lpm_mut_counted(prefix).0
+    }
+
+    /// The answer of `get_lpm_mut`, and how many nodes it read: each node on the prefix's way once, as `get_counted` does.
+    #[inline]
+    pub fn get_lpm_mut_counted(&mut self, prefix: &P) -> (Option<(P, &mut T)>, Visits)
+        requires { P.IsFitting prefix.now }
+        ensures value { MatchOption result.0
+            (longest_match self.old.entries (P.path prefix.now) ≡ None)
+            (λ found. shown_match P.back (longest_match self.old.entries (P.path prefix.now)) ≡ Some (found.0, found.1.now)) }
+        ensures exact { result.1 ≡ visits self.old.nodes (P.path prefix.now) }
+        ensures bound { result.1 ≤ length (P.path prefix.now) / 5 + 1 }
+    {
+        let mut visits = Visits::new();
+        let key = prefix.repr();
+        let len = u32::from(prefix.prefix_len());
+        let mut found = 0;
+        let value = self
+            .table
+            .find_longest_mut(key, len, &mut found, &mut visits);
+        let longest = match value {
+            Some(value) => Some((rebuilt(key, found), value)),
+            None => None,
+        };
+        (longest, visits)
+    }
+}

@@ -1,0 +1,15 @@
+use Rattle.std.proofs.Common.{ap, sym, ◌∙◌}
+use Rattle.std.specs.FinMap.{len}
+use Rattle.prefix_trie_table.proofs.PathStrings.{paths_counted}
+use Rattle.prefix_trie_table.proofs.Shapes.{shape_nodes}
+use Rattle.prefix_trie_table.proofs.table.Table.node_count.Goals as goal
+
+pub returns-clause-nodes : goal.returns-clause-nodes
+returns-clause-nodes g c =
+    let t = c.self.invariant.held.table in
+    let v = c.self.inside.nodes in
+    let shape = c.self.inside.shape in
+    c.nodes_in.ensures.nodes t.reading t.paths t.holds.hold
+    ∙ sym (paths_counted _ t.reading t.paths v t.holds.hold shape.0.nodes
+    (shape_nodes t.reading t.values t.paths v c.self.inside.cells t.holds shape.0 shape.1))
+    ∙ ap (λ s. len s.nodes) c.self.view_is

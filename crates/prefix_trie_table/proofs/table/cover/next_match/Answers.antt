@@ -1,0 +1,40 @@
+use Rattle.std.proofs.Common.{arith}
+use Rattle.prefix_trie_table.proofs.Covers.{gone_nowhere, gone_on, gone_past, gone_down}
+use Rattle.prefix_trie_table.proofs.table.cover.next_match.Goals as goal
+
+pub way-init : goal.way-init
+way-init g c = (c.requires.stands.0, c.requires.stands.1, λ before at. gone_nowhere _ _ before _ _ _ _ _ at)
+
+pub take_match-requires-clause-small : goal.take_match-requires-clause-small
+take_match-requires-clause-small g c = c.way.invariant.1.left.small
+
+pub take_match-requires-clause-deep : goal.take_match-requires-clause-deep
+take_match-requires-clause-deep g c =
+    let whole = c.way.invariant.1.on_way.whole in
+    omega (arith, whole, c.requires.within, g.met.K.Key.key_laws.at_most_128)
+
+pub returns-in-Some : goal.returns-in-Some
+returns-in-Some g c = λ first at. gone_on _ _ first _ _ _ _ _ (c.way.invariant.2 first at) c.take_match.new.matches c.in-Some.found c.in-Some.ensures
+
+pub step_down-requires-clause-on_way : goal.step_down-requires-clause-on_way
+step_down-requires-clause-on_way g c = c.way.invariant.1.on_way
+
+pub returns-in_default-step_down : goal.returns-in_default-step_down
+returns-in_default-step_down g c = λ first at. gone_past _ _ first _ _ _ _ _ (c.way.invariant.2 first at) c.take_match.new.matches c.in_default.ensures c.in_default-step_down.ensures.step
+
+pub way-smaller : goal.way-smaller
+way-smaller g c =
+    let down = c.in-Some-step_down.ensures.step.0 in
+    let whole = c.in-Some-step_down.ensures.step.1.whole in
+    omega (arith, down, whole)
+
+pub way-preserved : goal.way-preserved
+way-preserved g c =
+    let step = c.in-Some-step_down.ensures.step in
+    let left = c.matches_in.ensures in
+    let now =
+    gone_down _ _ c.way.invariant.0 _ _ _ _ _ (gone_nowhere _ _ c.way.invariant.0 _ _ _ _ _ c.way.invariant.1) c.take_match.new.matches c.in_default.ensures _ _ _ _ step.0 step.1 left in (
+      now.to,
+      now.stands,
+      λ before at. gone_down _ _ before _ _ _ _ _ (c.way.invariant.2 before at) c.take_match.new.matches c.in_default.ensures _ _ _ _ step.0 step.1 left,
+    )

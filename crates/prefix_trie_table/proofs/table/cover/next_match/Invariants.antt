@@ -1,0 +1,12 @@
+use Rattle.std.proofs.Common.{ℕ, ◌+◌, ◌*◌, ◌-◌}
+use Rattle.prefix_trie_table.specs.Covers.{IsCovering}
+use Rattle.prefix_trie_table.proofs.Covers.{GoneTo}
+use Rattle.prefix_trie_table.proofs.table.cover.next_match.Given as goal
+
+abbrev pub invariant-way : goal.invariant-way
+invariant-way g l = (first : ℕ) × IsCovering (g.K.Key.bits l.key) l.len l.here.level l.here.node (l.here.at.start + l.here.at.place) l.matches first l.nodes
+    × ((before : ℕ) → IsCovering (g.K.Key.bits l.key) l.len l.fn.here.level l.fn.here.node (l.fn.here.at.start + l.fn.here.at.place) l.fn.matches before l.nodes
+    → GoneTo (g.K.Key.bits l.key) l.len before l.here.level l.here.node (l.here.at.start + l.here.at.place) l.matches l.nodes)
+
+abbrev pub decreases-way : goal.decreases-way
+decreases-way g l = l.len + 5 - 5 * l.here.level

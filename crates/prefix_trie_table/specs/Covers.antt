@@ -1,0 +1,69 @@
+-- Where a walk over the beginnings of a bit string stands, and what it has still to give.
+use Rattle.std.specs.Prelude.{◌≡◌, ℕ, ◌+◌, ◌*◌, ◌≤◌, Bool, ◌&&◌, ◌||◌, nat_le, List, Option, Some, length, take, drop, filter, MatchOption}
+use Rattle.prefix_trie_bits.specs.Bits.{begins}
+use Rattle.prefix_trie_bits.specs.Model.Matches.{covers}
+use Rattle.prefix_trie_bits.specs.Model.Entries.{Entries}
+use Rattle.prefix_trie_bits.specs.Places.{has, value_bit, HoldsValues}
+use Rattle.prefix_trie_table.specs.declared.allocator.node.Node.{Node}
+use Rattle.prefix_trie_table.specs.declared.table.matching.Match.{Match}
+use Rattle.prefix_trie_table.specs.Cells.{node_sizes}
+use Rattle.prefix_trie_table.specs.Digits.{path_of}
+use Rattle.prefix_trie_table.specs.Store.{Store}
+use Rattle.prefix_trie_table.specs.Forest.{NodesHold, IsTable}
+use Rattle.prefix_trie_table.specs.Matching.{NoneHeld, IsHeld, IsOnWay}
+
+-- the matches are the value bits of a node, at so many bits of q, whose strings begin q and have `first` bits or more with the node's
+abbrev pub AreLeft : ℕ → ℕ → ℕ → ℕ → List Bool → Type 0
+AreLeft matches bitmap depth first q =
+    HoldsValues matches (λ s. begins s (drop depth q) && (nat_le first (depth + length s) && has bitmap (value_bit s)))
+
+-- the walk over the first len bits of b stands at this node, and the beginnings of `first` bits or more are still to come
+pub record IsCovering (b : List Bool) (len level : ℕ) (node : Node) (slot matches first : ℕ) (v : Store Node) : Type 0 where
+  pub on_way : IsOnWay b len level node slot v
+  pub low : 5 * level ≤ first
+  pub high : first ≤ 5 * level + 5
+  pub left : AreLeft matches node.value_bitmap (5 * level) first (take len b)
+
+-- of the beginnings of q that have `first` bits or more the next is the shortest that has a value, and those of `later` bits or more are then left
+abbrev pub NextHeld : (List ℕ → Option Node) → List Bool → ℕ → ℕ → ℕ → Option Match → Type 0
+NextHeld reading q end first later o =
+    MatchOption o (NoneHeld reading q first end × NoneHeld reading q later end)
+    (λ m. (first ≤ m.len) × (later ≡ m.len + 1) × IsHeld reading q m.len m.bit m.node × NoneHeld reading q first m.len)
+
+-- of a node's matches, those of q with `first` bits or more, the shortest was taken
+pub record TakesMatch (level : ℕ) (node : Node) (matches first : ℕ) (q : List Bool) (o : Option Match) : Type 0 where
+  pub later : ℕ
+  pub high : later ≤ 5 * level + 5
+  pub low : first ≤ later
+  pub left : AreLeft matches node.value_bitmap (5 * level) later q
+  pub next : (reading : List ℕ → Option Node) → reading (take level (path_of q)) ≡ Some node → NextHeld reading q (5 * level + 5) first later o
+
+-- the same for every q and `first` whose matches they were
+abbrev pub TakesShortest : ℕ → Node → ℕ → ℕ → Option Match → Type 0
+TakesShortest level node old new o =
+    (q : List Bool) (first : ℕ) → 5 * level ≤ length q → 5 * level ≤ first → first ≤ 5 * level + 5 → AreLeft old node.value_bitmap (5 * level) first q
+    → TakesMatch level node new first q o
+
+-- the walk has gone on by one beginning
+pub record GoesOn (b : List Bool) (len level : ℕ) (node : Node) (slot matches first : ℕ) (o : Option Match) (v : Store Node) : Type 0 where
+  pub later : ℕ
+  pub stands : IsCovering b len level node slot matches later v
+  pub next : (reading : List ℕ → Option Node) (paths : List (List ℕ)) → NodesHold node_sizes reading paths v → NextHeld reading (take len b) (len + 1) first later o
+
+-- whether a beginning is still to come, by the matches of the node where the walk stands
+abbrev pub is_ahead : ℕ → ℕ → List Bool → Bool
+is_ahead level matches s =
+    nat_le (5 * level + 5) (length s) || (nat_le (5 * level) (length s) && has matches (value_bit (drop (5 * level) s)))
+
+-- the entries still to come
+abbrev pub still_covering : {T : Type 0} → Entries T → List Bool → ℕ → ℕ → List (List Bool × T)
+still_covering m q level matches = filter (λ e. is_ahead level matches e.0) (covers m q)
+
+-- what holds of the fields of every covering walk
+pub record IsCover {K T : Type 0} (IsKey : K → Type 0) (bits : K → List Bool) (width : ℕ) (key : K) (len level : ℕ) (node : Node)
+    (slot matches : ℕ) (v : Store Node) (w : Store (Option T)) : Type 0 where
+  pub is_key : IsKey key
+  pub short : len ≤ width
+  pub table : IsTable v w
+  pub first : ℕ
+  pub stands : IsCovering (bits key) len level node slot matches first v

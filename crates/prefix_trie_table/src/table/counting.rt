@@ -1,0 +1,43 @@
+//! Counting the nodes.
+ghost use Rattle.std.specs.Prelude.{◌≡◌, ℕ, ◌+◌, List, Option, length};
+ghost use Rattle.std.specs.FinMap.{len};
+ghost use Rattle.prefix_trie_table.specs.declared.allocator.node.Node.{Node};
+ghost use Rattle.prefix_trie_table.specs.Cells.{node_sizes};
+ghost use Rattle.prefix_trie_table.specs.Forest.{NodesHold};
+
+use crate::allocator::node::NodeSlot;
+use crate::allocator::nodes::{NodeAllocator, Tick};
+use crate::table::Table;
+use prefix_trie_bits::node::count;
+use std::alloc::Allocator;
+
+impl<T: Drop, A: Allocator, V: Tick> Table<T, A, V> {
+    /// The number of nodes, the root among them. It is not kept: each call reads every slot of the array of nodes once,
+    /// free ones too.
+    pub fn node_count(&self, counter: &mut V) -> usize
+        ensures nodes { result ≡ len self.now.nodes }
+        ensures visits { V.count counter.new ≡ V.count counter.old + self.now.room.node_slots }
+    {
+        nodes_in(&self.nodes, counter)
+    }
+}
+
+/// The number of nodes in an array. Each but the root is the child of one other, and a slot without a node is blank: so it
+/// is 1 and the number of children of every slot.
+fn nodes_in<A: Allocator, V: Tick>(nodes: &NodeAllocator<A, V>, counter: &mut V) -> usize
+    requires { (reading : List ℕ → Option Node) × (paths : List (List ℕ))
+        × NodesHold node_sizes reading paths nodes.now }
+    ensures nodes { (reading : List ℕ → Option Node) (paths : List (List ℕ))
+        → NodesHold node_sizes reading paths nodes.now → result ≡ length paths }
+    ensures visits { V.count counter.new ≡ V.count counter.old + length nodes.now.slots }
+{
+    let mut number = 1;
+    for slot in 0..nodes.len() as u32 {
+        let at = NodeSlot {
+            start: slot,
+            place: 0,
+        };
+        number += count(nodes.visit(at, counter).child_bitmap) as usize;
+    }
+    number
+}
