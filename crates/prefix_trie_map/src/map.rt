@@ -22,6 +22,7 @@ mod iter_tests;
 mod lending;
 mod lookup;
 mod removal;
+mod retain;
 mod visits;
 
 pub use cover::{Cover, CoverKeys, CoverValues};
