@@ -5,3 +5,4 @@ pub mod Refusals
 pub mod Runs
 pub mod Lending
 pub mod Removals
+pub mod Retained

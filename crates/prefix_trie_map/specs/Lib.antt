@@ -1,3 +1,4 @@
+pub mod Asking
 pub mod Covers
 pub mod Marks
 pub mod MarksFall

@@ -22,6 +22,7 @@ mod iter_tests;
 mod lending;
 mod lookup;
 mod removal;
+mod retain;
 mod slots;
 mod visits;
 

@@ -45,3 +45,10 @@ pub mod SlotSums
 pub mod PathLists
 pub mod NodeCounts
 pub mod PathStrings
+pub mod Asked
+pub mod AskedBelow
+pub mod Retained
+pub mod Seen
+pub mod Placed
+pub mod Lowered
+pub mod Rooted

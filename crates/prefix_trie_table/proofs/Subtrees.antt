@@ -220,7 +220,7 @@ module _ {T : Type 0} (width : ℕ) (v : Store Node) (t : Tree T) (tree : IsTree
 
     -- ---- all places
 
-    unset : (s : List Bool) → length s ≤ 5 → is_in n.value_bitmap n.child_bitmap s ≡ false → listing_at_place t.shape.entries q s ≡ []
+    pub unset : (s : List Bool) → length s ≤ 5 → is_in n.value_bitmap n.child_bitmap s ≡ false → listing_at_place t.shape.entries q s ≡ []
     unset s most clear = elim (cases_lt (length s) 5) as (λ _. listing_at_place t.shape.entries q s ≡ []) [
       | inl l ↦
           let short : length s ≤ 4 = omega arith in

@@ -14,3 +14,4 @@ pub mod Items
 pub mod Covers
 pub mod TableLending
 pub mod Removals
+pub mod Retaining

@@ -10,6 +10,7 @@ mod lending;
 mod lookup;
 mod matching;
 mod removal;
+pub mod retain;
 pub mod seat;
 pub mod spot;
 #[cfg(test)]
@@ -19,9 +20,10 @@ pub mod walk;
 ghost use Rattle.std.specs.Prelude.{◌≡◌, ℕ, ◌+◌, ◌≤◌, take, IfOk, OnOk, IfErr, OnErr, IsOk, IsErr, IsTrue, ◌↔◌, MatchOption, None, Some};
 ghost use Rattle.std.specs.Option.{option_copied};
 ghost use Rattle.std.specs.FinMap.{get, contains_key, len};
+ghost use Rattle.prefix_trie_bits.specs.Model.Asking.{AsksInOrder, MayAskInOrder};
 ghost use Rattle.prefix_trie_bits.specs.Model.Entries.{no_entries, with_entry, without_entry, AreWithin};
 ghost use Rattle.prefix_trie_bits.specs.Model.Matches.{longest_match, shortest_match};
-ghost use Rattle.prefix_trie_bits.specs.Model.Nodes.{root_alone, with_needed, nodes_without, AreNodes};
+ghost use Rattle.prefix_trie_bits.specs.Model.Nodes.{root_alone, with_needed, nodes_without, needed, AreNodes};
 ghost use Rattle.prefix_trie_bits.specs.Model.Selections.{listing};
 ghost use Rattle.prefix_trie_bits.specs.Model.Visits.{visits, visits_to_match};
 ghost use Rattle.prefix_trie_bits.specs.Model.Room.{MayPassLimit};
@@ -34,6 +36,7 @@ use crate::table::insertion::insert_entry;
 use crate::table::lookup::find_value;
 use crate::table::matching::{longest_on_way, shortest_on_way, value_of_match};
 use crate::table::removal::{clear_entries, remove_entry, remove_value};
+use crate::table::retain::{Keep, retain_entries};
 use crate::table::walk::walk_of;
 pub use cover::Cover;
 use prefix_trie_bits::prefix::{Key, Refusal, Refused};
@@ -261,6 +264,29 @@ impl<T: Drop, A: Allocator, V: Tick> Table<T, A, V> {
             len,
             counter,
         )
+    }
+
+    /// Asks a test at each entry, in listing order, and takes out those at which it answers `false`, and then all nodes that
+    /// no entry left needs. Never refused: the values of a node move to a smaller block only where one is free or can be
+    /// made.
+    pub fn retain<K: Key, F: Keep<K, T>>(&mut self, keep: F, counter: &mut V)
+        requires within { AreWithin K.bit_width self.old.entries }
+        requires nodes { AreNodes K.bit_width self.old.entries self.old.nodes }
+        requires may_ask { MayAskInOrder F.asks F.accepts keep (listing self.old.entries) }
+        ensures kept { AsksInOrder F.asks keep (listing self.old.entries) (listing self.new.entries) }
+        ensures nodes { self.new.nodes ≡ needed self.new.entries }
+        ensures fits { AreWithin K.bit_width self.new.entries }
+        ensures room { (self.new.room.limit ≡ self.old.room.limit)
+            × (self.old.room.node_slots ≤ self.new.room.node_slots)
+            × (self.old.room.cell_slots ≤ self.new.room.cell_slots) }
+    {
+        retain_entries::<K, T, A, V, F>(
+            &mut self.nodes,
+            &mut self.cells,
+            &mut self.count,
+            keep,
+            counter,
+        );
     }
 
     /// Takes all entries out, and all nodes but the root. It asks for no memory, and gives none back.

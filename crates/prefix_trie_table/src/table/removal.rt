@@ -48,7 +48,7 @@ pub fn clear_entries<T: Drop, A: Allocator, V: Tick>(
 }
 
 /// Takes a value that is there out of the node in a slot, and answers it and what the node is then.
-fn take_value<T: Drop, A: Allocator, V: Tick>(
+pub fn take_value<T: Drop, A: Allocator, V: Tick>(
     nodes: &mut NodeAllocator<A, V>,
     cells: &mut Blocks<Option<T>, A>,
     at: NodeSlot,
@@ -203,7 +203,7 @@ fn descend_keeping_way<K: Key, A: Allocator, V: Tick>(
 
 /// Whether a node has neither values nor children.
 #[inline]
-fn is_bare(node: Node) -> bool
+pub fn is_bare(node: Node) -> bool
     ensures bare { result ≡ true → IsBare node }
     ensures stocked { result ≡ false → IsStocked node }
 {
@@ -211,7 +211,7 @@ fn is_bare(node: Node) -> bool
 }
 
 /// Takes a child that has no children out of the node in a slot, and answers what the node is then.
-fn drop_child<A: Allocator, V: Tick>(
+pub fn drop_child<A: Allocator, V: Tick>(
     nodes: &mut NodeAllocator<A, V>,
     at: NodeSlot,
     child: u32,

@@ -1,0 +1,14 @@
+-- What is left of a map once a test was asked.
+use Rattle.std.proofs.Common.{◌≡◌, ℕ, sym, subst}
+use Rattle.prefix_trie_bits.specs.Laws.Steps.{IsMap}
+use Rattle.prefix_trie_bits.specs.Model.Entries.{AreWithin}
+use Rattle.prefix_trie_bits.specs.Model.Nodes.{AreNodes, needed}
+use Rattle.prefix_trie_bits.specs.Model.Step.{State}
+use Rattle.prefix_trie_bits.proofs.Model.NodeSets.{AreNodes-needed}
+
+-- entries within the width with the nodes that they need are those of a map
+pub IsMap-tidied : {T : Type 0} (width : ℕ) (s : State T) → AreWithin width s.entries → s.nodes ≡ needed s.entries → IsMap width s
+IsMap-tidied width s within tidy = record {
+  keys_within = within;
+  are_nodes = subst (AreNodes width s.entries) (sym tidy) (AreNodes-needed width s.entries within);
+}

@@ -1,0 +1,10 @@
+use Rattle.std.proofs.Common.{take, refl, subst}
+use Rattle.prefix_trie_map.specs.Asking.{AsksAt}
+use Rattle.prefix_trie_map.proofs.map.retain.ByPrefixKeepR.keeps.Goals as goal
+
+pub returns : goal.returns
+returns g c =
+    let key = take c.args.len (g.P.R.Key.bits c.args.key) in
+    let asked : AsksAt g.F.FnMut g.P.Prefix.back c.self.inside.test key c.args.value.now c.call_mut.result c.call_mut.new.self =
+    record { prefix = _; value = _; shows = (c.rebuilt-prefix.ensures, refl); called = c.call_mut.ensures } in
+    subst (λ f. AsksAt g.F.FnMut g.P.Prefix.back f key c.args.value.now c.call_mut.result c.call_mut.new.self) c.self.view_is asked

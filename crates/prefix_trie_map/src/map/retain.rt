@@ -1,0 +1,58 @@
+//! Keeping the entries at which a test says yes.
+ghost use Rattle.std.specs.Prelude.{◌≡◌, ◌≤◌};
+ghost use Rattle.prefix_trie_bits.specs.Model.Asking.{AsksInOrder, MayAskInOrder};
+ghost use Rattle.prefix_trie_bits.specs.Model.Nodes.{needed};
+ghost use Rattle.prefix_trie_bits.specs.Model.Selections.{listing};
+ghost use Rattle.prefix_trie_map.specs.Asking.{AsksAt, TakesAt};
+
+use crate::map::PrefixMap;
+use crate::map::lookup::rebuilt;
+use crate::map::visits::Visits;
+use prefix_trie_bits::prefix::Prefix;
+use prefix_trie_table::table::retain::Keep;
+use std::alloc::Allocator;
+use std::marker::{Model, PhantomData};
+
+/// A test of prefixes and values, as one of keys and values.
+#[derive(Drop)]
+struct ByPrefix<P, F> {
+    test: F,
+    marker: PhantomData<P>,
+}
+
+// Clauses see the test alone.
+impl<P, F> Model for ByPrefix<P, F> {
+    ghost Value = { F };
+
+    ghost view = { λ a. a.test };
+}
+
+impl<P: Prefix, T, F: FnMut(&P, &T) -> bool + Drop> Keep<P::R, T> for ByPrefix<P, F> {
+    ghost accepts = { TakesAt F.FnMut P.back };
+
+    ghost asks = { AsksAt F.FnMut P.back };
+
+    fn keeps(&mut self, key: P::R, len: u32, value: &T) -> bool {
+        let prefix = rebuilt::<P>(key, len);
+        (self.test)(&prefix, value)
+    }
+}
+
+impl<P: Prefix, T: Drop, A: Allocator> PrefixMap<P, T, A> {
+    /// Asks a test at each entry once, in listing order, and keeps those at which it answers `true`. The test sees each prefix
+    /// without its host bits. Nodes that no entry left needs are gone too. Never refused.
+    pub fn retain<F: FnMut(&P, &T) -> bool>(&mut self, test: F)
+        requires { MayAskInOrder (AsksAt F.FnMut P.back) (TakesAt F.FnMut P.back) test (listing self.old.entries) }
+        ensures kept { AsksInOrder (AsksAt F.FnMut P.back) test (listing self.old.entries) (listing self.new.entries) }
+        ensures nodes { self.new.nodes ≡ needed self.new.entries }
+        ensures limit { self.new.room.limit ≡ self.old.room.limit }
+        ensures node_slots { self.old.room.node_slots ≤ self.new.room.node_slots }
+        ensures cell_slots { self.old.room.cell_slots ≤ self.new.room.cell_slots }
+    {
+        let keep = ByPrefix::<P, F> {
+            test,
+            marker: PhantomData,
+        };
+        self.table.retain::<P::R, ByPrefix<P, F>>(keep, &mut Visits::new());
+    }
+}

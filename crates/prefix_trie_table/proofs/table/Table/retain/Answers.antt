@@ -1,0 +1,81 @@
+use Rattle.std.proofs.Common.{◌≡◌, sym, subst}
+use Rattle.prefix_trie_bits.specs.Model.Asking.{AsksInOrder, MayAskInOrder}
+use Rattle.prefix_trie_bits.specs.Model.Entries.{AreWithin}
+use Rattle.prefix_trie_bits.specs.Model.Nodes.{AreNodes, needed}
+use Rattle.prefix_trie_bits.specs.Model.Selections.{listing}
+use Rattle.prefix_trie_bits.specs.Model.Step.{State}
+use Rattle.prefix_trie_table.specs.Shape.{Contents, same_shape}
+use Rattle.prefix_trie_table.specs.Tables.{IsTableOf}
+use Rattle.prefix_trie_table.proofs.table.Table.retain.Goals as goal
+
+pub retain_entries-requires-clause-trie : goal.retain_entries-requires-clause-trie
+retain_entries-requires-clause-trie g c = (
+    c.self.inside.shape.0,
+    record {
+      table = c.self.invariant;
+      shaped = c.self.inside.shape.1;
+      within = subst (λ (s : Contents g.row.T.Denot). AreWithin g.K.Key.bit_width s.entries) (sym c.self.view_is) c.requires.within;
+      nodes = subst (λ (s : Contents g.row.T.Denot). AreNodes g.K.Key.bit_width s.entries s.nodes) (sym c.self.view_is) c.requires.nodes;
+    },
+)
+
+pub retain_entries-requires-clause-may_ask : goal.retain_entries-requires-clause-may_ask
+retain_entries-requires-clause-may_ask g c = λ s is.
+    let same : c.self.inside.shape.0 ≡ s = same_shape c.self.inside.nodes.slots c.self.inside.cells.slots c.self.inside.shape.0 s c.self.inside.shape.1 is.shaped in
+    subst (λ (x : State g.row.T.Denot). MayAskInOrder g.F.Keep.asks g.F.Keep.accepts c.args.keep (listing x.entries)) same
+    (subst (λ (x : Contents g.row.T.Denot). MayAskInOrder g.F.Keep.asks g.F.Keep.accepts c.args.keep (listing x.entries)) (sym c.self.view_is) c.requires.may_ask)
+
+pub invariant_of-self-inside : goal.invariant_of-self-inside
+invariant_of-self-inside g c =
+    let all = c.retain_entries.ensures.kept c.self.inside.shape.0 (record {
+      table = c.self.invariant;
+      shaped = c.self.inside.shape.1;
+      within = subst (λ (s : Contents g.row.T.Denot). AreWithin g.K.Key.bit_width s.entries) (sym c.self.view_is) c.requires.within;
+      nodes = subst (λ (s : Contents g.row.T.Denot). AreNodes g.K.Key.bit_width s.entries s.nodes) (sym c.self.view_is) c.requires.nodes;
+    }) in
+    ((all.after, all.trie.shaped), tt)
+
+pub invariant_of-self : goal.invariant_of-self
+invariant_of-self g c =
+    let all = c.retain_entries.ensures.kept c.self.inside.shape.0 (record {
+      table = c.self.invariant;
+      shaped = c.self.inside.shape.1;
+      within = subst (λ (s : Contents g.row.T.Denot). AreWithin g.K.Key.bit_width s.entries) (sym c.self.view_is) c.requires.within;
+      nodes = subst (λ (s : Contents g.row.T.Denot). AreNodes g.K.Key.bit_width s.entries s.nodes) (sym c.self.view_is) c.requires.nodes;
+    }) in
+    let same : all.after ≡ c.self-1.given.0.0 = same_shape c.retain_entries.new.nodes.slots c.retain_entries.new.cells.slots all.after c.self-1.given.0.0 all.trie.shaped c.self-1.given.0.1 in
+    subst (λ (x : State g.row.T.Denot). IsTableOf c.retain_entries.new.nodes c.retain_entries.new.cells c.retain_entries.new.entries x) same all.trie.table
+
+pub returns-clause-kept : goal.returns-clause-kept
+returns-clause-kept g c =
+    let all = c.retain_entries.ensures.kept c.self.inside.shape.0 (record {
+      table = c.self.invariant;
+      shaped = c.self.inside.shape.1;
+      within = subst (λ (s : Contents g.row.T.Denot). AreWithin g.K.Key.bit_width s.entries) (sym c.self.view_is) c.requires.within;
+      nodes = subst (λ (s : Contents g.row.T.Denot). AreNodes g.K.Key.bit_width s.entries s.nodes) (sym c.self.view_is) c.requires.nodes;
+    }) in
+    let same : all.after ≡ c.self-1.given.0.0 = same_shape c.retain_entries.new.nodes.slots c.retain_entries.new.cells.slots all.after c.self-1.given.0.0 all.trie.shaped c.self-1.given.0.1 in
+    subst (λ (x : State g.row.T.Denot). AsksInOrder g.F.Keep.asks c.args.keep (listing c.args.self.now.entries) (listing x.entries)) same
+    (subst (λ (x : Contents g.row.T.Denot). AsksInOrder g.F.Keep.asks c.args.keep (listing x.entries) (listing all.after.entries)) c.self.view_is all.asked)
+
+pub returns-clause-nodes : goal.returns-clause-nodes
+returns-clause-nodes g c =
+    let all = c.retain_entries.ensures.kept c.self.inside.shape.0 (record {
+      table = c.self.invariant;
+      shaped = c.self.inside.shape.1;
+      within = subst (λ (s : Contents g.row.T.Denot). AreWithin g.K.Key.bit_width s.entries) (sym c.self.view_is) c.requires.within;
+      nodes = subst (λ (s : Contents g.row.T.Denot). AreNodes g.K.Key.bit_width s.entries s.nodes) (sym c.self.view_is) c.requires.nodes;
+    }) in
+    let same : all.after ≡ c.self-1.given.0.0 = same_shape c.retain_entries.new.nodes.slots c.retain_entries.new.cells.slots all.after c.self-1.given.0.0 all.trie.shaped c.self-1.given.0.1 in
+    subst (λ (x : State g.row.T.Denot). x.nodes ≡ needed x.entries) same all.tidy
+
+pub returns-clause-fits : goal.returns-clause-fits
+returns-clause-fits g c =
+    let all = c.retain_entries.ensures.kept c.self.inside.shape.0 (record {
+      table = c.self.invariant;
+      shaped = c.self.inside.shape.1;
+      within = subst (λ (s : Contents g.row.T.Denot). AreWithin g.K.Key.bit_width s.entries) (sym c.self.view_is) c.requires.within;
+      nodes = subst (λ (s : Contents g.row.T.Denot). AreNodes g.K.Key.bit_width s.entries s.nodes) (sym c.self.view_is) c.requires.nodes;
+    }) in
+    let same : all.after ≡ c.self-1.given.0.0 = same_shape c.retain_entries.new.nodes.slots c.retain_entries.new.cells.slots all.after c.self-1.given.0.0 all.trie.shaped c.self-1.given.0.1 in
+    subst (λ (x : State g.row.T.Denot). AreWithin g.K.Key.bit_width x.entries) same all.trie.within

@@ -1,0 +1,28 @@
+use Rattle.std.proofs.Common.{◌≡◌, ◌+◌, ◌-◌, ◌*◌, ◌/◌, ◌++◌, List, Bool, true, All, take, length}
+use Rattle.prefix_trie_bits.specs.Walks.{to_come}
+use Rattle.prefix_trie_table.specs.Walks.{IsPlaceOf}
+use Rattle.prefix_trie_table.specs.Retaining.{is_at_some, IsSite, Lasts, RetainsIn}
+use Rattle.prefix_trie_table.proofs.table.retain.+retain.Given as goal
+
+abbrev pub decreases-retain_place : goal.decreases-retain_place
+decreases-retain_place g l = 2 * (g.K.Key.bit_width - l.site.depth)
+
+abbrev pub decreases-retain_places : goal.decreases-retain_places
+decreases-retain_places g l = 2 * (g.K.Key.bit_width - l.site.depth) + 1
+
+abbrev pub invariant-retain_places-loop-place : goal.invariant-retain_places-loop-place
+invariant-retain_places-loop-place g l =
+    record {
+      site : IsSite g.K.Key.IsKey g.K.Key.bits g.K.Key.bit_width l.nodes l.site l.node;
+      each : All (IsPlaceOf l.node) (to_come l.places);
+      before : List (List Bool);
+      all : to_come l.fn.places ≡ before ++ to_come l.places;
+      apart : (q : List Bool) → is_at_some (take l.site.depth (g.K.Key.bits l.site.key)) before q ≡ true →
+          is_at_some (take l.site.depth (g.K.Key.bits l.site.key)) (to_come l.places) q ≡ true → ⊥;
+      done : RetainsIn g.F.Keep.asks g.F.Keep.accepts g.K.Key.bit_width (take l.site.depth (g.K.Key.bits l.site.key)) before
+          l.fn.keep l.fn.entries l.fn.nodes l.fn.cells l.keep l.entries l.nodes l.cells;
+      lasts : Lasts (l.site.depth / 5) l.fn.nodes l.nodes l.fn.cells l.cells;
+    }
+
+abbrev pub decreases-retain_places-loop-place : goal.decreases-retain_places-loop-place
+decreases-retain_places-loop-place g l = length (to_come l.places)

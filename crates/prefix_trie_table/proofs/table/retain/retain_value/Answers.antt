@@ -1,0 +1,98 @@
+use Rattle.std.proofs.Common.{◌≡◌, ◌+◌, ◌<◌, ◌≤◌, ◌-◌, [], ◌∷◌, length, take, get_or, Some, None, true, is_some, refl, sym, ap, ◌∙◌, subst, arith, false}
+use Rattle.std.specs.FinMap.{get}
+use Rattle.std.specs.Option.{option_copied}
+use Rattle.std.proofs.lemmas.Bool.{false≢true}
+use Rattle.prefix_trie_bits.specs.Bits.{digits}
+use Rattle.prefix_trie_bits.specs.Places.{has}
+use Rattle.prefix_trie_table.specs.Retaining.{RetainsTo}
+use Rattle.prefix_trie_table.proofs.Bits.{has_bit-is}
+use Rattle.prefix_trie_table.proofs.Retained.{site_holds, site_values}
+use Rattle.prefix_trie_table.proofs.Seen.{short, value_slot, value_got, value_some, value_room, key_taken, key_filled, may_ask_here, stays_here, goes_here, counted_here, above_here, site_here, trie_goes}
+use Rattle.prefix_trie_table.proofs.table.retain.retain_value.Goals as goal
+
+pub at-requires : goal.at-requires
+at-requires g c =
+    let long = g.met.K.Key.key_laws.bits_length c.args.site.key c.requires.site.key in
+    value_slot g.K.Key.IsKey g.K.Key.bits g.K.Key.bit_width c.args.nodes.now c.args.site c.args.node c.requires.site long c.args.entries.now c.args.cells.now c.requires.trie.0 c.requires.trie.1 c.args.bit c.string_of-n.result.0 c.string_of-n.result.1 c.requires.bit c.string_of-n.ensures.short c.string_of-n.ensures.bit c.requires.set c.rank.result c.rank.ensures
+
+pub unreachable-requires : goal.unreachable-requires
+unreachable-requires g c =
+    let long = g.met.K.Key.key_laws.bits_length c.args.site.key c.requires.site.key in
+    let got = value_got g.K.Key.IsKey g.K.Key.bits g.K.Key.bit_width c.args.nodes.now c.args.site c.args.node c.requires.site long c.args.entries.now c.args.cells.now c.requires.trie.0 c.requires.trie.1 c.args.bit c.string_of-n.result.0 c.string_of-n.result.1 c.requires.bit c.string_of-n.ensures.short c.string_of-n.ensures.bit c.requires.set c.rank.result c.at.result.now c.rank.ensures c.at.ensures.slot in
+    let some = value_some g.K.Key.IsKey g.K.Key.bits g.K.Key.bit_width c.args.nodes.now c.args.site c.args.node c.requires.site long c.args.entries.now c.args.cells.now c.requires.trie.0 c.requires.trie.1 c.args.bit c.string_of-n.result.0 c.string_of-n.result.1 c.requires.bit c.string_of-n.ensures.short c.string_of-n.ensures.bit c.requires.set in
+    false≢true (sym (ap is_some c.in_default.is) ∙ c.as_ref.ensures.variant ∙ sym (ap is_some got) ∙ some)
+
+pub extend-requires-clause-within : goal.extend-requires-clause-within
+extend-requires-clause-within g c =
+    let long = g.met.K.Key.key_laws.bits_length c.args.site.key c.requires.site.key in
+    value_room g.K.Key.IsKey g.K.Key.bits g.K.Key.bit_width c.args.nodes.now c.args.site c.args.node c.requires.site long c.args.entries.now c.args.cells.now c.requires.trie.0 c.requires.trie.1 c.args.bit c.string_of-n.result.0 c.string_of-n.result.1 c.requires.bit c.string_of-n.ensures.short c.string_of-n.ensures.bit c.requires.set
+
+pub keeps-requires-clause-within : goal.keeps-requires-clause-within
+keeps-requires-clause-within g c =
+    let long = g.met.K.Key.key_laws.bits_length c.args.site.key c.requires.site.key in
+    value_room g.K.Key.IsKey g.K.Key.bits g.K.Key.bit_width c.args.nodes.now c.args.site c.args.node c.requires.site long c.args.entries.now c.args.cells.now c.requires.trie.0 c.requires.trie.1 c.args.bit c.string_of-n.result.0 c.string_of-n.result.1 c.requires.bit c.string_of-n.ensures.short c.string_of-n.ensures.bit c.requires.set
+
+pub keeps-requires-clause-filled : goal.keeps-requires-clause-filled
+keeps-requires-clause-filled g c =
+    let long = g.met.K.Key.key_laws.bits_length c.args.site.key c.requires.site.key in
+    key_filled g.K.Key.IsKey g.K.Key.bits g.K.Key.bit_width c.args.nodes.now c.args.site c.args.node c.requires.site long c.args.entries.now c.args.cells.now c.requires.trie.0 c.requires.trie.1 c.args.bit c.string_of-n.result.0 c.string_of-n.result.1 c.requires.bit c.string_of-n.ensures.short c.string_of-n.ensures.bit c.requires.set c.extend.result c.extend.ensures.value
+
+pub keeps-requires-clause-accepts : goal.keeps-requires-clause-accepts
+keeps-requires-clause-accepts g c =
+    let long = g.met.K.Key.key_laws.bits_length c.args.site.key c.requires.site.key in
+    let got = value_got g.K.Key.IsKey g.K.Key.bits g.K.Key.bit_width c.args.nodes.now c.args.site c.args.node c.requires.site long c.args.entries.now c.args.cells.now c.requires.trie.0 c.requires.trie.1 c.args.bit c.string_of-n.result.0 c.string_of-n.result.1 c.requires.bit c.string_of-n.ensures.short c.string_of-n.ensures.bit c.requires.set c.rank.result c.at.result.now c.rank.ensures c.at.ensures.slot in
+    let few = short g.K.Key.IsKey g.K.Key.bits g.K.Key.bit_width c.args.nodes.now c.args.site c.args.node c.requires.site long c.args.entries.now c.args.cells.now c.requires.trie.0 c.requires.trie.1 c.args.bit c.string_of-n.result.0 c.string_of-n.result.1 c.requires.bit c.string_of-n.ensures.short c.string_of-n.ensures.bit c.requires.set in
+    may_ask_here g.K.Key.IsKey g.K.Key.bits g.K.Key.bit_width c.args.nodes.now c.args.site c.args.node c.requires.site long c.args.entries.now c.args.cells.now c.requires.trie.0 c.requires.trie.1 c.args.bit c.string_of-n.result.0 c.string_of-n.result.1 c.requires.bit c.string_of-n.ensures.short c.string_of-n.ensures.bit c.requires.set c.extend.result c.extend.ensures.value g.F.Keep.asks g.F.Keep.accepts c.in-Some.value.now (got ∙ (sym c.as_ref.ensures.value ∙ ap option_copied c.in-Some.is)) c.args.keep.now
+    (c.requires.may_ask (digits c.string_of-n.result.0 c.string_of-n.result.1) few c.string_of-n.ensures.bit c.requires.trie.0 c.requires.trie.1)
+
+pub returns-then-keeps-clause-retains : goal.returns-then-keeps-clause-retains
+returns-then-keeps-clause-retains g c = λ t few is before trie.
+    let long = g.met.K.Key.key_laws.bits_length c.args.site.key c.requires.site.key in
+    let got = value_got g.K.Key.IsKey g.K.Key.bits g.K.Key.bit_width c.args.nodes.now c.args.site c.args.node c.requires.site long c.args.entries.now c.args.cells.now before trie c.args.bit c.string_of-n.result.0 c.string_of-n.result.1 c.requires.bit c.string_of-n.ensures.short c.string_of-n.ensures.bit c.requires.set c.rank.result c.at.result.now c.rank.ensures c.at.ensures.slot in
+    subst (λ u. RetainsTo g.F.Keep.asks g.F.Keep.accepts g.K.Key.bit_width (take c.args.site.depth (g.K.Key.bits c.args.site.key)) (u ∷ []) c.args.keep.now before c.keeps.new.self c.args.entries.now c.args.nodes.now c.args.cells.now)
+    (sym (c.string_of-n.ensures.only t is))
+    (stays_here g.K.Key.IsKey g.K.Key.bits g.K.Key.bit_width c.args.nodes.now c.args.site c.args.node c.requires.site long c.args.entries.now c.args.cells.now before trie c.args.bit c.string_of-n.result.0 c.string_of-n.result.1 c.requires.bit c.string_of-n.ensures.short c.string_of-n.ensures.bit c.requires.set c.extend.result c.extend.ensures.value g.F.Keep.asks g.F.Keep.accepts c.in-Some.value.now (got ∙ (sym c.as_ref.ensures.value ∙ ap option_copied c.in-Some.is)) c.args.keep.now c.keeps.new.self c.keeps.result c.keeps.ensures c.if-keeps.true)
+
+pub take_value-requires-clause-stands : goal.take_value-requires-clause-stands
+take_value-requires-clause-stands g c =
+    let long = g.met.K.Key.key_laws.bits_length c.args.site.key c.requires.site.key in
+    site_values g.K.Key.IsKey g.K.Key.bits g.K.Key.bit_width c.args.nodes.now c.args.site c.args.node c.requires.site long c.args.entries.now c.args.cells.now c.requires.trie.0 c.requires.trie.1
+
+pub take_value-requires-clause-node : goal.take_value-requires-clause-node
+take_value-requires-clause-node g c =
+    let long = g.met.K.Key.key_laws.bits_length c.args.site.key c.requires.site.key in
+    sym (site_holds g.K.Key.IsKey g.K.Key.bits g.K.Key.bit_width c.args.nodes.now c.args.site c.args.node c.requires.site long c.args.entries.now c.args.cells.now c.requires.trie.0 c.requires.trie.1).0
+
+pub take_value-requires-clause-there : goal.take_value-requires-clause-there
+take_value-requires-clause-there g c = has_bit-is c.args.node.value_bitmap c.args.bit (let h = c.requires.bit in omega (arith, h)) ∙ c.requires.set
+
+pub overflow_sub-entries : goal.overflow_sub-entries
+overflow_sub-entries g c =
+    let long = g.met.K.Key.key_laws.bits_length c.args.site.key c.requires.site.key in
+    let some = counted_here g.K.Key.IsKey g.K.Key.bits g.K.Key.bit_width c.args.nodes.now c.args.site c.args.node c.requires.site long c.args.entries.now c.args.cells.now c.requires.trie.0 c.requires.trie.1 c.args.bit c.string_of-n.result.0 c.string_of-n.result.1 c.requires.bit c.string_of-n.ensures.short c.string_of-n.ensures.bit c.requires.set c.take_value.result.0 c.take_value.result.1 c.take_value.new.nodes c.take_value.new.cells c.take_value.ensures.value c.take_value.ensures.taken in
+    omega (arith, some)
+
+pub returns-clause-retains : goal.returns-clause-retains
+returns-clause-retains g c = λ t few is before trie.
+    let long = g.met.K.Key.key_laws.bits_length c.args.site.key c.requires.site.key in
+    let got = value_got g.K.Key.IsKey g.K.Key.bits g.K.Key.bit_width c.args.nodes.now c.args.site c.args.node c.requires.site long c.args.entries.now c.args.cells.now before trie c.args.bit c.string_of-n.result.0 c.string_of-n.result.1 c.requires.bit c.string_of-n.ensures.short c.string_of-n.ensures.bit c.requires.set c.rank.result c.at.result.now c.rank.ensures c.at.ensures.slot in
+    let later = trie_goes g.K.Key.IsKey g.K.Key.bits g.K.Key.bit_width c.args.nodes.now c.args.site c.args.node c.requires.site long c.args.entries.now c.args.cells.now before trie c.args.bit c.string_of-n.result.0 c.string_of-n.result.1 c.requires.bit c.string_of-n.ensures.short c.string_of-n.ensures.bit c.requires.set c.take_value.result.0 c.take_value.result.1 c.take_value.new.nodes c.take_value.new.cells c.take_value.ensures.value c.take_value.ensures.taken (c.args.entries.now - 1) refl c.take_value.ensures.node_room.2 c.take_value.ensures.cell_room.limit_is c.take_value.ensures.cell_room.first_is in
+    subst (λ u. RetainsTo g.F.Keep.asks g.F.Keep.accepts g.K.Key.bit_width (take c.args.site.depth (g.K.Key.bits c.args.site.key)) (u ∷ []) c.args.keep.now before c.keeps.new.self (c.args.entries.now - 1) c.take_value.new.nodes c.take_value.new.cells)
+    (sym (c.string_of-n.ensures.only t is))
+    (goes_here g.K.Key.IsKey g.K.Key.bits g.K.Key.bit_width c.args.nodes.now c.args.site c.args.node c.requires.site long c.args.entries.now c.args.cells.now before trie c.args.bit c.string_of-n.result.0 c.string_of-n.result.1 c.requires.bit c.string_of-n.ensures.short c.string_of-n.ensures.bit c.requires.set c.extend.result c.extend.ensures.value g.F.Keep.asks g.F.Keep.accepts c.in-Some.value.now (got ∙ (sym c.as_ref.ensures.value ∙ ap option_copied c.in-Some.is)) c.args.keep.now c.keeps.new.self c.keeps.result (c.args.entries.now - 1) c.take_value.new.nodes c.take_value.new.cells c.keeps.ensures c.if-keeps.false later)
+
+pub returns-clause-node : goal.returns-clause-node
+returns-clause-node g c =
+    let long = g.met.K.Key.key_laws.bits_length c.args.site.key c.requires.site.key in
+    site_here g.K.Key.IsKey g.K.Key.bits g.K.Key.bit_width c.args.nodes.now c.args.site c.args.node c.requires.site long c.args.entries.now c.args.cells.now c.requires.trie.0 c.requires.trie.1 c.args.bit c.string_of-n.result.0 c.string_of-n.result.1 c.requires.bit c.string_of-n.ensures.short c.string_of-n.ensures.bit c.requires.set c.take_value.result.0 c.take_value.result.1 c.take_value.new.nodes c.take_value.new.cells c.take_value.ensures.value c.take_value.ensures.taken
+
+pub returns-clause-lasts : goal.returns-clause-lasts
+returns-clause-lasts g c =
+    let long = g.met.K.Key.key_laws.bits_length c.args.site.key c.requires.site.key in
+    record {
+      above = above_here g.K.Key.IsKey g.K.Key.bits g.K.Key.bit_width c.args.nodes.now c.args.site c.args.node c.requires.site long c.args.entries.now c.args.cells.now c.requires.trie.0 c.requires.trie.1 c.args.bit c.string_of-n.result.0 c.string_of-n.result.1 c.requires.bit c.string_of-n.ensures.short c.string_of-n.ensures.bit c.requires.set c.take_value.result.0 c.take_value.result.1 c.take_value.new.nodes c.take_value.new.cells c.take_value.ensures.value c.take_value.ensures.taken;
+      node_limit = c.take_value.ensures.node_room.2;
+      node_slots = (let r = c.take_value.ensures.node_room.0 in omega (arith, r));
+      cell_limit = c.take_value.ensures.cell_room.limit_is;
+      cell_slots = c.take_value.ensures.cell_room.longer;
+    }

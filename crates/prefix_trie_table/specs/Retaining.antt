@@ -1,0 +1,117 @@
+-- What asking a test at the entries of some places of a node leaves of a table.
+use Rattle.std.specs.Prelude.{◌≡◌, ℕ, ◌+◌, ◌*◌, ◌<◌, ◌≤◌, Bool, true, false, cond, nat_lt, List, ◌++◌, [], ◌∷◌, length, take, Option, Some}
+use Rattle.std.specs.List.{list_any}
+use Rattle.std.specs.FinMap.{get, contains_key}
+use Rattle.prefix_trie_bits.specs.Bits.{begins}
+use Rattle.prefix_trie_bits.specs.Order.{same_string}
+use Rattle.prefix_trie_bits.specs.Places.{is_in, place_of}
+use Rattle.prefix_trie_bits.specs.declared.node.Place.{Place}
+use Rattle.prefix_trie_bits.specs.Model.Asking.{AsksInOrder, MayAskInOrder}
+use Rattle.prefix_trie_bits.specs.Model.Entries.{Entries, AreWithin}
+use Rattle.prefix_trie_bits.specs.Model.NodeListings.{listing_at_places}
+use Rattle.prefix_trie_bits.specs.Model.Nodes.{AreNodes, has_node, needed}
+use Rattle.prefix_trie_bits.specs.Model.Selections.{listing}
+use Rattle.prefix_trie_bits.specs.Model.Step.{State}
+use Rattle.prefix_trie_table.specs.declared.allocator.node.Node.{Node}
+use Rattle.prefix_trie_table.specs.declared.table.retain.Site.{Site}
+use Rattle.prefix_trie_table.specs.Digits.{path_of}
+use Rattle.prefix_trie_table.specs.Forest.{IsSlot, read}
+use Rattle.prefix_trie_table.specs.Shape.{IsShapeOf}
+use Rattle.prefix_trie_table.specs.Store.{Store}
+use Rattle.prefix_trie_table.specs.Tables.{IsTableOf}
+
+-- whether a string is that of the place t of the node at s, or goes on from it where a child is at that place
+abbrev pub is_at : List Bool → List Bool → List Bool → Bool
+is_at s t q = cond (nat_lt (length t) 5) (same_string q (s ++ t)) (begins (s ++ t) q)
+
+-- the same of one of these places
+abbrev pub is_at_some : List Bool → List (List Bool) → List Bool → Bool
+is_at_some s ts q = list_any (λ t. is_at s t q) ts
+
+-- whether a child is at the place t of the node at s, and a string goes on from there
+abbrev pub is_under : List Bool → List Bool → List Bool → Bool
+is_under s t q = cond (nat_lt (length t) 5) false (begins (s ++ t) q)
+
+-- the same of one of these places
+abbrev pub is_under_some : List Bool → List (List Bool) → List Bool → Bool
+is_under_some s ts q = list_any (λ t. is_under s t q) ts
+
+-- the place is that of a string, which the node has
+pub record HasPlace (n : Node) (p : Place) : Type 0 where
+  pub string : List Bool
+  pub short : length string ≤ 5
+  pub is : p ≡ place_of string
+  pub set : is_in n.value_bitmap n.child_bitmap string ≡ true
+
+module _ {T : Type 0} where
+  -- some stored key goes on from q
+  pub record Needs (m : Entries T) (q : List Bool) : Type 0 where
+    pub key : List Bool
+    pub stored : contains_key m key ≡ true
+    pub goes_on : begins q key ≡ true
+
+  -- the arrays hold a table with these entries and nodes, and so many entries, all no longer than the width
+  pub record IsTrie (width count : ℕ) (v : Store Node) (w : Store (Option T)) (s : State T) : Type 0 where
+    pub table : IsTableOf v w count s
+    pub shaped : IsShapeOf v.slots w.slots s
+    pub within : AreWithin width s.entries
+    pub nodes : AreNodes width s.entries s.nodes
+
+  -- they hold some table
+  abbrev pub HasTrie : ℕ → ℕ → Store Node → Store (Option T) → Type 0
+  HasTrie width count v w = (s : State T) × IsTrie width count v w s
+
+  -- no array is shorter, both limits are the same, and so are the nodes above this level
+  pub record Lasts (level : ℕ) (v v2 : Store Node) (w w2 : Store (Option T)) : Type 0 where
+    pub above : (p : List ℕ) → length p < level → read v2.slots p ≡ read v.slots p
+    pub node_limit : v2.limit ≡ v.limit
+    pub node_slots : length v.slots ≤ length v2.slots
+    pub cell_limit : w2.limit ≡ w.limit
+    pub cell_slots : length w.slots ≤ length w2.slots
+
+-- a node stands in the slot of the site and at its path, which is no longer than the width
+pub record IsSite {K : Type 0} (IsKey : K → Type 0) (bits : K → List Bool) (width : ℕ) (v : Store Node) (p : Site K) (n : Node) : Type 0 where
+  pub key : IsKey p.key
+  pub level : ℕ
+  pub depth_is : p.depth ≡ 5 * level
+  pub within : p.depth ≤ width
+  pub stands : read v.slots (path_of (take p.depth (bits p.key))) ≡ Some n
+  pub slot_is : IsSlot (read v.slots) (path_of (take p.depth (bits p.key))) (p.slot.start + p.slot.place)
+
+module _ {F T : Type 0} (asks : F → List Bool → T → Bool → F → Type 0) (accepts : F → List Bool → T → Type 0) where
+  -- the test was asked at each entry of these places of the node at s, in listing order, and those answered true are left there.
+  -- Of the nodes below them those are left that a key left needs. All else is as it was
+  pub record Retains (s : List Bool) (ts : List (List Bool)) (f : F) (before : State T) (f' : F) (after : State T) : Type 0 where
+    pub kept : List (List Bool × T)
+    pub asked : (rest later : List (List Bool × T)) → AsksInOrder asks f' rest later →
+        AsksInOrder asks f (listing_at_places before.entries s ts ++ rest) (kept ++ later)
+    pub may_ask : (rest : List (List Bool × T)) → MayAskInOrder asks accepts f (listing_at_places before.entries s ts ++ rest) →
+        MayAskInOrder asks accepts f' rest
+    pub stays : listing_at_places after.entries s ts ≡ kept
+    pub others : (q : List Bool) → is_at_some s ts q ≡ false → get after.entries q ≡ get before.entries q
+    pub fewer : (q : List Bool) → has_node after.nodes q ≡ true → has_node before.nodes q ≡ true
+    pub off : (q : List Bool) → is_under_some s ts q ≡ false → has_node after.nodes q ≡ has_node before.nodes q
+    pub needed : (q : List Bool) → is_under_some s ts q ≡ true → has_node after.nodes q ≡ true → Needs after.entries q
+
+  -- the same of the entries and nodes in arrays
+  pub record RetainsTo (width : ℕ) (s : List Bool) (ts : List (List Bool)) (f : F) (before : State T) (f' : F) (count : ℕ) (v : Store Node) (w : Store (Option T)) : Type 0 where
+    pub after : State T
+    pub trie : IsTrie width count v w after
+    pub retains : Retains s ts f before f' after
+
+  abbrev pub RetainsIn : ℕ → List Bool → List (List Bool) → F → ℕ → Store Node → Store (Option T) → F → ℕ → Store Node → Store (Option T) → Type 0
+  RetainsIn width s ts f count v w f' count2 v2 w2 =
+      (before : State T) → IsTrie width count v w before → RetainsTo width s ts f before f' count2 v2 w2
+
+  -- the test may be asked at each entry of these places
+  abbrev pub MayAskAt : ℕ → List Bool → List (List Bool) → F → ℕ → Store Node → Store (Option T) → Type 0
+  MayAskAt width s ts f count v w =
+      (before : State T) → IsTrie width count v w before → MayAskInOrder asks accepts f (listing_at_places before.entries s ts)
+
+  -- the test was asked at each entry that these arrays held, in listing order. They hold those now at which it answered true, and
+  -- the nodes that these need
+  pub record RetainsAll (width : ℕ) (f : F) (before : State T) (count : ℕ) (v : Store Node) (w : Store (Option T)) : Type 0 where
+    pub after : State T
+    pub trie : IsTrie width count v w after
+    pub asked : AsksInOrder asks f (listing before.entries) (listing after.entries)
+    pub tidy : after.nodes ≡ needed after.entries

@@ -1,0 +1,197 @@
+//! Asking a test at entries, and taking out those at which it says no.
+ghost use Rattle.std.specs.Prelude.{◌≡◌, ℕ, ◌+◌, ◌-◌, ◌*◌, ◌/◌, ◌<◌, ◌≤◌, [], ◌∷◌, ◌++◌, List, Bool, true, Some, All, take, length, ⊤};
+ghost use Rattle.prefix_trie_bits.specs.Bits.{zeros};
+ghost use Rattle.prefix_trie_bits.specs.Places.{place_of, value_bit, has};
+ghost use Rattle.prefix_trie_bits.specs.Walks.{to_come};
+ghost use Rattle.prefix_trie_bits.specs.Model.Asking.{AsksInOrder, MayAskInOrder};
+ghost use Rattle.prefix_trie_bits.specs.Model.Selections.{listing};
+ghost use Rattle.prefix_trie_bits.specs.Model.Step.{State};
+ghost use Rattle.prefix_trie_table.specs.Digits.{path_of};
+ghost use Rattle.prefix_trie_table.specs.Forest.{read};
+ghost use Rattle.prefix_trie_table.specs.Walks.{IsPlaceOf};
+ghost use Rattle.prefix_trie_table.specs.Retaining.{HasPlace, HasTrie, IsTrie, IsSite, Lasts, RetainsIn, RetainsAll, MayAskAt};
+
+use crate::allocator::blocks::Blocks;
+use crate::allocator::node::{Node, NodeSlot};
+use crate::allocator::nodes::{NodeAllocator, Tick};
+use crate::table::removal::{drop_child, is_bare, take_value};
+use prefix_trie_bits::node::{Place, Places, rank, string_of};
+use prefix_trie_bits::prefix::Key;
+use std::alloc::{AllocError, Allocator};
+
+/// A test that is asked of entries.
+pub trait Keep<K: Key, T>: Sized + Drop {
+    // the test may be asked at this key and this value
+    ghost accepts: { Self → List Bool → T → Type 0 };
+
+    // asked at this key and this value the test may answer this, and be left as this
+    ghost asks: { Self → List Bool → T → Bool → Self → Type 0 };
+
+    /// Whether the entry of a key and its value stays. The key is the first `len` bits, and has zeros behind them.
+    fn keeps(&mut self, key: K, len: u32, value: &T) -> bool
+        requires key { K.IsKey key }
+        requires within { len ≤ K.bit_width }
+        requires filled { K.bits key ≡ take len (K.bits key) ++ zeros (K.bit_width - len) }
+        requires accepts { accepts self.old (take len (K.bits key)) value.now }
+        ensures { asks self.old (take len (K.bits key)) value.now result self.new };
+}
+
+/// Where a node stands: its slot in the array, and its path, the first `depth` bits of a key.
+struct Site<K: Key> {
+    slot: NodeSlot,
+    key: K,
+    depth: u32,
+}
+
+impl<K: Key> Copy for Site<K> {}
+
+// A copy is the same site, and takes no memory.
+impl<K: Key> Clone for Site<K> {
+    ghost is_clone = { λ p q. q ≡ p };
+
+    ghost is_infallible = { λ _. ⊤ };
+
+    #[inline]
+    fn clone(&self) -> Result<Self, AllocError> {
+        Ok(*self)
+    }
+}
+
+/// Asks at a value of a node, and takes it out where the answer is no. Answers what the node is then.
+fn retain_value<K: Key, T: Drop, A: Allocator, V: Tick, F: Keep<K, T>>(
+    nodes: &mut NodeAllocator<A, V>,
+    cells: &mut Blocks<Option<T>, A>,
+    entries: &mut usize,
+    keep: &mut F,
+    site: Site<K>,
+    node: Node,
+    bit: u32,
+) -> Node
+    requires trie { HasTrie {T = T} K.bit_width entries.old nodes.old cells.old }
+    requires site { IsSite K.IsKey K.bits K.bit_width nodes.old site node }
+    requires bit { bit < 31 }
+    requires set { has node.value_bitmap bit ≡ true }
+    requires may_ask { (t : List Bool) → length t ≤ 4 → value_bit t ≡ bit → MayAskAt F.asks F.accepts
+        K.bit_width (take site.depth (K.bits site.key)) (t ∷ []) keep.old entries.old nodes.old cells.old }
+    ensures retains { (t : List Bool) → length t ≤ 4 → value_bit t ≡ bit → RetainsIn F.asks F.accepts
+        K.bit_width (take site.depth (K.bits site.key)) (t ∷ [])
+        keep.old entries.old nodes.old cells.old keep.new entries.new nodes.new cells.new }
+    ensures node { IsSite K.IsKey K.bits K.bit_width nodes.new site result }
+    ensures lasts { Lasts (site.depth / 5) nodes.old nodes.new cells.old cells.new }
+{
+    let (n, tail) = string_of(bit);
+    let Some(value) = cells.at(node.value_block, rank(node.value_bitmap, bit)).as_ref() else {
+        unreachable!();
+    };
+    if keep.keeps(site.key.extend(site.depth, n, tail), site.depth + n, value) {
+        return node;
+    }
+    let (_, left) = take_value(nodes, cells, site.slot, node, bit);
+    *entries -= 1;
+    left
+}
+
+/// Asks at what stands at one place of a node, and takes out what is answered no, and a child that is left with nothing.
+/// Answers what the node is then.
+#[cycle(retain)]
+fn retain_place<K: Key, T: Drop, A: Allocator, V: Tick, F: Keep<K, T>>(
+    nodes: &mut NodeAllocator<A, V>,
+    cells: &mut Blocks<Option<T>, A>,
+    entries: &mut usize,
+    keep: &mut F,
+    site: Site<K>,
+    node: Node,
+    place: Place,
+    counter: &mut V,
+) -> Node
+    requires trie { HasTrie {T = T} K.bit_width entries.old nodes.old cells.old }
+    requires site { IsSite K.IsKey K.bits K.bit_width nodes.old site node }
+    requires place { HasPlace node place }
+    requires may_ask { (t : List Bool) → length t ≤ 5 → place ≡ place_of t → MayAskAt F.asks F.accepts
+        K.bit_width (take site.depth (K.bits site.key)) (t ∷ []) keep.old entries.old nodes.old cells.old }
+    ensures retains { (t : List Bool) → length t ≤ 5 → place ≡ place_of t → RetainsIn F.asks F.accepts
+        K.bit_width (take site.depth (K.bits site.key)) (t ∷ [])
+        keep.old entries.old nodes.old cells.old keep.new entries.new nodes.new cells.new }
+    ensures node { IsSite K.IsKey K.bits K.bit_width nodes.new site result }
+    ensures lasts { Lasts (site.depth / 5) nodes.old nodes.new cells.old cells.new }
+{
+    match place {
+        Place::Value(bit) => retain_value(nodes, cells, entries, keep, site, node, bit),
+        Place::Child(child) => {
+            let slot = NodeSlot {
+                start: node.child_block,
+                place: rank(node.child_bitmap, child),
+            };
+            let below = Site {
+                slot,
+                key: site.key.extend(site.depth, 5, child),
+                depth: site.depth + 5,
+            };
+            let lower = nodes.visit(slot, counter);
+            let places = Places::new(lower.value_bitmap, lower.child_bitmap);
+            let left = retain_places(nodes, cells, entries, keep, below, lower, places, counter);
+            if is_bare(left) {
+                drop_child(nodes, site.slot, child, counter)
+            } else {
+                node
+            }
+        }
+    }
+}
+
+/// Asks at what stands at these places of a node, in listing order. Answers what the node is then.
+#[cycle(retain)]
+fn retain_places<K: Key, T: Drop, A: Allocator, V: Tick, F: Keep<K, T>>(
+    nodes: &mut NodeAllocator<A, V>,
+    cells: &mut Blocks<Option<T>, A>,
+    entries: &mut usize,
+    keep: &mut F,
+    site: Site<K>,
+    node: Node,
+    places: Places,
+    counter: &mut V,
+) -> Node
+    requires trie { HasTrie {T = T} K.bit_width entries.old nodes.old cells.old }
+    requires site { IsSite K.IsKey K.bits K.bit_width nodes.old site node }
+    requires each { All (IsPlaceOf node) (to_come places) }
+    requires may_ask { MayAskAt F.asks F.accepts
+        K.bit_width (take site.depth (K.bits site.key)) (to_come places) keep.old entries.old nodes.old cells.old }
+    ensures retains { RetainsIn F.asks F.accepts
+        K.bit_width (take site.depth (K.bits site.key)) (to_come places)
+        keep.old entries.old nodes.old cells.old keep.new entries.new nodes.new cells.new }
+    ensures node { IsSite K.IsKey K.bits K.bit_width nodes.new site result }
+    ensures lasts { Lasts (site.depth / 5) nodes.old nodes.new cells.old cells.new }
+{
+    let mut node = node;
+    let mut places = places;
+    while let Some(place) = places.next_place() {
+        node = retain_place(nodes, cells, entries, keep, site, node, place, counter);
+    }
+    node
+}
+
+/// Asks at each entry, in listing order, and takes out those at which the answer is no, and all nodes that have nothing left.
+pub fn retain_entries<K: Key, T: Drop, A: Allocator, V: Tick, F: Keep<K, T>>(
+    nodes: &mut NodeAllocator<A, V>,
+    cells: &mut Blocks<Option<T>, A>,
+    entries: &mut usize,
+    keep: F,
+    counter: &mut V,
+)
+    requires trie { HasTrie {T = T} K.bit_width entries.old nodes.old cells.old }
+    requires may_ask { (s : State T) → IsTrie K.bit_width entries.old nodes.old cells.old s
+        → MayAskInOrder F.asks F.accepts keep (listing s.entries) }
+    ensures kept { (s : State T) → IsTrie K.bit_width entries.old nodes.old cells.old s
+        → RetainsAll F.asks F.accepts K.bit_width keep s entries.new nodes.new cells.new }
+    ensures lasts { Lasts 0 nodes.old nodes.new cells.old cells.new }
+{
+    let mut keep = keep;
+    let site = Site {
+        slot: NodeSlot::ROOT,
+        key: K::zero(),
+        depth: 0,
+    };
+    let root = nodes.visit(NodeSlot::ROOT, counter);
+    let places = Places::new(root.value_bitmap, root.child_bitmap);
+    retain_places(nodes, cells, entries, &mut keep, site, root, places, counter);
+}
