@@ -203,7 +203,7 @@ module _ {K T : Type 0} (IsKey : K → Type 0) (bits : K → List Bool) (width :
           (dropped : (reading : List ℕ → Option Node) (paths : List (List ℕ)) (q : List ℕ) (k leaf : Node) → NodesHold node_sizes reading paths v2 →
           IsSlot reading q (p.slot.start + p.slot.place) → reading q ≡ Some k → reading (q ++ c ∷ []) ≡ Some leaf → rank leaf.child_bitmap 32 ≡ 0 →
           ChildDropped reading paths q c k m v2 v3)
-          (limit_is : v3.limit ≡ v2.limit) (longer : length v2.slots ≤ length v3.slots) where
+          (limit_is : v3.limit ≡ v2.limit) (longer : length v2.slots ≤ length v3.slots) (inside : length v2.slots ≤ v2.limit → length v3.slots ≤ v3.limit) where
         abbrev table2 : IsTable v2 w2
         table2 = to.trie.table.held.table
 
@@ -285,6 +285,8 @@ module _ {K T : Type 0} (IsKey : K → Type 0) (bits : K → List Bool) (width :
             sized = to.trie.table.sized;
             cells_first = to.trie.table.cells_first;
             one_limit = to.trie.table.one_limit ∙ sym limit_is;
+            nodes_within = inside to.trie.table.nodes_within;
+            cells_within = to.trie.table.cells_within;
           };
           shaped = shape3;
           within = to.trie.within;

@@ -116,25 +116,28 @@ module _ {K T F : Type 0} (IsKey : K → Type 0) (bits : K → List Bool) (width
 
   -- the node has its other places still when it was asked at one of them
   pub place_kept : (t : List Bool) → (t ≡ u → ⊥) → IsPlaceOf n t → IsPlaceOf m t
-  place_kept t ne is = (is.0, elim (cases_lt (length t) 5) as (λ _. is_in m.value_bitmap m.child_bitmap t ≡ true) [
-    | inl less ↦
-        let short : length t ≤ 4 = (let l = less in omega (arith, l)) in
-        is_in-value m.value_bitmap m.child_bitmap t less
-        ∙ sym (value_iff IsKey bits width v2 p m later long count2 w2 s2 trie2 t short)
-        ∙ ap is_some (retains.others (take p.depth (bits p.key) ++ t)
-        (not_there t (take p.depth (bits p.key) ++ t) is.0 ne (at_value (take p.depth (bits p.key)) t (take p.depth (bits p.key) ++ t) short
-        ∙ is-same_string (take p.depth (bits p.key) ++ t) (take p.depth (bits p.key) ++ t) refl)))
-        ∙ value_iff IsKey bits width v p n at long count w s trie t short
-        ∙ sym (is_in-value n.value_bitmap n.child_bitmap t less) ∙ is.1
-    | inr most ↦
-        let five : length t ≡ 5 = (let l = most in let h = is.0 in omega (arith, l, h)) in
-        is_in-child m.value_bitmap m.child_bitmap t five
-        ∙ sym (child_iff IsKey bits width v2 p m later long count2 w2 s2 trie2 t five)
-        ∙ retains.off (take p.depth (bits p.key) ++ t)
-        (not_under t (take p.depth (bits p.key) ++ t) is.0 ne (at_child (take p.depth (bits p.key)) t (take p.depth (bits p.key) ++ t) five ∙ begins-refl (take p.depth (bits p.key) ++ t)))
-        ∙ child_iff IsKey bits width v p n at long count w s trie t five
-        ∙ sym (is_in-child n.value_bitmap n.child_bitmap t five) ∙ is.1
-  ])
+  place_kept t ne is = (
+    is.0,
+    elim (cases_lt (length t) 5) as (λ _. is_in m.value_bitmap m.child_bitmap t ≡ true) [
+      | inl less ↦
+          let short : length t ≤ 4 = (let l = less in omega (arith, l)) in
+          is_in-value m.value_bitmap m.child_bitmap t less
+          ∙ sym (value_iff IsKey bits width v2 p m later long count2 w2 s2 trie2 t short)
+          ∙ ap is_some (retains.others (take p.depth (bits p.key) ++ t)
+          (not_there t (take p.depth (bits p.key) ++ t) is.0 ne (at_value (take p.depth (bits p.key)) t (take p.depth (bits p.key) ++ t) short
+          ∙ is-same_string (take p.depth (bits p.key) ++ t) (take p.depth (bits p.key) ++ t) refl)))
+          ∙ value_iff IsKey bits width v p n at long count w s trie t short
+          ∙ sym (is_in-value n.value_bitmap n.child_bitmap t less) ∙ is.1
+      | inr most ↦
+          let five : length t ≡ 5 = (let l = most in let h = is.0 in omega (arith, l, h)) in
+          is_in-child m.value_bitmap m.child_bitmap t five
+          ∙ sym (child_iff IsKey bits width v2 p m later long count2 w2 s2 trie2 t five)
+          ∙ retains.off (take p.depth (bits p.key) ++ t)
+          (not_under t (take p.depth (bits p.key) ++ t) is.0 ne (at_child (take p.depth (bits p.key)) t (take p.depth (bits p.key) ++ t) five ∙ begins-refl (take p.depth (bits p.key) ++ t)))
+          ∙ child_iff IsKey bits width v p n at long count w s trie t five
+          ∙ sym (is_in-child n.value_bitmap n.child_bitmap t five) ∙ is.1
+    ],
+  )
 
 -- ---- one turn
 

@@ -243,9 +243,9 @@ module _ {K : Type 0} (IsKey : K → Type 0) (bits : K → List Bool) (width : �
             ap is_some (before held_table.reading held_table.paths held_table.values held_table.holds)
             ∙ some_there held_table.reading held_table.paths held_table.values held_table.holds
 
-        pub trie_taken : count2 ≡ count - 1 → v2.limit ≡ v.limit → w2.limit ≡ w.limit → w2.first ≡ w.first →
+        pub trie_taken : count2 ≡ count - 1 → Grows v v2 24 → Grows w w2 24 →
             IsTrie width count2 v2 w2 (record { entries = without_entry s.entries (take p.depth (bits p.key) ++ t); nodes = s.nodes })
-        trie_taken fewer nodes_limit cells_limit first =
+        trie_taken fewer node_room cell_room =
             let key = take p.depth (bits p.key) ++ t in
             let shape = shape_taken held_table.reading held_table.values held_table.paths v w held_table.holds (take p.depth (bits p.key) ++ t) v2 w2 s trie.shaped
             (taken held_table.reading held_table.paths held_table.values held_table.holds) in
@@ -254,7 +254,7 @@ module _ {K : Type 0} (IsKey : K → Type 0) (bits : K → List Bool) (width : �
               table = table_without (take p.depth (bits p.key) ++ t) v v2 w w2 count count2 (s, trie.shaped) trie.table removed before
                   (record { entries = without_entry s.entries (take p.depth (bits p.key) ++ t); nodes = s.nodes }) shape refl left
                   (counted_without (take p.depth (bits p.key) ++ t) v v2 w w2 count count2 (s, trie.shaped) trie.table removed before taken left)
-                  nodes_limit cells_limit first (record { entries = without_entry s.entries (take p.depth (bits p.key) ++ t); nodes = s.nodes }, shape);
+                  node_room cell_room (record { entries = without_entry s.entries (take p.depth (bits p.key) ++ t); nodes = s.nodes }, shape);
               shaped = shape;
               within = λ q there. trie.within q (removed_fewer s.entries (take p.depth (bits p.key) ++ t) q there);
               nodes = AreNodes-without_entry width s.entries s.nodes (take p.depth (bits p.key) ++ t) trie.nodes;

@@ -15,6 +15,7 @@ use Rattle.prefix_trie_table.specs.declared.table.retain.Site.{Site}
 use Rattle.prefix_trie_table.specs.Bitmaps.{has_bit, rank}
 use Rattle.prefix_trie_table.specs.Digits.{path_of, bit_of}
 use Rattle.prefix_trie_table.specs.Store.{Store}
+use Rattle.prefix_trie_table.specs.Tables.{Grows}
 use Rattle.prefix_trie_table.specs.Forest.{read, value_in, value_of, NodesHold, CellsHold, IsSlot}
 use Rattle.prefix_trie_table.specs.Cells.{node_sizes, cell_sizes}
 use Rattle.prefix_trie_table.specs.Removals.{ValueTaken}
@@ -137,6 +138,6 @@ module _ {K T : Type 0} (IsKey : K → Type 0) (bits : K → List Bool) (width :
         site_stays IsKey bits width v p node at long v2 m above_here
         (value_read_after IsKey bits width v p node at long count w s trie (digits n x) short set_there removed m v2 w2 0 gives_here takes_here)
 
-    pub trie_goes : (count2 : ℕ) → count2 ≡ count - 1 → v2.limit ≡ v.limit → w2.limit ≡ w.limit → w2.first ≡ w.first →
+    pub trie_goes : (count2 : ℕ) → count2 ≡ count - 1 → Grows v v2 24 → Grows w w2 24 →
         IsTrie width count2 v2 w2 (record { entries = without_entry s.entries (take p.depth (bits p.key) ++ digits n x); nodes = s.nodes })
     trie_goes count2 = trie_taken IsKey bits width v p node at long count w s trie (digits n x) short set_there removed m v2 w2 count2 gives_here takes_here

@@ -66,16 +66,37 @@ retain_place-retain_places-left-requires g t c κs within =
     let kid = place-child place.string c.in-Child.child place.short (sym c.in-Child.is ∙ place.is) in
     let set = ap (has c.args.node.child_bitmap) kid.1 ∙ sym (is_in-child c.args.node.value_bitmap c.args.node.child_bitmap place.string kid.0) ∙ place.set in
     let long = g.met.K.Key.key_laws.bits_length c.args.site.key c.requires.site.key in
-    let fits = lower_fits g.K.Key.IsKey g.K.Key.bits g.K.Key.bit_width c.args.nodes.now c.args.site c.args.node c.requires.site long c.args.entries.now c.args.cells.now c.requires.trie.0 c.requires.trie.1 c.in-Child.child place.string kid.0 kid.1 set c.rank.result c.rank.ensures in
-    (omega (arith, fits), (within.0, (within.1.0, (within.1.1.0, (within.1.1.1.0, (within.1.1.1.1, (
-      c.requires.trie,
-      (lower_site g.K.Key.IsKey g.K.Key.bits g.K.Key.bit_width c.args.nodes.now c.args.site c.args.node c.requires.site long c.args.entries.now c.args.cells.now c.requires.trie.0 c.requires.trie.1 c.in-Child.child place.string kid.0 kid.1 set c.rank.result c.rank.ensures (record { slot = record { start = c.args.node.child_block; place = c.rank.result }; key = c.extend.result; depth = c.args.site.depth + 5 }) c.extend.ensures.key (g.met.K.Key.key_laws.bits_length c.extend.result c.extend.ensures.key) c.extend.ensures.value refl refl c.visit-lower.result c.visit-lower.ensures.node,
-      (All-weaker (Contains (to_come c.new-places.result)) (IsPlaceOf c.visit-lower.result) (λ u m. (c.new-places.ensures.each u).0 m) (to_come c.new-places.result)
-      (All-contains_itself (to_come c.new-places.result)),
-      λ x h.
-      may_ask_lower g.K.Key.IsKey g.K.Key.bits g.K.Key.bit_width c.args.nodes.now c.args.site c.args.node c.requires.site long c.args.entries.now c.args.cells.now x h c.in-Child.child place.string kid.0 kid.1 set c.rank.result c.rank.ensures (record { slot = record { start = c.args.node.child_block; place = c.rank.result }; key = c.extend.result; depth = c.args.site.depth + 5 }) c.extend.ensures.key (g.met.K.Key.key_laws.bits_length c.extend.result c.extend.ensures.key) c.extend.ensures.value refl refl c.visit-lower.result c.visit-lower.ensures.node g.F.Keep.asks g.F.Keep.accepts c.args.keep.now (to_come c.new-places.result) c.new-places.ensures.places
-      (c.requires.may_ask place.string place.short place.is x h))),
-    )))))))
+    let fits = lower_fits g.K.Key.IsKey g.K.Key.bits g.K.Key.bit_width c.args.nodes.now c.args.site c.args.node c.requires.site long c.args.entries.now c.args.cells.now c.requires.trie.0 c.requires.trie.1 c.in-Child.child place.string kid.0 kid.1 set c.rank.result c.rank.ensures in (
+      omega (arith, fits),
+      (
+        within.0,
+        (
+          within.1.0,
+          (
+            within.1.1.0,
+            (
+              within.1.1.1.0,
+              (
+                within.1.1.1.1,
+                (
+                  c.requires.trie,
+                  (
+                    lower_site g.K.Key.IsKey g.K.Key.bits g.K.Key.bit_width c.args.nodes.now c.args.site c.args.node c.requires.site long c.args.entries.now c.args.cells.now c.requires.trie.0 c.requires.trie.1 c.in-Child.child place.string kid.0 kid.1 set c.rank.result c.rank.ensures (record { slot = record { start = c.args.node.child_block; place = c.rank.result }; key = c.extend.result; depth = c.args.site.depth + 5 }) c.extend.ensures.key (g.met.K.Key.key_laws.bits_length c.extend.result c.extend.ensures.key) c.extend.ensures.value refl refl c.visit-lower.result c.visit-lower.ensures.node,
+                    (
+                      All-weaker (Contains (to_come c.new-places.result)) (IsPlaceOf c.visit-lower.result) (λ u m. (c.new-places.ensures.each u).0 m) (to_come c.new-places.result)
+                          (All-contains_itself (to_come c.new-places.result)),
+                      λ x h.
+                          may_ask_lower g.K.Key.IsKey g.K.Key.bits g.K.Key.bit_width c.args.nodes.now c.args.site c.args.node c.requires.site long c.args.entries.now c.args.cells.now x h c.in-Child.child place.string kid.0 kid.1 set c.rank.result c.rank.ensures (record { slot = record { start = c.args.node.child_block; place = c.rank.result }; key = c.extend.result; depth = c.args.site.depth + 5 }) c.extend.ensures.key (g.met.K.Key.key_laws.bits_length c.extend.result c.extend.ensures.key) c.extend.ensures.value refl refl c.visit-lower.result c.visit-lower.ensures.node g.F.Keep.asks g.F.Keep.accepts c.args.keep.now (to_come c.new-places.result) c.new-places.ensures.places
+                          (c.requires.may_ask place.string place.short place.is x h),
+                    ),
+                  ),
+                ),
+              ),
+            ),
+          ),
+        ),
+      ),
+    )
 
 pub retain_place-drop_child-requires-clause-child : goal.retain_place-drop_child-requires-clause-child
 retain_place-drop_child-requires-clause-child g t c =
@@ -114,7 +135,7 @@ retain_place-returns-then-is_bare-clause-retains g t c = λ u few is x h.
     let long = g.met.K.Key.key_laws.bits_length c.args.site.key c.requires.site.key in
     subst (λ r. RetainsTo g.F.Keep.asks g.F.Keep.accepts g.K.Key.bit_width (take c.args.site.depth (g.K.Key.bits c.args.site.key)) (r ∷ []) c.args.keep.now x c.retain_places-left.new.keep c.retain_places-left.new.entries c.drop_child.new.nodes c.retain_places-left.new.cells)
     (same_place place.string u place.short few (sym place.is ∙ is))
-    (child_goes g.K.Key.IsKey g.K.Key.bits g.K.Key.bit_width c.args.nodes.now c.args.site c.args.node c.requires.site long c.args.entries.now c.args.cells.now x h c.in-Child.child place.string kid.0 kid.1 set c.rank.result c.rank.ensures (record { slot = record { start = c.args.node.child_block; place = c.rank.result }; key = c.extend.result; depth = c.args.site.depth + 5 }) c.extend.ensures.key (g.met.K.Key.key_laws.bits_length c.extend.result c.extend.ensures.key) c.extend.ensures.value refl refl c.visit-lower.result c.visit-lower.ensures.node g.F.Keep.asks g.F.Keep.accepts (to_come c.new-places.result) c.new-places.ensures.places (λ u m. (c.new-places.ensures.each u).0 m) (λ u m. (c.new-places.ensures.each u).1 m) c.args.keep.now c.retain_places-left.new.keep c.retain_places-left.new.entries c.retain_places-left.new.nodes c.retain_places-left.new.cells (c.retain_places-left.ensures.retains x h) c.retain_places-left.result c.retain_places-left.ensures.node c.retain_places-left.ensures.lasts (c.is_bare.ensures.bare c.if-is_bare.true) c.drop_child.result c.drop_child.new.nodes c.drop_child.ensures.dropped c.drop_child.ensures.room.limit_is c.drop_child.ensures.room.longer)
+    (child_goes g.K.Key.IsKey g.K.Key.bits g.K.Key.bit_width c.args.nodes.now c.args.site c.args.node c.requires.site long c.args.entries.now c.args.cells.now x h c.in-Child.child place.string kid.0 kid.1 set c.rank.result c.rank.ensures (record { slot = record { start = c.args.node.child_block; place = c.rank.result }; key = c.extend.result; depth = c.args.site.depth + 5 }) c.extend.ensures.key (g.met.K.Key.key_laws.bits_length c.extend.result c.extend.ensures.key) c.extend.ensures.value refl refl c.visit-lower.result c.visit-lower.ensures.node g.F.Keep.asks g.F.Keep.accepts (to_come c.new-places.result) c.new-places.ensures.places (λ u m. (c.new-places.ensures.each u).0 m) (λ u m. (c.new-places.ensures.each u).1 m) c.args.keep.now c.retain_places-left.new.keep c.retain_places-left.new.entries c.retain_places-left.new.nodes c.retain_places-left.new.cells (c.retain_places-left.ensures.retains x h) c.retain_places-left.result c.retain_places-left.ensures.node c.retain_places-left.ensures.lasts (c.is_bare.ensures.bare c.if-is_bare.true) c.drop_child.result c.drop_child.new.nodes c.drop_child.ensures.dropped c.drop_child.ensures.room.limit_is c.drop_child.ensures.room.longer c.drop_child.ensures.room.within)
 
 pub retain_place-returns-then-is_bare-clause-node : goal.retain_place-returns-then-is_bare-clause-node
 retain_place-returns-then-is_bare-clause-node g t c =
@@ -122,7 +143,7 @@ retain_place-returns-then-is_bare-clause-node g t c =
     let kid = place-child place.string c.in-Child.child place.short (sym c.in-Child.is ∙ place.is) in
     let set = ap (has c.args.node.child_bitmap) kid.1 ∙ sym (is_in-child c.args.node.value_bitmap c.args.node.child_bitmap place.string kid.0) ∙ place.set in
     let long = g.met.K.Key.key_laws.bits_length c.args.site.key c.requires.site.key in
-    site3 g.K.Key.IsKey g.K.Key.bits g.K.Key.bit_width c.args.nodes.now c.args.site c.args.node c.requires.site long c.args.entries.now c.args.cells.now c.requires.trie.0 c.requires.trie.1 c.in-Child.child place.string kid.0 kid.1 set c.rank.result c.rank.ensures (record { slot = record { start = c.args.node.child_block; place = c.rank.result }; key = c.extend.result; depth = c.args.site.depth + 5 }) c.extend.ensures.key (g.met.K.Key.key_laws.bits_length c.extend.result c.extend.ensures.key) c.extend.ensures.value refl refl c.visit-lower.result c.visit-lower.ensures.node g.F.Keep.asks g.F.Keep.accepts (to_come c.new-places.result) c.new-places.ensures.places (λ u m. (c.new-places.ensures.each u).0 m) (λ u m. (c.new-places.ensures.each u).1 m) c.args.keep.now c.retain_places-left.new.keep c.retain_places-left.new.entries c.retain_places-left.new.nodes c.retain_places-left.new.cells (c.retain_places-left.ensures.retains c.requires.trie.0 c.requires.trie.1) c.retain_places-left.result c.retain_places-left.ensures.node c.retain_places-left.ensures.lasts (c.is_bare.ensures.bare c.if-is_bare.true) c.drop_child.result c.drop_child.new.nodes c.drop_child.ensures.dropped c.drop_child.ensures.room.limit_is c.drop_child.ensures.room.longer
+    site3 g.K.Key.IsKey g.K.Key.bits g.K.Key.bit_width c.args.nodes.now c.args.site c.args.node c.requires.site long c.args.entries.now c.args.cells.now c.requires.trie.0 c.requires.trie.1 c.in-Child.child place.string kid.0 kid.1 set c.rank.result c.rank.ensures (record { slot = record { start = c.args.node.child_block; place = c.rank.result }; key = c.extend.result; depth = c.args.site.depth + 5 }) c.extend.ensures.key (g.met.K.Key.key_laws.bits_length c.extend.result c.extend.ensures.key) c.extend.ensures.value refl refl c.visit-lower.result c.visit-lower.ensures.node g.F.Keep.asks g.F.Keep.accepts (to_come c.new-places.result) c.new-places.ensures.places (λ u m. (c.new-places.ensures.each u).0 m) (λ u m. (c.new-places.ensures.each u).1 m) c.args.keep.now c.retain_places-left.new.keep c.retain_places-left.new.entries c.retain_places-left.new.nodes c.retain_places-left.new.cells (c.retain_places-left.ensures.retains c.requires.trie.0 c.requires.trie.1) c.retain_places-left.result c.retain_places-left.ensures.node c.retain_places-left.ensures.lasts (c.is_bare.ensures.bare c.if-is_bare.true) c.drop_child.result c.drop_child.new.nodes c.drop_child.ensures.dropped c.drop_child.ensures.room.limit_is c.drop_child.ensures.room.longer c.drop_child.ensures.room.within
 
 pub retain_place-returns-then-is_bare-clause-lasts : goal.retain_place-returns-then-is_bare-clause-lasts
 retain_place-returns-then-is_bare-clause-lasts g t c =
@@ -130,7 +151,7 @@ retain_place-returns-then-is_bare-clause-lasts g t c =
     let kid = place-child place.string c.in-Child.child place.short (sym c.in-Child.is ∙ place.is) in
     let set = ap (has c.args.node.child_bitmap) kid.1 ∙ sym (is_in-child c.args.node.value_bitmap c.args.node.child_bitmap place.string kid.0) ∙ place.set in
     let long = g.met.K.Key.key_laws.bits_length c.args.site.key c.requires.site.key in
-    lasts3 g.K.Key.IsKey g.K.Key.bits g.K.Key.bit_width c.args.nodes.now c.args.site c.args.node c.requires.site long c.args.entries.now c.args.cells.now c.requires.trie.0 c.requires.trie.1 c.in-Child.child place.string kid.0 kid.1 set c.rank.result c.rank.ensures (record { slot = record { start = c.args.node.child_block; place = c.rank.result }; key = c.extend.result; depth = c.args.site.depth + 5 }) c.extend.ensures.key (g.met.K.Key.key_laws.bits_length c.extend.result c.extend.ensures.key) c.extend.ensures.value refl refl c.visit-lower.result c.visit-lower.ensures.node g.F.Keep.asks g.F.Keep.accepts (to_come c.new-places.result) c.new-places.ensures.places (λ u m. (c.new-places.ensures.each u).0 m) (λ u m. (c.new-places.ensures.each u).1 m) c.args.keep.now c.retain_places-left.new.keep c.retain_places-left.new.entries c.retain_places-left.new.nodes c.retain_places-left.new.cells (c.retain_places-left.ensures.retains c.requires.trie.0 c.requires.trie.1) c.retain_places-left.result c.retain_places-left.ensures.node c.retain_places-left.ensures.lasts (c.is_bare.ensures.bare c.if-is_bare.true) c.drop_child.result c.drop_child.new.nodes c.drop_child.ensures.dropped c.drop_child.ensures.room.limit_is c.drop_child.ensures.room.longer
+    lasts3 g.K.Key.IsKey g.K.Key.bits g.K.Key.bit_width c.args.nodes.now c.args.site c.args.node c.requires.site long c.args.entries.now c.args.cells.now c.requires.trie.0 c.requires.trie.1 c.in-Child.child place.string kid.0 kid.1 set c.rank.result c.rank.ensures (record { slot = record { start = c.args.node.child_block; place = c.rank.result }; key = c.extend.result; depth = c.args.site.depth + 5 }) c.extend.ensures.key (g.met.K.Key.key_laws.bits_length c.extend.result c.extend.ensures.key) c.extend.ensures.value refl refl c.visit-lower.result c.visit-lower.ensures.node g.F.Keep.asks g.F.Keep.accepts (to_come c.new-places.result) c.new-places.ensures.places (λ u m. (c.new-places.ensures.each u).0 m) (λ u m. (c.new-places.ensures.each u).1 m) c.args.keep.now c.retain_places-left.new.keep c.retain_places-left.new.entries c.retain_places-left.new.nodes c.retain_places-left.new.cells (c.retain_places-left.ensures.retains c.requires.trie.0 c.requires.trie.1) c.retain_places-left.result c.retain_places-left.ensures.node c.retain_places-left.ensures.lasts (c.is_bare.ensures.bare c.if-is_bare.true) c.drop_child.result c.drop_child.new.nodes c.drop_child.ensures.dropped c.drop_child.ensures.room.limit_is c.drop_child.ensures.room.longer c.drop_child.ensures.room.within
 
 pub retain_place-returns-else-is_bare-clause-retains : goal.retain_place-returns-else-is_bare-clause-retains
 retain_place-returns-else-is_bare-clause-retains g t c = λ u few is x h.
@@ -177,13 +198,34 @@ retain_places-retain_place-node-requires g t c κs within =
     let one = inv.done c.requires.trie.0 c.requires.trie.1 in
     let here = this_place g.K.Key.IsKey g.K.Key.bits g.K.Key.bit_width g.F.Keep.asks g.F.Keep.accepts c.args.site long (to_come c.loop-place.places) inv.before taken.string (to_come c.next_place.new.self) taken.first taken.short c.in-Some.ensures.sorted inv.apart c.loop-place.node inv.each c.args.keep.now c.loop-place.keep c.args.entries.now c.loop-place.entries c.args.nodes.now c.loop-place.nodes c.args.cells.now c.loop-place.cells inv.done in
     let may = λ (x : State g.row.T.Denot) (is : IsTrie g.K.Key.bit_width c.args.entries.now c.args.nodes.now c.args.cells.now x).
-    subst (λ us. MayAskInOrder g.F.Keep.asks g.F.Keep.accepts c.args.keep.now (listing_at_places x.entries (take c.args.site.depth (g.K.Key.bits c.args.site.key)) us)) inv.all (c.requires.may_ask x is) in
-    (omega arith, (within.0, (within.1.0, (within.1.1.0, (within.1.1.1.0, (within.1.1.1.1, (
-      (one.after, one.trie),
-      (inv.site,
-      (record { string = taken.string; short = taken.short; is = taken.place; set = here.1 },
-      λ u few is. may_ask_this g.K.Key.IsKey g.K.Key.bits g.K.Key.bit_width g.F.Keep.asks g.F.Keep.accepts c.args.site long (to_come c.loop-place.places) inv.before taken.string (to_come c.next_place.new.self) taken.first taken.short c.in-Some.ensures.sorted inv.apart c.loop-place.node inv.each c.args.keep.now c.loop-place.keep c.args.entries.now c.loop-place.entries c.args.nodes.now c.loop-place.nodes c.args.cells.now c.loop-place.cells inv.done c.requires.trie.0 c.requires.trie.1 may u few (sym taken.place ∙ is))),
-    )))))))
+    subst (λ us. MayAskInOrder g.F.Keep.asks g.F.Keep.accepts c.args.keep.now (listing_at_places x.entries (take c.args.site.depth (g.K.Key.bits c.args.site.key)) us)) inv.all (c.requires.may_ask x is) in (
+      omega arith,
+      (
+        within.0,
+        (
+          within.1.0,
+          (
+            within.1.1.0,
+            (
+              within.1.1.1.0,
+              (
+                within.1.1.1.1,
+                (
+                  (one.after, one.trie),
+                  (
+                    inv.site,
+                    (
+                      record { string = taken.string; short = taken.short; is = taken.place; set = here.1 },
+                      λ u few is. may_ask_this g.K.Key.IsKey g.K.Key.bits g.K.Key.bit_width g.F.Keep.asks g.F.Keep.accepts c.args.site long (to_come c.loop-place.places) inv.before taken.string (to_come c.next_place.new.self) taken.first taken.short c.in-Some.ensures.sorted inv.apart c.loop-place.node inv.each c.args.keep.now c.loop-place.keep c.args.entries.now c.loop-place.entries c.args.nodes.now c.loop-place.nodes c.args.cells.now c.loop-place.cells inv.done c.requires.trie.0 c.requires.trie.1 may u few (sym taken.place ∙ is),
+                    ),
+                  ),
+                ),
+              ),
+            ),
+          ),
+        ),
+      ),
+    )
 
 pub retain_places-loop-place-smaller : goal.retain_places-loop-place-smaller
 retain_places-loop-place-smaller g t c =
