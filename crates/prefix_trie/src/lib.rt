@@ -10,11 +10,11 @@ mod example;
 pub mod map;
 #[cfg(test)]
 mod refusing;
+#[cfg(test)]
+mod removal_tests;
 pub mod replay;
 #[cfg(test)]
 mod replay_tests;
-#[cfg(test)]
-mod removal_tests;
 #[cfg(test)]
 mod slots_tests;
 #[cfg(test)]
