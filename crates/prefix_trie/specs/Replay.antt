@@ -2,9 +2,9 @@
 use Rattle.std.specs.Prelude.{ℕ, List, map}
 use Rattle.prefix_trie_bits.specs.Model.Step as model
 use Rattle.prefix_trie.specs.declared.replay.Call.{Call}
-use Rattle.prefix_trie.specs.declared.replay.Call.TheVariants.{Insert, Get, Lpm, Len, List as ListAll}
+use Rattle.prefix_trie.specs.declared.replay.Call.TheVariants.{Insert, Get, Lpm, Spm, Remove, RemoveKeepTree, Clear, Len, NodeCount, List as ListAll}
 use Rattle.prefix_trie.specs.declared.replay.Reply.{Reply}
-use Rattle.prefix_trie.specs.declared.replay.Reply.TheVariants.{Value, Match, Count, Entries, Refused}
+use Rattle.prefix_trie.specs.declared.replay.Reply.TheVariants.{Value, Match, Done, Count, Entries, Refused}
 
 module _ {P : Type 0} where
   -- a call of the model
@@ -12,7 +12,12 @@ module _ {P : Type 0} where
   call_of (Insert q v) = model.Insert q v
   call_of (Get q) = model.Get q
   call_of (Lpm q) = model.Lpm q
+  call_of (Spm q) = model.Spm q
+  call_of (Remove q) = model.Remove q
+  call_of (RemoveKeepTree q) = model.RemoveKeepTree q
+  call_of Clear = model.Clear
   call_of Len = model.Len
+  call_of NodeCount = model.NodeCount
   call_of ListAll = model.ListAll
 
   -- the prefix that a call is handed, if there is one, fits
@@ -28,6 +33,7 @@ module _ {P A : Type 0} where
   abbrev pub reply_of : Reply P A → model.Reply P ℕ
   reply_of (Value value) = model.Value value
   reply_of (Match found) = model.Match found
+  reply_of Done = model.Done
   reply_of (Count n) = model.Count n
   reply_of (Entries entries) = model.Items entries.items
   reply_of (Refused cause) = model.Refused cause

@@ -3,6 +3,7 @@ ghost use Rattle.std.specs.Prelude.{◌≡◌, All, IfOk, OnErr, length, vec_len
 ghost use Rattle.prefix_trie_bits.specs.Model.Selections.{listing, shown};
 ghost use Rattle.prefix_trie_bits.specs.Model.Step.{Step, Run};
 ghost use Rattle.prefix_trie_map.specs.Steps.{state};
+ghost use Rattle.prefix_trie_map.specs.Walks.{lent_item};
 ghost use Rattle.prefix_trie.specs.Replay.{IsFittingCall, call_of, calls_of, reply_of, replies_of};
 
 use crate::{Prefix, PrefixMap, Refusal};
@@ -17,8 +18,18 @@ pub enum Call<P> {
     Get(P),
     /// `get_lpm`: the longest stored prefix that contains this one, and its value.
     Lpm(P),
+    /// `get_spm`: the shortest stored prefix that contains this one, and its value.
+    Spm(P),
+    /// `remove`: takes the entry of this prefix out, and then the nodes on its way that have nothing left.
+    Remove(P),
+    /// `remove_keep_tree`: takes the entry of this prefix out, and leaves all nodes.
+    RemoveKeepTree(P),
+    /// `clear`: takes all entries out, and leaves the root alone.
+    Clear,
     /// `len`: the number of entries.
     Len,
+    /// `node_count`: the number of nodes, the root among them.
+    NodeCount,
     /// `iter`: all entries, in listing order.
     List,
 }
@@ -26,11 +37,13 @@ pub enum Call<P> {
 /// What a call answered. Prefixes come without host bits.
 #[derive(Drop)]
 pub enum Reply<P, A: Allocator> {
-    /// To `Insert` the value that was there before, to `Get` the value.
+    /// To `Insert`, `Remove` and `RemoveKeepTree` the value that was there before, to `Get` the value.
     Value(Option<u64>),
-    /// To `Lpm`.
+    /// To `Lpm` and `Spm`.
     Match(Option<(P, u64)>),
-    /// To `Len`.
+    /// To `Clear`.
+    Done,
+    /// To `Len` and `NodeCount`.
     Count(usize),
     /// To `List`.
     Entries(Vec<(P, u64), A>),
@@ -95,12 +108,17 @@ fn answer<P: Prefix, A: Allocator + Clone>(
             Ok(before) => Reply::Value(before),
             Err(refused) => Reply::Refused(refused.cause),
         },
-        Call::Get(prefix) => Reply::Value(map.get(prefix).copied()),
-        Call::Lpm(prefix) => match map.get_lpm(prefix) {
-            Some((found, value)) => Reply::Match(Some((found, *value))),
-            None => Reply::Match(None),
-        },
+        Call::Get(prefix) => Reply::Value(map.get_counted(prefix).0.copied()),
+        Call::Lpm(prefix) => Reply::Match(map.get_lpm_counted(prefix).0.map(owned)),
+        Call::Spm(prefix) => Reply::Match(map.get_spm_counted(prefix).0.map(owned)),
+        Call::Remove(prefix) => Reply::Value(map.remove(prefix)),
+        Call::RemoveKeepTree(prefix) => Reply::Value(map.remove_keep_tree(prefix)),
+        Call::Clear => {
+            map.clear();
+            Reply::Done
+        }
         Call::Len => Reply::Count(map.len()),
+        Call::NodeCount => Reply::Count(map.node_count()),
         Call::List => match listed(alloc, map) {
             Ok(entries) => Reply::Entries(entries),
             Err(_) => Reply::Refused(Refusal::Memory),
@@ -115,6 +133,14 @@ fn same_path<P: Prefix>(prefix: &P) -> P
     ensures path { P.path result ≡ P.path prefix.now }
 {
     P::from_repr_len(prefix.repr(), prefix.prefix_len())
+}
+
+/// An entry with its value copied.
+fn owned<P>(lent: (P, &u64)) -> (P, u64)
+    ensures { result ≡ lent_item lent.entry }
+{
+    let (prefix, value) = lent;
+    (prefix, *value)
 }
 
 /// All entries in listing order. Room for them is asked for first.

@@ -185,7 +185,10 @@ fn matches_of_three_networks(rt: HostRuntime) -> Result<(), Fail> {
     assert!(rt; !map.contains_key(&host));
     assert_eq!(rt; map.get_key_value(&host), None);
     // Without the host bits that it was inserted with.
-    assert_eq!(rt; map.get_key_value(&(0xc0a8_01aa, 24)), Some(((0xc0a8_0100, 24), &1)));
+    assert_eq!(rt;
+        map.get_key_value(&(0xc0a8_01aa, 24)),
+        Some(((0xc0a8_0100, 24), &1))
+    );
     assert!(rt; map.contains_key(&(0xc0a8_01aa, 24)));
     let outside = (0xc0a8_0200, 24);
     assert_eq!(rt; map.get_spm(&outside), None);
