@@ -1,4 +1,5 @@
 //! The rows of limits.
+use prefix_trie::replay::{Call, Reply, run};
 use prefix_trie::{PrefixMap, Refusal, Refused};
 use std::alloc::Global;
 
@@ -25,4 +26,28 @@ fn is_index_range(answer: Result<PrefixMap<(u32, u8), u64, Global>, Refusal>) ->
         Ok(_) => false,
         Err(cause) => cause == Refusal::IndexRange,
     }
+}
+
+/// Row 40: under a limit of two slots, a second child of the root is refused and the run goes on. The first key, which is
+/// stored, is set again.
+pub fn run_under_two_slots(alloc: Global) -> Result<bool, Refusal> {
+    let mut map = PrefixMap::with_slot_limit(alloc, 2)?;
+    let calls = [
+        Call::Insert((0_u8, 8_u8), 1),
+        Call::Insert((128, 8), 2),
+        Call::Insert((0, 8), 3),
+        Call::NodeCount,
+        Call::List,
+    ];
+    let replies = run(alloc, &mut map, &calls).map_err(|_| Refusal::Memory)?;
+    Ok(match replies.as_slice() {
+        [
+            Reply::Value(None),
+            Reply::Refused(Refusal::IndexRange),
+            Reply::Value(Some(1)),
+            Reply::Count(2),
+            Reply::Entries(entries),
+        ] => entries.as_slice() == [((0, 8), 3)].as_slice(),
+        _ => false,
+    })
 }
