@@ -1,5 +1,5 @@
 -- The places of a node that is at hand, as its table has them, and one turn of asking at them.
-use Rattle.std.proofs.Common.{◌≡◌, ℕ, ◌+◌, ◌-◌, ◌*◌, ◌/◌, ◌%◌, ◌<◌, ◌≤◌, ◌⊎◌, Bool, true, false, cond, ◌&&◌, ◌||◌, ◌==◌, List, [], ◌∷◌, ◌++◌, length, take, get_or, Option, None, Some, is_some, refl, sym, ap, ap₂, ◌∙◌, subst, arith, inl, inr, append-nil, append_assoc, length-append, Less}
+use Rattle.std.proofs.Common.{◌≡◌, ℕ, ◌+◌, ◌/◌, ◌%◌, ◌≤◌, Bool, true, false, cond, ◌&&◌, ◌==◌, List, [], ◌∷◌, ◌++◌, length, take, get_or, Option, is_some, refl, sym, ap, ap₂, ◌∙◌, subst, arith, inl, inr, append-nil, length-append, Less}
 use Rattle.std.specs.List.{All}
 use Rattle.std.specs.List.Sorted.{IsStrictlySortedBy}
 use Rattle.std.proofs.lemmas.Bool.{false≢true, cases_lt, lt-ltb, le-ltb}
@@ -21,13 +21,12 @@ use Rattle.prefix_trie_bits.proofs.Model.Ordered.{not_itself}
 use Rattle.prefix_trie_bits.specs.Begins.{begins-refl}
 use Rattle.prefix_trie_table.specs.declared.allocator.node.Node.{Node}
 use Rattle.prefix_trie_table.specs.declared.table.retain.Site.{Site}
-use Rattle.prefix_trie_table.specs.Bitmaps.{has_bit}
 use Rattle.prefix_trie_table.specs.Digits.{path_of, bit_of}
 use Rattle.prefix_trie_table.specs.Store.{Store}
-use Rattle.prefix_trie_table.specs.Forest.{read, has_value, has_child}
+use Rattle.prefix_trie_table.specs.Forest.{has_value, has_child}
 use Rattle.prefix_trie_table.specs.Shape.{same_shape}
 use Rattle.prefix_trie_table.specs.Walks.{IsPlaceOf}
-use Rattle.prefix_trie_table.specs.Retaining.{is_at, is_at_some, is_under, is_under_some, IsTrie, IsSite, Retains, RetainsTo, RetainsIn, MayAskAt, Lasts}
+use Rattle.prefix_trie_table.specs.Retaining.{is_at, is_at_some, is_under_some, IsTrie, IsSite, Retains, RetainsIn, MayAskAt, Lasts}
 use Rattle.prefix_trie_table.proofs.Asked.{no_or_yes, at_value, at_child, under_at_some, one_place, apart_first, asked_both, may_ask_first, may_ask_then}
 use Rattle.prefix_trie_table.proofs.Bits.{has_bit-is}
 use Rattle.prefix_trie_table.proofs.Placing.{below_node, step_below}
@@ -116,25 +115,28 @@ module _ {K T F : Type 0} (IsKey : K → Type 0) (bits : K → List Bool) (width
 
   -- the node has its other places still when it was asked at one of them
   pub place_kept : (t : List Bool) → (t ≡ u → ⊥) → IsPlaceOf n t → IsPlaceOf m t
-  place_kept t ne is = (is.0, elim (cases_lt (length t) 5) as (λ _. is_in m.value_bitmap m.child_bitmap t ≡ true) [
-    | inl less ↦
-        let short : length t ≤ 4 = (let l = less in omega (arith, l)) in
-        is_in-value m.value_bitmap m.child_bitmap t less
-        ∙ sym (value_iff IsKey bits width v2 p m later long count2 w2 s2 trie2 t short)
-        ∙ ap is_some (retains.others (take p.depth (bits p.key) ++ t)
-        (not_there t (take p.depth (bits p.key) ++ t) is.0 ne (at_value (take p.depth (bits p.key)) t (take p.depth (bits p.key) ++ t) short
-        ∙ is-same_string (take p.depth (bits p.key) ++ t) (take p.depth (bits p.key) ++ t) refl)))
-        ∙ value_iff IsKey bits width v p n at long count w s trie t short
-        ∙ sym (is_in-value n.value_bitmap n.child_bitmap t less) ∙ is.1
-    | inr most ↦
-        let five : length t ≡ 5 = (let l = most in let h = is.0 in omega (arith, l, h)) in
-        is_in-child m.value_bitmap m.child_bitmap t five
-        ∙ sym (child_iff IsKey bits width v2 p m later long count2 w2 s2 trie2 t five)
-        ∙ retains.off (take p.depth (bits p.key) ++ t)
-        (not_under t (take p.depth (bits p.key) ++ t) is.0 ne (at_child (take p.depth (bits p.key)) t (take p.depth (bits p.key) ++ t) five ∙ begins-refl (take p.depth (bits p.key) ++ t)))
-        ∙ child_iff IsKey bits width v p n at long count w s trie t five
-        ∙ sym (is_in-child n.value_bitmap n.child_bitmap t five) ∙ is.1
-  ])
+  place_kept t ne is = (
+    is.0,
+    elim (cases_lt (length t) 5) as (λ _. is_in m.value_bitmap m.child_bitmap t ≡ true) [
+      | inl less ↦
+          let short : length t ≤ 4 = (let l = less in omega (arith, l)) in
+          is_in-value m.value_bitmap m.child_bitmap t less
+          ∙ sym (value_iff IsKey bits width v2 p m later long count2 w2 s2 trie2 t short)
+          ∙ ap is_some (retains.others (take p.depth (bits p.key) ++ t)
+          (not_there t (take p.depth (bits p.key) ++ t) is.0 ne (at_value (take p.depth (bits p.key)) t (take p.depth (bits p.key) ++ t) short
+          ∙ is-same_string (take p.depth (bits p.key) ++ t) (take p.depth (bits p.key) ++ t) refl)))
+          ∙ value_iff IsKey bits width v p n at long count w s trie t short
+          ∙ sym (is_in-value n.value_bitmap n.child_bitmap t less) ∙ is.1
+      | inr most ↦
+          let five : length t ≡ 5 = (let l = most in let h = is.0 in omega (arith, l, h)) in
+          is_in-child m.value_bitmap m.child_bitmap t five
+          ∙ sym (child_iff IsKey bits width v2 p m later long count2 w2 s2 trie2 t five)
+          ∙ retains.off (take p.depth (bits p.key) ++ t)
+          (not_under t (take p.depth (bits p.key) ++ t) is.0 ne (at_child (take p.depth (bits p.key)) t (take p.depth (bits p.key) ++ t) five ∙ begins-refl (take p.depth (bits p.key) ++ t)))
+          ∙ child_iff IsKey bits width v p n at long count w s trie t five
+          ∙ sym (is_in-child n.value_bitmap n.child_bitmap t five) ∙ is.1
+    ],
+  )
 
 -- ---- one turn
 

@@ -53,6 +53,7 @@ impl<P: Prefix, T: Drop, A: Allocator> PrefixMap<P, T, A> {
             test,
             marker: PhantomData,
         };
-        self.table.retain::<P::R, ByPrefix<P, F>>(keep, &mut Visits::new());
+        self.table
+            .retain::<P::R, ByPrefix<P, F>>(keep, &mut Visits::new());
     }
 }

@@ -80,7 +80,10 @@ fn retain_value<K: Key, T: Drop, A: Allocator, V: Tick, F: Keep<K, T>>(
     ensures lasts { Lasts (site.depth / 5) nodes.old nodes.new cells.old cells.new }
 {
     let (n, tail) = string_of(bit);
-    let Some(value) = cells.at(node.value_block, rank(node.value_bitmap, bit)).as_ref() else {
+    let Some(value) = cells
+        .at(node.value_block, rank(node.value_bitmap, bit))
+        .as_ref()
+    else {
         unreachable!();
     };
     if keep.keeps(site.key.extend(site.depth, n, tail), site.depth + n, value) {
@@ -193,5 +196,7 @@ pub fn retain_entries<K: Key, T: Drop, A: Allocator, V: Tick, F: Keep<K, T>>(
     };
     let root = nodes.visit(NodeSlot::ROOT, counter);
     let places = Places::new(root.value_bitmap, root.child_bitmap);
-    retain_places(nodes, cells, entries, &mut keep, site, root, places, counter);
+    retain_places(
+        nodes, cells, entries, &mut keep, site, root, places, counter,
+    );
 }

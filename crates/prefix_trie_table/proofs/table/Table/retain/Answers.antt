@@ -10,13 +10,13 @@ use Rattle.prefix_trie_table.proofs.table.Table.retain.Goals as goal
 
 pub retain_entries-requires-clause-trie : goal.retain_entries-requires-clause-trie
 retain_entries-requires-clause-trie g c = (
-    c.self.inside.shape.0,
-    record {
-      table = c.self.invariant;
-      shaped = c.self.inside.shape.1;
-      within = subst (λ (s : Contents g.row.T.Denot). AreWithin g.K.Key.bit_width s.entries) (sym c.self.view_is) c.requires.within;
-      nodes = subst (λ (s : Contents g.row.T.Denot). AreNodes g.K.Key.bit_width s.entries s.nodes) (sym c.self.view_is) c.requires.nodes;
-    },
+  c.self.inside.shape.0,
+  record {
+    table = c.self.invariant;
+    shaped = c.self.inside.shape.1;
+    within = subst (λ (s : Contents g.row.T.Denot). AreWithin g.K.Key.bit_width s.entries) (sym c.self.view_is) c.requires.within;
+    nodes = subst (λ (s : Contents g.row.T.Denot). AreNodes g.K.Key.bit_width s.entries s.nodes) (sym c.self.view_is) c.requires.nodes;
+  },
 )
 
 pub retain_entries-requires-clause-may_ask : goal.retain_entries-requires-clause-may_ask

@@ -1,6 +1,6 @@
-use Rattle.std.proofs.Common.{◌≡◌, ◌+◌, ◌-◌, ◌*◌, ◌/◌, ◌<◌, ◌≤◌, [], ◌∷◌, ◌++◌, List, Bool, true, Some, length, take, refl, sym, ap, ◌∙◌, subst, arith, append-nil, append_assoc}
+use Rattle.std.proofs.Common.{◌≡◌, ◌+◌, ◌/◌, [], ◌∷◌, ◌++◌, length, take, refl, sym, ap, ◌∙◌, subst, arith, append-nil, append_assoc}
 use Rattle.std.proofs.lemmas.Bool.{false≢true}
-use Rattle.prefix_trie_bits.specs.Places.{place_of, value_bit, has}
+use Rattle.prefix_trie_bits.specs.Places.{has}
 use Rattle.prefix_trie_bits.specs.Walks.{to_come}
 use Rattle.prefix_trie_bits.specs.Model.Asking.{MayAskInOrder}
 use Rattle.prefix_trie_bits.specs.Model.NodeListings.{listing_at_places}
@@ -66,16 +66,37 @@ retain_place-retain_places-left-requires g t c κs within =
     let kid = place-child place.string c.in-Child.child place.short (sym c.in-Child.is ∙ place.is) in
     let set = ap (has c.args.node.child_bitmap) kid.1 ∙ sym (is_in-child c.args.node.value_bitmap c.args.node.child_bitmap place.string kid.0) ∙ place.set in
     let long = g.met.K.Key.key_laws.bits_length c.args.site.key c.requires.site.key in
-    let fits = lower_fits g.K.Key.IsKey g.K.Key.bits g.K.Key.bit_width c.args.nodes.now c.args.site c.args.node c.requires.site long c.args.entries.now c.args.cells.now c.requires.trie.0 c.requires.trie.1 c.in-Child.child place.string kid.0 kid.1 set c.rank.result c.rank.ensures in
-    (omega (arith, fits), (within.0, (within.1.0, (within.1.1.0, (within.1.1.1.0, (within.1.1.1.1, (
-      c.requires.trie,
-      (lower_site g.K.Key.IsKey g.K.Key.bits g.K.Key.bit_width c.args.nodes.now c.args.site c.args.node c.requires.site long c.args.entries.now c.args.cells.now c.requires.trie.0 c.requires.trie.1 c.in-Child.child place.string kid.0 kid.1 set c.rank.result c.rank.ensures (record { slot = record { start = c.args.node.child_block; place = c.rank.result }; key = c.extend.result; depth = c.args.site.depth + 5 }) c.extend.ensures.key (g.met.K.Key.key_laws.bits_length c.extend.result c.extend.ensures.key) c.extend.ensures.value refl refl c.visit-lower.result c.visit-lower.ensures.node,
-      (All-weaker (Contains (to_come c.new-places.result)) (IsPlaceOf c.visit-lower.result) (λ u m. (c.new-places.ensures.each u).0 m) (to_come c.new-places.result)
-      (All-contains_itself (to_come c.new-places.result)),
-      λ x h.
-      may_ask_lower g.K.Key.IsKey g.K.Key.bits g.K.Key.bit_width c.args.nodes.now c.args.site c.args.node c.requires.site long c.args.entries.now c.args.cells.now x h c.in-Child.child place.string kid.0 kid.1 set c.rank.result c.rank.ensures (record { slot = record { start = c.args.node.child_block; place = c.rank.result }; key = c.extend.result; depth = c.args.site.depth + 5 }) c.extend.ensures.key (g.met.K.Key.key_laws.bits_length c.extend.result c.extend.ensures.key) c.extend.ensures.value refl refl c.visit-lower.result c.visit-lower.ensures.node g.F.Keep.asks g.F.Keep.accepts c.args.keep.now (to_come c.new-places.result) c.new-places.ensures.places
-      (c.requires.may_ask place.string place.short place.is x h))),
-    )))))))
+    let fits = lower_fits g.K.Key.IsKey g.K.Key.bits g.K.Key.bit_width c.args.nodes.now c.args.site c.args.node c.requires.site long c.args.entries.now c.args.cells.now c.requires.trie.0 c.requires.trie.1 c.in-Child.child place.string kid.0 kid.1 set c.rank.result c.rank.ensures in (
+      omega (arith, fits),
+      (
+        within.0,
+        (
+          within.1.0,
+          (
+            within.1.1.0,
+            (
+              within.1.1.1.0,
+              (
+                within.1.1.1.1,
+                (
+                  c.requires.trie,
+                  (
+                    lower_site g.K.Key.IsKey g.K.Key.bits g.K.Key.bit_width c.args.nodes.now c.args.site c.args.node c.requires.site long c.args.entries.now c.args.cells.now c.requires.trie.0 c.requires.trie.1 c.in-Child.child place.string kid.0 kid.1 set c.rank.result c.rank.ensures (record { slot = record { start = c.args.node.child_block; place = c.rank.result }; key = c.extend.result; depth = c.args.site.depth + 5 }) c.extend.ensures.key (g.met.K.Key.key_laws.bits_length c.extend.result c.extend.ensures.key) c.extend.ensures.value refl refl c.visit-lower.result c.visit-lower.ensures.node,
+                    (
+                      All-weaker (Contains (to_come c.new-places.result)) (IsPlaceOf c.visit-lower.result) (λ u m. (c.new-places.ensures.each u).0 m) (to_come c.new-places.result)
+                          (All-contains_itself (to_come c.new-places.result)),
+                      λ x h.
+                          may_ask_lower g.K.Key.IsKey g.K.Key.bits g.K.Key.bit_width c.args.nodes.now c.args.site c.args.node c.requires.site long c.args.entries.now c.args.cells.now x h c.in-Child.child place.string kid.0 kid.1 set c.rank.result c.rank.ensures (record { slot = record { start = c.args.node.child_block; place = c.rank.result }; key = c.extend.result; depth = c.args.site.depth + 5 }) c.extend.ensures.key (g.met.K.Key.key_laws.bits_length c.extend.result c.extend.ensures.key) c.extend.ensures.value refl refl c.visit-lower.result c.visit-lower.ensures.node g.F.Keep.asks g.F.Keep.accepts c.args.keep.now (to_come c.new-places.result) c.new-places.ensures.places
+                          (c.requires.may_ask place.string place.short place.is x h),
+                    ),
+                  ),
+                ),
+              ),
+            ),
+          ),
+        ),
+      ),
+    )
 
 pub retain_place-drop_child-requires-clause-child : goal.retain_place-drop_child-requires-clause-child
 retain_place-drop_child-requires-clause-child g t c =
@@ -177,13 +198,34 @@ retain_places-retain_place-node-requires g t c κs within =
     let one = inv.done c.requires.trie.0 c.requires.trie.1 in
     let here = this_place g.K.Key.IsKey g.K.Key.bits g.K.Key.bit_width g.F.Keep.asks g.F.Keep.accepts c.args.site long (to_come c.loop-place.places) inv.before taken.string (to_come c.next_place.new.self) taken.first taken.short c.in-Some.ensures.sorted inv.apart c.loop-place.node inv.each c.args.keep.now c.loop-place.keep c.args.entries.now c.loop-place.entries c.args.nodes.now c.loop-place.nodes c.args.cells.now c.loop-place.cells inv.done in
     let may = λ (x : State g.row.T.Denot) (is : IsTrie g.K.Key.bit_width c.args.entries.now c.args.nodes.now c.args.cells.now x).
-    subst (λ us. MayAskInOrder g.F.Keep.asks g.F.Keep.accepts c.args.keep.now (listing_at_places x.entries (take c.args.site.depth (g.K.Key.bits c.args.site.key)) us)) inv.all (c.requires.may_ask x is) in
-    (omega arith, (within.0, (within.1.0, (within.1.1.0, (within.1.1.1.0, (within.1.1.1.1, (
-      (one.after, one.trie),
-      (inv.site,
-      (record { string = taken.string; short = taken.short; is = taken.place; set = here.1 },
-      λ u few is. may_ask_this g.K.Key.IsKey g.K.Key.bits g.K.Key.bit_width g.F.Keep.asks g.F.Keep.accepts c.args.site long (to_come c.loop-place.places) inv.before taken.string (to_come c.next_place.new.self) taken.first taken.short c.in-Some.ensures.sorted inv.apart c.loop-place.node inv.each c.args.keep.now c.loop-place.keep c.args.entries.now c.loop-place.entries c.args.nodes.now c.loop-place.nodes c.args.cells.now c.loop-place.cells inv.done c.requires.trie.0 c.requires.trie.1 may u few (sym taken.place ∙ is))),
-    )))))))
+    subst (λ us. MayAskInOrder g.F.Keep.asks g.F.Keep.accepts c.args.keep.now (listing_at_places x.entries (take c.args.site.depth (g.K.Key.bits c.args.site.key)) us)) inv.all (c.requires.may_ask x is) in (
+      omega arith,
+      (
+        within.0,
+        (
+          within.1.0,
+          (
+            within.1.1.0,
+            (
+              within.1.1.1.0,
+              (
+                within.1.1.1.1,
+                (
+                  (one.after, one.trie),
+                  (
+                    inv.site,
+                    (
+                      record { string = taken.string; short = taken.short; is = taken.place; set = here.1 },
+                      λ u few is. may_ask_this g.K.Key.IsKey g.K.Key.bits g.K.Key.bit_width g.F.Keep.asks g.F.Keep.accepts c.args.site long (to_come c.loop-place.places) inv.before taken.string (to_come c.next_place.new.self) taken.first taken.short c.in-Some.ensures.sorted inv.apart c.loop-place.node inv.each c.args.keep.now c.loop-place.keep c.args.entries.now c.loop-place.entries c.args.nodes.now c.loop-place.nodes c.args.cells.now c.loop-place.cells inv.done c.requires.trie.0 c.requires.trie.1 may u few (sym taken.place ∙ is),
+                    ),
+                  ),
+                ),
+              ),
+            ),
+          ),
+        ),
+      ),
+    )
 
 pub retain_places-loop-place-smaller : goal.retain_places-loop-place-smaller
 retain_places-loop-place-smaller g t c =
