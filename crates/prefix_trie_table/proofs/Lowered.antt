@@ -1,47 +1,45 @@
 -- Asking below a child of a node that is at hand, and the child taken out where nothing is left.
-use Rattle.std.proofs.Common.{◌≡◌, ◌≢◌, ℕ, ◌+◌, ◌-◌, ◌*◌, ◌/◌, ◌%◌, ◌<◌, ◌≤◌, ◌⊎◌, Bool, true, false, cond, not, ◌&&◌, ◌==◌, List, [], ◌∷◌, ◌++◌, length, take, get_or, Option, None, Some, is_some, refl, sym, ap, ap₂, ◌∙◌, subst, arith, inl, inr, length-append, append-nil, eqb-true}
-use Rattle.std.specs.List.{All, Contains}
-use Rattle.std.proofs.lemmas.Bool.{false≢true, cases_Bool}
-use Rattle.std.specs.FinMap.{get, contains_key, remove}
+use Rattle.std.proofs.Common.{◌≡◌, ℕ, ◌+◌, ◌-◌, ◌/◌, ◌%◌, ◌<◌, ◌≤◌, Bool, true, false, not, ◌&&◌, List, [], ◌∷◌, ◌++◌, length, take, Option, None, Some, is_some, refl, sym, ap, ◌∙◌, subst, arith, inl, inr, length-append, append-nil, eqb-true}
+use Rattle.std.specs.List.{Contains}
+use Rattle.std.proofs.lemmas.Bool.{false≢true}
+use Rattle.std.specs.FinMap.{remove}
 use Rattle.prefix_trie_bits.specs.Bits.{begins, number, digits, zeros}
-use Rattle.prefix_trie_bits.specs.Begins.{begins-refl, begins-append, begins-trans}
+use Rattle.prefix_trie_bits.specs.Begins.{begins-append, begins-trans}
 use Rattle.prefix_trie_bits.specs.BitStrings.{digits-number, length-digits, number-bits}
 use Rattle.prefix_trie_bits.specs.Windows.{take-extend}
 use Rattle.prefix_trie_bits.specs.Order.{same_string}
-use Rattle.prefix_trie_bits.specs.Places.{has, ones_below, value_bit, is_in, places}
+use Rattle.prefix_trie_bits.specs.Places.{has, ones_below, is_in, places}
 use Rattle.prefix_trie_bits.specs.Model.Asking.{MayAskInOrder}
 use Rattle.prefix_trie_bits.specs.Model.NodeListings.{listing_at_place, listing_at_places}
 use Rattle.prefix_trie_bits.specs.Model.Selections.{listing_below}
-use Rattle.prefix_trie_bits.specs.Model.Nodes.{Nodes, AreNodes, has_node, is_node_depth}
+use Rattle.prefix_trie_bits.specs.Model.Nodes.{has_node, is_node_depth}
 use Rattle.prefix_trie_bits.specs.Model.Step.{State}
-use Rattle.prefix_trie_bits.proofs.Model.Members.{and-first, and-second, same_string-is, is-same_string, has-removed}
+use Rattle.prefix_trie_bits.proofs.Model.Members.{and-second, same_string-is, is-same_string, has-removed}
 use Rattle.prefix_trie_bits.proofs.Model.NodeListings.{listing_at_child}
 use Rattle.prefix_trie_table.specs.declared.allocator.node.Node.{Node}
 use Rattle.prefix_trie_table.specs.declared.table.retain.Site.{Site}
 use Rattle.prefix_trie_table.specs.Bitmaps.{has_bit, rank}
-use Rattle.prefix_trie_table.specs.Cells.{node_at, node_sizes, cell_sizes}
-use Rattle.prefix_trie_table.specs.Digits.{path_of, bit_of}
+use Rattle.prefix_trie_table.specs.Cells.{node_at, node_sizes}
+use Rattle.prefix_trie_table.specs.Digits.{path_of}
 use Rattle.prefix_trie_table.specs.Store.{Store}
-use Rattle.prefix_trie_table.specs.Forest.{read, child_slot, Holds, IsTable, IsSlot, at_child, NodesHold, CellsHold, own_count, entry_count, without, lacking_child}
+use Rattle.prefix_trie_table.specs.Forest.{read, child_slot, Holds, IsTable, IsSlot, at_child, NodesHold, entry_count, without, lacking_child}
 use Rattle.prefix_trie_table.specs.Removals.{IsBare, IsStocked, ChildDropped, Drops, none, more}
-use Rattle.prefix_trie_table.specs.Tables.{IsTableOf}
-use Rattle.prefix_trie_table.specs.Walks.{Tree, IsTree, IsPlaceOf}
-use Rattle.prefix_trie_table.specs.Retaining.{IsTrie, IsSite, Needs, Retains, RetainsTo, Lasts}
+use Rattle.prefix_trie_table.specs.Walks.{IsTree, IsPlaceOf}
+use Rattle.prefix_trie_table.specs.Retaining.{IsTrie, IsSite, Needs, RetainsTo, Lasts}
 use Rattle.prefix_trie_table.proofs.AskedBelow.{child_asked, needed_below}
 use Rattle.prefix_trie_table.proofs.Bare.{some_bit}
 use Rattle.prefix_trie_table.proofs.Bits.{has_bit-is, has_bit-below, rank-ones}
-use Rattle.prefix_trie_table.proofs.Children.{same_or, changed_below, changed_here, changed_other, some_stays}
+use Rattle.prefix_trie_table.proofs.Children.{changed_below, changed_here, changed_other, some_stays}
 use Rattle.prefix_trie_table.proofs.Keys.{same_way}
 use Rattle.prefix_trie_table.proofs.Placing.{step_below, string_at}
 use Rattle.prefix_trie_table.proofs.Placed.{value_iff, child_iff, nothing_at, none_below_it}
 use Rattle.prefix_trie_table.proofs.Pruning.{drops_cells, drops_count}
-use Rattle.prefix_trie_table.proofs.Retained.{tree_of, are_nodes, read_held, read_up, read_table, here_length, here_whole, here_levels, path_levels, site_stays, site_holds}
+use Rattle.prefix_trie_table.proofs.Retained.{tree_of, are_nodes, read_held, here_length, here_whole, here_levels, path_levels, site_stays}
 use Rattle.prefix_trie_table.proofs.Shapes.{reads_node, shape_of, shape_entries}
 use Rattle.prefix_trie_table.specs.Shape.{IsShapeOf}
 use Rattle.prefix_trie_table.proofs.Asked.{no_or_yes}
-use Rattle.prefix_trie_table.proofs.Spots.{place-child}
 use Rattle.prefix_trie_table.proofs.Subtrees.{child_is, child_inside, child_few, child_fits, few_at, all_places, number-small}
-use Rattle.prefix_trie_table.proofs.Trees.{reads, is_none-None}
+use Rattle.prefix_trie_table.proofs.Trees.{reads}
 
 longer_not : (s u : List Bool) → length u ≡ 5 → s ++ u ≡ s → ⊥
 longer_not s u five e = absurd (omega (arith, ap length e, length-append s u, five))

@@ -1,42 +1,35 @@
 -- What a table is once a test was asked at a place of a node.
-use Rattle.std.proofs.Common.{◌≡◌, ◌≢◌, ℕ, ◌+◌, ◌-◌, ◌*◌, ◌/◌, ◌%◌, ◌<◌, ◌≤◌, ◌⊎◌, Bool, true, false, cond, not, ◌&&◌, ◌==◌, List, [], ◌∷◌, ◌++◌, length, take, drop, get_or, Option, None, Some, is_some, refl, sym, ap, ap₂, ◌∙◌, subst, arith, inl, inr, length-append, eqb-true}
+use Rattle.std.proofs.Common.{◌≡◌, ℕ, ◌+◌, ◌-◌, ◌*◌, ◌/◌, ◌%◌, ◌<◌, ◌≤◌, Bool, true, false, ◌&&◌, ◌==◌, List, [], ◌∷◌, ◌++◌, length, take, drop, Option, None, Some, is_some, refl, sym, ap, ap₂, ◌∙◌, subst, arith, inl, inr, length-append, eqb-true}
 use Rattle.std.proofs.lemmas.Bool.{false≢true, cases_Bool}
 use Rattle.std.proofs.lemmas.List.{length-take-le}
-use Rattle.std.specs.FinMap.{get, contains_key, len, remove}
-use Rattle.prefix_trie_bits.specs.Bits.{begins, number, digits}
-use Rattle.prefix_trie_bits.specs.Begins.{begins-append, begins-rest, begins-trans}
-use Rattle.prefix_trie_bits.specs.BitStrings.{length-digits}
-use Rattle.prefix_trie_bits.specs.Order.{same_string}
-use Rattle.prefix_trie_bits.specs.Places.{has, value_bit, is_in}
-use Rattle.prefix_trie_bits.specs.Model.Entries.{Entries, AreWithin, without_entry}
-use Rattle.prefix_trie_bits.specs.Model.Nodes.{Nodes, AreNodes, has_node, is_node_depth, needed}
+use Rattle.prefix_trie_bits.specs.Bits.{begins}
+use Rattle.prefix_trie_bits.specs.Begins.{begins-rest}
+use Rattle.prefix_trie_bits.specs.Places.{has, value_bit}
+use Rattle.prefix_trie_bits.specs.Model.Entries.{without_entry}
+use Rattle.prefix_trie_bits.specs.Model.Nodes.{AreNodes, has_node, is_node_depth}
 use Rattle.prefix_trie_bits.specs.Model.Step.{State}
-use Rattle.prefix_trie_bits.proofs.Model.Members.{and-first, and-second, same_string-is, is-same_string, has-removed, needed_for}
+use Rattle.prefix_trie_bits.proofs.Model.Members.{and-first, and-second, needed_for}
 use Rattle.prefix_trie_bits.proofs.Model.NodeSets.{AreNodes-without_entry}
 use Rattle.prefix_trie_bits.proofs.Model.Pruning.{removed_fewer}
 use Rattle.prefix_trie_bits.proofs.Strings.{value_bit-small}
 use Rattle.prefix_trie_table.specs.declared.allocator.node.Node.{Node}
 use Rattle.prefix_trie_table.specs.declared.table.retain.Site.{Site}
-use Rattle.prefix_trie_table.specs.Bitmaps.{has_bit, rank}
+use Rattle.prefix_trie_table.specs.Bitmaps.{has_bit}
 use Rattle.prefix_trie_table.specs.Cells.{node_at, node_sizes, cell_sizes}
-use Rattle.prefix_trie_table.specs.Digits.{path_of, rest_of, bit_of}
+use Rattle.prefix_trie_table.specs.Digits.{path_of, bit_of}
 use Rattle.prefix_trie_table.specs.Store.{Store}
-use Rattle.prefix_trie_table.specs.Forest.{read, child_slot, value_of, has_value, one_if, Holds, IsTable, IsSlot, at_root, at_child, NodesHold, CellsHold, AtNode, AtValues, own_count, entry_count, without, lacking_child, with_node, with_value}
-use Rattle.prefix_trie_table.specs.Removals.{ValueTaken, EntryTaken, IsBare, IsStocked, ChildDropped, Drops, none, more}
+use Rattle.prefix_trie_table.specs.Forest.{read, value_of, has_value, one_if, Holds, IsTable, IsSlot, at_root, at_child, NodesHold, CellsHold, AtNode, AtValues, with_node}
+use Rattle.prefix_trie_table.specs.Removals.{ValueTaken, EntryTaken}
 use Rattle.prefix_trie_table.specs.Shape.{IsShapeOf}
-use Rattle.prefix_trie_table.specs.Tables.{IsTableOf, IsCounted, ForHeld, Grows}
-use Rattle.prefix_trie_table.specs.Walks.{Tree, IsTree}
-use Rattle.prefix_trie_table.specs.Retaining.{IsTrie, IsSite, Lasts, Needs}
-use Rattle.prefix_trie_table.proofs.Bare.{some_bit}
-use Rattle.prefix_trie_table.proofs.Bits.{has_bit-is, has_bit-below}
-use Rattle.prefix_trie_table.proofs.Children.{same_or, changed_below, changed_here, changed_other, some_stays, with_here, with_other}
-use Rattle.prefix_trie_table.proofs.Digits.{path-length}
+use Rattle.prefix_trie_table.specs.Tables.{ForHeld}
+use Rattle.prefix_trie_table.specs.Walks.{IsTree}
+use Rattle.prefix_trie_table.specs.Retaining.{IsTrie, IsSite}
+use Rattle.prefix_trie_table.proofs.Bits.{has_bit-is}
+use Rattle.prefix_trie_table.proofs.Children.{with_here, with_other}
 use Rattle.prefix_trie_table.proofs.Emptying.{value_taken, shape_taken, table_without, counted_without}
 use Rattle.prefix_trie_table.proofs.Going.{steps-all}
-use Rattle.prefix_trie_table.proofs.Keys.{same_way}
-use Rattle.prefix_trie_table.proofs.Placing.{below_node, step_below, string_at}
-use Rattle.prefix_trie_table.proofs.Pruning.{drops_cells, drops_count}
-use Rattle.prefix_trie_table.proofs.Shapes.{reads_node, shape_of, shape_nodes, shape_entries}
+use Rattle.prefix_trie_table.proofs.Placing.{below_node}
+use Rattle.prefix_trie_table.proofs.Shapes.{reads_node}
 use Rattle.prefix_trie_table.proofs.Subtrees.{path-append, read-missing}
 use Rattle.prefix_trie_table.proofs.Trees.{is_none-None, read-nil, reads, slot_holds}
 

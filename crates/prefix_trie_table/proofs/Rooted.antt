@@ -1,5 +1,5 @@
 -- Asking from the root on is asking at the whole listing.
-use Rattle.std.proofs.Common.{◌≡◌, ℕ, ◌≤◌, Bool, true, List, [], ◌∷◌, length, Option, Some, refl, sym, ap, ◌∙◌, subst, arith}
+use Rattle.std.proofs.Common.{◌≡◌, ℕ, Bool, List, [], length, Option, Some, refl, sym, ap, ◌∙◌, subst, arith}
 use Rattle.std.specs.List.{Contains}
 use Rattle.prefix_trie_bits.specs.Places.{places}
 use Rattle.prefix_trie_bits.specs.Model.Asking.{MayAskInOrder}
