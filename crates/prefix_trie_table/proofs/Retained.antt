@@ -21,7 +21,7 @@ use Rattle.prefix_trie_table.specs.Store.{Store}
 use Rattle.prefix_trie_table.specs.Forest.{read, value_of, has_value, one_if, Holds, IsTable, IsSlot, at_root, at_child, NodesHold, CellsHold, AtNode, AtValues, with_node}
 use Rattle.prefix_trie_table.specs.Removals.{ValueTaken, EntryTaken}
 use Rattle.prefix_trie_table.specs.Shape.{IsShapeOf}
-use Rattle.prefix_trie_table.specs.Tables.{ForHeld}
+use Rattle.prefix_trie_table.specs.Tables.{ForHeld, Grows}
 use Rattle.prefix_trie_table.specs.Walks.{IsTree}
 use Rattle.prefix_trie_table.specs.Retaining.{IsTrie, IsSite}
 use Rattle.prefix_trie_table.proofs.Bits.{has_bit-is}
