@@ -23,6 +23,8 @@ mod lending;
 mod lookup;
 mod removal;
 mod retain;
+#[cfg(test)]
+mod retain_tests;
 mod slots;
 mod visits;
 
