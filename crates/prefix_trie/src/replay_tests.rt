@@ -147,6 +147,34 @@ fn removals_and_the_nodes_left(rt: HostRuntime) -> Result<(), Fail> {
 }
 
 #[test]
+fn entries_of_a_least_length(rt: HostRuntime) -> Result<(), Fail> {
+    let mut map = PrefixMap::new(rt.alloc())?;
+    let calls = [
+        Call::Insert((0x0a00_0000_u32, 8_u8), 1),
+        Call::Insert((0x0a01_0000, 16), 2),
+        Call::Insert((0x0b00_0000, 7), 3),
+        Call::RetainAtLeast(8),
+        Call::List,
+        Call::NodeCount,
+        Call::RetainAtLeast(17),
+        Call::Len,
+        Call::NodeCount,
+    ];
+    let replies = run(rt.alloc(), &mut map, &calls)?;
+    let [_, _, _, kept, long, nodes, emptied, len, root] = replies.as_slice() else {
+        return Err(Fail::new("another number of replies"));
+    };
+    assert!(rt; is_done(kept));
+    assert!(rt; is_list(long, &[((0x0a00_0000, 8), 1), ((0x0a01_0000, 16), 2)]));
+    // At the depths 0, 5, 10 and 15.
+    assert!(rt; is_count(nodes, 4));
+    assert!(rt; is_done(emptied));
+    assert!(rt; is_count(len, 0));
+    assert!(rt; is_count(root, 1));
+    Ok(())
+}
+
+#[test]
 fn nothing_left_after_clearing(rt: HostRuntime) -> Result<(), Fail> {
     let mut map = PrefixMap::new(rt.alloc())?;
     let calls = [

@@ -1,6 +1,7 @@
 //! Keeping the entries at which a test says yes.
 ghost use Rattle.std.specs.Prelude.{◌≡◌, ◌≤◌};
 ghost use Rattle.prefix_trie_bits.specs.Model.Asking.{AsksInOrder, MayAskInOrder};
+ghost use Rattle.prefix_trie_bits.specs.Model.Entries.{AreWithin};
 ghost use Rattle.prefix_trie_bits.specs.Model.Nodes.{needed};
 ghost use Rattle.prefix_trie_bits.specs.Model.Selections.{listing};
 ghost use Rattle.prefix_trie_map.specs.Asking.{AsksAt, TakesAt};
@@ -43,6 +44,7 @@ impl<P: Prefix, T: Drop, A: Allocator> PrefixMap<P, T, A> {
     /// without its host bits. Nodes that no entry left needs are gone too. Never refused.
     pub fn retain<F: FnMut(&P, &T) -> bool>(&mut self, test: F)
         requires { MayAskInOrder (AsksAt F.FnMut P.back) (TakesAt F.FnMut P.back) test (listing self.old.entries) }
+        ensures within { AreWithin P.R.bit_width self.old.entries }
         ensures kept { AsksInOrder (AsksAt F.FnMut P.back) test (listing self.old.entries) (listing self.new.entries) }
         ensures nodes { self.new.nodes ≡ needed self.new.entries }
         ensures limit { self.new.room.limit ≡ self.old.room.limit }
