@@ -11,6 +11,8 @@ mod counted_tests;
 mod example;
 pub mod map;
 #[cfg(test)]
+mod mixed_tests;
+#[cfg(test)]
 mod refused_removal_tests;
 #[cfg(test)]
 mod refusing;

@@ -1,0 +1,297 @@
+//! Mixed calls, each answer compared with one worked out from a plain sorted list.
+ghost use Rattle.std.specs.Prelude.{◌≤◌};
+
+use crate::{Prefix, PrefixMap};
+use std::alloc::{AllocError, Allocator, Global};
+use std::test::Fail;
+
+/// How many calls are made.
+const CALLS: u64 = 20_000;
+
+/// A number and a length.
+type Key = (u8, u8);
+
+/// A key without host bits, and its value.
+type Entry = (Key, u64);
+
+type Map = PrefixMap<Key, u64, Global>;
+
+/// The draw after this one.
+fn drawn(x: u64) -> u64 {
+    x.wrapping_mul(1_103_515_245).wrapping_add(12_345) % 0x8000_0000
+}
+
+/// A length of at most eight bits.
+fn length_of(draw: u64) -> u8
+    ensures { result ≤ 8 }
+{
+    (draw % 9) as u8
+}
+
+/// The key of as many bits of this number, without host bits.
+fn cleared(number: u8, len: u8) -> Key {
+    let host_bits = 0xff_u8.checked_shr(u32::from(len)).unwrap_or(0);
+    (number & !host_bits, len)
+}
+
+/// Where a key without host bits stands in listing order: a string comes before its extensions, and 0 before 1.
+fn rank(key: Key) -> u16 {
+    u16::from(key.0) * 256 + u16::from(key.1)
+}
+
+/// Whether an entry of this key contains what is asked for.
+fn contains(key: Key, asked: Key) -> bool {
+    key.1 <= asked.1 && key == cleared(asked.0, key.1)
+}
+
+fn exact(list: &[Entry], asked: Key) -> Option<u64> {
+    for entry in list {
+        if entry.0 == cleared(asked.0, asked.1) {
+            return Some(entry.1);
+        }
+    }
+    None
+}
+
+/// The first entry that contains the key: in listing order, the shortest.
+fn shortest(list: &[Entry], asked: Key) -> Option<Entry> {
+    for entry in list {
+        if contains(entry.0, asked) {
+            return Some(*entry);
+        }
+    }
+    None
+}
+
+/// The last entry that contains the key: in listing order, the longest.
+fn longest(list: &[Entry], asked: Key) -> Option<Entry> {
+    let mut last = None;
+    for entry in list {
+        if contains(entry.0, asked) {
+            last = Some(*entry);
+        }
+    }
+    last
+}
+
+/// The list without the entry of this key, in the same order.
+fn without(alloc: Global, list: &[Entry], key: Key) -> Result<Vec<Entry>, AllocError> {
+    let mut left = Vec::new(alloc);
+    for entry in list {
+        if entry.0 != key {
+            left.push(*entry)?;
+        }
+    }
+    Ok(left)
+}
+
+/// The list with this entry before the first of a higher rank. No entry has its key.
+fn with(alloc: Global, list: &[Entry], added: Entry) -> Result<Vec<Entry>, AllocError> {
+    let mut all = Vec::new(alloc);
+    let mut is_in = false;
+    for entry in list {
+        if !is_in && rank(added.0) < rank(entry.0) {
+            all.push(added)?;
+            is_in = true;
+        }
+        all.push(*entry)?;
+    }
+    if !is_in {
+        all.push(added)?;
+    }
+    Ok(all)
+}
+
+/// The entries of at least so many bits.
+fn of_at_least(alloc: Global, list: &[Entry], len: u8) -> Result<Vec<Entry>, AllocError> {
+    let mut left = Vec::new(alloc);
+    for entry in list {
+        if len <= entry.0.1 {
+            left.push(*entry)?;
+        }
+    }
+    Ok(left)
+}
+
+/// An entry with its value copied.
+fn owned(lent: (Key, &u64)) -> Entry {
+    (lent.0, *lent.1)
+}
+
+/// Whether both walks over all give the list.
+fn lists(map: &Map, list: &[Entry]) -> bool {
+    let mut entries = map.iter();
+    let mut keys = map.keys();
+    for entry in list {
+        if entries.next().map(owned) != Some(*entry) || keys.next() != Some(entry.0) {
+            return false;
+        }
+    }
+    entries.next().is_none() && keys.next().is_none()
+}
+
+/// The entries that contain the key: in listing order, the shortest first.
+fn containing(alloc: Global, list: &[Entry], asked: Key) -> Result<Vec<Entry>, AllocError> {
+    let mut found = Vec::new(alloc);
+    for entry in list {
+        if contains(entry.0, asked) {
+            found.push(*entry)?;
+        }
+    }
+    Ok(found)
+}
+
+/// Whether the walk around a key gives these entries.
+fn covers(map: &Map, expected: &[Entry], asked: Key) -> bool
+    requires { asked.1 ≤ 8 }
+{
+    let mut entries = map.cover(&asked);
+    for entry in expected {
+        if entries.next().map(owned) != Some(*entry) {
+            return false;
+        }
+    }
+    entries.next().is_none()
+}
+
+/// Whether a lookup of an entry answers as the list does.
+fn finds(map: &Map, list: &[Entry], which: u64, asked: Key) -> bool
+    requires { asked.1 ≤ 8 }
+{
+    match which {
+        0 => map.get(&asked).copied() == exact(list, asked),
+        1 => map.get_lpm(&asked).map(owned) == longest(list, asked),
+        _ => map.get_spm(&asked).map(owned) == shortest(list, asked),
+    }
+}
+
+/// Whether a question for a number, a list or a yes is answered as the list does.
+fn tells(
+    alloc: Global,
+    map: &Map,
+    list: &[Entry],
+    which: u64,
+    asked: Key,
+) -> Result<bool, AllocError>
+    requires { asked.1 ≤ 8 }
+{
+    match which {
+        5 => Ok(map.len() == list.len()),
+        6 => Ok(1 <= map.node_count()),
+        7 => Ok(lists(map, list)),
+        8 => {
+            let expected = containing(alloc, list, asked)?;
+            Ok(covers(map, &expected, asked))
+        }
+        9 => Ok(map.contains_key(&asked) == exact(list, asked).is_some()),
+        _ => Ok(map.is_covered(&asked) == shortest(list, asked).is_some()),
+    }
+}
+
+/// Keeps the entries of at least so many bits in the map.
+fn keep_long<P: Prefix, A: Allocator>(map: &mut PrefixMap<P, u64, A>, len: u8) {
+    map.retain(|prefix, _| len <= prefix.prefix_len());
+}
+
+/// Whether a removal answers as the list does. The entry is taken out of both.
+fn removes(
+    alloc: Global,
+    map: &mut Map,
+    list: &mut Vec<Entry>,
+    keep_tree: bool,
+    asked: Key,
+) -> Result<bool, Fail>
+    requires { asked.1 ≤ 8 }
+{
+    let expected = exact(list, asked);
+    *list = without(alloc, list, cleared(asked.0, asked.1))?;
+    let answer = if keep_tree {
+        map.remove_keep_tree(&asked)
+    } else {
+        map.remove(&asked)
+    };
+    Ok(answer == expected)
+}
+
+/// Whether an insertion answers as the list does. The entry is set in both.
+fn inserts(
+    alloc: Global,
+    map: &mut Map,
+    list: &mut Vec<Entry>,
+    asked: Key,
+    value: u64,
+) -> Result<bool, Fail>
+    requires { asked.1 ≤ 8 }
+{
+    let expected = exact(list, asked);
+    let key = cleared(asked.0, asked.1);
+    let others = without(alloc, list, key)?;
+    *list = with(alloc, &others, (key, value))?;
+    Ok(map.insert(asked, value)? == expected)
+}
+
+/// Whether a removal or a question answers as the list does.
+fn answers(
+    alloc: Global,
+    map: &mut Map,
+    list: &mut Vec<Entry>,
+    which: u64,
+    asked: Key,
+) -> Result<bool, Fail>
+    requires { asked.1 ≤ 8 }
+{
+    match which {
+        0..3 => Ok(finds(map, list, which, asked)),
+        3 => removes(alloc, map, list, false, asked),
+        4 => removes(alloc, map, list, true, asked),
+        _ => Ok(tells(alloc, map, list, which, asked)?),
+    }
+}
+
+/// Whether one call answers as the list does.
+fn agrees(
+    alloc: Global,
+    map: &mut Map,
+    list: &mut Vec<Entry>,
+    a: u64,
+    asked: Key,
+    index: u64,
+) -> Result<bool, Fail>
+    requires { asked.1 ≤ 8 }
+{
+    match a {
+        0..600 => inserts(alloc, map, list, asked, index),
+        600 => {
+            map.clear();
+            list.clear();
+            Ok(true)
+        }
+        601 => {
+            keep_long(map, asked.1);
+            *list = of_at_least(alloc, list, asked.1)?;
+            Ok(true)
+        }
+        _ => answers(alloc, map, list, a.wrapping_sub(602) % 11, asked),
+    }
+}
+
+#[test]
+fn mixed_calls_as_on_a_sorted_list(rt: HostRuntime) -> Result<(), Fail> {
+    let mut map = PrefixMap::new(rt.alloc())?;
+    let mut list = Vec::new(rt.alloc());
+    let mut x = 1;
+    for index in 0..CALLS {
+        x = drawn(x);
+        let a = x / 65_536 % 1024;
+        x = drawn(x);
+        let number = (x / 65_536 % 256) as u8;
+        x = drawn(x);
+        let asked = (number, length_of(x / 65_536));
+        assert!(rt;
+            agrees(rt.alloc(), &mut map, &mut list, a, asked, index)?,
+            "at {index}"
+        );
+    }
+    assert!(rt; lists(&map, &list));
+    Ok(())
+}
