@@ -1,11 +1,12 @@
 //! Maps from prefixes to values, looked up exactly and by longest match.
 //!
 //! The path of a prefix, its first `prefix_len` bits, is its key: two prefixes with the same path are one key, whatever their
-//! host bits. Contracts see a map as its entries, a finite map from paths to values, its nodes, and its room, which is its
-//! limit and the lengths of its two arrays.
+//! host bits. Contracts see a map as its entries, a finite map from paths to values, its nodes, its room, which is its limit
+//! and the lengths of its two arrays, and its layout: how the arrays are cut into blocks.
 ghost use Rattle.std.specs.Prelude.{◌≡◌, ℕ, ◌+◌, ◌-◌, ◌^◌, ◌≤◌, ◌↔◌, IfOk, OnOk, IfErr, OnErr, IsOk, IsTrue};
 ghost use Rattle.std.specs.FinMap.{get, contains_key, len};
 ghost use Rattle.prefix_trie_bits.specs.declared.prefix.Refusal.TheVariants.{Memory, IndexRange};
+ghost use Rattle.prefix_trie_bits.specs.Model.Blocks.{no_layout};
 ghost use Rattle.prefix_trie_bits.specs.Model.Entries.{no_entries, with_entry};
 ghost use Rattle.prefix_trie_bits.specs.Model.Nodes.{root_alone, with_needed};
 ghost use Rattle.prefix_trie_bits.specs.Model.Room.{MayPassLimit};
@@ -54,7 +55,7 @@ pub struct PrefixMap<P: Prefix, T: Drop, A: Allocator> {
     marker: PhantomData<P>,
 }
 
-// Contracts see the table's entries, nodes and room. No key is longer than those of P, and the nodes are such as keys need.
+// Contracts see the table's entries, nodes, room and layout. No key is longer than those of P, and the nodes are such as keys need.
 impl<P: Prefix, T: Drop, A: Allocator> Model for PrefixMap<P, T, A> {
     ghost use Rattle.prefix_trie_table.specs.Shape.{Contents, contents_code};
     ghost use Rattle.prefix_trie_bits.specs.Laws.Steps.{IsMap};
@@ -78,6 +79,7 @@ impl<P: Prefix, T: Drop, A: Allocator + Clone> PrefixMap<P, T, A> {
         ensures entries { IfOk result (λ map. map.entries ≡ no_entries) }
         ensures nodes { IfOk result (λ map. map.nodes ≡ root_alone) }
         ensures room { IfOk result (λ map. map.room ≡ record { limit = 2 ^ 32 - 1; node_slots = 1; cell_slots = 0 }) }
+        ensures layout { IfOk result (λ map. map.layout ≡ no_layout) }
         ensures only_memory { IfErr result (λ refusal. refusal ≡ Memory) }
     {
         Self::with_slot_limit(alloc, u32::MAX)
@@ -117,8 +119,9 @@ impl<P: Prefix, T: Drop, A: Allocator> PrefixMap<P, T, A> {
         ensures returned { IfErr result (λ refused. refused.value ≡ value) }
         ensures range { IfErr result (λ refused. refused.cause ≡ IndexRange → MayPassLimit self.old.room) }
 
-        // A stored key needs no room, and is never refused.
+        // A stored key needs no room, and is never refused. The blocks stay as they are.
         ensures stored { IsTrue (contains_key self.old.entries (P.path prefix)) → IsOk result × (self.new.room ≡ self.old.room) }
+        ensures layout { IsTrue (contains_key self.old.entries (P.path prefix)) → self.new.layout ≡ self.old.layout }
         ensures limit { self.new.room.limit ≡ self.old.room.limit }
         ensures node_slots { (self.old.room.node_slots ≤ self.new.room.node_slots) × (self.new.room.node_slots ≤ self.old.room.node_slots + 56) }
         ensures cell_slots { (self.old.room.cell_slots ≤ self.new.room.cell_slots) × (self.new.room.cell_slots ≤ self.old.room.cell_slots + 31) }

@@ -20,11 +20,13 @@ use Rattle.prefix_trie_table.specs.Store.{Store}
 use Rattle.prefix_trie_table.specs.Forest.{Holds, IsTable, CellsHold, with_node, with_value, has_value}
 use Rattle.prefix_trie_table.specs.Matching.{IsHeld, NoneHeld, LongestHeld, SeatAt, match_seat, cell_slot}
 use Rattle.prefix_trie_table.specs.Slots.{with_slot, with_cell, HasValue, IsSeat, SeatOf}
+use Rattle.prefix_trie_table.specs.Layouts.{Sized, Sized-prop}
 use Rattle.prefix_trie_table.specs.Shape.{Contents, with_value_at, with_stored_at, with_match_at, with_longest_at, IsShapeOf, Shaped, same_shape}
 use Rattle.prefix_trie_table.specs.Tables.{IsTableOf}
 use Rattle.prefix_trie_table.proofs.Keys.{same_key}
 use Rattle.prefix_trie_table.proofs.Adding.{with_same}
 use Rattle.prefix_trie_table.proofs.Matched.{cell_some, longest_at, longest_there, longest_none}
+use Rattle.prefix_trie_table.proofs.Sizing.{layout_of}
 use Rattle.prefix_trie_table.proofs.Shapes.{shape_of, shape_nodes, shape_entries}
 use Rattle.prefix_trie_table.proofs.Trees.{is_none-None}
 use Rattle.prefix_trie_table.proofs.Values.{value_stands, value_replaced}
@@ -58,8 +60,13 @@ abbrev pub state_with : {T : Type 0} → State T → List Bool → T → State T
 state_with s q x = record s { entries = with_entry s.entries q x }
 
 -- what contracts see of a table in these arrays
-abbrev pub seen_of : {T : Type 0} → Store Node → Store (Option T) → State T → Contents T
-seen_of v w s = record { entries = s.entries; nodes = s.nodes; room = record { limit = v.limit; node_slots = length v.slots; cell_slots = length w.slots } }
+abbrev pub seen_of : {T : Type 0} (v : Store Node) → Store (Option T) → State T → Sized v.slots → Contents T
+seen_of v w s z = record {
+  entries = s.entries;
+  nodes = s.nodes;
+  room = record { limit = v.limit; node_slots = length v.slots; cell_slots = length w.slots };
+  layout = layout_of v.slots v.tiers w.tiers z;
+}
 
 -- a value lent out of a table
 module _ {T : Type 0} (v : Store Node) (w : Store (Option T)) (count : ℕ) (s : Shaped v.slots w.slots) (is : IsTableOf v w count s.0) (q : List Bool) where
@@ -119,12 +126,12 @@ module _ {T : Type 0} (v : Store Node) (w : Store (Option T)) (count : ℕ) (s :
   can_lend (Some seat) at = seat_has v w table q seat at
 
   -- where there is a seat, a value is stored
-  pub stored_written : (o : Option Seat) → IfSome o (λ seat. IsSeat table.reading (path_of q) (bit_of q) seat) → (seat : Seat) (x : T) → o ≡ Some seat →
-      with_value_at (seen_of v w s.0) q x ≡ with_stored_at (seen_of v w s.0) q x
-  stored_written None at seat x e = absurd (false≢true (ap is_some e))
-  stored_written (Some there) at seat x e =
+  pub stored_written : (z : Sized v.slots) (o : Option Seat) → IfSome o (λ seat. IsSeat table.reading (path_of q) (bit_of q) seat) → (seat : Seat) (x : T) → o ≡ Some seat →
+      with_value_at (seen_of v w s.0 z) q x ≡ with_stored_at (seen_of v w s.0 z) q x
+  stored_written z None at seat x e = absurd (false≢true (ap is_some e))
+  stored_written z (Some there) at seat x e =
       let stored : contains_key s.0.entries q ≡ true = ap is_some stored_is ∙ value_there v w table q there at in
-      ap (λ b. if b then with_value_at (seen_of v w s.0) q x else seen_of v w s.0) (sym stored)
+      ap (λ b. if b then with_value_at (seen_of v w s.0 z) q x else seen_of v w s.0 z) (sym stored)
 
   -- where the seat is that of q or missing, it is that of q
   pub seat_of : (o : Option Seat) → SeatOf table.reading q o → IfSome o (λ seat. IsSeat table.reading (path_of q) (bit_of q) seat)
@@ -142,30 +149,31 @@ module _ {T : Type 0} (v : Store Node) (w : Store (Option T)) (count : ℕ) (s :
   pub table_kept : (u : Shaped v.slots w.slots) → IsTableOf v w count u.0
   table_kept u = subst (λ (y : State T). IsTableOf v w count y) (same_shape v.slots w.slots s.0 u.0 s.1 u.1) is
 
-  written_seen : (o : Option Seat) → IfSome o (λ seat. IsSeat table.reading (path_of q) (bit_of q) seat) → (seat : Seat) (x : T) → o ≡ Some seat → (t : Shaped v.slots (with_cell w o x).slots) →
-      seen_of v (with_cell w o x) t.0 ≡ with_value_at (seen_of v w s.0) q x
-  written_seen None at seat x e t = absurd (false≢true (ap is_some e))
-  written_seen (Some there) at seat x e t =
+  written_seen : (z : Sized v.slots) (o : Option Seat) → IfSome o (λ seat. IsSeat table.reading (path_of q) (bit_of q) seat) → (seat : Seat) (x : T) → o ≡ Some seat → (t : Shaped v.slots (with_cell w o x).slots) (y : Sized v.slots) →
+      seen_of v (with_cell w o x) t.0 y ≡ with_value_at (seen_of v w s.0 z) q x
+  written_seen z None at seat x e t y = absurd (false≢true (ap is_some e))
+  written_seen z (Some there) at seat x e t y =
       let left = left_only (Some there) at x t in
       λ i. record {
         entries = (left i).entries;
         nodes = (left i).nodes;
         room = record { limit = v.limit; node_slots = length v.slots; cell_slots = length-set w.slots (there.start + there.place) (Some x) i };
+        layout = layout_of v.slots v.tiers w.tiers (Sized-prop v.slots y z i);
       }
 
   -- where a value is lent only at a seat, the table ends with another value at q, or as it is
-  pub lender_left : (o : Option Seat) → IfSome o (λ seat. IsSeat table.reading (path_of q) (bit_of q) seat) → (r : Option (MutBor T)) (G : T → Contents T) →
+  pub lender_left : (z : Sized v.slots) (o : Option Seat) → IfSome o (λ seat. IsSeat table.reading (path_of q) (bit_of q) seat) → (r : Option (MutBor T)) (G : T → Contents T) →
       MatchOption o (r ≡ None) (λ seat. option_copied_mut r ≡ get_or w.slots (seat.start + seat.place) None) →
-      ((seat : Seat) (x : T) → o ≡ Some seat → with_value_at (seen_of v w s.0) q x ≡ G x) →
-      (t : (x : T) → Shaped v.slots (with_cell w o x).slots) (u : Shaped v.slots w.slots) →
-      read_of (ghost_name_of r) (λ x. seen_of v (with_cell w o x) (t x).0) (seen_of v w u.0) ≡ read_of (ghost_name_of r) G (seen_of v w s.0)
-  lender_left None at r G e same t u =
-      let kept : seen_of v w u.0 ≡ seen_of v w s.0 = ap (seen_of v w) (same_shape v.slots w.slots u.0 s.0 u.1 s.1) in
-      subst (λ (y : Option (MutBor T)). read_of (ghost_name_of y) (λ x. seen_of v w (t x).0) (seen_of v w u.0) ≡ read_of (ghost_name_of y) G (seen_of v w s.0)) (sym e)
+      ((seat : Seat) (x : T) → o ≡ Some seat → with_value_at (seen_of v w s.0 z) q x ≡ G x) →
+      (t : (x : T) → Shaped v.slots (with_cell w o x).slots) (y : T → Sized v.slots) (u : Shaped v.slots w.slots) (k : Sized v.slots) →
+      read_of (ghost_name_of r) (λ x. seen_of v (with_cell w o x) (t x).0 (y x)) (seen_of v w u.0 k) ≡ read_of (ghost_name_of r) G (seen_of v w s.0 z)
+  lender_left z None at r G e same t y u k =
+      let kept : seen_of v w u.0 k ≡ seen_of v w s.0 z = λ i. seen_of v w (same_shape v.slots w.slots u.0 s.0 u.1 s.1 i) (Sized-prop v.slots k z i) in
+      subst (λ (a : Option (MutBor T)). read_of (ghost_name_of a) (λ x. seen_of v w (t x).0 (y x)) (seen_of v w u.0 k) ≡ read_of (ghost_name_of a) G (seen_of v w s.0 z)) (sym e)
       (λ i. inr (kept i))
-  lender_left (Some seat) at r G e same t u =
-      let kept : seen_of v w u.0 ≡ seen_of v w s.0 = ap (seen_of v w) (same_shape v.slots w.slots u.0 s.0 u.1 s.1) in
-      λ i. read_of (ghost_name_of r) (λ x. (written_seen (Some seat) at seat x refl (t x) ∙ same seat x refl) i) (kept i)
+  lender_left z (Some seat) at r G e same t y u k =
+      let kept : seen_of v w u.0 k ≡ seen_of v w s.0 z = λ i. seen_of v w (same_shape v.slots w.slots u.0 s.0 u.1 s.1 i) (Sized-prop v.slots k z i) in
+      λ i. read_of (ghost_name_of r) (λ x. (written_seen z (Some seat) at seat x refl (t x) (y x) ∙ same seat x refl) i) (kept i)
 
 -- the value of the longest match lent
 module _ {T : Type 0} (v : Store Node) (w : Store (Option T)) (t : IsTable v w) (s : State T) (is : IsShapeOf v.slots w.slots s) (b : List Bool) (len : ℕ) (long : len ≤ length b)
@@ -203,12 +211,12 @@ module _ {T : Type 0} (v : Store Node) (w : Store (Option T)) (t : IsTable v w) 
   longest_seat (Some m) o at held = seat_there m held.0 o at.0 at.1
 
   -- a value written there is written at the longest match
-  pub longest_written : (longest : Option Match) (o : Option Seat) → SeatAt longest o n → LongestHeld t.reading (take len b) 0 (len + 1) longest →
-      (seat : Seat) (x : T) → o ≡ Some seat → with_value_at (seen_of v w s) (take n (take len b)) x ≡ with_longest_at (seen_of v w s) (take len b) x
-  longest_written None o at held seat x e = absurd (false≢true (ap is_some (sym at ∙ e)))
-  longest_written (Some m) o at held seat x e =
+  pub longest_written : (z : Sized v.slots) (longest : Option Match) (o : Option Seat) → SeatAt longest o n → LongestHeld t.reading (take len b) 0 (len + 1) longest →
+      (seat : Seat) (x : T) → o ≡ Some seat → with_value_at (seen_of v w s z) (take n (take len b)) x ≡ with_longest_at (seen_of v w s z) (take len b) x
+  longest_written z None o at held seat x e = absurd (false≢true (ap is_some (sym at ∙ e)))
+  longest_written z (Some m) o at held seat x e =
       let there = longest_there v w t s is b len long m held.0 held.1 in
-      ap (λ k. with_value_at (seen_of v w s) (take k asked) x) at.1 ∙ sym (ap (λ y. with_match_at (seen_of v w s) y x) there.1)
+      ap (λ k. with_value_at (seen_of v w s z) (take k asked) x) at.1 ∙ sym (ap (λ y. with_match_at (seen_of v w s z) y x) there.1)
 
   -- the value lent is that of the longest match
   pub longest_lent : (longest : Option Match) (o : Option Seat) → SeatAt longest o n → LongestHeld t.reading (take len b) 0 (len + 1) longest →

@@ -45,6 +45,7 @@ pub mod SlotSums
 pub mod PathLists
 pub mod NodeCounts
 pub mod PathStrings
+pub mod Sizing
 pub mod Asked
 pub mod AskedBelow
 pub mod Retained

@@ -108,7 +108,7 @@ from-one false t e h = absurd (omega (arith, e, h))
 
 module _ (sizes : List ℕ) (nodes : List ℕ → Option Node) (paths : List (List ℕ)) (v : Store Node) (hold : NodesHold sizes nodes paths v) where
   -- a path to a node has steps of five bits
-  steps_small : (q : List ℕ) → is_some (nodes q) ≡ true → All IsStep q
+  pub steps_small : (q : List ℕ) → is_some (nodes q) ≡ true → All IsStep q
   steps_small = snoc_ind (λ q. is_some (nodes q) ≡ true → All IsStep q) (λ h. All-nil IsStep)
       (λ q c ih h. let has : has_child (nodes q) c ≡ true = sym (hold.linked q c) ∙ h in All-push IsStep q c (ih (above (nodes q) c has)) (within (nodes q) c has))
     where
@@ -120,29 +120,34 @@ module _ (sizes : List ℕ) (nodes : List ℕ → Option Node) (paths : List (Li
       within None c h = absurd (false≢true h)
       within (Some n) c h = has_bit-below n.child_bitmap c h
 
-  listed_some : (p : List ℕ) → 0 < times p paths → is_some (nodes p) ≡ true
+  -- a listed path leads to a node
+  pub listed_some : (p : List ℕ) → 0 < times p paths → is_some (nodes p) ≡ true
   listed_some p h = from-one (is_some (nodes p)) (times p paths) (hold.listed p) h
+
+  -- the strings of the listed paths are those at which a node stands
+  pub listed_at : (s : List Bool) → list_any (same_string s) (map string_at paths) ≡ (is_node_depth s && is_some (nodes (path_of s)))
+  listed_at s = sym (same_bool _ _ (into s) (out s))
+    where
+      into : (s : List Bool) → (is_node_depth s && is_some (nodes (path_of s))) ≡ true → list_any (same_string s) (map string_at paths) ≡ true
+      into s h =
+          let some : is_some (nodes (path_of s)) ≡ true = and-second (is_node_depth s) (is_some (nodes (path_of s))) h in
+          let there : times (path_of s) paths ≡ 1 = hold.listed (path_of s) ∙ ap one_if some in
+          let same : string_at (path_of s) ≡ s =
+          same_way (string_at (path_of s)) s (string_depth (path_of s)) (eqb-true (length s % 5) 0 (and-first (is_node_depth s)
+          (is_some (nodes (path_of s))) h)) (string_path (path_of s) (steps_small (path_of s) some)) in
+          subst (λ t. list_any (same_string t) (map string_at paths) ≡ true) same (listed-string (path_of s) paths (omega arith))
+
+      out : (s : List Bool) → list_any (same_string s) (map string_at paths) ≡ true → (is_node_depth s && is_some (nodes (path_of s))) ≡ true
+      out s h =
+          let r = string-listed s paths h in
+          let some : is_some (nodes r.0) ≡ true = listed_some r.0 r.1 in
+          let path : path_of s ≡ r.0 = ap path_of r.2 ∙ string_path r.0 (steps_small r.0 some) in
+          and-join (is_node_depth s) (is_some (nodes (path_of s)))
+          (eq-eqb (length s % 5) 0 (ap (λ t. length t % 5) r.2 ∙ string_depth r.0)) (ap (λ p. is_some (nodes p)) path ∙ some)
 
   module _ (n : Nodes) (are : (s : List Bool) → has_node n s ≡ (is_node_depth s && is_some (nodes (path_of s)))) where
     same_nodes : n ≡ nodes_at paths
-    same_nodes = same_members n (nodes_at paths) (λ s. are s ∙ same_bool _ _ (into s) (out s) ∙ sym (has-nodes_at paths s))
-      where
-        into : (s : List Bool) → (is_node_depth s && is_some (nodes (path_of s))) ≡ true → list_any (same_string s) (map string_at paths) ≡ true
-        into s h =
-            let some : is_some (nodes (path_of s)) ≡ true = and-second (is_node_depth s) (is_some (nodes (path_of s))) h in
-            let there : times (path_of s) paths ≡ 1 = hold.listed (path_of s) ∙ ap one_if some in
-            let same : string_at (path_of s) ≡ s =
-            same_way (string_at (path_of s)) s (string_depth (path_of s)) (eqb-true (length s % 5) 0 (and-first (is_node_depth s)
-            (is_some (nodes (path_of s))) h)) (string_path (path_of s) (steps_small (path_of s) some)) in
-            subst (λ t. list_any (same_string t) (map string_at paths) ≡ true) same (listed-string (path_of s) paths (omega arith))
-
-        out : (s : List Bool) → list_any (same_string s) (map string_at paths) ≡ true → (is_node_depth s && is_some (nodes (path_of s))) ≡ true
-        out s h =
-            let r = string-listed s paths h in
-            let some : is_some (nodes r.0) ≡ true = listed_some r.0 r.1 in
-            let path : path_of s ≡ r.0 = ap path_of r.2 ∙ string_path r.0 (steps_small r.0 some) in
-            and-join (is_node_depth s) (is_some (nodes (path_of s)))
-            (eq-eqb (length s % 5) 0 (ap (λ t. length t % 5) r.2 ∙ string_depth r.0)) (ap (λ p. is_some (nodes p)) path ∙ some)
+    same_nodes = same_members n (nodes_at paths) (λ s. are s ∙ sym (listed_at s) ∙ sym (has-nodes_at paths s))
 
     -- the nodes are as many as their paths
     pub paths_counted : len n ≡ length paths

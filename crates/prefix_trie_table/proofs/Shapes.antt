@@ -109,7 +109,8 @@ root_reading q = cond (same_path q []) (Some blank_node) None
 root_below : (q : List ℕ) (c : ℕ) → root_reading (q ++ c ∷ []) ≡ None
 root_below q c = ap (λ b. cond b (Some blank_node) None) (same_path-not (q ++ c ∷ []) [] (snoc_not_nil q c))
 
-root_here : root_reading [] ≡ Some blank_node
+-- there the root is blank
+pub root_here : root_reading [] ≡ Some blank_node
 root_here = ap (λ b. cond b (Some blank_node) None) (same_path-itself [])
 
 -- the root alone has no values
@@ -190,12 +191,13 @@ some_limit limit h = elim (cases_lt 0 limit) as (λ _. 0 < limit) [
 module _ {T : Type 0} (v : Store Node) (w : Store (Option T)) (limit : ℕ)
     (v_is : v ≡ record { slots = blank_node ∷ []; first = 1; tiers = map no_blocks node_sizes; limit = limit }) (v_sound : Sound blank_node [] v)
     (w_is : w ≡ record { slots = []; first = 0; tiers = map no_blocks cell_sizes; limit = limit }) (w_sound : Sound None [] w) where
-  new_holds : Holds root_reading no_values ([] ∷ []) v w
+  -- two new arrays hold the root alone
+  pub new_holds : Holds root_reading no_values ([] ∷ []) v w
   new_holds =
       root_holds v w (ap (λ (x : Store Node). x.slots) v_is) (ap (λ (x : Store Node). x.first) v_is) (ap (λ (x : Store Node). x.tiers) v_is) v_sound
       (ap (λ (x : Store (Option T)). x.tiers) w_is) w_sound
 
-  -- two new arrays have the shape of the root alone
+  -- they have the shape of the root alone
   pub new_shape : IsShapeOf v.slots w.slots root_shape
   new_shape = shaped_root v w new_holds
 

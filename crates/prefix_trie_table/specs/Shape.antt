@@ -10,18 +10,21 @@ use Rattle.prefix_trie_bits.specs.Model.Matches.{longest_match}
 use Rattle.prefix_trie_bits.specs.Model.Nodes.{Nodes, has_node, is_node_depth}
 use Rattle.prefix_trie_bits.specs.Model.Step.{State}
 use Rattle.prefix_trie_bits.specs.Model.Room.{Room}
+use Rattle.prefix_trie_bits.specs.Model.Blocks.{Layout}
 use Rattle.prefix_trie_bits.proofs.Model.Members.{same_entries, same_members}
 use Rattle.prefix_trie_table.specs.declared.allocator.node.Node.{Node}
 use Rattle.prefix_trie_table.specs.Digits.{path_of, bit_of}
 use Rattle.prefix_trie_table.specs.Forest.{read, value_of}
+use Rattle.prefix_trie_table.specs.Layouts.{coded_layout}
 
--- what contracts see of a table: its entries, its nodes and its room
+-- what contracts see of a table: its entries, its nodes, its room and its layout
 pub record Contents (T : Type 0) : Type 0 where
   pub entries : Entries T
   pub nodes : Nodes
   pub room : Room
+  pub layout : Layout
 
--- the contents with x at a bit string, the nodes and the room as they are
+-- the contents with x at a bit string, and else as they are
 abbrev pub with_value_at : {T : Type 0} → Contents T → List Bool → T → Contents T
 with_value_at s q x = record s { entries = with_entry s.entries q x }
 
@@ -41,10 +44,15 @@ with_longest_at s q x = with_match_at s (longest_match s.entries q) x
 -- contents are given by their parts
 abbrev pub contents_code : {T : Type 0} → Coded T → Coded (Contents T)
 contents_code {T} c =
-    code_by (Entries T × (Nodes × (ℕ × (ℕ × ℕ))))
-    (coded× (code (coded_list coded_bool) c) (coded× (code (coded_list coded_bool) coded_unit) (coded× coded_ℕ (coded× coded_ℕ coded_ℕ))))
-    (λ s. (s.entries, (s.nodes, (s.room.limit, (s.room.node_slots, s.room.cell_slots)))))
-    (λ p. record { entries = p.0; nodes = p.1.0; room = record { limit = p.1.1.0; node_slots = p.1.1.1.0; cell_slots = p.1.1.1.1 } }) (λ _. refl)
+    code_by (Entries T × (Nodes × ((ℕ × (ℕ × ℕ)) × Layout)))
+    (coded× (code (coded_list coded_bool) c) (coded× (code (coded_list coded_bool) coded_unit) (coded× (coded× coded_ℕ (coded× coded_ℕ coded_ℕ)) coded_layout)))
+    (λ s. (s.entries, (s.nodes, ((s.room.limit, (s.room.node_slots, s.room.cell_slots)), s.layout))))
+    (λ p. record {
+      entries = p.0;
+      nodes = p.1.0;
+      room = record { limit = p.1.1.0.0; node_slots = p.1.1.0.1.0; cell_slots = p.1.1.0.1.1 };
+      layout = p.1.1.1;
+    }) (λ _. refl)
 
 module _ {T : Type 0} where
   -- the entries and the nodes are those of these arrays: each string is looked up at its own node

@@ -1,8 +1,9 @@
 //! The table: values by bit strings, in a trie of nodes of five levels.
 //!
 //! A bit string is handed in as a key and a length: the first `len` bits of the key. Contracts see a table as its entries,
-//! a finite map from bit strings to values, its nodes, a finite set of bit strings, and its room. They see no slot, no
-//! block and no bitmap.
+//! a finite map from bit strings to values, its nodes, a finite set of bit strings, its room, and its layout: the size of each
+//! node's two blocks, by its bit string, and how many blocks of each size are free. They see no slot and no bitmap, nor
+//! where a block stands.
 mod counting;
 mod cover;
 mod insertion;
@@ -28,6 +29,8 @@ ghost use Rattle.prefix_trie_bits.specs.Model.Selections.{listing};
 ghost use Rattle.prefix_trie_bits.specs.Model.Visits.{visits, visits_to_match};
 ghost use Rattle.prefix_trie_bits.specs.Model.Room.{MayPassLimit};
 ghost use Rattle.prefix_trie_bits.specs.declared.prefix.Refusal.TheVariants.{IndexRange};
+ghost use Rattle.prefix_trie_bits.specs.Model.Blocks.{no_layout};
+ghost use Rattle.prefix_trie_table.specs.Layouts.{Sized, Sized-prop};
 ghost use Rattle.prefix_trie_table.specs.Shape.{Shaped, Shaped-prop};
 
 use crate::allocator::blocks::{Blocks, cells};
@@ -51,9 +54,10 @@ pub struct Table<T: Drop, A: Allocator, V: Tick> {
     cells: Blocks<Option<T>, A>,
     count: usize,
     ghost shape: { Shaped nodes.slots cells.slots } by { Shaped-prop T.code nodes.slots cells.slots },
+    ghost sizes: { Sized nodes.slots } by { Sized-prop nodes.slots },
 }
 
-// Clauses see the entries, the nodes and the room.
+// Clauses see the entries, the nodes, the room, and how the arrays are cut into blocks.
 impl<T: Drop, A: Allocator, V: Tick> Model for Table<T, A, V> {
     ghost use Rattle.prefix_trie_table.specs.Shape.{Contents, contents_code};
 
@@ -62,6 +66,7 @@ impl<T: Drop, A: Allocator, V: Tick> Model for Table<T, A, V> {
     ghost coded = { contents_code T.code };
 
     ghost use Rattle.std.specs.Prelude.{length};
+    ghost use Rattle.prefix_trie_table.specs.Layouts.{free_counts};
     ghost use Rattle.prefix_trie_table.specs.Tables.{IsTableOf};
 
     ghost view = { λ t. record {
@@ -71,6 +76,12 @@ impl<T: Drop, A: Allocator, V: Tick> Model for Table<T, A, V> {
         limit = t.nodes.limit;
         node_slots = length t.nodes.slots;
         cell_slots = length t.cells.slots;
+      };
+      layout = record {
+        child_blocks = t.sizes.0;
+        value_blocks = t.sizes.1.0;
+        free_child_blocks = free_counts t.nodes.tiers;
+        free_value_blocks = free_counts t.cells.tiers;
       };
     } };
 
@@ -85,6 +96,7 @@ impl<T: Drop, A: Allocator + Clone, V: Tick> Table<T, A, V> {
         ensures nodes { IfOk result (λ t. t.nodes ≡ root_alone) }
         ensures room { IfOk result
             (λ t. t.room ≡ record { limit = limit; node_slots = 1; cell_slots = 0 }) }
+        ensures layout { IfOk result (λ t. t.layout ≡ no_layout) }
         ensures range { IfErr result (λ cause. (cause ≡ IndexRange) ↔ (limit ≡ 0)) }
         ensures none { limit ≡ 0 → IsErr result }
     {
@@ -190,6 +202,8 @@ impl<T: Drop, A: Allocator, V: Tick> Table<T, A, V> {
         ensures returned { IfErr result (λ refused. refused.value ≡ value) }
         ensures stored { IsTrue (contains_key self.old.entries (take len (K.bits key)))
             → IsOk result × (self.new.room ≡ self.old.room) }
+        ensures layout { IsTrue (contains_key self.old.entries (take len (K.bits key)))
+            → self.new.layout ≡ self.old.layout }
         ensures range { IfErr result
             (λ refused. refused.cause ≡ IndexRange → MayPassLimit self.old.room) }
         ensures room { (self.new.room.limit ≡ self.old.room.limit)
@@ -295,6 +309,7 @@ impl<T: Drop, A: Allocator, V: Tick> Table<T, A, V> {
         ensures nodes { self.new.nodes ≡ root_alone }
         ensures room { self.new.room
             ≡ record { limit = self.old.room.limit; node_slots = 1; cell_slots = 0 } }
+        ensures layout { self.new.layout ≡ no_layout }
     {
         clear_entries(&mut self.nodes, &mut self.cells, &mut self.count);
     }

@@ -1,6 +1,6 @@
 -- How an array is cut into blocks. The sizes are those of the crate's code; the rest is this project's own.
 use Rattle.std.specs.Prelude.{◌≡◌, ℕ, ◌+◌, Bool, ◌==◌, ◌&&◌, List, [], ◌∷◌, ◌++◌, Option, length, filter, find, Contains, IsPermutation, nat_le, nat_lt}
-use Rattle.std.specs.FinMap.{FinMap, keys}
+use Rattle.std.specs.FinMap.{FinMap, empty, keys}
 use Rattle.prefix_trie_bits.specs.Bits.{begins}
 use Rattle.prefix_trie_bits.specs.Order.{listing_cmp}
 use Rattle.prefix_trie_bits.specs.Model.Entries.{Entries}
@@ -37,6 +37,23 @@ pub record AreBlocksOf (sizes : List ℕ) (first : ℕ) (live free : List Block)
 -- the size of each holder's value block, or of each parent's child block, by the string at which the node stands
 abbrev pub Sizes : Type 0
 Sizes = FinMap listing_cmp ℕ
+
+-- how the arrays of a map are cut into blocks: by the string of its node, the size of each child block and of each value block
+-- in use; and how many blocks of each size are free, sizes ascending
+pub record Layout : Type 0 where
+  pub child_blocks : Sizes
+  pub value_blocks : Sizes
+  pub free_child_blocks : List ℕ
+  pub free_value_blocks : List ℕ
+
+-- the layout of a map without blocks
+abbrev pub no_layout : Layout
+no_layout = record {
+  child_blocks = empty;
+  value_blocks = empty;
+  free_child_blocks = 0 ∷ 0 ∷ 0 ∷ 0 ∷ 0 ∷ 0 ∷ 0 ∷ [];
+  free_value_blocks = 0 ∷ 0 ∷ 0 ∷ 0 ∷ 0 ∷ 0 ∷ 0 ∷ [];
+}
 
 module _ {T : Type 0} where
   -- how many entries belong to the node p itself

@@ -1,6 +1,7 @@
 //! Taking entries out.
 ghost use Rattle.std.specs.Prelude.{◌≡◌, ◌+◌, ◌≤◌};
 ghost use Rattle.std.specs.FinMap.{get};
+ghost use Rattle.prefix_trie_bits.specs.Model.Blocks.{no_layout};
 ghost use Rattle.prefix_trie_bits.specs.Model.Entries.{no_entries, without_entry};
 ghost use Rattle.prefix_trie_bits.specs.Model.Nodes.{root_alone, nodes_without};
 ghost use Rattle.prefix_trie_bits.specs.Model.Step.{Step, Remove, RemoveKeepTree, Clear, Done, Value};
@@ -66,6 +67,7 @@ impl<P: Prefix, T: Drop, A: Allocator> PrefixMap<P, T, A> {
         ensures nodes { self.new.nodes ≡ root_alone }
         ensures room { self.new.room
             ≡ record { limit = self.old.room.limit; node_slots = 1; cell_slots = 0 } }
+        ensures layout { self.new.layout ≡ no_layout }
 
         // It is one step of the model.
         ensures step { Step P.path P.back P.R.bit_width (state self.old) Clear Done (state self.new) }

@@ -1,6 +1,7 @@
 //! The slots of the two arrays, and the limit that neither passes.
 ghost use Rattle.std.specs.Prelude.{◌≡◌, ◌≤◌, ◌↔◌, IfOk, IfErr, IsErr};
 ghost use Rattle.prefix_trie_bits.specs.declared.prefix.Refusal.TheVariants.{IndexRange};
+ghost use Rattle.prefix_trie_bits.specs.Model.Blocks.{no_layout};
 ghost use Rattle.prefix_trie_bits.specs.Model.Entries.{no_entries};
 ghost use Rattle.prefix_trie_bits.specs.Model.Nodes.{root_alone};
 
@@ -24,6 +25,7 @@ impl<P: Prefix, T: Drop, A: Allocator + Clone> PrefixMap<P, T, A> {
         ensures entries { IfOk result (λ map. map.entries ≡ no_entries) }
         ensures nodes { IfOk result (λ map. map.nodes ≡ root_alone) }
         ensures room { IfOk result (λ map. map.room ≡ record { limit = limit; node_slots = 1; cell_slots = 0 }) }
+        ensures layout { IfOk result (λ map. map.layout ≡ no_layout) }
         ensures range { IfErr result (λ cause. (cause ≡ IndexRange) ↔ (limit ≡ 0)) }
         ensures none { limit ≡ 0 → IsErr result }
     {

@@ -124,6 +124,7 @@ fn replace_value<T: Drop, A: Allocator, V: Tick>(
     requires node { node ≡ node_at nodes.now.slots (at.start + at.place) }
     requires there { is_set node.value_bitmap bit ≡ true }
     ensures room { SameRoom cells.old cells.new }
+    ensures tiers { cells.new.tiers ≡ cells.old.tiers }
     ensures before { (reading : List ℕ → Option Node) (paths : List (List ℕ))
         (values : List ℕ → ℕ → Option T) (p : List ℕ) (n : Node)
         → NodesHold node_sizes reading paths nodes.now
@@ -246,7 +247,8 @@ fn insert_value<K: Key, T: Drop, A: Allocator, V: Tick>(
     ensures returned { IfErr result (λ refused. refused.value ≡ value) }
     ensures stored { ForHeld nodes.old cells.old (λ reading paths values.
         is_some (own_value values (K.bits key) len) ≡ true
-        → IsOk result × SameRoom nodes.old nodes.new × SameRoom cells.old cells.new) }
+        → IsOk result × SameRoom cells.old cells.new × (nodes.new ≡ nodes.old)
+        × (cells.new.tiers ≡ cells.old.tiers)) }
 {
     let reached = descend(nodes, key, len, counter);
     let depth = 5 * reached.level;
@@ -288,7 +290,8 @@ pub fn insert_entry<K: Key, T: Drop, A: Allocator, V: Tick>(
     ensures returned { IfErr result (λ refused. refused.value ≡ value) }
     ensures stored { ForHeld nodes.old cells.old (λ reading paths values.
         is_some (own_value values (K.bits key) len) ≡ true
-        → IsOk result × SameRoom nodes.old nodes.new × SameRoom cells.old cells.new) }
+        → IsOk result × SameRoom cells.old cells.new × (nodes.new ≡ nodes.old)
+        × (cells.new.tiers ≡ cells.old.tiers)) }
 {
     let before = insert_value(nodes, cells, key, len, value, counter)?;
     if before.is_none() {

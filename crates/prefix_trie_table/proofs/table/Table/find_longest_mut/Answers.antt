@@ -30,8 +30,8 @@ invariant_of-self-inside-lent g c =
     let n = c.seat_of-seat.new.found in
     let at = longest_seat i.nodes i.cells t i.shape.0 i.shape.1 b c.args.len long n c.longest_on_way-longest.result c.seat_of-seat.result c.seat_of-seat.ensures (c.longest_on_way-longest.ensures.found t.reading t.paths t.holds.hold) in
     λ r. (
-      λ x. (left_shape i.nodes i.cells i.count i.shape c.self.invariant (take n (take c.args.len b)) c.seat_of-seat.result at x, tt),
-      (i.shape, tt),
+      λ x. (left_shape i.nodes i.cells i.count i.shape c.self.invariant (take n (take c.args.len b)) c.seat_of-seat.result at x, (i.sizes, tt)),
+      (i.shape, (i.sizes, tt)),
     )
 
 pub invariant_of-self-lent : goal.invariant_of-self-lent
@@ -57,9 +57,10 @@ returns g c =
     let held = c.longest_on_way-longest.ensures.found t.reading t.paths t.holds.hold in
     let at = longest_seat i.nodes i.cells t i.shape.0 i.shape.1 b c.args.len long n c.longest_on_way-longest.result c.seat_of-seat.result c.seat_of-seat.ensures held in
     rw (← c.self.view_is) (
-      lender_left i.nodes i.cells i.count i.shape c.self.invariant (take n (take c.args.len b)) c.seat_of-seat.result at c.lend_if.result _ c.lend_if.ensures.value
-          (longest_written i.nodes i.cells t i.shape.0 i.shape.1 b c.args.len long n c.longest_on_way-longest.result c.seat_of-seat.result c.seat_of-seat.ensures held)
-          (λ x. ((c.self-1.given c.lend_if.result).0 x).0) (c.self-1.given c.lend_if.result).1.0,
+      lender_left i.nodes i.cells i.count i.shape c.self.invariant (take n (take c.args.len b)) i.sizes c.seat_of-seat.result at c.lend_if.result _ c.lend_if.ensures.value
+          (longest_written i.nodes i.cells t i.shape.0 i.shape.1 b c.args.len long n i.sizes c.longest_on_way-longest.result c.seat_of-seat.result c.seat_of-seat.ensures held)
+          (λ x. ((c.self-1.given c.lend_if.result).0 x).0) (λ x. ((c.self-1.given c.lend_if.result).0 x).1.0)
+          (c.self-1.given c.lend_if.result).1.0 (c.self-1.given c.lend_if.result).1.1.0,
       record {
         writes_back = tt;
         value = longest_lent i.nodes i.cells t i.shape.0 i.shape.1 b c.args.len long n c.longest_on_way-longest.result c.seat_of-seat.result c.seat_of-seat.ensures held c.lend_if.result c.lend_if.ensures.value;

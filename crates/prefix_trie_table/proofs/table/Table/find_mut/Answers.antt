@@ -15,8 +15,8 @@ invariant_of-self-inside-lent g c =
     let i = c.self.inside in
     let t = c.self.invariant.held.table in
     λ _. (
-      λ x. (left_shape i.nodes i.cells i.count i.shape c.self.invariant (take c.args.len (g.K.Key.bits c.args.key)) c.find_seat-seat.result (seat_of i.nodes i.cells i.count i.shape c.self.invariant (take c.args.len (g.K.Key.bits c.args.key)) c.find_seat-seat.result (c.find_seat-seat.ensures.seat t.reading t.paths t.holds.hold)) x, tt),
-      (i.shape, tt),
+      λ x. (left_shape i.nodes i.cells i.count i.shape c.self.invariant (take c.args.len (g.K.Key.bits c.args.key)) c.find_seat-seat.result (seat_of i.nodes i.cells i.count i.shape c.self.invariant (take c.args.len (g.K.Key.bits c.args.key)) c.find_seat-seat.result (c.find_seat-seat.ensures.seat t.reading t.paths t.holds.hold)) x, (i.sizes, tt)),
+      (i.shape, (i.sizes, tt)),
     )
 
 pub invariant_of-self-lent : goal.invariant_of-self-lent
@@ -36,8 +36,9 @@ returns g c =
     let at = c.find_seat-seat.ensures.seat t.reading t.paths t.holds.hold in
     let met = c.find_seat-seat.ensures.visits t.reading t.paths t.holds.hold in
     rw (← c.self.view_is) (
-      lender_left i.nodes i.cells i.count i.shape c.self.invariant q c.find_seat-seat.result (seat_of i.nodes i.cells i.count i.shape c.self.invariant q c.find_seat-seat.result at) c.lend_if.result _ c.lend_if.ensures.value (stored_written i.nodes i.cells i.count i.shape c.self.invariant q c.find_seat-seat.result (seat_of i.nodes i.cells i.count i.shape c.self.invariant q c.find_seat-seat.result at))
-          (λ x. ((c.self-1.given c.lend_if.result).0 x).0) (c.self-1.given c.lend_if.result).1.0,
+      lender_left i.nodes i.cells i.count i.shape c.self.invariant q i.sizes c.find_seat-seat.result (seat_of i.nodes i.cells i.count i.shape c.self.invariant q c.find_seat-seat.result at) c.lend_if.result _ c.lend_if.ensures.value (stored_written i.nodes i.cells i.count i.shape c.self.invariant q i.sizes c.find_seat-seat.result (seat_of i.nodes i.cells i.count i.shape c.self.invariant q c.find_seat-seat.result at))
+          (λ x. ((c.self-1.given c.lend_if.result).0 x).0) (λ x. ((c.self-1.given c.lend_if.result).0 x).1.0)
+          (c.self-1.given c.lend_if.result).1.0 (c.self-1.given c.lend_if.result).1.1.0,
       record {
         writes_back = tt;
         value = value_lent i.nodes i.cells i.count i.shape c.self.invariant q c.find_seat-seat.result at c.lend_if.result c.lend_if.ensures.value;

@@ -1,17 +1,26 @@
-use Rattle.std.proofs.Common.{◌≡◌, is_some, take, IfOk, OnOk, OnErr, sym, ap, ◌∙◌, subst}
-use Rattle.std.specs.FinMap.{get}
+use Rattle.std.proofs.Common.{◌≡◌, length, is_some, take, IsOk, IsTrue, IfOk, OnOk, OnErr, sym, ap, ◌∙◌, subst}
+use Rattle.std.specs.FinMap.{get, contains_key}
 use Rattle.prefix_trie_bits.specs.Model.Entries.{with_entry}
 use Rattle.prefix_trie_bits.specs.Model.Nodes.{with_needed}
 use Rattle.prefix_trie_table.specs.Shape.{Contents}
+use Rattle.prefix_trie_table.specs.declared.allocator.node.Node.{Node}
+use Rattle.prefix_trie_table.specs.Store.{Store, SameRoom}
+use Rattle.prefix_trie_table.proofs.Sizing.{table_sizes, same_layout}
 use Rattle.prefix_trie_table.proofs.Shapes.{shape_entries, left_shape, table_left, before_left, entries_left, nodes_left, same_left}
 use Rattle.prefix_trie_table.proofs.table.Table.insert.Goals as goal
 
 pub invariant_of-self-inside : goal.invariant_of-self-inside
 invariant_of-self-inside g c =
-    let q = take c.args.len (g.K.Key.bits c.args.key) in (
-      left_shape q c.args.value c.self.inside.nodes c.insert_entry.new.nodes c.self.inside.cells c.insert_entry.new.cells c.self.inside.count
-          c.insert_entry.new.entries c.self.inside.shape c.self.invariant c.insert_entry.result c.insert_entry.ensures.inserted,
-      tt,
+    let q = take c.args.len (g.K.Key.bits c.args.key) in
+    let shape = left_shape q c.args.value c.self.inside.nodes c.insert_entry.new.nodes c.self.inside.cells c.insert_entry.new.cells c.self.inside.count
+    c.insert_entry.new.entries c.self.inside.shape c.self.invariant c.insert_entry.result c.insert_entry.ensures.inserted in (
+      shape,
+      (
+        table_sizes _ _ _ (table_left q c.args.value c.self.inside.nodes c.insert_entry.new.nodes c.self.inside.cells c.insert_entry.new.cells
+            c.self.inside.count c.insert_entry.new.entries c.self.inside.shape c.self.invariant c.insert_entry.result c.insert_entry.ensures.inserted
+            c.insert_entry.ensures.counted c.insert_entry.ensures.node_room c.insert_entry.ensures.cell_room shape).held,
+        tt,
+      ),
     )
 
 pub invariant_of-self : goal.invariant_of-self
@@ -50,14 +59,26 @@ returns-clause-unchanged g c =
     (same_left q c.args.value c.self.inside.nodes c.insert_entry.new.nodes c.self.inside.cells c.insert_entry.new.cells c.self.inside.count
     c.insert_entry.new.entries c.self.inside.shape c.self.invariant c.insert_entry.result c.insert_entry.ensures.inserted c.self-1.given.0)
 
-pub returns-clause-stored : goal.returns-clause-stored
-returns-clause-stored g c = λ there.
+stored : (g : _) (c : goal.After-self-1 g) → IsTrue (contains_key c.args.self.now.entries (take c.args.len (g.K.Key.bits c.args.key))) →
+    IsOk c.insert_entry.result × SameRoom c.self.inside.cells c.insert_entry.new.cells × (c.insert_entry.new.nodes ≡ c.self.inside.nodes)
+    × (c.insert_entry.new.cells.tiers ≡ c.self.inside.cells.tiers)
+stored g c there =
     let t = c.self.invariant.held.table in
     let q = take c.args.len (g.K.Key.bits c.args.key) in
     let some = ap (λ o. is_some o) (sym (shape_entries t.reading t.values t.paths c.self.inside.nodes c.self.inside.cells t.holds
     c.self.inside.shape.0 c.self.inside.shape.1 q) ∙ ap (λ (s : Contents g.row.T.Denot). get s.entries q) c.self.view_is) in
-    let kept = c.insert_entry.ensures.stored t.reading t.paths t.values t.holds (some ∙ there) in (
+    c.insert_entry.ensures.stored t.reading t.paths t.values t.holds (some ∙ there)
+
+pub returns-clause-stored : goal.returns-clause-stored
+returns-clause-stored g c = λ there.
+    let kept = stored g c there in (
       kept.0,
-      (λ i. record { limit = kept.1.2 i; node_slots = kept.1.0 i; cell_slots = kept.2.0 i })
+      (λ i. record { limit = (kept.2 i).limit; node_slots = length (kept.2 i).slots; cell_slots = kept.1.0 i })
           ∙ ap (λ (s : Contents g.row.T.Denot). s.room) c.self.view_is,
     )
+
+pub returns-clause-layout : goal.returns-clause-layout
+returns-clause-layout g c = λ there.
+    let kept = stored g c there in
+    same_layout _ _ _ _ _ _ c.self.inside.sizes c.self-1.given.1.0 (ap (λ (x : Store Node). x.slots) kept.2) (ap (λ (x : Store Node). x.tiers) kept.2) kept.3
+    ∙ ap (λ (s : Contents g.row.T.Denot). s.layout) c.self.view_is

@@ -1,7 +1,11 @@
-use Rattle.std.proofs.Common.{ap}
+use Rattle.std.proofs.Common.{[], ◌∷◌, Option, ap}
 use Rattle.std.proofs.lemmas.Bool.{false≢true}
 use Rattle.prefix_trie_bits.specs.Model.Step.{State}
-use Rattle.prefix_trie_table.proofs.Shapes.{root_shape, some_limit, new_shape, new_only, new_table}
+use Rattle.prefix_trie_table.specs.declared.allocator.node.Node.{Node}
+use Rattle.prefix_trie_table.specs.Cells.{node_sizes}
+use Rattle.prefix_trie_table.specs.Store.{Store}
+use Rattle.prefix_trie_table.proofs.Shapes.{root_shape, root_reading, some_limit, new_holds, new_shape, new_only, new_table}
+use Rattle.prefix_trie_table.proofs.Sizing.{sizes_of, root_layout}
 use Rattle.prefix_trie_table.proofs.table.Table.new.Goals as goal
 
 pub invariant_of-result : goal.invariant_of-result
@@ -11,7 +15,11 @@ invariant_of-result g c = (
     new_shape c.in_ok-nodes.nodes c.in-Ok.cells c.args.limit c.in_ok-nodes.ensures.empty c.in_ok-nodes.ensures.sound
         c.in-Ok.ensures.empty c.in-Ok.ensures.sound,
   ),
-  tt,
+  (
+    sizes_of node_sizes root_reading ([] ∷ []) c.in_ok-nodes.nodes (new_holds c.in_ok-nodes.nodes c.in-Ok.cells c.args.limit
+        c.in_ok-nodes.ensures.empty c.in_ok-nodes.ensures.sound c.in-Ok.ensures.empty c.in-Ok.ensures.sound).hold,
+    tt,
+  ),
 )
 
 pub invariant_of-result-2 : goal.invariant_of-result-2
@@ -30,3 +38,11 @@ returns-clause-nodes g c =
     ap (λ (s : State g.row.T.Denot). s.nodes)
     (new_only c.in_ok-nodes.nodes c.in-Ok.cells c.args.limit c.in_ok-nodes.ensures.empty c.in_ok-nodes.ensures.sound c.in-Ok.ensures.empty
     c.in-Ok.ensures.sound c.result-1.given.0)
+
+pub returns-clause-layout : goal.returns-clause-layout
+returns-clause-layout g c =
+    root_layout c.in_ok-nodes.nodes c.in-Ok.cells
+    (new_holds c.in_ok-nodes.nodes c.in-Ok.cells c.args.limit c.in_ok-nodes.ensures.empty c.in_ok-nodes.ensures.sound c.in-Ok.ensures.empty
+    c.in-Ok.ensures.sound)
+    (ap (λ (x : Store Node). x.tiers) c.in_ok-nodes.ensures.empty)
+    (ap (λ (x : Store (Option g.row.T.Denot)). x.tiers) c.in-Ok.ensures.empty) c.result-1.given.1.0

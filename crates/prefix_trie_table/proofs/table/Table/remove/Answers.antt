@@ -5,6 +5,7 @@ use Rattle.prefix_trie_bits.specs.Model.Nodes.{nodes_without}
 use Rattle.prefix_trie_bits.specs.Model.Step.{State}
 use Rattle.prefix_trie_table.proofs.Emptying.{removed_is, table_without}
 use Rattle.prefix_trie_table.proofs.Removed.{removed_shape, removed_only, counted_removed}
+use Rattle.prefix_trie_table.proofs.Sizing.{table_sizes}
 use Rattle.prefix_trie_table.proofs.table.Table.remove.Goals as goal
 
 pub invariant_of-self-inside : goal.invariant_of-self-inside
@@ -19,7 +20,12 @@ invariant_of-self-inside g c =
             c.remove_entry.new.entries c.self.inside.shape c.self.invariant c.remove_entry.result c.remove_entry.ensures.value
             c.remove_entry.ensures.removed,
       ),
-      tt,
+      (
+        table_sizes _ _ _ (counted_removed q c.self.inside.nodes c.remove_entry.new.nodes c.self.inside.cells c.remove_entry.new.cells c.self.inside.count
+            c.remove_entry.new.entries c.self.inside.shape c.self.invariant c.remove_entry.result c.remove_entry.ensures.value
+            c.remove_entry.ensures.removed c.remove_entry.ensures.counted),
+        tt,
+      ),
     )
 
 pub invariant_of-self : goal.invariant_of-self

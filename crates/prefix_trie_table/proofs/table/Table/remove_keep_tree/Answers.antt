@@ -4,6 +4,7 @@ use Rattle.prefix_trie_bits.specs.Model.Entries.{without_entry}
 use Rattle.prefix_trie_bits.specs.Model.Step.{State}
 use Rattle.prefix_trie_table.proofs.Emptying.{removed_is, table_without, kept_shape, kept_only, counted_without}
 use Rattle.prefix_trie_table.proofs.Rooms.{Grows-none}
+use Rattle.prefix_trie_table.proofs.Sizing.{table_sizes}
 use Rattle.prefix_trie_table.proofs.table.Table.remove_keep_tree.Goals as goal
 
 pub invariant_of-self-inside : goal.invariant_of-self-inside
@@ -15,7 +16,12 @@ invariant_of-self-inside g c =
             c.remove_value.new.entries c.self.inside.shape c.self.invariant c.remove_value.result c.remove_value.ensures.value
             c.remove_value.ensures.taken,
       ),
-      tt,
+      (
+        table_sizes _ _ _ (counted_without q c.self.inside.nodes c.remove_value.new.nodes c.self.inside.cells c.remove_value.new.cells c.self.inside.count
+            c.remove_value.new.entries c.self.inside.shape c.self.invariant c.remove_value.result c.remove_value.ensures.value
+            c.remove_value.ensures.taken c.remove_value.ensures.counted),
+        tt,
+      ),
     )
 
 pub invariant_of-self : goal.invariant_of-self

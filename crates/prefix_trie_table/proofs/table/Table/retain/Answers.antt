@@ -6,6 +6,7 @@ use Rattle.prefix_trie_bits.specs.Model.Selections.{listing}
 use Rattle.prefix_trie_bits.specs.Model.Step.{State}
 use Rattle.prefix_trie_table.specs.Shape.{Contents, same_shape}
 use Rattle.prefix_trie_table.specs.Tables.{IsTableOf}
+use Rattle.prefix_trie_table.proofs.Sizing.{table_sizes}
 use Rattle.prefix_trie_table.proofs.table.Table.retain.Goals as goal
 
 pub retain_entries-requires-clause-trie : goal.retain_entries-requires-clause-trie
@@ -33,7 +34,7 @@ invariant_of-self-inside g c =
       within = subst (λ (s : Contents g.row.T.Denot). AreWithin g.K.Key.bit_width s.entries) (sym c.self.view_is) c.requires.within;
       nodes = subst (λ (s : Contents g.row.T.Denot). AreNodes g.K.Key.bit_width s.entries s.nodes) (sym c.self.view_is) c.requires.nodes;
     }) in
-    ((all.after, all.trie.shaped), tt)
+    ((all.after, all.trie.shaped), (table_sizes _ _ _ all.trie.table.held, tt))
 
 pub invariant_of-self : goal.invariant_of-self
 invariant_of-self g c =

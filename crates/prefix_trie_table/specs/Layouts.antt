@@ -1,0 +1,69 @@
+-- Which blocks the nodes in an array have, and how many blocks of each tier are free.
+use Rattle.std.specs.Prelude.{◌≡◌, ℕ, zero, suc, Bool, cond, List, map, length, Option, None, Some}
+use Rattle.std.proofs.Common.{refl, sym, ◌∙◌}
+use Rattle.std.specs.Coded.{Coded, coded_ℕ, coded_option, coded_list, coded_bool, coded×, code_by, Coded-set}
+use Rattle.std.specs.FinMap.{get, code}
+use mathlib.Core.HLevel.{Π_prop, Σ_prop_path}
+use Rattle.prefix_trie_bits.specs.Model.Blocks.{Sizes, Layout}
+use Rattle.prefix_trie_bits.specs.Model.Nodes.{is_node_depth}
+use Rattle.prefix_trie_bits.proofs.Model.Members.{same_entries}
+use Rattle.prefix_trie_table.specs.declared.allocator.node.Node.{Node}
+use Rattle.prefix_trie_table.specs.Bitmaps.{rank}
+use Rattle.prefix_trie_table.specs.Cells.{node_sizes, cell_sizes}
+use Rattle.prefix_trie_table.specs.Digits.{path_of}
+use Rattle.prefix_trie_table.specs.Store.{Tier}
+use Rattle.prefix_trie_table.specs.Forest.{read, size_in}
+
+-- the size, where there are any
+abbrev pub size_if_any : ℕ → ℕ → Option ℕ
+size_if_any zero size = None
+size_if_any (suc n) size = Some size
+
+-- the size of the block of a node's children, where it has children
+abbrev pub child_block_size : Option Node → Option ℕ
+child_block_size None = None
+child_block_size (Some n) = size_if_any (rank n.child_bitmap 32) (size_in node_sizes n.child_tier)
+
+-- the same of its values
+abbrev pub value_block_size : Option Node → Option ℕ
+value_block_size None = None
+value_block_size (Some n) = size_if_any (rank n.value_bitmap 32) (size_in cell_sizes n.value_tier)
+
+-- by the strings of nodes, these are the sizes that the test names
+abbrev pub AreSizesBy : (Option Node → Option ℕ) → List Node → Sizes → Type 0
+AreSizesBy size nodes sizes = (s : List Bool) → get sizes s ≡ cond (is_node_depth s) (size (read nodes (path_of s))) None
+
+-- these are the sizes of the blocks of the nodes in an array, by the strings at which the nodes stand
+abbrev pub AreSizesOf : List Node → Sizes → Sizes → Type 0
+AreSizesOf nodes children values = AreSizesBy child_block_size nodes children × AreSizesBy value_block_size nodes values
+
+-- the one pair of sizes that the nodes have, of child blocks and of value blocks
+abbrev pub Sized : List Node → Type 0
+Sized nodes = (children : Sizes) × ((values : Sizes) × AreSizesOf nodes children values)
+
+AreSizesBy-prop : (size : Option Node → Option ℕ) (nodes : List Node) (sizes : Sizes) → IsProp (AreSizesBy size nodes sizes)
+AreSizesBy-prop size nodes sizes = λ x y. Π_prop (λ _. Coded-set (coded_option coded_ℕ) _ _) x y
+
+same_sizes : (size : Option Node → Option ℕ) (nodes : List Node) (x y : Sizes) → AreSizesBy size nodes x → AreSizesBy size nodes y → x ≡ y
+same_sizes size nodes x y h k = same_entries x y (λ s. h s ∙ sym (k s))
+
+-- the nodes have one pair at most
+pub Sized-prop : (nodes : List Node) → IsProp (Sized nodes)
+Sized-prop nodes = λ x y. Σ_prop_path
+    (λ children. λ u w. Σ_prop_path (λ values. λ a b i. (
+      AreSizesBy-prop child_block_size nodes children a.0 b.0 i,
+      AreSizesBy-prop value_block_size nodes values a.1 b.1 i,
+    )) (same_sizes value_block_size nodes u.0 w.0 u.1.1 w.1.1))
+    (same_sizes child_block_size nodes x.0 y.0 x.1.1.0 y.1.1.0)
+
+-- how many blocks of each tier are free
+abbrev pub free_counts : List Tier → List ℕ
+free_counts ts = map (λ t. length t.starts) ts
+
+-- layouts are given by their parts
+abbrev pub coded_layout : Coded Layout
+coded_layout =
+    code_by (Sizes × (Sizes × (List ℕ × List ℕ)))
+    (coded× (code (coded_list coded_bool) coded_ℕ) (coded× (code (coded_list coded_bool) coded_ℕ) (coded× (coded_list coded_ℕ) (coded_list coded_ℕ))))
+    (λ l. (l.child_blocks, (l.value_blocks, (l.free_child_blocks, l.free_value_blocks))))
+    (λ p. record { child_blocks = p.0; value_blocks = p.1.0; free_child_blocks = p.1.1.0; free_value_blocks = p.1.1.1 }) (λ _. refl)
