@@ -1,8 +1,8 @@
 -- What is left of a table where a test said no at each entry below a bit string.
-use Rattle.std.proofs.Common.{◌≡◌, ◌↔◌, ℕ, ◌+◌, ◌*◌, ◌/◌, ◌%◌, ◌<◌, ◌≤◌, Bool, true, false, cond, not, ◌&&◌, ◌||◌, ◌==◌, nat_lt, List, [], ◌∷◌, ◌++◌, length, take, drop, Option, None, Some, is_some, refl, sym, ap, ap₂, ◌∙◌, subst, arith, inl, inr, bit_and, append-nil, append_assoc, length-append, length-drop, take-append-drop}
+use Rattle.std.proofs.Common.{◌≡◌, ◌↔◌, ℕ, ◌+◌, ◌-◌, ◌*◌, ◌/◌, ◌%◌, ◌<◌, ◌≤◌, Bool, true, false, cond, not, ◌&&◌, ◌||◌, ◌==◌, nat_lt, List, [], ◌∷◌, ◌++◌, length, take, drop, Option, None, Some, is_some, refl, sym, ap, ap₂, ◌∙◌, subst, arith, inl, inr, bit_and, append-nil, append_assoc, length-append, length-drop, take-append-drop}
 use Rattle.std.specs.List.{All, Contains}
 use Rattle.std.proofs.lemmas.Bool.{false≢true, cases_Bool, cases_lt, lt-ltb, le-ltb}
-use Rattle.std.proofs.lemmas.List.{append_cancel_left, length-take-le}
+use Rattle.std.proofs.lemmas.List.{append_cancel_left, length-take-le, take-take}
 use Rattle.std.proofs.lemmas.List.Elements.{All-head, All-tail, All-weaker, All-contains_itself}
 use Rattle.std.proofs.lemmas.List.Folds.{list_any_at}
 use Rattle.std.specs.FinMap.{get, find, get-entries}
@@ -12,14 +12,14 @@ use Rattle.prefix_trie_bits.specs.Begins.{begins-refl, begins-length, begins-lin
 use Rattle.prefix_trie_bits.specs.Order.{listing_cmp, same_string}
 use Rattle.prefix_trie_bits.specs.Places.{HoldsValues, HoldsChildren, is_in}
 use Rattle.prefix_trie_bits.specs.Model.Asking.{AsksInOrder}
-use Rattle.prefix_trie_bits.specs.Model.Entries.{Entries, part_below, without_below}
-use Rattle.prefix_trie_bits.specs.Model.Nodes.{has_node, home, is_node_depth, nodes_not_below}
+use Rattle.prefix_trie_bits.specs.Model.Entries.{Entries, part_below, without_entry, without_below}
+use Rattle.prefix_trie_bits.specs.Model.Nodes.{Nodes, has_node, home, is_node_depth, pruned, nodes_not_below, nodes_without, nodes_without_below}
 use Rattle.prefix_trie_bits.specs.Model.NodeListings.{pair_of, listing_at_place, listing_at_places}
 use Rattle.prefix_trie_bits.specs.Model.Selections.{listing_below}
 use Rattle.prefix_trie_bits.specs.Model.Step.{State}
 use Rattle.prefix_trie_bits.proofs.Selecting.{is_in-and}
 use Rattle.prefix_trie_bits.proofs.Model.Homes.{home-begins, home-depth, home-length}
-use Rattle.prefix_trie_bits.proofs.Model.Members.{or-cases, and-join, and-second, same_string-is, is-same_string, has-retained, get-part_below, get-without_below, same_entries, same_members}
+use Rattle.prefix_trie_bits.proofs.Model.Members.{or-cases, and-join, and-second, same_string-is, is-same_string, has-retained, get-part_below, get-without_entry, get-without_below, same_entries, same_members}
 use Rattle.prefix_trie_bits.proofs.Model.Ordered.{entries-retained}
 use Rattle.prefix_trie_table.specs.declared.allocator.node.Node.{Node}
 use Rattle.prefix_trie_table.specs.Digits.{path_of}
@@ -28,10 +28,14 @@ use Rattle.prefix_trie_table.specs.Store.{Store}
 use Rattle.prefix_trie_table.specs.Retaining.{is_at, is_at_some, is_under, is_under_some, IsTrie, Retains}
 use Rattle.prefix_trie_table.proofs.Asked.{no_or_yes, at_value, at_child, under_child, under_at_some}
 use Rattle.prefix_trie_table.proofs.Bits.{has_bit-is}
-use Rattle.prefix_trie_table.proofs.Placing.{step_below}
+use Rattle.prefix_trie_table.proofs.Placing.{below_node, step_below}
 use Rattle.prefix_trie_table.proofs.Retained.{tree_of}
-use Rattle.prefix_trie_table.proofs.Subtrees.{unset, is_in-value, is_in-child, number-small}
+use Rattle.prefix_trie_table.proofs.Subtrees.{nothing_below, unset, is_in-value, is_in-child, number-small}
 use Rattle.prefix_trie_table.proofs.Trees.{read-snoc, child-missing}
+
+and-false : (b : Bool) → (b && false) ≡ false
+and-false true = refl
+and-false false = refl
 
 -- ---- where nothing is listed nothing is stored
 
@@ -96,6 +100,11 @@ module _ {T : Type 0} where
     pub entries : after.entries ≡ without_below before.entries q
     pub nodes : after.nodes ≡ nodes_not_below before.nodes q
 
+  -- which says what state it is
+  pub emptied_is : (q : List Bool) (before after : State T) → IsEmptied q before after →
+      after ≡ record { entries = without_below before.entries q; nodes = nodes_not_below before.nodes q }
+  emptied_is q before after is = λ i. record { entries = is.entries i; nodes = is.nodes i }
+
 module _ {F T : Type 0} (asks : F → List Bool → T → Bool → F → Type 0) (no : (f : F) (k : List Bool) (x : T) (b : Bool) (g : F) → asks f k x b g → b ≡ false) where
   none_kept : (f : F) (es kept : List (List Bool × T)) → AsksInOrder asks f es kept → kept ≡ []
   none_kept f [] kept h = h
@@ -113,18 +122,18 @@ module _ {F T : Type 0} (asks : F → List Bool → T → Bool → F → Type 0)
     entry_is k = go (begins q k) refl ∙ sym (get-without_below before.entries q k)
       where
         go : (b : Bool) → begins q k ≡ b → get after.entries k ≡ cond b None (get before.entries k)
-        go true below = elim (cases_Bool (is_at_some (home q) ts k)) as (λ _. get after.entries k ≡ None) [
+        go true goes_on = elim (cases_Bool (is_at_some (home q) ts k)) as (λ _. get after.entries k ≡ None) [
           | inl at ↦ none_there k at
-          | inr off ↦ retains.others k off ∙ are.every k below off
+          | inr off ↦ retains.others k off ∙ are.every k goes_on off
         ]
         go false off = retains.others k (are.apart k off)
 
     none_stands : (t : List Bool) → begins q t ≡ true → same_string t (home q) ≡ false → has_node after.nodes t ≡ true → ⊥
-    none_stands t below other there = elim (cases_Bool (is_under_some (home q) ts t)) as (λ _. ⊥) [
+    none_stands t goes_on other there = elim (cases_Bool (is_under_some (home q) ts t)) as (λ _. ⊥) [
       | inl under ↦
           let n = retains.needed t under there in
           false≢true (sym (ap is_some (none_there n.key (under_at_some (home q) ts t n.key under n.goes_on))) ∙ n.stored)
-      | inr off ↦ false≢true (sym (are.every_node t below other off) ∙ sym (retains.off t off) ∙ there)
+      | inr off ↦ false≢true (sym (are.every_node t goes_on other off) ∙ sym (retains.off t off) ∙ there)
     ]
 
     node_is : (t : List Bool) → has_node after.nodes t ≡ has_node (nodes_not_below before.nodes q) t
@@ -134,9 +143,9 @@ module _ {F T : Type 0} (asks : F → List Bool → T → Bool → F → Type 0)
       where
         go : (b own : Bool) → begins q t ≡ b → same_string t (home q) ≡ own → has_node after.nodes t ≡ ((not b || own) && has_node before.nodes t)
         go false own off which = retains.off t (are.nodes_apart t off)
-        go true true below same =
+        go true true goes_on same =
             retains.off t (subst (λ u. is_under_some (home q) ts u ≡ false) (sym (same_string-is t (home q) same)) (not_under_itself (home q) ts))
-        go true false below other = no_or_yes (has_node after.nodes t) (none_stands t below other)
+        go true false goes_on other = no_or_yes (has_node after.nodes t) (none_stands t goes_on other)
 
     -- the entries below q go, and the nodes below it
     pub emptied : IsEmptied q before after
@@ -179,6 +188,15 @@ module _ (q : List Bool) where
   home_tail : (k : List Bool) → begins q k ≡ true → k ≡ home q ++ drop (length (home q)) k
   home_tail k h = begins-rest (home q) k (home_goes_on k h)
 
+  -- and q itself is in it
+  pub home_way : path_of (home q) ≡ path_of q
+  home_way =
+      sym (ap path_of (home_tail q (begins-refl q))
+      ∙ (below_node (length q / 5) (home q) (drop (length (home q)) q) (home-length q) (rest_short (length q) (length (home q)) (home-length q) (length-drop (length (home q)) q))).0)
+    where
+      rest_short : (l h : ℕ) → h ≡ 5 * (l / 5) → length (drop (length (home q)) q) ≡ l - h → length (drop (length (home q)) q) ≤ 4
+      rest_short l h e d = omega (arith, e, d)
+
   -- by five bits at least
   module _ (k : List Bool) (goes_on : begins q k ≡ true) (long : length (home q) + 5 ≤ length k) where
     five_bits : length (take 5 (drop (length (home q)) k)) ≡ 5
@@ -207,6 +225,18 @@ module _ (q : List Bool) where
     from_rest u h =
         begins-from-rest q (home q ++ u) (drop (length rest) u)
         (ap (λ r. home q ++ r) (begins-rest rest u h) ∙ sym (append_assoc (home q) rest (drop (length rest) u)) ∙ ap (λ p. p ++ drop (length rest) u) (sym is))
+
+-- the node of the first len bits of a key, where the last whole step is at a depth, and the bits behind it
+module _ (b : List Bool) (len depth : ℕ) (within : len ≤ length b) (step : depth % 5 ≡ 0) (whole : depth ≤ len) (last : len < depth + 5) where
+  pub home_at : home (take len b) ≡ take depth b
+  home_at =
+      ap (λ n. take n (take len b)) (depth_is (length (take len b)) (length-take-le len b within)) ∙ take-take depth len b whole
+    where
+      depth_is : (l : ℕ) → l ≡ len → 5 * (l / 5) ≡ depth
+      depth_is l e = omega (arith, e, step, whole, last)
+
+  pub home_rest : take len b ≡ home (take len b) ++ drop depth (take len b)
+  home_rest = sym (take-append-drop depth (take len b)) ∙ ap (λ s. s ++ drop depth (take len b)) (take-take depth len b whole ∙ sym home_at)
 
 -- ---- the places that two masks leave
 
@@ -267,12 +297,8 @@ module _ {T : Type 0} (width count : ℕ) (v : Store Node) (w : Store (Option T)
   -- where a child is missing no node stands
   no_child : (u : List Bool) → length u ≡ 5 → is_in n.value_bitmap n.child_bitmap u ≡ false → has_node before.nodes (home q ++ u) ≡ false
   no_child u five clear =
-      trie.shaped.0 (home q ++ u) ∙ ap (λ o. is_node_depth (home q ++ u) && is_some o) missing ∙ never (is_node_depth (home q ++ u))
+      trie.shaped.0 (home q ++ u) ∙ ap (λ o. is_node_depth (home q ++ u) && is_some o) missing ∙ and-false (is_node_depth (home q ++ u))
     where
-      never : (b : Bool) → (b && false) ≡ false
-      never true = refl
-      never false = refl
-
       small : number u < 32
       small = number-small u five
 
@@ -313,3 +339,83 @@ module _ {T : Type 0} (width count : ℕ) (v : Store Node) (w : Store (Option T)
     nodes_apart = λ t off. no_or_yes (is_under_some (home q) ts t) (λ under. false≢true (sym (apart_from t off) ∙ under_at_some (home q) ts t t under (begins-refl t)));
     every_node = λ t goes_on other off. no_or_yes (has_node before.nodes t) (nodes_among t goes_on other off);
   }
+
+-- so a test that says no at the places of the masks leaves what is not below the first len bits of a key
+module _ {F T : Type 0} (b : List Bool) (len depth : ℕ) (within : len ≤ length b) (step : depth % 5 ≡ 0) (whole : depth ≤ len) (last : len < depth + 5)
+    (asks : F → List Bool → T → Bool → F → Type 0) (no : (f : F) (k : List Bool) (x : T) (b : Bool) (g : F) → asks f k x b g → b ≡ false) (accepts : F → List Bool → T → Type 0)
+    (width count : ℕ) (v : Store Node) (w : Store (Option T)) (before : State T) (trie : IsTrie width count v w before) (n : Node)
+    (stands : read v.slots (path_of (take depth b)) ≡ Some n) (values children : ℕ) (holds_values : HoldsValues values (begins (drop depth (take len b))))
+    (holds_children : HoldsChildren children (begins (drop depth (take len b)))) (ts : List (List Bool))
+    (each : (u : List Bool) → Contains ts u ↔ ((length u ≤ 5) × (is_in (bit_and n.value_bitmap values) (bit_and n.child_bitmap children) u ≡ true))) where
+  home_is : home (take len b) ≡ take depth b
+  home_is = home_at b len depth within step whole last
+
+  pub emptied_at : (f g : F) (after : State T) → Retains asks accepts (take depth b) ts f before g after → IsEmptied (take len b) before after
+  emptied_at f g after retains =
+      emptied asks no accepts (take len b) ts f g before after (subst (λ s. Retains asks accepts s ts f before g after) (sym home_is) retains)
+      (covers_below width count v w before trie (take len b) (drop depth (take len b)) (home_rest b len depth within step whole last) n
+      (ap (λ s. read v.slots (path_of s)) home_is ∙ stands) values children holds_values holds_children ts each)
+
+-- ---- where the node of q is missing, and once all below q is gone
+
+-- no node is left below q but q's own
+pub lower_gone : (n : Nodes) (q t : List Bool) → begins q t ≡ true → has_node (nodes_not_below n q) t ≡ true → t ≡ home q
+lower_gone n q t goes_on there = elim (cases_Bool (same_string t (home q))) as (λ _. t ≡ home q) [
+  | inl same ↦ same_string-is t (home q) same
+  | inr other ↦
+      absurd (false≢true (sym (ap₂ (λ b own. (not b || own) && has_node n t) goes_on other)
+      ∙ sym (has-retained n (λ u. not (begins q u) || same_string u (home q)) t) ∙ there))
+]
+
+module _ {T : Type 0} where
+  -- below a missing node is nothing
+  pub no_node_there : (width count : ℕ) (v : Store Node) (w : Store (Option T)) (s : State T) (q : List Bool) → IsTrie width count v w s → read v.slots (path_of (home q)) ≡ None →
+      (without_below s.entries q ≡ s.entries) × (nodes_without_below s.nodes s.entries q ≡ s.nodes)
+  no_node_there width count v w s q trie missing = (
+    same_entries (without_below s.entries q) s.entries (λ k. get-without_below s.entries q k ∙ by k (begins q k) refl),
+    ap (λ b. cond b (pruned (nodes_not_below s.nodes q) (without_below s.entries q) q) s.nodes) away,
+  )
+    where
+      none : listing_below s.entries (home q) ≡ []
+      none = nothing_below width v (record { cells = w; shape = s }) (tree_of width count v w s trie) (home q) (home-depth q) missing
+
+      by : (k : List Bool) (b : Bool) → begins q k ≡ b → cond b None (get s.entries k) ≡ get s.entries k
+      by k true goes_on = sym (below_none s.entries (home q) k none (home_goes_on q k goes_on))
+      by k false off = refl
+
+      away : has_node s.nodes (home q) ≡ false
+      away = trie.shaped.0 (home q) ∙ ap (λ o. is_node_depth (home q) && is_some o) missing ∙ and-false (is_node_depth (home q))
+
+  -- and where a node stands the set has it
+  pub home_stands : (width count : ℕ) (v : Store Node) (w : Store (Option T)) (s : State T) (q : List Bool) (n : Node) → IsTrie width count v w s → read v.slots (path_of (home q)) ≡ Some n →
+      has_node s.nodes (home q) ≡ true
+  home_stands width count v w s q n trie stands =
+      trie.shaped.0 (home q) ∙ ap₂ (λ d o. d && is_some o) (ap (λ k. k == 0) (home-depth q)) stands
+
+  -- q itself is not stored then
+  pub own_gone : (m : Entries T) (q : List Bool) → get (without_below m q) q ≡ None
+  own_gone m q = get-without_below m q q ∙ ap (λ b. cond b None (get m q)) (begins-refl q)
+
+  -- so removing it changes no entry
+  pub removed_alike : (m : Entries T) (q : List Bool) → without_entry (without_below m q) q ≡ without_below m q
+  removed_alike m q = same_entries (without_entry (without_below m q) q) (without_below m q) (λ k.
+      get-without_entry (without_below m q) q k ∙ by k (same_string k q) refl)
+    where
+      by : (k : List Bool) (b : Bool) → same_string k q ≡ b → cond b None (get (without_below m q) k) ≡ get (without_below m q) k
+      by k true same = sym (ap (get (without_below m q)) (same_string-is k q same) ∙ own_gone m q)
+      by k false other = refl
+
+  -- and prunes as the removal of all below q does
+  pub pruned_alike : (m : Entries T) (n : Nodes) (q : List Bool) → has_node n (home q) ≡ true →
+      nodes_without (nodes_not_below n q) (without_below m q) q ≡ nodes_without_below n m q
+  pruned_alike m n q there =
+      ap (λ e. pruned (nodes_not_below n q) e q) (removed_alike m q)
+      ∙ sym (ap (λ b. cond b (pruned (nodes_not_below n q) (without_below m q) q) n) there)
+
+  -- so once all below q is gone, what is left to do is removing q
+  pub removes_rest : (q : List Bool) (before after : State T) → IsEmptied q before after → has_node before.nodes (home q) ≡ true →
+      (without_entry after.entries q ≡ without_below before.entries q) × (nodes_without after.nodes after.entries q ≡ nodes_without_below before.nodes before.entries q)
+  removes_rest q before after is there = (
+    ap (λ m. without_entry m q) is.entries ∙ removed_alike before.entries q,
+    ap₂ (λ n m. nodes_without n m q) is.nodes is.entries ∙ pruned_alike before.entries before.nodes q there,
+  )
