@@ -1,8 +1,8 @@
 -- What is left of a table where a test said no at each entry below a bit string.
-use Rattle.std.proofs.Common.{◌≡◌, ◌↔◌, ℕ, ◌+◌, ◌-◌, ◌*◌, ◌/◌, ◌%◌, ◌<◌, ◌≤◌, Bool, true, false, cond, not, ◌&&◌, ◌||◌, ◌==◌, nat_lt, List, [], ◌∷◌, ◌++◌, length, take, drop, Option, None, Some, is_some, refl, sym, ap, ap₂, ◌∙◌, subst, arith, inl, inr, bit_and, append-nil, append_assoc, length-append, length-drop, take-append-drop}
+use Rattle.std.proofs.Common.{◌≡◌, ◌↔◌, ℕ, ◌+◌, ◌*◌, ◌/◌, ◌%◌, ◌<◌, ◌≤◌, Bool, true, false, cond, not, ◌&&◌, ◌||◌, ◌==◌, nat_lt, List, [], ◌∷◌, ◌++◌, length, take, drop, Option, None, Some, is_some, refl, sym, ap, ap₂, ◌∙◌, subst, arith, inl, inr, bit_and, append-nil, append_assoc, length-append, length-drop, take-append-drop}
 use Rattle.std.specs.List.{All, Contains}
 use Rattle.std.proofs.lemmas.Bool.{false≢true, cases_Bool, cases_lt, lt-ltb, le-ltb}
-use Rattle.std.proofs.lemmas.List.{append_cancel_left, length-take-le, take-take}
+use Rattle.std.proofs.lemmas.List.{append_cancel_left, length-take-le}
 use Rattle.std.proofs.lemmas.List.Elements.{All-head, All-tail, All-weaker, All-contains_itself}
 use Rattle.std.proofs.lemmas.List.Folds.{list_any_at}
 use Rattle.std.specs.FinMap.{get, find, get-entries}
@@ -28,7 +28,7 @@ use Rattle.prefix_trie_table.specs.Store.{Store}
 use Rattle.prefix_trie_table.specs.Retaining.{is_at, is_at_some, is_under, is_under_some, IsTrie, Retains}
 use Rattle.prefix_trie_table.proofs.Asked.{no_or_yes, at_value, at_child, under_child, under_at_some}
 use Rattle.prefix_trie_table.proofs.Bits.{has_bit-is}
-use Rattle.prefix_trie_table.proofs.Placing.{below_node, step_below}
+use Rattle.prefix_trie_table.proofs.Placing.{step_below}
 use Rattle.prefix_trie_table.proofs.Retained.{tree_of}
 use Rattle.prefix_trie_table.proofs.Subtrees.{nothing_below, unset, is_in-value, is_in-child, number-small}
 use Rattle.prefix_trie_table.proofs.Trees.{read-snoc, child-missing}
@@ -49,7 +49,7 @@ module _ {T : Type 0} where
   pair_none s (Some x) h = absurd (omega (arith, ap length h))
 
   -- below a string
-  pub below_none : (m : Entries T) (q k : List Bool) → listing_below m q ≡ [] → begins q k ≡ true → get m k ≡ None
+  below_none : (m : Entries T) (q k : List Bool) → listing_below m q ≡ [] → begins q k ≡ true → get m k ≡ None
   below_none m q k none begun =
       sym (ap (λ b. cond b (get m k) None) begun) ∙ sym (get-part_below m q k) ∙ get-entries (part_below m q) k
       ∙ ap (find listing_cmp k) (entries-retained m (begins q) ∙ none)
@@ -99,11 +99,6 @@ module _ {T : Type 0} where
   pub record IsEmptied (q : List Bool) (before after : State T) : Type 0 where
     pub entries : after.entries ≡ without_below before.entries q
     pub nodes : after.nodes ≡ nodes_not_below before.nodes q
-
-  -- which says what state it is
-  pub emptied_is : (q : List Bool) (before after : State T) → IsEmptied q before after →
-      after ≡ record { entries = without_below before.entries q; nodes = nodes_not_below before.nodes q }
-  emptied_is q before after is = λ i. record { entries = is.entries i; nodes = is.nodes i }
 
 module _ {F T : Type 0} (asks : F → List Bool → T → Bool → F → Type 0) (no : (f : F) (k : List Bool) (x : T) (b : Bool) (g : F) → asks f k x b g → b ≡ false) where
   none_kept : (f : F) (es kept : List (List Bool × T)) → AsksInOrder asks f es kept → kept ≡ []
@@ -188,15 +183,6 @@ module _ (q : List Bool) where
   home_tail : (k : List Bool) → begins q k ≡ true → k ≡ home q ++ drop (length (home q)) k
   home_tail k h = begins-rest (home q) k (home_goes_on k h)
 
-  -- and q itself is in it
-  pub home_way : path_of (home q) ≡ path_of q
-  home_way =
-      sym (ap path_of (home_tail q (begins-refl q))
-      ∙ (below_node (length q / 5) (home q) (drop (length (home q)) q) (home-length q) (rest_short (length q) (length (home q)) (home-length q) (length-drop (length (home q)) q))).0)
-    where
-      rest_short : (l h : ℕ) → h ≡ 5 * (l / 5) → length (drop (length (home q)) q) ≡ l - h → length (drop (length (home q)) q) ≤ 4
-      rest_short l h e d = omega (arith, e, d)
-
   -- by five bits at least
   module _ (k : List Bool) (goes_on : begins q k ≡ true) (long : length (home q) + 5 ≤ length k) where
     five_bits : length (take 5 (drop (length (home q)) k)) ≡ 5
@@ -225,18 +211,6 @@ module _ (q : List Bool) where
     from_rest u h =
         begins-from-rest q (home q ++ u) (drop (length rest) u)
         (ap (λ r. home q ++ r) (begins-rest rest u h) ∙ sym (append_assoc (home q) rest (drop (length rest) u)) ∙ ap (λ p. p ++ drop (length rest) u) (sym is))
-
--- the node of the first len bits of a key, where the last whole step is at a depth, and the bits behind it
-module _ (b : List Bool) (len depth : ℕ) (within : len ≤ length b) (step : depth % 5 ≡ 0) (whole : depth ≤ len) (last : len < depth + 5) where
-  pub home_at : home (take len b) ≡ take depth b
-  home_at =
-      ap (λ n. take n (take len b)) (depth_is (length (take len b)) (length-take-le len b within)) ∙ take-take depth len b whole
-    where
-      depth_is : (l : ℕ) → l ≡ len → 5 * (l / 5) ≡ depth
-      depth_is l e = omega (arith, e, step, whole, last)
-
-  pub home_rest : take len b ≡ home (take len b) ++ drop depth (take len b)
-  home_rest = sym (take-append-drop depth (take len b)) ∙ ap (λ s. s ++ drop depth (take len b)) (take-take depth len b whole ∙ sym home_at)
 
 -- ---- the places that two masks leave
 
@@ -340,22 +314,6 @@ module _ {T : Type 0} (width count : ℕ) (v : Store Node) (w : Store (Option T)
     every_node = λ t goes_on other off. no_or_yes (has_node before.nodes t) (nodes_among t goes_on other off);
   }
 
--- so a test that says no at the places of the masks leaves what is not below the first len bits of a key
-module _ {F T : Type 0} (b : List Bool) (len depth : ℕ) (within : len ≤ length b) (step : depth % 5 ≡ 0) (whole : depth ≤ len) (last : len < depth + 5)
-    (asks : F → List Bool → T → Bool → F → Type 0) (no : (f : F) (k : List Bool) (x : T) (b : Bool) (g : F) → asks f k x b g → b ≡ false) (accepts : F → List Bool → T → Type 0)
-    (width count : ℕ) (v : Store Node) (w : Store (Option T)) (before : State T) (trie : IsTrie width count v w before) (n : Node)
-    (stands : read v.slots (path_of (take depth b)) ≡ Some n) (values children : ℕ) (holds_values : HoldsValues values (begins (drop depth (take len b))))
-    (holds_children : HoldsChildren children (begins (drop depth (take len b)))) (ts : List (List Bool))
-    (each : (u : List Bool) → Contains ts u ↔ ((length u ≤ 5) × (is_in (bit_and n.value_bitmap values) (bit_and n.child_bitmap children) u ≡ true))) where
-  home_is : home (take len b) ≡ take depth b
-  home_is = home_at b len depth within step whole last
-
-  pub emptied_at : (f g : F) (after : State T) → Retains asks accepts (take depth b) ts f before g after → IsEmptied (take len b) before after
-  emptied_at f g after retains =
-      emptied asks no accepts (take len b) ts f g before after (subst (λ s. Retains asks accepts s ts f before g after) (sym home_is) retains)
-      (covers_below width count v w before trie (take len b) (drop depth (take len b)) (home_rest b len depth within step whole last) n
-      (ap (λ s. read v.slots (path_of s)) home_is ∙ stands) values children holds_values holds_children ts each)
-
 -- ---- where the node of q is missing, and once all below q is gone
 
 -- no node is left below q but q's own
@@ -386,13 +344,13 @@ module _ {T : Type 0} where
       away : has_node s.nodes (home q) ≡ false
       away = trie.shaped.0 (home q) ∙ ap (λ o. is_node_depth (home q) && is_some o) missing ∙ and-false (is_node_depth (home q))
 
-  -- and where a node stands the set has it
+  -- and a node that stands is one of the set
   pub home_stands : (width count : ℕ) (v : Store Node) (w : Store (Option T)) (s : State T) (q : List Bool) (n : Node) → IsTrie width count v w s → read v.slots (path_of (home q)) ≡ Some n →
       has_node s.nodes (home q) ≡ true
   home_stands width count v w s q n trie stands =
       trie.shaped.0 (home q) ∙ ap₂ (λ d o. d && is_some o) (ap (λ k. k == 0) (home-depth q)) stands
 
-  -- q itself is not stored then
+  -- once all below q is gone, q itself is not stored
   pub own_gone : (m : Entries T) (q : List Bool) → get (without_below m q) q ≡ None
   own_gone m q = get-without_below m q q ∙ ap (λ b. cond b None (get m q)) (begins-refl q)
 
@@ -411,11 +369,3 @@ module _ {T : Type 0} where
   pruned_alike m n q there =
       ap (λ e. pruned (nodes_not_below n q) e q) (removed_alike m q)
       ∙ sym (ap (λ b. cond b (pruned (nodes_not_below n q) (without_below m q) q) n) there)
-
-  -- so once all below q is gone, what is left to do is removing q
-  pub removes_rest : (q : List Bool) (before after : State T) → IsEmptied q before after → has_node before.nodes (home q) ≡ true →
-      (without_entry after.entries q ≡ without_below before.entries q) × (nodes_without after.nodes after.entries q ≡ nodes_without_below before.nodes before.entries q)
-  removes_rest q before after is there = (
-    ap (λ m. without_entry m q) is.entries ∙ removed_alike before.entries q,
-    ap₂ (λ n m. nodes_without n m q) is.nodes is.entries ∙ pruned_alike before.entries before.nodes q there,
-  )
