@@ -4,16 +4,22 @@ use Rattle.std.proofs.lemmas.List.{length-set}
 use Rattle.std.proofs.lemmas.List.Elements.{All-nil, All-cons}
 use Rattle.std.proofs.lemmas.List.Sums.{sum_by-cons, sum_by-le, sum_by-set, sum_by-take-le, sum_by_more}
 use Rattle.std.proofs.lemmas.List.Sorted.{sum_by-IsPermutation}
+use Rattle.std.specs.FinMap.{len}
+use Rattle.prefix_trie_bits.specs.Model.Step.{State}
 use Rattle.prefix_trie_table.specs.declared.allocator.node.Node.{Node}
 use Rattle.prefix_trie_table.specs.Cells.{blank_node, node_at, node_sizes, cell_sizes}
 use Rattle.prefix_trie_table.specs.Store.{Store, SameRoom, size_in}
 use Rattle.prefix_trie_table.specs.Forest.{one_if, same_path, times, without, node_or_blank, lacking_child, NodesHold}
+use Rattle.prefix_trie_table.specs.Shape.{IsShapeOf}
+use Rattle.prefix_trie_table.specs.Tables.{IsTableOf}
 use Rattle.prefix_trie_table.specs.Settling.{smaller_sizes, headroom, child_headroom, value_headroom, node_reach, cell_reach, Settles, NodesSettle}
 use Rattle.prefix_trie_table.proofs.Paths.{same_path-itself}
 use Rattle.prefix_trie_table.proofs.Trees.{listed_once, times_out, times_out_same}
 use Rattle.prefix_trie_table.proofs.Children.{same_or, changed_here, changed_other}
 use Rattle.prefix_trie_table.proofs.PathLists.{first_out}
 use Rattle.prefix_trie_table.proofs.NodeCounts.{weight, slots_by_path}
+use Rattle.prefix_trie_table.proofs.PathStrings.{paths_counted}
+use Rattle.prefix_trie_table.proofs.Shapes.{shape_nodes}
 
 -- ---- the sizes below a tier
 
@@ -168,10 +174,10 @@ module _ (nodes : List ℕ → Option Node) (paths : List (List ℕ)) (v v2 : St
 
 -- ---- what all nodes may still make
 
--- no node has more than one block of each smaller size to make
-pub reach_bound : (f : Node → ℕ) → f blank_node ≡ 0 → ((n : Node) → f n ≤ 55) → (nodes : List ℕ → Option Node) (paths : List (List ℕ)) (v : Store Node) →
+-- no node makes more than a block of each smaller size
+headroom_bound : (f : Node → ℕ) → f blank_node ≡ 0 → ((n : Node) → f n ≤ 55) → (nodes : List ℕ → Option Node) (paths : List (List ℕ)) (v : Store Node) →
     NodesHold node_sizes nodes paths v → sum_by f v.slots ≤ 55 * length paths
-reach_bound f none few nodes paths v hold =
+headroom_bound f none few nodes paths v hold =
     let all = slots_by_path f none node_sizes nodes paths v hold in
     let most = sum_by-le (weight f none node_sizes nodes) 55 paths (each paths) in
     omega (arith, all, most)
@@ -179,3 +185,15 @@ reach_bound f none few nodes paths v hold =
     each : (xs : List (List ℕ)) → All (λ q. weight f none node_sizes nodes q ≤ 55) xs
     each [] = All-nil (λ q. weight f none node_sizes nodes q ≤ 55)
     each (x ∷ xs) = All-cons (λ q. weight f none node_sizes nodes q ≤ 55) x xs (few (node_or_blank (nodes x))) (each xs)
+
+-- so arrays that settle grow by so many slots for each node that there was
+pub settled_room : {T : Type 0} (v v2 : Store Node) (w w2 : Store (Option T)) (count : ℕ) (s : State T) → IsTableOf v w count s → IsShapeOf v.slots w.slots s →
+    Settles v v2 w w2 → (length v2.slots ≤ length v.slots + 56 * len s.nodes) × (length w2.slots ≤ length w.slots + 56 * len s.nodes)
+settled_room v v2 w w2 count s is shaped settles =
+    let t = is.held.table in
+    let children = headroom_bound child_headroom headroom-none (λ n. headroom-most n.child_tier) t.reading t.paths v t.holds.hold in
+    let values = headroom_bound value_headroom headroom-none (λ n. headroom-most n.value_tier) t.reading t.paths v t.holds.hold in
+    let number = paths_counted _ t.reading t.paths v t.holds.hold s.nodes (shape_nodes t.reading t.values t.paths v w t.holds s shaped) in
+    let x = settles.nodes in
+    let y = settles.cells in
+    (omega (arith, children, number, x), omega (arith, values, number, y))

@@ -7,7 +7,7 @@ ghost use Rattle.prefix_trie_table.specs.Digits.{path_of, bit_of};
 ghost use Rattle.prefix_trie_table.specs.Store.{Sound, SameRoom, no_blocks};
 ghost use Rattle.prefix_trie_table.specs.Forest.{IsSlot, NodesHold, CellsHold, IsTable, AtNode, AtValues, one_if};
 ghost use Rattle.prefix_trie_table.specs.Removals.{ValueTaken, EntryTaken, IsBare, IsStocked, GivesBack, ChildDropped, IsWay, AtEnd, Pruned, EntryRemoved};
-ghost use Rattle.prefix_trie_table.specs.Settling.{Settles};
+ghost use Rattle.prefix_trie_table.specs.Settling.{Settles, NodesSettle};
 ghost use Rattle.prefix_trie_table.specs.Tables.{IsReached, IsCounted, Grows, ForHeld, own_value};
 
 use crate::allocator::blocks::Blocks;
@@ -267,6 +267,7 @@ fn prune_up<K: Key, A: Allocator, V: Tick>(
     requires long { len / 5 < length way.now }
     requires stands { AtEnd (path_of (take len (K.bits key))) way.now node nodes.old }
     ensures room { Grows nodes.old nodes.new 24 }
+    ensures settles { NodesSettle nodes.old nodes.new }
     ensures pruned { (reading : List ℕ → Option Node) (paths : List (List ℕ))
         → NodesHold node_sizes reading paths nodes.old
         → IsWay reading (path_of (take len (K.bits key))) way.now (len / 5)

@@ -49,13 +49,5 @@ returns-clause-removed g c = λ reading paths values holds.
 
 pub returns-clause-settles : goal.returns-clause-settles
 returns-clause-settles g c =
-    let b = g.K.Key.bits c.args.key in
-    let path = path_of (take c.args.len b) in
-    let t = c.requires.table.table in
-    let taken = c.take_entry-value.ensures.taken t.reading t.paths t.values t.holds in
-    let slots : IsWay taken.0.later path c.deref.result.now (c.args.len / 5) =
-    subst (λ (xs : List NodeSlot). IsWay taken.0.later path xs (c.args.len / 5)) (sym c.deref.ensures.0)
-    (λ k h. taken.0.stands _ _ (c.in-Some.ensures.found.2 t.reading t.paths t.holds.hold k h)) in
-    let pruned = c.prune_up.ensures.pruned taken.0.later t.paths taken.0.holds.hold slots taken.1 in
     Settles-nodes c.args.nodes.now c.take_entry-value.new.nodes c.prune_up.new.nodes c.args.cells.now c.take_entry-value.new.cells
-    c.take_entry-value.ensures.settles pruned.to.settles
+    c.take_entry-value.ensures.settles c.prune_up.ensures.settles
