@@ -44,6 +44,7 @@ pub mod Lending
 pub mod SlotSums
 pub mod PathLists
 pub mod NodeCounts
+pub mod Settling
 pub mod PathStrings
 pub mod Sizing
 pub mod Asked

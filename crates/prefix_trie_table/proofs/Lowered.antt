@@ -34,6 +34,7 @@ use Rattle.prefix_trie_table.proofs.Keys.{same_way}
 use Rattle.prefix_trie_table.proofs.Placing.{step_below, string_at}
 use Rattle.prefix_trie_table.proofs.Placed.{value_iff, child_iff, nothing_at, none_below_it}
 use Rattle.prefix_trie_table.proofs.Pruning.{drops_cells, drops_count}
+use Rattle.prefix_trie_table.proofs.Settling.{Settles-nodes}
 use Rattle.prefix_trie_table.proofs.Retained.{tree_of, are_nodes, read_held, here_length, here_whole, here_levels, path_levels, site_stays}
 use Rattle.prefix_trie_table.proofs.Shapes.{reads_node, shape_of, shape_entries}
 use Rattle.prefix_trie_table.specs.Shape.{IsShapeOf}
@@ -139,6 +140,7 @@ module _ {K T : Type 0} (IsKey : K → Type 0) (bits : K → List Bool) (width :
         node_slots = lasts.node_slots;
         cell_limit = lasts.cell_limit;
         cell_slots = lasts.cell_slots;
+        settles = lasts.settles;
       }
 
       whole_b : length (take b.depth (bits b.key)) % 5 ≡ 0
@@ -327,4 +329,5 @@ module _ {K T : Type 0} (IsKey : K → Type 0) (bits : K → List Bool) (width :
           node_slots = (let l = lasts.node_slots in omega (arith, l, longer));
           cell_limit = lasts.cell_limit;
           cell_slots = lasts.cell_slots;
+          settles = Settles-nodes v v2 v3 w w2 lasts.settles one.settles;
         }

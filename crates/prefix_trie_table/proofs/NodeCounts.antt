@@ -20,52 +20,59 @@ use Rattle.prefix_trie_table.proofs.PathLists.{step, children_of, children, list
 abbrev pub child_count : Node → ℕ
 child_count n = rank n.child_bitmap 32
 
-held_sum : (k start size : ℕ) (xs : List Node) → sum_by (items_sum child_count) (held k start size xs) ≡ sum_by child_count xs
-held_sum k start size [] = refl
-held_sum k start size (x ∷ xs) = omega arith
+module _ (f : Node → ℕ) (none : f blank_node ≡ 0) (sizes : List ℕ) (nodes : List ℕ → Option Node) where
+  -- what the node at a path counts
+  abbrev pub weight : List ℕ → ℕ
+  weight q = f (node_or_blank (nodes q))
 
-module _ (sizes : List ℕ) (nodes : List ℕ → Option Node) where
-  -- how many children the node at a path has
-  abbrev weight : List ℕ → ℕ
-  weight q = child_count (node_or_blank (nodes q))
+  held_sum : (k start size : ℕ) (xs : List Node) → sum_by (items_sum f) (held k start size xs) ≡ sum_by f xs
+  held_sum k start size [] = refl
+  held_sum k start size (x ∷ xs) = omega arith
 
-  own_sum : (p : List ℕ) (o : Option Node) → sum_by (items_sum child_count) (child_blocks_of sizes nodes p o) ≡ sum_by weight (children_of p o)
+  own_sum : (p : List ℕ) (o : Option Node) → sum_by (items_sum f) (child_blocks_of sizes nodes p o) ≡ sum_by weight (children_of p o)
   own_sum p None = refl
   own_sum p (Some n) =
       held_sum n.child_tier n.child_block (size_in sizes n.child_tier) (child_items nodes p n.child_bitmap)
-      ∙ sum_by-mapped child_count (λ c. node_or_blank (nodes (step p c))) (bits n.child_bitmap)
+      ∙ sum_by-mapped f (λ c. node_or_blank (nodes (step p c))) (bits n.child_bitmap)
       ∙ sym (sum_by-mapped weight (step p) (bits n.child_bitmap))
 
-  own_number : (p : List ℕ) (o : Option Node) → length (children_of p o) ≡ child_count (node_or_blank o)
-  own_number p None = sym rank-zero-all
-  own_number p (Some n) = rank-all (step p) n.child_bitmap
-
-  -- the blocks in use name the children of all children
-  blocks_sum : (paths : List (List ℕ)) → sum_by (items_sum child_count) (flat_map (child_blocks sizes nodes) paths) ≡ sum_by weight (children nodes paths)
+  -- the blocks in use hold all children
+  blocks_sum : (paths : List (List ℕ)) → sum_by (items_sum f) (flat_map (child_blocks sizes nodes) paths) ≡ sum_by weight (children nodes paths)
   blocks_sum paths =
-      sum_by-flat_map (items_sum child_count) (child_blocks sizes nodes) paths
-      ∙ sum_by-same (λ p. sum_by weight (children_of p (nodes p))) (λ p. sum_by (items_sum child_count) (child_blocks sizes nodes p)) paths
+      sum_by-flat_map (items_sum f) (child_blocks sizes nodes) paths
+      ∙ sum_by-same (λ p. sum_by weight (children_of p (nodes p))) (λ p. sum_by (items_sum f) (child_blocks sizes nodes p)) paths
       (λ p. own_sum p (nodes p))
       ∙ sym (sum_by-flat_map weight (λ p. children_of p (nodes p)) paths)
 
   module _ (paths : List (List ℕ)) (v : Store Node) (hold : NodesHold sizes nodes paths v) where
-    root_sum : sum_by child_count (take v.first v.slots) ≡ weight []
+    root_sum : sum_by f (take v.first v.slots) ≡ weight []
     root_sum =
-        let some : 0 < length v.slots = (let w = (all_within v.first (length v.slots) hold.sound.tiling hold.sound.tiles).1 in let f = hold.first_is in omega arith) in
-        let one : sum_by child_count (take 1 v.slots) ≡ child_count (node_at v.slots 0) = (let e = sum_by_more child_count v.slots 0 blank_node some in omega (arith, e)) in
-        ap (λ n. sum_by child_count (take n v.slots)) hold.first_is ∙ one ∙ ap (λ o. child_count (node_or_blank o)) (sym hold.rooted)
+        let some : 0 < length v.slots = (let w = (all_within v.first (length v.slots) hold.sound.tiling hold.sound.tiles).1 in let h = hold.first_is in omega arith) in
+        let one : sum_by f (take 1 v.slots) ≡ f (node_at v.slots 0) = (let e = sum_by_more f v.slots 0 blank_node some in omega (arith, e)) in
+        ap (λ n. sum_by f (take n v.slots)) hold.first_is ∙ one ∙ ap (λ o. f (node_or_blank o)) (sym hold.rooted)
 
-    -- the root, and the children that all slots name
-    pub nodes_counted : length paths ≡ 1 + sum_by child_count v.slots
-    nodes_counted =
-        let same = listed_below nodes sizes paths v hold in
-        let slots = slots_sum child_count blank_node rank-zero-all (flat_map (child_blocks sizes nodes) paths) v hold.sound in
-        let all : sum_by weight paths ≡ sum_by child_count v.slots =
-        sym (sum_by-IsPermutation weight paths ([] ∷ children nodes paths) same) ∙ sum_by-cons weight [] (children nodes paths)
-        ∙ sym (omega (arith, slots, root_sum, blocks_sum paths)) in
-        let number : length (children nodes paths) ≡ sum_by weight paths = length-flat_map (λ p. children_of p (nodes p)) paths
-        ∙ sum_by-same weight (λ p. length (children_of p (nodes p))) paths (λ p. own_number p (nodes p)) in
-        omega (arith, length_permutation paths ([] ∷ children nodes paths) same, number, all)
+    -- where a slot without a node counts 0, all slots count what the nodes do
+    pub slots_by_path : sum_by f v.slots ≡ sum_by weight paths
+    slots_by_path =
+        let slots = slots_sum f blank_node none (flat_map (child_blocks sizes nodes) paths) v hold.sound in
+        omega (arith, slots, root_sum, blocks_sum paths)
+        ∙ sym (sum_by-cons weight [] (children nodes paths))
+        ∙ sum_by-IsPermutation weight paths ([] ∷ children nodes paths) (listed_below nodes sizes paths v hold)
+
+module _ (sizes : List ℕ) (nodes : List ℕ → Option Node) (paths : List (List ℕ)) (v : Store Node) (hold : NodesHold sizes nodes paths v) where
+  own_number : (p : List ℕ) (o : Option Node) → length (children_of p o) ≡ child_count (node_or_blank o)
+  own_number p None = sym rank-zero-all
+  own_number p (Some n) = rank-all (step p) n.child_bitmap
+
+  -- the root, and the children that all slots name
+  pub nodes_counted : length paths ≡ 1 + sum_by child_count v.slots
+  nodes_counted =
+      let same = listed_below nodes sizes paths v hold in
+      let all = slots_by_path child_count rank-zero-all sizes nodes paths v hold in
+      let number : length (children nodes paths) ≡ sum_by (weight child_count rank-zero-all sizes nodes) paths =
+      length-flat_map (λ p. children_of p (nodes p)) paths
+      ∙ sum_by-same (weight child_count rank-zero-all sizes nodes) (λ p. length (children_of p (nodes p))) paths (λ p. own_number p (nodes p)) in
+      omega (arith, length_permutation paths ([] ∷ children nodes paths) same, number, all)
 
 -- the loop over the slots: the number so far, and the children of the next one
 module _ (slots : List Node) (i number n : ℕ) (m : Node) (inside : i < length slots) (so_far : number ≡ 1 + sum_by child_count (take i slots))

@@ -12,7 +12,7 @@ use Rattle.prefix_trie_table.proofs.Paths.{same_path-itself, same_path-true, sam
 use Rattle.prefix_trie_table.proofs.Children.{same_or}
 
 -- one path put first
-first_out : (p : List ℕ) (paths : List (List ℕ)) → 0 < times p paths → IsPermutation paths (p ∷ without p paths)
+pub first_out : (p : List ℕ) (paths : List (List ℕ)) → 0 < times p paths → IsPermutation paths (p ∷ without p paths)
 first_out p [] h = absurd (omega arith)
 first_out p (x ∷ paths) h = elim (cases_Bool (same_path p x)) as (λ _. IsPermutation (x ∷ paths) (p ∷ cond (same_path p x) paths (x ∷ without p paths))) [
   | inl hit ↦ rw hit (subst (λ y. IsPermutation (x ∷ paths) (y ∷ paths)) (sym (same_path-true p x hit)) (IsPermutation-refl (x ∷ paths)))

@@ -30,6 +30,7 @@ use Rattle.prefix_trie_table.specs.Retaining.{is_at, is_at_some, is_under_some, 
 use Rattle.prefix_trie_table.proofs.Asked.{no_or_yes, at_value, at_child, under_at_some, one_place, apart_first, asked_both, may_ask_first, may_ask_then}
 use Rattle.prefix_trie_table.proofs.Bits.{has_bit-is}
 use Rattle.prefix_trie_table.proofs.Placing.{below_node, step_below}
+use Rattle.prefix_trie_table.proofs.Settling.{Settles-none, Settles-then}
 use Rattle.prefix_trie_table.proofs.Retained.{tree_of, here_levels, here_whole}
 use Rattle.prefix_trie_table.proofs.Shapes.{shape_entries, shape_nodes, reads_node}
 use Rattle.prefix_trie_table.proofs.Spots.{place-value, place-child}
@@ -236,6 +237,7 @@ lasts_both level v v2 v3 w w2 w3 a b = record {
   node_slots = (let x = a.node_slots in let y = b.node_slots in omega (arith, x, y));
   cell_limit = b.cell_limit ∙ a.cell_limit;
   cell_slots = (let x = a.cell_slots in let y = b.cell_slots in omega (arith, x, y));
+  settles = Settles-then v v2 v3 w w2 w3 a.settles b.settles;
 }
 
 pub lasts_none : {T : Type 0} (level : ℕ) (v : Store Node) (w : Store (Option T)) → Lasts level v v w w
@@ -245,4 +247,5 @@ lasts_none level v w = record {
   node_slots = omega arith;
   cell_limit = refl;
   cell_slots = omega arith;
+  settles = Settles-none v v w w refl refl;
 }

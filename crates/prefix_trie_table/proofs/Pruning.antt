@@ -12,6 +12,7 @@ use Rattle.prefix_trie_table.specs.Removals.{Shrinks, SameValues, IsBare, IsWay,
 use Rattle.prefix_trie_table.proofs.Bare.{no_bit}
 use Rattle.prefix_trie_table.proofs.Children.{same_or, changed, changed_below, changed_here, changed_other}
 use Rattle.prefix_trie_table.proofs.EntryCounts.{count_out, count_same}
+use Rattle.prefix_trie_table.proofs.Settling.{NodesSettle-none, NodesSettle-then}
 use Rattle.prefix_trie_table.proofs.Spending.{tier_for_same}
 use Rattle.prefix_trie_table.proofs.Starts.{is_start_take}
 use Rattle.prefix_trie_table.proofs.Trees.{listed_once, slot_holds, times_out_same}
@@ -49,6 +50,7 @@ pruning_first reading paths path way level node v hold slots is all = record {
     above = λ k less. refl;
     off = λ q no. refl;
     shrinks = λ n less e. absurd (omega arith);
+    settles = NodesSettle-none v;
   };
   slots = slots;
 }
@@ -145,6 +147,7 @@ module _ (reading : List ℕ → Option Node) (paths : List (List ℕ)) (path : 
                 subst (λ (y : Node). Shrinks before.tiers y.child_tier (rank y.child_bitmap 32) m.child_tier) same
                     (shrinks_from before.tiers v.tiers _ _ m.child_tier back.sizes back.free one.shrinks),
               );
+          settles = NodesSettle-then before v w p.to.settles one.settles;
         };
         slots = λ k h.
             slots_still p.to.later (take level path) m c None (take k path) (slot_in way k) (p.slots k (omega arith))

@@ -1,5 +1,5 @@
 -- What the calls that take a value or a child out leave of the arrays.
-use Rattle.std.proofs.Common.{◌≡◌, ◌≢◌, ℕ, zero, suc, ◌-◌, ◌*◌, ◌<◌, ◌≤◌, ◌⊎◌, inl, inr, ⊎_elim, true, false, nat_le, List, [], ◌∷◌, ◌++◌, length, set, remove, map, flat_map, Option, None, Some, refl, sym, ap, ◌∙◌, subst, arith, lit≤}
+use Rattle.std.proofs.Common.{◌≡◌, ◌≢◌, ℕ, zero, suc, ◌-◌, ◌*◌, ◌<◌, ◌≤◌, ◌⊎◌, ◌+◌, inl, inr, ⊎_elim, true, false, nat_le, List, [], ◌∷◌, ◌++◌, length, get_or, set, remove, map, flat_map, Option, None, Some, refl, sym, ap, ◌∙◌, subst, arith, lit≤}
 use Rattle.std.specs.List.{position}
 use Rattle.std.proofs.lemmas.List.{length-map, length-set}
 use Rattle.std.proofs.lemmas.List.Quantifiers.{position-Some}
@@ -12,11 +12,13 @@ use Rattle.prefix_trie_table.specs.Cells.{blank_node, node_at, node_sizes, cell_
 use Rattle.prefix_trie_table.specs.Store.{Store, Block, Sound, block, held, HasList, Keeps, Turnover, SameRoom, tier_at, tier_for, tier_sizes, size_in, slots_of, one_at, many_at, blocks_entered, tier_entered}
 use Rattle.prefix_trie_table.specs.Forest.{without, child_items, child_blocks, IsSlot, NodesHold, CellsHold, value_blocks, with_node, lacking_child, node_or_blank}
 use Rattle.prefix_trie_table.specs.Removals.{Shrinks, ValueTaken, ChildDropped, GivesBack}
+use Rattle.prefix_trie_table.specs.Settling.{smaller_sizes, headroom}
 use Rattle.prefix_trie_table.specs.Tables.{Grows}
 use Rattle.prefix_trie_table.proofs.Bare.{no_bit, cleared, others_stay, one_fewer}
 use Rattle.prefix_trie_table.proofs.BitLists.{rank-all}
 use Rattle.prefix_trie_table.proofs.Children.{child_removed, node_changed, number_or}
 use Rattle.prefix_trie_table.proofs.Soundness.{fits_block, tier_of_block}
+use Rattle.prefix_trie_table.proofs.Settling.{headroom-none, headroom-step, child_settles}
 use Rattle.prefix_trie_table.proofs.Spending.{size_at, tier_for_sizes}
 use Rattle.prefix_trie_table.proofs.Trees.{own_first, slot_holds, held_some}
 use Rattle.prefix_trie_table.proofs.Turnovers.{slots_of-le, slots_of-none, slots_of-many}
@@ -94,20 +96,27 @@ module _ {S : Type 0} (v w : Store S) (k count to : ℕ) (took gave : ℕ → �
         let size : list.size ≡ size_in sizes k = of.size_is ∙ size_at v.tiers k ∙ ap (λ ns. size_in ns k) sizes_are in
         ((let x = of.within in omega arith), (let e = list.is_count in omega arith))
 
-    entered_few : 1 < count → to ≢ k → tier_for v.tiers (count - 1) ≡ Some to → slots_of (tier_sizes v.tiers) (blocks_entered v.tiers k count to) ≤ 24
-    entered_few more other is =
+    -- another block that it moves to is of a smaller tier, and one such block is made at most
+    entered_lower : 1 < count → to ≢ k → tier_for v.tiers (count - 1) ≡ Some to →
+        (to < k) × (k < 7) × (slots_of (tier_sizes v.tiers) (blocks_entered v.tiers k count to) ≤ size_in sizes to)
+    entered_lower more other is =
         let at = list_fits (omega arith) in
         let le : to ≤ k = no_larger sizes k to count at.1 (sym (tier_for_sizes v.tiers (count - 1) ∙ ap (λ ns. position (λ s. nat_le (count - 1) s) ns) sizes_are) ∙ is) in
-        let small : to ≤ 5 = below_six le at.0 other in
         let less = slots_of-le (tier_sizes v.tiers) (blocks_entered v.tiers k count to) (many_at to 1)
         (λ j. (let e = entered_one k count to j more other in omega arith)) in
         let one : slots_of (tier_sizes v.tiers) (many_at to 1) ≡ size_in sizes to * 1 =
         ap (λ ns. slots_of ns (many_at to 1)) sizes_are ∙ slots_of-many sizes to 1 (omega arith) in
-        let bound = few to small in
-        omega (arith, less, one, bound)
+        (below le other, at.0, omega (arith, less, one))
       where
-        below_six : to ≤ k → k < 7 → to ≢ k → to ≤ 5
-        below_six le less ne = grind arith
+        below : to ≤ k → to ≢ k → to < k
+        below le ne = grind arith
+
+    entered_few : 1 < count → to ≢ k → tier_for v.tiers (count - 1) ≡ Some to → slots_of (tier_sizes v.tiers) (blocks_entered v.tiers k count to) ≤ 24
+    entered_few more other is =
+        let lower = entered_lower more other is in
+        let bound = few to (let a = lower.0 in let b = lower.1 in omega arith) in
+        let one = lower.2 in
+        omega (arith, one, bound)
 
     -- a list that loses an item lets its array grow by 24 slots at most
     pub grows_few : Grows v w 24
@@ -119,6 +128,33 @@ module _ {S : Type 0} (v w : Store S) (k count to : ℕ) (took gave : ℕ → �
       ]
       | inr few_left ↦ grows_by (let n = slots_of-none (tier_sizes v.tiers) (blocks_entered v.tiers k count to)
           (λ j. (let e = left_none k count to j (omega arith) in omega arith)) in omega arith)
+    ]
+
+    -- and what its tier may still make shrinks by as many
+    pub steps_down : 0 < count → (count ≡ 1 → to ≡ 0) → ((j : ℕ) → j ≤ 5 → size_in sizes j ≡ get_or smaller_sizes j 0) →
+        length w.slots + headroom to ≤ length v.slots + headroom k
+    steps_down some gone smaller = elim (cases_lt 1 count) as (λ _. length w.slots + headroom to ≤ length v.slots + headroom k) [
+      | inl more ↦ elim (number_or to k) as (λ _. length w.slots + headroom to ≤ length v.slots + headroom k) [
+        | inl same ↦
+            let n = slots_of-none (tier_sizes v.tiers) (blocks_entered v.tiers k count to) (λ j. (let e = entered_none k count to j more same in omega arith)) in
+            let l = turned.longer in
+            let h : headroom to ≡ headroom k = ap headroom same in
+            omega (arith, n, l, h)
+        | inr other ↦
+            let lower = entered_lower more other
+            (⊎_elim (λ (e : to ≡ k). absurd (other e)) (λ (e : tier_for v.tiers (count - 1) ≡ Some to). e) (smallest more)) in
+            let less = lower.0 in
+            let seven = lower.1 in
+            let one = lower.2 in
+            let step = headroom-step to k (size_in sizes to) less seven (smaller to (omega (arith, less, seven))) in
+            let l = turned.longer in
+            omega (arith, one, l, step)
+      ]
+      | inr few_left ↦
+          let n = slots_of-none (tier_sizes v.tiers) (blocks_entered v.tiers k count to) (λ j. (let e = left_none k count to j (omega arith) in omega arith)) in
+          let l = turned.longer in
+          let h : headroom to ≡ 0 = ap headroom (gone (omega arith)) ∙ headroom-none in
+          omega (arith, n, l, h)
     ]
 
 -- ---- the reading of the arrays where a value is gone
@@ -202,12 +238,13 @@ pub children_dropped : (v u v2 : Store Node) (slot place c tier start bitmap : �
     length xs ≡ rank k.child_bitmap 32 → Sound blank_node (held tier start (tier_at v.tiers tier).size (remove xs place) ++ live) u)
     → place ≡ rank k.child_bitmap c → c < 32 → v2 ≡ record u { slots = set u.slots slot m }
     → Shrinks v.tiers k.child_tier (rank k.child_bitmap 32) tier
+    → length u.slots + headroom tier ≤ length v.slots + headroom k.child_tier
     → (reading : List ℕ → Option Node) (paths : List (List ℕ)) (p : List ℕ) (n leaf : Node) →
     NodesHold node_sizes reading paths v → IsSlot reading p slot → reading p ≡ Some n → reading (p ++ c ∷ []) ≡ Some leaf →
     rank leaf.child_bitmap 32 ≡ 0
     → ChildDropped reading paths p c n m v v2
-children_dropped v u v2 slot place c tier start bitmap k m read sets m_is keeps cut place_is digit v2_is shrinks reading paths p n leaf hold stands is
-    below bare =
+children_dropped v u v2 slot place c tier start bitmap k m read sets m_is keeps cut place_is digit v2_is shrinks steps reading paths p n leaf hold stands
+    is below bare =
     let at = slot_holds node_sizes reading paths v hold p slot n stands is in
     let same : k ≡ n = read ∙ at.0 in
     let here : reading p ≡ Some k = is ∙ ap Some (sym same) in
@@ -226,10 +263,11 @@ children_dropped v u v2 slot place c tier start bitmap k m read sets m_is keeps 
     subst (λ (bs : List (Block Node)). Sound blank_node (bs ++ live) u)
     (λ i. held (sym tier_is i) (sym start_is i) ((size ∙ ap (size_in node_sizes) (sym tier_is)) i)
     (remove (child_items reading p k.child_bitmap) (place_is i))) left in
+    let later = subst (λ y. NodesHold node_sizes (lacking_child reading p m c) (without (p ++ c ∷ []) paths) y) (sym v2_is)
+    (child_removed node_sizes reading paths v hold p slot k m leaf c u stands here digit below (λ i. no_bit leaf.child_bitmap i bare) gone stay
+    (keeps.first_is ∙ hold.first_is) (keeps.sizes ∙ hold.sizes_are) (keeps.before 0 blank_node (let f = hold.first_is in omega arith)) sound) in
     record {
-      hold = subst (λ y. NodesHold node_sizes (lacking_child reading p m c) (without (p ++ c ∷ []) paths) y) (sym v2_is)
-          (child_removed node_sizes reading paths v hold p slot k m leaf c u stands here digit below (λ i. no_bit leaf.child_bitmap i bare) gone stay
-          (keeps.first_is ∙ hold.first_is) (keeps.sizes ∙ hold.sizes_are) (keeps.before 0 blank_node (let f = hold.first_is in omega arith)) sound);
+      hold = later;
       values = record {
         bitmap = ap (λ (y : Node). y.value_bitmap) m_is ∙ ap (λ (y : Node). y.value_bitmap) same;
         block = ap (λ (y : Node). y.value_block) m_is ∙ ap (λ (y : Node). y.value_block) same;
@@ -237,6 +275,10 @@ children_dropped v u v2 slot place c tier start bitmap k m read sets m_is keeps 
       };
       shrinks = subst (λ t. Shrinks v.tiers n.child_tier (rank n.child_bitmap 32) t) (sym tier_is)
           (subst (λ (y : Node). Shrinks v.tiers y.child_tier (rank y.child_bitmap 32) tier) same shrinks);
+      settles = child_settles reading paths v v2 p c n m leaf hold is below later (ap (λ (y : Node). y.value_tier) m_is ∙ ap (λ (y : Node). y.value_tier) same)
+          (let long : length v2.slots ≡ length u.slots = ap (λ (y : Store Node). length y.slots) v2_is ∙ length-set u.slots slot m in
+          let now : headroom m.child_tier ≡ headroom tier = ap headroom tier_is in
+          let was : headroom k.child_tier ≡ headroom n.child_tier = ap (λ (y : Node). headroom y.child_tier) same in omega (arith, steps, long, now, was));
     }
 
 -- where the last child went, no block was made or taken

@@ -14,5 +14,6 @@ pub mod Walks
 pub mod Items
 pub mod Covers
 pub mod TableLending
+pub mod Settling
 pub mod Removals
 pub mod Retaining

@@ -5,6 +5,7 @@ use Rattle.prefix_trie_table.specs.declared.allocator.node.NodeSlot.{NodeSlot}
 use Rattle.prefix_trie_table.specs.Bitmaps.{rank}
 use Rattle.prefix_trie_table.specs.Cells.{node_sizes, cell_sizes}
 use Rattle.prefix_trie_table.specs.Store.{Store, Tier, SameRoom, tier_for, tier_sizes, free_at}
+use Rattle.prefix_trie_table.specs.Settling.{NodesSettle}
 use Rattle.prefix_trie_table.specs.Forest.{NodesHold, CellsHold, Holds, IsSlot, lacking_child, without, is_start, with_node, with_value, own_count, entry_count, one_if}
 
 -- a list of so many items in a block of tier k has lost one, and stands in tier `to` now: an empty rest nowhere, which is
@@ -79,6 +80,7 @@ pub record ChildDropped (reading : List ℕ → Option Node) (paths : List (List
   pub hold : NodesHold node_sizes (lacking_child reading p m c) (without (p ++ c ∷ []) paths) after
   pub values : SameValues n m
   pub shrinks : Shrinks before.tiers n.child_tier (rank n.child_bitmap 32) m.child_tier
+  pub settles : NodesSettle before after
 
 -- nodes were taken out one after another, each of them bare when it went
 pub data Drops (reading : List ℕ → Option Node) (paths : List (List ℕ)) : (List ℕ → Option Node) → List (List ℕ) → Type 0 where
@@ -101,6 +103,7 @@ pub record PrunedTo (reading : List ℕ → Option Node) (paths : List (List ℕ
   pub off : (q : List ℕ) → is_start q path ≡ false → later q ≡ reading q
   pub shrinks : (n : Node) → level < length path → reading (take level path) ≡ Some n →
       SameValues n node × Shrinks before.tiers n.child_tier (rank n.child_bitmap 32) node.child_tier
+  pub settles : NodesSettle before after
 
 -- the way to a path was pruned as far up as nodes are bare
 pub record Pruned (reading : List ℕ → Option Node) (paths : List (List ℕ)) (path : List ℕ) (before after : Store Node) : Type 0 where

@@ -16,6 +16,7 @@ use Rattle.prefix_trie_table.specs.declared.allocator.node.Node.{Node}
 use Rattle.prefix_trie_table.specs.declared.table.retain.Site.{Site}
 use Rattle.prefix_trie_table.specs.Digits.{path_of}
 use Rattle.prefix_trie_table.specs.Forest.{IsSlot, read}
+use Rattle.prefix_trie_table.specs.Settling.{Settles}
 use Rattle.prefix_trie_table.specs.Shape.{IsShapeOf}
 use Rattle.prefix_trie_table.specs.Store.{Store}
 use Rattle.prefix_trie_table.specs.Tables.{IsTableOf}
@@ -61,13 +62,14 @@ module _ {T : Type 0} where
   abbrev pub HasTrie : ℕ → ℕ → Store Node → Store (Option T) → Type 0
   HasTrie width count v w = (s : State T) × IsTrie width count v w s
 
-  -- no array is shorter, both limits are the same, and so are the nodes above this level
+  -- no array is shorter, or may become longer, both limits are the same, and so are the nodes above this level
   pub record Lasts (level : ℕ) (v v2 : Store Node) (w w2 : Store (Option T)) : Type 0 where
     pub above : (p : List ℕ) → length p < level → read v2.slots p ≡ read v.slots p
     pub node_limit : v2.limit ≡ v.limit
     pub node_slots : length v.slots ≤ length v2.slots
     pub cell_limit : w2.limit ≡ w.limit
     pub cell_slots : length w.slots ≤ length w2.slots
+    pub settles : Settles v v2 w w2
 
 -- a node stands in the slot of the site and at its path, which is no longer than the width
 pub record IsSite {K : Type 0} (IsKey : K → Type 0) (bits : K → List Bool) (width : ℕ) (v : Store Node) (p : Site K) (n : Node) : Type 0 where

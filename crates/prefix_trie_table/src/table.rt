@@ -18,7 +18,7 @@ pub mod spot;
 mod tests;
 pub mod walk;
 
-ghost use Rattle.std.specs.Prelude.{◌≡◌, ℕ, ◌+◌, ◌≤◌, take, IfOk, OnOk, IfErr, OnErr, IsOk, IsErr, IsTrue, ◌↔◌, MatchOption, None, Some};
+ghost use Rattle.std.specs.Prelude.{◌≡◌, ℕ, ◌+◌, ◌*◌, ◌≤◌, take, IfOk, OnOk, IfErr, OnErr, IsOk, IsErr, IsTrue, ◌↔◌, MatchOption, None, Some};
 ghost use Rattle.std.specs.Option.{option_copied};
 ghost use Rattle.std.specs.FinMap.{get, contains_key, len};
 ghost use Rattle.prefix_trie_bits.specs.Model.Asking.{AsksInOrder, MayAskInOrder};
@@ -282,7 +282,7 @@ impl<T: Drop, A: Allocator, V: Tick> Table<T, A, V> {
 
     /// Asks a test at each entry, in listing order, and takes out those at which it answers `false`, and then all nodes that
     /// no entry left needs. Never refused: the values of a node move to a smaller block only where one is free or can be
-    /// made.
+    /// made. So each node that was there makes at most one block of each smaller size, of children and of values: 55 slots.
     pub fn retain<K: Key, F: Keep<K, T>>(&mut self, keep: F, counter: &mut V)
         requires within { AreWithin K.bit_width self.old.entries }
         requires nodes { AreNodes K.bit_width self.old.entries self.old.nodes }
@@ -293,6 +293,10 @@ impl<T: Drop, A: Allocator, V: Tick> Table<T, A, V> {
         ensures room { (self.new.room.limit ≡ self.old.room.limit)
             × (self.old.room.node_slots ≤ self.new.room.node_slots)
             × (self.old.room.cell_slots ≤ self.new.room.cell_slots) }
+        ensures nodes_grow { self.new.room.node_slots ≤ self.old.room.node_slots + 56 * len self.old.nodes }
+        ensures cells_grow { self.new.room.cell_slots ≤ self.old.room.cell_slots + 56 * len self.old.nodes }
+        ensures limit { (self.new.room.node_slots ≤ self.new.room.limit)
+            × (self.new.room.cell_slots ≤ self.new.room.limit) }
     {
         retain_entries::<K, T, A, V, F>(
             &mut self.nodes,

@@ -7,6 +7,7 @@ ghost use Rattle.prefix_trie_table.specs.Digits.{path_of, bit_of};
 ghost use Rattle.prefix_trie_table.specs.Store.{Sound, SameRoom, no_blocks};
 ghost use Rattle.prefix_trie_table.specs.Forest.{IsSlot, NodesHold, CellsHold, IsTable, AtNode, AtValues, one_if};
 ghost use Rattle.prefix_trie_table.specs.Removals.{ValueTaken, EntryTaken, IsBare, IsStocked, GivesBack, ChildDropped, IsWay, AtEnd, Pruned, EntryRemoved};
+ghost use Rattle.prefix_trie_table.specs.Settling.{Settles, NodesSettle};
 ghost use Rattle.prefix_trie_table.specs.Tables.{IsReached, IsCounted, Grows, ForHeld, own_value};
 
 use crate::allocator::blocks::Blocks;
@@ -61,6 +62,7 @@ pub fn take_value<T: Drop, A: Allocator, V: Tick>(
     requires there { is_set node.value_bitmap bit ≡ true }
     ensures node_room { SameRoom nodes.old nodes.new }
     ensures cell_room { Grows cells.old cells.new 24 }
+    ensures settles { Settles nodes.old nodes.new cells.old cells.new }
     ensures value { (reading : List ℕ → Option Node) (paths : List (List ℕ))
         (values : List ℕ → ℕ → Option T) (p : List ℕ) (n : Node)
         → NodesHold node_sizes reading paths nodes.old
@@ -115,6 +117,7 @@ fn take_entry<K: Key, T: Drop, A: Allocator, V: Tick>(
     ensures counted { entries.new + one_if (is_some result.0) ≡ entries.old }
     ensures node_room { SameRoom nodes.old nodes.new }
     ensures cell_room { Grows cells.old cells.new 24 }
+    ensures settles { Settles nodes.old nodes.new cells.old cells.new }
 {
     let bit = value_bit_of(key, len / 5 * 5, len);
     if !has_bit(node.value_bitmap, bit) {
@@ -145,6 +148,7 @@ pub fn remove_value<K: Key, T: Drop, A: Allocator, V: Tick>(
     ensures counted { entries.new + one_if (is_some result) ≡ entries.old }
     ensures node_room { SameRoom nodes.old nodes.new }
     ensures cell_room { Grows cells.old cells.new 24 }
+    ensures settles { Settles nodes.old nodes.new cells.old cells.new }
 {
     let reached = descend(nodes, key, len, counter);
     if 5 * reached.level + 5 <= len {
@@ -263,6 +267,7 @@ fn prune_up<K: Key, A: Allocator, V: Tick>(
     requires long { len / 5 < length way.now }
     requires stands { AtEnd (path_of (take len (K.bits key))) way.now node nodes.old }
     ensures room { Grows nodes.old nodes.new 24 }
+    ensures settles { NodesSettle nodes.old nodes.new }
     ensures pruned { (reading : List ℕ → Option Node) (paths : List (List ℕ))
         → NodesHold node_sizes reading paths nodes.old
         → IsWay reading (path_of (take len (K.bits key))) way.now (len / 5)
@@ -299,6 +304,7 @@ pub fn remove_entry<K: Key, T: Drop, A: Allocator, V: Tick>(
     ensures counted { entries.new + one_if (is_some result) ≡ entries.old }
     ensures node_room { Grows nodes.old nodes.new 24 }
     ensures cell_room { Grows cells.old cells.new 24 }
+    ensures settles { Settles nodes.old nodes.new cells.old cells.new }
 {
     let Some(way) = descend_keeping_way(nodes, key, len, counter) else {
         return None;

@@ -1,4 +1,5 @@
-use Rattle.std.proofs.Common.{◌≡◌, sym, subst}
+use Rattle.std.proofs.Common.{◌≡◌, ◌+◌, ◌*◌, ◌≤◌, length, sym, subst}
+use Rattle.std.specs.FinMap.{len}
 use Rattle.prefix_trie_bits.specs.Model.Asking.{AsksInOrder, MayAskInOrder}
 use Rattle.prefix_trie_bits.specs.Model.Entries.{AreWithin}
 use Rattle.prefix_trie_bits.specs.Model.Nodes.{AreNodes, needed}
@@ -7,6 +8,7 @@ use Rattle.prefix_trie_bits.specs.Model.Step.{State}
 use Rattle.prefix_trie_table.specs.Shape.{Contents, same_shape}
 use Rattle.prefix_trie_table.specs.Tables.{IsTableOf}
 use Rattle.prefix_trie_table.proofs.Sizing.{table_sizes}
+use Rattle.prefix_trie_table.proofs.Settling.{settled_room}
 use Rattle.prefix_trie_table.proofs.table.Table.retain.Goals as goal
 
 pub retain_entries-requires-clause-trie : goal.retain_entries-requires-clause-trie
@@ -80,3 +82,15 @@ returns-clause-fits g c =
     }) in
     let same : all.after ≡ c.self-1.given.0.0 = same_shape c.retain_entries.new.nodes.slots c.retain_entries.new.cells.slots all.after c.self-1.given.0.0 all.trie.shaped c.self-1.given.0.1 in
     subst (λ (x : State g.row.T.Denot). AreWithin g.K.Key.bit_width x.entries) same all.trie.within
+
+pub returns-clause-nodes_grow : goal.returns-clause-nodes_grow
+returns-clause-nodes_grow g c =
+    let room = settled_room c.self.inside.nodes c.retain_entries.new.nodes c.self.inside.cells c.retain_entries.new.cells c.self.inside.count
+    c.self.inside.shape.0 c.self.invariant c.self.inside.shape.1 c.retain_entries.ensures.lasts.settles in
+    subst (λ (s : Contents g.row.T.Denot). length c.retain_entries.new.nodes.slots ≤ s.room.node_slots + 56 * len s.nodes) c.self.view_is room.0
+
+pub returns-clause-cells_grow : goal.returns-clause-cells_grow
+returns-clause-cells_grow g c =
+    let room = settled_room c.self.inside.nodes c.retain_entries.new.nodes c.self.inside.cells c.retain_entries.new.cells c.self.inside.count
+    c.self.inside.shape.0 c.self.invariant c.self.inside.shape.1 c.retain_entries.ensures.lasts.settles in
+    subst (λ (s : Contents g.row.T.Denot). length c.retain_entries.new.cells.slots ≤ s.room.cell_slots + 56 * len s.nodes) c.self.view_is room.1

@@ -7,7 +7,8 @@ use Rattle.prefix_trie_table.proofs.Bare.{one_fewer}
 use Rattle.prefix_trie_table.proofs.Bits.{has_bit-is, rank-ones}
 use Rattle.prefix_trie_table.proofs.BitLists.{rank-below}
 use Rattle.prefix_trie_table.proofs.Adding.{at_is, has_list}
-use Rattle.prefix_trie_table.proofs.Removing.{children_dropped, grows_few, few_nodes, gives_back, gives_written, grows_written}
+use Rattle.prefix_trie_table.proofs.Removing.{children_dropped, grows_few, few_nodes, gives_back, gives_written, grows_written, steps_down}
+use Rattle.prefix_trie_table.proofs.Settling.{smaller_node}
 use Rattle.prefix_trie_table.proofs.table.removal.drop_child.Goals as goal
 
 pub visit-node-requires : goal.visit-node-requires
@@ -61,6 +62,8 @@ pub returns-clause-dropped : goal.returns-clause-dropped
 returns-clause-dropped g c = λ reading paths p n leaf hold stands is below bare.
     let same : c.count.result ≡ rank c.visit-node.result.child_bitmap 32 =
     c.count.ensures ∙ sym (rank-ones c.visit-node.result.child_bitmap 32 (omega arith)) in
+    let some = rank-below c.visit-node.result.child_bitmap c.args.child c.requires.child
+    (ap (λ (n : Node). has_bit n.child_bitmap c.args.child) c.visit-node.ensures.node ∙ c.requires.there) in
     children_dropped c.args.nodes.now c.remove_at.new.self c.put.new.self (c.args.at.start + c.args.at.place) c.rank.result c.args.child
     c.remove_at.result.1.tier c.remove_at.result.1.start c.without_bit.result c.visit-node.result _
     c.visit-node.ensures.node c.without_bit.ensures.clears refl c.remove_at.ensures.keeps
@@ -72,4 +75,9 @@ returns-clause-dropped g c = λ reading paths p n leaf hold stands is below bare
       gone = λ one. ap (λ r. r.tier) (c.remove_at.ensures.gone one);
       smallest = c.remove_at.ensures.smallest;
       smaller = c.remove_at.ensures.smaller;
-    })) reading paths p n leaf hold stands is below bare
+    }))
+    (steps_down c.args.nodes.now c.remove_at.new.self c.visit-node.result.child_tier c.count.result
+    c.remove_at.result.1.tier _ _ c.remove_at.ensures.keeps c.remove_at.ensures.turnover blank_node c.visit-node.result.child_block node_sizes
+    c.requires.stands.hold.sizes_are refl few_nodes
+    (has_list c.args.nodes.now (c.args.at.start + c.args.at.place) c.visit-node.result c.count.result c.requires.stands c.visit-node.ensures.node same)
+    c.remove_at.ensures.smallest (omega (arith, some, same)) (λ one. ap (λ r. r.tier) (c.remove_at.ensures.gone one)) smaller_node) reading paths p n leaf hold stands is below bare

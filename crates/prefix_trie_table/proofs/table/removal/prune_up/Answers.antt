@@ -89,3 +89,19 @@ pub returns-after-loop-level-clause-pruned : goal.returns-after-loop-level-claus
 returns-after-loop-level-clause-pruned g c = λ reading paths hold slots is.
     let p = c.loop-level.invariant.pruned reading paths hold slots is in
     record { level = c.loop-level.level; node = c.loop-level.node; to = p.to; stops = inl (omega (arith, c.loop-level-test.false)) }
+
+pub returns-else-is_bare-clause-settles : goal.returns-else-is_bare-clause-settles
+returns-else-is_bare-clause-settles g c =
+    let b = g.K.Key.bits c.args.key in
+    let long : c.args.len ≤ length b = omega (arith, g.met.K.Key.key_laws.bits_length c.args.key c.requires.key, c.requires.within) in
+    let s = c.requires.stands in
+    let slots = subst (λ n. IsWay s.reading (path_of (take c.args.len b)) c.args.way.now n) (steps-all b c.args.len long) s.slots in
+    (c.loop-level.invariant.pruned s.reading s.paths s.hold slots s.is).to.settles
+
+pub returns-after-loop-level-clause-settles : goal.returns-after-loop-level-clause-settles
+returns-after-loop-level-clause-settles g c =
+    let b = g.K.Key.bits c.args.key in
+    let long : c.args.len ≤ length b = omega (arith, g.met.K.Key.key_laws.bits_length c.args.key c.requires.key, c.requires.within) in
+    let s = c.requires.stands in
+    let slots = subst (λ n. IsWay s.reading (path_of (take c.args.len b)) c.args.way.now n) (steps-all b c.args.len long) s.slots in
+    (c.loop-level.invariant.pruned s.reading s.paths s.hold slots s.is).to.settles

@@ -5,6 +5,7 @@ use Rattle.prefix_trie_table.specs.Removals.{IsWay}
 use Rattle.prefix_trie_table.proofs.Emptying.{nothing_taken, no_value}
 use Rattle.prefix_trie_table.proofs.Finding.{reached_own}
 use Rattle.prefix_trie_table.proofs.Going.{level_last, steps-all}
+use Rattle.prefix_trie_table.proofs.Settling.{Settles-nodes}
 use Rattle.prefix_trie_table.proofs.table.removal.remove_entry.Goals as goal
 
 pub returns-in_default-clause-removed : goal.returns-in_default-clause-removed
@@ -45,3 +46,8 @@ returns-clause-removed g c = λ reading paths values holds.
       taken.0,
       c.prune_up.ensures.pruned taken.0.later paths taken.0.holds.hold slots taken.1,
     )
+
+pub returns-clause-settles : goal.returns-clause-settles
+returns-clause-settles g c =
+    Settles-nodes c.args.nodes.now c.take_entry-value.new.nodes c.prune_up.new.nodes c.args.cells.now c.take_entry-value.new.cells
+    c.take_entry-value.ensures.settles c.prune_up.ensures.settles

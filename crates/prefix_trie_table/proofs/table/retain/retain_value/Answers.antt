@@ -94,4 +94,5 @@ returns-clause-lasts g c =
       node_slots = (let r = c.take_value.ensures.node_room.0 in omega (arith, r));
       cell_limit = c.take_value.ensures.cell_room.limit_is;
       cell_slots = c.take_value.ensures.cell_room.longer;
+      settles = c.take_value.ensures.settles;
     }

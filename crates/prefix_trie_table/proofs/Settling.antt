@@ -1,0 +1,199 @@
+-- That the calls that take values and nodes out raise nothing that the arrays may reach.
+use Rattle.std.proofs.Common.{◌≡◌, ◌≢◌, ℕ, zero, suc, ◌+◌, ◌-◌, ◌*◌, ◌<◌, ◌≤◌, ◌⊎◌, inl, inr, List, [], ◌∷◌, ◌++◌, length, get_or, set, take, sum_by, All, Option, None, Some, refl, sym, ap, ap₂, ◌∙◌, subst, arith, lit≤, length-append}
+use Rattle.std.proofs.lemmas.List.{length-set}
+use Rattle.std.proofs.lemmas.List.Elements.{All-nil, All-cons}
+use Rattle.std.proofs.lemmas.List.Sums.{sum_by-cons, sum_by-le, sum_by-set, sum_by-take-le, sum_by_more}
+use Rattle.std.proofs.lemmas.List.Sorted.{sum_by-IsPermutation}
+use Rattle.std.specs.FinMap.{len}
+use Rattle.prefix_trie_bits.specs.Model.Step.{State}
+use Rattle.prefix_trie_table.specs.declared.allocator.node.Node.{Node}
+use Rattle.prefix_trie_table.specs.Cells.{blank_node, node_at, node_sizes, cell_sizes}
+use Rattle.prefix_trie_table.specs.Store.{Store, SameRoom, size_in}
+use Rattle.prefix_trie_table.specs.Forest.{one_if, same_path, times, without, node_or_blank, lacking_child, NodesHold}
+use Rattle.prefix_trie_table.specs.Shape.{IsShapeOf}
+use Rattle.prefix_trie_table.specs.Tables.{IsTableOf}
+use Rattle.prefix_trie_table.specs.Settling.{smaller_sizes, headroom, child_headroom, value_headroom, node_reach, cell_reach, Settles, NodesSettle}
+use Rattle.prefix_trie_table.proofs.Paths.{same_path-itself}
+use Rattle.prefix_trie_table.proofs.Trees.{listed_once, times_out, times_out_same}
+use Rattle.prefix_trie_table.proofs.Children.{same_or, changed_here, changed_other}
+use Rattle.prefix_trie_table.proofs.PathLists.{first_out}
+use Rattle.prefix_trie_table.proofs.NodeCounts.{weight, slots_by_path}
+use Rattle.prefix_trie_table.proofs.PathStrings.{paths_counted}
+use Rattle.prefix_trie_table.proofs.Shapes.{shape_nodes}
+
+-- ---- the sizes below a tier
+
+pub headroom-most : (k : ℕ) → headroom k ≤ 55
+unfolding headroom
+headroom-most k = sum_by-take-le (λ n. n) smaller_sizes k
+
+headroom-more : (k : ℕ) → k ≤ 5 → headroom (k + 1) ≡ headroom k + get_or smaller_sizes k 0
+unfolding headroom
+headroom-more k h = sum_by_more (λ n. n) smaller_sizes k 0 (omega (arith, h))
+
+pub headroom-none : headroom 0 ≡ 0
+unfolding headroom
+headroom-none = refl
+
+-- the sizes of nodes and of values are the same but for the largest
+pub smaller_node : (k : ℕ) → k ≤ 5 → size_in node_sizes k ≡ get_or smaller_sizes k 0
+smaller_node zero h = refl
+smaller_node (suc zero) h = refl
+smaller_node (suc (suc zero)) h = refl
+smaller_node (suc (suc (suc zero))) h = refl
+smaller_node (suc (suc (suc (suc zero)))) h = refl
+smaller_node (suc (suc (suc (suc (suc zero))))) h = refl
+smaller_node (suc (suc (suc (suc (suc (suc n)))))) h = absurd (omega (arith, h))
+
+pub smaller_cell : (k : ℕ) → k ≤ 5 → size_in cell_sizes k ≡ get_or smaller_sizes k 0
+smaller_cell zero h = refl
+smaller_cell (suc zero) h = refl
+smaller_cell (suc (suc zero)) h = refl
+smaller_cell (suc (suc (suc zero))) h = refl
+smaller_cell (suc (suc (suc (suc zero)))) h = refl
+smaller_cell (suc (suc (suc (suc (suc zero))))) h = refl
+smaller_cell (suc (suc (suc (suc (suc (suc n)))))) h = absurd (omega (arith, h))
+
+headroom-rises : (k d : ℕ) → k + d ≤ 6 → headroom k ≤ headroom (k + d)
+headroom-rises k zero h = let e : headroom (k + 0) ≡ headroom k = ap headroom (let z : k + 0 ≡ k = omega arith in z) in omega (arith, e)
+headroom-rises k (suc d) h =
+    let rest : headroom k ≤ headroom (k + d) = headroom-rises k d (omega arith) in
+    let more : headroom (k + d + 1) ≡ headroom (k + d) + get_or smaller_sizes (k + d) 0 = headroom-more (k + d) (omega arith) in
+    let same : headroom (k + suc d) ≡ headroom (k + d + 1) = ap headroom (let e : k + suc d ≡ k + d + 1 = omega arith in e) in
+    omega (arith, rest, more, same)
+
+-- a block of a smaller tier is one of those below the tier, beside those below its own
+pub headroom-step : (to k size : ℕ) → to < k → k < 7 → size ≡ get_or smaller_sizes to 0 → headroom to + size ≤ headroom k
+headroom-step to k size less seven is =
+    let up : headroom (to + 1) ≤ headroom (to + 1 + (k - (to + 1))) = headroom-rises (to + 1) (k - (to + 1)) (omega arith) in
+    let same : headroom (to + 1 + (k - (to + 1))) ≡ headroom k = ap headroom (let e : to + 1 + (k - (to + 1)) ≡ k = omega arith in e) in
+    let more = headroom-more to (omega arith) in
+    omega (arith, up, same, more, is)
+
+-- ---- one after another
+
+module _ {T : Type 0} where
+  pub Settles-none : (v v2 : Store Node) (w w2 : Store (Option T)) → v2 ≡ v → w2 ≡ w → Settles v v2 w w2
+  Settles-none v v2 w w2 ev ew = record {
+    nodes = (let e : node_reach v2 ≡ node_reach v = ap node_reach ev in omega (arith, e));
+    cells = (let e : cell_reach v2 w2 ≡ cell_reach v w = ap₂ cell_reach ev ew in omega (arith, e));
+  }
+
+  pub Settles-then : (v v2 v3 : Store Node) (w w2 w3 : Store (Option T)) → Settles v v2 w w2 → Settles v2 v3 w2 w3 → Settles v v3 w w3
+  Settles-then v v2 v3 w w2 w3 a b = record {
+    nodes = (let x = a.nodes in let y = b.nodes in omega (arith, x, y));
+    cells = (let x = a.cells in let y = b.cells in omega (arith, x, y));
+  }
+
+  -- the nodes alone
+  pub Settles-nodes : (v v2 v3 : Store Node) (w w2 : Store (Option T)) → Settles v v2 w w2 → NodesSettle v2 v3 → Settles v v3 w w2
+  Settles-nodes v v2 v3 w w2 a b = record {
+    nodes = (let x = a.nodes in let y = b.nodes in omega (arith, x, y));
+    cells = (let x = a.cells in let y = b.values in omega (arith, x, y));
+  }
+
+pub NodesSettle-none : (v : Store Node) → NodesSettle v v
+NodesSettle-none v = record { nodes = omega arith; values = omega arith }
+
+pub NodesSettle-then : (v v2 v3 : Store Node) → NodesSettle v v2 → NodesSettle v2 v3 → NodesSettle v v3
+NodesSettle-then v v2 v3 a b = record {
+  nodes = (let x = a.nodes in let y = b.nodes in omega (arith, x, y));
+  values = (let x = a.values in let y = b.values in omega (arith, x, y));
+}
+
+-- ---- a value is gone
+
+-- the node in a slot was written over by one with the same children, whose values' block is no larger
+pub value_settles : {T : Type 0} (v v2 : Store Node) (w w2 : Store (Option T)) (slot : ℕ) (k m : Node) → k ≡ node_at v.slots slot → slot < length v.slots →
+    v2 ≡ record v { slots = set v.slots slot m } → m.child_tier ≡ k.child_tier →
+    length w2.slots + headroom m.value_tier ≤ length w.slots + headroom k.value_tier → Settles v v2 w w2
+value_settles v v2 w w2 slot k m read inside v2_is same shrunk =
+    let children = sum_by-set child_headroom v.slots slot m blank_node inside in
+    let values = sum_by-set value_headroom v.slots slot m blank_node inside in
+    let long = length-set v.slots slot m in
+    let child_is : headroom (node_at v.slots slot).child_tier ≡ headroom m.child_tier =
+    ap (λ (n : Node). headroom n.child_tier) (sym read) ∙ ap headroom (sym same) in
+    let value_is : headroom (node_at v.slots slot).value_tier ≡ headroom k.value_tier = ap (λ (n : Node). headroom n.value_tier) (sym read) in
+    subst (λ u. Settles v u w w2) (sym v2_is) (record {
+      nodes = omega (arith, children, long, child_is);
+      cells = omega (arith, values, value_is, shrunk);
+    })
+
+-- ---- a child is gone
+
+-- terms that are the same where the list has them
+listed-same : (f g : List ℕ → ℕ) (paths : List (List ℕ)) → ((q : List ℕ) → 0 < times q paths → g q ≡ f q) → sum_by g paths ≡ sum_by f paths
+listed-same f g [] same = refl
+listed-same f g (x ∷ paths) same =
+    let here : g x ≡ f x = same x (let e : one_if (same_path x x) ≡ 1 = ap one_if (same_path-itself x) in omega arith) in
+    let rest : sum_by g paths ≡ sum_by f paths = listed-same f g paths (λ q h. same q (omega arith)) in
+    sum_by-cons g x paths ∙ ap₂ (λ a b. a + b) here rest ∙ sym (sum_by-cons f x paths)
+
+-- one term first
+listed-out : (f : List ℕ → ℕ) (p : List ℕ) (paths : List (List ℕ)) → times p paths ≡ 1 → sum_by f paths ≡ f p + sum_by f (without p paths)
+listed-out f p paths once =
+    sym (sum_by-IsPermutation f paths (p ∷ without p paths) (first_out p paths (omega arith))) ∙ sum_by-cons f p (without p paths)
+
+module _ (nodes : List ℕ → Option Node) (paths : List (List ℕ)) (v v2 : Store Node) (p : List ℕ) (c : ℕ) (n m leaf : Node)
+    (hold : NodesHold node_sizes nodes paths v) (is : nodes p ≡ Some n) (below : nodes (p ++ c ∷ []) ≡ Some leaf)
+    (later : NodesHold node_sizes (lacking_child nodes p m c) (without (p ++ c ∷ []) paths) v2) where
+  -- the sum over the slots changes by that node and loses the child
+  dropped_sum : (f : Node → ℕ) → f blank_node ≡ 0 → sum_by f v2.slots + f n ≤ sum_by f v.slots + f m
+  dropped_sum f none =
+      let left : List (List ℕ) = without (p ++ c ∷ []) paths in
+      let g : List ℕ → ℕ = weight f none node_sizes nodes in
+      let h : List ℕ → ℕ = weight f none node_sizes (lacking_child nodes p m c) in
+      let leaf_once : times (p ++ c ∷ []) paths ≡ 1 = listed_once node_sizes nodes paths v hold (p ++ c ∷ []) leaf below in
+      let apart : p ≢ p ++ c ∷ [] = λ e. let l : length p ≡ length p + 1 = ap (λ (xs : List ℕ). length xs) e ∙ length-append p (c ∷ []) in omega arith in
+      let once : times p (without (p ++ c ∷ []) paths) ≡ 1 =
+      times_out (p ++ c ∷ []) p paths (omega arith) apart ∙ listed_once node_sizes nodes paths v hold p n is in
+      let before = slots_by_path f none node_sizes nodes paths v hold in
+      let after = slots_by_path f none node_sizes (lacking_child nodes p m c) (without (p ++ c ∷ []) paths) v2 later in
+      let out_leaf = listed-out (weight f none node_sizes nodes) (p ++ c ∷ []) paths leaf_once in
+      let out_before = listed-out (weight f none node_sizes nodes) p (without (p ++ c ∷ []) paths) once in
+      let out_after = listed-out (weight f none node_sizes (lacking_child nodes p m c)) p (without (p ++ c ∷ []) paths) once in
+      let was : f (node_or_blank (nodes p)) ≡ f n = ap (λ o. f (node_or_blank o)) is in
+      let now : f (node_or_blank (lacking_child nodes p m c p)) ≡ f m = ap (λ o. f (node_or_blank o)) (changed_here nodes p m c None p refl) in
+      let rest = listed-same (weight f none node_sizes nodes) (weight f none node_sizes (lacking_child nodes p m c)) (without p (without (p ++ c ∷ []) paths))
+      (λ q some. ap (λ o. f (node_or_blank o)) (changed_other nodes p m c None q
+      (λ e. gone q p (without p (without (p ++ c ∷ []) paths)) e (times_out_same p (without (p ++ c ∷ []) paths) once) some)
+      (λ e. gone q (p ++ c ∷ []) (without p (without (p ++ c ∷ []) paths)) e
+      (times_out p (p ++ c ∷ []) (without (p ++ c ∷ []) paths) (omega arith) (λ d. apart (sym d)) ∙ times_out_same (p ++ c ∷ []) paths leaf_once) some))) in
+      omega (arith, before, after, out_leaf, out_before, out_after, was, now, rest)
+    where
+      gone : (q r : List ℕ) (ps : List (List ℕ)) → q ≡ r → times r ps ≡ 0 → 0 < times q ps → ⊥
+      gone q r ps e z h = (let y : times q ps ≡ 0 = ap (λ x. times x ps) e ∙ z in omega arith)
+
+  -- the node n at p, now m, lost its child c, and its children's block is no larger
+  pub child_settles : m.value_tier ≡ n.value_tier → length v2.slots + headroom m.child_tier ≤ length v.slots + headroom n.child_tier → NodesSettle v v2
+  child_settles same shrunk =
+      let children = dropped_sum child_headroom headroom-none in
+      let values = dropped_sum value_headroom headroom-none in
+      let tier : headroom m.value_tier ≡ headroom n.value_tier = ap headroom same in
+      record { nodes = omega (arith, children, shrunk); values = omega (arith, values, tier) }
+
+-- ---- what all nodes may still make
+
+-- no node makes more than a block of each smaller size
+headroom_bound : (f : Node → ℕ) → f blank_node ≡ 0 → ((n : Node) → f n ≤ 55) → (nodes : List ℕ → Option Node) (paths : List (List ℕ)) (v : Store Node) →
+    NodesHold node_sizes nodes paths v → sum_by f v.slots ≤ 55 * length paths
+headroom_bound f none few nodes paths v hold =
+    let all = slots_by_path f none node_sizes nodes paths v hold in
+    let most = sum_by-le (weight f none node_sizes nodes) 55 paths (each paths) in
+    omega (arith, all, most)
+  where
+    each : (xs : List (List ℕ)) → All (λ q. weight f none node_sizes nodes q ≤ 55) xs
+    each [] = All-nil (λ q. weight f none node_sizes nodes q ≤ 55)
+    each (x ∷ xs) = All-cons (λ q. weight f none node_sizes nodes q ≤ 55) x xs (few (node_or_blank (nodes x))) (each xs)
+
+-- so arrays that settle grow by so many slots for each node that there was
+pub settled_room : {T : Type 0} (v v2 : Store Node) (w w2 : Store (Option T)) (count : ℕ) (s : State T) → IsTableOf v w count s → IsShapeOf v.slots w.slots s →
+    Settles v v2 w w2 → (length v2.slots ≤ length v.slots + 56 * len s.nodes) × (length w2.slots ≤ length w.slots + 56 * len s.nodes)
+settled_room v v2 w w2 count s is shaped settles =
+    let t = is.held.table in
+    let children = headroom_bound child_headroom headroom-none (λ n. headroom-most n.child_tier) t.reading t.paths v t.holds.hold in
+    let values = headroom_bound value_headroom headroom-none (λ n. headroom-most n.value_tier) t.reading t.paths v t.holds.hold in
+    let number = paths_counted _ t.reading t.paths v t.holds.hold s.nodes (shape_nodes t.reading t.values t.paths v w t.holds s shaped) in
+    let x = settles.nodes in
+    let y = settles.cells in
+    (omega (arith, children, number, x), omega (arith, values, number, y))

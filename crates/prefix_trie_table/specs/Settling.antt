@@ -1,0 +1,37 @@
+-- By how many slots the calls that take values and nodes out may lengthen the arrays.
+use Rattle.std.specs.Prelude.{ℕ, ◌+◌, ◌≤◌, List, [], ◌∷◌, Option, length, take, sum_by}
+use Rattle.prefix_trie_table.specs.declared.allocator.node.Node.{Node}
+use Rattle.prefix_trie_table.specs.Store.{Store}
+
+-- the sizes of blocks but the largest, of nodes and of values alike
+abbrev pub smaller_sizes : List ℕ
+smaller_sizes = 1 ∷ 2 ∷ 4 ∷ 8 ∷ 16 ∷ 24 ∷ []
+
+-- the slots of one block of each size below that of tier k: a list in a block of tier k makes no more as it loses its items
+unfoldable pub headroom : ℕ → ℕ
+headroom k = sum_by (λ n. n) (take k smaller_sizes)
+
+-- the same of a node's children, and of its values
+abbrev pub child_headroom : Node → ℕ
+child_headroom n = headroom n.child_tier
+
+abbrev pub value_headroom : Node → ℕ
+value_headroom n = headroom n.value_tier
+
+-- how long the array of nodes is, and may become as items are taken out
+abbrev pub node_reach : Store Node → ℕ
+node_reach v = length v.slots + sum_by child_headroom v.slots
+
+-- the same of the array of values
+abbrev pub cell_reach : {T : Type 0} → Store Node → Store (Option T) → ℕ
+cell_reach v w = length w.slots + sum_by value_headroom v.slots
+
+-- neither array may become longer than before
+pub record Settles {T : Type 0} (v v2 : Store Node) (w w2 : Store (Option T)) : Type 0 where
+  pub nodes : node_reach v2 ≤ node_reach v
+  pub cells : cell_reach v2 w2 ≤ cell_reach v w
+
+-- the same where the array of values did not change
+pub record NodesSettle (v v2 : Store Node) : Type 0 where
+  pub nodes : node_reach v2 ≤ node_reach v
+  pub values : sum_by value_headroom v2.slots ≤ sum_by value_headroom v.slots
