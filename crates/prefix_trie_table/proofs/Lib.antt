@@ -52,3 +52,4 @@ pub mod Seen
 pub mod Placed
 pub mod Lowered
 pub mod Rooted
+pub mod Copying

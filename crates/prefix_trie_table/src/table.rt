@@ -3,6 +3,7 @@
 //! A bit string is handed in as a key and a length: the first `len` bits of the key. Contracts see a table as its entries,
 //! a finite map from bit strings to values, its nodes, a finite set of bit strings, and its room. They see no slot, no
 //! block and no bitmap.
+mod copying;
 mod counting;
 mod cover;
 mod insertion;
