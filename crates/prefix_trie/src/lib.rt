@@ -6,6 +6,8 @@
 #![tactic(auto)]
 
 #[cfg(test)]
+mod clone_tests;
+#[cfg(test)]
 mod counted_tests;
 #[cfg(test)]
 mod example;

@@ -13,6 +13,7 @@ ghost use Rattle.prefix_trie_bits.specs.Model.Room.{MayPassLimit};
 ghost use Rattle.prefix_trie_bits.specs.Model.Step.{Step, Insert};
 ghost use Rattle.prefix_trie_map.specs.Steps.{state, inserted};
 
+mod clone;
 mod counting;
 mod cover;
 #[cfg(test)]

@@ -55,3 +55,4 @@ pub mod Placed
 pub mod Lowered
 pub mod Rooted
 pub mod Emptied
+pub mod Copying

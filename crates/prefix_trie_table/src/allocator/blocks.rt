@@ -1,4 +1,6 @@
 //! An array that is cut into blocks of a few sizes. A block in use holds one list, from its first slot on.
+mod copying;
+
 ghost use Rattle.std.specs.Prelude.{MatchResult, ◌≡◌, ◌≢◌, ℕ, ◌+◌, ◌-◌, ◌*◌, ◌^◌, ◌<◌, ◌≤◌, ◌↔◌, [], ◌∷◌, ◌++◌, List, Some, length, take, replicate, insert, remove, All, map, None, IfOk, IsTrue, IsOk, IsErr, OnOk, OnErr, nat_lt, if◌then◌else◌, IfErr, IfSome, IfNone, IsSome, IsSomeAnd, MatchOption, ◌⊎◌, vec_len, vec_capacity, slice_index_or, slice_set};
 ghost use Rattle.prefix_trie_table.specs.Runs.{swap_runs};
 ghost use Rattle.prefix_trie_table.specs.Store.{Tier, Store, Block, Sound, tier_at, slots_made, with_tier, grown, grown_times, block, InUse, tier_for, no_blocks, taken, SameRoom, held, HasList, IsReady, tier_lacking, tier_sizes, free_at, Spends, SameBefore, Prepared, Enough, Keeps, Turnover, CutShort, none_at, one_at, many_at, size_in, blocks_lacking, lacking_slots, tier_outgrown, tier_entered, tier_left, blocks_entered};

@@ -97,6 +97,24 @@ impl<A: Allocator> FreeList<A> {
     }
 }
 
+// A copy has a place for each block that was made, so giving one back asks for no memory there either.
+impl<A: Allocator + Clone> Clone for FreeList<A> {
+    ghost use Rattle.std.specs.Prelude.{◌≡◌};
+
+    ghost is_clone = { λ list copy. copy ≡ list };
+
+    fn clone(&self) -> Result<Self, AllocError> {
+        let alloc = self.starts.allocator().clone()?;
+        let mut starts = Vec::with_capacity(alloc, self.made as usize)?;
+        starts.extend_from_slice(&self.starts)?;
+        Ok(FreeList {
+            size: self.size,
+            made: self.made,
+            starts,
+        })
+    }
+}
+
 /// Forgets all blocks of all sizes.
 pub fn clear_all<A: Allocator>(lists: &mut Vec<FreeList<A>, A>)
     ensures { lists.new.items ≡ map (λ t. no_blocks t.size) lists.old.items }

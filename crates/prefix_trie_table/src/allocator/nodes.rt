@@ -7,7 +7,7 @@ ghost use Rattle.prefix_trie_bits.specs.declared.prefix.Refusal.TheVariants.{Ind
 use crate::allocator::blocks::{BlockRef, Blocks, node_blocks};
 use crate::allocator::node::{Node, NodeSlot};
 use prefix_trie_bits::prefix::Refusal;
-use std::alloc::Allocator;
+use std::alloc::{AllocError, Allocator};
 use std::marker::{Model, PhantomData};
 
 /// A counter of node reads. Its number exists in contracts alone, and nothing here makes a counter.
@@ -51,6 +51,16 @@ impl<A: Allocator + Clone, V: Drop> NodeAllocator<A, V> {
         let blocks = node_blocks(alloc, limit)?;
         Ok(NodeAllocator {
             blocks,
+            counter: PhantomData,
+        })
+    }
+
+    /// An array with the same root and blocks, in memory of its own. Refused only for memory.
+    pub fn clone(&self) -> Result<Self, AllocError>
+        ensures same { IfOk result (λ copy. copy ≡ self.now) }
+    {
+        Ok(NodeAllocator {
+            blocks: self.blocks.clone()?,
             counter: PhantomData,
         })
     }

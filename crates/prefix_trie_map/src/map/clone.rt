@@ -1,0 +1,31 @@
+//! A copy of a map.
+ghost use Rattle.std.specs.Prelude.{◌≡◌, IfOk};
+
+use crate::map::PrefixMap;
+use prefix_trie_bits::prefix::Prefix;
+use std::alloc::{AllocError, Allocator};
+use std::marker::PhantomData;
+
+impl<P: Prefix, T: Clone, A: Allocator + Clone> PrefixMap<P, T, A> {
+    /// A map with the same entries and nodes, in memory of its own. Refused only where memory is, for the arrays or for a
+    /// value; then no copy exists.
+    ///
+    /// It copies slot by slot, free ones too: both arrays are as long as those of this map, with the same blocks and the
+    /// same limit. Each value is cloned once, and all memory for the arrays is asked for before the first one is.
+    ///
+    /// ```text
+    /// map.insert((0x0a010000_u32, 16_u8), 1)       Ok(None)
+    /// let mut copy = map.clone()?;
+    /// copy.insert((0x0a010000_u32, 16_u8), 2)      Ok(Some(1))
+    /// map.get(&(0x0a010000_u32, 16_u8))            Some(&1), since it shares nothing with its copy
+    /// ```
+    pub fn clone(&self) -> Result<Self, AllocError>
+        requires clones { (x y : T) → T.is_clone x y → y ≡ x }
+        ensures same { IfOk result (λ copy. copy ≡ self.now) }
+    {
+        Ok(PrefixMap {
+            table: self.table.clone()?,
+            marker: PhantomData,
+        })
+    }
+}

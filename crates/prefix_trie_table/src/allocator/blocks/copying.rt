@@ -1,0 +1,23 @@
+//! A copy of an array with its blocks.
+ghost use Rattle.std.specs.Prelude.{◌≡◌, IfOk};
+
+use crate::allocator::blocks::Blocks;
+use crate::allocator::slots::Slot;
+use std::alloc::{AllocError, Allocator};
+
+impl<S: Slot + Clone, A: Allocator + Clone> Blocks<S, A> {
+    /// An array with the same blocks, used and free, in memory of its own. All of that is asked for before the first value
+    /// is cloned. Refused only where memory is, for the array or for a value.
+    pub fn clone(&self) -> Result<Self, AllocError>
+        ensures same { IfOk result (λ copy. ((x y : S) → S.is_clone x y → y ≡ x) → copy ≡ self.now) }
+    {
+        let lists = Vec::from_clones(self.lists.allocator().clone()?, &self.lists)?;
+        let slots = Vec::from_clones(self.slots.allocator().clone()?, &self.slots)?;
+        Ok(Blocks {
+            slots,
+            first: self.first,
+            lists,
+            limit: self.limit,
+        })
+    }
+}
