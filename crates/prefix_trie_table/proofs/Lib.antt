@@ -53,3 +53,4 @@ pub mod Placed
 pub mod Lowered
 pub mod Rooted
 pub mod Emptied
+pub mod PartTaken
