@@ -56,3 +56,4 @@ pub mod Lowered
 pub mod Rooted
 pub mod Emptied
 pub mod Copying
+pub mod PartTaken
