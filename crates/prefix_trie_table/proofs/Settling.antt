@@ -1,5 +1,5 @@
 -- That the calls that take values and nodes out raise nothing that the arrays may reach.
-use Rattle.std.proofs.Common.{◌≡◌, ◌≢◌, ℕ, zero, suc, ◌+◌, ◌-◌, ◌*◌, ◌<◌, ◌≤◌, ◌⊎◌, inl, inr, List, [], ◌∷◌, ◌++◌, length, get_or, set, take, sum_by, All, Option, None, Some, refl, sym, ap, ap₂, ◌∙◌, subst, arith, lit≤, length-append}
+use Rattle.std.proofs.Common.{◌≡◌, ◌≢◌, ℕ, zero, suc, ◌+◌, ◌-◌, ◌*◌, ◌<◌, ◌≤◌, List, [], ◌∷◌, ◌++◌, length, get_or, set, sum_by, All, Option, None, Some, refl, sym, ap, ap₂, ◌∙◌, subst, arith, length-append}
 use Rattle.std.proofs.lemmas.List.{length-set}
 use Rattle.std.proofs.lemmas.List.Elements.{All-nil, All-cons}
 use Rattle.std.proofs.lemmas.List.Sums.{sum_by-cons, sum_by-le, sum_by-set, sum_by-take-le, sum_by_more}
@@ -8,14 +8,14 @@ use Rattle.std.specs.FinMap.{len}
 use Rattle.prefix_trie_bits.specs.Model.Step.{State}
 use Rattle.prefix_trie_table.specs.declared.allocator.node.Node.{Node}
 use Rattle.prefix_trie_table.specs.Cells.{blank_node, node_at, node_sizes, cell_sizes}
-use Rattle.prefix_trie_table.specs.Store.{Store, SameRoom, size_in}
+use Rattle.prefix_trie_table.specs.Store.{Store, size_in}
 use Rattle.prefix_trie_table.specs.Forest.{one_if, same_path, times, without, node_or_blank, lacking_child, NodesHold}
 use Rattle.prefix_trie_table.specs.Shape.{IsShapeOf}
 use Rattle.prefix_trie_table.specs.Tables.{IsTableOf}
 use Rattle.prefix_trie_table.specs.Settling.{smaller_sizes, headroom, child_headroom, value_headroom, node_reach, cell_reach, Settles, NodesSettle}
 use Rattle.prefix_trie_table.proofs.Paths.{same_path-itself}
 use Rattle.prefix_trie_table.proofs.Trees.{listed_once, times_out, times_out_same}
-use Rattle.prefix_trie_table.proofs.Children.{same_or, changed_here, changed_other}
+use Rattle.prefix_trie_table.proofs.Children.{changed_here, changed_other}
 use Rattle.prefix_trie_table.proofs.PathLists.{first_out}
 use Rattle.prefix_trie_table.proofs.NodeCounts.{weight, slots_by_path}
 use Rattle.prefix_trie_table.proofs.PathStrings.{paths_counted}
