@@ -1,6 +1,5 @@
 -- How many entries the nodes have: what a change of one node does to it, and that the cells bound it.
-use Rattle.std.proofs.Common.{◌≡◌, ◌≢◌, ℕ, ◌+◌, ◌-◌, ◌<◌, ◌≤◌, ◌⊎◌, inl, inr, cond, List, [], ◌∷◌, ◌++◌, length, length-append, length-take, take, drop, map, flat_map, replicate, sum_by, All, Option, None, Some, refl, sym, ap, ap₂, ◌∙◌, subst, arith}
-use Rattle.std.proofs.lemmas.Bool.{cases_Bool}
+use Rattle.std.proofs.Common.{◌≡◌, ◌≢◌, ℕ, ◌+◌, ◌-◌, ◌<◌, ◌≤◌, ◌⊎◌, inl, inr, List, [], ◌∷◌, ◌++◌, length, length-append, length-take, take, drop, map, flat_map, replicate, sum_by, All, Option, None, Some, refl, sym, ap, ap₂, ◌∙◌, subst, arith}
 use Rattle.std.proofs.lemmas.List.Elements.{All-head, All-tail}
 use Rattle.std.proofs.lemmas.List.Sums.{sum_by-cons, sum_by-append}
 use Rattle.std.proofs.lemmas.List.Sorted.{sum_by-IsPermutation}
@@ -9,33 +8,28 @@ use Rattle.prefix_trie_table.specs.Bitmaps.{bits, rank}
 use Rattle.prefix_trie_table.specs.Cells.{blank_node, cell_sizes}
 use Rattle.prefix_trie_table.specs.Runs.{run}
 use Rattle.prefix_trie_table.specs.Store.{Store, Block, Sound, IsTiling, HoldsItems, extent, free_extents, filled, held, size_in}
-use Rattle.prefix_trie_table.specs.Forest.{same_path, one_if, times, without, own_count, entry_count, CellsHold, with_node, with_child, value_blocks, value_blocks_of}
+use Rattle.prefix_trie_table.specs.Forest.{times, without, own_count, entry_count, CellsHold, with_node, with_child, value_blocks, value_blocks_of}
 use Rattle.prefix_trie_table.proofs.BitLists.{rank-all, rank-zero-all}
-use Rattle.prefix_trie_table.proofs.Paths.{same_path-itself, same_path-true}
+use Rattle.prefix_trie_table.proofs.PathSums.{sum_out, sum_same}
 use Rattle.prefix_trie_table.proofs.Trees.{times_out_same}
 use Rattle.prefix_trie_table.proofs.Children.{same_or, with_here, with_other, changed_below, changed_here, changed_other}
 
+-- which is a sum over the paths
+pub count_sum : (f : List ℕ → Option Node) (paths : List (List ℕ)) → entry_count f paths ≡ sum_by (λ q. own_count (f q)) paths
+count_sum f [] = refl
+count_sum f (x ∷ paths) = ap (λ k. own_count (f x) + k) (count_sum f paths) ∙ sym (sum_by-cons (λ q. own_count (f q)) x paths)
+
 -- one node's own first
-pub count_out : (f : List ℕ → Option Node) (p : List ℕ) (paths : List (List ℕ)) → 0 < times p paths →
+count_out : (f : List ℕ → Option Node) (p : List ℕ) (paths : List (List ℕ)) → 0 < times p paths →
     entry_count f paths ≡ own_count (f p) + entry_count f (without p paths)
-count_out f p [] h = absurd (omega arith)
-count_out f p (x ∷ paths) h = elim (cases_Bool (same_path p x)) as (λ _. own_count (f x) + entry_count f paths ≡ own_count (f p) + entry_count f
-    (cond (same_path p x) paths (x ∷ without p paths))) [
-      | inl hit ↦ rw hit (ap (λ y. own_count (f y) + entry_count f paths) (sym (same_path-true p x hit)))
-      | inr miss ↦
-          let more : 0 < times p paths = (let e : one_if (same_path p x) ≡ 0 = ap one_if miss in omega arith) in
-          let ih : entry_count f paths ≡ own_count (f p) + entry_count f (without p paths) = count_out f p paths more in
-          rw miss (omega arith)
-    ]
+count_out f p paths there =
+    count_sum f paths ∙ sum_out (λ q. own_count (f q)) p paths there ∙ ap (λ k. own_count (f p) + k) (sym (count_sum f (without p paths)))
 
 -- nodes with as many values each have as many in all
-pub count_same : (f g : List ℕ → Option Node) (paths : List (List ℕ)) → ((q : List ℕ) → 0 < times q paths → own_count (g q) ≡ own_count (f q)) →
+count_same : (f g : List ℕ → Option Node) (paths : List (List ℕ)) → ((q : List ℕ) → 0 < times q paths → own_count (g q) ≡ own_count (f q)) →
     entry_count g paths ≡ entry_count f paths
-count_same f g [] same = refl
-count_same f g (x ∷ paths) same =
-    let here : own_count (g x) ≡ own_count (f x) = same x (let e : one_if (same_path x x) ≡ 1 = ap one_if (same_path-itself x) in omega arith) in
-    let rest : entry_count g paths ≡ entry_count f paths = count_same f g paths (λ q h. same q (omega arith)) in
-    ap₂ (λ a b. a + b) here rest
+count_same f g paths same =
+    count_sum g paths ∙ sum_same (λ q. own_count (f q)) (λ q. own_count (g q)) paths same ∙ sym (count_sum f paths)
 
 -- the node at p becomes m
 pub count_with_node : (f : List ℕ → Option Node) (p : List ℕ) (m : Node) (paths : List (List ℕ)) → times p paths ≡ 1 →

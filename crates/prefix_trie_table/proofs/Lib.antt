@@ -19,6 +19,8 @@ pub mod Shapes
 pub mod Going
 pub mod Finding
 pub mod Counted
+pub mod PathLists
+pub mod PathSums
 pub mod EntryCounts
 pub mod Adding
 pub mod Growing
@@ -42,7 +44,6 @@ pub mod Covers
 pub mod Covered
 pub mod Lending
 pub mod SlotSums
-pub mod PathLists
 pub mod NodeCounts
 pub mod Settling
 pub mod PathStrings

@@ -1,5 +1,5 @@
 -- A way pruned from its end upward.
-use Rattle.std.proofs.Common.{◌≡◌, ◌≢◌, ℕ, ◌+◌, ◌-◌, ◌<◌, ◌≤◌, ◌⊎◌, inl, inr, ⊎_elim, true, List, [], ◌∷◌, ◌++◌, length, get_or, take, Option, None, Some, is_some, refl, sym, ap, ◌∙◌, subst, arith, length-append}
+use Rattle.std.proofs.Common.{◌≡◌, ◌≢◌, ℕ, ◌+◌, ◌-◌, ◌<◌, ◌≤◌, inl, inr, ⊎_elim, true, List, [], ◌∷◌, ◌++◌, length, get_or, take, Option, None, Some, is_some, refl, sym, ap, ◌∙◌, subst, arith, length-append}
 use Rattle.std.proofs.lemmas.Bool.{false≢true, cases_lt}
 use Rattle.std.proofs.lemmas.List.{take_more, take_all, length-take-le}
 use Rattle.prefix_trie_table.specs.declared.allocator.node.Node.{Node}
@@ -7,15 +7,16 @@ use Rattle.prefix_trie_table.specs.declared.allocator.node.NodeSlot.{NodeSlot}
 use Rattle.prefix_trie_table.specs.Bitmaps.{has_bit, rank}
 use Rattle.prefix_trie_table.specs.Cells.{node_at, node_sizes, cell_sizes}
 use Rattle.prefix_trie_table.specs.Store.{Store, Tier, tier_sizes, tier_for, free_at}
-use Rattle.prefix_trie_table.specs.Forest.{NodesHold, CellsHold, IsSlot, at_root, at_child, has_child, is_start, without, own_count, entry_count, times, lacking_child, node_or_blank}
+use Rattle.prefix_trie_table.specs.Forest.{NodesHold, CellsHold, IsSlot, at_root, at_child, has_child, is_start, without, own_count, entry_count, lacking_child, node_or_blank}
 use Rattle.prefix_trie_table.specs.Removals.{Shrinks, SameValues, IsBare, IsWay, GivesBack, ChildDropped, Drops, none, more, PrunedTo, slot_in}
 use Rattle.prefix_trie_table.proofs.Bare.{no_bit}
-use Rattle.prefix_trie_table.proofs.Children.{same_or, changed, changed_below, changed_here, changed_other}
-use Rattle.prefix_trie_table.proofs.EntryCounts.{count_out, count_same}
+use Rattle.prefix_trie_table.proofs.Children.{changed, changed_below, changed_here, changed_other}
+use Rattle.prefix_trie_table.proofs.EntryCounts.{count_sum}
+use Rattle.prefix_trie_table.proofs.PathSums.{sum_lacking}
 use Rattle.prefix_trie_table.proofs.Settling.{NodesSettle-none, NodesSettle-then}
 use Rattle.prefix_trie_table.proofs.Spending.{tier_for_same}
 use Rattle.prefix_trie_table.proofs.Starts.{is_start_take}
-use Rattle.prefix_trie_table.proofs.Trees.{listed_once, slot_holds, times_out_same}
+use Rattle.prefix_trie_table.proofs.Trees.{listed_once, slot_holds}
 use Rattle.prefix_trie_table.proofs.Values.{cells_lacking_child}
 
 -- a node that is no deeper than p stands where it stood when a child of p comes or goes
@@ -179,19 +180,11 @@ count_lacking : (f : List ℕ → Option Node) (ps : List (List ℕ)) (v : Store
     f p ≡ Some n → f (p ++ c ∷ []) ≡ Some leaf → IsBare leaf → SameValues n m →
     entry_count (lacking_child f p m c) (without (p ++ c ∷ []) ps) ≡ entry_count f ps
 count_lacking f ps v p c n m leaf hold is below bare same =
-    let once = listed_once node_sizes f ps v hold (p ++ c ∷ []) leaf below in
-    let out = count_out f (p ++ c ∷ []) ps (omega arith) in
-    let nothing : own_count (f (p ++ c ∷ [])) ≡ 0 = ap own_count below ∙ bare.no_values in
-    let rest = count_same f (lacking_child f p m c) (without (p ++ c ∷ []) ps)
-    (λ q h. by q (λ e. let z = times_out_same (p ++ c ∷ []) ps once in gone_twice q e z h) (same_or q p)) in
-    omega (arith, out, nothing, rest)
-  where
-    by : (q : List ℕ) → q ≢ p ++ c ∷ [] → (q ≡ p) ⊎ (q ≢ p) → own_count (lacking_child f p m c q) ≡ own_count (f q)
-    by q nr (inl e) = ap own_count (changed_here f p m c None q e) ∙ ap (λ b. rank b 32) same.bitmap ∙ sym (ap own_count (ap f e ∙ is))
-    by q nr (inr ne) = ap own_count (changed_other f p m c None q ne nr)
-
-    gone_twice : (q : List ℕ) → q ≡ p ++ c ∷ [] → times (p ++ c ∷ []) (without (p ++ c ∷ []) ps) ≡ 0 → 0 < times q (without (p ++ c ∷ []) ps) → ⊥
-    gone_twice q e z h = (let y : times q (without (p ++ c ∷ []) ps) ≡ 0 = ap (λ x. times x (without (p ++ c ∷ []) ps)) e ∙ z in omega arith)
+    let change = sum_lacking own_count f ps p c n m leaf is below (listed_once node_sizes f ps v hold p n is)
+    (listed_once node_sizes f ps v hold (p ++ c ∷ []) leaf below) in
+    let nothing = bare.no_values in
+    let as_many : rank m.value_bitmap 32 ≡ rank n.value_bitmap 32 = ap (λ b. rank b 32) same.bitmap in
+    omega (arith, count_sum (lacking_child f p m c) (without (p ++ c ∷ []) ps), count_sum f ps, change, nothing, as_many)
 
 -- the nodes left have as many entries
 pub drops_count : (reading : List ℕ → Option Node) (paths : List (List ℕ)) (later : List ℕ → Option Node) (left : List (List ℕ)) → Drops reading paths later left →

@@ -1,22 +1,19 @@
 -- That the calls that take values and nodes out raise nothing that the arrays may reach.
-use Rattle.std.proofs.Common.{◌≡◌, ◌≢◌, ℕ, zero, suc, ◌+◌, ◌-◌, ◌*◌, ◌<◌, ◌≤◌, ◌⊎◌, inl, inr, List, [], ◌∷◌, ◌++◌, length, get_or, set, take, sum_by, All, Option, None, Some, refl, sym, ap, ap₂, ◌∙◌, subst, arith, lit≤, length-append}
+use Rattle.std.proofs.Common.{◌≡◌, ℕ, zero, suc, ◌+◌, ◌-◌, ◌*◌, ◌<◌, ◌≤◌, List, [], ◌∷◌, ◌++◌, length, get_or, set, sum_by, All, Option, Some, refl, sym, ap, ap₂, ◌∙◌, subst, arith}
 use Rattle.std.proofs.lemmas.List.{length-set}
 use Rattle.std.proofs.lemmas.List.Elements.{All-nil, All-cons}
-use Rattle.std.proofs.lemmas.List.Sums.{sum_by-cons, sum_by-le, sum_by-set, sum_by-take-le, sum_by_more}
-use Rattle.std.proofs.lemmas.List.Sorted.{sum_by-IsPermutation}
+use Rattle.std.proofs.lemmas.List.Sums.{sum_by-le, sum_by-set, sum_by-take-le, sum_by_more}
 use Rattle.std.specs.FinMap.{len}
 use Rattle.prefix_trie_bits.specs.Model.Step.{State}
 use Rattle.prefix_trie_table.specs.declared.allocator.node.Node.{Node}
 use Rattle.prefix_trie_table.specs.Cells.{blank_node, node_at, node_sizes, cell_sizes}
-use Rattle.prefix_trie_table.specs.Store.{Store, SameRoom, size_in}
-use Rattle.prefix_trie_table.specs.Forest.{one_if, same_path, times, without, node_or_blank, lacking_child, NodesHold}
+use Rattle.prefix_trie_table.specs.Store.{Store, size_in}
+use Rattle.prefix_trie_table.specs.Forest.{without, node_or_blank, lacking_child, NodesHold}
 use Rattle.prefix_trie_table.specs.Shape.{IsShapeOf}
 use Rattle.prefix_trie_table.specs.Tables.{IsTableOf}
 use Rattle.prefix_trie_table.specs.Settling.{smaller_sizes, headroom, child_headroom, value_headroom, node_reach, cell_reach, Settles, NodesSettle}
-use Rattle.prefix_trie_table.proofs.Paths.{same_path-itself}
-use Rattle.prefix_trie_table.proofs.Trees.{listed_once, times_out, times_out_same}
-use Rattle.prefix_trie_table.proofs.Children.{same_or, changed_here, changed_other}
-use Rattle.prefix_trie_table.proofs.PathLists.{first_out}
+use Rattle.prefix_trie_table.proofs.Trees.{listed_once}
+use Rattle.prefix_trie_table.proofs.PathSums.{sum_lacking}
 use Rattle.prefix_trie_table.proofs.NodeCounts.{weight, slots_by_path}
 use Rattle.prefix_trie_table.proofs.PathStrings.{paths_counted}
 use Rattle.prefix_trie_table.proofs.Shapes.{shape_nodes}
@@ -121,48 +118,17 @@ value_settles v v2 w w2 slot k m read inside v2_is same shrunk =
 
 -- ---- a child is gone
 
--- terms that are the same where the list has them
-listed-same : (f g : List ℕ → ℕ) (paths : List (List ℕ)) → ((q : List ℕ) → 0 < times q paths → g q ≡ f q) → sum_by g paths ≡ sum_by f paths
-listed-same f g [] same = refl
-listed-same f g (x ∷ paths) same =
-    let here : g x ≡ f x = same x (let e : one_if (same_path x x) ≡ 1 = ap one_if (same_path-itself x) in omega arith) in
-    let rest : sum_by g paths ≡ sum_by f paths = listed-same f g paths (λ q h. same q (omega arith)) in
-    sum_by-cons g x paths ∙ ap₂ (λ a b. a + b) here rest ∙ sym (sum_by-cons f x paths)
-
--- one term first
-listed-out : (f : List ℕ → ℕ) (p : List ℕ) (paths : List (List ℕ)) → times p paths ≡ 1 → sum_by f paths ≡ f p + sum_by f (without p paths)
-listed-out f p paths once =
-    sym (sum_by-IsPermutation f paths (p ∷ without p paths) (first_out p paths (omega arith))) ∙ sum_by-cons f p (without p paths)
-
 module _ (nodes : List ℕ → Option Node) (paths : List (List ℕ)) (v v2 : Store Node) (p : List ℕ) (c : ℕ) (n m leaf : Node)
     (hold : NodesHold node_sizes nodes paths v) (is : nodes p ≡ Some n) (below : nodes (p ++ c ∷ []) ≡ Some leaf)
     (later : NodesHold node_sizes (lacking_child nodes p m c) (without (p ++ c ∷ []) paths) v2) where
   -- the sum over the slots changes by that node and loses the child
   dropped_sum : (f : Node → ℕ) → f blank_node ≡ 0 → sum_by f v2.slots + f n ≤ sum_by f v.slots + f m
   dropped_sum f none =
-      let left : List (List ℕ) = without (p ++ c ∷ []) paths in
-      let g : List ℕ → ℕ = weight f none node_sizes nodes in
-      let h : List ℕ → ℕ = weight f none node_sizes (lacking_child nodes p m c) in
-      let leaf_once : times (p ++ c ∷ []) paths ≡ 1 = listed_once node_sizes nodes paths v hold (p ++ c ∷ []) leaf below in
-      let apart : p ≢ p ++ c ∷ [] = λ e. let l : length p ≡ length p + 1 = ap (λ (xs : List ℕ). length xs) e ∙ length-append p (c ∷ []) in omega arith in
-      let once : times p (without (p ++ c ∷ []) paths) ≡ 1 =
-      times_out (p ++ c ∷ []) p paths (omega arith) apart ∙ listed_once node_sizes nodes paths v hold p n is in
       let before = slots_by_path f none node_sizes nodes paths v hold in
       let after = slots_by_path f none node_sizes (lacking_child nodes p m c) (without (p ++ c ∷ []) paths) v2 later in
-      let out_leaf = listed-out (weight f none node_sizes nodes) (p ++ c ∷ []) paths leaf_once in
-      let out_before = listed-out (weight f none node_sizes nodes) p (without (p ++ c ∷ []) paths) once in
-      let out_after = listed-out (weight f none node_sizes (lacking_child nodes p m c)) p (without (p ++ c ∷ []) paths) once in
-      let was : f (node_or_blank (nodes p)) ≡ f n = ap (λ o. f (node_or_blank o)) is in
-      let now : f (node_or_blank (lacking_child nodes p m c p)) ≡ f m = ap (λ o. f (node_or_blank o)) (changed_here nodes p m c None p refl) in
-      let rest = listed-same (weight f none node_sizes nodes) (weight f none node_sizes (lacking_child nodes p m c)) (without p (without (p ++ c ∷ []) paths))
-      (λ q some. ap (λ o. f (node_or_blank o)) (changed_other nodes p m c None q
-      (λ e. gone q p (without p (without (p ++ c ∷ []) paths)) e (times_out_same p (without (p ++ c ∷ []) paths) once) some)
-      (λ e. gone q (p ++ c ∷ []) (without p (without (p ++ c ∷ []) paths)) e
-      (times_out p (p ++ c ∷ []) (without (p ++ c ∷ []) paths) (omega arith) (λ d. apart (sym d)) ∙ times_out_same (p ++ c ∷ []) paths leaf_once) some))) in
-      omega (arith, before, after, out_leaf, out_before, out_after, was, now, rest)
-    where
-      gone : (q r : List ℕ) (ps : List (List ℕ)) → q ≡ r → times r ps ≡ 0 → 0 < times q ps → ⊥
-      gone q r ps e z h = (let y : times q ps ≡ 0 = ap (λ x. times x ps) e ∙ z in omega arith)
+      let change = sum_lacking (λ o. f (node_or_blank o)) nodes paths p c n m leaf is below (listed_once node_sizes nodes paths v hold p n is)
+      (listed_once node_sizes nodes paths v hold (p ++ c ∷ []) leaf below) in
+      omega (arith, before, after, change)
 
   -- the node n at p, now m, lost its child c, and its children's block is no larger
   pub child_settles : m.value_tier ≡ n.value_tier → length v2.slots + headroom m.child_tier ≤ length v.slots + headroom n.child_tier → NodesSettle v v2

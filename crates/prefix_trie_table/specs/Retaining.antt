@@ -62,7 +62,7 @@ module _ {T : Type 0} where
   abbrev pub HasTrie : ℕ → ℕ → Store Node → Store (Option T) → Type 0
   HasTrie width count v w = (s : State T) × IsTrie width count v w s
 
-  -- no array is shorter, or may become longer, both limits are the same, and so are the nodes above this level
+  -- no array is shorter, neither may become longer than it could, both limits are the same, and so are the nodes above this level
   pub record Lasts (level : ℕ) (v v2 : Store Node) (w w2 : Store (Option T)) : Type 0 where
     pub above : (p : List ℕ) → length p < level → read v2.slots p ≡ read v.slots p
     pub node_limit : v2.limit ≡ v.limit

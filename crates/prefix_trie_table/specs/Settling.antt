@@ -18,7 +18,7 @@ child_headroom n = headroom n.child_tier
 abbrev pub value_headroom : Node → ℕ
 value_headroom n = headroom n.value_tier
 
--- how long the array of nodes is, and may become as items are taken out
+-- how long the array of nodes may become as items are taken out
 abbrev pub node_reach : Store Node → ℕ
 node_reach v = length v.slots + sum_by child_headroom v.slots
 
@@ -26,7 +26,7 @@ node_reach v = length v.slots + sum_by child_headroom v.slots
 abbrev pub cell_reach : {T : Type 0} → Store Node → Store (Option T) → ℕ
 cell_reach v w = length w.slots + sum_by value_headroom v.slots
 
--- neither array may become longer than before
+-- neither array may become longer than it could before
 pub record Settles {T : Type 0} (v v2 : Store Node) (w w2 : Store (Option T)) : Type 0 where
   pub nodes : node_reach v2 ≤ node_reach v
   pub cells : cell_reach v2 w2 ≤ cell_reach v w

@@ -1,5 +1,6 @@
 //! Keeping the entries at which a test says yes.
-ghost use Rattle.std.specs.Prelude.{◌≡◌, ◌≤◌};
+ghost use Rattle.std.specs.Prelude.{◌≡◌, ◌+◌, ◌*◌, ◌≤◌};
+ghost use Rattle.std.specs.FinMap.{len};
 ghost use Rattle.prefix_trie_bits.specs.Model.Asking.{AsksInOrder, MayAskInOrder};
 ghost use Rattle.prefix_trie_bits.specs.Model.Entries.{AreWithin};
 ghost use Rattle.prefix_trie_bits.specs.Model.Nodes.{needed};
@@ -41,7 +42,8 @@ impl<P: Prefix, T, F: FnMut(&P, &T) -> bool + Drop> Keep<P::R, T> for ByPrefix<P
 
 impl<P: Prefix, T: Drop, A: Allocator> PrefixMap<P, T, A> {
     /// Asks a test at each entry once, in listing order, and keeps those at which it answers `true`. The test sees each prefix
-    /// without its host bits. Nodes that no entry left needs are gone too. Never refused.
+    /// without its host bits. Nodes that no entry left needs are gone too. Never refused: for each node that there was the
+    /// arrays grow by 56 slots each at most.
     pub fn retain<F: FnMut(&P, &T) -> bool>(&mut self, test: F)
         requires { MayAskInOrder (AsksAt F.FnMut P.back) (TakesAt F.FnMut P.back) test (listing self.old.entries) }
         ensures within { AreWithin P.R.bit_width self.old.entries }
@@ -50,6 +52,9 @@ impl<P: Prefix, T: Drop, A: Allocator> PrefixMap<P, T, A> {
         ensures limit { self.new.room.limit ≡ self.old.room.limit }
         ensures node_slots { self.old.room.node_slots ≤ self.new.room.node_slots }
         ensures cell_slots { self.old.room.cell_slots ≤ self.new.room.cell_slots }
+        ensures nodes_grow { self.new.room.node_slots ≤ self.old.room.node_slots + 56 * len self.old.nodes }
+        ensures cells_grow { self.new.room.cell_slots ≤ self.old.room.cell_slots + 56 * len self.old.nodes }
+        ensures room { (self.new.room.node_slots ≤ self.new.room.limit) × (self.new.room.cell_slots ≤ self.new.room.limit) }
     {
         let keep = ByPrefix::<P, F> {
             test,
