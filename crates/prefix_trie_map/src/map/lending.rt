@@ -25,22 +25,34 @@ impl<P: Prefix, T: Drop, A: Allocator> PrefixMap<P, T, A> {
         ensures* writes_back { sem 𝓛 (lends_entry_if P.row T.row A.row P.R.row P.Prefix.own P.Debug P.R.Key.own P.R.PartialEq P.R.Debug A.Allocator self.entry (P.path prefix.now) result) }
         ensures value { option_copied_mut result ≡ get self.old.entries (P.path prefix.now) }
     {
-        let len = u32::from(prefix.prefix_len());
-        self.table.find_mut(prefix.repr(), len, &mut Visits::new())
+        self.lend_entry(prefix, &mut Visits::new())
     }
 
     /// The answer of `get_mut`, and how many nodes it read: each node on the prefix's way once, as `get_counted` does.
     #[inline]
     pub fn get_mut_counted(&mut self, prefix: &P) -> (Option<&mut T>, Visits)
         requires { P.IsFitting prefix.now }
+        ensures* writes_back { sem 𝓛 (lends_entry_if P.row T.row A.row P.R.row P.Prefix.own P.Debug P.R.Key.own P.R.PartialEq P.R.Debug A.Allocator self.entry (P.path prefix.now) result.0) }
         ensures value { option_copied_mut result.0 ≡ get self.old.entries (P.path prefix.now) }
         ensures exact { result.1 ≡ visits self.old.nodes (P.path prefix.now) }
         ensures bound { result.1 ≤ length (P.path prefix.now) / 5 + 1 }
     {
         let mut visits = Visits::new();
-        let len = u32::from(prefix.prefix_len());
-        let answer = self.table.find_mut(prefix.repr(), len, &mut visits);
+        let answer = self.lend_entry(prefix, &mut visits);
         (answer, visits)
+    }
+
+    // The answer of `get_mut`, with the nodes that it reads added to a counter.
+    #[inline]
+    fn lend_entry(&mut self, prefix: &P, counter: &mut Visits) -> Option<&mut T>
+        requires { P.IsFitting prefix.now }
+        ensures* writes_back { sem 𝓛 (lends_entry_if P.row T.row A.row P.R.row P.Prefix.own P.Debug P.R.Key.own P.R.PartialEq P.R.Debug A.Allocator self.entry (P.path prefix.now) result) }
+        ensures value { option_copied_mut result ≡ get self.old.entries (P.path prefix.now) }
+        ensures exact { counter.new ≡ counter.old + visits self.old.nodes (P.path prefix.now) }
+        ensures bound { counter.new ≤ counter.old + (length (P.path prefix.now) / 5 + 1) }
+    {
+        let len = u32::from(prefix.prefix_len());
+        self.table.find_mut(prefix.repr(), len, counter)
     }
 
     /// The value of the longest stored prefix that contains this one, for writing: what `get_lpm_mut` lends, without the

@@ -1,10 +1,14 @@
 use borrow.Follows.Closed.{read_of}
-use Rattle.std.proofs.Common.{rules, ◌≡◌, take, ap, ◌∙◌, subst}
+use Rattle.std.proofs.Common.{rules, ◌≡◌, ◌+◌, take, ap, ◌∙◌, subst, arith}
 use Rattle.std.specs.FinMap.{get}
 use Rattle.std.specs.Option.{ghost_name_of}
+use Rattle.prefix_trie_bits.specs.Model.Visits.{visits}
+use Rattle.prefix_trie_bits.proofs.Model.Visits.{visits-bound}
 use Rattle.prefix_trie_table.specs.Shape.{with_value_at, with_stored_at}
+use Rattle.prefix_trie_bits.specs.Laws.Steps.{IsMap}
+use Rattle.prefix_trie_map.specs.Steps.{state}
 use Rattle.prefix_trie_map.proofs.Lending.{IsMap-with_stored_at, stored_lent}
-use Rattle.prefix_trie_map.proofs.map.PrefixMap.get_mut.Goals as goal
+use Rattle.prefix_trie_map.proofs.map.PrefixMap.lend_entry.Goals as goal
 
 pub invariant_of-self-lent : goal.invariant_of-self-lent
 invariant_of-self-lent g c = λ r. (
@@ -19,9 +23,15 @@ returns g c =
     let path = g.P.Prefix.path c.args.prefix.now in
     let name = ghost_name_of c.find_mut.result in
     let key : q ≡ path = search rules in
-    let same : m ≡ c.args.self.now = c.self.view_is in (
+    let same : m ≡ c.args.self.now = c.self.view_is in
+    let counted : c.find_mut.new.counter ≡ c.args.counter.now + visits c.args.self.now.nodes path = search rules in (
       subst (λ n. read_of name (with_stored_at m q) m ≡ read_of name (with_value_at n path) n) same
           (subst (λ s. read_of name (with_stored_at m q) m ≡ read_of name (with_value_at m s) m) key
           (stored_lent m q c.find_mut.result c.find_mut.ensures.value)),
-      record { writes_back = tt; value = c.find_mut.ensures.value ∙ ap (get m.entries) key ∙ ap (λ n. get n.entries path) same },
+      record {
+        writes_back = tt;
+        value = c.find_mut.ensures.value ∙ ap (get m.entries) key ∙ ap (λ n. get n.entries path) same;
+        exact = counted;
+        bound = omega (arith, counted, visits-bound c.args.self.now.nodes path (subst (λ n. IsMap g.P.R.Key.bit_width (state n)) same c.self.invariant).are_nodes.depths);
+      },
     )

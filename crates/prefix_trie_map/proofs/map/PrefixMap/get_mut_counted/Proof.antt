@@ -1,0 +1,142 @@
+-- `get_mut_counted` lends what `lend_entry` lends. Assumes `Logic`.
+use Rattle.std.proofs.Common.{◌≡◌, ℕ, ◌+◌, ◌/◌, ◌≤◌, length, Option, List, [], ◌∷◌, refl, ap, MutBor, arith}
+use Rattle.std.proofs.raw_atomic.Walks.{proved}
+use mir.Syntax.{Args, named, a_type, dcons, dnil}
+use mir.Val.{Val, vptr}
+use mir.MapTy.{inst_fn}
+use base.Fraction.{full_share}
+use base.Logic.{emp, id⊢}
+use base.Fml.{Fml, GName, ftrue, fat, flft, fres, flent}
+use contract.BorrowLft.{◌⊑◌}
+use contract.Monad.{fact, fact_i}
+use contract.Running.{tables}
+use types.Kit.{‵, raw, ◌⊛◌, some, later, ◌$◌, ◌∵◌, !, qed, done, move, keep, drop, use0, use1, use2, use3, split, join, fsplit, fjoin, feq_i, pick, await, suffices, frame}
+use types.Run.{enter, of_opd, addr, from, stop, no_more, and_then, returns}
+use types.ByLocal.{alloc_all, pass_all, free_all, look_at, get, through, sets, lands_as, take_at, give_at}
+use types.Part.{agg}
+use denote.Param.{param, copied, bounded}
+use denote.Exit.{yes, no}
+use denote.RattleType.{RattleType, owns}
+use denote.Ref.{MutRef, ShrRef, mut_vals, mut_Tells, shr_vals, shr_Tells}
+use denote.Signature.{plain, mut_ref_to, shr_ref_to, types_at}
+use denote.Steps.{nothing, heard, peeks}
+use denote.Laws.{shows}
+use denote.Lend.{lends_ref, ref_back}
+use denote.Memory.{lone, mem, part_at}
+use types.Tokens.{lft_new, lft_end}
+use types.SemTy.{Body}
+use borrow.Table.OneValue.{part_in, part_out}
+use denote.Triple.Entry.{alive, on_entry}
+use denote.Triple.Call.{calls_at}
+use denote.Triple.Clauses.{lasts}
+use denote.Triple.Spec.{triple_of}
+use denote.Triple.Table.{framed}
+use denote.Triple.Walked.{Stays, says, stay_dropped, walk_of, ends_at, Goes-dropped, Goes-spent_ref}
+use denote.Param.Laws.{Laws, of_field, param_laws, row_shared}
+use denote.Param.Shared.{mut_ref_shared}
+use denote.Struct.Field.{mut_ref_field}
+use denote.Struct.Laws.{mut_ref_laws}
+use denote.Struct.Tuple.{Tuple, tuple_laws}
+use Rattle.std.proofs.option.Option.TheLaws.{the_row_laws as option_laws}
+use Rattle.std.specs.contracts.option.Option as option
+use Rattle.std.specs.FinMap.{get as lookup}
+use Rattle.std.specs.Option.{option_copied_mut}
+use Rattle.prefix_trie_bits.specs.Model.Visits.{visits as nodes_read}
+use Rattle.prefix_trie_map.specs.Lending.{lends_entry_if}
+use Rattle.prefix_trie_map.specs.contracts.map.PrefixMap as map
+use Rattle.prefix_trie_map.specs.contracts.map.visits.Visits as visits
+use Rattle.prefix_trie_map.specs.contracts.map.PrefixMap.get_mut_counted as f
+use Rattle.prefix_trie_map.proofs.map.visits.Visits.TheLaws.{the_row_laws as visits_laws}
+use Rattle.prefix_trie_map.specs.contracts.map.visits.Visits.new as new
+use Rattle.prefix_trie_map.proofs.map.visits.Visits.new.Met.{met as new_met}
+use Rattle.prefix_trie_map.specs.contracts.map.PrefixMap.lend_entry as h
+use Rattle.prefix_trie_map.proofs.map.PrefixMap.lend_entry.Met.{met as h_met}
+use Rattle.prefix_trie_map.proofs.Made.{pair_of, pair_val}
+use Rattle.prefix_trie_map.proofs.map.PrefixMap.get_mut_counted.Statement.{statement}
+use Rattle.prefix_trie_map.proofs.map.PrefixMap.get_mut_counted.Code as code
+
+pub get_mut_counted_spec : {M : Type 1} → statement M
+get_mut_counted_spec 𝓤 𝓛 𝓜 𝓡 wired P T A R lP lT lA lR cR p p' d d' k k' n n' e e' s s' w w' g g' xP xT xA mp md mk mn me ms mw mg gP gT gA =
+    let En = f.ended P T A R p p' d d' k k' n n' e e' s s' w w' g g' xP xT xA in
+    let c = f.clauses P T A R p p' d d' k k' n n' e e' s s' w w' g g' xP xT xA 𝓛 𝓜.mem 𝓡.returns in
+    let args : Args = bounded (a_type ∷ a_type ∷ a_type ∷ a_type ∷ []) (P, (T, (A, (R, tt))))
+        (dcons p' (dcons d' (dcons k' (dcons n' (dcons e' (dcons s' (dcons w' (dcons g' (dcons xP (dcons xT (dcons xA dnil))))))))))) in
+    let fn = inst_fn args code.function in
+    let Map : RattleType = map.the_row (param 0 P) (param 1 T) (param 2 A) (copied 3 R) p d k s w g in
+    let 𝓣 = tables 𝓤 𝓛.H 𝓜 𝓡 𝓡.env in
+    let hs : Stays En.signature.params En.kept =
+        (stay_dropped (mut_ref_to (0 ∷ []) tt (plain (λ _. Map))) no, (stay_dropped (shr_ref_to (1 ∷ []) tt (plain (λ _. param 0 P))) yes, tt)) in
+    let W = walk_of 𝓛 En hs c in
+    proved 𝓛 En hs c 𝓜 𝓡
+    (Goes-spent_ref 𝓛 6 (0 ∷ []) tt (plain (λ _. Map)), (Goes-dropped 𝓛 6 (shr_ref_to (1 ∷ []) tt (plain (λ _. param 0 P))) yes (λ κs x v. refl), tt))
+    (f.Key.name args) fn (code.unfolded 𝓤 𝓛.H 𝓜 𝓡 wired (P, (T, (A, (R, tt)))) p' d' k' n' e' s' w' g' xP xT xA)
+    (λ κs. (mut_vals, (shr_vals, tt))) (λ κs. (mut_Tells (named 0) κs.0 Map, (shr_Tells (named 1) κs.1.0 (param 0 P), tt))) (λ κs qs bounds xs _ are.
+    let m = xs.0 in let q = xs.1.0 in
+    let y : W.Ghost = ((κs, qs, bounds, xs, (mut_vals m, (shr_vals q, tt))), tt) in
+    let κ = κs.0 in
+    let V : RattleType = visits.the_row in
+    let Self = ‵ ((MutRef (named 0) κ Map).own_val m (mut_vals m)) in
+    let Asked = ‵ ((ShrRef (named 1) κs.1.0 (param 0 P)).own_val q (shr_vals q)) in
+    let others = ‵ (flft κs.1.1.0 qs.1.1.0) ⊛ ‵ (flft κs.1.1.1.0 qs.1.1.1.0) ⊛ ‵ (flft κs.1.1.1.1.0 qs.1.1.1.1.0) ⊛ ‵ (flft κs.1.1.1.1.1.0 qs.1.1.1.1.1.0) ⊛ ‵ ftrue in
+    qed 𝓛 (((‵ (flft κ qs.0) ⊛ ‵ (flft κs.1.0 qs.1.0) ⊛ others) ⊛ Self ⊛ Asked ⊛ ‵ ftrue) ∷ raw ((c κs xs).requires tt) ∷ []) ∵
+    split ! $ split ! $ move ! (1 ∷ []) $ split ! $ move ! (3 ∷ []) $ split ! $ move ! (1 ∷ []) $ split ! $ keep ! (2 ∷ 0 ∷ 5 ∷ 3 ∷ 4 ∷ 6 ∷ []) $
+    enter ! _ _ _ _ _ $ alloc_all ! (λ l. pass_all ! refl ((tt, tt), ((tt, tt), tt)) $
+    -- [self; prefix; the tokens of self, of prefix, and of the type parameters; what is asked]
+    let G₀ = triple_of 𝓛 new.signature (new.spec 𝓛 𝓜.mem 𝓡.returns) in
+    let z₀ : G₀.Ghost = ((tt, tt, tt, tt, tt), tt) in
+    nothing ! $ nothing ! $ nothing ! $ join ! $ use2 𝓛 (raw (G₀.pre z₀)) (id⊢ 𝓤 _) $
+    calls_at ! (framed 𝓤 𝓛.H 𝓜 𝓣) G₀ (new_met 𝓤 𝓛 𝓜 𝓡 (code.calls-prefix_trie_map::map::visits::Visits::new 𝓡.env wired)) z₀ (no_more !) (λ v.
+    use1 𝓛 (later (some (λ (r : ℕ). (‵ ftrue ⊛ ‵ (V.own_val r (v ∷ []))) ⊛ some (λ (ws : Unit {0}). ‵ (lasts new.ended z₀.0.0 z₀.0.3 ws) ⊛ raw (fact 𝓤 (r ≡ 0)))))) (id⊢ 𝓤 _) $
+    await ! tt $ pick ! (λ r. split ! $ split ! $ drop ! $ move ! (1 ∷ []) $ pick ! (λ ws. split ! $ drop ! $ heard ! (r ≡ 0) (λ none.
+    peeks ! V _ (shows 𝓛 V) r (v ∷ []) (λ is. let ok = ((visits_laws.lawful 𝓛).typed r (v ∷ []) is).0 in
+    lands_as ! refl refl ok $ sets ! (of_opd ! (get ! refl)) refl ok $
+    sets ! (addr ! (through ! refl (stop !))) refl (tt, tt) $
+    sets ! (addr ! (from ! (stop !))) refl (tt, tt) $
+    -- the counter is lent
+    take_at ! 3 $ use2 𝓛 (‵ (part_at V full_share r (l 3) 0)) (part_in 𝓛 V refl full_share r (l 3) 0 v) $
+    lft_new ! tt (λ α. move ! (1 ∷ []) $
+    use1 𝓛 (later (some (λ (γ : GName). ‵ ((MutRef (named 2) (α ∷ []) V).own_val (record { ref_ptr = (l 3, 0); ghost_name = γ; now = r }) (vptr (l 3) 0 ∷ [])) ⊛ ‵ (flent (α ∷ []) (Body (mem V) (l 3) 0 γ)))))
+    (lends_ref 𝓛 V (named 2) (α ∷ []) r (l 3) 0) $ await ! tt $ pick ! (λ γ. split ! $
+    -- [the counter; its way back; its token; self; prefix; the tokens of self, of prefix, and of the type parameters; what is asked]
+    let G = triple_of 𝓛 (h.signature P T A R p p' d d' k k' n n' e e' s s' w w' g g' xP xT xA) (h.spec P T A R p p' d d' k k' n n' e e' s s' w w' g g' xP xT xA 𝓛 𝓜.mem 𝓡.returns) in
+    let counter : MutBor ℕ = record { ref_ptr = (l 3, 0); ghost_name = γ; now = r } in
+    let z : G.Ghost = (((κ, (κs.1.0, (α ∷ [], κs.1.1))), (qs.0, (qs.1.0, (full_share, qs.1.1))), bounds, (m, (q, (counter, tt))), (mut_vals m, (shr_vals q, (mut_vals counter, tt)))), tt) in
+    nothing ! $ move ! (1 ∷ 0 ∷ []) $ join ! $ move ! (4 ∷ 0 ∷ []) $ join ! $ move ! (3 ∷ 0 ∷ []) $ join ! $
+    move ! (2 ∷ 5 ∷ []) $ join ! $ move ! (4 ∷ 0 ∷ []) $ join ! $ move ! (3 ∷ 0 ∷ []) $ join ! $ join ! $
+    move ! (0 ∷ 2 ∷ []) $ use2 𝓛 (raw (G.pre z)) (id⊢ 𝓤 _) $
+    calls_at ! (framed 𝓤 𝓛.H 𝓜 𝓣) G (h_met 𝓤 𝓛 𝓜 𝓡 (code.calls-prefix_trie_map::map::PrefixMap::lend_entry 𝓡.env wired) P T A R lP lT lA lR cR p p' d d' k k' n n' e e' s s' w w' g g' xP xT xA mp md mk mn me ms mw mg gP gT gA) z
+    (and_then ! (get ! refl) (and_then ! (get ! refl) (and_then ! (get ! refl) (no_more !)))) (λ u.
+    let Lent : RattleType = MutRef (named 0) κ (param 1 T) in let Found : RattleType = option.the_row Lent in
+    let lent : Laws Lent = of_field (mut_ref_field (record { mir = named 0; lft = κ }) (param 1 T) tt) (mut_ref_laws (record { mir = named 0; lft = κ }) (param 1 T) tt) refl (mut_ref_shared (record { mir = named 0; lft = κ }) (param 1 T) tt (row_shared (param 1 T) (param_laws 1 T lT))) in
+    let found_laws : Laws Found = option_laws Lent lent in
+    let path = p.path q.now in
+    let Value : Option (MutBor T.Denot) → Type 0 = λ o. option_copied_mut o ≡ lookup m.now.entries path in
+    let Exact : ℕ → Type 0 = λ j. j ≡ r + nodes_read m.now.nodes path in
+    let Bound : ℕ → Type 0 = λ j. j ≤ r + (length path / 5 + 1) in
+    let lends : Option (MutBor T.Denot) → Fml = lends_entry_if (param 0 P) (param 1 T) (param 2 A) (copied 3 R) p d k s w g m path in
+    use1 𝓛 (later (some (λ (o : Option (MutBor T.Denot)). ((‵ (flft κ qs.0) ⊛ ‵ (flft κs.1.0 qs.1.0) ⊛ ‵ (flft (α ∷ []) full_share) ⊛ others) ⊛ ‵ (Found.own_val o (u ∷ [])))
+        ⊛ some (λ (es : Unit {0} × (Unit {0} × (ℕ × Unit {0}))). ‵ (lasts (h.ended P T A R p p' d d' k k' n n' e e' s s' w w' g g' xP xT xA) z.0.0 z.0.3 es)
+        ⊛ ‵ (lends o) ⊛ raw (fact 𝓤 (Value o)) ⊛ raw (fact 𝓤 (Exact es.1.1.0)) ⊛ raw (fact 𝓤 (Bound es.1.1.0)))))) (id⊢ 𝓤 _) $
+    await ! tt $ pick ! (λ o. split ! $ split ! $ split ! $ move ! (1 ∷ []) $ split ! $ move ! (1 ∷ []) $ split ! $ lft_end ! tt $
+    -- [the loan is over; the tokens of the type parameters, of prefix and of self; the value lent; what is ensured; the counter's way back]
+    move ! (5 ∷ []) $ pick ! (λ es. let j = es.1.1.0 in split ! $ fsplit ! $ drop ! $ fsplit ! $ drop ! $ fsplit ! $ fsplit ! $
+    move ! (4 ∷ 9 ∷ 0 ∷ []) $ use3 𝓛 (later (‵ (part_at V full_share j (l 3) 0))) (ref_back 𝓛 V (α ∷ []) γ j (l 3) 0) $ await ! tt $
+    use1 𝓛 (some (λ (x : Val). ‵ (fat full_share (lone V.mir) (l 3) 0 x) ⊛ ‵ (V.own_val j (x ∷ [])))) (part_out 𝓛 V refl full_share j (l 3) 0) $ pick ! (λ x. split ! $ give_at ! 3 $
+    move ! (1 ∷ []) $ drop ! $ move ! (1 ∷ []) $ drop ! $ move ! (1 ∷ []) $ split ! $ move ! (1 ∷ []) $ split ! $ heard ! (Value o) (λ value. split ! $ heard ! (Exact j) (λ exact. heard ! (Bound j) (λ bound.
+    -- [what self follows; the counter; the tokens of the type parameters, of prefix and of self; the value lent]
+    let Pair : RattleType = Tuple (Found ∷ V ∷ []) in
+    let Counted : Type 0 = j ≡ nodes_read m.now.nodes path in let Bounded : Type 0 = j ≤ length path / 5 + 1 in
+    move ! (5 ∷ []) $ peeks ! Found _ (shows 𝓛 Found) o (u ∷ []) (λ is_found. let found_ok = ((found_laws.lawful 𝓛).typed o (u ∷ []) is_found).0 in
+    move ! (2 ∷ []) $ peeks ! V _ (shows 𝓛 V) j (x ∷ []) (λ is_count. let count_ok = ((visits_laws.lawful 𝓛).typed j (x ∷ []) is_count).0 in
+    lands_as ! refl refl found_ok $ sets ! (of_opd ! (get ! refl)) refl found_ok $ sets ! (of_opd ! (get ! refl)) refl count_ok $
+    move ! (1 ∷ 0 ∷ []) $ use2 𝓛 (‵ (Pair.own_val (o, j) (pair_val u x ∷ []))) (pair_of 𝓛 Found V o j u x) $
+    peeks ! Pair _ (shows 𝓛 Pair) (o, j) (pair_val u x ∷ []) (λ is_pair.
+    let pair_ok = (((tuple_laws (Found ∷ V ∷ []) (found_laws, (visits_laws, tt))).lawful 𝓛).typed (o, j) (pair_val u x ∷ []) is_pair).0 in
+    sets ! (agg ! (and_then ! (get ! refl) (and_then ! (get ! refl) (no_more !)))) refl pair_ok $
+    returns ! (look_at ! 0 refl) $ free_all ! refl $
+    -- [the pair; what self follows; the tokens of the type parameters, of prefix and of self]
+    suffices ! _ (ends_at 𝓛 En hs c y (pair_val u x) (o, j) (tt, (tt, tt)) (tt, (tt, tt))) $
+    nothing ! $ nothing ! $ fjoin ! $ nothing ! $ fjoin ! $ join ! $
+    move ! (3 ∷ 2 ∷ []) $ join ! $ move ! (3 ∷ 0 ∷ []) $ join ! $ join ! $ frame ! $ frame ! $
+    use0 𝓛 (raw (fact 𝓤 Bounded)) (fact_i 𝓤 Bounded (emp 𝓤) (omega (arith, none, bound))) $ use0 𝓛 (raw (fact 𝓤 Counted)) (fact_i 𝓤 Counted (emp 𝓤) (omega (arith, none, exact))) $
+    use0 𝓛 (raw (fact 𝓤 (Value o))) (fact_i 𝓤 (Value o) (emp 𝓤) value) $ done !)))))))))))))))))))
