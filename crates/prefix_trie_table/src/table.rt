@@ -354,6 +354,8 @@ impl<T: Drop, A: Allocator, V: Tick> Table<T, A, V> {
         ensures room { self.new.room
             ≡ record { limit = self.old.room.limit; node_slots = 1; cell_slots = 0 } }
         ensures layout { self.new.layout ≡ no_layout }
+        ensures limit { (self.new.room.node_slots ≤ self.new.room.limit)
+            × (self.new.room.cell_slots ≤ self.new.room.limit) }
     {
         clear_entries(&mut self.nodes, &mut self.cells, &mut self.count);
     }

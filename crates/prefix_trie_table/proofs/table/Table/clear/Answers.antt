@@ -1,4 +1,4 @@
-use Rattle.std.proofs.Common.{[], ◌∷◌, Option, ap, sym, subst, arith}
+use Rattle.std.proofs.Common.{◌≤◌, length, [], ◌∷◌, Option, ap, sym, subst, arith}
 use Rattle.prefix_trie_bits.specs.Model.Step.{State}
 use Rattle.prefix_trie_table.specs.Tables.{IsTableOf}
 use Rattle.prefix_trie_table.proofs.Clearing.{under_limit, root_slot}
@@ -49,3 +49,10 @@ returns-clause-layout g c =
     c.clear_entries.ensures.nodes_sound (under_limit _ _ _ c.clear_entries.ensures.cells c.self.invariant.one_limit) c.clear_entries.ensures.cells_sound)
     (ap (λ (x : Store Node). x.tiers) c.clear_entries.ensures.nodes)
     (ap (λ (x : Store (Option g.row.T.Denot)). x.tiers) c.clear_entries.ensures.cells) c.self-1.given.1.0
+
+pub returns-clause-limit : goal.returns-clause-limit
+returns-clause-limit g c =
+    let some : 1 ≤ c.self.inside.nodes.limit = let r = root_slot c.self.inside.nodes c.self.inside.cells c.self.invariant.held.table in let h = c.self.invariant.nodes_within in omega (arith, r, h) in (
+      subst (λ (x : Store Node). length x.slots ≤ x.limit) (sym c.clear_entries.ensures.nodes) some,
+      subst (λ (x : Store (Option g.row.T.Denot)). length x.slots ≤ c.clear_entries.new.nodes.limit) (sym c.clear_entries.ensures.cells) (omega arith),
+    )
