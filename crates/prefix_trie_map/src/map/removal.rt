@@ -1,10 +1,10 @@
 //! Taking entries out.
-ghost use Rattle.std.specs.Prelude.{◌≡◌, ◌+◌, ◌≤◌};
+ghost use Rattle.std.specs.Prelude.{◌≡◌, ◌+◌, ◌<◌, ◌≤◌};
 ghost use Rattle.std.specs.FinMap.{get};
 ghost use Rattle.prefix_trie_bits.specs.Model.Blocks.{no_layout};
-ghost use Rattle.prefix_trie_bits.specs.Model.Entries.{no_entries, without_entry};
-ghost use Rattle.prefix_trie_bits.specs.Model.Nodes.{root_alone, nodes_without};
-ghost use Rattle.prefix_trie_bits.specs.Model.Step.{Step, Remove, RemoveKeepTree, Clear, Done, Value};
+ghost use Rattle.prefix_trie_bits.specs.Model.Entries.{no_entries, without_entry, without_below};
+ghost use Rattle.prefix_trie_bits.specs.Model.Nodes.{root_alone, nodes_without, nodes_without_below};
+ghost use Rattle.prefix_trie_bits.specs.Model.Step.{Step, Remove, RemoveKeepTree, RemoveChildren, Clear, Done, Value};
 ghost use Rattle.prefix_trie_map.specs.Steps.{state};
 
 use crate::map::{PrefixMap, Visits};
@@ -58,6 +58,40 @@ impl<P: Prefix, T: Drop, A: Allocator> PrefixMap<P, T, A> {
         let key = prefix.repr();
         let len = u32::from(prefix.prefix_len());
         self.table.remove_keep_tree(key, len, &mut Visits::new())
+    }
+
+    /// Takes out the entries whose prefixes this one contains, its own among them, and all nodes below its own node; and
+    /// then the nodes that have nothing left, from its own node upward. Empty nodes elsewhere stay, and where the prefix's own
+    /// node is missing nothing changes. At length 0 it is `clear`. It answers nothing, and is never refused.
+    ///
+    /// ```text
+    /// map.insert((0x0a010000_u32, 16_u8), 1)       Ok(None)
+    /// map.insert((0x0a010200_u32, 24_u8), 2)       Ok(None)
+    /// map.insert((0x0a020000_u32, 16_u8), 3)       Ok(None)
+    /// map.remove_children(&(0x0a010000_u32, 16_u8))
+    /// map.get(&(0x0a010200_u32, 24_u8))            None
+    /// map.len()                                    1
+    /// ```
+    #[inline]
+    pub fn remove_children(&mut self, prefix: &P)
+        requires { P.IsFitting prefix.now }
+        ensures entries { self.new.entries ≡ without_below self.old.entries (P.path prefix.now) }
+        ensures nodes { self.new.nodes ≡ nodes_without_below self.old.nodes self.old.entries (P.path prefix.now) }
+        ensures limit { self.new.room.limit ≡ self.old.room.limit }
+
+        // No slots go, but where all is taken out.
+        ensures cleared { P.len_of prefix.now ≡ 0 → self.new.room
+            ≡ record { limit = self.old.room.limit; node_slots = 1; cell_slots = 0 } }
+        ensures slots { 0 < P.len_of prefix.now
+            → (self.old.room.node_slots ≤ self.new.room.node_slots) × (self.old.room.cell_slots ≤ self.new.room.cell_slots) }
+        ensures within { (self.new.room.node_slots ≤ self.new.room.limit) × (self.new.room.cell_slots ≤ self.new.room.limit) }
+
+        // It is one step of the model.
+        ensures step { Step P.path P.back P.R.bit_width (state self.old) (RemoveChildren prefix.now) Done (state self.new) }
+    {
+        let key = prefix.repr();
+        let len = u32::from(prefix.prefix_len());
+        self.table.remove_children(key, len, &mut Visits::new());
     }
 
     /// Takes all entries out. It asks for no memory, and gives none back.
