@@ -2,7 +2,7 @@
 use Rattle.std.specs.Prelude.{ℕ, List, map}
 use Rattle.prefix_trie_bits.specs.Model.Step as model
 use Rattle.prefix_trie.specs.declared.replay.Call.{Call}
-use Rattle.prefix_trie.specs.declared.replay.Call.TheVariants.{Insert, Get, Lpm, Spm, Remove, RemoveKeepTree, RetainAtLeast, Clear, Len, NodeCount, List as ListAll, Cover}
+use Rattle.prefix_trie.specs.declared.replay.Call.TheVariants.{Insert, Get, Lpm, Spm, Remove, RemoveKeepTree, RemoveChildren, RetainAtLeast, Clear, Len, NodeCount, List as ListAll, Cover}
 use Rattle.prefix_trie.specs.declared.replay.Reply.{Reply}
 use Rattle.prefix_trie.specs.declared.replay.Reply.TheVariants.{Value, Match, Done, Count, Entries, Refused}
 
@@ -15,6 +15,7 @@ module _ {P : Type 0} where
   call_of (Spm q) = model.Spm q
   call_of (Remove q) = model.Remove q
   call_of (RemoveKeepTree q) = model.RemoveKeepTree q
+  call_of (RemoveChildren q) = model.RemoveChildren q
   call_of (RetainAtLeast n) = model.RetainAtLeast n
   call_of Clear = model.Clear
   call_of Len = model.Len

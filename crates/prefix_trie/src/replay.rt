@@ -27,6 +27,8 @@ pub enum Call<P> {
     Remove(P),
     /// `remove_keep_tree`: takes the entry of this prefix out, and leaves all nodes.
     RemoveKeepTree(P),
+    /// `remove_children`: takes out the entries whose prefixes this one contains, and the nodes that have nothing left then.
+    RemoveChildren(P),
     /// `retain`: keeps the entries whose prefixes have this length or a greater one, and the nodes that these need.
     RetainAtLeast(u8),
     /// `clear`: takes all entries out, and leaves the root alone.
@@ -48,7 +50,7 @@ pub enum Reply<P, A: Allocator> {
     Value(Option<u64>),
     /// To `Lpm` and `Spm`.
     Match(Option<(P, u64)>),
-    /// To `RetainAtLeast` and `Clear`.
+    /// To `RemoveChildren`, `RetainAtLeast` and `Clear`.
     Done,
     /// To `Len` and `NodeCount`.
     Count(usize),
@@ -63,13 +65,14 @@ pub enum Reply<P, A: Allocator> {
 /// After any list of calls, every call answers as a finite map from bit strings to values does: `Insert` sets the value at
 /// the path of its prefix and gives the one that was there, `Get` gives the value at the path of its prefix, `Lpm` the
 /// longest stored beginning of that path and its value, and `Spm` the shortest. `Remove` and `RemoveKeepTree` take the
-/// entry at that path out and give its value, `RetainAtLeast` takes out those whose paths are shorter than the length that it
-/// is handed, and `Clear` takes all entries out. `Len` gives the number of entries, `List`
+/// entry at that path out and give its value, `RemoveChildren` takes out those whose paths that of its prefix begins,
+/// `RetainAtLeast` those whose paths are shorter than the length that it is handed, and `Clear` takes all entries out. `Len` gives the number of entries, `List`
 /// all of them, each once and in listing order, and `Cover` those whose paths begin that of its prefix, the shortest first.
 ///
 /// `NodeCount` gives the number of nodes. They too are those of the model: `Insert` adds those that lack on its path,
-/// `Remove` takes those away that have nothing left, from the node of its path upward, `RetainAtLeast` leaves those that the
-/// entries left need, `Clear` leaves the root alone, and the other calls leave the nodes as they are.
+/// `Remove` takes those away that have nothing left, from the node of its path upward, `RemoveChildren` all below the node of
+/// its path and then the same, `RetainAtLeast` leaves those that the entries left need, `Clear` leaves the root alone, and the
+/// other calls leave the nodes as they are.
 ///
 /// Asks that every prefix handed in fits. Room for all replies is asked for first, so `Err` means that no call was carried
 /// out. An insertion that is refused is answered by the cause, and a list for which no memory is found, to `List` or to
@@ -129,6 +132,10 @@ fn answer<P: Prefix, A: Allocator + Clone>(
         Call::Spm(prefix) => Reply::Match(map.get_spm_counted(prefix).0.map(owned)),
         Call::Remove(prefix) => Reply::Value(map.remove(prefix)),
         Call::RemoveKeepTree(prefix) => Reply::Value(map.remove_keep_tree(prefix)),
+        Call::RemoveChildren(prefix) => {
+            map.remove_children(prefix);
+            Reply::Done
+        }
         Call::RetainAtLeast(least) => {
             retain_at_least(map, *least);
             Reply::Done
