@@ -1,4 +1,4 @@
-use Rattle.std.proofs.Common.{◌≡◌, [], take, sym, ap, ◌∙◌, subst}
+use Rattle.std.proofs.Common.{take, sym, ap, ◌∙◌, subst}
 use Rattle.prefix_trie_bits.specs.Model.Entries.{without_below}
 use Rattle.prefix_trie_bits.specs.Model.Nodes.{nodes_without_below}
 use Rattle.prefix_trie_bits.specs.Model.Step.{State}
