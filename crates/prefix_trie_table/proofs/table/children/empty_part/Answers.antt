@@ -1,4 +1,4 @@
-use Rattle.std.proofs.Common.{◌≡◌, ◌*◌, ◌/◌, ◌≤◌, length, take, drop, sym, ap, ◌∙◌}
+use Rattle.std.proofs.Common.{◌*◌, ◌/◌, ◌≤◌, length, take, drop, sym, ap, ◌∙◌}
 use Rattle.std.specs.List.{Contains}
 use Rattle.std.proofs.lemmas.List.Elements.{All-weaker, All-contains_itself}
 use Rattle.prefix_trie_bits.specs.Places.{is_in}
