@@ -102,6 +102,18 @@ fn with(alloc: Global, list: &[Entry], added: Entry) -> Result<Vec<Entry>, Alloc
     Ok(all)
 }
 
+/// The list without the entries that the key contains.
+fn outside(alloc: Global, list: &[Entry], asked: Key) -> Result<Vec<Entry>, AllocError> {
+    let key = cleared(asked.0, asked.1);
+    let mut left = Vec::new(alloc);
+    for entry in list {
+        if !contains(key, entry.0) {
+            left.push(*entry)?;
+        }
+    }
+    Ok(left)
+}
+
 /// The entries of at least so many bits.
 fn of_at_least(alloc: Global, list: &[Entry], len: u8) -> Result<Vec<Entry>, AllocError> {
     let mut left = Vec::new(alloc);
@@ -176,14 +188,14 @@ fn tells(
     requires { asked.1 ≤ 8 }
 {
     match which {
-        5 => Ok(map.len() == list.len()),
-        6 => Ok(1 <= map.node_count()),
-        7 => Ok(lists(map, list)),
-        8 => {
+        6 => Ok(map.len() == list.len()),
+        7 => Ok(1 <= map.node_count()),
+        8 => Ok(lists(map, list)),
+        9 => {
             let expected = containing(alloc, list, asked)?;
             Ok(covers(map, &expected, asked))
         }
-        9 => Ok(map.contains_key(&asked) == exact(list, asked).is_some()),
+        10 => Ok(map.contains_key(&asked) == exact(list, asked).is_some()),
         _ => Ok(map.is_covered(&asked) == shortest(list, asked).is_some()),
     }
 }
@@ -230,7 +242,7 @@ fn inserts(
     Ok(map.insert(asked, value)? == expected)
 }
 
-/// Whether a removal or a question answers as the list does.
+/// Whether a removal or a question answers as the list does. What a removal takes out goes out of both.
 fn answers(
     alloc: Global,
     map: &mut Map,
@@ -244,6 +256,11 @@ fn answers(
         0..3 => Ok(finds(map, list, which, asked)),
         3 => removes(alloc, map, list, false, asked),
         4 => removes(alloc, map, list, true, asked),
+        5 => {
+            map.remove_children(&asked);
+            *list = outside(alloc, list, asked)?;
+            Ok(map.len() == list.len())
+        }
         _ => Ok(tells(alloc, map, list, which, asked)?),
     }
 }
@@ -271,7 +288,7 @@ fn agrees(
             *list = of_at_least(alloc, list, asked.1)?;
             Ok(true)
         }
-        _ => answers(alloc, map, list, a.wrapping_sub(602) % 11, asked),
+        _ => answers(alloc, map, list, a.wrapping_sub(602) % 12, asked),
     }
 }
 

@@ -1,7 +1,7 @@
 //! Removals with each of their requests for memory refused in turn.
 use crate::refusing::Refusing;
-use crate::{Ipv4Prefix, PrefixMap};
-use std::alloc::Global;
+use crate::{Ipv4Prefix, Prefix, PrefixMap};
+use std::alloc::{Allocator, Global};
 use std::test::Fail;
 
 /// More requests than the removals of a test make.
@@ -29,6 +29,15 @@ const BELOW_A_NODE: Groups = Groups {
     len: 25,
 };
 
+/// How entries are taken out.
+#[derive(Clone, Copy)]
+enum By {
+    Remove,
+    KeepTree,
+    Children,
+    Retain,
+}
+
 type Held<'a> = PrefixMap<Ipv4Prefix, u32, &'a Refusing<Global>>;
 
 fn network(groups: Groups, group: u32, item: u32) -> Result<Ipv4Prefix, Fail> {
@@ -50,20 +59,49 @@ fn stored<'a>(heap: &'a Refusing<Global>, groups: Groups) -> Result<Held<'a>, Fa
     Ok(map)
 }
 
+/// Keeps the values above one.
+fn keep_above<P: Prefix, A: Allocator>(map: &mut PrefixMap<P, u32, A>, most: u32) {
+    map.retain(|_, value| most < *value);
+}
+
+/// Takes a network of this value out; by a prefix that is shorter by two bits also those beside it, and by a test those of the
+/// other groups. Answers whether a value that is handed out is its own.
+fn taken_out(map: &mut Held<'_>, asked: Ipv4Prefix, item: u32, by: By) -> Result<bool, Fail> {
+    match by {
+        By::Remove => Ok(map.remove(&asked) == Some(item)),
+        By::KeepTree => Ok(map.remove_keep_tree(&asked) == Some(item)),
+        By::Children => {
+            let len = asked.prefix_len().saturating_sub(2);
+            map.remove_children(&Ipv4Prefix::new(asked.addr(), len).ok_or("a length above 32")?);
+            Ok(true)
+        }
+        By::Retain => {
+            keep_above(map, item);
+            Ok(true)
+        }
+    }
+}
+
+/// How many networks of a group are left once this one of it was taken out.
+fn left_after(item: u32, by: By) -> usize {
+    match by {
+        By::Children if item < 4 => 1,
+        _ => 4_usize.saturating_sub(item as usize),
+    }
+}
+
 /// Takes all networks out, the first of each group before any second: then a group needs small blocks that none has left.
-/// Answers whether each removal answered in full.
-fn all_taken_out(map: &mut Held<'_>, groups: Groups, keep_tree: bool) -> Result<bool, Fail> {
+/// Answers whether each removal did all that it should, and no more.
+fn all_taken_out(map: &mut Held<'_>, groups: Groups, by: By) -> Result<bool, Fail> {
     for item in 0..5 {
         for group in 0..31 {
             let asked = network(groups, group, item)?;
-            let answer = if keep_tree {
-                map.remove_keep_tree(&asked)
-            } else {
-                map.remove(&asked)
-            };
-            if answer != Some(item) || map.get(&asked).is_some() {
+            if !taken_out(map, asked, item, by)? || map.get(&asked).is_some() {
                 return Ok(false);
             }
+        }
+        if map.len() != left_after(item, by).wrapping_mul(31) {
+            return Ok(false);
         }
     }
     Ok(map.is_empty())
@@ -71,16 +109,12 @@ fn all_taken_out(map: &mut Held<'_>, groups: Groups, keep_tree: bool) -> Result<
 
 /// Takes all networks out time and again, with another request refused each time. Answers how many requests were refused, or
 /// None where a removal did not answer in full.
-fn refused_in_turn(
-    heap: &Refusing<Global>,
-    groups: Groups,
-    keep_tree: bool,
-) -> Result<Option<u64>, Fail> {
+fn refused_in_turn(heap: &Refusing<Global>, groups: Groups, by: By) -> Result<Option<u64>, Fail> {
     for passed in 0..MANY {
         let mut map = stored(heap, groups)?;
         let before = heap.requests();
         heap.refuse(passed, 1);
-        let answered = all_taken_out(&mut map, groups, keep_tree)?;
+        let answered = all_taken_out(&mut map, groups, by)?;
         heap.refuse(0, 0);
         if !answered {
             return Ok(None);
@@ -95,8 +129,8 @@ fn refused_in_turn(
 #[test]
 fn each_request_for_values_refused(rt: HostRuntime) -> Result<(), Fail> {
     let heap = Refusing::new(rt.alloc());
-    for keep_tree in [false, true] {
-        let refusals = refused_in_turn(&heap, IN_A_NODE, keep_tree)?;
+    for by in [By::Remove, By::KeepTree, By::Children, By::Retain] {
+        let refusals = refused_in_turn(&heap, IN_A_NODE, by)?;
         assert!(rt; refusals.is_some_and(|count| 0 < count), "{refusals:?}");
     }
     Ok(())
@@ -105,7 +139,9 @@ fn each_request_for_values_refused(rt: HostRuntime) -> Result<(), Fail> {
 #[test]
 fn each_request_for_nodes_refused(rt: HostRuntime) -> Result<(), Fail> {
     let heap = Refusing::new(rt.alloc());
-    let refusals = refused_in_turn(&heap, BELOW_A_NODE, false)?;
-    assert!(rt; refusals.is_some_and(|count| 0 < count), "{refusals:?}");
+    for by in [By::Remove, By::Children, By::Retain] {
+        let refusals = refused_in_turn(&heap, BELOW_A_NODE, by)?;
+        assert!(rt; refusals.is_some_and(|count| 0 < count), "{refusals:?}");
+    }
     Ok(())
 }

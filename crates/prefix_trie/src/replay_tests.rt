@@ -130,10 +130,28 @@ fn removals_and_the_nodes_left(rt: HostRuntime) -> Result<(), Fail> {
         Call::NodeCount,
         Call::Insert((0x0a01_0000, 16), 2),
         Call::Remove((0x0a01_0000, 16)),
-        Call::Len,
+        Call::Insert((0x0a01_0000, 16), 3),
+        Call::Insert((0x0a01_0100, 24), 4),
+        Call::Insert((0x0b00_0000, 8), 5),
+        Call::RemoveChildren((0x0a01_0000, 16)),
+        Call::List,
     ];
     let replies = run(rt.alloc(), &mut map, &calls)?;
-    let [_, kept, nodes, pruned, root, _, removed, len] = replies.as_slice() else {
+    let [
+        _,
+        kept,
+        nodes,
+        pruned,
+        root,
+        _,
+        removed,
+        _,
+        _,
+        _,
+        emptied,
+        left,
+    ] = replies.as_slice()
+    else {
         return Err(Fail::new("another number of replies"));
     };
     assert!(rt; is_value(kept, Some(1)));
@@ -142,7 +160,8 @@ fn removals_and_the_nodes_left(rt: HostRuntime) -> Result<(), Fail> {
     assert!(rt; is_value(pruned, None));
     assert!(rt; is_count(root, 1));
     assert!(rt; is_value(removed, Some(2)));
-    assert!(rt; is_count(len, 0));
+    assert!(rt; is_done(emptied));
+    assert!(rt; is_list(left, &[((0x0b00_0000, 8), 5)]));
     Ok(())
 }
 

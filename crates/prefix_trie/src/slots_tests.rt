@@ -72,6 +72,20 @@ fn slots_of_a_full_root(rt: HostRuntime) -> Result<(), Fail> {
     Ok(())
 }
 
+// The root has two values, in a block of two, and its child one, in a block of one. Once the root has one value, no block of
+// one is free, and the limit has room for another: a removal that takes only free blocks makes none.
+#[test]
+fn removal_steps_down_only_onto_free_block(rt: HostRuntime) -> Result<(), Fail> {
+    let mut map = PrefixMap::with_slot_limit(rt.alloc(), 4)?;
+    assert_eq!(rt; map.insert((0_u8, 1_u8), 1_u8), Ok(None));
+    assert_eq!(rt; map.insert((128, 1), 2), Ok(None));
+    assert_eq!(rt; map.insert((0, 5), 3), Ok(None));
+    assert_eq!(rt; map.cell_slots(), 3);
+    assert_eq!(rt; map.remove(&(0, 1)), Some(1));
+    assert_eq!(rt; map.cell_slots(), 4);
+    Ok(())
+}
+
 #[test]
 fn slots_of_all_addresses_of_eight_bits(rt: HostRuntime) -> Result<(), Fail> {
     let mut map = PrefixMap::new(rt.alloc())?;
