@@ -1,6 +1,6 @@
 //! Taking entries out.
-ghost use Rattle.std.specs.Prelude.{◌≡◌, ◌+◌, ◌<◌, ◌≤◌};
-ghost use Rattle.std.specs.FinMap.{get};
+ghost use Rattle.std.specs.Prelude.{◌≡◌, ◌+◌, ◌*◌, ◌<◌, ◌≤◌};
+ghost use Rattle.std.specs.FinMap.{get, len};
 ghost use Rattle.prefix_trie_bits.specs.Model.Blocks.{no_layout};
 ghost use Rattle.prefix_trie_bits.specs.Model.Entries.{no_entries, without_entry, without_below};
 ghost use Rattle.prefix_trie_bits.specs.Model.Nodes.{root_alone, nodes_without, nodes_without_below};
@@ -84,6 +84,8 @@ impl<P: Prefix, T: Drop, A: Allocator> PrefixMap<P, T, A> {
             ≡ record { limit = self.old.room.limit; node_slots = 1; cell_slots = 0 } }
         ensures slots { 0 < P.len_of prefix.now
             → (self.old.room.node_slots ≤ self.new.room.node_slots) × (self.old.room.cell_slots ≤ self.new.room.cell_slots) }
+        ensures nodes_grow { self.new.room.node_slots ≤ self.old.room.node_slots + 56 * len self.old.nodes }
+        ensures cells_grow { self.new.room.cell_slots ≤ self.old.room.cell_slots + 56 * len self.old.nodes }
         ensures within { (self.new.room.node_slots ≤ self.new.room.limit) × (self.new.room.cell_slots ≤ self.new.room.limit) }
 
         // It is one step of the model.
