@@ -46,6 +46,9 @@ pub mod PathLists
 pub mod NodeCounts
 pub mod PathStrings
 pub mod Sizing
+pub mod Filling
+pub mod BlockCounts
+pub mod BlockUsers
 pub mod Asked
 pub mod AskedBelow
 pub mod Retained
