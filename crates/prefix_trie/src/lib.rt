@@ -31,4 +31,4 @@ mod tests;
 mod walk_tests;
 
 pub use prefix_trie_bits::prefix::{Ipv4Prefix, Ipv6Prefix, Key, Prefix, Refusal, Refused};
-pub use prefix_trie_map::map::{PrefixMap, Visits};
+pub use prefix_trie_map::map::{BlockCount, PrefixMap, Visits};

@@ -33,6 +33,7 @@ mod visits;
 pub use cover::{Cover, CoverKeys, CoverValues};
 pub use iter::{Iter, Keys, Values};
 use prefix_trie_bits::prefix::{Prefix, Refusal, Refused};
+pub use prefix_trie_table::allocator::block_count::BlockCount;
 use prefix_trie_table::table::Table;
 use std::alloc::Allocator;
 use std::marker::{Model, PhantomData};

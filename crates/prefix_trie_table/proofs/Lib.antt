@@ -48,6 +48,9 @@ pub mod NodeCounts
 pub mod Settling
 pub mod PathStrings
 pub mod Sizing
+pub mod Filling
+pub mod BlockCounts
+pub mod BlockUsers
 pub mod Asked
 pub mod AskedBelow
 pub mod Retained

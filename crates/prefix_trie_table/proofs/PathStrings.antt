@@ -27,7 +27,8 @@ string_at (c ∷ path) = digits 5 c ++ string_at path
 five-more : (l k : ℕ) → k % 5 ≡ 0 → l ≡ 5 + k → l % 5 ≡ 0
 five-more l k e f = omega (arith, e, f)
 
-string_depth : (path : List ℕ) → length (string_at path) % 5 ≡ 0
+-- it is as long as a node's
+pub string_depth : (path : List ℕ) → length (string_at path) % 5 ≡ 0
 string_depth [] = refl
 string_depth (c ∷ path) =
     five-more _ _ (string_depth path) (length-append (digits 5 c) (string_at path) ∙ ap (λ n. n + length (string_at path)) (length-digits 5 c))
@@ -80,22 +81,48 @@ has-nodes_at paths s = has-with_nodes empty (map string_at paths) s ∙ ap (λ b
     nothing true = refl
     nothing false = refl
 
--- it has as many as there are paths, where each stands once and leads to a string
-len-nodes_at : (paths : List (List ℕ)) → ((p : List ℕ) → 0 < times p paths → All IsStep p) → ((p : List ℕ) → times p paths ≤ 1) →
-    len (nodes_at paths) ≡ length paths
-len-nodes_at [] steps once = len-empty listing_cmp (Unit {0})
-len-nodes_at (x ∷ paths) steps once =
+-- each of these paths leads to a string
+abbrev pub AreSteps : List (List ℕ) → Type 0
+AreSteps paths = (p : List ℕ) → 0 < times p paths → All IsStep p
+
+-- no path is there twice
+abbrev pub AreOnce : List (List ℕ) → Type 0
+AreOnce paths = (p : List ℕ) → times p paths ≤ 1
+
+-- so the first one leads to a string, and the others do
+pub first_steps : (x : List ℕ) (paths : List (List ℕ)) → AreSteps (x ∷ paths) → All IsStep x
+first_steps x paths steps = steps x (let e : one_if (same_path x x) ≡ 1 = ap one_if (same_path-itself x) in omega arith)
+
+pub other_steps : (x : List ℕ) (paths : List (List ℕ)) → AreSteps (x ∷ paths) → AreSteps paths
+other_steps x paths steps = λ p h. steps p (omega arith)
+
+-- and the others are there once
+pub other_once : (x : List ℕ) (paths : List (List ℕ)) → AreOnce (x ∷ paths) → AreOnce paths
+other_once x paths once = λ p. let o = once p in omega arith
+
+-- the string of the first path is that of no other
+pub fresh_string : (x : List ℕ) (paths : List (List ℕ)) → AreSteps (x ∷ paths) → AreOnce (x ∷ paths) →
+    list_any (same_string (string_at x)) (map string_at paths) ≡ false
+fresh_string x paths steps once =
     let one : one_if (same_path x x) ≡ 1 = ap one_if (same_path-itself x) in
     let gone : times x paths ≡ 0 = (let o = once x in omega arith) in
-    let fresh : contains_key (nodes_at paths) (string_at x) ≡ false = has-nodes_at paths (string_at x)
-    ∙ false_from_ne_true (list_any (same_string (string_at x)) (map string_at paths)) (λ h.
+    false_from_ne_true (list_any (same_string (string_at x)) (map string_at paths)) (λ h.
     let r = string-listed (string_at x) paths h in
-    let other : All IsStep r.0 = steps r.0 (let m = r.1 in omega arith) in
-    let same : x ≡ r.0 = sym (string_path x (steps x (omega arith))) ∙ ap path_of r.2 ∙ string_path r.0 other in
+    let same : x ≡ r.0 = sym (string_path x (first_steps x paths steps)) ∙ ap path_of r.2 ∙ string_path r.0 (other_steps x paths steps r.0 r.1) in
     let none : times r.0 paths ≡ 0 = ap (λ p. times p paths) (sym same) ∙ gone in
-    let m = r.1 in absurd (omega arith)) in
-    len-insert listing_total (nodes_at paths) (string_at x) tt ∙ ap (λ b. cond b (len (nodes_at paths)) (len (nodes_at paths) + 1)) fresh
-    ∙ ap (λ n. n + 1) (len-nodes_at paths (λ p h. steps p (omega arith)) (λ p. let o = once p in omega arith))
+    let m = r.1 in absurd (omega arith))
+
+-- nor one of the set of theirs
+pub new_string : (x : List ℕ) (paths : List (List ℕ)) → AreSteps (x ∷ paths) → AreOnce (x ∷ paths) → contains_key (nodes_at paths) (string_at x) ≡ false
+new_string x paths steps once = has-nodes_at paths (string_at x) ∙ fresh_string x paths steps once
+
+-- it has as many as there are paths, where each stands once and leads to a string
+len-nodes_at : (paths : List (List ℕ)) → AreSteps paths → AreOnce paths → len (nodes_at paths) ≡ length paths
+len-nodes_at [] steps once = len-empty listing_cmp (Unit {0})
+len-nodes_at (x ∷ paths) steps once =
+    len-insert listing_total (nodes_at paths) (string_at x) tt
+    ∙ ap (λ b. cond b (len (nodes_at paths)) (len (nodes_at paths) + 1)) (new_string x paths steps once)
+    ∙ ap (λ n. n + 1) (len-nodes_at paths (other_steps x paths steps) (other_once x paths once))
     ∙ (let e : length paths + 1 ≡ suc (length paths) = omega arith in e)
 
 one-at-most : (b : Bool) (t : ℕ) → t ≡ one_if b → t ≤ 1
@@ -108,7 +135,7 @@ from-one false t e h = absurd (omega (arith, e, h))
 
 module _ (sizes : List ℕ) (nodes : List ℕ → Option Node) (paths : List (List ℕ)) (v : Store Node) (hold : NodesHold sizes nodes paths v) where
   -- a path to a node has steps of five bits
-  pub steps_small : (q : List ℕ) → is_some (nodes q) ≡ true → All IsStep q
+  steps_small : (q : List ℕ) → is_some (nodes q) ≡ true → All IsStep q
   steps_small = snoc_ind (λ q. is_some (nodes q) ≡ true → All IsStep q) (λ h. All-nil IsStep)
       (λ q c ih h. let has : has_child (nodes q) c ≡ true = sym (hold.linked q c) ∙ h in All-push IsStep q c (ih (above (nodes q) c has)) (within (nodes q) c has))
     where
@@ -145,12 +172,20 @@ module _ (sizes : List ℕ) (nodes : List ℕ → Option Node) (paths : List (Li
           and-join (is_node_depth s) (is_some (nodes (path_of s)))
           (eq-eqb (length s % 5) 0 (ap (λ t. length t % 5) r.2 ∙ string_depth r.0)) (ap (λ p. is_some (nodes p)) path ∙ some)
 
+  -- all paths lead to strings, and each is there once
+  pub paths_steps : AreSteps paths
+  paths_steps = λ p h. steps_small p (listed_some p h)
+
+  pub paths_once : AreOnce paths
+  paths_once = λ p. one-at-most (is_some (nodes p)) (times p paths) (hold.listed p)
+
   module _ (n : Nodes) (are : (s : List Bool) → has_node n s ≡ (is_node_depth s && is_some (nodes (path_of s)))) where
-    same_nodes : n ≡ nodes_at paths
+    -- the nodes are those at the strings of the paths
+    pub same_nodes : n ≡ nodes_at paths
     same_nodes = same_members n (nodes_at paths) (λ s. are s ∙ sym (listed_at s) ∙ sym (has-nodes_at paths s))
 
     -- the nodes are as many as their paths
     pub paths_counted : len n ≡ length paths
     paths_counted =
         ap (λ m. len m) same_nodes
-        ∙ len-nodes_at paths (λ p h. steps_small p (listed_some p h)) (λ p. one-at-most (is_some (nodes p)) (times p paths) (hold.listed p))
+        ∙ len-nodes_at paths paths_steps paths_once

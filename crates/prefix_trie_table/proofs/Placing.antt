@@ -39,14 +39,18 @@ five_path (a ∷ []) h = absurd (omega (arith, h))
 five_path [] h = absurd (omega (arith, h))
 
 -- five bits more are a step more
+pub five_below : (k : ℕ) (s r : List Bool) → length s ≡ 5 * k → length r ≡ 5 → path_of (s ++ r) ≡ path_of s ++ number r ∷ []
+five_below k (x ∷ y ∷ z ∷ u ∷ v ∷ s) r long h =
+    ap (λ p. number (x ∷ y ∷ z ∷ u ∷ v ∷ []) ∷ p) (five_below (k - 1) s r (five_less (length s) k long) h)
+five_below k (x ∷ y ∷ z ∷ u ∷ []) r long h = absurd (omega (arith, long))
+five_below k (x ∷ y ∷ z ∷ []) r long h = absurd (omega (arith, long))
+five_below k (x ∷ y ∷ []) r long h = absurd (omega (arith, long))
+five_below k (x ∷ []) r long h = absurd (omega (arith, long))
+five_below k [] r long h = five_path r h
+
+-- those of a step's number are this step
 pub step_below : (k : ℕ) (s : List Bool) (c : ℕ) → length s ≡ 5 * k → c < 32 → path_of (s ++ digits 5 c) ≡ path_of s ++ c ∷ []
-step_below k (x ∷ y ∷ z ∷ u ∷ v ∷ s) c long h =
-    ap (λ p. number (x ∷ y ∷ z ∷ u ∷ v ∷ []) ∷ p) (step_below (k - 1) s c (five_less (length s) k long) h)
-step_below k (x ∷ y ∷ z ∷ u ∷ []) c long h = absurd (omega (arith, long))
-step_below k (x ∷ y ∷ z ∷ []) c long h = absurd (omega (arith, long))
-step_below k (x ∷ y ∷ []) c long h = absurd (omega (arith, long))
-step_below k (x ∷ []) c long h = absurd (omega (arith, long))
-step_below k [] c long h = five_path (digits 5 c) (length-digits 5 c) ∙ ap (λ n. n ∷ []) (number-bits 5 c h)
+step_below k s c long h = five_below k s (digits 5 c) long (length-digits 5 c) ∙ ap (λ n. path_of s ++ n ∷ []) (number-bits 5 c h)
 
 -- each value bit is that of a string
 pub string_at : (b : ℕ) → b < 31 → (r : List Bool) × (length r ≤ 4) × (value_bit r ≡ b)

@@ -1,7 +1,6 @@
 -- The sizes of the blocks of the nodes in an array, by the strings of the nodes.
-use Rattle.std.proofs.Common.{◌≡◌, ℕ, ◌<◌, inl, inr, Bool, true, false, cond, ◌&&◌, ◌||◌, List, [], ◌∷◌, map, Option, None, Some, is_some, refl, sym, ap, ◌∙◌, subst, arith}
+use Rattle.std.proofs.Common.{◌≡◌, ℕ, inl, inr, Bool, true, false, cond, ◌&&◌, ◌||◌, List, [], ◌∷◌, map, Option, None, Some, is_some, refl, sym, ap, ◌∙◌, subst}
 use Rattle.std.proofs.lemmas.Bool.{cases_Bool}
-use Rattle.std.specs.Prelude.{All}
 use Rattle.std.specs.List.{list_any}
 use Rattle.std.specs.FinMap.{get, empty, insert, get-insert, get-empty}
 use Rattle.prefix_trie_bits.specs.Order.{listing_total, same_string}
@@ -12,11 +11,10 @@ use Rattle.prefix_trie_table.specs.declared.allocator.node.Node.{Node}
 use Rattle.prefix_trie_table.specs.Digits.{path_of}
 use Rattle.prefix_trie_table.specs.Cells.{node_sizes, cell_sizes}
 use Rattle.prefix_trie_table.specs.Store.{Store, Tier, no_blocks, size_in}
-use Rattle.prefix_trie_table.specs.Forest.{same_path, one_if, times, NodesHold, Holds}
+use Rattle.prefix_trie_table.specs.Forest.{NodesHold, Holds}
 use Rattle.prefix_trie_table.specs.Layouts.{AreSizesBy, Sized, Sized-prop, child_block_size, value_block_size, size_if_any, free_counts}
 use Rattle.prefix_trie_table.specs.Tables.{IsCounted}
-use Rattle.prefix_trie_table.proofs.PathStrings.{string_at, string_path, IsStep, steps_small, listed_some, listed_at}
-use Rattle.prefix_trie_table.proofs.Paths.{same_path-itself}
+use Rattle.prefix_trie_table.proofs.PathStrings.{string_at, string_path, AreSteps, first_steps, other_steps, paths_steps, listed_at}
 use Rattle.prefix_trie_table.proofs.BitLists.{rank-zero-all}
 use Rattle.prefix_trie_table.proofs.Shapes.{root_reading, no_values, root_here}
 use Rattle.prefix_trie_table.proofs.Trees.{reads}
@@ -30,16 +28,6 @@ with_size m s (Some n) = insert m s n
 abbrev pub sizes_at : (List ℕ → Option ℕ) → List (List ℕ) → Sizes
 sizes_at size [] = empty
 sizes_at size (p ∷ ps) = with_size (sizes_at size ps) (string_at p) (size p)
-
--- each of these paths leads to a string
-abbrev pub AreSteps : List (List ℕ) → Type 0
-AreSteps paths = (p : List ℕ) → 0 < times p paths → All IsStep p
-
-first_steps : (x : List ℕ) (paths : List (List ℕ)) → AreSteps (x ∷ paths) → All IsStep x
-first_steps x paths steps = steps x (let e : one_if (same_path x x) ≡ 1 = ap one_if (same_path-itself x) in omega arith)
-
-other_steps : (x : List ℕ) (paths : List (List ℕ)) → AreSteps (x ∷ paths) → AreSteps paths
-other_steps x paths steps = λ p h. steps p (omega arith)
 
 here_none : (b : Bool) (o : Option ℕ) → o ≡ None → cond b o None ≡ o
 here_none true o e = refl
@@ -74,14 +62,10 @@ module _ (size : List ℕ → Option ℕ) where
       ]
 
 module _ (sizes : List ℕ) (nodes : List ℕ → Option Node) (paths : List (List ℕ)) (v : Store Node) (hold : NodesHold sizes nodes paths v) where
-  -- the paths of the nodes lead to strings
-  pub paths_steps : AreSteps paths
-  paths_steps = λ p h. steps_small sizes nodes paths v hold p (listed_some sizes nodes paths v hold p h)
-
   -- the sizes at the paths of the nodes are those of the nodes
   pub sizes_are : (size : Option Node → Option ℕ) → size None ≡ None → AreSizesBy size v.slots (sizes_at (λ p. size (nodes p)) paths)
   sizes_are size none s =
-      get-sizes_at (λ p. size (nodes p)) paths paths_steps s
+      get-sizes_at (λ p. size (nodes p)) paths (paths_steps sizes nodes paths v hold) s
       ∙ ap (λ b. cond b (size (nodes (path_of s))) None) (listed_at sizes nodes paths v hold s)
       ∙ there (is_node_depth s) (nodes (path_of s))
       ∙ ap (λ o. cond (is_node_depth s) (size o) None) (sym (reads sizes nodes paths v hold (path_of s)))
@@ -97,6 +81,14 @@ module _ (sizes : List ℕ) (nodes : List ℕ → Option Node) (paths : List (Li
     sizes_at (λ p. child_block_size (nodes p)) paths,
     (sizes_at (λ p. value_block_size (nodes p)) paths, (sizes_are child_block_size refl, sizes_are value_block_size refl)),
   )
+
+  -- and no others
+  pub sizes_only : (x : Sized v.slots) →
+      (x.0 ≡ sizes_at (λ p. child_block_size (nodes p)) paths) × (x.1.0 ≡ sizes_at (λ p. value_block_size (nodes p)) paths)
+  unfolding sizes_of
+  sizes_only x =
+      let same : x ≡ sizes_of = Sized-prop v.slots x sizes_of in
+      (ap (λ (y : Sized v.slots). y.0) same, ap (λ (y : Sized v.slots). y.1.0) same)
 
 -- a table's nodes have sizes
 pub table_sizes : {T : Type 0} (v : Store Node) (w : Store (Option T)) (count : ℕ) → IsCounted v w count → Sized v.slots
@@ -131,12 +123,10 @@ root_none_value = ap value_block_size root_here ∙ ap (λ n. size_if_any n (siz
 -- nor has a table with it alone, and no block is made
 pub root_layout : {T : Type 0} (v : Store Node) (w : Store (Option T)) → Holds root_reading no_values ([] ∷ []) v w → v.tiers ≡ map no_blocks node_sizes →
     w.tiers ≡ map no_blocks cell_sizes → (x : Sized v.slots) → layout_of v.slots v.tiers w.tiers x ≡ no_layout
-unfolding sizes_of
 root_layout v w holds tiers cell_tiers x =
-    let s = sizes_of node_sizes root_reading ([] ∷ []) v holds.hold in
-    let same : x ≡ s = Sized-prop v.slots x s in
-    let children : x.0 ≡ empty = ap (λ (y : Sized v.slots). y.0) same ∙ root_sizes child_block_size root_none in
-    let values : x.1.0 ≡ empty = ap (λ (y : Sized v.slots). y.1.0) same ∙ root_sizes value_block_size root_none_value in
+    let only = sizes_only node_sizes root_reading ([] ∷ []) v holds.hold x in
+    let children : x.0 ≡ empty = only.0 ∙ root_sizes child_block_size root_none in
+    let values : x.1.0 ≡ empty = only.1 ∙ root_sizes value_block_size root_none_value in
     λ i. record {
       child_blocks = children i;
       value_blocks = values i;

@@ -6,6 +6,7 @@ pub mod Digits
 pub mod Forest
 pub mod Slots
 pub mod Lending
+pub mod BlockCounts
 pub mod Layouts
 pub mod Shape
 pub mod Tables

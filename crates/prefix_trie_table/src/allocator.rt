@@ -9,6 +9,7 @@
 //! array's end, only where none of its size is free, and its place in the list of free ones is reserved with it: so giving a
 //! block back never asks for memory. Apart from making an array only `prepare` can be refused, and it writes no list: what
 //! a change needs is obtained first, as free blocks, and the change itself then always succeeds.
+pub mod block_count;
 pub mod blocks;
 mod free_list;
 pub mod node;

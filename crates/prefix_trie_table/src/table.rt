@@ -4,6 +4,7 @@
 //! a finite map from bit strings to values, its nodes, a finite set of bit strings, its room, and its layout: the size of each
 //! node's two blocks, by its bit string, and how many blocks of each size are free. They see no slot and no bitmap, nor
 //! where a block stands.
+mod block_counts;
 mod children;
 mod copying;
 mod counting;

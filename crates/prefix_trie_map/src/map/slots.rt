@@ -1,11 +1,12 @@
-//! The slots of the two arrays, and the limit that neither passes.
-ghost use Rattle.std.specs.Prelude.{◌≡◌, ◌≤◌, ◌↔◌, IfOk, IfErr, IsErr};
+//! The slots and the blocks of the two arrays, and the limit that neither passes.
+ghost use Rattle.std.specs.Prelude.{◌≡◌, ◌+◌, ◌≤◌, ◌↔◌, length, IfOk, IfErr, IsErr};
 ghost use Rattle.prefix_trie_bits.specs.declared.prefix.Refusal.TheVariants.{IndexRange};
-ghost use Rattle.prefix_trie_bits.specs.Model.Blocks.{no_layout};
+ghost use Rattle.prefix_trie_bits.specs.Model.Blocks.{no_layout, child_block_sizes, value_block_sizes};
 ghost use Rattle.prefix_trie_bits.specs.Model.Entries.{no_entries};
-ghost use Rattle.prefix_trie_bits.specs.Model.Nodes.{root_alone};
+ghost use Rattle.prefix_trie_bits.specs.Model.Nodes.{root_alone, parents, holders};
+ghost use Rattle.prefix_trie_table.specs.BlockCounts.{block_counts, slots_counted, used_blocks};
 
-use crate::map::PrefixMap;
+use crate::map::{BlockCount, PrefixMap};
 use prefix_trie_bits::prefix::{Prefix, Refusal};
 use prefix_trie_table::table::Table;
 use std::alloc::Allocator;
@@ -54,5 +55,33 @@ impl<P: Prefix, T: Drop, A: Allocator> PrefixMap<P, T, A> {
         ensures within { result ≤ self.now.room.limit }
     {
         self.table.cell_slots()
+    }
+
+    /// How many blocks of each size the array of nodes has, in use and free: of 1, 2, 4, 8, 16, 24 and 32 slots. Each node with
+    /// children has one in use, and the root stands outside every block.
+    ///
+    /// ```text
+    /// map.insert((0x0a010000_u32, 16_u8), 1)   Ok(None), with a node for each five bits on its way
+    /// map.node_blocks()[0]                     BlockCount { size: 1, used: 3, free: 0 }
+    /// map.cell_blocks()[0]                     BlockCount { size: 1, used: 1, free: 0 }
+    /// ```
+    #[inline]
+    pub fn node_blocks(&self) -> [BlockCount; 7]
+        ensures counts { result ≡ block_counts child_block_sizes self.now.layout.child_blocks self.now.layout.free_child_blocks }
+        ensures slots { self.now.room.node_slots ≡ 1 + slots_counted result }
+        ensures used { used_blocks result ≡ length (parents self.now.nodes) }
+    {
+        self.table.node_blocks()
+    }
+
+    /// How many blocks of each size the array of values has, in use and free: of 1, 2, 4, 8, 16, 24 and 31 slots. Each node with
+    /// values of its own has one in use.
+    #[inline]
+    pub fn cell_blocks(&self) -> [BlockCount; 7]
+        ensures counts { result ≡ block_counts value_block_sizes self.now.layout.value_blocks self.now.layout.free_value_blocks }
+        ensures slots { self.now.room.cell_slots ≡ slots_counted result }
+        ensures used { used_blocks result ≡ length (holders self.now.entries self.now.nodes) }
+    {
+        self.table.cell_blocks()
     }
 }

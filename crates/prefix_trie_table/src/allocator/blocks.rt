@@ -4,12 +4,14 @@ mod copying;
 ghost use Rattle.std.specs.Prelude.{MatchResult, ◌≡◌, ◌≢◌, ℕ, ◌+◌, ◌-◌, ◌*◌, ◌^◌, ◌<◌, ◌≤◌, ◌↔◌, [], ◌∷◌, ◌++◌, List, Some, length, take, replicate, insert, remove, All, map, None, IfOk, IsTrue, IsOk, IsErr, OnOk, OnErr, nat_lt, if◌then◌else◌, IfErr, IfSome, IfNone, IsSome, IsSomeAnd, MatchOption, ◌⊎◌, vec_len, vec_capacity, slice_index_or, slice_set};
 ghost use Rattle.prefix_trie_table.specs.Runs.{swap_runs};
 ghost use Rattle.prefix_trie_table.specs.Store.{Tier, Store, Block, Sound, tier_at, slots_made, with_tier, grown, grown_times, block, InUse, tier_for, no_blocks, taken, SameRoom, held, HasList, IsReady, tier_lacking, tier_sizes, free_at, Spends, SameBefore, Prepared, Enough, Keeps, Turnover, CutShort, none_at, one_at, many_at, size_in, blocks_lacking, lacking_slots, tier_outgrown, tier_entered, tier_left, blocks_entered};
+ghost use Rattle.prefix_trie_table.specs.BlockCounts.{tier_count};
 ghost use Rattle.prefix_trie_table.specs.Cells.{blank_node, cell_sizes, node_sizes};
 ghost use Rattle.std.specs.Borrow.{sem};
 ghost use Rattle.prefix_trie_table.specs.Slots.{with_slot};
 ghost use Rattle.prefix_trie_table.specs.Lending.{lends_slot};
 ghost use Rattle.prefix_trie_bits.specs.declared.prefix.Refusal.TheVariants.{Memory, IndexRange};
 
+use crate::allocator::block_count::BlockCount;
 use crate::allocator::free_list::{FreeList, clear_all};
 use crate::allocator::node::Node;
 use crate::allocator::slots::{Slot, exchange, push_vacant, shift_in, shift_out};
@@ -91,6 +93,33 @@ impl<S: Slot, A: Allocator> Blocks<S, A> {
         ensures { result ≡ length (tier_at self.now.tiers k).starts }
     {
         self.lists[k].free()
+    }
+
+    /// How many blocks of each size are in use and free, sizes ascending.
+    pub fn counts(&self) -> [BlockCount; 7]
+        requires { length self.now.tiers ≡ 7 }
+        ensures counts { result ≡ map tier_count self.now.tiers }
+        ensures made { length self.now.slots ≡ self.now.first + slots_made self.now.tiers }
+    {
+        // Read for the proof alone: the blocks that were made take all slots from the first on.
+        let _slots = &self.slots;
+        [
+            self.count_of(0),
+            self.count_of(1),
+            self.count_of(2),
+            self.count_of(3),
+            self.count_of(4),
+            self.count_of(5),
+            self.count_of(6),
+        ]
+    }
+
+    // How many blocks of tier `k` are in use and free.
+    fn count_of(&self, k: usize) -> BlockCount
+        requires { k < length self.now.tiers }
+        ensures { result ≡ tier_count (tier_at self.now.tiers k) }
+    {
+        self.lists[k].count()
     }
 
     /// The value in a slot: of the block that starts at `start`, the one at `place`.

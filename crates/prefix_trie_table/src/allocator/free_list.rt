@@ -1,7 +1,9 @@
 //! The blocks of one size: a stack of the free ones, with a place for each block that was made.
 ghost use Rattle.std.specs.Prelude.{◌≡◌, ℕ, ◌+◌, ◌^◌, ◌<◌, ◌≤◌, ◌↔◌, [], ◌∷◌, ◌++◌, length, map, IsTrue, OnOk, OnErr, vec_len, vec_capacity};
 ghost use Rattle.prefix_trie_table.specs.Store.{no_blocks};
+ghost use Rattle.prefix_trie_table.specs.BlockCounts.{tier_count};
 
+use crate::allocator::block_count::BlockCount;
 use std::alloc::{AllocError, Allocator};
 use std::marker::Model;
 
@@ -49,6 +51,18 @@ impl<A: Allocator> FreeList<A> {
         ensures { result ≡ self.now.made }
     {
         self.made
+    }
+
+    /// How many blocks are in use, and how many are free.
+    pub fn count(&self) -> BlockCount
+        ensures { result ≡ tier_count self.now }
+    {
+        let free = self.starts.len();
+        BlockCount {
+            size: self.size as usize,
+            used: self.made as usize - free,
+            free,
+        }
     }
 
     /// How many blocks are free.

@@ -1,9 +1,11 @@
 //! The array of nodes. Every read of a node is counted.
 ghost use Rattle.std.specs.Prelude.{◌≡◌, ℕ, ◌+◌, ◌-◌, ◌*◌, ◌^◌, ◌<◌, ◌≤◌, ◌↔◌, ◌⊎◌, [], ◌∷◌, ◌++◌, List, Some, None, IfOk, IfErr, IsOk, IsErr, IsSome, OnOk, OnErr, MatchOption, All, length, map, insert, remove, slice_index_or, slice_set};
+ghost use Rattle.prefix_trie_table.specs.BlockCounts.{tier_count};
 ghost use Rattle.prefix_trie_table.specs.Cells.{blank_node, node_at, node_sizes};
 ghost use Rattle.prefix_trie_table.specs.Store.{Store, Block, Sound, tier_at, slots_made, block, held, HasList, IsReady, tier_lacking, tier_for, no_blocks, Spends, Prepared, Enough, Keeps, Turnover, CutShort, none_at, one_at, free_at, size_in, tier_sizes, blocks_lacking, lacking_slots, blocks_entered, tier_outgrown, tier_entered, tier_left};
 ghost use Rattle.prefix_trie_bits.specs.declared.prefix.Refusal.TheVariants.{IndexRange};
 
+use crate::allocator::block_count::BlockCount;
 use crate::allocator::blocks::{BlockRef, Blocks, node_blocks};
 use crate::allocator::node::{Node, NodeSlot};
 use prefix_trie_bits::prefix::Refusal;
@@ -132,6 +134,15 @@ impl<A: Allocator, V: Drop> NodeAllocator<A, V> {
         ensures { result ≡ length (tier_at self.now.tiers k).starts }
     {
         self.blocks.free_of(k)
+    }
+
+    /// As `Blocks::counts`: how many blocks of each size are in use and free, sizes ascending.
+    pub fn counts(&self) -> [BlockCount; 7]
+        requires { length self.now.tiers ≡ 7 }
+        ensures counts { result ≡ map tier_count self.now.tiers }
+        ensures made { length self.now.slots ≡ self.now.first + slots_made self.now.tiers }
+    {
+        self.blocks.counts()
     }
 
     /// As `Blocks::prepare`: sees to it that a list of `count` nodes can take one more, and that `lists` others can then take
