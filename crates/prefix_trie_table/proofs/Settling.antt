@@ -1,5 +1,5 @@
 -- That the calls that take values and nodes out raise nothing that the arrays may reach.
-use Rattle.std.proofs.Common.{◌≡◌, ℕ, zero, suc, ◌+◌, ◌-◌, ◌*◌, ◌<◌, ◌≤◌, List, [], ◌∷◌, ◌++◌, length, get_or, set, sum_by, All, Option, Some, refl, sym, ap, ap₂, ◌∙◌, subst, arith}
+use Rattle.std.proofs.Common.{◌≡◌, ℕ, zero, suc, ◌+◌, ◌-◌, ◌*◌, ◌<◌, ◌≤◌, List, [], ◌∷◌, ◌++◌, length, get_or, set, sum_by, All, Option, Some, refl, sym, ap, ap₂, ◌∙◌, subst, arith, lit≤}
 use Rattle.std.proofs.lemmas.List.{length-set}
 use Rattle.std.proofs.lemmas.List.Elements.{All-nil, All-cons}
 use Rattle.std.proofs.lemmas.List.Sums.{sum_by-le, sum_by-set, sum_by-take-le, sum_by_more}
@@ -50,6 +50,15 @@ smaller_cell (suc (suc (suc zero))) h = refl
 smaller_cell (suc (suc (suc (suc zero)))) h = refl
 smaller_cell (suc (suc (suc (suc (suc zero))))) h = refl
 smaller_cell (suc (suc (suc (suc (suc (suc n)))))) h = absurd (omega (arith, h))
+
+pub smaller_few : (k : ℕ) → k ≤ 5 → get_or smaller_sizes k 0 ≤ 24
+smaller_few zero h = lit≤ tt
+smaller_few (suc zero) h = lit≤ tt
+smaller_few (suc (suc zero)) h = lit≤ tt
+smaller_few (suc (suc (suc zero))) h = lit≤ tt
+smaller_few (suc (suc (suc (suc zero)))) h = lit≤ tt
+smaller_few (suc (suc (suc (suc (suc zero))))) h = lit≤ tt
+smaller_few (suc (suc (suc (suc (suc (suc n)))))) h = absurd (omega (arith, h))
 
 headroom-rises : (k d : ℕ) → k + d ≤ 6 → headroom k ≤ headroom (k + d)
 headroom-rises k zero h = let e : headroom (k + 0) ≡ headroom k = ap headroom (let z : k + 0 ≡ k = omega arith in z) in omega (arith, e)
