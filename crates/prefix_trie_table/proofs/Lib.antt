@@ -54,3 +54,5 @@ pub mod Seen
 pub mod Placed
 pub mod Lowered
 pub mod Rooted
+pub mod Emptied
+pub mod PartTaken

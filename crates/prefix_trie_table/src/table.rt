@@ -3,6 +3,7 @@
 //! A bit string is handed in as a key and a length: the first `len` bits of the key. Contracts see a table as its entries,
 //! a finite map from bit strings to values, its nodes, a finite set of bit strings, and its room. They see no slot, no
 //! block and no bitmap.
+mod children;
 mod counting;
 mod cover;
 mod insertion;
@@ -17,13 +18,13 @@ pub mod spot;
 mod tests;
 pub mod walk;
 
-ghost use Rattle.std.specs.Prelude.{◌≡◌, ℕ, ◌+◌, ◌*◌, ◌≤◌, take, IfOk, OnOk, IfErr, OnErr, IsOk, IsErr, IsTrue, ◌↔◌, MatchOption, None, Some};
+ghost use Rattle.std.specs.Prelude.{◌≡◌, ℕ, ◌+◌, ◌*◌, ◌<◌, ◌≤◌, take, IfOk, OnOk, IfErr, OnErr, IsOk, IsErr, IsTrue, ◌↔◌, MatchOption, None, Some};
 ghost use Rattle.std.specs.Option.{option_copied};
 ghost use Rattle.std.specs.FinMap.{get, contains_key, len};
 ghost use Rattle.prefix_trie_bits.specs.Model.Asking.{AsksInOrder, MayAskInOrder};
-ghost use Rattle.prefix_trie_bits.specs.Model.Entries.{no_entries, with_entry, without_entry, AreWithin};
+ghost use Rattle.prefix_trie_bits.specs.Model.Entries.{no_entries, with_entry, without_entry, without_below, AreWithin};
 ghost use Rattle.prefix_trie_bits.specs.Model.Matches.{longest_match, shortest_match};
-ghost use Rattle.prefix_trie_bits.specs.Model.Nodes.{root_alone, with_needed, nodes_without, needed, AreNodes};
+ghost use Rattle.prefix_trie_bits.specs.Model.Nodes.{root_alone, with_needed, nodes_without, nodes_without_below, needed, AreNodes};
 ghost use Rattle.prefix_trie_bits.specs.Model.Selections.{listing};
 ghost use Rattle.prefix_trie_bits.specs.Model.Visits.{visits, visits_to_match};
 ghost use Rattle.prefix_trie_bits.specs.Model.Room.{MayPassLimit};
@@ -32,6 +33,7 @@ ghost use Rattle.prefix_trie_table.specs.Shape.{Shaped, Shaped-prop};
 
 use crate::allocator::blocks::{Blocks, cells};
 use crate::allocator::nodes::{NodeAllocator, Tick};
+use crate::table::children::remove_part;
 use crate::table::insertion::insert_entry;
 use crate::table::lookup::find_value;
 use crate::table::matching::{longest_on_way, shortest_on_way, value_of_match};
@@ -264,6 +266,38 @@ impl<T: Drop, A: Allocator, V: Tick> Table<T, A, V> {
             len,
             counter,
         )
+    }
+
+    /// Takes out all entries whose keys a bit string begins, and all nodes below the string's own, and then prunes from that node
+    /// upward as `remove` does. Nothing changes where that node is missing. Never refused. It reads the way down and the part
+    /// that it takes out. At length 0 it is `clear`.
+    pub fn remove_children<K: Key>(&mut self, key: K, len: u32, counter: &mut V)
+        requires key { K.IsKey key }
+        requires long { len ≤ K.bit_width }
+        requires within { AreWithin K.bit_width self.old.entries }
+        requires nodes { AreNodes K.bit_width self.old.entries self.old.nodes }
+        ensures entries { self.new.entries ≡ without_below self.old.entries (take len (K.bits key)) }
+        ensures nodes { self.new.nodes
+            ≡ nodes_without_below self.old.nodes self.old.entries (take len (K.bits key)) }
+        ensures cleared { len ≡ 0 → self.new.room
+            ≡ record { limit = self.old.room.limit; node_slots = 1; cell_slots = 0 } }
+        ensures room { 0 < len → (self.new.room.limit ≡ self.old.room.limit)
+            × (self.old.room.node_slots ≤ self.new.room.node_slots)
+            × (self.old.room.cell_slots ≤ self.new.room.cell_slots) }
+        ensures limit { self.new.room.limit ≡ self.old.room.limit }
+    {
+        if len == 0 {
+            self.clear();
+            return;
+        }
+        remove_part(
+            &mut self.nodes,
+            &mut self.cells,
+            &mut self.count,
+            key,
+            len,
+            counter,
+        );
     }
 
     /// Asks a test at each entry, in listing order, and takes out those at which it answers `false`, and then all nodes that

@@ -159,14 +159,14 @@ pub fn remove_value<K: Key, T: Drop, A: Allocator, V: Tick>(
 
 /// The slots of the nodes on a way, from the root to the string's own node, and this node.
 #[derive(Drop)]
-struct Way {
-    slots: ArrayVec<NodeSlot, 26>,
-    at: NodeSlot,
-    node: Node,
+pub struct Way {
+    pub slots: ArrayVec<NodeSlot, 26>,
+    pub at: NodeSlot,
+    pub node: Node,
 }
 
 /// Goes down the way of a bit string to the string's own node, and keeps the way. `None` where a node of it is missing.
-fn descend_keeping_way<K: Key, A: Allocator, V: Tick>(
+pub fn descend_keeping_way<K: Key, A: Allocator, V: Tick>(
     nodes: &NodeAllocator<A, V>,
     key: K,
     len: u32,
@@ -254,7 +254,7 @@ pub fn drop_child<A: Allocator, V: Tick>(
 }
 
 /// Takes out the nodes of a way that have nothing left, from its end upward. The root stays.
-fn prune_up<K: Key, A: Allocator, V: Tick>(
+pub fn prune_up<K: Key, A: Allocator, V: Tick>(
     nodes: &mut NodeAllocator<A, V>,
     way: &[NodeSlot],
     key: K,

@@ -37,10 +37,10 @@ pub trait Keep<K: Key, T>: Sized + Drop {
 }
 
 /// Where a node stands: its slot in the array, and its path, the first `depth` bits of a key.
-struct Site<K: Key> {
-    slot: NodeSlot,
-    key: K,
-    depth: u32,
+pub(super) struct Site<K: Key> {
+    pub(super) slot: NodeSlot,
+    pub(super) key: K,
+    pub(super) depth: u32,
 }
 
 impl<K: Key> Copy for Site<K> {}
@@ -144,7 +144,7 @@ fn retain_place<K: Key, T: Drop, A: Allocator, V: Tick, F: Keep<K, T>>(
 
 /// Asks at what stands at these places of a node, in listing order. Answers what the node is then.
 #[cycle(retain)]
-fn retain_places<K: Key, T: Drop, A: Allocator, V: Tick, F: Keep<K, T>>(
+pub(super) fn retain_places<K: Key, T: Drop, A: Allocator, V: Tick, F: Keep<K, T>>(
     nodes: &mut NodeAllocator<A, V>,
     cells: &mut Blocks<Option<T>, A>,
     entries: &mut usize,

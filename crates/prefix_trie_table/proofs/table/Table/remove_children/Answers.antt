@@ -1,0 +1,56 @@
+use Rattle.std.proofs.Common.{take, sym, ap, ◌∙◌, subst}
+use Rattle.prefix_trie_bits.specs.Model.Entries.{without_below}
+use Rattle.prefix_trie_bits.specs.Model.Nodes.{nodes_without_below}
+use Rattle.prefix_trie_bits.specs.Model.Step.{State}
+use Rattle.prefix_trie_table.specs.Shape.{Contents, same_shape}
+use Rattle.prefix_trie_table.specs.Tables.{IsTableOf}
+use Rattle.prefix_trie_table.proofs.PartTaken.{all_gone, root_left, seen_trie}
+use Rattle.prefix_trie_table.proofs.table.Table.remove_children.Goals as goal
+
+pub returns-then-len-eq0-clause-entries : goal.returns-then-len-eq0-clause-entries
+returns-then-len-eq0-clause-entries g c =
+    c.clear.ensures.entries ∙ sym (all_gone c.args.self.now.entries)
+    ∙ ap (λ n. without_below c.args.self.now.entries (take n (g.K.Key.bits c.args.key))) (sym c.if-len-eq0.true)
+
+pub returns-then-len-eq0-clause-nodes : goal.returns-then-len-eq0-clause-nodes
+returns-then-len-eq0-clause-nodes g c =
+    c.clear.ensures.nodes ∙ sym (root_left g.K.Key.bit_width c.args.self.now.entries c.args.self.now.nodes c.requires.nodes)
+    ∙ ap (λ n. nodes_without_below c.args.self.now.nodes c.args.self.now.entries (take n (g.K.Key.bits c.args.key))) (sym c.if-len-eq0.true)
+
+pub remove_part-requires-clause-trie : goal.remove_part-requires-clause-trie
+remove_part-requires-clause-trie g c = (
+  c.self.inside.shape.0,
+  seen_trie g.K.Key.bit_width c.self.inside.count c.self.inside.nodes c.self.inside.cells c.self.inside.shape c.self.invariant _ _
+      (ap (λ (s : Contents g.row.T.Denot). s.entries) c.self.view_is) (ap (λ (s : Contents g.row.T.Denot). s.nodes) c.self.view_is) c.requires.within c.requires.nodes,
+)
+
+pub invariant_of-self-inside : goal.invariant_of-self-inside
+invariant_of-self-inside g c =
+    let left = c.remove_part.ensures.removed c.self.inside.shape.0
+    (seen_trie g.K.Key.bit_width c.self.inside.count c.self.inside.nodes c.self.inside.cells c.self.inside.shape c.self.invariant _ _
+    (ap (λ (s : Contents g.row.T.Denot). s.entries) c.self.view_is) (ap (λ (s : Contents g.row.T.Denot). s.nodes) c.self.view_is) c.requires.within c.requires.nodes) in
+    ((_, left.shaped), tt)
+
+pub invariant_of-self : goal.invariant_of-self
+invariant_of-self g c =
+    let left = c.remove_part.ensures.removed c.self.inside.shape.0
+    (seen_trie g.K.Key.bit_width c.self.inside.count c.self.inside.nodes c.self.inside.cells c.self.inside.shape c.self.invariant _ _
+    (ap (λ (s : Contents g.row.T.Denot). s.entries) c.self.view_is) (ap (λ (s : Contents g.row.T.Denot). s.nodes) c.self.view_is) c.requires.within c.requires.nodes) in
+    subst (λ (x : State g.row.T.Denot). IsTableOf c.remove_part.new.nodes c.remove_part.new.cells c.remove_part.new.entries x)
+    (same_shape c.remove_part.new.nodes.slots c.remove_part.new.cells.slots _ c.self-1.given.0.0 left.shaped c.self-1.given.0.1) left.table
+
+pub returns-clause-entries : goal.returns-clause-entries
+returns-clause-entries g c =
+    let left = c.remove_part.ensures.removed c.self.inside.shape.0
+    (seen_trie g.K.Key.bit_width c.self.inside.count c.self.inside.nodes c.self.inside.cells c.self.inside.shape c.self.invariant _ _
+    (ap (λ (s : Contents g.row.T.Denot). s.entries) c.self.view_is) (ap (λ (s : Contents g.row.T.Denot). s.nodes) c.self.view_is) c.requires.within c.requires.nodes) in
+    ap (λ (x : State g.row.T.Denot). x.entries) (same_shape c.remove_part.new.nodes.slots c.remove_part.new.cells.slots c.self-1.given.0.0 _ c.self-1.given.0.1 left.shaped)
+    ∙ ap (λ (s : Contents g.row.T.Denot). without_below s.entries (take c.args.len (g.K.Key.bits c.args.key))) c.self.view_is
+
+pub returns-clause-nodes : goal.returns-clause-nodes
+returns-clause-nodes g c =
+    let left = c.remove_part.ensures.removed c.self.inside.shape.0
+    (seen_trie g.K.Key.bit_width c.self.inside.count c.self.inside.nodes c.self.inside.cells c.self.inside.shape c.self.invariant _ _
+    (ap (λ (s : Contents g.row.T.Denot). s.entries) c.self.view_is) (ap (λ (s : Contents g.row.T.Denot). s.nodes) c.self.view_is) c.requires.within c.requires.nodes) in
+    ap (λ (x : State g.row.T.Denot). x.nodes) (same_shape c.remove_part.new.nodes.slots c.remove_part.new.cells.slots c.self-1.given.0.0 _ c.self-1.given.0.1 left.shaped)
+    ∙ ap (λ (s : Contents g.row.T.Denot). nodes_without_below s.nodes s.entries (take c.args.len (g.K.Key.bits c.args.key))) c.self.view_is

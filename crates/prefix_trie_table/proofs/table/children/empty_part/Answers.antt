@@ -1,0 +1,48 @@
+use Rattle.std.proofs.Common.{◌*◌, ◌/◌, ◌≤◌, length, take, drop, sym, ap, ◌∙◌}
+use Rattle.std.specs.List.{Contains}
+use Rattle.std.proofs.lemmas.List.Elements.{All-weaker, All-contains_itself}
+use Rattle.prefix_trie_bits.specs.Places.{is_in}
+use Rattle.prefix_trie_bits.specs.Walks.{to_come}
+use Rattle.prefix_trie_bits.proofs.Model.Members.{and-first}
+use Rattle.prefix_trie_bits.proofs.Selecting.{is_in-and}
+use Rattle.prefix_trie_table.specs.Digits.{path_of}
+use Rattle.prefix_trie_table.specs.Forest.{read}
+use Rattle.prefix_trie_table.specs.Walks.{IsPlaceOf}
+use Rattle.prefix_trie_table.proofs.Emptied.{covers_below}
+use Rattle.prefix_trie_table.proofs.PartTaken.{home_is, home_rest, home_steps, reached_site, part_emptied, may_ask_all}
+use Rattle.prefix_trie_table.proofs.table.children.empty_part.Goals as goal
+
+pub retain_places-requires-clause-site : goal.retain_places-requires-clause-site
+retain_places-requires-clause-site g c =
+    reached_site g.K.Key.IsKey g.K.Key.bits g.K.Key.bit_width c.args.key c.requires.key (g.met.K.Key.key_laws.bits_length c.args.key c.requires.key)
+    c.args.len c.args.nodes.now c.args.node c.args.at c.requires.reached c.args.entries.now c.args.cells.now c.requires.trie.0 c.requires.trie.1
+
+pub retain_places-requires-clause-each : goal.retain_places-requires-clause-each
+retain_places-requires-clause-each g c =
+    All-weaker (Contains (to_come c.new-places.result)) (IsPlaceOf c.args.node)
+    (λ u m.
+    let of_masks = (c.new-places.ensures.each u).0 m in (
+      of_masks.0,
+      and-first (is_in c.args.node.value_bitmap c.args.node.child_bitmap u) (is_in c.value_cover_mask.result c.child_cover_mask.result u)
+          (sym (is_in-and c.args.node.value_bitmap c.args.node.child_bitmap c.value_cover_mask.result c.child_cover_mask.result u) ∙ of_masks.1),
+    ))
+    (to_come c.new-places.result) (All-contains_itself (to_come c.new-places.result))
+
+pub retain_places-requires-clause-may_ask : goal.retain_places-requires-clause-may_ask
+retain_places-requires-clause-may_ask g c = λ s trie. may_ask_all _ _ (λ f k x. tt) _ _
+
+pub returns-clause-emptied : goal.returns-clause-emptied
+returns-clause-emptied g c = λ s trie.
+    let b = g.K.Key.bits c.args.key in
+    let long : c.args.len ≤ length b = c.requires.reached.long in
+    let site = reached_site g.K.Key.IsKey g.K.Key.bits g.K.Key.bit_width c.args.key c.requires.key (g.met.K.Key.key_laws.bits_length c.args.key c.requires.key)
+    c.args.len c.args.nodes.now c.args.node c.args.at c.requires.reached c.args.entries.now c.args.cells.now s trie in
+    let are = covers_below g.K.Key.bit_width c.args.entries.now c.args.nodes.now c.args.cells.now s trie (take c.args.len b) (drop (c.args.len / 5 * 5) (take c.args.len b))
+    (home_rest b c.args.len long) c.args.node (ap (λ p. read c.args.nodes.now.slots (path_of p)) (home_is b c.args.len long) ∙ site.stands)
+    c.value_cover_mask.result c.child_cover_mask.result c.value_cover_mask.ensures c.child_cover_mask.ensures (to_come c.new-places.result) c.new-places.ensures.each in
+    part_emptied _ (λ f k x answer f2 no. no) _ g.K.Key.bit_width b c.args.len long (to_come c.new-places.result) s are _ _ _ _ _
+    (c.retain_places.ensures.retains s trie)
+
+pub returns-clause-node : goal.returns-clause-node
+returns-clause-node g c =
+    ap (read c.retain_places.new.nodes.slots) (sym (home_steps (g.K.Key.bits c.args.key) c.args.len c.requires.reached.long)) ∙ c.retain_places.ensures.node.stands

@@ -1,0 +1,30 @@
+use Rattle.std.proofs.Common.{◌/◌, ◌≤◌, List, length, take, sym, subst, arith}
+use Rattle.prefix_trie_table.specs.declared.allocator.node.NodeSlot.{NodeSlot}
+use Rattle.prefix_trie_table.specs.Digits.{path_of}
+use Rattle.prefix_trie_table.specs.Removals.{IsWay}
+use Rattle.prefix_trie_table.proofs.PartTaken.{end_left, part_taken, part_missing}
+use Rattle.prefix_trie_table.proofs.table.children.remove_part.Goals as goal
+
+pub returns-in_default-clause-removed : goal.returns-in_default-clause-removed
+returns-in_default-clause-removed g c = λ s trie.
+    let long : c.args.len ≤ length (g.K.Key.bits c.args.key) = omega (arith, g.met.K.Key.key_laws.bits_length c.args.key c.requires.key, c.requires.within) in
+    part_missing g.K.Key.bit_width (g.K.Key.bits c.args.key) c.args.len long c.args.nodes.now c.args.cells.now c.args.entries.now s trie c.in_default.ensures.missing
+
+pub prune_up-requires-clause-stands : goal.prune_up-requires-clause-stands
+prune_up-requires-clause-stands g c =
+    let b = g.K.Key.bits c.args.key in
+    let found = c.in-Some.ensures.found in
+    let trie = c.requires.trie in
+    end_left g.K.Key.bit_width b c.args.len found.0.long c.args.nodes.now c.empty_part-node.new.nodes c.args.cells.now c.empty_part-node.new.cells c.args.entries.now
+    c.empty_part-node.new.entries trie.0 trie.1 (c.empty_part-node.ensures.emptied trie.0 trie.1) c.empty_part-node.ensures.lasts c.deref.result.now
+    (λ reading paths hold. subst (λ (xs : List NodeSlot). IsWay reading (path_of (take c.args.len b)) xs (c.args.len / 5)) (sym c.deref.ensures.0) (found.2 reading paths hold))
+    c.empty_part-node.result c.empty_part-node.ensures.node
+
+pub returns-clause-removed : goal.returns-clause-removed
+returns-clause-removed g c = λ s trie.
+    let b = g.K.Key.bits c.args.key in
+    let found = c.in-Some.ensures.found in
+    part_taken g.K.Key.bit_width b c.args.len found.0.long c.args.nodes.now c.empty_part-node.new.nodes c.args.cells.now c.empty_part-node.new.cells c.args.entries.now
+    c.empty_part-node.new.entries s trie (c.empty_part-node.ensures.emptied s trie) c.empty_part-node.ensures.lasts c.deref.result.now
+    (λ reading paths hold. subst (λ (xs : List NodeSlot). IsWay reading (path_of (take c.args.len b)) xs (c.args.len / 5)) (sym c.deref.ensures.0) (found.2 reading paths hold))
+    c.empty_part-node.result c.empty_part-node.ensures.node c.prune_up.new.nodes c.prune_up.ensures.room c.prune_up.ensures.pruned
