@@ -20,7 +20,7 @@ pub mod walk;
 
 ghost use Rattle.std.specs.Prelude.{◌≡◌, ℕ, ◌+◌, ◌*◌, ◌<◌, ◌≤◌, take, IfOk, OnOk, IfErr, OnErr, IsOk, IsErr, IsTrue, ◌↔◌, MatchOption, None, Some};
 ghost use Rattle.std.specs.Option.{option_copied};
-ghost use Rattle.std.specs.FinMap.{get, contains_key, len};
+ghost use Rattle.std.specs.FinMap.{get, contains_key, len, len as number};
 ghost use Rattle.prefix_trie_bits.specs.Model.Asking.{AsksInOrder, MayAskInOrder};
 ghost use Rattle.prefix_trie_bits.specs.Model.Entries.{no_entries, with_entry, without_entry, without_below, AreWithin};
 ghost use Rattle.prefix_trie_bits.specs.Model.Matches.{longest_match, shortest_match};
@@ -284,7 +284,11 @@ impl<T: Drop, A: Allocator, V: Tick> Table<T, A, V> {
         ensures room { 0 < len → (self.new.room.limit ≡ self.old.room.limit)
             × (self.old.room.node_slots ≤ self.new.room.node_slots)
             × (self.old.room.cell_slots ≤ self.new.room.cell_slots) }
+        ensures nodes_grow { self.new.room.node_slots ≤ self.old.room.node_slots + 56 * number self.old.nodes }
+        ensures cells_grow { self.new.room.cell_slots ≤ self.old.room.cell_slots + 56 * number self.old.nodes }
         ensures limit { self.new.room.limit ≡ self.old.room.limit }
+        ensures slots { (self.new.room.node_slots ≤ self.new.room.limit)
+            × (self.new.room.cell_slots ≤ self.new.room.limit) }
     {
         if len == 0 {
             self.clear();
@@ -333,6 +337,8 @@ impl<T: Drop, A: Allocator, V: Tick> Table<T, A, V> {
         ensures nodes { self.new.nodes ≡ root_alone }
         ensures room { self.new.room
             ≡ record { limit = self.old.room.limit; node_slots = 1; cell_slots = 0 } }
+        ensures limit { (self.new.room.node_slots ≤ self.new.room.limit)
+            × (self.new.room.cell_slots ≤ self.new.room.limit) }
     {
         clear_entries(&mut self.nodes, &mut self.cells, &mut self.count);
     }

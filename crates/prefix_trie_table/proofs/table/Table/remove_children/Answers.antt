@@ -1,10 +1,12 @@
-use Rattle.std.proofs.Common.{take, sym, ap, ◌∙◌, subst}
+use Rattle.std.proofs.Common.{◌+◌, ◌*◌, ◌≤◌, [], length, take, sym, ap, ◌∙◌, subst, arith}
+use Rattle.std.specs.FinMap.{len}
 use Rattle.prefix_trie_bits.specs.Model.Entries.{without_below}
 use Rattle.prefix_trie_bits.specs.Model.Nodes.{nodes_without_below}
 use Rattle.prefix_trie_bits.specs.Model.Step.{State}
 use Rattle.prefix_trie_table.specs.Shape.{Contents, same_shape}
 use Rattle.prefix_trie_table.specs.Tables.{IsTableOf}
 use Rattle.prefix_trie_table.proofs.PartTaken.{all_gone, root_left, seen_trie}
+use Rattle.prefix_trie_table.proofs.Settling.{settled_room, some_nodes}
 use Rattle.prefix_trie_table.proofs.table.Table.remove_children.Goals as goal
 
 pub returns-then-len-eq0-clause-entries : goal.returns-then-len-eq0-clause-entries
@@ -54,3 +56,19 @@ returns-clause-nodes g c =
     (ap (λ (s : Contents g.row.T.Denot). s.entries) c.self.view_is) (ap (λ (s : Contents g.row.T.Denot). s.nodes) c.self.view_is) c.requires.within c.requires.nodes) in
     ap (λ (x : State g.row.T.Denot). x.nodes) (same_shape c.remove_part.new.nodes.slots c.remove_part.new.cells.slots c.self-1.given.0.0 _ c.self-1.given.0.1 left.shaped)
     ∙ ap (λ (s : Contents g.row.T.Denot). nodes_without_below s.nodes s.entries (take c.args.len (g.K.Key.bits c.args.key))) c.self.view_is
+
+pub returns-then-len-eq0-clause-nodes_grow : goal.returns-then-len-eq0-clause-nodes_grow
+returns-then-len-eq0-clause-nodes_grow g c =
+    omega (arith, ap (λ r. r.node_slots) c.clear.ensures.room, some_nodes c.args.self.now.nodes [] c.requires.nodes.rooted)
+
+pub returns-clause-nodes_grow : goal.returns-clause-nodes_grow
+returns-clause-nodes_grow g c =
+    let room = settled_room c.self.inside.nodes c.remove_part.new.nodes c.self.inside.cells c.remove_part.new.cells c.self.inside.count
+    c.self.inside.shape.0 c.self.invariant c.self.inside.shape.1 c.remove_part.ensures.lasts.settles in
+    subst (λ (s : Contents g.row.T.Denot). length c.remove_part.new.nodes.slots ≤ s.room.node_slots + 56 * len s.nodes) c.self.view_is room.0
+
+pub returns-clause-cells_grow : goal.returns-clause-cells_grow
+returns-clause-cells_grow g c =
+    let room = settled_room c.self.inside.nodes c.remove_part.new.nodes c.self.inside.cells c.remove_part.new.cells c.self.inside.count
+    c.self.inside.shape.0 c.self.invariant c.self.inside.shape.1 c.remove_part.ensures.lasts.settles in
+    subst (λ (s : Contents g.row.T.Denot). length c.remove_part.new.cells.slots ≤ s.room.cell_slots + 56 * len s.nodes) c.self.view_is room.1
