@@ -1,9 +1,5 @@
 -- The nodes of a table are the root and the children that all slots name.
-use Rattle.std.proofs.Common.{◌≡◌, ℕ, ◌+◌, ◌^◌, ◌<◌, ◌≤◌, Bool, true, List, [], ◌∷◌, length, take, flat_map, sum_by, All, Option, None, Some, is_some, refl, sym, ap, ◌∙◌, arith}
-use Rattle.std.specs.FinMap.{entries, len, get-entries, len-entries, find}
-use Rattle.prefix_trie_bits.specs.Order.{listing_cmp}
-use Rattle.prefix_trie_bits.specs.Model.Nodes.{Nodes, has_node}
-use Rattle.std.proofs.lemmas.Bool.{false≢true}
+use Rattle.std.proofs.Common.{◌≡◌, ℕ, ◌+◌, ◌^◌, ◌<◌, ◌≤◌, List, [], ◌∷◌, length, take, flat_map, sum_by, All, Option, None, Some, refl, sym, ap, ◌∙◌, arith}
 use Rattle.std.proofs.lemmas.List.Elements.{All-nil, All-cons}
 use Rattle.std.proofs.lemmas.List.Concat.{length-flat_map}
 use Rattle.std.proofs.lemmas.List.Sums.{sum_by-cons, sum_by_more, sum_by_more_le, sum_by-le}
@@ -19,14 +15,6 @@ use Rattle.prefix_trie_table.proofs.BitLists.{rank-all, rank-le, rank-zero-all}
 use Rattle.prefix_trie_table.proofs.Tilings.{all_within}
 use Rattle.prefix_trie_table.proofs.SlotSums.{sum_by-flat_map, sum_by-same, sum_by-mapped, items_sum, slots_sum}
 use Rattle.prefix_trie_table.proofs.PathLists.{step, children_of, children, listed_below}
-
--- a set of nodes that has one has at least one
-pub some_node : (n : Nodes) (s : List Bool) → has_node n s ≡ true → 1 ≤ len n
-some_node n s e = let one = inside (entries n) (sym (ap is_some (get-entries n s)) ∙ e) in omega (arith, one, len-entries n)
-  where
-    inside : (es : List (List Bool × Unit {0})) → is_some (find listing_cmp s es) ≡ true → 1 ≤ length es
-    inside [] found = absurd (false≢true found)
-    inside (x ∷ es) found = omega arith
 
 -- how many children a node has
 abbrev pub child_count : Node → ℕ

@@ -1,5 +1,5 @@
 -- What the calls that take a value or a child out leave of the arrays.
-use Rattle.std.proofs.Common.{◌≡◌, ◌≢◌, ℕ, zero, suc, ◌-◌, ◌*◌, ◌<◌, ◌≤◌, ◌⊎◌, ◌+◌, inl, inr, ⊎_elim, true, false, nat_le, List, [], ◌∷◌, ◌++◌, length, get_or, set, remove, map, flat_map, Option, None, Some, refl, sym, ap, ◌∙◌, subst, arith, lit≤}
+use Rattle.std.proofs.Common.{◌≡◌, ◌≢◌, ℕ, ◌-◌, ◌*◌, ◌<◌, ◌≤◌, ◌⊎◌, ◌+◌, inl, inr, ⊎_elim, true, false, nat_le, List, [], ◌∷◌, ◌++◌, length, get_or, set, remove, map, flat_map, Option, None, Some, refl, sym, ap, ◌∙◌, subst, arith}
 use Rattle.std.specs.List.{position}
 use Rattle.std.proofs.lemmas.List.{length-map, length-set}
 use Rattle.std.proofs.lemmas.List.Quantifiers.{position-Some}
@@ -18,32 +18,13 @@ use Rattle.prefix_trie_table.proofs.Bare.{no_bit, cleared, others_stay, one_fewe
 use Rattle.prefix_trie_table.proofs.BitLists.{rank-all}
 use Rattle.prefix_trie_table.proofs.Children.{child_removed, node_changed, number_or}
 use Rattle.prefix_trie_table.proofs.Soundness.{fits_block, tier_of_block}
-use Rattle.prefix_trie_table.proofs.Settling.{headroom-none, headroom-step, child_settles}
+use Rattle.prefix_trie_table.proofs.Settling.{smaller_few, headroom-none, headroom-step, child_settles}
 use Rattle.prefix_trie_table.proofs.Spending.{size_at, tier_for_sizes}
 use Rattle.prefix_trie_table.proofs.Trees.{own_first, slot_holds, held_some}
 use Rattle.prefix_trie_table.proofs.Turnovers.{slots_of-le, slots_of-none, slots_of-many}
 use Rattle.prefix_trie_table.proofs.Values.{values_first, value_removed}
 
 -- ---- by how much an array grows where a list loses an item
-
--- the sizes but the largest
-pub few_nodes : (to : ℕ) → to ≤ 5 → size_in node_sizes to ≤ 24
-few_nodes zero h = lit≤ tt
-few_nodes (suc zero) h = lit≤ tt
-few_nodes (suc (suc zero)) h = lit≤ tt
-few_nodes (suc (suc (suc zero))) h = lit≤ tt
-few_nodes (suc (suc (suc (suc zero)))) h = lit≤ tt
-few_nodes (suc (suc (suc (suc (suc zero))))) h = lit≤ tt
-few_nodes (suc (suc (suc (suc (suc (suc n)))))) h = absurd (omega (arith, h))
-
-pub few_cells : (to : ℕ) → to ≤ 5 → size_in cell_sizes to ≤ 24
-few_cells zero h = lit≤ tt
-few_cells (suc zero) h = lit≤ tt
-few_cells (suc (suc zero)) h = lit≤ tt
-few_cells (suc (suc (suc zero))) h = lit≤ tt
-few_cells (suc (suc (suc (suc zero)))) h = lit≤ tt
-few_cells (suc (suc (suc (suc (suc zero))))) h = lit≤ tt
-few_cells (suc (suc (suc (suc (suc (suc n)))))) h = absurd (omega (arith, h))
 
 le_true : (a b : ℕ) → a ≤ b → nat_le a b ≡ true
 le_true a b h = grind (arith, nat_tests)
@@ -83,7 +64,7 @@ module _ {S : Type 0} (v w : Store S) (k count to : ℕ) (took gave : ℕ → �
     within = keeps.within;
   }
 
-  module _ (vacant : S) (start : ℕ) (sizes : List ℕ) (sizes_are : tier_sizes v.tiers ≡ sizes) (seven : length sizes ≡ 7) (few : (j : ℕ) → j ≤ 5 → size_in sizes j ≤ 24)
+  module _ (vacant : S) (start : ℕ) (sizes : List ℕ) (sizes_are : tier_sizes v.tiers ≡ sizes) (seven : length sizes ≡ 7) (smaller : (j : ℕ) → j ≤ 5 → size_in sizes j ≡ get_or smaller_sizes j 0)
       (list : HasList vacant v k start count) (smallest : 1 < count → (to ≡ k) ⊎ (tier_for v.tiers (count - 1) ≡ Some to)) where
     -- the tier of the list, and that its block holds it
     list_fits : 0 < count → (k < 7) × (count ≤ size_in sizes k)
@@ -114,9 +95,9 @@ module _ {S : Type 0} (v w : Store S) (k count to : ℕ) (took gave : ℕ → �
     entered_few : 1 < count → to ≢ k → tier_for v.tiers (count - 1) ≡ Some to → slots_of (tier_sizes v.tiers) (blocks_entered v.tiers k count to) ≤ 24
     entered_few more other is =
         let lower = entered_lower more other is in
-        let bound = few to (let a = lower.0 in let b = lower.1 in omega arith) in
+        let small : to ≤ 5 = (let a = lower.0 in let b = lower.1 in omega arith) in
         let one = lower.2 in
-        omega (arith, one, bound)
+        omega (arith, one, smaller to small, smaller_few to small)
 
     -- a list that loses an item lets its array grow by 24 slots at most
     pub grows_few : Grows v w 24
@@ -131,9 +112,8 @@ module _ {S : Type 0} (v w : Store S) (k count to : ℕ) (took gave : ℕ → �
     ]
 
     -- and what its tier may still make shrinks by as many
-    pub steps_down : 0 < count → (count ≡ 1 → to ≡ 0) → ((j : ℕ) → j ≤ 5 → size_in sizes j ≡ get_or smaller_sizes j 0) →
-        length w.slots + headroom to ≤ length v.slots + headroom k
-    steps_down some gone smaller = elim (cases_lt 1 count) as (λ _. length w.slots + headroom to ≤ length v.slots + headroom k) [
+    pub steps_down : 0 < count → (count ≡ 1 → to ≡ 0) → length w.slots + headroom to ≤ length v.slots + headroom k
+    steps_down some gone = elim (cases_lt 1 count) as (λ _. length w.slots + headroom to ≤ length v.slots + headroom k) [
       | inl more ↦ elim (number_or to k) as (λ _. length w.slots + headroom to ≤ length v.slots + headroom k) [
         | inl same ↦
             let n = slots_of-none (tier_sizes v.tiers) (blocks_entered v.tiers k count to) (λ j. (let e = entered_none k count to j more same in omega arith)) in

@@ -1,9 +1,12 @@
 -- That the calls that take values and nodes out raise nothing that the arrays may reach.
-use Rattle.std.proofs.Common.{◌≡◌, ℕ, zero, suc, ◌+◌, ◌-◌, ◌*◌, ◌<◌, ◌≤◌, List, [], ◌∷◌, ◌++◌, length, get_or, set, sum_by, All, Option, Some, refl, sym, ap, ap₂, ◌∙◌, subst, arith}
+use Rattle.std.proofs.Common.{◌≡◌, inl, inr, Bool, true, ℕ, zero, suc, ◌+◌, ◌-◌, ◌*◌, ◌<◌, ◌≤◌, List, [], ◌∷◌, ◌++◌, length, get_or, set, sum_by, All, Option, Some, is_some, refl, sym, ap, ap₂, ◌∙◌, subst, arith, lit≤}
 use Rattle.std.proofs.lemmas.List.{length-set}
 use Rattle.std.proofs.lemmas.List.Elements.{All-nil, All-cons}
 use Rattle.std.proofs.lemmas.List.Sums.{sum_by-le, sum_by-set, sum_by-take-le, sum_by_more}
-use Rattle.std.specs.FinMap.{len}
+use Rattle.std.specs.FinMap.{len, empty_of_len, get-empty}
+use Rattle.std.proofs.lemmas.Bool.{false≢true, cases_lt}
+use Rattle.prefix_trie_bits.specs.Order.{listing_cmp}
+use Rattle.prefix_trie_bits.specs.Model.Nodes.{Nodes, has_node}
 use Rattle.prefix_trie_bits.specs.Model.Step.{State}
 use Rattle.prefix_trie_table.specs.declared.allocator.node.Node.{Node}
 use Rattle.prefix_trie_table.specs.Cells.{blank_node, node_at, node_sizes, cell_sizes}
@@ -50,6 +53,15 @@ smaller_cell (suc (suc (suc zero))) h = refl
 smaller_cell (suc (suc (suc (suc zero)))) h = refl
 smaller_cell (suc (suc (suc (suc (suc zero))))) h = refl
 smaller_cell (suc (suc (suc (suc (suc (suc n)))))) h = absurd (omega (arith, h))
+
+pub smaller_few : (k : ℕ) → k ≤ 5 → get_or smaller_sizes k 0 ≤ 24
+smaller_few zero h = lit≤ tt
+smaller_few (suc zero) h = lit≤ tt
+smaller_few (suc (suc zero)) h = lit≤ tt
+smaller_few (suc (suc (suc zero))) h = lit≤ tt
+smaller_few (suc (suc (suc (suc zero)))) h = lit≤ tt
+smaller_few (suc (suc (suc (suc (suc zero))))) h = lit≤ tt
+smaller_few (suc (suc (suc (suc (suc (suc n)))))) h = absurd (omega (arith, h))
 
 headroom-rises : (k d : ℕ) → k + d ≤ 6 → headroom k ≤ headroom (k + d)
 headroom-rises k zero h = let e : headroom (k + 0) ≡ headroom k = ap headroom (let z : k + 0 ≡ k = omega arith in z) in omega (arith, e)
@@ -151,6 +163,13 @@ headroom_bound f none few nodes paths v hold =
     each : (xs : List (List ℕ)) → All (λ q. weight f none node_sizes nodes q ≤ 55) xs
     each [] = All-nil (λ q. weight f none node_sizes nodes q ≤ 55)
     each (x ∷ xs) = All-cons (λ q. weight f none node_sizes nodes q ≤ 55) x xs (few (node_or_blank (nodes x))) (each xs)
+
+-- there is a node where one is at a string
+pub some_nodes : (n : Nodes) (s : List Bool) → has_node n s ≡ true → 0 < len n
+some_nodes n s there = elim (cases_lt 0 (len n)) as (λ _. 0 < len n) [
+  | inl more ↦ more
+  | inr none ↦ absurd (false≢true (sym (ap (λ (m : Nodes). has_node m s) (empty_of_len n (omega (arith, none))) ∙ ap is_some (get-empty listing_cmp s)) ∙ there))
+]
 
 -- so arrays that settle grow by so many slots for each node that there was
 pub settled_room : {T : Type 0} (v v2 : Store Node) (w w2 : Store (Option T)) (count : ℕ) (s : State T) → IsTableOf v w count s → IsShapeOf v.slots w.slots s →

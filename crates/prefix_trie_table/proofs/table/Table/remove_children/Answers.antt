@@ -5,8 +5,7 @@ use Rattle.prefix_trie_bits.specs.Model.Nodes.{nodes_without_below}
 use Rattle.prefix_trie_bits.specs.Model.Step.{State}
 use Rattle.prefix_trie_table.specs.Shape.{Contents, same_shape}
 use Rattle.prefix_trie_table.specs.Tables.{IsTableOf}
-use Rattle.prefix_trie_table.proofs.NodeCounts.{some_node}
-use Rattle.prefix_trie_table.proofs.Settling.{settled_room}
+use Rattle.prefix_trie_table.proofs.Settling.{settled_room, some_nodes}
 use Rattle.prefix_trie_table.proofs.PartTaken.{all_gone, root_left, seen_trie}
 use Rattle.prefix_trie_table.proofs.Sizing.{table_sizes}
 use Rattle.prefix_trie_table.proofs.table.Table.remove_children.Goals as goal
@@ -62,7 +61,7 @@ returns-clause-nodes g c =
 pub returns-then-len-eq0-clause-nodes_grow : goal.returns-then-len-eq0-clause-nodes_grow
 returns-then-len-eq0-clause-nodes_grow g c =
     let room = ap (λ r. r.node_slots) c.clear.ensures.room in
-    omega (arith, room, some_node c.args.self.now.nodes [] c.requires.nodes.rooted)
+    omega (arith, room, some_nodes c.args.self.now.nodes [] c.requires.nodes.rooted)
 
 pub returns-clause-nodes_grow : goal.returns-clause-nodes_grow
 returns-clause-nodes_grow g c =

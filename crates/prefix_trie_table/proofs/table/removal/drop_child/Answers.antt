@@ -7,7 +7,7 @@ use Rattle.prefix_trie_table.proofs.Bare.{one_fewer}
 use Rattle.prefix_trie_table.proofs.Bits.{has_bit-is, rank-ones}
 use Rattle.prefix_trie_table.proofs.BitLists.{rank-below}
 use Rattle.prefix_trie_table.proofs.Adding.{at_is, has_list}
-use Rattle.prefix_trie_table.proofs.Removing.{children_dropped, grows_few, few_nodes, gives_back, gives_written, grows_written, steps_down}
+use Rattle.prefix_trie_table.proofs.Removing.{children_dropped, grows_few, gives_back, gives_written, grows_written, steps_down}
 use Rattle.prefix_trie_table.proofs.Settling.{smaller_node}
 use Rattle.prefix_trie_table.proofs.table.removal.drop_child.Goals as goal
 
@@ -43,7 +43,7 @@ returns-clause-room g c =
     grows_written c.args.nodes.now c.remove_at.new.self c.put.new.self _ _ 24
     (grows_few c.args.nodes.now c.remove_at.new.self c.visit-node.result.child_tier c.count.result
     c.remove_at.result.1.tier _ _ c.remove_at.ensures.keeps c.remove_at.ensures.turnover blank_node c.visit-node.result.child_block node_sizes
-    c.requires.stands.hold.sizes_are refl few_nodes list c.remove_at.ensures.smallest) c.put.ensures.slots
+    c.requires.stands.hold.sizes_are refl smaller_node list c.remove_at.ensures.smallest) c.put.ensures.slots
 
 pub returns-clause-last : goal.returns-clause-last
 returns-clause-last g c = λ none.
@@ -78,6 +78,6 @@ returns-clause-dropped g c = λ reading paths p n leaf hold stands is below bare
     }))
     (steps_down c.args.nodes.now c.remove_at.new.self c.visit-node.result.child_tier c.count.result
     c.remove_at.result.1.tier _ _ c.remove_at.ensures.keeps c.remove_at.ensures.turnover blank_node c.visit-node.result.child_block node_sizes
-    c.requires.stands.hold.sizes_are refl few_nodes
+    c.requires.stands.hold.sizes_are refl smaller_node
     (has_list c.args.nodes.now (c.args.at.start + c.args.at.place) c.visit-node.result c.count.result c.requires.stands c.visit-node.ensures.node same)
-    c.remove_at.ensures.smallest (omega (arith, some, same)) (λ one. ap (λ r. r.tier) (c.remove_at.ensures.gone one)) smaller_node) reading paths p n leaf hold stands is below bare
+    c.remove_at.ensures.smallest (omega (arith, some, same)) (λ one. ap (λ r. r.tier) (c.remove_at.ensures.gone one))) reading paths p n leaf hold stands is below bare

@@ -7,7 +7,7 @@ use Rattle.prefix_trie_table.proofs.BitLists.{rank-below, rank-all, map_get}
 use Rattle.prefix_trie_table.proofs.Adding.{at_is, at_values, has_values}
 use Rattle.prefix_trie_table.proofs.Trees.{slot_holds}
 use Rattle.prefix_trie_table.proofs.Values.{values_first}
-use Rattle.prefix_trie_table.proofs.Removing.{values_taken, grows_few, few_cells, steps_down}
+use Rattle.prefix_trie_table.proofs.Removing.{values_taken, grows_few, steps_down}
 use Rattle.prefix_trie_table.proofs.Settling.{smaller_cell, value_settles}
 use Rattle.prefix_trie_table.proofs.table.removal.take_value.Goals as goal
 
@@ -36,7 +36,7 @@ returns-clause-cell_room g c =
     c.requires.node (c.count.ensures ∙ sym (rank-ones c.args.node.value_bitmap 32 (omega arith))) in
     grows_few c.args.cells.now c.remove_at-value.new.self c.args.node.value_tier c.count.result
     c.remove_at-value.result.1.tier _ _ c.remove_at-value.ensures.keeps c.remove_at-value.ensures.turnover None c.args.node.value_block cell_sizes
-    c.requires.stands.cells.sizes_are refl few_cells list c.remove_at-value.ensures.smallest
+    c.requires.stands.cells.sizes_are refl smaller_cell list c.remove_at-value.ensures.smallest
 
 pub returns-clause-settles : goal.returns-clause-settles
 returns-clause-settles g c =
@@ -49,8 +49,8 @@ returns-clause-settles g c =
     c.put.ensures.slots refl
     (steps_down c.args.cells.now c.remove_at-value.new.self c.args.node.value_tier c.count.result
     c.remove_at-value.result.1.tier _ _ c.remove_at-value.ensures.keeps c.remove_at-value.ensures.turnover None c.args.node.value_block cell_sizes
-    c.requires.stands.cells.sizes_are refl few_cells list c.remove_at-value.ensures.smallest (omega (arith, some, same))
-    (λ one. ap (λ r. r.tier) (c.remove_at-value.ensures.gone one)) smaller_cell)
+    c.requires.stands.cells.sizes_are refl smaller_cell list c.remove_at-value.ensures.smallest (omega (arith, some, same))
+    (λ one. ap (λ r. r.tier) (c.remove_at-value.ensures.gone one)))
 
 pub returns-clause-value : goal.returns-clause-value
 returns-clause-value g c = λ reading paths values p n hold cells stands is.
