@@ -46,6 +46,8 @@ pub mod PathLists
 pub mod NodeCounts
 pub mod PathStrings
 pub mod Sizing
+pub mod OwnCounts
+pub mod Needs
 pub mod Asked
 pub mod AskedBelow
 pub mod Retained
