@@ -48,6 +48,8 @@ pub mod PathStrings
 pub mod Sizing
 pub mod OwnCounts
 pub mod Needs
+pub mod Asks
+pub mod Foreseen
 pub mod Asked
 pub mod AskedBelow
 pub mod Retained

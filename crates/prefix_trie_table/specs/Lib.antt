@@ -9,6 +9,7 @@ pub mod Lending
 pub mod Layouts
 pub mod Shape
 pub mod Tables
+pub mod Asked
 pub mod Matching
 pub mod Walks
 pub mod Items
