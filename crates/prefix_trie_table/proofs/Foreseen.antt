@@ -1,23 +1,24 @@
 -- What an insertion asks for is what the model says of the table's entries, nodes and layout.
-use Rattle.std.proofs.Common.{◌≡◌, ℕ, zero, suc, ◌+◌, ◌-◌, ◌*◌, ◌/◌, ◌%◌, ◌<◌, ◌≤◌, inl, inr, Bool, true, false, cond, ◌&&◌, List, [], ◌∷◌, ◌++◌, length, take, replicate, Option, None, Some, is_some, refl, sym, ap, ap₂, ◌∙◌, subst, arith, eq-eqb, length-take-le}
+use Rattle.std.proofs.Common.{◌≡◌, ℕ, zero, suc, ◌+◌, ◌-◌, ◌*◌, ◌/◌, ◌%◌, ◌<◌, ◌≤◌, inl, inr, Bool, true, false, cond, ◌&&◌, List, [], ◌∷◌, ◌++◌, length, take, replicate, Option, None, Some, is_some, Result, refl, sym, ap, ap₂, ◌∙◌, subst, arith, eq-eqb, length-take-le}
 use Rattle.std.proofs.lemmas.Bool.{false≢true, cases_Bool, cases_lt}
 use Rattle.std.proofs.lemmas.List.{take-take}
 use Rattle.std.specs.Prelude.{option_to_list}
-use Rattle.std.specs.FinMap.{get}
-use Rattle.prefix_trie_bits.specs.Model.Blocks.{Layout, child_block_sizes, value_block_sizes, child_count, own_entries}
+use Rattle.std.specs.FinMap.{get, contains_key}
+use Rattle.prefix_trie_bits.specs.Model.Blocks.{child_block_sizes, value_block_sizes, child_count, own_entries}
 use Rattle.prefix_trie_bits.specs.Model.Insertion.{block_needed, lacking_slots, value_block_needed, node_slots_lacking, cell_slots_lacking}
 use Rattle.prefix_trie_bits.specs.Model.Nodes.{has_node, is_node_depth, home}
 use Rattle.prefix_trie_bits.specs.Model.Step.{State}
 use Rattle.prefix_trie_bits.proofs.Model.Members.{is-same_string, and-second}
 use Rattle.prefix_trie_bits.proofs.Model.Ways.{none_needed, blocks_needed}
 use Rattle.prefix_trie_table.specs.declared.allocator.node.Node.{Node}
-use Rattle.prefix_trie_table.specs.Asked.{nodes_asked, cells_asked}
+use Rattle.prefix_trie_table.specs.Asked.{nodes_asked, cells_asked, AtEnd, Obtains}
+use Rattle.prefix_trie_table.specs.Tables.{IsTableOf, ForHeld, own_value}
 use Rattle.prefix_trie_table.specs.Bitmaps.{has_bit, rank}
 use Rattle.prefix_trie_table.specs.Cells.{node_sizes, cell_sizes}
 use Rattle.prefix_trie_table.specs.Digits.{path_of}
-use Rattle.prefix_trie_table.specs.Forest.{read, is_start, Holds, IsEnd, has_child, has_value}
+use Rattle.prefix_trie_table.specs.Forest.{is_start, Holds, IsEnd, has_child, has_value}
 use Rattle.prefix_trie_table.specs.Layouts.{Sized, child_block_size, value_block_size, size_if_any, free_counts}
-use Rattle.prefix_trie_table.specs.Shape.{IsShapeOf}
+use Rattle.prefix_trie_table.specs.Shape.{IsShapeOf, Shaped}
 use Rattle.prefix_trie_table.specs.Store.{Store, size_in}
 use Rattle.prefix_trie_table.specs.Store.{lacking_slots as slots_lacking}
 use Rattle.prefix_trie_table.proofs.Asks.{nodes_here, nodes_below, cells_here, cells_below}
@@ -28,6 +29,7 @@ use Rattle.prefix_trie_table.proofs.Finding.{prefix_some}
 use Rattle.prefix_trie_table.proofs.Needs.{nodes_lacking_is, cells_lacking_is}
 use Rattle.prefix_trie_table.proofs.OwnCounts.{children_counted, values_counted}
 use Rattle.prefix_trie_table.proofs.Shapes.{shape_nodes, shape_entries}
+use Rattle.prefix_trie_table.proofs.Sizing.{layout_of}
 use Rattle.prefix_trie_table.proofs.Starts.{is_start_take}
 use Rattle.prefix_trie_table.proofs.Trees.{reads, is_none-None}
 
@@ -54,15 +56,6 @@ inner_level level l h = omega (arith, h)
 
 module _ {T : Type 0} (reading : List ℕ → Option Node) (values : List ℕ → ℕ → Option T) (paths : List (List ℕ)) (v : Store Node) (w : Store (Option T))
     (holds : Holds reading values paths v w) (s : State T) (is : IsShapeOf v.slots w.slots s) (sized : Sized v.slots) where
-  -- what contracts see of the blocks
-  abbrev pub layout_of : Layout
-  layout_of = record {
-    child_blocks = sized.0;
-    value_blocks = sized.1.0;
-    free_child_blocks = free_counts v.tiers;
-    free_value_blocks = free_counts w.tiers;
-  }
-
   module _ (p : List Bool) (depth : is_node_depth p ≡ true) where
     child_size : (o : Option Node) → reading (path_of p) ≡ o → get sized.0 p ≡ child_block_size o
     child_size o e =
@@ -128,8 +121,8 @@ module _ {T : Type 0} (reading : List ℕ → Option Node) (values : List ℕ �
     below_none i more h = ap reading (way i h) ∙ gone i more h
 
     -- the slots for nodes
-    pub node_slots_are : node_slots_lacking s.nodes layout_of q ≡ nodes_asked v node level (length q)
-    node_slots_are = elim (cases_lt level (length q / 5)) as (λ _. node_slots_lacking s.nodes layout_of q ≡ nodes_asked v node level (length q)) [
+    pub node_slots_are : node_slots_lacking s.nodes (layout_of v.slots v.tiers w.tiers sized) q ≡ nodes_asked v node level (length q)
+    node_slots_are = elim (cases_lt level (length q / 5)) as (λ _. node_slots_lacking s.nodes (layout_of v.slots v.tiers w.tiers sized) q ≡ nodes_asked v node level (length q)) [
       | inl inside ↦
           ap (lacking_slots child_block_sizes (free_counts v.tiers)) (blocks_needed s.nodes sized.0 q (length q / 5) refl level inside
           (λ i h. node_is i (omega arith) ∙ above i h) (λ i more h. node_is i h ∙ ap is_some (gone i more h))
@@ -150,7 +143,7 @@ module _ {T : Type 0} (reading : List ℕ → Option Node) (values : List ℕ �
         ap (λ b. cond b (block_needed value_block_sizes (get sized.1.0 (home q)) (own_entries s.entries (home q))) None) (is-same_string (home q) (home q) refl)
 
     -- the slots for values
-    pub cell_slots_are : cell_slots_lacking s.entries layout_of q ≡ cells_asked w node level (length q)
+    pub cell_slots_are : cell_slots_lacking s.entries (layout_of v.slots v.tiers w.tiers sized) q ≡ cells_asked w node level (length q)
     cell_slots_are =
         ap (λ o. lacking_slots value_block_sizes (free_counts w.tiers) (option_to_list o)) home_needs
         ∙ elim (cases_lt level (length q / 5)) as (λ _. lacking_slots value_block_sizes (free_counts w.tiers)
@@ -169,3 +162,24 @@ module _ {T : Type 0} (reading : List ℕ → Option Node) (values : List ℕ �
               ∙ cells_lacking_is w.tiers holds.cells.sizes_are node.value_tier (rank node.value_bitmap 32)
               ∙ sym (cells_here w node level (length q) (last_level level (length q) last))
         ]
+
+-- what an insertion of a new key leaves
+module _ {T E : Type 0} (for_limit : E → Type 0) (b : List Bool) (len : ℕ) (v v2 : Store Node) (w w2 : Store (Option T)) (count : ℕ) (s : Shaped v.slots w.slots)
+    (is : IsTableOf v w count s.0) (sized : Sized v.slots) (r : Result (Option T) E)
+    (asked : ForHeld v w (λ reading paths values. own_value values b len ≡ None →
+    AtEnd reading b len (λ node level. Obtains for_limit r v v2 w w2 (nodes_asked v node level len) (cells_asked w node level len)))) where
+  pub obtained : contains_key s.0.entries (take len b) ≡ false → Obtains for_limit r v v2 w w2
+      (node_slots_lacking s.0.nodes (layout_of v.slots v.tiers w.tiers sized) (take len b))
+      (cell_slots_lacking s.0.entries (layout_of v.slots v.tiers w.tiers sized) (take len b))
+  obtained new =
+      let t = is.held.table in
+      let none : own_value t.values b len ≡ None =
+      sym (shape_entries t.reading t.values t.paths v w t.holds s.0 s.1 (take len b)) ∙ is_none-None (get s.0.entries (take len b)) new in
+      let a = asked t.reading t.paths t.values t.holds none in
+      let long : length (take len b) ≡ len = length-take-le len b a.long in
+      let nodes = node_slots_are t.reading t.values t.paths v w t.holds s.0 s.1 sized (take len b) a.node a.level a.end a.is
+      ∙ ap (nodes_asked v a.node a.level) long in
+      let cells = cell_slots_are t.reading t.values t.paths v w t.holds s.0 s.1 sized (take len b) a.node a.level a.end a.is
+      ∙ ap (cells_asked w a.node a.level) long in
+      subst (λ m. Obtains for_limit r v v2 w w2 m (cell_slots_lacking s.0.entries (layout_of v.slots v.tiers w.tiers sized) (take len b))) (sym nodes)
+      (subst (λ m. Obtains for_limit r v v2 w w2 (nodes_asked v a.node a.level len) m) (sym cells) a.fact)

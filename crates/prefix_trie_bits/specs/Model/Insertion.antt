@@ -1,11 +1,12 @@
 -- Which blocks the insertion of a new key takes, and the slots that these ask for. This project's own.
-use Rattle.std.specs.Prelude.{◌≡◌, ℕ, ◌+◌, ◌-◌, ◌*◌, Bool, cond, not, ◌&&◌, ◌==◌, List, [], ◌∷◌, Option, None, Some, length, take, filter, filter_map, nat_lt, option_to_list}
+use Rattle.std.specs.Prelude.{◌≡◌, ◌⊎◌, ◌<◌, ℕ, ◌+◌, ◌-◌, ◌*◌, Bool, cond, not, ◌&&◌, ◌==◌, List, [], ◌∷◌, Option, None, Some, length, take, filter, filter_map, nat_lt, option_to_list}
 use Rattle.std.specs.Option.{option_or}
 use Rattle.std.specs.FinMap.{get}
 use Rattle.prefix_trie_bits.specs.Bits.{begins}
 use Rattle.prefix_trie_bits.specs.Order.{same_string}
 use Rattle.prefix_trie_bits.specs.Model.Entries.{Entries}
 use Rattle.prefix_trie_bits.specs.Model.Nodes.{Nodes, has_node, is_node_depth, nodes_above, home}
+use Rattle.prefix_trie_bits.specs.Model.Room.{Room}
 use Rattle.prefix_trie_bits.specs.Model.Blocks.{Sizes, Layout, smallest_size, child_block_sizes, value_block_sizes, child_count, own_entries}
 
 -- the size of the block that a list of so many items needs before it takes one more, where its own block has the size that is
@@ -49,3 +50,9 @@ module _ {T : Type 0} where
 -- the sizes as they were, but where a block was needed the size of that one
 abbrev pub TakesBlocks : (List Bool → Option ℕ) → Sizes → Sizes → Type 0
 TakesBlocks needed before after = (p : List Bool) → get after p ≡ option_or (needed p) (get before p)
+
+module _ {T : Type 0} where
+  -- the blocks that the insertion of q lacks would pass the limit
+  abbrev pub PassesLimit : Entries T → Nodes → Room → Layout → List Bool → Type 0
+  PassesLimit m n room layout q =
+      (room.limit < room.node_slots + node_slots_lacking n layout q) ⊎ (room.limit < room.cell_slots + cell_slots_lacking m layout q)
