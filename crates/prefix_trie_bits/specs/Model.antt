@@ -12,3 +12,4 @@ pub mod Blocks
 pub mod Step
 pub mod HandsOut
 pub mod Room
+pub mod Insertion

@@ -51,6 +51,10 @@ pub mod Sizing
 pub mod Filling
 pub mod BlockCounts
 pub mod BlockUsers
+pub mod OwnCounts
+pub mod Needs
+pub mod Asks
+pub mod Foreseen
 pub mod Asked
 pub mod AskedBelow
 pub mod Retained

@@ -10,6 +10,7 @@ pub mod BlockCounts
 pub mod Layouts
 pub mod Shape
 pub mod Tables
+pub mod Asked
 pub mod Matching
 pub mod Walks
 pub mod Items

@@ -21,7 +21,7 @@ pub mod spot;
 mod tests;
 pub mod walk;
 
-ghost use Rattle.std.specs.Prelude.{◌≡◌, ℕ, ◌+◌, ◌*◌, ◌<◌, ◌≤◌, take, IfOk, OnOk, IfErr, OnErr, IsOk, IsErr, IsTrue, ◌↔◌, MatchOption, None, Some};
+ghost use Rattle.std.specs.Prelude.{◌≡◌, ℕ, ◌+◌, ◌*◌, ◌<◌, ◌≤◌, take, IfOk, OnOk, IfErr, OnErr, IsOk, IsErr, IsTrue, ◌↔◌, MatchOption, MatchResult, None, Some, false};
 ghost use Rattle.std.specs.Option.{option_copied};
 ghost use Rattle.std.specs.FinMap.{get, contains_key, len, len as node_number};
 ghost use Rattle.prefix_trie_bits.specs.Model.Asking.{AsksInOrder, MayAskInOrder};
@@ -30,6 +30,7 @@ ghost use Rattle.prefix_trie_bits.specs.Model.Matches.{longest_match, shortest_m
 ghost use Rattle.prefix_trie_bits.specs.Model.Nodes.{root_alone, with_needed, nodes_without, nodes_without_below, needed, AreNodes};
 ghost use Rattle.prefix_trie_bits.specs.Model.Selections.{listing};
 ghost use Rattle.prefix_trie_bits.specs.Model.Visits.{visits, visits_to_match};
+ghost use Rattle.prefix_trie_bits.specs.Model.Insertion.{PassesLimit, node_slots_lacking, cell_slots_lacking};
 ghost use Rattle.prefix_trie_bits.specs.Model.Room.{MayPassLimit};
 ghost use Rattle.prefix_trie_bits.specs.declared.prefix.Refusal.TheVariants.{IndexRange};
 ghost use Rattle.prefix_trie_bits.specs.Model.Blocks.{no_layout};
@@ -210,6 +211,20 @@ impl<T: Drop, A: Allocator, V: Tick> Table<T, A, V> {
             → self.new.layout ≡ self.old.layout }
         ensures range { IfErr result
             (λ refused. refused.cause ≡ IndexRange → MayPassLimit self.old.room) }
+        ensures exact_range { IfErr result (λ refused. refused.cause ≡ IndexRange
+            → PassesLimit self.old.entries self.old.nodes self.old.room self.old.layout (take len (K.bits key))) }
+        ensures granted { node_slots_lacking self.old.nodes self.old.layout (take len (K.bits key)) ≡ 0
+            → cell_slots_lacking self.old.entries self.old.layout (take len (K.bits key)) ≡ 0 → IsOk result }
+        ensures node_slots { contains_key self.old.entries (take len (K.bits key)) ≡ false → MatchResult result
+            (λ _. self.new.room.node_slots ≡ self.old.room.node_slots
+            + node_slots_lacking self.old.nodes self.old.layout (take len (K.bits key)))
+            (λ _. self.new.room.node_slots ≤ self.old.room.node_slots
+            + node_slots_lacking self.old.nodes self.old.layout (take len (K.bits key))) }
+        ensures cell_slots { contains_key self.old.entries (take len (K.bits key)) ≡ false → MatchResult result
+            (λ _. self.new.room.cell_slots ≡ self.old.room.cell_slots
+            + cell_slots_lacking self.old.entries self.old.layout (take len (K.bits key)))
+            (λ _. self.new.room.cell_slots ≤ self.old.room.cell_slots
+            + cell_slots_lacking self.old.entries self.old.layout (take len (K.bits key))) }
         ensures room { (self.new.room.limit ≡ self.old.room.limit)
             × (self.old.room.node_slots ≤ self.new.room.node_slots)
             × (self.new.room.node_slots ≤ self.old.room.node_slots + 56)

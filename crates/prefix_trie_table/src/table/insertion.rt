@@ -7,6 +7,7 @@ ghost use Rattle.prefix_trie_table.specs.Digits.{path_of, bit_of};
 ghost use Rattle.prefix_trie_table.specs.Store.{Block, Sound, IsReady, tier_lacking, free_at, Prepared, SameRoom};
 ghost use Rattle.prefix_trie_table.specs.Forest.{IsSlot, NodesHold, CellsHold, Holds, IsTable, AtNode, AtValues, ChildAdded, ValueSet, StandsAt, one_if};
 ghost use Rattle.prefix_trie_table.specs.Tables.{IsReached, HasRoom, IsCounted, Grows, MayPass, ForHeld, own_value, EntrySet};
+ghost use Rattle.prefix_trie_table.specs.Asked.{nodes_asked, cells_asked, LongerBy, PassLimit, AtEnd, Obtains};
 ghost use Rattle.prefix_trie_bits.specs.declared.prefix.Refusal.TheVariants.{IndexRange};
 
 use crate::allocator::blocks::Blocks;
@@ -164,6 +165,15 @@ fn prepare<T: Drop, A: Allocator, V: Tick>(
     ensures range { IfErr result (λ cause. cause ≡ IndexRange → MayPass nodes.old cells.old) }
     ensures node_room { Grows nodes.old nodes.new 56 }
     ensures cell_room { Grows cells.old cells.new 31 }
+    ensures node_slots { LongerBy result nodes.old nodes.new
+        (nodes_asked nodes.old reached.now.node reached.now.level len) }
+    ensures cell_slots { LongerBy result cells.old cells.new
+        (cells_asked cells.old reached.now.node reached.now.level len) }
+    ensures exact_range { IfErr result (λ cause. cause ≡ IndexRange → PassLimit nodes.old cells.old
+        (nodes_asked nodes.old reached.now.node reached.now.level len)
+        (cells_asked cells.old reached.now.node reached.now.level len)) }
+    ensures granted { nodes_asked nodes.old reached.now.node reached.now.level len ≡ 0
+        → cells_asked cells.old reached.now.node reached.now.level len ≡ 0 → IsOk result }
     ensures nodes { Prepared nodes.old nodes.new }
     ensures cells { Prepared cells.old cells.new }
     ensures nodes_sound { (live : List (Block Node)) → Sound blank_node live nodes.old
@@ -244,6 +254,11 @@ fn insert_value<K: Key, T: Drop, A: Allocator, V: Tick>(
         (λ refused. refused.cause ≡ IndexRange → MayPass nodes.old cells.old) }
     ensures node_room { Grows nodes.old nodes.new 56 }
     ensures cell_room { Grows cells.old cells.new 31 }
+    ensures asked { ForHeld nodes.old cells.old (λ reading paths values.
+        own_value values (K.bits key) len ≡ None
+        → AtEnd reading (K.bits key) len (λ node level.
+        Obtains (λ refused. refused.cause ≡ IndexRange) result nodes.old nodes.new cells.old cells.new
+        (nodes_asked nodes.old node level len) (cells_asked cells.old node level len))) }
     ensures returned { IfErr result (λ refused. refused.value ≡ value) }
     ensures stored { ForHeld nodes.old cells.old (λ reading paths values.
         is_some (own_value values (K.bits key) len) ≡ true
@@ -287,6 +302,11 @@ pub fn insert_entry<K: Key, T: Drop, A: Allocator, V: Tick>(
         (λ refused. refused.cause ≡ IndexRange → MayPass nodes.old cells.old) }
     ensures node_room { Grows nodes.old nodes.new 56 }
     ensures cell_room { Grows cells.old cells.new 31 }
+    ensures asked { ForHeld nodes.old cells.old (λ reading paths values.
+        own_value values (K.bits key) len ≡ None
+        → AtEnd reading (K.bits key) len (λ node level.
+        Obtains (λ refused. refused.cause ≡ IndexRange) result nodes.old nodes.new cells.old cells.new
+        (nodes_asked nodes.old node level len) (cells_asked cells.old node level len))) }
     ensures returned { IfErr result (λ refused. refused.value ≡ value) }
     ensures stored { ForHeld nodes.old cells.old (λ reading paths values.
         is_some (own_value values (K.bits key) len) ≡ true

@@ -1,11 +1,17 @@
-use Rattle.std.proofs.Common.{◌≡◌, length, is_some, take, IsOk, IsTrue, IfOk, OnOk, OnErr, sym, ap, ◌∙◌, subst}
+use Rattle.std.proofs.Common.{◌≡◌, ◌+◌, ◌≤◌, inl, inr, false, Result, Ok, Err, MatchResult, IfErr, arith, length, is_some, take, IsOk, IsTrue, IfOk, OnOk, OnErr, sym, ap, ◌∙◌, subst}
+use Rattle.std.proofs.lemmas.Bool.{false≢true, cases_Bool}
+use Rattle.std.proofs.lemmas.Result.{IfErr-weaker}
 use Rattle.std.specs.FinMap.{get, contains_key}
 use Rattle.prefix_trie_bits.specs.Model.Entries.{with_entry}
 use Rattle.prefix_trie_bits.specs.Model.Nodes.{with_needed}
+use Rattle.prefix_trie_bits.specs.declared.prefix.Refusal.TheVariants.{IndexRange}
+use Rattle.prefix_trie_bits.specs.Model.Insertion.{PassesLimit, node_slots_lacking, cell_slots_lacking}
+use Rattle.prefix_trie_table.specs.Asked.{Obtains}
 use Rattle.prefix_trie_table.specs.Shape.{Contents}
 use Rattle.prefix_trie_table.specs.declared.allocator.node.Node.{Node}
 use Rattle.prefix_trie_table.specs.Store.{Store, SameRoom}
-use Rattle.prefix_trie_table.proofs.Sizing.{table_sizes, same_layout}
+use Rattle.prefix_trie_table.proofs.Sizing.{table_sizes, same_layout, layout_of}
+use Rattle.prefix_trie_table.proofs.Foreseen.{obtained}
 use Rattle.prefix_trie_table.proofs.Shapes.{shape_entries, left_shape, table_left, before_left, entries_left, nodes_left, same_left}
 use Rattle.prefix_trie_table.proofs.table.Table.insert.Goals as goal
 
@@ -82,3 +88,57 @@ returns-clause-layout g c = λ there.
     let kept = stored g c there in
     same_layout _ _ _ _ _ _ c.self.inside.sizes c.self-1.given.1.0 (ap (λ (x : Store Node). x.slots) kept.2) (ap (λ (x : Store Node). x.tiers) kept.2) kept.3
     ∙ ap (λ (s : Contents g.row.T.Denot). s.layout) c.self.view_is
+
+obtains : (g : _) (c : goal.After-self-1 g) → contains_key c.self.inside.shape.0.entries (take c.args.len (g.K.Key.bits c.args.key)) ≡ false →
+    Obtains (λ refused. refused.cause ≡ IndexRange) c.insert_entry.result c.self.inside.nodes c.insert_entry.new.nodes c.self.inside.cells c.insert_entry.new.cells
+    (node_slots_lacking c.self.inside.shape.0.nodes (layout_of c.self.inside.nodes.slots c.self.inside.nodes.tiers c.self.inside.cells.tiers c.self.inside.sizes) (take c.args.len (g.K.Key.bits c.args.key)))
+    (cell_slots_lacking c.self.inside.shape.0.entries (layout_of c.self.inside.nodes.slots c.self.inside.nodes.tiers c.self.inside.cells.tiers c.self.inside.sizes) (take c.args.len (g.K.Key.bits c.args.key)))
+obtains g c = obtained (λ refused. refused.cause ≡ IndexRange) (g.K.Key.bits c.args.key) c.args.len c.self.inside.nodes c.insert_entry.new.nodes
+    c.self.inside.cells c.insert_entry.new.cells c.self.inside.count c.self.inside.shape c.self.invariant c.self.inside.sizes c.insert_entry.result
+    c.insert_entry.ensures.asked
+
+pub returns-clause-node_slots : goal.returns-clause-node_slots
+returns-clause-node_slots g c =
+    let q = take c.args.len (g.K.Key.bits c.args.key) in
+    subst (λ (s : Contents g.row.T.Denot). contains_key s.entries q ≡ false → MatchResult c.insert_entry.result
+    (λ _. length c.insert_entry.new.nodes.slots ≡ s.room.node_slots + node_slots_lacking s.nodes s.layout q)
+    (λ _. length c.insert_entry.new.nodes.slots ≤ s.room.node_slots + node_slots_lacking s.nodes s.layout q)) c.self.view_is
+    (λ new. (obtains g c new).node_slots)
+
+pub returns-clause-cell_slots : goal.returns-clause-cell_slots
+returns-clause-cell_slots g c =
+    let q = take c.args.len (g.K.Key.bits c.args.key) in
+    subst (λ (s : Contents g.row.T.Denot). contains_key s.entries q ≡ false → MatchResult c.insert_entry.result
+    (λ _. length c.insert_entry.new.cells.slots ≡ s.room.cell_slots + cell_slots_lacking s.entries s.layout q)
+    (λ _. length c.insert_entry.new.cells.slots ≤ s.room.cell_slots + cell_slots_lacking s.entries s.layout q)) c.self.view_is
+    (λ new. (obtains g c new).cell_slots)
+
+no_error : {X E : Type 0} (r : Result X E) (P : E → Type 0) → IsOk r → IfErr r P
+no_error (Ok x) P ok = tt
+no_error (Err e) P ok = absurd (false≢true ok)
+
+pub returns-clause-granted : goal.returns-clause-granted
+returns-clause-granted g c =
+    let q = take c.args.len (g.K.Key.bits c.args.key) in
+    elim (cases_Bool (contains_key c.args.self.now.entries q)) as (λ _. node_slots_lacking c.args.self.now.nodes c.args.self.now.layout q ≡ 0 →
+    cell_slots_lacking c.args.self.now.entries c.args.self.now.layout q ≡ 0 → IsOk c.insert_entry.result) [
+      | inl there ↦ λ _ _. (stored g c there).0
+      | inr new ↦ subst (λ (s : Contents g.row.T.Denot). contains_key s.entries q ≡ false → node_slots_lacking s.nodes s.layout q ≡ 0 →
+          cell_slots_lacking s.entries s.layout q ≡ 0 → IsOk c.insert_entry.result) c.self.view_is (λ is_new. (obtains g c is_new).granted) new
+    ]
+
+pub returns-clause-exact_range : goal.returns-clause-exact_range
+returns-clause-exact_range g c =
+    let q = take c.args.len (g.K.Key.bits c.args.key) in
+    elim (cases_Bool (contains_key c.args.self.now.entries q)) as (λ _. IfErr c.insert_entry.result (λ refused. refused.cause ≡ IndexRange →
+    PassesLimit c.args.self.now.entries c.args.self.now.nodes c.args.self.now.room c.args.self.now.layout q)) [
+      | inl there ↦ no_error c.insert_entry.result _ (stored g c there).0
+      | inr new ↦ subst (λ (s : Contents g.row.T.Denot). contains_key s.entries q ≡ false → IfErr c.insert_entry.result (λ refused. refused.cause ≡ IndexRange →
+          PassesLimit s.entries s.nodes s.room s.layout q)) c.self.view_is
+          (λ is_new. IfErr-weaker c.insert_entry.result _ (λ refused. refused.cause ≡ IndexRange →
+          PassesLimit c.self.inside.shape.0.entries c.self.inside.shape.0.nodes
+          (record { limit = c.self.inside.nodes.limit; node_slots = length c.self.inside.nodes.slots; cell_slots = length c.self.inside.cells.slots })
+          (layout_of c.self.inside.nodes.slots c.self.inside.nodes.tiers c.self.inside.cells.tiers c.self.inside.sizes) q)
+          (λ refused h cause. elim (h cause) [ inl nodes ↦ inl nodes | inr cells ↦ inr (let e = c.self.invariant.one_limit in omega (arith, cells, e)) ])
+          (obtains g c is_new).range) new
+    ]

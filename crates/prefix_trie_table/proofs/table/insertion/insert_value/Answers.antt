@@ -1,13 +1,15 @@
-use Rattle.std.proofs.Common.{◌≡◌, ◌+◌, ◌*◌, ◌<◌, Some, is_some, take, sym, ap, ◌∙◌, subst, arith}
+use Rattle.std.proofs.Common.{refl, ◌≡◌, ◌+◌, ◌*◌, ◌<◌, Some, is_some, take, sym, ap, ◌∙◌, subst, arith}
 use Rattle.std.proofs.lemmas.Bool.{false≢true}
 use Rattle.std.proofs.lemmas.List.{take_all}
-use Rattle.prefix_trie_table.specs.Digits.{path_of}
-use Rattle.prefix_trie_table.specs.Forest.{EntryAdded, IsSlot}
+use Rattle.prefix_trie_table.specs.Digits.{path_of, bit_of}
+use Rattle.prefix_trie_table.specs.Forest.{EntryAdded, IsSlot, has_value}
 use Rattle.prefix_trie_table.proofs.Bits.{has_bit-is}
 use Rattle.prefix_trie_table.proofs.Going.{bit-read, steps-end}
 use Rattle.prefix_trie_table.proofs.Finding.{value_bit_is, reached_own}
 use Rattle.prefix_trie_table.proofs.Growing.{walked_start, entry_added}
 use Rattle.prefix_trie_table.proofs.Inserting.{nodes_prepared, cells_prepared, reached_still, few_values, few_children, lacks_value}
+use Rattle.prefix_trie_table.proofs.Asks.{at_end}
+use Rattle.prefix_trie_table.proofs.Rooms.{Grows-then}
 use Rattle.prefix_trie_table.proofs.table.insertion.insert_value.Goals as goal
 use Rattle.prefix_trie_table.proofs.table.insertion.insert_value.Goals.{then-depth-len+else-has_bit, else-depth-len}
 
@@ -146,3 +148,41 @@ returns-clause-stored g c = λ reading paths values holds some.
           ∙ sym w.has_bit.ensures ∙ w.if-has_bit.false
       | else-depth-len w ↦ absurd (omega (arith, less, w.if-depth-len.false))
     ]))) ∙ some))
+
+pub returns-then-has_bit-clause-asked : goal.returns-then-has_bit-clause-asked
+returns-then-has_bit-clause-asked g c = λ reading paths values holds none.
+    let b = g.K.Key.bits c.args.key in
+    let at = c.descend-reached.ensures.reached in
+    let level = c.descend-reached.result.level in
+    let less : c.args.len < 5 * c.descend-reached.result.level + 5 = omega (arith, c.if-depth-len.true) in
+    let own = reached_own b c.args.len level _ c.descend-reached.result.node c.args.nodes.now at reading paths holds.hold less in
+    let some = holds.cells.set_where (path_of (take c.args.len b)) (bit_of (take c.args.len b)) ∙ ap (λ o. has_value o (bit_of (take c.args.len b))) own
+    ∙ value_bit_is b c.args.len level _ c.descend-reached.result.node c.args.nodes.now at reading values paths c.args.cells.now holds less
+    c.value_bit_of-bit.result c.value_bit_of-bit.ensures.small c.value_bit_of-bit.ensures.value ∙ sym c.has_bit.ensures ∙ c.if-has_bit.true in
+    absurd (false≢true (sym (ap is_some none) ∙ some))
+
+pub returns-in-Err-clause-asked : goal.returns-in-Err-clause-asked
+returns-in-Err-clause-asked g c = λ reading paths values holds none.
+    at_end (g.K.Key.bits c.args.key) c.args.len c.descend-reached.result.level _ c.descend-reached.result.node c.args.nodes.now c.descend-reached.ensures.reached
+    reading paths holds.hold (record {
+      node_slots = c.in-Err.ensures.node_slots;
+      cell_slots = c.in-Err.ensures.cell_slots;
+      range = c.in-Err.ensures.exact_range;
+      granted = c.in-Err.ensures.granted;
+    })
+
+pub returns-clause-node_room : goal.returns-clause-node_room
+returns-clause-node_room g c = Grows-then c.args.nodes.now c.prepare.new.nodes c.add_entry.new.nodes 56 c.prepare.ensures.node_room c.add_entry.ensures.node_room
+
+pub returns-clause-cell_room : goal.returns-clause-cell_room
+returns-clause-cell_room g c = Grows-then c.args.cells.now c.prepare.new.cells c.add_entry.new.cells 31 c.prepare.ensures.cell_room c.add_entry.ensures.cell_room
+
+pub returns-clause-asked : goal.returns-clause-asked
+returns-clause-asked g c = λ reading paths values holds none.
+    at_end (g.K.Key.bits c.args.key) c.args.len c.descend-reached.result.level _ c.descend-reached.result.node c.args.nodes.now c.descend-reached.ensures.reached
+    reading paths holds.hold (record {
+      node_slots = c.add_entry.ensures.node_room.0 ∙ c.in_default.ensures.node_slots;
+      cell_slots = c.add_entry.ensures.cell_room.0 ∙ c.in_default.ensures.cell_slots;
+      range = tt;
+      granted = λ _ _. refl;
+    })
