@@ -1,14 +1,15 @@
 -- A map stays one where a value of it is written over.
-use Rattle.std.proofs.Common.{◌≡◌, ℕ, Bool, true, false, List, Option, None, Some, if◌then◌else◌, is_some, refl, sym, ap, ◌∙◌, inl, inr}
+use Rattle.std.proofs.Common.{◌≡◌, ℕ, Bool, true, false, List, Option, None, Some, if◌then◌else◌, is_some, MatchOption, IfSome, refl, sym, ap, ◌∙◌, subst, inl, inr}
 use borrow.Follows.Closed.{read_of}
 use Rattle.std.specs.Borrow.{MutBor}
 use Rattle.std.specs.FinMap.{get, contains_key}
 use Rattle.std.specs.Option.{option_copied_mut, ghost_name_of}
 use Rattle.prefix_trie_bits.specs.Laws.Steps.{IsMap}
-use Rattle.prefix_trie_bits.specs.Model.Matches.{longest_match}
+use Rattle.prefix_trie_bits.specs.Model.Matches.{longest_match, shown_match}
 use Rattle.prefix_trie_bits.proofs.Model.Matches.{match_laws}
 use Rattle.prefix_trie_bits.proofs.Model.NodeSets.{AreNodes-stored, key_cases}
 use Rattle.prefix_trie_table.specs.Shape.{Contents, with_value_at, with_stored_at, with_match_at, with_longest_at}
+use Rattle.prefix_trie_map.specs.Lending.{lent_beside}
 use Rattle.prefix_trie_map.specs.Steps.{state}
 
 module _ {T : Type 0} (width : ℕ) (m : Contents T) (good : IsMap width (state m)) where
@@ -46,3 +47,24 @@ stored_lent m q None e = refl
 stored_lent m q (Some lent) e =
     let stored : contains_key m.entries q ≡ true = ap is_some (sym e) in
     λ i. inl (lent.ghost_name, λ x. if stored i then with_value_at m q x else m)
+
+-- a value lent for a match, and what is known of the match beside it
+pub match_parts : {T : Type 0} (B : Type 0) (found : Option (List Bool × T)) (key : List Bool) (o : Option (MutBor T)) →
+    MatchOption o (found ≡ None) (λ value. B × (found ≡ Some (key, value.now))) →
+    MatchOption o (found ≡ None) (λ value. found ≡ Some (key, value.now)) × IfSome o (λ value. B)
+match_parts B found key None none = (none, tt)
+match_parts B found key (Some value) some = (some.1, some.0)
+
+module _ {P T : Type 0} (back : List Bool → P) (found : Option (List Bool × T)) (key : List Bool) where
+  -- a value lent, and the same beside the prefix of its key
+  shown_beside : (answer : Option (P × MutBor T)) → IfSome answer (λ f. f.0 ≡ back key) →
+      MatchOption (lent_beside answer) (found ≡ None) (λ value. found ≡ Some (key, value.now)) →
+      MatchOption answer (found ≡ None) (λ f. shown_match back found ≡ Some (f.0, f.1.now))
+  shown_beside None shown is = is
+  shown_beside (Some f) shown is = ap (shown_match back) is ∙ ap (λ p. Some (p, f.1.now)) (sym shown)
+
+  pub lent_shown : (o : Option (MutBor T)) (answer : Option (P × MutBor T)) → lent_beside answer ≡ o → IfSome answer (λ f. f.0 ≡ back key) →
+      MatchOption o (found ≡ None) (λ value. found ≡ Some (key, value.now)) →
+      MatchOption answer (found ≡ None) (λ f. shown_match back found ≡ Some (f.0, f.1.now))
+  lent_shown o answer lent shown is =
+      shown_beside answer shown (subst (λ v. MatchOption v (found ≡ None) (λ value. found ≡ Some (key, value.now))) (sym lent) is)

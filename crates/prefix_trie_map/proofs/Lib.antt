@@ -6,4 +6,4 @@ pub mod Runs
 pub mod Lending
 pub mod Removals
 pub mod Retained
-pub mod Made
+pub mod Loans

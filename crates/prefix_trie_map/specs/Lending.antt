@@ -1,5 +1,6 @@
 -- What a map ends as, where a `&mut` to one of its values is returned.
 use Rattle.std.specs.Prelude.{Bool, List, Option}
+use Rattle.std.specs.Option.{option_map}
 use Rattle.std.specs.Borrow.{LendsIf, Fml, RattleType, MutBor}
 use Rattle.std.specs.declared.alloc.Allocator as alloc
 use Rattle.std.specs.declared.cmp.PartialEq as partial
@@ -8,6 +9,10 @@ use Rattle.prefix_trie_bits.specs.declared.prefix.Prefix as prefix
 use Rattle.prefix_trie_bits.specs.declared.prefix.Key as key
 use Rattle.prefix_trie_table.specs.Shape.{Contents, with_value_at, with_longest_at}
 use Rattle.prefix_trie_map.specs.contracts.map.PrefixMap as map
+
+-- the borrow in an answer that has it beside a prefix
+abbrev pub lent_beside : {P T : Type 0} → Option (P × MutBor T) → Option (MutBor T)
+lent_beside found = option_map (λ f. f.1) found
 
 module _ (P T A R : RattleType) (p : prefix.Ghosts P.Denot R.Denot) (shows : debug.Ghosts P.Denot) (k : key.Ghosts R.Denot)
     (same : partial.Ghosts R.Denot) (writes : debug.Ghosts R.Denot) (a : alloc.Ghosts A.Denot) (m : MutBor (Contents T.Denot)) (q : List Bool)

@@ -1,11 +1,11 @@
 //! Lookups that lend a value for writing.
-ghost use Rattle.std.specs.Prelude.{◌≡◌, List, Bool, ℕ, ◌+◌, ◌/◌, ◌≤◌, length, MatchOption, None, Some};
+ghost use Rattle.std.specs.Prelude.{◌≡◌, List, Bool, ℕ, ◌+◌, ◌/◌, ◌≤◌, length, take, MatchOption, IfSome, None, Some};
 ghost use Rattle.std.specs.Option.{option_copied_mut};
 ghost use Rattle.std.specs.Borrow.{sem};
 ghost use Rattle.std.specs.FinMap.{get};
 ghost use Rattle.prefix_trie_bits.specs.Model.Matches.{longest_match, shown_match};
 ghost use Rattle.prefix_trie_bits.specs.Model.Visits.{visits};
-ghost use Rattle.prefix_trie_map.specs.Lending.{lends_entry_if, lends_longest_if};
+ghost use Rattle.prefix_trie_map.specs.Lending.{lends_entry_if, lends_longest_if, lent_beside};
 
 #[cfg(test)]
 mod tests;
@@ -65,27 +65,28 @@ impl<P: Prefix, T: Drop, A: Allocator> PrefixMap<P, T, A> {
             (longest_match self.old.entries (P.path prefix.now) ≡ None)
             (λ value. (p : List Bool) × (longest_match self.old.entries (P.path prefix.now) ≡ Some (p, value.now))) }
     {
-        let len = u32::from(prefix.prefix_len());
-        self.table
-            .find_longest_mut(prefix.repr(), len, &mut 0, &mut Visits::new())
+        self.lend_longest(prefix, &mut 0, &mut Visits::new())
     }
 
     /// The longest stored prefix that contains this one, without its host bits, and the value stored for it, for writing. A
-    /// stored prefix contains itself.
+    /// stored prefix contains itself. What is written through it is then the value stored for that prefix, and nothing else
+    /// changes.
     #[inline]
     pub fn get_lpm_mut(&mut self, prefix: &P) -> Option<(P, &mut T)>
         requires { P.IsFitting prefix.now }
-        ensures { MatchOption result
+        ensures* writes_back { sem 𝓛 (lends_longest_if P.row T.row A.row P.R.row P.Prefix.own P.Debug P.R.Key.own P.R.PartialEq P.R.Debug A.Allocator self.entry (P.path prefix.now) (lent_beside result)) }
+        ensures value { MatchOption result
             (longest_match self.old.entries (P.path prefix.now) ≡ None)
             (λ found. shown_match P.back (longest_match self.old.entries (P.path prefix.now)) ≡ Some (found.0, found.1.now)) }
     {
-        self.get_lpm_mut_counted(prefix).0
+        not_counted(self.get_lpm_mut_counted(prefix))
     }
 
     /// The answer of `get_lpm_mut`, and how many nodes it read: each node on the prefix's way once, as `get_counted` does.
     #[inline]
     pub fn get_lpm_mut_counted(&mut self, prefix: &P) -> (Option<(P, &mut T)>, Visits)
         requires { P.IsFitting prefix.now }
+        ensures* writes_back { sem 𝓛 (lends_longest_if P.row T.row A.row P.R.row P.Prefix.own P.Debug P.R.Key.own P.R.PartialEq P.R.Debug A.Allocator self.entry (P.path prefix.now) (lent_beside result.0)) }
         ensures value { MatchOption result.0
             (longest_match self.old.entries (P.path prefix.now) ≡ None)
             (λ found. shown_match P.back (longest_match self.old.entries (P.path prefix.now)) ≡ Some (found.0, found.1.now)) }
@@ -93,16 +94,57 @@ impl<P: Prefix, T: Drop, A: Allocator> PrefixMap<P, T, A> {
         ensures bound { result.1 ≤ length (P.path prefix.now) / 5 + 1 }
     {
         let mut visits = Visits::new();
-        let key = prefix.repr();
-        let len = u32::from(prefix.prefix_len());
         let mut found = 0;
-        let value = self
-            .table
-            .find_longest_mut(key, len, &mut found, &mut visits);
-        let longest = match value {
-            Some(value) => Some((rebuilt(key, found), value)),
-            None => None,
-        };
-        (longest, visits)
+        let value = self.lend_longest(prefix, &mut found, &mut visits);
+        (beside(value, prefix, found), visits)
     }
+
+    // The answer of `get_lpm_value_mut`. The length of its prefix goes into `found`, and the nodes that it reads are added to a
+    // counter.
+    #[inline]
+    fn lend_longest(
+        &mut self,
+        prefix: &P,
+        found: &mut u32,
+        counter: &mut Visits,
+    ) -> Option<&mut T>
+        requires { P.IsFitting prefix.now }
+        ensures* writes_back { sem 𝓛 (lends_longest_if P.row T.row A.row P.R.row P.Prefix.own P.Debug P.R.Key.own P.R.PartialEq P.R.Debug A.Allocator self.entry (P.path prefix.now) result) }
+        ensures value { MatchOption result
+            (longest_match self.old.entries (P.path prefix.now) ≡ None)
+            (λ value. longest_match self.old.entries (P.path prefix.now) ≡ Some (take found.new (P.path prefix.now), value.now)) }
+        ensures within { IfSome result (λ value. found.new ≤ P.len_of prefix.now) }
+        ensures exact { counter.new ≡ counter.old + visits self.old.nodes (P.path prefix.now) }
+        ensures bound { counter.new ≤ counter.old + (length (P.path prefix.now) / 5 + 1) }
+    {
+        let len = u32::from(prefix.prefix_len());
+        self.table
+            .find_longest_mut(prefix.repr(), len, found, counter)
+    }
+}
+
+// A value lent for the first bits of a prefix, beside the prefix of these bits, without host bits.
+#[inline]
+fn beside<'a, P: Prefix, T>(
+    value: Option<&'a mut T>,
+    prefix: &P,
+    found: u32,
+) -> Option<(P, &'a mut T)>
+    requires fits { P.IsFitting prefix.now }
+    requires within { IfSome value (λ v. found ≤ P.len_of prefix.now) }
+    ensures lent { lent_beside result ≡ value.entry }
+    ensures prefix { IfSome result (λ f. f.0 ≡ P.back (take found (P.path prefix.now))) }
+{
+    match value {
+        Some(value) => Some((rebuilt(prefix.repr(), found), value)),
+        None => None,
+    }
+}
+
+// The answer without its number.
+#[inline]
+fn not_counted<'a, P, T>(counted: (Option<(P, &'a mut T)>, Visits)) -> Option<(P, &'a mut T)>
+    ensures { result ≡ counted.entry.0 }
+{
+    counted.0
 }

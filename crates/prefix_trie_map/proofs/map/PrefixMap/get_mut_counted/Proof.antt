@@ -21,21 +21,15 @@ use denote.Ref.{MutRef, ShrRef, mut_vals, mut_Tells, shr_vals, shr_Tells}
 use denote.Signature.{plain, mut_ref_to, shr_ref_to, types_at}
 use denote.Steps.{nothing, heard, peeks}
 use denote.Laws.{shows}
-use denote.Lend.{lends_ref, ref_back}
-use denote.Memory.{lone, mem, part_at}
-use types.Tokens.{lft_new, lft_end}
+use denote.Memory.{lone, mem}
 use types.SemTy.{Body}
-use borrow.Table.OneValue.{part_in, part_out}
 use denote.Triple.Entry.{alive, on_entry}
 use denote.Triple.Call.{calls_at}
 use denote.Triple.Clauses.{lasts}
 use denote.Triple.Spec.{triple_of}
 use denote.Triple.Table.{framed}
 use denote.Triple.Walked.{Stays, says, stay_dropped, walk_of, ends_at, Goes-dropped, Goes-spent_ref}
-use denote.Param.Laws.{Laws, of_field, param_laws, row_shared}
-use denote.Param.Shared.{mut_ref_shared}
-use denote.Struct.Field.{mut_ref_field}
-use denote.Struct.Laws.{mut_ref_laws}
+use denote.Param.Laws.{Laws}
 use denote.Struct.Tuple.{Tuple, tuple_laws}
 use Rattle.std.proofs.option.Option.TheLaws.{the_row_laws as option_laws}
 use Rattle.std.specs.contracts.option.Option as option
@@ -51,7 +45,7 @@ use Rattle.prefix_trie_map.specs.contracts.map.visits.Visits.new as new
 use Rattle.prefix_trie_map.proofs.map.visits.Visits.new.Met.{met as new_met}
 use Rattle.prefix_trie_map.specs.contracts.map.PrefixMap.lend_entry as h
 use Rattle.prefix_trie_map.proofs.map.PrefixMap.lend_entry.Met.{met as h_met}
-use Rattle.prefix_trie_map.proofs.Made.{pair_of, pair_val}
+use Rattle.prefix_trie_map.proofs.Loans.{Lent, lent_laws, lends_local, local_back, pair_of, pair_val}
 use Rattle.prefix_trie_map.proofs.map.PrefixMap.get_mut_counted.Statement.{statement}
 use Rattle.prefix_trie_map.proofs.map.PrefixMap.get_mut_counted.Code as code
 
@@ -92,11 +86,9 @@ get_mut_counted_spec 𝓤 𝓛 𝓜 𝓡 wired P T A R lP lT lA lR cR p p' d d' 
     lands_as ! refl refl ok $ sets ! (of_opd ! (get ! refl)) refl ok $
     sets ! (addr ! (through ! refl (stop !))) refl (tt, tt) $
     sets ! (addr ! (from ! (stop !))) refl (tt, tt) $
-    -- the counter is lent
-    take_at ! 3 $ use2 𝓛 (‵ (part_at V full_share r (l 3) 0)) (part_in 𝓛 V refl full_share r (l 3) 0 v) $
-    lft_new ! tt (λ α. move ! (1 ∷ []) $
-    use1 𝓛 (later (some (λ (γ : GName). ‵ ((MutRef (named 2) (α ∷ []) V).own_val (record { ref_ptr = (l 3, 0); ghost_name = γ; now = r }) (vptr (l 3) 0 ∷ [])) ⊛ ‵ (flent (α ∷ []) (Body (mem V) (l 3) 0 γ)))))
-    (lends_ref 𝓛 V (named 2) (α ∷ []) r (l 3) 0) $ await ! tt $ pick ! (λ γ. split ! $
+    take_at ! 3 $ use2 𝓛 (later (some (λ (n : ℕ × GName). ‵ ((MutRef (named 2) (n.0 ∷ []) V).own_val (record { ref_ptr = (l 3, 0); ghost_name = n.1; now = r }) (vptr (l 3) 0 ∷ []))
+        ⊛ ‵ (flft (n.0 ∷ []) full_share) ⊛ ‵ (flent (n.0 ∷ []) (Body (mem V) (l 3) 0 n.1))))) (lends_local 𝓛 V refl (named 2) (l 3) r v) $
+    await ! tt $ pick ! (λ loan. let α = loan.0 in let γ = loan.1 in split ! $ move ! (1 ∷ []) $ split ! $ move ! (2 ∷ 1 ∷ []) $
     -- [the counter; its way back; its token; self; prefix; the tokens of self, of prefix, and of the type parameters; what is asked]
     let G = triple_of 𝓛 (h.signature P T A R p p' d d' k k' n n' e e' s s' w w' g g' xP xT xA) (h.spec P T A R p p' d d' k k' n n' e e' s s' w w' g g' xP xT xA 𝓛 𝓜.mem 𝓡.returns) in
     let counter : MutBor ℕ = record { ref_ptr = (l 3, 0); ghost_name = γ; now = r } in
@@ -106,9 +98,8 @@ get_mut_counted_spec 𝓤 𝓛 𝓜 𝓡 wired P T A R lP lT lA lR cR p p' d d' 
     move ! (0 ∷ 2 ∷ []) $ use2 𝓛 (raw (G.pre z)) (id⊢ 𝓤 _) $
     calls_at ! (framed 𝓤 𝓛.H 𝓜 𝓣) G (h_met 𝓤 𝓛 𝓜 𝓡 (code.calls-prefix_trie_map::map::PrefixMap::lend_entry 𝓡.env wired) P T A R lP lT lA lR cR p p' d d' k k' n n' e e' s s' w w' g g' xP xT xA mp md mk mn me ms mw mg gP gT gA) z
     (and_then ! (get ! refl) (and_then ! (get ! refl) (and_then ! (get ! refl) (no_more !)))) (λ u.
-    let Lent : RattleType = MutRef (named 0) κ (param 1 T) in let Found : RattleType = option.the_row Lent in
-    let lent : Laws Lent = of_field (mut_ref_field (record { mir = named 0; lft = κ }) (param 1 T) tt) (mut_ref_laws (record { mir = named 0; lft = κ }) (param 1 T) tt) refl (mut_ref_shared (record { mir = named 0; lft = κ }) (param 1 T) tt (row_shared (param 1 T) (param_laws 1 T lT))) in
-    let found_laws : Laws Found = option_laws Lent lent in
+    let Found : RattleType = option.the_row (Lent 1 T κ) in
+    let found_laws : Laws Found = option_laws (Lent 1 T κ) (lent_laws 1 T lT κ) in
     let path = p.path q.now in
     let Value : Option (MutBor T.Denot) → Type 0 = λ o. option_copied_mut o ≡ lookup m.now.entries path in
     let Exact : ℕ → Type 0 = λ j. j ≡ r + nodes_read m.now.nodes path in
@@ -117,11 +108,11 @@ get_mut_counted_spec 𝓤 𝓛 𝓜 𝓡 wired P T A R lP lT lA lR cR p p' d d' 
     use1 𝓛 (later (some (λ (o : Option (MutBor T.Denot)). ((‵ (flft κ qs.0) ⊛ ‵ (flft κs.1.0 qs.1.0) ⊛ ‵ (flft (α ∷ []) full_share) ⊛ others) ⊛ ‵ (Found.own_val o (u ∷ [])))
         ⊛ some (λ (es : Unit {0} × (Unit {0} × (ℕ × Unit {0}))). ‵ (lasts (h.ended P T A R p p' d d' k k' n n' e e' s s' w w' g g' xP xT xA) z.0.0 z.0.3 es)
         ⊛ ‵ (lends o) ⊛ raw (fact 𝓤 (Value o)) ⊛ raw (fact 𝓤 (Exact es.1.1.0)) ⊛ raw (fact 𝓤 (Bound es.1.1.0)))))) (id⊢ 𝓤 _) $
-    await ! tt $ pick ! (λ o. split ! $ split ! $ split ! $ move ! (1 ∷ []) $ split ! $ move ! (1 ∷ []) $ split ! $ lft_end ! tt $
-    -- [the loan is over; the tokens of the type parameters, of prefix and of self; the value lent; what is ensured; the counter's way back]
+    await ! tt $ pick ! (λ o. split ! $ split ! $ split ! $ move ! (1 ∷ []) $ split ! $ move ! (1 ∷ []) $ split ! $
+    -- [the counter's token; the tokens of the type parameters, of prefix and of self; the value lent; what is ensured; the counter's way back]
     move ! (5 ∷ []) $ pick ! (λ es. let j = es.1.1.0 in split ! $ fsplit ! $ drop ! $ fsplit ! $ drop ! $ fsplit ! $ fsplit ! $
-    move ! (4 ∷ 9 ∷ 0 ∷ []) $ use3 𝓛 (later (‵ (part_at V full_share j (l 3) 0))) (ref_back 𝓛 V (α ∷ []) γ j (l 3) 0) $ await ! tt $
-    use1 𝓛 (some (λ (x : Val). ‵ (fat full_share (lone V.mir) (l 3) 0 x) ⊛ ‵ (V.own_val j (x ∷ [])))) (part_out 𝓛 V refl full_share j (l 3) 0) $ pick ! (λ x. split ! $ give_at ! 3 $
+    move ! (4 ∷ 9 ∷ 0 ∷ []) $ use3 𝓛 (later (some (λ (x : Val). ‵ (fat full_share (lone V.mir) (l 3) 0 x) ⊛ ‵ (V.own_val j (x ∷ []))))) (local_back 𝓛 V refl (named 2) (l 3) α γ j) $
+    await ! tt $ pick ! (λ x. split ! $ give_at ! 3 $
     move ! (1 ∷ []) $ drop ! $ move ! (1 ∷ []) $ drop ! $ move ! (1 ∷ []) $ split ! $ move ! (1 ∷ []) $ split ! $ heard ! (Value o) (λ value. split ! $ heard ! (Exact j) (λ exact. heard ! (Bound j) (λ bound.
     -- [what self follows; the counter; the tokens of the type parameters, of prefix and of self; the value lent]
     let Pair : RattleType = Tuple (Found ∷ V ∷ []) in
@@ -139,4 +130,4 @@ get_mut_counted_spec 𝓤 𝓛 𝓜 𝓡 wired P T A R lP lT lA lR cR p p' d d' 
     nothing ! $ nothing ! $ fjoin ! $ nothing ! $ fjoin ! $ join ! $
     move ! (3 ∷ 2 ∷ []) $ join ! $ move ! (3 ∷ 0 ∷ []) $ join ! $ join ! $ frame ! $ frame ! $
     use0 𝓛 (raw (fact 𝓤 Bounded)) (fact_i 𝓤 Bounded (emp 𝓤) (omega (arith, none, bound))) $ use0 𝓛 (raw (fact 𝓤 Counted)) (fact_i 𝓤 Counted (emp 𝓤) (omega (arith, none, exact))) $
-    use0 𝓛 (raw (fact 𝓤 (Value o))) (fact_i 𝓤 (Value o) (emp 𝓤) value) $ done !)))))))))))))))))))
+    use0 𝓛 (raw (fact 𝓤 (Value o))) (fact_i 𝓤 (Value o) (emp 𝓤) value) $ done !))))))))))))))))))

@@ -1,0 +1,70 @@
+-- What walks cite: a local is lent for one call, a `&mut` in an `Option`, and a pair of two machine values. Assumes `Logic`.
+use mathlib.Core.Path.{refl}
+use mathlib.Core.List.{List, [], ◌∷◌}
+use Prim.Native.Nat.{ℕ}
+use seplogic.Ra.Ura.{Ura}
+use mir.Syntax.{named, Lifetime}
+use mir.Val.{Val, vptr, vstruct, vcons, vnil}
+use base.Fraction.{full_share}
+use base.Logic.{SProp, ent, ex, sep}
+use base.Fml.{GName, Lft, fat, flent, flft, fres}
+use types.Logic.{Logic, sem}
+use types.Kit.{‵, raw, ◌⊛◌, some, later, ◌$◌, ◌∵◌, !, qed, by, move, use1, use2, use3, await, pick, split, join, fjoin, fpack, feq_i, updating, now, show, done}
+use types.SemTy.{Body}
+use types.Tokens.{lft_new, lft_end}
+use borrow.Table.OneValue.{One, part_in, part_out}
+use denote.Lend.{lends_ref, ref_back}
+use denote.Memory.{lone, mem, part_at}
+use denote.Param.{param}
+use denote.Param.Laws.{Laws, of_field, param_laws, row_shared}
+use denote.Param.Shared.{mut_ref_shared}
+use denote.RattleType.{RattleType, Valss}
+use denote.Ref.{MutBor, MutRef, NamedLft}
+use denote.Steps.{nothing}
+use denote.Struct.Declared as struct
+use denote.Struct.Field.{mut_ref_field}
+use denote.Struct.Laws.{mut_ref_laws}
+use denote.Struct.Struct.{within}
+use denote.Struct.Tuple.{Tuple, tuple_type}
+
+module _ {M : Type 1} {𝓤 : Ura M} (𝓛 : Logic 𝓤) (R : RattleType) (one : One R) (ℓ : Lifetime) (b : ℕ) where
+  -- a new lifetime and the name of what is lent for it
+  abbrev Loan : R.Denot → ℕ × GName → SProp 𝓤
+  Loan x n =
+      sep 𝓤 (sem 𝓛 ((MutRef ℓ (n.0 ∷ []) R).own_val (record { ref_ptr = (b, 0); ghost_name = n.1; now = x }) (vptr b 0 ∷ [])))
+      (sep 𝓤 (𝓛.A.lft (n.0 ∷ []) full_share) (𝓛.A.lent (n.0 ∷ []) (Body (mem R) b 0 n.1)))
+
+  pub lends_local : (x : R.Denot) (v : Val) → ent 𝓤 (sep 𝓤 (𝓛.H.at full_share (lone R.mir) b 0 v) (sem 𝓛 (R.own_val x (v ∷ [])))) (𝓛.H.⇛ (ex 𝓤 (Loan x)))
+  lends_local x v =
+      qed 𝓛 (‵ (fat full_share (lone R.mir) b 0 v) ∷ ‵ (R.own_val x (v ∷ [])) ∷ []) ∵ updating ! $
+      use2 𝓛 (‵ (part_at R full_share x b 0)) (part_in 𝓛 R one full_share x b 0 v) $ lft_new ! tt (λ α. move ! (1 ∷ []) $
+      use1 𝓛 (later (some (λ (γ : GName). ‵ ((MutRef ℓ (α ∷ []) R).own_val (record { ref_ptr = (b, 0); ghost_name = γ; now = x }) (vptr b 0 ∷ [])) ⊛ ‵ (flent (α ∷ []) (Body (mem R) b 0 γ)))))
+      (lends_ref 𝓛 R ℓ (α ∷ []) x b 0) $ await ! tt $ pick ! (λ γ. split ! $ now ! $ show ! (Loan x) (α, γ) $ move ! (0 ∷ 2 ∷ 1 ∷ []) $ done !))
+
+  abbrev Back : R.Denot → Val → SProp 𝓤
+  Back x v = sep 𝓤 (𝓛.H.at full_share (lone R.mir) b 0 v) (sem 𝓛 (R.own_val x (v ∷ [])))
+
+  pub local_back : (α : ℕ) (γ : GName) (x : R.Denot)
+      → ent 𝓤 (sep 𝓤 (𝓛.A.lft (α ∷ []) full_share) (sep 𝓤 (𝓛.A.lent (α ∷ []) (Body (mem R) b 0 γ)) (𝓛.A.res γ (R.coded.code x)))) (𝓛.H.⇛ (ex 𝓤 (Back x)))
+  local_back α γ x =
+      qed 𝓛 (‵ (flft (α ∷ []) full_share) ∷ ‵ (flent (α ∷ []) (Body (mem R) b 0 γ)) ∷ ‵ (fres γ (R.coded.code x)) ∷ []) ∵ updating ! $ lft_end ! tt $
+      use3 𝓛 (later (‵ (part_at R full_share x b 0))) (ref_back 𝓛 R (α ∷ []) γ x b 0) $ await ! tt $
+      use1 𝓛 (some (λ (v : Val). ‵ (fat full_share (lone R.mir) b 0 v) ⊛ ‵ (R.own_val x (v ∷ [])))) (part_out 𝓛 R one full_share x b 0) $ pick ! (λ v. split ! $ now ! $ show ! (Back x) v $ done !)
+
+-- a `&mut` to a value of the type parameter i
+abbrev pub Lent : (i : ℕ) → RattleType → Lft → RattleType
+Lent i T κ = MutRef (named 0) κ (param i T)
+
+pub lent_laws : (i : ℕ) (T : RattleType) → Laws T → (κ : Lft) → Laws (Lent i T κ)
+lent_laws i T L κ =
+    let name : NamedLft = record { mir = named 0; lft = κ } in
+    of_field (mut_ref_field name (param i T) tt) (mut_ref_laws name (param i T) tt) refl (mut_ref_shared name (param i T) tt (row_shared (param i T) (param_laws i T L)))
+
+abbrev pub pair_val : Val → Val → Val
+pair_val u v = vstruct (vcons u (vcons v vnil))
+
+pub pair_of : {M : Type 1} {𝓤 : Ura M} (𝓛 : Logic 𝓤) (R S : RattleType) (x : R.Denot) (y : S.Denot) (u v : Val)
+    → ent 𝓤 (sep 𝓤 (sem 𝓛 (R.own_val x (u ∷ []))) (sem 𝓛 (S.own_val y (v ∷ [])))) (sem 𝓛 ((Tuple (R ∷ S ∷ [])).own_val (x, y) (pair_val u v ∷ [])))
+pair_of 𝓛 R S x y u v =
+    qed 𝓛 (‵ (R.own_val x (u ∷ [])) ∷ ‵ (S.own_val y (v ∷ [])) ∷ []) ∵ nothing ! $ move ! (2 ∷ 0 ∷ []) $ fjoin ! $ move ! (1 ∷ 0 ∷ []) $ fjoin ! $ feq_i ! (List Val) (pair_val u v ∷ []) (pair_val u v ∷ []) refl $ fjoin ! $
+    fpack ! (Valss (R ∷ S ∷ [])) (within (struct.shape (tuple_type (R ∷ S ∷ []))) (x, (y, tt)) (pair_val u v ∷ [])) (u ∷ [], (v ∷ [], tt)) $ done !
