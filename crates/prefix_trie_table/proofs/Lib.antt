@@ -52,4 +52,5 @@ pub mod Seen
 pub mod Placed
 pub mod Lowered
 pub mod Rooted
+pub mod Copies
 pub mod Copying

@@ -15,3 +15,4 @@ pub mod Covers
 pub mod TableLending
 pub mod Removals
 pub mod Retaining
+pub mod Copies
