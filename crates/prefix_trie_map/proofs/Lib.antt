@@ -6,3 +6,4 @@ pub mod Runs
 pub mod Lending
 pub mod Removals
 pub mod Retained
+pub mod Copying

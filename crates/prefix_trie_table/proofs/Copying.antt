@@ -47,7 +47,8 @@ module _ {T : Type 0} where
           let l = length_all_zip R xs ys z in
           subst (λ o. IsCloned C o (get_or ys i None)) (sym (get_or_past xs i None past)) (get_or_past ys i None (omega arith))
 
-  cloned_there : (C : T → T → Type 0) (x y : Option T) → IsCloned C x y → is_some y ≡ is_some x
+  -- a clone is there where its source is
+  pub cloned_there : (C : T → T → Type 0) (x y : Option T) → IsCloned C x y → is_some y ≡ is_some x
   cloned_there C None y h = ap is_some h
   cloned_there C (Some x) None h = absurd h
   cloned_there C (Some x) (Some y) h = refl
