@@ -67,21 +67,42 @@ fn a_copy_has_the_free_blocks(rt: HostRuntime) -> Result<(), Fail> {
     Ok(())
 }
 
+type Named<'a> = PrefixMap<(u32, u8), String<&'a Refusing<Global>>, &'a Refusing<Global>>;
+
+/// Two names, whose copies ask for memory too.
+fn named<'a>(heap: &'a Refusing<Global>) -> Result<Named<'a>, Fail> {
+    let mut map = PrefixMap::new(heap)?;
+    for (len, name) in [(8, "outer"), (16, "inner")] {
+        let text = String::from_str(heap, name)?;
+        if map.insert((0x0a01_0000, len), text).is_err() {
+            return Err(Fail::new("an insertion"));
+        }
+    }
+    Ok(map)
+}
+
+fn has_names(map: &Named<'_>) -> bool {
+    map.len() == 2
+        && map.get(&(0x0a01_0000, 8)).map(|text| text.as_str()) == Some("outer")
+        && map.get(&(0x0a01_0000, 16)).map(|text| text.as_str()) == Some("inner")
+}
+
 #[test]
 fn each_request_of_a_copy_refused(rt: HostRuntime) -> Result<(), Fail> {
     let heap = Refusing::new(rt.alloc());
-    let map = stored(&heap)?;
+    let map = named(&heap)?;
     let (nodes, cells) = (map.node_slots(), map.cell_slots());
     let mut refusals = 0;
     for passed in 0..MANY {
         heap.refuse(passed, 1);
         let answer = map.clone();
         heap.refuse(0, 0);
-        assert!(rt; has_two(&map), "at {passed}");
+        assert!(rt; has_names(&map), "at {passed}");
         assert_eq!(rt; (map.node_slots(), map.cell_slots()), (nodes, cells));
         match answer {
             Ok(copy) => {
-                assert!(rt; has_two(&copy));
+                assert!(rt; has_names(&copy));
+                assert_eq!(rt; (copy.node_slots(), copy.cell_slots()), (nodes, cells));
                 break;
             }
             Err(AllocError) => refusals = passed + 1,

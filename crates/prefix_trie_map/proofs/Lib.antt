@@ -7,3 +7,4 @@ pub mod Lending
 pub mod Removals
 pub mod Retained
 pub mod Loans
+pub mod Copying

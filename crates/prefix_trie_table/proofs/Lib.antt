@@ -63,5 +63,6 @@ pub mod Placed
 pub mod Lowered
 pub mod Rooted
 pub mod Emptied
+pub mod Copies
 pub mod Copying
 pub mod PartTaken

@@ -19,3 +19,4 @@ pub mod TableLending
 pub mod Settling
 pub mod Removals
 pub mod Retaining
+pub mod Copies

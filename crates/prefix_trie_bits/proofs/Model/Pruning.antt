@@ -130,7 +130,7 @@ module _ {T : Type 0} where
       longer (a ∷ s) (b ∷ t) l e = refl
 
   -- fewer keys need nay more
-  needed_fewer : (m left : Entries T) → ((k : List Bool) → contains_key left k ≡ true → contains_key m k ≡ true) → (s : List Bool) → has_node (needed left) s ≡ true → has_node (needed m) s ≡ true
+  pub needed_fewer : (m left : Entries T) → ((k : List Bool) → contains_key left k ≡ true → contains_key m k ≡ true) → (s : List Bool) → has_node (needed left) s ≡ true → has_node (needed m) s ≡ true
   needed_fewer m left fewer s e =
       elim (needed_for left s e) [
         | inl root ↦ subst (λ x. has_node (needed m) x ≡ true) (sym root) (needs_root m)

@@ -1,5 +1,6 @@
 //! A copy of a map.
 ghost use Rattle.std.specs.Prelude.{◌≡◌, IfOk};
+ghost use Rattle.prefix_trie_table.specs.Copies.{AreCloned};
 
 use crate::map::PrefixMap;
 use prefix_trie_bits::prefix::Prefix;
@@ -7,8 +8,8 @@ use std::alloc::{AllocError, Allocator};
 use std::marker::PhantomData;
 
 impl<P: Prefix, T: Clone, A: Allocator + Clone> PrefixMap<P, T, A> {
-    /// A map with the same entries and nodes, in memory of its own. Refused only where memory is, for the arrays or for a
-    /// value; then no copy exists.
+    /// A map with the same keys and nodes, whose values are clones, in memory of its own. Refused only where memory is, for
+    /// the arrays or for a value; then no copy exists.
     ///
     /// It copies slot by slot, free ones too: both arrays are as long as those of this map, with the same blocks and the
     /// same limit. Each value is cloned once, and all memory for the arrays is asked for before the first one is.
@@ -20,8 +21,13 @@ impl<P: Prefix, T: Clone, A: Allocator + Clone> PrefixMap<P, T, A> {
     /// map.get(&(0x0a010000_u32, 16_u8))            Some(&1), since it shares nothing with its copy
     /// ```
     pub fn clone(&self) -> Result<Self, AllocError>
-        requires clones { (x y : T) → T.is_clone x y → y ≡ x }
-        ensures same { IfOk result (λ copy. copy ≡ self.now) }
+        ensures entries { IfOk result (λ copy. AreCloned T.is_clone self.now.entries copy.entries) }
+        ensures nodes { IfOk result (λ copy. copy.nodes ≡ self.now.nodes) }
+        ensures room { IfOk result (λ copy. copy.room ≡ self.now.room) }
+        ensures layout { IfOk result (λ copy. copy.layout ≡ self.now.layout) }
+
+        // Where a clone of a value equals it, contracts see the same map.
+        ensures same { IfOk result (λ copy. ((x y : T) → T.is_clone x y → y ≡ x) → copy ≡ self.now) }
     {
         Ok(PrefixMap {
             table: self.table.clone()?,

@@ -1,16 +1,20 @@
 //! A copy of a table.
 ghost use Rattle.std.specs.Prelude.{◌≡◌, IfOk};
+ghost use Rattle.prefix_trie_table.specs.Copies.{AreCloned};
 
 use crate::allocator::nodes::Tick;
 use crate::table::Table;
 use std::alloc::{AllocError, Allocator};
 
 impl<T: Clone, A: Allocator + Clone, V: Tick> Table<T, A, V> {
-    /// A table with the same entries and nodes, in the same blocks, in memory of its own. All of that is asked for before
-    /// the first value is cloned. Refused only where memory is, for the arrays or for a value.
+    /// A table with the same keys and nodes, in the same blocks, whose values are clones, in memory of its own. All of that
+    /// is asked for before the first value is cloned. Refused only where memory is, for the arrays or for a value.
     pub fn clone(&self) -> Result<Self, AllocError>
-        requires clones { (x y : T) → T.is_clone x y → y ≡ x }
-        ensures same { IfOk result (λ copy. copy ≡ self.now) }
+        ensures entries { IfOk result (λ copy. AreCloned T.is_clone self.now.entries copy.entries) }
+        ensures nodes { IfOk result (λ copy. copy.nodes ≡ self.now.nodes) }
+        ensures room { IfOk result (λ copy. copy.room ≡ self.now.room) }
+        ensures layout { IfOk result (λ copy. copy.layout ≡ self.now.layout) }
+        ensures same { IfOk result (λ copy. ((x y : T) → T.is_clone x y → y ≡ x) → copy ≡ self.now) }
     {
         let nodes = self.nodes.clone()?;
         let cells = self.cells.clone()?;

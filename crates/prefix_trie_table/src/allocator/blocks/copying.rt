@@ -1,5 +1,6 @@
 //! A copy of an array with its blocks.
 ghost use Rattle.std.specs.Prelude.{◌≡◌, IfOk};
+ghost use Rattle.std.specs.List.{AllZip};
 
 use crate::allocator::blocks::Blocks;
 use crate::allocator::slots::Slot;
@@ -9,6 +10,8 @@ impl<S: Slot + Clone, A: Allocator + Clone> Blocks<S, A> {
     /// An array with the same blocks, used and free, in memory of its own. All of that is asked for before the first value
     /// is cloned. Refused only where memory is, for the array or for a value.
     pub fn clone(&self) -> Result<Self, AllocError>
+        ensures slots { IfOk result (λ copy. AllZip S.is_clone self.now.slots copy.slots) }
+        ensures rest { IfOk result (λ copy. copy ≡ record self.now { slots = copy.slots }) }
         ensures same { IfOk result (λ copy. ((x y : S) → S.is_clone x y → y ≡ x) → copy ≡ self.now) }
     {
         let lists = Vec::from_clones(self.lists.allocator().clone()?, &self.lists)?;

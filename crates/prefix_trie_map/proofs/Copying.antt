@@ -1,0 +1,26 @@
+-- The copy of a map.
+use Rattle.std.proofs.Common.{◌≡◌, ℕ, true, List, Bool, sym, ◌∙◌, subst}
+use Rattle.std.specs.FinMap.{get, contains_key}
+use Rattle.prefix_trie_bits.specs.Model.Nodes.{Nodes, AreNodes}
+use Rattle.prefix_trie_bits.specs.Model.Step.{State}
+use Rattle.prefix_trie_bits.specs.Laws.Steps.{IsMap}
+use Rattle.prefix_trie_bits.proofs.Model.Pruning.{needed_fewer}
+use Rattle.prefix_trie_table.specs.Copies.{AreCloned}
+use Rattle.prefix_trie_table.proofs.Copying.{cloned_there}
+
+-- the copy of a map, with the same keys and nodes, is a map
+pub IsMap-copied : {T : Type 0} (C : T → T → Type 0) (width : ℕ) (s copy : State T) → AreCloned C s.entries copy.entries → copy.nodes ≡ s.nodes →
+    IsMap width s → IsMap width copy
+IsMap-copied C width s copy cloned nodes good = record {
+  keys_within = λ k h. good.keys_within k (stored k h);
+  are_nodes = subst (λ (n : Nodes). AreNodes width copy.entries n) (sym nodes) (record {
+    within = good.are_nodes.within;
+    depths = good.are_nodes.depths;
+    rooted = good.are_nodes.rooted;
+    closed = good.are_nodes.closed;
+    hold_needed = λ q h. good.are_nodes.hold_needed q (needed_fewer s.entries copy.entries stored q h);
+  });
+}
+  where
+    stored : (k : List Bool) → contains_key copy.entries k ≡ true → contains_key s.entries k ≡ true
+    stored k h = sym (cloned_there C (get s.entries k) (get copy.entries k) (cloned k)) ∙ h

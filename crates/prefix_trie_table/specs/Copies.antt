@@ -1,0 +1,13 @@
+-- What the copy of a map has.
+use Rattle.std.specs.Prelude.{◌≡◌, Bool, List, Option, None, MatchOption, IsSomeAnd}
+use Rattle.std.specs.FinMap.{get}
+use Rattle.prefix_trie_bits.specs.Model.Entries.{Entries}
+
+module _ {T : Type 0} where
+  -- the second is a clone of the first, where there is one, and missing where there is none
+  abbrev pub IsCloned : (T → T → Type 0) → Option T → Option T → Type 0
+  IsCloned is_clone x y = MatchOption x (y ≡ None) (λ v. IsSomeAnd y (is_clone v))
+
+  -- the keys are the same, and the value at each is a clone
+  abbrev pub AreCloned : (T → T → Type 0) → Entries T → Entries T → Type 0
+  AreCloned is_clone m copy = (q : List Bool) → IsCloned is_clone (get m q) (get copy q)
