@@ -14,5 +14,6 @@ pub mod Plain
 pub mod Played
 pub mod WorkedRows
 pub mod WorkedFacts
+pub mod Runs
 pub mod Steps
 pub mod Askings

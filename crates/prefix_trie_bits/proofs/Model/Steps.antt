@@ -1,6 +1,5 @@
 -- What every step of the model keeps.
-use Rattle.std.proofs.Common.{◌≡◌, ◌≢◌, ◌<◌, map, take, get_or, ℕ, ◌+◌, ◌≤◌, Bool, true, false, cond, not, List, [], ◌∷◌, ◌++◌, length, Some, None, is_some, refl, sym, ap, ◌∙◌, subst, inl, inr, true≢false, nat_le}
-use Rattle.std.proofs.lemmas.List.{take_more, map-append}
+use Rattle.std.proofs.Common.{◌≡◌, ◌≢◌, ℕ, ◌≤◌, Bool, true, false, cond, not, List, [], ◌∷◌, length, Some, None, is_some, refl, sym, ap, ◌∙◌, subst, inl, inr, true≢false, nat_le}
 use Rattle.std.proofs.lemmas.List.Elements.{All-head, All-tail}
 use Rattle.std.specs.List.{All}
 use Rattle.std.specs.FinMap.{get, contains_key, get-empty}
@@ -10,6 +9,7 @@ use Rattle.prefix_trie_bits.specs.Model.Entries.{Entries, AreWithin, no_entries,
 use Rattle.prefix_trie_bits.specs.Model.Nodes.{Nodes, with_needed, needed, AreNodes, IsTidy, nodes_without}
 use Rattle.prefix_trie_bits.specs.Model.Step.{State, Call, Insert, Get, Lpm, Spm, Remove, RemoveKeepTree, RemoveChildren, RetainAtLeast, Clear, Len, NodeCount, AddressCount, ListAll, ListFrom, Children, Cover, CallFits, Reply, Value, Match, Done, Count, Addresses, Items, Refused, Refusal, Lists, Step, Run}
 use Rattle.prefix_trie_bits.specs.Laws.Steps.{IsMap, StepKeeps, StepLaws, touches}
+use Rattle.prefix_trie_bits.proofs.Model.Runs.{runs_join}
 use Rattle.prefix_trie_bits.proofs.Model.Members.{and-second, same_string-is, has-retained, get-with_entry, get-without_entry, get-without_below, get-part_at_least, same_entries}
 use Rattle.prefix_trie_bits.proofs.Model.Pruning.{remove_law, remove_children_law, removed_fewer, below_fewer}
 use Rattle.prefix_trie_bits.proofs.Model.NodeSets.{key_cases, needed_insert, needed_stored, AreNodes-with_entry, AreNodes-stored, AreNodes-without_entry, AreNodes-no_entries, AreNodes-needed, tidy-no_entries}
@@ -126,12 +126,6 @@ module _ {P T : Type 0} (path : P → List Bool) (back : List Bool → P) (width
   refused_as_before s (Children q) cause t l = l.1
   refused_as_before s (Cover q) cause t l = l.1
 
-  pub runs_join : (s t u : State T) (calls more : List (Call P T)) (replies rest : List (Reply P T)) → Run path back width s calls replies t → Run path back width t more rest u → Run path back width s (calls ++ more) (replies ++ rest) u
-  runs_join s t u [] more replies rest (none, e) ran =
-      subst (λ rs. Run path back width s more (rs ++ rest) u) (sym none) (subst (λ x. Run path back width x more rest u) e ran)
-  runs_join s t u (c ∷ cs) more replies rest (reply, later, mid, e, step, ran) more_ran =
-      (reply, later ++ rest, mid, ap (λ rs. rs ++ rest) e, step, runs_join mid t u cs more later rest ran more_ran)
-
 from-no : (b : Bool) → not b ≡ false → b ≡ true
 from-no true e = refl
 from-no false e = absurd (true≢false e)
@@ -164,20 +158,6 @@ module _ {P T : Type 0} (path : P → List Bool) (back : List Bool → P) (width
   untouched s (ListFrom q inclusive) reply t k away l = still s t k l.1
   untouched s (Children q) reply t k away l = still s t k l.1
   untouched s (Cover q) reply t k away l = still s t k l.1
-
-  -- a run and one step more, as at a turn of a loop
-  pub run_push : {C R : Type 0} (call_of : C → Call P T) (reply_of : R → Reply P T) (s t u : State T) (calls : List C) (replies pushed : List R) (i : ℕ) (call : C) (reply : R)
-      → i < length calls → call ≡ get_or calls i call → pushed ≡ replies ++ reply ∷ []
-      → Run path back width s (map call_of (take i calls)) (map reply_of replies) t → Step path back width t (call_of call) (reply_of reply) u
-      → Run path back width s (map call_of (take (i + 1) calls)) (map reply_of pushed) u
-  run_push call_of reply_of s t u calls replies pushed i call reply short is more ran step =
-      let calls_now : map call_of (take (i + 1) calls) ≡ map call_of (take i calls) ++ call_of call ∷ [] =
-      ap (map call_of) (take_more calls i call short) ∙ map-append call_of (take i calls) (get_or calls i call ∷ []) ∙ ap (λ x. map call_of (take i calls) ++ call_of x ∷ []) (sym is) in
-      let replies_now : map reply_of pushed ≡ map reply_of replies ++ reply_of reply ∷ [] =
-      ap (map reply_of) more ∙ map-append reply_of replies (reply ∷ []) in
-      subst (λ cs. Run path back width s cs (map reply_of pushed) u) (sym calls_now)
-      (subst (λ rs. Run path back width s (map call_of (take i calls) ++ call_of call ∷ []) rs u) (sym replies_now)
-      (runs_join path back width s t u (map call_of (take i calls)) (call_of call ∷ []) (map reply_of replies) (reply_of reply ∷ []) ran (reply_of reply, [], u, refl, step, (refl, refl))))
 
 module _ {T : Type 0} where
   undone : (b : Bool) (m : Entries T) (s q : List Bool) (v : T) → same_string q s ≡ b → get m s ≡ None → cond b None (cond b (Some v) (get m q)) ≡ get m q
@@ -220,6 +200,6 @@ step_laws P T = record {
   of_step = keeps;
   run_stays_map = run_stays_map;
   run_stays_tidy = run_stays_tidy;
-  runs_join = runs_join;
+  runs_join = λ path back width. runs_join (Step path back width);
   set_and_removed = set_and_removed;
 }
