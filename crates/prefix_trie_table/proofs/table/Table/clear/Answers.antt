@@ -1,4 +1,4 @@
-use Rattle.std.proofs.Common.{◌≤◌, length, [], ◌∷◌, Option, ap, sym, subst, arith}
+use Rattle.std.proofs.Common.{[], ◌∷◌, Option, ap, sym, subst, arith}
 use Rattle.prefix_trie_bits.specs.Model.Step.{State}
 use Rattle.prefix_trie_table.specs.Tables.{IsTableOf}
 use Rattle.prefix_trie_table.proofs.Clearing.{under_limit, root_slot}
@@ -52,7 +52,6 @@ returns-clause-layout g c =
 
 pub returns-clause-limit : goal.returns-clause-limit
 returns-clause-limit g c =
-    let some : 1 ≤ c.self.inside.nodes.limit = let r = root_slot c.self.inside.nodes c.self.inside.cells c.self.invariant.held.table in let h = c.self.invariant.nodes_within in omega (arith, r, h) in (
-      subst (λ (x : Store Node). length x.slots ≤ x.limit) (sym c.clear_entries.ensures.nodes) some,
-      subst (λ (x : Store (Option g.row.T.Denot)). length x.slots ≤ c.clear_entries.new.nodes.limit) (sym c.clear_entries.ensures.cells) (omega arith),
-    )
+    let t : IsTableOf c.clear_entries.new.nodes c.clear_entries.new.cells c.clear_entries.new.entries c.self-1.given.0.0 = invariant_of-self g c in
+    let cells = t.cells_within in
+    let one = t.one_limit in (t.nodes_within, omega (arith, cells, one))
