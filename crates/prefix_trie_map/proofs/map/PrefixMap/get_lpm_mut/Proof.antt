@@ -1,15 +1,14 @@
 -- `get_lpm_mut` lends what `get_lpm_mut_counted` lends. Assumes `Logic`.
-use Rattle.std.proofs.Common.{◌≡◌, ℕ, ◌+◌, ◌/◌, ◌≤◌, length, MatchOption, None, Some, Option, List, [], ◌∷◌, refl, sym, subst, MutBor}
+use Rattle.std.proofs.Common.{◌≡◌, ℕ, ◌+◌, ◌/◌, ◌≤◌, length, MatchOption, None, Some, Option, [], ◌∷◌, refl, sym, subst, MutBor}
 use Rattle.std.proofs.raw_atomic.Walks.{proved}
 use mir.Syntax.{Args, named, a_type, dcons, dnil}
-use mir.Val.{Val}
 use mir.MapTy.{inst_fn}
 use base.Logic.{emp, id⊢}
 use base.Fml.{Fml, ftrue, flft}
 use contract.BorrowLft.{◌⊑◌}
 use contract.Monad.{fact, fact_i}
 use contract.Running.{tables}
-use types.Kit.{‵, raw, ◌⊛◌, some, later, ◌$◌, ◌∵◌, !, qed, done, move, keep, drop, use0, use1, use2, split, join, fjoin, pick, await, rewrite, suffices, frame}
+use types.Kit.{‵, raw, ◌⊛◌, some, later, ◌$◌, ◌∵◌, !, qed, done, move, drop, use0, use1, use2, split, join, fjoin, pick, await, rewrite, suffices, frame}
 use types.Run.{enter, addr, stop, no_more, and_then, returns}
 use types.ByLocal.{alloc_all, pass_all, free_all, look_at, get, through, sets, lands_as}
 use denote.Param.{param, copied, bounded}

@@ -1,12 +1,12 @@
 -- `get_lpm_mut_counted` lends what `lend_longest` lends, beside its prefix. Assumes `Logic`.
-use Rattle.std.proofs.Common.{◌≡◌, ℕ, ◌+◌, ◌/◌, ◌≤◌, length, take, w32, lit<, MatchOption, IfSome, None, Some, Option, List, [], ◌∷◌, refl, sym, ap, MutBor, arith}
+use Rattle.std.proofs.Common.{◌≡◌, ℕ, ◌+◌, ◌/◌, ◌≤◌, length, take, w32, lit<, MatchOption, IfSome, None, Some, Option, [], ◌∷◌, refl, sym, MutBor, arith}
 use Rattle.std.proofs.raw_atomic.Walks.{proved}
 use mir.Syntax.{Args, named, a_type, dcons, dnil}
 use mir.Val.{Val, vint, vptr}
 use mir.MapTy.{inst_fn}
 use base.Fraction.{full_share}
-use base.Logic.{SProp, ent, emp, id⊢}
-use base.Fml.{Fml, GName, ftrue, fat, flft, fres, flent}
+use base.Logic.{ent, emp, id⊢}
+use base.Fml.{Fml, GName, ftrue, fat, flft, flent}
 use contract.BorrowLft.{◌⊑◌}
 use contract.Monad.{fact, fact_i}
 use contract.Running.{tables}

@@ -1,34 +1,32 @@
 -- `get_mut_counted` lends what `lend_entry` lends. Assumes `Logic`.
-use Rattle.std.proofs.Common.{◌≡◌, ℕ, ◌+◌, ◌/◌, ◌≤◌, length, Option, List, [], ◌∷◌, refl, ap, MutBor, arith}
+use Rattle.std.proofs.Common.{◌≡◌, ℕ, ◌+◌, ◌/◌, ◌≤◌, length, Option, [], ◌∷◌, refl, MutBor, arith}
 use Rattle.std.proofs.raw_atomic.Walks.{proved}
 use mir.Syntax.{Args, named, a_type, dcons, dnil}
 use mir.Val.{Val, vptr}
 use mir.MapTy.{inst_fn}
 use base.Fraction.{full_share}
 use base.Logic.{emp, id⊢}
-use base.Fml.{Fml, GName, ftrue, fat, flft, fres, flent}
-use contract.BorrowLft.{◌⊑◌}
+use base.Fml.{Fml, GName, ftrue, fat, flft, flent}
 use contract.Monad.{fact, fact_i}
 use contract.Running.{tables}
-use types.Kit.{‵, raw, ◌⊛◌, some, later, ◌$◌, ◌∵◌, !, qed, done, move, keep, drop, use0, use1, use2, use3, split, join, fsplit, fjoin, feq_i, pick, await, suffices, frame}
+use types.Kit.{‵, raw, ◌⊛◌, some, later, ◌$◌, ◌∵◌, !, qed, done, move, keep, drop, use0, use1, use2, use3, split, join, fsplit, fjoin, pick, await, suffices, frame}
 use types.Run.{enter, of_opd, addr, from, stop, no_more, and_then, returns}
 use types.ByLocal.{alloc_all, pass_all, free_all, look_at, get, through, sets, lands_as, take_at, give_at}
 use types.Part.{agg}
 use denote.Param.{param, copied, bounded}
 use denote.Exit.{yes, no}
-use denote.RattleType.{RattleType, owns}
+use denote.RattleType.{RattleType}
 use denote.Ref.{MutRef, ShrRef, mut_vals, mut_Tells, shr_vals, shr_Tells}
-use denote.Signature.{plain, mut_ref_to, shr_ref_to, types_at}
+use denote.Signature.{plain, mut_ref_to, shr_ref_to}
 use denote.Steps.{nothing, heard, peeks}
 use denote.Laws.{shows}
 use denote.Memory.{lone, mem}
 use types.SemTy.{Body}
-use denote.Triple.Entry.{alive, on_entry}
 use denote.Triple.Call.{calls_at}
 use denote.Triple.Clauses.{lasts}
 use denote.Triple.Spec.{triple_of}
 use denote.Triple.Table.{framed}
-use denote.Triple.Walked.{Stays, says, stay_dropped, walk_of, ends_at, Goes-dropped, Goes-spent_ref}
+use denote.Triple.Walked.{Stays, stay_dropped, walk_of, ends_at, Goes-dropped, Goes-spent_ref}
 use denote.Param.Laws.{Laws}
 use denote.Struct.Tuple.{Tuple, tuple_laws}
 use Rattle.std.proofs.option.Option.TheLaws.{the_row_laws as option_laws}

@@ -1,6 +1,5 @@
 use borrow.Follows.Closed.{read_of}
-use Rattle.std.proofs.Common.{rules, ◌≡◌, ℕ, ◌+◌, ◌≤◌, List, Bool, Option, Some, None, take, MatchOption, IfSome, refl, subst, arith}
-use Rattle.std.specs.Borrow.{MutBor}
+use Rattle.std.proofs.Common.{rules, ◌≡◌, ◌+◌, ◌≤◌, List, Bool, Some, None, take, MatchOption, IfSome, refl, subst, arith}
 use Rattle.std.specs.Option.{ghost_name_of}
 use Rattle.prefix_trie_bits.specs.Laws.Steps.{IsMap}
 use Rattle.prefix_trie_bits.specs.Model.Entries.{Entries}
