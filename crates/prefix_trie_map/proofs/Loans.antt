@@ -9,7 +9,7 @@ use base.Fraction.{full_share}
 use base.Logic.{SProp, ent, ex, sep}
 use base.Fml.{GName, Lft, fat, flent, flft, fres}
 use types.Logic.{Logic, sem}
-use types.Kit.{‵, raw, ◌⊛◌, some, later, ◌$◌, ◌∵◌, !, qed, by, move, use1, use2, use3, await, pick, split, join, fjoin, fpack, feq_i, updating, now, show, done}
+use types.Kit.{‵, ◌⊛◌, some, later, ◌$◌, ◌∵◌, !, qed, move, use1, use2, use3, await, pick, split, fjoin, fpack, feq_i, updating, now, show, done}
 use types.SemTy.{Body}
 use types.Tokens.{lft_new, lft_end}
 use borrow.Table.OneValue.{One, part_in, part_out}
@@ -19,7 +19,7 @@ use denote.Param.{param}
 use denote.Param.Laws.{Laws, of_field, param_laws, row_shared}
 use denote.Param.Shared.{mut_ref_shared}
 use denote.RattleType.{RattleType, Valss}
-use denote.Ref.{MutBor, MutRef, NamedLft}
+use denote.Ref.{MutRef, NamedLft}
 use denote.Steps.{nothing}
 use denote.Struct.Declared as struct
 use denote.Struct.Field.{mut_ref_field}

@@ -102,12 +102,7 @@ impl<P: Prefix, T: Drop, A: Allocator> PrefixMap<P, T, A> {
     // The answer of `get_lpm_value_mut`. The length of its prefix goes into `found`, and the nodes that it reads are added to a
     // counter.
     #[inline]
-    fn lend_longest(
-        &mut self,
-        prefix: &P,
-        found: &mut u32,
-        counter: &mut Visits,
-    ) -> Option<&mut T>
+    fn lend_longest(&mut self, prefix: &P, found: &mut u32, counter: &mut Visits) -> Option<&mut T>
         requires { P.IsFitting prefix.now }
         ensures* writes_back { sem 𝓛 (lends_longest_if P.row T.row A.row P.R.row P.Prefix.own P.Debug P.R.Key.own P.R.PartialEq P.R.Debug A.Allocator self.entry (P.path prefix.now) result) }
         ensures value { MatchOption result

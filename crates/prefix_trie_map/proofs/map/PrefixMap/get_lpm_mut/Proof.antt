@@ -1,15 +1,14 @@
 -- `get_lpm_mut` lends what `get_lpm_mut_counted` lends. Assumes `Logic`.
-use Rattle.std.proofs.Common.{◌≡◌, ℕ, ◌+◌, ◌/◌, ◌≤◌, length, MatchOption, None, Some, Option, List, [], ◌∷◌, refl, sym, subst, MutBor}
+use Rattle.std.proofs.Common.{◌≡◌, ℕ, ◌+◌, ◌/◌, ◌≤◌, length, MatchOption, None, Some, Option, [], ◌∷◌, refl, sym, subst, MutBor}
 use Rattle.std.proofs.raw_atomic.Walks.{proved}
 use mir.Syntax.{Args, named, a_type, dcons, dnil}
-use mir.Val.{Val}
 use mir.MapTy.{inst_fn}
 use base.Logic.{emp, id⊢}
 use base.Fml.{Fml, ftrue, flft}
 use contract.BorrowLft.{◌⊑◌}
 use contract.Monad.{fact, fact_i}
 use contract.Running.{tables}
-use types.Kit.{‵, raw, ◌⊛◌, some, later, ◌$◌, ◌∵◌, !, qed, done, move, keep, drop, use0, use1, use2, split, join, fjoin, pick, await, rewrite, suffices, frame}
+use types.Kit.{‵, raw, ◌⊛◌, some, later, ◌$◌, ◌∵◌, !, qed, done, move, drop, use0, use1, use2, split, join, fjoin, pick, await, rewrite, suffices, frame}
 use types.Run.{enter, addr, stop, no_more, and_then, returns}
 use types.ByLocal.{alloc_all, pass_all, free_all, look_at, get, through, sets, lands_as}
 use denote.Param.{param, copied, bounded}
@@ -48,12 +47,12 @@ get_lpm_mut_spec 𝓤 𝓛 𝓜 𝓡 wired P T A R lP lT lA lR cR p p' d d' k k'
     let En = f.ended P T A R p p' d d' k k' n n' e e' s s' w w' g g' xP xT xA in
     let c = f.clauses P T A R p p' d d' k k' n n' e e' s s' w w' g g' xP xT xA 𝓛 𝓜.mem 𝓡.returns in
     let args : Args = bounded (a_type ∷ a_type ∷ a_type ∷ a_type ∷ []) (P, (T, (A, (R, tt))))
-        (dcons p' (dcons d' (dcons k' (dcons n' (dcons e' (dcons s' (dcons w' (dcons g' (dcons xP (dcons xT (dcons xA dnil))))))))))) in
+    (dcons p' (dcons d' (dcons k' (dcons n' (dcons e' (dcons s' (dcons w' (dcons g' (dcons xP (dcons xT (dcons xA dnil))))))))))) in
     let fn = inst_fn args code.function in
     let Map : RattleType = map.the_row (param 0 P) (param 1 T) (param 2 A) (copied 3 R) p d k s w g in
     let 𝓣 = tables 𝓤 𝓛.H 𝓜 𝓡 𝓡.env in
     let hs : Stays En.signature.params En.kept =
-        (stay_dropped (mut_ref_to (0 ∷ []) tt (plain (λ _. Map))) no, (stay_dropped (shr_ref_to (1 ∷ []) tt (plain (λ _. param 0 P))) yes, tt)) in
+    (stay_dropped (mut_ref_to (0 ∷ []) tt (plain (λ _. Map))) no, (stay_dropped (shr_ref_to (1 ∷ []) tt (plain (λ _. param 0 P))) yes, tt)) in
     let W = walk_of 𝓛 En hs c in
     proved 𝓛 En hs c 𝓜 𝓡
     (Goes-spent_ref 𝓛 6 (0 ∷ []) tt (plain (λ _. Map)), (Goes-dropped 𝓛 6 (shr_ref_to (1 ∷ []) tt (plain (λ _. param 0 P))) yes (λ κs x v. refl), tt))
@@ -72,7 +71,7 @@ get_lpm_mut_spec 𝓤 𝓛 𝓜 𝓡 wired P T A R lP lT lA lR cR p p' d d' k k'
     let Asked = ‵ ((ShrRef (named 1) κs.1.0 (param 0 P)).own_val q (shr_vals q)) in
     let toks₂ = ‵ (flft κs.1.1.1.1.0 qs.1.1.1.1.0) ⊛ ‵ (flft κs.1.1.1.1.1.0 qs.1.1.1.1.1.0) ⊛ ‵ ftrue in
     qed 𝓛 (((‵ (flft κ qs.0) ⊛ ‵ (flft κs.1.0 qs.1.0) ⊛ ‵ (flft κs.1.1.0 qs.1.1.0) ⊛ ‵ (flft κs.1.1.1.0 qs.1.1.1.0) ⊛ toks₂) ⊛ Self ⊛ Asked ⊛ ‵ ftrue)
-        ∷ (raw (fact 𝓤 (κs.1.1.0 ⊑ P.lives)) ⊛ raw (fact 𝓤 (κs.1.1.1.0 ⊑ T.lives)) ⊛ raw (fact 𝓤 (κs.1.1.1.1.0 ⊑ A.lives)) ⊛ raw (fact 𝓤 (κs.1.1.1.1.1.0 ⊑ R.lives)) ⊛ raw (fact 𝓤 (p.IsFitting q.now))) ∷ []) ∵
+    ∷ (raw (fact 𝓤 (κs.1.1.0 ⊑ P.lives)) ⊛ raw (fact 𝓤 (κs.1.1.1.0 ⊑ T.lives)) ⊛ raw (fact 𝓤 (κs.1.1.1.1.0 ⊑ A.lives)) ⊛ raw (fact 𝓤 (κs.1.1.1.1.1.0 ⊑ R.lives)) ⊛ raw (fact 𝓤 (p.IsFitting q.now))) ∷ []) ∵
     move ! (1 ∷ []) $ split ! $ heard ! (κs.1.1.0 ⊑ P.lives) (λ inP. split ! $ heard ! (κs.1.1.1.0 ⊑ T.lives) (λ inT. move ! (1 ∷ 0 ∷ []) $
     use0 𝓛 (raw (fact 𝓤 (κs.1.1.1.0 ⊑ T.lives))) (fact_i 𝓤 (κs.1.1.1.0 ⊑ T.lives) (emp 𝓤) inT) $ move ! (0 ∷ 2 ∷ []) $ join ! $
     use0 𝓛 (raw (fact 𝓤 (κs.1.1.0 ⊑ P.lives))) (fact_i 𝓤 (κs.1.1.0 ⊑ P.lives) (emp 𝓤) inP) $ join ! $ move ! (1 ∷ []) $
@@ -86,9 +85,9 @@ get_lpm_mut_spec 𝓤 𝓛 𝓜 𝓡 wired P T A R lP lT lA lR cR p p' d d' k k'
     let Exact : ℕ → Type 0 = λ j. j ≡ nodes_read m.now.nodes path in
     let Bound : ℕ → Type 0 = λ j. j ≤ length path / 5 + 1 in
     use1 𝓛 (later (some (λ (o : Option (P.Denot × MutBor T.Denot) × ℕ).
-        ((‵ (flft κ qs.0) ⊛ ‵ (flft κs.1.0 qs.1.0) ⊛ ‵ (flft κs.1.1.0 qs.1.1.0) ⊛ ‵ (flft κs.1.1.1.0 qs.1.1.1.0) ⊛ toks₂) ⊛ ‵ (Pair.own_val o (v ∷ [])))
-        ⊛ some (λ (es : Unit {0} × (Unit {0} × Unit {0})). ‵ (lasts (h.ended P T A R p p' d d' k k' n n' e e' s s' w w' g g' xP xT xA) z.0.0 z.0.3 es)
-        ⊛ ‵ (lends o.0) ⊛ raw (fact 𝓤 (Value o.0)) ⊛ raw (fact 𝓤 (Exact o.1)) ⊛ raw (fact 𝓤 (Bound o.1)))))) (id⊢ 𝓤 _) $
+    ((‵ (flft κ qs.0) ⊛ ‵ (flft κs.1.0 qs.1.0) ⊛ ‵ (flft κs.1.1.0 qs.1.1.0) ⊛ ‵ (flft κs.1.1.1.0 qs.1.1.1.0) ⊛ toks₂) ⊛ ‵ (Pair.own_val o (v ∷ [])))
+    ⊛ some (λ (es : Unit {0} × (Unit {0} × Unit {0})). ‵ (lasts (h.ended P T A R p p' d d' k k' n n' e e' s s' w w' g g' xP xT xA) z.0.0 z.0.3 es)
+    ⊛ ‵ (lends o.0) ⊛ raw (fact 𝓤 (Value o.0)) ⊛ raw (fact 𝓤 (Exact o.1)) ⊛ raw (fact 𝓤 (Bound o.1)))))) (id⊢ 𝓤 _) $
     await ! tt $ pick ! (λ o. split ! $ move ! (1 ∷ []) $ pick ! (λ es. split ! $ drop ! $ split ! $ move ! (1 ∷ []) $ split ! $ heard ! (Value o.0) (λ value. drop ! $
     -- [what self follows; the tokens and the pair]
     move ! (1 ∷ []) $ split ! $ move ! (1 ∷ []) $ peeks ! Pair _ (shows 𝓛 Pair) o (v ∷ []) (λ is_pair.
@@ -102,7 +101,7 @@ get_lpm_mut_spec 𝓤 𝓛 𝓜 𝓡 wired P T A R lP lT lA lR cR p p' d d' k k'
     use0 𝓛 (raw (fact 𝓤 (κs.1.1.0 ⊑ P.lives))) (fact_i 𝓤 (κs.1.1.0 ⊑ P.lives) (emp 𝓤) inP) $ join ! $ move ! (1 ∷ 0 ∷ []) $ use2 𝓛 (raw (B.pre t)) (id⊢ 𝓤 _) $
     calls_at ! (framed 𝓤 𝓛.H 𝓜 𝓣) B (b_met 𝓤 𝓛 𝓜 𝓡 (code.calls-prefix_trie_map::map::lending::not_counted 𝓡.env wired) P T lP lT) t (and_then ! (get ! refl) (no_more !)) (λ u.
     use1 𝓛 (later (some (λ (a : Option (P.Denot × MutBor T.Denot)). ((‵ (flft κ qs.0) ⊛ ‵ (flft κs.1.1.0 qs.1.1.0) ⊛ ‵ (flft κs.1.1.1.0 qs.1.1.1.0) ⊛ ‵ ftrue) ⊛ ‵ (Found.own_val a (u ∷ [])))
-        ⊛ some (λ (fs : Lasts (b.ended P T) t.0.0 t.0.3). ‵ (lasts (b.ended P T) t.0.0 t.0.3 fs) ⊛ raw (fact 𝓤 (a ≡ o.0)))))) (id⊢ 𝓤 _) $
+    ⊛ some (λ (fs : Lasts (b.ended P T) t.0.0 t.0.3). ‵ (lasts (b.ended P T) t.0.0 t.0.3 fs) ⊛ raw (fact 𝓤 (a ≡ o.0)))))) (id⊢ 𝓤 _) $
     await ! tt $ pick ! (λ a. split ! $ move ! (1 ∷ []) $ pick ! (λ fs. split ! $ drop ! $ heard ! (a ≡ o.0) (λ same.
     split ! $ split ! $ move ! (1 ∷ []) $ split ! $ move ! (1 ∷ []) $ split ! $ move ! (1 ∷ []) $ drop ! $
     move ! (0 ∷ 4 ∷ []) $ join ! $ move ! (1 ∷ 0 ∷ []) $ join ! $ move ! (3 ∷ 0 ∷ []) $ join ! $ move ! (1 ∷ 0 ∷ []) $ join ! $

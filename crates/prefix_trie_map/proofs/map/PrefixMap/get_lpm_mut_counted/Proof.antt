@@ -1,12 +1,12 @@
 -- `get_lpm_mut_counted` lends what `lend_longest` lends, beside its prefix. Assumes `Logic`.
-use Rattle.std.proofs.Common.{◌≡◌, ℕ, ◌+◌, ◌/◌, ◌≤◌, length, take, w32, lit<, MatchOption, IfSome, None, Some, Option, List, [], ◌∷◌, refl, sym, ap, MutBor, arith}
+use Rattle.std.proofs.Common.{◌≡◌, ℕ, ◌+◌, ◌/◌, ◌≤◌, length, take, w32, lit<, MatchOption, IfSome, None, Some, Option, [], ◌∷◌, refl, sym, MutBor, arith}
 use Rattle.std.proofs.raw_atomic.Walks.{proved}
 use mir.Syntax.{Args, named, a_type, dcons, dnil}
 use mir.Val.{Val, vint, vptr}
 use mir.MapTy.{inst_fn}
 use base.Fraction.{full_share}
-use base.Logic.{SProp, ent, emp, id⊢}
-use base.Fml.{Fml, GName, ftrue, fat, flft, fres, flent}
+use base.Logic.{ent, emp, id⊢}
+use base.Fml.{Fml, GName, ftrue, fat, flft, flent}
 use contract.BorrowLft.{◌⊑◌}
 use contract.Monad.{fact, fact_i}
 use contract.Running.{tables}
@@ -57,12 +57,12 @@ get_lpm_mut_counted_spec 𝓤 𝓛 𝓜 𝓡 wired P T A R lP lT lA lR cR p p' d
     let En = f.ended P T A R p p' d d' k k' n n' e e' s s' w w' g g' xP xT xA in
     let c = f.clauses P T A R p p' d d' k k' n n' e e' s s' w w' g g' xP xT xA 𝓛 𝓜.mem 𝓡.returns in
     let args : Args = bounded (a_type ∷ a_type ∷ a_type ∷ a_type ∷ []) (P, (T, (A, (R, tt))))
-        (dcons p' (dcons d' (dcons k' (dcons n' (dcons e' (dcons s' (dcons w' (dcons g' (dcons xP (dcons xT (dcons xA dnil))))))))))) in
+    (dcons p' (dcons d' (dcons k' (dcons n' (dcons e' (dcons s' (dcons w' (dcons g' (dcons xP (dcons xT (dcons xA dnil))))))))))) in
     let fn = inst_fn args code.function in
     let Map : RattleType = map.the_row (param 0 P) (param 1 T) (param 2 A) (copied 3 R) p d k s w g in
     let 𝓣 = tables 𝓤 𝓛.H 𝓜 𝓡 𝓡.env in
     let hs : Stays En.signature.params En.kept =
-        (stay_dropped (mut_ref_to (0 ∷ []) tt (plain (λ _. Map))) no, (stay_dropped (shr_ref_to (1 ∷ []) tt (plain (λ _. param 0 P))) yes, tt)) in
+    (stay_dropped (mut_ref_to (0 ∷ []) tt (plain (λ _. Map))) no, (stay_dropped (shr_ref_to (1 ∷ []) tt (plain (λ _. param 0 P))) yes, tt)) in
     let W = walk_of 𝓛 En hs c in
     proved 𝓛 En hs c 𝓜 𝓡
     (Goes-spent_ref 𝓛 6 (0 ∷ []) tt (plain (λ _. Map)), (Goes-dropped 𝓛 6 (shr_ref_to (1 ∷ []) tt (plain (λ _. param 0 P))) yes (λ κs x v. refl), tt))
@@ -102,11 +102,11 @@ get_lpm_mut_counted_spec 𝓤 𝓛 𝓜 𝓡 wired P T A R lP lT lA lR cR p p' d
     lands_as ! refl refl ok $ sets ! (of_opd ! (get ! refl)) refl ok $ sets ! (of_opd ! (lit ! tt)) refl (tt, record { fits = lit< tt }) $
     sets ! (addr ! (through ! refl (stop !))) refl (tt, tt) $ sets ! (addr ! (from ! (stop !))) refl (tt, tt) $ sets ! (addr ! (from ! (stop !))) refl (tt, tt) $
     take_at ! 3 $ use2 𝓛 (later (some (λ (n : ℕ × GName). ‵ ((MutRef (named 3) (n.0 ∷ []) V).own_val (record { ref_ptr = (l 3, 0); ghost_name = n.1; now = r }) (vptr (l 3) 0 ∷ []))
-        ⊛ ‵ (flft (n.0 ∷ []) full_share) ⊛ ‵ (flent (n.0 ∷ []) (Body (mem V) (l 3) 0 n.1))))) (lends_local 𝓛 V refl (named 3) (l 3) r v) $
+    ⊛ ‵ (flft (n.0 ∷ []) full_share) ⊛ ‵ (flent (n.0 ∷ []) (Body (mem V) (l 3) 0 n.1))))) (lends_local 𝓛 V refl (named 3) (l 3) r v) $
     await ! tt $ pick ! (λ loan. let β = loan.0 in split ! $ move ! (1 ∷ []) $ split ! $
     owned ! u32 _ (uint_Makes 𝓛 w32) 0 _ (refl, lit< tt) $
     take_at ! 4 $ use2 𝓛 (later (some (λ (n : ℕ × GName). ‵ ((MutRef (named 2) (n.0 ∷ []) u32).own_val (record { ref_ptr = (l 4, 0); ghost_name = n.1; now = 0 }) (vptr (l 4) 0 ∷ []))
-        ⊛ ‵ (flft (n.0 ∷ []) full_share) ⊛ ‵ (flent (n.0 ∷ []) (Body (mem u32) (l 4) 0 n.1))))) (lends_local 𝓛 u32 refl (named 2) (l 4) 0 (vint w32 0)) $
+    ⊛ ‵ (flft (n.0 ∷ []) full_share) ⊛ ‵ (flent (n.0 ∷ []) (Body (mem u32) (l 4) 0 n.1))))) (lends_local 𝓛 u32 refl (named 2) (l 4) 0 (vint w32 0)) $
     await ! tt $ pick ! (λ other. let α = other.0 in split ! $ move ! (1 ∷ []) $ split ! $
     -- [the token of `found`, its way back, the loan; the counter's likewise; prefix, twice; self; the tokens]
     let G = triple_of 𝓛 (h.signature P T A R p p' d d' k k' n n' e e' s s' w w' g g' xP xT xA) (h.spec P T A R p p' d d' k k' n n' e e' s s' w w' g g' xP xT xA 𝓛 𝓜.mem 𝓡.returns) in
@@ -123,8 +123,8 @@ get_lpm_mut_counted_spec 𝓤 𝓛 𝓜 𝓡 wired P T A R lP lT lA lR cR p p' d
     let Exact : ℕ → Type 0 = λ j. j ≡ r + nodes_read m.now.nodes path in
     let Bound : ℕ → Type 0 = λ j. j ≤ r + (length path / 5 + 1) in
     use1 𝓛 (later (some (λ (o : Option (MutBor T.Denot)). ((tok₀ ⊛ tok₁ ⊛ ‵ (flft (α ∷ []) full_share) ⊛ ‵ (flft (β ∷ []) full_share) ⊛ others) ⊛ ‵ (Found.own_val o (u ∷ [])))
-        ⊛ some (λ (es : Unit {0} × (Unit {0} × (ℕ × (ℕ × Unit {0})))). ‵ (lasts (h.ended P T A R p p' d d' k k' n n' e e' s s' w w' g g' xP xT xA) z.0.0 z.0.3 es)
-        ⊛ ‵ (lends o) ⊛ raw (fact 𝓤 (Value es.1.1.0 o)) ⊛ raw (fact 𝓤 (Within es.1.1.0 o)) ⊛ raw (fact 𝓤 (Exact es.1.1.1.0)) ⊛ raw (fact 𝓤 (Bound es.1.1.1.0)))))) (id⊢ 𝓤 _) $
+    ⊛ some (λ (es : Unit {0} × (Unit {0} × (ℕ × (ℕ × Unit {0})))). ‵ (lasts (h.ended P T A R p p' d d' k k' n n' e e' s s' w w' g g' xP xT xA) z.0.0 z.0.3 es)
+    ⊛ ‵ (lends o) ⊛ raw (fact 𝓤 (Value es.1.1.0 o)) ⊛ raw (fact 𝓤 (Within es.1.1.0 o)) ⊛ raw (fact 𝓤 (Exact es.1.1.1.0)) ⊛ raw (fact 𝓤 (Bound es.1.1.1.0)))))) (id⊢ 𝓤 _) $
     await ! tt $ pick ! (λ o. split ! $ split ! $ split ! $ move ! (1 ∷ []) $ split ! $ move ! (1 ∷ []) $ split ! $ move ! (1 ∷ []) $ split ! $
     move ! (6 ∷ []) $ pick ! (λ es. let i = es.1.1.0 in let j = es.1.1.1.0 in split ! $ fsplit ! $ drop ! $ fsplit ! $ drop ! $ fsplit ! $ fsplit ! $ move ! (2 ∷ []) $ fsplit ! $ fsplit ! $
     move ! (6 ∷ 13 ∷ 0 ∷ []) $ use3 𝓛 (later (some (λ (x : Val). ‵ (fat full_share (lone V.mir) (l 3) 0 x) ⊛ ‵ (V.own_val j (x ∷ []))))) (local_back 𝓛 V refl (named 3) (l 3) β loan.1 j) $
@@ -151,7 +151,7 @@ get_lpm_mut_counted_spec 𝓤 𝓛 𝓜 𝓡 wired P T A R lP lT lA lR cR p p' d
     let Back : Option (P.Denot × MutBor T.Denot) → Type 0 = λ a. IfSome a (λ f. f.0 ≡ p.back (take i path)) in
     let Answer : Option (P.Denot × MutBor T.Denot) → Type 0 = λ a. MatchOption a (best ≡ None) (λ f. shown_match p.back best ≡ Some (f.0, f.1.now)) in
     use1 𝓛 (later (some (λ (a : Option (P.Denot × MutBor T.Denot)). ((tok₀ ⊛ tok₁ ⊛ tok₂ ⊛ tok₃ ⊛ tok₅) ⊛ ‵ (Shown.own_val a (v₂ ∷ [])))
-        ⊛ some (λ (fs : Lasts (b.ended P T R p p' d d' k k' n n' e e' s s' w w' xP) t.0.0 t.0.3). ‵ (lasts (b.ended P T R p p' d d' k k' n n' e e' s s' w w' xP) t.0.0 t.0.3 fs) ⊛ raw (fact 𝓤 (Same a)) ⊛ raw (fact 𝓤 (Back a)))))) (id⊢ 𝓤 _) $
+    ⊛ some (λ (fs : Lasts (b.ended P T R p p' d d' k k' n n' e e' s s' w w' xP) t.0.0 t.0.3). ‵ (lasts (b.ended P T R p p' d d' k k' n n' e e' s s' w w' xP) t.0.0 t.0.3 fs) ⊛ raw (fact 𝓤 (Same a)) ⊛ raw (fact 𝓤 (Back a)))))) (id⊢ 𝓤 _) $
     await ! tt $ pick ! (λ a. split ! $ move ! (1 ∷ []) $ pick ! (λ fs. split ! $ drop ! $ split ! $ heard ! (Same a) (λ same. heard ! (Back a) (λ back.
     split ! $ split ! $ move ! (1 ∷ []) $ split ! $ move ! (1 ∷ []) $ split ! $ move ! (1 ∷ []) $ split ! $
     move ! (6 ∷ 1 ∷ []) $ join ! $ move ! (1 ∷ 0 ∷ []) $ join ! $ move ! (1 ∷ 0 ∷ []) $ join ! $ move ! (1 ∷ 0 ∷ []) $ join ! $ move ! (1 ∷ 0 ∷ []) $ join ! $

@@ -1,34 +1,32 @@
 -- `get_mut_counted` lends what `lend_entry` lends. Assumes `Logic`.
-use Rattle.std.proofs.Common.{◌≡◌, ℕ, ◌+◌, ◌/◌, ◌≤◌, length, Option, List, [], ◌∷◌, refl, ap, MutBor, arith}
+use Rattle.std.proofs.Common.{◌≡◌, ℕ, ◌+◌, ◌/◌, ◌≤◌, length, Option, [], ◌∷◌, refl, MutBor, arith}
 use Rattle.std.proofs.raw_atomic.Walks.{proved}
 use mir.Syntax.{Args, named, a_type, dcons, dnil}
 use mir.Val.{Val, vptr}
 use mir.MapTy.{inst_fn}
 use base.Fraction.{full_share}
 use base.Logic.{emp, id⊢}
-use base.Fml.{Fml, GName, ftrue, fat, flft, fres, flent}
-use contract.BorrowLft.{◌⊑◌}
+use base.Fml.{Fml, GName, ftrue, fat, flft, flent}
 use contract.Monad.{fact, fact_i}
 use contract.Running.{tables}
-use types.Kit.{‵, raw, ◌⊛◌, some, later, ◌$◌, ◌∵◌, !, qed, done, move, keep, drop, use0, use1, use2, use3, split, join, fsplit, fjoin, feq_i, pick, await, suffices, frame}
+use types.Kit.{‵, raw, ◌⊛◌, some, later, ◌$◌, ◌∵◌, !, qed, done, move, keep, drop, use0, use1, use2, use3, split, join, fsplit, fjoin, pick, await, suffices, frame}
 use types.Run.{enter, of_opd, addr, from, stop, no_more, and_then, returns}
 use types.ByLocal.{alloc_all, pass_all, free_all, look_at, get, through, sets, lands_as, take_at, give_at}
 use types.Part.{agg}
 use denote.Param.{param, copied, bounded}
 use denote.Exit.{yes, no}
-use denote.RattleType.{RattleType, owns}
+use denote.RattleType.{RattleType}
 use denote.Ref.{MutRef, ShrRef, mut_vals, mut_Tells, shr_vals, shr_Tells}
-use denote.Signature.{plain, mut_ref_to, shr_ref_to, types_at}
+use denote.Signature.{plain, mut_ref_to, shr_ref_to}
 use denote.Steps.{nothing, heard, peeks}
 use denote.Laws.{shows}
 use denote.Memory.{lone, mem}
 use types.SemTy.{Body}
-use denote.Triple.Entry.{alive, on_entry}
 use denote.Triple.Call.{calls_at}
 use denote.Triple.Clauses.{lasts}
 use denote.Triple.Spec.{triple_of}
 use denote.Triple.Table.{framed}
-use denote.Triple.Walked.{Stays, says, stay_dropped, walk_of, ends_at, Goes-dropped, Goes-spent_ref}
+use denote.Triple.Walked.{Stays, stay_dropped, walk_of, ends_at, Goes-dropped, Goes-spent_ref}
 use denote.Param.Laws.{Laws}
 use denote.Struct.Tuple.{Tuple, tuple_laws}
 use Rattle.std.proofs.option.Option.TheLaws.{the_row_laws as option_laws}
@@ -54,12 +52,12 @@ get_mut_counted_spec 𝓤 𝓛 𝓜 𝓡 wired P T A R lP lT lA lR cR p p' d d' 
     let En = f.ended P T A R p p' d d' k k' n n' e e' s s' w w' g g' xP xT xA in
     let c = f.clauses P T A R p p' d d' k k' n n' e e' s s' w w' g g' xP xT xA 𝓛 𝓜.mem 𝓡.returns in
     let args : Args = bounded (a_type ∷ a_type ∷ a_type ∷ a_type ∷ []) (P, (T, (A, (R, tt))))
-        (dcons p' (dcons d' (dcons k' (dcons n' (dcons e' (dcons s' (dcons w' (dcons g' (dcons xP (dcons xT (dcons xA dnil))))))))))) in
+    (dcons p' (dcons d' (dcons k' (dcons n' (dcons e' (dcons s' (dcons w' (dcons g' (dcons xP (dcons xT (dcons xA dnil))))))))))) in
     let fn = inst_fn args code.function in
     let Map : RattleType = map.the_row (param 0 P) (param 1 T) (param 2 A) (copied 3 R) p d k s w g in
     let 𝓣 = tables 𝓤 𝓛.H 𝓜 𝓡 𝓡.env in
     let hs : Stays En.signature.params En.kept =
-        (stay_dropped (mut_ref_to (0 ∷ []) tt (plain (λ _. Map))) no, (stay_dropped (shr_ref_to (1 ∷ []) tt (plain (λ _. param 0 P))) yes, tt)) in
+    (stay_dropped (mut_ref_to (0 ∷ []) tt (plain (λ _. Map))) no, (stay_dropped (shr_ref_to (1 ∷ []) tt (plain (λ _. param 0 P))) yes, tt)) in
     let W = walk_of 𝓛 En hs c in
     proved 𝓛 En hs c 𝓜 𝓡
     (Goes-spent_ref 𝓛 6 (0 ∷ []) tt (plain (λ _. Map)), (Goes-dropped 𝓛 6 (shr_ref_to (1 ∷ []) tt (plain (λ _. param 0 P))) yes (λ κs x v. refl), tt))
@@ -87,7 +85,7 @@ get_mut_counted_spec 𝓤 𝓛 𝓜 𝓡 wired P T A R lP lT lA lR cR p p' d d' 
     sets ! (addr ! (through ! refl (stop !))) refl (tt, tt) $
     sets ! (addr ! (from ! (stop !))) refl (tt, tt) $
     take_at ! 3 $ use2 𝓛 (later (some (λ (n : ℕ × GName). ‵ ((MutRef (named 2) (n.0 ∷ []) V).own_val (record { ref_ptr = (l 3, 0); ghost_name = n.1; now = r }) (vptr (l 3) 0 ∷ []))
-        ⊛ ‵ (flft (n.0 ∷ []) full_share) ⊛ ‵ (flent (n.0 ∷ []) (Body (mem V) (l 3) 0 n.1))))) (lends_local 𝓛 V refl (named 2) (l 3) r v) $
+    ⊛ ‵ (flft (n.0 ∷ []) full_share) ⊛ ‵ (flent (n.0 ∷ []) (Body (mem V) (l 3) 0 n.1))))) (lends_local 𝓛 V refl (named 2) (l 3) r v) $
     await ! tt $ pick ! (λ loan. let α = loan.0 in let γ = loan.1 in split ! $ move ! (1 ∷ []) $ split ! $ move ! (2 ∷ 1 ∷ []) $
     -- [the counter; its way back; its token; self; prefix; the tokens of self, of prefix, and of the type parameters; what is asked]
     let G = triple_of 𝓛 (h.signature P T A R p p' d d' k k' n n' e e' s s' w w' g g' xP xT xA) (h.spec P T A R p p' d d' k k' n n' e e' s s' w w' g g' xP xT xA 𝓛 𝓜.mem 𝓡.returns) in
@@ -106,8 +104,8 @@ get_mut_counted_spec 𝓤 𝓛 𝓜 𝓡 wired P T A R lP lT lA lR cR p p' d d' 
     let Bound : ℕ → Type 0 = λ j. j ≤ r + (length path / 5 + 1) in
     let lends : Option (MutBor T.Denot) → Fml = lends_entry_if (param 0 P) (param 1 T) (param 2 A) (copied 3 R) p d k s w g m path in
     use1 𝓛 (later (some (λ (o : Option (MutBor T.Denot)). ((‵ (flft κ qs.0) ⊛ ‵ (flft κs.1.0 qs.1.0) ⊛ ‵ (flft (α ∷ []) full_share) ⊛ others) ⊛ ‵ (Found.own_val o (u ∷ [])))
-        ⊛ some (λ (es : Unit {0} × (Unit {0} × (ℕ × Unit {0}))). ‵ (lasts (h.ended P T A R p p' d d' k k' n n' e e' s s' w w' g g' xP xT xA) z.0.0 z.0.3 es)
-        ⊛ ‵ (lends o) ⊛ raw (fact 𝓤 (Value o)) ⊛ raw (fact 𝓤 (Exact es.1.1.0)) ⊛ raw (fact 𝓤 (Bound es.1.1.0)))))) (id⊢ 𝓤 _) $
+    ⊛ some (λ (es : Unit {0} × (Unit {0} × (ℕ × Unit {0}))). ‵ (lasts (h.ended P T A R p p' d d' k k' n n' e e' s s' w w' g g' xP xT xA) z.0.0 z.0.3 es)
+    ⊛ ‵ (lends o) ⊛ raw (fact 𝓤 (Value o)) ⊛ raw (fact 𝓤 (Exact es.1.1.0)) ⊛ raw (fact 𝓤 (Bound es.1.1.0)))))) (id⊢ 𝓤 _) $
     await ! tt $ pick ! (λ o. split ! $ split ! $ split ! $ move ! (1 ∷ []) $ split ! $ move ! (1 ∷ []) $ split ! $
     -- [the counter's token; the tokens of the type parameters, of prefix and of self; the value lent; what is ensured; the counter's way back]
     move ! (5 ∷ []) $ pick ! (λ es. let j = es.1.1.0 in split ! $ fsplit ! $ drop ! $ fsplit ! $ drop ! $ fsplit ! $ fsplit ! $

@@ -1,6 +1,5 @@
 use borrow.Follows.Closed.{read_of}
-use Rattle.std.proofs.Common.{rules, ◌≡◌, ℕ, ◌+◌, ◌≤◌, List, Bool, Option, Some, None, take, MatchOption, IfSome, refl, subst, arith}
-use Rattle.std.specs.Borrow.{MutBor}
+use Rattle.std.proofs.Common.{rules, ◌≡◌, ◌+◌, ◌≤◌, List, Bool, Some, None, take, MatchOption, IfSome, refl, subst, arith}
 use Rattle.std.specs.Option.{ghost_name_of}
 use Rattle.prefix_trie_bits.specs.Laws.Steps.{IsMap}
 use Rattle.prefix_trie_bits.specs.Model.Entries.{Entries}
@@ -29,7 +28,7 @@ returns g c =
     let length_is : c.from-len.result ≡ g.P.Prefix.len_of c.args.prefix.now = search rules in
     let handed = c.find_longest_mut.new.found in
     let Found : Entries g.row.T.Denot → List Bool → Type 0 = λ n s. MatchOption c.find_longest_mut.result
-        (longest_match n s ≡ None) (λ value. longest_match n s ≡ Some (take handed s, value.now)) in
+    (longest_match n s ≡ None) (λ value. longest_match n s ≡ Some (take handed s, value.now)) in
     let found = match_parts (handed ≤ c.from-len.result) (longest_match m.entries q) (take handed q) c.find_longest_mut.result c.find_longest_mut.ensures.value in
     let counted : c.find_longest_mut.new.counter ≡ c.args.counter.now + visits c.args.self.now.nodes path = search rules in (
       subst (λ n. read_of name (with_longest_at m q) m ≡ read_of name (with_longest_at n path) n) same
