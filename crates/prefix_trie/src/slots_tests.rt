@@ -1,6 +1,6 @@
 //! The slots of a map's arrays, and their limit.
 use crate::refusing::Refusing;
-use crate::{PrefixMap, Refusal, Refused};
+use crate::{BlockCount, PrefixMap, Refusal, Refused};
 use std::test::Fail;
 
 /// More requests than one call makes.
@@ -69,6 +69,12 @@ fn slots_of_a_full_root(rt: HostRuntime) -> Result<(), Fail> {
     assert_eq!(rt; map.node_slots(), 1);
     // A block of each size.
     assert_eq!(rt; map.cell_slots(), 1 + 2 + 4 + 8 + 16 + 24 + 31);
+    let largest = BlockCount {
+        size: 31,
+        used: 1,
+        free: 0,
+    };
+    assert_eq!(rt; map.cell_blocks()[6], largest);
     Ok(())
 }
 
@@ -93,6 +99,13 @@ fn slots_of_all_addresses_of_eight_bits(rt: HostRuntime) -> Result<(), Fail> {
         assert_eq!(rt; map.insert((addr, 8_u8), addr), Ok(None));
     }
     assert_eq!(rt; map.node_count(), 33);
+    // The root has a block of 32 in use; it left one of each smaller size. No other node has children.
+    let largest = BlockCount {
+        size: 32,
+        used: 1,
+        free: 0,
+    };
+    assert_eq!(rt; map.node_blocks()[6], largest);
     assert_eq!(rt; map.node_slots(), 88);
     assert_eq!(rt; map.cell_slots(), 263);
     map.clear();

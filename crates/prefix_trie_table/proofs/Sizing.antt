@@ -24,7 +24,7 @@ abbrev pub with_size : Sizes → List Bool → Option ℕ → Sizes
 with_size m s None = m
 with_size m s (Some n) = insert m s n
 
--- the sizes that the test names at these paths, by their strings
+-- the sizes that a function gives for these paths, by their strings
 abbrev pub sizes_at : (List ℕ → Option ℕ) → List (List ℕ) → Sizes
 sizes_at size [] = empty
 sizes_at size (p ∷ ps) = with_size (sizes_at size ps) (string_at p) (size p)

@@ -14,7 +14,7 @@ use Rattle.prefix_trie_table.specs.Digits.{path_of}
 use Rattle.prefix_trie_table.specs.Store.{Tier}
 use Rattle.prefix_trie_table.specs.Forest.{read, size_in}
 
--- the size, where there are any
+-- this size, where the block has anything to hold
 abbrev pub size_if_any : ℕ → ℕ → Option ℕ
 size_if_any zero size = None
 size_if_any (suc n) size = Some size
@@ -29,7 +29,7 @@ abbrev pub value_block_size : Option Node → Option ℕ
 value_block_size None = None
 value_block_size (Some n) = size_if_any (rank n.value_bitmap 32) (size_in cell_sizes n.value_tier)
 
--- by the strings of nodes, these are the sizes that the test names
+-- these are the sizes that a function gives for the nodes in an array, by the strings at which the nodes stand
 abbrev pub AreSizesBy : (Option Node → Option ℕ) → List Node → Sizes → Type 0
 AreSizesBy size nodes sizes = (s : List Bool) → get sizes s ≡ cond (is_node_depth s) (size (read nodes (path_of s))) None
 
