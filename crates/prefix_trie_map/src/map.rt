@@ -3,10 +3,11 @@
 //! The path of a prefix, its first `prefix_len` bits, is its key: two prefixes with the same path are one key, whatever their
 //! host bits. Contracts see a map as its entries, a finite map from paths to values, its nodes, its room, which is its limit
 //! and the lengths of its two arrays, and its layout: how the arrays are cut into blocks.
-ghost use Rattle.std.specs.Prelude.{◌≡◌, ℕ, ◌+◌, ◌-◌, ◌^◌, ◌≤◌, ◌↔◌, IfOk, OnOk, IfErr, OnErr, IsOk, IsTrue};
+ghost use Rattle.std.specs.Prelude.{◌≡◌, ℕ, ◌+◌, ◌-◌, ◌^◌, ◌≤◌, ◌↔◌, IfOk, OnOk, IfErr, OnErr, IsOk, IsTrue, MatchResult, false};
 ghost use Rattle.std.specs.FinMap.{get, contains_key, len};
 ghost use Rattle.prefix_trie_bits.specs.declared.prefix.Refusal.TheVariants.{Memory, IndexRange};
 ghost use Rattle.prefix_trie_bits.specs.Model.Blocks.{no_layout};
+ghost use Rattle.prefix_trie_bits.specs.Model.Insertion.{PassesLimit, node_slots_lacking, cell_slots_lacking};
 ghost use Rattle.prefix_trie_bits.specs.Model.Entries.{no_entries, with_entry};
 ghost use Rattle.prefix_trie_bits.specs.Model.Nodes.{root_alone, with_needed};
 ghost use Rattle.prefix_trie_bits.specs.Model.Room.{MayPassLimit};
@@ -107,8 +108,8 @@ impl<P: Prefix, T: Drop, A: Allocator> PrefixMap<P, T, A> {
 
     /// Sets the value for a prefix, and answers the one that was there before. A stored prefix is never refused.
     ///
-    /// A new one is refused with `Memory` where a request for memory is refused, and with `IndexRange` where the slots
-    /// that it needs pass the limit. Refused, it hands the value back, and the map has the entries that it had.
+    /// A new one is refused with `Memory` where a request for memory is refused, and with `IndexRange` where the slots of the
+    /// blocks that lack pass the limit. Refused, it hands the value back, and the map has the entries that it had.
     #[inline]
     pub fn insert(&mut self, prefix: P, value: T) -> Result<Option<T>, Refused<T>>
         requires { P.IsFitting prefix }
@@ -120,6 +121,19 @@ impl<P: Prefix, T: Drop, A: Allocator> PrefixMap<P, T, A> {
         ensures unchanged { OnErr result ((self.new.entries ≡ self.old.entries) × (self.new.nodes ≡ self.old.nodes)) }
         ensures returned { IfErr result (λ refused. refused.value ≡ value) }
         ensures range { IfErr result (λ refused. refused.cause ≡ IndexRange → MayPassLimit self.old.room) }
+
+        // `IndexRange` is answered only where the slots of the blocks that are lacking pass the limit, and nothing where none is.
+        ensures exact_range { IfErr result (λ refused. refused.cause ≡ IndexRange → PassesLimit self.old.entries self.old.nodes self.old.room self.old.layout (P.path prefix)) }
+        ensures granted { node_slots_lacking self.old.nodes self.old.layout (P.path prefix) ≡ 0
+            → cell_slots_lacking self.old.entries self.old.layout (P.path prefix) ≡ 0 → IsOk result }
+
+        // A new key takes free blocks, and makes exactly those that lack; refused, no more than those.
+        ensures node_growth { contains_key self.old.entries (P.path prefix) ≡ false → MatchResult result
+            (λ _. self.new.room.node_slots ≡ self.old.room.node_slots + node_slots_lacking self.old.nodes self.old.layout (P.path prefix))
+            (λ _. self.new.room.node_slots ≤ self.old.room.node_slots + node_slots_lacking self.old.nodes self.old.layout (P.path prefix)) }
+        ensures cell_growth { contains_key self.old.entries (P.path prefix) ≡ false → MatchResult result
+            (λ _. self.new.room.cell_slots ≡ self.old.room.cell_slots + cell_slots_lacking self.old.entries self.old.layout (P.path prefix))
+            (λ _. self.new.room.cell_slots ≤ self.old.room.cell_slots + cell_slots_lacking self.old.entries self.old.layout (P.path prefix)) }
 
         // A stored key needs no room, and is never refused. The blocks stay as they are.
         ensures stored { IsTrue (contains_key self.old.entries (P.path prefix)) → IsOk result × (self.new.room ≡ self.old.room) }

@@ -1,4 +1,7 @@
-use Rattle.std.proofs.Common.{rules, ◌≡◌, take, subst}
+use Rattle.std.proofs.Common.{rules, ◌≡◌, ◌+◌, ◌≤◌, Bool, false, List, MatchResult, IfErr, IsOk, take, subst}
+use Rattle.std.specs.FinMap.{contains_key}
+use Rattle.prefix_trie_bits.specs.declared.prefix.Refusal.TheVariants.{IndexRange}
+use Rattle.prefix_trie_bits.specs.Model.Insertion.{PassesLimit, node_slots_lacking, cell_slots_lacking}
 use Rattle.prefix_trie_bits.specs.Keys.{path_within}
 use Rattle.prefix_trie_bits.specs.Laws.Steps.{IsMap}
 use Rattle.prefix_trie_table.specs.Shape.{Contents}
@@ -37,3 +40,32 @@ returns-clause-before g c = (inserts g c).before
 
 pub returns-clause-step : goal.returns-clause-step
 returns-clause-step g c = step g c
+
+-- what the table's contract says of its contents and the key's bits holds of the map and the prefix's path
+by_path : (g : given.Over) (c : goal.After-drop-prefix g) (F : Contents g.row.T.Denot → List Bool → Type 0) →
+    F c.self.inside.table (take c.from-len.result (g.P.R.Key.bits c.repr-key.result)) → F c.args.self.now (g.P.Prefix.path c.args.prefix)
+by_path g c F fact =
+    let key : take c.from-len.result (g.P.R.Key.bits c.repr-key.result) ≡ g.P.Prefix.path c.args.prefix = search rules in
+    subst (λ old. F old (g.P.Prefix.path c.args.prefix)) c.self.view_is (subst (F c.self.inside.table) key fact)
+
+pub returns-clause-exact_range : goal.returns-clause-exact_range
+returns-clause-exact_range g c =
+    by_path g c (λ old q. IfErr c.insert.result (λ refused. refused.cause ≡ IndexRange → PassesLimit old.entries old.nodes old.room old.layout q))
+    c.insert.ensures.exact_range
+
+pub returns-clause-granted : goal.returns-clause-granted
+returns-clause-granted g c =
+    by_path g c (λ old q. node_slots_lacking old.nodes old.layout q ≡ 0 → cell_slots_lacking old.entries old.layout q ≡ 0 → IsOk c.insert.result)
+    c.insert.ensures.granted
+
+pub returns-clause-node_growth : goal.returns-clause-node_growth
+returns-clause-node_growth g c =
+    by_path g c (λ old q. contains_key old.entries q ≡ false → MatchResult c.insert.result
+    (λ _. c.insert.new.self.room.node_slots ≡ old.room.node_slots + node_slots_lacking old.nodes old.layout q)
+    (λ _. c.insert.new.self.room.node_slots ≤ old.room.node_slots + node_slots_lacking old.nodes old.layout q)) c.insert.ensures.node_slots
+
+pub returns-clause-cell_growth : goal.returns-clause-cell_growth
+returns-clause-cell_growth g c =
+    by_path g c (λ old q. contains_key old.entries q ≡ false → MatchResult c.insert.result
+    (λ _. c.insert.new.self.room.cell_slots ≡ old.room.cell_slots + cell_slots_lacking old.entries old.layout q)
+    (λ _. c.insert.new.self.room.cell_slots ≤ old.room.cell_slots + cell_slots_lacking old.entries old.layout q)) c.insert.ensures.cell_slots
