@@ -7,8 +7,8 @@
 //! Each size has a list of its free blocks. A list of values that outgrows its block moves to a free one of the smallest size
 //! that holds it, and one that shrinks moves to a smaller one; the block that is left becomes free. A block is made at the
 //! array's end, only where none of its size is free, and its place in the list of free ones is reserved with it: so giving a
-//! block back never asks for memory. Apart from making an array only `prepare` can be refused, and it writes no list: what
-//! a change needs is obtained first, as free blocks, and the change itself then always succeeds.
+//! block back never asks for memory. Apart from making or copying an array only `prepare` can be refused, and it writes no
+//! list: what a change needs is obtained first, as free blocks, and the change itself then always succeeds.
 pub mod block_count;
 pub mod blocks;
 mod free_list;

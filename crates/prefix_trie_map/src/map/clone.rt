@@ -29,8 +29,9 @@ impl<P: Prefix, T: Clone, A: Allocator + Clone> PrefixMap<P, T, A> {
         // Where a clone of a value equals it, contracts see the same map.
         ensures same { IfOk result (λ copy. ((x y : T) → T.is_clone x y → y ≡ x) → copy ≡ self.now) }
     {
+        let table = self.table.clone()?;
         Ok(PrefixMap {
-            table: self.table.clone()?,
+            table,
             marker: PhantomData,
         })
     }

@@ -4,8 +4,8 @@ use Rattle.prefix_trie_map.proofs.map.PrefixMap.clone.Goals as goal
 
 pub invariant_of-result : goal.invariant_of-result
 invariant_of-result g c =
-    IsMap-copied g.T.Clone.is_clone g.P.R.Key.bit_width (state c.self.inside.table) (state c.in_ok-clone.field-0)
-    c.in_ok-clone.ensures.entries c.in_ok-clone.ensures.nodes c.self.invariant
+    IsMap-copied g.T.Clone.is_clone g.P.R.Key.bit_width (state c.self.inside.table) (state c.in_ok-table.table)
+    c.in_ok-table.ensures.entries c.in_ok-table.ensures.nodes c.self.invariant
 
 pub returns-clause-entries : goal.returns-clause-entries
-returns-clause-entries g c = rw (← c.self.view_is) c.in_ok-clone.ensures.entries
+returns-clause-entries g c = rw (← c.self.view_is) c.in_ok-table.ensures.entries
