@@ -8,3 +8,4 @@ pub mod Removals
 pub mod Retained
 pub mod Loans
 pub mod Copying
+pub mod Rooms

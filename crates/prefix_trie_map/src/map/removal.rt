@@ -1,9 +1,10 @@
 //! Taking entries out.
-ghost use Rattle.std.specs.Prelude.{◌≡◌, ◌+◌, ◌*◌, ◌<◌, ◌≤◌};
+ghost use Rattle.std.specs.Prelude.{◌≡◌, ◌+◌, ◌<◌, ◌≤◌};
 ghost use Rattle.std.specs.FinMap.{get, len};
 ghost use Rattle.prefix_trie_bits.specs.Model.Blocks.{no_layout};
 ghost use Rattle.prefix_trie_bits.specs.Model.Entries.{no_entries, without_entry, without_below};
 ghost use Rattle.prefix_trie_bits.specs.Model.Nodes.{root_alone, nodes_without, nodes_without_below};
+ghost use Rattle.prefix_trie_bits.specs.Model.Room.{LeavesRoom};
 ghost use Rattle.prefix_trie_bits.specs.Model.Step.{Step, Remove, RemoveKeepTree, RemoveChildren, Clear, Done, Value};
 ghost use Rattle.prefix_trie_map.specs.Steps.{state};
 
@@ -30,6 +31,7 @@ impl<P: Prefix, T: Drop, A: Allocator> PrefixMap<P, T, A> {
         ensures node_slots { (self.old.room.node_slots ≤ self.new.room.node_slots) × (self.new.room.node_slots ≤ self.old.room.node_slots + 24) }
         ensures cell_slots { (self.old.room.cell_slots ≤ self.new.room.cell_slots) × (self.new.room.cell_slots ≤ self.old.room.cell_slots + 24) }
         ensures within { (self.new.room.node_slots ≤ self.new.room.limit) × (self.new.room.cell_slots ≤ self.new.room.limit) }
+        ensures leaves { LeavesRoom (len self.old.nodes) self.old.room self.new.room }
 
         // It is one step of the model.
         ensures step { Step P.path P.back P.R.bit_width (state self.old) (Remove prefix.now) (Value result) (state self.new) }
@@ -51,6 +53,7 @@ impl<P: Prefix, T: Drop, A: Allocator> PrefixMap<P, T, A> {
         ensures node_slots { self.new.room.node_slots ≡ self.old.room.node_slots }
         ensures cell_slots { (self.old.room.cell_slots ≤ self.new.room.cell_slots) × (self.new.room.cell_slots ≤ self.old.room.cell_slots + 24) }
         ensures within { (self.new.room.node_slots ≤ self.new.room.limit) × (self.new.room.cell_slots ≤ self.new.room.limit) }
+        ensures leaves { LeavesRoom (len self.old.nodes) self.old.room self.new.room }
 
         // It is one step of the model.
         ensures step { Step P.path P.back P.R.bit_width (state self.old) (RemoveKeepTree prefix.now) (Value result) (state self.new) }
@@ -84,9 +87,8 @@ impl<P: Prefix, T: Drop, A: Allocator> PrefixMap<P, T, A> {
             ≡ record { limit = self.old.room.limit; node_slots = 1; cell_slots = 0 } }
         ensures slots { 0 < P.len_of prefix.now
             → (self.old.room.node_slots ≤ self.new.room.node_slots) × (self.old.room.cell_slots ≤ self.new.room.cell_slots) }
-        ensures nodes_grow { self.new.room.node_slots ≤ self.old.room.node_slots + 56 * len self.old.nodes }
-        ensures cells_grow { self.new.room.cell_slots ≤ self.old.room.cell_slots + 56 * len self.old.nodes }
         ensures within { (self.new.room.node_slots ≤ self.new.room.limit) × (self.new.room.cell_slots ≤ self.new.room.limit) }
+        ensures leaves { LeavesRoom (len self.old.nodes) self.old.room self.new.room }
 
         // It is one step of the model.
         ensures step { Step P.path P.back P.R.bit_width (state self.old) (RemoveChildren prefix.now) Done (state self.new) }
@@ -104,6 +106,7 @@ impl<P: Prefix, T: Drop, A: Allocator> PrefixMap<P, T, A> {
         ensures room { self.new.room
             ≡ record { limit = self.old.room.limit; node_slots = 1; cell_slots = 0 } }
         ensures layout { self.new.layout ≡ no_layout }
+        ensures leaves { LeavesRoom (len self.old.nodes) self.old.room self.new.room }
 
         // It is one step of the model.
         ensures step { Step P.path P.back P.R.bit_width (state self.old) Clear Done (state self.new) }

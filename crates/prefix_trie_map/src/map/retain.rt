@@ -1,9 +1,10 @@
 //! Keeping the entries at which a test says yes.
-ghost use Rattle.std.specs.Prelude.{◌≡◌, ◌+◌, ◌*◌, ◌≤◌};
+ghost use Rattle.std.specs.Prelude.{◌≡◌, ◌≤◌};
 ghost use Rattle.std.specs.FinMap.{len};
 ghost use Rattle.prefix_trie_bits.specs.Model.Asking.{AsksInOrder, MayAskInOrder};
 ghost use Rattle.prefix_trie_bits.specs.Model.Entries.{AreWithin};
 ghost use Rattle.prefix_trie_bits.specs.Model.Nodes.{needed};
+ghost use Rattle.prefix_trie_bits.specs.Model.Room.{LeavesRoom};
 ghost use Rattle.prefix_trie_bits.specs.Model.Selections.{listing};
 ghost use Rattle.prefix_trie_map.specs.Asking.{AsksAt, TakesAt};
 
@@ -52,9 +53,7 @@ impl<P: Prefix, T: Drop, A: Allocator> PrefixMap<P, T, A> {
         ensures limit { self.new.room.limit ≡ self.old.room.limit }
         ensures node_slots { self.old.room.node_slots ≤ self.new.room.node_slots }
         ensures cell_slots { self.old.room.cell_slots ≤ self.new.room.cell_slots }
-        ensures nodes_grow { self.new.room.node_slots ≤ self.old.room.node_slots + 56 * len self.old.nodes }
-        ensures cells_grow { self.new.room.cell_slots ≤ self.old.room.cell_slots + 56 * len self.old.nodes }
-        ensures slots { (self.new.room.node_slots ≤ self.new.room.limit) × (self.new.room.cell_slots ≤ self.new.room.limit) }
+        ensures leaves { LeavesRoom (len self.old.nodes) self.old.room self.new.room }
     {
         let keep = ByPrefix::<P, F> {
             test,

@@ -1,7 +1,5 @@
 //! What a caller of `retain` learns, and a map with a test at a concrete type.
 ghost use Rattle.std.specs.Prelude.{◌≡◌, nat_le, filter};
-ghost use Rattle.std.specs.FinMap.{len};
-ghost use Rattle.prefix_trie_bits.specs.Model.Room.{LeavesRoom};
 ghost use Rattle.prefix_trie_bits.specs.Model.Selections.{listing};
 
 use crate::map::PrefixMap;
@@ -9,10 +7,9 @@ use prefix_trie_bits::prefix::Prefix;
 use std::alloc::Allocator;
 use std::test::Fail;
 
-// Keeps the values from a least one on, and leaves the room as a step of the model does.
+// Keeps the values from a least one on.
 fn keep_from<P: Prefix<R = u8>, A: Allocator>(m: &mut PrefixMap<P, u32, A>, least: u32)
-    ensures kept { listing m.new.entries ≡ filter (λ e. nat_le least e.1) (listing m.old.entries) }
-    ensures room { LeavesRoom (len m.old.nodes) m.old.room m.new.room }
+    ensures { listing m.new.entries ≡ filter (λ e. nat_le least e.1) (listing m.old.entries) }
 {
     m.retain(|_, value| least <= *value);
 }

@@ -1,4 +1,4 @@
-use Rattle.std.proofs.Common.{rules, ◌≡◌, ◌+◌, ◌≤◌, Bool, false, List, MatchResult, IfErr, IsOk, take, subst}
+use Rattle.std.proofs.Common.{rules, ◌≡◌, ◌+◌, ◌≤◌, Bool, false, List, MatchResult, IfErr, IsOk, take, subst, arith}
 use Rattle.std.specs.FinMap.{contains_key}
 use Rattle.prefix_trie_bits.specs.declared.prefix.Refusal.TheVariants.{IndexRange}
 use Rattle.prefix_trie_bits.specs.Model.Insertion.{PassesLimit, node_slots_lacking, cell_slots_lacking}
@@ -9,6 +9,7 @@ use Rattle.prefix_trie_bits.specs.Model.Step.{Step, Insert}
 use Rattle.prefix_trie_bits.proofs.Model.Steps.{stays_map}
 use Rattle.prefix_trie_map.specs.Steps.{state, inserted}
 use Rattle.prefix_trie_map.proofs.Insertions.{Inserts, Step-inserted}
+use Rattle.prefix_trie_map.proofs.Rooms.{leaves_few}
 use Rattle.prefix_trie_map.proofs.map.PrefixMap.insert.Given as given
 use Rattle.prefix_trie_map.proofs.map.PrefixMap.insert.Goals as goal
 
@@ -69,3 +70,12 @@ returns-clause-cell_growth g c =
     by_path g c (λ old q. contains_key old.entries q ≡ false → MatchResult c.insert.result
     (λ _. c.insert.new.self.room.cell_slots ≡ old.room.cell_slots + cell_slots_lacking old.entries old.layout q)
     (λ _. c.insert.new.self.room.cell_slots ≤ old.room.cell_slots + cell_slots_lacking old.entries old.layout q)) c.insert.ensures.cell_slots
+
+pub returns-clause-leaves : goal.returns-clause-leaves
+returns-clause-leaves g c =
+    let room = c.insert.ensures.room in
+    let limit = c.insert.ensures.limit in
+    let nodes = room.2 in
+    let cells = room.4 in
+    leaves_few g.P.R.Key.bit_width c.self.inside.table _ c.insert.new.self.room c.self.view_is c.self.invariant.are_nodes room.0 limit.0 limit.1
+    nodes (omega (arith, cells))

@@ -1,5 +1,8 @@
 use Rattle.std.proofs.Common.{subst}
+use Rattle.std.specs.FinMap.{len}
 use Rattle.prefix_trie_bits.specs.Model.Entries.{AreWithin}
+use Rattle.prefix_trie_bits.specs.Model.Room.{LeavesRoom}
+use Rattle.prefix_trie_table.specs.Shape.{Contents}
 use Rattle.prefix_trie_map.proofs.Retained.{IsMap-tidied}
 use Rattle.prefix_trie_map.specs.Steps.{state}
 use Rattle.prefix_trie_map.proofs.map.PrefixMap.retain.Goals as goal
@@ -12,3 +15,15 @@ invariant_of-self g c = IsMap-tidied g.P.R.Key.bit_width (state c.retain.new.sel
 
 pub returns-clause-within : goal.returns-clause-within
 returns-clause-within g c = subst (λ m. AreWithin g.P.R.Key.bit_width m.entries) c.self.view_is c.self.invariant.keys_within
+
+pub returns-clause-leaves : goal.returns-clause-leaves
+returns-clause-leaves g c =
+    let e = c.retain.ensures in
+    subst (λ (m : Contents g.row.T.Denot). LeavesRoom (len m.nodes) m.room c.retain.new.self.room) c.self.view_is
+    (record {
+      same_limit = e.room.0;
+      nodes_within = e.limit.0;
+      cells_within = e.limit.1;
+      nodes_grow = e.nodes_grow;
+      cells_grow = e.cells_grow;
+    })

@@ -9,12 +9,3 @@ pub returns-clause-kept : goal.returns-clause-kept
 returns-clause-kept g c =
     keeps_filter _ (λ e. nat_le c.args.least e.1) _ _ _
     (λ e b f' h. (search (rules, of_calls, h.called, h.shows), search (rules, of_calls, h.called))) c.retain.ensures.kept
-
-pub returns-clause-room : goal.returns-clause-room
-returns-clause-room g c = record {
-  same_limit = c.retain.ensures.limit;
-  nodes_within = c.retain.ensures.slots.0;
-  cells_within = c.retain.ensures.slots.1;
-  nodes_grow = c.retain.ensures.nodes_grow;
-  cells_grow = c.retain.ensures.cells_grow;
-}
