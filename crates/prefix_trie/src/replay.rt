@@ -1,11 +1,13 @@
 //! A list of calls, run on a map.
-ghost use Rattle.std.specs.Prelude.{◌≡◌, All, IfOk, OnErr, MatchResult, length, vec_len};
+ghost use Rattle.std.specs.Prelude.{◌≡◌, ◌≤◌, All, IfOk, OnErr, MatchResult, length, vec_len};
+ghost use Rattle.std.specs.FinMap.{len};
 ghost use Rattle.prefix_trie_bits.specs.Model.Entries.{part_at_least};
 ghost use Rattle.prefix_trie_bits.specs.Model.Nodes.{needed};
+ghost use Rattle.prefix_trie_bits.specs.Model.Room.{LeavesRoom, StepInRoom, RunInRoom};
 ghost use Rattle.prefix_trie_bits.specs.Model.Selections.{listing, listing_covering, shown};
-ghost use Rattle.prefix_trie_bits.specs.Model.Step.{Step, Run, Items, Refused};
+ghost use Rattle.prefix_trie_bits.specs.Model.Step.{Run, Items, Refused};
 ghost use Rattle.prefix_trie_bits.specs.declared.prefix.Refusal.TheVariants.{Memory};
-ghost use Rattle.prefix_trie_map.specs.Steps.{state};
+ghost use Rattle.prefix_trie_map.specs.Steps.{state, in_room};
 ghost use Rattle.prefix_trie_map.specs.Walks.{lent_item};
 ghost use Rattle.prefix_trie.specs.Replay.{IsFittingCall, call_of, calls_of, reply_of, replies_of};
 
@@ -75,8 +77,9 @@ pub enum Reply<P, A: Allocator> {
 /// other calls leave the nodes as they are.
 ///
 /// Asks that every prefix handed in fits. Room for all replies is asked for first, so `Err` means that no call was carried
-/// out. An insertion that is refused is answered by the cause, and a list for which no memory is found, to `List` or to
-/// `Cover`, by `Refused(Memory)`. Each leaves the entries and the nodes of the map as they were, and the run goes on.
+/// out. An insertion that is refused is answered by the cause, `IndexRange` only where the slots that one insertion may need
+/// would pass the limit, and a list for which no memory is found, to `List` or to `Cover`, by `Refused(Memory)`. Each leaves the
+/// entries and the nodes of the map as they were, and the run goes on.
 ///
 /// ```text
 /// let mut map = PrefixMap::new(alloc)?;
@@ -101,6 +104,10 @@ pub fn run<P: Prefix, A: Allocator + Clone>(
     // The calls with their replies are a run of the model, from the entries and nodes that the map had to those it has.
     ensures run { IfOk result (λ replies. Run P.path P.back P.R.bit_width
         (state map.old) (calls_of calls.now) (replies_of replies.items) (state map.new)) }
+
+    // And one that sees the room: a new key is refused for want of slots only where the slots of one insertion may pass the limit.
+    ensures run_in_room { IfOk result (λ replies. RunInRoom P.path P.back P.R.bit_width
+        (in_room map.old) (calls_of calls.now) (replies_of replies.items) (in_room map.new)) }
     ensures one_each { IfOk result (λ replies. vec_len replies ≡ length calls.now) }
     ensures none_carried_out { OnErr result (map.new ≡ map.old) }
 {
@@ -119,9 +126,10 @@ fn answer<P: Prefix, A: Allocator + Clone>(
     call: &Call<P>,
 ) -> Reply<P, A>
     requires { IsFittingCall P.IsFitting call.now }
-    ensures { Step P.path P.back P.R.bit_width
-        (state map.old) (call_of call.now) (reply_of result) (state map.new) }
+    ensures { StepInRoom P.path P.back P.R.bit_width
+        (in_room map.old) (call_of call.now) (reply_of result) (in_room map.new) }
 {
+    read_slots(map);
     match call {
         Call::Insert(prefix, value) => match map.insert(same_path(prefix), *value) {
             Ok(before) => Reply::Value(before),
@@ -151,10 +159,20 @@ fn answer<P: Prefix, A: Allocator + Clone>(
     }
 }
 
+/// Changes nothing. That neither array passes the limit is what the numbers of its slots say.
+#[inline]
+fn read_slots<P: Prefix, A: Allocator>(map: &PrefixMap<P, u64, A>)
+    ensures nodes { map.now.room.node_slots ≤ map.now.room.limit }
+    ensures cells { map.now.room.cell_slots ≤ map.now.room.limit }
+{
+    let _ = (map.node_slots(), map.cell_slots());
+}
+
 /// Keeps the entries whose prefixes have at least this length.
 fn retain_at_least<P: Prefix, A: Allocator>(map: &mut PrefixMap<P, u64, A>, least: u8)
     ensures kept { map.new.entries ≡ part_at_least map.old.entries least }
     ensures nodes { map.new.nodes ≡ needed map.new.entries }
+    ensures leaves { LeavesRoom (len map.old.nodes) map.old.room map.new.room }
 {
     map.retain(|prefix, _| least <= prefix.prefix_len());
 }
