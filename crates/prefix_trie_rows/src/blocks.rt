@@ -7,6 +7,7 @@ type Small = PrefixMap<(u8, u8), u8, Global>;
 
 /// The sizes of blocks of values, and of blocks of nodes.
 const VALUE_SIZES: [usize; 7] = [1, 2, 4, 8, 16, 24, 31];
+
 const NODE_SIZES: [usize; 7] = [1, 2, 4, 8, 16, 24, 32];
 
 /// Whether the blocks have these sizes, and of each so many are in use and so many free.
@@ -21,11 +22,12 @@ fn has_no_host_bits(addr: u8, len: u8) -> bool {
     addr & (0xff >> (len & 7)) == 0
 }
 
-/// Inserts the prefixes of up to 4 bits that begin at an address, the shortest first. The value of each is both numbers in one.
+/// Inserts the prefixes of up to 4 bits that begin at an address, the shortest first. The value of each is its number in turn.
 fn insert_at(map: &mut Small, addr: u8) -> Result<(), Refusal> {
     for len in 0..5_u8 {
         if has_no_host_bits(addr, len) {
-            map.insert((addr, len), addr | len)
+            let number = map.len() as u8;
+            map.insert((addr, len), number)
                 .map_err(|refused| refused.cause)?;
         }
     }
@@ -41,40 +43,46 @@ fn full_root(alloc: Global) -> Result<Small, Refusal> {
     Ok(map)
 }
 
-/// Whether a map lists just what `full_root` inserts, in that order.
-fn lists_all(map: &Small) -> bool {
-    let mut entries = map.iter();
-    for number in 0..80_u8 {
-        let (addr, len) = (number / 5 << 4, number % 5);
-        if has_no_host_bits(addr, len) && entries.next() != Some(((addr, len), &(addr | len))) {
-            return false;
-        }
-    }
-    entries.next().is_none()
-}
-
 /// Row 14: a root with a value at each of its places, on the way to which a block of each size was made.
 pub fn of_a_full_root(alloc: Global) -> Result<bool, Refusal> {
     let map = full_root(alloc)?;
-    Ok(map.len() == 31
-        && map.node_slots() == 1
-        && map.cell_slots() == 86
-        && lists_all(&map)
-        && are(map.cell_blocks(), VALUE_SIZES, [0, 0, 0, 0, 0, 0, 1], [1, 1, 1, 1, 1, 1, 0]))
+    Ok(
+        map.len() == 31
+            && map.node_slots() == 1
+            && map.cell_slots() == 86
+            && map.values().copied().eq(0..31_u8)
+            && are(
+                map.cell_blocks(),
+                VALUE_SIZES,
+                [0, 0, 0, 0, 0, 0, 1],
+                [1, 1, 1, 1, 1, 1, 0],
+            ),
+    )
 }
 
 /// Row 15: all addresses of eight bits. Nodes take the blocks that others outgrew.
 pub fn of_all_addresses(alloc: Global) -> Result<bool, Refusal> {
     let mut map = PrefixMap::new(alloc)?;
     for addr in 0..=255_u8 {
-        map.insert((addr, 8_u8), addr).map_err(|refused| refused.cause)?;
+        map.insert((addr, 8_u8), addr)
+            .map_err(|refused| refused.cause)?;
     }
     let filled = map.len() == 256
         && map.node_count() == 33
         && map.node_slots() == 88
         && map.cell_slots() == 263
-        && are(map.node_blocks(), NODE_SIZES, [0, 0, 0, 0, 0, 0, 1], [1, 1, 1, 1, 1, 1, 0])
-        && are(map.cell_blocks(), VALUE_SIZES, [0, 0, 0, 32, 0, 0, 0], [1, 1, 1, 0, 0, 0, 0]);
+        && are(
+            map.node_blocks(),
+            NODE_SIZES,
+            [0, 0, 0, 0, 0, 0, 1],
+            [1, 1, 1, 1, 1, 1, 0],
+        )
+        && are(
+            map.cell_blocks(),
+            VALUE_SIZES,
+            [0, 0, 0, 32, 0, 0, 0],
+            [1, 1, 1, 0, 0, 0, 0],
+        );
     map.clear();
     Ok(filled && map.node_slots() == 1 && map.cell_slots() == 0)
 }
@@ -82,16 +90,36 @@ pub fn of_all_addresses(alloc: Global) -> Result<bool, Refusal> {
 /// Row 17: removals step down to free blocks, and an insertion takes the free block that it needs.
 pub fn stepped_down(alloc: Global) -> Result<bool, Refusal> {
     let mut map = full_root(alloc)?;
-    for (addr, len) in [(192, 2), (192, 3), (192, 4), (208, 4), (224, 3), (224, 4), (240, 4)] {
+    for (addr, len) in [
+        (192, 2),
+        (192, 3),
+        (192, 4),
+        (208, 4),
+        (224, 3),
+        (224, 4),
+        (240, 4),
+    ] {
         map.remove(&(addr, len));
     }
     let removed = map.len() == 24
         && map.cell_slots() == 86
-        && are(map.cell_blocks(), VALUE_SIZES, [0, 0, 0, 0, 0, 1, 0], [1, 1, 1, 1, 1, 0, 1]);
-    Ok(removed
-        && map.insert((240, 4), 1) == Ok(None)
-        && map.cell_slots() == 86
-        && are(map.cell_blocks(), VALUE_SIZES, [0, 0, 0, 0, 0, 0, 1], [1, 1, 1, 1, 1, 1, 0]))
+        && are(
+            map.cell_blocks(),
+            VALUE_SIZES,
+            [0, 0, 0, 0, 0, 1, 0],
+            [1, 1, 1, 1, 1, 0, 1],
+        );
+    Ok(
+        removed
+            && map.insert((240, 4), 1) == Ok(None)
+            && map.cell_slots() == 86
+            && are(
+                map.cell_blocks(),
+                VALUE_SIZES,
+                [0, 0, 0, 0, 0, 0, 1],
+                [1, 1, 1, 1, 1, 1, 0],
+            ),
+    )
 }
 
 /// Row 37: the nodes of two hosts. What one leaves the other takes.
@@ -109,14 +137,31 @@ pub fn of_two_hosts(alloc: Global) -> Result<bool, Refusal> {
     let both_ways = map.insert(host, 3) == Ok(None)
         && map.node_count() == 13
         && (map.node_slots(), map.cell_slots()) == (14, 2)
-        && are(map.node_blocks(), NODE_SIZES, [10, 1, 0, 0, 0, 0, 0], [1, 0, 0, 0, 0, 0, 0]);
-    Ok(first_way
-        && both_ways
-        && map.remove(&last) == Some(2)
-        && map.node_count() == 7
-        && (map.node_slots(), map.cell_slots()) == (14, 2)
-        && are(map.node_blocks(), NODE_SIZES, [6, 0, 0, 0, 0, 0, 0], [5, 1, 0, 0, 0, 0, 0])
-        && are(map.cell_blocks(), VALUE_SIZES, [1, 0, 0, 0, 0, 0, 0], [1, 0, 0, 0, 0, 0, 0]))
+        && are(
+            map.node_blocks(),
+            NODE_SIZES,
+            [10, 1, 0, 0, 0, 0, 0],
+            [1, 0, 0, 0, 0, 0, 0],
+        );
+    Ok(
+        first_way
+            && both_ways
+            && map.remove(&last) == Some(2)
+            && map.node_count() == 7
+            && (map.node_slots(), map.cell_slots()) == (14, 2)
+            && are(
+                map.node_blocks(),
+                NODE_SIZES,
+                [6, 0, 0, 0, 0, 0, 0],
+                [5, 1, 0, 0, 0, 0, 0],
+            )
+            && are(
+                map.cell_blocks(),
+                VALUE_SIZES,
+                [1, 0, 0, 0, 0, 0, 0],
+                [1, 0, 0, 0, 0, 0, 0],
+            ),
+    )
 }
 
 /// A map under a limit, with two values in the root and one in a child, from which one of the root's was taken out again.
@@ -143,13 +188,32 @@ pub fn kept_under_a_limit(alloc: Global) -> Result<bool, Refusal> {
         cause: Refusal::IndexRange,
         value: 5,
     });
-    Ok(are(map.cell_blocks(), VALUE_SIZES, [1, 1, 0, 0, 0, 0, 0], [0; 7])
-        && are(copy.cell_blocks(), VALUE_SIZES, [1, 1, 0, 0, 0, 0, 0], [0; 7])
-        && are(copy.node_blocks(), NODE_SIZES, [1, 0, 0, 0, 0, 0, 0], [0; 7])
-        && map.insert((0, 1), 4) == Ok(None)
-        && map.cell_slots() == 3
-        && map.insert((64, 2), 5) == refused
-        && map.len() == 3
-        && roomy.cell_slots() == 4
-        && are(roomy.cell_blocks(), VALUE_SIZES, [2, 0, 0, 0, 0, 0, 0], [0, 1, 0, 0, 0, 0, 0]))
+    Ok(
+        are(
+            map.cell_blocks(),
+            VALUE_SIZES,
+            [1, 1, 0, 0, 0, 0, 0],
+            [0; 7],
+        ) && are(
+            copy.cell_blocks(),
+            VALUE_SIZES,
+            [1, 1, 0, 0, 0, 0, 0],
+            [0; 7],
+        ) && are(
+            copy.node_blocks(),
+            NODE_SIZES,
+            [1, 0, 0, 0, 0, 0, 0],
+            [0; 7],
+        ) && map.insert((0, 1), 4) == Ok(None)
+            && map.cell_slots() == 3
+            && map.insert((64, 2), 5) == refused
+            && map.len() == 3
+            && roomy.cell_slots() == 4
+            && are(
+                roomy.cell_blocks(),
+                VALUE_SIZES,
+                [2, 0, 0, 0, 0, 0, 0],
+                [0, 1, 0, 0, 0, 0, 0],
+            ),
+    )
 }
