@@ -1,5 +1,5 @@
 -- What an insertion asks for is what the model says of the table's entries, nodes and layout.
-use Rattle.std.proofs.Common.{◌≡◌, ℕ, zero, suc, ◌+◌, ◌-◌, ◌*◌, ◌/◌, ◌%◌, ◌<◌, ◌≤◌, inl, inr, Bool, true, false, cond, ◌&&◌, List, [], ◌∷◌, ◌++◌, length, take, replicate, Option, None, Some, is_some, Result, refl, sym, ap, ap₂, ◌∙◌, subst, arith, eq-eqb, length-take-le}
+use Rattle.std.proofs.Common.{◌≡◌, ℕ, ◌+◌, ◌-◌, ◌*◌, ◌/◌, ◌%◌, ◌<◌, ◌≤◌, inl, inr, Bool, true, false, cond, ◌&&◌, List, [], ◌∷◌, ◌++◌, length, take, replicate, Option, None, Some, is_some, Result, refl, sym, ap, ap₂, ◌∙◌, subst, arith, eq-eqb, length-take-le}
 use Rattle.std.proofs.lemmas.Bool.{false≢true, cases_Bool, cases_lt}
 use Rattle.std.proofs.lemmas.List.{take-take}
 use Rattle.std.specs.Prelude.{option_to_list}
@@ -8,19 +8,18 @@ use Rattle.prefix_trie_bits.specs.Model.Blocks.{child_block_sizes, value_block_s
 use Rattle.prefix_trie_bits.specs.Model.Insertion.{block_needed, lacking_slots, value_block_needed, node_slots_lacking, cell_slots_lacking}
 use Rattle.prefix_trie_bits.specs.Model.Nodes.{has_node, is_node_depth, home}
 use Rattle.prefix_trie_bits.specs.Model.Step.{State}
-use Rattle.prefix_trie_bits.proofs.Model.Members.{is-same_string, and-second}
+use Rattle.prefix_trie_bits.proofs.Model.Members.{is-same_string}
 use Rattle.prefix_trie_bits.proofs.Model.Ways.{none_needed, blocks_needed}
 use Rattle.prefix_trie_table.specs.declared.allocator.node.Node.{Node}
 use Rattle.prefix_trie_table.specs.Asked.{nodes_asked, cells_asked, AtEnd, Obtains}
 use Rattle.prefix_trie_table.specs.Tables.{IsTableOf, ForHeld, own_value}
-use Rattle.prefix_trie_table.specs.Bitmaps.{has_bit, rank}
+use Rattle.prefix_trie_table.specs.Bitmaps.{rank}
 use Rattle.prefix_trie_table.specs.Cells.{node_sizes, cell_sizes}
 use Rattle.prefix_trie_table.specs.Digits.{path_of}
 use Rattle.prefix_trie_table.specs.Forest.{is_start, Holds, IsEnd, has_child, has_value}
-use Rattle.prefix_trie_table.specs.Layouts.{Sized, child_block_size, value_block_size, size_if_any, free_counts}
+use Rattle.prefix_trie_table.specs.Layouts.{Sized, child_block_size, value_block_size, free_counts}
 use Rattle.prefix_trie_table.specs.Shape.{IsShapeOf, Shaped}
-use Rattle.prefix_trie_table.specs.Store.{Store, size_in}
-use Rattle.prefix_trie_table.specs.Store.{lacking_slots as slots_lacking}
+use Rattle.prefix_trie_table.specs.Store.{Store}
 use Rattle.prefix_trie_table.proofs.Asks.{nodes_here, nodes_below, cells_here, cells_below}
 use Rattle.prefix_trie_table.proofs.Bits.{has_bit-zero}
 use Rattle.prefix_trie_table.proofs.BitLists.{rank-zero-all}

@@ -1,4 +1,4 @@
-use Rattle.std.proofs.Common.{rules, ◌≡◌, ◌+◌, ◌≤◌, Bool, false, List, MatchResult, IfErr, IsOk, take, subst}
+use Rattle.std.proofs.Common.{rules, ◌≡◌, ◌+◌, ◌≤◌, Bool, false, List, MatchResult, IfErr, IsOk, IsTrue, take, subst}
 use Rattle.std.specs.FinMap.{contains_key}
 use Rattle.prefix_trie_bits.specs.declared.prefix.Refusal.TheVariants.{IndexRange}
 use Rattle.prefix_trie_bits.specs.Model.Insertion.{PassesLimit, TakesBlocks, node_slots_lacking, cell_slots_lacking, child_block_needed, value_block_needed}
@@ -81,3 +81,7 @@ returns-clause-value_blocks g c =
     by_path g c (λ old q. contains_key old.entries q ≡ false → MatchResult c.insert.result
     (λ _. TakesBlocks (value_block_needed old.entries old.layout.value_blocks q) old.layout.value_blocks c.insert.new.self.layout.value_blocks)
     (λ _. c.insert.new.self.layout.value_blocks ≡ old.layout.value_blocks)) c.insert.ensures.value_blocks
+
+pub returns-clause-layout : goal.returns-clause-layout
+returns-clause-layout g c =
+    by_path g c (λ old q. IsTrue (contains_key old.entries q) → c.insert.new.self.layout ≡ old.layout) c.insert.ensures.layout
