@@ -7,7 +7,7 @@ ghost use Rattle.std.specs.Prelude.{◌≡◌, ℕ, ◌+◌, ◌-◌, ◌^◌, �
 ghost use Rattle.std.specs.FinMap.{get, contains_key, len};
 ghost use Rattle.prefix_trie_bits.specs.declared.prefix.Refusal.TheVariants.{Memory, IndexRange};
 ghost use Rattle.prefix_trie_bits.specs.Model.Blocks.{no_layout};
-ghost use Rattle.prefix_trie_bits.specs.Model.Insertion.{PassesLimit, node_slots_lacking, cell_slots_lacking};
+ghost use Rattle.prefix_trie_bits.specs.Model.Insertion.{PassesLimit, TakesBlocks, node_slots_lacking, cell_slots_lacking, child_block_needed, value_block_needed};
 ghost use Rattle.prefix_trie_bits.specs.Model.Entries.{no_entries, with_entry};
 ghost use Rattle.prefix_trie_bits.specs.Model.Nodes.{root_alone, with_needed};
 ghost use Rattle.prefix_trie_bits.specs.Model.Room.{LeavesRoom, MayPassLimit};
@@ -127,13 +127,20 @@ impl<P: Prefix, T: Drop, A: Allocator> PrefixMap<P, T, A> {
         ensures granted { node_slots_lacking self.old.nodes self.old.layout (P.path prefix) ≡ 0
             → cell_slots_lacking self.old.entries self.old.layout (P.path prefix) ≡ 0 → IsOk result }
 
-        // A new key takes free blocks, and makes exactly those that lack; refused, no more than those.
+        // A new key takes free blocks, and makes exactly those that lack; refused, no more than those. Each node that needed a
+        // block has it then, and the others have theirs.
         ensures node_growth { contains_key self.old.entries (P.path prefix) ≡ false → MatchResult result
             (λ _. self.new.room.node_slots ≡ self.old.room.node_slots + node_slots_lacking self.old.nodes self.old.layout (P.path prefix))
             (λ _. self.new.room.node_slots ≤ self.old.room.node_slots + node_slots_lacking self.old.nodes self.old.layout (P.path prefix)) }
         ensures cell_growth { contains_key self.old.entries (P.path prefix) ≡ false → MatchResult result
             (λ _. self.new.room.cell_slots ≡ self.old.room.cell_slots + cell_slots_lacking self.old.entries self.old.layout (P.path prefix))
             (λ _. self.new.room.cell_slots ≤ self.old.room.cell_slots + cell_slots_lacking self.old.entries self.old.layout (P.path prefix)) }
+        ensures child_blocks { contains_key self.old.entries (P.path prefix) ≡ false → MatchResult result
+            (λ _. TakesBlocks (child_block_needed self.old.nodes self.old.layout.child_blocks (P.path prefix)) self.old.layout.child_blocks self.new.layout.child_blocks)
+            (λ _. self.new.layout.child_blocks ≡ self.old.layout.child_blocks) }
+        ensures value_blocks { contains_key self.old.entries (P.path prefix) ≡ false → MatchResult result
+            (λ _. TakesBlocks (value_block_needed self.old.entries self.old.layout.value_blocks (P.path prefix)) self.old.layout.value_blocks self.new.layout.value_blocks)
+            (λ _. self.new.layout.value_blocks ≡ self.old.layout.value_blocks) }
 
         // A stored key needs no room, and is never refused. The blocks stay as they are.
         ensures stored { IsTrue (contains_key self.old.entries (P.path prefix)) → IsOk result × (self.new.room ≡ self.old.room) }

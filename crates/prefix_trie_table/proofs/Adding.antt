@@ -3,12 +3,18 @@ use Rattle.std.proofs.Common.{◌≡◌, ◌≢◌, ℕ, ◌+◌, ◌<◌, ◌�
 use Rattle.std.proofs.lemmas.List.{length-map}
 use Rattle.prefix_trie_bits.specs.Places.{Sets}
 use Rattle.prefix_trie_table.specs.declared.allocator.node.Node.{Node}
+use Rattle.prefix_trie_table.specs.declared.allocator.blocks.BlockRef.{BlockRef}
 use Rattle.prefix_trie_table.specs.Bitmaps.{has_bit, bits, rank}
-use Rattle.prefix_trie_table.specs.Store.{Store, Block, Sound, block, held, HasList, Spends, tier_at, tier_sizes, size_in}
+use Rattle.prefix_trie_table.specs.Store.{Store, Block, Sound, block, held, HasList, Spends, tier_at, tier_sizes, tier_lacking, size_in}
+use Rattle.std.proofs.lemmas.Bool.{false≢true}
+use Rattle.std.specs.Prelude.{MatchOption}
+use Rattle.std.specs.Option.{option_or}
+use Rattle.prefix_trie_table.specs.OwnBlocks.{size_if_any, child_block_size, value_block_size, child_need, value_need}
+use Rattle.prefix_trie_table.proofs.Needs.{block_after}
 use Rattle.prefix_trie_table.specs.Forest.{without, child_items, child_blocks, IsSlot, at_child, NodesHold, with_child, AtNode, ChildAdded, AtValues, ValueSet, CellsHold, value_blocks, with_node, with_value, has_value, own_count, one_if}
 use Rattle.prefix_trie_table.specs.Cells.{blank_node, node_at, node_sizes, cell_sizes}
 use Rattle.prefix_trie_table.proofs.Soundness.{tier_of_block}
-use Rattle.prefix_trie_table.proofs.Spending.{size_at}
+use Rattle.prefix_trie_table.proofs.Spending.{size_at, single_node, single_cell}
 use Rattle.prefix_trie_table.proofs.Bits.{has_bit-sets}
 use Rattle.prefix_trie_table.proofs.BitLists.{rank-all, rank-same, rank-more-one}
 use Rattle.prefix_trie_table.proofs.Trees.{own_first, slot_holds}
@@ -40,6 +46,12 @@ tier_small vacant b live u sizes s e =
     let w = (tier_of_block vacant b live u s).within in
     let n : length sizes ≡ length u.tiers = ap (λ (xs : List ℕ). length xs) (sym e) ∙ length-map u.tiers (λ t. t.size) in omega arith
 
+-- where a list stands that took one more
+pub entered_as : (o : Option ℕ) (r : BlockRef) (k start : ℕ) → MatchOption o (r ≡ record { tier = k; start = start }) (λ to. r.tier ≡ to) →
+    MatchOption o (r.tier ≡ k) (λ to. r.tier ≡ to)
+entered_as None r k start e = ap (λ (x : BlockRef). x.tier) e
+entered_as (Some to) r k start e = e
+
 -- a blank child put into the list of children, and the node written with it, add the child
 pub added : (v u w : Store Node) (slot place c tier start bitmap : ℕ) (o : Option ℕ) (k m : Node)
     → k ≡ node_at v.slots slot
@@ -55,11 +67,12 @@ pub added : (v u w : Store Node) (slot place c tier start bitmap : ℕ) (o : Opt
     → Spends v u o
     → ((n : ℕ) (xs : List Node) (live : List (Block Node)) → Sound blank_node (held k.child_tier k.child_block n xs ++ live) v →
     length xs ≡ rank k.child_bitmap 32 → Sound blank_node (block tier start (tier_at v.tiers tier).size (insert xs place blank_node) ∷ live) u)
+    → MatchOption (tier_lacking v.tiers k.child_tier (rank k.child_bitmap 32)) (tier ≡ k.child_tier) (λ to. tier ≡ to)
     → place ≡ rank k.child_bitmap c → c < 32 → has_bit k.child_bitmap c ≡ false → w ≡ record u { slots = set u.slots slot m }
     → (reading : List ℕ → Option Node) (paths : List (List ℕ)) (p : List ℕ) (n : Node) → NodesHold node_sizes reading paths v →
     IsSlot reading p slot → reading p ≡ Some n
     → ChildAdded reading paths p n c w (start + place)
-added v u w slot place c tier start bitmap o k m read sets m_is spends put place_is digit missing w_is reading paths p n hold stands is =
+added v u w slot place c tier start bitmap o k m read sets m_is spends put entered place_is digit missing w_is reading paths p n hold stands is =
     let at = slot_holds node_sizes reading paths v hold p slot n stands is in
     let same : k ≡ n = read ∙ at.0 in
     let here : reading p ≡ Some k = is ∙ ap Some (sym same) in
@@ -93,6 +106,11 @@ added v u w slot place c tier start bitmap o k m read sets m_is spends put place
       value_bitmap = ap (λ (x : Node). x.value_bitmap) m_is ∙ ap (λ (x : Node). x.value_bitmap) same;
       value_block = ap (λ (x : Node). x.value_block) m_is ∙ ap (λ (x : Node). x.value_block) same;
       value_tier = ap (λ (x : Node). x.value_tier) m_is ∙ ap (λ (x : Node). x.value_tier) same;
+      children =
+          ap (λ t. size_if_any (rank m.child_bitmap 32) (size_in node_sizes t)) tier_is
+          ∙ block_after v.tiers node_sizes hold.sizes_are (single_node v.tiers hold.sizes_are) k.child_tier tier (rank k.child_bitmap 32) (rank m.child_bitmap 32)
+          (rank-more-one k.child_bitmap m.child_bitmap c digit missing bit (λ i ne. more i ∙ ap (λ b. b || has_bit k.child_bitmap i) (other_number i c ne))) entered
+          ∙ ap (λ (x : Node). option_or (child_need (Some x)) (child_block_size (Some x))) same;
     }
 
 -- a node replaced by itself
@@ -137,11 +155,12 @@ module _ {T : Type 0} where
       → Spends w u o
       → ((n : ℕ) (xs : List (Option T)) (live : List (Block (Option T))) → Sound None (held k.value_tier k.value_block n xs ++ live) w →
       length xs ≡ rank k.value_bitmap 32 → Sound None (block tier start (tier_at w.tiers tier).size (insert xs place (Some x)) ∷ live) u)
+      → MatchOption (tier_lacking w.tiers k.value_tier (rank k.value_bitmap 32)) (tier ≡ k.value_tier) (λ to. tier ≡ to)
       → place ≡ rank k.value_bitmap b → b < 32 → has_bit k.value_bitmap b ≡ false → b < 31 → v2 ≡ record v { slots = set v.slots slot m }
       → (reading : List ℕ → Option Node) (paths : List (List ℕ)) (values : List ℕ → ℕ → Option T) (p : List ℕ) (n : Node) →
       NodesHold node_sizes reading paths v → CellsHold cell_sizes reading values paths w → IsSlot reading p slot → reading p ≡ Some n
       → ValueSet reading paths values p b (Some x) v2 u
-  values_added v v2 w u slot place b tier start bitmap o k m x read sets m_is spends put place_is digit missing small v2_is reading paths values p n
+  values_added v v2 w u slot place b tier start bitmap o k m x read sets m_is spends put entered place_is digit missing small v2_is reading paths values p n
       hold cells stands is =
       let at = slot_holds node_sizes reading paths v hold p slot n stands is in
       let same : k ≡ n = read ∙ at.0 in
@@ -173,6 +192,12 @@ module _ {T : Type 0} where
         counted = added_one (rank m.value_bitmap 32) (rank k.value_bitmap 32) (own_count (reading p)) (is_some (values p b))
             (rank-more-one k.value_bitmap m.value_bitmap b digit missing bit stay) (ap own_count here)
             (cells.set_where p b ∙ ap (λ o. has_value o b) here ∙ missing);
+        children = ap (λ (y : Node). child_block_size (Some y)) m_is ∙ ap child_block_size (sym here);
+        sized = λ _.
+            ap (λ t. size_if_any (rank m.value_bitmap 32) (size_in cell_sizes t)) tier_is
+            ∙ block_after w.tiers cell_sizes cells.sizes_are (single_cell w.tiers cells.sizes_are) k.value_tier tier (rank k.value_bitmap 32)
+            (rank m.value_bitmap 32) (rank-more-one k.value_bitmap m.value_bitmap b digit missing bit stay) entered
+            ∙ ap (λ y. option_or (value_need y) (value_block_size y)) (sym here);
       }
     where
       added_one : (now was own : ℕ) (had : Bool) → now ≡ was + 1 → own ≡ was → had ≡ false → now + one_if had ≡ own + 1
@@ -207,4 +232,6 @@ module _ {T : Type 0} where
         cells = subst (λ y. CellsHold cell_sizes (with_node reading p k) (with_value values p b (Some x)) paths y)
             (ap (λ i. record w { slots = set w.slots (k.value_block + i) (Some x) }) (sym place_is) ∙ sym u_is) put;
         counted = ap₂ (λ a c. a + one_if c) (ap own_count (sym here)) (cells.set_where p b ∙ ap (λ o. has_value o b) here ∙ bit);
+        children = ap child_block_size (sym here);
+        sized = λ none. absurd (false≢true (ap is_some (sym none) ∙ cells.set_where p b ∙ ap (λ o. has_value o b) here ∙ bit));
       }

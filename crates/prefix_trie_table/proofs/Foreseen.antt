@@ -1,5 +1,5 @@
 -- What an insertion asks for is what the model says of the table's entries, nodes and layout.
-use Rattle.std.proofs.Common.{◌≡◌, ℕ, zero, suc, ◌+◌, ◌-◌, ◌*◌, ◌/◌, ◌%◌, ◌<◌, ◌≤◌, inl, inr, Bool, true, false, cond, ◌&&◌, List, [], ◌∷◌, ◌++◌, length, take, replicate, Option, None, Some, is_some, Result, refl, sym, ap, ap₂, ◌∙◌, subst, arith, eq-eqb, length-take-le}
+use Rattle.std.proofs.Common.{◌≡◌, ℕ, ◌+◌, ◌-◌, ◌*◌, ◌/◌, ◌%◌, ◌<◌, ◌≤◌, inl, inr, Bool, true, false, cond, ◌&&◌, List, [], ◌∷◌, ◌++◌, length, take, replicate, Option, None, Some, is_some, Result, refl, sym, ap, ap₂, ◌∙◌, subst, arith, eq-eqb, length-take-le}
 use Rattle.std.proofs.lemmas.Bool.{false≢true, cases_Bool, cases_lt}
 use Rattle.std.proofs.lemmas.List.{take-take}
 use Rattle.std.specs.Prelude.{option_to_list}
@@ -8,19 +8,18 @@ use Rattle.prefix_trie_bits.specs.Model.Blocks.{child_block_sizes, value_block_s
 use Rattle.prefix_trie_bits.specs.Model.Insertion.{block_needed, lacking_slots, value_block_needed, node_slots_lacking, cell_slots_lacking}
 use Rattle.prefix_trie_bits.specs.Model.Nodes.{has_node, is_node_depth, home}
 use Rattle.prefix_trie_bits.specs.Model.Step.{State}
-use Rattle.prefix_trie_bits.proofs.Model.Members.{is-same_string, and-second}
+use Rattle.prefix_trie_bits.proofs.Model.Members.{is-same_string}
 use Rattle.prefix_trie_bits.proofs.Model.Ways.{none_needed, blocks_needed}
 use Rattle.prefix_trie_table.specs.declared.allocator.node.Node.{Node}
 use Rattle.prefix_trie_table.specs.Asked.{nodes_asked, cells_asked, AtEnd, Obtains}
 use Rattle.prefix_trie_table.specs.Tables.{IsTableOf, ForHeld, own_value}
-use Rattle.prefix_trie_table.specs.Bitmaps.{has_bit, rank}
+use Rattle.prefix_trie_table.specs.Bitmaps.{rank}
 use Rattle.prefix_trie_table.specs.Cells.{node_sizes, cell_sizes}
 use Rattle.prefix_trie_table.specs.Digits.{path_of}
 use Rattle.prefix_trie_table.specs.Forest.{is_start, Holds, IsEnd, has_child, has_value}
-use Rattle.prefix_trie_table.specs.Layouts.{Sized, child_block_size, value_block_size, size_if_any, free_counts}
+use Rattle.prefix_trie_table.specs.Layouts.{Sized, child_block_size, value_block_size, free_counts}
 use Rattle.prefix_trie_table.specs.Shape.{IsShapeOf, Shaped}
-use Rattle.prefix_trie_table.specs.Store.{Store, size_in}
-use Rattle.prefix_trie_table.specs.Store.{lacking_slots as slots_lacking}
+use Rattle.prefix_trie_table.specs.Store.{Store}
 use Rattle.prefix_trie_table.proofs.Asks.{nodes_here, nodes_below, cells_here, cells_below}
 use Rattle.prefix_trie_table.proofs.Bits.{has_bit-zero}
 use Rattle.prefix_trie_table.proofs.BitLists.{rank-zero-all}
@@ -57,111 +56,112 @@ inner_level level l h = omega (arith, h)
 module _ {T : Type 0} (reading : List ℕ → Option Node) (values : List ℕ → ℕ → Option T) (paths : List (List ℕ)) (v : Store Node) (w : Store (Option T))
     (holds : Holds reading values paths v w) (s : State T) (is : IsShapeOf v.slots w.slots s) (sized : Sized v.slots) where
   module _ (p : List Bool) (depth : is_node_depth p ≡ true) where
-    child_size : (o : Option Node) → reading (path_of p) ≡ o → get sized.0 p ≡ child_block_size o
+    pub child_size : (o : Option Node) → reading (path_of p) ≡ o → get sized.0 p ≡ child_block_size o
     child_size o e =
         sized.1.1.0 p ∙ ap₂ (λ d x. cond d (child_block_size x) None) depth (reads node_sizes reading paths v holds.hold (path_of p) ∙ e)
 
-    value_size : (o : Option Node) → reading (path_of p) ≡ o → get sized.1.0 p ≡ value_block_size o
+    pub value_size : (o : Option Node) → reading (path_of p) ≡ o → get sized.1.0 p ≡ value_block_size o
     value_size o e =
         sized.1.1.1 p ∙ ap₂ (λ d x. cond d (value_block_size x) None) depth (reads node_sizes reading paths v holds.hold (path_of p) ∙ e)
 
-    children_are : (n : Node) → reading (path_of p) ≡ Some n → child_count s.nodes p ≡ rank n.child_bitmap 32
+    pub children_are : (n : Node) → reading (path_of p) ≡ Some n → child_count s.nodes p ≡ rank n.child_bitmap 32
     children_are n e =
         children_counted node_sizes reading paths v holds.hold p depth s.nodes (shape_nodes reading values paths v w holds s is) n.child_bitmap
         (λ c. ap (λ o. has_child o c) e)
 
-    no_children : reading (path_of p) ≡ None → child_count s.nodes p ≡ 0
+    pub no_children : reading (path_of p) ≡ None → child_count s.nodes p ≡ 0
     no_children e =
         children_counted node_sizes reading paths v holds.hold p depth s.nodes (shape_nodes reading values paths v w holds s is) 0
         (λ c. ap (λ o. has_child o c) e ∙ sym (has_bit-zero c)) ∙ rank-zero-all
 
-    values_are : (n : Node) → reading (path_of p) ≡ Some n → own_entries s.entries p ≡ rank n.value_bitmap 32
+    pub values_are : (n : Node) → reading (path_of p) ≡ Some n → own_entries s.entries p ≡ rank n.value_bitmap 32
     values_are n e =
         values_counted node_sizes reading paths v holds.hold p depth values w cell_sizes holds.cells s.entries
         (shape_entries reading values paths v w holds s is) n.value_bitmap (λ b. ap (λ o. has_value o b) e)
 
-    no_values : reading (path_of p) ≡ None → own_entries s.entries p ≡ 0
+    pub no_values : reading (path_of p) ≡ None → own_entries s.entries p ≡ 0
     no_values e =
         values_counted node_sizes reading paths v holds.hold p depth values w cell_sizes holds.cells s.entries
         (shape_entries reading values paths v w holds s is) 0 (λ b. ap (λ o. has_value o b) e ∙ sym (has_bit-zero b)) ∙ rank-zero-all
 
-  module _ (q : List Bool) (node : Node) (level : ℕ) (end : IsEnd reading (path_of q) level) (at : reading (take level (path_of q)) ≡ Some node) where
+  module _ (q : List Bool) where
     -- the nodes on the way to q, by their levels
-    deep : level ≤ length q / 5
-    deep = (let w = end.within in let e = path-length q in omega arith)
-
-    way : (i : ℕ) → i ≤ length q / 5 → path_of (take (5 * i) q) ≡ take i (path_of q)
+    pub way : (i : ℕ) → i ≤ length q / 5 → path_of (take (5 * i) q) ≡ take i (path_of q)
     way i h = path-take i q (whole i (length q) h)
 
-    depth_is : (i : ℕ) → i ≤ length q / 5 → is_node_depth (take (5 * i) q) ≡ true
+    pub depth_is : (i : ℕ) → i ≤ length q / 5 → is_node_depth (take (5 * i) q) ≡ true
     depth_is i h = eq-eqb (length (take (5 * i) q) % 5) 0 (depth_of i (length (take (5 * i) q)) (length-take-le (5 * i) q (whole i (length q) h)))
 
-    node_is : (i : ℕ) → i ≤ length q / 5 → has_node s.nodes (take (5 * i) q) ≡ is_some (reading (take i (path_of q)))
+    pub node_is : (i : ℕ) → i ≤ length q / 5 → has_node s.nodes (take (5 * i) q) ≡ is_some (reading (take i (path_of q)))
     node_is i h =
         shape_nodes reading values paths v w holds s is (take (5 * i) q)
         ∙ ap₂ (λ d p. d && is_some (reading p)) (depth_is i h) (way i h)
 
-    above : (i : ℕ) → i ≤ level → is_some (reading (take i (path_of q))) ≡ true
-    above i h =
-        prefix_some node_sizes reading paths v holds.hold (take i (path_of q)) (take level (path_of q)) (ap is_some at)
-        (ap (λ p. is_start p (take level (path_of q))) (sym (take-take i level (path_of q) h)) ∙ is_start_take i (take level (path_of q)))
+    module _ (node : Node) (level : ℕ) (end : IsEnd reading (path_of q) level) (at : reading (take level (path_of q)) ≡ Some node) where
+      deep : level ≤ length q / 5
+      deep = (let w = end.within in let e = path-length q in omega arith)
 
-    gone : (i : ℕ) → level < i → i ≤ length q / 5 → reading (take i (path_of q)) ≡ None
-    gone i more h = elim (cases_Bool (is_some (reading (take i (path_of q))))) as (λ _. reading (take i (path_of q)) ≡ None) [
-      | inl some ↦ absurd (false≢true (sym (end.stops (let e = path-length q in omega arith))
-          ∙ prefix_some node_sizes reading paths v holds.hold (take (level + 1) (path_of q)) (take i (path_of q)) some
-          (ap (λ p. is_start p (take i (path_of q))) (sym (take-take (level + 1) i (path_of q) (omega arith))) ∙ is_start_take (level + 1) (take i (path_of q)))))
-      | inr none ↦ is_none-None (reading (take i (path_of q))) none
-    ]
+      above : (i : ℕ) → i ≤ level → is_some (reading (take i (path_of q))) ≡ true
+      above i h =
+          prefix_some node_sizes reading paths v holds.hold (take i (path_of q)) (take level (path_of q)) (ap is_some at)
+          (ap (λ p. is_start p (take level (path_of q))) (sym (take-take i level (path_of q) h)) ∙ is_start_take i (take level (path_of q)))
 
-    here : reading (path_of (take (5 * level) q)) ≡ Some node
-    here = ap reading (way level deep) ∙ at
+      gone : (i : ℕ) → level < i → i ≤ length q / 5 → reading (take i (path_of q)) ≡ None
+      gone i more h = elim (cases_Bool (is_some (reading (take i (path_of q))))) as (λ _. reading (take i (path_of q)) ≡ None) [
+        | inl some ↦ absurd (false≢true (sym (end.stops (let e = path-length q in omega arith))
+            ∙ prefix_some node_sizes reading paths v holds.hold (take (level + 1) (path_of q)) (take i (path_of q)) some
+            (ap (λ p. is_start p (take i (path_of q))) (sym (take-take (level + 1) i (path_of q) (omega arith))) ∙ is_start_take (level + 1) (take i (path_of q)))))
+        | inr none ↦ is_none-None (reading (take i (path_of q))) none
+      ]
 
-    below_none : (i : ℕ) → level < i → i ≤ length q / 5 → reading (path_of (take (5 * i) q)) ≡ None
-    below_none i more h = ap reading (way i h) ∙ gone i more h
+      here : reading (path_of (take (5 * level) q)) ≡ Some node
+      here = ap reading (way level deep) ∙ at
 
-    -- the slots for nodes
-    pub node_slots_are : node_slots_lacking s.nodes (layout_of v.slots v.tiers w.tiers sized) q ≡ nodes_asked v node level (length q)
-    node_slots_are = elim (cases_lt level (length q / 5)) as (λ _. node_slots_lacking s.nodes (layout_of v.slots v.tiers w.tiers sized) q ≡ nodes_asked v node level (length q)) [
-      | inl inside ↦
-          ap (lacking_slots child_block_sizes (free_counts v.tiers)) (blocks_needed s.nodes sized.0 q (length q / 5) refl level inside
-          (λ i h. node_is i (omega arith) ∙ above i h) (λ i more h. node_is i h ∙ ap is_some (gone i more h))
-          (λ i more h. (child_size (take (5 * i) q) (depth_is i h) None (below_none i more h), no_children (take (5 * i) q) (depth_is i h) (below_none i more h)))
-          ∙ ap₂ (λ o c. option_to_list (block_needed child_block_sizes o c) ++ replicate (length q / 5 - (level + 1)) 1)
-          (child_size (take (5 * level) q) (depth_is level deep) (Some node) here) (children_are (take (5 * level) q) (depth_is level deep) node here))
-          ∙ nodes_lacking_is v.tiers holds.hold.sizes_are node.child_tier (rank node.child_bitmap 32) (length q / 5 - (level + 1))
-          ∙ sym (nodes_below v node level (length q) (inner_level level (length q) inside))
-      | inr past ↦
-          let last : level ≡ length q / 5 = (let d = deep in omega arith) in
-          ap (lacking_slots child_block_sizes (free_counts v.tiers)) (none_needed s.nodes sized.0 q (length q / 5) refl
-          (λ i h. node_is i h ∙ above i (omega arith)))
-          ∙ none_lacking child_block_sizes (free_counts v.tiers) ∙ sym (nodes_here v node level (length q) (last_level level (length q) last))
-    ]
+      below_none : (i : ℕ) → level < i → i ≤ length q / 5 → reading (path_of (take (5 * i) q)) ≡ None
+      below_none i more h = ap reading (way i h) ∙ gone i more h
 
-    home_needs : value_block_needed s.entries sized.1.0 q (home q) ≡ block_needed value_block_sizes (get sized.1.0 (home q)) (own_entries s.entries (home q))
-    home_needs =
-        ap (λ b. cond b (block_needed value_block_sizes (get sized.1.0 (home q)) (own_entries s.entries (home q))) None) (is-same_string (home q) (home q) refl)
+      -- the slots for nodes
+      pub node_slots_are : node_slots_lacking s.nodes (layout_of v.slots v.tiers w.tiers sized) q ≡ nodes_asked v node level (length q)
+      node_slots_are = elim (cases_lt level (length q / 5)) as (λ _. node_slots_lacking s.nodes (layout_of v.slots v.tiers w.tiers sized) q ≡ nodes_asked v node level (length q)) [
+        | inl inside ↦
+            ap (lacking_slots child_block_sizes (free_counts v.tiers)) (blocks_needed s.nodes sized.0 q (length q / 5) refl level inside
+            (λ i h. node_is i (omega arith) ∙ above i h) (λ i more h. node_is i h ∙ ap is_some (gone i more h))
+            (λ i more h. (child_size (take (5 * i) q) (depth_is i h) None (below_none i more h), no_children (take (5 * i) q) (depth_is i h) (below_none i more h)))
+            ∙ ap₂ (λ o c. option_to_list (block_needed child_block_sizes o c) ++ replicate (length q / 5 - (level + 1)) 1)
+            (child_size (take (5 * level) q) (depth_is level deep) (Some node) here) (children_are (take (5 * level) q) (depth_is level deep) node here))
+            ∙ nodes_lacking_is v.tiers holds.hold.sizes_are node.child_tier (rank node.child_bitmap 32) (length q / 5 - (level + 1))
+            ∙ sym (nodes_below v node level (length q) (inner_level level (length q) inside))
+        | inr past ↦
+            let last : level ≡ length q / 5 = (let d = deep in omega arith) in
+            ap (lacking_slots child_block_sizes (free_counts v.tiers)) (none_needed s.nodes sized.0 q (length q / 5) refl
+            (λ i h. node_is i h ∙ above i (omega arith)))
+            ∙ none_lacking child_block_sizes (free_counts v.tiers) ∙ sym (nodes_here v node level (length q) (last_level level (length q) last))
+      ]
 
-    -- the slots for values
-    pub cell_slots_are : cell_slots_lacking s.entries (layout_of v.slots v.tiers w.tiers sized) q ≡ cells_asked w node level (length q)
-    cell_slots_are =
-        ap (λ o. lacking_slots value_block_sizes (free_counts w.tiers) (option_to_list o)) home_needs
-        ∙ elim (cases_lt level (length q / 5)) as (λ _. lacking_slots value_block_sizes (free_counts w.tiers)
-        (option_to_list (block_needed value_block_sizes (get sized.1.0 (home q)) (own_entries s.entries (home q)))) ≡ cells_asked w node level (length q)) [
-          | inl inside ↦
-              let none = below_none (length q / 5) inside (omega arith) in
-              ap₂ (λ o c. lacking_slots value_block_sizes (free_counts w.tiers) (option_to_list (block_needed value_block_sizes o c)))
-              (value_size (home q) (depth_is (length q / 5) (omega arith)) None none) (no_values (home q) (depth_is (length q / 5) (omega arith)) none)
-              ∙ cells_lacking_is w.tiers holds.cells.sizes_are 0 0
-              ∙ sym (cells_below w node level (length q) (inner_level level (length q) inside))
-          | inr past ↦
-              let last : level ≡ length q / 5 = (let d = deep in omega arith) in
-              let own : reading (path_of (home q)) ≡ Some node = ap (λ i. reading (path_of (take (5 * i) q))) (sym last) ∙ here in
-              ap₂ (λ o c. lacking_slots value_block_sizes (free_counts w.tiers) (option_to_list (block_needed value_block_sizes o c)))
-              (value_size (home q) (depth_is (length q / 5) (omega arith)) (Some node) own) (values_are (home q) (depth_is (length q / 5) (omega arith)) node own)
-              ∙ cells_lacking_is w.tiers holds.cells.sizes_are node.value_tier (rank node.value_bitmap 32)
-              ∙ sym (cells_here w node level (length q) (last_level level (length q) last))
-        ]
+      home_needs : value_block_needed s.entries sized.1.0 q (home q) ≡ block_needed value_block_sizes (get sized.1.0 (home q)) (own_entries s.entries (home q))
+      home_needs =
+          ap (λ b. cond b (block_needed value_block_sizes (get sized.1.0 (home q)) (own_entries s.entries (home q))) None) (is-same_string (home q) (home q) refl)
+
+      -- the slots for values
+      pub cell_slots_are : cell_slots_lacking s.entries (layout_of v.slots v.tiers w.tiers sized) q ≡ cells_asked w node level (length q)
+      cell_slots_are =
+          ap (λ o. lacking_slots value_block_sizes (free_counts w.tiers) (option_to_list o)) home_needs
+          ∙ elim (cases_lt level (length q / 5)) as (λ _. lacking_slots value_block_sizes (free_counts w.tiers)
+          (option_to_list (block_needed value_block_sizes (get sized.1.0 (home q)) (own_entries s.entries (home q)))) ≡ cells_asked w node level (length q)) [
+            | inl inside ↦
+                let none = below_none (length q / 5) inside (omega arith) in
+                ap₂ (λ o c. lacking_slots value_block_sizes (free_counts w.tiers) (option_to_list (block_needed value_block_sizes o c)))
+                (value_size (home q) (depth_is (length q / 5) (omega arith)) None none) (no_values (home q) (depth_is (length q / 5) (omega arith)) none)
+                ∙ cells_lacking_is w.tiers holds.cells.sizes_are 0 0
+                ∙ sym (cells_below w node level (length q) (inner_level level (length q) inside))
+            | inr past ↦
+                let last : level ≡ length q / 5 = (let d = deep in omega arith) in
+                let own : reading (path_of (home q)) ≡ Some node = ap (λ i. reading (path_of (take (5 * i) q))) (sym last) ∙ here in
+                ap₂ (λ o c. lacking_slots value_block_sizes (free_counts w.tiers) (option_to_list (block_needed value_block_sizes o c)))
+                (value_size (home q) (depth_is (length q / 5) (omega arith)) (Some node) own) (values_are (home q) (depth_is (length q / 5) (omega arith)) node own)
+                ∙ cells_lacking_is w.tiers holds.cells.sizes_are node.value_tier (rank node.value_bitmap 32)
+                ∙ sym (cells_here w node level (length q) (last_level level (length q) last))
+          ]
 
 -- what an insertion of a new key leaves
 module _ {T E : Type 0} (for_limit : E → Type 0) (b : List Bool) (len : ℕ) (v v2 : Store Node) (w w2 : Store (Option T)) (count : ℕ) (s : Shaped v.slots w.slots)

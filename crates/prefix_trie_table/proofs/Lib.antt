@@ -55,6 +55,7 @@ pub mod OwnCounts
 pub mod Needs
 pub mod Asks
 pub mod Foreseen
+pub mod Resized
 pub mod Asked
 pub mod AskedBelow
 pub mod Retained

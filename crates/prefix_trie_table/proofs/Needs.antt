@@ -5,7 +5,8 @@ use Rattle.std.proofs.lemmas.Bool.{cases_eq, lt-ltb}
 use Rattle.std.proofs.lemmas.Bool.Decides.{nat_tests}
 use Rattle.std.proofs.lemmas.List.Folds.{find_at}
 use Rattle.std.proofs.lemmas.Option.{slice_get-get_or}
-use Rattle.std.specs.Prelude.{option_to_list, option_map, find}
+use Rattle.std.specs.Prelude.{option_to_list, option_map, find, MatchOption}
+use Rattle.std.specs.Option.{option_or}
 use Rattle.std.specs.List.{slice_get, position, position_or_len}
 use Rattle.prefix_trie_bits.specs.Model.Blocks.{smallest_size, child_block_sizes, value_block_sizes}
 use Rattle.prefix_trie_bits.specs.Model.Insertion.{block_needed, lacking_slots}
@@ -50,6 +51,21 @@ module _ (ts : List Tier) (sizes : List ℕ) (are : tier_sizes ts ≡ sizes) whe
       by : (b : Bool) → cond b None (smallest_size sizes (suc c + 1)) ≡ option_map (size_in sizes) (if b then None else tier_for ts (suc c + 1))
       by true = refl
       by false = smallest_is (suc c + 1)
+
+-- the block of a list that has one item more, which stays where it was or moved to the tier that was lacking
+pub block_after : (ts : List Tier) (sizes : List ℕ) → tier_sizes ts ≡ sizes → tier_for ts 1 ≡ Some 0 → (k tier count more : ℕ) → more ≡ count + 1 →
+    MatchOption (tier_lacking ts k count) (tier ≡ k) (λ to. tier ≡ to) →
+    size_if_any more (size_in sizes tier) ≡ option_or (block_needed sizes (size_if_any count (size_in sizes k)) count) (size_if_any count (size_in sizes k))
+block_after ts sizes are single k tier count more e stands =
+    ap (λ n. size_if_any n (size_in sizes tier)) (let f : more ≡ suc count = omega arith in f)
+    ∙ by count (tier_lacking ts k count) refl stands
+    ∙ ap (λ o. option_or o (size_if_any count (size_in sizes k))) (sym (needed_is ts sizes are k count))
+  where
+    by : (c : ℕ) (o : Option ℕ) → tier_lacking ts k c ≡ o → MatchOption o (tier ≡ k) (λ to. tier ≡ to) →
+        Some (size_in sizes tier) ≡ option_or (option_map (size_in sizes) o) (size_if_any c (size_in sizes k))
+    by c (Some to) is at = ap (λ t. Some (size_in sizes t)) at
+    by zero None is at = absurd (let x : ◌≡◌ {A = Option ℕ} (Some 0) None = sym single ∙ is in cc)
+    by (suc c) None is at = ap (λ t. Some (size_in sizes t)) at
 
 -- how many of the needed blocks have a size
 abbrev pub how_many : ℕ → List ℕ → ℕ

@@ -1,5 +1,7 @@
 -- Nodes and values by path, and the blocks in which they stand.
-use Rattle.std.specs.Prelude.{◌≡◌, ℕ, ◌+◌, ◌<◌, ◌≤◌, Bool, true, false, cond, List, [], ◌∷◌, ◌++◌, map, flat_map, slice_index_or, Option, None, Some, is_some, take, length, ◌||◌}
+use Rattle.std.specs.Prelude.{◌≡◌, ℕ, ◌+◌, ◌<◌, ◌≤◌, Bool, true, false, cond, List, [], ◌∷◌, ◌++◌, map, flat_map, slice_index_or, Option, None, Some, is_some, take, length, not, nat_lt, ◌||◌, ◌&&◌}
+use Rattle.std.specs.Option.{option_or}
+use Rattle.prefix_trie_table.specs.OwnBlocks.{child_block_size, value_block_size, child_need, value_need}
 use Rattle.std.specs.Ordering.{nat_cmp, eq_by_cmp}
 use Rattle.std.specs.Cmp.Lexicographic.{slice_cmp}
 use Rattle.std.specs.List.{list_any}
@@ -147,6 +149,7 @@ pub record ChildAdded (reading : List ℕ → Option Node) (paths : List (List �
   pub value_bitmap : node.value_bitmap ≡ n.value_bitmap
   pub value_block : node.value_block ≡ n.value_block
   pub value_tier : node.value_tier ≡ n.value_tier
+  pub children : child_block_size (Some node) ≡ option_or (child_need (Some n)) (child_block_size (Some n))
 
 -- the same of a node and of the values
 pub record AtValues {T : Type 0} (v : Store Node) (w : Store (Option T)) (slot : ℕ) : Type 0 where
@@ -177,6 +180,8 @@ pub record ValueSet {T : Type 0} (reading : List ℕ → Option Node) (paths : L
   pub hold : NodesHold node_sizes (with_node reading p node) paths v
   pub cells : CellsHold cell_sizes (with_node reading p node) (with_value values p b x) paths w
   pub counted : own_count (Some node) + one_if (is_some (values p b)) ≡ own_count (reading p) + one_if (is_some x)
+  pub children : child_block_size (Some node) ≡ child_block_size (reading p)
+  pub sized : values p b ≡ None → value_block_size (Some node) ≡ option_or (value_need (reading p)) (value_block_size (reading p))
 
 -- the way down a path ends at its node of this depth: there a node stands, and below it none does, or the path ends
 pub record IsEnd (nodes : List ℕ → Option Node) (path : List ℕ) (depth : ℕ) : Type 0 where
@@ -198,6 +203,14 @@ starts (c ∷ cs) = [] ∷ map (λ p. c ∷ p) (starts cs)
 -- whether q is a beginning of a path
 abbrev pub is_start : List ℕ → List ℕ → Bool
 is_start q path = list_any (same_path q) (starts path)
+
+-- whether q, above the first `depth` steps of a path, gets a child when the nodes on the path are added
+abbrev pub gains : (List ℕ → Option Node) → List ℕ → ℕ → List ℕ → Bool
+gains nodes path depth q = is_start q path && (nat_lt (length q) depth && not (is_some (nodes (take (length q + 1) path))))
+
+-- the size of the child block that q has then
+abbrev pub size_gained : (List ℕ → Option Node) → List ℕ → ℕ → List ℕ → Option ℕ
+size_gained nodes path depth q = option_or (cond (gains nodes path depth q) (child_need (nodes q)) None) (child_block_size (nodes q))
 
 -- the nodes and the values hold what a table has
 pub record Holds {T : Type 0} (reading : List ℕ → Option Node) (values : List ℕ → ℕ → Option T) (paths : List (List ℕ)) (v : Store Node)
@@ -231,6 +244,9 @@ pub record Walked {T : Type 0} (reading : List ℕ → Option Node) (values : Li
   pub deep : Deepest later path depth slot v
   pub grown : (q : List ℕ) → is_some (later q) ≡ (is_some (reading q) || is_start q (take depth path))
   pub counted : entry_count later paths ≡ entry_count reading before
+  pub children : (q : List ℕ) → child_block_size (later q) ≡ size_gained reading path depth q
+  pub sized : (q : List ℕ) → value_block_size (later q) ≡ value_block_size (reading q)
+  pub needs : (child_need (later (take depth path)) ≡ child_need (reading (take depth path))) × (value_need (later (take depth path)) ≡ value_need (reading (take depth path)))
 
 -- a value was put at a bit of the node with a path, and the nodes on the path were added
 pub record EntryAdded {T : Type 0} (reading : List ℕ → Option Node) (values : List ℕ → ℕ → Option T) (before : List (List ℕ)) (path : List ℕ) (b : ℕ)
@@ -240,6 +256,9 @@ pub record EntryAdded {T : Type 0} (reading : List ℕ → Option Node) (values 
   pub holds : Holds later (with_value values path b x) paths v w
   pub grown : (q : List ℕ) → is_some (later q) ≡ (is_some (reading q) || is_start q path)
   pub counted : entry_count later paths + one_if (is_some (values path b)) ≡ entry_count reading before + one_if (is_some x)
+  pub children : (q : List ℕ) → child_block_size (later q) ≡ size_gained reading path (length path) q
+  pub sized : values path b ≡ None → (q : List ℕ) →
+      value_block_size (later q) ≡ option_or (cond (same_path q path) (value_need (reading q)) None) (value_block_size (reading q))
 
 module _ {T : Type 0} where
   -- the value at bit b of a node

@@ -1,5 +1,5 @@
 -- Which blocks the nodes in an array have, and how many blocks of each tier are free.
-use Rattle.std.specs.Prelude.{◌≡◌, ℕ, zero, suc, Bool, cond, List, map, length, Option, None, Some}
+use Rattle.std.specs.Prelude.{◌≡◌, ℕ, Bool, cond, List, map, length, Option, None}
 use Rattle.std.proofs.Common.{refl, sym, ◌∙◌}
 use Rattle.std.specs.Coded.{Coded, coded_ℕ, coded_option, coded_list, coded_bool, coded×, code_by, Coded-set}
 use Rattle.std.specs.FinMap.{get, code}
@@ -8,26 +8,10 @@ use Rattle.prefix_trie_bits.specs.Model.Blocks.{Sizes, Layout}
 use Rattle.prefix_trie_bits.specs.Model.Nodes.{is_node_depth}
 use Rattle.prefix_trie_bits.proofs.Model.Members.{same_entries}
 use Rattle.prefix_trie_table.specs.declared.allocator.node.Node.{Node}
-use Rattle.prefix_trie_table.specs.Bitmaps.{rank}
-use Rattle.prefix_trie_table.specs.Cells.{node_sizes, cell_sizes}
 use Rattle.prefix_trie_table.specs.Digits.{path_of}
 use Rattle.prefix_trie_table.specs.Store.{Tier}
-use Rattle.prefix_trie_table.specs.Forest.{read, size_in}
-
--- this size, where the block has anything to hold
-abbrev pub size_if_any : ℕ → ℕ → Option ℕ
-size_if_any zero size = None
-size_if_any (suc n) size = Some size
-
--- the size of the block of a node's children, where it has children
-abbrev pub child_block_size : Option Node → Option ℕ
-child_block_size None = None
-child_block_size (Some n) = size_if_any (rank n.child_bitmap 32) (size_in node_sizes n.child_tier)
-
--- the same of its values
-abbrev pub value_block_size : Option Node → Option ℕ
-value_block_size None = None
-value_block_size (Some n) = size_if_any (rank n.value_bitmap 32) (size_in cell_sizes n.value_tier)
+use Rattle.prefix_trie_table.specs.Forest.{read}
+pub use Rattle.prefix_trie_table.specs.OwnBlocks.{size_if_any, child_block_size, value_block_size}
 
 -- these are the sizes that a function gives for the nodes in an array, by the strings at which the nodes stand
 abbrev pub AreSizesBy : (Option Node → Option ℕ) → List Node → Sizes → Type 0

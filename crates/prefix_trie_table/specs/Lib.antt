@@ -3,6 +3,7 @@ pub mod Store
 pub mod Cells
 pub mod Bitmaps
 pub mod Digits
+pub mod OwnBlocks
 pub mod Forest
 pub mod Slots
 pub mod Lending

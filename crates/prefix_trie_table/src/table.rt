@@ -30,7 +30,7 @@ ghost use Rattle.prefix_trie_bits.specs.Model.Matches.{longest_match, shortest_m
 ghost use Rattle.prefix_trie_bits.specs.Model.Nodes.{root_alone, with_needed, nodes_without, nodes_without_below, needed, AreNodes};
 ghost use Rattle.prefix_trie_bits.specs.Model.Selections.{listing};
 ghost use Rattle.prefix_trie_bits.specs.Model.Visits.{visits, visits_to_match};
-ghost use Rattle.prefix_trie_bits.specs.Model.Insertion.{PassesLimit, node_slots_lacking, cell_slots_lacking};
+ghost use Rattle.prefix_trie_bits.specs.Model.Insertion.{PassesLimit, TakesBlocks, node_slots_lacking, cell_slots_lacking, child_block_needed, value_block_needed};
 ghost use Rattle.prefix_trie_bits.specs.Model.Room.{MayPassLimit};
 ghost use Rattle.prefix_trie_bits.specs.declared.prefix.Refusal.TheVariants.{IndexRange};
 ghost use Rattle.prefix_trie_bits.specs.Model.Blocks.{no_layout};
@@ -225,6 +225,14 @@ impl<T: Drop, A: Allocator, V: Tick> Table<T, A, V> {
             + cell_slots_lacking self.old.entries self.old.layout (take len (K.bits key)))
             (λ _. self.new.room.cell_slots ≤ self.old.room.cell_slots
             + cell_slots_lacking self.old.entries self.old.layout (take len (K.bits key))) }
+        ensures child_blocks { contains_key self.old.entries (take len (K.bits key)) ≡ false → MatchResult result
+            (λ _. TakesBlocks (child_block_needed self.old.nodes self.old.layout.child_blocks (take len (K.bits key)))
+            self.old.layout.child_blocks self.new.layout.child_blocks)
+            (λ _. self.new.layout.child_blocks ≡ self.old.layout.child_blocks) }
+        ensures value_blocks { contains_key self.old.entries (take len (K.bits key)) ≡ false → MatchResult result
+            (λ _. TakesBlocks (value_block_needed self.old.entries self.old.layout.value_blocks (take len (K.bits key)))
+            self.old.layout.value_blocks self.new.layout.value_blocks)
+            (λ _. self.new.layout.value_blocks ≡ self.old.layout.value_blocks) }
         ensures room { (self.new.room.limit ≡ self.old.room.limit)
             × (self.old.room.node_slots ≤ self.new.room.node_slots)
             × (self.new.room.node_slots ≤ self.old.room.node_slots + 56)

@@ -1,7 +1,7 @@
-use Rattle.std.proofs.Common.{rules, ◌≡◌, ◌+◌, ◌≤◌, Bool, false, List, MatchResult, IfErr, IsOk, take, subst, arith}
+use Rattle.std.proofs.Common.{rules, ◌≡◌, ◌+◌, ◌≤◌, Bool, false, List, MatchResult, IfErr, IsOk, IsTrue, take, subst, arith}
 use Rattle.std.specs.FinMap.{contains_key}
 use Rattle.prefix_trie_bits.specs.declared.prefix.Refusal.TheVariants.{IndexRange}
-use Rattle.prefix_trie_bits.specs.Model.Insertion.{PassesLimit, node_slots_lacking, cell_slots_lacking}
+use Rattle.prefix_trie_bits.specs.Model.Insertion.{PassesLimit, TakesBlocks, node_slots_lacking, cell_slots_lacking, child_block_needed, value_block_needed}
 use Rattle.prefix_trie_bits.specs.Keys.{path_within}
 use Rattle.prefix_trie_bits.specs.Laws.Steps.{IsMap}
 use Rattle.prefix_trie_table.specs.Shape.{Contents}
@@ -79,3 +79,19 @@ returns-clause-leaves g c =
     let cells = room.4 in
     leaves_few g.P.R.Key.bit_width c.self.inside.table _ c.insert.new.self.room c.self.view_is c.self.invariant.are_nodes room.0 limit.0 limit.1
     nodes (omega (arith, cells))
+
+pub returns-clause-child_blocks : goal.returns-clause-child_blocks
+returns-clause-child_blocks g c =
+    by_path g c (λ old q. contains_key old.entries q ≡ false → MatchResult c.insert.result
+    (λ _. TakesBlocks (child_block_needed old.nodes old.layout.child_blocks q) old.layout.child_blocks c.insert.new.self.layout.child_blocks)
+    (λ _. c.insert.new.self.layout.child_blocks ≡ old.layout.child_blocks)) c.insert.ensures.child_blocks
+
+pub returns-clause-value_blocks : goal.returns-clause-value_blocks
+returns-clause-value_blocks g c =
+    by_path g c (λ old q. contains_key old.entries q ≡ false → MatchResult c.insert.result
+    (λ _. TakesBlocks (value_block_needed old.entries old.layout.value_blocks q) old.layout.value_blocks c.insert.new.self.layout.value_blocks)
+    (λ _. c.insert.new.self.layout.value_blocks ≡ old.layout.value_blocks)) c.insert.ensures.value_blocks
+
+pub returns-clause-layout : goal.returns-clause-layout
+returns-clause-layout g c =
+    by_path g c (λ old q. IsTrue (contains_key old.entries q) → c.insert.new.self.layout ≡ old.layout) c.insert.ensures.layout

@@ -5,13 +5,14 @@ use Rattle.std.specs.FinMap.{get, contains_key}
 use Rattle.prefix_trie_bits.specs.Model.Entries.{with_entry}
 use Rattle.prefix_trie_bits.specs.Model.Nodes.{with_needed}
 use Rattle.prefix_trie_bits.specs.declared.prefix.Refusal.TheVariants.{IndexRange}
-use Rattle.prefix_trie_bits.specs.Model.Insertion.{PassesLimit, node_slots_lacking, cell_slots_lacking}
+use Rattle.prefix_trie_bits.specs.Model.Insertion.{PassesLimit, TakesBlocks, node_slots_lacking, cell_slots_lacking, child_block_needed, value_block_needed}
 use Rattle.prefix_trie_table.specs.Asked.{Obtains}
 use Rattle.prefix_trie_table.specs.Shape.{Contents}
 use Rattle.prefix_trie_table.specs.declared.allocator.node.Node.{Node}
 use Rattle.prefix_trie_table.specs.Store.{Store, SameRoom}
 use Rattle.prefix_trie_table.proofs.Sizing.{table_sizes, same_layout, layout_of}
 use Rattle.prefix_trie_table.proofs.Foreseen.{obtained}
+use Rattle.prefix_trie_table.proofs.Resized.{sizes_left}
 use Rattle.prefix_trie_table.proofs.Shapes.{shape_entries, left_shape, table_left, before_left, entries_left, nodes_left, same_left}
 use Rattle.prefix_trie_table.proofs.table.Table.insert.Goals as goal
 
@@ -142,3 +143,28 @@ returns-clause-exact_range g c =
           (λ refused h cause. elim (h cause) [ inl nodes ↦ inl nodes | inr cells ↦ inr (let e = c.self.invariant.one_limit in omega (arith, cells, e)) ])
           (obtains g c is_new).range) new
     ]
+
+resized : (g : _) (c : goal.After-self-1 g) → contains_key c.self.inside.shape.0.entries (take c.args.len (g.K.Key.bits c.args.key)) ≡ false →
+    MatchResult c.insert_entry.result
+    (λ _. TakesBlocks (child_block_needed c.self.inside.shape.0.nodes c.self.inside.sizes.0 (take c.args.len (g.K.Key.bits c.args.key))) c.self.inside.sizes.0 c.self-1.given.1.0.0)
+    (λ _. c.self-1.given.1.0.0 ≡ c.self.inside.sizes.0)
+    × MatchResult c.insert_entry.result
+    (λ _. TakesBlocks (value_block_needed c.self.inside.shape.0.entries c.self.inside.sizes.1.0 (take c.args.len (g.K.Key.bits c.args.key))) c.self.inside.sizes.1.0 c.self-1.given.1.0.1.0)
+    (λ _. c.self-1.given.1.0.1.0 ≡ c.self.inside.sizes.1.0)
+resized g c new = sizes_left (take c.args.len (g.K.Key.bits c.args.key)) c.args.value c.self.inside.nodes c.insert_entry.new.nodes c.self.inside.cells
+    c.insert_entry.new.cells c.self.inside.count c.self.inside.shape c.self.invariant c.self.inside.sizes c.self-1.given.1.0 new c.insert_entry.result
+    c.insert_entry.ensures.inserted
+
+pub returns-clause-child_blocks : goal.returns-clause-child_blocks
+returns-clause-child_blocks g c =
+    let q = take c.args.len (g.K.Key.bits c.args.key) in
+    subst (λ (s : Contents g.row.T.Denot). contains_key s.entries q ≡ false → MatchResult c.insert_entry.result
+    (λ _. TakesBlocks (child_block_needed s.nodes s.layout.child_blocks q) s.layout.child_blocks c.self-1.given.1.0.0)
+    (λ _. c.self-1.given.1.0.0 ≡ s.layout.child_blocks)) c.self.view_is (λ new. (resized g c new).0)
+
+pub returns-clause-value_blocks : goal.returns-clause-value_blocks
+returns-clause-value_blocks g c =
+    let q = take c.args.len (g.K.Key.bits c.args.key) in
+    subst (λ (s : Contents g.row.T.Denot). contains_key s.entries q ≡ false → MatchResult c.insert_entry.result
+    (λ _. TakesBlocks (value_block_needed s.entries s.layout.value_blocks q) s.layout.value_blocks c.self-1.given.1.0.1.0)
+    (λ _. c.self-1.given.1.0.1.0 ≡ s.layout.value_blocks)) c.self.view_is (λ new. (resized g c new).1)

@@ -1,11 +1,12 @@
 use Rattle.std.proofs.Common.{◌≡◌, ◌+◌, ◌<◌, ◌≤◌, ◌∷◌, ap, sym, ◌∙◌, refl, subst, arith, insert}
 use Rattle.prefix_trie_table.specs.declared.allocator.node.Node.{Node}
+use Rattle.std.specs.Prelude.{MatchOption}
 use Rattle.prefix_trie_table.specs.Bitmaps.{rank}
 use Rattle.prefix_trie_table.specs.Cells.{blank_node, node_sizes}
 use Rattle.prefix_trie_table.specs.Store.{Sound, Store, IsReady, tier_lacking, free_at, tier_at, block}
 use Rattle.prefix_trie_table.proofs.Bits.{has_bit-is, rank-ones}
 use Rattle.prefix_trie_table.proofs.BitLists.{rank-within}
-use Rattle.prefix_trie_table.proofs.Adding.{at_is, has_list, tier_small, added}
+use Rattle.prefix_trie_table.proofs.Adding.{entered_as, at_is, has_list, tier_small, added}
 use Rattle.prefix_trie_table.proofs.table.insertion.add_child.Goals as goal
 
 pub insert_at-block-requires-clause-holds : goal.insert_at-block-requires-clause-holds
@@ -63,5 +64,8 @@ returns-clause-added g c = λ reading paths p n hold stands is.
     (block c.insert_at-block.result.tier c.insert_at-block.result.start (tier_at c.args.nodes.now.tiers c.insert_at-block.result.tier).size
     (insert xs c.rank-place.result b) ∷ live) c.insert_at-block.new.self) c.blank.ensures
     (c.insert_at-block.ensures.sound size xs live s (count ∙ sym same)))
+    (subst (λ n. MatchOption (tier_lacking c.args.nodes.now.tiers c.args.node.child_tier n) (c.insert_at-block.result.tier ≡ c.args.node.child_tier)
+    (λ to. c.insert_at-block.result.tier ≡ to)) same (entered_as (tier_lacking c.args.nodes.now.tiers c.args.node.child_tier c.count.result) c.insert_at-block.result
+    c.args.node.child_tier c.args.node.child_block c.insert_at-block.ensures.tier))
     (c.rank-place.ensures ∙ sym (rank-ones c.args.node.child_bitmap c.args.child (omega (arith, c.requires.child)))) c.requires.child
     c.requires.missing c.put.ensures.slots reading paths p n hold stands is

@@ -1,10 +1,11 @@
 use Rattle.std.proofs.Common.{◌≡◌, ◌+◌, ◌<◌, None, sym, ◌∙◌, refl, subst, arith}
+use Rattle.std.specs.Prelude.{MatchOption}
 use Rattle.prefix_trie_table.specs.Bitmaps.{rank}
 use Rattle.prefix_trie_table.specs.Cells.{cell_sizes}
-use Rattle.prefix_trie_table.specs.Store.{IsReady}
+use Rattle.prefix_trie_table.specs.Store.{IsReady, tier_lacking}
 use Rattle.prefix_trie_table.proofs.Bits.{has_bit-is, rank-ones}
 use Rattle.prefix_trie_table.proofs.BitLists.{rank-within}
-use Rattle.prefix_trie_table.proofs.Adding.{at_is, at_values, has_values, tier_small, values_added}
+use Rattle.prefix_trie_table.proofs.Adding.{entered_as, at_is, at_values, has_values, tier_small, values_added}
 use Rattle.prefix_trie_table.proofs.table.insertion.add_value.Goals as goal
 
 pub insert_at-block-requires-clause-holds : goal.insert_at-block-requires-clause-holds
@@ -51,5 +52,8 @@ returns-clause-added g c = λ reading paths values p n hold cells stands is.
     c.args.bit c.insert_at-block.result.tier c.insert_at-block.result.start c.with_bit-value_bitmap.result _ c.args.node _ c.args.value
     c.requires.node c.with_bit-value_bitmap.ensures.sets refl c.insert_at-block.ensures.spends
     (λ size xs live s count. c.insert_at-block.ensures.sound size xs live s (count ∙ sym same))
+    (subst (λ n. MatchOption (tier_lacking c.args.cells.now.tiers c.args.node.value_tier n) (c.insert_at-block.result.tier ≡ c.args.node.value_tier)
+    (λ to. c.insert_at-block.result.tier ≡ to)) same (entered_as (tier_lacking c.args.cells.now.tiers c.args.node.value_tier c.count.result) c.insert_at-block.result
+    c.args.node.value_tier c.args.node.value_block c.insert_at-block.ensures.tier))
     (c.rank-place.ensures ∙ sym (rank-ones c.args.node.value_bitmap c.args.bit (omega (arith, c.requires.bit)))) (omega (arith, c.requires.bit))
     c.requires.missing c.requires.bit c.put.ensures.slots reading paths values p n hold cells stands is

@@ -1,0 +1,33 @@
+-- The sizes of a node's own two blocks, and of those that it needs before it takes one child or one value more.
+use Rattle.std.specs.Prelude.{ℕ, zero, suc, Option, None, Some}
+use Rattle.prefix_trie_bits.specs.Model.Blocks.{child_block_sizes, value_block_sizes}
+use Rattle.prefix_trie_bits.specs.Model.Insertion.{block_needed}
+use Rattle.prefix_trie_table.specs.declared.allocator.node.Node.{Node}
+use Rattle.prefix_trie_table.specs.Bitmaps.{rank}
+use Rattle.prefix_trie_table.specs.Cells.{node_sizes, cell_sizes}
+use Rattle.prefix_trie_table.specs.Store.{size_in}
+
+-- the size, where there are any
+abbrev pub size_if_any : ℕ → ℕ → Option ℕ
+size_if_any zero size = None
+size_if_any (suc n) size = Some size
+
+-- the size of the block of a node's children, where it has children
+abbrev pub child_block_size : Option Node → Option ℕ
+child_block_size None = None
+child_block_size (Some n) = size_if_any (rank n.child_bitmap 32) (size_in node_sizes n.child_tier)
+
+-- the same of its values
+abbrev pub value_block_size : Option Node → Option ℕ
+value_block_size None = None
+value_block_size (Some n) = size_if_any (rank n.value_bitmap 32) (size_in cell_sizes n.value_tier)
+
+-- the size of the block that a node needs before it takes one child more; a missing node needs what a blank one does
+abbrev pub child_need : Option Node → Option ℕ
+child_need None = block_needed child_block_sizes None 0
+child_need (Some n) = block_needed child_block_sizes (child_block_size (Some n)) (rank n.child_bitmap 32)
+
+-- the same of values
+abbrev pub value_need : Option Node → Option ℕ
+value_need None = block_needed value_block_sizes None 0
+value_need (Some n) = block_needed value_block_sizes (value_block_size (Some n)) (rank n.value_bitmap 32)
