@@ -6,6 +6,7 @@ pub mod NodeSets
 pub mod Ordered
 pub mod NodeListings
 pub mod Visits
+pub mod Ways
 pub mod Matches
 pub mod Listings
 pub mod Halves

@@ -9,6 +9,7 @@ pub mod Addresses
 pub mod Asking
 pub mod WritingWalk
 pub mod Blocks
+pub mod Insertion
 pub mod Step
 pub mod HandsOut
 pub mod Room

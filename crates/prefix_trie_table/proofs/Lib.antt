@@ -47,6 +47,8 @@ pub mod NodeCounts
 pub mod Settling
 pub mod PathStrings
 pub mod Sizing
+pub mod OwnCounts
+pub mod Needs
 pub mod Asked
 pub mod AskedBelow
 pub mod Retained

@@ -1,0 +1,51 @@
+-- Which blocks the insertion of a new key takes, and the slots that these ask for. This project's own.
+use Rattle.std.specs.Prelude.{◌≡◌, ℕ, ◌+◌, ◌-◌, ◌*◌, Bool, cond, not, ◌&&◌, ◌==◌, List, [], ◌∷◌, Option, None, Some, length, take, filter, filter_map, nat_lt, option_to_list}
+use Rattle.std.specs.Option.{option_or}
+use Rattle.std.specs.FinMap.{get}
+use Rattle.prefix_trie_bits.specs.Bits.{begins}
+use Rattle.prefix_trie_bits.specs.Order.{same_string}
+use Rattle.prefix_trie_bits.specs.Model.Entries.{Entries}
+use Rattle.prefix_trie_bits.specs.Model.Nodes.{Nodes, has_node, is_node_depth, nodes_above, home}
+use Rattle.prefix_trie_bits.specs.Model.Blocks.{Sizes, Layout, smallest_size, child_block_sizes, value_block_sizes, child_count, own_entries}
+
+-- the size of the block that a list of so many items needs before it takes one more, where its own block has the size that is
+-- named: none while that block has room, and else the smallest that holds them all
+abbrev pub block_needed : List ℕ → Option ℕ → ℕ → Option ℕ
+block_needed sizes None count = smallest_size sizes (count + 1)
+block_needed sizes (Some size) count = cond (nat_lt count size) None (smallest_size sizes (count + 1))
+
+-- whether p gets a child when q is inserted: p is above q's own node on the way to it, and the next node on the way is missing.
+-- So does each such p that is itself missing; it has no child and no block before
+abbrev pub gains_child : Nodes → List Bool → List Bool → Bool
+gains_child n q p =
+    (is_node_depth p && begins p q) && (nat_lt (length p) (length (home q)) && not (has_node n (take (length p + 5) q)))
+
+-- the block that the insertion of q needs for the children of p
+abbrev pub child_block_needed : Nodes → Sizes → List Bool → List Bool → Option ℕ
+child_block_needed n blocks q p = cond (gains_child n q p) (block_needed child_block_sizes (get blocks p) (child_count n p)) None
+
+module _ {T : Type 0} where
+  -- the block that it needs for the values of p
+  abbrev pub value_block_needed : Entries T → Sizes → List Bool → List Bool → Option ℕ
+  value_block_needed m blocks q p = cond (same_string p (home q)) (block_needed value_block_sizes (get blocks p) (own_entries m p)) None
+
+-- the slots of the needed blocks beyond those that are free: `free` has a number for each size
+abbrev pub lacking_slots : List ℕ → List ℕ → List ℕ → ℕ
+lacking_slots [] free needed = 0
+lacking_slots (size ∷ sizes) [] needed = size * length (filter (λ s. s == size) needed) + lacking_slots sizes [] needed
+lacking_slots (size ∷ sizes) (f ∷ free) needed = size * (length (filter (λ s. s == size) needed) - f) + lacking_slots sizes free needed
+
+-- the slots for nodes that the insertion of q lacks
+abbrev pub node_slots_lacking : Nodes → Layout → List Bool → ℕ
+node_slots_lacking n layout q =
+    lacking_slots child_block_sizes layout.free_child_blocks (filter_map (child_block_needed n layout.child_blocks q) (nodes_above q))
+
+module _ {T : Type 0} where
+  -- the slots for values that it lacks
+  abbrev pub cell_slots_lacking : Entries T → Layout → List Bool → ℕ
+  cell_slots_lacking m layout q =
+      lacking_slots value_block_sizes layout.free_value_blocks (option_to_list (value_block_needed m layout.value_blocks q (home q)))
+
+-- the sizes as they were, but where a block was needed the size of that one
+abbrev pub TakesBlocks : (List Bool → Option ℕ) → Sizes → Sizes → Type 0
+TakesBlocks needed before after = (p : List Bool) → get after p ≡ option_or (needed p) (get before p)

@@ -1,0 +1,147 @@
+-- The blocks that an insertion needs, by strings and by the tiers and counts of nodes.
+use Rattle.std.proofs.Common.{◌≡◌, ℕ, zero, suc, ◌+◌, ◌-◌, ◌*◌, ◌<◌, ◌≤◌, ◌==◌, inl, inr, Bool, true, false, cond, not, ◌&&◌, ◌||◌, nat_lt, nat_le, if◌then◌else◌, List, [], ◌∷◌, ◌++◌, length, filter, replicate, Option, None, Some, refl, sym, ap, ap₂, ◌∙◌, arith, eqb-true, eq-eqb, append-nil, ◌≢◌}
+use Rattle.std.proofs.lemmas.List.{length-map}
+use Rattle.std.proofs.lemmas.Bool.{cases_eq, lt-ltb}
+use Rattle.std.proofs.lemmas.Bool.Decides.{nat_tests}
+use Rattle.std.proofs.lemmas.List.Folds.{find_at}
+use Rattle.std.proofs.lemmas.Option.{slice_get-get_or}
+use Rattle.std.specs.Prelude.{option_to_list, option_map, find}
+use Rattle.std.specs.List.{slice_get, position, position_or_len}
+use Rattle.prefix_trie_bits.specs.Model.Blocks.{smallest_size, child_block_sizes, value_block_sizes}
+use Rattle.prefix_trie_bits.specs.Model.Insertion.{block_needed, lacking_slots}
+use Rattle.prefix_trie_bits.proofs.Checks.{below, at_below}
+use Rattle.prefix_trie_bits.proofs.Model.Members.{or-cases, from-not}
+use Rattle.prefix_trie_table.specs.Cells.{node_sizes, cell_sizes}
+use Rattle.prefix_trie_table.specs.Layouts.{size_if_any, free_counts}
+use Rattle.prefix_trie_table.specs.Store.{Tier, tier_at, tier_for, tier_sizes, size_in, free_at, tier_lacking, one_at, many_at, slots_of}
+use Rattle.prefix_trie_table.specs.Store.{lacking_slots as slots_lacking}
+use Rattle.prefix_trie_table.proofs.Spending.{size_at, tier_for_sizes}
+use Rattle.prefix_trie_table.proofs.Turnovers.{many_here, many_other, many-add}
+use Rattle.prefix_trie_table.proofs.Preparing.{lacking_inside}
+
+-- the first size that serves is that of the first tier that does
+size_found : (f : ℕ → Bool) (sizes : List ℕ) → find f sizes ≡ option_map (size_in sizes) (position f sizes)
+size_found f sizes = find_at f sizes ∙ there (nat_lt (position_or_len f sizes) (length sizes)) refl
+  where
+    past : (xs : List ℕ) (i : ℕ) → length xs ≤ i → slice_get xs i ≡ None
+    past [] i h = refl
+    past (x ∷ xs) zero h = absurd (omega arith)
+    past (x ∷ xs) (suc i) h = past xs i (omega arith)
+
+    there : (b : Bool) → nat_lt (position_or_len f sizes) (length sizes) ≡ b →
+        slice_get sizes (position_or_len f sizes) ≡ option_map (size_in sizes) (cond b (Some (position_or_len f sizes)) None)
+    there true e = slice_get-get_or sizes (position_or_len f sizes) 0 (let h : position_or_len f sizes < length sizes = grind (arith, nat_tests) in h)
+    there false e = past sizes (position_or_len f sizes) (let h : length sizes ≤ position_or_len f sizes = grind (arith, nat_tests) in h)
+
+module _ (ts : List Tier) (sizes : List ℕ) (are : tier_sizes ts ≡ sizes) where
+  smallest_is : (n : ℕ) → smallest_size sizes n ≡ option_map (size_in sizes) (tier_for ts n)
+  smallest_is n =
+      size_found (λ size. nat_le n size) sizes
+      ∙ ap (option_map (size_in sizes)) (sym (tier_for_sizes ts n ∙ ap (λ ns. position (λ s. nat_le n s) ns) are))
+
+  -- the block that a list needs, by its size and by its tier
+  pub needed_is : (k count : ℕ) → block_needed sizes (size_if_any count (size_in sizes k)) count ≡ option_map (size_in sizes) (tier_lacking ts k count)
+  needed_is k zero = smallest_is (0 + 1)
+  needed_is k (suc c) =
+      ap (λ n. block_needed sizes (Some n) (suc c)) (ap (λ ns. size_in ns k) (sym are) ∙ sym (size_at ts k))
+      ∙ by (nat_lt (suc c) (tier_at ts k).size)
+      ∙ ap (λ b. option_map (size_in sizes) (if b && nat_lt (suc c) (tier_at ts k).size then None else tier_for ts (suc c + 1))) (sym (lt-ltb 0 (suc c) (omega arith)))
+    where
+      by : (b : Bool) → cond b None (smallest_size sizes (suc c + 1)) ≡ option_map (size_in sizes) (if b then None else tier_for ts (suc c + 1))
+      by true = refl
+      by false = smallest_is (suc c + 1)
+
+-- how many of the needed blocks have a size
+abbrev pub how_many : ℕ → List ℕ → ℕ
+how_many size needed = length (filter (λ s. s == size) needed)
+
+-- the slots of the lacking blocks, by sizes and by tiers
+pub lacking_by_tiers : (ts : List Tier) (needed : List ℕ) (n : ℕ → ℕ) → ((j : ℕ) → j < length ts → how_many (size_in (tier_sizes ts) j) needed ≡ n j) →
+    lacking_slots (tier_sizes ts) (free_counts ts) needed ≡ slots_of (tier_sizes ts) (λ j. n j - free_at ts j)
+lacking_by_tiers [] needed n same = refl
+lacking_by_tiers (t ∷ ts) needed n same =
+    ap₂ (λ a b. t.size * (a - length t.starts) + b) (same 0 (omega arith))
+    (lacking_by_tiers ts needed (λ j. n (suc j)) (λ j h. same (suc j) (omega arith)))
+
+-- no two of seven sizes are the same
+unfoldable test_apart : List ℕ → ℕ → ℕ → Bool
+test_apart sizes j t = (j == t) || not (size_in sizes t == size_in sizes j)
+
+unfoldable all_apart : List ℕ → Bool
+all_apart sizes = below (λ j. below (test_apart sizes j) 7) 7
+
+nodes_apart : all_apart node_sizes ≡ true
+unfolding all_apart test_apart below
+nodes_apart = refl
+
+cells_apart : all_apart cell_sizes ≡ true
+unfolding all_apart test_apart below
+cells_apart = refl
+
+apart : (sizes : List ℕ) → all_apart sizes ≡ true → (j t : ℕ) → j < 7 → t < 7 → j ≢ t → (size_in sizes t == size_in sizes j) ≡ false
+unfolding all_apart test_apart
+apart sizes all j t hj ht ne =
+    elim (or-cases (j == t) (not (size_in sizes t == size_in sizes j)) (at_below (test_apart sizes j) 7 (at_below (λ j. below (test_apart sizes j) 7) 7 all j hj) t ht))
+    as (λ _. (size_in sizes t == size_in sizes j) ≡ false) [
+      | inl same ↦ absurd (ne (eqb-true j t same))
+      | inr differ ↦ from-not (size_in sizes t == size_in sizes j) differ
+    ]
+
+-- as many of one tier's size as of the tier
+same-tier : (sizes : List ℕ) → all_apart sizes ≡ true → (j t : ℕ) → j < 7 → t < 7 → cond (size_in sizes t == size_in sizes j) 1 0 ≡ many_at t 1 j
+same-tier sizes all j t hj ht =
+    elim (cases_eq j t) as (λ _. cond (size_in sizes t == size_in sizes j) 1 0 ≡ many_at t 1 j) [
+      | inl e ↦ ap (λ b. cond b 1 0) (eq-eqb (size_in sizes t) (size_in sizes j) (ap (size_in sizes) (sym e))) ∙ sym (many_here t 1) ∙ ap (many_at t 1) (sym e)
+      | inr ne ↦ ap (λ b. cond b 1 0) (apart sizes all j t hj ht ne) ∙ sym (many_other t 1 j ne)
+    ]
+
+length-if : (b : Bool) (x : ℕ) (xs : List ℕ) → length (cond b (x ∷ xs) xs) ≡ cond b 1 0 + length xs
+length-if true x xs = omega arith
+length-if false x xs = omega arith
+
+how_many-more : (size x : ℕ) (xs : List ℕ) → how_many size (x ∷ xs) ≡ cond (x == size) 1 0 + how_many size xs
+how_many-more size x xs = length-if (x == size) x (filter (λ s. s == size) xs)
+
+how_many-first : (sizes : List ℕ) → all_apart sizes ≡ true → (j lists : ℕ) → j < 7 → how_many (size_in sizes j) (replicate lists (size_in sizes 0)) ≡ many_at 0 lists j
+how_many-first sizes all j zero h = (let e = many-add 0 0 0 j in omega arith)
+how_many-first sizes all j (suc lists) h =
+    let rest = how_many-first sizes all j lists h in
+    let one = same-tier sizes all j 0 h (omega arith) in
+    let more = many-add 0 1 lists j in
+    let step = how_many-more (size_in sizes j) (size_in sizes 0) (replicate lists (size_in sizes 0)) in
+    let e : many_at 0 (1 + lists) j ≡ many_at 0 (suc lists) j = ap (λ n. many_at 0 n j) (let f : 1 + lists ≡ suc lists = omega arith in f) in
+    omega (arith, rest, one, more, step, e)
+
+how_many-needed : (sizes : List ℕ) → all_apart sizes ≡ true → (j lists : ℕ) (o : Option ℕ) → j < 7 → ((t : ℕ) → o ≡ Some t → t < 7) →
+    how_many (size_in sizes j) (option_to_list (option_map (size_in sizes) o) ++ replicate lists (size_in sizes 0)) ≡ one_at o j + many_at 0 lists j
+how_many-needed sizes all j lists None h inside = (let e = how_many-first sizes all j lists h in omega (arith, e))
+how_many-needed sizes all j lists (Some t) h inside =
+    omega (arith, how_many-more (size_in sizes j) (size_in sizes t) (replicate lists (size_in sizes 0)), same-tier sizes all j t h (inside t refl), how_many-first sizes all j lists h)
+
+-- the slots that `prepare` lacks are those of the blocks that the model says
+lacking_is : (ts : List Tier) (sizes : List ℕ) → tier_sizes ts ≡ sizes → length sizes ≡ 7 → all_apart sizes ≡ true → (k count lists : ℕ) →
+    lacking_slots sizes (free_counts ts) (option_to_list (option_map (size_in sizes) (tier_lacking ts k count)) ++ replicate lists (size_in sizes 0)) ≡ slots_lacking ts k count lists
+lacking_is ts sizes are seven all k count lists =
+    let number : length ts ≡ 7 = sym (length-map ts (λ t. t.size)) ∙ ap (λ ns. length ns) are ∙ seven in
+    ap (λ ns. lacking_slots ns (free_counts ts) (option_to_list (option_map (size_in sizes) (tier_lacking ts k count)) ++ replicate lists (size_in sizes 0))) (sym are)
+    ∙ lacking_by_tiers ts (option_to_list (option_map (size_in sizes) (tier_lacking ts k count)) ++ replicate lists (size_in sizes 0))
+    (λ j. one_at (tier_lacking ts k count) j + many_at 0 lists j)
+    (λ j h. ap (λ ns. how_many (size_in ns j) (option_to_list (option_map (size_in sizes) (tier_lacking ts k count)) ++ replicate lists (size_in sizes 0))) are
+    ∙ how_many-needed sizes all j lists (tier_lacking ts k count) (omega arith) (λ t e. (let i = lacking_inside ts k count t e in omega arith)))
+
+-- of nodes
+pub nodes_lacking_is : (ts : List Tier) → tier_sizes ts ≡ node_sizes → (k count lists : ℕ) →
+    lacking_slots child_block_sizes (free_counts ts) (option_to_list (block_needed child_block_sizes (size_if_any count (size_in node_sizes k)) count) ++ replicate lists 1)
+    ≡ slots_lacking ts k count lists
+nodes_lacking_is ts are k count lists =
+    ap (λ o. lacking_slots child_block_sizes (free_counts ts) (option_to_list o ++ replicate lists 1)) (needed_is ts node_sizes are k count)
+    ∙ lacking_is ts node_sizes are refl nodes_apart k count lists
+
+-- of values
+pub cells_lacking_is : (ts : List Tier) → tier_sizes ts ≡ cell_sizes → (k count : ℕ) →
+    lacking_slots value_block_sizes (free_counts ts) (option_to_list (block_needed value_block_sizes (size_if_any count (size_in cell_sizes k)) count))
+    ≡ slots_lacking ts k count 0
+cells_lacking_is ts are k count =
+    ap (λ o. lacking_slots value_block_sizes (free_counts ts) (option_to_list o)) (needed_is ts cell_sizes are k count)
+    ∙ ap (lacking_slots value_block_sizes (free_counts ts)) (sym (append-nil (option_to_list (option_map (size_in cell_sizes) (tier_lacking ts k count)))))
+    ∙ lacking_is ts cell_sizes are refl cells_apart k count 0
