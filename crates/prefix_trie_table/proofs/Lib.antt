@@ -58,3 +58,5 @@ pub mod Lowered
 pub mod Rooted
 pub mod Emptied
 pub mod Copying
+pub mod Stepping
+pub mod Stepped

@@ -30,7 +30,7 @@ ghost use Rattle.prefix_trie_bits.specs.Model.Selections.{listing};
 ghost use Rattle.prefix_trie_bits.specs.Model.Visits.{visits, visits_to_match};
 ghost use Rattle.prefix_trie_bits.specs.Model.Room.{MayPassLimit};
 ghost use Rattle.prefix_trie_bits.specs.declared.prefix.Refusal.TheVariants.{IndexRange};
-ghost use Rattle.prefix_trie_bits.specs.Model.Blocks.{no_layout};
+ghost use Rattle.prefix_trie_bits.specs.Model.Blocks.{no_layout, SizesStepDown, value_block_sizes, child_block_sizes, own_entries, child_count};
 ghost use Rattle.prefix_trie_table.specs.Layouts.{Sized, Sized-prop};
 ghost use Rattle.prefix_trie_table.specs.Shape.{Shaped, Shaped-prop};
 
@@ -244,6 +244,12 @@ impl<T: Drop, A: Allocator, V: Tick> Table<T, A, V> {
             × (self.new.room.cell_slots ≤ self.old.room.cell_slots + 24) }
         ensures limit { (self.new.room.node_slots ≤ self.new.room.limit)
             × (self.new.room.cell_slots ≤ self.new.room.limit) }
+        ensures value_blocks { SizesStepDown value_block_sizes self.old.layout.free_value_blocks
+            self.old.nodes (own_entries self.old.entries) (own_entries self.new.entries)
+            self.old.layout.value_blocks self.new.layout.value_blocks }
+        ensures child_blocks { SizesStepDown child_block_sizes self.old.layout.free_child_blocks
+            self.old.nodes (child_count self.old.nodes) (child_count self.new.nodes)
+            self.old.layout.child_blocks self.new.layout.child_blocks }
     {
         remove_entry(
             &mut self.nodes,
@@ -270,6 +276,11 @@ impl<T: Drop, A: Allocator, V: Tick> Table<T, A, V> {
             × (self.new.room.cell_slots ≤ self.old.room.cell_slots + 24) }
         ensures limit { (self.new.room.node_slots ≤ self.new.room.limit)
             × (self.new.room.cell_slots ≤ self.new.room.limit) }
+        ensures value_blocks { SizesStepDown value_block_sizes self.old.layout.free_value_blocks
+            self.old.nodes (own_entries self.old.entries) (own_entries self.new.entries)
+            self.old.layout.value_blocks self.new.layout.value_blocks }
+        ensures child_blocks { (self.new.layout.child_blocks ≡ self.old.layout.child_blocks)
+            × (self.new.layout.free_child_blocks ≡ self.old.layout.free_child_blocks) }
     {
         remove_value(
             &mut self.nodes,
