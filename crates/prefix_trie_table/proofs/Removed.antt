@@ -55,8 +55,14 @@ needs : (o : Option Node) (b : ℕ) → has_value o b ≡ true → is_some o ≡
 needs None b h = absurd (false≢true h)
 needs (Some n) b h = refl
 
-fifths : (l k n : ℕ) → k ≤ n → n ≡ l / 5 → 5 * k ≤ l
+pub fifths : (l k n : ℕ) → k ≤ n → n ≡ l / 5 → 5 * k ≤ l
 fifths l k n h e = omega (arith, h, e)
+
+-- a string's own node has the string's path
+pub home_path : (q : List Bool) → path_of (home q) ≡ path_of q
+home_path q =
+    path-take (length q / 5) q (fifths (length q) (length q / 5) (length q / 5) (omega arith) refl)
+    ∙ take_all (length q / 5) (path_of q) (omega (arith, path-length q))
 
 five_more : (l k : ℕ) → l ≡ 5 * k + 5 → l % 5 ≡ 0
 five_more l k e = omega (arith, e)
@@ -70,14 +76,9 @@ empty_is (b ∷ s) h = absurd (omega (arith, h))
 
 module _ {T : Type 0} (q : List Bool) (reading : List ℕ → Option Node) (values : List ℕ → ℕ → Option T) (paths : List (List ℕ)) (v : Store Node)
     (w : Store (Option T)) (holds : Holds reading values paths v w) (s : State T) (is : IsShapeOf v.slots w.slots s) where
-  home_path : path_of (home q) ≡ path_of q
-  home_path =
-      path-take (length q / 5) q (fifths (length q) (length q / 5) (length q / 5) (omega arith) refl)
-      ∙ take_all (length q / 5) (path_of q) (omega (arith, path-length q))
-
   home_is : has_node s.nodes (home q) ≡ is_some (reading (path_of q))
   home_is = shape_nodes reading values paths v w holds s is (home q)
-      ∙ ap₂ (λ a p. a && is_some (reading p)) (eq-eqb (length (home q) % 5) 0 (home-depth q)) home_path
+      ∙ ap₂ (λ a p. a && is_some (reading p)) (eq-eqb (length (home q) % 5) 0 (home-depth q)) (home_path q)
 
   -- where the node of the string is missing, nothing is pruned
   pub none_pruned : reading (path_of q) ≡ None → nodes_without s.nodes s.entries q ≡ s.nodes

@@ -4,13 +4,13 @@ use Rattle.std.proofs.lemmas.Bool.{true≢false, false≢true, cases_Bool, cases
 use Rattle.std.proofs.lemmas.List.{take_all}
 use Rattle.std.proofs.lemmas.List.Quantifiers.{position-Some}
 use Rattle.std.specs.List.{position}
-use Rattle.prefix_trie_bits.specs.Model.Blocks.{StepsDown, smallest_size, free_of}
+use Rattle.prefix_trie_bits.specs.Model.Blocks.{StepsDown, LongerByOne, smallest_size, free_of}
 use Rattle.prefix_trie_table.specs.declared.allocator.node.Node.{Node}
 use Rattle.prefix_trie_table.specs.Bitmaps.{rank}
 use Rattle.prefix_trie_table.specs.Cells.{node_sizes, cell_sizes}
 use Rattle.prefix_trie_table.specs.Forest.{lacking_child, own_count, is_start, node_or_blank, has_value}
 use Rattle.prefix_trie_table.specs.Layouts.{size_if_any, child_block_size, value_block_size, free_counts}
-use Rattle.prefix_trie_table.specs.Removals.{Shrinks, SameChildren, SameValues, EntryTaken, Drops, none, more, PrunedTo}
+use Rattle.prefix_trie_table.specs.Removals.{Shrinks, LongerByBlock, SameChildren, SameValues, EntryTaken, Drops, none, more, PrunedTo}
 use Rattle.prefix_trie_table.specs.Store.{Store, Tier, tier_at, tier_for, tier_sizes, size_in, free_at}
 use Rattle.prefix_trie_table.proofs.Children.{same_or, changed_below, changed_here, changed_other}
 use Rattle.prefix_trie_table.proofs.Needs.{smallest_is, all_apart, nodes_apart, cells_apart, apart}
@@ -98,6 +98,30 @@ module _ (ts : List Tier) (sizes : List ℕ) (are : tier_sizes ts ≡ sizes) (se
           some_size after (size_in sizes to) some
           ∙ ap Some (from_tier size (tier_for ts after) refl (sym (smallest_is ts sizes are after) ∙ is) some one);
     }
+
+  -- a list that moved down left a block of another size
+  size_differs : (c k to : ℕ) → to < k → k < 7 → size_if_any c (size_in sizes k) ≢ Some (size_in sizes to)
+  size_differs zero k to less inside e = cc
+  size_differs (suc c) k to less inside e =
+      true≢false (sym (eq-eqb (size_in sizes to) (size_in sizes k) (sym (some_same (size_in sizes k) (size_in sizes to) e)))
+      ∙ apart sizes differ k to inside (omega arith) (λ same. omega arith))
+    where
+      some_same : (a b : ℕ) → Some a ≡ Some b → a ≡ b
+      some_same a b e = cc
+
+  -- an array that grew by the block of such a list grew by one of its size
+  pub longer_by_one : {S : Type 0} (v w : Store S) (c left k to : ℕ) → v.tiers ≡ ts → LongerByBlock sizes v w left k to →
+      LongerByOne sizes (free_counts ts) (size_if_any c (size_in sizes k)) (size_if_any left (size_in sizes to)) (length v.slots) (length w.slots)
+  longer_by_one v w c left k to of l =
+      let less = l.smaller in
+      let within = l.within in
+      inr (
+        size_in sizes to,
+        some_size left (size_in sizes to) l.some,
+        size_differs c k to less (omega arith),
+        free_is to (omega arith) ∙ ap (λ us. free_at us to) (sym of) ∙ l.none_free,
+        l.longer,
+      )
 
 -- ---- by nodes
 
@@ -203,6 +227,22 @@ module _ {T : Type 0} (reading : List ℕ → Option Node) (paths : List (List �
       both (Some n) None was is same = absurd (false≢true (ap is_some (sym is) ∙ same ∙ ap is_some was))
       both (Some n) (Some m) was is same = same_children n m (t.children n m was is)
 
+  -- the array of values grew by the block of its node at most
+  pub taken_longer : tier_sizes w.tiers ≡ cell_sizes →
+      LongerByOne cell_sizes (free_counts w.tiers) (value_block_size (reading path)) (value_block_size (t.later path)) (length w.slots) (length w2.slots)
+  taken_longer are = by t.longer
+    where
+      by : (length w2.slots ≡ length w.slots) ⊎ ((n : Node) × (m : Node) × (reading path ≡ Some n) × (t.later path ≡ Some m)
+          × LongerByBlock cell_sizes w w2 (rank m.value_bitmap 32) n.value_tier m.value_tier) →
+          LongerByOne cell_sizes (free_counts w.tiers) (value_block_size (reading path)) (value_block_size (t.later path)) (length w.slots) (length w2.slots)
+      by (inl same) = inl same
+      by (inr (n, m, was, is, one)) =
+          subst (λ o. LongerByOne cell_sizes (free_counts w.tiers) (value_block_size o) (value_block_size (t.later path)) (length w.slots) (length w2.slots))
+          (sym was)
+          (subst (λ o. LongerByOne cell_sizes (free_counts w.tiers) (value_block_size (Some n)) (value_block_size o) (length w.slots) (length w2.slots))
+          (sym is)
+          (longer_by_one w.tiers cell_sizes are refl cells_apart w w2 (rank n.value_bitmap 32) (rank m.value_bitmap 32) n.value_tier m.value_tier refl one))
+
 -- ---- by path, where a way was pruned
 
 -- a node that is missing stays so
@@ -284,3 +324,21 @@ module _ (reading : List ℕ → Option Node) (paths : List (List ℕ)) (path : 
         subst (λ y. ChildrenStep (free_counts v.tiers) (reading y) (p.later y)) s.0 (pruned_on are (length x) s.1)
     | inr off ↦ children_kept (free_counts v.tiers) (reading x) (p.later x) (same_node own_children child_block_size (reading x) (p.later x) (p.off x off))
   ]
+
+  -- the array of nodes grew by the block of that node at most
+  pub pruned_longer : tier_sizes v.tiers ≡ node_sizes →
+      LongerByOne node_sizes (free_counts v.tiers) (child_block_size (reading (take level path))) (child_block_size (p.later (take level path)))
+      (length v.slots) (length v2.slots)
+  pruned_longer are = by p.longer
+    where
+      by : (length v2.slots ≡ length v.slots) ⊎ ((n : Node) × (reading (take level path) ≡ Some n)
+          × LongerByBlock node_sizes v v2 (rank node.child_bitmap 32) n.child_tier node.child_tier) →
+          LongerByOne node_sizes (free_counts v.tiers) (child_block_size (reading (take level path))) (child_block_size (p.later (take level path)))
+          (length v.slots) (length v2.slots)
+      by (inl same) = inl same
+      by (inr (n, was, one)) =
+          subst (λ o. LongerByOne node_sizes (free_counts v.tiers) (child_block_size o) (child_block_size (p.later (take level path)))
+          (length v.slots) (length v2.slots)) (sym was)
+          (subst (λ o. LongerByOne node_sizes (free_counts v.tiers) (child_block_size (Some n)) (child_block_size o) (length v.slots) (length v2.slots))
+          (sym p.is)
+          (longer_by_one v.tiers node_sizes are refl nodes_apart v v2 (rank n.child_bitmap 32) (rank node.child_bitmap 32) n.child_tier node.child_tier refl one))

@@ -1,7 +1,7 @@
 //! Taking entries out.
 ghost use Rattle.std.specs.Prelude.{◌≡◌, ◌+◌, ◌≤◌};
 ghost use Rattle.std.specs.FinMap.{get};
-ghost use Rattle.prefix_trie_bits.specs.Model.Blocks.{no_layout};
+ghost use Rattle.prefix_trie_bits.specs.Model.Blocks.{no_layout, SizesStepDown, value_block_sizes, child_block_sizes, own_entries, child_count};
 ghost use Rattle.prefix_trie_bits.specs.Model.Entries.{no_entries, without_entry};
 ghost use Rattle.prefix_trie_bits.specs.Model.Nodes.{root_alone, nodes_without};
 ghost use Rattle.prefix_trie_bits.specs.Model.Step.{Step, Remove, RemoveKeepTree, Clear, Done, Value};
@@ -30,6 +30,10 @@ impl<P: Prefix, T: Drop, A: Allocator> PrefixMap<P, T, A> {
         ensures node_slots { (self.old.room.node_slots ≤ self.new.room.node_slots) × (self.new.room.node_slots ≤ self.old.room.node_slots + 24) }
         ensures cell_slots { (self.old.room.cell_slots ≤ self.new.room.cell_slots) × (self.new.room.cell_slots ≤ self.old.room.cell_slots + 24) }
         ensures within { (self.new.room.node_slots ≤ self.new.room.limit) × (self.new.room.cell_slots ≤ self.new.room.limit) }
+        ensures value_blocks { SizesStepDown value_block_sizes self.old.layout.free_value_blocks self.old.nodes
+            (own_entries self.old.entries) (own_entries self.new.entries) self.old.layout.value_blocks self.new.layout.value_blocks }
+        ensures child_blocks { SizesStepDown child_block_sizes self.old.layout.free_child_blocks self.old.nodes
+            (child_count self.old.nodes) (child_count self.new.nodes) self.old.layout.child_blocks self.new.layout.child_blocks }
 
         // It is one step of the model.
         ensures step { Step P.path P.back P.R.bit_width (state self.old) (Remove prefix.now) (Value result) (state self.new) }
@@ -51,6 +55,10 @@ impl<P: Prefix, T: Drop, A: Allocator> PrefixMap<P, T, A> {
         ensures node_slots { self.new.room.node_slots ≡ self.old.room.node_slots }
         ensures cell_slots { (self.old.room.cell_slots ≤ self.new.room.cell_slots) × (self.new.room.cell_slots ≤ self.old.room.cell_slots + 24) }
         ensures within { (self.new.room.node_slots ≤ self.new.room.limit) × (self.new.room.cell_slots ≤ self.new.room.limit) }
+        ensures value_blocks { SizesStepDown value_block_sizes self.old.layout.free_value_blocks self.old.nodes
+            (own_entries self.old.entries) (own_entries self.new.entries) self.old.layout.value_blocks self.new.layout.value_blocks }
+        ensures child_blocks { (self.new.layout.child_blocks ≡ self.old.layout.child_blocks)
+            × (self.new.layout.free_child_blocks ≡ self.old.layout.free_child_blocks) }
 
         // It is one step of the model.
         ensures step { Step P.path P.back P.R.bit_width (state self.old) (RemoveKeepTree prefix.now) (Value result) (state self.new) }
