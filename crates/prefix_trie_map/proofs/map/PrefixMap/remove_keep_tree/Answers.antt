@@ -1,3 +1,8 @@
+use Rattle.std.proofs.Common.{rules, ◌≡◌, take, subst}
+use Rattle.std.specs.FinMap.{get}
+use Rattle.prefix_trie_bits.specs.Model.Blocks.{LongerByOne, value_block_sizes}
+use Rattle.prefix_trie_bits.specs.Model.Nodes.{home}
+use Rattle.prefix_trie_table.specs.Shape.{Contents}
 use Rattle.prefix_trie_map.specs.Steps.{state}
 use Rattle.prefix_trie_map.proofs.Removals.{IsMap-removed}
 use Rattle.prefix_trie_map.proofs.map.PrefixMap.remove_keep_tree.Goals as goal
@@ -6,3 +11,12 @@ pub invariant_of-self : goal.invariant_of-self
 invariant_of-self g c =
     IsMap-removed g.P.R.Key.bit_width (state c.self.inside.table) (state c.remove_keep_tree.new.self) _
     c.remove_keep_tree.ensures.entries c.remove_keep_tree.ensures.nodes c.self.invariant
+
+pub returns-clause-cells_longer : goal.returns-clause-cells_longer
+returns-clause-cells_longer g c =
+    let path = g.P.Prefix.path c.args.prefix.now in
+    let key : take c.from-len.result (g.P.R.Key.bits c.repr-key.result) ≡ path = search rules in
+    subst (λ (m : Contents g.row.T.Denot). LongerByOne value_block_sizes m.layout.free_value_blocks (get m.layout.value_blocks (home path))
+    (get c.remove_keep_tree.new.self.layout.value_blocks (home path)) m.room.cell_slots c.remove_keep_tree.new.self.room.cell_slots) c.self.view_is
+    (subst (λ q. LongerByOne value_block_sizes c.self.inside.table.layout.free_value_blocks (get c.self.inside.table.layout.value_blocks (home q))
+    (get c.remove_keep_tree.new.self.layout.value_blocks (home q)) c.self.inside.table.room.cell_slots c.remove_keep_tree.new.self.room.cell_slots) key c.remove_keep_tree.ensures.cells_longer)
