@@ -166,13 +166,17 @@ module _ (reading : List ℕ → Option Node) (paths : List (List ℕ)) (path : 
           (length w.slots ≡ length before.slots) ⊎ ((n : Node) × (reading (take level path) ≡ Some n)
           × LongerByBlock node_sizes before w (rank m.child_bitmap 32) n.child_tier m.child_tier)
       lengthens m (inl same) = inl (same ∙ back.room.0)
-      lengthens m (inr made) = inr (node_or_blank (p.to.later (take level path)), sym (p.to.above level (omega arith)) ∙ parent_is, record {
-        some = made.some;
-        smaller = made.smaller;
-        within = made.within;
-        none_free = (let f = back.free m.child_tier in let z = made.none_free in omega arith);
-        longer = made.longer ∙ ap (λ n. n + size_in node_sizes m.child_tier) back.room.0;
-      })
+      lengthens m (inr made) = inr (
+        node_or_blank (p.to.later (take level path)),
+        sym (p.to.above level (omega arith)) ∙ parent_is,
+        record {
+          some = made.some;
+          smaller = made.smaller;
+          within = made.within;
+          none_free = (let f = back.free m.child_tier in let z = made.none_free in omega arith);
+          longer = made.longer ∙ ap (λ n. n + size_in node_sizes m.child_tier) back.room.0;
+        },
+      )
 
       fall : (k : ℕ) → level < k → k ≤ length path → (m : Node) (c : ℕ) → take (level + 1) path ≡ take level path ++ c ∷ [] →
           take k path ≢ take level path → (k ≢ level + 1 → take k path ≢ take level path ++ c ∷ []) →

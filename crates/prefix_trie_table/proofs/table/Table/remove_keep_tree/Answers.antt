@@ -79,7 +79,7 @@ pub returns-clause-child_blocks : goal.returns-clause-child_blocks
 returns-clause-child_blocks g c =
     let q = take c.args.len (g.K.Key.bits c.args.key) in (
       kept_children q c.self.inside.nodes c.remove_value.new.nodes c.self.inside.cells c.remove_value.new.cells c.self.inside.count c.self.inside.shape
-    c.self.inside.sizes c.self.invariant c.self-1.given.0 c.self-1.given.1.0 c.remove_value.ensures.taken c.remove_value.ensures.node_room.0
+          c.self.inside.sizes c.self.invariant c.self-1.given.0 c.self-1.given.1.0 c.remove_value.ensures.taken c.remove_value.ensures.node_room.0
           ∙ ap (λ (s : Contents g.row.T.Denot). s.layout.child_blocks) c.self.view_is,
       ap free_counts c.remove_value.ensures.node_tiers ∙ ap (λ (s : Contents g.row.T.Denot). s.layout.free_child_blocks) c.self.view_is,
     )
