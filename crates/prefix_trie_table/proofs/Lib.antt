@@ -67,3 +67,5 @@ pub mod Emptied
 pub mod Copies
 pub mod Copying
 pub mod PartTaken
+pub mod Stepping
+pub mod Stepped

@@ -35,7 +35,7 @@ size_found f sizes = find_at f sizes ∙ there (nat_lt (position_or_len f sizes)
     there false e = past sizes (position_or_len f sizes) (let h : length sizes ≤ position_or_len f sizes = grind (arith, nat_tests) in h)
 
 module _ (ts : List Tier) (sizes : List ℕ) (are : tier_sizes ts ≡ sizes) where
-  smallest_is : (n : ℕ) → smallest_size sizes n ≡ option_map (size_in sizes) (tier_for ts n)
+  pub smallest_is : (n : ℕ) → smallest_size sizes n ≡ option_map (size_in sizes) (tier_for ts n)
   smallest_is n =
       size_found (λ size. nat_le n size) sizes
       ∙ ap (option_map (size_in sizes)) (sym (tier_for_sizes ts n ∙ ap (λ ns. position (λ s. nat_le n s) ns) are))
@@ -80,21 +80,21 @@ lacking_by_tiers (t ∷ ts) needed n same =
     (lacking_by_tiers ts needed (λ j. n (suc j)) (λ j h. same (suc j) (omega arith)))
 
 -- no two of seven sizes are the same
-unfoldable test_apart : List ℕ → ℕ → ℕ → Bool
+unfoldable pub test_apart : List ℕ → ℕ → ℕ → Bool
 test_apart sizes j t = (j == t) || not (size_in sizes t == size_in sizes j)
 
-unfoldable all_apart : List ℕ → Bool
+unfoldable pub all_apart : List ℕ → Bool
 all_apart sizes = below (λ j. below (test_apart sizes j) 7) 7
 
-nodes_apart : all_apart node_sizes ≡ true
+pub nodes_apart : all_apart node_sizes ≡ true
 unfolding all_apart test_apart below
 nodes_apart = refl
 
-cells_apart : all_apart cell_sizes ≡ true
+pub cells_apart : all_apart cell_sizes ≡ true
 unfolding all_apart test_apart below
 cells_apart = refl
 
-apart : (sizes : List ℕ) → all_apart sizes ≡ true → (j t : ℕ) → j < 7 → t < 7 → j ≢ t → (size_in sizes t == size_in sizes j) ≡ false
+pub apart : (sizes : List ℕ) → all_apart sizes ≡ true → (j t : ℕ) → j < 7 → t < 7 → j ≢ t → (size_in sizes t == size_in sizes j) ≡ false
 unfolding all_apart test_apart
 apart sizes all j t hj ht ne =
     elim (or-cases (j == t) (not (size_in sizes t == size_in sizes j)) (at_below (test_apart sizes j) 7 (at_below (λ j. below (test_apart sizes j) 7) 7 all j hj) t ht))

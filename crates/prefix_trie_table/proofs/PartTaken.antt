@@ -125,7 +125,7 @@ module _ {T : Type 0} (width : ℕ) (q : List Bool) (v v2 : Store Node) (w : Sto
   none_held : ForHeld v w (λ reading paths values. None ≡ values (path_of q) (bit_of q))
   none_held reading paths values holds = sym none ∙ shape_entries reading values paths v w holds s trie.shaped q
 
-  only_pruned : ForHeld v w (λ reading paths values. EntryRemoved reading paths values (path_of q) (bit_of q) w v2 w)
+  only_pruned : ForHeld v w (λ reading paths values. EntryRemoved reading paths values (path_of q) (bit_of q) v w v2 w)
   only_pruned reading paths values holds =
       let same : (p : List ℕ) → read v.slots p ≡ reading p = λ p. reads_node reading values paths v w holds p in
       let t = nothing_taken reading values paths v w holds (path_of q) (bit_of q) (sym (none_held reading paths values holds)) in
@@ -137,6 +137,8 @@ module _ {T : Type 0} (width : ℕ) (q : List Bool) (v v2 : Store Node) (w : Sto
         subst (λ (f : List ℕ → Option Node). Pruned f paths (path_of q) v v2)
             (λ i p. (same p ∙ sym (later_same reading values paths w v (path_of q) (bit_of q) t no_value p)) i)
             (prunes paths (read_held reading values paths v w holds).hold),
+        refl,
+        refl,
       )
 
   left_shape : IsShapeOf v2.slots w.slots (record { entries = without_entry s.entries q; nodes = nodes_without s.nodes s.entries q })

@@ -1,14 +1,14 @@
 -- A way pruned from its end upward.
-use Rattle.std.proofs.Common.{◌≡◌, ◌≢◌, ℕ, ◌+◌, ◌-◌, ◌<◌, ◌≤◌, inl, inr, ⊎_elim, true, List, [], ◌∷◌, ◌++◌, length, get_or, take, Option, None, Some, is_some, refl, sym, ap, ◌∙◌, subst, arith, length-append}
+use Rattle.std.proofs.Common.{◌⊎◌, ◌≡◌, ◌≢◌, ℕ, ◌+◌, ◌-◌, ◌<◌, ◌≤◌, inl, inr, ⊎_elim, true, List, [], ◌∷◌, ◌++◌, length, get_or, take, Option, None, Some, is_some, refl, sym, ap, ◌∙◌, subst, arith, length-append}
 use Rattle.std.proofs.lemmas.Bool.{false≢true, cases_lt}
 use Rattle.std.proofs.lemmas.List.{take_more, take_all, length-take-le}
 use Rattle.prefix_trie_table.specs.declared.allocator.node.Node.{Node}
 use Rattle.prefix_trie_table.specs.declared.allocator.node.NodeSlot.{NodeSlot}
 use Rattle.prefix_trie_table.specs.Bitmaps.{has_bit, rank}
 use Rattle.prefix_trie_table.specs.Cells.{node_at, node_sizes, cell_sizes}
-use Rattle.prefix_trie_table.specs.Store.{Store, Tier, tier_sizes, tier_for, free_at}
-use Rattle.prefix_trie_table.specs.Forest.{NodesHold, CellsHold, IsSlot, at_root, at_child, has_child, is_start, without, own_count, entry_count, lacking_child, node_or_blank}
-use Rattle.prefix_trie_table.specs.Removals.{Shrinks, SameValues, IsBare, IsWay, GivesBack, ChildDropped, Drops, none, more, PrunedTo, slot_in}
+use Rattle.prefix_trie_table.specs.Store.{Store, Tier, tier_sizes, tier_for, free_at, size_in}
+use Rattle.prefix_trie_table.specs.Forest.{NodesHold, CellsHold, IsSlot, at_root, at_child, has_child, is_start, without, own_count, entry_count, lacking_child, node_or_blank, times}
+use Rattle.prefix_trie_table.specs.Removals.{Shrinks, SameValues, IsBare, IsWay, GivesBack, ChildDropped, Drops, none, more, PrunedTo, slot_in, LongerByBlock, MayLengthen}
 use Rattle.prefix_trie_table.proofs.Bare.{no_bit}
 use Rattle.prefix_trie_table.proofs.Children.{changed, changed_below, changed_here, changed_other}
 use Rattle.prefix_trie_table.proofs.EntryCounts.{count_sum}
@@ -50,7 +50,10 @@ pruning_first reading paths path way level node v hold slots is all = record {
     gone = λ k more less. absurd (omega arith);
     above = λ k less. refl;
     off = λ q no. refl;
+    whole = λ end. refl;
+    fewer = λ n less e. absurd (omega arith);
     shrinks = λ n less e. absurd (omega arith);
+    longer = inl refl;
     settles = NodesSettle-none v;
   };
   slots = slots;
@@ -142,6 +145,11 @@ module _ (reading : List ℕ → Option Node) (paths : List (List ℕ)) (path : 
               (λ e. false≢true (sym no ∙ ap (λ x. is_start x path) e ∙ is_start_take level path))
               (λ e. false≢true (sym no ∙ ap (λ x. is_start x path) (e ∙ sym end) ∙ is_start_take (level + 1) path))
               ∙ p.to.off q no;
+          whole = λ end. absurd (let i = inside in omega arith);
+          fewer = λ n less is.
+              let same : node_or_blank (p.to.later (take level path)) ≡ n = ap node_or_blank (p.to.above level (omega arith) ∙ is) in
+              one.fewer ∙ ap (λ (y : Node). rank y.child_bitmap 32) same;
+          longer = lengthens m one.longer;
           shrinks = λ n less is.
               let same : node_or_blank (p.to.later (take level path)) ≡ n = ap node_or_blank (p.to.above level (omega arith) ∙ is) in (
                 subst (λ (y : Node). SameValues y m) same one.values,
@@ -155,6 +163,22 @@ module _ (reading : List ℕ → Option Node) (paths : List (List ℕ)) (path : 
             (let a = long k (let i = inside in omega arith) in let b = long level (let i = inside in omega arith) in omega arith);
       }
     where
+      lengthens : (m : Node) → MayLengthen node_sizes v w (rank m.child_bitmap 32) (node_or_blank (p.to.later (take level path))).child_tier m.child_tier →
+          (length w.slots ≡ length before.slots) ⊎ ((n : Node) × (reading (take level path) ≡ Some n)
+          × LongerByBlock node_sizes before w (rank m.child_bitmap 32) n.child_tier m.child_tier)
+      lengthens m (inl same) = inl (same ∙ back.room.0)
+      lengthens m (inr made) = inr (
+        node_or_blank (p.to.later (take level path)),
+        sym (p.to.above level (omega arith)) ∙ parent_is,
+        record {
+          some = made.some;
+          smaller = made.smaller;
+          within = made.within;
+          none_free = (let f = back.free m.child_tier in let z = made.none_free in omega arith);
+          longer = made.longer ∙ ap (λ n. n + size_in node_sizes m.child_tier) back.room.0;
+        },
+      )
+
       fall : (k : ℕ) → level < k → k ≤ length path → (m : Node) (c : ℕ) → take (level + 1) path ≡ take level path ++ c ∷ [] →
           take k path ≢ take level path → (k ≢ level + 1 → take k path ≢ take level path ++ c ∷ []) →
           lacking_child p.to.later (take level path) m c (take k path) ≡ None

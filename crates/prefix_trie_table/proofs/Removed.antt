@@ -35,7 +35,7 @@ use Rattle.prefix_trie_table.proofs.Shapes.{shape_of, shape_nodes}
 use Rattle.prefix_trie_table.proofs.Starts.{is_start-is, is_start_take, is_start-snoc}
 
 -- a beginning of a path is its first steps
-start_is : (x path : List ℕ) → is_start x path ≡ true → (take (length x) path ≡ x) × (length x ≤ length path)
+pub start_is : (x path : List ℕ) → is_start x path ≡ true → (take (length x) path ≡ x) × (length x ≤ length path)
 start_is x path h =
     let r = is_start-is x path h in (
       ap (take (length x)) r.1 ∙ take_at x r.0 (length x) refl,
@@ -55,8 +55,14 @@ needs : (o : Option Node) (b : ℕ) → has_value o b ≡ true → is_some o ≡
 needs None b h = absurd (false≢true h)
 needs (Some n) b h = refl
 
-fifths : (l k n : ℕ) → k ≤ n → n ≡ l / 5 → 5 * k ≤ l
+pub fifths : (l k n : ℕ) → k ≤ n → n ≡ l / 5 → 5 * k ≤ l
 fifths l k n h e = omega (arith, h, e)
+
+-- a string's own node has the string's path
+pub home_path : (q : List Bool) → path_of (home q) ≡ path_of q
+home_path q =
+    path-take (length q / 5) q (fifths (length q) (length q / 5) (length q / 5) (omega arith) refl)
+    ∙ take_all (length q / 5) (path_of q) (omega (arith, path-length q))
 
 five_more : (l k : ℕ) → l ≡ 5 * k + 5 → l % 5 ≡ 0
 five_more l k e = omega (arith, e)
@@ -70,14 +76,9 @@ empty_is (b ∷ s) h = absurd (omega (arith, h))
 
 module _ {T : Type 0} (q : List Bool) (reading : List ℕ → Option Node) (values : List ℕ → ℕ → Option T) (paths : List (List ℕ)) (v : Store Node)
     (w : Store (Option T)) (holds : Holds reading values paths v w) (s : State T) (is : IsShapeOf v.slots w.slots s) where
-  home_path : path_of (home q) ≡ path_of q
-  home_path =
-      path-take (length q / 5) q (fifths (length q) (length q / 5) (length q / 5) (omega arith) refl)
-      ∙ take_all (length q / 5) (path_of q) (omega (arith, path-length q))
-
   home_is : has_node s.nodes (home q) ≡ is_some (reading (path_of q))
   home_is = shape_nodes reading values paths v w holds s is (home q)
-      ∙ ap₂ (λ a p. a && is_some (reading p)) (eq-eqb (length (home q) % 5) 0 (home-depth q)) home_path
+      ∙ ap₂ (λ a p. a && is_some (reading p)) (eq-eqb (length (home q) % 5) 0 (home-depth q)) (home_path q)
 
   -- where the node of the string is missing, nothing is pruned
   pub none_pruned : reading (path_of q) ≡ None → nodes_without s.nodes s.entries q ≡ s.nodes
@@ -273,17 +274,17 @@ module _ {T : Type 0} (q : List Bool) (reading : List ℕ → Option Node) (valu
         (entries_without reading values paths v w holds q s is)
 
   -- the shape that a removal leaves
-  pub shape_removed : (v2 : Store Node) (w2 : Store (Option T)) → EntryRemoved reading paths values (path_of q) (bit_of q) w v2 w2 →
+  pub shape_removed : (v2 : Store Node) (w2 : Store (Option T)) → EntryRemoved reading paths values (path_of q) (bit_of q) v w v2 w2 →
       IsShapeOf v2.slots w2.slots (record { entries = without_entry s.entries q; nodes = nodes_without s.nodes s.entries q })
   shape_removed v2 w2 (inl kept) =
       subst (λ n. IsShapeOf v2.slots w2.slots (record { entries = without_entry s.entries q; nodes = n })) (sym (none_pruned kept.0))
-      (shape_taken reading values paths v w holds q v2 w2 s is kept.1)
+      (shape_taken reading values paths v w holds q v2 w2 s is kept.2)
   shape_removed v2 w2 (inr gone) = shape_pruned gone.1 gone.0 v2 w2 gone.2 gone.3
 
   -- what it leaves is a table with these entries
-  pub left_holds : (v2 : Store Node) (w2 : Store (Option T)) → EntryRemoved reading paths values (path_of q) (bit_of q) w v2 w2 →
+  pub left_holds : (v2 : Store Node) (w2 : Store (Option T)) → EntryRemoved reading paths values (path_of q) (bit_of q) v w v2 w2 →
       (t : IsTable v2 w2) × (entry_count t.reading t.paths + one_if (is_some (values (path_of q) (bit_of q))) ≡ entry_count reading paths)
-  left_holds v2 w2 (inl kept) = (record { reading = kept.1.later; values = _; paths = paths; holds = kept.1.holds }, kept.1.counted)
+  left_holds v2 w2 (inl kept) = (record { reading = kept.2.later; values = _; paths = paths; holds = kept.2.holds }, kept.2.counted)
   left_holds v2 w2 (inr gone) = (
     record { reading = gone.3.to.later; values = _; paths = gone.3.to.left; holds = pruned_holds gone.1 gone.0 v2 w2 gone.2 gone.3 },
     ap (λ n. n + one_if (is_some (values (path_of q) (bit_of q)))) (drops_count gone.2.later paths gone.3.to.later gone.3.to.left gone.3.to.drops)
@@ -294,7 +295,7 @@ module _ {T : Type 0} (q : List Bool) (reading : List ℕ → Option Node) (valu
 module _ {T : Type 0} (key : List Bool) (v v2 : Store Node) (w w2 : Store (Option T)) (count count2 : ℕ) (s : Shaped v.slots w.slots)
     (is : IsTableOf v w count s.0) (removed : Option T)
     (before : ForHeld v w (λ reading paths values. removed ≡ values (path_of key) (bit_of key)))
-    (done : ForHeld v w (λ reading paths values. EntryRemoved reading paths values (path_of key) (bit_of key) w v2 w2)) where
+    (done : ForHeld v w (λ reading paths values. EntryRemoved reading paths values (path_of key) (bit_of key) v w v2 w2)) where
   -- the shape that is left
   pub removed_shape : IsShapeOf v2.slots w2.slots (record { entries = without_entry s.0.entries key; nodes = nodes_without s.0.nodes s.0.entries key })
   removed_shape =

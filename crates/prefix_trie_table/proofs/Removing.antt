@@ -9,9 +9,9 @@ use Rattle.prefix_trie_bits.specs.Places.{Sets}
 use Rattle.prefix_trie_table.specs.declared.allocator.node.Node.{Node}
 use Rattle.prefix_trie_table.specs.Bitmaps.{has_bit, bits, rank}
 use Rattle.prefix_trie_table.specs.Cells.{blank_node, node_at, node_sizes, cell_sizes}
-use Rattle.prefix_trie_table.specs.Store.{Store, Block, Sound, block, held, HasList, Keeps, Turnover, SameRoom, tier_at, tier_for, tier_sizes, size_in, slots_of, one_at, many_at, blocks_entered, tier_entered}
+use Rattle.prefix_trie_table.specs.Store.{Store, Block, Sound, block, held, HasList, Keeps, Turnover, SameRoom, tier_at, tier_for, tier_sizes, size_in, free_at, slots_of, one_at, many_at, blocks_entered, tier_entered}
 use Rattle.prefix_trie_table.specs.Forest.{without, child_items, child_blocks, IsSlot, NodesHold, CellsHold, value_blocks, with_node, lacking_child, node_or_blank}
-use Rattle.prefix_trie_table.specs.Removals.{Shrinks, ValueTaken, ChildDropped, GivesBack}
+use Rattle.prefix_trie_table.specs.Removals.{Shrinks, MayLengthen, ValueTaken, ChildDropped, GivesBack}
 use Rattle.prefix_trie_table.specs.Settling.{smaller_sizes, headroom}
 use Rattle.prefix_trie_table.specs.Tables.{Grows}
 use Rattle.prefix_trie_table.proofs.Bare.{no_bit, cleared, others_stay, one_fewer}
@@ -21,7 +21,7 @@ use Rattle.prefix_trie_table.proofs.Soundness.{fits_block, tier_of_block}
 use Rattle.prefix_trie_table.proofs.Settling.{smaller_few, headroom-none, headroom-step, child_settles}
 use Rattle.prefix_trie_table.proofs.Spending.{size_at, tier_for_sizes}
 use Rattle.prefix_trie_table.proofs.Trees.{own_first, slot_holds, held_some}
-use Rattle.prefix_trie_table.proofs.Turnovers.{slots_of-le, slots_of-none, slots_of-many}
+use Rattle.prefix_trie_table.proofs.Turnovers.{slots_of-le, slots_of-none, slots_of-many, many_here, many_other}
 use Rattle.prefix_trie_table.proofs.Values.{values_first, value_removed}
 
 -- ---- by how much an array grows where a list loses an item
@@ -137,6 +137,54 @@ module _ {S : Type 0} (v w : Store S) (k count to : ℕ) (took gave : ℕ → �
           omega (arith, n, l, h)
     ]
 
+    -- exactly one block of another tier is made, where none of it is free
+    lengthens : 1 < count → to ≢ k → tier_for v.tiers (count - 1) ≡ Some to → MayLengthen sizes v w (count - 1) k to
+    lengthens more other is =
+        let lower = entered_lower more other is in
+        let tiers : (to < k) × (k < 7) = (lower.0, lower.1) in
+        let entered = λ (j : ℕ). entered_one k count to j more other in
+        let l = turned.longer in
+        elim (number_or (free_at v.tiers to) 0) as (λ _. MayLengthen sizes v w (count - 1) k to) [
+          | inl none ↦
+              let one : slots_of (tier_sizes v.tiers) (blocks_entered v.tiers k count to) ≡ size_in sizes to * 1 =
+              ap (slots_of (tier_sizes v.tiers)) (λ i j. just_one j (entered j) none (number_or j to) i)
+              ∙ ap (λ ns. slots_of ns (many_at to 1)) sizes_are ∙ slots_of-many sizes to 1 (let a = tiers.0 in let b = tiers.1 in omega arith) in
+              inr (record {
+                some = omega arith;
+                smaller = tiers.0;
+                within = (let b = tiers.1 in omega arith);
+                none_free = none;
+                longer = omega (arith, l, one);
+              })
+          | inr some ↦ inl (let n = slots_of-none (tier_sizes v.tiers) (blocks_entered v.tiers k count to)
+              (λ j. no_more j (entered j) (λ e. some e) (number_or j to)) in omega (arith, l, n))
+        ]
+      where
+        just_one : (j : ℕ) → one_at (tier_entered k count to) j ≡ many_at to 1 j → free_at v.tiers to ≡ 0 → (j ≡ to) ⊎ (j ≢ to) →
+            blocks_entered v.tiers k count to j ≡ many_at to 1 j
+        just_one j e none (inl same) = (let f : free_at v.tiers j ≡ 0 = ap (free_at v.tiers) same ∙ none in omega (arith, e, f))
+        just_one j e none (inr ne) = (let z = many_other to 1 j ne in omega (arith, e, z))
+
+        no_more : (j : ℕ) → one_at (tier_entered k count to) j ≡ many_at to 1 j → free_at v.tiers to ≢ 0 → (j ≡ to) ⊎ (j ≢ to) →
+            blocks_entered v.tiers k count to j ≡ 0
+        no_more j e some (inl same) =
+            let f : free_at v.tiers j ≡ free_at v.tiers to = ap (free_at v.tiers) same in
+            let one : many_at to 1 j ≡ 1 = ap (many_at to 1) same ∙ many_here to 1 in omega (arith, e, f, one)
+        no_more j e some (inr ne) = (let z = many_other to 1 j ne in omega (arith, e, z))
+
+    -- a list that loses an item lets its array grow by that block at most
+    pub may_lengthen : (left : ℕ) → left + 1 ≡ count → MayLengthen sizes v w left k to
+    may_lengthen left is_left = subst (λ n. MayLengthen sizes v w n k to) (let e : count - 1 ≡ left = omega arith in e)
+        (elim (cases_lt 1 count) as (λ _. MayLengthen sizes v w (count - 1) k to) [
+          | inl more ↦ elim (number_or to k) as (λ _. MayLengthen sizes v w (count - 1) k to) [
+            | inl same ↦ inl (let n = slots_of-none (tier_sizes v.tiers) (blocks_entered v.tiers k count to)
+                (λ j. (let e = entered_none k count to j more same in omega arith)) in let l = turned.longer in omega (arith, n, l))
+            | inr other ↦ lengthens more other (⊎_elim (λ (e : to ≡ k). absurd (other e)) (λ (e : tier_for v.tiers (count - 1) ≡ Some to). e) (smallest more))
+          ]
+          | inr few_left ↦ inl (let n = slots_of-none (tier_sizes v.tiers) (blocks_entered v.tiers k count to)
+              (λ j. (let e = left_none k count to j (omega arith) in omega arith)) in let l = turned.longer in omega (arith, n, l))
+        ])
+
 -- ---- the reading of the arrays where a value is gone
 
 module _ {T : Type 0} where
@@ -157,11 +205,12 @@ module _ {T : Type 0} where
       length xs ≡ rank k.value_bitmap 32 → Sound None (held tier start (tier_at w.tiers tier).size (remove xs place) ++ live) u)
       → place ≡ rank k.value_bitmap b → b < 31 → has_bit k.value_bitmap b ≡ true → v2 ≡ record v { slots = set v.slots slot m }
       → Shrinks w.tiers k.value_tier (rank k.value_bitmap 32) tier
+      → ((left : ℕ) → left + 1 ≡ rank k.value_bitmap 32 → MayLengthen cell_sizes w u left k.value_tier tier)
       → (reading : List ℕ → Option Node) (paths : List (List ℕ)) (values : List ℕ → ℕ → Option T) (p : List ℕ) (n : Node) →
       NodesHold node_sizes reading paths v → CellsHold cell_sizes reading values paths w → IsSlot reading p slot → reading p ≡ Some n
       → ValueTaken reading paths values p b n m v2 w u
-  values_taken v v2 w u slot place b tier start bitmap k m read sets m_is keeps cut place_is small there v2_is shrinks reading paths values p n hold
-      cells stands is =
+  values_taken v v2 w u slot place b tier start bitmap k m read sets m_is keeps cut place_is small there v2_is shrinks lengthens reading paths values p
+      n hold cells stands is =
       let at = slot_holds node_sizes reading paths v hold p slot n stands is in
       let same : k ≡ n = read ∙ at.0 in
       let here : reading p ≡ Some k = is ∙ ap Some (sym same) in
@@ -197,9 +246,25 @@ module _ {T : Type 0} where
         };
         shrinks = subst (λ t. Shrinks w.tiers n.value_tier (rank n.value_bitmap 32) t) (sym tier_is)
             (subst (λ (y : Node). Shrinks w.tiers y.value_tier (rank y.value_bitmap 32) tier) same shrinks);
+        longer = subst (λ t. MayLengthen cell_sizes w u (rank m.value_bitmap 32) n.value_tier t) (sym tier_is)
+            (subst (λ (y : Node). MayLengthen cell_sizes w u (rank m.value_bitmap 32) y.value_tier tier) same
+            (lengthens (rank m.value_bitmap 32)
+            (ap (λ y. rank y 32 + 1) bits_are ∙ one_fewer bitmap k.value_bitmap b sets digit)));
       }
 
 -- ---- the reading of the arrays where a child is gone
+
+-- a node written leaves an array as long
+lengthens_written : (v u : Store Node) (left k to slot : ℕ) (m : Node) → MayLengthen node_sizes v u left k to →
+    MayLengthen node_sizes v (record u { slots = set u.slots slot m }) left k to
+lengthens_written v u left k to slot m (inl same) = inl (length-set u.slots slot m ∙ same)
+lengthens_written v u left k to slot m (inr one) = inr (record {
+  some = one.some;
+  smaller = one.smaller;
+  within = one.within;
+  none_free = one.none_free;
+  longer = length-set u.slots slot m ∙ one.longer;
+})
 
 -- the list without a child that has no children, and the node written with it, lack the child
 pub children_dropped : (v u v2 : Store Node) (slot place c tier start bitmap : ℕ) (k m : Node)
@@ -218,13 +283,14 @@ pub children_dropped : (v u v2 : Store Node) (slot place c tier start bitmap : �
     length xs ≡ rank k.child_bitmap 32 → Sound blank_node (held tier start (tier_at v.tiers tier).size (remove xs place) ++ live) u)
     → place ≡ rank k.child_bitmap c → c < 32 → v2 ≡ record u { slots = set u.slots slot m }
     → Shrinks v.tiers k.child_tier (rank k.child_bitmap 32) tier
+    → ((left : ℕ) → left + 1 ≡ rank k.child_bitmap 32 → MayLengthen node_sizes v u left k.child_tier tier)
     → length u.slots + headroom tier ≤ length v.slots + headroom k.child_tier
     → (reading : List ℕ → Option Node) (paths : List (List ℕ)) (p : List ℕ) (n leaf : Node) →
     NodesHold node_sizes reading paths v → IsSlot reading p slot → reading p ≡ Some n → reading (p ++ c ∷ []) ≡ Some leaf →
     rank leaf.child_bitmap 32 ≡ 0
     → ChildDropped reading paths p c n m v v2
-children_dropped v u v2 slot place c tier start bitmap k m read sets m_is keeps cut place_is digit v2_is shrinks steps reading paths p n leaf hold stands
-    is below bare =
+children_dropped v u v2 slot place c tier start bitmap k m read sets m_is keeps cut place_is digit v2_is shrinks lengthens steps reading paths p n leaf
+    hold stands is below bare =
     let at = slot_holds node_sizes reading paths v hold p slot n stands is in
     let same : k ≡ n = read ∙ at.0 in
     let here : reading p ≡ Some k = is ∙ ap Some (sym same) in
@@ -243,6 +309,8 @@ children_dropped v u v2 slot place c tier start bitmap k m read sets m_is keeps 
     subst (λ (bs : List (Block Node)). Sound blank_node (bs ++ live) u)
     (λ i. held (sym tier_is i) (sym start_is i) ((size ∙ ap (size_in node_sizes) (sym tier_is)) i)
     (remove (child_items reading p k.child_bitmap) (place_is i))) left in
+    let fewer_here : rank m.child_bitmap 32 + 1 ≡ rank k.child_bitmap 32 =
+    ap (λ y. rank y 32 + 1) bits_are ∙ one_fewer bitmap k.child_bitmap c sets digit in
     let later = subst (λ y. NodesHold node_sizes (lacking_child reading p m c) (without (p ++ c ∷ []) paths) y) (sym v2_is)
     (child_removed node_sizes reading paths v hold p slot k m leaf c u stands here digit below (λ i. no_bit leaf.child_bitmap i bare) gone stay
     (keeps.first_is ∙ hold.first_is) (keeps.sizes ∙ hold.sizes_are) (keeps.before 0 blank_node (let f = hold.first_is in omega arith)) sound) in
@@ -253,8 +321,13 @@ children_dropped v u v2 slot place c tier start bitmap k m read sets m_is keeps 
         block = ap (λ (y : Node). y.value_block) m_is ∙ ap (λ (y : Node). y.value_block) same;
         tier = ap (λ (y : Node). y.value_tier) m_is ∙ ap (λ (y : Node). y.value_tier) same;
       };
+      fewer = fewer_here ∙ ap (λ (y : Node). rank y.child_bitmap 32) same;
       shrinks = subst (λ t. Shrinks v.tiers n.child_tier (rank n.child_bitmap 32) t) (sym tier_is)
           (subst (λ (y : Node). Shrinks v.tiers y.child_tier (rank y.child_bitmap 32) tier) same shrinks);
+      longer = subst (λ t. MayLengthen node_sizes v v2 (rank m.child_bitmap 32) n.child_tier t) (sym tier_is)
+          (subst (λ (y : Node). MayLengthen node_sizes v v2 (rank m.child_bitmap 32) y.child_tier tier) same
+          (subst (λ (y : Store Node). MayLengthen node_sizes v y (rank m.child_bitmap 32) k.child_tier tier) (sym v2_is)
+          (lengthens_written v u (rank m.child_bitmap 32) k.child_tier tier slot m (lengthens (rank m.child_bitmap 32) fewer_here))));
       settles = child_settles reading paths v v2 p c n m leaf hold is below later (ap (λ (y : Node). y.value_tier) m_is ∙ ap (λ (y : Node). y.value_tier) same)
           (let long : length v2.slots ≡ length u.slots = ap (λ (y : Store Node). length y.slots) v2_is ∙ length-set u.slots slot m in
           let now : headroom m.child_tier ≡ headroom tier = ap headroom tier_is in

@@ -4,7 +4,7 @@ use Rattle.prefix_trie_table.specs.declared.allocator.node.Node.{Node}
 use Rattle.prefix_trie_table.specs.declared.allocator.node.NodeSlot.{NodeSlot}
 use Rattle.prefix_trie_table.specs.Bitmaps.{rank}
 use Rattle.prefix_trie_table.specs.Cells.{node_sizes, cell_sizes}
-use Rattle.prefix_trie_table.specs.Store.{Store, Tier, SameRoom, tier_for, tier_sizes, free_at}
+use Rattle.prefix_trie_table.specs.Store.{Store, Tier, SameRoom, tier_for, tier_sizes, size_in, free_at}
 use Rattle.prefix_trie_table.specs.Settling.{NodesSettle}
 use Rattle.prefix_trie_table.specs.Forest.{NodesHold, CellsHold, Holds, IsSlot, lacking_child, without, is_start, with_node, with_value, own_count, entry_count, one_if}
 
@@ -14,6 +14,19 @@ pub record Shrinks (ts : List Tier) (k count to : ℕ) : Type 0 where
   pub gone : count ≡ 1 → to ≡ 0
   pub smallest : 1 < count → (to ≡ k) ⊎ (tier_for ts (count - 1) ≡ Some to)
   pub smaller : (j : ℕ) → 1 < count → tier_for ts (count - 1) ≡ Some j → 0 < free_at ts j → to ≡ j
+
+-- the array is longer by one block of tier `to`, of which none was free, where a list of which so many items are left moved
+-- there from tier k
+pub record LongerByBlock {S : Type 0} (sizes : List ℕ) (v w : Store S) (left k to : ℕ) : Type 0 where
+  pub some : 0 < left
+  pub smaller : to < k
+  pub within : k < length sizes
+  pub none_free : free_at v.tiers to ≡ 0
+  pub longer : length w.slots ≡ length v.slots + size_in sizes to
+
+-- or it is as long as it was
+abbrev pub MayLengthen : {S : Type 0} → List ℕ → Store S → Store S → ℕ → ℕ → ℕ → Type 0
+MayLengthen sizes v w left k to = (length w.slots ≡ length v.slots) ⊎ LongerByBlock sizes v w left k to
 
 -- two nodes have the same children in the same block
 pub record SameChildren (n m : Node) : Type 0 where
@@ -36,6 +49,7 @@ module _ {T : Type 0} where
     pub fewer : own_count (Some m) + 1 ≡ own_count (Some n)
     pub children : SameChildren n m
     pub shrinks : Shrinks before.tiers n.value_tier (rank n.value_bitmap 32) m.value_tier
+    pub longer : MayLengthen cell_sizes before after (rank m.value_bitmap 32) n.value_tier m.value_tier
 
   -- the value at bit b of the node with a path was taken, where there was one, and this node has the children that it had.
   -- The other nodes are as they were, and each node stands where it stood
@@ -49,8 +63,12 @@ module _ {T : Type 0} where
     pub counted : entry_count later paths + one_if (is_some (values path b)) ≡ entry_count reading paths
     pub kept : is_some (values path b) ≡ false → later path ≡ reading path
     pub children : (n m : Node) → reading path ≡ Some n → later path ≡ Some m → SameChildren n m
+    pub fewer : is_some (values path b) ≡ true → own_count (later path) + 1 ≡ own_count (reading path)
     pub shrinks : (n m : Node) → reading path ≡ Some n → later path ≡ Some m → is_some (values path b) ≡ true →
         Shrinks before.tiers n.value_tier (rank n.value_bitmap 32) m.value_tier
+    pub longer : (length after.slots ≡ length before.slots)
+        ⊎ ((n : Node) × (m : Node) × (reading path ≡ Some n) × (later path ≡ Some m)
+        × LongerByBlock cell_sizes before after (rank m.value_bitmap 32) n.value_tier m.value_tier)
 
 -- a node without values and children
 pub record IsBare (n : Node) : Type 0 where
@@ -79,7 +97,9 @@ IsWay reading path way level = (k : ℕ) → k ≤ level → IsSlot reading (tak
 pub record ChildDropped (reading : List ℕ → Option Node) (paths : List (List ℕ)) (p : List ℕ) (c : ℕ) (n m : Node) (before after : Store Node) : Type 0 where
   pub hold : NodesHold node_sizes (lacking_child reading p m c) (without (p ++ c ∷ []) paths) after
   pub values : SameValues n m
+  pub fewer : rank m.child_bitmap 32 + 1 ≡ rank n.child_bitmap 32
   pub shrinks : Shrinks before.tiers n.child_tier (rank n.child_bitmap 32) m.child_tier
+  pub longer : MayLengthen node_sizes before after (rank m.child_bitmap 32) n.child_tier m.child_tier
   pub settles : NodesSettle before after
 
 -- nodes were taken out one after another, each of them bare when it went
@@ -101,8 +121,13 @@ pub record PrunedTo (reading : List ℕ → Option Node) (paths : List (List ℕ
   pub gone : (k : ℕ) → level < k → k ≤ length path → later (take k path) ≡ None
   pub above : (k : ℕ) → k < level → later (take k path) ≡ reading (take k path)
   pub off : (q : List ℕ) → is_start q path ≡ false → later q ≡ reading q
+  pub whole : level ≡ length path → later path ≡ reading path
+  pub fewer : (n : Node) → level < length path → reading (take level path) ≡ Some n → rank node.child_bitmap 32 + 1 ≡ rank n.child_bitmap 32
   pub shrinks : (n : Node) → level < length path → reading (take level path) ≡ Some n →
       SameValues n node × Shrinks before.tiers n.child_tier (rank n.child_bitmap 32) node.child_tier
+  pub longer : (length after.slots ≡ length before.slots)
+      ⊎ ((n : Node) × (reading (take level path) ≡ Some n)
+      × LongerByBlock node_sizes before after (rank node.child_bitmap 32) n.child_tier node.child_tier)
   pub settles : NodesSettle before after
 
 -- the way to a path was pruned as far up as nodes are bare
@@ -122,8 +147,9 @@ pub record AtEnd (path : List ℕ) (way : List NodeSlot) (node : Node) (v : Stor
 
 -- the value at bit b of the node with a path was taken, where there was one, and the way to that node was pruned; where the
 -- node is missing, nothing changed
-abbrev pub EntryRemoved : {T : Type 0} → (List ℕ → Option Node) → List (List ℕ) → (List ℕ → ℕ → Option T) → List ℕ → ℕ → Store (Option T) → Store Node →
-    Store (Option T) → Type 0
-EntryRemoved reading paths values path b before v after =
-    ((reading path ≡ None) × EntryTaken reading paths values path b v before after)
-    ⊎ ((u : Store Node) × (is_some (reading path) ≡ true) × (t : EntryTaken reading paths values path b u before after) × Pruned t.later paths path u v)
+abbrev pub EntryRemoved : {T : Type 0} → (List ℕ → Option Node) → List (List ℕ) → (List ℕ → ℕ → Option T) → List ℕ → ℕ → Store Node → Store (Option T) →
+    Store Node → Store (Option T) → Type 0
+EntryRemoved reading paths values path b v before w after =
+    ((reading path ≡ None) × (w ≡ v) × EntryTaken reading paths values path b w before after)
+    ⊎ ((u : Store Node) × (is_some (reading path) ≡ true) × (t : EntryTaken reading paths values path b u before after) × Pruned t.later paths path u w
+    × (length u.slots ≡ length v.slots) × (u.tiers ≡ v.tiers))

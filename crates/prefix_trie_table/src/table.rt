@@ -21,19 +21,19 @@ pub mod spot;
 mod tests;
 pub mod walk;
 
-ghost use Rattle.std.specs.Prelude.{◌≡◌, ℕ, ◌+◌, ◌*◌, ◌<◌, ◌≤◌, take, IfOk, OnOk, IfErr, OnErr, IsOk, IsErr, IsTrue, ◌↔◌, MatchOption, MatchResult, None, Some, false};
+ghost use Rattle.std.specs.Prelude.{◌≡◌, ℕ, ◌+◌, ◌*◌, ◌<◌, ◌≤◌, take, IfOk, OnOk, IfErr, OnErr, IsOk, IsErr, IsTrue, ◌↔◌, MatchOption, MatchResult, None, Some, false, Bool, List};
 ghost use Rattle.std.specs.Option.{option_copied};
 ghost use Rattle.std.specs.FinMap.{get, contains_key, len, len as node_number};
 ghost use Rattle.prefix_trie_bits.specs.Model.Asking.{AsksInOrder, MayAskInOrder};
 ghost use Rattle.prefix_trie_bits.specs.Model.Entries.{no_entries, with_entry, without_entry, without_below, AreWithin};
 ghost use Rattle.prefix_trie_bits.specs.Model.Matches.{longest_match, shortest_match};
-ghost use Rattle.prefix_trie_bits.specs.Model.Nodes.{root_alone, with_needed, nodes_without, nodes_without_below, needed, AreNodes};
+ghost use Rattle.prefix_trie_bits.specs.Model.Nodes.{root_alone, with_needed, nodes_without, nodes_without_below, needed, AreNodes, home};
 ghost use Rattle.prefix_trie_bits.specs.Model.Selections.{listing};
 ghost use Rattle.prefix_trie_bits.specs.Model.Visits.{visits, visits_to_match};
 ghost use Rattle.prefix_trie_bits.specs.Model.Insertion.{PassesLimit, TakesBlocks, node_slots_lacking, cell_slots_lacking, child_block_needed, value_block_needed};
 ghost use Rattle.prefix_trie_bits.specs.Model.Room.{MayPassLimit};
 ghost use Rattle.prefix_trie_bits.specs.declared.prefix.Refusal.TheVariants.{IndexRange};
-ghost use Rattle.prefix_trie_bits.specs.Model.Blocks.{no_layout};
+ghost use Rattle.prefix_trie_bits.specs.Model.Blocks.{no_layout, SizesStepDown, LongerByOne, value_block_sizes, child_block_sizes, own_entries, child_count};
 ghost use Rattle.prefix_trie_table.specs.Layouts.{Sized, Sized-prop};
 ghost use Rattle.prefix_trie_table.specs.Shape.{Shaped, Shaped-prop};
 
@@ -270,6 +270,20 @@ impl<T: Drop, A: Allocator, V: Tick> Table<T, A, V> {
             × (self.new.room.cell_slots ≤ self.old.room.cell_slots + 24) }
         ensures limit { (self.new.room.node_slots ≤ self.new.room.limit)
             × (self.new.room.cell_slots ≤ self.new.room.limit) }
+        ensures value_blocks { SizesStepDown value_block_sizes self.old.layout.free_value_blocks
+            self.old.nodes (own_entries self.old.entries) (own_entries self.new.entries)
+            self.old.layout.value_blocks self.new.layout.value_blocks }
+        ensures child_blocks { SizesStepDown child_block_sizes self.old.layout.free_child_blocks
+            self.old.nodes (child_count self.old.nodes) (child_count self.new.nodes)
+            self.old.layout.child_blocks self.new.layout.child_blocks }
+        ensures cells_longer { LongerByOne value_block_sizes self.old.layout.free_value_blocks
+            (get self.old.layout.value_blocks (home (take len (K.bits key))))
+            (get self.new.layout.value_blocks (home (take len (K.bits key))))
+            self.old.room.cell_slots self.new.room.cell_slots }
+        ensures nodes_longer { (p : List Bool)
+            × LongerByOne child_block_sizes self.old.layout.free_child_blocks
+            (get self.old.layout.child_blocks p) (get self.new.layout.child_blocks p)
+            self.old.room.node_slots self.new.room.node_slots }
     {
         remove_entry(
             &mut self.nodes,
@@ -296,6 +310,15 @@ impl<T: Drop, A: Allocator, V: Tick> Table<T, A, V> {
             × (self.new.room.cell_slots ≤ self.old.room.cell_slots + 24) }
         ensures limit { (self.new.room.node_slots ≤ self.new.room.limit)
             × (self.new.room.cell_slots ≤ self.new.room.limit) }
+        ensures value_blocks { SizesStepDown value_block_sizes self.old.layout.free_value_blocks
+            self.old.nodes (own_entries self.old.entries) (own_entries self.new.entries)
+            self.old.layout.value_blocks self.new.layout.value_blocks }
+        ensures child_blocks { (self.new.layout.child_blocks ≡ self.old.layout.child_blocks)
+            × (self.new.layout.free_child_blocks ≡ self.old.layout.free_child_blocks) }
+        ensures cells_longer { LongerByOne value_block_sizes self.old.layout.free_value_blocks
+            (get self.old.layout.value_blocks (home (take len (K.bits key))))
+            (get self.new.layout.value_blocks (home (take len (K.bits key))))
+            self.old.room.cell_slots self.new.room.cell_slots }
     {
         remove_value(
             &mut self.nodes,

@@ -1,10 +1,10 @@
 -- How an array is cut into blocks. The sizes are those of the crate's code; the rest is this project's own.
-use Rattle.std.specs.Prelude.{◌≡◌, ℕ, ◌+◌, Bool, ◌==◌, ◌&&◌, List, [], ◌∷◌, ◌++◌, Option, length, filter, find, Contains, IsPermutation, nat_le, nat_lt}
-use Rattle.std.specs.FinMap.{FinMap, empty, keys}
+use Rattle.std.specs.Prelude.{◌≡◌, ◌≢◌, ℕ, ◌+◌, ◌<◌, ◌⊎◌, Bool, true, false, cond, ◌==◌, ◌&&◌, List, [], ◌∷◌, ◌++◌, Option, None, Some, length, filter, find, Contains, IsPermutation, nat_le, nat_lt}
+use Rattle.std.specs.FinMap.{FinMap, empty, get, keys}
 use Rattle.prefix_trie_bits.specs.Bits.{begins}
 use Rattle.prefix_trie_bits.specs.Order.{listing_cmp}
 use Rattle.prefix_trie_bits.specs.Model.Entries.{Entries}
-use Rattle.prefix_trie_bits.specs.Model.Nodes.{Nodes}
+use Rattle.prefix_trie_bits.specs.Model.Nodes.{Nodes, has_node}
 
 -- the sizes of value blocks, in slots
 abbrev pub value_block_sizes : List ℕ
@@ -45,6 +45,31 @@ pub record Layout : Type 0 where
   pub value_blocks : Sizes
   pub free_child_blocks : List ℕ
   pub free_value_blocks : List ℕ
+
+-- how many blocks of a size are free: `free` has a number for each of the sizes
+abbrev pub free_of : List ℕ → List ℕ → ℕ → ℕ
+free_of [] free size = 0
+free_of (s ∷ sizes) [] size = 0
+free_of (s ∷ sizes) (f ∷ free) size = cond (s == size) f (free_of sizes free size)
+
+-- a list that had `before` items now has `after`, and its block, which had the size `old`, now has `new`: the same where no item
+-- was taken, none where no item is left, and else the old size or the smallest that holds the rest, and that one where such a
+-- block was free
+pub record StepsDown (sizes free : List ℕ) (before after : ℕ) (old new : Option ℕ) : Type 0 where
+  pub same : after ≡ before → new ≡ old
+  pub none : after ≡ 0 → new ≡ None
+  pub one_of : after < before → 0 < after → (new ≡ old) ⊎ (new ≡ smallest_size sizes after)
+  pub smallest : (size : ℕ) → after < before → 0 < after → smallest_size sizes after ≡ Some size → 0 < free_of sizes free size → new ≡ Some size
+
+-- the block of each node does so, where the node p had `before p` items and has `after p`; no other string has a block
+pub record SizesStepDown (sizes free : List ℕ) (n : Nodes) (before after : List Bool → ℕ) (old new : Sizes) : Type 0 where
+  pub at_nodes : (p : List Bool) → has_node n p ≡ true → StepsDown sizes free (before p) (after p) (get old p) (get new p)
+  pub elsewhere : (p : List Bool) → has_node n p ≡ false → get new p ≡ None
+
+-- an array is as long as it was, or longer by one block of the size `new`, which is not `old` and of which none was free
+abbrev pub LongerByOne : List ℕ → List ℕ → Option ℕ → Option ℕ → ℕ → ℕ → Type 0
+LongerByOne sizes free old new before after =
+    (after ≡ before) ⊎ ((size : ℕ) × (new ≡ Some size) × (old ≢ Some size) × (free_of sizes free size ≡ 0) × (after ≡ before + size))
 
 -- the layout of a map without blocks
 abbrev pub no_layout : Layout

@@ -1,9 +1,9 @@
 //! Taking entries out.
-ghost use Rattle.std.specs.Prelude.{◌≡◌, ◌+◌, ◌<◌, ◌≤◌};
+ghost use Rattle.std.specs.Prelude.{◌≡◌, ◌+◌, ◌<◌, ◌≤◌, Bool, List};
 ghost use Rattle.std.specs.FinMap.{get, len};
-ghost use Rattle.prefix_trie_bits.specs.Model.Blocks.{no_layout};
+ghost use Rattle.prefix_trie_bits.specs.Model.Blocks.{no_layout, SizesStepDown, LongerByOne, value_block_sizes, child_block_sizes, own_entries, child_count};
 ghost use Rattle.prefix_trie_bits.specs.Model.Entries.{no_entries, without_entry, without_below};
-ghost use Rattle.prefix_trie_bits.specs.Model.Nodes.{root_alone, nodes_without, nodes_without_below};
+ghost use Rattle.prefix_trie_bits.specs.Model.Nodes.{root_alone, nodes_without, nodes_without_below, home};
 ghost use Rattle.prefix_trie_bits.specs.Model.Room.{LeavesRoom};
 ghost use Rattle.prefix_trie_bits.specs.Model.Step.{Step, Remove, RemoveKeepTree, RemoveChildren, Clear, Done, Value};
 ghost use Rattle.prefix_trie_map.specs.Steps.{state};
@@ -32,6 +32,15 @@ impl<P: Prefix, T: Drop, A: Allocator> PrefixMap<P, T, A> {
         ensures cell_slots { (self.old.room.cell_slots ≤ self.new.room.cell_slots) × (self.new.room.cell_slots ≤ self.old.room.cell_slots + 24) }
         ensures within { (self.new.room.node_slots ≤ self.new.room.limit) × (self.new.room.cell_slots ≤ self.new.room.limit) }
         ensures leaves { LeavesRoom (len self.old.nodes) self.old.room self.new.room }
+        ensures value_blocks { SizesStepDown value_block_sizes self.old.layout.free_value_blocks self.old.nodes
+            (own_entries self.old.entries) (own_entries self.new.entries) self.old.layout.value_blocks self.new.layout.value_blocks }
+        ensures child_blocks { SizesStepDown child_block_sizes self.old.layout.free_child_blocks self.old.nodes
+            (child_count self.old.nodes) (child_count self.new.nodes) self.old.layout.child_blocks self.new.layout.child_blocks }
+        ensures cells_longer { LongerByOne value_block_sizes self.old.layout.free_value_blocks
+            (get self.old.layout.value_blocks (home (P.path prefix.now))) (get self.new.layout.value_blocks (home (P.path prefix.now)))
+            self.old.room.cell_slots self.new.room.cell_slots }
+        ensures nodes_longer { (p : List Bool) × LongerByOne child_block_sizes self.old.layout.free_child_blocks
+            (get self.old.layout.child_blocks p) (get self.new.layout.child_blocks p) self.old.room.node_slots self.new.room.node_slots }
 
         // It is one step of the model.
         ensures step { Step P.path P.back P.R.bit_width (state self.old) (Remove prefix.now) (Value result) (state self.new) }
@@ -54,6 +63,13 @@ impl<P: Prefix, T: Drop, A: Allocator> PrefixMap<P, T, A> {
         ensures cell_slots { (self.old.room.cell_slots ≤ self.new.room.cell_slots) × (self.new.room.cell_slots ≤ self.old.room.cell_slots + 24) }
         ensures within { (self.new.room.node_slots ≤ self.new.room.limit) × (self.new.room.cell_slots ≤ self.new.room.limit) }
         ensures leaves { LeavesRoom (len self.old.nodes) self.old.room self.new.room }
+        ensures value_blocks { SizesStepDown value_block_sizes self.old.layout.free_value_blocks self.old.nodes
+            (own_entries self.old.entries) (own_entries self.new.entries) self.old.layout.value_blocks self.new.layout.value_blocks }
+        ensures child_blocks { (self.new.layout.child_blocks ≡ self.old.layout.child_blocks)
+            × (self.new.layout.free_child_blocks ≡ self.old.layout.free_child_blocks) }
+        ensures cells_longer { LongerByOne value_block_sizes self.old.layout.free_value_blocks
+            (get self.old.layout.value_blocks (home (P.path prefix.now))) (get self.new.layout.value_blocks (home (P.path prefix.now)))
+            self.old.room.cell_slots self.new.room.cell_slots }
 
         // It is one step of the model.
         ensures step { Step P.path P.back P.R.bit_width (state self.old) (RemoveKeepTree prefix.now) (Value result) (state self.new) }

@@ -61,6 +61,7 @@ pub fn take_value<T: Drop, A: Allocator, V: Tick>(
     requires node { node ≡ node_at nodes.old.slots (at.start + at.place) }
     requires there { is_set node.value_bitmap bit ≡ true }
     ensures node_room { SameRoom nodes.old nodes.new }
+    ensures node_tiers { nodes.new.tiers ≡ nodes.old.tiers }
     ensures cell_room { Grows cells.old cells.new 24 }
     ensures settles { Settles nodes.old nodes.new cells.old cells.new }
     ensures value { (reading : List ℕ → Option Node) (paths : List (List ℕ))
@@ -116,6 +117,7 @@ fn take_entry<K: Key, T: Drop, A: Allocator, V: Tick>(
         × (t.later (path_of (take len (K.bits key))) ≡ Some result.1)) }
     ensures counted { entries.new + one_if (is_some result.0) ≡ entries.old }
     ensures node_room { SameRoom nodes.old nodes.new }
+    ensures node_tiers { nodes.new.tiers ≡ nodes.old.tiers }
     ensures cell_room { Grows cells.old cells.new 24 }
     ensures settles { Settles nodes.old nodes.new cells.old cells.new }
 {
@@ -147,6 +149,7 @@ pub fn remove_value<K: Key, T: Drop, A: Allocator, V: Tick>(
         (bit_of (take len (K.bits key))) nodes.new cells.old cells.new) }
     ensures counted { entries.new + one_if (is_some result) ≡ entries.old }
     ensures node_room { SameRoom nodes.old nodes.new }
+    ensures node_tiers { nodes.new.tiers ≡ nodes.old.tiers }
     ensures cell_room { Grows cells.old cells.new 24 }
     ensures settles { Settles nodes.old nodes.new cells.old cells.new }
 {
@@ -300,7 +303,7 @@ pub fn remove_entry<K: Key, T: Drop, A: Allocator, V: Tick>(
         result ≡ own_value values (K.bits key) len) }
     ensures removed { ForHeld nodes.old cells.old (λ reading paths values.
         EntryRemoved reading paths values (path_of (take len (K.bits key)))
-        (bit_of (take len (K.bits key))) cells.old nodes.new cells.new) }
+        (bit_of (take len (K.bits key))) nodes.old cells.old nodes.new cells.new) }
     ensures counted { entries.new + one_if (is_some result) ≡ entries.old }
     ensures node_room { Grows nodes.old nodes.new 24 }
     ensures cell_room { Grows cells.old cells.new 24 }

@@ -7,7 +7,7 @@ use Rattle.prefix_trie_table.proofs.Bare.{one_fewer}
 use Rattle.prefix_trie_table.proofs.Bits.{has_bit-is, rank-ones}
 use Rattle.prefix_trie_table.proofs.BitLists.{rank-below}
 use Rattle.prefix_trie_table.proofs.Adding.{at_is, has_list}
-use Rattle.prefix_trie_table.proofs.Removing.{children_dropped, grows_few, gives_back, gives_written, grows_written, steps_down}
+use Rattle.prefix_trie_table.proofs.Removing.{children_dropped, grows_few, gives_back, gives_written, grows_written, steps_down, may_lengthen}
 use Rattle.prefix_trie_table.proofs.Settling.{smaller_node}
 use Rattle.prefix_trie_table.proofs.table.removal.drop_child.Goals as goal
 
@@ -76,6 +76,11 @@ returns-clause-dropped g c = λ reading paths p n leaf hold stands is below bare
       smallest = c.remove_at.ensures.smallest;
       smaller = c.remove_at.ensures.smaller;
     }))
+    (λ left fewer. may_lengthen c.args.nodes.now c.remove_at.new.self c.visit-node.result.child_tier c.count.result
+    c.remove_at.result.1.tier _ _ c.remove_at.ensures.keeps c.remove_at.ensures.turnover blank_node c.visit-node.result.child_block node_sizes
+    c.requires.stands.hold.sizes_are refl smaller_node
+    (has_list c.args.nodes.now (c.args.at.start + c.args.at.place) c.visit-node.result c.count.result c.requires.stands c.visit-node.ensures.node same)
+    c.remove_at.ensures.smallest left (fewer ∙ sym same))
     (steps_down c.args.nodes.now c.remove_at.new.self c.visit-node.result.child_tier c.count.result
     c.remove_at.result.1.tier _ _ c.remove_at.ensures.keeps c.remove_at.ensures.turnover blank_node c.visit-node.result.child_block node_sizes
     c.requires.stands.hold.sizes_are refl smaller_node

@@ -11,7 +11,7 @@ use Rattle.prefix_trie_table.proofs.table.removal.remove_entry.Goals as goal
 pub returns-in_default-clause-removed : goal.returns-in_default-clause-removed
 returns-in_default-clause-removed g c = λ reading paths values holds.
     let none = c.in_default.ensures.missing reading paths holds.hold in
-    inl (none, nothing_taken reading values paths c.args.nodes.now c.args.cells.now holds _ _ (no_value reading values paths _ _ holds _ _ none))
+    inl (none, refl, nothing_taken reading values paths c.args.nodes.now c.args.cells.now holds _ _ (no_value reading values paths _ _ holds _ _ none))
 
 pub prune_up-requires-clause-stands : goal.prune_up-requires-clause-stands
 prune_up-requires-clause-stands g c =
@@ -45,6 +45,8 @@ returns-clause-removed g c = λ reading paths values holds.
       ap is_some own,
       taken.0,
       c.prune_up.ensures.pruned taken.0.later paths taken.0.holds.hold slots taken.1,
+      c.take_entry-value.ensures.node_room.0,
+      c.take_entry-value.ensures.node_tiers,
     )
 
 pub returns-clause-settles : goal.returns-clause-settles

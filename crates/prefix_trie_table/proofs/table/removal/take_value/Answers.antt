@@ -7,7 +7,7 @@ use Rattle.prefix_trie_table.proofs.BitLists.{rank-below, rank-all, map_get}
 use Rattle.prefix_trie_table.proofs.Adding.{at_is, at_values, has_values}
 use Rattle.prefix_trie_table.proofs.Trees.{slot_holds}
 use Rattle.prefix_trie_table.proofs.Values.{values_first}
-use Rattle.prefix_trie_table.proofs.Removing.{values_taken, grows_few, steps_down}
+use Rattle.prefix_trie_table.proofs.Removing.{values_taken, grows_few, steps_down, may_lengthen}
 use Rattle.prefix_trie_table.proofs.Settling.{smaller_cell, value_settles}
 use Rattle.prefix_trie_table.proofs.table.removal.take_value.Goals as goal
 
@@ -79,4 +79,9 @@ returns-clause-taken g c = λ reading paths values p n hold cells stands is.
       gone = λ one. ap (λ r. r.tier) (c.remove_at-value.ensures.gone one);
       smallest = c.remove_at-value.ensures.smallest;
       smaller = c.remove_at-value.ensures.smaller;
-    })) reading paths values p n hold cells stands is
+    }))
+    (λ left fewer. may_lengthen c.args.cells.now c.remove_at-value.new.self c.args.node.value_tier c.count.result
+    c.remove_at-value.result.1.tier _ _ c.remove_at-value.ensures.keeps c.remove_at-value.ensures.turnover None c.args.node.value_block cell_sizes
+    c.requires.stands.cells.sizes_are refl smaller_cell
+    (has_values c.args.nodes.now c.args.cells.now (c.args.at.start + c.args.at.place) c.args.node c.count.result c.requires.stands c.requires.node same)
+    c.remove_at-value.ensures.smallest left (fewer ∙ sym same)) reading paths values p n hold cells stands is
