@@ -13,13 +13,16 @@ use Rattle.prefix_trie_map.proofs.Rooms.{leaves_few}
 use Rattle.prefix_trie_map.proofs.map.PrefixMap.insert.Given as given
 use Rattle.prefix_trie_map.proofs.map.PrefixMap.insert.Goals as goal
 
+-- the key has the prefix's path as its first bits
+key_is : (g : given.Over) (c : goal.After-drop-prefix g) → take c.from-len.result (g.P.R.Key.bits c.repr-key.result) ≡ g.P.Prefix.path c.args.prefix
+key_is g c = search (rules, c.repr-key.ensures, c.prefix_len.ensures, c.from-len.ensures, g.met.P.Prefix.prefix_laws.path_is c.args.prefix)
+
 -- what the table's insertion answers and leaves, by the prefix's path
 inserts : (g : given.Over) (c : goal.After-drop-prefix g) → Inserts c.args.self.now c.insert.new.self (g.P.Prefix.path c.args.prefix) c.args.value c.insert.result
 inserts g c =
-    let key : take c.from-len.result (g.P.R.Key.bits c.repr-key.result) ≡ g.P.Prefix.path c.args.prefix = search rules in
     let made = c.insert.ensures in
     subst (λ old. Inserts old c.insert.new.self (g.P.Prefix.path c.args.prefix) c.args.value c.insert.result) c.self.view_is
-    (subst (λ s. Inserts c.self.inside.table c.insert.new.self s c.args.value c.insert.result) key
+    (subst (λ s. Inserts c.self.inside.table c.insert.new.self s c.args.value c.insert.result) (key_is g c)
     (record { before = made.before; entries = made.entries; nodes = made.nodes; unchanged = made.unchanged; stored = λ has. (made.stored has).0 }))
 
 -- before it the map is one
@@ -46,8 +49,7 @@ returns-clause-step g c = step g c
 by_path : (g : given.Over) (c : goal.After-drop-prefix g) (F : Contents g.row.T.Denot → List Bool → Type 0) →
     F c.self.inside.table (take c.from-len.result (g.P.R.Key.bits c.repr-key.result)) → F c.args.self.now (g.P.Prefix.path c.args.prefix)
 by_path g c F fact =
-    let key : take c.from-len.result (g.P.R.Key.bits c.repr-key.result) ≡ g.P.Prefix.path c.args.prefix = search rules in
-    subst (λ old. F old (g.P.Prefix.path c.args.prefix)) c.self.view_is (subst (F c.self.inside.table) key fact)
+    subst (λ old. F old (g.P.Prefix.path c.args.prefix)) c.self.view_is (subst (F c.self.inside.table) (key_is g c) fact)
 
 pub returns-clause-exact_range : goal.returns-clause-exact_range
 returns-clause-exact_range g c =
@@ -95,3 +97,7 @@ returns-clause-value_blocks g c =
 pub returns-clause-layout : goal.returns-clause-layout
 returns-clause-layout g c =
     by_path g c (λ old q. IsTrue (contains_key old.entries q) → c.insert.new.self.layout ≡ old.layout) c.insert.ensures.layout
+
+pub returns-clause-stored : goal.returns-clause-stored
+returns-clause-stored g c =
+    by_path g c (λ old q. IsTrue (contains_key old.entries q) → IsOk c.insert.result × (c.insert.new.self.room ≡ old.room)) c.insert.ensures.stored
