@@ -1,17 +1,17 @@
 -- What a removal does to the size of a block, by the tiers and counts of nodes.
-use Rattle.std.proofs.Common.{◌≡◌, ◌≢◌, ℕ, zero, suc, ◌+◌, ◌-◌, ◌<◌, ◌≤◌, ◌==◌, ◌⊎◌, inl, inr, ⊎_elim, Bool, true, false, cond, List, [], ◌∷◌, ◌++◌, length, get_or, take, Option, None, Some, is_some, option_map, nat_le, refl, sym, ap, ◌∙◌, subst, arith, eq-eqb}
+use Rattle.std.proofs.Common.{◌≡◌, ◌≢◌, ℕ, zero, suc, ◌+◌, ◌-◌, ◌<◌, ◌≤◌, ◌==◌, ◌⊎◌, inl, inr, ⊎_elim, true, false, cond, List, [], ◌∷◌, ◌++◌, length, get_or, take, Option, None, Some, is_some, option_map, nat_le, refl, sym, ap, ◌∙◌, subst, arith, eq-eqb}
 use Rattle.std.proofs.lemmas.Bool.{true≢false, false≢true, cases_Bool, cases_lt}
 use Rattle.std.proofs.lemmas.List.{take_all}
 use Rattle.std.proofs.lemmas.List.Quantifiers.{position-Some}
 use Rattle.std.specs.List.{position}
-use Rattle.prefix_trie_bits.specs.Model.Blocks.{StepsDown, LongerByOne, smallest_size, free_of}
+use Rattle.prefix_trie_bits.specs.Model.Blocks.{StepsDown, LongerByOne, free_of}
 use Rattle.prefix_trie_table.specs.declared.allocator.node.Node.{Node}
 use Rattle.prefix_trie_table.specs.Bitmaps.{rank}
 use Rattle.prefix_trie_table.specs.Cells.{node_sizes, cell_sizes}
 use Rattle.prefix_trie_table.specs.Forest.{lacking_child, own_count, is_start, node_or_blank, has_value}
 use Rattle.prefix_trie_table.specs.Layouts.{size_if_any, child_block_size, value_block_size, free_counts}
 use Rattle.prefix_trie_table.specs.Removals.{Shrinks, LongerByBlock, SameChildren, SameValues, EntryTaken, Drops, none, more, PrunedTo}
-use Rattle.prefix_trie_table.specs.Store.{Store, Tier, tier_at, tier_for, tier_sizes, size_in, free_at}
+use Rattle.prefix_trie_table.specs.Store.{Store, Tier, tier_for, tier_sizes, size_in, free_at}
 use Rattle.prefix_trie_table.proofs.Children.{same_or, changed_below, changed_here, changed_other}
 use Rattle.prefix_trie_table.proofs.Needs.{smallest_is, all_apart, nodes_apart, cells_apart, apart}
 use Rattle.prefix_trie_table.proofs.Removed.{start_is}
