@@ -60,3 +60,4 @@ pub mod Emptied
 pub mod Copying
 pub mod Stepping
 pub mod Stepped
+pub mod Between

@@ -19,6 +19,11 @@ abbrev pub size_if_any : ℕ → ℕ → Option ℕ
 size_if_any zero size = None
 size_if_any (suc n) size = Some size
 
+-- how many children a node has
+abbrev pub own_children : Option Node → ℕ
+own_children None = 0
+own_children (Some n) = rank n.child_bitmap 32
+
 -- the size of the block of a node's children, where it has children
 abbrev pub child_block_size : Option Node → Option ℕ
 child_block_size None = None
