@@ -69,3 +69,4 @@ pub mod Copying
 pub mod PartTaken
 pub mod Stepping
 pub mod Stepped
+pub mod Between

@@ -19,13 +19,14 @@ use Rattle.prefix_trie_bits.proofs.Model.NodeListings.{listing_at_child}
 use Rattle.prefix_trie_table.specs.declared.allocator.node.Node.{Node}
 use Rattle.prefix_trie_table.specs.declared.table.retain.Site.{Site}
 use Rattle.prefix_trie_table.specs.Bitmaps.{has_bit, rank}
-use Rattle.prefix_trie_table.specs.Cells.{node_at, node_sizes}
+use Rattle.prefix_trie_table.specs.Cells.{node_at, node_sizes, cell_sizes}
 use Rattle.prefix_trie_table.specs.Digits.{path_of}
 use Rattle.prefix_trie_table.specs.Store.{Store}
 use Rattle.prefix_trie_table.specs.Forest.{read, child_slot, Holds, IsTable, IsSlot, at_child, NodesHold, entry_count, without, lacking_child}
 use Rattle.prefix_trie_table.specs.Removals.{IsBare, IsStocked, ChildDropped, Drops, none, more}
 use Rattle.prefix_trie_table.specs.Walks.{IsTree, IsPlaceOf}
-use Rattle.prefix_trie_table.specs.Retaining.{IsTrie, IsSite, Needs, RetainsTo, Lasts}
+use Rattle.prefix_trie_table.specs.Retaining.{IsTrie, IsSite, Needs, RetainsTo, Lasts, ValuesBetween, ChildrenBetween}
+use Rattle.prefix_trie_table.proofs.Between.{between_then, dropped_values_between, dropped_children_between}
 use Rattle.prefix_trie_table.proofs.AskedBelow.{child_asked, needed_below}
 use Rattle.prefix_trie_table.proofs.Bare.{some_bit}
 use Rattle.prefix_trie_table.proofs.Bits.{has_bit-is, has_bit-below, rank-ones}
@@ -141,6 +142,8 @@ module _ {K T : Type 0} (IsKey : K → Type 0) (bits : K → List Bool) (width :
         cell_limit = lasts.cell_limit;
         cell_slots = lasts.cell_slots;
         settles = lasts.settles;
+        values = lasts.values;
+        children = lasts.children;
       }
 
       whole_b : length (take b.depth (bits b.key)) % 5 ≡ 0
@@ -330,4 +333,10 @@ module _ {K T : Type 0} (IsKey : K → Type 0) (bits : K → List Bool) (width :
           cell_limit = lasts.cell_limit;
           cell_slots = lasts.cell_slots;
           settles = Settles-nodes v v2 v3 w w2 lasts.settles one.settles;
+          values = λ x. between_then cell_sizes _ _ _ _ _ _ (lasts.values x)
+              (subst (ValuesBetween (read v2.slots x)) (sym (read3 x))
+              (dropped_values_between (read v2.slots) table2.paths here c n m left v2 v3 one still_site.stands leaf_is bare x));
+          children = λ x. between_then node_sizes _ _ _ _ _ _ (lasts.children x)
+              (subst (ChildrenBetween (read v2.slots x)) (sym (read3 x))
+              (dropped_children_between (read v2.slots) table2.paths here c n m left v2 v3 one still_site.stands leaf_is bare read2.hold.sizes_are x));
         }

@@ -23,9 +23,11 @@ use Rattle.prefix_trie_table.specs.declared.allocator.node.Node.{Node}
 use Rattle.prefix_trie_table.specs.declared.table.retain.Site.{Site}
 use Rattle.prefix_trie_table.specs.Digits.{path_of, bit_of}
 use Rattle.prefix_trie_table.specs.Store.{Store}
-use Rattle.prefix_trie_table.specs.Forest.{has_value, has_child}
+use Rattle.prefix_trie_table.specs.Forest.{read, has_value, has_child}
 use Rattle.prefix_trie_table.specs.Shape.{same_shape}
 use Rattle.prefix_trie_table.specs.Walks.{IsPlaceOf}
+use Rattle.prefix_trie_table.specs.Cells.{node_sizes, cell_sizes}
+use Rattle.prefix_trie_table.proofs.Between.{between_then, values_still, children_still}
 use Rattle.prefix_trie_table.specs.Retaining.{is_at, is_at_some, is_under_some, IsTrie, IsSite, Retains, RetainsIn, MayAskAt, Lasts}
 use Rattle.prefix_trie_table.proofs.Asked.{no_or_yes, at_value, at_child, under_at_some, one_place, apart_first, asked_both, may_ask_first, may_ask_then}
 use Rattle.prefix_trie_table.proofs.Bits.{has_bit-is}
@@ -238,6 +240,8 @@ lasts_both level v v2 v3 w w2 w3 a b = record {
   cell_limit = b.cell_limit ∙ a.cell_limit;
   cell_slots = (let x = a.cell_slots in let y = b.cell_slots in omega (arith, x, y));
   settles = Settles-then v v2 v3 w w2 w3 a.settles b.settles;
+  values = λ x. between_then cell_sizes _ _ _ _ _ _ (a.values x) (b.values x);
+  children = λ x. between_then node_sizes _ _ _ _ _ _ (a.children x) (b.children x);
 }
 
 pub lasts_none : {T : Type 0} (level : ℕ) (v : Store Node) (w : Store (Option T)) → Lasts level v v w w
@@ -248,4 +252,6 @@ lasts_none level v w = record {
   cell_limit = refl;
   cell_slots = omega arith;
   settles = Settles-none v v w w refl refl;
+  values = λ x. values_still (read v.slots x) (read v.slots x) refl;
+  children = λ x. children_still (read v.slots x) (read v.slots x) refl;
 }

@@ -30,7 +30,7 @@ le_true : (a b : ℕ) → a ≤ b → nat_le a b ≡ true
 le_true a b h = grind (arith, nat_tests)
 
 -- a size that holds one item less than a size does is no larger
-no_larger : (sizes : List ℕ) (k to count : ℕ) → count ≤ size_in sizes k → position (λ s. nat_le (count - 1) s) sizes ≡ Some to → to ≤ k
+pub no_larger : (sizes : List ℕ) (k to count : ℕ) → count ≤ size_in sizes k → position (λ s. nat_le (count - 1) s) sizes ≡ Some to → to ≤ k
 no_larger sizes k to count fits is =
     let first = position-Some (λ s. nat_le (count - 1) s) sizes to 0 is in
     elim (cases_lt k to) as (λ _. to ≤ k) [
@@ -67,7 +67,7 @@ module _ {S : Type 0} (v w : Store S) (k count to : ℕ) (took gave : ℕ → �
   module _ (vacant : S) (start : ℕ) (sizes : List ℕ) (sizes_are : tier_sizes v.tiers ≡ sizes) (seven : length sizes ≡ 7) (smaller : (j : ℕ) → j ≤ 5 → size_in sizes j ≡ get_or smaller_sizes j 0)
       (list : HasList vacant v k start count) (smallest : 1 < count → (to ≡ k) ⊎ (tier_for v.tiers (count - 1) ≡ Some to)) where
     -- the tier of the list, and that its block holds it
-    list_fits : 0 < count → (k < 7) × (count ≤ size_in sizes k)
+    pub list_fits : 0 < count → (k < 7) × (count ≤ size_in sizes k)
     list_fits some =
         let s : Sound vacant (block k start list.size list.items ∷ list.live) v =
         subst (λ bs. Sound vacant (bs ++ list.live) v) (held_some k start list.size list.items (let e = list.is_count in omega arith)) list.sound in
@@ -206,11 +206,12 @@ module _ {T : Type 0} where
       → place ≡ rank k.value_bitmap b → b < 31 → has_bit k.value_bitmap b ≡ true → v2 ≡ record v { slots = set v.slots slot m }
       → Shrinks w.tiers k.value_tier (rank k.value_bitmap 32) tier
       → ((left : ℕ) → left + 1 ≡ rank k.value_bitmap 32 → MayLengthen cell_sizes w u left k.value_tier tier)
+      → (k.value_tier < 7) × (rank k.value_bitmap 32 ≤ size_in cell_sizes k.value_tier)
       → (reading : List ℕ → Option Node) (paths : List (List ℕ)) (values : List ℕ → ℕ → Option T) (p : List ℕ) (n : Node) →
       NodesHold node_sizes reading paths v → CellsHold cell_sizes reading values paths w → IsSlot reading p slot → reading p ≡ Some n
       → ValueTaken reading paths values p b n m v2 w u
-  values_taken v v2 w u slot place b tier start bitmap k m read sets m_is keeps cut place_is small there v2_is shrinks lengthens reading paths values p
-      n hold cells stands is =
+  values_taken v v2 w u slot place b tier start bitmap k m read sets m_is keeps cut place_is small there v2_is shrinks lengthens fits reading paths values
+      p n hold cells stands is =
       let at = slot_holds node_sizes reading paths v hold p slot n stands is in
       let same : k ≡ n = read ∙ at.0 in
       let here : reading p ≡ Some k = is ∙ ap Some (sym same) in
@@ -246,6 +247,7 @@ module _ {T : Type 0} where
         };
         shrinks = subst (λ t. Shrinks w.tiers n.value_tier (rank n.value_bitmap 32) t) (sym tier_is)
             (subst (λ (y : Node). Shrinks w.tiers y.value_tier (rank y.value_bitmap 32) tier) same shrinks);
+        fits = subst (λ (y : Node). (y.value_tier < 7) × (rank y.value_bitmap 32 ≤ size_in cell_sizes y.value_tier)) same fits;
         longer = subst (λ t. MayLengthen cell_sizes w u (rank m.value_bitmap 32) n.value_tier t) (sym tier_is)
             (subst (λ (y : Node). MayLengthen cell_sizes w u (rank m.value_bitmap 32) y.value_tier tier) same
             (lengthens (rank m.value_bitmap 32)
@@ -284,13 +286,14 @@ pub children_dropped : (v u v2 : Store Node) (slot place c tier start bitmap : �
     → place ≡ rank k.child_bitmap c → c < 32 → v2 ≡ record u { slots = set u.slots slot m }
     → Shrinks v.tiers k.child_tier (rank k.child_bitmap 32) tier
     → ((left : ℕ) → left + 1 ≡ rank k.child_bitmap 32 → MayLengthen node_sizes v u left k.child_tier tier)
+    → (k.child_tier < 7) × (rank k.child_bitmap 32 ≤ size_in node_sizes k.child_tier)
     → length u.slots + headroom tier ≤ length v.slots + headroom k.child_tier
     → (reading : List ℕ → Option Node) (paths : List (List ℕ)) (p : List ℕ) (n leaf : Node) →
     NodesHold node_sizes reading paths v → IsSlot reading p slot → reading p ≡ Some n → reading (p ++ c ∷ []) ≡ Some leaf →
     rank leaf.child_bitmap 32 ≡ 0
     → ChildDropped reading paths p c n m v v2
-children_dropped v u v2 slot place c tier start bitmap k m read sets m_is keeps cut place_is digit v2_is shrinks lengthens steps reading paths p n leaf
-    hold stands is below bare =
+children_dropped v u v2 slot place c tier start bitmap k m read sets m_is keeps cut place_is digit v2_is shrinks lengthens fits steps reading paths p n
+    leaf hold stands is below bare =
     let at = slot_holds node_sizes reading paths v hold p slot n stands is in
     let same : k ≡ n = read ∙ at.0 in
     let here : reading p ≡ Some k = is ∙ ap Some (sym same) in
@@ -321,6 +324,7 @@ children_dropped v u v2 slot place c tier start bitmap k m read sets m_is keeps 
         block = ap (λ (y : Node). y.value_block) m_is ∙ ap (λ (y : Node). y.value_block) same;
         tier = ap (λ (y : Node). y.value_tier) m_is ∙ ap (λ (y : Node). y.value_tier) same;
       };
+      fits = subst (λ (y : Node). (y.child_tier < 7) × (rank y.child_bitmap 32 ≤ size_in node_sizes y.child_tier)) same fits;
       fewer = fewer_here ∙ ap (λ (y : Node). rank y.child_bitmap 32) same;
       shrinks = subst (λ t. Shrinks v.tiers n.child_tier (rank n.child_bitmap 32) t) (sym tier_is)
           (subst (λ (y : Node). Shrinks v.tiers y.child_tier (rank y.child_bitmap 32) tier) same shrinks);

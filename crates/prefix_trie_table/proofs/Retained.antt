@@ -23,7 +23,8 @@ use Rattle.prefix_trie_table.specs.Removals.{ValueTaken, EntryTaken}
 use Rattle.prefix_trie_table.specs.Shape.{IsShapeOf}
 use Rattle.prefix_trie_table.specs.Tables.{ForHeld, Grows}
 use Rattle.prefix_trie_table.specs.Walks.{IsTree}
-use Rattle.prefix_trie_table.specs.Retaining.{IsTrie, IsSite}
+use Rattle.prefix_trie_table.specs.Retaining.{IsTrie, IsSite, ValuesBetween, ChildrenBetween}
+use Rattle.prefix_trie_table.proofs.Between.{taken_values_between, taken_children_between}
 use Rattle.prefix_trie_table.proofs.Bits.{has_bit-is}
 use Rattle.prefix_trie_table.proofs.Children.{with_here, with_other}
 use Rattle.prefix_trie_table.proofs.Emptying.{value_taken, shape_taken, table_without, counted_without}
@@ -211,6 +212,20 @@ module _ {K : Type 0} (IsKey : K → Type 0) (bits : K → List Bool) (width : �
         read_after q =
             let a = taken_with (read v.slots) held_table.paths held_table.values read_table in
             reads node_sizes (with_node (read v.slots) (path_of (take p.depth (bits p.key) ++ t)) m) held_table.paths v2 a.hold q
+
+        -- what becomes of the sizes of blocks
+        pub value_blocks_after : (q : List ℕ) → ValuesBetween (read v.slots q) (read v2.slots q)
+        value_blocks_after q =
+            subst (ValuesBetween (read v.slots q)) (sym (read_after q))
+            (taken_values_between (read v.slots) held_table.paths held_table.values (path_of (take p.depth (bits p.key) ++ t)) (bit_of (take p.depth (bits p.key) ++ t)) n m v2 w w2
+            (taken_with (read v.slots) held_table.paths held_table.values read_table) (node_there (read v.slots) held_table.paths held_table.values read_table)
+            read_table.cells.sizes_are q)
+
+        pub child_blocks_after : (q : List ℕ) → ChildrenBetween (read v.slots q) (read v2.slots q)
+        child_blocks_after q =
+            subst (ChildrenBetween (read v.slots q)) (sym (read_after q))
+            (taken_children_between (read v.slots) held_table.paths held_table.values (path_of (take p.depth (bits p.key) ++ t)) (bit_of (take p.depth (bits p.key) ++ t)) n m v2 w w2
+            (taken_with (read v.slots) held_table.paths held_table.values read_table) (node_there (read v.slots) held_table.paths held_table.values read_table) q)
 
         pub value_above : (q : List ℕ) → length q < p.depth / 5 → read v2.slots q ≡ read v.slots q
         value_above q less =

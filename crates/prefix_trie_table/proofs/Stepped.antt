@@ -1,9 +1,9 @@
 -- What contracts see of the sizes of blocks after a removal.
-use Rattle.std.proofs.Common.{◌≡◌, ◌≢◌, ℕ, zero, suc, ◌+◌, ◌*◌, ◌%◌, ◌<◌, ◌≤◌, ◌==◌, ◌⊎◌, inl, inr, Bool, true, false, cond, ◌&&◌, List, [], ◌∷◌, length, take, Option, None, Some, is_some, refl, sym, ap, ◌∙◌, subst, arith, eq-eqb}
-use Rattle.std.proofs.lemmas.Bool.{true≢false, cases_Bool}
+use Rattle.std.proofs.Common.{◌≡◌, ℕ, ◌*◌, ◌%◌, ◌≤◌, inl, inr, Bool, true, cond, ◌&&◌, List, length, take, Option, None, Some, is_some, refl, sym, ap, ◌∙◌, subst, arith, eq-eqb}
+use Rattle.std.proofs.lemmas.Bool.{cases_Bool}
 use Rattle.std.proofs.lemmas.List.{length-take-le}
 use Rattle.std.specs.FinMap.{get}
-use Rattle.prefix_trie_bits.specs.Model.Blocks.{Sizes, StepsDown, SizesStepDown, LongerByOne, value_block_sizes, child_block_sizes, own_entries, child_count}
+use Rattle.prefix_trie_bits.specs.Model.Blocks.{Sizes, StepsDown, SizesStepDown, StepsBetween, SizesStepBetween, LongerByOne, value_block_sizes, child_block_sizes, own_entries, child_count}
 use Rattle.prefix_trie_bits.specs.Model.Nodes.{Nodes, has_node, is_node_depth, home}
 use Rattle.prefix_trie_bits.specs.Model.Step.{State}
 use Rattle.prefix_trie_bits.proofs.Model.Homes.{home-depth}
@@ -11,9 +11,10 @@ use Rattle.prefix_trie_bits.proofs.Model.Members.{and-first, same_entries}
 use Rattle.prefix_trie_table.specs.declared.allocator.node.Node.{Node}
 use Rattle.prefix_trie_table.specs.Cells.{node_sizes, cell_sizes}
 use Rattle.prefix_trie_table.specs.Digits.{path_of, bit_of}
-use Rattle.prefix_trie_table.specs.Forest.{Holds, has_child, has_value, own_count, read, with_value}
-use Rattle.prefix_trie_table.specs.Layouts.{AreSizesBy, Sized, child_block_size, value_block_size, free_counts}
+use Rattle.prefix_trie_table.specs.Forest.{Holds, IsTable, has_child, has_value, own_count, read, with_value}
+use Rattle.prefix_trie_table.specs.Layouts.{AreSizesBy, Sized, own_children, child_block_size, value_block_size, free_counts}
 use Rattle.prefix_trie_table.specs.Removals.{EntryTaken, EntryRemoved}
+use Rattle.prefix_trie_table.specs.Retaining.{ValuesBetween, ChildrenBetween}
 use Rattle.prefix_trie_table.specs.Shape.{IsShapeOf, Shaped}
 use Rattle.prefix_trie_table.specs.Store.{Store}
 use Rattle.prefix_trie_table.specs.Tables.{IsTableOf, ForHeld}
@@ -23,7 +24,7 @@ use Rattle.prefix_trie_table.proofs.Digits.{path-length, path-take}
 use Rattle.prefix_trie_table.proofs.OwnCounts.{children_counted, values_counted}
 use Rattle.prefix_trie_table.proofs.Removed.{home_path, fifths, pruned_holds}
 use Rattle.prefix_trie_table.proofs.Shapes.{shape_entries, shape_nodes}
-use Rattle.prefix_trie_table.proofs.Stepping.{own_children, ValuesStep, ChildrenStep, steps_read, children_kept, taken_gone, taken_values, taken_children, taken_longer, drops_gone, drops_values, pruned_children, pruned_longer}
+use Rattle.prefix_trie_table.proofs.Stepping.{ValuesStep, ChildrenStep, steps_read, children_kept, taken_gone, taken_values, taken_children, taken_longer, drops_gone, drops_values, pruned_children, pruned_longer}
 use Rattle.prefix_trie_table.proofs.Trees.{reads, is_none-None}
 
 -- the size by the string of a node is that by its path
@@ -258,3 +259,49 @@ module _ {T : Type 0} (key : List Bool) (v v2 : Store Node) (w w2 : Store (Optio
 
     pub removed_nodes_grow : (p : List Bool) × LongerByOne child_block_sizes (free_counts v.tiers) (get z.0 p) (get z2.0 p) (length v.slots) (length v2.slots)
     removed_nodes_grow = nodes_grow removed_left
+
+-- ---- where several values are taken
+
+module _ (size : Option Node → Option ℕ) (count : Option Node → ℕ) (sizes : List ℕ) (nothing : count None ≡ 0) (v v2 : List Node)
+    (step : (x : List ℕ) → StepsBetween sizes (count (read v x)) (count (read v2 x)) (size (read v x)) (size (read v2 x)))
+    (n : Nodes) (are : (p : List Bool) → has_node n p ≡ (is_node_depth p && is_some (read v (path_of p)))) (before after : List Bool → ℕ)
+    (had : (p : List Bool) → is_node_depth p ≡ true → before p ≡ count (read v (path_of p)))
+    (has : (p : List Bool) → is_node_depth p ≡ true → after p ≡ count (read v2 (path_of p)))
+    (old new : Sizes) (old_are : AreSizesBy size v old) (new_are : AreSizesBy size v2 new) where
+  -- the sizes by the strings of nodes step down where those by paths do
+  sizes_step_between : SizesStepBetween sizes n before after old new
+  sizes_step_between = record {
+    at_nodes = λ p there.
+        let depth = and-first (is_node_depth p) (is_some (read v (path_of p))) (sym (are p) ∙ there) in
+        subst (λ x. StepsBetween sizes x (after p) (get old p) (get new p)) (sym (had p depth))
+        (subst (λ x. StepsBetween sizes (count (read v (path_of p))) x (get old p) (get new p)) (sym (has p depth))
+        (subst (λ x. StepsBetween sizes (count (read v (path_of p))) (count (read v2 (path_of p))) x (get new p)) (sym (size_read size v (read v) old old_are (λ x. refl) p depth))
+        (subst (λ x. StepsBetween sizes (count (read v (path_of p))) (count (read v2 (path_of p))) (size (read v (path_of p))) x)
+        (sym (size_read size v2 (read v2) new new_are (λ x. refl) p depth)) (step (path_of p)))));
+    elsewhere = λ p lacks. elim (cases_Bool (is_node_depth p)) as (λ _. get new p ≡ None) [
+      | inl depth ↦
+          let missing : read v (path_of p) ≡ None = is_none-None (read v (path_of p)) (sym (ap (λ b. b && is_some (read v (path_of p))) depth) ∙ sym (are p) ∙ lacks) in
+          let zero_before : count (read v (path_of p)) ≡ 0 = ap count missing ∙ nothing in
+          let fewer = (step (path_of p)).fewer in
+          size_read size v2 (read v2) new new_are (λ x. refl) p depth ∙ (step (path_of p)).none (omega (arith, fewer, zero_before))
+      | inr other ↦ new_are p ∙ ap (λ b. cond b (size (read v2 (path_of p))) None) other
+    ];
+  }
+
+module _ {T : Type 0} (v v2 : Store Node) (w w2 : Store (Option T)) (s : Shaped v.slots w.slots) (z : Sized v.slots) (t : IsTable v w)
+    (s2 : Shaped v2.slots w2.slots) (z2 : Sized v2.slots) (t2 : IsTable v2 w2) where
+  pub retained_values : ((x : List ℕ) → ValuesBetween (read v.slots x) (read v2.slots x)) →
+      SizesStepBetween value_block_sizes s.0.nodes (own_entries s.0.entries) (own_entries s2.0.entries) z.1.0 z2.1.0
+  retained_values steps =
+      sizes_step_between value_block_size own_count cell_sizes refl v.slots v2.slots steps s.0.nodes s.1.0 (own_entries s.0.entries) (own_entries s2.0.entries)
+      (λ p depth. own_is t.reading t.values t.paths v w t.holds s.0 s.1 p depth ∙ ap own_count (sym (reads node_sizes t.reading t.paths v t.holds.hold (path_of p))))
+      (λ p depth. own_is t2.reading t2.values t2.paths v2 w2 t2.holds s2.0 s2.1 p depth ∙ ap own_count (sym (reads node_sizes t2.reading t2.paths v2 t2.holds.hold (path_of p))))
+      z.1.0 z2.1.0 z.1.1.1 z2.1.1.1
+
+  pub retained_children : ((x : List ℕ) → ChildrenBetween (read v.slots x) (read v2.slots x)) →
+      SizesStepBetween child_block_sizes s.0.nodes (child_count s.0.nodes) (child_count s2.0.nodes) z.0 z2.0
+  retained_children steps =
+      sizes_step_between child_block_size own_children node_sizes refl v.slots v2.slots steps s.0.nodes s.1.0 (child_count s.0.nodes) (child_count s2.0.nodes)
+      (λ p depth. children_is t.reading t.values t.paths v w t.holds s.0 s.1 p depth ∙ ap own_children (sym (reads node_sizes t.reading t.paths v t.holds.hold (path_of p))))
+      (λ p depth. children_is t2.reading t2.values t2.paths v2 w2 t2.holds s2.0 s2.1 p depth ∙ ap own_children (sym (reads node_sizes t2.reading t2.paths v2 t2.holds.hold (path_of p))))
+      z.0 z2.0 z.1.1.0 z2.1.1.0

@@ -1,17 +1,17 @@
 -- What a removal does to the size of a block, by the tiers and counts of nodes.
-use Rattle.std.proofs.Common.{◌≡◌, ◌≢◌, ℕ, zero, suc, ◌+◌, ◌-◌, ◌<◌, ◌≤◌, ◌==◌, ◌⊎◌, inl, inr, ⊎_elim, Bool, true, false, cond, List, [], ◌∷◌, ◌++◌, length, get_or, take, Option, None, Some, is_some, option_map, nat_le, refl, sym, ap, ◌∙◌, subst, arith, eq-eqb}
+use Rattle.std.proofs.Common.{◌≡◌, ◌≢◌, ℕ, zero, suc, ◌+◌, ◌-◌, ◌<◌, ◌≤◌, ◌==◌, ◌⊎◌, inl, inr, ⊎_elim, true, false, cond, List, [], ◌∷◌, ◌++◌, length, get_or, take, Option, None, Some, is_some, option_map, nat_le, refl, sym, ap, ◌∙◌, subst, arith, eq-eqb}
 use Rattle.std.proofs.lemmas.Bool.{true≢false, false≢true, cases_Bool, cases_lt}
 use Rattle.std.proofs.lemmas.List.{take_all}
 use Rattle.std.proofs.lemmas.List.Quantifiers.{position-Some}
 use Rattle.std.specs.List.{position}
-use Rattle.prefix_trie_bits.specs.Model.Blocks.{StepsDown, LongerByOne, smallest_size, free_of}
+use Rattle.prefix_trie_bits.specs.Model.Blocks.{StepsDown, LongerByOne, free_of}
 use Rattle.prefix_trie_table.specs.declared.allocator.node.Node.{Node}
 use Rattle.prefix_trie_table.specs.Bitmaps.{rank}
 use Rattle.prefix_trie_table.specs.Cells.{node_sizes, cell_sizes}
 use Rattle.prefix_trie_table.specs.Forest.{lacking_child, own_count, is_start, node_or_blank, has_value}
-use Rattle.prefix_trie_table.specs.Layouts.{size_if_any, child_block_size, value_block_size, free_counts}
+use Rattle.prefix_trie_table.specs.Layouts.{size_if_any, own_children, child_block_size, value_block_size, free_counts}
 use Rattle.prefix_trie_table.specs.Removals.{Shrinks, LongerByBlock, SameChildren, SameValues, EntryTaken, Drops, none, more, PrunedTo}
-use Rattle.prefix_trie_table.specs.Store.{Store, Tier, tier_at, tier_for, tier_sizes, size_in, free_at}
+use Rattle.prefix_trie_table.specs.Store.{Store, Tier, tier_for, tier_sizes, size_in, free_at}
 use Rattle.prefix_trie_table.proofs.Children.{same_or, changed_below, changed_here, changed_other}
 use Rattle.prefix_trie_table.proofs.Needs.{smallest_is, all_apart, nodes_apart, cells_apart, apart}
 use Rattle.prefix_trie_table.proofs.Removed.{start_is}
@@ -55,7 +55,7 @@ free_nth (s ∷ sizes) (f ∷ free) (suc j) inside differ =
     ap (λ b. cond b f (free_of sizes free (size_in sizes j))) (differ 0 (omega arith))
     ∙ free_nth sizes free j (omega arith) (λ i h. differ (suc i) (omega arith))
 
-some_size : (n size : ℕ) → 0 < n → size_if_any n size ≡ Some size
+pub some_size : (n size : ℕ) → 0 < n → size_if_any n size ≡ Some size
 some_size zero size h = absurd (omega arith)
 some_size (suc n) size h = refl
 
@@ -125,11 +125,6 @@ module _ (ts : List Tier) (sizes : List ℕ) (are : tier_sizes ts ≡ sizes) (se
 
 -- ---- by nodes
 
--- how many children a node has
-abbrev pub own_children : Option Node → ℕ
-own_children None = 0
-own_children (Some n) = rank n.child_bitmap 32
-
 -- what becomes of the block of a node's values, and of its children
 abbrev pub ValuesStep : List ℕ → Option Node → Option Node → Type 0
 ValuesStep free n m = StepsDown cell_sizes free (own_count n) (own_count m) (value_block_size n) (value_block_size m)
@@ -137,11 +132,11 @@ ValuesStep free n m = StepsDown cell_sizes free (own_count n) (own_count m) (val
 abbrev pub ChildrenStep : List ℕ → Option Node → Option Node → Type 0
 ChildrenStep free n m = StepsDown node_sizes free (own_children n) (own_children m) (child_block_size n) (child_block_size m)
 
-values_none : (o : Option Node) → own_count o ≡ 0 → value_block_size o ≡ None
+pub values_none : (o : Option Node) → own_count o ≡ 0 → value_block_size o ≡ None
 values_none None e = refl
 values_none (Some n) e = ap (λ c. size_if_any c (size_in cell_sizes n.value_tier)) e
 
-children_none : (o : Option Node) → own_children o ≡ 0 → child_block_size o ≡ None
+pub children_none : (o : Option Node) → own_children o ≡ 0 → child_block_size o ≡ None
 children_none None e = refl
 children_none (Some n) e = ap (λ c. size_if_any c (size_in node_sizes n.child_tier)) e
 
@@ -149,13 +144,13 @@ children_none (Some n) e = ap (λ c. size_if_any c (size_in node_sizes n.child_t
 abbrev pub SameBlock : (Option Node → ℕ) → (Option Node → Option ℕ) → Option Node → Option Node → Type 0
 SameBlock count size n m = (count m ≡ count n) × (size m ≡ size n)
 
-same_values : (n m : Node) → SameValues n m → SameBlock own_count value_block_size (Some n) (Some m)
+pub same_values : (n m : Node) → SameValues n m → SameBlock own_count value_block_size (Some n) (Some m)
 same_values n m s = (ap (λ b. rank b 32) s.bitmap, λ i. size_if_any (rank (s.bitmap i) 32) (size_in cell_sizes (s.tier i)))
 
-same_children : (n m : Node) → SameChildren n m → SameBlock own_children child_block_size (Some n) (Some m)
+pub same_children : (n m : Node) → SameChildren n m → SameBlock own_children child_block_size (Some n) (Some m)
 same_children n m s = (ap (λ b. rank b 32) s.bitmap, λ i. size_if_any (rank (s.bitmap i) 32) (size_in node_sizes (s.tier i)))
 
-same_node : (count : Option Node → ℕ) (size : Option Node → Option ℕ) (n m : Option Node) → m ≡ n → SameBlock count size n m
+pub same_node : (count : Option Node → ℕ) (size : Option Node → Option ℕ) (n m : Option Node) → m ≡ n → SameBlock count size n m
 same_node count size n m e = (ap count e, ap size e)
 
 values_kept : (free : List ℕ) (n m : Option Node) → SameBlock own_count value_block_size n m → ValuesStep free n m

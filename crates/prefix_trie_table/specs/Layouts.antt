@@ -8,10 +8,16 @@ use Rattle.prefix_trie_bits.specs.Model.Blocks.{Sizes, Layout}
 use Rattle.prefix_trie_bits.specs.Model.Nodes.{is_node_depth}
 use Rattle.prefix_trie_bits.proofs.Model.Members.{same_entries}
 use Rattle.prefix_trie_table.specs.declared.allocator.node.Node.{Node}
+use Rattle.prefix_trie_table.specs.Bitmaps.{rank}
 use Rattle.prefix_trie_table.specs.Digits.{path_of}
 use Rattle.prefix_trie_table.specs.Store.{Tier}
 use Rattle.prefix_trie_table.specs.Forest.{read}
 pub use Rattle.prefix_trie_table.specs.OwnBlocks.{size_if_any, child_block_size, value_block_size}
+
+-- how many children a node has
+abbrev pub own_children : Option Node → ℕ
+own_children None = 0
+own_children (Some n) = rank n.child_bitmap 32
 
 -- these are the sizes that a function gives for the nodes in an array, by the strings at which the nodes stand
 abbrev pub AreSizesBy : (Option Node → Option ℕ) → List Node → Sizes → Type 0

@@ -47,6 +47,7 @@ module _ {T : Type 0} where
     pub hold : NodesHold node_sizes (with_node reading p m) paths v
     pub cells : CellsHold cell_sizes (with_node reading p m) (with_value values p b None) paths after
     pub fewer : own_count (Some m) + 1 ≡ own_count (Some n)
+    pub fits : (n.value_tier < 7) × (rank n.value_bitmap 32 ≤ size_in cell_sizes n.value_tier)
     pub children : SameChildren n m
     pub shrinks : Shrinks before.tiers n.value_tier (rank n.value_bitmap 32) m.value_tier
     pub longer : MayLengthen cell_sizes before after (rank m.value_bitmap 32) n.value_tier m.value_tier
@@ -98,6 +99,7 @@ pub record ChildDropped (reading : List ℕ → Option Node) (paths : List (List
   pub hold : NodesHold node_sizes (lacking_child reading p m c) (without (p ++ c ∷ []) paths) after
   pub values : SameValues n m
   pub fewer : rank m.child_bitmap 32 + 1 ≡ rank n.child_bitmap 32
+  pub fits : (n.child_tier < 7) × (rank n.child_bitmap 32 ≤ size_in node_sizes n.child_tier)
   pub shrinks : Shrinks before.tiers n.child_tier (rank n.child_bitmap 32) m.child_tier
   pub longer : MayLengthen node_sizes before after (rank m.child_bitmap 32) n.child_tier m.child_tier
   pub settles : NodesSettle before after

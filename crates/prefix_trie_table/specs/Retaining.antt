@@ -14,8 +14,11 @@ use Rattle.prefix_trie_bits.specs.Model.Selections.{listing}
 use Rattle.prefix_trie_bits.specs.Model.Step.{State}
 use Rattle.prefix_trie_table.specs.declared.allocator.node.Node.{Node}
 use Rattle.prefix_trie_table.specs.declared.table.retain.Site.{Site}
+use Rattle.prefix_trie_bits.specs.Model.Blocks.{StepsBetween}
+use Rattle.prefix_trie_table.specs.Cells.{node_sizes, cell_sizes}
 use Rattle.prefix_trie_table.specs.Digits.{path_of}
-use Rattle.prefix_trie_table.specs.Forest.{IsSlot, read}
+use Rattle.prefix_trie_table.specs.Forest.{IsSlot, own_count, read}
+use Rattle.prefix_trie_table.specs.Layouts.{own_children, child_block_size, value_block_size}
 use Rattle.prefix_trie_table.specs.Settling.{Settles}
 use Rattle.prefix_trie_table.specs.Shape.{IsShapeOf}
 use Rattle.prefix_trie_table.specs.Store.{Store}
@@ -44,6 +47,13 @@ pub record HasPlace (n : Node) (p : Place) : Type 0 where
   pub is : p ≡ place_of string
   pub set : is_in n.value_bitmap n.child_bitmap string ≡ true
 
+-- no block of a node's values, or of its children, is larger, or smaller than what is left needs
+abbrev pub ValuesBetween : Option Node → Option Node → Type 0
+ValuesBetween n m = StepsBetween cell_sizes (own_count n) (own_count m) (value_block_size n) (value_block_size m)
+
+abbrev pub ChildrenBetween : Option Node → Option Node → Type 0
+ChildrenBetween n m = StepsBetween node_sizes (own_children n) (own_children m) (child_block_size n) (child_block_size m)
+
 module _ {T : Type 0} where
   -- some stored key goes on from q
   pub record Needs (m : Entries T) (q : List Bool) : Type 0 where
@@ -70,6 +80,8 @@ module _ {T : Type 0} where
     pub cell_limit : w2.limit ≡ w.limit
     pub cell_slots : length w.slots ≤ length w2.slots
     pub settles : Settles v v2 w w2
+    pub values : (x : List ℕ) → ValuesBetween (read v.slots x) (read v2.slots x)
+    pub children : (x : List ℕ) → ChildrenBetween (read v.slots x) (read v2.slots x)
 
 -- a node stands in the slot of the site and at its path, which is no longer than the width
 pub record IsSite {K : Type 0} (IsKey : K → Type 0) (bits : K → List Bool) (width : ℕ) (v : Store Node) (p : Site K) (n : Node) : Type 0 where

@@ -33,7 +33,7 @@ ghost use Rattle.prefix_trie_bits.specs.Model.Visits.{visits, visits_to_match};
 ghost use Rattle.prefix_trie_bits.specs.Model.Insertion.{PassesLimit, TakesBlocks, node_slots_lacking, cell_slots_lacking, child_block_needed, value_block_needed};
 ghost use Rattle.prefix_trie_bits.specs.Model.Room.{MayPassLimit};
 ghost use Rattle.prefix_trie_bits.specs.declared.prefix.Refusal.TheVariants.{IndexRange};
-ghost use Rattle.prefix_trie_bits.specs.Model.Blocks.{no_layout, SizesStepDown, LongerByOne, value_block_sizes, child_block_sizes, own_entries, child_count};
+ghost use Rattle.prefix_trie_bits.specs.Model.Blocks.{no_layout, SizesStepDown, SizesStepBetween, LongerByOne, value_block_sizes, child_block_sizes, own_entries, child_count};
 ghost use Rattle.prefix_trie_table.specs.Layouts.{Sized, Sized-prop};
 ghost use Rattle.prefix_trie_table.specs.Shape.{Shaped, Shaped-prop};
 
@@ -380,6 +380,12 @@ impl<T: Drop, A: Allocator, V: Tick> Table<T, A, V> {
         ensures room { (self.new.room.limit ≡ self.old.room.limit)
             × (self.old.room.node_slots ≤ self.new.room.node_slots)
             × (self.old.room.cell_slots ≤ self.new.room.cell_slots) }
+        ensures value_blocks { SizesStepBetween value_block_sizes self.old.nodes
+            (own_entries self.old.entries) (own_entries self.new.entries)
+            self.old.layout.value_blocks self.new.layout.value_blocks }
+        ensures child_blocks { SizesStepBetween child_block_sizes self.old.nodes
+            (child_count self.old.nodes) (child_count self.new.nodes)
+            self.old.layout.child_blocks self.new.layout.child_blocks }
         ensures nodes_grow { self.new.room.node_slots ≤ self.old.room.node_slots + 56 * len self.old.nodes }
         ensures cells_grow { self.new.room.cell_slots ≤ self.old.room.cell_slots + 56 * len self.old.nodes }
         ensures limit { (self.new.room.node_slots ≤ self.new.room.limit)

@@ -1,5 +1,5 @@
 -- How an array is cut into blocks. The sizes are those of the crate's code; the rest is this project's own.
-use Rattle.std.specs.Prelude.{◌≡◌, ◌≢◌, ℕ, ◌+◌, ◌<◌, ◌⊎◌, Bool, true, false, cond, ◌==◌, ◌&&◌, List, [], ◌∷◌, ◌++◌, Option, None, Some, length, filter, find, Contains, IsPermutation, nat_le, nat_lt}
+use Rattle.std.specs.Prelude.{◌≡◌, ◌≢◌, ℕ, ◌+◌, ◌<◌, ◌≤◌, ◌⊎◌, Bool, true, false, cond, ◌==◌, ◌&&◌, List, [], ◌∷◌, ◌++◌, Option, None, Some, length, filter, find, Contains, IsPermutation, nat_le, nat_lt}
 use Rattle.std.specs.FinMap.{FinMap, empty, get, keys}
 use Rattle.prefix_trie_bits.specs.Bits.{begins}
 use Rattle.prefix_trie_bits.specs.Order.{listing_cmp}
@@ -61,9 +61,23 @@ pub record StepsDown (sizes free : List ℕ) (before after : ℕ) (old new : Opt
   pub one_of : after < before → 0 < after → (new ≡ old) ⊎ (new ≡ smallest_size sizes after)
   pub smallest : (size : ℕ) → after < before → 0 < after → smallest_size sizes after ≡ Some size → 0 < free_of sizes free size → new ≡ Some size
 
--- the block of each node does so, where the node p had `before p` items and has `after p`; no other string has a block
+-- the same of a list that lost its items in several steps: where some are left, its block is no larger than it was and no
+-- smaller than the smallest that holds them
+pub record StepsBetween (sizes : List ℕ) (before after : ℕ) (old new : Option ℕ) : Type 0 where
+  pub fewer : after ≤ before
+  pub same : after ≡ before → new ≡ old
+  pub none : after ≡ 0 → new ≡ None
+  pub between : after < before → 0 < after → (n : ℕ) × (o : ℕ) × (new ≡ Some n) × (old ≡ Some o) × (n ≤ o) ×
+      ((size : ℕ) → smallest_size sizes after ≡ Some size → size ≤ n)
+
+-- the block of each node steps down, where the node p had `before p` items and has `after p`; no other string has a block
 pub record SizesStepDown (sizes free : List ℕ) (n : Nodes) (before after : List Bool → ℕ) (old new : Sizes) : Type 0 where
   pub at_nodes : (p : List Bool) → has_node n p ≡ true → StepsDown sizes free (before p) (after p) (get old p) (get new p)
+  pub elsewhere : (p : List Bool) → has_node n p ≡ false → get new p ≡ None
+
+-- the same in several steps
+pub record SizesStepBetween (sizes : List ℕ) (n : Nodes) (before after : List Bool → ℕ) (old new : Sizes) : Type 0 where
+  pub at_nodes : (p : List Bool) → has_node n p ≡ true → StepsBetween sizes (before p) (after p) (get old p) (get new p)
   pub elsewhere : (p : List Bool) → has_node n p ≡ false → get new p ≡ None
 
 -- an array is as long as it was, or longer by one block of the size `new`, which is not `old` and of which none was free

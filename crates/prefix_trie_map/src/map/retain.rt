@@ -2,6 +2,7 @@
 ghost use Rattle.std.specs.Prelude.{◌≡◌, ◌≤◌};
 ghost use Rattle.std.specs.FinMap.{len};
 ghost use Rattle.prefix_trie_bits.specs.Model.Asking.{AsksInOrder, MayAskInOrder};
+ghost use Rattle.prefix_trie_bits.specs.Model.Blocks.{SizesStepBetween, value_block_sizes, child_block_sizes, own_entries, child_count};
 ghost use Rattle.prefix_trie_bits.specs.Model.Entries.{AreWithin};
 ghost use Rattle.prefix_trie_bits.specs.Model.Nodes.{needed};
 ghost use Rattle.prefix_trie_bits.specs.Model.Room.{LeavesRoom};
@@ -50,6 +51,10 @@ impl<P: Prefix, T: Drop, A: Allocator> PrefixMap<P, T, A> {
         ensures within { AreWithin P.R.bit_width self.old.entries }
         ensures kept { AsksInOrder (AsksAt F.FnMut P.back) test (listing self.old.entries) (listing self.new.entries) }
         ensures nodes { self.new.nodes ≡ needed self.new.entries }
+        ensures value_blocks { SizesStepBetween value_block_sizes self.old.nodes (own_entries self.old.entries) (own_entries self.new.entries)
+            self.old.layout.value_blocks self.new.layout.value_blocks }
+        ensures child_blocks { SizesStepBetween child_block_sizes self.old.nodes (child_count self.old.nodes) (child_count self.new.nodes)
+            self.old.layout.child_blocks self.new.layout.child_blocks }
         ensures limit { self.new.room.limit ≡ self.old.room.limit }
         ensures node_slots { self.old.room.node_slots ≤ self.new.room.node_slots }
         ensures cell_slots { self.old.room.cell_slots ≤ self.new.room.cell_slots }

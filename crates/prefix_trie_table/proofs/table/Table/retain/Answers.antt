@@ -1,6 +1,7 @@
 use Rattle.std.proofs.Common.{◌≡◌, ◌+◌, ◌*◌, ◌≤◌, length, sym, subst}
 use Rattle.std.specs.FinMap.{len}
 use Rattle.prefix_trie_bits.specs.Model.Asking.{AsksInOrder, MayAskInOrder}
+use Rattle.prefix_trie_bits.specs.Model.Blocks.{SizesStepBetween, value_block_sizes, child_block_sizes, own_entries, child_count}
 use Rattle.prefix_trie_bits.specs.Model.Entries.{AreWithin}
 use Rattle.prefix_trie_bits.specs.Model.Nodes.{AreNodes, needed}
 use Rattle.prefix_trie_bits.specs.Model.Selections.{listing}
@@ -9,6 +10,7 @@ use Rattle.prefix_trie_table.specs.Shape.{Contents, same_shape}
 use Rattle.prefix_trie_table.specs.Tables.{IsTableOf}
 use Rattle.prefix_trie_table.proofs.Sizing.{table_sizes}
 use Rattle.prefix_trie_table.proofs.Settling.{settled_room}
+use Rattle.prefix_trie_table.proofs.Stepped.{retained_values, retained_children}
 use Rattle.prefix_trie_table.proofs.table.Table.retain.Goals as goal
 
 pub retain_entries-requires-clause-trie : goal.retain_entries-requires-clause-trie
@@ -94,3 +96,27 @@ returns-clause-cells_grow g c =
     let room = settled_room c.self.inside.nodes c.retain_entries.new.nodes c.self.inside.cells c.retain_entries.new.cells c.self.inside.count
     c.self.inside.shape.0 c.self.invariant c.self.inside.shape.1 c.retain_entries.ensures.lasts.settles in
     subst (λ (s : Contents g.row.T.Denot). length c.retain_entries.new.cells.slots ≤ s.room.cell_slots + 56 * len s.nodes) c.self.view_is room.1
+
+pub returns-clause-value_blocks : goal.returns-clause-value_blocks
+returns-clause-value_blocks g c =
+    let all = c.retain_entries.ensures.kept c.self.inside.shape.0 (record {
+      table = c.self.invariant;
+      shaped = c.self.inside.shape.1;
+      within = subst (λ (s : Contents g.row.T.Denot). AreWithin g.K.Key.bit_width s.entries) (sym c.self.view_is) c.requires.within;
+      nodes = subst (λ (s : Contents g.row.T.Denot). AreNodes g.K.Key.bit_width s.entries s.nodes) (sym c.self.view_is) c.requires.nodes;
+    }) in
+    subst (λ (x : Contents g.row.T.Denot). SizesStepBetween value_block_sizes x.nodes (own_entries x.entries) (own_entries c.self-1.given.0.0.entries) x.layout.value_blocks c.self-1.given.1.0.1.0) c.self.view_is
+    (retained_values c.self.inside.nodes c.retain_entries.new.nodes c.self.inside.cells c.retain_entries.new.cells c.self.inside.shape c.self.inside.sizes
+    c.self.invariant.held.table c.self-1.given.0 c.self-1.given.1.0 all.trie.table.held.table c.retain_entries.ensures.lasts.values)
+
+pub returns-clause-child_blocks : goal.returns-clause-child_blocks
+returns-clause-child_blocks g c =
+    let all = c.retain_entries.ensures.kept c.self.inside.shape.0 (record {
+      table = c.self.invariant;
+      shaped = c.self.inside.shape.1;
+      within = subst (λ (s : Contents g.row.T.Denot). AreWithin g.K.Key.bit_width s.entries) (sym c.self.view_is) c.requires.within;
+      nodes = subst (λ (s : Contents g.row.T.Denot). AreNodes g.K.Key.bit_width s.entries s.nodes) (sym c.self.view_is) c.requires.nodes;
+    }) in
+    subst (λ (x : Contents g.row.T.Denot). SizesStepBetween child_block_sizes x.nodes (child_count x.nodes) (child_count c.self-1.given.0.0.nodes) x.layout.child_blocks c.self-1.given.1.0.0) c.self.view_is
+    (retained_children c.self.inside.nodes c.retain_entries.new.nodes c.self.inside.cells c.retain_entries.new.cells c.self.inside.shape c.self.inside.sizes
+    c.self.invariant.held.table c.self-1.given.0 c.self-1.given.1.0 all.trie.table.held.table c.retain_entries.ensures.lasts.children)

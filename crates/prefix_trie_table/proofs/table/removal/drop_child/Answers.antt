@@ -1,13 +1,14 @@
-use Rattle.std.proofs.Common.{◌≡◌, ◌+◌, ap, sym, ◌∙◌, refl, subst, arith}
+use Rattle.std.proofs.Common.{◌≡◌, ◌<◌, ◌≤◌, ◌+◌, ap, sym, ◌∙◌, refl, subst, arith}
 use Rattle.prefix_trie_table.specs.declared.allocator.node.Node.{Node}
 use Rattle.prefix_trie_table.specs.Bitmaps.{has_bit, rank}
 use Rattle.prefix_trie_table.specs.Cells.{blank_node, node_sizes}
 use Rattle.prefix_trie_table.specs.Removals.{Shrinks}
+use Rattle.prefix_trie_table.specs.Store.{size_in}
 use Rattle.prefix_trie_table.proofs.Bare.{one_fewer}
 use Rattle.prefix_trie_table.proofs.Bits.{has_bit-is, rank-ones}
 use Rattle.prefix_trie_table.proofs.BitLists.{rank-below}
 use Rattle.prefix_trie_table.proofs.Adding.{at_is, has_list}
-use Rattle.prefix_trie_table.proofs.Removing.{children_dropped, grows_few, gives_back, gives_written, grows_written, steps_down, may_lengthen}
+use Rattle.prefix_trie_table.proofs.Removing.{children_dropped, grows_few, gives_back, gives_written, grows_written, steps_down, may_lengthen, list_fits}
 use Rattle.prefix_trie_table.proofs.Settling.{smaller_node}
 use Rattle.prefix_trie_table.proofs.table.removal.drop_child.Goals as goal
 
@@ -81,6 +82,12 @@ returns-clause-dropped g c = λ reading paths p n leaf hold stands is below bare
     c.requires.stands.hold.sizes_are refl smaller_node
     (has_list c.args.nodes.now (c.args.at.start + c.args.at.place) c.visit-node.result c.count.result c.requires.stands c.visit-node.ensures.node same)
     c.remove_at.ensures.smallest left (fewer ∙ sym same))
+    (subst (λ n. (c.visit-node.result.child_tier < 7) × (n ≤ size_in node_sizes c.visit-node.result.child_tier)) same
+    (list_fits c.args.nodes.now c.remove_at.new.self c.visit-node.result.child_tier c.count.result
+    c.remove_at.result.1.tier _ _ c.remove_at.ensures.keeps c.remove_at.ensures.turnover blank_node c.visit-node.result.child_block node_sizes
+    c.requires.stands.hold.sizes_are refl smaller_node
+    (has_list c.args.nodes.now (c.args.at.start + c.args.at.place) c.visit-node.result c.count.result c.requires.stands c.visit-node.ensures.node same)
+    c.remove_at.ensures.smallest (omega (arith, some, same))))
     (steps_down c.args.nodes.now c.remove_at.new.self c.visit-node.result.child_tier c.count.result
     c.remove_at.result.1.tier _ _ c.remove_at.ensures.keeps c.remove_at.ensures.turnover blank_node c.visit-node.result.child_block node_sizes
     c.requires.stands.hold.sizes_are refl smaller_node

@@ -1,13 +1,14 @@
-use Rattle.std.proofs.Common.{◌≡◌, ◌+◌, Some, None, get_or, map, sym, ap, ◌∙◌, refl, subst, arith}
+use Rattle.std.proofs.Common.{◌≡◌, ◌<◌, ◌≤◌, ◌+◌, Some, None, get_or, map, sym, ap, ◌∙◌, refl, subst, arith}
 use Rattle.prefix_trie_table.specs.Bitmaps.{rank, bits}
 use Rattle.prefix_trie_table.specs.Cells.{node_sizes, cell_sizes}
 use Rattle.prefix_trie_table.specs.Removals.{Shrinks}
+use Rattle.prefix_trie_table.specs.Store.{size_in}
 use Rattle.prefix_trie_table.proofs.Bits.{has_bit-is, rank-ones}
 use Rattle.prefix_trie_table.proofs.BitLists.{rank-below, rank-all, map_get}
 use Rattle.prefix_trie_table.proofs.Adding.{at_is, at_values, has_values}
 use Rattle.prefix_trie_table.proofs.Trees.{slot_holds}
 use Rattle.prefix_trie_table.proofs.Values.{values_first}
-use Rattle.prefix_trie_table.proofs.Removing.{values_taken, grows_few, steps_down, may_lengthen}
+use Rattle.prefix_trie_table.proofs.Removing.{values_taken, grows_few, steps_down, may_lengthen, list_fits}
 use Rattle.prefix_trie_table.proofs.Settling.{smaller_cell, value_settles}
 use Rattle.prefix_trie_table.proofs.table.removal.take_value.Goals as goal
 
@@ -84,4 +85,12 @@ returns-clause-taken g c = λ reading paths values p n hold cells stands is.
     c.remove_at-value.result.1.tier _ _ c.remove_at-value.ensures.keeps c.remove_at-value.ensures.turnover None c.args.node.value_block cell_sizes
     c.requires.stands.cells.sizes_are refl smaller_cell
     (has_values c.args.nodes.now c.args.cells.now (c.args.at.start + c.args.at.place) c.args.node c.count.result c.requires.stands c.requires.node same)
-    c.remove_at-value.ensures.smallest left (fewer ∙ sym same)) reading paths values p n hold cells stands is
+    c.remove_at-value.ensures.smallest left (fewer ∙ sym same))
+    (subst (λ n. (c.args.node.value_tier < 7) × (n ≤ size_in cell_sizes c.args.node.value_tier)) same
+    (list_fits c.args.cells.now c.remove_at-value.new.self c.args.node.value_tier c.count.result
+    c.remove_at-value.result.1.tier _ _ c.remove_at-value.ensures.keeps c.remove_at-value.ensures.turnover None c.args.node.value_block cell_sizes
+    c.requires.stands.cells.sizes_are refl smaller_cell
+    (has_values c.args.nodes.now c.args.cells.now (c.args.at.start + c.args.at.place) c.args.node c.count.result c.requires.stands c.requires.node same)
+    c.remove_at-value.ensures.smallest
+    (let some = rank-below c.args.node.value_bitmap c.args.bit (omega (arith, c.requires.bit)) c.requires.there in omega (arith, some, same))))
+    reading paths values p n hold cells stands is

@@ -6,7 +6,7 @@ use Rattle.prefix_trie_table.specs.Retaining.{RetainsTo}
 use Rattle.prefix_trie_table.proofs.Bits.{has_bit-is}
 use Rattle.prefix_trie_table.proofs.Retained.{site_holds, site_values}
 use Rattle.prefix_trie_table.proofs.Rooms.{Grows-none}
-use Rattle.prefix_trie_table.proofs.Seen.{short, value_slot, value_got, value_some, value_room, key_filled, may_ask_here, stays_here, goes_here, counted_here, above_here, site_here, trie_goes}
+use Rattle.prefix_trie_table.proofs.Seen.{short, value_slot, value_got, value_some, value_room, key_filled, may_ask_here, stays_here, goes_here, counted_here, above_here, values_here, children_here, site_here, trie_goes}
 use Rattle.prefix_trie_table.proofs.table.retain.retain_value.Goals as goal
 
 pub at-requires : goal.at-requires
@@ -95,4 +95,6 @@ returns-clause-lasts g c =
       cell_limit = c.take_value.ensures.cell_room.limit_is;
       cell_slots = c.take_value.ensures.cell_room.longer;
       settles = c.take_value.ensures.settles;
+      values = values_here g.K.Key.IsKey g.K.Key.bits g.K.Key.bit_width c.args.nodes.now c.args.site c.args.node c.requires.site long c.args.entries.now c.args.cells.now c.requires.trie.0 c.requires.trie.1 c.args.bit c.string_of-n.result.0 c.string_of-n.result.1 c.requires.bit c.string_of-n.ensures.short c.string_of-n.ensures.bit c.requires.set c.take_value.result.0 c.take_value.result.1 c.take_value.new.nodes c.take_value.new.cells c.take_value.ensures.value c.take_value.ensures.taken;
+      children = children_here g.K.Key.IsKey g.K.Key.bits g.K.Key.bit_width c.args.nodes.now c.args.site c.args.node c.requires.site long c.args.entries.now c.args.cells.now c.requires.trie.0 c.requires.trie.1 c.args.bit c.string_of-n.result.0 c.string_of-n.result.1 c.requires.bit c.string_of-n.ensures.short c.string_of-n.ensures.bit c.requires.set c.take_value.result.0 c.take_value.result.1 c.take_value.new.nodes c.take_value.new.cells c.take_value.ensures.value c.take_value.ensures.taken;
     }
