@@ -133,6 +133,15 @@ fn questions_ask_for_no_memory(rt: HostRuntime) -> Result<(), Fail> {
     assert!(rt; map.contains_key(&(0, 0)));
     assert_eq!(rt; (map.len(), map.node_count()), (24, 1));
     assert_eq!(rt; (map.node_slots(), map.cell_slots()), (1, 86));
+    assert_eq!(rt; heap.requests(), before);
+    Ok(())
+}
+
+#[test]
+fn a_walk_asks_for_no_memory(rt: HostRuntime) -> Result<(), Fail> {
+    let heap = Refusing::new(rt.alloc());
+    let map = without_seven(&heap)?;
+    let before = heap.requests();
     assert!(rt; map.values().copied().eq(0..24));
     assert_eq!(rt; heap.requests(), before);
     Ok(())
