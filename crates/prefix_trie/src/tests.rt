@@ -33,9 +33,12 @@ fn each_request_of_a_first_insertion_refused(rt: HostRuntime) -> Result<(), Fail
     for passed in 0..MANY {
         let mut map = PrefixMap::new(&heap)?;
         heap.refuse(passed, 1);
+        let before = heap.requests();
         let answer = map.insert((0_u32, 32_u8), 9_u8);
         heap.refuse(0, 0);
         if answer == Ok(None) {
+            // No request was refused.
+            assert!(rt; heap.requests().wrapping_sub(before) <= passed);
             break;
         }
         assert_eq!(rt;
@@ -47,8 +50,10 @@ fn each_request_of_a_first_insertion_refused(rt: HostRuntime) -> Result<(), Fail
             "at {passed}"
         );
         assert_eq!(rt; map.len(), 0);
+        assert_eq!(rt; map.node_count(), 1);
         assert_eq!(rt; map.get(&(0, 32)), None);
         assert_eq!(rt; map.insert((0, 32), 9), Ok(None));
+        assert_eq!(rt; map.node_count(), 7);
         assert_eq!(rt; map.get(&(0, 32)), Some(&9));
         assert_eq!(rt; map.len(), 1);
         refusals = passed + 1;

@@ -1,5 +1,5 @@
 -- Which blocks the nodes in an array have, and how many blocks of each tier are free.
-use Rattle.std.specs.Prelude.{◌≡◌, ℕ, Bool, cond, List, map, length, Option, None}
+use Rattle.std.specs.Prelude.{◌≡◌, ℕ, Bool, cond, List, map, length, Option, None, Some}
 use Rattle.std.proofs.Common.{refl, sym, ◌∙◌}
 use Rattle.std.specs.Coded.{Coded, coded_ℕ, coded_option, coded_list, coded_bool, coded×, code_by, Coded-set}
 use Rattle.std.specs.FinMap.{get, code}
