@@ -1,4 +1,4 @@
-use Rattle.std.proofs.Common.{rules, ◌≡◌, ◌∙◌, sym, ◌+◌, ◌≤◌, Bool, false, List, MatchResult, IfErr, OnOk, OnErr, IsOk, IsTrue, take, subst}
+use Rattle.std.proofs.Common.{◌≡◌, ◌∙◌, sym, ◌+◌, ◌≤◌, Bool, false, List, MatchResult, IfErr, OnOk, OnErr, IsOk, IsTrue, take, subst}
 use Rattle.std.specs.FinMap.{contains_key}
 use Rattle.prefix_trie_bits.specs.declared.prefix.Refusal.TheVariants.{IndexRange}
 use Rattle.prefix_trie_bits.specs.Model.Entries.{with_entry}
