@@ -1,6 +1,9 @@
-use Rattle.std.proofs.Common.{rules, ◌≡◌, ◌+◌, ◌≤◌, Bool, false, List, MatchResult, IfErr, IsOk, IsTrue, take, subst, arith}
+use Rattle.std.proofs.Common.{◌≡◌, ◌∙◌, sym, ◌+◌, ◌≤◌, Bool, false, List, MatchResult, IfErr, OnOk, OnErr, IsOk, IsTrue, take, subst, arith}
 use Rattle.std.specs.FinMap.{contains_key}
 use Rattle.prefix_trie_bits.specs.declared.prefix.Refusal.TheVariants.{IndexRange}
+use Rattle.prefix_trie_bits.specs.Model.Entries.{with_entry}
+use Rattle.prefix_trie_bits.specs.Model.Nodes.{with_needed}
+use Rattle.prefix_trie_bits.specs.Model.Room.{MayPassLimit}
 use Rattle.prefix_trie_bits.specs.Model.Insertion.{PassesLimit, TakesBlocks, node_slots_lacking, cell_slots_lacking, child_block_needed, value_block_needed}
 use Rattle.prefix_trie_bits.specs.Keys.{path_within}
 use Rattle.prefix_trie_bits.specs.Laws.Steps.{IsMap}
@@ -13,16 +16,20 @@ use Rattle.prefix_trie_map.proofs.Rooms.{leaves_few}
 use Rattle.prefix_trie_map.proofs.map.PrefixMap.insert.Given as given
 use Rattle.prefix_trie_map.proofs.map.PrefixMap.insert.Goals as goal
 
--- the key has the prefix's path as its first bits
+-- the key that the table is handed, as the prefix's path
 key_is : (g : given.Over) (c : goal.After-drop-prefix g) → take c.from-len.result (g.P.R.Key.bits c.repr-key.result) ≡ g.P.Prefix.path c.args.prefix
-key_is g c = search (rules, c.repr-key.ensures, c.prefix_len.ensures, c.from-len.ensures, g.met.P.Prefix.prefix_laws.path_is c.args.prefix)
+key_is g c =
+    let len : c.from-len.result ≡ g.P.Prefix.len_of c.args.prefix = c.from-len.ensures ∙ c.prefix_len.ensures in
+    let repr : c.repr-key.result ≡ g.P.Prefix.repr_of c.args.prefix = c.repr-key.ensures in
+    (λ i. take (len i) (g.P.R.Key.bits (repr i))) ∙ sym (g.met.P.Prefix.prefix_laws.path_is c.args.prefix)
 
 -- what the table's insertion answers and leaves, by the prefix's path
 inserts : (g : given.Over) (c : goal.After-drop-prefix g) → Inserts c.args.self.now c.insert.new.self (g.P.Prefix.path c.args.prefix) c.args.value c.insert.result
 inserts g c =
+    let key = key_is g c in
     let made = c.insert.ensures in
     subst (λ old. Inserts old c.insert.new.self (g.P.Prefix.path c.args.prefix) c.args.value c.insert.result) c.self.view_is
-    (subst (λ s. Inserts c.self.inside.table c.insert.new.self s c.args.value c.insert.result) (key_is g c)
+    (subst (λ s. Inserts c.self.inside.table c.insert.new.self s c.args.value c.insert.result) key
     (record { before = made.before; entries = made.entries; nodes = made.nodes; unchanged = made.unchanged; stored = λ has. (made.stored has).0 }))
 
 -- before it the map is one
@@ -49,7 +56,8 @@ returns-clause-step g c = step g c
 by_path : (g : given.Over) (c : goal.After-drop-prefix g) (F : Contents g.row.T.Denot → List Bool → Type 0) →
     F c.self.inside.table (take c.from-len.result (g.P.R.Key.bits c.repr-key.result)) → F c.args.self.now (g.P.Prefix.path c.args.prefix)
 by_path g c F fact =
-    subst (λ old. F old (g.P.Prefix.path c.args.prefix)) c.self.view_is (subst (F c.self.inside.table) (key_is g c) fact)
+    let key = key_is g c in
+    subst (λ old. F old (g.P.Prefix.path c.args.prefix)) c.self.view_is (subst (F c.self.inside.table) key fact)
 
 pub returns-clause-exact_range : goal.returns-clause-exact_range
 returns-clause-exact_range g c =
@@ -73,15 +81,6 @@ returns-clause-cell_growth g c =
     (λ _. c.insert.new.self.room.cell_slots ≡ old.room.cell_slots + cell_slots_lacking old.entries old.layout q)
     (λ _. c.insert.new.self.room.cell_slots ≤ old.room.cell_slots + cell_slots_lacking old.entries old.layout q)) c.insert.ensures.cell_slots
 
-pub returns-clause-leaves : goal.returns-clause-leaves
-returns-clause-leaves g c =
-    let room = c.insert.ensures.room in
-    let limit = c.insert.ensures.limit in
-    let nodes = room.2 in
-    let cells = room.4 in
-    leaves_few g.P.R.Key.bit_width c.self.inside.table _ c.insert.new.self.room c.self.view_is c.self.invariant.are_nodes room.0 limit.0 limit.1
-    nodes (omega (arith, cells))
-
 pub returns-clause-child_blocks : goal.returns-clause-child_blocks
 returns-clause-child_blocks g c =
     by_path g c (λ old q. contains_key old.entries q ≡ false → MatchResult c.insert.result
@@ -101,3 +100,40 @@ returns-clause-layout g c =
 pub returns-clause-stored : goal.returns-clause-stored
 returns-clause-stored g c =
     by_path g c (λ old q. IsTrue (contains_key old.entries q) → IsOk c.insert.result × (c.insert.new.self.room ≡ old.room)) c.insert.ensures.stored
+
+pub returns-clause-entries : goal.returns-clause-entries
+returns-clause-entries g c =
+    by_path g c (λ old q. OnOk c.insert.result (c.insert.new.self.entries ≡ with_entry old.entries q c.args.value)) c.insert.ensures.entries
+
+pub returns-clause-nodes : goal.returns-clause-nodes
+returns-clause-nodes g c = by_path g c (λ old q. OnOk c.insert.result (c.insert.new.self.nodes ≡ with_needed old.nodes q)) c.insert.ensures.nodes
+
+pub returns-clause-unchanged : goal.returns-clause-unchanged
+returns-clause-unchanged g c =
+    by_path g c (λ old q. OnErr c.insert.result ((c.insert.new.self.entries ≡ old.entries) × (c.insert.new.self.nodes ≡ old.nodes))) c.insert.ensures.unchanged
+
+pub returns-clause-range : goal.returns-clause-range
+returns-clause-range g c =
+    by_path g c (λ old q. IfErr c.insert.result (λ refused. refused.cause ≡ IndexRange → MayPassLimit old.room)) c.insert.ensures.range
+
+pub returns-clause-limit : goal.returns-clause-limit
+returns-clause-limit g c = by_path g c (λ old q. c.insert.new.self.room.limit ≡ old.room.limit) c.insert.ensures.room.0
+
+pub returns-clause-node_slots : goal.returns-clause-node_slots
+returns-clause-node_slots g c =
+    by_path g c (λ old q. (old.room.node_slots ≤ c.insert.new.self.room.node_slots) × (c.insert.new.self.room.node_slots ≤ old.room.node_slots + 56))
+    (c.insert.ensures.room.1, c.insert.ensures.room.2)
+
+pub returns-clause-cell_slots : goal.returns-clause-cell_slots
+returns-clause-cell_slots g c =
+    by_path g c (λ old q. (old.room.cell_slots ≤ c.insert.new.self.room.cell_slots) × (c.insert.new.self.room.cell_slots ≤ old.room.cell_slots + 31))
+    (c.insert.ensures.room.3, c.insert.ensures.room.4)
+
+pub returns-clause-leaves : goal.returns-clause-leaves
+returns-clause-leaves g c =
+    let room = c.insert.ensures.room in
+    let limit = c.insert.ensures.limit in
+    let nodes = room.2 in
+    let cells = room.4 in
+    leaves_few g.P.R.Key.bit_width c.self.inside.table _ c.insert.new.self.room c.self.view_is c.self.invariant.are_nodes room.0 limit.0 limit.1
+    nodes (omega (arith, cells))
