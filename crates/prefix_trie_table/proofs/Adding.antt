@@ -25,6 +25,17 @@ use Rattle.prefix_trie_table.proofs.Values.{values_first, value_stands, value_ad
 pub at_is : (v : Store Node) (slot : ℕ) (a : AtNode v slot) → (node_at v.slots slot ≡ a.node) × (slot < length v.slots)
 at_is v slot a = slot_holds node_sizes a.reading a.paths v a.hold a.path slot a.node a.stands a.is
 
+-- the children of the node at a path are a list in their block
+pub children_list : (reading : List ℕ → Option Node) (paths : List (List ℕ)) (v : Store Node) → NodesHold node_sizes reading paths v → (p : List ℕ) (n : Node) →
+    reading p ≡ Some n → HasList blank_node v n.child_tier n.child_block (rank n.child_bitmap 32)
+children_list reading paths v hold p n is = record {
+  live = flat_map (child_blocks node_sizes reading) (without p paths);
+  size = size_in node_sizes n.child_tier;
+  items = child_items reading p n.child_bitmap;
+  is_count = rank-all (λ c. elim (reading (p ++ c ∷ [])) as (λ _. Node) [ None ↦ blank_node | Some n ↦ n ]) n.child_bitmap;
+  sound = own_first node_sizes reading paths v hold p n is;
+}
+
 -- a node's children are a list in their block
 pub has_list : (v : Store Node) (slot : ℕ) (k : Node) (count : ℕ) → AtNode v slot → k ≡ node_at v.slots slot → count ≡ rank k.child_bitmap 32 →
     HasList blank_node v k.child_tier k.child_block count

@@ -1,6 +1,7 @@
 -- What several removals do to the size of a block.
-use Rattle.std.proofs.Common.{◌≡◌, ◌≢◌, ℕ, ◌+◌, ◌-◌, ◌<◌, ◌≤◌, ◌⊎◌, inl, inr, Bool, true, false, not, ◌||◌, nat_le, List, [], ◌∷◌, ◌++◌, Option, None, Some, option_map, refl, sym, ap, ◌∙◌, subst, arith}
-use Rattle.std.proofs.lemmas.Bool.{cases_lt}
+use Rattle.std.proofs.Common.{length, take, is_some, ◌≡◌, ◌≢◌, ℕ, ◌+◌, ◌-◌, ◌<◌, ◌≤◌, ◌⊎◌, inl, inr, Bool, true, false, not, ◌||◌, nat_le, List, [], ◌∷◌, ◌++◌, Option, None, Some, option_map, refl, sym, ap, ◌∙◌, subst, arith}
+use Rattle.std.proofs.lemmas.Bool.{cases_lt, cases_Bool, true≢false}
+use Rattle.std.proofs.lemmas.List.{take_all}
 use Rattle.std.proofs.lemmas.Bool.Decides.{nat_tests}
 use Rattle.std.specs.List.{position}
 use Rattle.prefix_trie_bits.specs.Model.Blocks.{StepsBetween, smallest_size}
@@ -8,17 +9,19 @@ use Rattle.prefix_trie_bits.proofs.Checks.{below, at_below}
 use Rattle.prefix_trie_bits.proofs.Model.Members.{or-cases, from-not}
 use Rattle.prefix_trie_table.specs.declared.allocator.node.Node.{Node}
 use Rattle.prefix_trie_table.specs.Bitmaps.{rank}
-use Rattle.prefix_trie_table.specs.Cells.{node_sizes, cell_sizes}
-use Rattle.prefix_trie_table.specs.Forest.{with_node, lacking_child, own_count}
+use Rattle.prefix_trie_table.specs.Cells.{blank_node, node_sizes, cell_sizes}
+use Rattle.prefix_trie_table.specs.Forest.{NodesHold, is_start, with_node, lacking_child, own_count}
 use Rattle.prefix_trie_table.specs.Layouts.{size_if_any, own_children, child_block_size, value_block_size}
-use Rattle.prefix_trie_table.specs.Removals.{Shrinks, ValueTaken, ChildDropped, IsBare}
+use Rattle.prefix_trie_table.specs.Removals.{Shrinks, ValueTaken, ChildDropped, IsBare, PrunedTo}
 use Rattle.prefix_trie_table.specs.Retaining.{ValuesBetween, ChildrenBetween}
 use Rattle.prefix_trie_table.specs.Store.{Store, Tier, tier_for, tier_sizes, size_in}
 use Rattle.prefix_trie_table.proofs.Children.{same_or, with_here, with_other, changed_below, changed_here, changed_other}
 use Rattle.prefix_trie_table.proofs.Needs.{smallest_is}
-use Rattle.prefix_trie_table.proofs.Removing.{no_larger}
+use Rattle.prefix_trie_table.proofs.Adding.{children_list}
+use Rattle.prefix_trie_table.proofs.Removed.{start_is}
+use Rattle.prefix_trie_table.proofs.Removing.{held_fits, no_larger}
 use Rattle.prefix_trie_table.proofs.Spending.{tier_for_sizes}
-use Rattle.prefix_trie_table.proofs.Stepping.{some_size, values_none, children_none, same_values, same_children}
+use Rattle.prefix_trie_table.proofs.Stepping.{some_size, values_none, children_none, same_values, same_children, drops_gone, drops_values}
 
 -- ---- by numbers
 
@@ -196,3 +199,52 @@ module _ (reading : List ℕ → Option Node) (paths : List (List ℕ)) (p : Lis
           (subst (λ o. ChildrenBetween (Some n) o) (sym (changed_here reading p m c None x at))
           (between_shrunk v.tiers node_sizes are nodes_rising n.child_tier (rank n.child_bitmap 32) m.child_tier (rank m.child_bitmap 32) t.fewer t.shrinks t.fits.0 t.fits.1))
       by (inr ne) (inr other) = children_still (reading x) (lacking_child reading p m c x) (changed_other reading p m c None x other ne)
+
+-- pruning leaves each node's values where they were, and the children of the node where it stopped in a smaller block at most
+module _ (reading : List ℕ → Option Node) (paths : List (List ℕ)) (path : List ℕ) (level : ℕ) (node : Node) (v v2 : Store Node)
+    (hold : NodesHold node_sizes reading paths v) (p : PrunedTo reading paths path level node v v2) where
+  pub pruned_values_between : (x : List ℕ) → ValuesBetween (reading x) (p.later x)
+  pruned_values_between x =
+      let s = drops_values reading paths p.later p.left p.drops x in values_between (reading x) (p.later x) s.0 s.1
+
+  children_gone : (n o : Option Node) → o ≡ None → ChildrenBetween n o
+  children_gone n o gone = subst (ChildrenBetween n) (sym gone) (record {
+    fewer = omega arith;
+    same = λ none. sym (children_none n (sym none));
+    none = λ e. refl;
+    between = λ less some. absurd (omega (arith, some));
+  })
+
+  at_stop : (level < length path) ⊎ (length path ≤ level) → ChildrenBetween (reading (take level path)) (p.later (take level path))
+  at_stop (inr whole) =
+      let all : take level path ≡ path = take_all level path whole in
+      children_still (reading (take level path)) (p.later (take level path))
+      (ap p.later all ∙ p.whole (let w = p.within in omega arith) ∙ ap reading (sym all))
+  at_stop (inl less) = stopped (reading (take level path)) refl
+    where
+      stopped : (o : Option Node) → reading (take level path) ≡ o → ChildrenBetween (reading (take level path)) (p.later (take level path))
+      stopped None was = absurd (true≢false (ap is_some (sym p.is) ∙ ap is_some (drops_gone reading paths p.later p.left p.drops (take level path) was)))
+      stopped (Some n) was =
+          let one = p.fewer n less was in
+          let fits = held_fits blank_node v n.child_tier n.child_block (rank n.child_bitmap 32) node_sizes hold.sizes_are refl
+          (children_list reading paths v hold (take level path) n was) (omega (arith, one)) in
+          subst (λ o. ChildrenBetween o (p.later (take level path))) (sym was)
+          (subst (ChildrenBetween (Some n)) (sym p.is)
+          (between_shrunk v.tiers node_sizes hold.sizes_are nodes_rising n.child_tier (rank n.child_bitmap 32) node.child_tier (rank node.child_bitmap 32)
+          one (p.shrinks n less was).1 fits.0 fits.1))
+
+  on_way : (k : ℕ) → k ≤ length path → ChildrenBetween (reading (take k path)) (p.later (take k path))
+  on_way k within = elim (cases_lt k level) as (λ _. ChildrenBetween (reading (take k path)) (p.later (take k path))) [
+    | inl high ↦ children_still (reading (take k path)) (p.later (take k path)) (p.above k high)
+    | inr deep ↦ elim (cases_lt level k) as (λ _. ChildrenBetween (reading (take k path)) (p.later (take k path))) [
+      | inl below ↦ children_gone (reading (take k path)) (p.later (take k path)) (p.gone k below within)
+      | inr up ↦ subst (λ l. ChildrenBetween (reading (take l path)) (p.later (take l path))) (let e : level ≡ k = omega arith in e)
+          (at_stop (cases_lt level (length path)))
+    ]
+  ]
+
+  pub pruned_children_between : (x : List ℕ) → ChildrenBetween (reading x) (p.later x)
+  pruned_children_between x = elim (cases_Bool (is_start x path)) as (λ _. ChildrenBetween (reading x) (p.later x)) [
+    | inl on ↦ (let s = start_is x path on in subst (λ y. ChildrenBetween (reading y) (p.later y)) s.0 (on_way (length x) s.1))
+    | inr off ↦ children_still (reading x) (p.later x) (p.off x off)
+  ]

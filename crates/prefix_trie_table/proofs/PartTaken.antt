@@ -13,14 +13,16 @@ use Rattle.prefix_trie_bits.proofs.Model.Members.{and-first, and-second, get-wit
 use Rattle.prefix_trie_bits.proofs.Model.Pruning.{begins-nil, pruning_laws, removed_fewer}
 use Rattle.prefix_trie_table.specs.declared.allocator.node.Node.{Node}
 use Rattle.prefix_trie_table.specs.declared.allocator.node.NodeSlot.{NodeSlot}
-use Rattle.prefix_trie_table.specs.Cells.{node_sizes}
+use Rattle.prefix_trie_table.specs.Cells.{node_sizes, cell_sizes}
 use Rattle.prefix_trie_table.specs.Digits.{path_of, bit_of}
 use Rattle.prefix_trie_table.specs.Store.{Store}
 use Rattle.prefix_trie_table.specs.Forest.{read, Holds, NodesHold, IsSlot}
 use Rattle.prefix_trie_table.specs.Removals.{EntryTaken, EntryRemoved, Pruned, IsWay, AtEnd, slot_in}
+use Rattle.prefix_trie_table.specs.Settling.{NodesSettle}
 use Rattle.prefix_trie_table.specs.Shape.{IsShapeOf, Shaped}
 use Rattle.prefix_trie_table.specs.Tables.{ForHeld, Grows, IsReached, IsTableOf}
-use Rattle.prefix_trie_table.specs.Retaining.{IsTrie, IsSite, Lasts, Retains, RetainsTo}
+use Rattle.prefix_trie_table.specs.Retaining.{ValuesBetween, ChildrenBetween, IsTrie, IsSite, Lasts, Retains, RetainsTo}
+use Rattle.prefix_trie_table.proofs.Between.{between_then, pruned_values_between, pruned_children_between}
 use Rattle.prefix_trie_table.proofs.Children.{same_or}
 use Rattle.prefix_trie_table.proofs.Digits.{path-take}
 use Rattle.prefix_trie_table.proofs.Emptying.{nothing_taken, table_without}
@@ -30,7 +32,9 @@ use Rattle.prefix_trie_table.proofs.Going.{level_last, steps-all}
 use Rattle.prefix_trie_table.proofs.Removed.{removed_shape, counted_removed}
 use Rattle.prefix_trie_table.proofs.Retained.{read_held, slot_stays}
 use Rattle.prefix_trie_table.proofs.Rooms.{Grows-same}
+use Rattle.prefix_trie_table.proofs.Settling.{Settles-nodes}
 use Rattle.prefix_trie_table.proofs.Shapes.{reads_node, shape_entries}
+use Rattle.prefix_trie_table.proofs.Trees.{reads}
 
 -- ---- the home of a bit string
 
@@ -209,6 +213,30 @@ module _ {T : Type 0} (width : ℕ) (b : List Bool) (len : ℕ) (within : len �
       (trie_pruned width (take len b) v2 v3 w2 count2
       (record { entries = without_below s.entries (take len b); nodes = nodes_not_below s.nodes (take len b) }) emptied (ap is_some is) (own_gone s.entries (take len b))
       (λ paths hold. prunes (read v2.slots) paths hold way_left is) room)
+
+  -- what that leaves of the arrays
+  pub part_lasts : (v3 : Store Node) → Grows v2 v3 24 → NodesSettle v2 v3 →
+      ((reading : List ℕ → Option Node) (paths : List (List ℕ)) → NodesHold node_sizes reading paths v2 → IsWay reading (path_of (take len b)) way (len / 5) →
+      reading (path_of (take len b)) ≡ Some n → Pruned reading paths (path_of (take len b)) v2 v3) → Lasts 0 v v3 w w2
+  part_lasts v3 room settles prunes =
+      let t = emptied.table.held.table in
+      let held = (read_held t.reading t.values t.paths v2 w2 t.holds).hold in
+      let pruned = prunes (read v2.slots) t.paths held way_left is in
+      let later : (x : List ℕ) → read v3.slots x ≡ pruned.to.later x = λ x. reads node_sizes pruned.to.later pruned.to.left v3 pruned.to.hold x in
+      record {
+        above = λ p less. absurd (omega (arith, less));
+        node_limit = room.limit_is ∙ lasts.node_limit;
+        node_slots = (let l = lasts.node_slots in let m = room.longer in omega (arith, l, m));
+        cell_limit = lasts.cell_limit;
+        cell_slots = lasts.cell_slots;
+        settles = Settles-nodes v v2 v3 w w2 lasts.settles settles;
+        values = λ x. between_then cell_sizes _ _ _ _ _ _ (lasts.values x)
+            (subst (ValuesBetween (read v2.slots x)) (sym (later x))
+            (pruned_values_between (read v2.slots) t.paths (path_of (take len b)) pruned.level pruned.node v2 v3 held pruned.to x));
+        children = λ x. between_then node_sizes _ _ _ _ _ _ (lasts.children x)
+            (subst (ChildrenBetween (read v2.slots x)) (sym (later x))
+            (pruned_children_between (read v2.slots) t.paths (path_of (take len b)) pruned.level pruned.node v2 v3 held pruned.to x));
+      }
 
 -- and where the node of the string is missing
 pub part_missing : {T : Type 0} (width : ℕ) (b : List Bool) (len : ℕ) → len ≤ length b → (v : Store Node) (w : Store (Option T)) (count : ℕ) (s : State T) → IsTrie width count v w s →

@@ -47,6 +47,18 @@ entered_none k count to j h e = grind (arith, nat_tests)
 entered_one : (k count to j : ℕ) → 1 < count → to ≢ k → one_at (tier_entered k count to) j ≡ many_at to 1 j
 entered_one k count to j h ne = grind (arith, nat_tests)
 
+-- a list stands in a block of one of the seven tiers, which holds it
+pub held_fits : {S : Type 0} (vacant : S) (v : Store S) (k start count : ℕ) (sizes : List ℕ) → tier_sizes v.tiers ≡ sizes → length sizes ≡ 7 → HasList vacant v k start count →
+    0 < count → (k < 7) × (count ≤ size_in sizes k)
+held_fits vacant v k start count sizes sizes_are seven list some =
+    let s : Sound vacant (block k start list.size list.items ∷ list.live) v =
+    subst (λ bs. Sound vacant (bs ++ list.live) v) (held_some k start list.size list.items (let e = list.is_count in omega arith)) list.sound in
+    let of = tier_of_block vacant (block k start list.size list.items) list.live v s in
+    let fits : length list.items ≤ list.size = fits_block vacant (block k start list.size list.items) list.live v s in
+    let tiers : length v.tiers ≡ 7 = sym (length-map v.tiers (λ t. t.size)) ∙ ap (λ (ns : List ℕ). length ns) sizes_are ∙ seven in
+    let size : list.size ≡ size_in sizes k = of.size_is ∙ size_at v.tiers k ∙ ap (λ ns. size_in ns k) sizes_are in
+    ((let x = of.within in omega arith), (let e = list.is_count in omega arith))
+
 module _ {S : Type 0} (v w : Store S) (k count to : ℕ) (took gave : ℕ → ℕ) (keeps : Keeps v w)
     (turned : Turnover v w (blocks_entered v.tiers k count to) took gave) where
   -- no block is made where the list is empty afterwards
@@ -68,14 +80,7 @@ module _ {S : Type 0} (v w : Store S) (k count to : ℕ) (took gave : ℕ → �
       (list : HasList vacant v k start count) (smallest : 1 < count → (to ≡ k) ⊎ (tier_for v.tiers (count - 1) ≡ Some to)) where
     -- the tier of the list, and that its block holds it
     pub list_fits : 0 < count → (k < 7) × (count ≤ size_in sizes k)
-    list_fits some =
-        let s : Sound vacant (block k start list.size list.items ∷ list.live) v =
-        subst (λ bs. Sound vacant (bs ++ list.live) v) (held_some k start list.size list.items (let e = list.is_count in omega arith)) list.sound in
-        let of = tier_of_block vacant (block k start list.size list.items) list.live v s in
-        let fits : length list.items ≤ list.size = fits_block vacant (block k start list.size list.items) list.live v s in
-        let tiers : length v.tiers ≡ 7 = sym (length-map v.tiers (λ t. t.size)) ∙ ap (λ (ns : List ℕ). length ns) sizes_are ∙ seven in
-        let size : list.size ≡ size_in sizes k = of.size_is ∙ size_at v.tiers k ∙ ap (λ ns. size_in ns k) sizes_are in
-        ((let x = of.within in omega arith), (let e = list.is_count in omega arith))
+    list_fits = held_fits vacant v k start count sizes sizes_are seven list
 
     -- another block that it moves to is of a smaller tier, and one such block is made at most
     entered_lower : 1 < count → to ≢ k → tier_for v.tiers (count - 1) ≡ Some to →

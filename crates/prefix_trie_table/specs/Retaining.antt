@@ -72,14 +72,6 @@ module _ {T : Type 0} where
   abbrev pub HasTrie : ℕ → ℕ → Store Node → Store (Option T) → Type 0
   HasTrie width count v w = (s : State T) × IsTrie width count v w s
 
-  -- no array is shorter, both limits are the same, and neither array may reach further
-  pub record Endures (v v2 : Store Node) (w w2 : Store (Option T)) : Type 0 where
-    pub node_limit : v2.limit ≡ v.limit
-    pub node_slots : length v.slots ≤ length v2.slots
-    pub cell_limit : w2.limit ≡ w.limit
-    pub cell_slots : length w.slots ≤ length w2.slots
-    pub settles : Settles v v2 w w2
-
   -- no array is shorter, neither may become longer than it could, both limits are the same, and so are the nodes above this level
   pub record Lasts (level : ℕ) (v v2 : Store Node) (w w2 : Store (Option T)) : Type 0 where
     pub above : (p : List ℕ) → length p < level → read v2.slots p ≡ read v.slots p

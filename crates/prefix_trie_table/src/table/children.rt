@@ -6,7 +6,7 @@ ghost use Rattle.prefix_trie_bits.specs.Model.Step.{State};
 ghost use Rattle.prefix_trie_table.specs.Digits.{path_of};
 ghost use Rattle.prefix_trie_table.specs.Forest.{read};
 ghost use Rattle.prefix_trie_table.specs.Tables.{IsReached};
-ghost use Rattle.prefix_trie_table.specs.Retaining.{HasTrie, IsTrie, Lasts, Endures};
+ghost use Rattle.prefix_trie_table.specs.Retaining.{HasTrie, IsTrie, Lasts};
 
 use crate::allocator::blocks::Blocks;
 use crate::allocator::node::{Node, NodeSlot};
@@ -94,7 +94,7 @@ pub fn remove_part<K: Key, T: Drop, A: Allocator, V: Tick>(
           entries = without_below s.entries (take len (K.bits key));
           nodes = nodes_without_below s.nodes s.entries (take len (K.bits key));
         }) }
-    ensures endures { Endures nodes.old nodes.new cells.old cells.new }
+    ensures lasts { Lasts 0 nodes.old nodes.new cells.old cells.new }
 {
     let Some(way) = descend_keeping_way(nodes, key, len, counter) else {
         return;

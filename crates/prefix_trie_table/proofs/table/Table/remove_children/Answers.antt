@@ -66,11 +66,11 @@ returns-then-len-eq0-clause-nodes_grow g c =
 pub returns-clause-nodes_grow : goal.returns-clause-nodes_grow
 returns-clause-nodes_grow g c =
     let room = settled_room c.self.inside.nodes c.remove_part.new.nodes c.self.inside.cells c.remove_part.new.cells c.self.inside.count
-    c.self.inside.shape.0 c.self.invariant c.self.inside.shape.1 c.remove_part.ensures.endures.settles in
+    c.self.inside.shape.0 c.self.invariant c.self.inside.shape.1 c.remove_part.ensures.lasts.settles in
     subst (λ (s : Contents g.row.T.Denot). length c.remove_part.new.nodes.slots ≤ s.room.node_slots + 56 * len s.nodes) c.self.view_is room.0
 
 pub returns-clause-cells_grow : goal.returns-clause-cells_grow
 returns-clause-cells_grow g c =
     let room = settled_room c.self.inside.nodes c.remove_part.new.nodes c.self.inside.cells c.remove_part.new.cells c.self.inside.count
-    c.self.inside.shape.0 c.self.invariant c.self.inside.shape.1 c.remove_part.ensures.endures.settles in
+    c.self.inside.shape.0 c.self.invariant c.self.inside.shape.1 c.remove_part.ensures.lasts.settles in
     subst (λ (s : Contents g.row.T.Denot). length c.remove_part.new.cells.slots ≤ s.room.cell_slots + 56 * len s.nodes) c.self.view_is room.1
