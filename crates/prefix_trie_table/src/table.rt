@@ -345,6 +345,13 @@ impl<T: Drop, A: Allocator, V: Tick> Table<T, A, V> {
             ≡ record { limit = self.old.room.limit; node_slots = 1; cell_slots = 0 } }
         ensures room { 0 < len → (self.old.room.node_slots ≤ self.new.room.node_slots)
             × (self.old.room.cell_slots ≤ self.new.room.cell_slots) }
+        ensures layout { len ≡ 0 → self.new.layout ≡ no_layout }
+        ensures value_blocks { 0 < len → SizesStepBetween value_block_sizes self.old.nodes
+            (own_entries self.old.entries) (own_entries self.new.entries)
+            self.old.layout.value_blocks self.new.layout.value_blocks }
+        ensures child_blocks { 0 < len → SizesStepBetween child_block_sizes self.old.nodes
+            (child_count self.old.nodes) (child_count self.new.nodes)
+            self.old.layout.child_blocks self.new.layout.child_blocks }
         ensures nodes_grow { self.new.room.node_slots
             ≤ self.old.room.node_slots + 56 * node_number self.old.nodes }
         ensures cells_grow { self.new.room.cell_slots

@@ -1,7 +1,7 @@
 //! Taking entries out.
 ghost use Rattle.std.specs.Prelude.{◌≡◌, ◌+◌, ◌<◌, ◌≤◌, Bool, List};
 ghost use Rattle.std.specs.FinMap.{get, len};
-ghost use Rattle.prefix_trie_bits.specs.Model.Blocks.{no_layout, SizesStepDown, LongerByOne, value_block_sizes, child_block_sizes, own_entries, child_count};
+ghost use Rattle.prefix_trie_bits.specs.Model.Blocks.{no_layout, SizesStepDown, SizesStepBetween, LongerByOne, value_block_sizes, child_block_sizes, own_entries, child_count};
 ghost use Rattle.prefix_trie_bits.specs.Model.Entries.{no_entries, without_entry, without_below};
 ghost use Rattle.prefix_trie_bits.specs.Model.Nodes.{root_alone, nodes_without, nodes_without_below, home};
 ghost use Rattle.prefix_trie_bits.specs.Model.Room.{LeavesRoom};
@@ -101,6 +101,11 @@ impl<P: Prefix, T: Drop, A: Allocator> PrefixMap<P, T, A> {
         // No slots go, but where all is taken out.
         ensures cleared { P.len_of prefix.now ≡ 0 → self.new.room
             ≡ record { limit = self.old.room.limit; node_slots = 1; cell_slots = 0 } }
+        ensures layout { P.len_of prefix.now ≡ 0 → self.new.layout ≡ no_layout }
+        ensures value_blocks { 0 < P.len_of prefix.now → SizesStepBetween value_block_sizes self.old.nodes
+            (own_entries self.old.entries) (own_entries self.new.entries) self.old.layout.value_blocks self.new.layout.value_blocks }
+        ensures child_blocks { 0 < P.len_of prefix.now → SizesStepBetween child_block_sizes self.old.nodes
+            (child_count self.old.nodes) (child_count self.new.nodes) self.old.layout.child_blocks self.new.layout.child_blocks }
         ensures slots { 0 < P.len_of prefix.now
             → (self.old.room.node_slots ≤ self.new.room.node_slots) × (self.old.room.cell_slots ≤ self.new.room.cell_slots) }
         ensures within { (self.new.room.node_slots ≤ self.new.room.limit) × (self.new.room.cell_slots ≤ self.new.room.limit) }

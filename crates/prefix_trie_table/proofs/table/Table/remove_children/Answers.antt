@@ -8,6 +8,8 @@ use Rattle.prefix_trie_table.specs.Tables.{IsTableOf}
 use Rattle.prefix_trie_table.proofs.Settling.{settled_room, some_nodes}
 use Rattle.prefix_trie_table.proofs.PartTaken.{all_gone, root_left, seen_trie}
 use Rattle.prefix_trie_table.proofs.Sizing.{table_sizes}
+use Rattle.prefix_trie_table.proofs.Stepped.{retained_values, retained_children}
+use Rattle.prefix_trie_bits.specs.Model.Blocks.{SizesStepBetween, value_block_sizes, child_block_sizes, own_entries, child_count}
 use Rattle.prefix_trie_table.proofs.table.Table.remove_children.Goals as goal
 
 pub returns-then-len-eq0-clause-entries : goal.returns-then-len-eq0-clause-entries
@@ -74,3 +76,21 @@ returns-clause-cells_grow g c =
     let room = settled_room c.self.inside.nodes c.remove_part.new.nodes c.self.inside.cells c.remove_part.new.cells c.self.inside.count
     c.self.inside.shape.0 c.self.invariant c.self.inside.shape.1 c.remove_part.ensures.lasts.settles in
     subst (λ (s : Contents g.row.T.Denot). length c.remove_part.new.cells.slots ≤ s.room.cell_slots + 56 * len s.nodes) c.self.view_is room.1
+
+pub returns-clause-value_blocks : goal.returns-clause-value_blocks
+returns-clause-value_blocks g c = λ _.
+    let left = c.remove_part.ensures.removed c.self.inside.shape.0
+    (seen_trie g.K.Key.bit_width c.self.inside.count c.self.inside.nodes c.self.inside.cells c.self.inside.shape c.self.invariant _ _
+    (ap (λ (s : Contents g.row.T.Denot). s.entries) c.self.view_is) (ap (λ (s : Contents g.row.T.Denot). s.nodes) c.self.view_is) c.requires.within c.requires.nodes) in
+    subst (λ (x : Contents g.row.T.Denot). SizesStepBetween value_block_sizes x.nodes (own_entries x.entries) (own_entries c.self-1.given.0.0.entries) x.layout.value_blocks c.self-1.given.1.0.1.0) c.self.view_is
+    (retained_values c.self.inside.nodes c.remove_part.new.nodes c.self.inside.cells c.remove_part.new.cells c.self.inside.shape c.self.inside.sizes
+    c.self.invariant.held.table c.self-1.given.0 c.self-1.given.1.0 left.table.held.table c.remove_part.ensures.lasts.values)
+
+pub returns-clause-child_blocks : goal.returns-clause-child_blocks
+returns-clause-child_blocks g c = λ _.
+    let left = c.remove_part.ensures.removed c.self.inside.shape.0
+    (seen_trie g.K.Key.bit_width c.self.inside.count c.self.inside.nodes c.self.inside.cells c.self.inside.shape c.self.invariant _ _
+    (ap (λ (s : Contents g.row.T.Denot). s.entries) c.self.view_is) (ap (λ (s : Contents g.row.T.Denot). s.nodes) c.self.view_is) c.requires.within c.requires.nodes) in
+    subst (λ (x : Contents g.row.T.Denot). SizesStepBetween child_block_sizes x.nodes (child_count x.nodes) (child_count c.self-1.given.0.0.nodes) x.layout.child_blocks c.self-1.given.1.0.0) c.self.view_is
+    (retained_children c.self.inside.nodes c.remove_part.new.nodes c.self.inside.cells c.remove_part.new.cells c.self.inside.shape c.self.inside.sizes
+    c.self.invariant.held.table c.self-1.given.0 c.self-1.given.1.0 left.table.held.table c.remove_part.ensures.lasts.children)
