@@ -72,19 +72,11 @@ impl<S: Slot, A: Allocator> Blocks<S, A> {
     }
 
     /// How many slots a block of tier `k` has.
-    pub fn size_of(&self, k: usize) -> u32
+    fn size_of(&self, k: usize) -> u32
         requires { k < length self.now.tiers }
         ensures { result ≡ (tier_at self.now.tiers k).size }
     {
         self.lists[k].size()
-    }
-
-    /// How many blocks of tier `k` were made, used or free.
-    pub fn made_of(&self, k: usize) -> u32
-        requires { k < length self.now.tiers }
-        ensures { result ≡ (tier_at self.now.tiers k).made }
-    {
-        self.lists[k].made()
     }
 
     /// How many blocks of tier `k` are free. The others that were made hold a list.

@@ -46,13 +46,6 @@ impl<A: Allocator> FreeList<A> {
         self.size
     }
 
-    /// How many blocks were made, used or free.
-    pub fn made(&self) -> u32
-        ensures { result ≡ self.now.made }
-    {
-        self.made
-    }
-
     /// How many blocks are in use, and how many are free.
     pub fn count(&self) -> BlockCount
         ensures { result ≡ tier_count self.now }

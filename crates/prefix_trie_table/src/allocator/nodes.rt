@@ -112,30 +112,6 @@ impl<A: Allocator, V: Drop> NodeAllocator<A, V> {
         self.blocks.len()
     }
 
-    /// How many slots a block of tier `k` has.
-    pub fn size_of(&self, k: usize) -> u32
-        requires { k < length self.now.tiers }
-        ensures { result ≡ (tier_at self.now.tiers k).size }
-    {
-        self.blocks.size_of(k)
-    }
-
-    /// How many blocks of tier `k` were made, used or free.
-    pub fn made_of(&self, k: usize) -> u32
-        requires { k < length self.now.tiers }
-        ensures { result ≡ (tier_at self.now.tiers k).made }
-    {
-        self.blocks.made_of(k)
-    }
-
-    /// How many blocks of tier `k` are free. The others that were made hold the children of a node.
-    pub fn free_of(&self, k: usize) -> usize
-        requires { k < length self.now.tiers }
-        ensures { result ≡ length (tier_at self.now.tiers k).starts }
-    {
-        self.blocks.free_of(k)
-    }
-
     /// As `Blocks::counts`: how many blocks of each size are in use and free, sizes ascending.
     pub fn counts(&self) -> [BlockCount; 7]
         requires { length self.now.tiers ≡ 7 }

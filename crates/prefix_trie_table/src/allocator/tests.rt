@@ -120,10 +120,6 @@ fn array_of_nodes(rt: HostRuntime) -> Result<(), Fail> {
     let (node, rest) = nodes.remove_at(at.tier, at.start, 1, 0);
     assert_eq!(rt; node.child_bitmap, 5);
     assert_eq!(rt; rest.start, 0);
-    assert_eq!(rt;
-        (nodes.size_of(0), nodes.made_of(0), nodes.free_of(0)),
-        (1, 1, 1)
-    );
     nodes.clear();
     assert_eq!(rt; nodes.len(), 1);
     Ok(())
