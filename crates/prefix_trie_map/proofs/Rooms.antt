@@ -1,5 +1,5 @@
 -- What a call leaves of a map's room.
-use Rattle.std.proofs.Common.{◌≡◌, ◌≤◌, ◌*◌, ◌+◌, ℕ, [], sym, ap, ◌∙◌, true≢false, is_some, subst, arith}
+use Rattle.std.proofs.Common.{◌≡◌, ◌≤◌, ◌+◌, ℕ, [], sym, ap, ◌∙◌, true≢false, is_some, subst, arith}
 use Rattle.std.specs.FinMap.{len, contains_key, empty_of_len, get-empty}
 use Rattle.prefix_trie_bits.specs.Order.{listing_cmp}
 use Rattle.prefix_trie_bits.specs.Model.Entries.{Entries}

@@ -7,7 +7,7 @@ use Rattle.prefix_trie_table.specs.declared.allocator.node.NodeSlot.{NodeSlot}
 use Rattle.prefix_trie_table.specs.Bitmaps.{has_bit, rank}
 use Rattle.prefix_trie_table.specs.Cells.{node_at, node_sizes, cell_sizes}
 use Rattle.prefix_trie_table.specs.Store.{Store, Tier, tier_sizes, tier_for, free_at, size_in}
-use Rattle.prefix_trie_table.specs.Forest.{NodesHold, CellsHold, IsSlot, at_root, at_child, has_child, is_start, without, own_count, entry_count, lacking_child, node_or_blank, times}
+use Rattle.prefix_trie_table.specs.Forest.{NodesHold, CellsHold, IsSlot, at_root, at_child, has_child, is_start, without, own_count, entry_count, lacking_child, node_or_blank}
 use Rattle.prefix_trie_table.specs.Removals.{Shrinks, SameValues, IsBare, IsWay, GivesBack, ChildDropped, Drops, none, more, PrunedTo, slot_in, LongerByBlock, MayLengthen}
 use Rattle.prefix_trie_table.proofs.Bare.{no_bit}
 use Rattle.prefix_trie_table.proofs.Children.{changed, changed_below, changed_here, changed_other}
