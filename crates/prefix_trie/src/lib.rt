@@ -2,7 +2,7 @@
 //!
 //! A prefix is a number and a length: the first bits of the number, its path, are what counts. The maps are tries whose nodes
 //! span five bits each. Memory comes from an allocator that is handed in, and a call that finds none is refused and leaves
-//! the map as it was. What each call does is proved: its contract says what it answers and what it makes of the map.
+//! the map's entries as they were. What each call does is proved: its contract says what it answers and what it makes of the map.
 #![tactic(auto)]
 
 #[cfg(test)]

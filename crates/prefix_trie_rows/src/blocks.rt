@@ -3,7 +3,7 @@ use prefix_trie::{BlockCount, PrefixMap, Refusal, Refused};
 use std::alloc::Global;
 
 /// A map of keys of eight bits.
-type Small = PrefixMap<(u8, u8), u8, Global>;
+type Small = PrefixMap<(u8, u8), usize, Global>;
 
 /// The sizes of blocks of values, and of blocks of nodes.
 const VALUE_SIZES: [usize; 7] = [1, 2, 4, 8, 16, 24, 31];
@@ -26,7 +26,7 @@ fn has_no_host_bits(addr: u8, len: u8) -> bool {
 fn insert_at(map: &mut Small, addr: u8) -> Result<(), Refusal> {
     for len in 0..5_u8 {
         if has_no_host_bits(addr, len) {
-            let number = map.len() as u8;
+            let number = map.len();
             map.insert((addr, len), number)
                 .map_err(|refused| refused.cause)?;
         }
@@ -50,7 +50,7 @@ pub fn of_a_full_root(alloc: Global) -> Result<bool, Refusal> {
         map.len() == 31
             && map.node_slots() == 1
             && map.cell_slots() == 86
-            && map.values().copied().eq(0..31_u8)
+            && map.values().copied().eq(0..31_usize)
             && are(
                 map.cell_blocks(),
                 VALUE_SIZES,
