@@ -68,8 +68,9 @@ pub enum Reply<P, A: Allocator> {
 /// the path of its prefix and gives the one that was there, `Get` gives the value at the path of its prefix, `Lpm` the
 /// longest stored beginning of that path and its value, and `Spm` the shortest. `Remove` and `RemoveKeepTree` take the
 /// entry at that path out and give its value, `RemoveChildren` takes out those whose paths that of its prefix begins,
-/// `RetainAtLeast` those whose paths are shorter than the length that it is handed, and `Clear` takes all entries out. `Len` gives the number of entries, `List`
-/// all of them, each once and in listing order, and `Cover` those whose paths begin that of its prefix, the shortest first.
+/// `RetainAtLeast` those whose paths are shorter than the length that it is handed, and `Clear` all of them. `Len` gives the
+/// number of entries, `List` all of them, each once and in listing order, and `Cover` those whose paths begin that of its
+/// prefix, the shortest first.
 ///
 /// `NodeCount` gives the number of nodes. They too are those of the model: `Insert` adds those that lack on its path,
 /// `Remove` takes those away that have nothing left, from the node of its path upward, `RemoveChildren` all below the node of

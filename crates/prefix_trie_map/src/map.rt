@@ -122,7 +122,8 @@ impl<P: Prefix, T: Drop, A: Allocator> PrefixMap<P, T, A> {
         ensures returned { IfErr result (λ refused. refused.value ≡ value) }
         ensures range { IfErr result (λ refused. refused.cause ≡ IndexRange → MayPassLimit self.old.room) }
 
-        // `IndexRange` is answered only where the slots of the blocks that are lacking pass the limit, and nothing where none is.
+        // `IndexRange` is answered only where the slots of the blocks that lack pass the limit. Where no block lacks, the
+        // insertion is not refused.
         ensures exact_range { IfErr result (λ refused. refused.cause ≡ IndexRange → PassesLimit self.old.entries self.old.nodes self.old.room self.old.layout (P.path prefix)) }
         ensures granted { node_slots_lacking self.old.nodes self.old.layout (P.path prefix) ≡ 0
             → cell_slots_lacking self.old.entries self.old.layout (P.path prefix) ≡ 0 → IsOk result }
