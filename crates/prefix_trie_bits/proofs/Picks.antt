@@ -1,13 +1,12 @@
 -- Picking elements by the set bits of a number.
-use Rattle.std.proofs.Common.{◌≡◌, ℕ, zero, suc, ◌+◌, ◌-◌, ◌*◌, ◌/◌, ◌%◌, ◌^◌, ◌<◌, ◌≤◌, ◌≢◌, Bool, true, false, cond, eqb, List, [], ◌∷◌, length, refl, sym, ap, ap₂, ◌∙◌, arith, get_or, zero-add, one-add, pow_pos, bit_and, filter, add-zero, pow-suc, inl, inr}
-use Rattle.std.specs.List.{insert, remove}
+use Rattle.std.proofs.Common.{◌≡◌, ℕ, zero, suc, ◌+◌, ◌-◌, ◌*◌, ◌/◌, ◌%◌, ◌^◌, ◌<◌, ◌≢◌, Bool, true, false, cond, eqb, List, [], ◌∷◌, length, refl, sym, ap, ap₂, ◌∙◌, arith, get_or, pow_pos, bit_and, filter, add-zero, pow-suc, inl, inr}
 use Rattle.std.specs.Int.{bit_at}
 use Rattle.std.specs.Int.Bits.{and_self, and_zero_l}
 use Rattle.std.proofs.lemmas.Nat.{and_block, shr_split}
 use Rattle.std.proofs.lemmas.Nat.Bits.{bit_at-zero, bit_at_cat_low, bit_at_cat_high, same_from_bits_below}
 use Rattle.std.proofs.lemmas.Bool.{cases_lt}
-use Rattle.prefix_trie_bits.specs.Places.{has, ones_below, pick, Sets}
-use Rattle.prefix_trie_bits.proofs.Ranks.{has-low, has-suc, bit-set, bit-clear, has-from, mod-suc, low, low-cases, ones_below-half, ones_below-mono, ones_below-same, length-pick}
+use Rattle.prefix_trie_bits.specs.Places.{has, pick}
+use Rattle.prefix_trie_bits.proofs.Ranks.{has-low, has-suc, bit-set, bit-clear, has-from, mod-suc, low}
 
 module _ {X : Type 0} where
   pub pick-none : (xs : List X) → pick 0 xs ≡ []
@@ -42,45 +41,6 @@ module _ {X : Type 0} where
       ap (λ b. cond b (x ∷ pick (m / 2) xs) (pick (m / 2) xs)) (sym (has-low m) ∙ before 0 (omega arith)) ∙
       pick-first xs (m / 2) t (m' / 2) d (omega arith) (sym (has-suc m t) ∙ h) (λ i k. sym (has-suc m i) ∙ before (suc i) (omega arith)) (sym (has-suc m' t) ∙ gone) (λ i ne. sym (has-suc m' i) ∙ others (suc i) (omega arith) ∙ has-suc m i) ∙
       ap (λ b. get_or xs t d ∷ cond b (x ∷ pick (m' / 2) xs) (pick (m' / 2) xs)) (sym (before 0 (omega arith)) ∙ sym (others 0 (omega arith)) ∙ has-low m')
-
--- ---- a bit set beside the others: one element more
-
-remove-inserted : {X : Type 0} (ys : List X) (r : ℕ) (z : X) → r ≤ length ys → remove (insert ys r z) r ≡ ys
-remove-inserted ys zero z l = refl
-remove-inserted [] (suc r) z l = absurd (omega arith)
-remove-inserted (y ∷ ys) (suc r) z l = ap (λ zs. y ∷ zs) (remove-inserted ys r z (omega arith))
-
-module _ {X : Type 0} where
-  -- it comes in at the bit's rank
-  pub pick-sets : (xs : List X) (m k m' : ℕ) (d : X) → Sets m k m' → k < length xs → pick m' xs ≡ insert (pick m xs) (ones_below k m) (get_or xs k d)
-  unfolding pick ones_below
-  pick-sets [] m k m' d sets l = absurd (omega arith)
-  pick-sets (x ∷ xs) m zero m' d sets l =
-      ap (λ t. cond t (x ∷ pick (m' / 2) xs) (pick (m' / 2) xs)) (sym (has-low m') ∙ sets.present) ∙
-      ap (λ r. x ∷ r) (pick-same xs (m' / 2) (m / 2) (λ i h. sym (has-suc m' i) ∙ sets.others (suc i) (omega arith) ∙ has-suc m i)) ∙
-      ap (λ t. insert (cond t (x ∷ pick (m / 2) xs) (pick (m / 2) xs)) 0 x) (sym sets.clear ∙ has-low m)
-  pick-sets (x ∷ xs) m (suc k) m' d sets l =
-      let half : Sets (m / 2) k (m' / 2) = record {
-        clear = sym (has-suc m k) ∙ sets.clear;
-        present = sym (has-suc m' k) ∙ sets.present;
-        others = λ i ne. sym (has-suc m' i) ∙ sets.others (suc i) (omega arith) ∙ has-suc m i;
-      } in
-      let p = pick (m / 2) xs in
-      let r = ones_below k (m / 2) in
-      let z = get_or xs k d in
-      ap (λ t. cond t (x ∷ pick (m' / 2) xs) (pick (m' / 2) xs)) (sym (has-low m') ∙ sets.others 0 (omega arith) ∙ has-low m) ∙
-      ap (λ q. cond (eqb (m % 2) 1) (x ∷ q) q) (pick-sets xs (m / 2) k (m' / 2) d half (omega arith)) ∙
-      low-cases m (λ t n. cond t (x ∷ insert p r z) (insert p r z) ≡ insert (cond t (x ∷ p) p) (n + r) z) (λ _. ap (λ n. insert (x ∷ p) n z) (sym (one-add r))) (λ _. ap (λ n. insert p n z) (sym (zero-add r))) ∙
-      ap (λ n. insert (cond (eqb (m % 2) 1) (x ∷ p) p) n z) (sym (ones_below-half k m))
-
-  -- and cleared again, the element at its rank goes
-  pub pick-clears : (xs : List X) (m k m' : ℕ) → Sets m k m' → k < length xs → pick m xs ≡ remove (pick m' xs) (ones_below k m')
-  pick-clears [] m k m' sets l = absurd (omega arith)
-  pick-clears (x ∷ xs) m k m' sets l =
-      let within : ones_below k m ≤ length (pick m (x ∷ xs)) =
-      omega (arith, ones_below-mono m k (length (x ∷ xs)) (omega arith), length-pick (x ∷ xs) m) in
-      sym (remove-inserted (pick m (x ∷ xs)) (ones_below k m) (get_or (x ∷ xs) k x) within) ∙
-      ap₂ (λ ys r. remove ys r) (sym (pick-sets (x ∷ xs) m k m' x sets l)) (sym (ones_below-same m k m' sets))
 
 -- ---- `m & (m - 1)`
 

@@ -1,11 +1,11 @@
 -- Value bits of strings, and the strings of value bits.
-use Rattle.std.proofs.Common.{◌≡◌, ℕ, suc, ◌+◌, ◌-◌, ◌*◌, ◌%◌, ◌^◌, ◌<◌, ◌≤◌, Bool, List, [], ◌∷◌, ◌++◌, length, take, drop, sym, ap, ap₂, ◌∙◌, subst, arith, inl, inr, pow_pos, pow-suc, min, mod-eq_of_lt, add-one}
+use Rattle.std.proofs.Common.{◌≡◌, ℕ, suc, ◌+◌, ◌-◌, ◌*◌, ◌%◌, ◌^◌, ◌<◌, ◌≤◌, Bool, List, ◌++◌, length, take, drop, sym, ap, ap₂, ◌∙◌, subst, arith, inl, inr, pow_pos, pow-suc, min, mod-eq_of_lt}
 use Rattle.std.specs.Int.{leading_zeros, w32}
 use Rattle.std.proofs.lemmas.Nat.{leading_top, pow_below, one_shl}
 use Rattle.std.proofs.lemmas.Bool.{cases_lt, cases_eq}
 use Rattle.std.proofs.lemmas.List.{length-drop, take_all, take-take, length-take-le, length-append}
-use Rattle.prefix_trie_bits.specs.Bits.{bit, number, digits, begins, zeros}
-use Rattle.prefix_trie_bits.specs.BitStrings.{number-append, same-from-number, number-lt, number-digits, length-digits, digits-number}
+use Rattle.prefix_trie_bits.specs.Bits.{number, digits, begins, zeros}
+use Rattle.prefix_trie_bits.specs.BitStrings.{same-from-number, number-lt, number-digits, length-digits, digits-number}
 use Rattle.prefix_trie_bits.specs.Begins.{same_bool, begins-take, begins-from-take, begins-trans, take-begins}
 use Rattle.prefix_trie_bits.specs.Windows.{window-inside, window-of-front, length-window, digits-of-number, window-below}
 use Rattle.prefix_trie_bits.specs.Places.{value_bit}
@@ -163,33 +163,6 @@ pub child_bit-small : (b : List Bool) (depth : ℕ) → depth + 5 ≤ length b �
 child_bit-small b depth h = window-below (take 5 (drop depth b)) 5 (length-window b depth 5 h)
 
 -- ---- one bit more
-
-number-one : (s : List Bool) (b : Bool) → number (s ++ b ∷ []) ≡ number s * 2 + bit b
-unfolding number
-number-one s b = number-append s (b ∷ []) ∙ last (number s) (bit b)
-  where
-    last : (x y : ℕ) → x * 2 + (y * 1 + 0) ≡ x * 2 + y
-    last x y = omega arith
-
-length-one : (s : List Bool) (b : Bool) → length (s ++ b ∷ []) ≡ suc (length s)
-length-one s b = length-append s (b ∷ []) ∙ add-one (length s)
-
--- the value bits below a value bit
-pub value_bit-step : (s : List Bool) (b : Bool) → value_bit (s ++ b ∷ []) ≡ 2 * value_bit s + 1 + bit b
-value_bit-step s b =
-    ap₂ (λ n m. 2 ^ n - 1 + m) (length-one s b) (number-one s b) ∙
-    ap (λ p. p - 1 + (number s * 2 + bit b)) (pow-suc 2 (length s)) ∙
-    twice (2 ^ length s) (number s) (bit b) (pow_pos (length s))
-  where
-    twice : (p m x : ℕ) → 0 < p → p * 2 - 1 + (m * 2 + x) ≡ 2 * (p - 1 + m) + 1 + x
-    twice p m x h = omega arith
-
--- the children below a value bit of the last level
-pub child_bit-step : (s : List Bool) (b : Bool) → length s ≡ 4 → number (s ++ b ∷ []) ≡ 2 * (value_bit s - 15) + bit b
-child_bit-step s b e = number-one s b ∙ below (value_bit s) (number s) (ap (λ n. 2 ^ n - 1 + number s) e)
-  where
-    below : (v m : ℕ) → v ≡ 15 + m → m * 2 + bit b ≡ 2 * (v - 15) + bit b
-    below v m f = omega arith
 
 -- strings with one value bit are one
 pub value_bit-injective : (s t : List Bool) → value_bit s ≡ value_bit t → s ≡ t

@@ -13,3 +13,4 @@ pub mod Step
 pub mod HandsOut
 pub mod Room
 pub mod Insertion
+pub mod Storage

@@ -1,4 +1,4 @@
--- What a walk of one node has still to give.
+-- What a walk of one node has still to give. This project's own.
 use Rattle.std.specs.Prelude.{List, Bool}
 use Rattle.prefix_trie_bits.specs.Places.{strings, pick}
 use Rattle.prefix_trie_bits.specs.declared.node.Places.{Places}

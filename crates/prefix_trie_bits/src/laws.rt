@@ -56,9 +56,10 @@ pub fn address_laws<T>()
     ensures { AddressLaws T }
 {}
 
-/// Every step leaves a map a map, and a tidy one tidy but for `remove_keep_tree`. It leaves each entry that it neither
-/// sets nor removes as it was, and a refused one leaves all as it was. Runs keep maps and tidy maps too, and join. A new
-/// key set in a tidy map and removed again leaves its entries and its nodes as they were.
+/// Every step leaves a map a map, and a tidy one tidy but for `remove_keep_tree`; `retain` and `clear` make any map tidy, and a
+/// tidy map has as many nodes as its keys need. A step leaves each entry that it neither sets nor removes as it was, and a
+/// refused one leaves all as it was. Runs keep maps and tidy maps too, and join. A new key set in a tidy map and removed
+/// again leaves its entries and its nodes as they were.
 pub fn step_laws<P, T>()
     ensures { StepLaws P T }
 {}

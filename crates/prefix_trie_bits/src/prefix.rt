@@ -196,6 +196,10 @@ pub enum Refusal {
 }
 
 /// A refusal that hands back the value that was not stored.
+///
+/// ```text
+/// map.insert(prefix, 1)   Err(Refused { cause: Refusal::Memory, value: 1 }), where a request for memory was refused
+/// ```
 #[derive(PartialEq, Eq, Debug, Drop)]
 pub struct Refused<T> {
     /// Why the call was refused.

@@ -145,10 +145,6 @@ has-with_nodes n (s ∷ ss) q =
 pub has-root_alone : (q : List Bool) → has_node root_alone q ≡ same_string q []
 has-root_alone q = has-inserted empty [] tt q ∙ ap (λ b. same_string q [] || b) (has-empty q) ∙ or-nothing (same_string q [])
 
-any-none : (q : List Bool) (b : Bool) (ss : List (List Bool)) → list_any (same_string []) (map (λ t. b ∷ t) ss) ≡ false
-any-none q b [] = refl
-any-none q b (s ∷ ss) = any-none q b ss
-
 any-same : (q : List Bool) (a b : Bool) (ss : List (List Bool)) → list_any (same_string (a ∷ q)) (map (λ t. b ∷ t) ss) ≡ (same_bit a b && list_any (same_string q) ss)
 any-same q true true [] = refl
 any-same q true false [] = refl

@@ -1,8 +1,8 @@
--- Runs of steps of whichever kind, joined and made longer; and the run that one with room is.
+-- Runs of steps of whichever kind, joined and made longer; and the run that one with its storage is.
 use Rattle.std.proofs.Common.{◌≡◌, ◌<◌, map, take, get_or, ℕ, ◌+◌, Bool, List, [], ◌∷◌, ◌++◌, length, refl, sym, ap, ◌∙◌, subst}
 use Rattle.std.proofs.lemmas.List.{take_more, map-append}
 use Rattle.prefix_trie_bits.specs.Model.Step.{State, Call, Reply, Runs, Run}
-use Rattle.prefix_trie_bits.specs.Model.Room.{Room, RunInRoom}
+use Rattle.prefix_trie_bits.specs.Model.Storage.{Storage, RunInStorage}
 
 module _ {S C R : Type 0} (OneStep : S → C → R → S → Type 0) where
   pub runs_join : (s t u : S) (calls more : List C) (replies rest : List R) → Runs OneStep s calls replies t → Runs OneStep t more rest u → Runs OneStep s (calls ++ more) (replies ++ rest) u
@@ -26,8 +26,8 @@ module _ {S C R : Type 0} (OneStep : S → C → R → S → Type 0) where
       (runs_join s t u (map call_of (take i calls)) (call_of call ∷ []) (map reply_of replies) (reply_of reply ∷ []) ran (reply_of reply, [], u, refl, step, (refl, refl))))
 
 module _ {P T : Type 0} (path : P → List Bool) (back : List Bool → P) (width : ℕ) where
-  -- a run with room is a run
-  pub run_of_in_room : (s t : State T × Room) (calls : List (Call P T)) (replies : List (Reply P T)) → RunInRoom path back width s calls replies t → Run path back width s.0 calls replies t.0
-  run_of_in_room s t [] replies (none, e) = (none, ap (λ x. x.0) e)
-  run_of_in_room s t (c ∷ cs) replies (reply, later, mid, e, step, ran) =
-      (reply, later, mid.0, e, step.step, run_of_in_room mid t cs later ran)
+  -- a run that sees the storage is a run
+  pub run_of_stored : (s t : State T × Storage) (calls : List (Call P T)) (replies : List (Reply P T)) → RunInStorage path back width s calls replies t → Run path back width s.0 calls replies t.0
+  run_of_stored s t [] replies (none, e) = (none, ap (λ x. x.0) e)
+  run_of_stored s t (c ∷ cs) replies (reply, later, mid, e, step, ran) =
+      (reply, later, mid.0, e, step.step, run_of_stored mid t cs later ran)

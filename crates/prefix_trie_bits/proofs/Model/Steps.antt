@@ -2,12 +2,12 @@
 use Rattle.std.proofs.Common.{◌≡◌, ◌≢◌, ℕ, ◌≤◌, Bool, true, false, cond, not, List, [], ◌∷◌, length, Some, None, is_some, refl, sym, ap, ◌∙◌, subst, inl, inr, true≢false, nat_le}
 use Rattle.std.proofs.lemmas.List.Elements.{All-head, All-tail}
 use Rattle.std.specs.List.{All}
-use Rattle.std.specs.FinMap.{get, contains_key, get-empty}
+use Rattle.std.specs.FinMap.{get, contains_key, len, get-empty}
 use Rattle.prefix_trie_bits.specs.Bits.{begins}
 use Rattle.prefix_trie_bits.specs.Order.{listing_cmp, same_string}
 use Rattle.prefix_trie_bits.specs.Model.Entries.{Entries, AreWithin, no_entries, with_entry, without_entry, without_below, part_at_least}
 use Rattle.prefix_trie_bits.specs.Model.Nodes.{Nodes, with_needed, needed, AreNodes, IsTidy, nodes_without}
-use Rattle.prefix_trie_bits.specs.Model.Step.{State, Call, Insert, Get, Lpm, Spm, Remove, RemoveKeepTree, RemoveChildren, RetainAtLeast, Clear, Len, NodeCount, AddressCount, ListAll, ListFrom, Children, Cover, CallFits, Reply, Value, Match, Done, Count, Addresses, Items, Refused, Refusal, Lists, Step, Run}
+use Rattle.prefix_trie_bits.specs.Model.Step.{State, Call, Insert, Get, Lpm, Spm, Remove, RemoveKeepTree, RemoveChildren, RetainAtLeast, Clear, Len, NodeCount, AddressCount, ListAll, ListFrom, Children, Cover, CallFits, Reply, Value, Match, Done, Count, Addresses, Items, Refused, Refusal, Step, Run}
 use Rattle.prefix_trie_bits.specs.Laws.Steps.{IsMap, StepKeeps, StepLaws, touches}
 use Rattle.prefix_trie_bits.proofs.Model.Runs.{runs_join}
 use Rattle.prefix_trie_bits.proofs.Model.Members.{and-second, same_string-is, has-retained, get-with_entry, get-without_entry, get-without_below, get-part_at_least, same_entries}
@@ -39,9 +39,6 @@ none_within T width k e = absurd (true≢false (sym e ∙ ap is_some (get-empty 
 module _ {P T : Type 0} (path : P → List Bool) (back : List Bool → P) (width : ℕ) where
   same_state : (s t : State T) → t ≡ s → IsMap width s → IsMap width t
   same_state s t e h = subst (IsMap width) (sym e) h
-
-  listed_state : (s t : State T) (items : List (P × T)) (reply : Reply P T) → Lists s items reply t → IsMap width s → IsMap width t
-  listed_state s t items reply l h = same_state s t l.1 h
 
   pub stays_map : (s : State T) (call : Call P T) (reply : Reply P T) (t : State T) → CallFits (λ q. length (path q) ≤ width) call → Step path back width s call reply t → IsMap width s → IsMap width t
   stays_map s (Insert q v) reply t fits (inl (r, e)) h =
@@ -93,6 +90,15 @@ module _ {P T : Type 0} (path : P → List Bool) (back : List Bool → P) (width
   stays_tidy s (ListFrom q inclusive) reply t other l h tidy = same_tidy s t l.1 tidy
   stays_tidy s (Children q) reply t other l h tidy = same_tidy s t l.1 tidy
   stays_tidy s (Cover q) reply t other l h tidy = same_tidy s t l.1 tidy
+
+  retained_tidy : (s : State T) (n : ℕ) (reply : Reply P T) (t : State T) → Step path back width s (RetainAtLeast n) reply t → TidyState t
+  retained_tidy s n reply t (r, e) = subst TidyState (sym e) refl
+
+  cleared_tidy : (s : State T) (reply : Reply P T) (t : State T) → Step path back width s Clear reply t → TidyState t
+  cleared_tidy s reply t (r, e) = subst TidyState (sym e) (tidy-no_entries T)
+
+  tidy_count : (s : State T) (reply : Reply P T) (t : State T) → Step path back width s NodeCount reply t → TidyState s → reply ≡ Count (len (needed s.entries))
+  tidy_count s reply t (r, e) tidy = r ∙ ap (λ n. Count (len n)) tidy
 
   -- a reply of refusal is no other reply
   abbrev is_refusal : Reply P T → Bool
@@ -179,6 +185,9 @@ module _ {P T : Type 0} (path : P → List Bool) (back : List Bool → P) (width
   keeps s call reply t step = record {
     stays_map = λ fits h. stays_map path back width s call reply t fits step h;
     stays_tidy = λ other h tidy. stays_tidy path back width s call reply t other step h tidy;
+    retained_tidy = λ n is. retained_tidy path back width s n reply t (subst (λ c. Step path back width s c reply t) is step);
+    cleared_tidy = λ is. cleared_tidy path back width s reply t (subst (λ c. Step path back width s c reply t) is step);
+    tidy_count = λ is tidy. tidy_count path back width s reply t (subst (λ c. Step path back width s c reply t) is step) tidy;
     untouched = λ k away. untouched path back width s call reply t k away step;
     refused_as_before = λ cause e. refused_as_before path back width s call cause t (subst (λ r. Step path back width s call r t) e step);
   }

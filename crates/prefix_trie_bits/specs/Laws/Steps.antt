@@ -1,11 +1,11 @@
 -- What every step of the model keeps.
 use Rattle.std.specs.Prelude.{◌≡◌, ◌≢◌, ℕ, ◌≤◌, Bool, true, false, not, nat_le, List, length, ◌++◌, None, All}
-use Rattle.std.specs.FinMap.{get}
+use Rattle.std.specs.FinMap.{get, len}
 use Rattle.prefix_trie_bits.specs.Bits.{begins}
 use Rattle.prefix_trie_bits.specs.Order.{same_string}
 use Rattle.prefix_trie_bits.specs.Model.Entries.{Entries, AreWithin, with_entry, without_entry}
 use Rattle.prefix_trie_bits.specs.Model.Nodes.{AreNodes, IsTidy, needed, with_needed, nodes_without}
-use Rattle.prefix_trie_bits.specs.Model.Step.{State, Call, Insert, Get, Lpm, Spm, Remove, RemoveKeepTree, RemoveChildren, RetainAtLeast, Clear, Len, NodeCount, AddressCount, ListAll, ListFrom, Children, Cover, CallFits, Reply, Refused, Refusal, Step, Run}
+use Rattle.prefix_trie_bits.specs.Model.Step.{State, Call, Insert, Get, Lpm, Spm, Remove, RemoveKeepTree, RemoveChildren, RetainAtLeast, Clear, Len, NodeCount, AddressCount, ListAll, ListFrom, Children, Cover, CallFits, Reply, Count, Refused, Refusal, Step, Run}
 
 -- what holds of every map: keys within the width, and a set of nodes for them
 pub record IsMap {T : Type 0} (width : ℕ) (s : State T) : Type 0 where
@@ -38,6 +38,11 @@ module _ {P T : Type 0} (path : P → List Bool) (back : List Bool → P) (width
     pub stays_map : CallFits (λ q. length (path q) ≤ width) call → IsMap width s → IsMap width t
     -- a tidy map stays tidy, unless the call is `remove_keep_tree`
     pub stays_tidy : ((q : P) → call ≢ RemoveKeepTree q) → IsMap width s → IsTidy s.entries s.nodes → IsTidy t.entries t.nodes
+    -- `retain` and `clear` make any map tidy
+    pub retained_tidy : (n : ℕ) → call ≡ RetainAtLeast n → IsTidy t.entries t.nodes
+    pub cleared_tidy : call ≡ Clear → IsTidy t.entries t.nodes
+    -- a tidy map has as many nodes as its keys need
+    pub tidy_count : call ≡ NodeCount → IsTidy s.entries s.nodes → reply ≡ Count (len (needed s.entries))
     -- an entry that the call neither writes nor removes is as it was
     pub untouched : (k : List Bool) → touches path call k ≡ false → get t.entries k ≡ get s.entries k
     -- a refusal leaves the map as it was

@@ -1,6 +1,6 @@
 -- How an array is cut into blocks. The sizes are those of the crate's code; the rest is this project's own.
-use Rattle.std.specs.Prelude.{◌≡◌, ◌≢◌, ℕ, ◌+◌, ◌<◌, ◌≤◌, ◌⊎◌, Bool, true, false, cond, ◌==◌, ◌&&◌, List, [], ◌∷◌, ◌++◌, Option, None, Some, length, filter, find, Contains, IsPermutation, nat_le, nat_lt}
-use Rattle.std.specs.FinMap.{FinMap, empty, get, keys}
+use Rattle.std.specs.Prelude.{◌≡◌, ◌≢◌, ℕ, zero, suc, ◌+◌, ◌<◌, ◌≤◌, ◌⊎◌, Bool, true, false, cond, ◌==◌, ◌&&◌, List, [], ◌∷◌, ◌++◌, Option, None, Some, length, filter, find, count_by, Contains, IsPermutation, nat_le, nat_lt}
+use Rattle.std.specs.FinMap.{FinMap, empty, get, keys, values}
 use Rattle.prefix_trie_bits.specs.Bits.{begins}
 use Rattle.prefix_trie_bits.specs.Order.{listing_cmp}
 use Rattle.prefix_trie_bits.specs.Model.Entries.{Entries}
@@ -102,3 +102,28 @@ module _ {T : Type 0} where
 -- how many children the node p has
 abbrev pub child_count : Nodes → List Bool → ℕ
 child_count n p = length (filter (λ s. begins p s && (length s == length p + 5)) (keys n))
+
+-- a list of so many items has its block: none where it is empty, and else one of the sizes, which holds them
+abbrev pub HasBlock : List ℕ → ℕ → Option ℕ → Type 0
+HasBlock sizes zero block = block ≡ None
+HasBlock sizes (suc n) block = (size : ℕ) × (block ≡ Some size) × Contains sizes size × (suc n ≤ size)
+
+-- each node has the block of its items, where the node p has `count p` of them, and no other string has a block
+pub record NodesHaveBlocks (sizes : List ℕ) (n : Nodes) (count : List Bool → ℕ) (blocks : Sizes) : Type 0 where
+  pub at_nodes : (p : List Bool) → has_node n p ≡ true → HasBlock sizes (count p) (get blocks p)
+  pub elsewhere : (p : List Bool) → has_node n p ≡ false → get blocks p ≡ None
+
+-- how many blocks of a size are in use
+abbrev pub used_of : Sizes → ℕ → ℕ
+used_of blocks size = count_by (λ n. n == size) (values blocks)
+
+-- of each size there are no fewer blocks than before, in use and free together
+abbrev pub LosesNoBlock : List ℕ → Sizes → List ℕ → Sizes → List ℕ → Type 0
+LosesNoBlock sizes used free used2 free2 = (size : ℕ) → Contains sizes size →
+    used_of used size + free_of sizes free size ≤ used_of used2 size + free_of sizes free2 size
+
+-- the same of both arrays
+abbrev pub KeepsBlocks : Layout → Layout → Type 0
+KeepsBlocks before after =
+    LosesNoBlock child_block_sizes before.child_blocks before.free_child_blocks after.child_blocks after.free_child_blocks
+    × LosesNoBlock value_block_sizes before.value_blocks before.free_value_blocks after.value_blocks after.free_value_blocks

@@ -30,6 +30,11 @@ impl Model for Ipv4Prefix {
 
 impl Ipv4Prefix {
     /// The network of an address and a length: None exactly if the length is above 32. Host bits are kept.
+    ///
+    /// ```text
+    /// Ipv4Prefix::new(0x0a010203, 16)   Some(10.1.2.3/16), which is the same key of a map as 10.1.0.0/16
+    /// Ipv4Prefix::new(0, 33)            None
+    /// ```
     #[inline]
     pub fn new(addr: u32, len: u8) -> Option<Self>
         ensures { MatchOption result (32 < len) (λ p. (p ≡ (addr, len)) × (len ≤ 32)) }
@@ -130,6 +135,11 @@ impl Model for Ipv6Prefix {
 
 impl Ipv6Prefix {
     /// The network of an address and a length: None exactly if the length is above 128. Host bits are kept.
+    ///
+    /// ```text
+    /// Ipv6Prefix::new(0x2001_0db8 << 96, 32)   Some(2001:0db8:0000:0000:0000:0000:0000:0000/32)
+    /// Ipv6Prefix::new(0, 129)                  None
+    /// ```
     #[inline]
     pub fn new(addr: u128, len: u8) -> Option<Self>
         ensures { MatchOption result (128 < len) (λ p. (p ≡ (addr, len)) × (len ≤ 128)) }

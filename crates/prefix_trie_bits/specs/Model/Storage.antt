@@ -1,0 +1,108 @@
+-- How a map is stored, a step that sees it, and runs of such steps. This project's own.
+use Rattle.std.specs.Prelude.{◌≡◌, ℕ, ◌+◌, ◌≤◌, ◌<◌, Bool, true, false, Option, List, length}
+use Rattle.std.specs.FinMap.{get, contains_key, len}
+use Rattle.prefix_trie_bits.specs.Model.Blocks.{Layout, no_layout, KeepsBlocks, SizesStepDown, SizesStepBetween, LongerByOne, value_block_sizes, child_block_sizes, own_entries, child_count}
+use Rattle.prefix_trie_bits.specs.Model.Insertion.{PassesLimit, TakesBlocks, node_slots_lacking, cell_slots_lacking, child_block_needed, value_block_needed}
+use Rattle.prefix_trie_bits.specs.Model.Nodes.{home}
+use Rattle.prefix_trie_bits.specs.Model.Room.{Room, MayPassLimit, LeavesRoom}
+use Rattle.prefix_trie_bits.specs.Model.Step.{State, Call, Insert, Get, Lpm, Spm, Remove, RemoveKeepTree, RemoveChildren, RetainAtLeast, Clear, Len, NodeCount, AddressCount, ListAll, ListFrom, Children, Cover, Reply, Value, Refused, Refusal, IndexRange, Step, Runs}
+
+-- how a map is stored: the room of its two arrays, and how they are cut into blocks
+pub record Storage : Type 0 where
+  pub room : Room
+  pub layout : Layout
+
+-- the storage of a map without entries, under the same limit: the root's slot, and no block
+abbrev pub cleared : Storage → Storage
+cleared s = record { room = record { limit = s.room.limit; node_slots = 1; cell_slots = 0 }; layout = no_layout }
+
+module _ {T : Type 0} where
+  -- what the insertion of the new key q leaves: each node that needed a block has it, the others have theirs, and the arrays are
+  -- longer by exactly what lacked. No block is lost: one that was left is free
+  pub record InsertsInStorage (s : State T) (q : List Bool) (before after : Storage) : Type 0 where
+    pub node_slots : after.room.node_slots ≡ before.room.node_slots + node_slots_lacking s.nodes before.layout q
+    pub cell_slots : after.room.cell_slots ≡ before.room.cell_slots + cell_slots_lacking s.entries before.layout q
+    pub child_blocks : TakesBlocks (child_block_needed s.nodes before.layout.child_blocks q) before.layout.child_blocks after.layout.child_blocks
+    pub value_blocks : TakesBlocks (value_block_needed s.entries before.layout.value_blocks q) before.layout.value_blocks after.layout.value_blocks
+    pub keeps : KeepsBlocks before.layout after.layout
+
+  -- when its refusal comes, and what it leaves: it comes only where a block lacks, and for want of slots only where the lacking ones
+  -- pass the limit. The blocks in use stay, and the arrays are longer by no more than what lacked, in free blocks
+  pub record RefusesInStorage (s : State T) (q : List Bool) (cause : Refusal) (before after : Storage) : Type 0 where
+    pub lacks : 0 < node_slots_lacking s.nodes before.layout q + cell_slots_lacking s.entries before.layout q
+    pub range : cause ≡ IndexRange → PassesLimit s.entries s.nodes before.room before.layout q
+    pub node_slots : (before.room.node_slots ≤ after.room.node_slots)
+        × (after.room.node_slots ≤ before.room.node_slots + node_slots_lacking s.nodes before.layout q)
+    pub cell_slots : (before.room.cell_slots ≤ after.room.cell_slots)
+        × (after.room.cell_slots ≤ before.room.cell_slots + cell_slots_lacking s.entries before.layout q)
+    pub child_blocks : after.layout.child_blocks ≡ before.layout.child_blocks
+    pub value_blocks : after.layout.value_blocks ≡ before.layout.value_blocks
+    pub keeps : KeepsBlocks before.layout after.layout
+
+  -- what taking out the value at q leaves of the array of values: the block that lost it steps down, and the array is longer by that
+  -- one block at most
+  pub record RemovesValueInStorage (s t : State T) (q : List Bool) (before after : Storage) : Type 0 where
+    pub value_blocks : SizesStepDown value_block_sizes before.layout.free_value_blocks s.nodes (own_entries s.entries) (own_entries t.entries)
+        before.layout.value_blocks after.layout.value_blocks
+    pub cells_longer : LongerByOne value_block_sizes before.layout.free_value_blocks
+        (get before.layout.value_blocks (home q)) (get after.layout.value_blocks (home q)) before.room.cell_slots after.room.cell_slots
+
+  -- what pruning leaves of the array of nodes: the same, of the block that lost a child
+  pub record PrunesInStorage (s t : State T) (before after : Storage) : Type 0 where
+    pub child_blocks : SizesStepDown child_block_sizes before.layout.free_child_blocks s.nodes (child_count s.nodes) (child_count t.nodes)
+        before.layout.child_blocks after.layout.child_blocks
+    pub nodes_longer : (p : List Bool) × LongerByOne child_block_sizes before.layout.free_child_blocks
+        (get before.layout.child_blocks p) (get after.layout.child_blocks p) before.room.node_slots after.room.node_slots
+
+  -- what taking out many entries leaves: each block that lost items is between its old size and the smallest that holds the rest; no
+  -- slot and no block goes, and an array of which no block changed is as long as it was
+  pub record RemovesManyInStorage (s t : State T) (before after : Storage) : Type 0 where
+    pub value_blocks : SizesStepBetween value_block_sizes s.nodes (own_entries s.entries) (own_entries t.entries)
+        before.layout.value_blocks after.layout.value_blocks
+    pub child_blocks : SizesStepBetween child_block_sizes s.nodes (child_count s.nodes) (child_count t.nodes)
+        before.layout.child_blocks after.layout.child_blocks
+    pub node_slots : before.room.node_slots ≤ after.room.node_slots
+    pub cell_slots : before.room.cell_slots ≤ after.room.cell_slots
+    pub nodes_still : after.layout.child_blocks ≡ before.layout.child_blocks → after.room.node_slots ≡ before.room.node_slots
+    pub cells_still : after.layout.value_blocks ≡ before.layout.value_blocks → after.room.cell_slots ≡ before.room.cell_slots
+    pub keeps : KeepsBlocks before.layout after.layout
+
+module _ {P T : Type 0} (path : P → List Bool) where
+  -- what a call leaves of the storage, beside its step from s to t: a call that changes neither entries nor nodes leaves it as it is
+  abbrev pub LeavesStorage : State T → Call P T → Reply P T → State T → Storage → Storage → Type 0
+  LeavesStorage s (Insert q v) reply t before after =
+      (contains_key s.entries (path q) ≡ true → after ≡ before)
+      × ((old : Option T) → contains_key s.entries (path q) ≡ false → reply ≡ Value old → InsertsInStorage s (path q) before after)
+      × ((cause : Refusal) → reply ≡ Refused cause → RefusesInStorage s (path q) cause before after)
+  LeavesStorage s (Get q) reply t before after = after ≡ before
+  LeavesStorage s (Lpm q) reply t before after = after ≡ before
+  LeavesStorage s (Spm q) reply t before after = after ≡ before
+  LeavesStorage s (Remove q) reply t before after =
+      RemovesValueInStorage s t (path q) before after × PrunesInStorage s t before after × KeepsBlocks before.layout after.layout
+  LeavesStorage s (RemoveKeepTree q) reply t before after =
+      RemovesValueInStorage s t (path q) before after × (after.room.node_slots ≡ before.room.node_slots)
+      × (after.layout.child_blocks ≡ before.layout.child_blocks) × (after.layout.free_child_blocks ≡ before.layout.free_child_blocks)
+      × KeepsBlocks before.layout after.layout
+  LeavesStorage s (RemoveChildren q) reply t before after =
+      (length (path q) ≡ 0 → after ≡ cleared before) × (0 < length (path q) → RemovesManyInStorage s t before after)
+  LeavesStorage s (RetainAtLeast n) reply t before after = RemovesManyInStorage s t before after
+  LeavesStorage s Clear reply t before after = after ≡ cleared before
+  LeavesStorage s Len reply t before after = after ≡ before
+  LeavesStorage s NodeCount reply t before after = after ≡ before
+  LeavesStorage s AddressCount reply t before after = after ≡ before
+  LeavesStorage s ListAll reply t before after = after ≡ before
+  LeavesStorage s (ListFrom q inclusive) reply t before after = after ≡ before
+  LeavesStorage s (Children q) reply t before after = after ≡ before
+  LeavesStorage s (Cover q) reply t before after = after ≡ before
+
+module _ {P T : Type 0} (path : P → List Bool) (back : List Bool → P) (width : ℕ) where
+  -- a step of the map and of its storage
+  pub record StepInStorage (s : State T × Storage) (call : Call P T) (reply : Reply P T) (t : State T × Storage) : Type 0 where
+    pub step : Step path back width s.0 call reply t.0
+    pub room : LeavesRoom (len s.0.nodes) s.1.room t.1.room
+    pub index_range : reply ≡ Refused IndexRange → MayPassLimit s.1.room
+    pub storage : LeavesStorage path s.0 call reply t.0 s.1 t.1
+
+  -- a run of such steps
+  abbrev pub RunInStorage : State T × Storage → List (Call P T) → List (Reply P T) → State T × Storage → Type 0
+  RunInStorage = Runs StepInStorage
