@@ -9,7 +9,7 @@ use Rattle.std.proofs.lemmas.List.{append_cancel_left}
 use Rattle.std.proofs.lemmas.List.Folds.{list_any-append}
 use Rattle.std.specs.FinMap.{get, entries}
 use Rattle.prefix_trie_bits.specs.Bits.{begins}
-use Rattle.prefix_trie_bits.specs.Begins.{begins-refl, begins-append, begins-length, begins-trans, begins-linear, begins-same-length}
+use Rattle.prefix_trie_bits.specs.Begins.{begins-append, begins-length, begins-trans, begins-linear, begins-same-length}
 use Rattle.prefix_trie_bits.specs.Order.{listing_cmp, same_string}
 use Rattle.prefix_trie_bits.specs.Model.Asking.{AsksInOrder, MayAskInOrder}
 use Rattle.prefix_trie_bits.specs.Model.Entries.{Entries, part_below}
@@ -196,9 +196,6 @@ module _ {F T : Type 0} (asks : F → List Bool → T → Bool → F → Type 0)
 
     either_under : (q : List Bool) → is_under_some s (ts ++ us) q ≡ (is_under_some s ts q || is_under_some s us q)
     either_under q = list_any-append (λ t. is_under s t q) ts us
-
-    at_first : (q : List Bool) → is_under_some s ts q ≡ true → is_at_some s ts q ≡ true
-    at_first q under = under_at_some s ts q q under (begins-refl q)
 
     needs_later : (q : List Bool) → is_under_some s ts q ≡ true → Needs y.entries q → Needs z.entries q
     needs_later q under n = record {

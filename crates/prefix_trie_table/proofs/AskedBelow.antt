@@ -193,10 +193,6 @@ module _ {F T : Type 0} (asks : F → List Bool → T → Bool → F → Type 0)
         or-left-only true h = refl
         or-left-only false h = h
 
-    -- and it may be asked there where it may be asked here
-    pub may_ask_child : MayAskInOrder asks accepts f (listing_at_places x.entries s (t ∷ [])) → MayAskInOrder asks accepts f (listing_at_places x.entries c ts)
-    may_ask_child may = subst (MayAskInOrder asks accepts f) (place_is x.entries ∙ sym below_before) may
-
   -- where the node is the root, it is asking at the whole listing
   module _ (root : c ≡ []) where
     listing_is : (m : Entries T) → listing_below m c ≡ listing m

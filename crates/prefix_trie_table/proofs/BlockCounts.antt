@@ -6,7 +6,7 @@ use Rattle.std.proofs.lemmas.List.{length-map}
 use Rattle.std.proofs.lemmas.List.Elements.{All-head}
 use Rattle.std.proofs.lemmas.List.Sums.{sum_by-cons, sum_by-append}
 use Rattle.prefix_trie_bits.specs.Begins.{same_bool}
-use Rattle.prefix_trie_bits.specs.Model.Blocks.{Sizes}
+use Rattle.prefix_trie_bits.specs.Model.Blocks.{Sizes, used_of}
 use Rattle.prefix_trie_bits.proofs.Model.Ordered.{entries-empty}
 use Rattle.prefix_trie_table.specs.declared.allocator.node.Node.{Node}
 use Rattle.prefix_trie_table.specs.Digits.{path_of}
@@ -158,16 +158,21 @@ module _ (reading : List ℕ → Option Node) (paths : List (List ℕ)) (v : Sto
           held_sized node_sizes node_sizes_apart v.tiers seven_nodes k inside n.child_tier n.child_block (child_items reading p n.child_bitmap) of
           ∙ ap (λ r. has_size (size_in node_sizes k) (size_if_any r (size_in node_sizes n.child_tier))) (rank-all _ n.child_bitmap)
 
+  -- the blocks of a tier are the free ones and those of its size in use
+  pub nodes_made : (x : Sized v.slots) (k : ℕ) → k < 7 → (tier_at v.tiers k).made ≡ length (tier_at v.tiers k).starts + used_of x.0 (size_in node_sizes k)
+  nodes_made x k inside =
+      hold.sound.counted k (let s = seven_nodes in omega (arith, inside, s))
+      ∙ ap (λ n. length (tier_at v.tiers k).starts + n)
+      (blocks_of_size (λ p. child_block_size (reading p)) (child_blocks node_sizes reading) k (size_in node_sizes k) v.tiers
+      (child_each k inside) paths (paths_steps node_sizes reading paths v hold) (paths_once node_sizes reading paths v hold) hold.sound.of_tier)
+      ∙ ap (λ (m : Sizes). length (tier_at v.tiers k).starts + used_of m (size_in node_sizes k)) (sym (sizes_only node_sizes reading paths v hold x).0)
+
   -- the counts of the array of nodes
   pub node_counts : (x : Sized v.slots) → map tier_count v.tiers ≡ block_counts node_sizes x.0 (free_counts v.tiers)
   node_counts x =
-      let only = (sizes_only node_sizes reading paths v hold x).0 in
       counts_are v.tiers x.0 (λ k inside.
-      hold.sound.counted k inside
-      ∙ ap (λ n. length (tier_at v.tiers k).starts + n)
-      (blocks_of_size (λ p. child_block_size (reading p)) (child_blocks node_sizes reading) k (size_in node_sizes k) v.tiers
-      (child_each k (let s = seven_nodes in omega (arith, inside, s))) paths (paths_steps node_sizes reading paths v hold) (paths_once node_sizes reading paths v hold) hold.sound.of_tier)
-      ∙ ap₂ (λ (m : Sizes) n. length (tier_at v.tiers k).starts + count_by (λ y. y == n) (values m)) (sym only) (ap (λ s. size_in s k) (sym hold.sizes_are)))
+      nodes_made x k (let s = seven_nodes in omega (arith, inside, s))
+      ∙ ap (λ s. length (tier_at v.tiers k).starts + used_of x.0 (size_in s k)) (sym hold.sizes_are))
       ∙ ap (λ s. block_counts s x.0 (free_counts v.tiers)) hold.sizes_are
 
   module _ {T : Type 0} (values_at : List ℕ → ℕ → Option T) (w : Store (Option T)) (cells : CellsHold cell_sizes reading values_at paths w) where
@@ -185,14 +190,19 @@ module _ (reading : List ℕ → Option Node) (paths : List (List ℕ)) (v : Sto
             held_sized cell_sizes cell_sizes_apart w.tiers seven_cells k inside n.value_tier n.value_block (map (values_at p) (bits n.value_bitmap)) of
             ∙ ap (λ r. has_size (size_in cell_sizes k) (size_if_any r (size_in cell_sizes n.value_tier))) (rank-all _ n.value_bitmap)
 
+    -- the same of a tier for values
+    pub cells_made : (x : Sized v.slots) (k : ℕ) → k < 7 → (tier_at w.tiers k).made ≡ length (tier_at w.tiers k).starts + used_of x.1.0 (size_in cell_sizes k)
+    cells_made x k inside =
+        cells.sound.counted k (let s = seven_cells in omega (arith, inside, s))
+        ∙ ap (λ n. length (tier_at w.tiers k).starts + n)
+        (blocks_of_size (λ p. value_block_size (reading p)) (value_blocks cell_sizes reading values_at) k (size_in cell_sizes k) w.tiers
+        (value_each k inside) paths (paths_steps node_sizes reading paths v hold) (paths_once node_sizes reading paths v hold) cells.sound.of_tier)
+        ∙ ap (λ (m : Sizes). length (tier_at w.tiers k).starts + used_of m (size_in cell_sizes k)) (sym (sizes_only node_sizes reading paths v hold x).1)
+
     -- the counts of the array of values
     pub cell_counts : (x : Sized v.slots) → map tier_count w.tiers ≡ block_counts cell_sizes x.1.0 (free_counts w.tiers)
     cell_counts x =
-        let only = (sizes_only node_sizes reading paths v hold x).1 in
         counts_are w.tiers x.1.0 (λ k inside.
-        cells.sound.counted k inside
-        ∙ ap (λ n. length (tier_at w.tiers k).starts + n)
-        (blocks_of_size (λ p. value_block_size (reading p)) (value_blocks cell_sizes reading values_at) k (size_in cell_sizes k) w.tiers
-        (value_each k (let s = seven_cells in omega (arith, inside, s))) paths (paths_steps node_sizes reading paths v hold) (paths_once node_sizes reading paths v hold) cells.sound.of_tier)
-        ∙ ap₂ (λ (m : Sizes) n. length (tier_at w.tiers k).starts + count_by (λ y. y == n) (values m)) (sym only) (ap (λ s. size_in s k) (sym cells.sizes_are)))
+        cells_made x k (let s = seven_cells in omega (arith, inside, s))
+        ∙ ap (λ s. length (tier_at w.tiers k).starts + used_of x.1.0 (size_in s k)) (sym cells.sizes_are))
         ∙ ap (λ s. block_counts s x.1.0 (free_counts w.tiers)) cells.sizes_are

@@ -17,15 +17,6 @@ path-length (a ∷ b ∷ []) = refl
 path-length (a ∷ []) = refl
 path-length [] = refl
 
--- what is behind the last step is shorter than a step
-pub rest-short : (s : List Bool) → length (rest_of s) ≤ 4
-rest-short (a ∷ b ∷ c ∷ d ∷ e ∷ s) = rest-short s
-rest-short (a ∷ b ∷ c ∷ d ∷ []) = omega arith
-rest-short (a ∷ b ∷ c ∷ []) = omega arith
-rest-short (a ∷ b ∷ []) = omega arith
-rest-short (a ∷ []) = omega arith
-rest-short [] = omega arith
-
 drop-five : (n : ℕ) (a b c d e : Bool) (s : List Bool) → drop (5 * suc n) (a ∷ b ∷ c ∷ d ∷ e ∷ s) ≡ drop (5 * n) s
 drop-five n a b c d e s = ap (λ k. drop k (a ∷ b ∷ c ∷ d ∷ e ∷ s)) (five n)
   where

@@ -316,15 +316,6 @@ module _ {T : Type 0} (width count : ℕ) (v : Store Node) (w : Store (Option T)
 
 -- ---- where the node of q is missing, and once all below q is gone
 
--- no node is left below q but q's own
-pub lower_gone : (n : Nodes) (q t : List Bool) → begins q t ≡ true → has_node (nodes_not_below n q) t ≡ true → t ≡ home q
-lower_gone n q t goes_on there = elim (cases_Bool (same_string t (home q))) as (λ _. t ≡ home q) [
-  | inl same ↦ same_string-is t (home q) same
-  | inr other ↦
-      absurd (false≢true (sym (ap₂ (λ b own. (not b || own) && has_node n t) goes_on other)
-      ∙ sym (has-retained n (λ u. not (begins q u) || same_string u (home q)) t) ∙ there))
-]
-
 module _ {T : Type 0} where
   -- below a missing node is nothing
   pub no_node_there : (width count : ℕ) (v : Store Node) (w : Store (Option T)) (s : State T) (q : List Bool) → IsTrie width count v w s → read v.slots (path_of (home q)) ≡ None →

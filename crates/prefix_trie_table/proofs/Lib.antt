@@ -68,5 +68,9 @@ pub mod Copies
 pub mod Copying
 pub mod PartTaken
 pub mod Stepping
+pub mod KeptBlocks
 pub mod Stepped
+pub mod Still
 pub mod Between
+pub mod Housed
+pub mod Tiled

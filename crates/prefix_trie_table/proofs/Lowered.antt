@@ -21,7 +21,7 @@ use Rattle.prefix_trie_table.specs.declared.table.retain.Site.{Site}
 use Rattle.prefix_trie_table.specs.Bitmaps.{has_bit, rank}
 use Rattle.prefix_trie_table.specs.Cells.{node_at, node_sizes, cell_sizes}
 use Rattle.prefix_trie_table.specs.Digits.{path_of}
-use Rattle.prefix_trie_table.specs.Store.{Store}
+use Rattle.prefix_trie_table.specs.Store.{Store, KeepsMade}
 use Rattle.prefix_trie_table.specs.Forest.{read, child_slot, Holds, IsTable, IsSlot, at_child, NodesHold, entry_count, without, lacking_child}
 use Rattle.prefix_trie_table.specs.Removals.{IsBare, IsStocked, ChildDropped, Drops, none, more}
 use Rattle.prefix_trie_table.specs.Walks.{IsTree, IsPlaceOf}
@@ -42,6 +42,7 @@ use Rattle.prefix_trie_table.specs.Shape.{IsShapeOf}
 use Rattle.prefix_trie_table.proofs.Asked.{no_or_yes}
 use Rattle.prefix_trie_table.proofs.Subtrees.{child_is, child_inside, child_few, child_fits, few_at, all_places, number-small}
 use Rattle.prefix_trie_table.proofs.Trees.{reads}
+use Rattle.prefix_trie_table.proofs.Turnovers.{made_then}
 
 longer_not : (s u : List Bool) → length u ≡ 5 → s ++ u ≡ s → ⊥
 longer_not s u five e = absurd (omega (arith, ap length e, length-append s u, five))
@@ -144,6 +145,8 @@ module _ {K T : Type 0} (IsKey : K → Type 0) (bits : K → List Bool) (width :
         settles = lasts.settles;
         values = lasts.values;
         children = lasts.children;
+        node_made = lasts.node_made;
+        cell_made = lasts.cell_made;
       }
 
       whole_b : length (take b.depth (bits b.key)) % 5 ≡ 0
@@ -224,12 +227,6 @@ module _ {K T : Type 0} (IsKey : K → Type 0) (bits : K → List Bool) (width :
 
         one : ChildDropped (read v2.slots) table2.paths here c n m v2 v3
         one = dropped (read v2.slots) table2.paths here n left read2.hold still_site.slot_is still_site.stands leaf_is bare.no_children
-
-        abbrev fewer_nodes : List ℕ → Option Node
-        fewer_nodes = lacking_child (read v2.slots) here m c
-
-        abbrev fewer_paths : List (List ℕ)
-        fewer_paths = without (here ++ c ∷ []) table2.paths
 
         drops : Drops (read v2.slots) table2.paths (lacking_child (read v2.slots) here m c) (without (here ++ c ∷ []) table2.paths)
         drops = more (read v2.slots) table2.paths v2 here c n m left none read2.hold still_site.stands leaf_is bare one.values
@@ -325,8 +322,8 @@ module _ {K T : Type 0} (IsKey : K → Type 0) (bits : K → List Bool) (width :
         pub site3 : IsSite IsKey bits width v3 p m
         site3 = site_stays IsKey bits width v p n at long v3 m above3 (read3 here ∙ changed_here (read v2.slots) here m c None here refl)
 
-        pub lasts3 : Lasts (p.depth / 5) v v3 w w2
-        lasts3 = record {
+        pub lasts3 : KeepsMade v2 v3 → Lasts (p.depth / 5) v v3 w w2
+        lasts3 made = record {
           above = above3;
           node_limit = limit_is ∙ lasts.node_limit;
           node_slots = (let l = lasts.node_slots in omega (arith, l, longer));
@@ -339,4 +336,6 @@ module _ {K T : Type 0} (IsKey : K → Type 0) (bits : K → List Bool) (width :
           children = λ x. between_then node_sizes _ _ _ _ _ _ (lasts.children x)
               (subst (ChildrenBetween (read v2.slots x)) (sym (read3 x))
               (dropped_children_between (read v2.slots) table2.paths here c n m left v2 v3 one still_site.stands leaf_is bare read2.hold.sizes_are x));
+          node_made = made_then v v2 v3 lasts.node_made made;
+          cell_made = lasts.cell_made;
         }

@@ -35,6 +35,7 @@ use Rattle.prefix_trie_table.proofs.Rooms.{Grows-same}
 use Rattle.prefix_trie_table.proofs.Settling.{Settles-nodes}
 use Rattle.prefix_trie_table.proofs.Shapes.{reads_node, shape_entries}
 use Rattle.prefix_trie_table.proofs.Trees.{reads}
+use Rattle.prefix_trie_table.proofs.Turnovers.{made_then}
 
 -- ---- the home of a bit string
 
@@ -236,6 +237,8 @@ module _ {T : Type 0} (width : ℕ) (b : List Bool) (len : ℕ) (within : len �
         children = λ x. between_then node_sizes _ _ _ _ _ _ (lasts.children x)
             (subst (ChildrenBetween (read v2.slots x)) (sym (later x))
             (pruned_children_between (read v2.slots) t.paths (path_of (take len b)) pruned.level pruned.node v2 v3 held pruned.to x));
+        node_made = made_then v v2 v3 lasts.node_made room.made;
+        cell_made = lasts.cell_made;
       }
 
 -- and where the node of the string is missing

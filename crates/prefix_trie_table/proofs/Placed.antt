@@ -37,6 +37,7 @@ use Rattle.prefix_trie_table.proofs.Retained.{tree_of, here_levels, here_whole}
 use Rattle.prefix_trie_table.proofs.Shapes.{shape_entries, shape_nodes, reads_node}
 use Rattle.prefix_trie_table.proofs.Spots.{place-value, place-child}
 use Rattle.prefix_trie_table.proofs.Subtrees.{unset, is_in-value, is_in-child, number-small}
+use Rattle.prefix_trie_table.proofs.Turnovers.{made_then}
 
 -- a place is that of one string
 pub same_place : (s t : List Bool) → length s ≤ 5 → length t ≤ 5 → place_of s ≡ place_of t → s ≡ t
@@ -242,6 +243,8 @@ lasts_both level v v2 v3 w w2 w3 a b = record {
   settles = Settles-then v v2 v3 w w2 w3 a.settles b.settles;
   values = λ x. between_then cell_sizes _ _ _ _ _ _ (a.values x) (b.values x);
   children = λ x. between_then node_sizes _ _ _ _ _ _ (a.children x) (b.children x);
+  node_made = made_then v v2 v3 a.node_made b.node_made;
+  cell_made = made_then w w2 w3 a.cell_made b.cell_made;
 }
 
 pub lasts_none : {T : Type 0} (level : ℕ) (v : Store Node) (w : Store (Option T)) → Lasts level v v w w
@@ -254,4 +257,6 @@ lasts_none level v w = record {
   settles = Settles-none v v w w refl refl;
   values = λ x. values_still (read v.slots x) (read v.slots x) refl;
   children = λ x. children_still (read v.slots x) (read v.slots x) refl;
+  node_made = λ j. omega arith;
+  cell_made = λ j. omega arith;
 }

@@ -152,10 +152,6 @@ module _ {T : Type 0} (q : List Bool) (reading : List ℕ → Option Node) (valu
           ];
         }
 
-    -- the string of the node where pruning stopped
-    abbrev stop_string : List Bool
-    stop_string = take (5 * p.level) q
-
     stop_within : 5 * p.level ≤ length q
     stop_within = fifths (length q) p.level (length (path_of q)) p.to.within (path-length q)
 

@@ -1,5 +1,5 @@
 -- What the calls that take a value or a child out leave of the arrays.
-use Rattle.std.proofs.Common.{◌≡◌, ◌≢◌, ℕ, ◌-◌, ◌*◌, ◌<◌, ◌≤◌, ◌⊎◌, ◌+◌, inl, inr, ⊎_elim, true, false, nat_le, List, [], ◌∷◌, ◌++◌, length, get_or, set, remove, map, flat_map, Option, None, Some, refl, sym, ap, ◌∙◌, subst, arith}
+use Rattle.std.proofs.Common.{◌≡◌, ◌≢◌, ℕ, zero, suc, ◌-◌, ◌*◌, ◌<◌, ◌≤◌, ◌⊎◌, ◌+◌, inl, inr, ⊎_elim, true, false, nat_le, List, [], ◌∷◌, ◌++◌, length, get_or, set, remove, map, flat_map, Option, None, Some, refl, sym, ap, ◌∙◌, subst, arith}
 use Rattle.std.specs.List.{position}
 use Rattle.std.proofs.lemmas.List.{length-map, length-set}
 use Rattle.std.proofs.lemmas.List.Quantifiers.{position-Some}
@@ -9,19 +9,20 @@ use Rattle.prefix_trie_bits.specs.Places.{Sets}
 use Rattle.prefix_trie_table.specs.declared.allocator.node.Node.{Node}
 use Rattle.prefix_trie_table.specs.Bitmaps.{has_bit, bits, rank}
 use Rattle.prefix_trie_table.specs.Cells.{blank_node, node_at, node_sizes, cell_sizes}
+use Rattle.prefix_trie_table.specs.OwnBlocks.{size_if_any, value_block_size}
 use Rattle.prefix_trie_table.specs.Store.{Store, Block, Sound, block, held, HasList, Keeps, Turnover, SameRoom, tier_at, tier_for, tier_sizes, size_in, free_at, slots_of, one_at, many_at, blocks_entered, tier_entered}
 use Rattle.prefix_trie_table.specs.Forest.{without, child_items, child_blocks, IsSlot, NodesHold, CellsHold, value_blocks, with_node, lacking_child, node_or_blank}
 use Rattle.prefix_trie_table.specs.Removals.{Shrinks, MayLengthen, ValueTaken, ChildDropped, GivesBack}
-use Rattle.prefix_trie_table.specs.Settling.{smaller_sizes, headroom}
+use Rattle.prefix_trie_table.specs.Settling.{smaller_sizes, headroom, headroom_if_any, child_headroom}
 use Rattle.prefix_trie_table.specs.Tables.{Grows}
 use Rattle.prefix_trie_table.proofs.Bare.{no_bit, cleared, others_stay, one_fewer}
 use Rattle.prefix_trie_table.proofs.BitLists.{rank-all}
 use Rattle.prefix_trie_table.proofs.Children.{child_removed, node_changed, number_or}
 use Rattle.prefix_trie_table.proofs.Soundness.{fits_block, tier_of_block}
-use Rattle.prefix_trie_table.proofs.Settling.{smaller_few, headroom-none, headroom-step, child_settles}
+use Rattle.prefix_trie_table.proofs.Settling.{smaller_few, tier_headroom, headroom-step, child_settles}
 use Rattle.prefix_trie_table.proofs.Spending.{size_at, tier_for_sizes}
 use Rattle.prefix_trie_table.proofs.Trees.{own_first, slot_holds, held_some}
-use Rattle.prefix_trie_table.proofs.Turnovers.{slots_of-le, slots_of-none, slots_of-many, many_here, many_other}
+use Rattle.prefix_trie_table.proofs.Turnovers.{slots_of-le, slots_of-none, slots_of-many, many_here, many_other, made_turned, made_then}
 use Rattle.prefix_trie_table.proofs.Values.{values_first, value_removed}
 
 -- ---- by how much an array grows where a list loses an item
@@ -74,6 +75,7 @@ module _ {S : Type 0} (v w : Store S) (k count to : ℕ) (took gave : ℕ → �
     longer = keeps.longer;
     at_most = (let l = turned.longer in omega arith);
     within = keeps.within;
+    made = made_turned v w _ _ _ turned;
   }
 
   module _ (vacant : S) (start : ℕ) (sizes : List ℕ) (sizes_are : tier_sizes v.tiers ≡ sizes) (seven : length sizes ≡ 7) (smaller : (j : ℕ) → j ≤ 5 → size_in sizes j ≡ get_or smaller_sizes j 0)
@@ -116,14 +118,14 @@ module _ {S : Type 0} (v w : Store S) (k count to : ℕ) (took gave : ℕ → �
           (λ j. (let e = left_none k count to j (omega arith) in omega arith)) in omega arith)
     ]
 
-    -- and what its tier may still make shrinks by as many
-    pub steps_down : 0 < count → (count ≡ 1 → to ≡ 0) → length w.slots + headroom to ≤ length v.slots + headroom k
-    steps_down some gone = elim (cases_lt 1 count) as (λ _. length w.slots + headroom to ≤ length v.slots + headroom k) [
-      | inl more ↦ elim (number_or to k) as (λ _. length w.slots + headroom to ≤ length v.slots + headroom k) [
+    module _ (rises : (j : ℕ) → j < 7 → headroom (size_in sizes j) ≡ tier_headroom j) where
+      -- and what its block may still make shrinks by as many
+      sizes_down : 1 < count → length w.slots + headroom (size_in sizes to) ≤ length v.slots + headroom (size_in sizes k)
+      sizes_down more = elim (number_or to k) as (λ _. length w.slots + headroom (size_in sizes to) ≤ length v.slots + headroom (size_in sizes k)) [
         | inl same ↦
             let n = slots_of-none (tier_sizes v.tiers) (blocks_entered v.tiers k count to) (λ j. (let e = entered_none k count to j more same in omega arith)) in
             let l = turned.longer in
-            let h : headroom to ≡ headroom k = ap headroom same in
+            let h : headroom (size_in sizes to) ≡ headroom (size_in sizes k) = ap (λ j. headroom (size_in sizes j)) same in
             omega (arith, n, l, h)
         | inr other ↦
             let lower = entered_lower more other
@@ -133,14 +135,19 @@ module _ {S : Type 0} (v w : Store S) (k count to : ℕ) (took gave : ℕ → �
             let one = lower.2 in
             let step = headroom-step to k (size_in sizes to) less seven (smaller to (omega (arith, less, seven))) in
             let l = turned.longer in
-            omega (arith, one, l, step)
+            omega (arith, one, l, step, rises to (omega (arith, less, seven)), rises k seven)
       ]
-      | inr few_left ↦
+
+      pub steps_down : (left : ℕ) → left + 1 ≡ count → length w.slots + headroom_if_any (size_if_any left (size_in sizes to)) ≤
+          length v.slots + headroom_if_any (size_if_any count (size_in sizes k))
+      steps_down zero one =
           let n = slots_of-none (tier_sizes v.tiers) (blocks_entered v.tiers k count to) (λ j. (let e = left_none k count to j (omega arith) in omega arith)) in
-          let l = turned.longer in
-          let h : headroom to ≡ 0 = ap headroom (gone (omega arith)) ∙ headroom-none in
-          omega (arith, n, l, h)
-    ]
+          let l = turned.longer in omega (arith, n, l)
+      steps_down (suc left) one =
+          let down = sizes_down (omega (arith, one)) in
+          let some : headroom_if_any (size_if_any count (size_in sizes k)) ≡ headroom (size_in sizes k) =
+          ap (λ n. headroom_if_any (size_if_any n (size_in sizes k))) (let e : count ≡ suc (suc left) = omega (arith, one) in e) in
+          omega (arith, down, some)
 
     -- exactly one block of another tier is made, where none of it is free
     lengthens : 1 < count → to ≢ k → tier_for v.tiers (count - 1) ≡ Some to → MayLengthen sizes v w (count - 1) k to
@@ -292,7 +299,8 @@ pub children_dropped : (v u v2 : Store Node) (slot place c tier start bitmap : �
     → Shrinks v.tiers k.child_tier (rank k.child_bitmap 32) tier
     → ((left : ℕ) → left + 1 ≡ rank k.child_bitmap 32 → MayLengthen node_sizes v u left k.child_tier tier)
     → (k.child_tier < 7) × (rank k.child_bitmap 32 ≤ size_in node_sizes k.child_tier)
-    → length u.slots + headroom tier ≤ length v.slots + headroom k.child_tier
+    → ((left : ℕ) → left + 1 ≡ rank k.child_bitmap 32 → length u.slots + headroom_if_any (size_if_any left (size_in node_sizes tier)) ≤
+    length v.slots + child_headroom k)
     → (reading : List ℕ → Option Node) (paths : List (List ℕ)) (p : List ℕ) (n leaf : Node) →
     NodesHold node_sizes reading paths v → IsSlot reading p slot → reading p ≡ Some n → reading (p ++ c ∷ []) ≡ Some leaf →
     rank leaf.child_bitmap 32 ≡ 0
@@ -337,10 +345,13 @@ children_dropped v u v2 slot place c tier start bitmap k m read sets m_is keeps 
           (subst (λ (y : Node). MayLengthen node_sizes v v2 (rank m.child_bitmap 32) y.child_tier tier) same
           (subst (λ (y : Store Node). MayLengthen node_sizes v y (rank m.child_bitmap 32) k.child_tier tier) (sym v2_is)
           (lengthens_written v u (rank m.child_bitmap 32) k.child_tier tier slot m (lengthens (rank m.child_bitmap 32) fewer_here))));
-      settles = child_settles reading paths v v2 p c n m leaf hold is below later (ap (λ (y : Node). y.value_tier) m_is ∙ ap (λ (y : Node). y.value_tier) same)
-          (let long : length v2.slots ≡ length u.slots = ap (λ (y : Store Node). length y.slots) v2_is ∙ length-set u.slots slot m in
-          let now : headroom m.child_tier ≡ headroom tier = ap headroom tier_is in
-          let was : headroom k.child_tier ≡ headroom n.child_tier = ap (λ (y : Node). headroom y.child_tier) same in omega (arith, steps, long, now, was));
+      settles = child_settles reading paths v v2 p c n m leaf hold is below later
+          (ap (λ (y : Node). value_block_size (Some y)) m_is ∙ ap (λ (y : Node). value_block_size (Some y)) same)
+          (let down = steps (rank m.child_bitmap 32) fewer_here in
+          let long : length v2.slots ≡ length u.slots = ap (λ (y : Store Node). length y.slots) v2_is ∙ length-set u.slots slot m in
+          let now : child_headroom m ≡ headroom_if_any (size_if_any (rank m.child_bitmap 32) (size_in node_sizes tier)) =
+          ap (λ t. headroom_if_any (size_if_any (rank m.child_bitmap 32) (size_in node_sizes t))) tier_is in
+          let was : child_headroom k ≡ child_headroom n = ap child_headroom same in omega (arith, down, long, now, was));
     }
 
 -- where the last child went, no block was made or taken
@@ -350,6 +361,7 @@ gives_back v w k count to gave keeps turned few = record {
   room = same_room v w k count to _ _ keeps turned few;
   sizes = keeps.sizes;
   free = λ j. (let f = turned.free_is j in let e = left_none k count to j few in omega arith);
+  made = made_turned v w _ _ _ turned;
 }
 
 -- a node written leaves the room and the free blocks
@@ -358,6 +370,7 @@ gives_written v w x slot m back e = subst (λ y. GivesBack v y) (sym e) (record 
   room = (length-set w.slots slot m ∙ back.room.0, back.room.1, back.room.2);
   sizes = back.sizes;
   free = back.free;
+  made = back.made;
 })
 
 pub grows_written : {S : Type 0} (v w x : Store S) (slot : ℕ) (m : S) (most : ℕ) → Grows v w most → x ≡ record w { slots = set w.slots slot m } → Grows v x most
@@ -367,15 +380,17 @@ grows_written v w x slot m most grows e = subst (λ y. Grows v y most) (sym e) (
   longer = (let l = length-set w.slots slot m in let h = grows.longer in omega arith);
   at_most = (let l = length-set w.slots slot m in let h = grows.at_most in omega arith);
   within = λ h. (let l = length-set w.slots slot m in let k = grows.within h in omega (arith, l, k));
+  made = grows.made;
 })
 
 -- what is given back, and then more
 pub gives_same : {S : Type 0} (v : Store S) → GivesBack v v
-gives_same v = record { room = (refl, refl, refl); sizes = refl; free = λ j. omega arith }
+gives_same v = record { room = (refl, refl, refl); sizes = refl; free = λ j. omega arith; made = λ j. omega arith }
 
 pub gives_then : {S : Type 0} (v w x : Store S) → GivesBack v w → GivesBack w x → GivesBack v x
 gives_then v w x a b = record {
   room = (b.room.0 ∙ a.room.0, b.room.1 ∙ a.room.1, b.room.2 ∙ a.room.2);
   sizes = b.sizes ∙ a.sizes;
   free = λ j. (let f = a.free j in let h = b.free j in omega arith);
+  made = made_then v w x a.made b.made;
 }

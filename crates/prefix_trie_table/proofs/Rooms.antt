@@ -2,37 +2,46 @@
 use Rattle.std.proofs.Common.{◌≡◌, ℕ, ◌+◌, ◌-◌, ◌*◌, ◌/◌, ◌≤◌, List, [], ◌∷◌, Result, Ok, Err, OnOk, OnErr, All, refl, sym, ap, ◌∙◌, subst, arith, lit≤}
 use Rattle.std.proofs.lemmas.List.Elements.{All-nil, All-cons}
 use Rattle.prefix_trie_table.specs.Cells.{node_sizes, cell_sizes}
-use Rattle.prefix_trie_table.specs.Store.{Store, Tier, Turnover, CutShort, Prepared, SameRoom, slots_of, none_at, tier_sizes, size_in, lacking_slots}
+use Rattle.prefix_trie_table.specs.Store.{Store, Tier, Turnover, CutShort, Prepared, SameRoom, KeepsMade, slots_of, none_at, tier_sizes, size_in, lacking_slots}
 use Rattle.prefix_trie_table.specs.Tables.{Grows}
-use Rattle.prefix_trie_table.proofs.Turnovers.{slots_of-le}
+use Rattle.prefix_trie_table.proofs.Turnovers.{slots_of-le, made_turned, made_same, made_then}
 
 module _ {S : Type 0} where
-  -- the same room is no growth
-  pub Grows-none : (v w : Store S) (most : ℕ) → SameRoom v w → Grows v w most
-  Grows-none v w most room = record { first_is = room.1; limit_is = room.2; longer = (let e = room.0 in omega arith); at_most = (let e = room.0 in omega arith); within = λ h. (let e = room.0 in let l = room.2 in omega (arith, e, l, h)) }
+  -- the same room and the same tiers are no growth
+  pub Grows-none : (v w : Store S) (most : ℕ) → SameRoom v w → w.tiers ≡ v.tiers → Grows v w most
+  Grows-none v w most room tiers = record {
+    first_is = room.1;
+    limit_is = room.2;
+    longer = (let e = room.0 in omega arith);
+    at_most = (let e = room.0 in omega arith);
+    within = λ h. (let e = room.0 in let l = room.2 in omega (arith, e, l, h));
+    made = made_same v w tiers;
+  }
 
   -- nor is the same array
   pub Grows-same : (v w : Store S) (most : ℕ) → w ≡ v → Grows v w most
-  Grows-same v w most e = subst (λ x. Grows v x most) (sym e) (record { first_is = refl; limit_is = refl; longer = omega arith; at_most = omega arith; within = λ h. h })
+  Grows-same v w most e = subst (λ x. Grows v x most) (sym e) (record { first_is = refl; limit_is = refl; longer = omega arith; at_most = omega arith; within = λ h. h; made = λ j. omega arith })
 
   -- nothing grows after
-  pub Grows-then : (v w x : Store S) (most : ℕ) → Grows v w most → SameRoom w x → Grows v x most
-  Grows-then v w x most g room = record {
+  pub Grows-then : (v w x : Store S) (most : ℕ) → Grows v w most → SameRoom w x → KeepsMade w x → Grows v x most
+  Grows-then v w x most g room made = record {
     first_is = room.1 ∙ g.first_is;
     limit_is = room.2 ∙ g.limit_is;
     longer = (let e = room.0 in let a = g.longer in omega arith);
     at_most = (let e = room.0 in let a = g.at_most in omega arith);
     within = λ h. (let e = room.0 in let l = room.2 in let a = g.within h in omega (arith, e, l, a));
+    made = made_then v w x g.made made;
   }
 
   -- nor does anything grow before
-  pub Grows-after : (v w x : Store S) (most : ℕ) → SameRoom v w → Grows w x most → Grows v x most
-  Grows-after v w x most room g = record {
+  pub Grows-after : (v w x : Store S) (most : ℕ) → SameRoom v w → KeepsMade v w → Grows w x most → Grows v x most
+  Grows-after v w x most room made g = record {
     first_is = g.first_is ∙ room.1;
     limit_is = g.limit_is ∙ room.2;
     longer = (let e = room.0 in let a = g.longer in omega arith);
     at_most = (let e = room.0 in let a = g.at_most in omega arith);
     within = λ h. g.within (let e = room.0 in let l = room.2 in omega (arith, e, l, h));
+    made = made_then v w x made g.made;
   }
 
   -- twice the same room
@@ -48,6 +57,7 @@ module _ {S : Type 0} where
     longer = (let e = done.longer in omega arith);
     at_most = (let e = done.longer in omega arith);
     within = p.within;
+    made = made_turned v w _ _ _ done;
   }
   Grows-made (Err x) v w lacking most done short p bound =
       let t = short.turnover in
@@ -58,6 +68,7 @@ module _ {S : Type 0} where
         longer = (let e = t.longer in omega arith);
         at_most = (let e = t.longer in omega arith);
         within = p.within;
+        made = made_turned v w _ _ _ t;
       }
 
 -- no block is larger

@@ -39,10 +39,6 @@ most-suc : (n : ℕ) → most (suc n) ≡ many 63 (most n)
 unfolding most
 most-suc n = refl
 
-pub weight-some : (n : ℕ) (ss : List (List Bool)) → 0 < weight_of n ss
-weight-some n [] = omega arith
-weight-some n (s ∷ ss) = omega arith
-
 level-below : (d : ℕ) → d + 5 ≤ 128 → (130 - d) / 5 ≡ suc ((130 - (d + 5)) / 5)
 level-below d h = omega (arith, h)
 

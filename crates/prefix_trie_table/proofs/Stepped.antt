@@ -28,8 +28,8 @@ use Rattle.prefix_trie_table.proofs.Stepping.{ValuesStep, ChildrenStep, steps_re
 use Rattle.prefix_trie_table.proofs.Trees.{reads, is_none-None}
 
 -- the size by the string of a node is that by its path
-size_read : (size : Option Node → Option ℕ) (nodes : List Node) (f : List ℕ → Option Node) (m : Sizes) → AreSizesBy size nodes m →
-    ((x : List ℕ) → read nodes x ≡ f x) → (p : List Bool) → is_node_depth p ≡ true → get m p ≡ size (f (path_of p))
+pub size_read : (size : Option Node → Option ℕ) (nodes : List Node) (f : List ℕ → Option Node) (m : Sizes) →
+    AreSizesBy size nodes m → ((x : List ℕ) → read nodes x ≡ f x) → (p : List Bool) → is_node_depth p ≡ true → get m p ≡ size (f (path_of p))
 size_read size nodes f m m_are reading_is p depth =
     m_are p ∙ ap (λ b. cond b (size (read nodes (path_of p))) None) depth ∙ ap size (reading_is (path_of p))
 

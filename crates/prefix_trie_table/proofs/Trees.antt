@@ -19,11 +19,6 @@ pub held_some : {S : Type 0} (k start size : ℕ) (xs : List S) → 0 < length x
 held_some k start size [] h = absurd (omega arith)
 held_some k start size (x ∷ xs) h = refl
 
--- a list without items has no block
-pub held_none : {S : Type 0} (k start size : ℕ) (xs : List S) → length xs ≡ 0 → held k start size xs ≡ []
-held_none k start size [] h = refl
-held_none k start size (x ∷ xs) h = absurd (omega arith)
-
 read_from-snoc : (nodes : List Node) (at : Option Node) (p : List ℕ) (c : ℕ) → read_from nodes at (p ++ c ∷ []) ≡ below nodes (read_from nodes at p) c
 read_from-snoc nodes at [] c = refl
 read_from-snoc nodes at (x ∷ p) c = read_from-snoc nodes (below nodes at x) p c

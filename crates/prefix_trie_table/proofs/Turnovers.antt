@@ -4,7 +4,7 @@ use Rattle.std.proofs.Math.Nat.{mul-add, mul-le-mul_left}
 use Rattle.std.proofs.lemmas.List.{get_or-set_same, get_or-set_other, length-map, length-take-le, length-replicate}
 use Rattle.std.proofs.lemmas.Bool.{cases_eq}
 use Rattle.std.proofs.lemmas.Bool.Decides.{nat_tests}
-use Rattle.prefix_trie_table.specs.Store.{Tier, Store, tier_at, with_tier, taken, grown, grown_times, tier_sizes, size_in, free_at, many_at, none_at, slots_of, Turnover}
+use Rattle.prefix_trie_table.specs.Store.{Tier, Store, tier_at, with_tier, taken, grown, grown_times, tier_sizes, size_in, free_at, many_at, none_at, slots_of, Turnover, KeepsMade}
 use Rattle.prefix_trie_table.proofs.Spending.{size_at, sizes_set}
 
 pub many_here : (k m : ℕ) → many_at k m k ≡ m
@@ -71,6 +71,17 @@ tiers_set P ts k t inside here there j =
     ⊎_elim (λ (e : j ≡ k). subst (λ i. P i (tier_at (set ts k t) i)) (sym e) (subst (P k) (sym (get_or-set_same ts k t _ inside)) here)) (λ (n : j ≢ k). subst (P j) (sym (get_or-set_other ts k j t _ n)) (there j n)) (cases_eq j k)
 
 module _ {S : Type 0} where
+  -- a turnover loses no block
+  pub made_turned : (v w : Store S) (m t g : ℕ → ℕ) → Turnover v w m t g → KeepsMade v w
+  made_turned v w m t g a = λ j. (let e = a.made_is j in omega arith)
+
+  -- nor do the same tiers
+  pub made_same : (v w : Store S) → w.tiers ≡ v.tiers → KeepsMade v w
+  made_same v w e = subst (λ ts. (j : ℕ) → (tier_at v.tiers j).made ≤ (tier_at ts j).made) (sym e) (λ j. omega arith)
+
+  pub made_then : (v w x : Store S) → KeepsMade v w → KeepsMade w x → KeepsMade v x
+  made_then v w x a b = λ j. (let p = a j in let q = b j in omega arith)
+
   pub tiers_stay : (v w : Store S) → tier_sizes w.tiers ≡ tier_sizes v.tiers → length w.tiers ≡ length v.tiers
   tiers_stay v w e = sym (length-map w.tiers (λ t. t.size)) ∙ ap (λ ns. length ns) e ∙ length-map v.tiers (λ t. t.size)
 

@@ -1,4 +1,4 @@
--- What an insertion asks of the two arrays.
+-- What an insertion asks of the two arrays. This project's own.
 use Rattle.std.specs.Prelude.{◌≡◌, ◌⊎◌, ℕ, ◌+◌, ◌-◌, ◌*◌, ◌/◌, ◌<◌, ◌≤◌, Bool, List, Option, Some, length, take, nat_lt, if◌then◌else◌, Result, MatchResult, IfErr, IsOk}
 use Rattle.prefix_trie_table.specs.declared.allocator.node.Node.{Node}
 use Rattle.prefix_trie_table.specs.Bitmaps.{rank}

@@ -1,4 +1,4 @@
--- The set bits of a node's bitmap, in order.
+-- The set bits of a node's bitmap, in order. These are the ranks of the tree bitmap (Eatherton, Dittia and Varghese).
 use Rattle.std.specs.Prelude.{ℕ, zero, suc, Bool, true, false, cond, List, [], ◌∷◌, ◌++◌, length, ltb}
 use Rattle.prefix_trie_bits.specs.Places.{has}
 

@@ -1,5 +1,6 @@
--- Nodes in their array, and the sizes of the blocks of nodes and of values.
-use Rattle.std.specs.Prelude.{ℕ, List, [], ◌∷◌, slice_index_or}
+-- Nodes in their array, and the sizes of the blocks of nodes and of values. This project's own.
+use Rattle.std.specs.Prelude.{ℕ, List, slice_index_or}
+use Rattle.prefix_trie_bits.specs.Model.Blocks.{child_block_sizes, value_block_sizes}
 use Rattle.prefix_trie_table.specs.declared.allocator.node.Node.{Node}
 
 -- a node without values and children
@@ -10,10 +11,10 @@ blank_node = record { value_bitmap = 0; child_bitmap = 0; value_block = 0; child
 abbrev pub node_at : List Node → ℕ → Node
 node_at nodes slot = slice_index_or nodes slot blank_node
 
--- the sizes of blocks of nodes: this project's own, after the block sizes of the crate's table
+-- the sizes of blocks in the array of nodes
 abbrev pub node_sizes : List ℕ
-node_sizes = 1 ∷ 2 ∷ 4 ∷ 8 ∷ 16 ∷ 24 ∷ 32 ∷ []
+node_sizes = child_block_sizes
 
--- the sizes of blocks of values, of which a node has 31 at most
+-- the sizes of blocks in the array of values
 abbrev pub cell_sizes : List ℕ
-cell_sizes = 1 ∷ 2 ∷ 4 ∷ 8 ∷ 16 ∷ 24 ∷ 31 ∷ []
+cell_sizes = value_block_sizes

@@ -1,4 +1,4 @@
--- Where a walk over the beginnings of a bit string stands, and what it has still to give.
+-- Where a walk over the beginnings of a bit string stands, and what it has still to give. This project's own.
 use Rattle.std.specs.Prelude.{◌≡◌, ℕ, ◌+◌, ◌*◌, ◌≤◌, Bool, ◌&&◌, ◌||◌, nat_le, List, Option, Some, length, take, drop, filter, MatchOption}
 use Rattle.prefix_trie_bits.specs.Bits.{begins}
 use Rattle.prefix_trie_bits.specs.Model.Matches.{covers}

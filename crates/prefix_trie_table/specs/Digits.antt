@@ -1,4 +1,5 @@
--- A bit string as the way from the root to its own node, five bits a step, and its place in that node.
+-- A bit string as the way from the root to its own node, five bits a step, and its place in that node. The five levels are the
+-- crate's.
 use Rattle.std.specs.Prelude.{ℕ, Bool, List, [], ◌∷◌}
 use Rattle.prefix_trie_bits.specs.Bits.{number}
 use Rattle.prefix_trie_bits.specs.Places.{value_bit}

@@ -1,4 +1,4 @@
--- Nodes and values by path, and the blocks in which they stand.
+-- Nodes and values by path, and the blocks in which they stand. This project's own.
 use Rattle.std.specs.Prelude.{◌≡◌, ℕ, ◌+◌, ◌<◌, ◌≤◌, Bool, true, false, cond, List, [], ◌∷◌, ◌++◌, map, flat_map, slice_index_or, Option, None, Some, is_some, take, length, not, nat_lt, ◌||◌, ◌&&◌}
 use Rattle.std.specs.Option.{option_or}
 use Rattle.prefix_trie_table.specs.OwnBlocks.{child_block_size, value_block_size, child_need, value_need}

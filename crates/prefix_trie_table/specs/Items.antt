@@ -1,4 +1,4 @@
--- What a walk over a table gives.
+-- What a walk over a table gives. This project's own.
 use Rattle.std.specs.Prelude.{◌≡◌, ℕ, ◌-◌, ◌≤◌, Bool, List, ◌∷◌, ◌++◌, take}
 use Rattle.prefix_trie_bits.specs.Bits.{zeros}
 

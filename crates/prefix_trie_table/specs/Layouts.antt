@@ -1,4 +1,4 @@
--- Which blocks the nodes in an array have, and how many blocks of each tier are free.
+-- Which blocks the nodes in an array have, and how many blocks of each tier are free. This project's own.
 use Rattle.std.specs.Prelude.{◌≡◌, ℕ, Bool, cond, List, map, length, Option, None, Some}
 use Rattle.std.proofs.Common.{refl, sym, ◌∙◌}
 use Rattle.std.specs.Coded.{Coded, coded_ℕ, coded_option, coded_list, coded_bool, coded×, code_by, Coded-set}

@@ -1,4 +1,4 @@
--- What an array of blocks ends as, where a `&mut` to one of its values is returned.
+-- What an array of blocks ends as, where a `&mut` to one of its values is returned. This project's own.
 use Rattle.std.specs.Prelude.{ℕ, Option, Some, None}
 use Rattle.std.specs.Borrow.{Lends, LendsIf, Fml, RattleType, MutBor}
 use Rattle.std.specs.contracts.option.Option as option

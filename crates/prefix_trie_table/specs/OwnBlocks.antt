@@ -1,4 +1,5 @@
--- The sizes of a node's own two blocks, and of those that it needs before it takes one child or one value more.
+-- The sizes of a node's own two blocks, and of those that it needs before it takes one child or one value more. This project's
+-- own.
 use Rattle.std.specs.Prelude.{ℕ, zero, suc, Option, None, Some}
 use Rattle.prefix_trie_bits.specs.Model.Blocks.{child_block_sizes, value_block_sizes}
 use Rattle.prefix_trie_bits.specs.Model.Insertion.{block_needed}

@@ -1,10 +1,10 @@
--- What the calls that take values out leave, by path.
+-- What the calls that take values out leave, by path. This project's own.
 use Rattle.std.specs.Prelude.{◌≡◌, ◌≢◌, ℕ, ◌+◌, ◌-◌, ◌<◌, ◌≤◌, ◌⊎◌, true, false, List, [], ◌∷◌, ◌++◌, length, take, slice_index_or, Option, None, Some, is_some}
 use Rattle.prefix_trie_table.specs.declared.allocator.node.Node.{Node}
 use Rattle.prefix_trie_table.specs.declared.allocator.node.NodeSlot.{NodeSlot}
 use Rattle.prefix_trie_table.specs.Bitmaps.{rank}
 use Rattle.prefix_trie_table.specs.Cells.{node_sizes, cell_sizes}
-use Rattle.prefix_trie_table.specs.Store.{Store, Tier, SameRoom, tier_for, tier_sizes, size_in, free_at}
+use Rattle.prefix_trie_table.specs.Store.{Store, Tier, SameRoom, KeepsMade, tier_for, tier_sizes, size_in, free_at}
 use Rattle.prefix_trie_table.specs.Settling.{NodesSettle}
 use Rattle.prefix_trie_table.specs.Forest.{NodesHold, CellsHold, Holds, IsSlot, lacking_child, without, is_start, with_node, with_value, own_count, entry_count, one_if}
 
@@ -80,11 +80,12 @@ pub record IsBare (n : Node) : Type 0 where
 abbrev pub IsStocked : Node → Type 0
 IsStocked n = (0 < rank n.value_bitmap 32) ⊎ (0 < rank n.child_bitmap 32)
 
--- no block was made or taken, so those free before are free
+-- no block was made, taken or lost, so those free before are free
 pub record GivesBack {S : Type 0} (v w : Store S) : Type 0 where
   pub room : SameRoom v w
   pub sizes : tier_sizes w.tiers ≡ tier_sizes v.tiers
   pub free : (j : ℕ) → free_at v.tiers j ≤ free_at w.tiers j
+  pub made : KeepsMade v w
 
 -- the slot of the k-th node on a way
 abbrev pub slot_in : List NodeSlot → ℕ → ℕ

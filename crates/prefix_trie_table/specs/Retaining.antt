@@ -1,4 +1,4 @@
--- What asking a test at the entries of some places of a node leaves of a table.
+-- What asking a test at the entries of some places of a node leaves of a table. This project's own.
 use Rattle.std.specs.Prelude.{◌≡◌, ℕ, ◌+◌, ◌*◌, ◌<◌, ◌≤◌, Bool, true, false, cond, nat_lt, List, ◌++◌, length, take, Option, Some}
 use Rattle.std.specs.List.{list_any}
 use Rattle.std.specs.FinMap.{get, contains_key}
@@ -21,7 +21,7 @@ use Rattle.prefix_trie_table.specs.Forest.{IsSlot, own_count, read}
 use Rattle.prefix_trie_table.specs.Layouts.{own_children, child_block_size, value_block_size}
 use Rattle.prefix_trie_table.specs.Settling.{Settles}
 use Rattle.prefix_trie_table.specs.Shape.{IsShapeOf}
-use Rattle.prefix_trie_table.specs.Store.{Store}
+use Rattle.prefix_trie_table.specs.Store.{Store, KeepsMade}
 use Rattle.prefix_trie_table.specs.Tables.{IsTableOf}
 
 -- whether a string is that of the place t of the node at s, or goes on from it where a child is at that place
@@ -72,7 +72,8 @@ module _ {T : Type 0} where
   abbrev pub HasTrie : ℕ → ℕ → Store Node → Store (Option T) → Type 0
   HasTrie width count v w = (s : State T) × IsTrie width count v w s
 
-  -- no array is shorter, neither may become longer than it could, both limits are the same, and so are the nodes above this level
+  -- no array is shorter or has lost a block, neither may become longer than it could, both limits are the same, and so are the
+  -- nodes above this level
   pub record Lasts (level : ℕ) (v v2 : Store Node) (w w2 : Store (Option T)) : Type 0 where
     pub above : (p : List ℕ) → length p < level → read v2.slots p ≡ read v.slots p
     pub node_limit : v2.limit ≡ v.limit
@@ -82,6 +83,8 @@ module _ {T : Type 0} where
     pub settles : Settles v v2 w w2
     pub values : (x : List ℕ) → ValuesBetween (read v.slots x) (read v2.slots x)
     pub children : (x : List ℕ) → ChildrenBetween (read v.slots x) (read v2.slots x)
+    pub node_made : KeepsMade v v2
+    pub cell_made : KeepsMade w w2
 
 -- a node stands in the slot of the site and at its path, which is no longer than the width
 pub record IsSite {K : Type 0} (IsKey : K → Type 0) (bits : K → List Bool) (width : ℕ) (v : Store Node) (p : Site K) (n : Node) : Type 0 where

@@ -1,22 +1,34 @@
--- By how many slots the calls that take values and nodes out may lengthen the arrays.
-use Rattle.std.specs.Prelude.{ℕ, ◌+◌, ◌≤◌, List, [], ◌∷◌, Option, length, take, sum_by}
+-- By how many slots the calls that take values and nodes out may lengthen the arrays. This project's own.
+use Rattle.std.specs.Prelude.{ℕ, ◌+◌, ◌≤◌, List, [], ◌∷◌, Option, None, Some, length, filter, nat_lt, sum_by}
+use Rattle.std.specs.FinMap.{values}
+use Rattle.prefix_trie_bits.specs.Model.Blocks.{Sizes}
 use Rattle.prefix_trie_table.specs.declared.allocator.node.Node.{Node}
+use Rattle.prefix_trie_table.specs.OwnBlocks.{child_block_size, value_block_size}
 use Rattle.prefix_trie_table.specs.Store.{Store}
 
 -- the sizes of blocks but the largest, of nodes and of values alike
 abbrev pub smaller_sizes : List ℕ
 smaller_sizes = 1 ∷ 2 ∷ 4 ∷ 8 ∷ 16 ∷ 24 ∷ []
 
--- the slots of one block of each size below that of tier k: a list in a block of tier k makes no more as it loses its items
+-- the slots of one block of each size below this one: a list in a block of this size makes no more as it loses its items
 unfoldable pub headroom : ℕ → ℕ
-headroom k = sum_by (λ n. n) (take k smaller_sizes)
+headroom size = sum_by (λ n. n) (filter (λ n. nat_lt n size) smaller_sizes)
 
--- the same of a node's children, and of its values
+-- the same of a block that may be missing
+abbrev pub headroom_if_any : Option ℕ → ℕ
+headroom_if_any None = 0
+headroom_if_any (Some size) = headroom size
+
+-- the same of all blocks of these sizes
+abbrev pub headroom_of : Sizes → ℕ
+headroom_of sizes = sum_by headroom (values sizes)
+
+-- the same of the block of a node's children, and of that of its values
 abbrev pub child_headroom : Node → ℕ
-child_headroom n = headroom n.child_tier
+child_headroom n = headroom_if_any (child_block_size (Some n))
 
 abbrev pub value_headroom : Node → ℕ
-value_headroom n = headroom n.value_tier
+value_headroom n = headroom_if_any (value_block_size (Some n))
 
 -- how long the array of nodes may become as items are taken out
 abbrev pub node_reach : Store Node → ℕ

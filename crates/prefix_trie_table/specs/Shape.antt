@@ -1,4 +1,4 @@
--- What contracts see of a table, and that the nodes and the cells determine it.
+-- What contracts see of a table, and that the nodes and the cells determine it. This project's own.
 use Rattle.std.specs.Prelude.{◌≡◌, ℕ, Bool, List, ◌&&◌, is_some, Option, None, Some, if◌then◌else◌, refl}
 use Rattle.std.proofs.Common.{sym, ◌∙◌}
 use Rattle.std.specs.Coded.{Coded, code_by, coded×, coded_list, coded_ℕ, coded_bool, coded_option, Coded-set}

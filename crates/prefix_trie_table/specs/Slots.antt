@@ -1,4 +1,4 @@
--- The slots of values, and an array of blocks with another value in a slot.
+-- The slots of values, and an array of blocks with another value in a slot. This project's own.
 use Rattle.std.specs.Prelude.{◌≡◌, ℕ, ◌+◌, ◌<◌, true, false, Bool, List, Option, None, Some, IsSome, length, slice_index_or, slice_set, MatchOption}
 use Rattle.prefix_trie_table.specs.declared.allocator.node.Node.{Node}
 use Rattle.prefix_trie_table.specs.declared.table.seat.Seat.{Seat}

@@ -173,6 +173,10 @@ IsReady ts k count =
 abbrev pub SameBefore : {S : Type 0} → Store S → Store S → Type 0
 SameBefore {S} v w = (i : ℕ) (d : S) → i < v.first → slice_index_or w.slots i d ≡ slice_index_or v.slots i d
 
+-- of each tier no fewer blocks stand in the array than before
+abbrev pub KeepsMade : {S : Type 0} → Store S → Store S → Type 0
+KeepsMade v w = (j : ℕ) → (tier_at v.tiers j).made ≤ (tier_at w.tiers j).made
+
 -- no slot was made, nothing before the first block was written, and at most a free block of this tier was taken
 pub record Spends {S : Type 0} (v w : Store S) (o : Option ℕ) : Type 0 where
   pub room : SameRoom v w

@@ -1,4 +1,4 @@
--- What a table ends as, where a `&mut` to one of its values is returned.
+-- What a table ends as, where a `&mut` to one of its values is returned. This project's own.
 use Rattle.std.specs.Prelude.{Bool, List, Option}
 use Rattle.std.specs.Borrow.{LendsIf, Fml, RattleType, MutBor}
 use Rattle.std.specs.declared.alloc.Allocator as alloc

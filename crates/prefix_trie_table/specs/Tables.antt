@@ -1,4 +1,4 @@
--- What holds of the fields of every table, and of a way down.
+-- What holds of the fields of every table, and of a way down. This project's own.
 use Rattle.std.specs.Prelude.{◌≡◌, ℕ, ◌+◌, ◌-◌, ◌*◌, ◌/◌, ◌<◌, ◌≤◌, ◌⊎◌, Bool, false, List, Option, Some, length, take, slice_index_or}
 use Rattle.std.specs.FinMap.{len}
 use Rattle.prefix_trie_bits.specs.Model.Step.{State}
@@ -6,7 +6,7 @@ use Rattle.prefix_trie_table.specs.declared.allocator.node.Node.{Node}
 use Rattle.prefix_trie_table.specs.Bitmaps.{has_bit, rank}
 use Rattle.prefix_trie_table.specs.Cells.{node_at, node_sizes}
 use Rattle.prefix_trie_table.specs.Digits.{path_of, bit_of}
-use Rattle.prefix_trie_table.specs.Store.{Store, IsReady, Enough}
+use Rattle.prefix_trie_table.specs.Store.{Store, IsReady, Enough, KeepsMade}
 use Rattle.prefix_trie_table.specs.Forest.{NodesHold, Holds, IsTable, Deepest, EntryAdded, entry_count}
 
 -- the arrays hold a table of so many entries
@@ -40,13 +40,14 @@ pub record HasRoom {T : Type 0} (v : Store Node) (w : Store (Option T)) (node : 
   pub children : 5 * level + 5 ≤ len → Enough v.tiers node.child_tier (rank node.child_bitmap 32) (len / 5 - (level + 1))
 
 -- an array is as long as it was or longer by so many slots at most, its first block starts where it did, its limit is the
--- same, and where that held it holds
+-- same, where that held it holds, and no block is lost
 pub record Grows {S : Type 0} (v w : Store S) (most : ℕ) : Type 0 where
   pub first_is : w.first ≡ v.first
   pub limit_is : w.limit ≡ v.limit
   pub longer : length v.slots ≤ length w.slots
   pub at_most : length w.slots ≤ length v.slots + most
   pub within : length v.slots ≤ v.limit → length w.slots ≤ w.limit
+  pub made : KeepsMade v w
 
 -- the slots of one insertion's blocks may pass the limit: a block of 32 nodes and 24 of one, or a block of 31 cells
 abbrev pub MayPass : {T : Type 0} → Store Node → Store (Option T) → Type 0

@@ -1,4 +1,4 @@
--- What a walk of a table has still to come, and what its steps give.
+-- What a walk of a table has still to come, and what its steps give. This project's own.
 use Rattle.std.specs.Prelude.{◌≡◌, ℕ, zero, suc, ◌+◌, ◌-◌, ◌*◌, ◌/◌, ◌<◌, ◌≤◌, Bool, true, List, [], ◌∷◌, ◌++◌, length, take, map, slice_index_or, Option, None, Some, All, ⊤}
 use Rattle.std.specs.Borrow.{Bor}
 use Rattle.std.specs.Coded.{Coded}

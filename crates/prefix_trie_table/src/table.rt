@@ -33,8 +33,9 @@ ghost use Rattle.prefix_trie_bits.specs.Model.Visits.{visits, visits_to_match};
 ghost use Rattle.prefix_trie_bits.specs.Model.Insertion.{PassesLimit, TakesBlocks, node_slots_lacking, cell_slots_lacking, child_block_needed, value_block_needed};
 ghost use Rattle.prefix_trie_bits.specs.Model.Room.{MayPassLimit};
 ghost use Rattle.prefix_trie_bits.specs.declared.prefix.Refusal.TheVariants.{IndexRange};
-ghost use Rattle.prefix_trie_bits.specs.Model.Blocks.{no_layout, SizesStepDown, SizesStepBetween, LongerByOne, value_block_sizes, child_block_sizes, own_entries, child_count};
+ghost use Rattle.prefix_trie_bits.specs.Model.Blocks.{no_layout, KeepsBlocks, SizesStepDown, SizesStepBetween, LongerByOne, value_block_sizes, child_block_sizes, own_entries, child_count};
 ghost use Rattle.prefix_trie_table.specs.Layouts.{Sized, Sized-prop};
+ghost use Rattle.prefix_trie_table.specs.Settling.{headroom_of};
 ghost use Rattle.prefix_trie_table.specs.Shape.{Shaped, Shaped-prop};
 
 use crate::allocator::blocks::{Blocks, cells};
@@ -140,6 +141,7 @@ impl<T: Drop, A: Allocator, V: Tick> Table<T, A, V> {
 
     /// The value at the longest beginning of a bit string that has one, behind the number of bits of that beginning. Each
     /// node on the way is read once.
+    #[inline]
     pub fn find_longest<K: Key>(&self, key: K, len: u32, counter: &mut V) -> Option<(u32, &T)>
         requires key { K.IsKey key }
         requires within { len ≤ K.bit_width }
@@ -159,6 +161,7 @@ impl<T: Drop, A: Allocator, V: Tick> Table<T, A, V> {
 
     /// The value at the shortest beginning of a bit string that has one, behind the number of bits of that beginning. The
     /// nodes on the way are read once each, and none below the one that holds the value.
+    #[inline]
     pub fn find_shortest<K: Key>(&self, key: K, len: u32, counter: &mut V) -> Option<(u32, &T)>
         requires key { K.IsKey key }
         requires within { len ≤ K.bit_width }
@@ -177,6 +180,7 @@ impl<T: Drop, A: Allocator, V: Tick> Table<T, A, V> {
     }
 
     /// All entries, in listing order. The root is read at once.
+    #[inline]
     pub fn walk<K: Key>(&self, counter: &mut V) -> Walk<'_, K, T, A, V>
         requires within { AreWithin K.bit_width self.now.entries }
         requires nodes { AreNodes K.bit_width self.now.entries self.now.nodes }
@@ -187,6 +191,7 @@ impl<T: Drop, A: Allocator, V: Tick> Table<T, A, V> {
 
     /// Sets the value at a bit string, and adds the nodes on its way that are missing. It asks for all room that it needs
     /// before its first change; refused, it hands the value back and leaves entries and nodes as they were.
+    #[inline]
     pub fn insert<K: Key>(
         &mut self,
         key: K,
@@ -233,6 +238,7 @@ impl<T: Drop, A: Allocator, V: Tick> Table<T, A, V> {
             (λ _. TakesBlocks (value_block_needed self.old.entries self.old.layout.value_blocks (take len (K.bits key)))
             self.old.layout.value_blocks self.new.layout.value_blocks)
             (λ _. self.new.layout.value_blocks ≡ self.old.layout.value_blocks) }
+        ensures keeps_blocks { KeepsBlocks self.old.layout self.new.layout }
         ensures room { (self.new.room.limit ≡ self.old.room.limit)
             × (self.old.room.node_slots ≤ self.new.room.node_slots)
             × (self.new.room.node_slots ≤ self.old.room.node_slots + 56)
@@ -253,8 +259,9 @@ impl<T: Drop, A: Allocator, V: Tick> Table<T, A, V> {
     }
 
     /// Takes the value at a bit string out, if it is there, and then the nodes that have nothing left, from the string's own
-    /// node upward: so it prunes also where that node has no such value. Never refused; as for blocks, it does as
+    /// node upward: so it prunes also where that node has no such value. Never refused: blocks shrink as in
     /// `remove_keep_tree`.
+    #[inline]
     pub fn remove<K: Key>(&mut self, key: K, len: u32, counter: &mut V) -> Option<T>
         requires key { K.IsKey key }
         requires within { len ≤ K.bit_width }
@@ -276,6 +283,7 @@ impl<T: Drop, A: Allocator, V: Tick> Table<T, A, V> {
         ensures child_blocks { SizesStepDown child_block_sizes self.old.layout.free_child_blocks
             self.old.nodes (child_count self.old.nodes) (child_count self.new.nodes)
             self.old.layout.child_blocks self.new.layout.child_blocks }
+        ensures keeps_blocks { KeepsBlocks self.old.layout self.new.layout }
         ensures cells_longer { LongerByOne value_block_sizes self.old.layout.free_value_blocks
             (get self.old.layout.value_blocks (home (take len (K.bits key))))
             (get self.new.layout.value_blocks (home (take len (K.bits key))))
@@ -297,6 +305,7 @@ impl<T: Drop, A: Allocator, V: Tick> Table<T, A, V> {
 
     /// Takes the value at a bit string out, if it is there, and keeps all nodes. Never refused: where its node's values fit
     /// a smaller block they move there if one is free or can be made, and stay in the old one else.
+    #[inline]
     pub fn remove_keep_tree<K: Key>(&mut self, key: K, len: u32, counter: &mut V) -> Option<T>
         requires key { K.IsKey key }
         requires within { len ≤ K.bit_width }
@@ -315,6 +324,7 @@ impl<T: Drop, A: Allocator, V: Tick> Table<T, A, V> {
             self.old.layout.value_blocks self.new.layout.value_blocks }
         ensures child_blocks { (self.new.layout.child_blocks ≡ self.old.layout.child_blocks)
             × (self.new.layout.free_child_blocks ≡ self.old.layout.free_child_blocks) }
+        ensures keeps_blocks { KeepsBlocks self.old.layout self.new.layout }
         ensures cells_longer { LongerByOne value_block_sizes self.old.layout.free_value_blocks
             (get self.old.layout.value_blocks (home (take len (K.bits key))))
             (get self.new.layout.value_blocks (home (take len (K.bits key))))
@@ -333,6 +343,7 @@ impl<T: Drop, A: Allocator, V: Tick> Table<T, A, V> {
     /// Takes out all entries whose keys a bit string begins, and all nodes below the string's own, and then prunes from that node
     /// upward as `remove` does. Nothing changes where that node is missing. Never refused. It reads the way down and the part
     /// that it takes out. At length 0 it is `clear`.
+    #[inline]
     pub fn remove_children<K: Key>(&mut self, key: K, len: u32, counter: &mut V)
         requires key { K.IsKey key }
         requires long { len ≤ K.bit_width }
@@ -352,10 +363,19 @@ impl<T: Drop, A: Allocator, V: Tick> Table<T, A, V> {
         ensures child_blocks { 0 < len → SizesStepBetween child_block_sizes self.old.nodes
             (child_count self.old.nodes) (child_count self.new.nodes)
             self.old.layout.child_blocks self.new.layout.child_blocks }
+        ensures keeps_blocks { 0 < len → KeepsBlocks self.old.layout self.new.layout }
         ensures nodes_grow { self.new.room.node_slots
             ≤ self.old.room.node_slots + 56 * node_number self.old.nodes }
         ensures cells_grow { self.new.room.cell_slots
             ≤ self.old.room.cell_slots + 56 * node_number self.old.nodes }
+        ensures nodes_settle { 0 < len → self.new.room.node_slots + headroom_of self.new.layout.child_blocks
+            ≤ self.old.room.node_slots + headroom_of self.old.layout.child_blocks }
+        ensures cells_settle { 0 < len → self.new.room.cell_slots + headroom_of self.new.layout.value_blocks
+            ≤ self.old.room.cell_slots + headroom_of self.old.layout.value_blocks }
+        ensures nodes_still { 0 < len → self.new.layout.child_blocks ≡ self.old.layout.child_blocks
+            → self.new.room.node_slots ≡ self.old.room.node_slots }
+        ensures cells_still { 0 < len → self.new.layout.value_blocks ≡ self.old.layout.value_blocks
+            → self.new.room.cell_slots ≡ self.old.room.cell_slots }
         ensures limit { (self.new.room.limit ≡ self.old.room.limit)
             × (self.new.room.node_slots ≤ self.new.room.limit)
             × (self.new.room.cell_slots ≤ self.new.room.limit) }
@@ -376,7 +396,12 @@ impl<T: Drop, A: Allocator, V: Tick> Table<T, A, V> {
 
     /// Asks a test at each entry, in listing order, and takes out those at which it answers `false`, and then all nodes that
     /// no entry left needs. Never refused: the values of a node move to a smaller block only where one is free or can be
-    /// made. So each node that was there makes at most one block of each smaller size, of children and of values: 55 slots.
+    /// made. So each node that was there makes at most one block of each smaller size, of children and of values: 55 slots,
+    /// of which the contract says 56.
+    ///
+    /// Asks that no key is longer than those of `K` and that the nodes are such as the keys need, as in every map, and that the
+    /// test may be asked.
+    #[inline]
     pub fn retain<K: Key, F: Keep<K, T>>(&mut self, keep: F, counter: &mut V)
         requires within { AreWithin K.bit_width self.old.entries }
         requires nodes { AreNodes K.bit_width self.old.entries self.old.nodes }
@@ -393,8 +418,17 @@ impl<T: Drop, A: Allocator, V: Tick> Table<T, A, V> {
         ensures child_blocks { SizesStepBetween child_block_sizes self.old.nodes
             (child_count self.old.nodes) (child_count self.new.nodes)
             self.old.layout.child_blocks self.new.layout.child_blocks }
+        ensures keeps_blocks { KeepsBlocks self.old.layout self.new.layout }
         ensures nodes_grow { self.new.room.node_slots ≤ self.old.room.node_slots + 56 * len self.old.nodes }
         ensures cells_grow { self.new.room.cell_slots ≤ self.old.room.cell_slots + 56 * len self.old.nodes }
+        ensures nodes_settle { self.new.room.node_slots + headroom_of self.new.layout.child_blocks
+            ≤ self.old.room.node_slots + headroom_of self.old.layout.child_blocks }
+        ensures cells_settle { self.new.room.cell_slots + headroom_of self.new.layout.value_blocks
+            ≤ self.old.room.cell_slots + headroom_of self.old.layout.value_blocks }
+        ensures nodes_still { self.new.layout.child_blocks ≡ self.old.layout.child_blocks
+            → self.new.room.node_slots ≡ self.old.room.node_slots }
+        ensures cells_still { self.new.layout.value_blocks ≡ self.old.layout.value_blocks
+            → self.new.room.cell_slots ≡ self.old.room.cell_slots }
         ensures limit { (self.new.room.node_slots ≤ self.new.room.limit)
             × (self.new.room.cell_slots ≤ self.new.room.limit) }
     {
@@ -408,6 +442,7 @@ impl<T: Drop, A: Allocator, V: Tick> Table<T, A, V> {
     }
 
     /// Takes all entries out, and all nodes but the root. It asks for no memory, and gives none back.
+    #[inline]
     pub fn clear(&mut self)
         ensures entries { self.new.entries ≡ no_entries }
         ensures nodes { self.new.nodes ≡ root_alone }

@@ -1,6 +1,7 @@
 //! The array of nodes. Every read of a node is counted.
 ghost use Rattle.std.specs.Prelude.{◌≡◌, ℕ, ◌+◌, ◌-◌, ◌*◌, ◌^◌, ◌<◌, ◌≤◌, ◌↔◌, ◌⊎◌, [], ◌∷◌, ◌++◌, List, Some, None, IfOk, IfErr, IsOk, IsErr, IsSome, OnOk, OnErr, MatchOption, All, length, map, insert, remove, slice_index_or, slice_set};
-ghost use Rattle.prefix_trie_table.specs.BlockCounts.{tier_count};
+ghost use Rattle.prefix_trie_bits.specs.Model.Blocks.{AreBlocksOf};
+ghost use Rattle.prefix_trie_table.specs.BlockCounts.{tier_count, blocks_in_use, free_blocks};
 ghost use Rattle.prefix_trie_table.specs.Cells.{blank_node, node_at, node_sizes};
 ghost use Rattle.prefix_trie_table.specs.Store.{Store, Block, Sound, tier_at, slots_made, block, held, HasList, IsReady, tier_lacking, tier_for, no_blocks, Spends, Prepared, Enough, Keeps, Turnover, CutShort, none_at, one_at, free_at, size_in, tier_sizes, blocks_lacking, lacking_slots, blocks_entered, tier_outgrown, tier_entered, tier_left};
 ghost use Rattle.prefix_trie_bits.specs.declared.prefix.Refusal.TheVariants.{IndexRange};
@@ -23,7 +24,7 @@ pub trait Tick: Sized + Drop {
 }
 
 /// The array of nodes: the root at slot 0, outside every block, and behind it the blocks, each with the children of one node.
-/// `visit` is the only way to read a node, and counts, and `put` and the changes of a block are the only ways to write one.
+/// `visit` is the only way to read a node, and counts it, and `put` and the changes of a block are the only ways to write one.
 #[derive(Drop)]
 pub struct NodeAllocator<A: Allocator, V: Drop> {
     blocks: Blocks<Node, A>,
@@ -117,6 +118,8 @@ impl<A: Allocator, V: Drop> NodeAllocator<A, V> {
         requires { length self.now.tiers ≡ 7 }
         ensures counts { result ≡ map tier_count self.now.tiers }
         ensures made { length self.now.slots ≡ self.now.first + slots_made self.now.tiers }
+        ensures tiles { (live : List (Block Node)) → Sound blank_node live self.now
+            → AreBlocksOf (tier_sizes self.now.tiers) self.now.first (blocks_in_use live) (free_blocks self.now.tiers) (length self.now.slots) }
     {
         self.blocks.counts()
     }
@@ -170,28 +173,27 @@ impl<A: Allocator, V: Drop> NodeAllocator<A, V> {
         self.blocks.insert_at(k, start, count, place, node)
     }
 
-    /// As `Blocks::remove_at`: takes a node out of a list of `count` nodes, and says where the rest stands.
-    pub fn remove_at(&mut self, k: usize, start: u32, count: u32, place: u32) -> (Node, BlockRef)
+    /// As `Blocks::remove_at`: takes a node out of a list of `count` nodes, lets it go unread, and says where the rest
+    /// stands.
+    pub fn remove_at(&mut self, k: usize, start: u32, count: u32, place: u32) -> BlockRef
         requires holds { HasList blank_node self.old k start count }
         requires place { place < count }
         ensures keeps { Keeps self.old self.new }
-        ensures tier { (result.1.tier ≡ 0) ⊎ (result.1.tier < length self.new.tiers) }
-        ensures gone { count ≡ 1 → result.1 ≡ record { tier = 0; start = 0 } }
-        ensures smallest { 1 < count → (result.1.tier ≡ k)
-            ⊎ (tier_for self.old.tiers (count - 1) ≡ Some result.1.tier) }
-        ensures stays { 1 < count → result.1.tier ≡ k → result.1.start ≡ start }
+        ensures tier { (result.tier ≡ 0) ⊎ (result.tier < length self.new.tiers) }
+        ensures gone { count ≡ 1 → result ≡ record { tier = 0; start = 0 } }
+        ensures smallest { 1 < count → (result.tier ≡ k)
+            ⊎ (tier_for self.old.tiers (count - 1) ≡ Some result.tier) }
+        ensures stays { 1 < count → result.tier ≡ k → result.start ≡ start }
         ensures smaller { (to : ℕ) → 1 < count → tier_for self.old.tiers (count - 1) ≡ Some to
-            → 0 < free_at self.old.tiers to → result.1.tier ≡ to }
-        ensures turnover { Turnover self.old self.new (blocks_entered self.old.tiers k count result.1.tier)
-            (one_at (tier_entered k count result.1.tier)) (one_at (tier_left k count result.1.tier)) }
-        ensures value { (n : ℕ) (xs : List Node) (live : List (Block Node))
-            → Sound blank_node (held k start n xs ++ live) self.old → length xs ≡ count
-            → result.0 ≡ slice_index_or xs place result.0 }
+            → 0 < free_at self.old.tiers to → result.tier ≡ to }
+        ensures turnover { Turnover self.old self.new (blocks_entered self.old.tiers k count result.tier)
+            (one_at (tier_entered k count result.tier)) (one_at (tier_left k count result.tier)) }
         ensures sound { (n : ℕ) (xs : List Node) (live : List (Block Node))
             → Sound blank_node (held k start n xs ++ live) self.old → length xs ≡ count
-            → Sound blank_node (held result.1.tier result.1.start (tier_at self.old.tiers result.1.tier).size (remove xs place) ++ live) self.new }
+            → Sound blank_node (held result.tier result.start (tier_at self.old.tiers result.tier).size (remove xs place) ++ live) self.new }
     {
-        self.blocks.remove_at(k, start, count, place)
+        let (_, rest) = self.blocks.remove_at(k, start, count, place);
+        rest
     }
 
     /// Takes all nodes out but the root, which is then blank. It asks for no memory, and gives none back.

@@ -8,6 +8,7 @@ use crate::allocator::nodes::NodeAllocator;
 use crate::allocator::slots::Slot;
 use prefix_trie_bits::prefix::Refusal;
 use std::alloc::{AllocError, Allocator, Global};
+use std::mem::size_of;
 use std::test::Fail;
 
 // Puts a value at the end of a list of `count` values, and obtains the block that this needs.
@@ -117,10 +118,14 @@ fn array_of_nodes(rt: HostRuntime) -> Result<(), Fail> {
     );
     assert_eq!(rt; at.start, 1);
     nodes.put(NodeSlot::ROOT, Node::blank());
-    let (node, rest) = nodes.remove_at(at.tier, at.start, 1, 0);
-    assert_eq!(rt; node.child_bitmap, 5);
+    let rest = nodes.remove_at(at.tier, at.start, 1, 0);
     assert_eq!(rt; rest.start, 0);
     nodes.clear();
     assert_eq!(rt; nodes.len(), 1);
     Ok(())
+}
+
+#[test]
+fn a_node_has_20_bytes(rt: HostRuntime) {
+    assert_eq!(rt; size_of::<Node>(), 20);
 }

@@ -1,6 +1,6 @@
 //! How many blocks of each size the two arrays have, in use and free.
 ghost use Rattle.std.specs.Prelude.{◌≡◌, ◌+◌, length};
-ghost use Rattle.prefix_trie_bits.specs.Model.Blocks.{child_block_sizes, value_block_sizes};
+ghost use Rattle.prefix_trie_bits.specs.Model.Blocks.{child_block_sizes, value_block_sizes, child_count, own_entries, NodesHaveBlocks};
 ghost use Rattle.prefix_trie_bits.specs.Model.Nodes.{parents, holders};
 ghost use Rattle.prefix_trie_table.specs.BlockCounts.{block_counts, slots_counted, used_blocks};
 
@@ -11,23 +11,29 @@ use std::alloc::Allocator;
 
 impl<T: Drop, A: Allocator, V: Tick> Table<T, A, V> {
     /// How many blocks of each size the array of nodes has, in use and free, sizes ascending. A block in use has the children
-    /// of one node.
+    /// of one node, and each node with children has one.
+    #[inline]
     pub fn node_blocks(&self) -> [BlockCount; 7]
         ensures counts { result ≡ block_counts child_block_sizes
             self.now.layout.child_blocks self.now.layout.free_child_blocks }
         ensures slots { self.now.room.node_slots ≡ 1 + slots_counted result }
         ensures used { used_blocks result ≡ length (parents self.now.nodes) }
+        ensures blocks { NodesHaveBlocks child_block_sizes self.now.nodes (child_count self.now.nodes)
+            self.now.layout.child_blocks }
     {
         self.nodes.counts()
     }
 
     /// How many blocks of each size the array of values has, in use and free, sizes ascending. A block in use has the values
-    /// of one node.
+    /// of one node, and each node with values has one.
+    #[inline]
     pub fn cell_blocks(&self) -> [BlockCount; 7]
         ensures counts { result ≡ block_counts value_block_sizes
             self.now.layout.value_blocks self.now.layout.free_value_blocks }
         ensures slots { self.now.room.cell_slots ≡ slots_counted result }
         ensures used { used_blocks result ≡ length (holders self.now.entries self.now.nodes) }
+        ensures blocks { NodesHaveBlocks value_block_sizes self.now.nodes (own_entries self.now.entries)
+            self.now.layout.value_blocks }
     {
         self.cells.counts()
     }

@@ -14,6 +14,7 @@ use std::alloc::Allocator;
 impl<T: Drop, A: Allocator, V: Tick> Table<T, A, V> {
     /// The number of nodes, the root among them. It is not kept: each call reads every slot of the array of nodes once,
     /// free ones too.
+    #[inline]
     pub fn node_count(&self, counter: &mut V) -> usize
         ensures nodes { result ≡ len self.now.nodes }
         ensures visits { V.count counter.new ≡ V.count counter.old + self.now.room.node_slots }

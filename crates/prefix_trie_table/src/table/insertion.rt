@@ -4,7 +4,7 @@ ghost use Rattle.prefix_trie_table.specs.declared.allocator.node.Node.{Node};
 ghost use Rattle.prefix_trie_table.specs.Bitmaps.{has_bit as is_set, rank as rank_of};
 ghost use Rattle.prefix_trie_table.specs.Cells.{blank_node, node_at, node_sizes, cell_sizes};
 ghost use Rattle.prefix_trie_table.specs.Digits.{path_of, bit_of};
-ghost use Rattle.prefix_trie_table.specs.Store.{Block, Sound, IsReady, tier_lacking, free_at, Prepared, SameRoom};
+ghost use Rattle.prefix_trie_table.specs.Store.{Block, Sound, IsReady, tier_lacking, free_at, Prepared, SameRoom, KeepsMade};
 ghost use Rattle.prefix_trie_table.specs.Forest.{IsSlot, NodesHold, CellsHold, Holds, IsTable, AtNode, AtValues, ChildAdded, ValueSet, StandsAt, one_if};
 ghost use Rattle.prefix_trie_table.specs.Tables.{IsReached, HasRoom, IsCounted, Grows, MayPass, ForHeld, own_value, EntrySet};
 ghost use Rattle.prefix_trie_table.specs.Asked.{nodes_asked, cells_asked, LongerBy, PassLimit, AtEnd, Obtains};
@@ -31,6 +31,7 @@ fn add_child<A: Allocator, V: Tick>(
     requires missing { is_set node.child_bitmap child ≡ false }
     requires ready { IsReady nodes.old.tiers node.child_tier (rank_of node.child_bitmap 32) }
     ensures room { SameRoom nodes.old nodes.new }
+    ensures made { KeepsMade nodes.old nodes.new }
     ensures free { (j : ℕ) → free_at nodes.old.tiers j ≤ free_at nodes.new.tiers j + 1 }
     ensures kept { (j : ℕ)
         → tier_lacking nodes.old.tiers node.child_tier (rank_of node.child_bitmap 32) ≢ Some j
@@ -82,6 +83,8 @@ fn add_value<T: Drop, A: Allocator, V: Tick>(
     requires ready { IsReady cells.old.tiers node.value_tier (rank_of node.value_bitmap 32) }
     ensures node_room { SameRoom nodes.old nodes.new }
     ensures cell_room { SameRoom cells.old cells.new }
+    ensures node_made { KeepsMade nodes.old nodes.new }
+    ensures cell_made { KeepsMade cells.old cells.new }
     ensures added { (reading : List ℕ → Option Node) (paths : List (List ℕ))
         (values : List ℕ → ℕ → Option T) (p : List ℕ) (n : Node)
         → NodesHold node_sizes reading paths nodes.old
@@ -215,6 +218,8 @@ fn add_entry<K: Key, T: Drop, A: Allocator, V: Tick>(
     requires room { HasRoom nodes.old cells.old reached.node reached.level len }
     ensures node_room { SameRoom nodes.old nodes.new }
     ensures cell_room { SameRoom cells.old cells.new }
+    ensures node_made { KeepsMade nodes.old nodes.new }
+    ensures cell_made { KeepsMade cells.old cells.new }
     ensures added { ForHeld nodes.old cells.old (λ reading paths values.
         EntrySet reading paths values (K.bits key) len value nodes.new cells.new) }
 {

@@ -238,7 +238,7 @@ pub fn drop_child<A: Allocator, V: Tick>(
         → ChildDropped reading paths p child n result nodes.old nodes.new }
 {
     let node = nodes.visit(at, counter);
-    let (_, rest) = nodes.remove_at(
+    let rest = nodes.remove_at(
         node.child_tier as usize,
         node.child_block,
         count(node.child_bitmap),

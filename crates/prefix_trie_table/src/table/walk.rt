@@ -60,6 +60,7 @@ impl<'a, K: Key, T: Drop, A: Allocator, V: Tick> Walk<'a, K, T, A, V> {
     }
 
     /// The same walk, at the same place. It takes no memory.
+    #[inline]
     pub fn clone(&self) -> Self
         ensures { result ≡ self.now }
     {

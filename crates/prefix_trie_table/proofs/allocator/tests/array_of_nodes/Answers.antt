@@ -20,8 +20,8 @@ insert_at-at-requires-clause-holds g c =
     let sound : Sound blank_node [] c.in_ok-nodes.nodes = search rules in
     empty_list blank_node [] c.prepare-2.new.self (c.prepare-2.ensures.sound [] (c.prepare.ensures.sound [] sound))
 
-pub remove_at-requires-clause-holds : goal.remove_at-requires-clause-holds
-remove_at-requires-clause-holds g c =
+pub remove_at-rest-requires-clause-holds : goal.remove_at-rest-requires-clause-holds
+remove_at-rest-requires-clause-holds g c =
     let sound : Sound blank_node [] c.in_ok-nodes.nodes = search rules in
     let inserted = c.insert_at-at.ensures.sound 0 [] [] (c.prepare-2.ensures.sound [] (c.prepare.ensures.sound [] sound)) refl in
     let first : c.in_ok-nodes.nodes.first ≡ 1 = search rules in

@@ -1,10 +1,11 @@
-use Rattle.std.proofs.Common.{◌≡◌, ◌+◌, arith, length, ap, ap₂, sym, ◌∙◌}
-use Rattle.prefix_trie_bits.specs.Model.Blocks.{value_block_sizes}
+use Rattle.std.proofs.Common.{◌≡◌, ◌+◌, arith, length, ap, ap₂, sym, ◌∙◌, subst}
+use Rattle.prefix_trie_bits.specs.Model.Blocks.{value_block_sizes, own_entries, NodesHaveBlocks}
 use Rattle.prefix_trie_bits.specs.Model.Nodes.{holders}
 use Rattle.prefix_trie_table.specs.BlockCounts.{block_counts, slots_counted, used_blocks}
 use Rattle.prefix_trie_table.specs.Shape.{Contents}
 use Rattle.prefix_trie_table.proofs.BlockCounts.{seven_cells, cell_counts, slots_are, free_within}
 use Rattle.prefix_trie_table.proofs.BlockUsers.{holders_used}
+use Rattle.prefix_trie_table.proofs.Housed.{value_blocks_housed}
 use Rattle.prefix_trie_table.proofs.Shapes.{shape_nodes, shape_entries}
 use Rattle.prefix_trie_table.proofs.table.Table.cell_blocks.Goals as goal
 
@@ -39,3 +40,10 @@ returns-clause-used g c =
     ∙ sym (holders_used t.reading t.paths v t.holds.hold shape.0.nodes (shape_nodes t.reading t.values t.paths v w t.holds shape.0 shape.1) t.values w
     t.holds.cells shape.0.entries (shape_entries t.reading t.values t.paths v w t.holds shape.0 shape.1))
     ∙ ap (λ (s : Contents g.row.T.Denot). length (holders s.entries s.nodes)) c.self.view_is
+
+pub returns-clause-blocks : goal.returns-clause-blocks
+returns-clause-blocks g c =
+    let t = c.self.invariant.held.table in
+    let shape = c.self.inside.shape in
+    subst (λ (s : Contents g.row.T.Denot). NodesHaveBlocks value_block_sizes s.nodes (own_entries s.entries) s.layout.value_blocks) c.self.view_is
+    (value_blocks_housed t.reading t.values t.paths c.self.inside.nodes c.self.inside.cells t.holds shape.0 shape.1 c.self.inside.sizes)

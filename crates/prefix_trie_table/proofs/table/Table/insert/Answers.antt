@@ -6,12 +6,14 @@ use Rattle.prefix_trie_bits.specs.Model.Entries.{with_entry}
 use Rattle.prefix_trie_bits.specs.Model.Nodes.{with_needed}
 use Rattle.prefix_trie_bits.specs.declared.prefix.Refusal.TheVariants.{IndexRange}
 use Rattle.prefix_trie_bits.specs.Model.Insertion.{PassesLimit, TakesBlocks, node_slots_lacking, cell_slots_lacking, child_block_needed, value_block_needed}
+use Rattle.prefix_trie_bits.specs.Model.Blocks.{KeepsBlocks}
 use Rattle.prefix_trie_table.specs.Asked.{Obtains}
 use Rattle.prefix_trie_table.specs.Shape.{Contents}
 use Rattle.prefix_trie_table.specs.declared.allocator.node.Node.{Node}
 use Rattle.prefix_trie_table.specs.Store.{Store, SameRoom}
 use Rattle.prefix_trie_table.proofs.Sizing.{table_sizes, same_layout, layout_of}
 use Rattle.prefix_trie_table.proofs.Foreseen.{obtained}
+use Rattle.prefix_trie_table.proofs.KeptBlocks.{kept_blocks}
 use Rattle.prefix_trie_table.proofs.Resized.{sizes_left}
 use Rattle.prefix_trie_table.proofs.Shapes.{shape_entries, left_shape, table_left, before_left, entries_left, nodes_left, same_left}
 use Rattle.prefix_trie_table.proofs.table.Table.insert.Goals as goal
@@ -168,3 +170,13 @@ returns-clause-value_blocks g c =
     subst (λ (s : Contents g.row.T.Denot). contains_key s.entries q ≡ false → MatchResult c.insert_entry.result
     (λ _. TakesBlocks (value_block_needed s.entries s.layout.value_blocks q) s.layout.value_blocks c.self-1.given.1.0.1.0)
     (λ _. c.self-1.given.1.0.1.0 ≡ s.layout.value_blocks)) c.self.view_is (λ new. (resized g c new).1)
+
+pub returns-clause-keeps_blocks : goal.returns-clause-keeps_blocks
+returns-clause-keeps_blocks g c =
+    let left = table_left (take c.args.len (g.K.Key.bits c.args.key)) c.args.value c.self.inside.nodes c.insert_entry.new.nodes c.self.inside.cells
+    c.insert_entry.new.cells c.self.inside.count c.insert_entry.new.entries c.self.inside.shape c.self.invariant c.insert_entry.result
+    c.insert_entry.ensures.inserted c.insert_entry.ensures.counted c.insert_entry.ensures.node_room c.insert_entry.ensures.cell_room c.self-1.given.0 in
+    subst (λ (s : Contents g.row.T.Denot). KeepsBlocks s.layout
+    (layout_of c.insert_entry.new.nodes.slots c.insert_entry.new.nodes.tiers c.insert_entry.new.cells.tiers c.self-1.given.1.0)) c.self.view_is
+    (kept_blocks c.self.inside.nodes c.insert_entry.new.nodes c.self.inside.cells c.insert_entry.new.cells c.self.invariant.held.table left.held.table
+    c.self.inside.sizes c.self-1.given.1.0 c.insert_entry.ensures.node_room.made c.insert_entry.ensures.cell_room.made)

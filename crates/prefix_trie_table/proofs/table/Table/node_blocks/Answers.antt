@@ -1,10 +1,11 @@
-use Rattle.std.proofs.Common.{◌+◌, length, ap, ap₂, sym, ◌∙◌}
-use Rattle.prefix_trie_bits.specs.Model.Blocks.{child_block_sizes}
+use Rattle.std.proofs.Common.{◌+◌, length, ap, ap₂, sym, ◌∙◌, subst}
+use Rattle.prefix_trie_bits.specs.Model.Blocks.{child_block_sizes, child_count, NodesHaveBlocks}
 use Rattle.prefix_trie_bits.specs.Model.Nodes.{parents}
 use Rattle.prefix_trie_table.specs.BlockCounts.{block_counts, slots_counted, used_blocks}
 use Rattle.prefix_trie_table.specs.Shape.{Contents}
 use Rattle.prefix_trie_table.proofs.BlockCounts.{node_counts, slots_are, free_within}
 use Rattle.prefix_trie_table.proofs.BlockUsers.{parents_used}
+use Rattle.prefix_trie_table.proofs.Housed.{child_blocks_housed}
 use Rattle.prefix_trie_table.proofs.Shapes.{shape_nodes}
 use Rattle.prefix_trie_table.proofs.table.Table.node_blocks.Goals as goal
 
@@ -32,3 +33,10 @@ returns-clause-used g c =
     ∙ sym (parents_used t.reading t.paths v t.holds.hold shape.0.nodes
     (shape_nodes t.reading t.values t.paths v c.self.inside.cells t.holds shape.0 shape.1))
     ∙ ap (λ (s : Contents g.row.T.Denot). length (parents s.nodes)) c.self.view_is
+
+pub returns-clause-blocks : goal.returns-clause-blocks
+returns-clause-blocks g c =
+    let t = c.self.invariant.held.table in
+    let shape = c.self.inside.shape in
+    subst (λ (s : Contents g.row.T.Denot). NodesHaveBlocks child_block_sizes s.nodes (child_count s.nodes) s.layout.child_blocks) c.self.view_is
+    (child_blocks_housed t.reading t.values t.paths c.self.inside.nodes c.self.inside.cells t.holds shape.0 shape.1 c.self.inside.sizes)

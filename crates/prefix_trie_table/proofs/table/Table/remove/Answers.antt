@@ -1,13 +1,14 @@
 use Rattle.std.proofs.Common.{Bool, List, length, take, ap, ◌∙◌, refl, subst}
 use Rattle.std.specs.FinMap.{get}
-use Rattle.prefix_trie_bits.specs.Model.Blocks.{SizesStepDown, LongerByOne, value_block_sizes, child_block_sizes, own_entries, child_count}
+use Rattle.prefix_trie_bits.specs.Model.Blocks.{SizesStepDown, LongerByOne, KeepsBlocks, value_block_sizes, child_block_sizes, own_entries, child_count}
 use Rattle.prefix_trie_bits.specs.Model.Entries.{without_entry}
 use Rattle.prefix_trie_bits.specs.Model.Nodes.{home, nodes_without}
 use Rattle.prefix_trie_bits.specs.Model.Step.{State}
 use Rattle.prefix_trie_table.proofs.Emptying.{removed_is, table_without}
+use Rattle.prefix_trie_table.proofs.KeptBlocks.{kept_blocks}
 use Rattle.prefix_trie_table.proofs.Removed.{removed_shape, removed_only, counted_removed}
 use Rattle.prefix_trie_table.specs.Shape.{Contents}
-use Rattle.prefix_trie_table.proofs.Sizing.{table_sizes}
+use Rattle.prefix_trie_table.proofs.Sizing.{table_sizes, layout_of}
 use Rattle.prefix_trie_table.proofs.Stepped.{removed_values, removed_children, removed_cells_grow, removed_nodes_grow}
 use Rattle.prefix_trie_table.proofs.table.Table.remove.Goals as goal
 
@@ -100,3 +101,13 @@ returns-clause-nodes_longer g c =
     (get c.self-1.given.1.0.0 p) s.room.node_slots (length c.remove_entry.new.nodes.slots)) c.self.view_is
     (removed_nodes_grow q c.self.inside.nodes c.remove_entry.new.nodes c.self.inside.cells c.remove_entry.new.cells c.self.inside.count c.self.inside.shape
     c.self.inside.sizes c.self.invariant c.self-1.given.0 c.self-1.given.1.0 c.remove_entry.ensures.removed)
+
+pub returns-clause-keeps_blocks : goal.returns-clause-keeps_blocks
+returns-clause-keeps_blocks g c =
+    let left = counted_removed (take c.args.len (g.K.Key.bits c.args.key)) c.self.inside.nodes c.remove_entry.new.nodes c.self.inside.cells
+    c.remove_entry.new.cells c.self.inside.count c.remove_entry.new.entries c.self.inside.shape c.self.invariant c.remove_entry.result
+    c.remove_entry.ensures.value c.remove_entry.ensures.removed c.remove_entry.ensures.counted in
+    subst (λ (s : Contents g.row.T.Denot). KeepsBlocks s.layout
+    (layout_of c.remove_entry.new.nodes.slots c.remove_entry.new.nodes.tiers c.remove_entry.new.cells.tiers c.self-1.given.1.0)) c.self.view_is
+    (kept_blocks c.self.inside.nodes c.remove_entry.new.nodes c.self.inside.cells c.remove_entry.new.cells c.self.invariant.held.table left.table
+    c.self.inside.sizes c.self-1.given.1.0 c.remove_entry.ensures.node_room.made c.remove_entry.ensures.cell_room.made)

@@ -1,4 +1,4 @@
-use Rattle.std.proofs.Common.{◌+◌, ◌*◌, ◌≤◌, [], length, take, sym, ap, ◌∙◌, subst, arith}
+use Rattle.std.proofs.Common.{◌≡◌, ◌+◌, ◌*◌, ◌≤◌, [], length, take, sym, ap, ◌∙◌, subst, arith}
 use Rattle.std.specs.FinMap.{len}
 use Rattle.prefix_trie_bits.specs.Model.Entries.{without_below}
 use Rattle.prefix_trie_bits.specs.Model.Nodes.{nodes_without_below}
@@ -7,9 +7,12 @@ use Rattle.prefix_trie_table.specs.Shape.{Contents, same_shape}
 use Rattle.prefix_trie_table.specs.Tables.{IsTableOf}
 use Rattle.prefix_trie_table.proofs.Settling.{settled_room, some_nodes}
 use Rattle.prefix_trie_table.proofs.PartTaken.{all_gone, root_left, seen_trie}
-use Rattle.prefix_trie_table.proofs.Sizing.{table_sizes}
+use Rattle.prefix_trie_table.proofs.KeptBlocks.{kept_blocks}
+use Rattle.prefix_trie_table.proofs.Sizing.{table_sizes, layout_of}
+use Rattle.prefix_trie_table.specs.Settling.{headroom_of}
+use Rattle.prefix_trie_table.proofs.Still.{nodes_settled, cells_settled, still}
 use Rattle.prefix_trie_table.proofs.Stepped.{retained_values, retained_children}
-use Rattle.prefix_trie_bits.specs.Model.Blocks.{SizesStepBetween, value_block_sizes, child_block_sizes, own_entries, child_count}
+use Rattle.prefix_trie_bits.specs.Model.Blocks.{SizesStepBetween, KeepsBlocks, value_block_sizes, child_block_sizes, own_entries, child_count}
 use Rattle.prefix_trie_table.proofs.table.Table.remove_children.Goals as goal
 
 pub returns-then-len-eq0-clause-entries : goal.returns-then-len-eq0-clause-entries
@@ -94,3 +97,52 @@ returns-clause-child_blocks g c = λ _.
     subst (λ (x : Contents g.row.T.Denot). SizesStepBetween child_block_sizes x.nodes (child_count x.nodes) (child_count c.self-1.given.0.0.nodes) x.layout.child_blocks c.self-1.given.1.0.0) c.self.view_is
     (retained_children c.self.inside.nodes c.remove_part.new.nodes c.self.inside.cells c.remove_part.new.cells c.self.inside.shape c.self.inside.sizes
     c.self.invariant.held.table c.self-1.given.0 c.self-1.given.1.0 left.table.held.table c.remove_part.ensures.lasts.children)
+
+pub returns-clause-keeps_blocks : goal.returns-clause-keeps_blocks
+returns-clause-keeps_blocks g c = λ _.
+    let left = c.remove_part.ensures.removed c.self.inside.shape.0
+    (seen_trie g.K.Key.bit_width c.self.inside.count c.self.inside.nodes c.self.inside.cells c.self.inside.shape c.self.invariant _ _
+    (ap (λ (s : Contents g.row.T.Denot). s.entries) c.self.view_is) (ap (λ (s : Contents g.row.T.Denot). s.nodes) c.self.view_is) c.requires.within c.requires.nodes) in
+    let lasts = c.remove_part.ensures.lasts in
+    subst (λ (s : Contents g.row.T.Denot). KeepsBlocks s.layout
+    (layout_of c.remove_part.new.nodes.slots c.remove_part.new.nodes.tiers c.remove_part.new.cells.tiers c.self-1.given.1.0)) c.self.view_is
+    (kept_blocks c.self.inside.nodes c.remove_part.new.nodes c.self.inside.cells c.remove_part.new.cells c.self.invariant.held.table
+    left.table.held.table c.self.inside.sizes c.self-1.given.1.0 lasts.node_made lasts.cell_made)
+
+pub returns-clause-nodes_settle : goal.returns-clause-nodes_settle
+returns-clause-nodes_settle g c = λ _.
+    let left = c.remove_part.ensures.removed c.self.inside.shape.0
+    (seen_trie g.K.Key.bit_width c.self.inside.count c.self.inside.nodes c.self.inside.cells c.self.inside.shape c.self.invariant _ _
+    (ap (λ (s : Contents g.row.T.Denot). s.entries) c.self.view_is) (ap (λ (s : Contents g.row.T.Denot). s.nodes) c.self.view_is) c.requires.within c.requires.nodes) in
+    subst (λ (s : Contents g.row.T.Denot). length c.remove_part.new.nodes.slots + headroom_of c.self-1.given.1.0.0 ≤ s.room.node_slots + headroom_of s.layout.child_blocks) c.self.view_is
+    (nodes_settled c.self.inside.nodes c.remove_part.new.nodes c.self.inside.cells c.remove_part.new.cells c.self.inside.count c.remove_part.new.entries
+    c.self.invariant.held left.table.held c.self.inside.sizes c.self-1.given.1.0 c.remove_part.ensures.lasts.settles)
+
+pub returns-clause-nodes_still : goal.returns-clause-nodes_still
+returns-clause-nodes_still g c = λ _.
+    let left = c.remove_part.ensures.removed c.self.inside.shape.0
+    (seen_trie g.K.Key.bit_width c.self.inside.count c.self.inside.nodes c.self.inside.cells c.self.inside.shape c.self.invariant _ _
+    (ap (λ (s : Contents g.row.T.Denot). s.entries) c.self.view_is) (ap (λ (s : Contents g.row.T.Denot). s.nodes) c.self.view_is) c.requires.within c.requires.nodes) in
+    subst (λ (s : Contents g.row.T.Denot). c.self-1.given.1.0.0 ≡ s.layout.child_blocks → length c.remove_part.new.nodes.slots ≡ s.room.node_slots) c.self.view_is
+    (still _ _ _ _ (nodes_settled c.self.inside.nodes c.remove_part.new.nodes c.self.inside.cells c.remove_part.new.cells c.self.inside.count c.remove_part.new.entries
+    c.self.invariant.held left.table.held c.self.inside.sizes c.self-1.given.1.0 c.remove_part.ensures.lasts.settles)
+    c.remove_part.ensures.lasts.node_slots)
+
+pub returns-clause-cells_settle : goal.returns-clause-cells_settle
+returns-clause-cells_settle g c = λ _.
+    let left = c.remove_part.ensures.removed c.self.inside.shape.0
+    (seen_trie g.K.Key.bit_width c.self.inside.count c.self.inside.nodes c.self.inside.cells c.self.inside.shape c.self.invariant _ _
+    (ap (λ (s : Contents g.row.T.Denot). s.entries) c.self.view_is) (ap (λ (s : Contents g.row.T.Denot). s.nodes) c.self.view_is) c.requires.within c.requires.nodes) in
+    subst (λ (s : Contents g.row.T.Denot). length c.remove_part.new.cells.slots + headroom_of c.self-1.given.1.0.1.0 ≤ s.room.cell_slots + headroom_of s.layout.value_blocks) c.self.view_is
+    (cells_settled c.self.inside.nodes c.remove_part.new.nodes c.self.inside.cells c.remove_part.new.cells c.self.inside.count c.remove_part.new.entries
+    c.self.invariant.held left.table.held c.self.inside.sizes c.self-1.given.1.0 c.remove_part.ensures.lasts.settles)
+
+pub returns-clause-cells_still : goal.returns-clause-cells_still
+returns-clause-cells_still g c = λ _.
+    let left = c.remove_part.ensures.removed c.self.inside.shape.0
+    (seen_trie g.K.Key.bit_width c.self.inside.count c.self.inside.nodes c.self.inside.cells c.self.inside.shape c.self.invariant _ _
+    (ap (λ (s : Contents g.row.T.Denot). s.entries) c.self.view_is) (ap (λ (s : Contents g.row.T.Denot). s.nodes) c.self.view_is) c.requires.within c.requires.nodes) in
+    subst (λ (s : Contents g.row.T.Denot). c.self-1.given.1.0.1.0 ≡ s.layout.value_blocks → length c.remove_part.new.cells.slots ≡ s.room.cell_slots) c.self.view_is
+    (still _ _ _ _ (cells_settled c.self.inside.nodes c.remove_part.new.nodes c.self.inside.cells c.remove_part.new.cells c.self.inside.count c.remove_part.new.entries
+    c.self.invariant.held left.table.held c.self.inside.sizes c.self-1.given.1.0 c.remove_part.ensures.lasts.settles)
+    c.remove_part.ensures.lasts.cell_slots)

@@ -173,9 +173,11 @@ returns-in-Err-clause-asked g c = λ reading paths values holds none.
 
 pub returns-clause-node_room : goal.returns-clause-node_room
 returns-clause-node_room g c = Grows-then c.args.nodes.now c.prepare.new.nodes c.add_entry.new.nodes 56 c.prepare.ensures.node_room c.add_entry.ensures.node_room
+    c.add_entry.ensures.node_made
 
 pub returns-clause-cell_room : goal.returns-clause-cell_room
 returns-clause-cell_room g c = Grows-then c.args.cells.now c.prepare.new.cells c.add_entry.new.cells 31 c.prepare.ensures.cell_room c.add_entry.ensures.cell_room
+    c.add_entry.ensures.cell_made
 
 pub returns-clause-asked : goal.returns-clause-asked
 returns-clause-asked g c = λ reading paths values holds none.

@@ -75,7 +75,7 @@ loop-level-preserved g c =
           (subst (λ n. Pruning reading paths path c.args.way.now n c.loop-level.node c.args.nodes.now c.loop-level.nodes) up
           (c.loop-level.invariant.pruned reading paths hold slots is)) c.child_bit_of.result c.drop_child-node.result c.drop_child-node.new.nodes
           (sym digit) bare back c.drop_child-node.ensures.dropped;
-      room = Grows-after _ _ _ 24 back.room c.drop_child-node.ensures.room;
+      room = Grows-after _ _ _ 24 back.room back.made c.drop_child-node.ensures.room;
       last = λ none. gives_then _ _ _ back (c.drop_child-node.ensures.last none);
       within = omega (arith, below);
     }

@@ -1,15 +1,18 @@
-use Rattle.std.proofs.Common.{◌≡◌, ◌<◌, ◌≤◌, ◌+◌, Some, None, get_or, map, sym, ap, ◌∙◌, refl, subst, arith}
+use Rattle.std.proofs.Common.{◌≡◌, ◌<◌, ◌≤◌, ◌+◌, Some, None, length, get_or, map, sym, ap, ◌∙◌, refl, subst, arith}
 use Rattle.prefix_trie_table.specs.Bitmaps.{rank, bits}
 use Rattle.prefix_trie_table.specs.Cells.{node_sizes, cell_sizes}
+use Rattle.prefix_trie_table.specs.OwnBlocks.{size_if_any}
 use Rattle.prefix_trie_table.specs.Removals.{Shrinks}
+use Rattle.prefix_trie_table.specs.Settling.{headroom_if_any}
 use Rattle.prefix_trie_table.specs.Store.{size_in}
+use Rattle.prefix_trie_table.proofs.Bare.{one_fewer}
 use Rattle.prefix_trie_table.proofs.Bits.{has_bit-is, rank-ones}
 use Rattle.prefix_trie_table.proofs.BitLists.{rank-below, rank-all, map_get}
 use Rattle.prefix_trie_table.proofs.Adding.{at_is, at_values, has_values}
 use Rattle.prefix_trie_table.proofs.Trees.{slot_holds}
 use Rattle.prefix_trie_table.proofs.Values.{values_first}
 use Rattle.prefix_trie_table.proofs.Removing.{values_taken, grows_few, steps_down, may_lengthen, list_fits}
-use Rattle.prefix_trie_table.proofs.Settling.{smaller_cell, value_settles}
+use Rattle.prefix_trie_table.proofs.Settling.{smaller_cell, headroom_cell, value_settles}
 use Rattle.prefix_trie_table.proofs.table.removal.take_value.Goals as goal
 
 pub remove_at-value-requires-clause-holds : goal.remove_at-value-requires-clause-holds
@@ -44,14 +47,17 @@ returns-clause-settles g c =
     let same : c.count.result ≡ rank c.args.node.value_bitmap 32 = c.count.ensures ∙ sym (rank-ones c.args.node.value_bitmap 32 (omega arith)) in
     let list = has_values c.args.nodes.now c.args.cells.now (c.args.at.start + c.args.at.place) c.args.node c.count.result c.requires.stands
     c.requires.node same in
-    let some = rank-below c.args.node.value_bitmap c.args.bit (omega (arith, c.requires.bit)) c.requires.there in
+    let fewer = one_fewer c.without_bit.result c.args.node.value_bitmap c.args.bit c.without_bit.ensures.clears (omega (arith, c.requires.bit)) in
     value_settles c.args.nodes.now c.put.new.self c.args.cells.now c.remove_at-value.new.self (c.args.at.start + c.args.at.place) c.args.node _
     c.requires.node (at_is c.args.nodes.now (c.args.at.start + c.args.at.place) (at_values c.args.nodes.now c.args.cells.now _ c.requires.stands)).1
     c.put.ensures.slots refl
+    (subst (λ n. length c.remove_at-value.new.self.slots
+    + headroom_if_any (size_if_any (rank c.without_bit.result 32) (size_in cell_sizes c.remove_at-value.result.1.tier)) ≤
+    length c.args.cells.now.slots + headroom_if_any (size_if_any n (size_in cell_sizes c.args.node.value_tier))) same
     (steps_down c.args.cells.now c.remove_at-value.new.self c.args.node.value_tier c.count.result
     c.remove_at-value.result.1.tier _ _ c.remove_at-value.ensures.keeps c.remove_at-value.ensures.turnover None c.args.node.value_block cell_sizes
-    c.requires.stands.cells.sizes_are refl smaller_cell list c.remove_at-value.ensures.smallest (omega (arith, some, same))
-    (λ one. ap (λ r. r.tier) (c.remove_at-value.ensures.gone one)))
+    c.requires.stands.cells.sizes_are refl smaller_cell list c.remove_at-value.ensures.smallest headroom_cell (rank c.without_bit.result 32)
+    (fewer ∙ sym same)))
 
 pub returns-clause-value : goal.returns-clause-value
 returns-clause-value g c = λ reading paths values p n hold cells stands is.

@@ -151,7 +151,7 @@ retain_place-returns-then-is_bare-clause-lasts g t c =
     let kid = place-child place.string c.in-Child.child place.short (sym c.in-Child.is ∙ place.is) in
     let set = ap (has c.args.node.child_bitmap) kid.1 ∙ sym (is_in-child c.args.node.value_bitmap c.args.node.child_bitmap place.string kid.0) ∙ place.set in
     let long = g.met.K.Key.key_laws.bits_length c.args.site.key c.requires.site.key in
-    lasts3 g.K.Key.IsKey g.K.Key.bits g.K.Key.bit_width c.args.nodes.now c.args.site c.args.node c.requires.site long c.args.entries.now c.args.cells.now c.requires.trie.0 c.requires.trie.1 c.in-Child.child place.string kid.0 kid.1 set c.rank.result c.rank.ensures (record { slot = record { start = c.args.node.child_block; place = c.rank.result }; key = c.extend.result; depth = c.args.site.depth + 5 }) c.extend.ensures.key (g.met.K.Key.key_laws.bits_length c.extend.result c.extend.ensures.key) c.extend.ensures.value refl refl c.visit-lower.result c.visit-lower.ensures.node g.F.Keep.asks g.F.Keep.accepts (to_come c.new-places.result) c.new-places.ensures.places (λ u m. (c.new-places.ensures.each u).0 m) (λ u m. (c.new-places.ensures.each u).1 m) c.args.keep.now c.retain_places-left.new.keep c.retain_places-left.new.entries c.retain_places-left.new.nodes c.retain_places-left.new.cells (c.retain_places-left.ensures.retains c.requires.trie.0 c.requires.trie.1) c.retain_places-left.result c.retain_places-left.ensures.node c.retain_places-left.ensures.lasts (c.is_bare.ensures.bare c.if-is_bare.true) c.drop_child.result c.drop_child.new.nodes c.drop_child.ensures.dropped c.drop_child.ensures.room.limit_is c.drop_child.ensures.room.longer c.drop_child.ensures.room.within
+    lasts3 g.K.Key.IsKey g.K.Key.bits g.K.Key.bit_width c.args.nodes.now c.args.site c.args.node c.requires.site long c.args.entries.now c.args.cells.now c.requires.trie.0 c.requires.trie.1 c.in-Child.child place.string kid.0 kid.1 set c.rank.result c.rank.ensures (record { slot = record { start = c.args.node.child_block; place = c.rank.result }; key = c.extend.result; depth = c.args.site.depth + 5 }) c.extend.ensures.key (g.met.K.Key.key_laws.bits_length c.extend.result c.extend.ensures.key) c.extend.ensures.value refl refl c.visit-lower.result c.visit-lower.ensures.node g.F.Keep.asks g.F.Keep.accepts (to_come c.new-places.result) c.new-places.ensures.places (λ u m. (c.new-places.ensures.each u).0 m) (λ u m. (c.new-places.ensures.each u).1 m) c.args.keep.now c.retain_places-left.new.keep c.retain_places-left.new.entries c.retain_places-left.new.nodes c.retain_places-left.new.cells (c.retain_places-left.ensures.retains c.requires.trie.0 c.requires.trie.1) c.retain_places-left.result c.retain_places-left.ensures.node c.retain_places-left.ensures.lasts (c.is_bare.ensures.bare c.if-is_bare.true) c.drop_child.result c.drop_child.new.nodes c.drop_child.ensures.dropped c.drop_child.ensures.room.limit_is c.drop_child.ensures.room.longer c.drop_child.ensures.room.within c.drop_child.ensures.room.made
 
 pub retain_place-returns-else-is_bare-clause-retains : goal.retain_place-returns-else-is_bare-clause-retains
 retain_place-returns-else-is_bare-clause-retains g t c = λ u few is x h.

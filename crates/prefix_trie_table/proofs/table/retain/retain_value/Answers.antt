@@ -7,6 +7,7 @@ use Rattle.prefix_trie_table.proofs.Bits.{has_bit-is}
 use Rattle.prefix_trie_table.proofs.Retained.{site_holds, site_values}
 use Rattle.prefix_trie_table.proofs.Rooms.{Grows-none}
 use Rattle.prefix_trie_table.proofs.Seen.{short, value_slot, value_got, value_some, value_room, key_filled, may_ask_here, stays_here, goes_here, counted_here, above_here, values_here, children_here, site_here, trie_goes}
+use Rattle.prefix_trie_table.proofs.Turnovers.{made_same}
 use Rattle.prefix_trie_table.proofs.table.retain.retain_value.Goals as goal
 
 pub at-requires : goal.at-requires
@@ -75,7 +76,7 @@ pub returns-clause-retains : goal.returns-clause-retains
 returns-clause-retains g c = λ t few is before trie.
     let long = g.met.K.Key.key_laws.bits_length c.args.site.key c.requires.site.key in
     let got = value_got g.K.Key.IsKey g.K.Key.bits g.K.Key.bit_width c.args.nodes.now c.args.site c.args.node c.requires.site long c.args.entries.now c.args.cells.now before trie c.args.bit c.string_of-n.result.0 c.string_of-n.result.1 c.requires.bit c.string_of-n.ensures.short c.string_of-n.ensures.bit c.requires.set c.rank.result c.at.result.now c.rank.ensures c.at.ensures.slot in
-    let later = trie_goes g.K.Key.IsKey g.K.Key.bits g.K.Key.bit_width c.args.nodes.now c.args.site c.args.node c.requires.site long c.args.entries.now c.args.cells.now before trie c.args.bit c.string_of-n.result.0 c.string_of-n.result.1 c.requires.bit c.string_of-n.ensures.short c.string_of-n.ensures.bit c.requires.set c.take_value.result.0 c.take_value.result.1 c.take_value.new.nodes c.take_value.new.cells c.take_value.ensures.value c.take_value.ensures.taken (c.args.entries.now - 1) refl (Grows-none _ _ 24 c.take_value.ensures.node_room) c.take_value.ensures.cell_room in
+    let later = trie_goes g.K.Key.IsKey g.K.Key.bits g.K.Key.bit_width c.args.nodes.now c.args.site c.args.node c.requires.site long c.args.entries.now c.args.cells.now before trie c.args.bit c.string_of-n.result.0 c.string_of-n.result.1 c.requires.bit c.string_of-n.ensures.short c.string_of-n.ensures.bit c.requires.set c.take_value.result.0 c.take_value.result.1 c.take_value.new.nodes c.take_value.new.cells c.take_value.ensures.value c.take_value.ensures.taken (c.args.entries.now - 1) refl (Grows-none _ _ 24 c.take_value.ensures.node_room c.take_value.ensures.node_tiers) c.take_value.ensures.cell_room in
     subst (λ u. RetainsTo g.F.Keep.asks g.F.Keep.accepts g.K.Key.bit_width (take c.args.site.depth (g.K.Key.bits c.args.site.key)) (u ∷ []) c.args.keep.now before c.keeps.new.self (c.args.entries.now - 1) c.take_value.new.nodes c.take_value.new.cells)
     (sym (c.string_of-n.ensures.only t is))
     (goes_here g.K.Key.IsKey g.K.Key.bits g.K.Key.bit_width c.args.nodes.now c.args.site c.args.node c.requires.site long c.args.entries.now c.args.cells.now before trie c.args.bit c.string_of-n.result.0 c.string_of-n.result.1 c.requires.bit c.string_of-n.ensures.short c.string_of-n.ensures.bit c.requires.set c.extend.result c.extend.ensures.value g.F.Keep.asks g.F.Keep.accepts c.in-Some.value.now (got ∙ (sym c.as_ref.ensures.value ∙ ap option_copied c.in-Some.is)) c.args.keep.now c.keeps.new.self c.keeps.result (c.args.entries.now - 1) c.take_value.new.nodes c.take_value.new.cells c.keeps.ensures c.if-keeps.false later)
@@ -95,6 +96,8 @@ returns-clause-lasts g c =
       cell_limit = c.take_value.ensures.cell_room.limit_is;
       cell_slots = c.take_value.ensures.cell_room.longer;
       settles = c.take_value.ensures.settles;
+      node_made = made_same c.args.nodes.now c.take_value.new.nodes c.take_value.ensures.node_tiers;
+      cell_made = c.take_value.ensures.cell_room.made;
       values = values_here g.K.Key.IsKey g.K.Key.bits g.K.Key.bit_width c.args.nodes.now c.args.site c.args.node c.requires.site long c.args.entries.now c.args.cells.now c.requires.trie.0 c.requires.trie.1 c.args.bit c.string_of-n.result.0 c.string_of-n.result.1 c.requires.bit c.string_of-n.ensures.short c.string_of-n.ensures.bit c.requires.set c.take_value.result.0 c.take_value.result.1 c.take_value.new.nodes c.take_value.new.cells c.take_value.ensures.value c.take_value.ensures.taken;
       children = children_here g.K.Key.IsKey g.K.Key.bits g.K.Key.bit_width c.args.nodes.now c.args.site c.args.node c.requires.site long c.args.entries.now c.args.cells.now c.requires.trie.0 c.requires.trie.1 c.args.bit c.string_of-n.result.0 c.string_of-n.result.1 c.requires.bit c.string_of-n.ensures.short c.string_of-n.ensures.bit c.requires.set c.take_value.result.0 c.take_value.result.1 c.take_value.new.nodes c.take_value.new.cells c.take_value.ensures.value c.take_value.ensures.taken;
     }
