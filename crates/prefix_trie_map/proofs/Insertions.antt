@@ -13,7 +13,7 @@ use Rattle.prefix_trie_bits.proofs.Model.NodeSets.{has-with_needed, AreNodes-no_
 use Rattle.prefix_trie_table.specs.Shape.{Contents}
 use Rattle.prefix_trie_map.specs.Steps.{state, inserted}
 
-not_stored : (b : Bool) → (IsTrue b → ⊥) → b ≡ false
+pub not_stored : (b : Bool) → (IsTrue b → ⊥) → b ≡ false
 not_stored true h = absurd (h refl)
 not_stored false h = refl
 

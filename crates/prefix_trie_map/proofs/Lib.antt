@@ -9,3 +9,4 @@ pub mod Retained
 pub mod Loans
 pub mod Copying
 pub mod Rooms
+pub mod Storing

@@ -1,4 +1,4 @@
--- What `retain` asks of a user's test, by the prefixes that it shows.
+-- What `retain` asks of a user's test, by the prefixes that it shows. This project's own.
 use Rattle.std.specs.Prelude.{◌≡◌, Bool, List}
 use Rattle.std.specs.Borrow.{Bor}
 use Rattle.std.specs.Fn.{Mut, Takes, Called}

@@ -1,4 +1,4 @@
--- What a map ends as, where a `&mut` to one of its values is returned.
+-- What a map ends as, where a `&mut` to one of its values is returned. This project's own.
 use Rattle.std.specs.Prelude.{Bool, List, Option}
 use Rattle.std.specs.Option.{option_map}
 use Rattle.std.specs.Borrow.{LendsIf, Fml, RattleType, MutBor}

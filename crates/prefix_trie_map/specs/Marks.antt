@@ -1,4 +1,4 @@
--- The number that a tally stands for.
+-- The number that a tally stands for. This project's own.
 use Rattle.std.specs.Prelude.{ℕ, ◌+◌, Option, Some, None}
 use Rattle.std.specs.declared.snapshot.Snapshot.{Snapshot}
 

@@ -1,8 +1,8 @@
--- A map as a state of the model, and an insertion as a step of it. This project's own.
+-- A map as a state of the model, beside how it is stored, and an insertion as a step of the model. This project's own.
 use Rattle.std.specs.Prelude.{Option, Result, Ok, Err}
 use Rattle.prefix_trie_bits.specs.declared.prefix.Refused.{Refused}
 use Rattle.prefix_trie_bits.specs.Model.Step.{State, Reply}
-use Rattle.prefix_trie_bits.specs.Model.Room.{Room}
+use Rattle.prefix_trie_bits.specs.Model.Storage.{Storage}
 use Rattle.prefix_trie_table.specs.Shape.{Contents}
 
 module _ {T : Type 0} where
@@ -10,9 +10,13 @@ module _ {T : Type 0} where
   abbrev pub state : Contents T → State T
   state map = record { entries = map.entries; nodes = map.nodes }
 
-  -- the same, beside its room
-  abbrev pub in_room : Contents T → State T × Room
-  in_room map = (state map, map.room)
+  -- how it is stored
+  abbrev pub storage : Contents T → Storage
+  storage map = record { room = map.room; layout = map.layout }
+
+  -- both
+  abbrev pub stored : Contents T → State T × Storage
+  stored map = (state map, storage map)
 
   -- what an insertion answers, as a reply of the model
   abbrev pub inserted : {P : Type 0} → Result (Option T) (Refused T) → Reply P T

@@ -7,12 +7,12 @@ ghost use Rattle.std.specs.Prelude.{◌≡◌, ℕ, ◌+◌, ◌-◌, ◌^◌, �
 ghost use Rattle.std.specs.FinMap.{get, contains_key, len};
 ghost use Rattle.prefix_trie_bits.specs.declared.prefix.Refusal.TheVariants.{Memory, IndexRange};
 ghost use Rattle.prefix_trie_bits.specs.Model.Blocks.{no_layout};
-ghost use Rattle.prefix_trie_bits.specs.Model.Insertion.{PassesLimit, TakesBlocks, node_slots_lacking, cell_slots_lacking, child_block_needed, value_block_needed};
 ghost use Rattle.prefix_trie_bits.specs.Model.Entries.{no_entries, with_entry};
 ghost use Rattle.prefix_trie_bits.specs.Model.Nodes.{root_alone, with_needed};
 ghost use Rattle.prefix_trie_bits.specs.Model.Room.{LeavesRoom, MayPassLimit};
 ghost use Rattle.prefix_trie_bits.specs.Model.Step.{Step, Insert};
-ghost use Rattle.prefix_trie_map.specs.Steps.{state, inserted};
+ghost use Rattle.prefix_trie_bits.specs.Model.Storage.{InsertsInStorage, RefusesInStorage};
+ghost use Rattle.prefix_trie_map.specs.Steps.{state, storage, inserted};
 
 mod clone;
 mod counting;
@@ -120,36 +120,20 @@ impl<P: Prefix, T: Drop, A: Allocator> PrefixMap<P, T, A> {
         // A refusal changes neither the entries nor the nodes.
         ensures unchanged { OnErr result ((self.new.entries ≡ self.old.entries) × (self.new.nodes ≡ self.old.nodes)) }
         ensures returned { IfErr result (λ refused. refused.value ≡ value) }
+
+        // A stored key is never refused, and needs no block.
+        ensures stored { IsTrue (contains_key self.old.entries (P.path prefix)) → IsOk result × (storage self.new ≡ storage self.old) }
+
+        // A new key takes free blocks, and makes exactly those that lack.
+        ensures inserts { contains_key self.old.entries (P.path prefix) ≡ false → OnOk result
+            (InsertsInStorage (state self.old) (P.path prefix) (storage self.old) (storage self.new)) }
+
+        // It is refused only where a block lacks, and with `IndexRange` only where the slots of those that lack pass the limit.
+        ensures refuses { IfErr result (λ refused.
+            RefusesInStorage (state self.old) (P.path prefix) refused.cause (storage self.old) (storage self.new)) }
         ensures range { IfErr result (λ refused. refused.cause ≡ IndexRange → MayPassLimit self.old.room) }
-
-        // `IndexRange` is answered only where the slots of the blocks that lack pass the limit. Where no block lacks, the
-        // insertion is not refused.
-        ensures exact_range { IfErr result (λ refused. refused.cause ≡ IndexRange → PassesLimit self.old.entries self.old.nodes self.old.room self.old.layout (P.path prefix)) }
-        ensures granted { node_slots_lacking self.old.nodes self.old.layout (P.path prefix) ≡ 0
-            → cell_slots_lacking self.old.entries self.old.layout (P.path prefix) ≡ 0 → IsOk result }
-
-        // A new key takes free blocks, and makes exactly those that lack; refused, no more than those. Each node that needed a
-        // block has it then, and the others have theirs.
-        ensures node_growth { contains_key self.old.entries (P.path prefix) ≡ false → MatchResult result
-            (λ _. self.new.room.node_slots ≡ self.old.room.node_slots + node_slots_lacking self.old.nodes self.old.layout (P.path prefix))
-            (λ _. self.new.room.node_slots ≤ self.old.room.node_slots + node_slots_lacking self.old.nodes self.old.layout (P.path prefix)) }
-        ensures cell_growth { contains_key self.old.entries (P.path prefix) ≡ false → MatchResult result
-            (λ _. self.new.room.cell_slots ≡ self.old.room.cell_slots + cell_slots_lacking self.old.entries self.old.layout (P.path prefix))
-            (λ _. self.new.room.cell_slots ≤ self.old.room.cell_slots + cell_slots_lacking self.old.entries self.old.layout (P.path prefix)) }
-        ensures child_blocks { contains_key self.old.entries (P.path prefix) ≡ false → MatchResult result
-            (λ _. TakesBlocks (child_block_needed self.old.nodes self.old.layout.child_blocks (P.path prefix)) self.old.layout.child_blocks self.new.layout.child_blocks)
-            (λ _. self.new.layout.child_blocks ≡ self.old.layout.child_blocks) }
-        ensures value_blocks { contains_key self.old.entries (P.path prefix) ≡ false → MatchResult result
-            (λ _. TakesBlocks (value_block_needed self.old.entries self.old.layout.value_blocks (P.path prefix)) self.old.layout.value_blocks self.new.layout.value_blocks)
-            (λ _. self.new.layout.value_blocks ≡ self.old.layout.value_blocks) }
-
-        // A stored key needs no room, and is never refused. The blocks stay as they are.
-        ensures stored { IsTrue (contains_key self.old.entries (P.path prefix)) → IsOk result × (self.new.room ≡ self.old.room) }
-        ensures layout { IsTrue (contains_key self.old.entries (P.path prefix)) → self.new.layout ≡ self.old.layout }
-        ensures limit { self.new.room.limit ≡ self.old.room.limit }
         ensures node_slots { (self.old.room.node_slots ≤ self.new.room.node_slots) × (self.new.room.node_slots ≤ self.old.room.node_slots + 56) }
         ensures cell_slots { (self.old.room.cell_slots ≤ self.new.room.cell_slots) × (self.new.room.cell_slots ≤ self.old.room.cell_slots + 31) }
-        ensures within { (self.new.room.node_slots ≤ self.new.room.limit) × (self.new.room.cell_slots ≤ self.new.room.limit) }
         ensures leaves { LeavesRoom (len self.old.nodes) self.old.room self.new.room }
 
         // All this is one step of the model.

@@ -35,7 +35,7 @@ impl<P: Prefix, T: Drop, A: Allocator> PrefixMap<P, T, A> {
         Cover::over(walk)
     }
 
-    /// The stored prefixes that contain this one, as `cover` gives them.
+    /// The stored prefixes that contain this one, the shortest first: those of `cover`.
     #[inline]
     pub fn cover_keys(&self, prefix: &P) -> CoverKeys<'_, P, T, A>
         requires { P.IsFitting prefix.now }
@@ -47,7 +47,7 @@ impl<P: Prefix, T: Drop, A: Allocator> PrefixMap<P, T, A> {
         CoverKeys::new(self.cover(prefix))
     }
 
-    /// The values stored for the prefixes that contain this one, as `cover` gives them.
+    /// The values stored for the prefixes that contain this one, that of the shortest first: those of `cover`.
     #[inline]
     pub fn cover_values(&self, prefix: &P) -> CoverValues<'_, P, T, A>
         requires { P.IsFitting prefix.now }

@@ -48,24 +48,31 @@ fn network(addr: u32, len: u8) -> Result<Ipv4Prefix, Fail>
     Ok(Ipv4Prefix::new(addr, len).ok_or("a length above 32")?)
 }
 
+// Inserts networks that are not stored, each beside its value.
+fn put_all<A: Allocator>(
+    map: &mut PrefixMap<Ipv4Prefix, u32, A>,
+    rows: &[(u32, u8, u32)],
+) -> Result<(), Fail> {
+    for (addr, len, value) in rows {
+        if map.insert(network(*addr, *len)?, *value) != Ok(None) {
+            return Err(Fail::new("an insertion"));
+        }
+    }
+    Ok(())
+}
+
 // Six networks: four in a row, and two beside them.
 fn six_networks(alloc: Global) -> Result<PrefixMap<Ipv4Prefix, u32, Global>, Fail> {
     let mut map = PrefixMap::new(alloc)?;
-    let networks = [
-        (0x0a00_0000, 8),
-        (0x0a01_0000, 16),
-        (0x0a01_0100, 24),
-        (0x0a01_0200, 24),
-        (0x0a01_0100, 25),
-        (0x0b00_0000, 8),
+    let rows = [
+        (0x0a00_0000, 8, 0),
+        (0x0a01_0000, 16, 1),
+        (0x0a01_0100, 24, 2),
+        (0x0a01_0200, 24, 3),
+        (0x0a01_0100, 25, 4),
+        (0x0b00_0000, 8, 5),
     ];
-    let mut value = 0_u32;
-    for (addr, len) in networks {
-        if map.insert(network(addr, len)?, value) != Ok(None) {
-            return Err(Fail::new("an insertion"));
-        }
-        value = value.wrapping_add(1);
-    }
+    put_all(&mut map, &rows)?;
     Ok(map)
 }
 

@@ -17,6 +17,13 @@ use std::marker::{Model, PhantomData};
 impl<P: Prefix, T: Drop, A: Allocator> PrefixMap<P, T, A> {
     /// The entries in listing order: a prefix comes before those that it contains, and of two that differ in a bit the one
     /// with 0 comes first. Prefixes come without host bits.
+    ///
+    /// ```text
+    /// 10.0.0.0/8, 10.1.0.0/16 and 9.0.0.0/8 are stored with 1, 2 and 3
+    /// map.iter()     gives (9.0.0.0/8, &3), (10.0.0.0/8, &1) and (10.1.0.0/16, &2)
+    /// map.keys()     gives 9.0.0.0/8, 10.0.0.0/8 and 10.1.0.0/16
+    /// map.values()   gives &3, &1 and &2
+    /// ```
     #[inline]
     pub fn iter(&self) -> Iter<'_, P, T, A>
         ensures items { result ≡ shown P.back (listing self.now.entries) }
@@ -30,7 +37,7 @@ impl<P: Prefix, T: Drop, A: Allocator> PrefixMap<P, T, A> {
         Iter::over(walk)
     }
 
-    /// The prefixes in listing order, without host bits.
+    /// The prefixes in listing order, without host bits: those of `iter`.
     #[inline]
     pub fn keys(&self) -> Keys<'_, P, T, A>
         ensures items { result ≡ map (λ e. P.back e.0) (listing self.now.entries) }
@@ -41,7 +48,7 @@ impl<P: Prefix, T: Drop, A: Allocator> PrefixMap<P, T, A> {
         Keys::new(self.iter())
     }
 
-    /// The values, in the listing order of their prefixes.
+    /// The values, in the listing order of their prefixes: those of `iter`.
     #[inline]
     pub fn values(&self) -> Values<'_, P, T, A>
         ensures items { result ≡ map (λ e. e.1) (listing self.now.entries) }

@@ -51,17 +51,16 @@ fn none_below<P: Prefix, A: Allocator>(m: &PrefixMap<P, u32, A>, least: u32) -> 
 // Four entries, two of them below one that has the first three bits.
 fn four_entries(alloc: Global) -> Result<PrefixMap<(u8, u8), char, Global>, Fail> {
     let mut map = PrefixMap::new(alloc)?;
-    let answers = (
+    let answers = [
         map.insert((0xa5, 8), 'd'),
         map.insert((0xbf, 3), 'b'),
         map.insert((0xff, 1), 'a'),
         map.insert((0xa3, 7), 'c'),
-    );
-    if answers == (Ok(None), Ok(None), Ok(None), Ok(None)) {
-        Ok(map)
-    } else {
-        Err(Fail::new("an insertion"))
+    ];
+    if answers != [Ok(None), Ok(None), Ok(None), Ok(None)] {
+        return Err(Fail::new("an insertion"));
     }
+    Ok(map)
 }
 
 #[test]

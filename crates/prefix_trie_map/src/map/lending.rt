@@ -19,6 +19,12 @@ use std::alloc::Allocator;
 impl<P: Prefix, T: Drop, A: Allocator> PrefixMap<P, T, A> {
     /// The value stored for exactly this prefix, for writing. What is written through it is then the value stored, and nothing
     /// else changes.
+    ///
+    /// ```text
+    /// 10.1.0.0/16 is stored with 1
+    /// if let Some(value) = map.get_mut(10.1.0.0/16) { *value = 2; }
+    /// map.get(10.1.0.0/16)                             Some(&2)
+    /// ```
     #[inline]
     pub fn get_mut(&mut self, prefix: &P) -> Option<&mut T>
         requires { P.IsFitting prefix.now }
@@ -28,7 +34,8 @@ impl<P: Prefix, T: Drop, A: Allocator> PrefixMap<P, T, A> {
         self.lend_entry(prefix, &mut Visits::new())
     }
 
-    /// The answer of `get_mut`, and how many nodes it read: each node on the prefix's way once, as `get_counted` does.
+    /// The answer of `get_mut`, and how many nodes it read: each node on the prefix's way once, as `get_counted` does. What was
+    /// written a caller's proof learns from `get_mut` alone.
     #[inline]
     pub fn get_mut_counted(&mut self, prefix: &P) -> (Option<&mut T>, Visits)
         requires { P.IsFitting prefix.now }
@@ -57,6 +64,12 @@ impl<P: Prefix, T: Drop, A: Allocator> PrefixMap<P, T, A> {
 
     /// The value of the longest stored prefix that contains this one, for writing: what `get_lpm_mut` lends, without the
     /// prefix. What is written through it is then the value stored for that prefix, and nothing else changes.
+    ///
+    /// ```text
+    /// 10.0.0.0/8 is stored with 1
+    /// if let Some(value) = map.get_lpm_value_mut(10.2.0.0/16) { *value = 2; }
+    /// map.get(10.0.0.0/8)                                         Some(&2)
+    /// ```
     #[inline]
     pub fn get_lpm_value_mut(&mut self, prefix: &P) -> Option<&mut T>
         requires { P.IsFitting prefix.now }
@@ -70,7 +83,12 @@ impl<P: Prefix, T: Drop, A: Allocator> PrefixMap<P, T, A> {
 
     /// The longest stored prefix that contains this one, without its host bits, and the value stored for it, for writing. A
     /// stored prefix contains itself. What is written through it is then the value stored for that prefix, and nothing else
-    /// changes.
+    /// changes: a caller's proof learns this from `get_lpm_value_mut` alone.
+    ///
+    /// ```text
+    /// 10.0.0.0/8 is stored with 1
+    /// map.get_lpm_mut(10.2.0.0/16)   Some((10.0.0.0/8, value)), with `value` at 1, for writing
+    /// ```
     #[inline]
     pub fn get_lpm_mut(&mut self, prefix: &P) -> Option<(P, &mut T)>
         requires { P.IsFitting prefix.now }
@@ -82,7 +100,8 @@ impl<P: Prefix, T: Drop, A: Allocator> PrefixMap<P, T, A> {
         not_counted(self.get_lpm_mut_counted(prefix))
     }
 
-    /// The answer of `get_lpm_mut`, and how many nodes it read: each node on the prefix's way once, as `get_counted` does.
+    /// The answer of `get_lpm_mut`, and how many nodes it read: each node on the prefix's way once, as `get_counted` does. What
+    /// was written a caller's proof learns from `get_lpm_value_mut` alone.
     #[inline]
     pub fn get_lpm_mut_counted(&mut self, prefix: &P) -> (Option<(P, &mut T)>, Visits)
         requires { P.IsFitting prefix.now }

@@ -15,6 +15,13 @@ use std::alloc::Allocator;
 
 impl<P: Prefix, T: Drop, A: Allocator> PrefixMap<P, T, A> {
     /// The value stored for exactly this prefix.
+    ///
+    /// ```text
+    /// 10.1.0.0/16 is stored with 1
+    /// map.get(10.1.0.0/16)     Some(&1)
+    /// map.get(10.1.2.3/16)     Some(&1), since host bits do not count
+    /// map.get(10.1.0.0/17)     None
+    /// ```
     #[inline]
     pub fn get(&self, prefix: &P) -> Option<&T>
         requires { P.IsFitting prefix.now }
@@ -38,7 +45,7 @@ impl<P: Prefix, T: Drop, A: Allocator> PrefixMap<P, T, A> {
         (answer, visits)
     }
 
-    /// Whether a value is stored for exactly this prefix.
+    /// Whether a value is stored for exactly this prefix, as for `get`.
     #[inline]
     pub fn contains_key(&self, prefix: &P) -> bool
         requires { P.IsFitting prefix.now }
@@ -60,6 +67,11 @@ impl<P: Prefix, T: Drop, A: Allocator> PrefixMap<P, T, A> {
     }
 
     /// This prefix without its host bits, and the value stored for exactly it.
+    ///
+    /// ```text
+    /// 10.1.0.0/16 is stored with 1
+    /// map.get_key_value(10.1.2.3/16)   Some((10.1.0.0/16, &1))
+    /// ```
     #[inline]
     pub fn get_key_value(&self, prefix: &P) -> Option<(P, &T)>
         requires { P.IsFitting prefix.now }
@@ -93,6 +105,13 @@ impl<P: Prefix, T: Drop, A: Allocator> PrefixMap<P, T, A> {
 
     /// The longest stored prefix that contains this one, without its host bits, and the value stored for it. A stored prefix
     /// contains itself.
+    ///
+    /// ```text
+    /// 10.0.0.0/8 is stored with 1, and 10.1.0.0/16 with 2
+    /// map.get_lpm(10.1.2.3/32)   Some((10.1.0.0/16, &2)), and get_spm gives Some((10.0.0.0/8, &1))
+    /// map.get_lpm(10.2.0.0/16)   Some((10.0.0.0/8, &1)), as get_spm
+    /// map.get_lpm(11.0.0.0/8)    None, as get_spm
+    /// ```
     #[inline]
     pub fn get_lpm(&self, prefix: &P) -> Option<(P, &T)>
         requires { P.IsFitting prefix.now }
@@ -120,7 +139,7 @@ impl<P: Prefix, T: Drop, A: Allocator> PrefixMap<P, T, A> {
         (rebuilt_match(key, longest), visits)
     }
 
-    /// The longest stored prefix that contains this one, without its host bits.
+    /// The longest stored prefix that contains this one, without its host bits: the prefix that `get_lpm` gives.
     #[inline]
     pub fn get_lpm_prefix(&self, prefix: &P) -> Option<P>
         requires { P.IsFitting prefix.now }
@@ -142,7 +161,7 @@ impl<P: Prefix, T: Drop, A: Allocator> PrefixMap<P, T, A> {
     }
 
     /// The shortest stored prefix that contains this one, without its host bits, and the value stored for it. A stored
-    /// prefix contains itself.
+    /// prefix contains itself. `get_lpm` has an example of both.
     #[inline]
     pub fn get_spm(&self, prefix: &P) -> Option<(P, &T)>
         requires { P.IsFitting prefix.now }
@@ -171,7 +190,7 @@ impl<P: Prefix, T: Drop, A: Allocator> PrefixMap<P, T, A> {
         (rebuilt_match(key, shortest), visits)
     }
 
-    /// The shortest stored prefix that contains this one, without its host bits.
+    /// The shortest stored prefix that contains this one, without its host bits: the prefix that `get_spm` gives.
     #[inline]
     pub fn get_spm_prefix(&self, prefix: &P) -> Option<P>
         requires { P.IsFitting prefix.now }
@@ -192,7 +211,7 @@ impl<P: Prefix, T: Drop, A: Allocator> PrefixMap<P, T, A> {
         (prefix_of(shortest), visits)
     }
 
-    /// Whether a stored prefix contains this one. A stored prefix contains itself.
+    /// Whether a stored prefix contains this one. A stored prefix contains itself. So it is true where `get_lpm` gives one.
     #[inline]
     pub fn is_covered(&self, prefix: &P) -> bool
         requires { P.IsFitting prefix.now }

@@ -1,12 +1,13 @@
 //! Taking entries out.
-ghost use Rattle.std.specs.Prelude.{◌≡◌, ◌+◌, ◌<◌, ◌≤◌, Bool, List};
+ghost use Rattle.std.specs.Prelude.{◌≡◌, ◌+◌, ◌<◌, ◌≤◌};
 ghost use Rattle.std.specs.FinMap.{get, len};
-ghost use Rattle.prefix_trie_bits.specs.Model.Blocks.{no_layout, SizesStepDown, SizesStepBetween, LongerByOne, value_block_sizes, child_block_sizes, own_entries, child_count};
+ghost use Rattle.prefix_trie_bits.specs.Model.Blocks.{KeepsBlocks};
 ghost use Rattle.prefix_trie_bits.specs.Model.Entries.{no_entries, without_entry, without_below};
-ghost use Rattle.prefix_trie_bits.specs.Model.Nodes.{root_alone, nodes_without, nodes_without_below, home};
+ghost use Rattle.prefix_trie_bits.specs.Model.Nodes.{root_alone, nodes_without, nodes_without_below};
 ghost use Rattle.prefix_trie_bits.specs.Model.Room.{LeavesRoom};
 ghost use Rattle.prefix_trie_bits.specs.Model.Step.{Step, Remove, RemoveKeepTree, RemoveChildren, Clear, Done, Value};
-ghost use Rattle.prefix_trie_map.specs.Steps.{state};
+ghost use Rattle.prefix_trie_bits.specs.Model.Storage.{cleared, RemovesValueInStorage, PrunesInStorage, RemovesManyInStorage};
+ghost use Rattle.prefix_trie_map.specs.Steps.{state, storage};
 
 use crate::map::{PrefixMap, Visits};
 use prefix_trie_bits::prefix::{Key, Prefix};
@@ -27,20 +28,12 @@ impl<P: Prefix, T: Drop, A: Allocator> PrefixMap<P, T, A> {
         ensures value { result ≡ get self.old.entries (P.path prefix.now) }
         ensures entries { self.new.entries ≡ without_entry self.old.entries (P.path prefix.now) }
         ensures nodes { self.new.nodes ≡ nodes_without self.old.nodes self.old.entries (P.path prefix.now) }
-        ensures limit { self.new.room.limit ≡ self.old.room.limit }
         ensures node_slots { (self.old.room.node_slots ≤ self.new.room.node_slots) × (self.new.room.node_slots ≤ self.old.room.node_slots + 24) }
         ensures cell_slots { (self.old.room.cell_slots ≤ self.new.room.cell_slots) × (self.new.room.cell_slots ≤ self.old.room.cell_slots + 24) }
-        ensures within { (self.new.room.node_slots ≤ self.new.room.limit) × (self.new.room.cell_slots ≤ self.new.room.limit) }
         ensures leaves { LeavesRoom (len self.old.nodes) self.old.room self.new.room }
-        ensures value_blocks { SizesStepDown value_block_sizes self.old.layout.free_value_blocks self.old.nodes
-            (own_entries self.old.entries) (own_entries self.new.entries) self.old.layout.value_blocks self.new.layout.value_blocks }
-        ensures child_blocks { SizesStepDown child_block_sizes self.old.layout.free_child_blocks self.old.nodes
-            (child_count self.old.nodes) (child_count self.new.nodes) self.old.layout.child_blocks self.new.layout.child_blocks }
-        ensures cells_longer { LongerByOne value_block_sizes self.old.layout.free_value_blocks
-            (get self.old.layout.value_blocks (home (P.path prefix.now))) (get self.new.layout.value_blocks (home (P.path prefix.now)))
-            self.old.room.cell_slots self.new.room.cell_slots }
-        ensures nodes_longer { (p : List Bool) × LongerByOne child_block_sizes self.old.layout.free_child_blocks
-            (get self.old.layout.child_blocks p) (get self.new.layout.child_blocks p) self.old.room.node_slots self.new.room.node_slots }
+        ensures removes { RemovesValueInStorage (state self.old) (state self.new) (P.path prefix.now) (storage self.old) (storage self.new) }
+        ensures prunes { PrunesInStorage (state self.old) (state self.new) (storage self.old) (storage self.new) }
+        ensures keeps { KeepsBlocks self.old.layout self.new.layout }
 
         // It is one step of the model.
         ensures step { Step P.path P.back P.R.bit_width (state self.old) (Remove prefix.now) (Value result) (state self.new) }
@@ -52,24 +45,25 @@ impl<P: Prefix, T: Drop, A: Allocator> PrefixMap<P, T, A> {
 
     /// Takes the entry of a prefix out, and hands out its value. All nodes stay, those that have nothing left too. Never
     /// refused.
+    ///
+    /// ```text
+    /// map.insert((0_u32, 32_u8), 1)       Ok(None), and node_count is 7
+    /// map.remove_keep_tree(&(0, 32))      Some(1), and node_count is 7
+    /// map.remove(&(0, 32))                None, and node_count is 1
+    /// ```
     #[inline]
     pub fn remove_keep_tree(&mut self, prefix: &P) -> Option<T>
         requires { P.IsFitting prefix.now }
         ensures value { result ≡ get self.old.entries (P.path prefix.now) }
         ensures entries { self.new.entries ≡ without_entry self.old.entries (P.path prefix.now) }
         ensures nodes { self.new.nodes ≡ self.old.nodes }
-        ensures limit { self.new.room.limit ≡ self.old.room.limit }
         ensures node_slots { self.new.room.node_slots ≡ self.old.room.node_slots }
         ensures cell_slots { (self.old.room.cell_slots ≤ self.new.room.cell_slots) × (self.new.room.cell_slots ≤ self.old.room.cell_slots + 24) }
-        ensures within { (self.new.room.node_slots ≤ self.new.room.limit) × (self.new.room.cell_slots ≤ self.new.room.limit) }
         ensures leaves { LeavesRoom (len self.old.nodes) self.old.room self.new.room }
-        ensures value_blocks { SizesStepDown value_block_sizes self.old.layout.free_value_blocks self.old.nodes
-            (own_entries self.old.entries) (own_entries self.new.entries) self.old.layout.value_blocks self.new.layout.value_blocks }
+        ensures removes { RemovesValueInStorage (state self.old) (state self.new) (P.path prefix.now) (storage self.old) (storage self.new) }
         ensures child_blocks { (self.new.layout.child_blocks ≡ self.old.layout.child_blocks)
             × (self.new.layout.free_child_blocks ≡ self.old.layout.free_child_blocks) }
-        ensures cells_longer { LongerByOne value_block_sizes self.old.layout.free_value_blocks
-            (get self.old.layout.value_blocks (home (P.path prefix.now))) (get self.new.layout.value_blocks (home (P.path prefix.now)))
-            self.old.room.cell_slots self.new.room.cell_slots }
+        ensures keeps { KeepsBlocks self.old.layout self.new.layout }
 
         // It is one step of the model.
         ensures step { Step P.path P.back P.R.bit_width (state self.old) (RemoveKeepTree prefix.now) (Value result) (state self.new) }
@@ -96,19 +90,11 @@ impl<P: Prefix, T: Drop, A: Allocator> PrefixMap<P, T, A> {
         requires { P.IsFitting prefix.now }
         ensures entries { self.new.entries ≡ without_below self.old.entries (P.path prefix.now) }
         ensures nodes { self.new.nodes ≡ nodes_without_below self.old.nodes self.old.entries (P.path prefix.now) }
-        ensures limit { self.new.room.limit ≡ self.old.room.limit }
 
         // No slots go, but where all is taken out.
-        ensures cleared { P.len_of prefix.now ≡ 0 → self.new.room
-            ≡ record { limit = self.old.room.limit; node_slots = 1; cell_slots = 0 } }
-        ensures layout { P.len_of prefix.now ≡ 0 → self.new.layout ≡ no_layout }
-        ensures value_blocks { 0 < P.len_of prefix.now → SizesStepBetween value_block_sizes self.old.nodes
-            (own_entries self.old.entries) (own_entries self.new.entries) self.old.layout.value_blocks self.new.layout.value_blocks }
-        ensures child_blocks { 0 < P.len_of prefix.now → SizesStepBetween child_block_sizes self.old.nodes
-            (child_count self.old.nodes) (child_count self.new.nodes) self.old.layout.child_blocks self.new.layout.child_blocks }
-        ensures slots { 0 < P.len_of prefix.now
-            → (self.old.room.node_slots ≤ self.new.room.node_slots) × (self.old.room.cell_slots ≤ self.new.room.cell_slots) }
-        ensures within { (self.new.room.node_slots ≤ self.new.room.limit) × (self.new.room.cell_slots ≤ self.new.room.limit) }
+        ensures cleared { P.len_of prefix.now ≡ 0 → storage self.new ≡ cleared (storage self.old) }
+        ensures removes { 0 < P.len_of prefix.now
+            → RemovesManyInStorage (state self.old) (state self.new) (storage self.old) (storage self.new) }
         ensures leaves { LeavesRoom (len self.old.nodes) self.old.room self.new.room }
 
         // It is one step of the model.
@@ -119,14 +105,17 @@ impl<P: Prefix, T: Drop, A: Allocator> PrefixMap<P, T, A> {
         self.table.remove_children(key, len, &mut Visits::new());
     }
 
-    /// Takes all entries out. It asks for no memory, and gives none back.
+    /// Takes all entries out, and leaves the root alone. It asks for no memory, and gives none back. Never refused.
+    ///
+    /// ```text
+    /// map.clear()
+    /// (map.len(), map.node_count(), map.node_slots(), map.cell_slots())   (0, 1, 1, 0)
+    /// ```
     #[inline]
     pub fn clear(&mut self)
         ensures entries { self.new.entries ≡ no_entries }
         ensures nodes { self.new.nodes ≡ root_alone }
-        ensures room { self.new.room
-            ≡ record { limit = self.old.room.limit; node_slots = 1; cell_slots = 0 } }
-        ensures layout { self.new.layout ≡ no_layout }
+        ensures cleared { storage self.new ≡ cleared (storage self.old) }
         ensures leaves { LeavesRoom (len self.old.nodes) self.old.room self.new.room }
 
         // It is one step of the model.

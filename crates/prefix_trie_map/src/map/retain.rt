@@ -1,13 +1,14 @@
 //! Keeping the entries at which a test says yes.
-ghost use Rattle.std.specs.Prelude.{◌≡◌, ◌≤◌};
+ghost use Rattle.std.specs.Prelude.{◌≡◌};
 ghost use Rattle.std.specs.FinMap.{len};
 ghost use Rattle.prefix_trie_bits.specs.Model.Asking.{AsksInOrder, MayAskInOrder};
-ghost use Rattle.prefix_trie_bits.specs.Model.Blocks.{SizesStepBetween, value_block_sizes, child_block_sizes, own_entries, child_count};
 ghost use Rattle.prefix_trie_bits.specs.Model.Entries.{AreWithin};
 ghost use Rattle.prefix_trie_bits.specs.Model.Nodes.{needed};
 ghost use Rattle.prefix_trie_bits.specs.Model.Room.{LeavesRoom};
 ghost use Rattle.prefix_trie_bits.specs.Model.Selections.{listing};
+ghost use Rattle.prefix_trie_bits.specs.Model.Storage.{RemovesManyInStorage};
 ghost use Rattle.prefix_trie_map.specs.Asking.{AsksAt, TakesAt};
+ghost use Rattle.prefix_trie_map.specs.Steps.{state, storage};
 
 use crate::map::PrefixMap;
 use crate::map::lookup::rebuilt;
@@ -46,18 +47,21 @@ impl<P: Prefix, T: Drop, A: Allocator> PrefixMap<P, T, A> {
     /// Asks a test at each entry once, in listing order, and keeps those at which it answers `true`. The test sees each prefix
     /// without its host bits. Nodes that no entry left needs are gone too. Never refused: for each node that there was the
     /// arrays grow by 56 slots each at most.
+    ///
+    /// Asks that the test may be called at each entry, from each state that the calls before may have left it in; a closure
+    /// without a `requires` may always be.
+    ///
+    /// ```text
+    /// 10.0.0.0/8, 10.1.0.0/16 and 10.1.2.0/24 are stored with 1, 2 and 3
+    /// map.retain(|prefix, value| prefix.prefix_len() < 20 && *value != 1)
+    /// map.keys()                                                            gives 10.1.0.0/16
+    /// ```
     pub fn retain<F: FnMut(&P, &T) -> bool>(&mut self, test: F)
         requires { MayAskInOrder (AsksAt F.FnMut P.back) (TakesAt F.FnMut P.back) test (listing self.old.entries) }
         ensures within { AreWithin P.R.bit_width self.old.entries }
         ensures kept { AsksInOrder (AsksAt F.FnMut P.back) test (listing self.old.entries) (listing self.new.entries) }
         ensures nodes { self.new.nodes ≡ needed self.new.entries }
-        ensures value_blocks { SizesStepBetween value_block_sizes self.old.nodes (own_entries self.old.entries) (own_entries self.new.entries)
-            self.old.layout.value_blocks self.new.layout.value_blocks }
-        ensures child_blocks { SizesStepBetween child_block_sizes self.old.nodes (child_count self.old.nodes) (child_count self.new.nodes)
-            self.old.layout.child_blocks self.new.layout.child_blocks }
-        ensures limit { self.new.room.limit ≡ self.old.room.limit }
-        ensures node_slots { self.old.room.node_slots ≤ self.new.room.node_slots }
-        ensures cell_slots { self.old.room.cell_slots ≤ self.new.room.cell_slots }
+        ensures removes { RemovesManyInStorage (state self.old) (state self.new) (storage self.old) (storage self.new) }
         ensures leaves { LeavesRoom (len self.old.nodes) self.old.room self.new.room }
     {
         let keep = ByPrefix::<P, F> {

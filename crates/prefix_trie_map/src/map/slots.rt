@@ -1,7 +1,7 @@
 //! The slots and the blocks of the two arrays, and the limit that neither passes.
 ghost use Rattle.std.specs.Prelude.{◌≡◌, ◌+◌, ◌≤◌, ◌↔◌, length, IfOk, IfErr, IsErr};
 ghost use Rattle.prefix_trie_bits.specs.declared.prefix.Refusal.TheVariants.{IndexRange};
-ghost use Rattle.prefix_trie_bits.specs.Model.Blocks.{no_layout, child_block_sizes, value_block_sizes};
+ghost use Rattle.prefix_trie_bits.specs.Model.Blocks.{NodesHaveBlocks, no_layout, child_block_sizes, value_block_sizes, child_count, own_entries};
 ghost use Rattle.prefix_trie_bits.specs.Model.Entries.{no_entries};
 ghost use Rattle.prefix_trie_bits.specs.Model.Nodes.{root_alone, parents, holders};
 ghost use Rattle.prefix_trie_table.specs.BlockCounts.{block_counts, slots_counted, used_blocks};
@@ -39,7 +39,7 @@ impl<P: Prefix, T: Drop, A: Allocator + Clone> PrefixMap<P, T, A> {
 
 impl<P: Prefix, T: Drop, A: Allocator> PrefixMap<P, T, A> {
     /// How many slots the array of nodes has, used or free: a new map has 1. Never more than the limit. A change may add
-    /// slots; only `clear` takes them away.
+    /// slots; only `clear` takes them away, and `remove_children` of a prefix of length 0, which is `clear`.
     #[inline]
     pub fn node_slots(&self) -> usize
         ensures slots { result ≡ self.now.room.node_slots }
@@ -58,7 +58,7 @@ impl<P: Prefix, T: Drop, A: Allocator> PrefixMap<P, T, A> {
     }
 
     /// How many blocks of each size the array of nodes has, in use and free: of 1, 2, 4, 8, 16, 24 and 32 slots. Each node with
-    /// children has one in use, and the root stands outside every block.
+    /// children has one in use, which holds them, and the root stands outside every block.
     ///
     /// ```text
     /// map.insert((0x0a010000_u32, 16_u8), 1)   Ok(None), with a node for each five bits on its way
@@ -69,17 +69,19 @@ impl<P: Prefix, T: Drop, A: Allocator> PrefixMap<P, T, A> {
     pub fn node_blocks(&self) -> [BlockCount; 7]
         ensures counts { result ≡ block_counts child_block_sizes self.now.layout.child_blocks self.now.layout.free_child_blocks }
         ensures slots { self.now.room.node_slots ≡ 1 + slots_counted result }
+        ensures blocks { NodesHaveBlocks child_block_sizes self.now.nodes (child_count self.now.nodes) self.now.layout.child_blocks }
         ensures used { used_blocks result ≡ length (parents self.now.nodes) }
     {
         self.table.node_blocks()
     }
 
     /// How many blocks of each size the array of values has, in use and free: of 1, 2, 4, 8, 16, 24 and 31 slots. Each node with
-    /// values of its own has one in use.
+    /// values of its own has one in use, which holds them.
     #[inline]
     pub fn cell_blocks(&self) -> [BlockCount; 7]
         ensures counts { result ≡ block_counts value_block_sizes self.now.layout.value_blocks self.now.layout.free_value_blocks }
         ensures slots { self.now.room.cell_slots ≡ slots_counted result }
+        ensures blocks { NodesHaveBlocks value_block_sizes self.now.nodes (own_entries self.now.entries) self.now.layout.value_blocks }
         ensures used { used_blocks result ≡ length (holders self.now.entries self.now.nodes) }
     {
         self.table.cell_blocks()

@@ -1,10 +1,8 @@
-use Rattle.std.proofs.Common.{◌≡◌, ◌∙◌, sym, ◌+◌, ◌≤◌, Bool, false, List, MatchResult, IfErr, OnOk, OnErr, IsOk, IsTrue, take, subst, arith}
-use Rattle.std.specs.FinMap.{contains_key}
+use Rattle.std.proofs.Common.{◌≡◌, ◌∙◌, sym, ◌+◌, ◌≤◌, Bool, List, IfErr, OnOk, OnErr, take, subst, arith}
 use Rattle.prefix_trie_bits.specs.declared.prefix.Refusal.TheVariants.{IndexRange}
 use Rattle.prefix_trie_bits.specs.Model.Entries.{with_entry}
 use Rattle.prefix_trie_bits.specs.Model.Nodes.{with_needed}
 use Rattle.prefix_trie_bits.specs.Model.Room.{MayPassLimit}
-use Rattle.prefix_trie_bits.specs.Model.Insertion.{PassesLimit, TakesBlocks, node_slots_lacking, cell_slots_lacking, child_block_needed, value_block_needed}
 use Rattle.prefix_trie_bits.specs.Keys.{path_within}
 use Rattle.prefix_trie_bits.specs.Laws.Steps.{IsMap}
 use Rattle.prefix_trie_table.specs.Shape.{Contents}
@@ -13,6 +11,7 @@ use Rattle.prefix_trie_bits.proofs.Model.Steps.{stays_map}
 use Rattle.prefix_trie_map.specs.Steps.{state, inserted}
 use Rattle.prefix_trie_map.proofs.Insertions.{Inserts, Step-inserted}
 use Rattle.prefix_trie_map.proofs.Rooms.{leaves_few}
+use Rattle.prefix_trie_map.proofs.Storing.{Stores, stays_stored, inserts_in_storage, refuses_in_storage}
 use Rattle.prefix_trie_map.proofs.map.PrefixMap.insert.Given as given
 use Rattle.prefix_trie_map.proofs.map.PrefixMap.insert.Goals as goal
 
@@ -59,47 +58,31 @@ by_path g c F fact =
     let key = key_is g c in
     subst (λ old. F old (g.P.Prefix.path c.args.prefix)) c.self.view_is (subst (F c.self.inside.table) key fact)
 
-pub returns-clause-exact_range : goal.returns-clause-exact_range
-returns-clause-exact_range g c =
-    by_path g c (λ old q. IfErr c.insert.result (λ refused. refused.cause ≡ IndexRange → PassesLimit old.entries old.nodes old.room old.layout q))
-    c.insert.ensures.exact_range
-
-pub returns-clause-granted : goal.returns-clause-granted
-returns-clause-granted g c =
-    by_path g c (λ old q. node_slots_lacking old.nodes old.layout q ≡ 0 → cell_slots_lacking old.entries old.layout q ≡ 0 → IsOk c.insert.result)
-    c.insert.ensures.granted
-
-pub returns-clause-node_growth : goal.returns-clause-node_growth
-returns-clause-node_growth g c =
-    by_path g c (λ old q. contains_key old.entries q ≡ false → MatchResult c.insert.result
-    (λ _. c.insert.new.self.room.node_slots ≡ old.room.node_slots + node_slots_lacking old.nodes old.layout q)
-    (λ _. c.insert.new.self.room.node_slots ≤ old.room.node_slots + node_slots_lacking old.nodes old.layout q)) c.insert.ensures.node_slots
-
-pub returns-clause-cell_growth : goal.returns-clause-cell_growth
-returns-clause-cell_growth g c =
-    by_path g c (λ old q. contains_key old.entries q ≡ false → MatchResult c.insert.result
-    (λ _. c.insert.new.self.room.cell_slots ≡ old.room.cell_slots + cell_slots_lacking old.entries old.layout q)
-    (λ _. c.insert.new.self.room.cell_slots ≤ old.room.cell_slots + cell_slots_lacking old.entries old.layout q)) c.insert.ensures.cell_slots
-
-pub returns-clause-child_blocks : goal.returns-clause-child_blocks
-returns-clause-child_blocks g c =
-    by_path g c (λ old q. contains_key old.entries q ≡ false → MatchResult c.insert.result
-    (λ _. TakesBlocks (child_block_needed old.nodes old.layout.child_blocks q) old.layout.child_blocks c.insert.new.self.layout.child_blocks)
-    (λ _. c.insert.new.self.layout.child_blocks ≡ old.layout.child_blocks)) c.insert.ensures.child_blocks
-
-pub returns-clause-value_blocks : goal.returns-clause-value_blocks
-returns-clause-value_blocks g c =
-    by_path g c (λ old q. contains_key old.entries q ≡ false → MatchResult c.insert.result
-    (λ _. TakesBlocks (value_block_needed old.entries old.layout.value_blocks q) old.layout.value_blocks c.insert.new.self.layout.value_blocks)
-    (λ _. c.insert.new.self.layout.value_blocks ≡ old.layout.value_blocks)) c.insert.ensures.value_blocks
-
-pub returns-clause-layout : goal.returns-clause-layout
-returns-clause-layout g c =
-    by_path g c (λ old q. IsTrue (contains_key old.entries q) → c.insert.new.self.layout ≡ old.layout) c.insert.ensures.layout
+-- what the table's clauses say of its blocks, by the prefix's path
+stores : (g : given.Over) (c : goal.After-drop-prefix g) → Stores c.args.self.now c.insert.new.self (g.P.Prefix.path c.args.prefix) c.insert.result
+stores g c =
+    let made = c.insert.ensures in
+    by_path g c (λ old q. Stores old c.insert.new.self q c.insert.result) (record {
+      stored = made.stored;
+      layout = made.layout;
+      exact_range = made.exact_range;
+      granted = made.granted;
+      node_slots = made.node_slots;
+      cell_slots = made.cell_slots;
+      child_blocks = made.child_blocks;
+      value_blocks = made.value_blocks;
+      keeps = made.keeps_blocks;
+      no_fewer = (made.room.1, made.room.3);
+    })
 
 pub returns-clause-stored : goal.returns-clause-stored
-returns-clause-stored g c =
-    by_path g c (λ old q. IsTrue (contains_key old.entries q) → IsOk c.insert.result × (c.insert.new.self.room ≡ old.room)) c.insert.ensures.stored
+returns-clause-stored g c = stays_stored c.args.self.now c.insert.new.self _ c.insert.result (stores g c)
+
+pub returns-clause-inserts : goal.returns-clause-inserts
+returns-clause-inserts g c = inserts_in_storage c.args.self.now c.insert.new.self _ c.insert.result (stores g c)
+
+pub returns-clause-refuses : goal.returns-clause-refuses
+returns-clause-refuses g c = refuses_in_storage c.args.self.now c.insert.new.self _ c.insert.result (stores g c)
 
 pub returns-clause-entries : goal.returns-clause-entries
 returns-clause-entries g c =
@@ -115,9 +98,6 @@ returns-clause-unchanged g c =
 pub returns-clause-range : goal.returns-clause-range
 returns-clause-range g c =
     by_path g c (λ old q. IfErr c.insert.result (λ refused. refused.cause ≡ IndexRange → MayPassLimit old.room)) c.insert.ensures.range
-
-pub returns-clause-limit : goal.returns-clause-limit
-returns-clause-limit g c = by_path g c (λ old q. c.insert.new.self.room.limit ≡ old.room.limit) c.insert.ensures.room.0
 
 pub returns-clause-node_slots : goal.returns-clause-node_slots
 returns-clause-node_slots g c =

@@ -1,8 +1,9 @@
-use Rattle.std.proofs.Common.{subst}
+use Rattle.std.proofs.Common.{◌≡◌, ◌<◌, sym, ◌∙◌, subst}
 use Rattle.std.specs.FinMap.{len}
 use Rattle.prefix_trie_bits.specs.Model.Room.{LeavesRoom}
+use Rattle.prefix_trie_bits.specs.Model.Storage.{cleared, RemovesManyInStorage}
 use Rattle.prefix_trie_table.specs.Shape.{Contents}
-use Rattle.prefix_trie_map.specs.Steps.{state}
+use Rattle.prefix_trie_map.specs.Steps.{state, storage}
 use Rattle.prefix_trie_map.proofs.Removals.{IsMap-below}
 use Rattle.prefix_trie_map.proofs.map.PrefixMap.remove_children.Goals as goal
 
@@ -27,4 +28,29 @@ returns-clause-leaves g c =
       cells_within = e.limit.2;
       nodes_grow = e.nodes_grow;
       cells_grow = e.cells_grow;
+    })
+
+pub returns-clause-cleared : goal.returns-clause-cleared
+returns-clause-cleared g c none =
+    let len : c.from-len.result ≡ g.P.Prefix.len_of c.args.prefix.now = c.from-len.ensures ∙ c.prefix_len.ensures in
+    let room = c.remove_children.ensures.cleared (len ∙ none) in
+    let layout = c.remove_children.ensures.layout (len ∙ none) in
+    subst (λ (m : Contents g.row.T.Denot). storage c.remove_children.new.self ≡ cleared (storage m)) c.self.view_is
+    (λ i. record { room = room i; layout = layout i })
+
+pub returns-clause-removes : goal.returns-clause-removes
+returns-clause-removes g c some =
+    let e = c.remove_children.ensures in
+    let len : c.from-len.result ≡ g.P.Prefix.len_of c.args.prefix.now = c.from-len.ensures ∙ c.prefix_len.ensures in
+    let part : 0 < c.from-len.result = subst (λ n. 0 < n) (sym len) some in
+    let left = c.remove_children.new.self in
+    subst (λ (m : Contents g.row.T.Denot). RemovesManyInStorage (state m) (state left) (storage m) (storage left)) c.self.view_is
+    (record {
+      value_blocks = e.value_blocks part;
+      child_blocks = e.child_blocks part;
+      node_slots = (e.room part).0;
+      cell_slots = (e.room part).1;
+      nodes_still = e.nodes_still part;
+      cells_still = e.cells_still part;
+      keeps = e.keeps_blocks part;
     })

@@ -1,9 +1,8 @@
 use Rattle.std.proofs.Common.{arith, rules, ◌≡◌, take, subst}
-use Rattle.std.specs.FinMap.{get}
-use Rattle.prefix_trie_bits.specs.Model.Blocks.{LongerByOne, value_block_sizes}
-use Rattle.prefix_trie_bits.specs.Model.Nodes.{home}
+use Rattle.prefix_trie_bits.specs.Model.Blocks.{KeepsBlocks}
+use Rattle.prefix_trie_bits.specs.Model.Storage.{RemovesValueInStorage}
 use Rattle.prefix_trie_table.specs.Shape.{Contents}
-use Rattle.prefix_trie_map.specs.Steps.{state}
+use Rattle.prefix_trie_map.specs.Steps.{state, storage}
 use Rattle.prefix_trie_map.proofs.Removals.{IsMap-removed}
 use Rattle.prefix_trie_map.proofs.Rooms.{leaves_few}
 use Rattle.prefix_trie_map.proofs.map.PrefixMap.remove_keep_tree.Goals as goal
@@ -22,11 +21,15 @@ returns-clause-leaves g c =
     leaves_few g.P.R.Key.bit_width c.self.inside.table _ c.remove_keep_tree.new.self.room c.self.view_is c.self.invariant.are_nodes room.0 limit.0 limit.1
     (omega (arith, nodes)) (omega (arith, cells))
 
-pub returns-clause-cells_longer : goal.returns-clause-cells_longer
-returns-clause-cells_longer g c =
+pub returns-clause-removes : goal.returns-clause-removes
+returns-clause-removes g c =
     let path = g.P.Prefix.path c.args.prefix.now in
     let key : take c.from-len.result (g.P.R.Key.bits c.repr-key.result) ≡ path = search rules in
-    subst (λ (m : Contents g.row.T.Denot). LongerByOne value_block_sizes m.layout.free_value_blocks (get m.layout.value_blocks (home path))
-    (get c.remove_keep_tree.new.self.layout.value_blocks (home path)) m.room.cell_slots c.remove_keep_tree.new.self.room.cell_slots) c.self.view_is
-    (subst (λ q. LongerByOne value_block_sizes c.self.inside.table.layout.free_value_blocks (get c.self.inside.table.layout.value_blocks (home q))
-    (get c.remove_keep_tree.new.self.layout.value_blocks (home q)) c.self.inside.table.room.cell_slots c.remove_keep_tree.new.self.room.cell_slots) key c.remove_keep_tree.ensures.cells_longer)
+    let left = c.remove_keep_tree.new.self in
+    subst (λ (m : Contents g.row.T.Denot). RemovesValueInStorage (state m) (state left) path (storage m) (storage left)) c.self.view_is
+    (subst (λ q. RemovesValueInStorage (state c.self.inside.table) (state left) q (storage c.self.inside.table) (storage left)) key
+    (record { value_blocks = c.remove_keep_tree.ensures.value_blocks; cells_longer = c.remove_keep_tree.ensures.cells_longer }))
+
+pub returns-clause-keeps : goal.returns-clause-keeps
+returns-clause-keeps g c =
+    subst (λ (m : Contents g.row.T.Denot). KeepsBlocks m.layout c.remove_keep_tree.new.self.layout) c.self.view_is c.remove_keep_tree.ensures.keeps_blocks

@@ -2,9 +2,10 @@ use Rattle.std.proofs.Common.{subst}
 use Rattle.std.specs.FinMap.{len}
 use Rattle.prefix_trie_bits.specs.Model.Entries.{AreWithin}
 use Rattle.prefix_trie_bits.specs.Model.Room.{LeavesRoom}
+use Rattle.prefix_trie_bits.specs.Model.Storage.{RemovesManyInStorage}
 use Rattle.prefix_trie_table.specs.Shape.{Contents}
 use Rattle.prefix_trie_map.proofs.Retained.{IsMap-tidied}
-use Rattle.prefix_trie_map.specs.Steps.{state}
+use Rattle.prefix_trie_map.specs.Steps.{state, storage}
 use Rattle.prefix_trie_map.proofs.map.PrefixMap.retain.Goals as goal
 
 pub retain-requires-clause-within : goal.retain-requires-clause-within
@@ -26,4 +27,19 @@ returns-clause-leaves g c =
       cells_within = e.limit.1;
       nodes_grow = e.nodes_grow;
       cells_grow = e.cells_grow;
+    })
+
+pub returns-clause-removes : goal.returns-clause-removes
+returns-clause-removes g c =
+    let e = c.retain.ensures in
+    let left = c.retain.new.self in
+    subst (λ (m : Contents g.row.T.Denot). RemovesManyInStorage (state m) (state left) (storage m) (storage left)) c.self.view_is
+    (record {
+      value_blocks = e.value_blocks;
+      child_blocks = e.child_blocks;
+      node_slots = e.room.1;
+      cell_slots = e.room.2;
+      nodes_still = e.nodes_still;
+      cells_still = e.cells_still;
+      keeps = e.keeps_blocks;
     })
