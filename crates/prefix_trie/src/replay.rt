@@ -3,11 +3,12 @@ ghost use Rattle.std.specs.Prelude.{◌≡◌, ◌≤◌, All, IfOk, OnErr, Matc
 ghost use Rattle.std.specs.FinMap.{len};
 ghost use Rattle.prefix_trie_bits.specs.Model.Entries.{part_at_least};
 ghost use Rattle.prefix_trie_bits.specs.Model.Nodes.{needed};
-ghost use Rattle.prefix_trie_bits.specs.Model.Room.{LeavesRoom, StepInRoom, RunInRoom};
+ghost use Rattle.prefix_trie_bits.specs.Model.Room.{LeavesRoom};
 ghost use Rattle.prefix_trie_bits.specs.Model.Selections.{listing, listing_covering, shown};
 ghost use Rattle.prefix_trie_bits.specs.Model.Step.{Run, Items, Refused};
+ghost use Rattle.prefix_trie_bits.specs.Model.Storage.{RemovesManyInStorage, StepInStorage, RunInStorage};
 ghost use Rattle.prefix_trie_bits.specs.declared.prefix.Refusal.TheVariants.{Memory};
-ghost use Rattle.prefix_trie_map.specs.Steps.{state, in_room};
+ghost use Rattle.prefix_trie_map.specs.Steps.{state, stored};
 ghost use Rattle.prefix_trie_map.specs.Walks.{lent_item};
 ghost use Rattle.prefix_trie.specs.Replay.{IsFittingCall, call_of, calls_of, reply_of, replies_of};
 
@@ -106,9 +107,9 @@ pub fn run<P: Prefix, A: Allocator + Clone>(
     ensures run { IfOk result (λ replies. Run P.path P.back P.R.bit_width
         (state map.old) (calls_of calls.now) (replies_of replies.items) (state map.new)) }
 
-    // And one that sees the room: a new key is refused for want of slots only where the slots of one insertion may pass the limit.
-    ensures run_in_room { IfOk result (λ replies. RunInRoom P.path P.back P.R.bit_width
-        (in_room map.old) (calls_of calls.now) (replies_of replies.items) (in_room map.new)) }
+    // And one that sees how the map is stored: which blocks each call takes, how far the arrays grow, and when a new key is refused.
+    ensures run_in_storage { IfOk result (λ replies. RunInStorage P.path P.back P.R.bit_width
+        (stored map.old) (calls_of calls.now) (replies_of replies.items) (stored map.new)) }
     ensures one_each { IfOk result (λ replies. vec_len replies ≡ length calls.now) }
     ensures none_carried_out { OnErr result (map.new ≡ map.old) }
 {
@@ -127,8 +128,8 @@ fn answer<P: Prefix, A: Allocator + Clone>(
     call: &Call<P>,
 ) -> Reply<P, A>
     requires { IsFittingCall P.IsFitting call.now }
-    ensures { StepInRoom P.path P.back P.R.bit_width
-        (in_room map.old) (call_of call.now) (reply_of result) (in_room map.new) }
+    ensures { StepInStorage P.path P.back P.R.bit_width
+        (stored map.old) (call_of call.now) (reply_of result) (stored map.new) }
 {
     read_slots(map);
     match call {
@@ -174,6 +175,7 @@ fn retain_at_least<P: Prefix, A: Allocator>(map: &mut PrefixMap<P, u64, A>, leas
     ensures kept { map.new.entries ≡ part_at_least map.old.entries least }
     ensures nodes { map.new.nodes ≡ needed map.new.entries }
     ensures leaves { LeavesRoom (len map.old.nodes) map.old.room map.new.room }
+    ensures storage { RemovesManyInStorage (state map.old) (state map.new) (stored map.old).1 (stored map.new).1 }
 {
     map.retain(|prefix, _| least <= prefix.prefix_len());
 }

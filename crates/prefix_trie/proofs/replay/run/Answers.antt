@@ -1,8 +1,8 @@
 use Rattle.std.proofs.Common.{List, subst, arith}
 use Rattle.std.proofs.lemmas.List.{take_all}
-use Rattle.prefix_trie_bits.specs.Model.Room.{StepInRoom, RunInRoom}
-use Rattle.prefix_trie_bits.proofs.Model.Runs.{run_push, run_of_in_room}
-use Rattle.prefix_trie_map.specs.Steps.{in_room}
+use Rattle.prefix_trie_bits.specs.Model.Storage.{StepInStorage, RunInStorage}
+use Rattle.prefix_trie_bits.proofs.Model.Runs.{run_push, run_of_stored}
+use Rattle.prefix_trie_map.specs.Steps.{stored}
 use Rattle.prefix_trie.specs.Replay.{call_of, reply_of, calls_of, replies_of}
 use Rattle.prefix_trie.specs.declared.replay.Call.{Call}
 use Rattle.prefix_trie.proofs.replay.run.Goals as goal
@@ -13,13 +13,13 @@ loop-call-preserved g c =
     record {
       each = omega (arith, c.push_reserved.ensures.len, before.each);
       room = omega (arith, c.push_reserved.ensures.capacity, before.room);
-      run = run_push (StepInRoom g.P.Prefix.path g.P.Prefix.back g.P.R.Key.bit_width) call_of reply_of (in_room c.args.map.now) (in_room c.loop-call.map) (in_room c.answer-reply.new.map)
+      run = run_push (StepInStorage g.P.Prefix.path g.P.Prefix.back g.P.R.Key.bit_width) call_of reply_of (stored c.args.map.now) (stored c.loop-call.map) (stored c.answer-reply.new.map)
           c.args.calls.now c.loop-call.replies.items c.push_reserved.new.self.items c.loop-call.call-index c.call-item.result c.answer-reply.result
           c.loop-call-test.true c.call-item.is c.push_reserved.ensures.items before.run c.answer-reply.ensures;
     }
 
 pub returns-clause-run : goal.returns-clause-run
 returns-clause-run g c =
-    run_of_in_room g.P.Prefix.path g.P.Prefix.back g.P.R.Key.bit_width _ _ _ _
-    (subst (λ (cs : List (Call g.row.P.Denot)). RunInRoom g.P.Prefix.path g.P.Prefix.back g.P.R.Key.bit_width (in_room c.args.map.now) (calls_of cs) (replies_of c.loop-call.replies.items) (in_room c.loop-call.map))
+    run_of_stored g.P.Prefix.path g.P.Prefix.back g.P.R.Key.bit_width _ _ _ _
+    (subst (λ (cs : List (Call g.row.P.Denot)). RunInStorage g.P.Prefix.path g.P.Prefix.back g.P.R.Key.bit_width (stored c.args.map.now) (calls_of cs) (replies_of c.loop-call.replies.items) (stored c.loop-call.map))
     (take_all c.loop-call.call-index c.args.calls.now (omega (arith, c.loop-call-test.false))) c.loop-call.invariant.run)

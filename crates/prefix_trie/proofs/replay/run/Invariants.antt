@@ -1,6 +1,6 @@
 use Rattle.std.proofs.Common.{◌≡◌, ◌≤◌, length, take, vec_len, vec_capacity}
-use Rattle.prefix_trie_bits.specs.Model.Room.{RunInRoom}
-use Rattle.prefix_trie_map.specs.Steps.{in_room}
+use Rattle.prefix_trie_bits.specs.Model.Storage.{RunInStorage}
+use Rattle.prefix_trie_map.specs.Steps.{stored}
 use Rattle.prefix_trie.specs.Replay.{calls_of, replies_of}
 use Rattle.prefix_trie.proofs.replay.run.Given as goal
 
@@ -9,5 +9,5 @@ abbrev pub invariant-loop-call : goal.invariant-loop-call
 invariant-loop-call g l = record {
   each : vec_len l.replies ≡ l.call-index;
   room : length l.calls ≤ vec_capacity l.replies;
-  run : RunInRoom g.P.Prefix.path g.P.Prefix.back g.P.R.Key.bit_width (in_room l.fn.map) (calls_of (take l.call-index l.calls)) (replies_of l.replies.items) (in_room l.map);
+  run : RunInStorage g.P.Prefix.path g.P.Prefix.back g.P.R.Key.bit_width (stored l.fn.map) (calls_of (take l.call-index l.calls)) (replies_of l.replies.items) (stored l.map);
 }
