@@ -207,3 +207,45 @@ fn no_matches(rt: HostRuntime) -> Result<(), Fail> {
 fn a_counter_has_no_bytes(rt: HostRuntime) {
     assert_eq!(rt; size_of::<Visits>(), 0);
 }
+
+/// Row 12's insertion into a new map, with one request refused, and again with none. Answers whether one was refused, or None where
+/// the map was not then what it was before, or afterwards not what it should be.
+fn host_refused(heap: &Refusing<Global>, passed: u64) -> Result<Option<bool>, Fail> {
+    let mut map = PrefixMap::new(heap)?;
+    let before = heap.requests();
+    heap.refuse(passed, 1);
+    let answer = map.insert((0_u32, 32_u8), 9_u8);
+    heap.refuse(0, 0);
+    if answer == Ok(None) {
+        let was_refused = passed < heap.requests().wrapping_sub(before);
+        return Ok(if was_refused { None } else { Some(false) });
+    }
+    let is_unchanged = answer
+        == Err(Refused {
+            cause: Refusal::Memory,
+            value: 9,
+        })
+        && (map.len(), map.node_count()) == (0, 1);
+    let is_added = map.insert((0, 32), 9) == Ok(None) && map.node_count() == 7;
+    Ok(if is_unchanged && is_added {
+        Some(true)
+    } else {
+        None
+    })
+}
+
+#[test]
+fn each_request_of_a_first_insertion_refused(rt: HostRuntime) -> Result<(), Fail> {
+    let heap = Refusing::new(rt.alloc());
+    let mut refusals = 0;
+    for passed in 0..MANY {
+        let refused = host_refused(&heap, passed)?;
+        assert!(rt; refused.is_some(), "at {passed}");
+        if refused == Some(false) {
+            break;
+        }
+        refusals = passed + 1;
+    }
+    assert!(rt; 0 < refusals && refusals < MANY);
+    Ok(())
+}
