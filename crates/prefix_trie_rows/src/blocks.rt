@@ -1,4 +1,5 @@
 //! The rows of blocks: how both arrays of a map are cut, and which blocks are free.
+use crate::asks::{Map, adds, removes};
 use prefix_trie::{BlockCount, PrefixMap, Refusal, Refused};
 use std::alloc::Global;
 
@@ -64,28 +65,45 @@ fn lists_as_inserted(map: &Small) -> bool {
 /// Row 14: a root with a value at each of its places, on the way to which a block of each size was made.
 pub fn of_a_full_root(alloc: Global) -> Result<bool, Refusal> {
     let map = full_root(alloc)?;
-    Ok(
-        map.len() == 31
-            && map.node_slots() == 1
-            && map.cell_slots() == 86
-            && lists_as_inserted(&map)
-            && are(
-                map.cell_blocks(),
-                VALUE_SIZES,
-                [0, 0, 0, 0, 0, 0, 1],
-                [1, 1, 1, 1, 1, 1, 0],
-            ),
-    )
+    Ok(has_a_block_of_each_size(&map))
 }
+
+/// Whether a full root lists all that was inserted, and stands in the greatest block with one of each other size free.
+fn has_a_block_of_each_size(map: &Small) -> bool {
+    map.len() == 31
+        && map.node_slots() == 1
+        && map.cell_slots() == 86
+        && lists_as_inserted(map)
+        && are(
+            map.cell_blocks(),
+            VALUE_SIZES,
+            [0, 0, 0, 0, 0, 0, 1],
+            [1, 1, 1, 1, 1, 1, 0],
+        )
+}
+
+/// A map of keys of eight bits to numbers of eight bits.
+type Bytes = PrefixMap<(u8, u8), u8, Global>;
 
 /// Row 15: all addresses of eight bits. Nodes take the blocks that others outgrew.
 pub fn of_all_addresses(alloc: Global) -> Result<bool, Refusal> {
     let mut map = PrefixMap::new(alloc)?;
+    insert_all(&mut map)?;
+    Ok(has_taken_outgrown_blocks(&map) && is_cleared(&mut map))
+}
+
+/// Inserts all addresses of eight bits, each as its own value.
+fn insert_all(map: &mut Bytes) -> Result<(), Refusal> {
     for addr in 0..=255_u8 {
-        map.insert((addr, 8_u8), addr)
+        map.insert((addr, 8), addr)
             .map_err(|refused| refused.cause)?;
     }
-    let filled = map.len() == 256
+    Ok(())
+}
+
+/// Whether of the blocks that were outgrown one of each size is free, and all others are in use.
+fn has_taken_outgrown_blocks(map: &Bytes) -> bool {
+    map.len() == 256
         && map.node_count() == 33
         && map.node_slots() == 88
         && map.cell_slots() == 263
@@ -100,59 +118,93 @@ pub fn of_all_addresses(alloc: Global) -> Result<bool, Refusal> {
             VALUE_SIZES,
             [0, 0, 0, 32, 0, 0, 0],
             [1, 1, 1, 0, 0, 0, 0],
-        );
-    map.clear();
-    Ok(filled && map.node_slots() == 1 && map.cell_slots() == 0)
+        )
 }
+
+/// Clears a map, and answers whether that leaves one slot for the root, and none for values.
+fn is_cleared(map: &mut Bytes) -> bool {
+    map.clear();
+    map.node_slots() == 1 && map.cell_slots() == 0
+}
+
+/// The prefixes that row 17 takes out of a full root.
+const TAKEN_OUT: [(u8, u8); 7] = [
+    (192, 2),
+    (192, 3),
+    (192, 4),
+    (208, 4),
+    (224, 3),
+    (224, 4),
+    (240, 4),
+];
 
 /// Row 17: removals step down to free blocks, and an insertion takes the free block that it needs.
 pub fn stepped_down(alloc: Global) -> Result<bool, Refusal> {
     let mut map = full_root(alloc)?;
-    for (addr, len) in [
-        (192, 2),
-        (192, 3),
-        (192, 4),
-        (208, 4),
-        (224, 3),
-        (224, 4),
-        (240, 4),
-    ] {
-        map.remove(&(addr, len));
+    take_out(&mut map);
+    Ok(has_stepped_down(&map) && steps_up_again(&mut map))
+}
+
+/// Takes the seven values out.
+fn take_out(map: &mut Small) {
+    for prefix in TAKEN_OUT {
+        map.remove(&prefix);
     }
-    let removed = map.len() == 24
+}
+
+/// Whether the 24 values that are left stand in the block of their number.
+fn has_stepped_down(map: &Small) -> bool {
+    map.len() == 24
         && map.cell_slots() == 86
         && are(
             map.cell_blocks(),
             VALUE_SIZES,
             [0, 0, 0, 0, 0, 1, 0],
             [1, 1, 1, 1, 1, 0, 1],
-        );
-    Ok(
-        removed
-            && map.insert((240, 4), 1) == Ok(None)
-            && map.cell_slots() == 86
-            && are(
-                map.cell_blocks(),
-                VALUE_SIZES,
-                [0, 0, 0, 0, 0, 0, 1],
-                [1, 1, 1, 1, 1, 1, 0],
-            ),
-    )
+        )
 }
+
+/// Whether one value more takes the greatest block again.
+fn steps_up_again(map: &mut Small) -> bool {
+    map.insert((240, 4), 1) == Ok(None)
+        && map.cell_slots() == 86
+        && are(
+            map.cell_blocks(),
+            VALUE_SIZES,
+            [0, 0, 0, 0, 0, 0, 1],
+            [1, 1, 1, 1, 1, 1, 0],
+        )
+}
+
+/// The first and the last host of keys of 32 bits.
+const FIRST: (u32, u8) = (0, 32);
+
+const LAST: (u32, u8) = (0xffff_ffff, 32);
 
 /// Row 37: the nodes of two hosts. What one leaves the other takes.
 pub fn of_two_hosts(alloc: Global) -> Result<bool, Refusal> {
     let mut map = PrefixMap::new(alloc)?;
-    let host = (0_u32, 32_u8);
-    let last = (0xffff_ffff, 32);
-    let first_way = map.insert(host, 1_u8) == Ok(None)
+    Ok(
+        last_takes_what_first_left(&mut map)
+            && first_comes_again(&mut map)
+            && last_leaves_its_nodes(&mut map),
+    )
+}
+
+/// Whether in a new map the last host takes the slots that the first has left.
+fn last_takes_what_first_left(map: &mut Map<(u32, u8)>) -> bool {
+    adds(map, FIRST, 1)
         && (map.node_slots(), map.cell_slots()) == (7, 1)
-        && map.remove(&host) == Some(1)
+        && removes(map, FIRST, 1)
         && (map.node_slots(), map.cell_slots()) == (7, 1)
         && are(map.node_blocks(), NODE_SIZES, [0; 7], [6, 0, 0, 0, 0, 0, 0])
-        && map.insert(last, 2) == Ok(None)
-        && (map.node_slots(), map.cell_slots()) == (7, 1);
-    let both_ways = map.insert(host, 3) == Ok(None)
+        && adds(map, LAST, 2)
+        && (map.node_slots(), map.cell_slots()) == (7, 1)
+}
+
+/// Whether the first host then shares no more than the root with the last.
+fn first_comes_again(map: &mut Map<(u32, u8)>) -> bool {
+    adds(map, FIRST, 3)
         && map.node_count() == 13
         && (map.node_slots(), map.cell_slots()) == (14, 2)
         && are(
@@ -160,41 +212,67 @@ pub fn of_two_hosts(alloc: Global) -> Result<bool, Refusal> {
             NODE_SIZES,
             [10, 1, 0, 0, 0, 0, 0],
             [1, 0, 0, 0, 0, 0, 0],
-        );
+        )
+}
+
+/// Whether the last host leaves its own nodes, and the root goes back to a block of one.
+fn last_leaves_its_nodes(map: &mut Map<(u32, u8)>) -> bool {
+    removes(map, LAST, 2)
+        && map.node_count() == 7
+        && (map.node_slots(), map.cell_slots()) == (14, 2)
+        && are(
+            map.node_blocks(),
+            NODE_SIZES,
+            [6, 0, 0, 0, 0, 0, 0],
+            [5, 1, 0, 0, 0, 0, 0],
+        )
+        && are(
+            map.cell_blocks(),
+            VALUE_SIZES,
+            [1, 0, 0, 0, 0, 0, 0],
+            [1, 0, 0, 0, 0, 0, 0],
+        )
+}
+
+/// Row 38: where the limit has no room for a smaller block, a removal keeps the block, and a copy of the map has it too.
+pub fn kept_under_a_limit(alloc: Global) -> Result<bool, Refusal> {
+    Ok(kept_without_room(alloc)? && given_back_with_room(alloc)?)
+}
+
+/// A limit of three slots has no room for the smaller block.
+fn kept_without_room(alloc: Global) -> Result<bool, Refusal> {
+    let mut map = PrefixMap::with_slot_limit(alloc, 3)?;
+    keeps_its_block(&mut map)
+}
+
+/// A limit of four slots has room for it.
+fn given_back_with_room(alloc: Global) -> Result<bool, Refusal> {
+    let mut map = PrefixMap::with_slot_limit(alloc, 4)?;
+    Ok(takes_one_out(&mut map) && has_a_smaller_block(&map))
+}
+
+/// Whether a new map keeps the block and copies it, and the block takes a value again but no other block is to be had.
+fn keeps_its_block(map: &mut Map<(u8, u8)>) -> Result<bool, Refusal> {
     Ok(
-        first_way
-            && both_ways
-            && map.remove(&last) == Some(2)
-            && map.node_count() == 7
-            && (map.node_slots(), map.cell_slots()) == (14, 2)
-            && are(
-                map.node_blocks(),
-                NODE_SIZES,
-                [6, 0, 0, 0, 0, 0, 0],
-                [5, 1, 0, 0, 0, 0, 0],
-            )
-            && are(
-                map.cell_blocks(),
-                VALUE_SIZES,
-                [1, 0, 0, 0, 0, 0, 0],
-                [1, 0, 0, 0, 0, 0, 0],
-            ),
+        takes_one_out(map)
+            && has_kept_its_block(map)
+            && copy_has_kept_its_block(map)?
+            && takes_one_in_again(map),
     )
 }
 
-/// A map under a limit, with two values in the root and one in a child, from which one of the root's was taken out again.
-fn with_one_taken_out(alloc: Global, limit: u32) -> Result<Option<Small>, Refusal> {
-    let mut map = PrefixMap::with_slot_limit(alloc, limit)?;
-    let filled = map.insert((0, 1), 1) == Ok(None)
-        && map.insert((128, 1), 2) == Ok(None)
-        && map.insert((0, 5), 3) == Ok(None)
-        && (map.node_slots(), map.cell_slots()) == (2, 3);
-    let taken = map.remove(&(0, 1)) == Some(1);
-    Ok(if filled && taken { Some(map) } else { None })
+/// Inserts two values in the root and one in a child, and takes one of the root's out again. Answers whether all came out as in
+/// a new map.
+fn takes_one_out(map: &mut Map<(u8, u8)>) -> bool {
+    adds(map, (0, 1), 1)
+        && adds(map, (128, 1), 2)
+        && adds(map, (0, 5), 3)
+        && (map.node_slots(), map.cell_slots()) == (2, 3)
+        && removes(map, (0, 1), 1)
 }
 
 /// Whether the root has kept its block of two for the value that is left, and nothing is free.
-fn has_kept_its_block(map: &Small) -> bool {
+fn has_kept_its_block(map: &Map<(u8, u8)>) -> bool {
     (map.node_slots(), map.cell_slots()) == (2, 3)
         && are(
             map.cell_blocks(),
@@ -205,32 +283,31 @@ fn has_kept_its_block(map: &Small) -> bool {
         && are(map.node_blocks(), NODE_SIZES, [1, 0, 0, 0, 0, 0, 0], [0; 7])
 }
 
-/// Row 38: where the limit has no room for a smaller block, a removal keeps the block, and a copy of the map has it too.
-pub fn kept_under_a_limit(alloc: Global) -> Result<bool, Refusal> {
-    let Some(mut map) = with_one_taken_out(alloc, 3)? else {
-        return Ok(false);
-    };
-    let Some(roomy) = with_one_taken_out(alloc, 4)? else {
-        return Ok(false);
-    };
+/// Whether a copy has it too.
+fn copy_has_kept_its_block(map: &Map<(u8, u8)>) -> Result<bool, Refusal> {
     let copy = map.clone().map_err(|_| Refusal::Memory)?;
+    Ok(has_kept_its_block(&copy))
+}
+
+/// Whether the value comes back to the block that was kept, and the next one, for which there is no block, is refused.
+fn takes_one_in_again(map: &mut Map<(u8, u8)>) -> bool {
     let refused = Err(Refused {
         cause: Refusal::IndexRange,
         value: 5,
     });
-    Ok(
-        has_kept_its_block(&map)
-            && has_kept_its_block(&copy)
-            && map.insert((0, 1), 4) == Ok(None)
-            && map.cell_slots() == 3
-            && map.insert((64, 2), 5) == refused
-            && map.len() == 3
-            && roomy.cell_slots() == 4
-            && are(
-                roomy.cell_blocks(),
-                VALUE_SIZES,
-                [2, 0, 0, 0, 0, 0, 0],
-                [0, 1, 0, 0, 0, 0, 0],
-            ),
-    )
+    adds(map, (0, 1), 4)
+        && map.cell_slots() == 3
+        && map.insert((64, 2), 5) == refused
+        && map.len() == 3
+}
+
+/// Whether the value that is left has moved to a block of one, and the block of two is free.
+fn has_a_smaller_block(map: &Map<(u8, u8)>) -> bool {
+    map.cell_slots() == 4
+        && are(
+            map.cell_blocks(),
+            VALUE_SIZES,
+            [2, 0, 0, 0, 0, 0, 0],
+            [0, 1, 0, 0, 0, 0, 0],
+        )
 }

@@ -1,5 +1,6 @@
 //! The rows of limits.
-use prefix_trie::replay::{Call, Reply, run};
+use crate::runs::{Answer, is_count, is_list, is_refused, is_value};
+use prefix_trie::replay::{Call, run};
 use prefix_trie::{PrefixMap, Refusal, Refused};
 use std::alloc::Global;
 
@@ -7,17 +8,19 @@ use std::alloc::Global;
 /// map exists under a limit of 0.
 pub fn of_four_slots(alloc: Global) -> Result<bool, Refusal> {
     let mut map = PrefixMap::with_slot_limit(alloc, 4)?;
+    Ok(takes_what_fits(&mut map) && is_index_range(PrefixMap::with_slot_limit(alloc, 0)))
+}
+
+/// Whether a new map of four slots refuses a host, has still its root alone, and takes a value for that.
+fn takes_what_fits(map: &mut PrefixMap<(u32, u8), u64, Global>) -> bool {
     let refused = Err(Refused {
         cause: Refusal::IndexRange,
         value: 1,
     });
-    Ok(
-        map.insert((0_u32, 32_u8), 1_u64) == refused
-            && map.len() == 0
-            && map.node_count() == 1
-            && map.insert((0, 4), 2) == Ok(None)
-            && is_index_range(PrefixMap::with_slot_limit(alloc, 0)),
-    )
+    map.insert((0, 32), 1) == refused
+        && map.len() == 0
+        && map.node_count() == 1
+        && map.insert((0, 4), 2) == Ok(None)
 }
 
 /// Whether a map was refused since its limit has no room for the root.
@@ -40,14 +43,17 @@ pub fn run_under_two_slots(alloc: Global) -> Result<bool, Refusal> {
         Call::List,
     ];
     let replies = run(alloc, &mut map, &calls).map_err(|_| Refusal::Memory)?;
-    Ok(match replies.as_slice() {
-        [
-            Reply::Value(None),
-            Reply::Refused(Refusal::IndexRange),
-            Reply::Value(Some(1)),
-            Reply::Count(2),
-            Reply::Entries(entries),
-        ] => entries.as_slice() == [((0, 8), 3)].as_slice(),
-        _ => false,
-    })
+    Ok(refuse_the_second(&replies))
+}
+
+/// Whether the second insertion alone was refused.
+fn refuse_the_second(replies: &[Answer]) -> bool {
+    let [added, refused, set, nodes, list] = replies else {
+        return false;
+    };
+    is_value(added, None)
+        && is_refused(refused, Refusal::IndexRange)
+        && is_value(set, Some(1))
+        && is_count(nodes, 2)
+        && is_list(list, &[((0, 8), 3)])
 }

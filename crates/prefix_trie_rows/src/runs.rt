@@ -15,17 +15,20 @@ pub fn replies_in_order(alloc: Global) -> Result<bool, Refusal> {
         Call::Len,
     ];
     let replies = run(alloc, &mut map, &calls).map_err(|_| Refusal::Memory)?;
-    let [inserted, found, nodes, list, cleared, len] = replies.as_slice() else {
-        return Ok(false);
+    Ok(are_in_order(&replies))
+}
+
+/// Whether each reply is that to its call.
+fn are_in_order(replies: &[Answer]) -> bool {
+    let [inserted, found, nodes, list, cleared, len] = replies else {
+        return false;
     };
-    Ok(
-        is_value(inserted, None)
-            && is_match(found, Some(((0, 1), 7)))
-            && is_count(nodes, 1)
-            && is_list(list, &[((0, 1), 7)])
-            && is_done(cleared)
-            && is_count(len, 0),
-    )
+    is_value(inserted, None)
+        && is_match(found, Some(((0, 1), 7)))
+        && is_count(nodes, 1)
+        && is_list(list, &[((0, 1), 7)])
+        && is_done(cleared)
+        && is_count(len, 0)
 }
 
 /// Row 28: the bits behind a prefix's length count for nothing, and replies show prefixes without them.
@@ -42,25 +45,28 @@ pub fn host_bits(alloc: Global) -> Result<bool, Refusal> {
         Call::List,
     ];
     let replies = run(alloc, &mut map, &calls).map_err(|_| Refusal::Memory)?;
-    let [root, half, whole, in_half, in_root, absent, len, list] = replies.as_slice() else {
-        return Ok(false);
+    Ok(show_no_host_bits(&replies))
+}
+
+/// Whether the replies show three entries, and their prefixes without host bits.
+fn show_no_host_bits(replies: &[Answer]) -> bool {
+    let [root, half, whole, in_half, in_root, absent, len, list] = replies else {
+        return false;
     };
-    Ok(
-        is_value(root, None)
-            && is_value(half, None)
-            && is_value(whole, None)
-            && is_match(in_half, Some(((128, 1), 2)))
-            && is_match(in_root, Some(((0, 0), 1)))
-            && is_value(absent, None)
-            && is_count(len, 3)
-            && is_list(list, &[((0, 0), 1), ((1, 8), 3), ((128, 1), 2)]),
-    )
+    is_value(root, None)
+        && is_value(half, None)
+        && is_value(whole, None)
+        && is_match(in_half, Some(((128, 1), 2)))
+        && is_match(in_root, Some(((0, 0), 1)))
+        && is_value(absent, None)
+        && is_count(len, 3)
+        && is_list(list, &[((0, 0), 1), ((1, 8), 3), ((128, 1), 2)])
 }
 
 /// A reply of a map of eight bits.
-type Answer = Reply<(u8, u8), Global>;
+pub type Answer = Reply<(u8, u8), Global>;
 
-fn is_value(reply: &Answer, expected: Option<u64>) -> bool {
+pub fn is_value(reply: &Answer, expected: Option<u64>) -> bool {
     match reply {
         Reply::Value(value) => *value == expected,
         _ => false,
@@ -74,9 +80,16 @@ fn is_match(reply: &Answer, expected: Option<((u8, u8), u64)>) -> bool {
     }
 }
 
-fn is_count(reply: &Answer, expected: usize) -> bool {
+pub fn is_count(reply: &Answer, expected: usize) -> bool {
     match reply {
         Reply::Count(count) => *count == expected,
+        _ => false,
+    }
+}
+
+pub fn is_refused(reply: &Answer, expected: Refusal) -> bool {
+    match reply {
+        Reply::Refused(cause) => *cause == expected,
         _ => false,
     }
 }
@@ -85,7 +98,7 @@ fn is_done(reply: &Answer) -> bool {
     matches!(reply, Reply::Done)
 }
 
-fn is_list(reply: &Answer, expected: &[((u8, u8), u64)]) -> bool {
+pub fn is_list(reply: &Answer, expected: &[((u8, u8), u64)]) -> bool {
     match reply {
         Reply::Entries(entries) => entries.as_slice() == expected,
         _ => false,
