@@ -4,15 +4,11 @@ use crate::refusing::Refusing;
 use std::alloc::{Allocator, Global};
 use std::test::Fail;
 
-type Held<'a> = PrefixMap<(u8, u8), u8, &'a Refusing<Global>>;
+type Map<A> = PrefixMap<(u8, u8), u8, A>;
 
 /// Inserts the prefixes of 0 to 4 bits at a place, the shortest first, numbered from a number on. Answers the number behind the
 /// last.
-fn put_at<A: Allocator>(
-    map: &mut PrefixMap<(u8, u8), u8, A>,
-    place: u8,
-    first: u8,
-) -> Result<u8, Fail> {
+fn put_at<A: Allocator>(map: &mut Map<A>, place: u8, first: u8) -> Result<u8, Fail> {
     let addr = place << 4;
     let mut number = first;
     for len in 0..5_u8 {
@@ -26,19 +22,17 @@ fn put_at<A: Allocator>(
     Ok(number)
 }
 
-/// All prefixes of 0 to 4 bits, numbered from 0 in listing order, in which they are inserted.
-fn full_root<'a>(heap: &'a Refusing<Global>) -> Result<Held<'a>, Fail> {
-    let mut map = PrefixMap::new(heap)?;
+/// Inserts all prefixes of 0 to 4 bits, numbered from 0, in listing order.
+fn fill_root<A: Allocator>(map: &mut Map<A>) -> Result<(), Fail> {
     let mut number = 0_u8;
     for place in 0..16_u8 {
-        number = put_at(&mut map, place, number)?;
+        number = put_at(map, place, number)?;
     }
-    Ok(map)
+    Ok(())
 }
 
-/// The first 24 of these, in a block of 24, once the others were taken out. From here on every request is refused.
-fn without_seven<'a>(heap: &'a Refusing<Global>) -> Result<Held<'a>, Fail> {
-    let mut map = full_root(heap)?;
+/// Takes all but the first 24 of these out, which then stand in a block of 24. Answers whether all were there.
+fn seven_go<A: Allocator>(map: &mut Map<A>) -> bool {
     for (addr, len) in [
         (192, 2),
         (192, 3),
@@ -49,53 +43,96 @@ fn without_seven<'a>(heap: &'a Refusing<Global>) -> Result<Held<'a>, Fail> {
         (240, 4),
     ] {
         if map.remove(&(addr, len)).is_none() {
-            return Err(Fail::new("a removal"));
+            return false;
         }
     }
-    heap.refuse(0, u64::MAX);
-    Ok(map)
+    true
 }
 
-/// Whether lookups, counts and a walk answer as they do with ample memory.
-fn has_24(map: &Held<'_>) -> bool {
+/// Whether lookups answer as they do with ample memory.
+fn finds_24<A: Allocator>(map: &Map<A>) -> bool {
     map.get(&(128, 1)) == Some(&16)
         && map.get(&(240, 4)).is_none()
         && map.get_lpm(&(255, 8)) == Some(((128, 1), &16))
-        && (map.len(), map.node_count(), map.node_slots()) == (24, 1, 1)
+}
+
+/// Whether a walk gives the first 24 values.
+fn lists_24<A: Allocator>(map: &Map<A>) -> bool {
+    let mut values = map.values();
+    for number in 0..24 {
+        if values.next() != Some(&number) {
+            return false;
+        }
+    }
+    values.next().is_none()
+}
+
+/// Whether all is there as it is with ample memory.
+fn has_24<A: Allocator>(map: &Map<A>) -> bool {
+    (map.len(), map.node_count(), map.node_slots()) == (24, 1, 1)
         && map.cell_slots() == 86
-        && map.values().copied().eq(0..24)
+        && finds_24(map)
+        && lists_24(map)
+}
+
+/// Whether the values stand in a block of 31, and that of 24 is free.
+fn has_moved<A: Allocator>(map: &Map<A>) -> bool {
+    let [.., left, taken] = map.cell_blocks();
+    (left.size, left.used, left.free) == (24, 0, 1)
+        && (taken.size, taken.used, taken.free) == (31, 1, 0)
+        && map.cell_slots() == 86
 }
 
 /// Whether the last prefix goes into the free block of 31, and out again into that of 24.
-fn goes_in_and_out(map: &mut Held<'_>) -> bool {
-    let goes_in = map.insert((240, 4), 24) == Ok(None);
-    let [.., left, taken] = map.cell_blocks();
-    goes_in
-        && (left.size, left.used, left.free) == (24, 0, 1)
-        && (taken.size, taken.used, taken.free) == (31, 1, 0)
-        && map.cell_slots() == 86
-        && map.remove(&(240, 4)) == Some(24)
+fn goes_in_and_out<A: Allocator>(map: &mut Map<A>) -> bool {
+    map.insert((240, 4), 24) == Ok(None) && has_moved(map) && map.remove(&(240, 4)) == Some(24)
+}
+
+/// Whether a value is replaced, and then all are taken out.
+fn is_replaced_and_cleared<A: Allocator>(map: &mut Map<A>) -> bool {
+    let is_replaced = map.insert((128, 1), 77) == Ok(Some(16));
+    map.clear();
+    is_replaced && map.is_empty() && (map.node_slots(), map.cell_slots()) == (1, 0)
+}
+
+/// Whether the 24 values change, and are cleared, as with ample memory.
+fn changes<A: Allocator>(map: &mut Map<A>) -> bool {
+    has_24(map) && goes_in_and_out(map) && has_24(map) && is_replaced_and_cleared(map)
+}
+
+/// Whether 24 values change in the blocks that are there: every request would be refused, and none comes.
+fn asks_for_nothing<A: Allocator>(heap: &Refusing<Global>, map: &mut Map<A>) -> Result<bool, Fail> {
+    fill_root(map)?;
+    let have_gone = seven_go(map);
+    heap.refuse(0, u64::MAX);
+    let before = heap.requests();
+    Ok(have_gone && changes(map) && heap.requests() == before)
+}
+
+/// The same of a new map.
+fn changes_in_free_blocks(heap: &Refusing<Global>) -> Result<bool, Fail> {
+    let mut map = PrefixMap::new(heap)?;
+    asks_for_nothing(heap, &mut map)
 }
 
 #[test]
 fn a_free_block_grants_an_insertion(rt: HostRuntime) -> Result<(), Fail> {
     let heap = Refusing::new(rt.alloc());
-    let mut map = without_seven(&heap)?;
-    let before = heap.requests();
-    assert!(rt; has_24(&map) && goes_in_and_out(&mut map) && has_24(&map));
-    assert_eq!(rt; map.insert((128, 1), 77), Ok(Some(16)));
-    map.clear();
-    assert!(rt; map.is_empty() && (map.node_slots(), map.cell_slots()) == (1, 0));
-    assert_eq!(rt; heap.requests(), before);
+    assert!(rt; changes_in_free_blocks(&heap)?);
     Ok(())
 }
 
 /// Whether the root's two values and its child's one take a block of two and one of one, which the root's first value left.
-fn takes_three<A: Allocator>(map: &mut PrefixMap<(u8, u8), u8, A>) -> bool {
+fn takes_three<A: Allocator>(map: &mut Map<A>) -> bool {
     map.insert((0, 1), 1) == Ok(None)
         && map.insert((128, 1), 2) == Ok(None)
         && map.insert((0, 5), 3) == Ok(None)
         && map.cell_slots() == 3
+}
+
+/// Whether the root's first value goes, and the other takes a new block.
+fn makes_a_block<A: Allocator>(map: &mut Map<A>) -> bool {
+    map.remove(&(0, 1)) == Some(1) && map.cell_slots() == 4
 }
 
 // Once the root has one value, no block of one is free, and the limit has room for another: a removal that takes only free blocks
@@ -103,8 +140,6 @@ fn takes_three<A: Allocator>(map: &mut PrefixMap<(u8, u8), u8, A>) -> bool {
 #[test]
 fn removal_steps_down_only_onto_free_block(rt: HostRuntime) -> Result<(), Fail> {
     let mut map = PrefixMap::with_slot_limit(rt.alloc(), 4)?;
-    assert!(rt; takes_three(&mut map));
-    assert_eq!(rt; map.remove(&(0, 1)), Some(1));
-    assert_eq!(rt; map.cell_slots(), 4);
+    assert!(rt; takes_three(&mut map) && makes_a_block(&mut map));
     Ok(())
 }

@@ -1,21 +1,17 @@
 //! The counted forms of lookups: their answers, since of a count there is nothing to read.
 use crate::PrefixMap;
-use std::alloc::Global;
+use std::alloc::Allocator;
 use std::test::Fail;
 
-type Map = PrefixMap<(u16, u8), char, Global>;
+type Map<A> = PrefixMap<(u16, u8), char, A>;
 
-/// Of one bit 'a', and of eight bits 'b'.
-fn stored(alloc: Global) -> Result<Map, Fail> {
-    let mut map = PrefixMap::new(alloc)?;
-    if map.insert((0x8000, 1), 'a') != Ok(None) || map.insert((0xb800, 8), 'b') != Ok(None) {
-        return Err(Fail::new("an insertion"));
-    }
-    Ok(map)
+/// Stores of one bit 'a', and of eight bits 'b'.
+fn takes_two<A: Allocator>(map: &mut Map<A>) -> bool {
+    map.insert((0x8000, 1), 'a') == Ok(None) && map.insert((0xb800, 8), 'b') == Ok(None)
 }
 
 /// The answers for the prefix of 'b', with host bits.
-fn finds(map: &Map) -> bool {
+fn finds<A: Allocator>(map: &Map<A>) -> bool {
     let asked = (0xb8ff, 8);
     map.contains_key_counted(&asked).0
         && map.get_counted(&asked).0 == Some(&'b')
@@ -23,7 +19,7 @@ fn finds(map: &Map) -> bool {
 }
 
 /// The answers for an address in it.
-fn matches(map: &Map) -> bool {
+fn matches<A: Allocator>(map: &Map<A>) -> bool {
     let asked = (0xb8ff, 16);
     map.get_lpm_counted(&asked).0 == Some(((0xb800, 8), &'b'))
         && map.get_lpm_prefix_counted(&asked).0 == Some((0xb800, 8))
@@ -34,20 +30,21 @@ fn matches(map: &Map) -> bool {
 
 #[test]
 fn answers_beside_their_counts(rt: HostRuntime) -> Result<(), Fail> {
-    let map = stored(rt.alloc())?;
-    assert!(rt; finds(&map) && matches(&map));
+    let mut map = PrefixMap::new(rt.alloc())?;
+    assert!(rt; takes_two(&mut map) && finds(&map) && matches(&map));
     Ok(())
 }
 
 /// Whether a prefix that neither contains is not found.
-fn finds_none(map: &Map) -> bool {
+fn finds_none<A: Allocator>(map: &Map<A>) -> bool {
     let asked = (0x3800, 8);
     !map.contains_key_counted(&asked).0
         && map.get_counted(&asked).0.is_none()
         && map.get_key_value_counted(&asked).0.is_none()
 }
 
-fn matches_none(map: &Map) -> bool {
+/// Whether nothing contains it.
+fn matches_none<A: Allocator>(map: &Map<A>) -> bool {
     let asked = (0x3800, 8);
     map.get_lpm_counted(&asked).0.is_none()
         && map.get_lpm_prefix_counted(&asked).0.is_none()
@@ -56,20 +53,26 @@ fn matches_none(map: &Map) -> bool {
         && !map.is_covered_counted(&asked).0
 }
 
-fn lends_none(map: &mut Map) -> bool {
+/// Whether no value is lent for it.
+fn lends_none<A: Allocator>(map: &mut Map<A>) -> bool {
     let asked = (0x3800, 8);
     map.get_mut_counted(&asked).0.is_none() && map.get_lpm_mut_counted(&asked).0.is_none()
 }
 
+/// Whether no form of a lookup has an answer for that prefix.
+fn answers_none<A: Allocator>(map: &mut Map<A>) -> bool {
+    finds_none(map) && matches_none(map) && lends_none(map)
+}
+
 #[test]
 fn no_answers_beside_their_counts(rt: HostRuntime) -> Result<(), Fail> {
-    let mut map = stored(rt.alloc())?;
-    assert!(rt; finds_none(&map) && matches_none(&map) && lends_none(&mut map));
+    let mut map = PrefixMap::new(rt.alloc())?;
+    assert!(rt; takes_two(&mut map) && answers_none(&mut map));
     Ok(())
 }
 
 /// Writes over 'a'.
-fn overwrites_exact(map: &mut Map) -> bool {
+fn overwrites_exact<A: Allocator>(map: &mut Map<A>) -> bool {
     let (stored, _visits) = map.get_mut_counted(&(0xffff, 1));
     let Some(value) = stored else {
         return false;
@@ -80,7 +83,7 @@ fn overwrites_exact(map: &mut Map) -> bool {
 }
 
 /// Writes over 'b'.
-fn overwrites_longest(map: &mut Map) -> bool {
+fn overwrites_longest<A: Allocator>(map: &mut Map<A>) -> bool {
     let (longest, _visits) = map.get_lpm_mut_counted(&(0xb8ff, 16));
     let Some((found, value)) = longest else {
         return false;
@@ -90,10 +93,20 @@ fn overwrites_longest(map: &mut Map) -> bool {
     was_there
 }
 
+/// Whether the values written are there.
+fn lists_written<A: Allocator>(map: &Map<A>) -> bool {
+    let mut values = map.values();
+    values.next() == Some(&'c') && values.next() == Some(&'d') && values.next().is_none()
+}
+
+/// Whether both values are written over.
+fn is_overwritten<A: Allocator>(map: &mut Map<A>) -> bool {
+    overwrites_exact(map) && overwrites_longest(map) && lists_written(map)
+}
+
 #[test]
 fn written_through_counted_forms(rt: HostRuntime) -> Result<(), Fail> {
-    let mut map = stored(rt.alloc())?;
-    assert!(rt; overwrites_exact(&mut map) && overwrites_longest(&mut map));
-    assert!(rt; map.values().copied().eq(['c', 'd']));
+    let mut map = PrefixMap::new(rt.alloc())?;
+    assert!(rt; takes_two(&mut map) && is_overwritten(&mut map));
     Ok(())
 }

@@ -12,10 +12,20 @@ mod clone_tests;
 #[cfg(test)]
 mod counted_tests;
 #[cfg(test)]
+mod cover_tests;
+#[cfg(test)]
 mod example;
+#[cfg(test)]
+mod iter_tests;
+#[cfg(test)]
+mod lending_tests;
 pub mod map;
 #[cfg(test)]
 mod mixed_tests;
+#[cfg(test)]
+mod node_tests;
+#[cfg(test)]
+mod prefix_tests;
 #[cfg(test)]
 mod refused_removal_tests;
 #[cfg(test)]
@@ -25,6 +35,8 @@ mod removal_tests;
 pub mod replay;
 #[cfg(test)]
 mod replay_tests;
+#[cfg(test)]
+mod retain_tests;
 #[cfg(test)]
 mod slots_tests;
 #[cfg(test)]

@@ -1,8 +1,9 @@
 //! Mixed calls, each answer compared with one worked out from a plain sorted list.
 ghost use Rattle.std.specs.Prelude.{◌≤◌};
 
-use crate::{Prefix, PrefixMap};
-use std::alloc::{AllocError, Allocator, Global};
+use crate::PrefixMap;
+use crate::replay::{Call, run};
+use std::alloc::{AllocError, Global};
 use std::test::Fail;
 
 /// How many calls are made.
@@ -200,9 +201,16 @@ fn tells(
     }
 }
 
-/// Keeps the entries of at least so many bits in the map.
-fn keep_long<P: Prefix, A: Allocator>(map: &mut PrefixMap<P, u64, A>, len: u8) {
-    map.retain(|prefix, _| len <= prefix.prefix_len());
+/// Keeps the entries of at least so many bits in both, in the map by a call of a run. Answers whether that had one reply.
+fn keeps_long(
+    alloc: Global,
+    map: &mut Map,
+    list: &mut Vec<Entry>,
+    len: u8,
+) -> Result<bool, AllocError> {
+    *list = of_at_least(alloc, list, len)?;
+    let replies = run(alloc, map, &[Call::RetainAtLeast(len)])?;
+    Ok(replies.len() == 1)
 }
 
 /// Whether a removal answers as the list does. The entry is taken out of both.
@@ -283,19 +291,13 @@ fn agrees(
             list.clear();
             Ok(true)
         }
-        601 => {
-            keep_long(map, asked.1);
-            *list = of_at_least(alloc, list, asked.1)?;
-            Ok(true)
-        }
+        601 => Ok(keeps_long(alloc, map, list, asked.1)?),
         _ => answers(alloc, map, list, a.wrapping_sub(602) % 12, asked),
     }
 }
 
-#[test]
-fn mixed_calls_as_on_a_sorted_list(rt: HostRuntime) -> Result<(), Fail> {
-    let mut map = PrefixMap::new(rt.alloc())?;
-    let mut list = Vec::new(rt.alloc());
+/// Makes all calls. Answers whether each was answered as by the list.
+fn answer_alike(alloc: Global, map: &mut Map, list: &mut Vec<Entry>) -> Result<bool, Fail> {
     let mut x = 1;
     for index in 0..CALLS {
         x = drawn(x);
@@ -304,11 +306,22 @@ fn mixed_calls_as_on_a_sorted_list(rt: HostRuntime) -> Result<(), Fail> {
         let number = (x / 65_536 % 256) as u8;
         x = drawn(x);
         let asked = (number, length_of(x / 65_536));
-        assert!(rt;
-            agrees(rt.alloc(), &mut map, &mut list, a, asked, index)?,
-            "at {index}"
-        );
+        if !agrees(alloc, map, list, a, asked, index)? {
+            return Ok(false);
+        }
     }
-    assert!(rt; lists(&map, &list));
+    Ok(true)
+}
+
+/// Whether all calls are answered as by a list, and the map that they leave has its entries.
+fn is_as_a_list(alloc: Global, map: &mut Map) -> Result<bool, Fail> {
+    let mut list = Vec::new(alloc);
+    Ok(answer_alike(alloc, map, &mut list)? && lists(map, &list))
+}
+
+#[test]
+fn mixed_calls_as_on_a_sorted_list(rt: HostRuntime) -> Result<(), Fail> {
+    let mut map = PrefixMap::new(rt.alloc())?;
+    assert!(rt; is_as_a_list(rt.alloc(), &mut map)?);
     Ok(())
 }

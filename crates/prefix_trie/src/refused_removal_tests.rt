@@ -38,7 +38,7 @@ enum By {
     Retain,
 }
 
-type Held<'a> = PrefixMap<Ipv4Prefix, u32, &'a Refusing<Global>>;
+type Map<A> = PrefixMap<Ipv4Prefix, u32, A>;
 
 fn network(groups: Groups, group: u32, item: u32) -> Result<Ipv4Prefix, Fail> {
     let start = group.wrapping_mul(groups.between);
@@ -46,9 +46,8 @@ fn network(groups: Groups, group: u32, item: u32) -> Result<Ipv4Prefix, Fail> {
     Ok(Ipv4Prefix::new(addr, groups.len).ok_or("a length above 32")?)
 }
 
-/// All networks stored, a group after the other: then a group takes the small blocks that the one before it left.
-fn stored<'a>(heap: &'a Refusing<Global>, groups: Groups) -> Result<Held<'a>, Fail> {
-    let mut map = PrefixMap::new(heap)?;
+/// Stores all networks, a group after the other: then a group takes the small blocks that the one before it left.
+fn put_all<A: Allocator>(map: &mut Map<A>, groups: Groups) -> Result<(), Fail> {
     for group in 0..31 {
         for item in 0..5 {
             if map.insert(network(groups, group, item)?, item) != Ok(None) {
@@ -56,7 +55,7 @@ fn stored<'a>(heap: &'a Refusing<Global>, groups: Groups) -> Result<Held<'a>, Fa
             }
         }
     }
-    Ok(map)
+    Ok(())
 }
 
 /// Keeps the values above one.
@@ -66,7 +65,12 @@ fn keep_above<P: Prefix, A: Allocator>(map: &mut PrefixMap<P, u32, A>, most: u32
 
 /// Takes a network of this value out; by a prefix that is shorter by two bits also those beside it, and by a test those of the
 /// other groups. Answers whether a value that is handed out is its own.
-fn taken_out(map: &mut Held<'_>, asked: Ipv4Prefix, item: u32, by: By) -> Result<bool, Fail> {
+fn taken_out<A: Allocator>(
+    map: &mut Map<A>,
+    asked: Ipv4Prefix,
+    item: u32,
+    by: By,
+) -> Result<bool, Fail> {
     match by {
         By::Remove => Ok(map.remove(&asked) == Some(item)),
         By::KeepTree => Ok(map.remove_keep_tree(&asked) == Some(item)),
@@ -90,48 +94,74 @@ fn left_after(item: u32, by: By) -> usize {
     }
 }
 
-/// Takes all networks out, the first of each group before any second: then a group needs small blocks that none has left.
-/// Answers whether each removal did all that it should, and no more.
-fn all_taken_out(map: &mut Held<'_>, groups: Groups, by: By) -> Result<bool, Fail> {
-    for item in 0..5 {
-        for group in 0..31 {
-            let asked = network(groups, group, item)?;
-            if !taken_out(map, asked, item, by)? || map.get(&asked).is_some() {
-                return Ok(false);
-            }
+/// Takes this network of each group out. Answers whether each removal did all that it should, and no more.
+fn are_taken_out<A: Allocator>(
+    map: &mut Map<A>,
+    groups: Groups,
+    item: u32,
+    by: By,
+) -> Result<bool, Fail> {
+    for group in 0..31 {
+        let asked = network(groups, group, item)?;
+        if !taken_out(map, asked, item, by)? || map.get(&asked).is_some() {
+            return Ok(false);
         }
-        if map.len() != left_after(item, by).wrapping_mul(31) {
+    }
+    Ok(map.len() == left_after(item, by).wrapping_mul(31))
+}
+
+/// Takes all networks out, the first of each group before any second: then a group needs small blocks that none has left.
+fn all_taken_out<A: Allocator>(map: &mut Map<A>, groups: Groups, by: By) -> Result<bool, Fail> {
+    for item in 0..5 {
+        if !are_taken_out(map, groups, item, by)? {
             return Ok(false);
         }
     }
     Ok(map.is_empty())
 }
 
-/// Takes all networks out time and again, with another request refused each time. Answers how many requests were refused, or
-/// None where a removal did not answer in full.
-fn refused_in_turn(heap: &Refusing<Global>, groups: Groups, by: By) -> Result<Option<u64>, Fail> {
+/// Stores all networks and takes them out, with one request of the removals refused. Answers whether it was, once each removal
+/// answered in full.
+fn refused_once<A: Allocator>(
+    heap: &Refusing<Global>,
+    map: &mut Map<A>,
+    groups: Groups,
+    by: By,
+    passed: u64,
+) -> Result<bool, Fail> {
+    put_all(map, groups)?;
+    let before = heap.requests();
+    heap.refuse(passed, 1);
+    let answered = all_taken_out(map, groups, by)?;
+    heap.refuse(0, 0);
+    if answered {
+        Ok(passed < heap.requests().wrapping_sub(before))
+    } else {
+        Err(Fail::new("a removal"))
+    }
+}
+
+/// The same of a new map.
+fn is_refused(heap: &Refusing<Global>, groups: Groups, by: By, passed: u64) -> Result<bool, Fail> {
+    let mut map = PrefixMap::new(heap)?;
+    refused_once(heap, &mut map, groups, by, passed)
+}
+
+/// Takes all networks out time and again, with another request refused each time. Answers how many requests were refused.
+fn refused_in_turn(heap: &Refusing<Global>, groups: Groups, by: By) -> Result<u64, Fail> {
     for passed in 0..MANY {
-        let mut map = stored(heap, groups)?;
-        let before = heap.requests();
-        heap.refuse(passed, 1);
-        let answered = all_taken_out(&mut map, groups, by)?;
-        heap.refuse(0, 0);
-        if !answered {
-            return Ok(None);
-        }
-        if heap.requests().wrapping_sub(before) <= passed {
-            return Ok(Some(passed));
+        if !is_refused(heap, groups, by, passed)? {
+            return Ok(passed);
         }
     }
-    Ok(None)
+    Err(Fail::new("more requests than the removals make"))
 }
 
 #[test]
 fn each_request_for_values_refused(rt: HostRuntime) -> Result<(), Fail> {
     let heap = Refusing::new(rt.alloc());
     for by in [By::Remove, By::KeepTree, By::Children, By::Retain] {
-        let refusals = refused_in_turn(&heap, IN_A_NODE, by)?;
-        assert!(rt; refusals.is_some_and(|count| 0 < count), "{refusals:?}");
+        assert!(rt; 0 < refused_in_turn(&heap, IN_A_NODE, by)?);
     }
     Ok(())
 }
@@ -140,8 +170,7 @@ fn each_request_for_values_refused(rt: HostRuntime) -> Result<(), Fail> {
 fn each_request_for_nodes_refused(rt: HostRuntime) -> Result<(), Fail> {
     let heap = Refusing::new(rt.alloc());
     for by in [By::Remove, By::Children, By::Retain] {
-        let refusals = refused_in_turn(&heap, BELOW_A_NODE, by)?;
-        assert!(rt; refusals.is_some_and(|count| 0 < count), "{refusals:?}");
+        assert!(rt; 0 < refused_in_turn(&heap, BELOW_A_NODE, by)?);
     }
     Ok(())
 }

@@ -1,8 +1,11 @@
 //! A run with ample memory, and with each of its requests for memory refused.
+ghost use Rattle.std.specs.Prelude.{All};
+ghost use Rattle.prefix_trie.specs.Replay.{IsFittingCall};
+
 use crate::refusing::Refusing;
 use crate::replay::{Call, Reply, run};
-use crate::{PrefixMap, Refusal};
-use std::alloc::{Allocator, Global};
+use crate::{Prefix, PrefixMap, Refusal};
+use std::alloc::{AllocError, Allocator, Global};
 use std::test::Fail;
 
 /// More requests than one run makes.
@@ -84,9 +87,17 @@ fn are<A: Allocator>(replies: &[Reply<Key, A>], wanted: &[Wanted<'_>]) -> bool {
     replies.len() == wanted.len()
 }
 
+/// Whether the calls on a new map get these replies.
+fn replies_are(alloc: Global, calls: &[Call<Key>], wanted: &[Wanted<'_>]) -> Result<bool, Fail>
+    requires { All (IsFittingCall ⟦<Key as Prefix>⟧.IsFitting) calls.now }
+{
+    let mut map = PrefixMap::new(alloc)?;
+    let replies = run(alloc, &mut map, calls)?;
+    Ok(are(&replies, wanted))
+}
+
 #[test]
 fn a_reply_to_each_call(rt: HostRuntime) -> Result<(), Fail> {
-    let mut map = PrefixMap::new(rt.alloc())?;
     let calls = [
         Call::List,
         Call::Insert((0x0a00_00ff, 8), 1),
@@ -99,7 +110,6 @@ fn a_reply_to_each_call(rt: HostRuntime) -> Result<(), Fail> {
         Call::Len,
         Call::List,
     ];
-    let replies = run(rt.alloc(), &mut map, &calls)?;
     let both = [((0x0a00_0000, 8), 3), ((0x0a01_0000, 16), 2)];
     let wanted = [
         Wanted::List(&[]),
@@ -114,13 +124,12 @@ fn a_reply_to_each_call(rt: HostRuntime) -> Result<(), Fail> {
         Wanted::Count(2),
         Wanted::List(&both),
     ];
-    assert!(rt; are(&replies, &wanted));
+    assert!(rt; replies_are(rt.alloc(), &calls, &wanted)?);
     Ok(())
 }
 
 #[test]
 fn shortest_matches_and_covers(rt: HostRuntime) -> Result<(), Fail> {
-    let mut map = PrefixMap::new(rt.alloc())?;
     let calls = [
         Call::Insert((0x0a00_0000, 8), 1),
         Call::Insert((0x0a01_0000, 16), 2),
@@ -130,7 +139,6 @@ fn shortest_matches_and_covers(rt: HostRuntime) -> Result<(), Fail> {
         Call::Cover((0x0a01_02ff, 24)),
         Call::Cover((0x0c00_0000, 8)),
     ];
-    let replies = run(rt.alloc(), &mut map, &calls)?;
     let covered = [((0x0a00_0000, 8), 1), ((0x0a01_0000, 16), 2)];
     let wanted = [
         Wanted::Value(None),
@@ -141,13 +149,12 @@ fn shortest_matches_and_covers(rt: HostRuntime) -> Result<(), Fail> {
         Wanted::List(&covered),
         Wanted::List(&[]),
     ];
-    assert!(rt; are(&replies, &wanted));
+    assert!(rt; replies_are(rt.alloc(), &calls, &wanted)?);
     Ok(())
 }
 
 #[test]
 fn removals_and_the_nodes_left(rt: HostRuntime) -> Result<(), Fail> {
-    let mut map = PrefixMap::new(rt.alloc())?;
     let calls = [
         Call::Insert((0x0a01_0100, 24), 1),
         Call::RemoveKeepTree((0x0a01_01ff, 24)),
@@ -161,7 +168,6 @@ fn removals_and_the_nodes_left(rt: HostRuntime) -> Result<(), Fail> {
         Call::RemoveChildren((0x0a01_0000, 16)),
         Call::List,
     ];
-    let replies = run(rt.alloc(), &mut map, &calls)?;
     let wanted = [
         Wanted::Value(None),
         Wanted::Value(Some(1)),
@@ -176,13 +182,12 @@ fn removals_and_the_nodes_left(rt: HostRuntime) -> Result<(), Fail> {
         Wanted::Done,
         Wanted::List(&[((0x0b00_0000, 8), 5)]),
     ];
-    assert!(rt; are(&replies, &wanted));
+    assert!(rt; replies_are(rt.alloc(), &calls, &wanted)?);
     Ok(())
 }
 
 #[test]
 fn entries_of_a_least_length(rt: HostRuntime) -> Result<(), Fail> {
-    let mut map = PrefixMap::new(rt.alloc())?;
     let calls = [
         Call::Insert((0x0a00_0000, 8), 1),
         Call::Insert((0x0a01_0000, 16), 2),
@@ -194,7 +199,6 @@ fn entries_of_a_least_length(rt: HostRuntime) -> Result<(), Fail> {
         Call::NodeCount,
         Call::Len,
     ];
-    let replies = run(rt.alloc(), &mut map, &calls)?;
     let long = [((0x0a00_0000, 8), 1), ((0x0a01_0000, 16), 2)];
     let wanted = [
         Wanted::Value(None),
@@ -208,14 +212,14 @@ fn entries_of_a_least_length(rt: HostRuntime) -> Result<(), Fail> {
         Wanted::Count(1),
         Wanted::Count(0),
     ];
-    assert!(rt; are(&replies, &wanted));
+    assert!(rt; replies_are(rt.alloc(), &calls, &wanted)?);
     Ok(())
 }
 
-type Held<'a> = PrefixMap<Key, u64, &'a Refusing<Global>>;
+type Map<A> = PrefixMap<Key, u64, A>;
 
 /// Whether a map has the network of all addresses alone, as before the run.
-fn has_first_alone(map: &Held<'_>) -> bool {
+fn has_first_alone<A: Allocator>(map: &Map<A>) -> bool {
     map.get(&(0, 0)) == Some(&7) && map.len() == 1 && map.node_count() == 1
 }
 
@@ -265,7 +269,7 @@ fn are_around_lists<A: Allocator>(replies: &[Reply<Key, A>], lost: Lost) -> bool
 }
 
 /// What was refused, as the replies and the map say; None where they say nothing of the kind.
-fn refused_part<A: Allocator>(replies: &[Reply<Key, A>], map: &Held<'_>) -> Option<Lost> {
+fn refused_part<A: Allocator>(replies: &[Reply<Key, A>], map: &Map<A>) -> Option<Lost> {
     if are_after_a_refused_insertion(replies) && has_first_alone(map) {
         return Some(Lost::Insertion);
     }
@@ -277,12 +281,24 @@ fn refused_part<A: Allocator>(replies: &[Reply<Key, A>], map: &Held<'_>) -> Opti
     None
 }
 
-/// Runs five calls on a map of one entry, with one request refused.
-fn run_once(heap: &Refusing<Global>, passed: u64) -> Result<Option<Lost>, Fail> {
-    let mut map = PrefixMap::new(heap)?;
-    if map.insert((0, 0), 7) != Ok(None) {
-        return Err(Fail::new("an insertion"));
+/// What was refused in a run, as its outcome says.
+fn part_lost<A: Allocator>(
+    outcome: &Result<Vec<Reply<Key, A>, A>, AllocError>,
+    map: &Map<A>,
+) -> Option<Lost> {
+    match outcome {
+        Ok(replies) => refused_part(replies, map),
+        Err(AllocError) if has_first_alone(map) => Some(Lost::All),
+        Err(AllocError) => None,
     }
+}
+
+/// Runs five calls on a map, with one request refused.
+fn run_refused<'a>(
+    heap: &'a Refusing<Global>,
+    map: &mut Map<&'a Refusing<Global>>,
+    passed: u64,
+) -> Option<Lost> {
     let calls = [
         Call::Insert((3, 32), 1),
         Call::Get((3, 32)),
@@ -291,32 +307,49 @@ fn run_once(heap: &Refusing<Global>, passed: u64) -> Result<Option<Lost>, Fail> 
         Call::Len,
     ];
     heap.refuse(passed, 1);
-    let outcome = run(heap, &mut map, &calls);
+    let outcome = run(heap, map, &calls);
     heap.refuse(0, 0);
-    Ok(match outcome {
-        Ok(replies) => refused_part(&replies, &map),
-        Err(_) if has_first_alone(&map) => Some(Lost::All),
-        Err(_) => None,
-    })
+    part_lost(&outcome, map)
 }
 
-// The room for the replies is asked for first, then one or more for the insertion, and one for each list.
+/// Runs them on a map of one entry, with one request refused.
+fn run_once(heap: &Refusing<Global>, passed: u64) -> Result<Option<Lost>, Fail> {
+    let mut map = PrefixMap::new(heap)?;
+    let is_stored = map.insert((0, 0), 7) == Ok(None);
+    let part = run_refused(heap, &mut map, passed);
+    Ok(if is_stored { part } else { None })
+}
+
+/// Whether what is refused follows on what was refused when one request less was passed on.
+fn follows(last: Lost, now: Option<Lost>) -> bool {
+    match last {
+        Lost::All => now == Some(Lost::Insertion),
+        Lost::Insertion => now == Some(Lost::Insertion) || now == Some(Lost::List),
+        Lost::List => now == Some(Lost::Cover),
+        Lost::Cover | Lost::Nothing => now == Some(Lost::Nothing),
+    }
+}
+
+/// Whether the requests refused in turn are that for the replies, one or more of the insertion, and one of each list.
+fn are_lost_in_turn(heap: &Refusing<Global>) -> Result<bool, Fail> {
+    if run_once(heap, 0)? != Some(Lost::All) {
+        return Ok(false);
+    }
+    let mut last = Lost::All;
+    for passed in 1..MANY {
+        let now = run_once(heap, passed)?;
+        if !follows(last, now) {
+            return Ok(false);
+        }
+        last = now.unwrap_or(last);
+    }
+    Ok(last == Lost::Nothing)
+}
+
+// The room for the replies is asked for first.
 #[test]
 fn each_request_of_a_run_refused(rt: HostRuntime) -> Result<(), Fail> {
     let heap = Refusing::new(rt.alloc());
-    assert!(rt; run_once(&heap, 0)? == Some(Lost::All));
-    assert!(rt; run_once(&heap, 1)? == Some(Lost::Insertion));
-    let mut last = Lost::Insertion;
-    for passed in 2..MANY {
-        let now = run_once(&heap, passed)?;
-        let follows = match last {
-            Lost::Insertion => now == Some(Lost::Insertion) || now == Some(Lost::List),
-            Lost::List => now == Some(Lost::Cover),
-            _ => now == Some(Lost::Nothing),
-        };
-        assert!(rt; follows, "at {passed}");
-        last = now.unwrap_or(last);
-    }
-    assert!(rt; last == Lost::Nothing);
+    assert!(rt; are_lost_in_turn(&heap)?);
     Ok(())
 }

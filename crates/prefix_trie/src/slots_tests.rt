@@ -2,44 +2,53 @@
 use crate::refusing::Refusing;
 use crate::walk_tests::{covers, lists, network, put_all};
 use crate::{Ipv4Prefix, Prefix, PrefixMap, Refusal, Refused};
-use std::alloc::Global;
+use std::alloc::{Allocator, Global};
 use std::test::Fail;
 
-// A host's way has seven nodes.
+/// The answer of inserting a host, whose way has seven nodes, into a new map of at most so many slots.
+fn host_within(alloc: Global, limit: u32) -> Result<Result<Option<u8>, Refused<u8>>, Fail> {
+    let mut map = PrefixMap::with_slot_limit(alloc, limit)?;
+    Ok(map.insert((0_u32, 32_u8), 1_u8))
+}
+
 #[test]
 fn at_the_limit_of_nodes(rt: HostRuntime) -> Result<(), Fail> {
-    let refused = Err(Refused {
+    let refused = Refused {
         cause: Refusal::IndexRange,
         value: 1,
-    });
-    for (limit, answer) in [(6, refused), (7, Ok(None))] {
-        let mut map = PrefixMap::with_slot_limit(rt.alloc(), limit)?;
-        assert_eq!(rt; map.insert((0_u32, 32_u8), 1_u8), answer);
-    }
+    };
+    assert_eq!(rt; host_within(rt.alloc(), 6)?, Err(refused));
+    assert_eq!(rt; host_within(rt.alloc(), 7)?, Ok(None));
     Ok(())
 }
 
-// The two values of the root stand in a block of two, and the first stood in a block of one.
+/// Whether inserting a second value into the root of a new map of at most so many slots answers so. The two values of the root
+/// stand in a block of two, and the first stood in a block of one.
+fn second_answers(
+    alloc: Global,
+    limit: u32,
+    answer: Result<Option<u8>, Refused<u8>>,
+) -> Result<bool, Fail> {
+    let mut map = PrefixMap::with_slot_limit(alloc, limit)?;
+    Ok(map.insert((0_u32, 0_u8), 1_u8) == Ok(None) && map.insert((0, 1), 2) == answer)
+}
+
 #[test]
 fn at_the_limit_of_cells(rt: HostRuntime) -> Result<(), Fail> {
-    let refused = Err(Refused {
+    let refused = Refused {
         cause: Refusal::IndexRange,
         value: 2,
-    });
-    for (limit, answer) in [(2, refused), (3, Ok(None))] {
-        let mut map = PrefixMap::with_slot_limit(rt.alloc(), limit)?;
-        assert_eq!(rt; map.insert((0_u32, 0_u8), 1_u8), Ok(None));
-        assert_eq!(rt; map.insert((0, 1), 2), answer);
-    }
+    };
+    assert!(rt; second_answers(rt.alloc(), 2, Err(refused))?);
+    assert!(rt; second_answers(rt.alloc(), 3, Ok(None))?);
     Ok(())
 }
 
-type Held<'a> = PrefixMap<Ipv4Prefix, u8, &'a Refusing<Global>>;
+type Map<A> = PrefixMap<Ipv4Prefix, u8, A>;
 
-/// A map of five networks, each in the one before it, with their lengths as values. The root's two values come last: so a block
-/// of one is free. From here on every request is refused.
-fn stored<'a>(heap: &'a Refusing<Global>) -> Result<Held<'a>, Fail> {
-    let mut map = PrefixMap::new(heap)?;
+/// Stores five networks, each in the one before it, with their lengths as values. The root's two values come last: so a block
+/// of one is free.
+fn put_five<A: Allocator>(map: &mut Map<A>) -> Result<(), Fail> {
     let rows = [
         (0x0a00_0000, 8, 8),
         (0x0a01_0100, 24, 24),
@@ -47,13 +56,11 @@ fn stored<'a>(heap: &'a Refusing<Global>) -> Result<Held<'a>, Fail> {
         (0, 0, 0),
         (0, 1, 1),
     ];
-    put_all(&mut map, &rows)?;
-    heap.refuse(0, u64::MAX);
-    Ok(map)
+    put_all(map, &rows)
 }
 
 /// Whether the walks over all, and those around the last, give the five.
-fn lists_all(map: &Held<'_>) -> Result<bool, Fail> {
+fn lists_all<A: Allocator>(map: &Map<A>) -> Result<bool, Fail> {
     let host = network(0x0a01_0101, 32)?;
     let five = [
         (network(0, 0)?, 0),
@@ -65,25 +72,27 @@ fn lists_all(map: &Held<'_>) -> Result<bool, Fail> {
     Ok(lists(map, &five) && covers(map, host, &five))
 }
 
-/// Whether the lookups of exactly a network answer its length where it is stored, and nothing else.
-fn finds(map: &Held<'_>, asked: Ipv4Prefix, is_stored: bool) -> bool {
+/// Whether the lookups of exactly a network answer its length.
+fn finds<A: Allocator>(map: &Map<A>, asked: Ipv4Prefix) -> bool {
     let value = asked.prefix_len();
-    if is_stored {
-        return map.get(&asked) == Some(&value)
-            && map.contains_key(&asked)
-            && map.get_key_value(&asked) == Some((asked, &value));
-    }
+    map.get(&asked) == Some(&value)
+        && map.contains_key(&asked)
+        && map.get_key_value(&asked) == Some((asked, &value))
+}
+
+/// Whether the lookups of exactly a network answer nothing.
+fn finds_none<A: Allocator>(map: &Map<A>, asked: Ipv4Prefix) -> bool {
     map.get(&asked).is_none() && !map.contains_key(&asked) && map.get_key_value(&asked).is_none()
 }
 
 /// Whether the longest match of a network is this one.
-fn has_longest(map: &Held<'_>, asked: Ipv4Prefix, longest: Ipv4Prefix) -> bool {
+fn has_longest<A: Allocator>(map: &Map<A>, asked: Ipv4Prefix, longest: Ipv4Prefix) -> bool {
     let value = longest.prefix_len();
     map.get_lpm(&asked) == Some((longest, &value)) && map.get_lpm_prefix(&asked) == Some(longest)
 }
 
 /// Whether the shortest match of a network is this one.
-fn has_shortest(map: &Held<'_>, asked: Ipv4Prefix, shortest: Ipv4Prefix) -> bool {
+fn has_shortest<A: Allocator>(map: &Map<A>, asked: Ipv4Prefix, shortest: Ipv4Prefix) -> bool {
     let value = shortest.prefix_len();
     map.get_spm(&asked) == Some((shortest, &value))
         && map.get_spm_prefix(&asked) == Some(shortest)
@@ -91,7 +100,12 @@ fn has_shortest(map: &Held<'_>, asked: Ipv4Prefix, shortest: Ipv4Prefix) -> bool
 }
 
 /// Whether the value of exactly a network, and that of its longest match, are lent.
-fn lends(map: &mut Held<'_>, asked: Ipv4Prefix, is_stored: bool, longest: Ipv4Prefix) -> bool {
+fn lends<A: Allocator>(
+    map: &mut Map<A>,
+    asked: Ipv4Prefix,
+    is_stored: bool,
+    longest: Ipv4Prefix,
+) -> bool {
     let value = map.get_mut(&asked).copied();
     let Some((found, lent)) = map.get_lpm_mut(&asked) else {
         return false;
@@ -101,7 +115,7 @@ fn lends(map: &mut Held<'_>, asked: Ipv4Prefix, is_stored: bool, longest: Ipv4Pr
 }
 
 /// Whether all counts are those of the five networks.
-fn counts(map: &Held<'_>) -> bool {
+fn counts<A: Allocator>(map: &Map<A>) -> bool {
     let nodes = map.node_blocks()[0];
     let [ones, twos, ..] = map.cell_blocks();
     !map.is_empty()
@@ -112,30 +126,30 @@ fn counts(map: &Held<'_>) -> bool {
         && (twos.used, twos.free) == (1, 0)
 }
 
+/// A question for a network, with whether it is stored and its longest match.
+type Question = ((u32, u8), bool, (u32, u8));
+
 /// Whether all lookups of a network answer so. The shortest match is the network of all addresses.
-fn answers(
-    map: &mut Held<'_>,
-    asked: (u32, u8),
-    is_stored: bool,
-    longest: (u32, u8),
-) -> Result<bool, Fail> {
+fn answers<A: Allocator>(map: &mut Map<A>, question: Question) -> Result<bool, Fail> {
+    let (asked, is_stored, longest) = question;
     let asked = network(asked.0, asked.1)?;
     let longest = network(longest.0, longest.1)?;
     let shortest = network(0, 0)?;
+    let finds = if is_stored {
+        finds(map, asked)
+    } else {
+        finds_none(map, asked)
+    };
     Ok(
-        finds(map, asked, is_stored)
+        finds
             && has_longest(map, asked, longest)
             && has_shortest(map, asked, shortest)
             && lends(map, asked, is_stored, longest),
     )
 }
 
-#[test]
-fn questions_ask_for_no_memory(rt: HostRuntime) -> Result<(), Fail> {
-    let heap = Refusing::new(rt.alloc());
-    let mut map = stored(&heap)?;
-    let before = heap.requests();
-    assert!(rt; counts(&map) && lists_all(&map)?);
+/// Whether lookups of networks that are stored, and of others, are answered.
+fn answers_all<A: Allocator>(map: &mut Map<A>) -> Result<bool, Fail> {
     let questions = [
         ((0x0a01_0101, 32), true, (0x0a01_0101, 32)),
         ((0x0a01_0100, 24), true, (0x0a01_0100, 24)),
@@ -143,15 +157,38 @@ fn questions_ask_for_no_memory(rt: HostRuntime) -> Result<(), Fail> {
         ((0x0b00_0000, 8), false, (0, 1)),
         ((0xff00_0000, 8), false, (0, 0)),
     ];
-    for (asked, is_stored, longest) in questions {
-        assert!(rt; answers(&mut map, asked, is_stored, longest)?, "{asked:?}");
+    for question in questions {
+        if !answers(map, question)? {
+            return Ok(false);
+        }
     }
-    assert_eq!(rt; heap.requests(), before);
+    Ok(true)
+}
+
+/// Whether all questions are answered with every request refused, and none comes.
+fn ask_for_nothing<A: Allocator>(heap: &Refusing<Global>, map: &mut Map<A>) -> Result<bool, Fail> {
+    put_five(map)?;
+    heap.refuse(0, u64::MAX);
+    let before = heap.requests();
+    let is_answered = counts(map) && lists_all(map)? && answers_all(map)?;
+    Ok(is_answered && heap.requests() == before)
+}
+
+/// The same of a new map.
+fn questions_refused(heap: &Refusing<Global>) -> Result<bool, Fail> {
+    let mut map = PrefixMap::new(heap)?;
+    ask_for_nothing(heap, &mut map)
+}
+
+#[test]
+fn questions_ask_for_no_memory(rt: HostRuntime) -> Result<(), Fail> {
+    let heap = Refusing::new(rt.alloc());
+    assert!(rt; questions_refused(&heap)?);
     Ok(())
 }
 
 /// Takes a network out and puts it back, in blocks that are there.
-fn goes_and_comes(map: &mut Held<'_>, network: Ipv4Prefix) -> bool {
+fn goes_and_comes<A: Allocator>(map: &mut Map<A>, network: Ipv4Prefix) -> bool {
     let value = network.prefix_len();
     map.insert(network, 99) == Ok(Some(value))
         && map.remove(&network) == Some(99)
@@ -162,24 +199,42 @@ fn goes_and_comes(map: &mut Held<'_>, network: Ipv4Prefix) -> bool {
 }
 
 /// Takes out what a network contains, and then all.
-fn empties(map: &mut Held<'_>, network: Ipv4Prefix) -> bool {
+fn empties<A: Allocator>(map: &mut Map<A>, network: Ipv4Prefix) -> bool {
     map.remove_children(&network);
     let left = map.len();
     map.clear();
     left == 2 && map.is_empty() && (map.node_slots(), map.cell_slots()) == (1, 0)
 }
 
-// The root's second value moves the first to the free block of one and back.
+/// Whether two networks go and come, and then all are taken out. The root's second value moves the first to the free block of
+/// one and back.
+fn changes<A: Allocator>(map: &mut Map<A>) -> Result<bool, Fail> {
+    let host = network(0x0a01_0101, 32)?;
+    let half = network(0, 1)?;
+    let come = goes_and_comes(map, host) && goes_and_comes(map, half);
+    Ok(come && counts(map) && lists_all(map)? && empties(map, network(0x0a00_0000, 8)?))
+}
+
+/// Whether all changes are made with every request refused, and none comes.
+fn change_for_nothing<A: Allocator>(
+    heap: &Refusing<Global>,
+    map: &mut Map<A>,
+) -> Result<bool, Fail> {
+    put_five(map)?;
+    heap.refuse(0, u64::MAX);
+    let before = heap.requests();
+    Ok(changes(map)? && heap.requests() == before)
+}
+
+/// The same of a new map.
+fn changes_refused(heap: &Refusing<Global>) -> Result<bool, Fail> {
+    let mut map = PrefixMap::new(heap)?;
+    change_for_nothing(heap, &mut map)
+}
+
 #[test]
 fn changes_among_free_blocks_ask_for_no_memory(rt: HostRuntime) -> Result<(), Fail> {
     let heap = Refusing::new(rt.alloc());
-    let mut map = stored(&heap)?;
-    let before = heap.requests();
-    for (addr, len) in [(0x0a01_0101, 32), (0, 1)] {
-        assert!(rt; goes_and_comes(&mut map, network(addr, len)?));
-    }
-    assert!(rt; counts(&map) && lists_all(&map)?);
-    assert!(rt; empties(&mut map, network(0x0a00_0000, 8)?));
-    assert_eq!(rt; heap.requests(), before);
+    assert!(rt; changes_refused(&heap)?);
     Ok(())
 }

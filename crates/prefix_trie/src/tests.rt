@@ -19,46 +19,66 @@ fn made<'a>(heap: &'a Refusing<Global>, is_limited: bool) -> Result<Held<'a>, Re
     PrefixMap::new(heap)
 }
 
-/// Makes maps, with another request refused each time. Answers how many requests were refused, or None where one was and the
-/// answer was not `Memory`.
-fn making_refused_in_turn(heap: &Refusing<Global>, is_limited: bool) -> Option<u64> {
+/// Whether an answer is `Memory` where a request was refused, or else an empty map.
+fn fits(answer: &Result<Held<'_>, Refusal>, was_refused: bool) -> bool {
+    match answer {
+        Ok(map) => !was_refused && map.is_empty(),
+        Err(cause) => was_refused && *cause == Refusal::Memory,
+    }
+}
+
+/// Makes a map with one request refused. Answers whether it was, once the answer fits.
+fn making_refused(heap: &Refusing<Global>, is_limited: bool, passed: u64) -> Result<bool, Fail> {
+    let before = heap.requests();
+    heap.refuse(passed, 1);
+    let answer = made(heap, is_limited);
+    heap.refuse(0, 0);
+    let was_refused = passed < heap.requests().wrapping_sub(before);
+    if fits(&answer, was_refused) {
+        Ok(was_refused)
+    } else {
+        Err(Fail::new("a new map"))
+    }
+}
+
+/// Makes maps, with another request refused each time. Answers how many requests were refused.
+fn making_refused_in_turn(heap: &Refusing<Global>, is_limited: bool) -> Result<u64, Fail> {
     for passed in 0..MANY {
-        let before = heap.requests();
-        heap.refuse(passed, 1);
-        let answer = made(heap, is_limited);
-        heap.refuse(0, 0);
-        let was_refused = passed < heap.requests().wrapping_sub(before);
-        match answer {
-            Ok(map) if !was_refused && map.is_empty() => return Some(passed),
-            Err(Refusal::Memory) if was_refused => {}
-            _ => return None,
+        if !making_refused(heap, is_limited, passed)? {
+            return Ok(passed);
         }
     }
-    None
+    Err(Fail::new("more requests than a new map makes"))
 }
 
 #[test]
-fn each_request_of_a_new_map_refused(rt: HostRuntime) {
+fn each_request_of_a_new_map_refused(rt: HostRuntime) -> Result<(), Fail> {
     let heap = Refusing::new(rt.alloc());
     for is_limited in [false, true] {
-        let refusals = making_refused_in_turn(&heap, is_limited);
-        assert!(rt; refusals.is_some_and(|count| 0 < count), "{refusals:?}");
+        assert!(rt; 0 < making_refused_in_turn(&heap, is_limited)?);
     }
+    Ok(())
 }
 
-/// A map of these networks, each with its length as value.
-fn stored<'a>(heap: &'a Refusing<Global>, networks: &[(u32, u8)]) -> Result<Held<'a>, Fail> {
-    let mut map = PrefixMap::new(heap)?;
+type Map<A> = PrefixMap<Ipv4Prefix, u8, A>;
+
+/// Stores these networks, each with its length as value.
+fn put_all<A: Allocator>(map: &mut Map<A>, networks: &[(u32, u8)]) -> Result<(), Fail> {
     for (addr, len) in networks {
         if map.insert(network(*addr, *len)?, *len) != Ok(None) {
             return Err(Fail::new("an insertion"));
         }
     }
-    Ok(map)
+    Ok(())
 }
 
 /// Whether a map has these networks, and so many entries and nodes.
-fn holds(map: &Held<'_>, networks: &[(u32, u8)], len: usize, nodes: usize) -> Result<bool, Fail> {
+fn holds<A: Allocator>(
+    map: &Map<A>,
+    networks: &[(u32, u8)],
+    len: usize,
+    nodes: usize,
+) -> Result<bool, Fail> {
     for (addr, len) in networks {
         if map.get(&network(*addr, *len)?) != Some(len) {
             return Ok(false);
@@ -67,69 +87,92 @@ fn holds(map: &Held<'_>, networks: &[(u32, u8)], len: usize, nodes: usize) -> Re
     Ok(map.len() == len && map.node_count() == nodes)
 }
 
-/// Inserts a network with one request refused. Answers whether it was, or None where the answer was not `Memory` then, or else
-/// not done.
-fn inserts(
+/// Inserts a network with one request refused. Answers whether it was, once the answer is `Memory` then, or else that it is done.
+fn inserts<A: Allocator>(
     heap: &Refusing<Global>,
-    map: &mut Held<'_>,
+    map: &mut Map<A>,
     added: Ipv4Prefix,
     passed: u64,
-) -> Option<bool> {
+) -> Result<bool, Fail> {
     let value = added.prefix_len();
     let before = heap.requests();
     heap.refuse(passed, 1);
     let answer = map.insert(added, value);
     heap.refuse(0, 0);
     let was_refused = passed < heap.requests().wrapping_sub(before);
-    let expected = if was_refused {
-        let cause = Refusal::Memory;
-        Err(Refused { cause, value })
+    if answer == expected(value, was_refused) {
+        Ok(was_refused)
     } else {
-        Ok(None)
-    };
-    if answer == expected {
-        Some(was_refused)
-    } else {
-        None
+        Err(Fail::new("an insertion with a request refused"))
     }
 }
 
-/// What an insertion into a map of these networks adds, with the nodes before and after it.
+/// The answer of an insertion where a request was refused, or else where it is done.
+fn expected(value: u8, was_refused: bool) -> Result<Option<u8>, Refused<u8>> {
+    if was_refused {
+        let cause = Refusal::Memory;
+        return Err(Refused { cause, value });
+    }
+    Ok(None)
+}
+
+/// An insertion into a map of these networks, with the nodes before and after it.
 #[derive(Clone, Copy)]
-struct Growth {
-    added: Ipv4Prefix,
+struct Growth<'a> {
+    networks: &'a [(u32, u8)],
+    added: (u32, u8),
     nodes: (usize, usize),
 }
 
-/// Inserts a network time and again, with another request refused each time, and then with none. Answers how many requests were
-/// refused, or None where the map was not then what it was before, or afterwards not what it should be.
-fn refused_in_turn(
+/// Whether a map is what it was before the insertion.
+fn is_as_before<A: Allocator>(map: &Map<A>, growth: &Growth<'_>) -> Result<bool, Fail> {
+    let networks = growth.networks;
+    holds(map, networks, networks.len(), growth.nodes.0)
+}
+
+/// Whether a map is what it should be after the insertion.
+fn is_grown<A: Allocator>(map: &Map<A>, growth: &Growth<'_>) -> Result<bool, Fail> {
+    let added = network(growth.added.0, growth.added.1)?;
+    let len = growth.networks.len().wrapping_add(1);
+    let is_added = map.get(&added) == Some(&growth.added.1);
+    Ok(is_added && holds(map, growth.networks, len, growth.nodes.1)?)
+}
+
+/// Inserts with one request refused, and then again with none. Answers whether one was, once the map was then what it was before,
+/// and is afterwards what it should be.
+fn refused_once<A: Allocator>(
     heap: &Refusing<Global>,
-    networks: &[(u32, u8)],
-    growth: Growth,
-) -> Result<Option<u64>, Fail> {
-    let added = growth.added;
-    let len = networks.len();
+    map: &mut Map<A>,
+    growth: &Growth<'_>,
+    passed: u64,
+) -> Result<bool, Fail> {
+    let added = network(growth.added.0, growth.added.1)?;
+    put_all(map, growth.networks)?;
+    let was_refused = inserts(heap, map, added, passed)?;
+    if was_refused && (!is_as_before(map, growth)? || inserts(heap, map, added, MANY)?) {
+        return Err(Fail::new("a map after a refusal"));
+    }
+    if is_grown(map, growth)? {
+        Ok(was_refused)
+    } else {
+        Err(Fail::new("a map after an insertion"))
+    }
+}
+
+/// The same of a new map.
+fn is_refused(heap: &Refusing<Global>, growth: &Growth<'_>, passed: u64) -> Result<bool, Fail> {
+    let mut map = PrefixMap::new(heap)?;
+    refused_once(heap, &mut map, growth, passed)
+}
+
+/// Inserts a network time and again, with another request refused each time. Answers how many requests were refused.
+fn refused_in_turn(heap: &Refusing<Global>, growth: &Growth<'_>) -> Result<u64, Fail> {
     for passed in 0..MANY {
-        let mut map = stored(heap, networks)?;
-        let Some(was_refused) = inserts(heap, &mut map, added, passed) else {
-            return Ok(None);
-        };
-        if was_refused {
-            let is_unchanged = holds(&map, networks, len, growth.nodes.0)?;
-            if !is_unchanged || inserts(heap, &mut map, added, MANY) != Some(false) {
-                return Ok(None);
-            }
-        }
-        let is_added = map.get(&added) == Some(&added.prefix_len());
-        if !is_added || !holds(&map, networks, len.wrapping_add(1), growth.nodes.1)? {
-            return Ok(None);
-        }
-        if !was_refused {
-            return Ok(Some(passed));
+        if !is_refused(heap, growth, passed)? {
+            return Ok(passed);
         }
     }
-    Ok(None)
+    Err(Fail::new("more requests than an insertion makes"))
 }
 
 /// Whether at least one request was refused, and all was as it should be.
@@ -139,9 +182,12 @@ fn grows(
     added: (u32, u8),
     nodes: (usize, usize),
 ) -> Result<bool, Fail> {
-    let added = network(added.0, added.1)?;
-    let refusals = refused_in_turn(heap, networks, Growth { added, nodes })?;
-    Ok(refusals.is_some_and(|count| 0 < count))
+    let growth = Growth {
+        networks,
+        added,
+        nodes,
+    };
+    Ok(0 < refused_in_turn(heap, &growth)?)
 }
 
 // A host's seven nodes; a third value in the root, whose block of two is full; and a third child of the root, with nodes below it.
@@ -171,20 +217,36 @@ fn replaces(
     }
 }
 
+/// Whether a map has this text for a network.
+fn has_text(map: &Texts, network: Ipv6Prefix, expected: &str) -> bool {
+    match map.get(&network) {
+        Some(text) => text.as_str() == expected,
+        None => false,
+    }
+}
+
+/// Whether a network has one text after the other.
+fn has_two_texts(alloc: Global, map: &mut Texts) -> Result<bool, Fail> {
+    let network = Ipv6Prefix::new(0x2001_0db8 << 96, 32).ok_or("a length above 128")?;
+    let is_new = replaces(map, network, String::from_str(alloc, "first")?, None);
+    let is_set = replaces(
+        map,
+        network,
+        String::from_str(alloc, "second")?,
+        Some("first"),
+    );
+    Ok(is_new && is_set && has_text(map, network, "second"))
+}
+
 #[test]
 fn ipv6_networks_with_text(rt: HostRuntime) -> Result<(), Fail> {
     let mut map = PrefixMap::new(rt.alloc())?;
-    let network = Ipv6Prefix::new(0x2001_0db8 << 96, 32).ok_or("a length above 128")?;
-    let first = String::from_str(rt.alloc(), "first")?;
-    let second = String::from_str(rt.alloc(), "second")?;
-    assert!(rt; replaces(&mut map, network, first, None));
-    assert!(rt; replaces(&mut map, network, second, Some("first")));
-    assert_eq!(rt; map.get(&network).map(|text| text.as_str()), Some("second"));
+    assert!(rt; has_two_texts(rt.alloc(), &mut map)?);
     Ok(())
 }
 
 /// Whether no stored network contains this one.
-fn matches_none<A: Allocator>(map: &PrefixMap<Ipv4Prefix, u8, A>, asked: Ipv4Prefix) -> bool {
+fn matches_none<A: Allocator>(map: &Map<A>, asked: Ipv4Prefix) -> bool {
     map.get_lpm(&asked).is_none()
         && map.get_lpm_prefix(&asked).is_none()
         && map.get_spm(&asked).is_none()
@@ -192,14 +254,23 @@ fn matches_none<A: Allocator>(map: &PrefixMap<Ipv4Prefix, u8, A>, asked: Ipv4Pre
         && !map.is_covered(&asked)
 }
 
+/// Whether no network matches in an empty map, and one beside a stored network, or above it, does not.
+fn has_no_matches<A: Allocator>(map: &mut Map<A>) -> Result<bool, Fail> {
+    let site = network(0xc0a8_0000, 23)?;
+    let beside = network(0xc0a8_0200, 24)?;
+    let above = network(0xc0a8_0000, 22)?;
+    Ok(
+        matches_none(map, site)
+            && map.insert(site, 1) == Ok(None)
+            && matches_none(map, beside)
+            && matches_none(map, above),
+    )
+}
+
 #[test]
 fn no_matches(rt: HostRuntime) -> Result<(), Fail> {
     let mut map = PrefixMap::new(rt.alloc())?;
-    let site = network(0xc0a8_0000, 23)?;
-    assert!(rt; matches_none(&map, site) && map.insert(site, 1) == Ok(None));
-    for (addr, len) in [(0xc0a8_0200, 24), (0xc0a8_0000, 22)] {
-        assert!(rt; matches_none(&map, network(addr, len)?));
-    }
+    assert!(rt; has_no_matches(&mut map)?);
     Ok(())
 }
 
@@ -208,44 +279,56 @@ fn a_counter_has_no_bytes(rt: HostRuntime) {
     assert_eq!(rt; size_of::<Visits>(), 0);
 }
 
-/// Row 12's insertion into a new map, with one request refused, and again with none. Answers whether one was refused, or None where
-/// the map was not then what it was before, or afterwards not what it should be.
-fn host_refused(heap: &Refusing<Global>, passed: u64) -> Result<Option<bool>, Fail> {
-    let mut map = PrefixMap::new(heap)?;
+type Hosts<A> = PrefixMap<(u32, u8), u8, A>;
+
+/// Row 12's insertion into a new map, with one request refused. Answers whether one was, once the answer was `Memory` and the map
+/// what it was before, or else the insertion done.
+fn takes_host<A: Allocator>(
+    heap: &Refusing<Global>,
+    map: &mut Hosts<A>,
+    passed: u64,
+) -> Result<bool, Fail> {
     let before = heap.requests();
     heap.refuse(passed, 1);
-    let answer = map.insert((0_u32, 32_u8), 9_u8);
+    let answer = map.insert((0, 32), 9);
     heap.refuse(0, 0);
-    if answer == Ok(None) {
-        let was_refused = passed < heap.requests().wrapping_sub(before);
-        return Ok(if was_refused { None } else { Some(false) });
-    }
-    let is_unchanged = answer
-        == Err(Refused {
-            cause: Refusal::Memory,
-            value: 9,
-        })
-        && (map.len(), map.node_count()) == (0, 1);
-    let is_added = map.insert((0, 32), 9) == Ok(None) && map.node_count() == 7;
-    Ok(if is_unchanged && is_added {
-        Some(true)
+    let was_refused = passed < heap.requests().wrapping_sub(before);
+    let counts = if was_refused { (0, 1) } else { (1, 7) };
+    if answer == expected(9, was_refused) && (map.len(), map.node_count()) == counts {
+        Ok(was_refused)
     } else {
-        None
-    })
+        Err(Fail::new("a first insertion"))
+    }
+}
+
+/// Whether the insertion is done with no request refused.
+fn is_host_added<A: Allocator>(map: &mut Hosts<A>) -> bool {
+    map.insert((0, 32), 9) == Ok(None) && map.node_count() == 7
+}
+
+/// Makes it with one request refused, and then again with none. Answers whether one was.
+fn host_refused(heap: &Refusing<Global>, passed: u64) -> Result<bool, Fail> {
+    let mut map = PrefixMap::new(heap)?;
+    let was_refused = takes_host(heap, &mut map, passed)?;
+    if was_refused && !is_host_added(&mut map) {
+        return Err(Fail::new("an insertion after a refusal"));
+    }
+    Ok(was_refused)
+}
+
+/// Makes it with another request refused each time. Answers how many requests were refused.
+fn host_refused_in_turn(heap: &Refusing<Global>) -> Result<u64, Fail> {
+    for passed in 0..MANY {
+        if !host_refused(heap, passed)? {
+            return Ok(passed);
+        }
+    }
+    Err(Fail::new("more requests than a first insertion makes"))
 }
 
 #[test]
 fn each_request_of_a_first_insertion_refused(rt: HostRuntime) -> Result<(), Fail> {
     let heap = Refusing::new(rt.alloc());
-    let mut refusals = 0;
-    for passed in 0..MANY {
-        let refused = host_refused(&heap, passed)?;
-        assert!(rt; refused.is_some(), "at {passed}");
-        if refused == Some(false) {
-            break;
-        }
-        refusals = passed + 1;
-    }
-    assert!(rt; 0 < refusals && refusals < MANY);
+    assert!(rt; 0 < host_refused_in_turn(&heap)?);
     Ok(())
 }

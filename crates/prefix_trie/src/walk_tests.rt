@@ -10,17 +10,14 @@ type Row = (u32, u8, u8);
 /// A network and its value.
 type Entry = (Ipv4Prefix, u8);
 
-type Routes = PrefixMap<Ipv4Prefix, u8, Global>;
+type Map<A> = PrefixMap<Ipv4Prefix, u8, A>;
 
 pub fn network(addr: u32, len: u8) -> Result<Ipv4Prefix, Fail> {
     Ok(Ipv4Prefix::new(addr, len).ok_or("a length above 32")?)
 }
 
 /// Inserts networks that are not stored, in this order.
-pub fn put_all<A: Allocator>(
-    map: &mut PrefixMap<Ipv4Prefix, u8, A>,
-    rows: &[Row],
-) -> Result<(), Fail> {
+pub fn put_all<A: Allocator>(map: &mut Map<A>, rows: &[Row]) -> Result<(), Fail> {
     for (addr, len, value) in rows {
         if map.insert(network(*addr, *len)?, *value) != Ok(None) {
             return Err(Fail::new("an insertion"));
@@ -29,17 +26,15 @@ pub fn put_all<A: Allocator>(
     Ok(())
 }
 
-/// A map of a neighbour of a site, an office of the site, the site and all addresses.
-fn routes(alloc: Global) -> Result<Routes, Fail> {
-    let mut map = PrefixMap::new(alloc)?;
+/// Stores a neighbour of a site, an office of the site, the site and all addresses.
+fn put_routes<A: Allocator>(map: &mut Map<A>) -> Result<(), Fail> {
     let rows = [
         (0xc0a9_0000, 16, 4),
         (0xc0a8_0100, 24, 3),
         (0xc0a8_0000, 16, 2),
         (0, 0, 1),
     ];
-    put_all(&mut map, &rows)?;
-    Ok(map)
+    put_all(map, &rows)
 }
 
 /// Whether three walks give these entries, their networks and their values.
@@ -61,16 +56,12 @@ fn give<A: Allocator>(
 }
 
 /// Whether the walks over all give these entries.
-pub fn lists<A: Allocator>(map: &PrefixMap<Ipv4Prefix, u8, A>, expected: &[Entry]) -> bool {
+pub fn lists<A: Allocator>(map: &Map<A>, expected: &[Entry]) -> bool {
     give(map.iter(), map.keys(), map.values(), expected)
 }
 
 /// Whether the walks around a network give these entries.
-pub fn covers<A: Allocator>(
-    map: &PrefixMap<Ipv4Prefix, u8, A>,
-    asked: Ipv4Prefix,
-    expected: &[Entry],
-) -> bool {
+pub fn covers<A: Allocator>(map: &Map<A>, asked: Ipv4Prefix, expected: &[Entry]) -> bool {
     let mut entries: Cover<'_, Ipv4Prefix, u8, A> = map.cover(&asked);
     let mut keys: CoverKeys<'_, Ipv4Prefix, u8, A> = map.cover_keys(&asked);
     let mut values: CoverValues<'_, Ipv4Prefix, u8, A> = map.cover_values(&asked);
@@ -86,7 +77,7 @@ pub fn covers<A: Allocator>(
 }
 
 /// Whether walks and their clones go on behind the first entry.
-fn go_on(map: &Routes, rest: &[Entry]) -> bool {
+fn go_on<A: Allocator>(map: &Map<A>, rest: &[Entry]) -> bool {
     let mut entries = map.iter();
     let mut keys = map.keys();
     let mut values = map.values();
@@ -96,57 +87,70 @@ fn go_on(map: &Routes, rest: &[Entry]) -> bool {
         && give(entries, keys, values, rest)
 }
 
-#[test]
-fn walks_over_all(rt: HostRuntime) -> Result<(), Fail> {
-    let map = routes(rt.alloc())?;
+/// Whether the walks over all give the four.
+fn lists_four<A: Allocator>(map: &mut Map<A>) -> Result<bool, Fail> {
+    put_routes(map)?;
     let all = network(0, 0)?;
     let site = network(0xc0a8_0000, 16)?;
     let office = network(0xc0a8_0100, 24)?;
     let neighbour = network(0xc0a9_0000, 16)?;
-    assert!(rt; lists(&map, &[(all, 1), (site, 2), (office, 3), (neighbour, 4)]));
-    assert!(rt; go_on(&map, &[(site, 2), (office, 3), (neighbour, 4)]));
+    let four = [(all, 1), (site, 2), (office, 3), (neighbour, 4)];
+    Ok(lists(map, &four) && go_on(map, &[(site, 2), (office, 3), (neighbour, 4)]))
+}
+
+#[test]
+fn walks_over_all(rt: HostRuntime) -> Result<(), Fail> {
+    let mut map = PrefixMap::new(rt.alloc())?;
+    assert!(rt; lists_four(&mut map)?);
     Ok(())
+}
+
+/// The values as the digits of a number.
+fn digits<A: Allocator>(map: &Map<A>) -> u32 {
+    let mut digits = 0_u32;
+    for (_, value) in map {
+        digits = digits.wrapping_mul(10).wrapping_add(u32::from(*value));
+    }
+    digits
 }
 
 #[test]
 fn a_loop_over_all(rt: HostRuntime) -> Result<(), Fail> {
-    let map = routes(rt.alloc())?;
-    let mut digits = 0_u32;
-    for (_, value) in &map {
-        digits = digits.wrapping_mul(10).wrapping_add(u32::from(*value));
-    }
-    assert_eq!(rt; digits, 1234);
+    let mut map = PrefixMap::new(rt.alloc())?;
+    put_routes(&mut map)?;
+    assert_eq!(rt; digits(&map), 1234);
     Ok(())
 }
 
 #[test]
 fn walks_over_none(rt: HostRuntime) -> Result<(), Fail> {
-    let map = Routes::new(rt.alloc())?;
+    let map = PrefixMap::new(rt.alloc())?;
     assert!(rt; lists(&map, &[]) && covers(&map, network(0, 0)?, &[]));
     let of_none = give::<Global>(Iter::default(), Keys::default(), Values::default(), &[]);
     assert!(rt; of_none);
     Ok(())
 }
 
-#[test]
-fn walks_around_one(rt: HostRuntime) -> Result<(), Fail> {
-    let map = routes(rt.alloc())?;
+/// Whether the walks around a host of the office, and around a network that contains the site, give what contains them.
+fn lists_around<A: Allocator>(map: &mut Map<A>) -> Result<bool, Fail> {
+    put_routes(map)?;
     let all = network(0, 0)?;
     let site = network(0xc0a8_0000, 16)?;
     let office = network(0xc0a8_0100, 24)?;
-    assert!(rt;
-        covers(
-            &map,
-            network(0xc0a8_01ff, 32)?,
-            &[(all, 1), (site, 2), (office, 3)]
-        )
-    );
-    assert!(rt; covers(&map, network(0xc0a9_0000, 15)?, &[(all, 1)]));
+    let host = network(0xc0a8_01ff, 32)?;
+    let above = network(0xc0a9_0000, 15)?;
+    Ok(covers(map, host, &[(all, 1), (site, 2), (office, 3)]) && covers(map, above, &[(all, 1)]))
+}
+
+#[test]
+fn walks_around_one(rt: HostRuntime) -> Result<(), Fail> {
+    let mut map = PrefixMap::new(rt.alloc())?;
+    assert!(rt; lists_around(&mut map)?);
     Ok(())
 }
 
 /// Writes over the value of exactly a network. Answers the one that was there.
-fn rewrite(map: &mut Routes, asked: Ipv4Prefix, value: u8) -> Option<u8> {
+fn rewrite<A: Allocator>(map: &mut Map<A>, asked: Ipv4Prefix, value: u8) -> Option<u8> {
     let Some(stored) = map.get_mut(&asked) else {
         return None;
     };
@@ -156,7 +160,7 @@ fn rewrite(map: &mut Routes, asked: Ipv4Prefix, value: u8) -> Option<u8> {
 }
 
 /// Writes over the value of the longest match. Answers the entry that was there.
-fn rewrite_longest(map: &mut Routes, asked: Ipv4Prefix, value: u8) -> Option<Entry> {
+fn rewrite_longest<A: Allocator>(map: &mut Map<A>, asked: Ipv4Prefix, value: u8) -> Option<Entry> {
     let Some((found, stored)) = map.get_lpm_mut(&asked) else {
         return None;
     };
@@ -165,14 +169,23 @@ fn rewrite_longest(map: &mut Routes, asked: Ipv4Prefix, value: u8) -> Option<Ent
     Some((found, before))
 }
 
-#[test]
-fn writes_through_what_is_lent(rt: HostRuntime) -> Result<(), Fail> {
-    let mut map = routes(rt.alloc())?;
+/// Whether the values written are there, and no others.
+fn is_rewritten<A: Allocator>(map: &mut Map<A>) -> Result<bool, Fail> {
+    put_routes(map)?;
+    let all = network(0, 0)?;
     let site = network(0xc0a8_0000, 16)?;
     let office = network(0xc0a8_0100, 24)?;
+    let neighbour = network(0xc0a9_0000, 16)?;
     let host = network(0xc0a8_0101, 32)?;
-    assert!(rt; rewrite(&mut map, site, 7) == Some(2) && rewrite(&mut map, host, 9).is_none());
-    assert!(rt; rewrite_longest(&mut map, host, 8) == Some((office, 3)));
-    assert!(rt; map.values().copied().eq([1, 7, 8, 4]));
+    let is_exact = rewrite(map, site, 7) == Some(2) && rewrite(map, host, 9).is_none();
+    let is_longest = rewrite_longest(map, host, 8) == Some((office, 3));
+    let written = [(all, 1), (site, 7), (office, 8), (neighbour, 4)];
+    Ok(is_exact && is_longest && lists(map, &written))
+}
+
+#[test]
+fn writes_through_what_is_lent(rt: HostRuntime) -> Result<(), Fail> {
+    let mut map = PrefixMap::new(rt.alloc())?;
+    assert!(rt; is_rewritten(&mut map)?);
     Ok(())
 }

@@ -4,7 +4,5 @@
 mod digits;
 pub mod laws;
 pub mod node;
-#[cfg(test)]
-mod node_tests;
 pub mod prefix;
 mod wide_digits;

@@ -8,8 +8,6 @@ use std::fmt::Debug;
 mod networks;
 mod numbers;
 mod pair;
-#[cfg(test)]
-mod tests;
 
 pub use networks::{Ipv4Prefix, Ipv6Prefix};
 

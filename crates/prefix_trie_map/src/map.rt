@@ -17,17 +17,11 @@ ghost use Rattle.prefix_trie_map.specs.Steps.{state, storage, inserted};
 mod clone;
 mod counting;
 mod cover;
-#[cfg(test)]
-mod cover_tests;
 mod iter;
-#[cfg(test)]
-mod iter_tests;
 mod lending;
 mod lookup;
 mod removal;
 mod retain;
-#[cfg(test)]
-mod retain_tests;
 mod slots;
 mod visits;
 

@@ -15,5 +15,3 @@ mod free_list;
 pub mod node;
 pub mod nodes;
 pub mod slots;
-#[cfg(test)]
-mod tests;

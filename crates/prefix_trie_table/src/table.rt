@@ -17,8 +17,6 @@ mod removal;
 pub mod retain;
 pub mod seat;
 pub mod spot;
-#[cfg(test)]
-mod tests;
 pub mod walk;
 
 ghost use Rattle.std.specs.Prelude.{◌≡◌, ℕ, ◌+◌, ◌*◌, ◌<◌, ◌≤◌, take, IfOk, OnOk, IfErr, OnErr, IsOk, IsErr, IsTrue, ◌↔◌, MatchOption, MatchResult, None, Some, false, Bool, List};

@@ -7,9 +7,6 @@ ghost use Rattle.prefix_trie_bits.specs.Model.Matches.{longest_match, shown_matc
 ghost use Rattle.prefix_trie_bits.specs.Model.Visits.{visits};
 ghost use Rattle.prefix_trie_map.specs.Lending.{lends_entry_if, lends_longest_if, lent_beside};
 
-#[cfg(test)]
-mod tests;
-
 use crate::map::PrefixMap;
 use crate::map::lookup::rebuilt;
 use crate::map::visits::Visits;

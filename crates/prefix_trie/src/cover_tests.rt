@@ -1,0 +1,68 @@
+//! What callers of the covering walks learn from their contracts.
+ghost use Rattle.std.specs.Prelude.{◌≡◌, map, length, nat_le, IfOk};
+ghost use Rattle.std.specs.List.{list_all};
+ghost use Rattle.prefix_trie_bits.specs.Model.Matches.{covers};
+ghost use Rattle.prefix_trie_bits.specs.Model.Selections.{shown};
+
+use crate::{Prefix, PrefixMap};
+use std::alloc::{AllocError, Allocator, Global};
+use std::test::Fail;
+
+// How many stored prefixes contain one.
+fn count<P: Prefix, T: Drop, A: Allocator>(m: &PrefixMap<P, T, A>, prefix: &P) -> usize
+    requires { P.IsFitting prefix.now }
+    ensures { result ≡ length (covers m.now.entries (P.path prefix.now)) }
+{
+    m.cover(prefix).count()
+}
+
+// Those prefixes, the shortest first.
+fn all_keys<P: Prefix, T: Drop, A: Allocator>(
+    alloc: A,
+    m: &PrefixMap<P, T, A>,
+    prefix: &P,
+) -> Result<Vec<P, A>, AllocError>
+    requires { P.IsFitting prefix.now }
+    ensures { IfOk result (λ v. v.items ≡ map (λ e. P.back e.0) (covers m.now.entries (P.path prefix.now))) }
+{
+    m.cover_keys(prefix).collect(alloc)
+}
+
+// Whether no value stored for those prefixes is below this one.
+fn none_below<P: Prefix, A: Allocator>(m: &PrefixMap<P, u32, A>, prefix: &P, least: u32) -> bool
+    requires { P.IsFitting prefix.now }
+    ensures { result ≡ list_all (λ e. nat_le least e.1) (shown P.back (covers m.now.entries (P.path prefix.now))) }
+{
+    for (_, value) in m.cover(prefix) {
+        if *value < least {
+            return false;
+        }
+    }
+    true
+}
+
+/// A map of the two last lengths of 16 bits.
+fn last_lengths(alloc: Global) -> Result<PrefixMap<(u16, u8), u32, Global>, Fail> {
+    let mut map = PrefixMap::new(alloc)?;
+    let answers = [map.insert((0x8000, 15), 1), map.insert((0x8001, 16), 2)];
+    if answers != [Ok(None), Ok(None)] {
+        return Err(Fail::new("an insertion"));
+    }
+    Ok(map)
+}
+
+/// Whether the prefixes that contain the last key come in listing order.
+fn lists_both(alloc: Global, map: &PrefixMap<(u16, u8), u32, Global>) -> Result<bool, AllocError> {
+    let keys = all_keys(alloc, map, &(0x8001, 16))?;
+    Ok(keys.as_slice() == [(0x8000, 15), (0x8001, 16)].as_slice())
+}
+
+#[test]
+fn last_lengths_are_counted_and_listed(rt: HostRuntime) -> Result<(), Fail> {
+    let map = last_lengths(rt.alloc())?;
+    let asked = (0x8001, 16);
+    assert!(rt; count(&map, &asked) == 2 && count(&map, &(0x8000, 16)) == 1);
+    assert!(rt; none_below(&map, &asked, 1) && !none_below(&map, &asked, 2));
+    assert!(rt; lists_both(rt.alloc(), &map)?);
+    Ok(())
+}
