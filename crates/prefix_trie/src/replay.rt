@@ -1,11 +1,12 @@
 //! A list of calls, run on a map.
 ghost use Rattle.std.specs.Prelude.{◌≡◌, ◌≤◌, All, IfOk, OnErr, MatchResult, length, vec_len};
-ghost use Rattle.std.specs.FinMap.{len};
+ghost use Rattle.std.specs.FinMap.{get, len};
 ghost use Rattle.prefix_trie_bits.specs.Model.Entries.{part_at_least};
 ghost use Rattle.prefix_trie_bits.specs.Model.Nodes.{needed};
 ghost use Rattle.prefix_trie_bits.specs.Model.Room.{LeavesRoom};
+ghost use Rattle.prefix_trie_bits.specs.Model.Matches.{longest_match, shortest_match, shown_match};
 ghost use Rattle.prefix_trie_bits.specs.Model.Selections.{listing, listing_covering, shown};
-ghost use Rattle.prefix_trie_bits.specs.Model.Step.{Run, Items, Refused};
+ghost use Rattle.prefix_trie_bits.specs.Model.Step.{Run, Insert, RemoveKeepTree, RemoveChildren, Done, Items, Refused};
 ghost use Rattle.prefix_trie_bits.specs.Model.Storage.{RemovesManyInStorage, StepInStorage, RunInStorage};
 ghost use Rattle.prefix_trie_bits.specs.declared.prefix.Refusal.TheVariants.{Memory};
 ghost use Rattle.prefix_trie_map.specs.Steps.{state, stored};
@@ -133,19 +134,13 @@ fn answer<P: Prefix, A: Allocator + Clone>(
 {
     read_slots(map);
     match call {
-        Call::Insert(prefix, value) => match map.insert(same_path(prefix), *value) {
-            Ok(before) => Reply::Value(before),
-            Err(refused) => Reply::Refused(refused.cause),
-        },
-        Call::Get(prefix) => Reply::Value(map.get_counted(prefix).0.copied()),
-        Call::Lpm(prefix) => Reply::Match(map.get_lpm_counted(prefix).0.map(owned)),
-        Call::Spm(prefix) => Reply::Match(map.get_spm_counted(prefix).0.map(owned)),
+        Call::Insert(prefix, value) => insert(map, prefix, *value),
+        Call::Get(prefix) => Reply::Value(value_at(map, prefix)),
+        Call::Lpm(prefix) => Reply::Match(longest(map, prefix)),
+        Call::Spm(prefix) => Reply::Match(shortest(map, prefix)),
         Call::Remove(prefix) => Reply::Value(map.remove(prefix)),
-        Call::RemoveKeepTree(prefix) => Reply::Value(map.remove_keep_tree(prefix)),
-        Call::RemoveChildren(prefix) => {
-            map.remove_children(prefix);
-            Reply::Done
-        }
+        Call::RemoveKeepTree(prefix) => remove_keep_tree(map, prefix),
+        Call::RemoveChildren(prefix) => remove_children(map, prefix),
         Call::RetainAtLeast(least) => {
             retain_at_least(map, *least);
             Reply::Done
@@ -159,6 +154,71 @@ fn answer<P: Prefix, A: Allocator + Clone>(
         Call::List => list_reply(listed(alloc, map)),
         Call::Cover(prefix) => list_reply(covered(alloc, map, prefix)),
     }
+}
+
+/// Carries out an insertion.
+fn insert<P: Prefix, A: Allocator>(
+    map: &mut PrefixMap<P, u64, A>,
+    prefix: &P,
+    value: u64,
+) -> Reply<P, A>
+    requires { P.IsFitting prefix.now }
+    ensures { StepInStorage P.path P.back P.R.bit_width
+        (stored map.old) (Insert prefix.now value) (reply_of result) (stored map.new) }
+{
+    match map.insert(same_path(prefix), value) {
+        Ok(before) => Reply::Value(before),
+        Err(refused) => Reply::Refused(refused.cause),
+    }
+}
+
+/// Carries out a removal that leaves all nodes.
+fn remove_keep_tree<P: Prefix, A: Allocator>(
+    map: &mut PrefixMap<P, u64, A>,
+    prefix: &P,
+) -> Reply<P, A>
+    requires { P.IsFitting prefix.now }
+    ensures { StepInStorage P.path P.back P.R.bit_width
+        (stored map.old) (RemoveKeepTree prefix.now) (reply_of result) (stored map.new) }
+{
+    Reply::Value(map.remove_keep_tree(prefix))
+}
+
+/// Carries out a removal of all that a prefix contains.
+fn remove_children<P: Prefix, A: Allocator>(
+    map: &mut PrefixMap<P, u64, A>,
+    prefix: &P,
+) -> Reply<P, A>
+    requires { P.IsFitting prefix.now }
+    ensures { StepInStorage P.path P.back P.R.bit_width
+        (stored map.old) (RemoveChildren prefix.now) (reply_of result) (stored map.new) }
+{
+    map.remove_children(prefix);
+    Reply::Done
+}
+
+/// The value stored for exactly this prefix.
+fn value_at<P: Prefix, A: Allocator>(map: &PrefixMap<P, u64, A>, prefix: &P) -> Option<u64>
+    requires { P.IsFitting prefix.now }
+    ensures { result ≡ get map.now.entries (P.path prefix.now) }
+{
+    map.get_counted(prefix).0.copied()
+}
+
+/// The longest stored prefix that contains this one, and its value.
+fn longest<P: Prefix, A: Allocator>(map: &PrefixMap<P, u64, A>, prefix: &P) -> Option<(P, u64)>
+    requires { P.IsFitting prefix.now }
+    ensures { result ≡ shown_match P.back (longest_match map.now.entries (P.path prefix.now)) }
+{
+    map.get_lpm_counted(prefix).0.map(owned)
+}
+
+/// The shortest stored prefix that contains this one, and its value.
+fn shortest<P: Prefix, A: Allocator>(map: &PrefixMap<P, u64, A>, prefix: &P) -> Option<(P, u64)>
+    requires { P.IsFitting prefix.now }
+    ensures { result ≡ shown_match P.back (shortest_match map.now.entries (P.path prefix.now)) }
+{
+    map.get_spm_counted(prefix).0.map(owned)
 }
 
 /// Changes nothing. That neither array passes the limit is what the numbers of its slots say.

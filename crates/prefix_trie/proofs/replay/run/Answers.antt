@@ -1,4 +1,4 @@
-use Rattle.std.proofs.Common.{List, subst, arith}
+use Rattle.std.proofs.Common.{rules, List, subst, arith}
 use Rattle.std.proofs.lemmas.List.{take_all}
 use Rattle.prefix_trie_bits.specs.Model.Storage.{StepInStorage, RunInStorage}
 use Rattle.prefix_trie_bits.proofs.Model.Runs.{run_push, run_of_stored}
@@ -23,3 +23,12 @@ returns-clause-run g c =
     run_of_stored g.P.Prefix.path g.P.Prefix.back g.P.R.Key.bit_width _ _ _ _
     (subst (λ (cs : List (Call g.row.P.Denot)). RunInStorage g.P.Prefix.path g.P.Prefix.back g.P.R.Key.bit_width (stored c.args.map.now) (calls_of cs) (replies_of c.loop-call.replies.items) (stored c.loop-call.map))
     (take_all c.loop-call.call-index c.args.calls.now (omega (arith, c.loop-call-test.false))) c.loop-call.invariant.run)
+
+pub returns-in_err-clone-clause-none_carried_out : goal.returns-in_err-clone-clause-none_carried_out
+returns-in_err-clone-clause-none_carried_out g c = search rules
+
+pub returns-in_err-replies-clause-none_carried_out : goal.returns-in_err-replies-clause-none_carried_out
+returns-in_err-replies-clause-none_carried_out g c = search rules
+
+pub loop-call-init : goal.loop-call-init
+loop-call-init g c = search rules

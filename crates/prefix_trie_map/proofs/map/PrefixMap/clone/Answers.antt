@@ -9,3 +9,15 @@ invariant_of-result g c =
 
 pub returns-clause-entries : goal.returns-clause-entries
 returns-clause-entries g c = rw (← c.self.view_is) c.in_ok-table.ensures.entries
+
+pub returns-clause-nodes : goal.returns-clause-nodes
+returns-clause-nodes g c = rw (← c.self.view_is) c.in_ok-table.ensures.nodes
+
+pub returns-clause-room : goal.returns-clause-room
+returns-clause-room g c = rw (← c.self.view_is) c.in_ok-table.ensures.room
+
+pub returns-clause-layout : goal.returns-clause-layout
+returns-clause-layout g c = rw (← c.self.view_is) c.in_ok-table.ensures.layout
+
+pub returns-clause-same : goal.returns-clause-same
+returns-clause-same g c = rw (← c.self.view_is) c.in_ok-table.ensures.same

@@ -1,4 +1,4 @@
-use Rattle.std.proofs.Common.{◌≡◌, ◌<◌, sym, ◌∙◌, subst}
+use Rattle.std.proofs.Common.{rules, ◌≡◌, ◌<◌, sym, ◌∙◌, subst}
 use Rattle.std.specs.FinMap.{len}
 use Rattle.prefix_trie_bits.specs.Model.Room.{LeavesRoom}
 use Rattle.prefix_trie_bits.specs.Model.Storage.{cleared, RemovesManyInStorage}
@@ -54,3 +54,12 @@ returns-clause-removes g c some =
       cells_still = e.cells_still part;
       keeps = e.keeps_blocks part;
     })
+
+pub returns-clause-entries : goal.returns-clause-entries
+returns-clause-entries g c = search rules
+
+pub returns-clause-nodes : goal.returns-clause-nodes
+returns-clause-nodes g c = search rules
+
+pub returns-clause-step : goal.returns-clause-step
+returns-clause-step g c = search rules

@@ -1,4 +1,4 @@
-use Rattle.std.proofs.Common.{sym, subst}
+use Rattle.std.proofs.Common.{rules, sym, subst}
 use Rattle.prefix_trie_bits.specs.Model.Entries.{no_entries}
 use Rattle.prefix_trie_bits.specs.Laws.Steps.{IsMap}
 use Rattle.prefix_trie_map.proofs.Insertions.{IsMap-empty}
@@ -10,3 +10,12 @@ invariant_of-result g c =
     let made = c.in_ok-new.ensures in
     subst (λ m. IsMap width (record { entries = m; nodes = c.in_ok-new.field-0.nodes })) (sym made.entries)
     (subst (λ n. IsMap width (record { entries = no_entries {T = g.row.T.Denot}; nodes = n })) (sym made.nodes) (IsMap-empty width))
+
+pub returns-in_err-new-clause-range : goal.returns-in_err-new-clause-range
+returns-in_err-new-clause-range g c = search rules
+
+pub returns-clause-room : goal.returns-clause-room
+returns-clause-room g c = search rules
+
+pub returns-clause-none : goal.returns-clause-none
+returns-clause-none g c = search rules

@@ -31,3 +31,6 @@ pub returns-in_err-make-clause-prepared : goal.returns-in_err-make-clause-prepar
 returns-in_err-make-clause-prepared g c =
     let same : c.make.new.self ≡ c.loop-i.self = search rules in
     Prepared-then _ _ _ c.loop-i.invariant.prepared (Prepared-same _ _ same)
+
+pub returns-in_err-make-clause-err : goal.returns-in_err-make-clause-err
+returns-in_err-make-clause-err g c = search rules

@@ -100,3 +100,6 @@ returns-in_err-obtain-clause-range g c =
 pub returns-in_err-obtain-clause-bound : goal.returns-in_err-obtain-clause-bound
 returns-in_err-obtain-clause-bound g c = λ most sizes.
     lacking_bound c.args.self.now.tiers c.args.k c.args.count c.args.lists most (tier_for_holds c.args.self.now.tiers 1 0 c.requires.single).0 sizes
+
+pub returns-clause-granted : goal.returns-clause-granted
+returns-clause-granted g c = search rules

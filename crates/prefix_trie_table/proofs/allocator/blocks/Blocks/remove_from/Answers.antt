@@ -121,3 +121,6 @@ returns-then-rest-eq0-clause-gone g c =
 pub returns-clause-stayed : goal.returns-clause-stayed
 returns-clause-stayed g c = λ _.
     (refl, subst (λ v. Turnover c.args.self.now v none_at none_at none_at) (sym (nothing_moved g c)) (Turnover-written c.args.self.now c.remove_within-value.new.self _ c.remove_within-value.ensures.slots c.remove_within-value.ensures.len))
+
+pub returns-clause-smaller : goal.returns-clause-smaller
+returns-clause-smaller g c = search rules

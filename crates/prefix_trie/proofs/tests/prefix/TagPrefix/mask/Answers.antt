@@ -1,0 +1,20 @@
+use Rattle.std.proofs.Common.{ℕ, ◌≡◌, ◌-◌, ◌*◌, ◌%◌, ◌^◌, ◌<◌, ◌≤◌, ◌++◌, take, bit_and, sub-le, ap, ◌∙◌}
+use Rattle.std.proofs.lemmas.Nat.Bits.{ones_shl, and_high_mask}
+use Rattle.prefix_trie_bits.specs.Bits.{digits, zeros}
+use Rattle.prefix_trie_bits.specs.BitStrings.{digits-keep, keep-none}
+use Rattle.prefix_trie.proofs.tests.prefix.TagPrefix.mask.Goals as goal
+
+-- what `value & (ones << (w - k))` computes
+digits-masked : (w v k : ℕ) → k ≤ w → v < 2 ^ w → digits w (bit_and v ((2 ^ w - 1) * 2 ^ (w - k) % 2 ^ w)) ≡ take k (digits w v) ++ zeros (w - k)
+digits-masked w v k h small =
+    ap (λ m. digits w (bit_and v m)) (ones_shl w (w - k) (sub-le w k)) ∙
+    ap (λ x. digits w x) (and_high_mask w (w - k) (sub-le w k) v small) ∙
+    digits-keep w v k h
+
+pub returns-then-self-eq0-clause-value : goal.returns-then-self-eq0-clause-value
+returns-then-self-eq0-clause-value c =
+    ap (λ x. digits 8 x) (keep-none 8 c.args.self.now.byte c.args.self.now.len c.if-self-eq0.true c.requires.0) ∙
+    digits-keep 8 c.args.self.now.byte c.args.self.now.len c.requires.1
+
+pub returns-else-self-eq0-clause-value : goal.returns-else-self-eq0-clause-value
+returns-else-self-eq0-clause-value c = digits-masked 8 c.args.self.now.byte c.args.self.now.len c.requires.1 c.requires.0

@@ -1,0 +1,117 @@
+//! Cases: calls of a map, each beside what it should answer.
+use crate::tests::changes::{
+    clears, copies, empties, inserts, makes, removes, removes_children, retains_above, turns,
+    writes, writes_longest,
+};
+use crate::tests::lists::{covers, lists};
+use crate::tests::questions::{finds, has_cells, has_len, has_nodes, has_slots, is_same};
+use crate::tests::refusing::Refusing;
+use crate::{Key, Prefix, PrefixMap, Refusal};
+use std::alloc::{Allocator, Global};
+
+/// A number and a length, which make a prefix.
+pub type Pair<K> = (K, u8);
+
+/// A pair without host bits, and its value.
+pub type Entry<K> = (Pair<K>, u64);
+
+/// A call beside what it should answer. Prefixes stand as pairs, so one table serves all types that have these numbers.
+#[derive(Drop)]
+pub enum Case<K: 'static> {
+    /// A new map is made in place of this one, under a limit of slots or none.
+    Makes(Option<u32>),
+    /// `insert` sets this value, and answers the one that was there.
+    Inserts(Pair<K>, u64, Option<u64>),
+    /// `insert` of this value is refused, since the slots would pass the limit.
+    PassesLimit(Pair<K>, u64),
+    /// `remove` answers so.
+    Removes(Pair<K>, Option<u64>),
+    /// `remove_keep_tree` answers so.
+    Empties(Pair<K>, Option<u64>),
+    /// `remove_children` is made.
+    RemovesChildren(Pair<K>),
+    /// `retain` keeps the values above this one.
+    RetainsAbove(u64),
+    /// `clear` is made.
+    Clears,
+    /// `clone` makes a second map that is the same.
+    Copies,
+    /// The two maps are the same: their entries, nodes and blocks.
+    Same,
+    /// The two maps change places.
+    Turns,
+    /// What is lent for a prefix has the second value, or nothing is lent; the first is written over it.
+    Writes(Pair<K>, u64, Option<u64>),
+    /// The same of the longest match.
+    WritesLongest(Pair<K>, u64, Option<Entry<K>>),
+    /// All lookups of a prefix: the entry of exactly it, its longest match and its shortest.
+    Finds(Pair<K>, Option<Entry<K>>, Option<Entry<K>>, Option<Entry<K>>),
+    /// All walks give these entries.
+    Lists(&'static [Entry<K>]),
+    /// The walks around a prefix give these.
+    Covers(Pair<K>, &'static [Entry<K>]),
+    /// So many entries.
+    Len(usize),
+    /// So many nodes.
+    Nodes(usize),
+    /// So many slots of nodes and of cells.
+    Slots(usize, usize),
+    /// The blocks of this size in the array of nodes: used and free.
+    NodeBlocks(usize, usize, usize),
+    /// The same in the array of cells.
+    CellBlocks(usize, usize, usize),
+}
+
+/// The prefix of a pair, whose length is cut at the greatest.
+pub fn prefix_of<P: Prefix>(pair: Pair<P::R>) -> P
+    ensures { P.IsFitting result }
+{
+    let (repr, len) = pair;
+    let _ = repr.is_key();
+    P::from_repr_len(repr, u32::from(len).min(P::num_bits()) as u8)
+}
+
+/// Whether a case holds of a map, beside which a second one stands.
+///
+/// Where a request is refused, the call that made it is refused with `Memory`, changes nothing and is made once more; but a
+/// removal does all that it should. How the map is stored is asked only where none was refused, since a removal may then take
+/// fewer blocks.
+pub fn holds<P: Prefix + Copy, A: Allocator + Copy>(
+    heap: &Refusing<Global>,
+    alloc: A,
+    map: &mut PrefixMap<P, u64, A>,
+    other: &mut PrefixMap<P, u64, A>,
+    case: &Case<P::R>,
+) -> bool {
+    match case {
+        Case::Makes(limit) => makes(heap, alloc, map, *limit),
+        Case::Inserts(at, value, before) => inserts(heap, map, *at, *value, Ok(*before)),
+        Case::PassesLimit(at, value) => {
+            inserts(heap, map, *at, *value, Err(Refusal::IndexRange))
+        }
+        Case::Removes(at, before) => removes(map, *at, *before),
+        Case::Empties(at, before) => empties(map, *at, *before),
+        Case::RemovesChildren(at) => removes_children(map, *at),
+        Case::RetainsAbove(most) => retains_above(map, *most),
+        Case::Clears => clears(map),
+        Case::Copies => copies(heap, map, other),
+        Case::Same => is_same(map, other),
+        Case::Turns => turns(map, other),
+        Case::Writes(at, value, before) => writes(map, *at, *value, *before),
+        Case::WritesLongest(at, value, before) => writes_longest(map, *at, *value, *before),
+        Case::Finds(at, exact, longest, shortest) => {
+            finds(map, *at, *exact, *longest, *shortest)
+        }
+        Case::Lists(entries) => lists(map, entries),
+        Case::Covers(at, entries) => covers(map, *at, entries),
+        Case::Len(len) => has_len(map, *len),
+        Case::Nodes(nodes) => map.node_count() == *nodes,
+        Case::Slots(nodes, cells) => heap.left() == 0 || has_slots(map, *nodes, *cells),
+        Case::NodeBlocks(size, used, free) => {
+            heap.left() == 0 || has_nodes(map, *size, *used, *free)
+        }
+        Case::CellBlocks(size, used, free) => {
+            heap.left() == 0 || has_cells(map, *size, *used, *free)
+        }
+    }
+}

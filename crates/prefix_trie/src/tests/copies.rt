@@ -1,0 +1,79 @@
+//! Copies of a map, with each request for memory refused in turn, and with every one refused.
+use crate::tests::cases::Case::{
+    Clears, Copies, Finds, Inserts, Lists, Nodes, Removes, Same, Turns,
+};
+use crate::tests::cases::Entry;
+use crate::tests::refusing::Refusing;
+use crate::tests::trials::{Table, all_in_turn, all_starved};
+use std::test::Fail;
+
+const TWO: [Entry<u32>; 2] = [((0x0a00_0000, 8), 8), ((0x0a01_0000, 16), 16)];
+
+/// Two networks, with free blocks in both arrays. The copy changes and the source does not, and the other way round.
+const APART: Table<'static, u32> = (
+    &[],
+    &[
+        Inserts((0x0a00_0000, 8), 8, None),
+        Inserts((0x0a01_0000, 16), 16, None),
+        Inserts((0xc0a8_0100, 24), 24, None),
+        Removes((0xc0a8_0100, 24), Some(24)),
+        Copies,
+        Turns,
+        Nodes(4),
+        Lists(&TWO),
+        Finds(
+            (0x0a02_0000, 32),
+            None,
+            Some(((0x0a00_0000, 8), 8)),
+            Some(((0x0a00_0000, 8), 8)),
+        ),
+        Inserts((0x0a01_0000, 16), 1, Some(16)),
+        Removes((0x0a00_0000, 8), Some(8)),
+        Turns,
+        Nodes(4),
+        Lists(&TWO),
+        Finds(
+            (0x0a02_0000, 32),
+            None,
+            Some(((0x0a00_0000, 8), 8)),
+            Some(((0x0a00_0000, 8), 8)),
+        ),
+        Clears,
+        Turns,
+        Lists(&[((0x0a01_0000, 16), 1)]),
+    ],
+);
+
+#[test]
+fn a_copy_and_its_source_share_nothing(rt: HostRuntime) -> Result<(), Fail> {
+    let heap = Refusing::new(rt.alloc());
+    all_in_turn(&heap, &[APART])?;
+    Ok(())
+}
+
+/// A network goes into the blocks that a removed one left, and out again.
+const FREE: Table<'static, u32> = (
+    &[
+        Inserts((0x0a00_0000, 8), 8, None),
+        Inserts((0x0a01_0000, 16), 16, None),
+        Inserts((0xc0a8_0100, 24), 24, None),
+        Removes((0xc0a8_0100, 24), Some(24)),
+        Copies,
+        Turns,
+    ],
+    &[
+        Inserts((0xc0a8_0100, 24), 1, None),
+        Removes((0xc0a8_0100, 24), Some(1)),
+        Lists(&TWO),
+        Same,
+        Turns,
+        Lists(&TWO),
+    ],
+);
+
+#[test]
+fn a_copy_has_the_free_blocks(rt: HostRuntime) -> Result<(), Fail> {
+    let heap = Refusing::new(rt.alloc());
+    all_starved(&heap, &[FREE])?;
+    Ok(())
+}

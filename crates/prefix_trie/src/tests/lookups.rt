@@ -1,0 +1,57 @@
+//! All forms of lookups, counted ones too: of a count there is nothing to read.
+use crate::tests::cases::Case::{Finds, Inserts, Lists, Writes, WritesLongest};
+use crate::tests::refusing::Refusing;
+use crate::tests::trials::{Table, all_in_turn, in_turn};
+use std::test::Fail;
+
+/// Asked for the longer with host bits, for an address in it, and for one that neither contains.
+const BOTH: Table<'static, u16> = (
+    &[],
+    &[
+        Inserts((0x8000, 1), 1, None),
+        Inserts((0xb800, 8), 2, None),
+        Finds(
+            (0xb8ff, 8),
+            Some(((0xb800, 8), 2)),
+            Some(((0xb800, 8), 2)),
+            Some(((0x8000, 1), 1)),
+        ),
+        Finds(
+            (0xb8ff, 16),
+            None,
+            Some(((0xb800, 8), 2)),
+            Some(((0x8000, 1), 1)),
+        ),
+        Finds((0x3800, 8), None, None, None),
+        Writes((0x3800, 8), 5, None),
+        WritesLongest((0x3800, 8), 5, None),
+        Writes((0xffff, 1), 3, Some(1)),
+        WritesLongest((0xb8ff, 16), 4, Some(((0xb800, 8), 2))),
+        Lists(&[((0x8000, 1), 3), ((0xb800, 8), 4)]),
+    ],
+);
+
+#[test]
+fn answers_and_writes_of_all_lookups(rt: HostRuntime) -> Result<(), Fail> {
+    let heap = Refusing::new(rt.alloc());
+    in_turn::<(u16, u8)>(&heap, BOTH)?;
+    Ok(())
+}
+
+/// In an empty map, and beside a stored network or above it.
+const NONE: Table<'static, u32> = (
+    &[],
+    &[
+        Finds((0xc0a8_0000, 23), None, None, None),
+        Inserts((0xc0a8_0000, 23), 1, None),
+        Finds((0xc0a8_0200, 24), None, None, None),
+        Finds((0xc0a8_0000, 22), None, None, None),
+    ],
+);
+
+#[test]
+fn no_matches(rt: HostRuntime) -> Result<(), Fail> {
+    let heap = Refusing::new(rt.alloc());
+    all_in_turn(&heap, &[NONE])?;
+    Ok(())
+}

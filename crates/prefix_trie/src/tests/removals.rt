@@ -1,0 +1,210 @@
+//! Taking entries out of a map, with each request for memory refused in turn, and with every one refused.
+use crate::Ipv4Prefix;
+use crate::tests::cases::Case::{
+    self, Empties, Finds, Inserts, Len, Nodes, Removes, RemovesChildren, RetainsAbove,
+};
+use crate::tests::cases::Pair;
+use crate::tests::refusing::Refusing;
+use crate::tests::trials::{Table, all_in_turn, in_turn, without_memory};
+use std::alloc::{AllocError, Global};
+use std::test::Fail;
+
+/// An empty node that is not on the way of a removal stays, and the removal's own goes.
+const OFF_THE_WAY: Table<'static, u32> = (
+    &[],
+    &[
+        Inserts((0, 32), 1, None),
+        Empties((0, 32), Some(1)),
+        Nodes(7),
+        Inserts((0x8000_0000, 5), 2, None),
+        Nodes(8),
+        Removes((0x8000_0000, 5), Some(2)),
+        Nodes(7),
+    ],
+);
+
+#[test]
+fn nodes_off_the_way_stay(rt: HostRuntime) -> Result<(), Fail> {
+    let heap = Refusing::new(rt.alloc());
+    all_in_turn(&heap, &[OFF_THE_WAY])?;
+    Ok(())
+}
+
+type Cases = Vec<Case<u32>, Global>;
+
+/// A network of 15 bits.
+fn numbered(number: u32) -> Pair<u32> {
+    (number << 17, 15)
+}
+
+/// Stores the networks that are numbered below this, with their numbers as values.
+fn puts(alloc: Global, end: u32) -> Result<Cases, AllocError> {
+    let mut cases = Vec::new(alloc);
+    for number in 0..end {
+        cases.push(Inserts(numbered(number), u64::from(number), None))?;
+    }
+    Ok(cases)
+}
+
+/// Takes each second of them out, from the first on. It is then not there, and that behind it is.
+fn takes_even(alloc: Global, end: u32) -> Result<Cases, AllocError> {
+    let mut cases = Vec::new(alloc);
+    for number in (0..end).step_by(2) {
+        let at = numbered(number);
+        cases.push(Removes(at, Some(u64::from(number))))?;
+        cases.push(Removes(at, None))?;
+    }
+    Ok(cases)
+}
+
+/// Adds that the others are there, and no more.
+fn has_odd(cases: &mut Cases, end: u32) -> Result<(), AllocError> {
+    for number in 0..end {
+        let at = numbered(number);
+        let left = if number % 2 == 1 {
+            Some((at, u64::from(number)))
+        } else {
+            None
+        };
+        cases.push(Finds(at, left, left, left))?;
+    }
+    cases.push(Len(end as usize / 2))?;
+    Ok(())
+}
+
+#[test]
+fn others_stay(rt: HostRuntime) -> Result<(), Fail> {
+    let heap = Refusing::new(rt.alloc());
+    let first = puts(rt.alloc(), 255)?;
+    let mut then = takes_even(rt.alloc(), 255)?;
+    has_odd(&mut then, 255)?;
+    in_turn::<Ipv4Prefix>(&heap, (first.as_slice(), then.as_slice()))?;
+    Ok(())
+}
+
+#[test]
+fn removals_need_no_memory(rt: HostRuntime) -> Result<(), Fail> {
+    let heap = Refusing::new(rt.alloc());
+    let first = puts(rt.alloc(), 50)?;
+    let mut then = takes_even(rt.alloc(), 50)?;
+    has_odd(&mut then, 50)?;
+    without_memory::<Ipv4Prefix>(&heap, (first.as_slice(), then.as_slice()))?;
+    Ok(())
+}
+
+/// How far apart 31 groups of five networks stand, and the networks in a group.
+#[derive(Clone, Copy)]
+struct Groups {
+    between: u32,
+    within: u32,
+    len: u8,
+}
+
+/// Each group in a node of its own.
+const IN_A_NODE: Groups = Groups {
+    between: 1 << 7,
+    within: 1 << 3,
+    len: 29,
+};
+
+/// Each network in a node of its own, and those of a group below one node.
+const BELOW_A_NODE: Groups = Groups {
+    between: 1 << 12,
+    within: 1 << 7,
+    len: 25,
+};
+
+/// How entries are taken out.
+#[derive(Clone, Copy)]
+enum By {
+    Remove,
+    KeepTree,
+    Children,
+    Retain,
+}
+
+fn network(groups: Groups, group: u32, item: u32) -> Pair<u32> {
+    let start = group.wrapping_mul(groups.between);
+    (
+        start.wrapping_add(item.wrapping_mul(groups.within)),
+        groups.len,
+    )
+}
+
+/// Stores all networks, a group after the other: then a group takes the small blocks that the one before it left.
+fn puts_groups(alloc: Global, groups: Groups) -> Result<Cases, AllocError> {
+    let mut cases = Vec::new(alloc);
+    for index in 0..155_u32 {
+        let item = index % 5;
+        let at = network(groups, index / 5, item);
+        cases.push(Inserts(at, u64::from(item), None))?;
+    }
+    Ok(cases)
+}
+
+/// Takes a network of this value out; by a prefix that is shorter by two bits also those beside it, and by a test those of the
+/// other groups.
+fn taking(at: Pair<u32>, item: u32, by: By) -> Case<u32> {
+    let value = u64::from(item);
+    match by {
+        By::Remove => Removes(at, Some(value)),
+        By::KeepTree => Empties(at, Some(value)),
+        By::Children => RemovesChildren((at.0, at.1.saturating_sub(2))),
+        By::Retain => RetainsAbove(value),
+    }
+}
+
+/// How many networks of a group are left once this one of it was taken out.
+fn left_after(item: u32, by: By) -> usize {
+    match by {
+        By::Children if item < 4 => 1,
+        _ => 4_usize.saturating_sub(item as usize),
+    }
+}
+
+/// Takes all networks out, the first of each group before any second: then a group needs small blocks that none has left. Each
+/// removal does all that it should, and no more.
+fn takes_groups(alloc: Global, groups: Groups, by: By) -> Result<Cases, AllocError> {
+    let mut cases = Vec::new(alloc);
+    for index in 0..155_u32 {
+        let item = index / 31;
+        let at = network(groups, index % 31, item);
+        cases.push(taking(at, item, by))?;
+        cases.push(Finds(at, None, None, None))?;
+        if index % 31 == 30 {
+            cases.push(Len(left_after(item, by).wrapping_mul(31)))?;
+        }
+    }
+    Ok(cases)
+}
+
+/// Takes groups out with each request of the removals refused in turn.
+fn taken_in_turn(
+    heap: &Refusing<Global>,
+    alloc: Global,
+    groups: Groups,
+    by: By,
+) -> Result<(), Fail> {
+    let first = puts_groups(alloc, groups)?;
+    let then = takes_groups(alloc, groups, by)?;
+    in_turn::<Ipv4Prefix>(heap, (first.as_slice(), then.as_slice()))?;
+    Ok(())
+}
+
+#[test]
+fn each_request_for_values_refused(rt: HostRuntime) -> Result<(), Fail> {
+    let heap = Refusing::new(rt.alloc());
+    for by in [By::Remove, By::KeepTree, By::Children, By::Retain] {
+        taken_in_turn(&heap, rt.alloc(), IN_A_NODE, by)?;
+    }
+    Ok(())
+}
+
+#[test]
+fn each_request_for_nodes_refused(rt: HostRuntime) -> Result<(), Fail> {
+    let heap = Refusing::new(rt.alloc());
+    for by in [By::Remove, By::Children, By::Retain] {
+        taken_in_turn(&heap, rt.alloc(), BELOW_A_NODE, by)?;
+    }
+    Ok(())
+}

@@ -1,0 +1,4 @@
+use Rattle.prefix_trie_map.proofs.map.PrefixMap.get.Goals as goal
+
+pub returns : goal.returns
+returns g c = c.get_counted.ensures.value

@@ -1,0 +1,103 @@
+//! The rows in order, each with its tables.
+mod blocks;
+mod limits;
+mod lookups;
+mod prefixes;
+mod removals;
+mod runs;
+mod walks;
+mod widths;
+
+use crate::run::{Turn, all_reply};
+use crate::table::{Line, all_hold};
+use prefix_trie::{Ipv4Prefix, Ipv6Prefix, Refusal};
+use std::alloc::Global;
+
+/// The tables of a row.
+pub type Row = &'static [Table];
+
+/// A table with the prefixes of its maps: IP networks, or pairs of a number and a length.
+#[derive(Drop)]
+pub enum Table {
+    Ipv4(&'static [Line<u32>]),
+    Ipv6(&'static [Line<u128>]),
+    U8(&'static [Line<u8>]),
+    U16(&'static [Line<u16>]),
+    U32(&'static [Line<u32>]),
+    U64(&'static [Line<u64>]),
+    U128(&'static [Line<u128>]),
+    Usize(&'static [Line<usize>]),
+    /// A run on a new map of this limit.
+    Run(u32, &'static [Turn<u8>]),
+}
+
+/// The rows in order, each with its number.
+pub const ROWS: [(u32, Row); 25] = [
+    (1, &[Table::Ipv4(&lookups::EXACT)]),
+    (3, &[Table::Ipv4(&lookups::MATCHES)]),
+    (5, &[Table::U32(&widths::HOSTS_OF_32_BITS)]),
+    (6, &[Table::U128(&widths::ENDS_OF_128_BITS)]),
+    (7, &[Table::Ipv4(&walks::IN_LISTING_ORDER)]),
+    (9, &[Table::Ipv4(&removals::BELOW_A_NETWORK)]),
+    (10, &[Table::U32(&removals::NODES_LEFT)]),
+    (13, &[Table::U32(&limits::FOUR_SLOTS)]),
+    (14, &[Table::U8(&blocks::FULL_ROOT)]),
+    (15, &[Table::U8(&blocks::ALL_ADDRESSES)]),
+    (17, &[Table::U8(&blocks::STEPS)]),
+    (18, &[Table::Ipv4(&removals::EVEN_VALUES_KEPT)]),
+    (19, &[Table::U8(&widths::ENDS_OF_8_BITS)]),
+    (22, &[Table::U32(&removals::PRUNED_ON_THE_WAY)]),
+    (25, &[Table::Ipv4(&walks::AROUND_A_NETWORK)]),
+    (
+        26,
+        &[
+            Table::Ipv4(&prefixes::NETWORKS),
+            Table::U8(&prefixes::PAIRS),
+        ],
+    ),
+    (27, &[Table::Run(u32::MAX, &runs::REPLIES_IN_ORDER)]),
+    (28, &[Table::Run(u32::MAX, &runs::HOST_BITS)]),
+    (
+        29,
+        &[
+            Table::U64(&widths::ENDS_OF_U64),
+            Table::Usize(&widths::ENDS_OF_USIZE),
+        ],
+    ),
+    (
+        30,
+        &[
+            Table::U16(&widths::ENDS_OF_16_BITS),
+            Table::Ipv6(&prefixes::LENGTHS_OF_IPV6),
+        ],
+    ),
+    (31, &[Table::U32(&removals::BELOW_HALF_NODES)]),
+    (32, &[Table::U32(&removals::EMPTY_NODES_ELSEWHERE)]),
+    (37, &[Table::U32(&blocks::TWO_HOSTS)]),
+    (38, &[Table::U8(&limits::KEPT_BLOCKS)]),
+    (40, &[Table::Run(2, &runs::UNDER_TWO_SLOTS)]),
+];
+
+/// Whether each table of a row comes out as it should.
+pub fn comes_out(alloc: Global, row: &[Table]) -> bool {
+    for table in row {
+        if holds(alloc, table) != Ok(true) {
+            return false;
+        }
+    }
+    true
+}
+
+fn holds(alloc: Global, table: &Table) -> Result<bool, Refusal> {
+    match table {
+        Table::Ipv4(lines) => all_hold::<Ipv4Prefix>(alloc, lines),
+        Table::Ipv6(lines) => all_hold::<Ipv6Prefix>(alloc, lines),
+        Table::U8(lines) => all_hold::<(u8, u8)>(alloc, lines),
+        Table::U16(lines) => all_hold::<(u16, u8)>(alloc, lines),
+        Table::U32(lines) => all_hold::<(u32, u8)>(alloc, lines),
+        Table::U64(lines) => all_hold::<(u64, u8)>(alloc, lines),
+        Table::U128(lines) => all_hold::<(u128, u8)>(alloc, lines),
+        Table::Usize(lines) => all_hold::<(usize, u8)>(alloc, lines),
+        Table::Run(limit, turns) => all_reply::<(u8, u8)>(alloc, *limit, turns),
+    }
+}

@@ -1,0 +1,100 @@
+//! Rows of removals.
+use crate::table::Line::{self, *};
+
+/// Row 9: a network goes with all those in it.
+pub const BELOW_A_NETWORK: [Line<u32>; 9] = [
+    Insert((0xc0a8_0000, 21), 1, Ok(None)),
+    Insert((0xc0a8_0000, 22), 2, Ok(None)),
+    Insert((0xc0a8_0000, 23), 3, Ok(None)),
+    Insert((0xc0a8_0000, 24), 4, Ok(None)),
+    Insert((0xc0a8_0400, 22), 5, Ok(None)),
+    Insert((0xc0a8_0400, 23), 6, Ok(None)),
+    RemoveChildren((0xc0a8_0000, 22)),
+    Len(3),
+    Values(&[1, 5, 6]),
+];
+
+/// Row 10: which nodes each way of taking out the one entry of a map leaves.
+pub const NODES_LEFT: [Line<u32>; 11] = [
+    NodeCount(1),
+    Insert((0, 32), 1, Ok(None)),
+    NodeCount(7),
+    Remove((0, 32), Some(1)),
+    NodeCount(1),
+    Insert((0, 32), 1, Ok(None)),
+    NodeCount(7),
+    RemoveKeepTree((0, 32), Some(1)),
+    NodeCount(7),
+    Retain(&[]),
+    NodeCount(1),
+];
+
+/// Row 18: the even values are kept. The test is asked once at each entry, in listing order.
+pub const EVEN_VALUES_KEPT: [Line<u32>; 9] = [
+    Insert((0xc0a8_0000, 24), 1, Ok(None)),
+    Insert((0xc0a8_0100, 24), 2, Ok(None)),
+    Insert((0xc0a8_0200, 24), 3, Ok(None)),
+    Insert((0xc0a8_0200, 25), 4, Ok(None)),
+    Retain(&[(1, false), (2, true), (3, false), (4, true)]),
+    Get((0xc0a8_0000, 24), None),
+    Get((0xc0a8_0100, 24), Some(2)),
+    Get((0xc0a8_0200, 24), None),
+    Get((0xc0a8_0200, 25), Some(4)),
+];
+
+/// Row 22: a removal prunes on the way to its prefix, also where that is not stored, and nowhere else.
+pub const PRUNED_ON_THE_WAY: [Line<u32>; 8] = [
+    Insert((0, 32), 1, Ok(None)),
+    RemoveKeepTree((0, 32), Some(1)),
+    Remove((0, 32), None),
+    NodeCount(1),
+    Insert((0, 32), 1, Ok(None)),
+    RemoveKeepTree((0, 32), Some(1)),
+    Remove((0x8000_0000, 32), None),
+    NodeCount(7),
+];
+
+/// Row 31: taking out what stands below a prefix takes all nodes below its own with it, prunes upward from that, and leaves
+/// what stands beside the prefix in one node.
+pub const BELOW_HALF_NODES: [Line<u32>; 22] = [
+    // A node is emptied from its middle, and its places are used again.
+    Insert((0, 11), 1, Ok(None)),
+    NodeCount(3),
+    RemoveChildren((0, 5)),
+    Len(0),
+    NodeCount(1),
+    Insert((0x8000_0000, 11), 2, Ok(None)),
+    Insert((0, 11), 3, Ok(None)),
+    NodeCount(5),
+    Get((0x8000_0000, 11), Some(2)),
+    Get((0, 11), Some(3)),
+
+    // The one entry stands below the prefix's node.
+    New,
+    Insert((0, 16), 1, Ok(None)),
+    NodeCount(4),
+    RemoveChildren((0, 12)),
+    NodeCount(1),
+
+    // Another entry stands in the prefix's node.
+    New,
+    Insert((0, 6), 1, Ok(None)),
+    Insert((0x0400_0000, 6), 2, Ok(None)),
+    RemoveChildren((0, 6)),
+    Len(1),
+    NodeCount(2),
+    Get((0x0400_0000, 6), Some(2)),
+];
+
+/// Row 32: empty nodes stay where they have a child, or where the prefix's own node is missing; below the prefix they go.
+pub const EMPTY_NODES_ELSEWHERE: [Line<u32>; 9] = [
+    Insert((0, 16), 1, Ok(None)),
+    RemoveKeepTree((0, 16), Some(1)),
+    NodeCount(4),
+    Remove((0, 11), None),
+    NodeCount(4),
+    RemoveChildren((0x8000_0000, 5)),
+    NodeCount(4),
+    RemoveChildren((0, 7)),
+    NodeCount(1),
+];

@@ -1,0 +1,75 @@
+//! Rows of numbers of each width, at the ends of their keys.
+use crate::table::Line::{self, *};
+
+/// Row 5: four hosts in a row share all nodes.
+pub const HOSTS_OF_32_BITS: [Line<u32>; 10] = [
+    Insert((0x0102_0300, 32), 1, Ok(None)),
+    Insert((0x0102_0301, 32), 2, Ok(None)),
+    Insert((0x0102_0302, 32), 3, Ok(None)),
+    Insert((0x0102_0303, 32), 4, Ok(None)),
+    Len(4),
+    Get((0x0102_0300, 32), Some(1)),
+    Get((0x0102_0301, 32), Some(2)),
+    Get((0x0102_0302, 32), Some(3)),
+    Get((0x0102_0303, 32), Some(4)),
+    NodeCount(7),
+];
+
+/// Row 6: the last node of a key of 128 bits, which spans three bits.
+pub const ENDS_OF_128_BITS: [Line<u128>; 5] = [
+    Insert((0, 125), 1, Ok(None)),
+    Insert((1, 128), 2, Ok(None)),
+    GetLpm((1, 128), Some(((1, 128), 2))),
+    GetLpm((2, 128), Some(((0, 125), 1))),
+    NodeCount(26),
+];
+
+/// Row 19: the last node of a key of eight bits, which spans three bits.
+pub const ENDS_OF_8_BITS: [Line<u8>; 8] = [
+    Insert((0, 5), 1, Ok(None)),
+    Insert((6, 8), 2, Ok(None)),
+    Insert((7, 8), 3, Ok(None)),
+    GetLpm((7, 8), Some(((7, 8), 3))),
+    GetLpm((5, 8), Some(((0, 5), 1))),
+    GetLpm((6, 7), Some(((0, 5), 1))),
+    GetSpm((7, 8), Some(((0, 5), 1))),
+    NodeCount(2),
+];
+
+/// Row 29: the last node of a key of 64 bits, which spans four bits. The last length but one is set through a longer prefix.
+pub const ENDS_OF_U64: [Line<u64>; 10] = [
+    Insert((0, 60), 1, Ok(None)),
+    Insert((5, 64), 2, Ok(None)),
+    Insert((6, 63), 3, Ok(None)),
+    GetLpm((5, 64), Some(((5, 64), 2))),
+    GetLpm((4, 64), Some(((0, 60), 1))),
+    GetLpm((7, 64), Some(((6, 63), 3))),
+    GetSpm((5, 64), Some(((0, 60), 1))),
+    GetLpmMut((7, 64), 9, (6, 63)),
+    Get((6, 63), Some(9)),
+    Get((5, 64), Some(2)),
+];
+
+/// Row 29: the same of the other type of such numbers.
+pub const ENDS_OF_USIZE: [Line<usize>; 10] = [
+    Insert((0, 60), 1, Ok(None)),
+    Insert((5, 64), 2, Ok(None)),
+    Insert((6, 63), 3, Ok(None)),
+    GetLpm((5, 64), Some(((5, 64), 2))),
+    GetLpm((4, 64), Some(((0, 60), 1))),
+    GetLpm((7, 64), Some(((6, 63), 3))),
+    GetSpm((5, 64), Some(((0, 60), 1))),
+    GetLpmMut((7, 64), 9, (6, 63)),
+    Get((6, 63), Some(9)),
+    Get((5, 64), Some(2)),
+];
+
+/// Row 30: the last node of a key of 16 bits, which spans one bit.
+pub const ENDS_OF_16_BITS: [Line<u16>; 6] = [
+    Insert((0x8000, 15), 1, Ok(None)),
+    Insert((0x8001, 16), 2, Ok(None)),
+    GetLpm((0x8001, 16), Some(((0x8001, 16), 2))),
+    GetLpm((0x8000, 16), Some(((0x8000, 15), 1))),
+    CoverValues((0x8001, 16), &[1, 2]),
+    IsCovered((0x8002, 16), false),
+];

@@ -1,0 +1,381 @@
+//! Tables: calls of a map beside the answers that they should have, and what puts them to a map.
+ghost use Rattle.std.specs.Prelude.{IfSome};
+
+use prefix_trie::{BlockCount, Ipv4Prefix, Ipv6Prefix, Key, Prefix, PrefixMap, Refusal, Refused};
+use std::alloc::Global;
+
+/// The map of a table, from prefixes to numbers.
+pub type Map<P> = PrefixMap<P, u64, Global>;
+
+/// A prefix as tables write it, a number and a length.
+pub type Pair<R> = (R, u8);
+
+/// An entry as tables write it.
+pub type Entry<R> = ((R, u8), u64);
+
+/// A call, and last the answer that it should have. Calls that answer nothing stand alone.
+#[derive(Drop)]
+pub enum Line<R: 'static> {
+    /// Goes on with a new map. A table begins with one.
+    New,
+    /// Goes on with a new map of this limit, if there is one.
+    WithSlotLimit(u32, Result<(), Refusal>),
+    /// The value that the prefix had, or why the new one was refused and handed back.
+    Insert(Pair<R>, u64, Result<Option<u64>, Refusal>),
+    /// Inserts prefixes in turn, with values from 0 up. All are new.
+    InsertAll(&'static [Pair<R>]),
+    Get(Pair<R>, Option<u64>),
+    GetLpm(Pair<R>, Option<Entry<R>>),
+    GetSpm(Pair<R>, Option<Entry<R>>),
+    /// Finds a prefix, whose value is then set to the number.
+    GetLpmMut(Pair<R>, u64, Pair<R>),
+    IsCovered(Pair<R>, bool),
+    /// All prefixes, in order, with values from 0 up.
+    Iter(&'static [Pair<R>]),
+    Values(&'static [u64]),
+    Cover(Pair<R>, &'static [Entry<R>]),
+    CoverValues(Pair<R>, &'static [u64]),
+    Remove(Pair<R>, Option<u64>),
+    RemoveKeepTree(Pair<R>, Option<u64>),
+    RemoveChildren(Pair<R>),
+    /// The values that the test is asked about, in order, each with what the test says.
+    Retain(&'static [(u64, bool)]),
+    Clear,
+    /// The number of entries. The map is empty exactly if it is 0.
+    Len(usize),
+    NodeCount(usize),
+    NodeSlots(usize),
+    CellSlots(usize),
+    /// How many blocks of each size are in use, and how many are free.
+    NodeBlocks([usize; 7], [usize; 7]),
+    CellBlocks([usize; 7], [usize; 7]),
+    /// A copy has the slots and the blocks of its map.
+    Clone,
+    /// Whether there is a prefix of this number and length.
+    IsPrefix(Pair<R>, bool),
+    Fits(Pair<R>, bool),
+    Mask(Pair<R>, R),
+    /// Whether the first contains the second.
+    Contains(Pair<R>, Pair<R>, bool),
+}
+
+/// A prefix that tables write as a number and a length.
+pub trait Written: Prefix {
+    /// The prefix of this number and length, if there is one.
+    fn of(number: Self::R, len: u8) -> Option<Self>;
+}
+
+/// There is always one, but it need not fit.
+impl<R: Key> Written for (R, u8) {
+    fn of(number: R, len: u8) -> Option<Self> {
+        Some((number, len))
+    }
+}
+
+impl Written for Ipv4Prefix {
+    fn of(number: u32, len: u8) -> Option<Self> {
+        Ipv4Prefix::new(number, len)
+    }
+}
+
+impl Written for Ipv6Prefix {
+    fn of(number: u128, len: u8) -> Option<Self> {
+        Ipv6Prefix::new(number, len)
+    }
+}
+
+/// The prefix that is written so, if there is one and it fits.
+pub fn fitting<P: Written>(pair: Pair<P::R>) -> Option<P>
+    ensures { IfSome result P.IsFitting }
+{
+    match P::of(pair.0, pair.1) {
+        Some(prefix) if prefix.fits() => Some(prefix),
+        _ => None,
+    }
+}
+
+/// Whether each call of a table has its answer, in order. Refused if there is no memory for the first map.
+pub fn all_hold<P: Written>(alloc: Global, lines: &[Line<P::R>]) -> Result<bool, Refusal> {
+    let mut map: Map<P> = PrefixMap::new(alloc)?;
+    Ok(hold_in_order(alloc, &mut map, lines))
+}
+
+/// Whether each call has its answer, where they are put to a map in order.
+fn hold_in_order<P: Written>(alloc: Global, map: &mut Map<P>, lines: &[Line<P::R>]) -> bool {
+    for line in lines {
+        if !holds(alloc, map, line) {
+            return false;
+        }
+    }
+    true
+}
+
+/// Whether a call has its answer.
+fn holds<P: Written>(alloc: Global, map: &mut Map<P>, line: &Line<P::R>) -> bool {
+    match line {
+        Line::New => renews(map, PrefixMap::new(alloc), Ok(())),
+        Line::WithSlotLimit(limit, answer) => {
+            renews(map, PrefixMap::with_slot_limit(alloc, *limit), *answer)
+        }
+        Line::Insert(pair, value, answer) => inserts(map, *pair, *value, *answer),
+        Line::InsertAll(pairs) => inserts_all(map, pairs),
+        Line::GetLpmMut(pair, value, answer) => writes(map, *pair, *value, *answer),
+        Line::Remove(pair, answer) => removes(map, *pair, *answer),
+        Line::RemoveKeepTree(pair, answer) => removes_keeping_tree(map, *pair, *answer),
+        Line::RemoveChildren(pair) => removes_children(map, *pair),
+        Line::Retain(asked) => retains(map, asked),
+        Line::Clear => clears(map),
+        _ => answers(map, line),
+    }
+}
+
+/// Whether a call that changes no map has its answer.
+fn answers<P: Written>(map: &Map<P>, line: &Line<P::R>) -> bool {
+    match line {
+        Line::Get(pair, answer) => gets(map, *pair, *answer),
+        Line::GetLpm(pair, answer) => finds_longest(map, *pair, *answer),
+        Line::GetSpm(pair, answer) => finds_shortest(map, *pair, *answer),
+        Line::IsCovered(pair, answer) => is_covered(map, *pair, *answer),
+        Line::Iter(pairs) => lists(map, pairs),
+        Line::Values(values) => map.values().eq(*values),
+        Line::Cover(pair, entries) => covers(map, *pair, entries),
+        Line::CoverValues(pair, values) => covers_values(map, *pair, values),
+        Line::Len(count) => map.len() == *count && map.is_empty() == (*count == 0),
+        Line::NodeCount(count) => map.node_count() == *count,
+        Line::NodeSlots(count) => map.node_slots() == *count,
+        Line::CellSlots(count) => map.cell_slots() == *count,
+        Line::NodeBlocks(used, free) => are(map.node_blocks(), NODE_SIZES, *used, *free),
+        Line::CellBlocks(used, free) => are(map.cell_blocks(), CELL_SIZES, *used, *free),
+        Line::Clone => clones(map),
+        _ => answers_alone::<P>(line),
+    }
+}
+
+/// Whether a question about a prefix by itself has its answer.
+fn answers_alone<P: Written>(line: &Line<P::R>) -> bool {
+    match line {
+        Line::IsPrefix((number, len), answer) => P::of(*number, *len).is_some() == *answer,
+        Line::Fits((number, len), answer) => fits::<P>(*number, *len) == Some(*answer),
+        Line::Mask(pair, answer) => masks::<P>(*pair, *answer),
+        Line::Contains(outer, inner, answer) => contains::<P>(*outer, *inner) == Some(*answer),
+        _ => false,
+    }
+}
+
+// ---- what changes a map
+
+/// Goes on with another map, if there is one.
+fn renews<P: Prefix>(
+    map: &mut Map<P>,
+    made: Result<Map<P>, Refusal>,
+    answer: Result<(), Refusal>,
+) -> bool {
+    match made {
+        Ok(fresh) => {
+            *map = fresh;
+            answer.is_ok()
+        }
+        Err(cause) => answer == Err(cause),
+    }
+}
+
+fn inserts<P: Written>(
+    map: &mut Map<P>,
+    pair: Pair<P::R>,
+    value: u64,
+    answer: Result<Option<u64>, Refusal>,
+) -> bool {
+    match fitting::<P>(pair) {
+        Some(prefix) => map.insert(prefix, value)
+            == answer.map_err(|cause| Refused { cause, value }),
+        None => false,
+    }
+}
+
+fn inserts_all<P: Written>(map: &mut Map<P>, pairs: &[Pair<P::R>]) -> bool {
+    let mut value = 0_u64;
+    for pair in pairs {
+        if !inserts(map, *pair, value, Ok(None)) {
+            return false;
+        }
+        value = value.wrapping_add(1);
+    }
+    true
+}
+
+fn writes<P: Written>(map: &mut Map<P>, pair: Pair<P::R>, value: u64, answer: Pair<P::R>) -> bool {
+    let Some(prefix) = fitting::<P>(pair) else {
+        return false;
+    };
+    match map.get_lpm_mut(&prefix) {
+        Some((found, place)) => {
+            *place = value;
+            (found.repr(), found.prefix_len()) == answer
+        }
+        None => false,
+    }
+}
+
+fn removes<P: Written>(map: &mut Map<P>, pair: Pair<P::R>, answer: Option<u64>) -> bool {
+    match fitting::<P>(pair) {
+        Some(prefix) => map.remove(&prefix) == answer,
+        None => false,
+    }
+}
+
+fn removes_keeping_tree<P: Written>(
+    map: &mut Map<P>,
+    pair: Pair<P::R>,
+    answer: Option<u64>,
+) -> bool {
+    match fitting::<P>(pair) {
+        Some(prefix) => map.remove_keep_tree(&prefix) == answer,
+        None => false,
+    }
+}
+
+fn removes_children<P: Written>(map: &mut Map<P>, pair: Pair<P::R>) -> bool {
+    match fitting::<P>(pair) {
+        Some(prefix) => {
+            map.remove_children(&prefix);
+            true
+        }
+        None => false,
+    }
+}
+
+/// Whether a test is asked about these values, each once and in order.
+fn retains<P: Prefix>(map: &mut Map<P>, asked: &[(u64, bool)]) -> bool {
+    let mut count = 0_usize;
+    let mut in_order = true;
+    map.retain(|_, value| {
+        let (expected, is_kept) = asked.get(count).copied().unwrap_or((0, false));
+        in_order = in_order && *value == expected;
+        count = count.saturating_add(1);
+        is_kept
+    });
+    in_order && count == asked.len()
+}
+
+fn clears<P: Prefix>(map: &mut Map<P>) -> bool {
+    map.clear();
+    true
+}
+
+// ---- what a map answers
+
+fn gets<P: Written>(map: &Map<P>, pair: Pair<P::R>, answer: Option<u64>) -> bool {
+    match fitting::<P>(pair) {
+        Some(prefix) => map.get(&prefix).copied() == answer,
+        None => false,
+    }
+}
+
+/// What a lookup or a walk gives, as tables write it.
+fn shown<P: Prefix>(found: Option<(P, &u64)>) -> Option<Entry<P::R>> {
+    match found {
+        Some((prefix, value)) => Some(((prefix.repr(), prefix.prefix_len()), *value)),
+        None => None,
+    }
+}
+
+fn finds_longest<P: Written>(map: &Map<P>, pair: Pair<P::R>, answer: Option<Entry<P::R>>) -> bool {
+    match fitting::<P>(pair) {
+        Some(prefix) => shown(map.get_lpm(&prefix)) == answer,
+        None => false,
+    }
+}
+
+fn finds_shortest<P: Written>(map: &Map<P>, pair: Pair<P::R>, answer: Option<Entry<P::R>>) -> bool {
+    match fitting::<P>(pair) {
+        Some(prefix) => shown(map.get_spm(&prefix)) == answer,
+        None => false,
+    }
+}
+
+fn is_covered<P: Written>(map: &Map<P>, pair: Pair<P::R>, answer: bool) -> bool {
+    match fitting::<P>(pair) {
+        Some(prefix) => map.is_covered(&prefix) == answer,
+        None => false,
+    }
+}
+
+fn lists<P: Prefix>(map: &Map<P>, pairs: &[Pair<P::R>]) -> bool {
+    let mut walk = map.iter();
+    let mut value = 0_u64;
+    for pair in pairs {
+        if shown(walk.next()) != Some((*pair, value)) {
+            return false;
+        }
+        value = value.wrapping_add(1);
+    }
+    walk.next().is_none()
+}
+
+fn covers<P: Written>(map: &Map<P>, pair: Pair<P::R>, entries: &[Entry<P::R>]) -> bool {
+    let Some(prefix) = fitting::<P>(pair) else {
+        return false;
+    };
+    let mut walk = map.cover(&prefix);
+    for entry in entries {
+        if shown(walk.next()) != Some(*entry) {
+            return false;
+        }
+    }
+    walk.next().is_none()
+}
+
+fn covers_values<P: Written>(map: &Map<P>, pair: Pair<P::R>, values: &[u64]) -> bool {
+    match fitting::<P>(pair) {
+        Some(prefix) => map.cover_values(&prefix).eq(values),
+        None => false,
+    }
+}
+
+// ---- how a map is stored
+
+/// The sizes of blocks of nodes, and of blocks of values.
+const NODE_SIZES: [usize; 7] = [1, 2, 4, 8, 16, 24, 32];
+
+const CELL_SIZES: [usize; 7] = [1, 2, 4, 8, 16, 24, 31];
+
+/// Whether the blocks have these sizes, and of each so many are in use and so many free.
+fn are(blocks: [BlockCount; 7], sizes: [usize; 7], used: [usize; 7], free: [usize; 7]) -> bool {
+    blocks.iter().map(|block| block.size).eq(sizes)
+        && blocks.iter().map(|block| block.used).eq(used)
+        && blocks.iter().map(|block| block.free).eq(free)
+}
+
+fn clones<P: Prefix>(map: &Map<P>) -> bool {
+    match map.clone() {
+        Ok(copy) => is_stored_alike(map, &copy),
+        Err(_) => false,
+    }
+}
+
+fn is_stored_alike<P: Prefix>(map: &Map<P>, copy: &Map<P>) -> bool {
+    copy.node_slots() == map.node_slots()
+        && copy.cell_slots() == map.cell_slots()
+        && copy.node_blocks() == map.node_blocks()
+        && copy.cell_blocks() == map.cell_blocks()
+}
+
+// ---- what a prefix answers by itself
+
+fn fits<P: Written>(number: P::R, len: u8) -> Option<bool> {
+    P::of(number, len).map(|prefix| prefix.fits())
+}
+
+fn masks<P: Written>(pair: Pair<P::R>, answer: P::R) -> bool {
+    match fitting::<P>(pair) {
+        Some(prefix) => prefix.mask() == answer,
+        None => false,
+    }
+}
+
+fn contains<P: Written>(outer: Pair<P::R>, inner: Pair<P::R>) -> Option<bool> {
+    match (fitting::<P>(outer), fitting::<P>(inner)) {
+        (Some(outer), Some(inner)) => Some(outer.contains(&inner)),
+        _ => None,
+    }
+}
