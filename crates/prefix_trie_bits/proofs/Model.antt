@@ -14,6 +14,9 @@ pub mod Plain
 pub mod Played
 pub mod WorkedRows
 pub mod WorkedFacts
+pub mod Facts
 pub mod Runs
 pub mod Steps
+pub mod Determined
+pub mod Stored
 pub mod Askings

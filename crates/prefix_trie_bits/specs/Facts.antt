@@ -1,5 +1,8 @@
 -- Worked facts that no reply shows: visits, holders and parents, block sizes, tilings, asking, a writing walk, handing out.
 -- They are this project's own, and go with worked rows.
+pub mod Blocks
+pub mod Insertions
+pub mod Steps
 use Rattle.std.specs.Prelude.{◌≡◌, ℕ, ◌+◌, ◌%◌, ◌==◌, true, false, [], ◌∷◌, length, Some, None}
 use Rattle.std.specs.FinMap.{len, values}
 use Rattle.prefix_trie_bits.specs.Model.Selections.{listing, listing_after, shown}
@@ -7,9 +10,10 @@ use Rattle.prefix_trie_bits.specs.Model.Nodes.{holders, parents}
 use Rattle.prefix_trie_bits.specs.Model.Visits.{visits, visits_to_match}
 use Rattle.prefix_trie_bits.specs.Model.Asking.{AsksInOrder}
 use Rattle.prefix_trie_bits.specs.Model.WritingWalk.{WritingWalk, walk_over, Next, Passes}
-use Rattle.prefix_trie_bits.specs.Model.Blocks.{Block, AreBlocksOf, value_block_sizes, child_block_sizes, smallest_size, own_entries, child_count}
+use Rattle.prefix_trie_bits.specs.Model.Blocks.{AreBlocksOf, value_block_sizes, child_block_sizes, smallest_size, own_entries, child_count}
 use Rattle.prefix_trie_bits.specs.Model.HandsOut.{HandsOut}
 use Rattle.prefix_trie_bits.specs.Model.Step.{State, Insert, Remove, RemoveKeepTree, Value}
+use Rattle.prefix_trie_bits.specs.Facts.Blocks.{at_slot}
 use Rattle.prefix_trie_bits.specs.Rows.Examples.{path_at, back_at, Row, LeadsTo, sets}
 
 -- two of row 5's keys: seven nodes are read for 32 bits, six for 29, and the root alone for a question with another first bit
@@ -64,10 +68,6 @@ pub record SmallestSizes : Type 0 where
   pub twenty_five : smallest_size value_block_sizes 25 ≡ Some 31
   pub children_25 : smallest_size child_block_sizes 25 ≡ Some 32
   pub too_many : smallest_size value_block_sizes 32 ≡ None
-
--- the block of a size that starts at a slot
-abbrev pub at_slot : ℕ → ℕ → Block
-at_slot start size = record { start = start; size = size }
 
 -- row 14's array of values: 86 slots, the block of 31 live and one of each other size free
 abbrev pub GrownCells : Type 0

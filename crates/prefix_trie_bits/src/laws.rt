@@ -2,12 +2,17 @@
 //! a law or a list of rows, so that the check proves it.
 
 ghost use Rattle.prefix_trie_bits.specs.Laws.Addresses.{AddressLaws};
+ghost use Rattle.prefix_trie_bits.specs.Laws.Determined.{DeterminedLaws};
 ghost use Rattle.prefix_trie_bits.specs.Laws.Listings.{ListingLaws};
 ghost use Rattle.prefix_trie_bits.specs.Laws.Matches.{MatchLaws};
 ghost use Rattle.prefix_trie_bits.specs.Laws.Nodes.{NodeLaws};
 ghost use Rattle.prefix_trie_bits.specs.Laws.Pruning.{PruningLaws};
 ghost use Rattle.prefix_trie_bits.specs.Laws.Steps.{StepLaws};
+ghost use Rattle.prefix_trie_bits.specs.Laws.Storage.{StorageLaws};
 ghost use Rattle.prefix_trie_bits.specs.Laws.Visits.{VisitLaws};
+ghost use Rattle.prefix_trie_bits.specs.Facts.Blocks.{BlocksHold};
+ghost use Rattle.prefix_trie_bits.specs.Facts.Insertions.{InsertionsHold};
+ghost use Rattle.prefix_trie_bits.specs.Facts.Steps.{StepsHold};
 ghost use Rattle.prefix_trie_bits.specs.Facts.{FactsHold};
 ghost use Rattle.prefix_trie_bits.specs.Rows.Addresses.{AddressesHold};
 ghost use Rattle.prefix_trie_bits.specs.Rows.Limits.{LimitsHold};
@@ -64,6 +69,20 @@ pub fn step_laws<P, T>()
     ensures { StepLaws P T }
 {}
 
+/// A step is determined up to refusal: two steps of one call from one state, neither refused, have the same reply and lead to
+/// the same state. A step is a refusal exactly where the call may be refused for that cause, as the insertion of a new key
+/// may, and a list for want of memory. From each state each call has a step that is no refusal.
+pub fn determined_laws<P, T>()
+    ensures { DeterminedLaws P T }
+{}
+
+/// A step that changes neither entries nor nodes leaves the storage as it was, and so does the insertion of a stored key. What
+/// `clear` and the removal of all leave is the root's slot alone. A refusal leaves the blocks in use as they were. The insertion
+/// of a new key, where it is not refused, fixes the slots and the blocks in use.
+pub fn storage_laws<P, T>()
+    ensures { StorageLaws P T }
+{}
+
 /// Worked rows: exact lookups, and longest and shortest matches.
 pub fn worked_lookups()
     ensures { LookupsHold }
@@ -98,4 +117,22 @@ pub fn worked_addresses()
 /// walk and handing out.
 pub fn worked_facts()
     ensures { FactsHold }
+{}
+
+/// Worked facts on blocks by their numbers: which block holds a list, which it needs, how blocks step down, how arrays grow and
+/// how blocks tile them; each with what is refused.
+pub fn worked_blocks()
+    ensures { BlocksHold }
+{}
+
+/// Worked facts on the blocks that an insertion needs, the slots that it lacks and when these pass a limit, on the maps of rows;
+/// and on which keys are a node's own.
+pub fn worked_insertions()
+    ensures { InsertionsHold }
+{}
+
+/// Worked facts on storages that no step leaves: blocks lost, moved unasked or left over, arrays too long or too short, and
+/// refusals without cause.
+pub fn worked_storages()
+    ensures { StepsHold }
 {}

@@ -7,8 +7,9 @@ use Rattle.prefix_trie_bits.specs.Bits.{begins}
 use Rattle.prefix_trie_bits.specs.Order.{listing_cmp, same_string}
 use Rattle.prefix_trie_bits.specs.Model.Entries.{Entries, AreWithin, no_entries, with_entry, without_entry, without_below, part_at_least}
 use Rattle.prefix_trie_bits.specs.Model.Nodes.{Nodes, with_needed, needed, AreNodes, IsTidy, nodes_without}
-use Rattle.prefix_trie_bits.specs.Model.Step.{State, Call, Insert, Get, Lpm, Spm, Remove, RemoveKeepTree, RemoveChildren, RetainAtLeast, Clear, Len, NodeCount, AddressCount, ListAll, ListFrom, Children, Cover, CallFits, Reply, Value, Match, Done, Count, Addresses, Items, Refused, Refusal, Step, Run}
+use Rattle.prefix_trie_bits.specs.Model.Step.{State, Call, Insert, Get, Lpm, Spm, Remove, RemoveKeepTree, RemoveChildren, RetainAtLeast, Clear, Len, NodeCount, AddressCount, ListAll, ListFrom, Children, Cover, CallFits, Reply, Count, Refused, Refusal, Step, Run}
 use Rattle.prefix_trie_bits.specs.Laws.Steps.{IsMap, StepKeeps, StepLaws, touches}
+use Rattle.prefix_trie_bits.proofs.Model.Determined.{refused}
 use Rattle.prefix_trie_bits.proofs.Model.Runs.{runs_join}
 use Rattle.prefix_trie_bits.proofs.Model.Members.{and-second, same_string-is, has-retained, get-with_entry, get-without_entry, get-without_below, get-part_at_least, same_entries}
 use Rattle.prefix_trie_bits.proofs.Model.Pruning.{remove_law, remove_children_law, removed_fewer, below_fewer}
@@ -100,37 +101,8 @@ module _ {P T : Type 0} (path : P → List Bool) (back : List Bool → P) (width
   tidy_count : (s : State T) (reply : Reply P T) (t : State T) → Step path back width s NodeCount reply t → TidyState s → reply ≡ Count (len (needed s.entries))
   tidy_count s reply t (r, e) tidy = r ∙ ap (λ n. Count (len n)) tidy
 
-  -- a reply of refusal is no other reply
-  abbrev is_refusal : Reply P T → Bool
-  is_refusal (Value o) = false
-  is_refusal (Match o) = false
-  is_refusal Done = false
-  is_refusal (Count n) = false
-  is_refusal (Addresses o) = false
-  is_refusal (Items es) = false
-  is_refusal (Refused cause) = true
-
-  no_refusal : {A : Type 0} (reply other : Reply P T) → is_refusal reply ≡ true → is_refusal other ≡ false → reply ≡ other → A
-  no_refusal reply other e f g = absurd (true≢false (sym e ∙ ap is_refusal g ∙ f))
-
   pub refused_as_before : (s : State T) (call : Call P T) (cause : Refusal) (t : State T) → Step path back width s call (Refused cause) t → t ≡ s
-  refused_as_before s (Insert q v) cause t (inl (r, e)) = no_refusal (Refused cause) _ refl refl r
-  refused_as_before s (Insert q v) cause t (inr (_, c, r, e)) = e
-  refused_as_before s (Get q) cause t (r, e) = e
-  refused_as_before s (Lpm q) cause t (r, e) = e
-  refused_as_before s (Spm q) cause t (r, e) = e
-  refused_as_before s (Remove q) cause t (r, e) = no_refusal (Refused cause) _ refl refl r
-  refused_as_before s (RemoveKeepTree q) cause t (r, e) = no_refusal (Refused cause) _ refl refl r
-  refused_as_before s (RemoveChildren q) cause t (r, e) = no_refusal (Refused cause) _ refl refl r
-  refused_as_before s (RetainAtLeast n) cause t (r, e) = no_refusal (Refused cause) _ refl refl r
-  refused_as_before s Clear cause t (r, e) = no_refusal (Refused cause) _ refl refl r
-  refused_as_before s Len cause t (r, e) = e
-  refused_as_before s NodeCount cause t (r, e) = e
-  refused_as_before s AddressCount cause t (r, e) = e
-  refused_as_before s ListAll cause t l = l.1
-  refused_as_before s (ListFrom q inclusive) cause t l = l.1
-  refused_as_before s (Children q) cause t l = l.1
-  refused_as_before s (Cover q) cause t l = l.1
+  refused_as_before s call cause t step = ((refused path back width s call cause t).0 step).1
 
 from-no : (b : Bool) → not b ≡ false → b ≡ true
 from-no true e = refl

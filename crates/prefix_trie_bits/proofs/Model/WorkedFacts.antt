@@ -12,13 +12,14 @@ use Rattle.prefix_trie_bits.specs.Model.Visits.{visits_of_match, visits_to_match
 use Rattle.prefix_trie_bits.specs.Model.WritingWalk.{WritingWalk, walk_over}
 use Rattle.prefix_trie_bits.specs.Model.Step.{State}
 use Rattle.prefix_trie_bits.specs.Rows.Examples.{path_at, back_at}
-use Rattle.prefix_trie_bits.specs.Facts.{Visits32, Visits128, VisitsToMatch, TwoFarKeys, KeptTree, OwnEntries, SmallestSizes, GrownCells, GrownNodes, NoBlocks, OddAskings, WrittenWalk, HandedOut, FactsHold, at_slot}
+use Rattle.prefix_trie_bits.specs.Facts.{Visits32, Visits128, VisitsToMatch, TwoFarKeys, KeptTree, OwnEntries, SmallestSizes, GrownCells, GrownNodes, NoBlocks, OddAskings, WrittenWalk, HandedOut, FactsHold}
+use Rattle.prefix_trie_bits.specs.Facts.Blocks.{at_slot}
 use Rattle.prefix_trie_bits.proofs.Model.Plain.{keys_of, Shows, Marks, needed-is, needed_marks, pruned_marks, marks_not_below, nodes_without_below-is}
 use Rattle.prefix_trie_bits.proofs.Model.Ordered.{entries-retained}
 use Rattle.prefix_trie_bits.proofs.Model.Played.{leads}
 
 -- what is said of the lists of a state's entries and nodes
-said : {A : Type 0} (f : List (List Bool × ℕ) → Marks → A) (t : State ℕ) {es : List (List Bool × ℕ)} {ns : Marks} → Shows t es ns → f (entries t.entries) (entries t.nodes) ≡ f es ns
+pub said : {A : Type 0} (f : List (List Bool × ℕ) → Marks → A) (t : State ℕ) {es : List (List Bool × ℕ)} {ns : Marks} → Shows t es ns → f (entries t.entries) (entries t.nodes) ≡ f es ns
 said f t s = ap₂ f s.of_entries s.of_nodes
 
 abbrev visits_in : List Bool → Marks → ℕ
@@ -40,16 +41,16 @@ of-match n q (Some e) = refl
 to_match : (m : Entries ℕ) (n : Nodes) (q : List Bool) → visits_to_match m n q ≡ to_match_in q (entries m) (entries n)
 to_match m n q = of-match n q (first_item (filter (λ e. begins e.0 q) (entries m)))
 
-abbrev parents_in : Marks → List (List Bool)
+abbrev pub parents_in : Marks → List (List Bool)
 parents_in ns = filter (λ p. list_any (λ s. begins p s && (length s == length p + 5)) (keys_of ns)) (keys_of ns)
 
-abbrev holders_in : List (List Bool × ℕ) → Marks → List (List Bool)
+abbrev pub holders_in : List (List Bool × ℕ) → Marks → List (List Bool)
 holders_in es ns = filter (λ p. list_any (λ s. begins p s && nat_lt (length s) (length p + 5)) (keys_of es)) (keys_of ns)
 
-abbrev own_in : List Bool → List (List Bool × ℕ) → ℕ
+abbrev pub own_in : List Bool → List (List Bool × ℕ) → ℕ
 own_in p es = length (filter (λ s. begins p s && nat_lt (length s) (length p + 5)) (keys_of es))
 
-abbrev children_in : List Bool → Marks → ℕ
+abbrev pub children_in : List Bool → Marks → ℕ
 children_in p ns = length (filter (λ s. begins p s && (length s == length p + 5)) (keys_of ns))
 
 visits32 : Visits32

@@ -46,6 +46,7 @@ removals_hold = record {
   row48_first = gives refl;
   row49_first = gives refl;
   off_the_path = gives refl;
+  at_least = gives refl;
 }
 
 pub limits_hold : LimitsHold

@@ -4,7 +4,7 @@ use Rattle.prefix_trie_bits.specs.Model.Step.{Insert, Remove, Clear, Len, NodeCo
 use Rattle.prefix_trie_bits.specs.Rows.Examples.{Gives, counted, full_pairs, sets}
 
 -- the 31 pairs of lengths 0 to 4 of eight bits, in listing order
-abbrev short_pairs : List (ℕ × ℕ)
+abbrev pub short_pairs : List (ℕ × ℕ)
 short_pairs =
     (0, 0) ∷ (0, 1) ∷ (0, 2) ∷ (0, 3) ∷ (0, 4) ∷ (16, 4) ∷ (32, 3) ∷ (32, 4) ∷
     (48, 4) ∷ (64, 2) ∷ (64, 3) ∷ (64, 4) ∷ (80, 4) ∷ (96, 3) ∷ (96, 4) ∷ (112, 4) ∷

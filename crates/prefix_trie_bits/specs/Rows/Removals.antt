@@ -181,6 +181,18 @@ Off_the_path = Gives 32 (
     (NodeCount, Count 1) ∷
     [])
 
+-- entries whose keys have just the length that `retain` asks for stay, and the shorter ones go
+abbrev pub At_least : Type 0
+At_least = Gives 8 (
+    (Insert (0, 4) 1, Value None) ∷
+    (Insert (0, 5) 2, Value None) ∷
+    (Insert (0, 6) 3, Value None) ∷
+    (RetainAtLeast 5, Done) ∷
+    (ListAll, Items (((0, 5), 2) ∷ ((0, 6), 3) ∷ [])) ∷
+    (RetainAtLeast 6, Done) ∷
+    (ListAll, Items (((0, 6), 3) ∷ [])) ∷
+    [])
+
 -- the rows of this file
 pub record RemovalsHold : Type 0 where
   pub row9 : Row9
@@ -196,3 +208,4 @@ pub record RemovalsHold : Type 0 where
   pub row48_first : Row48_first
   pub row49_first : Row49_first
   pub off_the_path : Off_the_path
+  pub at_least : At_least

@@ -1,0 +1,4 @@
+-- Worked facts on storage.
+pub mod Blocks
+pub mod Insertions
+pub mod Steps

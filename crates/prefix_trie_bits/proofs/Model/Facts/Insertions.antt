@@ -1,0 +1,189 @@
+-- The worked facts on what an insertion needs and lacks.
+use Rattle.std.proofs.Common.{◌≡◌, ◌⊎◌, ℕ, ◌+◌, ◌<◌, ◌≤◌, ◌&&◌, Bool, not, cond, List, [], ◌∷◌, map, take, filter_map, length, nat_lt, is_some, Option, None, refl, ap, ap₂, ◌∙◌, inl, inr, arith, lit<, lit≤}
+use Rattle.std.specs.Prelude.{option_to_list}
+use lib.Dec.{T as IsT}
+use Rattle.std.specs.FinMap.{entries, entries-from_sorted, get-entries, find, is_sorted}
+use Rattle.prefix_trie_bits.specs.Bits.{digits, number, begins}
+use Rattle.prefix_trie_bits.specs.Order.{listing_cmp, same_string}
+use Rattle.prefix_trie_bits.specs.Model.Entries.{Entries}
+use Rattle.prefix_trie_bits.specs.Model.Nodes.{Nodes, is_node_depth, nodes_above, home}
+use Rattle.prefix_trie_bits.specs.Model.Blocks.{Sizes, Layout, value_block_sizes, child_block_sizes, no_layout, own_entries, child_count}
+use Rattle.prefix_trie_bits.specs.Model.Insertion.{block_needed, gains_child, child_block_needed, value_block_needed, lacking_slots, node_slots_lacking, cell_slots_lacking}
+use Rattle.prefix_trie_bits.specs.Model.Step.{State}
+use Rattle.prefix_trie_bits.specs.Rows.Examples.{path_at, full_pairs}
+use Rattle.prefix_trie_bits.specs.Facts.Blocks.{none_free}
+use Rattle.prefix_trie_bits.specs.Facts.Insertions.{Blocks, by_path, sizes_at, layout_at, with_one, ones_free, lacking, far_children, far_layout, FirstKey, FreedBlocks, FarKey, FullBlock, BlockWithRoom, FreeBlockServes, FullChildBlock, ThreeSlots, FiveBitsMore, InsertionsHold}
+use Rattle.prefix_trie_bits.proofs.Model.Plain.{Shows, Marks}
+use Rattle.prefix_trie_bits.proofs.Model.Ordered.{entries-empty}
+use Rattle.prefix_trie_bits.proofs.Model.Played.{leads}
+use Rattle.prefix_trie_bits.proofs.Model.WorkedFacts.{said, holders_in, parents_in, own_in, children_in}
+
+abbrev pub Sized : Type 0
+Sized = List (List Bool × ℕ)
+
+-- the same words of lists, which compute
+abbrev pub gains_in : Marks → List Bool → List Bool → Bool
+gains_in ns q p =
+    (is_node_depth p && begins p q) && (nat_lt (length p) (length (home q)) && not (is_some (find listing_cmp (take (length p + 5) q) ns)))
+
+abbrev pub child_needed_in : Marks → Sized → List Bool → List Bool → Option ℕ
+child_needed_in ns bs q p = cond (gains_in ns q p) (block_needed child_block_sizes (find listing_cmp p bs) (children_in p ns)) None
+
+abbrev pub value_needed_in : Sized → Sized → List Bool → List Bool → Option ℕ
+value_needed_in es bs q p = cond (same_string p (home q)) (block_needed value_block_sizes (find listing_cmp p bs) (own_in p es)) None
+
+abbrev pub nodes_lacking_in : Marks → Sized → List ℕ → List Bool → ℕ
+nodes_lacking_in ns bs free q = lacking_slots child_block_sizes free (filter_map (child_needed_in ns bs q) (nodes_above q))
+
+abbrev pub cells_lacking_in : Sized → Sized → List ℕ → List Bool → ℕ
+cells_lacking_in es bs free q = lacking_slots value_block_sizes free (option_to_list (value_needed_in es bs q (home q)))
+
+gains-is : (n : Nodes) (q p : List Bool) → gains_child n q p ≡ gains_in (entries n) q p
+gains-is n q p = ap (λ o. (is_node_depth p && begins p q) && (nat_lt (length p) (length (home q)) && not (is_some o))) (get-entries n (take (length p + 5) q))
+
+child-is : (n : Nodes) (blocks : Sizes) (q p : List Bool) → child_block_needed n blocks q p ≡ child_needed_in (entries n) (entries blocks) q p
+child-is n blocks q p = ap₂ (λ g o. cond g (block_needed child_block_sizes o (child_count n p)) None) (gains-is n q p) (get-entries blocks p)
+
+pub value-is : (m : Entries ℕ) (blocks : Sizes) (q p : List Bool) → value_block_needed m blocks q p ≡ value_needed_in (entries m) (entries blocks) q p
+value-is m blocks q p = ap (λ o. cond (same_string p (home q)) (block_needed value_block_sizes o (own_entries m p)) None) (get-entries blocks p)
+
+nodes_lacking-is : (n : Nodes) (layout : Layout) (q : List Bool) → node_slots_lacking n layout q ≡ nodes_lacking_in (entries n) (entries layout.child_blocks) layout.free_child_blocks q
+nodes_lacking-is n layout q = λ i. lacking_slots child_block_sizes layout.free_child_blocks (filter_map (λ p. child-is n layout.child_blocks q p i) (nodes_above q))
+
+cells_lacking-is : (m : Entries ℕ) (layout : Layout) (q : List Bool) → cell_slots_lacking m layout q ≡ cells_lacking_in (entries m) (entries layout.value_blocks) layout.free_value_blocks q
+cells_lacking-is m layout q = λ i. lacking_slots value_block_sizes layout.free_value_blocks (option_to_list (value-is m layout.value_blocks q (home q) i))
+
+-- the same of several strings
+gains-all : (n : Nodes) (q : List Bool) (ps : List (ℕ × ℕ)) → map (λ p. gains_child n q (path_at 32 p)) ps ≡ map (λ p. gains_in (entries n) q (path_at 32 p)) ps
+gains-all n q ps = λ i. map (λ p. gains-is n q (path_at 32 p) i) ps
+
+children-all : (n : Nodes) (blocks : Sizes) (q : List Bool) (ps : List (ℕ × ℕ)) → map (λ p. child_block_needed n blocks q (path_at 32 p)) ps ≡ map (λ p. child_needed_in (entries n) (entries blocks) q (path_at 32 p)) ps
+children-all n blocks q ps = λ i. map (λ p. child-is n blocks q (path_at 32 p) i) ps
+
+values-all : (m : Entries ℕ) (blocks : Sizes) (q : List Bool) (ps : List (ℕ × ℕ)) → map (λ p. value_block_needed m blocks q (path_at 32 p)) ps ≡ map (λ p. value_needed_in (entries m) (entries blocks) q (path_at 32 p)) ps
+values-all m blocks q ps = λ i. map (λ p. value-is m blocks q (path_at 32 p) i) ps
+
+-- blocks by the strings of their nodes, in order
+abbrev pub listed : ℕ → Blocks → Sized
+listed width blocks = map (by_path width) blocks
+
+abbrev pub InOrder : ℕ → Blocks → Type 0
+InOrder width blocks = IsT (is_sorted listing_cmp (listed width blocks))
+
+sizes-is : (width : ℕ) (blocks : Blocks) → InOrder width blocks → entries (sizes_at width blocks) ≡ listed width blocks
+sizes-is width blocks h = entries-from_sorted listing_cmp (listed width blocks) h
+
+lacks_in : (width : ℕ) (t : State ℕ) (layout : Layout) (q : ℕ × ℕ) {es cs vs : Sized} {ns : Marks} → Shows t es ns → entries layout.child_blocks ≡ cs → entries layout.value_blocks ≡ vs
+    → lacking width t layout q ≡ (nodes_lacking_in ns cs layout.free_child_blocks (path_at width q), cells_lacking_in es vs layout.free_value_blocks (path_at width q))
+lacks_in width t layout q s c v =
+    let a = nodes_lacking-is t.nodes layout (path_at width q) ∙ ap₂ (λ ns bs. nodes_lacking_in ns bs layout.free_child_blocks (path_at width q)) s.of_nodes c in
+    let b = cells_lacking-is t.entries layout (path_at width q) ∙ ap₂ (λ es bs. cells_lacking_in es bs layout.free_value_blocks (path_at width q)) s.of_entries v in
+    λ i. (a i, b i)
+
+pub lacks : (width : ℕ) (t : State ℕ) (cs vs : Blocks) (fc fv : List ℕ) (q : ℕ × ℕ) {es : Sized} {ns : Marks} → Shows t es ns → InOrder width cs → InOrder width vs
+    → lacking width t (layout_at width cs vs fc fv) q ≡ (nodes_lacking_in ns (listed width cs) fc (path_at width q), cells_lacking_in es (listed width vs) fv (path_at width q))
+lacks width t cs vs fc fv q s c v = lacks_in width t (layout_at width cs vs fc fv) q s (sizes-is width cs c) (sizes-is width vs v)
+
+lacks_new : (width : ℕ) (t : State ℕ) (q : ℕ × ℕ) {es : Sized} {ns : Marks} → Shows t es ns
+    → lacking width t no_layout q ≡ (nodes_lacking_in ns [] none_free (path_at width q), cells_lacking_in es [] none_free (path_at width q))
+lacks_new width t q s = lacks_in width t no_layout q s (entries-empty ℕ) (entries-empty ℕ)
+
+-- whether lacking slots pass a limit
+more : (limit slots lack n : ℕ) → lack ≡ n → limit < slots + n → limit < slots + lack
+more limit slots lack n e l = rw e l
+
+pub neither_more : (limit a b lack_a lack_b n m : ℕ) → lack_a ≡ n → lack_b ≡ m → a + n ≤ limit → b + m ≤ limit → (limit < a + lack_a) ⊎ (limit < b + lack_b) → ⊥
+neither_more limit a b lack_a lack_b n m e f p q (inl l) = absurd (omega arith)
+neither_more limit a b lack_a lack_b n m e f p q (inr l) = absurd (omega arith)
+
+first_key : FirstKey
+unfolding digits number begins
+first_key = leads refl (λ t s.
+    let long = lacks_new 32 t (0, 32) s in
+    let short = lacks_new 32 t (0, 4) s in (
+      long,
+      short,
+      inl (more 4 1 _ 6 (ap (λ x. x.0) long) (lit< tt)),
+      neither_more 4 1 0 _ _ 0 1 (ap (λ x. x.0) short) (ap (λ x. x.1) short) (lit≤ tt) (lit≤ tt),
+    ))
+
+freed : FreedBlocks
+unfolding digits number begins
+freed = leads refl (λ t s. lacks 32 t [] [] (ones_free 6) (ones_free 1) (0xffffffff, 32) s tt tt)
+
+abbrev far_values : Blocks
+far_values = ((0xfffffffc, 30), 1) ∷ []
+
+far_key : FarKey
+unfolding digits number begins
+far_key = leads refl (λ t s.
+    let q = path_at 32 (0, 32) in
+    let children = sizes-is 32 far_children tt in
+    let values = sizes-is 32 far_values tt in
+    let gaining : List (ℕ × ℕ) = (0, 0) ∷ (0, 5) ∷ (0, 25) ∷ (0, 30) ∷ (0xf8000000, 5) ∷ (0, 3) ∷ [] in
+    let parents : List (ℕ × ℕ) = (0, 0) ∷ (0, 5) ∷ (0, 30) ∷ [] in
+    let owners : List (ℕ × ℕ) = (0, 30) ∷ (0, 0) ∷ (0, 25) ∷ [] in (
+      lacks 32 t far_children far_values none_free none_free (0, 32) s tt tt,
+      gains-all t.nodes q gaining ∙ ap (λ ns. map (λ p. gains_in ns q (path_at 32 p)) gaining) s.of_nodes,
+      children-all t.nodes far_layout.child_blocks q parents ∙ ap₂ (λ ns bs. map (λ p. child_needed_in ns bs q (path_at 32 p)) parents) s.of_nodes children,
+      values-all t.entries far_layout.value_blocks q owners ∙ ap₂ (λ es bs. map (λ p. value_needed_in es bs q (path_at 32 p)) owners) s.of_entries values,
+      gains-is t.nodes (path_at 32 (0xfffffffe, 32)) (path_at 32 (0xffffff80, 25))
+          ∙ ap (λ ns. gains_in ns (path_at 32 (0xfffffffe, 32)) (path_at 32 (0xffffff80, 25))) s.of_nodes,
+      lacks 32 t far_children far_values none_free none_free (0xfffffffe, 32) s tt tt,
+    ))
+
+abbrev five_free : List ℕ
+five_free = 1 ∷ 1 ∷ 1 ∷ 1 ∷ 1 ∷ 0 ∷ 0 ∷ []
+
+full : FullBlock
+unfolding digits number begins
+full = leads refl (λ t s. lacks 8 t [] (((0, 0), 24) ∷ []) none_free five_free (192, 2) s tt tt)
+
+with_room : BlockWithRoom
+unfolding digits number begins
+with_room = leads refl (λ t s. lacks 8 t [] (((0, 0), 24) ∷ []) none_free five_free (176, 4) s tt tt)
+
+free_serves : FreeBlockServes
+unfolding digits number begins
+free_serves = leads refl (λ t s. (
+  said (λ es ns. own_in [] es) t s,
+  lacks 8 t [] (((0, 0), 24) ∷ []) none_free (1 ∷ 1 ∷ 1 ∷ 1 ∷ 1 ∷ 0 ∷ 1 ∷ []) (240, 4) s tt tt,
+))
+
+children : FullChildBlock
+unfolding digits number begins
+children = leads refl (λ t s. (
+  said (λ es ns. children_in [] ns) t s,
+  lacks 5 t (((0, 0), 24) ∷ []) (map with_one (take 24 (full_pairs 5))) five_free none_free (24, 5) s tt tt,
+))
+
+three : ThreeSlots
+unfolding digits number begins
+three = leads refl (λ t s.
+    let third = lacks 8 t (((0, 0), 1) ∷ []) (((0, 0), 2) ∷ ((0, 5), 1) ∷ []) none_free none_free (64, 2) s tt tt in (
+      third,
+      inr (more 3 3 _ 4 (ap (λ x. x.1) third) (lit< tt)),
+      neither_more 7 2 3 _ _ 0 4 (ap (λ x. x.0) third) (ap (λ x. x.1) third) (lit≤ tt) (lit≤ tt),
+    ))
+
+five_bits : FiveBitsMore
+unfolding digits number begins
+five_bits = leads refl (λ t s. (
+  said (λ es ns. holders_in es ns) t s,
+  said (λ es ns. own_in [] es) t s,
+  said (λ es ns. own_in (path_at 8 (0, 5)) es) t s,
+  said (λ es ns. parents_in ns) t s,
+))
+
+pub insertions_hold : InsertionsHold
+insertions_hold = record {
+  first_key = first_key;
+  freed = freed;
+  far_key = far_key;
+  full = full;
+  with_room = with_room;
+  free_serves = free_serves;
+  children = children;
+  three = three;
+  five_bits = five_bits;
+}

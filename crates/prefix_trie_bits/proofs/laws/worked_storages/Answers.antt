@@ -1,0 +1,5 @@
+use Rattle.prefix_trie_bits.proofs.Model.Facts.Steps.{steps_hold}
+use Rattle.prefix_trie_bits.proofs.laws.worked_storages.Goals as goal
+
+pub returns : goal.returns
+returns c = steps_hold

@@ -1,0 +1,52 @@
+-- What a step leaves of the storage, as far as one storage alone can be left.
+use Rattle.std.specs.Prelude.{◌≡◌, ℕ, Bool, true, false, List}
+use Rattle.std.specs.FinMap.{contains_key}
+use Rattle.prefix_trie_bits.specs.Model.Nodes.{is_root}
+use Rattle.prefix_trie_bits.specs.Model.Step.{State, Call, Insert, Get, Lpm, Spm, Remove, RemoveKeepTree, RemoveChildren, RetainAtLeast, Clear, Len, NodeCount, AddressCount, ListAll, ListFrom, Children, Cover, Reply, Refused, Refusal}
+use Rattle.prefix_trie_bits.specs.Model.Storage.{Storage, StepInStorage, cleared}
+use Rattle.prefix_trie_bits.specs.Laws.Determined.{is_refusal}
+
+module _ {P T : Type 0} where
+  -- whether a call can change a map
+  abbrev pub may_change : Call P T → Bool
+  may_change (Insert q v) = true
+  may_change (Get q) = false
+  may_change (Lpm q) = false
+  may_change (Spm q) = false
+  may_change (Remove q) = true
+  may_change (RemoveKeepTree q) = true
+  may_change (RemoveChildren q) = true
+  may_change (RetainAtLeast n) = true
+  may_change Clear = true
+  may_change Len = false
+  may_change NodeCount = false
+  may_change AddressCount = false
+  may_change ListAll = false
+  may_change (ListFrom q inclusive) = false
+  may_change (Children q) = false
+  may_change (Cover q) = false
+
+-- two storages have the same slots, and the same blocks in use
+pub record UseAlike (a b : Storage) : Type 0 where
+  pub room : a.room ≡ b.room
+  pub child_blocks : a.layout.child_blocks ≡ b.layout.child_blocks
+  pub value_blocks : a.layout.value_blocks ≡ b.layout.value_blocks
+
+module _ {P T : Type 0} (path : P → List Bool) (back : List Bool → P) (width : ℕ) where
+  -- what is fixed of a step from s to t: the storage left by a call that changes nothing, by the insertion of a stored key, and by
+  -- one that empties the map; and the blocks in use after a refusal
+  pub record LeavesFixed (s : State T × Storage) (call : Call P T) (reply : Reply P T) (t : State T × Storage) : Type 0 where
+    pub unchanged : may_change call ≡ false → t ≡ s
+    pub set_again : (q : P) (v : T) → call ≡ Insert q v → contains_key s.0.entries (path q) ≡ true → t.1 ≡ s.1
+    pub cleared_all : call ≡ Clear → t.1 ≡ cleared s.1
+    pub removed_all : (q : P) → call ≡ RemoveChildren q → is_root (path q) ≡ true → t.1 ≡ cleared s.1
+    pub refused : (cause : Refusal) → reply ≡ Refused cause →
+        (t.1.layout.child_blocks ≡ s.1.layout.child_blocks) × (t.1.layout.value_blocks ≡ s.1.layout.value_blocks)
+
+pub record StorageLaws (P T : Type 0) : Type 0 where
+  pub fixed : (path : P → List Bool) (back : List Bool → P) (width : ℕ) (s : State T × Storage) (call : Call P T) (reply : Reply P T) (t : State T × Storage)
+      → StepInStorage path back width s call reply t → LeavesFixed path back width s call reply t
+  -- two insertions of one new key into one map that are not refused leave the same slots, and the same blocks in use
+  pub inserted : (path : P → List Bool) (back : List Bool → P) (width : ℕ) (s : State T × Storage) (q : P) (v : T) (reply other : Reply P T)
+      (t u : State T × Storage) → is_refusal reply ≡ false → is_refusal other ≡ false
+      → StepInStorage path back width s (Insert q v) reply t → StepInStorage path back width s (Insert q v) other u → UseAlike t.1 u.1
