@@ -1,2 +1,3 @@
+pub mod AnyMap
 pub mod Copies
 pub mod Retaining

@@ -1,5 +1,5 @@
 //! A list of calls, run on a map.
-ghost use Rattle.std.specs.Prelude.{◌≡◌, ◌≤◌, All, IfOk, OnErr, MatchResult, length, vec_len};
+ghost use Rattle.std.specs.Prelude.{◌≡◌, All, IfOk, OnErr, MatchResult, length, vec_len};
 ghost use Rattle.std.specs.FinMap.{get, len};
 ghost use Rattle.prefix_trie_bits.specs.Model.Entries.{part_at_least};
 ghost use Rattle.prefix_trie_bits.specs.Model.Nodes.{needed};
@@ -132,7 +132,8 @@ fn answer<P: Prefix, A: Allocator + Clone>(
     ensures { StepInStorage P.path P.back P.R.bit_width
         (stored map.old) (call_of call.now) (reply_of result) (stored map.new) }
 {
-    read_slots(map);
+    // The proof learns from it that neither array passes the limit.
+    let _ = map.len();
     match call {
         Call::Insert(prefix, value) => insert(map, prefix, *value),
         Call::Get(prefix) => Reply::Value(value_at(map, prefix)),
@@ -219,15 +220,6 @@ fn shortest<P: Prefix, A: Allocator>(map: &PrefixMap<P, u64, A>, prefix: &P) -> 
     ensures { result ≡ shown_match P.back (shortest_match map.now.entries (P.path prefix.now)) }
 {
     map.get_spm_counted(prefix).0.map(owned)
-}
-
-/// Changes nothing. That neither array passes the limit is what the numbers of its slots say.
-#[inline]
-fn read_slots<P: Prefix, A: Allocator>(map: &PrefixMap<P, u64, A>)
-    ensures nodes { map.now.room.node_slots ≤ map.now.room.limit }
-    ensures cells { map.now.room.cell_slots ≤ map.now.room.limit }
-{
-    let _ = (map.node_slots(), map.cell_slots());
 }
 
 /// Keeps the entries whose prefixes have at least this length.

@@ -1,8 +1,10 @@
 //! The tests of all crates. What a table can say is a list of cases, which `trials` runs; the rest is code.
 
+mod any_map;
 mod blocks;
 mod cases;
 mod changes;
+mod clones;
 mod copies;
 mod cover;
 mod example;

@@ -1,12 +1,15 @@
 -- The copy of a map.
-use Rattle.std.proofs.Common.{◌≡◌, ℕ, true, List, Bool, sym, ◌∙◌, subst}
+use Rattle.std.proofs.Common.{◌≡◌, ◌↔◌, ℕ, true, List, Bool, sym, ◌∙◌, subst}
 use Rattle.std.specs.FinMap.{get, contains_key}
-use Rattle.prefix_trie_bits.specs.Model.Nodes.{Nodes, AreNodes}
+use Rattle.prefix_trie_bits.specs.Model.Entries.{Entries}
+use Rattle.prefix_trie_bits.specs.Model.Nodes.{Nodes, AreNodes, IsTidy, needed}
 use Rattle.prefix_trie_bits.specs.Model.Step.{State}
 use Rattle.prefix_trie_bits.specs.Laws.Steps.{IsMap}
+use Rattle.prefix_trie_bits.proofs.Model.Members.{same_nodes}
 use Rattle.prefix_trie_bits.proofs.Model.Pruning.{needed_fewer}
 use Rattle.prefix_trie_table.specs.Copies.{AreCloned}
 use Rattle.prefix_trie_table.proofs.Copying.{cloned_there}
+use Rattle.prefix_trie_map.specs.Copied.{CopyLaws}
 
 -- the copy of a map, with the same keys and nodes, is a map
 pub IsMap-copied : {T : Type 0} (C : T → T → Type 0) (width : ℕ) (s copy : State T) → AreCloned C s.entries copy.entries → copy.nodes ≡ s.nodes →
@@ -24,3 +27,18 @@ IsMap-copied C width s copy cloned nodes good = record {
   where
     stored : (k : List Bool) → contains_key copy.entries k ≡ true → contains_key s.entries k ≡ true
     stored k h = sym (cloned_there C (get s.entries k) (get copy.entries k) (cloned k)) ∙ h
+
+module _ {T : Type 0} (C : T → T → Type 0) where
+  -- a copy has the keys of its source, so it needs the same nodes
+  same_needed : (m copy : Entries T) → AreCloned C m copy → needed copy ≡ needed m
+  same_needed m copy cloned =
+      same_nodes (needed copy) (needed m) (λ q. needed_fewer m copy (λ k h. sym (there k) ∙ h) q) (λ q. needed_fewer copy m (λ k h. there k ∙ h) q)
+    where
+      there : (k : List Bool) → contains_key copy k ≡ contains_key m k
+      there k = cloned_there C (get m k) (get copy k) (cloned k)
+
+  as_tidy : (m copy : Entries T) (n : Nodes) → AreCloned C m copy → IsTidy m n ↔ IsTidy copy n
+  as_tidy m copy n cloned = (λ tidy. tidy ∙ sym (same_needed m copy cloned), λ tidy. tidy ∙ same_needed m copy cloned)
+
+  pub copy_laws : CopyLaws C
+  copy_laws = record { same_needed = same_needed; as_tidy = as_tidy }

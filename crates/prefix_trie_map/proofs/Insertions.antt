@@ -1,17 +1,21 @@
 -- The map without entries, and that an insertion is a step of the model.
-use Rattle.std.proofs.Common.{◌≡◌, ℕ, ◌%◌, Bool, true, false, ◌&&◌, List, length, cond, Option, Result, is_some, Ok, Err, IfOk, OnOk, OnErr, IsOk, IsTrue, refl, sym, ap, ◌∙◌, inl, inr, eqb-true, true≢false}
-use Rattle.std.specs.FinMap.{get, contains_key, get-empty}
+use Rattle.std.proofs.Common.{◌≡◌, ℕ, ◌%◌, Bool, true, false, ◌&&◌, List, length, cond, Option, Result, is_some, Ok, Err, IfOk, OnOk, OnErr, IfErr, MatchResult, IsOk, IsTrue, refl, sym, ap, ◌∙◌, inl, inr, eqb-true, true≢false, subst}
+use Rattle.std.specs.FinMap.{get, contains_key, len, get-empty}
 use Rattle.prefix_trie_bits.specs.declared.prefix.Refused.{Refused}
 use Rattle.prefix_trie_bits.specs.Bits.{begins}
 use Rattle.prefix_trie_bits.specs.Order.{listing_cmp}
 use Rattle.prefix_trie_bits.specs.Laws.Steps.{IsMap}
 use Rattle.prefix_trie_bits.specs.Model.Entries.{Entries, no_entries, with_entry}
 use Rattle.prefix_trie_bits.specs.Model.Nodes.{Nodes, has_node, root_alone, is_node_depth, with_needed, AreNodes}
+use Rattle.prefix_trie_bits.specs.Model.Room.{MayPassLimit, LeavesRoom}
 use Rattle.prefix_trie_bits.specs.Model.Step.{Reply, Step, Insert}
+use Rattle.prefix_trie_bits.specs.declared.prefix.Refusal.{Refusal}
+use Rattle.prefix_trie_bits.specs.Model.Storage.{InsertsInStorage, RefusesInStorage, LeavesStorage, StepInStorage}
+use Rattle.prefix_trie_bits.specs.declared.prefix.Refusal.TheVariants.{IndexRange}
 use Rattle.prefix_trie_bits.proofs.Model.Members.{or-cases, or-left, and-first, and-second, needs, same_nodes}
 use Rattle.prefix_trie_bits.proofs.Model.NodeSets.{has-with_needed, AreNodes-no_entries}
 use Rattle.prefix_trie_table.specs.Shape.{Contents}
-use Rattle.prefix_trie_map.specs.Steps.{state, inserted}
+use Rattle.prefix_trie_map.specs.Steps.{state, storage, stored, inserted}
 
 pub not_stored : (b : Bool) → (IsTrue b → ⊥) → b ≡ false
 not_stored true h = absurd (h refl)
@@ -54,3 +58,48 @@ module _ {T : Type 0} where
       inl (ap Reply.Value h.before, λ i. record { entries = h.entries i; nodes = left i })
   Step-inserted path back width old new q v (Err refused) good h =
       inr (not_stored (contains_key old.entries (path q)) (λ has. true≢false (sym (h.stored has))), refused.cause, refl, λ i. record { entries = h.unchanged.0 i; nodes = h.unchanged.1 i })
+
+-- ---- and of its storage
+
+module _ {P T : Type 0} (path : P → List Bool) (back : List Bool → P) (width : ℕ) (old new : Contents T) (q : P) (v : T) where
+  -- what the table's insertion says of its blocks
+  pub record Stores (result : Result (Option T) (Refused T)) : Type 0 where
+    pub stored : IsTrue (contains_key old.entries (path q)) → IsOk result × (storage new ≡ storage old)
+    pub leaves : contains_key old.entries (path q) ≡ false → MatchResult result
+        (λ _. InsertsInStorage (state old) (path q) (storage old) (storage new))
+        (λ refused. RefusesInStorage (state old) (path q) refused.cause (storage old) (storage new))
+    pub range : IfErr result (λ refused. refused.cause ≡ IndexRange → MayPassLimit old.room)
+
+  value_not_refused : (x : Option T) (c : Refusal) → ◌≡◌ {A = Reply P T} (Reply.Value x) (Reply.Refused c) → ⊥
+  value_not_refused x c e = cc
+
+  same_cause : (c d : Refusal) → ◌≡◌ {A = Reply P T} (Reply.Refused c) (Reply.Refused d) → c ≡ d
+  same_cause c d e = cc
+
+  leaves_storage : (result : Result (Option T) (Refused T)) → Stores result →
+      LeavesStorage path (state old) (Insert q v) (inserted result) (state new) (storage old) (storage new)
+  leaves_storage (Ok before) h = (
+    λ there. (h.stored there).1,
+    λ was fresh e. h.leaves fresh,
+    λ cause e. absurd (value_not_refused before cause e),
+  )
+  leaves_storage (Err refused) h = (
+    λ there. (h.stored there).1,
+    λ was fresh e. absurd (value_not_refused was refused.cause (sym e)),
+    λ cause e. subst (λ c. RefusesInStorage (state old) (path q) c (storage old) (storage new)) (same_cause refused.cause cause e)
+        (h.leaves (not_stored (contains_key old.entries (path q)) (λ has. true≢false (sym (h.stored has).0)))),
+  )
+
+  range_of : (result : Result (Option T) (Refused T)) → Stores result → ◌≡◌ {A = Reply P T} (inserted result) (Reply.Refused IndexRange) → MayPassLimit old.room
+  range_of (Ok before) h e = absurd (value_not_refused before IndexRange e)
+  range_of (Err refused) h e = h.range (same_cause refused.cause IndexRange e)
+
+  -- it is a step that sees the storage
+  pub stored_step : (result : Result (Option T) (Refused T)) → AreNodes width old.entries old.nodes → Inserts old new (path q) v result → Stores result →
+      LeavesRoom (len old.nodes) old.room new.room → StepInStorage path back width (stored old) (Insert q v) (inserted result) (stored new)
+  stored_step result good made h room = record {
+    step = Step-inserted path back width old new q v result good made;
+    room = room;
+    index_range = range_of result h;
+    storage = leaves_storage result h;
+  }

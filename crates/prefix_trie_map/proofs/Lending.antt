@@ -3,7 +3,7 @@ use Rattle.std.proofs.Common.{◌≡◌, ℕ, Bool, true, false, List, Option, N
 use borrow.Follows.Closed.{read_of}
 use Rattle.std.specs.Borrow.{MutBor}
 use Rattle.std.specs.FinMap.{get, contains_key}
-use Rattle.std.specs.Option.{option_copied_mut, ghost_name_of}
+use Rattle.std.specs.Option.{option_map, option_copied_mut, ghost_name_of}
 use Rattle.prefix_trie_bits.specs.Laws.Steps.{IsMap}
 use Rattle.prefix_trie_bits.specs.Model.Matches.{longest_match, shown_match}
 use Rattle.prefix_trie_bits.proofs.Model.Matches.{match_laws}
@@ -11,6 +11,7 @@ use Rattle.prefix_trie_bits.proofs.Model.NodeSets.{AreNodes-stored, key_cases}
 use Rattle.prefix_trie_table.specs.Shape.{Contents, with_value_at, with_stored_at, with_match_at, with_longest_at}
 use Rattle.prefix_trie_map.specs.Lending.{lent_beside}
 use Rattle.prefix_trie_map.specs.Steps.{state}
+use Rattle.prefix_trie_map.specs.Walks.{lent_item_mut}
 
 module _ {T : Type 0} (width : ℕ) (m : Contents T) (good : IsMap width (state m)) where
   -- another value at a stored key
@@ -55,16 +56,22 @@ pub match_parts : {T : Type 0} (B : Type 0) (found : Option (List Bool × T)) (k
 match_parts B found key None none = (none, tt)
 match_parts B found key (Some value) some = (some.1, some.0)
 
+-- a value lent for a match is the match's
+pub lent_value : {T : Type 0} (found : Option (List Bool × T)) (key : List Bool) (o : Option (MutBor T)) →
+    MatchOption o (found ≡ None) (λ value. found ≡ Some (key, value.now)) → option_copied_mut o ≡ option_map (λ e. e.1) found
+lent_value found key None none = ap (option_map (λ e. e.1)) (sym none)
+lent_value found key (Some value) some = ap (option_map (λ e. e.1)) (sym some)
+
 module _ {P T : Type 0} (back : List Bool → P) (found : Option (List Bool × T)) (key : List Bool) where
   -- a value lent, and the same beside the prefix of its key
   shown_beside : (answer : Option (P × MutBor T)) → IfSome answer (λ f. f.0 ≡ back key) →
       MatchOption (lent_beside answer) (found ≡ None) (λ value. found ≡ Some (key, value.now)) →
-      MatchOption answer (found ≡ None) (λ f. shown_match back found ≡ Some (f.0, f.1.now))
-  shown_beside None shown is = is
-  shown_beside (Some f) shown is = ap (shown_match back) is ∙ ap (λ p. Some (p, f.1.now)) (sym shown)
+      option_map lent_item_mut answer ≡ shown_match back found
+  shown_beside None shown none = ap (shown_match back) (sym none)
+  shown_beside (Some f) shown is = ap (λ p. Some (p, f.1.now)) shown ∙ ap (shown_match back) (sym is)
 
   pub lent_shown : (o : Option (MutBor T)) (answer : Option (P × MutBor T)) → lent_beside answer ≡ o → IfSome answer (λ f. f.0 ≡ back key) →
       MatchOption o (found ≡ None) (λ value. found ≡ Some (key, value.now)) →
-      MatchOption answer (found ≡ None) (λ f. shown_match back found ≡ Some (f.0, f.1.now))
+      option_map lent_item_mut answer ≡ shown_match back found
   lent_shown o answer lent shown is =
       shown_beside answer shown (subst (λ v. MatchOption v (found ≡ None) (λ value. found ≡ Some (key, value.now))) (sym lent) is)

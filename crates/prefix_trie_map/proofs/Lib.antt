@@ -1,5 +1,6 @@
 pub mod Covers
 pub mod Insertions
+pub mod Listed
 pub mod Lookups
 pub mod Refusals
 pub mod Runs
@@ -9,4 +10,3 @@ pub mod Retained
 pub mod Loans
 pub mod Copying
 pub mod Rooms
-pub mod Storing

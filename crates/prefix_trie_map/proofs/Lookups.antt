@@ -1,20 +1,78 @@
--- What a match of the table is to users, by the prefix rebuilt from it.
-use Rattle.std.proofs.Common.{◌≡◌, ℕ, ◌≤◌, Bool, List, take, Option, Some, None, Bor, MatchOption, sym, ap, ◌∙◌}
-use Rattle.std.specs.Option.{IsSomeAnd}
+-- What a match of the table is to users, by the prefix rebuilt from it, and what a lookup reads.
+use Rattle.std.proofs.Common.{◌≡◌, ℕ, ◌+◌, ◌≤◌, Bool, List, take, Option, Some, None, Bor, MatchOption, is_some, refl, sym, ap, ◌∙◌, subst, arith}
+use Rattle.std.specs.Option.{option_map, option_copied}
 use Rattle.std.proofs.lemmas.List.{take-take}
+use Rattle.prefix_trie_bits.specs.Laws.Steps.{IsMap}
+use Rattle.prefix_trie_bits.specs.Model.Entries.{Entries}
 use Rattle.prefix_trie_bits.specs.Model.Matches.{shown_match}
+use Rattle.prefix_trie_bits.specs.Model.Visits.{visits, visits_to_match}
+use Rattle.prefix_trie_bits.proofs.Model.Visits.{visits-bound, visit_laws}
+use Rattle.prefix_trie_table.specs.Shape.{Contents}
+use Rattle.prefix_trie_map.specs.Reads.{ReadsWay, ReadsToMatch}
+use Rattle.prefix_trie_map.specs.Steps.{state}
+use Rattle.prefix_trie_map.specs.Walks.{lent_item}
 
-module _ {P T : Type 0} where
-  -- the answer, for a match m of the model
-  abbrev pub Shows : (List Bool → P) → Option (List Bool × T) → Option (P × Bor T) → Type 0
-  Shows back m found = MatchOption found (m ≡ None) (λ f. shown_match back m ≡ Some (f.0, f.1.now))
+module _ {T : Type 0} where
+  -- what the table finds of a match m of the first len bits
+  abbrev pub Finds : List Bool → ℕ → Option (List Bool × T) → Option (ℕ × Bor T) → Type 0
+  Finds bits len m found = MatchOption found (m ≡ None) (λ f. (f.0 ≤ len) × (m ≡ Some (take f.0 (take len bits), f.1.now)))
 
-  -- a match of the table by its length, and the answer by its prefix
-  pub shows_match : (back : List Bool → P) (bits : List Bool) (len : ℕ) (m : Option (List Bool × T)) (found : Option (ℕ × Bor T)) (result : Option (P × Bor T)) → MatchOption found (m ≡ None) (λ f. (f.0 ≤ len) × (m ≡ Some (take f.0 (take len bits), f.1.now))) → MatchOption result (found ≡ None) (λ r. IsSomeAnd found (λ f. (r.0 ≡ back (take f.0 bits)) × (r.1.now ≡ f.1.now))) → Shows back m result
-  shows_match back bits len m None None h k = h
-  shows_match back bits len m None (Some r) h k = absurd k
-  shows_match back bits len m (Some f) None h k = cc
-  shows_match back bits len m (Some f) (Some r) h k =
-      let prefix : back (take f.0 (take len bits)) ≡ r.0 =
-      ap back (take-take f.0 len bits h.0) ∙ sym k.0 in
-      ap (shown_match back) h.1 ∙ (λ i. Some (prefix i, sym k.1 i))
+  -- it finds something where there is a match
+  pub some_found : (bits : List Bool) (len : ℕ) (m : Option (List Bool × T)) (found : Option (ℕ × Bor T)) → Finds bits len m found → is_some found ≡ is_some m
+  some_found bits len m None none = ap is_some (sym none)
+  some_found bits len m (Some f) some = ap is_some (sym some.1)
+
+module _ {P T : Type 0} (back : List Bool → P) where
+  -- a match of the table by its length, and the same by its prefix
+  shows : (bits : List Bool) (len : ℕ) (m : Option (List Bool × T)) (found : Option (ℕ × Bor T)) → Finds bits len m found →
+      option_map (λ f. (back (take f.0 bits), f.1.now)) found ≡ shown_match back m
+  shows bits len m None none = ap (shown_match back) (sym none)
+  shows bits len m (Some f) some =
+      ap (λ s. Some (back s, f.1.now)) (sym (take-take f.0 len bits some.0)) ∙ ap (shown_match back) (sym some.1)
+
+  -- so a match rebuilt is that of the map at the prefix's path
+  pub shows_match : (best : Entries T → List Bool → Option (List Bool × T)) (inside now : Entries T) → inside ≡ now →
+      (bits : List Bool) (len : ℕ) (path : List Bool) → take len bits ≡ path → (found : Option (ℕ × Bor T)) → Finds bits len (best inside (take len bits)) found →
+      (result : Option (P × Bor T)) → option_map lent_item result ≡ option_map (λ f. (back (take f.0 bits), f.1.now)) found →
+      option_map lent_item result ≡ shown_match back (best now path)
+  shows_match best inside now same bits len path key found finds result rebuilt =
+      rebuilt ∙ shows bits len (best inside (take len bits)) found finds ∙ (λ i. shown_match back (best (same i) (key i)))
+
+  first-lent : (o : Option (P × Bor T)) → option_map (λ f. f.0) o ≡ option_map (λ e. e.0) (option_map lent_item o)
+  first-lent None = refl
+  first-lent (Some f) = refl
+
+  first-shown : (m : Option (List Bool × T)) → option_map (λ e. e.0) (shown_match back m) ≡ option_map (λ e. back e.0) m
+  first-shown None = refl
+  first-shown (Some e) = refl
+
+  -- and so is its prefix alone
+  pub shows_prefix : (m : Option (List Bool × T)) (o : Option (P × Bor T)) → option_map lent_item o ≡ shown_match back m →
+      option_map (λ f. f.0) o ≡ option_map (λ e. back e.0) m
+  shows_prefix m o is = first-lent o ∙ ap (option_map (λ e. e.0)) is ∙ first-shown m
+
+  -- a value that is lent beside its prefix
+  pub shows_pair : (p : P) (value : Option (Bor T)) (stored : Option T) (pair : Option (P × Bor T)) → option_copied value ≡ stored →
+      pair ≡ option_map (λ v. (p, v)) value → option_map lent_item pair ≡ option_map (λ v. (p, v)) stored
+  shows_pair p None stored pair is made = ap (option_map lent_item) made ∙ ap (option_map (λ v. (p, v))) is
+  shows_pair p (Some v) stored pair is made = ap (option_map lent_item) made ∙ ap (option_map (λ w. (p, w))) is
+
+-- a counter that started at 0, after one lookup of the table
+module _ {T : Type 0} (width : ℕ) (inside now : Contents T) (same : inside ≡ now) (good : IsMap width (state inside)) (asked path : List Bool) (key : asked ≡ path)
+    (start count : ℕ) (none : start ≡ 0) where
+  pub reads_way : count ≡ start + visits inside.nodes asked → ReadsWay now.nodes path count
+  reads_way read =
+      let exact : count ≡ visits inside.nodes asked = omega (arith, read, none) in
+      let by_path : count ≡ visits inside.nodes path = exact ∙ ap (visits inside.nodes) key in
+      subst (λ (m : Contents T). ReadsWay m.nodes path count) same
+      (record { exact = by_path; bound = omega (arith, by_path, visits-bound inside.nodes path good.are_nodes.depths) })
+
+  pub reads_to_match : count ≡ start + visits_to_match inside.entries inside.nodes asked → ReadsToMatch now.entries now.nodes path count
+  reads_to_match read =
+      let exact : count ≡ visits_to_match inside.entries inside.nodes asked = omega (arith, read, none) in
+      let by_path : count ≡ visits_to_match inside.entries inside.nodes path = exact ∙ ap (visits_to_match inside.entries inside.nodes) key in
+      subst (λ (m : Contents T). ReadsToMatch m.entries m.nodes path count) same
+      (record {
+        exact = by_path;
+        bound = omega (arith, by_path, (visit_laws T).fewer_to_match inside.entries inside.nodes path, visits-bound inside.nodes path good.are_nodes.depths);
+      })

@@ -1,7 +1,11 @@
 pub mod Asking
+pub mod Copied
 pub mod Covers
+pub mod Listed
 pub mod Marks
 pub mod MarksFall
+pub mod Reads
 pub mod Steps
+pub mod Whole
 pub mod Walks
 pub mod Lending

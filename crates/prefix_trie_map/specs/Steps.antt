@@ -4,17 +4,10 @@ use Rattle.prefix_trie_bits.specs.declared.prefix.Refused.{Refused}
 use Rattle.prefix_trie_bits.specs.Model.Step.{State, Reply}
 use Rattle.prefix_trie_bits.specs.Model.Storage.{Storage}
 use Rattle.prefix_trie_table.specs.Shape.{Contents}
+pub use Rattle.prefix_trie_table.specs.Shape.{state, storage}
 
 module _ {T : Type 0} where
-  -- a map's entries and nodes
-  abbrev pub state : Contents T → State T
-  state map = record { entries = map.entries; nodes = map.nodes }
-
-  -- how it is stored
-  abbrev pub storage : Contents T → Storage
-  storage map = record { room = map.room; layout = map.layout }
-
-  -- both
+  -- a map's entries and nodes, and how it is stored
   abbrev pub stored : Contents T → State T × Storage
   stored map = (state map, storage map)
 

@@ -3,16 +3,16 @@
 //! The path of a prefix, its first `prefix_len` bits, is its key: two prefixes with the same path are one key, whatever their
 //! host bits. Contracts see a map as its entries, a finite map from paths to values, its nodes, its room, which is its limit
 //! and the lengths of its two arrays, and its layout: how the arrays are cut into blocks.
-ghost use Rattle.std.specs.Prelude.{◌≡◌, ℕ, ◌+◌, ◌-◌, ◌^◌, ◌≤◌, ◌↔◌, IfOk, OnOk, IfErr, OnErr, IsOk, IsTrue, MatchResult, false};
-ghost use Rattle.std.specs.FinMap.{get, contains_key, len};
+ghost use Rattle.std.specs.Prelude.{◌≡◌, ◌+◌, ◌-◌, ◌^◌, ◌≤◌, ◌↔◌, IfOk, OnOk, IfErr, OnErr, IsTrue};
+ghost use Rattle.std.specs.FinMap.{get, len};
 ghost use Rattle.prefix_trie_bits.specs.declared.prefix.Refusal.TheVariants.{Memory, IndexRange};
 ghost use Rattle.prefix_trie_bits.specs.Model.Blocks.{no_layout};
 ghost use Rattle.prefix_trie_bits.specs.Model.Entries.{no_entries, with_entry};
 ghost use Rattle.prefix_trie_bits.specs.Model.Nodes.{root_alone, with_needed};
-ghost use Rattle.prefix_trie_bits.specs.Model.Room.{LeavesRoom, MayPassLimit};
-ghost use Rattle.prefix_trie_bits.specs.Model.Step.{Step, Insert};
-ghost use Rattle.prefix_trie_bits.specs.Model.Storage.{InsertsInStorage, RefusesInStorage};
-ghost use Rattle.prefix_trie_map.specs.Steps.{state, storage, inserted};
+ghost use Rattle.prefix_trie_bits.specs.Model.Step.{Insert};
+ghost use Rattle.prefix_trie_bits.specs.Model.Storage.{StepInStorage};
+ghost use Rattle.prefix_trie_map.specs.Steps.{stored, inserted};
+ghost use Rattle.prefix_trie_map.specs.Whole.{IsWhole};
 
 mod clone;
 mod counting;
@@ -87,7 +87,8 @@ impl<P: Prefix, T: Drop, A: Allocator> PrefixMap<P, T, A> {
     /// The number of entries.
     #[inline]
     pub fn len(&self) -> usize
-        ensures { result ≡ len self.now.entries }
+        ensures count { result ≡ len self.now.entries }
+        ensures whole { IsWhole P.R.bit_width self.now }
     {
         self.table.len()
     }
@@ -95,7 +96,8 @@ impl<P: Prefix, T: Drop, A: Allocator> PrefixMap<P, T, A> {
     /// Whether there are no entries.
     #[inline]
     pub fn is_empty(&self) -> bool
-        ensures { IsTrue result ↔ (self.now.entries ≡ no_entries) }
+        ensures none { IsTrue result ↔ (self.now.entries ≡ no_entries) }
+        ensures whole { IsWhole P.R.bit_width self.now }
     {
         self.len() == 0
     }
@@ -103,7 +105,8 @@ impl<P: Prefix, T: Drop, A: Allocator> PrefixMap<P, T, A> {
     /// Sets the value for a prefix, and answers the one that was there before. A stored prefix is never refused.
     ///
     /// A new one is refused with `Memory` where a request for memory is refused, and with `IndexRange` where the slots of the
-    /// blocks that lack pass the limit. Refused, it hands the value back, and the map has the entries that it had.
+    /// blocks that lack pass the limit. Refused, it hands the value back, and the map has the entries that it had. One insertion
+    /// makes at most 56 slots for nodes and 31 for values.
     #[inline]
     pub fn insert(&mut self, prefix: P, value: T) -> Result<Option<T>, Refused<T>>
         requires { P.IsFitting prefix }
@@ -114,24 +117,12 @@ impl<P: Prefix, T: Drop, A: Allocator> PrefixMap<P, T, A> {
         // A refusal changes neither the entries nor the nodes.
         ensures unchanged { OnErr result ((self.new.entries ≡ self.old.entries) × (self.new.nodes ≡ self.old.nodes)) }
         ensures returned { IfErr result (λ refused. refused.value ≡ value) }
+        ensures slots { (self.new.room.node_slots ≤ self.old.room.node_slots + 56) × (self.new.room.cell_slots ≤ self.old.room.cell_slots + 31) }
 
-        // A stored key is never refused, and needs no block.
-        ensures stored { IsTrue (contains_key self.old.entries (P.path prefix)) → IsOk result × (storage self.new ≡ storage self.old) }
-
-        // A new key takes free blocks, and makes exactly those that lack.
-        ensures inserts { contains_key self.old.entries (P.path prefix) ≡ false → OnOk result
-            (InsertsInStorage (state self.old) (P.path prefix) (storage self.old) (storage self.new)) }
-
-        // It is refused only where a block lacks, and with `IndexRange` only where the slots of those that lack pass the limit.
-        ensures refuses { IfErr result (λ refused.
-            RefusesInStorage (state self.old) (P.path prefix) refused.cause (storage self.old) (storage self.new)) }
-        ensures range { IfErr result (λ refused. refused.cause ≡ IndexRange → MayPassLimit self.old.room) }
-        ensures node_slots { (self.old.room.node_slots ≤ self.new.room.node_slots) × (self.new.room.node_slots ≤ self.old.room.node_slots + 56) }
-        ensures cell_slots { (self.old.room.cell_slots ≤ self.new.room.cell_slots) × (self.new.room.cell_slots ≤ self.old.room.cell_slots + 31) }
-        ensures leaves { LeavesRoom (len self.old.nodes) self.old.room self.new.room }
-
-        // All this is one step of the model.
-        ensures step { Step P.path P.back P.R.bit_width (state self.old) (Insert prefix value) (inserted result) (state self.new) }
+        // It is a step of the model, of the storage too. A stored key is never refused, and needs no block. A new one takes free blocks,
+        // and of each size exactly the lacking ones are made. It is refused only where a block lacks: with `IndexRange` only where
+        // the lacking ones pass the limit, and with `Memory` only where one that lacks still would not.
+        ensures step { StepInStorage P.path P.back P.R.bit_width (stored self.old) (Insert prefix value) (inserted result) (stored self.new) }
     {
         let key = prefix.repr();
         let len = u32::from(prefix.prefix_len());

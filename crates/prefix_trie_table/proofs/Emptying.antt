@@ -15,7 +15,8 @@ use Rattle.prefix_trie_table.specs.Cells.{cell_sizes}
 use Rattle.prefix_trie_table.specs.Digits.{path_of, bit_of}
 use Rattle.prefix_trie_table.specs.Store.{Store}
 use Rattle.prefix_trie_table.specs.Forest.{one_if, Holds, IsSlot, at_root, at_child, child_slot, node_or_blank, own_count, has_value, with_node, with_value}
-use Rattle.prefix_trie_table.specs.Removals.{Shrinks, LongerByBlock, MayLengthen, SameChildren, ValueTaken, EntryTaken}
+use Rattle.prefix_trie_table.specs.Removals.{Shrinks, LongerByBlock, MayLengthen, SameChildren, ValueTaken, EntryTaken, MakesEntered}
+use Rattle.prefix_trie_table.specs.OwnBlocks.{value_block_size}
 use Rattle.prefix_trie_table.specs.Shape.{IsShapeOf, Shaped, same_shape}
 use Rattle.prefix_trie_table.specs.Tables.{IsReached, IsTableOf, IsCounted, Grows, ForHeld}
 use Rattle.prefix_trie_table.proofs.Children.{same_or, with_here, with_other}
@@ -66,6 +67,7 @@ module _ {T : Type 0} (reading : List ℕ → Option Node) (values : List ℕ �
     fewer = λ there. absurd (false≢true (sym (ap is_some none) ∙ there));
     shrinks = λ n m a c there. absurd (false≢true (sym (ap is_some none) ∙ there));
     longer = inl refl;
+    made = λ j inside. omega arith;
   }
     where
       unchanged : (q : List ℕ) (j : ℕ) → (q ++ j ∷ [] ≡ path ++ b ∷ []) ⊎ (q ++ j ∷ [] ≢ path ++ b ∷ []) → values q j ≡ with_value values path b None q j
@@ -106,6 +108,8 @@ module _ {T : Type 0} (reading : List ℕ → Option Node) (values : List ℕ �
           (subst (λ (y : Node). Shrinks w.tiers n.value_tier (rank n.value_bitmap 32) y.value_tier) last a.shrinks);
       fewer = λ _. ap (λ o. own_count o + 1) (with_here reading path m path refl) ∙ a.fewer ∙ sym (ap own_count is);
       longer = lengthens a.longer;
+      made = subst (λ o. MakesEntered cell_sizes w w2 (value_block_size o) (value_block_size (with_node reading path m path))) (sym is)
+          (subst (λ o. MakesEntered cell_sizes w w2 (value_block_size (Some n)) (value_block_size o)) (sym (with_here reading path m path refl)) a.made);
     },
     with_here reading path m path refl,
   )

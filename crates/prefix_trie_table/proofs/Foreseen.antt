@@ -1,45 +1,37 @@
 -- What an insertion asks for is what the model says of the table's entries, nodes and layout.
-use Rattle.std.proofs.Common.{◌≡◌, ℕ, ◌+◌, ◌-◌, ◌*◌, ◌/◌, ◌%◌, ◌<◌, ◌≤◌, inl, inr, Bool, true, false, cond, ◌&&◌, List, [], ◌∷◌, ◌++◌, length, take, replicate, Option, None, Some, is_some, Result, refl, sym, ap, ap₂, ◌∙◌, subst, arith, eq-eqb, length-take-le}
+use Rattle.std.proofs.Common.{◌≡◌, ℕ, ◌+◌, ◌-◌, ◌*◌, ◌/◌, ◌%◌, ◌<◌, ◌≤◌, inl, inr, Bool, true, false, cond, ◌&&◌, List, [], ◌∷◌, ◌++◌, length, take, replicate, Option, None, Some, is_some, Result, refl, sym, ap, ap₂, ◌∙◌, subst, arith, eq-eqb, length-take-le, append-nil}
 use Rattle.std.proofs.lemmas.Bool.{false≢true, cases_Bool, cases_lt}
 use Rattle.std.proofs.lemmas.List.{take-take}
 use Rattle.std.specs.Prelude.{option_to_list}
 use Rattle.std.specs.FinMap.{get, contains_key}
 use Rattle.prefix_trie_bits.specs.Model.Blocks.{child_block_sizes, value_block_sizes, child_count, own_entries}
-use Rattle.prefix_trie_bits.specs.Model.Insertion.{block_needed, lacking_slots, value_block_needed, node_slots_lacking, cell_slots_lacking}
+use Rattle.prefix_trie_bits.specs.Model.Insertion.{block_needed, value_block_needed, child_blocks_needed, value_blocks_needed}
 use Rattle.prefix_trie_bits.specs.Model.Nodes.{has_node, is_node_depth, home}
 use Rattle.prefix_trie_bits.specs.Model.Step.{State}
 use Rattle.prefix_trie_bits.proofs.Model.Members.{is-same_string}
 use Rattle.prefix_trie_bits.proofs.Model.Ways.{none_needed, blocks_needed}
 use Rattle.prefix_trie_table.specs.declared.allocator.node.Node.{Node}
-use Rattle.prefix_trie_table.specs.Asked.{nodes_asked, cells_asked, AtEnd, Obtains}
+use Rattle.prefix_trie_table.specs.Asked.{nodes_needed, cells_needed, AtEnd, ObtainsBoth}
 use Rattle.prefix_trie_table.specs.Tables.{IsTableOf, ForHeld, own_value}
 use Rattle.prefix_trie_table.specs.Bitmaps.{rank}
 use Rattle.prefix_trie_table.specs.Cells.{node_sizes, cell_sizes}
 use Rattle.prefix_trie_table.specs.Digits.{path_of}
 use Rattle.prefix_trie_table.specs.Forest.{is_start, Holds, IsEnd, has_child, has_value}
-use Rattle.prefix_trie_table.specs.Layouts.{Sized, child_block_size, value_block_size, free_counts}
+use Rattle.prefix_trie_table.specs.Layouts.{Sized, size_if_any, child_block_size, value_block_size}
 use Rattle.prefix_trie_table.specs.Shape.{IsShapeOf, Shaped}
-use Rattle.prefix_trie_table.specs.Store.{Store}
+use Rattle.prefix_trie_table.specs.Store.{Store, size_in}
+use Rattle.prefix_trie_table.specs.Store.{blocks_needed as tiers_needed}
 use Rattle.prefix_trie_table.proofs.Asks.{nodes_here, nodes_below, cells_here, cells_below}
 use Rattle.prefix_trie_table.proofs.Bits.{has_bit-zero}
 use Rattle.prefix_trie_table.proofs.BitLists.{rank-zero-all}
 use Rattle.prefix_trie_table.proofs.Digits.{path-length, path-take}
 use Rattle.prefix_trie_table.proofs.Finding.{prefix_some}
-use Rattle.prefix_trie_table.proofs.Needs.{nodes_lacking_is, cells_lacking_is}
+use Rattle.prefix_trie_table.proofs.Needs.{AreNeeded, are_needed, nodes_apart, cells_apart}
 use Rattle.prefix_trie_table.proofs.OwnCounts.{children_counted, values_counted}
 use Rattle.prefix_trie_table.proofs.Shapes.{shape_nodes, shape_entries}
 use Rattle.prefix_trie_table.proofs.Sizing.{layout_of}
 use Rattle.prefix_trie_table.proofs.Starts.{is_start_take}
 use Rattle.prefix_trie_table.proofs.Trees.{reads, is_none-None}
-
--- nothing is lacking where nothing is needed
-none_lacking : (sizes free : List ℕ) → lacking_slots sizes free [] ≡ 0
-none_lacking [] free = refl
-none_lacking (size ∷ sizes) [] = (let r = none_lacking sizes [] in omega arith)
-none_lacking (size ∷ sizes) (f ∷ free) =
-    let r = none_lacking sizes free in
-    let none : 0 - f ≡ 0 = omega arith in
-    ap (λ x. size * x + lacking_slots sizes free []) none ∙ omega (arith, r)
 
 whole : (i l : ℕ) → i ≤ l / 5 → 5 * i ≤ l
 whole i l h = omega (arith, h)
@@ -120,66 +112,85 @@ module _ {T : Type 0} (reading : List ℕ → Option Node) (values : List ℕ �
       below_none : (i : ℕ) → level < i → i ≤ length q / 5 → reading (path_of (take (5 * i) q)) ≡ None
       below_none i more h = ap reading (way i h) ∙ gone i more h
 
-      -- the slots for nodes
-      pub node_slots_are : node_slots_lacking s.nodes (layout_of v.slots v.tiers w.tiers sized) q ≡ nodes_asked v node level (length q)
-      node_slots_are = elim (cases_lt level (length q / 5)) as (λ _. node_slots_lacking s.nodes (layout_of v.slots v.tiers w.tiers sized) q ≡ nodes_asked v node level (length q)) [
-        | inl inside ↦
-            ap (lacking_slots child_block_sizes (free_counts v.tiers)) (blocks_needed s.nodes sized.0 q (length q / 5) refl level inside
-            (λ i h. node_is i (omega arith) ∙ above i h) (λ i more h. node_is i h ∙ ap is_some (gone i more h))
-            (λ i more h. (child_size (take (5 * i) q) (depth_is i h) None (below_none i more h), no_children (take (5 * i) q) (depth_is i h) (below_none i more h)))
-            ∙ ap₂ (λ o c. option_to_list (block_needed child_block_sizes o c) ++ replicate (length q / 5 - (level + 1)) 1)
-            (child_size (take (5 * level) q) (depth_is level deep) (Some node) here) (children_are (take (5 * level) q) (depth_is level deep) node here))
-            ∙ nodes_lacking_is v.tiers holds.hold.sizes_are node.child_tier (rank node.child_bitmap 32) (length q / 5 - (level + 1))
-            ∙ sym (nodes_below v node level (length q) (inner_level level (length q) inside))
-        | inr past ↦
-            let last : level ≡ length q / 5 = (let d = deep in omega arith) in
-            ap (lacking_slots child_block_sizes (free_counts v.tiers)) (none_needed s.nodes sized.0 q (length q / 5) refl
-            (λ i h. node_is i h ∙ above i (omega arith)))
-            ∙ none_lacking child_block_sizes (free_counts v.tiers) ∙ sym (nodes_here v node level (length q) (last_level level (length q) last))
-      ]
+      -- the blocks for nodes
+      pub children_needed : AreNeeded child_block_sizes (child_blocks_needed s.nodes (layout_of v.slots v.tiers w.tiers sized) q) (nodes_needed v node level (length q))
+      children_needed = elim (cases_lt level (length q / 5)) as
+          (λ _. AreNeeded child_block_sizes (child_blocks_needed s.nodes (layout_of v.slots v.tiers w.tiers sized) q) (nodes_needed v node level (length q))) [
+            | inl inside ↦
+                subst (λ sizes. AreNeeded child_block_sizes sizes (nodes_needed v node level (length q)))
+                (sym (blocks_needed s.nodes sized.0 q (length q / 5) refl level inside
+                (λ i h. node_is i (omega arith) ∙ above i h) (λ i more h. node_is i h ∙ ap is_some (gone i more h))
+                (λ i more h. (child_size (take (5 * i) q) (depth_is i h) None (below_none i more h), no_children (take (5 * i) q) (depth_is i h) (below_none i more h)))
+                ∙ ap₂ (λ o c. option_to_list (block_needed child_block_sizes o c) ++ replicate (length q / 5 - (level + 1)) 1)
+                (child_size (take (5 * level) q) (depth_is level deep) (Some node) here) (children_are (take (5 * level) q) (depth_is level deep) node here)))
+                (subst (λ n. AreNeeded child_block_sizes (option_to_list (block_needed child_block_sizes (child_block_size (Some node)) (rank node.child_bitmap 32))
+                ++ replicate (length q / 5 - (level + 1)) 1) n) (sym (nodes_below v node level (length q) (inner_level level (length q) inside)))
+                (are_needed v.tiers node_sizes holds.hold.sizes_are refl nodes_apart node.child_tier (rank node.child_bitmap 32) (length q / 5 - (level + 1))))
+            | inr past ↦
+                let last : level ≡ length q / 5 = (let d = deep in omega arith) in
+                subst (λ sizes. AreNeeded child_block_sizes sizes (nodes_needed v node level (length q)))
+                (sym (none_needed s.nodes sized.0 q (length q / 5) refl (λ i h. node_is i h ∙ above i (omega arith))))
+                (subst (AreNeeded child_block_sizes []) (sym (nodes_here v node level (length q) (last_level level (length q) last))) (λ j inside. refl))
+          ]
 
       home_needs : value_block_needed s.entries sized.1.0 q (home q) ≡ block_needed value_block_sizes (get sized.1.0 (home q)) (own_entries s.entries (home q))
       home_needs =
           ap (λ b. cond b (block_needed value_block_sizes (get sized.1.0 (home q)) (own_entries s.entries (home q))) None) (is-same_string (home q) (home q) refl)
 
-      -- the slots for values
-      pub cell_slots_are : cell_slots_lacking s.entries (layout_of v.slots v.tiers w.tiers sized) q ≡ cells_asked w node level (length q)
-      cell_slots_are =
-          ap (λ o. lacking_slots value_block_sizes (free_counts w.tiers) (option_to_list o)) home_needs
-          ∙ elim (cases_lt level (length q / 5)) as (λ _. lacking_slots value_block_sizes (free_counts w.tiers)
-          (option_to_list (block_needed value_block_sizes (get sized.1.0 (home q)) (own_entries s.entries (home q)))) ≡ cells_asked w node level (length q)) [
+      one_needed : (k count : ℕ) →
+          block_needed value_block_sizes (get sized.1.0 (home q)) (own_entries s.entries (home q)) ≡ block_needed value_block_sizes (size_if_any count (size_in cell_sizes k)) count →
+          cells_needed w node level (length q) ≡ tiers_needed w.tiers k count 0 →
+          AreNeeded value_block_sizes (value_blocks_needed s.entries (layout_of v.slots v.tiers w.tiers sized) q) (cells_needed w node level (length q))
+      one_needed k count same needed =
+          subst (AreNeeded value_block_sizes (option_to_list (value_block_needed s.entries sized.1.0 q (home q)))) (sym needed)
+          (subst (λ sizes. AreNeeded value_block_sizes sizes (tiers_needed w.tiers k count 0))
+          (append-nil (option_to_list (block_needed value_block_sizes (size_if_any count (size_in cell_sizes k)) count))
+          ∙ ap (λ o. option_to_list o) (sym (home_needs ∙ same)))
+          (are_needed w.tiers cell_sizes holds.cells.sizes_are refl cells_apart k count 0))
+
+      -- the block for values
+      pub values_needed : AreNeeded value_block_sizes (value_blocks_needed s.entries (layout_of v.slots v.tiers w.tiers sized) q) (cells_needed w node level (length q))
+      values_needed = elim (cases_lt level (length q / 5)) as
+          (λ _. AreNeeded value_block_sizes (value_blocks_needed s.entries (layout_of v.slots v.tiers w.tiers sized) q) (cells_needed w node level (length q))) [
             | inl inside ↦
                 let none = below_none (length q / 5) inside (omega arith) in
-                ap₂ (λ o c. lacking_slots value_block_sizes (free_counts w.tiers) (option_to_list (block_needed value_block_sizes o c)))
-                (value_size (home q) (depth_is (length q / 5) (omega arith)) None none) (no_values (home q) (depth_is (length q / 5) (omega arith)) none)
-                ∙ cells_lacking_is w.tiers holds.cells.sizes_are 0 0
-                ∙ sym (cells_below w node level (length q) (inner_level level (length q) inside))
+                one_needed 0 0 (ap₂ (block_needed value_block_sizes) (value_size (home q) (depth_is (length q / 5) (omega arith)) None none)
+                (no_values (home q) (depth_is (length q / 5) (omega arith)) none)) (cells_below w node level (length q) (inner_level level (length q) inside))
             | inr past ↦
                 let last : level ≡ length q / 5 = (let d = deep in omega arith) in
                 let own : reading (path_of (home q)) ≡ Some node = ap (λ i. reading (path_of (take (5 * i) q))) (sym last) ∙ here in
-                ap₂ (λ o c. lacking_slots value_block_sizes (free_counts w.tiers) (option_to_list (block_needed value_block_sizes o c)))
-                (value_size (home q) (depth_is (length q / 5) (omega arith)) (Some node) own) (values_are (home q) (depth_is (length q / 5) (omega arith)) node own)
-                ∙ cells_lacking_is w.tiers holds.cells.sizes_are node.value_tier (rank node.value_bitmap 32)
-                ∙ sym (cells_here w node level (length q) (last_level level (length q) last))
+                one_needed node.value_tier (rank node.value_bitmap 32)
+                (ap₂ (block_needed value_block_sizes) (value_size (home q) (depth_is (length q / 5) (omega arith)) (Some node) own)
+                (values_are (home q) (depth_is (length q / 5) (omega arith)) node own)) (cells_here w node level (length q) (last_level level (length q) last))
           ]
 
--- what an insertion of a new key leaves
-module _ {T E : Type 0} (for_limit : E → Type 0) (b : List Bool) (len : ℕ) (v v2 : Store Node) (w w2 : Store (Option T)) (count : ℕ) (s : Shaped v.slots w.slots)
-    (is : IsTableOf v w count s.0) (sized : Sized v.slots) (r : Result (Option T) E)
-    (asked : ForHeld v w (λ reading paths values. own_value values b len ≡ None →
-    AtEnd reading b len (λ node level. Obtains for_limit r v v2 w w2 (nodes_asked v node level len) (cells_asked w node level len)))) where
-  pub obtained : contains_key s.0.entries (take len b) ≡ false → Obtains for_limit r v v2 w w2
-      (node_slots_lacking s.0.nodes (layout_of v.slots v.tiers w.tiers sized) (take len b))
-      (cell_slots_lacking s.0.entries (layout_of v.slots v.tiers w.tiers sized) (take len b))
-  obtained new =
+-- so many blocks of each tier for nodes and for values does the model say that an insertion of q needs, and obtains
+pub record Foreseen {T E : Type 0} (for_limit for_memory : E → Type 0) (v v2 : Store Node) (w w2 : Store (Option T)) (s : State T) (sized : Sized v.slots)
+    (r : Result (Option T) E) (q : List Bool) : Type 0 where
+  pub nodes : ℕ → ℕ
+  pub cells : ℕ → ℕ
+  pub nodes_are : AreNeeded child_block_sizes (child_blocks_needed s.nodes (layout_of v.slots v.tiers w.tiers sized) q) nodes
+  pub cells_are : AreNeeded value_block_sizes (value_blocks_needed s.entries (layout_of v.slots v.tiers w.tiers sized) q) cells
+  pub obtains : ObtainsBoth for_limit for_memory r v v2 w w2 nodes cells
+
+-- so does that of a new key
+module _ {T E : Type 0} (for_limit for_memory : E → Type 0) (b : List Bool) (len : ℕ) (v v2 : Store Node) (w w2 : Store (Option T)) (count : ℕ)
+    (s : Shaped v.slots w.slots) (is : IsTableOf v w count s.0) (sized : Sized v.slots) (r : Result (Option T) E) where
+  pub obtained : ForHeld v w (λ reading paths values. own_value values b len ≡ None →
+      AtEnd reading b len (λ node level. ObtainsBoth for_limit for_memory r v v2 w w2 (nodes_needed v node level len) (cells_needed w node level len))) →
+      contains_key s.0.entries (take len b) ≡ false → Foreseen for_limit for_memory v v2 w w2 s.0 sized r (take len b)
+  obtained asked new =
       let t = is.held.table in
       let none : own_value t.values b len ≡ None =
       sym (shape_entries t.reading t.values t.paths v w t.holds s.0 s.1 (take len b)) ∙ is_none-None (get s.0.entries (take len b)) new in
       let a = asked t.reading t.paths t.values t.holds none in
       let long : length (take len b) ≡ len = length-take-le len b a.long in
-      let nodes = node_slots_are t.reading t.values t.paths v w t.holds s.0 s.1 sized (take len b) a.node a.level a.end a.is
-      ∙ ap (nodes_asked v a.node a.level) long in
-      let cells = cell_slots_are t.reading t.values t.paths v w t.holds s.0 s.1 sized (take len b) a.node a.level a.end a.is
-      ∙ ap (cells_asked w a.node a.level) long in
-      subst (λ m. Obtains for_limit r v v2 w w2 m (cell_slots_lacking s.0.entries (layout_of v.slots v.tiers w.tiers sized) (take len b))) (sym nodes)
-      (subst (λ m. Obtains for_limit r v v2 w w2 (nodes_asked v a.node a.level len) m) (sym cells) a.fact)
+      record {
+        nodes = nodes_needed v a.node a.level len;
+        cells = cells_needed w a.node a.level len;
+        nodes_are = subst (λ l. AreNeeded child_block_sizes (child_blocks_needed s.0.nodes (layout_of v.slots v.tiers w.tiers sized) (take len b)) (nodes_needed v a.node a.level l)) long
+            (children_needed t.reading t.values t.paths v w t.holds s.0 s.1 sized (take len b) a.node a.level a.end a.is);
+        cells_are = subst (λ l. AreNeeded value_block_sizes (value_blocks_needed s.0.entries (layout_of v.slots v.tiers w.tiers sized) (take len b)) (cells_needed w a.node a.level l)) long
+            (values_needed t.reading t.values t.paths v w t.holds s.0 s.1 sized (take len b) a.node a.level a.end a.is);
+        obtains = a.fact;
+      }

@@ -10,7 +10,7 @@ use Rattle.prefix_trie_table.specs.Layouts.{Sized, free_counts}
 use Rattle.prefix_trie_table.proofs.BlockCounts.{nodes_made, cells_made}
 use Rattle.prefix_trie_table.proofs.Needs.{all_apart, nodes_apart, cells_apart}
 use Rattle.prefix_trie_table.proofs.Sizing.{layout_of}
-use Rattle.prefix_trie_table.proofs.Stepping.{free_is}
+use Rattle.prefix_trie_table.proofs.Entering.{free_is}
 
 -- where no tier has fewer blocks, and those of each tier are the free ones and those of its size in use, no size has fewer
 loses_none : (sizes : List ℕ) (seven : length sizes ≡ 7) (differ : all_apart sizes ≡ true) (ts us : List Tier) (m n : Sizes) →

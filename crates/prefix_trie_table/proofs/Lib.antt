@@ -2,6 +2,7 @@ pub mod Shifts
 pub mod Tilings
 pub mod RunLemmas
 pub mod Soundness
+pub mod Entering
 pub mod Fitting
 pub mod Spending
 pub mod Turnovers
@@ -13,6 +14,7 @@ pub mod Paths
 pub mod Starts
 pub mod Keys
 pub mod Trees
+pub mod BySize
 pub mod Children
 pub mod Values
 pub mod Shapes
@@ -24,6 +26,7 @@ pub mod PathSums
 pub mod EntryCounts
 pub mod Adding
 pub mod Growing
+pub mod Inserted
 pub mod Inserting
 pub mod Rooms
 pub mod Clearing

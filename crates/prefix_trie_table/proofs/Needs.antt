@@ -1,5 +1,5 @@
 -- The blocks that an insertion needs, by strings and by the tiers and counts of nodes.
-use Rattle.std.proofs.Common.{◌≡◌, ℕ, zero, suc, ◌+◌, ◌-◌, ◌*◌, ◌<◌, ◌≤◌, ◌==◌, inl, inr, Bool, true, false, cond, not, ◌&&◌, ◌||◌, nat_lt, nat_le, if◌then◌else◌, List, [], ◌∷◌, ◌++◌, length, filter, replicate, Option, None, Some, refl, sym, ap, ap₂, ◌∙◌, arith, eqb-true, eq-eqb, append-nil, ◌≢◌}
+use Rattle.std.proofs.Common.{◌≡◌, ℕ, zero, suc, ◌+◌, ◌-◌, ◌*◌, ◌<◌, ◌≤◌, ◌==◌, inl, inr, Bool, true, false, cond, not, ◌&&◌, ◌||◌, nat_lt, nat_le, if◌then◌else◌, List, [], ◌∷◌, ◌++◌, length, filter, replicate, Option, None, Some, refl, sym, ap, ap₂, ◌∙◌, arith, eqb-true, eq-eqb, ◌≢◌}
 use Rattle.std.proofs.lemmas.List.{length-map}
 use Rattle.std.proofs.lemmas.Bool.{cases_eq, lt-ltb}
 use Rattle.std.proofs.lemmas.Bool.Decides.{nat_tests}
@@ -8,14 +8,13 @@ use Rattle.std.proofs.lemmas.Option.{slice_get-get_or}
 use Rattle.std.specs.Prelude.{option_to_list, option_map, find, MatchOption}
 use Rattle.std.specs.Option.{option_or}
 use Rattle.std.specs.List.{slice_get, position, position_or_len}
-use Rattle.prefix_trie_bits.specs.Model.Blocks.{smallest_size, child_block_sizes, value_block_sizes}
+use Rattle.prefix_trie_bits.specs.Model.Blocks.{smallest_size}
 use Rattle.prefix_trie_bits.specs.Model.Insertion.{block_needed, lacking_slots}
 use Rattle.prefix_trie_bits.proofs.Checks.{below, at_below}
 use Rattle.prefix_trie_bits.proofs.Model.Members.{or-cases, from-not}
 use Rattle.prefix_trie_table.specs.Cells.{node_sizes, cell_sizes}
 use Rattle.prefix_trie_table.specs.Layouts.{size_if_any, free_counts}
-use Rattle.prefix_trie_table.specs.Store.{Tier, tier_at, tier_for, tier_sizes, size_in, free_at, tier_lacking, one_at, many_at, slots_of}
-use Rattle.prefix_trie_table.specs.Store.{lacking_slots as slots_lacking}
+use Rattle.prefix_trie_table.specs.Store.{Tier, tier_at, tier_for, tier_sizes, size_in, free_at, tier_lacking, one_at, many_at, slots_of, blocks_needed}
 use Rattle.prefix_trie_table.proofs.Spending.{size_at, tier_for_sizes}
 use Rattle.prefix_trie_table.proofs.Turnovers.{many_here, many_other, many-add}
 use Rattle.prefix_trie_table.proofs.Preparing.{lacking_inside}
@@ -104,7 +103,7 @@ apart sizes all j t hj ht ne =
     ]
 
 -- as many of one tier's size as of the tier
-same-tier : (sizes : List ℕ) → all_apart sizes ≡ true → (j t : ℕ) → j < 7 → t < 7 → cond (size_in sizes t == size_in sizes j) 1 0 ≡ many_at t 1 j
+pub same-tier : (sizes : List ℕ) → all_apart sizes ≡ true → (j t : ℕ) → j < 7 → t < 7 → cond (size_in sizes t == size_in sizes j) 1 0 ≡ many_at t 1 j
 same-tier sizes all j t hj ht =
     elim (cases_eq j t) as (λ _. cond (size_in sizes t == size_in sizes j) 1 0 ≡ many_at t 1 j) [
       | inl e ↦ ap (λ b. cond b 1 0) (eq-eqb (size_in sizes t) (size_in sizes j) (ap (size_in sizes) (sym e))) ∙ sym (many_here t 1) ∙ ap (many_at t 1) (sym e)
@@ -134,30 +133,24 @@ how_many-needed sizes all j lists None h inside = (let e = how_many-first sizes 
 how_many-needed sizes all j lists (Some t) h inside =
     omega (arith, how_many-more (size_in sizes j) (size_in sizes t) (replicate lists (size_in sizes 0)), same-tier sizes all j t h (inside t refl), how_many-first sizes all j lists h)
 
--- the slots that `prepare` lacks are those of the blocks that the model says
-lacking_is : (ts : List Tier) (sizes : List ℕ) → tier_sizes ts ≡ sizes → length sizes ≡ 7 → all_apart sizes ≡ true → (k count lists : ℕ) →
-    lacking_slots sizes (free_counts ts) (option_to_list (option_map (size_in sizes) (tier_lacking ts k count)) ++ replicate lists (size_in sizes 0)) ≡ slots_lacking ts k count lists
-lacking_is ts sizes are seven all k count lists =
-    let number : length ts ≡ 7 = sym (length-map ts (λ t. t.size)) ∙ ap (λ ns. length ns) are ∙ seven in
-    ap (λ ns. lacking_slots ns (free_counts ts) (option_to_list (option_map (size_in sizes) (tier_lacking ts k count)) ++ replicate lists (size_in sizes 0))) (sym are)
-    ∙ lacking_by_tiers ts (option_to_list (option_map (size_in sizes) (tier_lacking ts k count)) ++ replicate lists (size_in sizes 0))
-    (λ j. one_at (tier_lacking ts k count) j + many_at 0 lists j)
-    (λ j h. ap (λ ns. how_many (size_in ns j) (option_to_list (option_map (size_in sizes) (tier_lacking ts k count)) ++ replicate lists (size_in sizes 0))) are
-    ∙ how_many-needed sizes all j lists (tier_lacking ts k count) (omega arith) (λ t e. (let i = lacking_inside ts k count t e in omega arith)))
+-- so many of the needed blocks are of the size of each tier
+abbrev pub AreNeeded : List ℕ → List ℕ → (ℕ → ℕ) → Type 0
+AreNeeded sizes needed n = (j : ℕ) → j < 7 → how_many (size_in sizes j) needed ≡ n j
 
--- of nodes
-pub nodes_lacking_is : (ts : List Tier) → tier_sizes ts ≡ node_sizes → (k count lists : ℕ) →
-    lacking_slots child_block_sizes (free_counts ts) (option_to_list (block_needed child_block_sizes (size_if_any count (size_in node_sizes k)) count) ++ replicate lists 1)
-    ≡ slots_lacking ts k count lists
-nodes_lacking_is ts are k count lists =
-    ap (λ o. lacking_slots child_block_sizes (free_counts ts) (option_to_list o ++ replicate lists 1)) (needed_is ts node_sizes are k count)
-    ∙ lacking_is ts node_sizes are refl nodes_apart k count lists
+module _ (ts : List Tier) (sizes : List ℕ) (are : tier_sizes ts ≡ sizes) (seven : length sizes ≡ 7) where
+  number : length ts ≡ 7
+  number = sym (length-map ts (λ t. t.size)) ∙ ap (λ ns. length ns) are ∙ seven
 
--- of values
-pub cells_lacking_is : (ts : List Tier) → tier_sizes ts ≡ cell_sizes → (k count : ℕ) →
-    lacking_slots value_block_sizes (free_counts ts) (option_to_list (block_needed value_block_sizes (size_if_any count (size_in cell_sizes k)) count))
-    ≡ slots_lacking ts k count 0
-cells_lacking_is ts are k count =
-    ap (λ o. lacking_slots value_block_sizes (free_counts ts) (option_to_list o)) (needed_is ts cell_sizes are k count)
-    ∙ ap (lacking_slots value_block_sizes (free_counts ts)) (sym (append-nil (option_to_list (option_map (size_in cell_sizes) (tier_lacking ts k count)))))
-    ∙ lacking_is ts cell_sizes are refl cells_apart k count 0
+  -- the blocks that a list needs and so many others, by size and by tier
+  pub are_needed : all_apart sizes ≡ true → (k count lists : ℕ) → AreNeeded sizes
+      (option_to_list (block_needed sizes (size_if_any count (size_in sizes k)) count) ++ replicate lists (size_in sizes 0)) (blocks_needed ts k count lists)
+  are_needed all k count lists j inside =
+      ap (λ o. how_many (size_in sizes j) (option_to_list o ++ replicate lists (size_in sizes 0))) (needed_is ts sizes are k count)
+      ∙ how_many-needed sizes all j lists (tier_lacking ts k count) inside (λ t e. (let i = lacking_inside ts k count t e in let n = number in omega arith))
+
+  -- the slots of those that lack
+  pub slots_needed : (needed : List ℕ) (n : ℕ → ℕ) → AreNeeded sizes needed n →
+      lacking_slots sizes (free_counts ts) needed ≡ slots_of (tier_sizes ts) (λ j. n j - free_at ts j)
+  slots_needed needed n each =
+      ap (λ ns. lacking_slots ns (free_counts ts) needed) (sym are)
+      ∙ lacking_by_tiers ts needed n (λ j inside. ap (λ ns. how_many (size_in ns j) needed) are ∙ each j (let e = number in omega arith))

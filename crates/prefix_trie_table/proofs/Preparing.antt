@@ -80,13 +80,18 @@ module _ {S : Type 0} where
       let d : many_at t (m + 1 + n) j ≡ many_at t (s - free_at w.tiers t) j = ap (λ i. many_at t i j) (let f : m + 1 + n ≡ s - free_at w.tiers t = omega arith in f) in
       omega arith
 
-  pub way_short : (vacant : S) (v w x : Store S) (lacking : ℕ → ℕ) (t s m : ℕ) → Way v w lacking t s → t < length v.tiers → free_at w.tiers t + m < s → x ≡ grown_times vacant w t m → CutShort v x lacking
-  way_short vacant v w x lacking t s m way inside less e = subst (λ y. CutShort v y lacking) (sym e) (record {
-    made = λ j. way.made j + many_at t m j;
-    short = t;
-    fewer = fewer_short v w lacking t s m way less;
-    turnover = turned_short vacant v w lacking t s m way inside;
-  })
+  pub way_short : (vacant : S) (v w x : Store S) (lacking : ℕ → ℕ) (t s m : ℕ) → Way v w lacking t s → t < length v.tiers → free_at w.tiers t + m < s → x ≡ grown_times vacant w t m →
+      (M : Type 0) → (M → length x.slots + (tier_at x.tiers t).size ≤ x.limit) → CutShort v x lacking M
+  way_short vacant v w x lacking t s m way inside less e M room =
+      let turned = turned_short vacant v w lacking t s m way inside in
+      record {
+        made = λ j. way.made j + many_at t m j;
+        short = t;
+        inside = inside;
+        fewer = fewer_short v w lacking t s m way less;
+        turnover = subst (λ y. Turnover v y (λ j. way.made j + many_at t m j) none_at none_at) (sym e) turned;
+        room = λ for_memory. (let h = room for_memory in let is = size_at x.tiers t in omega arith);
+      }
 
   -- the array had no room for it
   pub way_range : (vacant : S) (v w x : Store S) (lacking : ℕ → ℕ) (t s m : ℕ) → Way v w lacking t s → t < length v.tiers → free_at w.tiers t + m < s → x ≡ grown_times vacant w t m → x.limit < length x.slots + (tier_at x.tiers t).size → v.limit < length v.slots + slots_of (tier_sizes v.tiers) lacking

@@ -6,9 +6,13 @@ use Rattle.prefix_trie_table.specs.declared.allocator.node.Node.{Node}
 use Rattle.prefix_trie_table.specs.declared.allocator.node.NodeSlot.{NodeSlot}
 use Rattle.prefix_trie_table.specs.Bitmaps.{has_bit, rank}
 use Rattle.prefix_trie_table.specs.Cells.{node_at, node_sizes, cell_sizes}
-use Rattle.prefix_trie_table.specs.Store.{Store, Tier, tier_sizes, tier_for, free_at, size_in}
+use Rattle.prefix_trie_table.specs.Store.{Store, Tier, tier_at, tier_sizes, tier_for, free_at, size_in}
 use Rattle.prefix_trie_table.specs.Forest.{NodesHold, CellsHold, IsSlot, at_root, at_child, has_child, is_start, without, own_count, entry_count, lacking_child, node_or_blank}
 use Rattle.prefix_trie_table.specs.Removals.{Shrinks, SameValues, IsBare, IsWay, GivesBack, ChildDropped, Drops, none, more, PrunedTo, slot_in, LongerByBlock, MayLengthen}
+use Rattle.prefix_trie_bits.specs.Model.Blocks.{made_of}
+use Rattle.prefix_trie_table.specs.Layouts.{child_block_size, free_counts}
+use Rattle.prefix_trie_table.proofs.Entering.{free_is}
+use Rattle.prefix_trie_table.proofs.Needs.{nodes_apart}
 use Rattle.prefix_trie_table.proofs.Bare.{no_bit}
 use Rattle.prefix_trie_table.proofs.Children.{changed, changed_below, changed_here, changed_other}
 use Rattle.prefix_trie_table.proofs.EntryCounts.{count_sum}
@@ -54,6 +58,7 @@ pruning_first reading paths path way level node v hold slots is all = record {
     fewer = λ n less e. absurd (omega arith);
     shrinks = λ n less e. absurd (omega arith);
     longer = inl refl;
+    made = λ j small. (omega arith, omega arith);
     settles = NodesSettle-none v;
   };
   slots = slots;
@@ -150,6 +155,17 @@ module _ (reading : List ℕ → Option Node) (paths : List (List ℕ)) (path : 
               let same : node_or_blank (p.to.later (take level path)) ≡ n = ap node_or_blank (p.to.above level (omega arith) ∙ is) in
               one.fewer ∙ ap (λ (y : Node). rank y.child_bitmap 32) same;
           longer = lengthens m one.longer;
+          made = λ j small.
+              let was : reading (take level path) ≡ Some (node_or_blank (p.to.later (take level path))) = sym (p.to.above level (omega arith)) ∙ parent_is in
+              subst (λ o. ((tier_at before.tiers j).made ≤ (tier_at w.tiers j).made)
+              × ((tier_at w.tiers j).made ≤ (tier_at before.tiers j).made
+              + made_of node_sizes (free_counts before.tiers) (child_block_size o) (child_block_size (Some m)) (size_in node_sizes j))) (sym was)
+              (let a = one.made j small in
+              let b = back.made j in
+              let f = free_is v.tiers node_sizes p.to.hold.sizes_are refl nodes_apart j small in
+              let g = free_is before.tiers node_sizes (sym back.sizes ∙ p.to.hold.sizes_are) refl nodes_apart j small in
+              let h = back.free j in
+              (omega arith, omega arith));
           shrinks = λ n less is.
               let same : node_or_blank (p.to.later (take level path)) ≡ n = ap node_or_blank (p.to.above level (omega arith) ∙ is) in (
                 subst (λ (y : Node). SameValues y m) same one.values,

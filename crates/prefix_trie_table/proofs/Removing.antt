@@ -9,10 +9,10 @@ use Rattle.prefix_trie_bits.specs.Places.{Sets}
 use Rattle.prefix_trie_table.specs.declared.allocator.node.Node.{Node}
 use Rattle.prefix_trie_table.specs.Bitmaps.{has_bit, bits, rank}
 use Rattle.prefix_trie_table.specs.Cells.{blank_node, node_at, node_sizes, cell_sizes}
-use Rattle.prefix_trie_table.specs.OwnBlocks.{size_if_any, value_block_size}
+use Rattle.prefix_trie_table.specs.OwnBlocks.{size_if_any, child_block_size, value_block_size}
 use Rattle.prefix_trie_table.specs.Store.{Store, Block, Sound, block, held, HasList, Keeps, Turnover, SameRoom, tier_at, tier_for, tier_sizes, size_in, free_at, slots_of, one_at, many_at, blocks_entered, tier_entered}
 use Rattle.prefix_trie_table.specs.Forest.{without, child_items, child_blocks, IsSlot, NodesHold, CellsHold, value_blocks, with_node, lacking_child, node_or_blank}
-use Rattle.prefix_trie_table.specs.Removals.{Shrinks, MayLengthen, ValueTaken, ChildDropped, GivesBack}
+use Rattle.prefix_trie_table.specs.Removals.{Shrinks, MayLengthen, MakesEntered, ValueTaken, ChildDropped, GivesBack}
 use Rattle.prefix_trie_table.specs.Settling.{smaller_sizes, headroom, headroom_if_any, child_headroom}
 use Rattle.prefix_trie_table.specs.Tables.{Grows}
 use Rattle.prefix_trie_table.proofs.Bare.{no_bit, cleared, others_stay, one_fewer}
@@ -22,13 +22,12 @@ use Rattle.prefix_trie_table.proofs.Soundness.{fits_block, tier_of_block}
 use Rattle.prefix_trie_table.proofs.Settling.{smaller_few, tier_headroom, headroom-step, child_settles}
 use Rattle.prefix_trie_table.proofs.Spending.{size_at, tier_for_sizes}
 use Rattle.prefix_trie_table.proofs.Trees.{own_first, slot_holds, held_some}
-use Rattle.prefix_trie_table.proofs.Turnovers.{slots_of-le, slots_of-none, slots_of-many, many_here, many_other, made_turned, made_then}
+use Rattle.prefix_trie_table.proofs.Turnovers.{slots_of-le, slots_of-none, slots_of-many, many_here, many_other, made_turned}
+use Rattle.prefix_trie_table.proofs.Entering.{le_true, left_none, entered_none, entered_one, entered_is}
+use Rattle.prefix_trie_table.proofs.Needs.{nodes_apart, cells_apart}
 use Rattle.prefix_trie_table.proofs.Values.{values_first, value_removed}
 
 -- ---- by how much an array grows where a list loses an item
-
-le_true : (a b : ℕ) → a ≤ b → nat_le a b ≡ true
-le_true a b h = grind (arith, nat_tests)
 
 -- a size that holds one item less than a size does is no larger
 pub no_larger : (sizes : List ℕ) (k to count : ℕ) → count ≤ size_in sizes k → position (λ s. nat_le (count - 1) s) sizes ≡ Some to → to ≤ k
@@ -38,15 +37,6 @@ no_larger sizes k to count fits is =
       | inl less ↦ absurd (true≢false (sym (le_true (count - 1) (size_in sizes k) (omega (arith, fits))) ∙ first.2 k less))
       | inr more ↦ omega arith
     ]
-
-left_none : (k count to j : ℕ) → count ≤ 1 → one_at (tier_entered k count to) j ≡ 0
-left_none k count to j h = rw (le_true count 1 h) refl
-
-entered_none : (k count to j : ℕ) → 1 < count → to ≡ k → one_at (tier_entered k count to) j ≡ 0
-entered_none k count to j h e = grind (arith, nat_tests)
-
-entered_one : (k count to j : ℕ) → 1 < count → to ≢ k → one_at (tier_entered k count to) j ≡ many_at to 1 j
-entered_one k count to j h ne = grind (arith, nat_tests)
 
 -- a list stands in a block of one of the seven tiers, which holds it
 pub held_fits : {S : Type 0} (vacant : S) (v : Store S) (k start count : ℕ) (sizes : List ℕ) → tier_sizes v.tiers ≡ sizes → length sizes ≡ 7 → HasList vacant v k start count →
@@ -219,10 +209,11 @@ module _ {T : Type 0} where
       → Shrinks w.tiers k.value_tier (rank k.value_bitmap 32) tier
       → ((left : ℕ) → left + 1 ≡ rank k.value_bitmap 32 → MayLengthen cell_sizes w u left k.value_tier tier)
       → (k.value_tier < 7) × (rank k.value_bitmap 32 ≤ size_in cell_sizes k.value_tier)
+      → ((j : ℕ) → (tier_at u.tiers j).made ≡ (tier_at w.tiers j).made + blocks_entered w.tiers k.value_tier (rank k.value_bitmap 32) tier j)
       → (reading : List ℕ → Option Node) (paths : List (List ℕ)) (values : List ℕ → ℕ → Option T) (p : List ℕ) (n : Node) →
       NodesHold node_sizes reading paths v → CellsHold cell_sizes reading values paths w → IsSlot reading p slot → reading p ≡ Some n
       → ValueTaken reading paths values p b n m v2 w u
-  values_taken v v2 w u slot place b tier start bitmap k m read sets m_is keeps cut place_is small there v2_is shrinks lengthens fits reading paths values
+  values_taken v v2 w u slot place b tier start bitmap k m read sets m_is keeps cut place_is small there v2_is shrinks lengthens fits turned reading paths values
       p n hold cells stands is =
       let at = slot_holds node_sizes reading paths v hold p slot n stands is in
       let same : k ≡ n = read ∙ at.0 in
@@ -264,6 +255,11 @@ module _ {T : Type 0} where
             (subst (λ (y : Node). MayLengthen cell_sizes w u (rank m.value_bitmap 32) y.value_tier tier) same
             (lengthens (rank m.value_bitmap 32)
             (ap (λ y. rank y 32 + 1) bits_are ∙ one_fewer bitmap k.value_bitmap b sets digit)));
+        made = subst (λ t. MakesEntered cell_sizes w u (value_block_size (Some n)) (size_if_any (rank m.value_bitmap 32) (size_in cell_sizes t))) (sym tier_is)
+            (subst (λ (y : Node). MakesEntered cell_sizes w u (value_block_size (Some y)) (size_if_any (rank m.value_bitmap 32) (size_in cell_sizes tier))) same
+            (λ j inside. turned j ∙ ap (λ x. (tier_at w.tiers j).made + x)
+            (entered_is w.tiers cell_sizes cells.sizes_are refl cells_apart k.value_tier (rank k.value_bitmap 32) tier (rank m.value_bitmap 32)
+            (ap (λ y. rank y 32 + 1) bits_are ∙ one_fewer bitmap k.value_bitmap b sets digit) fits.0 shrinks j inside)));
       }
 
 -- ---- the reading of the arrays where a child is gone
@@ -299,13 +295,14 @@ pub children_dropped : (v u v2 : Store Node) (slot place c tier start bitmap : �
     → Shrinks v.tiers k.child_tier (rank k.child_bitmap 32) tier
     → ((left : ℕ) → left + 1 ≡ rank k.child_bitmap 32 → MayLengthen node_sizes v u left k.child_tier tier)
     → (k.child_tier < 7) × (rank k.child_bitmap 32 ≤ size_in node_sizes k.child_tier)
+    → ((j : ℕ) → (tier_at u.tiers j).made ≡ (tier_at v.tiers j).made + blocks_entered v.tiers k.child_tier (rank k.child_bitmap 32) tier j)
     → ((left : ℕ) → left + 1 ≡ rank k.child_bitmap 32 → length u.slots + headroom_if_any (size_if_any left (size_in node_sizes tier)) ≤
     length v.slots + child_headroom k)
     → (reading : List ℕ → Option Node) (paths : List (List ℕ)) (p : List ℕ) (n leaf : Node) →
     NodesHold node_sizes reading paths v → IsSlot reading p slot → reading p ≡ Some n → reading (p ++ c ∷ []) ≡ Some leaf →
     rank leaf.child_bitmap 32 ≡ 0
     → ChildDropped reading paths p c n m v v2
-children_dropped v u v2 slot place c tier start bitmap k m read sets m_is keeps cut place_is digit v2_is shrinks lengthens fits steps reading paths p n
+children_dropped v u v2 slot place c tier start bitmap k m read sets m_is keeps cut place_is digit v2_is shrinks lengthens fits turned steps reading paths p n
     leaf hold stands is below bare =
     let at = slot_holds node_sizes reading paths v hold p slot n stands is in
     let same : k ≡ n = read ∙ at.0 in
@@ -345,6 +342,12 @@ children_dropped v u v2 slot place c tier start bitmap k m read sets m_is keeps 
           (subst (λ (y : Node). MayLengthen node_sizes v v2 (rank m.child_bitmap 32) y.child_tier tier) same
           (subst (λ (y : Store Node). MayLengthen node_sizes v y (rank m.child_bitmap 32) k.child_tier tier) (sym v2_is)
           (lengthens_written v u (rank m.child_bitmap 32) k.child_tier tier slot m (lengthens (rank m.child_bitmap 32) fewer_here))));
+      made = subst (λ t. MakesEntered node_sizes v v2 (child_block_size (Some n)) (size_if_any (rank m.child_bitmap 32) (size_in node_sizes t))) (sym tier_is)
+          (subst (λ (y : Node). MakesEntered node_sizes v v2 (child_block_size (Some y)) (size_if_any (rank m.child_bitmap 32) (size_in node_sizes tier))) same
+          (subst (λ (y : Store Node). MakesEntered node_sizes v y (child_block_size (Some k)) (size_if_any (rank m.child_bitmap 32) (size_in node_sizes tier))) (sym v2_is)
+          (λ j inside. turned j ∙ ap (λ x. (tier_at v.tiers j).made + x)
+          (entered_is v.tiers node_sizes hold.sizes_are refl nodes_apart k.child_tier (rank k.child_bitmap 32) tier (rank m.child_bitmap 32)
+          fewer_here fits.0 shrinks j inside))));
       settles = child_settles reading paths v v2 p c n m leaf hold is below later
           (ap (λ (y : Node). value_block_size (Some y)) m_is ∙ ap (λ (y : Node). value_block_size (Some y)) same)
           (let down = steps (rank m.child_bitmap 32) fewer_here in
@@ -361,7 +364,7 @@ gives_back v w k count to gave keeps turned few = record {
   room = same_room v w k count to _ _ keeps turned few;
   sizes = keeps.sizes;
   free = λ j. (let f = turned.free_is j in let e = left_none k count to j few in omega arith);
-  made = made_turned v w _ _ _ turned;
+  made = λ j. (let m = turned.made_is j in let e = left_none k count to j few in omega arith);
 }
 
 -- a node written leaves the room and the free blocks
@@ -385,12 +388,12 @@ grows_written v w x slot m most grows e = subst (λ y. Grows v y most) (sym e) (
 
 -- what is given back, and then more
 pub gives_same : {S : Type 0} (v : Store S) → GivesBack v v
-gives_same v = record { room = (refl, refl, refl); sizes = refl; free = λ j. omega arith; made = λ j. omega arith }
+gives_same v = record { room = (refl, refl, refl); sizes = refl; free = λ j. omega arith; made = λ j. refl }
 
 pub gives_then : {S : Type 0} (v w x : Store S) → GivesBack v w → GivesBack w x → GivesBack v x
 gives_then v w x a b = record {
   room = (b.room.0 ∙ a.room.0, b.room.1 ∙ a.room.1, b.room.2 ∙ a.room.2);
   sizes = b.sizes ∙ a.sizes;
   free = λ j. (let f = a.free j in let h = b.free j in omega arith);
-  made = made_then v w x a.made b.made;
+  made = λ j. b.made j ∙ a.made j;
 }

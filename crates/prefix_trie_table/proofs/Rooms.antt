@@ -1,6 +1,8 @@
 -- By how much the arrays grow.
-use Rattle.std.proofs.Common.{◌≡◌, ℕ, ◌+◌, ◌-◌, ◌*◌, ◌/◌, ◌≤◌, List, [], ◌∷◌, Result, Ok, Err, OnOk, OnErr, All, refl, sym, ap, ◌∙◌, subst, arith, lit≤}
+use Rattle.std.proofs.Common.{◌≡◌, ℕ, ◌+◌, ◌-◌, ◌*◌, ◌/◌, ◌≤◌, List, [], ◌∷◌, Result, Ok, Err, OnOk, IfErr, All, refl, sym, ap, ◌∙◌, subst, arith, lit≤}
 use Rattle.std.proofs.lemmas.List.Elements.{All-nil, All-cons}
+use Rattle.prefix_trie_bits.specs.declared.prefix.Refusal.{Refusal}
+use Rattle.prefix_trie_bits.specs.declared.prefix.Refusal.TheVariants.{Memory}
 use Rattle.prefix_trie_table.specs.Cells.{node_sizes, cell_sizes}
 use Rattle.prefix_trie_table.specs.Store.{Store, Tier, Turnover, CutShort, Prepared, SameRoom, KeepsMade, slots_of, none_at, tier_sizes, size_in, lacking_slots}
 use Rattle.prefix_trie_table.specs.Tables.{Grows}
@@ -49,8 +51,8 @@ module _ {S : Type 0} where
   SameRoom-then v w x a b = (b.0 ∙ a.0, b.1 ∙ a.1, b.2 ∙ a.2)
 
   -- what a call leaves that made blocks, all or not
-  pub Grows-made : {X E : Type 0} (r : Result X E) (v w : Store S) (lacking : ℕ → ℕ) (most : ℕ) → OnOk r (Turnover v w lacking none_at none_at) →
-      OnErr r (CutShort v w lacking) → Prepared v w → slots_of (tier_sizes v.tiers) lacking ≤ most → Grows v w most
+  pub Grows-made : {X : Type 0} (r : Result X Refusal) (v w : Store S) (lacking : ℕ → ℕ) (most : ℕ) → OnOk r (Turnover v w lacking none_at none_at) →
+      IfErr r (λ e. CutShort v w lacking (e ≡ Memory)) → Prepared v w → slots_of (tier_sizes v.tiers) lacking ≤ most → Grows v w most
   Grows-made (Ok x) v w lacking most done short p bound = record {
     first_is = p.first_is;
     limit_is = done.limit_is;

@@ -1,11 +1,12 @@
 -- The sizes of the blocks of the nodes in an array, by the strings of the nodes.
-use Rattle.std.proofs.Common.{◌≡◌, ℕ, inl, inr, Bool, true, false, cond, ◌&&◌, ◌||◌, List, [], ◌∷◌, map, Option, None, Some, is_some, refl, sym, ap, ◌∙◌, subst}
+use Rattle.std.proofs.Common.{◌≡◌, ℕ, inl, inr, Bool, true, false, cond, ◌&&◌, ◌||◌, List, [], ◌∷◌, map, length, Option, None, Some, is_some, refl, sym, ap, ◌∙◌, subst}
 use Rattle.std.proofs.lemmas.Bool.{cases_Bool}
 use Rattle.std.specs.List.{list_any}
 use Rattle.std.specs.FinMap.{get, empty, insert, get-insert, get-empty}
 use Rattle.prefix_trie_bits.specs.Order.{listing_total, same_string}
 use Rattle.prefix_trie_bits.specs.Model.Blocks.{Sizes, Layout, no_layout}
 use Rattle.prefix_trie_bits.specs.Model.Nodes.{is_node_depth}
+use Rattle.prefix_trie_bits.specs.Model.Storage.{Storage}
 use Rattle.prefix_trie_bits.proofs.Model.Members.{same_string-is}
 use Rattle.prefix_trie_table.specs.declared.allocator.node.Node.{Node}
 use Rattle.prefix_trie_table.specs.Digits.{path_of}
@@ -101,6 +102,13 @@ layout_of nodes ts us sized = record {
   value_blocks = sized.1.0;
   free_child_blocks = free_counts ts;
   free_value_blocks = free_counts us;
+}
+
+-- how arrays with such a layout are stored
+abbrev pub storage_of : {T : Type 0} (v : Store Node) → Store (Option T) → Sized v.slots → Storage
+storage_of v w sized = record {
+  room = record { limit = v.limit; node_slots = length v.slots; cell_slots = length w.slots };
+  layout = layout_of v.slots v.tiers w.tiers sized;
 }
 
 -- the same nodes and tiers have the same layout

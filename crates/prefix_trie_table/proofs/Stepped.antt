@@ -3,9 +3,10 @@ use Rattle.std.proofs.Common.{◌≡◌, ℕ, ◌*◌, ◌%◌, ◌≤◌, inl, 
 use Rattle.std.proofs.lemmas.Bool.{cases_Bool}
 use Rattle.std.proofs.lemmas.List.{length-take-le}
 use Rattle.std.specs.FinMap.{get}
-use Rattle.prefix_trie_bits.specs.Model.Blocks.{Sizes, StepsDown, SizesStepDown, StepsBetween, SizesStepBetween, LongerByOne, value_block_sizes, child_block_sizes, own_entries, child_count}
+use Rattle.prefix_trie_bits.specs.Model.Blocks.{Sizes, StepsDown, SizesStepDown, StepsBetween, SizesStepBetween, made_of, value_block_sizes, child_block_sizes, own_entries, child_count}
 use Rattle.prefix_trie_bits.specs.Model.Nodes.{Nodes, has_node, is_node_depth, home}
 use Rattle.prefix_trie_bits.specs.Model.Step.{State}
+use Rattle.prefix_trie_bits.specs.Model.Storage.{RemovesValueInStorage, PrunesInStorage}
 use Rattle.prefix_trie_bits.proofs.Model.Homes.{home-depth}
 use Rattle.prefix_trie_bits.proofs.Model.Members.{and-first, same_entries}
 use Rattle.prefix_trie_table.specs.declared.allocator.node.Node.{Node}
@@ -24,7 +25,9 @@ use Rattle.prefix_trie_table.proofs.Digits.{path-length, path-take}
 use Rattle.prefix_trie_table.proofs.OwnCounts.{children_counted, values_counted}
 use Rattle.prefix_trie_table.proofs.Removed.{home_path, fifths, pruned_holds}
 use Rattle.prefix_trie_table.proofs.Shapes.{shape_entries, shape_nodes}
-use Rattle.prefix_trie_table.proofs.Stepping.{ValuesStep, ChildrenStep, steps_read, children_kept, taken_gone, taken_values, taken_children, taken_longer, drops_gone, drops_values, pruned_children, pruned_longer}
+use Rattle.prefix_trie_table.proofs.Stepping.{ValuesStep, ChildrenStep, steps_read, children_kept, taken_gone, taken_values, taken_children, taken_grows, drops_gone, drops_values, pruned_children, pruned_grows, GrowsByOne, GrowsAtMost, grows_same, grows_not}
+use Rattle.prefix_trie_table.proofs.BySize.{blocks_made, blocks_at_most, nodes_cut, cells_cut}
+use Rattle.prefix_trie_table.proofs.Sizing.{storage_of}
 use Rattle.prefix_trie_table.proofs.Trees.{reads, is_none-None}
 
 -- the size by the string of a node is that by its path
@@ -93,19 +96,19 @@ record Left {T : Type 0} (reading : List ℕ → Option Node) (path : List ℕ) 
   pub gone : (x : List ℕ) → reading x ≡ None → later x ≡ None
   pub values : (x : List ℕ) → ValuesStep (free_counts w.tiers) (reading x) (later x)
   pub children : (x : List ℕ) → ChildrenStep (free_counts v.tiers) (reading x) (later x)
-  pub cells_longer : LongerByOne cell_sizes (free_counts w.tiers) (value_block_size (reading path)) (value_block_size (later path)) (length w.slots) (length w2.slots)
+  pub of_cells : GrowsByOne cell_sizes w w2 (value_block_size (reading path)) (value_block_size (later path))
   pub stop : ℕ
   pub stop_within : stop ≤ length path
-  pub nodes_longer : LongerByOne node_sizes (free_counts v.tiers) (child_block_size (reading (take stop path))) (child_block_size (later (take stop path)))
-      (length v.slots) (length v2.slots)
+  pub of_nodes : GrowsAtMost node_sizes v v2 (child_block_size (reading (take stop path))) (child_block_size (later (take stop path)))
 
 module _ {T : Type 0} (reading : List ℕ → Option Node) (values : List ℕ → ℕ → Option T) (paths : List (List ℕ)) (v : Store Node)
     (w : Store (Option T)) (holds : Holds reading values paths v w) (key : List Bool) (v2 : Store Node) (w2 : Store (Option T)) where
   abbrev set_here : is_some (values (path_of key) (bit_of key)) ≡ has_value (reading (path_of key)) (bit_of key)
   set_here = holds.cells.set_where (path_of key) (bit_of key)
 
-  left_taken : EntryTaken reading paths values (path_of key) (bit_of key) v2 w w2 → length v2.slots ≡ length v.slots → Left reading (path_of key) v w v2 w2
-  left_taken t long = record {
+  left_taken : EntryTaken reading paths values (path_of key) (bit_of key) v2 w w2 → length v2.slots ≡ length v.slots → v2.tiers ≡ v.tiers →
+      Left reading (path_of key) v w v2 w2
+  left_taken t long tiers = record {
     later = t.later;
     found = with_value values (path_of key) (bit_of key) None;
     paths = paths;
@@ -114,15 +117,15 @@ module _ {T : Type 0} (reading : List ℕ → Option Node) (values : List ℕ �
     values = taken_values reading paths values (path_of key) (bit_of key) v2 w w2 t set_here holds.cells.sizes_are;
     children = λ x. children_kept (free_counts v.tiers) (reading x) (t.later x)
         (taken_children reading paths values (path_of key) (bit_of key) v2 w w2 t set_here x);
-    cells_longer = taken_longer reading paths values (path_of key) (bit_of key) v2 w w2 t set_here holds.cells.sizes_are;
+    of_cells = taken_grows reading paths values (path_of key) (bit_of key) v2 w w2 t set_here holds.cells.sizes_are;
     stop = 0;
     stop_within = omega arith;
-    nodes_longer = inl long;
+    of_nodes = grows_not node_sizes v v2 _ _ tiers long;
   }
 
   left_removed : (s : State T) → IsShapeOf v.slots w.slots s → EntryRemoved reading paths values (path_of key) (bit_of key) v w v2 w2 →
       Left reading (path_of key) v w v2 w2
-  left_removed s is (inl (missing, same, t)) = left_taken t (ap (λ (x : Store Node). length x.slots) same)
+  left_removed s is (inl (missing, same, t)) = left_taken t (ap (λ (x : Store Node). length x.slots) same) (ap (λ (x : Store Node). x.tiers) same)
   left_removed s is (inr (u, there, t, p, long, tiers)) = record {
     later = p.to.later;
     found = with_value values (path_of key) (bit_of key) None;
@@ -142,20 +145,17 @@ module _ {T : Type 0} (reading : List ℕ → Option Node) (values : List ℕ �
         (child_block_size (p.to.later x)) (sym same.0) refl (sym same.1) refl
         (subst (λ ts. ChildrenStep (free_counts ts) (t.later x) (p.to.later x)) tiers
         (pruned_children t.later paths (path_of key) p.level p.node u v2 p.to t.holds.hold.sizes_are x));
-    cells_longer =
-        subst (λ o. LongerByOne cell_sizes (free_counts w.tiers) (value_block_size (reading (path_of key))) o (length w.slots) (length w2.slots))
+    of_cells =
+        subst (λ o. GrowsByOne cell_sizes w w2 (value_block_size (reading (path_of key))) o)
         (sym (drops_values t.later paths p.to.later p.to.left p.to.drops (path_of key)).1)
-        (taken_longer reading paths values (path_of key) (bit_of key) u w w2 t set_here holds.cells.sizes_are);
+        (taken_grows reading paths values (path_of key) (bit_of key) u w w2 t set_here holds.cells.sizes_are);
     stop = p.level;
     stop_within = p.to.within;
-    nodes_longer =
+    of_nodes =
         let path = take p.level (path_of key) in
-        subst (λ o. LongerByOne node_sizes (free_counts v.tiers) o (child_block_size (p.to.later path)) (length v.slots) (length v2.slots))
+        subst (λ o. GrowsAtMost node_sizes v v2 o (child_block_size (p.to.later path)))
         (taken_children reading paths values (path_of key) (bit_of key) u w w2 t set_here path).1
-        (subst (λ ts. LongerByOne node_sizes (free_counts ts) (child_block_size (t.later path)) (child_block_size (p.to.later path)) (length v.slots) (length v2.slots))
-        tiers
-        (subst (λ n. LongerByOne node_sizes (free_counts u.tiers) (child_block_size (t.later path)) (child_block_size (p.to.later path)) n (length v2.slots))
-        long (pruned_longer t.later paths (path_of key) p.level p.node u v2 p.to t.holds.hold.sizes_are)));
+        (grows_same node_sizes u v v2 _ _ tiers long (pruned_grows t.later paths (path_of key) p.level p.node u v2 p.to t.holds.hold.sizes_are));
   }
 
 -- the sizes of the blocks of a table
@@ -180,7 +180,7 @@ module _ {T : Type 0} (key : List Bool) (v v2 : Store Node) (w w2 : Store (Optio
       (children_is t.reading t.values t.paths v w t.holds s.0 s.1) (children_is l.later l.found l.paths v2 w2 l.holds s2.0 s2.1) z.0 z2.0 z.1.1.0 z2.1.1.0
 
   cells_grow : Left is.held.table.reading (path_of key) v w v2 w2 →
-      LongerByOne value_block_sizes (free_counts w.tiers) (get z.1.0 (home key)) (get z2.1.0 (home key)) (length w.slots) (length w2.slots)
+      GrowsByOne value_block_sizes w w2 (get z.1.0 (home key)) (get z2.1.0 (home key))
   cells_grow l =
       let t = is.held.table in
       let depth : is_node_depth (home key) ≡ true = eq-eqb (length (home key) % 5) 0 (home-depth key) in
@@ -190,12 +190,11 @@ module _ {T : Type 0} (key : List Bool) (v v2 : Store Node) (w w2 : Store (Optio
       let now : get z2.1.0 (home key) ≡ value_block_size (l.later (path_of key)) =
       size_read value_block_size v2.slots l.later z2.1.0 z2.1.1.1 (reads node_sizes l.later l.paths v2 l.holds.hold) (home key) depth
       ∙ ap (λ x. value_block_size (l.later x)) (home_path key) in
-      subst (λ o. LongerByOne value_block_sizes (free_counts w.tiers) o (get z2.1.0 (home key)) (length w.slots) (length w2.slots)) (sym was)
-      (subst (λ o. LongerByOne value_block_sizes (free_counts w.tiers) (value_block_size (t.reading (path_of key))) o (length w.slots) (length w2.slots)) (sym now)
-      l.cells_longer)
+      subst (λ o. GrowsByOne value_block_sizes w w2 o (get z2.1.0 (home key))) (sym was)
+      (subst (λ o. GrowsByOne value_block_sizes w w2 (value_block_size (t.reading (path_of key))) o) (sym now) l.of_cells)
 
   nodes_grow : Left is.held.table.reading (path_of key) v w v2 w2 →
-      (p : List Bool) × LongerByOne child_block_sizes (free_counts v.tiers) (get z.0 p) (get z2.0 p) (length v.slots) (length v2.slots)
+      (p : List Bool) × GrowsAtMost child_block_sizes v v2 (get z.0 p) (get z2.0 p)
   nodes_grow l =
       let t = is.held.table in
       let p : List Bool = take (5 * l.stop) key in
@@ -210,25 +209,46 @@ module _ {T : Type 0} (key : List Bool) (v v2 : Store Node) (w w2 : Store (Optio
       size_read child_block_size v2.slots l.later z2.0 z2.1.1.0 (reads node_sizes l.later l.paths v2 l.holds.hold) (take (5 * l.stop) key) depth
       ∙ ap (λ x. child_block_size (l.later x)) path in (
         p,
-        subst (λ o. LongerByOne child_block_sizes (free_counts v.tiers) o (get z2.0 (take (5 * l.stop) key)) (length v.slots) (length v2.slots)) (sym was)
-            (subst (λ o. LongerByOne child_block_sizes (free_counts v.tiers) (child_block_size (t.reading (take l.stop (path_of key)))) o (length v.slots) (length v2.slots))
-            (sym now) l.nodes_longer),
+        subst (λ o. GrowsAtMost child_block_sizes v v2 o (get z2.0 (take (5 * l.stop) key))) (sym was)
+            (subst (λ o. GrowsAtMost child_block_sizes v v2 (child_block_size (t.reading (take l.stop (path_of key)))) o) (sym now) l.of_nodes),
       )
     where
       whole : (k n : ℕ) → n ≡ 5 * k → n % 5 ≡ 0
       whole k n e = omega (arith, e)
 
+  -- the array of values as the model says
+  removes_in : IsTable v2 w2 → Left is.held.table.reading (path_of key) v w v2 w2 → RemovesValueInStorage s.0 s2.0 key (storage_of v w z) (storage_of v2 w2 z2)
+  removes_in later l =
+      let grows = cells_grow l in
+      record {
+        value_blocks = values_left l;
+        cells_longer = grows.longer;
+        value_blocks_made = blocks_made cell_sizes w w2 z.1.0 z2.1.0 (cells_cut v w is.held.table z) (cells_cut v2 w2 later z2)
+            (made_of value_block_sizes (free_counts w.tiers) (get z.1.0 (home key)) (get z2.1.0 (home key))) grows.made;
+      }
+
+  -- and that of nodes
+  prunes_in : IsTable v2 w2 → Left is.held.table.reading (path_of key) v w v2 w2 → PrunesInStorage s.0 s2.0 (storage_of v w z) (storage_of v2 w2 z2)
+  prunes_in later l =
+      let grows = nodes_grow l in
+      record {
+        child_blocks = children_left l;
+        nodes_longer = (
+          grows.0,
+          grows.1.longer,
+          blocks_at_most node_sizes v v2 z.0 z2.0 (nodes_cut v w is.held.table z) (nodes_cut v2 w2 later z2)
+              (made_of child_block_sizes (free_counts v.tiers) (get z.0 grows.0) (get z2.0 grows.0)) grows.1.made,
+        );
+      }
+
   -- where the nodes stay
   module _ (taken : ForHeld v w (λ reading paths values. EntryTaken reading paths values (path_of key) (bit_of key) v2 w w2))
-      (long : length v2.slots ≡ length v.slots) where
+      (long : length v2.slots ≡ length v.slots) (tiers : v2.tiers ≡ v.tiers) where
     abbrev took : EntryTaken is.held.table.reading is.held.table.paths is.held.table.values (path_of key) (bit_of key) v2 w w2
     took = taken is.held.table.reading is.held.table.paths is.held.table.values is.held.table.holds
 
-    pub kept_values : SizesStepDown value_block_sizes (free_counts w.tiers) s.0.nodes (own_entries s.0.entries) (own_entries s2.0.entries) z.1.0 z2.1.0
-    kept_values = (let t = is.held.table in values_left (left_taken t.reading t.values t.paths v w t.holds key v2 w2 took long))
-
-    pub kept_grows : LongerByOne value_block_sizes (free_counts w.tiers) (get z.1.0 (home key)) (get z2.1.0 (home key)) (length w.slots) (length w2.slots)
-    kept_grows = (let t = is.held.table in cells_grow (left_taken t.reading t.values t.paths v w t.holds key v2 w2 took long))
+    pub kept_in : IsTable v2 w2 → RemovesValueInStorage s.0 s2.0 key (storage_of v w z) (storage_of v2 w2 z2)
+    kept_in later = (let t = is.held.table in removes_in later (left_taken t.reading t.values t.paths v w t.holds key v2 w2 took long tiers))
 
     pub kept_children : z2.0 ≡ z.0
     kept_children =
@@ -248,17 +268,11 @@ module _ {T : Type 0} (key : List Bool) (v v2 : Store Node) (w w2 : Store (Optio
         let t = is.held.table in
         left_removed t.reading t.values t.paths v w t.holds key v2 w2 s.0 s.1 (done t.reading t.paths t.values t.holds)
 
-    pub removed_values : SizesStepDown value_block_sizes (free_counts w.tiers) s.0.nodes (own_entries s.0.entries) (own_entries s2.0.entries) z.1.0 z2.1.0
-    removed_values = values_left removed_left
+    pub removed_in : IsTable v2 w2 → RemovesValueInStorage s.0 s2.0 key (storage_of v w z) (storage_of v2 w2 z2)
+    removed_in later = removes_in later removed_left
 
-    pub removed_children : SizesStepDown child_block_sizes (free_counts v.tiers) s.0.nodes (child_count s.0.nodes) (child_count s2.0.nodes) z.0 z2.0
-    removed_children = children_left removed_left
-
-    pub removed_cells_grow : LongerByOne value_block_sizes (free_counts w.tiers) (get z.1.0 (home key)) (get z2.1.0 (home key)) (length w.slots) (length w2.slots)
-    removed_cells_grow = cells_grow removed_left
-
-    pub removed_nodes_grow : (p : List Bool) × LongerByOne child_block_sizes (free_counts v.tiers) (get z.0 p) (get z2.0 p) (length v.slots) (length v2.slots)
-    removed_nodes_grow = nodes_grow removed_left
+    pub pruned_in : IsTable v2 w2 → PrunesInStorage s.0 s2.0 (storage_of v w z) (storage_of v2 w2 z2)
+    pruned_in later = prunes_in later removed_left
 
 -- ---- where several values are taken
 

@@ -4,15 +4,16 @@ use Rattle.std.proofs.lemmas.Bool.{true≢false, false≢true, cases_Bool, cases
 use Rattle.std.proofs.lemmas.List.{take_all}
 use Rattle.std.proofs.lemmas.List.Quantifiers.{position-Some}
 use Rattle.std.specs.List.{position}
-use Rattle.prefix_trie_bits.specs.Model.Blocks.{StepsDown, LongerByOne, free_of}
+use Rattle.prefix_trie_bits.specs.Model.Blocks.{StepsDown, LongerByOne, free_of, made_of}
 use Rattle.prefix_trie_table.specs.declared.allocator.node.Node.{Node}
 use Rattle.prefix_trie_table.specs.Bitmaps.{rank}
 use Rattle.prefix_trie_table.specs.Cells.{node_sizes, cell_sizes}
 use Rattle.prefix_trie_table.specs.Forest.{lacking_child, own_count, is_start, node_or_blank, has_value}
 use Rattle.prefix_trie_table.specs.Layouts.{size_if_any, own_children, child_block_size, value_block_size, free_counts}
-use Rattle.prefix_trie_table.specs.Removals.{Shrinks, LongerByBlock, SameChildren, SameValues, EntryTaken, Drops, none, more, PrunedTo}
-use Rattle.prefix_trie_table.specs.Store.{Store, Tier, tier_for, tier_sizes, size_in, free_at}
+use Rattle.prefix_trie_table.specs.Removals.{Shrinks, LongerByBlock, MakesEntered, MakesFew, SameChildren, SameValues, EntryTaken, Drops, none, more, PrunedTo}
+use Rattle.prefix_trie_table.specs.Store.{Store, Tier, tier_at, tier_for, tier_sizes, size_in, free_at}
 use Rattle.prefix_trie_table.proofs.Children.{same_or, changed_below, changed_here, changed_other}
+use Rattle.prefix_trie_table.proofs.Entering.{free_is}
 use Rattle.prefix_trie_table.proofs.Needs.{smallest_is, all_apart, nodes_apart, cells_apart, apart}
 use Rattle.prefix_trie_table.proofs.Removed.{start_is}
 use Rattle.prefix_trie_table.proofs.Spending.{tier_for_sizes}
@@ -41,30 +42,11 @@ module _ (sizes free : List ℕ) (before after : ℕ) (old new : Option ℕ) whe
 
 -- ---- by tiers
 
-counts_at : (ts : List Tier) (j : ℕ) → get_or (free_counts ts) j 0 ≡ free_at ts j
-counts_at [] j = refl
-counts_at (t ∷ ts) zero = refl
-counts_at (t ∷ ts) (suc j) = counts_at ts j
-
-free_nth : (sizes free : List ℕ) (j : ℕ) → j < length sizes → ((i : ℕ) → i < j → (size_in sizes i == size_in sizes j) ≡ false) →
-    free_of sizes free (size_in sizes j) ≡ get_or free j 0
-free_nth [] free j inside differ = absurd (omega arith)
-free_nth (s ∷ sizes) [] j inside differ = refl
-free_nth (s ∷ sizes) (f ∷ free) zero inside differ = ap (λ b. cond b f (free_of sizes free s)) (eq-eqb s s refl)
-free_nth (s ∷ sizes) (f ∷ free) (suc j) inside differ =
-    ap (λ b. cond b f (free_of sizes free (size_in sizes j))) (differ 0 (omega arith))
-    ∙ free_nth sizes free j (omega arith) (λ i h. differ (suc i) (omega arith))
-
 pub some_size : (n size : ℕ) → 0 < n → size_if_any n size ≡ Some size
 some_size zero size h = absurd (omega arith)
 some_size (suc n) size h = refl
 
 module _ (ts : List Tier) (sizes : List ℕ) (are : tier_sizes ts ≡ sizes) (seven : length sizes ≡ 7) (differ : all_apart sizes ≡ true) where
-  -- as many blocks of a tier's size are free as of the tier
-  pub free_is : (j : ℕ) → j < 7 → free_of sizes (free_counts ts) (size_in sizes j) ≡ free_at ts j
-  free_is j inside =
-      free_nth sizes (free_counts ts) j (omega arith) (λ i h. apart sizes differ j i inside (omega arith) (λ e. omega arith)) ∙ counts_at ts j
-
   module _ (k count to after : ℕ) (fewer : after + 1 ≡ count) (s : Shrinks ts k count to) where
     from_tier : (size : ℕ) (o : Option ℕ) → tier_for ts after ≡ o → option_map (size_in sizes) o ≡ Some size → 0 < after →
         0 < free_of sizes (free_counts ts) size → size_in sizes to ≡ size
@@ -76,7 +58,7 @@ module _ (ts : List Tier) (sizes : List ℕ) (are : tier_sizes ts ≡ sizes) (se
         let same : size_in sizes j ≡ size = ap (or_zero) is in
         let inside : j < 7 = (let h = (position-Some (λ size. nat_le after size) sizes j 0
         (sym (tier_for_sizes ts after ∙ ap (λ ns. position (λ size. nat_le after size) ns) are) ∙ e)).0 in omega arith) in
-        let free : 0 < free_at ts j = (let f = free_is j inside in let g : free_of sizes (free_counts ts) (size_in sizes j) ≡ free_of sizes (free_counts ts) size = ap (free_of sizes (free_counts ts)) same in omega arith) in
+        let free : 0 < free_at ts j = (let f = free_is ts sizes are seven differ j inside in let g : free_of sizes (free_counts ts) (size_in sizes j) ≡ free_of sizes (free_counts ts) size = ap (free_of sizes (free_counts ts)) same in omega arith) in
         ap (size_in sizes) (s.smaller j (omega arith) (ap (tier_for ts) (let f : count - 1 ≡ after = omega arith in f) ∙ e) free) ∙ same
       where
         or_zero : Option ℕ → ℕ
@@ -119,7 +101,7 @@ module _ (ts : List Tier) (sizes : List ℕ) (are : tier_sizes ts ≡ sizes) (se
         size_in sizes to,
         some_size left (size_in sizes to) l.some,
         size_differs c k to less (omega arith),
-        free_is to (omega arith) ∙ ap (λ us. free_at us to) (sym of) ∙ l.none_free,
+        free_is ts sizes are seven differ to (omega arith) ∙ ap (λ us. free_at us to) (sym of) ∙ l.none_free,
         l.longer,
       )
 
@@ -165,6 +147,33 @@ pub steps_read : (sizes free : List ℕ) (c c2 d d2 : ℕ) (o o2 n n2 : Option �
 steps_read sizes free c c2 d d2 o o2 n n2 ec ed eo en s =
     subst (λ x. StepsDown sizes free x d2 o2 n2) (sym ec)
     (subst (λ x. StepsDown sizes free c x o2 n2) (sym ed) (subst (λ x. StepsDown sizes free c d x n2) (sym eo) (subst (λ x. StepsDown sizes free c d o x) (sym en) s)))
+
+-- an array grew by the block `new`, which a list entered in place of `old`, if one had to be made
+pub record GrowsByOne {S : Type 0} (sizes : List ℕ) (v w : Store S) (old new : Option ℕ) : Type 0 where
+  pub longer : LongerByOne sizes (free_counts v.tiers) old new (length v.slots) (length w.slots)
+  pub made : MakesEntered sizes v w old new
+
+-- or by that one at most
+pub record GrowsAtMost {S : Type 0} (sizes : List ℕ) (v w : Store S) (old new : Option ℕ) : Type 0 where
+  pub longer : LongerByOne sizes (free_counts v.tiers) old new (length v.slots) (length w.slots)
+  pub made : MakesFew sizes v w old new
+
+-- the same of an array that was as long, and cut in the same way
+pub grows_same : {S : Type 0} (sizes : List ℕ) (u v w : Store S) (old new : Option ℕ) → u.tiers ≡ v.tiers → length u.slots ≡ length v.slots →
+    GrowsAtMost sizes u w old new → GrowsAtMost sizes v w old new
+grows_same sizes u v w old new tiers long g = record {
+  longer = subst (λ ts. LongerByOne sizes (free_counts ts) old new (length v.slots) (length w.slots)) tiers
+      (subst (λ n. LongerByOne sizes (free_counts u.tiers) old new n (length w.slots)) long g.longer);
+  made = subst (λ ts. (j : ℕ) → j < 7 → ((tier_at ts j).made ≤ (tier_at w.tiers j).made)
+      × ((tier_at w.tiers j).made ≤ (tier_at ts j).made + made_of sizes (free_counts ts) old new (size_in sizes j))) tiers g.made;
+}
+
+-- where no block changed
+pub grows_not : {S : Type 0} (sizes : List ℕ) (v w : Store S) (old new : Option ℕ) → w.tiers ≡ v.tiers → length w.slots ≡ length v.slots → GrowsAtMost sizes v w old new
+grows_not sizes v w old new tiers long = record {
+  longer = inl long;
+  made = λ j inside. (let e : (tier_at w.tiers j).made ≡ (tier_at v.tiers j).made = ap (λ ts. (tier_at ts j).made) tiers in (omega arith, omega arith));
+}
 
 -- ---- by path, where a value was taken
 
@@ -223,9 +232,8 @@ module _ {T : Type 0} (reading : List ℕ → Option Node) (paths : List (List �
       both (Some n) (Some m) was is same = same_children n m (t.children n m was is)
 
   -- the array of values grew by the block of its node at most
-  pub taken_longer : tier_sizes w.tiers ≡ cell_sizes →
-      LongerByOne cell_sizes (free_counts w.tiers) (value_block_size (reading path)) (value_block_size (t.later path)) (length w.slots) (length w2.slots)
-  taken_longer are = by t.longer
+  pub taken_grows : tier_sizes w.tiers ≡ cell_sizes → GrowsByOne cell_sizes w w2 (value_block_size (reading path)) (value_block_size (t.later path))
+  taken_grows are = record { longer = by t.longer; made = t.made }
     where
       by : (length w2.slots ≡ length w.slots) ⊎ ((n : Node) × (m : Node) × (reading path ≡ Some n) × (t.later path ≡ Some m)
           × LongerByBlock cell_sizes w w2 (rank m.value_bitmap 32) n.value_tier m.value_tier) →
@@ -321,10 +329,12 @@ module _ (reading : List ℕ → Option Node) (paths : List (List ℕ)) (path : 
   ]
 
   -- the array of nodes grew by the block of that node at most
-  pub pruned_longer : tier_sizes v.tiers ≡ node_sizes →
-      LongerByOne node_sizes (free_counts v.tiers) (child_block_size (reading (take level path))) (child_block_size (p.later (take level path)))
-      (length v.slots) (length v2.slots)
-  pruned_longer are = by p.longer
+  pub pruned_grows : tier_sizes v.tiers ≡ node_sizes →
+      GrowsAtMost node_sizes v v2 (child_block_size (reading (take level path))) (child_block_size (p.later (take level path)))
+  pruned_grows are = record {
+    longer = by p.longer;
+    made = subst (λ o. MakesFew node_sizes v v2 (child_block_size (reading (take level path))) (child_block_size o)) (sym p.is) p.made;
+  }
     where
       by : (length v2.slots ≡ length v.slots) ⊎ ((n : Node) × (reading (take level path) ≡ Some n)
           × LongerByBlock node_sizes v v2 (rank node.child_bitmap 32) n.child_tier node.child_tier) →

@@ -4,7 +4,7 @@ use Rattle.std.proofs.Math.Nat.{mul-add, mul-le-mul_left}
 use Rattle.std.proofs.lemmas.List.{get_or-set_same, get_or-set_other, length-map, length-take-le, length-replicate}
 use Rattle.std.proofs.lemmas.Bool.{cases_eq}
 use Rattle.std.proofs.lemmas.Bool.Decides.{nat_tests}
-use Rattle.prefix_trie_table.specs.Store.{Tier, Store, tier_at, with_tier, taken, grown, grown_times, tier_sizes, size_in, free_at, many_at, none_at, slots_of, Turnover, KeepsMade}
+use Rattle.prefix_trie_table.specs.Store.{Tier, Store, tier_at, with_tier, taken, grown, grown_times, tier_sizes, size_in, free_at, many_at, none_at, slots_of, Turnover, KeepsMade, SameMade}
 use Rattle.prefix_trie_table.proofs.Spending.{size_at, sizes_set}
 
 pub many_here : (k m : ℕ) → many_at k m k ≡ m
@@ -74,6 +74,13 @@ module _ {S : Type 0} where
   -- a turnover loses no block
   pub made_turned : (v w : Store S) (m t g : ℕ → ℕ) → Turnover v w m t g → KeepsMade v w
   made_turned v w m t g a = λ j. (let e = a.made_is j in omega arith)
+
+  pub made_kept : (v w : Store S) → SameMade v w → KeepsMade v w
+  made_kept v w same = λ j. (let e = same j in omega arith)
+
+  -- where none is made, as many are there
+  pub same_turned : (v w : Store S) (t g : ℕ → ℕ) → Turnover v w none_at t g → SameMade v w
+  same_turned v w t g a = λ j. (let e = a.made_is j in omega arith)
 
   -- nor do the same tiers
   pub made_same : (v w : Store S) → w.tiers ≡ v.tiers → KeepsMade v w

@@ -4,7 +4,9 @@ use Rattle.prefix_trie_table.specs.declared.allocator.node.Node.{Node}
 use Rattle.prefix_trie_table.specs.declared.allocator.node.NodeSlot.{NodeSlot}
 use Rattle.prefix_trie_table.specs.Bitmaps.{rank}
 use Rattle.prefix_trie_table.specs.Cells.{node_sizes, cell_sizes}
-use Rattle.prefix_trie_table.specs.Store.{Store, Tier, SameRoom, KeepsMade, tier_for, tier_sizes, size_in, free_at}
+use Rattle.prefix_trie_table.specs.Store.{Store, Tier, SameRoom, SameMade, tier_at, tier_for, tier_sizes, size_in, free_at}
+use Rattle.prefix_trie_bits.specs.Model.Blocks.{made_of}
+use Rattle.prefix_trie_table.specs.Layouts.{child_block_size, value_block_size, free_counts}
 use Rattle.prefix_trie_table.specs.Settling.{NodesSettle}
 use Rattle.prefix_trie_table.specs.Forest.{NodesHold, CellsHold, Holds, IsSlot, lacking_child, without, is_start, with_node, with_value, own_count, entry_count, one_if}
 
@@ -40,6 +42,16 @@ pub record SameValues (n m : Node) : Type 0 where
   pub block : m.value_block ≡ n.value_block
   pub tier : m.value_tier ≡ n.value_tier
 
+-- where a list left its block, of the size `old`, for one of the size `new`, that one was made, unless it is the old size or one was free
+abbrev pub MakesEntered : {S : Type 0} → List ℕ → Store S → Store S → Option ℕ → Option ℕ → Type 0
+MakesEntered sizes v w old new =
+    (j : ℕ) → j < 7 → (tier_at w.tiers j).made ≡ (tier_at v.tiers j).made + made_of sizes (free_counts v.tiers) old new (size_in sizes j)
+
+-- or that one at most
+abbrev pub MakesFew : {S : Type 0} → List ℕ → Store S → Store S → Option ℕ → Option ℕ → Type 0
+MakesFew sizes v w old new = (j : ℕ) → j < 7 → ((tier_at v.tiers j).made ≤ (tier_at w.tiers j).made)
+    × ((tier_at w.tiers j).made ≤ (tier_at v.tiers j).made + made_of sizes (free_counts v.tiers) old new (size_in sizes j))
+
 module _ {T : Type 0} where
   -- the node n at p, now m, has lost its value at bit b, and the other nodes and values are as they were
   pub record ValueTaken (reading : List ℕ → Option Node) (paths : List (List ℕ)) (values : List ℕ → ℕ → Option T) (p : List ℕ) (b : ℕ) (n m : Node)
@@ -51,6 +63,7 @@ module _ {T : Type 0} where
     pub children : SameChildren n m
     pub shrinks : Shrinks before.tiers n.value_tier (rank n.value_bitmap 32) m.value_tier
     pub longer : MayLengthen cell_sizes before after (rank m.value_bitmap 32) n.value_tier m.value_tier
+    pub made : MakesEntered cell_sizes before after (value_block_size (Some n)) (value_block_size (Some m))
 
   -- the value at bit b of the node with a path was taken, where there was one, and this node has the children that it had.
   -- The other nodes are as they were, and each node stands where it stood
@@ -70,6 +83,7 @@ module _ {T : Type 0} where
     pub longer : (length after.slots ≡ length before.slots)
         ⊎ ((n : Node) × (m : Node) × (reading path ≡ Some n) × (later path ≡ Some m)
         × LongerByBlock cell_sizes before after (rank m.value_bitmap 32) n.value_tier m.value_tier)
+    pub made : MakesEntered cell_sizes before after (value_block_size (reading path)) (value_block_size (later path))
 
 -- a node without values and children
 pub record IsBare (n : Node) : Type 0 where
@@ -85,7 +99,7 @@ pub record GivesBack {S : Type 0} (v w : Store S) : Type 0 where
   pub room : SameRoom v w
   pub sizes : tier_sizes w.tiers ≡ tier_sizes v.tiers
   pub free : (j : ℕ) → free_at v.tiers j ≤ free_at w.tiers j
-  pub made : KeepsMade v w
+  pub made : SameMade v w
 
 -- the slot of the k-th node on a way
 abbrev pub slot_in : List NodeSlot → ℕ → ℕ
@@ -103,6 +117,7 @@ pub record ChildDropped (reading : List ℕ → Option Node) (paths : List (List
   pub fits : (n.child_tier < 7) × (rank n.child_bitmap 32 ≤ size_in node_sizes n.child_tier)
   pub shrinks : Shrinks before.tiers n.child_tier (rank n.child_bitmap 32) m.child_tier
   pub longer : MayLengthen node_sizes before after (rank m.child_bitmap 32) n.child_tier m.child_tier
+  pub made : MakesEntered node_sizes before after (child_block_size (Some n)) (child_block_size (Some m))
   pub settles : NodesSettle before after
 
 -- nodes were taken out one after another, each of them bare when it went
@@ -131,6 +146,7 @@ pub record PrunedTo (reading : List ℕ → Option Node) (paths : List (List ℕ
   pub longer : (length after.slots ≡ length before.slots)
       ⊎ ((n : Node) × (reading (take level path) ≡ Some n)
       × LongerByBlock node_sizes before after (rank node.child_bitmap 32) n.child_tier node.child_tier)
+  pub made : MakesFew node_sizes before after (child_block_size (reading (take level path))) (child_block_size (Some node))
   pub settles : NodesSettle before after
 
 -- the way to a path was pruned as far up as nodes are bare

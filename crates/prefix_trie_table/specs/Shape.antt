@@ -9,6 +9,7 @@ use Rattle.prefix_trie_bits.specs.Model.Entries.{Entries, with_entry}
 use Rattle.prefix_trie_bits.specs.Model.Matches.{longest_match}
 use Rattle.prefix_trie_bits.specs.Model.Nodes.{Nodes, has_node, is_node_depth}
 use Rattle.prefix_trie_bits.specs.Model.Step.{State}
+use Rattle.prefix_trie_bits.specs.Model.Storage.{Storage}
 use Rattle.prefix_trie_bits.specs.Model.Room.{Room}
 use Rattle.prefix_trie_bits.specs.Model.Blocks.{Layout}
 use Rattle.prefix_trie_bits.proofs.Model.Members.{same_entries, same_members}
@@ -23,6 +24,14 @@ pub record Contents (T : Type 0) : Type 0 where
   pub nodes : Nodes
   pub room : Room
   pub layout : Layout
+
+-- the entries and the nodes, as a state of the model
+abbrev pub state : {T : Type 0} → Contents T → State T
+state contents = record { entries = contents.entries; nodes = contents.nodes }
+
+-- how they are stored
+abbrev pub storage : {T : Type 0} → Contents T → Storage
+storage contents = record { room = contents.room; layout = contents.layout }
 
 -- the contents with x at a bit string, and else as they are
 abbrev pub with_value_at : {T : Type 0} → Contents T → List Bool → T → Contents T

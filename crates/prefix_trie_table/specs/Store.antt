@@ -177,6 +177,10 @@ SameBefore {S} v w = (i : ℕ) (d : S) → i < v.first → slice_index_or w.slot
 abbrev pub KeepsMade : {S : Type 0} → Store S → Store S → Type 0
 KeepsMade v w = (j : ℕ) → (tier_at v.tiers j).made ≤ (tier_at w.tiers j).made
 
+-- of each tier as many blocks stand in the array as before
+abbrev pub SameMade : {S : Type 0} → Store S → Store S → Type 0
+SameMade v w = (j : ℕ) → (tier_at w.tiers j).made ≡ (tier_at v.tiers j).made
+
 -- no slot was made, nothing before the first block was written, and at most a free block of this tier was taken
 pub record Spends {S : Type 0} (v w : Store S) (o : Option ℕ) : Type 0 where
   pub room : SameRoom v w
@@ -228,12 +232,15 @@ blocks_entered ts k count to j = one_at (tier_entered k count to) j - free_at ts
 abbrev pub lacking_slots : List Tier → ℕ → ℕ → ℕ → ℕ
 lacking_slots ts k count lists = slots_of (tier_sizes ts) (blocks_lacking ts k count lists)
 
--- of the blocks that are lacking some were made, which are free, and one of tier `short` was refused
-pub record CutShort {S : Type 0} (v w : Store S) (lacking : ℕ → ℕ) : Type 0 where
+-- of the blocks that are lacking some were made, which are free, and one of tier `short` was refused; for want of memory only where
+-- the limit leaves room for it
+pub record CutShort {S : Type 0} (v w : Store S) (lacking : ℕ → ℕ) (for_memory : Type 0) : Type 0 where
   pub made : ℕ → ℕ
   pub short : ℕ
+  pub inside : short < length v.tiers
   pub fewer : (j : ℕ) → made j + many_at short 1 j ≤ lacking j
   pub turnover : Turnover v w made none_at none_at
+  pub room : for_memory → length w.slots + size_in (tier_sizes w.tiers) short ≤ w.limit
 
 -- free blocks were made, and nothing else; where the limit held it holds
 pub record Prepared {S : Type 0} (v w : Store S) : Type 0 where

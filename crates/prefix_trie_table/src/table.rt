@@ -19,22 +19,22 @@ pub mod seat;
 pub mod spot;
 pub mod walk;
 
-ghost use Rattle.std.specs.Prelude.{◌≡◌, ℕ, ◌+◌, ◌*◌, ◌<◌, ◌≤◌, take, IfOk, OnOk, IfErr, OnErr, IsOk, IsErr, IsTrue, ◌↔◌, MatchOption, MatchResult, None, Some, false, Bool, List};
+ghost use Rattle.std.specs.Prelude.{◌≡◌, ℕ, ◌+◌, ◌*◌, ◌^◌, ◌<◌, ◌≤◌, take, IfOk, OnOk, IfErr, OnErr, IsOk, IsErr, IsTrue, ◌↔◌, MatchOption, MatchResult, None, Some, false, Bool, List};
 ghost use Rattle.std.specs.Option.{option_copied};
 ghost use Rattle.std.specs.FinMap.{get, contains_key, len, len as node_number};
 ghost use Rattle.prefix_trie_bits.specs.Model.Asking.{AsksInOrder, MayAskInOrder};
 ghost use Rattle.prefix_trie_bits.specs.Model.Entries.{no_entries, with_entry, without_entry, without_below, AreWithin};
 ghost use Rattle.prefix_trie_bits.specs.Model.Matches.{longest_match, shortest_match};
-ghost use Rattle.prefix_trie_bits.specs.Model.Nodes.{root_alone, with_needed, nodes_without, nodes_without_below, needed, AreNodes, home};
+ghost use Rattle.prefix_trie_bits.specs.Model.Nodes.{root_alone, with_needed, nodes_without, nodes_without_below, needed, AreNodes};
 ghost use Rattle.prefix_trie_bits.specs.Model.Selections.{listing};
 ghost use Rattle.prefix_trie_bits.specs.Model.Visits.{visits, visits_to_match};
-ghost use Rattle.prefix_trie_bits.specs.Model.Insertion.{PassesLimit, TakesBlocks, node_slots_lacking, cell_slots_lacking, child_block_needed, value_block_needed};
 ghost use Rattle.prefix_trie_bits.specs.Model.Room.{MayPassLimit};
+ghost use Rattle.prefix_trie_bits.specs.Model.Storage.{InsertsInStorage, RefusesInStorage, RemovesValueInStorage, PrunesInStorage};
 ghost use Rattle.prefix_trie_bits.specs.declared.prefix.Refusal.TheVariants.{IndexRange};
-ghost use Rattle.prefix_trie_bits.specs.Model.Blocks.{no_layout, KeepsBlocks, SizesStepDown, SizesStepBetween, LongerByOne, value_block_sizes, child_block_sizes, own_entries, child_count};
+ghost use Rattle.prefix_trie_bits.specs.Model.Blocks.{no_layout, KeepsBlocks, SizesStepBetween, value_block_sizes, child_block_sizes, own_entries, child_count};
 ghost use Rattle.prefix_trie_table.specs.Layouts.{Sized, Sized-prop};
 ghost use Rattle.prefix_trie_table.specs.Settling.{headroom_of};
-ghost use Rattle.prefix_trie_table.specs.Shape.{Shaped, Shaped-prop};
+ghost use Rattle.prefix_trie_table.specs.Shape.{Shaped, Shaped-prop, state, storage};
 
 use crate::allocator::blocks::{Blocks, cells};
 use crate::allocator::nodes::{NodeAllocator, Tick};
@@ -117,11 +117,16 @@ impl<T: Drop, A: Allocator + Clone, V: Tick> Table<T, A, V> {
 }
 
 impl<T: Drop, A: Allocator, V: Tick> Table<T, A, V> {
-    /// The number of entries.
+    /// The number of entries. Neither array passes the limit, which is below 2^32.
     #[inline]
     pub fn len(&self) -> usize
-        ensures { result ≡ len self.now.entries }
+        ensures count { result ≡ len self.now.entries }
+        ensures limit { (self.now.room.limit < 2 ^ 32)
+            × (self.now.room.node_slots ≤ self.now.room.limit)
+            × (self.now.room.cell_slots ≤ self.now.room.limit) }
     {
+        // Read for the proof alone: the limit is below 2^32.
+        let _slots = self.nodes.len();
         self.count
     }
 
@@ -209,34 +214,13 @@ impl<T: Drop, A: Allocator, V: Tick> Table<T, A, V> {
             ((self.new.entries ≡ self.old.entries) × (self.new.nodes ≡ self.old.nodes)) }
         ensures returned { IfErr result (λ refused. refused.value ≡ value) }
         ensures stored { IsTrue (contains_key self.old.entries (take len (K.bits key)))
-            → IsOk result × (self.new.room ≡ self.old.room) }
-        ensures layout { IsTrue (contains_key self.old.entries (take len (K.bits key)))
-            → self.new.layout ≡ self.old.layout }
+            → IsOk result × (storage self.new ≡ storage self.old) }
+        ensures leaves { contains_key self.old.entries (take len (K.bits key)) ≡ false → MatchResult result
+            (λ _. InsertsInStorage (state self.old) (take len (K.bits key)) (storage self.old) (storage self.new))
+            (λ refused. RefusesInStorage (state self.old) (take len (K.bits key)) refused.cause
+            (storage self.old) (storage self.new)) }
         ensures range { IfErr result
             (λ refused. refused.cause ≡ IndexRange → MayPassLimit self.old.room) }
-        ensures exact_range { IfErr result (λ refused. refused.cause ≡ IndexRange
-            → PassesLimit self.old.entries self.old.nodes self.old.room self.old.layout (take len (K.bits key))) }
-        ensures granted { node_slots_lacking self.old.nodes self.old.layout (take len (K.bits key)) ≡ 0
-            → cell_slots_lacking self.old.entries self.old.layout (take len (K.bits key)) ≡ 0 → IsOk result }
-        ensures node_slots { contains_key self.old.entries (take len (K.bits key)) ≡ false → MatchResult result
-            (λ _. self.new.room.node_slots ≡ self.old.room.node_slots
-            + node_slots_lacking self.old.nodes self.old.layout (take len (K.bits key)))
-            (λ _. self.new.room.node_slots ≤ self.old.room.node_slots
-            + node_slots_lacking self.old.nodes self.old.layout (take len (K.bits key))) }
-        ensures cell_slots { contains_key self.old.entries (take len (K.bits key)) ≡ false → MatchResult result
-            (λ _. self.new.room.cell_slots ≡ self.old.room.cell_slots
-            + cell_slots_lacking self.old.entries self.old.layout (take len (K.bits key)))
-            (λ _. self.new.room.cell_slots ≤ self.old.room.cell_slots
-            + cell_slots_lacking self.old.entries self.old.layout (take len (K.bits key))) }
-        ensures child_blocks { contains_key self.old.entries (take len (K.bits key)) ≡ false → MatchResult result
-            (λ _. TakesBlocks (child_block_needed self.old.nodes self.old.layout.child_blocks (take len (K.bits key)))
-            self.old.layout.child_blocks self.new.layout.child_blocks)
-            (λ _. self.new.layout.child_blocks ≡ self.old.layout.child_blocks) }
-        ensures value_blocks { contains_key self.old.entries (take len (K.bits key)) ≡ false → MatchResult result
-            (λ _. TakesBlocks (value_block_needed self.old.entries self.old.layout.value_blocks (take len (K.bits key)))
-            self.old.layout.value_blocks self.new.layout.value_blocks)
-            (λ _. self.new.layout.value_blocks ≡ self.old.layout.value_blocks) }
-        ensures keeps_blocks { KeepsBlocks self.old.layout self.new.layout }
         ensures room { (self.new.room.limit ≡ self.old.room.limit)
             × (self.old.room.node_slots ≤ self.new.room.node_slots)
             × (self.new.room.node_slots ≤ self.old.room.node_slots + 56)
@@ -275,21 +259,9 @@ impl<T: Drop, A: Allocator, V: Tick> Table<T, A, V> {
             × (self.new.room.cell_slots ≤ self.old.room.cell_slots + 24) }
         ensures limit { (self.new.room.node_slots ≤ self.new.room.limit)
             × (self.new.room.cell_slots ≤ self.new.room.limit) }
-        ensures value_blocks { SizesStepDown value_block_sizes self.old.layout.free_value_blocks
-            self.old.nodes (own_entries self.old.entries) (own_entries self.new.entries)
-            self.old.layout.value_blocks self.new.layout.value_blocks }
-        ensures child_blocks { SizesStepDown child_block_sizes self.old.layout.free_child_blocks
-            self.old.nodes (child_count self.old.nodes) (child_count self.new.nodes)
-            self.old.layout.child_blocks self.new.layout.child_blocks }
-        ensures keeps_blocks { KeepsBlocks self.old.layout self.new.layout }
-        ensures cells_longer { LongerByOne value_block_sizes self.old.layout.free_value_blocks
-            (get self.old.layout.value_blocks (home (take len (K.bits key))))
-            (get self.new.layout.value_blocks (home (take len (K.bits key))))
-            self.old.room.cell_slots self.new.room.cell_slots }
-        ensures nodes_longer { (p : List Bool)
-            × LongerByOne child_block_sizes self.old.layout.free_child_blocks
-            (get self.old.layout.child_blocks p) (get self.new.layout.child_blocks p)
-            self.old.room.node_slots self.new.room.node_slots }
+        ensures removes { RemovesValueInStorage (state self.old) (state self.new) (take len (K.bits key))
+            (storage self.old) (storage self.new) }
+        ensures prunes { PrunesInStorage (state self.old) (state self.new) (storage self.old) (storage self.new) }
     {
         remove_entry(
             &mut self.nodes,
@@ -317,16 +289,10 @@ impl<T: Drop, A: Allocator, V: Tick> Table<T, A, V> {
             × (self.new.room.cell_slots ≤ self.old.room.cell_slots + 24) }
         ensures limit { (self.new.room.node_slots ≤ self.new.room.limit)
             × (self.new.room.cell_slots ≤ self.new.room.limit) }
-        ensures value_blocks { SizesStepDown value_block_sizes self.old.layout.free_value_blocks
-            self.old.nodes (own_entries self.old.entries) (own_entries self.new.entries)
-            self.old.layout.value_blocks self.new.layout.value_blocks }
+        ensures removes { RemovesValueInStorage (state self.old) (state self.new) (take len (K.bits key))
+            (storage self.old) (storage self.new) }
         ensures child_blocks { (self.new.layout.child_blocks ≡ self.old.layout.child_blocks)
             × (self.new.layout.free_child_blocks ≡ self.old.layout.free_child_blocks) }
-        ensures keeps_blocks { KeepsBlocks self.old.layout self.new.layout }
-        ensures cells_longer { LongerByOne value_block_sizes self.old.layout.free_value_blocks
-            (get self.old.layout.value_blocks (home (take len (K.bits key))))
-            (get self.new.layout.value_blocks (home (take len (K.bits key))))
-            self.old.room.cell_slots self.new.room.cell_slots }
     {
         remove_value(
             &mut self.nodes,

@@ -33,6 +33,11 @@ impl<B: Allocator> Refusing<B> {
         self.meter.refused.set(refused);
     }
 
+    /// How many requests are still to be passed on before any is refused: one less for each that was.
+    pub fn to_pass(&self) -> u64 {
+        self.meter.passed.get()
+    }
+
     /// How many requests are still to be refused: one less for each that was.
     pub fn left(&self) -> u64 {
         self.meter.refused.get()

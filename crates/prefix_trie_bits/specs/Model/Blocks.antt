@@ -1,5 +1,5 @@
 -- How an array is cut into blocks. The sizes are those of the crate's code; the rest is this project's own.
-use Rattle.std.specs.Prelude.{◌≡◌, ◌≢◌, ℕ, zero, suc, ◌+◌, ◌<◌, ◌≤◌, ◌⊎◌, Bool, true, false, cond, ◌==◌, ◌&&◌, List, [], ◌∷◌, ◌++◌, Option, None, Some, length, filter, find, count_by, Contains, IsPermutation, nat_le, nat_lt}
+use Rattle.std.specs.Prelude.{◌≡◌, ◌≢◌, ℕ, zero, suc, ◌+◌, ◌-◌, ◌<◌, ◌≤◌, ◌⊎◌, Bool, true, false, cond, ◌==◌, ◌&&◌, List, [], ◌∷◌, ◌++◌, Option, None, Some, length, filter, find, count_by, Contains, IsPermutation, nat_le, nat_lt}
 use Rattle.std.specs.FinMap.{FinMap, empty, get, keys, values}
 use Rattle.prefix_trie_bits.specs.Bits.{begins}
 use Rattle.prefix_trie_bits.specs.Order.{listing_cmp}
@@ -127,3 +127,30 @@ abbrev pub KeepsBlocks : Layout → Layout → Type 0
 KeepsBlocks before after =
     LosesNoBlock child_block_sizes before.child_blocks before.free_child_blocks after.child_blocks after.free_child_blocks
     × LosesNoBlock value_block_sizes before.value_blocks before.free_value_blocks after.value_blocks after.free_value_blocks
+
+-- how many child blocks of a size there are, in use and free
+abbrev pub child_block_count : Layout → ℕ → ℕ
+child_block_count layout size = used_of layout.child_blocks size + free_of child_block_sizes layout.free_child_blocks size
+
+-- how many value blocks
+abbrev pub value_block_count : Layout → ℕ → ℕ
+value_block_count layout size = used_of layout.value_blocks size + free_of value_block_sizes layout.free_value_blocks size
+
+-- of each size there are the blocks that there were, and those that were made
+abbrev pub MakesBlocks : List ℕ → (ℕ → ℕ) → (ℕ → ℕ) → (ℕ → ℕ) → Type 0
+MakesBlocks sizes made before after = (size : ℕ) → Contains sizes size → after size ≡ before size + made size
+
+-- or no fewer than there were, and no more than so many beyond them
+abbrev pub MakesAtMost : List ℕ → (ℕ → ℕ) → (ℕ → ℕ) → (ℕ → ℕ) → Type 0
+MakesAtMost sizes most before after =
+    (size : ℕ) → Contains sizes size → (before size ≤ after size) × (after size ≤ before size + most size)
+
+-- 1 where the block has this size, and else 0
+abbrev pub one_of : Option ℕ → ℕ → ℕ
+one_of None size = 0
+one_of (Some n) size = cond (n == size) 1 0
+
+-- how many blocks of a size are made where a list leaves its block, of the size `old`, for one of the size `new`: that one, unless it
+-- is the old size, or one of it was free
+abbrev pub made_of : List ℕ → List ℕ → Option ℕ → Option ℕ → ℕ → ℕ
+made_of sizes free old new size = one_of new size - (one_of old size + free_of sizes free size)

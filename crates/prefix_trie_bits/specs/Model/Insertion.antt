@@ -1,5 +1,5 @@
 -- Which blocks the insertion of a new key takes, and the slots that these ask for. This project's own.
-use Rattle.std.specs.Prelude.{◌≡◌, ◌⊎◌, ◌<◌, ℕ, ◌+◌, ◌-◌, ◌*◌, Bool, cond, not, ◌&&◌, ◌==◌, List, [], ◌∷◌, Option, None, Some, length, take, filter, filter_map, nat_lt, option_to_list}
+use Rattle.std.specs.Prelude.{◌≡◌, ◌⊎◌, ◌<◌, ◌≤◌, ℕ, ◌+◌, ◌-◌, ◌*◌, Bool, cond, not, ◌&&◌, ◌==◌, List, [], ◌∷◌, Option, None, Some, length, take, filter, filter_map, nat_lt, option_to_list}
 use Rattle.std.specs.Option.{option_or}
 use Rattle.std.specs.FinMap.{get}
 use Rattle.prefix_trie_bits.specs.Bits.{begins}
@@ -7,7 +7,7 @@ use Rattle.prefix_trie_bits.specs.Order.{same_string}
 use Rattle.prefix_trie_bits.specs.Model.Entries.{Entries}
 use Rattle.prefix_trie_bits.specs.Model.Nodes.{Nodes, has_node, is_node_depth, nodes_above, home}
 use Rattle.prefix_trie_bits.specs.Model.Room.{Room}
-use Rattle.prefix_trie_bits.specs.Model.Blocks.{Sizes, Layout, smallest_size, child_block_sizes, value_block_sizes, child_count, own_entries}
+use Rattle.prefix_trie_bits.specs.Model.Blocks.{Sizes, Layout, free_of, smallest_size, child_block_sizes, value_block_sizes, child_count, own_entries}
 
 -- the size of the block that a list of so many items needs before it takes one more, where its own block has the size that is
 -- named: none while that block has room, and else the smallest that holds them all
@@ -36,16 +36,35 @@ lacking_slots [] free needed = 0
 lacking_slots (size ∷ sizes) [] needed = size * length (filter (λ s. s == size) needed) + lacking_slots sizes [] needed
 lacking_slots (size ∷ sizes) (f ∷ free) needed = size * (length (filter (λ s. s == size) needed) - f) + lacking_slots sizes free needed
 
--- the slots for nodes that the insertion of q lacks
+-- the sizes of the child blocks that the insertion of q needs
+abbrev pub child_blocks_needed : Nodes → Layout → List Bool → List ℕ
+child_blocks_needed n layout q = filter_map (child_block_needed n layout.child_blocks q) (nodes_above q)
+
+-- the slots for nodes that it lacks
 abbrev pub node_slots_lacking : Nodes → Layout → List Bool → ℕ
-node_slots_lacking n layout q =
-    lacking_slots child_block_sizes layout.free_child_blocks (filter_map (child_block_needed n layout.child_blocks q) (nodes_above q))
+node_slots_lacking n layout q = lacking_slots child_block_sizes layout.free_child_blocks (child_blocks_needed n layout q)
 
 module _ {T : Type 0} where
+  -- the size of the value block that it needs, if any
+  abbrev pub value_blocks_needed : Entries T → Layout → List Bool → List ℕ
+  value_blocks_needed m layout q = option_to_list (value_block_needed m layout.value_blocks q (home q))
+
   -- the slots for values that it lacks
   abbrev pub cell_slots_lacking : Entries T → Layout → List Bool → ℕ
-  cell_slots_lacking m layout q =
-      lacking_slots value_block_sizes layout.free_value_blocks (option_to_list (value_block_needed m layout.value_blocks q (home q)))
+  cell_slots_lacking m layout q = lacking_slots value_block_sizes layout.free_value_blocks (value_blocks_needed m layout q)
+
+-- how many of the needed blocks are of one size and lack: those beyond the free ones
+abbrev pub lacking_of : List ℕ → List ℕ → List ℕ → ℕ → ℕ
+lacking_of sizes free needed size = length (filter (λ s. s == size) needed) - free_of sizes free size
+
+-- how many child blocks of a size the insertion of q lacks
+abbrev pub child_blocks_lacking : Nodes → Layout → List Bool → ℕ → ℕ
+child_blocks_lacking n layout q = lacking_of child_block_sizes layout.free_child_blocks (child_blocks_needed n layout q)
+
+module _ {T : Type 0} where
+  -- how many value blocks of a size
+  abbrev pub value_blocks_lacking : Entries T → Layout → List Bool → ℕ → ℕ
+  value_blocks_lacking m layout q = lacking_of value_block_sizes layout.free_value_blocks (value_blocks_needed m layout q)
 
 -- the sizes as they were, but where a block was needed the size of that one
 abbrev pub TakesBlocks : (List Bool → Option ℕ) → Sizes → Sizes → Type 0
@@ -56,3 +75,9 @@ module _ {T : Type 0} where
   abbrev pub PassesLimit : Entries T → Nodes → Room → Layout → List Bool → Type 0
   PassesLimit m n room layout q =
       (room.limit < room.node_slots + node_slots_lacking n layout q) ⊎ (room.limit < room.cell_slots + cell_slots_lacking m layout q)
+
+  -- some block that it lacks would not: the array that it is for has room for it under the limit
+  abbrev pub LacksWithinLimit : Entries T → Nodes → Room → Layout → List Bool → Type 0
+  LacksWithinLimit m n room layout q =
+      ((size : ℕ) × (0 < child_blocks_lacking n layout q size) × (room.node_slots + size ≤ room.limit))
+      ⊎ ((size : ℕ) × (0 < value_blocks_lacking m layout q size) × (room.cell_slots + size ≤ room.limit))

@@ -1,11 +1,11 @@
 -- How a map is stored, a step that sees it, and runs of such steps. This project's own.
 use Rattle.std.specs.Prelude.{◌≡◌, ℕ, ◌+◌, ◌≤◌, ◌<◌, Bool, true, false, Option, List, length}
 use Rattle.std.specs.FinMap.{get, contains_key, len}
-use Rattle.prefix_trie_bits.specs.Model.Blocks.{Layout, no_layout, KeepsBlocks, SizesStepDown, SizesStepBetween, LongerByOne, value_block_sizes, child_block_sizes, own_entries, child_count}
-use Rattle.prefix_trie_bits.specs.Model.Insertion.{PassesLimit, TakesBlocks, node_slots_lacking, cell_slots_lacking, child_block_needed, value_block_needed}
+use Rattle.prefix_trie_bits.specs.Model.Blocks.{Layout, no_layout, KeepsBlocks, MakesBlocks, MakesAtMost, made_of, child_block_count, value_block_count, SizesStepDown, SizesStepBetween, LongerByOne, value_block_sizes, child_block_sizes, own_entries, child_count}
+use Rattle.prefix_trie_bits.specs.Model.Insertion.{PassesLimit, LacksWithinLimit, TakesBlocks, node_slots_lacking, cell_slots_lacking, child_blocks_lacking, value_blocks_lacking, child_block_needed, value_block_needed}
 use Rattle.prefix_trie_bits.specs.Model.Nodes.{home}
 use Rattle.prefix_trie_bits.specs.Model.Room.{Room, MayPassLimit, LeavesRoom}
-use Rattle.prefix_trie_bits.specs.Model.Step.{State, Call, Insert, Get, Lpm, Spm, Remove, RemoveKeepTree, RemoveChildren, RetainAtLeast, Clear, Len, NodeCount, AddressCount, ListAll, ListFrom, Children, Cover, Reply, Value, Refused, Refusal, IndexRange, Step, Runs}
+use Rattle.prefix_trie_bits.specs.Model.Step.{State, Call, Insert, Get, Lpm, Spm, Remove, RemoveKeepTree, RemoveChildren, RetainAtLeast, Clear, Len, NodeCount, AddressCount, ListAll, ListFrom, Children, Cover, Reply, Value, Refused, Refusal, Memory, IndexRange, Step, Runs}
 
 -- how a map is stored: the room of its two arrays, and how they are cut into blocks
 pub record Storage : Type 0 where
@@ -17,42 +17,51 @@ abbrev pub cleared : Storage → Storage
 cleared s = record { room = record { limit = s.room.limit; node_slots = 1; cell_slots = 0 }; layout = no_layout }
 
 module _ {T : Type 0} where
-  -- what the insertion of the new key q leaves: each node that needed a block has it, the others have theirs, and the arrays are
-  -- longer by exactly what lacked. No block is lost: one that was left is free
+  -- what the insertion of the new key q leaves: each node that needed a block has it, the others have theirs. Of each size exactly the
+  -- lacking blocks were made, and the arrays are longer by these. No block is lost: one that was left is free
   pub record InsertsInStorage (s : State T) (q : List Bool) (before after : Storage) : Type 0 where
     pub node_slots : after.room.node_slots ≡ before.room.node_slots + node_slots_lacking s.nodes before.layout q
     pub cell_slots : after.room.cell_slots ≡ before.room.cell_slots + cell_slots_lacking s.entries before.layout q
     pub child_blocks : TakesBlocks (child_block_needed s.nodes before.layout.child_blocks q) before.layout.child_blocks after.layout.child_blocks
     pub value_blocks : TakesBlocks (value_block_needed s.entries before.layout.value_blocks q) before.layout.value_blocks after.layout.value_blocks
-    pub keeps : KeepsBlocks before.layout after.layout
+    pub child_blocks_made : MakesBlocks child_block_sizes (child_blocks_lacking s.nodes before.layout q) (child_block_count before.layout) (child_block_count after.layout)
+    pub value_blocks_made : MakesBlocks value_block_sizes (value_blocks_lacking s.entries before.layout q) (value_block_count before.layout) (value_block_count after.layout)
 
-  -- when its refusal comes, and what it leaves: it comes only where a block lacks, and for want of slots only where the lacking ones
-  -- pass the limit. The blocks in use stay, and the arrays are longer by no more than what lacked, in free blocks
+  -- when its refusal comes, and what it leaves: it comes only where a block lacks, for want of slots only where the lacking ones pass
+  -- the limit, and for want of memory only where one that lacks still would not. The blocks in use stay, and of each size no more
+  -- than the lacking blocks were made, which are free
   pub record RefusesInStorage (s : State T) (q : List Bool) (cause : Refusal) (before after : Storage) : Type 0 where
     pub lacks : 0 < node_slots_lacking s.nodes before.layout q + cell_slots_lacking s.entries before.layout q
     pub range : cause ≡ IndexRange → PassesLimit s.entries s.nodes before.room before.layout q
+    pub memory : cause ≡ Memory → LacksWithinLimit s.entries s.nodes after.room after.layout q
     pub node_slots : (before.room.node_slots ≤ after.room.node_slots)
         × (after.room.node_slots ≤ before.room.node_slots + node_slots_lacking s.nodes before.layout q)
     pub cell_slots : (before.room.cell_slots ≤ after.room.cell_slots)
         × (after.room.cell_slots ≤ before.room.cell_slots + cell_slots_lacking s.entries before.layout q)
     pub child_blocks : after.layout.child_blocks ≡ before.layout.child_blocks
     pub value_blocks : after.layout.value_blocks ≡ before.layout.value_blocks
-    pub keeps : KeepsBlocks before.layout after.layout
+    pub child_blocks_made : MakesAtMost child_block_sizes (child_blocks_lacking s.nodes before.layout q) (child_block_count before.layout) (child_block_count after.layout)
+    pub value_blocks_made : MakesAtMost value_block_sizes (value_blocks_lacking s.entries before.layout q) (value_block_count before.layout) (value_block_count after.layout)
 
   -- what taking out the value at q leaves of the array of values: the block that lost it steps down, and the array is longer by that
-  -- one block at most
+  -- one block at most, which was made only where none of its size was free
   pub record RemovesValueInStorage (s t : State T) (q : List Bool) (before after : Storage) : Type 0 where
     pub value_blocks : SizesStepDown value_block_sizes before.layout.free_value_blocks s.nodes (own_entries s.entries) (own_entries t.entries)
         before.layout.value_blocks after.layout.value_blocks
     pub cells_longer : LongerByOne value_block_sizes before.layout.free_value_blocks
         (get before.layout.value_blocks (home q)) (get after.layout.value_blocks (home q)) before.room.cell_slots after.room.cell_slots
+    pub value_blocks_made : MakesBlocks value_block_sizes (made_of value_block_sizes before.layout.free_value_blocks
+        (get before.layout.value_blocks (home q)) (get after.layout.value_blocks (home q))) (value_block_count before.layout) (value_block_count after.layout)
 
-  -- what pruning leaves of the array of nodes: the same, of the block that lost a child
+  -- what pruning leaves of the array of nodes: the same, of the block that lost a child. It takes a block that a node on the way
+  -- below left, where that has its size
   pub record PrunesInStorage (s t : State T) (before after : Storage) : Type 0 where
     pub child_blocks : SizesStepDown child_block_sizes before.layout.free_child_blocks s.nodes (child_count s.nodes) (child_count t.nodes)
         before.layout.child_blocks after.layout.child_blocks
     pub nodes_longer : (p : List Bool) × LongerByOne child_block_sizes before.layout.free_child_blocks
         (get before.layout.child_blocks p) (get after.layout.child_blocks p) before.room.node_slots after.room.node_slots
+        × MakesAtMost child_block_sizes (made_of child_block_sizes before.layout.free_child_blocks
+        (get before.layout.child_blocks p) (get after.layout.child_blocks p)) (child_block_count before.layout) (child_block_count after.layout)
 
   -- what taking out many entries leaves: each block that lost items is between its old size and the smallest that holds the rest; no
   -- slot and no block goes, and an array of which no block changed is as long as it was
@@ -78,11 +87,10 @@ module _ {P T : Type 0} (path : P → List Bool) where
   LeavesStorage s (Lpm q) reply t before after = after ≡ before
   LeavesStorage s (Spm q) reply t before after = after ≡ before
   LeavesStorage s (Remove q) reply t before after =
-      RemovesValueInStorage s t (path q) before after × PrunesInStorage s t before after × KeepsBlocks before.layout after.layout
+      RemovesValueInStorage s t (path q) before after × PrunesInStorage s t before after
   LeavesStorage s (RemoveKeepTree q) reply t before after =
       RemovesValueInStorage s t (path q) before after × (after.room.node_slots ≡ before.room.node_slots)
       × (after.layout.child_blocks ≡ before.layout.child_blocks) × (after.layout.free_child_blocks ≡ before.layout.free_child_blocks)
-      × KeepsBlocks before.layout after.layout
   LeavesStorage s (RemoveChildren q) reply t before after =
       (length (path q) ≡ 0 → after ≡ cleared before) × (0 < length (path q) → RemovesManyInStorage s t before after)
   LeavesStorage s (RetainAtLeast n) reply t before after = RemovesManyInStorage s t before after

@@ -1,6 +1,7 @@
 //! Counting the nodes.
 ghost use Rattle.std.specs.Prelude.{◌≡◌};
 ghost use Rattle.std.specs.FinMap.{len};
+ghost use Rattle.prefix_trie_map.specs.Whole.{IsWhole};
 
 use crate::map::{PrefixMap, Visits};
 use prefix_trie_bits::prefix::Prefix;
@@ -16,8 +17,11 @@ impl<P: Prefix, T: Drop, A: Allocator> PrefixMap<P, T, A> {
     /// ```
     #[inline]
     pub fn node_count(&self) -> usize
-        ensures { result ≡ len self.now.nodes }
+        ensures count { result ≡ len self.now.nodes }
+        ensures whole { IsWhole P.R.bit_width self.now }
     {
+        // The proof learns from it that the map is whole.
+        let _ = self.len();
         self.table.node_count(&mut Visits::new())
     }
 }

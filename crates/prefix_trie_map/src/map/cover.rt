@@ -6,6 +6,7 @@ ghost use Rattle.std.specs.Map.Iter.{TakesFirst, ShowsInOrder, GivesInOrder, der
 ghost use Rattle.prefix_trie_bits.specs.Model.Matches.{covers};
 ghost use Rattle.prefix_trie_bits.specs.Model.Selections.{shown};
 ghost use Rattle.prefix_trie_map.specs.Walks.{lent_item};
+ghost use Rattle.prefix_trie_map.specs.Whole.{IsWhole};
 
 use crate::map::lookup::rebuilt;
 use crate::map::{PrefixMap, Visits};
@@ -29,7 +30,10 @@ impl<P: Prefix, T: Drop, A: Allocator> PrefixMap<P, T, A> {
         ensures counted { length result ≡ length (covers self.now.entries (P.path prefix.now)) }
         ensures fits { length (covers self.now.entries (P.path prefix.now)) ≤ 129 }
         ensures runs { ShowsInOrder (lent_item {P = P} {T = T}) }
+        ensures whole { IsWhole P.R.bit_width self.now }
     {
+        // The proof learns from it that the map is whole.
+        let _ = self.len();
         let len = u32::from(prefix.prefix_len());
         let walk = self.table.cover(prefix.repr(), len, &mut Visits::new());
         Cover::over(walk)
@@ -43,6 +47,7 @@ impl<P: Prefix, T: Drop, A: Allocator> PrefixMap<P, T, A> {
         ensures counted { length result ≡ length (covers self.now.entries (P.path prefix.now)) }
         ensures fits { length (covers self.now.entries (P.path prefix.now)) ≤ 129 }
         ensures runs { GivesInOrder P }
+        ensures whole { IsWhole P.R.bit_width self.now }
     {
         CoverKeys::new(self.cover(prefix))
     }
@@ -55,6 +60,7 @@ impl<P: Prefix, T: Drop, A: Allocator> PrefixMap<P, T, A> {
         ensures counted { length result ≡ length (covers self.now.entries (P.path prefix.now)) }
         ensures fits { length (covers self.now.entries (P.path prefix.now)) ≤ 129 }
         ensures runs { ShowsInOrder (deref {X = T}) }
+        ensures whole { IsWhole P.R.bit_width self.now }
     {
         CoverValues::new(self.cover(prefix))
     }

@@ -6,6 +6,7 @@ ghost use Rattle.std.specs.Map.Iter.{TakesFirst, ShowsInOrder, GivesInOrder, der
 ghost use Rattle.prefix_trie_bits.specs.Bits.{zeros};
 ghost use Rattle.prefix_trie_bits.specs.Model.Selections.{listing, shown};
 ghost use Rattle.prefix_trie_map.specs.Walks.{lent_item};
+ghost use Rattle.prefix_trie_map.specs.Whole.{IsWhole};
 
 use crate::map::{PrefixMap, Visits};
 use prefix_trie_bits::prefix::Prefix;
@@ -30,8 +31,9 @@ impl<P: Prefix, T: Drop, A: Allocator> PrefixMap<P, T, A> {
         ensures counted { length result ≡ len self.now.entries }
         ensures fits { len self.now.entries < 2 ^ 64 }
         ensures runs { ShowsInOrder (lent_item {P = P} {T = T}) }
+        ensures whole { IsWhole P.R.bit_width self.now }
     {
-        // The proof learns from it that the number of entries fits.
+        // The proof learns from it that the number of entries fits, and that the map is whole.
         let _ = self.len();
         let walk = self.table.walk(&mut Visits::new());
         Iter::over(walk)
@@ -44,6 +46,7 @@ impl<P: Prefix, T: Drop, A: Allocator> PrefixMap<P, T, A> {
         ensures counted { length result ≡ len self.now.entries }
         ensures fits { len self.now.entries < 2 ^ 64 }
         ensures runs { GivesInOrder P }
+        ensures whole { IsWhole P.R.bit_width self.now }
     {
         Keys::new(self.iter())
     }
@@ -55,6 +58,7 @@ impl<P: Prefix, T: Drop, A: Allocator> PrefixMap<P, T, A> {
         ensures counted { length result ≡ len self.now.entries }
         ensures fits { len self.now.entries < 2 ^ 64 }
         ensures runs { ShowsInOrder (deref {X = T}) }
+        ensures whole { IsWhole P.R.bit_width self.now }
     {
         Values::new(self.iter())
     }
@@ -65,7 +69,7 @@ impl<'a, P: Prefix, T: Drop, A: Allocator> IntoIterator for &'a PrefixMap<P, T, 
 
     type IntoIter = Iter<'a, P, T, A>;
 
-    ghost into_iter_gives = { λ s it. (it ≡ shown P.back (listing s.now.entries)) × (length it ≡ len s.now.entries) × (len s.now.entries < 2 ^ 64) × ShowsInOrder (lent_item {P = P} {T = T}) };
+    ghost into_iter_gives = { λ s it. (it ≡ shown P.back (listing s.now.entries)) × (length it ≡ len s.now.entries) × (len s.now.entries < 2 ^ 64) × ShowsInOrder (lent_item {P = P} {T = T}) × IsWhole P.R.bit_width s.now };
 
     #[inline]
     fn into_iter(self) -> Iter<'a, P, T, A> {

@@ -1,11 +1,13 @@
 //! Lookups that lend a value for writing.
-ghost use Rattle.std.specs.Prelude.{◌≡◌, List, Bool, ℕ, ◌+◌, ◌/◌, ◌≤◌, length, take, MatchOption, IfSome, None, Some};
-ghost use Rattle.std.specs.Option.{option_copied_mut};
+ghost use Rattle.std.specs.Prelude.{◌≡◌, ◌+◌, ◌/◌, ◌≤◌, length, take, MatchOption, IfSome, None, Some};
+ghost use Rattle.std.specs.Option.{option_copied_mut, option_map};
 ghost use Rattle.std.specs.Borrow.{sem};
 ghost use Rattle.std.specs.FinMap.{get};
 ghost use Rattle.prefix_trie_bits.specs.Model.Matches.{longest_match, shown_match};
 ghost use Rattle.prefix_trie_bits.specs.Model.Visits.{visits};
 ghost use Rattle.prefix_trie_map.specs.Lending.{lends_entry_if, lends_longest_if, lent_beside};
+ghost use Rattle.prefix_trie_map.specs.Reads.{ReadsWay};
+ghost use Rattle.prefix_trie_map.specs.Walks.{lent_item_mut};
 
 use crate::map::PrefixMap;
 use crate::map::lookup::rebuilt;
@@ -38,8 +40,7 @@ impl<P: Prefix, T: Drop, A: Allocator> PrefixMap<P, T, A> {
         requires { P.IsFitting prefix.now }
         ensures* writes_back { sem 𝓛 (lends_entry_if P.row T.row A.row P.R.row P.Prefix.own P.Debug P.R.Key.own P.R.PartialEq P.R.Debug A.Allocator self.entry (P.path prefix.now) result.0) }
         ensures value { option_copied_mut result.0 ≡ get self.old.entries (P.path prefix.now) }
-        ensures exact { result.1 ≡ visits self.old.nodes (P.path prefix.now) }
-        ensures bound { result.1 ≤ length (P.path prefix.now) / 5 + 1 }
+        ensures reads { ReadsWay self.old.nodes (P.path prefix.now) result.1 }
     {
         let mut visits = Visits::new();
         let answer = self.lend_entry(prefix, &mut visits);
@@ -71,9 +72,7 @@ impl<P: Prefix, T: Drop, A: Allocator> PrefixMap<P, T, A> {
     pub fn get_lpm_value_mut(&mut self, prefix: &P) -> Option<&mut T>
         requires { P.IsFitting prefix.now }
         ensures* writes_back { sem 𝓛 (lends_longest_if P.row T.row A.row P.R.row P.Prefix.own P.Debug P.R.Key.own P.R.PartialEq P.R.Debug A.Allocator self.entry (P.path prefix.now) result) }
-        ensures value { MatchOption result
-            (longest_match self.old.entries (P.path prefix.now) ≡ None)
-            (λ value. (p : List Bool) × (longest_match self.old.entries (P.path prefix.now) ≡ Some (p, value.now))) }
+        ensures value { option_copied_mut result ≡ option_map (λ found. found.1) (longest_match self.old.entries (P.path prefix.now)) }
     {
         self.lend_longest(prefix, &mut 0, &mut Visits::new())
     }
@@ -90,9 +89,7 @@ impl<P: Prefix, T: Drop, A: Allocator> PrefixMap<P, T, A> {
     pub fn get_lpm_mut(&mut self, prefix: &P) -> Option<(P, &mut T)>
         requires { P.IsFitting prefix.now }
         ensures* writes_back { sem 𝓛 (lends_longest_if P.row T.row A.row P.R.row P.Prefix.own P.Debug P.R.Key.own P.R.PartialEq P.R.Debug A.Allocator self.entry (P.path prefix.now) (lent_beside result)) }
-        ensures value { MatchOption result
-            (longest_match self.old.entries (P.path prefix.now) ≡ None)
-            (λ found. shown_match P.back (longest_match self.old.entries (P.path prefix.now)) ≡ Some (found.0, found.1.now)) }
+        ensures value { option_map lent_item_mut result ≡ shown_match P.back (longest_match self.old.entries (P.path prefix.now)) }
     {
         not_counted(self.get_lpm_mut_counted(prefix))
     }
@@ -103,11 +100,8 @@ impl<P: Prefix, T: Drop, A: Allocator> PrefixMap<P, T, A> {
     pub fn get_lpm_mut_counted(&mut self, prefix: &P) -> (Option<(P, &mut T)>, Visits)
         requires { P.IsFitting prefix.now }
         ensures* writes_back { sem 𝓛 (lends_longest_if P.row T.row A.row P.R.row P.Prefix.own P.Debug P.R.Key.own P.R.PartialEq P.R.Debug A.Allocator self.entry (P.path prefix.now) (lent_beside result.0)) }
-        ensures value { MatchOption result.0
-            (longest_match self.old.entries (P.path prefix.now) ≡ None)
-            (λ found. shown_match P.back (longest_match self.old.entries (P.path prefix.now)) ≡ Some (found.0, found.1.now)) }
-        ensures exact { result.1 ≡ visits self.old.nodes (P.path prefix.now) }
-        ensures bound { result.1 ≤ length (P.path prefix.now) / 5 + 1 }
+        ensures value { option_map lent_item_mut result.0 ≡ shown_match P.back (longest_match self.old.entries (P.path prefix.now)) }
+        ensures reads { ReadsWay self.old.nodes (P.path prefix.now) result.1 }
     {
         let mut visits = Visits::new();
         let mut found = 0;

@@ -1,12 +1,13 @@
 //! Lookups: of exactly a prefix, and of the longest and the shortest stored prefix that contains one.
 //!
-//! Each has a form that also says how many nodes it read. The plain form is the first part of that answer: `Visits` has no
-//! bytes, so it costs nothing to make it.
-ghost use Rattle.std.specs.Prelude.{◌≡◌, ◌+◌, ◌/◌, ◌≤◌, length, take, MatchOption, None, Some, IfSome, IsSomeAnd};
+//! Each has a form that also says how many nodes it read: it makes one counter, and hands it to one call of the table. The
+//! plain form is the first part of that answer: `Visits` has no bytes, so it costs nothing to make it.
+ghost use Rattle.std.specs.Prelude.{◌≡◌, ◌≤◌, take, IfSome};
 ghost use Rattle.std.specs.Option.{option_copied, option_map, is_some};
 ghost use Rattle.std.specs.FinMap.{get, contains_key};
 ghost use Rattle.prefix_trie_bits.specs.Model.Matches.{longest_match, shortest_match, shown_match};
-ghost use Rattle.prefix_trie_bits.specs.Model.Visits.{visits, visits_to_match};
+ghost use Rattle.prefix_trie_map.specs.Reads.{ReadsWay, ReadsToMatch};
+ghost use Rattle.prefix_trie_map.specs.Walks.{lent_item};
 
 use crate::map::PrefixMap;
 use crate::map::visits::Visits;
@@ -36,8 +37,7 @@ impl<P: Prefix, T: Drop, A: Allocator> PrefixMap<P, T, A> {
     pub fn get_counted(&self, prefix: &P) -> (Option<&T>, Visits)
         requires { P.IsFitting prefix.now }
         ensures value { option_copied result.0 ≡ get self.now.entries (P.path prefix.now) }
-        ensures exact { result.1 ≡ visits self.now.nodes (P.path prefix.now) }
-        ensures bound { result.1 ≤ length (P.path prefix.now) / 5 + 1 }
+        ensures reads { ReadsWay self.now.nodes (P.path prefix.now) result.1 }
     {
         let mut visits = Visits::new();
         let len = u32::from(prefix.prefix_len());
@@ -59,10 +59,11 @@ impl<P: Prefix, T: Drop, A: Allocator> PrefixMap<P, T, A> {
     pub fn contains_key_counted(&self, prefix: &P) -> (bool, Visits)
         requires { P.IsFitting prefix.now }
         ensures value { result.0 ≡ contains_key self.now.entries (P.path prefix.now) }
-        ensures exact { result.1 ≡ visits self.now.nodes (P.path prefix.now) }
-        ensures bound { result.1 ≤ length (P.path prefix.now) / 5 + 1 }
+        ensures reads { ReadsWay self.now.nodes (P.path prefix.now) result.1 }
     {
-        let (value, visits) = self.get_counted(prefix);
+        let mut visits = Visits::new();
+        let len = u32::from(prefix.prefix_len());
+        let value = self.table.find(prefix.repr(), len, &mut visits);
         (value.is_some(), visits)
     }
 
@@ -75,9 +76,8 @@ impl<P: Prefix, T: Drop, A: Allocator> PrefixMap<P, T, A> {
     #[inline]
     pub fn get_key_value(&self, prefix: &P) -> Option<(P, &T)>
         requires { P.IsFitting prefix.now }
-        ensures { MatchOption result
-            (get self.now.entries (P.path prefix.now) ≡ None)
-            (λ found. (found.0 ≡ P.back (P.path prefix.now)) × (get self.now.entries (P.path prefix.now) ≡ Some found.1.now)) }
+        ensures { option_map lent_item result
+            ≡ option_map (λ value. (P.back (P.path prefix.now), value)) (get self.now.entries (P.path prefix.now)) }
     {
         self.get_key_value_counted(prefix).0
     }
@@ -86,13 +86,13 @@ impl<P: Prefix, T: Drop, A: Allocator> PrefixMap<P, T, A> {
     #[inline]
     pub fn get_key_value_counted(&self, prefix: &P) -> (Option<(P, &T)>, Visits)
         requires { P.IsFitting prefix.now }
-        ensures value { MatchOption result.0
-            (get self.now.entries (P.path prefix.now) ≡ None)
-            (λ found. (found.0 ≡ P.back (P.path prefix.now)) × (get self.now.entries (P.path prefix.now) ≡ Some found.1.now)) }
-        ensures exact { result.1 ≡ visits self.now.nodes (P.path prefix.now) }
-        ensures bound { result.1 ≤ length (P.path prefix.now) / 5 + 1 }
+        ensures value { option_map lent_item result.0
+            ≡ option_map (λ value. (P.back (P.path prefix.now), value)) (get self.now.entries (P.path prefix.now)) }
+        ensures reads { ReadsWay self.now.nodes (P.path prefix.now) result.1 }
     {
-        let (value, visits) = self.get_counted(prefix);
+        let mut visits = Visits::new();
+        let len = u32::from(prefix.prefix_len());
+        let value = self.table.find(prefix.repr(), len, &mut visits);
         let pair = match value {
             Some(value) => Some((
                 rebuilt(prefix.repr(), u32::from(prefix.prefix_len())),
@@ -115,9 +115,7 @@ impl<P: Prefix, T: Drop, A: Allocator> PrefixMap<P, T, A> {
     #[inline]
     pub fn get_lpm(&self, prefix: &P) -> Option<(P, &T)>
         requires { P.IsFitting prefix.now }
-        ensures { MatchOption result
-            (longest_match self.now.entries (P.path prefix.now) ≡ None)
-            (λ found. shown_match P.back (longest_match self.now.entries (P.path prefix.now)) ≡ Some (found.0, found.1.now)) }
+        ensures { option_map lent_item result ≡ shown_match P.back (longest_match self.now.entries (P.path prefix.now)) }
     {
         self.get_lpm_counted(prefix).0
     }
@@ -126,11 +124,8 @@ impl<P: Prefix, T: Drop, A: Allocator> PrefixMap<P, T, A> {
     #[inline]
     pub fn get_lpm_counted(&self, prefix: &P) -> (Option<(P, &T)>, Visits)
         requires { P.IsFitting prefix.now }
-        ensures value { MatchOption result.0
-            (longest_match self.now.entries (P.path prefix.now) ≡ None)
-            (λ found. shown_match P.back (longest_match self.now.entries (P.path prefix.now)) ≡ Some (found.0, found.1.now)) }
-        ensures exact { result.1 ≡ visits self.now.nodes (P.path prefix.now) }
-        ensures bound { result.1 ≤ length (P.path prefix.now) / 5 + 1 }
+        ensures value { option_map lent_item result.0 ≡ shown_match P.back (longest_match self.now.entries (P.path prefix.now)) }
+        ensures reads { ReadsWay self.now.nodes (P.path prefix.now) result.1 }
     {
         let mut visits = Visits::new();
         let key = prefix.repr();
@@ -153,10 +148,13 @@ impl<P: Prefix, T: Drop, A: Allocator> PrefixMap<P, T, A> {
     pub fn get_lpm_prefix_counted(&self, prefix: &P) -> (Option<P>, Visits)
         requires { P.IsFitting prefix.now }
         ensures value { result.0 ≡ option_map (λ found. P.back found.0) (longest_match self.now.entries (P.path prefix.now)) }
-        ensures exact { result.1 ≡ visits self.now.nodes (P.path prefix.now) }
-        ensures bound { result.1 ≤ length (P.path prefix.now) / 5 + 1 }
+        ensures reads { ReadsWay self.now.nodes (P.path prefix.now) result.1 }
     {
-        let (longest, visits) = self.get_lpm_counted(prefix);
+        let mut visits = Visits::new();
+        let key = prefix.repr();
+        let len = u32::from(prefix.prefix_len());
+        let found = self.table.find_longest(key, len, &mut visits);
+        let longest = rebuilt_match(key, found);
         (prefix_of(longest), visits)
     }
 
@@ -165,9 +163,7 @@ impl<P: Prefix, T: Drop, A: Allocator> PrefixMap<P, T, A> {
     #[inline]
     pub fn get_spm(&self, prefix: &P) -> Option<(P, &T)>
         requires { P.IsFitting prefix.now }
-        ensures { MatchOption result
-            (shortest_match self.now.entries (P.path prefix.now) ≡ None)
-            (λ found. shown_match P.back (shortest_match self.now.entries (P.path prefix.now)) ≡ Some (found.0, found.1.now)) }
+        ensures { option_map lent_item result ≡ shown_match P.back (shortest_match self.now.entries (P.path prefix.now)) }
     {
         self.get_spm_counted(prefix).0
     }
@@ -177,11 +173,8 @@ impl<P: Prefix, T: Drop, A: Allocator> PrefixMap<P, T, A> {
     #[inline]
     pub fn get_spm_counted(&self, prefix: &P) -> (Option<(P, &T)>, Visits)
         requires { P.IsFitting prefix.now }
-        ensures value { MatchOption result.0
-            (shortest_match self.now.entries (P.path prefix.now) ≡ None)
-            (λ found. shown_match P.back (shortest_match self.now.entries (P.path prefix.now)) ≡ Some (found.0, found.1.now)) }
-        ensures exact { result.1 ≡ visits_to_match self.now.entries self.now.nodes (P.path prefix.now) }
-        ensures bound { result.1 ≤ length (P.path prefix.now) / 5 + 1 }
+        ensures value { option_map lent_item result.0 ≡ shown_match P.back (shortest_match self.now.entries (P.path prefix.now)) }
+        ensures reads { ReadsToMatch self.now.entries self.now.nodes (P.path prefix.now) result.1 }
     {
         let mut visits = Visits::new();
         let key = prefix.repr();
@@ -204,10 +197,13 @@ impl<P: Prefix, T: Drop, A: Allocator> PrefixMap<P, T, A> {
     pub fn get_spm_prefix_counted(&self, prefix: &P) -> (Option<P>, Visits)
         requires { P.IsFitting prefix.now }
         ensures value { result.0 ≡ option_map (λ found. P.back found.0) (shortest_match self.now.entries (P.path prefix.now)) }
-        ensures exact { result.1 ≡ visits_to_match self.now.entries self.now.nodes (P.path prefix.now) }
-        ensures bound { result.1 ≤ length (P.path prefix.now) / 5 + 1 }
+        ensures reads { ReadsToMatch self.now.entries self.now.nodes (P.path prefix.now) result.1 }
     {
-        let (shortest, visits) = self.get_spm_counted(prefix);
+        let mut visits = Visits::new();
+        let key = prefix.repr();
+        let len = u32::from(prefix.prefix_len());
+        let found = self.table.find_shortest(key, len, &mut visits);
+        let shortest = rebuilt_match(key, found);
         (prefix_of(shortest), visits)
     }
 
@@ -225,10 +221,11 @@ impl<P: Prefix, T: Drop, A: Allocator> PrefixMap<P, T, A> {
     pub fn is_covered_counted(&self, prefix: &P) -> (bool, Visits)
         requires { P.IsFitting prefix.now }
         ensures value { result.0 ≡ is_some (shortest_match self.now.entries (P.path prefix.now)) }
-        ensures exact { result.1 ≡ visits_to_match self.now.entries self.now.nodes (P.path prefix.now) }
-        ensures bound { result.1 ≤ length (P.path prefix.now) / 5 + 1 }
+        ensures reads { ReadsToMatch self.now.entries self.now.nodes (P.path prefix.now) result.1 }
     {
-        let (shortest, visits) = self.get_spm_counted(prefix);
+        let mut visits = Visits::new();
+        let len = u32::from(prefix.prefix_len());
+        let shortest = self.table.find_shortest(prefix.repr(), len, &mut visits);
         (shortest.is_some(), visits)
     }
 }
@@ -248,9 +245,7 @@ pub(super) fn rebuilt<P: Prefix>(key: P::R, len: u32) -> P
 fn rebuilt_match<P: Prefix, T>(key: P::R, found: Option<(u32, &T)>) -> Option<(P, &T)>
     requires key { P.R.IsKey key }
     requires within { IfSome found (λ f. f.0 ≤ P.R.bit_width) }
-    ensures { MatchOption result
-        (found.entry ≡ None)
-        (λ shown. IsSomeAnd found.entry (λ f. (shown.0 ≡ P.back (take f.0 (P.R.bits key))) × (shown.1.now ≡ f.1.now))) }
+    ensures { option_map lent_item result ≡ option_map (λ f. (P.back (take f.0 (P.R.bits key)), f.1.now)) found.entry }
 {
     match found {
         Some((len, value)) => Some((rebuilt(key, len), value)),

@@ -1,13 +1,11 @@
 //! Taking entries out.
-ghost use Rattle.std.specs.Prelude.{◌≡◌, ◌+◌, ◌<◌, ◌≤◌};
-ghost use Rattle.std.specs.FinMap.{get, len};
-ghost use Rattle.prefix_trie_bits.specs.Model.Blocks.{KeepsBlocks};
+ghost use Rattle.std.specs.Prelude.{◌≡◌, ◌+◌, ◌≤◌};
+ghost use Rattle.std.specs.FinMap.{get};
 ghost use Rattle.prefix_trie_bits.specs.Model.Entries.{no_entries, without_entry, without_below};
 ghost use Rattle.prefix_trie_bits.specs.Model.Nodes.{root_alone, nodes_without, nodes_without_below};
-ghost use Rattle.prefix_trie_bits.specs.Model.Room.{LeavesRoom};
-ghost use Rattle.prefix_trie_bits.specs.Model.Step.{Step, Remove, RemoveKeepTree, RemoveChildren, Clear, Done, Value};
-ghost use Rattle.prefix_trie_bits.specs.Model.Storage.{cleared, RemovesValueInStorage, PrunesInStorage, RemovesManyInStorage};
-ghost use Rattle.prefix_trie_map.specs.Steps.{state, storage};
+ghost use Rattle.prefix_trie_bits.specs.Model.Step.{Remove, RemoveKeepTree, RemoveChildren, Clear, Done, Value};
+ghost use Rattle.prefix_trie_bits.specs.Model.Storage.{StepInStorage};
+ghost use Rattle.prefix_trie_map.specs.Steps.{stored};
 
 use crate::map::{PrefixMap, Visits};
 use prefix_trie_bits::prefix::{Key, Prefix};
@@ -28,15 +26,11 @@ impl<P: Prefix, T: Drop, A: Allocator> PrefixMap<P, T, A> {
         ensures value { result ≡ get self.old.entries (P.path prefix.now) }
         ensures entries { self.new.entries ≡ without_entry self.old.entries (P.path prefix.now) }
         ensures nodes { self.new.nodes ≡ nodes_without self.old.nodes self.old.entries (P.path prefix.now) }
-        ensures node_slots { (self.old.room.node_slots ≤ self.new.room.node_slots) × (self.new.room.node_slots ≤ self.old.room.node_slots + 24) }
-        ensures cell_slots { (self.old.room.cell_slots ≤ self.new.room.cell_slots) × (self.new.room.cell_slots ≤ self.old.room.cell_slots + 24) }
-        ensures leaves { LeavesRoom (len self.old.nodes) self.old.room self.new.room }
-        ensures removes { RemovesValueInStorage (state self.old) (state self.new) (P.path prefix.now) (storage self.old) (storage self.new) }
-        ensures prunes { PrunesInStorage (state self.old) (state self.new) (storage self.old) (storage self.new) }
-        ensures keeps { KeepsBlocks self.old.layout self.new.layout }
+        ensures slots { (self.new.room.node_slots ≤ self.old.room.node_slots + 24) × (self.new.room.cell_slots ≤ self.old.room.cell_slots + 24) }
 
-        // It is one step of the model.
-        ensures step { Step P.path P.back P.R.bit_width (state self.old) (Remove prefix.now) (Value result) (state self.new) }
+        // It is a step of the model, of the storage too: the block that lost a value, and the one that lost a child, step down, and one is
+        // made only where none of its size was free.
+        ensures step { StepInStorage P.path P.back P.R.bit_width (stored self.old) (Remove prefix.now) (Value result) (stored self.new) }
     {
         let key = prefix.repr();
         let len = u32::from(prefix.prefix_len());
@@ -57,16 +51,10 @@ impl<P: Prefix, T: Drop, A: Allocator> PrefixMap<P, T, A> {
         ensures value { result ≡ get self.old.entries (P.path prefix.now) }
         ensures entries { self.new.entries ≡ without_entry self.old.entries (P.path prefix.now) }
         ensures nodes { self.new.nodes ≡ self.old.nodes }
-        ensures node_slots { self.new.room.node_slots ≡ self.old.room.node_slots }
-        ensures cell_slots { (self.old.room.cell_slots ≤ self.new.room.cell_slots) × (self.new.room.cell_slots ≤ self.old.room.cell_slots + 24) }
-        ensures leaves { LeavesRoom (len self.old.nodes) self.old.room self.new.room }
-        ensures removes { RemovesValueInStorage (state self.old) (state self.new) (P.path prefix.now) (storage self.old) (storage self.new) }
-        ensures child_blocks { (self.new.layout.child_blocks ≡ self.old.layout.child_blocks)
-            × (self.new.layout.free_child_blocks ≡ self.old.layout.free_child_blocks) }
-        ensures keeps { KeepsBlocks self.old.layout self.new.layout }
+        ensures slots { self.new.room.cell_slots ≤ self.old.room.cell_slots + 24 }
 
-        // It is one step of the model.
-        ensures step { Step P.path P.back P.R.bit_width (state self.old) (RemoveKeepTree prefix.now) (Value result) (state self.new) }
+        // It is a step of the model, of the storage too. The array of nodes is as it was.
+        ensures step { StepInStorage P.path P.back P.R.bit_width (stored self.old) (RemoveKeepTree prefix.now) (Value result) (stored self.new) }
     {
         let key = prefix.repr();
         let len = u32::from(prefix.prefix_len());
@@ -91,14 +79,8 @@ impl<P: Prefix, T: Drop, A: Allocator> PrefixMap<P, T, A> {
         ensures entries { self.new.entries ≡ without_below self.old.entries (P.path prefix.now) }
         ensures nodes { self.new.nodes ≡ nodes_without_below self.old.nodes self.old.entries (P.path prefix.now) }
 
-        // No slots go, but where all is taken out.
-        ensures cleared { P.len_of prefix.now ≡ 0 → storage self.new ≡ cleared (storage self.old) }
-        ensures removes { 0 < P.len_of prefix.now
-            → RemovesManyInStorage (state self.old) (state self.new) (storage self.old) (storage self.new) }
-        ensures leaves { LeavesRoom (len self.old.nodes) self.old.room self.new.room }
-
-        // It is one step of the model.
-        ensures step { Step P.path P.back P.R.bit_width (state self.old) (RemoveChildren prefix.now) Done (state self.new) }
+        // It is a step of the model, of the storage too. No slots go, but where all is taken out.
+        ensures step { StepInStorage P.path P.back P.R.bit_width (stored self.old) (RemoveChildren prefix.now) Done (stored self.new) }
     {
         let key = prefix.repr();
         let len = u32::from(prefix.prefix_len());
@@ -115,11 +97,9 @@ impl<P: Prefix, T: Drop, A: Allocator> PrefixMap<P, T, A> {
     pub fn clear(&mut self)
         ensures entries { self.new.entries ≡ no_entries }
         ensures nodes { self.new.nodes ≡ root_alone }
-        ensures cleared { storage self.new ≡ cleared (storage self.old) }
-        ensures leaves { LeavesRoom (len self.old.nodes) self.old.room self.new.room }
 
-        // It is one step of the model.
-        ensures step { Step P.path P.back P.R.bit_width (state self.old) Clear Done (state self.new) }
+        // It is a step of the model, of the storage too: the root has its slot, and no block is left.
+        ensures step { StepInStorage P.path P.back P.R.bit_width (stored self.old) Clear Done (stored self.new) }
     {
         self.table.clear();
     }

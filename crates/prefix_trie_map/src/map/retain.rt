@@ -2,13 +2,13 @@
 ghost use Rattle.std.specs.Prelude.{◌≡◌};
 ghost use Rattle.std.specs.FinMap.{len};
 ghost use Rattle.prefix_trie_bits.specs.Model.Asking.{AsksInOrder, MayAskInOrder};
-ghost use Rattle.prefix_trie_bits.specs.Model.Entries.{AreWithin};
 ghost use Rattle.prefix_trie_bits.specs.Model.Nodes.{needed};
 ghost use Rattle.prefix_trie_bits.specs.Model.Room.{LeavesRoom};
 ghost use Rattle.prefix_trie_bits.specs.Model.Selections.{listing};
 ghost use Rattle.prefix_trie_bits.specs.Model.Storage.{RemovesManyInStorage};
 ghost use Rattle.prefix_trie_map.specs.Asking.{AsksAt, TakesAt};
 ghost use Rattle.prefix_trie_map.specs.Steps.{state, storage};
+ghost use Rattle.prefix_trie_map.specs.Whole.{IsWhole};
 
 use crate::map::PrefixMap;
 use crate::map::lookup::rebuilt;
@@ -58,12 +58,14 @@ impl<P: Prefix, T: Drop, A: Allocator> PrefixMap<P, T, A> {
     /// ```
     pub fn retain<F: FnMut(&P, &T) -> bool>(&mut self, test: F)
         requires { MayAskInOrder (AsksAt F.FnMut P.back) (TakesAt F.FnMut P.back) test (listing self.old.entries) }
-        ensures within { AreWithin P.R.bit_width self.old.entries }
+        ensures whole { IsWhole P.R.bit_width self.old }
         ensures kept { AsksInOrder (AsksAt F.FnMut P.back) test (listing self.old.entries) (listing self.new.entries) }
         ensures nodes { self.new.nodes ≡ needed self.new.entries }
         ensures removes { RemovesManyInStorage (state self.old) (state self.new) (storage self.old) (storage self.new) }
         ensures leaves { LeavesRoom (len self.old.nodes) self.old.room self.new.room }
     {
+        // The proof learns from it that the map is whole.
+        let _ = self.len();
         let keep = ByPrefix::<P, F> {
             test,
             marker: PhantomData,

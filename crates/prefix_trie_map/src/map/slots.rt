@@ -5,6 +5,7 @@ ghost use Rattle.prefix_trie_bits.specs.Model.Blocks.{NodesHaveBlocks, no_layout
 ghost use Rattle.prefix_trie_bits.specs.Model.Entries.{no_entries};
 ghost use Rattle.prefix_trie_bits.specs.Model.Nodes.{root_alone, parents, holders};
 ghost use Rattle.prefix_trie_table.specs.BlockCounts.{block_counts, slots_counted, used_blocks};
+ghost use Rattle.prefix_trie_map.specs.Whole.{IsWhole};
 
 use crate::map::{BlockCount, PrefixMap};
 use prefix_trie_bits::prefix::{Prefix, Refusal};
@@ -43,8 +44,10 @@ impl<P: Prefix, T: Drop, A: Allocator> PrefixMap<P, T, A> {
     #[inline]
     pub fn node_slots(&self) -> usize
         ensures slots { result ≡ self.now.room.node_slots }
-        ensures within { result ≤ self.now.room.limit }
+        ensures whole { IsWhole P.R.bit_width self.now }
     {
+        // The proof learns from it that the map is whole.
+        let _ = self.len();
         self.table.node_slots()
     }
 
@@ -52,8 +55,10 @@ impl<P: Prefix, T: Drop, A: Allocator> PrefixMap<P, T, A> {
     #[inline]
     pub fn cell_slots(&self) -> usize
         ensures slots { result ≡ self.now.room.cell_slots }
-        ensures within { result ≤ self.now.room.limit }
+        ensures whole { IsWhole P.R.bit_width self.now }
     {
+        // The proof learns from it that the map is whole.
+        let _ = self.len();
         self.table.cell_slots()
     }
 

@@ -59,13 +59,13 @@ impl<S: Slot, A: Allocator> Model for Blocks<S, A> {
 
 impl<S: Slot, A: Allocator> Blocks<S, A> {
     /// The number of slots: those before the first block, and of each size the blocks that were made, used or free.
-    /// Never more than the limit.
+    /// Never more than the limit, which is below 2^32.
     #[inline]
     pub fn len(&self) -> usize
         ensures len { result ≡ length self.now.slots }
         ensures made { result ≡ self.now.first + slots_made self.now.tiers }
         ensures limit { result ≤ self.now.limit }
-        ensures narrow { result < 2 ^ 32 }
+        ensures narrow { self.now.limit < 2 ^ 32 }
     {
         // Read for the proof alone: it is below 2^32.
         let _limit = self.limit;
@@ -168,7 +168,7 @@ impl<S: Slot, A: Allocator> Blocks<S, A> {
         requires fits { IsSome (tier_for self.old.tiers (count + 1)) }
         requires few { lists + 1 < 2 ^ 64 }
         ensures made { OnOk result (Turnover self.old self.new (blocks_lacking self.old.tiers k count lists) none_at none_at) }
-        ensures short { OnErr result (CutShort self.old self.new (blocks_lacking self.old.tiers k count lists)) }
+        ensures short { IfErr result (λ e. CutShort self.old self.new (blocks_lacking self.old.tiers k count lists) (e ≡ Memory)) }
         ensures range { IfErr result (λ e. e ≡ IndexRange
             → self.old.limit < length self.old.slots + lacking_slots self.old.tiers k count lists) }
         ensures granted { ((j : ℕ) → blocks_lacking self.old.tiers k count lists j ≡ 0)

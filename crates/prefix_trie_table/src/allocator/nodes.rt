@@ -4,7 +4,7 @@ ghost use Rattle.prefix_trie_bits.specs.Model.Blocks.{AreBlocksOf};
 ghost use Rattle.prefix_trie_table.specs.BlockCounts.{tier_count, blocks_in_use, free_blocks};
 ghost use Rattle.prefix_trie_table.specs.Cells.{blank_node, node_at, node_sizes};
 ghost use Rattle.prefix_trie_table.specs.Store.{Store, Block, Sound, tier_at, slots_made, block, held, HasList, IsReady, tier_lacking, tier_for, no_blocks, Spends, Prepared, Enough, Keeps, Turnover, CutShort, none_at, one_at, free_at, size_in, tier_sizes, blocks_lacking, lacking_slots, blocks_entered, tier_outgrown, tier_entered, tier_left};
-ghost use Rattle.prefix_trie_bits.specs.declared.prefix.Refusal.TheVariants.{IndexRange};
+ghost use Rattle.prefix_trie_bits.specs.declared.prefix.Refusal.TheVariants.{Memory, IndexRange};
 
 use crate::allocator::block_count::BlockCount;
 use crate::allocator::blocks::{BlockRef, Blocks, node_blocks};
@@ -102,13 +102,14 @@ impl<A: Allocator, V: Drop> NodeAllocator<A, V> {
         self.blocks.put(at.start, at.place, node);
     }
 
-    /// The number of slots: 1, and of each size the blocks that were made, used or free. Never more than the limit.
+    /// The number of slots: 1, and of each size the blocks that were made, used or free. Never more than the limit,
+    /// which is below 2^32.
     #[inline]
     pub fn len(&self) -> usize
         ensures len { result ≡ length self.now.slots }
         ensures made { result ≡ self.now.first + slots_made self.now.tiers }
         ensures limit { result ≤ self.now.limit }
-        ensures narrow { result < 2 ^ 32 }
+        ensures narrow { self.now.limit < 2 ^ 32 }
     {
         self.blocks.len()
     }
@@ -132,7 +133,7 @@ impl<A: Allocator, V: Drop> NodeAllocator<A, V> {
         requires fits { IsSome (tier_for self.old.tiers (count + 1)) }
         requires few { lists + 1 < 2 ^ 64 }
         ensures made { OnOk result (Turnover self.old self.new (blocks_lacking self.old.tiers k count lists) none_at none_at) }
-        ensures short { OnErr result (CutShort self.old self.new (blocks_lacking self.old.tiers k count lists)) }
+        ensures short { IfErr result (λ e. CutShort self.old self.new (blocks_lacking self.old.tiers k count lists) (e ≡ Memory)) }
         ensures range { IfErr result (λ e. e ≡ IndexRange
             → self.old.limit < length self.old.slots + lacking_slots self.old.tiers k count lists) }
         ensures granted { ((j : ℕ) → blocks_lacking self.old.tiers k count lists j ≡ 0)

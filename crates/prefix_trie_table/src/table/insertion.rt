@@ -4,11 +4,11 @@ ghost use Rattle.prefix_trie_table.specs.declared.allocator.node.Node.{Node};
 ghost use Rattle.prefix_trie_table.specs.Bitmaps.{has_bit as is_set, rank as rank_of};
 ghost use Rattle.prefix_trie_table.specs.Cells.{blank_node, node_at, node_sizes, cell_sizes};
 ghost use Rattle.prefix_trie_table.specs.Digits.{path_of, bit_of};
-ghost use Rattle.prefix_trie_table.specs.Store.{Block, Sound, IsReady, tier_lacking, free_at, Prepared, SameRoom, KeepsMade};
+ghost use Rattle.prefix_trie_table.specs.Store.{Block, Sound, IsReady, tier_lacking, free_at, Prepared, SameRoom, SameMade};
 ghost use Rattle.prefix_trie_table.specs.Forest.{IsSlot, NodesHold, CellsHold, Holds, IsTable, AtNode, AtValues, ChildAdded, ValueSet, StandsAt, one_if};
 ghost use Rattle.prefix_trie_table.specs.Tables.{IsReached, HasRoom, IsCounted, Grows, MayPass, ForHeld, own_value, EntrySet};
-ghost use Rattle.prefix_trie_table.specs.Asked.{nodes_asked, cells_asked, LongerBy, PassLimit, AtEnd, Obtains};
-ghost use Rattle.prefix_trie_bits.specs.declared.prefix.Refusal.TheVariants.{IndexRange};
+ghost use Rattle.prefix_trie_table.specs.Asked.{nodes_needed, cells_needed, AtEnd, ObtainsBoth};
+ghost use Rattle.prefix_trie_bits.specs.declared.prefix.Refusal.TheVariants.{Memory, IndexRange};
 
 use crate::allocator::blocks::Blocks;
 use crate::allocator::node::{Node, NodeSlot};
@@ -31,7 +31,7 @@ fn add_child<A: Allocator, V: Tick>(
     requires missing { is_set node.child_bitmap child ≡ false }
     requires ready { IsReady nodes.old.tiers node.child_tier (rank_of node.child_bitmap 32) }
     ensures room { SameRoom nodes.old nodes.new }
-    ensures made { KeepsMade nodes.old nodes.new }
+    ensures made { SameMade nodes.old nodes.new }
     ensures free { (j : ℕ) → free_at nodes.old.tiers j ≤ free_at nodes.new.tiers j + 1 }
     ensures kept { (j : ℕ)
         → tier_lacking nodes.old.tiers node.child_tier (rank_of node.child_bitmap 32) ≢ Some j
@@ -83,8 +83,8 @@ fn add_value<T: Drop, A: Allocator, V: Tick>(
     requires ready { IsReady cells.old.tiers node.value_tier (rank_of node.value_bitmap 32) }
     ensures node_room { SameRoom nodes.old nodes.new }
     ensures cell_room { SameRoom cells.old cells.new }
-    ensures node_made { KeepsMade nodes.old nodes.new }
-    ensures cell_made { KeepsMade cells.old cells.new }
+    ensures node_made { SameMade nodes.old nodes.new }
+    ensures cell_made { SameMade cells.old cells.new }
     ensures added { (reading : List ℕ → Option Node) (paths : List (List ℕ))
         (values : List ℕ → ℕ → Option T) (p : List ℕ) (n : Node)
         → NodesHold node_sizes reading paths nodes.old
@@ -168,15 +168,10 @@ fn prepare<T: Drop, A: Allocator, V: Tick>(
     ensures range { IfErr result (λ cause. cause ≡ IndexRange → MayPass nodes.old cells.old) }
     ensures node_room { Grows nodes.old nodes.new 56 }
     ensures cell_room { Grows cells.old cells.new 31 }
-    ensures node_slots { LongerBy result nodes.old nodes.new
-        (nodes_asked nodes.old reached.now.node reached.now.level len) }
-    ensures cell_slots { LongerBy result cells.old cells.new
-        (cells_asked cells.old reached.now.node reached.now.level len) }
-    ensures exact_range { IfErr result (λ cause. cause ≡ IndexRange → PassLimit nodes.old cells.old
-        (nodes_asked nodes.old reached.now.node reached.now.level len)
-        (cells_asked cells.old reached.now.node reached.now.level len)) }
-    ensures granted { nodes_asked nodes.old reached.now.node reached.now.level len ≡ 0
-        → cells_asked cells.old reached.now.node reached.now.level len ≡ 0 → IsOk result }
+    ensures obtains { ObtainsBoth (λ cause. cause ≡ IndexRange) (λ cause. cause ≡ Memory)
+        result nodes.old nodes.new cells.old cells.new
+        (nodes_needed nodes.old reached.now.node reached.now.level len)
+        (cells_needed cells.old reached.now.node reached.now.level len) }
     ensures nodes { Prepared nodes.old nodes.new }
     ensures cells { Prepared cells.old cells.new }
     ensures nodes_sound { (live : List (Block Node)) → Sound blank_node live nodes.old
@@ -218,8 +213,8 @@ fn add_entry<K: Key, T: Drop, A: Allocator, V: Tick>(
     requires room { HasRoom nodes.old cells.old reached.node reached.level len }
     ensures node_room { SameRoom nodes.old nodes.new }
     ensures cell_room { SameRoom cells.old cells.new }
-    ensures node_made { KeepsMade nodes.old nodes.new }
-    ensures cell_made { KeepsMade cells.old cells.new }
+    ensures node_made { SameMade nodes.old nodes.new }
+    ensures cell_made { SameMade cells.old cells.new }
     ensures added { ForHeld nodes.old cells.old (λ reading paths values.
         EntrySet reading paths values (K.bits key) len value nodes.new cells.new) }
 {
@@ -262,8 +257,9 @@ fn insert_value<K: Key, T: Drop, A: Allocator, V: Tick>(
     ensures asked { ForHeld nodes.old cells.old (λ reading paths values.
         own_value values (K.bits key) len ≡ None
         → AtEnd reading (K.bits key) len (λ node level.
-        Obtains (λ refused. refused.cause ≡ IndexRange) result nodes.old nodes.new cells.old cells.new
-        (nodes_asked nodes.old node level len) (cells_asked cells.old node level len))) }
+        ObtainsBoth (λ refused. refused.cause ≡ IndexRange) (λ refused. refused.cause ≡ Memory)
+        result nodes.old nodes.new cells.old cells.new
+        (nodes_needed nodes.old node level len) (cells_needed cells.old node level len))) }
     ensures returned { IfErr result (λ refused. refused.value ≡ value) }
     ensures stored { ForHeld nodes.old cells.old (λ reading paths values.
         is_some (own_value values (K.bits key) len) ≡ true
@@ -310,8 +306,9 @@ pub fn insert_entry<K: Key, T: Drop, A: Allocator, V: Tick>(
     ensures asked { ForHeld nodes.old cells.old (λ reading paths values.
         own_value values (K.bits key) len ≡ None
         → AtEnd reading (K.bits key) len (λ node level.
-        Obtains (λ refused. refused.cause ≡ IndexRange) result nodes.old nodes.new cells.old cells.new
-        (nodes_asked nodes.old node level len) (cells_asked cells.old node level len))) }
+        ObtainsBoth (λ refused. refused.cause ≡ IndexRange) (λ refused. refused.cause ≡ Memory)
+        result nodes.old nodes.new cells.old cells.new
+        (nodes_needed nodes.old node level len) (cells_needed cells.old node level len))) }
     ensures returned { IfErr result (λ refused. refused.value ≡ value) }
     ensures stored { ForHeld nodes.old cells.old (λ reading paths values.
         is_some (own_value values (K.bits key) len) ≡ true

@@ -12,4 +12,4 @@ returns-clause-kept g c =
     let kept =
     keeps_filter _ (λ e. nat_le c.args.least (shown e.0)) _ _ _
     (λ e b f' h. (search (rules, of_calls, h.called, h.shows), search (rules, of_calls, h.called))) c.retain.ensures.kept in
-    part_from_listing g.P.R.Key.bit_width c.args.least shown c.args.map.now.entries c.retain.new.self.entries c.retain.ensures.within (len_back g.met.P.Prefix.prefix_laws) kept
+    part_from_listing g.P.R.Key.bit_width c.args.least shown c.args.map.now.entries c.retain.new.self.entries c.retain.ensures.whole.is_map.keys_within (len_back g.met.P.Prefix.prefix_laws) kept

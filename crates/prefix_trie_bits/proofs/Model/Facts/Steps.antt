@@ -100,10 +100,14 @@ there o size e f = not_some size (sym f ∙ e)
 other : (o p : Option ℕ) (a b : ℕ) → o ≡ Some a → p ≡ Some b → (a == b) ≡ false → o ≡ p → ⊥
 other o p a b e f answers is = unlike a b answers (sym e ∙ is ∙ f)
 
+-- with those that were made there are no fewer
+no_fewer : (before after made : ℕ) → after ≡ before + made → before ≤ after
+no_fewer before after made e = omega arith
+
 remove : (t : State ℕ) → Shows t es8 ns8 → RemoveFacts t
 unfolding digits number begins
 remove t s = record {
-  not_lost = λ reply u h. lost value_block_sizes (root_value 2) (root_value 1) none_free none_free 2 tt tt (1, lit< tt, refl) (lit< tt) h.storage.2.1;
+  not_lost = λ reply u h. lost value_block_sizes (root_value 2) (root_value 1) none_free none_free 2 tt tt (1, lit< tt, refl) (lit< tt) (λ size c. no_fewer _ _ _ (h.storage.0.value_blocks_made size c));
   not_by_two = λ reply u h. by_wrong value_block_sizes none_free _ _ 3 5 1 (block_at (root_value 1) [] tt) refl refl h.storage.0.cells_longer;
   not_another = λ reply u h.
       let p = path_at 8 (0, 5) in
@@ -131,7 +135,7 @@ prune t s = record {
   not_with_children = λ reply u h.
       let v = after t u (Remove (0, 5)) reply s (ap is_refusal h.step.0) refl h.step in
       there _ 1 (block_at root_child [] tt) ((h.storage.1.child_blocks.at_nodes [] (has t [] s)).none (said (λ es ns. children_in [] ns) u v));
-  not_lost = λ reply u h. lost child_block_sizes root_child [] none_free none_free 1 tt tt (0, lit< tt, refl) (lit< tt) h.storage.2.0;
+  not_lost = λ reply u h. lost child_block_sizes root_child [] none_free none_free 1 tt tt (0, lit< tt, refl) (lit< tt) (λ size c. (h.storage.1.nodes_longer.2 size c).0);
 }
 
 keep_tree : (t : State ℕ) → Shows t es8 ns8 → KeepTreeFacts t
@@ -146,7 +150,7 @@ keep_tree t s = record {
       let p = path_at 8 (0, 5) in
       let v = after t u (RemoveKeepTree (0, 5)) reply s (ap is_refusal h.step.0) refl h.step in
       there _ 1 (block_at (root_value 2) p tt) ((h.storage.0.value_blocks.at_nodes p (has t p s)).none (said (λ es ns. own_in p es) u v));
-  not_lost = λ reply u h. lost value_block_sizes (root_value 2) (((0, 0), 2) ∷ []) none_free none_free 1 tt tt (0, lit< tt, refl) (lit< tt) h.storage.4.1;
+  not_lost = λ reply u h. lost value_block_sizes (root_value 2) (((0, 0), 2) ∷ []) none_free none_free 1 tt tt (0, lit< tt, refl) (lit< tt) (λ size c. no_fewer _ _ _ (h.storage.0.value_blocks_made size c));
 }
 
 retain : (t : State ℕ) → Shows t es8 ns8 → RetainFacts t
@@ -187,15 +191,15 @@ insert t s =
     let lacking = lacks 8 t root_child (root_value 2) none_free none_free (64, 2) s tt tt in
     record {
       not_lost = λ reply u h. elim h.step [
-        | inl done ↦ lost_value (h.storage.1 _ (stored_key t q s) done.0).keeps.1
-        | inr refused ↦ lost_value (h.storage.2 refused.1 refused.2).keeps.1
+        | inl done ↦ lost_value (λ size c. no_fewer _ _ _ ((h.storage.1 _ (stored_key t q s) done.0).value_blocks_made size c))
+        | inr refused ↦ lost_value (λ size c. ((h.storage.2 refused.1 refused.2).value_blocks_made size c).0)
       ];
       not_refused_for_slots = λ u h. neither_more 10 2 3 _ _ 0 4 (ap (λ x. x.0) lacking) (ap (λ x. x.1) lacking) (lit≤ tt) (lit≤ tt) ((h.storage.2 IndexRange refl).range refl);
       not_refused_cells_more = λ u h. too_many 8 3 _ 4 (ap (λ x. x.1) lacking) (lit< tt) (h.storage.2 Memory refl).cell_slots.1;
       not_refused_cells_fewer = λ u h. let l : 3 ≤ 2 = (h.storage.2 Memory refl).cell_slots.0 in absurd (omega arith);
       not_refused_nodes_more = λ u h. too_many 3 2 _ 0 (ap (λ x. x.0) lacking) (lit< tt) (h.storage.2 Memory refl).node_slots.1;
       not_refused_nodes_fewer = λ u h. let l : 2 ≤ 1 = (h.storage.2 Memory refl).node_slots.0 in absurd (omega arith);
-      not_refused_lost = λ u h. lost value_block_sizes (root_value 2) (root_value 2) two_free none_free 2 tt tt (1, lit< tt, refl) (lit< tt) (h.storage.2 Memory refl).keeps.1;
+      not_refused_lost = λ u h. lost value_block_sizes (root_value 2) (root_value 2) two_free none_free 2 tt tt (1, lit< tt, refl) (lit< tt) (λ size c. ((h.storage.2 Memory refl).value_blocks_made size c).0);
       not_refused_beside_free = λ u h.
           let free = lacks 8 t root_child (root_value 2) none_free four_free (64, 2) s tt tt in
           none_lack _ _ (ap (λ x. x.0) free) (ap (λ x. x.1) free) (h.storage.2 Memory refl).lacks;

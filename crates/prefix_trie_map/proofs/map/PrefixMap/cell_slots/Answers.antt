@@ -3,6 +3,3 @@ use Rattle.prefix_trie_map.proofs.map.PrefixMap.cell_slots.Goals as goal
 
 pub returns-clause-slots : goal.returns-clause-slots
 returns-clause-slots g c = search rules
-
-pub returns-clause-within : goal.returns-clause-within
-returns-clause-within g c = search rules

@@ -1,5 +1,5 @@
 -- `get_lpm_mut` lends what `get_lpm_mut_counted` lends. Assumes `Logic`.
-use Rattle.std.proofs.Common.{◌≡◌, ℕ, ◌+◌, ◌/◌, ◌≤◌, length, MatchOption, None, Some, Option, [], ◌∷◌, refl, sym, subst, MutBor}
+use Rattle.std.proofs.Common.{◌≡◌, ℕ, Option, [], ◌∷◌, refl, sym, subst, MutBor}
 use Rattle.std.proofs.raw_atomic.Walks.{proved}
 use mir.Syntax.{Args, named, a_type, dcons, dnil}
 use mir.MapTy.{inst_fn}
@@ -28,8 +28,10 @@ use denote.Triple.Walked.{Stays, stay_dropped, walk_of, ends_at, Goes-dropped, G
 use Rattle.std.proofs.option.Option.TheLaws.{the_row_laws as option_laws}
 use Rattle.std.specs.contracts.option.Option as option
 use Rattle.prefix_trie_bits.specs.Model.Matches.{longest_match, shown_match}
-use Rattle.prefix_trie_bits.specs.Model.Visits.{visits as nodes_read}
 use Rattle.prefix_trie_map.specs.Lending.{lends_longest_if, lent_beside}
+use Rattle.prefix_trie_map.specs.Reads.{ReadsWay}
+use Rattle.prefix_trie_map.specs.Walks.{lent_item_mut}
+use Rattle.std.specs.Option.{option_map}
 use Rattle.prefix_trie_map.specs.contracts.map.PrefixMap as map
 use Rattle.prefix_trie_map.specs.contracts.map.visits.Visits as visits
 use Rattle.prefix_trie_map.proofs.map.visits.Visits.TheLaws.{the_row_laws as visits_laws}
@@ -65,7 +67,7 @@ get_lpm_mut_spec 𝓤 𝓛 𝓜 𝓡 wired P T A R lP lT lA lR cR p p' d d' k k'
     let Found : RattleType = option.the_row Beside in
     let Pair : RattleType = Tuple (Found ∷ V ∷ []) in
     let found_laws : Laws Found = option_laws Beside (tuple_laws (param 0 P ∷ Lent 1 T κ ∷ []) (param_laws 0 P lP, (lent_laws 1 T lT κ, tt))) in
-    let Value : Option (P.Denot × MutBor T.Denot) → Type 0 = λ o. MatchOption o (longest_match m.now.entries path ≡ None) (λ a. shown_match p.back (longest_match m.now.entries path) ≡ Some (a.0, a.1.now)) in
+    let Value : Option (P.Denot × MutBor T.Denot) → Type 0 = λ o. option_map lent_item_mut o ≡ shown_match p.back (longest_match m.now.entries path) in
     let lends : Option (P.Denot × MutBor T.Denot) → Fml = λ o. lends_longest_if (param 0 P) (param 1 T) (param 2 A) (copied 3 R) p d k s w g m path (lent_beside o) in
     let Self = ‵ ((MutRef (named 0) κ Map).own_val m (mut_vals m)) in
     let Asked = ‵ ((ShrRef (named 1) κs.1.0 (param 0 P)).own_val q (shr_vals q)) in
@@ -82,12 +84,11 @@ get_lpm_mut_spec 𝓤 𝓛 𝓜 𝓡 wired P T A R lP lT lA lR cR p p' d d' k k'
     join ! $ use1 𝓛 (raw (G.pre z)) (id⊢ 𝓤 _) $
     calls_at ! (framed 𝓤 𝓛.H 𝓜 𝓣) G (h_met 𝓤 𝓛 𝓜 𝓡 (code.calls-prefix_trie_map::map::PrefixMap::get_lpm_mut_counted 𝓡.env wired) P T A R lP lT lA lR cR p p' d d' k k' n n' e e' s s' w w' g g' xP xT xA mp md mk mn me ms mw mg gP gT gA) z
     (and_then ! (get ! refl) (and_then ! (get ! refl) (no_more !))) (λ v.
-    let Exact : ℕ → Type 0 = λ j. j ≡ nodes_read m.now.nodes path in
-    let Bound : ℕ → Type 0 = λ j. j ≤ length path / 5 + 1 in
+    let Read : ℕ → Type 0 = λ j. ReadsWay m.now.nodes path j in
     use1 𝓛 (later (some (λ (o : Option (P.Denot × MutBor T.Denot) × ℕ).
     ((‵ (flft κ qs.0) ⊛ ‵ (flft κs.1.0 qs.1.0) ⊛ ‵ (flft κs.1.1.0 qs.1.1.0) ⊛ ‵ (flft κs.1.1.1.0 qs.1.1.1.0) ⊛ toks₂) ⊛ ‵ (Pair.own_val o (v ∷ [])))
     ⊛ some (λ (es : Unit {0} × (Unit {0} × Unit {0})). ‵ (lasts (h.ended P T A R p p' d d' k k' n n' e e' s s' w w' g g' xP xT xA) z.0.0 z.0.3 es)
-    ⊛ ‵ (lends o.0) ⊛ raw (fact 𝓤 (Value o.0)) ⊛ raw (fact 𝓤 (Exact o.1)) ⊛ raw (fact 𝓤 (Bound o.1)))))) (id⊢ 𝓤 _) $
+    ⊛ ‵ (lends o.0) ⊛ raw (fact 𝓤 (Value o.0)) ⊛ raw (fact 𝓤 (Read o.1)))))) (id⊢ 𝓤 _) $
     await ! tt $ pick ! (λ o. split ! $ move ! (1 ∷ []) $ pick ! (λ es. split ! $ drop ! $ split ! $ move ! (1 ∷ []) $ split ! $ heard ! (Value o.0) (λ value. drop ! $
     -- [what self follows; the tokens and the pair]
     move ! (1 ∷ []) $ split ! $ move ! (1 ∷ []) $ peeks ! Pair _ (shows 𝓛 Pair) o (v ∷ []) (λ is_pair.

@@ -37,6 +37,9 @@ use Rattle.std.specs.contracts.option.Option as option
 use Rattle.prefix_trie_bits.specs.Model.Matches.{longest_match, shown_match}
 use Rattle.prefix_trie_bits.specs.Model.Visits.{visits as nodes_read}
 use Rattle.prefix_trie_map.specs.Lending.{lends_longest_if, lent_beside}
+use Rattle.prefix_trie_map.specs.Reads.{ReadsWay}
+use Rattle.prefix_trie_map.specs.Walks.{lent_item_mut}
+use Rattle.std.specs.Option.{option_map}
 use Rattle.prefix_trie_map.specs.contracts.map.PrefixMap as map
 use Rattle.prefix_trie_map.specs.contracts.map.visits.Visits as visits
 use Rattle.prefix_trie_map.proofs.map.visits.Visits.TheLaws.{the_row_laws as visits_laws}
@@ -149,7 +152,7 @@ get_lpm_mut_counted_spec 𝓤 𝓛 𝓜 𝓡 wired P T A R lP lT lA lR cR p p' d
     (and_then ! (get ! refl) (and_then ! (get ! refl) (and_then ! (get ! refl) (no_more !)))) (λ v₂.
     let Same : Option (P.Denot × MutBor T.Denot) → Type 0 = λ a. lent_beside a ≡ o in
     let Back : Option (P.Denot × MutBor T.Denot) → Type 0 = λ a. IfSome a (λ f. f.0 ≡ p.back (take i path)) in
-    let Answer : Option (P.Denot × MutBor T.Denot) → Type 0 = λ a. MatchOption a (best ≡ None) (λ f. shown_match p.back best ≡ Some (f.0, f.1.now)) in
+    let Answer : Option (P.Denot × MutBor T.Denot) → Type 0 = λ a. option_map lent_item_mut a ≡ shown_match p.back best in
     use1 𝓛 (later (some (λ (a : Option (P.Denot × MutBor T.Denot)). ((tok₀ ⊛ tok₁ ⊛ tok₂ ⊛ tok₃ ⊛ tok₅) ⊛ ‵ (Shown.own_val a (v₂ ∷ [])))
     ⊛ some (λ (fs : Lasts (b.ended P T R p p' d d' k k' n n' e e' s s' w w' xP) t.0.0 t.0.3). ‵ (lasts (b.ended P T R p p' d d' k k' n n' e e' s s' w w' xP) t.0.0 t.0.3 fs) ⊛ raw (fact 𝓤 (Same a)) ⊛ raw (fact 𝓤 (Back a)))))) (id⊢ 𝓤 _) $
     await ! tt $ pick ! (λ a. split ! $ move ! (1 ∷ []) $ pick ! (λ fs. split ! $ drop ! $ split ! $ heard ! (Same a) (λ same. heard ! (Back a) (λ back.
@@ -163,9 +166,9 @@ get_lpm_mut_counted_spec 𝓤 𝓛 𝓜 𝓡 wired P T A R lP lT lA lR cR p p' d
     let pair_ok = (((tuple_laws (Shown ∷ V ∷ []) (shown_laws, (visits_laws, tt))).lawful 𝓛).typed (a, j) (pair_val v₂ x ∷ []) is_pair).0 in
     sets ! (agg ! (and_then ! (get ! refl) (and_then ! (get ! refl) (no_more !)))) refl pair_ok $
     returns ! (look_at ! 0 refl) $ free_all ! refl $
-    let Counted : Type 0 = j ≡ nodes_read m.now.nodes path in let Bounded : Type 0 = j ≤ length path / 5 + 1 in
+    let Read : Type 0 = ReadsWay m.now.nodes path j in
     suffices ! _ (ends_at 𝓛 En hs c y (pair_val v₂ x) (a, j) (tt, (tt, tt)) (tt, (tt, tt))) $
     nothing ! $ nothing ! $ fjoin ! $ nothing ! $ fjoin ! $ join ! $ move ! (1 ∷ 0 ∷ []) $ join ! $ frame ! $
     rewrite ! 0 (λ (n : Option (MutBor T.Denot)). ‵ (lends n)) (sym same) refl $ frame ! $
-    use0 𝓛 (raw (fact 𝓤 Bounded)) (given Bounded (omega (arith, none, bound))) $ use0 𝓛 (raw (fact 𝓤 Counted)) (given Counted (omega (arith, none, exact))) $
+    use0 𝓛 (raw (fact 𝓤 Read)) (given Read (record { exact = omega (arith, none, exact); bound = omega (arith, none, bound) })) $
     use0 𝓛 (raw (fact 𝓤 (Answer a))) (given (Answer a) (lent_shown p.back best (take i path) o a same back value)) $ done !)))))))))))))))))))))))))))))))))

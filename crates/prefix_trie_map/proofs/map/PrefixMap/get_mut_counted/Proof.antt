@@ -35,6 +35,7 @@ use Rattle.std.specs.FinMap.{get as lookup}
 use Rattle.std.specs.Option.{option_copied_mut}
 use Rattle.prefix_trie_bits.specs.Model.Visits.{visits as nodes_read}
 use Rattle.prefix_trie_map.specs.Lending.{lends_entry_if}
+use Rattle.prefix_trie_map.specs.Reads.{ReadsWay}
 use Rattle.prefix_trie_map.specs.contracts.map.PrefixMap as map
 use Rattle.prefix_trie_map.specs.contracts.map.visits.Visits as visits
 use Rattle.prefix_trie_map.specs.contracts.map.PrefixMap.get_mut_counted as f
@@ -114,7 +115,7 @@ get_mut_counted_spec 𝓤 𝓛 𝓜 𝓡 wired P T A R lP lT lA lR cR p p' d d' 
     move ! (1 ∷ []) $ drop ! $ move ! (1 ∷ []) $ drop ! $ move ! (1 ∷ []) $ split ! $ move ! (1 ∷ []) $ split ! $ heard ! (Value o) (λ value. split ! $ heard ! (Exact j) (λ exact. heard ! (Bound j) (λ bound.
     -- [what self follows; the counter; the tokens of the type parameters, of prefix and of self; the value lent]
     let Pair : RattleType = Tuple (Found ∷ V ∷ []) in
-    let Counted : Type 0 = j ≡ nodes_read m.now.nodes path in let Bounded : Type 0 = j ≤ length path / 5 + 1 in
+    let Read : Type 0 = ReadsWay m.now.nodes path j in
     move ! (5 ∷ []) $ peeks ! Found _ (shows 𝓛 Found) o (u ∷ []) (λ is_found. let found_ok = ((found_laws.lawful 𝓛).typed o (u ∷ []) is_found).0 in
     move ! (2 ∷ []) $ peeks ! V _ (shows 𝓛 V) j (x ∷ []) (λ is_count. let count_ok = ((visits_laws.lawful 𝓛).typed j (x ∷ []) is_count).0 in
     lands_as ! refl refl found_ok $ sets ! (of_opd ! (get ! refl)) refl found_ok $ sets ! (of_opd ! (get ! refl)) refl count_ok $
@@ -127,5 +128,5 @@ get_mut_counted_spec 𝓤 𝓛 𝓜 𝓡 wired P T A R lP lT lA lR cR p p' d d' 
     suffices ! _ (ends_at 𝓛 En hs c y (pair_val u x) (o, j) (tt, (tt, tt)) (tt, (tt, tt))) $
     nothing ! $ nothing ! $ fjoin ! $ nothing ! $ fjoin ! $ join ! $
     move ! (3 ∷ 2 ∷ []) $ join ! $ move ! (3 ∷ 0 ∷ []) $ join ! $ join ! $ frame ! $ frame ! $
-    use0 𝓛 (raw (fact 𝓤 Bounded)) (fact_i 𝓤 Bounded (emp 𝓤) (omega (arith, none, bound))) $ use0 𝓛 (raw (fact 𝓤 Counted)) (fact_i 𝓤 Counted (emp 𝓤) (omega (arith, none, exact))) $
+    use0 𝓛 (raw (fact 𝓤 Read)) (fact_i 𝓤 Read (emp 𝓤) (record { exact = omega (arith, none, exact); bound = omega (arith, none, bound) })) $
     use0 𝓛 (raw (fact 𝓤 (Value o))) (fact_i 𝓤 (Value o) (emp 𝓤) value) $ done !))))))))))))))))))

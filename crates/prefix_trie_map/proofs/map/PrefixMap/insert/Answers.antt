@@ -1,4 +1,5 @@
-use Rattle.std.proofs.Common.{◌≡◌, ◌∙◌, sym, ◌+◌, ◌≤◌, Bool, List, IfErr, OnOk, OnErr, take, subst, arith}
+use Rattle.std.proofs.Common.{◌≡◌, ◌∙◌, sym, ◌+◌, ◌≤◌, Bool, false, List, IfErr, OnOk, OnErr, MatchResult, IsOk, IsTrue, take, subst, arith}
+use Rattle.std.specs.FinMap.{contains_key}
 use Rattle.prefix_trie_bits.specs.declared.prefix.Refusal.TheVariants.{IndexRange}
 use Rattle.prefix_trie_bits.specs.Model.Entries.{with_entry}
 use Rattle.prefix_trie_bits.specs.Model.Nodes.{with_needed}
@@ -7,11 +8,11 @@ use Rattle.prefix_trie_bits.specs.Keys.{path_within}
 use Rattle.prefix_trie_bits.specs.Laws.Steps.{IsMap}
 use Rattle.prefix_trie_table.specs.Shape.{Contents}
 use Rattle.prefix_trie_bits.specs.Model.Step.{Step, Insert}
+use Rattle.prefix_trie_bits.specs.Model.Storage.{InsertsInStorage, RefusesInStorage}
 use Rattle.prefix_trie_bits.proofs.Model.Steps.{stays_map}
-use Rattle.prefix_trie_map.specs.Steps.{state, inserted}
-use Rattle.prefix_trie_map.proofs.Insertions.{Inserts, Step-inserted}
+use Rattle.prefix_trie_map.specs.Steps.{state, storage, inserted}
+use Rattle.prefix_trie_map.proofs.Insertions.{Inserts, Step-inserted, Stores, stored_step}
 use Rattle.prefix_trie_map.proofs.Rooms.{leaves_few}
-use Rattle.prefix_trie_map.proofs.Storing.{Stores, stays_stored, inserts_in_storage, refuses_in_storage}
 use Rattle.prefix_trie_map.proofs.map.PrefixMap.insert.Given as given
 use Rattle.prefix_trie_map.proofs.map.PrefixMap.insert.Goals as goal
 
@@ -48,41 +49,12 @@ invariant_of-self g c =
 pub returns-clause-before : goal.returns-clause-before
 returns-clause-before g c = (inserts g c).before
 
-pub returns-clause-step : goal.returns-clause-step
-returns-clause-step g c = step g c
-
 -- what the table's contract says of its contents and the key's bits holds of the map and the prefix's path
 by_path : (g : given.Over) (c : goal.After-drop-prefix g) (F : Contents g.row.T.Denot → List Bool → Type 0) →
     F c.self.inside.table (take c.from-len.result (g.P.R.Key.bits c.repr-key.result)) → F c.args.self.now (g.P.Prefix.path c.args.prefix)
 by_path g c F fact =
     let key = key_is g c in
     subst (λ old. F old (g.P.Prefix.path c.args.prefix)) c.self.view_is (subst (F c.self.inside.table) key fact)
-
--- what the table's clauses say of its blocks, by the prefix's path
-stores : (g : given.Over) (c : goal.After-drop-prefix g) → Stores c.args.self.now c.insert.new.self (g.P.Prefix.path c.args.prefix) c.insert.result
-stores g c =
-    let made = c.insert.ensures in
-    by_path g c (λ old q. Stores old c.insert.new.self q c.insert.result) (record {
-      stored = made.stored;
-      layout = made.layout;
-      exact_range = made.exact_range;
-      granted = made.granted;
-      node_slots = made.node_slots;
-      cell_slots = made.cell_slots;
-      child_blocks = made.child_blocks;
-      value_blocks = made.value_blocks;
-      keeps = made.keeps_blocks;
-      no_fewer = (made.room.1, made.room.3);
-    })
-
-pub returns-clause-stored : goal.returns-clause-stored
-returns-clause-stored g c = stays_stored c.args.self.now c.insert.new.self _ c.insert.result (stores g c)
-
-pub returns-clause-inserts : goal.returns-clause-inserts
-returns-clause-inserts g c = inserts_in_storage c.args.self.now c.insert.new.self _ c.insert.result (stores g c)
-
-pub returns-clause-refuses : goal.returns-clause-refuses
-returns-clause-refuses g c = refuses_in_storage c.args.self.now c.insert.new.self _ c.insert.result (stores g c)
 
 pub returns-clause-entries : goal.returns-clause-entries
 returns-clause-entries g c =
@@ -95,25 +67,31 @@ pub returns-clause-unchanged : goal.returns-clause-unchanged
 returns-clause-unchanged g c =
     by_path g c (λ old q. OnErr c.insert.result ((c.insert.new.self.entries ≡ old.entries) × (c.insert.new.self.nodes ≡ old.nodes))) c.insert.ensures.unchanged
 
-pub returns-clause-range : goal.returns-clause-range
-returns-clause-range g c =
-    by_path g c (λ old q. IfErr c.insert.result (λ refused. refused.cause ≡ IndexRange → MayPassLimit old.room)) c.insert.ensures.range
+pub returns-clause-slots : goal.returns-clause-slots
+returns-clause-slots g c =
+    by_path g c (λ old q. (c.insert.new.self.room.node_slots ≤ old.room.node_slots + 56) × (c.insert.new.self.room.cell_slots ≤ old.room.cell_slots + 31))
+    (c.insert.ensures.room.2, c.insert.ensures.room.4)
 
-pub returns-clause-node_slots : goal.returns-clause-node_slots
-returns-clause-node_slots g c =
-    by_path g c (λ old q. (old.room.node_slots ≤ c.insert.new.self.room.node_slots) × (c.insert.new.self.room.node_slots ≤ old.room.node_slots + 56))
-    (c.insert.ensures.room.1, c.insert.ensures.room.2)
+-- what the table's clauses say of its blocks, by the prefix's path
+stores : (g : given.Over) (c : goal.After-drop-prefix g) →
+    Stores g.P.Prefix.path g.P.Prefix.back g.P.R.Key.bit_width c.args.self.now c.insert.new.self c.args.prefix c.args.value c.insert.result
+stores g c =
+    let made = c.insert.ensures in
+    record {
+      stored = by_path g c (λ old q. IsTrue (contains_key old.entries q) → IsOk c.insert.result × (storage c.insert.new.self ≡ storage old)) made.stored;
+      leaves = by_path g c (λ old q. contains_key old.entries q ≡ false → MatchResult c.insert.result
+          (λ _. InsertsInStorage (state old) q (storage old) (storage c.insert.new.self))
+          (λ refused. RefusesInStorage (state old) q refused.cause (storage old) (storage c.insert.new.self))) made.leaves;
+      range = by_path g c (λ old q. IfErr c.insert.result (λ refused. refused.cause ≡ IndexRange → MayPassLimit old.room)) made.range;
+    }
 
-pub returns-clause-cell_slots : goal.returns-clause-cell_slots
-returns-clause-cell_slots g c =
-    by_path g c (λ old q. (old.room.cell_slots ≤ c.insert.new.self.room.cell_slots) × (c.insert.new.self.room.cell_slots ≤ old.room.cell_slots + 31))
-    (c.insert.ensures.room.3, c.insert.ensures.room.4)
-
-pub returns-clause-leaves : goal.returns-clause-leaves
-returns-clause-leaves g c =
+pub returns-clause-step : goal.returns-clause-step
+returns-clause-step g c =
     let room = c.insert.ensures.room in
     let limit = c.insert.ensures.limit in
     let nodes = room.2 in
     let cells = room.4 in
-    leaves_few g.P.R.Key.bit_width c.self.inside.table _ c.insert.new.self.room c.self.view_is c.self.invariant.are_nodes room.0 limit.0 limit.1
-    nodes (omega (arith, cells))
+    stored_step g.P.Prefix.path g.P.Prefix.back g.P.R.Key.bit_width c.args.self.now c.insert.new.self c.args.prefix c.args.value c.insert.result
+    (good g c).are_nodes (inserts g c) (stores g c)
+    (leaves_few g.P.R.Key.bit_width c.self.inside.table _ c.insert.new.self.room c.self.view_is c.self.invariant.are_nodes room.0 limit.0 limit.1
+    nodes (omega (arith, cells)))

@@ -3,10 +3,10 @@ use Rattle.std.specs.FinMap.{len, empty_of_len, len-empty}
 use Rattle.prefix_trie_bits.specs.Order.{listing_cmp}
 use Rattle.prefix_trie_map.proofs.map.PrefixMap.is_empty.Goals as goal
 
-pub returns : goal.returns
-returns g c =
+pub returns-clause-none : goal.returns-clause-none
+returns-clause-none g c =
     let entries = c.args.self.now.entries in
-    let counted : c.len.result ≡ len entries = c.len.ensures in (
+    let counted : c.len.result ≡ len entries = c.len.ensures.count in (
       λ zero. empty_of_len entries (sym counted ∙ eqb-true c.len.result 0 zero),
       λ none. eq-eqb c.len.result 0 (counted ∙ ap len none ∙ len-empty listing_cmp g.row.T.Denot),
     )

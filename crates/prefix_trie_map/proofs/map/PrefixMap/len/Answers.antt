@@ -1,5 +1,10 @@
-use Rattle.std.proofs.Common.{rules}
+use Rattle.std.proofs.Common.{subst}
+use Rattle.prefix_trie_table.specs.Shape.{Contents}
+use Rattle.prefix_trie_map.specs.Whole.{IsWhole}
 use Rattle.prefix_trie_map.proofs.map.PrefixMap.len.Goals as goal
 
-pub returns : goal.returns
-returns g c = search rules
+pub returns-clause-whole : goal.returns-clause-whole
+returns-clause-whole g c =
+    let room = c.len.ensures.limit in
+    subst (λ (m : Contents g.row.T.Denot). IsWhole g.P.R.Key.bit_width m) c.self.view_is
+    (record { is_map = c.self.invariant; limit_below = room.0; nodes_within = room.1; cells_within = room.2 })

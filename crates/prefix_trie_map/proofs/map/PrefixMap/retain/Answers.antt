@@ -1,6 +1,5 @@
 use Rattle.std.proofs.Common.{subst}
 use Rattle.std.specs.FinMap.{len}
-use Rattle.prefix_trie_bits.specs.Model.Entries.{AreWithin}
 use Rattle.prefix_trie_bits.specs.Model.Room.{LeavesRoom}
 use Rattle.prefix_trie_bits.specs.Model.Storage.{RemovesManyInStorage}
 use Rattle.prefix_trie_table.specs.Shape.{Contents}
@@ -13,9 +12,6 @@ retain-requires-clause-within g c = c.self.invariant.keys_within
 
 pub invariant_of-self : goal.invariant_of-self
 invariant_of-self g c = IsMap-tidied g.P.R.Key.bit_width (state c.retain.new.self) c.retain.ensures.fits c.retain.ensures.nodes
-
-pub returns-clause-within : goal.returns-clause-within
-returns-clause-within g c = subst (λ m. AreWithin g.P.R.Key.bit_width m.entries) c.self.view_is c.self.invariant.keys_within
 
 pub returns-clause-leaves : goal.returns-clause-leaves
 returns-clause-leaves g c =

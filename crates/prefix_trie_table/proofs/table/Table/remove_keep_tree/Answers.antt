@@ -1,17 +1,14 @@
-use Rattle.std.proofs.Common.{length, take, ap, ◌∙◌, refl, subst}
+use Rattle.std.proofs.Common.{take, ap, ◌∙◌, refl, subst}
 use Rattle.std.specs.FinMap.{get}
-use Rattle.prefix_trie_bits.specs.Model.Blocks.{SizesStepDown, LongerByOne, KeepsBlocks, value_block_sizes, own_entries}
 use Rattle.prefix_trie_bits.specs.Model.Entries.{without_entry}
-use Rattle.prefix_trie_bits.specs.Model.Nodes.{home}
 use Rattle.prefix_trie_bits.specs.Model.Step.{State}
-use Rattle.prefix_trie_table.proofs.Emptying.{removed_is, table_without, kept_shape, kept_only, counted_without}
-use Rattle.prefix_trie_table.proofs.KeptBlocks.{kept_blocks}
-use Rattle.prefix_trie_table.proofs.Rooms.{Grows-none}
+use Rattle.prefix_trie_bits.specs.Model.Storage.{RemovesValueInStorage}
 use Rattle.prefix_trie_table.specs.Layouts.{free_counts}
-use Rattle.prefix_trie_table.specs.Shape.{Contents}
-use Rattle.prefix_trie_table.proofs.Sizing.{table_sizes, layout_of}
-use Rattle.prefix_trie_table.proofs.Stepped.{kept_values, kept_children, kept_grows}
-use Rattle.prefix_trie_table.proofs.Turnovers.{made_same}
+use Rattle.prefix_trie_table.specs.Shape.{Contents, state, storage}
+use Rattle.prefix_trie_table.proofs.Emptying.{removed_is, table_without, kept_shape, kept_only, counted_without}
+use Rattle.prefix_trie_table.proofs.Rooms.{Grows-none}
+use Rattle.prefix_trie_table.proofs.Sizing.{table_sizes, storage_of}
+use Rattle.prefix_trie_table.proofs.Stepped.{kept_in, kept_children}
 use Rattle.prefix_trie_table.proofs.table.Table.remove_keep_tree.Goals as goal
 
 pub invariant_of-self-inside : goal.invariant_of-self-inside
@@ -69,37 +66,23 @@ returns-clause-nodes g c =
     c.remove_value.ensures.taken c.self-1.given.0)
     ∙ ap (λ s. s.nodes) c.self.view_is
 
-pub returns-clause-value_blocks : goal.returns-clause-value_blocks
-returns-clause-value_blocks g c =
+pub returns-clause-removes : goal.returns-clause-removes
+returns-clause-removes g c =
     let q = take c.args.len (g.K.Key.bits c.args.key) in
-    subst (λ (s : Contents g.row.T.Denot). SizesStepDown value_block_sizes s.layout.free_value_blocks s.nodes (own_entries s.entries)
-    (own_entries c.self-1.given.0.0.entries) s.layout.value_blocks c.self-1.given.1.0.1.0) c.self.view_is
-    (kept_values q c.self.inside.nodes c.remove_value.new.nodes c.self.inside.cells c.remove_value.new.cells c.self.inside.count c.self.inside.shape
-    c.self.inside.sizes c.self.invariant c.self-1.given.0 c.self-1.given.1.0 c.remove_value.ensures.taken c.remove_value.ensures.node_room.0)
+    let left = counted_without q c.self.inside.nodes c.remove_value.new.nodes c.self.inside.cells c.remove_value.new.cells c.self.inside.count
+    c.remove_value.new.entries c.self.inside.shape c.self.invariant c.remove_value.result c.remove_value.ensures.value c.remove_value.ensures.taken
+    c.remove_value.ensures.counted in
+    subst (λ (s : Contents g.row.T.Denot). RemovesValueInStorage (state s) c.self-1.given.0.0 q (storage s)
+    (storage_of c.remove_value.new.nodes c.remove_value.new.cells c.self-1.given.1.0)) c.self.view_is
+    (kept_in q c.self.inside.nodes c.remove_value.new.nodes c.self.inside.cells c.remove_value.new.cells c.self.inside.count c.self.inside.shape
+    c.self.inside.sizes c.self.invariant c.self-1.given.0 c.self-1.given.1.0 c.remove_value.ensures.taken c.remove_value.ensures.node_room.0
+    c.remove_value.ensures.node_tiers left.table)
 
 pub returns-clause-child_blocks : goal.returns-clause-child_blocks
 returns-clause-child_blocks g c =
     let q = take c.args.len (g.K.Key.bits c.args.key) in (
       kept_children q c.self.inside.nodes c.remove_value.new.nodes c.self.inside.cells c.remove_value.new.cells c.self.inside.count c.self.inside.shape
-          c.self.inside.sizes c.self.invariant c.self-1.given.0 c.self-1.given.1.0 c.remove_value.ensures.taken c.remove_value.ensures.node_room.0
+          c.self.inside.sizes c.self.invariant c.self-1.given.0 c.self-1.given.1.0 c.remove_value.ensures.taken c.remove_value.ensures.node_room.0 c.remove_value.ensures.node_tiers
           ∙ ap (λ (s : Contents g.row.T.Denot). s.layout.child_blocks) c.self.view_is,
       ap free_counts c.remove_value.ensures.node_tiers ∙ ap (λ (s : Contents g.row.T.Denot). s.layout.free_child_blocks) c.self.view_is,
     )
-
-pub returns-clause-cells_longer : goal.returns-clause-cells_longer
-returns-clause-cells_longer g c =
-    let q = take c.args.len (g.K.Key.bits c.args.key) in
-    subst (λ (s : Contents g.row.T.Denot). LongerByOne value_block_sizes s.layout.free_value_blocks (get s.layout.value_blocks (home q))
-    (get c.self-1.given.1.0.1.0 (home q)) s.room.cell_slots (length c.remove_value.new.cells.slots)) c.self.view_is
-    (kept_grows q c.self.inside.nodes c.remove_value.new.nodes c.self.inside.cells c.remove_value.new.cells c.self.inside.count c.self.inside.shape
-    c.self.inside.sizes c.self.invariant c.self-1.given.0 c.self-1.given.1.0 c.remove_value.ensures.taken c.remove_value.ensures.node_room.0)
-
-pub returns-clause-keeps_blocks : goal.returns-clause-keeps_blocks
-returns-clause-keeps_blocks g c =
-    let left = counted_without (take c.args.len (g.K.Key.bits c.args.key)) c.self.inside.nodes c.remove_value.new.nodes c.self.inside.cells
-    c.remove_value.new.cells c.self.inside.count c.remove_value.new.entries c.self.inside.shape c.self.invariant c.remove_value.result
-    c.remove_value.ensures.value c.remove_value.ensures.taken c.remove_value.ensures.counted in
-    subst (λ (s : Contents g.row.T.Denot). KeepsBlocks s.layout
-    (layout_of c.remove_value.new.nodes.slots c.remove_value.new.nodes.tiers c.remove_value.new.cells.tiers c.self-1.given.1.0)) c.self.view_is
-    (kept_blocks c.self.inside.nodes c.remove_value.new.nodes c.self.inside.cells c.remove_value.new.cells c.self.invariant.held.table left.table
-    c.self.inside.sizes c.self-1.given.1.0 (made_same c.self.inside.nodes c.remove_value.new.nodes c.remove_value.ensures.node_tiers) c.remove_value.ensures.cell_room.made)

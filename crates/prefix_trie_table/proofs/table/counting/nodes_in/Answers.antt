@@ -7,7 +7,7 @@ pub overflow_add-number : goal.overflow_add-number
 overflow_add-number g c =
     let small = children_few c.args.nodes.now.slots c.loop-slot.slot c.loop-slot.number c.count.result c.visit.result
     (omega (arith, c.loop-slot-test.true, c.len-slot-end.ensures.len)) c.loop-slot.invariant.0 c.visit.ensures.node c.count.ensures
-    (omega (arith, c.len-slot-end.ensures.len, c.len-slot-end.ensures.narrow)) in
+    (omega (arith, c.len-slot-end.ensures.len, c.len-slot-end.ensures.limit, c.len-slot-end.ensures.narrow)) in
     omega (arith, small)
 
 pub loop-slot-init : goal.loop-slot-init

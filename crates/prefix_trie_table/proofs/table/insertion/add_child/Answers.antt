@@ -3,11 +3,11 @@ use Rattle.prefix_trie_table.specs.declared.allocator.node.Node.{Node}
 use Rattle.std.specs.Prelude.{MatchOption}
 use Rattle.prefix_trie_table.specs.Bitmaps.{rank}
 use Rattle.prefix_trie_table.specs.Cells.{blank_node, node_sizes}
-use Rattle.prefix_trie_table.specs.Store.{Sound, Store, IsReady, KeepsMade, tier_lacking, free_at, tier_at, block}
+use Rattle.prefix_trie_table.specs.Store.{Sound, Store, IsReady, SameMade, tier_lacking, free_at, tier_at, block}
 use Rattle.prefix_trie_table.proofs.Bits.{has_bit-is, rank-ones}
 use Rattle.prefix_trie_table.proofs.BitLists.{rank-within}
 use Rattle.prefix_trie_table.proofs.Adding.{entered_as, at_is, has_list, tier_small, added}
-use Rattle.prefix_trie_table.proofs.Turnovers.{made_turned}
+use Rattle.prefix_trie_table.proofs.Turnovers.{same_turned}
 use Rattle.prefix_trie_table.proofs.table.insertion.add_child.Goals as goal
 
 pub insert_at-block-requires-clause-holds : goal.insert_at-block-requires-clause-holds
@@ -51,7 +51,7 @@ put-requires g c =
 
 pub returns-clause-made : goal.returns-clause-made
 returns-clause-made g c =
-    subst (λ (x : Store Node). KeepsMade c.args.nodes.now x) (sym c.put.ensures.slots) (made_turned _ _ _ _ _ c.insert_at-block.ensures.turnover)
+    subst (λ (x : Store Node). SameMade c.args.nodes.now x) (sym c.put.ensures.slots) (same_turned _ _ _ _ c.insert_at-block.ensures.turnover)
 
 pub returns-clause-kept : goal.returns-clause-kept
 returns-clause-kept g c = λ j other.

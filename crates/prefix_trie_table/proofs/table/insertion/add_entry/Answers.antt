@@ -10,7 +10,6 @@ use Rattle.prefix_trie_table.proofs.Spending.{single_node}
 use Rattle.prefix_trie_table.proofs.Going.{step-read, level_inside, level_last, level_within, bit-read-last, steps-all}
 use Rattle.prefix_trie_table.proofs.Growing.{walked_start, walked_more, entry_added, enough_next, enough_below, value_below}
 use Rattle.prefix_trie_table.proofs.Rooms.{SameRoom-then}
-use Rattle.prefix_trie_table.proofs.Turnovers.{made_then}
 use Rattle.prefix_trie_table.proofs.table.insertion.add_entry.Goals as goal
 
 pub loop-level-init : goal.loop-level-init
@@ -29,7 +28,7 @@ loop-level-init g c =
       within = level_within level len at.whole;
       from = omega arith;
       room = (refl, refl, refl);
-      made = λ j. omega arith;
+      made = λ j. refl;
     }
 
 pub add_child-at-requires-clause-missing : goal.add_child-at-requires-clause-missing
@@ -77,7 +76,7 @@ loop-level-preserved g c =
       within = omega (arith, inside);
       from = (let f = inv.from in omega arith);
       room = SameRoom-then c.args.nodes.now c.loop-level.nodes c.add_child-at.new.nodes inv.room c.add_child-at.ensures.room;
-      made = made_then c.args.nodes.now c.loop-level.nodes c.add_child-at.new.nodes inv.made c.add_child-at.ensures.made;
+      made = λ j. c.add_child-at.ensures.made j ∙ inv.made j;
     }
 
 pub add_value-requires-clause-stands : goal.add_value-requires-clause-stands
@@ -106,7 +105,7 @@ add_value-requires-clause-missing g c =
 
 pub returns-clause-node_made : goal.returns-clause-node_made
 returns-clause-node_made g c =
-    made_then c.args.nodes.now c.loop-level.nodes c.add_value.new.nodes c.loop-level.invariant.made c.add_value.ensures.node_made
+    λ j. c.add_value.ensures.node_made j ∙ c.loop-level.invariant.made j
 
 pub returns-clause-added : goal.returns-clause-added
 returns-clause-added g c = λ reading paths values holds.

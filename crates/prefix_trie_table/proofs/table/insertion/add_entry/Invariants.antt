@@ -3,7 +3,7 @@ use Rattle.prefix_trie_table.specs.declared.allocator.node.Node.{Node}
 use Rattle.prefix_trie_table.specs.Bitmaps.{has_bit, rank}
 use Rattle.prefix_trie_table.specs.Cells.{node_at}
 use Rattle.prefix_trie_table.specs.Digits.{path_of, bit_of}
-use Rattle.prefix_trie_table.specs.Store.{Enough, SameRoom, KeepsMade}
+use Rattle.prefix_trie_table.specs.Store.{Enough, SameRoom, SameMade}
 use Rattle.prefix_trie_table.specs.Forest.{Holds, Deepest, Walked, ValueReady}
 use Rattle.prefix_trie_table.proofs.table.insertion.add_entry.Given as goal
 
@@ -21,5 +21,5 @@ invariant-loop-level g l =
       within : l.level ≤ l.len / 5;
       from : l.fn.reached.level ≤ l.level;
       room : SameRoom l.initial.nodes l.nodes;
-      made : KeepsMade l.initial.nodes l.nodes;
+      made : SameMade l.initial.nodes l.nodes;
     }

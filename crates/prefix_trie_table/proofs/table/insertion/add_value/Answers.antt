@@ -6,7 +6,7 @@ use Rattle.prefix_trie_table.specs.Store.{IsReady, tier_lacking}
 use Rattle.prefix_trie_table.proofs.Bits.{has_bit-is, rank-ones}
 use Rattle.prefix_trie_table.proofs.BitLists.{rank-within}
 use Rattle.prefix_trie_table.proofs.Adding.{entered_as, at_is, at_values, has_values, tier_small, values_added}
-use Rattle.prefix_trie_table.proofs.Turnovers.{made_turned}
+use Rattle.prefix_trie_table.proofs.Turnovers.{same_turned}
 use Rattle.prefix_trie_table.proofs.table.insertion.add_value.Goals as goal
 
 pub insert_at-block-requires-clause-holds : goal.insert_at-block-requires-clause-holds
@@ -47,7 +47,7 @@ pub put-requires : goal.put-requires
 put-requires g c = (at_is c.args.nodes.now (c.args.at.start + c.args.at.place) (at_values _ _ _ c.requires.stands)).1
 
 pub returns-clause-cell_made : goal.returns-clause-cell_made
-returns-clause-cell_made g c = made_turned _ _ _ _ _ c.insert_at-block.ensures.turnover
+returns-clause-cell_made g c = same_turned _ _ _ _ c.insert_at-block.ensures.turnover
 
 pub returns-clause-added : goal.returns-clause-added
 returns-clause-added g c = λ reading paths values p n hold cells stands is.

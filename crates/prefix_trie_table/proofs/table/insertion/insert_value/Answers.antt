@@ -8,7 +8,8 @@ use Rattle.prefix_trie_table.proofs.Going.{bit-read, steps-end}
 use Rattle.prefix_trie_table.proofs.Finding.{value_bit_is, reached_own}
 use Rattle.prefix_trie_table.proofs.Growing.{walked_start, entry_added}
 use Rattle.prefix_trie_table.proofs.Inserting.{nodes_prepared, cells_prepared, reached_still, few_values, few_children, lacks_value}
-use Rattle.prefix_trie_table.proofs.Asks.{at_end}
+use Rattle.prefix_trie_table.proofs.Asks.{at_end, Made-then}
+use Rattle.prefix_trie_table.proofs.Turnovers.{made_kept}
 use Rattle.prefix_trie_table.proofs.Rooms.{Grows-then}
 use Rattle.prefix_trie_table.proofs.table.insertion.insert_value.Goals as goal
 use Rattle.prefix_trie_table.proofs.table.insertion.insert_value.Goals.{then-depth-len+else-has_bit, else-depth-len}
@@ -164,27 +165,29 @@ returns-then-has_bit-clause-asked g c = λ reading paths values holds none.
 pub returns-in-Err-clause-asked : goal.returns-in-Err-clause-asked
 returns-in-Err-clause-asked g c = λ reading paths values holds none.
     at_end (g.K.Key.bits c.args.key) c.args.len c.descend-reached.result.level _ c.descend-reached.result.node c.args.nodes.now c.descend-reached.ensures.reached
-    reading paths holds.hold (record {
-      node_slots = c.in-Err.ensures.node_slots;
-      cell_slots = c.in-Err.ensures.cell_slots;
-      range = c.in-Err.ensures.exact_range;
-      granted = c.in-Err.ensures.granted;
+    reading paths holds.hold (let o = c.in-Err.ensures.obtains in record {
+      nodes_made = o.nodes_made;
+      cells_made = o.cells_made;
+      range = o.range;
+      memory = o.memory;
+      lacks = o.lacks;
     })
 
 pub returns-clause-node_room : goal.returns-clause-node_room
 returns-clause-node_room g c = Grows-then c.args.nodes.now c.prepare.new.nodes c.add_entry.new.nodes 56 c.prepare.ensures.node_room c.add_entry.ensures.node_room
-    c.add_entry.ensures.node_made
+    (made_kept c.prepare.new.nodes c.add_entry.new.nodes c.add_entry.ensures.node_made)
 
 pub returns-clause-cell_room : goal.returns-clause-cell_room
 returns-clause-cell_room g c = Grows-then c.args.cells.now c.prepare.new.cells c.add_entry.new.cells 31 c.prepare.ensures.cell_room c.add_entry.ensures.cell_room
-    c.add_entry.ensures.cell_made
+    (made_kept c.prepare.new.cells c.add_entry.new.cells c.add_entry.ensures.cell_made)
 
 pub returns-clause-asked : goal.returns-clause-asked
 returns-clause-asked g c = λ reading paths values holds none.
     at_end (g.K.Key.bits c.args.key) c.args.len c.descend-reached.result.level _ c.descend-reached.result.node c.args.nodes.now c.descend-reached.ensures.reached
-    reading paths holds.hold (record {
-      node_slots = c.add_entry.ensures.node_room.0 ∙ c.in_default.ensures.node_slots;
-      cell_slots = c.add_entry.ensures.cell_room.0 ∙ c.in_default.ensures.cell_slots;
+    reading paths holds.hold (let o = c.in_default.ensures.obtains in record {
+      nodes_made = Made-then c.args.nodes.now c.prepare.new.nodes c.add_entry.new.nodes _ o.nodes_made c.add_entry.ensures.node_room c.add_entry.ensures.node_made;
+      cells_made = Made-then c.args.cells.now c.prepare.new.cells c.add_entry.new.cells _ o.cells_made c.add_entry.ensures.cell_room c.add_entry.ensures.cell_made;
       range = tt;
-      granted = λ _ _. refl;
+      memory = tt;
+      lacks = tt;
     })

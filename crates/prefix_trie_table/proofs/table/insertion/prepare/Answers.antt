@@ -1,19 +1,18 @@
-use Rattle.std.proofs.Common.{◌≡◌, ℕ, ◌+◌, ◌-◌, ◌/◌, ◌<◌, ◌≤◌, None, Option, length, inl, inr, sym, ap, ◌∙◌, subst, arith}
-use Rattle.std.proofs.lemmas.Bool.{false≢true}
+use Rattle.std.proofs.Common.{◌≡◌, ℕ, ◌+◌, ◌-◌, ◌*◌, ◌/◌, ◌<◌, ◌≤◌, None, Option, length, inl, inr, Err, refl, sym, ap, ◌∙◌, subst, arith}
 use Rattle.std.proofs.lemmas.Result.{on_ok_weaker, err_from_is_err_and, IfErr-weaker}
-use Rattle.prefix_trie_bits.specs.declared.prefix.Refusal.TheVariants.{IndexRange}
+use Rattle.prefix_trie_bits.specs.declared.prefix.Refusal.TheVariants.{Memory, IndexRange}
 use Rattle.prefix_trie_table.specs.declared.allocator.node.Node.{Node}
 use Rattle.prefix_trie_table.specs.Bitmaps.{rank}
 use Rattle.prefix_trie_table.specs.Cells.{blank_node}
-use Rattle.prefix_trie_table.specs.Store.{Store, IsReady, Enough, lacking_slots}
+use Rattle.prefix_trie_table.specs.Store.{Store, IsReady, Enough, none_at, blocks_needed}
 use Rattle.prefix_trie_table.specs.Tables.{MayPass}
 use Rattle.prefix_trie_table.proofs.Bits.{rank-ones}
 use Rattle.prefix_trie_table.proofs.Spending.{single_node, single_cell}
 use Rattle.prefix_trie_table.proofs.Adding.{at_values, has_list, has_values}
 use Rattle.prefix_trie_table.proofs.Inserting.{list_tier, node_fits, cell_fits}
 use Rattle.prefix_trie_table.proofs.Rooms.{Grows-made, nodes_lacking, cells_lacking, few_steps}
-use Rattle.prefix_trie_table.specs.Asked.{cells_asked, LongerBy, PassLimit}
-use Rattle.prefix_trie_table.proofs.Asks.{nodes_here, nodes_below, cells_here, cells_below, longer_made, longer_same, longer_short, no_node_block, no_cell_block}
+use Rattle.prefix_trie_table.specs.Asked.{nodes_needed, cells_needed}
+use Rattle.prefix_trie_table.proofs.Asks.{nodes_here, nodes_below, cells_here, cells_below, obtains, cells_alone, cells_refused, nodes_then, both_as}
 use Rattle.prefix_trie_table.proofs.table.insertion.prepare.Goals as goal
 
 pub prepare-requires-clause-tier : goal.prepare-requires-clause-tier
@@ -125,84 +124,50 @@ returns-clause-cell_room g c =
     Grows-made c.prepare-2.result c.args.cells.now c.prepare-2.new.self _ 31 c.prepare-2.ensures.made c.prepare-2.ensures.short c.prepare-2.ensures.prepared
     (cells_lacking c.args.cells.now.tiers 0 0 c.requires.stands.cells.sizes_are c.prepare-2.ensures.bound)
 
-pub returns-then-depth-len-clause-node_slots : goal.returns-then-depth-len-clause-node_slots
-returns-then-depth-len-clause-node_slots g c =
-    let none = nodes_here c.args.nodes.now c.args.reached.now.node c.args.reached.now.level c.args.len (omega (arith, c.if-depth-len.true)) in
-    longer_same c.prepare.result c.args.nodes.now c.args.nodes.now _ (omega (arith, none))
-
-pub returns-then-depth-len-clause-cell_slots : goal.returns-then-depth-len-clause-cell_slots
-returns-then-depth-len-clause-cell_slots g c =
+pub returns-then-depth-len-clause-obtains : goal.returns-then-depth-len-clause-obtains
+returns-then-depth-len-clause-obtains g c =
     let n = c.args.reached.now.node in
+    let v = c.args.nodes.now in
+    let w = c.args.cells.now in
     let same : c.count.result ≡ rank n.value_bitmap 32 = c.count.ensures ∙ sym (rank-ones n.value_bitmap 32 (omega arith)) in
-    subst (λ k. LongerBy c.prepare.result c.args.cells.now c.prepare.new.self k)
-    (ap (λ k. lacking_slots c.args.cells.now.tiers n.value_tier k 0) same
-    ∙ sym (cells_here c.args.cells.now n c.args.reached.now.level c.args.len (omega (arith, c.if-depth-len.true))))
-    (longer_made c.prepare.result c.args.cells.now c.prepare.new.self _ c.prepare.ensures.made c.prepare.ensures.short)
+    let here : c.args.len < 5 * c.args.reached.now.level + 5 = omega (arith, c.if-depth-len.true) in
+    both_as _ _ v v w c.prepare.new.self c.prepare.result none_at _ (blocks_needed w.tiers n.value_tier c.count.result 0) _
+    (sym (nodes_here v n c.args.reached.now.level c.args.len here))
+    (ap (λ k. blocks_needed w.tiers n.value_tier k 0) same ∙ sym (cells_here w n c.args.reached.now.level c.args.len here))
+    (cells_alone _ _ v v w c.prepare.new.self (blocks_needed w.tiers n.value_tier c.count.result 0) c.prepare.result
+    (obtains c.prepare.result w c.prepare.new.self (blocks_needed w.tiers n.value_tier c.count.result 0)
+    c.prepare.ensures.made c.prepare.ensures.short c.prepare.ensures.range))
 
-pub returns-then-depth-len-clause-exact_range : goal.returns-then-depth-len-clause-exact_range
-returns-then-depth-len-clause-exact_range g c =
-    let n = c.args.reached.now.node in
-    let same : c.count.result ≡ rank n.value_bitmap 32 = c.count.ensures ∙ sym (rank-ones n.value_bitmap 32 (omega arith)) in
-    let all = ap (λ k. lacking_slots c.args.cells.now.tiers n.value_tier k 0) same
-    ∙ sym (cells_here c.args.cells.now n c.args.reached.now.level c.args.len (omega (arith, c.if-depth-len.true))) in
-    IfErr-weaker c.prepare.result _ (λ cause. cause ≡ IndexRange → PassLimit c.args.nodes.now c.args.cells.now _ _)
-    (λ cause h is. inr (subst (λ k. c.args.cells.now.limit < length c.args.cells.now.slots + k) all (h is))) c.prepare.ensures.range
-
-pub returns-then-depth-len-clause-granted : goal.returns-then-depth-len-clause-granted
-returns-then-depth-len-clause-granted g c = λ _ none.
-    let n = c.args.reached.now.node in
-    let same : c.count.result ≡ rank n.value_bitmap 32 = c.count.ensures ∙ sym (rank-ones n.value_bitmap 32 (omega arith)) in
-    let all = ap (λ k. lacking_slots c.args.cells.now.tiers n.value_tier k 0) same
-    ∙ sym (cells_here c.args.cells.now n c.args.reached.now.level c.args.len (omega (arith, c.if-depth-len.true))) in
-    c.prepare.ensures.granted (no_cell_block c.args.cells.now.tiers c.requires.stands.cells.sizes_are n.value_tier c.count.result 0 (all ∙ none))
-
-pub returns-in_err-prepare-clause-cell_slots : goal.returns-in_err-prepare-clause-cell_slots
-returns-in_err-prepare-clause-cell_slots g c =
+pub returns-in_err-prepare-clause-obtains : goal.returns-in_err-prepare-clause-obtains
+returns-in_err-prepare-clause-obtains g c =
     let p = err_from_is_err_and c.from_residual.result c.from_residual.ensures.1 in
-    let all = cells_below c.args.cells.now c.args.reached.now.node c.args.reached.now.level c.args.len (omega (arith, c.if-depth-len.false)) in
-    let short = longer_short c.args.cells.now c.prepare-2.new.self _ c.in_err-prepare.ensures.short in
-    subst (λ r. LongerBy r c.args.cells.now c.prepare-2.new.self (cells_asked c.args.cells.now c.args.reached.now.node c.args.reached.now.level c.args.len)) (sym p.1)
-    (omega (arith, short, all))
-
-pub returns-in_err-prepare-clause-exact_range : goal.returns-in_err-prepare-clause-exact_range
-returns-in_err-prepare-clause-exact_range g c =
-    let p = err_from_is_err_and c.from_residual.result c.from_residual.ensures.1 in
-    let all = cells_below c.args.cells.now c.args.reached.now.node c.args.reached.now.level c.args.len (omega (arith, c.if-depth-len.false)) in
-    rw (p.1, p.2) (λ is. inr (subst (λ k. c.args.cells.now.limit < length c.args.cells.now.slots + k) (sym all) (c.in_err-prepare.ensures.range is)))
-
-pub returns-in_err-prepare-clause-granted : goal.returns-in_err-prepare-clause-granted
-returns-in_err-prepare-clause-granted g c = λ _ none.
-    let all = cells_below c.args.cells.now c.args.reached.now.node c.args.reached.now.level c.args.len (omega (arith, c.if-depth-len.false)) in
-    absurd (false≢true (c.in_err-prepare.ensures.granted (no_cell_block c.args.cells.now.tiers c.requires.stands.cells.sizes_are 0 0 0 (sym all ∙ none))))
-
-pub returns-clause-node_slots : goal.returns-clause-node_slots
-returns-clause-node_slots g c =
     let n = c.args.reached.now.node in
-    let same : c.count-2.result ≡ rank n.child_bitmap 32 = c.count-2.ensures ∙ sym (rank-ones n.child_bitmap 32 (omega arith)) in
-    subst (λ k. LongerBy c.prepare-3.result c.args.nodes.now c.prepare-3.new.self k)
-    (ap (λ k. lacking_slots c.args.nodes.now.tiers n.child_tier k (c.args.len / 5 - (c.args.reached.now.level + 1))) same
-    ∙ sym (nodes_below c.args.nodes.now n c.args.reached.now.level c.args.len (omega (arith, c.if-depth-len.false))))
-    (longer_made c.prepare-3.result c.args.nodes.now c.prepare-3.new.self _ c.prepare-3.ensures.made c.prepare-3.ensures.short)
+    let v = c.args.nodes.now in
+    let w = c.args.cells.now in
+    let all = cells_below w n c.args.reached.now.level c.args.len (omega (arith, c.if-depth-len.false)) in
+    rw (p.1, p.2) (both_as (λ cause. cause ≡ IndexRange) (λ cause. cause ≡ Memory) v v w c.prepare-2.new.self (Err c.in_err-prepare.field-0.0)
+    (nodes_needed v n c.args.reached.now.level c.args.len) (nodes_needed v n c.args.reached.now.level c.args.len)
+    (blocks_needed w.tiers 0 0 0) (cells_needed w n c.args.reached.now.level c.args.len) refl (sym all)
+    (cells_refused _ _ v v w c.prepare-2.new.self (blocks_needed w.tiers 0 0 0) (nodes_needed v n c.args.reached.now.level c.args.len) c.in_err-prepare.field-0.0
+    (obtains (Err c.in_err-prepare.field-0.0) w c.prepare-2.new.self (blocks_needed w.tiers 0 0 0)
+    tt c.in_err-prepare.ensures.short c.in_err-prepare.ensures.range)))
 
-pub returns-clause-cell_slots : goal.returns-clause-cell_slots
-returns-clause-cell_slots g c =
-    let all = cells_below c.args.cells.now c.args.reached.now.node c.args.reached.now.level c.args.len (omega (arith, c.if-depth-len.false)) in
-    longer_same c.prepare-3.result c.args.cells.now c.prepare-2.new.self _ (c.in_ok-prepare.ensures.made.longer ∙ ap (λ k. length c.args.cells.now.slots + k) (sym all))
-
-pub returns-clause-exact_range : goal.returns-clause-exact_range
-returns-clause-exact_range g c =
+pub returns-clause-obtains : goal.returns-clause-obtains
+returns-clause-obtains g c =
     let n = c.args.reached.now.node in
+    let v = c.args.nodes.now in
+    let w = c.args.cells.now in
     let same : c.count-2.result ≡ rank n.child_bitmap 32 = c.count-2.ensures ∙ sym (rank-ones n.child_bitmap 32 (omega arith)) in
-    let all = ap (λ k. lacking_slots c.args.nodes.now.tiers n.child_tier k (c.args.len / 5 - (c.args.reached.now.level + 1))) same
-    ∙ sym (nodes_below c.args.nodes.now n c.args.reached.now.level c.args.len (omega (arith, c.if-depth-len.false))) in
-    IfErr-weaker c.prepare-3.result _ (λ cause. cause ≡ IndexRange → PassLimit c.args.nodes.now c.args.cells.now _ _)
-    (λ cause h is. inl (subst (λ k. c.args.nodes.now.limit < length c.args.nodes.now.slots + k) all (h is))) c.prepare-3.ensures.range
-
-pub returns-clause-granted : goal.returns-clause-granted
-returns-clause-granted g c = λ none _.
-    let n = c.args.reached.now.node in
-    let same : c.count-2.result ≡ rank n.child_bitmap 32 = c.count-2.ensures ∙ sym (rank-ones n.child_bitmap 32 (omega arith)) in
-    let all = ap (λ k. lacking_slots c.args.nodes.now.tiers n.child_tier k (c.args.len / 5 - (c.args.reached.now.level + 1))) same
-    ∙ sym (nodes_below c.args.nodes.now n c.args.reached.now.level c.args.len (omega (arith, c.if-depth-len.false))) in
-    c.prepare-3.ensures.granted (no_node_block c.args.nodes.now.tiers c.requires.stands.hold.sizes_are n.child_tier c.count-2.result
-    (c.args.len / 5 - (c.args.reached.now.level + 1)) (all ∙ none))
+    let more : 5 * c.args.reached.now.level + 5 ≤ c.args.len = omega (arith, c.if-depth-len.false) in
+    let made = c.in_ok-prepare.ensures.made in
+    both_as _ _ v c.prepare-3.new.self w c.prepare-2.new.self c.prepare-3.result
+    (blocks_needed v.tiers n.child_tier c.count-2.result (c.args.len / 5 - (c.args.reached.now.level + 1))) _ (blocks_needed w.tiers 0 0 0) _
+    (ap (λ k. blocks_needed v.tiers n.child_tier k (c.args.len / 5 - (c.args.reached.now.level + 1))) same
+    ∙ sym (nodes_below v n c.args.reached.now.level c.args.len more))
+    (sym (cells_below w n c.args.reached.now.level c.args.len more))
+    (nodes_then _ _ v c.prepare-3.new.self w c.prepare-2.new.self (blocks_needed w.tiers 0 0 0)
+    (blocks_needed v.tiers n.child_tier c.count-2.result (c.args.len / 5 - (c.args.reached.now.level + 1))) c.prepare-3.result
+    (obtains c.prepare-3.result v c.prepare-3.new.self
+    (blocks_needed v.tiers n.child_tier c.count-2.result (c.args.len / 5 - (c.args.reached.now.level + 1)))
+    c.prepare-3.ensures.made c.prepare-3.ensures.short c.prepare-3.ensures.range)
+    (record { of_tier = made.made_is; longer = made.longer }))

@@ -1,11 +1,11 @@
-use Rattle.std.proofs.Common.{◌≡◌, ◌<◌, ◌≤◌, ◌+◌, length, ap, sym, ◌∙◌, refl, subst, arith}
+use Rattle.std.proofs.Common.{◌≡◌, ℕ, ◌<◌, ◌≤◌, ◌+◌, length, ap, sym, ◌∙◌, refl, subst, arith}
 use Rattle.prefix_trie_table.specs.declared.allocator.node.Node.{Node}
 use Rattle.prefix_trie_table.specs.Bitmaps.{has_bit, rank}
 use Rattle.prefix_trie_table.specs.Cells.{blank_node, node_sizes}
 use Rattle.prefix_trie_table.specs.OwnBlocks.{size_if_any}
 use Rattle.prefix_trie_table.specs.Removals.{Shrinks}
 use Rattle.prefix_trie_table.specs.Settling.{headroom_if_any}
-use Rattle.prefix_trie_table.specs.Store.{size_in}
+use Rattle.prefix_trie_table.specs.Store.{size_in, tier_at, blocks_entered}
 use Rattle.prefix_trie_table.proofs.Bare.{one_fewer}
 use Rattle.prefix_trie_table.proofs.Bits.{has_bit-is, rank-ones}
 use Rattle.prefix_trie_table.proofs.BitLists.{rank-below}
@@ -90,6 +90,8 @@ returns-clause-dropped g c = λ reading paths p n leaf hold stands is below bare
     c.requires.stands.hold.sizes_are refl smaller_node
     (has_list c.args.nodes.now (c.args.at.start + c.args.at.place) c.visit-node.result c.count.result c.requires.stands c.visit-node.ensures.node same)
     c.remove_at-rest.ensures.smallest (omega (arith, some, same))))
+    (subst (λ n. (j : ℕ) → (tier_at c.remove_at-rest.new.self.tiers j).made ≡ (tier_at c.args.nodes.now.tiers j).made
+    + blocks_entered c.args.nodes.now.tiers c.visit-node.result.child_tier n c.remove_at-rest.result.tier j) same c.remove_at-rest.ensures.turnover.made_is)
     (λ left fewer. subst (λ n. length c.remove_at-rest.new.self.slots + headroom_if_any (size_if_any left (size_in node_sizes c.remove_at-rest.result.tier)) ≤
     length c.args.nodes.now.slots + headroom_if_any (size_if_any n (size_in node_sizes c.visit-node.result.child_tier))) same
     (steps_down c.args.nodes.now c.remove_at-rest.new.self c.visit-node.result.child_tier c.count.result

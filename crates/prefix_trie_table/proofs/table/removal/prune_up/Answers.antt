@@ -7,6 +7,7 @@ use Rattle.prefix_trie_table.proofs.Going.{steps-all, step-read, level_inside}
 use Rattle.prefix_trie_table.proofs.Pruning.{Pruning, pruning_first, pruning_more, parent_is, parent_slot, parent_bit}
 use Rattle.prefix_trie_table.proofs.Removing.{gives_same, gives_then}
 use Rattle.prefix_trie_table.proofs.Rooms.{Grows-same, Grows-after}
+use Rattle.prefix_trie_table.proofs.Turnovers.{made_kept}
 use Rattle.prefix_trie_table.proofs.table.removal.prune_up.Goals as goal
 
 pub loop-level-init : goal.loop-level-init
@@ -75,7 +76,7 @@ loop-level-preserved g c =
           (subst (λ n. Pruning reading paths path c.args.way.now n c.loop-level.node c.args.nodes.now c.loop-level.nodes) up
           (c.loop-level.invariant.pruned reading paths hold slots is)) c.child_bit_of.result c.drop_child-node.result c.drop_child-node.new.nodes
           (sym digit) bare back c.drop_child-node.ensures.dropped;
-      room = Grows-after _ _ _ 24 back.room back.made c.drop_child-node.ensures.room;
+      room = Grows-after _ _ _ 24 back.room (made_kept c.args.nodes.now c.loop-level.nodes back.made) c.drop_child-node.ensures.room;
       last = λ none. gives_then _ _ _ back (c.drop_child-node.ensures.last none);
       within = omega (arith, below);
     }

@@ -1,10 +1,10 @@
-use Rattle.std.proofs.Common.{◌≡◌, ◌<◌, ◌≤◌, ◌+◌, Some, None, length, get_or, map, sym, ap, ◌∙◌, refl, subst, arith}
+use Rattle.std.proofs.Common.{◌≡◌, ℕ, ◌<◌, ◌≤◌, ◌+◌, Some, None, length, get_or, map, sym, ap, ◌∙◌, refl, subst, arith}
 use Rattle.prefix_trie_table.specs.Bitmaps.{rank, bits}
 use Rattle.prefix_trie_table.specs.Cells.{node_sizes, cell_sizes}
 use Rattle.prefix_trie_table.specs.OwnBlocks.{size_if_any}
 use Rattle.prefix_trie_table.specs.Removals.{Shrinks}
 use Rattle.prefix_trie_table.specs.Settling.{headroom_if_any}
-use Rattle.prefix_trie_table.specs.Store.{size_in}
+use Rattle.prefix_trie_table.specs.Store.{size_in, tier_at, blocks_entered}
 use Rattle.prefix_trie_table.proofs.Bare.{one_fewer}
 use Rattle.prefix_trie_table.proofs.Bits.{has_bit-is, rank-ones}
 use Rattle.prefix_trie_table.proofs.BitLists.{rank-below, rank-all, map_get}
@@ -99,4 +99,6 @@ returns-clause-taken g c = λ reading paths values p n hold cells stands is.
     (has_values c.args.nodes.now c.args.cells.now (c.args.at.start + c.args.at.place) c.args.node c.count.result c.requires.stands c.requires.node same)
     c.remove_at-value.ensures.smallest
     (let some = rank-below c.args.node.value_bitmap c.args.bit (omega (arith, c.requires.bit)) c.requires.there in omega (arith, some, same))))
+    (subst (λ n. (j : ℕ) → (tier_at c.remove_at-value.new.self.tiers j).made ≡ (tier_at c.args.cells.now.tiers j).made
+    + blocks_entered c.args.cells.now.tiers c.args.node.value_tier n c.remove_at-value.result.1.tier j) same c.remove_at-value.ensures.turnover.made_is)
     reading paths values p n hold cells stands is

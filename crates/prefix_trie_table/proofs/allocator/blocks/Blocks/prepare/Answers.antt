@@ -1,6 +1,8 @@
-use Rattle.std.proofs.Common.{◌≡◌, ◌+◌, ◌<◌, ◌≤◌, inl, inr, None, Some, Result, Ok, Err, OnOk, OnErr, IfErr, ◌↔◌, length, sym, ap, ◌∙◌, subst, arith, rules}
-use Rattle.prefix_trie_bits.specs.declared.prefix.Refusal.TheVariants.{IndexRange}
-use Rattle.prefix_trie_table.specs.Store.{Store, Prepared, tier_lacking, free_at, blocks_lacking, many_at, slots_of, tier_sizes}
+use Rattle.std.proofs.Common.{◌≡◌, ℕ, ◌+◌, ◌<◌, ◌≤◌, inl, inr, None, Some, Result, Ok, Err, OnOk, OnErr, IfErr, ◌↔◌, length, sym, ap, ◌∙◌, subst, arith, rules}
+use Rattle.std.proofs.lemmas.Bool.{cases_lt}
+use Rattle.prefix_trie_bits.specs.declared.prefix.Refusal.{Refusal}
+use Rattle.prefix_trie_bits.specs.declared.prefix.Refusal.TheVariants.{Memory, IndexRange}
+use Rattle.prefix_trie_table.specs.Store.{Store, Prepared, CutShort, tier_lacking, free_at, blocks_lacking, many_at, slots_of, tier_sizes}
 use Rattle.prefix_trie_table.proofs.Spending.{Prepared-same, Prepared-then, enough}
 use Rattle.prefix_trie_table.proofs.Soundness.{tier_for_holds}
 use Rattle.prefix_trie_table.proofs.Preparing.{LastWay, Way, way_same, way_first, way_second, way_done, way_short, way_range, need_first, lacking_inside, lacking_bound}
@@ -12,14 +14,24 @@ on_ok : {X E P Q : Type 0} (r : Result X E) → (P → Q) → OnOk r P → OnOk 
 on_ok (Ok x) f p = f p
 on_ok (Err e) f p = p
 
-on_err : {X E P Q : Type 0} (r : Result X E) → (P → Q) → OnErr r P → OnErr r Q
-on_err (Ok x) f p = p
-on_err (Err e) f p = f p
-
 -- a refusal that says why
 range_of : {X E P F R : Type 0} (r : Result X E) (x : E) → (P → F → R) → OnErr r P → IfErr r (λ e. (e ≡ x) ↔ F) → IfErr r (λ e. e ≡ x → R)
 range_of (Ok y) x f p q = q
 range_of (Err e) x f p q = λ is. f p (q.0 is)
+
+-- a refusal for want of memory comes where there is room
+room_of : (e : Refusal) (l n : ℕ) → ((e ≡ IndexRange) ↔ (l < n)) → e ≡ Memory → n ≤ l
+room_of Memory l n range is = elim (cases_lt l n) as (λ _. n ≤ l) [
+  | inl less ↦ absurd (let h : Memory ≡ IndexRange = range.1 less in cc)
+  | inr le ↦ le
+]
+room_of IndexRange l n range is = absurd cc
+
+-- what was made until a refusal, which says why
+short_of : {X P : Type 0} (r : Result X Refusal) (l n : ℕ) (C : Type 0 → Type 0) → (P → (M : Type 0) → (M → n ≤ l) → C M) → OnErr r P →
+    IfErr r (λ e. (e ≡ IndexRange) ↔ (l < n)) → IfErr r (λ e. C (e ≡ Memory))
+short_of (Ok x) l n C f p q = tt
+short_of (Err e) l n C f p q = f p (e ≡ Memory) (room_of e l n q)
 
 pub returns-clause-prepared : goal.returns-clause-prepared
 returns-clause-prepared g c =
@@ -69,7 +81,9 @@ returns-clause-made g c =
 
 pub returns-clause-short : goal.returns-clause-short
 returns-clause-short g c =
-    on_err c.obtain-2.result (λ some. way_short g.S.Slot.vacant _ _ _ _ 0 c.match-lacking.singles some.0 (last g c).way (first_inside g c) some.1 some.2) c.obtain-2.ensures.err
+    short_of c.obtain-2.result _ _ (CutShort c.args.self.now c.obtain-2.new.self (blocks_lacking c.args.self.now.tiers c.args.k c.args.count c.args.lists))
+    (λ some M room. way_short g.S.Slot.vacant _ _ _ _ 0 c.match-lacking.singles some.0 (last g c).way (first_inside g c) some.1 some.2 M room)
+    c.obtain-2.ensures.err c.obtain-2.ensures.range
 
 pub returns-clause-range : goal.returns-clause-range
 returns-clause-range g c =
@@ -89,7 +103,9 @@ refused_inside g c = lacking_inside c.args.self.now.tiers c.args.k c.args.count 
 pub returns-in_err-obtain-clause-short : goal.returns-in_err-obtain-clause-short
 returns-in_err-obtain-clause-short g c =
     let some = c.in_err-obtain.ensures.err in
-    search (rules, way_short g.S.Slot.vacant _ _ _ _ c.in-Some.tier 1 some.0 (refused g c) (refused_inside g c) some.1 some.2)
+    let short = way_short g.S.Slot.vacant _ _ _ _ c.in-Some.tier 1 some.0 (refused g c) (refused_inside g c) some.1 some.2 (c.in_err-obtain.field-0.0 ≡ Memory)
+    (room_of c.in_err-obtain.field-0.0 _ _ c.in_err-obtain.ensures.range) in
+    search (rules, short)
 
 pub returns-in_err-obtain-clause-range : goal.returns-in_err-obtain-clause-range
 returns-in_err-obtain-clause-range g c =

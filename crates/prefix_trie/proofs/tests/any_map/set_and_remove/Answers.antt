@@ -1,0 +1,20 @@
+use Rattle.std.proofs.Common.{ap, ◌∙◌}
+use Rattle.std.specs.FinMap.{len}
+use Rattle.prefix_trie_bits.specs.Keys.{path_within}
+use Rattle.prefix_trie_bits.specs.Model.Nodes.{IsTidy}
+use Rattle.prefix_trie_map.specs.Steps.{state, inserted}
+use Rattle.prefix_trie.proofs.AnyMap.{tidy_again}
+use Rattle.prefix_trie.proofs.tests.any_map.set_and_remove.Given as given
+use Rattle.prefix_trie.proofs.tests.any_map.set_and_remove.Goals as goal
+
+tidy : (g : given.Over) (c : goal.After-node_count g) → IsTidy c.remove.new.self.entries c.remove.new.self.nodes
+tidy g c =
+    tidy_again g.P.Prefix.path g.P.Prefix.back g.P.R.Key.bit_width (state c.args.map.now) (state c.insert.new.self) (state c.remove.new.self)
+    c.args.prefix c.args.value (inserted c.insert.result) c.args.out.now c.remove.result c.len.ensures.whole.is_map c.requires.tidy
+    (path_within g.met.P.Prefix.prefix_laws c.args.prefix c.requires.fits) c.insert.ensures.step.step c.remove.ensures.step.step
+
+pub returns-clause-tidy : goal.returns-clause-tidy
+returns-clause-tidy g c = tidy g c
+
+pub returns-clause-counted : goal.returns-clause-counted
+returns-clause-counted g c = c.node_count.ensures.count ∙ ap len (tidy g c)

@@ -1,0 +1,59 @@
+-- The prefixes that a map lists fit.
+use Rattle.std.proofs.Common.{◌≡◌, ℕ, Bool, true, List, [], ◌∷◌, is_some, ap}
+use Rattle.std.specs.List.{All, Contains}
+use Rattle.std.specs.FinMap.{contains_key}
+use Rattle.std.proofs.lemmas.List.Elements.{All-head, All-tail, All-contains_itself, All-weaker, All-map, All-filter}
+use Rattle.prefix_trie_bits.specs.Bits.{begins}
+use Rattle.prefix_trie_bits.specs.Keys.{PrefixLaws, fits_back, path_back}
+use Rattle.prefix_trie_bits.specs.Model.Asking.{MayAskInOrder}
+use Rattle.prefix_trie_bits.specs.Model.Entries.{Entries, AreWithin}
+use Rattle.prefix_trie_bits.specs.Model.Matches.{covers}
+use Rattle.prefix_trie_bits.specs.Model.Selections.{listing, shown}
+use Rattle.prefix_trie_bits.proofs.Model.Listings.{listing_laws}
+use Rattle.prefix_trie_map.specs.Listed.{ListedLaws}
+
+module _ {T : Type 0} where
+  -- the key of each pair of the listing is stored
+  listed_stored : (m : Entries T) (e : List Bool × T) → Contains (listing m) e → contains_key m e.0 ≡ true
+  listed_stored m e has = ap is_some (((listing_laws T).has_each m e.0 e.1).1 has)
+
+  -- so what holds of each stored key holds of each pair's
+  pub each_listed : (F : List Bool → Type 0) (m : Entries T) → ((k : List Bool) → contains_key m k ≡ true → F k) → All (λ e. F e.0) (listing m)
+  each_listed F m holds = All-weaker (λ e. Contains (listing m) e) (λ e. F e.0) (λ e has. holds e.0 (listed_stored m e has)) (listing m) (All-contains_itself (listing m))
+
+module _ {K P : Type 0} {w : ℕ} {IsKey : K → Type 0} {bits : K → List Bool} {key_of : List Bool → K} {repr_of : P → K} {len_of : P → ℕ} {path : P → List Bool} {IsFitting : P → Type 0} {from_parts : K → ℕ → P} {back : List Bool → P} (laws : PrefixLaws w IsKey bits key_of repr_of len_of path IsFitting from_parts back) {T : Type 0} (m : Entries T) (within : AreWithin w m) where
+  -- each listed prefix fits
+  pub listed_fit : All (λ e. IsFitting e.0) (shown back (listing m))
+  listed_fit = All-map (λ e. IsFitting e.0) (λ e. (back e.0, e.1)) (listing m) (each_listed (λ k. IsFitting (back k)) m (λ k has. fits_back laws k (within k has)))
+
+  -- and each that covers a question
+  pub covers_fit : (q : List Bool) → All (λ e. IsFitting e.0) (shown back (covers m q))
+  covers_fit q =
+      All-map (λ e. IsFitting e.0) (λ e. (back e.0, e.1)) (covers m q)
+      (All-filter (λ e. begins e.0 q) (λ e. IsFitting (back e.0)) (listing m) (each_listed (λ k. IsFitting (back k)) m (λ k has. fits_back laws k (within k has))))
+
+  -- and the path of each is its key
+  pub listed_paths : All (λ e. path (back e.0) ≡ e.0) (listing m)
+  listed_paths = each_listed (λ k. path (back k) ≡ k) m (λ k has. path_back laws k (within k has))
+
+module _ {K P : Type 0} {w : ℕ} {IsKey : K → Type 0} {bits : K → List Bool} {key_of : List Bool → K} {repr_of : P → K} {len_of : P → ℕ} {path : P → List Bool} {IsFitting : P → Type 0} {from_parts : K → ℕ → P} {back : List Bool → P} (laws : PrefixLaws w IsKey bits key_of repr_of len_of path IsFitting from_parts back) where
+  pub listed_laws : (T : Type 0) → ListedLaws T w path IsFitting back
+  listed_laws T = record {
+    key_fits = λ m within k has. fits_back laws k (within k has);
+    key_is = λ m within k has. path_back laws k (within k has);
+    listed_fit = λ m within. listed_fit laws m within;
+    covers_fit = λ m within q. covers_fit laws m within q;
+  }
+
+-- a test that may be asked at each stored key, whatever state it is in, may be asked at each in turn
+module _ {F T : Type 0} (asks : F → List Bool → T → Bool → F → Type 0) (accepts : F → List Bool → T → Type 0) where
+  may_ask_each : (f : F) (es : List (List Bool × T)) → All (λ e. (f' : F) → accepts f' e.0 e.1) es → MayAskInOrder asks accepts f es
+  may_ask_each f [] all = tt
+  may_ask_each f (e ∷ es) all =
+      (All-head (λ e. (f' : F) → accepts f' e.0 e.1) e es all f, λ b f' called. may_ask_each f' es (All-tail (λ e. (f' : F) → accepts f' e.0 e.1) e es all))
+
+  pub may_ask_stored : (f : F) (m : Entries T) → ((f' : F) (k : List Bool) (v : T) → contains_key m k ≡ true → accepts f' k v) → MayAskInOrder asks accepts f (listing m)
+  may_ask_stored f m always =
+      may_ask_each f (listing m)
+      (All-weaker (λ e. (v : T) (f' : F) → accepts f' e.0 v) (λ e. (f' : F) → accepts f' e.0 e.1) (λ e h. h e.1) (listing m)
+      (each_listed (λ k. (v : T) (f' : F) → accepts f' k v) m (λ k has v f'. always f' k v has)))

@@ -1,0 +1,19 @@
+use Rattle.std.proofs.Common.{rules, ◌≡◌, ◌∙◌, take, ap}
+use Rattle.prefix_trie_bits.specs.Model.Matches.{longest_match}
+use Rattle.prefix_trie_table.specs.Shape.{Contents}
+use Rattle.prefix_trie_map.proofs.Lookups.{shows_match, shows_prefix, reads_way}
+use Rattle.prefix_trie_map.proofs.map.PrefixMap.get_lpm_prefix_counted.Goals as goal
+
+pub returns-clause-value : goal.returns-clause-value
+returns-clause-value g c =
+    let path = g.P.Prefix.path c.args.prefix.now in
+    let key : take c.from-len.result (g.P.R.Key.bits c.repr-key.result) ≡ path = search rules in
+    c.prefix_of.ensures
+    ∙ shows_prefix g.P.Prefix.back (longest_match c.args.self.now.entries path) c.rebuilt_match-longest.result
+    (shows_match g.P.Prefix.back longest_match c.self.inside.table.entries c.args.self.now.entries (ap (λ (m : Contents g.row.T.Denot). m.entries) c.self.view_is)
+    (g.P.R.Key.bits c.repr-key.result) c.from-len.result path key c.find_longest-found.result c.find_longest-found.ensures.value c.rebuilt_match-longest.result c.rebuilt_match-longest.ensures)
+
+pub returns-clause-reads : goal.returns-clause-reads
+returns-clause-reads g c =
+    let key : take c.from-len.result (g.P.R.Key.bits c.repr-key.result) ≡ g.P.Prefix.path c.args.prefix.now = search rules in
+    reads_way g.P.R.Key.bit_width c.self.inside.table c.args.self.now c.self.view_is c.self.invariant _ (g.P.Prefix.path c.args.prefix.now) key _ _ c.new-visits.ensures c.find_longest-found.ensures.visits

@@ -1,0 +1,12 @@
+-- What the copy of a map needs. This project's own.
+use Rattle.std.specs.Prelude.{◌≡◌, ◌↔◌}
+use Rattle.prefix_trie_bits.specs.Model.Entries.{Entries}
+use Rattle.prefix_trie_bits.specs.Model.Nodes.{Nodes, IsTidy, needed}
+use Rattle.prefix_trie_table.specs.Copies.{AreCloned}
+
+-- of a copy that has the keys of its source, each with a clone of its value
+pub record CopyLaws {T : Type 0} (is_clone : T → T → Type 0) : Type 0 where
+  -- it needs the same nodes
+  pub same_needed : (m copy : Entries T) → AreCloned is_clone m copy → needed copy ≡ needed m
+  -- so with the same nodes it is as tidy
+  pub as_tidy : (m copy : Entries T) (n : Nodes) → AreCloned is_clone m copy → IsTidy m n ↔ IsTidy copy n
