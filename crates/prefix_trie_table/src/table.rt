@@ -405,7 +405,7 @@ impl<T: Drop, A: Allocator, V: Tick> Table<T, A, V> {
         );
     }
 
-    /// Takes all entries out, and all nodes but the root. It asks for no memory, and gives none back.
+    /// Takes all entries out, and all nodes but the root. It asks for no memory.
     #[inline]
     pub fn clear(&mut self)
         ensures entries { self.new.entries ≡ no_entries }

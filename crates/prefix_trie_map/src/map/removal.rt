@@ -87,7 +87,7 @@ impl<P: Prefix, T: Drop, A: Allocator> PrefixMap<P, T, A> {
         self.table.remove_children(key, len, &mut Visits::new());
     }
 
-    /// Takes all entries out, and leaves the root alone. It asks for no memory, and gives none back. Never refused.
+    /// Takes all entries out, and leaves the root alone. It asks for no memory. Never refused.
     ///
     /// ```text
     /// map.clear()

@@ -249,7 +249,7 @@ impl<S: Slot, A: Allocator> Blocks<S, A> {
     }
 
     /// Takes all blocks out of the array, and lets the values in them go. What stands before the first block stays.
-    /// It asks for no memory, and gives none back.
+    /// It asks for no memory.
     pub fn clear(&mut self)
         ensures value { self.new ≡ record self.old {
           slots = take self.old.first self.old.slots;

@@ -197,7 +197,7 @@ impl<A: Allocator, V: Drop> NodeAllocator<A, V> {
         rest
     }
 
-    /// Takes all nodes out but the root, which is then blank. It asks for no memory, and gives none back.
+    /// Takes all nodes out but the root, which is then blank. It asks for no memory.
     pub fn clear(&mut self)
         requires first { self.old.first ≡ 1 }
         requires root { 0 < length self.old.slots }
