@@ -1,13 +1,10 @@
 //! A list of calls, run on a map.
 ghost use Rattle.std.specs.Prelude.{◌≡◌, All, IfOk, OnErr, MatchResult, length, vec_len};
-ghost use Rattle.std.specs.FinMap.{get, len};
-ghost use Rattle.prefix_trie_bits.specs.Model.Entries.{part_at_least};
-ghost use Rattle.prefix_trie_bits.specs.Model.Nodes.{needed};
-ghost use Rattle.prefix_trie_bits.specs.Model.Room.{LeavesRoom};
+ghost use Rattle.std.specs.FinMap.{get};
 ghost use Rattle.prefix_trie_bits.specs.Model.Matches.{longest_match, shortest_match, shown_match};
 ghost use Rattle.prefix_trie_bits.specs.Model.Selections.{listing, listing_covering, shown};
-ghost use Rattle.prefix_trie_bits.specs.Model.Step.{Run, Insert, RemoveKeepTree, RemoveChildren, Done, Items, Refused};
-ghost use Rattle.prefix_trie_bits.specs.Model.Storage.{RemovesManyInStorage, StepInStorage, RunInStorage};
+ghost use Rattle.prefix_trie_bits.specs.Model.Step.{Run, Insert, RemoveKeepTree, RemoveChildren, RetainAtLeast, Done, Items, Refused};
+ghost use Rattle.prefix_trie_bits.specs.Model.Storage.{StepInStorage, RunInStorage};
 ghost use Rattle.prefix_trie_bits.specs.declared.prefix.Refusal.TheVariants.{Memory};
 ghost use Rattle.prefix_trie_map.specs.Steps.{state, stored};
 ghost use Rattle.prefix_trie_map.specs.Walks.{lent_item};
@@ -224,10 +221,8 @@ fn shortest<P: Prefix, A: Allocator>(map: &PrefixMap<P, u64, A>, prefix: &P) -> 
 
 /// Keeps the entries whose prefixes have at least this length.
 fn retain_at_least<P: Prefix, A: Allocator>(map: &mut PrefixMap<P, u64, A>, least: u8)
-    ensures kept { map.new.entries ≡ part_at_least map.old.entries least }
-    ensures nodes { map.new.nodes ≡ needed map.new.entries }
-    ensures leaves { LeavesRoom (len map.old.nodes) map.old.room map.new.room }
-    ensures storage { RemovesManyInStorage (state map.old) (state map.new) (stored map.old).1 (stored map.new).1 }
+    ensures { StepInStorage P.path P.back P.R.bit_width
+        (stored map.old) (RetainAtLeast least) Done (stored map.new) }
 {
     map.retain(|prefix, _| least <= prefix.prefix_len());
 }

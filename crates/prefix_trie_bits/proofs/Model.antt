@@ -18,5 +18,8 @@ pub mod Facts
 pub mod Runs
 pub mod Steps
 pub mod Determined
+pub mod Readied
 pub mod Stored
+pub mod Slots
 pub mod Askings
+pub mod Retained

@@ -7,6 +7,7 @@ ghost use Rattle.prefix_trie_bits.specs.Laws.Listings.{ListingLaws};
 ghost use Rattle.prefix_trie_bits.specs.Laws.Matches.{MatchLaws};
 ghost use Rattle.prefix_trie_bits.specs.Laws.Nodes.{NodeLaws};
 ghost use Rattle.prefix_trie_bits.specs.Laws.Pruning.{PruningLaws};
+ghost use Rattle.prefix_trie_bits.specs.Laws.Slots.{SlotLaws};
 ghost use Rattle.prefix_trie_bits.specs.Laws.Steps.{StepLaws};
 ghost use Rattle.prefix_trie_bits.specs.Laws.Storage.{StorageLaws};
 ghost use Rattle.prefix_trie_bits.specs.Laws.Visits.{VisitLaws};
@@ -78,9 +79,16 @@ pub fn determined_laws<P, T>()
 
 /// A step that changes neither entries nor nodes leaves the storage as it was, and so does the insertion of a stored key. What
 /// `clear` and the removal of all leave is the root's slot alone. A refusal leaves the blocks in use as they were. The insertion
-/// of a new key, where it is not refused, fixes the slots and the blocks in use.
+/// of a new key, where it is not refused, fixes the slots and the blocks in use. Where the blocks that it lacks were made before, it
+/// is not refused, and leaves what it would have left at once. Asking a test of lengths at each entry is the call that keeps by length.
 pub fn storage_laws<P, T>()
     ensures { StorageLaws P T }
+{}
+
+/// An insertion makes at most 56 slots for nodes and 31 for values, a removal of one entry at most 24 of each, and one that keeps all
+/// nodes none for nodes. Each asks that every node has its blocks, as in every map.
+pub fn slot_laws<P, T>()
+    ensures { SlotLaws P T }
 {}
 
 /// Worked rows: exact lookups, and longest and shortest matches.

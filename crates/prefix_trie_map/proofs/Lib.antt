@@ -5,8 +5,7 @@ pub mod Lookups
 pub mod Refusals
 pub mod Runs
 pub mod Lending
-pub mod Removals
+pub mod Steps
 pub mod Retained
 pub mod Loans
 pub mod Copying
-pub mod Rooms

@@ -1,13 +1,15 @@
 -- What holds of every map. This project's own.
 use Rattle.std.specs.Prelude.{ℕ, ◌<◌, ◌≤◌, ◌^◌}
 use Rattle.prefix_trie_bits.specs.Laws.Steps.{IsMap}
+use Rattle.prefix_trie_bits.specs.Model.Storage.{HaveBlocks}
 use Rattle.prefix_trie_table.specs.Shape.{Contents}
 use Rattle.prefix_trie_map.specs.Steps.{state}
 
--- a map of prefixes of so many bits: no key is longer, the nodes are such as the keys need, and neither array passes the limit,
--- which is below 2^32
+-- a map of prefixes of so many bits: no key is longer, the nodes are such as the keys need, each has its blocks, and neither array
+-- passes the limit, which is below 2^32
 pub record IsWhole {T : Type 0} (width : ℕ) (map : Contents T) : Type 0 where
   pub is_map : IsMap width (state map)
+  pub have_blocks : HaveBlocks (state map) map.layout
   pub limit_below : map.room.limit < 2 ^ 32
   pub nodes_within : map.room.node_slots ≤ map.room.limit
   pub cells_within : map.room.cell_slots ≤ map.room.limit

@@ -3,7 +3,7 @@
 //! The path of a prefix, its first `prefix_len` bits, is its key: two prefixes with the same path are one key, whatever their
 //! host bits. Contracts see a map as its entries, a finite map from paths to values, its nodes, its room, which is its limit
 //! and the lengths of its two arrays, and its layout: how the arrays are cut into blocks.
-ghost use Rattle.std.specs.Prelude.{◌≡◌, ◌+◌, ◌-◌, ◌^◌, ◌≤◌, ◌↔◌, IfOk, OnOk, IfErr, OnErr, IsTrue};
+ghost use Rattle.std.specs.Prelude.{◌≡◌, ◌-◌, ◌^◌, ◌↔◌, IfOk, OnOk, IfErr, OnErr, IsTrue};
 ghost use Rattle.std.specs.FinMap.{get, len};
 ghost use Rattle.prefix_trie_bits.specs.declared.prefix.Refusal.TheVariants.{Memory, IndexRange};
 ghost use Rattle.prefix_trie_bits.specs.Model.Blocks.{no_layout};
@@ -117,7 +117,6 @@ impl<P: Prefix, T: Drop, A: Allocator> PrefixMap<P, T, A> {
         // A refusal changes neither the entries nor the nodes.
         ensures unchanged { OnErr result ((self.new.entries ≡ self.old.entries) × (self.new.nodes ≡ self.old.nodes)) }
         ensures returned { IfErr result (λ refused. refused.value ≡ value) }
-        ensures slots { (self.new.room.node_slots ≤ self.old.room.node_slots + 56) × (self.new.room.cell_slots ≤ self.old.room.cell_slots + 31) }
 
         // It is a step of the model, of the storage too. A stored key is never refused, and needs no block. A new one takes free blocks,
         // and of each size exactly the lacking ones are made. It is refused only where a block lacks: with `IndexRange` only where

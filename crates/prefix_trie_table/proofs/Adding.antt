@@ -10,8 +10,9 @@ use Rattle.std.proofs.lemmas.Bool.{false≢true}
 use Rattle.std.specs.Prelude.{MatchOption}
 use Rattle.std.specs.Option.{option_or}
 use Rattle.prefix_trie_table.specs.OwnBlocks.{size_if_any, child_block_size, value_block_size, child_need, value_need}
+use Rattle.prefix_trie_table.proofs.Invariant.{some_nodes}
 use Rattle.prefix_trie_table.proofs.Needs.{block_after}
-use Rattle.prefix_trie_table.specs.Forest.{without, child_items, child_blocks, IsSlot, at_child, NodesHold, with_child, AtNode, ChildAdded, AtValues, ValueSet, CellsHold, value_blocks, with_node, with_value, has_value, own_count, one_if}
+use Rattle.prefix_trie_table.specs.Forest.{without, child_items, child_blocks, IsSlot, at_child, NodesHold, with_child, SomeTable, SomeNodes, IsNodeAt, ChildAdded, ValueSet, CellsHold, value_blocks, with_node, with_value, has_value, own_count, one_if}
 use Rattle.prefix_trie_table.specs.Cells.{blank_node, node_at, node_sizes, cell_sizes}
 use Rattle.prefix_trie_table.proofs.Soundness.{tier_of_block}
 use Rattle.prefix_trie_table.proofs.Spending.{size_at, single_node, single_cell}
@@ -22,8 +23,8 @@ use Rattle.prefix_trie_table.proofs.Children.{child_added, changed_here, same_nu
 use Rattle.prefix_trie_table.proofs.Values.{values_first, value_stands, value_added, value_replaced}
 
 -- what the node at a slot is
-pub at_is : (v : Store Node) (slot : ℕ) (a : AtNode v slot) → (node_at v.slots slot ≡ a.node) × (slot < length v.slots)
-at_is v slot a = slot_holds node_sizes a.reading a.paths v a.hold a.path slot a.node a.stands a.is
+pub at_is : (v : Store Node) (slot : ℕ) (a : (n : SomeNodes v) × IsNodeAt n.reading slot) → (node_at v.slots slot ≡ a.1.node) × (slot < length v.slots)
+at_is v slot a = slot_holds node_sizes a.0.reading a.0.paths v a.0.hold a.1.path slot a.1.node a.1.stands a.1.is
 
 -- the children of the node at a path are a list in their block
 pub children_list : (reading : List ℕ → Option Node) (paths : List (List ℕ)) (v : Store Node) → NodesHold node_sizes reading paths v → (p : List ℕ) (n : Node) →
@@ -37,17 +38,17 @@ children_list reading paths v hold p n is = record {
 }
 
 -- a node's children are a list in their block
-pub has_list : (v : Store Node) (slot : ℕ) (k : Node) (count : ℕ) → AtNode v slot → k ≡ node_at v.slots slot → count ≡ rank k.child_bitmap 32 →
+pub has_list : (v : Store Node) (slot : ℕ) (k : Node) (count : ℕ) → (n : SomeNodes v) × IsNodeAt n.reading slot → k ≡ node_at v.slots slot → count ≡ rank k.child_bitmap 32 →
     HasList blank_node v k.child_tier k.child_block count
 has_list v slot k count a read is_count =
     let at = at_is v slot a in
-    let same : k ≡ a.node = read ∙ at.0 in
+    let same : k ≡ a.1.node = read ∙ at.0 in
     record {
-      live = flat_map (child_blocks node_sizes a.reading) (without a.path a.paths);
+      live = flat_map (child_blocks node_sizes a.0.reading) (without a.1.path a.0.paths);
       size = size_in node_sizes k.child_tier;
-      items = child_items a.reading a.path k.child_bitmap;
-      is_count = rank-all (λ c. elim (a.reading (a.path ++ c ∷ [])) as (λ _. Node) [ None ↦ blank_node | Some n ↦ n ]) k.child_bitmap ∙ sym is_count;
-      sound = own_first node_sizes a.reading a.paths v a.hold a.path k (a.is ∙ ap Some (sym same));
+      items = child_items a.0.reading a.1.path k.child_bitmap;
+      is_count = rank-all (λ c. elim (a.0.reading (a.1.path ++ c ∷ [])) as (λ _. Node) [ None ↦ blank_node | Some n ↦ n ]) k.child_bitmap ∙ sym is_count;
+      sound = own_first node_sizes a.0.reading a.0.paths v a.0.hold a.1.path k (a.1.is ∙ ap Some (sym same));
     }
 
 -- one of the tiers
@@ -134,21 +135,22 @@ with_same reading p k is = λ i q. same q (same_or q p) i
 
 module _ {T : Type 0} where
   -- the node alone
-  abbrev pub at_values : (v : Store Node) (w : Store (Option T)) (slot : ℕ) → AtValues v w slot → AtNode v slot
-  at_values v w slot a = record { reading = a.reading; paths = a.paths; path = a.path; node = a.node; hold = a.hold; stands = a.stands; is = a.is }
+  abbrev pub at_values : (v : Store Node) (w : Store (Option T)) (slot : ℕ) → (t : SomeTable v w) × IsNodeAt t.reading slot →
+      (n : SomeNodes v) × IsNodeAt n.reading slot
+  at_values v w slot a = (some_nodes a.0, a.1)
 
   -- a node's values are a list in their block
-  pub has_values : (v : Store Node) (w : Store (Option T)) (slot : ℕ) (k : Node) (count : ℕ) → AtValues v w slot → k ≡ node_at v.slots slot →
+  pub has_values : (v : Store Node) (w : Store (Option T)) (slot : ℕ) (k : Node) (count : ℕ) → (t : SomeTable v w) × IsNodeAt t.reading slot → k ≡ node_at v.slots slot →
       count ≡ rank k.value_bitmap 32 → HasList None w k.value_tier k.value_block count
   has_values v w slot k count a read is_count =
       let at = at_is v slot (at_values v w slot a) in
-      let same : k ≡ a.node = read ∙ at.0 in
+      let same : k ≡ a.1.node = read ∙ at.0 in
       record {
-        live = flat_map (value_blocks cell_sizes a.reading a.values) (without a.path a.paths);
+        live = flat_map (value_blocks cell_sizes a.0.reading a.0.values) (without a.1.path a.0.paths);
         size = size_in cell_sizes k.value_tier;
-        items = map (a.values a.path) (bits k.value_bitmap);
-        is_count = rank-all (a.values a.path) k.value_bitmap ∙ sym is_count;
-        sound = values_first cell_sizes node_sizes a.reading a.paths v a.hold a.values w a.cells a.path k (a.is ∙ ap Some (sym same));
+        items = map (a.0.values a.1.path) (bits k.value_bitmap);
+        is_count = rank-all (a.0.values a.1.path) k.value_bitmap ∙ sym is_count;
+        sound = values_first cell_sizes node_sizes a.0.reading a.0.paths v a.0.holds.hold a.0.values w a.0.holds.cells a.1.path k (a.1.is ∙ ap Some (sym same));
       }
 
   -- a value put into the list of values, and the node written with it, set the value

@@ -6,7 +6,7 @@ use Rattle.prefix_trie_bits.specs.Model.Blocks.{Sizes, used_of, free_of, MakesBl
 use Rattle.prefix_trie_bits.specs.Model.Insertion.{lacking_of}
 use Rattle.prefix_trie_table.specs.declared.allocator.node.Node.{Node}
 use Rattle.prefix_trie_table.specs.Cells.{node_sizes, cell_sizes}
-use Rattle.prefix_trie_table.specs.Forest.{IsTable}
+use Rattle.prefix_trie_table.specs.Forest.{SomeTable}
 use Rattle.prefix_trie_table.specs.Layouts.{Sized, free_counts}
 use Rattle.prefix_trie_table.specs.Store.{Store, tier_at, tier_sizes, size_in, free_at}
 use Rattle.prefix_trie_table.proofs.BlockCounts.{nodes_made, cells_made}
@@ -57,7 +57,7 @@ module _ {S : Type 0} (sizes : List ℕ) (v v2 : Store S) (used later : Sizes) (
 
 -- ---- of a table
 
-module _ {T : Type 0} (v : Store Node) (w : Store (Option T)) (t : IsTable v w) (sized : Sized v.slots) where
+module _ {T : Type 0} (v : Store Node) (w : Store (Option T)) (t : SomeTable v w) (sized : Sized v.slots) where
   pub nodes_cut : IsCut node_sizes v sized.0
   nodes_cut = record {
     seven = refl;

@@ -9,12 +9,11 @@ use Rattle.prefix_trie_table.specs.Bitmaps.{has_bit, bits_below, bits, rank, if_
 use Rattle.prefix_trie_table.specs.Store.{Store, Block, Sound, block}
 use Rattle.prefix_trie_table.specs.Forest.{child_slot, same_path, one_if, times, without, node_or_blank, held, size_in, has_child, child_items, child_blocks_of, child_blocks, IsSlot, at_root, at_child, NodesHold, tier_sizes, with_child, lacking_child, with_node}
 use Rattle.prefix_trie_table.specs.Cells.{blank_node, node_at}
-use Rattle.prefix_trie_table.proofs.Tilings.{all_within}
 use Rattle.prefix_trie_table.proofs.Bits.{has_bit-zero}
 use Rattle.prefix_trie_table.proofs.BitLists.{map_same, map_insert, map_remove}
 use Rattle.prefix_trie_table.proofs.Paths.{same_path-true, same_path-equal, same_path-not, snoc_inj, snoc_not_nil, snoc_not_same, times_without, flat_map_out}
 use Rattle.std.proofs.lemmas.List.Sorted.{IsPermutation-append_right}
-use Rattle.prefix_trie_table.proofs.Soundness.{Sound-permuted}
+use Rattle.prefix_trie_table.proofs.Soundness.{Sound-permuted, first_place}
 use Rattle.prefix_trie_table.proofs.Trees.{is_none-None, held_some, node_back, listed_once, own_first, child_stands, times_out, times_out_same, node_set}
 
 bits_below-zero : (n : ℕ) → bits_below 0 n ≡ []
@@ -181,7 +180,7 @@ module _ (sizes : List ℕ) (nodes : List ℕ → Option Node) (paths : List (Li
       let none : child_blocks sizes later (p ++ c ∷ []) ≡ [] =
       blank_blocks sizes later (p ++ c ∷ []) (changed_below nodes p m c (Some blank_node) (p ++ c ∷ []) refl) in
       record {
-        rooted = root_after p s m later u stands (let x = (all_within u.first (length u.slots) sound.tiling sound.tiles).1 in omega arith) kept here
+        rooted = root_after p s m later u stands (let x = first_place blank_node _ u sound in omega arith) kept here
             (λ ne. changed_other nodes p m c (Some blank_node) [] ne (λ e. snoc_not_nil p c (sym e)));
         linked = linked_changed sizes nodes paths v hold p n m c (Some blank_node) is bit_c (λ d. has_bit-zero d) bit_i
             (λ d. hold.linked (p ++ c ∷ []) d ∙ ap (λ o. has_child o d) (is_none-None (nodes (p ++ c ∷ [])) gone));
@@ -239,7 +238,7 @@ bits-none bitmap none = bits_below-none bitmap 32 none
 
 module _ (sizes : List ℕ) (nodes : List ℕ → Option Node) (paths : List (List ℕ)) (v : Store Node) (hold : NodesHold sizes nodes paths v) where
   some_root : (u : Store Node) (live : List (Block Node)) → u.first ≡ 1 → Sound blank_node live u → 0 < length u.slots
-  some_root u live first sound = let x = (all_within u.first (length u.slots) sound.tiling sound.tiles).1 in omega arith
+  some_root u live first sound = let x = first_place blank_node _ u sound in omega arith
 
   -- the node n at p becomes m, which has the same children
   pub node_changed : (p : List ℕ) (s : ℕ) (n m : Node) → IsSlot nodes p s → nodes p ≡ Some n → m.child_bitmap ≡ n.child_bitmap →

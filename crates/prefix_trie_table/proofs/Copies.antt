@@ -1,5 +1,5 @@
 -- Arrays whose values are clones of those in others.
-use Rattle.std.proofs.Common.{◌≡◌, ℕ, zero, suc, ◌+◌, ◌-◌, ◌<◌, ◌≤◌, ◌⊎◌, inl, inr, Bool, true, false, cond, eqb, List, [], ◌∷◌, ◌++◌, length, get_or, map, flat_map, replicate, count_by, All, IsPermutation, Option, None, Some, is_some, refl, sym, ap, ap₂, ◌∙◌, subst, arith, length-append}
+use Rattle.std.proofs.Common.{◌≡◌, ℕ, zero, suc, ◌+◌, ◌-◌, ◌<◌, ◌≤◌, ◌⊎◌, inl, inr, Bool, true, false, cond, eqb, List, [], ◌∷◌, ◌++◌, length, get_or, map, flat_map, replicate, count_by, All, Option, None, Some, is_some, refl, sym, ap, ap₂, ◌∙◌, subst, arith, length-append}
 use Rattle.std.specs.List.{AllZip}
 use Rattle.std.proofs.lemmas.Bool.{cases_lt}
 use Rattle.std.proofs.lemmas.List.{ext_get_or, get_or-take, get_or-drop, get_or_append_left, get_or-append-add, get_or-replicate, length-replicate, length-map, get_or-map}
@@ -8,7 +8,8 @@ use Rattle.std.proofs.lemmas.List.Sums.{sum_by-cons}
 use Rattle.prefix_trie_table.specs.declared.allocator.node.Node.{Node}
 use Rattle.prefix_trie_table.specs.Bitmaps.{has_bit, if_set, bits_below, bits, rank}
 use Rattle.prefix_trie_table.specs.Runs.{run}
-use Rattle.prefix_trie_table.specs.Store.{Tier, Store, Block, Sound, IsOfTier, IsTiling, HoldsItems, IsVacant, tier_at, extent, free_extents, filled, held, size_in}
+use Rattle.prefix_trie_bits.specs.Model.Blocks.{AreBlocksOf, Block as Extent}
+use Rattle.prefix_trie_table.specs.Store.{Tier, Store, Block, Sound, IsOfTier, HoldsItems, IsVacant, tier_at, tier_sizes, extent, free_extents, filled, held, size_in}
 use Rattle.prefix_trie_table.specs.Cells.{cell_sizes}
 use Rattle.prefix_trie_table.specs.Forest.{value_blocks, value_blocks_of, value_in, value_of}
 use Rattle.prefix_trie_table.proofs.RunLemmas.{length-run}
@@ -48,16 +49,16 @@ module _ {T : Type 0} (xs ys : List (Option T)) (long : length ys ≡ length xs)
   none_stays : (i : ℕ) → get_or xs i None ≡ None → get_or ys i None ≡ None
   none_stays i e = is_none-None (get_or ys i None) (kept i ∙ ap is_some e)
 
-  vacant_stays : (first : ℕ) (e : ℕ × ℕ) → Within first (length xs) e → IsVacant None xs e → IsVacant None ys e
+  vacant_stays : (first : ℕ) (e : Extent) → Within first (length xs) e → IsVacant None xs e → IsVacant None ys e
   vacant_stays first e inside h =
       let before = inside.before in
-      let l : length (run ys e.0 e.1) ≡ e.1 = length-run ys e.0 e.1 (omega arith) in
-      ext_get_or None (run ys e.0 e.1) (replicate e.1 None) (l ∙ sym (length-replicate e.1 None))
+      let l : length (run ys e.start e.size) ≡ e.size = length-run ys e.start e.size (omega arith) in
+      ext_get_or None (run ys e.start e.size) (replicate e.size None) (l ∙ sym (length-replicate e.size None))
       (λ i within.
-      let small : i < e.1 = omega arith in
-      run_get ys e.0 e.1 i small
-      ∙ none_stays (e.0 + i) (sym (run_get xs e.0 e.1 i small) ∙ ap (λ zs. get_or zs i None) h ∙ get_or-replicate e.1 i None None small)
-      ∙ sym (get_or-replicate e.1 i None None small))
+      let small : i < e.size = omega arith in
+      run_get ys e.start e.size i small
+      ∙ none_stays (e.start + i) (sym (run_get xs e.start e.size i small) ∙ ap (λ zs. get_or zs i None) h ∙ get_or-replicate e.size i None None small)
+      ∙ sym (get_or-replicate e.size i None None small))
 
   -- the block holds what stands in the copy
   pub record IsRead (b c : Block (Option T)) : Type 0 where
@@ -131,7 +132,7 @@ module _ {T : Type 0} (xs ys : List (Option T)) (long : length ys ≡ length xs)
       (All-head (HoldsItems None xs) b live h)))
       (held_read first live copies z.1 (All-tail (Within first (length xs)) (extent b) (map extent live) inside) (All-tail (HoldsItems None xs) b live h))
 
-  vacated_read : (first : ℕ) (es : List (ℕ × ℕ)) → All (Within first (length xs)) es → All (IsVacant None xs) es → All (IsVacant None ys) es
+  vacated_read : (first : ℕ) (es : List Extent) → All (Within first (length xs)) es → All (IsVacant None xs) es → All (IsVacant None ys) es
   vacated_read first es inside h k d within = vacant_stays first (get_or es k d) (inside k d within) (h k d within)
 
   -- the copy is sound with blocks that hold what stands there
@@ -140,11 +141,10 @@ module _ {T : Type 0} (xs ys : List (Option T)) (long : length ys ≡ length xs)
   Sound-read v e live copies z s =
       let all : All (Within v.first (length xs)) (map extent live ++ free_extents v.tiers) =
       subst (λ zs. All (Within v.first (length zs)) (map extent live ++ free_extents v.tiers)) e
-      (each_within v.first (length v.slots) s.tiling (map extent live ++ free_extents v.tiers) s.tiles s.rearranged) in
+      (each_within (tier_sizes v.tiers) v.first (length v.slots) (map extent live) (free_extents v.tiers) s.blocks) in
       record {
-        tiling = s.tiling;
-        tiles = subst (λ n. IsTiling v.first s.tiling n) (ap (λ zs. length zs) e ∙ sym long) s.tiles;
-        rearranged = subst (λ es. IsPermutation s.tiling (es ++ free_extents v.tiers)) (sym (extents_read live copies z)) s.rearranged;
+        blocks = subst (λ es. AreBlocksOf (tier_sizes v.tiers) v.first es (free_extents v.tiers) (length ys)) (sym (extents_read live copies z))
+            (subst (λ n. AreBlocksOf (tier_sizes v.tiers) v.first (map extent live) (free_extents v.tiers) n) (ap (λ zs. length zs) e ∙ sym long) s.blocks);
         of_tier = tiers_read v.tiers live copies z s.of_tier;
         counted = λ k within. s.counted k within ∙ ap (λ n. length (tier_at v.tiers k).starts + n) (sym (counts_read k live copies z));
         held = held_read v.first live copies z (All-append_left (Within v.first (length xs)) (map extent live) (free_extents v.tiers) all)

@@ -21,9 +21,10 @@ use Rattle.prefix_trie_table.specs.Copies.{IsCloned, AreCloned}
 use Rattle.prefix_trie_table.specs.Digits.{path_of, bit_of}
 use Rattle.prefix_trie_table.specs.Layouts.{Sized, Sized-prop, free_counts}
 use Rattle.prefix_trie_table.specs.Store.{Store, Tier}
-use Rattle.prefix_trie_table.specs.Forest.{IsTable, CellsHold, read, value_in, value_of, value_blocks}
+use Rattle.prefix_trie_table.specs.Forest.{SomeTable, CellsHold, read, value_in, value_of, value_blocks}
 use Rattle.prefix_trie_table.specs.Shape.{IsShapeOf, Shaped, same_shape}
-use Rattle.prefix_trie_table.specs.Tables.{IsTableOf}
+use Rattle.prefix_trie_table.specs.Tables.{IsTable}
+use Rattle.prefix_trie_table.proofs.Invariant.{some_table}
 use Rattle.prefix_trie_table.proofs.Copies.{read_values, paths_zip, Sound-read}
 use Rattle.prefix_trie_table.proofs.Lending.{seen_of}
 use Rattle.prefix_trie_table.proofs.Shapes.{reads_node, reads_value}
@@ -112,10 +113,10 @@ module _ {T : Type 0} where
 
 -- of a table in v and w there is a copy in v2 and w2, whose values are clones
 module _ {T : Type 0} (C : T → T → Type 0) (R : Option T → Option T → Type 0) (means : (x y : Option T) → R x y → IsCloned C x y)
-    (v v2 : Store Node) (w w2 : Store (Option T)) (count : ℕ) (s : Shaped v.slots w.slots) (is : IsTableOf v w count s.0)
+    (v v2 : Store Node) (w w2 : Store (Option T)) (count : ℕ) (s : Shaped v.slots w.slots) (is : IsTable v w count s.0)
     (nodes : v2 ≡ v) (rest : w2 ≡ record w { slots = w2.slots }) (clones : AllZip R w.slots w2.slots) where
-  abbrev table : IsTable v w
-  table = is.held.table
+  abbrev table : SomeTable v w
+  table = some_table is
 
   long : length w2.slots ≡ length w.slots
   long = sym (length_all_zip R w.slots w2.slots clones)
@@ -180,17 +181,13 @@ module _ {T : Type 0} (C : T → T → Type 0) (R : Option T → Option T → Ty
   copied_only : (t : Shaped v2.slots w2.slots) → t.0 ≡ state
   copied_only t = same_shape v2.slots w2.slots t.0 state t.1 state_is
 
-  state_held : IsTableOf v (record w { slots = w2.slots }) count state
+  state_held : IsTable v (record w { slots = w2.slots }) count state
   state_held = record {
-    held = record {
-      table = record {
-        reading = table.reading;
-        values = values;
-        paths = table.paths;
-        holds = record { hold = table.holds.hold; cells = cells_hold };
-      };
-      counted = is.held.counted;
-    };
+    reading = table.reading;
+    values = values;
+    paths = table.paths;
+    holds = record { hold = table.holds.hold; cells = cells_hold };
+    counted = is.counted;
     sized = is.sized ∙ sym (len_put value_at s.0.entries);
     cells_first = is.cells_first;
     one_limit = is.one_limit;
@@ -199,11 +196,11 @@ module _ {T : Type 0} (C : T → T → Type 0) (R : Option T → Option T → Ty
   }
 
   -- and is a table
-  pub copied_table : (t : Shaped v2.slots w2.slots) → IsTableOf v2 w2 count t.0
+  pub copied_table : (t : Shaped v2.slots w2.slots) → IsTable v2 w2 count t.0
   copied_table t =
-      subst (λ (y : State T). IsTableOf v2 w2 count y) (sym (copied_only t))
-      (subst (λ (y : Store Node). IsTableOf y w2 count state) (sym nodes)
-      (subst (λ (y : Store (Option T)). IsTableOf v y count state) (sym rest) state_held))
+      subst (λ (y : State T). IsTable v2 w2 count y) (sym (copied_only t))
+      (subst (λ (y : Store Node). IsTable y w2 count state) (sym nodes)
+      (subst (λ (y : Store (Option T)). IsTable v y count state) (sym rest) state_held))
 
   -- each value is a clone
   pub copied_entries : (t : Shaped v2.slots w2.slots) → AreCloned C s.0.entries t.0.entries
@@ -241,4 +238,4 @@ module _ {T : Type 0} (C : T → T → Type 0) (R : Option T → Option T → Ty
   copied_same z law t k =
       let values : t.0.entries ≡ s.0.entries =
       same_entries t.0.entries s.0.entries (λ q. cloned_same C law (get s.0.entries q) (get t.0.entries q) (copied_entries t q)) in
-      λ i. record { entries = values i; nodes = copied_nodes t i; room = copied_room z t k i; layout = copied_layout z t k i }
+      λ i. record { entries = values i; nodes = copied_nodes t i; room = copied_room z t k i; layout = copied_layout z t k i; build = (nodes i).slots }

@@ -19,7 +19,7 @@ use Rattle.prefix_trie_bits.proofs.Model.Ordered.{each-behind, find-from_Contain
 use Rattle.prefix_trie_table.specs.declared.allocator.node.Node.{Node}
 use Rattle.prefix_trie_table.specs.declared.table.matching.Match.{Match}
 use Rattle.prefix_trie_table.specs.Store.{Store}
-use Rattle.prefix_trie_table.specs.Forest.{IsTable}
+use Rattle.prefix_trie_table.specs.Forest.{SomeTable}
 use Rattle.prefix_trie_table.specs.Matching.{holds_value, IsHeld, NoneHeld, cell_slot}
 use Rattle.prefix_trie_table.specs.Shape.{IsShapeOf, same_shape}
 use Rattle.prefix_trie_table.specs.Covers.{IsCovering, GoesOn, is_ahead, still_covering}
@@ -119,7 +119,7 @@ module _ {T : Type 0} where
 
   -- ---- what a table's walk has still to give
 
-  module _ (v : Store Node) (w : Store (Option T)) (t : IsTable v w) (s : State T) (is : IsShapeOf v.slots w.slots s) (b : List Bool) (len : ℕ) (long : len ≤ length b) where
+  module _ (v : Store Node) (w : Store (Option T)) (t : SomeTable v w) (s : State T) (is : IsShapeOf v.slots w.slots s) (b : List Bool) (len : ℕ) (long : len ≤ length b) where
     asked_long : length (take len b) ≡ len
     asked_long = length-take-le len b long
 
@@ -212,7 +212,7 @@ module _ {T : Type 0} where
 
   -- ---- one step of a walk
 
-  module _ (v : Store Node) (w : Store (Option T)) (t : IsTable v w) (s later : State T) (is : IsShapeOf v.slots w.slots s) (later_is : IsShapeOf v.slots w.slots later)
+  module _ (v : Store Node) (w : Store (Option T)) (t : SomeTable v w) (s later : State T) (is : IsShapeOf v.slots w.slots s) (later_is : IsShapeOf v.slots w.slots later)
       (b : List Bool) (len : ℕ) (long : len ≤ length b) (level deeper : ℕ) (node below : Node) (slot place matches rest first : ℕ)
       (at : IsCovering b len level node slot matches first v) where
     -- there is no further entry, now and afterwards

@@ -2,7 +2,7 @@
 use Rattle.std.proofs.Common.{◌≡◌, ℕ, zero, suc, ◌*◌, ◌/◌, ◌<◌, ◌≤◌, Bool, List, [], ◌∷◌, ◌++◌, length, take, drop, get_or, refl, sym, ap, ◌∙◌, arith}
 use Rattle.prefix_trie_bits.specs.Bits.{number}
 use Rattle.prefix_trie_bits.specs.BitStrings.{same-from-number, number-lt}
-use Rattle.prefix_trie_bits.proofs.Strings.{value_bit-injective}
+use Rattle.prefix_trie_bits.proofs.Strings.{value_bit-injective, value_bit-small}
 use Rattle.prefix_trie_table.specs.Digits.{path_of, rest_of, bit_of}
 
 more : (n l : ℕ) → n ≡ l / 5 → suc n ≡ suc (suc (suc (suc (suc l)))) / 5
@@ -80,3 +80,12 @@ string_is (a ∷ b ∷ c ∷ d ∷ e ∷ s) (a2 ∷ b2 ∷ c2 ∷ d2 ∷ e2 ∷ 
 string_is (a ∷ b ∷ c ∷ d ∷ e ∷ s) t p q = absurd (let f : number (a ∷ b ∷ c ∷ d ∷ e ∷ []) ∷ path_of s ≡ [] = p in cc)
 string_is s (a ∷ b ∷ c ∷ d ∷ e ∷ t) p q = absurd (let f : [] ≡ number (a ∷ b ∷ c ∷ d ∷ e ∷ []) ∷ path_of t = p in cc)
 string_is s t p q = value_bit-injective s t q
+
+-- a value bit is one of 31
+pub bit_of-small : (s : List Bool) → bit_of s < 31
+bit_of-small [] = value_bit-small [] (omega arith)
+bit_of-small (a ∷ []) = value_bit-small (a ∷ []) (omega arith)
+bit_of-small (a ∷ b ∷ []) = value_bit-small (a ∷ b ∷ []) (omega arith)
+bit_of-small (a ∷ b ∷ c ∷ []) = value_bit-small (a ∷ b ∷ c ∷ []) (omega arith)
+bit_of-small (a ∷ b ∷ c ∷ d ∷ []) = value_bit-small (a ∷ b ∷ c ∷ d ∷ []) (omega arith)
+bit_of-small (a ∷ b ∷ c ∷ d ∷ e ∷ s) = bit_of-small s

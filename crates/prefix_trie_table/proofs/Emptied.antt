@@ -25,11 +25,11 @@ use Rattle.prefix_trie_table.specs.declared.allocator.node.Node.{Node}
 use Rattle.prefix_trie_table.specs.Digits.{path_of}
 use Rattle.prefix_trie_table.specs.Forest.{read, below}
 use Rattle.prefix_trie_table.specs.Store.{Store}
-use Rattle.prefix_trie_table.specs.Retaining.{is_at, is_at_some, is_under, is_under_some, IsTrie, Retains}
+use Rattle.prefix_trie_table.specs.Retaining.{is_at, is_at_some, is_under, is_under_some, Retains}
+use Rattle.prefix_trie_table.specs.Tables.{IsTrie}
 use Rattle.prefix_trie_table.proofs.Asked.{no_or_yes, at_value, at_child, under_child, under_at_some}
 use Rattle.prefix_trie_table.proofs.Bits.{has_bit-is}
 use Rattle.prefix_trie_table.proofs.Placing.{step_below}
-use Rattle.prefix_trie_table.proofs.Retained.{tree_of}
 use Rattle.prefix_trie_table.proofs.Subtrees.{nothing_below, unset, is_in-value, is_in-child, number-small}
 use Rattle.prefix_trie_table.proofs.Trees.{read-snoc, child-missing}
 
@@ -252,7 +252,7 @@ module _ {T : Type 0} (width count : ℕ) (v : Store Node) (w : Store (Option T)
         absurd (false≢true (sym off ∙ list_any_at (λ t. is_at (home q) t k) ts m.0 u m.1 (ap (λ t. is_at (home q) t k) m.2 ∙ at)))
     | inr miss ↦
         place_none before.entries (home q) u k
-        (unset width v (record { cells = w; shape = before }) (tree_of width count v w before trie) (home q) n (home-depth q) stands u most miss) at
+        (unset width v (record { count = count; cells = w; shape = before }) trie (home q) n (home-depth q) stands u most miss) at
   ]
 
   entries_among : (k : List Bool) → begins q k ≡ true → is_at_some (home q) ts k ≡ false → get before.entries k ≡ None
@@ -326,7 +326,7 @@ module _ {T : Type 0} where
   )
     where
       none : listing_below s.entries (home q) ≡ []
-      none = nothing_below width v (record { cells = w; shape = s }) (tree_of width count v w s trie) (home q) (home-depth q) missing
+      none = nothing_below width v (record { count = count; cells = w; shape = s }) trie (home q) (home-depth q) missing
 
       by : (k : List Bool) (b : Bool) → begins q k ≡ b → cond b None (get s.entries k) ≡ get s.entries k
       by k true goes_on = sym (below_none s.entries (home q) k none (home_goes_on q k goes_on))

@@ -14,11 +14,11 @@ use Rattle.prefix_trie_table.specs.Bitmaps.{has_bit, rank}
 use Rattle.prefix_trie_table.specs.Cells.{cell_sizes}
 use Rattle.prefix_trie_table.specs.Digits.{path_of, bit_of}
 use Rattle.prefix_trie_table.specs.Store.{Store}
-use Rattle.prefix_trie_table.specs.Forest.{one_if, Holds, IsSlot, at_root, at_child, child_slot, node_or_blank, own_count, has_value, with_node, with_value}
+use Rattle.prefix_trie_table.specs.Forest.{one_if, Holds, IsSlot, at_root, at_child, child_slot, node_or_blank, own_count, has_value, with_node, with_value, SomeTable, entry_count}
 use Rattle.prefix_trie_table.specs.Removals.{Shrinks, LongerByBlock, MayLengthen, SameChildren, ValueTaken, EntryTaken, MakesEntered}
 use Rattle.prefix_trie_table.specs.OwnBlocks.{value_block_size}
 use Rattle.prefix_trie_table.specs.Shape.{IsShapeOf, Shaped, same_shape}
-use Rattle.prefix_trie_table.specs.Tables.{IsReached, IsTableOf, IsCounted, Grows, ForHeld}
+use Rattle.prefix_trie_table.specs.Tables.{IsReached, IsTable, Grows, ForHeld}
 use Rattle.prefix_trie_table.proofs.Children.{same_or, with_here, with_other}
 use Rattle.prefix_trie_table.proofs.EntryCounts.{count_with_node}
 use Rattle.prefix_trie_table.proofs.Finding.{reached_own}
@@ -147,23 +147,27 @@ one_less c n l false e f = omega (arith, e, f)
 
 -- a removal: what it leaves of the table
 module _ {T : Type 0} (key : List Bool) (v v2 : Store Node) (w w2 : Store (Option T)) (count count2 : ℕ) (s : Shaped v.slots w.slots)
-    (is : IsTableOf v w count s.0) (removed : Option T)
+    (is : IsTable v w count s.0) (removed : Option T)
     (before : ForHeld v w (λ reading paths values. removed ≡ values (path_of key) (bit_of key))) where
   -- the answer is the value that was there
   pub removed_is : removed ≡ get s.0.entries key
   removed_is =
-      let t = is.held.table in
+      let t = is in
       before t.reading t.paths t.values t.holds
       ∙ sym (shape_entries t.reading t.values t.paths v w t.holds s.0 s.1 key)
 
   -- arrays that have this shape are a table
   pub table_without : (left : State T) → IsShapeOf v2.slots w2.slots left → left.entries ≡ without_entry s.0.entries key →
-      count2 + one_if (is_some removed) ≡ count → IsCounted v2 w2 count2 → Grows v v2 24 → Grows w w2 24 →
-      (t : Shaped v2.slots w2.slots) → IsTableOf v2 w2 count2 t.0
+      count2 + one_if (is_some removed) ≡ count → (t : SomeTable v2 w2) × (count2 ≡ entry_count t.reading t.paths) → Grows v v2 24 → Grows w w2 24 →
+      (t : Shaped v2.slots w2.slots) → IsTable v2 w2 count2 t.0
   table_without left shape entries fewer counted nodes cells t =
       let only : t.0 ≡ left = same_shape v2.slots w2.slots t.0 left t.1 shape in
       record {
-        held = counted;
+        reading = counted.0.reading;
+        values = counted.0.values;
+        paths = counted.0.paths;
+        holds = counted.0.holds;
+        counted = counted.1;
         sized = one_less count count2 (len s.0.entries) (is_some removed) is.sized fewer
             ∙ ap (λ b. cond b (len s.0.entries - 1) (len s.0.entries)) (ap is_some removed_is)
             ∙ sym (len-remove listing_total s.0.entries key)
@@ -178,7 +182,7 @@ module _ {T : Type 0} (key : List Bool) (v v2 : Store Node) (w w2 : Store (Optio
     -- the shape that is left where the nodes stay
     pub kept_shape : IsShapeOf v2.slots w2.slots (record { entries = without_entry s.0.entries key; nodes = s.0.nodes })
     kept_shape =
-        let t = is.held.table in
+        let t = is in
         shape_taken t.reading t.values t.paths v w t.holds key v2 w2 s.0 s.1 (taken t.reading t.paths t.values t.holds)
 
     -- and no other
@@ -186,16 +190,16 @@ module _ {T : Type 0} (key : List Bool) (v v2 : Store Node) (w w2 : Store (Optio
     kept_only t = same_shape v2.slots w2.slots t.0 (record { entries = without_entry s.0.entries key; nodes = s.0.nodes }) t.1 kept_shape
 
     -- the number of entries that the arrays hold then
-    pub counted_without : count2 + one_if (is_some removed) ≡ count → IsCounted v2 w2 count2
+    pub counted_without : count2 + one_if (is_some removed) ≡ count →
+        (t : SomeTable v2 w2) × (count2 ≡ entry_count t.reading t.paths)
     counted_without fewer =
-        let t = is.held.table in
+        let t = is in
         let a = taken t.reading t.paths t.values t.holds in
         let had : one_if (is_some removed) ≡ one_if (is_some (t.values (path_of key) (bit_of key))) =
-        ap (λ o. one_if (is_some o)) (before t.reading t.paths t.values t.holds) in
-        record {
-          table = record { reading = a.later; values = with_value t.values (path_of key) (bit_of key) None; paths = t.paths; holds = a.holds };
-          counted = (let n = a.counted in let h = is.held.counted in omega (arith, n, h, had, fewer));
-        }
+        ap (λ o. one_if (is_some o)) (before t.reading t.paths t.values t.holds) in (
+          record { reading = a.later; values = with_value t.values (path_of key) (bit_of key) None; paths = t.paths; holds = a.holds },
+          (let n = a.counted in let h = is.counted in omega (arith, n, h, had, fewer)),
+        )
 
 -- a string's own node was reached, and x is the string's value bit
 module _ {T : Type 0} (b : List Bool) (len slot : ℕ) (node : Node) (v : Store Node) (at : IsReached b len (len / 5) node slot v) (x : ℕ)

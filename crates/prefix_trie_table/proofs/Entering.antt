@@ -1,14 +1,14 @@
 -- The block that a list enters when it loses an item, by tier and by size.
-use Rattle.std.proofs.Common.{◌≡◌, ◌≢◌, ℕ, zero, suc, ◌+◌, ◌-◌, ◌<◌, ◌≤◌, ◌==◌, ◌⊎◌, inl, inr, true, false, cond, List, [], ◌∷◌, length, get_or, nat_le, Option, None, Some, refl, sym, ap, ap₂, ◌∙◌, subst, arith, eq-eqb}
-use Rattle.std.proofs.lemmas.Bool.{cases_eq, cases_lt}
+use Rattle.std.proofs.Common.{◌≡◌, ◌≢◌, ℕ, zero, suc, ◌+◌, ◌-◌, ◌<◌, ◌≤◌, ◌==◌, inl, inr, true, false, cond, List, [], ◌∷◌, length, get_or, nat_le, refl, sym, ap, ◌∙◌, arith, eq-eqb}
+use Rattle.std.proofs.lemmas.Bool.{cases_eq}
 use Rattle.std.proofs.lemmas.Bool.Decides.{nat_tests}
 use Rattle.prefix_trie_bits.specs.Model.Blocks.{free_of, one_of, made_of}
 use Rattle.prefix_trie_table.specs.Layouts.{size_if_any, free_counts}
 use Rattle.prefix_trie_table.specs.Removals.{Shrinks}
-use Rattle.prefix_trie_table.specs.Store.{Tier, tier_for, tier_sizes, size_in, free_at, one_at, many_at, blocks_entered, tier_entered}
+use Rattle.prefix_trie_table.specs.Store.{Tier, tier_sizes, size_in, free_at, one_at, many_at, blocks_entered, tier_entered}
 use Rattle.prefix_trie_table.proofs.Needs.{all_apart, apart, same-tier}
 use Rattle.prefix_trie_table.proofs.Soundness.{tier_for_holds}
-use Rattle.prefix_trie_table.proofs.Turnovers.{many_here, many_other}
+use Rattle.prefix_trie_table.proofs.Turnovers.{many_other}
 use Rattle.std.proofs.lemmas.List.{length-map}
 
 -- ---- by tier

@@ -1,14 +1,15 @@
 -- How many entries the nodes have: what a change of one node does to it, and that the cells bound it.
 use Rattle.std.proofs.Common.{◌≡◌, ◌≢◌, ℕ, ◌+◌, ◌-◌, ◌<◌, ◌≤◌, ◌⊎◌, inl, inr, List, [], ◌∷◌, ◌++◌, length, length-append, length-take, take, drop, map, flat_map, replicate, sum_by, All, Option, None, Some, refl, sym, ap, ap₂, ◌∙◌, subst, arith}
 use Rattle.std.proofs.lemmas.List.Elements.{All-head, All-tail}
-use Rattle.std.proofs.lemmas.List.Sums.{sum_by-cons, sum_by-append}
-use Rattle.std.proofs.lemmas.List.Sorted.{sum_by-IsPermutation}
+use Rattle.std.proofs.lemmas.List.Sums.{sum_by-cons}
+use Rattle.prefix_trie_bits.specs.Model.Blocks.{Tiles, Block as Extent}
 use Rattle.prefix_trie_table.specs.declared.allocator.node.Node.{Node}
 use Rattle.prefix_trie_table.specs.Bitmaps.{bits, rank}
 use Rattle.prefix_trie_table.specs.Cells.{blank_node, cell_sizes}
 use Rattle.prefix_trie_table.specs.Runs.{run}
-use Rattle.prefix_trie_table.specs.Store.{Store, Block, Sound, IsTiling, HoldsItems, extent, free_extents, filled, held, size_in}
+use Rattle.prefix_trie_table.specs.Store.{Store, Block, Sound, HoldsItems, tier_sizes, extent, free_extents, filled, held, size_in}
 use Rattle.prefix_trie_table.specs.Forest.{times, without, own_count, entry_count, CellsHold, with_node, with_child, value_blocks, value_blocks_of}
+use Rattle.prefix_trie_table.proofs.Tilings.{blocks_sum}
 use Rattle.prefix_trie_table.proofs.BitLists.{rank-all, rank-zero-all}
 use Rattle.prefix_trie_table.proofs.PathSums.{sum_out, sum_same}
 use Rattle.prefix_trie_table.proofs.Trees.{times_out_same}
@@ -66,14 +67,14 @@ items_count-append : {S : Type 0} (xs ys : List (Block S)) → items_count (xs +
 items_count-append [] ys = omega arith
 items_count-append (x ∷ xs) ys = omega (arith, items_count-append xs ys)
 
--- a block's size is its second part
-abbrev size_of_extent : ℕ × ℕ → ℕ
-size_of_extent e = e.1
+-- how many slots a block has
+abbrev size_of_extent : Extent → ℕ
+size_of_extent e = e.size
 
-tiling-sum : (first end : ℕ) (es : List (ℕ × ℕ)) → IsTiling first es end → first + sum_by size_of_extent es ≡ end
-tiling-sum first end [] t = omega (arith, t)
-tiling-sum first end (e ∷ es) t =
-    let rest : first + e.1 + sum_by size_of_extent es ≡ end = tiling-sum (first + e.1) end es t.2 in
+tiling-sum : (sizes : List ℕ) (first end : ℕ) (es : List Extent) → Tiles sizes first es end → first + sum_by size_of_extent es ≡ end
+tiling-sum sizes first end [] t = omega (arith, t)
+tiling-sum sizes first end (e ∷ es) t =
+    let rest : first + e.size + sum_by size_of_extent es ≡ end = tiling-sum sizes (first + e.size) end es t.2 in
     omega (arith, sum_by-cons size_of_extent e es, rest)
 
 module _ {S : Type 0} (vacant : S) (slots : List S) where
@@ -99,12 +100,10 @@ module _ {S : Type 0} (vacant : S) (slots : List S) where
 -- the blocks in use hold no more items than there are slots
 pub items_bound : {S : Type 0} (vacant : S) (live : List (Block S)) (v : Store S) → Sound vacant live v → items_count live ≤ length v.slots
 items_bound vacant live v s =
-    let all = sum_by-IsPermutation size_of_extent s.tiling (map extent live ++ free_extents v.tiers) s.rearranged in
     omega (
       arith,
-      tiling-sum v.first (length v.slots) s.tiling s.tiles,
-      all,
-      sum_by-append size_of_extent (map extent live) (free_extents v.tiers),
+      tiling-sum (tier_sizes v.tiers) v.first (length v.slots) s.blocks.blocks s.blocks.tiles,
+      blocks_sum (tier_sizes v.tiers) v.first (length v.slots) (map extent live) (free_extents v.tiers) s.blocks size_of_extent,
       items-sum vacant v.slots live s.held,
     )
 

@@ -1,5 +1,5 @@
 -- What an insertion asks for is what the model says of the table's entries, nodes and layout.
-use Rattle.std.proofs.Common.{◌≡◌, ℕ, ◌+◌, ◌-◌, ◌*◌, ◌/◌, ◌%◌, ◌<◌, ◌≤◌, inl, inr, Bool, true, false, cond, ◌&&◌, List, [], ◌∷◌, ◌++◌, length, take, replicate, Option, None, Some, is_some, Result, refl, sym, ap, ap₂, ◌∙◌, subst, arith, eq-eqb, length-take-le, append-nil}
+use Rattle.std.proofs.Common.{◌≡◌, ℕ, ◌+◌, ◌-◌, ◌*◌, ◌/◌, ◌%◌, ◌<◌, ◌≤◌, inl, inr, Bool, true, false, cond, ◌&&◌, List, [], ◌++◌, length, take, replicate, Option, None, Some, is_some, Result, refl, sym, ap, ap₂, ◌∙◌, subst, arith, eq-eqb, length-take-le, append-nil}
 use Rattle.std.proofs.lemmas.Bool.{false≢true, cases_Bool, cases_lt}
 use Rattle.std.proofs.lemmas.List.{take-take}
 use Rattle.std.specs.Prelude.{option_to_list}
@@ -12,7 +12,7 @@ use Rattle.prefix_trie_bits.proofs.Model.Members.{is-same_string}
 use Rattle.prefix_trie_bits.proofs.Model.Ways.{none_needed, blocks_needed}
 use Rattle.prefix_trie_table.specs.declared.allocator.node.Node.{Node}
 use Rattle.prefix_trie_table.specs.Asked.{nodes_needed, cells_needed, AtEnd, ObtainsBoth}
-use Rattle.prefix_trie_table.specs.Tables.{IsTableOf, ForHeld, own_value}
+use Rattle.prefix_trie_table.specs.Tables.{IsTable, ForHeld, own_value}
 use Rattle.prefix_trie_table.specs.Bitmaps.{rank}
 use Rattle.prefix_trie_table.specs.Cells.{node_sizes, cell_sizes}
 use Rattle.prefix_trie_table.specs.Digits.{path_of}
@@ -175,12 +175,12 @@ pub record Foreseen {T E : Type 0} (for_limit for_memory : E → Type 0) (v v2 :
 
 -- so does that of a new key
 module _ {T E : Type 0} (for_limit for_memory : E → Type 0) (b : List Bool) (len : ℕ) (v v2 : Store Node) (w w2 : Store (Option T)) (count : ℕ)
-    (s : Shaped v.slots w.slots) (is : IsTableOf v w count s.0) (sized : Sized v.slots) (r : Result (Option T) E) where
+    (s : Shaped v.slots w.slots) (is : IsTable v w count s.0) (sized : Sized v.slots) (r : Result (Option T) E) where
   pub obtained : ForHeld v w (λ reading paths values. own_value values b len ≡ None →
       AtEnd reading b len (λ node level. ObtainsBoth for_limit for_memory r v v2 w w2 (nodes_needed v node level len) (cells_needed w node level len))) →
       contains_key s.0.entries (take len b) ≡ false → Foreseen for_limit for_memory v v2 w w2 s.0 sized r (take len b)
   obtained asked new =
-      let t = is.held.table in
+      let t = is in
       let none : own_value t.values b len ≡ None =
       sym (shape_entries t.reading t.values t.paths v w t.holds s.0 s.1 (take len b)) ∙ is_none-None (get s.0.entries (take len b)) new in
       let a = asked t.reading t.paths t.values t.holds none in

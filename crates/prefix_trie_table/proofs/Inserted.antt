@@ -1,5 +1,5 @@
 -- What an insertion leaves of how a table is stored, in the model's words.
-use Rattle.std.proofs.Common.{◌≡◌, ℕ, ◌+◌, ◌-◌, ◌*◌, ◌<◌, ◌≤◌, inl, inr, Bool, true, List, length, nat_lt, Option, Result, Ok, Err, MatchResult, refl, sym, ap, ◌∙◌, subst, arith, ltb-true}
+use Rattle.std.proofs.Common.{◌≡◌, ℕ, ◌+◌, ◌<◌, ◌≤◌, inl, inr, Bool, true, List, length, nat_lt, Option, Result, Ok, Err, MatchResult, refl, sym, ap, ◌∙◌, subst, arith, ltb-true}
 use Rattle.std.specs.Prelude.{filter_map, option_to_list}
 use Rattle.std.proofs.lemmas.Bool.{cases_eq}
 use Rattle.std.proofs.lemmas.List.{length-map}
@@ -15,8 +15,9 @@ use Rattle.prefix_trie_table.specs.declared.allocator.node.Node.{Node}
 use Rattle.prefix_trie_table.specs.Asked.{lacking_in, LacksSome, LacksWithin, Made}
 use Rattle.prefix_trie_table.specs.Cells.{node_sizes, cell_sizes}
 use Rattle.prefix_trie_table.specs.Layouts.{Sized, free_counts}
-use Rattle.prefix_trie_table.specs.Store.{Store, tier_at, tier_sizes, size_in, free_at, slots_of, many_at}
-use Rattle.prefix_trie_table.specs.Tables.{IsTableOf}
+use Rattle.prefix_trie_table.specs.Store.{Store, tier_sizes, size_in, slots_of, many_at}
+use Rattle.prefix_trie_table.specs.Tables.{IsTable}
+use Rattle.prefix_trie_table.proofs.Invariant.{some_table}
 use Rattle.prefix_trie_table.proofs.BySize.{IsCut, lacking_is, blocks_made, blocks_at_most, nodes_cut, cells_cut}
 use Rattle.prefix_trie_table.proofs.Foreseen.{Foreseen}
 use Rattle.prefix_trie_table.proofs.Needs.{AreNeeded, slots_needed}
@@ -95,7 +96,7 @@ module _ {S : Type 0} (sizes : List ℕ) (v v2 : Store S) (used later : Sizes) (
   needed_at_most m fewer made = blocks_at_most sizes v v2 used later c d (lacking_of sizes (free_counts v.tiers) needed) (λ k inside.
       (let a = made.of_tier k in let b = lacking_is sizes v used c needed n each k inside in let f = fewer k in (omega (arith, a), omega (arith, a, b, f))))
 
-module _ {T : Type 0} (v v2 : Store Node) (w w2 : Store (Option T)) (count count2 : ℕ) (s s2 : State T) (is : IsTableOf v w count s) (left : IsTableOf v2 w2 count2 s2)
+module _ {T : Type 0} (v v2 : Store Node) (w w2 : Store (Option T)) (count count2 : ℕ) (s s2 : State T) (is : IsTable v w count s) (left : IsTable v2 w2 count2 s2)
     (sized : Sized v.slots) (later : Sized v2.slots) (q : List Bool) where
   -- what an insertion of a new key leaves
   pub inserted_in : (r : Result (Option T) (Refused T)) →
@@ -105,10 +106,10 @@ module _ {T : Type 0} (v v2 : Store Node) (w w2 : Store (Option T)) (count count
       MatchResult r (λ _. InsertsInStorage s q (storage_of v w sized) (storage_of v2 w2 later))
       (λ refused. RefusesInStorage s q refused.cause (storage_of v w sized) (storage_of v2 w2 later))
   inserted_in (Ok before) f sizes =
-      let a = nodes_cut v w is.held.table sized in
-      let b = nodes_cut v2 w2 left.held.table later in
-      let c = cells_cut v w is.held.table sized in
-      let d = cells_cut v2 w2 left.held.table later in
+      let a = nodes_cut v w (some_table is) sized in
+      let b = nodes_cut v2 w2 (some_table left) later in
+      let c = cells_cut v w (some_table is) sized in
+      let d = cells_cut v2 w2 (some_table left) later in
       let o = f.obtains in
       record {
         node_slots = longer node_sizes v v2 sized.0 later.0 a b _ f.nodes f.nodes_are o.nodes_made;
@@ -119,10 +120,10 @@ module _ {T : Type 0} (v v2 : Store Node) (w w2 : Store (Option T)) (count count
         value_blocks_made = needed_made cell_sizes w w2 sized.1.0 later.1.0 c d _ f.cells f.cells_are o.cells_made;
       }
   inserted_in (Err refused) f sizes =
-      let a = nodes_cut v w is.held.table sized in
-      let b = nodes_cut v2 w2 left.held.table later in
-      let c = cells_cut v w is.held.table sized in
-      let d = cells_cut v2 w2 left.held.table later in
+      let a = nodes_cut v w (some_table is) sized in
+      let b = nodes_cut v2 w2 (some_table left) later in
+      let c = cells_cut v w (some_table is) sized in
+      let d = cells_cut v2 w2 (some_table left) later in
       let o = f.obtains in
       let nodes_later : AreNeeded child_block_sizes (filter_map (child_block_needed s.nodes later.0 q) (nodes_above q)) f.nodes =
       subst (λ m. AreNeeded child_block_sizes (filter_map (child_block_needed s.nodes m q) (nodes_above q)) f.nodes) (sym sizes.0) f.nodes_are in

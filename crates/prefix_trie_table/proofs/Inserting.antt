@@ -6,10 +6,9 @@ use Rattle.std.proofs.lemmas.Bool.Decides.{nat_tests}
 use Rattle.prefix_trie_table.specs.declared.allocator.node.Node.{Node}
 use Rattle.prefix_trie_table.specs.Bitmaps.{has_bit, rank}
 use Rattle.prefix_trie_table.specs.Store.{Tier, Store, Sound, Block, block, HasList, Prepared, tier_for, tier_sizes}
-use Rattle.prefix_trie_table.specs.Forest.{IsSlot, NodesHold, CellsHold, Holds, Deepest, AtValues, has_value}
+use Rattle.prefix_trie_table.specs.Forest.{IsSlot, NodesHold, CellsHold, Holds, Deepest, has_value}
 use Rattle.prefix_trie_table.specs.Cells.{blank_node, node_at, node_sizes, cell_sizes}
-use Rattle.prefix_trie_table.proofs.Tilings.{all_within}
-use Rattle.prefix_trie_table.proofs.Soundness.{tier_of_block}
+use Rattle.prefix_trie_table.proofs.Soundness.{tier_of_block, first_place}
 use Rattle.prefix_trie_table.proofs.Spending.{tier_for_sizes}
 use Rattle.prefix_trie_table.proofs.BitLists.{rank-more, rank-lacks}
 use Rattle.prefix_trie_table.specs.Digits.{path_of, bit_of}
@@ -24,7 +23,7 @@ pub nodes_prepared : (reading : List ℕ → Option Node) (paths : List (List �
     Prepared v x → ((live : List (Block Node)) → Sound blank_node live v → Sound blank_node live x) → NodesHold node_sizes reading paths x
 nodes_prepared reading paths v x hold done sound = record {
   rooted = hold.rooted ∙ ap Some (sym (done.kept 0 blank_node
-      (let w = (all_within v.first (length v.slots) hold.sound.tiling hold.sound.tiles).1 in let f = hold.first_is in omega arith)));
+      (let w = first_place blank_node _ v hold.sound in let f = hold.first_is in omega arith)));
   linked = hold.linked;
   listed = hold.listed;
   sound = sound _ hold.sound;
@@ -134,20 +133,3 @@ module _ (b : List Bool) (len level slot : ℕ) (node : Node) (v : Store Node) (
       | inr e ↦ let less : len < 5 * level + 5 = grind (arith, nat_tests) in
           no_value_at b len level slot node v at reading values paths w holds less (lacks less)
     ]
-
-    -- what the calls that change its node ask
-    pub reached_values : AtValues v w slot
-    reached_values =
-        let deep = at.deepest reading paths holds.hold in
-        record {
-          reading = reading;
-          paths = paths;
-          values = values;
-          path = _;
-          node = deep.node;
-          hold = holds.hold;
-          cells = holds.cells;
-          stands =
-              deep.stands;
-          is = deep.is;
-        }

@@ -5,7 +5,7 @@ use Rattle.prefix_trie_bits.specs.Model.Blocks.{Sizes, used_of, free_of, LosesNo
 use Rattle.prefix_trie_table.specs.declared.allocator.node.Node.{Node}
 use Rattle.prefix_trie_table.specs.Cells.{node_sizes, cell_sizes}
 use Rattle.prefix_trie_table.specs.Store.{Tier, Store, KeepsMade, tier_at, tier_sizes, size_in, free_at}
-use Rattle.prefix_trie_table.specs.Forest.{IsTable}
+use Rattle.prefix_trie_table.specs.Forest.{SomeTable}
 use Rattle.prefix_trie_table.specs.Layouts.{Sized, free_counts}
 use Rattle.prefix_trie_table.proofs.BlockCounts.{nodes_made, cells_made}
 use Rattle.prefix_trie_table.proofs.Needs.{all_apart, nodes_apart, cells_apart}
@@ -32,7 +32,7 @@ loses_none sizes seven differ ts us m n are later before after made = λ size th
       free_is us sizes later seven differ there.0 inside,
     ))
 
-module _ {T : Type 0} (v v2 : Store Node) (w w2 : Store (Option T)) (before : IsTable v w) (after : IsTable v2 w2) (x : Sized v.slots) (y : Sized v2.slots) where
+module _ {T : Type 0} (v v2 : Store Node) (w w2 : Store (Option T)) (before : SomeTable v w) (after : SomeTable v2 w2) (x : Sized v.slots) (y : Sized v2.slots) where
   -- the same of two tables
   pub kept_blocks : KeepsMade v v2 → KeepsMade w w2 → KeepsBlocks (layout_of v.slots v.tiers w.tiers x) (layout_of v2.slots v2.tiers w2.tiers y)
   kept_blocks nodes cells =

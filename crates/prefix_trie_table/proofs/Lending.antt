@@ -17,12 +17,13 @@ use Rattle.prefix_trie_table.specs.Bitmaps.{has_bit, rank}
 use Rattle.prefix_trie_table.specs.Cells.{node_sizes, cell_sizes}
 use Rattle.prefix_trie_table.specs.Digits.{path_of, bit_of}
 use Rattle.prefix_trie_table.specs.Store.{Store}
-use Rattle.prefix_trie_table.specs.Forest.{Holds, IsTable, CellsHold, with_node, with_value, has_value}
+use Rattle.prefix_trie_table.specs.Forest.{Holds, SomeTable, CellsHold, with_node, with_value, has_value}
 use Rattle.prefix_trie_table.specs.Matching.{IsHeld, NoneHeld, LongestHeld, SeatAt, match_seat, cell_slot}
 use Rattle.prefix_trie_table.specs.Slots.{with_slot, with_cell, HasValue, IsSeat, SeatOf}
 use Rattle.prefix_trie_table.specs.Layouts.{Sized, Sized-prop}
 use Rattle.prefix_trie_table.specs.Shape.{Contents, with_value_at, with_stored_at, with_match_at, with_longest_at, IsShapeOf, Shaped, same_shape}
-use Rattle.prefix_trie_table.specs.Tables.{IsTableOf}
+use Rattle.prefix_trie_table.specs.Tables.{IsTable}
+use Rattle.prefix_trie_table.proofs.Invariant.{some_table}
 use Rattle.prefix_trie_table.proofs.Keys.{same_key}
 use Rattle.prefix_trie_table.proofs.Adding.{with_same}
 use Rattle.prefix_trie_table.proofs.Matched.{cell_some, longest_at, longest_there, longest_none}
@@ -31,7 +32,7 @@ use Rattle.prefix_trie_table.proofs.Shapes.{shape_of, shape_nodes, shape_entries
 use Rattle.prefix_trie_table.proofs.Trees.{is_none-None}
 use Rattle.prefix_trie_table.proofs.Values.{value_stands, value_replaced}
 
-module _ {T : Type 0} (v : Store Node) (w : Store (Option T)) (t : IsTable v w) (q : List Bool) where
+module _ {T : Type 0} (v : Store Node) (w : Store (Option T)) (t : SomeTable v w) (q : List Bool) where
   -- the cell of a seat
   module _ (seat : Seat) (at : IsSeat t.reading (path_of q) (bit_of q) seat) where
     pub cell_there : (seat.start + seat.place < length w.slots) × (get_or w.slots (seat.start + seat.place) None ≡ t.values (path_of q) (bit_of q))
@@ -66,12 +67,13 @@ seen_of v w s z = record {
   nodes = s.nodes;
   room = record { limit = v.limit; node_slots = length v.slots; cell_slots = length w.slots };
   layout = layout_of v.slots v.tiers w.tiers z;
+  build = v.slots;
 }
 
 -- a value lent out of a table
-module _ {T : Type 0} (v : Store Node) (w : Store (Option T)) (count : ℕ) (s : Shaped v.slots w.slots) (is : IsTableOf v w count s.0) (q : List Bool) where
-  abbrev table : IsTable v w
-  table = is.held.table
+module _ {T : Type 0} (v : Store Node) (w : Store (Option T)) (count : ℕ) (s : Shaped v.slots w.slots) (is : IsTable v w count s.0) (q : List Bool) where
+  abbrev table : SomeTable v w
+  table = some_table is
 
   pub stored_is : get s.0.entries q ≡ table.values (path_of q) (bit_of q)
   stored_is = shape_entries table.reading table.values table.paths v w table.holds s.0 s.1 q
@@ -96,18 +98,14 @@ module _ {T : Type 0} (v : Store Node) (w : Store (Option T)) (count : ℕ) (s :
   pub left_only : (o : Option Seat) → IfSome o (λ seat. IsSeat table.reading (path_of q) (bit_of q) seat) → (x : T) → (t : Shaped v.slots (with_cell w o x).slots) → t.0 ≡ state_left o x
   left_only o at x t = same_shape v.slots (with_cell w o x).slots t.0 (state_left o x) t.1 (left_is o at x)
 
-  left_table : (o : Option Seat) → IfSome o (λ seat. IsSeat table.reading (path_of q) (bit_of q) seat) → (x : T) → IsTableOf v (with_cell w o x) count (state_left o x)
+  left_table : (o : Option Seat) → IfSome o (λ seat. IsSeat table.reading (path_of q) (bit_of q) seat) → (x : T) → IsTable v (with_cell w o x) count (state_left o x)
   left_table None at x = is
   left_table (Some seat) at x = record {
-    held = record {
-      table = record {
-        reading = table.reading;
-        values = with_value table.values (path_of q) (bit_of q) (Some x);
-        paths = table.paths;
-        holds = written v w table q seat at x;
-      };
-      counted = is.held.counted;
-    };
+    reading = table.reading;
+    values = with_value table.values (path_of q) (bit_of q) (Some x);
+    paths = table.paths;
+    holds = written v w table q seat at x;
+    counted = is.counted;
     sized = is.sized ∙ ap (λ b. cond b (len s.0.entries) (len s.0.entries + 1)) (sym (ap is_some stored_is ∙ value_there v w table q seat at))
         ∙ sym (len-insert listing_total s.0.entries q x);
     one_limit = is.one_limit;
@@ -117,8 +115,8 @@ module _ {T : Type 0} (v : Store Node) (w : Store (Option T)) (count : ℕ) (s :
   }
 
   -- and are a table
-  pub table_left : (o : Option Seat) → IfSome o (λ seat. IsSeat table.reading (path_of q) (bit_of q) seat) → (x : T) → (t : Shaped v.slots (with_cell w o x).slots) → IsTableOf v (with_cell w o x) count t.0
-  table_left o at x t = subst (λ (y : State T). IsTableOf v (with_cell w o x) count y) (sym (left_only o at x t)) (left_table o at x)
+  pub table_left : (o : Option Seat) → IfSome o (λ seat. IsSeat table.reading (path_of q) (bit_of q) seat) → (x : T) → (t : Shaped v.slots (with_cell w o x).slots) → IsTable v (with_cell w o x) count t.0
+  table_left o at x t = subst (λ (y : State T). IsTable v (with_cell w o x) count y) (sym (left_only o at x t)) (left_table o at x)
 
   -- the seat's value can be lent
   pub can_lend : (o : Option Seat) → IfSome o (λ seat. IsSeat table.reading (path_of q) (bit_of q) seat) → IfSome o (λ seat. HasValue w seat)
@@ -146,10 +144,10 @@ module _ {T : Type 0} (v : Store Node) (w : Store (Option T)) (count : ℕ) (s :
   value_lent (Some seat) at r e = e ∙ (cell_there v w table q seat at).1 ∙ sym stored_is
 
   -- the table as it was, by any of its shapes
-  pub table_kept : (u : Shaped v.slots w.slots) → IsTableOf v w count u.0
-  table_kept u = subst (λ (y : State T). IsTableOf v w count y) (same_shape v.slots w.slots s.0 u.0 s.1 u.1) is
+  pub table_kept : (u : Shaped v.slots w.slots) → IsTable v w count u.0
+  table_kept u = subst (λ (y : State T). IsTable v w count y) (same_shape v.slots w.slots s.0 u.0 s.1 u.1) is
 
-  written_seen : (z : Sized v.slots) (o : Option Seat) → IfSome o (λ seat. IsSeat table.reading (path_of q) (bit_of q) seat) → (seat : Seat) (x : T) → o ≡ Some seat → (t : Shaped v.slots (with_cell w o x).slots) (y : Sized v.slots) →
+  pub written_seen : (z : Sized v.slots) (o : Option Seat) → IfSome o (λ seat. IsSeat table.reading (path_of q) (bit_of q) seat) → (seat : Seat) (x : T) → o ≡ Some seat → (t : Shaped v.slots (with_cell w o x).slots) (y : Sized v.slots) →
       seen_of v (with_cell w o x) t.0 y ≡ with_value_at (seen_of v w s.0 z) q x
   written_seen z None at seat x e t y = absurd (false≢true (ap is_some e))
   written_seen z (Some there) at seat x e t y =
@@ -159,6 +157,7 @@ module _ {T : Type 0} (v : Store Node) (w : Store (Option T)) (count : ℕ) (s :
         nodes = (left i).nodes;
         room = record { limit = v.limit; node_slots = length v.slots; cell_slots = length-set w.slots (there.start + there.place) (Some x) i };
         layout = layout_of v.slots v.tiers w.tiers (Sized-prop v.slots y z i);
+        build = v.slots;
       }
 
   -- where a value is lent only at a seat, the table ends with another value at q, or as it is
@@ -176,7 +175,7 @@ module _ {T : Type 0} (v : Store Node) (w : Store (Option T)) (count : ℕ) (s :
       λ i. read_of (ghost_name_of r) (λ x. (written_seen z (Some seat) at seat x refl (t x) (y x) ∙ same seat x refl) i) (kept i)
 
 -- the value of the longest match lent
-module _ {T : Type 0} (v : Store Node) (w : Store (Option T)) (t : IsTable v w) (s : State T) (is : IsShapeOf v.slots w.slots s) (b : List Bool) (len : ℕ) (long : len ≤ length b)
+module _ {T : Type 0} (v : Store Node) (w : Store (Option T)) (t : SomeTable v w) (s : State T) (is : IsShapeOf v.slots w.slots s) (b : List Bool) (len : ℕ) (long : len ≤ length b)
     (n : ℕ) where
   abbrev asked : List Bool
   asked = take len b

@@ -14,18 +14,21 @@ pub mod Paths
 pub mod Starts
 pub mod Keys
 pub mod Trees
+pub mod Invariant
 pub mod BySize
 pub mod Children
 pub mod Values
 pub mod Shapes
 pub mod Going
 pub mod Finding
+pub mod Locating
 pub mod Counted
 pub mod PathLists
 pub mod PathSums
 pub mod EntryCounts
 pub mod Adding
 pub mod Growing
+pub mod WayEnds
 pub mod Inserted
 pub mod Inserting
 pub mod Rooms
@@ -46,6 +49,7 @@ pub mod Walking
 pub mod Covers
 pub mod Covered
 pub mod Lending
+pub mod Located
 pub mod SlotSums
 pub mod NodeCounts
 pub mod Settling
@@ -76,4 +80,4 @@ pub mod Stepped
 pub mod Still
 pub mod Between
 pub mod Housed
-pub mod Tiled
+pub mod Stated

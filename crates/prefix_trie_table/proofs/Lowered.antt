@@ -22,10 +22,12 @@ use Rattle.prefix_trie_table.specs.Bitmaps.{has_bit, rank}
 use Rattle.prefix_trie_table.specs.Cells.{node_at, node_sizes, cell_sizes}
 use Rattle.prefix_trie_table.specs.Digits.{path_of}
 use Rattle.prefix_trie_table.specs.Store.{Store, KeepsMade}
-use Rattle.prefix_trie_table.specs.Forest.{read, child_slot, Holds, IsTable, IsSlot, at_child, NodesHold, entry_count, without, lacking_child}
+use Rattle.prefix_trie_table.specs.Forest.{read, child_slot, Holds, SomeTable, IsSlot, at_child, NodesHold, entry_count, without, lacking_child}
 use Rattle.prefix_trie_table.specs.Removals.{IsBare, IsStocked, ChildDropped, Drops, none, more}
-use Rattle.prefix_trie_table.specs.Walks.{IsTree, IsPlaceOf}
-use Rattle.prefix_trie_table.specs.Retaining.{IsTrie, IsSite, Needs, RetainsTo, Lasts, ValuesBetween, ChildrenBetween}
+use Rattle.prefix_trie_table.specs.Walks.{IsPlaceOf}
+use Rattle.prefix_trie_table.specs.Retaining.{IsSite, Needs, RetainsTo, Lasts, ValuesBetween, ChildrenBetween}
+use Rattle.prefix_trie_table.specs.Tables.{IsTrie}
+use Rattle.prefix_trie_table.proofs.Invariant.{some_table}
 use Rattle.prefix_trie_table.proofs.Between.{between_then, dropped_values_between, dropped_children_between}
 use Rattle.prefix_trie_table.proofs.AskedBelow.{child_asked, needed_below}
 use Rattle.prefix_trie_table.proofs.Bare.{some_bit}
@@ -36,7 +38,7 @@ use Rattle.prefix_trie_table.proofs.Placing.{step_below, string_at}
 use Rattle.prefix_trie_table.proofs.Placed.{value_iff, child_iff, nothing_at, none_below_it}
 use Rattle.prefix_trie_table.proofs.Pruning.{drops_cells, drops_count}
 use Rattle.prefix_trie_table.proofs.Settling.{Settles-nodes}
-use Rattle.prefix_trie_table.proofs.Retained.{tree_of, are_nodes, read_held, here_length, here_whole, here_levels, path_levels, site_stays}
+use Rattle.prefix_trie_table.proofs.Retained.{are_nodes, read_held, here_length, here_whole, here_levels, path_levels, site_stays}
 use Rattle.prefix_trie_table.proofs.Shapes.{reads_node, shape_of, shape_entries}
 use Rattle.prefix_trie_table.specs.Shape.{IsShapeOf}
 use Rattle.prefix_trie_table.proofs.Asked.{no_or_yes}
@@ -53,9 +55,6 @@ module _ {K T : Type 0} (IsKey : K → Type 0) (bits : K → List Bool) (width :
   whole : length (take p.depth (bits p.key)) % 5 ≡ 0
   whole = here_whole IsKey bits width v p n at long
 
-  tree : IsTree width v (record { cells = w; shape = s })
-  tree = tree_of width count v w s trie
-
   set_there : has n.child_bitmap (number t) ≡ true
   set_there = ap (has n.child_bitmap) (sym c_is) ∙ set
 
@@ -66,16 +65,16 @@ module _ {K T : Type 0} (IsKey : K → Type 0) (bits : K → List Bool) (width :
   slot_same = ap (λ k. n.child_block + k) (ap (rank n.child_bitmap) (sym c_is) ∙ rank-ones n.child_bitmap c (let h = child_small in omega (arith, h)) ∙ sym place_is)
 
   pub lower_inside : n.child_block + place < length v.slots
-  lower_inside = subst (λ k. k < length v.slots) slot_same (child_inside width v (record { cells = w; shape = s }) tree (take p.depth (bits p.key)) n whole at.stands t five set_there)
+  lower_inside = subst (λ k. k < length v.slots) slot_same (child_inside width v (record { count = count; cells = w; shape = s }) trie (take p.depth (bits p.key)) n whole at.stands t five set_there)
 
   pub lower_few : has_bit (node_at v.slots (n.child_block + place)).value_bitmap 31 ≡ false
   lower_few =
       subst (λ k. has_bit (node_at v.slots k).value_bitmap 31 ≡ false) slot_same
-      (child_few width v (record { cells = w; shape = s }) tree (take p.depth (bits p.key)) n whole at.stands t five set_there)
+      (child_few width v (record { count = count; cells = w; shape = s }) trie (take p.depth (bits p.key)) n whole at.stands t five set_there)
 
   pub lower_fits : p.depth + 5 ≤ width
   lower_fits =
-      let h = child_fits width v (record { cells = w; shape = s }) tree (take p.depth (bits p.key)) n whole at.stands t five set_there in
+      let h = child_fits width v (record { count = count; cells = w; shape = s }) trie (take p.depth (bits p.key)) n whole at.stands t five set_there in
       omega (arith, h, here_length IsKey bits width v p n at long)
 
   way : path_of (take p.depth (bits p.key) ++ t) ≡ path_of (take p.depth (bits p.key)) ++ c ∷ []
@@ -99,7 +98,7 @@ module _ {K T : Type 0} (IsKey : K → Type 0) (bits : K → List Bool) (width :
       within = (let f = lower_fits in omega (arith, f, depth_is));
       stands =
           ap (λ u. read v.slots (path_of u)) lower_string
-          ∙ child_is width v (record { cells = w; shape = s }) tree (take p.depth (bits p.key)) n whole at.stands t five set_there
+          ∙ child_is width v (record { count = count; cells = w; shape = s }) trie (take p.depth (bits p.key)) n whole at.stands t five set_there
           ∙ ap (λ k. Some (node_at v.slots k)) slot_same ∙ ap Some (sym lower_is);
       slot_is =
           subst (λ k. IsSlot (read v.slots) (path_of (take b.depth (bits b.key))) k)
@@ -116,7 +115,7 @@ module _ {K T : Type 0} (IsKey : K → Type 0) (bits : K → List Bool) (width :
         subst (MayAskInOrder asks accepts f)
         (append-nil (listing_at_place s.entries (take p.depth (bits p.key)) t) ∙ listing_at_child s.entries (take p.depth (bits p.key)) t five
         ∙ ap (listing_below s.entries) (sym lower_string)
-        ∙ sym (all_places width v (record { cells = w; shape = s }) tree (take b.depth (bits b.key)) lower (here_whole IsKey bits width v b lower lower_site long_b) lower_site.stands)
+        ∙ sym (all_places width v (record { count = count; cells = w; shape = s }) trie (take b.depth (bits b.key)) lower (here_whole IsKey bits width v b lower lower_site long_b) lower_site.stands)
         ∙ ap (listing_at_places s.entries (take b.depth (bits b.key))) (sym all)) may
 
     -- what the asking below left
@@ -167,7 +166,7 @@ module _ {K T : Type 0} (IsKey : K → Type 0) (bits : K → List Bool) (width :
       stocked_needed (inl some) =
           let bit = some_bit left.value_bitmap some in
           let within = has_bit-below left.value_bitmap bit.0 bit.1 in
-          let last = few_at width v2 (record { cells = w2; shape = to.after }) (tree_of width count2 v2 w2 to.after to.trie) (path_of (take b.depth (bits b.key))) left later.stands in
+          let last = few_at width v2 (record { count = count2; cells = w2; shape = to.after }) to.trie (path_of (take b.depth (bits b.key))) left later.stands in
           let small : bit.0 < 31 = low bit.0 within (λ e. false≢true (sym last ∙ ap (has_bit left.value_bitmap) (sym e) ∙ bit.1)) in
           let r = string_at bit.0 small in
           record {
@@ -210,8 +209,8 @@ module _ {K T : Type 0} (IsKey : K → Type 0) (bits : K → List Bool) (width :
           IsSlot reading q (p.slot.start + p.slot.place) → reading q ≡ Some k → reading (q ++ c ∷ []) ≡ Some leaf → rank leaf.child_bitmap 32 ≡ 0 →
           ChildDropped reading paths q c k m v2 v3)
           (limit_is : v3.limit ≡ v2.limit) (longer : length v2.slots ≤ length v3.slots) (inside : length v2.slots ≤ v2.limit → length v3.slots ≤ v3.limit) where
-        abbrev table2 : IsTable v2 w2
-        table2 = to.trie.table.held.table
+        abbrev table2 : SomeTable v2 w2
+        table2 = some_table to.trie.table
 
         abbrev here : List ℕ
         here = path_of (take p.depth (bits p.key))
@@ -236,7 +235,7 @@ module _ {K T : Type 0} (IsKey : K → Type 0) (bits : K → List Bool) (width :
 
         counted3 : count2 ≡ entry_count (lacking_child (read v2.slots) here m c) (without (here ++ c ∷ []) table2.paths)
         counted3 =
-            to.trie.table.held.counted
+            to.trie.table.counted
             ∙ ap (λ (h : List ℕ → Option Node). entry_count h table2.paths) (λ i q. sym (reads_node table2.reading table2.values table2.paths v2 w2 table2.holds q) i)
             ∙ sym (drops_count (read v2.slots) table2.paths (lacking_child (read v2.slots) here m c) (without (here ++ c ∷ []) table2.paths) drops)
 
@@ -278,10 +277,11 @@ module _ {K T : Type 0} (IsKey : K → Type 0) (bits : K → List Bool) (width :
         trie3 : IsTrie width count2 v3 w2 state3
         trie3 = record {
           table = record {
-            held = record {
-              table = record { reading = lacking_child (read v2.slots) here m c; values = table2.values; paths = without (here ++ c ∷ []) table2.paths; holds = held3 };
-              counted = counted3;
-            };
+            reading = lacking_child (read v2.slots) here m c;
+            values = table2.values;
+            paths = without (here ++ c ∷ []) table2.paths;
+            holds = held3;
+            counted = counted3;
             sized = to.trie.table.sized;
             cells_first = to.trie.table.cells_first;
             one_limit = to.trie.table.one_limit ∙ sym limit_is;

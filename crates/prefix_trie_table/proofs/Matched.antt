@@ -18,9 +18,10 @@ use Rattle.prefix_trie_table.specs.Bitmaps.{has_bit}
 use Rattle.prefix_trie_table.specs.Cells.{node_sizes, cell_sizes}
 use Rattle.prefix_trie_table.specs.Digits.{path_of, bit_of}
 use Rattle.prefix_trie_table.specs.Store.{Store}
-use Rattle.prefix_trie_table.specs.Forest.{IsTable, IsEnd, has_value}
-use Rattle.prefix_trie_table.specs.Matching.{holds_value, HasNodes, IsHeld, NoneHeld, cell_slot}
+use Rattle.prefix_trie_table.specs.Forest.{SomeTable, SomeNodes, IsEnd, has_value}
+use Rattle.prefix_trie_table.specs.Matching.{holds_value, LackLastBit, IsHeld, NoneHeld, cell_slot}
 use Rattle.prefix_trie_table.specs.Shape.{IsShapeOf}
+use Rattle.prefix_trie_table.proofs.Invariant.{some_nodes}
 use Rattle.prefix_trie_table.proofs.Digits.{path-length}
 use Rattle.prefix_trie_table.proofs.Values.{value_stands}
 use Rattle.prefix_trie_table.proofs.Shapes.{shape_nodes, shape_entries}
@@ -28,13 +29,11 @@ use Rattle.prefix_trie_table.proofs.Counted.{visits_counted}
 
 module _ {T : Type 0} where
   -- a node of a table has no value bit 31
-  pub has_nodes : (v : Store Node) (w : Store (Option T)) → IsTable v w → HasNodes v
-  has_nodes v w t = record {
-    reading = t.reading;
-    paths = t.paths;
-    hold = t.holds.hold;
-    few = λ p n is. not_true (has_bit n.value_bitmap 31) (λ e. let h : 31 < 31 = t.holds.cells.within p 31 (t.holds.cells.set_where p 31 ∙ ap (λ o. has_value o 31) is ∙ e) in omega arith);
-  }
+  pub has_nodes : (v : Store Node) (w : Store (Option T)) → SomeTable v w → (n : SomeNodes v) × LackLastBit n.reading
+  has_nodes v w t = (
+    some_nodes t,
+    λ p n is. not_true (has_bit n.value_bitmap 31) (λ e. let h : 31 < 31 = t.holds.cells.within p 31 (t.holds.cells.set_where p 31 ∙ ap (λ o. has_value o 31) is ∙ e) in omega arith),
+  )
     where
       not_true : (b : Bool) → (b ≡ true → ⊥) → b ≡ false
       not_true true f = absurd (f refl)
@@ -44,7 +43,7 @@ module _ {T : Type 0} where
   abbrev pub cell_of : Store (Option T) → Match → Option T
   cell_of w m = get_or w.slots (cell_slot m) None
 
-  module _ (v : Store Node) (w : Store (Option T)) (t : IsTable v w) (s : State T) (is : IsShapeOf v.slots w.slots s) (b : List Bool) (len : ℕ) (long : len ≤ length b) where
+  module _ (v : Store Node) (w : Store (Option T)) (t : SomeTable v w) (s : State T) (is : IsShapeOf v.slots w.slots s) (b : List Bool) (len : ℕ) (long : len ≤ length b) where
     -- the bit string that was looked up
     abbrev pub asked : List Bool
     asked = take len b

@@ -12,6 +12,7 @@ use Rattle.prefix_trie_bits.specs.Model.Blocks.{smallest_size}
 use Rattle.prefix_trie_bits.specs.Model.Insertion.{block_needed, lacking_slots}
 use Rattle.prefix_trie_bits.proofs.Checks.{below, at_below}
 use Rattle.prefix_trie_bits.proofs.Model.Members.{or-cases, from-not}
+use Rattle.prefix_trie_bits.proofs.Model.Slots.{how_many, how_many-more}
 use Rattle.prefix_trie_table.specs.Cells.{node_sizes, cell_sizes}
 use Rattle.prefix_trie_table.specs.Layouts.{size_if_any, free_counts}
 use Rattle.prefix_trie_table.specs.Store.{Tier, tier_at, tier_for, tier_sizes, size_in, free_at, tier_lacking, one_at, many_at, slots_of, blocks_needed}
@@ -66,10 +67,6 @@ block_after ts sizes are single k tier count more e stands =
     by zero None is at = absurd (let x : ◌≡◌ {A = Option ℕ} (Some 0) None = sym single ∙ is in cc)
     by (suc c) None is at = ap (λ t. Some (size_in sizes t)) at
 
--- how many of the needed blocks have a size
-abbrev pub how_many : ℕ → List ℕ → ℕ
-how_many size needed = length (filter (λ s. s == size) needed)
-
 -- the slots of the lacking blocks, by sizes and by tiers
 pub lacking_by_tiers : (ts : List Tier) (needed : List ℕ) (n : ℕ → ℕ) → ((j : ℕ) → j < length ts → how_many (size_in (tier_sizes ts) j) needed ≡ n j) →
     lacking_slots (tier_sizes ts) (free_counts ts) needed ≡ slots_of (tier_sizes ts) (λ j. n j - free_at ts j)
@@ -109,13 +106,6 @@ same-tier sizes all j t hj ht =
       | inl e ↦ ap (λ b. cond b 1 0) (eq-eqb (size_in sizes t) (size_in sizes j) (ap (size_in sizes) (sym e))) ∙ sym (many_here t 1) ∙ ap (many_at t 1) (sym e)
       | inr ne ↦ ap (λ b. cond b 1 0) (apart sizes all j t hj ht ne) ∙ sym (many_other t 1 j ne)
     ]
-
-length-if : (b : Bool) (x : ℕ) (xs : List ℕ) → length (cond b (x ∷ xs) xs) ≡ cond b 1 0 + length xs
-length-if true x xs = omega arith
-length-if false x xs = omega arith
-
-how_many-more : (size x : ℕ) (xs : List ℕ) → how_many size (x ∷ xs) ≡ cond (x == size) 1 0 + how_many size xs
-how_many-more size x xs = length-if (x == size) x (filter (λ s. s == size) xs)
 
 how_many-first : (sizes : List ℕ) → all_apart sizes ≡ true → (j lists : ℕ) → j < 7 → how_many (size_in sizes j) (replicate lists (size_in sizes 0)) ≡ many_at 0 lists j
 how_many-first sizes all j zero h = (let e = many-add 0 0 0 j in omega arith)

@@ -12,7 +12,7 @@ use Rattle.prefix_trie_table.specs.Store.{Store, held, size_in}
 use Rattle.prefix_trie_table.specs.Forest.{node_or_blank, child_items, child_blocks, child_blocks_of, NodesHold}
 use Rattle.prefix_trie_table.proofs.Bits.{rank-ones}
 use Rattle.prefix_trie_table.proofs.BitLists.{rank-all, rank-le, rank-zero-all}
-use Rattle.prefix_trie_table.proofs.Tilings.{all_within}
+use Rattle.prefix_trie_table.proofs.Soundness.{first_place}
 use Rattle.prefix_trie_table.proofs.SlotSums.{sum_by-flat_map, sum_by-same, sum_by-mapped, items_sum, slots_sum}
 use Rattle.prefix_trie_table.proofs.PathLists.{step, children_of, children, listed_below}
 
@@ -47,7 +47,7 @@ module _ (f : Node → ℕ) (none : f blank_node ≡ 0) (sizes : List ℕ) (node
   module _ (paths : List (List ℕ)) (v : Store Node) (hold : NodesHold sizes nodes paths v) where
     root_sum : sum_by f (take v.first v.slots) ≡ weight []
     root_sum =
-        let some : 0 < length v.slots = (let w = (all_within v.first (length v.slots) hold.sound.tiling hold.sound.tiles).1 in let h = hold.first_is in omega arith) in
+        let some : 0 < length v.slots = (let w = first_place blank_node _ v hold.sound in let h = hold.first_is in omega arith) in
         let one : sum_by f (take 1 v.slots) ≡ f (node_at v.slots 0) = (let e = sum_by_more f v.slots 0 blank_node some in omega (arith, e)) in
         ap (λ n. sum_by f (take n v.slots)) hold.first_is ∙ one ∙ ap (λ o. f (node_or_blank o)) (sym hold.rooted)
 

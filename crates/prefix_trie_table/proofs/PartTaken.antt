@@ -19,9 +19,9 @@ use Rattle.prefix_trie_table.specs.Store.{Store}
 use Rattle.prefix_trie_table.specs.Forest.{read, Holds, NodesHold, IsSlot}
 use Rattle.prefix_trie_table.specs.Removals.{EntryTaken, EntryRemoved, Pruned, IsWay, AtEnd, slot_in}
 use Rattle.prefix_trie_table.specs.Settling.{NodesSettle}
-use Rattle.prefix_trie_table.specs.Shape.{IsShapeOf, Shaped}
-use Rattle.prefix_trie_table.specs.Tables.{ForHeld, Grows, IsReached, IsTableOf}
-use Rattle.prefix_trie_table.specs.Retaining.{ValuesBetween, ChildrenBetween, IsTrie, IsSite, Lasts, Retains, RetainsTo}
+use Rattle.prefix_trie_table.specs.Shape.{Contents, state, IsShapeOf, Shaped}
+use Rattle.prefix_trie_table.specs.Tables.{ForHeld, Grows, IsReached, IsTable, IsTrie}
+use Rattle.prefix_trie_table.specs.Retaining.{ValuesBetween, ChildrenBetween, IsSite, Lasts, Retains, RetainsTo}
 use Rattle.prefix_trie_table.proofs.Between.{between_then, pruned_values_between, pruned_children_between}
 use Rattle.prefix_trie_table.proofs.Children.{same_or}
 use Rattle.prefix_trie_table.proofs.Digits.{path-take}
@@ -73,9 +73,9 @@ module _ (b : List Bool) (len : ℕ) (within : len ≤ length b) where
 module _ {K T : Type 0} (IsKey : K → Type 0) (bits : K → List Bool) (width : ℕ) (key : K) (is_key : IsKey key) (long : length (bits key) ≡ width) (len : ℕ)
     (v : Store Node) (n : Node) (at : NodeSlot) (reached : IsReached (bits key) len (len / 5) n (at.start + at.place) v)
     (count : ℕ) (w : Store (Option T)) (s : State T) (trie : IsTrie width count v w s) where
-  read_table : Holds (read v.slots) trie.table.held.table.values trie.table.held.table.paths v w
+  read_table : Holds (read v.slots) trie.table.values trie.table.paths v w
   read_table =
-      let t = trie.table.held.table in
+      let t = trie.table in
       read_held t.reading t.values t.paths v w t.holds
 
   pub reached_site : IsSite IsKey bits width v (record { slot = at; key = key; depth = len / 5 * 5 }) n
@@ -88,11 +88,11 @@ module _ {K T : Type 0} (IsKey : K → Type 0) (bits : K → List Bool) (width :
         within = (let l = fifth_low len in omega (arith, l, long_key, long));
         stands =
             ap (read v.slots) (home_steps (bits key) len long_key)
-            ∙ reached_own (bits key) len (len / 5) (at.start + at.place) n v reached (read v.slots) trie.table.held.table.paths read_table.hold (level_last (len / 5) len refl);
+            ∙ reached_own (bits key) len (len / 5) (at.start + at.place) n v reached (read v.slots) trie.table.paths read_table.hold (level_last (len / 5) len refl);
         slot_is =
             subst (λ p. IsSlot (read v.slots) p (at.start + at.place))
             (take_all (len / 5) (path_of (take len (bits key))) (let l = steps-all (bits key) len long_key in omega (arith, l)) ∙ sym (home_steps (bits key) len long_key))
-            (reached.deepest (read v.slots) trie.table.held.table.paths read_table.hold).stands;
+            (reached.deepest (read v.slots) trie.table.paths read_table.hold).stands;
       }
 
 -- ---- a test that may always be asked
@@ -175,7 +175,7 @@ module _ {T : Type 0} (width : ℕ) (b : List Bool) (len : ℕ) (within : len �
   -- the way is as it was
   way_left : IsWay (read v2.slots) (path_of (take len b)) way (len / 5)
   way_left k low =
-      let t = trie.table.held.table in
+      let t = trie.table in
       slot_stays (read v.slots) (read v2.slots) (take k (path_of (take len b))) (slot_in way k)
       (λ p less.
       let l = steps-all b len within in
@@ -185,7 +185,7 @@ module _ {T : Type 0} (width : ℕ) (b : List Bool) (len : ℕ) (within : len �
 
   pub end_left : AtEnd (path_of (take len b)) way n v2
   end_left =
-      let t = emptied.table.held.table in
+      let t = emptied.table in
       record {
         reading = read v2.slots;
         paths = t.paths;
@@ -220,7 +220,7 @@ module _ {T : Type 0} (width : ℕ) (b : List Bool) (len : ℕ) (within : len �
       ((reading : List ℕ → Option Node) (paths : List (List ℕ)) → NodesHold node_sizes reading paths v2 → IsWay reading (path_of (take len b)) way (len / 5) →
       reading (path_of (take len b)) ≡ Some n → Pruned reading paths (path_of (take len b)) v2 v3) → Lasts 0 v v3 w w2
   part_lasts v3 room settles prunes =
-      let t = emptied.table.held.table in
+      let t = emptied.table in
       let held = (read_held t.reading t.values t.paths v2 w2 t.holds).hold in
       let pruned = prunes (read v2.slots) t.paths held way_left is in
       let later : (x : List ℕ) → read v3.slots x ≡ pruned.to.later x = λ x. reads node_sizes pruned.to.later pruned.to.left v3 pruned.to.hold x in
@@ -246,7 +246,7 @@ pub part_missing : {T : Type 0} (width : ℕ) (b : List Bool) (len : ℕ) → le
     ((reading : List ℕ → Option Node) (paths : List (List ℕ)) → NodesHold node_sizes reading paths v → reading (path_of (take len b)) ≡ None) →
     IsTrie width count v w (record { entries = without_below s.entries (take len b); nodes = nodes_without_below s.nodes s.entries (take len b) })
 part_missing {T} width b len within v w count s trie missing =
-    let t = trie.table.held.table in
+    let t = trie.table in
     let none = missing (read v.slots) t.paths (read_held t.reading t.values t.paths v w t.holds).hold in
     let same = no_node_there width count v w s (take len b) trie (ap (read v.slots) (home_way b len within) ∙ none) in
     subst (λ (x : State T). IsTrie width count v w x) (λ i. record { entries = sym same.0 i; nodes = sym same.1 i }) trie
@@ -277,11 +277,10 @@ module _ {T : Type 0} where
 -- ---- what contracts see of the fields
 
 -- the entries and nodes that contracts see are those in the arrays
-pub seen_trie : {T : Type 0} (width count : ℕ) (v : Store Node) (w : Store (Option T)) (shape : Shaped v.slots w.slots) → IsTableOf v w count shape.0 →
-    (m : Entries T) (n : Nodes) → shape.0.entries ≡ m → shape.0.nodes ≡ n → AreWithin width m → AreNodes width m n → IsTrie width count v w shape.0
-seen_trie {T} width count v w shape is m n entries nodes within are = record {
-  table = is;
-  shaped = shape.1;
-  within = subst (AreWithin width) (sym entries) within;
-  nodes = subst (λ (x : State T). AreNodes width x.entries x.nodes) (λ i. record { entries = sym entries i; nodes = sym nodes i }) are;
-}
+pub seen_trie : {T : Type 0} {width count : ℕ} {v : Store Node} {w : Store (Option T)} (shape : Shaped v.slots w.slots) → IsTable v w count shape.0 →
+    {inside m : Contents T} → inside ≡ m → state inside ≡ shape.0 →
+    AreWithin width m.entries → AreNodes width m.entries m.nodes → IsTrie width count v w shape.0
+seen_trie {T} {width} shape is seen same within are =
+    let known : AreWithin width shape.0.entries × AreNodes width shape.0.entries shape.0.nodes =
+    subst (λ (x : State T). AreWithin width x.entries × AreNodes width x.entries x.nodes) (ap state (sym seen) ∙ same) (within, are) in
+    record { table = is; shaped = shape.1; within = known.0; nodes = known.1 }

@@ -28,12 +28,13 @@ use Rattle.prefix_trie_table.specs.Shape.{same_shape}
 use Rattle.prefix_trie_table.specs.Walks.{IsPlaceOf}
 use Rattle.prefix_trie_table.specs.Cells.{node_sizes, cell_sizes}
 use Rattle.prefix_trie_table.proofs.Between.{between_then, values_still, children_still}
-use Rattle.prefix_trie_table.specs.Retaining.{is_at, is_at_some, is_under_some, IsTrie, IsSite, Retains, RetainsIn, MayAskAt, Lasts}
+use Rattle.prefix_trie_table.specs.Retaining.{is_at, is_at_some, is_under_some, IsSite, Retains, RetainsIn, MayAskAt, Lasts}
+use Rattle.prefix_trie_table.specs.Tables.{IsTrie}
 use Rattle.prefix_trie_table.proofs.Asked.{no_or_yes, at_value, at_child, under_at_some, one_place, apart_first, asked_both, may_ask_first, may_ask_then}
 use Rattle.prefix_trie_table.proofs.Bits.{has_bit-is}
 use Rattle.prefix_trie_table.proofs.Placing.{below_node, step_below}
 use Rattle.prefix_trie_table.proofs.Settling.{Settles-none, Settles-then}
-use Rattle.prefix_trie_table.proofs.Retained.{tree_of, here_levels, here_whole}
+use Rattle.prefix_trie_table.proofs.Retained.{here_levels, here_whole}
 use Rattle.prefix_trie_table.proofs.Shapes.{shape_entries, shape_nodes, reads_node}
 use Rattle.prefix_trie_table.proofs.Spots.{place-value, place-child}
 use Rattle.prefix_trie_table.proofs.Subtrees.{unset, is_in-value, is_in-child, number-small}
@@ -57,7 +58,7 @@ module _ {K T : Type 0} (IsKey : K → Type 0) (bits : K → List Bool) (width :
   -- a value bit is set where an entry is stored
   pub value_iff : (t : List Bool) → length t ≤ 4 → is_some (get s.entries (take p.depth (bits p.key) ++ t)) ≡ has n.value_bitmap (value_bit t)
   value_iff t short =
-      let h = trie.table.held.table in
+      let h = trie.table in
       let where_is = below_node (p.depth / 5) (take p.depth (bits p.key)) t (here_levels IsKey bits width v p n at long) short in
       let small = value_bit-small t short in
       ap is_some (shape_entries h.reading h.values h.paths v w h.holds s trie.shaped (take p.depth (bits p.key) ++ t))
@@ -70,7 +71,7 @@ module _ {K T : Type 0} (IsKey : K → Type 0) (bits : K → List Bool) (width :
   -- a child bit where a node stands
   pub child_iff : (t : List Bool) → length t ≡ 5 → has_node s.nodes (take p.depth (bits p.key) ++ t) ≡ has n.child_bitmap (number t)
   child_iff t five =
-      let h = trie.table.held.table in
+      let h = trie.table in
       let small = number-small t five in
       let way : path_of (take p.depth (bits p.key) ++ t) ≡ path_of (take p.depth (bits p.key)) ++ number t ∷ [] =
       ap (λ u. path_of (take p.depth (bits p.key) ++ u)) (sym (digits-number t) ∙ ap (λ k. digits k (number t)) five)
@@ -90,7 +91,7 @@ module _ {K T : Type 0} (IsKey : K → Type 0) (bits : K → List Bool) (width :
   -- at a place that the node does not have is nothing
   pub nothing_at : (u : List Bool) → length u ≤ 5 → is_in n.value_bitmap n.child_bitmap u ≡ false → listing_at_place s.entries (take p.depth (bits p.key)) u ≡ []
   nothing_at =
-      unset width v (record { cells = w; shape = s }) (tree_of width count v w s trie) (take p.depth (bits p.key)) n (here_whole IsKey bits width v p n at long) at.stands
+      unset width v (record { count = count; cells = w; shape = s }) trie (take p.depth (bits p.key)) n (here_whole IsKey bits width v p n at long) at.stands
 
   -- and no node stands below it
   pub none_below_it : (u q : List Bool) → length u ≡ 5 → is_in n.value_bitmap n.child_bitmap u ≡ false → begins (take p.depth (bits p.key) ++ u) q ≡ true → has_node s.nodes q ≡ true → ⊥

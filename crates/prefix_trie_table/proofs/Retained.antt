@@ -18,12 +18,13 @@ use Rattle.prefix_trie_table.specs.Bitmaps.{has_bit}
 use Rattle.prefix_trie_table.specs.Cells.{node_at, node_sizes, cell_sizes}
 use Rattle.prefix_trie_table.specs.Digits.{path_of, bit_of}
 use Rattle.prefix_trie_table.specs.Store.{Store}
-use Rattle.prefix_trie_table.specs.Forest.{read, value_of, has_value, one_if, Holds, IsTable, IsSlot, at_root, at_child, NodesHold, CellsHold, AtNode, AtValues, with_node}
+use Rattle.prefix_trie_table.specs.Forest.{read, value_of, has_value, one_if, Holds, SomeTable, IsSlot, at_root, at_child, NodesHold, CellsHold, SomeNodes, IsNodeAt, with_node}
 use Rattle.prefix_trie_table.specs.Removals.{ValueTaken, EntryTaken}
 use Rattle.prefix_trie_table.specs.Shape.{IsShapeOf}
 use Rattle.prefix_trie_table.specs.Tables.{ForHeld, Grows}
-use Rattle.prefix_trie_table.specs.Walks.{IsTree}
-use Rattle.prefix_trie_table.specs.Retaining.{IsTrie, IsSite, ValuesBetween, ChildrenBetween}
+use Rattle.prefix_trie_table.specs.Retaining.{IsSite, ValuesBetween, ChildrenBetween}
+use Rattle.prefix_trie_table.specs.Tables.{IsTrie}
+use Rattle.prefix_trie_table.proofs.Invariant.{some_table, some_nodes}
 use Rattle.prefix_trie_table.proofs.Between.{taken_values_between, taken_children_between}
 use Rattle.prefix_trie_table.proofs.Bits.{has_bit-is}
 use Rattle.prefix_trie_table.proofs.Children.{with_here, with_other}
@@ -82,9 +83,6 @@ module _ {T : Type 0} where
       stand : (q : List Bool) → length q % 5 ≡ 0 → is_some (read v.slots (path_of q)) ≡ true → has_node s.nodes q ≡ true
       stand q whole there = is.0 q ∙ both-hold (is_node_depth q) (is_some (read v.slots (path_of q))) (ap (λ k. k == 0) whole) there
 
-  pub tree_of : (width count : ℕ) (v : Store Node) (w : Store (Option T)) (s : State T) → IsTrie width count v w s → IsTree width v (record { cells = w; shape = s })
-  tree_of width count v w s trie = record { table = trie.table.held.table; shaped = trie.shaped; within = trie.within; nodes = trie.nodes }
-
   -- the table read by the array itself
   pub read_held : (reading : List ℕ → Option Node) (values : List ℕ → ℕ → Option T) (paths : List (List ℕ)) (v : Store Node) (w : Store (Option T)) →
       Holds reading values paths v w → Holds (read v.slots) values paths v w
@@ -122,8 +120,8 @@ module _ {K : Type 0} (IsKey : K → Type 0) (bits : K → List Bool) (width : �
   }
 
   module _ {T : Type 0} (count : ℕ) (w : Store (Option T)) (s : State T) (trie : IsTrie width count v w s) where
-    abbrev held_table : IsTable v w
-    held_table = trie.table.held.table
+    abbrev held_table : SomeTable v w
+    held_table = some_table trie.table
 
     pub read_table : Holds (read v.slots) held_table.values held_table.paths v w
     read_table = read_held held_table.reading held_table.values held_table.paths v w held_table.holds
@@ -132,29 +130,14 @@ module _ {K : Type 0} (IsKey : K → Type 0) (bits : K → List Bool) (width : �
     site_holds =
         slot_holds node_sizes (read v.slots) held_table.paths v read_table.hold (path_of (take p.depth (bits p.key))) (p.slot.start + p.slot.place) n at.slot_is at.stands
 
-    pub site_values : AtValues v w (p.slot.start + p.slot.place)
-    site_values = record {
-      reading = read v.slots;
-      paths = held_table.paths;
-      values = held_table.values;
-      path = path_of (take p.depth (bits p.key));
-      node = n;
-      hold = read_table.hold;
-      cells = read_table.cells;
-      stands = at.slot_is;
-      is = at.stands;
-    }
+    pub site_values : (t : SomeTable v w) × IsNodeAt t.reading (p.slot.start + p.slot.place)
+    site_values = (
+      record { reading = read v.slots; values = held_table.values; paths = held_table.paths; holds = read_table },
+      record { path = path_of (take p.depth (bits p.key)); node = n; stands = at.slot_is; is = at.stands },
+    )
 
-    pub site_node : AtNode v (p.slot.start + p.slot.place)
-    site_node = record {
-      reading = read v.slots;
-      paths = held_table.paths;
-      path = path_of (take p.depth (bits p.key));
-      node = n;
-      hold = read_table.hold;
-      stands = at.slot_is;
-      is = at.stands;
-    }
+    pub site_node : (t : SomeNodes v) × IsNodeAt t.reading (p.slot.start + p.slot.place)
+    site_node = (some_nodes site_values.0, site_values.1)
 
     -- ---- a value there
 
@@ -244,7 +227,7 @@ module _ {K : Type 0} (IsKey : K → Type 0) (bits : K → List Bool) (width : �
             let a = taken held_table.reading held_table.paths held_table.values held_table.holds in
             let one : one_if (is_some (held_table.values (path_of (take p.depth (bits p.key) ++ t)) (bit_of (take p.depth (bits p.key) ++ t)))) ≡ 1 =
             ap one_if (some_there held_table.reading held_table.paths held_table.values held_table.holds) in
-            omega (arith, a.counted, trie.table.held.counted, one)
+            omega (arith, a.counted, trie.table.counted, one)
 
         removed_some : is_some removed ≡ true
         removed_some =

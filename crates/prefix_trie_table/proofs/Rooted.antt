@@ -12,10 +12,10 @@ use Rattle.prefix_trie_table.specs.Cells.{node_at}
 use Rattle.prefix_trie_table.specs.Store.{Store}
 use Rattle.prefix_trie_table.specs.Forest.{at_root}
 use Rattle.prefix_trie_table.specs.Walks.{IsPlaceOf}
-use Rattle.prefix_trie_table.specs.Retaining.{IsTrie, IsSite, RetainsTo, RetainsAll}
+use Rattle.prefix_trie_table.specs.Retaining.{IsSite, RetainsTo, RetainsAll}
+use Rattle.prefix_trie_table.specs.Tables.{IsTrie}
 use Rattle.prefix_trie_table.proofs.AskedBelow.{asked_all, nodes_tidy}
 use Rattle.prefix_trie_table.proofs.Placed.{nothing_at, none_below_it}
-use Rattle.prefix_trie_table.proofs.Retained.{tree_of}
 use Rattle.prefix_trie_table.proofs.Subtrees.{all_places}
 use Rattle.prefix_trie_table.proofs.Trees.{read-nil}
 
@@ -35,7 +35,7 @@ module _ {K : Type 0} (IsKey : K → Type 0) (bits : K → List Bool) (width : �
     root_listing : listing_at_places s.entries [] ts ≡ listing s.entries
     root_listing =
         ap (listing_at_places s.entries []) all
-        ∙ all_places width v (record { cells = w; shape = s }) (tree_of width count v w s trie) [] n refl (read-nil v.slots ∙ ap Some (sym n_is))
+        ∙ all_places width v (record { count = count; cells = w; shape = s }) trie [] n refl (read-nil v.slots ∙ ap Some (sym n_is))
         ∙ listing_of_root s.entries
 
     module _ {F : Type 0} (asks : F → List Bool → T → Bool → F → Type 0) (accepts : F → List Bool → T → Type 0) (f : F) where

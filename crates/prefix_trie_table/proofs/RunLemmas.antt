@@ -5,7 +5,10 @@ use Rattle.std.proofs.lemmas.List.Edits.{insert-append_left, insert-append_right
 use Rattle.std.proofs.lemmas.Bool.{cases_lt, cases_eq}
 use Rattle.std.proofs.lemmas.Slice.{drop-append-drop}
 use Rattle.prefix_trie_table.specs.Runs.{run, put_run, swap_runs}
-use Rattle.prefix_trie_table.specs.Store.{Disjoint}
+
+-- the m places from a on and the n from b on have none in common
+abbrev pub Apart : ℕ → ℕ → ℕ → ℕ → Type 0
+Apart a m b n = (a + m ≤ b) ⊎ (b + n ≤ a)
 
 module _ {X : Type 0} where
   pub length-run : (xs : List X) (a n : ℕ) → a + n ≤ length xs → length (run xs a n) ≡ n
@@ -33,7 +36,7 @@ module _ {X : Type 0} where
   run-put_run_same xs a ys inside =
       rw (drop_at (take a xs) (ys ++ drop (a + length ys) xs) a (length-take-le a xs (omega arith))) (take_at ys (drop (a + length ys) xs) (length ys) refl)
 
-  pub run-put_run_other : (xs : List X) (a : ℕ) (ys : List X) (b n : ℕ) → a + length ys ≤ length xs → Disjoint (a, length ys) (b, n) → run (put_run xs a ys) b n ≡ run xs b n
+  pub run-put_run_other : (xs : List X) (a : ℕ) (ys : List X) (b n : ℕ) → a + length ys ≤ length xs → Apart a (length ys) b n → run (put_run xs a ys) b n ≡ run xs b n
   run-put_run_other xs a ys b n inside apart =
       ⊎_elim (λ (after : a + length ys ≤ b).
       let gone : drop b (put_run xs a ys) ≡ drop b xs = ap (λ zs. drop b zs) (sym (append_assoc (take a xs) ys (drop (a + length ys) xs))) ∙ drop-append-drop (a + length ys) xs (take a xs ++ ys) b after (let e : length (take a xs) ≡ a = length-take-le a xs (omega arith) in omega (arith, length-append (take a xs) ys)) in
@@ -74,7 +77,7 @@ module _ {X : Type 0} where
 
   get_or-put_run_out : (xs : List X) (a : ℕ) (ys : List X) (k : ℕ) (d : X) → a + length ys ≤ length xs → (k < a) ⊎ (a + length ys ≤ k) → get_or (put_run xs a ys) k d ≡ get_or xs k d
   get_or-put_run_out xs a ys k d inside out =
-      let apart : Disjoint (a, length ys) (k, 1) = ⊎_elim (λ (h : k < a). inr (let e : k + 1 ≤ a = omega arith in e)) (λ (h : a + length ys ≤ k). inl h) out in
+      let apart : Apart a (length ys) k 1 = ⊎_elim (λ (h : k < a). inr (let e : k + 1 ≤ a = omega arith in e)) (λ (h : a + length ys ≤ k). inl h) out in
       let one : (zs : List X) → get_or zs k d ≡ get_or (run zs k 1) 0 d = λ zs. ap (λ m. get_or zs m d) (let e : k ≡ k + 0 = omega arith in e) ∙ sym (get_or-run zs k 1 0 d (omega arith)) in
       one (put_run xs a ys) ∙ ap (λ zs. get_or zs 0 d) (run-put_run_other xs a ys k 1 inside apart) ∙ sym (one xs)
 
@@ -108,7 +111,7 @@ module _ {X : Type 0} where
       }
 
   -- two runs that are apart are exchanged: each holds what the other held, and the rest stays
-  pub swap_runs_is : (xs : List X) (a b n : ℕ) (d : X) → a + n ≤ length xs → b + n ≤ length xs → Disjoint (a, n) (b, n) → swap_runs xs a b n ≡ put_run (put_run xs a (run xs b n)) b (run xs a n)
+  pub swap_runs_is : (xs : List X) (a b n : ℕ) (d : X) → a + n ≤ length xs → b + n ≤ length xs → Apart a n b n → swap_runs xs a b n ≡ put_run (put_run xs a (run xs b n)) b (run xs a n)
   swap_runs_is xs a b n d ha hb apart =
       let zs : List X = swap_runs xs a b n in
       let ra : List X = run xs a n in

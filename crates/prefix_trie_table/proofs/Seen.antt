@@ -14,14 +14,14 @@ use Rattle.prefix_trie_table.specs.declared.allocator.node.Node.{Node}
 use Rattle.prefix_trie_table.specs.declared.table.retain.Site.{Site}
 use Rattle.prefix_trie_table.specs.Bitmaps.{rank}
 use Rattle.prefix_trie_table.specs.Store.{Store}
-use Rattle.prefix_trie_table.specs.Tables.{Grows}
+use Rattle.prefix_trie_table.specs.Tables.{Grows, IsTrie}
 use Rattle.prefix_trie_table.specs.Forest.{read, value_in, value_of, NodesHold, CellsHold, IsSlot}
 use Rattle.prefix_trie_table.specs.Cells.{node_sizes, cell_sizes}
 use Rattle.prefix_trie_table.specs.Removals.{ValueTaken}
-use Rattle.prefix_trie_table.specs.Retaining.{IsTrie, IsSite, RetainsTo, ValuesBetween, ChildrenBetween}
+use Rattle.prefix_trie_table.specs.Retaining.{IsSite, RetainsTo, ValuesBetween, ChildrenBetween}
 use Rattle.prefix_trie_table.proofs.AskedBelow.{may_ask_value, value_stays, value_goes}
 use Rattle.prefix_trie_table.proofs.Bits.{rank-ones}
-use Rattle.prefix_trie_table.proofs.Retained.{tree_of, here_length, here_whole, key_path, key_bit, bit_set, some_there, site_stays, some_counted, value_above, value_blocks_after, child_blocks_after, value_read_after, trie_taken}
+use Rattle.prefix_trie_table.proofs.Retained.{here_length, here_whole, key_path, key_bit, bit_set, some_there, site_stays, some_counted, value_above, value_blocks_after, child_blocks_after, value_read_after, trie_taken}
 use Rattle.prefix_trie_table.proofs.Shapes.{shape_entries}
 use Rattle.prefix_trie_table.proofs.Subtrees.{value_inside, value_fits}
 
@@ -40,7 +40,7 @@ module _ {K T : Type 0} (IsKey : K → Type 0) (bits : K → List Bool) (width :
   pub value_slot : (place : ℕ) → place ≡ ones_below bit node.value_bitmap → node.value_block + place < length w.slots
   value_slot place is =
       subst (λ k. node.value_block + k < length w.slots) (place_rank place is)
-      (value_inside width v (record { cells = w; shape = s }) (tree_of width count v w s trie) (take p.depth (bits p.key)) node
+      (value_inside width v (record { count = count; cells = w; shape = s }) trie (take p.depth (bits p.key)) node
       (here_whole IsKey bits width v p node at long) at.stands (digits n x) short set_there)
 
   cell_is : get s.entries (take p.depth (bits p.key) ++ digits n x) ≡ get_or w.slots (node.value_block + rank node.value_bitmap (value_bit (digits n x))) None
@@ -63,13 +63,13 @@ module _ {K T : Type 0} (IsKey : K → Type 0) (bits : K → List Bool) (width :
   -- and there is one
   pub value_some : is_some (get s.entries (take p.depth (bits p.key) ++ digits n x)) ≡ true
   value_some =
-      ap is_some (shape_entries trie.table.held.table.reading trie.table.held.table.values trie.table.held.table.paths v w trie.table.held.table.holds s trie.shaped (take p.depth (bits p.key) ++ digits n x))
+      ap is_some (shape_entries trie.table.reading trie.table.values trie.table.paths v w trie.table.holds s trie.shaped (take p.depth (bits p.key) ++ digits n x))
       ∙ some_there IsKey bits width v p node at long count w s trie (digits n x) short set_there
-      trie.table.held.table.reading trie.table.held.table.paths trie.table.held.table.values trie.table.held.table.holds
+      trie.table.reading trie.table.paths trie.table.values trie.table.holds
 
   pub value_room : p.depth + n ≤ width
   value_room =
-      let h = value_fits width v (record { cells = w; shape = s }) (tree_of width count v w s trie) (take p.depth (bits p.key)) node
+      let h = value_fits width v (record { count = count; cells = w; shape = s }) trie (take p.depth (bits p.key)) node
       (here_whole IsKey bits width v p node at long) at.stands (digits n x) short set_there in
       omega (arith, h, here_length IsKey bits width v p node at long, length-digits n x)
 

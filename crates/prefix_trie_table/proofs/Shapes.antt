@@ -1,5 +1,5 @@
 -- What contracts see of a table, before and after an insertion.
-use Rattle.std.proofs.Common.{◌≡◌, ℕ, ◌+◌, ◌<◌, ◌%◌, Bool, true, false, cond, ◌&&◌, ◌||◌, List, [], ◌∷◌, ◌++◌, length, get_or, map, Option, None, Some, is_some, Result, Ok, Err, MatchResult, IfOk, OnOk, OnErr, refl, sym, ap, ap₂, ◌∙◌, subst, arith, inl, inr, eqb-true}
+use Rattle.std.proofs.Common.{◌≡◌, ℕ, ◌+◌, ◌<◌, ◌%◌, Bool, true, false, cond, ◌&&◌, ◌||◌, List, [], ◌∷◌, ◌++◌, length, get_or, map, Option, None, Some, is_some, Result, Ok, Err, MatchResult, IfOk, refl, sym, ap, ap₂, ◌∙◌, subst, arith, inl, inr, eqb-true}
 use Rattle.std.proofs.lemmas.Bool.{false≢true, cases_Bool, cases_lt}
 use Rattle.std.specs.FinMap.{get, get-insert, get-empty, len-insert, len-empty, contains_key, len}
 use Rattle.prefix_trie_bits.specs.Bits.{begins}
@@ -14,9 +14,9 @@ use Rattle.prefix_trie_table.specs.Bitmaps.{has_bit, rank}
 use Rattle.prefix_trie_table.specs.Cells.{blank_node, node_at, node_sizes, cell_sizes}
 use Rattle.prefix_trie_table.specs.Digits.{path_of, bit_of}
 use Rattle.prefix_trie_table.specs.Store.{Store, Sound, no_blocks, tier_sizes}
-use Rattle.prefix_trie_table.specs.Forest.{read, value_in, value_of, same_path, one_if, is_start, Holds, EntryAdded, value_blocks_of, held, size_in, has_child, has_value, with_value, entry_count}
+use Rattle.prefix_trie_table.specs.Forest.{read, value_in, value_of, same_path, one_if, is_start, Holds, EntryAdded, value_blocks_of, held, size_in, has_child, has_value, with_value, entry_count, SomeTable}
 use Rattle.prefix_trie_table.specs.Shape.{IsShapeOf, Shaped, same_shape}
-use Rattle.prefix_trie_table.specs.Tables.{IsTableOf, IsCounted, Grows}
+use Rattle.prefix_trie_table.specs.Tables.{IsTable, Grows}
 use Rattle.prefix_trie_table.proofs.Bits.{has_bit-zero}
 use Rattle.prefix_trie_table.proofs.BitLists.{rank-zero-all}
 use Rattle.prefix_trie_table.proofs.Paths.{same_path-itself, same_path-not, same_path-true, snoc_not_nil}
@@ -206,12 +206,13 @@ module _ {T : Type 0} (v : Store Node) (w : Store (Option T)) (limit : ℕ)
   new_only s = same_shape v.slots w.slots s.0 root_shape s.1 new_shape
 
   -- and are a table without entries
-  pub new_table : 0 < limit → (s : Shaped v.slots w.slots) → IsTableOf v w 0 s.0
+  pub new_table : 0 < limit → (s : Shaped v.slots w.slots) → IsTable v w 0 s.0
   new_table some s = record {
-    held = record {
-      table = record { reading = root_reading; values = no_values; paths = [] ∷ []; holds = new_holds };
-      counted = sym root_counted;
-    };
+    reading = root_reading;
+    values = no_values;
+    paths = [] ∷ [];
+    holds = new_holds;
+    counted = sym root_counted;
     sized = sym (ap (λ (x : State T). len x.entries) (new_only s) ∙ len-empty _ T);
     cells_first = ap (λ (x : Store (Option T)). x.first) w_is;
     one_limit = ap (λ (x : Store (Option T)). x.limit) w_is ∙ sym (ap (λ (x : Store Node). x.limit) v_is);
@@ -226,12 +227,12 @@ one_more c n l false e f = omega (arith, e, f)
 
 -- an insertion: what it leaves of the table
 module _ {T : Type 0} (key : List Bool) (x : T) (v v2 : Store Node) (w w2 : Store (Option T)) (count count2 : ℕ) (s : Shaped v.slots w.slots)
-    (is : IsTableOf v w count s.0) where
-  held_by : Holds is.held.table.reading is.held.table.values is.held.table.paths v w
-  held_by = is.held.table.holds
+    (is : IsTable v w count s.0) where
+  held_by : Holds is.reading is.values is.paths v w
+  held_by = is.holds
 
-  entry_is : get s.0.entries key ≡ is.held.table.values (path_of key) (bit_of key)
-  entry_is = shape_entries is.held.table.reading is.held.table.values is.held.table.paths v w held_by s.0 s.1 key
+  entry_is : get s.0.entries key ≡ is.values (path_of key) (bit_of key)
+  entry_is = shape_entries is.reading is.values is.paths v w held_by s.0 s.1 key
 
   module _ {E : Type 0} where
     -- what the call says of the values and the nodes that the old arrays hold
@@ -252,10 +253,10 @@ module _ {T : Type 0} (key : List Bool) (x : T) (v v2 : Store Node) (w w2 : Stor
 
     -- what an insertion leaves is the shape of what it leaves of the arrays
     pub left_is : (r : Result (Option T) E) → Leaves r → IsShapeOf v2.slots w2.slots (shape_left r)
-    left_is (Ok before) left = shape_added is.held.table.reading is.held.table.values is.held.table.paths v v2 w w2 held_by key x s.0 s.1
-        (left is.held.table.reading is.held.table.paths is.held.table.values held_by).1
-    left_is (Err e) left = shape_kept is.held.table.reading is.held.table.values is.held.table.paths v v2 w w2 held_by s.0 s.1
-        (left is.held.table.reading is.held.table.paths is.held.table.values held_by)
+    left_is (Ok before) left = shape_added is.reading is.values is.paths v v2 w w2 held_by key x s.0 s.1
+        (left is.reading is.paths is.values held_by).1
+    left_is (Err e) left = shape_kept is.reading is.values is.paths v v2 w w2 held_by s.0 s.1
+        (left is.reading is.paths is.values held_by)
 
     -- so these have a shape
     pub left_shape : (r : Result (Option T) E) → Leaves r → Shaped v2.slots w2.slots
@@ -265,33 +266,21 @@ module _ {T : Type 0} (key : List Bool) (x : T) (v v2 : Store Node) (w w2 : Stor
     pub left_only : (r : Result (Option T) E) → Leaves r → (t : Shaped v2.slots w2.slots) → t.0 ≡ shape_left r
     left_only r left t = same_shape v2.slots w2.slots t.0 (shape_left r) t.1 (left_is r left)
 
-    counted_left : (r : Result (Option T) E) → Leaves r → Counts r → IsCounted v2 w2 count2
+    counted_left : (r : Result (Option T) E) → Leaves r → Counts r → (t : SomeTable v2 w2) × (count2 ≡ entry_count t.reading t.paths)
     counted_left (Ok before) left counts =
-        let a = left is.held.table.reading is.held.table.paths is.held.table.values held_by in
-        let had : one_if (is_some before) ≡ one_if (is_some (is.held.table.values (path_of key) (bit_of key))) = ap (λ o. one_if (is_some o)) a.0 in
-        record {
-          table = record {
-            reading = a.1.later;
-            values = with_value is.held.table.values (path_of key) (bit_of key) (Some x);
-            paths = a.1.paths;
-            holds = a.1.holds;
-          };
-          counted = (let n = a.1.counted in let h = is.held.counted in omega (arith, n, h, had, counts));
-        }
-    counted_left (Err e) left counts = record {
-      table = record {
-        reading = is.held.table.reading;
-        values = is.held.table.values;
-        paths = is.held.table.paths;
-        holds =
-            left is.held.table.reading is.held.table.paths is.held.table.values held_by;
-      };
-      counted = counts ∙ is.held.counted;
-    }
+        let a = left is.reading is.paths is.values held_by in
+        let had : one_if (is_some before) ≡ one_if (is_some (is.values (path_of key) (bit_of key))) = ap (λ o. one_if (is_some o)) a.0 in (
+          record { reading = a.1.later; values = with_value is.values (path_of key) (bit_of key) (Some x); paths = a.1.paths; holds = a.1.holds },
+          (let n = a.1.counted in let h = is.counted in omega (arith, n, h, had, counts)),
+        )
+    counted_left (Err e) left counts = (
+      record { reading = is.reading; values = is.values; paths = is.paths; holds = left is.reading is.paths is.values held_by },
+      counts ∙ is.counted,
+    )
 
     sized_left : (r : Result (Option T) E) → Leaves r → Counts r → count2 ≡ len (shape_left r).entries
     sized_left (Ok before) left counts =
-        let a = left is.held.table.reading is.held.table.paths is.held.table.values held_by in
+        let a = left is.reading is.paths is.values held_by in
         let had : is_some before ≡ contains_key s.0.entries key = ap is_some (a.0 ∙ sym entry_is) in
         one_more count count2 (len s.0.entries) (is_some before) is.sized counts ∙ ap (λ b. cond b (len s.0.entries) (len s.0.entries + 1)) had
         ∙ sym (len-insert listing_total s.0.entries key x)
@@ -299,9 +288,13 @@ module _ {T : Type 0} (key : List Bool) (x : T) (v v2 : Store Node) (w w2 : Stor
 
     -- and are a table
     pub table_left : (r : Result (Option T) E) → Leaves r → Counts r → Grows v v2 56 → Grows w w2 31 → (t : Shaped v2.slots w2.slots) →
-        IsTableOf v2 w2 count2 t.0
-    table_left r left counts nodes cells t = record {
-      held = counted_left r left counts;
+        IsTable v2 w2 count2 t.0
+    table_left r left counts nodes cells t = let held = counted_left r left counts in record {
+      reading = held.0.reading;
+      values = held.0.values;
+      paths = held.0.paths;
+      holds = held.0.holds;
+      counted = held.1;
       sized = sized_left r left counts ∙ ap (λ (y : State T). len y.entries) (sym (left_only r left t));
       cells_first = cells.first_is ∙ is.cells_first;
       one_limit = cells.limit_is ∙ is.one_limit ∙ sym nodes.limit_is;
@@ -311,20 +304,5 @@ module _ {T : Type 0} (key : List Bool) (x : T) (v v2 : Store Node) (w w2 : Stor
 
     -- the answer is the value that was there
     pub before_left : (r : Result (Option T) E) → Leaves r → IfOk r (λ before. before ≡ get s.0.entries key)
-    before_left (Ok before) left = (left is.held.table.reading is.held.table.paths is.held.table.values held_by).0 ∙ sym entry_is
+    before_left (Ok before) left = (left is.reading is.paths is.values held_by).0 ∙ sym entry_is
     before_left (Err e) left = tt
-
-    -- the entries that an insertion leaves
-    pub entries_left : (r : Result (Option T) E) → Leaves r → (t : Shaped v2.slots w2.slots) → OnOk r (t.0.entries ≡ with_entry s.0.entries key x)
-    entries_left (Ok before) left t = ap (λ (y : State T). y.entries) (left_only (Ok before) left t)
-    entries_left (Err e) left t = tt
-
-    -- the nodes that it leaves
-    pub nodes_left : (r : Result (Option T) E) → Leaves r → (t : Shaped v2.slots w2.slots) → OnOk r (t.0.nodes ≡ with_needed s.0.nodes key)
-    nodes_left (Ok before) left t = ap (λ (y : State T). y.nodes) (left_only (Ok before) left t)
-    nodes_left (Err e) left t = tt
-
-    -- a refused insertion leaves both as they were
-    pub same_left : (r : Result (Option T) E) → Leaves r → (t : Shaped v2.slots w2.slots) → OnErr r ((t.0.entries ≡ s.0.entries) × (t.0.nodes ≡ s.0.nodes))
-    same_left (Ok before) left t = tt
-    same_left (Err e) left t = (ap (λ (y : State T). y.entries) (left_only (Err e) left t), ap (λ (y : State T). y.nodes) (left_only (Err e) left t))

@@ -12,9 +12,8 @@ use Rattle.prefix_trie_table.specs.declared.allocator.node.Node.{Node}
 use Rattle.prefix_trie_table.specs.Digits.{path_of}
 use Rattle.prefix_trie_table.specs.Cells.{node_sizes, cell_sizes}
 use Rattle.prefix_trie_table.specs.Store.{Store, Tier, no_blocks, size_in}
-use Rattle.prefix_trie_table.specs.Forest.{NodesHold, Holds}
+use Rattle.prefix_trie_table.specs.Forest.{NodesHold, Holds, SomeTable}
 use Rattle.prefix_trie_table.specs.Layouts.{AreSizesBy, Sized, Sized-prop, child_block_size, value_block_size, size_if_any, free_counts}
-use Rattle.prefix_trie_table.specs.Tables.{IsCounted}
 use Rattle.prefix_trie_table.proofs.PathStrings.{string_at, string_path, AreSteps, first_steps, other_steps, paths_steps, listed_at}
 use Rattle.prefix_trie_table.proofs.BitLists.{rank-zero-all}
 use Rattle.prefix_trie_table.proofs.Shapes.{root_reading, no_values, root_here}
@@ -92,8 +91,8 @@ module _ (sizes : List ℕ) (nodes : List ℕ → Option Node) (paths : List (Li
       (ap (λ (y : Sized v.slots). y.0) same, ap (λ (y : Sized v.slots). y.1.0) same)
 
 -- a table's nodes have sizes
-pub table_sizes : {T : Type 0} (v : Store Node) (w : Store (Option T)) (count : ℕ) → IsCounted v w count → Sized v.slots
-table_sizes v w count held = sizes_of node_sizes held.table.reading held.table.paths v held.table.holds.hold
+pub table_sizes : {T : Type 0} (v : Store Node) (w : Store (Option T)) → SomeTable v w → Sized v.slots
+table_sizes v w t = sizes_of node_sizes t.reading t.paths v t.holds.hold
 
 -- the layout of arrays with these nodes and tiers
 abbrev pub layout_of : (nodes : List Node) → List Tier → List Tier → Sized nodes → Layout

@@ -1,6 +1,6 @@
 -- What keeps a store sound.
 use Rattle.std.proofs.Common.{◌≡◌, ◌≢◌, ℕ, zero, suc, ◌+◌, ◌-◌, ◌*◌, ◌<◌, ◌≤◌, inl, inr, ⊎_elim, true, cond, eqb, leb, Some, List, [], ◌∷◌, ◌++◌, length, get_or, set, take, drop, map, replicate, insert, remove, sum_by, count_by, All, IsPermutation, refl, sym, ap, ◌∙◌, subst, arith, append_assoc, length-append}
-use Rattle.std.proofs.lemmas.List.{get_or-set_same, get_or-set_other, length-set, set-set, set-get_or, length-replicate, map-append, get_or-take, get_or-drop, get_or_append_left, set-append_left, take-take, take_at, drop_at, take-replicate, drop-replicate, replicate-append-replicate}
+use Rattle.std.proofs.lemmas.List.{length-map, get_or_default, get_or-set_same, get_or-set_other, length-set, set-set, set-get_or, length-replicate, map-append, get_or-take, get_or-drop, get_or_append_left, set-append_left, take-take, take_at, drop_at, take-replicate, drop-replicate, replicate-append-replicate}
 use Rattle.std.proofs.lemmas.List.Edits.{insert-append_left, insert-append_right, remove-append_left, remove-append_right, length-insert, length-remove}
 use Rattle.std.proofs.lemmas.List.Elements.{All-nil, All-cons, All-head, All-tail, All-weaker, All-same, All-set, All-map}
 use Rattle.std.proofs.lemmas.List.Sums.{sum_by-cons, sum_by-set}
@@ -8,20 +8,23 @@ use Rattle.std.proofs.lemmas.List.Sorted.{All-permutation, IsPermutation-refl, I
 use Rattle.std.proofs.lemmas.Bool.{cases_eq, cases_lt, false≢true, le-leb}
 use Rattle.std.proofs.lemmas.List.Quantifiers.{position-Some}
 use Rattle.std.proofs.lemmas.Bool.Decides.{nat_tests}
+use Rattle.std.specs.Prelude.{Contains}
+use Rattle.prefix_trie_bits.specs.Model.Blocks.{Tiles, AreBlocksOf, Block as Extent}
 use Rattle.prefix_trie_table.specs.Runs.{run, put_run, swap_runs}
-use Rattle.prefix_trie_table.specs.Store.{Tier, Store, Block, Sound, IsOfTier, HoldsItems, IsVacant, IsTiling, Disjoint, tier_at, slots_made, extent, of_size, free_extents, with_tier, grown, filled, block, tier_for, no_blocks}
-use Rattle.prefix_trie_table.proofs.RunLemmas.{length-run, length-put_run, run-put_run_same, run-put_run_other, run-append_left, run-append_right, moved_in_run, put_run_part, swap_runs_is, set_in_run, run-set_before}
-use Rattle.prefix_trie_table.proofs.Tilings.{Within, IsTiling-push, others_apart, each_within, All-append_left, All-append_right}
+use Rattle.prefix_trie_table.specs.Store.{Tier, Store, Block, Sound, IsOfTier, HoldsItems, IsVacant, tier_at, tier_sizes, slots_made, extent, of_size, free_extents, with_tier, grown, filled, block, tier_for, no_blocks}
+use Rattle.prefix_trie_table.proofs.RunLemmas.{Apart, length-run, length-put_run, run-put_run_same, run-put_run_other, run-append_left, run-append_right, moved_in_run, put_run_part, swap_runs_is, set_in_run, run-set_before}
+use Rattle.prefix_trie_table.proofs.Spending.{size_at, sizes_set}
+use Rattle.prefix_trie_table.proofs.Tilings.{Disjoint, Within, Tiles-push, others_apart, each_within, first_inside, blocks_moved, All-append_left, All-append_right}
 
 -- one more free block of a tier
-free_pushed : (ts : List Tier) (k : ℕ) (t : Tier) (s : ℕ) (d : Tier) → k < length ts → t.size ≡ (get_or ts k d).size → t.starts ≡ (get_or ts k d).starts ++ s ∷ [] → IsPermutation ((s, t.size) ∷ free_extents ts) (free_extents (set ts k t))
+free_pushed : (ts : List Tier) (k : ℕ) (t : Tier) (s : ℕ) (d : Tier) → k < length ts → t.size ≡ (get_or ts k d).size → t.starts ≡ (get_or ts k d).starts ++ s ∷ [] → IsPermutation (of_size t.size s ∷ free_extents ts) (free_extents (set ts k t))
 free_pushed [] k t s d inside same_size pushed = absurd (omega arith)
 free_pushed (u ∷ ts) zero t s d inside same_size pushed =
-    let new : map (of_size u.size) t.starts ≡ map (of_size u.size) u.starts ++ (s, u.size) ∷ [] = ap (λ xs. map (of_size u.size) xs) pushed ∙ map-append (of_size u.size) u.starts (s ∷ []) in
-    let moved : IsPermutation ((s, u.size) ∷ (map (of_size u.size) u.starts ++ free_extents ts)) ((map (of_size u.size) u.starts ++ (s, u.size) ∷ []) ++ free_extents ts) = subst (λ ys. IsPermutation ((s, u.size) ∷ (map (of_size u.size) u.starts ++ free_extents ts)) ys) (sym (append_assoc (map (of_size u.size) u.starts) ((s, u.size) ∷ []) (free_extents ts))) (IsPermutation-sym _ _ (IsPermutation-middle (map (of_size u.size) u.starts) (s, u.size) (free_extents ts))) in
+    let new : map (of_size u.size) t.starts ≡ map (of_size u.size) u.starts ++ of_size u.size s ∷ [] = ap (λ xs. map (of_size u.size) xs) pushed ∙ map-append (of_size u.size) u.starts (s ∷ []) in
+    let moved : IsPermutation (of_size u.size s ∷ (map (of_size u.size) u.starts ++ free_extents ts)) ((map (of_size u.size) u.starts ++ of_size u.size s ∷ []) ++ free_extents ts) = subst (λ ys. IsPermutation (of_size u.size s ∷ (map (of_size u.size) u.starts ++ free_extents ts)) ys) (sym (append_assoc (map (of_size u.size) u.starts) (of_size u.size s ∷ []) (free_extents ts))) (IsPermutation-sym _ _ (IsPermutation-middle (map (of_size u.size) u.starts) (of_size u.size s) (free_extents ts))) in
     rw (same_size, new) moved
 free_pushed (u ∷ ts) (suc k) t s d inside same_size pushed =
-    IsPermutation-trans _ _ _ (IsPermutation-sym _ _ (IsPermutation-middle (map (of_size u.size) u.starts) (s, t.size) (free_extents ts))) (IsPermutation-append_right (map (of_size u.size) u.starts) _ _ (free_pushed ts k t s d (omega arith) same_size pushed))
+    IsPermutation-trans _ _ _ (IsPermutation-sym _ _ (IsPermutation-middle (map (of_size u.size) u.starts) (of_size t.size s) (free_extents ts))) (IsPermutation-append_right (map (of_size u.size) u.starts) _ _ (free_pushed ts k t s d (omega arith) same_size pushed))
 
 -- what a change of one tier leaves
 sizes_stay : (ts : List Tier) (k : ℕ) (t : Tier) (j : ℕ) → k < length ts → t.size ≡ (tier_at ts k).size → (tier_at (set ts k t) j).size ≡ (tier_at ts j).size
@@ -38,13 +41,19 @@ tier_changed P ts k t inside here there j within =
     ⊎_elim (λ (e : j ≡ k). subst (λ i. P i (tier_at (set ts k t) i)) (sym e) (subst (P k) (sym (get_or-set_same ts k t _ inside)) here)) (λ (n : j ≢ k). subst (P j) (sym (get_or-set_other ts k j t _ n)) (there j (let e = length-set ts k t in omega arith) n)) (cases_eq j k)
 
 -- a tier that lost its last free block
-free_popped : (ts : List Tier) (k : ℕ) (t : Tier) (x : ℕ) → k < length ts → t.size ≡ (tier_at ts k).size → (tier_at ts k).starts ≡ t.starts ++ x ∷ [] → IsPermutation (free_extents ts) ((x, (tier_at ts k).size) ∷ free_extents (set ts k t))
+free_popped : (ts : List Tier) (k : ℕ) (t : Tier) (x : ℕ) → k < length ts → t.size ≡ (tier_at ts k).size → (tier_at ts k).starts ≡ t.starts ++ x ∷ [] → IsPermutation (free_extents ts) (of_size (tier_at ts k).size x ∷ free_extents (set ts k t))
 free_popped ts k t x inside same popped =
     let there : k < length (set ts k t) = (let n = length-set ts k t in omega arith) in
     let at : tier_at (set ts k t) k ≡ t = get_or-set_same ts k t _ inside in
     let back : set (set ts k t) k (tier_at ts k) ≡ ts = set-set ts k t (tier_at ts k) ∙ set-get_or ts k _ in
     let pushed = free_pushed (set ts k t) k (tier_at ts k) x _ there (sym same ∙ ap (λ (u : Tier). u.size) (sym at)) (popped ∙ ap (λ (u : Tier). u.starts ++ x ∷ []) (sym at)) in
-    IsPermutation-sym _ _ (subst (λ us. IsPermutation ((x, (tier_at ts k).size) ∷ free_extents (set ts k t)) (free_extents us)) back pushed)
+    IsPermutation-sym _ _ (subst (λ us. IsPermutation (of_size (tier_at ts k).size x ∷ free_extents (set ts k t)) (free_extents us)) back pushed)
+
+-- a tier's size is one of the sizes
+has_size : (ts : List Tier) (k : ℕ) → k < length ts → Contains (tier_sizes ts) (tier_at ts k).size
+has_size ts k inside =
+    let there : k < length (tier_sizes ts) = (let n = length-map ts (λ t. t.size) in omega (arith, inside, n)) in
+    (k, there, get_or_default (tier_sizes ts) k (tier_at ts k).size 0 there ∙ sym (size_at ts k))
 
 module _ {S : Type 0} where
   of_tier_stays : (ts : List Tier) (k : ℕ) (t : Tier) (live : List (Block S)) → k < length ts → t.size ≡ (tier_at ts k).size → All (IsOfTier ts) live → All (IsOfTier (set ts k t)) live
@@ -53,7 +62,11 @@ module _ {S : Type 0} where
 
   -- every block in use or free lies in the array
   all_inside : (vacant : S) (live : List (Block S)) (v : Store S) → Sound vacant live v → All (Within v.first (length v.slots)) (map extent live ++ free_extents v.tiers)
-  all_inside vacant live v s = each_within v.first (length v.slots) s.tiling _ s.tiles s.rearranged
+  all_inside vacant live v s = each_within (tier_sizes v.tiers) v.first (length v.slots) (map extent live) (free_extents v.tiers) s.blocks
+
+  -- the place of the first block lies in the array
+  pub first_place : (vacant : S) (live : List (Block S)) (v : Store S) → Sound vacant live v → v.first ≤ length v.slots
+  first_place vacant live v s = first_inside (tier_sizes v.tiers) v.first (length v.slots) (map extent live) (free_extents v.tiers) s.blocks
 
   -- the slots of a block lie in the array
   pub block_inside : (vacant : S) (b : Block S) (live : List (Block S)) (v : Store S) → Sound vacant (b ∷ live) v → Within v.first (length v.slots) (extent b)
@@ -61,10 +74,10 @@ module _ {S : Type 0} where
 
   -- all other blocks are apart from the first
   others : (vacant : S) (b : Block S) (live : List (Block S)) (v : Store S) → Sound vacant (b ∷ live) v → All (Disjoint (extent b)) (map extent live ++ free_extents v.tiers)
-  others vacant b live v s = others_apart v.first (length v.slots) s.tiling (extent b) (map extent live ++ free_extents v.tiers) s.tiles s.rearranged
+  others vacant b live v s = others_apart (tier_sizes v.tiers) v.first (length v.slots) (extent b) (map extent live) (free_extents v.tiers) s.blocks
 
   -- a fact of each extent is one of each block
-  All-extent : (P : ℕ × ℕ → Type 0) (live : List (Block S)) → All P (map extent live) → All (λ b. P (extent b)) live
+  All-extent : (P : Extent → Type 0) (live : List (Block S)) → All P (map extent live) → All (λ b. P (extent b)) live
   All-extent P [] all = All-nil (λ b. P (extent b))
   All-extent P (b ∷ live) all =
       All-cons (λ b. P (extent b)) b live (All-head P (extent b) (map extent live) all) (All-extent P live (All-tail P (extent b) (map extent live) all))
@@ -73,6 +86,15 @@ module _ {S : Type 0} where
   length-filled vacant n xs fits =
       let r = length-replicate (n - length xs) vacant in
       omega (arith, length-append xs (replicate (n - length xs) vacant))
+
+  -- the blocks of an array that is as long, one tier of which has others free
+  retiered : (live : List (Block S)) (v : Store S) (k : ℕ) (t : Tier) (live2 : List (Block S)) → t.size ≡ (tier_at v.tiers k).size →
+      IsPermutation (map extent live2 ++ free_extents (set v.tiers k t)) (map extent live ++ free_extents v.tiers) →
+      AreBlocksOf (tier_sizes v.tiers) v.first (map extent live) (free_extents v.tiers) (length v.slots) →
+      AreBlocksOf (tier_sizes (set v.tiers k t)) v.first (map extent live2) (free_extents (set v.tiers k t)) (length v.slots)
+  retiered live v k t live2 same moved b =
+      subst (λ ns. AreBlocksOf ns v.first (map extent live2) (free_extents (set v.tiers k t)) (length v.slots)) (sym (sizes_set v.tiers k t same))
+      (blocks_moved (tier_sizes v.tiers) v.first (length v.slots) (map extent live) (free_extents v.tiers) b (map extent live2) (free_extents (set v.tiers k t)) moved)
 
   -- the first block holds another list
   pub Sound-written : (vacant : S) (b : Block S) (live : List (Block S)) (v : Store S) (items : List S) → length items ≤ b.size → Sound vacant (b ∷ live) v → Sound vacant (record b { items = items } ∷ live) (record v { slots = put_run v.slots b.start (filled vacant b.size items) })
@@ -83,13 +105,11 @@ module _ {S : Type 0} where
       let same : length (put_run v.slots b.start ys) ≡ length v.slots = length-put_run v.slots b.start ys inside in
       let apart = others vacant b live v s in
       record {
-        tiling = s.tiling;
-        tiles = subst (λ n. IsTiling v.first s.tiling n) (sym same) s.tiles;
-        rearranged = s.rearranged;
+        blocks = subst (λ n. AreBlocksOf (tier_sizes v.tiers) v.first (map extent (b ∷ live)) (free_extents v.tiers) n) (sym same) s.blocks;
         of_tier = All-cons (IsOfTier v.tiers) (record b { items = items }) live (let h = All-head (IsOfTier v.tiers) b live s.of_tier in record { within = h.within; size_is = h.size_is }) (All-tail (IsOfTier v.tiers) b live s.of_tier);
         counted = s.counted;
-        held = All-cons (HoldsItems vacant (put_run v.slots b.start ys)) (record b { items = items }) live (subst (λ n. run (put_run v.slots b.start ys) b.start n ≡ ys) fits (run-put_run_same v.slots b.start ys inside)) (All-both (λ c. Disjoint (extent b) (extent c)) (HoldsItems vacant v.slots) (HoldsItems vacant (put_run v.slots b.start ys)) live (λ c d h. run-put_run_other v.slots b.start ys c.start c.size inside (subst (λ n. Disjoint (b.start, n) (c.start, c.size)) (sym fits) d) ∙ h) (All-extent (Disjoint (extent b)) live (All-append_left (Disjoint (extent b)) (map extent live) (free_extents v.tiers) apart)) (All-tail (HoldsItems vacant v.slots) b live s.held));
-        vacated = All-both (Disjoint (extent b)) (IsVacant vacant v.slots) (IsVacant vacant (put_run v.slots b.start ys)) (free_extents v.tiers) (λ e d h. run-put_run_other v.slots b.start ys e.0 e.1 inside (subst (λ n. Disjoint (b.start, n) e) (sym fits) d) ∙ h) (All-append_right (Disjoint (extent b)) (map extent live) (free_extents v.tiers) apart) s.vacated;
+        held = All-cons (HoldsItems vacant (put_run v.slots b.start ys)) (record b { items = items }) live (subst (λ n. run (put_run v.slots b.start ys) b.start n ≡ ys) fits (run-put_run_same v.slots b.start ys inside)) (All-both (λ c. Disjoint (extent b) (extent c)) (HoldsItems vacant v.slots) (HoldsItems vacant (put_run v.slots b.start ys)) live (λ c d h. run-put_run_other v.slots b.start ys c.start c.size inside (subst (λ n. Apart b.start n c.start c.size) (sym fits) d) ∙ h) (All-extent (Disjoint (extent b)) live (All-append_left (Disjoint (extent b)) (map extent live) (free_extents v.tiers) apart)) (All-tail (HoldsItems vacant v.slots) b live s.held));
+        vacated = All-both (Disjoint (extent b)) (IsVacant vacant v.slots) (IsVacant vacant (put_run v.slots b.start ys)) (free_extents v.tiers) (λ e d h. run-put_run_other v.slots b.start ys e.start e.size inside (subst (λ n. Apart b.start n e.start e.size) (sym fits) d) ∙ h) (All-append_right (Disjoint (extent b)) (map extent live) (free_extents v.tiers) apart) s.vacated;
       }
 
   -- the first block's slots
@@ -104,9 +124,8 @@ module _ {S : Type 0} where
   pub Sound-permuted : (vacant : S) (live moved : List (Block S)) (v : Store S) → IsPermutation live moved → Sound vacant live v → Sound vacant moved v
   Sound-permuted vacant live moved v p s =
       record {
-        tiling = s.tiling;
-        tiles = s.tiles;
-        rearranged = IsPermutation-trans s.tiling (map extent live ++ free_extents v.tiers) (map extent moved ++ free_extents v.tiers) s.rearranged (IsPermutation-append_left (free_extents v.tiers) (map extent live) (map extent moved) (IsPermutation-map extent live moved p));
+        blocks = blocks_moved (tier_sizes v.tiers) v.first (length v.slots) (map extent live) (free_extents v.tiers) s.blocks (map extent moved) (free_extents v.tiers)
+            (IsPermutation-append_left (free_extents v.tiers) (map extent moved) (map extent live) (IsPermutation-map extent moved live (IsPermutation-sym live moved p)));
         of_tier = All-permutation (IsOfTier v.tiers) live moved p s.of_tier;
         counted = λ k h. s.counted k h ∙ ap (λ n. length (tier_at v.tiers k).starts + n) (sym (sum_by-IsPermutation (λ (b : Block S). cond (eqb b.tier k) 1 0) live moved p));
         held = All-permutation (HoldsItems vacant v.slots) live moved p s.held;
@@ -114,22 +133,27 @@ module _ {S : Type 0} where
       }
 
   -- a free block was made at the array's end
-  pub Sound-grown : (vacant : S) (live : List (Block S)) (v : Store S) (k : ℕ) → k < length v.tiers → 0 < (tier_at v.tiers k).size → Sound vacant live v → Sound vacant live (grown vacant v k)
-  Sound-grown vacant live v k inside positive s =
+  pub Sound-grown : (vacant : S) (live : List (Block S)) (v : Store S) (k : ℕ) → k < length v.tiers → Sound vacant live v → Sound vacant live (grown vacant v k)
+  Sound-grown vacant live v k inside s =
       let t = tier_at v.tiers k in
-      let e : ℕ × ℕ = (length v.slots, t.size) in
+      let e : Extent = of_size t.size (length v.slots) in
       let new : Tier = record t { made = t.made + 1; starts = t.starts ++ length v.slots ∷ [] } in
       let pushed : IsPermutation (e ∷ free_extents v.tiers) (free_extents (set v.tiers k new)) = free_pushed v.tiers k new (length v.slots) _ inside refl refl in
       let longer : length (v.slots ++ replicate t.size vacant) ≡ length v.slots + t.size = (let r = length-replicate t.size vacant in omega (arith, length-append v.slots (replicate t.size vacant))) in
       let within = all_inside vacant live v s in
       record {
-        tiling = s.tiling ++ e ∷ [];
-        tiles = subst (λ n. IsTiling v.first (s.tiling ++ e ∷ []) n) (sym longer) (IsTiling-push v.first (length v.slots) t.size s.tiling s.tiles positive);
-        rearranged = IsPermutation-trans _ _ _ (IsPermutation-to_front s.tiling e) (IsPermutation-trans _ _ _ (IsPermutation-cons e _ _ s.rearranged) (IsPermutation-trans _ _ _ (IsPermutation-sym _ _ (IsPermutation-middle (map extent live) e (free_extents v.tiers))) (IsPermutation-append_right (map extent live) _ _ pushed)));
+        blocks = record {
+          blocks = s.blocks.blocks ++ e ∷ [];
+          tiles = subst (λ ns. Tiles ns v.first (s.blocks.blocks ++ e ∷ []) (length (v.slots ++ replicate t.size vacant))) (sym (sizes_set v.tiers k new refl))
+              (subst (Tiles (tier_sizes v.tiers) v.first (s.blocks.blocks ++ e ∷ [])) (sym longer) (Tiles-push (tier_sizes v.tiers) v.first (length v.slots) s.blocks.blocks e s.blocks.tiles (has_size v.tiers k inside) refl));
+          rearranged = IsPermutation-trans (map extent live ++ free_extents (set v.tiers k new)) (e ∷ (map extent live ++ free_extents v.tiers)) (s.blocks.blocks ++ e ∷ [])
+              (IsPermutation-trans _ _ _ (IsPermutation-append_right (map extent live) _ _ (IsPermutation-sym _ _ pushed)) (IsPermutation-middle (map extent live) e (free_extents v.tiers)))
+              (IsPermutation-trans _ _ _ (IsPermutation-cons e _ _ s.blocks.rearranged) (IsPermutation-sym _ _ (IsPermutation-to_front s.blocks.blocks e)));
+        };
         of_tier = of_tier_stays v.tiers k new live inside refl s.of_tier;
         counted = tier_changed (λ j u. u.made ≡ length u.starts + count_by (λ (b : Block S). eqb b.tier j) live) v.tiers k new inside (omega (arith, s.counted k inside, length-append t.starts (length v.slots ∷ []))) (λ j h n. s.counted j h);
         held = All-both (λ c. Within v.first (length v.slots) (extent c)) (HoldsItems vacant v.slots) (HoldsItems vacant (v.slots ++ replicate t.size vacant)) live (λ c w h. run-append_left v.slots (replicate t.size vacant) c.start c.size w.before ∙ h) (All-extent (Within v.first (length v.slots)) live (All-append_left (Within v.first (length v.slots)) (map extent live) (free_extents v.tiers) within)) s.held;
-        vacated = All-permutation (IsVacant vacant (v.slots ++ replicate t.size vacant)) (e ∷ free_extents v.tiers) (free_extents (set v.tiers k new)) pushed (All-cons (IsVacant vacant (v.slots ++ replicate t.size vacant)) e (free_extents v.tiers) (run-append_right v.slots (replicate t.size vacant) t.size (sym (length-replicate t.size vacant))) (All-both (Within v.first (length v.slots)) (IsVacant vacant v.slots) (IsVacant vacant (v.slots ++ replicate t.size vacant)) (free_extents v.tiers) (λ f w h. run-append_left v.slots (replicate t.size vacant) f.0 f.1 w.before ∙ h) (All-append_right (Within v.first (length v.slots)) (map extent live) (free_extents v.tiers) within) s.vacated));
+        vacated = All-permutation (IsVacant vacant (v.slots ++ replicate t.size vacant)) (e ∷ free_extents v.tiers) (free_extents (set v.tiers k new)) pushed (All-cons (IsVacant vacant (v.slots ++ replicate t.size vacant)) e (free_extents v.tiers) (run-append_right v.slots (replicate t.size vacant) t.size (sym (length-replicate t.size vacant))) (All-both (Within v.first (length v.slots)) (IsVacant vacant v.slots) (IsVacant vacant (v.slots ++ replicate t.size vacant)) (free_extents v.tiers) (λ f w h. run-append_left v.slots (replicate t.size vacant) f.start f.size w.before ∙ h) (All-append_right (Within v.first (length v.slots)) (map extent live) (free_extents v.tiers) within) s.vacated));
       }
 
   -- 1 for a block of tier k
@@ -162,9 +186,7 @@ module _ {S : Type 0} where
       let moved : IsPermutation (free_extents v.tiers) (extent b ∷ free_extents (set v.tiers k t)) = free_popped v.tiers k t x inside same_size popped in
       let empty : All (IsVacant vacant v.slots) (extent b ∷ free_extents (set v.tiers k t)) = All-permutation (IsVacant vacant v.slots) _ _ moved s.vacated in
       record {
-        tiling = s.tiling;
-        tiles = s.tiles;
-        rearranged = IsPermutation-trans _ _ _ s.rearranged (IsPermutation-trans _ _ _ (IsPermutation-append_right (map extent live) _ _ moved) (IsPermutation-middle (map extent live) (extent b) (free_extents (set v.tiers k t))));
+        blocks = retiered live v k t (b ∷ live) same_size (IsPermutation-trans _ _ _ (IsPermutation-sym _ _ (IsPermutation-middle (map extent live) (extent b) (free_extents (set v.tiers k t)))) (IsPermutation-append_right (map extent live) _ _ (IsPermutation-sym _ _ moved))) s.blocks;
         of_tier = All-cons (IsOfTier (set v.tiers k t)) b live (record { within = (let n = length-set v.tiers k t in omega arith); size_is = sym (sizes_stay v.tiers k t k inside same_size) }) (of_tier_stays v.tiers k t live inside same_size s.of_tier);
         counted = tier_changed (λ j u. u.made ≡ length u.starts + count_of j (b ∷ live)) v.tiers k t inside (omega (arith, s.counted k inside, ap (λ (xs : List ℕ). length xs) popped, length-append t.starts (x ∷ []), same_made, count-cons_same b live k refl)) (λ j h n. s.counted j h ∙ ap (λ m. length (tier_at v.tiers j).starts + m) (sym (count-cons_other b live j (λ e. n (sym e)))));
         held = All-cons (HoldsItems vacant v.slots) b live (All-head (IsVacant vacant v.slots) (extent b) (free_extents (set v.tiers k t)) empty ∙ sym (filled_none vacant b.size)) s.held;
@@ -177,11 +199,9 @@ module _ {S : Type 0} where
       let of : IsOfTier v.tiers b = All-head (IsOfTier v.tiers) b live s.of_tier in
       let inside : b.tier < length v.tiers = of.within in
       let size_is : t.size ≡ b.size = same_size ∙ sym of.size_is in
-      let moved : IsPermutation (extent b ∷ free_extents v.tiers) (free_extents (set v.tiers b.tier t)) = subst (λ n. IsPermutation ((b.start, n) ∷ free_extents v.tiers) (free_extents (set v.tiers b.tier t))) size_is (free_pushed v.tiers b.tier t b.start _ inside same_size pushed) in
+      let moved : IsPermutation (extent b ∷ free_extents v.tiers) (free_extents (set v.tiers b.tier t)) = subst (λ n. IsPermutation (of_size n b.start ∷ free_extents v.tiers) (free_extents (set v.tiers b.tier t))) size_is (free_pushed v.tiers b.tier t b.start _ inside same_size pushed) in
       record {
-        tiling = s.tiling;
-        tiles = s.tiles;
-        rearranged = IsPermutation-trans _ _ _ s.rearranged (IsPermutation-trans _ _ _ (IsPermutation-sym _ _ (IsPermutation-middle (map extent live) (extent b) (free_extents v.tiers))) (IsPermutation-append_right (map extent live) _ _ moved));
+        blocks = retiered (b ∷ live) v b.tier t live same_size (IsPermutation-trans _ _ _ (IsPermutation-append_right (map extent live) _ _ (IsPermutation-sym _ _ moved)) (IsPermutation-middle (map extent live) (extent b) (free_extents v.tiers))) s.blocks;
         of_tier = of_tier_stays v.tiers b.tier t live inside same_size (All-tail (IsOfTier v.tiers) b live s.of_tier);
         counted = tier_changed (λ j u. u.made ≡ length u.starts + count_of j live) v.tiers b.tier t inside (omega (arith, s.counted b.tier inside, ap (λ (xs : List ℕ). length xs) pushed, length-append (tier_at v.tiers b.tier).starts (b.start ∷ []), same_made, count-cons_same b live b.tier refl)) (λ j h n. s.counted j h ∙ ap (λ m. length (tier_at v.tiers j).starts + m) (count-cons_other b live j (λ e. n (sym e))));
         held = All-tail (HoldsItems vacant v.slots) b live s.held;
@@ -206,10 +226,10 @@ made_fits ts k old new starts first len inside read new_is total positive =
 
 module _ {S : Type 0} where
   -- `Sound-grown`, as the calls say what they wrote
-  pub Sound-grown_as : (vacant : S) (live : List (Block S)) (v : Store S) (k n x : ℕ) (t : Tier) (items : List S) → k < length v.tiers → 0 < (tier_at v.tiers k).size → items ≡ v.slots ++ replicate n vacant → n ≡ (tier_at v.tiers k).size → x ≡ length v.slots → t ≡ record (tier_at v.tiers k) { made = (tier_at v.tiers k).made + 1; starts = (tier_at v.tiers k).starts ++ x ∷ [] } → Sound vacant live v → Sound vacant live (record v { slots = items; tiers = set v.tiers k t })
-  Sound-grown_as vacant live v k n x t items inside positive items_is n_is x_is t_is s =
+  pub Sound-grown_as : (vacant : S) (live : List (Block S)) (v : Store S) (k n x : ℕ) (t : Tier) (items : List S) → k < length v.tiers → items ≡ v.slots ++ replicate n vacant → n ≡ (tier_at v.tiers k).size → x ≡ length v.slots → t ≡ record (tier_at v.tiers k) { made = (tier_at v.tiers k).made + 1; starts = (tier_at v.tiers k).starts ++ x ∷ [] } → Sound vacant live v → Sound vacant live (record v { slots = items; tiers = set v.tiers k t })
+  Sound-grown_as vacant live v k n x t items inside items_is n_is x_is t_is s =
       let old = tier_at v.tiers k in
-      subst (λ ys. Sound vacant live (record v { slots = ys; tiers = set v.tiers k t })) (sym (items_is ∙ ap (λ m. v.slots ++ replicate m vacant) n_is)) (subst (λ u. Sound vacant live (record v { slots = v.slots ++ replicate old.size vacant; tiers = set v.tiers k u })) (sym (t_is ∙ ap (λ y. record old { made = old.made + 1; starts = old.starts ++ y ∷ [] }) x_is)) (Sound-grown vacant live v k inside positive s))
+      subst (λ ys. Sound vacant live (record v { slots = ys; tiers = set v.tiers k t })) (sym (items_is ∙ ap (λ m. v.slots ++ replicate m vacant) n_is)) (subst (λ u. Sound vacant live (record v { slots = v.slots ++ replicate old.size vacant; tiers = set v.tiers k u })) (sym (t_is ∙ ap (λ y. record old { made = old.made + 1; starts = old.starts ++ y ∷ [] }) x_is)) (Sound-grown vacant live v k inside s))
 
   -- a list in a block gains an item
   filled_insert : (vacant : S) (n : ℕ) (xs : List S) (i : ℕ) (x : S) → length xs < n → i ≤ length xs → insert (remove (filled vacant n xs) (length xs)) i x ≡ filled vacant n (insert xs i x)
@@ -274,7 +294,7 @@ module _ {S : Type 0} where
       let wb = block_inside vacant b (a ∷ live) v (Sound-exchanged vacant a b live v s) in
       let fits : c ≤ a.size = (let f = fits_block vacant a (b ∷ live) v s in omega arith) in
       let apart : Disjoint (extent a) (extent b) = All-head (Disjoint (extent a)) (extent b) (map extent live ++ free_extents v.tiers) (others vacant a (b ∷ live) v s) in
-      let narrow : Disjoint (a.start, c) (b.start, c) = ⊎_elim (λ (h : a.start + a.size ≤ b.start). inl (let e : a.start + c ≤ b.start = omega arith in e)) (λ (h : b.start + b.size ≤ a.start). inr (let e : b.start + c ≤ a.start = omega arith in e)) apart in
+      let narrow : Apart a.start c b.start c = ⊎_elim (λ (h : a.start + a.size ≤ b.start). inl (let e : a.start + c ≤ b.start = omega arith in e)) (λ (h : b.start + b.size ≤ a.start). inr (let e : b.start + c ≤ a.start = omega arith in e)) apart in
       let slots_a : run v.slots a.start a.size ≡ filled vacant a.size a.items = block_slots vacant a (b ∷ live) v s in
       let slots_b : run v.slots b.start b.size ≡ replicate b.size vacant = block_slots vacant b (a ∷ live) v (Sound-exchanged vacant a b live v s) ∙ ap (λ xs. filled vacant b.size xs) none ∙ filled_none vacant b.size in
       let held_a : run v.slots a.start c ≡ a.items = sym (take-take c a.size (drop a.start v.slots) fits) ∙ ap (λ xs. take c xs) slots_a ∙ take_at a.items (replicate (a.size - length a.items) vacant) c is_count in
@@ -339,9 +359,7 @@ module _ {S : Type 0} where
   pub Sound-new : (vacant : S) (v : Store S) → v.first ≡ length v.slots → All (λ t. (t.made ≡ 0) × (t.starts ≡ [])) v.tiers → Sound vacant [] v
   Sound-new vacant v whole none =
       record {
-        tiling = [];
-        tiles = whole;
-        rearranged = subst (λ xs. IsPermutation [] xs) (sym (none_free v.tiers none)) (IsPermutation-refl []);
+        blocks = record { blocks = []; tiles = sym whole; rearranged = subst (λ xs. IsPermutation xs []) (sym (none_free v.tiers none)) (IsPermutation-refl []) };
         of_tier = All-nil (IsOfTier v.tiers);
         counted = λ k h. (let e = none k (record { size = 0; made = 0; starts = [] }) h in e.0 ∙ ap (λ (xs : List ℕ). length xs + 0) (sym e.1));
         held = All-nil (HoldsItems vacant v.slots);
@@ -363,11 +381,9 @@ module _ {S : Type 0} where
   Sound-set_before vacant live v i x before s =
       let within = all_inside vacant live v s in
       record {
-        tiling = s.tiling;
-        tiles = subst (λ n. IsTiling v.first s.tiling n) (sym (length-set v.slots i x)) s.tiles;
-        rearranged = s.rearranged;
+        blocks = subst (λ n. AreBlocksOf (tier_sizes v.tiers) v.first (map extent live) (free_extents v.tiers) n) (sym (length-set v.slots i x)) s.blocks;
         of_tier = s.of_tier;
         counted = s.counted;
         held = All-both (λ c. Within v.first (length v.slots) (extent c)) (HoldsItems vacant v.slots) (HoldsItems vacant (set v.slots i x)) live (λ c w h. run-set_before v.slots c.start c.size i x (omega (arith, w.after)) ∙ h) (All-extent (Within v.first (length v.slots)) live (All-append_left (Within v.first (length v.slots)) (map extent live) (free_extents v.tiers) within)) s.held;
-        vacated = All-both (Within v.first (length v.slots)) (IsVacant vacant v.slots) (IsVacant vacant (set v.slots i x)) (free_extents v.tiers) (λ e w h. run-set_before v.slots e.0 e.1 i x (omega (arith, w.after)) ∙ h) (All-append_right (Within v.first (length v.slots)) (map extent live) (free_extents v.tiers) within) s.vacated;
+        vacated = All-both (Within v.first (length v.slots)) (IsVacant vacant v.slots) (IsVacant vacant (set v.slots i x)) (free_extents v.tiers) (λ e w h. run-set_before v.slots e.start e.size i x (omega (arith, w.after)) ∙ h) (All-append_right (Within v.first (length v.slots)) (map extent live) (free_extents v.tiers) within) s.vacated;
       }

@@ -22,7 +22,8 @@ use Rattle.prefix_trie_table.specs.Cells.{node_at}
 use Rattle.prefix_trie_table.specs.Digits.{path_of}
 use Rattle.prefix_trie_table.specs.Store.{Store}
 use Rattle.prefix_trie_table.specs.Forest.{read, child_slot}
-use Rattle.prefix_trie_table.specs.Walks.{Site, Tree, IsTree, IsSpot, IsPlaceOf, still, GivesSeat, many, most, weight_of, weight}
+use Rattle.prefix_trie_table.specs.Walks.{Site, Tree, IsSpot, IsPlaceOf, still, GivesSeat, many, most, weight_of, weight}
+use Rattle.prefix_trie_table.specs.Tables.{IsTrie}
 use Rattle.prefix_trie_table.proofs.Bits.{rank-ones}
 use Rattle.prefix_trie_table.proofs.Subtrees.{is_in-value, is_in-child, number-small, stored_value, value_read, value_inside, value_listed, value_fits, child_is, child_inside, child_few, child_fits, all_places}
 
@@ -123,7 +124,7 @@ module _ {K : Type 0} (IsKey : K → Type 0) (bits : K → List Bool) (width : �
     pub lighter : weight after < weight p
     lighter = omega (arith, weight_is)
 
-    module _ {T : Type 0} (t : Tree T) (tree : IsTree width v t) where
+    module _ {T : Type 0} (t : Tree T) (tree : IsTrie width t.count v t.cells t.shape) where
       still_is : still bits t.shape.entries p ≡ listing_at_place t.shape.entries (take p.depth (bits p.key)) s ++ still bits t.shape.entries after
       still_is = ap (listing_at_places t.shape.entries (take p.depth (bits p.key))) first
 

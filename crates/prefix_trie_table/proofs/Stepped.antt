@@ -12,13 +12,14 @@ use Rattle.prefix_trie_bits.proofs.Model.Members.{and-first, same_entries}
 use Rattle.prefix_trie_table.specs.declared.allocator.node.Node.{Node}
 use Rattle.prefix_trie_table.specs.Cells.{node_sizes, cell_sizes}
 use Rattle.prefix_trie_table.specs.Digits.{path_of, bit_of}
-use Rattle.prefix_trie_table.specs.Forest.{Holds, IsTable, has_child, has_value, own_count, read, with_value}
+use Rattle.prefix_trie_table.specs.Forest.{Holds, SomeTable, has_child, has_value, own_count, read, with_value}
 use Rattle.prefix_trie_table.specs.Layouts.{AreSizesBy, Sized, own_children, child_block_size, value_block_size, free_counts}
 use Rattle.prefix_trie_table.specs.Removals.{EntryTaken, EntryRemoved}
 use Rattle.prefix_trie_table.specs.Retaining.{ValuesBetween, ChildrenBetween}
 use Rattle.prefix_trie_table.specs.Shape.{IsShapeOf, Shaped}
 use Rattle.prefix_trie_table.specs.Store.{Store}
-use Rattle.prefix_trie_table.specs.Tables.{IsTableOf, ForHeld}
+use Rattle.prefix_trie_table.specs.Tables.{IsTable, ForHeld}
+use Rattle.prefix_trie_table.proofs.Invariant.{some_table}
 use Rattle.prefix_trie_table.proofs.Bare.{no_bit}
 use Rattle.prefix_trie_table.proofs.BitLists.{rank-zero-all}
 use Rattle.prefix_trie_table.proofs.Digits.{path-length, path-take}
@@ -160,29 +161,29 @@ module _ {T : Type 0} (reading : List ℕ → Option Node) (values : List ℕ �
 
 -- the sizes of the blocks of a table
 module _ {T : Type 0} (key : List Bool) (v v2 : Store Node) (w w2 : Store (Option T)) (count : ℕ) (s : Shaped v.slots w.slots) (z : Sized v.slots)
-    (is : IsTableOf v w count s.0) (s2 : Shaped v2.slots w2.slots) (z2 : Sized v2.slots) where
-  values_left : Left is.held.table.reading (path_of key) v w v2 w2 →
+    (is : IsTable v w count s.0) (s2 : Shaped v2.slots w2.slots) (z2 : Sized v2.slots) where
+  values_left : Left is.reading (path_of key) v w v2 w2 →
       SizesStepDown value_block_sizes (free_counts w.tiers) s.0.nodes (own_entries s.0.entries) (own_entries s2.0.entries) z.1.0 z2.1.0
   values_left l =
-      let t = is.held.table in
+      let t = is in
       sizes_step_down value_block_size own_count cell_sizes (free_counts w.tiers) t.reading l.later l.values l.gone refl v.slots v2.slots
       (reads node_sizes t.reading t.paths v t.holds.hold) (reads node_sizes l.later l.paths v2 l.holds.hold) s.0.nodes
       (shape_nodes t.reading t.values t.paths v w t.holds s.0 s.1) (own_entries s.0.entries) (own_entries s2.0.entries)
       (own_is t.reading t.values t.paths v w t.holds s.0 s.1) (own_is l.later l.found l.paths v2 w2 l.holds s2.0 s2.1) z.1.0 z2.1.0 z.1.1.1 z2.1.1.1
 
-  children_left : Left is.held.table.reading (path_of key) v w v2 w2 →
+  children_left : Left is.reading (path_of key) v w v2 w2 →
       SizesStepDown child_block_sizes (free_counts v.tiers) s.0.nodes (child_count s.0.nodes) (child_count s2.0.nodes) z.0 z2.0
   children_left l =
-      let t = is.held.table in
+      let t = is in
       sizes_step_down child_block_size own_children node_sizes (free_counts v.tiers) t.reading l.later l.children l.gone refl v.slots v2.slots
       (reads node_sizes t.reading t.paths v t.holds.hold) (reads node_sizes l.later l.paths v2 l.holds.hold) s.0.nodes
       (shape_nodes t.reading t.values t.paths v w t.holds s.0 s.1) (child_count s.0.nodes) (child_count s2.0.nodes)
       (children_is t.reading t.values t.paths v w t.holds s.0 s.1) (children_is l.later l.found l.paths v2 w2 l.holds s2.0 s2.1) z.0 z2.0 z.1.1.0 z2.1.1.0
 
-  cells_grow : Left is.held.table.reading (path_of key) v w v2 w2 →
+  cells_grow : Left is.reading (path_of key) v w v2 w2 →
       GrowsByOne value_block_sizes w w2 (get z.1.0 (home key)) (get z2.1.0 (home key))
   cells_grow l =
-      let t = is.held.table in
+      let t = is in
       let depth : is_node_depth (home key) ≡ true = eq-eqb (length (home key) % 5) 0 (home-depth key) in
       let was : get z.1.0 (home key) ≡ value_block_size (t.reading (path_of key)) =
       size_read value_block_size v.slots t.reading z.1.0 z.1.1.1 (reads node_sizes t.reading t.paths v t.holds.hold) (home key) depth
@@ -193,10 +194,10 @@ module _ {T : Type 0} (key : List Bool) (v v2 : Store Node) (w w2 : Store (Optio
       subst (λ o. GrowsByOne value_block_sizes w w2 o (get z2.1.0 (home key))) (sym was)
       (subst (λ o. GrowsByOne value_block_sizes w w2 (value_block_size (t.reading (path_of key))) o) (sym now) l.of_cells)
 
-  nodes_grow : Left is.held.table.reading (path_of key) v w v2 w2 →
+  nodes_grow : Left is.reading (path_of key) v w v2 w2 →
       (p : List Bool) × GrowsAtMost child_block_sizes v v2 (get z.0 p) (get z2.0 p)
   nodes_grow l =
-      let t = is.held.table in
+      let t = is in
       let p : List Bool = take (5 * l.stop) key in
       let inside : 5 * l.stop ≤ length key = fifths (length key) l.stop (length (path_of key)) l.stop_within (path-length key) in
       let depth : is_node_depth (take (5 * l.stop) key) ≡ true =
@@ -217,18 +218,18 @@ module _ {T : Type 0} (key : List Bool) (v v2 : Store Node) (w w2 : Store (Optio
       whole k n e = omega (arith, e)
 
   -- the array of values as the model says
-  removes_in : IsTable v2 w2 → Left is.held.table.reading (path_of key) v w v2 w2 → RemovesValueInStorage s.0 s2.0 key (storage_of v w z) (storage_of v2 w2 z2)
+  removes_in : SomeTable v2 w2 → Left is.reading (path_of key) v w v2 w2 → RemovesValueInStorage s.0 s2.0 key (storage_of v w z) (storage_of v2 w2 z2)
   removes_in later l =
       let grows = cells_grow l in
       record {
         value_blocks = values_left l;
         cells_longer = grows.longer;
-        value_blocks_made = blocks_made cell_sizes w w2 z.1.0 z2.1.0 (cells_cut v w is.held.table z) (cells_cut v2 w2 later z2)
+        value_blocks_made = blocks_made cell_sizes w w2 z.1.0 z2.1.0 (cells_cut v w (some_table is) z) (cells_cut v2 w2 later z2)
             (made_of value_block_sizes (free_counts w.tiers) (get z.1.0 (home key)) (get z2.1.0 (home key))) grows.made;
       }
 
   -- and that of nodes
-  prunes_in : IsTable v2 w2 → Left is.held.table.reading (path_of key) v w v2 w2 → PrunesInStorage s.0 s2.0 (storage_of v w z) (storage_of v2 w2 z2)
+  prunes_in : SomeTable v2 w2 → Left is.reading (path_of key) v w v2 w2 → PrunesInStorage s.0 s2.0 (storage_of v w z) (storage_of v2 w2 z2)
   prunes_in later l =
       let grows = nodes_grow l in
       record {
@@ -236,7 +237,7 @@ module _ {T : Type 0} (key : List Bool) (v v2 : Store Node) (w w2 : Store (Optio
         nodes_longer = (
           grows.0,
           grows.1.longer,
-          blocks_at_most node_sizes v v2 z.0 z2.0 (nodes_cut v w is.held.table z) (nodes_cut v2 w2 later z2)
+          blocks_at_most node_sizes v v2 z.0 z2.0 (nodes_cut v w (some_table is) z) (nodes_cut v2 w2 later z2)
               (made_of child_block_sizes (free_counts v.tiers) (get z.0 grows.0) (get z2.0 grows.0)) grows.1.made,
         );
       }
@@ -244,15 +245,15 @@ module _ {T : Type 0} (key : List Bool) (v v2 : Store Node) (w w2 : Store (Optio
   -- where the nodes stay
   module _ (taken : ForHeld v w (λ reading paths values. EntryTaken reading paths values (path_of key) (bit_of key) v2 w w2))
       (long : length v2.slots ≡ length v.slots) (tiers : v2.tiers ≡ v.tiers) where
-    abbrev took : EntryTaken is.held.table.reading is.held.table.paths is.held.table.values (path_of key) (bit_of key) v2 w w2
-    took = taken is.held.table.reading is.held.table.paths is.held.table.values is.held.table.holds
+    abbrev took : EntryTaken is.reading is.paths is.values (path_of key) (bit_of key) v2 w w2
+    took = taken is.reading is.paths is.values is.holds
 
-    pub kept_in : IsTable v2 w2 → RemovesValueInStorage s.0 s2.0 key (storage_of v w z) (storage_of v2 w2 z2)
-    kept_in later = (let t = is.held.table in removes_in later (left_taken t.reading t.values t.paths v w t.holds key v2 w2 took long tiers))
+    pub kept_in : SomeTable v2 w2 → RemovesValueInStorage s.0 s2.0 key (storage_of v w z) (storage_of v2 w2 z2)
+    kept_in later = (let t = is in removes_in later (left_taken t.reading t.values t.paths v w t.holds key v2 w2 took long tiers))
 
     pub kept_children : z2.0 ≡ z.0
     kept_children =
-        let t = is.held.table in
+        let t = is in
         same_entries z2.0 z.0 (λ p.
         z2.1.1.0 p
         ∙ ap (λ o. cond (is_node_depth p) o None)
@@ -263,15 +264,15 @@ module _ {T : Type 0} (key : List Bool) (v v2 : Store Node) (w w2 : Store (Optio
 
   -- where the way is pruned
   module _ (done : ForHeld v w (λ reading paths values. EntryRemoved reading paths values (path_of key) (bit_of key) v w v2 w2)) where
-    removed_left : Left is.held.table.reading (path_of key) v w v2 w2
+    removed_left : Left is.reading (path_of key) v w v2 w2
     removed_left =
-        let t = is.held.table in
+        let t = is in
         left_removed t.reading t.values t.paths v w t.holds key v2 w2 s.0 s.1 (done t.reading t.paths t.values t.holds)
 
-    pub removed_in : IsTable v2 w2 → RemovesValueInStorage s.0 s2.0 key (storage_of v w z) (storage_of v2 w2 z2)
+    pub removed_in : SomeTable v2 w2 → RemovesValueInStorage s.0 s2.0 key (storage_of v w z) (storage_of v2 w2 z2)
     removed_in later = removes_in later removed_left
 
-    pub pruned_in : IsTable v2 w2 → PrunesInStorage s.0 s2.0 (storage_of v w z) (storage_of v2 w2 z2)
+    pub pruned_in : SomeTable v2 w2 → PrunesInStorage s.0 s2.0 (storage_of v w z) (storage_of v2 w2 z2)
     pruned_in later = prunes_in later removed_left
 
 -- ---- where several values are taken
@@ -302,8 +303,8 @@ module _ (size : Option Node → Option ℕ) (count : Option Node → ℕ) (size
     ];
   }
 
-module _ {T : Type 0} (v v2 : Store Node) (w w2 : Store (Option T)) (s : Shaped v.slots w.slots) (z : Sized v.slots) (t : IsTable v w)
-    (s2 : Shaped v2.slots w2.slots) (z2 : Sized v2.slots) (t2 : IsTable v2 w2) where
+module _ {T : Type 0} (v v2 : Store Node) (w w2 : Store (Option T)) (s : Shaped v.slots w.slots) (z : Sized v.slots) (t : SomeTable v w)
+    (s2 : Shaped v2.slots w2.slots) (z2 : Sized v2.slots) (t2 : SomeTable v2 w2) where
   pub retained_values : ((x : List ℕ) → ValuesBetween (read v.slots x) (read v2.slots x)) →
       SizesStepBetween value_block_sizes s.0.nodes (own_entries s.0.entries) (own_entries s2.0.entries) z.1.0 z2.1.0
   retained_values steps =

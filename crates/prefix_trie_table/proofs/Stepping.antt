@@ -1,5 +1,5 @@
 -- What a removal does to the size of a block, by the tiers and counts of nodes.
-use Rattle.std.proofs.Common.{◌≡◌, ◌≢◌, ℕ, zero, suc, ◌+◌, ◌-◌, ◌<◌, ◌≤◌, ◌==◌, ◌⊎◌, inl, inr, ⊎_elim, true, false, cond, List, [], ◌∷◌, ◌++◌, length, get_or, take, Option, None, Some, is_some, option_map, nat_le, refl, sym, ap, ◌∙◌, subst, arith, eq-eqb}
+use Rattle.std.proofs.Common.{◌≡◌, ◌≢◌, ℕ, zero, suc, ◌+◌, ◌-◌, ◌<◌, ◌≤◌, ◌⊎◌, inl, inr, ⊎_elim, true, false, List, [], ◌∷◌, ◌++◌, length, take, Option, None, Some, is_some, option_map, nat_le, refl, sym, ap, ◌∙◌, subst, arith, eq-eqb}
 use Rattle.std.proofs.lemmas.Bool.{true≢false, false≢true, cases_Bool, cases_lt}
 use Rattle.std.proofs.lemmas.List.{take_all}
 use Rattle.std.proofs.lemmas.List.Quantifiers.{position-Some}
@@ -25,6 +25,7 @@ module _ (sizes free : List ℕ) (before after : ℕ) (old new : Option ℕ) whe
   -- where no item was taken
   pub steps_same : after ≡ before → new ≡ old → (after ≡ 0 → new ≡ None) → StepsDown sizes free before after old new
   steps_same count same empty = record {
+    fewer = omega arith;
     same = λ _. same;
     none = empty;
     one_of = λ less some. absurd (omega arith);
@@ -34,6 +35,7 @@ module _ (sizes free : List ℕ) (before after : ℕ) (old new : Option ℕ) whe
   -- where none is left
   pub steps_gone : after ≡ 0 → new ≡ None → (before ≡ 0 → old ≡ None) → StepsDown sizes free before after old new
   steps_gone count gone empty = record {
+    fewer = omega arith;
     same = λ e. gone ∙ sym (empty (omega arith));
     none = λ _. gone;
     one_of = λ less some. absurd (omega arith);
@@ -68,6 +70,7 @@ module _ (ts : List Tier) (sizes : List ℕ) (are : tier_sizes ts ≡ sizes) (se
     -- the list of such a block steps down
     pub steps_shrunk : StepsDown sizes (free_counts ts) count after (size_if_any count (size_in sizes k)) (size_if_any after (size_in sizes to))
     steps_shrunk = record {
+      fewer = omega arith;
       same = λ e. absurd (omega arith);
       none = λ e. ap (λ n. size_if_any n (size_in sizes to)) e;
       one_of = λ less some. ⊎_elim

@@ -8,10 +8,9 @@ use Rattle.prefix_trie_table.specs.declared.allocator.node.Node.{Node}
 use Rattle.prefix_trie_table.specs.Digits.{path_of}
 use Rattle.prefix_trie_table.specs.Cells.{blank_node, node_sizes}
 use Rattle.prefix_trie_table.specs.Store.{Store}
-use Rattle.prefix_trie_table.specs.Forest.{node_or_blank, NodesHold}
+use Rattle.prefix_trie_table.specs.Forest.{node_or_blank, NodesHold, SomeTable}
 use Rattle.prefix_trie_table.specs.Layouts.{Sized, child_block_size, value_block_size}
 use Rattle.prefix_trie_table.specs.Settling.{headroom, headroom_if_any, headroom_of, child_headroom, value_headroom, Settles}
-use Rattle.prefix_trie_table.specs.Tables.{IsCounted}
 use Rattle.prefix_trie_table.proofs.Filling.{sum-fresh}
 use Rattle.prefix_trie_table.proofs.NodeCounts.{slots_by_path}
 use Rattle.prefix_trie_table.proofs.PathStrings.{string_at, AreSteps, AreOnce, other_steps, other_once, fresh_string, paths_steps, paths_once}
@@ -57,31 +56,29 @@ module _ (nodes : List ℕ → Option Node) (paths : List (List ℕ)) (v : Store
       same (Some n) = refl
 
 -- so the headroom of all nodes is that of their sizes
-module _ {T : Type 0} (v : Store Node) (w : Store (Option T)) (count : ℕ) (held : IsCounted v w count) (z : Sized v.slots) where
+module _ {T : Type 0} (v : Store Node) (w : Store (Option T)) (t : SomeTable v w) (z : Sized v.slots) where
   children_headroom : sum_by child_headroom v.slots ≡ headroom_of z.0
   children_headroom =
-      let t = held.table in
       slots_headroom t.reading t.paths v t.holds.hold child_block_size refl no_children
       ∙ ap headroom_of (sym (sizes_only node_sizes t.reading t.paths v t.holds.hold z).0)
 
   values_headroom : sum_by value_headroom v.slots ≡ headroom_of z.1.0
   values_headroom =
-      let t = held.table in
       slots_headroom t.reading t.paths v t.holds.hold value_block_size refl no_own_values
       ∙ ap headroom_of (sym (sizes_only node_sizes t.reading t.paths v t.holds.hold z).1)
 
 -- arrays that settle grow by no more than the headroom that is lost
-module _ {T : Type 0} (v v2 : Store Node) (w w2 : Store (Option T)) (count count2 : ℕ) (held : IsCounted v w count) (held2 : IsCounted v2 w2 count2)
+module _ {T : Type 0} (v v2 : Store Node) (w w2 : Store (Option T)) (t : SomeTable v w) (t2 : SomeTable v2 w2)
     (z : Sized v.slots) (z2 : Sized v2.slots) (settles : Settles v v2 w w2) where
   pub nodes_settled : length v2.slots + headroom_of z2.0 ≤ length v.slots + headroom_of z.0
   nodes_settled =
       let s = settles.nodes in
-      omega (arith, s, children_headroom v w count held z, children_headroom v2 w2 count2 held2 z2)
+      omega (arith, s, children_headroom v w t z, children_headroom v2 w2 t2 z2)
 
   pub cells_settled : length w2.slots + headroom_of z2.1.0 ≤ length w.slots + headroom_of z.1.0
   cells_settled =
       let s = settles.cells in
-      omega (arith, s, values_headroom v w count held z, values_headroom v2 w2 count2 held2 z2)
+      omega (arith, s, values_headroom v w t z, values_headroom v2 w2 t2 z2)
 
 -- where no size changed nothing is lost, and an array is no shorter
 pub still : (before after : ℕ) (old new : Sizes) → after + headroom_of new ≤ before + headroom_of old → before ≤ after → new ≡ old → after ≡ before

@@ -17,7 +17,9 @@ use Rattle.prefix_trie_table.specs.Cells.{node_at, node_sizes, cell_sizes}
 use Rattle.prefix_trie_table.specs.Digits.{path_of, rest_of, bit_of}
 use Rattle.prefix_trie_table.specs.Store.{Store}
 use Rattle.prefix_trie_table.specs.Forest.{read, read_from, below, child, child_slot, has_value, value_of, at_root}
-use Rattle.prefix_trie_table.specs.Walks.{Tree, IsTree}
+use Rattle.prefix_trie_table.specs.Walks.{Tree}
+use Rattle.prefix_trie_table.specs.Tables.{IsTrie}
+use Rattle.prefix_trie_table.proofs.Invariant.{some_table}
 use Rattle.prefix_trie_table.proofs.Bits.{has_bit-is}
 use Rattle.prefix_trie_table.proofs.Trees.{is_none-None, reads, slot_holds, read-snoc, child-there, child-missing, child_stands}
 use Rattle.prefix_trie_table.proofs.Values.{value_stands}
@@ -101,7 +103,7 @@ is_in-child values children s h =
 pub number-small : (s : List Bool) → length s ≡ 5 → number s < 32
 number-small s h = subst (λ n. number s < 2 ^ n) h (number-lt s)
 
-module _ {T : Type 0} (width : ℕ) (v : Store Node) (t : Tree T) (tree : IsTree width v t) where
+module _ {T : Type 0} (width : ℕ) (v : Store Node) (t : Tree T) (tree : IsTrie width t.count v t.cells t.shape) where
   -- below a string where no node stands, nothing is stored
   pub nothing_below : (q : List Bool) → length q % 5 ≡ 0 → read v.slots (path_of q) ≡ None → listing_below t.shape.entries q ≡ []
   nothing_below q whole missing = listing_below_none t.shape.entries q (λ k has. not_true (begins q k) (λ e.
@@ -112,7 +114,7 @@ module _ {T : Type 0} (width : ℕ) (v : Store Node) (t : Tree T) (tree : IsTree
   -- a node that stands has no value bit 31
   pub few_at : (p : List ℕ) (n : Node) → read v.slots p ≡ Some n → has_bit n.value_bitmap 31 ≡ false
   few_at p n is =
-      let h = has_nodes v t.cells tree.table in h.few p n (sym (reads node_sizes h.reading h.paths v h.hold p) ∙ is)
+      let h = has_nodes v t.cells (some_table tree.table) in h.1 p n (sym (reads node_sizes h.0.reading h.0.paths v h.0.hold p) ∙ is)
 
   -- the root has a slot
   pub root_inside : 0 < length v.slots

@@ -7,9 +7,8 @@ use Rattle.prefix_trie_table.specs.Bitmaps.{has_bit, rank}
 use Rattle.prefix_trie_table.specs.Store.{Store, Block, Sound, block}
 use Rattle.prefix_trie_table.specs.Forest.{child_slot, child, below, read_from, read, same_path, one_if, times, without, node_or_blank, held, size_in, has_child, child_items, child_blocks_of, child_blocks, IsSlot, at_root, at_child, NodesHold}
 use Rattle.prefix_trie_table.specs.Cells.{blank_node, node_at}
-use Rattle.prefix_trie_table.proofs.Soundness.{Sound-permuted, Sound-set, Sound-set_before, slot_of_block, block_inside, fits_block}
+use Rattle.prefix_trie_table.proofs.Soundness.{Sound-permuted, first_place, Sound-set, Sound-set_before, slot_of_block, block_inside, fits_block}
 use Rattle.prefix_trie_table.proofs.Bits.{has_bit-below}
-use Rattle.prefix_trie_table.proofs.Tilings.{all_within}
 use Rattle.std.proofs.lemmas.List.{length-set}
 use Rattle.prefix_trie_table.proofs.BitLists.{map_get, map_set, map_same}
 use Rattle.prefix_trie_table.proofs.Paths.{same_path-itself, same_path-not, snoc_ind, snoc_inj, snoc_not_nil, times_without, swap_fronts, flat_map_out, flat_map_same}
@@ -123,7 +122,7 @@ module _ (sizes : List ℕ) (nodes : List ℕ → Option Node) (paths : List (Li
   pub slot_holds : (p : List ℕ) (s : ℕ) (n : Node) → IsSlot nodes p s → nodes p ≡ Some n → (node_at v.slots s ≡ n) × (s < length v.slots)
   slot_holds p s n (at_root) e =
       let z : Some (node_at v.slots 0) ≡ Some n = sym hold.rooted ∙ e in
-      (ap node_or_blank z, (let w = (all_within v.first (length v.slots) hold.sound.tiling hold.sound.tiles).1 in let f = hold.first_is in omega arith))
+      (ap node_or_blank z, (let w = first_place blank_node _ v hold.sound in let f = hold.first_is in omega arith))
   slot_holds p s n (at_child q c m is bit) e = let w = child_stands q m c is bit in (w.1 ∙ ap node_or_blank e, w.2)
 
 -- a node whose children are the same

@@ -17,7 +17,9 @@ use Rattle.prefix_trie_table.specs.Forest.{read}
 use Rattle.prefix_trie_table.specs.Shape.{Shaped, IsShapeOf, same_shape}
 use Rattle.prefix_trie_table.specs.declared.table.seat.Seat.{Seat}
 use Rattle.prefix_trie_table.specs.Items.{GivesFilled}
-use Rattle.prefix_trie_table.specs.Walks.{Site, Tree, IsTree, IsSpot, IsPlaceOf, IsStack, still, pending, slot_of, GivesSeat, ShapeOf, rest_of_walk, IsWalk}
+use Rattle.prefix_trie_table.specs.Walks.{Site, Tree, IsSpot, IsPlaceOf, IsStack, still, pending, slot_of, GivesSeat, ShapeOf, rest_of_walk, IsWalk}
+use Rattle.prefix_trie_table.specs.Tables.{IsTrie}
+use Rattle.std.specs.FinMap.{len}
 use Rattle.prefix_trie_table.proofs.Trees.{read-nil}
 use Rattle.prefix_trie_table.proofs.Subtrees.{all_places}
 
@@ -25,7 +27,7 @@ module _ {K T : Type 0} (IsKey : K → Type 0) (bits : K → List Bool) (width :
   -- a walk has arrays, which hold a table
   pub record Rest (arrays : Option (Bor (Store Node) × Bor (Store (Option T)))) (shape : ShapeOf arrays) (ps : List (Site K)) (v : Store Node) (w : Store (Option T)) : Type 0 where
     pub state : State T
-    pub tree : IsTree width v (record { cells = w; shape = state })
+    pub tree : IsTrie width (len state.entries) v w state
     pub stack : IsStack IsKey bits width v ps
     pub rest : rest_of_walk bits arrays shape ps ≡ pending bits state.entries ps
     pub later : (u : ShapeOf arrays) (qs : List (Site K)) → IsStack IsKey bits width v qs → IsWalk IsKey bits width arrays u qs
@@ -39,7 +41,7 @@ module _ {K T : Type 0} (IsKey : K → Type 0) (bits : K → List Bool) (width :
     stack = h.1;
     rest = refl;
     later = λ u qs k. (
-      subst (λ (x : State T). IsTree width b.0.now (record { cells = b.1.now; shape = x })) (same_shape b.0.now.slots b.1.now.slots shape.0 u.0 shape.1 u.1) h.0,
+      subst (λ (x : State T). IsTrie width (len x.entries) b.0.now b.1.now x) (same_shape b.0.now.slots b.1.now.slots shape.0 u.0 shape.1 u.1) h.0,
       k,
     );
     later_rest = λ u qs. ap (λ (x : State T). pending bits x.entries qs) (same_shape b.0.now.slots b.1.now.slots u.0 shape.0 u.1 shape.1);
@@ -62,7 +64,7 @@ module _ {K T : Type 0} (IsKey : K → Type 0) (bits : K → List Bool) (width :
       IsWalk IsKey bits width arrays s ps → IsWalk IsKey bits width arrays u qs
   same_walk None s u ps qs e h = tt
   same_walk (Some a) s u ps qs e h = (
-    subst (λ (x : State T). IsTree width a.0.now (record { cells = a.1.now; shape = x })) (same_shape a.0.now.slots a.1.now.slots s.0 u.0 s.1 u.1) h.0,
+    subst (λ (x : State T). IsTrie width (len x.entries) a.0.now a.1.now x) (same_shape a.0.now.slots a.1.now.slots s.0 u.0 s.1 u.1) h.0,
     subst (IsStack IsKey bits width a.0.now) (sym e) h.1,
   )
 
@@ -80,7 +82,7 @@ module _ {K T : Type 0} (IsKey : K → Type 0) (bits : K → List Bool) (width :
       }
 
   -- a walk that stands at the root, with all its places
-  module _ (v : Store Node) (w : Store (Option T)) (s : State T) (tree : IsTree width v (record { cells = w; shape = s })) (c : Site K) (is_key : IsKey c.key)
+  module _ (v : Store Node) (w : Store (Option T)) (s : State T) (tree : IsTrie width (len s.entries) v w s) (c : Site K) (is_key : IsKey c.key)
       (depth_is : c.depth ≡ 0) (node_is : c.node ≡ node_at v.slots 0) (all : to_come c.places ≡ places c.node.value_bitmap c.node.child_bitmap)
       (each : All (IsPlaceOf c.node) (to_come c.places)) where
     root_string : take c.depth (bits c.key) ≡ []
@@ -102,14 +104,14 @@ module _ {K T : Type 0} (IsKey : K → Type 0) (bits : K → List Bool) (width :
     root_still : still bits s.entries c ≡ listing s.entries
     root_still =
         ap (listing_at_places s.entries (take c.depth (bits c.key))) all
-        ∙ all_places width v (record { cells = w; shape = s }) tree (take c.depth (bits c.key)) c.node (ap (λ u. length u % 5) root_string) root_stands
+        ∙ all_places width v (record { count = len s.entries; cells = w; shape = s }) tree (take c.depth (bits c.key)) c.node (ap (λ u. length u % 5) root_string) root_stands
         ∙ ap (listing_below s.entries) root_string ∙ listing_of_root s.entries
 
     -- is a walk
     pub root_walk : (u : Shaped v.slots w.slots) (ps : List (Site K)) → ps ≡ c ∷ [] →
-        IsTree width v (record { cells = w; shape = u.0 }) × IsStack IsKey bits width v ps
+        IsTrie width (len u.0.entries) v w u.0 × IsStack IsKey bits width v ps
     root_walk u ps e = (
-      subst (λ (x : State T). IsTree width v (record { cells = w; shape = x })) (same_shape v.slots w.slots s u.0 tree.shaped u.1) tree,
+      subst (λ (x : State T). IsTrie width (len x.entries) v w x) (same_shape v.slots w.slots s u.0 tree.shaped u.1) tree,
       subst (IsStack IsKey bits width v) (sym e) (refl, root_spot, tt),
     )
 

@@ -9,7 +9,7 @@ use Rattle.prefix_trie_table.specs.declared.table.matching.Match.{Match}
 use Rattle.prefix_trie_table.specs.Cells.{node_sizes}
 use Rattle.prefix_trie_table.specs.Digits.{path_of}
 use Rattle.prefix_trie_table.specs.Store.{Store}
-use Rattle.prefix_trie_table.specs.Forest.{NodesHold, IsTable}
+use Rattle.prefix_trie_table.specs.Forest.{NodesHold, SomeTable}
 use Rattle.prefix_trie_table.specs.Matching.{NoneHeld, IsHeld, IsOnWay}
 
 -- the matches are the value bits of a node, at so many bits of q, whose strings begin q and have `first` bits or more with the node's
@@ -64,6 +64,6 @@ pub record IsCover {K T : Type 0} (IsKey : K → Type 0) (bits : K → List Bool
     (slot matches : ℕ) (v : Store Node) (w : Store (Option T)) : Type 0 where
   pub is_key : IsKey key
   pub short : len ≤ width
-  pub table : IsTable v w
+  pub table : SomeTable v w
   pub first : ℕ
   pub stands : IsCovering (bits key) len level node slot matches first v

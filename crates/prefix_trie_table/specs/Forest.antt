@@ -132,14 +132,11 @@ module _ {T : Type 0} where
   with_value values p b x q i = cond (same_path (q ++ i ∷ []) (p ++ b ∷ [])) x (values q i)
 
 -- a node stands at this slot
-pub record AtNode (v : Store Node) (slot : ℕ) : Type 0 where
-  pub reading : List ℕ → Option Node
-  pub paths : List (List ℕ)
+pub record IsNodeAt (nodes : List ℕ → Option Node) (slot : ℕ) : Type 0 where
   pub path : List ℕ
   pub node : Node
-  pub hold : NodesHold node_sizes reading paths v
-  pub stands : IsSlot reading path slot
-  pub is : reading path ≡ Some node
+  pub stands : IsSlot nodes path slot
+  pub is : nodes path ≡ Some node
 
 -- the node n at p has a blank child c more, which stands at a slot
 pub record ChildAdded (reading : List ℕ → Option Node) (paths : List (List ℕ)) (p : List ℕ) (n : Node) (c : ℕ) (w : Store Node) (slot : ℕ) : Type 0 where
@@ -150,18 +147,6 @@ pub record ChildAdded (reading : List ℕ → Option Node) (paths : List (List �
   pub value_block : node.value_block ≡ n.value_block
   pub value_tier : node.value_tier ≡ n.value_tier
   pub children : child_block_size (Some node) ≡ option_or (child_need (Some n)) (child_block_size (Some n))
-
--- the same of a node and of the values
-pub record AtValues {T : Type 0} (v : Store Node) (w : Store (Option T)) (slot : ℕ) : Type 0 where
-  pub reading : List ℕ → Option Node
-  pub paths : List (List ℕ)
-  pub values : List ℕ → ℕ → Option T
-  pub path : List ℕ
-  pub node : Node
-  pub hold : NodesHold node_sizes reading paths v
-  pub cells : CellsHold cell_sizes reading values paths w
-  pub stands : IsSlot reading path slot
-  pub is : reading path ≡ Some node
 
 -- how many values a node has of its own
 abbrev pub own_count : Option Node → ℕ
@@ -218,17 +203,18 @@ pub record Holds {T : Type 0} (reading : List ℕ → Option Node) (values : Lis
   pub hold : NodesHold node_sizes reading paths v
   pub cells : CellsHold cell_sizes reading values paths w
 
--- they hold something
-pub record IsTable {T : Type 0} (v : Store Node) (w : Store (Option T)) : Type 0 where
+-- they hold some nodes and values
+pub record SomeTable {T : Type 0} (v : Store Node) (w : Store (Option T)) : Type 0 where
   pub reading : List ℕ → Option Node
   pub values : List ℕ → ℕ → Option T
   pub paths : List (List ℕ)
   pub holds : Holds reading values paths v w
 
--- the beginning of a path of so many digits leads to a node at a slot
-pub record StandsAt {T : Type 0} (v : Store Node) (w : Store (Option T)) (path : List ℕ) (depth slot : ℕ) : Type 0 where
-  pub table : IsTable v w
-  pub deep : Deepest table.reading path depth slot v
+-- the array holds some nodes
+pub record SomeNodes (v : Store Node) : Type 0 where
+  pub reading : List ℕ → Option Node
+  pub paths : List (List ℕ)
+  pub hold : NodesHold node_sizes reading paths v
 
 -- a value can be added at a bit
 pub record ValueReady {T : Type 0} (n : Node) (w : Store (Option T)) (b : ℕ) : Type 0 where

@@ -11,6 +11,7 @@ pub mod BlockCounts
 pub mod Layouts
 pub mod Shape
 pub mod Tables
+pub mod Locations
 pub mod Asked
 pub mod Matching
 pub mod Walks
@@ -18,6 +19,7 @@ pub mod Items
 pub mod Covers
 pub mod TableLending
 pub mod Settling
+pub mod Steps
 pub mod Removals
 pub mod Retaining
 pub mod Copies

@@ -47,12 +47,9 @@ abbrev pub ShortestHeld : (List ℕ → Option Node) → List Bool → ℕ → �
 ShortestHeld reading q first end o =
     MatchOption o (NoneHeld reading q first end) (λ m. IsHeld reading q m.len m.bit m.node × NoneHeld reading q first m.len)
 
--- the array holds nodes, and none of them has a value bit 31
-pub record HasNodes (v : Store Node) : Type 0 where
-  pub reading : List ℕ → Option Node
-  pub paths : List (List ℕ)
-  pub hold : NodesHold node_sizes reading paths v
-  pub few : (p : List ℕ) (n : Node) → reading p ≡ Some n → has_bit n.value_bitmap 31 ≡ false
+-- no node has a value bit 31
+abbrev pub LackLastBit : (List ℕ → Option Node) → Type 0
+LackLastBit nodes = (p : List ℕ) (n : Node) → nodes p ≡ Some n → has_bit n.value_bitmap 31 ≡ false
 
 -- the way of the first len bits of b leads to this node in this slot
 pub record IsOnWay (b : List Bool) (len level : ℕ) (node : Node) (slot : ℕ) (v : Store Node) : Type 0 where

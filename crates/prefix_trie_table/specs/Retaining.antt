@@ -7,9 +7,9 @@ use Rattle.prefix_trie_bits.specs.Order.{same_string}
 use Rattle.prefix_trie_bits.specs.Places.{is_in, place_of}
 use Rattle.prefix_trie_bits.specs.declared.node.Place.{Place}
 use Rattle.prefix_trie_bits.specs.Model.Asking.{AsksInOrder, MayAskInOrder}
-use Rattle.prefix_trie_bits.specs.Model.Entries.{Entries, AreWithin}
+use Rattle.prefix_trie_bits.specs.Model.Entries.{Entries}
 use Rattle.prefix_trie_bits.specs.Model.NodeListings.{listing_at_places}
-use Rattle.prefix_trie_bits.specs.Model.Nodes.{AreNodes, has_node, needed}
+use Rattle.prefix_trie_bits.specs.Model.Nodes.{has_node, needed}
 use Rattle.prefix_trie_bits.specs.Model.Selections.{listing}
 use Rattle.prefix_trie_bits.specs.Model.Step.{State}
 use Rattle.prefix_trie_table.specs.declared.allocator.node.Node.{Node}
@@ -20,9 +20,8 @@ use Rattle.prefix_trie_table.specs.Digits.{path_of}
 use Rattle.prefix_trie_table.specs.Forest.{IsSlot, own_count, read}
 use Rattle.prefix_trie_table.specs.Layouts.{own_children, child_block_size, value_block_size}
 use Rattle.prefix_trie_table.specs.Settling.{Settles}
-use Rattle.prefix_trie_table.specs.Shape.{IsShapeOf}
 use Rattle.prefix_trie_table.specs.Store.{Store, KeepsMade}
-use Rattle.prefix_trie_table.specs.Tables.{IsTableOf}
+use Rattle.prefix_trie_table.specs.Tables.{IsTrie}
 
 -- whether a string is that of the place t of the node at s, or goes on from it where a child is at that place
 abbrev pub is_at : List Bool → List Bool → List Bool → Bool
@@ -60,17 +59,6 @@ module _ {T : Type 0} where
     pub key : List Bool
     pub stored : contains_key m key ≡ true
     pub goes_on : begins q key ≡ true
-
-  -- the arrays hold a table with these entries and nodes, and so many entries, all no longer than the width
-  pub record IsTrie (width count : ℕ) (v : Store Node) (w : Store (Option T)) (s : State T) : Type 0 where
-    pub table : IsTableOf v w count s
-    pub shaped : IsShapeOf v.slots w.slots s
-    pub within : AreWithin width s.entries
-    pub nodes : AreNodes width s.entries s.nodes
-
-  -- they hold some table
-  abbrev pub HasTrie : ℕ → ℕ → Store Node → Store (Option T) → Type 0
-  HasTrie width count v w = (s : State T) × IsTrie width count v w s
 
   -- no array is shorter or has lost a block, neither may become longer than it could, both limits are the same, and so are the
   -- nodes above this level

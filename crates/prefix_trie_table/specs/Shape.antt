@@ -18,12 +18,14 @@ use Rattle.prefix_trie_table.specs.Digits.{path_of, bit_of}
 use Rattle.prefix_trie_table.specs.Forest.{read, value_of}
 use Rattle.prefix_trie_table.specs.Layouts.{coded_layout}
 
--- what contracts see of a table: its entries, its nodes, its room and its layout
+-- what contracts see of a table: its entries, its nodes, its room and its layout, and how the nodes stand in their array. Only
+-- clauses on places speak of the last
 pub record Contents (T : Type 0) : Type 0 where
   pub entries : Entries T
   pub nodes : Nodes
   pub room : Room
   pub layout : Layout
+  pub build : List Node
 
 -- the entries and the nodes, as a state of the model
 abbrev pub state : {T : Type 0} → Contents T → State T
@@ -50,17 +52,34 @@ with_match_at s (Some e) x = with_value_at s e.0 x
 abbrev pub with_longest_at : {T : Type 0} → Contents T → List Bool → T → Contents T
 with_longest_at s q x = with_match_at s (longest_match s.entries q) x
 
+-- nodes are given by their numbers
+abbrev pub coded_node : Coded Node
+coded_node =
+    code_by ((ℕ × ℕ) × ((ℕ × ℕ) × (ℕ × ℕ)))
+    (coded× (coded× coded_ℕ coded_ℕ) (coded× (coded× coded_ℕ coded_ℕ) (coded× coded_ℕ coded_ℕ)))
+    (λ n. ((n.value_bitmap, n.child_bitmap), ((n.value_block, n.child_block), (n.value_tier, n.child_tier))))
+    (λ p. record {
+      value_bitmap = p.0.0;
+      child_bitmap = p.0.1;
+      value_block = p.1.0.0;
+      child_block = p.1.0.1;
+      value_tier = p.1.1.0;
+      child_tier = p.1.1.1;
+    }) (λ _. refl)
+
 -- contents are given by their parts
 abbrev pub contents_code : {T : Type 0} → Coded T → Coded (Contents T)
 contents_code {T} c =
-    code_by (Entries T × (Nodes × ((ℕ × (ℕ × ℕ)) × Layout)))
-    (coded× (code (coded_list coded_bool) c) (coded× (code (coded_list coded_bool) coded_unit) (coded× (coded× coded_ℕ (coded× coded_ℕ coded_ℕ)) coded_layout)))
-    (λ s. (s.entries, (s.nodes, ((s.room.limit, (s.room.node_slots, s.room.cell_slots)), s.layout))))
+    code_by (Entries T × (Nodes × ((ℕ × (ℕ × ℕ)) × (Layout × List Node))))
+    (coded× (code (coded_list coded_bool) c) (coded× (code (coded_list coded_bool) coded_unit)
+    (coded× (coded× coded_ℕ (coded× coded_ℕ coded_ℕ)) (coded× coded_layout (coded_list coded_node)))))
+    (λ s. (s.entries, (s.nodes, ((s.room.limit, (s.room.node_slots, s.room.cell_slots)), (s.layout, s.build)))))
     (λ p. record {
       entries = p.0;
       nodes = p.1.0;
       room = record { limit = p.1.1.0.0; node_slots = p.1.1.0.1.0; cell_slots = p.1.1.0.1.1 };
-      layout = p.1.1.1;
+      layout = p.1.1.1.0;
+      build = p.1.1.1.1;
     }) (λ _. refl)
 
 module _ {T : Type 0} where

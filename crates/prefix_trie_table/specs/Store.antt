@@ -1,5 +1,6 @@
 -- What contracts see of an array that is cut into blocks: this project's own, for the block allocator of the crate's node tables.
-use Rattle.std.specs.Prelude.{◌≡◌, ℕ, zero, suc, ◌+◌, ◌-◌, ◌*◌, ◌≤◌, ◌<◌, ◌==◌, ◌⊎◌, List, [], ◌∷◌, ◌++◌, Option, length, take, map, count_by, sum_by, replicate, slice_index_or, slice_set, All, IsPermutation, position, nat_le, nat_lt, ◌&&◌, if◌then◌else◌, None, Some, ◌≢◌, IsSomeAnd}
+use Rattle.std.specs.Prelude.{◌≡◌, ℕ, zero, suc, ◌+◌, ◌-◌, ◌*◌, ◌≤◌, ◌<◌, ◌==◌, ◌⊎◌, List, [], ◌∷◌, ◌++◌, Option, length, take, map, count_by, sum_by, replicate, slice_index_or, slice_set, All, position, nat_le, nat_lt, ◌&&◌, if◌then◌else◌, None, Some, ◌≢◌, IsSomeAnd}
+use Rattle.prefix_trie_bits.specs.Model.Blocks.{AreBlocksOf, Block as Extent}
 use Rattle.prefix_trie_table.specs.Runs.{run}
 
 -- the blocks of one size: how many stand in the array, and where the free ones start
@@ -30,27 +31,22 @@ tier_at ts k = slice_index_or ts k (record { size = 0; made = 0; starts = [] })
 abbrev pub slots_made : List Tier → ℕ
 slots_made ts = sum_by (λ t. t.size * t.made) ts
 
--- start and size of a block in use
-abbrev pub extent : {S : Type 0} → Block S → ℕ × ℕ
-extent b = (b.start, b.size)
+-- the size of each tier's blocks
+abbrev pub tier_sizes : List Tier → List ℕ
+tier_sizes ts = map (λ t. t.size) ts
 
--- a start beside a size
-abbrev pub of_size : ℕ → ℕ → ℕ × ℕ
-of_size n s = (s, n)
+-- where a block in use stands
+abbrev pub extent : {S : Type 0} → Block S → Extent
+extent b = record { start = b.start; size = b.size }
 
--- start and size of each free block
-abbrev pub free_extents : List Tier → List (ℕ × ℕ)
+-- a block of this size that starts there
+abbrev pub of_size : ℕ → ℕ → Extent
+of_size n s = record { start = s; size = n }
+
+-- where the free blocks stand
+abbrev pub free_extents : List Tier → List Extent
 free_extents [] = []
 free_extents (t ∷ ts) = map (of_size t.size) t.starts ++ free_extents ts
-
--- the first block starts at `first`, each next one where the one before ends, and the last ends at `end`
-abbrev pub IsTiling : ℕ → List (ℕ × ℕ) → ℕ → Type 0
-IsTiling first [] end = first ≡ end
-IsTiling first (e ∷ es) end = (e.0 ≡ first) × (0 < e.1) × IsTiling (first + e.1) es end
-
--- two extents have no slot in common
-abbrev pub Disjoint : ℕ × ℕ → ℕ × ℕ → Type 0
-Disjoint e f = (e.0 + e.1 ≤ f.0) ⊎ (f.0 + f.1 ≤ e.0)
 
 -- the block is one of its tier
 pub record IsOfTier {S : Type 0} (ts : List Tier) (b : Block S) : Type 0 where
@@ -65,19 +61,20 @@ filled vacant n xs = xs ++ replicate (n - length xs) vacant
 abbrev pub HoldsItems : {S : Type 0} → S → List S → Block S → Type 0
 HoldsItems vacant slots b = run slots b.start b.size ≡ filled vacant b.size b.items
 
--- each slot of the extent is vacant
-abbrev pub IsVacant : {S : Type 0} → S → List S → ℕ × ℕ → Type 0
-IsVacant vacant slots e = run slots e.0 e.1 ≡ replicate e.1 vacant
+-- each slot of a block is vacant
+abbrev pub IsVacant : {S : Type 0} → S → List S → Extent → Type 0
+IsVacant vacant slots e = run slots e.start e.size ≡ replicate e.size vacant
 
--- the blocks in use and the free ones are a rearrangement of blocks that tile the array; each tier counts its own, each
--- block in use holds its items, and each free slot is vacant
+-- these are the blocks in use, and the array holds what they hold and nothing else
 pub record Sound {S : Type 0} (vacant : S) (live : List (Block S)) (v : Store S) : Type 0 where
-  pub tiling : List (ℕ × ℕ)
-  pub tiles : IsTiling v.first tiling (length v.slots)
-  pub rearranged : IsPermutation tiling (map extent live ++ free_extents v.tiers)
+  -- the blocks in use and the free ones are a rearrangement of blocks that tile the array from its first block on
+  pub blocks : AreBlocksOf (tier_sizes v.tiers) v.first (map extent live) (free_extents v.tiers) (length v.slots)
+  -- each block in use is one of its tier, and each tier counts its own
   pub of_tier : All (IsOfTier v.tiers) live
   pub counted : (k : ℕ) → k < length v.tiers → (tier_at v.tiers k).made ≡ length (tier_at v.tiers k).starts + count_by (λ b. b.tier == k) live
+  -- each block in use has exactly its items, in order from its first slot on; its other slots are vacant
   pub held : All (HoldsItems vacant v.slots) live
+  -- and so is each slot of a free block
   pub vacated : All (IsVacant vacant v.slots) (free_extents v.tiers)
 
 -- the store with another tier in the place of the one at k
@@ -131,10 +128,6 @@ held k start size (x ∷ xs) = block k start size (x ∷ xs) ∷ []
 -- the size at k
 abbrev pub size_in : List ℕ → ℕ → ℕ
 size_in sizes k = slice_index_or sizes k 0
-
--- the size of each tier's blocks
-abbrev pub tier_sizes : List Tier → List ℕ
-tier_sizes ts = map (λ t. t.size) ts
 
 -- a list of so many values stands in a block of tier k from `start` on, or, if it has none, nowhere
 pub record HasList {S : Type 0} (vacant : S) (v : Store S) (k start count : ℕ) : Type 0 where

@@ -1,28 +1,43 @@
 -- What holds of the fields of every table, and of a way down. This project's own.
 use Rattle.std.specs.Prelude.{◌≡◌, ℕ, ◌+◌, ◌-◌, ◌*◌, ◌/◌, ◌<◌, ◌≤◌, ◌⊎◌, Bool, false, List, Option, Some, length, take, slice_index_or}
 use Rattle.std.specs.FinMap.{len}
+use Rattle.prefix_trie_bits.specs.Model.Entries.{AreWithin}
+use Rattle.prefix_trie_bits.specs.Model.Nodes.{AreNodes}
 use Rattle.prefix_trie_bits.specs.Model.Step.{State}
 use Rattle.prefix_trie_table.specs.declared.allocator.node.Node.{Node}
 use Rattle.prefix_trie_table.specs.Bitmaps.{has_bit, rank}
 use Rattle.prefix_trie_table.specs.Cells.{node_at, node_sizes}
 use Rattle.prefix_trie_table.specs.Digits.{path_of, bit_of}
 use Rattle.prefix_trie_table.specs.Store.{Store, IsReady, Enough, KeepsMade}
-use Rattle.prefix_trie_table.specs.Forest.{NodesHold, Holds, IsTable, Deepest, EntryAdded, entry_count}
+use Rattle.prefix_trie_table.specs.Forest.{NodesHold, Holds, Deepest, EntryAdded, entry_count}
+use Rattle.prefix_trie_table.specs.Shape.{IsShapeOf}
 
--- the arrays hold a table of so many entries
-pub record IsCounted {T : Type 0} (v : Store Node) (w : Store (Option T)) (count : ℕ) : Type 0 where
-  pub table : IsTable v w
-  pub counted : count ≡ entry_count table.reading table.paths
-
--- the arrays hold a table with these entries and nodes, the count is that of the entries, no cell stands outside the blocks,
--- and both arrays have one limit, which neither passes
-pub record IsTableOf {T : Type 0} (v : Store Node) (w : Store (Option T)) (count : ℕ) (shape : State T) : Type 0 where
-  pub held : IsCounted v w count
+-- THE INVARIANT of every table, and its storage promise. Each array is cut into blocks: those in use and the free ones tile it, each
+-- parent's block holds exactly its children in order, each holder's exactly its values, and every other slot is vacant (`Holds`,
+-- by `NodesHold`, `CellsHold` and `Sound`). That each free list has room for all blocks of its size is the invariant of `FreeList`
+pub record IsTable {T : Type 0} (v : Store Node) (w : Store (Option T)) (count : ℕ) (shape : State T) : Type 0 where
+  -- the nodes by path, the values by path and bit, and the paths at which nodes stand
+  pub reading : List ℕ → Option Node
+  pub values : List ℕ → ℕ → Option T
+  pub paths : List (List ℕ)
+  -- the arrays hold these, and nothing else
+  pub holds : Holds reading values paths v w
+  -- as many entries are counted as nodes have values, and as contracts see
+  pub counted : count ≡ entry_count reading paths
   pub sized : count ≡ len shape.entries
+  -- no value stands outside the blocks
   pub cells_first : w.first ≡ 0
+  -- both arrays have one limit, which neither passes
   pub one_limit : w.limit ≡ v.limit
   pub nodes_within : length v.slots ≤ v.limit
   pub cells_within : length w.slots ≤ w.limit
+
+-- the same of arrays with just these entries and nodes, none longer than the width
+pub record IsTrie {T : Type 0} (width count : ℕ) (v : Store Node) (w : Store (Option T)) (shape : State T) : Type 0 where
+  pub table : IsTable v w count shape
+  pub shaped : IsShapeOf v.slots w.slots shape
+  pub within : AreWithin width shape.entries
+  pub nodes : AreNodes width shape.entries shape.nodes
 
 -- the way of the first len bits of b was followed as far as nodes stand, to this node in this slot
 pub record IsReached (b : List Bool) (len level : ℕ) (node : Node) (slot : ℕ) (v : Store Node) : Type 0 where

@@ -4,8 +4,8 @@ use Rattle.std.specs.Borrow.{Bor}
 use Rattle.std.specs.Coded.{Coded}
 use Rattle.prefix_trie_bits.specs.Places.{is_in}
 use Rattle.prefix_trie_bits.specs.Walks.{to_come}
-use Rattle.prefix_trie_bits.specs.Model.Entries.{Entries, AreWithin}
-use Rattle.prefix_trie_bits.specs.Model.Nodes.{AreNodes}
+use Rattle.prefix_trie_bits.specs.Model.Entries.{Entries}
+use Rattle.std.specs.FinMap.{len}
 use Rattle.prefix_trie_bits.specs.Model.NodeListings.{listing_at_places}
 use Rattle.prefix_trie_bits.specs.Model.Step.{State}
 use Rattle.prefix_trie_bits.specs.declared.node.Places.{Places}
@@ -16,25 +16,16 @@ use Rattle.prefix_trie_table.specs.declared.table.spot.Step.TheVariants.{Entry, 
 use Rattle.prefix_trie_table.specs.declared.allocator.node.Node.{Node}
 use Rattle.prefix_trie_table.specs.Digits.{path_of}
 use Rattle.prefix_trie_table.specs.Store.{Store}
-use Rattle.prefix_trie_table.specs.Forest.{IsTable, read}
+use Rattle.prefix_trie_table.specs.Forest.{read}
 use Rattle.prefix_trie_table.specs.Items.{GivesFilled}
-use Rattle.prefix_trie_table.specs.Shape.{IsShapeOf, Shaped, Shaped-prop}
+use Rattle.prefix_trie_table.specs.Shape.{Shaped, Shaped-prop}
+use Rattle.prefix_trie_table.specs.Tables.{IsTrie}
 
--- the values of a table, and its entries and nodes
+-- the number of a table's entries, its values, and its entries and nodes
 pub record Tree (T : Type 0) : Type 0 where
+  pub count : ℕ
   pub cells : Store (Option T)
   pub shape : State T
-
--- the array holds the nodes of this table, whose keys and nodes are no longer than the width
-pub record IsTree {T : Type 0} (width : ℕ) (v : Store Node) (t : Tree T) : Type 0 where
-  pub table : IsTable v t.cells
-  pub shaped : IsShapeOf v.slots t.cells.slots t.shape
-  pub within : AreWithin width t.shape.entries
-  pub nodes : AreNodes width t.shape.entries t.shape.nodes
-
--- the array holds the nodes of some table
-abbrev pub HasTree : (T : Type 0) → ℕ → Store Node → Type 0
-HasTree T width v = (t : Tree T) × IsTree width v t
 
 -- a spot with a key that its path begins
 pub record Site (K : Type 0) : Type 0 where
@@ -156,4 +147,4 @@ module _ {T : Type 0} where
     abbrev pub IsWalk : (K → Type 0) → (K → List Bool) → ℕ → (arrays : Option (Bor (Store Node) × Bor (Store (Option T)))) → ShapeOf arrays → List (Site K) → Type 0
     IsWalk IsKey bits width None shape ps = ⊤
     IsWalk IsKey bits width (Some a) shape ps =
-        IsTree width a.0.now (record { cells = a.1.now; shape = shape.0 }) × IsStack IsKey bits width a.0.now ps
+        IsTrie width (len shape.0.entries) a.0.now a.1.now shape.0 × IsStack IsKey bits width a.0.now ps

@@ -13,28 +13,29 @@ mod insertion;
 mod lending;
 mod lookup;
 mod matching;
+mod places;
 mod removal;
 pub mod retain;
 pub mod seat;
 pub mod spot;
 pub mod walk;
 
-ghost use Rattle.std.specs.Prelude.{◌≡◌, ℕ, ◌+◌, ◌*◌, ◌^◌, ◌<◌, ◌≤◌, take, IfOk, OnOk, IfErr, OnErr, IsOk, IsErr, IsTrue, ◌↔◌, MatchOption, MatchResult, None, Some, false, Bool, List};
+ghost use Rattle.std.specs.Prelude.{◌≡◌, ◌+◌, ◌^◌, ◌<◌, ◌≤◌, take, IfOk, IfErr, IsErr, ◌↔◌, MatchOption, None, Some};
 ghost use Rattle.std.specs.Option.{option_copied};
-ghost use Rattle.std.specs.FinMap.{get, contains_key, len, len as node_number};
-ghost use Rattle.prefix_trie_bits.specs.Model.Asking.{AsksInOrder, MayAskInOrder};
-ghost use Rattle.prefix_trie_bits.specs.Model.Entries.{no_entries, with_entry, without_entry, without_below, AreWithin};
+ghost use Rattle.std.specs.FinMap.{get, len};
+ghost use Rattle.prefix_trie_bits.specs.Model.Asking.{MayAskInOrder};
+ghost use Rattle.prefix_trie_bits.specs.Model.Entries.{no_entries, AreWithin};
 ghost use Rattle.prefix_trie_bits.specs.Model.Matches.{longest_match, shortest_match};
-ghost use Rattle.prefix_trie_bits.specs.Model.Nodes.{root_alone, with_needed, nodes_without, nodes_without_below, needed, AreNodes};
+ghost use Rattle.prefix_trie_bits.specs.Model.Nodes.{root_alone, AreNodes};
 ghost use Rattle.prefix_trie_bits.specs.Model.Selections.{listing};
 ghost use Rattle.prefix_trie_bits.specs.Model.Visits.{visits, visits_to_match};
-ghost use Rattle.prefix_trie_bits.specs.Model.Room.{MayPassLimit};
-ghost use Rattle.prefix_trie_bits.specs.Model.Storage.{InsertsInStorage, RefusesInStorage, RemovesValueInStorage, PrunesInStorage};
+ghost use Rattle.prefix_trie_bits.specs.Model.Blocks.{no_layout};
+ghost use Rattle.prefix_trie_bits.specs.Model.Step.{Insert, Remove, RemoveKeepTree, RemoveChildren, Clear, Done, Value};
+ghost use Rattle.prefix_trie_bits.specs.Model.Storage.{HaveBlocks, StepOfStrings, RetainsInStorage};
 ghost use Rattle.prefix_trie_bits.specs.declared.prefix.Refusal.TheVariants.{IndexRange};
-ghost use Rattle.prefix_trie_bits.specs.Model.Blocks.{no_layout, KeepsBlocks, SizesStepBetween, value_block_sizes, child_block_sizes, own_entries, child_count};
 ghost use Rattle.prefix_trie_table.specs.Layouts.{Sized, Sized-prop};
-ghost use Rattle.prefix_trie_table.specs.Settling.{headroom_of};
 ghost use Rattle.prefix_trie_table.specs.Shape.{Shaped, Shaped-prop, state, storage};
+ghost use Rattle.prefix_trie_table.specs.Steps.{stored, inserted, SettlesInStorage};
 
 use crate::allocator::blocks::{Blocks, cells};
 use crate::allocator::nodes::{NodeAllocator, Tick};
@@ -71,7 +72,7 @@ impl<T: Drop, A: Allocator, V: Tick> Model for Table<T, A, V> {
 
     ghost use Rattle.std.specs.Prelude.{length};
     ghost use Rattle.prefix_trie_table.specs.Layouts.{free_counts};
-    ghost use Rattle.prefix_trie_table.specs.Tables.{IsTableOf};
+    ghost use Rattle.prefix_trie_table.specs.Tables.{IsTable};
 
     ghost view = { λ t. record {
       entries = t.shape.0.entries;
@@ -87,9 +88,10 @@ impl<T: Drop, A: Allocator, V: Tick> Model for Table<T, A, V> {
         free_child_blocks = free_counts t.nodes.tiers;
         free_value_blocks = free_counts t.cells.tiers;
       };
+      build = t.nodes.slots;
     } };
 
-    ghost invariant = { λ t. IsTableOf t.nodes t.cells t.count t.shape.0 };
+    ghost invariant = { λ t. IsTable t.nodes t.cells t.count t.shape.0 };
 }
 
 impl<T: Drop, A: Allocator + Clone, V: Tick> Table<T, A, V> {
@@ -117,13 +119,14 @@ impl<T: Drop, A: Allocator + Clone, V: Tick> Table<T, A, V> {
 }
 
 impl<T: Drop, A: Allocator, V: Tick> Table<T, A, V> {
-    /// The number of entries. Neither array passes the limit, which is below 2^32.
+    /// The number of entries. Neither array passes the limit, which is below 2^32, and each node has its blocks.
     #[inline]
     pub fn len(&self) -> usize
         ensures count { result ≡ len self.now.entries }
         ensures limit { (self.now.room.limit < 2 ^ 32)
             × (self.now.room.node_slots ≤ self.now.room.limit)
             × (self.now.room.cell_slots ≤ self.now.room.limit) }
+        ensures blocks { HaveBlocks (state self.now) self.now.layout }
     {
         // Read for the proof alone: the limit is below 2^32.
         let _slots = self.nodes.len();
@@ -204,30 +207,9 @@ impl<T: Drop, A: Allocator, V: Tick> Table<T, A, V> {
     ) -> Result<Option<T>, Refused<T>>
         requires key { K.IsKey key }
         requires within { len ≤ K.bit_width }
-        ensures before { IfOk result
-            (λ before. before ≡ get self.old.entries (take len (K.bits key))) }
-        ensures entries { OnOk result
-            (self.new.entries ≡ with_entry self.old.entries (take len (K.bits key)) value) }
-        ensures nodes { OnOk result
-            (self.new.nodes ≡ with_needed self.old.nodes (take len (K.bits key))) }
-        ensures unchanged { OnErr result
-            ((self.new.entries ≡ self.old.entries) × (self.new.nodes ≡ self.old.nodes)) }
         ensures returned { IfErr result (λ refused. refused.value ≡ value) }
-        ensures stored { IsTrue (contains_key self.old.entries (take len (K.bits key)))
-            → IsOk result × (storage self.new ≡ storage self.old) }
-        ensures leaves { contains_key self.old.entries (take len (K.bits key)) ≡ false → MatchResult result
-            (λ _. InsertsInStorage (state self.old) (take len (K.bits key)) (storage self.old) (storage self.new))
-            (λ refused. RefusesInStorage (state self.old) (take len (K.bits key)) refused.cause
-            (storage self.old) (storage self.new)) }
-        ensures range { IfErr result
-            (λ refused. refused.cause ≡ IndexRange → MayPassLimit self.old.room) }
-        ensures room { (self.new.room.limit ≡ self.old.room.limit)
-            × (self.old.room.node_slots ≤ self.new.room.node_slots)
-            × (self.new.room.node_slots ≤ self.old.room.node_slots + 56)
-            × (self.old.room.cell_slots ≤ self.new.room.cell_slots)
-            × (self.new.room.cell_slots ≤ self.old.room.cell_slots + 31) }
-        ensures limit { (self.new.room.node_slots ≤ self.new.room.limit)
-            × (self.new.room.cell_slots ≤ self.new.room.limit) }
+        ensures step { StepOfStrings (stored self.old) (Insert (take len (K.bits key)) value) (inserted result)
+            (stored self.new) }
     {
         insert_entry(
             &mut self.nodes,
@@ -247,21 +229,8 @@ impl<T: Drop, A: Allocator, V: Tick> Table<T, A, V> {
     pub fn remove<K: Key>(&mut self, key: K, len: u32, counter: &mut V) -> Option<T>
         requires key { K.IsKey key }
         requires within { len ≤ K.bit_width }
-        ensures value { result ≡ get self.old.entries (take len (K.bits key)) }
-        ensures entries { self.new.entries
-            ≡ without_entry self.old.entries (take len (K.bits key)) }
-        ensures nodes { self.new.nodes
-            ≡ nodes_without self.old.nodes self.old.entries (take len (K.bits key)) }
-        ensures room { (self.new.room.limit ≡ self.old.room.limit)
-            × (self.old.room.node_slots ≤ self.new.room.node_slots)
-            × (self.new.room.node_slots ≤ self.old.room.node_slots + 24)
-            × (self.old.room.cell_slots ≤ self.new.room.cell_slots)
-            × (self.new.room.cell_slots ≤ self.old.room.cell_slots + 24) }
-        ensures limit { (self.new.room.node_slots ≤ self.new.room.limit)
-            × (self.new.room.cell_slots ≤ self.new.room.limit) }
-        ensures removes { RemovesValueInStorage (state self.old) (state self.new) (take len (K.bits key))
-            (storage self.old) (storage self.new) }
-        ensures prunes { PrunesInStorage (state self.old) (state self.new) (storage self.old) (storage self.new) }
+        ensures step { StepOfStrings (stored self.old) (Remove (take len (K.bits key))) (Value result)
+            (stored self.new) }
     {
         remove_entry(
             &mut self.nodes,
@@ -279,20 +248,8 @@ impl<T: Drop, A: Allocator, V: Tick> Table<T, A, V> {
     pub fn remove_keep_tree<K: Key>(&mut self, key: K, len: u32, counter: &mut V) -> Option<T>
         requires key { K.IsKey key }
         requires within { len ≤ K.bit_width }
-        ensures value { result ≡ get self.old.entries (take len (K.bits key)) }
-        ensures entries { self.new.entries
-            ≡ without_entry self.old.entries (take len (K.bits key)) }
-        ensures nodes { self.new.nodes ≡ self.old.nodes }
-        ensures room { (self.new.room.limit ≡ self.old.room.limit)
-            × (self.new.room.node_slots ≡ self.old.room.node_slots)
-            × (self.old.room.cell_slots ≤ self.new.room.cell_slots)
-            × (self.new.room.cell_slots ≤ self.old.room.cell_slots + 24) }
-        ensures limit { (self.new.room.node_slots ≤ self.new.room.limit)
-            × (self.new.room.cell_slots ≤ self.new.room.limit) }
-        ensures removes { RemovesValueInStorage (state self.old) (state self.new) (take len (K.bits key))
-            (storage self.old) (storage self.new) }
-        ensures child_blocks { (self.new.layout.child_blocks ≡ self.old.layout.child_blocks)
-            × (self.new.layout.free_child_blocks ≡ self.old.layout.free_child_blocks) }
+        ensures step { StepOfStrings (stored self.old) (RemoveKeepTree (take len (K.bits key))) (Value result)
+            (stored self.new) }
     {
         remove_value(
             &mut self.nodes,
@@ -313,36 +270,9 @@ impl<T: Drop, A: Allocator, V: Tick> Table<T, A, V> {
         requires long { len ≤ K.bit_width }
         requires within { AreWithin K.bit_width self.old.entries }
         requires nodes { AreNodes K.bit_width self.old.entries self.old.nodes }
-        ensures entries { self.new.entries ≡ without_below self.old.entries (take len (K.bits key)) }
-        ensures nodes { self.new.nodes
-            ≡ nodes_without_below self.old.nodes self.old.entries (take len (K.bits key)) }
-        ensures cleared { len ≡ 0 → self.new.room
-            ≡ record { limit = self.old.room.limit; node_slots = 1; cell_slots = 0 } }
-        ensures room { 0 < len → (self.old.room.node_slots ≤ self.new.room.node_slots)
-            × (self.old.room.cell_slots ≤ self.new.room.cell_slots) }
-        ensures layout { len ≡ 0 → self.new.layout ≡ no_layout }
-        ensures value_blocks { 0 < len → SizesStepBetween value_block_sizes self.old.nodes
-            (own_entries self.old.entries) (own_entries self.new.entries)
-            self.old.layout.value_blocks self.new.layout.value_blocks }
-        ensures child_blocks { 0 < len → SizesStepBetween child_block_sizes self.old.nodes
-            (child_count self.old.nodes) (child_count self.new.nodes)
-            self.old.layout.child_blocks self.new.layout.child_blocks }
-        ensures keeps_blocks { 0 < len → KeepsBlocks self.old.layout self.new.layout }
-        ensures nodes_grow { self.new.room.node_slots
-            ≤ self.old.room.node_slots + 56 * node_number self.old.nodes }
-        ensures cells_grow { self.new.room.cell_slots
-            ≤ self.old.room.cell_slots + 56 * node_number self.old.nodes }
-        ensures nodes_settle { 0 < len → self.new.room.node_slots + headroom_of self.new.layout.child_blocks
-            ≤ self.old.room.node_slots + headroom_of self.old.layout.child_blocks }
-        ensures cells_settle { 0 < len → self.new.room.cell_slots + headroom_of self.new.layout.value_blocks
-            ≤ self.old.room.cell_slots + headroom_of self.old.layout.value_blocks }
-        ensures nodes_still { 0 < len → self.new.layout.child_blocks ≡ self.old.layout.child_blocks
-            → self.new.room.node_slots ≡ self.old.room.node_slots }
-        ensures cells_still { 0 < len → self.new.layout.value_blocks ≡ self.old.layout.value_blocks
-            → self.new.room.cell_slots ≡ self.old.room.cell_slots }
-        ensures limit { (self.new.room.limit ≡ self.old.room.limit)
-            × (self.new.room.node_slots ≤ self.new.room.limit)
-            × (self.new.room.cell_slots ≤ self.new.room.limit) }
+        ensures step { StepOfStrings (stored self.old) (RemoveChildren (take len (K.bits key))) Done
+            (stored self.new) }
+        ensures settles { 0 < len → SettlesInStorage (storage self.old) (storage self.new) }
     {
         if len == 0 {
             self.clear();
@@ -370,31 +300,9 @@ impl<T: Drop, A: Allocator, V: Tick> Table<T, A, V> {
         requires within { AreWithin K.bit_width self.old.entries }
         requires nodes { AreNodes K.bit_width self.old.entries self.old.nodes }
         requires may_ask { MayAskInOrder F.asks F.accepts keep (listing self.old.entries) }
-        ensures kept { AsksInOrder F.asks keep (listing self.old.entries) (listing self.new.entries) }
-        ensures nodes { self.new.nodes ≡ needed self.new.entries }
+        ensures step { RetainsInStorage F.asks keep (stored self.old) (stored self.new) }
         ensures fits { AreWithin K.bit_width self.new.entries }
-        ensures room { (self.new.room.limit ≡ self.old.room.limit)
-            × (self.old.room.node_slots ≤ self.new.room.node_slots)
-            × (self.old.room.cell_slots ≤ self.new.room.cell_slots) }
-        ensures value_blocks { SizesStepBetween value_block_sizes self.old.nodes
-            (own_entries self.old.entries) (own_entries self.new.entries)
-            self.old.layout.value_blocks self.new.layout.value_blocks }
-        ensures child_blocks { SizesStepBetween child_block_sizes self.old.nodes
-            (child_count self.old.nodes) (child_count self.new.nodes)
-            self.old.layout.child_blocks self.new.layout.child_blocks }
-        ensures keeps_blocks { KeepsBlocks self.old.layout self.new.layout }
-        ensures nodes_grow { self.new.room.node_slots ≤ self.old.room.node_slots + 56 * len self.old.nodes }
-        ensures cells_grow { self.new.room.cell_slots ≤ self.old.room.cell_slots + 56 * len self.old.nodes }
-        ensures nodes_settle { self.new.room.node_slots + headroom_of self.new.layout.child_blocks
-            ≤ self.old.room.node_slots + headroom_of self.old.layout.child_blocks }
-        ensures cells_settle { self.new.room.cell_slots + headroom_of self.new.layout.value_blocks
-            ≤ self.old.room.cell_slots + headroom_of self.old.layout.value_blocks }
-        ensures nodes_still { self.new.layout.child_blocks ≡ self.old.layout.child_blocks
-            → self.new.room.node_slots ≡ self.old.room.node_slots }
-        ensures cells_still { self.new.layout.value_blocks ≡ self.old.layout.value_blocks
-            → self.new.room.cell_slots ≡ self.old.room.cell_slots }
-        ensures limit { (self.new.room.node_slots ≤ self.new.room.limit)
-            × (self.new.room.cell_slots ≤ self.new.room.limit) }
+        ensures settles { SettlesInStorage (storage self.old) (storage self.new) }
     {
         retain_entries::<K, T, A, V, F>(
             &mut self.nodes,
@@ -408,13 +316,7 @@ impl<T: Drop, A: Allocator, V: Tick> Table<T, A, V> {
     /// Takes all entries out, and all nodes but the root. It asks for no memory.
     #[inline]
     pub fn clear(&mut self)
-        ensures entries { self.new.entries ≡ no_entries }
-        ensures nodes { self.new.nodes ≡ root_alone }
-        ensures room { self.new.room
-            ≡ record { limit = self.old.room.limit; node_slots = 1; cell_slots = 0 } }
-        ensures layout { self.new.layout ≡ no_layout }
-        ensures limit { (self.new.room.node_slots ≤ self.new.room.limit)
-            × (self.new.room.cell_slots ≤ self.new.room.limit) }
+        ensures step { StepOfStrings (stored self.old) Clear Done (stored self.new) }
     {
         clear_entries(&mut self.nodes, &mut self.cells, &mut self.count);
     }

@@ -8,9 +8,11 @@ use Rattle.prefix_trie_bits.specs.Model.Nodes.{is_root}
 use Rattle.prefix_trie_bits.specs.Model.Step.{State, Call, Insert, Get, Lpm, Spm, Remove, RemoveKeepTree, RemoveChildren, RetainAtLeast, Clear, Len, NodeCount, AddressCount, ListAll, ListFrom, Children, Cover, Reply, Refused, Refusal}
 use Rattle.prefix_trie_bits.specs.Model.Storage.{Storage, InsertsInStorage, StepInStorage}
 use Rattle.prefix_trie_bits.specs.Laws.Determined.{is_refusal}
-use Rattle.prefix_trie_bits.specs.Laws.Storage.{may_change, UseAlike, LeavesFixed, StorageLaws}
+use Rattle.prefix_trie_bits.specs.Laws.Storage.{asks_length, may_change, UseAlike, LeavesFixed, StorageLaws}
 use Rattle.prefix_trie_bits.proofs.Model.Determined.{no_refusal, set}
 use Rattle.prefix_trie_bits.proofs.Model.Members.{same_entries}
+use Rattle.prefix_trie_bits.proofs.Model.Readied.{readied_not_refused, readied_inserts}
+use Rattle.prefix_trie_bits.proofs.Model.Retained.{at_least_step}
 
 none-long : (s : List Bool) → is_root s ≡ true → length s ≡ 0
 none-long [] e = refl
@@ -103,4 +105,11 @@ module _ {P T : Type 0} (path : P → List Bool) (back : List Bool → P) (width
       ] refl
 
 pub storage_laws : (P T : Type 0) → StorageLaws P T
-storage_laws P T = record { fixed = fixed; inserted = inserted }
+storage_laws P T = record {
+  retained = λ path back width n s t map h.
+      at_least_step path back width (asks_length n) tt n (λ k. length k) s t map.keys_within (λ k short. refl) (λ e b f is. (is, refl)) h;
+  fixed = fixed;
+  inserted = inserted;
+  granted = λ s q before mid after cause made. readied_not_refused s q before mid made cause after;
+  readied = λ s q before mid after made. readied_inserts s q before mid made after;
+}

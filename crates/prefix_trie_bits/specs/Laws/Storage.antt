@@ -1,10 +1,11 @@
 -- What a step leaves of the storage, as far as one storage alone can be left.
-use Rattle.std.specs.Prelude.{◌≡◌, ℕ, Bool, true, false, List}
+use Rattle.std.specs.Prelude.{◌≡◌, ℕ, Bool, true, false, List, length, nat_le}
 use Rattle.std.specs.FinMap.{contains_key}
 use Rattle.prefix_trie_bits.specs.Model.Nodes.{is_root}
-use Rattle.prefix_trie_bits.specs.Model.Step.{State, Call, Insert, Get, Lpm, Spm, Remove, RemoveKeepTree, RemoveChildren, RetainAtLeast, Clear, Len, NodeCount, AddressCount, ListAll, ListFrom, Children, Cover, Reply, Refused, Refusal}
-use Rattle.prefix_trie_bits.specs.Model.Storage.{Storage, StepInStorage, cleared}
+use Rattle.prefix_trie_bits.specs.Model.Step.{State, Call, Insert, Get, Lpm, Spm, Remove, RemoveKeepTree, RemoveChildren, RetainAtLeast, Clear, Len, NodeCount, AddressCount, ListAll, ListFrom, Children, Cover, Reply, Done, Refused, Refusal}
+use Rattle.prefix_trie_bits.specs.Model.Storage.{Storage, ReadiesInStorage, InsertsInStorage, RefusesInStorage, StepInStorage, RetainsInStorage, cleared}
 use Rattle.prefix_trie_bits.specs.Laws.Determined.{is_refusal}
+use Rattle.prefix_trie_bits.specs.Laws.Steps.{IsMap}
 
 module _ {P T : Type 0} where
   -- whether a call can change a map
@@ -43,10 +44,21 @@ module _ {P T : Type 0} (path : P → List Bool) (back : List Bool → P) (width
     pub refused : (cause : Refusal) → reply ≡ Refused cause →
         (t.1.layout.child_blocks ≡ s.1.layout.child_blocks) × (t.1.layout.value_blocks ≡ s.1.layout.value_blocks)
 
+-- a test of lengths, without state: it answers whether a key has n bits or more
+abbrev pub asks_length : {T : Type 0} → ℕ → Unit {0} → List Bool → T → Bool → Unit {0} → Type 0
+asks_length n f k v b f' = b ≡ nat_le n (length k)
+
 pub record StorageLaws (P T : Type 0) : Type 0 where
+  -- asking such a test at each entry is the call that keeps by length
+  pub retained : (path : P → List Bool) (back : List Bool → P) (width n : ℕ) (s t : State T × Storage) → IsMap width s.0
+      → RetainsInStorage (asks_length n) tt s t → StepInStorage path back width s (RetainAtLeast n) Done t
   pub fixed : (path : P → List Bool) (back : List Bool → P) (width : ℕ) (s : State T × Storage) (call : Call P T) (reply : Reply P T) (t : State T × Storage)
       → StepInStorage path back width s call reply t → LeavesFixed path back width s call reply t
   -- two insertions of one new key into one map that are not refused leave the same slots, and the same blocks in use
   pub inserted : (path : P → List Bool) (back : List Bool → P) (width : ℕ) (s : State T × Storage) (q : P) (v : T) (reply other : Reply P T)
       (t u : State T × Storage) → is_refusal reply ≡ false → is_refusal other ≡ false
       → StepInStorage path back width s (Insert q v) reply t → StepInStorage path back width s (Insert q v) other u → UseAlike t.1 u.1
+  -- where the blocks that an insertion lacks were made before it, it is not refused
+  pub granted : (s : State T) (q : List Bool) (before mid after : Storage) (cause : Refusal) → ReadiesInStorage s q before mid → RefusesInStorage s q cause mid after → ⊥
+  -- and both are as one insertion
+  pub readied : (s : State T) (q : List Bool) (before mid after : Storage) → ReadiesInStorage s q before mid → InsertsInStorage s q mid after → InsertsInStorage s q before after

@@ -56,6 +56,7 @@ free_of (s ∷ sizes) (f ∷ free) size = cond (s == size) f (free_of sizes free
 -- was taken, none where no item is left, and else the old size or the smallest that holds the rest, and that one where such a
 -- block was free
 pub record StepsDown (sizes free : List ℕ) (before after : ℕ) (old new : Option ℕ) : Type 0 where
+  pub fewer : after ≤ before
   pub same : after ≡ before → new ≡ old
   pub none : after ≡ 0 → new ≡ None
   pub one_of : after < before → 0 < after → (new ≡ old) ⊎ (new ≡ smallest_size sizes after)

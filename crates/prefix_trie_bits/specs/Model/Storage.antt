@@ -1,10 +1,12 @@
 -- How a map is stored, a step that sees it, and runs of such steps. This project's own.
 use Rattle.std.specs.Prelude.{◌≡◌, ℕ, ◌+◌, ◌≤◌, ◌<◌, Bool, true, false, Option, List, length}
 use Rattle.std.specs.FinMap.{get, contains_key, len}
-use Rattle.prefix_trie_bits.specs.Model.Blocks.{Layout, no_layout, KeepsBlocks, MakesBlocks, MakesAtMost, made_of, child_block_count, value_block_count, SizesStepDown, SizesStepBetween, LongerByOne, value_block_sizes, child_block_sizes, own_entries, child_count}
+use Rattle.prefix_trie_bits.specs.Model.Asking.{AsksInOrder}
+use Rattle.prefix_trie_bits.specs.Model.Blocks.{Layout, no_layout, NodesHaveBlocks, KeepsBlocks, MakesBlocks, MakesAtMost, made_of, child_block_count, value_block_count, SizesStepDown, SizesStepBetween, LongerByOne, value_block_sizes, child_block_sizes, own_entries, child_count}
 use Rattle.prefix_trie_bits.specs.Model.Insertion.{PassesLimit, LacksWithinLimit, TakesBlocks, node_slots_lacking, cell_slots_lacking, child_blocks_lacking, value_blocks_lacking, child_block_needed, value_block_needed}
-use Rattle.prefix_trie_bits.specs.Model.Nodes.{home}
+use Rattle.prefix_trie_bits.specs.Model.Nodes.{home, needed}
 use Rattle.prefix_trie_bits.specs.Model.Room.{Room, MayPassLimit, LeavesRoom}
+use Rattle.prefix_trie_bits.specs.Model.Selections.{listing}
 use Rattle.prefix_trie_bits.specs.Model.Step.{State, Call, Insert, Get, Lpm, Spm, Remove, RemoveKeepTree, RemoveChildren, RetainAtLeast, Clear, Len, NodeCount, AddressCount, ListAll, ListFrom, Children, Cover, Reply, Value, Refused, Refusal, Memory, IndexRange, Step, Runs}
 
 -- how a map is stored: the room of its two arrays, and how they are cut into blocks
@@ -17,6 +19,11 @@ abbrev pub cleared : Storage → Storage
 cleared s = record { room = record { limit = s.room.limit; node_slots = 1; cell_slots = 0 }; layout = no_layout }
 
 module _ {T : Type 0} where
+  -- each node has the block of its children and that of its values, and no other string has one
+  pub record HaveBlocks (s : State T) (layout : Layout) : Type 0 where
+    pub child_blocks : NodesHaveBlocks child_block_sizes s.nodes (child_count s.nodes) layout.child_blocks
+    pub value_blocks : NodesHaveBlocks value_block_sizes s.nodes (own_entries s.entries) layout.value_blocks
+
   -- what the insertion of the new key q leaves: each node that needed a block has it, the others have theirs. Of each size exactly the
   -- lacking blocks were made, and the arrays are longer by these. No block is lost: one that was left is free
   pub record InsertsInStorage (s : State T) (q : List Bool) (before after : Storage) : Type 0 where
@@ -27,7 +34,16 @@ module _ {T : Type 0} where
     pub child_blocks_made : MakesBlocks child_block_sizes (child_blocks_lacking s.nodes before.layout q) (child_block_count before.layout) (child_block_count after.layout)
     pub value_blocks_made : MakesBlocks value_block_sizes (value_blocks_lacking s.entries before.layout q) (value_block_count before.layout) (value_block_count after.layout)
 
-  -- when its refusal comes, and what it leaves: it comes only where a block lacks, for want of slots only where the lacking ones pass
+  -- what a call leaves that makes the blocks that the insertion of the new key q lacks, and does not insert it: those in use stay
+  pub record ReadiesInStorage (s : State T) (q : List Bool) (before after : Storage) : Type 0 where
+    pub node_slots : after.room.node_slots ≡ before.room.node_slots + node_slots_lacking s.nodes before.layout q
+    pub cell_slots : after.room.cell_slots ≡ before.room.cell_slots + cell_slots_lacking s.entries before.layout q
+    pub child_blocks : after.layout.child_blocks ≡ before.layout.child_blocks
+    pub value_blocks : after.layout.value_blocks ≡ before.layout.value_blocks
+    pub child_blocks_made : MakesBlocks child_block_sizes (child_blocks_lacking s.nodes before.layout q) (child_block_count before.layout) (child_block_count after.layout)
+    pub value_blocks_made : MakesBlocks value_block_sizes (value_blocks_lacking s.entries before.layout q) (value_block_count before.layout) (value_block_count after.layout)
+
+  -- when the refusal of an insertion comes, and what it leaves: it comes only where a block lacks, for want of slots only where the lacking ones pass
   -- the limit, and for want of memory only where one that lacks still would not. The blocks in use stay, and of each size no more
   -- than the lacking blocks were made, which are free
   pub record RefusesInStorage (s : State T) (q : List Bool) (cause : Refusal) (before after : Storage) : Type 0 where
@@ -114,3 +130,16 @@ module _ {P T : Type 0} (path : P → List Bool) (back : List Bool → P) (width
   -- a run of such steps
   abbrev pub RunInStorage : State T × Storage → List (Call P T) → List (Reply P T) → State T × Storage → Type 0
   RunInStorage = Runs StepInStorage
+
+module _ {T : Type 0} where
+  -- a step of a map whose keys are handed in as bit strings. No call that changes a map depends on the width
+  abbrev pub StepOfStrings : State T × Storage → Call (List Bool) T → Reply (List Bool) T → State T × Storage → Type 0
+  StepOfStrings s call reply t = (width : ℕ) → StepInStorage (λ q. q) (λ q. q) width s call reply t
+
+  -- a step that asks the test f at each entry, in listing order, and keeps those at which it answers true, with the nodes that these
+  -- need
+  pub record RetainsInStorage {F : Type 0} (asks : F → List Bool → T → Bool → F → Type 0) (f : F) (s t : State T × Storage) : Type 0 where
+    pub kept : AsksInOrder asks f (listing s.0.entries) (listing t.0.entries)
+    pub nodes : t.0.nodes ≡ needed t.0.entries
+    pub room : LeavesRoom (len s.0.nodes) s.1.room t.1.room
+    pub storage : RemovesManyInStorage s.0 t.0 s.1 t.1

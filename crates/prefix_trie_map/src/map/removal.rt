@@ -1,5 +1,5 @@
 //! Taking entries out.
-ghost use Rattle.std.specs.Prelude.{◌≡◌, ◌+◌, ◌≤◌};
+ghost use Rattle.std.specs.Prelude.{◌≡◌};
 ghost use Rattle.std.specs.FinMap.{get};
 ghost use Rattle.prefix_trie_bits.specs.Model.Entries.{no_entries, without_entry, without_below};
 ghost use Rattle.prefix_trie_bits.specs.Model.Nodes.{root_alone, nodes_without, nodes_without_below};
@@ -26,7 +26,6 @@ impl<P: Prefix, T: Drop, A: Allocator> PrefixMap<P, T, A> {
         ensures value { result ≡ get self.old.entries (P.path prefix.now) }
         ensures entries { self.new.entries ≡ without_entry self.old.entries (P.path prefix.now) }
         ensures nodes { self.new.nodes ≡ nodes_without self.old.nodes self.old.entries (P.path prefix.now) }
-        ensures slots { (self.new.room.node_slots ≤ self.old.room.node_slots + 24) × (self.new.room.cell_slots ≤ self.old.room.cell_slots + 24) }
 
         // It is a step of the model, of the storage too: the block that lost a value, and the one that lost a child, step down, and one is
         // made only where none of its size was free.
@@ -51,7 +50,6 @@ impl<P: Prefix, T: Drop, A: Allocator> PrefixMap<P, T, A> {
         ensures value { result ≡ get self.old.entries (P.path prefix.now) }
         ensures entries { self.new.entries ≡ without_entry self.old.entries (P.path prefix.now) }
         ensures nodes { self.new.nodes ≡ self.old.nodes }
-        ensures slots { self.new.room.cell_slots ≤ self.old.room.cell_slots + 24 }
 
         // It is a step of the model, of the storage too. The array of nodes is as it was.
         ensures step { StepInStorage P.path P.back P.R.bit_width (stored self.old) (RemoveKeepTree prefix.now) (Value result) (stored self.new) }

@@ -1,13 +1,11 @@
 //! Keeping the entries at which a test says yes.
 ghost use Rattle.std.specs.Prelude.{◌≡◌};
-ghost use Rattle.std.specs.FinMap.{len};
 ghost use Rattle.prefix_trie_bits.specs.Model.Asking.{AsksInOrder, MayAskInOrder};
 ghost use Rattle.prefix_trie_bits.specs.Model.Nodes.{needed};
-ghost use Rattle.prefix_trie_bits.specs.Model.Room.{LeavesRoom};
 ghost use Rattle.prefix_trie_bits.specs.Model.Selections.{listing};
-ghost use Rattle.prefix_trie_bits.specs.Model.Storage.{RemovesManyInStorage};
+ghost use Rattle.prefix_trie_bits.specs.Model.Storage.{RetainsInStorage};
 ghost use Rattle.prefix_trie_map.specs.Asking.{AsksAt, TakesAt};
-ghost use Rattle.prefix_trie_map.specs.Steps.{state, storage};
+ghost use Rattle.prefix_trie_map.specs.Steps.{stored};
 ghost use Rattle.prefix_trie_map.specs.Whole.{IsWhole};
 
 use crate::map::PrefixMap;
@@ -61,8 +59,10 @@ impl<P: Prefix, T: Drop, A: Allocator> PrefixMap<P, T, A> {
         ensures whole { IsWhole P.R.bit_width self.old }
         ensures kept { AsksInOrder (AsksAt F.FnMut P.back) test (listing self.old.entries) (listing self.new.entries) }
         ensures nodes { self.new.nodes ≡ needed self.new.entries }
-        ensures removes { RemovesManyInStorage (state self.old) (state self.new) (storage self.old) (storage self.new) }
-        ensures leaves { LeavesRoom (len self.old.nodes) self.old.room self.new.room }
+
+        // It is a step of the model, of the storage too: each block that lost items is between its old size and the smallest that holds the
+        // rest, and no slot and no block goes.
+        ensures step { RetainsInStorage (AsksAt F.FnMut P.back) test (stored self.old) (stored self.new) }
     {
         // The proof learns from it that the map is whole.
         let _ = self.len();

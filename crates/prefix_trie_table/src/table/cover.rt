@@ -2,7 +2,8 @@
 ghost use Rattle.std.specs.Prelude.{◌≡◌, ℕ, ◌+◌, ◌*◌, ◌^◌, ◌<◌, ◌≤◌, List, Option, Some, [], false, length, take, MatchOption};
 ghost use Rattle.prefix_trie_bits.specs.Model.Matches.{covers};
 ghost use Rattle.prefix_trie_table.specs.Items.{GivesEntry};
-ghost use Rattle.prefix_trie_table.specs.Matching.{HasNodes};
+ghost use Rattle.prefix_trie_table.specs.Forest.{SomeNodes};
+ghost use Rattle.prefix_trie_table.specs.Matching.{LackLastBit};
 ghost use Rattle.prefix_trie_table.specs.Shape.{Shaped, Shaped-prop};
 ghost use Rattle.prefix_trie_table.specs.Covers.{AreLeft, IsCovering, GoesOn, TakesShortest};
 
@@ -130,7 +131,7 @@ fn next_match<K: Key, A: Allocator, V: Tick>(
 ) -> Option<Match>
     requires key { K.IsKey key }
     requires within { len ≤ K.bit_width }
-    requires sound { HasNodes nodes.now }
+    requires sound { (n : SomeNodes nodes.now) × LackLastBit n.reading }
     requires stands { (first : ℕ) × IsCovering (K.bits key) len here.old.level here.old.node
         (here.old.at.start + here.old.at.place) matches.old first nodes.now }
     ensures { (first : ℕ) → IsCovering (K.bits key) len here.old.level here.old.node

@@ -1,20 +1,22 @@
 //! Setting a value.
-ghost use Rattle.std.specs.Prelude.{◌≡◌, ◌≢◌, ℕ, ◌+◌, ◌*◌, ◌<◌, ◌≤◌, List, Option, Some, take, false, true, is_some, IfErr, IsOk, MatchResult, OnOk, None};
+ghost use Rattle.std.specs.Prelude.{◌≡◌, ◌≢◌, ℕ, ◌+◌, ◌*◌, ◌<◌, ◌≤◌, List, Option, Some, take, false, true, is_some, IfErr, IfOk, IsOk, MatchResult, OnOk, None};
 ghost use Rattle.prefix_trie_table.specs.declared.allocator.node.Node.{Node};
 ghost use Rattle.prefix_trie_table.specs.Bitmaps.{has_bit as is_set, rank as rank_of};
 ghost use Rattle.prefix_trie_table.specs.Cells.{blank_node, node_at, node_sizes, cell_sizes};
 ghost use Rattle.prefix_trie_table.specs.Digits.{path_of, bit_of};
 ghost use Rattle.prefix_trie_table.specs.Store.{Block, Sound, IsReady, tier_lacking, free_at, Prepared, SameRoom, SameMade};
-ghost use Rattle.prefix_trie_table.specs.Forest.{IsSlot, NodesHold, CellsHold, Holds, IsTable, AtNode, AtValues, ChildAdded, ValueSet, StandsAt, one_if};
-ghost use Rattle.prefix_trie_table.specs.Tables.{IsReached, HasRoom, IsCounted, Grows, MayPass, ForHeld, own_value, EntrySet};
+ghost use Rattle.prefix_trie_table.specs.Forest.{IsSlot, NodesHold, CellsHold, Holds, SomeTable, SomeNodes, IsNodeAt, ChildAdded, ValueSet, Deepest, entry_count, one_if};
+ghost use Rattle.prefix_trie_table.specs.Locations.{seat_in, seat_of};
+ghost use Rattle.prefix_trie_table.specs.Tables.{IsReached, HasRoom, Grows, MayPass, ForHeld, own_value, EntrySet};
 ghost use Rattle.prefix_trie_table.specs.Asked.{nodes_needed, cells_needed, AtEnd, ObtainsBoth};
 ghost use Rattle.prefix_trie_bits.specs.declared.prefix.Refusal.TheVariants.{Memory, IndexRange};
 
 use crate::allocator::blocks::Blocks;
 use crate::allocator::node::{Node, NodeSlot};
 use crate::allocator::nodes::{NodeAllocator, Tick};
-use crate::table::lookup::{Reached, descend};
-use prefix_trie_bits::node::{child_bit_of, count, has_bit, rank, value_bit_of, with_bit};
+use crate::table::lookup::{Reached, locate_in};
+use crate::table::seat::{Location, Seat, WayEnd};
+use prefix_trie_bits::node::{child_bit_of, count, rank, value_bit_of, with_bit};
 use prefix_trie_bits::prefix::{Key, Refusal, Refused};
 use std::alloc::Allocator;
 
@@ -26,7 +28,7 @@ fn add_child<A: Allocator, V: Tick>(
     child: u32,
 ) -> NodeSlot
     requires child { child < 32 }
-    requires stands { AtNode nodes.old (at.start + at.place) }
+    requires stands { (n : SomeNodes nodes.old) × IsNodeAt n.reading (at.start + at.place) }
     requires node { node ≡ node_at nodes.old.slots (at.start + at.place) }
     requires missing { is_set node.child_bitmap child ≡ false }
     requires ready { IsReady nodes.old.tiers node.child_tier (rank_of node.child_bitmap 32) }
@@ -67,7 +69,7 @@ fn add_child<A: Allocator, V: Tick>(
     }
 }
 
-/// Adds a missing value, for whose block there is room, to the node in a slot.
+/// Adds a missing value, for whose block there is room, to the node in a slot, and answers where it stands.
 fn add_value<T: Drop, A: Allocator, V: Tick>(
     nodes: &mut NodeAllocator<A, V>,
     cells: &mut Blocks<Option<T>, A>,
@@ -75,9 +77,9 @@ fn add_value<T: Drop, A: Allocator, V: Tick>(
     node: Node,
     bit: u32,
     value: T,
-)
+) -> Seat
     requires bit { bit < 31 }
-    requires stands { AtValues nodes.old cells.old (at.start + at.place) }
+    requires stands { (t : SomeTable nodes.old cells.old) × IsNodeAt t.reading (at.start + at.place) }
     requires node { node ≡ node_at nodes.old.slots (at.start + at.place) }
     requires missing { is_set node.value_bitmap bit ≡ false }
     requires ready { IsReady cells.old.tiers node.value_tier (rank_of node.value_bitmap 32) }
@@ -91,6 +93,7 @@ fn add_value<T: Drop, A: Allocator, V: Tick>(
         → CellsHold cell_sizes reading values paths cells.old
         → IsSlot reading p (at.start + at.place) → reading p ≡ Some n
         → ValueSet reading paths values p bit (Some value) nodes.new cells.new }
+    ensures seat { seat_in (Some (node_at nodes.new.slots (at.start + at.place))) bit ≡ Some result }
 {
     let place = rank(node.value_bitmap, bit);
     let block = cells.insert_at(
@@ -112,49 +115,21 @@ fn add_value<T: Drop, A: Allocator, V: Tick>(
             child_tier: node.child_tier,
         },
     );
-}
-
-/// Puts another value where the node in a slot has one, and answers the one that was there.
-fn replace_value<T: Drop, A: Allocator, V: Tick>(
-    nodes: &NodeAllocator<A, V>,
-    cells: &mut Blocks<Option<T>, A>,
-    at: NodeSlot,
-    node: Node,
-    bit: u32,
-    value: T,
-) -> Option<T>
-    requires bit { bit < 31 }
-    requires stands { AtValues nodes.now cells.old (at.start + at.place) }
-    requires node { node ≡ node_at nodes.now.slots (at.start + at.place) }
-    requires there { is_set node.value_bitmap bit ≡ true }
-    ensures room { SameRoom cells.old cells.new }
-    ensures tiers { cells.new.tiers ≡ cells.old.tiers }
-    ensures before { (reading : List ℕ → Option Node) (paths : List (List ℕ))
-        (values : List ℕ → ℕ → Option T) (p : List ℕ) (n : Node)
-        → NodesHold node_sizes reading paths nodes.now
-        → CellsHold cell_sizes reading values paths cells.old
-        → IsSlot reading p (at.start + at.place) → reading p ≡ Some n
-        → result ≡ values p bit }
-    ensures replaced { (reading : List ℕ → Option Node) (paths : List (List ℕ))
-        (values : List ℕ → ℕ → Option T) (p : List ℕ) (n : Node)
-        → NodesHold node_sizes reading paths nodes.now
-        → CellsHold cell_sizes reading values paths cells.old
-        → IsSlot reading p (at.start + at.place) → reading p ≡ Some n
-        → ValueSet reading paths values p bit (Some value) nodes.now cells.new }
-{
-    cells.put(node.value_block, rank(node.value_bitmap, bit), Some(value))
+    Seat {
+        start: block.start,
+        place,
+    }
 }
 
 /// Obtains all blocks that a new value of `len` bits needs, where the node reached is the deepest on its way. Refused,
 /// nothing has changed but that some blocks may be free that were not there.
-fn prepare<T: Drop, A: Allocator, V: Tick>(
+pub fn prepare<T: Drop, A: Allocator, V: Tick>(
     nodes: &mut NodeAllocator<A, V>,
     cells: &mut Blocks<Option<T>, A>,
     reached: &Reached,
     len: u32,
 ) -> Result<(), Refusal>
-    requires stands { AtValues nodes.old cells.old
-        (reached.now.at.start + reached.now.at.place) }
+    requires stands { (t : SomeTable nodes.old cells.old) × IsNodeAt t.reading (reached.now.at.start + reached.now.at.place) }
     requires node { reached.now.node
         ≡ node_at nodes.old.slots (reached.now.at.start + reached.now.at.place) }
     requires whole { 5 * reached.now.level ≤ len }
@@ -193,7 +168,7 @@ fn prepare<T: Drop, A: Allocator, V: Tick>(
     )
 }
 
-/// Adds the nodes of a way that are missing, below the deepest that is there, and a value at the last.
+/// Adds the nodes of a way that are missing, below the deepest that is there, and a value at the last. Answers where it stands.
 fn add_entry<K: Key, T: Drop, A: Allocator, V: Tick>(
     nodes: &mut NodeAllocator<A, V>,
     cells: &mut Blocks<Option<T>, A>,
@@ -201,11 +176,11 @@ fn add_entry<K: Key, T: Drop, A: Allocator, V: Tick>(
     key: K,
     len: u32,
     value: T,
-)
+) -> Seat
     requires key { K.IsKey key }
     requires within { len ≤ K.bit_width }
-    requires stands { StandsAt nodes.old cells.old (path_of (take len (K.bits key)))
-        reached.level (reached.at.start + reached.at.place) }
+    requires stands { (t : SomeTable nodes.old cells.old)
+        × Deepest t.reading (path_of (take len (K.bits key))) reached.level (reached.at.start + reached.at.place) nodes.old }
     requires reached { IsReached (K.bits key) len
         reached.level reached.node (reached.at.start + reached.at.place) nodes.old }
     requires lacks { len < 5 * reached.level + 5
@@ -217,6 +192,7 @@ fn add_entry<K: Key, T: Drop, A: Allocator, V: Tick>(
     ensures cell_made { SameMade cells.old cells.new }
     ensures added { ForHeld nodes.old cells.old (λ reading paths values.
         EntrySet reading paths values (K.bits key) len value nodes.new cells.new) }
+    ensures seat { seat_of nodes.new.slots (take len (K.bits key)) ≡ Some result }
 {
     let mut at = reached.at;
     let mut node = reached.node;
@@ -231,57 +207,54 @@ fn add_entry<K: Key, T: Drop, A: Allocator, V: Tick>(
         node,
         value_bit_of(key, len / 5 * 5, len),
         value,
-    );
+    )
 }
 
-/// Sets the value at a bit string, and adds the nodes of its way that are missing. On a refusal nothing is added.
-fn insert_value<K: Key, T: Drop, A: Allocator, V: Tick>(
+/// Adds a missing value at a bit string whose way ends so, and the nodes of its way that are missing, and counts it. Answers where
+/// it stands. On a refusal nothing is added.
+pub fn place_entry<K: Key, T: Drop, A: Allocator, V: Tick>(
     nodes: &mut NodeAllocator<A, V>,
     cells: &mut Blocks<Option<T>, A>,
+    entries: &mut usize,
+    end: WayEnd,
     key: K,
     len: u32,
     value: T,
-    counter: &mut V,
-) -> Result<Option<T>, Refused<T>>
+) -> Result<Seat, Refused<T>>
     requires key { K.IsKey key }
     requires within { len ≤ K.bit_width }
-    requires table { IsTable nodes.old cells.old }
-    ensures inserted { ForHeld nodes.old cells.old (λ reading paths values. MatchResult result
-        (λ before. (before ≡ own_value values (K.bits key) len)
-        × EntrySet reading paths values (K.bits key) len value nodes.new cells.new)
+    requires table { (t : SomeTable nodes.old cells.old) × (entries.old ≡ entry_count t.reading t.paths) }
+    requires reached { IsReached (K.bits key) len end.reached.level end.reached.node
+        (end.reached.at.start + end.reached.at.place) nodes.old }
+    requires missing { seat_of nodes.old.slots (take len (K.bits key)) ≡ None }
+    ensures placed { ForHeld nodes.old cells.old (λ reading paths values. MatchResult result
+        (λ _. EntrySet reading paths values (K.bits key) len value nodes.new cells.new)
         (λ _. Holds reading values paths nodes.new cells.new)) }
+    ensures counted { MatchResult result (λ _. entries.new ≡ entries.old + 1) (λ _. entries.new ≡ entries.old) }
+    ensures seat { IfOk result (λ seat. seat_of nodes.new.slots (take len (K.bits key)) ≡ Some seat) }
     ensures range { IfErr result
         (λ refused. refused.cause ≡ IndexRange → MayPass nodes.old cells.old) }
     ensures node_room { Grows nodes.old nodes.new 56 }
     ensures cell_room { Grows cells.old cells.new 31 }
-    ensures asked { ForHeld nodes.old cells.old (λ reading paths values.
-        own_value values (K.bits key) len ≡ None
-        → AtEnd reading (K.bits key) len (λ node level.
-        ObtainsBoth (λ refused. refused.cause ≡ IndexRange) (λ refused. refused.cause ≡ Memory)
+    ensures obtains { ObtainsBoth (λ refused. refused.cause ≡ IndexRange) (λ refused. refused.cause ≡ Memory)
         result nodes.old nodes.new cells.old cells.new
-        (nodes_needed nodes.old node level len) (cells_needed cells.old node level len))) }
+        (nodes_needed nodes.old end.reached.node end.reached.level len)
+        (cells_needed cells.old end.reached.node end.reached.level len) }
     ensures returned { IfErr result (λ refused. refused.value ≡ value) }
-    ensures stored { ForHeld nodes.old cells.old (λ reading paths values.
-        is_some (own_value values (K.bits key) len) ≡ true
-        → IsOk result × SameRoom cells.old cells.new × (nodes.new ≡ nodes.old)
-        × (cells.new.tiers ≡ cells.old.tiers)) }
 {
-    let reached = descend(nodes, key, len, counter);
-    let depth = 5 * reached.level;
-    if depth + 5 > len {
-        let bit = value_bit_of(key, depth, len);
-        if has_bit(reached.node.value_bitmap, bit) {
-            return Ok(replace_value(nodes, cells, reached.at, reached.node, bit, value));
-        }
-    }
-    if let Err(cause) = prepare(nodes, cells, &reached, len) {
+    if let Err(cause) = prepare(nodes, cells, &end.reached, len) {
         return Err(Refused { cause, value });
     }
-    add_entry(nodes, cells, reached, key, len, value);
-    Ok(None)
+    let seat = add_entry(nodes, cells, end.reached, key, len, value);
+    // Each entry has a cell, so the count is within the array's length.
+    let slots = cells.len();
+    prove!(*entries < slots);
+    *entries += 1;
+    Ok(seat)
 }
 
-/// As `insert_value`, and counts a new value.
+/// Sets the value at a bit string, adds the nodes of its way that are missing, and counts a new value. On a refusal nothing is
+/// added.
 pub fn insert_entry<K: Key, T: Drop, A: Allocator, V: Tick>(
     nodes: &mut NodeAllocator<A, V>,
     cells: &mut Blocks<Option<T>, A>,
@@ -293,7 +266,8 @@ pub fn insert_entry<K: Key, T: Drop, A: Allocator, V: Tick>(
 ) -> Result<Option<T>, Refused<T>>
     requires key { K.IsKey key }
     requires within { len ≤ K.bit_width }
-    requires table { IsCounted nodes.old cells.old entries.old }
+    requires table { (t : SomeTable nodes.old cells.old)
+        × (entries.old ≡ entry_count t.reading t.paths) }
     ensures inserted { ForHeld nodes.old cells.old (λ reading paths values. MatchResult result
         (λ before. (before ≡ own_value values (K.bits key) len)
         × EntrySet reading paths values (K.bits key) len value nodes.new cells.new)
@@ -315,12 +289,11 @@ pub fn insert_entry<K: Key, T: Drop, A: Allocator, V: Tick>(
         → IsOk result × SameRoom cells.old cells.new × (nodes.new ≡ nodes.old)
         × (cells.new.tiers ≡ cells.old.tiers)) }
 {
-    let before = insert_value(nodes, cells, key, len, value, counter)?;
-    if before.is_none() {
-        // Each entry has a cell, so the count is within the array's length.
-        let slots = cells.len();
-        prove!(*entries < slots);
-        *entries += 1;
+    match locate_in(nodes, key, len, counter) {
+        Location::Stored(seat) => Ok(cells.put(seat.start, seat.place, Some(value))),
+        Location::Missing(end) => {
+            place_entry(nodes, cells, entries, end, key, len, value)?;
+            Ok(None)
+        }
     }
-    Ok(before)
 }

@@ -33,7 +33,7 @@ fn held<T>(cell: &mut Option<T>) -> &mut T
 
 /// The value at a seat. All writing of single values goes through this call.
 #[inline]
-fn lend<T: Drop, A: Allocator>(cells: &mut Blocks<Option<T>, A>, seat: Seat) -> &mut T
+pub fn lend<T: Drop, A: Allocator>(cells: &mut Blocks<Option<T>, A>, seat: Seat) -> &mut T
     requires { HasValue cells.old seat }
     ensures* writes_back { sem 𝓛 (lends_cell T.row A.row A.Allocator cells.entry seat result) }
     ensures value { slice_index_or cells.old.slots (seat.start + seat.place) None ≡ Some result.now }

@@ -4,14 +4,15 @@ ghost use Rattle.std.specs.Option.{option_copied};
 ghost use Rattle.prefix_trie_table.specs.declared.allocator.node.Node.{Node};
 ghost use Rattle.prefix_trie_table.specs.Cells.{node_sizes};
 ghost use Rattle.prefix_trie_table.specs.Digits.{path_of};
-ghost use Rattle.prefix_trie_table.specs.Forest.{NodesHold, IsTable, IsEnd};
+ghost use Rattle.prefix_trie_table.specs.Forest.{NodesHold, SomeTable, SomeNodes, IsEnd};
+ghost use Rattle.prefix_trie_table.specs.Locations.{Locates};
 ghost use Rattle.prefix_trie_table.specs.Tables.{IsReached, ForHeld, own_value};
 ghost use Rattle.prefix_trie_table.specs.Slots.{SeatOf};
 
 use crate::allocator::blocks::Blocks;
 use crate::allocator::node::{Node, NodeSlot};
 use crate::allocator::nodes::{NodeAllocator, Tick};
-use crate::table::seat::Seat;
+use crate::table::seat::{Location, Seat, WayEnd};
 use prefix_trie_bits::node::{child_bit_of, has_bit, rank, value_bit_of};
 use prefix_trie_bits::prefix::Key;
 use std::alloc::Allocator;
@@ -25,6 +26,7 @@ pub struct Reached {
 }
 
 /// Goes down the way of a bit string as far as nodes stand, and reads each of them once.
+#[inline(always)]
 pub fn descend<K: Key, A: Allocator, V: Tick>(
     nodes: &NodeAllocator<A, V>,
     key: K,
@@ -33,8 +35,7 @@ pub fn descend<K: Key, A: Allocator, V: Tick>(
 ) -> Reached
     requires key { K.IsKey key }
     requires within { len ≤ K.bit_width }
-    requires sound { (reading : List ℕ → Option Node) × (paths : List (List ℕ))
-        × NodesHold node_sizes reading paths nodes.now }
+    requires sound { SomeNodes nodes.now }
     ensures reached { IsReached (K.bits key) len
         result.level result.node (result.at.start + result.at.place) nodes.now }
     ensures visits { V.count counter.new ≡ V.count counter.old + (result.level + 1) }
@@ -57,21 +58,18 @@ pub fn descend<K: Key, A: Allocator, V: Tick>(
     Reached { at, node, level }
 }
 
-/// Where the value at a bit string stands, if there is one.
-#[inline]
-pub fn find_seat<K: Key, A: Allocator, V: Tick>(
+/// Where the value at a bit string stands, or where its way ends.
+#[inline(always)]
+pub fn locate_in<K: Key, A: Allocator, V: Tick>(
     nodes: &NodeAllocator<A, V>,
     key: K,
     len: u32,
     counter: &mut V,
-) -> Option<Seat>
+) -> Location
     requires key { K.IsKey key }
     requires within { len ≤ K.bit_width }
-    requires sound { (reading : List ℕ → Option Node) × (paths : List (List ℕ))
-        × NodesHold node_sizes reading paths nodes.now }
-    ensures seat { (reading : List ℕ → Option Node) (paths : List (List ℕ))
-        → NodesHold node_sizes reading paths nodes.now
-        → SeatOf reading (take len (K.bits key)) result }
+    requires sound { SomeNodes nodes.now }
+    ensures place { Locates nodes.now (K.bits key) len result }
     ensures visits { (reading : List ℕ → Option Node) (paths : List (List ℕ))
         → NodesHold node_sizes reading paths nodes.now
         → (level : ℕ) × IsEnd reading (path_of (take len (K.bits key))) level
@@ -80,20 +78,46 @@ pub fn find_seat<K: Key, A: Allocator, V: Tick>(
     let reached = descend(nodes, key, len, counter);
     let depth = 5 * reached.level;
     if depth + 5 <= len {
-        return None;
+        return Location::Missing(WayEnd { reached });
     }
     let bit = value_bit_of(key, depth, len);
     let bitmap = reached.node.value_bitmap;
     if !has_bit(bitmap, bit) {
-        return None;
+        return Location::Missing(WayEnd { reached });
     }
-    Some(Seat {
+    Location::Stored(Seat {
         start: reached.node.value_block,
         place: rank(bitmap, bit),
     })
 }
 
+/// Where the value at a bit string stands, if there is one.
+#[inline(always)]
+pub fn find_seat<K: Key, A: Allocator, V: Tick>(
+    nodes: &NodeAllocator<A, V>,
+    key: K,
+    len: u32,
+    counter: &mut V,
+) -> Option<Seat>
+    requires key { K.IsKey key }
+    requires within { len ≤ K.bit_width }
+    requires sound { SomeNodes nodes.now }
+    ensures seat { (reading : List ℕ → Option Node) (paths : List (List ℕ))
+        → NodesHold node_sizes reading paths nodes.now
+        → SeatOf reading (take len (K.bits key)) result }
+    ensures visits { (reading : List ℕ → Option Node) (paths : List (List ℕ))
+        → NodesHold node_sizes reading paths nodes.now
+        → (level : ℕ) × IsEnd reading (path_of (take len (K.bits key))) level
+        × (V.count counter.new ≡ V.count counter.old + (level + 1)) }
+{
+    match locate_in(nodes, key, len, counter) {
+        Location::Stored(seat) => Some(seat),
+        Location::Missing(_) => None,
+    }
+}
+
 /// The value at a bit string.
+#[inline(always)]
 pub fn find_value<'a, K: Key, T: Drop, A: Allocator, V: Tick>(
     nodes: &NodeAllocator<A, V>,
     cells: &'a Blocks<Option<T>, A>,
@@ -103,7 +127,7 @@ pub fn find_value<'a, K: Key, T: Drop, A: Allocator, V: Tick>(
 ) -> Option<&'a T>
     requires key { K.IsKey key }
     requires within { len ≤ K.bit_width }
-    requires table { IsTable nodes.now cells.now }
+    requires table { SomeTable nodes.now cells.now }
     ensures value { ForHeld nodes.now cells.now (λ reading paths values.
         option_copied result ≡ own_value values (K.bits key) len) }
     ensures visits { (reading : List ℕ → Option Node) (paths : List (List ℕ))

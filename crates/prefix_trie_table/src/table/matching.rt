@@ -4,9 +4,9 @@ ghost use Rattle.prefix_trie_table.specs.declared.allocator.node.Node.{Node};
 ghost use Rattle.prefix_trie_table.specs.Bitmaps.{has_bit as is_set};
 ghost use Rattle.prefix_trie_table.specs.Cells.{node_sizes};
 ghost use Rattle.prefix_trie_table.specs.Digits.{path_of};
-ghost use Rattle.prefix_trie_table.specs.Forest.{NodesHold, IsEnd};
+ghost use Rattle.prefix_trie_table.specs.Forest.{NodesHold, SomeNodes, IsEnd};
 ghost use Rattle.prefix_trie_table.specs.Tables.{IsReached};
-ghost use Rattle.prefix_trie_table.specs.Matching.{HasNodes, IsOnWay, LongestHeld, ShortestHeld, cell_slot, match_seat};
+ghost use Rattle.prefix_trie_table.specs.Matching.{LackLastBit, IsOnWay, LongestHeld, ShortestHeld, cell_slot, match_seat};
 
 use crate::allocator::blocks::Blocks;
 use crate::allocator::node::{Node, NodeSlot};
@@ -44,7 +44,7 @@ impl Match {
 /// The root, where every way begins.
 #[inline]
 pub fn root<A: Allocator, V: Tick>(nodes: &NodeAllocator<A, V>, counter: &mut V) -> Reached
-    requires sound { HasNodes nodes.now }
+    requires sound { (n : SomeNodes nodes.now) × LackLastBit n.reading }
     ensures level { result.level ≡ 0 }
     ensures on_way { (b : List Bool) (len : ℕ) → len ≤ length b
         → IsOnWay b len 0 result.node (result.at.start + result.at.place) nodes.now }
@@ -66,7 +66,7 @@ pub fn step_down<K: Key, A: Allocator, V: Tick>(
 ) -> Option<Reached>
     requires key { K.IsKey key }
     requires within { len ≤ K.bit_width }
-    requires sound { HasNodes nodes.now }
+    requires sound { (n : SomeNodes nodes.now) × LackLastBit n.reading }
     requires on_way { IsOnWay (K.bits key) len from.level from.node (from.at.start + from.at.place) nodes.now }
     ensures step { MatchOption result
         (IsReached (K.bits key) len from.level from.node (from.at.start + from.at.place) nodes.now)
@@ -127,7 +127,7 @@ pub fn longest_on_way<K: Key, A: Allocator, V: Tick>(
 ) -> Option<Match>
     requires key { K.IsKey key }
     requires within { len ≤ K.bit_width }
-    requires sound { HasNodes nodes.now }
+    requires sound { (n : SomeNodes nodes.now) × LackLastBit n.reading }
     ensures found { (reading : List ℕ → Option Node) (paths : List (List ℕ))
         → NodesHold node_sizes reading paths nodes.now
         → LongestHeld reading (take len (K.bits key)) 0 (len + 1) result }
@@ -180,7 +180,7 @@ pub fn shortest_on_way<K: Key, A: Allocator, V: Tick>(
 ) -> Option<Match>
     requires key { K.IsKey key }
     requires within { len ≤ K.bit_width }
-    requires sound { HasNodes nodes.now }
+    requires sound { (n : SomeNodes nodes.now) × LackLastBit n.reading }
     ensures found { (reading : List ℕ → Option Node) (paths : List (List ℕ))
         → NodesHold node_sizes reading paths nodes.now
         → ShortestHeld reading (take len (K.bits key)) 0 (len + 1) result }

@@ -5,10 +5,10 @@ ghost use Rattle.prefix_trie_table.specs.Bitmaps.{has_bit as is_set, rank as ran
 ghost use Rattle.prefix_trie_table.specs.Cells.{blank_node, node_at, node_sizes, cell_sizes};
 ghost use Rattle.prefix_trie_table.specs.Digits.{path_of, bit_of};
 ghost use Rattle.prefix_trie_table.specs.Store.{Sound, SameRoom, no_blocks};
-ghost use Rattle.prefix_trie_table.specs.Forest.{IsSlot, NodesHold, CellsHold, IsTable, AtNode, AtValues, one_if};
+ghost use Rattle.prefix_trie_table.specs.Forest.{IsSlot, NodesHold, CellsHold, SomeTable, SomeNodes, IsNodeAt, entry_count, one_if};
 ghost use Rattle.prefix_trie_table.specs.Removals.{ValueTaken, EntryTaken, IsBare, IsStocked, GivesBack, ChildDropped, IsWay, AtEnd, Pruned, EntryRemoved};
 ghost use Rattle.prefix_trie_table.specs.Settling.{Settles, NodesSettle};
-ghost use Rattle.prefix_trie_table.specs.Tables.{IsReached, IsCounted, Grows, ForHeld, own_value};
+ghost use Rattle.prefix_trie_table.specs.Tables.{IsReached, Grows, ForHeld, own_value};
 
 use crate::allocator::blocks::Blocks;
 use crate::allocator::node::{Node, NodeSlot};
@@ -25,7 +25,7 @@ pub fn clear_entries<T: Drop, A: Allocator, V: Tick>(
     cells: &mut Blocks<Option<T>, A>,
     entries: &mut usize,
 )
-    requires table { IsTable nodes.old cells.old }
+    requires table { SomeTable nodes.old cells.old }
     requires first { cells.old.first ≡ 0 }
     ensures nodes { nodes.new ≡ record {
       slots = blank_node ∷ [];
@@ -57,7 +57,7 @@ pub fn take_value<T: Drop, A: Allocator, V: Tick>(
     bit: u32,
 ) -> (Option<T>, Node)
     requires bit { bit < 31 }
-    requires stands { AtValues nodes.old cells.old (at.start + at.place) }
+    requires stands { (t : SomeTable nodes.old cells.old) × IsNodeAt t.reading (at.start + at.place) }
     requires node { node ≡ node_at nodes.old.slots (at.start + at.place) }
     requires there { is_set node.value_bitmap bit ≡ true }
     ensures node_room { SameRoom nodes.old nodes.new }
@@ -108,7 +108,8 @@ fn take_entry<K: Key, T: Drop, A: Allocator, V: Tick>(
     requires key { K.IsKey key }
     requires within { len ≤ K.bit_width }
     requires reached { IsReached (K.bits key) len (len / 5) node (at.start + at.place) nodes.old }
-    requires table { IsCounted nodes.old cells.old entries.old }
+    requires table { (t : SomeTable nodes.old cells.old)
+        × (entries.old ≡ entry_count t.reading t.paths) }
     ensures value { ForHeld nodes.old cells.old (λ reading paths values.
         result.0 ≡ own_value values (K.bits key) len) }
     ensures taken { ForHeld nodes.old cells.old (λ reading paths values.
@@ -141,7 +142,8 @@ pub fn remove_value<K: Key, T: Drop, A: Allocator, V: Tick>(
 ) -> Option<T>
     requires key { K.IsKey key }
     requires within { len ≤ K.bit_width }
-    requires table { IsCounted nodes.old cells.old entries.old }
+    requires table { (t : SomeTable nodes.old cells.old)
+        × (entries.old ≡ entry_count t.reading t.paths) }
     ensures value { ForHeld nodes.old cells.old (λ reading paths values.
         result ≡ own_value values (K.bits key) len) }
     ensures taken { ForHeld nodes.old cells.old (λ reading paths values.
@@ -177,8 +179,7 @@ pub fn descend_keeping_way<K: Key, A: Allocator, V: Tick>(
 ) -> Option<Way>
     requires key { K.IsKey key }
     requires within { len ≤ K.bit_width }
-    requires sound { (reading : List ℕ → Option Node) × (paths : List (List ℕ))
-        × NodesHold node_sizes reading paths nodes.now }
+    requires sound { SomeNodes nodes.now }
     ensures found { IfSome result (λ way. IsReached (K.bits key) len (len / 5)
         way.node (way.at.start + way.at.place) nodes.now
         × (len / 5 < length way.slots.items)
@@ -225,7 +226,7 @@ pub fn drop_child<A: Allocator, V: Tick>(
     counter: &mut V,
 ) -> Node
     requires child { child < 32 }
-    requires stands { AtNode nodes.old (at.start + at.place) }
+    requires stands { (n : SomeNodes nodes.old) × IsNodeAt n.reading (at.start + at.place) }
     requires there { is_set (node_at nodes.old.slots (at.start + at.place)).child_bitmap child
         ≡ true }
     ensures room { Grows nodes.old nodes.new 24 }
@@ -298,7 +299,8 @@ pub fn remove_entry<K: Key, T: Drop, A: Allocator, V: Tick>(
 ) -> Option<T>
     requires key { K.IsKey key }
     requires within { len ≤ K.bit_width }
-    requires table { IsCounted nodes.old cells.old entries.old }
+    requires table { (t : SomeTable nodes.old cells.old)
+        × (entries.old ≡ entry_count t.reading t.paths) }
     ensures value { ForHeld nodes.old cells.old (λ reading paths values.
         result ≡ own_value values (K.bits key) len) }
     ensures removed { ForHeld nodes.old cells.old (λ reading paths values.

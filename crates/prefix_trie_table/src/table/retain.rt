@@ -9,7 +9,8 @@ ghost use Rattle.prefix_trie_bits.specs.Model.Step.{State};
 ghost use Rattle.prefix_trie_table.specs.Digits.{path_of};
 ghost use Rattle.prefix_trie_table.specs.Forest.{read};
 ghost use Rattle.prefix_trie_table.specs.Walks.{IsPlaceOf};
-ghost use Rattle.prefix_trie_table.specs.Retaining.{HasPlace, HasTrie, IsTrie, IsSite, Lasts, RetainsIn, RetainsAll, MayAskAt};
+ghost use Rattle.prefix_trie_table.specs.Retaining.{HasPlace, IsSite, Lasts, RetainsIn, RetainsAll, MayAskAt};
+ghost use Rattle.prefix_trie_table.specs.Tables.{IsTrie};
 
 use crate::allocator::blocks::Blocks;
 use crate::allocator::node::{Node, NodeSlot};
@@ -67,7 +68,7 @@ fn retain_value<K: Key, T: Drop, A: Allocator, V: Tick, F: Keep<K, T>>(
     node: Node,
     bit: u32,
 ) -> Node
-    requires trie { HasTrie {T = T} K.bit_width entries.old nodes.old cells.old }
+    requires trie { (s : State T) × IsTrie K.bit_width entries.old nodes.old cells.old s }
     requires site { IsSite K.IsKey K.bits K.bit_width nodes.old site node }
     requires bit { bit < 31 }
     requires set { has node.value_bitmap bit ≡ true }
@@ -107,7 +108,7 @@ fn retain_place<K: Key, T: Drop, A: Allocator, V: Tick, F: Keep<K, T>>(
     place: Place,
     counter: &mut V,
 ) -> Node
-    requires trie { HasTrie {T = T} K.bit_width entries.old nodes.old cells.old }
+    requires trie { (s : State T) × IsTrie K.bit_width entries.old nodes.old cells.old s }
     requires site { IsSite K.IsKey K.bits K.bit_width nodes.old site node }
     requires place { HasPlace node place }
     requires may_ask { (t : List Bool) → length t ≤ 5 → place ≡ place_of t → MayAskAt F.asks F.accepts
@@ -154,7 +155,7 @@ pub(super) fn retain_places<K: Key, T: Drop, A: Allocator, V: Tick, F: Keep<K, T
     places: Places,
     counter: &mut V,
 ) -> Node
-    requires trie { HasTrie {T = T} K.bit_width entries.old nodes.old cells.old }
+    requires trie { (s : State T) × IsTrie K.bit_width entries.old nodes.old cells.old s }
     requires site { IsSite K.IsKey K.bits K.bit_width nodes.old site node }
     requires each { All (IsPlaceOf node) (to_come places) }
     requires may_ask { MayAskAt F.asks F.accepts
@@ -181,7 +182,7 @@ pub fn retain_entries<K: Key, T: Drop, A: Allocator, V: Tick, F: Keep<K, T>>(
     keep: F,
     counter: &mut V,
 )
-    requires trie { HasTrie {T = T} K.bit_width entries.old nodes.old cells.old }
+    requires trie { (s : State T) × IsTrie K.bit_width entries.old nodes.old cells.old s }
     requires may_ask { (s : State T) → IsTrie K.bit_width entries.old nodes.old cells.old s
         → MayAskInOrder F.asks F.accepts keep (listing s.entries) }
     ensures kept { (s : State T) → IsTrie K.bit_width entries.old nodes.old cells.old s

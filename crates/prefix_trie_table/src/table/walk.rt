@@ -1,10 +1,12 @@
 //! The walk that lends the values of a table, in listing order.
 ghost use Rattle.std.specs.Prelude.{◌≡◌, ◌<◌, [], MatchOption};
+ghost use Rattle.std.specs.FinMap.{len};
 ghost use Rattle.prefix_trie_bits.specs.Model.Selections.{listing};
 ghost use Rattle.prefix_trie_bits.specs.Model.Step.{State};
 ghost use Rattle.prefix_trie_table.specs.Shape.{IsShapeOf};
+ghost use Rattle.prefix_trie_table.specs.Tables.{IsTrie};
 ghost use Rattle.prefix_trie_table.specs.Items.{GivesFilled};
-ghost use Rattle.prefix_trie_table.specs.Walks.{Tree, IsTree, HasTree, IsStack, pending, sites, GivesSeat, ShapeOf, ShapeOf-prop};
+ghost use Rattle.prefix_trie_table.specs.Walks.{Tree, IsStack, pending, sites, GivesSeat, ShapeOf, ShapeOf-prop};
 
 use crate::allocator::blocks::Blocks;
 use crate::allocator::node::NodeSlot;
@@ -94,7 +96,7 @@ pub fn walk_of<'a, K: Key, T: Drop, A: Allocator, V: Tick>(
     cells: &'a Blocks<Option<T>, A>,
     counter: &mut V,
 ) -> Walk<'a, K, T, A, V>
-    requires { (s : State T) × IsTree K.bit_width nodes.now (record { cells = cells.now; shape = s }) }
+    requires { (s : State T) × IsTrie K.bit_width (len s.entries) nodes.now cells.now s }
     ensures { (s : State T) → IsShapeOf nodes.now.slots cells.now.slots s → result ≡ listing s.entries }
 {
     let mut stack = ArrayVec::new();
@@ -113,10 +115,10 @@ pub fn advance<K: Key, A: Allocator, V: Tick, T: Drop>(
     key: &mut K,
     counter: &mut V,
 ) -> Option<(K, u32, Seat)>
-    requires tree { HasTree T K.bit_width nodes.now }
+    requires tree { (t : Tree T) × IsTrie K.bit_width t.count nodes.now t.cells t.shape }
     requires stack { IsStack K.IsKey K.bits K.bit_width nodes.now (sites key.old stack.old.items) }
     ensures stack { IsStack K.IsKey K.bits K.bit_width nodes.now (sites key.new stack.new.items) }
-    ensures entry { (t : Tree T) → IsTree K.bit_width nodes.now t → MatchOption result
+    ensures entry { (t : Tree T) → IsTrie K.bit_width t.count nodes.now t.cells t.shape → MatchOption result
         ((pending K.bits t.shape.entries (sites key.old stack.old.items) ≡ []) × (pending K.bits t.shape.entries (sites key.new stack.new.items) ≡ []))
         (λ r. GivesSeat K.IsKey K.bits K.bit_width t r.0 r.1 r.2
         (pending K.bits t.shape.entries (sites key.old stack.old.items)) (pending K.bits t.shape.entries (sites key.new stack.new.items))) }

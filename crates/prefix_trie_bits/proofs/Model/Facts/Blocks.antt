@@ -60,15 +60,16 @@ differ a b p e = absurd (true≢false (sym (eq-eqb a b e) ∙ p))
 
 down : StepsDownFacts
 down = record {
-  onto_free = record { same = differ 24 25 refl; none = differ 24 0 refl; one_of = λ _ _. inr refl; smallest = λ size _ _ e f. e };
-  onto_new = record { same = differ 24 25 refl; none = differ 24 0 refl; one_of = λ _ _. inr refl; smallest = λ size _ _ e f. e };
+  onto_free = record { fewer = lit≤ tt; same = differ 24 25 refl; none = differ 24 0 refl; one_of = λ _ _. inr refl; smallest = λ size _ _ e f. e };
+  onto_new = record { fewer = lit≤ tt; same = differ 24 25 refl; none = differ 24 0 refl; one_of = λ _ _. inr refl; smallest = λ size _ _ e f. e };
   may_stay = record {
+    fewer = lit≤ tt;
     same = differ 24 25 refl;
     none = differ 24 0 refl;
     one_of = λ _ _. inl refl;
     smallest = λ size _ _ e f. let l : 0 < 0 = subst (λ x. 0 < free_of value_block_sizes none_free x) (sym (some_is 24 size e)) f in absurd (omega arith);
   };
-  gone = record { same = differ 0 1 refl; none = λ _. refl; one_of = λ _ l. absurd (omega arith); smallest = λ size _ l e f. absurd (omega arith) };
+  gone = record { fewer = lit≤ tt; same = differ 0 1 refl; none = λ _. refl; one_of = λ _ l. absurd (omega arith); smallest = λ size _ l e f. absurd (omega arith) };
   not_stays = λ h. unlike 31 24 refl (h.smallest 24 (lit< tt) (lit< tt) refl (lit< tt));
   not_other_size = λ h. neither 24 31 16 refl refl (h.one_of (lit< tt) (lit< tt));
   not_unasked = λ h. unlike 24 31 refl (h.same refl);

@@ -1,26 +1,29 @@
-use Rattle.std.proofs.Common.{ap, arith, refl, subst}
-use Rattle.prefix_trie_bits.specs.Model.Room.{Room}
+use Rattle.std.proofs.Common.{refl, ap, subst}
+use Rattle.prefix_trie_bits.specs.Laws.Steps.{IsMap}
+use Rattle.prefix_trie_bits.specs.Model.Step.{State, Clear, Done}
+use Rattle.prefix_trie_bits.specs.Model.Storage.{StepInStorage, StepOfStrings}
+use Rattle.prefix_trie_bits.proofs.Model.Steps.{stays_map}
 use Rattle.prefix_trie_table.specs.Shape.{Contents}
-use Rattle.prefix_trie_map.specs.Steps.{state}
-use Rattle.prefix_trie_map.proofs.Removals.{IsMap-cleared, Clears, clears_step}
-use Rattle.prefix_trie_map.proofs.Rooms.{leaves_few}
+use Rattle.prefix_trie_map.specs.Steps.{state, stored}
+use Rattle.prefix_trie_map.proofs.Steps.{clear_step}
+use Rattle.prefix_trie_map.proofs.map.PrefixMap.clear.Given as given
 use Rattle.prefix_trie_map.proofs.map.PrefixMap.clear.Goals as goal
+
+step : (g : given.Over) (c : goal.After-clear g) → StepInStorage g.P.Prefix.path g.P.Prefix.back g.P.R.Key.bit_width (stored c.args.self.now) Clear Done (stored c.clear.new.self)
+step g c =
+    clear_step g.P.Prefix.path g.P.Prefix.back g.P.R.Key.bit_width Done Done refl refl
+    (subst (λ (old : Contents g.row.T.Denot). StepOfStrings (stored old) Clear Done (stored c.clear.new.self)) c.self.view_is c.clear.ensures.step)
 
 pub invariant_of-self : goal.invariant_of-self
 invariant_of-self g c =
-    IsMap-cleared g.row.P.Denot g.P.Prefix.path g.P.Prefix.back g.P.R.Key.bit_width (state c.self.inside.table) (state c.clear.new.self)
-    c.clear.ensures.entries c.clear.ensures.nodes c.self.invariant
+    stays_map g.P.Prefix.path g.P.Prefix.back g.P.R.Key.bit_width (state c.args.self.now) Clear Done (state c.clear.new.self) tt (step g c).step
+    (subst (λ (m : Contents g.row.T.Denot). IsMap g.P.R.Key.bit_width (state m)) c.self.view_is c.self.invariant)
+
+pub returns-clause-entries : goal.returns-clause-entries
+returns-clause-entries g c = ap (λ (s : State g.row.T.Denot). s.entries) (step g c).step.1
+
+pub returns-clause-nodes : goal.returns-clause-nodes
+returns-clause-nodes g c = ap (λ (s : State g.row.T.Denot). s.nodes) (step g c).step.1
 
 pub returns-clause-step : goal.returns-clause-step
-returns-clause-step g c =
-    let e = c.clear.ensures in
-    let nodes = ap (λ (r : Room). r.node_slots) e.room in
-    let cells = ap (λ (r : Room). r.cell_slots) e.room in
-    clears_step g.P.Prefix.path g.P.Prefix.back g.P.R.Key.bit_width c.args.self.now c.clear.new.self
-    (subst (λ (old : Contents g.row.T.Denot). Clears old c.clear.new.self) c.self.view_is (record {
-      entries = e.entries;
-      nodes = e.nodes;
-      emptied = λ i. record { room = e.room i; layout = e.layout i };
-      room = leaves_few g.P.R.Key.bit_width c.self.inside.table c.self.inside.table c.clear.new.self.room refl c.self.invariant.are_nodes
-          (ap (λ (r : Room). r.limit) e.room) e.limit.0 e.limit.1 (omega (arith, nodes)) (omega (arith, cells));
-    }))
+returns-clause-step = step

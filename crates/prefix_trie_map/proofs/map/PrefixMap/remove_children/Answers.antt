@@ -1,7 +1,13 @@
-use Rattle.std.proofs.Common.{rules, ◌≡◌, sym, ◌∙◌, List, Bool, take}
-use Rattle.prefix_trie_bits.specs.Keys.{path_length}
-use Rattle.prefix_trie_map.specs.Steps.{state}
-use Rattle.prefix_trie_map.proofs.Removals.{IsMap-below, TakesPart, by_key, part_step}
+use Rattle.std.proofs.Common.{rules, ◌≡◌, take, refl, ap, subst}
+use Rattle.prefix_trie_bits.specs.Keys.{path_within}
+use Rattle.prefix_trie_bits.specs.Laws.Steps.{IsMap}
+use Rattle.prefix_trie_bits.specs.Model.Step.{State, RemoveChildren, Done}
+use Rattle.prefix_trie_bits.specs.Model.Storage.{StepInStorage, StepOfStrings}
+use Rattle.prefix_trie_bits.proofs.Model.Steps.{stays_map}
+use Rattle.prefix_trie_table.specs.Shape.{Contents}
+use Rattle.prefix_trie_map.specs.Steps.{state, stored}
+use Rattle.prefix_trie_map.proofs.Steps.{children_step, by_key}
+use Rattle.prefix_trie_map.proofs.map.PrefixMap.remove_children.Given as given
 use Rattle.prefix_trie_map.proofs.map.PrefixMap.remove_children.Goals as goal
 
 pub remove_children-requires-clause-within : goal.remove_children-requires-clause-within
@@ -10,37 +16,24 @@ remove_children-requires-clause-within g c = c.self.invariant.keys_within
 pub remove_children-requires-clause-nodes : goal.remove_children-requires-clause-nodes
 remove_children-requires-clause-nodes g c = c.self.invariant.are_nodes
 
+step : (g : given.Over) (c : goal.After-drop-new g) → StepInStorage g.P.Prefix.path g.P.Prefix.back g.P.R.Key.bit_width (stored c.args.self.now)
+    (RemoveChildren c.args.prefix.now) Done (stored c.remove_children.new.self)
+step g c =
+    let key : take c.from-len.result (g.P.R.Key.bits c.repr-key.result) ≡ g.P.Prefix.path c.args.prefix.now = search rules in
+    children_step g.P.Prefix.path g.P.Prefix.back g.P.R.Key.bit_width Done Done refl refl c.args.prefix.now
+    (by_key (λ old k. StepOfStrings (stored old) (RemoveChildren k) Done (stored c.remove_children.new.self)) c.self.view_is key c.remove_children.ensures.step)
+
 pub invariant_of-self : goal.invariant_of-self
 invariant_of-self g c =
-    IsMap-below g.P.R.Key.bit_width (state c.self.inside.table) (state c.remove_children.new.self) _
-    c.remove_children.ensures.entries c.remove_children.ensures.nodes c.self.invariant
+    stays_map g.P.Prefix.path g.P.Prefix.back g.P.R.Key.bit_width (state c.args.self.now) (RemoveChildren c.args.prefix.now) Done (state c.remove_children.new.self)
+    (path_within g.met.P.Prefix.prefix_laws c.args.prefix.now c.requires) (step g c).step
+    (subst (λ (m : Contents g.row.T.Denot). IsMap g.P.R.Key.bit_width (state m)) c.self.view_is c.self.invariant)
+
+pub returns-clause-entries : goal.returns-clause-entries
+returns-clause-entries g c = ap (λ (s : State g.row.T.Denot). s.entries) (step g c).step.1
+
+pub returns-clause-nodes : goal.returns-clause-nodes
+returns-clause-nodes g c = ap (λ (s : State g.row.T.Denot). s.nodes) (step g c).step.1
 
 pub returns-clause-step : goal.returns-clause-step
-returns-clause-step g c =
-    let path = g.P.Prefix.path c.args.prefix.now in
-    let key : take c.from-len.result (g.P.R.Key.bits c.repr-key.result) ≡ path = search rules in
-    let len : c.from-len.result ≡ g.P.Prefix.len_of c.args.prefix.now = c.from-len.ensures ∙ c.prefix_len.ensures in
-    let e = c.remove_children.ensures in
-    part_step g.P.Prefix.path g.P.Prefix.back g.P.R.Key.bit_width c.args.self.now c.remove_children.new.self c.args.prefix.now c.from-len.result
-    (path_length g.met.P.Prefix.prefix_laws c.args.prefix.now c.requires ∙ sym len)
-    (by_key (λ old q. TakesPart old c.remove_children.new.self q c.from-len.result) c.self.inside.table c.args.self.now _ path c.self.view_is key (record {
-      entries = e.entries;
-      nodes = e.nodes;
-      emptied = λ none. (let room = e.cleared none in let layout = e.layout none in λ i. record { room = room i; layout = layout i });
-      many = λ part. record {
-        value_blocks = e.value_blocks part;
-        child_blocks = e.child_blocks part;
-        node_slots = (e.room part).0;
-        cell_slots = (e.room part).1;
-        nodes_still = e.nodes_still part;
-        cells_still = e.cells_still part;
-        keeps = e.keeps_blocks part;
-      };
-      room = record {
-        same_limit = e.limit.0;
-        nodes_within = e.limit.1;
-        cells_within = e.limit.2;
-        nodes_grow = e.nodes_grow;
-        cells_grow = e.cells_grow;
-      };
-    }))
+returns-clause-step = step

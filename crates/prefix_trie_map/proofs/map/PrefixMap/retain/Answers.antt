@@ -1,41 +1,28 @@
 use Rattle.std.proofs.Common.{subst}
-use Rattle.std.specs.FinMap.{len}
-use Rattle.prefix_trie_bits.specs.Model.Room.{LeavesRoom}
-use Rattle.prefix_trie_bits.specs.Model.Storage.{RemovesManyInStorage}
+use Rattle.prefix_trie_bits.specs.Model.Storage.{RetainsInStorage}
 use Rattle.prefix_trie_table.specs.Shape.{Contents}
 use Rattle.prefix_trie_map.proofs.Retained.{IsMap-tidied}
-use Rattle.prefix_trie_map.specs.Steps.{state, storage}
+use Rattle.prefix_trie_map.specs.Asking.{AsksAt}
+use Rattle.prefix_trie_map.specs.Steps.{state, stored}
+use Rattle.prefix_trie_map.proofs.map.PrefixMap.retain.Given as given
 use Rattle.prefix_trie_map.proofs.map.PrefixMap.retain.Goals as goal
 
 pub retain-requires-clause-within : goal.retain-requires-clause-within
 retain-requires-clause-within g c = c.self.invariant.keys_within
 
+step : (g : given.Over) (c : goal.After-drop-new g) → RetainsInStorage (AsksAt g.F.FnMut g.P.Prefix.back) c.args.test (stored c.args.self.now) (stored c.retain.new.self)
+step g c =
+    subst (λ (m : Contents g.row.T.Denot). RetainsInStorage (AsksAt g.F.FnMut g.P.Prefix.back) c.args.test (stored m) (stored c.retain.new.self)) c.self.view_is
+    c.retain.ensures.step
+
 pub invariant_of-self : goal.invariant_of-self
-invariant_of-self g c = IsMap-tidied g.P.R.Key.bit_width (state c.retain.new.self) c.retain.ensures.fits c.retain.ensures.nodes
+invariant_of-self g c = IsMap-tidied g.P.R.Key.bit_width (state c.retain.new.self) c.retain.ensures.fits (step g c).nodes
 
-pub returns-clause-leaves : goal.returns-clause-leaves
-returns-clause-leaves g c =
-    let e = c.retain.ensures in
-    subst (λ (m : Contents g.row.T.Denot). LeavesRoom (len m.nodes) m.room c.retain.new.self.room) c.self.view_is
-    (record {
-      same_limit = e.room.0;
-      nodes_within = e.limit.0;
-      cells_within = e.limit.1;
-      nodes_grow = e.nodes_grow;
-      cells_grow = e.cells_grow;
-    })
+pub returns-clause-kept : goal.returns-clause-kept
+returns-clause-kept g c = (step g c).kept
 
-pub returns-clause-removes : goal.returns-clause-removes
-returns-clause-removes g c =
-    let e = c.retain.ensures in
-    let left = c.retain.new.self in
-    subst (λ (m : Contents g.row.T.Denot). RemovesManyInStorage (state m) (state left) (storage m) (storage left)) c.self.view_is
-    (record {
-      value_blocks = e.value_blocks;
-      child_blocks = e.child_blocks;
-      node_slots = e.room.1;
-      cell_slots = e.room.2;
-      nodes_still = e.nodes_still;
-      cells_still = e.cells_still;
-      keeps = e.keeps_blocks;
-    })
+pub returns-clause-nodes : goal.returns-clause-nodes
+returns-clause-nodes g c = (step g c).nodes
+
+pub returns-clause-step : goal.returns-clause-step
+returns-clause-step = step

@@ -1,12 +1,17 @@
-use Rattle.std.proofs.Common.{[], ◌∷◌, Option, ap, sym, subst, arith}
-use Rattle.prefix_trie_bits.specs.Model.Step.{State}
-use Rattle.prefix_trie_table.specs.Tables.{IsTableOf}
+use Rattle.std.proofs.Common.{[], ◌∷◌, Option, length, ap, sym, subst, arith}
+use Rattle.prefix_trie_bits.specs.Model.Step.{Clear, Done}
+use Rattle.prefix_trie_bits.specs.Model.Storage.{StepOfStrings}
+use Rattle.prefix_trie_table.specs.Shape.{Contents}
+use Rattle.prefix_trie_table.specs.Steps.{stored}
+use Rattle.prefix_trie_table.specs.Tables.{IsTable}
+use Rattle.prefix_trie_table.proofs.Invariant.{some_table}
 use Rattle.prefix_trie_table.proofs.Clearing.{under_limit, root_slot}
 use Rattle.prefix_trie_table.specs.declared.allocator.node.Node.{Node}
 use Rattle.prefix_trie_table.specs.Cells.{node_sizes}
 use Rattle.prefix_trie_table.specs.Store.{Store}
 use Rattle.prefix_trie_table.proofs.Shapes.{root_shape, root_reading, new_holds, new_shape, new_only, new_table}
-use Rattle.prefix_trie_table.proofs.Sizing.{sizes_of, root_layout}
+use Rattle.prefix_trie_table.proofs.Sizing.{sizes_of, root_layout, storage_of}
+use Rattle.prefix_trie_table.proofs.Stated.{clears_step}
 use Rattle.prefix_trie_table.proofs.table.Table.clear.Goals as goal
 
 pub invariant_of-self-inside : goal.invariant_of-self-inside
@@ -25,33 +30,28 @@ invariant_of-self-inside g c = (
 
 pub invariant_of-self : goal.invariant_of-self
 invariant_of-self g c =
-    subst (λ n. IsTableOf c.clear_entries.new.nodes c.clear_entries.new.cells n c.self-1.given.0.0) (sym c.clear_entries.ensures.none)
+    subst (λ n. IsTable c.clear_entries.new.nodes c.clear_entries.new.cells n c.self-1.given.0.0) (sym c.clear_entries.ensures.none)
     (new_table c.clear_entries.new.nodes c.clear_entries.new.cells c.self.inside.nodes.limit c.clear_entries.ensures.nodes
     c.clear_entries.ensures.nodes_sound (under_limit _ _ _ c.clear_entries.ensures.cells c.self.invariant.one_limit) c.clear_entries.ensures.cells_sound
-    (let r = root_slot c.self.inside.nodes c.self.inside.cells c.self.invariant.held.table in let h = c.self.invariant.nodes_within in omega (arith, r, h)) c.self-1.given.0)
+    (let r = root_slot c.self.inside.nodes c.self.inside.cells (some_table c.self.invariant) in let h = c.self.invariant.nodes_within in omega (arith, r, h)) c.self-1.given.0)
 
-pub returns-clause-entries : goal.returns-clause-entries
-returns-clause-entries g c =
-    ap (λ (s : State g.row.T.Denot). s.entries)
-    (new_only c.clear_entries.new.nodes c.clear_entries.new.cells c.self.inside.nodes.limit c.clear_entries.ensures.nodes
-    c.clear_entries.ensures.nodes_sound (under_limit _ _ _ c.clear_entries.ensures.cells c.self.invariant.one_limit) c.clear_entries.ensures.cells_sound c.self-1.given.0)
-
-pub returns-clause-nodes : goal.returns-clause-nodes
-returns-clause-nodes g c =
-    ap (λ (s : State g.row.T.Denot). s.nodes)
-    (new_only c.clear_entries.new.nodes c.clear_entries.new.cells c.self.inside.nodes.limit c.clear_entries.ensures.nodes
-    c.clear_entries.ensures.nodes_sound (under_limit _ _ _ c.clear_entries.ensures.cells c.self.invariant.one_limit) c.clear_entries.ensures.cells_sound c.self-1.given.0)
-
-pub returns-clause-layout : goal.returns-clause-layout
-returns-clause-layout g c =
-    root_layout c.clear_entries.new.nodes c.clear_entries.new.cells
-    (new_holds c.clear_entries.new.nodes c.clear_entries.new.cells c.self.inside.nodes.limit c.clear_entries.ensures.nodes
-    c.clear_entries.ensures.nodes_sound (under_limit _ _ _ c.clear_entries.ensures.cells c.self.invariant.one_limit) c.clear_entries.ensures.cells_sound)
-    (ap (λ (x : Store Node). x.tiers) c.clear_entries.ensures.nodes)
-    (ap (λ (x : Store (Option g.row.T.Denot)). x.tiers) c.clear_entries.ensures.cells) c.self-1.given.1.0
-
-pub returns-clause-limit : goal.returns-clause-limit
-returns-clause-limit g c =
-    let t : IsTableOf c.clear_entries.new.nodes c.clear_entries.new.cells c.clear_entries.new.entries c.self-1.given.0.0 = invariant_of-self g c in
-    let cells = t.cells_within in
-    let one = t.one_limit in (t.nodes_within, omega (arith, cells, one))
+pub returns : goal.returns
+returns g c =
+    let v2 = c.clear_entries.new.nodes in
+    let w2 = c.clear_entries.new.cells in
+    let s2 = c.self-1.given.0 in
+    let z2 = c.self-1.given.1.0 in
+    let e = c.clear_entries.ensures in
+    let is = c.self.invariant in
+    let cells = under_limit _ _ _ e.cells is.one_limit in
+    let layout = root_layout v2 w2 (new_holds v2 w2 c.self.inside.nodes.limit e.nodes e.nodes_sound cells e.cells_sound)
+    (ap (λ (x : Store Node). x.tiers) e.nodes) (ap (λ (x : Store (Option g.row.T.Denot)). x.tiers) e.cells) z2 in
+    record {
+      step = subst (λ (m : Contents g.row.T.Denot). StepOfStrings (stored m) Clear Done (s2.0, storage_of v2 w2 z2)) c.self.view_is
+          (clears_step c.self.inside.nodes v2 c.self.inside.cells w2 _ _ c.self.inside.shape is c.self.inside.sizes s2 (invariant_of-self g c) z2
+          (new_only v2 w2 c.self.inside.nodes.limit e.nodes e.nodes_sound cells e.cells_sound s2)
+          (λ i. record {
+            room = record { limit = (e.nodes i).limit; node_slots = length (e.nodes i).slots; cell_slots = length (e.cells i).slots };
+            layout = layout i;
+          }));
+    }

@@ -3,13 +3,14 @@ use Rattle.prefix_trie_bits.specs.Model.Matches.{covers}
 use Rattle.prefix_trie_bits.specs.Model.Step.{State}
 use Rattle.prefix_trie_table.specs.Covers.{IsCovering}
 use Rattle.prefix_trie_table.specs.Shape.{Contents, same_shape}
+use Rattle.prefix_trie_table.proofs.Invariant.{some_table}
 use Rattle.prefix_trie_table.proofs.Covers.{at_root}
 use Rattle.prefix_trie_table.proofs.Covered.{all_ahead}
 use Rattle.prefix_trie_table.proofs.Matched.{has_nodes}
 use Rattle.prefix_trie_table.proofs.table.Table.cover.Goals as goal
 
 pub root-here-requires : goal.root-here-requires
-root-here-requires g c = record { sound = has_nodes _ _ c.self.invariant.held.table }
+root-here-requires g c = record { sound = has_nodes _ _ (some_table c.self.invariant) }
 
 stands : (g : _) (c : goal.After-result-1 g) → IsCovering (g.K.Key.bits c.args.key) c.args.len c.root-here.result.level c.root-here.result.node
     (c.root-here.result.at.start + c.root-here.result.at.place) c.matches_in.result (5 * c.root-here.result.level) c.self.inside.nodes
@@ -22,7 +23,7 @@ pub invariant_of-result-2 : goal.invariant_of-result-2
 invariant_of-result-2 g c = record {
   is_key = c.requires.key;
   short = c.requires.within;
-  table = c.self.invariant.held.table;
+  table = some_table c.self.invariant;
   first = 5 * c.root-here.result.level;
   stands = stands g c;
 }
@@ -32,6 +33,6 @@ returns g c =
     let b = g.K.Key.bits c.args.key in
     let shape = c.result-1.given.0 in
     let at = stands g c in
-    all_ahead c.self.inside.nodes c.self.inside.cells c.self.invariant.held.table shape.0 shape.1 b c.args.len at.on_way.long _ _ _ _ _ at (let top = c.root-here.ensures.level in omega (arith, top))
+    all_ahead c.self.inside.nodes c.self.inside.cells (some_table c.self.invariant) shape.0 shape.1 b c.args.len at.on_way.long _ _ _ _ _ at (let top = c.root-here.ensures.level in omega (arith, top))
     ∙ ap (λ (s : State g.row.T.Denot). covers s.entries (take c.args.len b)) (same_shape c.self.inside.nodes.slots c.self.inside.cells.slots shape.0 c.self.inside.shape.0 shape.1 c.self.inside.shape.1)
     ∙ ap (λ (s : Contents g.row.T.Denot). covers s.entries (take c.args.len b)) c.self.view_is

@@ -1,20 +1,21 @@
 use Rattle.std.proofs.Common.{◌≤◌, ◌+◌, length, take, arith}
+use Rattle.prefix_trie_table.proofs.Invariant.{some_table}
 use Rattle.prefix_trie_table.proofs.Matched.{has_nodes, met_is}
 use Rattle.prefix_trie_table.proofs.Lending.{can_lend, left_shape, table_left, table_kept, lender_left, longest_seat, longest_written, longest_lent, longest_small}
 use Rattle.prefix_trie_table.proofs.table.Table.find_longest_mut.Goals as goal
 
 pub longest_on_way-longest-requires-clause-sound : goal.longest_on_way-longest-requires-clause-sound
-longest_on_way-longest-requires-clause-sound g c = has_nodes _ _ c.self.invariant.held.table
+longest_on_way-longest-requires-clause-sound g c = has_nodes _ _ (some_table c.self.invariant)
 
 pub seat_of-seat-requires : goal.seat_of-seat-requires
 seat_of-seat-requires g c =
-    let t = c.self.invariant.held.table in
+    let t = some_table c.self.invariant in
     longest_small t.reading (take c.args.len (g.K.Key.bits c.args.key)) (c.args.len + 1) c.longest_on_way-longest.result (c.longest_on_way-longest.ensures.found t.reading t.paths t.holds.hold)
 
 pub lend_if-requires : goal.lend_if-requires
 lend_if-requires g c =
     let i = c.self.inside in
-    let t = c.self.invariant.held.table in
+    let t = some_table c.self.invariant in
     let b = g.K.Key.bits c.args.key in
     let long : c.args.len ≤ length b = omega (arith, g.met.K.Key.key_laws.bits_length c.args.key c.requires.key, c.requires.within) in
     let n = c.seat_of-seat.new.found in
@@ -24,7 +25,7 @@ lend_if-requires g c =
 pub invariant_of-self-inside-lent : goal.invariant_of-self-inside-lent
 invariant_of-self-inside-lent g c =
     let i = c.self.inside in
-    let t = c.self.invariant.held.table in
+    let t = some_table c.self.invariant in
     let b = g.K.Key.bits c.args.key in
     let long : c.args.len ≤ length b = omega (arith, g.met.K.Key.key_laws.bits_length c.args.key c.requires.key, c.requires.within) in
     let n = c.seat_of-seat.new.found in
@@ -37,7 +38,7 @@ invariant_of-self-inside-lent g c =
 pub invariant_of-self-lent : goal.invariant_of-self-lent
 invariant_of-self-lent g c =
     let i = c.self.inside in
-    let t = c.self.invariant.held.table in
+    let t = some_table c.self.invariant in
     let b = g.K.Key.bits c.args.key in
     let long : c.args.len ≤ length b = omega (arith, g.met.K.Key.key_laws.bits_length c.args.key c.requires.key, c.requires.within) in
     let n = c.seat_of-seat.new.found in
@@ -50,7 +51,7 @@ invariant_of-self-lent g c =
 pub returns : goal.returns
 returns g c =
     let i = c.self.inside in
-    let t = c.self.invariant.held.table in
+    let t = some_table c.self.invariant in
     let b = g.K.Key.bits c.args.key in
     let long : c.args.len ≤ length b = omega (arith, g.met.K.Key.key_laws.bits_length c.args.key c.requires.key, c.requires.within) in
     let n = c.seat_of-seat.new.found in

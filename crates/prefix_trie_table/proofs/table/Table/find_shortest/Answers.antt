@@ -2,15 +2,16 @@ use Rattle.std.proofs.Common.{◌≡◌, ◌+◌, ◌≤◌, length, take, None,
 use Rattle.prefix_trie_bits.specs.Model.Matches.{shortest_match}
 use Rattle.prefix_trie_bits.specs.Model.Visits.{visits_to_match}
 use Rattle.prefix_trie_table.specs.Shape.{Contents}
+use Rattle.prefix_trie_table.proofs.Invariant.{some_table}
 use Rattle.prefix_trie_table.proofs.Matched.{has_nodes, cell_inside, shortest_none, shortest_handed, met_none, met_shortest}
 use Rattle.prefix_trie_table.proofs.table.Table.find_shortest.Goals as goal
 
 pub shortest_on_way-requires-clause-sound : goal.shortest_on_way-requires-clause-sound
-shortest_on_way-requires-clause-sound g c = has_nodes _ _ c.self.invariant.held.table
+shortest_on_way-requires-clause-sound g c = has_nodes _ _ (some_table c.self.invariant)
 
 pub returns-in_default-clause-value : goal.returns-in_default-clause-value
 returns-in_default-clause-value g c =
-    let t = c.self.invariant.held.table in
+    let t = some_table c.self.invariant in
     let b = g.K.Key.bits c.args.key in
     let long : c.args.len ≤ length b = omega (arith, g.met.K.Key.key_laws.bits_length c.args.key c.requires.key, c.requires.within) in
     subst (λ (s : Contents g.row.T.Denot). shortest_match s.entries (take c.args.len b) ≡ None) c.self.view_is
@@ -18,7 +19,7 @@ returns-in_default-clause-value g c =
 
 pub returns-in_default-clause-visits : goal.returns-in_default-clause-visits
 returns-in_default-clause-visits g c =
-    let t = c.self.invariant.held.table in
+    let t = some_table c.self.invariant in
     let b = g.K.Key.bits c.args.key in
     let long : c.args.len ≤ length b = omega (arith, g.met.K.Key.key_laws.bits_length c.args.key c.requires.key, c.requires.within) in
     met_none c.self.inside.nodes c.self.inside.cells t c.self.inside.shape.0 c.self.inside.shape.1 b c.args.len long _ _ (c.in_default.ensures.found t.reading t.paths t.holds.hold) (c.in_default.ensures.visits t.reading t.paths t.holds.hold)
@@ -26,18 +27,18 @@ returns-in_default-clause-visits g c =
 
 pub value_of_match-requires-clause-bit : goal.value_of_match-requires-clause-bit
 value_of_match-requires-clause-bit g c =
-    let t = c.self.invariant.held.table in (c.in-Some.ensures.found t.reading t.paths t.holds.hold).0.small
+    let t = some_table c.self.invariant in (c.in-Some.ensures.found t.reading t.paths t.holds.hold).0.small
 
 pub value_of_match-requires-clause-stands : goal.value_of_match-requires-clause-stands
 value_of_match-requires-clause-stands g c =
-    let t = c.self.invariant.held.table in
+    let t = some_table c.self.invariant in
     let b = g.K.Key.bits c.args.key in
     let long : c.args.len ≤ length b = omega (arith, g.met.K.Key.key_laws.bits_length c.args.key c.requires.key, c.requires.within) in
     cell_inside c.self.inside.nodes c.self.inside.cells t c.self.inside.shape.0 c.self.inside.shape.1 b c.args.len long c.in-Some.found (c.in-Some.ensures.found t.reading t.paths t.holds.hold).0
 
 pub returns-clause-value : goal.returns-clause-value
 returns-clause-value g c =
-    let t = c.self.invariant.held.table in
+    let t = some_table c.self.invariant in
     let b = g.K.Key.bits c.args.key in
     let long : c.args.len ≤ length b = omega (arith, g.met.K.Key.key_laws.bits_length c.args.key c.requires.key, c.requires.within) in
     let found = c.in-Some.ensures.found t.reading t.paths t.holds.hold in
@@ -46,7 +47,7 @@ returns-clause-value g c =
 
 pub returns-clause-visits : goal.returns-clause-visits
 returns-clause-visits g c =
-    let t = c.self.invariant.held.table in
+    let t = some_table c.self.invariant in
     let b = g.K.Key.bits c.args.key in
     let long : c.args.len ≤ length b = omega (arith, g.met.K.Key.key_laws.bits_length c.args.key c.requires.key, c.requires.within) in
     let found = c.in-Some.ensures.found t.reading t.paths t.holds.hold in

@@ -1,6 +1,7 @@
-use Rattle.std.proofs.Common.{◌≡◌, ◌≤◌, ◌<◌, ◌^◌, subst, arith}
-use Rattle.prefix_trie_bits.specs.Model.Room.{Room}
-use Rattle.prefix_trie_table.specs.Shape.{Contents}
+use Rattle.std.proofs.Common.{◌≤◌, ◌<◌, ◌^◌, subst, arith}
+use Rattle.prefix_trie_bits.specs.Model.Storage.{HaveBlocks}
+use Rattle.prefix_trie_table.specs.Shape.{Contents, state}
+use Rattle.prefix_trie_table.proofs.Housed.{child_blocks_housed, value_blocks_housed}
 use Rattle.prefix_trie_table.proofs.table.Table.len.Goals as goal
 
 pub returns-clause-limit : goal.returns-clause-limit
@@ -8,3 +9,12 @@ returns-clause-limit g c =
     let held = c.self.invariant in
     subst (λ (m : Contents g.row.T.Denot). (m.room.limit < 2 ^ 32) × (m.room.node_slots ≤ m.room.limit) × (m.room.cell_slots ≤ m.room.limit)) c.self.view_is
     (c.len-slots.ensures.narrow, held.nodes_within, omega (arith, held.cells_within, held.one_limit))
+
+pub returns-clause-blocks : goal.returns-clause-blocks
+returns-clause-blocks g c =
+    let t = c.self.invariant in
+    let shape = c.self.inside.shape in
+    subst (λ (m : Contents g.row.T.Denot). HaveBlocks (state m) m.layout) c.self.view_is (record {
+      child_blocks = child_blocks_housed t.reading t.values t.paths c.self.inside.nodes c.self.inside.cells t.holds shape.0 shape.1 c.self.inside.sizes;
+      value_blocks = value_blocks_housed t.reading t.values t.paths c.self.inside.nodes c.self.inside.cells t.holds shape.0 shape.1 c.self.inside.sizes;
+    })

@@ -6,7 +6,7 @@ use Rattle.prefix_trie_table.proofs.table.Table.node_count.Goals as goal
 
 pub returns-clause-nodes : goal.returns-clause-nodes
 returns-clause-nodes g c =
-    let t = c.self.invariant.held.table in
+    let t = c.self.invariant in
     let v = c.self.inside.nodes in
     let shape = c.self.inside.shape in
     c.nodes_in.ensures.nodes t.reading t.paths t.holds.hold

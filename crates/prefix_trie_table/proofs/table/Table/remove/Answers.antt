@@ -1,17 +1,20 @@
-use Rattle.std.proofs.Common.{take, ap, ◌∙◌, refl, subst}
-use Rattle.std.specs.FinMap.{get}
+use Rattle.std.proofs.Common.{take, Option, refl, subst}
 use Rattle.prefix_trie_bits.specs.Model.Entries.{without_entry}
 use Rattle.prefix_trie_bits.specs.Model.Nodes.{nodes_without}
-use Rattle.prefix_trie_bits.specs.Model.Step.{State}
-use Rattle.prefix_trie_bits.specs.Model.Storage.{RemovesValueInStorage, PrunesInStorage}
-use Rattle.prefix_trie_table.specs.Forest.{IsTable}
-use Rattle.prefix_trie_table.specs.Shape.{Contents, state, storage}
+use Rattle.prefix_trie_bits.specs.Model.Step.{Remove, Value}
+use Rattle.prefix_trie_bits.specs.Model.Storage.{StepOfStrings}
+use Rattle.prefix_trie_table.specs.Shape.{Contents}
+use Rattle.prefix_trie_table.specs.Steps.{stored}
+use Rattle.prefix_trie_table.proofs.Invariant.{some_table, some_counted}
 use Rattle.prefix_trie_table.proofs.Emptying.{removed_is, table_without}
 use Rattle.prefix_trie_table.proofs.Removed.{removed_shape, removed_only, counted_removed}
 use Rattle.prefix_trie_table.proofs.Sizing.{table_sizes, storage_of}
+use Rattle.prefix_trie_table.proofs.Stated.{removes_step}
 use Rattle.prefix_trie_table.proofs.Stepped.{removed_in, pruned_in}
-use Rattle.prefix_trie_table.proofs.table.Table.remove.Given as given
 use Rattle.prefix_trie_table.proofs.table.Table.remove.Goals as goal
+
+pub remove_entry-requires-clause-table : goal.remove_entry-requires-clause-table
+remove_entry-requires-clause-table g c = some_counted c.self.invariant
 
 pub invariant_of-self-inside : goal.invariant_of-self-inside
 invariant_of-self-inside g c =
@@ -26,9 +29,9 @@ invariant_of-self-inside g c =
             c.remove_entry.ensures.removed,
       ),
       (
-        table_sizes _ _ _ (counted_removed q c.self.inside.nodes c.remove_entry.new.nodes c.self.inside.cells c.remove_entry.new.cells c.self.inside.count
+        table_sizes _ _ (counted_removed q c.self.inside.nodes c.remove_entry.new.nodes c.self.inside.cells c.remove_entry.new.cells c.self.inside.count
             c.remove_entry.new.entries c.self.inside.shape c.self.invariant c.remove_entry.result c.remove_entry.ensures.value
-            c.remove_entry.ensures.removed c.remove_entry.ensures.counted),
+            c.remove_entry.ensures.removed c.remove_entry.ensures.counted).0,
         tt,
       ),
     )
@@ -46,49 +49,25 @@ invariant_of-self g c =
     c.remove_entry.ensures.removed c.remove_entry.ensures.counted) c.remove_entry.ensures.node_room c.remove_entry.ensures.cell_room
     c.self-1.given.0
 
-pub returns-clause-value : goal.returns-clause-value
-returns-clause-value g c =
+pub returns : goal.returns
+returns g c =
     let q = take c.args.len (g.K.Key.bits c.args.key) in
-    removed_is q c.self.inside.nodes c.remove_entry.new.nodes c.self.inside.cells c.remove_entry.new.cells c.self.inside.count
-    c.remove_entry.new.entries c.self.inside.shape c.self.invariant c.remove_entry.result c.remove_entry.ensures.value
-    ∙ ap (λ s. get s.entries q) c.self.view_is
-
-pub returns-clause-entries : goal.returns-clause-entries
-returns-clause-entries g c =
-    let q = take c.args.len (g.K.Key.bits c.args.key) in
-    ap (λ (s : State g.row.T.Denot). s.entries)
-    (removed_only q c.self.inside.nodes c.remove_entry.new.nodes c.self.inside.cells c.remove_entry.new.cells c.self.inside.count
-    c.remove_entry.new.entries c.self.inside.shape c.self.invariant c.remove_entry.result c.remove_entry.ensures.value
-    c.remove_entry.ensures.removed c.self-1.given.0)
-    ∙ ap (λ s. without_entry s.entries q) c.self.view_is
-
-pub returns-clause-nodes : goal.returns-clause-nodes
-returns-clause-nodes g c =
-    let q = take c.args.len (g.K.Key.bits c.args.key) in
-    ap (λ (s : State g.row.T.Denot). s.nodes)
-    (removed_only q c.self.inside.nodes c.remove_entry.new.nodes c.self.inside.cells c.remove_entry.new.cells c.self.inside.count
-    c.remove_entry.new.entries c.self.inside.shape c.self.invariant c.remove_entry.result c.remove_entry.ensures.value
-    c.remove_entry.ensures.removed c.self-1.given.0)
-    ∙ ap (λ s. nodes_without s.nodes s.entries q) c.self.view_is
-
--- the arrays are a table afterwards
-left : (g : given.Over) (c : goal.After-self-1 g) → IsTable c.remove_entry.new.nodes c.remove_entry.new.cells
-left g c = (counted_removed (take c.args.len (g.K.Key.bits c.args.key)) c.self.inside.nodes c.remove_entry.new.nodes c.self.inside.cells
-    c.remove_entry.new.cells c.self.inside.count c.remove_entry.new.entries c.self.inside.shape c.self.invariant c.remove_entry.result
-    c.remove_entry.ensures.value c.remove_entry.ensures.removed c.remove_entry.ensures.counted).table
-
-pub returns-clause-removes : goal.returns-clause-removes
-returns-clause-removes g c =
-    let q = take c.args.len (g.K.Key.bits c.args.key) in
-    subst (λ (s : Contents g.row.T.Denot). RemovesValueInStorage (state s) c.self-1.given.0.0 q (storage s)
-    (storage_of c.remove_entry.new.nodes c.remove_entry.new.cells c.self-1.given.1.0)) c.self.view_is
-    (removed_in q c.self.inside.nodes c.remove_entry.new.nodes c.self.inside.cells c.remove_entry.new.cells c.self.inside.count c.self.inside.shape
-    c.self.inside.sizes c.self.invariant c.self-1.given.0 c.self-1.given.1.0 c.remove_entry.ensures.removed (left g c))
-
-pub returns-clause-prunes : goal.returns-clause-prunes
-returns-clause-prunes g c =
-    let q = take c.args.len (g.K.Key.bits c.args.key) in
-    subst (λ (s : Contents g.row.T.Denot). PrunesInStorage (state s) c.self-1.given.0.0 (storage s)
-    (storage_of c.remove_entry.new.nodes c.remove_entry.new.cells c.self-1.given.1.0)) c.self.view_is
-    (pruned_in q c.self.inside.nodes c.remove_entry.new.nodes c.self.inside.cells c.remove_entry.new.cells c.self.inside.count c.self.inside.shape
-    c.self.inside.sizes c.self.invariant c.self-1.given.0 c.self-1.given.1.0 c.remove_entry.ensures.removed (left g c))
+    let v = c.self.inside.nodes in
+    let v2 = c.remove_entry.new.nodes in
+    let w = c.self.inside.cells in
+    let w2 = c.remove_entry.new.cells in
+    let s = c.self.inside.shape in
+    let s2 = c.self-1.given.0 in
+    let z = c.self.inside.sizes in
+    let z2 = c.self-1.given.1.0 in
+    let e = c.remove_entry.ensures in
+    let is = c.self.invariant in
+    let left = invariant_of-self g c in
+    let gone : Option g.row.T.Denot = c.remove_entry.result in
+    record {
+      step = subst (λ (m : Contents g.row.T.Denot). StepOfStrings (stored m) (Remove q) (Value gone) (s2.0, storage_of v2 w2 z2)) c.self.view_is
+          (removes_step v v2 w w2 _ _ s is z s2 left z2 q gone (removed_is q v v2 w w2 _ c.remove_entry.new.entries s is gone e.value)
+          (removed_only q v v2 w w2 _ c.remove_entry.new.entries s is gone e.value e.removed s2)
+          (removed_in q v v2 w w2 _ s z is s2 z2 e.removed (some_table left))
+          (pruned_in q v v2 w w2 _ s z is s2 z2 e.removed (some_table left)) e.node_room e.cell_room);
+    }

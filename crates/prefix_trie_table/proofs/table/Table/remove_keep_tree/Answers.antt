@@ -1,15 +1,19 @@
-use Rattle.std.proofs.Common.{take, ap, ◌∙◌, refl, subst}
-use Rattle.std.specs.FinMap.{get}
+use Rattle.std.proofs.Common.{take, Option, refl, subst}
 use Rattle.prefix_trie_bits.specs.Model.Entries.{without_entry}
-use Rattle.prefix_trie_bits.specs.Model.Step.{State}
-use Rattle.prefix_trie_bits.specs.Model.Storage.{RemovesValueInStorage}
-use Rattle.prefix_trie_table.specs.Layouts.{free_counts}
-use Rattle.prefix_trie_table.specs.Shape.{Contents, state, storage}
+use Rattle.prefix_trie_bits.specs.Model.Step.{RemoveKeepTree, Value}
+use Rattle.prefix_trie_bits.specs.Model.Storage.{StepOfStrings}
+use Rattle.prefix_trie_table.specs.Shape.{Contents}
+use Rattle.prefix_trie_table.specs.Steps.{stored}
+use Rattle.prefix_trie_table.proofs.Invariant.{some_table, some_counted}
 use Rattle.prefix_trie_table.proofs.Emptying.{removed_is, table_without, kept_shape, kept_only, counted_without}
 use Rattle.prefix_trie_table.proofs.Rooms.{Grows-none}
 use Rattle.prefix_trie_table.proofs.Sizing.{table_sizes, storage_of}
+use Rattle.prefix_trie_table.proofs.Stated.{takes_step}
 use Rattle.prefix_trie_table.proofs.Stepped.{kept_in, kept_children}
 use Rattle.prefix_trie_table.proofs.table.Table.remove_keep_tree.Goals as goal
+
+pub remove_value-requires-clause-table : goal.remove_value-requires-clause-table
+remove_value-requires-clause-table g c = some_counted c.self.invariant
 
 pub invariant_of-self-inside : goal.invariant_of-self-inside
 invariant_of-self-inside g c =
@@ -21,9 +25,9 @@ invariant_of-self-inside g c =
             c.remove_value.ensures.taken,
       ),
       (
-        table_sizes _ _ _ (counted_without q c.self.inside.nodes c.remove_value.new.nodes c.self.inside.cells c.remove_value.new.cells c.self.inside.count
+        table_sizes _ _ (counted_without q c.self.inside.nodes c.remove_value.new.nodes c.self.inside.cells c.remove_value.new.cells c.self.inside.count
             c.remove_value.new.entries c.self.inside.shape c.self.invariant c.remove_value.result c.remove_value.ensures.value
-            c.remove_value.ensures.taken c.remove_value.ensures.counted),
+            c.remove_value.ensures.taken c.remove_value.ensures.counted).0,
         tt,
       ),
     )
@@ -41,48 +45,26 @@ invariant_of-self g c =
     c.remove_value.ensures.taken c.remove_value.ensures.counted) (Grows-none _ _ 24 c.remove_value.ensures.node_room c.remove_value.ensures.node_tiers)
     c.remove_value.ensures.cell_room c.self-1.given.0
 
-pub returns-clause-value : goal.returns-clause-value
-returns-clause-value g c =
+pub returns : goal.returns
+returns g c =
     let q = take c.args.len (g.K.Key.bits c.args.key) in
-    removed_is q c.self.inside.nodes c.remove_value.new.nodes c.self.inside.cells c.remove_value.new.cells c.self.inside.count
-    c.remove_value.new.entries c.self.inside.shape c.self.invariant c.remove_value.result c.remove_value.ensures.value
-    ∙ ap (λ s. get s.entries q) c.self.view_is
-
-pub returns-clause-entries : goal.returns-clause-entries
-returns-clause-entries g c =
-    let q = take c.args.len (g.K.Key.bits c.args.key) in
-    ap (λ (s : State g.row.T.Denot). s.entries)
-    (kept_only q c.self.inside.nodes c.remove_value.new.nodes c.self.inside.cells c.remove_value.new.cells c.self.inside.count
-    c.remove_value.new.entries c.self.inside.shape c.self.invariant c.remove_value.result c.remove_value.ensures.value
-    c.remove_value.ensures.taken c.self-1.given.0)
-    ∙ ap (λ s. without_entry s.entries q) c.self.view_is
-
-pub returns-clause-nodes : goal.returns-clause-nodes
-returns-clause-nodes g c =
-    let q = take c.args.len (g.K.Key.bits c.args.key) in
-    ap (λ (s : State g.row.T.Denot). s.nodes)
-    (kept_only q c.self.inside.nodes c.remove_value.new.nodes c.self.inside.cells c.remove_value.new.cells c.self.inside.count
-    c.remove_value.new.entries c.self.inside.shape c.self.invariant c.remove_value.result c.remove_value.ensures.value
-    c.remove_value.ensures.taken c.self-1.given.0)
-    ∙ ap (λ s. s.nodes) c.self.view_is
-
-pub returns-clause-removes : goal.returns-clause-removes
-returns-clause-removes g c =
-    let q = take c.args.len (g.K.Key.bits c.args.key) in
-    let left = counted_without q c.self.inside.nodes c.remove_value.new.nodes c.self.inside.cells c.remove_value.new.cells c.self.inside.count
-    c.remove_value.new.entries c.self.inside.shape c.self.invariant c.remove_value.result c.remove_value.ensures.value c.remove_value.ensures.taken
-    c.remove_value.ensures.counted in
-    subst (λ (s : Contents g.row.T.Denot). RemovesValueInStorage (state s) c.self-1.given.0.0 q (storage s)
-    (storage_of c.remove_value.new.nodes c.remove_value.new.cells c.self-1.given.1.0)) c.self.view_is
-    (kept_in q c.self.inside.nodes c.remove_value.new.nodes c.self.inside.cells c.remove_value.new.cells c.self.inside.count c.self.inside.shape
-    c.self.inside.sizes c.self.invariant c.self-1.given.0 c.self-1.given.1.0 c.remove_value.ensures.taken c.remove_value.ensures.node_room.0
-    c.remove_value.ensures.node_tiers left.table)
-
-pub returns-clause-child_blocks : goal.returns-clause-child_blocks
-returns-clause-child_blocks g c =
-    let q = take c.args.len (g.K.Key.bits c.args.key) in (
-      kept_children q c.self.inside.nodes c.remove_value.new.nodes c.self.inside.cells c.remove_value.new.cells c.self.inside.count c.self.inside.shape
-          c.self.inside.sizes c.self.invariant c.self-1.given.0 c.self-1.given.1.0 c.remove_value.ensures.taken c.remove_value.ensures.node_room.0 c.remove_value.ensures.node_tiers
-          ∙ ap (λ (s : Contents g.row.T.Denot). s.layout.child_blocks) c.self.view_is,
-      ap free_counts c.remove_value.ensures.node_tiers ∙ ap (λ (s : Contents g.row.T.Denot). s.layout.free_child_blocks) c.self.view_is,
-    )
+    let v = c.self.inside.nodes in
+    let v2 = c.remove_value.new.nodes in
+    let w = c.self.inside.cells in
+    let w2 = c.remove_value.new.cells in
+    let s = c.self.inside.shape in
+    let s2 = c.self-1.given.0 in
+    let z = c.self.inside.sizes in
+    let z2 = c.self-1.given.1.0 in
+    let e = c.remove_value.ensures in
+    let is = c.self.invariant in
+    let left = invariant_of-self g c in
+    let gone : Option g.row.T.Denot = c.remove_value.result in
+    record {
+      step = subst (λ (m : Contents g.row.T.Denot). StepOfStrings (stored m) (RemoveKeepTree q) (Value gone) (s2.0, storage_of v2 w2 z2)) c.self.view_is
+          (takes_step v v2 w w2 _ _ s is z s2 left z2 q gone (removed_is q v v2 w w2 _ c.remove_value.new.entries s is gone e.value)
+          (kept_only q v v2 w w2 _ c.remove_value.new.entries s is gone e.value e.taken s2)
+          (kept_in q v v2 w w2 _ s z is s2 z2 e.taken e.node_room.0 e.node_tiers (some_table left))
+          (kept_children q v v2 w w2 _ s z is s2 z2 e.taken e.node_room.0 e.node_tiers) e.node_tiers
+          (Grows-none v v2 24 e.node_room e.node_tiers) e.node_room.0 e.cell_room);
+    }

@@ -41,7 +41,7 @@ overflow_cast-block g c =
     let s = c.insert_at-block.ensures.sound h.size h.items h.live h.sound h.is_count in
     let small : c.insert_at-block.result.tier < 7 =
     tier_small blank_node _ h.live c.insert_at-block.new.self node_sizes s
-    (c.insert_at-block.ensures.spends.sizes ∙ c.requires.stands.hold.sizes_are) in
+    (c.insert_at-block.ensures.spends.sizes ∙ c.requires.stands.0.hold.sizes_are) in
     omega arith
 
 pub put-requires : goal.put-requires

@@ -1,14 +1,17 @@
 use Rattle.std.proofs.Common.{◌≡◌, ◌+◌, ◌-◌, ◌/◌, ◌<◌, ◌≤◌, Some, take, length, get_or, false, refl, sym, ap, ◌∙◌, subst, arith}
+use Rattle.std.proofs.lemmas.List.{take_all}
 use Rattle.prefix_trie_table.specs.declared.allocator.node.Node.{Node}
 use Rattle.prefix_trie_table.specs.Bitmaps.{has_bit, rank}
 use Rattle.prefix_trie_table.specs.Cells.{node_at}
 use Rattle.prefix_trie_table.specs.Digits.{path_of, bit_of}
 use Rattle.prefix_trie_table.specs.Store.{free_at, tier_for}
-use Rattle.prefix_trie_table.specs.Forest.{EntryAdded}
+use Rattle.prefix_trie_table.specs.Forest.{EntryAdded, IsSlot}
+use Rattle.prefix_trie_table.proofs.Invariant.{deepest_there}
 use Rattle.prefix_trie_table.proofs.Bits.{has_bit-zero}
 use Rattle.prefix_trie_table.proofs.Spending.{single_node}
 use Rattle.prefix_trie_table.proofs.Going.{step-read, level_inside, level_last, level_within, bit-read-last, steps-all}
 use Rattle.prefix_trie_table.proofs.Growing.{walked_start, walked_more, entry_added, enough_next, enough_below, value_below}
+use Rattle.prefix_trie_table.proofs.Locating.{entered_seat}
 use Rattle.prefix_trie_table.proofs.Rooms.{SameRoom-then}
 use Rattle.prefix_trie_table.proofs.table.insertion.add_entry.Goals as goal
 
@@ -30,6 +33,12 @@ loop-level-init g c =
       room = (refl, refl, refl);
       made = λ j. refl;
     }
+
+pub add_child-at-requires-clause-stands : goal.add_child-at-requires-clause-stands
+add_child-at-requires-clause-stands g c =
+    let s = c.requires.stands in
+    let a = c.loop-level.invariant.walked s.0.reading s.0.paths s.0.values s.0.holds s.1 in
+    (record { reading = a.later; paths = a.paths; hold = a.holds.hold }, deepest_there a.deep)
 
 pub add_child-at-requires-clause-missing : goal.add_child-at-requires-clause-missing
 add_child-at-requires-clause-missing g c =
@@ -53,9 +62,9 @@ loop-level-preserved g c =
     let lacks : has_bit (node_at c.loop-level.nodes.slots (c.loop-level.at.start + c.loop-level.at.place)).child_bitmap
     c.child_bit_of.result ≡ false = ap (λ (k : Node). has_bit k.child_bitmap c.child_bit_of.result) (sym inv.node)
     ∙ ap (has_bit c.loop-level.node.child_bitmap) (sym step) ∙ inv.missing inside in
-    let first = walked_more s.table.reading s.table.values s.table.paths path now (c.loop-level.at.start + c.loop-level.at.place)
+    let first = walked_more s.0.reading s.0.values s.0.paths path now (c.loop-level.at.start + c.loop-level.at.place)
     c.child_bit_of.result (c.add_child-at.result.start + c.add_child-at.result.place) c.loop-level.nodes c.add_child-at.new.nodes c.args.cells.now
-    (inv.walked s.table.reading s.table.paths s.table.values s.table.holds s.deep) within (sym step) lacks c.add_child-at.ensures.added in
+    (inv.walked s.0.reading s.0.paths s.0.values s.0.holds s.1) within (sym step) lacks c.add_child-at.ensures.added in
     let blank : c.blank-node.result ≡ node_at c.add_child-at.new.nodes.slots (c.add_child-at.result.start + c.add_child-at.result.place) =
     c.blank-node.ensures ∙ sym first.1 in
     let single : tier_for c.add_child-at.new.nodes.tiers 1 ≡ Some 0 = single_node c.add_child-at.new.nodes.tiers first.0.holds.hold.sizes_are in
@@ -82,18 +91,8 @@ loop-level-preserved g c =
 pub add_value-requires-clause-stands : goal.add_value-requires-clause-stands
 add_value-requires-clause-stands g c =
     let s = c.requires.stands in
-    let a = c.loop-level.invariant.walked s.table.reading s.table.paths s.table.values s.table.holds s.deep in
-    record {
-      reading = a.later;
-      paths = a.paths;
-      values = s.table.values;
-      path = _;
-      node = a.deep.node;
-      hold = a.holds.hold;
-      cells = a.holds.cells;
-      stands = a.deep.stands;
-      is = a.deep.is;
-    }
+    let a = c.loop-level.invariant.walked s.0.reading s.0.paths s.0.values s.0.holds s.1 in
+    (record { reading = a.later; values = s.0.values; paths = a.paths; holds = a.holds }, deepest_there a.deep)
 
 pub add_value-requires-clause-missing : goal.add_value-requires-clause-missing
 add_value-requires-clause-missing g c =
@@ -118,3 +117,19 @@ returns-clause-added g c = λ reading paths values holds.
     (c.loop-level.invariant.walked reading paths values holds (c.requires.reached.deepest reading paths holds.hold))
     (last ∙ sym (steps-all b c.args.len c.requires.reached.long))
     (λ nodes ps q m h cells stands is. c.add_value.ensures.added nodes ps values q m h cells stands is))
+
+pub returns-clause-seat : goal.returns-clause-seat
+returns-clause-seat g c =
+    let b = g.K.Key.bits c.args.key in
+    let s = c.requires.stands in
+    let slot = c.loop-level.at.start + c.loop-level.at.place in
+    let last : c.loop-level.level ≡ c.args.len / 5 = (let w = c.loop-level.invariant.within in omega (arith, w, c.loop-level-test.false)) in
+    let a = c.loop-level.invariant.walked s.0.reading s.0.paths s.0.values s.0.holds s.1 in
+    let whole : take c.loop-level.level (path_of (take c.args.len b)) ≡ path_of (take c.args.len b) =
+    take_all c.loop-level.level (path_of (take c.args.len b)) (omega (arith, last, steps-all b c.args.len c.requires.reached.long)) in
+    let stands : IsSlot a.later (path_of (take c.args.len b)) (c.loop-level.at.start + c.loop-level.at.place) =
+    subst (λ p. IsSlot a.later p (c.loop-level.at.start + c.loop-level.at.place)) whole a.deep.stands in
+    entered_seat a.later s.0.values a.paths (take c.args.len b) slot c.value_bit_of.result (Some c.args.value) c.add_value.result
+    c.add_value.new.nodes c.add_value.new.cells stands (bit-read-last b c.args.len c.requires.reached.long c.value_bit_of.result c.value_bit_of.ensures.value)
+    (c.add_value.ensures.added a.later a.paths s.0.values (path_of (take c.args.len b)) a.deep.node a.holds.hold a.holds.cells stands
+    (ap a.later (sym whole) ∙ a.deep.is)) c.add_value.ensures.seat

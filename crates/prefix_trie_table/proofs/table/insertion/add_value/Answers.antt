@@ -6,6 +6,7 @@ use Rattle.prefix_trie_table.specs.Store.{IsReady, tier_lacking}
 use Rattle.prefix_trie_table.proofs.Bits.{has_bit-is, rank-ones}
 use Rattle.prefix_trie_table.proofs.BitLists.{rank-within}
 use Rattle.prefix_trie_table.proofs.Adding.{entered_as, at_is, at_values, has_values, tier_small, values_added}
+use Rattle.prefix_trie_table.proofs.Locating.{added_seat}
 use Rattle.prefix_trie_table.proofs.Turnovers.{same_turned}
 use Rattle.prefix_trie_table.proofs.table.insertion.add_value.Goals as goal
 
@@ -40,7 +41,7 @@ overflow_cast-block g c =
     let s = c.insert_at-block.ensures.sound h.size h.items h.live h.sound h.is_count in
     let small : c.insert_at-block.result.tier < 7 =
     tier_small None _ h.live c.insert_at-block.new.self cell_sizes s
-    (c.insert_at-block.ensures.spends.sizes ∙ c.requires.stands.cells.sizes_are) in
+    (c.insert_at-block.ensures.spends.sizes ∙ c.requires.stands.0.holds.cells.sizes_are) in
     omega arith
 
 pub put-requires : goal.put-requires
@@ -61,3 +62,9 @@ returns-clause-added g c = λ reading paths values p n hold cells stands is.
     c.args.node.value_tier c.args.node.value_block c.insert_at-block.ensures.tier))
     (c.rank-place.ensures ∙ sym (rank-ones c.args.node.value_bitmap c.args.bit (omega (arith, c.requires.bit)))) (omega (arith, c.requires.bit))
     c.requires.missing c.requires.bit c.put.ensures.slots reading paths values p n hold cells stands is
+
+pub returns-clause-seat : goal.returns-clause-seat
+returns-clause-seat g c = added_seat c.args.nodes.now c.put.new.self (c.args.at.start + c.args.at.place) c.rank-place.result c.args.bit
+    c.with_bit-value_bitmap.result c.args.node _ c.with_bit-value_bitmap.ensures.sets refl (omega (arith, c.requires.bit))
+    (c.rank-place.ensures ∙ sym (rank-ones c.args.node.value_bitmap c.args.bit (omega (arith, c.requires.bit))))
+    (at_is c.args.nodes.now (c.args.at.start + c.args.at.place) (at_values _ _ _ c.requires.stands)).1 c.put.ensures.slots

@@ -1,21 +1,98 @@
-use Rattle.std.proofs.Common.{◌≡◌, false, is_some, not, take, sym, ap, ◌∙◌, arith}
+use Rattle.std.proofs.Common.{◌≡◌, ◌+◌, ℕ, List, Option, None, is_some, true, take, sym, ap, ◌∙◌}
+use Rattle.std.proofs.lemmas.Bool.{false≢true}
+use Rattle.std.proofs.lemmas.List.{get_or_default}
 use Rattle.std.proofs.lemmas.Result.{err_from_is_err_and}
 use Rattle.prefix_trie_table.specs.Digits.{path_of, bit_of}
-use Rattle.prefix_trie_table.specs.Forest.{one_if}
-use Rattle.prefix_trie_table.proofs.EntryCounts.{entries_bound}
+use Rattle.prefix_trie_table.specs.Forest.{SomeTable, Holds, one_if}
+use Rattle.prefix_trie_table.proofs.Lending.{cell_there, value_there}
+use Rattle.prefix_trie_table.proofs.Asks.{at_end}
+use Rattle.prefix_trie_table.proofs.Locating.{is_seat, missing_value}
+use Rattle.prefix_trie_table.proofs.WayEnds.{entry_replaced}
 use Rattle.prefix_trie_table.proofs.table.insertion.insert_entry.Goals as goal
 
-pub prove-unreachable-requires : goal.prove-unreachable-requires
-prove-unreachable-requires g c =
-    let t = c.requires.table in
-    let done = c.in_ok-before.ensures.inserted t.table.reading t.table.paths t.table.values t.table.holds in
-    let none : is_some c.in_ok-before.before ≡ false = c.is_none.ensures ∙ ap not c.if-is_none.true in
-    let had : one_if (is_some (t.table.values (path_of (take c.args.len (g.K.Key.bits c.args.key)))
-    (bit_of (take c.args.len (g.K.Key.bits c.args.key))))) ≡ 0 = ap (λ o. one_if (is_some o)) (sym done.0) ∙ ap one_if none in
-    let bound = entries_bound done.1.later _ done.1.paths c.insert_value.new.cells done.1.holds.cells in
-    omega (arith, bound, done.1.counted, had, t.counted, c.len-slots.ensures.len, c.if-prove.true)
+pub put-requires : goal.put-requires
+put-requires g c =
+    let t = c.requires.table.0 in
+    let q = take c.args.len (g.K.Key.bits c.args.key) in
+    (cell_there c.args.nodes.now c.args.cells.now t q c.in-Stored.seat (is_seat c.args.nodes.now t.reading t.paths t.holds.hold q c.in-Stored.seat c.in-Stored.ensures.place)).0
 
-pub returns-in_err-before-clause-asked : goal.returns-in_err-before-clause-asked
-returns-in_err-before-clause-asked g c =
+pub returns-in-Stored-clause-inserted : goal.returns-in-Stored-clause-inserted
+returns-in-Stored-clause-inserted g c = λ reading paths values holds.
+    let q = take c.args.len (g.K.Key.bits c.args.key) in
+    let t : SomeTable c.args.nodes.now c.args.cells.now = record { reading = reading; values = values; paths = paths; holds = holds } in
+    let at = is_seat c.args.nodes.now reading paths holds.hold q c.in-Stored.seat c.in-Stored.ensures.place in
+    let here = cell_there c.args.nodes.now c.args.cells.now t q c.in-Stored.seat at in (
+      c.put.ensures.value
+          ∙ sym (get_or_default c.args.cells.now.slots (c.in-Stored.seat.start + c.in-Stored.seat.place) None c.put.result here.0) ∙ here.1,
+      entry_replaced reading values paths c.args.nodes.now c.args.cells.now c.put.new.self holds (path_of q) (bit_of q) c.in-Stored.seat at c.args.value c.put.ensures.slots,
+    )
+
+pub returns-in-Stored-clause-counted : goal.returns-in-Stored-clause-counted
+returns-in-Stored-clause-counted g c =
+    let t = c.requires.table.0 in
+    let q = take c.args.len (g.K.Key.bits c.args.key) in
+    let at = is_seat c.args.nodes.now t.reading t.paths t.holds.hold q c.in-Stored.seat c.in-Stored.ensures.place in
+    let here = cell_there c.args.nodes.now c.args.cells.now t q c.in-Stored.seat at in
+    ap (λ o. c.args.entries.now + one_if (is_some o)) (c.put.ensures.value
+    ∙ sym (get_or_default c.args.cells.now.slots (c.in-Stored.seat.start + c.in-Stored.seat.place) None c.put.result here.0) ∙ here.1)
+    ∙ ap (λ b. c.args.entries.now + one_if b) (value_there c.args.nodes.now c.args.cells.now t q c.in-Stored.seat at)
+
+pub returns-in-Stored-clause-asked : goal.returns-in-Stored-clause-asked
+returns-in-Stored-clause-asked g c = λ reading paths values holds none.
+    let q = take c.args.len (g.K.Key.bits c.args.key) in
+    let t : SomeTable c.args.nodes.now c.args.cells.now = record { reading = reading; values = values; paths = paths; holds = holds } in
+    let at = is_seat c.args.nodes.now reading paths holds.hold q c.in-Stored.seat c.in-Stored.ensures.place in
+    absurd (false≢true (sym (ap is_some none) ∙ value_there c.args.nodes.now c.args.cells.now t q c.in-Stored.seat at))
+
+pub returns-in_err-place_entry-in-Missing-clause-inserted :
+    goal.returns-in_err-place_entry-in-Missing-clause-inserted
+returns-in_err-place_entry-in-Missing-clause-inserted g c =
     let p = err_from_is_err_and c.from_residual.result c.from_residual.ensures.1 in
-    rw (p.1, p.2) c.in_err-before.ensures.asked
+    rw p.1 c.in_err-place_entry-in-Missing.ensures.placed
+
+pub returns-in_err-place_entry-in-Missing-clause-asked :
+    goal.returns-in_err-place_entry-in-Missing-clause-asked
+returns-in_err-place_entry-in-Missing-clause-asked g c =
+    let p = err_from_is_err_and c.from_residual.result c.from_residual.ensures.1 in
+    let end = c.in-Missing.end.reached in
+    let o = c.in_err-place_entry-in-Missing.ensures.obtains in
+    rw (p.1, p.2) (λ reading paths values holds none.
+    at_end (g.K.Key.bits c.args.key) c.args.len end.level _ end.node c.args.nodes.now c.in-Missing.ensures.place.1 reading paths holds.hold (record {
+      nodes_made = o.nodes_made;
+      cells_made = o.cells_made;
+      range = o.range;
+      memory = o.memory;
+      lacks = o.lacks;
+    }))
+
+pub returns-in_err-place_entry-in-Missing-clause-stored :
+    goal.returns-in_err-place_entry-in-Missing-clause-stored
+returns-in_err-place_entry-in-Missing-clause-stored g c = λ reading paths values holds some.
+    let q = take c.args.len (g.K.Key.bits c.args.key) in
+    absurd (false≢true (sym (ap is_some (missing_value c.args.nodes.now reading paths holds.hold q values c.args.cells.now holds.cells c.in-Missing.ensures.place.0)) ∙ some))
+
+pub returns-in_ok-place_entry-in-Missing-clause-inserted :
+    goal.returns-in_ok-place_entry-in-Missing-clause-inserted
+returns-in_ok-place_entry-in-Missing-clause-inserted g c = λ reading paths values holds. (
+  sym (missing_value c.args.nodes.now reading paths holds.hold (take c.args.len (g.K.Key.bits c.args.key)) values c.args.cells.now holds.cells c.in-Missing.ensures.place.0),
+  c.in_ok-place_entry-in-Missing.ensures.placed reading paths values holds,
+)
+
+pub returns-in_ok-place_entry-in-Missing-clause-asked :
+    goal.returns-in_ok-place_entry-in-Missing-clause-asked
+returns-in_ok-place_entry-in-Missing-clause-asked g c = λ reading paths values holds none.
+    let end = c.in-Missing.end.reached in
+    let o = c.in_ok-place_entry-in-Missing.ensures.obtains in
+    at_end (g.K.Key.bits c.args.key) c.args.len end.level _ end.node c.args.nodes.now c.in-Missing.ensures.place.1 reading paths holds.hold (record {
+      nodes_made = o.nodes_made;
+      cells_made = o.cells_made;
+      range = tt;
+      memory = tt;
+      lacks = tt;
+    })
+
+pub returns-in_ok-place_entry-in-Missing-clause-stored :
+    goal.returns-in_ok-place_entry-in-Missing-clause-stored
+returns-in_ok-place_entry-in-Missing-clause-stored g c = λ reading paths values holds some.
+    let q = take c.args.len (g.K.Key.bits c.args.key) in
+    absurd (false≢true (sym (ap is_some (missing_value c.args.nodes.now reading paths holds.hold q values c.args.cells.now holds.cells c.in-Missing.ensures.place.0)) ∙ some))

@@ -23,12 +23,12 @@ prepare-requires-clause-tier g c = λ some.
     (c.count.ensures ∙ sym (rank-ones n.value_bitmap 32 (omega arith)))) some
 
 pub prepare-requires-clause-single : goal.prepare-requires-clause-single
-prepare-requires-clause-single g c = single_cell c.args.cells.now.tiers c.requires.stands.cells.sizes_are
+prepare-requires-clause-single g c = single_cell c.args.cells.now.tiers c.requires.stands.0.holds.cells.sizes_are
 
 pub prepare-requires-clause-fits : goal.prepare-requires-clause-fits
 prepare-requires-clause-fits g c =
     let few = c.requires.few_values (omega (arith, c.if-depth-len.true)) in
-    cell_fits c.args.cells.now.tiers c.count.result c.requires.stands.cells.sizes_are
+    cell_fits c.args.cells.now.tiers c.count.result c.requires.stands.0.holds.cells.sizes_are
     (omega (arith, few, rank-ones c.args.reached.now.node.value_bitmap 32 (omega arith), c.count.ensures))
 
 pub returns-then-depth-len-clause-room : goal.returns-then-depth-len-clause-room
@@ -42,10 +42,10 @@ returns-then-depth-len-clause-room g c =
     }) c.prepare.ensures.enough
 
 pub prepare-requires-2-clause-single : goal.prepare-requires-2-clause-single
-prepare-requires-2-clause-single g c = single_cell c.args.cells.now.tiers c.requires.stands.cells.sizes_are
+prepare-requires-2-clause-single g c = single_cell c.args.cells.now.tiers c.requires.stands.0.holds.cells.sizes_are
 
 pub prepare-requires-2-clause-fits : goal.prepare-requires-2-clause-fits
-prepare-requires-2-clause-fits g c = cell_fits c.args.cells.now.tiers 0 c.requires.stands.cells.sizes_are (omega arith)
+prepare-requires-2-clause-fits g c = cell_fits c.args.cells.now.tiers 0 c.requires.stands.0.holds.cells.sizes_are (omega arith)
 
 pub prepare-requires-3-clause-tier : goal.prepare-requires-3-clause-tier
 prepare-requires-3-clause-tier g c = λ some.
@@ -55,12 +55,12 @@ prepare-requires-3-clause-tier g c = λ some.
     (c.count-2.ensures ∙ sym (rank-ones n.child_bitmap 32 (omega arith)))) some
 
 pub prepare-requires-3-clause-single : goal.prepare-requires-3-clause-single
-prepare-requires-3-clause-single g c = single_node c.args.nodes.now.tiers c.requires.stands.hold.sizes_are
+prepare-requires-3-clause-single g c = single_node c.args.nodes.now.tiers c.requires.stands.0.holds.hold.sizes_are
 
 pub prepare-requires-3-clause-fits : goal.prepare-requires-3-clause-fits
 prepare-requires-3-clause-fits g c =
     let few = c.requires.few_children (omega (arith, c.if-depth-len.false)) in
-    node_fits c.args.nodes.now.tiers c.count-2.result c.requires.stands.hold.sizes_are
+    node_fits c.args.nodes.now.tiers c.count-2.result c.requires.stands.0.holds.hold.sizes_are
     (omega (arith, few, rank-ones c.args.reached.now.node.child_bitmap 32 (omega arith), c.count-2.ensures))
 
 pub returns-clause-room : goal.returns-clause-room
@@ -77,7 +77,7 @@ returns-clause-room g c =
 pub returns-then-depth-len-clause-cell_room : goal.returns-then-depth-len-clause-cell_room
 returns-then-depth-len-clause-cell_room g c =
     Grows-made c.prepare.result c.args.cells.now c.prepare.new.self _ 31 c.prepare.ensures.made c.prepare.ensures.short c.prepare.ensures.prepared
-    (cells_lacking c.args.cells.now.tiers c.args.reached.now.node.value_tier c.count.result c.requires.stands.cells.sizes_are
+    (cells_lacking c.args.cells.now.tiers c.args.reached.now.node.value_tier c.count.result c.requires.stands.0.holds.cells.sizes_are
     c.prepare.ensures.bound)
 
 -- slots that pass the limit pass it with the most that one insertion lacks
@@ -91,38 +91,38 @@ pub returns-then-depth-len-clause-range : goal.returns-then-depth-len-clause-ran
 returns-then-depth-len-clause-range g c =
     IfErr-weaker c.prepare.result _ (λ cause. cause ≡ IndexRange → MayPass c.args.nodes.now c.args.cells.now)
     (λ cause h is. cells_pass c.args.nodes.now c.args.cells.now _
-    (cells_lacking c.args.cells.now.tiers c.args.reached.now.node.value_tier c.count.result c.requires.stands.cells.sizes_are
+    (cells_lacking c.args.cells.now.tiers c.args.reached.now.node.value_tier c.count.result c.requires.stands.0.holds.cells.sizes_are
     c.prepare.ensures.bound) (h is)) c.prepare.ensures.range
 
 pub returns-in_err-prepare-clause-range : goal.returns-in_err-prepare-clause-range
 returns-in_err-prepare-clause-range g c =
     let p = err_from_is_err_and c.from_residual.result c.from_residual.ensures.1 in
     rw (p.1, p.2) (λ is. cells_pass c.args.nodes.now c.args.cells.now _
-    (cells_lacking c.args.cells.now.tiers 0 0 c.requires.stands.cells.sizes_are c.prepare-2.ensures.bound) (c.in_err-prepare.ensures.range is))
+    (cells_lacking c.args.cells.now.tiers 0 0 c.requires.stands.0.holds.cells.sizes_are c.prepare-2.ensures.bound) (c.in_err-prepare.ensures.range is))
 
 pub returns-in_err-prepare-clause-cell_room : goal.returns-in_err-prepare-clause-cell_room
 returns-in_err-prepare-clause-cell_room g c =
     Grows-made c.prepare-2.result c.args.cells.now c.prepare-2.new.self _ 31 c.prepare-2.ensures.made c.prepare-2.ensures.short c.prepare-2.ensures.prepared
-    (cells_lacking c.args.cells.now.tiers 0 0 c.requires.stands.cells.sizes_are c.prepare-2.ensures.bound)
+    (cells_lacking c.args.cells.now.tiers 0 0 c.requires.stands.0.holds.cells.sizes_are c.prepare-2.ensures.bound)
 
 pub returns-clause-range : goal.returns-clause-range
 returns-clause-range g c =
     IfErr-weaker c.prepare-3.result _ (λ cause. cause ≡ IndexRange → MayPass c.args.nodes.now c.args.cells.now)
     (λ cause h is. nodes_pass c.args.nodes.now c.args.cells.now _
     (nodes_lacking c.args.nodes.now.tiers c.args.reached.now.node.child_tier c.count-2.result (c.args.len / 5 - (c.args.reached.now.level + 1))
-    c.requires.stands.hold.sizes_are c.prepare-3.ensures.bound (few_steps c.args.len c.args.reached.now.level c.requires.short)) (h is))
+    c.requires.stands.0.holds.hold.sizes_are c.prepare-3.ensures.bound (few_steps c.args.len c.args.reached.now.level c.requires.short)) (h is))
     c.prepare-3.ensures.range
 
 pub returns-clause-node_room : goal.returns-clause-node_room
 returns-clause-node_room g c =
     Grows-made c.prepare-3.result c.args.nodes.now c.prepare-3.new.self _ 56 c.prepare-3.ensures.made c.prepare-3.ensures.short c.prepare-3.ensures.prepared
     (nodes_lacking c.args.nodes.now.tiers c.args.reached.now.node.child_tier c.count-2.result (c.args.len / 5 - (c.args.reached.now.level + 1))
-    c.requires.stands.hold.sizes_are c.prepare-3.ensures.bound (few_steps c.args.len c.args.reached.now.level c.requires.short))
+    c.requires.stands.0.holds.hold.sizes_are c.prepare-3.ensures.bound (few_steps c.args.len c.args.reached.now.level c.requires.short))
 
 pub returns-clause-cell_room : goal.returns-clause-cell_room
 returns-clause-cell_room g c =
     Grows-made c.prepare-2.result c.args.cells.now c.prepare-2.new.self _ 31 c.prepare-2.ensures.made c.prepare-2.ensures.short c.prepare-2.ensures.prepared
-    (cells_lacking c.args.cells.now.tiers 0 0 c.requires.stands.cells.sizes_are c.prepare-2.ensures.bound)
+    (cells_lacking c.args.cells.now.tiers 0 0 c.requires.stands.0.holds.cells.sizes_are c.prepare-2.ensures.bound)
 
 pub returns-then-depth-len-clause-obtains : goal.returns-then-depth-len-clause-obtains
 returns-then-depth-len-clause-obtains g c =

@@ -6,7 +6,7 @@ use Rattle.prefix_trie_table.proofs.table.lookup.descend.Goals as goal
 pub visit-node-requires : goal.visit-node-requires
 visit-node-requires g c =
     let s = c.requires.sound in
-    deepest_in s.0 s.1 c.args.nodes.now [] 0 0 s.2 (deepest_root s.0 s.1 c.args.nodes.now [] s.2)
+    deepest_in s.reading s.paths c.args.nodes.now [] 0 0 s.hold (deepest_root s.reading s.paths c.args.nodes.now [] s.hold)
 
 pub loop-level-init : goal.loop-level-init
 loop-level-init g c = (
@@ -49,10 +49,10 @@ visit-node-requires-in-loop-level g c =
     let b = g.K.Key.bits c.args.key in
     let s = c.requires.sound in
     let long : c.args.len ≤ length b = omega (arith, g.met.K.Key.key_laws.bits_length c.args.key c.requires.key, c.requires.within) in
-    deepest_in s.0 s.1 c.args.nodes.now (path_of (take c.args.len b)) (c.loop-level.level + 1) _ s.2
+    deepest_in s.reading s.paths c.args.nodes.now (path_of (take c.args.len b)) (c.loop-level.level + 1) _ s.hold
     (down_more b c.args.len c.loop-level.level _ c.loop-level.node c.args.nodes.now long c.loop-level.invariant.0 c.child_bit_of-child.result
     c.child_bit_of-child.ensures.small c.child_bit_of-child.ensures.value c.loop-level-test.true c.rank.result
-    (sym c.has_bit.ensures ∙ c.if-not-has_bit.false) c.rank.ensures s.0 s.1 s.2)
+    (sym c.has_bit.ensures ∙ c.if-not-has_bit.false) c.rank.ensures s.reading s.paths s.hold)
 
 pub loop-level-preserved : goal.loop-level-preserved
 loop-level-preserved g c =

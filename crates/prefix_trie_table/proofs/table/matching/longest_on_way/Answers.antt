@@ -20,7 +20,7 @@ pub longest_in-requires-clause-few : goal.longest_in-requires-clause-few
 longest_in-requires-clause-few g c =
     let b = g.K.Key.bits c.args.key in
     let s = c.requires.sound in
-    s.few (take c.way.here.level (path_of (take c.args.len b))) c.way.here.node (on_way_is b c.args.len c.way.here.level _ c.way.here.node c.args.nodes.now c.way.invariant.on_way s.reading s.paths s.hold)
+    s.1 (take c.way.here.level (path_of (take c.args.len b))) c.way.here.node (on_way_is b c.args.len c.way.here.level _ c.way.here.node c.args.nodes.now c.way.invariant.on_way s.0.reading s.0.paths s.0.hold)
 
 pub returns-in_default-clause-found : goal.returns-in_default-clause-found
 returns-in_default-clause-found g c = λ reading paths hold.

@@ -21,8 +21,8 @@ visit-node-requires g c =
     let b = g.K.Key.bits c.args.key in
     let s = c.requires.sound in
     let at = c.requires.on_way in
-    deepest_in s.reading s.paths c.args.nodes.now (path_of (take c.args.len b)) (c.args.from.level + 1) _ s.hold
-    (down_more b c.args.len c.args.from.level _ c.args.from.node c.args.nodes.now at.long (on_way_down b c.args.len c.args.from.level _ c.args.from.node c.args.nodes.now at) c.child_bit_of-child.result c.child_bit_of-child.ensures.small c.child_bit_of-child.ensures.value (omega (arith, c.if-depth-len.false)) c.rank.result (sym c.has_bit.ensures ∙ c.if-not-has_bit.false) c.rank.ensures s.reading s.paths s.hold)
+    deepest_in s.0.reading s.0.paths c.args.nodes.now (path_of (take c.args.len b)) (c.args.from.level + 1) _ s.0.hold
+    (down_more b c.args.len c.args.from.level _ c.args.from.node c.args.nodes.now at.long (on_way_down b c.args.len c.args.from.level _ c.args.from.node c.args.nodes.now at) c.child_bit_of-child.result c.child_bit_of-child.ensures.small c.child_bit_of-child.ensures.value (omega (arith, c.if-depth-len.false)) c.rank.result (sym c.has_bit.ensures ∙ c.if-not-has_bit.false) c.rank.ensures s.0.reading s.0.paths s.0.hold)
 
 pub returns-clause-step : goal.returns-clause-step
 returns-clause-step g c =

@@ -46,7 +46,7 @@ returns-clause-room g c =
     grows_written c.args.nodes.now c.remove_at-rest.new.self c.put.new.self _ _ 24
     (grows_few c.args.nodes.now c.remove_at-rest.new.self c.visit-node.result.child_tier c.count.result
     c.remove_at-rest.result.tier _ _ c.remove_at-rest.ensures.keeps c.remove_at-rest.ensures.turnover blank_node c.visit-node.result.child_block node_sizes
-    c.requires.stands.hold.sizes_are refl smaller_node list c.remove_at-rest.ensures.smallest) c.put.ensures.slots
+    c.requires.stands.0.hold.sizes_are refl smaller_node list c.remove_at-rest.ensures.smallest) c.put.ensures.slots
 
 pub returns-clause-last : goal.returns-clause-last
 returns-clause-last g c = λ none.
@@ -81,13 +81,13 @@ returns-clause-dropped g c = λ reading paths p n leaf hold stands is below bare
     }))
     (λ left fewer. may_lengthen c.args.nodes.now c.remove_at-rest.new.self c.visit-node.result.child_tier c.count.result
     c.remove_at-rest.result.tier _ _ c.remove_at-rest.ensures.keeps c.remove_at-rest.ensures.turnover blank_node c.visit-node.result.child_block node_sizes
-    c.requires.stands.hold.sizes_are refl smaller_node
+    c.requires.stands.0.hold.sizes_are refl smaller_node
     (has_list c.args.nodes.now (c.args.at.start + c.args.at.place) c.visit-node.result c.count.result c.requires.stands c.visit-node.ensures.node same)
     c.remove_at-rest.ensures.smallest left (fewer ∙ sym same))
     (subst (λ n. (c.visit-node.result.child_tier < 7) × (n ≤ size_in node_sizes c.visit-node.result.child_tier)) same
     (list_fits c.args.nodes.now c.remove_at-rest.new.self c.visit-node.result.child_tier c.count.result
     c.remove_at-rest.result.tier _ _ c.remove_at-rest.ensures.keeps c.remove_at-rest.ensures.turnover blank_node c.visit-node.result.child_block node_sizes
-    c.requires.stands.hold.sizes_are refl smaller_node
+    c.requires.stands.0.hold.sizes_are refl smaller_node
     (has_list c.args.nodes.now (c.args.at.start + c.args.at.place) c.visit-node.result c.count.result c.requires.stands c.visit-node.ensures.node same)
     c.remove_at-rest.ensures.smallest (omega (arith, some, same))))
     (subst (λ n. (j : ℕ) → (tier_at c.remove_at-rest.new.self.tiers j).made ≡ (tier_at c.args.nodes.now.tiers j).made
@@ -96,6 +96,6 @@ returns-clause-dropped g c = λ reading paths p n leaf hold stands is below bare
     length c.args.nodes.now.slots + headroom_if_any (size_if_any n (size_in node_sizes c.visit-node.result.child_tier))) same
     (steps_down c.args.nodes.now c.remove_at-rest.new.self c.visit-node.result.child_tier c.count.result
     c.remove_at-rest.result.tier _ _ c.remove_at-rest.ensures.keeps c.remove_at-rest.ensures.turnover blank_node c.visit-node.result.child_block node_sizes
-    c.requires.stands.hold.sizes_are refl smaller_node
+    c.requires.stands.0.hold.sizes_are refl smaller_node
     (has_list c.args.nodes.now (c.args.at.start + c.args.at.place) c.visit-node.result c.count.result c.requires.stands c.visit-node.ensures.node same)
     c.remove_at-rest.ensures.smallest headroom_node left (fewer ∙ sym same))) reading paths p n leaf hold stands is below bare

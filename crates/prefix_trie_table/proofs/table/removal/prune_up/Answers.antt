@@ -32,16 +32,15 @@ drop_child-node-requires-clause-stands g c =
     let slots = subst (λ n. IsWay s.reading path c.args.way.now n) (steps-all b c.args.len long) s.slots in
     let up : c.loop-level.level ≡ c.loop-level.level - 1 + 1 = omega (arith, c.loop-level-test.true) in
     let p = subst (λ n. Pruning s.reading s.paths path c.args.way.now n c.loop-level.node c.args.nodes.now c.loop-level.nodes) up
-    (c.loop-level.invariant.pruned s.reading s.paths s.hold slots s.is) in
-    record {
-      reading = p.to.later;
-      paths = p.to.left;
-      path = take (c.loop-level.level - 1) path;
-      node = _;
-      hold = p.to.hold;
-      stands = parent_slot s.reading s.paths path c.args.way.now (c.loop-level.level - 1) c.loop-level.node c.args.nodes.now c.loop-level.nodes p;
-      is = parent_is s.reading s.paths path c.args.way.now (c.loop-level.level - 1) c.loop-level.node c.args.nodes.now c.loop-level.nodes p;
-    }
+    (c.loop-level.invariant.pruned s.reading s.paths s.hold slots s.is) in (
+      record { reading = p.to.later; paths = p.to.left; hold = p.to.hold },
+      record {
+        path = take (c.loop-level.level - 1) path;
+        node = _;
+        stands = parent_slot s.reading s.paths path c.args.way.now (c.loop-level.level - 1) c.loop-level.node c.args.nodes.now c.loop-level.nodes p;
+        is = parent_is s.reading s.paths path c.args.way.now (c.loop-level.level - 1) c.loop-level.node c.args.nodes.now c.loop-level.nodes p;
+      },
+    )
 
 pub drop_child-node-requires-clause-there : goal.drop_child-node-requires-clause-there
 drop_child-node-requires-clause-there g c =

@@ -17,7 +17,7 @@ pub prune_up-requires-clause-stands : goal.prune_up-requires-clause-stands
 prune_up-requires-clause-stands g c =
     let b = g.K.Key.bits c.args.key in
     let path = path_of (take c.args.len b) in
-    let t = c.requires.table.table in
+    let t = c.requires.table.0 in
     let long : c.args.len ≤ length b = c.in-Some.ensures.found.0.long in
     let taken = c.take_entry-value.ensures.taken t.reading t.paths t.values t.holds in
     record {

@@ -1,6 +1,7 @@
 use Rattle.std.proofs.Common.{◌≡◌, true, is_some, sym, ap, ◌∙◌, arith}
 use Rattle.prefix_trie_table.specs.Bitmaps.{has_bit as is_set}
 use Rattle.prefix_trie_table.specs.Forest.{one_if}
+use Rattle.prefix_trie_table.proofs.Invariant.{deepest_there}
 use Rattle.prefix_trie_table.proofs.Bits.{has_bit-is}
 use Rattle.prefix_trie_table.proofs.Emptying.{own_node, own_slot, none_there, none_taken, some_there, value_there, entry_taken}
 use Rattle.prefix_trie_table.proofs.table.removal.take_entry.Goals as goal
@@ -19,6 +20,11 @@ returns-then-not-has_bit-clause-taken g c = λ reading paths values holds.
     (has_bit-is c.args.node.value_bitmap c.value_bit_of-bit.result (omega (arith, c.value_bit_of-bit.ensures.small))
     ∙ sym c.has_bit.ensures ∙ c.if-not-has_bit.true)
 
+pub take_value-taken-requires-clause-stands : goal.take_value-taken-requires-clause-stands
+take_value-taken-requires-clause-stands g c =
+    let t = c.requires.table.0 in
+    (t, deepest_there (c.requires.reached.deepest t.reading t.paths t.holds.hold))
+
 pub take_value-taken-requires-clause-there : goal.take_value-taken-requires-clause-there
 take_value-taken-requires-clause-there g c =
     has_bit-is c.args.node.value_bitmap c.value_bit_of-bit.result (omega (arith, c.value_bit_of-bit.ensures.small))
@@ -26,7 +32,7 @@ take_value-taken-requires-clause-there g c =
 
 pub overflow_sub-entries : goal.overflow_sub-entries
 overflow_sub-entries g c =
-    let t = c.requires.table.table in
+    let t = c.requires.table.0 in
     let there : is_set c.args.node.value_bitmap c.value_bit_of-bit.result ≡ true =
     has_bit-is c.args.node.value_bitmap c.value_bit_of-bit.result (omega (arith, c.value_bit_of-bit.ensures.small))
     ∙ sym c.has_bit.ensures ∙ c.if-not-has_bit.false in
@@ -41,7 +47,7 @@ overflow_sub-entries g c =
     c.value_bit_of-bit.ensures.value t.reading t.paths t.values c.args.cells.now t.holds c.take_value-taken.result.0 c.take_value-taken.result.1
     c.take_value-taken.new.nodes c.take_value-taken.new.cells there
     (c.take_value-taken.ensures.taken t.reading t.paths t.values _ c.args.node t.holds.hold t.holds.cells slot own) in
-    omega (arith, a.0.counted, ap one_if some, c.requires.table.counted)
+    omega (arith, a.0.counted, ap one_if some, c.requires.table.1)
 
 pub returns-clause-value : goal.returns-clause-value
 returns-clause-value g c = λ reading paths values holds.
@@ -73,7 +79,7 @@ returns-clause-taken g c = λ reading paths values holds.
 
 pub returns-clause-counted : goal.returns-clause-counted
 returns-clause-counted g c =
-    let t = c.requires.table.table in
+    let t = c.requires.table.0 in
     let there : is_set c.args.node.value_bitmap c.value_bit_of-bit.result ≡ true =
     has_bit-is c.args.node.value_bitmap c.value_bit_of-bit.result (omega (arith, c.value_bit_of-bit.ensures.small))
     ∙ sym c.has_bit.ensures ∙ c.if-not-has_bit.false in

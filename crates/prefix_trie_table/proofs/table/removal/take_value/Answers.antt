@@ -40,7 +40,7 @@ returns-clause-cell_room g c =
     c.requires.node (c.count.ensures ∙ sym (rank-ones c.args.node.value_bitmap 32 (omega arith))) in
     grows_few c.args.cells.now c.remove_at-value.new.self c.args.node.value_tier c.count.result
     c.remove_at-value.result.1.tier _ _ c.remove_at-value.ensures.keeps c.remove_at-value.ensures.turnover None c.args.node.value_block cell_sizes
-    c.requires.stands.cells.sizes_are refl smaller_cell list c.remove_at-value.ensures.smallest
+    c.requires.stands.0.holds.cells.sizes_are refl smaller_cell list c.remove_at-value.ensures.smallest
 
 pub returns-clause-settles : goal.returns-clause-settles
 returns-clause-settles g c =
@@ -56,7 +56,7 @@ returns-clause-settles g c =
     length c.args.cells.now.slots + headroom_if_any (size_if_any n (size_in cell_sizes c.args.node.value_tier))) same
     (steps_down c.args.cells.now c.remove_at-value.new.self c.args.node.value_tier c.count.result
     c.remove_at-value.result.1.tier _ _ c.remove_at-value.ensures.keeps c.remove_at-value.ensures.turnover None c.args.node.value_block cell_sizes
-    c.requires.stands.cells.sizes_are refl smaller_cell list c.remove_at-value.ensures.smallest headroom_cell (rank c.without_bit.result 32)
+    c.requires.stands.0.holds.cells.sizes_are refl smaller_cell list c.remove_at-value.ensures.smallest headroom_cell (rank c.without_bit.result 32)
     (fewer ∙ sym same)))
 
 pub returns-clause-value : goal.returns-clause-value
@@ -89,13 +89,13 @@ returns-clause-taken g c = λ reading paths values p n hold cells stands is.
     }))
     (λ left fewer. may_lengthen c.args.cells.now c.remove_at-value.new.self c.args.node.value_tier c.count.result
     c.remove_at-value.result.1.tier _ _ c.remove_at-value.ensures.keeps c.remove_at-value.ensures.turnover None c.args.node.value_block cell_sizes
-    c.requires.stands.cells.sizes_are refl smaller_cell
+    c.requires.stands.0.holds.cells.sizes_are refl smaller_cell
     (has_values c.args.nodes.now c.args.cells.now (c.args.at.start + c.args.at.place) c.args.node c.count.result c.requires.stands c.requires.node same)
     c.remove_at-value.ensures.smallest left (fewer ∙ sym same))
     (subst (λ n. (c.args.node.value_tier < 7) × (n ≤ size_in cell_sizes c.args.node.value_tier)) same
     (list_fits c.args.cells.now c.remove_at-value.new.self c.args.node.value_tier c.count.result
     c.remove_at-value.result.1.tier _ _ c.remove_at-value.ensures.keeps c.remove_at-value.ensures.turnover None c.args.node.value_block cell_sizes
-    c.requires.stands.cells.sizes_are refl smaller_cell
+    c.requires.stands.0.holds.cells.sizes_are refl smaller_cell
     (has_values c.args.nodes.now c.args.cells.now (c.args.at.start + c.args.at.place) c.args.node c.count.result c.requires.stands c.requires.node same)
     c.remove_at-value.ensures.smallest
     (let some = rank-below c.args.node.value_bitmap c.args.bit (omega (arith, c.requires.bit)) c.requires.there in omega (arith, some, same))))

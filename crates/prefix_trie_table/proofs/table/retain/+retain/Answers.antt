@@ -5,7 +5,8 @@ use Rattle.prefix_trie_bits.specs.Walks.{to_come}
 use Rattle.prefix_trie_bits.specs.Model.Asking.{MayAskInOrder}
 use Rattle.prefix_trie_bits.specs.Model.NodeListings.{listing_at_places}
 use Rattle.prefix_trie_bits.specs.Model.Step.{State}
-use Rattle.prefix_trie_table.specs.Retaining.{IsTrie, RetainsTo}
+use Rattle.prefix_trie_table.specs.Retaining.{RetainsTo}
+use Rattle.prefix_trie_table.specs.Tables.{IsTrie}
 use Rattle.std.specs.List.{Contains}
 use Rattle.std.proofs.lemmas.List.Elements.{All-weaker, All-contains_itself}
 use Rattle.prefix_trie_table.specs.Bitmaps.{has_bit}

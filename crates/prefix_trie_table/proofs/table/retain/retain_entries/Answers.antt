@@ -6,7 +6,6 @@ use Rattle.prefix_trie_table.specs.Bitmaps.{has_bit}
 use Rattle.prefix_trie_table.specs.Cells.{node_at}
 use Rattle.prefix_trie_table.specs.Walks.{IsPlaceOf}
 use Rattle.prefix_trie_table.proofs.Matching.{clear-small}
-use Rattle.prefix_trie_table.proofs.Retained.{tree_of}
 use Rattle.prefix_trie_table.proofs.Rooted.{root_site, root_may_ask, root_asked}
 use Rattle.prefix_trie_table.proofs.Subtrees.{root_inside, few_at}
 use Rattle.prefix_trie_table.proofs.Trees.{read-nil}
@@ -14,13 +13,13 @@ use Rattle.prefix_trie_table.proofs.table.retain.retain_entries.Goals as goal
 
 pub visit-root-requires : goal.visit-root-requires
 visit-root-requires g c =
-    root_inside g.K.Key.bit_width c.args.nodes.now _ (tree_of g.K.Key.bit_width c.args.entries.now c.args.nodes.now c.args.cells.now c.requires.trie.0 c.requires.trie.1)
+    root_inside g.K.Key.bit_width c.args.nodes.now _ c.requires.trie.1
 
 pub new-places-requires : goal.new-places-requires
 new-places-requires g c =
     clear-small c.visit-root.result.value_bitmap (omega arith)
     (ap (λ n. has_bit n.value_bitmap 31) c.visit-root.ensures.node
-    ∙ few_at g.K.Key.bit_width c.args.nodes.now _ (tree_of g.K.Key.bit_width c.args.entries.now c.args.nodes.now c.args.cells.now c.requires.trie.0 c.requires.trie.1)
+    ∙ few_at g.K.Key.bit_width c.args.nodes.now _ c.requires.trie.1
     [] (node_at c.args.nodes.now.slots 0) (read-nil c.args.nodes.now.slots))
 
 pub retain_places-requires-clause-site : goal.retain_places-requires-clause-site

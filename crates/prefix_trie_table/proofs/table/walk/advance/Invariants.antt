@@ -1,12 +1,13 @@
 use Rattle.std.proofs.Common.{◌≡◌}
-use Rattle.prefix_trie_table.specs.Walks.{Tree, IsTree, IsStack, pending, sites, total_weight}
+use Rattle.prefix_trie_table.specs.Walks.{Tree, IsStack, pending, sites, total_weight}
+use Rattle.prefix_trie_table.specs.Tables.{IsTrie}
 use Rattle.prefix_trie_table.proofs.table.walk.advance.Given as goal
 
 abbrev pub invariant-loop-spot : goal.invariant-loop-spot
 invariant-loop-spot g l =
     record {
       stack : IsStack g.K.Key.IsKey g.K.Key.bits g.K.Key.bit_width l.nodes (sites l.key l.stack.items);
-      same : (t : Tree g.row.T.Denot) → IsTree g.K.Key.bit_width l.nodes t → pending g.K.Key.bits t.shape.entries (sites l.key l.stack.items) ≡ pending g.K.Key.bits t.shape.entries (sites l.fn.key l.fn.stack.items);
+      same : (t : Tree g.row.T.Denot) → IsTrie g.K.Key.bit_width t.count l.nodes t.cells t.shape → pending g.K.Key.bits t.shape.entries (sites l.key l.stack.items) ≡ pending g.K.Key.bits t.shape.entries (sites l.fn.key l.fn.stack.items);
     }
 
 abbrev pub decreases-loop-spot : goal.decreases-loop-spot

@@ -1,7 +1,6 @@
 use Rattle.std.proofs.Common.{[], ◌∷◌, map, ap, ◌∙◌}
 use Rattle.prefix_trie_table.specs.BlockCounts.{tier_count}
 use Rattle.prefix_trie_table.proofs.BlockCounts.{seven_tiers}
-use Rattle.prefix_trie_table.proofs.Tiled.{blocks_tile}
 use Rattle.prefix_trie_table.proofs.allocator.blocks.Blocks.counts.Goals as goal
 
 pub returns-clause-counts : goal.returns-clause-counts
@@ -10,6 +9,3 @@ returns-clause-counts g c =
     c.count_of.ensures i ∷ c.count_of-2.ensures i ∷ c.count_of-3.ensures i ∷ c.count_of-4.ensures i ∷ c.count_of-5.ensures i ∷ c.count_of-6.ensures i ∷ c.count_of-7.ensures i
     ∷ [])
     ∙ ap (map tier_count) (seven_tiers c.args.self.now.tiers c.requires)
-
-pub returns-clause-tiles : goal.returns-clause-tiles
-returns-clause-tiles g c = λ live s. blocks_tile g.S.Slot.vacant live c.args.self.now s

@@ -1,0 +1,55 @@
+-- What a test of lengths keeps of a map's entries: asking it is keeping by length.
+use Rattle.std.proofs.Common.{◌≡◌, ◌≤◌, ℕ, Bool, true, false, List, length, filter, cond, nat_le, is_some, Option, Some, None, ap, sym, ◌∙◌, refl, subst}
+use Rattle.std.specs.FinMap.{get, find, retain_keys, get-entries, get-retain_keys}
+use Rattle.prefix_trie_bits.specs.Order.{listing_cmp, listing_same}
+use Rattle.prefix_trie_bits.specs.declared.prefix.Refusal.{Refusal}
+use Rattle.prefix_trie_bits.specs.Model.Entries.{Entries, AreWithin, part_at_least}
+use Rattle.prefix_trie_bits.specs.Model.Nodes.{needed}
+use Rattle.prefix_trie_bits.specs.Model.Selections.{listing}
+use Rattle.prefix_trie_bits.specs.Model.Step.{State, RetainAtLeast, Reply, Done, Refused}
+use Rattle.prefix_trie_bits.specs.Model.Storage.{Storage, StepInStorage, RetainsInStorage}
+use Rattle.prefix_trie_bits.proofs.Model.Askings.{keeps_filter}
+use Rattle.prefix_trie_bits.proofs.Model.Members.{get-part_at_least, same_entries}
+use Rattle.prefix_trie_bits.proofs.Model.Ordered.{entries-retained}
+
+none_either : {T : Type 0} (a b : Bool) → ◌≡◌ {A = Option T} (cond a None None) (cond b None None)
+none_either true true = refl
+none_either true false = refl
+none_either false true = refl
+none_either false false = refl
+
+module _ {T : Type 0} where
+  -- two tests that agree at a stored key
+  same_test : (a b : Bool) (o o' : Option T) → o ≡ o' → (is_some o ≡ true → a ≡ b) → cond a o None ≡ cond b o None
+  same_test a b o None e same = subst (λ x. cond a x None ≡ cond b x None) (sym e) (none_either a b)
+  same_test a b o (Some v) e same = ap (λ t. cond t o None) (same (ap is_some e))
+
+  -- entries are those of a least length if their listing is what a test of shown lengths keeps, and these are the keys' own
+  part_from_listing : (width n : ℕ) (shown : List Bool → ℕ) (old new : Entries T) → AreWithin width old → ((s : List Bool) → length s ≤ width → shown s ≡ length s) →
+      listing new ≡ filter (λ e. nat_le n (shown e.0)) (listing old) → new ≡ part_at_least old n
+  part_from_listing width n shown old new within lengths kept =
+      let p : List Bool → Bool = λ s. nat_le n (shown s) in
+      let listed : listing new ≡ listing (retain_keys old p) = kept ∙ sym (entries-retained old p) in
+      same_entries new (retain_keys old p) (λ s. get-entries new s ∙ ap (find listing_cmp s) listed ∙ sym (get-entries (retain_keys old p) s))
+      ∙ same_entries (retain_keys old p) (part_at_least old n)
+      (λ s. get-retain_keys old p s (λ x e. ap p (sym (listing_same s x e))) ∙ same_test (p s) (nat_le n (length s)) (get old s) (get old s) refl (λ has. ap (nat_le n) (lengths s (within s has)))
+      ∙ sym (get-part_at_least old n s))
+
+module _ {P T : Type 0} (path : P → List Bool) (back : List Bool → P) (width : ℕ) where
+  not_refused : (cause : Refusal) → ◌≡◌ {A = Reply P T} Done (Refused cause) → ⊥
+  not_refused cause e = cc
+
+  -- asking a test that answers by the lengths that it is shown is keeping by length, where these are the keys' own
+  pub at_least_step : {F : Type 0} (asks : F → List Bool → T → Bool → F → Type 0) (f : F) (n : ℕ) (shown : List Bool → ℕ) (s t : State T × Storage) →
+      AreWithin width s.0.entries → ((k : List Bool) → length k ≤ width → shown k ≡ length k)
+      → ((e : List Bool × T) (b : Bool) (f' : F) → asks f e.0 e.1 b f' → (b ≡ nat_le n (shown e.0)) × (f' ≡ f))
+      → RetainsInStorage asks f s t → StepInStorage path back width s (RetainAtLeast n) Done t
+  at_least_step asks f n shown s t within lengths answers h =
+      let kept = part_from_listing width n shown s.0.entries t.0.entries within lengths
+      (keeps_filter asks (λ e. nat_le n (shown e.0)) f (listing s.0.entries) (listing t.0.entries) answers h.kept) in
+      record {
+        step = (refl, λ i. record { entries = kept i; nodes = (h.nodes ∙ ap needed kept) i });
+        room = h.room;
+        index_range = λ e. absurd (not_refused _ e);
+        storage = h.storage;
+      }

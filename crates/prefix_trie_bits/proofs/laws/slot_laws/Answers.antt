@@ -1,0 +1,5 @@
+use Rattle.prefix_trie_bits.proofs.Model.Slots.{slot_laws}
+use Rattle.prefix_trie_bits.proofs.laws.slot_laws.Goals as goal
+
+pub returns : goal.returns
+returns g c = slot_laws _ _

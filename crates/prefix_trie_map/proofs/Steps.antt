@@ -1,0 +1,73 @@
+-- Steps by bit strings are steps by prefixes.
+use Rattle.std.proofs.Common.{◌≡◌, ℕ, inl, inr, Bool, List, Option, Result, Ok, Err, refl, ap, ◌∙◌, subst}
+use Rattle.prefix_trie_bits.specs.declared.prefix.Refused.{Refused}
+use Rattle.prefix_trie_bits.specs.Model.Step.{State, Reply, Step, Insert, Remove, RemoveKeepTree, RemoveChildren, Clear, Match, Done, Count, Addresses, Items, Value}
+use Rattle.prefix_trie_bits.specs.Model.Storage.{Storage, StepInStorage, StepOfStrings}
+use Rattle.prefix_trie_table.specs.Shape.{Contents}
+use Rattle.prefix_trie_map.specs.Steps.{inserted}
+
+-- a reply that shows no prefix, as one of a map with other prefixes
+abbrev pub carried : {P Q T : Type 0} → Reply P T → Reply Q T
+carried (Value o) = Value o
+carried (Match o) = Done
+carried Done = Done
+carried (Count n) = Done
+carried (Addresses n) = Done
+carried (Items es) = Done
+carried (Reply.Refused cause) = Reply.Refused cause
+
+module _ {P T : Type 0} (path : P → List Bool) (back : List Bool → P) (width : ℕ) (r : Reply (List Bool) T) (r' : Reply P T)
+    (there : r' ≡ carried r) (here : r ≡ carried r') where
+  to : {x : Reply (List Bool) T} → r ≡ x → r' ≡ carried x
+  to e = there ∙ ap carried e
+
+  from : {x : Reply P T} → r' ≡ x → r ≡ carried x
+  from e = here ∙ ap carried e
+
+  set_step : (s t : State T) (q : P) (v : T) → Step (λ p. p) (λ p. p) width s (Insert (path q) v) r t → Step path back width s (Insert q v) r' t
+  set_step s t q v (inl (e, left)) = inl (to e, left)
+  set_step s t q v (inr (new, cause, e, same)) = inr (new, cause, to e, same)
+
+  pub insert_step : {s t : State T × Storage} (q : P) (v : T) → StepOfStrings s (Insert (path q) v) r t → StepInStorage path back width s (Insert q v) r' t
+  insert_step {s} {t} q v h = let g = h width in record {
+    step = set_step s.0 t.0 q v g.step;
+    room = g.room;
+    index_range = λ e. g.index_range (from e);
+    storage = (g.storage.0, λ old new e. g.storage.1 old new (from e), λ cause e. g.storage.2 cause (from e));
+  }
+
+  pub remove_step : {s t : State T × Storage} (q : P) → StepOfStrings s (Remove (path q)) r t → StepInStorage path back width s (Remove q) r' t
+  remove_step q h = let g = h width in
+      record { step = (to g.step.0, g.step.1); room = g.room; index_range = λ e. g.index_range (from e); storage = g.storage }
+
+  pub keep_tree_step : {s t : State T × Storage} (q : P) → StepOfStrings s (RemoveKeepTree (path q)) r t → StepInStorage path back width s (RemoveKeepTree q) r' t
+  keep_tree_step q h = let g = h width in
+      record { step = (to g.step.0, g.step.1); room = g.room; index_range = λ e. g.index_range (from e); storage = g.storage }
+
+  pub children_step : {s t : State T × Storage} (q : P) → StepOfStrings s (RemoveChildren (path q)) r t → StepInStorage path back width s (RemoveChildren q) r' t
+  children_step q h = let g = h width in
+      record { step = (to g.step.0, g.step.1); room = g.room; index_range = λ e. g.index_range (from e); storage = g.storage }
+
+  pub clear_step : {s t : State T × Storage} → StepOfStrings s Clear r t → StepInStorage path back width s Clear r' t
+  clear_step h = let g = h width in
+      record { step = (to g.step.0, g.step.1); room = g.room; index_range = λ e. g.index_range (from e); storage = g.storage }
+
+module _ {T : Type 0} where
+  -- what an insertion answers shows no prefix
+  pub inserted_is : (P Q : Type 0) (r : Result (Option T) (Refused T)) → ◌≡◌ {A = Reply Q T} (inserted r) (carried {P = P} (inserted r))
+  inserted_is P Q (Ok before) = refl
+  inserted_is P Q (Err refused) = refl
+
+  -- what holds of the table, by the key's bits, holds of the map, by the prefix's path
+  pub by_key : (F : Contents T → List Bool → Type 0) {inside old : Contents T} {key path : List Bool} → inside ≡ old → key ≡ path → F inside key → F old path
+  by_key F {inside} {old} {key} {path} same is fact = subst (λ m. F m path) same (subst (F inside) is fact)
+
+  -- the value in a reply
+  abbrev pub value_in : {P : Type 0} → Reply P T → Option T
+  value_in (Value o) = o
+  value_in (Match o) = Option.None
+  value_in Done = Option.None
+  value_in (Count n) = Option.None
+  value_in (Addresses n) = Option.None
+  value_in (Items es) = Option.None
+  value_in (Reply.Refused cause) = Option.None

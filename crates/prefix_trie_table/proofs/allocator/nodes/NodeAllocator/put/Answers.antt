@@ -1,0 +1,4 @@
+use Rattle.prefix_trie_table.proofs.allocator.nodes.NodeAllocator.put.Goals as goal
+
+pub returns-clause-sound : goal.returns-clause-sound
+returns-clause-sound g c = rw (← c.self.view_is) c.put.ensures.sound

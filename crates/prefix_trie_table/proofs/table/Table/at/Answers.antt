@@ -1,0 +1,28 @@
+use Rattle.std.proofs.Common.{is_some, take, sym, ap, ◌∙◌}
+use Rattle.std.proofs.lemmas.Bool.{false≢true}
+use Rattle.std.specs.FinMap.{get}
+use Rattle.prefix_trie_table.specs.Shape.{Contents}
+use Rattle.prefix_trie_table.proofs.Located.{found_inside, found_value, found_some}
+use Rattle.prefix_trie_table.proofs.table.Table.at.Goals as goal
+
+pub at-requires : goal.at-requires
+at-requires g c =
+    let i = c.self.inside in
+    found_inside i.nodes i.cells i.count i.shape c.self.invariant (take c.args.len (g.K.Key.bits c.args.key)) c.args.seat _
+    (ap (λ (s : Contents g.row.T.Denot). s.build) c.self.view_is) c.requires
+
+pub unreachable-requires : goal.unreachable-requires
+unreachable-requires g c =
+    let i = c.self.inside in
+    let q = take c.args.len (g.K.Key.bits c.args.key) in
+    let same = ap (λ (s : Contents g.row.T.Denot). s.build) c.self.view_is in
+    let read = found_value i.nodes i.cells i.count i.shape c.self.invariant q c.args.seat _ same c.requires c.at.result.now c.at.ensures.slot in
+    false≢true (sym (ap is_some (read ∙ c.in-None.is)) ∙ found_some i.nodes i.cells i.count i.shape c.self.invariant q c.args.seat _ same c.requires)
+
+pub returns : goal.returns
+returns g c =
+    let i = c.self.inside in
+    let q = take c.args.len (g.K.Key.bits c.args.key) in
+    let same = ap (λ (s : Contents g.row.T.Denot). s.build) c.self.view_is in
+    sym (ap (λ (s : Contents g.row.T.Denot). get s.entries q) c.self.view_is)
+    ∙ found_value i.nodes i.cells i.count i.shape c.self.invariant q c.args.seat _ same c.requires c.at.result.now c.at.ensures.slot ∙ c.in-Some.is

@@ -1,0 +1,75 @@
+-- Where the value of a bit string stands, and where the way to a missing one ends, by the nodes as they stand in their array. This
+-- project's own.
+use Rattle.std.specs.Prelude.{◌≡◌, ℕ, ◌+◌, ◌<◌, ◌≤◌, Bool, true, false, cond, List, [], ◌∷◌, Option, None, Some, is_some, length, take}
+use Rattle.std.specs.Coded.{Coded, code_by, coded×, coded_ℕ, coded_bool, coded_option, Coded-set}
+use Rattle.std.specs.FinMap.{contains_key}
+use Rattle.std.proofs.Common.{refl}
+use Rattle.std.proofs.Math.Bridge.{le_prop}
+use mathlib.Core.HLevel.{Π_prop}
+use Rattle.prefix_trie_table.specs.declared.allocator.node.Node.{Node}
+use Rattle.prefix_trie_table.specs.declared.table.seat.Seat.{Seat}
+use Rattle.prefix_trie_table.specs.declared.table.seat.WayEnd.{WayEnd}
+use Rattle.prefix_trie_table.specs.declared.table.seat.Location.{Location}
+use Rattle.prefix_trie_table.specs.declared.table.seat.Location.TheVariants.{Stored, Missing}
+use Rattle.prefix_trie_table.specs.Bitmaps.{has_bit, rank}
+use Rattle.prefix_trie_table.specs.Cells.{node_at}
+use Rattle.prefix_trie_table.specs.Digits.{path_of, bit_of}
+use Rattle.prefix_trie_table.specs.Forest.{child_slot, read, IsEnd}
+use Rattle.prefix_trie_table.specs.Shape.{Contents, coded_node}
+use Rattle.prefix_trie_table.specs.Store.{Store}
+use Rattle.prefix_trie_table.specs.Tables.{IsReached}
+
+-- where the value at bit b of a node stands
+abbrev pub value_seat : Node → ℕ → Seat
+value_seat n b = record { start = n.value_block; place = rank n.value_bitmap b }
+
+-- the same, if there is such a value
+abbrev pub seat_in : Option Node → ℕ → Option Seat
+seat_in None b = None
+seat_in (Some n) b = cond (has_bit n.value_bitmap b) (Some (value_seat n b)) None
+
+-- the seat of the value at a bit string, if it is there
+unfoldable pub seat_of : List Node → List Bool → Option Seat
+seat_of nodes q = seat_in (read nodes (path_of q)) (bit_of q)
+
+-- the slot that the steps lead to from another
+abbrev pub slot_from : List Node → ℕ → List ℕ → ℕ
+slot_from nodes at [] = at
+slot_from nodes at (c ∷ cs) = slot_from nodes (child_slot (node_at nodes at) c) cs
+
+-- the way of a bit string ends so: at this level no next node is there or needed, and its node stands in this slot
+pub record IsWayEnd (nodes : List Node) (q : List Bool) (end : WayEnd) : Type 0 where
+  pub within : end.reached.level ≤ length (path_of q)
+  pub stands : is_some (read nodes (take end.reached.level (path_of q))) ≡ true
+  pub stops : end.reached.level < length (path_of q) → is_some (read nodes (take (end.reached.level + 1) (path_of q))) ≡ false
+  pub slot_is : end.reached.at.start + end.reached.at.place ≡ slot_from nodes 0 (take end.reached.level (path_of q))
+  pub node_is : end.reached.node ≡ node_at nodes (end.reached.at.start + end.reached.at.place)
+
+-- what an array of nodes says of the first len bits of b: the seat of their value, or the end of their way where they have none
+abbrev pub Locates : Store Node → List Bool → ℕ → Location → Type 0
+Locates v b len (Stored seat) = seat_of v.slots (take len b) ≡ Some seat
+Locates v b len (Missing end) =
+    (seat_of v.slots (take len b) ≡ None)
+    × IsReached b len end.reached.level end.reached.node (end.reached.at.start + end.reached.at.place) v
+
+-- what a table says of a bit string: the seat of its value, or the end of its way where it has none
+abbrev pub IsLocation : {T : Type 0} → Contents T → List Bool → Location → Type 0
+IsLocation s q (Stored seat) = (contains_key s.entries q ≡ true) × (seat_of s.build q ≡ Some seat)
+IsLocation s q (Missing end) = (contains_key s.entries q ≡ false) × IsWayEnd s.build q end
+
+coded_seat : Coded Seat
+coded_seat = code_by (ℕ × ℕ) (coded× coded_ℕ coded_ℕ) (λ s. (s.start, s.place)) (λ p. record { start = p.0; place = p.1 }) (λ _. refl)
+
+-- that a seat is that of a bit string has one proof at most
+pub is_seat-prop : (nodes : List Node) (q : List Bool) (seat : Seat) → IsProp (seat_of nodes q ≡ Some seat)
+is_seat-prop nodes q seat = Coded-set (coded_option coded_seat) _ _
+
+-- and so has that a way ends
+pub IsWayEnd-prop : (nodes : List Node) (q : List Bool) (end : WayEnd) → IsProp (IsWayEnd nodes q end)
+IsWayEnd-prop nodes q end = λ x y i. record {
+  within = le_prop x.within y.within i;
+  stands = Coded-set coded_bool _ _ x.stands y.stands i;
+  stops = Π_prop (λ _. Coded-set coded_bool _ _) x.stops y.stops i;
+  slot_is = Coded-set coded_ℕ _ _ x.slot_is y.slot_is i;
+  node_is = Coded-set coded_node _ _ x.node_is y.node_is i;
+}

@@ -1,0 +1,133 @@
+//! Calls that go down once: one says where a value stands or would stand, and the others take that.
+ghost use Rattle.std.specs.Prelude.{◌≡◌, ◌+◌, ◌≤◌, take, false, IfOk, OnOk, IfErr, OnErr, MatchResult, Some};
+ghost use Rattle.std.specs.Borrow.{sem};
+ghost use Rattle.std.specs.FinMap.{get, contains_key};
+ghost use Rattle.prefix_trie_bits.specs.Model.Entries.{with_entry};
+ghost use Rattle.prefix_trie_bits.specs.Model.Nodes.{with_needed};
+ghost use Rattle.prefix_trie_bits.specs.Model.Room.{MayPassLimit};
+ghost use Rattle.prefix_trie_bits.specs.Model.Storage.{ReadiesInStorage, InsertsInStorage, RefusesInStorage};
+ghost use Rattle.prefix_trie_bits.specs.Model.Visits.{visits};
+ghost use Rattle.prefix_trie_bits.specs.declared.prefix.Refusal.TheVariants.{IndexRange};
+ghost use Rattle.prefix_trie_table.specs.Locations.{seat_of, IsWayEnd, IsLocation};
+ghost use Rattle.prefix_trie_table.specs.Shape.{state, storage};
+
+use crate::allocator::nodes::Tick;
+use crate::table::Table;
+use crate::table::insertion::{place_entry, prepare};
+use crate::table::lending::lend;
+use crate::table::lookup::locate_in;
+use crate::table::seat::{Location, Seat, WayEnd};
+use prefix_trie_bits::prefix::{Key, Refusal, Refused};
+use std::alloc::Allocator;
+
+impl<T: Drop, A: Allocator, V: Tick> Table<T, A, V> {
+    ghost use Rattle.prefix_trie_table.specs.TableLending.{lends_entry};
+
+    /// Where the value at a bit string stands, or where its way ends. Each node on the way is read once.
+    #[inline]
+    pub fn locate<K: Key>(&self, key: K, len: u32, counter: &mut V) -> Location
+        requires key { K.IsKey key }
+        requires within { len ≤ K.bit_width }
+        ensures place { IsLocation self.now (take len (K.bits key)) result }
+        ensures visits { V.count counter.new
+            ≡ V.count counter.old + visits self.now.nodes (take len (K.bits key)) }
+    {
+        locate_in(&self.nodes, key, len, counter)
+    }
+
+    /// The value at a bit string, which stands at this seat.
+    #[inline]
+    pub fn at<K: Key>(&self, key: K, len: u32, seat: Seat) -> &T
+        requires { seat_of self.now.build (take len (K.bits key)) ≡ Some seat }
+        ensures { get self.now.entries (take len (K.bits key)) ≡ Some result.now }
+    {
+        match self.cells.at(seat.start, seat.place) {
+            Some(value) => value,
+            None => unreachable!(),
+        }
+    }
+
+    /// The same value, for writing. What is written through it becomes the value there, and nothing else changes: the seat is
+    /// right still.
+    #[inline]
+    pub fn at_mut<K: Key>(&mut self, key: K, len: u32, seat: Seat) -> &mut T
+        requires { seat_of self.old.build (take len (K.bits key)) ≡ Some seat }
+        ensures* writes_back { sem 𝓛 (lends_entry T.row A.row V.row A.Allocator V.Tick self.entry (take len (K.bits key)) result) }
+        ensures value { get self.old.entries (take len (K.bits key)) ≡ Some result.now }
+    {
+        lend(&mut self.cells, seat)
+    }
+
+    /// Obtains all blocks that the insertion of a missing bit string needs, whose way ends here, so that nothing lacks for
+    /// `place`. Entries and nodes stay as they are, also where it is refused, and so does the end of the way.
+    #[inline]
+    pub fn make_room<K: Key>(&mut self, key: K, len: u32, end: WayEnd) -> Result<(), Refusal>
+        requires key { K.IsKey key }
+        requires within { len ≤ K.bit_width }
+        requires absent { contains_key self.old.entries (take len (K.bits key)) ≡ false }
+        requires end { IsWayEnd self.old.build (take len (K.bits key)) end }
+        ensures unchanged { (self.new.entries ≡ self.old.entries) × (self.new.nodes ≡ self.old.nodes) }
+        ensures end { IsWayEnd self.new.build (take len (K.bits key)) end }
+        ensures readies { MatchResult result
+            (λ _. ReadiesInStorage (state self.old) (take len (K.bits key)) (storage self.old) (storage self.new))
+            (λ cause. RefusesInStorage (state self.old) (take len (K.bits key)) cause
+            (storage self.old) (storage self.new)) }
+        ensures range { IfErr result (λ cause. cause ≡ IndexRange → MayPassLimit self.old.room) }
+        ensures room { (self.new.room.limit ≡ self.old.room.limit)
+            × (self.old.room.node_slots ≤ self.new.room.node_slots)
+            × (self.new.room.node_slots ≤ self.old.room.node_slots + 56)
+            × (self.old.room.cell_slots ≤ self.new.room.cell_slots)
+            × (self.new.room.cell_slots ≤ self.old.room.cell_slots + 31) }
+        ensures limit { (self.new.room.node_slots ≤ self.new.room.limit)
+            × (self.new.room.cell_slots ≤ self.new.room.limit) }
+    {
+        prepare(&mut self.nodes, &mut self.cells, &end.reached, len)
+    }
+
+    /// Sets the value at a missing bit string, whose way ends here, and answers where it stands. Else it is as `insert`.
+    #[inline]
+    pub fn place<K: Key>(
+        &mut self,
+        key: K,
+        len: u32,
+        end: WayEnd,
+        value: T,
+    ) -> Result<Seat, Refused<T>>
+        requires key { K.IsKey key }
+        requires within { len ≤ K.bit_width }
+        requires absent { contains_key self.old.entries (take len (K.bits key)) ≡ false }
+        requires end { IsWayEnd self.old.build (take len (K.bits key)) end }
+        ensures seat { IfOk result
+            (λ seat. seat_of self.new.build (take len (K.bits key)) ≡ Some seat) }
+        ensures entries { OnOk result
+            (self.new.entries ≡ with_entry self.old.entries (take len (K.bits key)) value) }
+        ensures nodes { OnOk result
+            (self.new.nodes ≡ with_needed self.old.nodes (take len (K.bits key))) }
+        ensures unchanged { OnErr result
+            ((self.new.entries ≡ self.old.entries) × (self.new.nodes ≡ self.old.nodes)) }
+        ensures returned { IfErr result (λ refused. refused.value ≡ value) }
+        ensures leaves { MatchResult result
+            (λ _. InsertsInStorage (state self.old) (take len (K.bits key)) (storage self.old) (storage self.new))
+            (λ refused. RefusesInStorage (state self.old) (take len (K.bits key)) refused.cause
+            (storage self.old) (storage self.new)) }
+        ensures range { IfErr result
+            (λ refused. refused.cause ≡ IndexRange → MayPassLimit self.old.room) }
+        ensures room { (self.new.room.limit ≡ self.old.room.limit)
+            × (self.old.room.node_slots ≤ self.new.room.node_slots)
+            × (self.new.room.node_slots ≤ self.old.room.node_slots + 56)
+            × (self.old.room.cell_slots ≤ self.new.room.cell_slots)
+            × (self.new.room.cell_slots ≤ self.old.room.cell_slots + 31) }
+        ensures limit { (self.new.room.node_slots ≤ self.new.room.limit)
+            × (self.new.room.cell_slots ≤ self.new.room.limit) }
+    {
+        place_entry(
+            &mut self.nodes,
+            &mut self.cells,
+            &mut self.count,
+            end,
+            key,
+            len,
+            value,
+        )
+    }
+}
