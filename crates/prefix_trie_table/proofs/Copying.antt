@@ -186,7 +186,8 @@ module _ {T : Type 0} (C : T → T → Type 0) (R : Option T → Option T → Ty
     reading = table.reading;
     values = values;
     paths = table.paths;
-    holds = record { hold = table.holds.hold; cells = cells_hold };
+    nodes = is.nodes;
+    cells = cells_hold;
     counted = is.counted;
     sized = is.sized ∙ sym (len_put value_at s.0.entries);
     cells_first = is.cells_first;

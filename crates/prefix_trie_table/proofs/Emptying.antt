@@ -19,6 +19,7 @@ use Rattle.prefix_trie_table.specs.Removals.{Shrinks, LongerByBlock, MayLengthen
 use Rattle.prefix_trie_table.specs.OwnBlocks.{value_block_size}
 use Rattle.prefix_trie_table.specs.Shape.{IsShapeOf, Shaped, same_shape}
 use Rattle.prefix_trie_table.specs.Tables.{IsReached, IsTable, Grows, ForHeld}
+use Rattle.prefix_trie_table.proofs.Invariant.{some_table}
 use Rattle.prefix_trie_table.proofs.Children.{same_or, with_here, with_other}
 use Rattle.prefix_trie_table.proofs.EntryCounts.{count_with_node}
 use Rattle.prefix_trie_table.proofs.Finding.{reached_own}
@@ -152,7 +153,7 @@ module _ {T : Type 0} (key : List Bool) (v v2 : Store Node) (w w2 : Store (Optio
   -- the answer is the value that was there
   pub removed_is : removed ≡ get s.0.entries key
   removed_is =
-      let t = is in
+      let t = some_table is in
       before t.reading t.paths t.values t.holds
       ∙ sym (shape_entries t.reading t.values t.paths v w t.holds s.0 s.1 key)
 
@@ -166,7 +167,8 @@ module _ {T : Type 0} (key : List Bool) (v v2 : Store Node) (w w2 : Store (Optio
         reading = counted.0.reading;
         values = counted.0.values;
         paths = counted.0.paths;
-        holds = counted.0.holds;
+        nodes = counted.0.holds.hold;
+        cells = counted.0.holds.cells;
         counted = counted.1;
         sized = one_less count count2 (len s.0.entries) (is_some removed) is.sized fewer
             ∙ ap (λ b. cond b (len s.0.entries - 1) (len s.0.entries)) (ap is_some removed_is)
@@ -182,7 +184,7 @@ module _ {T : Type 0} (key : List Bool) (v v2 : Store Node) (w w2 : Store (Optio
     -- the shape that is left where the nodes stay
     pub kept_shape : IsShapeOf v2.slots w2.slots (record { entries = without_entry s.0.entries key; nodes = s.0.nodes })
     kept_shape =
-        let t = is in
+        let t = some_table is in
         shape_taken t.reading t.values t.paths v w t.holds key v2 w2 s.0 s.1 (taken t.reading t.paths t.values t.holds)
 
     -- and no other
@@ -193,7 +195,7 @@ module _ {T : Type 0} (key : List Bool) (v v2 : Store Node) (w w2 : Store (Optio
     pub counted_without : count2 + one_if (is_some removed) ≡ count →
         (t : SomeTable v2 w2) × (count2 ≡ entry_count t.reading t.paths)
     counted_without fewer =
-        let t = is in
+        let t = some_table is in
         let a = taken t.reading t.paths t.values t.holds in
         let had : one_if (is_some removed) ≡ one_if (is_some (t.values (path_of key) (bit_of key))) =
         ap (λ o. one_if (is_some o)) (before t.reading t.paths t.values t.holds) in (

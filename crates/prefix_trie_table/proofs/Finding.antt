@@ -116,15 +116,3 @@ module _ {T : Type 0} (b : List Bool) (len level slot : ℕ) (node : Node) (v : 
       is_none-None (values (path_of (take len b)) (bit_of (take len b)))
       (holds.cells.set_where (path_of (take len b)) (bit_of (take len b))
       ∙ ap (λ o. has_value o (bit_of (take len b))) (reached_none b len level slot node v at reading paths holds.hold more))
-
-  -- no value where the node has none
-  pub no_value_at : len < 5 * level + 5 → has_bit node.value_bitmap (bit_of (take len b)) ≡ false → values (path_of (take len b)) (bit_of (take len b)) ≡ None
-  no_value_at less clear =
-      is_none-None (values (path_of (take len b)) (bit_of (take len b)))
-      (holds.cells.set_where (path_of (take len b)) (bit_of (take len b))
-      ∙ ap (λ o. has_value o (bit_of (take len b))) (reached_own b len level slot node v at reading paths holds.hold less) ∙ clear)
-
-  module _ (less : len < 5 * level + 5) (x : ℕ) (small : x < 31) (read : x ≡ value_bit (drop (5 * level) (take len b))) where
-    -- whether the node has a value there
-    pub value_bit_is : has_bit node.value_bitmap (bit_of (take len b)) ≡ has node.value_bitmap x
-    value_bit_is = bit_set b len level slot node v at less x small read

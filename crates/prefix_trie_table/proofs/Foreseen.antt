@@ -21,6 +21,7 @@ use Rattle.prefix_trie_table.specs.Layouts.{Sized, size_if_any, child_block_size
 use Rattle.prefix_trie_table.specs.Shape.{IsShapeOf, Shaped}
 use Rattle.prefix_trie_table.specs.Store.{Store, size_in}
 use Rattle.prefix_trie_table.specs.Store.{blocks_needed as tiers_needed}
+use Rattle.prefix_trie_table.proofs.Invariant.{some_table}
 use Rattle.prefix_trie_table.proofs.Asks.{nodes_here, nodes_below, cells_here, cells_below}
 use Rattle.prefix_trie_table.proofs.Bits.{has_bit-zero}
 use Rattle.prefix_trie_table.proofs.BitLists.{rank-zero-all}
@@ -165,8 +166,8 @@ module _ {T : Type 0} (reading : List ℕ → Option Node) (values : List ℕ �
           ]
 
 -- so many blocks of each tier for nodes and for values does the model say that an insertion of q needs, and obtains
-pub record Foreseen {T E : Type 0} (for_limit for_memory : E → Type 0) (v v2 : Store Node) (w w2 : Store (Option T)) (s : State T) (sized : Sized v.slots)
-    (r : Result (Option T) E) (q : List Bool) : Type 0 where
+pub record Foreseen {T X E : Type 0} (for_limit for_memory : E → Type 0) (v v2 : Store Node) (w w2 : Store (Option T)) (s : State T) (sized : Sized v.slots)
+    (r : Result X E) (q : List Bool) : Type 0 where
   pub nodes : ℕ → ℕ
   pub cells : ℕ → ℕ
   pub nodes_are : AreNeeded child_block_sizes (child_blocks_needed s.nodes (layout_of v.slots v.tiers w.tiers sized) q) nodes
@@ -174,13 +175,13 @@ pub record Foreseen {T E : Type 0} (for_limit for_memory : E → Type 0) (v v2 :
   pub obtains : ObtainsBoth for_limit for_memory r v v2 w w2 nodes cells
 
 -- so does that of a new key
-module _ {T E : Type 0} (for_limit for_memory : E → Type 0) (b : List Bool) (len : ℕ) (v v2 : Store Node) (w w2 : Store (Option T)) (count : ℕ)
-    (s : Shaped v.slots w.slots) (is : IsTable v w count s.0) (sized : Sized v.slots) (r : Result (Option T) E) where
+module _ {T X E : Type 0} (for_limit for_memory : E → Type 0) (b : List Bool) (len : ℕ) (v v2 : Store Node) (w w2 : Store (Option T)) (count : ℕ)
+    (s : Shaped v.slots w.slots) (is : IsTable v w count s.0) (sized : Sized v.slots) (r : Result X E) where
   pub obtained : ForHeld v w (λ reading paths values. own_value values b len ≡ None →
       AtEnd reading b len (λ node level. ObtainsBoth for_limit for_memory r v v2 w w2 (nodes_needed v node level len) (cells_needed w node level len))) →
       contains_key s.0.entries (take len b) ≡ false → Foreseen for_limit for_memory v v2 w w2 s.0 sized r (take len b)
   obtained asked new =
-      let t = is in
+      let t = some_table is in
       let none : own_value t.values b len ≡ None =
       sym (shape_entries t.reading t.values t.paths v w t.holds s.0 s.1 (take len b)) ∙ is_none-None (get s.0.entries (take len b)) new in
       let a = asked t.reading t.paths t.values t.holds none in

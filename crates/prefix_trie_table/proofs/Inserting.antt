@@ -1,5 +1,5 @@
 -- What an insertion asks for and leaves.
-use Rattle.std.proofs.Common.{◌*◌, leb-true, ◌≡◌, ℕ, zero, suc, ◌+◌, ◌<◌, ◌≤◌, inl, inr, Bool, true, false, cond, nat_le, List, [], ◌∷◌, ◌++◌, length, get_or, take, Option, None, Some, is_some, IsSome, sym, ap, ◌∙◌, subst, arith, not}
+use Rattle.std.proofs.Common.{◌*◌, ◌≡◌, ℕ, zero, suc, ◌+◌, ◌<◌, ◌≤◌, inl, inr, Bool, true, false, cond, nat_le, List, [], ◌∷◌, ◌++◌, length, get_or, take, Option, None, Some, is_some, IsSome, sym, ap, ◌∙◌, subst, arith, not}
 use Rattle.std.proofs.lemmas.Bool.{cases_Bool, lt-ltb}
 use Rattle.std.specs.List.{position, prefix_len, position_or_len}
 use Rattle.std.proofs.lemmas.Bool.Decides.{nat_tests}
@@ -11,11 +11,10 @@ use Rattle.prefix_trie_table.specs.Cells.{blank_node, node_at, node_sizes, cell_
 use Rattle.prefix_trie_table.proofs.Soundness.{tier_of_block, first_place}
 use Rattle.prefix_trie_table.proofs.Spending.{tier_for_sizes}
 use Rattle.prefix_trie_table.proofs.BitLists.{rank-more, rank-lacks}
-use Rattle.prefix_trie_table.specs.Digits.{path_of, bit_of}
+use Rattle.prefix_trie_table.specs.Digits.{path_of}
 use Rattle.prefix_trie_table.specs.Tables.{IsReached}
 use Rattle.prefix_trie_table.proofs.Digits.{step-small}
 use Rattle.prefix_trie_table.proofs.Going.{step-inside}
-use Rattle.prefix_trie_table.proofs.Finding.{no_value_below, no_value_at}
 use Rattle.prefix_trie_table.proofs.Trees.{reads, slot_holds, held_some}
 
 -- free blocks that were made change nothing
@@ -122,14 +121,3 @@ module _ (b : List Bool) (len level slot : ℕ) (node : Node) (v : Store Node) (
   few_children more =
       rank-lacks node.child_bitmap 32 (get_or (path_of (take len b)) level 0) (step-small (take len b) level (step-inside b len level at.long more))
       (at.missing more)
-
-  module _ {T : Type 0} (reading : List ℕ → Option Node) (values : List ℕ → ℕ → Option T) (paths : List (List ℕ)) (w : Store (Option T))
-      (holds : Holds reading values paths v w) where
-    -- no value is there where the node reached has none, or is not the string's own
-    pub lacks_value : (len < 5 * level + 5 → has_bit node.value_bitmap (bit_of (take len b)) ≡ false) →
-        values (path_of (take len b)) (bit_of (take len b)) ≡ None
-    lacks_value lacks = elim (cases_Bool (nat_le (5 * level + 5) len)) as (λ _. values (path_of (take len b)) (bit_of (take len b)) ≡ None) [
-      | inl e ↦ no_value_below b len level slot node v at reading values paths w holds (leb-true (5 * level + 5) len e)
-      | inr e ↦ let less : len < 5 * level + 5 = grind (arith, nat_tests) in
-          no_value_at b len level slot node v at reading values paths w holds less (lacks less)
-    ]

@@ -13,7 +13,7 @@ deepest_there deep = record { path = _; node = deep.node; stands = deep.stands; 
 module _ {T : Type 0} {v : Store Node} {w : Store (Option T)} where
   -- the arrays of a table hold nodes and values
   abbrev pub some_table : {count : ℕ} {s : State T} → IsTable v w count s → SomeTable v w
-  some_table t = record { reading = t.reading; values = t.values; paths = t.paths; holds = t.holds }
+  some_table t = record { reading = t.reading; values = t.values; paths = t.paths; holds = record { hold = t.nodes; cells = t.cells } }
 
   -- as many values as it counts
   abbrev pub some_counted : {count : ℕ} {s : State T} → IsTable v w count s → (t : SomeTable v w) × (count ≡ entry_count t.reading t.paths)

@@ -104,7 +104,8 @@ module _ {T : Type 0} (v : Store Node) (w : Store (Option T)) (count : ℕ) (s :
     reading = table.reading;
     values = with_value table.values (path_of q) (bit_of q) (Some x);
     paths = table.paths;
-    holds = written v w table q seat at x;
+    nodes = (written v w table q seat at x).hold;
+    cells = (written v w table q seat at x).cells;
     counted = is.counted;
     sized = is.sized ∙ ap (λ b. cond b (len s.0.entries) (len s.0.entries + 1)) (sym (ap is_some stored_is ∙ value_there v w table q seat at))
         ∙ sym (len-insert listing_total s.0.entries q x);

@@ -50,6 +50,8 @@ pub mod Covers
 pub mod Covered
 pub mod Lending
 pub mod Located
+pub mod Kept
+pub mod Placements
 pub mod SlotSums
 pub mod NodeCounts
 pub mod Settling

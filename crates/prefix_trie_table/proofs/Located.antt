@@ -1,5 +1,5 @@
 -- What contracts see of a place.
-use Rattle.std.proofs.Common.{◌≡◌, ℕ, ◌+◌, ◌<◌, true, false, Bool, List, length, get_or, take, Option, None, Some, is_some, sym, ap, ◌∙◌}
+use Rattle.std.proofs.Common.{◌≡◌, ℕ, ◌+◌, ◌<◌, true, Bool, List, length, get_or, take, Option, None, Some, is_some, sym, ap, ◌∙◌}
 use Rattle.std.proofs.lemmas.List.{get_or_default}
 use Rattle.std.specs.FinMap.{get, contains_key}
 use Rattle.prefix_trie_table.specs.declared.allocator.node.Node.{Node}
@@ -23,7 +23,7 @@ module _ {T : Type 0} (v : Store Node) (w : Store (Option T)) (count : ℕ) (s :
   -- a string is stored if it has a seat
   pub stored_if : (q : List Bool) → contains_key s.0.entries q ≡ is_some (seat_of v.slots q)
   stored_if q =
-      let t = is in
+      let t = some_table is in
       ap is_some (shape_entries t.reading t.values t.paths v w t.holds s.0 s.1 q) ∙ t.holds.cells.set_where (path_of q) (bit_of q)
       ∙ sym (seat_if v t.reading t.paths t.holds.hold q)
 
@@ -31,13 +31,13 @@ module _ {T : Type 0} (v : Store Node) (w : Store (Option T)) (count : ℕ) (s :
   pub located : (z : Sized v.slots) (b : List Bool) (len : ℕ) (found : Location) → Locates v b len found → IsLocation (seen_of v w s.0 z) (take len b) found
   located z b len (Stored seat) found = (stored_if (take len b) ∙ ap is_some found, found)
   located z b len (Missing end) found =
-      let t = is in
+      let t = some_table is in
       (stored_if (take len b) ∙ ap is_some found.0, way_ends v t.reading t.paths t.holds.hold b len end found.1)
 
   -- a seat that was found, by the table as contracts see it
   module _ (q : List Bool) (seat : Seat) (build : List Node) (same : v.slots ≡ build) (found : seat_of build q ≡ Some seat) where
     pub seat_found : IsSeat is.reading (path_of q) (bit_of q) seat
-    seat_found = is_seat v is.reading is.paths is.holds.hold q seat (ap (λ nodes. seat_of nodes q) same ∙ found)
+    seat_found = is_seat v is.reading is.paths is.nodes q seat (ap (λ nodes. seat_of nodes q) same ∙ found)
 
     -- it is a cell
     pub found_inside : seat.start + seat.place < length w.slots

@@ -280,7 +280,8 @@ module _ {K T : Type 0} (IsKey : K → Type 0) (bits : K → List Bool) (width :
             reading = lacking_child (read v2.slots) here m c;
             values = table2.values;
             paths = without (here ++ c ∷ []) table2.paths;
-            holds = held3;
+            nodes = held3.hold;
+            cells = held3.cells;
             counted = counted3;
             sized = to.trie.table.sized;
             cells_first = to.trie.table.cells_first;

@@ -22,6 +22,7 @@ use Rattle.prefix_trie_table.specs.Settling.{NodesSettle}
 use Rattle.prefix_trie_table.specs.Shape.{Contents, state, IsShapeOf, Shaped}
 use Rattle.prefix_trie_table.specs.Tables.{ForHeld, Grows, IsReached, IsTable, IsTrie}
 use Rattle.prefix_trie_table.specs.Retaining.{ValuesBetween, ChildrenBetween, IsSite, Lasts, Retains, RetainsTo}
+use Rattle.prefix_trie_table.proofs.Invariant.{some_table}
 use Rattle.prefix_trie_table.proofs.Between.{between_then, pruned_values_between, pruned_children_between}
 use Rattle.prefix_trie_table.proofs.Children.{same_or}
 use Rattle.prefix_trie_table.proofs.Digits.{path-take}
@@ -75,7 +76,7 @@ module _ {K T : Type 0} (IsKey : K → Type 0) (bits : K → List Bool) (width :
     (count : ℕ) (w : Store (Option T)) (s : State T) (trie : IsTrie width count v w s) where
   read_table : Holds (read v.slots) trie.table.values trie.table.paths v w
   read_table =
-      let t = trie.table in
+      let t = some_table trie.table in
       read_held t.reading t.values t.paths v w t.holds
 
   pub reached_site : IsSite IsKey bits width v (record { slot = at; key = key; depth = len / 5 * 5 }) n
@@ -175,7 +176,7 @@ module _ {T : Type 0} (width : ℕ) (b : List Bool) (len : ℕ) (within : len �
   -- the way is as it was
   way_left : IsWay (read v2.slots) (path_of (take len b)) way (len / 5)
   way_left k low =
-      let t = trie.table in
+      let t = some_table trie.table in
       slot_stays (read v.slots) (read v2.slots) (take k (path_of (take len b))) (slot_in way k)
       (λ p less.
       let l = steps-all b len within in
@@ -185,7 +186,7 @@ module _ {T : Type 0} (width : ℕ) (b : List Bool) (len : ℕ) (within : len �
 
   pub end_left : AtEnd (path_of (take len b)) way n v2
   end_left =
-      let t = emptied.table in
+      let t = some_table emptied.table in
       record {
         reading = read v2.slots;
         paths = t.paths;
@@ -220,7 +221,7 @@ module _ {T : Type 0} (width : ℕ) (b : List Bool) (len : ℕ) (within : len �
       ((reading : List ℕ → Option Node) (paths : List (List ℕ)) → NodesHold node_sizes reading paths v2 → IsWay reading (path_of (take len b)) way (len / 5) →
       reading (path_of (take len b)) ≡ Some n → Pruned reading paths (path_of (take len b)) v2 v3) → Lasts 0 v v3 w w2
   part_lasts v3 room settles prunes =
-      let t = emptied.table in
+      let t = some_table emptied.table in
       let held = (read_held t.reading t.values t.paths v2 w2 t.holds).hold in
       let pruned = prunes (read v2.slots) t.paths held way_left is in
       let later : (x : List ℕ) → read v3.slots x ≡ pruned.to.later x = λ x. reads node_sizes pruned.to.later pruned.to.left v3 pruned.to.hold x in
@@ -246,7 +247,7 @@ pub part_missing : {T : Type 0} (width : ℕ) (b : List Bool) (len : ℕ) → le
     ((reading : List ℕ → Option Node) (paths : List (List ℕ)) → NodesHold node_sizes reading paths v → reading (path_of (take len b)) ≡ None) →
     IsTrie width count v w (record { entries = without_below s.entries (take len b); nodes = nodes_without_below s.nodes s.entries (take len b) })
 part_missing {T} width b len within v w count s trie missing =
-    let t = trie.table in
+    let t = some_table trie.table in
     let none = missing (read v.slots) t.paths (read_held t.reading t.values t.paths v w t.holds).hold in
     let same = no_node_there width count v w s (take len b) trie (ap (read v.slots) (home_way b len within) ∙ none) in
     subst (λ (x : State T). IsTrie width count v w x) (λ i. record { entries = sym same.0 i; nodes = sym same.1 i }) trie

@@ -27,6 +27,7 @@ use Rattle.prefix_trie_table.specs.Forest.{read, has_value, has_child}
 use Rattle.prefix_trie_table.specs.Shape.{same_shape}
 use Rattle.prefix_trie_table.specs.Walks.{IsPlaceOf}
 use Rattle.prefix_trie_table.specs.Cells.{node_sizes, cell_sizes}
+use Rattle.prefix_trie_table.proofs.Invariant.{some_table}
 use Rattle.prefix_trie_table.proofs.Between.{between_then, values_still, children_still}
 use Rattle.prefix_trie_table.specs.Retaining.{is_at, is_at_some, is_under_some, IsSite, Retains, RetainsIn, MayAskAt, Lasts}
 use Rattle.prefix_trie_table.specs.Tables.{IsTrie}
@@ -58,7 +59,7 @@ module _ {K T : Type 0} (IsKey : K → Type 0) (bits : K → List Bool) (width :
   -- a value bit is set where an entry is stored
   pub value_iff : (t : List Bool) → length t ≤ 4 → is_some (get s.entries (take p.depth (bits p.key) ++ t)) ≡ has n.value_bitmap (value_bit t)
   value_iff t short =
-      let h = trie.table in
+      let h = some_table trie.table in
       let where_is = below_node (p.depth / 5) (take p.depth (bits p.key)) t (here_levels IsKey bits width v p n at long) short in
       let small = value_bit-small t short in
       ap is_some (shape_entries h.reading h.values h.paths v w h.holds s trie.shaped (take p.depth (bits p.key) ++ t))
@@ -71,7 +72,7 @@ module _ {K T : Type 0} (IsKey : K → Type 0) (bits : K → List Bool) (width :
   -- a child bit where a node stands
   pub child_iff : (t : List Bool) → length t ≡ 5 → has_node s.nodes (take p.depth (bits p.key) ++ t) ≡ has n.child_bitmap (number t)
   child_iff t five =
-      let h = trie.table in
+      let h = some_table trie.table in
       let small = number-small t five in
       let way : path_of (take p.depth (bits p.key) ++ t) ≡ path_of (take p.depth (bits p.key)) ++ number t ∷ [] =
       ap (λ u. path_of (take p.depth (bits p.key) ++ u)) (sym (digits-number t) ∙ ap (λ k. digits k (number t)) five)

@@ -23,6 +23,7 @@ use Rattle.prefix_trie_table.specs.Forest.{is_start, same_path, one_if, entry_co
 use Rattle.prefix_trie_table.specs.Removals.{EntryTaken, Pruned, EntryRemoved}
 use Rattle.prefix_trie_table.specs.Shape.{IsShapeOf, Shaped, same_shape}
 use Rattle.prefix_trie_table.specs.Tables.{IsTable, ForHeld}
+use Rattle.prefix_trie_table.proofs.Invariant.{some_table}
 use Rattle.prefix_trie_table.proofs.Bare.{some_bit}
 use Rattle.prefix_trie_table.proofs.Bits.{has_bit-below}
 use Rattle.prefix_trie_table.proofs.Digits.{path-length, path-take}
@@ -295,7 +296,7 @@ module _ {T : Type 0} (key : List Bool) (v v2 : Store Node) (w w2 : Store (Optio
   -- the shape that is left
   pub removed_shape : IsShapeOf v2.slots w2.slots (record { entries = without_entry s.0.entries key; nodes = nodes_without s.0.nodes s.0.entries key })
   removed_shape =
-      let t = is in
+      let t = some_table is in
       shape_removed key t.reading t.values t.paths v w t.holds s.0 s.1 v2 w2 (done t.reading t.paths t.values t.holds)
 
   -- and no other
@@ -307,7 +308,7 @@ module _ {T : Type 0} (key : List Bool) (v v2 : Store Node) (w w2 : Store (Optio
   pub counted_removed : count2 + one_if (is_some removed) ≡ count →
       (t : SomeTable v2 w2) × (count2 ≡ entry_count t.reading t.paths)
   counted_removed fewer =
-      let t = is in
+      let t = some_table is in
       let left = left_holds key t.reading t.values t.paths v w t.holds s.0 s.1 v2 w2 (done t.reading t.paths t.values t.holds) in
       let had : one_if (is_some removed) ≡ one_if (is_some (t.values (path_of key) (bit_of key))) =
       ap (λ o. one_if (is_some o)) (before t.reading t.paths t.values t.holds) in

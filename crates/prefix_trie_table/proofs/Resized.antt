@@ -22,6 +22,7 @@ use Rattle.prefix_trie_table.specs.OwnBlocks.{child_block_size, value_block_size
 use Rattle.prefix_trie_table.specs.Shape.{IsShapeOf, Shaped}
 use Rattle.prefix_trie_table.specs.Store.{Store}
 use Rattle.prefix_trie_table.specs.Tables.{IsTable, ForHeld}
+use Rattle.prefix_trie_table.proofs.Invariant.{some_table}
 use Rattle.prefix_trie_table.proofs.Digits.{path-length, path-take}
 use Rattle.prefix_trie_table.proofs.Foreseen.{child_size, value_size, children_are, no_children, values_are, no_values, node_is}
 use Rattle.prefix_trie_table.proofs.Keys.{same_way, begins-way}
@@ -155,7 +156,7 @@ module _ {T E : Type 0} (q : List Bool) (x : T) (v v2 : Store Node) (w w2 : Stor
       MatchResult r (λ _. TakesBlocks (child_block_needed s.0.nodes sized.0 q) sized.0 later.0) (λ _. later.0 ≡ sized.0)
       × MatchResult r (λ _. TakesBlocks (value_block_needed s.0.entries sized.1.0 q) sized.1.0 later.1.0) (λ _. later.1.0 ≡ sized.1.0)
   sizes_left (Ok before) left =
-      let t = is in
+      let t = some_table is in
       let none : t.values (path_of q) (bit_of q) ≡ None =
       sym (shape_entries t.reading t.values t.paths v w t.holds s.0 s.1 q) ∙ is_none-None (get s.0.entries q) new in
       let a = (left t.reading t.paths t.values t.holds).1 in (
@@ -163,5 +164,5 @@ module _ {T E : Type 0} (q : List Bool) (x : T) (v v2 : Store Node) (w w2 : Stor
         values_taken t.reading t.values t.paths v w t.holds s.0 s.1 sized v2 w2 later q (Some x) a none,
       )
   sizes_left (Err e) left =
-      let t = is in
+      let t = some_table is in
       sizes_kept t.reading t.values t.paths v w t.holds s.0 s.1 sized v2 w2 later (left t.reading t.paths t.values t.holds)

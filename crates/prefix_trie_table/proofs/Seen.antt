@@ -19,6 +19,7 @@ use Rattle.prefix_trie_table.specs.Forest.{read, value_in, value_of, NodesHold, 
 use Rattle.prefix_trie_table.specs.Cells.{node_sizes, cell_sizes}
 use Rattle.prefix_trie_table.specs.Removals.{ValueTaken}
 use Rattle.prefix_trie_table.specs.Retaining.{IsSite, RetainsTo, ValuesBetween, ChildrenBetween}
+use Rattle.prefix_trie_table.proofs.Invariant.{some_table}
 use Rattle.prefix_trie_table.proofs.AskedBelow.{may_ask_value, value_stays, value_goes}
 use Rattle.prefix_trie_table.proofs.Bits.{rank-ones}
 use Rattle.prefix_trie_table.proofs.Retained.{here_length, here_whole, key_path, key_bit, bit_set, some_there, site_stays, some_counted, value_above, value_blocks_after, child_blocks_after, value_read_after, trie_taken}
@@ -63,9 +64,9 @@ module _ {K T : Type 0} (IsKey : K → Type 0) (bits : K → List Bool) (width :
   -- and there is one
   pub value_some : is_some (get s.entries (take p.depth (bits p.key) ++ digits n x)) ≡ true
   value_some =
-      ap is_some (shape_entries trie.table.reading trie.table.values trie.table.paths v w trie.table.holds s trie.shaped (take p.depth (bits p.key) ++ digits n x))
+      ap is_some (shape_entries trie.table.reading trie.table.values trie.table.paths v w (some_table trie.table).holds s trie.shaped (take p.depth (bits p.key) ++ digits n x))
       ∙ some_there IsKey bits width v p node at long count w s trie (digits n x) short set_there
-      trie.table.reading trie.table.paths trie.table.values trie.table.holds
+      trie.table.reading trie.table.paths trie.table.values (some_table trie.table).holds
 
   pub value_room : p.depth + n ≤ width
   value_room =

@@ -17,6 +17,7 @@ use Rattle.prefix_trie_table.specs.Forest.{without, node_or_blank, lacking_child
 use Rattle.prefix_trie_table.specs.Shape.{IsShapeOf}
 use Rattle.prefix_trie_table.specs.Tables.{IsTable}
 use Rattle.prefix_trie_table.specs.Settling.{smaller_sizes, headroom, headroom_if_any, child_headroom, value_headroom, node_reach, cell_reach, Settles, NodesSettle}
+use Rattle.prefix_trie_table.proofs.Invariant.{some_table}
 use Rattle.prefix_trie_table.proofs.BitLists.{rank-zero-all}
 use Rattle.prefix_trie_table.proofs.Trees.{listed_once}
 use Rattle.prefix_trie_table.proofs.PathSums.{sum_lacking}
@@ -214,7 +215,7 @@ some_nodes n s there = elim (cases_lt 0 (len n)) as (λ _. 0 < len n) [
 pub settled_room : {T : Type 0} (v v2 : Store Node) (w w2 : Store (Option T)) (count : ℕ) (s : State T) → IsTable v w count s → IsShapeOf v.slots w.slots s →
     Settles v v2 w w2 → (length v2.slots ≤ length v.slots + 56 * len s.nodes) × (length w2.slots ≤ length w.slots + 56 * len s.nodes)
 settled_room v v2 w w2 count s is shaped settles =
-    let t = is in
+    let t = some_table is in
     let children = headroom_bound child_headroom no_children (λ n. if_any-most (child_block_size (Some n))) t.reading t.paths v t.holds.hold in
     let values = headroom_bound value_headroom no_own_values (λ n. if_any-most (value_block_size (Some n))) t.reading t.paths v t.holds.hold in
     let number = paths_counted _ t.reading t.paths v t.holds.hold s.nodes (shape_nodes t.reading t.values t.paths v w t.holds s shaped) in

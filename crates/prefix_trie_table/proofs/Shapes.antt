@@ -17,6 +17,7 @@ use Rattle.prefix_trie_table.specs.Store.{Store, Sound, no_blocks, tier_sizes}
 use Rattle.prefix_trie_table.specs.Forest.{read, value_in, value_of, same_path, one_if, is_start, Holds, EntryAdded, value_blocks_of, held, size_in, has_child, has_value, with_value, entry_count, SomeTable}
 use Rattle.prefix_trie_table.specs.Shape.{IsShapeOf, Shaped, same_shape}
 use Rattle.prefix_trie_table.specs.Tables.{IsTable, Grows}
+use Rattle.prefix_trie_table.proofs.Invariant.{some_table}
 use Rattle.prefix_trie_table.proofs.Bits.{has_bit-zero}
 use Rattle.prefix_trie_table.proofs.BitLists.{rank-zero-all}
 use Rattle.prefix_trie_table.proofs.Paths.{same_path-itself, same_path-not, same_path-true, snoc_not_nil}
@@ -211,7 +212,8 @@ module _ {T : Type 0} (v : Store Node) (w : Store (Option T)) (limit : ℕ)
     reading = root_reading;
     values = no_values;
     paths = [] ∷ [];
-    holds = new_holds;
+    nodes = new_holds.hold;
+    cells = new_holds.cells;
     counted = sym root_counted;
     sized = sym (ap (λ (x : State T). len x.entries) (new_only s) ∙ len-empty _ T);
     cells_first = ap (λ (x : Store (Option T)). x.first) w_is;
@@ -229,7 +231,7 @@ one_more c n l false e f = omega (arith, e, f)
 module _ {T : Type 0} (key : List Bool) (x : T) (v v2 : Store Node) (w w2 : Store (Option T)) (count count2 : ℕ) (s : Shaped v.slots w.slots)
     (is : IsTable v w count s.0) where
   held_by : Holds is.reading is.values is.paths v w
-  held_by = is.holds
+  held_by = (some_table is).holds
 
   entry_is : get s.0.entries key ≡ is.values (path_of key) (bit_of key)
   entry_is = shape_entries is.reading is.values is.paths v w held_by s.0 s.1 key
@@ -293,7 +295,8 @@ module _ {T : Type 0} (key : List Bool) (x : T) (v v2 : Store Node) (w w2 : Stor
       reading = held.0.reading;
       values = held.0.values;
       paths = held.0.paths;
-      holds = held.0.holds;
+      nodes = held.0.holds.hold;
+      cells = held.0.holds.cells;
       counted = held.1;
       sized = sized_left r left counts ∙ ap (λ (y : State T). len y.entries) (sym (left_only r left t));
       cells_first = cells.first_is ∙ is.cells_first;

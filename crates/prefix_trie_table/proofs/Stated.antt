@@ -52,7 +52,7 @@ module _ {T : Type 0} (v v2 : Store Node) (w w2 : Store (Option T)) (count count
   -- the root is a node
   some_node : 0 < len s.0.nodes
   some_node =
-      let t = is in
+      let t = some_table is in
       some_nodes s.0.nodes [] (shape_nodes t.reading t.values t.paths v w t.holds s.0 s.1 [] ∙ ap is_some t.holds.hold.rooted)
 
   cells_within : length w2.slots ≤ v2.limit
@@ -74,6 +74,9 @@ module _ {T : Type 0} (v v2 : Store Node) (w w2 : Store (Option T)) (count count
       let n = nodes.at_most in
       let c = cells.at_most in
       few_slots nodes.limit_is (omega (arith, n)) (omega (arith, c))
+
+  pub longer_room : Grows v v2 56 → Grows w w2 31 → LeavesRoom (len s.0.nodes) (storage_of v w z).room (storage_of v2 w2 z2).room
+  longer_room nodes cells = (let c = cells.at_most in few_slots nodes.limit_is nodes.at_most (omega (arith, c)))
 
   value_given : (x : Option T) → ◌≡◌ {A = Reply (List Bool) T} (Value x) (Reply.Refused IndexRange) → ⊥
   value_given x e = cc
@@ -237,7 +240,7 @@ module _ {T : Type 0} (v v2 : Store Node) (w w2 : Store (Option T)) (count count
     pub inserts_step : (r : Result (Option T) (Refused T)) → Inserts r → Grows v v2 56 → Grows w w2 31 → StepOfStrings before (Insert q x) (inserted r) after
     inserts_step r h nodes cells width = record {
       step = model_step width r h;
-      room = (let c = cells.at_most in few_slots nodes.limit_is nodes.at_most (omega (arith, c)));
+      room = longer_room nodes cells;
       index_range = range_given r h;
       storage = leaves_storage r h;
     }

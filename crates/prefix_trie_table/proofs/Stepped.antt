@@ -165,7 +165,7 @@ module _ {T : Type 0} (key : List Bool) (v v2 : Store Node) (w w2 : Store (Optio
   values_left : Left is.reading (path_of key) v w v2 w2 →
       SizesStepDown value_block_sizes (free_counts w.tiers) s.0.nodes (own_entries s.0.entries) (own_entries s2.0.entries) z.1.0 z2.1.0
   values_left l =
-      let t = is in
+      let t = some_table is in
       sizes_step_down value_block_size own_count cell_sizes (free_counts w.tiers) t.reading l.later l.values l.gone refl v.slots v2.slots
       (reads node_sizes t.reading t.paths v t.holds.hold) (reads node_sizes l.later l.paths v2 l.holds.hold) s.0.nodes
       (shape_nodes t.reading t.values t.paths v w t.holds s.0 s.1) (own_entries s.0.entries) (own_entries s2.0.entries)
@@ -174,7 +174,7 @@ module _ {T : Type 0} (key : List Bool) (v v2 : Store Node) (w w2 : Store (Optio
   children_left : Left is.reading (path_of key) v w v2 w2 →
       SizesStepDown child_block_sizes (free_counts v.tiers) s.0.nodes (child_count s.0.nodes) (child_count s2.0.nodes) z.0 z2.0
   children_left l =
-      let t = is in
+      let t = some_table is in
       sizes_step_down child_block_size own_children node_sizes (free_counts v.tiers) t.reading l.later l.children l.gone refl v.slots v2.slots
       (reads node_sizes t.reading t.paths v t.holds.hold) (reads node_sizes l.later l.paths v2 l.holds.hold) s.0.nodes
       (shape_nodes t.reading t.values t.paths v w t.holds s.0 s.1) (child_count s.0.nodes) (child_count s2.0.nodes)
@@ -183,7 +183,7 @@ module _ {T : Type 0} (key : List Bool) (v v2 : Store Node) (w w2 : Store (Optio
   cells_grow : Left is.reading (path_of key) v w v2 w2 →
       GrowsByOne value_block_sizes w w2 (get z.1.0 (home key)) (get z2.1.0 (home key))
   cells_grow l =
-      let t = is in
+      let t = some_table is in
       let depth : is_node_depth (home key) ≡ true = eq-eqb (length (home key) % 5) 0 (home-depth key) in
       let was : get z.1.0 (home key) ≡ value_block_size (t.reading (path_of key)) =
       size_read value_block_size v.slots t.reading z.1.0 z.1.1.1 (reads node_sizes t.reading t.paths v t.holds.hold) (home key) depth
@@ -197,7 +197,7 @@ module _ {T : Type 0} (key : List Bool) (v v2 : Store Node) (w w2 : Store (Optio
   nodes_grow : Left is.reading (path_of key) v w v2 w2 →
       (p : List Bool) × GrowsAtMost child_block_sizes v v2 (get z.0 p) (get z2.0 p)
   nodes_grow l =
-      let t = is in
+      let t = some_table is in
       let p : List Bool = take (5 * l.stop) key in
       let inside : 5 * l.stop ≤ length key = fifths (length key) l.stop (length (path_of key)) l.stop_within (path-length key) in
       let depth : is_node_depth (take (5 * l.stop) key) ≡ true =
@@ -246,14 +246,14 @@ module _ {T : Type 0} (key : List Bool) (v v2 : Store Node) (w w2 : Store (Optio
   module _ (taken : ForHeld v w (λ reading paths values. EntryTaken reading paths values (path_of key) (bit_of key) v2 w w2))
       (long : length v2.slots ≡ length v.slots) (tiers : v2.tiers ≡ v.tiers) where
     abbrev took : EntryTaken is.reading is.paths is.values (path_of key) (bit_of key) v2 w w2
-    took = taken is.reading is.paths is.values is.holds
+    took = taken is.reading is.paths is.values (some_table is).holds
 
     pub kept_in : SomeTable v2 w2 → RemovesValueInStorage s.0 s2.0 key (storage_of v w z) (storage_of v2 w2 z2)
-    kept_in later = (let t = is in removes_in later (left_taken t.reading t.values t.paths v w t.holds key v2 w2 took long tiers))
+    kept_in later = (let t = some_table is in removes_in later (left_taken t.reading t.values t.paths v w t.holds key v2 w2 took long tiers))
 
     pub kept_children : z2.0 ≡ z.0
     kept_children =
-        let t = is in
+        let t = some_table is in
         same_entries z2.0 z.0 (λ p.
         z2.1.1.0 p
         ∙ ap (λ o. cond (is_node_depth p) o None)
@@ -266,7 +266,7 @@ module _ {T : Type 0} (key : List Bool) (v v2 : Store Node) (w w2 : Store (Optio
   module _ (done : ForHeld v w (λ reading paths values. EntryRemoved reading paths values (path_of key) (bit_of key) v w v2 w2)) where
     removed_left : Left is.reading (path_of key) v w v2 w2
     removed_left =
-        let t = is in
+        let t = some_table is in
         left_removed t.reading t.values t.paths v w t.holds key v2 w2 s.0 s.1 (done t.reading t.paths t.values t.holds)
 
     pub removed_in : SomeTable v2 w2 → RemovesValueInStorage s.0 s2.0 key (storage_of v w z) (storage_of v2 w2 z2)

@@ -119,12 +119,12 @@ module _ {T : Type 0} (width : ℕ) (v : Store Node) (t : Tree T) (tree : IsTrie
   -- the root has a slot
   pub root_inside : 0 < length v.slots
   root_inside =
-      let h = tree.table.holds.hold in
+      let h = tree.table.nodes in
       (slot_holds node_sizes tree.table.reading tree.table.paths v h [] 0 (node_at v.slots 0) at_root h.rooted).1
 
   module _ (q : List Bool) (n : Node) (whole : length q % 5 ≡ 0) (stands : read v.slots (path_of q) ≡ Some n) where
     node_is : tree.table.reading (path_of q) ≡ Some n
-    node_is = sym (reads_node tree.table.reading tree.table.values tree.table.paths v t.cells tree.table.holds (path_of q)) ∙ stands
+    node_is = sym (reads_node tree.table.reading tree.table.values tree.table.paths v t.cells (some_table tree.table).holds (path_of q)) ∙ stands
 
     -- ---- a place of less than five bits
 
@@ -134,14 +134,14 @@ module _ {T : Type 0} (width : ℕ) (v : Store Node) (t : Tree T) (tree : IsTrie
 
       value_is : get t.shape.entries (q ++ s) ≡ tree.table.values (path_of q) (value_bit s)
       value_is =
-          shape_entries tree.table.reading tree.table.values tree.table.paths v t.cells tree.table.holds t.shape tree.shaped (q ++ s)
+          shape_entries tree.table.reading tree.table.values tree.table.paths v t.cells (some_table tree.table).holds t.shape tree.shaped (q ++ s)
           ∙ ap₂ tree.table.values
           (path-append q s whole ∙ ap (λ p. path_of q ++ p) (short-path s short).0 ∙ append-nil (path_of q))
           (ap value_bit (rest-append q s whole ∙ (short-path s short).1))
 
       has_value_is : is_some (tree.table.values (path_of q) (value_bit s)) ≡ has n.value_bitmap (value_bit s)
       has_value_is =
-          tree.table.holds.cells.set_where (path_of q) (value_bit s) ∙ ap (λ o. has_value o (value_bit s)) node_is
+          tree.table.cells.set_where (path_of q) (value_bit s) ∙ ap (λ o. has_value o (value_bit s)) node_is
           ∙ has_bit-is n.value_bitmap (value_bit s) bit_small
 
       -- where it is not set nothing is stored
@@ -156,7 +156,7 @@ module _ {T : Type 0} (width : ℕ) (v : Store Node) (t : Tree T) (tree : IsTrie
         cell_there : (get_or t.cells.slots (n.value_block + rank n.value_bitmap (value_bit s)) None ≡ tree.table.values (path_of q) (value_bit s))
             × (n.value_block + rank n.value_bitmap (value_bit s) < length t.cells.slots)
         cell_there =
-            let h = value_stands cell_sizes node_sizes tree.table.reading tree.table.paths v tree.table.holds.hold tree.table.values t.cells tree.table.holds.cells (path_of q) n (value_bit s) node_is (has_bit-is n.value_bitmap (value_bit s) bit_small ∙ set) in
+            let h = value_stands cell_sizes node_sizes tree.table.reading tree.table.paths v tree.table.nodes tree.table.values t.cells tree.table.cells (path_of q) n (value_bit s) node_is (has_bit-is n.value_bitmap (value_bit s) bit_small ∙ set) in
             (h.1, h.2)
 
         -- the value that is stored
@@ -208,7 +208,7 @@ module _ {T : Type 0} (width : ℕ) (v : Store Node) (t : Tree T) (tree : IsTrie
         child_is = child_read ∙ child-there v.slots n (number s) child_set
 
         pub child_inside : child_slot n (number s) < length v.slots
-        child_inside = (child_stands node_sizes tree.table.reading tree.table.paths v tree.table.holds.hold (path_of q) n (number s) node_is child_set).2
+        child_inside = (child_stands node_sizes tree.table.reading tree.table.paths v tree.table.nodes (path_of q) n (number s) node_is child_set).2
 
         -- which has no value bit 31
         pub child_few : has_bit (node_at v.slots (child_slot n (number s))).value_bitmap 31 ≡ false

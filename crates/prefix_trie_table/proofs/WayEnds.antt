@@ -1,12 +1,12 @@
 -- Where nodes stand by their paths, and the end of a way.
-use Rattle.std.proofs.Common.{◌≡◌, ℕ, ◌+◌, ◌*◌, ◌/◌, ◌<◌, ◌≤◌, Bool, true, false, List, [], ◌∷◌, ◌++◌, length, get_or, take, Option, None, Some, is_some, refl, sym, ap, ◌∙◌, subst, arith}
+use Rattle.std.proofs.Common.{◌≡◌, ℕ, ◌+◌, ◌*◌, ◌/◌, ◌≤◌, Bool, true, List, [], ◌∷◌, ◌++◌, length, get_or, take, Option, Some, is_some, refl, sym, ap, ◌∙◌, subst, arith}
 use Rattle.prefix_trie_table.specs.declared.allocator.node.Node.{Node}
 use Rattle.prefix_trie_table.specs.declared.table.seat.Seat.{Seat}
 use Rattle.prefix_trie_table.specs.declared.table.seat.WayEnd.{WayEnd}
-use Rattle.prefix_trie_table.specs.Bitmaps.{has_bit, rank}
+use Rattle.prefix_trie_table.specs.Bitmaps.{rank}
 use Rattle.prefix_trie_table.specs.Cells.{node_at, node_sizes}
-use Rattle.prefix_trie_table.specs.Digits.{path_of, bit_of}
-use Rattle.prefix_trie_table.specs.Forest.{child_slot, read, IsSlot, at_root, at_child, NodesHold, Holds, Deepest, EntryAdded, ValueSet, has_child, node_or_blank}
+use Rattle.prefix_trie_table.specs.Digits.{path_of}
+use Rattle.prefix_trie_table.specs.Forest.{child_slot, IsSlot, at_root, at_child, NodesHold, Holds, Deepest, EntryAdded, has_child, node_or_blank}
 use Rattle.prefix_trie_table.specs.Locations.{slot_from, IsWayEnd}
 use Rattle.prefix_trie_table.specs.Slots.{IsSeat, with_slot}
 use Rattle.prefix_trie_table.specs.Store.{Store}

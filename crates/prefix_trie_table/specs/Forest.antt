@@ -87,10 +87,15 @@ pub data IsSlot (nodes : List ℕ → Option Node) : List ℕ → ℕ → Type 0
 
 -- the array holds these nodes, whose paths are listed, and nothing else
 pub record NodesHold (sizes : List ℕ) (nodes : List ℕ → Option Node) (paths : List (List ℕ)) (v : Store Node) : Type 0 where
+  -- the root stands in slot 0
   pub rooted : nodes [] ≡ Some (node_at v.slots 0)
+  -- below a node stand exactly the children that its bitmap names
   pub linked : (p : List ℕ) (c : ℕ) → is_some (nodes (p ++ c ∷ [])) ≡ has_child (nodes p) c
+  -- each path at which a node stands is listed once, and no other is
   pub listed : (q : List ℕ) → times q paths ≡ one_if (is_some (nodes q))
+  -- the blocks in use are those of the parents, each with exactly its children
   pub sound : Sound blank_node (flat_map (child_blocks sizes nodes) paths) v
+  -- they stand behind the root's slot, and have these sizes
   pub first_is : v.first ≡ 1
   pub sizes_are : tier_sizes v.tiers ≡ sizes
 
@@ -107,10 +112,12 @@ module _ {T : Type 0} where
   -- the array holds the values of these nodes, and nothing else
   pub record CellsHold (sizes : List ℕ) (nodes : List ℕ → Option Node) (values : List ℕ → ℕ → Option T) (paths : List (List ℕ))
       (w : Store (Option T)) : Type 0 where
+    -- a node has exactly the values that its bitmap names, at the 31 bits of strings
     pub set_where : (p : List ℕ) (b : ℕ) → is_some (values p b) ≡ has_value (nodes p) b
+    pub within : (p : List ℕ) (b : ℕ) → is_some (values p b) ≡ true → b < 31
+    -- the blocks in use are those of the holders, each with exactly its values, and have these sizes
     pub sound : Sound None (flat_map (value_blocks sizes nodes values) paths) w
     pub sizes_are : tier_sizes w.tiers ≡ sizes
-    pub within : (p : List ℕ) (b : ℕ) → is_some (values p b) ≡ true → b < 31
 
 -- the nodes where p has become m, with a blank child c more
 abbrev pub with_child : (List ℕ → Option Node) → List ℕ → Node → ℕ → List ℕ → Option Node

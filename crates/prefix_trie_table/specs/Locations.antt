@@ -14,7 +14,7 @@ use Rattle.prefix_trie_table.specs.declared.table.seat.Location.TheVariants.{Sto
 use Rattle.prefix_trie_table.specs.Bitmaps.{has_bit, rank}
 use Rattle.prefix_trie_table.specs.Cells.{node_at}
 use Rattle.prefix_trie_table.specs.Digits.{path_of, bit_of}
-use Rattle.prefix_trie_table.specs.Forest.{child_slot, read, IsEnd}
+use Rattle.prefix_trie_table.specs.Forest.{child_slot, read}
 use Rattle.prefix_trie_table.specs.Shape.{Contents, coded_node}
 use Rattle.prefix_trie_table.specs.Store.{Store}
 use Rattle.prefix_trie_table.specs.Tables.{IsReached}

@@ -1,5 +1,5 @@
 -- A table as a state of the model beside how it is stored, and what its changing calls answer and leave. This project's own.
-use Rattle.std.specs.Prelude.{◌+◌, ◌≤◌, Option, Result, Ok, Err}
+use Rattle.std.specs.Prelude.{◌+◌, ◌≤◌, Option, None, Result, Ok, Err}
 use Rattle.prefix_trie_bits.specs.declared.prefix.Refused.{Refused}
 use Rattle.prefix_trie_bits.specs.Model.Step.{State, Reply}
 use Rattle.prefix_trie_bits.specs.Model.Storage.{Storage}
@@ -15,6 +15,11 @@ module _ {T : Type 0} where
   abbrev pub inserted : {P : Type 0} → Result (Option T) (Refused T) → Reply P T
   inserted (Ok before) = Reply.Value before
   inserted (Err refused) = Reply.Refused refused.cause
+
+  -- what the insertion of a missing key answers that says more than its value
+  abbrev pub placed : {P X : Type 0} → Result X (Refused T) → Reply P T
+  placed (Ok x) = Reply.Value None
+  placed (Err refused) = Reply.Refused refused.cause
 
 -- neither array may become longer than it could before, as more items are taken out
 pub record SettlesInStorage (before after : Storage) : Type 0 where

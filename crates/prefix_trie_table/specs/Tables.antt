@@ -6,31 +6,33 @@ use Rattle.prefix_trie_bits.specs.Model.Nodes.{AreNodes}
 use Rattle.prefix_trie_bits.specs.Model.Step.{State}
 use Rattle.prefix_trie_table.specs.declared.allocator.node.Node.{Node}
 use Rattle.prefix_trie_table.specs.Bitmaps.{has_bit, rank}
-use Rattle.prefix_trie_table.specs.Cells.{node_at, node_sizes}
+use Rattle.prefix_trie_table.specs.Cells.{node_at, node_sizes, cell_sizes}
 use Rattle.prefix_trie_table.specs.Digits.{path_of, bit_of}
 use Rattle.prefix_trie_table.specs.Store.{Store, IsReady, Enough, KeepsMade}
-use Rattle.prefix_trie_table.specs.Forest.{NodesHold, Holds, Deepest, EntryAdded, entry_count}
+use Rattle.prefix_trie_table.specs.Forest.{NodesHold, CellsHold, Holds, Deepest, EntryAdded, entry_count}
 use Rattle.prefix_trie_table.specs.Shape.{IsShapeOf}
 
--- THE INVARIANT of every table, and its storage promise. Each array is cut into blocks: those in use and the free ones tile it, each
--- parent's block holds exactly its children in order, each holder's exactly its values, and every other slot is vacant (`Holds`,
--- by `NodesHold`, `CellsHold` and `Sound`). That each free list has room for all blocks of its size is the invariant of `FreeList`
+-- THE INVARIANT of every table, which is its storage promise: nodes and values stand in blocks, with exactly one owner each. That each
+-- free list has room for all blocks of its size, so that no block that is given back asks for memory, is the invariant of `FreeList`
 pub record IsTable {T : Type 0} (v : Store Node) (w : Store (Option T)) (count : ℕ) (shape : State T) : Type 0 where
   -- the nodes by path, the values by path and bit, and the paths at which nodes stand
   pub reading : List ℕ → Option Node
   pub values : List ℕ → ℕ → Option T
   pub paths : List (List ℕ)
-  -- the arrays hold these, and nothing else
-  pub holds : Holds reading values paths v w
-  -- as many entries are counted as nodes have values, and as contracts see
-  pub counted : count ≡ entry_count reading paths
-  pub sized : count ≡ len shape.entries
-  -- no value stands outside the blocks
+  -- the blocks of nodes in use are one for each parent, which holds exactly its children in order. They and the free ones tile the
+  -- array behind the root's slot, and every other slot is vacant
+  pub nodes : NodesHold node_sizes reading paths v
+  -- the same of values: one block for each holder, which holds exactly its values in order
+  pub cells : CellsHold cell_sizes reading values paths w
+  -- and no slot stands before them
   pub cells_first : w.first ≡ 0
   -- both arrays have one limit, which neither passes
   pub one_limit : w.limit ≡ v.limit
   pub nodes_within : length v.slots ≤ v.limit
   pub cells_within : length w.slots ≤ w.limit
+  -- the number of entries is that of values, and of the entries that contracts see
+  pub counted : count ≡ entry_count reading paths
+  pub sized : count ≡ len shape.entries
 
 -- the same of arrays with just these entries and nodes, none longer than the width
 pub record IsTrie {T : Type 0} (width count : ℕ) (v : Store Node) (w : Store (Option T)) (shape : State T) : Type 0 where

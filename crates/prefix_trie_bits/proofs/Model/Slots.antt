@@ -155,10 +155,15 @@ module _ (there : ℕ → Bool) where
     | inl last ↦ inl (λ i h. closed i (suc k) h (omega arith) last)
     | inr missing ↦ elim (split_at k (λ i j h in_k. closed i j h (omega (arith, in_k))) root) [
       | inl all ↦ inr (k, omega arith, all, λ i more h. subst (λ j. there j ≡ false) (let e : suc k ≡ i = omega (arith, more, h) in e) missing)
-      | inr some ↦ inr (some.0, (let less = some.1 in omega (arith, less)), some.2, λ i more h. elim (cases_eq i (suc k)) as (λ _. there i ≡ false) [
+      | inr some ↦ inr (
+        some.0,
+        (let less = some.1 in omega (arith, less)),
+        some.2,
+        λ i more h. elim (cases_eq i (suc k)) as (λ _. there i ≡ false) [
           | inl e ↦ subst (λ j. there j ≡ false) (sym e) missing
           | inr other ↦ some.3 i more (let less : i ≤ k = grind (arith, h, other) in less)
-        ])
+        ],
+      )
     ]
   ]
 
@@ -213,7 +218,7 @@ module _ {T : Type 0} (width : ℕ) (s : State T) (layout : Layout) (are : AreNo
             let o = block_needed child_block_sizes (get layout.child_blocks (at_level some.0)) (child_count s.nodes (at_level some.0)) in
             let bound = total_most 32 o (length q / 5 - (some.0 + 1)) (needed_most 32 (lit≤ tt) (get layout.child_blocks (at_level some.0)) (child_count s.nodes (at_level some.0))) in
             most _ (blocks_needed s.nodes layout.child_blocks q (length q / 5) refl some.0 some.1 some.2 some.3 (λ i more inside.
-              (have.child_blocks.elsewhere (at_level i) (some.3 i more inside), no_children i inside (some.3 i more inside))))
+            (have.child_blocks.elsewhere (at_level i) (some.3 i more inside), no_children i inside (some.3 i more inside))))
             (let few = few_levels (length q) some.0 short in omega (arith, bound, few))
       ]
 
@@ -222,10 +227,10 @@ module _ {T : Type 0} (width : ℕ) (s : State T) (layout : Layout) (are : AreNo
       let o = value_block_needed s.entries layout.value_blocks q (home q) in
       let all = slots_most value_block_sizes layout.free_value_blocks refl (option_to_list o ++ []) in
       let bound : total (option_to_list o ++ []) ≤ 31 + 0 = total_most 31 o 0 (λ x e. elim (same_string (home q) (home q)) as
-          (λ b. cond b (block_needed value_block_sizes (get layout.value_blocks (home q)) (own_entries s.entries (home q))) None ≡ Some x → x ≤ 31) [
-            | true ↦ needed_most 31 (lit≤ tt) (get layout.value_blocks (home q)) (own_entries s.entries (home q)) x
-            | false ↦ λ none. absurd (let h : ◌≡◌ {A = Option ℕ} None (Some x) = none in cc)
-          ] e) in
+      (λ b. cond b (block_needed value_block_sizes (get layout.value_blocks (home q)) (own_entries s.entries (home q))) None ≡ Some x → x ≤ 31) [
+        | true ↦ needed_most 31 (lit≤ tt) (get layout.value_blocks (home q)) (own_entries s.entries (home q)) x
+        | false ↦ λ none. absurd (let h : ◌≡◌ {A = Option ℕ} None (Some x) = none in cc)
+      ] e) in
       let same : cell_slots_lacking s.entries layout q ≡ lacking_slots value_block_sizes layout.free_value_blocks (option_to_list o ++ []) =
       ap (lacking_slots value_block_sizes layout.free_value_blocks) (sym (append-nil (option_to_list o))) in
       omega (arith, all, bound, same)

@@ -1,15 +1,15 @@
 //! Calls that go down once: one says where a value stands or would stand, and the others take that.
-ghost use Rattle.std.specs.Prelude.{◌≡◌, ◌+◌, ◌≤◌, take, false, IfOk, OnOk, IfErr, OnErr, MatchResult, Some};
+ghost use Rattle.std.specs.Prelude.{◌≡◌, ◌+◌, ◌≤◌, take, false, IfOk, IfErr, MatchResult, Some};
 ghost use Rattle.std.specs.Borrow.{sem};
-ghost use Rattle.std.specs.FinMap.{get, contains_key};
-ghost use Rattle.prefix_trie_bits.specs.Model.Entries.{with_entry};
-ghost use Rattle.prefix_trie_bits.specs.Model.Nodes.{with_needed};
-ghost use Rattle.prefix_trie_bits.specs.Model.Room.{MayPassLimit};
-ghost use Rattle.prefix_trie_bits.specs.Model.Storage.{ReadiesInStorage, InsertsInStorage, RefusesInStorage};
+ghost use Rattle.std.specs.FinMap.{get, contains_key, len as number_of};
+ghost use Rattle.prefix_trie_bits.specs.Model.Room.{MayPassLimit, LeavesRoom};
+ghost use Rattle.prefix_trie_bits.specs.Model.Step.{Insert};
+ghost use Rattle.prefix_trie_bits.specs.Model.Storage.{ReadiesInStorage, RefusesInStorage, StepOfStrings};
 ghost use Rattle.prefix_trie_bits.specs.Model.Visits.{visits};
 ghost use Rattle.prefix_trie_bits.specs.declared.prefix.Refusal.TheVariants.{IndexRange};
 ghost use Rattle.prefix_trie_table.specs.Locations.{seat_of, IsWayEnd, IsLocation};
 ghost use Rattle.prefix_trie_table.specs.Shape.{state, storage};
+ghost use Rattle.prefix_trie_table.specs.Steps.{stored, placed};
 
 use crate::allocator::nodes::Tick;
 use crate::table::Table;
@@ -73,13 +73,7 @@ impl<T: Drop, A: Allocator, V: Tick> Table<T, A, V> {
             (λ cause. RefusesInStorage (state self.old) (take len (K.bits key)) cause
             (storage self.old) (storage self.new)) }
         ensures range { IfErr result (λ cause. cause ≡ IndexRange → MayPassLimit self.old.room) }
-        ensures room { (self.new.room.limit ≡ self.old.room.limit)
-            × (self.old.room.node_slots ≤ self.new.room.node_slots)
-            × (self.new.room.node_slots ≤ self.old.room.node_slots + 56)
-            × (self.old.room.cell_slots ≤ self.new.room.cell_slots)
-            × (self.new.room.cell_slots ≤ self.old.room.cell_slots + 31) }
-        ensures limit { (self.new.room.node_slots ≤ self.new.room.limit)
-            × (self.new.room.cell_slots ≤ self.new.room.limit) }
+        ensures room { LeavesRoom (number_of self.old.nodes) self.old.room self.new.room }
     {
         prepare(&mut self.nodes, &mut self.cells, &end.reached, len)
     }
@@ -99,26 +93,9 @@ impl<T: Drop, A: Allocator, V: Tick> Table<T, A, V> {
         requires end { IsWayEnd self.old.build (take len (K.bits key)) end }
         ensures seat { IfOk result
             (λ seat. seat_of self.new.build (take len (K.bits key)) ≡ Some seat) }
-        ensures entries { OnOk result
-            (self.new.entries ≡ with_entry self.old.entries (take len (K.bits key)) value) }
-        ensures nodes { OnOk result
-            (self.new.nodes ≡ with_needed self.old.nodes (take len (K.bits key))) }
-        ensures unchanged { OnErr result
-            ((self.new.entries ≡ self.old.entries) × (self.new.nodes ≡ self.old.nodes)) }
         ensures returned { IfErr result (λ refused. refused.value ≡ value) }
-        ensures leaves { MatchResult result
-            (λ _. InsertsInStorage (state self.old) (take len (K.bits key)) (storage self.old) (storage self.new))
-            (λ refused. RefusesInStorage (state self.old) (take len (K.bits key)) refused.cause
-            (storage self.old) (storage self.new)) }
-        ensures range { IfErr result
-            (λ refused. refused.cause ≡ IndexRange → MayPassLimit self.old.room) }
-        ensures room { (self.new.room.limit ≡ self.old.room.limit)
-            × (self.old.room.node_slots ≤ self.new.room.node_slots)
-            × (self.new.room.node_slots ≤ self.old.room.node_slots + 56)
-            × (self.old.room.cell_slots ≤ self.new.room.cell_slots)
-            × (self.new.room.cell_slots ≤ self.old.room.cell_slots + 31) }
-        ensures limit { (self.new.room.node_slots ≤ self.new.room.limit)
-            × (self.new.room.cell_slots ≤ self.new.room.limit) }
+        ensures step { StepOfStrings (stored self.old) (Insert (take len (K.bits key)) value) (placed result)
+            (stored self.new) }
     {
         place_entry(
             &mut self.nodes,

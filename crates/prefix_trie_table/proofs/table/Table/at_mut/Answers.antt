@@ -36,8 +36,11 @@ returns g c =
     let q = take c.args.len (g.K.Key.bits c.args.key) in
     let same = ap (λ (s : Contents g.row.T.Denot). s.build) c.self.view_is in
     let at = seat_found i.nodes i.cells i.count i.shape c.self.invariant q c.args.seat _ same c.requires in (
-      (refl, λ x. written_seen i.nodes i.cells i.count i.shape c.self.invariant q i.sizes (Some c.args.seat) at c.args.seat x refl (c.self-1.given x).0 (c.self-1.given x).1.0
-          ∙ ap (λ (s : Contents g.row.T.Denot). with_value_at s q x) c.self.view_is),
+      (
+        refl,
+        λ x. written_seen i.nodes i.cells i.count i.shape c.self.invariant q i.sizes (Some c.args.seat) at c.args.seat x refl (c.self-1.given x).0 (c.self-1.given x).1.0
+            ∙ ap (λ (s : Contents g.row.T.Denot). with_value_at s q x) c.self.view_is,
+      ),
       record {
         writes_back = tt;
         value = sym (ap (λ (s : Contents g.row.T.Denot). get s.entries q) c.self.view_is) ∙ stored_is i.nodes i.cells i.count i.shape c.self.invariant q

@@ -3,6 +3,7 @@ use Rattle.prefix_trie_bits.specs.Model.Blocks.{value_block_sizes, own_entries, 
 use Rattle.prefix_trie_bits.specs.Model.Nodes.{holders}
 use Rattle.prefix_trie_table.specs.BlockCounts.{block_counts, slots_counted, used_blocks}
 use Rattle.prefix_trie_table.specs.Shape.{Contents}
+use Rattle.prefix_trie_table.proofs.Invariant.{some_table}
 use Rattle.prefix_trie_table.proofs.BlockCounts.{seven_cells, cell_counts, slots_are, free_within}
 use Rattle.prefix_trie_table.proofs.BlockUsers.{holders_used}
 use Rattle.prefix_trie_table.proofs.Housed.{value_blocks_housed}
@@ -11,19 +12,19 @@ use Rattle.prefix_trie_table.proofs.table.Table.cell_blocks.Goals as goal
 
 pub counts-requires : goal.counts-requires
 counts-requires g c =
-    let t = c.self.invariant in
+    let t = some_table c.self.invariant in
     seven_cells t.reading t.paths c.self.inside.nodes t.holds.hold t.values c.self.inside.cells t.holds.cells
 
 pub returns-clause-counts : goal.returns-clause-counts
 returns-clause-counts g c =
-    let t = c.self.invariant in
+    let t = some_table c.self.invariant in
     c.counts.ensures.counts
     ∙ cell_counts t.reading t.paths c.self.inside.nodes t.holds.hold t.values c.self.inside.cells t.holds.cells c.self.inside.sizes
     ∙ ap (λ (s : Contents g.row.T.Denot). block_counts value_block_sizes s.layout.value_blocks s.layout.free_value_blocks) c.self.view_is
 
 pub returns-clause-slots : goal.returns-clause-slots
 returns-clause-slots g c =
-    let t = c.self.invariant in
+    let t = some_table c.self.invariant in
     let w = c.self.inside.cells in
     sym (ap (λ (s : Contents g.row.T.Denot). s.room.cell_slots) c.self.view_is)
     ∙ c.counts.ensures.made
@@ -32,7 +33,7 @@ returns-clause-slots g c =
 
 pub returns-clause-used : goal.returns-clause-used
 returns-clause-used g c =
-    let t = c.self.invariant in
+    let t = some_table c.self.invariant in
     let v = c.self.inside.nodes in
     let w = c.self.inside.cells in
     let shape = c.self.inside.shape in
@@ -43,7 +44,7 @@ returns-clause-used g c =
 
 pub returns-clause-blocks : goal.returns-clause-blocks
 returns-clause-blocks g c =
-    let t = c.self.invariant in
+    let t = some_table c.self.invariant in
     let shape = c.self.inside.shape in
     subst (λ (s : Contents g.row.T.Denot). NodesHaveBlocks value_block_sizes s.nodes (own_entries s.entries) s.layout.value_blocks) c.self.view_is
     (value_blocks_housed t.reading t.values t.paths c.self.inside.nodes c.self.inside.cells t.holds shape.0 shape.1 c.self.inside.sizes)

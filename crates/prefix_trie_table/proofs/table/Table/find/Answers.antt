@@ -1,13 +1,14 @@
 use Rattle.std.proofs.Common.{◌+◌, take, ap, sym, ◌∙◌}
 use Rattle.std.specs.FinMap.{get}
 use Rattle.prefix_trie_bits.specs.Model.Visits.{visits}
+use Rattle.prefix_trie_table.proofs.Invariant.{some_table}
 use Rattle.prefix_trie_table.proofs.Counted.{visits_counted}
 use Rattle.prefix_trie_table.proofs.Shapes.{shape_nodes, shape_entries}
 use Rattle.prefix_trie_table.proofs.table.Table.find.Goals as goal
 
 pub returns-clause-value : goal.returns-clause-value
 returns-clause-value g c =
-    let t = c.self.invariant in
+    let t = some_table c.self.invariant in
     let q = take c.args.len (g.K.Key.bits c.args.key) in
     c.find_value.ensures.value t.reading t.paths t.values t.holds
     ∙ sym (shape_entries t.reading t.values t.paths c.self.inside.nodes c.self.inside.cells t.holds c.self.inside.shape.0 c.self.inside.shape.1 q)
@@ -15,7 +16,7 @@ returns-clause-value g c =
 
 pub returns-clause-visits : goal.returns-clause-visits
 returns-clause-visits g c =
-    let t = c.self.invariant in
+    let t = some_table c.self.invariant in
     let q = take c.args.len (g.K.Key.bits c.args.key) in
     let met = c.find_value.ensures.visits t.reading t.paths t.holds.hold in
     met.2

@@ -1,4 +1,5 @@
 use Rattle.std.proofs.Common.{◌+◌, take, sym, ap, ◌∙◌}
+use Rattle.prefix_trie_table.proofs.Invariant.{some_table}
 use Rattle.prefix_trie_table.proofs.Counted.{visits_counted}
 use Rattle.prefix_trie_table.proofs.Shapes.{shape_nodes}
 use Rattle.prefix_trie_table.proofs.Lending.{seat_of, can_lend, left_shape, table_left, table_kept, value_lent, lender_left, stored_written}
@@ -7,13 +8,13 @@ use Rattle.prefix_trie_table.proofs.table.Table.find_mut.Goals as goal
 pub lend_if-requires : goal.lend_if-requires
 lend_if-requires g c =
     let i = c.self.inside in
-    let t = c.self.invariant in
+    let t = some_table c.self.invariant in
     can_lend i.nodes i.cells i.count i.shape c.self.invariant (take c.args.len (g.K.Key.bits c.args.key)) c.find_seat-seat.result (seat_of i.nodes i.cells i.count i.shape c.self.invariant (take c.args.len (g.K.Key.bits c.args.key)) c.find_seat-seat.result (c.find_seat-seat.ensures.seat t.reading t.paths t.holds.hold))
 
 pub invariant_of-self-inside-lent : goal.invariant_of-self-inside-lent
 invariant_of-self-inside-lent g c =
     let i = c.self.inside in
-    let t = c.self.invariant in
+    let t = some_table c.self.invariant in
     λ _. (
       λ x. (left_shape i.nodes i.cells i.count i.shape c.self.invariant (take c.args.len (g.K.Key.bits c.args.key)) c.find_seat-seat.result (seat_of i.nodes i.cells i.count i.shape c.self.invariant (take c.args.len (g.K.Key.bits c.args.key)) c.find_seat-seat.result (c.find_seat-seat.ensures.seat t.reading t.paths t.holds.hold)) x, (i.sizes, tt)),
       (i.shape, (i.sizes, tt)),
@@ -22,7 +23,7 @@ invariant_of-self-inside-lent g c =
 pub invariant_of-self-lent : goal.invariant_of-self-lent
 invariant_of-self-lent g c =
     let i = c.self.inside in
-    let t = c.self.invariant in
+    let t = some_table c.self.invariant in
     λ r. (
       λ x. table_left i.nodes i.cells i.count i.shape c.self.invariant (take c.args.len (g.K.Key.bits c.args.key)) c.find_seat-seat.result (seat_of i.nodes i.cells i.count i.shape c.self.invariant (take c.args.len (g.K.Key.bits c.args.key)) c.find_seat-seat.result (c.find_seat-seat.ensures.seat t.reading t.paths t.holds.hold)) x ((c.self-1.given r).0 x).0,
       table_kept i.nodes i.cells i.count i.shape c.self.invariant (take c.args.len (g.K.Key.bits c.args.key)) (c.self-1.given r).1.0,
@@ -31,7 +32,7 @@ invariant_of-self-lent g c =
 pub returns : goal.returns
 returns g c =
     let i = c.self.inside in
-    let t = c.self.invariant in
+    let t = some_table c.self.invariant in
     let q = take c.args.len (g.K.Key.bits c.args.key) in
     let at = c.find_seat-seat.ensures.seat t.reading t.paths t.holds.hold in
     let met = c.find_seat-seat.ensures.visits t.reading t.paths t.holds.hold in

@@ -2,6 +2,7 @@ use Rattle.std.proofs.Common.{◌≡◌, is_some, take, sym, ap, ◌∙◌, subs
 use Rattle.prefix_trie_bits.specs.Model.Step.{Insert}
 use Rattle.prefix_trie_bits.specs.Model.Storage.{StepOfStrings}
 use Rattle.prefix_trie_bits.specs.declared.prefix.Refusal.TheVariants.{Memory, IndexRange}
+use Rattle.prefix_trie_bits.specs.declared.prefix.Refused.{Refused}
 use Rattle.prefix_trie_table.specs.Shape.{Contents}
 use Rattle.prefix_trie_table.specs.Steps.{stored, inserted}
 use Rattle.prefix_trie_table.proofs.Invariant.{some_table, some_counted}
@@ -51,14 +52,14 @@ returns-clause-step g c =
     let e = c.insert_entry.ensures in
     let is = c.self.invariant in
     let left = invariant_of-self g c in
-    let t = is in
+    let t = some_table is in
     let r = c.insert_entry.result in
     subst (λ (m : Contents g.row.T.Denot). StepOfStrings (stored m) (Insert q c.args.value) (inserted r) (s2.0, storage_of v2 w2 z2)) c.self.view_is
     (inserts_step v v2 w w2 _ _ s is z s2 left z2 q c.args.value r (record {
       leaves = e.inserted;
       stays = λ there. e.stored t.reading t.paths t.values t.holds
           (ap (λ o. is_some o) (sym (shape_entries t.reading t.values t.paths v w t.holds s.0 s.1 q)) ∙ there);
-      takes = λ new. inserted_in v v2 w w2 _ _ _ _ is left z z2 q r
+      takes = λ new. inserted_in v v2 w w2 _ _ _ _ is left z z2 q (λ (e : Refused g.row.T.Denot). e.cause) r
           (obtained (λ refused. refused.cause ≡ IndexRange) (λ refused. refused.cause ≡ Memory) (g.K.Key.bits c.args.key) c.args.len v v2
           w w2 c.self.inside.count s is z r e.asked new)
           (sizes_left q c.args.value v v2 w w2 c.self.inside.count s is z z2 new r e.inserted);

@@ -1,6 +1,7 @@
 use Rattle.std.proofs.Common.{◌≤◌, ◌<◌, ◌^◌, subst, arith}
 use Rattle.prefix_trie_bits.specs.Model.Storage.{HaveBlocks}
 use Rattle.prefix_trie_table.specs.Shape.{Contents, state}
+use Rattle.prefix_trie_table.proofs.Invariant.{some_table}
 use Rattle.prefix_trie_table.proofs.Housed.{child_blocks_housed, value_blocks_housed}
 use Rattle.prefix_trie_table.proofs.table.Table.len.Goals as goal
 
@@ -12,7 +13,7 @@ returns-clause-limit g c =
 
 pub returns-clause-blocks : goal.returns-clause-blocks
 returns-clause-blocks g c =
-    let t = c.self.invariant in
+    let t = some_table c.self.invariant in
     let shape = c.self.inside.shape in
     subst (λ (m : Contents g.row.T.Denot). HaveBlocks (state m) m.layout) c.self.view_is (record {
       child_blocks = child_blocks_housed t.reading t.values t.paths c.self.inside.nodes c.self.inside.cells t.holds shape.0 shape.1 c.self.inside.sizes;

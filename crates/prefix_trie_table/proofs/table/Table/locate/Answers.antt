@@ -3,6 +3,7 @@ use Rattle.prefix_trie_bits.specs.Model.Visits.{visits}
 use Rattle.prefix_trie_table.specs.Locations.{IsLocation}
 use Rattle.prefix_trie_table.specs.Shape.{Contents}
 use Rattle.prefix_trie_table.proofs.Counted.{visits_counted}
+use Rattle.prefix_trie_table.proofs.Invariant.{some_table}
 use Rattle.prefix_trie_table.proofs.Located.{located}
 use Rattle.prefix_trie_table.proofs.Shapes.{shape_nodes}
 use Rattle.prefix_trie_table.proofs.table.Table.locate.Goals as goal
@@ -16,7 +17,7 @@ returns-clause-place g c =
 
 pub returns-clause-visits : goal.returns-clause-visits
 returns-clause-visits g c =
-    let t = c.self.invariant in
+    let t = some_table c.self.invariant in
     let q = take c.args.len (g.K.Key.bits c.args.key) in
     let met = c.locate_in.ensures.visits t.reading t.paths t.holds.hold in
     met.2

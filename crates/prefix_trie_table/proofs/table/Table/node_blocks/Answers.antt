@@ -3,6 +3,7 @@ use Rattle.prefix_trie_bits.specs.Model.Blocks.{child_block_sizes, child_count, 
 use Rattle.prefix_trie_bits.specs.Model.Nodes.{parents}
 use Rattle.prefix_trie_table.specs.BlockCounts.{block_counts, slots_counted, used_blocks}
 use Rattle.prefix_trie_table.specs.Shape.{Contents}
+use Rattle.prefix_trie_table.proofs.Invariant.{some_table}
 use Rattle.prefix_trie_table.proofs.BlockCounts.{node_counts, slots_are, free_within}
 use Rattle.prefix_trie_table.proofs.BlockUsers.{parents_used}
 use Rattle.prefix_trie_table.proofs.Housed.{child_blocks_housed}
@@ -11,14 +12,14 @@ use Rattle.prefix_trie_table.proofs.table.Table.node_blocks.Goals as goal
 
 pub returns-clause-counts : goal.returns-clause-counts
 returns-clause-counts g c =
-    let t = c.self.invariant in
+    let t = some_table c.self.invariant in
     c.counts.ensures.counts
     ∙ node_counts t.reading t.paths c.self.inside.nodes t.holds.hold c.self.inside.sizes
     ∙ ap (λ (s : Contents g.row.T.Denot). block_counts child_block_sizes s.layout.child_blocks s.layout.free_child_blocks) c.self.view_is
 
 pub returns-clause-slots : goal.returns-clause-slots
 returns-clause-slots g c =
-    let t = c.self.invariant in
+    let t = some_table c.self.invariant in
     let v = c.self.inside.nodes in
     sym (ap (λ (s : Contents g.row.T.Denot). s.room.node_slots) c.self.view_is)
     ∙ c.counts.ensures.made
@@ -26,7 +27,7 @@ returns-clause-slots g c =
 
 pub returns-clause-used : goal.returns-clause-used
 returns-clause-used g c =
-    let t = c.self.invariant in
+    let t = some_table c.self.invariant in
     let v = c.self.inside.nodes in
     let shape = c.self.inside.shape in
     ap used_blocks c.counts.ensures.counts
@@ -36,7 +37,7 @@ returns-clause-used g c =
 
 pub returns-clause-blocks : goal.returns-clause-blocks
 returns-clause-blocks g c =
-    let t = c.self.invariant in
+    let t = some_table c.self.invariant in
     let shape = c.self.inside.shape in
     subst (λ (s : Contents g.row.T.Denot). NodesHaveBlocks child_block_sizes s.nodes (child_count s.nodes) s.layout.child_blocks) c.self.view_is
     (child_blocks_housed t.reading t.values t.paths c.self.inside.nodes c.self.inside.cells t.holds shape.0 shape.1 c.self.inside.sizes)

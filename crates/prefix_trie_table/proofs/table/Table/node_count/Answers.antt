@@ -1,12 +1,13 @@
 use Rattle.std.proofs.Common.{ap, sym, ◌∙◌}
 use Rattle.std.specs.FinMap.{len}
+use Rattle.prefix_trie_table.proofs.Invariant.{some_table}
 use Rattle.prefix_trie_table.proofs.PathStrings.{paths_counted}
 use Rattle.prefix_trie_table.proofs.Shapes.{shape_nodes}
 use Rattle.prefix_trie_table.proofs.table.Table.node_count.Goals as goal
 
 pub returns-clause-nodes : goal.returns-clause-nodes
 returns-clause-nodes g c =
-    let t = c.self.invariant in
+    let t = some_table c.self.invariant in
     let v = c.self.inside.nodes in
     let shape = c.self.inside.shape in
     c.nodes_in.ensures.nodes t.reading t.paths t.holds.hold

@@ -15,7 +15,7 @@ use Rattle.prefix_trie_table.proofs.table.Table.remove_children.Goals as goal
 
 pub returns-then-len-eq0-clause-step : goal.returns-then-len-eq0-clause-step
 returns-then-len-eq0-clause-step g c =
-    all_step g.K.Key.bit_width (stored c.args.self.now) (stored c.clear.new.self) (take c.args.len (g.K.Key.bits c.args.key)) 
+    all_step g.K.Key.bit_width (stored c.args.self.now) (stored c.clear.new.self) (take c.args.len (g.K.Key.bits c.args.key))
     (length-take-le c.args.len (g.K.Key.bits c.args.key) (omega (arith, g.met.K.Key.key_laws.bits_length c.args.key c.requires.key, c.requires.long)) ∙ c.if-len-eq0.true)
     c.requires.nodes c.clear.ensures.step
 

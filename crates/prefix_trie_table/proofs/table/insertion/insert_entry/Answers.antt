@@ -1,9 +1,9 @@
-use Rattle.std.proofs.Common.{◌≡◌, ◌+◌, ℕ, List, Option, None, is_some, true, take, sym, ap, ◌∙◌}
+use Rattle.std.proofs.Common.{◌+◌, None, is_some, take, sym, ap, ◌∙◌}
 use Rattle.std.proofs.lemmas.Bool.{false≢true}
 use Rattle.std.proofs.lemmas.List.{get_or_default}
 use Rattle.std.proofs.lemmas.Result.{err_from_is_err_and}
 use Rattle.prefix_trie_table.specs.Digits.{path_of, bit_of}
-use Rattle.prefix_trie_table.specs.Forest.{SomeTable, Holds, one_if}
+use Rattle.prefix_trie_table.specs.Forest.{SomeTable, one_if}
 use Rattle.prefix_trie_table.proofs.Lending.{cell_there, value_there}
 use Rattle.prefix_trie_table.proofs.Asks.{at_end}
 use Rattle.prefix_trie_table.proofs.Locating.{is_seat, missing_value}

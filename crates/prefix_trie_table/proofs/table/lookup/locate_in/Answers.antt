@@ -1,4 +1,4 @@
-use Rattle.std.proofs.Common.{◌≡◌, ◌+◌, refl, sym, ◌∙◌, arith}
+use Rattle.std.proofs.Common.{sym, ◌∙◌, arith}
 use Rattle.prefix_trie_table.proofs.Finding.{reached_end}
 use Rattle.prefix_trie_table.proofs.Locating.{located_below, located_none, located_here}
 use Rattle.prefix_trie_table.proofs.table.lookup.locate_in.Goals as goal

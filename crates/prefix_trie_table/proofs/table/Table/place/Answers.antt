@@ -1,0 +1,76 @@
+use Rattle.std.proofs.Common.{◌≡◌, ◌≤◌, MatchResult, OnOk, OnErr, length, take, ap, ◌∙◌, subst, arith}
+use Rattle.std.specs.FinMap.{contains_key}
+use Rattle.prefix_trie_bits.specs.Model.Step.{Insert}
+use Rattle.prefix_trie_bits.specs.Model.Storage.{StepOfStrings}
+use Rattle.prefix_trie_table.specs.Shape.{Contents}
+use Rattle.prefix_trie_table.specs.Steps.{stored, placed}
+use Rattle.prefix_trie_table.proofs.Invariant.{some_table, some_counted}
+use Rattle.prefix_trie_table.proofs.Kept.{absent_seat, end_reached}
+use Rattle.prefix_trie_table.proofs.Placements.{inserting, placed_leaves, placed_counts, placed_step}
+use Rattle.prefix_trie_table.proofs.Shapes.{left_shape, table_left}
+use Rattle.prefix_trie_table.proofs.Sizing.{table_sizes, storage_of}
+use Rattle.prefix_trie_table.proofs.table.Table.place.Goals as goal
+
+pub place_entry-requires-clause-table : goal.place_entry-requires-clause-table
+place_entry-requires-clause-table g c = some_counted c.self.invariant
+
+pub place_entry-requires-clause-reached : goal.place_entry-requires-clause-reached
+place_entry-requires-clause-reached g c =
+    let i = c.self.inside in
+    let b = g.K.Key.bits c.args.key in
+    let long : c.args.len ≤ length b = omega (arith, g.met.K.Key.key_laws.bits_length c.args.key c.requires.key, c.requires.within) in
+    end_reached i.nodes i.cells i.count i.shape c.self.invariant b c.args.len long c.args.end _
+    (ap (λ (s : Contents g.row.T.Denot). s.build) c.self.view_is) c.requires.end
+
+pub place_entry-requires-clause-missing : goal.place_entry-requires-clause-missing
+place_entry-requires-clause-missing g c =
+    let i = c.self.inside in
+    let b = g.K.Key.bits c.args.key in
+    let long : c.args.len ≤ length b = omega (arith, g.met.K.Key.key_laws.bits_length c.args.key c.requires.key, c.requires.within) in
+    absent_seat i.nodes i.cells i.count i.shape c.self.invariant b c.args.len long c.args.end _ (ap (λ (s : Contents g.row.T.Denot). s.build) c.self.view_is)
+    (ap (λ (s : Contents g.row.T.Denot). contains_key s.entries (take c.args.len b)) c.self.view_is ∙ c.requires.absent)
+
+pub invariant_of-self-inside : goal.invariant_of-self-inside
+invariant_of-self-inside g c =
+    let i = c.self.inside in
+    let p = c.place_entry in
+    let q = take c.args.len (g.K.Key.bits c.args.key) in
+    let absent = ap (λ (s : Contents g.row.T.Denot). contains_key s.entries q) c.self.view_is ∙ c.requires.absent in
+    let leaves = placed_leaves q c.args.value i.nodes p.new.nodes i.cells p.new.cells i.count p.new.entries i.shape c.self.invariant absent p.result p.ensures.placed in
+    let counts = placed_counts q c.args.value i.nodes p.new.nodes i.cells p.new.cells i.count p.new.entries i.shape c.self.invariant p.result p.ensures.counted in
+    let shape = left_shape q c.args.value i.nodes p.new.nodes i.cells p.new.cells i.count p.new.entries i.shape c.self.invariant (inserting p.result) leaves in (
+      shape,
+      (
+        table_sizes _ _ (some_table (table_left q c.args.value i.nodes p.new.nodes i.cells p.new.cells i.count p.new.entries i.shape c.self.invariant
+            (inserting p.result) leaves counts p.ensures.node_room p.ensures.cell_room shape)),
+        tt,
+      ),
+    )
+
+pub invariant_of-self : goal.invariant_of-self
+invariant_of-self g c =
+    let i = c.self.inside in
+    let p = c.place_entry in
+    let q = take c.args.len (g.K.Key.bits c.args.key) in
+    let absent = ap (λ (s : Contents g.row.T.Denot). contains_key s.entries q) c.self.view_is ∙ c.requires.absent in
+    table_left q c.args.value i.nodes p.new.nodes i.cells p.new.cells i.count p.new.entries i.shape c.self.invariant (inserting p.result)
+    (placed_leaves q c.args.value i.nodes p.new.nodes i.cells p.new.cells i.count p.new.entries i.shape c.self.invariant absent p.result p.ensures.placed)
+    (placed_counts q c.args.value i.nodes p.new.nodes i.cells p.new.cells i.count p.new.entries i.shape c.self.invariant p.result p.ensures.counted)
+    p.ensures.node_room p.ensures.cell_room c.self-1.given.0
+
+pub returns-clause-step : goal.returns-clause-step
+returns-clause-step g c =
+    let i = c.self.inside in
+    let p = c.place_entry in
+    let b = g.K.Key.bits c.args.key in
+    let q = take c.args.len b in
+    let long : c.args.len ≤ length b = omega (arith, g.met.K.Key.key_laws.bits_length c.args.key c.requires.key, c.requires.within) in
+    let at = end_reached i.nodes i.cells i.count i.shape c.self.invariant b c.args.len long c.args.end _
+    (ap (λ (s : Contents g.row.T.Denot). s.build) c.self.view_is) c.requires.end in
+    let absent = ap (λ (s : Contents g.row.T.Denot). contains_key s.entries q) c.self.view_is ∙ c.requires.absent in
+    subst (λ (s : Contents g.row.T.Denot). StepOfStrings (stored s) (Insert q c.args.value) (placed p.result)
+    (c.self-1.given.0.0, storage_of p.new.nodes p.new.cells c.self-1.given.1.0)) c.self.view_is
+    (placed_step b c.args.len c.args.value i.nodes p.new.nodes i.cells p.new.cells i.count p.new.entries i.shape c.self.invariant c.self-1.given.0
+    (invariant_of-self g c) i.sizes c.self-1.given.1.0 c.args.end at absent p.result
+    (placed_leaves q c.args.value i.nodes p.new.nodes i.cells p.new.cells i.count p.new.entries i.shape c.self.invariant absent p.result p.ensures.placed)
+    p.ensures.obtains p.ensures.range p.ensures.node_room p.ensures.cell_room)

@@ -1,0 +1,110 @@
+//! Putting an item into a list.
+ghost use Rattle.std.specs.Prelude.{◌≡◌, ℕ, ◌+◌, ◌<◌, ◌≤◌, ◌∷◌, ◌++◌, List, Some, length, insert, remove, None, nat_lt, if◌then◌else◌, IsSomeAnd, MatchOption, ◌⊎◌};
+ghost use Rattle.prefix_trie_table.specs.Store.{Block, Sound, tier_at, block, InUse, tier_for, held, HasList, IsReady, tier_lacking, Spends, Turnover, none_at, one_at, many_at, tier_outgrown};
+
+use crate::allocator::blocks::{BlockRef, Blocks};
+use crate::allocator::slots::{Slot, shift_in};
+use std::alloc::Allocator;
+
+impl<S: Slot, A: Allocator> Blocks<S, A> {
+    /// Puts a value into the list of `count` values in a block of tier `k` that starts at `start` (none if `count` is 0), and says
+    /// where the list stands then. A block with room keeps it. Else it moves to a free block of the smallest size that holds it,
+    /// and its old block is free. It makes no block and asks for no memory: `prepare` does that before.
+    pub fn insert_at(&mut self, k: usize, start: u32, count: u32, place: u32, value: S) -> BlockRef
+        requires holds { HasList S.vacant self.old k start count }
+        requires ready { IsReady self.old.tiers k count }
+        requires place { place ≤ count }
+        ensures tier { MatchOption (tier_lacking self.old.tiers k count) (result ≡ record { tier = k; start = start })
+            (λ to. result.tier ≡ to) }
+        ensures turnover { Turnover self.old self.new none_at
+            (one_at (tier_lacking self.old.tiers k count)) (one_at (tier_outgrown self.old.tiers k count)) }
+        ensures spends { Spends self.old self.new (tier_lacking self.old.tiers k count) }
+        ensures sound { (n : ℕ) (xs : List S) (live : List (Block S))
+            → Sound S.vacant (held k start n xs ++ live) self.old → length xs ≡ count
+            → Sound S.vacant (block result.tier result.start (tier_at self.old.tiers result.tier).size (insert xs place value) ∷ live) self.new }
+    {
+        if count == 0 {
+            let tier = self.tier_for(1).unwrap();
+            let new = self.take(tier);
+            self.insert_within(new, 0, 0, value);
+            return BlockRef { tier, start: new };
+        }
+        self.insert_into(k, start, count, place, value)
+    }
+
+    /// Puts a value into the list of a block. A full one is left for a free block of the smallest size that holds the list.
+    fn insert_into(&mut self, k: usize, start: u32, count: u32, place: u32, value: S) -> BlockRef
+        requires in_use { InUse S.vacant self.old k start count }
+        requires ready { (count < (tier_at self.old.tiers k).size)
+            ⊎ IsSomeAnd (tier_for self.old.tiers (count + 1))
+            (λ to. 0 < length (tier_at self.old.tiers to).starts) }
+        requires place { place ≤ count }
+        ensures stays { count < (tier_at self.old.tiers k).size
+            → result ≡ record { tier = k; start = start } }
+        ensures moves { (tier_at self.old.tiers k).size ≤ count
+            → tier_for self.old.tiers (count + 1) ≡ Some result.tier }
+        ensures spends { Spends self.old self.new (if nat_lt count (tier_at self.old.tiers k).size then None else tier_for self.old.tiers (count + 1)) }
+        ensures stayed { count < (tier_at self.old.tiers k).size
+            → Turnover self.old self.new none_at none_at none_at }
+        ensures moved { (tier_at self.old.tiers k).size ≤ count
+            → Turnover self.old self.new none_at (many_at result.tier 1) (many_at k 1) }
+        ensures sound { (n : ℕ) (xs : List S) (live : List (Block S))
+            → Sound S.vacant (block k start n xs ∷ live) self.old → length xs ≡ count
+            → Sound S.vacant (block result.tier result.start (tier_at self.old.tiers result.tier).size (insert xs place value) ∷ live) self.new }
+    {
+        if count < self.size_of(k) {
+            self.insert_within(start, count, place, value);
+            return BlockRef { tier: k, start };
+        }
+        let tier = self.tier_for(count as usize + 1).unwrap();
+        let start = self.insert_moving(k, start, tier, count, place, value);
+        BlockRef { tier, start }
+    }
+
+    /// Moves the list of a block to a free block of tier `to`, puts a value into it, and gives the old block back.
+    fn insert_moving(
+        &mut self,
+        k: usize,
+        outgrown: u32,
+        to: usize,
+        count: u32,
+        place: u32,
+        value: S,
+    ) -> u32
+        requires in_use { InUse S.vacant self.old k outgrown count }
+        requires within { to < length self.old.tiers }
+        requires ready { 0 < length (tier_at self.old.tiers to).starts }
+        requires holds { count < (tier_at self.old.tiers to).size }
+        requires place { place ≤ count }
+        ensures spends { Spends self.old self.new (Some to) }
+        ensures turned { Turnover self.old self.new none_at (many_at to 1) (many_at k 1) }
+        ensures sound { (n : ℕ) (xs : List S) (live : List (Block S))
+            → Sound S.vacant (block k outgrown n xs ∷ live) self.old → length xs ≡ count
+            → Sound S.vacant (block to result (tier_at self.old.tiers to).size (insert xs place value) ∷ live) self.new }
+    {
+        let new = self.take(to);
+        self.move_items(outgrown, new, count);
+        self.insert_within(new, count, place, value);
+        self.give_back(k, outgrown);
+        new
+    }
+
+    /// Puts a value into a block that has room for it, whose list has `count` values.
+    fn insert_within(&mut self, start: u32, count: u32, place: u32, value: S)
+        requires room { start + count < length self.old.slots }
+        requires place { place ≤ count }
+        ensures slots { self.new ≡ record self.old { slots = insert (remove self.old.slots (start + count)) (start + place) value } }
+        ensures len { length self.new.slots ≡ length self.old.slots }
+        ensures sound { (b : Block S) (live : List (Block S)) → Sound S.vacant (b ∷ live) self.old
+            → b.start ≡ start → length b.items ≡ count → count < b.size
+            → Sound S.vacant (record b { items = insert b.items place value } ∷ live) self.new }
+    {
+        let start = start as usize;
+        shift_in(
+            &mut self.slots,
+            start + place as usize,
+            start + count as usize,
+            value,
+        );
+    }
+}

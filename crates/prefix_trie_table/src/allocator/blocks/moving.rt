@@ -1,0 +1,49 @@
+//! Taking a block, giving it back, and moving a list from one to another.
+ghost use Rattle.std.specs.Prelude.{◌≡◌, ℕ, ◌+◌, ◌<◌, ◌≤◌, [], ◌∷◌, ◌++◌, List, length};
+ghost use Rattle.prefix_trie_table.specs.Runs.{swap_runs};
+ghost use Rattle.prefix_trie_table.specs.Store.{Block, Sound, tier_at, with_tier, block, taken};
+
+use crate::allocator::blocks::Blocks;
+use crate::allocator::slots::{Slot, exchange};
+use std::alloc::Allocator;
+
+impl<S: Slot, A: Allocator> Blocks<S, A> {
+    /// Takes a free block of tier `k`.
+    pub(super) fn take(&mut self, k: usize) -> u32
+        requires within { k < length self.old.tiers }
+        requires ready { 0 < length (tier_at self.old.tiers k).starts }
+        ensures starts { (tier_at self.old.tiers k).starts ≡ (tier_at self.new.tiers k).starts ++ result ∷ [] }
+        ensures value { self.new ≡ record self.old { tiers = taken self.old.tiers k } }
+        ensures sound { (live : List (Block S)) → Sound S.vacant live self.old
+            → Sound S.vacant (block k result (tier_at self.old.tiers k).size [] ∷ live) self.new }
+    {
+        let list = &mut self.lists[k];
+        list.pop()
+    }
+
+    /// Gives a block of tier `k` back, whose slots are vacant. Its place was reserved when it was made: this asks for no memory.
+    pub(super) fn give_back(&mut self, k: usize, start: u32)
+        requires within { k < length self.old.tiers }
+        requires place { length (tier_at self.old.tiers k).starts < (tier_at self.old.tiers k).made }
+        ensures starts { self.new ≡ with_tier self.old k (record (tier_at self.old.tiers k) { starts = (tier_at self.old.tiers k).starts ++ start ∷ [] }) }
+        ensures sound { (live : List (Block S)) (n : ℕ)
+            → Sound S.vacant (block k start n [] ∷ live) self.old → Sound S.vacant live self.new }
+    {
+        let list = &mut self.lists[k];
+        list.push(start);
+    }
+
+    /// Moves the values of a block to another, which holds none.
+    pub(super) fn move_items(&mut self, from: u32, to: u32, count: u32)
+        requires from_within { from + count ≤ length self.old.slots }
+        requires to_within { to + count ≤ length self.old.slots }
+        ensures slots { self.new ≡ record self.old { slots = swap_runs self.old.slots from to count } }
+        ensures len { length self.new.slots ≡ length self.old.slots }
+        ensures sound { (a b : Block S) (live : List (Block S))
+            → Sound S.vacant (a ∷ b ∷ live) self.old → a.start ≡ from → b.start ≡ to
+            → length a.items ≡ count → b.items ≡ [] → count ≤ b.size
+            → Sound S.vacant (record a { items = [] } ∷ record b { items = a.items } ∷ live) self.new }
+    {
+        exchange(&mut self.slots, from as usize, to as usize, count as usize);
+    }
+}
