@@ -1,10 +1,12 @@
 -- Steps by bit strings are steps by prefixes.
 use Rattle.std.proofs.Common.{◌≡◌, ℕ, inl, inr, Bool, List, Option, Result, Ok, Err, refl, ap, ◌∙◌, subst}
 use Rattle.prefix_trie_bits.specs.declared.prefix.Refused.{Refused}
+use Rattle.prefix_trie_bits.specs.Model.Entries.{no_entries}
+use Rattle.prefix_trie_bits.specs.Model.Nodes.{root_alone}
 use Rattle.prefix_trie_bits.specs.Model.Step.{State, Reply, Step, Insert, Remove, RemoveKeepTree, RemoveChildren, Clear, Match, Done, Count, Addresses, Items, Value}
 use Rattle.prefix_trie_bits.specs.Model.Storage.{Storage, StepInStorage, StepOfStrings}
 use Rattle.prefix_trie_table.specs.Shape.{Contents}
-use Rattle.prefix_trie_map.specs.Steps.{inserted}
+use Rattle.prefix_trie_map.specs.Steps.{stored, inserted}
 
 -- a reply that shows no prefix, as one of a map with other prefixes
 abbrev pub carried : {P Q T : Type 0} → Reply P T → Reply Q T
@@ -71,3 +73,10 @@ module _ {T : Type 0} where
   value_in (Addresses n) = Option.None
   value_in (Items es) = Option.None
   value_in (Reply.Refused cause) = Option.None
+
+  -- what `clear` leaves
+  pub no_entries_left : {old new : Contents T} → StepOfStrings (stored old) Clear Done (stored new) → new.entries ≡ no_entries
+  no_entries_left h = ap (λ (s : State T). s.entries) (h 0).step.1
+
+  pub root_left : {old new : Contents T} → StepOfStrings (stored old) Clear Done (stored new) → new.nodes ≡ root_alone
+  root_left h = ap (λ (s : State T). s.nodes) (h 0).step.1

@@ -1,19 +1,17 @@
 -- What stands, or does not, at the end of the way down.
-use Rattle.std.proofs.Common.{◌≡◌, ◌≢◌, ℕ, ◌+◌, ◌*◌, ◌<◌, ◌≤◌, inl, inr, ⊎_elim, Bool, true, false, ◌||◌, List, [], ◌∷◌, ◌++◌, length, take, drop, Option, None, Some, is_some, refl, sym, ap, ap₂, ◌∙◌, arith, nat_le, leb-true}
+use Rattle.std.proofs.Common.{◌≡◌, ◌≢◌, ℕ, ◌+◌, ◌*◌, ◌<◌, ◌≤◌, inl, inr, ⊎_elim, Bool, true, false, ◌||◌, List, [], ◌∷◌, ◌++◌, length, take, drop, Option, None, Some, is_some, refl, sym, ap, ◌∙◌, arith, nat_le, leb-true}
 use Rattle.std.proofs.lemmas.Bool.Decides.{nat_tests}
 use Rattle.std.proofs.lemmas.Bool.{false≢true, cases_Bool}
 use Rattle.std.proofs.lemmas.List.{take_all}
-use Rattle.prefix_trie_bits.specs.Places.{has, ones_below, value_bit}
+use Rattle.prefix_trie_bits.specs.Places.{has, value_bit}
 use Rattle.prefix_trie_table.specs.declared.allocator.node.Node.{Node}
-use Rattle.prefix_trie_table.specs.Bitmaps.{has_bit, rank}
+use Rattle.prefix_trie_table.specs.Bitmaps.{has_bit}
 use Rattle.prefix_trie_table.specs.Cells.{node_sizes}
 use Rattle.prefix_trie_table.specs.Digits.{path_of, bit_of}
-use Rattle.prefix_trie_table.specs.declared.table.seat.Seat.{Seat}
-use Rattle.prefix_trie_table.specs.Slots.{IsSeat}
 use Rattle.prefix_trie_table.specs.Store.{Store}
 use Rattle.prefix_trie_table.specs.Forest.{same_path, is_start, NodesHold, Holds, IsEnd, has_child, has_value}
 use Rattle.prefix_trie_table.specs.Tables.{IsReached}
-use Rattle.prefix_trie_table.proofs.Bits.{has_bit-is, rank-ones}
+use Rattle.prefix_trie_table.proofs.Bits.{has_bit-is}
 use Rattle.prefix_trie_table.proofs.Paths.{same_path-not, snoc_ind}
 use Rattle.prefix_trie_table.proofs.Starts.{is_start-snoc, is_start_take, or_either}
 use Rattle.prefix_trie_table.proofs.Trees.{is_none-None}
@@ -95,17 +93,6 @@ module _ (b : List Bool) (len level slot : ℕ) (node : Node) (v : Store Node) (
     -- no value where the bit that the code reads is clear
     pub no_seat_here : has node.value_bitmap x ≡ false → has_value (reading (path_of (take len b))) (bit_of (take len b)) ≡ false
     no_seat_here clear = ap (λ o. has_value o (bit_of (take len b))) (reached_own less) ∙ bit_set b len level slot node v at less x small read ∙ clear
-
-    -- the seat of the value
-    pub seat_here : (seat : Seat) → has node.value_bitmap x ≡ true → seat.start ≡ node.value_block → seat.place ≡ ones_below x node.value_bitmap →
-        IsSeat reading (path_of (take len b)) (bit_of (take len b)) seat
-    seat_here seat set start place = record {
-      node = node;
-      is = reached_own less;
-      set = bit_set b len level slot node v at less x small read ∙ set;
-      slot_is = ap₂ (λ m n. m + n) start (place ∙ sym (rank-ones node.value_bitmap x (omega arith))
-          ∙ ap (rank node.value_bitmap) (sym (bit-read b len level at.long x at.whole less read)));
-    }
 
 module _ {T : Type 0} (b : List Bool) (len level slot : ℕ) (node : Node) (v : Store Node) (at : IsReached b len level node slot v)
     (reading : List ℕ → Option Node) (values : List ℕ → ℕ → Option T) (paths : List (List ℕ)) (w : Store (Option T))

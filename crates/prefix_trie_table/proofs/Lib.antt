@@ -3,7 +3,6 @@ pub mod Tilings
 pub mod RunLemmas
 pub mod Soundness
 pub mod Entering
-pub mod Fitting
 pub mod Spending
 pub mod Turnovers
 pub mod Preparing

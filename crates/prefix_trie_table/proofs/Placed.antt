@@ -1,5 +1,5 @@
 -- The places of a node that is at hand, as its table has them, and one turn of asking at them.
-use Rattle.std.proofs.Common.{◌≡◌, ℕ, ◌+◌, ◌/◌, ◌%◌, ◌≤◌, Bool, true, false, cond, ◌&&◌, ◌==◌, List, [], ◌∷◌, ◌++◌, length, take, get_or, Option, is_some, refl, sym, ap, ap₂, ◌∙◌, subst, arith, inl, inr, append-nil, length-append, Less}
+use Rattle.std.proofs.Common.{◌≡◌, ℕ, ◌+◌, ◌/◌, ◌%◌, ◌≤◌, Bool, true, false, cond, ◌&&◌, ◌==◌, List, [], ◌∷◌, ◌++◌, length, take, Option, is_some, refl, sym, ap, ap₂, ◌∙◌, subst, arith, inl, inr, append-nil, length-append, Less}
 use Rattle.std.specs.List.{All}
 use Rattle.std.specs.List.Sorted.{IsStrictlySortedBy}
 use Rattle.std.proofs.lemmas.Bool.{false≢true, cases_lt, lt-ltb, le-ltb}
@@ -27,6 +27,7 @@ use Rattle.prefix_trie_table.specs.Forest.{read, has_value, has_child}
 use Rattle.prefix_trie_table.specs.Shape.{same_shape}
 use Rattle.prefix_trie_table.specs.Walks.{IsPlaceOf}
 use Rattle.prefix_trie_table.specs.Cells.{node_sizes, cell_sizes}
+use Rattle.prefix_trie_table.proofs.Soundness.{All-both}
 use Rattle.prefix_trie_table.proofs.Invariant.{some_table}
 use Rattle.prefix_trie_table.proofs.Between.{between_then, values_still, children_still}
 use Rattle.prefix_trie_table.specs.Retaining.{is_at, is_at_some, is_under_some, IsSite, Retains, RetainsIn, MayAskAt, Lasts}
@@ -164,9 +165,6 @@ unfolding IsStrictlySortedBy
 not_in_rest u rest sorted =
     All-weaker (λ t. listing_cmp u t ≡ Less) (λ t. t ≡ u → ⊥) (λ t less e. not_itself u t less (sym e)) rest (All-from_recursion (λ t. listing_cmp u t ≡ Less) rest sorted.0)
 
-both_all : {X : Type 0} (P Q R : X → Type 0) → ((x : X) → P x → Q x → R x) → (xs : List X) → All P xs → All Q xs → All R xs
-both_all P Q R join xs a b = λ k d inside. join (get_or xs k d) (a k d inside) (b k d inside)
-
 module _ {K T F : Type 0} (IsKey : K → Type 0) (bits : K → List Bool) (width : ℕ) (asks : F → List Bool → T → Bool → F → Type 0) (accepts : F → List Bool → T → Type 0)
     (p : Site K) (long : length (bits p.key) ≡ width) (ts before : List (List Bool)) (u : List Bool) (rest : List (List Bool)) (first : ts ≡ u ∷ rest) (short : length u ≤ 5)
     (sorted : IsStrictlySortedBy listing_cmp ts) (apart : (q : List Bool) → is_at_some (take p.depth (bits p.key)) before q ≡ true → is_at_some (take p.depth (bits p.key)) ts q ≡ true → ⊥)
@@ -217,9 +215,9 @@ module _ {K T F : Type 0} (IsKey : K → Type 0) (bits : K → List Bool) (width
       each_next =
           let one = done s trie in
           let two = turn one.after one.trie in
-          both_all (IsPlaceOf n) (λ t. t ≡ u → ⊥) (IsPlaceOf m)
+          All-both (IsPlaceOf n) (λ t. t ≡ u → ⊥) (IsPlaceOf m) rest
           (λ t here ne. place_kept IsKey bits width asks accepts p long v n at count w one.after one.trie v2 m later count2 w2 two.after two.trie f g u short two.retains t ne here)
-          rest (All-tail (IsPlaceOf n) u rest each_now) (not_in_rest u rest sorted_now)
+          (All-tail (IsPlaceOf n) u rest each_now) (not_in_rest u rest sorted_now)
 
   -- one more is done
   pub done_next : (g : F) (count2 : ℕ) (v2 : Store Node) (w2 : Store (Option T)) →

@@ -31,7 +31,7 @@ inserting (Ok seat) = Ok None
 inserting (Err e) = Err e
 
 -- what it obtained
-obtaining : {T X E S : Type 0} (for_limit for_memory : E → Type 0) (v v2 : Store Node) (w w2 : Store (Option S)) (nodes cells : ℕ → ℕ) (r : Result Seat E) →
+obtaining : {T E : Type 0} (for_limit for_memory : E → Type 0) (v v2 : Store Node) (w w2 : Store (Option T)) (nodes cells : ℕ → ℕ) (r : Result Seat E) →
     ObtainsBoth for_limit for_memory r v v2 w w2 nodes cells → ObtainsBoth for_limit for_memory (inserting {T = T} r) v v2 w w2 nodes cells
 obtaining for_limit for_memory v v2 w w2 nodes cells (Ok seat) o =
     record { nodes_made = o.nodes_made; cells_made = o.cells_made; range = tt; memory = tt; lacks = tt }

@@ -32,7 +32,7 @@ sizes_stay ts k t j inside same =
     ⊎_elim (λ (e : j ≡ k). subst (λ i. (tier_at (set ts k t) i).size ≡ (tier_at ts i).size) (sym e) (ap (λ (u : Tier). u.size) (get_or-set_same ts k t _ inside) ∙ same)) (λ (n : j ≢ k). ap (λ (u : Tier). u.size) (get_or-set_other ts k j t _ n)) (cases_eq j k)
 
 -- two facts of each element
-All-both : {Y : Type 0} (P Q R : Y → Type 0) (ys : List Y) → ((y : Y) → P y → Q y → R y) → All P ys → All Q ys → All R ys
+pub All-both : {Y : Type 0} (P Q R : Y → Type 0) (ys : List Y) → ((y : Y) → P y → Q y → R y) → All P ys → All Q ys → All R ys
 All-both P Q R ys f p q k d inside = f (get_or ys k d) (p k d inside) (q k d inside)
 
 -- the tier that is changed, and the others

@@ -5,16 +5,18 @@ ghost use Rattle.prefix_trie_bits.specs.Model.Entries.{put_all};
 ghost use Rattle.prefix_trie_bits.specs.Model.Nodes.{IsTidy, needed};
 ghost use Rattle.prefix_trie_bits.specs.Model.Selections.{listing, shown};
 
-use crate::{Prefix, PrefixMap, Refused};
+use crate::tests::on_new::on_new;
+use crate::tests::retain::keep_from;
+use crate::{Prefix, PrefixMap, Refusal, Refused};
 use prefix_trie_map::laws::copy_laws;
 use std::alloc::{AllocError, Allocator, Global};
 use std::test::Fail;
 
 // Puts all entries of one map into another, and stops where one is refused.
 fn put_into<P: Prefix, A: Allocator>(
-    to: &mut PrefixMap<P, u32, A>,
-    from: &PrefixMap<P, u32, A>,
-) -> Result<(), Refused<u32>>
+    to: &mut PrefixMap<P, u64, A>,
+    from: &PrefixMap<P, u64, A>,
+) -> Result<(), Refused<u64>>
     ensures { OnOk result (to.new.entries ≡ put_all P.path (shown P.back (listing from.now.entries)) to.old.entries) }
 {
     for (prefix, value) in from {
@@ -73,8 +75,8 @@ fn use_emptied<P: Prefix, T: Drop, A: Allocator>(
 
 // And of what `retain` leaves of any map.
 fn use_retained<P: Prefix, A: Allocator>(
-    map: &mut PrefixMap<P, u32, A>,
-    least: u32,
+    map: &mut PrefixMap<P, u64, A>,
+    least: u64,
     prefix: P,
     out: &P,
 ) -> usize
@@ -83,7 +85,7 @@ fn use_retained<P: Prefix, A: Allocator>(
     ensures tidy { IsTidy map.new.entries map.new.nodes }
     ensures counted { result ≡ len (needed map.new.entries) }
 {
-    map.retain(|_, value| least <= *value);
+    keep_from(map, least);
     set_and_remove(map, prefix, least, out)
 }
 
@@ -123,51 +125,65 @@ fn tidy_copy<P: Prefix, T: Clone, A: Allocator + Clone>(
     map.clone()
 }
 
-/// A map of two numbers, one of them below ten.
-fn two_numbers(alloc: Global) -> Result<PrefixMap<(u16, u8), u32, Global>, Fail> {
-    let mut map = PrefixMap::new(alloc)?;
-    if [map.insert((0x0a00, 8), 9), map.insert((0x0a0b, 16), 10)] != [Ok(None), Ok(None)] {
-        return Err(Fail::new("an insertion"));
-    }
-    Ok(map)
+type Numbers = PrefixMap<(u16, u8), u64, Global>;
+
+/// Stores two numbers, one of them below ten.
+fn put_two(map: &mut Numbers) -> bool {
+    [map.insert((0x0a00, 8), 9), map.insert((0x0a0b, 16), 10)] == [Ok(None), Ok(None)]
 }
 
-/// Whether the entries of one map stand in the other, and are all that is common to both.
-fn common(
-    to: &mut PrefixMap<(u16, u8), u32, Global>,
-    from: &PrefixMap<(u16, u8), u32, Global>,
-) -> bool {
-    put_into(to, from).is_ok()
-        && to.len() == 3
-        && {
-            keep_common(to, from);
-            to.keys().eq([(0x0a00, 8), (0x0a0b, 16)])
-        }
+/// Whether the two entries of one map, put into the other, are all that is common to both.
+fn has_common(to: &mut Numbers, from: &Numbers) -> bool {
+    let is_put = to.insert((0x0b00, 8), 1) == Ok(None) && put_into(to, from).is_ok();
+    let len = to.len();
+    keep_common(to, from);
+    is_put & (len == 3) & to.keys().eq([(0x0a00, 8), (0x0a0b, 16)])
+}
+
+/// The same with another new map of the two.
+fn has_common_with_another(to: &mut Numbers, alloc: Global) -> Result<bool, Refusal> {
+    let mut from = PrefixMap::new(alloc)?;
+    Ok(put_two(&mut from) & has_common(to, &from))
 }
 
 #[test]
 fn entries_of_another_map(rt: HostRuntime) -> Result<(), Fail> {
-    let from = two_numbers(rt.alloc())?;
-    let mut to = PrefixMap::new(rt.alloc())?;
-    assert!(rt; to.insert((0x0b00, 8), 1) == Ok(None) && common(&mut to, &from));
+    assert!(rt;
+        on_new(
+            PrefixMap::new(rt.alloc()),
+            rt.alloc(),
+            has_common_with_another
+        )??
+    );
     Ok(())
 }
 
 /// Whether a map has the nodes that its keys need once it was used, and keeps them where a key comes and goes.
-fn counted(map: &mut PrefixMap<(u16, u8), u32, Global>) -> bool {
-    if use_retained(map, 10, (0x0a0b, 11), &(0x0a0b, 16)) != 3 || map.contains_key(&(0xffff, 16)) {
+fn is_counted(map: &mut Numbers) -> bool {
+    let nodes = use_retained(map, 10, (0x0a0b, 11), &(0x0a0b, 16));
+    if map.contains_key(&(0xffff, 16)) {
         return false;
     }
     set_and_take_out(map, (0xffff, 16), 1, &(0xffff, 16));
-    map.node_count() == 3
+    (nodes, map.node_count()) == (3, 3)
+}
+
+/// Whether a map that is emptied and used again has those nodes, and a copy of it.
+fn has_tidy_copy(map: &mut Numbers) -> bool {
+    let nodes = use_emptied(map, (0x0a0b, 16), 1, &(0x0a0b, 8));
+    match tidy_copy(map) {
+        Ok(copy) => (nodes, copy.node_count()) == (4, 4),
+        Err(AllocError) => false,
+    }
+}
+
+/// Both in turn, of a map of two numbers.
+fn is_used(map: &mut Numbers, _alloc: Global) -> bool {
+    put_two(map) & is_counted(map) & has_tidy_copy(map)
 }
 
 #[test]
 fn a_map_that_was_used_before(rt: HostRuntime) -> Result<(), Fail> {
-    let mut map = two_numbers(rt.alloc())?;
-    assert!(rt; counted(&mut map));
-    let nodes = use_emptied(&mut map, (0x0a0b, 16), 1, &(0x0a0b, 8));
-    let copy = tidy_copy(&map)?;
-    assert!(rt; nodes == 4 && copy.node_count() == 4);
+    assert!(rt; on_new(PrefixMap::new(rt.alloc()), rt.alloc(), is_used)?);
     Ok(())
 }

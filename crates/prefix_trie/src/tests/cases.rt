@@ -1,6 +1,6 @@
 //! Cases: calls of a map, each beside what it should answer.
 use crate::tests::changes::{
-    clears, copies, empties, inserts, makes, removes, removes_children, retains_above, turns,
+    clears, copies, empties, inserts, makes, removes, removes_children, retains_from, turns,
     writes, writes_longest,
 };
 use crate::tests::lists::{covers, lists};
@@ -30,8 +30,8 @@ pub enum Case<K: 'static> {
     Empties(Pair<K>, Option<u64>),
     /// `remove_children` is made.
     RemovesChildren(Pair<K>),
-    /// `retain` keeps the values above this one.
-    RetainsAbove(u64),
+    /// `retain` keeps the values from this one on.
+    RetainsFrom(u64),
     /// `clear` is made.
     Clears,
     /// `clone` makes a second map that is the same.
@@ -92,13 +92,26 @@ pub fn holds<P: Prefix + Copy, A: Allocator + Copy>(
         Case::Removes(at, before) => removes(map, *at, *before),
         Case::Empties(at, before) => empties(map, *at, *before),
         Case::RemovesChildren(at) => removes_children(map, *at),
-        Case::RetainsAbove(most) => retains_above(map, *most),
+        Case::RetainsFrom(least) => retains_from(map, *least),
         Case::Clears => clears(map),
         Case::Copies => copies(heap, map, other),
-        Case::Same => is_same(map, other),
         Case::Turns => turns(map, other),
         Case::Writes(at, value, before) => writes(map, *at, *value, *before),
         Case::WritesLongest(at, value, before) => writes_longest(map, *at, *value, *before),
+        _ => answers(heap, map, other, case),
+    }
+}
+
+/// Whether a map answers as a case asks, beside the second one; a case that changes it asks nothing.
+fn answers<P: Prefix + Copy, A: Allocator>(
+    heap: &Refusing<Global>,
+    map: &PrefixMap<P, u64, A>,
+    other: &PrefixMap<P, u64, A>,
+    case: &Case<P::R>,
+) -> bool {
+    let is_unasked = heap.left() == 0;
+    match case {
+        Case::Same => is_same(map, other),
         Case::Finds(at, exact, longest, shortest) => {
             finds(map, *at, *exact, *longest, *shortest)
         }
@@ -106,12 +119,9 @@ pub fn holds<P: Prefix + Copy, A: Allocator + Copy>(
         Case::Covers(at, entries) => covers(map, *at, entries),
         Case::Len(len) => has_len(map, *len),
         Case::Nodes(nodes) => map.node_count() == *nodes,
-        Case::Slots(nodes, cells) => heap.left() == 0 || has_slots(map, *nodes, *cells),
-        Case::NodeBlocks(size, used, free) => {
-            heap.left() == 0 || has_nodes(map, *size, *used, *free)
-        }
-        Case::CellBlocks(size, used, free) => {
-            heap.left() == 0 || has_cells(map, *size, *used, *free)
-        }
+        Case::Slots(nodes, cells) => is_unasked | has_slots(map, *nodes, *cells),
+        Case::NodeBlocks(size, used, free) => is_unasked | has_nodes(map, *size, *used, *free),
+        Case::CellBlocks(size, used, free) => is_unasked | has_cells(map, *size, *used, *free),
+        _ => true,
     }
 }

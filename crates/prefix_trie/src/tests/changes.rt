@@ -1,11 +1,15 @@
 //! Cases that change a map.
 use crate::tests::cases::{Entry, Pair, prefix_of};
 use crate::tests::lists::{entries_of, gives};
-use crate::tests::questions::{is_same, pair_of, value_in, with_value};
+use crate::tests::questions::{is_same, pair_in, pair_of, value_in};
 use crate::tests::refusing::Refusing;
+use crate::tests::retain::keep_from;
 use crate::{Prefix, PrefixMap, Refusal, Refused};
 use std::alloc::{AllocError, Allocator, Global};
 use std::mem;
+
+/// What an insertion answers.
+type Answer = Result<Option<u64>, Refused<u64>>;
 
 /// A new map, under a limit or none.
 fn made<P: Prefix + Copy, A: Allocator + Copy>(
@@ -15,16 +19,6 @@ fn made<P: Prefix + Copy, A: Allocator + Copy>(
     match limit {
         Some(slots) => PrefixMap::with_slot_limit(alloc, slots),
         None => PrefixMap::new(alloc),
-    }
-}
-
-/// Whether an answer is a refusal for memory.
-fn is_memory<P: Prefix + Copy, A: Allocator>(
-    answer: Result<PrefixMap<P, u64, A>, Refusal>,
-) -> bool {
-    match answer {
-        Ok(_) => false,
-        Err(cause) => cause == Refusal::Memory,
     }
 }
 
@@ -54,26 +48,26 @@ pub fn makes<P: Prefix + Copy, A: Allocator + Copy>(
     if heap.left() == left {
         return replaces(map, answer);
     }
-    is_memory(answer) && replaces(map, made(alloc, limit))
+    (answer.err() == Some(Refusal::Memory)) & replaces(map, made(alloc, limit))
+}
+
+/// The answer of an insertion, which hands this value back where it is a refusal.
+fn answer_of(outcome: Result<Option<u64>, Refusal>, value: u64) -> Answer {
+    match outcome {
+        Ok(before) => Ok(before),
+        Err(cause) => Err(Refused { cause, value }),
+    }
 }
 
 /// Whether the answer of an insertion is as wanted, and the map as it was where that is a refusal.
 fn is_answered<P: Prefix + Copy, A: Allocator>(
     map: &PrefixMap<P, u64, A>,
     old: (&[Entry<P::R>], usize),
-    answer: Result<Option<u64>, Refused<u64>>,
-    value: u64,
-    wanted: Result<Option<u64>, Refusal>,
+    answer: Answer,
+    wanted: &Answer,
 ) -> bool {
-    match answer {
-        Ok(before) => wanted == Ok(before),
-        Err(refused) => {
-            wanted == Err(refused.cause)
-                && refused.value == value
-                && gives(map.iter(), old.0)
-                && map.node_count() == old.1
-        }
-    }
+    let is_unchanged = gives(map.iter(), old.0) & (map.node_count() == old.1);
+    (answer == *wanted) & (answer.is_ok() | is_unchanged)
 }
 
 /// Makes an insertion into a map of old entries and nodes, as `inserts` does.
@@ -82,28 +76,16 @@ fn inserts_into<P: Prefix + Copy, A: Allocator>(
     map: &mut PrefixMap<P, u64, A>,
     old: (&[Entry<P::R>], usize),
     added: Entry<P::R>,
-    wanted: Result<Option<u64>, Refusal>,
+    wanted: &Answer,
 ) -> bool {
-    let (at, value) = added;
     let left = heap.left();
-    let answer = map.insert(prefix_of(at), value);
+    let answer = map.insert(prefix_of(added.0), added.1);
     if heap.left() == left {
-        return is_answered(map, old, answer, value, wanted);
+        return is_answered(map, old, answer, wanted);
     }
-    let is_refused = is_answered(map, old, answer, value, Err(Refusal::Memory));
-    let again = map.insert(prefix_of(at), value);
-    is_refused && is_answered(map, old, again, value, wanted)
-}
-
-/// Whether the answer of an insertion is as wanted.
-fn is_wanted(
-    answer: Result<Option<u64>, Refused<u64>>,
-    wanted: Result<Option<u64>, Refusal>,
-) -> bool {
-    match answer {
-        Ok(before) => wanted == Ok(before),
-        Err(refused) => wanted == Err(refused.cause),
-    }
+    let is_refused = is_answered(map, old, answer, &answer_of(Err(Refusal::Memory), added.1));
+    let again = map.insert(prefix_of(added.0), added.1);
+    is_refused & is_answered(map, old, again, wanted)
 }
 
 /// Makes an insertion, and once more where a request was refused. Answers whether it was answered as wanted, but with `Memory`
@@ -116,12 +98,13 @@ pub fn inserts<P: Prefix + Copy, A: Allocator>(
     value: u64,
     wanted: Result<Option<u64>, Refusal>,
 ) -> bool {
+    let wanted = answer_of(wanted, value);
     if heap.left() == 0 {
-        return is_wanted(map.insert(prefix_of(at), value), wanted);
+        return map.insert(prefix_of(at), value) == wanted;
     }
     let nodes = map.node_count();
     match entries_of(heap.inner(), map) {
-        Ok(old) => inserts_into(heap, map, (&old, nodes), (at, value), wanted),
+        Ok(old) => inserts_into(heap, map, (&old, nodes), (at, value), &wanted),
         Err(AllocError) => false,
     }
 }
@@ -150,11 +133,11 @@ pub fn removes_children<P: Prefix + Copy, A: Allocator>(
     true
 }
 
-pub fn retains_above<P: Prefix + Copy, A: Allocator>(
+pub fn retains_from<P: Prefix + Copy, A: Allocator>(
     map: &mut PrefixMap<P, u64, A>,
-    most: u64,
+    least: u64,
 ) -> bool {
-    map.retain(|_, value| most < *value);
+    keep_from(map, least);
     true
 }
 
@@ -189,7 +172,7 @@ pub fn copies<P: Prefix + Copy, A: Allocator + Copy>(
     if heap.left() == left {
         return replaces_same(map, other, answer);
     }
-    answer.is_err() && replaces_same(map, other, map.clone())
+    answer.is_err() & replaces_same(map, other, map.clone())
 }
 
 pub fn turns<P: Prefix + Copy, A: Allocator>(
@@ -217,10 +200,11 @@ pub fn writes<P: Prefix + Copy, A: Allocator>(
 ) -> bool {
     let prefix = prefix_of(at);
     let last = before.unwrap_or(value);
-    let now = before.is_some().then_some(value);
-    written(map.get_mut(&prefix), value) == before
-        && written(map.get_mut_counted(&prefix).0, last) == now
-        && written(map.get_mut(&prefix), value) == before
+    let now = before.and(Some(value));
+    let first = written(map.get_mut(&prefix), value);
+    let second = written(map.get_mut_counted(&prefix).0, last);
+    let third = written(map.get_mut(&prefix), value);
+    [first, second, third] == [before, now, before]
 }
 
 /// Writes over the value of the longest match. Answers the entry that was there.
@@ -264,9 +248,10 @@ pub fn writes_longest<P: Prefix + Copy, A: Allocator>(
     before: Option<Entry<P::R>>,
 ) -> bool {
     let prefix = prefix_of(at);
-    let last = value_in(before);
-    let now = with_value(before, value);
-    written_longest(map, &prefix, value) == before
-        && written_longest_counted(map, &prefix, last.unwrap_or(value)) == now
-        && written(map.get_lpm_value_mut(&prefix), value) == last
+    let last = before.as_ref().map(value_in);
+    let now = before.as_ref().map(pair_in).zip(Some(value));
+    let first = written_longest(map, &prefix, value);
+    let second = written_longest_counted(map, &prefix, last.unwrap_or(value));
+    let third = written(map.get_lpm_value_mut(&prefix), value);
+    ([first, second] == [before, now]) & (third == last)
 }

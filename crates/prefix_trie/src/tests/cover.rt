@@ -4,6 +4,7 @@ ghost use Rattle.std.specs.List.{list_all};
 ghost use Rattle.prefix_trie_bits.specs.Model.Matches.{covers};
 ghost use Rattle.prefix_trie_bits.specs.Model.Selections.{shown};
 
+use crate::tests::on_new::on_new;
 use crate::{Prefix, PrefixMap};
 use std::alloc::{AllocError, Allocator, Global};
 use std::test::Fail;
@@ -41,28 +42,36 @@ fn none_below<P: Prefix, A: Allocator>(m: &PrefixMap<P, u32, A>, prefix: &P, lea
     true
 }
 
-/// A map of the two last lengths of 16 bits.
-fn last_lengths(alloc: Global) -> Result<PrefixMap<(u16, u8), u32, Global>, Fail> {
-    let mut map = PrefixMap::new(alloc)?;
-    let answers = [map.insert((0x8000, 15), 1), map.insert((0x8001, 16), 2)];
-    if answers != [Ok(None), Ok(None)] {
-        return Err(Fail::new("an insertion"));
-    }
-    Ok(map)
+type Numbers = PrefixMap<(u16, u8), u32, Global>;
+
+/// Stores two numbers, of the two last lengths of 16 bits.
+fn put_two(map: &mut Numbers) -> bool {
+    [map.insert((0x8000, 15), 1), map.insert((0x8001, 16), 2)] == [Ok(None), Ok(None)]
 }
 
 /// Whether the prefixes that contain the last key come in listing order.
-fn lists_both(alloc: Global, map: &PrefixMap<(u16, u8), u32, Global>) -> Result<bool, AllocError> {
-    let keys = all_keys(alloc, map, &(0x8001, 16))?;
-    Ok(keys.as_slice() == [(0x8000, 15), (0x8001, 16)].as_slice())
+fn lists_both(map: &Numbers, alloc: Global) -> bool {
+    match all_keys(alloc, map, &(0x8001, 16)) {
+        Ok(keys) => keys.as_slice() == [(0x8000, 15), (0x8001, 16)].as_slice(),
+        Err(AllocError) => false,
+    }
+}
+
+/// Whether the callers above answer so of the two.
+fn has_two(map: &mut Numbers, alloc: Global) -> bool {
+    let answers = [
+        put_two(map),
+        count(map, &(0x8001, 16)) == 2,
+        count(map, &(0x8000, 16)) == 1,
+        none_below(map, &(0x8001, 16), 1),
+        !none_below(map, &(0x8001, 16), 2),
+        lists_both(map, alloc),
+    ];
+    answers == [true; 6]
 }
 
 #[test]
 fn last_lengths_are_counted_and_listed(rt: HostRuntime) -> Result<(), Fail> {
-    let map = last_lengths(rt.alloc())?;
-    let asked = (0x8001, 16);
-    assert!(rt; count(&map, &asked) == 2 && count(&map, &(0x8000, 16)) == 1);
-    assert!(rt; none_below(&map, &asked, 1) && !none_below(&map, &asked, 2));
-    assert!(rt; lists_both(rt.alloc(), &map)?);
+    assert!(rt; on_new(PrefixMap::new(rt.alloc()), rt.alloc(), has_two)?);
     Ok(())
 }

@@ -4,6 +4,7 @@ ghost use Rattle.std.specs.FinMap.{len};
 ghost use Rattle.std.specs.List.{list_all};
 ghost use Rattle.prefix_trie_bits.specs.Model.Selections.{listing, shown};
 
+use crate::tests::on_new::on_new;
 use crate::{Prefix, PrefixMap};
 use std::alloc::{AllocError, Allocator, Global};
 use std::test::Fail;
@@ -47,32 +48,42 @@ fn none_below<P: Prefix, A: Allocator>(m: &PrefixMap<P, u32, A>, least: u32) -> 
     true
 }
 
-/// A map of four numbers, two of them below a key that has the first three bits.
-fn four_numbers(alloc: Global) -> Result<PrefixMap<(u8, u8), u32, Global>, Fail> {
-    let mut map = PrefixMap::new(alloc)?;
+type Numbers = PrefixMap<(u8, u8), u32, Global>;
+
+/// Stores four numbers, two of them below a key that has the first three bits.
+fn put_four(map: &mut Numbers) -> bool {
     let answers = [
         map.insert((0xa5, 8), 6),
         map.insert((0xbf, 3), 4),
         map.insert((0xff, 1), 3),
         map.insert((0xa3, 7), 5),
     ];
-    if answers != [Ok(None), Ok(None), Ok(None), Ok(None)] {
-        return Err(Fail::new("an insertion"));
-    }
-    Ok(map)
+    answers == [Ok(None), Ok(None), Ok(None), Ok(None)]
 }
 
 /// Whether all prefixes come in listing order.
-fn lists_four(alloc: Global, map: &PrefixMap<(u8, u8), u32, Global>) -> Result<bool, AllocError> {
-    let keys = all_keys(alloc, map)?;
-    Ok(keys.as_slice() == [(0x80, 1), (0xa0, 3), (0xa2, 7), (0xa5, 8)].as_slice())
+fn lists_four(map: &Numbers, alloc: Global) -> bool {
+    match all_keys(alloc, map) {
+        Ok(keys) => keys.as_slice() == [(0x80, 1), (0xa0, 3), (0xa2, 7), (0xa5, 8)].as_slice(),
+        Err(AllocError) => false,
+    }
+}
+
+/// Whether the callers above answer so of the four.
+fn has_four(map: &mut Numbers, alloc: Global) -> bool {
+    let answers = [
+        put_four(map),
+        count(map) == 4,
+        count_twice(map) == (4, 4),
+        none_below(map, 3),
+        !none_below(map, 4),
+        lists_four(map, alloc),
+    ];
+    answers == [true; 6]
 }
 
 #[test]
 fn four_are_counted_and_listed(rt: HostRuntime) -> Result<(), Fail> {
-    let map = four_numbers(rt.alloc())?;
-    assert!(rt; count(&map) == 4 && count_twice(&map) == (4, 4));
-    assert!(rt; none_below(&map, 3) && !none_below(&map, 4));
-    assert!(rt; lists_four(rt.alloc(), &map)?);
+    assert!(rt; on_new(PrefixMap::new(rt.alloc()), rt.alloc(), has_four)?);
     Ok(())
 }

@@ -6,8 +6,9 @@ ghost use Rattle.prefix_trie_bits.specs.Order.{same_string};
 ghost use Rattle.prefix_trie_bits.specs.Model.Matches.{longest_match, shown_match};
 ghost use Rattle.prefix_trie_table.specs.Shape.{with_value_at, with_longest_at};
 
-use crate::{Prefix, PrefixMap};
-use std::alloc::{Allocator, Global};
+use crate::tests::on_new::on_new;
+use crate::{Ipv6Prefix, Prefix, PrefixMap};
+use std::alloc::{AllocError, Allocator, Global};
 use std::test::Fail;
 
 // Writes over a stored value, and says whether there was one.
@@ -65,63 +66,104 @@ fn rewrite<P: Prefix, A: Allocator>(
     Some((found, before))
 }
 
-/// A map of three keys at the end of 64 bits.
-fn last_bits(alloc: Global) -> Result<PrefixMap<(u64, u8), u8, Global>, Fail> {
-    let mut map = PrefixMap::new(alloc)?;
+/// Stores three keys at the end of 64 bits.
+fn put_last_bits(map: &mut PrefixMap<(u64, u8), u8, Global>) -> bool {
     let answers = [
         map.insert((0, 60), 1),
         map.insert((5, 64), 2),
         map.insert((6, 63), 3),
     ];
-    if answers != [Ok(None), Ok(None), Ok(None)] {
-        return Err(Fail::new("an insertion"));
-    }
-    Ok(map)
+    answers == [Ok(None), Ok(None), Ok(None)]
+}
+
+/// Whether the value of the longest match is written over, twice, and that of no match is not.
+fn is_rewritten(map: &mut PrefixMap<(u64, u8), u8, Global>, _alloc: Global) -> bool {
+    let answers = [
+        put_last_bits(map),
+        rewrite(map, &(7, 64), 8) == Some(((6, 63), 3)),
+        rewrite(map, &(7, 64), 9) == Some(((6, 63), 8)),
+        write_longest(map, &(4, 64), 7),
+        !write_longest(map, &(4, 59), 8),
+        map.values().copied().eq([7, 2, 9]),
+    ];
+    answers == [true; 6]
 }
 
 #[test]
 fn the_longest_match_is_written(rt: HostRuntime) -> Result<(), Fail> {
-    let mut map = last_bits(rt.alloc())?;
-    assert!(rt;
-        rewrite(&mut map, &(7, 64), 9) == Some(((6, 63), 3)) && map.values().copied().eq([1, 2, 9])
-    );
-    assert!(rt;
-        write_longest(&mut map, &(4, 64), 7)
-            && !write_longest(&mut map, &(4, 59), 8)
-            && map.values().copied().eq([7, 2, 9])
-    );
+    assert!(rt; on_new(PrefixMap::new(rt.alloc()), rt.alloc(), is_rewritten)?);
     Ok(())
 }
 
-/// Whether the value of a network is this text.
-fn has(map: &PrefixMap<(u32, u8), String<Global>, Global>, text: &str) -> bool {
-    map.get(&(0x0a00_0000, 8)).map(|stored| stored.as_str()) == Some(text)
+type Texts = PrefixMap<Ipv6Prefix, String<Global>, Global>;
+
+/// The address of a site, which has 32 bits.
+const SITE: u128 = 0x2001_0db8_0000_0000_0000_0000_0000_0000;
+
+/// Whether the text of the site is this.
+fn has(map: &Texts, text: &str) -> bool {
+    match map.get(&Ipv6Prefix::from_repr_len(SITE, 32)) {
+        Some(stored) => stored.as_str() == text,
+        None => false,
+    }
+}
+
+/// Sets the text of the site, and answers whether it had this one before.
+fn replaces(map: &mut Texts, text: String<Global>, expected: Option<&str>) -> bool {
+    match map.insert(Ipv6Prefix::from_repr_len(SITE, 32), text) {
+        Ok(before) => before.as_deref() == expected,
+        Err(_) => false,
+    }
+}
+
+/// Sets a text and then another. Answers whether the first was handed out.
+fn are_set(map: &mut Texts, alloc: Global) -> Result<bool, AllocError> {
+    let first = String::from_str(alloc, "first")?;
+    let second = String::from_str(alloc, "second")?;
+    Ok(replaces(map, first, None) & replaces(map, second, Some("first")) & has(map, "second"))
+}
+
+/// Adds to the text of the site where it stands.
+fn lengthens(map: &mut Texts) -> bool {
+    let (stored, _visits) = map.get_mut_counted(&Ipv6Prefix::from_repr_len(SITE, 32));
+    match stored {
+        Some(text) => text.push_str(" time").is_ok(),
+        None => false,
+    }
+}
+
+/// Empties the text of the longest match of a host.
+fn empties(map: &mut Texts) -> bool {
+    match map.get_lpm_mut(&Ipv6Prefix::from_repr_len(SITE + 1, 128)) {
+        Some((_, text)) => {
+            text.clear();
+            true
+        }
+        None => false,
+    }
+}
+
+/// Writes over a text, by another prefix of the same path, and then changes it twice where it stands.
+fn is_changed(map: &mut Texts, alloc: Global) -> Result<bool, AllocError> {
+    let third = String::from_str(alloc, "third")?;
+    let same = Ipv6Prefix::from_repr_len(SITE + 1, 32);
+    Ok(
+        write(map, &same, third)
+            & has(map, "third")
+            & lengthens(map)
+            & has(map, "third time")
+            & empties(map)
+            & has(map, ""),
+    )
+}
+
+/// Both in turn.
+fn is_written(map: &mut Texts, alloc: Global) -> Result<bool, AllocError> {
+    Ok(are_set(map, alloc)? & is_changed(map, alloc)?)
 }
 
 #[test]
 fn a_stored_value_is_written(rt: HostRuntime) -> Result<(), Fail> {
-    let mut map = PrefixMap::new(rt.alloc())?;
-    map.insert(
-        (0x0a00_0000_u32, 8_u8),
-        String::from_str(rt.alloc(), "first")?,
-    )
-    .map_err(|_| Fail::new("an insertion"))?;
-    assert!(rt;
-        write(
-            &mut map,
-            &(0x0aff_0000, 8),
-            String::from_str(rt.alloc(), "second")?
-        )
-    );
-    assert!(rt; has(&map, "second"));
-    let (stored, _visits) = map.get_mut_counted(&(0x0a00_0000, 8));
-    if let Some(text) = stored {
-        text.push_str(" time")?;
-    }
-    assert!(rt; has(&map, "second time"));
-    if let Some((_, text)) = map.get_lpm_mut(&(0x0a01_0203, 32)) {
-        text.clear();
-    }
-    assert!(rt; has(&map, ""));
+    assert!(rt; on_new(PrefixMap::new(rt.alloc()), rt.alloc(), is_written)??);
     Ok(())
 }

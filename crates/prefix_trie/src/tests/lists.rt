@@ -1,7 +1,7 @@
 //! Cases that ask for all entries of a map, and for those around a prefix.
 use crate::map::{Iter, Keys, Values};
 use crate::tests::cases::{Entry, Pair, prefix_of};
-use crate::tests::questions::{found_pair, pair_of, shown};
+use crate::tests::questions::{found_pair, pair_in, pair_of, shown, value_in};
 use crate::{Prefix, PrefixMap};
 use std::alloc::{AllocError, Allocator, Global};
 
@@ -43,88 +43,38 @@ pub fn gives_same<P: Prefix + Copy, A: Allocator>(
     other.next().is_none()
 }
 
-/// Whether a walk gives the prefixes of these entries.
-fn gives_keys<P: Prefix + Copy, A: Allocator>(
-    mut walk: Keys<'_, P, u64, A>,
+/// Whether two walks give the prefixes and the values of these entries.
+fn gives_parts<P: Prefix + Copy, A: Allocator>(
+    mut keys: Keys<'_, P, u64, A>,
+    mut values: Values<'_, P, u64, A>,
     entries: &[Entry<P::R>],
 ) -> bool {
     for entry in entries {
-        if found_pair(walk.next()) != Some(entry.0) {
+        let parts = (found_pair(keys.next()), values.next().copied());
+        if parts != (Some(entry.0), Some(entry.1)) {
             return false;
         }
     }
-    walk.next().is_none()
+    keys.next().is_none() & values.next().is_none()
 }
 
-/// Whether a walk gives the values of these entries.
-fn gives_values<P: Prefix + Copy, A: Allocator>(
-    mut walk: Values<'_, P, u64, A>,
-    entries: &[Entry<P::R>],
-) -> bool {
-    for entry in entries {
-        if walk.next() != Some(&entry.1) {
-            return false;
-        }
-    }
-    walk.next().is_none()
-}
-
-/// Whether a walk gives these entries, and a clone of it those behind the first.
-fn lists_entries<P: Prefix + Copy, A: Allocator>(
-    mut walk: Iter<'_, P, u64, A>,
-    entries: &[Entry<P::R>],
-) -> bool {
-    match entries.split_first() {
-        Some((first, rest)) => {
-            shown(walk.next()) == Some(*first) && gives(walk.clone(), rest) && gives(walk, rest)
-        }
-        None => walk.next().is_none(),
-    }
-}
-
-/// The same of their prefixes.
-fn lists_keys<P: Prefix + Copy, A: Allocator>(
-    mut walk: Keys<'_, P, u64, A>,
-    entries: &[Entry<P::R>],
-) -> bool {
-    match entries.split_first() {
-        Some((first, rest)) => {
-            found_pair(walk.next()) == Some(first.0)
-                && gives_keys(walk.clone(), rest)
-                && gives_keys(walk, rest)
-        }
-        None => walk.next().is_none(),
-    }
-}
-
-/// The same of their values.
-fn lists_values<P: Prefix + Copy, A: Allocator>(
-    mut walk: Values<'_, P, u64, A>,
-    entries: &[Entry<P::R>],
-) -> bool {
-    match entries.split_first() {
-        Some((first, rest)) => {
-            walk.next() == Some(&first.1)
-                && gives_values(walk.clone(), rest)
-                && gives_values(walk, rest)
-        }
-        None => walk.next().is_none(),
-    }
-}
-
-/// Whether a loop over a map gives these entries.
-fn loops<P: Prefix + Copy, A: Allocator>(
+/// Whether the first items of walks are those of these entries, and what they give then is the rest, as do clones of them.
+fn gives_rest<P: Prefix + Copy, A: Allocator>(
     map: &PrefixMap<P, u64, A>,
     entries: &[Entry<P::R>],
 ) -> bool {
-    let mut rest = entries;
-    for entry in map {
-        match rest.split_first() {
-            Some((first, behind)) if shown(Some(entry)) == Some(*first) => rest = behind,
-            _ => return false,
-        }
-    }
-    rest.is_empty()
+    let mut walk = map.iter();
+    let mut keys = map.keys();
+    let mut values = map.values();
+    let first = entries.first();
+    let rest = &entries[entries.len().min(1)..];
+    (shown(walk.next()) == first.copied())
+        & (found_pair(keys.next()) == first.map(pair_in))
+        & (values.next().copied() == first.map(value_in))
+        & gives(walk.clone(), rest)
+        & gives(walk, rest)
+        & gives_parts(keys.clone(), values.clone(), rest)
+        & gives_parts(keys, values, rest)
 }
 
 /// Whether there are these entries, and all walks give them.
@@ -132,11 +82,7 @@ pub fn lists<P: Prefix + Copy, A: Allocator>(
     map: &PrefixMap<P, u64, A>,
     entries: &[Entry<P::R>],
 ) -> bool {
-    map.len() == entries.len()
-        && lists_entries(map.iter(), entries)
-        && lists_keys(map.keys(), entries)
-        && lists_values(map.values(), entries)
-        && loops(map, entries)
+    (map.len() == entries.len()) & gives(map.into_iter(), entries) & gives_rest(map, entries)
 }
 
 /// Whether the walks around a prefix give these entries.
@@ -150,12 +96,10 @@ pub fn covers<P: Prefix + Copy, A: Allocator>(
     let mut keys = map.cover_keys(&prefix);
     let mut values = map.cover_values(&prefix);
     for entry in expected {
-        if shown(entries.next()) != Some(*entry)
-            || found_pair(keys.next()) != Some(entry.0)
-            || values.next() != Some(&entry.1)
-        {
+        let parts = (found_pair(keys.next()), values.next().copied());
+        if (shown(entries.next()), parts) != (Some(*entry), (Some(entry.0), Some(entry.1))) {
             return false;
         }
     }
-    entries.next().is_none() && keys.next().is_none() && values.next().is_none()
+    entries.next().is_none() & keys.next().is_none() & values.next().is_none()
 }

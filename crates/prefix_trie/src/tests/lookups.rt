@@ -1,7 +1,9 @@
 //! All forms of lookups, counted ones too: of a count there is nothing to read.
+use crate::Visits;
 use crate::tests::cases::Case::{Finds, Inserts, Lists, Writes, WritesLongest};
 use crate::tests::refusing::Refusing;
 use crate::tests::trials::{Table, all_in_turn, in_turn};
+use std::mem::size_of;
 use std::test::Fail;
 
 /// Asked for the longer with host bits, for an address in it, and for one that neither contains.
@@ -54,4 +56,9 @@ fn no_matches(rt: HostRuntime) -> Result<(), Fail> {
     let heap = Refusing::new(rt.alloc());
     all_in_turn(&heap, &[NONE])?;
     Ok(())
+}
+
+#[test]
+fn a_counter_has_no_bytes(rt: HostRuntime) {
+    assert_eq!(rt; size_of::<Visits>(), 0);
 }

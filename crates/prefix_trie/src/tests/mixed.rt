@@ -3,6 +3,7 @@ ghost use Rattle.std.specs.Prelude.{◌≤◌};
 
 use crate::PrefixMap;
 use crate::replay::{Call, run};
+use crate::tests::on_new::on_new;
 use std::alloc::{AllocError, Global};
 use std::test::Fail;
 
@@ -314,14 +315,13 @@ fn answer_alike(alloc: Global, map: &mut Map, list: &mut Vec<Entry>) -> Result<b
 }
 
 /// Whether all calls are answered as by a list, and the map that they leave has its entries.
-fn is_as_a_list(alloc: Global, map: &mut Map) -> Result<bool, Fail> {
+fn is_as_a_list(map: &mut Map, alloc: Global) -> Result<bool, Fail> {
     let mut list = Vec::new(alloc);
     Ok(answer_alike(alloc, map, &mut list)? && lists(map, &list))
 }
 
 #[test]
 fn mixed_calls_as_on_a_sorted_list(rt: HostRuntime) -> Result<(), Fail> {
-    let mut map = PrefixMap::new(rt.alloc())?;
-    assert!(rt; is_as_a_list(rt.alloc(), &mut map)?);
+    assert!(rt; on_new(PrefixMap::new(rt.alloc()), rt.alloc(), is_as_a_list)??);
     Ok(())
 }

@@ -6,6 +6,8 @@ ghost use Rattle.prefix_trie_bits.specs.Bits.{number, digits, zeros};
 
 use self::Sample::{Keep, Width, Window};
 use crate::{Ipv4Prefix, Ipv6Prefix, Key, Prefix, Refusal, Refused};
+use std::alloc::Global;
+use std::fmt::Debug;
 use std::test::Fail;
 
 /// What a key answers.
@@ -129,57 +131,80 @@ fn pairs(rt: HostRuntime) {
 }
 
 #[test]
-fn ipv4(rt: HostRuntime) -> Result<(), Fail> {
-    assert!(rt; Ipv4Prefix::new(0, 33).is_none() && Ipv4Prefix::new(0, 32).is_some());
-    let ten = Ipv4Prefix::new(0x0a01_0000, 8).ok_or("too long")?;
-    assert!(rt;
-        Ipv4Prefix::num_bits() == 32
-            && ten.addr() == 0x0a01_0000
-            && ten.repr() == 0x0a01_0000
-            && ten.prefix_len() == 8
-            && ten.mask() == 0x0a00_0000
-            && ten.fits()
-            && Ipv4Prefix::from_repr_len(0x0a01_0000, 8) == ten
-            && Ipv4Prefix::from_repr_len(0x0a00_0000, 8) != ten
-    );
-    let wide = Ipv4Prefix::new(0x0a19_0208, 8).ok_or("too long")?;
-    let narrow = Ipv4Prefix::new(0x0a82_0205, 9).ok_or("too long")?;
-    assert!(rt; wide.contains(&narrow) && !narrow.contains(&wide));
-    Ok(())
+fn ipv4(rt: HostRuntime) {
+    let ten = Ipv4Prefix::from_repr_len(0x0a01_0000, 8);
+    let numbers = [
+        Ipv4Prefix::num_bits(),
+        ten.addr(),
+        ten.repr(),
+        u32::from(ten.prefix_len()),
+        ten.mask(),
+    ];
+    assert!(rt; numbers == [32, 0x0a01_0000, 0x0a01_0000, 8, 0x0a00_0000]);
+    let wide = Ipv4Prefix::from_repr_len(0x0a19_0208, 8);
+    let narrow = Ipv4Prefix::from_repr_len(0x0a82_0205, 9);
+    let answers = [
+        ten.fits(),
+        Ipv4Prefix::new(0x0a01_0000, 8) == Some(ten),
+        Ipv4Prefix::new(0x0a00_0000, 8) != Some(ten),
+        Ipv4Prefix::new(0, 33).is_none(),
+        Ipv4Prefix::new(0, 32).is_some(),
+        wide.contains(&narrow),
+        !narrow.contains(&wide),
+    ];
+    assert!(rt; answers == [true; 7]);
 }
 
 #[test]
-fn ipv6(rt: HostRuntime) -> Result<(), Fail> {
-    assert!(rt; Ipv6Prefix::new(0, 129).is_none());
-    let network = Ipv6Prefix::new(0x2001_0db8_0000_0000_0000_0000_0000_0001, 32).ok_or("too long")?;
+fn ipv6(rt: HostRuntime) {
+    let network = Ipv6Prefix::from_repr_len(0x2001_0db8_0000_0000_0000_0000_0000_0001, 32);
+    let numbers = [network.addr(), network.repr(), network.mask()];
     assert!(rt;
-        Ipv6Prefix::num_bits() == 128
-            && network.addr() == 0x2001_0db8_0000_0000_0000_0000_0000_0001
-            && network.repr() == 0x2001_0db8_0000_0000_0000_0000_0000_0001
-            && network.prefix_len() == 32
-            && network.mask() == 0x2001_0db8_0000_0000_0000_0000_0000_0000
-            && network.fits()
+        numbers
+            == [
+                0x2001_0db8_0000_0000_0000_0000_0000_0001,
+                0x2001_0db8_0000_0000_0000_0000_0000_0001,
+                0x2001_0db8_0000_0000_0000_0000_0000_0000,
+            ]
     );
     let host = Ipv6Prefix::from_repr_len(0x2001_0db8_ffff_0000_0000_0000_0000_0001, 128);
-    assert!(rt; network.contains(&host) && !host.contains(&network));
-    Ok(())
+    let answers = [
+        network.fits(),
+        Ipv6Prefix::num_bits() == 128,
+        network.prefix_len() == 32,
+        Ipv6Prefix::new(network.addr(), 32) == Some(network),
+        Ipv6Prefix::new(0, 129).is_none(),
+        network.contains(&host),
+        !host.contains(&network),
+    ];
+    assert!(rt; answers == [true; 7]);
+}
+
+/// Whether this is the debug text of a value.
+fn shows<T: Debug>(alloc: Global, value: &T, expected: &str) -> Result<bool, Fail> {
+    let text = format!(in alloc; "{value:?}")?;
+    Ok(text.as_str() == expected)
 }
 
 #[test]
 fn texts(rt: HostRuntime) -> Result<(), Fail> {
-    let four = Ipv4Prefix::new(0x0a01_0203, 8).ok_or("too long")?;
-    assert_eq!(rt; format!(in rt.alloc(); "{four:?}")?.as_str(), "10.1.2.3/8");
-    let six = Ipv6Prefix::new(1, 128).ok_or("too long")?;
-    assert_eq!(rt;
-        format!(in rt.alloc(); "{six:?}")?.as_str(),
-        "0000:0000:0000:0000:0000:0000:0000:0001/128"
+    let four = Ipv4Prefix::from_repr_len(0x0a01_0203, 8);
+    let six = Ipv6Prefix::from_repr_len(1, 128);
+    let documentation = Ipv6Prefix::from_repr_len(0x2001_0db8_0000_0000_0000_0000_0000_00ff, 32);
+    assert!(rt; shows(rt.alloc(), &four, "10.1.2.3/8")?);
+    assert!(rt;
+        shows(
+            rt.alloc(),
+            &six,
+            "0000:0000:0000:0000:0000:0000:0000:0001/128"
+        )?
     );
-    let documentation = Ipv6Prefix::new(0x2001_0db8_0000_0000_0000_0000_0000_00ff, 32).ok_or(
-        "too long",
-    )?;
-    assert_eq!(rt;
-        format!(in rt.alloc(); "{documentation:?}")?.as_str(),
-        "2001:0db8:0000:0000:0000:0000:0000:00ff/32"
+    assert!(rt;
+        shows(
+            rt.alloc(),
+            &documentation,
+            "2001:0db8:0000:0000:0000:0000:0000:00ff/32"
+        )?
     );
     Ok(())
 }

@@ -26,27 +26,13 @@ pub fn shown<P: Prefix + Copy>(found: Option<(P, &u64)>) -> Option<Entry<P::R>> 
 }
 
 /// The pair of an entry.
-fn pair_in<K: Copy>(entry: Option<Entry<K>>) -> Option<Pair<K>> {
-    match entry {
-        Some((pair, _)) => Some(pair),
-        None => None,
-    }
+pub fn pair_in<K: Copy>(entry: &Entry<K>) -> Pair<K> {
+    entry.0
 }
 
 /// The value of an entry.
-pub fn value_in<K: Copy>(entry: Option<Entry<K>>) -> Option<u64> {
-    match entry {
-        Some((_, value)) => Some(value),
-        None => None,
-    }
-}
-
-/// An entry with this value.
-pub fn with_value<K: Copy>(entry: Option<Entry<K>>, value: u64) -> Option<Entry<K>> {
-    match entry {
-        Some((pair, _)) => Some((pair, value)),
-        None => None,
-    }
+pub fn value_in<K: Copy>(entry: &Entry<K>) -> u64 {
+    entry.1
 }
 
 /// Whether the lookups of exactly a prefix answer so.
@@ -57,13 +43,14 @@ fn has<P: Prefix + Copy, A: Allocator>(
 ) -> bool
     requires { P.IsFitting prefix.now }
 {
-    let value = value_in(exact);
-    map.get(prefix).copied() == value
-        && map.get_counted(prefix).0.copied() == value
-        && map.contains_key(prefix) == value.is_some()
-        && map.contains_key_counted(prefix).0 == value.is_some()
-        && shown(map.get_key_value(prefix)) == exact
-        && shown(map.get_key_value_counted(prefix).0) == exact
+    let value = exact.as_ref().map(value_in);
+    let values = [map.get(prefix).copied(), map.get_counted(prefix).0.copied()];
+    let are_there = [map.contains_key(prefix), map.contains_key_counted(prefix).0];
+    let entries = [
+        shown(map.get_key_value(prefix)),
+        shown(map.get_key_value_counted(prefix).0),
+    ];
+    (values == [value; 2]) & (are_there == [value.is_some(); 2]) & (entries == [exact; 2])
 }
 
 /// Whether the lookups of the longest match answer so.
@@ -74,11 +61,15 @@ fn has_longest<P: Prefix + Copy, A: Allocator>(
 ) -> bool
     requires { P.IsFitting prefix.now }
 {
-    let pair = pair_in(longest);
-    shown(map.get_lpm(prefix)) == longest
-        && shown(map.get_lpm_counted(prefix).0) == longest
-        && found_pair(map.get_lpm_prefix(prefix)) == pair
-        && found_pair(map.get_lpm_prefix_counted(prefix).0) == pair
+    let entries = [
+        shown(map.get_lpm(prefix)),
+        shown(map.get_lpm_counted(prefix).0),
+    ];
+    let pairs = [
+        found_pair(map.get_lpm_prefix(prefix)),
+        found_pair(map.get_lpm_prefix_counted(prefix).0),
+    ];
+    (entries == [longest; 2]) & (pairs == [longest.as_ref().map(pair_in); 2])
 }
 
 /// Whether the lookups of the shortest match answer so.
@@ -89,13 +80,18 @@ fn has_shortest<P: Prefix + Copy, A: Allocator>(
 ) -> bool
     requires { P.IsFitting prefix.now }
 {
-    let pair = pair_in(shortest);
-    shown(map.get_spm(prefix)) == shortest
-        && shown(map.get_spm_counted(prefix).0) == shortest
-        && found_pair(map.get_spm_prefix(prefix)) == pair
-        && found_pair(map.get_spm_prefix_counted(prefix).0) == pair
-        && map.is_covered(prefix) == pair.is_some()
-        && map.is_covered_counted(prefix).0 == pair.is_some()
+    let entries = [
+        shown(map.get_spm(prefix)),
+        shown(map.get_spm_counted(prefix).0),
+    ];
+    let pairs = [
+        found_pair(map.get_spm_prefix(prefix)),
+        found_pair(map.get_spm_prefix_counted(prefix).0),
+    ];
+    let are_covered = [map.is_covered(prefix), map.is_covered_counted(prefix).0];
+    (entries == [shortest; 2])
+        & (pairs == [shortest.as_ref().map(pair_in); 2])
+        & (are_covered == [shortest.is_some(); 2])
 }
 
 /// Whether all lookups of a prefix answer so.
@@ -108,12 +104,12 @@ pub fn finds<P: Prefix + Copy, A: Allocator>(
 ) -> bool {
     let prefix = prefix_of(at);
     has(map, &prefix, exact)
-        && has_longest(map, &prefix, longest)
-        && has_shortest(map, &prefix, shortest)
+        & has_longest(map, &prefix, longest)
+        & has_shortest(map, &prefix, shortest)
 }
 
 pub fn has_len<P: Prefix + Copy, A: Allocator>(map: &PrefixMap<P, u64, A>, len: usize) -> bool {
-    map.len() == len && map.is_empty() == (len == 0)
+    (map.len(), map.is_empty()) == (len, len == 0)
 }
 
 pub fn has_slots<P: Prefix + Copy, A: Allocator>(
@@ -158,7 +154,7 @@ pub fn is_same<P: Prefix + Copy, A: Allocator>(
     copy: &PrefixMap<P, u64, A>,
 ) -> bool {
     gives_same(map.iter(), copy.iter())
-        && map.node_count() == copy.node_count()
-        && map.node_blocks() == copy.node_blocks()
-        && map.cell_blocks() == copy.cell_blocks()
+        & (map.node_count() == copy.node_count())
+        & (map.node_blocks() == copy.node_blocks())
+        & (map.cell_blocks() == copy.cell_blocks())
 }

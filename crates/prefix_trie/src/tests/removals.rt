@@ -1,7 +1,7 @@
 //! Taking entries out of a map, with each request for memory refused in turn, and with every one refused.
 use crate::Ipv4Prefix;
 use crate::tests::cases::Case::{
-    self, Empties, Finds, Inserts, Len, Nodes, Removes, RemovesChildren, RetainsAbove,
+    self, Empties, Finds, Inserts, Len, Nodes, Removes, RemovesChildren, RetainsFrom,
 };
 use crate::tests::cases::Pair;
 use crate::tests::refusing::Refusing;
@@ -150,7 +150,7 @@ fn taking(at: Pair<u32>, item: u32, by: By) -> Case<u32> {
         By::Remove => Removes(at, Some(value)),
         By::KeepTree => Empties(at, Some(value)),
         By::Children => RemovesChildren((at.0, at.1.saturating_sub(2))),
-        By::Retain => RetainsAbove(value),
+        By::Retain => RetainsFrom(value.saturating_add(1)),
     }
 }
 

@@ -3,6 +3,7 @@ ghost use Rattle.std.specs.Prelude.{All};
 ghost use Rattle.prefix_trie.specs.Replay.{IsFittingCall};
 
 use crate::replay::{Call, Reply, run};
+use crate::tests::on_new::on_new;
 use crate::tests::refusing::Refusing;
 use crate::{Prefix, PrefixMap, Refusal};
 use std::alloc::{AllocError, Allocator, Global};
@@ -12,6 +13,8 @@ use std::test::Fail;
 const MANY: u64 = 100;
 
 type Key = (u32, u8);
+
+type Map<A> = PrefixMap<Key, u64, A>;
 
 /// A reply as it should be.
 #[derive(Clone, Copy)]
@@ -87,13 +90,27 @@ fn are<A: Allocator>(replies: &[Reply<Key, A>], wanted: &[Wanted<'_>]) -> bool {
     replies.len() == wanted.len()
 }
 
-/// Whether the calls on a new map get these replies.
-fn replies_are(alloc: Global, calls: &[Call<Key>], wanted: &[Wanted<'_>]) -> Result<bool, Fail>
+/// Whether the calls on a map get these replies.
+fn replies_on(
+    map: &mut Map<Global>,
+    alloc: Global,
+    calls: &[Call<Key>],
+    wanted: &[Wanted<'_>],
+) -> bool
+    requires { All (IsFittingCall ⟦<Key as Prefix>⟧.IsFitting) calls.now }
+{
+    match run(alloc, map, calls) {
+        Ok(replies) => are(&replies, wanted),
+        Err(AllocError) => false,
+    }
+}
+
+/// The same of a new map.
+fn replies_are(alloc: Global, calls: &[Call<Key>], wanted: &[Wanted<'_>]) -> Result<bool, Refusal>
     requires { All (IsFittingCall ⟦<Key as Prefix>⟧.IsFitting) calls.now }
 {
     let mut map = PrefixMap::new(alloc)?;
-    let replies = run(alloc, &mut map, calls)?;
-    Ok(are(&replies, wanted))
+    Ok(replies_on(&mut map, alloc, calls, wanted))
 }
 
 #[test]
@@ -216,8 +233,6 @@ fn entries_of_a_least_length(rt: HostRuntime) -> Result<(), Fail> {
     Ok(())
 }
 
-type Map<A> = PrefixMap<Key, u64, A>;
-
 /// Whether a map has the network of all addresses alone, as before the run.
 fn has_first_alone<A: Allocator>(map: &Map<A>) -> bool {
     map.get(&(0, 0)) == Some(&7) && map.len() == 1 && map.node_count() == 1
@@ -312,8 +327,8 @@ fn run_refused<'a>(
     part_lost(&outcome, map)
 }
 
-/// Runs them on a map of one entry, with one request refused.
-fn run_once(heap: &Refusing<Global>, passed: u64) -> Result<Option<Lost>, Fail> {
+/// Runs them on a new map once it has an entry, with one request refused.
+fn run_once(heap: &Refusing<Global>, passed: u64) -> Result<Option<Lost>, Refusal> {
     let mut map = PrefixMap::new(heap)?;
     let is_stored = map.insert((0, 0), 7) == Ok(None);
     let part = run_refused(heap, &mut map, passed);
@@ -391,11 +406,17 @@ fn lists_all<A: Allocator>(replies: &[Reply<Key, A>]) -> bool {
     }
 }
 
+/// Whether a run lists all of them, once they are stored.
+fn is_long(map: &mut Map<Global>, alloc: Global) -> bool {
+    let is_stored = stores_all(map);
+    match run(alloc, map, &[Call::List]) {
+        Ok(replies) => is_stored & lists_all(&replies),
+        Err(AllocError) => false,
+    }
+}
+
 #[test]
 fn a_list_of_more_than_a_thousand(rt: HostRuntime) -> Result<(), Fail> {
-    let mut map = PrefixMap::new(rt.alloc())?;
-    assert!(rt; stores_all(&mut map));
-    let replies = run(rt.alloc(), &mut map, &[Call::List])?;
-    assert!(rt; lists_all(&replies));
+    assert!(rt; on_new(PrefixMap::new(rt.alloc()), rt.alloc(), is_long)?);
     Ok(())
 }

@@ -1,11 +1,11 @@
-use Rattle.std.proofs.Common.{refl, ap, subst}
+use Rattle.std.proofs.Common.{rules, refl, subst}
 use Rattle.prefix_trie_bits.specs.Laws.Steps.{IsMap}
-use Rattle.prefix_trie_bits.specs.Model.Step.{State, Clear, Done}
+use Rattle.prefix_trie_bits.specs.Model.Step.{Clear, Done}
 use Rattle.prefix_trie_bits.specs.Model.Storage.{StepInStorage, StepOfStrings}
 use Rattle.prefix_trie_bits.proofs.Model.Steps.{stays_map}
 use Rattle.prefix_trie_table.specs.Shape.{Contents}
 use Rattle.prefix_trie_map.specs.Steps.{state, stored}
-use Rattle.prefix_trie_map.proofs.Steps.{clear_step}
+use Rattle.prefix_trie_map.proofs.Steps.{clear_step, no_entries_left, root_left}
 use Rattle.prefix_trie_map.proofs.map.PrefixMap.clear.Given as given
 use Rattle.prefix_trie_map.proofs.map.PrefixMap.clear.Goals as goal
 
@@ -20,10 +20,10 @@ invariant_of-self g c =
     (subst (λ (m : Contents g.row.T.Denot). IsMap g.P.R.Key.bit_width (state m)) c.self.view_is c.self.invariant)
 
 pub returns-clause-entries : goal.returns-clause-entries
-returns-clause-entries g c = ap (λ (s : State g.row.T.Denot). s.entries) (step g c).step.1
+returns-clause-entries g c = search (rules, no_entries_left)
 
 pub returns-clause-nodes : goal.returns-clause-nodes
-returns-clause-nodes g c = ap (λ (s : State g.row.T.Denot). s.nodes) (step g c).step.1
+returns-clause-nodes g c = search (rules, root_left)
 
 pub returns-clause-step : goal.returns-clause-step
 returns-clause-step = step
