@@ -1,2 +1,3 @@
-//! Maps from prefixes to values, and their walks.
+//! Maps from prefixes to values, their entries and their walks.
+pub use prefix_trie_map::map::entry::{Entry, OccupiedEntry, Put, VacantEntry};
 pub use prefix_trie_map::map::{Cover, CoverKeys, CoverValues, Iter, Keys, PrefixMap, Values};

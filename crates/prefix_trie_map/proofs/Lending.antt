@@ -15,7 +15,7 @@ use Rattle.prefix_trie_map.specs.Walks.{lent_item_mut}
 
 module _ {T : Type 0} (width : ℕ) (m : Contents T) (good : IsMap width (state m)) where
   -- another value at a stored key
-  set_again : (k : List Bool) (x : T) → contains_key m.entries k ≡ true → IsMap width (state (with_value_at m k x))
+  pub set_again : (k : List Bool) (x : T) → contains_key m.entries k ≡ true → IsMap width (state (with_value_at m k x))
   set_again k x has = record {
     keys_within = λ q h. elim (key_cases m.entries k q x h) [
       | inl is ↦ good.keys_within q (ap (contains_key m.entries) is ∙ has)

@@ -9,3 +9,6 @@ pub mod Steps
 pub mod Retained
 pub mod Loans
 pub mod Copying
+pub mod Placing
+pub mod Entries
+pub mod Occupied

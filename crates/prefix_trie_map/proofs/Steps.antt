@@ -1,12 +1,12 @@
 -- Steps by bit strings are steps by prefixes.
 use Rattle.std.proofs.Common.{◌≡◌, ℕ, inl, inr, Bool, List, Option, Result, Ok, Err, refl, ap, ◌∙◌, subst}
 use Rattle.prefix_trie_bits.specs.declared.prefix.Refused.{Refused}
-use Rattle.prefix_trie_bits.specs.Model.Entries.{no_entries}
-use Rattle.prefix_trie_bits.specs.Model.Nodes.{root_alone}
+use Rattle.prefix_trie_bits.specs.Model.Entries.{Entries, no_entries}
+use Rattle.prefix_trie_bits.specs.Model.Nodes.{Nodes, root_alone}
 use Rattle.prefix_trie_bits.specs.Model.Step.{State, Reply, Step, Insert, Remove, RemoveKeepTree, RemoveChildren, Clear, Match, Done, Count, Addresses, Items, Value}
 use Rattle.prefix_trie_bits.specs.Model.Storage.{Storage, StepInStorage, StepOfStrings}
 use Rattle.prefix_trie_table.specs.Shape.{Contents}
-use Rattle.prefix_trie_map.specs.Steps.{stored, inserted}
+use Rattle.prefix_trie_map.specs.Steps.{stored, inserted, placed}
 
 -- a reply that shows no prefix, as one of a map with other prefixes
 abbrev pub carried : {P Q T : Type 0} → Reply P T → Reply Q T
@@ -60,6 +60,11 @@ module _ {T : Type 0} where
   inserted_is P Q (Ok before) = refl
   inserted_is P Q (Err refused) = refl
 
+  -- nor what the insertion of a missing key answers
+  pub placed_is : (P Q : Type 0) {X : Type 0} (r : Result X (Refused T)) → ◌≡◌ {A = Reply Q T} (placed r) (carried {P = P} (placed r))
+  placed_is P Q (Ok x) = refl
+  placed_is P Q (Err refused) = refl
+
   -- what holds of the table, by the key's bits, holds of the map, by the prefix's path
   pub by_key : (F : Contents T → List Bool → Type 0) {inside old : Contents T} {key path : List Bool} → inside ≡ old → key ≡ path → F inside key → F old path
   by_key F {inside} {old} {key} {path} same is fact = subst (λ m. F m path) same (subst (F inside) is fact)
@@ -75,8 +80,25 @@ module _ {T : Type 0} where
   value_in (Reply.Refused cause) = Option.None
 
   -- what `clear` leaves
-  pub no_entries_left : {old new : Contents T} → StepOfStrings (stored old) Clear Done (stored new) → new.entries ≡ no_entries
+  pub no_entries_left : {s : State T × Storage} {entries : Entries T} {nodes : Nodes} {kept : Storage} →
+      StepOfStrings s Clear Done (record { entries = entries; nodes = nodes }, kept) → entries ≡ no_entries
   no_entries_left h = ap (λ (s : State T). s.entries) (h 0).step.1
 
-  pub root_left : {old new : Contents T} → StepOfStrings (stored old) Clear Done (stored new) → new.nodes ≡ root_alone
+  pub root_left : {s : State T × Storage} {entries : Entries T} {nodes : Nodes} {kept : Storage} →
+      StepOfStrings s Clear Done (record { entries = entries; nodes = nodes }, kept) → nodes ≡ root_alone
   root_left h = ap (λ (s : State T). s.nodes) (h 0).step.1
+
+  -- the removals, from the table and the key's bits to the map and the prefix's path
+  module _ {P : Type 0} (path : P → List Bool) (back : List Bool → P) (width : ℕ) {inside old : Contents T} {t : State T × Storage} {key : List Bool} {value : Option T} (q : P)
+      (same : inside ≡ old) (is : key ≡ path q) where
+    pub removed_step : StepOfStrings (stored inside) (Remove key) (Value value) t →
+        StepInStorage path back width (stored old) (Remove q) (Value value) t
+    removed_step h =
+        remove_step path back width (Value value) (Value value) refl refl q
+        (by_key (λ m k. StepOfStrings (stored m) (Remove k) (Value value) t) same is h)
+
+    pub taken_step : StepOfStrings (stored inside) (RemoveKeepTree key) (Value value) t →
+        StepInStorage path back width (stored old) (RemoveKeepTree q) (Value value) t
+    taken_step h =
+        keep_tree_step path back width (Value value) (Value value) refl refl q
+        (by_key (λ m k. StepOfStrings (stored m) (RemoveKeepTree k) (Value value) t) same is h)

@@ -1,7 +1,7 @@
 -- What a map ends as, where a `&mut` to one of its values is returned. This project's own.
 use Rattle.std.specs.Prelude.{Bool, List, Option}
 use Rattle.std.specs.Option.{option_map}
-use Rattle.std.specs.Borrow.{LendsIf, Fml, RattleType, MutBor}
+use Rattle.std.specs.Borrow.{Lends, LendsIf, Fml, RattleType, MutBor}
 use Rattle.std.specs.declared.alloc.Allocator as alloc
 use Rattle.std.specs.declared.cmp.PartialEq as partial
 use Rattle.std.specs.declared.fmt.Debug as debug
@@ -15,12 +15,15 @@ abbrev pub lent_beside : {P T : Type 0} → Option (P × MutBor T) → Option (M
 lent_beside found = option_map (λ f. f.1) found
 
 module _ (P T A R : RattleType) (p : prefix.Ghosts P.Denot R.Denot) (shows : debug.Ghosts P.Denot) (k : key.Ghosts R.Denot)
-    (same : partial.Ghosts R.Denot) (writes : debug.Ghosts R.Denot) (a : alloc.Ghosts A.Denot) (m : MutBor (Contents T.Denot)) (q : List Bool)
-    (r : Option (MutBor T.Denot)) where
-  -- once the borrow r ends, the value at q is the last one written through r, and at `None` the map is as it was
-  abbrev pub lends_entry_if : Fml
-  lends_entry_if = LendsIf (map.the_row P T A R p shows k same writes a) T m r (with_value_at m.now q) m.now
+    (same : partial.Ghosts R.Denot) (writes : debug.Ghosts R.Denot) (a : alloc.Ghosts A.Denot) (m : MutBor (Contents T.Denot)) (q : List Bool) where
+  -- once the borrow r ends, the value at q is the last one written through r
+  abbrev pub lends_value : MutBor T.Denot → Fml
+  lends_value r = Lends (map.the_row P T A R p shows k same writes a) T m r (with_value_at m.now q)
+
+  -- the same where there may be no r, and the map then stays as it was
+  abbrev pub lends_entry_if : Option (MutBor T.Denot) → Fml
+  lends_entry_if r = LendsIf (map.the_row P T A R p shows k same writes a) T m r (with_value_at m.now q) m.now
 
   -- the same of the longest key that begins q
-  abbrev pub lends_longest_if : Fml
-  lends_longest_if = LendsIf (map.the_row P T A R p shows k same writes a) T m r (with_longest_at m.now q) m.now
+  abbrev pub lends_longest_if : Option (MutBor T.Denot) → Fml
+  lends_longest_if r = LendsIf (map.the_row P T A R p shows k same writes a) T m r (with_longest_at m.now q) m.now

@@ -9,3 +9,4 @@ pub mod Steps
 pub mod Whole
 pub mod Walks
 pub mod Lending
+pub mod Entry

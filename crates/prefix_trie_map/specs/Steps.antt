@@ -1,3 +1,3 @@
 -- A map as a state of the model, beside how it is stored, and an insertion as a step of the model. This project's own.
 pub use Rattle.prefix_trie_table.specs.Shape.{state, storage}
-pub use Rattle.prefix_trie_table.specs.Steps.{stored, inserted}
+pub use Rattle.prefix_trie_table.specs.Steps.{stored, inserted, placed}

@@ -17,9 +17,11 @@ ghost use Rattle.prefix_trie_map.specs.Whole.{IsWhole};
 mod clone;
 mod counting;
 mod cover;
+pub mod entry;
 mod iter;
 mod lending;
 mod lookup;
+mod places;
 mod removal;
 mod retain;
 mod slots;
@@ -106,7 +108,7 @@ impl<P: Prefix, T: Drop, A: Allocator> PrefixMap<P, T, A> {
     ///
     /// A new one is refused with `Memory` where a request for memory is refused, and with `IndexRange` where the slots of the
     /// blocks that lack pass the limit. Refused, it hands the value back, and the map has the entries that it had. One insertion
-    /// makes at most 56 slots for nodes and 31 for values.
+    /// makes at most 56 slots for nodes and 31 for values (`slot_laws`).
     #[inline]
     pub fn insert(&mut self, prefix: P, value: T) -> Result<Option<T>, Refused<T>>
         requires { P.IsFitting prefix }

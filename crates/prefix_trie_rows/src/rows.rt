@@ -1,5 +1,6 @@
 //! The rows in order, each with its tables.
 mod blocks;
+mod entries;
 mod limits;
 mod lookups;
 mod prefixes;
@@ -32,8 +33,9 @@ pub enum Table {
 }
 
 /// The rows in order, each with its number.
-pub const ROWS: [(u32, Row); 25] = [
+pub const ROWS: [(u32, Row); 28] = [
     (1, &[Table::Ipv4(&lookups::EXACT)]),
+    (2, &[Table::Ipv4(&entries::HOST_BITS)]),
     (3, &[Table::Ipv4(&lookups::MATCHES)]),
     (5, &[Table::U32(&widths::HOSTS_OF_32_BITS)]),
     (6, &[Table::U128(&widths::ENDS_OF_128_BITS)]),
@@ -46,6 +48,7 @@ pub const ROWS: [(u32, Row); 25] = [
     (17, &[Table::U8(&blocks::STEPS)]),
     (18, &[Table::Ipv4(&removals::EVEN_VALUES_KEPT)]),
     (19, &[Table::U8(&widths::ENDS_OF_8_BITS)]),
+    (20, &[Table::Ipv4(&entries::COUNTED)]),
     (22, &[Table::U32(&removals::PRUNED_ON_THE_WAY)]),
     (25, &[Table::Ipv4(&walks::AROUND_A_NETWORK)]),
     (
@@ -73,6 +76,7 @@ pub const ROWS: [(u32, Row); 25] = [
     ),
     (31, &[Table::U32(&removals::BELOW_HALF_NODES)]),
     (32, &[Table::U32(&removals::EMPTY_NODES_ELSEWHERE)]),
+    (33, &[Table::U8(&entries::FILLED)]),
     (37, &[Table::U32(&blocks::TWO_HOSTS)]),
     (38, &[Table::U8(&limits::KEPT_BLOCKS)]),
     (40, &[Table::Run(2, &runs::UNDER_TWO_SLOTS)]),

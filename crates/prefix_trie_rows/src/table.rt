@@ -1,6 +1,8 @@
 //! Tables: calls of a map beside the answers that they should have, and what puts them to a map.
 ghost use Rattle.std.specs.Prelude.{IfSome};
 
+mod entries;
+
 use prefix_trie::{BlockCount, Ipv4Prefix, Ipv6Prefix, Key, Prefix, PrefixMap, Refusal, Refused};
 use std::alloc::Global;
 
@@ -25,11 +27,14 @@ pub enum Line<R: 'static> {
     /// Inserts prefixes in turn, with values from 0 up. All are new.
     InsertAll(&'static [Pair<R>]),
     Get(Pair<R>, Option<u64>),
+    GetKeyValue(Pair<R>, Option<Entry<R>>),
     GetLpm(Pair<R>, Option<Entry<R>>),
     GetSpm(Pair<R>, Option<Entry<R>>),
     /// Finds a prefix, whose value is then set to the number.
     GetLpmMut(Pair<R>, u64, Pair<R>),
     IsCovered(Pair<R>, bool),
+    /// All entries, in order.
+    Entries(&'static [Entry<R>]),
     /// All prefixes, in order, with values from 0 up.
     Iter(&'static [Pair<R>]),
     Values(&'static [u64]),
@@ -38,6 +43,20 @@ pub enum Line<R: 'static> {
     Remove(Pair<R>, Option<u64>),
     RemoveKeepTree(Pair<R>, Option<u64>),
     RemoveChildren(Pair<R>),
+    /// The prefix of an entry.
+    EntryKey(Pair<R>, Pair<R>),
+    /// The value of an entry.
+    EntryGet(Pair<R>, Option<u64>),
+    /// The value set by an entry, and the one that was there before.
+    EntryInsert(Pair<R>, u64, Result<Option<u64>, Refusal>),
+    /// `and_modify` that adds one, and then `or_insert` of the number.
+    AddOrInsert(Pair<R>, u64, u64),
+    /// `or_default` answers the first number, and the value is then set to the second.
+    OrDefault(Pair<R>, u64, u64),
+    /// `or_insert_with` of a closure that gives the first number answers the second, and calls the closure so many times.
+    OrInsertWith(Pair<R>, u64, u64, u64),
+    /// What an occupied entry hands out as it is taken out, if it is one.
+    RemoveEntry(Pair<R>, Option<u64>),
     /// The values that the test is asked about, in order, each with what the test says.
     Retain(&'static [(u64, bool)]),
     Clear,
@@ -125,6 +144,22 @@ fn holds<P: Written>(alloc: Global, map: &mut Map<P>, line: &Line<P::R>) -> bool
         Line::RemoveChildren(pair) => removes_children(map, *pair),
         Line::Retain(asked) => retains(map, asked),
         Line::Clear => clears(map),
+        _ => holds_at_entry(map, line),
+    }
+}
+
+/// Whether a call of an entry has its answer.
+fn holds_at_entry<P: Written>(map: &mut Map<P>, line: &Line<P::R>) -> bool {
+    match line {
+        Line::EntryKey(pair, answer) => entries::has_key(map, *pair, *answer),
+        Line::EntryGet(pair, answer) => entries::has_value(map, *pair, *answer),
+        Line::EntryInsert(pair, value, answer) => entries::inserts(map, *pair, *value, *answer),
+        Line::AddOrInsert(pair, fresh, answer) => entries::adds(map, *pair, *fresh, *answer),
+        Line::OrDefault(pair, answer, then) => entries::or_default(map, *pair, *answer, *then),
+        Line::OrInsertWith(pair, fresh, answer, calls) => {
+            entries::or_insert_with(map, *pair, *fresh, *answer, *calls)
+        }
+        Line::RemoveEntry(pair, answer) => entries::removes(map, *pair, *answer),
         _ => answers(map, line),
     }
 }
@@ -133,9 +168,11 @@ fn holds<P: Written>(alloc: Global, map: &mut Map<P>, line: &Line<P::R>) -> bool
 fn answers<P: Written>(map: &Map<P>, line: &Line<P::R>) -> bool {
     match line {
         Line::Get(pair, answer) => gets(map, *pair, *answer),
+        Line::GetKeyValue(pair, answer) => finds(map, *pair, *answer),
         Line::GetLpm(pair, answer) => finds_longest(map, *pair, *answer),
         Line::GetSpm(pair, answer) => finds_shortest(map, *pair, *answer),
         Line::IsCovered(pair, answer) => is_covered(map, *pair, *answer),
+        Line::Entries(entries) => lists_entries(map, entries),
         Line::Iter(pairs) => lists(map, pairs),
         Line::Values(values) => map.values().eq(*values),
         Line::Cover(pair, entries) => covers(map, *pair, entries),
@@ -279,6 +316,13 @@ fn shown<P: Prefix>(found: Option<(P, &u64)>) -> Option<Entry<P::R>> {
     }
 }
 
+fn finds<P: Written>(map: &Map<P>, pair: Pair<P::R>, answer: Option<Entry<P::R>>) -> bool {
+    match fitting::<P>(pair) {
+        Some(prefix) => shown(map.get_key_value(&prefix)) == answer,
+        None => false,
+    }
+}
+
 fn finds_longest<P: Written>(map: &Map<P>, pair: Pair<P::R>, answer: Option<Entry<P::R>>) -> bool {
     match fitting::<P>(pair) {
         Some(prefix) => shown(map.get_lpm(&prefix)) == answer,
@@ -308,6 +352,16 @@ fn lists<P: Prefix>(map: &Map<P>, pairs: &[Pair<P::R>]) -> bool {
             return false;
         }
         value = value.wrapping_add(1);
+    }
+    walk.next().is_none()
+}
+
+fn lists_entries<P: Prefix>(map: &Map<P>, entries: &[Entry<P::R>]) -> bool {
+    let mut walk = map.iter();
+    for entry in entries {
+        if shown(walk.next()) != Some(*entry) {
+            return false;
+        }
     }
     walk.next().is_none()
 }

@@ -19,6 +19,7 @@ use Rattle.prefix_trie_bits.specs.Model.Step.{State}
 use Rattle.prefix_trie_bits.proofs.Model.Members.{or-cases, or-left, or-right, same_string-is, is-same_string, get-part_below, same_entries}
 use Rattle.prefix_trie_bits.proofs.Model.Ordered.{entries-retained, not_itself}
 use Rattle.prefix_trie_table.specs.Retaining.{is_at, is_at_some, is_under, is_under_some, Needs, Retains}
+use Rattle.prefix_trie_table.proofs.Plain.{no_or_yes}
 
 -- ---- tests
 
@@ -29,10 +30,6 @@ or-first false b h = refl
 pub or-second : (a b : Bool) → (a || b) ≡ false → b ≡ false
 or-second true b h = absurd (false≢true (sym h))
 or-second false b h = h
-
-pub no_or_yes : (b : Bool) → (b ≡ true → ⊥) → b ≡ false
-no_or_yes true h = absurd (h refl)
-no_or_yes false h = refl
 
 -- ---- which strings are at a place
 

@@ -19,7 +19,8 @@ use Rattle.prefix_trie_bits.specs.Model.Step.{State}
 use Rattle.prefix_trie_bits.proofs.Model.Members.{get-without_entry, same_string-is, is-same_string, same_nodes, needs, needs_root}
 use Rattle.prefix_trie_bits.proofs.Model.NodeListings.{listing_by_node_places, listing_at_value, listing_at_no_value, listing_at_child, listing_of_root}
 use Rattle.prefix_trie_table.specs.Retaining.{is_at, is_at_some, is_under, is_under_some, Needs, Retains}
-use Rattle.prefix_trie_table.proofs.Asked.{or-first, no_or_yes, at_value, at_child, under_value, under_child, at_begins, one_place, place_same}
+use Rattle.prefix_trie_table.proofs.Plain.{fifth_more, no_or_yes}
+use Rattle.prefix_trie_table.proofs.Asked.{or-first, at_value, at_child, under_value, under_child, at_begins, one_place, place_same}
 
 -- ---- a value
 
@@ -74,10 +75,7 @@ at_some_one P s (t ∷ ts) q all h = elim (cases_Bool (is_at s t q)) as (λ _. (
 ]
 
 five_more : (c q : List Bool) → length c % 5 ≡ 0 → length q % 5 ≡ 0 → length c ≤ length q → (length q ≡ length c → ⊥) → length c + 5 ≤ length q
-five_more c q one two long ne = five_above (length c) (length q) one two long ne
-  where
-    five_above : (a b : ℕ) → a % 5 ≡ 0 → b % 5 ≡ 0 → a ≤ b → (b ≡ a → ⊥) → a + 5 ≤ b
-    five_above a b h k l n = omega (arith, h, k, l, n)
+five_more c q one two long ne = fifth_more (length c) (length q) one two long ne
 
 module _ {F T : Type 0} (asks : F → List Bool → T → Bool → F → Type 0) (accepts : F → List Bool → T → Type 0) (c : List Bool) (values children : ℕ)
     (ts : List (List Bool)) (all : ts ≡ places values children)

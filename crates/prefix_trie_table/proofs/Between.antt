@@ -15,6 +15,7 @@ use Rattle.prefix_trie_table.specs.Layouts.{size_if_any, own_children, child_blo
 use Rattle.prefix_trie_table.specs.Removals.{Shrinks, ValueTaken, ChildDropped, IsBare, PrunedTo}
 use Rattle.prefix_trie_table.specs.Retaining.{ValuesBetween, ChildrenBetween}
 use Rattle.prefix_trie_table.specs.Store.{Store, Tier, tier_for, tier_sizes, size_in}
+use Rattle.prefix_trie_table.proofs.Plain.{none_some, some_same}
 use Rattle.prefix_trie_table.proofs.Children.{same_or, with_here, with_other, changed_below, changed_here, changed_other}
 use Rattle.prefix_trie_table.proofs.Needs.{smallest_is}
 use Rattle.prefix_trie_table.proofs.Adding.{children_list}
@@ -24,9 +25,6 @@ use Rattle.prefix_trie_table.proofs.Spending.{tier_for_sizes}
 use Rattle.prefix_trie_table.proofs.Stepping.{some_size, values_none, children_none, same_values, same_children, drops_gone, drops_values}
 
 -- ---- by numbers
-
-some_same : (a b : ℕ) → Some a ≡ Some b → a ≡ b
-some_same a b e = cc
 
 -- where no item was taken
 pub between_same : (sizes : List ℕ) (before after : ℕ) (old new : Option ℕ) → after ≡ before → new ≡ old → (after ≡ 0 → new ≡ None) →
@@ -101,9 +99,6 @@ module _ (ts : List Tier) (sizes : List ℕ) (are : tier_sizes ts ≡ sizes) (al
 
   size_of : (size : ℕ) (o : Option ℕ) → tier_for ts after ≡ o → option_map (size_in sizes) o ≡ Some size → (j : ℕ) × (tier_for ts after ≡ Some j) × (size_in sizes j ≡ size)
   size_of size None e is = absurd (none_some size is)
-    where
-      none_some : (n : ℕ) → ◌≡◌ {A = Option ℕ} None (Some n) → ⊥
-      none_some n e = cc
   size_of size (Some j) e is = (j, e, some_same (size_in sizes j) size is)
 
   at_most : 0 < after → (to ≡ k) ⊎ (tier_for ts (count - 1) ≡ Some to) → size_in sizes to ≤ size_in sizes k

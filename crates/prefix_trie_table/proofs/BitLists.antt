@@ -3,7 +3,7 @@ use Rattle.std.proofs.Common.{◌≡◌, ◌≢◌, ℕ, zero, suc, ◌+◌, ◌
 use Rattle.std.proofs.lemmas.List.{map-append, length-map, get_or-append-add, append-nil}
 use Rattle.std.proofs.lemmas.Bool.{cases_eq}
 use Rattle.std.proofs.lemmas.List.Edits.{insert-append_right, remove-append_right, length-insert}
-use Rattle.prefix_trie_table.proofs.Bits.{has_bit-zero}
+use Rattle.prefix_trie_table.proofs.Bits.{has_bit-zero, if_set-length}
 use Rattle.prefix_trie_table.specs.Bitmaps.{has_bit, if_set, bits_below, bits, rank}
 
 -- the set bits among the k from b on
@@ -140,10 +140,6 @@ module _ {Y : Type 0} where
   unfolding bits
   map_same f g old new same eq = map_below f g old new 32 (λ i h. same i) (λ i h. eq i)
 
-length-if_set : (s : Bool) (b : ℕ) → length (if_set s b) ≡ cond s 1 0
-length-if_set true b = refl
-length-if_set false b = refl
-
 pub rank-zero : (bitmap : ℕ) → rank bitmap 0 ≡ 0
 unfolding rank
 rank-zero bitmap = refl
@@ -153,7 +149,7 @@ unfolding rank
 rank-more bitmap i =
     let e : i + 1 ≡ suc i = omega arith in
     ap (λ n. length (bits_below bitmap n)) e ∙ length-append (bits_below bitmap i) (if_set (has_bit bitmap i) i)
-    ∙ ap (λ n. length (bits_below bitmap i) + n) (length-if_set (has_bit bitmap i) i)
+    ∙ ap (λ n. length (bits_below bitmap i) + n) (if_set-length (has_bit bitmap i) i)
 
 pub rank-le : (bitmap i : ℕ) → rank bitmap i ≤ i
 unfolding rank
@@ -212,7 +208,7 @@ rank-zero-all = none 32
     none : (n : ℕ) → length (bits_below 0 n) ≡ 0
     none zero = refl
     none (suc n) = length-append (bits_below 0 n) (if_set (has_bit 0 n) n)
-        ∙ ap₂ (λ x y. x + y) (none n) (length-if_set (has_bit 0 n) n ∙ ap (λ b. cond b 1 0) (has_bit-zero n))
+        ∙ ap₂ (λ x y. x + y) (none n) (if_set-length (has_bit 0 n) n ∙ ap (λ b. cond b 1 0) (has_bit-zero n))
 
 -- one bit more is one more set
 pub rank-more-one : (old new b : ℕ) → b < 32 → has_bit old b ≡ false → has_bit new b ≡ true → ((i : ℕ) → i ≢ b → has_bit new i ≡ has_bit old i) →

@@ -40,7 +40,7 @@ has_bit-sets m k m' i sets h =
     go true e ne = has_bit-is m' i (ltb-true i 32 e) ∙ sets.others i ne ∙ sym (has_bit-is m i (ltb-true i 32 e))
     go false e ne = has_bit-past m' i e ∙ sym (has_bit-past m i e)
 
-if_set-length : (s : Bool) (b : ℕ) → length (if_set s b) ≡ cond s 1 0
+pub if_set-length : (s : Bool) (b : ℕ) → length (if_set s b) ≡ cond s 1 0
 if_set-length true b = refl
 if_set-length false b = refl
 

@@ -16,6 +16,7 @@ use Rattle.prefix_trie_table.specs.Cells.{node_sizes, cell_sizes}
 use Rattle.prefix_trie_table.specs.Store.{Tier, Block, Sound, Store, IsOfTier, tier_at, tier_sizes, slots_made, held, size_in}
 use Rattle.prefix_trie_table.specs.Forest.{NodesHold, CellsHold, child_items, child_blocks, child_blocks_of, value_blocks, value_blocks_of}
 use Rattle.prefix_trie_table.specs.Layouts.{Sized, free_counts, size_if_any, child_block_size, value_block_size}
+use Rattle.prefix_trie_table.proofs.Plain.{some_same}
 use Rattle.prefix_trie_table.proofs.BitLists.{rank-all}
 use Rattle.prefix_trie_table.proofs.Filling.{sum-fresh}
 use Rattle.prefix_trie_table.proofs.PathStrings.{string_at, AreSteps, AreOnce, other_steps, other_once, fresh_string, paths_steps, paths_once}
@@ -96,14 +97,11 @@ cell_sizes_apart (suc (suc (suc (suc (suc zero))))) h = refl
 cell_sizes_apart (suc (suc (suc (suc (suc (suc zero)))))) h = refl
 cell_sizes_apart (suc (suc (suc (suc (suc (suc (suc i))))))) h = absurd (omega (arith, h))
 
-same_Some : (a b : ℕ) → Some a ≡ Some b → a ≡ b
-same_Some a b e = ap (λ o. elim o as (λ _. ℕ) [ None ↦ a | Some n ↦ n ]) e
-
 module _ (sizes : List ℕ) (apart : AreApart sizes) where
   same_tier : (t k : ℕ) → t < 7 → k < 7 → (t == k) ≡ (size_in sizes t == size_in sizes k)
   same_tier t k h j = same_bool _ _
       (λ e. eq-eqb _ _ (ap (size_in sizes) (eqb-true t k e)))
-      (λ e. eq-eqb t k (same_Some t k (sym (apart t h) ∙ ap (λ n. position (λ m. m == n) sizes) (eqb-true (size_in sizes t) (size_in sizes k) e) ∙ apart k j)))
+      (λ e. eq-eqb t k (some_same t k (sym (apart t h) ∙ ap (λ n. position (λ m. m == n) sizes) (eqb-true (size_in sizes t) (size_in sizes k) e) ∙ apart k j)))
 
   -- a list has a block of its tier, where it has anything
   module _ {S : Type 0} (ts : List Tier) (seven : length ts ≡ 7) (k : ℕ) (inside : k < 7) where

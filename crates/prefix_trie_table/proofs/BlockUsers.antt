@@ -20,12 +20,12 @@ use Rattle.prefix_trie_table.specs.Bitmaps.{has_bit, rank, bits}
 use Rattle.prefix_trie_table.specs.Cells.{blank_node, node_sizes, cell_sizes}
 use Rattle.prefix_trie_table.specs.Digits.{path_of, bit_of}
 use Rattle.prefix_trie_table.specs.Store.{Tier, Block, Sound, Store, IsOfTier, tier_at, held}
-use Rattle.prefix_trie_table.specs.Forest.{NodesHold, CellsHold, times, same_path, one_if, has_child, has_value, child_items, child_blocks, child_blocks_of, value_blocks, value_blocks_of, size_in, node_or_blank}
+use Rattle.prefix_trie_table.specs.Forest.{NodesHold, CellsHold, times, has_child, has_value, child_items, child_blocks, child_blocks_of, value_blocks, value_blocks_of, size_in, node_or_blank}
+use Rattle.prefix_trie_table.proofs.PathSums.{sum_same}
 use Rattle.prefix_trie_table.proofs.Bare.{no_bit, some_bit}
 use Rattle.prefix_trie_table.proofs.Bits.{has_bit-below}
 use Rattle.prefix_trie_table.proofs.BitLists.{rank-all}
 use Rattle.prefix_trie_table.proofs.Filling.{sum-fresh}
-use Rattle.prefix_trie_table.proofs.Paths.{same_path-itself}
 use Rattle.prefix_trie_table.proofs.PathStrings.{string_at, string_path, string_depth, nodes_at, AreSteps, AreOnce, other_steps, other_once, new_string, paths_steps, paths_once, listed_some, same_nodes}
 use Rattle.prefix_trie_table.proofs.Placing as placing
 use Rattle.prefix_trie_table.proofs.SlotSums.{sum_by-mapped}
@@ -98,13 +98,6 @@ nodes_sum h (x ∷ paths) steps once =
     ∙ ap (λ n. h (string_at x, tt) + n) (nodes_sum h paths (other_steps x paths steps) (other_once x paths once))
     ∙ sym (sum_by-cons (λ p. h (string_at p, tt)) x paths)
 
--- terms that are the same at each listed path have the same sum
-sum_listed : (f g : List ℕ → ℕ) (paths : List (List ℕ)) → ((p : List ℕ) → 0 < times p paths → g p ≡ f p) → sum_by g paths ≡ sum_by f paths
-sum_listed f g [] same = refl
-sum_listed f g (x ∷ paths) same =
-    let one : one_if (same_path x x) ≡ 1 = ap one_if (same_path-itself x) in
-    sum_by-cons g x paths ∙ ap₂ (λ a b. a + b) (same x (omega arith)) (sum_listed f g paths (λ p h. same p (omega arith))) ∙ sym (sum_by-cons f x paths)
-
 -- a string's length in steps
 string_long : (p : List ℕ) → length (string_at p) ≡ 5 * (length (string_at p) / 5)
 string_long p = fives (length (string_at p)) (string_depth p)
@@ -128,7 +121,7 @@ module _ (reading : List ℕ → Option Node) (paths : List (List ℕ)) (v : Sto
       ∙ sum_by-mapped (λ s. cond (test s) 1 0) (λ (e : List Bool × Unit {0}). e.0) (entries n)
       ∙ ap (λ m. sum_by (λ (e : List Bool × Unit {0}). cond (test e.0) 1 0) (entries m)) (same_nodes node_sizes reading paths v hold n are)
       ∙ nodes_sum (λ e. cond (test e.0) 1 0) paths (paths_steps node_sizes reading paths v hold) (paths_once node_sizes reading paths v hold)
-      ∙ sum_listed (λ p. length (f p)) (λ p. cond (test (string_at p)) 1 0) paths each
+      ∙ sum_same (λ p. length (f p)) (λ p. cond (test (string_at p)) 1 0) paths each
       ∙ sym (length-flat_map f paths)
 
   module _ (p : List ℕ) (listed : 0 < times p paths) where

@@ -9,6 +9,7 @@ use Rattle.prefix_trie_table.specs.Bitmaps.{has_bit, bits_below, bits, rank, if_
 use Rattle.prefix_trie_table.specs.Store.{Store, Block, Sound, block}
 use Rattle.prefix_trie_table.specs.Forest.{child_slot, same_path, one_if, times, without, node_or_blank, held, size_in, has_child, child_items, child_blocks_of, child_blocks, IsSlot, at_root, at_child, NodesHold, tier_sizes, with_child, lacking_child, with_node}
 use Rattle.prefix_trie_table.specs.Cells.{blank_node, node_at}
+use Rattle.prefix_trie_table.proofs.Plain.{needs_node}
 use Rattle.prefix_trie_table.proofs.Bits.{has_bit-zero}
 use Rattle.prefix_trie_table.proofs.BitLists.{map_same, map_insert, map_remove}
 use Rattle.prefix_trie_table.proofs.Paths.{same_path-true, same_path-equal, same_path-not, snoc_inj, snoc_not_nil, snoc_not_same, times_without, flat_map_out}
@@ -102,12 +103,8 @@ module _ (sizes : List ℕ) (nodes : List ℕ → Option Node) (paths : List (Li
   parents p n is q c e =
       let once : times p paths ≡ 1 = listed_once sizes nodes paths v hold p n is in
       let there : has_child (nodes q) c ≡ true = sym (hold.linked q c) ∙ ap (λ y. is_some (nodes y)) e ∙ ap is_some is in
-      let some : is_some (nodes q) ≡ true = child_needs (nodes q) c there in
+      let some : is_some (nodes q) ≡ true = needs_node (nodes q) c there in
       times_out p q paths (omega arith) (λ f. snoc_not_same q c (e ∙ sym f)) ∙ hold.listed q ∙ ap one_if some
-    where
-      child_needs : (o : Option Node) (d : ℕ) → has_child o d ≡ true → is_some o ≡ true
-      child_needs None d h = absurd (false≢true h)
-      child_needs (Some x) d h = refl
 
 is_some_one : (o : Option Node) → 0 < one_if (is_some o) → is_some o ≡ true
 is_some_one None h = absurd (omega arith)

@@ -13,15 +13,10 @@ use Rattle.prefix_trie_table.specs.Cells.{node_sizes}
 use Rattle.prefix_trie_table.specs.Digits.{path_of}
 use Rattle.prefix_trie_table.specs.Store.{Store}
 use Rattle.prefix_trie_table.specs.Forest.{NodesHold, IsEnd}
+use Rattle.prefix_trie_table.proofs.Plain.{fifths, whole_levels}
 use Rattle.prefix_trie_table.proofs.Digits.{path-length, path-take}
 use Rattle.prefix_trie_table.proofs.Keys.{begins-way}
 use Rattle.prefix_trie_table.proofs.Finding.{prefix_some}
-
-depth-five : (l k : ℕ) → l ≡ 5 * k → l % 5 ≡ 0
-depth-five l k e = omega (arith, e)
-
-within-five : (k n l : ℕ) → k ≤ n → n ≡ l / 5 → 5 * k ≤ l
-within-five k n l h e = omega (arith, h, e)
 
 past-five : (k n l : ℕ) → n ≤ k → n ≡ l / 5 → l < 5 * (k + 1)
 past-five k n l h e = omega (arith, h, e)
@@ -45,14 +40,14 @@ module _ (reading : List ℕ → Option Node) (paths : List (List ℕ)) (v : Sto
   -- the string of so many steps of q
   node_on_way : (q : List Bool) (k : ℕ) → k ≤ length (path_of q) → has_node n (take (5 * k) q) ≡ is_some (reading (take k (path_of q)))
   node_on_way q k h =
-      let within : 5 * k ≤ length q = within-five k (length (path_of q)) (length q) h (path-length q) in
-      let five : length (take (5 * k) q) % 5 ≡ 0 = depth-five (length (take (5 * k) q)) k (length-take-le (5 * k) q within) in
+      let within : 5 * k ≤ length q = fifths (length q) k (length (path_of q)) h (path-length q) in
+      let five : length (take (5 * k) q) % 5 ≡ 0 = whole_levels (length (take (5 * k) q)) k (length-take-le (5 * k) q within) in
       are (take (5 * k) q) ∙ ap₂ (λ a p. a && is_some (reading p)) (eq-eqb (length (take (5 * k) q) % 5) 0 five) (path-take k q within)
 
   -- the nodes met on the way to q
   pub visits_counted : (q : List Bool) (level : ℕ) → IsEnd reading (path_of q) level → visits n q ≡ level + 1
   visits_counted q level end =
-      visits-exact n q level nodes_depths nodes_closed (within-five level (length (path_of q)) (length q) end.within (path-length q))
+      visits-exact n q level nodes_depths nodes_closed (fifths (length q) level (length (path_of q)) end.within (path-length q))
       (node_on_way q level end.within ∙ end.stands)
       (elim (cases_Bool (nat_lt level (length (path_of q)))) as (λ _. (length q < 5 * (level + 1)) ⊎ (has_node n (take (5 * (level + 1)) q) ≡ false)) [
         | inl e ↦ let inside : level < length (path_of q) = ltb-true level (length (path_of q)) e in

@@ -11,6 +11,7 @@ use Rattle.prefix_trie_bits.specs.Bits.{begins}
 use Rattle.prefix_trie_bits.specs.Begins.{begins-take, begins-length, take-begins}
 use Rattle.prefix_trie_bits.specs.Order.{listing_cmp}
 use Rattle.prefix_trie_bits.specs.Places.{has, value_bit}
+use Rattle.prefix_trie_bits.specs.Model.Entries.{Entries}
 use Rattle.prefix_trie_bits.specs.Model.Matches.{covers, IsMatch}
 use Rattle.prefix_trie_bits.specs.Model.Step.{State}
 use Rattle.prefix_trie_bits.proofs.Model.Matches.{IsMatch-from_covers, covers-from_IsMatch}
@@ -96,6 +97,25 @@ module _ {T : Type 0} where
               ∙ take_shortest first d es (sorted-tail x es sorted) (λ e has. begin e (later_in x es e has)) there low (λ e has. least e (later_in x es e has))
               ∙ ap (λ b. d ∷ cond b (x ∷ from_length (length d.0 + 1) es) (from_length (length d.0 + 1) es)) (sym (lt-leb (length d.0 + 1) (length x.0) (omega arith)))
         ]
+
+    -- no two are of one length, so there are not many
+    few : (least : ℕ) (es : List (List Bool × T)) → IsT (is_sorted listing_cmp es) → ((e : List Bool × T) → Contains es e → begins e.0 q ≡ true)
+        → ((e : List Bool × T) → Contains es e → least ≤ length e.0) → least ≤ length q + 1 → length es + least ≤ length q + 1
+    few least [] sorted begin from small = omega arith
+    few least (x ∷ es) sorted begin from small =
+        let own : least ≤ length x.0 = from x (first_in x es) in
+        let short : length x.0 ≤ length q = begins-length x.0 q (begin x (first_in x es)) in
+        let rest : length es + (length x.0 + 1) ≤ length q + 1 =
+        few (length x.0 + 1) es (sorted-tail x es sorted) (λ e has. begin e (later_in x es e has))
+        (λ e has. let l : length x.0 < length e.0 = head_shorter x es sorted begin e has in omega arith) (omega arith) in
+        omega arith
+
+  -- of each length one at most
+  pub covers_few : (m : Entries T) (q : List Bool) → length (covers m q) ≤ length q + 1
+  covers_few m q =
+      let n = few q 0 (covers m q) (is_sorted-where_key listing_cmp (λ k. begins k q) (entries m) (entries_sorted m))
+      (λ e has. (IsMatch-from_covers m q e has).begins_it) (λ e has. omega arith) (omega arith) in
+      omega (arith, n)
 
   -- ---- what a table's walk has still to give
 

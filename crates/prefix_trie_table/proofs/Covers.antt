@@ -22,12 +22,9 @@ use Rattle.prefix_trie_table.specs.Forest.{NodesHold}
 use Rattle.prefix_trie_table.specs.Tables.{IsReached}
 use Rattle.prefix_trie_table.specs.Matching.{NoneHeld, IsOnWay}
 use Rattle.prefix_trie_table.specs.Covers.{AreLeft, TakesMatch, TakesShortest, NextHeld, IsCovering, GoesOn, IsCover}
+use Rattle.prefix_trie_table.proofs.Plain.{no_or_yes}
 use Rattle.prefix_trie_table.proofs.Finding.{reached_end}
 use Rattle.prefix_trie_table.proofs.Matching.{held_is, held_here, none_join, none_past, on_way_is, steps-within}
-
-not-true : (b : Bool) → (b ≡ true → ⊥) → b ≡ false
-not-true true f = absurd (f refl)
-not-true false f = refl
 
 -- three that hold at once
 all-three : (a b c : Bool) → a ≡ true → b ≡ true → c ≡ true → (a && (b && c)) ≡ true
@@ -76,7 +73,7 @@ module _ (level : ℕ) (node : Node) (matches first : ℕ) (q : List Bool) (deep
     };
     next = λ reading is. (
       λ i from last within. held_is q level i (omega arith) within last reading node is
-          ∙ not-true _ (λ st. false≢true (sym (has-zero _) ∙ sym (ap (λ m. has m (value_bit (take (i - 5 * level) (drop (5 * level) q)))) e) ∙ match-of i from last within st)),
+          ∙ no_or_yes _ (λ st. false≢true (sym (has-zero _) ∙ sym (ap (λ m. has m (value_bit (take (i - 5 * level) (drop (5 * level) q)))) e) ∙ match-of i from last within st)),
       λ i from last within. absurd (omega arith),
     );
   }
@@ -139,7 +136,7 @@ module _ (level : ℕ) (node : Node) (matches first : ℕ) (q : List Bool) (deep
         refl,
         held_here q level deep reading node is n t short own_within (sym bit_is ∙ ap value_bit (sym own_take)) (ap (has node.value_bitmap) (sym bit_is) ∙ own.2),
         λ i from last within. held_is q level i (omega arith) within (omega arith) reading node is
-            ∙ not-true _ (λ st. none_shorter (take (i - 5 * level) (drop (5 * level) q)) (omega (arith, length-take-le (i - 5 * level) (drop (5 * level) q) (omega (arith, rest-long)))) (match-of i from (omega arith) within st)),
+            ∙ no_or_yes _ (λ st. none_shorter (take (i - 5 * level) (drop (5 * level) q)) (omega (arith, length-take-le (i - 5 * level) (drop (5 * level) q) (omega (arith, rest-long)))) (match-of i from (omega arith) within st)),
       );
     }
 

@@ -89,3 +89,20 @@ bit_of-small (a ∷ b ∷ []) = value_bit-small (a ∷ b ∷ []) (omega arith)
 bit_of-small (a ∷ b ∷ c ∷ []) = value_bit-small (a ∷ b ∷ c ∷ []) (omega arith)
 bit_of-small (a ∷ b ∷ c ∷ d ∷ []) = value_bit-small (a ∷ b ∷ c ∷ d ∷ []) (omega arith)
 bit_of-small (a ∷ b ∷ c ∷ d ∷ e ∷ s) = bit_of-small s
+
+pub short_path : (r : List Bool) → length r ≤ 4 → (path_of r ≡ []) × (rest_of r ≡ r)
+short_path (a ∷ b ∷ c ∷ d ∷ e ∷ s) h = absurd (omega (arith, h))
+short_path (a ∷ b ∷ c ∷ d ∷ []) h = (refl, refl)
+short_path (a ∷ b ∷ c ∷ []) h = (refl, refl)
+short_path (a ∷ b ∷ []) h = (refl, refl)
+short_path (a ∷ []) h = (refl, refl)
+short_path [] h = (refl, refl)
+
+pub five_path : (r : List Bool) → length r ≡ 5 → path_of r ≡ number r ∷ []
+five_path (a ∷ b ∷ c ∷ d ∷ e ∷ []) h = refl
+five_path (a ∷ b ∷ c ∷ d ∷ e ∷ x ∷ s) h = absurd (omega (arith, h))
+five_path (a ∷ b ∷ c ∷ d ∷ []) h = absurd (omega (arith, h))
+five_path (a ∷ b ∷ c ∷ []) h = absurd (omega (arith, h))
+five_path (a ∷ b ∷ []) h = absurd (omega (arith, h))
+five_path (a ∷ []) h = absurd (omega (arith, h))
+five_path [] h = absurd (omega (arith, h))

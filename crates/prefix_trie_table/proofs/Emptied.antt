@@ -1,5 +1,5 @@
 -- What is left of a table where a test said no at each entry below a bit string.
-use Rattle.std.proofs.Common.{◌≡◌, ◌↔◌, ℕ, ◌+◌, ◌*◌, ◌/◌, ◌%◌, ◌<◌, ◌≤◌, Bool, true, false, cond, not, ◌&&◌, ◌||◌, ◌==◌, nat_lt, List, [], ◌∷◌, ◌++◌, length, take, drop, Option, None, Some, is_some, refl, sym, ap, ap₂, ◌∙◌, subst, arith, inl, inr, bit_and, append-nil, append_assoc, length-append, length-drop, take-append-drop}
+use Rattle.std.proofs.Common.{◌≡◌, ◌↔◌, ℕ, ◌+◌, ◌*◌, ◌/◌, ◌<◌, ◌≤◌, Bool, true, false, cond, not, ◌&&◌, ◌||◌, ◌==◌, nat_lt, List, [], ◌∷◌, ◌++◌, length, take, drop, Option, None, Some, is_some, refl, sym, ap, ap₂, ◌∙◌, subst, arith, inl, inr, bit_and, append-nil, append_assoc, length-append, length-drop, take-append-drop}
 use Rattle.std.specs.List.{All, Contains}
 use Rattle.std.proofs.lemmas.Bool.{false≢true, cases_Bool, cases_lt, lt-ltb, le-ltb}
 use Rattle.std.proofs.lemmas.List.{append_cancel_left, length-take-le}
@@ -27,7 +27,8 @@ use Rattle.prefix_trie_table.specs.Forest.{read, below}
 use Rattle.prefix_trie_table.specs.Store.{Store}
 use Rattle.prefix_trie_table.specs.Retaining.{is_at, is_at_some, is_under, is_under_some, Retains}
 use Rattle.prefix_trie_table.specs.Tables.{IsTrie}
-use Rattle.prefix_trie_table.proofs.Asked.{no_or_yes, at_value, at_child, under_child, under_at_some}
+use Rattle.prefix_trie_table.proofs.Plain.{fifth_more, no_or_yes, whole_more}
+use Rattle.prefix_trie_table.proofs.Asked.{at_value, at_child, under_child, under_at_some}
 use Rattle.prefix_trie_table.proofs.Bits.{has_bit-is}
 use Rattle.prefix_trie_table.proofs.Placing.{step_below}
 use Rattle.prefix_trie_table.proofs.Subtrees.{nothing_below, unset, is_in-value, is_in-child, number-small}
@@ -165,12 +166,6 @@ some_goes_on s q k (t ∷ ts) all h = elim (or-cases (is_at s t k) (is_at_some s
   | inl here ↦ begins-trans q (s ++ t) k (All-head (λ u. begins q (s ++ u) ≡ true) t ts all) (at_goes_on s t k here)
   | inr later ↦ some_goes_on s q k ts (All-tail (λ u. begins q (s ++ u) ≡ true) t ts all) later
 ]
-
-fifth_more : (a b : ℕ) → a % 5 ≡ 0 → b % 5 ≡ 0 → a ≤ b → (b ≡ a → ⊥) → a + 5 ≤ b
-fifth_more a b h k l n = omega (arith, h, k, l, n)
-
-whole_more : (a b c : ℕ) → a % 5 ≡ 0 → b ≡ 5 → c ≡ a + b → c % 5 ≡ 0
-whole_more a b c h k l = omega (arith, h, k, l)
 
 home_near : (l h : ℕ) → h ≡ 5 * (l / 5) → l ≤ h + 4
 home_near l h e = omega (arith, e)

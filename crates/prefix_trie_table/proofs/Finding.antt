@@ -9,8 +9,9 @@ use Rattle.prefix_trie_table.specs.Bitmaps.{has_bit}
 use Rattle.prefix_trie_table.specs.Cells.{node_sizes}
 use Rattle.prefix_trie_table.specs.Digits.{path_of, bit_of}
 use Rattle.prefix_trie_table.specs.Store.{Store}
-use Rattle.prefix_trie_table.specs.Forest.{same_path, is_start, NodesHold, Holds, IsEnd, has_child, has_value}
+use Rattle.prefix_trie_table.specs.Forest.{same_path, is_start, NodesHold, Holds, IsEnd, has_value}
 use Rattle.prefix_trie_table.specs.Tables.{IsReached}
+use Rattle.prefix_trie_table.proofs.Plain.{needs_node}
 use Rattle.prefix_trie_table.proofs.Bits.{has_bit-is}
 use Rattle.prefix_trie_table.proofs.Paths.{same_path-not, snoc_ind}
 use Rattle.prefix_trie_table.proofs.Starts.{is_start-snoc, is_start_take, or_either}
@@ -21,10 +22,6 @@ use Rattle.prefix_trie_table.proofs.Going.{step-inside, steps-end, bit-read, dee
 or_false_right : (a : Bool) → (a || false) ≡ a
 or_false_right true = refl
 or_false_right false = refl
-
-pub needs_node : (o : Option Node) (c : ℕ) → has_child o c ≡ true → is_some o ≡ true
-needs_node None c h = absurd (false≢true h)
-needs_node (Some n) c h = refl
 
 -- the beginnings of a node's path lead to nodes
 pub prefix_some : (sizes : List ℕ) (nodes : List ℕ → Option Node) (paths : List (List ℕ)) (v : Store Node) → NodesHold sizes nodes paths v →

@@ -21,6 +21,7 @@ use Rattle.prefix_trie_table.specs.Layouts.{Sized, size_if_any, child_block_size
 use Rattle.prefix_trie_table.specs.Shape.{IsShapeOf, Shaped}
 use Rattle.prefix_trie_table.specs.Store.{Store, size_in}
 use Rattle.prefix_trie_table.specs.Store.{blocks_needed as tiers_needed}
+use Rattle.prefix_trie_table.proofs.Plain.{whole_levels}
 use Rattle.prefix_trie_table.proofs.Invariant.{some_table}
 use Rattle.prefix_trie_table.proofs.Asks.{nodes_here, nodes_below, cells_here, cells_below}
 use Rattle.prefix_trie_table.proofs.Bits.{has_bit-zero}
@@ -36,9 +37,6 @@ use Rattle.prefix_trie_table.proofs.Trees.{reads, is_none-None}
 
 whole : (i l : ℕ) → i ≤ l / 5 → 5 * i ≤ l
 whole i l h = omega (arith, h)
-
-depth_of : (i l : ℕ) → l ≡ 5 * i → l % 5 ≡ 0
-depth_of i l e = omega (arith, e)
 
 last_level : (level l : ℕ) → level ≡ l / 5 → l < 5 * level + 5
 last_level level l e = omega (arith, e)
@@ -83,7 +81,7 @@ module _ {T : Type 0} (reading : List ℕ → Option Node) (values : List ℕ �
     way i h = path-take i q (whole i (length q) h)
 
     pub depth_is : (i : ℕ) → i ≤ length q / 5 → is_node_depth (take (5 * i) q) ≡ true
-    depth_is i h = eq-eqb (length (take (5 * i) q) % 5) 0 (depth_of i (length (take (5 * i) q)) (length-take-le (5 * i) q (whole i (length q) h)))
+    depth_is i h = eq-eqb (length (take (5 * i) q) % 5) 0 (whole_levels (length (take (5 * i) q)) i (length-take-le (5 * i) q (whole i (length q) h)))
 
     pub node_is : (i : ℕ) → i ≤ length q / 5 → has_node s.nodes (take (5 * i) q) ≡ is_some (reading (take i (path_of q)))
     node_is i h =

@@ -6,7 +6,7 @@ use Rattle.std.proofs.lemmas.Bool.Decides.{nat_tests}
 use Rattle.prefix_trie_table.specs.declared.allocator.node.Node.{Node}
 use Rattle.prefix_trie_table.specs.Bitmaps.{has_bit, rank}
 use Rattle.prefix_trie_table.specs.Store.{Tier, Store, Sound, Block, block, HasList, Prepared, tier_for, tier_sizes}
-use Rattle.prefix_trie_table.specs.Forest.{IsSlot, NodesHold, CellsHold, Holds, Deepest, has_value}
+use Rattle.prefix_trie_table.specs.Forest.{IsSlot, NodesHold, CellsHold, Deepest, has_value}
 use Rattle.prefix_trie_table.specs.Cells.{blank_node, node_at, node_sizes, cell_sizes}
 use Rattle.prefix_trie_table.proofs.Soundness.{tier_of_block, first_place}
 use Rattle.prefix_trie_table.proofs.Spending.{tier_for_sizes}

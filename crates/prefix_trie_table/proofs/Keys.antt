@@ -8,6 +8,7 @@ use Rattle.prefix_trie_bits.specs.Places.{value_bit}
 use Rattle.prefix_trie_bits.proofs.Model.Members.{same_string-is, is-same_string}
 use Rattle.prefix_trie_table.specs.Digits.{path_of, rest_of, bit_of}
 use Rattle.prefix_trie_table.specs.Forest.{same_path, is_start}
+use Rattle.prefix_trie_table.proofs.Plain.{fifths}
 use Rattle.prefix_trie_table.proofs.Digits.{string_is, path-length, path-take, rest-is}
 use Rattle.prefix_trie_table.proofs.Paths.{same_path-true, same_path-equal, snoc_inj}
 use Rattle.prefix_trie_table.proofs.Starts.{is_start-is, is_start_take}
@@ -20,9 +21,6 @@ same_key s t = same_bool _ _
 
 five-times : (l k : ℕ) → l % 5 ≡ 0 → k ≡ l / 5 → 5 * k ≡ l
 five-times l k e f = omega (arith, e, f)
-
-fifth : (k n l : ℕ) → k ≤ n → n ≡ l / 5 → 5 * k ≤ l
-fifth k n l h e = omega (arith, h, e)
 
 -- a string at which a node can stand has no bits behind its last step
 pub no_rest : (s : List Bool) → length s % 5 ≡ 0 → rest_of s ≡ []
@@ -41,7 +39,7 @@ begins-way t s h = same_bool _ _
     let first : take k (path_of s) ≡ path_of t = ap (take k) r.1 ∙ take_at (path_of t) r.0 k refl in
     let five : 5 * k ≡ length t = five-times (length t) k h (path-length t) in
     let less : k ≤ length (path_of s) = omega (arith, ap length r.1, length-append (path_of t) r.0) in
-    let within : 5 * k ≤ length s = fifth k (length (path_of s)) (length s) less (path-length s) in
+    let within : 5 * k ≤ length s = fifths (length s) k (length (path_of s)) less (path-length s) in
     let long : length (take (5 * k) s) ≡ 5 * k = length-take-le (5 * k) s within in
     begins-from-take t s (5 * k) (same_way (take (5 * k) s) t (ap (λ n. n % 5) (long ∙ five) ∙ h) h (path-take k s within ∙ first)))
     (λ e.

@@ -7,6 +7,7 @@ pub mod Spending
 pub mod Turnovers
 pub mod Preparing
 pub mod Digits
+pub mod Plain
 pub mod Bits
 pub mod BitLists
 pub mod Paths

@@ -27,6 +27,7 @@ use Rattle.prefix_trie_table.specs.Removals.{IsBare, IsStocked, ChildDropped, Dr
 use Rattle.prefix_trie_table.specs.Walks.{IsPlaceOf}
 use Rattle.prefix_trie_table.specs.Retaining.{IsSite, Needs, RetainsTo, Lasts, ValuesBetween, ChildrenBetween}
 use Rattle.prefix_trie_table.specs.Tables.{IsTrie}
+use Rattle.prefix_trie_table.proofs.Plain.{no_or_yes}
 use Rattle.prefix_trie_table.proofs.Invariant.{some_table}
 use Rattle.prefix_trie_table.proofs.Between.{between_then, dropped_values_between, dropped_children_between}
 use Rattle.prefix_trie_table.proofs.AskedBelow.{child_asked, needed_below}
@@ -41,7 +42,6 @@ use Rattle.prefix_trie_table.proofs.Settling.{Settles-nodes}
 use Rattle.prefix_trie_table.proofs.Retained.{are_nodes, read_held, here_length, here_whole, here_levels, path_levels, site_stays}
 use Rattle.prefix_trie_table.proofs.Shapes.{reads_node, shape_of, shape_entries}
 use Rattle.prefix_trie_table.specs.Shape.{IsShapeOf}
-use Rattle.prefix_trie_table.proofs.Asked.{no_or_yes}
 use Rattle.prefix_trie_table.proofs.Subtrees.{child_is, child_inside, child_few, child_fits, few_at, all_places, number-small}
 use Rattle.prefix_trie_table.proofs.Trees.{reads}
 use Rattle.prefix_trie_table.proofs.Turnovers.{made_then}

@@ -1,5 +1,5 @@
 -- The longest and the shortest match of a table's entries, from the beginnings of a bit string that have values.
-use Rattle.std.proofs.Common.{◌≡◌, ℕ, ◌+◌, ◌/◌, ◌<◌, ◌≤◌, Bool, true, false, ◌&&◌, nat_le, List, length, get_or, take, Option, None, Some, is_some, MatchOption, refl, sym, ap, ◌∙◌, arith, inl, inr, true≢false}
+use Rattle.std.proofs.Common.{◌≡◌, ℕ, ◌+◌, ◌/◌, ◌<◌, ◌≤◌, Bool, true, ◌&&◌, nat_le, List, length, get_or, take, Option, None, Some, is_some, MatchOption, refl, sym, ap, ◌∙◌, arith, inl, inr, true≢false}
 use Rattle.std.proofs.lemmas.Bool.{false≢true, cases_lt}
 use Rattle.std.proofs.lemmas.List.{length-take-le, take_all}
 use Rattle.std.proofs.lemmas.List.Elements.{filter_agree}
@@ -21,6 +21,7 @@ use Rattle.prefix_trie_table.specs.Store.{Store}
 use Rattle.prefix_trie_table.specs.Forest.{SomeTable, SomeNodes, IsEnd, has_value}
 use Rattle.prefix_trie_table.specs.Matching.{holds_value, LackLastBit, IsHeld, NoneHeld, cell_slot}
 use Rattle.prefix_trie_table.specs.Shape.{IsShapeOf}
+use Rattle.prefix_trie_table.proofs.Plain.{no_or_yes}
 use Rattle.prefix_trie_table.proofs.Invariant.{some_nodes}
 use Rattle.prefix_trie_table.proofs.Digits.{path-length}
 use Rattle.prefix_trie_table.proofs.Values.{value_stands}
@@ -32,12 +33,8 @@ module _ {T : Type 0} where
   pub has_nodes : (v : Store Node) (w : Store (Option T)) → SomeTable v w → (n : SomeNodes v) × LackLastBit n.reading
   has_nodes v w t = (
     some_nodes t,
-    λ p n is. not_true (has_bit n.value_bitmap 31) (λ e. let h : 31 < 31 = t.holds.cells.within p 31 (t.holds.cells.set_where p 31 ∙ ap (λ o. has_value o 31) is ∙ e) in omega arith),
+    λ p n is. no_or_yes (has_bit n.value_bitmap 31) (λ e. let h : 31 < 31 = t.holds.cells.within p 31 (t.holds.cells.set_where p 31 ∙ ap (λ o. has_value o 31) is ∙ e) in omega arith),
   )
-    where
-      not_true : (b : Bool) → (b ≡ true → ⊥) → b ≡ false
-      not_true true f = absurd (f refl)
-      not_true false f = refl
 
   -- the cell of a match
   abbrev pub cell_of : Store (Option T) → Match → Option T

@@ -19,6 +19,7 @@ use Rattle.prefix_trie_table.specs.Bitmaps.{has_bit, rank}
 use Rattle.prefix_trie_table.specs.Digits.{path_of, bit_of}
 use Rattle.prefix_trie_table.specs.Store.{Store}
 use Rattle.prefix_trie_table.specs.Forest.{NodesHold, CellsHold, has_child, has_value}
+use Rattle.prefix_trie_table.proofs.Plain.{five_times}
 use Rattle.prefix_trie_table.proofs.Bits.{has_bit-below}
 use Rattle.prefix_trie_table.proofs.BitLists.{rank-zero, rank-more}
 use Rattle.prefix_trie_table.proofs.Placing.{below_node, step_below, string_at}
@@ -137,9 +138,6 @@ module _ (f : ℕ → List Bool) (bitmap : ℕ) (apart : (i j : ℕ) → has_bit
       passed : {Y : Type 0} (b : Bool) (o : Option Y) → is_some (cond b o None) ≡ true → (b ≡ true) × (is_some o ≡ true)
       passed true o e = (refl, e)
       passed false o e = absurd (false≢true e)
-
-five_times : (l k : ℕ) → l % 5 ≡ 0 → k ≡ l / 5 → l ≡ 5 * k
-five_times l k e f = omega (arith, e, f)
 
 five_more : (l k : ℕ) → k ≡ 5 * (l / 5) → l ≡ k → (l + 5) % 5 ≡ 0
 five_more l k e f = omega (arith, e, f)

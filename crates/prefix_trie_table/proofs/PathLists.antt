@@ -7,6 +7,7 @@ use Rattle.prefix_trie_table.specs.declared.allocator.node.Node.{Node}
 use Rattle.prefix_trie_table.specs.Bitmaps.{has_bit, if_set, bits_below, bits}
 use Rattle.prefix_trie_table.specs.Store.{Store}
 use Rattle.prefix_trie_table.specs.Forest.{same_path, one_if, times, without, has_child, NodesHold}
+use Rattle.prefix_trie_table.proofs.Plain.{no_or_yes}
 use Rattle.prefix_trie_table.proofs.Bits.{has_bit-below}
 use Rattle.prefix_trie_table.proofs.Paths.{same_path-itself, same_path-true, same_path-equal, same_path-not, snoc_ind, snoc_inj, snoc_not_nil, swap_fronts, times_without}
 use Rattle.prefix_trie_table.proofs.Children.{same_or}
@@ -94,12 +95,8 @@ unfolding bits
 child_once p c None = refl
 child_once p c (Some n) = elim (cases_lt c 32) as (λ _. times (step p c) (map (step p) (bits_below n.child_bitmap 32)) ≡ one_if (has_bit n.child_bitmap c)) [
   | inl within ↦ one_below p c n.child_bitmap 32 within
-  | inr past ↦ none_below p c n.child_bitmap 32 past ∙ sym (ap one_if (unset (has_bit n.child_bitmap c) (λ h. let b = has_bit-below n.child_bitmap c h in omega arith)))
+  | inr past ↦ none_below p c n.child_bitmap 32 past ∙ sym (ap one_if (no_or_yes (has_bit n.child_bitmap c) (λ h. let b = has_bit-below n.child_bitmap c h in omega arith)))
 ]
-  where
-    unset : (b : Bool) → (b ≡ true → ⊥) → b ≡ false
-    unset true f = absurd (f refl)
-    unset false f = refl
 
 child_other : (p x : List ℕ) (c : ℕ) (o : Option Node) → p ≢ x → times (step p c) (children_of x o) ≡ 0
 child_other p x c None ne = refl

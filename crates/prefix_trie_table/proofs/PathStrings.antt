@@ -15,6 +15,7 @@ use Rattle.prefix_trie_table.specs.declared.allocator.node.Node.{Node}
 use Rattle.prefix_trie_table.specs.Digits.{path_of}
 use Rattle.prefix_trie_table.specs.Store.{Store}
 use Rattle.prefix_trie_table.specs.Forest.{same_path, one_if, times, has_child, NodesHold}
+use Rattle.prefix_trie_table.proofs.Plain.{needs_node}
 use Rattle.prefix_trie_table.proofs.Bits.{has_bit-below}
 use Rattle.prefix_trie_table.proofs.Keys.{same_way}
 use Rattle.prefix_trie_table.proofs.Paths.{same_path-true, same_path-itself, snoc_ind}
@@ -137,12 +138,8 @@ module _ (sizes : List ℕ) (nodes : List ℕ → Option Node) (paths : List (Li
   -- a path to a node has steps of five bits
   steps_small : (q : List ℕ) → is_some (nodes q) ≡ true → All IsStep q
   steps_small = snoc_ind (λ q. is_some (nodes q) ≡ true → All IsStep q) (λ h. All-nil IsStep)
-      (λ q c ih h. let has : has_child (nodes q) c ≡ true = sym (hold.linked q c) ∙ h in All-push IsStep q c (ih (above (nodes q) c has)) (within (nodes q) c has))
+      (λ q c ih h. let has : has_child (nodes q) c ≡ true = sym (hold.linked q c) ∙ h in All-push IsStep q c (ih (needs_node (nodes q) c has)) (within (nodes q) c has))
     where
-      above : (o : Option Node) (c : ℕ) → has_child o c ≡ true → is_some o ≡ true
-      above None c h = absurd (false≢true h)
-      above (Some n) c h = refl
-
       within : (o : Option Node) (c : ℕ) → has_child o c ≡ true → c < 32
       within None c h = absurd (false≢true h)
       within (Some n) c h = has_bit-below n.child_bitmap c h

@@ -1,5 +1,5 @@
 -- The places of a node that is at hand, as its table has them, and one turn of asking at them.
-use Rattle.std.proofs.Common.{◌≡◌, ℕ, ◌+◌, ◌/◌, ◌%◌, ◌≤◌, Bool, true, false, cond, ◌&&◌, ◌==◌, List, [], ◌∷◌, ◌++◌, length, take, Option, is_some, refl, sym, ap, ap₂, ◌∙◌, subst, arith, inl, inr, append-nil, length-append, Less}
+use Rattle.std.proofs.Common.{◌≡◌, ℕ, ◌/◌, ◌≤◌, Bool, true, false, cond, ◌&&◌, ◌==◌, List, [], ◌∷◌, ◌++◌, length, take, Option, is_some, refl, sym, ap, ap₂, ◌∙◌, subst, arith, inl, inr, append-nil, length-append, Less}
 use Rattle.std.specs.List.{All}
 use Rattle.std.specs.List.Sorted.{IsStrictlySortedBy}
 use Rattle.std.proofs.lemmas.Bool.{false≢true, cases_lt, lt-ltb, le-ltb}
@@ -27,12 +27,13 @@ use Rattle.prefix_trie_table.specs.Forest.{read, has_value, has_child}
 use Rattle.prefix_trie_table.specs.Shape.{same_shape}
 use Rattle.prefix_trie_table.specs.Walks.{IsPlaceOf}
 use Rattle.prefix_trie_table.specs.Cells.{node_sizes, cell_sizes}
+use Rattle.prefix_trie_table.proofs.Plain.{no_or_yes, whole_more}
 use Rattle.prefix_trie_table.proofs.Soundness.{All-both}
 use Rattle.prefix_trie_table.proofs.Invariant.{some_table}
 use Rattle.prefix_trie_table.proofs.Between.{between_then, values_still, children_still}
 use Rattle.prefix_trie_table.specs.Retaining.{is_at, is_at_some, is_under_some, IsSite, Retains, RetainsIn, MayAskAt, Lasts}
 use Rattle.prefix_trie_table.specs.Tables.{IsTrie}
-use Rattle.prefix_trie_table.proofs.Asked.{no_or_yes, at_value, at_child, under_at_some, one_place, apart_first, asked_both, may_ask_first, may_ask_then}
+use Rattle.prefix_trie_table.proofs.Asked.{at_value, at_child, under_at_some, one_place, apart_first, asked_both, may_ask_first, may_ask_then}
 use Rattle.prefix_trie_table.proofs.Bits.{has_bit-is}
 use Rattle.prefix_trie_table.proofs.Placing.{below_node, step_below}
 use Rattle.prefix_trie_table.proofs.Settling.{Settles-none, Settles-then}
@@ -86,9 +87,6 @@ module _ {K T : Type 0} (IsKey : K → Type 0) (bits : K → List Bool) (width :
       ∙ h.holds.hold.linked (path_of (take p.depth (bits p.key))) (number t)
       ∙ ap (λ o. has_child o (number t)) (sym (reads_node h.reading h.values h.paths v w h.holds (path_of (take p.depth (bits p.key)))) ∙ at.stands)
       ∙ has_bit-is n.child_bitmap (number t) small
-    where
-      whole_more : (a b c : ℕ) → a % 5 ≡ 0 → b ≡ 5 → c ≡ a + b → c % 5 ≡ 0
-      whole_more a b c h k l = omega (arith, h, k, l)
 
   -- at a place that the node does not have is nothing
   pub nothing_at : (u : List Bool) → length u ≤ 5 → is_in n.value_bitmap n.child_bitmap u ≡ false → listing_at_place s.entries (take p.depth (bits p.key)) u ≡ []
@@ -100,10 +98,7 @@ module _ {K T : Type 0} (IsKey : K → Type 0) (bits : K → List Bool) (width :
   none_below_it u q five clear begun there =
       false≢true (sym clear ∙ is_in-child n.value_bitmap n.child_bitmap u five ∙ sym (child_iff u five)
       ∙ trie.nodes.closed (take p.depth (bits p.key) ++ u) q there begun
-      (five_on (length (take p.depth (bits p.key))) (length u) (length (take p.depth (bits p.key) ++ u)) (here_whole IsKey bits width v p n at long) five (length-append (take p.depth (bits p.key)) u)))
-    where
-      five_on : (i j k : ℕ) → i % 5 ≡ 0 → j ≡ 5 → k ≡ i + j → k % 5 ≡ 0
-      five_on i j k h l m = omega (arith, h, l, m)
+      (whole_more (length (take p.depth (bits p.key))) (length u) (length (take p.depth (bits p.key) ++ u)) (here_whole IsKey bits width v p n at long) five (length-append (take p.depth (bits p.key)) u)))
 
 module _ {K T F : Type 0} (IsKey : K → Type 0) (bits : K → List Bool) (width : ℕ) (asks : F → List Bool → T → Bool → F → Type 0) (accepts : F → List Bool → T → Type 0)
     (p : Site K) (long : length (bits p.key) ≡ width) (v : Store Node) (n : Node) (at : IsSite IsKey bits width v p n) (count : ℕ) (w : Store (Option T)) (s : State T)

@@ -1,19 +1,12 @@
 -- Strings by the way to their node and their place in it.
-use Rattle.std.proofs.Common.{◌≡◌, ℕ, suc, ◌+◌, ◌-◌, ◌*◌, ◌^◌, ◌%◌, ◌<◌, ◌≤◌, Bool, List, [], ◌∷◌, ◌++◌, length, refl, ap, ◌∙◌, arith, w32}
+use Rattle.std.proofs.Common.{◌≡◌, ℕ, suc, ◌+◌, ◌-◌, ◌*◌, ◌^◌, ◌%◌, ◌<◌, ◌≤◌, Bool, List, [], ◌∷◌, ◌++◌, length, ap, ◌∙◌, arith, w32}
 use Rattle.std.specs.Int.{leading_zeros}
 use Rattle.prefix_trie_bits.specs.Bits.{number, digits}
 use Rattle.prefix_trie_bits.specs.BitStrings.{length-digits, number-bits}
 use Rattle.prefix_trie_bits.specs.Places.{value_bit}
 use Rattle.prefix_trie_bits.proofs.Strings.{top_length, length-short, string-bit}
 use Rattle.prefix_trie_table.specs.Digits.{path_of, rest_of}
-
-short_path : (r : List Bool) → length r ≤ 4 → (path_of r ≡ []) × (rest_of r ≡ r)
-short_path (a ∷ b ∷ c ∷ d ∷ e ∷ s) h = absurd (omega (arith, h))
-short_path (a ∷ b ∷ c ∷ d ∷ []) h = (refl, refl)
-short_path (a ∷ b ∷ c ∷ []) h = (refl, refl)
-short_path (a ∷ b ∷ []) h = (refl, refl)
-short_path (a ∷ []) h = (refl, refl)
-short_path [] h = (refl, refl)
+use Rattle.prefix_trie_table.proofs.Digits.{short_path, five_path}
 
 five_less : (l k : ℕ) → suc (suc (suc (suc (suc l)))) ≡ 5 * k → l ≡ 5 * (k - 1)
 five_less l k e = omega (arith, e)
@@ -28,15 +21,6 @@ below_node k (a ∷ b ∷ c ∷ []) r long h = absurd (omega (arith, long))
 below_node k (a ∷ b ∷ []) r long h = absurd (omega (arith, long))
 below_node k (a ∷ []) r long h = absurd (omega (arith, long))
 below_node k [] r long h = short_path r h
-
-five_path : (r : List Bool) → length r ≡ 5 → path_of r ≡ number r ∷ []
-five_path (a ∷ b ∷ c ∷ d ∷ e ∷ []) h = refl
-five_path (a ∷ b ∷ c ∷ d ∷ e ∷ x ∷ s) h = absurd (omega (arith, h))
-five_path (a ∷ b ∷ c ∷ d ∷ []) h = absurd (omega (arith, h))
-five_path (a ∷ b ∷ c ∷ []) h = absurd (omega (arith, h))
-five_path (a ∷ b ∷ []) h = absurd (omega (arith, h))
-five_path (a ∷ []) h = absurd (omega (arith, h))
-five_path [] h = absurd (omega (arith, h))
 
 -- five bits more are a step more
 pub five_below : (k : ℕ) (s r : List Bool) → length s ≡ 5 * k → length r ≡ 5 → path_of (s ++ r) ≡ path_of s ++ number r ∷ []

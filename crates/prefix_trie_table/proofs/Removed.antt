@@ -23,6 +23,7 @@ use Rattle.prefix_trie_table.specs.Forest.{is_start, same_path, one_if, entry_co
 use Rattle.prefix_trie_table.specs.Removals.{EntryTaken, Pruned, EntryRemoved}
 use Rattle.prefix_trie_table.specs.Shape.{IsShapeOf, Shaped, same_shape}
 use Rattle.prefix_trie_table.specs.Tables.{IsTable, ForHeld}
+use Rattle.prefix_trie_table.proofs.Plain.{fifths}
 use Rattle.prefix_trie_table.proofs.Invariant.{some_table}
 use Rattle.prefix_trie_table.proofs.Bare.{some_bit}
 use Rattle.prefix_trie_table.proofs.Bits.{has_bit-below}
@@ -55,9 +56,6 @@ clash b e f = false≢true (sym e ∙ f)
 needs : (o : Option Node) (b : ℕ) → has_value o b ≡ true → is_some o ≡ true
 needs None b h = absurd (false≢true h)
 needs (Some n) b h = refl
-
-pub fifths : (l k n : ℕ) → k ≤ n → n ≡ l / 5 → 5 * k ≤ l
-fifths l k n h e = omega (arith, h, e)
 
 -- a string's own node has the string's path
 pub home_path : (q : List Bool) → path_of (home q) ≡ path_of q

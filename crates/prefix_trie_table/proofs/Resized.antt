@@ -22,6 +22,7 @@ use Rattle.prefix_trie_table.specs.OwnBlocks.{child_block_size, value_block_size
 use Rattle.prefix_trie_table.specs.Shape.{IsShapeOf, Shaped}
 use Rattle.prefix_trie_table.specs.Store.{Store}
 use Rattle.prefix_trie_table.specs.Tables.{IsTable, ForHeld}
+use Rattle.prefix_trie_table.proofs.Plain.{five_times}
 use Rattle.prefix_trie_table.proofs.Invariant.{some_table}
 use Rattle.prefix_trie_table.proofs.Digits.{path-length, path-take}
 use Rattle.prefix_trie_table.proofs.Foreseen.{child_size, value_size, children_are, no_children, values_are, no_values, node_is}
@@ -29,9 +30,6 @@ use Rattle.prefix_trie_table.proofs.Keys.{same_way, begins-way}
 use Rattle.prefix_trie_table.proofs.Paths.{same_path-true, same_path-equal}
 use Rattle.prefix_trie_table.proofs.Shapes.{shape_entries}
 use Rattle.prefix_trie_table.proofs.Trees.{reads, is_none-None}
-
-five_times : (l k : ℕ) → l % 5 ≡ 0 → k ≡ l / 5 → l ≡ 5 * k
-five_times l k e f = omega (arith, e, f)
 
 below_fives : (i k l h : ℕ) → l ≡ 5 * i → h ≡ 5 * k → i < k → l < h
 below_fives i k l h e f less = omega (arith, e, f, less)

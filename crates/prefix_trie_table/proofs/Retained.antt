@@ -1,5 +1,5 @@
 -- What a table is once a test was asked at a place of a node.
-use Rattle.std.proofs.Common.{◌≡◌, ℕ, ◌+◌, ◌-◌, ◌*◌, ◌/◌, ◌%◌, ◌<◌, ◌≤◌, Bool, true, false, ◌&&◌, ◌==◌, List, [], ◌∷◌, ◌++◌, length, take, drop, Option, None, Some, is_some, refl, sym, ap, ap₂, ◌∙◌, subst, arith, inl, inr, length-append, eqb-true}
+use Rattle.std.proofs.Common.{◌≡◌, ℕ, ◌+◌, ◌-◌, ◌*◌, ◌/◌, ◌%◌, ◌<◌, ◌≤◌, Bool, true, ◌==◌, List, [], ◌∷◌, ◌++◌, length, take, drop, Option, None, Some, is_some, refl, sym, ap, ap₂, ◌∙◌, subst, arith, inl, inr, length-append, eqb-true}
 use Rattle.std.proofs.lemmas.Bool.{false≢true, cases_Bool}
 use Rattle.std.proofs.lemmas.List.{length-take-le}
 use Rattle.prefix_trie_bits.specs.Bits.{begins}
@@ -24,6 +24,7 @@ use Rattle.prefix_trie_table.specs.Shape.{IsShapeOf}
 use Rattle.prefix_trie_table.specs.Tables.{ForHeld, Grows}
 use Rattle.prefix_trie_table.specs.Retaining.{IsSite, ValuesBetween, ChildrenBetween}
 use Rattle.prefix_trie_table.specs.Tables.{IsTrie}
+use Rattle.prefix_trie_table.proofs.Plain.{both_true}
 use Rattle.prefix_trie_table.proofs.Invariant.{some_table, some_nodes}
 use Rattle.prefix_trie_table.proofs.Between.{taken_values_between, taken_children_between}
 use Rattle.prefix_trie_table.proofs.Bits.{has_bit-is}
@@ -51,10 +52,6 @@ read_up nodes q k whole begun there = elim (cases_Bool (is_some (read nodes (pat
       absurd (false≢true (sym (ap is_some (ap (read nodes) way ∙ read-missing nodes (path_of q) (path_of (drop (length q) k)) (is_none-None (read nodes (path_of q)) miss))) ∙ there))
 ]
 
-both-hold : (a b : Bool) → a ≡ true → b ≡ true → (a && b) ≡ true
-both-hold true b h k = k
-both-hold false b h k = absurd (false≢true h)
-
 module _ {T : Type 0} where
   -- a value is in a node
   pub value_reads : (cells : List (Option T)) (o : Option Node) (b : ℕ) → is_some (value_of cells o b) ≡ true → is_some o ≡ true
@@ -81,7 +78,7 @@ module _ {T : Type 0} where
       depth q there = eqb-true (length q % 5) 0 (and-first (is_node_depth q) (is_some (read v.slots (path_of q))) (sym (is.0 q) ∙ there))
 
       stand : (q : List Bool) → length q % 5 ≡ 0 → is_some (read v.slots (path_of q)) ≡ true → has_node s.nodes q ≡ true
-      stand q whole there = is.0 q ∙ both-hold (is_node_depth q) (is_some (read v.slots (path_of q))) (ap (λ k. k == 0) whole) there
+      stand q whole there = is.0 q ∙ both_true (is_node_depth q) (is_some (read v.slots (path_of q))) (ap (λ k. k == 0) whole) there
 
   -- the table read by the array itself
   pub read_held : (reading : List ℕ → Option Node) (values : List ℕ → ℕ → Option T) (paths : List (List ℕ)) (v : Store Node) (w : Store (Option T)) →

@@ -17,6 +17,7 @@ use Rattle.prefix_trie_table.specs.Store.{Store, Sound, no_blocks, tier_sizes}
 use Rattle.prefix_trie_table.specs.Forest.{read, value_in, value_of, same_path, one_if, is_start, Holds, EntryAdded, value_blocks_of, held, size_in, has_child, has_value, with_value, entry_count, SomeTable}
 use Rattle.prefix_trie_table.specs.Shape.{IsShapeOf, Shaped, same_shape}
 use Rattle.prefix_trie_table.specs.Tables.{IsTable, Grows}
+use Rattle.prefix_trie_table.proofs.Plain.{both_hold}
 use Rattle.prefix_trie_table.proofs.Invariant.{some_table}
 use Rattle.prefix_trie_table.proofs.Bits.{has_bit-zero}
 use Rattle.prefix_trie_table.proofs.BitLists.{rank-zero-all}
@@ -171,14 +172,10 @@ module _ {T : Type 0} where
       either true = refl
       either false = refl
 
-      and_true : (a b : Bool) → (a && b) ≡ true → (a ≡ true) × (b ≡ true)
-      and_true true b e = (refl, e)
-      and_true false b e = absurd (false≢true e)
-
       at_root : (q : List Bool) → same_string q [] ≡ (is_node_depth q && same_path (path_of q) [])
       at_root q = same_bool _ _
           (λ h. let e : q ≡ [] = same_string-is q [] h in subst (λ x. (is_node_depth x && same_path (path_of x) []) ≡ true) (sym e) refl)
-          (λ h. let w = and_true (is_node_depth q) (same_path (path_of q) []) h in
+          (λ h. let w = both_hold (is_node_depth q) (same_path (path_of q) []) h in
           is-same_string q [] (same_way q [] (eqb-true (length q % 5) 0 w.0) refl (same_path-true (path_of q) [] w.1)))
 
 -- a limit that is not none is one slot at least

@@ -9,6 +9,7 @@ use Rattle.prefix_trie_table.specs.Cells.{node_sizes, cell_sizes}
 use Rattle.std.specs.List.{prefix_len, position_or_len, position}
 use Rattle.std.proofs.lemmas.List.{length-map, length-replicate, get_or_append_left}
 use Rattle.std.proofs.lemmas.Bool.{false≢true, ltb-true}
+use Rattle.prefix_trie_table.proofs.Plain.{both_hold, none_some}
 use Rattle.prefix_trie_table.proofs.RunLemmas.{length-swap_runs}
 
 -- a tier's size is as the list of sizes says
@@ -47,9 +48,6 @@ module _ {S : Type 0} where
     free = λ j. (let p = a.free j in let q = b.kept j (λ e. none_some j e) in omega arith);
     kept = λ j n. (let p = a.kept j n in let q = b.kept j (λ e. none_some j e) in omega arith);
   }
-    where
-      none_some : (j : ℕ) → ◌≡◌ {A = Option ℕ} None (Some j) → ⊥
-      none_some j e = cc
 
   pub Spends-taken : (v w : Store S) (k : ℕ) → k < length v.tiers → w ≡ record v { tiers = taken v.tiers k } → Spends v w (Some k)
   Spends-taken v w k inside e = subst (λ x. Spends v x (Some k)) (sym e) (record {
@@ -133,10 +131,6 @@ lacking_none false (Some x) e some = absurd (let f : ◌≡◌ {A = Option ℕ} 
 pub lacking_some : (b : Bool) (o : Option ℕ) (t : ℕ) → (if b then None else o) ≡ Some t → o ≡ Some t
 lacking_some true o t e = absurd (let f : ◌≡◌ {A = Option ℕ} None (Some t) = e in cc)
 lacking_some false o t e = e
-
-both_hold : (a b : Bool) → (a && b) ≡ true → (a ≡ true) × (b ≡ true)
-both_hold true b e = (refl, e)
-both_hold false b e = absurd (false≢true e)
 
 pub ready_room : (ts us : List Tier) (k count : ℕ) → tier_sizes us ≡ tier_sizes ts → tier_lacking ts k count ≡ None → IsSome (tier_for ts (count + 1)) → IsReady us k count
 ready_room ts us k count e none some =

@@ -1,5 +1,5 @@
 -- What the next place of a spot gives.
-use Rattle.std.proofs.Common.{◌≡◌, ℕ, zero, suc, ◌+◌, ◌-◌, ◌*◌, ◌/◌, ◌%◌, ◌<◌, ◌≤◌, Bool, true, false, cond, List, [], ◌∷◌, ◌++◌, length, take, filter, get_or, None, Some, refl, sym, ap, ◌∙◌, subst, arith, inl, inr, length-append}
+use Rattle.std.proofs.Common.{◌≡◌, ℕ, zero, suc, ◌+◌, ◌-◌, ◌/◌, ◌%◌, ◌<◌, ◌≤◌, Bool, true, false, cond, List, [], ◌∷◌, ◌++◌, length, take, filter, get_or, None, Some, refl, sym, ap, ◌∙◌, subst, arith, inl, inr, length-append}
 use Rattle.std.specs.List.{All}
 use Rattle.std.proofs.lemmas.Bool.{cases_lt, lt-ltb, le-ltb}
 use Rattle.std.proofs.lemmas.List.{length-take-le, take-append-le, take-take}
@@ -24,6 +24,7 @@ use Rattle.prefix_trie_table.specs.Store.{Store}
 use Rattle.prefix_trie_table.specs.Forest.{read, child_slot}
 use Rattle.prefix_trie_table.specs.Walks.{Site, Tree, IsSpot, IsPlaceOf, still, GivesSeat, many, most, weight_of, weight}
 use Rattle.prefix_trie_table.specs.Tables.{IsTrie}
+use Rattle.prefix_trie_table.proofs.Plain.{whole_levels}
 use Rattle.prefix_trie_table.proofs.Bits.{rank-ones}
 use Rattle.prefix_trie_table.proofs.Subtrees.{is_in-value, is_in-child, number-small, stored_value, value_read, value_inside, value_listed, value_fits, child_is, child_inside, child_few, child_fits, all_places}
 
@@ -89,16 +90,13 @@ place-child-small s b h e =
 whole-more : (u s : List Bool) → length u % 5 ≡ 0 → length s ≡ 5 → length (u ++ s) % 5 ≡ 0
 whole-more u s h five = omega (arith, h, five, length-append u s)
 
-whole-levels : (d l : ℕ) → d ≡ 5 * l → d % 5 ≡ 0
-whole-levels d l e = omega (arith, e)
-
 module _ {K : Type 0} (IsKey : K → Type 0) (bits : K → List Bool) (width : ℕ) (v : Store Node) (p : Site K) (at : IsSpot IsKey bits width v p)
     (long : length (bits p.key) ≡ width) where
   pub string-length : length (take p.depth (bits p.key)) ≡ p.depth
   string-length = let w = at.within in length-take-le p.depth (bits p.key) (omega (arith, w, long))
 
   whole : length (take p.depth (bits p.key)) % 5 ≡ 0
-  whole = whole-levels (length (take p.depth (bits p.key))) at.level (string-length ∙ at.depth_is)
+  whole = whole_levels (length (take p.depth (bits p.key))) at.level (string-length ∙ at.depth_is)
 
   module _ (s : List Bool) (later : Places) (first : to_come p.places ≡ s ∷ to_come later) where
     -- the spot afterwards

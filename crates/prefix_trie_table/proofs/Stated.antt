@@ -24,6 +24,7 @@ use Rattle.prefix_trie_table.specs.Tables.{IsTable, Grows, MayPass}
 use Rattle.prefix_trie_table.proofs.Invariant.{some_table}
 use Rattle.prefix_trie_table.proofs.KeptBlocks.{kept_blocks}
 use Rattle.prefix_trie_table.proofs.PartTaken.{all_gone, root_left}
+use Rattle.prefix_trie_table.proofs.Plain.{no_or_yes}
 use Rattle.prefix_trie_table.proofs.Settling.{settled_room, some_nodes}
 use Rattle.prefix_trie_table.proofs.Shapes.{Leaves, before_left, left_only, shape_nodes}
 use Rattle.prefix_trie_table.proofs.Sizing.{same_layout, storage_of}
@@ -195,17 +196,13 @@ module _ {T : Type 0} (v v2 : Store Node) (w w2 : Store (Option T)) (count count
     nodes_set true same e = same_set (same refl)
     nodes_set false same e = e
 
-    not_stored : (b : Bool) → (b ≡ true → ⊥) → b ≡ false
-    not_stored true h = absurd (h refl)
-    not_stored false h = refl
-
     stored_same : (r : Result (Option T) (Refused T)) → IsOk r × SameRoom w w2 × (v2 ≡ v) × (w2.tiers ≡ w.tiers) → storage_of v2 w2 z2 ≡ storage_of v w z
     stored_same r same =
         let layout = same_layout _ _ _ _ _ _ z z2 (ap (λ (a : Store Node). a.slots) same.2) (ap (λ (a : Store Node). a.tiers) same.2) same.3 in
         λ i. record { room = record { limit = (same.2 i).limit; node_slots = length (same.2 i).slots; cell_slots = same.1.0 i }; layout = layout i }
 
     refused_new : (e : Refused T) → Inserts (Err e) → contains_key s.0.entries q ≡ false
-    refused_new e h = not_stored (contains_key s.0.entries q) (λ has. true≢false (sym (h.stays has).0))
+    refused_new e h = no_or_yes (contains_key s.0.entries q) (λ has. true≢false (sym (h.stays has).0))
 
     same_cause : (c d : Refusal) → ◌≡◌ {A = Reply (List Bool) T} (Reply.Refused c) (Reply.Refused d) → c ≡ d
     same_cause c d e = cc

@@ -19,12 +19,13 @@ use Rattle.prefix_trie_table.specs.Retaining.{ValuesBetween, ChildrenBetween}
 use Rattle.prefix_trie_table.specs.Shape.{IsShapeOf, Shaped}
 use Rattle.prefix_trie_table.specs.Store.{Store}
 use Rattle.prefix_trie_table.specs.Tables.{IsTable, ForHeld}
+use Rattle.prefix_trie_table.proofs.Plain.{fifths}
 use Rattle.prefix_trie_table.proofs.Invariant.{some_table}
 use Rattle.prefix_trie_table.proofs.Bare.{no_bit}
 use Rattle.prefix_trie_table.proofs.BitLists.{rank-zero-all}
 use Rattle.prefix_trie_table.proofs.Digits.{path-length, path-take}
 use Rattle.prefix_trie_table.proofs.OwnCounts.{children_counted, values_counted}
-use Rattle.prefix_trie_table.proofs.Removed.{home_path, fifths, pruned_holds}
+use Rattle.prefix_trie_table.proofs.Removed.{home_path, pruned_holds}
 use Rattle.prefix_trie_table.proofs.Shapes.{shape_entries, shape_nodes}
 use Rattle.prefix_trie_table.proofs.Stepping.{ValuesStep, ChildrenStep, steps_read, children_kept, taken_gone, taken_values, taken_children, taken_grows, drops_gone, drops_values, pruned_children, pruned_grows, GrowsByOne, GrowsAtMost, grows_same, grows_not}
 use Rattle.prefix_trie_table.proofs.BySize.{blocks_made, blocks_at_most, nodes_cut, cells_cut}

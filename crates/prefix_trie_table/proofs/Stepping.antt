@@ -12,6 +12,7 @@ use Rattle.prefix_trie_table.specs.Forest.{lacking_child, own_count, is_start, n
 use Rattle.prefix_trie_table.specs.Layouts.{size_if_any, own_children, child_block_size, value_block_size, free_counts}
 use Rattle.prefix_trie_table.specs.Removals.{Shrinks, LongerByBlock, MakesEntered, MakesFew, SameChildren, SameValues, EntryTaken, Drops, none, more, PrunedTo}
 use Rattle.prefix_trie_table.specs.Store.{Store, Tier, tier_at, tier_for, tier_sizes, size_in, free_at}
+use Rattle.prefix_trie_table.proofs.Plain.{none_some, some_same}
 use Rattle.prefix_trie_table.proofs.Children.{same_or, changed_below, changed_here, changed_other}
 use Rattle.prefix_trie_table.proofs.Entering.{free_is}
 use Rattle.prefix_trie_table.proofs.Needs.{smallest_is, all_apart, nodes_apart, cells_apart, apart}
@@ -53,9 +54,6 @@ module _ (ts : List Tier) (sizes : List ℕ) (are : tier_sizes ts ≡ sizes) (se
     from_tier : (size : ℕ) (o : Option ℕ) → tier_for ts after ≡ o → option_map (size_in sizes) o ≡ Some size → 0 < after →
         0 < free_of sizes (free_counts ts) size → size_in sizes to ≡ size
     from_tier size None e is some one = absurd (none_some size is)
-      where
-        none_some : (n : ℕ) → ◌≡◌ {A = Option ℕ} None (Some n) → ⊥
-        none_some n e = cc
     from_tier size (Some j) e is some one =
         let same : size_in sizes j ≡ size = ap (or_zero) is in
         let inside : j < 7 = (let h = (position-Some (λ size. nat_le after size) sizes j 0
@@ -90,9 +88,6 @@ module _ (ts : List Tier) (sizes : List ℕ) (are : tier_sizes ts ≡ sizes) (se
   size_differs (suc c) k to less inside e =
       true≢false (sym (eq-eqb (size_in sizes to) (size_in sizes k) (sym (some_same (size_in sizes k) (size_in sizes to) e)))
       ∙ apart sizes differ k to inside (omega arith) (λ same. omega arith))
-    where
-      some_same : (a b : ℕ) → Some a ≡ Some b → a ≡ b
-      some_same a b e = cc
 
   -- an array that grew by the block of such a list grew by one of its size
   pub longer_by_one : {S : Type 0} (v w : Store S) (c left k to : ℕ) → v.tiers ≡ ts → LongerByBlock sizes v w left k to →

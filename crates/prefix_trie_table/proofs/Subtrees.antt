@@ -1,5 +1,5 @@
 -- What a table has at the places of a node and below them.
-use Rattle.std.proofs.Common.{◌≡◌, ℕ, suc, ◌+◌, ◌%◌, ◌^◌, ◌<◌, ◌≤◌, Bool, true, false, cond, List, [], ◌∷◌, ◌++◌, length, drop, get_or, Option, None, Some, is_some, refl, sym, ap, ap₂, ◌∙◌, subst, arith, inl, inr, append-nil, length-append, ◌&&◌, ◌==◌}
+use Rattle.std.proofs.Common.{◌≡◌, ℕ, suc, ◌+◌, ◌%◌, ◌^◌, ◌<◌, ◌≤◌, Bool, true, false, cond, List, [], ◌∷◌, ◌++◌, length, drop, get_or, Option, None, Some, is_some, refl, sym, ap, ap₂, ◌∙◌, subst, arith, inl, inr, append-nil, length-append, ◌==◌}
 use Rattle.std.proofs.lemmas.Bool.{false≢true, cases_lt, lt-ltb, le-ltb}
 use Rattle.std.specs.FinMap.{get}
 use Rattle.prefix_trie_bits.specs.Bits.{number, begins}
@@ -19,12 +19,14 @@ use Rattle.prefix_trie_table.specs.Store.{Store}
 use Rattle.prefix_trie_table.specs.Forest.{read, read_from, below, child, child_slot, has_value, value_of, at_root}
 use Rattle.prefix_trie_table.specs.Walks.{Tree}
 use Rattle.prefix_trie_table.specs.Tables.{IsTrie}
+use Rattle.prefix_trie_table.proofs.Plain.{both_true, no_or_yes}
 use Rattle.prefix_trie_table.proofs.Invariant.{some_table}
 use Rattle.prefix_trie_table.proofs.Bits.{has_bit-is}
 use Rattle.prefix_trie_table.proofs.Trees.{is_none-None, reads, slot_holds, read-snoc, child-there, child-missing, child_stands}
 use Rattle.prefix_trie_table.proofs.Values.{value_stands}
 use Rattle.prefix_trie_table.proofs.Shapes.{reads_node, shape_entries}
 use Rattle.prefix_trie_table.proofs.Matched.{has_nodes}
+use Rattle.prefix_trie_table.proofs.Digits.{short_path, five_path}
 
 -- ---- ways of joined strings
 
@@ -49,23 +51,6 @@ rest-append (a ∷ b ∷ c ∷ []) t h = absurd (omega (arith, h))
 rest-append (a ∷ b ∷ c ∷ d ∷ []) t h = absurd (omega (arith, h))
 rest-append (a ∷ b ∷ c ∷ d ∷ e ∷ s) t h = rest-append s t (five-less (length s) h)
 
-short-path : (t : List Bool) → length t ≤ 4 → (path_of t ≡ []) × (rest_of t ≡ t)
-short-path [] h = (refl, refl)
-short-path (a ∷ []) h = (refl, refl)
-short-path (a ∷ b ∷ []) h = (refl, refl)
-short-path (a ∷ b ∷ c ∷ []) h = (refl, refl)
-short-path (a ∷ b ∷ c ∷ d ∷ []) h = (refl, refl)
-short-path (a ∷ b ∷ c ∷ d ∷ e ∷ s) h = absurd (omega (arith, h))
-
-five-path : (t : List Bool) → length t ≡ 5 → path_of t ≡ number t ∷ []
-five-path [] h = absurd (omega (arith, h))
-five-path (a ∷ []) h = absurd (omega (arith, h))
-five-path (a ∷ b ∷ []) h = absurd (omega (arith, h))
-five-path (a ∷ b ∷ c ∷ []) h = absurd (omega (arith, h))
-five-path (a ∷ b ∷ c ∷ d ∷ []) h = absurd (omega (arith, h))
-five-path (a ∷ b ∷ c ∷ d ∷ e ∷ []) h = refl
-five-path (a ∷ b ∷ c ∷ d ∷ e ∷ f ∷ s) h = absurd (omega (arith, h))
-
 read_from-none : (nodes : List Node) (p : List ℕ) → read_from nodes None p ≡ None
 read_from-none nodes [] = refl
 read_from-none nodes (c ∷ p) = read_from-none nodes p
@@ -80,17 +65,9 @@ unfolding read
 read-missing nodes p q h =
     read_from-append nodes (Some (node_at nodes 0)) p q ∙ ap (λ o. read_from nodes o q) h ∙ read_from-none nodes q
 
-not_true : (b : Bool) → (b ≡ true → ⊥) → b ≡ false
-not_true true f = absurd (f refl)
-not_true false f = refl
-
 some-is : {X : Type 0} (o : Option X) → is_some o ≡ true → (x : X) × (o ≡ Some x)
 some-is None h = absurd (false≢true h)
 some-is (Some x) h = (x, refl)
-
-both-true : (a b : Bool) → a ≡ true → b ≡ true → (a && b) ≡ true
-both-true true b h k = k
-both-true false b h k = absurd (false≢true h)
 
 pub is_in-value : (values children : ℕ) (s : List Bool) → length s < 5 → is_in values children s ≡ has values (value_bit s)
 is_in-value values children s h = ap (λ c. cond c (has values (value_bit s)) (has children (number s))) (lt-ltb (length s) 5 h)
@@ -106,7 +83,7 @@ number-small s h = subst (λ n. number s < 2 ^ n) h (number-lt s)
 module _ {T : Type 0} (width : ℕ) (v : Store Node) (t : Tree T) (tree : IsTrie width t.count v t.cells t.shape) where
   -- below a string where no node stands, nothing is stored
   pub nothing_below : (q : List Bool) → length q % 5 ≡ 0 → read v.slots (path_of q) ≡ None → listing_below t.shape.entries q ≡ []
-  nothing_below q whole missing = listing_below_none t.shape.entries q (λ k has. not_true (begins q k) (λ e.
+  nothing_below q whole missing = listing_below_none t.shape.entries q (λ k has. no_or_yes (begins q k) (λ e.
       let way : path_of k ≡ path_of q ++ path_of (drop (length q) k) = ap path_of (begins-rest q k e) ∙ path-append q (drop (length q) k) whole in
       let none : read v.slots (path_of k) ≡ None = ap (read v.slots) way ∙ read-missing v.slots (path_of q) (path_of (drop (length q) k)) missing in
       absurd (false≢true (sym (ap is_some (tree.shaped.1 k ∙ ap (λ o. value_of t.cells.slots o (bit_of k)) none)) ∙ has))))
@@ -136,8 +113,8 @@ module _ {T : Type 0} (width : ℕ) (v : Store Node) (t : Tree T) (tree : IsTrie
       value_is =
           shape_entries tree.table.reading tree.table.values tree.table.paths v t.cells (some_table tree.table).holds t.shape tree.shaped (q ++ s)
           ∙ ap₂ tree.table.values
-          (path-append q s whole ∙ ap (λ p. path_of q ++ p) (short-path s short).0 ∙ append-nil (path_of q))
-          (ap value_bit (rest-append q s whole ∙ (short-path s short).1))
+          (path-append q s whole ∙ ap (λ p. path_of q ++ p) (short_path s short).0 ∙ append-nil (path_of q))
+          (ap value_bit (rest-append q s whole ∙ (short_path s short).1))
 
       has_value_is : is_some (tree.table.values (path_of q) (value_bit s)) ≡ has n.value_bitmap (value_bit s)
       has_value_is =
@@ -191,7 +168,7 @@ module _ {T : Type 0} (width : ℕ) (v : Store Node) (t : Tree T) (tree : IsTrie
 
       child_read : read v.slots (path_of (q ++ s)) ≡ child v.slots n (number s)
       child_read =
-          ap (read v.slots) (path-append q s whole ∙ ap (λ p. path_of q ++ p) (five-path s five)) ∙ read-snoc v.slots (path_of q) (number s)
+          ap (read v.slots) (path-append q s whole ∙ ap (λ p. path_of q ++ p) (five_path s five)) ∙ read-snoc v.slots (path_of q) (number s)
           ∙ ap (λ o. below v.slots o (number s)) stands
 
       no_child_there : has n.child_bitmap (number s) ≡ false → listing_below t.shape.entries (q ++ s) ≡ []
@@ -217,7 +194,7 @@ module _ {T : Type 0} (width : ℕ) (v : Store Node) (t : Tree T) (tree : IsTrie
         -- and its string is no longer than the width
         pub child_fits : length q + 5 ≤ width
         child_fits =
-            let there : has_node t.shape.nodes (q ++ s) ≡ true = tree.shaped.0 (q ++ s) ∙ both-true (is_node_depth (q ++ s)) _ (ap (λ k. k == 0) longer) (ap is_some child_is) in
+            let there : has_node t.shape.nodes (q ++ s) ≡ true = tree.shaped.0 (q ++ s) ∙ both_true (is_node_depth (q ++ s)) _ (ap (λ k. k == 0) longer) (ap is_some child_is) in
             let h = tree.nodes.within (q ++ s) there in omega (arith, h, length-append q s, five)
 
     -- ---- all places

@@ -14,7 +14,8 @@ use Rattle.prefix_trie_table.specs.Tables.{IsReached}
 use Rattle.std.proofs.lemmas.List.{take_all, take_more, length-take-le}
 use Rattle.prefix_trie_table.proofs.Adding.{values_replaced}
 use Rattle.prefix_trie_table.proofs.Digits.{path-length}
-use Rattle.prefix_trie_table.proofs.Finding.{needs_node, reached_end}
+use Rattle.prefix_trie_table.proofs.Plain.{needs_node}
+use Rattle.prefix_trie_table.proofs.Finding.{reached_end}
 use Rattle.prefix_trie_table.proofs.Going.{step-inside, deepest_is}
 use Rattle.prefix_trie_table.proofs.Growing.{walked_start, entry_added}
 use Rattle.prefix_trie_table.proofs.Paths.{snoc_ind}

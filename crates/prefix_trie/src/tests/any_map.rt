@@ -1,13 +1,16 @@
 //! What a caller learns of a map that was handed to it, whatever was done to it before.
 ghost use Rattle.std.specs.Prelude.{◌≡◌, false, filter, IfOk, OnOk};
 ghost use Rattle.std.specs.FinMap.{contains_key, len};
+ghost use Rattle.prefix_trie_bits.specs.Laws.Slots.{MakesSlots};
 ghost use Rattle.prefix_trie_bits.specs.Model.Entries.{put_all};
 ghost use Rattle.prefix_trie_bits.specs.Model.Nodes.{IsTidy, needed};
 ghost use Rattle.prefix_trie_bits.specs.Model.Selections.{listing, shown};
+ghost use Rattle.prefix_trie_map.specs.Steps.{storage};
 
-use crate::tests::on_new::on_new;
+use crate::tests::on_new::{on_new, on_two_new};
 use crate::tests::retain::keep_from;
-use crate::{Prefix, PrefixMap, Refusal, Refused};
+use crate::{Prefix, PrefixMap, Refused};
+use prefix_trie_bits::laws::slot_laws;
 use prefix_trie_map::laws::copy_laws;
 use std::alloc::{AllocError, Allocator, Global};
 use std::test::Fail;
@@ -26,9 +29,9 @@ fn put_into<P: Prefix, A: Allocator>(
 }
 
 // Keeps the entries whose prefixes another map stores too.
-fn keep_common<P: Prefix, T: Drop, A: Allocator>(
-    map: &mut PrefixMap<P, T, A>,
-    other: &PrefixMap<P, T, A>,
+fn keep_common<P: Prefix, A: Allocator>(
+    map: &mut PrefixMap<P, u64, A>,
+    other: &PrefixMap<P, u64, A>,
 )
     ensures { listing map.new.entries ≡ filter (λ e. contains_key other.now.entries e.0) (listing map.old.entries) }
 {
@@ -114,6 +117,21 @@ fn set_and_take_out<P: Prefix, T: Drop, A: Allocator>(
     }
 }
 
+// Sets a key of any map: how many slots that makes at most.
+fn set_within<P: Prefix, T: Drop, A: Allocator>(
+    map: &mut PrefixMap<P, T, A>,
+    prefix: P,
+    value: T,
+) -> bool
+    requires { P.IsFitting prefix }
+    ensures { MakesSlots 56 31 (storage map.old) (storage map.new) }
+{
+    slot_laws::<P, T>();
+    // The proof learns from it that the map is whole.
+    let _ = map.len();
+    map.insert(prefix, value).is_ok()
+}
+
 // A copy of a tidy map, which is tidy too.
 fn tidy_copy<P: Prefix, T: Clone, A: Allocator + Clone>(
     map: &PrefixMap<P, T, A>,
@@ -140,20 +158,20 @@ fn has_common(to: &mut Numbers, from: &Numbers) -> bool {
     is_put & (len == 3) & to.keys().eq([(0x0a00, 8), (0x0a0b, 16)])
 }
 
-/// The same with another new map of the two.
-fn has_common_with_another(to: &mut Numbers, alloc: Global) -> Result<bool, Refusal> {
-    let mut from = PrefixMap::new(alloc)?;
-    Ok(put_two(&mut from) & has_common(to, &from))
+/// The same once the other has the two.
+fn has_common_with_two(to: &mut Numbers, from: &mut Numbers, _alloc: Global) -> bool {
+    put_two(from) & has_common(to, from)
 }
 
 #[test]
 fn entries_of_another_map(rt: HostRuntime) -> Result<(), Fail> {
     assert!(rt;
-        on_new(
+        on_two_new(
+            PrefixMap::new(rt.alloc()),
             PrefixMap::new(rt.alloc()),
             rt.alloc(),
-            has_common_with_another
-        )??
+            has_common_with_two
+        )?
     );
     Ok(())
 }
@@ -177,9 +195,9 @@ fn has_tidy_copy(map: &mut Numbers) -> bool {
     }
 }
 
-/// Both in turn, of a map of two numbers.
+/// Both in turn, and a key set between them, of a map of two numbers.
 fn is_used(map: &mut Numbers, _alloc: Global) -> bool {
-    put_two(map) & is_counted(map) & has_tidy_copy(map)
+    put_two(map) & is_counted(map) & set_within(map, (0x0a0b, 16), 12) & has_tidy_copy(map)
 }
 
 #[test]

@@ -3,6 +3,7 @@ use crate::tests::changes::{
     clears, copies, empties, inserts, makes, removes, removes_children, retains_from, turns,
     writes, writes_longest,
 };
+use crate::tests::filling::{Fill, changes, fills, takes_out};
 use crate::tests::lists::{covers, lists};
 use crate::tests::questions::{finds, has_cells, has_len, has_nodes, has_slots, is_same};
 use crate::tests::refusing::Refusing;
@@ -44,6 +45,12 @@ pub enum Case<K: 'static> {
     Writes(Pair<K>, u64, Option<u64>),
     /// The same of the longest match.
     WritesLongest(Pair<K>, u64, Option<Entry<K>>),
+    /// A vacant entry is filled by this call with this value.
+    Fills(Fill, Pair<K>, u64),
+    /// An occupied entry is taken out, and has this value.
+    TakesOut(Pair<K>, u64),
+    /// An occupied entry is set to the first value, and had the second.
+    ChangesEntry(Pair<K>, u64, u64),
     /// All lookups of a prefix: the entry of exactly it, its longest match and its shortest.
     Finds(Pair<K>, Option<Entry<K>>, Option<Entry<K>>, Option<Entry<K>>),
     /// All walks give these entries.
@@ -98,6 +105,9 @@ pub fn holds<P: Prefix + Copy, A: Allocator + Copy>(
         Case::Turns => turns(map, other),
         Case::Writes(at, value, before) => writes(map, *at, *value, *before),
         Case::WritesLongest(at, value, before) => writes_longest(map, *at, *value, *before),
+        Case::Fills(fill, at, value) => fills(heap, map, *fill, *at, *value),
+        Case::TakesOut(at, before) => takes_out(map, *at, *before),
+        Case::ChangesEntry(at, value, before) => changes(map, *at, *value, *before),
         _ => answers(heap, map, other, case),
     }
 }

@@ -204,7 +204,7 @@ pub fn writes<P: Prefix + Copy, A: Allocator>(
     let first = written(map.get_mut(&prefix), value);
     let second = written(map.get_mut_counted(&prefix).0, last);
     let third = written(map.get_mut(&prefix), value);
-    [first, second, third] == [before, now, before]
+    (first == before) & (second == now) & (third == before)
 }
 
 /// Writes over the value of the longest match. Answers the entry that was there.
@@ -253,5 +253,5 @@ pub fn writes_longest<P: Prefix + Copy, A: Allocator>(
     let first = written_longest(map, &prefix, value);
     let second = written_longest_counted(map, &prefix, last.unwrap_or(value));
     let third = written(map.get_lpm_value_mut(&prefix), value);
-    ([first, second] == [before, now]) & (third == last)
+    (first == before) & (second == now) & (third == last)
 }

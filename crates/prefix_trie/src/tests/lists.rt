@@ -58,21 +58,25 @@ fn gives_parts<P: Prefix + Copy, A: Allocator>(
     keys.next().is_none() & values.next().is_none()
 }
 
-/// Whether the first items of walks are those of these entries, and what they give then is the rest, as do clones of them.
-fn gives_rest<P: Prefix + Copy, A: Allocator>(
-    map: &PrefixMap<P, u64, A>,
+/// Whether a walk gives these entries, and a clone of it those behind the first.
+fn gives_twice<P: Prefix + Copy, A: Allocator>(
+    mut walk: Iter<'_, P, u64, A>,
     entries: &[Entry<P::R>],
 ) -> bool {
-    let mut walk = map.iter();
-    let mut keys = map.keys();
-    let mut values = map.values();
+    let rest = &entries[entries.len().min(1)..];
+    (shown(walk.next()) == entries.first().copied()) & gives(walk.clone(), rest) & gives(walk, rest)
+}
+
+/// The same of their prefixes and their values.
+fn gives_parts_twice<P: Prefix + Copy, A: Allocator>(
+    mut keys: Keys<'_, P, u64, A>,
+    mut values: Values<'_, P, u64, A>,
+    entries: &[Entry<P::R>],
+) -> bool {
     let first = entries.first();
     let rest = &entries[entries.len().min(1)..];
-    (shown(walk.next()) == first.copied())
-        & (found_pair(keys.next()) == first.map(pair_in))
+    (found_pair(keys.next()) == first.map(pair_in))
         & (values.next().copied() == first.map(value_in))
-        & gives(walk.clone(), rest)
-        & gives(walk, rest)
         & gives_parts(keys.clone(), values.clone(), rest)
         & gives_parts(keys, values, rest)
 }
@@ -82,7 +86,10 @@ pub fn lists<P: Prefix + Copy, A: Allocator>(
     map: &PrefixMap<P, u64, A>,
     entries: &[Entry<P::R>],
 ) -> bool {
-    (map.len() == entries.len()) & gives(map.into_iter(), entries) & gives_rest(map, entries)
+    (map.len() == entries.len())
+        & gives(map.into_iter(), entries)
+        & gives_twice(map.iter(), entries)
+        & gives_parts_twice(map.keys(), map.values(), entries)
 }
 
 /// Whether the walks around a prefix give these entries.

@@ -1,14 +1,29 @@
-//! New maps for tests. A map is held in one short function, since whoever holds one pays for each way out.
+//! New maps for tests. They are held in these short functions alone, to which a map is any value, since whoever holds a map pays
+//! for each way out.
 use crate::Refusal;
 
-/// What is answered of a new map and its allocator.
-pub fn on_new<V: Drop, A: Copy, R, F: FnOnce(&mut V, A) -> R + Drop>(
+/// What is answered of a new map.
+pub fn on_new<V: Drop, W: Copy, R, F: FnOnce(&mut V, W) -> R + Drop>(
     made: Result<V, Refusal>,
-    alloc: A,
+    with: W,
     asks: F,
 ) -> Result<R, Refusal>
     requires { F.IsAlwaysCallable asks }
 {
     let mut map = made?;
-    Ok(asks(&mut map, alloc))
+    Ok(asks(&mut map, with))
+}
+
+/// What is answered of two.
+pub fn on_two_new<V: Drop, W: Copy, R, F: FnOnce(&mut V, &mut V, W) -> R + Drop>(
+    made: Result<V, Refusal>,
+    other: Result<V, Refusal>,
+    with: W,
+    asks: F,
+) -> Result<R, Refusal>
+    requires { F.IsAlwaysCallable asks }
+{
+    let mut map = made?;
+    let mut other = other?;
+    Ok(asks(&mut map, &mut other, with))
 }

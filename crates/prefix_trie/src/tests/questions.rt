@@ -44,13 +44,12 @@ fn has<P: Prefix + Copy, A: Allocator>(
     requires { P.IsFitting prefix.now }
 {
     let value = exact.as_ref().map(value_in);
-    let values = [map.get(prefix).copied(), map.get_counted(prefix).0.copied()];
-    let are_there = [map.contains_key(prefix), map.contains_key_counted(prefix).0];
-    let entries = [
-        shown(map.get_key_value(prefix)),
-        shown(map.get_key_value_counted(prefix).0),
-    ];
-    (values == [value; 2]) & (are_there == [value.is_some(); 2]) & (entries == [exact; 2])
+    (map.get(prefix).copied() == value)
+        & (map.get_counted(prefix).0.copied() == value)
+        & (map.contains_key(prefix) == value.is_some())
+        & (map.contains_key_counted(prefix).0 == value.is_some())
+        & (shown(map.get_key_value(prefix)) == exact)
+        & (shown(map.get_key_value_counted(prefix).0) == exact)
 }
 
 /// Whether the lookups of the longest match answer so.
@@ -61,15 +60,11 @@ fn has_longest<P: Prefix + Copy, A: Allocator>(
 ) -> bool
     requires { P.IsFitting prefix.now }
 {
-    let entries = [
-        shown(map.get_lpm(prefix)),
-        shown(map.get_lpm_counted(prefix).0),
-    ];
-    let pairs = [
-        found_pair(map.get_lpm_prefix(prefix)),
-        found_pair(map.get_lpm_prefix_counted(prefix).0),
-    ];
-    (entries == [longest; 2]) & (pairs == [longest.as_ref().map(pair_in); 2])
+    let pair = longest.as_ref().map(pair_in);
+    (shown(map.get_lpm(prefix)) == longest)
+        & (shown(map.get_lpm_counted(prefix).0) == longest)
+        & (found_pair(map.get_lpm_prefix(prefix)) == pair)
+        & (found_pair(map.get_lpm_prefix_counted(prefix).0) == pair)
 }
 
 /// Whether the lookups of the shortest match answer so.
@@ -80,18 +75,13 @@ fn has_shortest<P: Prefix + Copy, A: Allocator>(
 ) -> bool
     requires { P.IsFitting prefix.now }
 {
-    let entries = [
-        shown(map.get_spm(prefix)),
-        shown(map.get_spm_counted(prefix).0),
-    ];
-    let pairs = [
-        found_pair(map.get_spm_prefix(prefix)),
-        found_pair(map.get_spm_prefix_counted(prefix).0),
-    ];
-    let are_covered = [map.is_covered(prefix), map.is_covered_counted(prefix).0];
-    (entries == [shortest; 2])
-        & (pairs == [shortest.as_ref().map(pair_in); 2])
-        & (are_covered == [shortest.is_some(); 2])
+    let pair = shortest.as_ref().map(pair_in);
+    (shown(map.get_spm(prefix)) == shortest)
+        & (shown(map.get_spm_counted(prefix).0) == shortest)
+        & (found_pair(map.get_spm_prefix(prefix)) == pair)
+        & (found_pair(map.get_spm_prefix_counted(prefix).0) == pair)
+        & (map.is_covered(prefix) == pair.is_some())
+        & (map.is_covered_counted(prefix).0 == pair.is_some())
 }
 
 /// Whether all lookups of a prefix answer so.

@@ -327,12 +327,19 @@ fn run_refused<'a>(
     part_lost(&outcome, map)
 }
 
-/// Runs them on a new map once it has an entry, with one request refused.
-fn run_once(heap: &Refusing<Global>, passed: u64) -> Result<Option<Lost>, Refusal> {
-    let mut map = PrefixMap::new(heap)?;
+/// Runs them on a map once it has an entry.
+fn run_stored<'a>(
+    map: &mut Map<&'a Refusing<Global>>,
+    with: (&'a Refusing<Global>, u64),
+) -> Option<Lost> {
     let is_stored = map.insert((0, 0), 7) == Ok(None);
-    let part = run_refused(heap, &mut map, passed);
-    Ok(if is_stored { part } else { None })
+    let part = run_refused(with.0, map, with.1);
+    if is_stored { part } else { None }
+}
+
+/// The same of a new map.
+fn run_once(heap: &Refusing<Global>, passed: u64) -> Result<Option<Lost>, Refusal> {
+    on_new(PrefixMap::new(heap), (heap, passed), run_stored)
 }
 
 /// Whether what is refused follows on what was refused when one request less was passed on.

@@ -59,17 +59,6 @@ fn plays<P: Prefix + Copy, A: Allocator + Copy>(
     }
 }
 
-/// The same beside a new map.
-fn plays_beside<'a, P: Prefix + Copy>(
-    heap: &'a Refusing<Global>,
-    map: &mut PrefixMap<P, u64, &'a Refusing<Global>>,
-    table: Table<'_, P::R>,
-    requests: (u64, u64),
-) -> Result<(), Wrong> {
-    let mut other = PrefixMap::new(heap).map_err(Wrong::Start)?;
-    plays(heap, heap, map, &mut other, table, requests)
-}
-
 /// The same of two new maps.
 fn plays_anew<P: Prefix + Copy>(
     heap: &Refusing<Global>,
@@ -78,7 +67,8 @@ fn plays_anew<P: Prefix + Copy>(
 ) -> Result<(), Wrong> {
     heap.refuse(0, 0);
     let mut map = PrefixMap::new(heap).map_err(Wrong::Start)?;
-    plays_beside::<P>(heap, &mut map, table, requests)
+    let mut other = PrefixMap::new(heap).map_err(Wrong::Start)?;
+    plays::<P, &Refusing<Global>>(heap, heap, &mut map, &mut other, table, requests)
 }
 
 /// Runs a table time and again, with another request of its second part refused each time, and at last with none.

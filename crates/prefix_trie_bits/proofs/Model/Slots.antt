@@ -1,5 +1,5 @@
 -- How many slots the calls for one key make, at most.
-use Rattle.std.proofs.Common.{◌≡◌, ◌≢◌, ℕ, zero, suc, ◌+◌, ◌-◌, ◌*◌, ◌/◌, ◌%◌, ◌<◌, ◌≤◌, ◌==◌, ◌⊎◌, inl, inr, Bool, true, false, cond, ◌&&◌, ◌||◌, nat_lt, nat_le, List, [], ◌∷◌, ◌++◌, length, take, filter, replicate, Option, None, Some, All, Contains, refl, sym, ap, ◌∙◌, subst, arith, lit≤, append-nil, eqb-true, eq-eqb, ltb-true, leb-true, true≢false, length-take-le}
+use Rattle.std.proofs.Common.{◌≡◌, ◌≢◌, ℕ, zero, suc, ◌+◌, ◌-◌, ◌*◌, ◌/◌, ◌%◌, ◌<◌, ◌≤◌, ◌==◌, ◌⊎◌, inl, inr, Bool, true, false, cond, ◌&&◌, nat_lt, nat_le, List, [], ◌∷◌, ◌++◌, length, take, filter, replicate, Option, None, Some, All, refl, sym, ap, ◌∙◌, subst, arith, lit≤, append-nil, eqb-true, eq-eqb, ltb-true, true≢false, length-take-le}
 use Rattle.std.proofs.lemmas.Bool.{cases_eq, cases_Bool, cases_lt}
 use Rattle.std.proofs.lemmas.Bool.Decides.{nat_tests}
 use Rattle.std.proofs.lemmas.List.Elements.{All-nil, All-cons, All-head, All-tail, All-contains}
@@ -13,7 +13,6 @@ use Rattle.prefix_trie_bits.specs.Order.{same_string}
 use Rattle.prefix_trie_bits.specs.Laws.Slots.{MakesSlots, SlotLaws}
 use Rattle.prefix_trie_bits.specs.Laws.Steps.{IsMap}
 use Rattle.prefix_trie_bits.specs.Model.Blocks.{Layout, child_block_sizes, value_block_sizes, smallest_size, child_count, own_entries, Sizes, StepsDown, SizesStepDown, LongerByOne, HasBlock, NodesHaveBlocks}
-use Rattle.prefix_trie_bits.specs.Model.Entries.{Entries}
 use Rattle.prefix_trie_bits.specs.Model.Insertion.{block_needed, lacking_slots, child_blocks_needed, value_block_needed, node_slots_lacking, cell_slots_lacking}
 use Rattle.prefix_trie_bits.specs.Model.Nodes.{Nodes, has_node, home, AreNodes}
 use Rattle.prefix_trie_bits.specs.Model.Step.{State, Insert, Remove, RemoveKeepTree, Reply}

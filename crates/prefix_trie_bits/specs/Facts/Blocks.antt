@@ -44,6 +44,7 @@ pub record StepsDownFacts : Type 0 where
   pub not_other_size : ¬ (StepsDown value_block_sizes none_free 24 16 (Some 31) (Some 24))
   pub not_unasked : ¬ (StepsDown value_block_sizes six_free 24 24 (Some 31) (Some 24))
   pub not_left_over : ¬ (StepsDown value_block_sizes none_free 1 0 (Some 1) (Some 1))
+  pub not_more : ¬ (StepsDown value_block_sizes none_free 1 2 (Some 1) (Some 2))
 
 -- one of 31 whose list falls to nine in several removals: it has 31, 24 or 16
 pub record StepsBetweenFacts : Type 0 where

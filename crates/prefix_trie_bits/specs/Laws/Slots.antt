@@ -1,7 +1,7 @@
 -- How many slots the calls for one key make, at most.
-use Rattle.std.specs.Prelude.{◌≡◌, ℕ, ◌+◌, ◌≤◌, Bool, List, length}
+use Rattle.std.specs.Prelude.{ℕ, ◌+◌, ◌≤◌, Bool, List, length}
 use Rattle.prefix_trie_bits.specs.Laws.Steps.{IsMap}
-use Rattle.prefix_trie_bits.specs.Model.Step.{State, Call, Insert, Remove, RemoveKeepTree, Reply}
+use Rattle.prefix_trie_bits.specs.Model.Step.{State, Insert, Remove, RemoveKeepTree, Reply}
 use Rattle.prefix_trie_bits.specs.Model.Storage.{Storage, HaveBlocks, StepInStorage}
 
 -- so many slots for nodes and for values

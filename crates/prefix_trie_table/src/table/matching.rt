@@ -56,7 +56,7 @@ pub fn root<A: Allocator, V: Tick>(nodes: &NodeAllocator<A, V>, counter: &mut V)
 }
 
 /// The next node on the way of a bit string, if it is there.
-#[inline]
+#[inline(always)]
 pub fn step_down<K: Key, A: Allocator, V: Tick>(
     nodes: &NodeAllocator<A, V>,
     from: Reached,
@@ -97,7 +97,7 @@ pub fn step_down<K: Key, A: Allocator, V: Tick>(
 }
 
 /// The longest beginning of a bit string that has its value in this node on the way.
-#[inline]
+#[inline(always)]
 fn longest_in<K: Key>(here: Reached, key: K, len: u32) -> Option<Match>
     requires key { K.IsKey key }
     requires within { len ≤ K.bit_width }
@@ -119,6 +119,7 @@ fn longest_in<K: Key>(here: Reached, key: K, len: u32) -> Option<Match>
 }
 
 /// The longest beginning of a bit string that has a value. Each node on the way is read once.
+#[inline(always)]
 pub fn longest_on_way<K: Key, A: Allocator, V: Tick>(
     nodes: &NodeAllocator<A, V>,
     key: K,
@@ -204,7 +205,7 @@ pub fn shortest_on_way<K: Key, A: Allocator, V: Tick>(
 }
 
 /// The value of a match, behind the length of its string.
-#[inline]
+#[inline(always)]
 pub fn value_of_match<'a, T: Drop, A: Allocator>(
     cells: &'a Blocks<Option<T>, A>,
     found: Match,

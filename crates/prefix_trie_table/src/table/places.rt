@@ -58,8 +58,9 @@ impl<T: Drop, A: Allocator, V: Tick> Table<T, A, V> {
         lend(&mut self.cells, seat)
     }
 
-    /// Obtains all blocks that the insertion of a missing bit string needs, whose way ends here, so that nothing lacks for
-    /// `place`. Entries and nodes stay as they are, also where it is refused, and so does the end of the way.
+    /// Obtains all blocks that the insertion of a missing bit string needs, whose way ends here: `place` is then not refused.
+    /// It is refused as `insert` is. In each case entries and nodes stay as they are, and so does the end of the way. No node
+    /// is read.
     #[inline]
     pub fn make_room<K: Key>(&mut self, key: K, len: u32, end: WayEnd) -> Result<(), Refusal>
         requires key { K.IsKey key }
@@ -78,7 +79,8 @@ impl<T: Drop, A: Allocator, V: Tick> Table<T, A, V> {
         prepare(&mut self.nodes, &mut self.cells, &end.reached, len)
     }
 
-    /// Sets the value at a missing bit string, whose way ends here, and answers where it stands. Else it is as `insert`.
+    /// Sets the value at a missing bit string, whose way ends here, adds the nodes that are missing on it, and answers where
+    /// the value stands. It is refused as `insert` is, and then hands the value back. No node is read.
     #[inline]
     pub fn place<K: Key>(
         &mut self,

@@ -74,6 +74,7 @@ down = record {
   not_other_size = λ h. neither 24 31 16 refl refl (h.one_of (lit< tt) (lit< tt));
   not_unasked = λ h. unlike 24 31 refl (h.same refl);
   not_left_over = λ h. not_some 1 (sym (h.none refl));
+  not_more = λ h. let l : 2 ≤ 1 = h.fewer in absurd (omega arith);
 }
 
 -- the block left is too small, larger than before, or none

@@ -25,3 +25,6 @@ returns-clause-sound g c = λ live s.
     let added : c.push_made.new.self ≡ record old { made = old.made + 1; starts = old.starts ++ c.len-len.result ∷ [] } = search rules in
     let size : c.size_of-size.result ≡ (tier_at v.lists.items c.args.k).size = rw (← c.self.view_is) at c.size_of-size.ensures in
     Sound-grown_as g.S.Slot.vacant live _ c.args.k c.size_of-size.result c.len-len.result c.push_made.new.self c.push_vacant.new.slots.items within (c.push_vacant.ensures ∙ ap (λ xs. xs ++ replicate c.size_of-size.result g.S.Slot.vacant) c.reserve.ensures.items) size (rw (← c.self.view_is) at c.len-len.ensures.len) (added ∙ ap (λ (t : Tier). record t { made = t.made + 1; starts = t.starts ++ c.len-len.result ∷ [] }) (sym at_k)) (rw (← c.self.view_is) at s)
+
+pub returns-then-len-size-clause-range : goal.returns-then-len-size-clause-range
+returns-then-len-size-clause-range g c = search rules

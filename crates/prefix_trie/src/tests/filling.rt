@@ -1,0 +1,178 @@
+//! Cases of entries: what fills one, changes one and takes one out.
+use crate::map::Entry;
+use crate::tests::cases::{Pair, prefix_of};
+use crate::tests::refusing::Refusing;
+use crate::{Prefix, PrefixMap, Refusal, Refused};
+use std::alloc::{Allocator, Global};
+
+/// The calls that fill an entry: of `Entry`, and of `VacantEntry`.
+#[derive(Clone, Copy, PartialEq, Eq)]
+pub enum Fill {
+    OrInsert,
+    OrInsertWith,
+    OrDefault,
+    Insert,
+    InsertWith,
+    Default,
+}
+
+/// The value that is lent, or why the call was refused and the value that was handed in; and how often the closure was called.
+type Filled = (Result<u64, (Refusal, u64)>, u64);
+
+/// A lent value, or a refusal that hands the value back.
+fn handed(answer: Result<&mut u64, Refused<u64>>) -> Filled {
+    match answer {
+        Ok(value) => (Ok(*value), 0),
+        Err(refused) => (Err((refused.cause, refused.value)), 0),
+    }
+}
+
+/// A lent value that was made so often, or a refusal.
+fn made(answer: Result<&mut u64, Refusal>, value: u64, calls: u64) -> Filled {
+    match answer {
+        Ok(value) => (Ok(*value), calls),
+        Err(cause) => (Err((cause, value)), calls),
+    }
+}
+
+fn or_insert_with<P: Prefix, A: Allocator>(
+    map: &mut PrefixMap<P, u64, A>,
+    at: Pair<P::R>,
+    value: u64,
+) -> Filled {
+    let mut calls = 0_u64;
+    let answer = map.entry(prefix_of(at)).or_insert_with(|| {
+        calls = calls.saturating_add(1);
+        value
+    });
+    match answer {
+        Ok(value) => (Ok(*value), calls),
+        Err(cause) => (Err((cause, value)), calls),
+    }
+}
+
+fn insert_with<P: Prefix, A: Allocator>(
+    map: &mut PrefixMap<P, u64, A>,
+    at: Pair<P::R>,
+    value: u64,
+) -> Filled {
+    let mut calls = 0_u64;
+    let Entry::Vacant(entry) = map.entry(prefix_of(at)) else {
+        return (Ok(value), 9);
+    };
+    let answer = entry.insert_with(|| {
+        calls = calls.saturating_add(1);
+        value
+    });
+    match answer {
+        Ok(value) => (Ok(*value), calls),
+        Err(cause) => (Err((cause, value)), calls),
+    }
+}
+
+fn filled<P: Prefix, A: Allocator>(
+    map: &mut PrefixMap<P, u64, A>,
+    fill: Fill,
+    at: Pair<P::R>,
+    value: u64,
+) -> Filled {
+    match fill {
+        Fill::OrInsert => handed(map.entry(prefix_of(at)).or_insert(value)),
+        Fill::OrInsertWith => or_insert_with(map, at, value),
+        Fill::OrDefault => made(map.entry(prefix_of(at)).or_default(), value, 0),
+        Fill::InsertWith => insert_with(map, at, value),
+        _ => filled_vacant(map, fill, at, value),
+    }
+}
+
+fn filled_vacant<P: Prefix, A: Allocator>(
+    map: &mut PrefixMap<P, u64, A>,
+    fill: Fill,
+    at: Pair<P::R>,
+    value: u64,
+) -> Filled {
+    match map.entry(prefix_of(at)) {
+        Entry::Vacant(entry) if fill == Fill::Insert => handed(entry.insert(value)),
+        Entry::Vacant(entry) => made(entry.default(), value, 0),
+        Entry::Occupied(_) => (Ok(value), 9),
+    }
+}
+
+/// How often a call asks its closure for the value.
+fn calls_of(fill: Fill) -> u64 {
+    match fill {
+        Fill::OrInsertWith | Fill::InsertWith => 1,
+        _ => 0,
+    }
+}
+
+/// Fills a vacant entry, and once more where a request was refused: then no closure was called, the value came back, and the map
+/// is as long as it was and has as many nodes.
+pub fn fills<P: Prefix, A: Allocator>(
+    heap: &Refusing<Global>,
+    map: &mut PrefixMap<P, u64, A>,
+    fill: Fill,
+    at: Pair<P::R>,
+    value: u64,
+) -> bool {
+    let old = (map.len(), map.node_count());
+    let left = heap.left();
+    let answer = filled(map, fill, at, value);
+    if heap.left() == left {
+        return answer == (Ok(value), calls_of(fill));
+    }
+    answer == (Err((Refusal::Memory, value)), 0)
+        && (map.len(), map.node_count()) == old
+        && filled(map, fill, at, value) == (Ok(value), calls_of(fill))
+}
+
+/// Takes a stored value out by its entry.
+pub fn takes_out<P: Prefix, A: Allocator>(
+    map: &mut PrefixMap<P, u64, A>,
+    at: Pair<P::R>,
+    before: u64,
+) -> bool {
+    match map.entry(prefix_of(at)) {
+        Entry::Occupied(entry) => entry.remove() == before,
+        Entry::Vacant(_) => false,
+    }
+}
+
+/// Reads a stored value by its entry, adds one to it, finds it filled, and sets it to another.
+pub fn changes<P: Prefix, A: Allocator>(
+    map: &mut PrefixMap<P, u64, A>,
+    at: Pair<P::R>,
+    value: u64,
+    before: u64,
+) -> bool {
+    let more = before.saturating_add(1);
+    map.entry(prefix_of(at)).get().copied() == Some(before)
+        && handed(
+            map.entry(prefix_of(at))
+                .and_modify(|n| *n = n.saturating_add(1))
+                .or_insert(0),
+        ) == (Ok(more), 0)
+        && sets(map, at, value) == Some(more)
+        && writes_in(map, at) == Some(value)
+}
+
+fn sets<P: Prefix, A: Allocator>(
+    map: &mut PrefixMap<P, u64, A>,
+    at: Pair<P::R>,
+    value: u64,
+) -> Option<u64> {
+    match map.entry(prefix_of(at)) {
+        Entry::Occupied(entry) => Some(entry.insert(value)),
+        Entry::Vacant(_) => None,
+    }
+}
+
+fn writes_in<P: Prefix, A: Allocator>(
+    map: &mut PrefixMap<P, u64, A>,
+    at: Pair<P::R>,
+) -> Option<u64> {
+    match map.entry(prefix_of(at)) {
+        Entry::Occupied(entry) => Some(*entry.into_mut()),
+        Entry::Vacant(_) => None,
+    }
+}

@@ -1,0 +1,37 @@
+-- An occupied entry, once a value is written at its key.
+use Rattle.std.proofs.Common.{◌≡◌, Bool, true, List, Some, sym, subst}
+use Rattle.std.specs.Coded.{Coded-set, coded_bool}
+use Rattle.std.specs.FinMap.{contains_key}
+use Rattle.std.specs.declared.cmp.PartialEq as partial
+use Rattle.std.specs.declared.fmt.Debug as debug
+use Rattle.prefix_trie_bits.specs.declared.prefix.Prefix as prefix
+use Rattle.prefix_trie_bits.specs.declared.prefix.Key as key
+use Rattle.prefix_trie_bits.specs.Model.Entries.{with_entry}
+use Rattle.prefix_trie_table.specs.Locations.{seat_of, is_seat-prop}
+use Rattle.prefix_trie_table.specs.Shape.{with_value_at}
+use Rattle.prefix_trie_map.specs.declared.map.entry.OccupiedEntry.{OccupiedEntry}
+use Rattle.prefix_trie_map.specs.Entry.{stays_stored, with_value_in}
+
+module _ {P T A R : Type 0} {p : prefix.Ghosts P R} {shows : debug.Ghosts P} {k : key.Ghosts R} {same : partial.Ghosts R} {writes : debug.Ghosts R}
+    (o : OccupiedEntry P T A R p shows k same writes) where
+  -- its key stays stored
+  pub stays_at : (q : List Bool) (w : T) → q ≡ p.path o.key → contains_key (with_entry o.map.now.entries q w) (p.path o.key) ≡ true
+  stays_at q w at = subst (λ s. contains_key (with_entry o.map.now.entries s w) (p.path o.key) ≡ true) (sym at) (stays_stored o w)
+
+  same_facts : (w : T) (s : contains_key (with_entry o.map.now.entries (p.path o.key) w) (p.path o.key) ≡ true)
+      (f : seat_of o.map.now.build (p.path o.key) ≡ Some o.seat)
+      → record o { map = record o.map { now = with_value_at o.map.now (p.path o.key) w }; stored = s; seated = f } ≡ with_value_in o w
+  same_facts w s f = λ i. record o {
+    map = record o.map { now = with_value_at o.map.now (p.path o.key) w };
+    stored = Coded-set coded_bool _ _ s (stays_stored o w) i;
+    seated = is_seat-prop o.map.now.build (p.path o.key) o.seat f o.seated i;
+  }
+
+  -- and the rest of it is as it was
+  pub occupied_written : (w : T) (q : List Bool) → q ≡ p.path o.key
+      → (s : contains_key (with_entry o.map.now.entries q w) (p.path o.key) ≡ true) (f : seat_of o.map.now.build (p.path o.key) ≡ Some o.seat)
+      → record o { map = record o.map { now = with_value_at o.map.now q w }; stored = s; seated = f } ≡ with_value_in o w
+  occupied_written w q at s f =
+      subst (λ (n : List Bool). (s : contains_key (with_entry o.map.now.entries n w) (p.path o.key) ≡ true)
+      → record o { map = record o.map { now = with_value_at o.map.now n w }; stored = s; seated = f } ≡ with_value_in o w)
+      (sym at) (λ s. same_facts w s f) s

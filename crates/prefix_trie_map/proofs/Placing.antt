@@ -1,0 +1,193 @@
+-- That a new key is placed, or refused its blocks, is a step of the model.
+use Rattle.std.proofs.Common.{◌≡◌, ℕ, ◌+◌, ◌*◌, ◌≤◌, Bool, true, false, cond, List, Option, None, Some, is_some, inl, inr, refl, sym, ap, ◌∙◌, true≢false, subst, Result, Ok, Err, IfErr, OnOk, OnErr, MatchResult}
+use Rattle.std.specs.FinMap.{get, contains_key, len}
+use Rattle.prefix_trie_bits.specs.declared.prefix.Refusal.{Refusal}
+use Rattle.prefix_trie_bits.specs.declared.prefix.Refused.{Refused}
+use Rattle.prefix_trie_bits.specs.declared.prefix.Refusal.TheVariants.{IndexRange}
+use Rattle.prefix_trie_bits.specs.Model.Entries.{with_entry}
+use Rattle.prefix_trie_bits.specs.Model.Nodes.{with_needed}
+use Rattle.prefix_trie_bits.specs.Model.Room.{MayPassLimit, LeavesRoom}
+use Rattle.prefix_trie_bits.specs.Model.Step.{State, Reply, Step, Insert, Value}
+use Rattle.prefix_trie_bits.specs.Model.Storage.{ReadiesInStorage, InsertsInStorage, RefusesInStorage, StepInStorage}
+use Rattle.prefix_trie_bits.proofs.Model.Members.{get-with_entry, is-same_string, same_entries}
+use Rattle.prefix_trie_bits.specs.Order.{same_string}
+use Rattle.prefix_trie_bits.specs.Model.Entries.{Entries}
+use Rattle.prefix_trie_table.specs.Shape.{Contents, with_value_at}
+use Rattle.prefix_trie_map.specs.Steps.{state, storage, stored, placed}
+use Rattle.prefix_trie_bits.proofs.Model.Readied.{readied_inserts}
+
+pub no_value : {T : Type 0} (o : Option T) → is_some o ≡ false → o ≡ None
+no_value None e = refl
+no_value (Some x) e = absurd (true≢false e)
+
+module _ {P T : Type 0} where
+  pub value_not_refused : (x : Option T) (c : Refusal) → ◌≡◌ {A = Reply P T} (Value x) (Reply.Refused c) → ⊥
+  value_not_refused x c e = cc
+
+  same_cause : (c d : Refusal) → ◌≡◌ {A = Reply P T} (Reply.Refused c) (Reply.Refused d) → c ≡ d
+  same_cause c d e = cc
+
+module _ {P T : Type 0} (path : P → List Bool) (back : List Bool → P) (width : ℕ) (old new : Contents T) (q : P)
+    (absent : contains_key old.entries (path q) ≡ false) (room : LeavesRoom (len old.nodes) old.room new.room) where
+  -- it was placed
+  pub placed_step : (v : T) → new.entries ≡ with_entry old.entries (path q) v → new.nodes ≡ with_needed old.nodes (path q)
+      → InsertsInStorage (state old) (path q) (storage old) (storage new)
+      → StepInStorage path back width (stored old) (Insert q v) (Value None) (stored new)
+  placed_step v entries nodes inserts =
+      let left = nodes ∙ sym (ap (λ b. cond b old.nodes (with_needed old.nodes (path q))) absent) in
+      record {
+        step = inl (ap Value (sym (no_value (get old.entries (path q)) absent)), λ i. record { entries = entries i; nodes = left i });
+        room = room;
+        index_range = λ e. absurd (value_not_refused None IndexRange e);
+        storage = (
+          λ there. absurd (true≢false (sym there ∙ absent)),
+          λ was fresh e. inserts,
+          λ cause e. absurd (value_not_refused None cause e),
+        );
+      }
+
+  -- it was refused, whatever its value
+  pub refused_step : (cause : Refusal) → new.entries ≡ old.entries → new.nodes ≡ old.nodes
+      → RefusesInStorage (state old) (path q) cause (storage old) (storage new) → (cause ≡ IndexRange → MayPassLimit old.room)
+      → (v : T) → StepInStorage path back width (stored old) (Insert q v) (Reply.Refused cause) (stored new)
+  refused_step cause entries nodes refuses range v = record {
+    step = inr (absent, cause, refl, λ i. record { entries = entries i; nodes = nodes i });
+    room = room;
+    index_range = λ e. range (same_cause {P = P} {T = T} cause IndexRange e);
+    storage = (
+      λ there. absurd (true≢false (sym there ∙ absent)),
+      λ was fresh e. absurd (value_not_refused was cause (sym e)),
+      λ c e. subst (λ d. RefusesInStorage (state old) (path q) d (storage old) (storage new)) (same_cause {P = P} {T = T} cause c e) refuses,
+    );
+  }
+
+-- ---- by the answer
+
+module _ {P T : Type 0} (path : P → List Bool) (back : List Bool → P) (width : ℕ) (old new : Contents T) (q : P) (v : T)
+    (absent : contains_key old.entries (path q) ≡ false) where
+  -- what placing a new key says of the map, by its answer
+  pub record Places {X : Type 0} (r : Result X (Refused T)) : Type 0 where
+    pub entries : OnOk r (new.entries ≡ with_entry old.entries (path q) v)
+    pub nodes : OnOk r (new.nodes ≡ with_needed old.nodes (path q))
+    pub unchanged : OnErr r ((new.entries ≡ old.entries) × (new.nodes ≡ old.nodes))
+    pub step : OnOk r (StepInStorage path back width (stored old) (Insert q v) (Value None) (stored new))
+    pub refuses : IfErr r (λ e. (other : T) → StepInStorage path back width (stored old) (Insert q other) (Reply.Refused e.cause) (stored new))
+
+  -- a refusal does not hang on the value
+  other_refused : (cause : Refusal) → Step path back width (state old) (Insert q v) (Reply.Refused cause) (state new) → (other : T) →
+      Step path back width (state old) (Insert q other) (Reply.Refused cause) (state new)
+  other_refused cause (inl (e, left)) other = absurd (value_not_refused _ cause (sym e))
+  other_refused cause (inr refused) other = inr refused
+
+  set_entries : Step path back width (state old) (Insert q v) (Value None) (state new) → new.entries ≡ with_entry old.entries (path q) v
+  set_entries (inl (e, left)) = ap (λ (s : State T). s.entries) left
+  set_entries (inr (fresh, cause, e, same)) = absurd (value_not_refused None cause e)
+
+  set_nodes : Step path back width (state old) (Insert q v) (Value None) (state new) → new.nodes ≡ with_needed old.nodes (path q)
+  set_nodes (inl (e, left)) = ap (λ (s : State T). s.nodes) left ∙ ap (λ b. cond b old.nodes (with_needed old.nodes (path q))) absent
+  set_nodes (inr (fresh, cause, e, same)) = absurd (value_not_refused None cause e)
+
+  kept : (cause : Refusal) → Step path back width (state old) (Insert q v) (Reply.Refused cause) (state new) → (new.entries ≡ old.entries) × (new.nodes ≡ old.nodes)
+  kept cause (inl (e, left)) = absurd (value_not_refused _ cause (sym e))
+  kept cause (inr (fresh, other, e, same)) = (ap (λ (s : State T). s.entries) same, ap (λ (s : State T). s.nodes) same)
+
+  pub places : {X : Type 0} (r : Result X (Refused T)) → StepInStorage path back width (stored old) (Insert q v) (placed r) (stored new) → Places r
+  places (Ok x) h = record { entries = set_entries h.step; nodes = set_nodes h.step; unchanged = tt; step = h; refuses = tt }
+  places (Err e) h = record {
+    entries = tt;
+    nodes = tt;
+    unchanged = kept e.cause h.step;
+    step = tt;
+    refuses = λ other. record {
+      step = other_refused e.cause h.step other;
+      room = h.room;
+      index_range = h.index_range;
+      storage = h.storage;
+    };
+  }
+
+-- the same of making its blocks alone
+
+module _ {P T S E : Type 0} (path : P → List Bool) (back : List Bool → P) (width : ℕ) (cause : E → Refusal) (old new : Contents T) (q : P) where
+  -- where its blocks are made, or refused
+  pub room_refused : (result : Result S E) → contains_key old.entries (path q) ≡ false → LeavesRoom (len old.nodes) old.room new.room
+      → (new.entries ≡ old.entries) × (new.nodes ≡ old.nodes)
+      → MatchResult result (λ _. ReadiesInStorage (state old) (path q) (storage old) (storage new)) (λ e. RefusesInStorage (state old) (path q) (cause e) (storage old) (storage new))
+      → IfErr result (λ e. cause e ≡ IndexRange → MayPassLimit old.room)
+      → IfErr result (λ e. (other : T) → StepInStorage path back width (stored old) (Insert q other) (Reply.Refused (cause e)) (stored new))
+  room_refused (Ok x) absent room same leaves range = tt
+  room_refused (Err e) absent room same leaves range = refused_step path back width old new q absent room (cause e) same.0 same.1 leaves range
+
+  pub room_readied : (result : Result S E)
+      → MatchResult result (λ _. ReadiesInStorage (state old) (path q) (storage old) (storage new)) (λ e. RefusesInStorage (state old) (path q) (cause e) (storage old) (storage new))
+      → OnOk result (ReadiesInStorage (state old) (path q) (storage old) (storage new))
+  room_readied (Ok x) leaves = leaves
+  room_readied (Err e) leaves = tt
+
+-- ---- once its blocks were made
+
+module _ {P T : Type 0} (path : P → List Bool) (back : List Bool → P) (width : ℕ) (old middle new : Contents T) (q : P) (v : T)
+    (absent : contains_key old.entries (path q) ≡ false) (entries : middle.entries ≡ old.entries) (nodes : middle.nodes ≡ old.nodes) where
+  middle_is : state middle ≡ state old
+  middle_is = λ i. record { entries = entries i; nodes = nodes i }
+
+  inserted_then : StepInStorage path back width (stored middle) (Insert q v) (Value None) (stored new)
+      → InsertsInStorage (state old) (path q) (storage middle) (storage new)
+  inserted_then step =
+      subst (λ s. InsertsInStorage s (path q) (storage middle) (storage new)) middle_is
+      (step.storage.1 None (ap (λ m. contains_key m (path q)) entries ∙ absent) refl)
+
+  -- placing it is the step that it would have been before
+  pub readied_step : LeavesRoom (len old.nodes) old.room middle.room → ReadiesInStorage (state old) (path q) (storage old) (storage middle)
+      → new.entries ≡ with_entry middle.entries (path q) v → new.nodes ≡ with_needed middle.nodes (path q)
+      → StepInStorage path back width (stored middle) (Insert q v) (Value None) (stored new)
+      → StepInStorage path back width (stored old) (Insert q v) (Value None) (stored new)
+  readied_step room readies entries2 nodes2 step =
+      let made = readied_inserts (state old) (path q) (storage old) (storage middle) readies (storage new) (inserted_then step) in
+      let node_slots : new.room.node_slots ≡ middle.room.node_slots = made.node_slots ∙ sym readies.node_slots in
+      let cell_slots : new.room.cell_slots ≡ middle.room.cell_slots = made.cell_slots ∙ sym readies.cell_slots in
+      let grown : LeavesRoom (len old.nodes) old.room new.room = record {
+        same_limit = step.room.same_limit ∙ room.same_limit;
+        nodes_within = step.room.nodes_within;
+        cells_within = step.room.cells_within;
+        nodes_grow = subst (λ n. n ≤ old.room.node_slots + 56 * len old.nodes) (sym node_slots) room.nodes_grow;
+        cells_grow = subst (λ n. n ≤ old.room.cell_slots + 56 * len old.nodes) (sym cell_slots) room.cells_grow;
+      } in
+      placed_step path back width old new q absent grown
+      v (entries2 ∙ ap (λ m. with_entry m (path q) v) entries) (nodes2 ∙ ap (λ n. with_needed n (path q)) nodes) made
+
+-- ---- once another value is written there
+
+over : {A : Type 0} (b : Bool) (x y z : A) → cond b x (cond b y z) ≡ cond b x z
+over true x y z = refl
+over false x y z = refl
+
+-- the second value stays
+pub entry_twice : {T : Type 0} (m : Entries T) (q : List Bool) (v w : T) → with_entry (with_entry m q v) q w ≡ with_entry m q w
+entry_twice m q v w = same_entries _ _ (λ s. get-with_entry (with_entry m q v) q w s ∙ ap (cond (same_string s q) (Some w)) (get-with_entry m q v s)
+    ∙ over (same_string s q) (Some w) (Some v) (get m s) ∙ sym (get-with_entry m q w s))
+
+-- the value is there, and no other
+pub entry_only : {T : Type 0} (m n : Entries T) (q : List Bool) (v r : T) → n ≡ with_entry m q v → get n q ≡ Some r → r ≡ v
+entry_only m n q v r is found =
+    let there : get (with_entry m q v) q ≡ Some v = get-with_entry m q v q ∙ ap (λ b. cond b (Some v) (get m q)) (is-same_string q q refl) in
+    let both : Some r ≡ Some v = sym found ∙ ap (λ e. get e q) is ∙ there in
+    cc
+
+module _ {P T : Type 0} (path : P → List Bool) (back : List Bool → P) (width : ℕ) (old new : Contents T) (q : P) (v : T) (x : Option T) where
+  rewritten : (w : T) → Step path back width (state old) (Insert q v) (Value x) (state new)
+      → Step path back width (state old) (Insert q w) (Value x) (state (with_value_at new (path q) w))
+  rewritten w (inl e) =
+      let entries = ap (λ s. with_entry s.entries (path q) w) e.1 ∙ entry_twice old.entries (path q) v w in
+      inl (e.0, λ i. record { entries = entries i; nodes = (e.1 i).nodes })
+  rewritten w (inr e) = absurd (value_not_refused x e.1 e.2)
+
+  -- it is the insertion of that value
+  pub written_step : (w : T) → StepInStorage path back width (stored old) (Insert q v) (Value x) (stored new)
+      → StepInStorage path back width (stored old) (Insert q w) (Value x) (stored (with_value_at new (path q) w))
+  written_step w h = record {
+    step = rewritten w h.step;
+    room = h.room;
+    index_range = h.index_range;
+    storage = h.storage;
+  }

@@ -1,0 +1,58 @@
+use Rattle.std.proofs.Common.{rules, ◌≡◌, ◌∙◌, Bool, List, IfErr, MatchResult, take, sym, subst}
+use Rattle.std.specs.FinMap.{len}
+use Rattle.prefix_trie_bits.specs.declared.prefix.Refusal.TheVariants.{IndexRange}
+use Rattle.prefix_trie_bits.specs.Model.Room.{MayPassLimit, LeavesRoom}
+use Rattle.prefix_trie_bits.specs.Model.Storage.{ReadiesInStorage, RefusesInStorage}
+use Rattle.prefix_trie_table.specs.Locations.{IsWayEnd}
+use Rattle.prefix_trie_table.specs.Shape.{Contents}
+use Rattle.prefix_trie_map.specs.Steps.{state, storage}
+use Rattle.prefix_trie_map.proofs.Placing.{room_refused, room_readied}
+use Rattle.prefix_trie_map.proofs.Steps.{by_key}
+use Rattle.prefix_trie_map.proofs.map.PrefixMap.make_room.Given as given
+use Rattle.prefix_trie_map.proofs.map.PrefixMap.make_room.Goals as goal
+
+pub make_room-requires-clause-end : goal.make_room-requires-clause-end
+make_room-requires-clause-end g c =
+    let key : take c.from-len.result (g.P.R.Key.bits c.repr.result) ≡ g.P.Prefix.path c.args.prefix.now = search rules in
+    by_key (λ (m : Contents g.row.T.Denot) q. IsWayEnd m.build q c.args.end) (sym c.self.view_is) (sym key) c.requires.end
+
+-- the key that the table is handed, as the prefix's path
+key_is : (g : given.Over) (c : goal.After-make_room g) → take c.from-len.result (g.P.R.Key.bits c.repr.result) ≡ g.P.Prefix.path c.args.prefix.now
+key_is g c =
+    let len : c.from-len.result ≡ g.P.Prefix.len_of c.args.prefix.now = c.from-len.ensures ∙ c.prefix_len.ensures in
+    let repr : c.repr.result ≡ g.P.Prefix.repr_of c.args.prefix.now = c.repr.ensures in
+    (λ i. take (len i) (g.P.R.Key.bits (repr i))) ∙ sym (g.met.P.Prefix.prefix_laws.path_is c.args.prefix.now)
+
+-- what holds of the table and the key's bits holds of the map and the prefix's path
+by_path : (g : given.Over) (c : goal.After-make_room g) (F : Contents g.row.T.Denot → List Bool → Type 0) →
+    F c.self.inside.table (take c.from-len.result (g.P.R.Key.bits c.repr.result)) → F c.args.self.now (g.P.Prefix.path c.args.prefix.now)
+by_path g c F fact = by_key F c.self.view_is (key_is g c) fact
+
+room_left : (g : given.Over) (c : goal.After-make_room g) → LeavesRoom (len c.args.self.now.nodes) c.args.self.now.room c.make_room.new.self.room
+room_left g c = by_path g c (λ old q. LeavesRoom (len old.nodes) old.room c.make_room.new.self.room) c.make_room.ensures.room
+
+leaves : (g : given.Over) (c : goal.After-make_room g) → MatchResult c.make_room.result
+    (λ _. ReadiesInStorage (state c.args.self.now) (g.P.Prefix.path c.args.prefix.now) (storage c.args.self.now) (storage c.make_room.new.self))
+    (λ cause. RefusesInStorage (state c.args.self.now) (g.P.Prefix.path c.args.prefix.now) cause (storage c.args.self.now) (storage c.make_room.new.self))
+leaves g c =
+    by_path g c (λ old q. MatchResult c.make_room.result
+    (λ _. ReadiesInStorage (state old) q (storage old) (storage c.make_room.new.self))
+    (λ cause. RefusesInStorage (state old) q cause (storage old) (storage c.make_room.new.self))) c.make_room.ensures.readies
+
+pub returns-clause-end : goal.returns-clause-end
+returns-clause-end g c = subst (λ q. IsWayEnd c.make_room.new.self.build q c.args.end) (key_is g c) c.make_room.ensures.end
+
+pub returns-clause-room : goal.returns-clause-room
+returns-clause-room g c = room_left g c
+
+pub returns-clause-readies : goal.returns-clause-readies
+returns-clause-readies g c =
+    room_readied g.P.Prefix.path g.P.Prefix.back g.P.R.Key.bit_width (λ cause. cause) c.args.self.now c.make_room.new.self c.args.prefix.now c.make_room.result (leaves g c)
+
+pub returns-clause-refuses : goal.returns-clause-refuses
+returns-clause-refuses g c =
+    room_refused g.P.Prefix.path g.P.Prefix.back g.P.R.Key.bit_width (λ cause. cause) c.args.self.now c.make_room.new.self c.args.prefix.now c.make_room.result c.requires.absent
+    (room_left g c)
+    (by_path g c (λ old q. (c.make_room.new.self.entries ≡ old.entries) × (c.make_room.new.self.nodes ≡ old.nodes)) c.make_room.ensures.unchanged)
+    (leaves g c)
+    (by_path g c (λ old q. IfErr c.make_room.result (λ cause. cause ≡ IndexRange → MayPassLimit old.room)) c.make_room.ensures.range)

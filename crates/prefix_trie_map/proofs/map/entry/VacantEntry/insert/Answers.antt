@@ -1,0 +1,15 @@
+use Rattle.std.proofs.Common.{refl, sym, ap, ◌∙◌}
+use Rattle.std.specs.FinMap.{get}
+use Rattle.prefix_trie_map.proofs.Entries.{Fills-lent}
+use Rattle.prefix_trie_map.proofs.Placing.{entry_only}
+use Rattle.prefix_trie_map.proofs.map.entry.VacantEntry.insert.Goals as goal
+
+pub returns : goal.returns
+returns g c =
+    let is = c.prefix.ensures.value in
+    let at = c.parts-number.ensures.path in
+    let placed = c.in_ok-seat.ensures in
+    let found = ap (get c.place.new.self.entries) (ap g.P.Prefix.path is ∙ sym at) ∙ c.lend_at.ensures.value in (
+      (refl, (λ w _. Fills-lent c.args.self c.place.new.self c.prefix.result.now _ c.args.value w is at placed.entries placed.nodes placed.step), tt),
+      record { writes_back = tt; value = entry_only _ _ _ _ _ placed.entries found; returned = tt },
+    )

@@ -1,0 +1,259 @@
+//! One key of a map, stored or not, looked up once and then read, written, filled or taken out.
+ghost use Rattle.std.specs.Prelude.{◌≡◌, ◌≤◌, length, take, ⊤, IfOk, IfErr, OnErr, None, Some, true, false};
+ghost use Rattle.std.specs.Borrow.{sem, MutBor};
+ghost use Rattle.std.specs.FinMap.{get, contains_key};
+ghost use Rattle.std.specs.Option.{option_copied, option_copied_mut, unwrap_or, UnwrapsOrElse};
+ghost use Rattle.prefix_trie_table.specs.Locations.{seat_of, is_seat-prop, IsWayEnd, IsWayEnd-prop};
+
+mod insertion;
+mod occupied;
+mod vacant;
+
+use crate::map::PrefixMap;
+use crate::map::lookup::rebuilt;
+pub use insertion::Put;
+use prefix_trie_bits::prefix::{Prefix, Refusal, Refused};
+use prefix_trie_table::table::seat::{Location, Seat, WayEnd};
+use std::alloc::Allocator;
+use std::marker::Model;
+
+/// A prefix that fits.
+#[derive(Drop)]
+struct Fitting<P: Prefix> {
+    prefix: P,
+}
+
+// Contracts see the prefix.
+impl<P: Prefix> Model for Fitting<P> {
+    ghost Value = { P };
+
+    ghost view = { λ f. f.prefix };
+
+    ghost invariant = { λ f. P.IsFitting f.prefix };
+}
+
+impl<P: Prefix> Fitting<P> {
+    #[inline]
+    fn new(prefix: P) -> Self
+        requires { P.IsFitting prefix }
+        ensures { result ≡ prefix }
+    {
+        Fitting { prefix }
+    }
+
+    #[inline]
+    fn prefix(&self) -> &P
+        ensures value { result.now ≡ self.now }
+        ensures fits { P.IsFitting result.now }
+    {
+        &self.prefix
+    }
+
+    // Its path, as the number and the length that the map is handed.
+    #[inline]
+    fn parts(&self) -> (P::R, u32)
+        ensures key { P.R.IsKey result.0 }
+        ensures within { result.1 ≤ P.R.bit_width }
+        ensures path { take result.1 (P.R.bits result.0) ≡ P.path self.now }
+        ensures short { length (P.path self.now) ≤ P.R.bit_width }
+    {
+        (self.prefix.repr(), u32::from(self.prefix.prefix_len()))
+    }
+
+    // The prefix of the same path whose other bits are 0.
+    #[inline]
+    fn without_host_bits(&self) -> Self
+        ensures key { result ≡ P.back (P.path self.now) }
+        ensures path { P.path result ≡ P.path self.now }
+    {
+        let (key, len) = self.parts();
+        Fitting::new(rebuilt(key, len))
+    }
+}
+
+/// A prefix that a map does not store.
+pub struct VacantEntry<'a, P: Prefix, T: Drop, A: Allocator> {
+    map: &'a mut PrefixMap<P, T, A>,
+    key: Fitting<P>,
+    end: WayEnd,
+    ghost absent: { contains_key map.now.entries (P.path key) ≡ false },
+    ghost ends: { IsWayEnd map.now.build (P.path key) end } by { IsWayEnd-prop map.now.build (P.path key) end },
+}
+
+/// Let go unfilled, it leaves the map as it was.
+impl<P: Prefix, T: Drop, A: Allocator> Drop for VacantEntry<'_, P, T, A> {
+    fn drop(self)
+        ensures { self.exit.0.now ≡ self.entry.map.now }
+    {
+        let VacantEntry {
+            map: _,
+            key: _,
+            end: _,
+        } = self;
+    }
+}
+
+/// A prefix that a map stores.
+#[derive(Drop)]
+pub struct OccupiedEntry<'a, P: Prefix, T: Drop, A: Allocator> {
+    map: &'a mut PrefixMap<P, T, A>,
+    key: Fitting<P>,
+    seat: Seat,
+    ghost stored: { contains_key map.now.entries (P.path key) ≡ true },
+    ghost seated: { seat_of map.now.build (P.path key) ≡ Some seat } by { is_seat-prop map.now.build (P.path key) seat },
+}
+
+/// A prefix of a map, stored or not.
+#[derive(Drop)]
+pub enum Entry<'a, P: Prefix, T: Drop, A: Allocator> {
+    /// It is not stored.
+    Vacant(VacantEntry<'a, P, T, A>),
+    /// It is stored.
+    Occupied(OccupiedEntry<'a, P, T, A>),
+}
+
+impl<P: Prefix, T: Drop, A: Allocator> PrefixMap<P, T, A> {
+    ghost use Rattle.prefix_trie_map.specs.Entry.{entry_map_ref, entry_map, entry_key, entry_path, MatchEntry};
+
+    /// The entry of a prefix: occupied exactly if the prefix is stored, and then its key has no host bits. It asks for no memory,
+    /// and the map stays as it is until the entry is filled, written or taken out.
+    ///
+    /// ```text
+    /// 10.1.0.0/16 is stored with 1
+    /// map.entry(10.1.2.3/16)                          Occupied, with the key 10.1.0.0/16
+    /// map.entry(10.2.2.3/16)                          Vacant, with the key 10.2.2.3/16
+    /// *map.entry(10.1.0.0/16).or_insert(9)? += 1      the value is 2
+    /// *map.entry(10.2.0.0/16).or_insert(9)? += 1      the value is 10
+    /// ```
+    #[inline]
+    pub fn entry(&mut self, prefix: P) -> Entry<'_, P, T, A>
+        requires { P.IsFitting prefix }
+        ensures same_map { (entry_map_ref result).ghost_name ≡ self.entry.ghost_name }
+        ensures unchanged { entry_map result ≡ self.old }
+        ensures path { entry_path result ≡ P.path prefix }
+        ensures occupied { MatchEntry result (contains_key self.old.entries (P.path prefix) ≡ true) (contains_key self.old.entries (P.path prefix) ≡ false) }
+        ensures key { MatchEntry result (entry_key result ≡ P.back (P.path prefix)) (entry_key result ≡ prefix) }
+    {
+        let key = Fitting::new(prefix);
+        match self.locate(key.prefix()) {
+            Location::Stored(seat) => Entry::Occupied(OccupiedEntry {
+                map: self,
+                key: key.without_host_bits(),
+                seat,
+            }),
+            Location::Missing(end) => Entry::Vacant(VacantEntry {
+                map: self,
+                key,
+                end,
+            }),
+        }
+    }
+}
+
+impl<'a, P: Prefix, T: Drop, A: Allocator> Entry<'a, P, T, A> {
+    ghost use Rattle.prefix_trie_map.specs.Entry.{entry_map_ref, entry_map, entry_key, entry_value, MatchEntry, ModifiesEntry, lends_filled};
+
+    /// The prefix: without host bits if it is stored, and else as it was handed in.
+    #[inline]
+    pub fn key(&self) -> &P
+        ensures { result.now ≡ entry_key self.now }
+    {
+        match self {
+            Entry::Vacant(entry) => entry.key(),
+            Entry::Occupied(entry) => entry.key(),
+        }
+    }
+
+    /// The value, if the prefix is stored.
+    #[inline]
+    pub fn get(&self) -> Option<&T>
+        ensures { option_copied result ≡ entry_value self.now }
+    {
+        match self {
+            Entry::Vacant(_) => None,
+            Entry::Occupied(entry) => Some(entry.get()),
+        }
+    }
+
+    /// The value, if the prefix is stored, for writing. What was written a caller's proof learns from `OccupiedEntry::get_mut` and
+    /// `OccupiedEntry::into_mut` alone.
+    #[inline]
+    pub fn get_mut(&mut self) -> Option<&mut T>
+        ensures { option_copied_mut result ≡ entry_value self.old }
+    {
+        match self {
+            Entry::Vacant(_) => None,
+            Entry::Occupied(entry) => Some(entry.get_mut()),
+        }
+    }
+
+    /// Calls a closure with the value, if the prefix is stored, and else does nothing.
+    ///
+    /// Asks that the closure may be called at the value that is stored, if there is one.
+    ///
+    /// ```text
+    /// 10.1.0.0/16 is stored with 1
+    /// map.entry(10.1.0.0/16).and_modify(|n| *n += 1).or_insert(1)    lends 2
+    /// map.entry(10.2.0.0/16).and_modify(|n| *n += 1).or_insert(1)    lends 1
+    /// ```
+    #[inline]
+    pub fn and_modify<F: FnOnce(&mut T) + Drop>(self, f: F) -> Self
+        requires { (x : MutBor T) → entry_value self ≡ Some x.now → F.pre f x }
+        ensures same_map { (entry_map_ref result).ghost_name ≡ (entry_map_ref self.entry).ghost_name }
+        ensures key { entry_key result ≡ entry_key self.entry }
+        ensures same_variant { MatchEntry self.entry (MatchEntry result ⊤ ⊥) (MatchEntry result ⊥ ⊤) }
+        ensures update { ModifiesEntry F.FnOnce f self.entry (entry_map result) }
+    {
+        match self {
+            Entry::Vacant(entry) => Entry::Vacant(entry),
+            Entry::Occupied(mut entry) => {
+                f(entry.get_mut());
+                Entry::Occupied(entry)
+            }
+        }
+    }
+
+    /// The value, for writing. If the prefix is not stored, this value is inserted first. It is refused as `PrefixMap::insert` is,
+    /// and then hands the value back; never where the prefix is stored.
+    #[inline]
+    pub fn or_insert(self, value: T) -> Result<&'a mut T, Refused<T>>
+        ensures* writes_back { sem 𝓛 (lends_filled P.row T.row A.row P.R.row P.Debug P.R.PartialEq P.R.Debug A.Allocator (λ refused. refused.cause) self.entry result) }
+        ensures value { IfOk result (λ x. x.now ≡ unwrap_or (entry_value self.entry) value) }
+        ensures returned { IfErr result (λ refused. refused.value ≡ value) }
+    {
+        match self {
+            Entry::Vacant(entry) => entry.insert(value),
+            Entry::Occupied(entry) => Ok(entry.into_mut()),
+        }
+    }
+
+    /// The same with the value that a closure gives. It is called only if the prefix is not stored, once, and when all room is
+    /// certain; where the call is refused it is not called.
+    ///
+    /// Asks that the closure may be called, if the prefix is not stored.
+    #[inline]
+    pub fn or_insert_with<F: FnOnce() -> T + Drop>(self, f: F) -> Result<&'a mut T, Refusal>
+        requires { entry_value self ≡ None → F.pre f }
+        ensures* writes_back { sem 𝓛 (lends_filled P.row T.row A.row P.R.row P.Debug P.R.PartialEq P.R.Debug A.Allocator (λ cause. cause) self.entry result) }
+        ensures value { IfOk result (λ x. UnwrapsOrElse (entry_value self.entry) (F.post f) x.now) }
+    {
+        match self {
+            Entry::Vacant(vacant) => vacant.insert_with(f),
+            Entry::Occupied(occupied) => Ok(occupied.into_mut()),
+        }
+    }
+
+    /// The same with the default value, which is made as `or_insert_with` calls its closure.
+    #[inline]
+    pub fn or_default(self) -> Result<&'a mut T, Refusal>
+    where
+        T: Default,
+        ensures* writes_back { sem 𝓛 (lends_filled P.row T.row A.row P.R.row P.Debug P.R.PartialEq P.R.Debug A.Allocator (λ cause. cause) self.entry result) }
+        ensures value { IfOk result (λ x. UnwrapsOrElse (entry_value self.entry) T.is_default x.now) }
+    {
+        match self {
+            Entry::Vacant(entry) => entry.default(),
+            Entry::Occupied(entry) => Ok(entry.into_mut()),
+        }
+    }
+}

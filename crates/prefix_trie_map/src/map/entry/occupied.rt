@@ -1,0 +1,83 @@
+//! Reading, writing and taking out what an occupied entry has.
+ghost use Rattle.std.specs.Prelude.{◌≡◌, Some};
+ghost use Rattle.std.specs.Borrow.{sem};
+ghost use Rattle.prefix_trie_bits.specs.Model.Entries.{without_entry};
+ghost use Rattle.prefix_trie_bits.specs.Model.Step.{RemoveKeepTree, Value};
+ghost use Rattle.prefix_trie_bits.specs.Model.Storage.{StepInStorage};
+ghost use Rattle.prefix_trie_table.specs.Shape.{with_value_at};
+ghost use Rattle.prefix_trie_map.specs.Steps.{stored};
+ghost use Rattle.prefix_trie_map.specs.Whole.{IsWhole};
+
+use crate::map::PrefixMap;
+use crate::map::entry::{Entry, OccupiedEntry};
+use prefix_trie_bits::prefix::Prefix;
+use std::alloc::Allocator;
+use std::mem;
+
+impl<'a, P: Prefix, T: Drop, A: Allocator> OccupiedEntry<'a, P, T, A> {
+    ghost use Rattle.prefix_trie_map.specs.Entry.{Occupied, entry_map, entry_key, entry_path, entry_value, lends_written, lends_occupied};
+
+    /// The prefix, without host bits.
+    #[inline]
+    pub fn key(&self) -> &P
+        ensures { result.now ≡ entry_key (Occupied self.now) }
+    {
+        self.key.prefix()
+    }
+
+    /// The value.
+    #[inline]
+    pub fn get(&self) -> &T
+        ensures { entry_value (Occupied self.now) ≡ Some result.now }
+    {
+        self.map.value_at(self.key.prefix(), self.seat)
+    }
+
+    /// The value, for writing. What is written through it is then the value of the entry, and nothing else changes.
+    #[inline]
+    pub fn get_mut(&mut self) -> &mut T
+        ensures* writes_back { sem 𝓛 (lends_occupied P.row T.row A.row P.R.row P.Debug P.R.PartialEq P.R.Debug A.Allocator self.entry result) }
+        ensures value { entry_value (Occupied self.old) ≡ Some result.now }
+    {
+        let (number, len) = self.key.parts();
+        let seat = self.seat;
+        self.map.lend_at(number, len, seat)
+    }
+
+    /// The same, for as long as the map is lent.
+    #[inline]
+    pub fn into_mut(self) -> &'a mut T
+        ensures* writes_back { sem 𝓛 (lends_written P.row T.row A.row P.R.row P.Debug P.R.PartialEq P.R.Debug A.Allocator (Occupied self.entry) result) }
+        ensures value { entry_value (Occupied self.entry) ≡ Some result.now }
+        ensures whole { IsWhole P.R.bit_width (entry_map (Occupied self.entry)) }
+    {
+        let OccupiedEntry { map, key, seat } = self;
+        let (number, len) = key.parts();
+        map.lend_at(number, len, seat)
+    }
+
+    /// Sets the value, and hands out the old one. Never refused.
+    #[inline]
+    pub fn insert(self, value: T) -> T
+        ensures before { entry_value (Occupied self.entry) ≡ Some result }
+        ensures after { self.exit.0.now ≡ with_value_at (entry_map (Occupied self.entry)) (entry_path (Occupied self.entry)) value }
+    {
+        let key = self.key;
+        let (number, len) = key.parts();
+        let seat = self.seat;
+        mem::replace(self.map.lend_at(number, len, seat), value)
+    }
+
+    /// Takes the entry out of the map, and hands out its value. All nodes stay, as `PrefixMap::remove_keep_tree` leaves them. Never
+    /// refused.
+    #[inline]
+    pub fn remove(self) -> T
+        ensures value { entry_value (Occupied self.entry) ≡ Some result }
+        ensures entries { self.exit.0.now.entries ≡ without_entry (entry_map (Occupied self.entry)).entries (entry_path (Occupied self.entry)) }
+        ensures nodes { self.exit.0.now.nodes ≡ (entry_map (Occupied self.entry)).nodes }
+        ensures step { StepInStorage P.path P.back P.R.bit_width (stored (entry_map (Occupied self.entry))) (RemoveKeepTree (entry_key (Occupied self.entry))) (Value (Some result)) (stored self.exit.0.now) }
+    {
+        let key = self.key;
+        self.map.take(key.prefix())
+    }
+}

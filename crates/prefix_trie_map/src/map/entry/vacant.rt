@@ -1,0 +1,66 @@
+//! Filling an entry that is vacant.
+ghost use Rattle.std.specs.Prelude.{◌≡◌, IfOk, IfErr, OnErr};
+ghost use Rattle.std.specs.Borrow.{sem};
+
+use crate::map::PrefixMap;
+use crate::map::entry::{Entry, VacantEntry};
+use prefix_trie_bits::prefix::{Prefix, Refusal, Refused};
+use std::alloc::Allocator;
+
+impl<'a, P: Prefix, T: Drop, A: Allocator> VacantEntry<'a, P, T, A> {
+    ghost use Rattle.prefix_trie_map.specs.Entry.{Vacant, entry_key, lends_filled};
+
+    /// The prefix, as it was handed in.
+    #[inline]
+    pub fn key(&self) -> &P
+        ensures { result.now ≡ entry_key (Vacant self.now) }
+    {
+        self.key.prefix()
+    }
+
+    /// Inserts a value, and lends it for writing. It is refused as `PrefixMap::insert` is, and then hands the value back.
+    ///
+    /// ```text
+    /// if let Entry::Vacant(entry) = map.entry(10.2.0.0/16) { *entry.insert(3)? += 1; }
+    /// map.get(10.2.0.0/16)                                                             Some(&4), if it was not stored
+    /// ```
+    #[inline]
+    pub fn insert(self, value: T) -> Result<&'a mut T, Refused<T>>
+        ensures* writes_back { sem 𝓛 (lends_filled P.row T.row A.row P.R.row P.Debug P.R.PartialEq P.R.Debug A.Allocator (λ refused. refused.cause) (Vacant self.entry) result) }
+        ensures value { IfOk result (λ x. x.now ≡ value) }
+        ensures returned { IfErr result (λ refused. refused.value ≡ value) }
+    {
+        let VacantEntry { map, key, end } = self;
+        let (number, len) = key.parts();
+        let seat = map.place(key.prefix(), end, value)?;
+        Ok(map.lend_at(number, len, seat))
+    }
+
+    /// The same with the value that a closure gives. It is called once, when all room is certain; where the call is refused it is not
+    /// called.
+    #[inline]
+    pub fn insert_with<F: FnOnce() -> T + Drop>(self, f: F) -> Result<&'a mut T, Refusal>
+        requires { F.pre f }
+        ensures* writes_back { sem 𝓛 (lends_filled P.row T.row A.row P.R.row P.Debug P.R.PartialEq P.R.Debug A.Allocator (λ cause. cause) (Vacant self.entry) result) }
+        ensures value { IfOk result (λ x. F.post f x.now) }
+    {
+        let VacantEntry { map, key, end } = self;
+        let (number, len) = key.parts();
+        if let Err(cause) = map.make_room(key.prefix(), end) {
+            return Err(cause);
+        }
+        let seat = map.place_ready(key.prefix(), end, f());
+        Ok(map.lend_at(number, len, seat))
+    }
+
+    /// The same with the default value, which is made as `insert_with` calls its closure.
+    #[inline]
+    pub fn default(self) -> Result<&'a mut T, Refusal>
+    where
+        T: Default,
+        ensures* writes_back { sem 𝓛 (lends_filled P.row T.row A.row P.R.row P.Debug P.R.PartialEq P.R.Debug A.Allocator (λ cause. cause) (Vacant self.entry) result) }
+        ensures value { IfOk result (λ x. T.is_default x.now) }
+    {
+        self.insert_with(|| T::default())
+    }
+}

@@ -1,0 +1,128 @@
+//! What entries do where a key stands, or where its way ends, without going down again.
+ghost use Rattle.std.specs.Prelude.{◌≡◌, ◌≤◌, take, false, true, None, Some, OnOk, OnErr, IfOk, IfErr};
+ghost use Rattle.std.specs.Borrow.{sem};
+ghost use Rattle.std.specs.FinMap.{get, contains_key, len};
+ghost use Rattle.prefix_trie_bits.specs.Model.Entries.{with_entry, without_entry};
+ghost use Rattle.prefix_trie_bits.specs.Model.Insertion.{node_slots_lacking, cell_slots_lacking};
+ghost use Rattle.prefix_trie_bits.specs.Model.Nodes.{with_needed};
+ghost use Rattle.prefix_trie_bits.specs.Model.Room.{LeavesRoom};
+ghost use Rattle.prefix_trie_bits.specs.Model.Step.{Insert, RemoveKeepTree, Value, Refused as Refuses};
+ghost use Rattle.prefix_trie_bits.specs.Model.Storage.{ReadiesInStorage, StepInStorage};
+ghost use Rattle.prefix_trie_table.specs.Locations.{seat_of, IsWayEnd, IsLocation};
+ghost use Rattle.prefix_trie_map.specs.Steps.{state, storage, stored};
+ghost use Rattle.prefix_trie_map.specs.Whole.{IsWhole};
+
+use crate::map::{PrefixMap, Visits};
+use prefix_trie_bits::prefix::{Prefix, Refusal, Refused};
+use prefix_trie_table::table::seat::{Location, Seat, WayEnd};
+use std::alloc::Allocator;
+
+impl<P: Prefix, T: Drop, A: Allocator> PrefixMap<P, T, A> {
+    ghost use Rattle.prefix_trie_map.specs.Lending.{lends_value};
+
+    // Where the value of a prefix stands, or where its way ends.
+    #[inline]
+    pub(super) fn locate(&self, prefix: &P) -> Location
+        requires { P.IsFitting prefix.now }
+        ensures { IsLocation self.now (P.path prefix.now) result }
+    {
+        let len = u32::from(prefix.prefix_len());
+        self.table.locate(prefix.repr(), len, &mut Visits::new())
+    }
+
+    // The value of a prefix, where it stands.
+    #[inline]
+    pub(super) fn value_at(&self, prefix: &P, seat: Seat) -> &T
+        requires fits { P.IsFitting prefix.now }
+        requires seat { seat_of self.now.build (P.path prefix.now) ≡ Some seat }
+        ensures { get self.now.entries (P.path prefix.now) ≡ Some result.now }
+    {
+        let len = u32::from(prefix.prefix_len());
+        self.table.at(prefix.repr(), len, seat)
+    }
+
+    // The value at the first bits of a key, where it stands, for writing.
+    #[inline]
+    pub(super) fn lend_at(&mut self, key: P::R, len: u32, seat: Seat) -> &mut T
+        requires key { P.R.IsKey key }
+        requires within { len ≤ P.R.bit_width }
+        requires seat { seat_of self.old.build (take len (P.R.bits key)) ≡ Some seat }
+        ensures* writes_back { sem 𝓛 (lends_value P.row T.row A.row P.R.row P.Prefix.own P.Debug P.R.Key.own P.R.PartialEq P.R.Debug A.Allocator self.entry (take len (P.R.bits key)) result) }
+        ensures value { get self.old.entries (take len (P.R.bits key)) ≡ Some result.now }
+        ensures whole { IsWhole P.R.bit_width self.old }
+    {
+        // The proof learns from it that the map is whole.
+        let _ = self.len();
+        self.table.at_mut(key, len, seat)
+    }
+
+    // Obtains all blocks that the insertion of a new prefix lacks, whose way ends here.
+    #[inline]
+    pub(super) fn make_room(&mut self, prefix: &P, end: WayEnd) -> Result<(), Refusal>
+        requires fits { P.IsFitting prefix.now }
+        requires absent { contains_key self.old.entries (P.path prefix.now) ≡ false }
+        requires end { IsWayEnd self.old.build (P.path prefix.now) end }
+        ensures entries { self.new.entries ≡ self.old.entries }
+        ensures nodes { self.new.nodes ≡ self.old.nodes }
+        ensures end { IsWayEnd self.new.build (P.path prefix.now) end }
+        ensures room { LeavesRoom (len self.old.nodes) self.old.room self.new.room }
+        ensures readies { OnOk result (ReadiesInStorage (state self.old) (P.path prefix.now) (storage self.old) (storage self.new)) }
+        ensures refuses { IfErr result (λ cause. (value : T) → StepInStorage P.path P.back P.R.bit_width (stored self.old) (Insert prefix.now value) (Refuses cause) (stored self.new)) }
+    {
+        let len = u32::from(prefix.prefix_len());
+        self.table.make_room(prefix.repr(), len, end)
+    }
+
+    // Inserts a new prefix, whose way ends here, and answers where its value stands.
+    #[inline]
+    pub(super) fn place(&mut self, prefix: &P, end: WayEnd, value: T) -> Result<Seat, Refused<T>>
+        requires fits { P.IsFitting prefix.now }
+        requires absent { contains_key self.old.entries (P.path prefix.now) ≡ false }
+        requires end { IsWayEnd self.old.build (P.path prefix.now) end }
+        ensures seat { IfOk result (λ seat. seat_of self.new.build (P.path prefix.now) ≡ Some seat) }
+        ensures entries { OnOk result (self.new.entries ≡ with_entry self.old.entries (P.path prefix.now) value) }
+        ensures nodes { OnOk result (self.new.nodes ≡ with_needed self.old.nodes (P.path prefix.now)) }
+        ensures unchanged { OnErr result ((self.new.entries ≡ self.old.entries) × (self.new.nodes ≡ self.old.nodes)) }
+        ensures returned { IfErr result (λ refused. refused.value ≡ value) }
+        ensures step { OnOk result (StepInStorage P.path P.back P.R.bit_width (stored self.old) (Insert prefix.now value) (Value None) (stored self.new)) }
+        ensures refuses { IfErr result (λ refused. (other : T) → StepInStorage P.path P.back P.R.bit_width (stored self.old) (Insert prefix.now other) (Refuses refused.cause) (stored self.new)) }
+    {
+        let len = u32::from(prefix.prefix_len());
+        self.table.place(prefix.repr(), len, end, value)
+    }
+
+    // The same where no block lacks, which is not refused.
+    #[inline]
+    pub(super) fn place_ready(&mut self, prefix: &P, end: WayEnd, value: T) -> Seat
+        requires fits { P.IsFitting prefix.now }
+        requires absent { contains_key self.old.entries (P.path prefix.now) ≡ false }
+        requires end { IsWayEnd self.old.build (P.path prefix.now) end }
+        requires nodes { node_slots_lacking self.old.nodes self.old.layout (P.path prefix.now) ≡ 0 }
+        requires cells { cell_slots_lacking self.old.entries self.old.layout (P.path prefix.now) ≡ 0 }
+        ensures seat { seat_of self.new.build (P.path prefix.now) ≡ Some result }
+        ensures entries { self.new.entries ≡ with_entry self.old.entries (P.path prefix.now) value }
+        ensures nodes { self.new.nodes ≡ with_needed self.old.nodes (P.path prefix.now) }
+        ensures step { StepInStorage P.path P.back P.R.bit_width (stored self.old) (Insert prefix.now value) (Value None) (stored self.new) }
+    {
+        match self.place(prefix, end, value) {
+            Ok(seat) => seat,
+            Err(_) => unreachable!(),
+        }
+    }
+
+    // Takes out the entry of a stored prefix, and keeps all nodes.
+    #[inline]
+    pub(super) fn take(&mut self, prefix: &P) -> T
+        requires fits { P.IsFitting prefix.now }
+        requires stored { contains_key self.old.entries (P.path prefix.now) ≡ true }
+        ensures value { get self.old.entries (P.path prefix.now) ≡ Some result }
+        ensures entries { self.new.entries ≡ without_entry self.old.entries (P.path prefix.now) }
+        ensures nodes { self.new.nodes ≡ self.old.nodes }
+        ensures step { StepInStorage P.path P.back P.R.bit_width (stored self.old) (RemoveKeepTree prefix.now) (Value (Some result)) (stored self.new) }
+    {
+        match self.remove_keep_tree(prefix) {
+            Some(value) => value,
+            None => unreachable!(),
+        }
+    }
+}

@@ -1,0 +1,44 @@
+-- Facts on plain numbers, Booleans and options.
+use Rattle.std.proofs.Common.{◌≡◌, ℕ, ◌+◌, ◌*◌, ◌/◌, ◌%◌, ◌≤◌, Bool, true, false, ◌&&◌, Option, None, Some, is_some, refl, arith}
+use Rattle.std.proofs.lemmas.Bool.{false≢true}
+use Rattle.prefix_trie_table.specs.declared.allocator.node.Node.{Node}
+use Rattle.prefix_trie_table.specs.Forest.{has_child}
+
+pub no_or_yes : (b : Bool) → (b ≡ true → ⊥) → b ≡ false
+no_or_yes true h = absurd (h refl)
+no_or_yes false h = refl
+
+pub both_true : (a b : Bool) → a ≡ true → b ≡ true → (a && b) ≡ true
+both_true true b h k = k
+both_true false b h k = absurd (false≢true h)
+
+pub both_hold : (a b : Bool) → (a && b) ≡ true → (a ≡ true) × (b ≡ true)
+both_hold true b e = (refl, e)
+both_hold false b e = absurd (false≢true e)
+
+pub some_same : (a b : ℕ) → Some a ≡ Some b → a ≡ b
+some_same a b e = cc
+
+pub none_some : (n : ℕ) → ◌≡◌ {A = Option ℕ} None (Some n) → ⊥
+none_some n e = cc
+
+-- lengths that are whole levels
+pub whole_levels : (d l : ℕ) → d ≡ 5 * l → d % 5 ≡ 0
+whole_levels d l e = omega (arith, e)
+
+pub whole_more : (a b c : ℕ) → a % 5 ≡ 0 → b ≡ 5 → c ≡ a + b → c % 5 ≡ 0
+whole_more a b c h k l = omega (arith, h, k, l)
+
+pub fifth_more : (a b : ℕ) → a % 5 ≡ 0 → b % 5 ≡ 0 → a ≤ b → (b ≡ a → ⊥) → a + 5 ≤ b
+fifth_more a b h k l n = omega (arith, h, k, l, n)
+
+pub five_times : (l k : ℕ) → l % 5 ≡ 0 → k ≡ l / 5 → l ≡ 5 * k
+five_times l k e f = omega (arith, e, f)
+
+pub fifths : (l k n : ℕ) → k ≤ n → n ≡ l / 5 → 5 * k ≤ l
+fifths l k n h e = omega (arith, h, e)
+
+-- a node that has a child is there
+pub needs_node : (o : Option Node) (c : ℕ) → has_child o c ≡ true → is_some o ≡ true
+needs_node None c h = absurd (false≢true h)
+needs_node (Some n) c h = refl
