@@ -2,7 +2,7 @@
 use Rattle.std.specs.Prelude.{ℕ, List, map}
 use Rattle.prefix_trie_bits.specs.Model.Step as model
 use Rattle.prefix_trie.specs.declared.replay.Call.{Call}
-use Rattle.prefix_trie.specs.declared.replay.Call.TheVariants.{Insert, Get, Lpm, Spm, Remove, RemoveKeepTree, RemoveChildren, RetainAtLeast, Clear, Len, NodeCount, List as ListAll, Cover}
+use Rattle.prefix_trie.specs.declared.replay.Call.TheVariants.{Insert, Get, Lpm, Spm, Remove, RemoveKeepTree, RemoveChildren, RetainAtLeast, Clear, Len, NodeCount, List as ListAll, ListFrom, Children, Cover}
 use Rattle.prefix_trie.specs.declared.replay.Reply.{Reply}
 use Rattle.prefix_trie.specs.declared.replay.Reply.TheVariants.{Value, Match, Done, Count, Entries, Refused}
 
@@ -21,6 +21,8 @@ module _ {P : Type 0} where
   call_of Len = model.Len
   call_of NodeCount = model.NodeCount
   call_of ListAll = model.ListAll
+  call_of (ListFrom q inclusive) = model.ListFrom q inclusive
+  call_of (Children q) = model.Children q
   call_of (Cover q) = model.Cover q
 
   -- the prefix that a call is handed, if there is one, fits

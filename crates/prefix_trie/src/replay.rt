@@ -1,8 +1,9 @@
 //! A list of calls, run on a map.
-ghost use Rattle.std.specs.Prelude.{◌≡◌, All, IfOk, OnErr, MatchResult, length, vec_len};
+ghost use Rattle.std.specs.Prelude.{◌≡◌, ◌<◌, ◌^◌, ℕ, All, IfOk, OnErr, MatchResult, cond, length, vec_len};
+ghost use Rattle.std.specs.Map.Iter.{ShowsInOrder};
 ghost use Rattle.std.specs.FinMap.{get};
 ghost use Rattle.prefix_trie_bits.specs.Model.Matches.{longest_match, shortest_match, shown_match};
-ghost use Rattle.prefix_trie_bits.specs.Model.Selections.{listing, listing_covering, shown};
+ghost use Rattle.prefix_trie_bits.specs.Model.Selections.{listing, listing_from, listing_after, listing_below, listing_covering, shown};
 ghost use Rattle.prefix_trie_bits.specs.Model.Step.{Run, Insert, RemoveKeepTree, RemoveChildren, RetainAtLeast, Done, Items, Refused};
 ghost use Rattle.prefix_trie_bits.specs.Model.Storage.{StepInStorage, RunInStorage};
 ghost use Rattle.prefix_trie_bits.specs.declared.prefix.Refusal.TheVariants.{Memory};
@@ -10,6 +11,7 @@ ghost use Rattle.prefix_trie_map.specs.Steps.{state, stored};
 ghost use Rattle.prefix_trie_map.specs.Walks.{lent_item};
 ghost use Rattle.prefix_trie.specs.Replay.{IsFittingCall, call_of, calls_of, reply_of, replies_of};
 
+use crate::map::Iter;
 use crate::{Prefix, PrefixMap, Refusal};
 use std::alloc::{AllocError, Allocator};
 
@@ -40,6 +42,10 @@ pub enum Call<P> {
     NodeCount,
     /// `iter`: all entries, in listing order.
     List,
+    /// `iter_from`: the entries behind this prefix, and before them its own where it is asked for.
+    ListFrom(P, bool),
+    /// `children`: the entries whose prefixes this one contains.
+    Children(P),
     /// `cover`: the entries whose prefixes contain this one, the shortest first.
     Cover(P),
 }
@@ -55,9 +61,9 @@ pub enum Reply<P, A: Allocator> {
     Done,
     /// To `Len` and `NodeCount`.
     Count(usize),
-    /// To `List` and `Cover`.
+    /// To `List`, `ListFrom`, `Children` and `Cover`.
     Entries(Vec<(P, u64), A>),
-    /// To `Insert`, `List` and `Cover` where they were refused. The map has the entries and the nodes that it had.
+    /// To `Insert` and the calls that list, where they were refused. The map has the entries and the nodes that it had.
     Refused(Refusal),
 }
 
@@ -68,8 +74,9 @@ pub enum Reply<P, A: Allocator> {
 /// longest stored beginning of that path and its value, and `Spm` the shortest. `Remove` and `RemoveKeepTree` take the
 /// entry at that path out and give its value, `RemoveChildren` takes out those whose paths that of its prefix begins,
 /// `RetainAtLeast` those whose paths are shorter than the length that it is handed, and `Clear` all of them. `Len` gives the
-/// number of entries, `List` all of them, each once and in listing order, and `Cover` those whose paths begin that of its
-/// prefix, the shortest first.
+/// number of entries, `List` all of them, each once and in listing order, `ListFrom` those of them that are behind the path of
+/// its prefix, with the one there if it is asked for, `Children` those whose paths that of its prefix begins, and `Cover` those
+/// whose paths begin it, the shortest first.
 ///
 /// `NodeCount` gives the number of nodes. They too are those of the model: `Insert` adds those that lack on its path,
 /// `Remove` takes those away that have nothing left, from the node of its path upward, `RemoveChildren` all below the node of
@@ -78,8 +85,8 @@ pub enum Reply<P, A: Allocator> {
 ///
 /// Asks that every prefix handed in fits. Room for all replies is asked for first, so `Err` means that no call was carried
 /// out. An insertion that is refused is answered by the cause, `IndexRange` only where the slots that one insertion may need
-/// would pass the limit, and a list for which no memory is found, to `List` or to `Cover`, by `Refused(Memory)`. Each leaves the
-/// entries and the nodes of the map as they were, and the run goes on.
+/// would pass the limit, and a list for which no memory is found by `Refused(Memory)`. Each leaves the entries and the nodes of the
+/// map as they were, and the run goes on.
 ///
 /// ```text
 /// let mut map = PrefixMap::new(alloc)?;
@@ -88,6 +95,8 @@ pub enum Reply<P, A: Allocator> {
 ///     Call::Get((0x0a01_0203, 32)),                Reply::Value(None)
 ///     Call::Lpm((0x0a01_0203, 32)),                Reply::Match(Some(((0x0a01_0000, 16), 1)))
 ///     Call::Len,                                   Reply::Count(1)
+///     Call::ListFrom((0x0a01_0000, 16), false),    Reply::Entries([])
+///     Call::Children((0x0a00_0000, 8)),            Reply::Entries([((0x0a01_0000, 16), 1)])
 ///     Call::Cover((0x0a01_0203, 32)),              Reply::Entries([((0x0a01_0000, 16), 1)])
 ///     Call::Remove((0x0a01_0203, 16)),             Reply::Value(Some(1))
 ///     Call::NodeCount,                             Reply::Count(1)
@@ -150,6 +159,10 @@ fn answer<P: Prefix, A: Allocator + Clone>(
         Call::Len => Reply::Count(map.len()),
         Call::NodeCount => Reply::Count(map.node_count()),
         Call::List => list_reply(listed(alloc, map)),
+        Call::ListFrom(prefix, inclusive) => list_reply(listed_from(
+            alloc, map, prefix, *inclusive,
+        )),
+        Call::Children(prefix) => list_reply(children(alloc, map, prefix)),
         Call::Cover(prefix) => list_reply(covered(alloc, map, prefix)),
     }
 }
@@ -253,6 +266,47 @@ fn listed<P: Prefix, A: Allocator + Clone>(
 {
     let mut entries = Vec::with_capacity(alloc.clone()?, map.len())?;
     entries.extend(map.iter().map(owned))?;
+    Ok(entries)
+}
+
+/// The entries behind a prefix in listing order, and before them its own where `inclusive`.
+fn listed_from<P: Prefix, A: Allocator + Clone>(
+    alloc: &A,
+    map: &PrefixMap<P, u64, A>,
+    prefix: &P,
+    inclusive: bool,
+) -> Result<Vec<(P, u64), A>, AllocError>
+    requires { P.IsFitting prefix.now }
+    ensures { IfOk result (λ entries. entries.items ≡ shown P.back (cond inclusive
+        (listing_from map.now.entries (P.path prefix.now))
+        (listing_after map.now.entries (P.path prefix.now)))) }
+{
+    gathered(alloc, map.iter_from(prefix, inclusive))
+}
+
+/// The entries whose prefixes this one contains.
+fn children<P: Prefix, A: Allocator + Clone>(
+    alloc: &A,
+    map: &PrefixMap<P, u64, A>,
+    prefix: &P,
+) -> Result<Vec<(P, u64), A>, AllocError>
+    requires { P.IsFitting prefix.now }
+    ensures { IfOk result (λ entries. entries.items ≡ shown P.back (listing_below map.now.entries (P.path prefix.now))) }
+{
+    gathered(alloc, map.children(prefix))
+}
+
+/// The items of a walk. A copy of it counts them, and room for so many is asked for before they are taken.
+fn gathered<P: Prefix, A: Allocator + Clone>(
+    alloc: &A,
+    walk: Iter<'_, P, u64, A>,
+) -> Result<Vec<(P, u64), A>, AllocError>
+    requires fits { length walk < 2 ^ 64 }
+    requires runs { ShowsInOrder (lent_item {P = P} {T = ℕ}) }
+    ensures { IfOk result (λ entries. entries.items ≡ walk.entry) }
+{
+    let mut entries = Vec::with_capacity(alloc.clone()?, walk.clone().count())?;
+    entries.extend(walk.map(owned))?;
     Ok(entries)
 }
 

@@ -8,6 +8,7 @@ mod clones;
 mod copies;
 mod cover;
 mod entries;
+mod entry_callers;
 mod example;
 mod filling;
 mod growth;

@@ -12,3 +12,5 @@ pub mod Copying
 pub mod Placing
 pub mod Entries
 pub mod Occupied
+pub mod Selections
+pub mod Resumed

@@ -10,3 +10,4 @@ pub mod Whole
 pub mod Walks
 pub mod Lending
 pub mod Entry
+pub mod Resumed

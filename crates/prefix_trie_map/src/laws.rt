@@ -4,6 +4,7 @@
 ghost use Rattle.prefix_trie_map.specs.Copied.{CopyLaws};
 ghost use Rattle.prefix_trie_map.specs.Covers.{CoverLaws};
 ghost use Rattle.prefix_trie_map.specs.Listed.{ListedLaws};
+ghost use Rattle.prefix_trie_map.specs.Resumed.{ResumeLaws};
 
 use prefix_trie_bits::prefix::Prefix;
 
@@ -17,6 +18,12 @@ pub fn cover_laws<P, T>()
 /// of walks say of every map.
 pub fn listed_laws<P: Prefix, T>()
     ensures { ListedLaws T P.R.bit_width P.path P.IsFitting P.back }
+{}
+
+/// After at least one item of `iter` or of `iter_from`, `iter_from` behind the last item read gives the rest. Asks what walks
+/// say of every map.
+pub fn resume_laws<P: Prefix, T>()
+    ensures { ResumeLaws T P.R.bit_width P.path P.back }
 {}
 
 /// A copy of a map needs the nodes that its source needs, so it is tidy exactly where its source is.

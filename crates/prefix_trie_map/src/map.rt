@@ -17,6 +17,7 @@ ghost use Rattle.prefix_trie_map.specs.Whole.{IsWhole};
 mod clone;
 mod counting;
 mod cover;
+mod cursor;
 pub mod entry;
 mod iter;
 mod lending;

@@ -33,13 +33,15 @@ pub enum Table {
 }
 
 /// The rows in order, each with its number.
-pub const ROWS: [(u32, Row); 28] = [
+pub const ROWS: [(u32, Row); 30] = [
     (1, &[Table::Ipv4(&lookups::EXACT)]),
     (2, &[Table::Ipv4(&entries::HOST_BITS)]),
     (3, &[Table::Ipv4(&lookups::MATCHES)]),
+    (4, &[Table::Ipv4(&walks::ALL_ADDRESSES)]),
     (5, &[Table::U32(&widths::HOSTS_OF_32_BITS)]),
     (6, &[Table::U128(&widths::ENDS_OF_128_BITS)]),
     (7, &[Table::Ipv4(&walks::IN_LISTING_ORDER)]),
+    (8, &[Table::Ipv4(&walks::BEHIND_A_NETWORK)]),
     (9, &[Table::Ipv4(&removals::BELOW_A_NETWORK)]),
     (10, &[Table::U32(&removals::NODES_LEFT)]),
     (13, &[Table::U32(&limits::FOUR_SLOTS)]),

@@ -38,6 +38,9 @@ pub enum Line<R: 'static> {
     /// All prefixes, in order, with values from 0 up.
     Iter(&'static [Pair<R>]),
     Values(&'static [u64]),
+    /// The first values of the walk from a prefix: all, where they are fewer than the number.
+    IterFrom(Pair<R>, bool, usize, &'static [u64]),
+    Children(Pair<R>, &'static [u64]),
     Cover(Pair<R>, &'static [Entry<R>]),
     CoverValues(Pair<R>, &'static [u64]),
     Remove(Pair<R>, Option<u64>),
@@ -175,6 +178,10 @@ fn answers<P: Written>(map: &Map<P>, line: &Line<P::R>) -> bool {
         Line::Entries(entries) => lists_entries(map, entries),
         Line::Iter(pairs) => lists(map, pairs),
         Line::Values(values) => map.values().eq(*values),
+        Line::IterFrom(pair, inclusive, count, values) => {
+            goes_on_from(map, *pair, *inclusive, *count, values)
+        }
+        Line::Children(pair, values) => has_children(map, *pair, values),
         Line::Cover(pair, entries) => covers(map, *pair, entries),
         Line::CoverValues(pair, values) => covers_values(map, *pair, values),
         Line::Len(count) => map.len() == *count && map.is_empty() == (*count == 0),
@@ -364,6 +371,36 @@ fn lists_entries<P: Prefix>(map: &Map<P>, entries: &[Entry<P::R>]) -> bool {
         }
     }
     walk.next().is_none()
+}
+
+fn goes_on_from<P: Written>(
+    map: &Map<P>,
+    pair: Pair<P::R>,
+    inclusive: bool,
+    count: usize,
+    values: &[u64],
+) -> bool {
+    match fitting::<P>(pair) {
+        Some(prefix) => map
+            .iter_from(&prefix, inclusive)
+            .map(value_of)
+            .take(count)
+            .eq(values),
+        None => false,
+    }
+}
+
+fn has_children<P: Written>(map: &Map<P>, pair: Pair<P::R>, values: &[u64]) -> bool {
+    match fitting::<P>(pair) {
+        Some(prefix) => map.children(&prefix).map(value_of).eq(values),
+        None => false,
+    }
+}
+
+/// The value of an entry that is lent.
+fn value_of<'a, P: Prefix>(entry: (P, &'a u64)) -> &'a u64 {
+    let (_, value) = entry;
+    value
 }
 
 fn covers<P: Written>(map: &Map<P>, pair: Pair<P::R>, entries: &[Entry<P::R>]) -> bool {

@@ -83,3 +83,5 @@ pub mod Still
 pub mod Between
 pub mod Housed
 pub mod Stated
+pub mod Selected
+pub mod Cursors

@@ -81,6 +81,14 @@ module _ {K T : Type 0} (IsKey : K → Type 0) (bits : K → List Bool) (width :
         filled = h.gives.filled;
       }
 
+  -- spots of the table in the arrays are a walk, and have to come what is pending at them
+  module _ (v : Store Node) (w : Store (Option T)) (s : State T) (tree : IsTrie width (len s.entries) v w s) (ps : List (Site K)) (stack : IsStack IsKey bits width v ps) (u : Shaped v.slots w.slots) where
+    pub spots_walk : IsTrie width (len u.0.entries) v w u.0 × IsStack IsKey bits width v ps
+    spots_walk = (subst (λ (x : State T). IsTrie width (len x.entries) v w x) (same_shape v.slots w.slots s u.0 tree.shaped u.1) tree, stack)
+
+    pub spots_rest : (x : State T) → IsShapeOf v.slots w.slots x → pending bits u.0.entries ps ≡ pending bits x.entries ps
+    spots_rest x is = ap (λ (y : State T). pending bits y.entries ps) (same_shape v.slots w.slots u.0 x u.1 is)
+
   -- a walk that stands at the root, with all its places
   module _ (v : Store Node) (w : Store (Option T)) (s : State T) (tree : IsTrie width (len s.entries) v w s) (c : Site K) (is_key : IsKey c.key)
       (depth_is : c.depth ≡ 0) (node_is : c.node ≡ node_at v.slots 0) (all : to_come c.places ≡ places c.node.value_bitmap c.node.child_bitmap)

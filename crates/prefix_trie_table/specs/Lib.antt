@@ -23,3 +23,4 @@ pub mod Steps
 pub mod Removals
 pub mod Retaining
 pub mod Copies
+pub mod Cursors

@@ -9,6 +9,7 @@ mod children;
 mod copying;
 mod counting;
 mod cover;
+pub mod cursor;
 mod insertion;
 mod lending;
 mod lookup;
@@ -20,14 +21,14 @@ pub mod seat;
 pub mod spot;
 pub mod walk;
 
-ghost use Rattle.std.specs.Prelude.{◌≡◌, ◌+◌, ◌^◌, ◌<◌, ◌≤◌, take, IfOk, IfErr, IsErr, ◌↔◌, MatchOption, None, Some};
+ghost use Rattle.std.specs.Prelude.{◌≡◌, ◌+◌, ◌^◌, ◌<◌, ◌≤◌, cond, take, IfOk, IfErr, IsErr, ◌↔◌, MatchOption, None, Some};
 ghost use Rattle.std.specs.Option.{option_copied};
 ghost use Rattle.std.specs.FinMap.{get, len};
 ghost use Rattle.prefix_trie_bits.specs.Model.Asking.{MayAskInOrder};
 ghost use Rattle.prefix_trie_bits.specs.Model.Entries.{no_entries, AreWithin};
 ghost use Rattle.prefix_trie_bits.specs.Model.Matches.{longest_match, shortest_match};
 ghost use Rattle.prefix_trie_bits.specs.Model.Nodes.{root_alone, AreNodes};
-ghost use Rattle.prefix_trie_bits.specs.Model.Selections.{listing};
+ghost use Rattle.prefix_trie_bits.specs.Model.Selections.{listing, listing_from, listing_after, listing_below};
 ghost use Rattle.prefix_trie_bits.specs.Model.Visits.{visits, visits_to_match};
 ghost use Rattle.prefix_trie_bits.specs.Model.Blocks.{no_layout};
 ghost use Rattle.prefix_trie_bits.specs.Model.Step.{Insert, Remove, RemoveKeepTree, RemoveChildren, Clear, Done, Value};
@@ -40,6 +41,7 @@ ghost use Rattle.prefix_trie_table.specs.Steps.{stored, inserted, SettlesInStora
 use crate::allocator::blocks::{Blocks, cells};
 use crate::allocator::nodes::{NodeAllocator, Tick};
 use crate::table::children::remove_part;
+use crate::table::cursor::{Start, walk_at};
 use crate::table::insertion::insert_entry;
 use crate::table::lookup::find_value;
 use crate::table::matching::{longest_on_way, shortest_on_way, value_of_match};
@@ -193,6 +195,40 @@ impl<T: Drop, A: Allocator, V: Tick> Table<T, A, V> {
         ensures { result ≡ listing self.now.entries }
     {
         walk_of(&self.nodes, &self.cells, counter)
+    }
+
+    /// The entries behind a bit string in listing order, and before them the one at it where `inclusive`. Its extensions are
+    /// behind it. The nodes on the way are read at once.
+    #[inline]
+    pub fn walk_from<K: Key>(
+        &self,
+        key: K,
+        len: u32,
+        inclusive: bool,
+        counter: &mut V,
+    ) -> Walk<'_, K, T, A, V>
+        requires key { K.IsKey key }
+        requires long { len ≤ K.bit_width }
+        requires within { AreWithin K.bit_width self.now.entries }
+        requires nodes { AreNodes K.bit_width self.now.entries self.now.nodes }
+        ensures { result ≡ cond inclusive
+            (listing_from self.now.entries (take len (K.bits key)))
+            (listing_after self.now.entries (take len (K.bits key))) }
+    {
+        let from = if inclusive { Start::At } else { Start::After };
+        walk_at(&self.nodes, &self.cells, key, len, from, counter)
+    }
+
+    /// The entries whose keys a bit string begins, in listing order. The nodes on the way are read at once.
+    #[inline]
+    pub fn walk_below<K: Key>(&self, key: K, len: u32, counter: &mut V) -> Walk<'_, K, T, A, V>
+        requires key { K.IsKey key }
+        requires long { len ≤ K.bit_width }
+        requires within { AreWithin K.bit_width self.now.entries }
+        requires nodes { AreNodes K.bit_width self.now.entries self.now.nodes }
+        ensures { result ≡ listing_below self.now.entries (take len (K.bits key)) }
+    {
+        walk_at(&self.nodes, &self.cells, key, len, Start::Below, counter)
     }
 
     /// Sets the value at a bit string, and adds the nodes on its way that are missing. It asks for all room that it needs

@@ -87,7 +87,7 @@ module _ {X : Type 0} where
       ] refl
 
   -- where what passes one test is before what passes another, a filter by both is one filter after the other
-  two-tests : (p q : List Bool → Bool) → ((s t : List Bool) → p s ≡ true → q t ≡ true → listing_cmp s t ≡ Less) → (es : List (List Bool × X)) → IsT (is_sorted listing_cmp es) → those (λ s. p s || q s) es ≡ those p es ++ those q es
+  pub two-tests : (p q : List Bool → Bool) → ((s t : List Bool) → p s ≡ true → q t ≡ true → listing_cmp s t ≡ Less) → (es : List (List Bool × X)) → IsT (is_sorted listing_cmp es) → those (λ s. p s || q s) es ≡ those p es ++ those q es
   two-tests p q apart [] h = refl
   two-tests p q apart (x ∷ es) h =
       let rest = two-tests p q apart es (sorted-tail x es h) in

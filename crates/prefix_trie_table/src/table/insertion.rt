@@ -212,6 +212,7 @@ fn add_entry<K: Key, T: Drop, A: Allocator, V: Tick>(
 
 /// Adds a missing value at a bit string whose way ends so, and the nodes of its way that are missing, and counts it. Answers where
 /// it stands. On a refusal nothing is added.
+#[inline(always)]
 pub fn place_entry<K: Key, T: Drop, A: Allocator, V: Tick>(
     nodes: &mut NodeAllocator<A, V>,
     cells: &mut Blocks<Option<T>, A>,
@@ -255,6 +256,7 @@ pub fn place_entry<K: Key, T: Drop, A: Allocator, V: Tick>(
 
 /// Sets the value at a bit string, adds the nodes of its way that are missing, and counts a new value. On a refusal nothing is
 /// added.
+#[inline(always)]
 pub fn insert_entry<K: Key, T: Drop, A: Allocator, V: Tick>(
     nodes: &mut NodeAllocator<A, V>,
     cells: &mut Blocks<Option<T>, A>,

@@ -18,9 +18,9 @@ use std::alloc::Allocator;
 /// A node, whose path is the first `depth` bits of a walk's key, and the places of the node that are still to come.
 #[derive(Clone, Copy)]
 pub struct Spot {
-    node: Node,
-    depth: u32,
-    places: Places,
+    pub node: Node,
+    pub depth: u32,
+    pub places: Places,
 }
 
 impl Default for Spot {

@@ -41,6 +41,26 @@ impl<'a, K: Key, T: Drop, A: Allocator, V: Tick> Model for Walk<'a, K, T, A, V> 
 }
 
 impl<'a, K: Key, T: Drop, A: Allocator, V: Tick> Walk<'a, K, T, A, V> {
+    /// The walk that stands at these spots, whose paths begin the key.
+    #[inline]
+    pub fn over(
+        nodes: &'a NodeAllocator<A, V>,
+        cells: &'a Blocks<Option<T>, A>,
+        key: K,
+        stack: ArrayVec<Spot, 26>,
+    ) -> Self
+        requires tree { (s : State T) × IsTrie K.bit_width (len s.entries) nodes.now cells.now s }
+        requires stack { IsStack K.IsKey K.bits K.bit_width nodes.now (sites key stack.items) }
+        ensures { (s : State T) → IsShapeOf nodes.now.slots cells.now.slots s
+            → result ≡ pending K.bits s.entries (sites key stack.items) }
+    {
+        Walk {
+            arrays: Some((nodes, cells)),
+            key,
+            stack,
+        }
+    }
+
     /// Takes the next entry: its key, the key's length in bits, and its value. Each node that the walk comes to is read once.
     #[inline]
     pub fn next(&mut self, counter: &mut V) -> Option<(K, u32, &'a T)>

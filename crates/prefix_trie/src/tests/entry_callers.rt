@@ -1,0 +1,126 @@
+//! Callers of entries, and what they know of the map afterwards.
+ghost use Rattle.std.specs.Prelude.{◌≡◌, IfOk, OnOk, OnErr, None, IsTrue, IsFalse, is_some};
+ghost use Rattle.std.specs.FinMap.{get};
+ghost use Rattle.prefix_trie_bits.specs.Model.Entries.{with_entry, without_entry};
+ghost use Rattle.prefix_trie_bits.specs.Model.Nodes.{with_needed};
+ghost use Rattle.prefix_trie_table.specs.Shape.{with_value_at};
+
+use crate::map::Entry;
+use crate::{Prefix, PrefixMap, Refusal, Refused};
+use std::alloc::{Allocator, Global};
+use std::test::Fail;
+
+// Counts a prefix once more. That a stored count goes up by one is seen by the test, not in the contract.
+fn count<P: Prefix, A: Allocator>(
+    map: &mut PrefixMap<P, u64, A>,
+    prefix: P,
+) -> Result<(), Refused<u64>>
+    requires { P.IsFitting prefix }
+    ensures fresh { OnOk result (get map.old.entries (P.path prefix) ≡ None
+        → map.new.entries ≡ with_entry map.old.entries (P.path prefix) 1) }
+{
+    map.entry(prefix)
+        .and_modify(|n| *n = n.saturating_add(1))
+        .or_insert(1)?;
+    Ok(())
+}
+
+// Stores nine, whether the prefix is new or not.
+fn store_nine<P: Prefix, A: Allocator>(
+    map: &mut PrefixMap<P, u64, A>,
+    prefix: P,
+) -> Result<(), Refusal>
+    requires { P.IsFitting prefix }
+    ensures entries { OnOk result (map.new.entries ≡ with_entry map.old.entries (P.path prefix) 9) }
+    ensures nodes { OnOk result (map.new.nodes ≡ with_needed map.old.nodes (P.path prefix)) }
+    ensures unchanged { OnErr result ((map.new.entries ≡ map.old.entries) × (map.new.nodes ≡ map.old.nodes)) }
+{
+    let value = map.entry(prefix).or_insert_with(|| 5)?;
+    *value = 9;
+    Ok(())
+}
+
+// Takes an entry out, if it is there.
+fn take_out<P: Prefix, T: Drop, A: Allocator>(map: &mut PrefixMap<P, T, A>, prefix: P) -> Option<T>
+    requires { P.IsFitting prefix }
+    ensures value { result ≡ get map.old.entries (P.path prefix) }
+    ensures entries { IsTrue (is_some result) → map.new.entries ≡ without_entry map.old.entries (P.path prefix) }
+    ensures unchanged { IsFalse (is_some result) → map.new ≡ map.old }
+    ensures nodes { map.new.nodes ≡ map.old.nodes }
+{
+    match map.entry(prefix) {
+        Entry::Occupied(entry) => Some(entry.remove()),
+        Entry::Vacant(_unfilled) => None,
+    }
+}
+
+// Writes over a stored value, and says whether there was one.
+fn rewrite<P: Prefix, T: Drop, A: Allocator>(
+    map: &mut PrefixMap<P, T, A>,
+    prefix: P,
+    value: T,
+) -> bool
+    requires { P.IsFitting prefix }
+    ensures written { IsTrue result → map.new ≡ with_value_at map.old (P.path prefix) value }
+    ensures unchanged { IsFalse result → map.new ≡ map.old }
+{
+    match map.entry(prefix) {
+        Entry::Occupied(entry) => {
+            *entry.into_mut() = value;
+            true
+        }
+        Entry::Vacant(_unfilled) => false,
+    }
+}
+
+// Swaps a stored value for another.
+fn swap<P: Prefix, T: Drop, A: Allocator>(
+    map: &mut PrefixMap<P, T, A>,
+    prefix: P,
+    value: T,
+) -> Option<T>
+    requires { P.IsFitting prefix }
+    ensures before { result ≡ get map.old.entries (P.path prefix) }
+    ensures written { IsTrue (is_some result) → map.new ≡ with_value_at map.old (P.path prefix) value }
+    ensures unchanged { IsFalse (is_some result) → map.new ≡ map.old }
+{
+    match map.entry(prefix) {
+        Entry::Occupied(entry) => Some(entry.insert(value)),
+        Entry::Vacant(_unfilled) => None,
+    }
+}
+
+// Sets a value by its entry.
+fn set<P: Prefix, T: Drop, A: Allocator>(
+    map: &mut PrefixMap<P, T, A>,
+    prefix: P,
+    value: T,
+) -> Result<Option<T>, Refused<T>>
+    requires { P.IsFitting prefix }
+    ensures before { IfOk result (λ before. before ≡ get map.old.entries (P.path prefix)) }
+    ensures entries { OnOk result (map.new.entries ≡ with_entry map.old.entries (P.path prefix) value) }
+    ensures unchanged { OnErr result ((map.new.entries ≡ map.old.entries) × (map.new.nodes ≡ map.old.nodes)) }
+{
+    map.entry(prefix).put(value).answer()
+}
+
+/// Whether counting, storing and taking out answer so.
+fn counts(map: &mut PrefixMap<(u8, u8), u64, Global>) -> bool {
+    count(map, (0xa5, 8)).is_ok()
+        && count(map, (0xa5, 8)).is_ok()
+        && rewrite(map, (0xa5, 8), 7)
+        && swap(map, (0xa5, 8), 8) == Some(7)
+        && store_nine(map, (0xa0, 3)).is_ok()
+        && set(map, (0xbf, 3), 4) == Ok(Some(9))
+        && map.values().copied().eq([4, 8])
+        && take_out(map, (0xa5, 8)) == Some(8)
+        && take_out(map, (0xa5, 8)).is_none()
+        && map.len() == 1
+}
+
+#[test]
+fn entries_are_counted(rt: HostRuntime) -> Result<(), Fail> {
+    let mut map = PrefixMap::new(rt.alloc())?;
+    assert!(rt; counts(&mut map));
+    Ok(())
+}
