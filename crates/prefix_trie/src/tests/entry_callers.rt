@@ -1,8 +1,9 @@
 //! Callers of entries, and what they know of the map afterwards.
-ghost use Rattle.std.specs.Prelude.{◌≡◌, IfOk, OnOk, OnErr, None, IsTrue, IsFalse, is_some};
+ghost use Rattle.std.specs.Prelude.{◌≡◌, ℕ, ◌+◌, ◌-◌, ◌<◌, ◌^◌, IfOk, OnOk, OnErr, None, Some, IsTrue, IsFalse, is_some};
 ghost use Rattle.std.specs.FinMap.{get};
-ghost use Rattle.prefix_trie_bits.specs.Model.Entries.{with_entry, without_entry};
+ghost use Rattle.prefix_trie_bits.specs.Model.Entries.{with_entry, without_entry, put_all};
 ghost use Rattle.prefix_trie_bits.specs.Model.Nodes.{with_needed};
+ghost use Rattle.prefix_trie_bits.specs.Model.Selections.{listing, shown};
 ghost use Rattle.prefix_trie_table.specs.Shape.{with_value_at};
 
 use crate::map::Entry;
@@ -10,7 +11,7 @@ use crate::{Prefix, PrefixMap, Refusal, Refused};
 use std::alloc::{Allocator, Global};
 use std::test::Fail;
 
-// Counts a prefix once more. That a stored count goes up by one is seen by the test, not in the contract.
+// Counts a prefix once more.
 fn count<P: Prefix, A: Allocator>(
     map: &mut PrefixMap<P, u64, A>,
     prefix: P,
@@ -18,6 +19,8 @@ fn count<P: Prefix, A: Allocator>(
     requires { P.IsFitting prefix }
     ensures fresh { OnOk result (get map.old.entries (P.path prefix) ≡ None
         → map.new.entries ≡ with_entry map.old.entries (P.path prefix) 1) }
+    ensures again { OnOk result ((n : ℕ) → get map.old.entries (P.path prefix) ≡ Some n → n < 2 ^ 64 - 1
+        → map.new.entries ≡ with_entry map.old.entries (P.path prefix) (n + 1)) }
 {
     map.entry(prefix)
         .and_modify(|n| *n = n.saturating_add(1))
@@ -104,6 +107,19 @@ fn set<P: Prefix, T: Drop, A: Allocator>(
     map.entry(prefix).put(value).answer()
 }
 
+// Puts all entries of one map into another, and stops where one is refused.
+fn fill_from<P: Prefix, A: Allocator>(
+    to: &mut PrefixMap<P, u64, A>,
+    from: &PrefixMap<P, u64, A>,
+) -> Result<(), Refused<u64>>
+    ensures { OnOk result (to.new.entries ≡ put_all P.path (shown P.back (listing from.now.entries)) to.old.entries) }
+{
+    for (prefix, value) in from {
+        to.entry(prefix).put(*value).answer()?;
+    }
+    Ok(())
+}
+
 /// Whether counting, storing and taking out answer so.
 fn counts(map: &mut PrefixMap<(u8, u8), u64, Global>) -> bool {
     count(map, (0xa5, 8)).is_ok()
@@ -122,5 +138,18 @@ fn counts(map: &mut PrefixMap<(u8, u8), u64, Global>) -> bool {
 fn entries_are_counted(rt: HostRuntime) -> Result<(), Fail> {
     let mut map = PrefixMap::new(rt.alloc())?;
     assert!(rt; counts(&mut map));
+    Ok(())
+}
+
+#[test]
+fn entries_of_another_map_are_put(rt: HostRuntime) -> Result<(), Fail> {
+    let mut from = PrefixMap::new(rt.alloc())?;
+    let mut to = PrefixMap::new(rt.alloc())?;
+    assert!(rt;
+        from.insert((0x0a00_u16, 8_u8), 9) == Ok(None)
+            && to.insert((0x0a00, 8), 1) == Ok(None)
+            && fill_from(&mut to, &from).is_ok()
+            && to.values().copied().eq([9])
+    );
     Ok(())
 }
