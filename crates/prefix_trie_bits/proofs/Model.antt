@@ -20,6 +20,15 @@ pub mod Steps
 pub mod Determined
 pub mod Readied
 pub mod Stored
+pub mod Levels
 pub mod Slots
+pub mod Counting
+pub mod Shrinking
+pub mod Lessened
+pub mod Gained
+pub mod Supplied
+pub mod Refusing
+pub mod Staying
+pub mod Total
 pub mod Askings
 pub mod Retained

@@ -10,6 +10,7 @@ ghost use Rattle.prefix_trie_bits.specs.Laws.Pruning.{PruningLaws};
 ghost use Rattle.prefix_trie_bits.specs.Laws.Slots.{SlotLaws};
 ghost use Rattle.prefix_trie_bits.specs.Laws.Steps.{StepLaws};
 ghost use Rattle.prefix_trie_bits.specs.Laws.Storage.{StorageLaws};
+ghost use Rattle.prefix_trie_bits.specs.Laws.Total.{TotalLaws};
 ghost use Rattle.prefix_trie_bits.specs.Laws.Visits.{VisitLaws};
 ghost use Rattle.prefix_trie_bits.specs.Facts.Blocks.{BlocksHold};
 ghost use Rattle.prefix_trie_bits.specs.Facts.Insertions.{InsertionsHold};
@@ -89,6 +90,15 @@ pub fn storage_laws<P, T>()
 /// nodes none for nodes. Each asks that every node has its blocks, as in every map.
 pub fn slot_laws<P, T>()
     ensures { SlotLaws P T }
+{}
+
+/// From every map of keys of up to 128 bits, however it is stored, each call whose prefix fits has a step that is no refusal, and leads
+/// to such a map again; but the insertion of a new key whose lacking blocks would pass the limit has refusals alone, and one for want
+/// of slots. Where a block lacks that would not, there is one for want of memory too, as a list always has; a refusal may leave all
+/// as it was. So each list of such calls has a run. Each step leads to such a map, but this is not said of those that may take many
+/// entries.
+pub fn total_laws<P, T>()
+    ensures { TotalLaws P T }
 {}
 
 /// Worked rows: exact lookups, and longest and shortest matches.

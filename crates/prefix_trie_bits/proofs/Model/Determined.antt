@@ -12,7 +12,7 @@ memory-is Memory e = refl
 memory-is IndexRange e = absurd (true≢false (sym e))
 
 module _ {P T : Type 0} where
-  abbrev cause_of : Reply P T → Refusal
+  abbrev pub cause_of : Reply P T → Refusal
   cause_of (Value o) = Memory
   cause_of (Match o) = Memory
   cause_of Done = Memory

@@ -1,7 +1,7 @@
 -- Where a question's own node stands.
-use Rattle.std.proofs.Common.{◌≡◌, ℕ, ◌*◌, ◌/◌, ◌%◌, ◌≤◌, Bool, true, List, length, arith, length-take-le}
+use Rattle.std.proofs.Common.{◌≡◌, ℕ, ◌+◌, ◌*◌, ◌/◌, ◌%◌, ◌<◌, ◌≤◌, Bool, true, List, length, sym, ◌∙◌, arith, length-take-le}
 use Rattle.prefix_trie_bits.specs.Bits.{begins}
-use Rattle.prefix_trie_bits.specs.Begins.{take-begins, begins-linear, begins-length}
+use Rattle.prefix_trie_bits.specs.Begins.{take-begins, begins-linear, begins-length, begins-same-length}
 use Rattle.prefix_trie_bits.specs.Model.Nodes.{home}
 
 pub home-begins : (q : List Bool) → begins (home q) q ≡ true
@@ -24,3 +24,12 @@ pub home-longest : (s q : List Bool) → begins s q ≡ true → length s % 5 �
 home-longest s q e five =
     let short : length s ≤ length (home q) = omega (arith, home-length q, below-fifth (length s) (length q) (begins-length s q e) five) in
     begins-linear s (home q) q e (home-begins q) short
+
+multiple : (l k : ℕ) → l % 5 ≡ 0 → l ≤ k → k < l + 5 → l ≡ 5 * (k / 5)
+multiple l k e h less = omega (arith, e, h, less)
+
+-- an own key's node is the key's home
+pub own_home : (p q : List Bool) → length p % 5 ≡ 0 → begins p q ≡ true → length q < length p + 5 → p ≡ home q
+own_home p q depth b less =
+    let e = multiple (length p) (length q) depth (begins-length p q b) less in
+    begins-same-length p (home q) (home-longest p q b depth) (e ∙ sym (home-length q))

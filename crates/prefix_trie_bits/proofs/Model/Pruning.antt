@@ -226,7 +226,7 @@ near_stays n q s e h = has-retained n (λ t. not (begins q t) || same_string t (
 near_stood : (n : Nodes) (q s : List Bool) → has_node (nodes_not_below n q) s ≡ true → has_node n s ≡ true
 near_stood n q s e = and-second (not (begins q s) || same_string s (home q)) (has_node n s) (sym (has-retained n (λ t. not (begins q t) || same_string t (home q)) s) ∙ e)
 
-near_is : (n : Nodes) (q s : List Bool) → has_node (nodes_not_below n q) s ≡ true → begins q s ≡ true → s ≡ home q
+pub near_is : (n : Nodes) (q s : List Bool) → has_node (nodes_not_below n q) s ≡ true → begins q s ≡ true → s ≡ home q
 near_is n q s e b =
     elim (or-cases (not (begins q s)) (same_string s (home q)) (and-first (not (begins q s) || same_string s (home q)) (has_node n s) (sym (has-retained n (λ t. not (begins q t) || same_string t (home q)) s) ∙ e))) [
       | inl nay ↦ absurd (clash (begins q s) b (from-not (begins q s) nay))

@@ -8,15 +8,15 @@ use Rattle.prefix_trie_bits.specs.Model.Step.{State, Refusal}
 use Rattle.prefix_trie_bits.specs.Model.Storage.{Storage, InsertsInStorage, ReadiesInStorage, RefusesInStorage}
 
 -- whether the numbers go up, from s on
-abbrev goes_up : ℕ → List ℕ → Bool
+abbrev pub goes_up : ℕ → List ℕ → Bool
 goes_up s [] = true
 goes_up s (t ∷ ts) = nat_lt s t && goes_up t ts
 
-both : (a b : Bool) → (a && b) ≡ true → (a ≡ true) × (b ≡ true)
+pub both : (a b : Bool) → (a && b) ≡ true → (a ≡ true) × (b ≡ true)
 both true b e = (refl, e)
 both false b e = absurd (false≢true e)
 
-above : (s : ℕ) (ts : List ℕ) → goes_up s ts ≡ true → (x : ℕ) → Contains ts x → s < x
+pub above : (s : ℕ) (ts : List ℕ) → goes_up s ts ≡ true → (x : ℕ) → Contains ts x → s < x
 above s [] up x (k, inside, e) = absurd (omega arith)
 above s (t ∷ ts) up x (zero, inside, e) =
     let less = ltb-true s t (both (nat_lt s t) (goes_up t ts) up).0 in omega (arith, less, e)
@@ -25,14 +25,14 @@ above s (t ∷ ts) up x (suc k, inside, e) =
     let less = ltb-true s t both_up.0 in
     let more = above t ts both_up.1 x (k, omega arith, e) in omega (arith, less, more)
 
-free_none : (sizes : List ℕ) (x : ℕ) → free_of sizes [] x ≡ 0
+pub free_none : (sizes : List ℕ) (x : ℕ) → free_of sizes [] x ≡ 0
 free_none [] x = refl
 free_none (s ∷ sizes) x = refl
 
-free_here : (s : ℕ) (sizes : List ℕ) (f : ℕ) (free : List ℕ) → free_of (s ∷ sizes) (f ∷ free) s ≡ f
+pub free_here : (s : ℕ) (sizes : List ℕ) (f : ℕ) (free : List ℕ) → free_of (s ∷ sizes) (f ∷ free) s ≡ f
 free_here s sizes f free = ap (λ b. cond b f (free_of sizes free s)) (eq-eqb s s refl)
 
-free_later : (s : ℕ) (sizes : List ℕ) (f : ℕ) (free : List ℕ) (x : ℕ) → s < x → free_of (s ∷ sizes) (f ∷ free) x ≡ free_of sizes free x
+pub free_later : (s : ℕ) (sizes : List ℕ) (f : ℕ) (free : List ℕ) (x : ℕ) → s < x → free_of (s ∷ sizes) (f ∷ free) x ≡ free_of sizes free x
 free_later s sizes f free x less =
     ap (λ b. cond b f (free_of sizes free x)) (false_from_ne_true (s == x) (λ h. let e = eqb-true s x h in omega (arith, less, e)))
 

@@ -1,14 +1,11 @@
 -- How many slots the calls for one key make, at most.
-use Rattle.std.proofs.Common.{◌≡◌, ◌≢◌, ℕ, zero, suc, ◌+◌, ◌-◌, ◌*◌, ◌/◌, ◌%◌, ◌<◌, ◌≤◌, ◌==◌, ◌⊎◌, inl, inr, Bool, true, false, cond, ◌&&◌, nat_lt, nat_le, List, [], ◌∷◌, ◌++◌, length, take, filter, replicate, Option, None, Some, All, refl, sym, ap, ◌∙◌, subst, arith, lit≤, append-nil, eqb-true, eq-eqb, ltb-true, true≢false, length-take-le}
+use Rattle.std.proofs.Common.{◌≡◌, ◌≢◌, ℕ, zero, suc, ◌+◌, ◌-◌, ◌/◌, ◌<◌, ◌≤◌, ◌==◌, ◌⊎◌, inl, inr, Bool, true, false, cond, ◌&&◌, nat_lt, nat_le, List, [], ◌∷◌, ◌++◌, length, filter, replicate, Option, None, Some, All, refl, sym, ap, ◌∙◌, subst, arith, lit≤, append-nil, eqb-true, eq-eqb, ltb-true}
 use Rattle.std.proofs.lemmas.Bool.{cases_eq, cases_Bool, cases_lt}
 use Rattle.std.proofs.lemmas.Bool.Decides.{nat_tests}
 use Rattle.std.proofs.lemmas.List.Elements.{All-nil, All-cons, All-head, All-tail, All-contains}
 use Rattle.std.proofs.Math.Nat.{mul-add, mul-le-mul_left}
 use Rattle.std.specs.Prelude.{option_to_list, find}
-use Rattle.std.specs.List.{list_any}
-use Rattle.std.specs.FinMap.{get, contains_key, contains_key-keys, keys}
-use Rattle.prefix_trie_bits.specs.Begins.{take-begins, begins-linear}
-use Rattle.prefix_trie_bits.specs.Bits.{begins}
+use Rattle.std.specs.FinMap.{get, contains_key}
 use Rattle.prefix_trie_bits.specs.Order.{same_string}
 use Rattle.prefix_trie_bits.specs.Laws.Slots.{MakesSlots, SlotLaws}
 use Rattle.prefix_trie_bits.specs.Laws.Steps.{IsMap}
@@ -17,7 +14,8 @@ use Rattle.prefix_trie_bits.specs.Model.Insertion.{block_needed, lacking_slots, 
 use Rattle.prefix_trie_bits.specs.Model.Nodes.{Nodes, has_node, home, AreNodes}
 use Rattle.prefix_trie_bits.specs.Model.Step.{State, Insert, Remove, RemoveKeepTree, Reply}
 use Rattle.prefix_trie_bits.specs.Model.Storage.{Storage, HaveBlocks, RemovesValueInStorage, StepInStorage}
-use Rattle.prefix_trie_bits.proofs.Model.Members.{or-left, or-right, and-first, and-second, is-same_string}
+use Rattle.prefix_trie_bits.proofs.Model.Members.{and-first, and-second}
+use Rattle.prefix_trie_bits.proofs.Model.Levels.{at_level, closed, no_children_at, split_at}
 use Rattle.prefix_trie_bits.proofs.Model.Ways.{none_needed, blocks_needed}
 
 -- ---- the slots of needed blocks are no more than these have
@@ -144,84 +142,26 @@ total_most most o m few = one o few
 
 -- ---- an insertion
 
--- of the nodes on a way all stand, or those down to a level and none below it
-module _ (there : ℕ → Bool) where
-  pub split_at : (k : ℕ) → ((i j : ℕ) → i ≤ j → j ≤ k → there j ≡ true → there i ≡ true) → there 0 ≡ true →
-      ((i : ℕ) → i ≤ k → there i ≡ true)
-      ⊎ ((level : ℕ) × (level < k) × ((i : ℕ) → i ≤ level → there i ≡ true) × ((i : ℕ) → level < i → i ≤ k → there i ≡ false))
-  split_at zero closed root = inl (λ i h. closed i 0 h (omega arith) root)
-  split_at (suc k) closed root = elim (cases_Bool (there (suc k))) [
-    | inl last ↦ inl (λ i h. closed i (suc k) h (omega arith) last)
-    | inr missing ↦ elim (split_at k (λ i j h in_k. closed i j h (omega (arith, in_k))) root) [
-      | inl all ↦ inr (k, omega arith, all, λ i more h. subst (λ j. there j ≡ false) (let e : suc k ≡ i = omega (arith, more, h) in e) missing)
-      | inr some ↦ inr (
-        some.0,
-        (let less = some.1 in omega (arith, less)),
-        some.2,
-        λ i more h. elim (cases_eq i (suc k)) as (λ _. there i ≡ false) [
-          | inl e ↦ subst (λ j. there j ≡ false) (sym e) missing
-          | inr other ↦ some.3 i more (let less : i ≤ k = grind (arith, h, other) in less)
-        ],
-      )
-    ]
-  ]
-
--- no item passes a test that none of them passes
-none_pass : (test : List Bool → Bool) (ks : List (List Bool)) → ((k : List Bool) → list_any (same_string k) ks ≡ true → test k ≡ false) → length (filter test ks) ≡ 0
-none_pass test [] h = refl
-none_pass test (k ∷ ks) h =
-    ap (λ b. length (cond b (k ∷ filter test ks) (filter test ks))) (h k (or-left (same_string k k) (list_any (same_string k) ks) (is-same_string k k refl)))
-    ∙ none_pass test ks (λ j at. h j (or-right (same_string j k) (list_any (same_string j) ks) at))
-
-five_times : (i k l : ℕ) → i ≤ k → k ≡ l / 5 → 5 * i ≤ l
-five_times i k l h e = omega (arith, h, e)
-
-depth_of : (i l : ℕ) → l ≡ 5 * i → l % 5 ≡ 0
-depth_of i l e = omega (arith, e)
-
 few_levels : (l level : ℕ) → l ≤ 128 → l / 5 - (level + 1) ≤ 24
 few_levels l level h = omega (arith, h)
 
 module _ {T : Type 0} (width : ℕ) (s : State T) (layout : Layout) (are : AreNodes width s.entries s.nodes) (have : HaveBlocks s layout) (q : List Bool) where
-  abbrev at_level : ℕ → List Bool
-  at_level i = take (5 * i) q
-
-  long : (i : ℕ) → i ≤ length q / 5 → length (at_level i) ≡ 5 * i
-  long i h = length-take-le (5 * i) q (five_times i (length q / 5) (length q) h refl)
-
-  closed : (i j : ℕ) → i ≤ j → j ≤ length q / 5 → has_node s.nodes (at_level j) ≡ true → has_node s.nodes (at_level i) ≡ true
-  closed i j h inside there =
-      let a = long i (omega (arith, h, inside)) in
-      let b = long j inside in
-      are.closed (at_level i) (at_level j) there
-      (begins-linear (at_level i) (at_level j) q (take-begins (5 * i) q) (take-begins (5 * j) q) (omega (arith, a, b, h)))
-      (depth_of i (length (at_level i)) a)
-
-  -- a node that is missing has no children
-  no_children : (i : ℕ) → i ≤ length q / 5 → has_node s.nodes (at_level i) ≡ false → child_count s.nodes (at_level i) ≡ 0
-  no_children i inside missing = none_pass (λ t. begins (at_level i) t && (length t == length (at_level i) + 5)) (keys s.nodes) (λ t listed.
-      elim (cases_Bool (begins (at_level i) t)) as (λ _. (begins (at_level i) t && (length t == length (at_level i) + 5)) ≡ false) [
-        | inl below ↦ absurd (true≢false (sym (are.closed (at_level i) t (contains_key-keys s.nodes t ∙ listed) below
-            (depth_of i (length (at_level i)) (long i inside))) ∙ missing))
-        | inr other ↦ ap (λ b. b && (length t == length (at_level i) + 5)) other
-      ])
-
-  nodes_most : length q ≤ 128 → node_slots_lacking s.nodes layout q ≤ 56
+  pub nodes_most : length q ≤ 128 → node_slots_lacking s.nodes layout q ≤ 56
   nodes_most short =
       let most : (needed : List ℕ) → child_blocks_needed s.nodes layout q ≡ needed → total needed ≤ 56 → node_slots_lacking s.nodes layout q ≤ 56 = λ needed e few.
       (let a = slots_most child_block_sizes layout.free_child_blocks refl (child_blocks_needed s.nodes layout q) in
       let same : total (child_blocks_needed s.nodes layout q) ≡ total needed = ap total e in omega (arith, a, same, few)) in
-      elim (split_at (λ i. has_node s.nodes (at_level i)) (length q / 5) closed are.rooted) [
+      elim (split_at (λ i. has_node s.nodes (at_level q i)) (length q / 5) (closed width s.entries s.nodes are q) are.rooted) [
         | inl all ↦ most [] (none_needed s.nodes layout.child_blocks q (length q / 5) refl all) (omega arith)
         | inr some ↦
-            let o = block_needed child_block_sizes (get layout.child_blocks (at_level some.0)) (child_count s.nodes (at_level some.0)) in
-            let bound = total_most 32 o (length q / 5 - (some.0 + 1)) (needed_most 32 (lit≤ tt) (get layout.child_blocks (at_level some.0)) (child_count s.nodes (at_level some.0))) in
+            let o = block_needed child_block_sizes (get layout.child_blocks (at_level q some.0)) (child_count s.nodes (at_level q some.0)) in
+            let bound = total_most 32 o (length q / 5 - (some.0 + 1)) (needed_most 32 (lit≤ tt) (get layout.child_blocks (at_level q some.0)) (child_count s.nodes (at_level q some.0))) in
             most _ (blocks_needed s.nodes layout.child_blocks q (length q / 5) refl some.0 some.1 some.2 some.3 (λ i more inside.
-            (have.child_blocks.elsewhere (at_level i) (some.3 i more inside), no_children i inside (some.3 i more inside))))
+            (have.child_blocks.elsewhere (at_level q i) (some.3 i more inside), no_children_at width s.entries s.nodes are q i inside (some.3 i more inside))))
             (let few = few_levels (length q) some.0 short in omega (arith, bound, few))
       ]
 
-  cells_most : cell_slots_lacking s.entries layout q ≤ 31
+  pub cells_most : cell_slots_lacking s.entries layout q ≤ 31
   cells_most =
       let o = value_block_needed s.entries layout.value_blocks q (home q) in
       let all = slots_most value_block_sizes layout.free_value_blocks refl (option_to_list o ++ []) in

@@ -23,7 +23,7 @@ module _ {T : Type 0} where
   fewer_within : (width : ℕ) (m left : Entries T) → ((k : List Bool) → contains_key left k ≡ true → contains_key m k ≡ true) → AreWithin width m → AreWithin width left
   fewer_within width m left fewer within k e = within k (fewer k e)
 
-  part_fewer : (m : Entries T) (n : ℕ) (k : List Bool) → contains_key (part_at_least m n) k ≡ true → contains_key m k ≡ true
+  pub part_fewer : (m : Entries T) (n : ℕ) (k : List Bool) → contains_key (part_at_least m n) k ≡ true → contains_key m k ≡ true
   part_fewer m n k e = and-second (nat_le n (length k)) (contains_key m k) (sym (has-retained m (λ s. nat_le n (length s)) k) ∙ e)
 
   pub nodes_cond : (width : ℕ) (m : Entries T) (n : Nodes) (s : List Bool) (v : T) → length s ≤ width → AreNodes width m n → (b : Bool) → contains_key m s ≡ b → AreNodes width (with_entry m s v) (cond b n (with_needed n s))

@@ -44,7 +44,7 @@ module _ {P T : Type 0} (path : P → List Bool) (back : List Bool → P) (width
   abbrev Stored : State T × Storage → Call P T → Reply P T → State T × Storage → Type 0
   Stored = StepInStorage path back width
 
-  unchanged : (s : State T × Storage) (call : Call P T) (reply : Reply P T) (t : State T × Storage) → may_change call ≡ false → Stored s call reply t → t ≡ s
+  pub unchanged : (s : State T × Storage) (call : Call P T) (reply : Reply P T) (t : State T × Storage) → may_change call ≡ false → Stored s call reply t → t ≡ s
   unchanged s (Insert q v) reply t e h = absurd (true≢false e)
   unchanged s (Get q) reply t e h = unchanged_pair s t h.step.1 h.storage
   unchanged s (Lpm q) reply t e h = unchanged_pair s t h.step.1 h.storage

@@ -1,0 +1,378 @@
+-- From every map, however it is stored, each fitting call has a step.
+use Rattle.std.proofs.Common.{◌≡◌, ℕ, ◌+◌, ◌<◌, ◌≤◌, ◌⊎◌, inl, inr, Bool, true, false, cond, not, ◌&&◌, nat_le, is_some, List, [], ◌∷◌, length, All, refl, sym, ap, ◌∙◌, subst, arith, true≢false}
+use Rattle.std.proofs.lemmas.Bool.{cases_Bool, cases_eq, cases_lt}
+use Rattle.std.proofs.lemmas.List.Elements.{All-head, All-tail}
+use Rattle.std.specs.FinMap.{get, contains_key, len, empty_of_len, get-empty}
+use Rattle.prefix_trie_bits.specs.Bits.{begins}
+use Rattle.prefix_trie_bits.specs.Order.{listing_cmp, same_string}
+use Rattle.prefix_trie_bits.specs.Model.Blocks.{no_layout}
+use Rattle.prefix_trie_bits.specs.Model.Entries.{Entries, with_entry, without_entry, without_below, part_at_least, no_entries}
+use Rattle.prefix_trie_bits.specs.Model.Insertion.{node_slots_lacking, cell_slots_lacking}
+use Rattle.prefix_trie_bits.specs.Model.Nodes.{Nodes, has_node, with_needed, needed, root_alone, pruned, nodes_not_below, nodes_without, nodes_without_below}
+use Rattle.prefix_trie_bits.specs.Model.Room.{LeavesRoom, MayPassLimit}
+use Rattle.prefix_trie_bits.specs.Model.Step.{State, Call, Insert, Get, Lpm, Spm, Remove, RemoveKeepTree, RemoveChildren, RetainAtLeast, Clear, Len, NodeCount, AddressCount, ListAll, ListFrom, Children, Cover, CallFits, Reply, Value, Done, Refused, Refusal, IndexRange, Step}
+use Rattle.prefix_trie_bits.specs.Model.Storage.{Storage, cleared, HaveBlocks, LeavesStorage, InsertsInStorage, RefusesInStorage, StepInStorage, RunInStorage}
+use Rattle.prefix_trie_bits.specs.Laws.Determined.{is_memory, is_refusal, may_refuse}
+use Rattle.prefix_trie_bits.specs.Laws.Steps.{IsMap}
+use Rattle.prefix_trie_bits.specs.Laws.Total.{IsStoredMap, GivesCause, TotalLaws}
+use Rattle.prefix_trie_bits.proofs.Model.Determined.{cause_of, no_refusal, refused, set}
+use Rattle.prefix_trie_bits.proofs.Model.Gained.{gained, gained_inserts}
+use Rattle.prefix_trie_bits.proofs.Model.Lessened.{IsLeft, removed_is, bare_have, many_left, value_left, one_left}
+use Rattle.prefix_trie_bits.proofs.Model.Members.{from-not, same_string-is, has-empty, has-root_alone, has-retained}
+use Rattle.prefix_trie_bits.proofs.Model.Pruning.{begins-nil, needed_fewer, near_is, pruning_laws, remove_law, remove_children_law}
+use Rattle.prefix_trie_bits.proofs.Model.Refusing.{refuses}
+use Rattle.prefix_trie_bits.proofs.Model.Slots.{nodes_most, cells_most}
+use Rattle.prefix_trie_bits.proofs.Model.Staying.{stays_stored}
+use Rattle.prefix_trie_bits.proofs.Model.Steps.{part_fewer, stays_map}
+use Rattle.prefix_trie_bits.proofs.Model.Supplied.{supplied, stored_have}
+
+-- a map has a node, the root's
+some_node : {T : Type 0} (width : ℕ) (s : State T) → IsMap width s → 1 ≤ len s.nodes
+some_node width s map = elim (cases_eq (len s.nodes) 0) as (λ _. 1 ≤ len s.nodes) [
+  | inl none ↦ absurd (true≢false (sym map.are_nodes.rooted ∙ ap (λ n. has_node n []) (empty_of_len s.nodes none) ∙ has-empty []))
+  | inr some ↦ grind (arith, some)
+]
+
+no_length : (s : List Bool) → length s ≡ 0 → s ≡ []
+no_length [] e = refl
+no_length (b ∷ s) e = absurd (omega (arith, e))
+
+module _ {P T : Type 0} (path : P → List Bool) (back : List Bool → P) (width : ℕ) (s : State T × Storage) (whole : IsStoredMap width s) where
+  -- a step that is no refusal, and leaves such a map
+  abbrev Answers : Call P T → Type 0
+  Answers call = (reply : Reply P T) × (t : State T × Storage) × StepInStorage path back width s call reply t × (is_refusal reply ≡ false) × IsStoredMap width t
+
+  -- an insertion of a new key whose lacking blocks would pass the limit
+  abbrev IsFull : Call P T → Type 0
+  IsFull call = (q : P) × (v : T) × (call ≡ Insert q v) × (contains_key s.0.entries (path q) ≡ false) × GivesCause s (path q) IndexRange
+
+  same_room : LeavesRoom (len s.0.nodes) s.1.room s.1.room
+  same_room = record {
+    same_limit = refl;
+    nodes_within = whole.nodes_within;
+    cells_within = whole.cells_within;
+    nodes_grow = omega arith;
+    cells_grow = omega arith;
+  }
+
+  -- a call that leaves all as it was
+  still : (call : Call P T) (reply : Reply P T) → Step path back width s.0 call reply s.0 → (reply ≡ Refused IndexRange → MayPassLimit s.1.room)
+      → LeavesStorage path s.0 call reply s.0 s.1 s.1 → StepInStorage path back width s call reply s
+  still call reply step range storage = record { step = step; room = same_room; index_range = range; storage = storage }
+
+  asks : (call : Call P T) (reply : Reply P T) → is_refusal reply ≡ false → Step path back width s.0 call reply s.0 → LeavesStorage path s.0 call reply s.0 s.1 s.1 → Answers call
+  asks call reply answers step storage = (reply, s, still call reply step (λ is. no_refusal (Refused IndexRange) reply refl answers (sym is)) storage, answers, whole)
+
+  -- a call that changes the map, and leaves the room as it was
+  changes : (call : Call P T) (reply : Reply P T) (t : State T) (after : Storage) → CallFits (λ q. length (path q) ≤ width) call → is_refusal reply ≡ false
+      → Step path back width s.0 call reply t → after.room ≡ s.1.room → LeavesStorage path s.0 call reply t s.1 after → HaveBlocks t after.layout → Answers call
+  changes call reply t after fits answers step same storage have = (
+    reply,
+    (t, after),
+    record {
+      step = step;
+      room = subst (LeavesRoom (len s.0.nodes) s.1.room) (sym same) same_room;
+      index_range = λ is. no_refusal (Refused IndexRange) reply refl answers (sym is);
+      storage = storage;
+    },
+    answers,
+    record {
+      is_map = stays_map path back width s.0 call reply t fits step whole.is_map;
+      have_blocks = have;
+      root_fits = subst (λ r. 0 < r.limit) (sym same) whole.root_fits;
+      nodes_within = subst (λ r. r.node_slots ≤ r.limit) (sym same) whole.nodes_within;
+      cells_within = subst (λ r. r.cell_slots ≤ r.limit) (sym same) whole.cells_within;
+    },
+  )
+
+  -- one that empties it
+  empties : (call : Call P T) (t : State T) → CallFits (λ q. length (path q) ≤ width) call → Step path back width s.0 call Done t
+      → LeavesStorage path s.0 call Done t s.1 (cleared s.1) → HaveBlocks t no_layout → Answers call
+  empties call t fits step storage have = (
+    Done,
+    (t, cleared s.1),
+    record {
+      step = step;
+      room = record {
+        same_limit = refl;
+        nodes_within = (let h = whole.root_fits in omega (arith, h));
+        cells_within = omega arith;
+        nodes_grow = (let h = some_node width s.0 whole.is_map in omega (arith, h));
+        cells_grow = omega arith;
+      };
+      index_range = λ is. no_refusal (Refused IndexRange) Done refl refl (sym is);
+      storage = storage;
+    },
+    refl,
+    record {
+      is_map = stays_map path back width s.0 call Done t fits step whole.is_map;
+      have_blocks = have;
+      root_fits = whole.root_fits;
+      nodes_within = (let h = whole.root_fits in omega (arith, h));
+      cells_within = omega arith;
+    },
+  )
+
+  -- ---- removals
+
+  removes : (q : P) → length (path q) ≤ width → Answers (Remove q)
+  removes q fits =
+      let t : State T = record { entries = without_entry s.0.entries (path q); nodes = nodes_without s.0.nodes s.0.entries (path q) } in
+      let left : IsLeft width s.0 t = record {
+        was = whole.is_map;
+        is = stays_map path back width s.0 (Remove q) (Value (get s.0.entries (path q))) t fits (refl, refl) whole.is_map;
+        test = λ k. not (same_string k (path q));
+        kept = removed_is s.0.entries (path q);
+        stood = (remove_law width s.0.entries s.0.nodes (path q) whole.is_map.are_nodes).none_new;
+      } in
+      let l = one_left width s.0 t left (path q) s.1 whole.have_blocks refl refl in
+      changes (Remove q) (Value (get s.0.entries (path q))) t l.0 fits refl (refl, refl) l.1 (l.2, l.3) l.4
+
+  removes_keeping : (q : P) → length (path q) ≤ width → Answers (RemoveKeepTree q)
+  removes_keeping q fits =
+      let t : State T = record s.0 { entries = without_entry s.0.entries (path q) } in
+      let left : IsLeft width s.0 t = record {
+        was = whole.is_map;
+        is = stays_map path back width s.0 (RemoveKeepTree q) (Value (get s.0.entries (path q))) t fits (refl, refl) whole.is_map;
+        test = λ k. not (same_string k (path q));
+        kept = removed_is s.0.entries (path q);
+        stood = λ p there. there;
+      } in
+      let l = value_left width s.0 t left (path q) s.1 whole.have_blocks refl refl in
+      changes (RemoveKeepTree q) (Value (get s.0.entries (path q))) t l.0 fits refl (refl, refl) l.1 (l.2, ap (λ r. r.node_slots) l.1, l.3, l.4) l.5
+
+  retains : (n : ℕ) → Answers (RetainAtLeast n)
+  retains n =
+      let kept = part_at_least s.0.entries n in
+      let t : State T = record { entries = kept; nodes = needed kept } in
+      let left : IsLeft width s.0 t = record {
+        was = whole.is_map;
+        is = stays_map path back width s.0 (RetainAtLeast n) Done t tt (refl, refl) whole.is_map;
+        test = λ k. nat_le n (length k);
+        kept = refl;
+        stood = λ p there. whole.is_map.are_nodes.hold_needed p (needed_fewer s.0.entries kept (part_fewer s.0.entries n) p there);
+      } in
+      let l = many_left width s.0 t left s.1 whole.have_blocks in
+      changes (RetainAtLeast n) Done t l.0 tt refl (refl, refl) l.1 l.2 l.3
+
+  -- the state after the removal of all that q begins
+  abbrev below : P → State T
+  below q = record { entries = without_below s.0.entries (path q); nodes = nodes_without_below s.0.nodes s.0.entries (path q) }
+
+  removes_below : (q : P) → length (path q) ≤ width → 0 < length (path q) → Answers (RemoveChildren q)
+  removes_below q fits some =
+      let left : IsLeft width s.0 (below q) = record {
+        was = whole.is_map;
+        is = stays_map path back width s.0 (RemoveChildren q) Done (below q) fits (refl, refl) whole.is_map;
+        test = λ k. not (begins (path q) k);
+        kept = refl;
+        stood = (remove_children_law width s.0.entries s.0.nodes (path q) whole.is_map.are_nodes).none_new;
+      } in
+      let l = many_left width s.0 (below q) left s.1 whole.have_blocks in
+      changes (RemoveChildren q) Done (below q) l.0 fits refl (refl, refl) l.1 (λ e. absurd (omega (arith, e, some)), λ _. l.2) l.3
+
+  -- at the root all entries and all other nodes go
+  all_below : (m : Entries T) (n : Nodes) (k : List Bool) → has_node n [] ≡ true → has_node (nodes_without_below n m []) k ≡ true → k ≡ []
+  all_below m n k rooted there = near_is n [] k ((pruning_laws T).none_added (nodes_not_below n []) (without_below m []) [] k
+      (sym (ap (λ b. has_node (cond b (pruned (nodes_not_below n []) (without_below m []) []) n) k) rooted) ∙ there)) (begins-nil k)
+
+  no_keys : (m : Entries T) (k : List Bool) → contains_key (without_below m []) k ≡ true → ⊥
+  no_keys m k has = true≢false (sym has ∙ has-retained m (λ x. not (begins [] x)) k ∙ ap (λ b. not b && contains_key m k) (begins-nil k))
+
+  removes_all : (q : P) → length (path q) ≤ width → length (path q) ≡ 0 → Answers (RemoveChildren q)
+  removes_all q fits none =
+      let root : path q ≡ [] = no_length (path q) none in
+      empties (RemoveChildren q) (below q) fits (refl, refl) (λ _. refl, λ some. absurd (omega (arith, none, some)))
+      (bare_have (below q) (λ k has. no_keys s.0.entries k (ap (λ p. contains_key (without_below s.0.entries p) k) (sym root) ∙ has))
+      (λ k there. all_below s.0.entries s.0.nodes k whole.is_map.are_nodes.rooted (ap (λ p. has_node (nodes_without_below s.0.nodes s.0.entries p) k) (sym root) ∙ there)))
+
+  clears : Answers Clear
+  clears = empties Clear (record { entries = no_entries; nodes = root_alone }) tt (refl, refl) refl
+      (bare_have (record { entries = no_entries; nodes = root_alone }) (λ k has. true≢false (sym has ∙ ap is_some (get-empty listing_cmp k)))
+      (λ k there. same_string-is k [] (sym (has-root_alone k) ∙ there)))
+
+  -- ---- insertions
+
+  -- the state after one
+  abbrev set_again : P → T → State T
+  set_again q v = record { entries = with_entry s.0.entries (path q) v; nodes = s.0.nodes }
+
+  abbrev set_new : P → T → State T
+  set_new q v = record { entries = with_entry s.0.entries (path q) v; nodes = with_needed s.0.nodes (path q) }
+
+  again_step : (q : P) (v : T) → contains_key s.0.entries (path q) ≡ true → Step path back width s.0 (Insert q v) (Value (get s.0.entries (path q))) (set_again q v)
+  again_step q v stored = inl (refl, λ i. record { entries = with_entry s.0.entries (path q) v; nodes = cond (sym stored i) s.0.nodes (with_needed s.0.nodes (path q)) })
+
+  new_step : (q : P) (v : T) → contains_key s.0.entries (path q) ≡ false → Step path back width s.0 (Insert q v) (Value (get s.0.entries (path q))) (set_new q v)
+  new_step q v new = inl (refl, λ i. record { entries = with_entry s.0.entries (path q) v; nodes = cond (sym new i) s.0.nodes (with_needed s.0.nodes (path q)) })
+
+  inserts_again : (q : P) (v : T) → length (path q) ≤ width → contains_key s.0.entries (path q) ≡ true → Answers (Insert q v)
+  inserts_again q v fits stored = changes (Insert q v) (Value (get s.0.entries (path q))) (set_again q v) s.1 fits refl (again_step q v stored) refl
+      (λ _. refl, λ old new. absurd (true≢false (sym stored ∙ new)), λ cause is. no_refusal (Refused cause) (Value _) refl refl (sym is))
+      (stored_have width s.0 (path q) v s.1 whole.is_map stored whole.have_blocks)
+
+  module _ (q : P) (v : T) (short : width ≤ 128) (fits : length (path q) ≤ width) where
+    few_nodes : node_slots_lacking s.0.nodes s.1.layout (path q) ≤ 56
+    few_nodes = nodes_most width s.0 s.1.layout whole.is_map.are_nodes whole.have_blocks (path q) (omega (arith, short, fits))
+
+    few_cells : cell_slots_lacking s.0.entries s.1.layout (path q) ≤ 31
+    few_cells = cells_most width s.0 s.1.layout whole.is_map.are_nodes whole.have_blocks (path q)
+
+    inserts_new : contains_key s.0.entries (path q) ≡ false → s.1.room.node_slots + node_slots_lacking s.0.nodes s.1.layout (path q) ≤ s.1.room.limit
+        → s.1.room.cell_slots + cell_slots_lacking s.0.entries s.1.layout (path q) ≤ s.1.room.limit → Answers (Insert q v)
+    inserts_new new nodes cells =
+        let is = stays_map path back width s.0 (Insert q v) (Value (get s.0.entries (path q))) (set_new q v) fits (new_step q v new) whole.is_map in
+        let some = some_node width s.0 whole.is_map in (
+          Value (get s.0.entries (path q)),
+          (set_new q v, gained s.0 (path q) s.1),
+          record {
+            step = new_step q v new;
+            room = record {
+              same_limit = refl;
+              nodes_within = nodes;
+              cells_within = cells;
+              nodes_grow = (let few = few_nodes in omega (arith, few, some));
+              cells_grow = (let few = few_cells in omega (arith, few, some));
+            };
+            index_range = λ is. no_refusal (Refused IndexRange) (Value _) refl refl (sym is);
+            storage = (
+              λ stored. absurd (true≢false (sym stored ∙ new)),
+              λ old _ _. gained_inserts s.0 (path q) s.1,
+              λ cause is. no_refusal (Refused cause) (Value _) refl refl (sym is),
+            );
+          },
+          refl,
+          record {
+            is_map = is;
+            have_blocks = supplied width s.0 (path q) v whole.is_map s.1 (gained s.0 (path q) s.1) new is whole.have_blocks (gained_inserts s.0 (path q) s.1);
+            root_fits = whole.root_fits;
+            nodes_within = nodes;
+            cells_within = cells;
+          },
+        )
+
+    inserts : Answers (Insert q v) ⊎ IsFull (Insert q v)
+    inserts = elim (cases_Bool (contains_key s.0.entries (path q))) as (λ _. Answers (Insert q v) ⊎ IsFull (Insert q v)) [
+      | inl stored ↦ inl (inserts_again q v fits stored)
+      | inr new ↦ elim (cases_lt s.1.room.limit (s.1.room.node_slots + node_slots_lacking s.0.nodes s.1.layout (path q))) as (λ _. Answers (Insert q v) ⊎ IsFull (Insert q v)) [
+        | inl past ↦ inr (q, v, refl, new, inl past)
+        | inr nodes ↦ elim (cases_lt s.1.room.limit (s.1.room.cell_slots + cell_slots_lacking s.0.entries s.1.layout (path q))) as (λ _. Answers (Insert q v) ⊎ IsFull (Insert q v)) [
+          | inl past ↦ inr (q, v, refl, new, inr past)
+          | inr cells ↦ inl (inserts_new new (omega (arith, nodes)) (omega (arith, cells)))
+        ]
+      ]
+    ]
+
+  -- ---- all calls
+
+  -- a call is answered, or it is an insertion without room
+  decided : (call : Call P T) → width ≤ 128 → CallFits (λ q. length (path q) ≤ width) call → Answers call ⊎ IsFull call
+  decided (Insert q v) short fits = inserts q v short fits
+  decided (Get q) short fits = inl (asks (Get q) _ refl (refl, refl) refl)
+  decided (Lpm q) short fits = inl (asks (Lpm q) _ refl (refl, refl) refl)
+  decided (Spm q) short fits = inl (asks (Spm q) _ refl (refl, refl) refl)
+  decided (Remove q) short fits = inl (removes q fits)
+  decided (RemoveKeepTree q) short fits = inl (removes_keeping q fits)
+  decided (RemoveChildren q) short fits = inl (elim (cases_eq (length (path q)) 0) as (λ _. Answers (RemoveChildren q)) [
+    | inl none ↦ removes_all q fits none
+    | inr other ↦ removes_below q fits (grind (arith, other))
+  ])
+  decided (RetainAtLeast n) short fits = inl (retains n)
+  decided Clear short fits = inl clears
+  decided Len short fits = inl (asks Len _ refl (refl, refl) refl)
+  decided NodeCount short fits = inl (asks NodeCount _ refl (refl, refl) refl)
+  decided AddressCount short fits = inl (asks AddressCount _ refl (refl, refl) refl)
+  decided ListAll short fits = inl (asks ListAll _ refl (inl refl, refl) refl)
+  decided (ListFrom q inclusive) short fits = inl (asks (ListFrom q inclusive) _ refl (inl refl, refl) refl)
+  decided (Children q) short fits = inl (asks (Children q) _ refl (inl refl, refl) refl)
+  decided (Cover q) short fits = inl (asks (Cover q) _ refl (inl refl, refl) refl)
+
+  cause_is : (a b : Refusal) → ◌≡◌ {A = Reply P T} (Refused a) (Refused b) → a ≡ b
+  cause_is a b e = ap cause_of e
+
+  refused_insertion : (q : P) (v : T) (cause : Refusal) → width ≤ 128 → length (path q) ≤ width → contains_key s.0.entries (path q) ≡ false → GivesCause s (path q) cause →
+      StepInStorage path back width s (Insert q v) (Refused cause) s
+  refused_insertion q v cause short fits new given = still (Insert q v) (Refused cause) (inr (new, cause, refl, refl))
+      (λ is. passes (subst (GivesCause s (path q)) (cause_is cause IndexRange is) given)) (
+        λ _. refl,
+        λ old _ is. no_refusal (Refused cause) (Value old) refl refl is,
+        λ c is. subst (λ x. RefusesInStorage s.0 (path q) x s.1 s.1) (cause_is cause c is) (refuses s (path q) whole.nodes_within whole.cells_within cause given),
+      )
+    where
+      passes : GivesCause s (path q) IndexRange → MayPassLimit s.1.room
+      passes (inl past) = inl (let few = few_nodes q v short fits in omega (arith, past, few))
+      passes (inr past) = inr (let few = few_cells q v short fits in omega (arith, past, few))
+
+  refused_list : (call : Call P T) (cause : Refusal) → is_memory cause ≡ true → Step path back width s.0 call (Refused cause) s.0 → LeavesStorage path s.0 call (Refused cause) s.0 s.1 s.1 →
+      StepInStorage path back width s call (Refused cause) s
+  refused_list call cause memory step storage = still call (Refused cause) step (λ is. absurd (true≢false (sym memory ∙ ap is_memory (cause_is cause IndexRange is)))) storage
+
+  refused_call : (call : Call P T) (cause : Refusal) → width ≤ 128 → CallFits (λ q. length (path q) ≤ width) call → may_refuse path s.0 call cause ≡ true
+      → ((q : P) (v : T) → call ≡ Insert q v → GivesCause s (path q) cause) → StepInStorage path back width s call (Refused cause) s
+  refused_call (Insert q v) cause short fits may given = refused_insertion q v cause short fits (from-not (contains_key s.0.entries (path q)) may) (given q v refl)
+  refused_call (Get q) cause short fits may given = absurd (true≢false (sym may))
+  refused_call (Lpm q) cause short fits may given = absurd (true≢false (sym may))
+  refused_call (Spm q) cause short fits may given = absurd (true≢false (sym may))
+  refused_call (Remove q) cause short fits may given = absurd (true≢false (sym may))
+  refused_call (RemoveKeepTree q) cause short fits may given = absurd (true≢false (sym may))
+  refused_call (RemoveChildren q) cause short fits may given = absurd (true≢false (sym may))
+  refused_call (RetainAtLeast n) cause short fits may given = absurd (true≢false (sym may))
+  refused_call Clear cause short fits may given = absurd (true≢false (sym may))
+  refused_call Len cause short fits may given = absurd (true≢false (sym may))
+  refused_call NodeCount cause short fits may given = absurd (true≢false (sym may))
+  refused_call AddressCount cause short fits may given = absurd (true≢false (sym may))
+  refused_call ListAll cause short fits may given = refused_list ListAll cause may ((refused path back width s.0 ListAll cause s.0).1 (may, refl)) refl
+  refused_call (ListFrom q inclusive) cause short fits may given = refused_list (ListFrom q inclusive) cause may ((refused path back width s.0 (ListFrom q inclusive) cause s.0).1 (may, refl)) refl
+  refused_call (Children q) cause short fits may given = refused_list (Children q) cause may ((refused path back width s.0 (Children q) cause s.0).1 (may, refl)) refl
+  refused_call (Cover q) cause short fits may given = refused_list (Cover q) cause may ((refused path back width s.0 (Cover q) cause s.0).1 (may, refl)) refl
+
+  answered : (call : Call P T) → width ≤ 128 → CallFits (λ q. length (path q) ≤ width) call
+      → ((q : P) (v : T) → call ≡ Insert q v → contains_key s.0.entries (path q) ≡ false → GivesCause s (path q) IndexRange → ⊥) → Answers call
+  answered call short fits room = elim (decided call short fits) as (λ _. Answers call) [
+    | inl answers ↦ answers
+    | inr full ↦ absurd (room full.0 full.1 full.2 full.3 full.4)
+  ]
+
+  -- so each call has a step
+  stepped : (call : Call P T) → width ≤ 128 → CallFits (λ q. length (path q) ≤ width) call →
+      (reply : Reply P T) × (t : State T × Storage) × StepInStorage path back width s call reply t × IsStoredMap width t
+  stepped call short fits = elim (decided call short fits) as (λ _. (reply : Reply P T) × (t : State T × Storage) × StepInStorage path back width s call reply t × IsStoredMap width t) [
+    | inl answers ↦ (answers.0, answers.1, answers.2, answers.4)
+    | inr (q, v, is, new, cause) ↦ (
+      Refused IndexRange,
+      s,
+      subst (λ c. StepInStorage path back width s c (Refused IndexRange) s) (sym is)
+          (refused_insertion q v IndexRange short (subst (CallFits (λ x. length (path x) ≤ width)) is fits) new cause),
+      whole,
+    )
+  ]
+
+module _ {P T : Type 0} (path : P → List Bool) (back : List Bool → P) (width : ℕ) where
+  runs : (s : State T × Storage) (calls : List (Call P T)) → width ≤ 128 → IsStoredMap width s → All (CallFits (λ q. length (path q) ≤ width)) calls →
+      (replies : List (Reply P T)) × (t : State T × Storage) × RunInStorage path back width s calls replies t × IsStoredMap width t
+  runs s [] short whole fit = ([], s, (refl, refl), whole)
+  runs s (call ∷ calls) short whole fit =
+      let one = stepped path back width s whole call short (All-head (CallFits (λ q. length (path q) ≤ width)) call calls fit) in
+      let rest = runs one.1 calls short one.3 (All-tail (CallFits (λ q. length (path q) ≤ width)) call calls fit) in
+      (one.0 ∷ rest.0, rest.1, (one.0, rest.0, one.1, refl, one.2, rest.2), rest.3)
+
+  -- without room an insertion has no other step than a refusal
+  full : (s : State T × Storage) (q : P) (v : T) (reply : Reply P T) (t : State T × Storage) → contains_key s.0.entries (path q) ≡ false → GivesCause s (path q) IndexRange →
+      StepInStorage path back width s (Insert q v) reply t → is_refusal reply ≡ true
+  full s q v reply t new cause h = elim (cases_Bool (is_refusal reply)) as (λ _. is_refusal reply ≡ true) [
+    | inl refusal ↦ refusal
+    | inr answers ↦ absurd (past cause (h.storage.1 _ new (set path back width s.0 q v reply t.0 answers h.step).0))
+  ]
+    where
+      past : GivesCause s (path q) IndexRange → InsertsInStorage s.0 (path q) s.1 t.1 → ⊥
+      past (inl nodes) left = (let made = left.node_slots in let within = h.room.nodes_within in let limit = h.room.same_limit in omega (arith, nodes, made, within, limit))
+      past (inr cells) left = (let made = left.cell_slots in let within = h.room.cells_within in let limit = h.room.same_limit in omega (arith, cells, made, within, limit))
+
+pub total_laws : (P T : Type 0) → TotalLaws P T
+total_laws P T = record {
+  answered = λ path back width s call short whole. answered path back width s whole call short;
+  refused = λ path back width s call cause short whole. refused_call path back width s whole call cause short;
+  full = full;
+  runs = runs;
+  stays = λ path back width s call reply t whole. stays_stored path back width s whole call reply t;
+}
