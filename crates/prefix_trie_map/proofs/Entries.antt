@@ -1,5 +1,6 @@
 -- What a map becomes where an entry is filled.
-use Rattle.std.proofs.Common.{◌≡◌, Bool, cond, List, None, inl, refl, sym, ap, ◌∙◌, true≢false, subst, arith}
+use denote.Param.Members.{Once}
+use Rattle.std.proofs.Common.{◌≡◌, Bool, cond, List, None, Some, MutBor, inl, refl, sym, ap, ◌∙◌, true≢false, subst, arith}
 use Rattle.std.specs.FinMap.{get}
 use Rattle.std.specs.declared.cmp.PartialEq as partial
 use Rattle.std.specs.declared.fmt.Debug as debug
@@ -16,7 +17,7 @@ use Rattle.prefix_trie_map.specs.Steps.{stored}
 use Rattle.prefix_trie_map.specs.Whole.{IsWhole}
 use Rattle.prefix_trie_map.specs.declared.map.entry.VacantEntry.{VacantEntry}
 use Rattle.prefix_trie_map.specs.declared.map.entry.OccupiedEntry.{OccupiedEntry}
-use Rattle.prefix_trie_map.specs.Entry.{Vacant, Occupied, Fills, RefusesToFill}
+use Rattle.prefix_trie_map.specs.Entry.{Vacant, Occupied, Fills, RefusesToFill, ModifiesEntry}
 use Rattle.prefix_trie_map.proofs.Insertions.{with_needed-stored}
 use Rattle.prefix_trie_map.proofs.Placing.{no_value, value_not_refused, entry_twice, written_step}
 
@@ -95,3 +96,9 @@ module _ {P T A R : Type 0} {p : prefix.Ghosts P R} {shows : debug.Ghosts P} {k 
           );
         };
       }
+
+  -- a stored key has what a call left of the value there
+  pub modified : {F : Type 0} (g : Once F (MutBor T × Unit {0}) (Unit {0} × (MutBor T × Unit {0}))) (f : F) (o : OccupiedEntry P T A R p shows k same writes) (new : Contents T) (w : T) (lent : MutBor T)
+      → get o.map.now.entries (p.path o.key) ≡ Some lent.now → new ≡ with_value_at o.map.now (p.path o.key) w
+      → g.post f (lent, tt) (tt, (record lent { now = w }, tt)) → ModifiesEntry g f (Occupied o) new
+  modified g f o new w lent value is called = (lent.now, w, value, record { lent = lent; left = record lent { now = w }; before = refl; called = called; after = refl }, is)

@@ -219,6 +219,7 @@ impl<'a, P: Prefix, T: Drop, A: Allocator> Entry<'a, P, T, A> {
     pub fn or_insert(self, value: T) -> Result<&'a mut T, Refused<T>>
         ensures* writes_back { sem 𝓛 (lends_filled P.row T.row A.row P.R.row P.Debug P.R.PartialEq P.R.Debug A.Allocator (λ refused. refused.cause) self.entry result) }
         ensures value { IfOk result (λ x. x.now ≡ unwrap_or (entry_value self.entry) value) }
+        ensures absent { OnErr result (entry_value self.entry ≡ None) }
         ensures returned { IfErr result (λ refused. refused.value ≡ value) }
     {
         match self {
@@ -236,6 +237,7 @@ impl<'a, P: Prefix, T: Drop, A: Allocator> Entry<'a, P, T, A> {
         requires { entry_value self ≡ None → F.pre f }
         ensures* writes_back { sem 𝓛 (lends_filled P.row T.row A.row P.R.row P.Debug P.R.PartialEq P.R.Debug A.Allocator (λ cause. cause) self.entry result) }
         ensures value { IfOk result (λ x. UnwrapsOrElse (entry_value self.entry) (F.post f) x.now) }
+        ensures absent { OnErr result (entry_value self.entry ≡ None) }
     {
         match self {
             Entry::Vacant(vacant) => vacant.insert_with(f),
@@ -250,10 +252,11 @@ impl<'a, P: Prefix, T: Drop, A: Allocator> Entry<'a, P, T, A> {
         T: Default,
         ensures* writes_back { sem 𝓛 (lends_filled P.row T.row A.row P.R.row P.Debug P.R.PartialEq P.R.Debug A.Allocator (λ cause. cause) self.entry result) }
         ensures value { IfOk result (λ x. UnwrapsOrElse (entry_value self.entry) T.is_default x.now) }
+        ensures absent { OnErr result (entry_value self.entry ≡ None) }
     {
         match self {
             Entry::Vacant(entry) => entry.default(),
-            Entry::Occupied(entry) => Ok(entry.into_mut()),
+            Entry::Occupied(stored) => Ok(stored.into_mut()),
         }
     }
 }

@@ -1,4 +1,4 @@
-use Rattle.std.proofs.Common.{◌≡◌, is_some, take, ap, arith}
+use Rattle.std.proofs.Common.{◌≡◌, is_some, take, refl, ap, arith}
 use Rattle.prefix_trie_table.specs.Digits.{path_of, bit_of}
 use Rattle.prefix_trie_table.specs.Forest.{one_if}
 use Rattle.prefix_trie_table.proofs.Asks.{Made-then}
@@ -99,3 +99,6 @@ returns-clause-obtains g c =
       memory = tt;
       lacks = tt;
     }
+
+pub returns-in-Err-clause-counted : goal.returns-in-Err-clause-counted
+returns-in-Err-clause-counted g c = refl

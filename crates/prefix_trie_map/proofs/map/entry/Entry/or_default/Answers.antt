@@ -5,4 +5,4 @@ use Rattle.prefix_trie_map.proofs.map.entry.Entry.or_default.Goals as goal
 
 pub returns-in-Occupied : goal.returns-in-Occupied
 returns-in-Occupied g c =
-    rw c.in-Occupied.is ((refl, (λ w _. Fills-stored c.in-Occupied.entry c.into_mut.ensures.whole w), tt), record { writes_back = tt; value = subst (λ o. UnwrapsOrElse o g.T.Default.is_default c.into_mut.result.now) (sym c.into_mut.ensures.value) refl })
+    rw c.in-Occupied.is ((refl, (λ w _. Fills-stored c.in-Occupied.stored c.into_mut.ensures.whole w), tt), record { writes_back = tt; value = subst (λ o. UnwrapsOrElse o g.T.Default.is_default c.into_mut.result.now) (sym c.into_mut.ensures.value) refl; absent = tt })

@@ -5,4 +5,4 @@ use Rattle.prefix_trie_map.proofs.map.entry.Entry.or_insert.Goals as goal
 
 pub returns-in-Occupied : goal.returns-in-Occupied
 returns-in-Occupied g c =
-    rw c.in-Occupied.is ((refl, (λ w _. Fills-stored c.in-Occupied.entry c.into_mut.ensures.whole w), tt), record { writes_back = tt; value = sym (ap (λ o. unwrap_or o c.args.value) c.into_mut.ensures.value); returned = tt })
+    rw c.in-Occupied.is ((refl, (λ w _. Fills-stored c.in-Occupied.entry c.into_mut.ensures.whole w), tt), record { writes_back = tt; value = sym (ap (λ o. unwrap_or o c.args.value) c.into_mut.ensures.value); absent = tt; returned = tt })

@@ -1,8 +1,12 @@
 use Rattle.std.proofs.Common.{refl, sym, ap, ◌∙◌}
 use Rattle.std.specs.FinMap.{get}
+use Rattle.prefix_trie_table.specs.Locations.{seat_of}
 use Rattle.prefix_trie_map.proofs.Entries.{Fills-lent}
 use Rattle.prefix_trie_map.proofs.Placing.{entry_only}
 use Rattle.prefix_trie_map.proofs.map.entry.VacantEntry.insert.Goals as goal
+
+pub lend_at-requires-clause-seat : goal.lend_at-requires-clause-seat
+lend_at-requires-clause-seat g c = ap (seat_of c.place.new.self.build) (c.parts-number.ensures.path ∙ sym (ap g.P.Prefix.path c.prefix.ensures.value)) ∙ c.in_ok-seat.ensures.seat
 
 pub returns : goal.returns
 returns g c =

@@ -1,0 +1,15 @@
+use Rattle.std.proofs.Common.{refl, sym, ap, ◌∙◌}
+use Rattle.std.specs.FinMap.{get}
+use Rattle.prefix_trie_table.specs.Locations.{seat_of}
+use Rattle.prefix_trie_table.specs.Shape.{with_value_at}
+use Rattle.prefix_trie_map.proofs.map.entry.OccupiedEntry.into_mut.Goals as goal
+
+pub lend_at-requires-clause-seat : goal.lend_at-requires-clause-seat
+lend_at-requires-clause-seat g c = ap (seat_of c.args.self.map.now.build) c.parts-number.ensures.path ∙ c.args.self.seated
+
+pub returns : goal.returns
+returns g c =
+    let at = c.parts-number.ensures.path in (
+      (refl, λ w. ap (λ s. with_value_at c.args.self.map.now s w) at),
+      record { writes_back = tt; value = ap (get c.args.self.map.now.entries) (sym at) ∙ c.lend_at.ensures.value; whole = c.lend_at.ensures.whole },
+    )

@@ -1,0 +1,5 @@
+use Rattle.std.proofs.Common.{rules, refl}
+use Rattle.prefix_trie_map.proofs.map.entry.VacantEntry.default.Goals as goal
+
+pub returns : goal.returns
+returns g c = ((refl, c.insert_with.follows.holds, c.insert_with.follows.holds-at-none), record { writes_back = tt; value = search rules })
