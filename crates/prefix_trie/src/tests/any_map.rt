@@ -37,7 +37,7 @@ fn keep_common<P: Prefix, A: Allocator>(
 {
     // The proof learns from it that each prefix shown to the test fits.
     let _ = map.len();
-    map.retain(|prefix, _| other.contains_key(prefix));
+    map.retain(move |prefix, _| other.contains_key(prefix));
 }
 
 // Sets a key of a tidy map, takes one out, and counts the nodes then.

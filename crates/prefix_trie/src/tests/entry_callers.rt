@@ -1,12 +1,13 @@
 //! Callers of entries, and what they know of the map afterwards.
-ghost use Rattle.std.specs.Prelude.{◌≡◌, ℕ, ◌+◌, ◌-◌, ◌<◌, ◌^◌, IfOk, OnOk, OnErr, None, Some, IsTrue, IsFalse, is_some};
-ghost use Rattle.std.specs.FinMap.{get};
+ghost use Rattle.std.specs.Prelude.{◌≡◌, true, ℕ, ◌+◌, ◌-◌, ◌<◌, ◌^◌, IfOk, OnOk, OnErr, None, Some, IsTrue, IsFalse, is_some};
+ghost use Rattle.std.specs.FinMap.{get, contains_key};
 ghost use Rattle.prefix_trie_bits.specs.Model.Entries.{with_entry, without_entry, put_all};
 ghost use Rattle.prefix_trie_bits.specs.Model.Nodes.{with_needed};
 ghost use Rattle.prefix_trie_bits.specs.Model.Selections.{listing, shown};
 ghost use Rattle.prefix_trie_table.specs.Shape.{with_value_at};
 
 use crate::map::Entry;
+use crate::tests::on_new::{on_new, on_two_new};
 use crate::{Prefix, PrefixMap, Refusal, Refused};
 use std::alloc::{Allocator, Global};
 use std::test::Fail;
@@ -41,6 +42,18 @@ fn store_nine<P: Prefix, A: Allocator>(
     let value = map.entry(prefix).or_insert_with(|| 5)?;
     *value = 9;
     Ok(())
+}
+
+// Writes over a value that is known to be stored, which is not refused.
+fn write_stored<P: Prefix, A: Allocator>(map: &mut PrefixMap<P, u64, A>, prefix: P, value: u64)
+    requires fits { P.IsFitting prefix }
+    requires stored { contains_key map.old.entries (P.path prefix) ≡ true }
+    ensures entries { map.new.entries ≡ with_entry map.old.entries (P.path prefix) value }
+{
+    match map.entry(prefix).or_insert(0) {
+        Ok(lent) => *lent = value,
+        Err(_) => unreachable!(),
+    }
 }
 
 // Takes an entry out, if it is there.
@@ -120,10 +133,20 @@ fn fill_from<P: Prefix, A: Allocator>(
     Ok(())
 }
 
+/// Whether a value that is stored is written over.
+fn writes_stored(map: &mut PrefixMap<(u8, u8), u64, Global>) -> bool {
+    if !map.contains_key(&(0xa5, 8)) {
+        return false;
+    }
+    write_stored(map, (0xa5, 8), 6);
+    map.get(&(0xa5, 8)) == Some(&6)
+}
+
 /// Whether counting, storing and taking out answer so.
-fn counts(map: &mut PrefixMap<(u8, u8), u64, Global>) -> bool {
+fn counts(map: &mut PrefixMap<(u8, u8), u64, Global>, _alloc: Global) -> bool {
     count(map, (0xa5, 8)).is_ok()
         && count(map, (0xa5, 8)).is_ok()
+        && writes_stored(map)
         && rewrite(map, (0xa5, 8), 7)
         && swap(map, (0xa5, 8), 8) == Some(7)
         && store_nine(map, (0xa0, 3)).is_ok()
@@ -136,20 +159,29 @@ fn counts(map: &mut PrefixMap<(u8, u8), u64, Global>) -> bool {
 
 #[test]
 fn entries_are_counted(rt: HostRuntime) -> Result<(), Fail> {
-    let mut map = PrefixMap::new(rt.alloc())?;
-    assert!(rt; counts(&mut map));
+    assert!(rt; on_new(PrefixMap::new(rt.alloc()), rt.alloc(), counts)?);
     Ok(())
+}
+
+type Numbers = PrefixMap<(u16, u8), u64, Global>;
+
+/// Whether a stored number of one map takes the place of that in another.
+fn is_put(from: &mut Numbers, to: &mut Numbers, _alloc: Global) -> bool {
+    from.insert((0x0a00, 8), 9) == Ok(None)
+        && to.insert((0x0a00, 8), 1) == Ok(None)
+        && fill_from(to, from).is_ok()
+        && to.values().copied().eq([9])
 }
 
 #[test]
 fn entries_of_another_map_are_put(rt: HostRuntime) -> Result<(), Fail> {
-    let mut from = PrefixMap::new(rt.alloc())?;
-    let mut to = PrefixMap::new(rt.alloc())?;
     assert!(rt;
-        from.insert((0x0a00_u16, 8_u8), 9) == Ok(None)
-            && to.insert((0x0a00, 8), 1) == Ok(None)
-            && fill_from(&mut to, &from).is_ok()
-            && to.values().copied().eq([9])
+        on_two_new(
+            PrefixMap::new(rt.alloc()),
+            PrefixMap::new(rt.alloc()),
+            rt.alloc(),
+            is_put
+        )?
     );
     Ok(())
 }

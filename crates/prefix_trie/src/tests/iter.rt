@@ -1,11 +1,13 @@
 //! What callers of the walks learn from their contracts.
-ghost use Rattle.std.specs.Prelude.{◌≡◌, map, nat_le, IfOk};
+ghost use Rattle.std.specs.Prelude.{◌≡◌, ◌++◌, ◌∷◌, [], List, map, nat_le, IfOk, MatchOption};
 ghost use Rattle.std.specs.FinMap.{len};
 ghost use Rattle.std.specs.List.{list_all};
 ghost use Rattle.prefix_trie_bits.specs.Model.Selections.{listing, shown};
 
+use crate::map::Iter;
 use crate::tests::on_new::on_new;
 use crate::{Prefix, PrefixMap};
+use prefix_trie_map::laws::resume_laws;
 use std::alloc::{AllocError, Allocator, Global};
 use std::test::Fail;
 
@@ -48,6 +50,23 @@ fn none_below<P: Prefix, A: Allocator>(m: &PrefixMap<P, u32, A>, least: u32) -> 
     true
 }
 
+// Reads the next entry of a walk that has come so far, and goes on behind it by a walk of its own.
+fn resumed<'m, P: Prefix, T: Drop, A: Allocator>(
+    m: &'m PrefixMap<P, T, A>,
+    mut walk: Iter<'m, P, T, A>,
+) -> Option<Iter<'m, P, T, A>>
+    requires { (read : List (P × T)) × (shown P.back (listing m.now.entries) ≡ read ++ walk) }
+    ensures { MatchOption result (walk.entry ≡ []) (λ rest. (last : P × T) × (walk.entry ≡ last ∷ rest)) }
+{
+    resume_laws::<P, T>();
+    // The proof learns from it that the prefix read fits.
+    let _ = m.len();
+    let Some((last, _)) = walk.next() else {
+        return None;
+    };
+    Some(m.iter_from(&last, false))
+}
+
 type Numbers = PrefixMap<(u8, u8), u32, Global>;
 
 /// Stores four numbers, two of them below a key that has the first three bits.
@@ -69,6 +88,14 @@ fn lists_four(map: &Numbers, alloc: Global) -> bool {
     }
 }
 
+/// Whether a walk that is resumed behind the first of four gives the rest.
+fn goes_on(map: &Numbers) -> bool {
+    match resumed(map, map.iter()) {
+        Some(walk) => walk.map(|(_, value)| *value).eq([4, 5, 6]),
+        None => false,
+    }
+}
+
 /// Whether the callers above answer so of the four.
 fn has_four(map: &mut Numbers, alloc: Global) -> bool {
     let answers = [
@@ -78,8 +105,9 @@ fn has_four(map: &mut Numbers, alloc: Global) -> bool {
         none_below(map, 3),
         !none_below(map, 4),
         lists_four(map, alloc),
+        goes_on(map),
     ];
-    answers == [true; 6]
+    answers == [true; 7]
 }
 
 #[test]

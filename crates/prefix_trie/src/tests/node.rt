@@ -171,12 +171,18 @@ const MATCHES: [(u32, u32, Option<u32>, Option<u32>); 5] = [
     (0xd000_0000, 3, None, None),
 ];
 
+/// Whether these are the longest and the shortest match.
+fn is_matched(key: u32, len: u32, longest: Option<u32>, shortest: Option<u32>) -> bool {
+    let bitmap = 1 << 1 | 1 << 4 | 1 << 28;
+    len <= 32
+        && longest_match(bitmap, key, 0, len) == longest
+        && shortest_match(bitmap, key, 0, len) == shortest
+}
+
 #[test]
 fn matches(rt: HostRuntime) {
-    let bitmap = 1 << 1 | 1 << 4 | 1 << 28;
     for (key, len, longest, shortest) in MATCHES {
-        assert!(rt; len <= 32 && longest_match(bitmap, key, 0, len) == longest);
-        assert!(rt; shortest_match(bitmap, key, 0, len) == shortest);
+        assert!(rt; is_matched(key, len, longest, shortest));
     }
 }
 
@@ -212,6 +218,16 @@ fn code_of(place: Place) -> u32 {
     }
 }
 
+/// Whether these are all places that are left.
+fn are_left(mut places: Places, order: &[u32]) -> bool {
+    for code in order {
+        if places.next_place().map(code_of) != Some(*code) {
+            return false;
+        }
+    }
+    places.next_place().is_none()
+}
+
 #[test]
 fn order_of_all_places(rt: HostRuntime) {
     let order = [
@@ -219,11 +235,7 @@ fn order_of_all_places(rt: HostRuntime) {
         20, 110, 111, 10, 21, 112, 113, 22, 114, 115, 2, 5, 11, 23, 116, 117, 24, 118, 119, 12, 25,
         120, 121, 26, 122, 123, 6, 13, 27, 124, 125, 28, 126, 127, 14, 29, 128, 129, 30, 130, 131,
     ];
-    let mut places = Places::new(0x7fff_ffff, 0xffff_ffff);
-    for code in order {
-        assert_eq!(rt; places.next_place().map(code_of), Some(code));
-    }
-    assert_eq!(rt; places.next_place(), None);
+    assert!(rt; are_left(Places::new(0x7fff_ffff, 0xffff_ffff), &order));
 }
 
 #[test]

@@ -13,7 +13,7 @@ pub fn keep_from<P: Prefix, A: Allocator>(m: &mut PrefixMap<P, u64, A>, least: u
     ensures kept { listing m.new.entries ≡ filter (λ e. nat_le least e.1) (listing m.old.entries) }
     ensures nodes { m.new.nodes ≡ needed m.new.entries }
 {
-    m.retain(|_, value| least <= *value);
+    m.retain(move |_, value| least <= *value);
 }
 
 type Numbers = PrefixMap<(u8, u8), u64, Global>;

@@ -24,7 +24,7 @@ pub const IN_LISTING_ORDER: [Line<u32>; 6] = [
 ];
 
 /// Row 8: what comes behind a network, which is stored or not.
-pub const BEHIND_A_NETWORK: [Line<u32>; 9] = [
+pub const BEHIND_A_NETWORK: [Line<u32>; 15] = [
     Insert((0x0a00_0000, 8), 1, Ok(None)),
     Insert((0x0a01_0000, 16), 2, Ok(None)),
     Insert((0x0a02_0000, 16), 3, Ok(None)),
@@ -34,6 +34,13 @@ pub const BEHIND_A_NETWORK: [Line<u32>; 9] = [
     IterFrom((0x0a02_0000, 16), true, 3, &[3, 4, 5]),
     IterFrom((0x0a02_0000, 16), false, 3, &[4, 5, 6]),
     IterFrom((0x0a02_8000, 17), false, 3, &[5, 6]),
+    // Resumed behind each entry, a walk gives the rest.
+    IterFrom((0x0a00_0000, 8), false, 6, &[2, 3, 4, 5, 6]),
+    IterFrom((0x0a01_0000, 16), false, 6, &[3, 4, 5, 6]),
+    IterFrom((0x0a02_0000, 16), false, 6, &[4, 5, 6]),
+    IterFrom((0x0a02_0000, 24), false, 6, &[5, 6]),
+    IterFrom((0x0a03_0000, 16), false, 6, &[6]),
+    IterFrom((0x0a04_0000, 16), false, 6, &[]),
 ];
 
 /// Row 25: the networks that contain one, the shortest first.

@@ -1,4 +1,4 @@
-use Rattle.std.proofs.Common.{subst}
+use Rattle.std.proofs.Common.{rules, subst}
 use Rattle.prefix_trie_table.specs.Shape.{Contents}
 use Rattle.prefix_trie_map.specs.Whole.{IsWhole}
 use Rattle.prefix_trie_map.proofs.map.PrefixMap.len.Goals as goal
@@ -8,3 +8,6 @@ returns-clause-whole g c =
     let room = c.len.ensures.limit in
     subst (λ (m : Contents g.row.T.Denot). IsWhole g.P.R.Key.bit_width m) c.self.view_is
     (record { is_map = c.self.invariant; have_blocks = c.len.ensures.blocks; limit_below = room.0; nodes_within = room.1; cells_within = room.2 })
+
+pub returns-clause-count : goal.returns-clause-count
+returns-clause-count g c = search rules

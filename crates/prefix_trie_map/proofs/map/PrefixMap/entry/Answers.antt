@@ -1,0 +1,5 @@
+use Rattle.std.proofs.Common.{rules}
+use Rattle.prefix_trie_map.proofs.map.PrefixMap.entry.Goals as goal
+
+pub returns-in-Stored-clause-key : goal.returns-in-Stored-clause-key
+returns-in-Stored-clause-key g c = search rules
