@@ -14,3 +14,5 @@ pub mod Entries
 pub mod Occupied
 pub mod Selections
 pub mod Resumed
+pub mod Cloned
+pub mod Writing

@@ -11,3 +11,5 @@ pub mod Walks
 pub mod Lending
 pub mod Entry
 pub mod Resumed
+pub mod Writing
+pub mod WritingWalks

@@ -19,6 +19,7 @@ mod counting;
 mod cover;
 mod cursor;
 pub mod entry;
+mod into_iter;
 mod iter;
 mod lending;
 mod lookup;
@@ -27,8 +28,10 @@ mod removal;
 mod retain;
 mod slots;
 mod visits;
+mod writing;
 
 pub use cover::{Cover, CoverKeys, CoverValues};
+pub use into_iter::{IntoIter, IntoKeys, IntoValues};
 pub use iter::{Iter, Keys, Values};
 use prefix_trie_bits::prefix::{Prefix, Refusal, Refused};
 pub use prefix_trie_table::allocator::block_count::BlockCount;
@@ -36,6 +39,7 @@ use prefix_trie_table::table::Table;
 use std::alloc::Allocator;
 use std::marker::{Model, PhantomData};
 pub use visits::Visits;
+pub use writing::{IterMut, ValuesMut};
 
 /// A map from prefixes to values, in memory of the allocator `A`.
 ///

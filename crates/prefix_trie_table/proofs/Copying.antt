@@ -1,11 +1,10 @@
 -- What contracts see of the copy of a table.
-use Rattle.std.proofs.Common.{◌≡◌, ℕ, ◌+◌, Bool, true, false, cond, ◌&&◌, List, [], ◌∷◌, length, get_or, map, flat_map, Option, None, Some, is_some, is_lt, ◌<◌, ◌≤◌, ◌⊎◌, inl, inr, refl, sym, ap, ap₂, ◌∙◌, subst, arith}
+use Rattle.std.proofs.Common.{◌≡◌, ℕ, ◌+◌, Bool, true, false, cond, List, [], ◌∷◌, length, get_or, map, flat_map, Option, None, Some, is_some, ◌<◌, ◌≤◌, ◌⊎◌, inl, inr, refl, sym, ap, ap₂, ◌∙◌, subst, arith}
 use lib.Dec.{T as IsT}
 use Rattle.std.specs.Option.{unwrap_or}
 use Rattle.std.specs.Ordering.{eq_by_cmp}
 use Rattle.std.specs.List.{AllZip}
 use Rattle.std.specs.FinMap.{get, len, entries, entries_sorted, from_sorted, entries-from_sorted, get-from_sorted, get-entries, len-entries, is_sorted, find}
-use Rattle.std.specs.FinMap.Entries.{below_all}
 use Rattle.std.proofs.lemmas.List.{length-map, get_or_past}
 use Rattle.std.proofs.lemmas.List.Elements.{AllZip-get_or, length_all_zip}
 use Rattle.std.proofs.lemmas.Bool.{false≢true, cases_lt}
@@ -25,6 +24,7 @@ use Rattle.prefix_trie_table.specs.Forest.{SomeTable, CellsHold, read, value_in,
 use Rattle.prefix_trie_table.specs.Shape.{IsShapeOf, Shaped, same_shape}
 use Rattle.prefix_trie_table.specs.Tables.{IsTable}
 use Rattle.prefix_trie_table.proofs.Invariant.{some_table}
+use Rattle.prefix_trie_table.proofs.KeySets.{sorted_mapped}
 use Rattle.prefix_trie_table.proofs.Copies.{read_values, paths_zip, Sound-read}
 use Rattle.prefix_trie_table.proofs.Lending.{seen_of}
 use Rattle.prefix_trie_table.proofs.Shapes.{reads_node, reads_value}
@@ -40,7 +40,7 @@ module _ {T : Type 0} where
   option_pairs R none no_first no_second both (Some x) (Some y) = both x y
 
   -- of two lists whose items are clones, those at each place are
-  clones_at : (C : T → T → Type 0) (R : Option T → Option T → Type 0) → ((x y : Option T) → R x y → IsCloned C x y) → (xs ys : List (Option T)) →
+  pub clones_at : (C : T → T → Type 0) (R : Option T → Option T → Type 0) → ((x y : Option T) → R x y → IsCloned C x y) → (xs ys : List (Option T)) →
       AllZip R xs ys → (i : ℕ) → IsCloned C (get_or xs i None) (get_or ys i None)
   clones_at C R means xs ys z i = at (cases_lt i (length xs))
     where
@@ -70,14 +70,6 @@ module _ {T : Type 0} where
     abbrev put : List Bool × T → List Bool × T
     put e = (e.0, unwrap_or (g e.0) e.1)
 
-    below_put : (k : List Bool) (es : List (List Bool × T)) → below_all listing_cmp k (map put es) ≡ below_all listing_cmp k es
-    below_put k [] = refl
-    below_put k (e ∷ es) = ap (λ b. is_lt (listing_cmp k e.0) && b) (below_put k es)
-
-    sorted_put : (es : List (List Bool × T)) → is_sorted listing_cmp (map put es) ≡ is_sorted listing_cmp es
-    sorted_put [] = refl
-    sorted_put (e ∷ es) = ap₂ (λ a b. a && b) (below_put e.0 es) (sorted_put es)
-
     abbrev found : List Bool → Option T → Option T
     found q None = None
     found q (Some x) = Some (unwrap_or (g q) x)
@@ -95,7 +87,7 @@ module _ {T : Type 0} where
     put_in m = from_sorted (map put (entries m))
 
     sorted_in : (m : Entries T) → IsT (is_sorted listing_cmp (map put (entries m)))
-    sorted_in m = subst (λ b. IsT b) (sym (sorted_put (entries m))) (entries_sorted m)
+    sorted_in m = subst (λ b. IsT b) (sym (sorted_mapped put (λ e. refl) (entries m))) (entries_sorted m)
 
     get_put : (m : Entries T) → ((q : List Bool) → is_some (g q) ≡ is_some (get m q)) → (q : List Bool) → get (put_in m) q ≡ g q
     get_put m there q =
@@ -110,6 +102,21 @@ module _ {T : Type 0} where
     len_put m =
         len-entries (put_in m) ∙ ap (λ es. length es) (entries-from_sorted listing_cmp (map put (entries m)) (sorted_in m))
         ∙ length-map (entries m) put ∙ sym (len-entries m)
+
+-- of two arrays whose items are clones, those of a node are
+module _ {T : Type 0} (C : T → T → Type 0) (xs ys : List (Option T)) (cloned : (i : ℕ) → IsCloned C (get_or xs i None) (get_or ys i None)) where
+  in_cloned : (n : Node) (b : ℕ) → IsCloned C (value_in xs n b) (value_in ys n b)
+  unfolding value_in
+  in_cloned n b = pick (has_bit n.value_bitmap b)
+    where
+      pick : (t : Bool) → IsCloned C (cond t (get_or xs (n.value_block + rank n.value_bitmap b) None) None)
+          (cond t (get_or ys (n.value_block + rank n.value_bitmap b) None) None)
+      pick true = cloned (n.value_block + rank n.value_bitmap b)
+      pick false = refl
+
+  pub cells_cloned : (o : Option Node) (b : ℕ) → IsCloned C (value_of xs o b) (value_of ys o b)
+  cells_cloned None b = refl
+  cells_cloned (Some n) b = in_cloned n b
 
 -- of a table in v and w there is a copy in v2 and w2, whose values are clones
 module _ {T : Type 0} (C : T → T → Type 0) (R : Option T → Option T → Type 0) (means : (x y : Option T) → R x y → IsCloned C x y)
@@ -127,18 +134,8 @@ module _ {T : Type 0} (C : T → T → Type 0) (R : Option T → Option T → Ty
   there : (i : ℕ) → is_some (get_or w2.slots i None) ≡ is_some (get_or w.slots i None)
   there i = cloned_there C (get_or w.slots i None) (get_or w2.slots i None) (cloned i)
 
-  in_cloned : (n : Node) (b : ℕ) → IsCloned C (value_in w.slots n b) (value_in w2.slots n b)
-  unfolding value_in
-  in_cloned n b = pick (has_bit n.value_bitmap b)
-    where
-      pick : (t : Bool) → IsCloned C (cond t (get_or w.slots (n.value_block + rank n.value_bitmap b) None) None)
-          (cond t (get_or w2.slots (n.value_block + rank n.value_bitmap b) None) None)
-      pick true = cloned (n.value_block + rank n.value_bitmap b)
-      pick false = refl
-
   of_cloned : (o : Option Node) (b : ℕ) → IsCloned C (value_of w.slots o b) (value_of w2.slots o b)
-  of_cloned None b = refl
-  of_cloned (Some n) b = in_cloned n b
+  of_cloned = cells_cloned C w.slots w2.slots cloned
 
   abbrev values : List ℕ → ℕ → Option T
   values = read_values w.slots w2.slots long there table.reading table.values

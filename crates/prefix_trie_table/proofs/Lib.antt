@@ -85,3 +85,9 @@ pub mod Housed
 pub mod Stated
 pub mod Selected
 pub mod Cursors
+pub mod KeySets
+pub mod Seats
+pub mod Taking
+pub mod CopiedWalks
+pub mod Trails
+pub mod ToCome

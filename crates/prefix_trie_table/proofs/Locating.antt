@@ -1,19 +1,20 @@
 -- Where the value of a bit string stands, by the nodes in their array.
-use Rattle.std.proofs.Common.{◌≡◌, ℕ, ◌+◌, ◌*◌, ◌<◌, ◌≤◌, Bool, true, false, cond, ◌||◌, nat_eq, List, length, set, take, drop, Option, None, Some, is_some, refl, sym, ap, ap₂, ◌∙◌, arith}
+use Rattle.std.proofs.Common.{◌≡◌, ℕ, ◌+◌, ◌*◌, ◌<◌, ◌≤◌, Bool, true, false, cond, ◌||◌, nat_eq, List, ◌++◌, length, set, take, drop, Option, None, Some, is_some, refl, sym, ap, ap₂, ◌∙◌, arith}
 use Rattle.std.proofs.lemmas.Bool.{false≢true}
 use Rattle.std.proofs.lemmas.List.{get_or-set_same}
 use Rattle.prefix_trie_bits.specs.Places.{has, ones_below, value_bit, Sets}
+use Rattle.prefix_trie_bits.proofs.Strings.{value_bit-small}
 use Rattle.prefix_trie_table.specs.declared.allocator.node.Node.{Node}
 use Rattle.prefix_trie_table.specs.declared.table.seat.Seat.{Seat}
 use Rattle.prefix_trie_table.specs.Bitmaps.{has_bit, rank}
 use Rattle.prefix_trie_table.specs.Cells.{blank_node, node_at, node_sizes, cell_sizes}
 use Rattle.prefix_trie_table.specs.Digits.{path_of, bit_of}
-use Rattle.prefix_trie_table.specs.Forest.{IsSlot, at_root, at_child, NodesHold, CellsHold, ValueSet, with_node, has_value}
+use Rattle.prefix_trie_table.specs.Forest.{read, IsSlot, at_root, at_child, NodesHold, CellsHold, ValueSet, with_node, has_value}
 use Rattle.prefix_trie_table.specs.Locations.{value_seat, seat_in, seat_of}
 use Rattle.prefix_trie_table.specs.Slots.{IsSeat}
 use Rattle.prefix_trie_table.specs.Store.{Store}
 use Rattle.prefix_trie_table.specs.Tables.{IsReached}
-use Rattle.prefix_trie_table.proofs.Bits.{rank-ones, has_bit-sets}
+use Rattle.prefix_trie_table.proofs.Bits.{rank-ones, has_bit-is, has_bit-sets}
 use Rattle.prefix_trie_table.proofs.BitLists.{rank-same}
 use Rattle.prefix_trie_table.proofs.Children.{same_number, other_number, with_here, with_other}
 use Rattle.prefix_trie_table.proofs.Digits.{bit_of-small}
@@ -21,6 +22,7 @@ use Rattle.prefix_trie_table.proofs.Inserting.{few_values}
 use Rattle.prefix_trie_table.proofs.Finding.{reached_own, no_seat_below, no_seat_here, bit_set}
 use Rattle.prefix_trie_table.proofs.Going.{bit-read}
 use Rattle.prefix_trie_table.proofs.Paths.{snoc_not_same}
+use Rattle.prefix_trie_table.proofs.Placing.{below_node}
 use Rattle.prefix_trie_table.proofs.Trees.{reads, slot_holds, is_none-None}
 
 -- a node has a seat where it has a value
@@ -39,7 +41,7 @@ seat_none o b e = is_none-None (seat_in o b) (seat_some o b ∙ e)
 pub seat_there : (n : Node) (b : ℕ) → has_bit n.value_bitmap b ≡ true → seat_in (Some n) b ≡ Some (value_seat n b)
 seat_there n b e = ap (λ t. cond t (Some (value_seat n b)) None) e
 
-seat_slot : (n : Node) (b : ℕ) (t : Bool) (seat : Seat) → cond t (Some (value_seat n b)) None ≡ Some seat →
+pub seat_slot : (n : Node) (b : ℕ) (t : Bool) (seat : Seat) → cond t (Some (value_seat n b)) None ≡ Some seat →
     (t ≡ true) × (seat.start + seat.place ≡ n.value_block + rank n.value_bitmap b)
 seat_slot n b true seat e = (refl, sym (ap slot_of e))
   where
@@ -47,6 +49,16 @@ seat_slot n b true seat e = (refl, sym (ap slot_of e))
     slot_of None = 0
     slot_of (Some s) = s.start + s.place
 seat_slot n b false seat e = absurd (false≢true (ap is_some e))
+
+-- the seat of a string of less than five bits below a node's
+pub seat_below : (nodes : List Node) (level : ℕ) (u s : List Bool) (n : Node) → length u ≡ 5 * level → length s ≤ 4 → read nodes (path_of u) ≡ Some n →
+    has n.value_bitmap (value_bit s) ≡ true → seat_of nodes (u ++ s) ≡ Some (value_seat n (value_bit s))
+unfolding seat_of
+seat_below nodes level u s n long short stands set =
+    let at = below_node level u s long short in
+    let small = value_bit-small s short in
+    ap₂ (λ p r. seat_in (read nodes p) (value_bit r)) at.0 at.1 ∙ ap (λ o. seat_in o (value_bit s)) stands
+    ∙ seat_there n (value_bit s) (has_bit-is n.value_bitmap (value_bit s) (omega (arith, small)) ∙ set)
 
 module _ (v : Store Node) (reading : List ℕ → Option Node) (paths : List (List ℕ)) (hold : NodesHold node_sizes reading paths v) (q : List Bool) where
   -- the seat of a string is that at its own node

@@ -20,12 +20,14 @@ use Rattle.prefix_trie_table.specs.declared.allocator.node.Node.{Node}
 use Rattle.prefix_trie_table.specs.Bitmaps.{has_bit, rank}
 use Rattle.prefix_trie_table.specs.Cells.{node_at}
 use Rattle.prefix_trie_table.specs.Digits.{path_of}
+use Rattle.prefix_trie_table.specs.Locations.{seat_of}
 use Rattle.prefix_trie_table.specs.Store.{Store}
 use Rattle.prefix_trie_table.specs.Forest.{read, child_slot}
 use Rattle.prefix_trie_table.specs.Walks.{Site, Tree, IsSpot, IsPlaceOf, still, GivesSeat, many, most, weight_of, weight}
 use Rattle.prefix_trie_table.specs.Tables.{IsTrie}
 use Rattle.prefix_trie_table.proofs.Plain.{whole_levels}
 use Rattle.prefix_trie_table.proofs.Bits.{rank-ones}
+use Rattle.prefix_trie_table.proofs.Locating.{seat_below}
 use Rattle.prefix_trie_table.proofs.Subtrees.{is_in-value, is_in-child, number-small, stored_value, value_read, value_inside, value_listed, value_fits, child_is, child_inside, child_few, child_fits, all_places}
 
 -- ---- the bound on steps
@@ -172,6 +174,15 @@ module _ {K : Type 0} (IsKey : K → Type 0) (bits : K → List Bool) (width : �
                   filled = filled;
                 };
               }
+
+          -- where the seat is that of its key
+          pub value_seated : (b place : ℕ) → b ≡ value_bit s → place ≡ ones_below b p.node.value_bitmap
+              → seat_of v.slots (take (p.depth + n) (bits key)) ≡ Some (record { start = p.node.value_block; place = place })
+          value_seated b place b_is place_is =
+              let small = value_bit-small s short in
+              ap (seat_of v.slots) taken ∙ seat_below v.slots at.level (take p.depth (bits p.key)) s p.node (string-length ∙ at.depth_is) short at.stands set
+              ∙ ap (λ i. Some (record { start = p.node.value_block; place = i }))
+              (rank-ones p.node.value_bitmap (value_bit s) (omega (arith, small)) ∙ ap (λ k. ones_below k p.node.value_bitmap) (sym b_is) ∙ sym place_is)
 
       -- the next place is that of a child
       module _ (five : length s ≡ 5) where

@@ -11,3 +11,7 @@ module _ {T : Type 0} where
   -- the keys are the same, and the value at each is a clone
   abbrev pub AreCloned : (T → T → Type 0) → Entries T → Entries T → Type 0
   AreCloned is_clone m copy = (q : List Bool) → IsCloned is_clone (get m q) (get copy q)
+
+-- the second pair has the key of the first, and a clone of its value
+abbrev pub IsPairCloned : {K T : Type 0} → (T → T → Type 0) → K × T → K × T → Type 0
+IsPairCloned is_clone x y = (y.0 ≡ x.0) × is_clone x.1 y.1

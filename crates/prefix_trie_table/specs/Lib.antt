@@ -24,3 +24,5 @@ pub mod Removals
 pub mod Retaining
 pub mod Copies
 pub mod Cursors
+pub mod Taking
+pub mod Trails

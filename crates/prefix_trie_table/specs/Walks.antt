@@ -18,6 +18,7 @@ use Rattle.prefix_trie_table.specs.Digits.{path_of}
 use Rattle.prefix_trie_table.specs.Store.{Store}
 use Rattle.prefix_trie_table.specs.Forest.{read}
 use Rattle.prefix_trie_table.specs.Items.{GivesFilled}
+use Rattle.prefix_trie_table.specs.Locations.{seat_of}
 use Rattle.prefix_trie_table.specs.Shape.{Shaped, Shaped-prop}
 use Rattle.prefix_trie_table.specs.Tables.{IsTrie}
 
@@ -126,6 +127,12 @@ module _ {K T : Type 0} (IsKey : K → Type 0) (bits : K → List Bool) (width :
       × (weight (site key c) + weight q < weight p) × IsSpot IsKey bits width v q × (q.depth ≡ p.depth)
       × IsSpot IsKey bits width v (site key c) × (c.depth ≡ p.depth + 5) × (take p.depth (bits key) ≡ take p.depth (bits p.key))
   Steps p Done q = (still bits t.shape.entries p ≡ []) × (0 < weight p)
+
+-- the seat of an entry that a step gave is that of its key
+abbrev pub IsSeated : {K : Type 0} → (K → List Bool) → List Node → Step K → Type 0
+IsSeated bits nodes (Entry key len seat) = seat_of nodes (take len (bits key)) ≡ Some seat
+IsSeated bits nodes (Child c key) = ⊤
+IsSeated bits nodes Done = ⊤
 
 module _ {T : Type 0} where
   -- the one shape that the arrays have, where there are arrays

@@ -19,6 +19,8 @@ mod removal;
 pub mod retain;
 pub mod seat;
 pub mod spot;
+mod taking;
+pub mod trail;
 pub mod walk;
 
 ghost use Rattle.std.specs.Prelude.{◌≡◌, ◌+◌, ◌^◌, ◌<◌, ◌≤◌, cond, take, IfOk, IfErr, IsErr, ◌↔◌, MatchOption, None, Some};
@@ -52,6 +54,7 @@ pub use cover::Cover;
 use prefix_trie_bits::prefix::{Key, Refusal, Refused};
 use std::alloc::Allocator;
 use std::marker::Model;
+pub use taking::IntoWalk;
 pub use walk::Walk;
 
 /// Values by bit strings.

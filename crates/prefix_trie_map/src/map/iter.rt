@@ -150,7 +150,7 @@ impl<'a, P: Prefix, T: Drop, A: Allocator> Iterator for Iter<'a, P, T, A> {
 
 /// The prefix of a key that has zeros behind its length.
 #[inline]
-fn without_host_bits<P: Prefix>(key: P::R, len: u32) -> P
+pub(super) fn without_host_bits<P: Prefix>(key: P::R, len: u32) -> P
     requires key { P.R.IsKey key }
     requires within { len ≤ P.R.bit_width }
     requires filled { P.R.bits key ≡ take len (P.R.bits key) ++ zeros (P.R.bit_width - len) }

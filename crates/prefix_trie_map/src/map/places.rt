@@ -1,5 +1,5 @@
 //! What entries do where a key stands, or where its way ends, without going down again.
-ghost use Rattle.std.specs.Prelude.{◌≡◌, ◌≤◌, take, false, true, None, Some, OnOk, OnErr, IfOk, IfErr};
+ghost use Rattle.std.specs.Prelude.{◌≡◌, ◌≤◌, take, [], false, true, None, Some, IfSome, MatchOption, OnOk, OnErr, IfOk, IfErr};
 ghost use Rattle.std.specs.Borrow.{sem};
 ghost use Rattle.std.specs.FinMap.{get, contains_key, len};
 ghost use Rattle.prefix_trie_bits.specs.Model.Entries.{with_entry, without_entry};
@@ -15,9 +15,11 @@ ghost use Rattle.prefix_trie_map.specs.Whole.{IsWhole};
 use crate::map::{PrefixMap, Visits};
 use prefix_trie_bits::prefix::{Prefix, Refusal, Refused};
 use prefix_trie_table::table::seat::{Location, Seat, WayEnd};
+use prefix_trie_table::table::trail::Trail;
 use std::alloc::Allocator;
 
 impl<P: Prefix, T: Drop, A: Allocator> PrefixMap<P, T, A> {
+    ghost use Rattle.prefix_trie_table.specs.Trails.{IsTrailIn, keys_to_come, GivesKey};
     ghost use Rattle.prefix_trie_map.specs.Lending.{lends_value};
 
     // Where the value of a prefix stands, or where its way ends.
@@ -54,6 +56,20 @@ impl<P: Prefix, T: Drop, A: Allocator> PrefixMap<P, T, A> {
         // The proof learns from it that the map is whole.
         let _ = self.len();
         self.table.at_mut(key, len, seat)
+    }
+
+    // Goes on to the next entry of a walk: its key, the key's length, and where its value stands.
+    #[inline]
+    pub(super) fn step(&self, trail: &mut Trail<P::R>) -> Option<(P::R, u32, Seat)>
+        requires { IsTrailIn P.R.bits P.R.bit_width self.now.build trail.old }
+        ensures stands { IsTrailIn P.R.bits P.R.bit_width self.now.build trail.new }
+        ensures key { MatchOption result
+            ((keys_to_come P.R.bits self.now.entries trail.old ≡ []) × (keys_to_come P.R.bits self.now.entries trail.new ≡ []))
+            (λ r. GivesKey P.R.IsKey P.R.bits P.R.bit_width self.now.build r.0 r.1 r.2
+            (keys_to_come P.R.bits self.now.entries trail.old) (keys_to_come P.R.bits self.now.entries trail.new)) }
+        ensures stored { IfSome result (λ r. contains_key self.now.entries (take r.1 (P.R.bits r.0)) ≡ true) }
+    {
+        self.table.step(trail, &mut Visits::new())
     }
 
     // Obtains all blocks that the insertion of a new prefix lacks, whose way ends here.

@@ -56,7 +56,7 @@ pub fn walk_at<'a, K: Key, T: Drop, A: Allocator, V: Tick>(
 
 /// Goes down the way of a bit string as far as nodes stand, and leaves at each node what is selected there but for what is
 /// below the next node of the way.
-fn start_at<K: Key, T: Drop, A: Allocator, V: Tick>(
+pub(super) fn start_at<K: Key, T: Drop, A: Allocator, V: Tick>(
     nodes: &NodeAllocator<A, V>,
     key: K,
     len: u32,

@@ -1,8 +1,9 @@
 //! The walk that lends the values of a table, in listing order.
-ghost use Rattle.std.specs.Prelude.{◌≡◌, ◌<◌, [], MatchOption};
+ghost use Rattle.std.specs.Prelude.{◌≡◌, ◌<◌, [], Some, IfSome, MatchOption, take};
 ghost use Rattle.std.specs.FinMap.{len};
 ghost use Rattle.prefix_trie_bits.specs.Model.Selections.{listing};
 ghost use Rattle.prefix_trie_bits.specs.Model.Step.{State};
+ghost use Rattle.prefix_trie_table.specs.Locations.{seat_of};
 ghost use Rattle.prefix_trie_table.specs.Shape.{IsShapeOf};
 ghost use Rattle.prefix_trie_table.specs.Tables.{IsTrie};
 ghost use Rattle.prefix_trie_table.specs.Items.{GivesFilled};
@@ -142,6 +143,7 @@ pub fn advance<K: Key, A: Allocator, V: Tick, T: Drop>(
         ((pending K.bits t.shape.entries (sites key.old stack.old.items) ≡ []) × (pending K.bits t.shape.entries (sites key.new stack.new.items) ≡ []))
         (λ r. GivesSeat K.IsKey K.bits K.bit_width t r.0 r.1 r.2
         (pending K.bits t.shape.entries (sites key.old stack.old.items)) (pending K.bits t.shape.entries (sites key.new stack.new.items))) }
+    ensures seat { IfSome result (λ r. seat_of nodes.now.slots (take r.1 (K.bits r.0)) ≡ Some r.2) }
 {
     while let Some(mut spot) = stack.pop() {
         match next_at::<K, A, V, T>(nodes, &mut spot, *key, counter) {

@@ -1,6 +1,6 @@
 use Rattle.std.proofs.Common.{◌≡◌, length, refl, sym, ap, ◌∙◌, arith}
 use Rattle.prefix_trie_bits.specs.BitStrings.{length-digits}
-use Rattle.prefix_trie_table.proofs.Spots.{place-value, place-child, place-small, place-child-small, goes_on, lighter, value_room, gives_value, child_room, child_stands_at, child_without, child_spot, child_still, child_lighter, child_way}
+use Rattle.prefix_trie_table.proofs.Spots.{place-value, place-child, place-small, place-child-small, goes_on, lighter, value_room, gives_value, value_seated, child_room, child_stands_at, child_without, child_spot, child_still, child_lighter, child_way}
 use Rattle.prefix_trie_table.specs.Walks.{site}
 use Rattle.prefix_trie_table.proofs.table.spot.next_at.Goals as goal
 
@@ -25,8 +25,8 @@ extend-requires-clause-within g c =
     let n_is : length taken.string ≡ c.string_of-n.result.0 = ap length (c.string_of-n.ensures.only taken.string (sym is.1)) ∙ length-digits c.string_of-n.result.0 c.string_of-n.result.1 in
     omega (arith, room, n_is)
 
-pub returns-in-Value : goal.returns-in-Value
-returns-in-Value g c =
+pub returns-in-Value-clause-step : goal.returns-in-Value-clause-step
+returns-in-Value-clause-step g c =
     λ t tree.
     let p = site c.args.key c.args.spot.now in
     let at = c.requires.spot in
@@ -38,6 +38,15 @@ returns-in-Value g c =
       goes_on g.K.Key.IsKey g.K.Key.bits g.K.Key.bit_width c.args.nodes.now p at long taken.string c.next_place.new.self taken.first,
       refl,
     )
+
+pub returns-in-Value-clause-seat : goal.returns-in-Value-clause-seat
+returns-in-Value-clause-seat g c =
+    let p = site c.args.key c.args.spot.now in
+    let at = c.requires.spot in
+    let long = g.met.K.Key.key_laws.bits_length p.key at.key in
+    let taken = c.in-Some.ensures.place in
+    let is = place-value taken.string c.in-Value.bit taken.short (sym c.in-Value.is ∙ taken.place) in
+    value_seated g.K.Key.IsKey g.K.Key.bits g.K.Key.bit_width c.args.nodes.now p at long taken.string c.next_place.new.self taken.first c.requires.tree.0 c.requires.tree.1 is.0 c.extend.result c.extend.ensures.key c.string_of-n.result.0 c.string_of-n.result.1 (c.string_of-n.ensures.only taken.string (sym is.1)) c.extend.ensures.value c.in-Value.bit c.rank.result is.1 c.rank.ensures
 
 pub rank-requires-in-Child : goal.rank-requires-in-Child
 rank-requires-in-Child g c =
@@ -76,8 +85,8 @@ enter-requires-clause-few g c =
     let is = place-child taken.string c.in-Child.child taken.short (sym c.in-Child.is ∙ taken.place) in
     child_without g.K.Key.IsKey g.K.Key.bits g.K.Key.bit_width c.args.nodes.now p at long taken.string c.next_place.new.self taken.first c.requires.tree.0 c.requires.tree.1 is.0 c.in-Child.child c.rank-in-Child.result is.1 c.rank-in-Child.ensures
 
-pub returns-in-Child : goal.returns-in-Child
-returns-in-Child g c =
+pub returns-in-Child-clause-step : goal.returns-in-Child-clause-step
+returns-in-Child-clause-step g c =
     λ t tree.
     let p = site c.args.key c.args.spot.now in
     let at = c.requires.spot in

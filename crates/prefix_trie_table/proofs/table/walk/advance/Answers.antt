@@ -20,14 +20,14 @@ push-requires g c =
 
 pub returns-in-Entry-clause-stack : goal.returns-in-Entry-clause-stack
 returns-in-Entry-clause-stack g c =
-    let h = c.in-Entry.ensures c.requires.tree.0 c.requires.tree.1 in
+    let h = c.in-Entry.ensures.step c.requires.tree.0 c.requires.tree.1 in
     subst (IsStack g.K.Key.IsKey g.K.Key.bits g.K.Key.bit_width c.args.nodes.now) (sym (sites-popped c.loop-spot.key _ _ _ c.push.ensures.items))
     (stack-put _ _ _ (sites-popped c.loop-spot.key _ _ _ c.in-Some.ensures.items) g.K.Key.IsKey g.K.Key.bits g.K.Key.bit_width c.args.nodes.now c.loop-spot.invariant.stack (site c.loop-spot.key c.next_at.new.spot) h.3 h.2)
 
 pub returns-in-Entry-clause-entry : goal.returns-in-Entry-clause-entry
 returns-in-Entry-clause-entry g c =
     λ t tree.
-    let h = (c.in-Entry.ensures t tree).0 in
+    let h = (c.in-Entry.ensures.step t tree).0 in
     record {
       value = h.value;
       stands = h.stands;
@@ -50,7 +50,7 @@ push-requires-in-Child g c =
 
 pub push-requires-in-Child-2 : goal.push-requires-in-Child-2
 push-requires-in-Child-2 g c =
-    let h = c.in-Child.ensures c.requires.tree.0 c.requires.tree.1 in
+    let h = c.in-Child.ensures.step c.requires.tree.0 c.requires.tree.1 in
     let room = child-room _ _ _ (sites-popped c.loop-spot.key _ _ _ c.in-Some.ensures.items) g.K.Key.IsKey g.K.Key.bits g.K.Key.bit_width c.args.nodes.now c.loop-spot.invariant.stack (site c.in-Child.below c.in-Child.child) g.met.K.Key.key_laws.at_most_128 h.5 h.4 in
     (omega arith, omega (arith, room, length-map c.pop.new.self.items (site c.loop-spot.key), c.push-in-Child.ensures.len))
 
@@ -60,33 +60,33 @@ pushed all put below q c e f = f ∙ ap (λ ps. ps ++ c ∷ []) e
 
 pub loop-spot-smaller-in-Child : goal.loop-spot-smaller-in-Child
 loop-spot-smaller-in-Child g c =
-    let h = c.in-Child.ensures c.requires.tree.0 c.requires.tree.1 in
+    let h = c.in-Child.ensures.step c.requires.tree.0 c.requires.tree.1 in
     let is = pushed _ _ _ _ _ c.push-in-Child.ensures.items c.push-in-Child-2.ensures.items in
     subst (λ ps. total_weight (sites c.in-Child.below ps) < total_weight (sites c.loop-spot.key c.loop-spot.stack.items)) (sym is)
     (weight-deeper_way g.K.Key.IsKey g.K.Key.bits g.K.Key.bit_width c.args.nodes.now c.loop-spot.key c.in-Child.below c.loop-spot.stack.items c.pop.new.self.items c.in-Some.spot c.next_at.new.spot c.in-Child.child c.in-Some.ensures.items c.loop-spot.invariant.stack h.3 h.2 h.5 h.4 h.6 h.1)
 
 pub loop-spot-preserved-in-Child : goal.loop-spot-preserved-in-Child
 loop-spot-preserved-in-Child g c =
-    let h = c.in-Child.ensures c.requires.tree.0 c.requires.tree.1 in
+    let h = c.in-Child.ensures.step c.requires.tree.0 c.requires.tree.1 in
     let is = pushed _ _ _ _ _ c.push-in-Child.ensures.items c.push-in-Child-2.ensures.items in
     record {
       stack = subst (λ ps. IsStack g.K.Key.IsKey g.K.Key.bits g.K.Key.bit_width c.args.nodes.now (sites c.in-Child.below ps)) (sym is) (stack-child_way g.K.Key.IsKey g.K.Key.bits g.K.Key.bit_width c.args.nodes.now c.loop-spot.key c.in-Child.below c.loop-spot.stack.items c.pop.new.self.items c.in-Some.spot c.next_at.new.spot c.in-Child.child c.in-Some.ensures.items c.loop-spot.invariant.stack h.3 h.2 h.5 h.4 h.6);
       same = λ t tree.
           ap (λ ps. pending g.K.Key.bits t.shape.entries (sites c.in-Child.below ps)) is
-          ∙ pending-child_way g.K.Key.IsKey g.K.Key.bits g.K.Key.bit_width c.args.nodes.now c.loop-spot.key c.in-Child.below c.loop-spot.stack.items c.pop.new.self.items c.in-Some.spot c.next_at.new.spot c.in-Child.child c.in-Some.ensures.items c.loop-spot.invariant.stack h.3 h.2 h.5 h.4 h.6 t.shape.entries (c.in-Child.ensures t tree).0
+          ∙ pending-child_way g.K.Key.IsKey g.K.Key.bits g.K.Key.bit_width c.args.nodes.now c.loop-spot.key c.in-Child.below c.loop-spot.stack.items c.pop.new.self.items c.in-Some.spot c.next_at.new.spot c.in-Child.child c.in-Some.ensures.items c.loop-spot.invariant.stack h.3 h.2 h.5 h.4 h.6 t.shape.entries (c.in-Child.ensures.step t tree).0
           ∙ c.loop-spot.invariant.same t tree;
     }
 
 pub loop-spot-smaller : goal.loop-spot-smaller
 loop-spot-smaller g c =
-    let h = (c.in-Done.ensures c.requires.tree.0 c.requires.tree.1).1 in
+    let h = (c.in-Done.ensures.step c.requires.tree.0 c.requires.tree.1).1 in
     omega (arith, h, weight-popped _ _ _ (sites-popped c.loop-spot.key _ _ _ c.in-Some.ensures.items))
 
 pub loop-spot-preserved : goal.loop-spot-preserved
 loop-spot-preserved g c =
     record {
       stack = stack-popped _ _ _ (sites-popped c.loop-spot.key _ _ _ c.in-Some.ensures.items) g.K.Key.IsKey g.K.Key.bits g.K.Key.bit_width c.args.nodes.now c.loop-spot.invariant.stack;
-      same = λ t tree. pending-done _ _ _ (sites-popped c.loop-spot.key _ _ _ c.in-Some.ensures.items) g.K.Key.bits t.shape.entries (c.in-Done.ensures t tree).0 ∙ c.loop-spot.invariant.same t tree;
+      same = λ t tree. pending-done _ _ _ (sites-popped c.loop-spot.key _ _ _ c.in-Some.ensures.items) g.K.Key.bits t.shape.entries (c.in-Done.ensures.step t tree).0 ∙ c.loop-spot.invariant.same t tree;
     }
 
 no-items : {X : Type 0} (xs : List X) → (0 < length xs → ⊥) → xs ≡ []

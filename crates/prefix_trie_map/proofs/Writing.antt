@@ -1,0 +1,55 @@
+-- What a step of a writing walk says of its first entry, and that a walk that may have no map steps as what it goes over does.
+use Rattle.std.proofs.Common.{◌≡◌, true, ◌∷◌, Option, None, Some, MatchOption, refl, sym, ap, ◌∙◌, subst}
+use Rattle.std.specs.FinMap.{contains_key}
+use Rattle.std.specs.declared.cmp.PartialEq as partial
+use Rattle.std.specs.declared.fmt.Debug as debug
+use Rattle.prefix_trie_bits.specs.declared.prefix.Prefix as prefix
+use Rattle.prefix_trie_bits.specs.declared.prefix.Key as key
+use Rattle.prefix_trie_table.specs.Shape.{with_value_at}
+use Rattle.prefix_trie_table.specs.Trails.{IsTrailIn, IsTrailIn-prop, GivesKey, keys_to_come, trail_sites}
+use Rattle.prefix_trie_table.specs.declared.table.trail.Trail.{Trail}
+use Rattle.prefix_trie_table.proofs.ToCome.{pending_again}
+use Rattle.prefix_trie_map.specs.declared.map.writing.course.Course.{Course}
+use Rattle.prefix_trie_map.specs.declared.map.writing.course.Stop.{Stop}
+use Rattle.prefix_trie_map.specs.Writing.{keys_left, key_at, StopsAt, HasValueAt, with_written, IsFirst, GoesOver}
+use Rattle.prefix_trie_map.specs.WritingWalks.{EndsIn, StepsIn}
+
+module _ {P T A R : Type 0} {p : prefix.Ghosts P R} {shows : debug.Ghosts P} {k : key.Ghosts R} {same : partial.Ghosts R} {writes : debug.Ghosts R}
+    (c : Course P T A R p shows k same writes) (trail : Trail R) (stands : IsTrailIn k.bits k.bit_width c.map.now.build trail) (stop : Stop R)
+    (gives : GivesKey k.IsKey k.bits k.bit_width c.map.now.build stop.key stop.len stop.seat (keys_left c) (keys_to_come k.bits c.map.now.entries trail)) where
+  -- the course, gone on along this trail
+  abbrev gone : Course P T A R p shows k same writes
+  gone = record { map = c.map; trail = trail; stands = stands }
+
+  pub stops_there : StopsAt gone stop
+  stops_there = record { is_key = gives.is_key; short = gives.short; seated = gives.seated }
+
+  pub first_there : (q : P) → q ≡ p.back (key_at gone stop) → (value : T) → HasValueAt gone stop value → IsFirst c q value
+  first_there q is value holds = (key_at gone stop, keys_left gone, gives.first, is, holds)
+
+  pub goes_over : contains_key c.map.now.entries (key_at gone stop) ≡ true → (value : T) → GoesOver c value (with_written gone stop value)
+  goes_over stored value = record {
+    key = key_at gone stop;
+    first = gives.first ∙ ap (λ ks. key_at gone stop ∷ ks) (sym (pending_again c.map.now.entries (key_at gone stop) value stored k.bits (trail_sites trail)));
+    stored = stored;
+    map = refl;
+  }
+
+-- a value written at a stop leaves the course as it was, but for the map
+pub written_there : {P T A R : Type 0} {p : prefix.Ghosts P R} {shows : debug.Ghosts P} {k : key.Ghosts R} {same : partial.Ghosts R} {writes : debug.Ghosts R}
+    (c : Course P T A R p shows k same writes) (stop : Stop R) (w : T) (stands : IsTrailIn k.bits k.bit_width c.map.now.build c.trail) →
+    record { map = record c.map { now = with_value_at c.map.now (key_at c stop) w }; trail = c.trail; stands = stands } ≡ with_written c stop w
+written_there {k = k} c stop w stands = λ i. record {
+  map = record c.map { now = with_value_at c.map.now (key_at c stop) w };
+  trail = c.trail;
+  stands = IsTrailIn-prop k.bits k.bit_width c.map.now.build c.trail stands c.stands i;
+}
+
+-- a step of what it goes over is one of the walk
+pub stepped : {C Q V S : Type 0} (IsAt : C → S → Type 0) (Holds : C → S → V → Type 0) (with : C → S → V → C) (First : C → Q → V → Type 0) (Passes : C → V → C → Type 0) (Ends : C → C → Type 0)
+    (o : Option C) (a b : C) → o ≡ Some a → (r : Option (Q × S)) →
+    MatchOption r (Ends a b) (λ x. IsAt b x.1 × ((v : V) → Holds b x.1 v → First a x.0 v) × ((v : V) → Passes a v (with b x.1 v))) →
+    MatchOption r (EndsIn Ends o (Some b)) (λ x. StepsIn IsAt Holds with First Passes o x.0 x.1 (Some b))
+stepped IsAt Holds with First Passes Ends o a b is None h = subst (λ p. EndsIn Ends p (Some b)) (sym is) h
+stepped IsAt Holds with First Passes Ends o a b is (Some x) h =
+    subst (λ p. StepsIn IsAt Holds with First Passes p x.0 x.1 (Some b)) (sym is) (record { is_at = h.0; first = h.1; passes = h.2 })

@@ -1,0 +1,25 @@
+use Rattle.std.proofs.Common.{rules, ◌≡◌, ◌<◌, ◌^◌, ◌∙◌, length, sym, ap}
+use Rattle.std.proofs.lemmas.List.{length-map}
+use Rattle.std.specs.FinMap.{len, len-entries}
+use Rattle.prefix_trie_bits.specs.Model.Selections.{listing, shown}
+use Rattle.prefix_trie_table.specs.Shape.{Contents}
+use Rattle.prefix_trie_map.specs.Whole.{IsWhole}
+use Rattle.prefix_trie_map.proofs.Runs.{gives_in_order}
+use Rattle.prefix_trie_map.proofs.map.into_iter.PrefixMapIntoIterator.into_iter.Goals as goal
+
+pub returns : goal.returns
+returns g c =
+    let items : c.over.result ≡ shown g.P.Prefix.back (listing c.args.self.entries) =
+    c.over.ensures
+    ∙ ap (shown g.P.Prefix.back) (c.into_walk-walk.ensures ∙ ap (λ (s : Contents g.row.T.Denot). listing s.entries) c.self.view_is) in
+    let below : len c.args.self.entries < 2 ^ 64 = search rules in
+    let whole : IsWhole g.P.R.Key.bit_width c.args.self = search rules in
+    record {
+      into_iter_gives = (
+        items,
+        ap length items ∙ length-map (listing c.args.self.entries) (λ e. (g.P.Prefix.back e.0, e.1)) ∙ sym (len-entries c.args.self.entries),
+        below,
+        gives_in_order,
+        whole,
+      );
+    }

@@ -1,0 +1,65 @@
+-- What a writing walk has still to come, what a write through it leaves, and what it ends as. This project's own.
+use Rattle.std.specs.Prelude.{◌≡◌, ◌≤◌, Bool, true, List, [], ◌∷◌, take, Option, None, Some}
+use Rattle.std.specs.Borrow.{MutBor}
+use Rattle.std.specs.FinMap.{get, contains_key}
+use Rattle.std.specs.declared.cmp.PartialEq as partial
+use Rattle.std.specs.declared.fmt.Debug as debug
+use Rattle.prefix_trie_bits.specs.declared.prefix.Prefix as prefix
+use Rattle.prefix_trie_bits.specs.declared.prefix.Key as key
+use Rattle.prefix_trie_table.specs.Locations.{seat_of}
+use Rattle.prefix_trie_table.specs.Shape.{Contents, with_value_at}
+use Rattle.prefix_trie_table.specs.Trails.{keys_to_come}
+use Rattle.prefix_trie_map.specs.declared.map.writing.course.Course.{Course}
+use Rattle.prefix_trie_map.specs.declared.map.writing.course.Stop.{Stop}
+
+module _ {P T A R : Type 0} {p : prefix.Ghosts P R} {shows : debug.Ghosts P} {k : key.Ghosts R} {same : partial.Ghosts R} {writes : debug.Ghosts R} where
+  -- the keys still to come
+  abbrev pub keys_left : Course P T A R p shows k same writes → List (List Bool)
+  keys_left c = keys_to_come k.bits c.map.now.entries c.trail
+
+  -- the key of a stop
+  abbrev pub key_at : Course P T A R p shows k same writes → Stop R → List Bool
+  key_at c stop = take stop.len (k.bits stop.key)
+
+  -- its value stands there
+  pub record StopsAt (c : Course P T A R p shows k same writes) (stop : Stop R) : Type 0 where
+    pub is_key : k.IsKey stop.key
+    pub short : stop.len ≤ k.bit_width
+    pub seated : seat_of c.map.now.build (key_at c stop) ≡ Some stop.seat
+
+  -- the value at a stop
+  abbrev pub HasValueAt : Course P T A R p shows k same writes → Stop R → T → Type 0
+  HasValueAt c stop value = get c.map.now.entries (key_at c stop) ≡ Some value
+
+  -- the walk, once a value is written at a stop
+  abbrev pub with_written : Course P T A R p shows k same writes → Stop R → T → Course P T A R p shows k same writes
+  with_written c stop value = record c { map = record c.map { now = with_value_at c.map.now (key_at c stop) value } }
+
+  -- the first entry still to come is of this prefix, and has this value
+  abbrev pub IsFirst : Course P T A R p shows k same writes → P → T → Type 0
+  IsFirst c q value =
+      (s : List Bool) × (rest : List (List Bool)) × (keys_left c ≡ s ∷ rest) × (q ≡ p.back s) × (get c.map.now.entries s ≡ Some value)
+
+  -- the walk has gone on over its first entry, at which this value was left: the map has it there, and is else as it was
+  pub record GoesOver (c : Course P T A R p shows k same writes) (value : T) (n : Course P T A R p shows k same writes) : Type 0 where
+    pub key : List Bool
+    pub first : keys_left c ≡ key ∷ keys_left n
+    pub stored : contains_key c.map.now.entries key ≡ true
+    pub map : n.map ≡ record c.map { now = with_value_at c.map.now key value }
+
+  -- nothing was to come and nothing is, and the map is as it was
+  pub record ComesToEnd (c n : Course P T A R p shows k same writes) : Type 0 where
+    pub before : keys_left c ≡ []
+    pub after : keys_left n ≡ []
+    pub map : n.map ≡ c.map
+
+  -- a walk over this map, at its start, with these keys to come
+  pub record StartsOver (m : MutBor (Contents T)) (keys : List (List Bool)) (c : Course P T A R p shows k same writes) : Type 0 where
+    pub same_map : c.map.ghost_name ≡ m.ghost_name
+    pub map : c.map.now ≡ m.now
+    pub to_come : keys_left c ≡ keys
+
+  -- the same of a walk that may have no map
+  abbrev pub StartsIn : MutBor (Contents T) → List (List Bool) → Option (Course P T A R p shows k same writes) → Type 0
+  StartsIn m keys None = ⊥
+  StartsIn m keys (Some c) = StartsOver m keys c

@@ -1,0 +1,258 @@
+//! The walks that take a map apart, in listing order: they move its values out. Contracts see each as the list of the items
+//! still to come.
+ghost use Rattle.std.specs.Prelude.{◌≡◌, ◌<◌, ◌^◌, IfOk, map, length};
+ghost use Rattle.std.specs.FinMap.{len};
+ghost use Rattle.std.specs.Iterator.{at_most};
+ghost use Rattle.std.specs.List.{AllZip};
+ghost use Rattle.std.specs.Map.Iter.{TakesFirst, GivesInOrder};
+ghost use Rattle.prefix_trie_bits.specs.Model.Selections.{listing, listing_below, shown};
+ghost use Rattle.prefix_trie_table.specs.Copies.{IsPairCloned};
+ghost use Rattle.prefix_trie_map.specs.Whole.{IsWhole};
+
+use crate::map::iter::without_host_bits;
+use crate::map::{PrefixMap, Visits};
+use prefix_trie_bits::prefix::Prefix;
+use prefix_trie_table::table::IntoWalk;
+use std::alloc::{AllocError, Allocator};
+use std::iter::IntoIterator;
+use std::marker::{Model, PhantomData};
+
+impl<P: Prefix, T: Drop, A: Allocator> PrefixMap<P, T, A> {
+    /// The entries whose prefixes this one contains, its own among them, in the order of `iter`, with their values moved out:
+    /// those of `children`. The other values are dropped with the walk.
+    ///
+    /// ```text
+    /// 10.0.0.0/8, 10.1.0.0/16, 10.1.1.0/24 and 10.2.0.0/16 are stored with 1, 2, 3 and 4
+    /// map.into_children(&10.1.0.0/16)    gives (10.1.0.0/16, 2) and (10.1.1.0/24, 3)
+    /// ```
+    #[inline]
+    pub fn into_children(self, prefix: &P) -> IntoIter<P, T, A>
+        requires { P.IsFitting prefix.now }
+        ensures items { result ≡ shown P.back (listing_below self.entries (P.path prefix.now)) }
+        ensures fits { length result < 2 ^ 64 }
+        ensures runs { GivesInOrder (P × T) }
+        ensures whole { IsWhole P.R.bit_width self }
+    {
+        // The proof learns from it that the number of entries fits, and that the map is whole.
+        let _ = self.len();
+        let len = u32::from(prefix.prefix_len());
+        let walk = self
+            .table
+            .into_walk_below(prefix.repr(), len, &mut Visits::new());
+        IntoIter::over(walk)
+    }
+
+    /// The prefixes in the order of `iter`, without host bits. The values are dropped, each as its prefix is given, and the rest
+    /// with the walk.
+    #[inline]
+    pub fn into_keys(self) -> IntoKeys<P, T, A>
+        ensures items { result ≡ map (λ e. P.back e.0) (listing self.entries) }
+        ensures counted { length result ≡ len self.entries }
+        ensures fits { len self.entries < 2 ^ 64 }
+        ensures runs { GivesInOrder P }
+        ensures whole { IsWhole P.R.bit_width self }
+    {
+        IntoKeys::new(self.into_iter())
+    }
+
+    /// The values, moved out in the listing order of their prefixes.
+    #[inline]
+    pub fn into_values(self) -> IntoValues<P, T, A>
+        ensures items { result ≡ map (λ e. e.1) (listing self.entries) }
+        ensures counted { length result ≡ len self.entries }
+        ensures fits { len self.entries < 2 ^ 64 }
+        ensures runs { GivesInOrder T }
+        ensures whole { IsWhole P.R.bit_width self }
+    {
+        IntoValues::new(self.into_iter())
+    }
+}
+
+impl<P: Prefix, T: Drop, A: Allocator> IntoIterator for PrefixMap<P, T, A> {
+    type Item = (P, T);
+
+    type IntoIter = IntoIter<P, T, A>;
+
+    ghost into_iter_gives = { λ s it. (it ≡ shown P.back (listing s.entries)) × (length it ≡ len s.entries) × (len s.entries < 2 ^ 64) × GivesInOrder (P × T) × IsWhole P.R.bit_width s };
+
+    #[inline]
+    fn into_iter(self) -> IntoIter<P, T, A> {
+        // The proof learns from it that the number of entries fits, and that the map is whole.
+        let _ = self.len();
+        let walk = self.table.into_walk(&mut Visits::new());
+        IntoIter::over(walk)
+    }
+}
+
+/// The entries of a map in listing order: each prefix, without host bits, with its value, which is moved out.
+///
+/// A prefix comes before those that it contains, and of two that differ in a bit the one with 0 first. The walk takes no
+/// memory, and after its last item it answers `None` each time. What it has not given is dropped with it.
+///
+/// ```text
+/// 10.0.0.0/8, 10.1.0.0/16 and 9.0.0.0/8 are stored with 1, 2 and 3
+/// for (prefix, value) in map {}    goes over (9.0.0.0/8, 3), (10.0.0.0/8, 1) and (10.1.0.0/16, 2)
+/// ```
+#[derive(Drop)]
+pub struct IntoIter<P: Prefix, T: Drop, A: Allocator> {
+    walk: IntoWalk<P::R, T, A, Visits>,
+    marker: PhantomData<P>,
+}
+
+impl<P: Prefix, T: Drop, A: Allocator> Model for IntoIter<P, T, A> {
+    ghost use Rattle.std.specs.Prelude.{List};
+    ghost use Rattle.prefix_trie_bits.specs.Model.Selections.{shown};
+
+    ghost Value = { List (P × T) };
+
+    ghost view = { λ it. shown P.back it.walk };
+}
+
+impl<P: Prefix, T: Drop, A: Allocator> IntoIter<P, T, A> {
+    /// The walk of a table, by prefixes.
+    #[inline]
+    fn over(walk: IntoWalk<P::R, T, A, Visits>) -> Self
+        ensures { result ≡ shown P.back walk }
+    {
+        IntoIter {
+            walk,
+            marker: PhantomData,
+        }
+    }
+}
+
+impl<P: Prefix, T: Clone, A: Allocator + Clone> IntoIter<P, T, A> {
+    /// A walk with the same prefixes to come, whose values are clones, in memory of its own. Refused only where memory is, for
+    /// the arrays or for a value; then no copy exists.
+    pub fn clone(&self) -> Result<Self, AllocError>
+        ensures items { IfOk result (λ copy. AllZip (IsPairCloned T.is_clone) self.now copy) }
+
+        // Where a clone of a value equals it, the same items are to come.
+        ensures same { IfOk result (λ copy. ((x y : T) → T.is_clone x y → y ≡ x) → copy ≡ self.now) }
+    {
+        let walk = self.walk.clone()?;
+        Ok(IntoIter {
+            walk,
+            marker: PhantomData,
+        })
+    }
+}
+
+impl<P: Prefix, T: Drop, A: Allocator> Iterator for IntoIter<P, T, A> {
+    type Item = (P, T);
+
+    ghost next_gives = { TakesFirst (λ item. item) };
+
+    ghost remaining = { λ items. at_most (length items) };
+
+    #[inline]
+    fn next(&mut self) -> Option<(P, T)> {
+        let Some((key, len, value)) = self.walk.next(&mut Visits::new()) else {
+            return None;
+        };
+        Some((without_host_bits(key, len), value))
+    }
+}
+
+/// The prefixes of a map in listing order, without host bits. The values are dropped.
+#[derive(Drop)]
+pub struct IntoKeys<P: Prefix, T: Drop, A: Allocator> {
+    inner: IntoIter<P, T, A>,
+}
+
+impl<P: Prefix, T: Drop, A: Allocator> Model for IntoKeys<P, T, A> {
+    ghost use Rattle.std.specs.Prelude.{List, map};
+
+    ghost Value = { List P };
+
+    ghost view = { λ it. map (λ e. e.0) it.inner };
+}
+
+impl<P: Prefix, T: Drop, A: Allocator> IntoKeys<P, T, A> {
+    /// The prefixes of a walk.
+    #[inline]
+    fn new(inner: IntoIter<P, T, A>) -> Self
+        ensures { result ≡ map (λ e. e.0) inner }
+    {
+        IntoKeys { inner }
+    }
+}
+
+impl<P: Prefix, T: Clone, A: Allocator + Clone> IntoKeys<P, T, A> {
+    /// A walk with the same prefixes to come. It clones the values still there; refused as `IntoIter::clone`.
+    pub fn clone(&self) -> Result<Self, AllocError>
+        ensures { IfOk result (λ copy. copy ≡ self.now) }
+    {
+        let inner = self.inner.clone()?;
+        Ok(IntoKeys { inner })
+    }
+}
+
+impl<P: Prefix, T: Drop, A: Allocator> Iterator for IntoKeys<P, T, A> {
+    type Item = P;
+
+    ghost next_gives = { TakesFirst (λ p. p) };
+
+    ghost remaining = { λ items. at_most (length items) };
+
+    #[inline]
+    fn next(&mut self) -> Option<P> {
+        let Some((prefix, _)) = self.inner.next() else {
+            return None;
+        };
+        Some(prefix)
+    }
+}
+
+/// The values of a map, moved out in the listing order of their prefixes.
+#[derive(Drop)]
+pub struct IntoValues<P: Prefix, T: Drop, A: Allocator> {
+    inner: IntoIter<P, T, A>,
+}
+
+impl<P: Prefix, T: Drop, A: Allocator> Model for IntoValues<P, T, A> {
+    ghost use Rattle.std.specs.Prelude.{List, map};
+
+    ghost Value = { List T };
+
+    ghost view = { λ it. map (λ e. e.1) it.inner };
+}
+
+impl<P: Prefix, T: Drop, A: Allocator> IntoValues<P, T, A> {
+    /// The values of a walk.
+    #[inline]
+    fn new(inner: IntoIter<P, T, A>) -> Self
+        ensures { result ≡ map (λ e. e.1) inner }
+    {
+        IntoValues { inner }
+    }
+}
+
+impl<P: Prefix, T: Clone, A: Allocator + Clone> IntoValues<P, T, A> {
+    /// A walk with clones of the same values to come, in memory of its own. Refused as `IntoIter::clone`.
+    pub fn clone(&self) -> Result<Self, AllocError>
+        ensures items { IfOk result (λ copy. AllZip T.is_clone self.now copy) }
+
+        // Where a clone of a value equals it, the same values are to come.
+        ensures same { IfOk result (λ copy. ((x y : T) → T.is_clone x y → y ≡ x) → copy ≡ self.now) }
+    {
+        let inner = self.inner.clone()?;
+        Ok(IntoValues { inner })
+    }
+}
+
+impl<P: Prefix, T: Drop, A: Allocator> Iterator for IntoValues<P, T, A> {
+    type Item = T;
+
+    ghost next_gives = { TakesFirst (λ v. v) };
+
+    ghost remaining = { λ items. at_most (length items) };
+
+    #[inline]
+    fn next(&mut self) -> Option<T> {
+        let Some((_, value)) = self.inner.next() else {
+            return None;
+        };
+        Some(value)
+    }
+}

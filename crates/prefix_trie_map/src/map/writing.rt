@@ -1,0 +1,164 @@
+//! Walks that lend a map's values for writing, each until the next call.
+//!
+//! Which value comes next depends on the nodes alone, which no write changes. So a walk gives the entries that were selected when it
+//! was made, in listing order, each once, and asks for no memory.
+ghost use Rattle.std.specs.Prelude.{◌≡◌, IfSome, IfNone, None, MatchOption};
+ghost use Rattle.std.specs.Borrow.{sem, Lends};
+
+mod calls;
+mod course;
+
+pub use course::Course;
+
+/// What a walk goes over, and lends the values of.
+pub trait Source: Sized {
+    type Prefix: Drop;
+
+    type Value;
+
+    type Stop: Drop;
+
+    // the source stands at this stop
+    ghost IsAt: { Self → Self.Stop → Type 0 };
+
+    // the source with a value written at a stop
+    ghost with: { Self → Self.Stop → Self.Value → Self };
+
+    // the value at a stop
+    ghost Holds: { Self → Self.Stop → Self.Value → Type 0 };
+
+    // the first entry still to come
+    ghost First: { Self → Self.Prefix → Self.Value → Type 0 };
+
+    // the second is the first gone on over one entry, at which this value was left
+    ghost Passes: { Self → Self.Value → Self → Type 0 };
+
+    // nothing was to come, nothing is, and nothing was written
+    ghost Ends: { Self → Self → Type 0 };
+
+    fn step(&mut self) -> Option<(Self::Prefix, Self::Stop)>
+        ensures { MatchOption result (Ends self.old self.new) (λ r. IsAt self.new r.1
+            × ((value : Self.Value) → Holds self.new r.1 value → First self.old r.0 value)
+            × ((value : Self.Value) → Passes self.old value (with self.new r.1 value))) };
+
+    fn lend(&mut self, stop: Self::Stop) -> &mut Self::Value
+        requires { IsAt self.old stop }
+        ensures* writes_back { sem 𝓛 (Lends Self.row Self.Value.row self.entry result (with self.old stop)) }
+        ensures value { Holds self.old stop result.now };
+}
+
+/// A walk that lends values for writing. Its default is the empty one, which has no map.
+#[derive(Drop)]
+pub struct WalkOf<C> {
+    course: Option<C>,
+}
+
+impl<C> Default for WalkOf<C> {
+    ghost is_default = { λ w. w.course ≡ None };
+
+    #[inline]
+    fn default() -> Self {
+        WalkOf { course: None }
+    }
+}
+
+impl<C: Source> WalkOf<C> {
+    ghost use Rattle.prefix_trie_map.specs.WritingWalks.{AtIn, HoldsIn, FirstIn, EndsIn, StepsIn, lends_stop, lends_next};
+
+    /// Goes on to the next entry, and answers its prefix and where its value stands: `value` lends it.
+    #[inline]
+    pub fn step(&mut self) -> Option<(C::Prefix, C::Stop)>
+        ensures { MatchOption result (EndsIn C.Ends self.old.course self.new.course)
+            (λ r. StepsIn C.IsAt C.Holds C.with C.First C.Passes self.old.course r.0 r.1 self.new.course) }
+    {
+        match &mut self.course {
+            Some(course) => course.step(),
+            None => None,
+        }
+    }
+
+    /// The value at a stop of this walk, for writing.
+    #[inline]
+    pub fn value(&mut self, stop: C::Stop) -> &mut C::Value
+        requires { AtIn C.IsAt self.old.course stop }
+        ensures* writes_back { sem 𝓛 (lends_stop C.row C.Value.row self.entry C.with stop result) }
+        ensures value { HoldsIn C.Holds self.old.course stop result.now }
+    {
+        match &mut self.course {
+            Some(course) => course.lend(stop),
+            None => unreachable!(),
+        }
+    }
+
+    /// The next value, lent until the next call.
+    #[inline]
+    pub fn next_value(&mut self) -> Option<&mut C::Value>
+        ensures* writes_back { sem 𝓛 (lends_next C.row C.Value.row self.entry C.Passes C.Ends result) }
+        ensures value { IfSome result (λ x. (q : C.Prefix) × FirstIn C.First self.old.course q x.now) }
+    {
+        let (_, stop) = self.step()?;
+        Some(self.value(stop))
+    }
+
+    /// The next entry: its prefix, without host bits, and its value, lent until the next call. What was written a caller's proof learns
+    /// from `step` with `value`, or from `next_value`.
+    #[inline]
+    pub fn next(&mut self) -> Option<(C::Prefix, &mut C::Value)>
+        ensures { IfSome result (λ r. FirstIn C.First self.old.course r.0 r.1.now) }
+    {
+        let (prefix, stop) = self.step()?;
+        Some((prefix, self.value(stop)))
+    }
+
+    /// Ends the walk, and hands the map back if it has one. Then a caller's proof knows the map, with what was written.
+    #[inline]
+    pub fn end(self) -> Option<C>
+        ensures { result ≡ self.course }
+    {
+        self.course
+    }
+}
+
+/// A walk that lends the values alone. Its default is the empty one.
+#[derive(Drop)]
+pub struct ValuesOf<C> {
+    walk: WalkOf<C>,
+}
+
+impl<C> Default for ValuesOf<C> {
+    ghost is_default = { λ w. w.walk.course ≡ None };
+
+    #[inline]
+    fn default() -> Self {
+        ValuesOf {
+            walk: WalkOf::default(),
+        }
+    }
+}
+
+impl<C: Source> ValuesOf<C> {
+    ghost use Rattle.prefix_trie_map.specs.WritingWalks.{FirstIn, lends_next_value};
+
+    /// The next value, lent until the next call.
+    #[inline]
+    pub fn next(&mut self) -> Option<&mut C::Value>
+        ensures* writes_back { sem 𝓛 (lends_next_value C.row C.Value.row self.entry C.Passes C.Ends result) }
+        ensures value { IfSome result (λ x. (q : C.Prefix) × FirstIn C.First self.old.walk.course q x.now) }
+    {
+        self.walk.next_value()
+    }
+
+    /// Ends the walk, and hands the map back if it has one. Then a caller's proof knows the map, with what was written.
+    #[inline]
+    pub fn end(self) -> Option<C>
+        ensures { result ≡ self.walk.course }
+    {
+        self.walk.end()
+    }
+}
+
+/// The entries of a map in listing order: each prefix, without host bits, with its value lent for writing until the next call.
+pub type IterMut<'a, P, T, A> = WalkOf<Course<'a, P, T, A>>;
+
+/// The values of a map, in the listing order of their prefixes, lent for writing, each until the next call.
+pub type ValuesMut<'a, P, T, A> = ValuesOf<Course<'a, P, T, A>>;

@@ -1,0 +1,82 @@
+//! The calls that make walks for writing.
+ghost use Rattle.std.specs.Prelude.{◌≡◌, ◌≤◌, cond, map, take};
+ghost use Rattle.prefix_trie_bits.specs.Model.Selections.{listing, listing_from, listing_after, listing_below};
+ghost use Rattle.prefix_trie_table.specs.Cursors.{selected};
+ghost use Rattle.prefix_trie_map.specs.Whole.{IsWhole};
+
+use crate::map::writing::{Course, IterMut, ValuesMut, ValuesOf, WalkOf};
+use crate::map::{PrefixMap, Visits};
+use prefix_trie_bits::prefix::{Key, Prefix};
+use prefix_trie_table::table::cursor::Start;
+use std::alloc::Allocator;
+
+impl<P: Prefix, T: Drop, A: Allocator> PrefixMap<P, T, A> {
+    ghost use Rattle.prefix_trie_map.specs.Writing.{StartsIn};
+
+    /// The entries, as `iter` gives them, with their values lent for writing, each until the next call. Writing changes nothing but the
+    /// value there, and the walk goes on as if nothing were written.
+    ///
+    /// ```text
+    /// 10.0.0.0/8 and 10.1.0.0/16 are stored with 1 and 2
+    /// let mut walk = map.iter_mut();
+    /// while let Some((prefix, value)) = walk.next() { *value += 1; }
+    /// map.get(&10.1.0.0/16)                                             Some(&3)
+    /// ```
+    #[inline]
+    pub fn iter_mut(&mut self) -> IterMut<'_, P, T, A>
+        ensures starts { StartsIn self.entry (map (λ e. e.0) (listing self.old.entries)) result.course }
+        ensures whole { IsWhole P.R.bit_width self.old }
+    {
+        self.write_from(P::R::zero(), 0, Start::Below)
+    }
+
+    /// The entries that `iter_from` gives, with their values lent for writing.
+    #[inline]
+    pub fn iter_from_mut(&mut self, prefix: &P, inclusive: bool) -> IterMut<'_, P, T, A>
+        requires { P.IsFitting prefix.now }
+        ensures starts { StartsIn self.entry (map (λ e. e.0) (cond inclusive
+            (listing_from self.old.entries (P.path prefix.now))
+            (listing_after self.old.entries (P.path prefix.now)))) result.course }
+        ensures whole { IsWhole P.R.bit_width self.old }
+    {
+        let from = if inclusive { Start::At } else { Start::After };
+        self.write_from(prefix.repr(), u32::from(prefix.prefix_len()), from)
+    }
+
+    /// The entries that `children` gives, with their values lent for writing.
+    #[inline]
+    pub fn children_mut(&mut self, prefix: &P) -> IterMut<'_, P, T, A>
+        requires { P.IsFitting prefix.now }
+        ensures starts { StartsIn self.entry (map (λ e. e.0) (listing_below self.old.entries (P.path prefix.now))) result.course }
+        ensures whole { IsWhole P.R.bit_width self.old }
+    {
+        self.write_from(prefix.repr(), u32::from(prefix.prefix_len()), Start::Below)
+    }
+
+    /// The values, as `values` gives them, lent for writing, each until the next call.
+    #[inline]
+    pub fn values_mut(&mut self) -> ValuesMut<'_, P, T, A>
+        ensures starts { StartsIn self.entry (map (λ e. e.0) (listing self.old.entries)) result.walk.course }
+        ensures whole { IsWhole P.R.bit_width self.old }
+    {
+        let walk = self.iter_mut();
+        ValuesOf { walk }
+    }
+
+    // The walk of a selection.
+    #[inline]
+    fn write_from(&mut self, key: P::R, len: u32, from: Start) -> IterMut<'_, P, T, A>
+        requires key { P.R.IsKey key }
+        requires within { len ≤ P.R.bit_width }
+        ensures starts { StartsIn self.entry (map (λ e. e.0) (selected from self.old.entries (take len (P.R.bits key)))) result.course }
+        ensures whole { IsWhole P.R.bit_width self.old }
+    {
+        // The proof learns from it that the map is whole.
+        let _ = self.len();
+        let trail = self.table.trail(key, len, from, &mut Visits::new());
+        let course = Course { map: self, trail };
+        WalkOf {
+            course: Some(course),
+        }
+    }
+}

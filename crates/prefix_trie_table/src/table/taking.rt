@@ -1,0 +1,147 @@
+//! The walk that takes the values out of a table, in listing order.
+ghost use Rattle.std.specs.Prelude.{◌≡◌, ◌≤◌, [], take, IfOk, MatchOption};
+ghost use Rattle.std.specs.List.{AllZip};
+ghost use Rattle.std.specs.FinMap.{len as size};
+ghost use Rattle.prefix_trie_bits.specs.Model.Entries.{AreWithin};
+ghost use Rattle.prefix_trie_bits.specs.Model.Nodes.{AreNodes};
+ghost use Rattle.prefix_trie_bits.specs.Model.Selections.{listing, listing_below};
+ghost use Rattle.prefix_trie_bits.specs.Model.Step.{State};
+ghost use Rattle.prefix_trie_table.specs.Copies.{IsPairCloned};
+ghost use Rattle.prefix_trie_table.specs.Items.{GivesFilled};
+ghost use Rattle.prefix_trie_table.specs.Shape.{IsShapeOf};
+ghost use Rattle.prefix_trie_table.specs.Tables.{IsTrie};
+ghost use Rattle.prefix_trie_table.specs.Taking.{Seated, Seated-prop};
+
+use crate::allocator::blocks::Blocks;
+use crate::allocator::nodes::{NodeAllocator, Tick};
+use crate::table::Table;
+use crate::table::cursor::{Start, start_at};
+use crate::table::spot::Spot;
+use crate::table::walk::advance;
+use arrayvec::ArrayVec;
+use prefix_trie_bits::prefix::Key;
+use std::alloc::{AllocError, Allocator};
+use std::marker::Model;
+
+/// The entries of a table that are still to come, in listing order, with their values. What is not taken is dropped with the
+/// walk.
+///
+/// ```text
+/// let mut walk = table.into_walk(&mut counter);
+/// while let Some((key, len, value)) = walk.next(&mut counter) {}    // each value is moved out of the table
+/// ```
+#[derive(Drop)]
+pub struct IntoWalk<K: Key, T: Drop, A: Allocator, V: Tick> {
+    nodes: NodeAllocator<A, V>,
+    // Those of the values that were taken are vacant. Else they and the nodes are those of the table.
+    cells: Blocks<Option<T>, A>,
+    // The path of each spot begins it.
+    key: K,
+    stack: ArrayVec<Spot, 26>,
+    ghost seats: { Seated nodes.slots } by { Seated-prop nodes.slots },
+}
+
+// Clauses see the pairs still to come.
+impl<K: Key, T: Drop, A: Allocator, V: Tick> Model for IntoWalk<K, T, A, V> {
+    ghost use Rattle.std.specs.Prelude.{List, Bool};
+    ghost use Rattle.prefix_trie_table.specs.Walks.{pending, sites};
+    ghost use Rattle.prefix_trie_table.specs.Taking.{pairs_in, IsTaking};
+
+    ghost Value = { List (List Bool × T) };
+
+    ghost view = { λ w. pairs_in w.nodes.slots w.cells.slots (pending K.bits w.seats.0 (sites w.key w.stack.items)) };
+
+    ghost invariant = { λ w. IsTaking K.IsKey K.bits K.bit_width w.nodes w.cells w.seats.0 (sites w.key w.stack.items) };
+}
+
+impl<K: Key, T: Drop, A: Allocator, V: Tick> IntoWalk<K, T, A, V> {
+    /// The walk of the entries in these arrays whose keys a bit string begins. The nodes on its way are read at once.
+    #[inline]
+    pub(super) fn below(
+        nodes: NodeAllocator<A, V>,
+        cells: Blocks<Option<T>, A>,
+        key: K,
+        len: u32,
+        counter: &mut V,
+    ) -> Self
+        requires key { K.IsKey key }
+        requires long { len ≤ K.bit_width }
+        requires tree { (s : State T) × IsTrie K.bit_width (size s.entries) nodes cells s }
+        ensures { (s : State T) → IsShapeOf nodes.slots cells.slots s
+            → result ≡ listing_below s.entries (take len (K.bits key)) }
+    {
+        let stack = start_at::<K, T, A, V>(&nodes, key, len, Start::Below, counter);
+        IntoWalk {
+            nodes,
+            cells,
+            key,
+            stack,
+        }
+    }
+
+    /// Takes the next entry: its key, the key's length in bits, and its value. Each node that the walk comes to is read once.
+    #[inline]
+    pub fn next(&mut self, counter: &mut V) -> Option<(K, u32, T)>
+        ensures { MatchOption result ((self.old ≡ []) × (self.new ≡ []))
+            (λ r. GivesFilled K.IsKey K.bits K.bit_width r.0 r.1 r.2 self.old self.new) }
+    {
+        let Some((key, len, seat)) = advance::<K, A, V, T>(
+            &self.nodes,
+            &mut self.stack,
+            &mut self.key,
+            counter,
+        ) else {
+            return None;
+        };
+        let Some(value) = self.cells.put(seat.start, seat.place, None) else {
+            unreachable!();
+        };
+        Some((key, len, value))
+    }
+}
+
+impl<K: Key, T: Clone, A: Allocator + Clone, V: Tick> IntoWalk<K, T, A, V> {
+    /// A walk with the same strings to come, whose values are clones, in memory of its own. All of that is asked for before the
+    /// first value is cloned. Refused only where memory is, for the arrays or for a value.
+    pub fn clone(&self) -> Result<Self, AllocError>
+        ensures pairs { IfOk result (λ copy. AllZip (IsPairCloned T.is_clone) self.now copy) }
+        ensures same { IfOk result (λ copy. ((x y : T) → T.is_clone x y → y ≡ x) → copy ≡ self.now) }
+    {
+        let nodes = self.nodes.clone()?;
+        let cells = self.cells.clone()?;
+        let Ok(stack) = self.stack.clone() else {
+            unreachable!();
+        };
+        Ok(IntoWalk {
+            nodes,
+            cells,
+            key: self.key,
+            stack,
+        })
+    }
+}
+
+impl<T: Drop, A: Allocator, V: Tick> Table<T, A, V> {
+    /// Takes the table apart: all entries, in listing order. The root is read at once. It asks for no memory.
+    #[inline]
+    pub fn into_walk<K: Key>(self, counter: &mut V) -> IntoWalk<K, T, A, V>
+        requires within { AreWithin K.bit_width self.entries }
+        requires nodes { AreNodes K.bit_width self.entries self.nodes }
+        ensures { result ≡ listing self.entries }
+    {
+        self.into_walk_below(K::zero(), 0, counter)
+    }
+
+    /// The same for the entries whose keys a bit string begins. The others stay in the walk, and are dropped with it. The nodes
+    /// on the way are read at once.
+    #[inline]
+    pub fn into_walk_below<K: Key>(self, key: K, len: u32, counter: &mut V) -> IntoWalk<K, T, A, V>
+        requires key { K.IsKey key }
+        requires long { len ≤ K.bit_width }
+        requires within { AreWithin K.bit_width self.entries }
+        requires nodes { AreNodes K.bit_width self.entries self.nodes }
+        ensures { result ≡ listing_below self.entries (take len (K.bits key)) }
+    {
+        IntoWalk::below(self.nodes, self.cells, key, len, counter)
+    }
+}

@@ -1,0 +1,62 @@
+//! Walks that do not hold their table, so that its values may be written between their steps.
+ghost use Rattle.std.specs.Prelude.{◌≡◌, ◌≤◌, [], map, take, true, IfSome, MatchOption};
+ghost use Rattle.std.specs.FinMap.{contains_key};
+ghost use Rattle.prefix_trie_bits.specs.Model.Entries.{AreWithin};
+ghost use Rattle.prefix_trie_bits.specs.Model.Nodes.{AreNodes};
+ghost use Rattle.prefix_trie_table.specs.Cursors.{selected};
+
+use crate::allocator::nodes::Tick;
+use crate::table::Table;
+use crate::table::cursor::{Start, start_at};
+use crate::table::seat::Seat;
+use crate::table::spot::Spot;
+use crate::table::walk::advance;
+use arrayvec::ArrayVec;
+use prefix_trie_bits::prefix::Key;
+use std::alloc::Allocator;
+
+/// Where a walk stands in a table. It is right until a node of the table changes: writing a value changes none.
+#[derive(Drop)]
+pub struct Trail<K: Key> {
+    // The path of each spot begins it.
+    key: K,
+    stack: ArrayVec<Spot, 26>,
+}
+
+impl<T: Drop, A: Allocator, V: Tick> Table<T, A, V> {
+    ghost use Rattle.prefix_trie_table.specs.Trails.{IsTrailIn, keys_to_come, GivesKey};
+
+    /// The start of a walk of the entries that are selected from a bit string. Each node on its way is read once.
+    #[inline]
+    pub fn trail<K: Key>(&self, key: K, len: u32, from: Start, counter: &mut V) -> Trail<K>
+        requires key { K.IsKey key }
+        requires long { len ≤ K.bit_width }
+        requires within { AreWithin K.bit_width self.now.entries }
+        requires nodes { AreNodes K.bit_width self.now.entries self.now.nodes }
+        ensures stands { IsTrailIn K.bits K.bit_width self.now.build result }
+        ensures keys { keys_to_come K.bits self.now.entries result
+            ≡ map (λ e. e.0) (selected from self.now.entries (take len (K.bits key))) }
+    {
+        let stack = start_at::<K, T, A, V>(&self.nodes, key, len, from, counter);
+        Trail { key, stack }
+    }
+
+    /// Goes on to the next entry, and answers its key, the key's length in bits, and where its value stands. Each node that the
+    /// walk comes to is read once.
+    #[inline]
+    pub fn step<K: Key>(&self, trail: &mut Trail<K>, counter: &mut V) -> Option<(K, u32, Seat)>
+        requires stands { IsTrailIn K.bits K.bit_width self.now.build trail.old }
+        requires within { AreWithin K.bit_width self.now.entries }
+        requires nodes { AreNodes K.bit_width self.now.entries self.now.nodes }
+        ensures stands { IsTrailIn K.bits K.bit_width self.now.build trail.new }
+        ensures key { MatchOption result
+            ((keys_to_come K.bits self.now.entries trail.old ≡ []) × (keys_to_come K.bits self.now.entries trail.new ≡ []))
+            (λ r. GivesKey K.IsKey K.bits K.bit_width self.now.build r.0 r.1 r.2
+            (keys_to_come K.bits self.now.entries trail.old) (keys_to_come K.bits self.now.entries trail.new)) }
+        ensures stored { IfSome result (λ r. contains_key self.now.entries (take r.1 (K.bits r.0)) ≡ true) }
+    {
+        // The proof learns from it that the number in hand is a key.
+        let _ = trail.key.is_key();
+        advance::<K, A, V, T>(&self.nodes, &mut trail.stack, &mut trail.key, counter)
+    }
+}
