@@ -1,3 +1,4 @@
 pub mod AnyMap
 pub mod Copies
+pub mod Putting
 pub mod Retaining

@@ -25,5 +25,6 @@ mod refusing;
 mod removals;
 mod retain;
 mod runs;
+mod taking;
 mod trials;
 mod walks;

@@ -33,7 +33,7 @@ pub enum Table {
 }
 
 /// The rows in order, each with its number.
-pub const ROWS: [(u32, Row); 30] = [
+pub const ROWS: [(u32, Row); 32] = [
     (1, &[Table::Ipv4(&lookups::EXACT)]),
     (2, &[Table::Ipv4(&entries::HOST_BITS)]),
     (3, &[Table::Ipv4(&lookups::MATCHES)]),
@@ -51,6 +51,7 @@ pub const ROWS: [(u32, Row); 30] = [
     (18, &[Table::Ipv4(&removals::EVEN_VALUES_KEPT)]),
     (19, &[Table::U8(&widths::ENDS_OF_8_BITS)]),
     (20, &[Table::Ipv4(&entries::COUNTED)]),
+    (21, &[Table::Ipv4(&walks::WRITTEN_AND_TAKEN)]),
     (22, &[Table::U32(&removals::PRUNED_ON_THE_WAY)]),
     (25, &[Table::Ipv4(&walks::AROUND_A_NETWORK)]),
     (
@@ -79,6 +80,7 @@ pub const ROWS: [(u32, Row); 30] = [
     (31, &[Table::U32(&removals::BELOW_HALF_NODES)]),
     (32, &[Table::U32(&removals::EMPTY_NODES_ELSEWHERE)]),
     (33, &[Table::U8(&entries::FILLED)]),
+    (34, &[Table::U8(&walks::FROM_AND_BELOW)]),
     (37, &[Table::U32(&blocks::TWO_HOSTS)]),
     (38, &[Table::U8(&limits::KEPT_BLOCKS)]),
     (40, &[Table::Run(2, &runs::UNDER_TWO_SLOTS)]),

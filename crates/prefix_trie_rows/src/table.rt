@@ -2,6 +2,9 @@
 ghost use Rattle.std.specs.Prelude.{IfSome};
 
 mod entries;
+mod taking;
+mod walks;
+mod writing;
 
 use prefix_trie::{BlockCount, Ipv4Prefix, Ipv6Prefix, Key, Prefix, PrefixMap, Refusal, Refused};
 use std::alloc::Global;
@@ -41,6 +44,16 @@ pub enum Line<R: 'static> {
     /// The first values of the walk from a prefix: all, where they are fewer than the number.
     IterFrom(Pair<R>, bool, usize, &'static [u64]),
     Children(Pair<R>, &'static [u64]),
+    /// The number is added to each value that the walk from a prefix lends.
+    IterFromMut(Pair<R>, bool, u64),
+    /// Each value that the prefix contains is multiplied by the number.
+    ChildrenMut(Pair<R>, u64),
+    /// The first value is set to the number, and the walk is dropped.
+    ValuesMut(u64),
+    /// A copy of the map gives these up, in order.
+    IntoChildren(Pair<R>, &'static [Entry<R>]),
+    /// The same of all prefixes.
+    IntoKeys(&'static [Pair<R>]),
     Cover(Pair<R>, &'static [Entry<R>]),
     CoverValues(Pair<R>, &'static [u64]),
     Remove(Pair<R>, Option<u64>),
@@ -147,6 +160,9 @@ fn holds<P: Written>(alloc: Global, map: &mut Map<P>, line: &Line<P::R>) -> bool
         Line::RemoveChildren(pair) => removes_children(map, *pair),
         Line::Retain(asked) => retains(map, asked),
         Line::Clear => clears(map),
+        Line::IterFromMut(pair, inclusive, more) => writing::adds(map, *pair, *inclusive, *more),
+        Line::ChildrenMut(pair, factor) => writing::multiplies(map, *pair, *factor),
+        Line::ValuesMut(value) => writing::sets_first(map, *value),
         _ => holds_at_entry(map, line),
     }
 }
@@ -175,21 +191,23 @@ fn answers<P: Written>(map: &Map<P>, line: &Line<P::R>) -> bool {
         Line::GetLpm(pair, answer) => finds_longest(map, *pair, *answer),
         Line::GetSpm(pair, answer) => finds_shortest(map, *pair, *answer),
         Line::IsCovered(pair, answer) => is_covered(map, *pair, *answer),
-        Line::Entries(entries) => lists_entries(map, entries),
-        Line::Iter(pairs) => lists(map, pairs),
+        Line::Entries(entries) => walks::lists_entries(map, entries),
+        Line::Iter(pairs) => walks::lists(map, pairs),
         Line::Values(values) => map.values().eq(*values),
         Line::IterFrom(pair, inclusive, count, values) => {
-            goes_on_from(map, *pair, *inclusive, *count, values)
+            walks::goes_on_from(map, *pair, *inclusive, *count, values)
         }
-        Line::Children(pair, values) => has_children(map, *pair, values),
-        Line::Cover(pair, entries) => covers(map, *pair, entries),
-        Line::CoverValues(pair, values) => covers_values(map, *pair, values),
+        Line::Children(pair, values) => walks::has_children(map, *pair, values),
+        Line::Cover(pair, entries) => walks::covers(map, *pair, entries),
+        Line::CoverValues(pair, values) => walks::covers_values(map, *pair, values),
         Line::Len(count) => map.len() == *count && map.is_empty() == (*count == 0),
         Line::NodeCount(count) => map.node_count() == *count,
         Line::NodeSlots(count) => map.node_slots() == *count,
         Line::CellSlots(count) => map.cell_slots() == *count,
         Line::NodeBlocks(used, free) => are(map.node_blocks(), NODE_SIZES, *used, *free),
         Line::CellBlocks(used, free) => are(map.cell_blocks(), CELL_SIZES, *used, *free),
+        Line::IntoChildren(pair, entries) => taking::gives_children(map, *pair, entries),
+        Line::IntoKeys(pairs) => taking::gives_keys(map, pairs),
         Line::Clone => clones(map),
         _ => answers_alone::<P>(line),
     }
@@ -347,78 +365,6 @@ fn finds_shortest<P: Written>(map: &Map<P>, pair: Pair<P::R>, answer: Option<Ent
 fn is_covered<P: Written>(map: &Map<P>, pair: Pair<P::R>, answer: bool) -> bool {
     match fitting::<P>(pair) {
         Some(prefix) => map.is_covered(&prefix) == answer,
-        None => false,
-    }
-}
-
-fn lists<P: Prefix>(map: &Map<P>, pairs: &[Pair<P::R>]) -> bool {
-    let mut walk = map.iter();
-    let mut value = 0_u64;
-    for pair in pairs {
-        if shown(walk.next()) != Some((*pair, value)) {
-            return false;
-        }
-        value = value.wrapping_add(1);
-    }
-    walk.next().is_none()
-}
-
-fn lists_entries<P: Prefix>(map: &Map<P>, entries: &[Entry<P::R>]) -> bool {
-    let mut walk = map.iter();
-    for entry in entries {
-        if shown(walk.next()) != Some(*entry) {
-            return false;
-        }
-    }
-    walk.next().is_none()
-}
-
-fn goes_on_from<P: Written>(
-    map: &Map<P>,
-    pair: Pair<P::R>,
-    inclusive: bool,
-    count: usize,
-    values: &[u64],
-) -> bool {
-    match fitting::<P>(pair) {
-        Some(prefix) => map
-            .iter_from(&prefix, inclusive)
-            .map(value_of)
-            .take(count)
-            .eq(values),
-        None => false,
-    }
-}
-
-fn has_children<P: Written>(map: &Map<P>, pair: Pair<P::R>, values: &[u64]) -> bool {
-    match fitting::<P>(pair) {
-        Some(prefix) => map.children(&prefix).map(value_of).eq(values),
-        None => false,
-    }
-}
-
-/// The value of an entry that is lent.
-fn value_of<'a, P: Prefix>(entry: (P, &'a u64)) -> &'a u64 {
-    let (_, value) = entry;
-    value
-}
-
-fn covers<P: Written>(map: &Map<P>, pair: Pair<P::R>, entries: &[Entry<P::R>]) -> bool {
-    let Some(prefix) = fitting::<P>(pair) else {
-        return false;
-    };
-    let mut walk = map.cover(&prefix);
-    for entry in entries {
-        if shown(walk.next()) != Some(*entry) {
-            return false;
-        }
-    }
-    walk.next().is_none()
-}
-
-fn covers_values<P: Written>(map: &Map<P>, pair: Pair<P::R>, values: &[u64]) -> bool {
-    match fitting::<P>(pair) {
-        Some(prefix) => map.cover_values(&prefix).eq(values),
         None => false,
     }
 }

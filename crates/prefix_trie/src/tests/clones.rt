@@ -1,4 +1,5 @@
-//! A copy of a map, with each request for memory refused in turn: each value is cloned once.
+//! Copies of a map, and of the walks that take it apart, with each request for memory refused in turn: each value is cloned once.
+use crate::map::{IntoIter, IntoKeys, IntoValues};
 use crate::tests::on_new::on_new;
 use crate::tests::refusing::Refusing;
 use crate::{PrefixMap, Refusal};
@@ -7,6 +8,8 @@ use std::test::Fail;
 
 /// More requests than one copy makes.
 const MANY: u64 = 100;
+
+type Heap = Refusing<Global>;
 
 /// Names, each of which asks for memory once when it is cloned.
 type Names<A> = PrefixMap<(u32, u8), String<A>, A>;
@@ -25,14 +28,6 @@ fn put_name<A: Allocator>(
     Ok(names.insert((0x0a01_0000, len.min(32)), name).is_ok())
 }
 
-/// Whether the name of so many bits is this.
-fn is_name<A: Allocator>(names: &Names<A>, len: u8, text: &str) -> bool {
-    match names.get(&(0x0a01_0000, len.min(32))) {
-        Some(name) => name.as_str() == text,
-        None => false,
-    }
-}
-
 /// Stores three names.
 fn put_names<A: Allocator + Copy>(alloc: A, names: &mut Names<A>) -> Result<bool, AllocError> {
     Ok(
@@ -42,60 +37,111 @@ fn put_names<A: Allocator + Copy>(alloc: A, names: &mut Names<A>) -> Result<bool
     )
 }
 
-/// Whether a map has the three, and so many slots.
-fn has_names<A: Allocator>(names: &Names<A>, slots: (usize, usize)) -> bool {
-    ((names.len(), names.node_slots(), names.cell_slots()) == (3, slots.0, slots.1))
-        & is_name(names, 8, "outer")
-        & is_name(names, 9, "next")
-        & is_name(names, 24, "inner")
+/// What is answered of a new map of three names, with every request refused from then on.
+fn of_names<'a, F: FnOnce(Names<&'a Heap>, &'a Heap) -> Option<u64> + Drop>(
+    heap: &'a Heap,
+    asks: F,
+) -> Result<Option<u64>, Refusal>
+    requires { F.IsAlwaysCallable asks }
+{
+    heap.refuse(0, 0);
+    let mut names = PrefixMap::new(heap)?;
+    let is_filled = put_names(heap, &mut names) == Ok(true);
+    heap.refuse(0, u64::MAX);
+    Ok(asks(names, heap).filter(|_| is_filled))
 }
 
-/// Whether an answer is a refusal where a request was refused, or else a copy.
-fn fits<A: Allocator>(
-    answer: &Result<Names<A>, AllocError>,
-    was_refused: bool,
-    slots: (usize, usize),
-) -> bool {
-    match answer {
-        Ok(copy) => !was_refused & has_names(copy, slots),
-        Err(AllocError) => was_refused,
-    }
-}
-
-/// Copies a map with one request refused. Answers whether it was, if the answer fits and the map is what it was.
-fn is_refused<A: Allocator + Clone>(
-    heap: &Refusing<Global>,
-    names: &Names<A>,
-    passed: u64,
-) -> Option<bool> {
-    let slots = (names.node_slots(), names.cell_slots());
-    heap.refuse(passed, 1);
-    let answer = names.clone();
-    let was_refused = heap.left() == 0;
-    (fits(&answer, was_refused, slots) & has_names(names, slots)).then_some(was_refused)
-}
-
-/// Copies a map, with another request refused each time. Answers how many requests were refused, if each copy went as it should.
-fn refused_in_turn<A: Allocator + Clone>(heap: &Refusing<Global>, names: &Names<A>) -> Option<u64> {
+/// Copies a map or a walk, which was made with every request refused, with another request refused each time. Answers how many were,
+/// if each copy was refused exactly where one was, and at last both the copy and what was copied give all with every request refused.
+fn refused_in_turn<W: Drop, C: Fn(&W) -> Result<W, AllocError> + Drop, G: Fn(W) -> bool + Drop>(
+    heap: &Heap,
+    copied: W,
+    copies: C,
+    gives_all: G,
+) -> Option<u64>
+    requires copies { C.IsAlwaysCallable copies }
+    requires gives { G.IsAlwaysCallable gives_all }
+{
+    let is_unasked = heap.left() == u64::MAX;
     for passed in 0..MANY {
-        match is_refused(heap, names, passed) {
-            Some(true) => {}
-            Some(false) => return Some(passed),
-            None => return None,
+        heap.refuse(passed, 1);
+        let answer = copies(&copied);
+        let was_refused = heap.left() == 0;
+        if answer.is_err() != was_refused {
+            return None;
+        }
+        if let Ok(copy) = answer {
+            heap.refuse(0, u64::MAX);
+            let give_all = gives_all(copy) & gives_all(copied) & (heap.left() == u64::MAX);
+            return (is_unasked & give_all).then_some(passed);
         }
     }
     None
 }
 
-/// How many requests the copy of three names makes, with the request that each name takes.
-fn requests_for_names<'a>(
-    names: &mut Names<&'a Refusing<Global>>,
-    heap: &'a Refusing<Global>,
-) -> Option<u64> {
-    match put_names(heap, names) {
-        Ok(true) => refused_in_turn(heap, names),
-        _ => None,
+/// Whether a name is this one.
+fn is_name<A: Allocator>(name: Option<String<A>>, text: &str) -> bool {
+    match name {
+        Some(name) => name.as_str() == text,
+        None => false,
     }
+}
+
+/// Whether an entry has this length and this name.
+fn is_entry<A: Allocator>(entry: Option<((u32, u8), String<A>)>, len: u8, text: &str) -> bool {
+    match entry {
+        Some((prefix, name)) => (prefix.1 == len) & is_name(Some(name), text),
+        None => false,
+    }
+}
+
+/// Whether a walk gives the names that the network of nine bits contains.
+fn gives_part<A: Allocator>(mut walk: IntoIter<(u32, u8), String<A>, A>) -> bool {
+    is_entry(walk.next(), 9, "next") & is_entry(walk.next(), 24, "inner") & walk.next().is_none()
+}
+
+/// Whether it gives all.
+fn gives_items<A: Allocator>(mut walk: IntoIter<(u32, u8), String<A>, A>) -> bool {
+    is_entry(walk.next(), 8, "outer") & gives_part(walk)
+}
+
+/// Whether it gives the prefixes.
+fn gives_keys<A: Allocator>(walk: IntoKeys<(u32, u8), String<A>, A>) -> bool {
+    walk.eq([(0x0a00_0000, 8), (0x0a00_0000, 9), (0x0a01_0000, 24)])
+}
+
+/// Whether it gives the names alone.
+fn gives_values<A: Allocator>(mut walk: IntoValues<(u32, u8), String<A>, A>) -> bool {
+    is_name(walk.next(), "outer")
+        & is_name(walk.next(), "next")
+        & is_name(walk.next(), "inner")
+        & walk.next().is_none()
+}
+
+/// Whether a map has all.
+fn has_names<A: Allocator>(names: Names<A>) -> bool {
+    gives_items(names.into_iter())
+}
+
+fn copies_of_map(names: Names<&Heap>, heap: &Heap) -> Option<u64> {
+    refused_in_turn(heap, names, PrefixMap::clone, has_names)
+}
+
+fn copies_of_part(names: Names<&Heap>, heap: &Heap) -> Option<u64> {
+    let part = names.into_children(&(0x0a01_0000, 9));
+    refused_in_turn(heap, part, IntoIter::clone, gives_part)
+}
+
+fn copies_of_items(names: Names<&Heap>, heap: &Heap) -> Option<u64> {
+    refused_in_turn(heap, names.into_iter(), IntoIter::clone, gives_items)
+}
+
+fn copies_of_keys(names: Names<&Heap>, heap: &Heap) -> Option<u64> {
+    refused_in_turn(heap, names.into_keys(), IntoKeys::clone, gives_keys)
+}
+
+fn copies_of_values(names: Names<&Heap>, heap: &Heap) -> Option<u64> {
+    refused_in_turn(heap, names.into_values(), IntoValues::clone, gives_values)
 }
 
 /// Stores three numbers at the same keys.
@@ -109,10 +155,7 @@ fn put_numbers<A: Allocator>(numbers: &mut Numbers<A>) -> bool {
 }
 
 /// How many requests the copy of three numbers makes.
-fn requests_for_numbers<'a>(
-    numbers: &mut Numbers<&'a Refusing<Global>>,
-    heap: &'a Refusing<Global>,
-) -> Option<u64> {
+fn requests_for_numbers<'a>(numbers: &mut Numbers<&'a Heap>, heap: &'a Heap) -> Option<u64> {
     let is_filled = put_numbers(numbers);
     heap.refuse(MANY, 0);
     let is_copied = numbers.clone().is_ok();
@@ -120,16 +163,15 @@ fn requests_for_numbers<'a>(
     (is_filled & is_copied).then_some(requests)
 }
 
-/// By how many requests the copy of the names makes more.
-fn requests_for_values(heap: &Refusing<Global>) -> Result<u64, Refusal> {
-    let numbers = on_new(PrefixMap::new(heap), heap, requests_for_numbers)?;
-    let names = on_new(PrefixMap::new(heap), heap, requests_for_names)?;
-    Ok(names.unwrap_or(0).wrapping_sub(numbers.unwrap_or(0)))
-}
-
 #[test]
 fn each_request_of_a_copy_refused(rt: HostRuntime) -> Result<(), Fail> {
     let heap = Refusing::new(rt.alloc());
-    assert!(rt; requests_for_values(&heap)? == 3);
+    let numbers = on_new(PrefixMap::new(&heap), &heap, requests_for_numbers)?;
+    let names = Some(numbers.unwrap_or(0).wrapping_add(3));
+    assert!(rt; of_names(&heap, copies_of_map)? == names);
+    assert!(rt; of_names(&heap, copies_of_part)? == names);
+    assert!(rt; of_names(&heap, copies_of_items)? == names);
+    assert!(rt; of_names(&heap, copies_of_keys)? == names);
+    assert!(rt; of_names(&heap, copies_of_values)? == names);
     Ok(())
 }

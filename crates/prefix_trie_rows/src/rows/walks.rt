@@ -43,6 +43,21 @@ pub const BEHIND_A_NETWORK: [Line<u32>; 15] = [
     IterFrom((0x0a04_0000, 16), false, 6, &[]),
 ];
 
+/// Row 21: the values that a network contains are written, and then taken out of the map.
+pub const WRITTEN_AND_TAKEN: [Line<u32>; 8] = [
+    Insert((0xc0a8_0000, 22), 1, Ok(None)),
+    Insert((0xc0a8_0000, 23), 2, Ok(None)),
+    Insert((0xc0a8_0000, 24), 3, Ok(None)),
+    Insert((0xc0a8_0200, 23), 4, Ok(None)),
+    Insert((0xc0a8_0200, 24), 5, Ok(None)),
+    ChildrenMut((0xc0a8_0000, 23), 10),
+    Values(&[1, 20, 30, 4, 5]),
+    IntoChildren(
+        (0xc0a8_0000, 23),
+        &[((0xc0a8_0000, 23), 20), ((0xc0a8_0000, 24), 30)],
+    ),
+];
+
 /// Row 25: the networks that contain one, the shortest first.
 pub const AROUND_A_NETWORK: [Line<u32>; 7] = [
     Insert((0x0a00_0000, 8), 0, Ok(None)),
@@ -59,4 +74,27 @@ pub const AROUND_A_NETWORK: [Line<u32>; 7] = [
             ((0x0a01_0100, 24), 2),
         ],
     ),
+];
+
+/// Row 34: walks from prefixes and below them, stored or not, that read, write and take the map apart.
+pub const FROM_AND_BELOW: [Line<u8>; 19] = [
+    Insert((0, 5), 1, Ok(None)),
+    Insert((4, 6), 2, Ok(None)),
+    Insert((6, 8), 3, Ok(None)),
+    Insert((8, 5), 4, Ok(None)),
+    Insert((128, 1), 5, Ok(None)),
+    IterFrom((5, 8), false, 6, &[3, 4, 5]),
+    IterFrom((5, 8), true, 6, &[3, 4, 5]),
+    IterFrom((0, 0), false, 6, &[1, 2, 3, 4, 5]),
+    IterFrom((64, 2), true, 6, &[5]),
+    IterFrom((128, 1), false, 6, &[]),
+    IterFrom((255, 8), true, 6, &[]),
+    Children((0, 4), &[1, 2, 3, 4]),
+    Children((4, 6), &[2, 3]),
+    Children((16, 5), &[]),
+    IterFromMut((5, 8), false, 10),
+    Values(&[1, 2, 13, 14, 15]),
+    ValuesMut(0),
+    Values(&[0, 2, 13, 14, 15]),
+    IntoKeys(&[(0, 5), (4, 6), (6, 8), (8, 5), (128, 1)]),
 ];

@@ -1,4 +1,3 @@
-use Rattle.std.proofs.Common.{◌∙◌}
 use Rattle.prefix_trie_map.specs.Walks.{lent_item}
 use Rattle.prefix_trie.proofs.Copies.{takes_copies}
 use Rattle.prefix_trie.proofs.replay.gathered.Goals as goal

@@ -1,0 +1,106 @@
+//! Walks that take a map apart: what a caller knows of them, and what is dropped when.
+ghost use Rattle.std.specs.Prelude.{◌≡◌, OnOk};
+ghost use Rattle.prefix_trie_bits.specs.Model.Entries.{put_all};
+ghost use Rattle.prefix_trie_bits.specs.Model.Selections.{listing, shown};
+
+use crate::map::{IntoIter, IntoKeys, IntoValues};
+use crate::{Prefix, PrefixMap, Refusal, Refused};
+use std::alloc::{Allocator, Global};
+use std::cell::Cell;
+use std::test::Fail;
+
+// Moves all entries of one map into another, and stops where one is refused.
+fn pour<P: Prefix, T: Drop, A: Allocator>(
+    to: &mut PrefixMap<P, T, A>,
+    from: PrefixMap<P, T, A>,
+) -> Result<(), Refused<T>>
+    ensures { OnOk result (to.new.entries ≡ put_all P.path (shown P.back (listing from.entries)) to.old.entries) }
+{
+    for (prefix, value) in from {
+        to.insert(prefix, value)?;
+    }
+    Ok(())
+}
+
+/// Counts that it is dropped.
+struct Counted<'a> {
+    drops: &'a Cell<u64>,
+}
+
+impl Drop for Counted<'_> {
+    fn drop(self) {
+        let Counted { drops } = self;
+        drops.set(drops.get().wrapping_add(1));
+    }
+}
+
+type Counting<'a> = PrefixMap<(u32, u8), Counted<'a>, Global>;
+
+/// A map of three that count.
+fn three<'a>(alloc: Global, drops: &'a Cell<u64>) -> Result<Counting<'a>, Refusal> {
+    let mut map = PrefixMap::new(alloc)?;
+    map.insert((0, 0), Counted { drops })
+        .map_err(|refused| refused.cause)?;
+    map.insert((0, 1), Counted { drops })
+        .map_err(|refused| refused.cause)?;
+    map.insert((0x8000_0000, 1), Counted { drops })
+        .map_err(|refused| refused.cause)?;
+    Ok(map)
+}
+
+/// Lets a value go.
+fn let_go<V: Drop>(_value: V) {}
+
+/// How many are dropped once a walk gave so many items, and once it was dropped too.
+fn drops_of<W: Drop, V: Drop, N: Fn(&mut W) -> Option<V> + Drop>(
+    walk: W,
+    next: N,
+    taken: u64,
+    drops: &Cell<u64>,
+) -> (u64, u64)
+    requires { N.IsAlwaysCallable next }
+{
+    let mut walk = walk;
+    for _ in 0..taken {
+        let_go(next(&mut walk));
+    }
+    let before = drops.get();
+    let_go(walk);
+    (before, drops.replace(0))
+}
+
+/// The same of each walk.
+fn dropped(alloc: Global, taken: u64) -> Result<[(u64, u64); 4], Refusal> {
+    let drops = Cell::new(0);
+    let items = drops_of(
+        three(alloc, &drops)?.into_iter(),
+        IntoIter::next,
+        taken,
+        &drops,
+    );
+    let part = three(alloc, &drops)?.into_children(&(0, 1));
+    let part = drops_of(part, IntoIter::next, taken, &drops);
+    let keys = drops_of(
+        three(alloc, &drops)?.into_keys(),
+        IntoKeys::next,
+        taken,
+        &drops,
+    );
+    let values = drops_of(
+        three(alloc, &drops)?.into_values(),
+        IntoValues::next,
+        taken,
+        &drops,
+    );
+    Ok([items, part, keys, values])
+}
+
+#[test]
+fn what_is_not_taken_is_dropped_with_the_walk(rt: HostRuntime) -> Result<(), Fail> {
+    let alloc = rt.alloc();
+    assert!(rt; dropped(alloc, 0)? == [(0, 3), (0, 3), (0, 3), (0, 3)]);
+    assert!(rt; dropped(alloc, 1)? == [(1, 3), (1, 3), (1, 3), (1, 3)]);
+    assert!(rt; dropped(alloc, 2)? == [(2, 3), (1, 3), (2, 3), (2, 3)]);
+    assert!(rt; dropped(alloc, 4)? == [(3, 3), (1, 3), (3, 3), (3, 3)]);
+    Ok(())
+}

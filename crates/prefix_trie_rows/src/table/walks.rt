@@ -1,0 +1,75 @@
+//! What the walks of a map give.
+use crate::table::{Entry, Map, Pair, Written, fitting, shown};
+use prefix_trie::Prefix;
+
+pub fn lists<P: Prefix>(map: &Map<P>, pairs: &[Pair<P::R>]) -> bool {
+    let mut walk = map.iter();
+    let mut value = 0_u64;
+    for pair in pairs {
+        if shown(walk.next()) != Some((*pair, value)) {
+            return false;
+        }
+        value = value.wrapping_add(1);
+    }
+    walk.next().is_none()
+}
+
+pub fn lists_entries<P: Prefix>(map: &Map<P>, entries: &[Entry<P::R>]) -> bool {
+    let mut walk = map.iter();
+    for entry in entries {
+        if shown(walk.next()) != Some(*entry) {
+            return false;
+        }
+    }
+    walk.next().is_none()
+}
+
+pub fn goes_on_from<P: Written>(
+    map: &Map<P>,
+    pair: Pair<P::R>,
+    inclusive: bool,
+    count: usize,
+    values: &[u64],
+) -> bool {
+    match fitting::<P>(pair) {
+        Some(prefix) => map
+            .iter_from(&prefix, inclusive)
+            .map(value_of)
+            .take(count)
+            .eq(values),
+        None => false,
+    }
+}
+
+pub fn has_children<P: Written>(map: &Map<P>, pair: Pair<P::R>, values: &[u64]) -> bool {
+    match fitting::<P>(pair) {
+        Some(prefix) => map.children(&prefix).map(value_of).eq(values),
+        None => false,
+    }
+}
+
+/// The value of an entry that is lent.
+fn value_of<'a, P: Prefix>(entry: (P, &'a u64)) -> &'a u64 {
+    let (_, value) = entry;
+    value
+}
+
+pub fn covers<P: Written>(map: &Map<P>, pair: Pair<P::R>, entries: &[Entry<P::R>]) -> bool {
+    let Some(prefix) = fitting::<P>(pair) else {
+        return false;
+    };
+    let mut walk = map.cover(&prefix);
+    for entry in entries {
+        if shown(walk.next()) != Some(*entry) {
+            return false;
+        }
+    }
+    walk.next().is_none()
+}
+
+pub fn covers_values<P: Written>(map: &Map<P>, pair: Pair<P::R>, values: &[u64]) -> bool {
+    match fitting::<P>(pair) {
+        Some(prefix) => map.cover_values(&prefix).eq(values),
+        None => false,
+    }
+}

@@ -1,0 +1,54 @@
+//! What walks that write make of a map.
+use crate::table::{Map, Pair, Written, fitting};
+use prefix_trie::Prefix;
+use prefix_trie::map::IterMut;
+use std::alloc::Global;
+
+/// A number is added to each value from a prefix on.
+pub fn adds<P: Written>(map: &mut Map<P>, pair: Pair<P::R>, inclusive: bool, more: u64) -> bool {
+    let steps = map.len();
+    match fitting::<P>(pair) {
+        Some(prefix) => {
+            change_each(&mut map.iter_from_mut(&prefix, inclusive), steps, 1, more);
+            true
+        }
+        None => false,
+    }
+}
+
+/// Each value that a prefix contains is multiplied.
+pub fn multiplies<P: Written>(map: &mut Map<P>, pair: Pair<P::R>, factor: u64) -> bool {
+    let steps = map.len();
+    match fitting::<P>(pair) {
+        Some(prefix) => {
+            change_each(&mut map.children_mut(&prefix), steps, factor, 0);
+            true
+        }
+        None => false,
+    }
+}
+
+/// Multiplies each value, and adds a number to it, in as many steps as there are entries.
+fn change_each<'b, 'a, P: Prefix>(
+    walk: &'b mut IterMut<'a, P, u64, Global>,
+    steps: usize,
+    factor: u64,
+    more: u64,
+) {
+    for _ in 0..steps {
+        if let Some((_prefix, value)) = walk.next() {
+            *value = value.wrapping_mul(factor).wrapping_add(more);
+        }
+    }
+}
+
+/// The first value is set, if there is one.
+pub fn sets_first<P: Prefix>(map: &mut Map<P>, value: u64) -> bool {
+    match map.values_mut().next() {
+        Some(first) => {
+            *first = value;
+            true
+        }
+        None => false,
+    }
+}
