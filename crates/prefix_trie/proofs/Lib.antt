@@ -2,3 +2,5 @@ pub mod AnyMap
 pub mod Copies
 pub mod Putting
 pub mod Retaining
+pub mod Rewriting
+pub mod Swapping

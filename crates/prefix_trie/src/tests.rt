@@ -28,3 +28,4 @@ mod runs;
 mod taking;
 mod trials;
 mod walks;
+mod writing_walks;

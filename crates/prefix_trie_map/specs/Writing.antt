@@ -1,5 +1,5 @@
 -- What a writing walk has still to come, what a write through it leaves, and what it ends as. This project's own.
-use Rattle.std.specs.Prelude.{◌≡◌, ◌≤◌, Bool, true, List, [], ◌∷◌, take, Option, None, Some}
+use Rattle.std.specs.Prelude.{◌≡◌, ◌≤◌, Bool, true, List, [], ◌∷◌, take, Option, None, Some, ⊤}
 use Rattle.std.specs.Borrow.{MutBor}
 use Rattle.std.specs.FinMap.{get, contains_key}
 use Rattle.std.specs.declared.cmp.PartialEq as partial
@@ -63,3 +63,10 @@ module _ {P T A R : Type 0} {p : prefix.Ghosts P R} {shows : debug.Ghosts P} {k 
   abbrev pub StartsIn : MutBor (Contents T) → List (List Bool) → Option (Course P T A R p shows k same writes) → Type 0
   StartsIn m keys None = ⊥
   StartsIn m keys (Some c) = StartsOver m keys c
+
+  -- a walk hands back the map that it has, as it left it
+  abbrev pub HandsBack : Option (Course P T A R p shows k same writes) → Option (MutBor (Contents T)) → Type 0
+  HandsBack None None = ⊤
+  HandsBack None (Some m) = ⊥
+  HandsBack (Some c) None = ⊥
+  HandsBack (Some c) (Some m) = (m.ghost_name ≡ c.map.ghost_name) × (m.now ≡ c.map.now)

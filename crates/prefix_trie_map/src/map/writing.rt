@@ -2,7 +2,7 @@
 //!
 //! Which value comes next depends on the nodes alone, which no write changes. So a walk gives the entries that were selected when it
 //! was made, in listing order, each once, and asks for no memory.
-ghost use Rattle.std.specs.Prelude.{◌≡◌, IfSome, IfNone, None, MatchOption};
+ghost use Rattle.std.specs.Prelude.{◌≡◌, IfSome, None, MatchOption};
 ghost use Rattle.std.specs.Borrow.{sem, Lends};
 
 mod calls;
@@ -109,14 +109,6 @@ impl<C: Source> WalkOf<C> {
         let (prefix, stop) = self.step()?;
         Some((prefix, self.value(stop)))
     }
-
-    /// Ends the walk, and hands the map back if it has one. Then a caller's proof knows the map, with what was written.
-    #[inline]
-    pub fn end(self) -> Option<C>
-        ensures { result ≡ self.course }
-    {
-        self.course
-    }
 }
 
 /// A walk that lends the values alone. Its default is the empty one.
@@ -146,14 +138,6 @@ impl<C: Source> ValuesOf<C> {
         ensures value { IfSome result (λ x. (q : C.Prefix) × FirstIn C.First self.old.walk.course q x.now) }
     {
         self.walk.next_value()
-    }
-
-    /// Ends the walk, and hands the map back if it has one. Then a caller's proof knows the map, with what was written.
-    #[inline]
-    pub fn end(self) -> Option<C>
-        ensures { result ≡ self.walk.course }
-    {
-        self.walk.end()
     }
 }
 

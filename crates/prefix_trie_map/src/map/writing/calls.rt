@@ -1,5 +1,5 @@
 //! The calls that make walks for writing.
-ghost use Rattle.std.specs.Prelude.{◌≡◌, ◌≤◌, cond, map, take};
+ghost use Rattle.std.specs.Prelude.{◌≤◌, cond, map, take};
 ghost use Rattle.prefix_trie_bits.specs.Model.Selections.{listing, listing_from, listing_after, listing_below};
 ghost use Rattle.prefix_trie_table.specs.Cursors.{selected};
 ghost use Rattle.prefix_trie_map.specs.Whole.{IsWhole};

@@ -1,10 +1,10 @@
 //! The way of a writing walk over a map.
-ghost use Rattle.std.specs.Prelude.{◌≡◌, ◌≤◌, List, Bool};
+ghost use Rattle.std.specs.Prelude.{◌≡◌};
 ghost use Rattle.prefix_trie_table.specs.Trails.{IsTrailIn, IsTrailIn-prop};
 
 use crate::map::PrefixMap;
 use crate::map::iter::without_host_bits;
-use crate::map::writing::Source;
+use crate::map::writing::{Source, ValuesOf, WalkOf};
 use prefix_trie_bits::prefix::{Key, Prefix};
 use prefix_trie_table::table::seat::Seat;
 use prefix_trie_table::table::trail::Trail;
@@ -24,6 +24,61 @@ pub struct Stop<K: Key> {
     key: K,
     len: u32,
     seat: Seat,
+}
+
+impl<'a, P: Prefix, T: Drop, A: Allocator> Course<'a, P, T, A> {
+    // Its map.
+    #[inline]
+    fn into_map(self) -> &'a mut PrefixMap<P, T, A>
+        ensures name { result.ghost_name ≡ self.entry.map.ghost_name }
+        ensures map { result.now ≡ self.entry.map.now }
+    {
+        let Course { map, trail: _ } = self;
+        map
+    }
+}
+
+impl<'a, P: Prefix, T: Drop, A: Allocator> WalkOf<Course<'a, P, T, A>> {
+    ghost use Rattle.prefix_trie_map.specs.Writing.{HandsBack};
+
+    /// Ends the walk, and hands back its map, with what was written, if it has one. A caller's proof that ends a walk so knows the map.
+    ///
+    /// ```text
+    /// 10.0.0.0/8 and 10.1.0.0/16 are stored with 1 and 2
+    /// let mut walk = map.iter_mut();
+    /// if let Some((prefix, value)) = walk.next() { *value = 3; }
+    /// walk.into_map()                                              Some(map), with the values 3 and 2
+    /// ```
+    #[inline]
+    pub fn into_map(self) -> Option<&'a mut PrefixMap<P, T, A>>
+        ensures { HandsBack self.entry.course result }
+    {
+        let course = self.course;
+        match course {
+            Some(course) => Some(course.into_map()),
+            None => None,
+        }
+    }
+}
+
+impl<'a, P: Prefix, T: Drop, A: Allocator> ValuesOf<Course<'a, P, T, A>> {
+    ghost use Rattle.prefix_trie_map.specs.Writing.{HandsBack};
+
+    /// Ends the walk, and hands back its map, with what was written, if it has one. A caller's proof that ends a walk so knows the map.
+    ///
+    /// ```text
+    /// 10.0.0.0/8 and 10.1.0.0/16 are stored with 1 and 2
+    /// let mut walk = map.values_mut();
+    /// if let Some(value) = walk.next() { *value = 3; }
+    /// walk.into_map()                                     Some(map), with the values 3 and 2
+    /// ```
+    #[inline]
+    pub fn into_map(self) -> Option<&'a mut PrefixMap<P, T, A>>
+        ensures { HandsBack self.entry.walk.course result }
+    {
+        let walk = self.walk;
+        walk.into_map()
+    }
 }
 
 impl<'a, P: Prefix, T: Drop, A: Allocator> Source for Course<'a, P, T, A> {

@@ -1,0 +1,196 @@
+-- What a loop that changes each value by a function of the old one has done so far.
+use Rattle.std.proofs.Common.{◌≡◌, ℕ, ◌<◌, Bool, true, false, cond, ◌||◌, ◌&&◌, List, [], ◌∷◌, length, map, Option, None, Some, is_some, is_lt, is_eq, Ordering, Less, Equal, Greater, refl, sym, ap, ◌∙◌, subst, arith, true≢false}
+use lib.Dec.{T as IsT}
+use Rattle.std.specs.List.{list_any}
+use Rattle.std.specs.Option.{option_map}
+use Rattle.std.specs.Borrow.{MutBor}
+use Rattle.std.specs.FinMap.{get, contains_key, contains_key-keys, entries_sorted, is_sorted}
+use Rattle.std.specs.FinMap.Entries.{below_all}
+use Rattle.std.specs.declared.cmp.PartialEq as partial
+use Rattle.std.specs.declared.fmt.Debug as debug
+use Rattle.prefix_trie_bits.specs.declared.prefix.Prefix as prefix
+use Rattle.prefix_trie_bits.specs.declared.prefix.Key as key
+use Rattle.prefix_trie_bits.specs.Order.{listing_cmp, same_string}
+use Rattle.prefix_trie_bits.specs.Model.Entries.{Entries, with_entry}
+use Rattle.prefix_trie_bits.specs.Model.Selections.{listing}
+use Rattle.prefix_trie_bits.proofs.Model.Members.{and-first, and-second, get-with_entry, is-same_string, same_string-is}
+use Rattle.prefix_trie_bits.proofs.Model.Ordered.{sorted-head, sorted-tail, t-true, true-t}
+use Rattle.prefix_trie_table.specs.Shape.{Contents}
+use Rattle.prefix_trie_table.proofs.KeySets.{bare, sorted_mapped}
+use Rattle.prefix_trie_map.specs.declared.map.writing.course.Course.{Course}
+use Rattle.prefix_trie_map.specs.Writing.{keys_left, IsFirst, GoesOver, ComesToEnd, StartsIn, HandsBack}
+use Rattle.prefix_trie_map.specs.WritingWalks.{PassesIn, EndsIn, FirstIn}
+use Rattle.prefix_trie.specs.Rewriting.{keyed, AreOrdered, is_left, Rewrites, RewritesIn, OrderedIn}
+
+-- the first of some keys
+abbrev pub first_key : List (List Bool) → List Bool
+first_key [] = []
+first_key (s ∷ ks) = s
+
+-- a key that comes before all of a list is not in it
+apart : (k : List Bool) (ks : List (List Bool)) → IsT (below_all listing_cmp k (map keyed ks)) → list_any (same_string k) ks ≡ false
+apart k [] h = refl
+apart k (x ∷ ks) h =
+    let both = t-true (is_lt (listing_cmp k x) && below_all listing_cmp k (map keyed ks)) h in
+    let later = and-second (is_lt (listing_cmp k x)) (below_all listing_cmp k (map keyed ks)) both in
+    at (listing_cmp k x) (and-first (is_lt (listing_cmp k x)) (below_all listing_cmp k (map keyed ks)) both) (apart k ks (true-t (below_all listing_cmp k (map keyed ks)) later))
+  where
+    at : (o : Ordering) → is_lt o ≡ true → list_any (same_string k) ks ≡ false → (is_eq o || list_any (same_string k) ks) ≡ false
+    at Less e rest = rest
+    at Equal e rest = absurd (true≢false (sym e))
+    at Greater e rest = absurd (true≢false (sym e))
+
+-- the keys of a listing are in order
+pub listing_ordered : {T : Type 0} (m : Entries T) → AreOrdered (map (λ e. e.0) (listing m))
+listing_ordered {T} m =
+    subst (λ es. IsT (is_sorted listing_cmp es)) (sym (again (listing m)))
+    (true-t (is_sorted listing_cmp (map bare (listing m))) (sorted_mapped bare (λ e. refl) (listing m) ∙ t-true (is_sorted listing_cmp (listing m)) (entries_sorted m)))
+  where
+    again : (es : List (List Bool × T)) → map keyed (map (λ e. e.0) es) ≡ map bare es
+    again [] = refl
+    again (e ∷ es) = ap (λ xs. keyed e.0 ∷ xs) (again es)
+
+-- a map, once each value in it is changed
+pub record RewritesMap {T : Type 0} (f : T → T) (m n : MutBor (Contents T)) : Type 0 where
+  pub same_map : n.ghost_name ≡ m.ghost_name
+  pub values : (s : List Bool) → get n.now.entries s ≡ option_map f (get m.now.entries s)
+  pub others : n.now ≡ record m.now { entries = n.now.entries }
+
+module _ {P T A R : Type 0} {p : prefix.Ghosts P R} {shows : debug.Ghosts P} {k : key.Ghosts R} {same : partial.Ghosts R} {writes : debug.Ghosts R} where
+  -- how many are to come
+  abbrev pub left_in : Option (Course P T A R p shows k same writes) → ℕ
+  left_in None = 0
+  left_in (Some c) = length (keys_left c)
+
+  -- a walk over a whole map starts with its keys in order
+  pub starts_ordered : (m : MutBor (Contents T)) (o : Option (Course P T A R p shows k same writes)) → StartsIn m (map (λ e. e.0) (listing m.now.entries)) o → OrderedIn o
+  starts_ordered m None starts = absurd starts
+  starts_ordered m (Some c) starts = subst AreOrdered (sym starts.to_come) (listing_ordered m.now.entries)
+
+module _ {P T A R : Type 0} {p : prefix.Ghosts P R} {shows : debug.Ghosts P} {k : key.Ghosts R} {same : partial.Ghosts R} {writes : debug.Ghosts R} (f : T → T) where
+  -- what was to come at first and is not any more has its value changed
+  pub record HasRewritten (c d : Course P T A R p shows k same writes) : Type 0 where
+    pub same_map : d.map.ghost_name ≡ c.map.ghost_name
+    pub ordered : AreOrdered (keys_left d)
+    pub part : (s : List Bool) → is_left d s ≡ true → is_left c s ≡ true
+    pub values : (s : List Bool) → get d.map.now.entries s ≡ cond (is_left d s) (get c.map.now.entries s) (cond (is_left c s) (option_map f (get c.map.now.entries s)) (get c.map.now.entries s))
+    pub others : d.map.now ≡ record c.map.now { entries = d.map.now.entries }
+
+  has_rewritten_none : (c : Course P T A R p shows k same writes) → AreOrdered (keys_left c) → HasRewritten c c
+  has_rewritten_none c ordered = record {
+    same_map = refl;
+    ordered = ordered;
+    part = λ s h. h;
+    values = λ s. at (is_left c s) (get c.map.now.entries s) (option_map f (get c.map.now.entries s));
+    others = refl;
+  }
+    where
+      at : {X : Type 0} (b : Bool) (x y : X) → x ≡ cond b x (cond b y x)
+      at true x y = refl
+      at false x y = refl
+
+  -- one more is changed
+  rewrites_one : (c d e : Course P T A R p shows k same writes) (q : P) (x : T) → HasRewritten c d → IsFirst d q x → GoesOver d (f x) e → HasRewritten c e
+  rewrites_one c d e q x so_far first goes = record {
+    same_map = ap (λ (b : MutBor (Contents T)). b.ghost_name) goes.map ∙ so_far.same_map;
+    ordered = sorted-tail (keyed goes.key) (map keyed (keys_left e)) sorted;
+    part = λ s h. so_far.part s (ap (list_any (same_string s)) goes.first ∙ later (same_string s goes.key) (is_left e s) h);
+    values = λ s. ap (λ (b : MutBor (Contents T)). get b.now.entries s) goes.map ∙ get-with_entry d.map.now.entries goes.key (f x) s ∙ at s (same_string s goes.key) refl;
+    others =
+        ap (λ (b : MutBor (Contents T)). b.now) goes.map
+        ∙ ap (λ (m : Contents T). record m { entries = with_entry d.map.now.entries goes.key (f x) }) so_far.others
+        ∙ ap (λ (b : MutBor (Contents T)). record c.map.now { entries = b.now.entries }) (sym goes.map);
+  }
+    where
+      sorted : IsT (is_sorted listing_cmp (map keyed (goes.key ∷ keys_left e)))
+      sorted = subst AreOrdered goes.first so_far.ordered
+
+      later : (a b : Bool) → b ≡ true → (a || b) ≡ true
+      later true b h = refl
+      later false b h = h
+
+      key_is : first.0 ≡ goes.key
+      key_is = ap first_key (sym first.2 ∙ goes.first)
+
+      left_before : is_left d goes.key ≡ true
+      left_before = ap (list_any (same_string goes.key)) goes.first ∙ ap (λ b. b || is_left e goes.key) (is-same_string goes.key goes.key refl)
+
+      stored : Some x ≡ get c.map.now.entries goes.key
+      stored =
+          sym first.4 ∙ ap (get d.map.now.entries) key_is ∙ so_far.values goes.key
+          ∙ ap (λ b. cond b (get c.map.now.entries goes.key) (cond (is_left c goes.key) (option_map f (get c.map.now.entries goes.key)) (get c.map.now.entries goes.key))) left_before
+
+      out : is_left e goes.key ≡ false
+      out = apart goes.key (keys_left e) (sorted-head (keyed goes.key) (map keyed (keys_left e)) sorted)
+
+      here : Some (f x) ≡ cond (is_left e goes.key) (get c.map.now.entries goes.key) (cond (is_left c goes.key) (option_map f (get c.map.now.entries goes.key)) (get c.map.now.entries goes.key))
+      here =
+          ap (option_map f) stored
+          ∙ sym (λ i. cond (out i) (get c.map.now.entries goes.key) (cond (so_far.part goes.key left_before i) (option_map f (get c.map.now.entries goes.key)) (get c.map.now.entries goes.key)))
+
+      at : (s : List Bool) (b : Bool) → same_string s goes.key ≡ b → cond b (Some (f x)) (get d.map.now.entries s)
+          ≡ cond (is_left e s) (get c.map.now.entries s) (cond (is_left c s) (option_map f (get c.map.now.entries s)) (get c.map.now.entries s))
+      at s true is =
+          subst (λ r. Some (f x) ≡ cond (is_left e r) (get c.map.now.entries r) (cond (is_left c r) (option_map f (get c.map.now.entries r)) (get c.map.now.entries r)))
+          (sym (same_string-is s goes.key is)) here
+      at s false is =
+          so_far.values s
+          ∙ ap (λ b. cond b (get c.map.now.entries s) (cond (is_left c s) (option_map f (get c.map.now.entries s)) (get c.map.now.entries s)))
+          (ap (list_any (same_string s)) goes.first ∙ ap (λ b. b || is_left e s) is)
+
+  rewrites_all : (c d e : Course P T A R p shows k same writes) → HasRewritten c d → ComesToEnd d e → Rewrites f c e
+  rewrites_all c d e so_far ends = record {
+    same_map = ap (λ (b : MutBor (Contents T)). b.ghost_name) ends.map ∙ so_far.same_map;
+    values = λ s. ap (λ (b : MutBor (Contents T)). get b.now.entries s) ends.map ∙ so_far.values s
+        ∙ ap (λ ks. cond (list_any (same_string s) ks) (get c.map.now.entries s) (cond (is_left c s) (option_map f (get c.map.now.entries s)) (get c.map.now.entries s))) ends.before;
+    others = subst (λ (b : MutBor (Contents T)). b.now ≡ record c.map.now { entries = b.now.entries }) (sym ends.map) so_far.others;
+    ended = ends.after;
+  }
+
+  -- the same of a walk that may have no map
+  abbrev pub HasRewrittenIn : Option (Course P T A R p shows k same writes) → Option (Course P T A R p shows k same writes) → Type 0
+  HasRewrittenIn None None = Unit {0}
+  HasRewrittenIn None (Some d) = ⊥
+  HasRewrittenIn (Some c) None = ⊥
+  HasRewrittenIn (Some c) (Some d) = HasRewritten c d
+
+  pub starts_rewriting : (o : Option (Course P T A R p shows k same writes)) → OrderedIn o → HasRewrittenIn o o
+  starts_rewriting None h = tt
+  starts_rewriting (Some c) h = has_rewritten_none c h
+
+  pub goes_on_rewriting : (start o n : Option (Course P T A R p shows k same writes)) (q : P) (x w : T) → w ≡ f x → HasRewrittenIn start o → FirstIn IsFirst o q x →
+      PassesIn GoesOver o w n → HasRewrittenIn start n × (left_in n < left_in o)
+  goes_on_rewriting start None n q x w is so_far first goes = absurd goes
+  goes_on_rewriting start (Some d) None q x w is so_far first goes = absurd goes
+  goes_on_rewriting None (Some d) (Some e) q x w is so_far first goes = absurd so_far
+  goes_on_rewriting (Some c) (Some d) (Some e) q x w is so_far first goes =
+      (rewrites_one c d e q x so_far first (subst (λ y. GoesOver d y e) is goes), shorter (keys_left d) (keys_left e) goes.key goes.first)
+    where
+      shorter : (xs ys : List (List Bool)) (y : List Bool) → xs ≡ y ∷ ys → length ys < length xs
+      shorter xs ys y same = omega (arith, ap length same)
+
+  pub ends_rewriting : (start o n : Option (Course P T A R p shows k same writes)) → HasRewrittenIn start o → EndsIn ComesToEnd o n → RewritesIn f start n
+  ends_rewriting None None None so_far ends = tt
+  ends_rewriting None None (Some e) so_far ends = absurd ends
+  ends_rewriting None (Some d) n so_far ends = absurd so_far
+  ends_rewriting (Some c) None n so_far ends = absurd so_far
+  ends_rewriting (Some c) (Some d) None so_far ends = absurd ends
+  ends_rewriting (Some c) (Some d) (Some e) so_far ends = rewrites_all c d e so_far ends
+
+  -- the map that it hands back, once all was to come is changed
+  pub rewritten : (m : MutBor (Contents T)) (o d : Option (Course P T A R p shows k same writes)) (n : MutBor (Contents T)) →
+      StartsIn m (map (λ e. e.0) (listing m.now.entries)) o → RewritesIn f o d → HandsBack d (Some n) → RewritesMap f m n
+  rewritten m None d n starts done back = absurd starts
+  rewritten m (Some c) None n starts done back = absurd back
+  rewritten m (Some c) (Some d) n starts done back = record {
+    same_map = back.0 ∙ done.same_map ∙ starts.same_map;
+    values = λ s. ap (λ (x : Contents T). get x.entries s) back.1
+        ∙ done.values s ∙ ap (λ (x : Contents T). cond (is_left c s) (option_map f (get x.entries s)) (get x.entries s)) starts.map
+        ∙ ap (λ b. cond b (option_map f (get m.now.entries s)) (get m.now.entries s)) (ap (list_any (same_string s)) starts.to_come ∙ sym (contains_key-keys m.now.entries s))
+        ∙ at (get m.now.entries s);
+    others = back.1 ∙ done.others ∙ (λ i. record (starts.map i) { entries = (sym back.1 i).entries });
+  }
+    where
+      at : (o : Option T) → cond (is_some o) (option_map f o) o ≡ option_map f o
+      at None = refl
+      at (Some x) = refl

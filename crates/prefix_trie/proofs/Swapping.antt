@@ -1,0 +1,67 @@
+-- What a map becomes whose first value is swapped on a walk.
+use Rattle.std.proofs.Common.{◌≡◌, Bool, true, false, List, [], ◌∷◌, map, Option, None, Some, MatchOption, slice_get, refl, sym, ap, ap₂, ◌∙◌, true≢false, unwrap_or}
+use Rattle.std.specs.Borrow.{MutBor}
+use Rattle.std.specs.FinMap.{get, get-entries, find}
+use Rattle.std.specs.declared.cmp.PartialEq as partial
+use Rattle.std.specs.declared.fmt.Debug as debug
+use Rattle.prefix_trie_bits.specs.declared.prefix.Prefix as prefix
+use Rattle.prefix_trie_bits.specs.declared.prefix.Key as key
+use Rattle.prefix_trie_bits.specs.Order.{listing_cmp}
+use Rattle.prefix_trie_bits.specs.Model.Entries.{Entries}
+use Rattle.prefix_trie_bits.specs.Model.Selections.{listing, shown}
+use Rattle.prefix_trie_bits.proofs.Model.Ordered.{found_first}
+use Rattle.prefix_trie_table.specs.Shape.{Contents, with_value_at}
+use Rattle.prefix_trie_map.specs.declared.map.writing.course.Course.{Course}
+use Rattle.prefix_trie_map.specs.Writing.{IsFirst, GoesOver, ComesToEnd, StartsIn, HandsBack}
+use Rattle.prefix_trie_map.specs.WritingWalks.{PassesIn, EndsIn, FirstIn}
+use Rattle.prefix_trie.proofs.Rewriting.{first_key}
+
+abbrev is_cons : {X : Type 0} → List X → Bool
+is_cons [] = false
+is_cons (x ∷ xs) = true
+
+no_keys : {T : Type 0} (es : List (List Bool × T)) → map (λ e. e.0) es ≡ [] → es ≡ []
+no_keys [] is = refl
+no_keys (e ∷ es) is = absurd (true≢false (ap is_cons is))
+
+-- the first entry of a map, as users see it
+first_shown : {P T : Type 0} (back : List Bool → P) (m : Entries T) (es : List (List Bool × T)) (s : List Bool) (rest : List (List Bool)) (v : T) →
+    listing m ≡ es → map (λ e. e.0) es ≡ s ∷ rest → get m s ≡ Some v → Some (back s, v) ≡ slice_get (shown back es) 0
+first_shown back m [] s rest v listed is found = absurd (true≢false (ap is_cons (sym is)))
+first_shown back m (e ∷ es) s rest v listed is found =
+    let key : e.0 ≡ s = ap first_key is in
+    let value : Some v ≡ Some e.1 = sym found ∙ ap (get m) (sym key) ∙ get-entries m e.0 ∙ ap (find listing_cmp e.0) listed ∙ found_first e es in
+    ap₂ (λ q x. Some (q, x)) (ap back (sym key)) (ap (λ o. unwrap_or o v) value)
+
+module _ {P T : Type 0} where
+  -- what is answered of a map whose first value is swapped for another, and the map then
+  pub record SwapsFirst (back : List Bool → P) (value : T) (r : Option (P × T)) (m n : MutBor (Contents T)) : Type 0 where
+    pub same_map : n.ghost_name ≡ m.ghost_name
+    pub before : r ≡ slice_get (shown back (listing m.now.entries)) 0
+    pub unchanged : listing m.now.entries ≡ [] → n.now ≡ m.now
+    pub swapped : (q : List Bool) (v : T) (rest : List (List Bool × T)) → listing m.now.entries ≡ (q, v) ∷ rest → n.now ≡ with_value_at m.now q value
+
+module _ {P T A R : Type 0} {p : prefix.Ghosts P R} {shows : debug.Ghosts P} {k : key.Ghosts R} {same : partial.Ghosts R} {writes : debug.Ghosts R} where
+  pub swaps_first : (m : MutBor (Contents T)) (value : T) (r : Option (P × T)) (o d : Option (Course P T A R p shows k same writes)) (n : MutBor (Contents T)) →
+      StartsIn m (map (λ e. e.0) (listing m.now.entries)) o →
+      MatchOption r (EndsIn ComesToEnd o d) (λ e. FirstIn IsFirst o e.0 e.1 × PassesIn GoesOver o value d) → HandsBack d (Some n) → SwapsFirst p.back value r m n
+  swaps_first m value r None d n starts swap back = absurd starts
+  swaps_first m value r (Some c) None n starts swap back = absurd back
+  swaps_first m value None (Some c) (Some d) n starts ends back =
+      let none : listing m.now.entries ≡ [] = no_keys (listing m.now.entries) (sym starts.to_come ∙ ends.before) in
+      record {
+        same_map = back.0 ∙ ap (λ (b : MutBor (Contents T)). b.ghost_name) ends.map ∙ starts.same_map;
+        before = sym (ap (λ es. slice_get (shown p.back es) 0) none);
+        unchanged = λ h. back.1 ∙ ap (λ (b : MutBor (Contents T)). b.now) ends.map ∙ starts.map;
+        swapped = λ q v rest is. absurd (true≢false (ap is_cons (sym is ∙ none)));
+      }
+  swaps_first m value (Some e) (Some c) (Some d) n starts (first, goes) back = record {
+    same_map = back.0 ∙ ap (λ (b : MutBor (Contents T)). b.ghost_name) goes.map ∙ starts.same_map;
+    before =
+        ap (λ q. Some (q, e.1)) first.3
+        ∙ first_shown p.back m.now.entries (listing m.now.entries) first.0 first.1 e.1 refl (sym starts.to_come ∙ first.2) (ap (λ (x : Contents T). get x.entries first.0) (sym starts.map) ∙ first.4);
+    unchanged = λ none. absurd (true≢false (ap is_cons (sym first.2 ∙ starts.to_come ∙ ap (map (λ x. x.0)) none)));
+    swapped = λ q v rest is.
+        let key : goes.key ≡ q = ap first_key (sym goes.first ∙ starts.to_come ∙ ap (map (λ x. x.0)) is) in
+        back.1 ∙ ap (λ (b : MutBor (Contents T)). b.now) goes.map ∙ (λ i. with_value_at (starts.map i) (key i) value);
+  }

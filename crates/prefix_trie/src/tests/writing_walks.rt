@@ -1,0 +1,182 @@
+//! Callers of walks that lend values for writing, and what they know of the map afterwards.
+ghost use Rattle.std.specs.Prelude.{◌≡◌, ◌*◌, ◌%◌, ◌^◌, List, Bool, [], ◌∷◌, MatchOption, slice_get};
+ghost use Rattle.std.specs.FinMap.{get};
+ghost use Rattle.std.specs.Option.{option_map};
+ghost use Rattle.prefix_trie_bits.specs.Model.Selections.{listing, shown};
+ghost use Rattle.prefix_trie_table.specs.Shape.{with_value_at};
+ghost use Rattle.prefix_trie_map.specs.Writing.{ComesToEnd, GoesOver, IsFirst};
+ghost use Rattle.prefix_trie_map.specs.WritingWalks.{EndsIn, FirstIn, PassesIn};
+ghost use Rattle.prefix_trie.specs.Rewriting.{OrderedIn, RewritesIn};
+
+use crate::map::{IterMut, ValuesMut};
+use crate::tests::on_new::on_new;
+use crate::tests::refusing::Refusing;
+use crate::{Prefix, PrefixMap};
+use std::alloc::{Allocator, Global};
+use std::mem;
+use std::test::Fail;
+
+// Sets the values that are still to come.
+fn set_rest<'b, 'a, P: Prefix, T: Copy, A: Allocator>(
+    walk: &'b mut ValuesMut<'a, P, T, A>,
+    value: T,
+)
+    requires { OrderedIn walk.old.walk.course }
+    ensures { RewritesIn (λ _. value) walk.old.walk.course walk.new.walk.course }
+{
+    while let Some(place) = walk.next() {
+        *place = value;
+    }
+}
+
+// Sets all values of a map.
+fn set_all<P: Prefix, T: Copy, A: Allocator>(map: &mut PrefixMap<P, T, A>, value: T)
+    ensures entries { (q : List Bool) → get map.new.entries q ≡ option_map (λ _. value) (get map.old.entries q) }
+    ensures others { map.new ≡ record map.old { entries = map.new.entries } }
+{
+    let mut walk = map.values_mut();
+    set_rest(&mut walk, value);
+    if let Some(_map) = walk.into_map() {}
+}
+
+// Doubles the values that are still to come.
+fn double_rest<'b, 'a, P: Prefix, A: Allocator>(walk: &'b mut ValuesMut<'a, P, u64, A>)
+    requires { OrderedIn walk.old.walk.course }
+    ensures { RewritesIn (λ v. (v * 2) % 2 ^ 64) walk.old.walk.course walk.new.walk.course }
+{
+    while let Some(place) = walk.next() {
+        *place = place.wrapping_mul(2);
+    }
+}
+
+// Doubles all values of a map.
+fn double_all<P: Prefix, A: Allocator>(map: &mut PrefixMap<P, u64, A>)
+    ensures entries { (q : List Bool) → get map.new.entries q ≡ option_map (λ v. (v * 2) % 2 ^ 64) (get map.old.entries q) }
+    ensures others { map.new ≡ record map.old { entries = map.new.entries } }
+{
+    let mut walk = map.values_mut();
+    double_rest(&mut walk);
+    if let Some(_map) = walk.into_map() {}
+}
+
+// Swaps the next value for another, and answers its prefix and what was there.
+fn swap_next<'b, 'a, P: Prefix, T: Drop, A: Allocator>(
+    walk: &'b mut IterMut<'a, P, T, A>,
+    value: T,
+) -> Option<(P, T)>
+    ensures { MatchOption result (EndsIn ComesToEnd walk.old.course walk.new.course)
+        (λ r. FirstIn IsFirst walk.old.course r.0 r.1 × PassesIn GoesOver walk.old.course value walk.new.course) }
+{
+    let (prefix, stop) = walk.step()?;
+    let before = mem::replace(walk.value(stop), value);
+    Some((prefix, before))
+}
+
+// Swaps the first value of a map for another, and answers its prefix and what was there.
+fn swap_first<P: Prefix, T: Drop, A: Allocator>(
+    map: &mut PrefixMap<P, T, A>,
+    value: T,
+) -> Option<(P, T)>
+    ensures before { result ≡ slice_get (shown P.back (listing map.old.entries)) 0 }
+    ensures unchanged { listing map.old.entries ≡ [] → map.new ≡ map.old }
+    ensures swapped { (q : List Bool) → (v : T) → (rest : List (List Bool × T)) → listing map.old.entries ≡ (q, v) ∷ rest
+        → map.new ≡ with_value_at map.old q value }
+{
+    let mut walk = map.iter_mut();
+    let before = swap_next(&mut walk, value);
+    if let Some(_map) = walk.into_map() {}
+    before
+}
+
+type Numbers<'h> = PrefixMap<(u8, u8), u64, &'h Refusing<Global>>;
+
+type Entries<'m, 'h> = IterMut<'m, (u8, u8), u64, &'h Refusing<Global>>;
+
+/// Stores three numbers.
+fn put_three(map: &mut Numbers<'_>) -> bool {
+    let answers = [
+        map.insert((0x80, 1), 3),
+        map.insert((0xa5, 8), u64::MAX),
+        map.insert((0xa0, 3), 4),
+    ];
+    answers == [Ok(None), Ok(None), Ok(None)]
+}
+
+/// Whether the next entry is this one, over whose value another is written.
+fn writes_next<'b, 'm, 'h>(
+    walk: &'b mut Entries<'m, 'h>,
+    entry: ((u8, u8), u64),
+    value: u64,
+) -> bool {
+    match walk.next() {
+        Some((prefix, place)) => {
+            let is_same = (prefix, *place) == entry;
+            *place = value;
+            is_same
+        }
+        None => false,
+    }
+}
+
+/// Whether `iter_mut` gives all three entries.
+fn writes_all(map: &mut Numbers<'_>) -> bool {
+    let mut walk = map.iter_mut();
+    writes_next(&mut walk, ((0x80, 1), 1), 10)
+        & writes_next(&mut walk, ((0xa0, 3), 8), 20)
+        & writes_next(&mut walk, ((0xa5, 8), u64::MAX - 1), 30)
+        & walk.next().is_none()
+}
+
+/// Whether `iter_from_mut` gives what comes from the second on, or behind it.
+fn writes_from(map: &mut Numbers<'_>, inclusive: bool) -> bool {
+    let mut walk = map.iter_from_mut(&(0xbf, 3), inclusive);
+    (!inclusive || writes_next(&mut walk, ((0xa0, 3), 20), 21))
+        & writes_next(&mut walk, ((0xa5, 8), 30), 30)
+        & walk.next().is_none()
+}
+
+/// Whether `children_mut` gives what lies below the second.
+fn writes_below(map: &mut Numbers<'_>) -> bool {
+    let mut walk = map.children_mut(&(0xa0, 2));
+    writes_next(&mut walk, ((0xa0, 3), 21), 22)
+        & writes_next(&mut walk, ((0xa5, 8), 30), 31)
+        & walk.next().is_none()
+}
+
+/// Whether walks by default have nothing to come, and no map.
+fn are_empty(_map: &mut Numbers<'_>) -> bool {
+    let mut walk: Entries<'_, '_> = IterMut::default();
+    walk.next().is_none() & walk.into_map().is_none()
+}
+
+/// Whether the values are these.
+fn has(map: &Numbers<'_>, values: [u64; 3]) -> bool {
+    map.values().copied().eq(values)
+}
+
+/// Whether walks over three entries write so, with every request for memory refused, of which none comes.
+fn are_written(map: &mut Numbers<'_>, heap: &Refusing<Global>) -> bool {
+    let is_put = put_three(map);
+    heap.refuse(0, u64::MAX);
+    double_all(map);
+    let answers = [
+        is_put,
+        has(map, [6, 8, u64::MAX - 1]),
+        swap_first(map, 1) == Some(((0x80, 1), 6)),
+        writes_all(map),
+        writes_from(map, false),
+        writes_from(map, true),
+        writes_below(map),
+        has(map, [10, 22, 31]),
+        are_empty(map),
+    ];
+    set_all(map, 7);
+    (answers == [true; 9]) & has(map, [7, 7, 7]) & (heap.left() == u64::MAX)
+}
+
+#[test]
+fn values_are_written_on_the_way(rt: HostRuntime) -> Result<(), Fail> {
+    let heap = Refusing::new(rt.alloc());
+    assert!(rt; on_new(PrefixMap::new(&heap), &heap, are_written)?);
+    Ok(())
+}

@@ -1,0 +1,5 @@
+use Rattle.std.proofs.Common.{rules}
+use Rattle.prefix_trie_map.proofs.map.PrefixMap.values_mut.Goals as goal
+
+pub returns-clause-starts : goal.returns-clause-starts
+returns-clause-starts g c = search rules
