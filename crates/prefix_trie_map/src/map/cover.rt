@@ -9,6 +9,7 @@ ghost use Rattle.prefix_trie_map.specs.Walks.{lent_item};
 ghost use Rattle.prefix_trie_map.specs.Whole.{IsWhole};
 
 use crate::map::lookup::rebuilt;
+use crate::map::projection::{Keyed, KeysOf};
 use crate::map::{PrefixMap, Visits};
 use prefix_trie_bits::prefix::Prefix;
 use prefix_trie_table::table::Cover as TableCover;
@@ -49,7 +50,7 @@ impl<P: Prefix, T: Drop, A: Allocator> PrefixMap<P, T, A> {
         ensures runs { GivesInOrder P }
         ensures whole { IsWhole P.R.bit_width self.now }
     {
-        CoverKeys::new(self.cover(prefix))
+        KeysOf::new(self.cover(prefix))
     }
 
     /// The values stored for the prefixes that contain this one, that of the shortest first: those of `cover`.
@@ -113,45 +114,24 @@ impl<'a, P: Prefix, T: Drop, A: Allocator> Iterator for Cover<'a, P, T, A> {
     }
 }
 
-/// The stored prefixes that contain a prefix, the shortest first and without host bits.
-#[derive(Drop)]
-pub struct CoverKeys<'a, P: Prefix, T: Drop, A: Allocator> {
-    inner: Cover<'a, P, T, A>,
-}
+impl<'a, P: Prefix, T: Drop, A: Allocator> Keyed for Cover<'a, P, T, A> {
+    ghost use Rattle.std.specs.Prelude.{map};
 
-impl<'a, P: Prefix, T: Drop, A: Allocator> Model for CoverKeys<'a, P, T, A> {
-    ghost use Rattle.std.specs.Prelude.{List, map};
+    type Key = P;
 
-    ghost Value = { List P };
-
-    ghost view = { λ c. map (λ e. e.0) c.inner };
-}
-
-impl<'a, P: Prefix, T: Drop, A: Allocator> CoverKeys<'a, P, T, A> {
-    /// The prefixes of a walk.
-    #[inline]
-    fn new(inner: Cover<'a, P, T, A>) -> Self
-        ensures { result ≡ map (λ e. e.0) inner.entry }
-    {
-        CoverKeys { inner }
-    }
-}
-
-impl<'a, P: Prefix, T: Drop, A: Allocator> Iterator for CoverKeys<'a, P, T, A> {
-    type Item = P;
-
-    ghost next_gives = { TakesFirst (λ p. p) };
-
-    ghost remaining = { λ items. at_most (length items) };
+    ghost keys = { map (λ e. e.0) };
 
     #[inline]
-    fn next(&mut self) -> Option<P> {
-        let Some((prefix, _)) = self.inner.next() else {
+    fn next_key(&mut self) -> Option<P> {
+        let Some((prefix, _)) = self.next() else {
             return None;
         };
         Some(prefix)
     }
 }
+
+/// The stored prefixes that contain a prefix, the shortest first and without host bits.
+pub type CoverKeys<'a, P, T, A> = KeysOf<Cover<'a, P, T, A>>;
 
 /// The values stored for the prefixes that contain a prefix, that of the shortest first.
 #[derive(Drop)]

@@ -10,6 +10,7 @@ ghost use Rattle.prefix_trie_table.specs.Copies.{IsPairCloned};
 ghost use Rattle.prefix_trie_map.specs.Whole.{IsWhole};
 
 use crate::map::iter::without_host_bits;
+use crate::map::projection::{Keyed, KeysOf};
 use crate::map::{PrefixMap, Visits};
 use prefix_trie_bits::prefix::Prefix;
 use prefix_trie_table::table::IntoWalk;
@@ -52,7 +53,7 @@ impl<P: Prefix, T: Drop, A: Allocator> PrefixMap<P, T, A> {
         ensures runs { GivesInOrder P }
         ensures whole { IsWhole P.R.bit_width self }
     {
-        IntoKeys::new(self.into_iter())
+        KeysOf::new(self.into_iter())
     }
 
     /// The values, moved out in the listing order of their prefixes.
@@ -154,53 +155,32 @@ impl<P: Prefix, T: Drop, A: Allocator> Iterator for IntoIter<P, T, A> {
     }
 }
 
-/// The prefixes of a map in listing order, without host bits. The values are dropped.
-#[derive(Drop)]
-pub struct IntoKeys<P: Prefix, T: Drop, A: Allocator> {
-    inner: IntoIter<P, T, A>,
-}
+impl<P: Prefix, T: Drop, A: Allocator> Keyed for IntoIter<P, T, A> {
+    ghost use Rattle.std.specs.Prelude.{map};
 
-impl<P: Prefix, T: Drop, A: Allocator> Model for IntoKeys<P, T, A> {
-    ghost use Rattle.std.specs.Prelude.{List, map};
+    type Key = P;
 
-    ghost Value = { List P };
+    ghost keys = { map (λ e. e.0) };
 
-    ghost view = { λ it. map (λ e. e.0) it.inner };
-}
-
-impl<P: Prefix, T: Drop, A: Allocator> IntoKeys<P, T, A> {
-    /// The prefixes of a walk.
     #[inline]
-    fn new(inner: IntoIter<P, T, A>) -> Self
-        ensures { result ≡ map (λ e. e.0) inner }
-    {
-        IntoKeys { inner }
+    fn next_key(&mut self) -> Option<P> {
+        let Some((prefix, _)) = self.next() else {
+            return None;
+        };
+        Some(prefix)
     }
 }
 
-impl<P: Prefix, T: Clone, A: Allocator + Clone> IntoKeys<P, T, A> {
+/// The prefixes of a map in listing order, without host bits. The values are dropped.
+pub type IntoKeys<P, T, A> = KeysOf<IntoIter<P, T, A>>;
+
+impl<P: Prefix, T: Clone, A: Allocator + Clone> KeysOf<IntoIter<P, T, A>> {
     /// A walk with the same prefixes to come. It clones the values still there; refused as `IntoIter::clone`.
     pub fn clone(&self) -> Result<Self, AllocError>
         ensures { IfOk result (λ copy. copy ≡ self.now) }
     {
         let inner = self.inner.clone()?;
-        Ok(IntoKeys { inner })
-    }
-}
-
-impl<P: Prefix, T: Drop, A: Allocator> Iterator for IntoKeys<P, T, A> {
-    type Item = P;
-
-    ghost next_gives = { TakesFirst (λ p. p) };
-
-    ghost remaining = { λ items. at_most (length items) };
-
-    #[inline]
-    fn next(&mut self) -> Option<P> {
-        let Some((prefix, _)) = self.inner.next() else {
-            return None;
-        };
-        Some(prefix)
+        Ok(KeysOf::new(inner))
     }
 }
 

@@ -8,6 +8,7 @@ ghost use Rattle.prefix_trie_bits.specs.Model.Selections.{listing, shown};
 ghost use Rattle.prefix_trie_map.specs.Walks.{lent_item};
 ghost use Rattle.prefix_trie_map.specs.Whole.{IsWhole};
 
+use crate::map::projection::{Keyed, KeysOf};
 use crate::map::{PrefixMap, Visits};
 use prefix_trie_bits::prefix::Prefix;
 use prefix_trie_table::table::Walk;
@@ -48,7 +49,7 @@ impl<P: Prefix, T: Drop, A: Allocator> PrefixMap<P, T, A> {
         ensures runs { GivesInOrder P }
         ensures whole { IsWhole P.R.bit_width self.now }
     {
-        Keys::new(self.iter())
+        KeysOf::new(self.iter())
     }
 
     /// The values, in the listing order of their prefixes: those of `iter`.
@@ -159,64 +160,41 @@ pub(super) fn without_host_bits<P: Prefix>(key: P::R, len: u32) -> P
     P::from_repr_len(key, len as u8)
 }
 
-/// The prefixes of a map in listing order, without host bits.
-#[derive(Drop)]
-pub struct Keys<'a, P: Prefix, T: Drop, A: Allocator> {
-    inner: Iter<'a, P, T, A>,
-}
+impl<'a, P: Prefix, T: Drop, A: Allocator> Keyed for Iter<'a, P, T, A> {
+    ghost use Rattle.std.specs.Prelude.{map};
 
-impl<'a, P: Prefix, T: Drop, A: Allocator> Model for Keys<'a, P, T, A> {
-    ghost use Rattle.std.specs.Prelude.{List, map};
+    type Key = P;
 
-    ghost Value = { List P };
+    ghost keys = { map (λ e. e.0) };
 
-    ghost view = { λ it. map (λ e. e.0) it.inner };
-}
-
-impl<'a, P: Prefix, T: Drop, A: Allocator> Keys<'a, P, T, A> {
-    /// The prefixes of a walk.
     #[inline]
-    pub(super) fn new(inner: Iter<'a, P, T, A>) -> Self
-        ensures { result ≡ map (λ e. e.0) inner.entry }
-    {
-        Keys { inner }
+    fn next_key(&mut self) -> Option<P> {
+        let Some((prefix, _)) = self.next() else {
+            return None;
+        };
+        Some(prefix)
     }
+}
 
+/// The prefixes of a map in listing order, without host bits.
+pub type Keys<'a, P, T, A> = KeysOf<Iter<'a, P, T, A>>;
+
+impl<'a, P: Prefix, T: Drop, A: Allocator> KeysOf<Iter<'a, P, T, A>> {
     /// The same walk, at the same place.
     #[inline]
     pub fn clone(&self) -> Self
         ensures { result ≡ self.now }
     {
-        Keys {
-            inner: self.inner.clone(),
-        }
+        KeysOf::new(self.inner.clone())
     }
 }
 
-impl<'a, P: Prefix, T: Drop, A: Allocator> Default for Keys<'a, P, T, A> {
+impl<'a, P: Prefix, T: Drop, A: Allocator> Default for KeysOf<Iter<'a, P, T, A>> {
     ghost is_default = { λ it. it ≡ [] };
 
     #[inline]
     fn default() -> Self {
-        Keys {
-            inner: Iter::default(),
-        }
-    }
-}
-
-impl<'a, P: Prefix, T: Drop, A: Allocator> Iterator for Keys<'a, P, T, A> {
-    type Item = P;
-
-    ghost next_gives = { TakesFirst (λ p. p) };
-
-    ghost remaining = { λ items. at_most (length items) };
-
-    #[inline]
-    fn next(&mut self) -> Option<P> {
-        let Some((prefix, _)) = self.inner.next() else {
-            return None;
-        };
-        Some(prefix)
+        KeysOf::new(Iter::default())
     }
 }
 

@@ -1,8 +1,0 @@
-use Rattle.std.proofs.Common.{rules}
-use Rattle.prefix_trie_map.proofs.map.into_iter.IntoKeysIterator.next.Goals as goal
-
-pub returns-in_default-clause-steps : goal.returns-in_default-clause-steps
-returns-in_default-clause-steps g c = search rules
-
-pub returns-clause-steps : goal.returns-clause-steps
-returns-clause-steps g c = search rules

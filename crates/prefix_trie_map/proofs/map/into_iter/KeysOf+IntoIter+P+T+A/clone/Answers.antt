@@ -1,0 +1,7 @@
+use Rattle.std.proofs.Common.{◌∙◌}
+use Rattle.prefix_trie_map.proofs.Cloned.{keys_cloned}
+use Rattle.prefix_trie_map.proofs.map.into_iter.KeysOf+IntoIter+P+T+A.clone.Goals as goal
+
+pub returns : goal.returns
+returns g c =
+    c.new.ensures ∙ keys_cloned g.T.Clone.is_clone c.self.inside.inner c.in_ok-inner.inner c.in_ok-inner.ensures.items ∙ c.self.view_is
