@@ -1,5 +1,5 @@
 //! Keys and prefixes as strings of bits: numbers, pairs of a number and a length, and IP networks.
-ghost use Rattle.std.specs.Prelude.{◌≡◌, ℕ, ◌+◌, ◌-◌, ◌^◌, ◌<◌, ◌≤◌, ◌++◌, List, Bool, take, drop, IsTrue, true, ◌↔◌};
+ghost use Rattle.std.specs.Prelude.{◌≡◌, ℕ, ◌+◌, ◌-◌, ◌^◌, ◌<◌, ◌≤◌, ◌++◌, List, Bool, take, drop, IsTrue, MatchOption, true, ◌↔◌};
 ghost use Rattle.prefix_trie_bits.specs.Keys.{KeyLaws, PrefixLaws};
 ghost use Rattle.prefix_trie_bits.specs.Bits.{number, digits, zeros, begins};
 
@@ -75,6 +75,32 @@ pub trait Key: Copy + Eq + Debug {
         requires fits { tail < 2 ^ n }
         ensures key { IsKey result }
         ensures value { bits result ≡ take depth (bits self) ++ digits n tail ++ zeros (bit_width - (depth + n)) };
+
+    /// The key whose number is `2^k`.
+    ///
+    /// Asks that `k` is below the width.
+    ///
+    /// ```text
+    /// u8::power(3)   0b0000_1000, the number of strings of 8 bits that begin with a given one of 5
+    /// ```
+    #[inline]
+    fn power(k: u32) -> Self
+        requires { k < bit_width }
+        ensures key { IsKey result }
+        ensures value { number (bits result) ≡ 2 ^ k }
+    {
+        Self::zero().extend(Self::width() - 1 - k, 1, 1)
+    }
+
+    /// The key whose number is the sum of the two; `None` exactly if that is `2^width` or more.
+    ///
+    /// ```text
+    /// 1_u8.plus(2)     Some(3)
+    /// 128_u8.plus(128) None
+    /// ```
+    fn plus(self, other: Self) -> Option<Self>
+        ensures { MatchOption result (2 ^ bit_width ≤ number (bits self) + number (bits other))
+            (λ sum. IsKey sum × (number (bits sum) ≡ number (bits self) + number (bits other))) };
 
     // every string of bit_width bits is that of exactly one key
     ghost key_laws: { KeyLaws bit_width IsKey bits key_of };

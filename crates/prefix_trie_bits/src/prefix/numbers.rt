@@ -51,6 +51,12 @@ impl Key for u8 {
     fn extend(self, depth: u32, n: u32, tail: u32) -> u8 {
         extend_of(u64::from(self), 8, depth, n, tail) as u8
     }
+
+    #[inline]
+    #[tactic(auto, using(crate::specs::BitStrings::number_of_digits))]
+    fn plus(self, other: u8) -> Option<u8> {
+        self.checked_add(other)
+    }
 }
 
 impl Key for u16 {
@@ -95,6 +101,12 @@ impl Key for u16 {
     #[inline]
     fn extend(self, depth: u32, n: u32, tail: u32) -> u16 {
         extend_of(u64::from(self), 16, depth, n, tail) as u16
+    }
+
+    #[inline]
+    #[tactic(auto, using(crate::specs::BitStrings::number_of_digits))]
+    fn plus(self, other: u16) -> Option<u16> {
+        self.checked_add(other)
     }
 }
 
@@ -141,6 +153,12 @@ impl Key for u32 {
     fn extend(self, depth: u32, n: u32, tail: u32) -> u32 {
         extend_of(u64::from(self), 32, depth, n, tail) as u32
     }
+
+    #[inline]
+    #[tactic(auto, using(crate::specs::BitStrings::number_of_digits))]
+    fn plus(self, other: u32) -> Option<u32> {
+        self.checked_add(other)
+    }
 }
 
 impl Key for u64 {
@@ -185,6 +203,12 @@ impl Key for u64 {
     #[inline]
     fn extend(self, depth: u32, n: u32, tail: u32) -> u64 {
         extend_of(self, 64, depth, n, tail)
+    }
+
+    #[inline]
+    #[tactic(auto, using(crate::specs::BitStrings::number_of_digits))]
+    fn plus(self, other: u64) -> Option<u64> {
+        self.checked_add(other)
     }
 }
 
@@ -231,6 +255,12 @@ impl Key for usize {
     fn extend(self, depth: u32, n: u32, tail: u32) -> usize {
         extend_of(self as u64, 64, depth, n, tail) as usize
     }
+
+    #[inline]
+    #[tactic(auto, using(crate::specs::BitStrings::number_of_digits))]
+    fn plus(self, other: usize) -> Option<usize> {
+        self.checked_add(other)
+    }
 }
 
 impl Key for u128 {
@@ -275,5 +305,11 @@ impl Key for u128 {
     #[inline]
     fn extend(self, depth: u32, n: u32, tail: u32) -> u128 {
         wide_digits::extend_of(self, 128, depth, n, tail)
+    }
+
+    #[inline]
+    #[tactic(auto, using(crate::specs::BitStrings::number_of_digits))]
+    fn plus(self, other: u128) -> Option<u128> {
+        self.checked_add(other)
     }
 }
