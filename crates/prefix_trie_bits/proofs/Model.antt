@@ -10,6 +10,7 @@ pub mod Ways
 pub mod Matches
 pub mod Listings
 pub mod Halves
+pub mod Outermost
 pub mod Plain
 pub mod Played
 pub mod WorkedRows

@@ -58,7 +58,8 @@ pub fn visit_laws<T>()
     ensures { VisitLaws T }
 {}
 
-/// A map covers at most all addresses, none without entries, and all with a stored prefix of length 0.
+/// A map covers at most all addresses, none without entries, and all with a stored prefix of length 0. A stored prefix that no
+/// other one contains has 2^(width - length) of them, and those of the prefixes outside of it are others.
 pub fn address_laws<T>()
     ensures { AddressLaws T }
 {}

@@ -1,15 +1,10 @@
 -- Counting the strings that some string of a list begins, half by half.
-use Rattle.std.proofs.Common.{◌≡◌, ◌≤◌, Some, None, subst, eq-eqb, ℕ, suc, zero, ◌+◌, ◌^◌, Bool, true, false, cond, ◌&&◌, ◌||◌, List, [], ◌∷◌, length, map, filter, refl, sym, ap, ap₂, ◌∙◌, arith, true≢false, length-append}
+use Rattle.std.proofs.Common.{◌≡◌, ◌≤◌, subst, ℕ, suc, zero, ◌+◌, ◌^◌, Bool, true, false, cond, ◌&&◌, ◌||◌, List, [], ◌∷◌, length, map, filter, refl, sym, ap, ap₂, ◌∙◌, arith, true≢false, length-append}
 use Rattle.std.proofs.lemmas.List.Elements.{filter-append}
 use Rattle.std.specs.List.{list_any}
-use Rattle.std.specs.FinMap.{keys, contains_key}
 use Rattle.prefix_trie_bits.specs.Bits.{begins, same_bit}
 use Rattle.prefix_trie_bits.specs.Model.Nodes.{is_root}
-use Rattle.prefix_trie_bits.specs.Model.Addresses.{full_strings, covered, addresses, address_answer}
-use Rattle.prefix_trie_bits.specs.Model.Entries.{Entries}
-use Rattle.prefix_trie_bits.specs.Laws.Addresses.{AddressLaws}
-use Rattle.prefix_trie_bits.proofs.Model.Members.{of-key}
-use Rattle.prefix_trie_bits.proofs.Model.Ordered.{entries-empty}
+use Rattle.prefix_trie_bits.specs.Model.Addresses.{full_strings, covered}
 
 -- what is left of the strings after their first bit, where it is b; the empty string stays
 abbrev pub tails : Bool → List (List Bool) → List (List Bool)
@@ -115,21 +110,8 @@ one_or_none : (b : Bool) → cond b 1 0 ≤ 1
 one_or_none true = omega arith
 one_or_none false = omega arith
 
-covered-most : (w : ℕ) (ks : List (List Bool)) → covered w ks ≤ 2 ^ w
+pub covered-most : (w : ℕ) (ks : List (List Bool)) → covered w ks ≤ 2 ^ w
 covered-most zero ks = subst (λ n. n ≤ 1) (sym (one-key ks)) (one_or_none (list_any is_root ks))
 covered-most (suc w) ks =
     subst (λ n. n ≤ 2 ^ suc w) (sym (covered-suc w ks))
     (twice w (covered w (tails false ks)) (covered w (tails true ks)) (covered-most w (tails false ks)) (covered-most w (tails true ks)))
-
-module _ {T : Type 0} where
-  all-covered : (width : ℕ) (m : Entries T) → contains_key m [] ≡ true → address_answer width m ≡ None
-  all-covered width m has =
-      let all : addresses width m ≡ 2 ^ width = covered-root width (keys m) (of-key m is_root [] has refl) in
-      ap (λ b. cond b None (Some (addresses width m))) (eq-eqb (addresses width m) (2 ^ width) all)
-
-pub address_laws : (T : Type 0) → AddressLaws T
-address_laws T = record {
-  at_most = λ width m. covered-most width (keys m);
-  of_no_entries = λ width. ap (covered width) (ap (map (λ e. e.0)) (entries-empty T)) ∙ covered-none width;
-  of_root = all-covered;
-}

@@ -1,7 +1,8 @@
 -- How many addresses a map covers.
-use Rattle.std.specs.Prelude.{◌≡◌, ℕ, ◌^◌, ◌≤◌, true, [], None}
+use Rattle.std.specs.Prelude.{◌≡◌, ℕ, ◌+◌, ◌-◌, ◌^◌, ◌≤◌, Bool, true, List, [], None, length}
 use Rattle.std.specs.FinMap.{contains_key}
-use Rattle.prefix_trie_bits.specs.Model.Entries.{Entries, no_entries}
+use Rattle.prefix_trie_bits.specs.Bits.{begins}
+use Rattle.prefix_trie_bits.specs.Model.Entries.{Entries, no_entries, without_below}
 use Rattle.prefix_trie_bits.specs.Model.Addresses.{addresses, address_answer}
 
 pub record AddressLaws (T : Type 0) : Type 0 where
@@ -11,3 +12,7 @@ pub record AddressLaws (T : Type 0) : Type 0 where
   pub of_no_entries : (width : ℕ) → addresses width (no_entries {T = T}) ≡ 0
   -- a stored prefix of length 0 covers all, and `address_count` then answers None
   pub of_root : (width : ℕ) (m : Entries T) → contains_key m [] ≡ true → address_answer width m ≡ None
+  -- a stored key that no other one begins covers 2^(width - length); those of the keys that it does not begin come on top
+  pub of_outermost : (width : ℕ) (m : Entries T) (k : List Bool) → length k ≤ width → contains_key m k ≡ true
+      → ((s : List Bool) → contains_key m s ≡ true → begins s k ≡ true → s ≡ k)
+      → addresses width m ≡ 2 ^ (width - length k) + addresses width (without_below m k)
