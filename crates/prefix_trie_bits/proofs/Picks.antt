@@ -1,5 +1,5 @@
 -- Picking elements by the set bits of a number.
-use Rattle.std.proofs.Common.{◌≡◌, ℕ, zero, suc, ◌+◌, ◌-◌, ◌*◌, ◌/◌, ◌%◌, ◌^◌, ◌<◌, ◌≢◌, Bool, true, false, cond, eqb, List, [], ◌∷◌, length, refl, sym, ap, ap₂, ◌∙◌, arith, get_or, pow_pos, bit_and, filter, add-zero, pow-suc, inl, inr}
+use Rattle.std.proofs.Common.{◌≡◌, ℕ, zero, suc, ◌+◌, ◌-◌, ◌*◌, ◌/◌, ◌%◌, ◌^◌, ◌<◌, ◌≢◌, Bool, true, false, cond, ◌&&◌, eqb, List, [], ◌∷◌, length, refl, sym, ap, ap₂, ◌∙◌, arith, get_or, pow_pos, bit_and, filter, add-zero, pow-suc, inl, inr}
 use Rattle.std.specs.Int.{bit_at}
 use Rattle.std.specs.Int.Bits.{and_self, and_zero_l}
 use Rattle.std.proofs.lemmas.Nat.{and_block, shr_split}
@@ -28,6 +28,19 @@ module _ {X : Type 0} where
   pick-filter (x ∷ xs) p m d f =
       ap₂ (λ t r. cond t (x ∷ r) r) (sym (has-low m) ∙ f 0 (omega arith))
       (pick-filter xs p (m / 2) d (λ i l. sym (has-suc m i) ∙ f (suc i) (omega arith)))
+
+  -- the elements at the bits of another number that pass a test, where the bits are both
+  pub pick-both : (xs : List X) (p : X → Bool) (m a : ℕ) (d : X) → ((i : ℕ) → i < length xs → has m i ≡ (has a i && p (get_or xs i d))) → pick m xs ≡ filter p (pick a xs)
+  unfolding pick
+  pick-both [] p m a d f = refl
+  pick-both (x ∷ xs) p m a d f =
+      ap₂ (λ t r. cond t (x ∷ r) r) (sym (has-low m) ∙ f 0 (omega arith) ∙ ap (λ t. t && p x) (has-low a))
+      (pick-both xs p (m / 2) (a / 2) d (λ i l. sym (has-suc m i) ∙ f (suc i) (omega arith) ∙ ap (λ t. t && p (get_or xs i d)) (has-suc a i)))
+      ∙ go (eqb (a % 2) 1)
+    where
+      go : (t : Bool) → cond (t && p x) (x ∷ filter p (pick (a / 2) xs)) (filter p (pick (a / 2) xs)) ≡ filter p (cond t (x ∷ pick (a / 2) xs) (pick (a / 2) xs))
+      go true = refl
+      go false = refl
 
   -- the lowest set bit picks the first element, and the others the rest
   pub pick-first : (xs : List X) (m t m' : ℕ) (d : X) → t < length xs → has m t ≡ true → ((i : ℕ) → i < t → has m i ≡ false) → has m' t ≡ false → ((i : ℕ) → i ≢ t → has m' i ≡ has m i) → pick m xs ≡ get_or xs t d ∷ pick m' xs

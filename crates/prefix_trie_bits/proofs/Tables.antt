@@ -1,11 +1,12 @@
 -- Each entry of the tables, by computing: a test over the whole table, and what it says of an entry.
-use Rattle.std.proofs.Common.{◌≡◌, ℕ, ◌+◌, ◌*◌, ◌<◌, ◌≤◌, Bool, true, ◌||◌, ◌&&◌, not, nat_eq, nat_lt, ltb-true, List, length, take, refl, subst, arith, get_or}
+use Rattle.std.proofs.Common.{◌≡◌, ℕ, zero, suc, ◌+◌, ◌*◌, ◌/◌, ◌%◌, ◌<◌, ◌≤◌, Bool, true, ◌||◌, ◌&&◌, not, nat_eq, nat_lt, ltb-true, List, [], ◌∷◌, length, take, refl, subst, ◌∙◌, arith, get_or}
 use Rattle.std.specs.Bool.{beq}
 use Rattle.prefix_trie_bits.specs.Bits.{number, digits, begins}
-use Rattle.prefix_trie_bits.specs.Places.{has, value_bit, strings, is_in, is_before, HoldsValues, HoldsChildren, HoldsPlaces}
+use Rattle.prefix_trie_bits.specs.Places.{has, value_bit, strings, is_in, is_before, HoldsValues, HoldsChildren, HoldsPlaces, HoldsPositions}
 use Rattle.prefix_trie_bits.specs.declared.node.masks.TheConstants.{MATCHES, VALUES_COVERED, CHILDREN_COVERED}
-use Rattle.prefix_trie_bits.specs.declared.node.order.TheConstants.{FROM_VALUE, BEHIND_CHILD}
+use Rattle.prefix_trie_bits.specs.declared.node.order.TheConstants.{FROM_VALUE, BEHIND_CHILD, NOT_BELOW}
 use Rattle.prefix_trie_bits.proofs.Checks.{below, each, at_below, at_string, both, same}
+use Rattle.prefix_trie_bits.proofs.Ranks.{has-low, has-suc}
 
 -- ---- the tests of masks
 
@@ -118,3 +119,29 @@ unfolding behind_child_test
 behind-child-entry b t l e =
     subst (λ k. HoldsPlaces (get_or BEHIND_CHILD k (0, 0)).0 (get_or BEHIND_CHILD k (0, 0)).1 (is_before t)) e
     (places-held _ _ _ (of-five (length t) _ l (at_string 5 behind_child_test behind-children-right t (omega arith))))
+
+-- ---- what a value bit's string does not begin
+
+-- the bits of a mask, the lowest first, are a test's answers
+unfoldable bits_hold : ℕ → (List Bool → Bool) → List (List Bool) → Bool
+bits_hold mask test [] = true
+bits_hold mask test (s ∷ ss) = beq (nat_eq (mask % 2) 1) (test s) && bits_hold (mask / 2) test ss
+
+bits-held : (mask : ℕ) (test : List Bool → Bool) (ss : List (List Bool)) → bits_hold mask test ss ≡ true → (i : ℕ) → i < length ss → has mask i ≡ test (get_or ss i [])
+unfolding bits_hold
+bits-held mask test [] h i l = absurd (omega arith)
+bits-held mask test (s ∷ ss) h zero l = has-low mask ∙ same _ _ (both _ _ h).0
+bits-held mask test (s ∷ ss) h (suc i) l = has-suc mask i ∙ bits-held (mask / 2) test ss (both _ _ h).1 i (omega arith)
+
+unfoldable not_below_test : List Bool → Bool
+not_below_test t = bits_hold (get_or NOT_BELOW (value_bit t) 0) (λ s. not (begins t s)) (strings 5)
+
+not-below-right : each not_below_test (strings 4) ≡ true
+unfolding not_below_test bits_hold each strings begins number
+not-below-right = refl
+
+pub not-below-entry : (b : ℕ) (t : List Bool) → length t ≤ 4 → value_bit t ≡ b → HoldsPositions (get_or NOT_BELOW b 0) (λ s. not (begins t s))
+unfolding not_below_test
+not-below-entry b t l e =
+    subst (λ k. HoldsPositions (get_or NOT_BELOW k 0) (λ s. not (begins t s))) e
+    (bits-held _ _ (strings 5) (at_string 4 not_below_test not-below-right t l))

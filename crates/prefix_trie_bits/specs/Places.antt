@@ -1,6 +1,6 @@
 -- The places of a node of a tree bitmap (Eatherton, Dittia and Varghese): strings of at most five bits below its path.
 -- The numbers of the bits are those of the crate prefix-trie.
-use Rattle.std.specs.Prelude.{◌≡◌, ◌≢◌, ℕ, zero, suc, ◌+◌, ◌-◌, ◌/◌, ◌%◌, ◌^◌, ◌<◌, ◌≤◌, Bool, true, false, cond, nat_lt, ◌==◌, List, [], ◌∷◌, ◌++◌, length, map, filter, take}
+use Rattle.std.specs.Prelude.{◌≡◌, ◌≢◌, ℕ, zero, suc, ◌+◌, ◌-◌, ◌/◌, ◌%◌, ◌^◌, ◌<◌, ◌≤◌, Bool, true, false, cond, nat_lt, ◌==◌, List, [], ◌∷◌, ◌++◌, length, map, filter, take, slice_index_or}
 use Rattle.std.specs.Int.{bit_at}
 use Rattle.std.specs.Ordering.{is_lt}
 use Rattle.prefix_trie_bits.specs.Bits.{number}
@@ -56,6 +56,10 @@ pub record HoldsPlaces (values children : ℕ) (test : List Bool → Bool) : Typ
 -- the strings whose bits are in the masks, in listing order
 abbrev pub places : ℕ → ℕ → List (List Bool)
 places values children = filter (is_in values children) (strings 5)
+
+-- a mask of positions in the listing of all strings holds exactly those of the strings that pass a test
+abbrev pub HoldsPositions : ℕ → (List Bool → Bool) → Type 0
+HoldsPositions mask test = (i : ℕ) → i < length (strings 5) → has mask i ≡ test (slice_index_or (strings 5) i [])
 
 -- the place of a string: its value bit, or of five bits its child bit
 abbrev pub place_of : List Bool → Place

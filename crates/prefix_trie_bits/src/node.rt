@@ -4,10 +4,11 @@
 //! child bit (strings of 5 bits), both in blocks in the order of the bits. So a set bit's place in
 //! its block is its rank, what matches a key is a mask, and the listing order of the places is a
 //! fixed table.
-ghost use Rattle.std.specs.Prelude.{◌≡◌, ℕ, ◌^◌, ◌<◌, ◌≤◌, ◌↔◌, List, Bool, length, true, [], MatchOption, Contains};
+ghost use Rattle.std.specs.Prelude.{◌≡◌, ℕ, ◌^◌, ◌<◌, ◌≤◌, ◌↔◌, List, Bool, length, filter, not, true, [], MatchOption, Contains};
 ghost use Rattle.std.specs.List.Sorted.{IsStrictlySortedBy};
+ghost use Rattle.prefix_trie_bits.specs.Bits.{begins};
 ghost use Rattle.prefix_trie_bits.specs.Order.{listing_cmp};
-ghost use Rattle.prefix_trie_bits.specs.Places.{is_in, places, TakesPlace};
+ghost use Rattle.prefix_trie_bits.specs.Places.{is_in, places, value_bit, TakesPlace};
 
 mod bits;
 mod masks;
@@ -18,7 +19,7 @@ pub use bits::{
 };
 pub use masks::{child_cover_mask, longest_match, match_mask, shortest_match, value_cover_mask};
 pub use order::{behind_child, from_value};
-use order::{place_at, position_of};
+use order::{not_below, place_at, position_of};
 
 /// A place of a node: a value bit, 0 to 30, or a child bit, 0 to 31.
 #[derive(Clone, Copy, PartialEq, Eq, Debug)]
@@ -85,5 +86,23 @@ impl Places {
         let first = self.listing.trailing_zeros();
         self.listing &= self.listing - 1;
         Some(place_at(first))
+    }
+    /// Drops the places that the string of a value bit begins, its own among them.
+    ///
+    /// For example at bit 29, of 1110: that bit and the child bits 28 and 29.
+    ///
+    /// ```text
+    /// let mut places = Places::new(1 << 29 | 1 << 30, 1 << 29 | 1 << 31);
+    /// places.skip_below(29);
+    /// places.next_place() == Some(Place::Value(30))
+    /// places.next_place() == Some(Place::Child(31))
+    /// ```
+    #[inline]
+    pub fn skip_below(&mut self, bit: u32)
+        requires { bit < 31 }
+        ensures { (t : List Bool) → length t ≤ 4 → value_bit t ≡ bit
+            → to_come self.new ≡ filter (λ s. not (begins t s)) (to_come self.old) }
+    {
+        self.listing &= not_below(bit);
     }
 }

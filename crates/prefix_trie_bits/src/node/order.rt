@@ -1,8 +1,8 @@
 //! The order of a node's places, and what of them comes after a bit.
 ghost use Rattle.std.specs.Prelude.{◌≡◌, ℕ, ◌<◌, ◌≤◌, List, Bool, length, map, not, Some};
 ghost use Rattle.std.specs.List.{slice_get};
-ghost use Rattle.prefix_trie_bits.specs.Bits.{number};
-ghost use Rattle.prefix_trie_bits.specs.Places.{value_bit, heap_number, strings, place_of, HoldsPlaces, is_before};
+ghost use Rattle.prefix_trie_bits.specs.Bits.{number, begins};
+ghost use Rattle.prefix_trie_bits.specs.Places.{value_bit, heap_number, strings, place_of, HoldsPlaces, HoldsPositions, is_before};
 
 use crate::node::Place;
 
@@ -46,6 +46,15 @@ pub(super) fn position_of(heap: u32) -> u32
     ensures small { result < 63 }
 {
     POSITION[heap as usize] as u32
+}
+
+// The positions in the listing of the places that a value bit's string does not begin.
+#[inline]
+pub(super) fn not_below(bit: u32) -> u64
+    requires { bit < 31 }
+    ensures { (t : List Bool) → length t ≤ 4 → value_bit t ≡ bit → HoldsPositions result (λ s. not (begins t s)) }
+{
+    NOT_BELOW[bit as usize]
 }
 
 // At a value bit: the value bits and the child bits from there on in listing order.
@@ -191,4 +200,16 @@ static POSITION: [u8; 64] = [
     0, 0, 1, 32, 2, 17, 33, 48, 3, 10, 18, 25, 34, 41, 49, 56, 4, 7, 11, 14, 19, 22, 26, 29, 35,
     38, 42, 45, 50, 53, 57, 60, 5, 6, 8, 9, 12, 13, 15, 16, 20, 21, 23, 24, 27, 28, 30, 31, 36, 37,
     39, 40, 43, 44, 46, 47, 51, 52, 54, 55, 58, 59, 61, 62,
+];
+
+// At a value bit: one bit for each position of the listing but those of the places that the bit's string begins.
+static NOT_BELOW: [u64; 31] = [
+    0x0000000000000000, 0x7fffffff00000001, 0x00000000ffffffff, 0x7ffffffffffe0003,
+    0x7fffffff0001ffff, 0x7fff0001ffffffff, 0x0000ffffffffffff, 0x7ffffffffffffc07,
+    0x7ffffffffffe03ff, 0x7ffffffffe03ffff, 0x7fffffff01ffffff, 0x7ffffe03ffffffff,
+    0x7fff01ffffffffff, 0x7f01ffffffffffff, 0x00ffffffffffffff, 0x7fffffffffffff8f,
+    0x7ffffffffffffc7f, 0x7fffffffffffc7ff, 0x7ffffffffffe3fff, 0x7fffffffffc7ffff,
+    0x7ffffffffe3fffff, 0x7fffffffe3ffffff, 0x7fffffff1fffffff, 0x7fffffc7ffffffff,
+    0x7ffffe3fffffffff, 0x7fffe3ffffffffff, 0x7fff1fffffffffff, 0x7fe3ffffffffffff,
+    0x7f1fffffffffffff, 0x71ffffffffffffff, 0x0fffffffffffffff,
 ];
