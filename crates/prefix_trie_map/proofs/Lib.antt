@@ -16,3 +16,5 @@ pub mod Selections
 pub mod Resumed
 pub mod Cloned
 pub mod Writing
+pub mod Collected
+pub mod Equality

@@ -15,10 +15,12 @@ ghost use Rattle.prefix_trie_map.specs.Steps.{stored, inserted};
 ghost use Rattle.prefix_trie_map.specs.Whole.{IsWhole};
 
 mod clone;
+mod collecting;
 mod counting;
 mod cover;
 mod cursor;
 pub mod entry;
+mod equality;
 mod into_iter;
 mod iter;
 mod lending;

@@ -1,0 +1,73 @@
+-- Items that are inserted in turn.
+use Rattle.std.proofs.Common.{◌≡◌, ◌⊎◌, ℕ, ◌+◌, ◌*◌, ◌<◌, ◌≤◌, Bool, List, [], ◌∷◌, ◌++◌, length, refl, sym, ap, ◌∙◌, inl, inr, arith, length-append}
+use Rattle.prefix_trie_bits.specs.Model.Entries.{Entries, no_entries, put_all, with_entry}
+use Rattle.prefix_trie_bits.specs.Model.Nodes.{IsTidy, needed, root_alone, with_needed}
+use Rattle.prefix_trie_bits.specs.Model.Room.{MayPassLimit}
+use Rattle.prefix_trie_bits.specs.Model.Step.{Insert, Reply}
+use Rattle.prefix_trie_bits.specs.Model.Storage.{StepInStorage}
+use Rattle.prefix_trie_bits.proofs.Model.NodeSets.{needed_insert, tidy-no_entries}
+use Rattle.prefix_trie_bits.proofs.Model.Slots.{slot_laws}
+use Rattle.prefix_trie_table.specs.Shape.{Contents}
+use Rattle.prefix_trie_map.specs.Collected.{Puts, ManyMayPassLimit}
+use Rattle.prefix_trie_map.specs.Steps.{stored}
+use Rattle.prefix_trie_map.specs.Whole.{IsWhole}
+
+one_more : {X : Type 0} (xs : List X) (x : X) → length (xs ++ x ∷ []) ≡ length xs + 1
+one_more xs x = length-append xs (x ∷ [])
+
+more_nodes : (first then last n m : ℕ) → m ≡ n + 1 → then ≤ first + 56 * n → last ≤ then + 56 → last ≤ first + 56 * m
+more_nodes first then last n m e h k = omega arith
+
+more_cells : (first then last n m : ℕ) → m ≡ n + 1 → then ≤ first + 31 * n → last ≤ then + 31 → last ≤ first + 31 * m
+more_cells first then last n m e h k = omega arith
+
+past_nodes : (limit same first then n m : ℕ) → m ≡ n + 1 → same ≡ limit → then ≤ first + 56 * n → same < then + 56 → limit < first + 56 * m
+past_nodes limit same first then n m e l h k = omega arith
+
+past_cells : (limit same first then n m : ℕ) → m ≡ n + 1 → same ≡ limit → then ≤ first + 31 * n → same < then + 31 → limit < first + 31 * m
+past_cells limit same first then n m e l h k = omega arith
+
+module _ {P T : Type 0} (path : P → List Bool) where
+  -- the last item is set last
+  put_last : (xs : List (P × T)) (x : P × T) (m : Entries T) → put_all path (xs ++ x ∷ []) m ≡ with_entry (put_all path xs m) (path x.0) x.1
+  put_last [] x m = refl
+  put_last (y ∷ xs) x m = put_last xs x (with_entry m (path y.0) y.1)
+
+  -- one insertion
+  pub puts_one : (back : List Bool → P) (width : ℕ) (before after : Contents T) (prefix : P) (value : T) (reply : Reply P T) → IsWhole width before → length (path prefix) ≤ 128
+      → after.entries ≡ with_entry before.entries (path prefix) value → after.nodes ≡ with_needed before.nodes (path prefix)
+      → StepInStorage path back width (stored before) (Insert prefix value) reply (stored after) → Puts path before ((prefix, value) ∷ []) after
+  puts_one back width before after prefix value reply whole short entries nodes step =
+      let slots = (slot_laws P T).inserted path back width (stored before) prefix value reply (stored after) whole.is_map whole.have_blocks short step in
+      record {
+        entries = entries;
+        tidy = λ was. nodes ∙ ap (λ n. with_needed n (path prefix)) was ∙ needed_insert before.entries (path prefix) value ∙ ap needed (sym entries);
+        limit = step.room.same_limit;
+        node_slots = slots.node_slots;
+        cell_slots = slots.cell_slots;
+      }
+
+  -- none
+  pub puts_none : (before : Contents T) → Puts path before [] before
+  puts_none before = record { entries = refl; tidy = λ was. was; limit = refl; node_slots = omega arith; cell_slots = omega arith }
+
+  -- one more
+  pub puts_more : (first then last : Contents T) (xs : List (P × T)) (x : P × T) → Puts path first xs then → Puts path then (x ∷ []) last → Puts path first (xs ++ x ∷ []) last
+  puts_more first then last xs x before one = record {
+    entries = one.entries ∙ ap (λ m. with_entry m (path x.0) x.1) before.entries ∙ sym (put_last xs x first.entries);
+    tidy = λ was. one.tidy (before.tidy was);
+    limit = one.limit ∙ before.limit;
+    node_slots = more_nodes first.room.node_slots then.room.node_slots last.room.node_slots (length xs) (length (xs ++ x ∷ [])) (one_more xs x) before.node_slots one.node_slots;
+    cell_slots = more_cells first.room.cell_slots then.room.cell_slots last.room.cell_slots (length xs) (length (xs ++ x ∷ [])) (one_more xs x) before.cell_slots one.cell_slots;
+  }
+
+  -- one that may pass the limit
+  pub may_pass : (first then : Contents T) (xs : List (P × T)) (x : P × T) → Puts path first xs then → MayPassLimit then.room → ManyMayPassLimit first.room (length (xs ++ x ∷ []))
+  may_pass first then xs x before (inl k) =
+      inl (past_nodes first.room.limit then.room.limit first.room.node_slots then.room.node_slots (length xs) (length (xs ++ x ∷ [])) (one_more xs x) before.limit before.node_slots k)
+  may_pass first then xs x before (inr k) =
+      inr (past_cells first.room.limit then.room.limit first.room.cell_slots then.room.cell_slots (length xs) (length (xs ++ x ∷ [])) (one_more xs x) before.limit before.cell_slots k)
+
+  -- from a new map on
+  pub tidy_of : (fresh last : Contents T) (xs : List (P × T)) → fresh.entries ≡ no_entries → fresh.nodes ≡ root_alone → Puts path fresh xs last → IsTidy last.entries last.nodes
+  tidy_of fresh last xs entries nodes puts = puts.tidy (nodes ∙ tidy-no_entries T ∙ ap needed (sym entries))

@@ -1,0 +1,35 @@
+-- Two walks that are gone over side by side.
+use Rattle.std.proofs.Common.{◌≡◌, Bool, true, false, ◌&&◌, List, [], ◌∷◌, Option, None, Some, MatchOption, IfSome, refl, sym, ap, ◌∙◌, subst}
+use Rattle.std.specs.Cmp.Lexicographic.{pointwise}
+use Rattle.std.specs.Iterator.{YieldsThen, ComparesItemsByEq}
+use Rattle.std.specs.List.{AllZip}
+use Rattle.std.specs.Map.Iter.{TakesFirst}
+
+module _ {A X : Type 0} (shows : A → X) (equal : X → X → Bool) where
+  -- what is answered after two steps
+  abbrev Last : Bool → Option A → Option A → Type 0
+  Last r o p = MatchOption o (MatchOption p (r ≡ true) (λ _. r ≡ false)) (λ x. (r ≡ false) × IfSome p (λ y. equal (shows x) (shows y) ≡ false))
+
+  -- is whether what is left is equal
+  at_last : (r : Bool) (s t s2 t2 : List X) (o p : Option A) → TakesFirst shows s o s2 → TakesFirst shows t p t2 → Last r o p → r ≡ pointwise equal s t
+  at_last r s t s2 t2 None None left right last = last ∙ sym (λ i. pointwise equal (left.0 i) (right.0 i))
+  at_last r s t s2 t2 None (Some y) left right last = last ∙ sym (λ i. pointwise equal (left.0 i) (right i))
+  at_last r s t s2 t2 (Some x) None left right last = last.0 ∙ sym (λ i. pointwise equal (left i) (right.0 i))
+  at_last r s t s2 t2 (Some x) (Some y) left right last =
+      last.0 ∙ sym (ap (λ b. b && pointwise equal s2 t2) last.1) ∙ sym (λ i. pointwise equal (left i) (right i))
+
+  -- and so after any number of steps at which they were equal
+  compared : (r : Bool) (s t s2 t2 : List X) (xs ys : List A) (o p : Option A) → YieldsThen (TakesFirst shows) s xs o s2 → YieldsThen (TakesFirst shows) t ys p t2
+      → AllZip (λ x y. equal (shows x) (shows y) ≡ true) xs ys → Last r o p → r ≡ pointwise equal s t
+  compared r s t s2 t2 [] [] o p left right same last =
+      at_last r s t s2 t2 o p (subst (λ k. TakesFirst shows k o s2) (sym left.1) left.2) (subst (λ k. TakesFirst shows k p t2) (sym right.1) right.2) last
+  compared r s t s2 t2 (x ∷ xs) (y ∷ ys) o p left right same last =
+      compared r left.1.0 right.1.0 s2 t2 xs ys o p (left.0, left.1.2, left.2) (right.0, right.1.2, right.2) same.1 last
+      ∙ sym (ap (λ b. b && pointwise equal left.1.0 right.1.0) same.0) ∙ sym (λ i. pointwise equal (left.1.1 i) (right.1.1 i))
+  compared r s t s2 t2 [] (y ∷ ys) o p left right same last = absurd same
+  compared r s t s2 t2 (x ∷ xs) [] o p left right same last = absurd same
+
+  -- so of two walks that are compared
+  pub eq_is : (r : Bool) (s t : List X) → ComparesItemsByEq (TakesFirst shows) (λ other it. it ≡ other) (TakesFirst shows) s t (λ x y. equal (shows x) (shows y)) r → r ≡ pointwise equal s t
+  eq_is r s t (it, xs, ys, o, p, u, v, becomes, left, right, same, last) =
+      compared r s it u v xs ys o p left right same last ∙ ap (pointwise equal s) becomes

@@ -1,0 +1,35 @@
+use Rattle.std.proofs.Common.{Some, [], ◌∷◌, ◌++◌, refl}
+use Rattle.std.proofs.iter.Next.{Yields-more}
+use Rattle.std.proofs.lemmas.List.Elements.{All-pop}
+use Rattle.std.proofs.lemmas.Result.{err_from_is_err_and}
+use Rattle.prefix_trie_map.proofs.Collected.{puts_more, may_pass}
+use Rattle.prefix_trie_map.proofs.map.collecting.fill.Goals as goal
+
+pub put-requires : goal.put-requires
+put-requires g c =
+    let it = c.into_iter-prefix-iterator in
+    let xs = c.loop-prefix.yielded in
+    let x : g.row.P.Denot × g.row.T.Denot = (c.in-Some.prefix, c.in-Some.value) in
+    let more = Yields-more g.I.IntoIter.Iterator.next_gives it.result xs c.loop-prefix.prefix-iterator x c.next.new.self c.loop-prefix.yielded_by c.in-Some.ensures.steps in
+    (All-pop (λ item. g.P.Prefix.IsFitting item.0) (xs ++ x ∷ []) xs (Some x) refl (c.requires.fit it.result it.ensures.into_iter_gives (xs ++ x ∷ []) c.next.new.self more)).1
+
+pub loop-prefix-preserved : goal.loop-prefix-preserved
+loop-prefix-preserved g c =
+    puts_more g.P.Prefix.path c.args.map.now c.loop-prefix.map c.put.new.map c.loop-prefix.yielded (c.in-Some.prefix, c.in-Some.value) c.loop-prefix.invariant c.in_ok-put.ensures.ok
+
+-- the item that was refused was taken too
+pub returns-in_err-put-clause-range : goal.returns-in_err-put-clause-range
+returns-in_err-put-clause-range g c =
+    let it = c.into_iter-prefix-iterator in
+    let xs = c.loop-prefix.yielded in
+    let x : g.row.P.Denot × g.row.T.Denot = (c.in-Some.prefix, c.in-Some.value) in
+    let more = Yields-more g.I.IntoIter.Iterator.next_gives it.result xs c.loop-prefix.prefix-iterator x c.next.new.self c.loop-prefix.yielded_by c.in-Some.ensures.steps in
+    let p = err_from_is_err_and c.from_residual.result c.from_residual.ensures.1 in
+    rw (p.1, p.2) (λ range. (
+      it.result,
+      xs ++ x ∷ [],
+      c.next.new.self,
+      it.ensures.into_iter_gives,
+      more,
+      may_pass g.P.Prefix.path c.args.map.now c.loop-prefix.map xs x c.loop-prefix.invariant (c.in_err-put.ensures.range range),
+    ))

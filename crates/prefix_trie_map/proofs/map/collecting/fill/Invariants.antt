@@ -1,0 +1,5 @@
+use Rattle.prefix_trie_map.specs.Collected.{Puts}
+use Rattle.prefix_trie_map.proofs.map.collecting.fill.Given as goal
+
+abbrev pub invariant-loop-prefix : goal.invariant-loop-prefix
+invariant-loop-prefix g l = Puts g.P.Prefix.path l.fn.map l.yielded l.map

@@ -1,0 +1,77 @@
+//! Maps of the items that an iterator gives.
+ghost use Rattle.std.specs.Prelude.{◌≡◌, List, [], ◌∷◌, ◌+◌, ◌-◌, ◌*◌, ◌^◌, ◌<◌, length, All, IfOk, OnOk, IfErr};
+ghost use Rattle.std.specs.Iterator.{IsFinite, HoldsAlong, Yields, Drains};
+ghost use Rattle.prefix_trie_bits.specs.declared.prefix.Refusal.TheVariants.{IndexRange};
+ghost use Rattle.prefix_trie_bits.specs.Model.Entries.{no_entries, put_all};
+ghost use Rattle.prefix_trie_bits.specs.Model.Nodes.{IsTidy};
+ghost use Rattle.prefix_trie_bits.specs.Model.Room.{MayPassLimit};
+ghost use Rattle.prefix_trie_map.specs.Collected.{Puts, ManyMayPassLimit};
+
+use crate::map::PrefixMap;
+use prefix_trie_bits::prefix::{Prefix, Refusal};
+use std::alloc::Allocator;
+use std::iter::IntoIterator;
+
+impl<P: Prefix, T: Drop, A: Allocator + Clone> PrefixMap<P, T, A> {
+    /// The map of the items that an iterator gives, inserted in turn: of two with the same path the later value stays. It has
+    /// the limit of `new`. Asks that the iterator comes to its end, and that each prefix that it gives fits.
+    ///
+    /// It is refused as `insert` is, for memory, or for the limit where the items are very many: each makes at most 56 slots
+    /// of an array. Refused, no map exists, and what was taken is dropped.
+    ///
+    /// ```text
+    /// PrefixMap::from_iter(alloc, vec![in alloc; ((0x0a010000_u32, 16_u8), 1), ((0x0a01ffff, 16), 2)]?)?
+    ///     has one entry, 2 at (0x0a010000, 16), since both have one path
+    /// ```
+    pub fn from_iter<I: IntoIterator<Item = (P, T)> + Drop>(
+        alloc: A,
+        items: I,
+    ) -> Result<Self, Refusal>
+        requires ends { (it : I.IntoIter) → I.into_iter_gives items it → I.IntoIter.can_next it × IsFinite (I.IntoIter.remaining it) }
+        requires fit { (it : I.IntoIter) → I.into_iter_gives items it → HoldsAlong I.IntoIter.next_gives it (All (λ item. P.IsFitting item.0)) }
+        ensures entries { IfOk result (λ map. (it : I.IntoIter) × (xs : List (P × T)) × I.into_iter_gives items it × Drains I.IntoIter.next_gives it xs × (map.entries ≡ put_all P.path xs no_entries)) }
+        ensures tidy { IfOk result (λ map. IsTidy map.entries map.nodes) }
+        ensures limit { IfOk result (λ map. map.room.limit ≡ 2 ^ 32 - 1) }
+
+        // For want of slots only where so many items came that 56 slots for each pass the limit.
+        ensures range { IfErr result (λ cause. cause ≡ IndexRange → (it : I.IntoIter) × (xs : List (P × T)) × (rest : I.IntoIter) × I.into_iter_gives items it × Yields I.IntoIter.next_gives it xs rest × (2 ^ 32 - 1 < 1 + 56 * length xs)) }
+    {
+        let mut map = Self::new(alloc)?;
+        fill(&mut map, items)?;
+        Ok(map)
+    }
+}
+
+/// Inserts the items in turn, and stops where one is refused.
+fn fill<P: Prefix, T: Drop, A: Allocator, I: IntoIterator<Item = (P, T)> + Drop>(
+    map: &mut PrefixMap<P, T, A>,
+    items: I,
+) -> Result<(), Refusal>
+    requires ends { (it : I.IntoIter) → I.into_iter_gives items it → I.IntoIter.can_next it × IsFinite (I.IntoIter.remaining it) }
+    requires fit { (it : I.IntoIter) → I.into_iter_gives items it → HoldsAlong I.IntoIter.next_gives it (All (λ item. P.IsFitting item.0)) }
+    ensures ok { OnOk result ((it : I.IntoIter) × (xs : List (P × T)) × I.into_iter_gives items it × Drains I.IntoIter.next_gives it xs × Puts P.path map.old xs map.new) }
+    ensures range { IfErr result (λ cause. cause ≡ IndexRange → (it : I.IntoIter) × (xs : List (P × T)) × (rest : I.IntoIter) × I.into_iter_gives items it × Yields I.IntoIter.next_gives it xs rest × ManyMayPassLimit map.old.room (length xs)) }
+{
+    for (prefix, value) in items {
+        put(map, prefix, value)?;
+    }
+    Ok(())
+}
+
+/// Inserts one item. The value that was there before is dropped, and so is this one where it is refused.
+fn put<P: Prefix, T: Drop, A: Allocator>(
+    map: &mut PrefixMap<P, T, A>,
+    prefix: P,
+    value: T,
+) -> Result<(), Refusal>
+    requires { P.IsFitting prefix }
+    ensures ok { OnOk result (Puts P.path map.old ((prefix, value) ∷ []) map.new) }
+    ensures range { IfErr result (λ cause. cause ≡ IndexRange → MayPassLimit map.old.room) }
+{
+    // The proof learns from it that the map is whole.
+    let _ = map.len();
+    match map.insert(prefix, value) {
+        Ok(_) => Ok(()),
+        Err(refused) => Err(refused.cause),
+    }
+}
