@@ -1,0 +1,5 @@
+use Rattle.std.specs.List.{All}
+use Rattle.prefix_trie_map.proofs.fmt.write_entries.Given as goal
+
+abbrev pub invariant-loop-prefix : goal.invariant-loop-prefix
+invariant-loop-prefix g l = All (λ e. g.P.Prefix.IsFitting e.0) l.prefix-iterator
