@@ -7,8 +7,10 @@
 
 pub mod map;
 pub mod replay;
+pub mod set;
 #[cfg(test)]
 mod tests;
 
 pub use prefix_trie_bits::prefix::{Ipv4Prefix, Ipv6Prefix, Key, Prefix, Refusal, Refused};
 pub use prefix_trie_map::map::{BlockCount, PrefixMap, Visits};
+pub use set::PrefixSet;
