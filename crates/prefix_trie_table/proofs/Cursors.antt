@@ -2,8 +2,9 @@
 use Rattle.std.proofs.Common.{◌≡◌, ◌≢◌, ℕ, ◌+◌, ◌*◌, ◌^◌, ◌%◌, ◌<◌, ◌≤◌, Bool, true, false, not, ◌&&◌, List, [], ◌∷◌, ◌++◌, length, take, drop, filter, Some, inl, inr, refl, sym, ap, ap₂, ◌∙◌, subst, arith, length-append, length-drop, bit_and, append-nil, append_assoc}
 use Rattle.std.proofs.Math.Seq.{take-add}
 use Rattle.std.specs.List.{All}
+use Rattle.std.proofs.lemmas.List.Elements.{All-nil, All-cons, All-append, All-weaker, filter_passes}
 use Rattle.std.specs.Ordering.{is_lt}
-use Rattle.std.proofs.lemmas.Bool.{cases_lt}
+use Rattle.std.proofs.lemmas.Bool.{cases_lt, false≢true}
 use Rattle.std.proofs.lemmas.Bool.Decides.{eqb_tells}
 use Rattle.std.proofs.lemmas.List.{length-take-le, length-map, take-take, take-append-drop}
 use Rattle.prefix_trie_bits.specs.Bits.{number}
@@ -18,15 +19,17 @@ use Rattle.prefix_trie_bits.proofs.Model.NodeListings.{listing_at_child}
 use Rattle.prefix_trie_table.specs.declared.allocator.node.Node.{Node}
 use Rattle.prefix_trie_table.specs.declared.table.spot.Spot.{Spot}
 use Rattle.prefix_trie_table.specs.declared.table.cursor.Start.{Start}
+use Rattle.prefix_trie_table.specs.declared.table.cursor.Start.TheVariants.{At, After, Below}
 use Rattle.prefix_trie_table.specs.Cells.{node_at}
 use Rattle.prefix_trie_table.specs.Cursors.{selected, behind, kept, places_in}
 use Rattle.prefix_trie_table.specs.Digits.{path_of}
 use Rattle.prefix_trie_table.specs.Forest.{read, child_slot}
 use Rattle.prefix_trie_table.specs.Store.{Store}
 use Rattle.prefix_trie_table.specs.Tables.{IsTrie}
-use Rattle.prefix_trie_table.specs.Walks.{Tree, site, sites, IsSpot, IsTrail, IsStack, IsPlaceOf, still, pending}
+use Rattle.prefix_trie_table.specs.Walks.{Tree, site, sites, IsSpot, IsTrail, IsStack, IsPlaceOf, IsOther, IsPassed, ArePassed, still, pending}
 use Rattle.prefix_trie_table.proofs.Bits.{rank-ones}
-use Rattle.prefix_trie_table.proofs.Selected.{wanted_below, wanted_at_root, wanted_passed, wanted_ended, wanted_none, at_some_places}
+use Rattle.prefix_trie_table.proofs.Passing.{passed-above}
+use Rattle.prefix_trie_table.proofs.Selected.{and-right, wanted_below, wanted_at_root, wanted_passed, wanted_ended, wanted_none, at_some_places}
 use Rattle.prefix_trie_table.proofs.Stacks.{pending-push, trail-push, restart, sites-push}
 use Rattle.prefix_trie_table.proofs.Subtrees.{is_in-value, is_in-child, number-small, child_is, child_inside, unset}
 use Rattle.prefix_trie_table.proofs.Trees.{read-nil}
@@ -90,6 +93,12 @@ short_rest b width long depth len within last =
 
 -- ---- the way
 
+-- nothing is behind itself
+behind-itself : (x : Start) (s : List Bool) → behind x s s ≡ false
+behind-itself At s = not-itself s
+behind-itself After s = not-itself s
+behind-itself Below s = refl
+
 module _ {K : Type 0} (IsKey : K → Type 0) (bits : K → List Bool) (width : ℕ) (v : Store Node) (key : K) (len : ℕ) (from : Start) where
   -- at the next node of the way: what stands above it, and what is selected below it, is the selection
   pub record IsLaid (T : Type 0) (depth : ℕ) (node : Node) (ps : List Spot) : Type 0 where
@@ -99,6 +108,7 @@ module _ {K : Type 0} (IsKey : K → Type 0) (bits : K → List Bool) (width : �
     pub high : length ps ≡ level
     pub stands : read v.slots (path_of (take depth (bits key))) ≡ Some node
     pub trail : IsTrail IsKey bits width v 0 (sites key ps)
+    pub passed : All (IsPassed bits) (sites key ps)
     pub rest : (t : Tree T) → IsTrie width t.count v t.cells t.shape →
         selected from t.shape.entries (take len (bits key)) ≡ wanted_below from t.shape.entries (take len (bits key)) (take depth (bits key)) ++ pending bits t.shape.entries (sites key ps)
 
@@ -110,6 +120,7 @@ module _ {K : Type 0} (IsKey : K → Type 0) (bits : K → List Bool) (width : �
     high = ap length none;
     stands = read-nil v.slots ∙ ap Some (sym is);
     trail = subst (λ qs. IsTrail IsKey bits width v 0 (sites key qs)) (sym none) tt;
+    passed = subst (λ qs. All (IsPassed bits) (sites key qs)) (sym none) (All-nil (IsPassed bits));
     rest = λ t tree.
         sym (wanted_at_root from t.shape.entries (take len (bits key))) ∙ sym (append-nil (wanted_below from t.shape.entries (take len (bits key)) []))
         ∙ ap (λ qs. wanted_below from t.shape.entries (take len (bits key)) [] ++ pending bits t.shape.entries (sites key qs)) (sym none);
@@ -196,6 +207,9 @@ module _ {K : Type 0} (IsKey : K → Type 0) (bits : K → List Bool) (width : �
       pub stack_pushed : IsStack IsKey bits width v (sites key qs)
       stack_pushed = restart IsKey bits width v 0 (sites key qs) trail_pushed
 
+      pub passed_pushed : ArePassed bits (sites key qs)
+      passed_pushed = passed-above bits (sites key qs) (sites key ps) (site key p) sites_are laid.passed
+
       module _ (values children : ℕ) (all : to_come p.places ≡ places_in node values children) (test : List Bool → Bool) (holds : HoldsPlaces values children test)
           (t : Tree T) (tree : IsTrie width t.count v t.cells t.shape) where
         still_is : still bits t.shape.entries (site key p) ≡ filter (λ e. test (take 5 (drop (length (take depth (bits key))) e.0))) (listing_below t.shape.entries (take depth (bits key)))
@@ -214,6 +228,20 @@ module _ {K : Type 0} (IsKey : K → Type 0) (bits : K → List Bool) (width : �
           (masks : (s : List Bool) → length s ≡ 5 → number s ≡ k → HoldsPlaces values children (behind from s)) where
         holds : HoldsPlaces values children (behind from (take 5 (drop depth (bits key))))
         holds = masks (take 5 (drop depth (bits key))) (five more) (sym k_is)
+
+        -- the child is not
+        child_taken : IsPassed bits (site key p)
+        child_taken =
+            subst (All (IsOther (take 5 (drop p.depth (bits key))))) (sym all)
+            (All-weaker (λ s. (is_in node.value_bitmap node.child_bitmap s && is_in values children s) ≡ true) (IsOther (take 5 (drop p.depth (bits key))))
+            (λ s h e. taken s h (e ∙ ap (λ d. take 5 (drop d (bits key))) depth_is))
+            (places_in node values children) (filter_passes (λ s. is_in node.value_bitmap node.child_bitmap s && is_in values children s) (strings 5)))
+          where
+            taken : (s : List Bool) → (is_in node.value_bitmap node.child_bitmap s && is_in values children s) ≡ true → s ≡ take 5 (drop depth (bits key)) → ⊥
+            taken s h e =
+                let five : length s ≡ 5 = ap length e ∙ five more in
+                let none : is_in values children s ≡ false = holds.bits s (omega (arith, five)) ∙ ap (behind from (take 5 (drop depth (bits key)))) e ∙ behind-itself from (take 5 (drop depth (bits key))) in
+                false≢true (sym none ∙ and-right (is_in node.value_bitmap node.child_bitmap s) (is_in values children s) h)
 
         passed_is : (t : Tree T) → IsTrie width t.count v t.cells t.shape → wanted_below from t.shape.entries (take len (bits key)) (take depth (bits key))
             ≡ wanted_below from t.shape.entries (take len (bits key)) (take (depth + 5) (bits key)) ++ still bits t.shape.entries (site key p)
@@ -247,6 +275,8 @@ module _ {K : Type 0} (IsKey : K → Type 0) (bits : K → List Bool) (width : �
           high = (let h = laid.high in omega (arith, h, ap length pushed, length-append ps (p ∷ [])));
           stands = next_stands more t tree k k_is set place place_is next is;
           trail = trail_pushed;
+          passed = subst (All (IsPassed bits)) (sym sites_are)
+              (All-append (IsPassed bits) (sites key ps) (site key p ∷ []) laid.passed (All-cons (IsPassed bits) (site key p) [] child_taken (All-nil (IsPassed bits))));
           rest = rest_pushed;
         }
 

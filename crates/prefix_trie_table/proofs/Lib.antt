@@ -43,8 +43,9 @@ pub mod Removed
 pub mod Matching
 pub mod Matched
 pub mod Subtrees
-pub mod Spots
 pub mod Stacks
+pub mod Passing
+pub mod Spots
 pub mod Walking
 pub mod Covers
 pub mod Covered
@@ -85,6 +86,7 @@ pub mod Housed
 pub mod Stated
 pub mod Selected
 pub mod Cursors
+pub mod Skipping
 pub mod KeySets
 pub mod Seats
 pub mod Taking

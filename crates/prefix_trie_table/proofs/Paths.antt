@@ -29,7 +29,7 @@ along P step path (c ∷ more) h = subst P (append_assoc path (c ∷ []) more) (
 pub snoc_ind : (P : List ℕ → Type 0) → P [] → ((path : List ℕ) (c : ℕ) → P path → P (path ++ c ∷ [])) → (path : List ℕ) → P path
 snoc_ind P none step path = along P step [] path none
 
-pub snoc_inj : (p q : List ℕ) (c d : ℕ) → p ++ c ∷ [] ≡ q ++ d ∷ [] → (p ≡ q) × (c ≡ d)
+pub snoc_inj : {X : Type 0} (p q : List X) (c d : X) → p ++ c ∷ [] ≡ q ++ d ∷ [] → (p ≡ q) × (c ≡ d)
 snoc_inj [] [] c d e = (refl, cc)
 snoc_inj [] (y ∷ q) c d e = absurd (omega (arith, length-append q (d ∷ []), ap length e))
 snoc_inj (x ∷ p) [] c d e = absurd (omega (arith, length-append p (c ∷ []), ap length e))

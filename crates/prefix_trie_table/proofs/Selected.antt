@@ -80,7 +80,7 @@ and-left : (a b : Bool) → (a && b) ≡ true → a ≡ true
 and-left true b e = refl
 and-left false b e = cc
 
-and-right : (a b : Bool) → (a && b) ≡ true → b ≡ true
+pub and-right : (a b : Bool) → (a && b) ≡ true → b ≡ true
 and-right true b e = e
 and-right false b e = cc
 
@@ -196,7 +196,7 @@ module _ {X : Type 0} where
   keep false false x ys zs e h = h
 
   -- where a test has one answer for all that pass another, all of them are kept or none
-  one-answer : (g p : X → Bool) (b : Bool) → ((x : X) → p x ≡ true → g x ≡ b) → (xs : List X) → filter g (filter p xs) ≡ cond b (filter p xs) []
+  pub one-answer : (g p : X → Bool) (b : Bool) → ((x : X) → p x ≡ true → g x ≡ b) → (xs : List X) → filter g (filter p xs) ≡ cond b (filter p xs) []
   one-answer g p b h [] = cond-none b
   one-answer g p b h (x ∷ xs) = elim (p x) as (λ c. p x ≡ c → filter g (cond c (x ∷ filter p xs) (filter p xs)) ≡ cond b (cond c (x ∷ filter p xs) (filter p xs)) []) [
     | true ↦ λ e. keep (g x) b x (filter p xs) (filter g (filter p xs)) (h x e) (one-answer g p b h xs)
@@ -207,26 +207,23 @@ first-bits : (s t u : List Bool) → length t ≡ 5 → take 5 (drop (length s) 
 first-bits s t u five =
     ap (λ k. take 5 (drop (length s) k)) (append_assoc s t u) ∙ ap (take 5) (drop_at s (t ++ u) (length s) refl) ∙ take_at t u 5 five
 
-module _ {T : Type 0} (m : Entries T) (s : List Bool) (test : List Bool → Bool) where
-  -- a pair passes if its place does
-  abbrev pub passes : List Bool × T → Bool
-  passes e = test (take 5 (drop (length s) e.0))
-
-  pair-passes : (t : List Bool) (o : Option T) → length t ≤ 5 → filter passes (pair_of (s ++ t) o) ≡ cond (test t) (pair_of (s ++ t) o) []
+-- a pair passes if its place does
+module _ {T : Type 0} (m : Entries T) (s : List Bool) (passes : List Bool × T → Bool) (test : List Bool → Bool)
+    (value : (t : List Bool) → length t ≤ 4 → (v : T) → passes (s ++ t, v) ≡ test t)
+    (child : (t : List Bool) → length t ≡ 5 → (e : List Bool × T) → begins (s ++ t) e.0 ≡ true → passes e ≡ test t) where
+  pair-passes : (t : List Bool) (o : Option T) → length t ≤ 4 → filter passes (pair_of (s ++ t) o) ≡ cond (test t) (pair_of (s ++ t) o) []
   pair-passes t None h = cond-none (test t)
-  pair-passes t (Some v) h =
-      keep (test (take 5 (drop (length s) (s ++ t)))) (test t) (s ++ t, v) [] [] (ap (λ k. test (take 5 k)) (drop_at s t (length s) refl) ∙ ap test (take_all 5 t h)) (cond-none (test t))
+  pair-passes t (Some v) h = keep (passes (s ++ t, v)) (test t) (s ++ t, v) [] [] (value t h v) (cond-none (test t))
 
   at-place : (t : List Bool) → length t ≤ 5 → filter passes (listing_at_place m s t) ≡ cond (test t) (listing_at_place m s t) []
   at-place t h = elim (cases_lt (length t) 5) as (λ _. filter passes (listing_at_place m s t) ≡ cond (test t) (listing_at_place m s t) []) [
     | inl l ↦
         let is = listing_at_inner m s t (omega arith) in
-        subst (λ es. filter passes es ≡ cond (test t) es []) (sym is) (pair-passes t (get m (s ++ t)) h)
+        subst (λ es. filter passes es ≡ cond (test t) es []) (sym is) (pair-passes t (get m (s ++ t)) (omega arith))
     | inr g ↦
         let five : length t ≡ 5 = omega arith in
         subst (λ es. filter passes es ≡ cond (test t) es []) (sym (listing_at_child m s t five))
-        (one-answer passes (λ e. begins (s ++ t) e.0) (test t)
-        (λ e b. ap (λ k. test (take 5 (drop (length s) k))) (begins-rest (s ++ t) e.0 b) ∙ ap test (first-bits s t (drop (length (s ++ t)) e.0) five)) (listing m))
+        (one-answer passes (λ e. begins (s ++ t) e.0) (test t) (child t five) (listing m))
   ]
 
   module _ (some inside : List Bool → Bool) (is : (t : List Bool) → length t ≤ 5 → some t ≡ (inside t && test t))
@@ -239,7 +236,7 @@ module _ {T : Type 0} (m : Entries T) (s : List Bool) (test : List Bool → Bool
           ap (filter passes) empty ∙ cond-none (some t) ∙ ap (λ es. cond (some t) es []) (sym empty)
     ] refl
 
-    some-places : (ts : List (List Bool)) → each (λ t. nat_lt (length t) 6) ts ≡ true → listing_at_places m s (filter some ts) ≡ filter passes (listing_at_places m s ts)
+    pub some-places : (ts : List (List Bool)) → each (λ t. nat_lt (length t) 6) ts ≡ true → listing_at_places m s (filter some ts) ≡ filter passes (listing_at_places m s ts)
     unfolding each
     some-places [] h = refl
     some-places (t ∷ ts) h =
@@ -252,9 +249,16 @@ module _ {T : Type 0} (m : Entries T) (s : List Bool) (test : List Bool → Bool
         split true = refl
         split false = refl
 
-    -- the pairs at a node's places that pass a test are those below it whose places do
-    pub at_some_places : listing_at_places m s (filter some (strings 5)) ≡ filter passes (listing_below m s)
-    at_some_places = some-places (strings 5) strings-short ∙ ap (filter passes) (sym (listing_by_places m s))
+-- the pairs at a node's places that pass a test are those below it whose places do
+pub at_some_places : {T : Type 0} (m : Entries T) (s : List Bool) (test some inside : List Bool → Bool) → ((t : List Bool) → length t ≤ 5 → some t ≡ (inside t && test t)) →
+    ((t : List Bool) → length t ≤ 5 → inside t ≡ false → listing_at_place m s t ≡ []) →
+    listing_at_places m s (filter some (strings 5)) ≡ filter (λ e. test (take 5 (drop (length s) e.0))) (listing_below m s)
+at_some_places m s test some inside is none =
+    some-places m s (λ e. test (take 5 (drop (length s) e.0))) test
+    (λ t h v. ap (λ k. test (take 5 k)) (drop_at s t (length s) refl) ∙ ap test (take_all 5 t (omega arith)))
+    (λ t five e b. ap (λ k. test (take 5 (drop (length s) k))) (begins-rest (s ++ t) e.0 b) ∙ ap test (first-bits s t (drop (length (s ++ t)) e.0) five))
+    some inside is none (strings 5) strings-short
+    ∙ ap (filter (λ e. test (take 5 (drop (length s) e.0)))) (sym (listing_by_places m s))
 
 -- ---- the way
 

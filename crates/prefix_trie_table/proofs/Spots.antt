@@ -1,11 +1,13 @@
 -- What the next place of a spot gives.
-use Rattle.std.proofs.Common.{◌≡◌, ℕ, zero, suc, ◌+◌, ◌-◌, ◌/◌, ◌%◌, ◌<◌, ◌≤◌, Bool, true, false, cond, List, [], ◌∷◌, ◌++◌, length, take, filter, get_or, None, Some, refl, sym, ap, ◌∙◌, subst, arith, inl, inr, length-append}
+use Rattle.std.proofs.Common.{◌≡◌, ℕ, zero, suc, ◌+◌, ◌-◌, ◌/◌, ◌%◌, ◌<◌, ◌≤◌, Bool, true, false, cond, List, [], ◌∷◌, ◌++◌, length, take, drop, filter, get_or, None, Some, refl, sym, ap, ap₂, ◌∙◌, subst, arith, inl, inr, length-append, append_assoc}
 use Rattle.std.specs.List.{All}
+use Rattle.std.specs.List.Sorted.{IsStrictlySortedBy}
 use Rattle.std.proofs.lemmas.Bool.{cases_lt, lt-ltb, le-ltb}
-use Rattle.std.proofs.lemmas.List.{length-take-le, take-append-le, take-take}
+use Rattle.std.proofs.lemmas.List.{length-take-le, take-append-le, take-take, take_at, drop_at}
 use Rattle.std.proofs.lemmas.List.Elements.{All-head, All-tail}
 use Rattle.prefix_trie_bits.specs.Bits.{number, digits, zeros}
 use Rattle.prefix_trie_bits.specs.BitStrings.{length-digits, digits-number}
+use Rattle.prefix_trie_bits.specs.Order.{listing_cmp}
 use Rattle.prefix_trie_bits.specs.Windows.{take-extend}
 use Rattle.prefix_trie_bits.specs.Places.{has, ones_below, value_bit, is_in, places, place_of, strings}
 use Rattle.prefix_trie_bits.specs.Walks.{to_come}
@@ -23,8 +25,9 @@ use Rattle.prefix_trie_table.specs.Digits.{path_of}
 use Rattle.prefix_trie_table.specs.Locations.{seat_of}
 use Rattle.prefix_trie_table.specs.Store.{Store}
 use Rattle.prefix_trie_table.specs.Forest.{read, child_slot}
-use Rattle.prefix_trie_table.specs.Walks.{Site, Tree, IsSpot, IsPlaceOf, still, GivesSeat, many, most, weight_of, weight}
+use Rattle.prefix_trie_table.specs.Walks.{Site, Tree, IsSpot, IsPlaceOf, IsOther, IsPassed, still, GivesSeat, many, most, weight_of, weight}
 use Rattle.prefix_trie_table.specs.Tables.{IsTrie}
+use Rattle.prefix_trie_table.proofs.Passing.{others_after}
 use Rattle.prefix_trie_table.proofs.Plain.{whole_levels}
 use Rattle.prefix_trie_table.proofs.Bits.{rank-ones}
 use Rattle.prefix_trie_table.proofs.Locating.{seat_below}
@@ -99,6 +102,12 @@ module _ {K : Type 0} (IsKey : K → Type 0) (bits : K → List Bool) (width : �
 
   whole : length (take p.depth (bits p.key)) % 5 ≡ 0
   whole = whole_levels (length (take p.depth (bits p.key))) at.level (string-length ∙ at.depth_is)
+
+  -- a key that begins with the spot's path
+  pub same_way : (key : K) (s rest : List Bool) → bits key ≡ take p.depth (bits p.key) ++ s ++ rest → take p.depth (bits key) ≡ take p.depth (bits p.key)
+  same_way key s rest e =
+      ap (take p.depth) (e ∙ append_assoc (take p.depth (bits p.key)) s rest)
+      ∙ take-append-le p.depth (take p.depth (bits p.key)) (s ++ rest) (omega (arith, string-length)) ∙ take-take p.depth p.depth (bits p.key) (omega arith)
 
   module _ (s : List Bool) (later : Places) (first : to_come p.places ≡ s ∷ to_come later) where
     -- the spot afterwards
@@ -192,6 +201,16 @@ module _ {K : Type 0} (IsKey : K → Type 0) (bits : K → List Bool) (width : �
         pub child_room : p.depth + 5 ≤ width
         child_room =
             let h = child_fits width v t tree (take p.depth (bits p.key)) p.node whole at.stands s five bit_set in omega (arith, h, string-length)
+
+        -- which is passed
+        pub child_passed : IsStrictlySortedBy listing_cmp (to_come p.places) → (b : ℕ) → b ≡ number s → (key : K) (rest : List Bool) →
+            bits key ≡ take p.depth (bits p.key) ++ digits 5 b ++ rest → IsPassed bits (record { node = p.node; key = key; depth = p.depth; places = later })
+        unfolding IsStrictlySortedBy
+        child_passed sorted b b_is key rest extended =
+            let child : take 5 (drop p.depth (bits key)) ≡ s =
+            ap (λ k. take 5 (drop p.depth k)) (extended ∙ append_assoc (take p.depth (bits p.key)) (digits 5 b) rest) ∙ ap (take 5) (drop_at (take p.depth (bits p.key)) (digits 5 b ++ rest) p.depth string-length)
+            ∙ take_at (digits 5 b) rest 5 (length-digits 5 b) ∙ ap₂ digits (sym five) b_is ∙ digits-number s in
+            subst (λ c. All (IsOther c) (to_come later)) (sym child) (others_after s (to_come later) (subst (IsStrictlySortedBy listing_cmp) first sorted).0)
 
         module _ (b place : ℕ) (b_is : b ≡ number s) (place_is : place ≡ ones_below b p.node.child_bitmap) where
           slot_is : child_slot p.node (number s) ≡ p.node.child_block + place

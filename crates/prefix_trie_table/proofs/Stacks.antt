@@ -60,7 +60,7 @@ module _ {K : Type 0} (all below : List (Site K)) (p : Site K) (popped : all ≡
     pending-done h = sym (pending-popped ∙ ap (λ xs. xs ++ pending bits m below) h)
 
   module _ (IsKey : K → Type 0) (bits : K → List Bool) (width : ℕ) (v : Store Node) (stack : IsStack IsKey bits width v all) where
-    trail-at : IsTrail IsKey bits width v (start all) below × (p.depth ≡ start all + 5 * length below) × IsSpot IsKey bits width v p
+    pub trail-at : IsTrail IsKey bits width v (start all) below × (p.depth ≡ start all + 5 * length below) × IsSpot IsKey bits width v p
     trail-at = trail-pop IsKey bits width v (start all) below p (subst (IsTrail IsKey bits width v (start all)) popped stack)
 
     pub spot-popped : IsSpot IsKey bits width v p

@@ -1,6 +1,7 @@
 -- What the arrays and the spots of a walk say of what is still to come.
 use Rattle.std.proofs.Common.{◌≡◌, ℕ, ◌%◌, Bool, List, [], ◌∷◌, length, take, arith, Option, None, Some, refl, sym, ap, ◌∙◌, subst}
 use Rattle.std.specs.List.{All}
+use Rattle.std.proofs.lemmas.List.Elements.{All-nil}
 use Rattle.std.specs.Prelude.{slice_index_or}
 use Rattle.std.specs.Borrow.{Bor}
 use Rattle.prefix_trie_bits.specs.Places.{places}
@@ -17,9 +18,10 @@ use Rattle.prefix_trie_table.specs.Forest.{read}
 use Rattle.prefix_trie_table.specs.Shape.{Shaped, IsShapeOf, same_shape}
 use Rattle.prefix_trie_table.specs.declared.table.seat.Seat.{Seat}
 use Rattle.prefix_trie_table.specs.Items.{GivesFilled}
-use Rattle.prefix_trie_table.specs.Walks.{Site, Tree, IsSpot, IsPlaceOf, IsStack, still, pending, slot_of, GivesSeat, ShapeOf, rest_of_walk, IsWalk}
+use Rattle.prefix_trie_table.specs.Walks.{Site, Tree, IsSpot, IsPlaceOf, IsStack, IsPassed, ArePassed, still, pending, slot_of, GivesSeat, ShapeOf, rest_of_walk, IsWalk}
 use Rattle.prefix_trie_table.specs.Tables.{IsTrie}
 use Rattle.std.specs.FinMap.{len}
+use Rattle.prefix_trie_table.proofs.Passing.{passed-above}
 use Rattle.prefix_trie_table.proofs.Trees.{read-nil}
 use Rattle.prefix_trie_table.proofs.Subtrees.{all_places}
 
@@ -29,8 +31,9 @@ module _ {K T : Type 0} (IsKey : K → Type 0) (bits : K → List Bool) (width :
     pub state : State T
     pub tree : IsTrie width (len state.entries) v w state
     pub stack : IsStack IsKey bits width v ps
+    pub passed : ArePassed bits ps
     pub rest : rest_of_walk bits arrays shape ps ≡ pending bits state.entries ps
-    pub later : (u : ShapeOf arrays) (qs : List (Site K)) → IsStack IsKey bits width v qs → IsWalk IsKey bits width arrays u qs
+    pub later : (u : ShapeOf arrays) (qs : List (Site K)) → IsStack IsKey bits width v qs → ArePassed bits qs → IsWalk IsKey bits width arrays u qs
     pub later_rest : (u : ShapeOf arrays) (qs : List (Site K)) → rest_of_walk bits arrays u qs ≡ pending bits state.entries qs
 
   rest_some : (b : Bor (Store Node) × Bor (Store (Option T))) (shape : ShapeOf (Some b)) (ps : List (Site K)) → IsWalk IsKey bits width (Some b) shape ps →
@@ -39,10 +42,12 @@ module _ {K T : Type 0} (IsKey : K → Type 0) (bits : K → List Bool) (width :
     state = shape.0;
     tree = h.0;
     stack = h.1;
+    passed = h.2;
     rest = refl;
-    later = λ u qs k. (
+    later = λ u qs k o. (
       subst (λ (x : State T). IsTrie width (len x.entries) b.0.now b.1.now x) (same_shape b.0.now.slots b.1.now.slots shape.0 u.0 shape.1 u.1) h.0,
       k,
+      o,
     );
     later_rest = λ u qs. ap (λ (x : State T). pending bits x.entries qs) (same_shape b.0.now.slots b.1.now.slots u.0 shape.0 u.1 shape.1);
   }
@@ -66,6 +71,7 @@ module _ {K T : Type 0} (IsKey : K → Type 0) (bits : K → List Bool) (width :
   same_walk (Some a) s u ps qs e h = (
     subst (λ (x : State T). IsTrie width (len x.entries) a.0.now a.1.now x) (same_shape a.0.now.slots a.1.now.slots s.0 u.0 s.1 u.1) h.0,
     subst (IsStack IsKey bits width a.0.now) (sym e) h.1,
+    subst (ArePassed bits) (sym e) h.2,
   )
 
   -- the value that is read at its seat is the one that comes next
@@ -83,8 +89,8 @@ module _ {K T : Type 0} (IsKey : K → Type 0) (bits : K → List Bool) (width :
 
   -- spots of the table in the arrays are a walk, and have to come what is pending at them
   module _ (v : Store Node) (w : Store (Option T)) (s : State T) (tree : IsTrie width (len s.entries) v w s) (ps : List (Site K)) (stack : IsStack IsKey bits width v ps) (u : Shaped v.slots w.slots) where
-    pub spots_walk : IsTrie width (len u.0.entries) v w u.0 × IsStack IsKey bits width v ps
-    spots_walk = (subst (λ (x : State T). IsTrie width (len x.entries) v w x) (same_shape v.slots w.slots s u.0 tree.shaped u.1) tree, stack)
+    pub spots_walk : ArePassed bits ps → IsTrie width (len u.0.entries) v w u.0 × IsStack IsKey bits width v ps × ArePassed bits ps
+    spots_walk passed = (subst (λ (x : State T). IsTrie width (len x.entries) v w x) (same_shape v.slots w.slots s u.0 tree.shaped u.1) tree, stack, passed)
 
     pub spots_rest : (x : State T) → IsShapeOf v.slots w.slots x → pending bits u.0.entries ps ≡ pending bits x.entries ps
     spots_rest x is = ap (λ (y : State T). pending bits y.entries ps) (same_shape v.slots w.slots u.0 x u.1 is)
@@ -117,10 +123,11 @@ module _ {K T : Type 0} (IsKey : K → Type 0) (bits : K → List Bool) (width :
 
     -- is a walk
     pub root_walk : (u : Shaped v.slots w.slots) (ps : List (Site K)) → ps ≡ c ∷ [] →
-        IsTrie width (len u.0.entries) v w u.0 × IsStack IsKey bits width v ps
+        IsTrie width (len u.0.entries) v w u.0 × IsStack IsKey bits width v ps × ArePassed bits ps
     root_walk u ps e = (
       subst (λ (x : State T). IsTrie width (len x.entries) v w x) (same_shape v.slots w.slots s u.0 tree.shaped u.1) tree,
       subst (IsStack IsKey bits width v) (sym e) (refl, root_spot, tt),
+      passed-above bits ps [] c e (All-nil (IsPassed bits)),
     )
 
     -- and has the whole listing to come

@@ -1,7 +1,9 @@
 -- What a walk of a table has still to come, and what its steps give. This project's own.
-use Rattle.std.specs.Prelude.{◌≡◌, ℕ, zero, suc, ◌+◌, ◌-◌, ◌*◌, ◌/◌, ◌<◌, ◌≤◌, Bool, true, List, [], ◌∷◌, ◌++◌, length, take, map, slice_index_or, Option, None, Some, All, ⊤}
+use Rattle.std.specs.Prelude.{◌≡◌, ◌≢◌, ℕ, zero, suc, ◌+◌, ◌-◌, ◌*◌, ◌/◌, ◌<◌, ◌≤◌, Bool, true, not, List, [], ◌∷◌, ◌++◌, length, take, drop, map, filter, slice_index_or, Option, None, Some, All, ⊤}
+use Rattle.std.specs.List.{AllWithin}
 use Rattle.std.specs.Borrow.{Bor}
 use Rattle.std.specs.Coded.{Coded}
+use Rattle.prefix_trie_bits.specs.Bits.{begins}
 use Rattle.prefix_trie_bits.specs.Places.{is_in}
 use Rattle.prefix_trie_bits.specs.Walks.{to_come}
 use Rattle.prefix_trie_bits.specs.Model.Entries.{Entries}
@@ -51,6 +53,25 @@ slot_of seat = seat.start + seat.place
 abbrev pub IsPlaceOf : Node → List Bool → Type 0
 IsPlaceOf n s = (length s ≤ 5) × (is_in n.value_bitmap n.child_bitmap s ≡ true)
 
+-- s is another string than t
+abbrev pub IsOther : List Bool → List Bool → Type 0
+IsOther t s = s ≢ t
+
+-- of the places still to come at a spot those are dropped that the first len bits of b begin, which end at its node
+pub record Skips (b : List Bool) (len : ℕ) (p q : Spot) : Type 0 where
+  pub node_is : q.node ≡ p.node
+  pub depth_is : q.depth ≡ p.depth
+  pub left : to_come q.places ≡ filter (λ s. not (begins (drop p.depth (take len b)) s)) (to_come p.places)
+
+-- at the last of these spots
+pub record SkipsLast (b : List Bool) (len : ℕ) (old new : List Spot) : Type 0 where
+  pub below : List Spot
+  pub was : Spot
+  pub now : Spot
+  pub before : old ≡ below ++ was ∷ []
+  pub after : new ≡ below ++ now ∷ []
+  pub skips : Skips b len was now
+
 module _ {K : Type 0} where
   -- the spot is at a node of the array, and only places that the node has are still to come
   pub record IsSpot (IsKey : K → Type 0) (bits : K → List Bool) (width : ℕ) (v : Store Node) (p : Site K) : Type 0 where
@@ -74,6 +95,27 @@ module _ {K : Type 0} where
   -- the spots stand one below the other, from any depth on
   abbrev pub IsStack : (K → Type 0) → (K → List Bool) → ℕ → Store Node → List (Site K) → Type 0
   IsStack IsKey bits width v ps = IsTrail IsKey bits width v (start ps) ps
+
+  -- the child on the key's way is not among the places still to come
+  abbrev pub IsPassed : (K → List Bool) → Site K → Type 0
+  IsPassed bits p = All (IsOther (take 5 (drop p.depth (bits p.key)))) (to_come p.places)
+
+  -- so it is at each spot but the last: what a key that ends at the last spot begins is to come there alone
+  abbrev pub ArePassed : (K → List Bool) → List (Site K) → Type 0
+  ArePassed bits ps = AllWithin (IsPassed bits) ps 0 (length ps - 1)
+
+  -- the first len bits of a key end at the node of the spot
+  pub record EndsAt (bits : K → List Bool) (p : Site K) (key : K) (len : ℕ) : Type 0 where
+    pub whole : p.depth ≤ len
+    pub last : len < p.depth + 5
+    pub way : take p.depth (bits key) ≡ take p.depth (bits p.key)
+
+  -- at that of the last of these spots
+  pub record EndsLast (bits : K → List Bool) (way : K) (ps : List Spot) (key : K) (len : ℕ) : Type 0 where
+    pub below : List Spot
+    pub spot : Spot
+    pub is : ps ≡ below ++ spot ∷ []
+    pub ends : EndsAt bits (site way spot) key len
 
   module _ {T : Type 0} where
     -- the pairs still to come at a spot
@@ -134,6 +176,12 @@ IsSeated bits nodes (Entry key len seat) = seat_of nodes (take len (bits key)) �
 IsSeated bits nodes (Child c key) = ⊤
 IsSeated bits nodes Done = ⊤
 
+-- a key that a step gave ends at its spot, and the child that it gave is passed
+abbrev pub KeepsWay : {K : Type 0} → (K → List Bool) → Site K → Step K → Spot → Type 0
+KeepsWay bits p (Entry key len seat) q = EndsAt bits p key len
+KeepsWay bits p (Child c key) q = IsPassed bits (site key q)
+KeepsWay bits p Done q = ⊤
+
 module _ {T : Type 0} where
   -- the one shape that the arrays have, where there are arrays
   abbrev pub ShapeOf : Option (Bor (Store Node) × Bor (Store (Option T))) → Type 0
@@ -154,4 +202,4 @@ module _ {T : Type 0} where
     abbrev pub IsWalk : (K → Type 0) → (K → List Bool) → ℕ → (arrays : Option (Bor (Store Node) × Bor (Store (Option T)))) → ShapeOf arrays → List (Site K) → Type 0
     IsWalk IsKey bits width None shape ps = ⊤
     IsWalk IsKey bits width (Some a) shape ps =
-        IsTrie width (len shape.0.entries) a.0.now a.1.now shape.0 × IsStack IsKey bits width a.0.now ps
+        IsTrie width (len shape.0.entries) a.0.now a.1.now shape.0 × IsStack IsKey bits width a.0.now ps × ArePassed bits ps

@@ -8,7 +8,7 @@ ghost use Rattle.prefix_trie_bits.specs.Model.Step.{State};
 ghost use Rattle.prefix_trie_table.specs.Bitmaps.{has_bit as is_set};
 ghost use Rattle.prefix_trie_table.specs.Shape.{IsShapeOf};
 ghost use Rattle.prefix_trie_table.specs.Tables.{IsTrie};
-ghost use Rattle.prefix_trie_table.specs.Walks.{Tree, IsStack, IsPlaceOf, pending, sites};
+ghost use Rattle.prefix_trie_table.specs.Walks.{Tree, ArePassed, IsStack, IsPlaceOf, pending, sites};
 ghost use Rattle.prefix_trie_table.specs.Cursors.{selected, behind, kept, places_in};
 
 use crate::allocator::blocks::Blocks;
@@ -67,6 +67,7 @@ pub(super) fn start_at<K: Key, T: Drop, A: Allocator, V: Tick>(
     requires within { len ≤ K.bit_width }
     requires tree { (t : Tree T) × IsTrie K.bit_width t.count nodes.now t.cells t.shape }
     ensures stack { IsStack K.IsKey K.bits K.bit_width nodes.now (sites key result.items) }
+    ensures passed { ArePassed K.bits (sites key result.items) }
     ensures rest { (t : Tree T) → IsTrie K.bit_width t.count nodes.now t.cells t.shape
         → pending K.bits t.shape.entries (sites key result.items) ≡ selected from t.shape.entries (take len (K.bits key)) }
 {

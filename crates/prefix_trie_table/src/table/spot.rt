@@ -5,13 +5,13 @@ ghost use Rattle.prefix_trie_bits.specs.Walks.{to_come};
 ghost use Rattle.prefix_trie_table.specs.Bitmaps.{has_bit as is_set};
 ghost use Rattle.prefix_trie_table.specs.Cells.{node_at};
 ghost use Rattle.prefix_trie_table.specs.Tables.{IsTrie};
-ghost use Rattle.prefix_trie_table.specs.Walks.{Tree, IsSpot, IsPlaceOf, IsSeated, Steps, site, slot_of};
+ghost use Rattle.prefix_trie_table.specs.Walks.{Tree, IsSpot, IsPlaceOf, IsSeated, KeepsWay, Skips, Steps, site, slot_of};
 
 use crate::allocator::blocks::Blocks;
 use crate::allocator::node::{Node, NodeSlot};
 use crate::allocator::nodes::{NodeAllocator, Tick};
 use crate::table::seat::Seat;
-use prefix_trie_bits::node::{Place, Places, rank, string_of};
+use prefix_trie_bits::node::{Place, Places, rank, string_of, value_bit_of};
 use prefix_trie_bits::prefix::Key;
 use std::alloc::Allocator;
 
@@ -81,6 +81,7 @@ pub fn next_at<K: Key, A: Allocator, V: Tick, T: Drop>(
     ensures step { (t : Tree T) → IsTrie K.bit_width t.count nodes.now t.cells t.shape
         → Steps K.IsKey K.bits K.bit_width nodes.now t (site key spot.old) result (site key spot.new) }
     ensures seat { IsSeated K.bits nodes.now.slots result }
+    ensures way { KeepsWay K.bits (site key spot.old) result spot.new }
 {
     let Some(place) = spot.places.next_place() else {
         return Step::Done;
@@ -104,6 +105,18 @@ pub fn next_at<K: Key, A: Allocator, V: Tick, T: Drop>(
             Step::Child(enter(nodes, at, spot.depth + 5, counter), below)
         }
     }
+}
+
+/// Drops the places that a key begins, which ends at the node of the spot.
+#[inline]
+pub fn skip_below<K: Key>(spot: &mut Spot, key: K, len: u32)
+    requires key { K.IsKey key }
+    requires whole { spot.old.depth ≤ len }
+    requires last { len < spot.old.depth + 5 }
+    requires within { len ≤ K.bit_width }
+    ensures { Skips (K.bits key) len spot.old spot.new }
+{
+    spot.places.skip_below(value_bit_of(key, spot.depth, len));
 }
 
 /// The value at a seat.

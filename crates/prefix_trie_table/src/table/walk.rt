@@ -1,19 +1,19 @@
 //! The walk that lends the values of a table, in listing order.
-ghost use Rattle.std.specs.Prelude.{◌≡◌, ◌<◌, [], Some, IfSome, MatchOption, take};
+ghost use Rattle.std.specs.Prelude.{◌≡◌, ◌<◌, ◌≤◌, [], Some, IfSome, MatchOption, take};
 ghost use Rattle.std.specs.FinMap.{len};
 ghost use Rattle.prefix_trie_bits.specs.Model.Selections.{listing};
 ghost use Rattle.prefix_trie_bits.specs.Model.Step.{State};
 ghost use Rattle.prefix_trie_table.specs.Locations.{seat_of};
 ghost use Rattle.prefix_trie_table.specs.Shape.{IsShapeOf};
 ghost use Rattle.prefix_trie_table.specs.Tables.{IsTrie};
-ghost use Rattle.prefix_trie_table.specs.Items.{GivesFilled};
-ghost use Rattle.prefix_trie_table.specs.Walks.{Tree, IsStack, pending, sites, GivesSeat, ShapeOf, ShapeOf-prop};
+ghost use Rattle.prefix_trie_table.specs.Items.{GivesFilled, GivesOutermost};
+ghost use Rattle.prefix_trie_table.specs.Walks.{Tree, ArePassed, EndsLast, IsStack, SkipsLast, pending, sites, GivesSeat, ShapeOf, ShapeOf-prop};
 
 use crate::allocator::blocks::Blocks;
 use crate::allocator::node::NodeSlot;
 use crate::allocator::nodes::{NodeAllocator, Tick};
 use crate::table::seat::Seat;
-use crate::table::spot::{Spot, Step, enter, next_at, value_at};
+use crate::table::spot::{Spot, Step, enter, next_at, skip_below, value_at};
 use arrayvec::ArrayVec;
 use prefix_trie_bits::prefix::Key;
 use std::alloc::Allocator;
@@ -52,6 +52,7 @@ impl<'a, K: Key, T: Drop, A: Allocator, V: Tick> Walk<'a, K, T, A, V> {
     ) -> Self
         requires tree { (s : State T) × IsTrie K.bit_width (len s.entries) nodes.now cells.now s }
         requires stack { IsStack K.IsKey K.bits K.bit_width nodes.now (sites key stack.items) }
+        requires passed { ArePassed K.bits (sites key stack.items) }
         ensures { (s : State T) → IsShapeOf nodes.now.slots cells.now.slots s
             → result ≡ pending K.bits s.entries (sites key stack.items) }
     {
@@ -80,6 +81,28 @@ impl<'a, K: Key, T: Drop, A: Allocator, V: Tick> Walk<'a, K, T, A, V> {
             return None;
         };
         Some((key, len, value_at(cells, seat)))
+    }
+
+    /// Takes the next entry's key and the key's length in bits, and drops all that the key begins from what is to come. No
+    /// node below the entry's place is read.
+    #[inline]
+    pub fn next_outermost(&mut self, counter: &mut V) -> Option<(K, u32)>
+        ensures { MatchOption result ((self.old ≡ []) × (self.new ≡ []))
+            (λ r. GivesOutermost K.IsKey K.bits K.bit_width r.0 r.1 self.old self.new) }
+    {
+        let Some((nodes, _)) = self.arrays else {
+            return None;
+        };
+        let Some((key, len, _)) = advance::<K, A, V, T>(
+            nodes,
+            &mut self.stack,
+            &mut self.key,
+            counter,
+        ) else {
+            return None;
+        };
+        skip_at_last(&mut self.stack, key, len);
+        Some((key, len))
     }
 
     /// The same walk, at the same place. It takes no memory.
@@ -144,6 +167,8 @@ pub fn advance<K: Key, A: Allocator, V: Tick, T: Drop>(
         (λ r. GivesSeat K.IsKey K.bits K.bit_width t r.0 r.1 r.2
         (pending K.bits t.shape.entries (sites key.old stack.old.items)) (pending K.bits t.shape.entries (sites key.new stack.new.items))) }
     ensures seat { IfSome result (λ r. seat_of nodes.now.slots (take r.1 (K.bits r.0)) ≡ Some r.2) }
+    ensures passed { ArePassed K.bits (sites key.old stack.old.items) → ArePassed K.bits (sites key.new stack.new.items) }
+    ensures last { IfSome result (λ r. EndsLast K.bits key.new stack.new.items r.0 r.1) }
 {
     while let Some(mut spot) = stack.pop() {
         match next_at::<K, A, V, T>(nodes, &mut spot, *key, counter) {
@@ -160,4 +185,18 @@ pub fn advance<K: Key, A: Allocator, V: Tick, T: Drop>(
         }
     }
     None
+}
+
+/// Drops what a key begins from what is to come at the last spot, at whose node the key ends.
+#[inline]
+fn skip_at_last<K: Key>(stack: &mut ArrayVec<Spot, 26>, key: K, len: u32)
+    requires key { K.IsKey key }
+    requires within { len ≤ K.bit_width }
+    requires last { (way : K) × EndsLast K.bits way stack.old.items key len }
+    ensures { SkipsLast (K.bits key) len stack.old.items stack.new.items }
+{
+    if let Some(mut spot) = stack.pop() {
+        skip_below(&mut spot, key, len);
+        stack.push(spot);
+    }
 }

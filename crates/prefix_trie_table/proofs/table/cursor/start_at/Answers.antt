@@ -1,7 +1,7 @@
 use Rattle.std.proofs.Common.{◌∙◌, sym, take, arith}
 use Rattle.prefix_trie_table.specs.Digits.{path_of}
 use Rattle.prefix_trie_table.proofs.Subtrees.{root_inside, few_at}
-use Rattle.prefix_trie_table.proofs.Cursors.{laid_root, stack_pushed, rest_missing, next_inside, laid_next, rest_ended}
+use Rattle.prefix_trie_table.proofs.Cursors.{laid_root, stack_pushed, passed_pushed, rest_missing, next_inside, laid_next, rest_ended}
 use Rattle.prefix_trie_table.proofs.table.cursor.start_at.Goals as goal
 
 pub visit-node-requires : goal.visit-node-requires
@@ -18,6 +18,10 @@ spot_in-requires g c = record {
 pub returns-then-not-has_bit-clause-stack : goal.returns-then-not-has_bit-clause-stack
 returns-then-not-has_bit-clause-stack g c =
     stack_pushed g.K.Key.IsKey g.K.Key.bits g.K.Key.bit_width c.args.nodes.now c.args.key c.args.len c.args.from c.requires.key (g.met.K.Key.key_laws.bits_length c.args.key c.requires.key) c.requires.within c.loop-depth.depth c.loop-depth.node c.loop-depth.stack.items c.loop-depth.invariant c.spot_in.result c.spot_in.ensures.node c.spot_in.ensures.depth c.spot_in.ensures.each c.push.new.self.items c.push.ensures.items
+
+pub returns-then-not-has_bit-clause-passed : goal.returns-then-not-has_bit-clause-passed
+returns-then-not-has_bit-clause-passed g c =
+    passed_pushed g.K.Key.IsKey g.K.Key.bits g.K.Key.bit_width c.args.nodes.now c.args.key c.args.len c.args.from c.requires.key (g.met.K.Key.key_laws.bits_length c.args.key c.requires.key) c.requires.within c.loop-depth.depth c.loop-depth.node c.loop-depth.stack.items c.loop-depth.invariant c.spot_in.result c.spot_in.ensures.node c.spot_in.ensures.depth c.spot_in.ensures.each c.push.new.self.items c.push.ensures.items
 
 pub returns-then-not-has_bit-clause-rest : goal.returns-then-not-has_bit-clause-rest
 returns-then-not-has_bit-clause-rest g c =
@@ -43,6 +47,10 @@ spot_in-requires-2 g c = record {
 pub returns-clause-stack : goal.returns-clause-stack
 returns-clause-stack g c =
     stack_pushed g.K.Key.IsKey g.K.Key.bits g.K.Key.bit_width c.args.nodes.now c.args.key c.args.len c.args.from c.requires.key (g.met.K.Key.key_laws.bits_length c.args.key c.requires.key) c.requires.within c.loop-depth.depth c.loop-depth.node c.loop-depth.stack.items c.loop-depth.invariant c.spot_in-2.result c.spot_in-2.ensures.node c.spot_in-2.ensures.depth c.spot_in-2.ensures.each c.push-2.new.self.items c.push-2.ensures.items
+
+pub returns-clause-passed : goal.returns-clause-passed
+returns-clause-passed g c =
+    passed_pushed g.K.Key.IsKey g.K.Key.bits g.K.Key.bit_width c.args.nodes.now c.args.key c.args.len c.args.from c.requires.key (g.met.K.Key.key_laws.bits_length c.args.key c.requires.key) c.requires.within c.loop-depth.depth c.loop-depth.node c.loop-depth.stack.items c.loop-depth.invariant c.spot_in-2.result c.spot_in-2.ensures.node c.spot_in-2.ensures.depth c.spot_in-2.ensures.each c.push-2.new.self.items c.push-2.ensures.items
 
 pub returns-clause-rest : goal.returns-clause-rest
 returns-clause-rest g c =

@@ -1,6 +1,6 @@
 use Rattle.std.proofs.Common.{◌≡◌, length, refl, sym, ap, ◌∙◌, arith}
 use Rattle.prefix_trie_bits.specs.BitStrings.{length-digits}
-use Rattle.prefix_trie_table.proofs.Spots.{place-value, place-child, place-small, place-child-small, goes_on, lighter, value_room, gives_value, value_seated, child_room, child_stands_at, child_without, child_spot, child_still, child_lighter, child_way}
+use Rattle.prefix_trie_table.proofs.Spots.{same_way, child_passed, place-value, place-child, place-small, place-child-small, goes_on, lighter, value_room, gives_value, value_seated, child_room, child_stands_at, child_without, child_spot, child_still, child_lighter, child_way}
 use Rattle.prefix_trie_table.specs.Walks.{site}
 use Rattle.prefix_trie_table.proofs.table.spot.next_at.Goals as goal
 
@@ -47,6 +47,17 @@ returns-in-Value-clause-seat g c =
     let taken = c.in-Some.ensures.place in
     let is = place-value taken.string c.in-Value.bit taken.short (sym c.in-Value.is ∙ taken.place) in
     value_seated g.K.Key.IsKey g.K.Key.bits g.K.Key.bit_width c.args.nodes.now p at long taken.string c.next_place.new.self taken.first c.requires.tree.0 c.requires.tree.1 is.0 c.extend.result c.extend.ensures.key c.string_of-n.result.0 c.string_of-n.result.1 (c.string_of-n.ensures.only taken.string (sym is.1)) c.extend.ensures.value c.in-Value.bit c.rank.result is.1 c.rank.ensures
+
+pub returns-in-Value-clause-way : goal.returns-in-Value-clause-way
+returns-in-Value-clause-way g c =
+    let p = site c.args.key c.args.spot.now in
+    let at = c.requires.spot in
+    let short = c.string_of-n.ensures.short in
+    record {
+      whole = omega arith;
+      last = omega (arith, short);
+      way = same_way g.K.Key.IsKey g.K.Key.bits g.K.Key.bit_width c.args.nodes.now p at (g.met.K.Key.key_laws.bits_length p.key at.key) c.extend.result _ _ c.extend.ensures.value;
+    }
 
 pub rank-requires-in-Child : goal.rank-requires-in-Child
 rank-requires-in-Child g c =
@@ -104,3 +115,13 @@ returns-in-Child-clause-step g c =
       c.enter.ensures.depth,
       child_way g.K.Key.IsKey g.K.Key.bits g.K.Key.bit_width c.args.nodes.now p at long taken.string c.next_place.new.self taken.first t tree is.0 c.in-Child.child c.rank-in-Child.result is.1 c.rank-in-Child.ensures child is_key extended c.enter.ensures.depth c.enter.ensures.node c.enter.ensures.places c.enter.ensures.each,
     )
+
+pub returns-in-Child-clause-way : goal.returns-in-Child-clause-way
+returns-in-Child-clause-way g c =
+    let p = site c.args.key c.args.spot.now in
+    let at = c.requires.spot in
+    let long = g.met.K.Key.key_laws.bits_length p.key at.key in
+    let taken = c.in-Some.ensures.place in
+    let is = place-child taken.string c.in-Child.child taken.short (sym c.in-Child.is ∙ taken.place) in
+    child_passed g.K.Key.IsKey g.K.Key.bits g.K.Key.bit_width c.args.nodes.now p at long taken.string c.next_place.new.self taken.first c.requires.tree.0 c.requires.tree.1 is.0
+    c.next_place.ensures.sorted c.in-Child.child is.1 c.extend-below.result _ c.extend-below.ensures.value

@@ -3,7 +3,8 @@ use Rattle.std.proofs.lemmas.Bool.{false≢true}
 use Rattle.std.proofs.lemmas.List.{length-map}
 use Rattle.arrayvec.specs.ArrayVec.{ArrayVec}
 use Rattle.prefix_trie_table.specs.declared.table.spot.Spot.{Spot}
-use Rattle.prefix_trie_table.specs.Walks.{IsStack, pending, site, sites, total_weight}
+use Rattle.prefix_trie_table.specs.Walks.{ArePassed, IsStack, pending, site, sites, total_weight}
+use Rattle.prefix_trie_table.proofs.Passing.{passed-popped, passed-put, passed-child}
 use Rattle.prefix_trie_table.proofs.Stacks.{spot-popped, stack-popped, stack-room, child-room, stack-put, stack-child_way, pending-entry, pending-child_way, pending-done, weight-deeper_way, weight-popped, sites-popped}
 use Rattle.prefix_trie_table.proofs.table.walk.advance.Goals as goal
 
@@ -44,6 +45,27 @@ returns-in-Entry-clause-entry g c =
       };
     }
 
+pub returns-in-Entry-clause-passed : goal.returns-in-Entry-clause-passed
+returns-in-Entry-clause-passed g c = λ h.
+    passed-put g.K.Key.bits _ _ _ _ _ (sites-popped c.loop-spot.key _ _ _ c.in-Some.ensures.items) (sites-popped c.loop-spot.key _ _ _ c.push.ensures.items)
+    (c.loop-spot.invariant.passed h)
+
+pub returns-in-Entry-clause-last : goal.returns-in-Entry-clause-last
+returns-in-Entry-clause-last g c =
+    let h = c.in-Entry.ensures.step c.requires.tree.0 c.requires.tree.1 in
+    let ends = c.in-Entry.ensures.way in
+    let depth = h.3 in
+    record {
+      below = c.pop.new.self.items;
+      spot = c.next_at.new.spot;
+      is = c.push.ensures.items;
+      ends = record {
+        whole = (let w = ends.whole in omega (arith, w, depth));
+        last = (let l = ends.last in omega (arith, l, depth));
+        way = subst (λ d. take d (g.K.Key.bits c.in-Entry.found) ≡ take d (g.K.Key.bits c.loop-spot.key)) (sym depth) ends.way;
+      };
+    }
+
 pub push-requires-in-Child : goal.push-requires-in-Child
 push-requires-in-Child g c =
     (omega arith, as_long c.loop-spot.key c.pop.new.self.items 26 (stack-room _ _ _ (sites-popped c.loop-spot.key _ _ _ c.in-Some.ensures.items) g.K.Key.IsKey g.K.Key.bits g.K.Key.bit_width c.args.nodes.now c.loop-spot.invariant.stack g.met.K.Key.key_laws.at_most_128))
@@ -75,6 +97,10 @@ loop-spot-preserved-in-Child g c =
           ap (λ ps. pending g.K.Key.bits t.shape.entries (sites c.in-Child.below ps)) is
           ∙ pending-child_way g.K.Key.IsKey g.K.Key.bits g.K.Key.bit_width c.args.nodes.now c.loop-spot.key c.in-Child.below c.loop-spot.stack.items c.pop.new.self.items c.in-Some.spot c.next_at.new.spot c.in-Child.child c.in-Some.ensures.items c.loop-spot.invariant.stack h.3 h.2 h.5 h.4 h.6 t.shape.entries (c.in-Child.ensures.step t tree).0
           ∙ c.loop-spot.invariant.same t tree;
+      passed = λ o.
+          subst (λ ps. ArePassed g.K.Key.bits (sites c.in-Child.below ps)) (sym is)
+          (passed-child g.K.Key.IsKey g.K.Key.bits g.K.Key.bit_width c.args.nodes.now c.loop-spot.key c.in-Child.below c.loop-spot.stack.items c.pop.new.self.items c.in-Some.spot c.next_at.new.spot c.in-Child.child
+          c.in-Some.ensures.items c.loop-spot.invariant.stack h.6 c.in-Child.ensures.way (c.loop-spot.invariant.passed o));
     }
 
 pub loop-spot-smaller : goal.loop-spot-smaller
@@ -87,6 +113,7 @@ loop-spot-preserved g c =
     record {
       stack = stack-popped _ _ _ (sites-popped c.loop-spot.key _ _ _ c.in-Some.ensures.items) g.K.Key.IsKey g.K.Key.bits g.K.Key.bit_width c.args.nodes.now c.loop-spot.invariant.stack;
       same = λ t tree. pending-done _ _ _ (sites-popped c.loop-spot.key _ _ _ c.in-Some.ensures.items) g.K.Key.bits t.shape.entries (c.in-Done.ensures.step t tree).0 ∙ c.loop-spot.invariant.same t tree;
+      passed = λ o. passed-popped g.K.Key.bits _ _ _ (sites-popped c.loop-spot.key _ _ _ c.in-Some.ensures.items) (c.loop-spot.invariant.passed o);
     }
 
 no-items : {X : Type 0} (xs : List X) → (0 < length xs → ⊥) → xs ≡ []
@@ -100,3 +127,7 @@ returns-clause-entry g c = λ t tree.
       sym (c.loop-spot.invariant.same t tree) ∙ nothing,
       ap (λ (w : ArrayVec Spot). pending g.K.Key.bits t.shape.entries (sites c.loop-spot.key w.items)) c.in_default.ensures.empty ∙ nothing,
     )
+
+pub returns-clause-passed : goal.returns-clause-passed
+returns-clause-passed g c = λ h.
+    subst (λ (w : ArrayVec Spot). ArePassed g.K.Key.bits (sites c.loop-spot.key w.items)) (sym c.in_default.ensures.empty) (c.loop-spot.invariant.passed h)

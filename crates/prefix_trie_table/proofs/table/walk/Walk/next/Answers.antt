@@ -13,12 +13,12 @@ advance-requires g c =
 pub invariant_of-self : goal.invariant_of-self
 invariant_of-self g c =
     let r = rest_at g.K.Key.IsKey g.K.Key.bits g.K.Key.bit_width c.self.inside.arrays (c.in-Some.nodes, c.in-Some.cells) c.in-Some.is c.self.inside.shape (sites c.self.inside.key c.self.inside.stack.items) c.self.invariant in
-    r.later _ (sites c.advance.new.key c.advance.new.stack.items) c.advance.ensures.stack
+    r.later _ (sites c.advance.new.key c.advance.new.stack.items) c.advance.ensures.stack (c.advance.ensures.passed r.passed)
 
 pub invariant_of-self-2 : goal.invariant_of-self-2
 invariant_of-self-2 g c =
     let r = rest_at g.K.Key.IsKey g.K.Key.bits g.K.Key.bit_width c.self.inside.arrays (c.in-Some.nodes, c.in-Some.cells) c.in-Some.is c.self.inside.shape (sites c.self.inside.key c.self.inside.stack.items) c.self.invariant in
-    r.later _ (sites c.advance.new.key c.advance.new.stack.items) c.advance.ensures.stack
+    r.later _ (sites c.advance.new.key c.advance.new.stack.items) c.advance.ensures.stack (c.advance.ensures.passed r.passed)
 
 pub returns-in_default-advance : goal.returns-in_default-advance
 returns-in_default-advance g c =
