@@ -1,5 +1,5 @@
 //! The walk that lends the values of a table, in listing order.
-ghost use Rattle.std.specs.Prelude.{◌≡◌, ◌<◌, ◌≤◌, [], Some, IfSome, MatchOption, take};
+ghost use Rattle.std.specs.Prelude.{◌≡◌, ◌<◌, ◌≤◌, [], Some, IfSome, MatchOption, length, take};
 ghost use Rattle.std.specs.FinMap.{len};
 ghost use Rattle.prefix_trie_bits.specs.Model.Selections.{listing};
 ghost use Rattle.prefix_trie_bits.specs.Model.Step.{State};
@@ -193,6 +193,7 @@ fn skip_at_last<K: Key>(stack: &mut ArrayVec<Spot, 26>, key: K, len: u32)
     requires key { K.IsKey key }
     requires within { len ≤ K.bit_width }
     requires last { (way : K) × EndsLast K.bits way stack.old.items key len }
+    requires room { length stack.old.items ≤ 26 }
     ensures { SkipsLast (K.bits key) len stack.old.items stack.new.items }
 {
     if let Some(mut spot) = stack.pop() {
