@@ -18,3 +18,4 @@ pub mod Cloned
 pub mod Writing
 pub mod Collected
 pub mod Equality
+pub mod Addresses

@@ -1,10 +1,17 @@
-//! Counting the nodes.
-ghost use Rattle.std.specs.Prelude.{◌≡◌};
+//! Counting the nodes, and the addresses that the entries cover.
+ghost use Rattle.std.specs.Prelude.{◌≡◌, IfSome};
+ghost use Rattle.std.specs.Option.{option_map};
 ghost use Rattle.std.specs.FinMap.{len};
+ghost use Rattle.prefix_trie_bits.specs.Bits.{number};
+ghost use Rattle.prefix_trie_bits.specs.Model.Addresses.{address_answer};
+ghost use Rattle.prefix_trie_bits.specs.Model.Entries.{Entries};
+ghost use Rattle.prefix_trie_bits.specs.Model.Selections.{listing};
 ghost use Rattle.prefix_trie_map.specs.Whole.{IsWhole};
 
 use crate::map::{PrefixMap, Visits};
-use prefix_trie_bits::prefix::Prefix;
+use prefix_trie_bits::prefix::{Key, Prefix};
+use prefix_trie_table::allocator::nodes::Tick;
+use prefix_trie_table::table::Walk;
 use std::alloc::Allocator;
 
 impl<P: Prefix, T: Drop, A: Allocator> PrefixMap<P, T, A> {
@@ -24,4 +31,45 @@ impl<P: Prefix, T: Drop, A: Allocator> PrefixMap<P, T, A> {
         let _ = self.len();
         self.table.node_count(&mut Visits::new())
     }
+
+    /// The number of addresses, numbers of the full width, that the stored prefixes contain, each counted once; `None` exactly if
+    /// these are all that there are. A prefix within another stored one adds nothing, and nodes below one are not read.
+    ///
+    /// ```text
+    /// 192.0.2.0/24, 192.0.2.128/25 and 198.51.100.0/24 are stored
+    /// map.address_count()   Some(512)
+    /// 0.0.0.0/0 is stored beside them
+    /// map.address_count()   None: 2^32 is no u32
+    /// ```
+    #[inline]
+    pub fn address_count(&self) -> Option<P::R>
+        ensures key { IfSome result (λ r. P.R.IsKey r) }
+        ensures count { option_map (λ r. number (P.R.bits r)) result ≡ address_answer P.R.bit_width self.now.entries }
+        ensures whole { IsWhole P.R.bit_width self.now }
+    {
+        // The proof learns from it that the map is whole.
+        let _ = self.len();
+        let mut visits = Visits::new();
+        let mut walk = self.table.walk(&mut visits);
+        addresses_of(&mut walk, &mut visits)
+    }
+}
+
+/// How many addresses the entries to come cover; `None` exactly if that is all.
+fn addresses_of<K: Key, T: Drop, A: Allocator, V: Tick>(
+    walk: &mut Walk<'_, K, T, A, V>,
+    counter: &mut V,
+) -> Option<K>
+    ensures key { IfSome result (λ r. K.IsKey r) }
+    ensures count { (m : Entries T) → walk.old ≡ listing m
+        → option_map (λ r. number (K.bits r)) result ≡ address_answer K.bit_width m }
+{
+    let mut total = K::zero();
+    while let Some((_, len)) = walk.next_outermost(counter) {
+        if len == 0 {
+            return None;
+        }
+        total = total.plus(K::power(K::width() - len))?;
+    }
+    Some(total)
 }
