@@ -4,3 +4,4 @@ pub mod Putting
 pub mod Retaining
 pub mod Rewriting
 pub mod Swapping
+mod SameKeys

@@ -14,10 +14,13 @@ ghost use Rattle.prefix_trie_map.specs.Steps.{stored};
 ghost use Rattle.prefix_trie_map.specs.Whole.{IsWhole};
 ghost use Rattle.prefix_trie.specs.Sets.{put_in};
 
+mod iter;
 mod lookup;
 mod removal;
+mod shown;
 
 use crate::{Prefix, PrefixMap, Refusal};
+pub use iter::{IntoIter, Iter};
 use std::alloc::{AllocError, Allocator};
 use std::marker::Model;
 
