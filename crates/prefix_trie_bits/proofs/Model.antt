@@ -18,6 +18,7 @@ pub mod WorkedFacts
 pub mod Facts
 pub mod Runs
 pub mod Steps
+pub mod Counted
 pub mod Determined
 pub mod Readied
 pub mod Stored

@@ -14,3 +14,4 @@ pub mod HandsOut
 pub mod Room
 pub mod Insertion
 pub mod Storage
+pub mod Counted

@@ -2,6 +2,7 @@
 //! a law or a list of rows, so that the check proves it.
 
 ghost use Rattle.prefix_trie_bits.specs.Laws.Addresses.{AddressLaws};
+ghost use Rattle.prefix_trie_bits.specs.Laws.Counted.{CountedLaws};
 ghost use Rattle.prefix_trie_bits.specs.Laws.Determined.{DeterminedLaws};
 ghost use Rattle.prefix_trie_bits.specs.Laws.Listings.{ListingLaws};
 ghost use Rattle.prefix_trie_bits.specs.Laws.Matches.{MatchLaws};
@@ -100,6 +101,12 @@ pub fn slot_laws<P, T>()
 /// entries.
 pub fn total_laws<P, T>()
     ensures { TotalLaws P T }
+{}
+
+/// A run with its counts is a run. At its end the map is tidy where the calls leave it so. At each point of it there are two runs:
+/// of the calls before, and of those to come.
+pub fn counted_laws<P, T>()
+    ensures { CountedLaws P T }
 {}
 
 /// Worked rows: exact lookups, and longest and shortest matches.

@@ -1,0 +1,77 @@
+-- A run with its counts: how many nodes each lookup reads, and where the nodes are exactly those that the keys need.
+-- The bound is from Eatherton, Dittia and Varghese's tree bitmap; the rest is this project's own.
+use Rattle.std.specs.Prelude.{◌≡◌, ℕ, ◌+◌, ◌/◌, ◌≤◌, Bool, true, false, List, [], ◌∷◌, Option, Some, None, length}
+use Rattle.prefix_trie_bits.specs.Model.Nodes.{IsTidy}
+use Rattle.prefix_trie_bits.specs.Model.Step.{State, Call, Insert, Get, Lpm, Spm, Remove, RemoveKeepTree, RemoveChildren, RetainAtLeast, Clear, Len, NodeCount, AddressCount, ListAll, ListFrom, Children, Cover, Reply}
+use Rattle.prefix_trie_bits.specs.Model.Storage.{Storage, StepInStorage}
+use Rattle.prefix_trie_bits.specs.Model.Visits.{visits, visits_to_match}
+
+module _ {P T : Type 0} where
+  -- whether a map is known to be tidy behind a call, where `tidy` says it before: not behind a removal that leaves all nodes, and always
+  -- behind a call that leaves only nodes that are needed
+  abbrev pub tidy_after : Bool → Call P T → Bool
+  tidy_after tidy (Insert q v) = tidy
+  tidy_after tidy (Get q) = tidy
+  tidy_after tidy (Lpm q) = tidy
+  tidy_after tidy (Spm q) = tidy
+  tidy_after tidy (Remove q) = tidy
+  tidy_after tidy (RemoveKeepTree q) = false
+  tidy_after tidy (RemoveChildren q) = tidy
+  tidy_after tidy (RetainAtLeast n) = true
+  tidy_after tidy Clear = true
+  tidy_after tidy Len = tidy
+  tidy_after tidy NodeCount = tidy
+  tidy_after tidy AddressCount = tidy
+  tidy_after tidy ListAll = tidy
+  tidy_after tidy (ListFrom q inclusive) = tidy
+  tidy_after tidy (Children q) = tidy
+  tidy_after tidy (Cover q) = tidy
+
+  -- the same behind a list of calls
+  abbrev pub tidy_after_all : Bool → List (Call P T) → Bool
+  tidy_after_all tidy [] = tidy
+  tidy_after_all tidy (call ∷ calls) = tidy_after_all (tidy_after tidy call) calls
+
+module _ {T : Type 0} where
+  -- where `tidy`, the nodes are exactly those that the keys need
+  abbrev pub TidyIf : Bool → State T → Type 0
+  TidyIf tidy s = tidy ≡ true → IsTidy s.entries s.nodes
+
+-- exactly n nodes are read, and at most one for each five bits of the question q, and one more
+abbrev pub ReadsExactly : List Bool → ℕ → Option ℕ → Type 0
+ReadsExactly q n read = (read ≡ Some n) × (n ≤ length q / 5 + 1)
+
+module _ {P T : Type 0} (path : P → List Bool) where
+  -- how many nodes a lookup reads; no other call is counted
+  abbrev pub CountsReads : State T → Call P T → Option ℕ → Type 0
+  CountsReads s (Insert q v) read = read ≡ None
+  CountsReads s (Get q) read = ReadsExactly (path q) (visits s.nodes (path q)) read
+  CountsReads s (Lpm q) read = ReadsExactly (path q) (visits s.nodes (path q)) read
+  CountsReads s (Spm q) read = ReadsExactly (path q) (visits_to_match s.entries s.nodes (path q)) read
+  CountsReads s (Remove q) read = read ≡ None
+  CountsReads s (RemoveKeepTree q) read = read ≡ None
+  CountsReads s (RemoveChildren q) read = read ≡ None
+  CountsReads s (RetainAtLeast n) read = read ≡ None
+  CountsReads s Clear read = read ≡ None
+  CountsReads s Len read = read ≡ None
+  CountsReads s NodeCount read = read ≡ None
+  CountsReads s AddressCount read = read ≡ None
+  CountsReads s ListAll read = read ≡ None
+  CountsReads s (ListFrom q inclusive) read = read ≡ None
+  CountsReads s (Children q) read = read ≡ None
+  CountsReads s (Cover q) read = read ≡ None
+
+module _ {P T : Type 0} (path : P → List Bool) (back : List Bool → P) (width : ℕ) where
+  -- a step from s to t, with the number of nodes that its lookup reads
+  pub record CountedStep (s : State T × Storage) (call : Call P T) (answer : Reply P T × Option ℕ) (t : State T × Storage) : Type 0 where
+    pub step : StepInStorage path back width s call answer.0 t
+    pub reads : CountsReads path s.0 call answer.1
+
+  -- a run of such steps: the replies, and beside them the numbers. `tidy` says whether the map is known to be tidy where the run begins, and then at each point of it
+  -- where the calls before leave it so
+  abbrev pub CountedRun : Bool → State T × Storage → List (Call P T) → List (Reply P T) → List (Option ℕ) → State T × Storage → Type 0
+  CountedRun tidy s [] replies reads t = (replies ≡ []) × (reads ≡ []) × (t ≡ s) × TidyIf tidy t.0
+  CountedRun tidy s (call ∷ calls) replies reads t =
+      (reply : Reply P T) × (later : List (Reply P T)) × (read : Option ℕ) × (more : List (Option ℕ)) × (u : State T × Storage)
+      × (replies ≡ reply ∷ later) × (reads ≡ read ∷ more) × TidyIf tidy s.0
+      × CountedStep s call (reply, read) u × CountedRun (tidy_after tidy call) u calls later more t
