@@ -1,3 +1,5 @@
 pub mod Replay
 pub mod Rewriting
 pub mod Sets
+pub mod Reads
+pub mod NotesFall

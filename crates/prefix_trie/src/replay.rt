@@ -1,18 +1,22 @@
 //! A list of calls, run on a map.
-ghost use Rattle.std.specs.Prelude.{◌≡◌, ◌<◌, ◌^◌, ℕ, All, IfOk, OnErr, MatchResult, cond, length, vec_len};
+ghost use Rattle.std.specs.Prelude.{◌≡◌, ◌<◌, ◌^◌, ℕ, Bool, List, Option, All, IfOk, OnOk, OnErr, MatchResult, cond, length, vec_len};
 ghost use Rattle.std.specs.Map.Iter.{ShowsInOrder};
-ghost use Rattle.std.specs.FinMap.{get};
+ghost use Rattle.std.specs.FinMap.{get, len};
+ghost use Rattle.prefix_trie_bits.specs.Model.Counted.{CountedStep, CountedRun, CountsReads, TidyIf, tidy_after_all};
 ghost use Rattle.prefix_trie_bits.specs.Model.Matches.{longest_match, shortest_match, shown_match};
 ghost use Rattle.prefix_trie_bits.specs.Model.Selections.{listing, listing_from, listing_after, listing_below, listing_covering, shown};
-ghost use Rattle.prefix_trie_bits.specs.Model.Step.{Run, Insert, RemoveKeepTree, RemoveChildren, RetainAtLeast, Done, Items, Refused};
+ghost use Rattle.prefix_trie_bits.specs.Model.Step.{Run, Insert, Get, Lpm, Spm, Remove, RemoveKeepTree, RemoveChildren, RetainAtLeast, Clear, Value, Match, Done, Count, Items, Refused};
 ghost use Rattle.prefix_trie_bits.specs.Model.Storage.{StepInStorage, RunInStorage};
 ghost use Rattle.prefix_trie_bits.specs.declared.prefix.Refusal.TheVariants.{Memory};
 ghost use Rattle.prefix_trie_map.specs.Steps.{state, stored};
 ghost use Rattle.prefix_trie_map.specs.Walks.{lent_item};
 ghost use Rattle.prefix_trie.specs.Replay.{IsFittingCall, call_of, calls_of, reply_of, replies_of};
 
+mod reads;
+
 use crate::map::Iter;
-use crate::{Prefix, PrefixMap, Refusal};
+use crate::{Prefix, PrefixMap, Refusal, Visits};
+pub use reads::Reads;
 use std::alloc::{AllocError, Allocator};
 
 /// A call of a map from prefixes to numbers, with what it is handed.
@@ -117,53 +121,78 @@ pub fn run<P: Prefix, A: Allocator + Clone>(
     // And one that sees how the map is stored: which blocks each call takes, how far the arrays grow, and when a new key is refused.
     ensures run_in_storage { IfOk result (λ replies. RunInStorage P.path P.back P.R.bit_width
         (stored map.old) (calls_of calls.now) (replies_of replies.items) (stored map.new)) }
+
+    // And one that counts: each lookup reads exactly the nodes on its way, at most one for each five bits and one more. Where the
+    // map was tidy before, or is cleared or retained on the way, its nodes are exactly those that its keys need, until a
+    // `RemoveKeepTree`. `run_counted` says that these numbers are those of the map's counters.
+    ensures counted { IfOk result (λ replies. (reads : List (Option ℕ)) × CountedRun P.path P.back P.R.bit_width
+        (stored map.old) (calls_of calls.now) (replies_of replies.items) reads (stored map.new)) }
+    ensures tidy { OnOk result ((tidy : Bool) → TidyIf tidy (state map.old)
+        → TidyIf (tidy_after_all tidy (calls_of calls.now)) (state map.new)) }
     ensures one_each { IfOk result (λ replies. vec_len replies ≡ length calls.now) }
     ensures none_carried_out { OnErr result (map.new ≡ map.old) }
 {
-    let mut replies = Vec::with_capacity(alloc.clone()?, calls.len())?;
-    for call in calls {
-        let reply = answer(&alloc, map, call);
-        replies.push_reserved(reply);
-    }
-    Ok(replies)
+    Ok(run_counted(alloc, map, calls)?.0)
 }
 
-/// Carries out one call.
+/// The replies of `run`, and for each call how many nodes it read if it is a lookup. The numbers are in the contract alone.
+///
+/// A lookup reads exactly the nodes on its way, or those down to the shortest match, and at most one for each five bits of its
+/// prefix and one more. `run` has the rest.
+pub fn run_counted<P: Prefix, A: Allocator + Clone>(
+    alloc: A,
+    map: &mut PrefixMap<P, u64, A>,
+    calls: &[Call<P>],
+) -> Result<(Vec<Reply<P, A>, A>, Reads), AllocError>
+    requires { All (IsFittingCall P.IsFitting) calls.now }
+    ensures counted { IfOk result (λ ran. CountedRun P.path P.back P.R.bit_width
+        (stored map.old) (calls_of calls.now) (replies_of ran.0.items) ran.1 (stored map.new)) }
+    ensures one_each { IfOk result (λ ran. vec_len ran.0 ≡ length calls.now) }
+    ensures none_carried_out { OnErr result (map.new ≡ map.old) }
+{
+    // The proof learns from it that the nodes are those of a map.
+    let _ = map.len();
+    let mut replies = Vec::with_capacity(alloc.clone()?, calls.len())?;
+    let mut reads = Reads::new();
+    for call in calls {
+        let (reply, read) = answer(&alloc, map, call);
+        replies.push_reserved(reply);
+        reads.push(read);
+    }
+    Ok((replies, reads))
+}
+
+/// Carries out one call. Its number is that of the nodes that it read, if it is a lookup.
 fn answer<P: Prefix, A: Allocator + Clone>(
     alloc: &A,
     map: &mut PrefixMap<P, u64, A>,
     call: &Call<P>,
-) -> Reply<P, A>
+) -> (Reply<P, A>, Option<Visits>)
     requires { IsFittingCall P.IsFitting call.now }
-    ensures { StepInStorage P.path P.back P.R.bit_width
-        (stored map.old) (call_of call.now) (reply_of result) (stored map.new) }
+    ensures { CountedStep P.path P.back P.R.bit_width
+        (stored map.old) (call_of call.now) (reply_of result.0, result.1) (stored map.new) }
 {
     // The proof learns from it that neither array passes the limit.
     let _ = map.len();
     match call {
-        Call::Insert(prefix, value) => insert(map, prefix, *value),
-        Call::Get(prefix) => Reply::Value(value_at(map, prefix)),
-        Call::Lpm(prefix) => Reply::Match(longest(map, prefix)),
-        Call::Spm(prefix) => Reply::Match(shortest(map, prefix)),
-        Call::Remove(prefix) => Reply::Value(map.remove(prefix)),
-        Call::RemoveKeepTree(prefix) => remove_keep_tree(map, prefix),
-        Call::RemoveChildren(prefix) => remove_children(map, prefix),
-        Call::RetainAtLeast(least) => {
-            retain_at_least(map, *least);
-            Reply::Done
+        Call::Insert(prefix, value) => (insert(map, prefix, *value), None),
+        Call::Get(prefix) => value_at(map, prefix),
+        Call::Lpm(prefix) => longest(map, prefix),
+        Call::Spm(prefix) => shortest(map, prefix),
+        Call::Remove(prefix) => (remove(map, prefix), None),
+        Call::RemoveKeepTree(prefix) => (remove_keep_tree(map, prefix), None),
+        Call::RemoveChildren(prefix) => (remove_children(map, prefix), None),
+        Call::RetainAtLeast(least) => (retain_at_least(map, *least), None),
+        Call::Clear => (clear(map), None),
+        Call::Len => (count_entries(map), None),
+        Call::NodeCount => (count_nodes(map), None),
+        Call::List => (list_reply(listed(alloc, map)), None),
+        Call::ListFrom(prefix, inclusive) => {
+            let entries = listed_from(alloc, map, prefix, *inclusive);
+            (list_reply(entries), None)
         }
-        Call::Clear => {
-            map.clear();
-            Reply::Done
-        }
-        Call::Len => Reply::Count(map.len()),
-        Call::NodeCount => Reply::Count(map.node_count()),
-        Call::List => list_reply(listed(alloc, map)),
-        Call::ListFrom(prefix, inclusive) => list_reply(listed_from(
-            alloc, map, prefix, *inclusive,
-        )),
-        Call::Children(prefix) => list_reply(children(alloc, map, prefix)),
-        Call::Cover(prefix) => list_reply(covered(alloc, map, prefix)),
+        Call::Children(prefix) => (list_reply(children(alloc, map, prefix)), None),
+        Call::Cover(prefix) => (list_reply(covered(alloc, map, prefix)), None),
     }
 }
 
@@ -208,36 +237,87 @@ fn remove_children<P: Prefix, A: Allocator>(
     Reply::Done
 }
 
-/// The value stored for exactly this prefix.
-fn value_at<P: Prefix, A: Allocator>(map: &PrefixMap<P, u64, A>, prefix: &P) -> Option<u64>
+/// Carries out a removal that prunes.
+fn remove<P: Prefix, A: Allocator>(map: &mut PrefixMap<P, u64, A>, prefix: &P) -> Reply<P, A>
     requires { P.IsFitting prefix.now }
-    ensures { result ≡ get map.now.entries (P.path prefix.now) }
+    ensures { StepInStorage P.path P.back P.R.bit_width
+        (stored map.old) (Remove prefix.now) (reply_of result) (stored map.new) }
 {
-    map.get_counted(prefix).0.copied()
+    Reply::Value(map.remove(prefix))
 }
 
-/// The longest stored prefix that contains this one, and its value.
-fn longest<P: Prefix, A: Allocator>(map: &PrefixMap<P, u64, A>, prefix: &P) -> Option<(P, u64)>
-    requires { P.IsFitting prefix.now }
-    ensures { result ≡ shown_match P.back (longest_match map.now.entries (P.path prefix.now)) }
+/// Takes all entries out.
+fn clear<P: Prefix, A: Allocator>(map: &mut PrefixMap<P, u64, A>) -> Reply<P, A>
+    ensures { StepInStorage P.path P.back P.R.bit_width
+        (stored map.old) Clear (reply_of result) (stored map.new) }
 {
-    map.get_lpm_counted(prefix).0.map(owned)
-}
-
-/// The shortest stored prefix that contains this one, and its value.
-fn shortest<P: Prefix, A: Allocator>(map: &PrefixMap<P, u64, A>, prefix: &P) -> Option<(P, u64)>
-    requires { P.IsFitting prefix.now }
-    ensures { result ≡ shown_match P.back (shortest_match map.now.entries (P.path prefix.now)) }
-{
-    map.get_spm_counted(prefix).0.map(owned)
+    map.clear();
+    Reply::Done
 }
 
 /// Keeps the entries whose prefixes have at least this length.
-fn retain_at_least<P: Prefix, A: Allocator>(map: &mut PrefixMap<P, u64, A>, least: u8)
+fn retain_at_least<P: Prefix, A: Allocator>(
+    map: &mut PrefixMap<P, u64, A>,
+    least: u8,
+) -> Reply<P, A>
     ensures { StepInStorage P.path P.back P.R.bit_width
-        (stored map.old) (RetainAtLeast least) Done (stored map.new) }
+        (stored map.old) (RetainAtLeast least) (reply_of result) (stored map.new) }
 {
     map.retain(|prefix, _| least <= prefix.prefix_len());
+    Reply::Done
+}
+
+/// The number of entries.
+fn count_entries<P: Prefix, A: Allocator>(map: &PrefixMap<P, u64, A>) -> Reply<P, A>
+    ensures { reply_of result ≡ Count (len map.now.entries) }
+{
+    Reply::Count(map.len())
+}
+
+/// The number of nodes.
+fn count_nodes<P: Prefix, A: Allocator>(map: &PrefixMap<P, u64, A>) -> Reply<P, A>
+    ensures { reply_of result ≡ Count (len map.now.nodes) }
+{
+    Reply::Count(map.node_count())
+}
+
+/// The value stored for exactly this prefix, and how many nodes were read.
+fn value_at<P: Prefix, A: Allocator>(
+    map: &PrefixMap<P, u64, A>,
+    prefix: &P,
+) -> (Reply<P, A>, Option<Visits>)
+    requires { P.IsFitting prefix.now }
+    ensures reply { reply_of result.0 ≡ Value (get map.now.entries (P.path prefix.now)) }
+    ensures reads { CountsReads P.path (state map.now) (Get prefix.now) result.1 }
+{
+    let (value, visits) = map.get_counted(prefix);
+    (Reply::Value(value.copied()), Some(visits))
+}
+
+/// The longest stored prefix that contains this one, its value, and how many nodes were read.
+fn longest<P: Prefix, A: Allocator>(
+    map: &PrefixMap<P, u64, A>,
+    prefix: &P,
+) -> (Reply<P, A>, Option<Visits>)
+    requires { P.IsFitting prefix.now }
+    ensures reply { reply_of result.0 ≡ Match (shown_match P.back (longest_match map.now.entries (P.path prefix.now))) }
+    ensures reads { CountsReads P.path (state map.now) (Lpm prefix.now) result.1 }
+{
+    let (found, visits) = map.get_lpm_counted(prefix);
+    (Reply::Match(found.map(owned)), Some(visits))
+}
+
+/// The shortest stored prefix that contains this one, its value, and how many nodes were read.
+fn shortest<P: Prefix, A: Allocator>(
+    map: &PrefixMap<P, u64, A>,
+    prefix: &P,
+) -> (Reply<P, A>, Option<Visits>)
+    requires { P.IsFitting prefix.now }
+    ensures reply { reply_of result.0 ≡ Match (shown_match P.back (shortest_match map.now.entries (P.path prefix.now))) }
+    ensures reads { CountsReads P.path (state map.now) (Spm prefix.now) result.1 }
+{
+    let (found, visits) = map.get_spm_counted(prefix);
+    (Reply::Match(found.map(owned)), Some(visits))
 }
 
 /// A prefix with the same path, since one that is lent cannot be handed on.

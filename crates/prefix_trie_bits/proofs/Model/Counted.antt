@@ -1,11 +1,11 @@
 -- Runs with their counts.
 use Rattle.std.proofs.Common.{◌≡◌, ◌≢◌, ◌<◌, ◌≤◌, map, take, get_or, ℕ, ◌+◌, Bool, true, false, List, [], ◌∷◌, ◌++◌, length, Option, refl, sym, ap, ◌∙◌, subst, true≢false}
 use Rattle.std.proofs.lemmas.List.{take_more, map-append}
-use Rattle.std.proofs.lemmas.List.Elements.{All-head, All-tail}
+use Rattle.std.proofs.lemmas.List.Elements.{All-head, All-tail, All-nil, All-cons}
 use Rattle.std.specs.List.{All}
 use Rattle.prefix_trie_bits.specs.Model.Step.{State, Call, Insert, Get, Lpm, Spm, Remove, RemoveKeepTree, RemoveChildren, RetainAtLeast, Clear, Len, NodeCount, AddressCount, ListAll, ListFrom, Children, Cover, CallFits, Reply, Step, Runs}
 use Rattle.prefix_trie_bits.specs.Model.Storage.{Storage, RunInStorage}
-use Rattle.prefix_trie_bits.specs.Model.Counted.{tidy_after, tidy_after_all, TidyIf, CountedStep, CountedRun}
+use Rattle.prefix_trie_bits.specs.Model.Counted.{tidy_after, tidy_after_all, TidyIf, CountedStep, CountedFrom}
 use Rattle.prefix_trie_bits.specs.Laws.Counted.{CountedLaws}
 use Rattle.prefix_trie_bits.specs.Laws.Steps.{IsMap}
 use Rattle.prefix_trie_bits.proofs.Model.Runs.{runs_join}
@@ -29,6 +29,32 @@ module _ {P T : Type 0} where
   keeps_tree (ListFrom q inclusive) = false
   keeps_tree (Children q) = false
   keeps_tree (Cover q) = false
+
+  -- a call whose prefix is as one fact says, where another follows from it
+  fits_more : {Fits More : P → Type 0} → ((q : P) → Fits q → More q) → (call : Call P T) → CallFits Fits call → CallFits More call
+  fits_more more (Insert q v) fit = more q fit
+  fits_more more (Get q) fit = more q fit
+  fits_more more (Lpm q) fit = more q fit
+  fits_more more (Spm q) fit = more q fit
+  fits_more more (Remove q) fit = more q fit
+  fits_more more (RemoveKeepTree q) fit = more q fit
+  fits_more more (RemoveChildren q) fit = more q fit
+  fits_more more (RetainAtLeast n) fit = tt
+  fits_more more Clear fit = tt
+  fits_more more Len fit = tt
+  fits_more more NodeCount fit = tt
+  fits_more more AddressCount fit = tt
+  fits_more more ListAll fit = tt
+  fits_more more (ListFrom q inclusive) fit = more q fit
+  fits_more more (Children q) fit = more q fit
+  fits_more more (Cover q) fit = more q fit
+
+  -- the same of each call in a list
+  pub all_fit_more : {Fits More : P → Type 0} {C' : Type 0} → ((q : P) → Fits q → More q) → (call_of : C' → Call P T) (calls : List C') → All (λ c. CallFits Fits (call_of c)) calls → All (CallFits More) (map call_of calls)
+  all_fit_more {Fits} {More} more call_of [] fit = All-nil (CallFits More)
+  all_fit_more {Fits} {More} more call_of (c ∷ cs) fit =
+      All-cons (CallFits More) (call_of c) (map call_of cs) (fits_more more (call_of c) (All-head (λ c. CallFits Fits (call_of c)) c cs fit))
+      (all_fit_more more call_of cs (All-tail (λ c. CallFits Fits (call_of c)) c cs fit))
 
   another : (call : Call P T) → keeps_tree call ≡ false → (q : P) → call ≢ RemoveKeepTree q
   another call off q is = true≢false (sym (ap keeps_tree is) ∙ off)
@@ -80,7 +106,7 @@ module _ {P T : Type 0} (path : P → List Bool) (back : List Bool → P) (width
       )
 
   counted_of : (tidy : Bool) (s : State T × Storage) (calls : List (Call P T)) (answers : List (Reply P T × Option ℕ)) (t : State T × Storage) → All (CallFits (λ q. length (path q) ≤ width)) calls → IsMap width s.0 → TidyIf tidy s.0
-      → Runs (CountedStep path back width) s calls answers t → CountedRun path back width tidy s calls (map (λ a. a.0) answers) (map (λ a. a.1) answers) t
+      → Runs (CountedStep path back width) s calls answers t → CountedFrom path back width tidy s calls (map (λ a. a.0) answers) (map (λ a. a.1) answers) t
   counted_of tidy s [] answers t fit good is_tidy (none, e) =
       (ap (map (λ a. a.0)) none, ap (map (λ a. a.1)) none, e, subst (λ x. TidyIf tidy x.0) (sym e) is_tidy)
   counted_of tidy s (c ∷ cs) answers t fit good is_tidy ((reply, read), later, u, e, step, ran) = (
@@ -100,27 +126,27 @@ module _ {P T : Type 0} (path : P → List Bool) (back : List Bool → P) (width
 
   -- from a map on, they are a run with its counts
   pub run_counted : (tidy : Bool) (s : State T × Storage) (calls : List (Call P T)) (replies : List (Reply P T)) (reads : List (Option ℕ)) (t : State T × Storage) → All (CallFits (λ q. length (path q) ≤ width)) calls → IsMap width s.0 → TidyIf tidy s.0
-      → StepsSoFar s calls replies reads t → CountedRun path back width tidy s calls replies reads t
+      → StepsSoFar s calls replies reads t → CountedFrom path back width tidy s calls replies reads t
   run_counted tidy s calls replies reads t fit good is_tidy (answers, e, f, ran) =
-      subst (λ rs. CountedRun path back width tidy s calls rs reads t) e (subst (λ ns. CountedRun path back width tidy s calls (map (λ a. a.0) answers) ns t) f
+      subst (λ rs. CountedFrom path back width tidy s calls rs reads t) e (subst (λ ns. CountedFrom path back width tidy s calls (map (λ a. a.0) answers) ns t) f
       (counted_of tidy s calls answers t fit good is_tidy ran))
 
-  in_storage : (tidy : Bool) (s : State T × Storage) (calls : List (Call P T)) (replies : List (Reply P T)) (reads : List (Option ℕ)) (t : State T × Storage) → CountedRun path back width tidy s calls replies reads t → RunInStorage path back width s calls replies t
+  in_storage : (tidy : Bool) (s : State T × Storage) (calls : List (Call P T)) (replies : List (Reply P T)) (reads : List (Option ℕ)) (t : State T × Storage) → CountedFrom path back width tidy s calls replies reads t → RunInStorage path back width s calls replies t
   in_storage tidy s [] replies reads t (none, _, e, _) = (none, e)
   in_storage tidy s (c ∷ cs) replies reads t (reply, later, read, more, u, e, _, _, step, ran) =
       (reply, later, u, e, step.step, in_storage (tidy_after tidy c) u cs later more t ran)
 
-  begins_tidy : (tidy : Bool) (s : State T × Storage) (calls : List (Call P T)) (replies : List (Reply P T)) (reads : List (Option ℕ)) (t : State T × Storage) → CountedRun path back width tidy s calls replies reads t → TidyIf tidy s.0
+  begins_tidy : (tidy : Bool) (s : State T × Storage) (calls : List (Call P T)) (replies : List (Reply P T)) (reads : List (Option ℕ)) (t : State T × Storage) → CountedFrom path back width tidy s calls replies reads t → TidyIf tidy s.0
   begins_tidy tidy s [] replies reads t (_, _, e, is_tidy) = subst (λ x. TidyIf tidy x.0) e is_tidy
   begins_tidy tidy s (c ∷ cs) replies reads t (reply, later, read, more, u, _, _, is_tidy, step, ran) = is_tidy
 
-  ends_tidy : (tidy : Bool) (s : State T × Storage) (calls : List (Call P T)) (replies : List (Reply P T)) (reads : List (Option ℕ)) (t : State T × Storage) → CountedRun path back width tidy s calls replies reads t → TidyIf (tidy_after_all tidy calls) t.0
+  ends_tidy : (tidy : Bool) (s : State T × Storage) (calls : List (Call P T)) (replies : List (Reply P T)) (reads : List (Option ℕ)) (t : State T × Storage) → CountedFrom path back width tidy s calls replies reads t → TidyIf (tidy_after_all tidy calls) t.0
   ends_tidy tidy s [] replies reads t (_, _, e, is_tidy) = is_tidy
   ends_tidy tidy s (c ∷ cs) replies reads t (reply, later, read, more, u, _, _, _, step, ran) = ends_tidy (tidy_after tidy c) u cs later more t ran
 
-  splits : (tidy : Bool) (s : State T × Storage) (calls more : List (Call P T)) (replies : List (Reply P T)) (reads : List (Option ℕ)) (t : State T × Storage) → CountedRun path back width tidy s (calls ++ more) replies reads t
+  splits : (tidy : Bool) (s : State T × Storage) (calls more : List (Call P T)) (replies : List (Reply P T)) (reads : List (Option ℕ)) (t : State T × Storage) → CountedFrom path back width tidy s (calls ++ more) replies reads t
       → (first rest : List (Reply P T)) × (early late : List (Option ℕ)) × (u : State T × Storage) × (replies ≡ first ++ rest) × (reads ≡ early ++ late)
-      × CountedRun path back width tidy s calls first early u × CountedRun path back width (tidy_after_all tidy calls) u more rest late t
+      × CountedFrom path back width tidy s calls first early u × CountedFrom path back width (tidy_after_all tidy calls) u more rest late t
   splits tidy s [] more replies reads t ran =
       ([], replies, [], reads, s, refl, refl, (refl, refl, refl, begins_tidy tidy s more replies reads t ran), ran)
   splits tidy s (c ∷ cs) more replies reads t (reply, later, read, others, mid, e, f, is_tidy, step, ran) =

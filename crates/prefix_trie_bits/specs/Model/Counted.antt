@@ -67,11 +67,15 @@ module _ {P T : Type 0} (path : P → List Bool) (back : List Bool → P) (width
     pub step : StepInStorage path back width s call answer.0 t
     pub reads : CountsReads path s.0 call answer.1
 
-  -- a run of such steps: the replies, and beside them the numbers. `tidy` says whether the map is known to be tidy where the run begins, and then at each point of it
-  -- where the calls before leave it so
-  abbrev pub CountedRun : Bool → State T × Storage → List (Call P T) → List (Reply P T) → List (Option ℕ) → State T × Storage → Type 0
-  CountedRun tidy s [] replies reads t = (replies ≡ []) × (reads ≡ []) × (t ≡ s) × TidyIf tidy t.0
-  CountedRun tidy s (call ∷ calls) replies reads t =
+  -- a run of such steps, with its replies and beside them the numbers. Where `tidy` says that the map is tidy before it, then it is so at each
+  -- point behind calls that leave it so
+  abbrev pub CountedFrom : Bool → State T × Storage → List (Call P T) → List (Reply P T) → List (Option ℕ) → State T × Storage → Type 0
+  CountedFrom tidy s [] replies reads t = (replies ≡ []) × (reads ≡ []) × (t ≡ s) × TidyIf tidy t.0
+  CountedFrom tidy s (call ∷ calls) replies reads t =
       (reply : Reply P T) × (later : List (Reply P T)) × (read : Option ℕ) × (more : List (Option ℕ)) × (u : State T × Storage)
       × (replies ≡ reply ∷ later) × (reads ≡ read ∷ more) × TidyIf tidy s.0
-      × CountedStep s call (reply, read) u × CountedRun (tidy_after tidy call) u calls later more t
+      × CountedStep s call (reply, read) u × CountedFrom (tidy_after tidy call) u calls later more t
+
+  -- the same, whatever is known of the map before it
+  abbrev pub CountedRun : State T × Storage → List (Call P T) → List (Reply P T) → List (Option ℕ) → State T × Storage → Type 0
+  CountedRun s calls replies reads t = (tidy : Bool) → TidyIf tidy s.0 → CountedFrom tidy s calls replies reads t
