@@ -20,6 +20,7 @@ use Rattle.prefix_trie_table.proofs.KeySets.{bare, sorted_mapped}
 use Rattle.prefix_trie_map.specs.declared.map.writing.course.Course.{Course}
 use Rattle.prefix_trie_map.specs.Writing.{keys_left, IsFirst, GoesOver, ComesToEnd, StartsIn, HandsBack}
 use Rattle.prefix_trie_map.specs.WritingWalks.{PassesIn, EndsIn, FirstIn}
+use Rattle.prefix_trie_map.proofs.Writing.{left_at_start, left_behind, none_left}
 use Rattle.prefix_trie.specs.Rewriting.{keyed, AreOrdered, is_left, Rewrites, RewritesIn, OrderedIn}
 
 -- the first of some keys
@@ -63,9 +64,9 @@ module _ {P T A R : Type 0} {p : prefix.Ghosts P R} {shows : debug.Ghosts P} {k 
   left_in (Some c) = length (keys_left c)
 
   -- a walk over a whole map starts with its keys in order
-  pub starts_ordered : (m : MutBor (Contents T)) (o : Option (Course P T A R p shows k same writes)) → StartsIn m (map (λ e. e.0) (listing m.now.entries)) o → OrderedIn o
+  pub starts_ordered : (m : MutBor (Contents T)) (o : Option (Course P T A R p shows k same writes)) → StartsIn m (listing m.now.entries) o → OrderedIn o
   starts_ordered m None starts = absurd starts
-  starts_ordered m (Some c) starts = subst AreOrdered (sym starts.to_come) (listing_ordered m.now.entries)
+  starts_ordered m (Some c) starts = subst AreOrdered (sym (left_at_start m _ c starts)) (listing_ordered m.now.entries)
 
 module _ {P T A R : Type 0} {p : prefix.Ghosts P R} {shows : debug.Ghosts P} {k : key.Ghosts R} {same : partial.Ghosts R} {writes : debug.Ghosts R} (f : T → T) where
   -- what was to come at first and is not any more has its value changed
@@ -94,7 +95,7 @@ module _ {P T A R : Type 0} {p : prefix.Ghosts P R} {shows : debug.Ghosts P} {k 
   rewrites_one c d e q x so_far first goes = record {
     same_map = ap (λ (b : MutBor (Contents T)). b.ghost_name) goes.map ∙ so_far.same_map;
     ordered = sorted-tail (keyed goes.key) (map keyed (keys_left e)) sorted;
-    part = λ s h. so_far.part s (ap (list_any (same_string s)) goes.first ∙ later (same_string s goes.key) (is_left e s) h);
+    part = λ s h. so_far.part s (ap (list_any (same_string s)) behind ∙ later (same_string s goes.key) (is_left e s) h);
     values = λ s. ap (λ (b : MutBor (Contents T)). get b.now.entries s) goes.map ∙ get-with_entry d.map.now.entries goes.key (f x) s ∙ at s (same_string s goes.key) refl;
     others =
         ap (λ (b : MutBor (Contents T)). b.now) goes.map
@@ -102,18 +103,21 @@ module _ {P T A R : Type 0} {p : prefix.Ghosts P R} {shows : debug.Ghosts P} {k 
         ∙ ap (λ (b : MutBor (Contents T)). record c.map.now { entries = b.now.entries }) (sym goes.map);
   }
     where
+      behind : keys_left d ≡ goes.key ∷ keys_left e
+      behind = left_behind d e (f x) goes
+
       sorted : IsT (is_sorted listing_cmp (map keyed (goes.key ∷ keys_left e)))
-      sorted = subst AreOrdered goes.first so_far.ordered
+      sorted = subst AreOrdered behind so_far.ordered
 
       later : (a b : Bool) → b ≡ true → (a || b) ≡ true
       later true b h = refl
       later false b h = h
 
       key_is : first.0 ≡ goes.key
-      key_is = ap first_key (sym first.2 ∙ goes.first)
+      key_is = ap first_key (sym first.2.0 ∙ behind)
 
       left_before : is_left d goes.key ≡ true
-      left_before = ap (list_any (same_string goes.key)) goes.first ∙ ap (λ b. b || is_left e goes.key) (is-same_string goes.key goes.key refl)
+      left_before = ap (list_any (same_string goes.key)) behind ∙ ap (λ b. b || is_left e goes.key) (is-same_string goes.key goes.key refl)
 
       stored : Some x ≡ get c.map.now.entries goes.key
       stored =
@@ -136,15 +140,15 @@ module _ {P T A R : Type 0} {p : prefix.Ghosts P R} {shows : debug.Ghosts P} {k 
       at s false is =
           so_far.values s
           ∙ ap (λ b. cond b (get c.map.now.entries s) (cond (is_left c s) (option_map f (get c.map.now.entries s)) (get c.map.now.entries s)))
-          (ap (list_any (same_string s)) goes.first ∙ ap (λ b. b || is_left e s) is)
+          (ap (list_any (same_string s)) behind ∙ ap (λ b. b || is_left e s) is)
 
   rewrites_all : (c d e : Course P T A R p shows k same writes) → HasRewritten c d → ComesToEnd d e → Rewrites f c e
   rewrites_all c d e so_far ends = record {
     same_map = ap (λ (b : MutBor (Contents T)). b.ghost_name) ends.map ∙ so_far.same_map;
     values = λ s. ap (λ (b : MutBor (Contents T)). get b.now.entries s) ends.map ∙ so_far.values s
-        ∙ ap (λ ks. cond (list_any (same_string s) ks) (get c.map.now.entries s) (cond (is_left c s) (option_map f (get c.map.now.entries s)) (get c.map.now.entries s))) ends.before;
+        ∙ ap (λ ks. cond (list_any (same_string s) ks) (get c.map.now.entries s) (cond (is_left c s) (option_map f (get c.map.now.entries s)) (get c.map.now.entries s))) (ends.ends None).0;
     others = subst (λ (b : MutBor (Contents T)). b.now ≡ record c.map.now { entries = b.now.entries }) (sym ends.map) so_far.others;
-    ended = ends.after;
+    ended = none_left d e ends;
   }
 
   -- the same of a walk that may have no map
@@ -164,7 +168,7 @@ module _ {P T A R : Type 0} {p : prefix.Ghosts P R} {shows : debug.Ghosts P} {k 
   goes_on_rewriting start (Some d) None q x w is so_far first goes = absurd goes
   goes_on_rewriting None (Some d) (Some e) q x w is so_far first goes = absurd so_far
   goes_on_rewriting (Some c) (Some d) (Some e) q x w is so_far first goes =
-      (rewrites_one c d e q x so_far first (subst (λ y. GoesOver d y e) is goes), shorter (keys_left d) (keys_left e) goes.key goes.first)
+      (rewrites_one c d e q x so_far first (subst (λ y. GoesOver d y e) is goes), shorter (keys_left d) (keys_left e) goes.key (left_behind d e w goes))
     where
       shorter : (xs ys : List (List Bool)) (y : List Bool) → xs ≡ y ∷ ys → length ys < length xs
       shorter xs ys y same = omega (arith, ap length same)
@@ -179,14 +183,14 @@ module _ {P T A R : Type 0} {p : prefix.Ghosts P R} {shows : debug.Ghosts P} {k 
 
   -- the map that it hands back, once all was to come is changed
   pub rewritten : (m : MutBor (Contents T)) (o d : Option (Course P T A R p shows k same writes)) (n : MutBor (Contents T)) →
-      StartsIn m (map (λ e. e.0) (listing m.now.entries)) o → RewritesIn f o d → HandsBack d (Some n) → RewritesMap f m n
+      StartsIn m (listing m.now.entries) o → RewritesIn f o d → HandsBack d (Some n) → RewritesMap f m n
   rewritten m None d n starts done back = absurd starts
   rewritten m (Some c) None n starts done back = absurd back
   rewritten m (Some c) (Some d) n starts done back = record {
     same_map = back.0 ∙ done.same_map ∙ starts.same_map;
     values = λ s. ap (λ (x : Contents T). get x.entries s) back.1
         ∙ done.values s ∙ ap (λ (x : Contents T). cond (is_left c s) (option_map f (get x.entries s)) (get x.entries s)) starts.map
-        ∙ ap (λ b. cond b (option_map f (get m.now.entries s)) (get m.now.entries s)) (ap (list_any (same_string s)) starts.to_come ∙ sym (contains_key-keys m.now.entries s))
+        ∙ ap (λ b. cond b (option_map f (get m.now.entries s)) (get m.now.entries s)) (ap (list_any (same_string s)) (left_at_start m _ c starts) ∙ sym (contains_key-keys m.now.entries s))
         ∙ at (get m.now.entries s);
     others = back.1 ∙ done.others ∙ (λ i. record (starts.map i) { entries = (sym back.1 i).entries });
   }

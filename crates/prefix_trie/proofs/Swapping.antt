@@ -14,6 +14,7 @@ use Rattle.prefix_trie_table.specs.Shape.{Contents, with_value_at}
 use Rattle.prefix_trie_map.specs.declared.map.writing.course.Course.{Course}
 use Rattle.prefix_trie_map.specs.Writing.{IsFirst, GoesOver, ComesToEnd, StartsIn, HandsBack}
 use Rattle.prefix_trie_map.specs.WritingWalks.{PassesIn, EndsIn, FirstIn}
+use Rattle.prefix_trie_map.proofs.Writing.{left_at_start, left_behind}
 use Rattle.prefix_trie.proofs.Rewriting.{first_key}
 
 abbrev is_cons : {X : Type 0} → List X → Bool
@@ -43,12 +44,12 @@ module _ {P T : Type 0} where
 
 module _ {P T A R : Type 0} {p : prefix.Ghosts P R} {shows : debug.Ghosts P} {k : key.Ghosts R} {same : partial.Ghosts R} {writes : debug.Ghosts R} where
   pub swaps_first : (m : MutBor (Contents T)) (value : T) (r : Option (P × T)) (o d : Option (Course P T A R p shows k same writes)) (n : MutBor (Contents T)) →
-      StartsIn m (map (λ e. e.0) (listing m.now.entries)) o →
+      StartsIn m (listing m.now.entries) o →
       MatchOption r (EndsIn ComesToEnd o d) (λ e. FirstIn IsFirst o e.0 e.1 × PassesIn GoesOver o value d) → HandsBack d (Some n) → SwapsFirst p.back value r m n
   swaps_first m value r None d n starts swap back = absurd starts
   swaps_first m value r (Some c) None n starts swap back = absurd back
   swaps_first m value None (Some c) (Some d) n starts ends back =
-      let none : listing m.now.entries ≡ [] = no_keys (listing m.now.entries) (sym starts.to_come ∙ ends.before) in
+      let none : listing m.now.entries ≡ [] = no_keys (listing m.now.entries) (sym (left_at_start m _ c starts) ∙ (ends.ends None).0) in
       record {
         same_map = back.0 ∙ ap (λ (b : MutBor (Contents T)). b.ghost_name) ends.map ∙ starts.same_map;
         before = sym (ap (λ es. slice_get (shown p.back es) 0) none);
@@ -59,9 +60,9 @@ module _ {P T A R : Type 0} {p : prefix.Ghosts P R} {shows : debug.Ghosts P} {k 
     same_map = back.0 ∙ ap (λ (b : MutBor (Contents T)). b.ghost_name) goes.map ∙ starts.same_map;
     before =
         ap (λ q. Some (q, e.1)) first.3
-        ∙ first_shown p.back m.now.entries (listing m.now.entries) first.0 first.1 e.1 refl (sym starts.to_come ∙ first.2) (ap (λ (x : Contents T). get x.entries first.0) (sym starts.map) ∙ first.4);
-    unchanged = λ none. absurd (true≢false (ap is_cons (sym first.2 ∙ starts.to_come ∙ ap (map (λ x. x.0)) none)));
+        ∙ first_shown p.back m.now.entries (listing m.now.entries) first.0 first.1.to_come e.1 refl (sym (left_at_start m _ c starts) ∙ first.2.0) (ap (λ (x : Contents T). get x.entries first.0) (sym starts.map) ∙ first.4);
+    unchanged = λ none. absurd (true≢false (ap is_cons (sym first.2.0 ∙ left_at_start m _ c starts ∙ ap (map (λ x. x.0)) none)));
     swapped = λ q v rest is.
-        let key : goes.key ≡ q = ap first_key (sym goes.first ∙ starts.to_come ∙ ap (map (λ x. x.0)) is) in
+        let key : goes.key ≡ q = ap first_key (sym (left_behind c d value goes) ∙ left_at_start m _ c starts ∙ ap (map (λ x. x.0)) is) in
         back.1 ∙ ap (λ (b : MutBor (Contents T)). b.now) goes.map ∙ (λ i. with_value_at (starts.map i) (key i) value);
   }

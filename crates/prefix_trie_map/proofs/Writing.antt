@@ -1,17 +1,19 @@
--- What a step of a writing walk says of its first entry, and that a walk that may have no map steps as what it goes over does.
-use Rattle.std.proofs.Common.{◌≡◌, true, ◌∷◌, Option, None, Some, MatchOption, refl, sym, ap, ◌∙◌, subst}
+-- What a step of a writing walk says of its first entry, that a walk that may have no map steps as what it goes over does, and which keys
+-- are to come of a walk.
+use Rattle.std.proofs.Common.{◌≡◌, Bool, true, List, [], ◌∷◌, map, Option, None, Some, MatchOption, refl, sym, ap, ◌∙◌, subst}
+use Rattle.std.specs.Borrow.{MutBor}
 use Rattle.std.specs.FinMap.{contains_key}
 use Rattle.std.specs.declared.cmp.PartialEq as partial
 use Rattle.std.specs.declared.fmt.Debug as debug
 use Rattle.prefix_trie_bits.specs.declared.prefix.Prefix as prefix
 use Rattle.prefix_trie_bits.specs.declared.prefix.Key as key
-use Rattle.prefix_trie_table.specs.Shape.{with_value_at}
+use Rattle.prefix_trie_table.specs.Shape.{Contents, with_value_at}
 use Rattle.prefix_trie_table.specs.Trails.{IsTrailIn, IsTrailIn-prop, GivesKey, keys_to_come, trail_sites}
 use Rattle.prefix_trie_table.specs.declared.table.trail.Trail.{Trail}
 use Rattle.prefix_trie_table.proofs.ToCome.{pending_again}
 use Rattle.prefix_trie_map.specs.declared.map.writing.course.Course.{Course}
 use Rattle.prefix_trie_map.specs.declared.map.writing.course.Stop.{Stop}
-use Rattle.prefix_trie_map.specs.Writing.{keys_left, key_at, StopsAt, HasValueAt, with_written, IsFirst, GoesOver}
+use Rattle.prefix_trie_map.specs.Writing.{keys_left, as_walk, key_at, StopsAt, HasValueAt, with_written, IsFirst, GoesOver, ComesToEnd, StartsOver}
 use Rattle.prefix_trie_map.specs.WritingWalks.{EndsIn, StepsIn}
 
 module _ {P T A R : Type 0} {p : prefix.Ghosts P R} {shows : debug.Ghosts P} {k : key.Ghosts R} {same : partial.Ghosts R} {writes : debug.Ghosts R}
@@ -25,15 +27,35 @@ module _ {P T A R : Type 0} {p : prefix.Ghosts P R} {shows : debug.Ghosts P} {k 
   stops_there = record { is_key = gives.is_key; short = gives.short; seated = gives.seated }
 
   pub first_there : (q : P) → q ≡ p.back (key_at gone stop) → (value : T) → HasValueAt gone stop value → IsFirst c q value
-  first_there q is value holds = (key_at gone stop, keys_left gone, gives.first, is, holds)
+  first_there q is value holds = (key_at gone stop, record (as_walk c None) { to_come = keys_left gone; lent = Some (key_at gone stop) }, (gives.first, refl), is, holds)
 
   pub goes_over : contains_key c.map.now.entries (key_at gone stop) ≡ true → (value : T) → GoesOver c value (with_written gone stop value)
   goes_over stored value = record {
     key = key_at gone stop;
-    first = gives.first ∙ ap (λ ks. key_at gone stop ∷ ks) (sym (pending_again c.map.now.entries (key_at gone stop) value stored k.bits (trail_sites trail)));
+    passes = λ lent. (
+      record (as_walk c lent) { to_come = keys_left (with_written gone stop value); lent = Some (key_at gone stop) },
+      (gives.first ∙ ap (λ ks. key_at gone stop ∷ ks) (sym (pending_again c.map.now.entries (key_at gone stop) value stored k.bits (trail_sites trail))), refl),
+      (key_at gone stop, refl, refl),
+    );
     stored = stored;
     map = refl;
   }
+
+module _ {P T A R : Type 0} {p : prefix.Ghosts P R} {shows : debug.Ghosts P} {k : key.Ghosts R} {same : partial.Ghosts R} {writes : debug.Ghosts R} where
+  -- of a walk that starts, those of its selection
+  pub left_at_start : (m : MutBor (Contents T)) (selection : List (List Bool × T)) (c : Course P T A R p shows k same writes) → StartsOver m selection c →
+      keys_left c ≡ map (λ e. e.0) selection
+  left_at_start m selection c starts = ap (λ w. w.to_come) starts.starts
+
+  -- of a walk that has gone on over one, those behind it
+  pub left_behind : (c n : Course P T A R p shows k same writes) (value : T) (goes : GoesOver c value n) → keys_left c ≡ goes.key ∷ keys_left n
+  left_behind c n value goes =
+      let passes = goes.passes None in
+      passes.1.0 ∙ ap (λ w. goes.key ∷ w.to_come) (sym passes.2.2)
+
+  -- of a walk that has come to its end, none
+  pub none_left : (c n : Course P T A R p shows k same writes) (ends : ComesToEnd c n) → keys_left n ≡ []
+  none_left c n ends = ap (λ w. w.to_come) (ends.ends None).1 ∙ (ends.ends None).0
 
 -- a value written at a stop leaves the course as it was, but for the map
 pub written_there : {P T A R : Type 0} {p : prefix.Ghosts P R} {shows : debug.Ghosts P} {k : key.Ghosts R} {same : partial.Ghosts R} {writes : debug.Ghosts R}

@@ -1,11 +1,13 @@
--- What a writing walk has still to come, what a write through it leaves, and what it ends as. This project's own.
-use Rattle.std.specs.Prelude.{◌≡◌, ◌≤◌, Bool, true, List, [], ◌∷◌, take, Option, None, Some, ⊤}
+-- What a writing walk has still to come, what a write through it leaves, and what it ends as: the model's walk, over a map that is lent.
+-- This project's own.
+use Rattle.std.specs.Prelude.{◌≡◌, ◌≤◌, Bool, true, List, take, Option, None, Some, ⊤}
 use Rattle.std.specs.Borrow.{MutBor}
 use Rattle.std.specs.FinMap.{get, contains_key}
 use Rattle.std.specs.declared.cmp.PartialEq as partial
 use Rattle.std.specs.declared.fmt.Debug as debug
 use Rattle.prefix_trie_bits.specs.declared.prefix.Prefix as prefix
 use Rattle.prefix_trie_bits.specs.declared.prefix.Key as key
+use Rattle.prefix_trie_bits.specs.Model.WritingWalk.{WritingWalk, walk_over, Next, Passes, Leaves}
 use Rattle.prefix_trie_table.specs.Locations.{seat_of}
 use Rattle.prefix_trie_table.specs.Shape.{Contents, with_value_at}
 use Rattle.prefix_trie_table.specs.Trails.{keys_to_come}
@@ -35,38 +37,42 @@ module _ {P T A R : Type 0} {p : prefix.Ghosts P R} {shows : debug.Ghosts P} {k 
   abbrev pub with_written : Course P T A R p shows k same writes → Stop R → T → Course P T A R p shows k same writes
   with_written c stop value = record c { map = record c.map { now = with_value_at c.map.now (key_at c stop) value } }
 
-  -- the first entry still to come is of this prefix, and has this value
+  -- the walk as the model has it, while the value of this key is lent
+  abbrev pub as_walk : Course P T A R p shows k same writes → Option (List Bool) → WritingWalk T
+  as_walk c lent = record { entries = c.map.now.entries; nodes = c.map.now.nodes; to_come = keys_left c; lent = lent }
+
+  -- what the model lends next is of this prefix, and has this value
   abbrev pub IsFirst : Course P T A R p shows k same writes → P → T → Type 0
   IsFirst c q value =
-      (s : List Bool) × (rest : List (List Bool)) × (keys_left c ≡ s ∷ rest) × (q ≡ p.back s) × (get c.map.now.entries s ≡ Some value)
+      (s : List Bool) × (after : WritingWalk T) × Next (as_walk c None) (Some s) after × (q ≡ p.back s) × (get c.map.now.entries s ≡ Some value)
 
-  -- the walk has gone on over its first entry, at which this value was left: the map has it there, and is else as it was
+  -- the walk has gone on over its first entry, at which this value was left, whatever was lent before: the map has it there, and is else
+  -- as it was
   pub record GoesOver (c : Course P T A R p shows k same writes) (value : T) (n : Course P T A R p shows k same writes) : Type 0 where
     pub key : List Bool
-    pub first : keys_left c ≡ key ∷ keys_left n
+    pub passes : (lent : Option (List Bool)) → Passes (as_walk c lent) key value (as_walk n (Some key))
     pub stored : contains_key c.map.now.entries key ≡ true
     pub map : n.map ≡ record c.map { now = with_value_at c.map.now key value }
 
   -- nothing was to come and nothing is, and the map is as it was
   pub record ComesToEnd (c n : Course P T A R p shows k same writes) : Type 0 where
-    pub before : keys_left c ≡ []
-    pub after : keys_left n ≡ []
+    pub ends : (lent : Option (List Bool)) → Next (as_walk c lent) None (as_walk n None)
     pub map : n.map ≡ c.map
 
-  -- a walk over this map, at its start, with these keys to come
-  pub record StartsOver (m : MutBor (Contents T)) (keys : List (List Bool)) (c : Course P T A R p shows k same writes) : Type 0 where
+  -- a walk over this map, at its start, with this selection to come
+  pub record StartsOver (m : MutBor (Contents T)) (selection : List (List Bool × T)) (c : Course P T A R p shows k same writes) : Type 0 where
     pub same_map : c.map.ghost_name ≡ m.ghost_name
     pub map : c.map.now ≡ m.now
-    pub to_come : keys_left c ≡ keys
+    pub starts : as_walk c None ≡ walk_over m.now.entries m.now.nodes selection
 
   -- the same of a walk that may have no map
-  abbrev pub StartsIn : MutBor (Contents T) → List (List Bool) → Option (Course P T A R p shows k same writes) → Type 0
-  StartsIn m keys None = ⊥
-  StartsIn m keys (Some c) = StartsOver m keys c
+  abbrev pub StartsIn : MutBor (Contents T) → List (List Bool × T) → Option (Course P T A R p shows k same writes) → Type 0
+  StartsIn m selection None = ⊥
+  StartsIn m selection (Some c) = StartsOver m selection c
 
-  -- a walk hands back the map that it has, as it left it
+  -- a walk hands back the map that it has, as it left it, which is what the model's leaves
   abbrev pub HandsBack : Option (Course P T A R p shows k same writes) → Option (MutBor (Contents T)) → Type 0
   HandsBack None None = ⊤
   HandsBack None (Some m) = ⊥
   HandsBack (Some c) None = ⊥
-  HandsBack (Some c) (Some m) = (m.ghost_name ≡ c.map.ghost_name) × (m.now ≡ c.map.now)
+  HandsBack (Some c) (Some m) = (m.ghost_name ≡ c.map.ghost_name) × (m.now ≡ c.map.now) × Leaves (as_walk c None) m.now.entries m.now.nodes

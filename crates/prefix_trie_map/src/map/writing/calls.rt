@@ -1,5 +1,5 @@
 //! The calls that make walks for writing.
-ghost use Rattle.std.specs.Prelude.{◌≤◌, cond, map, take};
+ghost use Rattle.std.specs.Prelude.{◌≤◌, cond, take};
 ghost use Rattle.prefix_trie_bits.specs.Model.Selections.{listing, listing_from, listing_after, listing_below};
 ghost use Rattle.prefix_trie_table.specs.Cursors.{selected};
 ghost use Rattle.prefix_trie_map.specs.Whole.{IsWhole};
@@ -24,7 +24,7 @@ impl<P: Prefix, T: Drop, A: Allocator> PrefixMap<P, T, A> {
     /// ```
     #[inline]
     pub fn iter_mut(&mut self) -> IterMut<'_, P, T, A>
-        ensures starts { StartsIn self.entry (map (λ e. e.0) (listing self.old.entries)) result.course }
+        ensures starts { StartsIn self.entry (listing self.old.entries) result.course }
         ensures whole { IsWhole P.R.bit_width self.old }
     {
         self.write_from(P::R::zero(), 0, Start::Below)
@@ -34,9 +34,9 @@ impl<P: Prefix, T: Drop, A: Allocator> PrefixMap<P, T, A> {
     #[inline]
     pub fn iter_from_mut(&mut self, prefix: &P, inclusive: bool) -> IterMut<'_, P, T, A>
         requires { P.IsFitting prefix.now }
-        ensures starts { StartsIn self.entry (map (λ e. e.0) (cond inclusive
+        ensures starts { StartsIn self.entry (cond inclusive
             (listing_from self.old.entries (P.path prefix.now))
-            (listing_after self.old.entries (P.path prefix.now)))) result.course }
+            (listing_after self.old.entries (P.path prefix.now))) result.course }
         ensures whole { IsWhole P.R.bit_width self.old }
     {
         let from = if inclusive { Start::At } else { Start::After };
@@ -47,7 +47,7 @@ impl<P: Prefix, T: Drop, A: Allocator> PrefixMap<P, T, A> {
     #[inline]
     pub fn children_mut(&mut self, prefix: &P) -> IterMut<'_, P, T, A>
         requires { P.IsFitting prefix.now }
-        ensures starts { StartsIn self.entry (map (λ e. e.0) (listing_below self.old.entries (P.path prefix.now))) result.course }
+        ensures starts { StartsIn self.entry (listing_below self.old.entries (P.path prefix.now)) result.course }
         ensures whole { IsWhole P.R.bit_width self.old }
     {
         self.write_from(prefix.repr(), u32::from(prefix.prefix_len()), Start::Below)
@@ -56,7 +56,7 @@ impl<P: Prefix, T: Drop, A: Allocator> PrefixMap<P, T, A> {
     /// The values, as `values` gives them, lent for writing, each until the next call.
     #[inline]
     pub fn values_mut(&mut self) -> ValuesMut<'_, P, T, A>
-        ensures starts { StartsIn self.entry (map (λ e. e.0) (listing self.old.entries)) result.walk.course }
+        ensures starts { StartsIn self.entry (listing self.old.entries) result.walk.course }
         ensures whole { IsWhole P.R.bit_width self.old }
     {
         let walk = self.iter_mut();
@@ -68,7 +68,7 @@ impl<P: Prefix, T: Drop, A: Allocator> PrefixMap<P, T, A> {
     fn write_from(&mut self, key: P::R, len: u32, from: Start) -> IterMut<'_, P, T, A>
         requires key { P.R.IsKey key }
         requires within { len ≤ P.R.bit_width }
-        ensures starts { StartsIn self.entry (map (λ e. e.0) (selected from self.old.entries (take len (P.R.bits key)))) result.course }
+        ensures starts { StartsIn self.entry (selected from self.old.entries (take len (P.R.bits key))) result.course }
         ensures whole { IsWhole P.R.bit_width self.old }
     {
         // The proof learns from it that the map is whole.

@@ -1,4 +1,4 @@
-use Rattle.std.proofs.Common.{rules, ◌≡◌, cond, map, sym, ap, subst, ◌∙◌}
+use Rattle.std.proofs.Common.{rules, ◌≡◌, cond, sym, ap, subst, ◌∙◌}
 use Rattle.prefix_trie_bits.specs.Model.Selections.{listing_from, listing_after}
 use Rattle.prefix_trie_table.specs.Cursors.{selected}
 use Rattle.prefix_trie_map.specs.Writing.{StartsIn}
@@ -14,4 +14,4 @@ returns-clause-starts g c =
       | then-inclusive w ↦ ap (λ x. selected x m q) w.from-is ∙ sym (ap (λ b. cond b (listing_from m q) (listing_after m q)) w.if-inclusive.true)
       | else-inclusive w ↦ ap (λ x. selected x m q) w.from-is ∙ sym (ap (λ b. cond b (listing_from m q) (listing_after m q)) w.if-inclusive.false)
     ]) in
-    subst (λ es. StartsIn c.args.self (map (λ e. e.0) es) c.write_from.result.course) same (search rules)
+    subst (λ es. StartsIn c.args.self es c.write_from.result.course) same (search rules)

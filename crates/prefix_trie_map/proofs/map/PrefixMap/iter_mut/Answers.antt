@@ -1,8 +1,8 @@
-use Rattle.std.proofs.Common.{map, subst}
+use Rattle.std.proofs.Common.{subst}
 use Rattle.prefix_trie_bits.proofs.Model.NodeListings.{listing_of_root}
 use Rattle.prefix_trie_map.specs.Writing.{StartsIn}
 use Rattle.prefix_trie_map.proofs.map.PrefixMap.iter_mut.Goals as goal
 
 pub returns-clause-starts : goal.returns-clause-starts
 returns-clause-starts g c =
-    subst (λ es. StartsIn c.args.self (map (λ e. e.0) es) c.write_from.result.course) (listing_of_root c.args.self.now.entries) c.write_from.ensures.starts
+    subst (λ es. StartsIn c.args.self es c.write_from.result.course) (listing_of_root c.args.self.now.entries) c.write_from.ensures.starts
