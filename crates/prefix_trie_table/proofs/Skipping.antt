@@ -1,5 +1,5 @@
 -- What a walk drops that skips what a key begins.
-use Rattle.std.proofs.Common.{◌≡◌, ℕ, ◌+◌, ◌*◌, ◌<◌, ◌≤◌, Bool, true, false, not, cond, ◌&&◌, nat_lt, List, [], ◌∷◌, ◌++◌, length, take, drop, filter, Some, refl, sym, ap, ap₂, ◌∙◌, subst, arith, length-append, length-drop}
+use Rattle.std.proofs.Common.{◌≡◌, ℕ, ◌+◌, ◌*◌, ◌≤◌, Bool, true, false, not, cond, ◌&&◌, nat_lt, List, [], ◌∷◌, ◌++◌, length, take, drop, filter, Some, refl, sym, ap, ap₂, ◌∙◌, subst, arith, length-append, length-drop}
 use Rattle.std.proofs.Math.Seq.{take-add}
 use Rattle.std.specs.List.{All}
 use Rattle.std.proofs.lemmas.Bool.{lt-ltb}
@@ -16,7 +16,7 @@ use Rattle.prefix_trie_table.specs.declared.table.spot.Spot.{Spot}
 use Rattle.prefix_trie_table.specs.Digits.{path_of}
 use Rattle.prefix_trie_table.specs.Forest.{read}
 use Rattle.prefix_trie_table.specs.Store.{Store}
-use Rattle.prefix_trie_table.specs.Walks.{Site, site, sites, IsSpot, IsPlaceOf, IsTrail, IsStack, IsOther, IsPassed, ArePassed, EndsAt, EndsLast, SkipsLast, start, still, pending}
+use Rattle.prefix_trie_table.specs.Walks.{site, sites, IsSpot, IsPlaceOf, IsTrail, IsStack, IsOther, IsPassed, ArePassed, EndsAt, EndsLast, SkipsLast, start, still, pending}
 use Rattle.prefix_trie_table.proofs.Cursors.{short_rest}
 use Rattle.prefix_trie_table.proofs.Passing.{passed-below, passed-put}
 use Rattle.prefix_trie_table.proofs.Paths.{snoc_inj}
