@@ -1,7 +1,10 @@
 -- The table's invariant, and the parts of it that calls on its fields ask for.
 use Rattle.std.proofs.Common.{◌≡◌, ℕ, List, Option, sym, subst}
+use Rattle.std.specs.FinMap.{len}
 use Rattle.prefix_trie_bits.specs.Model.Entries.{AreWithin}
 use Rattle.prefix_trie_bits.specs.Model.Nodes.{AreNodes}
+use Rattle.prefix_trie_bits.specs.Model.Blocks.{Layout}
+use Rattle.prefix_trie_bits.specs.Model.Room.{Room}
 use Rattle.prefix_trie_bits.specs.Model.Step.{State}
 use Rattle.prefix_trie_table.specs.declared.allocator.node.Node.{Node}
 use Rattle.prefix_trie_table.specs.Store.{Store}
@@ -27,11 +30,17 @@ module _ {T : Type 0} {v : Store Node} {w : Store (Option T)} where
   some_nodes t = record { reading = t.reading; paths = t.paths; hold = t.holds.hold }
 
 -- a table whose keys fit, and whose nodes are such as they need, seen from outside
-pub trie_of : {T : Type 0} (width count : ℕ) (v : Store Node) (w : Store (Option T)) (shape : Shaped v.slots w.slots) → IsTable v w count shape.0 →
-    (s : Contents T) → shape.0.entries ≡ s.entries → shape.0.nodes ≡ s.nodes → AreWithin width s.entries → AreNodes width s.entries s.nodes → IsTrie width count v w shape.0
-trie_of width count v w shape is s same_entries same_nodes within nodes = record {
-  table = is;
-  shaped = shape.1;
-  within = subst (AreWithin width) (sym same_entries) within;
-  nodes = subst (AreNodes width shape.0.entries) (sym same_nodes) (subst (λ m. AreNodes width m s.nodes) (sym same_entries) nodes);
-}
+module _ {T : Type 0} {room : Room} {layout : Layout} {build : List Node} (width count : ℕ) (v : Store Node) (w : Store (Option T)) (shape : Shaped v.slots w.slots) (is : IsTable v w count shape.0)
+    (s : Contents T) (seen : record { entries = shape.0.entries; nodes = shape.0.nodes; room = room; layout = layout; build = build } ≡ s)
+    (within : AreWithin width s.entries) (nodes : AreNodes width s.entries s.nodes) where
+  pub trie_of : IsTrie width count v w shape.0
+  trie_of = record {
+    table = is;
+    shaped = shape.1;
+    within = subst (λ (x : Contents T). AreWithin width x.entries) (sym seen) within;
+    nodes = subst (λ (x : Contents T). AreNodes width x.entries x.nodes) (sym seen) nodes;
+  }
+
+  -- by the number of its entries
+  pub sized_trie : (x : State T) × IsTrie width (len x.entries) v w x
+  sized_trie = (shape.0, subst (λ n. IsTrie width n v w shape.0) is.sized trie_of)

@@ -15,8 +15,7 @@ advance-requires g c =
     record {
       tree = (
         record { count = i.count; cells = i.cells; shape = i.shape.0 },
-        trie_of g.K.Key.bit_width i.count i.nodes i.cells i.shape c.self.invariant c.args.self.now (ap (λ (s : Contents g.row.T.Denot). s.entries) c.self.view_is)
-            (ap (λ (s : Contents g.row.T.Denot). s.nodes) c.self.view_is) c.requires.within c.requires.nodes,
+        trie_of g.K.Key.bit_width i.count i.nodes i.cells i.shape c.self.invariant c.args.self.now c.self.view_is c.requires.within c.requires.nodes,
       );
       stack = stack_in g.K.Key.bits g.K.Key.bit_width (λ _. ⊤) g.K.Key.IsKey (array_of c.args.self.now.build) i.nodes
           (sym (ap (λ (s : Contents g.row.T.Denot). s.build) c.self.view_is)) trail.key c.is_key.ensures.key trail.stack.items c.requires.stands;
@@ -32,8 +31,7 @@ returns-clause-key g c =
     let i = c.self.inside in
     let trail = c.args.trail.now in
     let t : Tree g.row.T.Denot = record { count = i.count; cells = i.cells; shape = i.shape.0 } in
-    let tree = trie_of g.K.Key.bit_width i.count i.nodes i.cells i.shape c.self.invariant c.args.self.now (ap (λ (s : Contents g.row.T.Denot). s.entries) c.self.view_is)
-    (ap (λ (s : Contents g.row.T.Denot). s.nodes) c.self.view_is) c.requires.within c.requires.nodes in
+    let tree = trie_of g.K.Key.bit_width i.count i.nodes i.cells i.shape c.self.invariant c.args.self.now c.self.view_is c.requires.within c.requires.nodes in
     let given = step_gives g.K.Key.IsKey g.K.Key.bits g.K.Key.bit_width t i.nodes.slots (pending g.K.Key.bits i.shape.0.entries (sites trail.key trail.stack.items))
     (pending g.K.Key.bits i.shape.0.entries (sites c.advance.new.key c.advance.new.stack.items)) c.advance.result (c.advance.ensures.entry t tree) c.advance.ensures.seat in
     subst (λ (s : Contents g.row.T.Denot). MatchOption c.advance.result
