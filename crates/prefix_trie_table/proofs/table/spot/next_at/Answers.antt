@@ -1,4 +1,5 @@
-use Rattle.std.proofs.Common.{◌≡◌, length, refl, sym, ap, ◌∙◌, arith}
+use Rattle.std.proofs.Common.{◌≡◌, ◌+◌, ◌-◌, length, refl, sym, ap, ◌∙◌, arith}
+use Rattle.prefix_trie_bits.specs.Bits.{digits, zeros}
 use Rattle.prefix_trie_bits.specs.BitStrings.{length-digits}
 use Rattle.prefix_trie_table.proofs.Spots.{same_way, child_passed, place-value, place-child, place-small, place-child-small, goes_on, lighter, value_room, gives_value, value_seated, child_room, child_stands_at, child_without, child_spot, child_still, child_lighter, child_way}
 use Rattle.prefix_trie_table.specs.Walks.{site}
@@ -56,7 +57,8 @@ returns-in-Value-clause-way g c =
     record {
       whole = omega arith;
       last = omega (arith, short);
-      way = same_way g.K.Key.IsKey g.K.Key.bits g.K.Key.bit_width c.args.nodes.now p at (g.met.K.Key.key_laws.bits_length p.key at.key) c.extend.result _ _ c.extend.ensures.value;
+      way = same_way g.K.Key.IsKey g.K.Key.bits g.K.Key.bit_width c.args.nodes.now p at (g.met.K.Key.key_laws.bits_length p.key at.key) c.extend.result
+          (digits c.string_of-n.result.0 c.string_of-n.result.1) (zeros (g.K.Key.bit_width - (c.args.spot.now.depth + c.string_of-n.result.0))) c.extend.ensures.value;
     }
 
 pub rank-requires-in-Child : goal.rank-requires-in-Child
@@ -124,4 +126,4 @@ returns-in-Child-clause-way g c =
     let taken = c.in-Some.ensures.place in
     let is = place-child taken.string c.in-Child.child taken.short (sym c.in-Child.is ∙ taken.place) in
     child_passed g.K.Key.IsKey g.K.Key.bits g.K.Key.bit_width c.args.nodes.now p at long taken.string c.next_place.new.self taken.first c.requires.tree.0 c.requires.tree.1 is.0
-    c.next_place.ensures.sorted c.in-Child.child is.1 c.extend-below.result _ c.extend-below.ensures.value
+    c.next_place.ensures.sorted c.in-Child.child is.1 c.extend-below.result (zeros (g.K.Key.bit_width - (c.args.spot.now.depth + 5))) c.extend-below.ensures.value
