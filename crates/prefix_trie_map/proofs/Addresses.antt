@@ -1,12 +1,12 @@
 -- What a walk over the outermost entries adds up to.
-use Rattle.std.proofs.Common.{◌≡◌, ℕ, ◌+◌, ◌-◌, ◌^◌, ◌<◌, ◌≤◌, Bool, not, List, [], ◌∷◌, length, take, filter, Option, Some, None, refl, sym, ap, ◌∙◌, subst, arith, pow_pos}
+use Rattle.std.proofs.Common.{◌≡◌, ℕ, ◌+◌, ◌-◌, ◌^◌, ◌<◌, ◌≤◌, Bool, not, List, [], length, take, Some, None, refl, sym, ap, ◌∙◌, subst, arith, pow_pos}
 use Rattle.std.proofs.lemmas.List.{length-take-le}
 use Rattle.std.proofs.lemmas.List.Filters.{length-filter_both}
 use Rattle.std.specs.Option.{option_map}
-use Rattle.prefix_trie_bits.specs.Bits.{number, digits, zeros, begins}
+use Rattle.prefix_trie_bits.specs.Bits.{number, zeros, begins}
 use Rattle.prefix_trie_bits.specs.BitStrings.{zero_bits, number_of_digits, number-lt}
 use Rattle.prefix_trie_bits.specs.Keys.{KeyLaws}
-use Rattle.prefix_trie_bits.specs.Model.Addresses.{addresses, address_answer}
+use Rattle.prefix_trie_bits.specs.Model.Addresses.{address_answer}
 use Rattle.prefix_trie_bits.specs.Model.Entries.{Entries}
 use Rattle.prefix_trie_bits.specs.Model.Selections.{listing}
 use Rattle.prefix_trie_bits.proofs.Model.Outermost.{IsCounted, counted-start, counted-next, counted-end, counted-all, answer-number}
