@@ -1,4 +1,5 @@
 //! The rows in order, each with its tables.
+mod addresses;
 mod blocks;
 mod entries;
 mod limits;
@@ -33,7 +34,7 @@ pub enum Table {
 }
 
 /// The rows in order, each with its number.
-pub const ROWS: [(u32, Row); 32] = [
+pub const ROWS: [(u32, Row); 33] = [
     (1, &[Table::Ipv4(&lookups::EXACT)]),
     (2, &[Table::Ipv4(&entries::HOST_BITS)]),
     (3, &[Table::Ipv4(&lookups::MATCHES)]),
@@ -44,6 +45,7 @@ pub const ROWS: [(u32, Row); 32] = [
     (8, &[Table::Ipv4(&walks::BEHIND_A_NETWORK)]),
     (9, &[Table::Ipv4(&removals::BELOW_A_NETWORK)]),
     (10, &[Table::U32(&removals::NODES_LEFT)]),
+    (11, &[Table::Ipv4(&addresses::WITHIN_ANOTHER)]),
     (13, &[Table::U32(&limits::FOUR_SLOTS)]),
     (14, &[Table::U8(&blocks::FULL_ROOT)]),
     (15, &[Table::U8(&blocks::ALL_ADDRESSES)]),

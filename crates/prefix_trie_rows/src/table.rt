@@ -79,6 +79,7 @@ pub enum Line<R: 'static> {
     /// The number of entries. The map is empty exactly if it is 0.
     Len(usize),
     NodeCount(usize),
+    AddressCount(Option<R>),
     NodeSlots(usize),
     CellSlots(usize),
     /// How many blocks of each size are in use, and how many are free.
@@ -202,6 +203,7 @@ fn answers<P: Written>(map: &Map<P>, line: &Line<P::R>) -> bool {
         Line::CoverValues(pair, values) => walks::covers_values(map, *pair, values),
         Line::Len(count) => map.len() == *count && map.is_empty() == (*count == 0),
         Line::NodeCount(count) => map.node_count() == *count,
+        Line::AddressCount(count) => map.address_count() == *count,
         Line::NodeSlots(count) => map.node_slots() == *count,
         Line::CellSlots(count) => map.cell_slots() == *count,
         Line::NodeBlocks(used, free) => are(map.node_blocks(), NODE_SIZES, *used, *free),

@@ -60,7 +60,7 @@ const ADDRESSES: [Pair<u8>; 256] = [
 ];
 
 /// Row 15: all addresses of eight bits. Nodes take the blocks that others outgrew.
-pub const ALL_ADDRESSES: [Line<u8>; 10] = [
+pub const ALL_ADDRESSES: [Line<u8>; 11] = [
     InsertAll(&ADDRESSES),
     Len(256),
     NodeCount(33),
@@ -68,6 +68,7 @@ pub const ALL_ADDRESSES: [Line<u8>; 10] = [
     CellSlots(263),
     NodeBlocks([0, 0, 0, 0, 0, 0, 1], [1, 1, 1, 1, 1, 1, 0]),
     CellBlocks([0, 0, 0, 32, 0, 0, 0], [1, 1, 1, 0, 0, 0, 0]),
+    AddressCount(None),
     Clear,
     NodeSlots(1),
     CellSlots(0),
