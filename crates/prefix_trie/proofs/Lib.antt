@@ -5,3 +5,4 @@ pub mod Retaining
 pub mod Rewriting
 pub mod Swapping
 mod SameKeys
+pub mod Collecting

@@ -5,6 +5,7 @@ mod blocks;
 mod cases;
 mod changes;
 mod clones;
+mod collecting;
 mod copies;
 mod cover;
 mod entries;

@@ -23,8 +23,8 @@ fn pour<P: Prefix, T: Drop, A: Allocator>(
 }
 
 /// Counts that it is dropped.
-struct Counted<'a> {
-    drops: &'a Cell<u64>,
+pub struct Counted<'a> {
+    pub drops: &'a Cell<u64>,
 }
 
 impl Drop for Counted<'_> {
