@@ -6,3 +6,4 @@ pub mod Rewriting
 pub mod Swapping
 mod SameKeys
 pub mod Collecting
+mod Units

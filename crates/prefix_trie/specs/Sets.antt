@@ -43,3 +43,7 @@ same_parts same repr_of len_of p q = same (repr_of p) (repr_of q) && nat_eq (len
 -- sets with the same keys are equal as `==` has to be
 pub same_keys_equiv : IsEquivalence same_keys
 same_keys_equiv = on_equiv listing (lists_equiv (on_equiv (λ e. e.0) (eq_by_cmp_equiv listing_total)))
+
+-- a prefix as an item of a map of units
+abbrev pub as_item : {P : Type 0} → P → P × Unit {0}
+as_item p = (p, tt)

@@ -14,6 +14,7 @@ ghost use Rattle.prefix_trie_map.specs.Steps.{stored};
 ghost use Rattle.prefix_trie_map.specs.Whole.{IsWhole};
 ghost use Rattle.prefix_trie.specs.Sets.{put_in};
 
+mod collecting;
 mod iter;
 mod lookup;
 mod removal;

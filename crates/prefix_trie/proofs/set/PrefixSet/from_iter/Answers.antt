@@ -1,0 +1,40 @@
+use Rattle.std.proofs.Common.{rules, of_calls, ◌≡◌, ◌∙◌, ◌+◌, ◌-◌, ◌*◌, ◌^◌, ◌<◌, All, length, sym, ap, subst}
+use Rattle.std.proofs.lemmas.List.{length-map}
+use Rattle.std.proofs.lemmas.Result.{err_from_is_err_and}
+use Rattle.std.specs.Iterator.{HoldsAlong, Yields, Drains}
+use Rattle.std.specs.Iterator.Adapters.{map_source}
+use Rattle.prefix_trie_bits.specs.Model.Entries.{no_entries, put_all}
+use Rattle.prefix_trie.specs.Sets.{as_item}
+use Rattle.prefix_trie.proofs.Units.{units_from, units_drained, units_fit}
+use Rattle.prefix_trie.proofs.set.PrefixSet.from_iter.Goals as goal
+
+pub from_iter-requires-clause-fit : goal.from_iter-requires-clause-fit
+from_iter-requires-clause-fit g c = λ it is.
+    units_fit g.I.IntoIter.Iterator.next_gives _ (λ f p x f' called. search (rules, of_calls, called)) g.P.Prefix.IsFitting it
+    (subst (λ s. HoldsAlong g.I.IntoIter.Iterator.next_gives s (All g.P.Prefix.IsFitting)) (sym (ap map_source is ∙ c.map-units.ensures.source))
+    (c.requires.fit c.into_iter.result c.into_iter.ensures.into_iter_gives))
+
+pub returns-clause-entries : goal.returns-clause-entries
+returns-clause-entries g c =
+    let e = c.in_ok-map.ensures.entries in
+    let d = units_drained g.I.IntoIter.Iterator.next_gives _ (λ f p x f' called. search (rules, of_calls, called)) e.0 e.1 e.3 in (
+      c.into_iter.result,
+      d.0,
+      c.into_iter.ensures.into_iter_gives,
+      subst (λ s. Drains g.I.IntoIter.Iterator.next_gives s d.0) (ap map_source e.2 ∙ c.map-units.ensures.source) d.1,
+      e.4 ∙ ap (λ xs. put_all g.P.Prefix.path xs no_entries) d.2,
+    )
+
+pub returns-in_err-map-clause-range : goal.returns-in_err-map-clause-range
+returns-in_err-map-clause-range g c =
+    let p = err_from_is_err_and c.from_residual.result c.from_residual.ensures.1 in
+    rw (p.1, p.2) (λ is_range.
+    let e = c.in_err-map.ensures.range is_range in
+    let y = units_from g.I.IntoIter.Iterator.next_gives _ (λ f p x f' called. search (rules, of_calls, called)) e.0 e.2 e.1 e.4 in (
+      c.into_iter.result,
+      y.0,
+      map_source e.2,
+      c.into_iter.ensures.into_iter_gives,
+      subst (λ s. Yields g.I.IntoIter.Iterator.next_gives s y.0 (map_source e.2)) (ap map_source e.3 ∙ c.map-units.ensures.source) y.1,
+      subst (λ n. 2 ^ 32 - 1 < 1 + 56 * n) (ap length y.2 ∙ length-map y.0 as_item) e.5,
+    ))
