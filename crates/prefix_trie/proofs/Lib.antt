@@ -1,6 +1,7 @@
 pub mod AnyMap
 pub mod Copies
 pub mod Putting
+pub mod Ran
 pub mod Retaining
 pub mod Rewriting
 pub mod Swapping

@@ -25,6 +25,7 @@ mod questions;
 mod refusing;
 mod removals;
 mod retain;
+mod run_callers;
 mod runs;
 mod taking;
 mod trials;
