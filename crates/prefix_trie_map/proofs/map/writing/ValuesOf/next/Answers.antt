@@ -1,0 +1,5 @@
+use Rattle.std.proofs.Common.{rules}
+use Rattle.prefix_trie_map.proofs.map.writing.ValuesOf.next.Goals as goal
+
+pub returns : goal.returns
+returns g c = search rules
