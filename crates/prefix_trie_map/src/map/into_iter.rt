@@ -45,6 +45,12 @@ impl<P: Prefix, T: Drop, A: Allocator> PrefixMap<P, T, A> {
 
     /// The prefixes in the order of `iter`, without host bits. The values are dropped, each as its prefix is given, and the rest
     /// with the walk.
+    ///
+    /// ```text
+    /// 10.0.0.0/8, 10.1.0.0/16 and 9.0.0.0/8 are stored with 1, 2 and 3
+    /// map.into_keys()      gives 9.0.0.0/8, 10.0.0.0/8 and 10.1.0.0/16
+    /// map.into_values()    gives 3, 1 and 2
+    /// ```
     #[inline]
     pub fn into_keys(self) -> IntoKeys<P, T, A>
         ensures items { result ≡ map (λ e. P.back e.0) (listing self.entries) }
@@ -125,6 +131,12 @@ impl<P: Prefix, T: Drop, A: Allocator> IntoIter<P, T, A> {
 impl<P: Prefix, T: Clone, A: Allocator + Clone> IntoIter<P, T, A> {
     /// A walk with the same prefixes to come, whose values are clones, in memory of its own. Refused only where memory is, for
     /// the arrays or for a value; then no copy exists.
+    ///
+    /// ```text
+    /// a walk has (10.0.0.0/8, 1) and (10.1.0.0/16, 2) to come
+    /// walk.clone()                         Ok(copy)
+    /// walk.next()                          Some((10.0.0.0/8, 1)), and copy still has both to come
+    /// ```
     pub fn clone(&self) -> Result<Self, AllocError>
         ensures items { IfOk result (λ copy. AllZip (IsPairCloned T.is_clone) self.now copy) }
 

@@ -66,6 +66,12 @@ impl<C: Source> WalkOf<C> {
     ghost use Rattle.prefix_trie_map.specs.WritingWalks.{AtIn, HoldsIn, FirstIn, EndsIn, StepsIn, lends_stop, lends_next};
 
     /// Goes on to the next entry, and answers its prefix and where its value stands: `value` lends it.
+    ///
+    /// ```text
+    /// 10.0.0.0/8 and 10.1.0.0/16 are stored with 1 and 2
+    /// let mut walk = map.iter_mut();
+    /// if let Some((prefix, stop)) = walk.step() { *walk.value(stop) = 3; }    sets the value of 10.0.0.0/8
+    /// ```
     #[inline]
     pub fn step(&mut self) -> Option<(C::Prefix, C::Stop)>
         ensures { MatchOption result (EndsIn C.Ends self.old.course self.new.course)
@@ -91,6 +97,14 @@ impl<C: Source> WalkOf<C> {
     }
 
     /// The next value, lent until the next call.
+    ///
+    /// ```text
+    /// 10.0.0.0/8 and 10.1.0.0/16 are stored with 1 and 2
+    /// let mut walk = map.iter_mut();
+    /// walk.next_value()                 Some(&mut 1)
+    /// walk.next()                       Some((10.1.0.0/16, &mut 2))
+    /// walk.next_value()                 None
+    /// ```
     #[inline]
     pub fn next_value(&mut self) -> Option<&mut C::Value>
         ensures* writes_back { sem 𝓛 (lends_next C.row C.Value.row self.entry C.Passes C.Ends result) }

@@ -31,6 +31,12 @@ impl<P: Prefix, T: Drop, A: Allocator> PrefixMap<P, T, A> {
     }
 
     /// The entries that `iter_from` gives, with their values lent for writing.
+    ///
+    /// ```text
+    /// 10.0.0.0/8, 10.1.0.0/16 and 10.2.0.0/16 are stored with 1, 2 and 3
+    /// map.iter_from_mut(&10.1.0.0/16, true)     lends those with 2 and 3
+    /// map.iter_from_mut(&10.1.0.0/16, false)    lends that with 3
+    /// ```
     #[inline]
     pub fn iter_from_mut(&mut self, prefix: &P, inclusive: bool) -> IterMut<'_, P, T, A>
         requires { P.IsFitting prefix.now }
@@ -44,6 +50,11 @@ impl<P: Prefix, T: Drop, A: Allocator> PrefixMap<P, T, A> {
     }
 
     /// The entries that `children` gives, with their values lent for writing.
+    ///
+    /// ```text
+    /// 10.0.0.0/8, 10.1.0.0/16, 10.1.1.0/24 and 10.2.0.0/16 are stored with 1, 2, 3 and 4
+    /// map.children_mut(&10.1.0.0/16)    lends those with 2 and 3
+    /// ```
     #[inline]
     pub fn children_mut(&mut self, prefix: &P) -> IterMut<'_, P, T, A>
         requires { P.IsFitting prefix.now }
@@ -54,6 +65,13 @@ impl<P: Prefix, T: Drop, A: Allocator> PrefixMap<P, T, A> {
     }
 
     /// The values, as `values` gives them, lent for writing, each until the next call.
+    ///
+    /// ```text
+    /// 10.0.0.0/8 and 10.1.0.0/16 are stored with 1 and 2
+    /// let mut walk = map.values_mut();
+    /// while let Some(value) = walk.next() { *value *= 10; }
+    /// map.get(&10.1.0.0/16)                                     Some(&20)
+    /// ```
     #[inline]
     pub fn values_mut(&mut self) -> ValuesMut<'_, P, T, A>
         ensures starts { StartsIn self.entry (listing self.old.entries) result.walk.course }
