@@ -2,11 +2,13 @@
 mod addresses;
 mod blocks;
 mod entries;
+mod equality;
 mod limits;
 mod lookups;
 mod prefixes;
 mod removals;
 mod runs;
+mod texts;
 mod walks;
 mod widths;
 
@@ -34,7 +36,7 @@ pub enum Table {
 }
 
 /// The rows in order, each with its number.
-pub const ROWS: [(u32, Row); 33] = [
+pub const ROWS: [(u32, Row); 36] = [
     (1, &[Table::Ipv4(&lookups::EXACT)]),
     (2, &[Table::Ipv4(&entries::HOST_BITS)]),
     (3, &[Table::Ipv4(&lookups::MATCHES)]),
@@ -55,6 +57,8 @@ pub const ROWS: [(u32, Row); 33] = [
     (20, &[Table::Ipv4(&entries::COUNTED)]),
     (21, &[Table::Ipv4(&walks::WRITTEN_AND_TAKEN)]),
     (22, &[Table::U32(&removals::PRUNED_ON_THE_WAY)]),
+    (23, &[Table::U8(&equality::IN_EITHER_ORDER)]),
+    (24, &[Table::U32(&texts::NESTED)]),
     (25, &[Table::Ipv4(&walks::AROUND_A_NETWORK)]),
     (
         26,
@@ -83,6 +87,10 @@ pub const ROWS: [(u32, Row); 33] = [
     (32, &[Table::U32(&removals::EMPTY_NODES_ELSEWHERE)]),
     (33, &[Table::U8(&entries::FILLED)]),
     (34, &[Table::U8(&walks::FROM_AND_BELOW)]),
+    (
+        36,
+        &[Table::Ipv4(&texts::NETWORKS), Table::Ipv6(&texts::IPV6)],
+    ),
     (37, &[Table::U32(&blocks::TWO_HOSTS)]),
     (38, &[Table::U8(&limits::KEPT_BLOCKS)]),
     (40, &[Table::Run(2, &runs::UNDER_TWO_SLOTS)]),

@@ -1,8 +1,10 @@
 //! Tables: calls of a map beside the answers that they should have, and what puts them to a map.
 ghost use Rattle.std.specs.Prelude.{IfSome};
 
+mod collecting;
 mod entries;
 mod taking;
+mod texts;
 mod walks;
 mod writing;
 
@@ -85,8 +87,14 @@ pub enum Line<R: 'static> {
     /// How many blocks of each size are in use, and how many are free.
     NodeBlocks([usize; 7], [usize; 7]),
     CellBlocks([usize; 7], [usize; 7]),
-    /// A copy has the slots and the blocks of its map.
+    /// A copy is equal to its map, and has its slots and blocks.
     Clone,
+    /// Whether the map is equal to the one of these items, collected in this order.
+    Equals(&'static [Entry<R>], bool),
+    /// The map as text.
+    Text(&'static str),
+    /// A prefix as text.
+    PrefixText(Pair<R>, &'static str),
     /// Whether there is a prefix of this number and length.
     IsPrefix(Pair<R>, bool),
     Fits(Pair<R>, bool),
@@ -96,7 +104,7 @@ pub enum Line<R: 'static> {
 }
 
 /// A prefix that tables write as a number and a length.
-pub trait Written: Prefix {
+pub trait Written: Prefix + PartialEq {
     /// The prefix of this number and length, if there is one.
     fn of(number: Self::R, len: u8) -> Option<Self>;
 }
@@ -164,6 +172,9 @@ fn holds<P: Written>(alloc: Global, map: &mut Map<P>, line: &Line<P::R>) -> bool
         Line::IterFromMut(pair, inclusive, more) => writing::adds(map, *pair, *inclusive, *more),
         Line::ChildrenMut(pair, factor) => writing::multiplies(map, *pair, *factor),
         Line::ValuesMut(value) => writing::sets_first(map, *value),
+        Line::Equals(entries, answer) => collecting::equals(alloc, map, entries, *answer),
+        Line::Text(text) => texts::is_text(alloc, map, text),
+        Line::PrefixText(pair, text) => texts::is_prefix_text::<P>(alloc, *pair, text),
         _ => holds_at_entry(map, line),
     }
 }
@@ -385,9 +396,9 @@ fn are(blocks: [BlockCount; 7], sizes: [usize; 7], used: [usize; 7], free: [usiz
         && blocks.iter().map(|block| block.free).eq(free)
 }
 
-fn clones<P: Prefix>(map: &Map<P>) -> bool {
+fn clones<P: Written>(map: &Map<P>) -> bool {
     match map.clone() {
-        Ok(copy) => is_stored_alike(map, &copy),
+        Ok(copy) => *map == copy && is_stored_alike(map, &copy),
         Err(_) => false,
     }
 }
