@@ -2,10 +2,11 @@
 ghost use Rattle.std.specs.Prelude.{◌≡◌, ◌<◌, ◌^◌, ℕ, Bool, List, Option, All, IfOk, OnOk, OnErr, MatchResult, cond, length, vec_len};
 ghost use Rattle.std.specs.Map.Iter.{ShowsInOrder};
 ghost use Rattle.std.specs.FinMap.{get, len};
+ghost use Rattle.prefix_trie_bits.specs.Model.Addresses.{address_answer};
 ghost use Rattle.prefix_trie_bits.specs.Model.Counted.{CountedStep, CountedRun, CountsReads, TidyIf, tidy_after_all};
 ghost use Rattle.prefix_trie_bits.specs.Model.Matches.{longest_match, shortest_match, shown_match};
 ghost use Rattle.prefix_trie_bits.specs.Model.Selections.{listing, listing_from, listing_after, listing_below, listing_covering, shown};
-ghost use Rattle.prefix_trie_bits.specs.Model.Step.{Run, Insert, Get, Lpm, Spm, Remove, RemoveKeepTree, RemoveChildren, RetainAtLeast, Clear, Value, Match, Done, Count, Items, Refused};
+ghost use Rattle.prefix_trie_bits.specs.Model.Step.{Run, Insert, Get, Lpm, Spm, Remove, RemoveKeepTree, RemoveChildren, RetainAtLeast, Clear, Value, Match, Done, Count, Addresses, Items, Refused};
 ghost use Rattle.prefix_trie_bits.specs.Model.Storage.{StepInStorage, RunInStorage};
 ghost use Rattle.prefix_trie_bits.specs.declared.prefix.Refusal.TheVariants.{Memory};
 ghost use Rattle.prefix_trie_map.specs.Steps.{state, stored};
@@ -44,6 +45,8 @@ pub enum Call<P> {
     Len,
     /// `node_count`: the number of nodes, the root among them.
     NodeCount,
+    /// `address_count`: the number of prefixes of the full width that the entries contain.
+    AddressCount,
     /// `iter`: all entries, in listing order.
     List,
     /// `iter_from`: the entries behind this prefix, and before them its own where it is asked for.
@@ -56,7 +59,7 @@ pub enum Call<P> {
 
 /// What a call answered. Prefixes come without host bits.
 #[derive(Drop)]
-pub enum Reply<P, A: Allocator> {
+pub enum Reply<P: Prefix, A: Allocator> {
     /// To `Insert`, `Remove` and `RemoveKeepTree` the value that was there before, to `Get` the value.
     Value(Option<u64>),
     /// To `Lpm` and `Spm`.
@@ -65,6 +68,8 @@ pub enum Reply<P, A: Allocator> {
     Done,
     /// To `Len` and `NodeCount`.
     Count(usize),
+    /// To `AddressCount`. None if they contain all.
+    Addresses(Option<P::R>),
     /// To `List`, `ListFrom`, `Children` and `Cover`.
     Entries(Vec<(P, u64), A>),
     /// To `Insert` and the calls that list, where they were refused. The map has the entries and the nodes that it had.
@@ -78,7 +83,7 @@ pub enum Reply<P, A: Allocator> {
 /// longest stored beginning of that path and its value, and `Spm` the shortest. `Remove` and `RemoveKeepTree` take the
 /// entry at that path out and give its value, `RemoveChildren` takes out those whose paths that of its prefix begins,
 /// `RetainAtLeast` those whose paths are shorter than the length that it is handed, and `Clear` all of them. `Len` gives the
-/// number of entries, `List` all of them, each once and in listing order, `ListFrom` those of them that are behind the path of
+/// number of entries, `AddressCount` that of the bit strings of the full width that some of their paths begin, `List` all of them, each once and in listing order, `ListFrom` those of them that are behind the path of
 /// its prefix, with the one there if it is asked for, `Children` those whose paths that of its prefix begins, and `Cover` those
 /// whose paths begin it, the shortest first.
 ///
@@ -186,6 +191,7 @@ fn answer<P: Prefix, A: Allocator + Clone>(
         Call::Clear => (clear(map), None),
         Call::Len => (count_entries(map), None),
         Call::NodeCount => (count_nodes(map), None),
+        Call::AddressCount => (count_addresses(map), None),
         Call::List => (list_reply(listed(alloc, map)), None),
         Call::ListFrom(prefix, inclusive) => {
             let entries = listed_from(alloc, map, prefix, *inclusive);
@@ -279,6 +285,13 @@ fn count_nodes<P: Prefix, A: Allocator>(map: &PrefixMap<P, u64, A>) -> Reply<P, 
     ensures { reply_of result ≡ Count (len map.now.nodes) }
 {
     Reply::Count(map.node_count())
+}
+
+/// The number of prefixes of the full width that the entries contain.
+fn count_addresses<P: Prefix, A: Allocator>(map: &PrefixMap<P, u64, A>) -> Reply<P, A>
+    ensures { reply_of result ≡ Addresses (address_answer P.R.bit_width map.now.entries) }
+{
+    Reply::Addresses(map.address_count())
 }
 
 /// The value stored for exactly this prefix, and how many nodes were read.
@@ -406,7 +419,7 @@ fn covered<P: Prefix, A: Allocator + Clone>(
 }
 
 /// The entries, or the refusal where no memory was found for them.
-fn list_reply<P, A: Allocator>(listed: Result<Vec<(P, u64), A>, AllocError>) -> Reply<P, A>
+fn list_reply<P: Prefix, A: Allocator>(listed: Result<Vec<(P, u64), A>, AllocError>) -> Reply<P, A>
     ensures { MatchResult listed (λ entries. reply_of result ≡ Items entries.items) (λ _. reply_of result ≡ Refused Memory) }
 {
     match listed {

@@ -18,6 +18,7 @@ pub enum Answer<R: 'static> {
     Match(Option<Entry<R>>),
     Done,
     Count(usize),
+    Addresses(Option<R>),
     Entries(&'static [Entry<R>]),
     Refused(Refusal),
 }
@@ -72,6 +73,7 @@ fn call_of<P: Written>(call: &Call<Pair<P::R>>) -> Option<Call<P>>
         Call::Clear => Some(Call::Clear),
         Call::Len => Some(Call::Len),
         Call::NodeCount => Some(Call::NodeCount),
+        Call::AddressCount => Some(Call::AddressCount),
         Call::List => Some(Call::List),
         _ => None,
     }
@@ -95,6 +97,7 @@ fn is_answer<P: Prefix>(reply: &Reply<P, Global>, answer: &Answer<P::R>) -> bool
         (Reply::Match(found), Answer::Match(expected)) => is_match(found, expected),
         (Reply::Done, Answer::Done) => true,
         (Reply::Count(count), Answer::Count(expected)) => count == expected,
+        (Reply::Addresses(count), Answer::Addresses(expected)) => count == expected,
         (Reply::Entries(entries), Answer::Entries(expected)) => are_entries(entries, expected),
         (Reply::Refused(cause), Answer::Refused(expected)) => cause == expected,
         _ => false,
