@@ -1,5 +1,5 @@
 -- What callers of `retain` cite.
-use Rattle.std.proofs.Common.{◌≡◌, Bool, List, [], ◌∷◌}
+use Rattle.std.proofs.Common.{Bool, List, [], ◌∷◌}
 use Rattle.prefix_trie_bits.specs.Model.Asking.{AsksInOrder, MayAskInOrder}
 use Rattle.prefix_trie_bits.specs.Model.Selections.{listing}
 use Rattle.prefix_trie_bits.specs.Model.Step.{State}

@@ -1,5 +1,5 @@
 -- What an iterator of prefixes gives as items of a map of units.
-use Rattle.std.proofs.Common.{◌≡◌, ◌∷◌, [], List, Option, Some, All, map, refl, sym, ap, subst}
+use Rattle.std.proofs.Common.{◌≡◌, ◌∷◌, [], List, Option, All, map, refl, sym, ap, subst}
 use Rattle.std.proofs.lemmas.List.Elements.{All-map}
 use Rattle.std.specs.Fn.{Mut, Called}
 use Rattle.std.specs.Iterator.{Yields, Drains, HoldsAlong}

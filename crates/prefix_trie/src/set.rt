@@ -2,9 +2,12 @@
 //!
 //! The path of a prefix, its first `prefix_len` bits, is its key: two prefixes with the same path are one key, whatever their
 //! host bits. Contracts see a set as they see a map whose values are units: its entries, its nodes, its room and its layout.
-ghost use Rattle.std.specs.Prelude.{◌≡◌, ◌-◌, ◌^◌, ◌↔◌, IfOk, OnOk, IfErr, OnErr, IsErr, IsTrue, not};
+ghost use Rattle.std.specs.Prelude.{◌≡◌, ◌-◌, ◌^◌, ◌↔◌, IfOk, OnOk, IfErr, OnErr, IfSome, IsErr, IsTrue, not};
+ghost use Rattle.std.specs.Option.{option_map};
 ghost use Rattle.std.specs.FinMap.{contains_key, len};
 ghost use Rattle.prefix_trie_bits.specs.declared.prefix.Refusal.TheVariants.{Memory, IndexRange};
+ghost use Rattle.prefix_trie_bits.specs.Bits.{number};
+ghost use Rattle.prefix_trie_bits.specs.Model.Addresses.{address_answer};
 ghost use Rattle.prefix_trie_bits.specs.Model.Blocks.{no_layout};
 ghost use Rattle.prefix_trie_bits.specs.Model.Entries.{no_entries, with_entry};
 ghost use Rattle.prefix_trie_bits.specs.Model.Nodes.{root_alone, with_needed};
@@ -139,6 +142,22 @@ impl<P: Prefix, A: Allocator> PrefixSet<P, A> {
         ensures whole { IsWhole P.R.bit_width self.now }
     {
         self.map.node_count()
+    }
+
+    /// How many addresses, prefixes of the full width, the keys contain, each counted once; `None` exactly if that is all that
+    /// there are. A key within another one adds nothing, and what is below one is not read.
+    ///
+    /// ```text
+    /// 192.0.2.0/24, 192.0.2.128/25 and 198.51.100.0/24 are stored
+    /// set.address_count()   Some(512)
+    /// ```
+    #[inline]
+    pub fn address_count(&self) -> Option<P::R>
+        ensures key { IfSome result (λ r. P.R.IsKey r) }
+        ensures count { option_map (λ r. number (P.R.bits r)) result ≡ address_answer P.R.bit_width self.now.entries }
+        ensures whole { IsWhole P.R.bit_width self.now }
+    {
+        self.map.address_count()
     }
 
     /// How many slots the array of nodes has, used or free: a new set has 1. Never more than the limit. A change may add
