@@ -53,7 +53,7 @@ covered-one (suc w) (false ∷ k) h =
 
 -- ---- an outermost key
 
--- two beginnings of one string of which the second begins no other: if the first does not begin it, they are apart
+-- of two beginnings of one string, one that the other does not begin, but where they are one, begins it
 apart-beginnings : (k j f : List Bool) → begins k f ≡ true → begins j f ≡ true → (begins j k ≡ true → j ≡ k) → begins k j ≡ true
 apart-beginnings k j f e h outer =
     elim (nat_le (length k) (length j)) as (λ b. nat_le (length k) (length j) ≡ b → begins k j ≡ true) [
