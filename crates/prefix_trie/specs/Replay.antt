@@ -1,11 +1,7 @@
 -- The calls and the replies of a run as those of the model. This project's own.
-use Rattle.std.specs.Prelude.{ℕ, List, map}
+use Rattle.std.specs.Prelude.{ℕ, Bool, List, map}
 use Rattle.std.specs.Option.{option_map}
-use Rattle.std.specs.declared.cmp.PartialEq as partial
-use Rattle.std.specs.declared.fmt.Debug as debug
 use Rattle.prefix_trie_bits.specs.Bits.{number}
-use Rattle.prefix_trie_bits.specs.declared.prefix.Prefix as prefix
-use Rattle.prefix_trie_bits.specs.declared.prefix.Key as key
 use Rattle.prefix_trie_bits.specs.Model.Step as model
 use Rattle.prefix_trie.specs.declared.replay.Call.{Call}
 use Rattle.prefix_trie.specs.declared.replay.Call.TheVariants.{Insert, Get, Lpm, Spm, Remove, RemoveKeepTree, RemoveChildren, RetainAtLeast, Clear, Len, NodeCount, AddressCount, List as ListAll, ListFrom, Children, Cover}
@@ -40,17 +36,17 @@ module _ {P : Type 0} where
   abbrev pub calls_of : List (Call P) → List (model.Call P ℕ)
   calls_of calls = map call_of calls
 
-module _ {P A R : Type 0} {p : prefix.Ghosts P R} {shows : debug.Ghosts P} {k : key.Ghosts R} {same : partial.Ghosts R} {writes : debug.Ghosts R} where
+module _ {P A R : Type 0} (bits : R → List Bool) where
   -- a reply of the model; a list of entries is that of its items, and a number of addresses that of its key
-  abbrev pub reply_of : Reply P A R p shows k same writes → model.Reply P ℕ
+  abbrev pub reply_of : Reply P A R → model.Reply P ℕ
   reply_of (Value value) = model.Value value
   reply_of (Match found) = model.Match found
   reply_of Done = model.Done
   reply_of (Count n) = model.Count n
-  reply_of (Addresses n) = model.Addresses (option_map (λ r. number (k.bits r)) n)
+  reply_of (Addresses n) = model.Addresses (option_map (λ r. number (bits r)) n)
   reply_of (Entries entries) = model.Items entries.items
   reply_of (Refused cause) = model.Refused cause
 
   -- each reply in turn
-  abbrev pub replies_of : List (Reply P A R p shows k same writes) → List (model.Reply P ℕ)
+  abbrev pub replies_of : List (Reply P A R) → List (model.Reply P ℕ)
   replies_of replies = map reply_of replies

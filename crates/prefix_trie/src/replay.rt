@@ -121,17 +121,17 @@ pub fn run<P: Prefix, A: Allocator + Clone>(
 
     // The calls with their replies are a run of the model, from the entries and nodes that the map had to those it has.
     ensures run { IfOk result (λ replies. Run P.path P.back P.R.bit_width
-        (state map.old) (calls_of calls.now) (replies_of replies.items) (state map.new)) }
+        (state map.old) (calls_of calls.now) (replies_of P.R.bits replies.items) (state map.new)) }
 
     // And one that sees how the map is stored: which blocks each call takes, how far the arrays grow, and when a new key is refused.
     ensures run_in_storage { IfOk result (λ replies. RunInStorage P.path P.back P.R.bit_width
-        (stored map.old) (calls_of calls.now) (replies_of replies.items) (stored map.new)) }
+        (stored map.old) (calls_of calls.now) (replies_of P.R.bits replies.items) (stored map.new)) }
 
     // And one that counts: each lookup reads exactly the nodes on its way, at most one for each five bits and one more. Where the
     // map was tidy before, or is cleared or retained on the way, its nodes are exactly those that its keys need, until a
     // `RemoveKeepTree`. `run_counted` says that these numbers are those of the map's counters.
     ensures counted { IfOk result (λ replies. (reads : List (Option ℕ)) × CountedRun P.path P.back P.R.bit_width
-        (stored map.old) (calls_of calls.now) (replies_of replies.items) reads (stored map.new)) }
+        (stored map.old) (calls_of calls.now) (replies_of P.R.bits replies.items) reads (stored map.new)) }
     ensures tidy { OnOk result ((tidy : Bool) → TidyIf tidy (state map.old)
         → TidyIf (tidy_after_all tidy (calls_of calls.now)) (state map.new)) }
     ensures one_each { IfOk result (λ replies. vec_len replies ≡ length calls.now) }
@@ -151,7 +151,7 @@ pub fn run_counted<P: Prefix, A: Allocator + Clone>(
 ) -> Result<(Vec<Reply<P, A>, A>, Reads), AllocError>
     requires { All (IsFittingCall P.IsFitting) calls.now }
     ensures counted { IfOk result (λ ran. CountedRun P.path P.back P.R.bit_width
-        (stored map.old) (calls_of calls.now) (replies_of ran.0.items) ran.1 (stored map.new)) }
+        (stored map.old) (calls_of calls.now) (replies_of P.R.bits ran.0.items) ran.1 (stored map.new)) }
     ensures one_each { IfOk result (λ ran. vec_len ran.0 ≡ length calls.now) }
     ensures none_carried_out { OnErr result (map.new ≡ map.old) }
 {
@@ -175,7 +175,7 @@ fn answer<P: Prefix, A: Allocator + Clone>(
 ) -> (Reply<P, A>, Option<Visits>)
     requires { IsFittingCall P.IsFitting call.now }
     ensures { CountedStep P.path P.back P.R.bit_width
-        (stored map.old) (call_of call.now) (reply_of result.0, result.1) (stored map.new) }
+        (stored map.old) (call_of call.now) (reply_of P.R.bits result.0, result.1) (stored map.new) }
 {
     // The proof learns from it that neither array passes the limit.
     let _ = map.len();
@@ -210,7 +210,7 @@ fn insert<P: Prefix, A: Allocator>(
 ) -> Reply<P, A>
     requires { P.IsFitting prefix.now }
     ensures { StepInStorage P.path P.back P.R.bit_width
-        (stored map.old) (Insert prefix.now value) (reply_of result) (stored map.new) }
+        (stored map.old) (Insert prefix.now value) (reply_of P.R.bits result) (stored map.new) }
 {
     match map.insert(same_path(prefix), value) {
         Ok(before) => Reply::Value(before),
@@ -225,7 +225,7 @@ fn remove_keep_tree<P: Prefix, A: Allocator>(
 ) -> Reply<P, A>
     requires { P.IsFitting prefix.now }
     ensures { StepInStorage P.path P.back P.R.bit_width
-        (stored map.old) (RemoveKeepTree prefix.now) (reply_of result) (stored map.new) }
+        (stored map.old) (RemoveKeepTree prefix.now) (reply_of P.R.bits result) (stored map.new) }
 {
     Reply::Value(map.remove_keep_tree(prefix))
 }
@@ -237,7 +237,7 @@ fn remove_children<P: Prefix, A: Allocator>(
 ) -> Reply<P, A>
     requires { P.IsFitting prefix.now }
     ensures { StepInStorage P.path P.back P.R.bit_width
-        (stored map.old) (RemoveChildren prefix.now) (reply_of result) (stored map.new) }
+        (stored map.old) (RemoveChildren prefix.now) (reply_of P.R.bits result) (stored map.new) }
 {
     map.remove_children(prefix);
     Reply::Done
@@ -247,7 +247,7 @@ fn remove_children<P: Prefix, A: Allocator>(
 fn remove<P: Prefix, A: Allocator>(map: &mut PrefixMap<P, u64, A>, prefix: &P) -> Reply<P, A>
     requires { P.IsFitting prefix.now }
     ensures { StepInStorage P.path P.back P.R.bit_width
-        (stored map.old) (Remove prefix.now) (reply_of result) (stored map.new) }
+        (stored map.old) (Remove prefix.now) (reply_of P.R.bits result) (stored map.new) }
 {
     Reply::Value(map.remove(prefix))
 }
@@ -255,7 +255,7 @@ fn remove<P: Prefix, A: Allocator>(map: &mut PrefixMap<P, u64, A>, prefix: &P) -
 /// Takes all entries out.
 fn clear<P: Prefix, A: Allocator>(map: &mut PrefixMap<P, u64, A>) -> Reply<P, A>
     ensures { StepInStorage P.path P.back P.R.bit_width
-        (stored map.old) Clear (reply_of result) (stored map.new) }
+        (stored map.old) Clear (reply_of P.R.bits result) (stored map.new) }
 {
     map.clear();
     Reply::Done
@@ -267,7 +267,7 @@ fn retain_at_least<P: Prefix, A: Allocator>(
     least: u8,
 ) -> Reply<P, A>
     ensures { StepInStorage P.path P.back P.R.bit_width
-        (stored map.old) (RetainAtLeast least) (reply_of result) (stored map.new) }
+        (stored map.old) (RetainAtLeast least) (reply_of P.R.bits result) (stored map.new) }
 {
     map.retain(|prefix, _| least <= prefix.prefix_len());
     Reply::Done
@@ -275,21 +275,21 @@ fn retain_at_least<P: Prefix, A: Allocator>(
 
 /// The number of entries.
 fn count_entries<P: Prefix, A: Allocator>(map: &PrefixMap<P, u64, A>) -> Reply<P, A>
-    ensures { reply_of result ≡ Count (len map.now.entries) }
+    ensures { reply_of P.R.bits result ≡ Count (len map.now.entries) }
 {
     Reply::Count(map.len())
 }
 
 /// The number of nodes.
 fn count_nodes<P: Prefix, A: Allocator>(map: &PrefixMap<P, u64, A>) -> Reply<P, A>
-    ensures { reply_of result ≡ Count (len map.now.nodes) }
+    ensures { reply_of P.R.bits result ≡ Count (len map.now.nodes) }
 {
     Reply::Count(map.node_count())
 }
 
 /// The number of prefixes of the full width that the entries contain.
 fn count_addresses<P: Prefix, A: Allocator>(map: &PrefixMap<P, u64, A>) -> Reply<P, A>
-    ensures { reply_of result ≡ Addresses (address_answer P.R.bit_width map.now.entries) }
+    ensures { reply_of P.R.bits result ≡ Addresses (address_answer P.R.bit_width map.now.entries) }
 {
     Reply::Addresses(map.address_count())
 }
@@ -300,7 +300,7 @@ fn value_at<P: Prefix, A: Allocator>(
     prefix: &P,
 ) -> (Reply<P, A>, Option<Visits>)
     requires { P.IsFitting prefix.now }
-    ensures reply { reply_of result.0 ≡ Value (get map.now.entries (P.path prefix.now)) }
+    ensures reply { reply_of P.R.bits result.0 ≡ Value (get map.now.entries (P.path prefix.now)) }
     ensures reads { CountsReads P.path (state map.now) (Get prefix.now) result.1 }
 {
     let (value, visits) = map.get_counted(prefix);
@@ -313,7 +313,7 @@ fn longest<P: Prefix, A: Allocator>(
     prefix: &P,
 ) -> (Reply<P, A>, Option<Visits>)
     requires { P.IsFitting prefix.now }
-    ensures reply { reply_of result.0 ≡ Match (shown_match P.back (longest_match map.now.entries (P.path prefix.now))) }
+    ensures reply { reply_of P.R.bits result.0 ≡ Match (shown_match P.back (longest_match map.now.entries (P.path prefix.now))) }
     ensures reads { CountsReads P.path (state map.now) (Lpm prefix.now) result.1 }
 {
     let (found, visits) = map.get_lpm_counted(prefix);
@@ -326,7 +326,7 @@ fn shortest<P: Prefix, A: Allocator>(
     prefix: &P,
 ) -> (Reply<P, A>, Option<Visits>)
     requires { P.IsFitting prefix.now }
-    ensures reply { reply_of result.0 ≡ Match (shown_match P.back (shortest_match map.now.entries (P.path prefix.now))) }
+    ensures reply { reply_of P.R.bits result.0 ≡ Match (shown_match P.back (shortest_match map.now.entries (P.path prefix.now))) }
     ensures reads { CountsReads P.path (state map.now) (Spm prefix.now) result.1 }
 {
     let (found, visits) = map.get_spm_counted(prefix);
@@ -420,7 +420,7 @@ fn covered<P: Prefix, A: Allocator + Clone>(
 
 /// The entries, or the refusal where no memory was found for them.
 fn list_reply<P: Prefix, A: Allocator>(listed: Result<Vec<(P, u64), A>, AllocError>) -> Reply<P, A>
-    ensures { MatchResult listed (λ entries. reply_of result ≡ Items entries.items) (λ _. reply_of result ≡ Refused Memory) }
+    ensures { MatchResult listed (λ entries. reply_of P.R.bits result ≡ Items entries.items) (λ _. reply_of P.R.bits result ≡ Refused Memory) }
 {
     match listed {
         Ok(entries) => Reply::Entries(entries),

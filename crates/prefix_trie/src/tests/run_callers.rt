@@ -9,7 +9,7 @@ ghost use Rattle.prefix_trie_bits.specs.Model.Step.{Match, Done, Count, Reply as
 
 use crate::replay::{Call, Reads, Reply, run, run_counted};
 use crate::tests::on_new::on_new;
-use crate::{Prefix, PrefixMap, Refusal};
+use crate::{Key, Prefix, PrefixMap, Refusal};
 use std::alloc::{AllocError, Allocator, Global};
 use std::test::Fail;
 
@@ -24,7 +24,7 @@ fn longest_of<A: Allocator + Clone>(
     prefix: Pair,
 ) -> Result<(Vec<Reply<Pair, A>, A>, Reads), AllocError>
     requires { ⟦<Pair as Prefix>⟧.IsFitting prefix }
-    ensures reply { IfOk result (λ ran. replies_of ran.0.items
+    ensures reply { IfOk result (λ ran. replies_of ⟦<u16 as Key>⟧.bits ran.0.items
         ≡ Match (shown_match ⟦<Pair as Prefix>⟧.back (longest_match map.old.entries (⟦<Pair as Prefix>⟧.path prefix))) ∷ []) }
     ensures reads { IfOk result (λ ran. (n : ℕ) × (ran.1 ≡ Some n ∷ []) × (n ≤ length (⟦<Pair as Prefix>⟧.path prefix) / 5 + 1)) }
     ensures unchanged { OnOk result (state map.new ≡ state map.old) }
@@ -39,7 +39,7 @@ fn nodes_once_cleared<A: Allocator + Clone>(
     prefix: Pair,
 ) -> Result<Vec<Reply<Pair, A>, A>, AllocError>
     requires { ⟦<Pair as Prefix>⟧.IsFitting prefix }
-    ensures { IfOk result (λ replies. (inserted : Answer (ℕ × ℕ) ℕ) × (replies_of replies.items
+    ensures { IfOk result (λ replies. (inserted : Answer (ℕ × ℕ) ℕ) × (replies_of ⟦<u16 as Key>⟧.bits replies.items
         ≡ Done ∷ inserted ∷ Count (len (needed map.new.entries)) ∷ [])) }
 {
     let calls = [Call::Clear, Call::Insert(prefix, 1), Call::NodeCount];
@@ -53,7 +53,7 @@ fn nodes_of_new<A: Allocator + Clone>(
     prefix: Pair,
 ) -> Result<(Numbers<A>, Vec<Reply<Pair, A>, A>), Refusal>
     requires { ⟦<Pair as Prefix>⟧.IsFitting prefix }
-    ensures { IfOk result (λ made. (inserted : Answer (ℕ × ℕ) ℕ) × (replies_of made.1.items
+    ensures { IfOk result (λ made. (inserted : Answer (ℕ × ℕ) ℕ) × (replies_of ⟦<u16 as Key>⟧.bits made.1.items
         ≡ inserted ∷ Count (len (needed made.0.entries)) ∷ [])) }
 {
     let mut map = PrefixMap::new(alloc)?;

@@ -20,7 +20,7 @@ loop-call-preserved g c =
     record {
       each = omega (arith, c.push_reserved.ensures.len, before.each);
       room = omega (arith, c.push_reserved.ensures.capacity, before.room);
-      run = step_pushed g.P.Prefix.path g.P.Prefix.back g.P.R.Key.bit_width call_of reply_of (stored c.args.map.now) (stored c.loop-call.map) (stored c.answer-reply.new.map)
+      run = step_pushed g.P.Prefix.path g.P.Prefix.back g.P.R.Key.bit_width call_of (reply_of g.P.R.Key.bits) (stored c.args.map.now) (stored c.loop-call.map) (stored c.answer-reply.new.map)
           c.args.calls.now c.loop-call.replies.items c.push_reserved.new.self.items c.loop-call.reads c.push.new.self c.loop-call.call-index c.call-item.result c.answer-reply.result.0 c.answer-reply.result.1
           c.loop-call-test.true c.call-item.is c.push_reserved.ensures.items c.push.ensures before.run c.answer-reply.ensures;
     }
@@ -29,7 +29,7 @@ pub returns-clause-counted : goal.returns-clause-counted
 returns-clause-counted g c = λ tidy is_tidy.
     run_counted g.P.Prefix.path g.P.Prefix.back g.P.R.Key.bit_width tidy _ _ _ _ _
     (all_fit_more (path_within g.met.P.Prefix.prefix_laws) call_of c.args.calls.now c.requires) c.len.ensures.whole.is_map is_tidy
-    (subst (λ (cs : List (Call g.row.P.Denot)). StepsSoFar g.P.Prefix.path g.P.Prefix.back g.P.R.Key.bit_width (stored c.args.map.now) (calls_of cs) (replies_of c.loop-call.replies.items) c.loop-call.reads (stored c.loop-call.map))
+    (subst (λ (cs : List (Call g.row.P.Denot)). StepsSoFar g.P.Prefix.path g.P.Prefix.back g.P.R.Key.bit_width (stored c.args.map.now) (calls_of cs) (replies_of g.P.R.Key.bits c.loop-call.replies.items) c.loop-call.reads (stored c.loop-call.map))
     (take_all c.loop-call.call-index c.args.calls.now (omega (arith, c.loop-call-test.false))) c.loop-call.invariant.run)
 
 pub returns-in_err-clone-clause-none_carried_out : goal.returns-in_err-clone-clause-none_carried_out

@@ -10,5 +10,5 @@ abbrev pub invariant-loop-call : goal.invariant-loop-call
 invariant-loop-call g l = record {
   each : vec_len l.replies ≡ l.call-index;
   room : length l.calls ≤ vec_capacity l.replies;
-  run : StepsSoFar g.P.Prefix.path g.P.Prefix.back g.P.R.Key.bit_width (stored l.fn.map) (calls_of (take l.call-index l.calls)) (replies_of l.replies.items) l.reads (stored l.map);
+  run : StepsSoFar g.P.Prefix.path g.P.Prefix.back g.P.R.Key.bit_width (stored l.fn.map) (calls_of (take l.call-index l.calls)) (replies_of g.P.R.Key.bits l.replies.items) l.reads (stored l.map);
 }

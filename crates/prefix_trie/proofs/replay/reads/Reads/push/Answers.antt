@@ -1,5 +1,0 @@
-use Rattle.std.proofs.Common.{rules}
-use Rattle.prefix_trie.proofs.replay.reads.Reads.push.Goals as goal
-
-pub returns : goal.returns
-returns g c = search rules
