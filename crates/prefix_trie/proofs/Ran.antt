@@ -4,7 +4,7 @@ use Rattle.std.specs.FinMap.{len}
 use Rattle.prefix_trie_bits.specs.Model.Counted.{CountedFrom, CountedRun}
 use Rattle.prefix_trie_bits.specs.Model.Matches.{longest_match, shown_match}
 use Rattle.prefix_trie_bits.specs.Model.Nodes.{IsTidy, needed}
-use Rattle.prefix_trie_bits.specs.Model.Step.{State, Call, Reply, Lpm, Clear, Insert, NodeCount, Match, Done, Count}
+use Rattle.prefix_trie_bits.specs.Model.Step.{State, Reply, Lpm, Clear, Insert, NodeCount, Match, Done, Count}
 use Rattle.prefix_trie_bits.specs.Model.Storage.{Storage}
 use Rattle.prefix_trie_bits.specs.Model.Visits.{visits}
 

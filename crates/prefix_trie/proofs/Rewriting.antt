@@ -4,7 +4,7 @@ use lib.Dec.{T as IsT}
 use Rattle.std.specs.List.{list_any}
 use Rattle.std.specs.Option.{option_map}
 use Rattle.std.specs.Borrow.{MutBor}
-use Rattle.std.specs.FinMap.{get, contains_key, contains_key-keys, entries_sorted, is_sorted}
+use Rattle.std.specs.FinMap.{get, contains_key-keys, entries_sorted, is_sorted}
 use Rattle.std.specs.FinMap.Entries.{below_all}
 use Rattle.std.specs.declared.cmp.PartialEq as partial
 use Rattle.std.specs.declared.fmt.Debug as debug

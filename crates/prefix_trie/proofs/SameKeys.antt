@@ -2,7 +2,7 @@
 use Rattle.std.proofs.Common.{◌≡◌, ◌≤◌, ◌&&◌, ℕ, Bool, true, List, [], ◌∷◌, length, map, take, refl, sym, ap, ◌∙◌, subst, nat_eq, eqb-true, eq-eqb}
 use Rattle.std.specs.Bool.{one_answer, Decides}
 use Rattle.std.specs.Cmp.Lexicographic.{pointwise, pointwise_decides}
-use Rattle.std.specs.FinMap.{contains_key, keys, contains_key-keys, same_entries_map}
+use Rattle.std.specs.FinMap.{contains_key-keys, same_entries_map}
 use Rattle.std.specs.List.{list_any}
 use Rattle.std.specs.Ordering.{on}
 use Rattle.prefix_trie_bits.specs.Keys.{PrefixLaws, path_back}

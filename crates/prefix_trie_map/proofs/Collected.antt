@@ -1,5 +1,5 @@
 -- Items that are inserted in turn.
-use Rattle.std.proofs.Common.{◌≡◌, ◌⊎◌, ℕ, ◌+◌, ◌*◌, ◌<◌, ◌≤◌, Bool, List, [], ◌∷◌, ◌++◌, length, refl, sym, ap, ◌∙◌, inl, inr, arith, length-append}
+use Rattle.std.proofs.Common.{◌≡◌, ℕ, ◌+◌, ◌*◌, ◌<◌, ◌≤◌, Bool, List, [], ◌∷◌, ◌++◌, length, refl, sym, ap, ◌∙◌, inl, inr, arith, length-append}
 use Rattle.prefix_trie_bits.specs.Model.Entries.{Entries, no_entries, put_all, with_entry}
 use Rattle.prefix_trie_bits.specs.Model.Nodes.{IsTidy, needed, root_alone, with_needed}
 use Rattle.prefix_trie_bits.specs.Model.Room.{MayPassLimit}

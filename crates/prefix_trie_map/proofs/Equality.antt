@@ -1,5 +1,5 @@
 -- Two walks that are gone over side by side.
-use Rattle.std.proofs.Common.{◌≡◌, Bool, true, false, ◌&&◌, List, [], ◌∷◌, Option, None, Some, MatchOption, IfSome, refl, sym, ap, ◌∙◌, subst}
+use Rattle.std.proofs.Common.{◌≡◌, Bool, true, false, ◌&&◌, List, [], ◌∷◌, Option, None, Some, MatchOption, IfSome, sym, ap, ◌∙◌, subst}
 use Rattle.std.specs.Cmp.Lexicographic.{pointwise}
 use Rattle.std.specs.Iterator.{YieldsThen, ComparesItemsByEq}
 use Rattle.std.specs.List.{AllZip}
