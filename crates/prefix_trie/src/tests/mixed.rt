@@ -2,7 +2,7 @@
 ghost use Rattle.std.specs.Prelude.{◌≤◌};
 
 use crate::PrefixMap;
-use crate::replay::{Call, run};
+use crate::replay::{Call, Reply, run};
 use crate::tests::on_new::on_new;
 use std::alloc::{AllocError, Global};
 use std::test::Fail;
@@ -168,6 +168,26 @@ fn covers(map: &Map, expected: &[Entry], asked: Key) -> bool
     entries.next().is_none()
 }
 
+/// How many keys of all eight bits an entry contains. None if all.
+fn addresses(list: &[Entry]) -> Option<u8> {
+    let mut count = 0_u8;
+    for number in 0..256_u16 {
+        if shortest(list, (number as u8, 8)).is_some() {
+            count = count.checked_add(1)?;
+        }
+    }
+    Some(count)
+}
+
+/// Whether a run counts the addresses as the list does.
+fn counts_addresses(alloc: Global, map: &mut Map, list: &[Entry]) -> Result<bool, AllocError> {
+    let replies = run(alloc, map, &[Call::AddressCount])?;
+    Ok(match replies.as_slice() {
+        [Reply::Addresses(count)] => *count == addresses(list),
+        _ => false,
+    })
+}
+
 /// Whether a lookup of an entry answers as the list does.
 fn finds(map: &Map, list: &[Entry], which: u64, asked: Key) -> bool
     requires { asked.1 ≤ 8 }
@@ -192,12 +212,12 @@ fn tells(
     match which {
         6 => Ok(map.len() == list.len()),
         7 => Ok(1 <= map.node_count()),
-        8 => Ok(lists(map, list)),
-        9 => {
+        9 => Ok(lists(map, list)),
+        10 => {
             let expected = containing(alloc, list, asked)?;
             Ok(covers(map, &expected, asked))
         }
-        10 => Ok(map.contains_key(&asked) == exact(list, asked).is_some()),
+        11 => Ok(map.contains_key(&asked) == exact(list, asked).is_some()),
         _ => Ok(map.is_covered(&asked) == shortest(list, asked).is_some()),
     }
 }
@@ -270,6 +290,7 @@ fn answers(
             *list = outside(alloc, list, asked)?;
             Ok(map.len() == list.len())
         }
+        8 => Ok(counts_addresses(alloc, map, list)?),
         _ => Ok(tells(alloc, map, list, which, asked)?),
     }
 }
@@ -293,7 +314,7 @@ fn agrees(
             Ok(true)
         }
         601 => Ok(keeps_long(alloc, map, list, asked.1)?),
-        _ => answers(alloc, map, list, a.wrapping_sub(602) % 12, asked),
+        _ => answers(alloc, map, list, a.wrapping_sub(602) % 13, asked),
     }
 }
 
