@@ -23,6 +23,7 @@ enum Wanted<'a> {
     Match(Option<(Key, u64)>),
     Done,
     Count(usize),
+    Addresses(Option<u32>),
     List(&'a [(Key, u64)]),
     Refused,
 }
@@ -55,6 +56,13 @@ fn is_count<A: Allocator>(reply: &Reply<Key, A>, expected: usize) -> bool {
     }
 }
 
+fn is_address_count<A: Allocator>(reply: &Reply<Key, A>, expected: Option<u32>) -> bool {
+    match reply {
+        Reply::Addresses(count) => *count == expected,
+        _ => false,
+    }
+}
+
 fn is_list<A: Allocator>(reply: &Reply<Key, A>, expected: &[(Key, u64)]) -> bool {
     match reply {
         Reply::Entries(entries) => entries.as_slice() == expected,
@@ -75,6 +83,7 @@ fn is<A: Allocator>(reply: &Reply<Key, A>, wanted: Wanted<'_>) -> bool {
         Wanted::Match(found) => is_match(reply, found),
         Wanted::Done => is_done(reply),
         Wanted::Count(count) => is_count(reply, count),
+        Wanted::Addresses(count) => is_address_count(reply, count),
         Wanted::List(entries) => is_list(reply, entries),
         Wanted::Refused => is_refused(reply),
     }
@@ -125,6 +134,7 @@ fn a_reply_to_each_call(rt: HostRuntime) -> Result<(), Fail> {
         Call::Lpm((0x0a01_0203, 32)),
         Call::Lpm((0x0b00_0000, 8)),
         Call::Len,
+        Call::AddressCount,
         Call::List,
     ];
     let both = [((0x0a00_0000, 8), 3), ((0x0a01_0000, 16), 2)];
@@ -139,6 +149,8 @@ fn a_reply_to_each_call(rt: HostRuntime) -> Result<(), Fail> {
         Wanted::Match(Some(((0x0a01_0000, 16), 2))),
         Wanted::Match(None),
         Wanted::Count(2),
+        // The shorter contains the longer.
+        Wanted::Addresses(Some(0x0100_0000)),
         Wanted::List(&both),
     ];
     assert!(rt; replies_are(rt.alloc(), &calls, &wanted)?);
