@@ -27,6 +27,7 @@ mod removals;
 mod retain;
 mod run_callers;
 mod runs;
+mod sets;
 mod taking;
 mod trials;
 mod walks;
