@@ -8,11 +8,13 @@ mod lookups;
 mod prefixes;
 mod removals;
 mod runs;
+mod sets;
 mod texts;
 mod walks;
 mod widths;
 
 use crate::run::{Turn, all_reply};
+use crate::table::sets::{self as of_sets, SetLine};
 use crate::table::{Line, all_hold};
 use prefix_trie::{Ipv4Prefix, Ipv6Prefix, Refusal};
 use std::alloc::Global;
@@ -33,10 +35,21 @@ pub enum Table {
     Usize(&'static [Line<usize>]),
     /// A run on a new map of this limit.
     Run(u32, &'static [Turn<u8>]),
+    /// Calls of a set.
+    Set(Set),
+}
+
+/// A table of a set with its prefixes.
+#[derive(Drop)]
+pub enum Set {
+    Ipv4(&'static [SetLine<u32>]),
+    U8(&'static [SetLine<u8>]),
+    U32(&'static [SetLine<u32>]),
+    U128(&'static [SetLine<u128>]),
 }
 
 /// The rows in order, each with its number.
-pub const ROWS: [(u32, Row); 36] = [
+pub const ROWS: [(u32, Row); 38] = [
     (1, &[Table::Ipv4(&lookups::EXACT)]),
     (2, &[Table::Ipv4(&entries::HOST_BITS)]),
     (3, &[Table::Ipv4(&lookups::MATCHES)]),
@@ -47,7 +60,13 @@ pub const ROWS: [(u32, Row); 36] = [
     (8, &[Table::Ipv4(&walks::BEHIND_A_NETWORK)]),
     (9, &[Table::Ipv4(&removals::BELOW_A_NETWORK)]),
     (10, &[Table::U32(&removals::NODES_LEFT)]),
-    (11, &[Table::Ipv4(&addresses::WITHIN_ANOTHER)]),
+    (
+        11,
+        &[
+            Table::Set(Set::U8(&sets::HALVES)),
+            Table::Ipv4(&addresses::WITHIN_ANOTHER),
+        ],
+    ),
     (13, &[Table::U32(&limits::FOUR_SLOTS)]),
     (14, &[Table::U8(&blocks::FULL_ROOT)]),
     (15, &[Table::U8(&blocks::ALL_ADDRESSES)]),
@@ -57,8 +76,20 @@ pub const ROWS: [(u32, Row); 36] = [
     (20, &[Table::Ipv4(&entries::COUNTED)]),
     (21, &[Table::Ipv4(&walks::WRITTEN_AND_TAKEN)]),
     (22, &[Table::U32(&removals::PRUNED_ON_THE_WAY)]),
-    (23, &[Table::U8(&equality::IN_EITHER_ORDER)]),
-    (24, &[Table::U32(&texts::NESTED)]),
+    (
+        23,
+        &[
+            Table::U8(&equality::IN_EITHER_ORDER),
+            Table::Set(Set::U8(&sets::EQUAL)),
+        ],
+    ),
+    (
+        24,
+        &[
+            Table::U32(&texts::NESTED),
+            Table::Set(Set::U32(&sets::PAIRS_AS_TEXT)),
+        ],
+    ),
     (25, &[Table::Ipv4(&walks::AROUND_A_NETWORK)]),
     (
         26,
@@ -88,11 +119,23 @@ pub const ROWS: [(u32, Row); 36] = [
     (33, &[Table::U8(&entries::FILLED)]),
     (34, &[Table::U8(&walks::FROM_AND_BELOW)]),
     (
+        35,
+        &[
+            Table::Set(Set::U8(&sets::SHARED_ADDRESSES)),
+            Table::Set(Set::U128(&sets::ADDRESSES_OF_128_BITS)),
+        ],
+    ),
+    (
         36,
-        &[Table::Ipv4(&texts::NETWORKS), Table::Ipv6(&texts::IPV6)],
+        &[
+            Table::Ipv4(&texts::NETWORKS),
+            Table::Ipv6(&texts::IPV6),
+            Table::Set(Set::Ipv4(&sets::NETWORKS_AS_TEXT)),
+        ],
     ),
     (37, &[Table::U32(&blocks::TWO_HOSTS)]),
     (38, &[Table::U8(&limits::KEPT_BLOCKS)]),
+    (39, &[Table::Set(Set::U8(&sets::ONE_SLOT))]),
     (40, &[Table::Run(2, &runs::UNDER_TWO_SLOTS)]),
 ];
 
@@ -117,5 +160,15 @@ fn holds(alloc: Global, table: &Table) -> Result<bool, Refusal> {
         Table::U128(lines) => all_hold::<(u128, u8)>(alloc, lines),
         Table::Usize(lines) => all_hold::<(usize, u8)>(alloc, lines),
         Table::Run(limit, turns) => all_reply::<(u8, u8)>(alloc, *limit, turns),
+        Table::Set(set) => holds_of_set(alloc, set),
+    }
+}
+
+fn holds_of_set(alloc: Global, set: &Set) -> Result<bool, Refusal> {
+    match set {
+        Set::Ipv4(lines) => of_sets::all_hold::<Ipv4Prefix>(alloc, lines),
+        Set::U8(lines) => of_sets::all_hold::<(u8, u8)>(alloc, lines),
+        Set::U32(lines) => of_sets::all_hold::<(u32, u8)>(alloc, lines),
+        Set::U128(lines) => of_sets::all_hold::<(u128, u8)>(alloc, lines),
     }
 }

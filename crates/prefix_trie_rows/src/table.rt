@@ -3,6 +3,7 @@ ghost use Rattle.std.specs.Prelude.{IfSome};
 
 mod collecting;
 mod entries;
+pub mod sets;
 mod taking;
 mod texts;
 mod walks;

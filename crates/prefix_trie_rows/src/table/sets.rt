@@ -1,0 +1,117 @@
+//! Tables of sets: calls of a set beside the answers that they should have, and what puts them to a set.
+ghost use Rattle.std.specs.Prelude.{All, IfSome, IfOk};
+
+use crate::table::{Pair, Written, fitting};
+use prefix_trie::{Prefix, PrefixSet, Refusal};
+use std::alloc::{AllocError, Global};
+
+/// The set of a table.
+type Set<P> = PrefixSet<P, Global>;
+
+/// A call, and last the answer that it should have. A table begins with an empty set.
+#[derive(Drop)]
+pub enum SetLine<R: 'static> {
+    /// Goes on with a new set of this limit.
+    WithSlotLimit(u32),
+    /// Goes on with the set of these prefixes.
+    FromIter(&'static [Pair<R>]),
+    /// Whether the prefix is new, or why it was refused.
+    Insert(Pair<R>, Result<bool, Refusal>),
+    Remove(Pair<R>, bool),
+    /// Whether the set equals that of these prefixes.
+    Equals(&'static [Pair<R>], bool),
+    /// How many addresses the keys contain, if not all.
+    AddressCount(Option<R>),
+    Len(usize),
+    NodeCount(usize),
+    /// The debug text.
+    Text(&'static str),
+}
+
+/// Whether each call of a table has its answer, in order. Refused if there is no memory for the first set.
+pub fn all_hold<P: Written>(alloc: Global, lines: &[SetLine<P::R>]) -> Result<bool, Refusal> {
+    let mut set: Set<P> = PrefixSet::new(alloc)?;
+    Ok(hold_in_order(alloc, &mut set, lines))
+}
+
+/// Whether each call has its answer, where they are put to a set in order.
+fn hold_in_order<P: Written>(alloc: Global, set: &mut Set<P>, lines: &[SetLine<P::R>]) -> bool {
+    for line in lines {
+        if !holds(alloc, set, line) {
+            return false;
+        }
+    }
+    true
+}
+
+/// Whether a call has its answer.
+fn holds<P: Written>(alloc: Global, set: &mut Set<P>, line: &SetLine<P::R>) -> bool {
+    match line {
+        SetLine::WithSlotLimit(limit) => renews(set, PrefixSet::with_slot_limit(alloc, *limit)),
+        SetLine::FromIter(pairs) => renews(set, set_of(alloc, pairs)),
+        SetLine::Insert(pair, answer) => inserts(set, *pair, *answer),
+        SetLine::Remove(pair, answer) => removes(set, *pair, *answer),
+        SetLine::Equals(pairs, answer) => equals(set, set_of(alloc, pairs), *answer),
+        SetLine::AddressCount(answer) => set.address_count() == *answer,
+        SetLine::Len(count) => set.len() == *count && set.is_empty() == (*count == 0),
+        SetLine::NodeCount(count) => set.node_count() == *count,
+        SetLine::Text(text) => has_text(alloc, set, text) == Ok(true),
+    }
+}
+
+/// Goes on with another set, if there is one.
+fn renews<P: Prefix>(set: &mut Set<P>, made: Result<Set<P>, Refusal>) -> bool {
+    match made {
+        Ok(fresh) => {
+            *set = fresh;
+            true
+        }
+        Err(_) => false,
+    }
+}
+
+/// The set of these prefixes, those left out that do not fit.
+fn set_of<P: Written>(alloc: Global, pairs: &[Pair<P::R>]) -> Result<Set<P>, Refusal> {
+    match fitting_of::<P>(alloc, pairs) {
+        Ok(prefixes) => PrefixSet::from_iter(alloc, prefixes),
+        Err(_) => Err(Refusal::Memory),
+    }
+}
+
+fn fitting_of<P: Written>(alloc: Global, pairs: &[Pair<P::R>]) -> Result<Vec<P>, AllocError>
+    ensures { IfOk result (λ prefixes. All P.IsFitting prefixes.items) }
+{
+    let mut prefixes = Vec::new(alloc);
+    for pair in pairs {
+        if let Some(prefix) = fitting::<P>(*pair) {
+            prefixes.push(prefix)?;
+        }
+    }
+    Ok(prefixes)
+}
+
+fn inserts<P: Written>(set: &mut Set<P>, pair: Pair<P::R>, answer: Result<bool, Refusal>) -> bool {
+    match fitting::<P>(pair) {
+        Some(prefix) => set.insert(prefix) == answer,
+        None => false,
+    }
+}
+
+fn removes<P: Written>(set: &mut Set<P>, pair: Pair<P::R>, answer: bool) -> bool {
+    match fitting::<P>(pair) {
+        Some(prefix) => set.remove(&prefix) == answer,
+        None => false,
+    }
+}
+
+fn equals<P: Prefix>(set: &Set<P>, other: Result<Set<P>, Refusal>, answer: bool) -> bool {
+    match other {
+        Ok(other) => (*set == other) == answer,
+        Err(_) => false,
+    }
+}
+
+fn has_text<P: Prefix>(alloc: Global, set: &Set<P>, text: &str) -> Result<bool, AllocError> {
+    let shown = format!(in alloc; "{set:?}")?;
+    Ok(shown.as_str() == text)
+}
