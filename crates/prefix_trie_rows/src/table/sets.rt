@@ -55,7 +55,7 @@ fn holds<P: Written>(alloc: Global, set: &mut Set<P>, line: &SetLine<P::R>) -> b
         SetLine::AddressCount(answer) => set.address_count() == *answer,
         SetLine::Len(count) => set.len() == *count && set.is_empty() == (*count == 0),
         SetLine::NodeCount(count) => set.node_count() == *count,
-        SetLine::Text(text) => has_text(alloc, set, text) == Ok(true),
+        SetLine::Text(text) => has_text(alloc, set, text),
     }
 }
 
@@ -70,24 +70,35 @@ fn renews<P: Prefix>(set: &mut Set<P>, made: Result<Set<P>, Refusal>) -> bool {
     }
 }
 
-/// The set of these prefixes, those left out that do not fit.
+/// The set of these prefixes. Refused for a prefix that does not fit, too.
 fn set_of<P: Written>(alloc: Global, pairs: &[Pair<P::R>]) -> Result<Set<P>, Refusal> {
-    match fitting_of::<P>(alloc, pairs) {
-        Ok(prefixes) => PrefixSet::from_iter(alloc, prefixes),
-        Err(_) => Err(Refusal::Memory),
+    match prefixes_of::<P>(alloc, pairs) {
+        Ok(Some(prefixes)) => collected(alloc, prefixes),
+        _ => Err(Refusal::Memory),
     }
 }
 
-fn fitting_of<P: Written>(alloc: Global, pairs: &[Pair<P::R>]) -> Result<Vec<P>, AllocError>
-    ensures { IfOk result (λ prefixes. All P.IsFitting prefixes.items) }
+fn collected<P: Written>(alloc: Global, prefixes: Vec<P>) -> Result<Set<P>, Refusal>
+    requires { All P.IsFitting prefixes.items }
+{
+    PrefixSet::from_iter(alloc, prefixes)
+}
+
+/// The prefixes, if each fits.
+fn prefixes_of<P: Written>(
+    alloc: Global,
+    pairs: &[Pair<P::R>],
+) -> Result<Option<Vec<P>>, AllocError>
+    ensures { IfOk result (λ found. IfSome found (λ xs. All P.IsFitting xs.items)) }
 {
     let mut prefixes = Vec::new(alloc);
     for pair in pairs {
-        if let Some(prefix) = fitting::<P>(*pair) {
-            prefixes.push(prefix)?;
+        match fitting::<P>(*pair) {
+            Some(prefix) => prefixes.push(prefix)?,
+            None => return Ok(None),
         }
     }
-    Ok(prefixes)
+    Ok(Some(prefixes))
 }
 
 fn inserts<P: Written>(set: &mut Set<P>, pair: Pair<P::R>, answer: Result<bool, Refusal>) -> bool {
@@ -111,7 +122,9 @@ fn equals<P: Prefix>(set: &Set<P>, other: Result<Set<P>, Refusal>, answer: bool)
     }
 }
 
-fn has_text<P: Prefix>(alloc: Global, set: &Set<P>, text: &str) -> Result<bool, AllocError> {
-    let shown = format!(in alloc; "{set:?}")?;
-    Ok(shown.as_str() == text)
+fn has_text<P: Prefix>(alloc: Global, set: &Set<P>, text: &str) -> bool {
+    match format!(in alloc; "{set:?}") {
+        Ok(written) => written.as_str() == text,
+        Err(_) => false,
+    }
 }
