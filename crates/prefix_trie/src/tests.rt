@@ -18,6 +18,7 @@ mod lending;
 mod lists;
 mod lookups;
 mod mixed;
+mod mixed_sets;
 mod node;
 mod on_new;
 mod prefix;

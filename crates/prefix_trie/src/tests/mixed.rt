@@ -8,10 +8,10 @@ use std::alloc::{AllocError, Global};
 use std::test::Fail;
 
 /// How many calls are made.
-const CALLS: u64 = 20_000;
+pub const CALLS: u64 = 20_000;
 
 /// A number and a length.
-type Key = (u8, u8);
+pub type Key = (u8, u8);
 
 /// A key without host bits, and its value.
 type Entry = (Key, u64);
@@ -19,12 +19,12 @@ type Entry = (Key, u64);
 type Map = PrefixMap<Key, u64, Global>;
 
 /// The draw after this one.
-fn drawn(x: u64) -> u64 {
+pub fn drawn(x: u64) -> u64 {
     x.wrapping_mul(1_103_515_245).wrapping_add(12_345) % 0x8000_0000
 }
 
 /// A length of at most eight bits.
-fn length_of(draw: u64) -> u8
+pub fn length_of(draw: u64) -> u8
     ensures { result ≤ 8 }
 {
     (draw % 9) as u8
