@@ -7,6 +7,7 @@ pub mod Keys
 pub mod Places
 pub mod Walks
 pub mod Model
+pub mod Refusals
 pub mod Laws
 pub mod Rows
 pub mod Facts

@@ -8,6 +8,7 @@ use std::fmt::Debug;
 mod networks;
 mod numbers;
 mod pair;
+mod refusals;
 
 pub use networks::{Ipv4Prefix, Ipv6Prefix};
 
@@ -211,6 +212,14 @@ pub trait Prefix: Sized + Debug + Drop {
 }
 
 /// Why a call was refused.
+///
+/// It has a text and is a `std::error::Error`, so `?` takes it to an `anyhow::Error`. `?` takes it to an `io::Error` too, of the kind
+/// `OutOfMemory` or `QuotaExceeded`; a crate that writes this lists `prefix_trie_bits`, where that `impl` stands.
+///
+/// ```text
+/// println!(rt; "{}", Refusal::Memory)   a request for memory was refused
+/// println!(rt; "{}", Refusal::IndexRange)   the slots needed pass the limit
+/// ```
 #[derive(Clone, Copy, PartialEq, Eq, Debug)]
 pub enum Refusal {
     /// A request for memory was refused.
@@ -221,8 +230,12 @@ pub enum Refusal {
 
 /// A refusal that hands back the value that was not stored.
 ///
+/// In a function that answers a `Result` with a `Refusal`, `?` takes it to its cause, and drops the value. It has the text of its
+/// cause, and is a `std::error::Error` and becomes an `io::Error` as that does.
+///
 /// ```text
-/// map.insert(prefix, 1)   Err(Refused { cause: Refusal::Memory, value: 1 }), where a request for memory was refused
+/// map.insert(prefix, 1)    Err(Refused { cause: Refusal::Memory, value: 1 }), where a request for memory was refused
+/// map.insert(prefix, 1)?   there returns Err(Refusal::Memory)
 /// ```
 #[derive(PartialEq, Eq, Debug, Drop)]
 pub struct Refused<T> {
