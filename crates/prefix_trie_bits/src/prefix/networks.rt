@@ -5,12 +5,12 @@ ghost use Rattle.prefix_trie_bits.specs.Keys.{number_keys};
 ghost use Rattle.prefix_trie_bits.specs.Bits.{number, digits, zeros};
 
 use crate::prefix::{Key, Prefix};
-use std::fmt::{self, Debug, Formatter, Write};
+use std::fmt::{self, Debug, Display, Formatter, Write};
 use std::marker::Model;
 
 /// An IPv4 network: an address, with its host bits, and a length of at most 32. Two are equal if both numbers are.
 ///
-/// Its debug text is four decimal numbers joined by dots, a slash and the length: `10.1.2.3/8`.
+/// Its text, debug or not, is four decimal numbers joined by dots, a slash and the length: `10.1.2.3/8`.
 #[derive(Clone, Copy, PartialEq, Eq)]
 pub struct Ipv4Prefix {
     addr: u32,
@@ -46,6 +46,20 @@ impl Ipv4Prefix {
         }
     }
 
+    /// The network of one address: all 32 bits count.
+    ///
+    /// ```text
+    /// Ipv4Prefix::host(0x0a010203)   10.1.2.3/32
+    /// ```
+    #[inline]
+    pub fn host(addr: u32) -> Self
+        ensures value { result ≡ (addr, 32) }
+        ensures path { take result.1 (digits 32 result.0) ≡ digits 32 addr }
+        ensures fits { (result.0 < 2 ^ 32) × (result.1 ≤ 32) }
+    {
+        Ipv4Prefix { addr, len: 32 }
+    }
+
     /// The address as handed in, host bits kept.
     #[inline]
     pub fn addr(&self) -> u32
@@ -53,12 +67,23 @@ impl Ipv4Prefix {
     {
         self.addr
     }
+
+    // Its text, as `Debug` and `Display` write it.
+    fn write_text<F: Write>(&self, f: &mut Formatter<F>) -> fmt::Result {
+        let [a, b, c, d] = self.addr.to_be_bytes();
+        write!(f, "{a}.{b}.{c}.{d}/{}", self.len)
+    }
 }
 
 impl Debug for Ipv4Prefix {
     fn fmt<F: Write>(&self, f: &mut Formatter<F>) -> fmt::Result {
-        let [a, b, c, d] = self.addr.to_be_bytes();
-        write!(f, "{a}.{b}.{c}.{d}/{}", self.len)
+        self.write_text(f)
+    }
+}
+
+impl Display for Ipv4Prefix {
+    fn fmt<F: Write>(&self, f: &mut Formatter<F>) -> fmt::Result {
+        self.write_text(f)
     }
 }
 
@@ -115,7 +140,7 @@ impl Prefix for Ipv4Prefix {
 
 /// An IPv6 network: an address, with its host bits, and a length of at most 128. Two are equal if both numbers are.
 ///
-/// Its debug text is eight groups of four hexadecimal digits in lower case, joined by colons, a slash and the length: `2001:0db8:0000:0000:0000:0000:0000:0001/32`.
+/// Its text, debug or not, is eight groups of four hexadecimal digits in lower case, joined by colons, a slash and the length: `2001:0db8:0000:0000:0000:0000:0000:0001/32`.
 #[derive(Clone, Copy, PartialEq, Eq)]
 pub struct Ipv6Prefix {
     addr: u128,
@@ -151,6 +176,20 @@ impl Ipv6Prefix {
         }
     }
 
+    /// The network of one address: all 128 bits count.
+    ///
+    /// ```text
+    /// Ipv6Prefix::host(1)   0000:0000:0000:0000:0000:0000:0000:0001/128
+    /// ```
+    #[inline]
+    pub fn host(addr: u128) -> Self
+        ensures value { result ≡ (addr, 128) }
+        ensures path { take result.1 (digits 128 result.0) ≡ digits 128 addr }
+        ensures fits { (result.0 < 2 ^ 128) × (result.1 ≤ 128) }
+    {
+        Ipv6Prefix { addr, len: 128 }
+    }
+
     /// The address as handed in, host bits kept.
     #[inline]
     pub fn addr(&self) -> u128
@@ -158,16 +197,27 @@ impl Ipv6Prefix {
     {
         self.addr
     }
-}
 
-impl Debug for Ipv6Prefix {
-    fn fmt<F: Write>(&self, f: &mut Formatter<F>) -> fmt::Result {
+    // Its text, as `Debug` and `Display` write it.
+    fn write_text<F: Write>(&self, f: &mut Formatter<F>) -> fmt::Result {
         for i in 0..8_u32 {
             let group = (self.addr >> (112 - 16 * i)) % 65536;
             let end = if i < 7 { ":" } else { "/" };
             write!(f, "{group:04x}{end}")?;
         }
         write!(f, "{}", self.len)
+    }
+}
+
+impl Debug for Ipv6Prefix {
+    fn fmt<F: Write>(&self, f: &mut Formatter<F>) -> fmt::Result {
+        self.write_text(f)
+    }
+}
+
+impl Display for Ipv6Prefix {
+    fn fmt<F: Write>(&self, f: &mut Formatter<F>) -> fmt::Result {
+        self.write_text(f)
     }
 }
 
