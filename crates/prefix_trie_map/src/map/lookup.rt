@@ -1,7 +1,7 @@
 //! Lookups: of exactly a prefix, and of the longest and the shortest stored prefix that contains one.
 //!
-//! Each has a form that also says how many nodes it read: it makes one counter, and hands it to one call of the table. The
-//! plain form is the first part of that answer: `Visits` has no bytes, so it costs nothing to make it.
+//! Each but `get_lpm_value` has a form that also says how many nodes it read: it makes one counter, and hands it to one call of
+//! the table. The plain form is the first part of that answer: `Visits` has no bytes, so it costs nothing to make it.
 ghost use Rattle.std.specs.Prelude.{◌≡◌, ◌≤◌, take, IfSome};
 ghost use Rattle.std.specs.Option.{option_copied, option_map, is_some};
 ghost use Rattle.std.specs.FinMap.{get, contains_key};
@@ -134,6 +134,25 @@ impl<P: Prefix, T: Drop, A: Allocator> PrefixMap<P, T, A> {
         (rebuilt_match(key, longest), visits)
     }
 
+    /// The value of the longest stored prefix that contains this one: the value that `get_lpm` gives. It builds no prefix.
+    ///
+    /// ```text
+    /// 10.0.0.0/8 is stored with 1, and 10.1.0.0/16 with 2
+    /// map.get_lpm_value(10.1.2.3/32)   Some(&2)
+    /// map.get_lpm_value(11.0.0.0/8)    None
+    /// ```
+    #[inline]
+    pub fn get_lpm_value(&self, prefix: &P) -> Option<&T>
+        requires { P.IsFitting prefix.now }
+        ensures { option_copied result ≡ option_map (λ found. found.1) (longest_match self.now.entries (P.path prefix.now)) }
+    {
+        let len = u32::from(prefix.prefix_len());
+        let longest = self
+            .table
+            .find_longest(prefix.repr(), len, &mut Visits::new());
+        value_of(longest)
+    }
+
     /// The longest stored prefix that contains this one, without its host bits: the prefix that `get_lpm` gives.
     #[inline]
     pub fn get_lpm_prefix(&self, prefix: &P) -> Option<P>
@@ -260,6 +279,17 @@ fn prefix_of<P: Prefix, T>(found: Option<(P, &T)>) -> Option<P>
 {
     match found {
         Some((prefix, _)) => Some(prefix),
+        None => None,
+    }
+}
+
+/// The value of a match, without its length.
+#[inline]
+fn value_of<T>(found: Option<(u32, &T)>) -> Option<&T>
+    ensures { option_copied result ≡ option_map (λ f. f.1.now) found.entry }
+{
+    match found {
+        Some((_, value)) => Some(value),
         None => None,
     }
 }
