@@ -12,8 +12,8 @@ fn route_of_office<A: Allocator + Clone>(alloc: A) -> Result<Option<u32>, Refusa
     let site = Ipv4Prefix::new(0xc0a8_0000, 23).unwrap();
     let office = Ipv4Prefix::new(0xc0a8_0100, 24).unwrap();
     let mut routes = PrefixMap::new(alloc)?;
-    routes.insert(site, 1).map_err(|refused| refused.cause)?;
-    routes.insert(office, 2).map_err(|refused| refused.cause)?;
+    routes.insert(site, 1)?;
+    routes.insert(office, 2)?;
     Ok(routes.get(&office).copied())
 }
 

@@ -7,7 +7,7 @@ ghost use Rattle.prefix_trie_bits.specs.Bits.{number, digits, zeros};
 use self::Sample::{Keep, Width, Window};
 use crate::{Ipv4Prefix, Ipv6Prefix, Key, Prefix, Refusal, Refused};
 use std::alloc::Global;
-use std::fmt::Debug;
+use std::fmt::{Debug, Display};
 use std::test::Fail;
 
 /// What a key answers.
@@ -180,30 +180,30 @@ fn ipv6(rt: HostRuntime) {
     assert!(rt; answers == [true; 7]);
 }
 
-/// Whether this is the debug text of a value.
-fn shows<T: Debug>(alloc: Global, value: &T, expected: &str) -> Result<bool, Fail> {
-    let text = format!(in alloc; "{value:?}")?;
+/// Whether these are the debug text of a value and the other.
+fn shows<T: Debug + Display>(alloc: Global, value: &T, expected: &str) -> Result<bool, Fail> {
+    let text = format!(in alloc; "{value:?} {value}")?;
     Ok(text.as_str() == expected)
 }
 
 #[test]
 fn texts(rt: HostRuntime) -> Result<(), Fail> {
-    let four = Ipv4Prefix::from_repr_len(0x0a01_0203, 8);
-    let six = Ipv6Prefix::from_repr_len(1, 128);
+    let four = Ipv4Prefix::host(0x0a01_0203);
+    let six = Ipv6Prefix::host(1);
     let documentation = Ipv6Prefix::from_repr_len(0x2001_0db8_0000_0000_0000_0000_0000_00ff, 32);
-    assert!(rt; shows(rt.alloc(), &four, "10.1.2.3/8")?);
+    assert!(rt; shows(rt.alloc(), &four, "10.1.2.3/32 10.1.2.3/32")?);
     assert!(rt;
         shows(
             rt.alloc(),
             &six,
-            "0000:0000:0000:0000:0000:0000:0000:0001/128"
+            "0000:0000:0000:0000:0000:0000:0000:0001/128 0000:0000:0000:0000:0000:0000:0000:0001/128"
         )?
     );
     assert!(rt;
         shows(
             rt.alloc(),
             &documentation,
-            "2001:0db8:0000:0000:0000:0000:0000:00ff/32"
+            "2001:0db8:0000:0000:0000:0000:0000:00ff/32 2001:0db8:0000:0000:0000:0000:0000:00ff/32"
         )?
     );
     Ok(())

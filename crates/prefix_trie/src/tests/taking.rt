@@ -39,12 +39,9 @@ type Counting<'a> = PrefixMap<(u32, u8), Counted<'a>, Global>;
 /// A map of three that count.
 fn three<'a>(alloc: Global, drops: &'a Cell<u64>) -> Result<Counting<'a>, Refusal> {
     let mut map = PrefixMap::new(alloc)?;
-    map.insert((0, 0), Counted { drops })
-        .map_err(|refused| refused.cause)?;
-    map.insert((0, 1), Counted { drops })
-        .map_err(|refused| refused.cause)?;
-    map.insert((0x8000_0000, 1), Counted { drops })
-        .map_err(|refused| refused.cause)?;
+    map.insert((0, 0), Counted { drops })?;
+    map.insert((0, 1), Counted { drops })?;
+    map.insert((0x8000_0000, 1), Counted { drops })?;
     Ok(map)
 }
 

@@ -70,8 +70,6 @@ fn put<P: Prefix, T: Drop, A: Allocator>(
 {
     // The proof learns from it that the map is whole.
     let _ = map.len();
-    match map.insert(prefix, value) {
-        Ok(_) => Ok(()),
-        Err(refused) => Err(refused.cause),
-    }
+    map.insert(prefix, value)?;
+    Ok(())
 }
