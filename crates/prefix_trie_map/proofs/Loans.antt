@@ -1,4 +1,5 @@
--- What walks cite: a local is lent for one call, a `&mut` in an `Option`, and a pair of two machine values. Assumes `Logic`.
+-- What walks cite: a local is lent for one call, at a lifetime of its own or within another; a `&mut` in an `Option`; and a pair of two
+-- machine values. Assumes `Logic`.
 use mathlib.Core.Path.{refl}
 use mathlib.Core.List.{List, [], ◌∷◌}
 use Prim.Native.Nat.{ℕ}
@@ -7,11 +8,12 @@ use mir.Syntax.{named, Lifetime}
 use mir.Val.{Val, vptr, vstruct, vcons, vnil}
 use base.Fraction.{full_share}
 use base.Logic.{SProp, ent, ex, sep}
-use base.Fml.{GName, Lft, fat, flent, flft, fres}
+use base.Fml.{GName, Lft, Share, fat, fdead, flent, flft, fres}
 use types.Logic.{Logic, sem}
-use types.Kit.{‵, ◌⊛◌, some, later, ◌$◌, ◌∵◌, !, qed, move, use1, use2, use3, await, pick, split, fjoin, fpack, feq_i, updating, now, show, done}
+use types.Kit.{‵, raw, ◌⊛◌, some, later, ◌$◌, ◌∵◌, !, qed, move, use1, use2, use3, await, pick, split, fjoin, fpack, feq_i, updating, now, show, done}
 use types.SemTy.{Body}
 use types.Tokens.{lft_new, lft_end}
+use borrow.Within.Token.{Rest, within_token, within_end}
 use borrow.Table.OneValue.{One, part_in, part_out}
 use denote.Lend.{lends_ref, ref_back}
 use denote.Memory.{lone, mem, part_at}
@@ -50,6 +52,35 @@ module _ {M : Type 1} {𝓤 : Ura M} (𝓛 : Logic 𝓤) (R : RattleType) (one :
       qed 𝓛 (‵ (flft (α ∷ []) full_share) ∷ ‵ (flent (α ∷ []) (Body (mem R) b 0 γ)) ∷ ‵ (fres γ (R.coded.code x)) ∷ []) ∵ updating ! $ lft_end ! tt $
       use3 𝓛 (later (‵ (part_at R full_share x b 0))) (ref_back 𝓛 R (α ∷ []) γ x b 0) $ await ! tt $
       use1 𝓛 (some (λ (v : Val). ‵ (fat full_share (lone R.mir) b 0 v) ⊛ ‵ (R.own_val x (v ∷ [])))) (part_out 𝓛 R one full_share x b 0) $ pick ! (λ v. split ! $ now ! $ show ! (Back x) v $ done !)
+
+module _ {M : Type 1} {𝓤 : Ura M} (𝓛 : Logic 𝓤) (R : RattleType) (one : One R) (ℓ : Lifetime) (b : ℕ) (κ : Lft) (s : Share) where
+  -- what the lender keeps of a loan for a new lifetime within κ, for which it gave its token of κ
+  abbrev pub KeptWithin : ℕ × GName → SProp 𝓤
+  KeptWithin n = sep 𝓤 (𝓛.A.lent (n.0 ∷ κ) (Body (mem R) b 0 n.1)) (Rest 𝓛 n.0 s)
+
+  abbrev pub LoanWithin : R.Denot → ℕ × GName → SProp 𝓤
+  LoanWithin x n =
+      sep 𝓤 (sem 𝓛 ((MutRef ℓ (n.0 ∷ κ) R).own_val (record { ref_ptr = (b, 0); ghost_name = n.1; now = x }) (vptr b 0 ∷ []))) (sep 𝓤 (𝓛.A.lft (n.0 ∷ κ) s) (KeptWithin n))
+
+  pub lends_within : (x : R.Denot) (v : Val)
+      → ent 𝓤 (sep 𝓤 (𝓛.H.at full_share (lone R.mir) b 0 v) (sep 𝓤 (sem 𝓛 (R.own_val x (v ∷ []))) (𝓛.A.lft κ s))) (𝓛.H.⇛ (ex 𝓤 (LoanWithin x)))
+  lends_within x v =
+      qed 𝓛 (‵ (fat full_share (lone R.mir) b 0 v) ∷ ‵ (R.own_val x (v ∷ [])) ∷ ‵ (flft κ s) ∷ []) ∵ updating ! $
+      use2 𝓛 (‵ (part_at R full_share x b 0)) (part_in 𝓛 R one full_share x b 0 v) $ lft_new ! tt (λ α. move ! (0 ∷ 2 ∷ []) $
+      use2 𝓛 (‵ (flft (α ∷ κ) s) ⊛ raw (Rest 𝓛 α s)) (within_token 𝓛 α κ s) $ split ! $ move ! (2 ∷ []) $
+      use1 𝓛 (later (some (λ (γ : GName). ‵ ((MutRef ℓ (α ∷ κ) R).own_val (record { ref_ptr = (b, 0); ghost_name = γ; now = x }) (vptr b 0 ∷ [])) ⊛ ‵ (flent (α ∷ κ) (Body (mem R) b 0 γ)))))
+      (lends_ref 𝓛 R ℓ (α ∷ κ) x b 0) $ await ! tt $ pick ! (λ γ. split ! $ now ! $ show ! (LoanWithin x) (α, γ) $ move ! (0 ∷ 2 ∷ 1 ∷ 3 ∷ []) $ done !))
+
+  abbrev BackWithin : R.Denot → Val → SProp 𝓤
+  BackWithin x v = sep 𝓤 (𝓛.H.at full_share (lone R.mir) b 0 v) (sep 𝓤 (sem 𝓛 (R.own_val x (v ∷ []))) (𝓛.A.lft κ s))
+
+  pub back_within : (n : ℕ × GName) (x : R.Denot)
+      → ent 𝓤 (sep 𝓤 (𝓛.A.lft (n.0 ∷ κ) s) (sep 𝓤 (KeptWithin n) (𝓛.A.res n.1 (R.coded.code x)))) (𝓛.H.⇛ (ex 𝓤 (BackWithin x)))
+  back_within n x =
+      qed 𝓛 (‵ (flft (n.0 ∷ κ) s) ∷ (‵ (flent (n.0 ∷ κ) (Body (mem R) b 0 n.1)) ⊛ raw (Rest 𝓛 n.0 s)) ∷ ‵ (fres n.1 (R.coded.code x)) ∷ []) ∵ updating ! $ move ! (1 ∷ []) $ split ! $ move ! (2 ∷ 1 ∷ []) $
+      use2 𝓛 (later (‵ (fdead (n.0 ∷ κ)) ⊛ ‵ (flft κ s))) (within_end 𝓛 n.0 κ s) $ await ! tt $ split ! $ move ! (0 ∷ 2 ∷ 3 ∷ []) $
+      use3 𝓛 (later (‵ (part_at R full_share x b 0))) (ref_back 𝓛 R (n.0 ∷ κ) n.1 x b 0) $ await ! tt $
+      use1 𝓛 (some (λ (v : Val). ‵ (fat full_share (lone R.mir) b 0 v) ⊛ ‵ (R.own_val x (v ∷ [])))) (part_out 𝓛 R one full_share x b 0) $ pick ! (λ v. split ! $ now ! $ show ! (BackWithin x) v $ done !)
 
 -- a `&mut` to a value of the type parameter i
 abbrev pub Lent : (i : ℕ) → RattleType → Lft → RattleType

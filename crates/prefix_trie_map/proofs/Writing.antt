@@ -1,6 +1,6 @@
 -- What a step of a writing walk says of its first entry, that a walk that may have no map steps as what it goes over does, and which keys
 -- are to come of a walk.
-use Rattle.std.proofs.Common.{◌≡◌, Bool, true, List, [], ◌∷◌, map, Option, None, Some, MatchOption, refl, sym, ap, ◌∙◌, subst}
+use Rattle.std.proofs.Common.{◌≡◌, Bool, true, List, [], ◌∷◌, map, Option, None, Some, MatchOption, IfSome, refl, sym, ap, ◌∙◌, subst}
 use Rattle.std.specs.Borrow.{MutBor}
 use Rattle.std.specs.FinMap.{contains_key}
 use Rattle.std.specs.declared.cmp.PartialEq as partial
@@ -14,6 +14,7 @@ use Rattle.prefix_trie_table.proofs.ToCome.{pending_again}
 use Rattle.prefix_trie_map.specs.declared.map.writing.course.Course.{Course}
 use Rattle.prefix_trie_map.specs.declared.map.writing.course.Stop.{Stop}
 use Rattle.prefix_trie_map.specs.Writing.{keys_left, as_walk, key_at, StopsAt, HasValueAt, with_written, IsFirst, GoesOver, ComesToEnd, StartsOver}
+use Rattle.prefix_trie_map.specs.Lending.{lent_beside}
 use Rattle.prefix_trie_map.specs.WritingWalks.{EndsIn, StepsIn}
 
 module _ {P T A R : Type 0} {p : prefix.Ghosts P R} {shows : debug.Ghosts P} {k : key.Ghosts R} {same : partial.Ghosts R} {writes : debug.Ghosts R}
@@ -75,3 +76,18 @@ pub stepped : {C Q V S : Type 0} (IsAt : C → S → Type 0) (Holds : C → S �
 stepped IsAt Holds with First Passes Ends o a b is None h = subst (λ p. EndsIn Ends p (Some b)) (sym is) h
 stepped IsAt Holds with First Passes Ends o a b is (Some x) h =
     subst (λ p. StepsIn IsAt Holds with First Passes p x.0 x.1 (Some b)) (sym is) (record { is_at = h.0; first = h.1; passes = h.2 })
+
+-- a value lent for an entry, whose prefix was handed out beside it
+module _ {Q V : Type 0} (First : Q → V → Type 0) (prefix : Option Q) where
+  abbrev pub HasFirst : Option (MutBor V) → Type 0
+  HasFirst o = IfSome o (λ x. (q : Q) × (prefix ≡ Some q) × First q x.now)
+
+  pub prefix_there : (o : Option (MutBor V)) → HasFirst o → IfSome o (λ x. (q : Q) × (prefix ≡ Some q))
+  prefix_there None first = tt
+  prefix_there (Some x) first = (first.0, first.1)
+
+  pub first_beside : (o : Option (MutBor V)) (answer : Option (Q × MutBor V)) → lent_beside answer ≡ o → IfSome answer (λ r. prefix ≡ Some r.0) → HasFirst o → IfSome answer (λ r. First r.0 r.1.now)
+  first_beside o None lent is first = tt
+  first_beside o (Some r) lent is first =
+      let there : HasFirst (Some r.1) = subst (λ v. HasFirst v) (sym lent) first in
+      subst (λ p. IfSome p (λ q. First q r.1.now)) (sym there.1 ∙ is) there.2

@@ -2,8 +2,9 @@
 //!
 //! Which value comes next depends on the nodes alone, which no write changes. So a walk gives the entries that were selected when it
 //! was made, in listing order, each once, and asks for no memory.
-ghost use Rattle.std.specs.Prelude.{◌≡◌, IfSome, None, MatchOption};
+ghost use Rattle.std.specs.Prelude.{◌≡◌, IfSome, Some, None, MatchOption};
 ghost use Rattle.std.specs.Borrow.{sem, Lends};
+ghost use Rattle.prefix_trie_map.specs.Lending.{lent_beside};
 
 mod calls;
 mod course;
@@ -118,10 +119,39 @@ impl<C: Source> WalkOf<C> {
     /// from `step` with `value`, or from `next_value`.
     #[inline]
     pub fn next(&mut self) -> Option<(C::Prefix, &mut C::Value)>
-        ensures { IfSome result (λ r. FirstIn C.First self.old.course r.0 r.1.now) }
+        ensures* writes_back { sem 𝓛 (lends_next C.row C.Value.row self.entry C.Passes C.Ends (lent_beside result)) }
+        ensures first { IfSome result (λ r. FirstIn C.First self.old.course r.0 r.1.now) }
     {
-        let (prefix, stop) = self.step()?;
-        Some((prefix, self.value(stop)))
+        let mut prefix = None;
+        let value = self.lend_next(&mut prefix);
+        beside(prefix, value)
+    }
+
+    // The answer of `next_value`. The prefix of its entry goes into `prefix`.
+    #[inline]
+    fn lend_next(&mut self, prefix: &mut Option<C::Prefix>) -> Option<&mut C::Value>
+        ensures* writes_back { sem 𝓛 (lends_next C.row C.Value.row self.entry C.Passes C.Ends result) }
+        ensures first { IfSome result (λ x. (q : C.Prefix) × (prefix.new ≡ Some q) × FirstIn C.First self.old.course q x.now) }
+    {
+        let (found, stop) = self.step()?;
+        *prefix = Some(found);
+        Some(self.value(stop))
+    }
+}
+
+// A value lent, beside its prefix.
+#[inline]
+fn beside<'a, P: Drop, T>(prefix: Option<P>, value: Option<&'a mut T>) -> Option<(P, &'a mut T)>
+    requires { IfSome value (λ v. (q : P) × (prefix ≡ Some q)) }
+    ensures lent { lent_beside result ≡ value.entry }
+    ensures prefix { IfSome result (λ r. prefix ≡ Some r.0) }
+{
+    match value {
+        Some(value) => match prefix {
+            Some(prefix) => Some((prefix, value)),
+            None => unreachable!(),
+        },
+        None => None,
     }
 }
 
