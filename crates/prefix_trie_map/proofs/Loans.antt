@@ -1,5 +1,4 @@
--- What walks cite: a local is lent for one call, at a lifetime of its own or within another; a `&mut` in an `Option`; and a pair of two
--- machine values. Assumes `Logic`.
+-- What walks cite: a local is lent for one call, a `&mut` in an `Option`, and a pair of two machine values. Assumes `Logic`.
 use mathlib.Core.Path.{refl}
 use mathlib.Core.List.{List, [], ◌∷◌}
 use Prim.Native.Nat.{ℕ}
@@ -12,7 +11,7 @@ use base.Fml.{GName, Lft, Share, fat, fdead, flent, flft, fres}
 use types.Logic.{Logic, sem}
 use types.Kit.{‵, raw, ◌⊛◌, some, later, ◌$◌, ◌∵◌, !, qed, move, use1, use2, use3, await, pick, split, fjoin, fpack, feq_i, updating, now, show, done}
 use types.SemTy.{Body}
-use types.Tokens.{lft_new, lft_end}
+use types.Tokens.{lft_new}
 use borrow.Within.Token.{Rest, within_token, within_end}
 use borrow.Table.OneValue.{One, part_in, part_out}
 use denote.Lend.{lends_ref, ref_back}
@@ -29,32 +28,8 @@ use denote.Struct.Laws.{mut_ref_laws}
 use denote.Struct.Struct.{within}
 use denote.Struct.Tuple.{Tuple, tuple_type}
 
-module _ {M : Type 1} {𝓤 : Ura M} (𝓛 : Logic 𝓤) (R : RattleType) (one : One R) (ℓ : Lifetime) (b : ℕ) where
-  -- a new lifetime and the name of what is lent for it
-  abbrev Loan : R.Denot → ℕ × GName → SProp 𝓤
-  Loan x n =
-      sep 𝓤 (sem 𝓛 ((MutRef ℓ (n.0 ∷ []) R).own_val (record { ref_ptr = (b, 0); ghost_name = n.1; now = x }) (vptr b 0 ∷ [])))
-      (sep 𝓤 (𝓛.A.lft (n.0 ∷ []) full_share) (𝓛.A.lent (n.0 ∷ []) (Body (mem R) b 0 n.1)))
-
-  pub lends_local : (x : R.Denot) (v : Val) → ent 𝓤 (sep 𝓤 (𝓛.H.at full_share (lone R.mir) b 0 v) (sem 𝓛 (R.own_val x (v ∷ [])))) (𝓛.H.⇛ (ex 𝓤 (Loan x)))
-  lends_local x v =
-      qed 𝓛 (‵ (fat full_share (lone R.mir) b 0 v) ∷ ‵ (R.own_val x (v ∷ [])) ∷ []) ∵ updating ! $
-      use2 𝓛 (‵ (part_at R full_share x b 0)) (part_in 𝓛 R one full_share x b 0 v) $ lft_new ! tt (λ α. move ! (1 ∷ []) $
-      use1 𝓛 (later (some (λ (γ : GName). ‵ ((MutRef ℓ (α ∷ []) R).own_val (record { ref_ptr = (b, 0); ghost_name = γ; now = x }) (vptr b 0 ∷ [])) ⊛ ‵ (flent (α ∷ []) (Body (mem R) b 0 γ)))))
-      (lends_ref 𝓛 R ℓ (α ∷ []) x b 0) $ await ! tt $ pick ! (λ γ. split ! $ now ! $ show ! (Loan x) (α, γ) $ move ! (0 ∷ 2 ∷ 1 ∷ []) $ done !))
-
-  abbrev Back : R.Denot → Val → SProp 𝓤
-  Back x v = sep 𝓤 (𝓛.H.at full_share (lone R.mir) b 0 v) (sem 𝓛 (R.own_val x (v ∷ [])))
-
-  pub local_back : (α : ℕ) (γ : GName) (x : R.Denot)
-      → ent 𝓤 (sep 𝓤 (𝓛.A.lft (α ∷ []) full_share) (sep 𝓤 (𝓛.A.lent (α ∷ []) (Body (mem R) b 0 γ)) (𝓛.A.res γ (R.coded.code x)))) (𝓛.H.⇛ (ex 𝓤 (Back x)))
-  local_back α γ x =
-      qed 𝓛 (‵ (flft (α ∷ []) full_share) ∷ ‵ (flent (α ∷ []) (Body (mem R) b 0 γ)) ∷ ‵ (fres γ (R.coded.code x)) ∷ []) ∵ updating ! $ lft_end ! tt $
-      use3 𝓛 (later (‵ (part_at R full_share x b 0))) (ref_back 𝓛 R (α ∷ []) γ x b 0) $ await ! tt $
-      use1 𝓛 (some (λ (v : Val). ‵ (fat full_share (lone R.mir) b 0 v) ⊛ ‵ (R.own_val x (v ∷ [])))) (part_out 𝓛 R one full_share x b 0) $ pick ! (λ v. split ! $ now ! $ show ! (Back x) v $ done !)
-
 module _ {M : Type 1} {𝓤 : Ura M} (𝓛 : Logic 𝓤) (R : RattleType) (one : One R) (ℓ : Lifetime) (b : ℕ) (κ : Lft) (s : Share) where
-  -- what the lender keeps of a loan for a new lifetime within κ, for which it gave its token of κ
+  -- what the lender keeps of a loan for a new lifetime within κ, for which it gave a token of κ: that of [] is free
   abbrev pub KeptWithin : ℕ × GName → SProp 𝓤
   KeptWithin n = sep 𝓤 (𝓛.A.lent (n.0 ∷ κ) (Body (mem R) b 0 n.1)) (Rest 𝓛 n.0 s)
 

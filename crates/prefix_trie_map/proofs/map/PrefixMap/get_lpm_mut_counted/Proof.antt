@@ -6,7 +6,7 @@ use mir.Val.{Val, vint, vptr}
 use mir.MapTy.{inst_fn}
 use base.Fraction.{full_share}
 use base.Logic.{ent, emp, id⊢}
-use base.Fml.{Fml, GName, ftrue, fat, flft, flent}
+use base.Fml.{Fml, GName, ftrue, fat, flft}
 use contract.BorrowLft.{◌⊑◌}
 use contract.Monad.{fact, fact_i}
 use contract.Running.{tables}
@@ -14,12 +14,11 @@ use types.Kit.{‵, raw, ◌⊛◌, some, later, ◌$◌, ◌∵◌, !, qed, don
 use types.Part.{agg}
 use types.Run.{enter, of_opd, lit, addr, from, stop, no_more, and_then, returns}
 use types.ByLocal.{alloc_all, pass_all, free_all, look_at, get, through, sets, lands_as, take_at, give_at}
-use types.SemTy.{Body}
 use denote.Builtin.{u32}
 use denote.Param.{param, copied, bounded}
 use denote.Param.Laws.{Laws, param_laws}
 use denote.Exit.{yes, no}
-use denote.Memory.{lone, mem}
+use denote.Memory.{lone}
 use denote.Plain.{uint_Lawful, uint_Makes}
 use denote.RattleType.{RattleType}
 use denote.Ref.{MutRef, ShrRef, mut_vals, mut_Tells, shr_vals, shr_Tells, shr_copy}
@@ -44,7 +43,7 @@ use Rattle.prefix_trie_map.specs.contracts.map.PrefixMap as map
 use Rattle.prefix_trie_map.specs.contracts.map.visits.Visits as visits
 use Rattle.prefix_trie_map.proofs.map.visits.Visits.TheLaws.{the_row_laws as visits_laws}
 use Rattle.prefix_trie_map.proofs.Lending.{lent_shown}
-use Rattle.prefix_trie_map.proofs.Loans.{Lent, lent_laws, lends_local, local_back, pair_of, pair_val}
+use Rattle.prefix_trie_map.proofs.Loans.{Lent, lent_laws, KeptWithin, lends_within, back_within, pair_of, pair_val}
 use Rattle.prefix_trie_map.specs.contracts.map.visits.Visits.new as new
 use Rattle.prefix_trie_map.proofs.map.visits.Visits.new.Met.{met as new_met}
 use Rattle.prefix_trie_map.specs.contracts.map.PrefixMap.get_lpm_mut_counted as f
@@ -104,12 +103,12 @@ get_lpm_mut_counted_spec 𝓤 𝓛 𝓜 𝓡 wired P T A R lP lT lA lR cR p p' d
     peeks ! V _ (shows 𝓛 V) r (v ∷ []) (λ is. let ok = ((visits_laws.lawful 𝓛).typed r (v ∷ []) is).0 in
     lands_as ! refl refl ok $ sets ! (of_opd ! (get ! refl)) refl ok $ sets ! (of_opd ! (lit ! tt)) refl (tt, record { fits = lit< tt }) $
     sets ! (addr ! (through ! refl (stop !))) refl (tt, tt) $ sets ! (addr ! (from ! (stop !))) refl (tt, tt) $ sets ! (addr ! (from ! (stop !))) refl (tt, tt) $
-    take_at ! 3 $ use2 𝓛 (later (some (λ (n : ℕ × GName). ‵ ((MutRef (named 3) (n.0 ∷ []) V).own_val (record { ref_ptr = (l 3, 0); ghost_name = n.1; now = r }) (vptr (l 3) 0 ∷ []))
-    ⊛ ‵ (flft (n.0 ∷ []) full_share) ⊛ ‵ (flent (n.0 ∷ []) (Body (mem V) (l 3) 0 n.1))))) (lends_local 𝓛 V refl (named 3) (l 3) r v) $
+    take_at ! 3 $ use0 𝓛 (‵ (flft [] full_share)) (𝓛.lfts.lft-nil full_share) $ move ! (1 ∷ 2 ∷ 0 ∷ []) $ use3 𝓛 (later (some (λ (n : ℕ × GName). ‵ ((MutRef (named 3) (n.0 ∷ []) V).own_val (record { ref_ptr = (l 3, 0); ghost_name = n.1; now = r }) (vptr (l 3) 0 ∷ []))
+    ⊛ ‵ (flft (n.0 ∷ []) full_share) ⊛ raw (KeptWithin 𝓛 V refl (named 3) (l 3) [] full_share n)))) (lends_within 𝓛 V refl (named 3) (l 3) [] full_share r v) $
     await ! tt $ pick ! (λ loan. let β = loan.0 in split ! $ move ! (1 ∷ []) $ split ! $
     owned ! u32 _ (uint_Makes 𝓛 w32) 0 _ (refl, lit< tt) $
-    take_at ! 4 $ use2 𝓛 (later (some (λ (n : ℕ × GName). ‵ ((MutRef (named 2) (n.0 ∷ []) u32).own_val (record { ref_ptr = (l 4, 0); ghost_name = n.1; now = 0 }) (vptr (l 4) 0 ∷ []))
-    ⊛ ‵ (flft (n.0 ∷ []) full_share) ⊛ ‵ (flent (n.0 ∷ []) (Body (mem u32) (l 4) 0 n.1))))) (lends_local 𝓛 u32 refl (named 2) (l 4) 0 (vint w32 0)) $
+    take_at ! 4 $ use0 𝓛 (‵ (flft [] full_share)) (𝓛.lfts.lft-nil full_share) $ move ! (1 ∷ 2 ∷ 0 ∷ []) $ use3 𝓛 (later (some (λ (n : ℕ × GName). ‵ ((MutRef (named 2) (n.0 ∷ []) u32).own_val (record { ref_ptr = (l 4, 0); ghost_name = n.1; now = 0 }) (vptr (l 4) 0 ∷ []))
+    ⊛ ‵ (flft (n.0 ∷ []) full_share) ⊛ raw (KeptWithin 𝓛 u32 refl (named 2) (l 4) [] full_share n)))) (lends_within 𝓛 u32 refl (named 2) (l 4) [] full_share 0 (vint w32 0)) $
     await ! tt $ pick ! (λ other. let α = other.0 in split ! $ move ! (1 ∷ []) $ split ! $
     -- [the token of `found`, its way back, the loan; the counter's likewise; prefix, twice; self; the tokens]
     let G = triple_of 𝓛 (h.signature P T A R p p' d d' k k' n n' e e' s s' w w' g g' xP xT xA) (h.spec P T A R p p' d d' k k' n n' e e' s s' w w' g g' xP xT xA 𝓛 𝓜.mem 𝓡.returns) in
@@ -130,10 +129,10 @@ get_lpm_mut_counted_spec 𝓤 𝓛 𝓜 𝓡 wired P T A R lP lT lA lR cR p p' d
     ⊛ ‵ (lends o) ⊛ raw (fact 𝓤 (Value es.1.1.0 o)) ⊛ raw (fact 𝓤 (Within es.1.1.0 o)) ⊛ raw (fact 𝓤 (Exact es.1.1.1.0)) ⊛ raw (fact 𝓤 (Bound es.1.1.1.0)))))) (id⊢ 𝓤 _) $
     await ! tt $ pick ! (λ o. split ! $ split ! $ split ! $ move ! (1 ∷ []) $ split ! $ move ! (1 ∷ []) $ split ! $ move ! (1 ∷ []) $ split ! $
     move ! (6 ∷ []) $ pick ! (λ es. let i = es.1.1.0 in let j = es.1.1.1.0 in split ! $ fsplit ! $ drop ! $ fsplit ! $ drop ! $ fsplit ! $ fsplit ! $ move ! (2 ∷ []) $ fsplit ! $ fsplit ! $
-    move ! (6 ∷ 13 ∷ 0 ∷ []) $ use3 𝓛 (later (some (λ (x : Val). ‵ (fat full_share (lone V.mir) (l 3) 0 x) ⊛ ‵ (V.own_val j (x ∷ []))))) (local_back 𝓛 V refl (named 3) (l 3) β loan.1 j) $
-    await ! tt $ pick ! (λ x. split ! $ give_at ! 3 $
-    move ! (7 ∷ 11 ∷ 3 ∷ []) $ use3 𝓛 (later (some (λ (x : Val). ‵ (fat full_share (lone u32.mir) (l 4) 0 x) ⊛ ‵ (u32.own_val i (x ∷ []))))) (local_back 𝓛 u32 refl (named 2) (l 4) α other.1 i) $
-    await ! tt $ pick ! (λ length_val. split ! $ give_at ! 4 $
+    move ! (6 ∷ 13 ∷ 0 ∷ []) $ use3 𝓛 (later (some (λ (x : Val). ‵ (fat full_share (lone V.mir) (l 3) 0 x) ⊛ ‵ (V.own_val j (x ∷ [])) ⊛ ‵ (flft [] full_share)))) (back_within 𝓛 V refl (named 3) (l 3) [] full_share loan j) $
+    await ! tt $ pick ! (λ x. split ! $ give_at ! 3 $ split ! $ move ! (1 ∷ []) $ drop ! $
+    move ! (7 ∷ 11 ∷ 3 ∷ []) $ use3 𝓛 (later (some (λ (x : Val). ‵ (fat full_share (lone u32.mir) (l 4) 0 x) ⊛ ‵ (u32.own_val i (x ∷ [])) ⊛ ‵ (flft [] full_share)))) (back_within 𝓛 u32 refl (named 2) (l 4) [] full_share other i) $
+    await ! tt $ pick ! (λ length_val. split ! $ give_at ! 4 $ split ! $ move ! (1 ∷ []) $ drop ! $
     move ! (2 ∷ []) $ drop ! $ move ! (2 ∷ []) $ drop ! $ move ! (2 ∷ []) $ drop ! $ move ! (2 ∷ []) $ split ! $ move ! (1 ∷ []) $ split ! $ heard ! (Value i o) (λ value.
     split ! $ heard ! (Within i o) (λ within. split ! $ heard ! (Exact j) (λ exact. heard ! (Bound j) (λ bound.
     -- [what self follows; the length; the counter; the tokens of the type parameters, of prefix and of self; the value lent; prefix]

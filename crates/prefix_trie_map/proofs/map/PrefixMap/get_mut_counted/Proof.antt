@@ -6,7 +6,7 @@ use mir.Val.{Val, vptr}
 use mir.MapTy.{inst_fn}
 use base.Fraction.{full_share}
 use base.Logic.{emp, id⊢}
-use base.Fml.{Fml, GName, ftrue, fat, flft, flent}
+use base.Fml.{Fml, GName, ftrue, fat, flft}
 use contract.Monad.{fact, fact_i}
 use contract.Running.{tables}
 use types.Kit.{‵, raw, ◌⊛◌, some, later, ◌$◌, ◌∵◌, !, qed, done, move, keep, drop, use0, use1, use2, use3, split, join, fsplit, fjoin, pick, await, suffices, frame}
@@ -20,8 +20,7 @@ use denote.Ref.{MutRef, ShrRef, mut_vals, mut_Tells, shr_vals, shr_Tells}
 use denote.Signature.{plain, mut_ref_to, shr_ref_to}
 use denote.Steps.{nothing, heard, peeks}
 use denote.Laws.{shows}
-use denote.Memory.{lone, mem}
-use types.SemTy.{Body}
+use denote.Memory.{lone}
 use denote.Triple.Call.{calls_at}
 use denote.Triple.Clauses.{lasts}
 use denote.Triple.Spec.{triple_of}
@@ -44,7 +43,7 @@ use Rattle.prefix_trie_map.specs.contracts.map.visits.Visits.new as new
 use Rattle.prefix_trie_map.proofs.map.visits.Visits.new.Met.{met as new_met}
 use Rattle.prefix_trie_map.specs.contracts.map.PrefixMap.lend_entry as h
 use Rattle.prefix_trie_map.proofs.map.PrefixMap.lend_entry.Met.{met as h_met}
-use Rattle.prefix_trie_map.proofs.Loans.{Lent, lent_laws, lends_local, local_back, pair_of, pair_val}
+use Rattle.prefix_trie_map.proofs.Loans.{Lent, lent_laws, KeptWithin, lends_within, back_within, pair_of, pair_val}
 use Rattle.prefix_trie_map.proofs.map.PrefixMap.get_mut_counted.Statement.{statement}
 use Rattle.prefix_trie_map.proofs.map.PrefixMap.get_mut_counted.Code as code
 
@@ -85,8 +84,8 @@ get_mut_counted_spec 𝓤 𝓛 𝓜 𝓡 wired P T A R lP lT lA lR cR p p' d d' 
     lands_as ! refl refl ok $ sets ! (of_opd ! (get ! refl)) refl ok $
     sets ! (addr ! (through ! refl (stop !))) refl (tt, tt) $
     sets ! (addr ! (from ! (stop !))) refl (tt, tt) $
-    take_at ! 3 $ use2 𝓛 (later (some (λ (n : ℕ × GName). ‵ ((MutRef (named 2) (n.0 ∷ []) V).own_val (record { ref_ptr = (l 3, 0); ghost_name = n.1; now = r }) (vptr (l 3) 0 ∷ []))
-    ⊛ ‵ (flft (n.0 ∷ []) full_share) ⊛ ‵ (flent (n.0 ∷ []) (Body (mem V) (l 3) 0 n.1))))) (lends_local 𝓛 V refl (named 2) (l 3) r v) $
+    take_at ! 3 $ use0 𝓛 (‵ (flft [] full_share)) (𝓛.lfts.lft-nil full_share) $ move ! (1 ∷ 2 ∷ 0 ∷ []) $ use3 𝓛 (later (some (λ (n : ℕ × GName). ‵ ((MutRef (named 2) (n.0 ∷ []) V).own_val (record { ref_ptr = (l 3, 0); ghost_name = n.1; now = r }) (vptr (l 3) 0 ∷ []))
+    ⊛ ‵ (flft (n.0 ∷ []) full_share) ⊛ raw (KeptWithin 𝓛 V refl (named 2) (l 3) [] full_share n)))) (lends_within 𝓛 V refl (named 2) (l 3) [] full_share r v) $
     await ! tt $ pick ! (λ loan. let α = loan.0 in let γ = loan.1 in split ! $ move ! (1 ∷ []) $ split ! $ move ! (2 ∷ 1 ∷ []) $
     -- [the counter; its way back; its token; self; prefix; the tokens of self, of prefix, and of the type parameters; what is asked]
     let G = triple_of 𝓛 (h.signature P T A R p p' d d' k k' n n' e e' s s' w w' g g' xP xT xA) (h.spec P T A R p p' d d' k k' n n' e e' s s' w w' g g' xP xT xA 𝓛 𝓜.mem 𝓡.returns) in
@@ -110,8 +109,8 @@ get_mut_counted_spec 𝓤 𝓛 𝓜 𝓡 wired P T A R lP lT lA lR cR p p' d d' 
     await ! tt $ pick ! (λ o. split ! $ split ! $ split ! $ move ! (1 ∷ []) $ split ! $ move ! (1 ∷ []) $ split ! $
     -- [the counter's token; the tokens of the type parameters, of prefix and of self; the value lent; what is ensured; the counter's way back]
     move ! (5 ∷ []) $ pick ! (λ es. let j = es.1.1.0 in split ! $ fsplit ! $ drop ! $ fsplit ! $ drop ! $ fsplit ! $ fsplit ! $
-    move ! (4 ∷ 9 ∷ 0 ∷ []) $ use3 𝓛 (later (some (λ (x : Val). ‵ (fat full_share (lone V.mir) (l 3) 0 x) ⊛ ‵ (V.own_val j (x ∷ []))))) (local_back 𝓛 V refl (named 2) (l 3) α γ j) $
-    await ! tt $ pick ! (λ x. split ! $ give_at ! 3 $
+    move ! (4 ∷ 9 ∷ 0 ∷ []) $ use3 𝓛 (later (some (λ (x : Val). ‵ (fat full_share (lone V.mir) (l 3) 0 x) ⊛ ‵ (V.own_val j (x ∷ [])) ⊛ ‵ (flft [] full_share)))) (back_within 𝓛 V refl (named 2) (l 3) [] full_share loan j) $
+    await ! tt $ pick ! (λ x. split ! $ give_at ! 3 $ split ! $ move ! (1 ∷ []) $ drop ! $
     move ! (1 ∷ []) $ drop ! $ move ! (1 ∷ []) $ drop ! $ move ! (1 ∷ []) $ split ! $ move ! (1 ∷ []) $ split ! $ heard ! (Value o) (λ value. split ! $ heard ! (Exact j) (λ exact. heard ! (Bound j) (λ bound.
     -- [what self follows; the counter; the tokens of the type parameters, of prefix and of self; the value lent]
     let Pair : RattleType = Tuple (Found ∷ V ∷ []) in
