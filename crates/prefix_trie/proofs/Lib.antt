@@ -8,3 +8,7 @@ pub mod Swapping
 mod SameKeys
 pub mod Collecting
 mod Units
+mod Stored
+mod Lookups
+mod Paths
+mod Networks

@@ -1,32 +1,85 @@
--- What is left of the entries of a map that are put into another, one after the other.
-use Rattle.std.proofs.Common.{◌≡◌, ℕ, Bool, List, ◌∷◌, sym, ap, ◌∙◌}
+-- What a loop leaves that puts the entries of one map into another, and how its invariant goes on.
+use Rattle.std.proofs.Common.{◌≡◌, ℕ, Bool, true, false, cond, T, List, [], ◌∷◌, Option, Some, None, refl, sym, ap, ◌∙◌}
+use lib.Dec.{T as IsT}
 use Rattle.std.specs.List.{All}
+use Rattle.std.specs.Option.{option_or}
+use Rattle.std.specs.FinMap.{entries_sorted, get, get-entries, is_sorted, find}
 use Rattle.std.proofs.lemmas.List.Elements.{All-head, All-tail, All-same}
 use Rattle.prefix_trie_bits.specs.Keys.{PrefixLaws}
-use Rattle.prefix_trie_bits.specs.Model.Entries.{Entries, AreWithin, put_all, with_entry}
+use Rattle.prefix_trie_bits.specs.Order.{listing_cmp, same_string}
+use Rattle.prefix_trie_bits.specs.Model.Entries.{Entries, AreWithin, no_entries, put_all, with_entry}
 use Rattle.prefix_trie_bits.specs.Model.Selections.{listing, shown}
-use Rattle.prefix_trie_map.proofs.Listed.{listed_fit}
+use Rattle.prefix_trie_bits.proofs.Model.Members.{get-with_entry, same_string-is, same_entries}
+use Rattle.prefix_trie_bits.proofs.Model.Ordered.{each-behind, not_itself, sorted-head, sorted-tail}
+use Rattle.prefix_trie.specs.Laws.Putting.{Leads, PutLaws}
+use Rattle.prefix_trie_map.proofs.Listed.{listed_fit, listed_paths}
+use Rattle.prefix_trie.proofs.Stored.{stored_laws}
 
 module _ {P T : Type 0} (path : P → List Bool) (IsFitting : P → Type 0) where
-  -- each prefix still to come fits, and what is still to be put leads to the whole
-  abbrev pub Leads : List (P × T) → Entries T → Entries T → Type 0
-  Leads left now whole = All (λ e. IsFitting e.0) left × (put_all path left now ≡ whole)
-
-  -- so the next one fits
-  pub next_fits : (now : Entries T) {item : P × T} {rest left : List (P × T)} {whole : Entries T} → left ≡ item ∷ rest → Leads left now whole → IsFitting item.0
+  -- the next prefix fits
+  pub next_fits : (now : Entries T) {item : P × T} {rest left : List (P × T)} {whole : Entries T} → left ≡ item ∷ rest → Leads path IsFitting left now whole → IsFitting item.0
   next_fits now {item = item} {rest = rest} {left = left} first leads =
       All-head (λ e. IsFitting e.0) item rest (All-same (λ e. IsFitting e.0) (item ∷ rest) left (sym first) leads.0)
 
   -- and once it is put, the rest leads there still
-  pub leads_on : (now : Entries T) {item : P × T} {rest left : List (P × T)} {then whole : Entries T} → left ≡ item ∷ rest → then ≡ with_entry now (path item.0) item.1 → Leads left now whole → Leads rest then whole
+  pub leads_on : (now : Entries T) {item : P × T} {rest left : List (P × T)} {then whole : Entries T} → left ≡ item ∷ rest → then ≡ with_entry now (path item.0) item.1 → Leads path IsFitting left now whole → Leads path IsFitting rest then whole
   leads_on now {item = item} {rest = rest} {left = left} first put leads = (
     All-tail (λ e. IsFitting e.0) item rest (All-same (λ e. IsFitting e.0) (item ∷ rest) left (sym first) leads.0),
     ap (put_all path rest) put ∙ ap (λ xs. put_all path xs now) (sym first) ∙ leads.1,
   )
 
--- a walk of a map leads to all its entries put
-pub all_lead : {K P T : Type 0} {w : ℕ} {IsKey : K → Type 0} {bits : K → List Bool} {key_of : List Bool → K} {repr_of : P → K} {len_of : P → ℕ} {path : P → List Bool} {IsFitting : P → Type 0} {from_parts : K → ℕ → P} {back : List Bool → P} →
-    PrefixLaws w IsKey bits key_of repr_of len_of path IsFitting from_parts back → (from to : Entries T) → AreWithin w from → {walk : List (P × T)} → walk ≡ shown back (listing from) →
-    Leads path IsFitting walk to (put_all path (shown back (listing from)) to)
-all_lead {path = path} {IsFitting = IsFitting} {back = back} laws from to within {walk = walk} gives =
-    (All-same (λ e. IsFitting e.0) walk (shown back (listing from)) gives (listed_fit laws from within), ap (λ xs. put_all path xs to) gives)
+module _ {P T : Type 0} (path : P → List Bool) (back : List Bool → P) where
+  -- a string is not found behind its place in a sorted list
+  not_behind : (x : List Bool × T) (es : List (List Bool × T)) (s : List Bool) → IsT (is_sorted listing_cmp (x ∷ es)) → same_string s x.0 ≡ true → find listing_cmp s es ≡ None
+  not_behind x es s sorted same = elim (find listing_cmp s es) as (λ o. find listing_cmp s es ≡ o → o ≡ None) [
+    | None ↦ λ _. refl
+    | Some v ↦ λ found. absurd (not_itself x.0 s (each-behind x.0 es s v (sorted-head x es sorted) found) (sym (same_string-is s x.0 same)))
+  ] refl
+
+  -- pairs put in turn: of each key the value that stands among them, or else the one that was there
+  pairs_put : (es : List (List Bool × T)) (to : Entries T) → IsT (is_sorted listing_cmp es) → All (λ e. path (back e.0) ≡ e.0) es → (s : List Bool) →
+      get (put_all path (shown back es) to) s ≡ option_or (find listing_cmp s es) (get to s)
+  pairs_put [] to sorted paths s = refl
+  pairs_put (x ∷ es) to sorted paths s =
+      pairs_put es (with_entry to (path (back x.0)) x.1) (sorted-tail x es sorted) (All-tail (λ e. path (back e.0) ≡ e.0) x es paths) s
+      ∙ ap (λ k. option_or (find listing_cmp s es) (get (with_entry to k x.1) s)) (All-head (λ e. path (back e.0) ≡ e.0) x es paths)
+      ∙ ap (λ o. option_or (find listing_cmp s es) o) (get-with_entry to x.0 x.1 s)
+      ∙ elim (same_string s x.0) as (λ b. same_string s x.0 ≡ b → option_or (find listing_cmp s es) (cond b (Some x.1) (get to s)) ≡ option_or (cond b (Some x.1) (find listing_cmp s es)) (get to s)) [
+        | true ↦ λ same. ap (λ o. option_or o (Some x.1)) (not_behind x es s sorted same)
+        | false ↦ λ _. refl
+      ] refl
+
+or_none : {T : Type 0} (o : Option T) → option_or o None ≡ o
+or_none None = refl
+or_none (Some v) = refl
+
+module _ {K P : Type 0} {w : ℕ} {IsKey : K → Type 0} {bits : K → List Bool} {key_of : List Bool → K} {repr_of : P → K} {len_of : P → ℕ} {path : P → List Bool} {IsFitting : P → Type 0} {from_parts : K → ℕ → P} {back : List Bool → P} (laws : PrefixLaws w IsKey bits key_of repr_of len_of path IsFitting from_parts back) {T : Type 0} (from : Entries T) (within : AreWithin w from) where
+  -- a walk over a whole map leads to all its entries put
+  pub all_lead : (to : Entries T) (walk : List (P × T)) → walk ≡ shown back (listing from) → Leads path IsFitting walk to (put_all path (shown back (listing from)) to)
+  all_lead to walk gives =
+      (All-same (λ e. IsFitting e.0) walk (shown back (listing from)) gives (listed_fit laws from within), ap (λ xs. put_all path xs to) gives)
+
+  map_put : (to : Entries T) (s : List Bool) → get (put_all path (shown back (listing from)) to) s ≡ option_or (get from s) (get to s)
+  map_put to s =
+      pairs_put path back (listing from) to (entries_sorted from) (listed_paths laws from within) s
+      ∙ ap (λ o. option_or o (get to s)) (sym (get-entries from s))
+
+  copied : put_all path (shown back (listing from)) no_entries ≡ from
+  copied = same_entries (put_all path (shown back (listing from)) no_entries) from (λ s. map_put no_entries s ∙ ap (option_or (get from s)) ((stored_laws T).nothing s) ∙ or_none (get from s))
+
+  -- into an empty map a walk leads to the whole map
+  starts_empty : (to : Entries T) → to ≡ no_entries → (walk : List (P × T)) → walk ≡ shown back (listing from) → Leads path IsFitting walk to from
+  starts_empty to empty walk gives =
+      let leads = all_lead to walk gives in
+      (leads.0, leads.1 ∙ ap (put_all path (shown back (listing from))) empty ∙ copied)
+
+pub put_laws : {K P : Type 0} {w : ℕ} {IsKey : K → Type 0} {bits : K → List Bool} {key_of : List Bool → K} {repr_of : P → K} {len_of : P → ℕ} {path : P → List Bool} {IsFitting : P → Type 0} {from_parts : K → ℕ → P} {back : List Bool → P} →
+    PrefixLaws w IsKey bits key_of repr_of len_of path IsFitting from_parts back → (T : Type 0) → PutLaws T w path IsFitting back
+put_laws {path = path} {IsFitting = IsFitting} laws T = record {
+  starts = λ from to within. all_lead laws from within to;
+  starts_empty = λ from to within. starts_empty laws from within to;
+  next_fits = λ now whole item rest left. next_fits path IsFitting now;
+  goes_on = λ now next whole item rest left. leads_on path IsFitting now;
+  put = λ from to within. map_put laws from within to;
+  copied = λ from within. copied laws from within;
+}

@@ -5,6 +5,7 @@
 //! the map's entries as they were. What each call does is proved: its contract says what it answers and what it makes of the map.
 #![tactic(auto)]
 
+pub mod laws;
 pub mod map;
 pub mod replay;
 pub mod set;

@@ -4,7 +4,7 @@ use Rattle.prefix_trie.proofs.tests.taking.pour.Goals as goal
 pub loop-prefix-init : goal.loop-prefix-init
 loop-prefix-init g c =
     let gives = c.into_iter-prefix-iterator.ensures.into_iter_gives in
-    (tt, tt, all_lead g.met.P.Prefix.prefix_laws c.args.from.entries c.args.to.now.entries gives.4.is_map.keys_within gives.0)
+    (tt, tt, all_lead g.met.P.Prefix.prefix_laws c.args.from.entries gives.4.is_map.keys_within c.args.to.now.entries _ gives.0)
 
 pub insert-requires : goal.insert-requires
 insert-requires g c = next_fits g.P.Prefix.path g.P.Prefix.IsFitting c.loop-prefix.to.entries {item = (c.in-Some.prefix, c.in-Some.value)} c.in-Some.ensures.steps c.loop-prefix.invariant.2

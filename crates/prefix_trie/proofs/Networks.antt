@@ -1,0 +1,50 @@
+-- The path of a network, in numbers.
+use Rattle.std.proofs.Common.{◌≡◌, ℕ, ◌+◌, ◌-◌, ◌^◌, ◌/◌, ◌<◌, ◌≤◌, length, take, nat_eq, refl, sym, ap, ◌∙◌, subst, arith, eqb-true, eq-eqb, Option, Some, None}
+use Rattle.std.specs.Option.{IfSome, option_map}
+use Rattle.std.proofs.lemmas.List.{length-take-le, take_all}
+use Rattle.std.proofs.lemmas.Nat.{shr_below}
+use Rattle.prefix_trie_bits.specs.Bits.{begins, digits, number}
+use Rattle.prefix_trie_bits.specs.BitStrings.{length-digits, take-digits, number_of_digits}
+use Rattle.prefix_trie_bits.specs.Begins.{same_bool, begins-take, begins-from-take}
+use Rattle.prefix_trie.specs.Laws.Networks.{NetworkLaws}
+
+-- the number that the first len bits of a number of w bits write has len bits
+first_below : (w n len : ℕ) → n < 2 ^ w → len ≤ w → n / 2 ^ (w - len) < 2 ^ len
+first_below w n len small within = shr_below n len (w - len) (subst (λ k. n < 2 ^ k) (sym (split w len within)) small)
+  where
+    split : (a c : ℕ) → c ≤ a → c + (a - c) ≡ a
+    split a c h = omega arith
+
+module _ (w network addr len : ℕ) (network_small : network < 2 ^ w) (addr_small : addr < 2 ^ w) (within : len ≤ w) where
+  path_long : length (take len (digits w network)) ≡ len
+  path_long = length-take-le len (digits w network) (omega (arith, length-digits w network, within))
+
+  contains : begins (take len (digits w network)) (digits w addr) ≡ nat_eq (network / 2 ^ (w - len)) (addr / 2 ^ (w - len))
+  contains =
+      same_bool _ _
+      (λ b.
+      let same : take len (digits w addr) ≡ take len (digits w network) = ap (λ n. take n (digits w addr)) (sym path_long) ∙ begins-take (take len (digits w network)) (digits w addr) b in
+      eq-eqb (network / 2 ^ (w - len)) (addr / 2 ^ (w - len))
+      (sym (number_of_digits len (network / 2 ^ (w - len)) (first_below w network len network_small within))
+      ∙ ap number (sym (take-digits len w network within) ∙ sym same ∙ take-digits len w addr within)
+      ∙ number_of_digits len (addr / 2 ^ (w - len)) (first_below w addr len addr_small within)))
+      (λ b.
+      begins-from-take (take len (digits w network)) (digits w addr) len
+      (take-digits len w addr within ∙ ap (digits len) (sym (eqb-true (network / 2 ^ (w - len)) (addr / 2 ^ (w - len)) b)) ∙ sym (take-digits len w network within)))
+
+whole : (w addr : ℕ) → take w (digits w addr) ≡ digits w addr
+whole w addr = take_all w (digits w addr) (omega (arith, length-digits w addr))
+
+counted : (w : ℕ) (count : Option ℕ) → IfSome count (λ n. n < 2 ^ w) → option_map (λ n. number (digits w n)) count ≡ count
+counted w None small = refl
+counted w (Some n) small = ap Some (number_of_digits w n small)
+
+pub network_laws : NetworkLaws
+network_laws = record {
+  ipv4_host = whole 32;
+  ipv6_host = whole 128;
+  ipv4_contains = contains 32;
+  ipv6_contains = contains 128;
+  ipv4_count = counted 32;
+  ipv6_count = counted 128;
+}

@@ -1,0 +1,5 @@
+use Rattle.prefix_trie.proofs.Stored.{stored_laws}
+use Rattle.prefix_trie.proofs.laws.stored_laws.Goals as goal
+
+pub returns : goal.returns
+returns g c = stored_laws _

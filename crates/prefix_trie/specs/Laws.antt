@@ -1,0 +1,6 @@
+-- What a caller's proof needs of maps, as statements for contracts.
+pub mod Stored
+pub mod Lookups
+pub mod Putting
+pub mod Paths
+pub mod Networks

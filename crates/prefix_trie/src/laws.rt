@@ -1,0 +1,38 @@
+//! What a caller's own contract says of maps, and what follows from it. Each function does nothing: its contract is a record of laws,
+//! so that the check proves it. A caller calls one, and its proof has the laws.
+
+ghost use Rattle.prefix_trie.specs.Laws.Stored.{StoredLaws};
+ghost use Rattle.prefix_trie.specs.Laws.Lookups.{LookupLaws};
+ghost use Rattle.prefix_trie.specs.Laws.Putting.{PutLaws};
+ghost use Rattle.prefix_trie.specs.Laws.Networks.{NetworkLaws};
+ghost use Rattle.prefix_trie.specs.Laws.Paths.{PathLaws};
+
+pub use prefix_trie_bits::laws::{address_laws, listing_laws, match_laws, slot_laws};
+use prefix_trie_bits::prefix::Prefix;
+pub use prefix_trie_map::laws::{copy_laws, cover_laws, listed_laws, resume_laws};
+
+/// What is stored once a key was set or taken out; and two maps that have the same value at each key are one.
+pub fn stored_laws<T>()
+    ensures { StoredLaws T }
+{}
+
+/// What lookups find: the longest match, and whether there is one; and what the longest match is once a key was set or taken out.
+pub fn lookup_laws<P, T>()
+    ensures { LookupLaws P T }
+{}
+
+/// What a loop leaves that puts the entries of one map into another, and how its invariant goes on.
+pub fn put_laws<P: Prefix, T>()
+    ensures { PutLaws T P.R.bit_width P.path P.IsFitting P.back }
+{}
+
+/// A path is as long as its prefix says; of a prefix of full length it is the whole number; and the prefix with a path has that path.
+pub fn path_laws<P: Prefix>()
+    ensures { PathLaws P.R.bit_width P.R.bits P.repr_of P.len_of P.path P.IsFitting P.back }
+{}
+
+/// Of IPv4 and IPv6: the path of the network of one address is that address, which addresses a network contains, by numbers, and what
+/// `address_count` answers as a number.
+pub fn network_laws()
+    ensures { NetworkLaws }
+{}
