@@ -11,6 +11,7 @@ mod cover;
 mod entries;
 mod entry_callers;
 mod example;
+mod examples;
 mod filling;
 mod growth;
 mod iter;

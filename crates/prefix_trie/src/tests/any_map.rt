@@ -1,32 +1,19 @@
 //! What a caller learns of a map that was handed to it, whatever was done to it before.
-ghost use Rattle.std.specs.Prelude.{◌≡◌, false, filter, IfOk, OnOk};
+ghost use Rattle.std.specs.Prelude.{◌≡◌, false, filter, IfOk};
 ghost use Rattle.std.specs.FinMap.{contains_key, len};
 ghost use Rattle.prefix_trie_bits.specs.Laws.Slots.{MakesSlots};
-ghost use Rattle.prefix_trie_bits.specs.Model.Entries.{put_all};
 ghost use Rattle.prefix_trie_bits.specs.Model.Nodes.{IsTidy, needed};
-ghost use Rattle.prefix_trie_bits.specs.Model.Selections.{listing, shown};
+ghost use Rattle.prefix_trie_bits.specs.Model.Selections.{listing};
 ghost use Rattle.prefix_trie_map.specs.Steps.{storage};
 
+use crate::tests::examples::merge::merge;
 use crate::tests::on_new::{on_new, on_two_new};
 use crate::tests::retain::keep_from;
-use crate::{Prefix, PrefixMap, Refused};
+use crate::{Prefix, PrefixMap};
 use prefix_trie_bits::laws::slot_laws;
 use prefix_trie_map::laws::copy_laws;
 use std::alloc::{AllocError, Allocator, Global};
 use std::test::Fail;
-
-// Puts all entries of one map into another, and stops where one is refused.
-fn put_into<P: Prefix, A: Allocator>(
-    to: &mut PrefixMap<P, u64, A>,
-    from: &PrefixMap<P, u64, A>,
-) -> Result<(), Refused<u64>>
-    ensures { OnOk result (to.new.entries ≡ put_all P.path (shown P.back (listing from.now.entries)) to.old.entries) }
-{
-    for (prefix, value) in from {
-        to.insert(prefix, *value)?;
-    }
-    Ok(())
-}
 
 // Keeps the entries whose prefixes another map stores too.
 fn keep_common<P: Prefix, A: Allocator>(
@@ -152,7 +139,7 @@ fn put_two(map: &mut Numbers) -> bool {
 
 /// Whether the two entries of one map, put into the other, are all that is common to both.
 fn has_common(to: &mut Numbers, from: &Numbers) -> bool {
-    let is_put = to.insert((0x0b00, 8), 1) == Ok(None) && put_into(to, from).is_ok();
+    let is_put = to.insert((0x0b00, 8), 1) == Ok(None) && merge(to, from).is_ok();
     let len = to.len();
     keep_common(to, from);
     is_put & (len == 3) & to.keys().eq([(0x0a00, 8), (0x0a0b, 16)])

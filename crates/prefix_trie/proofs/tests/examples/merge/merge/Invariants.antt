@@ -1,7 +1,5 @@
-use Rattle.prefix_trie_bits.specs.Model.Entries.{put_all}
-use Rattle.prefix_trie_bits.specs.Model.Selections.{listing, shown}
-use Rattle.prefix_trie.proofs.Putting.{Leads}
-use Rattle.prefix_trie.proofs.tests.any_map.put_into.Given as goal
+use Rattle.prefix_trie.specs.Words.{Leads, put_all, shown, listing}
+use Rattle.prefix_trie.proofs.tests.examples.merge.merge.Given as goal
 
 abbrev pub invariant-loop-prefix : goal.invariant-loop-prefix
 invariant-loop-prefix g l =

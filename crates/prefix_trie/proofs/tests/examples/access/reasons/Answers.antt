@@ -1,0 +1,8 @@
+use Rattle.std.proofs.Common.{rules, ◌≡◌, List, Bool, map, subst}
+use Rattle.std.specs.Result.{IfOk}
+use Rattle.prefix_trie.specs.Words.{covers, ipv4_back}
+use Rattle.prefix_trie.proofs.tests.examples.access.reasons.Goals as goal
+
+pub returns : goal.returns
+returns g c =
+    subst (λ q. IfOk c.collect.result (λ networks. networks.items ≡ map (λ (e : List Bool × Unit {0}). ipv4_back e.0) (covers c.args.denied.now.entries q))) c.host.ensures.path (search rules)

@@ -1,0 +1,11 @@
+use Rattle.std.proofs.Common.{rules, ◌≡◌, ℕ, List, Bool, Option, sym, subst}
+use Rattle.std.specs.Option.{MatchOption, option_map}
+use Rattle.prefix_trie.specs.Words.{ipv4_address, longest_match, IsLongestMatch, IsUncovered}
+use Rattle.prefix_trie.proofs.tests.examples.forwarding.next_hop.Goals as goal
+
+pub returns : goal.returns
+returns g c =
+    let routes = c.args.table.now.entries in
+    let addr = ipv4_address c.args.addr in
+    let hop : c.copied.result ≡ option_map (λ route. route.1) (longest_match routes addr) = search rules in
+    subst (λ (o : Option ℕ). MatchOption o (IsUncovered routes addr) (λ v. (route : List Bool) × IsLongestMatch routes addr (route, v))) (sym hop) (c.lookup_laws.ensures.value routes addr)

@@ -1,0 +1,76 @@
+//! Programs over the crate as a user writes them, each with a contract of its own.
+pub mod access;
+pub mod copy;
+pub mod forwarding;
+pub mod inventory;
+pub mod merge;
+
+use crate::tests::on_new::{on_new, on_two_new};
+use crate::{Ipv4Prefix, PrefixMap, PrefixSet};
+use access::{may_enter, reasons};
+use copy::copied;
+use forwarding::{add, next_hop};
+use inventory::{addresses, count, next};
+use std::alloc::{AllocError, Global};
+use std::test::Fail;
+
+type Numbers = PrefixMap<Ipv4Prefix, u32, Global>;
+
+type Networks = PrefixSet<Ipv4Prefix, Global>;
+
+/// Whether a copy has as many entries.
+fn is_copied(map: &Numbers, alloc: Global) -> bool {
+    match copied(map, alloc) {
+        Ok(copy) => copy.len() == map.len(),
+        Err(_) => false,
+    }
+}
+
+/// Whether a network and one within it are a forwarding table, and an inventory.
+fn stands_for_both(map: &mut Numbers, alloc: Global) -> bool {
+    let wide = Ipv4Prefix::new(0x0a00_0000, 8).unwrap();
+    let near = Ipv4Prefix::new(0x0a01_0000, 16).unwrap();
+    add(map, wide, 1).is_ok()
+        && add(map, near, 2).is_ok()
+        && next_hop(map, 0x0a01_0203) == Some(2)
+        && next_hop(map, 0x0a02_0203) == Some(1)
+        && next_hop(map, 0x0b00_0000).is_none()
+        && next(map, wide) == Some((near, 2))
+        && count(map, wide) == 2
+        && addresses(map) == Some(0x0100_0000)
+        && is_copied(map, alloc)
+}
+
+/// Whether the networks that keep an address out are this one.
+fn is_reason(denied: &Networks, addr: u32, network: Ipv4Prefix, alloc: Global) -> bool {
+    match reasons(denied, addr, alloc) {
+        Ok(networks) => networks.as_slice() == [network].as_slice(),
+        Err(AllocError) => false,
+    }
+}
+
+/// Whether a network within an allowed one is kept out, and no other address of that.
+fn keeps_out(allowed: &mut Networks, denied: &mut Networks, alloc: Global) -> bool {
+    let wide = Ipv4Prefix::new(0x0a00_0000, 8).unwrap();
+    let near = Ipv4Prefix::new(0x0a01_0000, 16).unwrap();
+    allowed.insert(wide) == Ok(true)
+        && denied.insert(near) == Ok(true)
+        && may_enter(allowed, denied, 0x0a02_0203)
+        && !may_enter(allowed, denied, 0x0a01_0203)
+        && !may_enter(allowed, denied, 0x0b00_0000)
+        && is_reason(denied, 0x0a01_0203, near, alloc)
+}
+
+#[test]
+fn examples_run(rt: HostRuntime) -> Result<(), Fail> {
+    assert!(rt; on_new(PrefixMap::new(rt.alloc()), rt.alloc(), stands_for_both)?);
+    assert!(rt;
+        on_two_new(
+            PrefixSet::new(rt.alloc()),
+            PrefixSet::new(rt.alloc()),
+            rt.alloc(),
+            keeps_out
+        )?
+    );
+    Ok(())
+}
