@@ -83,33 +83,35 @@ pub enum Reply<P: Prefix, A: Allocator> {
 /// longest stored beginning of that path and its value, and `Spm` the shortest. `Remove` and `RemoveKeepTree` take the
 /// entry at that path out and give its value, `RemoveChildren` takes out those whose paths that of its prefix begins,
 /// `RetainAtLeast` those whose paths are shorter than the length that it is handed, and `Clear` all of them. `Len` gives the
-/// number of entries, `AddressCount` that of the bit strings of the full width that some of their paths begin, `List` all of them, each once and in listing order, `ListFrom` those of them that are behind the path of
-/// its prefix, with the one there if it is asked for, `Children` those whose paths that of its prefix begins, and `Cover` those
-/// whose paths begin it, the shortest first.
+/// number of entries, `AddressCount` that of the bit strings of the full width that some of their paths begin, `List` all of
+/// them, each once and in listing order, `ListFrom` those of them that are behind the path of its prefix, with the one there if
+/// it is asked for, `Children` those whose paths that of its prefix begins, and `Cover` those whose paths begin it, the
+/// shortest first.
 ///
 /// `NodeCount` gives the number of nodes. They too are those of the model: `Insert` adds those that lack on its path,
 /// `Remove` takes those away that have nothing left, from the node of its path upward, `RemoveChildren` all below the node of
 /// its path and then the same, `RetainAtLeast` leaves those that the entries left need, `Clear` leaves the root alone, and the
 /// other calls leave the nodes as they are.
 ///
-/// Asks that every prefix handed in fits. Room for all replies is asked for first, so `Err` means that no call was carried
-/// out. An insertion that is refused is answered by the cause, `IndexRange` only where the slots that one insertion may need
-/// would pass the limit, and a list for which no memory is found by `Refused(Memory)`. Each leaves the entries and the nodes of the
-/// map as they were, and the run goes on.
+/// Asks that every prefix handed in fits. An insertion that is refused is answered by the cause, `IndexRange` only where the slots that
+/// one insertion may need would pass the limit, and a list for which no memory is found by `Refused(Memory)`. Each leaves the entries
+/// and the nodes of the map as they were, and the run goes on.
+///
+/// Errors: where a request for memory is refused for the replies. Room for all of them is asked for first, so no call was carried out.
 ///
 /// ```text
 /// let mut map = PrefixMap::new(alloc)?;
 /// run(alloc, &mut map, &[
-///     Call::Insert((0x0a01_0000_u32, 16_u8), 1),   Reply::Value(None)
-///     Call::Get((0x0a01_0203, 32)),                Reply::Value(None)
-///     Call::Lpm((0x0a01_0203, 32)),                Reply::Match(Some(((0x0a01_0000, 16), 1)))
-///     Call::Len,                                   Reply::Count(1)
-///     Call::ListFrom((0x0a01_0000, 16), false),    Reply::Entries([])
-///     Call::Children((0x0a00_0000, 8)),            Reply::Entries([((0x0a01_0000, 16), 1)])
-///     Call::Cover((0x0a01_0203, 32)),              Reply::Entries([((0x0a01_0000, 16), 1)])
-///     Call::Remove((0x0a01_0203, 16)),             Reply::Value(Some(1))
-///     Call::NodeCount,                             Reply::Count(1)
-///     Call::List,                                  Reply::Entries([])
+///     Call::Insert(10.1.0.0/16, 1),         Reply::Value(None)
+///     Call::Get(10.1.2.3/32),               Reply::Value(None)
+///     Call::Lpm(10.1.2.3/32),               Reply::Match(Some((10.1.0.0/16, 1)))
+///     Call::Len,                            Reply::Count(1)
+///     Call::ListFrom(10.1.0.0/16, false),   Reply::Entries([])
+///     Call::Children(10.0.0.0/8),           Reply::Entries([(10.1.0.0/16, 1)])
+///     Call::Cover(10.1.2.3/32),             Reply::Entries([(10.1.0.0/16, 1)])
+///     Call::Remove(10.1.2.3/16),            Reply::Value(Some(1))
+///     Call::NodeCount,                      Reply::Count(1)
+///     Call::List,                           Reply::Entries([])
 /// ])
 /// ```
 pub fn run<P: Prefix, A: Allocator + Clone>(
@@ -144,6 +146,8 @@ pub fn run<P: Prefix, A: Allocator + Clone>(
 ///
 /// A lookup reads exactly the nodes on its way, or those down to the shortest match, and at most one for each five bits of its
 /// prefix and one more. `run` has the rest.
+///
+/// Errors: as of `run`.
 pub fn run_counted<P: Prefix, A: Allocator + Clone>(
     alloc: A,
     map: &mut PrefixMap<P, u64, A>,

@@ -34,11 +34,11 @@ use std::marker::Model;
 ///
 /// ```text
 /// let mut set = PrefixSet::new(alloc)?;
-/// set.insert((0x0a010000_u32, 16_u8))       Ok(true)
-/// set.insert((0x0a01ffff_u32, 16_u8))       Ok(false), since both have one path
-/// set.contains(&(0x0a010000_u32, 16_u8))    true
-/// set.contains(&(0x0a010000_u32, 17_u8))    false
-/// set.get_lpm(&(0x0a010203_u32, 32_u8))     Some((0x0a010000, 16))
+/// set.insert(10.1.0.0/16)                  Ok(true)
+/// set.insert(10.1.255.255/16)              Ok(false), since both have one path
+/// set.contains(&10.1.0.0/16)               true
+/// set.contains(&10.1.0.0/17)               false
+/// set.get_lpm(&10.1.2.3/32)                Some(10.1.0.0/16)
 /// ```
 #[derive(Drop)]
 pub struct PrefixSet<P: Prefix, A: Allocator> {
@@ -58,9 +58,9 @@ impl<P: Prefix, A: Allocator> Model for PrefixSet<P, A> {
 }
 
 impl<P: Prefix, A: Allocator + Clone> PrefixSet<P, A> {
-    /// An empty set. Refused only for memory, and then no set exists.
+    /// An empty set. Neither of its arrays will ever be longer than `u32::MAX` slots.
     ///
-    /// Neither of its arrays will ever be longer than `u32::MAX` slots.
+    /// Errors: `Memory` where a request for memory is refused. Then no set exists.
     #[inline]
     pub fn new(alloc: A) -> Result<Self, Refusal>
         ensures entries { IfOk result (λ set. set.entries ≡ no_entries) }
@@ -74,13 +74,15 @@ impl<P: Prefix, A: Allocator + Clone> PrefixSet<P, A> {
         })
     }
 
-    /// An empty set whose two arrays, of nodes and of keys, are never longer than `limit` slots. Refused with `IndexRange`
-    /// where `limit` is 0, since the root needs a slot, and else only for memory. Refused, no set exists.
+    /// An empty set whose two arrays, of nodes and of keys, are never longer than `limit` slots.
+    ///
+    /// Errors: `IndexRange` where `limit` is 0, since the root needs a slot, and else `Memory` where a request for memory is refused.
+    /// Then no set exists.
     ///
     /// ```text
     /// let mut set = PrefixSet::with_slot_limit(alloc, 4)?;
-    /// set.insert((0_u32, 32_u8))    Err(IndexRange), since it needs six nodes more
-    /// set.insert((0_u32, 4_u8))     Ok(true)
+    /// set.insert(0.0.0.0/32)    Err(IndexRange), since it needs six nodes more
+    /// set.insert(0.0.0.0/4)     Ok(true)
     /// ```
     #[inline]
     pub fn with_slot_limit(alloc: A, limit: u32) -> Result<Self, Refusal>
@@ -96,16 +98,18 @@ impl<P: Prefix, A: Allocator + Clone> PrefixSet<P, A> {
         })
     }
 
-    /// A set with the same keys and nodes, in memory of its own. Refused only where memory is; then no copy exists.
+    /// A set with the same keys and nodes, in memory of its own.
     ///
     /// It copies slot by slot, free ones too: both arrays are as long as those of this set, with the same blocks and the same
     /// limit.
     ///
+    /// Errors: only where a request for memory is refused. Then no copy exists.
+    ///
     /// ```text
-    /// set.insert((0x0a010000_u32, 16_u8))       Ok(true)
+    /// set.insert(10.1.0.0/16)         Ok(true)
     /// let mut copy = set.clone()?;
-    /// copy.remove(&(0x0a010000_u32, 16_u8))     true
-    /// set.contains(&(0x0a010000_u32, 16_u8))    true, since it shares nothing with its copy
+    /// copy.remove(&10.1.0.0/16)       true
+    /// set.contains(&10.1.0.0/16)      true, since it shares nothing with its copy
     /// ```
     pub fn clone(&self) -> Result<Self, AllocError>
         ensures { IfOk result (λ copy. copy ≡ self.now) }
@@ -181,9 +185,9 @@ impl<P: Prefix, A: Allocator> PrefixSet<P, A> {
 
     /// Puts a prefix in, and answers whether it is new. A stored prefix is never refused.
     ///
-    /// A new one is refused with `Memory` where a request for memory is refused, and with `IndexRange` where the slots of the
-    /// blocks that lack pass the limit. Refused, the set has the keys that it had. One insertion makes at most 56 slots for
-    /// nodes and 31 for keys (`slot_laws`).
+    /// Errors: of a new prefix `Memory` where a request for memory is refused, and `IndexRange` where the slots of the blocks that
+    /// lack pass the limit. The set has the keys that it had. One insertion makes at most 56 slots for nodes and 31 for keys
+    /// (`slot_laws`).
     #[inline]
     pub fn insert(&mut self, prefix: P) -> Result<bool, Refusal>
         requires { P.IsFitting prefix }

@@ -47,15 +47,16 @@ pub use writing::{IterMut, ValuesMut};
 
 /// A map from prefixes to values, in memory of the allocator `A`.
 ///
-/// Prefixes are not kept: of a key the map knows its path alone. Every call that takes a prefix asks that it fits.
+/// Prefixes are not kept: of a key the map knows its path alone. Every call that takes a prefix asks that it fits. In examples
+/// `10.1.0.0/16` stands for the prefix of that address and length.
 ///
 /// ```text
 /// let mut map = PrefixMap::new(alloc)?;
-/// map.insert((0x0a010000_u32, 16_u8), 1)   Ok(None)
-/// map.insert((0x0a01ffff_u32, 16_u8), 2)   Ok(Some(1)), since both have one path
-/// map.get(&(0x0a010000_u32, 16_u8))        Some(&2)
-/// map.get(&(0x0a010000_u32, 17_u8))        None
-/// map.get_lpm(&(0x0a010203_u32, 32_u8))    Some(((0x0a010000, 16), &2))
+/// map.insert(10.1.0.0/16, 1)              Ok(None)
+/// map.insert(10.1.255.255/16, 2)          Ok(Some(1)), since both have one path
+/// map.get(&10.1.0.0/16)                   Some(&2)
+/// map.get(&10.1.0.0/17)                   None
+/// map.get_lpm(&10.1.2.3/32)               Some((10.1.0.0/16, &2))
 /// ```
 #[derive(Drop)]
 pub struct PrefixMap<P: Prefix, T: Drop, A: Allocator> {
@@ -79,9 +80,9 @@ impl<P: Prefix, T: Drop, A: Allocator> Model for PrefixMap<P, T, A> {
 }
 
 impl<P: Prefix, T: Drop, A: Allocator + Clone> PrefixMap<P, T, A> {
-    /// An empty map. Refused only for memory, and then no map exists.
+    /// An empty map. Neither of its arrays will ever be longer than `u32::MAX` slots.
     ///
-    /// Neither of its arrays will ever be longer than `u32::MAX` slots.
+    /// Errors: `Memory` where a request for memory is refused. Then no map exists.
     #[inline]
     pub fn new(alloc: A) -> Result<Self, Refusal>
         ensures entries { IfOk result (λ map. map.entries ≡ no_entries) }
@@ -115,9 +116,9 @@ impl<P: Prefix, T: Drop, A: Allocator> PrefixMap<P, T, A> {
 
     /// Sets the value for a prefix, and answers the one that was there before. A stored prefix is never refused.
     ///
-    /// A new one is refused with `Memory` where a request for memory is refused, and with `IndexRange` where the slots of the
-    /// blocks that lack pass the limit. Refused, it hands the value back, and the map has the entries that it had. One insertion
-    /// makes at most 56 slots for nodes and 31 for values (`slot_laws`).
+    /// Errors: of a new prefix `Memory` where a request for memory is refused, and `IndexRange` where the slots of the blocks that
+    /// lack pass the limit. It hands the value back, and the map has the entries that it had. One insertion makes at most 56
+    /// slots for nodes and 31 for values (`slot_laws`).
     #[inline]
     pub fn insert(&mut self, prefix: P, value: T) -> Result<Option<T>, Refused<T>>
         requires { P.IsFitting prefix }

@@ -33,9 +33,9 @@ impl Model for Note {
 ///
 /// ```text
 /// run_counted(alloc, &mut map, &[
-///     Call::Insert((0x0a01_0000_u32, 16_u8), 1),   None
-///     Call::Get((0x0a01_0000, 16)),                Some(4): the nodes of the lengths 0, 5, 10 and 15
-///     Call::Spm((0x0b00_0000, 8)),                 Some(2), the nodes that there are on the way
+///     Call::Insert(10.1.0.0/16, 1),   None
+///     Call::Get(10.1.0.0/16),         Some(4): the nodes of the lengths 0, 5, 10 and 15
+///     Call::Spm(11.0.0.0/8),          Some(2), the nodes that there are on the way
 /// ])
 /// ```
 #[derive(Drop)]

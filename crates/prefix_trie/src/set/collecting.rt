@@ -15,12 +15,12 @@ impl<P: Prefix, A: Allocator + Clone> PrefixSet<P, A> {
     /// The set of the prefixes that an iterator gives, put in in turn. It has the limit of `new`. Asks that the iterator comes to
     /// its end, and that each prefix that it gives fits.
     ///
-    /// It is refused as `insert` is, for memory, or for the limit where the prefixes are very many: each makes at most 56 slots
-    /// of an array. Refused, no set exists, and what was taken is dropped.
+    /// Errors: as of `insert`, `Memory`, or `IndexRange` where the prefixes are very many: each makes at most 56 slots of an array.
+    /// Then no set exists, and what was taken is dropped.
     ///
     /// ```text
-    /// PrefixSet::from_iter(alloc, vec![in alloc; (0x0a010000_u32, 16_u8), (0x0a01ffff, 16)]?)?
-    ///     has one key, (0x0a010000, 16), since both have one path
+    /// PrefixSet::from_iter(alloc, vec![in alloc; 10.1.0.0/16, 10.1.255.255/16]?)?
+    ///     has one key, 10.1.0.0/16, since both have one path
     /// ```
     pub fn from_iter<I: IntoIterator<Item = P> + Drop>(alloc: A, items: I) -> Result<Self, Refusal>
         requires ends { (it : I.IntoIter) → I.into_iter_gives items it → I.IntoIter.can_next it × IsFinite (I.IntoIter.remaining it) }

@@ -20,7 +20,7 @@ pub type Iter<'a, P, A> = Keys<'a, P, (), A>;
 
 /// The keys of a set in listing order, each as a prefix without host bits. It owns the set's memory.
 ///
-/// Its `clone` has the same keys to come, in memory of its own, and is refused only where memory is.
+/// Its `clone` has the same keys to come, in memory of its own. Errors: only where a request for memory is refused.
 pub type IntoIter<P, A> = IntoKeys<P, (), A>;
 
 impl<P: Prefix, A: Allocator> PrefixSet<P, A> {

@@ -13,9 +13,9 @@ impl<P: Prefix, A: Allocator> PrefixSet<P, A> {
     ///
     /// ```text
     /// 10.1.0.0/16 is stored
-    /// set.contains(10.1.0.0/16)    true
-    /// set.contains(10.1.2.3/16)    true, since host bits do not count
-    /// set.contains(10.1.0.0/17)    false
+    /// set.contains(&10.1.0.0/16)    true
+    /// set.contains(&10.1.2.3/16)    true, since host bits do not count
+    /// set.contains(&10.1.0.0/17)    false
     /// ```
     #[inline]
     pub fn contains(&self, prefix: &P) -> bool
@@ -38,7 +38,7 @@ impl<P: Prefix, A: Allocator> PrefixSet<P, A> {
     ///
     /// ```text
     /// 10.1.0.0/16 is stored
-    /// set.get(10.1.2.3/16)    Some(10.1.0.0/16)
+    /// set.get(&10.1.2.3/16)   Some(10.1.0.0/16)
     /// ```
     #[inline]
     pub fn get(&self, prefix: &P) -> Option<P>
@@ -55,9 +55,9 @@ impl<P: Prefix, A: Allocator> PrefixSet<P, A> {
     ///
     /// ```text
     /// 10.0.0.0/8 and 10.1.0.0/16 are stored
-    /// set.get_lpm(10.1.2.3/32)   Some(10.1.0.0/16), and get_spm gives Some(10.0.0.0/8)
-    /// set.get_lpm(10.2.0.0/16)   Some(10.0.0.0/8), as get_spm
-    /// set.get_lpm(11.0.0.0/8)    None, as get_spm
+    /// set.get_lpm(&10.1.2.3/32)   Some(10.1.0.0/16), and get_spm gives Some(10.0.0.0/8)
+    /// set.get_lpm(&10.2.0.0/16)   Some(10.0.0.0/8), as get_spm
+    /// set.get_lpm(&11.0.0.0/8)    None, as get_spm
     /// ```
     #[inline]
     pub fn get_lpm(&self, prefix: &P) -> Option<P>

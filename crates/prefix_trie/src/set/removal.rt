@@ -21,9 +21,9 @@ impl<P: Prefix, A: Allocator> PrefixSet<P, A> {
     /// array (`slot_laws`).
     ///
     /// ```text
-    /// set.insert((0x0a010000_u32, 16_u8))      Ok(true)
-    /// set.remove(&(0x0a010203_u32, 16_u8))     true
-    /// set.remove(&(0x0a010000_u32, 16_u8))     false
+    /// set.insert(10.1.0.0/16)      Ok(true)
+    /// set.remove(&10.1.2.3/16)     true
+    /// set.remove(&10.1.0.0/16)     false
     /// ```
     #[inline]
     pub fn remove(&mut self, prefix: &P) -> bool
@@ -42,9 +42,9 @@ impl<P: Prefix, A: Allocator> PrefixSet<P, A> {
     /// refused.
     ///
     /// ```text
-    /// set.insert((0_u32, 32_u8))          Ok(true), and node_count is 7
-    /// set.remove_keep_tree(&(0, 32))      true, and node_count is 7
-    /// set.remove(&(0, 32))                false, and node_count is 1
+    /// set.insert(0.0.0.0/32)                 Ok(true), and node_count is 7
+    /// set.remove_keep_tree(&0.0.0.0/32)      true, and node_count is 7
+    /// set.remove(&0.0.0.0/32)                false, and node_count is 1
     /// ```
     #[inline]
     pub fn remove_keep_tree(&mut self, prefix: &P) -> bool
@@ -65,7 +65,7 @@ impl<P: Prefix, A: Allocator> PrefixSet<P, A> {
     ///
     /// ```text
     /// 10.1.0.0/16, 10.1.2.0/24 and 10.2.0.0/16 are stored
-    /// set.remove_children(10.1.0.0/16)
+    /// set.remove_children(&10.1.0.0/16)
     /// set.iter()                          gives 10.2.0.0/16
     /// ```
     #[inline]

@@ -8,17 +8,18 @@ use std::alloc::{AllocError, Allocator};
 use std::marker::PhantomData;
 
 impl<P: Prefix, T: Clone, A: Allocator + Clone> PrefixMap<P, T, A> {
-    /// A map with the same keys and nodes, whose values are clones, in memory of its own. Refused only where memory is, for
-    /// the arrays or for a value; then no copy exists.
+    /// A map with the same keys and nodes, whose values are clones, in memory of its own.
     ///
     /// It copies slot by slot, free ones too: both arrays are as long as those of this map, with the same blocks and the
     /// same limit. Each value is cloned once, and all memory for the arrays is asked for before the first one is.
     ///
+    /// Errors: only where a request for memory is refused, for the arrays or for a value. Then no copy exists.
+    ///
     /// ```text
-    /// map.insert((0x0a010000_u32, 16_u8), 1)       Ok(None)
+    /// map.insert(10.1.0.0/16, 1)        Ok(None)
     /// let mut copy = map.clone()?;
-    /// copy.insert((0x0a010000_u32, 16_u8), 2)      Ok(Some(1))
-    /// map.get(&(0x0a010000_u32, 16_u8))            Some(&1), since it shares nothing with its copy
+    /// copy.insert(10.1.0.0/16, 2)       Ok(Some(1))
+    /// map.get(&10.1.0.0/16)             Some(&1), since it shares nothing with its copy
     /// ```
     pub fn clone(&self) -> Result<Self, AllocError>
         ensures entries { IfOk result (λ copy. AreCloned T.is_clone self.now.entries copy.entries) }

@@ -16,12 +16,12 @@ impl<P: Prefix, T: Drop, A: Allocator + Clone> PrefixMap<P, T, A> {
     /// The map of the items that an iterator gives, inserted in turn: of two with the same path the later value stays. It has
     /// the limit of `new`. Asks that the iterator comes to its end, and that each prefix that it gives fits.
     ///
-    /// It is refused as `insert` is, for memory, or for the limit where the items are very many: each makes at most 56 slots
-    /// of an array. Refused, no map exists, and what was taken is dropped.
+    /// Errors: as of `insert`, `Memory`, or `IndexRange` where the items are very many: each makes at most 56 slots of an array. Then
+    /// no map exists, and what was taken is dropped.
     ///
     /// ```text
-    /// PrefixMap::from_iter(alloc, vec![in alloc; ((0x0a010000_u32, 16_u8), 1), ((0x0a01ffff, 16), 2)]?)?
-    ///     has one entry, 2 at (0x0a010000, 16), since both have one path
+    /// PrefixMap::from_iter(alloc, vec![in alloc; (10.1.0.0/16, 1), (10.1.255.255/16, 2)]?)?
+    ///     has one entry, 2 at 10.1.0.0/16, since both have one path
     /// ```
     pub fn from_iter<I: IntoIterator<Item = (P, T)> + Drop>(
         alloc: A,

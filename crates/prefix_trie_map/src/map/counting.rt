@@ -19,8 +19,8 @@ impl<P: Prefix, T: Drop, A: Allocator> PrefixMap<P, T, A> {
     /// nodes once, free ones too.
     ///
     /// ```text
-    /// map.insert((0_u32, 32_u8), 1)   Ok(None), in a new map
-    /// map.node_count()                7: the root, and a node for each five bits of the way
+    /// map.insert(0.0.0.0/32, 1)   Ok(None), in a new map
+    /// map.node_count()            7: the root, and a node for each five bits of the way
     /// ```
     #[inline]
     pub fn node_count(&self) -> usize

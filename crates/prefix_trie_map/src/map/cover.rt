@@ -22,7 +22,7 @@ impl<P: Prefix, T: Drop, A: Allocator> PrefixMap<P, T, A> {
     ///
     /// ```text
     /// 10.0.0.0/8, 10.1.0.0/16, 10.1.1.0/24, 10.1.1.0/25 and 11.0.0.0/8 are stored
-    /// map.cover(10.1.1.0/24)   gives 10.0.0.0/8, 10.1.0.0/16 and 10.1.1.0/24
+    /// map.cover(&10.1.1.0/24)   gives 10.0.0.0/8, 10.1.0.0/16 and 10.1.1.0/24
     /// ```
     #[inline]
     pub fn cover(&self, prefix: &P) -> Cover<'_, P, T, A>

@@ -213,8 +213,9 @@ impl<'a, P: Prefix, T: Drop, A: Allocator> Entry<'a, P, T, A> {
         }
     }
 
-    /// The value, for writing. If the prefix is not stored, this value is inserted first. It is refused as `PrefixMap::insert` is,
-    /// and then hands the value back; never where the prefix is stored.
+    /// The value, for writing. If the prefix is not stored, this value is inserted first.
+    ///
+    /// Errors: as of `PrefixMap::insert`, with the value handed back; never where the prefix is stored.
     #[inline]
     pub fn or_insert(self, value: T) -> Result<&'a mut T, Refused<T>>
         ensures* writes_back { sem 𝓛 (lends_filled P.row T.row A.row P.R.row P.Debug P.R.PartialEq P.R.Debug A.Allocator (λ refused. refused.cause) self.entry result) }
@@ -229,9 +230,11 @@ impl<'a, P: Prefix, T: Drop, A: Allocator> Entry<'a, P, T, A> {
     }
 
     /// The same with the value that a closure gives. It is called only if the prefix is not stored, once, and when all room is
-    /// certain; where the call is refused it is not called.
+    /// certain.
     ///
     /// Asks that the closure may be called, if the prefix is not stored.
+    ///
+    /// Errors: as of `PrefixMap::insert`, and then the closure is not called; never where the prefix is stored.
     #[inline]
     pub fn or_insert_with<F: FnOnce() -> T + Drop>(self, f: F) -> Result<&'a mut T, Refusal>
         requires { entry_value self ≡ None → F.pre f }
@@ -246,6 +249,8 @@ impl<'a, P: Prefix, T: Drop, A: Allocator> Entry<'a, P, T, A> {
     }
 
     /// The same with the default value, which is made as `or_insert_with` calls its closure.
+    ///
+    /// Errors: as of `or_insert_with`.
     #[inline]
     pub fn or_default(self) -> Result<&'a mut T, Refusal>
     where

@@ -129,8 +129,9 @@ impl<P: Prefix, T: Drop, A: Allocator> IntoIter<P, T, A> {
 }
 
 impl<P: Prefix, T: Clone, A: Allocator + Clone> IntoIter<P, T, A> {
-    /// A walk with the same prefixes to come, whose values are clones, in memory of its own. Refused only where memory is, for
-    /// the arrays or for a value; then no copy exists.
+    /// A walk with the same prefixes to come, whose values are clones, in memory of its own.
+    ///
+    /// Errors: only where a request for memory is refused, for the arrays or for a value. Then no copy exists.
     ///
     /// ```text
     /// a walk has (10.0.0.0/8, 1) and (10.1.0.0/16, 2) to come
@@ -187,7 +188,9 @@ impl<P: Prefix, T: Drop, A: Allocator> Keyed for IntoIter<P, T, A> {
 pub type IntoKeys<P, T, A> = KeysOf<IntoIter<P, T, A>>;
 
 impl<P: Prefix, T: Clone, A: Allocator + Clone> KeysOf<IntoIter<P, T, A>> {
-    /// A walk with the same prefixes to come. It clones the values still there; refused as `IntoIter::clone`.
+    /// A walk with the same prefixes to come. It clones the values still there.
+    ///
+    /// Errors: as of `IntoIter::clone`.
     pub fn clone(&self) -> Result<Self, AllocError>
         ensures { IfOk result (λ copy. copy ≡ self.now) }
     {
@@ -221,7 +224,9 @@ impl<P: Prefix, T: Drop, A: Allocator> IntoValues<P, T, A> {
 }
 
 impl<P: Prefix, T: Clone, A: Allocator + Clone> IntoValues<P, T, A> {
-    /// A walk with clones of the same values to come, in memory of its own. Refused as `IntoIter::clone`.
+    /// A walk with clones of the same values to come, in memory of its own.
+    ///
+    /// Errors: as of `IntoIter::clone`.
     pub fn clone(&self) -> Result<Self, AllocError>
         ensures items { IfOk result (λ copy. AllZip T.is_clone self.now copy) }
 

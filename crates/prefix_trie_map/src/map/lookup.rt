@@ -19,9 +19,9 @@ impl<P: Prefix, T: Drop, A: Allocator> PrefixMap<P, T, A> {
     ///
     /// ```text
     /// 10.1.0.0/16 is stored with 1
-    /// map.get(10.1.0.0/16)     Some(&1)
-    /// map.get(10.1.2.3/16)     Some(&1), since host bits do not count
-    /// map.get(10.1.0.0/17)     None
+    /// map.get(&10.1.0.0/16)     Some(&1)
+    /// map.get(&10.1.2.3/16)     Some(&1), since host bits do not count
+    /// map.get(&10.1.0.0/17)     None
     /// ```
     #[inline]
     pub fn get(&self, prefix: &P) -> Option<&T>
@@ -71,7 +71,7 @@ impl<P: Prefix, T: Drop, A: Allocator> PrefixMap<P, T, A> {
     ///
     /// ```text
     /// 10.1.0.0/16 is stored with 1
-    /// map.get_key_value(10.1.2.3/16)   Some((10.1.0.0/16, &1))
+    /// map.get_key_value(&10.1.2.3/16)   Some((10.1.0.0/16, &1))
     /// ```
     #[inline]
     pub fn get_key_value(&self, prefix: &P) -> Option<(P, &T)>
@@ -108,9 +108,9 @@ impl<P: Prefix, T: Drop, A: Allocator> PrefixMap<P, T, A> {
     ///
     /// ```text
     /// 10.0.0.0/8 is stored with 1, and 10.1.0.0/16 with 2
-    /// map.get_lpm(10.1.2.3/32)   Some((10.1.0.0/16, &2)), and get_spm gives Some((10.0.0.0/8, &1))
-    /// map.get_lpm(10.2.0.0/16)   Some((10.0.0.0/8, &1)), as get_spm
-    /// map.get_lpm(11.0.0.0/8)    None, as get_spm
+    /// map.get_lpm(&10.1.2.3/32)   Some((10.1.0.0/16, &2)), and get_spm gives Some((10.0.0.0/8, &1))
+    /// map.get_lpm(&10.2.0.0/16)   Some((10.0.0.0/8, &1)), as get_spm
+    /// map.get_lpm(&11.0.0.0/8)    None, as get_spm
     /// ```
     #[inline]
     pub fn get_lpm(&self, prefix: &P) -> Option<(P, &T)>

@@ -17,9 +17,9 @@ impl<P: Prefix, T: Drop, A: Allocator> PrefixMap<P, T, A> {
     /// in each array (`slot_laws`).
     ///
     /// ```text
-    /// map.insert((0x0a010000_u32, 16_u8), 1)   Ok(None)
-    /// map.remove(&(0x0a010203_u32, 16_u8))     Some(1)
-    /// map.remove(&(0x0a010000_u32, 16_u8))     None
+    /// map.insert(10.1.0.0/16, 1)   Ok(None)
+    /// map.remove(&10.1.2.3/16)     Some(1)
+    /// map.remove(&10.1.0.0/16)     None
     /// ```
     #[inline]
     pub fn remove(&mut self, prefix: &P) -> Option<T>
@@ -41,9 +41,9 @@ impl<P: Prefix, T: Drop, A: Allocator> PrefixMap<P, T, A> {
     /// refused.
     ///
     /// ```text
-    /// map.insert((0_u32, 32_u8), 1)       Ok(None), and node_count is 7
-    /// map.remove_keep_tree(&(0, 32))      Some(1), and node_count is 7
-    /// map.remove(&(0, 32))                None, and node_count is 1
+    /// map.insert(0.0.0.0/32, 1)              Ok(None), and node_count is 7
+    /// map.remove_keep_tree(&0.0.0.0/32)      Some(1), and node_count is 7
+    /// map.remove(&0.0.0.0/32)                None, and node_count is 1
     /// ```
     #[inline]
     pub fn remove_keep_tree(&mut self, prefix: &P) -> Option<T>
@@ -65,12 +65,12 @@ impl<P: Prefix, T: Drop, A: Allocator> PrefixMap<P, T, A> {
     /// node is missing nothing changes. At length 0 it is `clear`. It answers nothing, and is never refused.
     ///
     /// ```text
-    /// map.insert((0x0a010000_u32, 16_u8), 1)       Ok(None)
-    /// map.insert((0x0a010200_u32, 24_u8), 2)       Ok(None)
-    /// map.insert((0x0a020000_u32, 16_u8), 3)       Ok(None)
-    /// map.remove_children(&(0x0a010000_u32, 16_u8))
-    /// map.get(&(0x0a010200_u32, 24_u8))            None
-    /// map.len()                                    1
+    /// map.insert(10.1.0.0/16, 1)       Ok(None)
+    /// map.insert(10.1.2.0/24, 2)       Ok(None)
+    /// map.insert(10.2.0.0/16, 3)       Ok(None)
+    /// map.remove_children(&10.1.0.0/16)
+    /// map.get(&10.1.2.0/24)            None
+    /// map.len()                        1
     /// ```
     #[inline]
     pub fn remove_children(&mut self, prefix: &P)

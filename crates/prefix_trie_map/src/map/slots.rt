@@ -14,13 +14,15 @@ use std::alloc::Allocator;
 use std::marker::PhantomData;
 
 impl<P: Prefix, T: Drop, A: Allocator + Clone> PrefixMap<P, T, A> {
-    /// An empty map whose two arrays, of nodes and of values, are never longer than `limit` slots. Refused with `IndexRange`
-    /// where `limit` is 0, since the root needs a slot, and else only for memory. Refused, no map exists.
+    /// An empty map whose two arrays, of nodes and of values, are never longer than `limit` slots.
+    ///
+    /// Errors: `IndexRange` where `limit` is 0, since the root needs a slot, and else `Memory` where a request for memory is refused.
+    /// Then no map exists.
     ///
     /// ```text
     /// let mut map = PrefixMap::with_slot_limit(alloc, 4)?;
-    /// map.insert((0_u32, 32_u8), 1)   Err(Refused { cause: IndexRange, value: 1 }), since it needs six nodes more
-    /// map.insert((0_u32, 4_u8), 2)    Ok(None)
+    /// map.insert(0.0.0.0/32, 1)   Err(Refused { cause: IndexRange, value: 1 }), since it needs six nodes more
+    /// map.insert(0.0.0.0/4, 2)    Ok(None)
     /// ```
     #[inline]
     pub fn with_slot_limit(alloc: A, limit: u32) -> Result<Self, Refusal>
@@ -66,9 +68,9 @@ impl<P: Prefix, T: Drop, A: Allocator> PrefixMap<P, T, A> {
     /// children has one in use, which holds them, and the root stands outside every block.
     ///
     /// ```text
-    /// map.insert((0x0a010000_u32, 16_u8), 1)   Ok(None), with a node for each five bits on its way
-    /// map.node_blocks()[0]                     BlockCount { size: 1, used: 3, free: 0 }
-    /// map.cell_blocks()[0]                     BlockCount { size: 1, used: 1, free: 0 }
+    /// map.insert(10.1.0.0/16, 1)   Ok(None), with a node for each five bits on its way
+    /// map.node_blocks()[0]         BlockCount { size: 1, used: 3, free: 0 }
+    /// map.cell_blocks()[0]         BlockCount { size: 1, used: 1, free: 0 }
     /// ```
     #[inline]
     pub fn node_blocks(&self) -> [BlockCount; 7]

@@ -32,9 +32,9 @@ impl Model for Tally {
 /// Only the map's own calls make one, and only a read of a node adds one to it. The counted lookups hand theirs out.
 ///
 /// ```text
-/// map.insert((0x0a010000_u32, 16_u8), 1)             Ok(None)
-/// map.get_counted(&(0x0a010000, 16))                 (Some(&1), visits), with `visits` at 4: lengths 0, 5, 10 and 15
-/// map.get_counted(&(0x0b000000, 8))                  (None, visits), with `visits` at 2, the nodes that there are on the way
+/// map.insert(10.1.0.0/16, 1)                Ok(None)
+/// map.get_counted(&10.1.0.0/16)             (Some(&1), visits), with `visits` at 4: lengths 0, 5, 10 and 15
+/// map.get_counted(&11.0.0.0/8)              (None, visits), with `visits` at 2, the nodes that there are on the way
 /// ```
 #[derive(Drop)]
 pub struct Visits {

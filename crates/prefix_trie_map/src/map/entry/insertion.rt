@@ -20,7 +20,9 @@ pub struct Put<'a, P: Prefix, T: Drop, A: Allocator> {
 }
 
 impl<'a, P: Prefix, T: Drop, A: Allocator> Put<'a, P, T, A> {
-    /// The value that was there before, or why the insertion was refused.
+    /// The value that was there before.
+    ///
+    /// Errors: as of `PrefixMap::insert`, with the value handed back.
     pub fn answer(self) -> Result<Option<T>, Refused<T>>
         ensures answer { result ≡ self.entry.answer }
         ensures unchanged { self.exit.0.now ≡ self.entry.map.now }
@@ -32,8 +34,7 @@ impl<'a, P: Prefix, T: Drop, A: Allocator> Put<'a, P, T, A> {
 impl<'a, P: Prefix, T: Drop, A: Allocator> Entry<'a, P, T, A> {
     ghost use Rattle.prefix_trie_map.specs.Entry.{entry_map_ref, entry_value, Fills, RefusesToFill};
 
-    /// Sets the value, as `PrefixMap::insert` does: `put(value).answer()` is the value that was there before, or the refusal, which
-    /// hands the value back.
+    /// Sets the value, as `PrefixMap::insert` does: `put(value).answer()` is what that answers.
     ///
     /// ```text
     /// 10.1.0.0/16 is stored with 1

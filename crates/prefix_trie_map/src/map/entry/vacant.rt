@@ -18,11 +18,13 @@ impl<'a, P: Prefix, T: Drop, A: Allocator> VacantEntry<'a, P, T, A> {
         self.key.prefix()
     }
 
-    /// Inserts a value, and lends it for writing. It is refused as `PrefixMap::insert` is, and then hands the value back.
+    /// Inserts a value, and lends it for writing.
+    ///
+    /// Errors: as of `PrefixMap::insert`, with the value handed back.
     ///
     /// ```text
     /// if let Entry::Vacant(entry) = map.entry(10.2.0.0/16) { *entry.insert(3)? += 1; }
-    /// map.get(10.2.0.0/16)                                                             Some(&4), if it was not stored
+    /// map.get(&10.2.0.0/16)                                                            Some(&4), if it was not stored
     /// ```
     #[inline]
     pub fn insert(self, value: T) -> Result<&'a mut T, Refused<T>>
@@ -36,8 +38,9 @@ impl<'a, P: Prefix, T: Drop, A: Allocator> VacantEntry<'a, P, T, A> {
         Ok(map.lend_at(number, len, seat))
     }
 
-    /// The same with the value that a closure gives. It is called once, when all room is certain; where the call is refused it is not
-    /// called.
+    /// The same with the value that a closure gives. It is called once, when all room is certain.
+    ///
+    /// Errors: as of `PrefixMap::insert`, and then the closure is not called.
     #[inline]
     pub fn insert_with<F: FnOnce() -> T + Drop>(self, f: F) -> Result<&'a mut T, Refusal>
         requires { F.pre f }
@@ -54,6 +57,8 @@ impl<'a, P: Prefix, T: Drop, A: Allocator> VacantEntry<'a, P, T, A> {
     }
 
     /// The same with the default value, which is made as `insert_with` calls its closure.
+    ///
+    /// Errors: as of `insert_with`.
     #[inline]
     pub fn default(self) -> Result<&'a mut T, Refusal>
     where
