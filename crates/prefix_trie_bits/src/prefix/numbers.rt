@@ -4,7 +4,7 @@ ghost use Rattle.std.proofs.Common.{lit≤, eqb-true};
 ghost use Rattle.prefix_trie_bits.specs.Keys.{number_keys};
 ghost use Rattle.prefix_trie_bits.specs.Bits.{number, digits};
 
-use crate::digits::{extend_of, keep_of, window_of};
+use crate::digits::{extend_of, keep_of, short_window_of, window_of};
 use crate::prefix::Key;
 use crate::wide_digits;
 
@@ -39,7 +39,7 @@ impl Key for u8 {
 
     #[inline]
     fn window(self, depth: u32, n: u32) -> u32 {
-        window_of(u64::from(self), 8, depth, n)
+        short_window_of(u32::from(self), 8, depth, n)
     }
 
     #[inline]
@@ -90,7 +90,7 @@ impl Key for u16 {
 
     #[inline]
     fn window(self, depth: u32, n: u32) -> u32 {
-        window_of(u64::from(self), 16, depth, n)
+        short_window_of(u32::from(self), 16, depth, n)
     }
 
     #[inline]
@@ -141,7 +141,7 @@ impl Key for u32 {
 
     #[inline]
     fn window(self, depth: u32, n: u32) -> u32 {
-        window_of(u64::from(self), 32, depth, n)
+        short_window_of(self, 32, depth, n)
     }
 
     #[inline]
