@@ -1,5 +1,5 @@
 //! The walk that lends the values of a table, in listing order.
-ghost use Rattle.std.specs.Prelude.{◌≡◌, ◌<◌, ◌≤◌, [], Some, IfSome, MatchOption, length, take};
+ghost use Rattle.std.specs.Prelude.{◌≡◌, ◌<◌, ◌≤◌, [], ◌∷◌, ◌++◌, List, Some, IfSome, MatchOption, length, take};
 ghost use Rattle.std.specs.FinMap.{len};
 ghost use Rattle.prefix_trie_bits.specs.Model.Selections.{listing};
 ghost use Rattle.prefix_trie_bits.specs.Model.Step.{State};
@@ -15,6 +15,7 @@ use crate::allocator::nodes::{NodeAllocator, Tick};
 use crate::table::seat::Seat;
 use crate::table::spot::{Spot, Step, enter, next_at, skip_below, value_at};
 use arrayvec::ArrayVec;
+use prefix_trie_bits::node::Places;
 use prefix_trie_bits::prefix::Key;
 use std::alloc::Allocator;
 use std::marker::Model;
@@ -170,21 +171,43 @@ pub fn advance<K: Key, A: Allocator, V: Tick, T: Drop>(
     ensures passed { ArePassed K.bits (sites key.old stack.old.items) → ArePassed K.bits (sites key.new stack.new.items) }
     ensures last { IfSome result (λ r. EndsLast K.bits key.new stack.new.items r.0 r.1) }
 {
-    while let Some(mut spot) = stack.pop() {
+    while let Some(mut spot) = last_spot(stack) {
         match next_at::<K, A, V, T>(nodes, &mut spot, *key, counter) {
             Step::Entry(found, len, seat) => {
-                stack.push(spot);
+                put_places(stack, spot.places);
                 return Some((found, len, seat));
             }
             Step::Child(child, below) => {
-                stack.push(spot);
+                put_places(stack, spot.places);
                 stack.push(child);
                 *key = below;
             }
-            Step::Done => {}
+            Step::Done => {
+                let _ = stack.pop();
+            }
         }
     }
     None
+}
+
+/// The last spot, which stays where it is.
+#[inline]
+fn last_spot(stack: &ArrayVec<Spot, 26>) -> Option<Spot>
+    ensures last { MatchOption result (stack.now.items ≡ [])
+        (λ spot. (below : List Spot) × (stack.now.items ≡ below ++ spot ∷ [])) }
+{
+    stack.last().copied()
+}
+
+/// Writes the places of the last spot, and nothing else of it.
+#[inline]
+fn put_places(stack: &mut ArrayVec<Spot, 26>, places: Places)
+    requires some { 0 < length stack.old.items }
+    ensures put { (below : List Spot) (last : Spot) → stack.old.items ≡ below ++ last ∷ []
+        → stack.new.items ≡ below ++ record last { places = places } ∷ [] }
+{
+    let last = stack.len() - 1;
+    stack[last].places = places;
 }
 
 /// Drops what a key begins from what is to come at the last spot, at whose node the key ends.
