@@ -21,6 +21,7 @@ use prefix_trie_bits::prefix::{Key, Refusal, Refused};
 use std::alloc::Allocator;
 
 /// Adds a missing child, for whose block there is room, to the node in a slot, and answers where it stands.
+#[inline(always)]
 fn add_child<A: Allocator, V: Tick>(
     nodes: &mut NodeAllocator<A, V>,
     at: NodeSlot,
@@ -70,6 +71,7 @@ fn add_child<A: Allocator, V: Tick>(
 }
 
 /// Adds a missing value, for whose block there is room, to the node in a slot, and answers where it stands.
+#[inline(always)]
 fn add_value<T: Drop, A: Allocator, V: Tick>(
     nodes: &mut NodeAllocator<A, V>,
     cells: &mut Blocks<Option<T>, A>,
@@ -123,6 +125,7 @@ fn add_value<T: Drop, A: Allocator, V: Tick>(
 
 /// Obtains all blocks that a new value of `len` bits needs, where the node reached is the deepest on its way. Refused,
 /// nothing has changed but that some blocks may be free that were not there.
+#[inline(always)]
 pub fn prepare<T: Drop, A: Allocator, V: Tick>(
     nodes: &mut NodeAllocator<A, V>,
     cells: &mut Blocks<Option<T>, A>,

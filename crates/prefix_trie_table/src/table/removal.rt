@@ -49,6 +49,7 @@ pub fn clear_entries<T: Drop, A: Allocator, V: Tick>(
 }
 
 /// Takes a value that is there out of the node in a slot, and answers it and what the node is then.
+#[inline(always)]
 pub fn take_value<T: Drop, A: Allocator, V: Tick>(
     nodes: &mut NodeAllocator<A, V>,
     cells: &mut Blocks<Option<T>, A>,
@@ -219,6 +220,7 @@ pub fn is_bare(node: Node) -> bool
 }
 
 /// Takes a child that has no children out of the node in a slot, and answers what the node is then.
+#[inline(always)]
 pub fn drop_child<A: Allocator, V: Tick>(
     nodes: &mut NodeAllocator<A, V>,
     at: NodeSlot,
