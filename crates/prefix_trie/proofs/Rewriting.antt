@@ -16,7 +16,7 @@ use Rattle.prefix_trie_bits.specs.Model.Selections.{listing}
 use Rattle.prefix_trie_bits.proofs.Model.Members.{and-first, and-second, get-with_entry, is-same_string, same_string-is}
 use Rattle.prefix_trie_bits.proofs.Model.Ordered.{sorted-head, sorted-tail, t-true, true-t}
 use Rattle.prefix_trie_table.specs.Shape.{Contents}
-use Rattle.prefix_trie_table.proofs.KeySets.{bare, sorted_mapped}
+use Rattle.prefix_trie_table.proofs.Walk.KeySets.{bare, sorted_mapped}
 use Rattle.prefix_trie_map.specs.declared.map.writing.course.Course.{Course}
 use Rattle.prefix_trie_map.specs.Writing.{keys_left, IsFirst, GoesOver, ComesToEnd, StartsIn, HandsBack}
 use Rattle.prefix_trie_map.specs.WritingWalks.{PassesIn, EndsIn, FirstIn}

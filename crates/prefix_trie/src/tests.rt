@@ -1,36 +1,26 @@
 //! The tests of all crates. What a table can say is a list of cases, which `trials` runs; the rest is code.
 
 mod any_map;
-mod blocks;
 mod cases;
-mod changes;
 mod clones;
 mod collecting;
-mod copies;
 mod cover;
-mod entries;
 mod entry_callers;
 mod example;
 mod examples;
-mod filling;
-mod growth;
 mod iter;
 mod lending;
-mod lists;
-mod lookups;
 mod mixed;
 mod mixed_sets;
 mod node;
 mod on_new;
 mod prefix;
-mod questions;
 mod refusing;
-mod removals;
 mod retain;
 mod run_callers;
 mod runs;
 mod sets;
+mod tables;
 mod taking;
 mod trials;
-mod walks;
 mod writing_walks;

@@ -6,7 +6,6 @@ pub mod NodeSets
 pub mod Ordered
 pub mod NodeListings
 pub mod Visits
-pub mod Ways
 pub mod Matches
 pub mod Listings
 pub mod Halves
@@ -20,17 +19,8 @@ pub mod Runs
 pub mod Steps
 pub mod Counted
 pub mod Determined
-pub mod Readied
-pub mod Stored
 pub mod Levels
-pub mod Slots
-pub mod Counting
-pub mod Shrinking
-pub mod Lessened
-pub mod Gained
-pub mod Supplied
-pub mod Refusing
-pub mod Staying
 pub mod Total
 pub mod Askings
 pub mod Retained
+pub mod Storage

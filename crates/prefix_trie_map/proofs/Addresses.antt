@@ -10,7 +10,7 @@ use Rattle.prefix_trie_bits.specs.Model.Addresses.{address_answer}
 use Rattle.prefix_trie_bits.specs.Model.Entries.{Entries}
 use Rattle.prefix_trie_bits.specs.Model.Selections.{listing}
 use Rattle.prefix_trie_bits.proofs.Model.Outermost.{IsCounted, counted-start, counted-next, counted-end, counted-all, answer-number}
-use Rattle.prefix_trie_table.specs.Items.{GivesOutermost}
+use Rattle.prefix_trie_table.specs.Walking.Items.{GivesOutermost}
 
 -- a key's number, and the power that stands for an entry
 pub sum-with-power : (n p w width len : ℕ) → p ≡ 2 ^ (width - len) → width ≡ w → n + p ≡ n + 2 ^ (w - len)

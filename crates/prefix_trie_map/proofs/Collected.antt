@@ -6,7 +6,7 @@ use Rattle.prefix_trie_bits.specs.Model.Room.{MayPassLimit}
 use Rattle.prefix_trie_bits.specs.Model.Step.{Insert, Reply}
 use Rattle.prefix_trie_bits.specs.Model.Storage.{StepInStorage}
 use Rattle.prefix_trie_bits.proofs.Model.NodeSets.{needed_insert, tidy-no_entries}
-use Rattle.prefix_trie_bits.proofs.Model.Slots.{slot_laws}
+use Rattle.prefix_trie_bits.proofs.Model.Storage.Slots.{slot_laws}
 use Rattle.prefix_trie_table.specs.Shape.{Contents}
 use Rattle.prefix_trie_map.specs.Collected.{Puts, ManyMayPassLimit}
 use Rattle.prefix_trie_map.specs.Steps.{stored}

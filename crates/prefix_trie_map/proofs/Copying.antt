@@ -8,7 +8,7 @@ use Rattle.prefix_trie_bits.specs.Laws.Steps.{IsMap}
 use Rattle.prefix_trie_bits.proofs.Model.Members.{same_nodes}
 use Rattle.prefix_trie_bits.proofs.Model.Pruning.{needed_fewer}
 use Rattle.prefix_trie_table.specs.Copies.{AreCloned}
-use Rattle.prefix_trie_table.proofs.Copying.{cloned_there}
+use Rattle.prefix_trie_table.proofs.Tree.Copying.{cloned_there}
 use Rattle.prefix_trie_map.specs.Copied.{CopyLaws}
 
 -- the copy of a map, with the same keys and nodes, is a map

@@ -14,7 +14,7 @@ use Rattle.prefix_trie_bits.specs.Order.{same_string}
 use Rattle.prefix_trie_bits.specs.Model.Entries.{Entries}
 use Rattle.prefix_trie_table.specs.Shape.{Contents, with_value_at}
 use Rattle.prefix_trie_map.specs.Steps.{state, storage, stored, placed}
-use Rattle.prefix_trie_bits.proofs.Model.Readied.{readied_inserts}
+use Rattle.prefix_trie_bits.proofs.Model.Storage.Readied.{readied_inserts}
 
 pub no_value : {T : Type 0} (o : Option T) → is_some o ≡ false → o ≡ None
 no_value None e = refl

@@ -8,9 +8,9 @@ use Rattle.std.specs.declared.fmt.Debug as debug
 use Rattle.prefix_trie_bits.specs.declared.prefix.Prefix as prefix
 use Rattle.prefix_trie_bits.specs.declared.prefix.Key as key
 use Rattle.prefix_trie_table.specs.Shape.{Contents, with_value_at}
-use Rattle.prefix_trie_table.specs.Trails.{IsTrailIn, IsTrailIn-prop, GivesKey, keys_to_come, trail_sites}
+use Rattle.prefix_trie_table.specs.Walking.Trails.{IsTrailIn, IsTrailIn-prop, GivesKey, keys_to_come, trail_sites}
 use Rattle.prefix_trie_table.specs.declared.table.trail.Trail.{Trail}
-use Rattle.prefix_trie_table.proofs.ToCome.{pending_again}
+use Rattle.prefix_trie_table.proofs.Walk.ToCome.{pending_again}
 use Rattle.prefix_trie_map.specs.declared.map.writing.course.Course.{Course}
 use Rattle.prefix_trie_map.specs.declared.map.writing.course.Stop.{Stop}
 use Rattle.prefix_trie_map.specs.Writing.{keys_left, as_walk, key_at, StopsAt, HasValueAt, with_written, IsFirst, GoesOver, ComesToEnd, StartsOver}

@@ -10,7 +10,7 @@ use Rattle.prefix_trie_bits.specs.declared.prefix.Key as key
 use Rattle.prefix_trie_bits.specs.Model.WritingWalk.{WritingWalk, walk_over, Next, Passes, Leaves}
 use Rattle.prefix_trie_table.specs.Locations.{seat_of}
 use Rattle.prefix_trie_table.specs.Shape.{Contents, with_value_at}
-use Rattle.prefix_trie_table.specs.Trails.{keys_to_come}
+use Rattle.prefix_trie_table.specs.Walking.Trails.{keys_to_come}
 use Rattle.prefix_trie_map.specs.declared.map.writing.course.Course.{Course}
 use Rattle.prefix_trie_map.specs.declared.map.writing.course.Stop.{Stop}
 

@@ -14,15 +14,10 @@ pub mod Tables
 pub mod Locations
 pub mod Asked
 pub mod Matching
-pub mod Walks
-pub mod Items
-pub mod Covers
 pub mod TableLending
 pub mod Settling
 pub mod Steps
 pub mod Removals
 pub mod Retaining
 pub mod Copies
-pub mod Cursors
-pub mod Taking
-pub mod Trails
+pub mod Walking

@@ -1,11 +1,16 @@
 //! Cases: calls of a map, each beside what it should answer.
-use crate::tests::changes::{
+mod changes;
+pub mod filling;
+mod lists;
+mod questions;
+
+use crate::tests::cases::changes::{
     clears, copies, empties, inserts, makes, removes, removes_children, retains_from, turns,
     writes, writes_longest,
 };
-use crate::tests::filling::{Fill, changes, fills, takes_out};
-use crate::tests::lists::{covers, lists};
-use crate::tests::questions::{finds, has_cells, has_len, has_nodes, has_slots, is_same};
+use crate::tests::cases::filling::{Fill, changes, fills, takes_out};
+use crate::tests::cases::lists::{covers, lists};
+use crate::tests::cases::questions::{finds, has_cells, has_len, has_nodes, has_slots, is_same};
 use crate::tests::refusing::Refusing;
 use crate::{Key, Prefix, PrefixMap, Refusal};
 use std::alloc::{Allocator, Global};

@@ -16,15 +16,15 @@ use Rattle.prefix_trie_bits.specs.Laws.Determined.{is_memory, is_refusal, may_re
 use Rattle.prefix_trie_bits.specs.Laws.Steps.{IsMap}
 use Rattle.prefix_trie_bits.specs.Laws.Total.{IsStoredMap, GivesCause, TotalLaws}
 use Rattle.prefix_trie_bits.proofs.Model.Determined.{cause_of, no_refusal, refused, set}
-use Rattle.prefix_trie_bits.proofs.Model.Gained.{gained, gained_inserts}
-use Rattle.prefix_trie_bits.proofs.Model.Lessened.{IsLeft, removed_is, bare_have, many_left, value_left, one_left}
+use Rattle.prefix_trie_bits.proofs.Model.Storage.Gained.{gained, gained_inserts}
+use Rattle.prefix_trie_bits.proofs.Model.Storage.Lessened.{IsLeft, removed_is, bare_have, many_left, value_left, one_left}
 use Rattle.prefix_trie_bits.proofs.Model.Members.{from-not, same_string-is, has-empty, has-root_alone, has-retained}
 use Rattle.prefix_trie_bits.proofs.Model.Pruning.{begins-nil, needed_fewer, near_is, pruning_laws, remove_law, remove_children_law}
-use Rattle.prefix_trie_bits.proofs.Model.Refusing.{refuses}
-use Rattle.prefix_trie_bits.proofs.Model.Slots.{nodes_most, cells_most}
-use Rattle.prefix_trie_bits.proofs.Model.Staying.{stays_stored}
+use Rattle.prefix_trie_bits.proofs.Model.Storage.Refusing.{refuses}
+use Rattle.prefix_trie_bits.proofs.Model.Storage.Slots.{nodes_most, cells_most}
+use Rattle.prefix_trie_bits.proofs.Model.Storage.Staying.{stays_stored}
 use Rattle.prefix_trie_bits.proofs.Model.Steps.{part_fewer, stays_map}
-use Rattle.prefix_trie_bits.proofs.Model.Supplied.{supplied, stored_have}
+use Rattle.prefix_trie_bits.proofs.Model.Storage.Supplied.{supplied, stored_have}
 
 -- a map has a node, the root's
 some_node : {T : Type 0} (width : ℕ) (s : State T) → IsMap width s → 1 ≤ len s.nodes

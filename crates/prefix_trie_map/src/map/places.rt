@@ -19,7 +19,7 @@ use prefix_trie_table::table::trail::Trail;
 use std::alloc::Allocator;
 
 impl<P: Prefix, T: Drop, A: Allocator> PrefixMap<P, T, A> {
-    ghost use Rattle.prefix_trie_table.specs.Trails.{IsTrailIn, keys_to_come, GivesKey};
+    ghost use Rattle.prefix_trie_table.specs.Walking.Trails.{IsTrailIn, keys_to_come, GivesKey};
     ghost use Rattle.prefix_trie_map.specs.Lending.{lends_value};
 
     // Where the value of a prefix stands, or where its way ends.

@@ -1,11 +1,11 @@
 //! The walk over the beginnings of a bit string that have values, the shortest first.
 ghost use Rattle.std.specs.Prelude.{◌≡◌, ℕ, ◌+◌, ◌*◌, ◌^◌, ◌<◌, ◌≤◌, List, Option, Some, [], false, length, take, MatchOption};
 ghost use Rattle.prefix_trie_bits.specs.Model.Matches.{covers};
-ghost use Rattle.prefix_trie_table.specs.Items.{GivesEntry};
+ghost use Rattle.prefix_trie_table.specs.Walking.Items.{GivesEntry};
 ghost use Rattle.prefix_trie_table.specs.Forest.{SomeNodes};
 ghost use Rattle.prefix_trie_table.specs.Matching.{LackLastBit};
 ghost use Rattle.prefix_trie_table.specs.Shape.{Shaped, Shaped-prop};
-ghost use Rattle.prefix_trie_table.specs.Covers.{AreLeft, IsCovering, GoesOn, TakesShortest};
+ghost use Rattle.prefix_trie_table.specs.Walking.Covers.{AreLeft, IsCovering, GoesOn, TakesShortest};
 
 use crate::allocator::blocks::Blocks;
 use crate::allocator::nodes::{NodeAllocator, Tick};
@@ -33,7 +33,7 @@ pub struct Cover<'a, K: Key, T: Drop, A: Allocator, V: Tick> {
 // Clauses see the entries still to come.
 impl<'a, K: Key, T: Drop, A: Allocator, V: Tick> Model for Cover<'a, K, T, A, V> {
     ghost use Rattle.std.specs.Prelude.{List, Bool, take, ◌+◌};
-    ghost use Rattle.prefix_trie_table.specs.Covers.{still_covering, IsCover};
+    ghost use Rattle.prefix_trie_table.specs.Walking.Covers.{still_covering, IsCover};
 
     ghost Value = { List (List Bool × T) };
 

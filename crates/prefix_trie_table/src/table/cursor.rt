@@ -8,8 +8,8 @@ ghost use Rattle.prefix_trie_bits.specs.Model.Step.{State};
 ghost use Rattle.prefix_trie_table.specs.Bitmaps.{has_bit as is_set};
 ghost use Rattle.prefix_trie_table.specs.Shape.{IsShapeOf};
 ghost use Rattle.prefix_trie_table.specs.Tables.{IsTrie};
-ghost use Rattle.prefix_trie_table.specs.Walks.{Tree, ArePassed, IsStack, IsPlaceOf, pending, sites};
-ghost use Rattle.prefix_trie_table.specs.Cursors.{selected, behind, kept, places_in};
+ghost use Rattle.prefix_trie_table.specs.Walking.Walks.{Tree, ArePassed, IsStack, IsPlaceOf, pending, sites};
+ghost use Rattle.prefix_trie_table.specs.Walking.Cursors.{selected, behind, kept, places_in};
 
 use crate::allocator::blocks::Blocks;
 use crate::allocator::node::{Node, NodeSlot};

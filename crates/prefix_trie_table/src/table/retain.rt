@@ -8,7 +8,7 @@ ghost use Rattle.prefix_trie_bits.specs.Model.Selections.{listing};
 ghost use Rattle.prefix_trie_bits.specs.Model.Step.{State};
 ghost use Rattle.prefix_trie_table.specs.Digits.{path_of};
 ghost use Rattle.prefix_trie_table.specs.Forest.{read};
-ghost use Rattle.prefix_trie_table.specs.Walks.{IsPlaceOf};
+ghost use Rattle.prefix_trie_table.specs.Walking.Walks.{IsPlaceOf};
 ghost use Rattle.prefix_trie_table.specs.Retaining.{HasPlace, IsSite, Lasts, RetainsIn, RetainsAll, MayAskAt};
 ghost use Rattle.prefix_trie_table.specs.Tables.{IsTrie};
 

@@ -7,10 +7,10 @@ ghost use Rattle.prefix_trie_bits.specs.Model.Nodes.{AreNodes};
 ghost use Rattle.prefix_trie_bits.specs.Model.Selections.{listing, listing_below};
 ghost use Rattle.prefix_trie_bits.specs.Model.Step.{State};
 ghost use Rattle.prefix_trie_table.specs.Copies.{IsPairCloned};
-ghost use Rattle.prefix_trie_table.specs.Items.{GivesFilled};
+ghost use Rattle.prefix_trie_table.specs.Walking.Items.{GivesFilled};
 ghost use Rattle.prefix_trie_table.specs.Shape.{IsShapeOf};
 ghost use Rattle.prefix_trie_table.specs.Tables.{IsTrie};
-ghost use Rattle.prefix_trie_table.specs.Taking.{Seated, Seated-prop};
+ghost use Rattle.prefix_trie_table.specs.Walking.Taking.{Seated, Seated-prop};
 
 use crate::allocator::blocks::Blocks;
 use crate::allocator::nodes::{NodeAllocator, Tick};
@@ -44,8 +44,8 @@ pub struct IntoWalk<K: Key, T: Drop, A: Allocator, V: Tick> {
 // Clauses see the pairs still to come.
 impl<K: Key, T: Drop, A: Allocator, V: Tick> Model for IntoWalk<K, T, A, V> {
     ghost use Rattle.std.specs.Prelude.{List, Bool};
-    ghost use Rattle.prefix_trie_table.specs.Walks.{pending, sites};
-    ghost use Rattle.prefix_trie_table.specs.Taking.{pairs_in, IsTaking};
+    ghost use Rattle.prefix_trie_table.specs.Walking.Walks.{pending, sites};
+    ghost use Rattle.prefix_trie_table.specs.Walking.Taking.{pairs_in, IsTaking};
 
     ghost Value = { List (List Bool × T) };
 

@@ -3,7 +3,7 @@ ghost use Rattle.std.specs.Prelude.{◌≡◌, ◌≤◌, [], map, take, true, I
 ghost use Rattle.std.specs.FinMap.{contains_key};
 ghost use Rattle.prefix_trie_bits.specs.Model.Entries.{AreWithin};
 ghost use Rattle.prefix_trie_bits.specs.Model.Nodes.{AreNodes};
-ghost use Rattle.prefix_trie_table.specs.Cursors.{selected};
+ghost use Rattle.prefix_trie_table.specs.Walking.Cursors.{selected};
 
 use crate::allocator::nodes::Tick;
 use crate::table::Table;
@@ -24,7 +24,7 @@ pub struct Trail<K: Key> {
 }
 
 impl<T: Drop, A: Allocator, V: Tick> Table<T, A, V> {
-    ghost use Rattle.prefix_trie_table.specs.Trails.{IsTrailIn, keys_to_come, GivesKey};
+    ghost use Rattle.prefix_trie_table.specs.Walking.Trails.{IsTrailIn, keys_to_come, GivesKey};
 
     /// The start of a walk of the entries that are selected from a bit string. Each node on its way is read once.
     #[inline]

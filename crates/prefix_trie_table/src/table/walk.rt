@@ -6,8 +6,8 @@ ghost use Rattle.prefix_trie_bits.specs.Model.Step.{State};
 ghost use Rattle.prefix_trie_table.specs.Locations.{seat_of};
 ghost use Rattle.prefix_trie_table.specs.Shape.{IsShapeOf};
 ghost use Rattle.prefix_trie_table.specs.Tables.{IsTrie};
-ghost use Rattle.prefix_trie_table.specs.Items.{GivesFilled, GivesOutermost};
-ghost use Rattle.prefix_trie_table.specs.Walks.{Tree, ArePassed, EndsLast, IsStack, SkipsLast, pending, sites, GivesSeat, ShapeOf, ShapeOf-prop};
+ghost use Rattle.prefix_trie_table.specs.Walking.Items.{GivesFilled, GivesOutermost};
+ghost use Rattle.prefix_trie_table.specs.Walking.Walks.{Tree, ArePassed, EndsLast, IsStack, SkipsLast, pending, sites, GivesSeat, ShapeOf, ShapeOf-prop};
 
 use crate::allocator::blocks::Blocks;
 use crate::allocator::node::NodeSlot;
@@ -33,7 +33,7 @@ pub struct Walk<'a, K: Key, T: Drop, A: Allocator, V: Tick> {
 // Clauses see the pairs still to come.
 impl<'a, K: Key, T: Drop, A: Allocator, V: Tick> Model for Walk<'a, K, T, A, V> {
     ghost use Rattle.std.specs.Prelude.{List, Bool};
-    ghost use Rattle.prefix_trie_table.specs.Walks.{rest_of_walk, IsWalk, sites};
+    ghost use Rattle.prefix_trie_table.specs.Walking.Walks.{rest_of_walk, IsWalk, sites};
 
     ghost Value = { List (List Bool × T) };
 

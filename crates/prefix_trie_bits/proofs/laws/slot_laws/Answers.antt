@@ -1,4 +1,4 @@
-use Rattle.prefix_trie_bits.proofs.Model.Slots.{slot_laws}
+use Rattle.prefix_trie_bits.proofs.Model.Storage.Slots.{slot_laws}
 use Rattle.prefix_trie_bits.proofs.laws.slot_laws.Goals as goal
 
 pub returns : goal.returns

@@ -1,4 +1,4 @@
-use Rattle.prefix_trie_bits.proofs.Model.Stored.{storage_laws}
+use Rattle.prefix_trie_bits.proofs.Model.Storage.Stored.{storage_laws}
 use Rattle.prefix_trie_bits.proofs.laws.storage_laws.Goals as goal
 
 pub returns : goal.returns

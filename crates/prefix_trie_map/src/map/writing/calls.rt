@@ -1,7 +1,7 @@
 //! The calls that make walks for writing.
 ghost use Rattle.std.specs.Prelude.{◌≤◌, cond, take};
 ghost use Rattle.prefix_trie_bits.specs.Model.Selections.{listing, listing_from, listing_after, listing_below};
-ghost use Rattle.prefix_trie_table.specs.Cursors.{selected};
+ghost use Rattle.prefix_trie_table.specs.Walking.Cursors.{selected};
 ghost use Rattle.prefix_trie_map.specs.Whole.{IsWhole};
 
 use crate::map::writing::{Course, IterMut, ValuesMut, ValuesOf, WalkOf};

@@ -1,6 +1,6 @@
 //! The way of a writing walk over a map.
 ghost use Rattle.std.specs.Prelude.{◌≡◌};
-ghost use Rattle.prefix_trie_table.specs.Trails.{IsTrailIn, IsTrailIn-prop};
+ghost use Rattle.prefix_trie_table.specs.Walking.Trails.{IsTrailIn, IsTrailIn-prop};
 
 use crate::map::PrefixMap;
 use crate::map::iter::without_host_bits;

@@ -1,7 +1,7 @@
 use Rattle.std.proofs.Common.{◌≡◌, ◌++◌, ◌∷◌, sym, ap, ◌∙◌}
 use Rattle.std.proofs.lemmas.List.Elements.{All-head, All-same}
 use Rattle.prefix_trie_bits.specs.Model.Selections.{listing, shown}
-use Rattle.prefix_trie_table.proofs.Tilings.{All-append_right}
+use Rattle.prefix_trie_table.proofs.Blocks.Tilings.{All-append_right}
 use Rattle.prefix_trie_map.proofs.Listed.{listed_fit}
 use Rattle.prefix_trie.proofs.tests.iter.resumed.Goals as goal
 

@@ -3,7 +3,7 @@ use Rattle.std.proofs.lemmas.List.{length-map}
 use Rattle.prefix_trie_bits.specs.Keys.{path_within}
 use Rattle.prefix_trie_bits.specs.Model.Matches.{covers}
 use Rattle.prefix_trie_bits.specs.Model.Selections.{shown}
-use Rattle.prefix_trie_table.proofs.Covered.{covers_few}
+use Rattle.prefix_trie_table.proofs.Lookup.Covered.{covers_few}
 use Rattle.prefix_trie_map.specs.Walks.{lent_item}
 use Rattle.prefix_trie_map.proofs.Runs.{shows_in_order}
 use Rattle.prefix_trie_map.proofs.map.PrefixMap.cover.Given as given

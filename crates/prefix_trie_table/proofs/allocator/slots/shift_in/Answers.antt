@@ -1,4 +1,4 @@
-use Rattle.prefix_trie_table.proofs.Shifts.{shifted_in_vec}
+use Rattle.prefix_trie_table.proofs.Blocks.Shifts.{shifted_in_vec}
 use Rattle.prefix_trie_table.proofs.allocator.slots.shift_in.Goals as goal
 
 pub returns-clause-items : goal.returns-clause-items

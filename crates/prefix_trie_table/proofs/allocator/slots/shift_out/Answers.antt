@@ -1,5 +1,5 @@
 use Rattle.std.proofs.Common.{◌≡◌, ◌∙◌, rules}
-use Rattle.prefix_trie_table.proofs.Shifts.{shifted_out_vec}
+use Rattle.prefix_trie_table.proofs.Blocks.Shifts.{shifted_out_vec}
 use Rattle.prefix_trie_table.proofs.allocator.slots.shift_out.Goals as goal
 
 pub returns-clause-items : goal.returns-clause-items

@@ -1,9 +1,9 @@
 use Rattle.std.proofs.Common.{Some, take, refl, sym, ap, ◌∙◌}
 use Rattle.std.specs.FinMap.{get}
 use Rattle.prefix_trie_table.specs.Shape.{Contents, with_value_at}
-use Rattle.prefix_trie_table.proofs.Invariant.{some_table}
-use Rattle.prefix_trie_table.proofs.Lending.{cell_there, seat_has, left_shape, table_left, stored_is, written_seen}
-use Rattle.prefix_trie_table.proofs.Located.{seat_found}
+use Rattle.prefix_trie_table.proofs.Tree.Invariant.{some_table}
+use Rattle.prefix_trie_table.proofs.Lookup.Lending.{cell_there, seat_has, left_shape, table_left, stored_is, written_seen}
+use Rattle.prefix_trie_table.proofs.Lookup.Located.{seat_found}
 use Rattle.prefix_trie_table.proofs.table.Table.at_mut.Goals as goal
 
 pub lend-requires : goal.lend-requires

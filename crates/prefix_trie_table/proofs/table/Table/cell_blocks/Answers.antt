@@ -3,11 +3,11 @@ use Rattle.prefix_trie_bits.specs.Model.Blocks.{value_block_sizes, own_entries, 
 use Rattle.prefix_trie_bits.specs.Model.Nodes.{holders}
 use Rattle.prefix_trie_table.specs.BlockCounts.{block_counts, slots_counted, used_blocks}
 use Rattle.prefix_trie_table.specs.Shape.{Contents}
-use Rattle.prefix_trie_table.proofs.Invariant.{some_table}
-use Rattle.prefix_trie_table.proofs.BlockCounts.{seven_cells, cell_counts, slots_are, free_within}
-use Rattle.prefix_trie_table.proofs.BlockUsers.{holders_used}
-use Rattle.prefix_trie_table.proofs.Housed.{value_blocks_housed}
-use Rattle.prefix_trie_table.proofs.Shapes.{shape_nodes, shape_entries}
+use Rattle.prefix_trie_table.proofs.Tree.Invariant.{some_table}
+use Rattle.prefix_trie_table.proofs.Counts.BlockCounts.{seven_cells, cell_counts, slots_are, free_within}
+use Rattle.prefix_trie_table.proofs.Counts.BlockUsers.{holders_used}
+use Rattle.prefix_trie_table.proofs.Blocks.Housed.{value_blocks_housed}
+use Rattle.prefix_trie_table.proofs.Tree.Shapes.{shape_nodes, shape_entries}
 use Rattle.prefix_trie_table.proofs.table.Table.cell_blocks.Goals as goal
 
 pub counts-requires : goal.counts-requires

@@ -4,14 +4,14 @@ use Rattle.prefix_trie_bits.specs.Model.Storage.{StepOfStrings}
 use Rattle.prefix_trie_table.specs.Shape.{Contents}
 use Rattle.prefix_trie_table.specs.Steps.{stored}
 use Rattle.prefix_trie_table.specs.Tables.{IsTable}
-use Rattle.prefix_trie_table.proofs.Invariant.{some_table}
-use Rattle.prefix_trie_table.proofs.Clearing.{under_limit, root_slot}
+use Rattle.prefix_trie_table.proofs.Tree.Invariant.{some_table}
+use Rattle.prefix_trie_table.proofs.Removal.Clearing.{under_limit, root_slot}
 use Rattle.prefix_trie_table.specs.declared.allocator.node.Node.{Node}
 use Rattle.prefix_trie_table.specs.Cells.{node_sizes}
 use Rattle.prefix_trie_table.specs.Store.{Store}
-use Rattle.prefix_trie_table.proofs.Shapes.{root_shape, root_reading, new_holds, new_shape, new_only, new_table}
-use Rattle.prefix_trie_table.proofs.Sizing.{sizes_of, root_layout, storage_of}
-use Rattle.prefix_trie_table.proofs.Stated.{clears_step}
+use Rattle.prefix_trie_table.proofs.Tree.Shapes.{root_shape, root_reading, new_holds, new_shape, new_only, new_table}
+use Rattle.prefix_trie_table.proofs.Blocks.Sizing.{sizes_of, root_layout, storage_of}
+use Rattle.prefix_trie_table.proofs.Tree.Stated.{clears_step}
 use Rattle.prefix_trie_table.proofs.table.Table.clear.Goals as goal
 
 pub invariant_of-self-inside : goal.invariant_of-self-inside

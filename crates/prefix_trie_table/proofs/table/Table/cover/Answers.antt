@@ -1,12 +1,12 @@
 use Rattle.std.proofs.Common.{◌+◌, ◌*◌, ◌≤◌, length, take, ap, ◌∙◌, arith}
 use Rattle.prefix_trie_bits.specs.Model.Matches.{covers}
 use Rattle.prefix_trie_bits.specs.Model.Step.{State}
-use Rattle.prefix_trie_table.specs.Covers.{IsCovering}
+use Rattle.prefix_trie_table.specs.Walking.Covers.{IsCovering}
 use Rattle.prefix_trie_table.specs.Shape.{Contents, same_shape}
-use Rattle.prefix_trie_table.proofs.Invariant.{some_table}
-use Rattle.prefix_trie_table.proofs.Covers.{at_root}
-use Rattle.prefix_trie_table.proofs.Covered.{all_ahead}
-use Rattle.prefix_trie_table.proofs.Matched.{has_nodes}
+use Rattle.prefix_trie_table.proofs.Tree.Invariant.{some_table}
+use Rattle.prefix_trie_table.proofs.Lookup.Covers.{at_root}
+use Rattle.prefix_trie_table.proofs.Lookup.Covered.{all_ahead}
+use Rattle.prefix_trie_table.proofs.Lookup.Matched.{has_nodes}
 use Rattle.prefix_trie_table.proofs.table.Table.cover.Goals as goal
 
 pub root-here-requires : goal.root-here-requires

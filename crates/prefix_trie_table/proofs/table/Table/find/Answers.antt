@@ -1,9 +1,9 @@
 use Rattle.std.proofs.Common.{◌+◌, take, ap, sym, ◌∙◌}
 use Rattle.std.specs.FinMap.{get}
 use Rattle.prefix_trie_bits.specs.Model.Visits.{visits}
-use Rattle.prefix_trie_table.proofs.Invariant.{some_table}
-use Rattle.prefix_trie_table.proofs.Counted.{visits_counted}
-use Rattle.prefix_trie_table.proofs.Shapes.{shape_nodes, shape_entries}
+use Rattle.prefix_trie_table.proofs.Tree.Invariant.{some_table}
+use Rattle.prefix_trie_table.proofs.Counts.Counted.{visits_counted}
+use Rattle.prefix_trie_table.proofs.Tree.Shapes.{shape_nodes, shape_entries}
 use Rattle.prefix_trie_table.proofs.table.Table.find.Goals as goal
 
 pub returns-clause-value : goal.returns-clause-value

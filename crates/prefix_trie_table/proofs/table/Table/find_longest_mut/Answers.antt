@@ -1,7 +1,7 @@
 use Rattle.std.proofs.Common.{◌≤◌, ◌+◌, length, take, arith}
-use Rattle.prefix_trie_table.proofs.Invariant.{some_table}
-use Rattle.prefix_trie_table.proofs.Matched.{has_nodes, met_is}
-use Rattle.prefix_trie_table.proofs.Lending.{can_lend, left_shape, table_left, table_kept, lender_left, longest_seat, longest_written, longest_lent, longest_small}
+use Rattle.prefix_trie_table.proofs.Tree.Invariant.{some_table}
+use Rattle.prefix_trie_table.proofs.Lookup.Matched.{has_nodes, met_is}
+use Rattle.prefix_trie_table.proofs.Lookup.Lending.{can_lend, left_shape, table_left, table_kept, lender_left, longest_seat, longest_written, longest_lent, longest_small}
 use Rattle.prefix_trie_table.proofs.table.Table.find_longest_mut.Goals as goal
 
 pub longest_on_way-longest-requires-clause-sound : goal.longest_on_way-longest-requires-clause-sound

@@ -1,8 +1,8 @@
 use Rattle.std.proofs.Common.{◌+◌, take, sym, ap, ◌∙◌}
-use Rattle.prefix_trie_table.proofs.Invariant.{some_table}
-use Rattle.prefix_trie_table.proofs.Counted.{visits_counted}
-use Rattle.prefix_trie_table.proofs.Shapes.{shape_nodes}
-use Rattle.prefix_trie_table.proofs.Lending.{seat_of, can_lend, left_shape, table_left, table_kept, value_lent, lender_left, stored_written}
+use Rattle.prefix_trie_table.proofs.Tree.Invariant.{some_table}
+use Rattle.prefix_trie_table.proofs.Counts.Counted.{visits_counted}
+use Rattle.prefix_trie_table.proofs.Tree.Shapes.{shape_nodes}
+use Rattle.prefix_trie_table.proofs.Lookup.Lending.{seat_of, can_lend, left_shape, table_left, table_kept, value_lent, lender_left, stored_written}
 use Rattle.prefix_trie_table.proofs.table.Table.find_mut.Goals as goal
 
 pub lend_if-requires : goal.lend_if-requires

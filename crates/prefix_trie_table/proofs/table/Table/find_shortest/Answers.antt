@@ -2,8 +2,8 @@ use Rattle.std.proofs.Common.{◌≡◌, ◌+◌, ◌≤◌, length, take, None,
 use Rattle.prefix_trie_bits.specs.Model.Matches.{shortest_match}
 use Rattle.prefix_trie_bits.specs.Model.Visits.{visits_to_match}
 use Rattle.prefix_trie_table.specs.Shape.{Contents}
-use Rattle.prefix_trie_table.proofs.Invariant.{some_table}
-use Rattle.prefix_trie_table.proofs.Matched.{has_nodes, cell_inside, shortest_none, shortest_handed, met_none, met_shortest}
+use Rattle.prefix_trie_table.proofs.Tree.Invariant.{some_table}
+use Rattle.prefix_trie_table.proofs.Lookup.Matched.{has_nodes, cell_inside, shortest_none, shortest_handed, met_none, met_shortest}
 use Rattle.prefix_trie_table.proofs.table.Table.find_shortest.Goals as goal
 
 pub shortest_on_way-requires-clause-sound : goal.shortest_on_way-requires-clause-sound

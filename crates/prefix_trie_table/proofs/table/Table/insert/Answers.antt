@@ -5,13 +5,13 @@ use Rattle.prefix_trie_bits.specs.declared.prefix.Refusal.TheVariants.{Memory, I
 use Rattle.prefix_trie_bits.specs.declared.prefix.Refused.{Refused}
 use Rattle.prefix_trie_table.specs.Shape.{Contents}
 use Rattle.prefix_trie_table.specs.Steps.{stored, inserted}
-use Rattle.prefix_trie_table.proofs.Invariant.{some_table, some_counted}
-use Rattle.prefix_trie_table.proofs.Sizing.{table_sizes, storage_of}
-use Rattle.prefix_trie_table.proofs.Foreseen.{obtained}
-use Rattle.prefix_trie_table.proofs.Inserted.{inserted_in}
-use Rattle.prefix_trie_table.proofs.Resized.{sizes_left}
-use Rattle.prefix_trie_table.proofs.Shapes.{shape_entries, left_shape, table_left}
-use Rattle.prefix_trie_table.proofs.Stated.{inserts_step}
+use Rattle.prefix_trie_table.proofs.Tree.Invariant.{some_table, some_counted}
+use Rattle.prefix_trie_table.proofs.Blocks.Sizing.{table_sizes, storage_of}
+use Rattle.prefix_trie_table.proofs.Insertion.Foreseen.{obtained}
+use Rattle.prefix_trie_table.proofs.Insertion.Inserted.{inserted_in}
+use Rattle.prefix_trie_table.proofs.Insertion.Resized.{sizes_left}
+use Rattle.prefix_trie_table.proofs.Tree.Shapes.{shape_entries, left_shape, table_left}
+use Rattle.prefix_trie_table.proofs.Tree.Stated.{inserts_step}
 use Rattle.prefix_trie_table.proofs.table.Table.insert.Goals as goal
 
 pub insert_entry-requires-clause-table : goal.insert_entry-requires-clause-table

@@ -2,10 +2,10 @@ use Rattle.std.proofs.Common.{◌+◌, take, ap, sym, ◌∙◌, subst}
 use Rattle.prefix_trie_bits.specs.Model.Visits.{visits}
 use Rattle.prefix_trie_table.specs.Locations.{IsLocation}
 use Rattle.prefix_trie_table.specs.Shape.{Contents}
-use Rattle.prefix_trie_table.proofs.Counted.{visits_counted}
-use Rattle.prefix_trie_table.proofs.Invariant.{some_table}
-use Rattle.prefix_trie_table.proofs.Located.{located}
-use Rattle.prefix_trie_table.proofs.Shapes.{shape_nodes}
+use Rattle.prefix_trie_table.proofs.Counts.Counted.{visits_counted}
+use Rattle.prefix_trie_table.proofs.Tree.Invariant.{some_table}
+use Rattle.prefix_trie_table.proofs.Lookup.Located.{located}
+use Rattle.prefix_trie_table.proofs.Tree.Shapes.{shape_nodes}
 use Rattle.prefix_trie_table.proofs.table.Table.locate.Goals as goal
 
 pub returns-clause-place : goal.returns-clause-place

@@ -4,12 +4,12 @@ use Rattle.prefix_trie_bits.specs.Model.Room.{LeavesRoom}
 use Rattle.prefix_trie_bits.specs.Model.Step.{State}
 use Rattle.prefix_trie_bits.specs.Model.Storage.{ReadiesInStorage, RefusesInStorage}
 use Rattle.prefix_trie_table.specs.Shape.{Contents, state, storage}
-use Rattle.prefix_trie_table.proofs.Inserting.{few_children}
-use Rattle.prefix_trie_table.proofs.Invariant.{some_table, deepest_there}
-use Rattle.prefix_trie_table.proofs.Kept.{absent_seat, end_reached, kept_shape, kept_same, kept_table, kept_end, kept_readies}
-use Rattle.prefix_trie_table.proofs.Locating.{missing_few}
-use Rattle.prefix_trie_table.proofs.Sizing.{table_sizes, storage_of}
-use Rattle.prefix_trie_table.proofs.Stated.{longer_room}
+use Rattle.prefix_trie_table.proofs.Insertion.Inserting.{few_children}
+use Rattle.prefix_trie_table.proofs.Tree.Invariant.{some_table, deepest_there}
+use Rattle.prefix_trie_table.proofs.Tree.Kept.{absent_seat, end_reached, kept_shape, kept_same, kept_table, kept_end, kept_readies}
+use Rattle.prefix_trie_table.proofs.Lookup.Locating.{missing_few}
+use Rattle.prefix_trie_table.proofs.Blocks.Sizing.{table_sizes, storage_of}
+use Rattle.prefix_trie_table.proofs.Tree.Stated.{longer_room}
 use Rattle.prefix_trie_table.proofs.table.Table.make_room.Goals as goal
 
 pub prepare-requires-clause-stands : goal.prepare-requires-clause-stands

@@ -4,8 +4,8 @@ use Rattle.prefix_trie_bits.specs.Model.Step.{State}
 use Rattle.prefix_trie_table.specs.declared.allocator.node.Node.{Node}
 use Rattle.prefix_trie_table.specs.Cells.{node_sizes}
 use Rattle.prefix_trie_table.specs.Store.{Store}
-use Rattle.prefix_trie_table.proofs.Shapes.{root_shape, root_reading, some_limit, new_holds, new_shape, new_only, new_table}
-use Rattle.prefix_trie_table.proofs.Sizing.{sizes_of, root_layout}
+use Rattle.prefix_trie_table.proofs.Tree.Shapes.{root_shape, root_reading, some_limit, new_holds, new_shape, new_only, new_table}
+use Rattle.prefix_trie_table.proofs.Blocks.Sizing.{sizes_of, root_layout}
 use Rattle.prefix_trie_table.proofs.table.Table.new.Goals as goal
 
 pub invariant_of-result : goal.invariant_of-result

@@ -3,11 +3,11 @@ use Rattle.prefix_trie_bits.specs.Model.Blocks.{child_block_sizes, child_count, 
 use Rattle.prefix_trie_bits.specs.Model.Nodes.{parents}
 use Rattle.prefix_trie_table.specs.BlockCounts.{block_counts, slots_counted, used_blocks}
 use Rattle.prefix_trie_table.specs.Shape.{Contents}
-use Rattle.prefix_trie_table.proofs.Invariant.{some_table}
-use Rattle.prefix_trie_table.proofs.BlockCounts.{node_counts, slots_are, free_within}
-use Rattle.prefix_trie_table.proofs.BlockUsers.{parents_used}
-use Rattle.prefix_trie_table.proofs.Housed.{child_blocks_housed}
-use Rattle.prefix_trie_table.proofs.Shapes.{shape_nodes}
+use Rattle.prefix_trie_table.proofs.Tree.Invariant.{some_table}
+use Rattle.prefix_trie_table.proofs.Counts.BlockCounts.{node_counts, slots_are, free_within}
+use Rattle.prefix_trie_table.proofs.Counts.BlockUsers.{parents_used}
+use Rattle.prefix_trie_table.proofs.Blocks.Housed.{child_blocks_housed}
+use Rattle.prefix_trie_table.proofs.Tree.Shapes.{shape_nodes}
 use Rattle.prefix_trie_table.proofs.table.Table.node_blocks.Goals as goal
 
 pub returns-clause-counts : goal.returns-clause-counts

@@ -1,8 +1,8 @@
 use Rattle.std.proofs.Common.{ap, sym, ◌∙◌}
 use Rattle.std.specs.FinMap.{len}
-use Rattle.prefix_trie_table.proofs.Invariant.{some_table}
-use Rattle.prefix_trie_table.proofs.PathStrings.{paths_counted}
-use Rattle.prefix_trie_table.proofs.Shapes.{shape_nodes}
+use Rattle.prefix_trie_table.proofs.Tree.Invariant.{some_table}
+use Rattle.prefix_trie_table.proofs.Strings.PathStrings.{paths_counted}
+use Rattle.prefix_trie_table.proofs.Tree.Shapes.{shape_nodes}
 use Rattle.prefix_trie_table.proofs.table.Table.node_count.Goals as goal
 
 pub returns-clause-nodes : goal.returns-clause-nodes

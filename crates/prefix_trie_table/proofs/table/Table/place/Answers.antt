@@ -4,11 +4,11 @@ use Rattle.prefix_trie_bits.specs.Model.Step.{Insert}
 use Rattle.prefix_trie_bits.specs.Model.Storage.{StepOfStrings}
 use Rattle.prefix_trie_table.specs.Shape.{Contents}
 use Rattle.prefix_trie_table.specs.Steps.{stored, placed}
-use Rattle.prefix_trie_table.proofs.Invariant.{some_table, some_counted}
-use Rattle.prefix_trie_table.proofs.Kept.{absent_seat, end_reached}
-use Rattle.prefix_trie_table.proofs.Placements.{inserting, placed_leaves, placed_counts, placed_step}
-use Rattle.prefix_trie_table.proofs.Shapes.{left_shape, table_left}
-use Rattle.prefix_trie_table.proofs.Sizing.{table_sizes, storage_of}
+use Rattle.prefix_trie_table.proofs.Tree.Invariant.{some_table, some_counted}
+use Rattle.prefix_trie_table.proofs.Tree.Kept.{absent_seat, end_reached}
+use Rattle.prefix_trie_table.proofs.Insertion.Placements.{inserting, placed_leaves, placed_counts, placed_step}
+use Rattle.prefix_trie_table.proofs.Tree.Shapes.{left_shape, table_left}
+use Rattle.prefix_trie_table.proofs.Blocks.Sizing.{table_sizes, storage_of}
 use Rattle.prefix_trie_table.proofs.table.Table.place.Goals as goal
 
 pub place_entry-requires-clause-table : goal.place_entry-requires-clause-table

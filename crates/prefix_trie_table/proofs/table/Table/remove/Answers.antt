@@ -5,12 +5,12 @@ use Rattle.prefix_trie_bits.specs.Model.Step.{Remove, Value}
 use Rattle.prefix_trie_bits.specs.Model.Storage.{StepOfStrings}
 use Rattle.prefix_trie_table.specs.Shape.{Contents}
 use Rattle.prefix_trie_table.specs.Steps.{stored}
-use Rattle.prefix_trie_table.proofs.Invariant.{some_table, some_counted}
-use Rattle.prefix_trie_table.proofs.Emptying.{removed_is, table_without}
-use Rattle.prefix_trie_table.proofs.Removed.{removed_shape, removed_only, counted_removed}
-use Rattle.prefix_trie_table.proofs.Sizing.{table_sizes, storage_of}
-use Rattle.prefix_trie_table.proofs.Stated.{removes_step}
-use Rattle.prefix_trie_table.proofs.Stepped.{removed_in, pruned_in}
+use Rattle.prefix_trie_table.proofs.Tree.Invariant.{some_table, some_counted}
+use Rattle.prefix_trie_table.proofs.Removal.Emptying.{removed_is, table_without}
+use Rattle.prefix_trie_table.proofs.Removal.Removed.{removed_shape, removed_only, counted_removed}
+use Rattle.prefix_trie_table.proofs.Blocks.Sizing.{table_sizes, storage_of}
+use Rattle.prefix_trie_table.proofs.Tree.Stated.{removes_step}
+use Rattle.prefix_trie_table.proofs.Removal.Stepped.{removed_in, pruned_in}
 use Rattle.prefix_trie_table.proofs.table.Table.remove.Goals as goal
 
 pub remove_entry-requires-clause-table : goal.remove_entry-requires-clause-table

@@ -6,10 +6,10 @@ use Rattle.prefix_trie_bits.specs.Model.Storage.{StepOfStrings}
 use Rattle.prefix_trie_table.specs.Shape.{Contents, storage, same_shape}
 use Rattle.prefix_trie_table.specs.Steps.{stored, SettlesInStorage}
 use Rattle.prefix_trie_table.specs.Tables.{IsTable, IsTrie}
-use Rattle.prefix_trie_table.proofs.Invariant.{some_table}
-use Rattle.prefix_trie_table.proofs.PartTaken.{seen_trie}
-use Rattle.prefix_trie_table.proofs.Sizing.{table_sizes, storage_of}
-use Rattle.prefix_trie_table.proofs.Stated.{all_step, part_step, settles_in}
+use Rattle.prefix_trie_table.proofs.Tree.Invariant.{some_table}
+use Rattle.prefix_trie_table.proofs.Removal.PartTaken.{seen_trie}
+use Rattle.prefix_trie_table.proofs.Blocks.Sizing.{table_sizes, storage_of}
+use Rattle.prefix_trie_table.proofs.Tree.Stated.{all_step, part_step, settles_in}
 use Rattle.prefix_trie_table.proofs.table.Table.remove_children.Given as given
 use Rattle.prefix_trie_table.proofs.table.Table.remove_children.Goals as goal
 

@@ -4,12 +4,12 @@ use Rattle.prefix_trie_bits.specs.Model.Step.{RemoveKeepTree, Value}
 use Rattle.prefix_trie_bits.specs.Model.Storage.{StepOfStrings}
 use Rattle.prefix_trie_table.specs.Shape.{Contents}
 use Rattle.prefix_trie_table.specs.Steps.{stored}
-use Rattle.prefix_trie_table.proofs.Invariant.{some_table, some_counted}
-use Rattle.prefix_trie_table.proofs.Emptying.{removed_is, table_without, kept_shape, kept_only, counted_without}
-use Rattle.prefix_trie_table.proofs.Rooms.{Grows-none}
-use Rattle.prefix_trie_table.proofs.Sizing.{table_sizes, storage_of}
-use Rattle.prefix_trie_table.proofs.Stated.{takes_step}
-use Rattle.prefix_trie_table.proofs.Stepped.{kept_in, kept_children}
+use Rattle.prefix_trie_table.proofs.Tree.Invariant.{some_table, some_counted}
+use Rattle.prefix_trie_table.proofs.Removal.Emptying.{removed_is, table_without, kept_shape, kept_only, counted_without}
+use Rattle.prefix_trie_table.proofs.Insertion.Rooms.{Grows-none}
+use Rattle.prefix_trie_table.proofs.Blocks.Sizing.{table_sizes, storage_of}
+use Rattle.prefix_trie_table.proofs.Tree.Stated.{takes_step}
+use Rattle.prefix_trie_table.proofs.Removal.Stepped.{kept_in, kept_children}
 use Rattle.prefix_trie_table.proofs.table.Table.remove_keep_tree.Goals as goal
 
 pub remove_value-requires-clause-table : goal.remove_value-requires-clause-table

@@ -8,10 +8,10 @@ use Rattle.prefix_trie_table.specs.Retaining.{RetainsAll}
 use Rattle.prefix_trie_table.specs.Shape.{Contents, storage, same_shape}
 use Rattle.prefix_trie_table.specs.Steps.{stored, SettlesInStorage}
 use Rattle.prefix_trie_table.specs.Tables.{IsTable}
-use Rattle.prefix_trie_table.proofs.Invariant.{some_table}
-use Rattle.prefix_trie_table.proofs.PartTaken.{seen_trie}
-use Rattle.prefix_trie_table.proofs.Sizing.{table_sizes, storage_of}
-use Rattle.prefix_trie_table.proofs.Stated.{retains_step, settles_in}
+use Rattle.prefix_trie_table.proofs.Tree.Invariant.{some_table}
+use Rattle.prefix_trie_table.proofs.Removal.PartTaken.{seen_trie}
+use Rattle.prefix_trie_table.proofs.Blocks.Sizing.{table_sizes, storage_of}
+use Rattle.prefix_trie_table.proofs.Tree.Stated.{retains_step, settles_in}
 use Rattle.prefix_trie_table.proofs.table.Table.retain.Given as given
 use Rattle.prefix_trie_table.proofs.table.Table.retain.Goals as goal
 

@@ -2,10 +2,10 @@ use Rattle.std.proofs.Common.{◌≡◌, [], sym, ap, subst, IfSome, MatchOption
 use Rattle.std.specs.Prelude.{⊤}
 use Rattle.std.specs.FinMap.{contains_key}
 use Rattle.prefix_trie_table.specs.Shape.{Contents}
-use Rattle.prefix_trie_table.specs.Trails.{array_of, keys_to_come, GivesKey}
-use Rattle.prefix_trie_table.specs.Walks.{Tree, pending, sites}
-use Rattle.prefix_trie_table.proofs.Invariant.{trie_of}
-use Rattle.prefix_trie_table.proofs.Trails.{stack_in, step_gives, seated_stored}
+use Rattle.prefix_trie_table.specs.Walking.Trails.{array_of, keys_to_come, GivesKey}
+use Rattle.prefix_trie_table.specs.Walking.Walks.{Tree, pending, sites}
+use Rattle.prefix_trie_table.proofs.Tree.Invariant.{trie_of}
+use Rattle.prefix_trie_table.proofs.Walk.Trails.{stack_in, step_gives, seated_stored}
 use Rattle.prefix_trie_table.proofs.table.Table.step.Goals as goal
 
 pub advance-requires : goal.advance-requires

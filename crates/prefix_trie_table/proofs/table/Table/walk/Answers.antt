@@ -1,4 +1,4 @@
-use Rattle.prefix_trie_table.proofs.Invariant.{sized_trie}
+use Rattle.prefix_trie_table.proofs.Tree.Invariant.{sized_trie}
 use Rattle.prefix_trie_table.proofs.table.Table.walk.Goals as goal
 
 pub walk_of-requires : goal.walk_of-requires

@@ -7,9 +7,9 @@ use Rattle.prefix_trie_bits.proofs.Model.Members.{and-first}
 use Rattle.prefix_trie_bits.proofs.Selecting.{is_in-and}
 use Rattle.prefix_trie_table.specs.Digits.{path_of}
 use Rattle.prefix_trie_table.specs.Forest.{read}
-use Rattle.prefix_trie_table.specs.Walks.{IsPlaceOf}
-use Rattle.prefix_trie_table.proofs.Emptied.{covers_below}
-use Rattle.prefix_trie_table.proofs.PartTaken.{home_is, home_rest, home_steps, reached_site, part_emptied, may_ask_all}
+use Rattle.prefix_trie_table.specs.Walking.Walks.{IsPlaceOf}
+use Rattle.prefix_trie_table.proofs.Removal.Emptied.{covers_below}
+use Rattle.prefix_trie_table.proofs.Removal.PartTaken.{home_is, home_rest, home_steps, reached_site, part_emptied, may_ask_all}
 use Rattle.prefix_trie_table.proofs.table.children.empty_part.Goals as goal
 
 pub retain_places-requires-clause-site : goal.retain_places-requires-clause-site

@@ -2,7 +2,7 @@ use Rattle.std.proofs.Common.{◌/◌, ◌≤◌, List, length, take, sym, subst
 use Rattle.prefix_trie_table.specs.declared.allocator.node.NodeSlot.{NodeSlot}
 use Rattle.prefix_trie_table.specs.Digits.{path_of}
 use Rattle.prefix_trie_table.specs.Removals.{IsWay}
-use Rattle.prefix_trie_table.proofs.PartTaken.{end_left, part_taken, part_lasts, part_missing}
+use Rattle.prefix_trie_table.proofs.Removal.PartTaken.{end_left, part_taken, part_lasts, part_missing}
 use Rattle.prefix_trie_table.proofs.table.children.remove_part.Goals as goal
 
 pub returns-in_default-clause-removed : goal.returns-in_default-clause-removed

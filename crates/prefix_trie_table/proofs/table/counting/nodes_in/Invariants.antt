@@ -1,5 +1,5 @@
 use Rattle.std.proofs.Common.{◌≡◌, ◌+◌, take, sum_by}
-use Rattle.prefix_trie_table.proofs.NodeCounts.{child_count}
+use Rattle.prefix_trie_table.proofs.Counts.NodeCounts.{child_count}
 use Rattle.prefix_trie_table.proofs.table.counting.nodes_in.Given as goal
 
 abbrev pub invariant-loop-slot : goal.invariant-loop-slot

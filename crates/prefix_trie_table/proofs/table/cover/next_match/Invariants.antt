@@ -1,6 +1,6 @@
 use Rattle.std.proofs.Common.{ℕ, ◌+◌, ◌*◌, ◌-◌}
-use Rattle.prefix_trie_table.specs.Covers.{IsCovering}
-use Rattle.prefix_trie_table.proofs.Covers.{GoneTo}
+use Rattle.prefix_trie_table.specs.Walking.Covers.{IsCovering}
+use Rattle.prefix_trie_table.proofs.Lookup.Covers.{GoneTo}
 use Rattle.prefix_trie_table.proofs.table.cover.next_match.Given as goal
 
 abbrev pub invariant-way : goal.invariant-way

@@ -2,7 +2,7 @@ use Rattle.std.proofs.Common.{◌≡◌, ◌^◌, ◌<◌, ℕ, arith}
 use Rattle.std.specs.Int.{bit_at, trailing_zeros, w32}
 use Rattle.std.proofs.lemmas.Nat.Bits.{bit_at-trailing_zeros}
 use Rattle.prefix_trie_bits.proofs.Ranks.{has-from}
-use Rattle.prefix_trie_table.proofs.Covers.{takes_none, takes_some, match-small}
+use Rattle.prefix_trie_table.proofs.Lookup.Covers.{takes_none, takes_some, match-small}
 use Rattle.prefix_trie_table.proofs.table.cover.take_match.Goals as goal
 
 lowest : (m : ℕ) → m < 2 ^ 31 → (m ≡ 0 → ⊥) → (trailing_zeros w32 m < 32) × (bit_at m (trailing_zeros w32 m) ≡ 1) × ((i : ℕ) → i < trailing_zeros w32 m → bit_at m i ≡ 0)

@@ -1,7 +1,7 @@
 use Rattle.std.proofs.Common.{drop, take, subst, ap, ◌∙◌, sym}
 use Rattle.prefix_trie_bits.specs.Places.{has, HoldsPlaces, Sets}
-use Rattle.prefix_trie_table.specs.Cursors.{kept}
-use Rattle.prefix_trie_table.proofs.Cursors.{own_bit, masks_after, short_rest}
+use Rattle.prefix_trie_table.specs.Walking.Cursors.{kept}
+use Rattle.prefix_trie_table.proofs.Walk.Cursors.{own_bit, masks_after, short_rest}
 use Rattle.prefix_trie_table.proofs.table.cursor.places_kept.Goals as goal
 
 pub without_bit-requires-clause-set : goal.without_bit-requires-clause-set

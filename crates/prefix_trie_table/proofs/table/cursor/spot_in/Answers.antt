@@ -3,9 +3,9 @@ use Rattle.std.specs.List.{Contains}
 use Rattle.std.proofs.lemmas.Nat.{and_le_l}
 use Rattle.std.proofs.lemmas.List.Elements.{All-weaker, All-contains_itself}
 use Rattle.prefix_trie_bits.specs.Walks.{to_come}
-use Rattle.prefix_trie_table.specs.Walks.{IsPlaceOf}
-use Rattle.prefix_trie_table.proofs.Cursors.{masked, in_first}
-use Rattle.prefix_trie_table.proofs.Matching.{clear-small}
+use Rattle.prefix_trie_table.specs.Walking.Walks.{IsPlaceOf}
+use Rattle.prefix_trie_table.proofs.Walk.Cursors.{masked, in_first}
+use Rattle.prefix_trie_table.proofs.Lookup.Matching.{clear-small}
 use Rattle.prefix_trie_table.proofs.table.cursor.spot_in.Goals as goal
 
 pub new-places-requires : goal.new-places-requires

@@ -1,5 +1,5 @@
 use Rattle.std.proofs.Common.{◌+◌, ◌-◌}
-use Rattle.prefix_trie_table.proofs.Cursors.{IsLaid}
+use Rattle.prefix_trie_table.proofs.Walk.Cursors.{IsLaid}
 use Rattle.prefix_trie_table.proofs.table.cursor.start_at.Given as goal
 
 abbrev pub invariant-loop-depth : goal.invariant-loop-depth

@@ -4,10 +4,10 @@ use Rattle.std.specs.Prelude.{MatchOption}
 use Rattle.prefix_trie_table.specs.Bitmaps.{rank}
 use Rattle.prefix_trie_table.specs.Cells.{blank_node, node_sizes}
 use Rattle.prefix_trie_table.specs.Store.{Sound, Store, IsReady, SameMade, tier_lacking, free_at, tier_at, block}
-use Rattle.prefix_trie_table.proofs.Bits.{has_bit-is, rank-ones}
-use Rattle.prefix_trie_table.proofs.BitLists.{rank-within}
-use Rattle.prefix_trie_table.proofs.Adding.{entered_as, at_is, has_list, tier_small, added}
-use Rattle.prefix_trie_table.proofs.Turnovers.{same_turned}
+use Rattle.prefix_trie_table.proofs.Strings.Bits.{has_bit-is, rank-ones}
+use Rattle.prefix_trie_table.proofs.Strings.BitLists.{rank-within}
+use Rattle.prefix_trie_table.proofs.Insertion.Adding.{entered_as, at_is, has_list, tier_small, added}
+use Rattle.prefix_trie_table.proofs.Blocks.Turnovers.{same_turned}
 use Rattle.prefix_trie_table.proofs.table.insertion.add_child.Goals as goal
 
 pub insert_at-block-requires-clause-holds : goal.insert_at-block-requires-clause-holds

@@ -6,13 +6,13 @@ use Rattle.prefix_trie_table.specs.Cells.{node_at}
 use Rattle.prefix_trie_table.specs.Digits.{path_of, bit_of}
 use Rattle.prefix_trie_table.specs.Store.{free_at, tier_for}
 use Rattle.prefix_trie_table.specs.Forest.{EntryAdded, IsSlot}
-use Rattle.prefix_trie_table.proofs.Invariant.{deepest_there}
-use Rattle.prefix_trie_table.proofs.Bits.{has_bit-zero}
-use Rattle.prefix_trie_table.proofs.Spending.{single_node}
-use Rattle.prefix_trie_table.proofs.Going.{step-read, level_inside, level_last, level_within, bit-read-last, steps-all}
-use Rattle.prefix_trie_table.proofs.Growing.{walked_start, walked_more, entry_added, enough_next, enough_below, value_below}
-use Rattle.prefix_trie_table.proofs.Locating.{entered_seat}
-use Rattle.prefix_trie_table.proofs.Rooms.{SameRoom-then}
+use Rattle.prefix_trie_table.proofs.Tree.Invariant.{deepest_there}
+use Rattle.prefix_trie_table.proofs.Strings.Bits.{has_bit-zero}
+use Rattle.prefix_trie_table.proofs.Blocks.Spending.{single_node}
+use Rattle.prefix_trie_table.proofs.Lookup.Going.{step-read, level_inside, level_last, level_within, bit-read-last, steps-all}
+use Rattle.prefix_trie_table.proofs.Tree.Growing.{walked_start, walked_more, entry_added, enough_next, enough_below, value_below}
+use Rattle.prefix_trie_table.proofs.Lookup.Locating.{entered_seat}
+use Rattle.prefix_trie_table.proofs.Insertion.Rooms.{SameRoom-then}
 use Rattle.prefix_trie_table.proofs.table.insertion.add_entry.Goals as goal
 
 pub loop-level-init : goal.loop-level-init

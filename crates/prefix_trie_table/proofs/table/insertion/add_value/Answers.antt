@@ -3,11 +3,11 @@ use Rattle.std.specs.Prelude.{MatchOption}
 use Rattle.prefix_trie_table.specs.Bitmaps.{rank}
 use Rattle.prefix_trie_table.specs.Cells.{cell_sizes}
 use Rattle.prefix_trie_table.specs.Store.{IsReady, tier_lacking}
-use Rattle.prefix_trie_table.proofs.Bits.{has_bit-is, rank-ones}
-use Rattle.prefix_trie_table.proofs.BitLists.{rank-within}
-use Rattle.prefix_trie_table.proofs.Adding.{entered_as, at_is, at_values, has_values, tier_small, values_added}
-use Rattle.prefix_trie_table.proofs.Locating.{added_seat}
-use Rattle.prefix_trie_table.proofs.Turnovers.{same_turned}
+use Rattle.prefix_trie_table.proofs.Strings.Bits.{has_bit-is, rank-ones}
+use Rattle.prefix_trie_table.proofs.Strings.BitLists.{rank-within}
+use Rattle.prefix_trie_table.proofs.Insertion.Adding.{entered_as, at_is, at_values, has_values, tier_small, values_added}
+use Rattle.prefix_trie_table.proofs.Lookup.Locating.{added_seat}
+use Rattle.prefix_trie_table.proofs.Blocks.Turnovers.{same_turned}
 use Rattle.prefix_trie_table.proofs.table.insertion.add_value.Goals as goal
 
 pub insert_at-block-requires-clause-holds : goal.insert_at-block-requires-clause-holds

@@ -4,10 +4,10 @@ use Rattle.std.proofs.lemmas.List.{get_or_default}
 use Rattle.std.proofs.lemmas.Result.{err_from_is_err_and}
 use Rattle.prefix_trie_table.specs.Digits.{path_of, bit_of}
 use Rattle.prefix_trie_table.specs.Forest.{SomeTable, one_if}
-use Rattle.prefix_trie_table.proofs.Lending.{cell_there, value_there}
-use Rattle.prefix_trie_table.proofs.Asks.{at_end}
-use Rattle.prefix_trie_table.proofs.Locating.{is_seat, missing_value}
-use Rattle.prefix_trie_table.proofs.WayEnds.{entry_replaced}
+use Rattle.prefix_trie_table.proofs.Lookup.Lending.{cell_there, value_there}
+use Rattle.prefix_trie_table.proofs.Insertion.Asks.{at_end}
+use Rattle.prefix_trie_table.proofs.Lookup.Locating.{is_seat, missing_value}
+use Rattle.prefix_trie_table.proofs.Tree.WayEnds.{entry_replaced}
 use Rattle.prefix_trie_table.proofs.table.insertion.insert_entry.Goals as goal
 
 pub put-requires : goal.put-requires

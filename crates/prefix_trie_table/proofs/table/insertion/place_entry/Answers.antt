@@ -1,13 +1,13 @@
 use Rattle.std.proofs.Common.{◌≡◌, is_some, take, refl, ap, arith}
 use Rattle.prefix_trie_table.specs.Digits.{path_of, bit_of}
 use Rattle.prefix_trie_table.specs.Forest.{one_if}
-use Rattle.prefix_trie_table.proofs.Asks.{Made-then}
-use Rattle.prefix_trie_table.proofs.EntryCounts.{entries_bound}
-use Rattle.prefix_trie_table.proofs.Inserting.{nodes_prepared, cells_prepared, reached_still, few_children}
-use Rattle.prefix_trie_table.proofs.Invariant.{deepest_there}
-use Rattle.prefix_trie_table.proofs.Locating.{missing_bit, missing_few, missing_value}
-use Rattle.prefix_trie_table.proofs.Rooms.{Grows-then}
-use Rattle.prefix_trie_table.proofs.Turnovers.{made_kept}
+use Rattle.prefix_trie_table.proofs.Insertion.Asks.{Made-then}
+use Rattle.prefix_trie_table.proofs.Counts.EntryCounts.{entries_bound}
+use Rattle.prefix_trie_table.proofs.Insertion.Inserting.{nodes_prepared, cells_prepared, reached_still, few_children}
+use Rattle.prefix_trie_table.proofs.Tree.Invariant.{deepest_there}
+use Rattle.prefix_trie_table.proofs.Lookup.Locating.{missing_bit, missing_few, missing_value}
+use Rattle.prefix_trie_table.proofs.Insertion.Rooms.{Grows-then}
+use Rattle.prefix_trie_table.proofs.Blocks.Turnovers.{made_kept}
 use Rattle.prefix_trie_table.proofs.table.insertion.place_entry.Goals as goal
 
 pub prepare-requires-clause-few_values : goal.prepare-requires-clause-few_values

@@ -6,13 +6,13 @@ use Rattle.prefix_trie_table.specs.Bitmaps.{rank}
 use Rattle.prefix_trie_table.specs.Cells.{blank_node}
 use Rattle.prefix_trie_table.specs.Store.{Store, IsReady, Enough, none_at, blocks_needed}
 use Rattle.prefix_trie_table.specs.Tables.{MayPass}
-use Rattle.prefix_trie_table.proofs.Bits.{rank-ones}
-use Rattle.prefix_trie_table.proofs.Spending.{single_node, single_cell}
-use Rattle.prefix_trie_table.proofs.Adding.{at_values, has_list, has_values}
-use Rattle.prefix_trie_table.proofs.Inserting.{list_tier, node_fits, cell_fits}
-use Rattle.prefix_trie_table.proofs.Rooms.{Grows-made, nodes_lacking, cells_lacking, few_steps}
+use Rattle.prefix_trie_table.proofs.Strings.Bits.{rank-ones}
+use Rattle.prefix_trie_table.proofs.Blocks.Spending.{single_node, single_cell}
+use Rattle.prefix_trie_table.proofs.Insertion.Adding.{at_values, has_list, has_values}
+use Rattle.prefix_trie_table.proofs.Insertion.Inserting.{list_tier, node_fits, cell_fits}
+use Rattle.prefix_trie_table.proofs.Insertion.Rooms.{Grows-made, nodes_lacking, cells_lacking, few_steps}
 use Rattle.prefix_trie_table.specs.Asked.{nodes_needed, cells_needed}
-use Rattle.prefix_trie_table.proofs.Asks.{nodes_here, nodes_below, cells_here, cells_below, obtains, cells_alone, cells_refused, nodes_then, both_as}
+use Rattle.prefix_trie_table.proofs.Insertion.Asks.{nodes_here, nodes_below, cells_here, cells_below, obtains, cells_alone, cells_refused, nodes_then, both_as}
 use Rattle.prefix_trie_table.proofs.table.insertion.prepare.Goals as goal
 
 pub prepare-requires-clause-tier : goal.prepare-requires-clause-tier

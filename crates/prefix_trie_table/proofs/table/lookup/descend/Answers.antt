@@ -1,6 +1,6 @@
 use Rattle.std.proofs.Common.{◌+◌, ◌*◌, ◌≤◌, [], length, take, sym, ◌∙◌, arith}
 use Rattle.prefix_trie_table.specs.Digits.{path_of}
-use Rattle.prefix_trie_table.proofs.Going.{deepest_root, deepest_in, down_bit, down_more}
+use Rattle.prefix_trie_table.proofs.Lookup.Going.{deepest_root, deepest_in, down_bit, down_more}
 use Rattle.prefix_trie_table.proofs.table.lookup.descend.Goals as goal
 
 pub visit-node-requires : goal.visit-node-requires

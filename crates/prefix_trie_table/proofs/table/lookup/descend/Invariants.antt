@@ -1,6 +1,6 @@
 use Rattle.std.proofs.Common.{◌≡◌, ◌+◌, ◌*◌, ◌-◌, take}
 use Rattle.prefix_trie_table.specs.Digits.{path_of}
-use Rattle.prefix_trie_table.proofs.Going.{IsDown}
+use Rattle.prefix_trie_table.proofs.Lookup.Going.{IsDown}
 use Rattle.prefix_trie_table.proofs.table.lookup.descend.Given as goal
 
 abbrev pub invariant-loop-level : goal.invariant-loop-level

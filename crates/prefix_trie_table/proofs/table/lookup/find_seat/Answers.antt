@@ -1,5 +1,5 @@
 use Rattle.std.proofs.Common.{take}
-use Rattle.prefix_trie_table.proofs.Locating.{is_seat, no_value_seat}
+use Rattle.prefix_trie_table.proofs.Lookup.Locating.{is_seat, no_value_seat}
 use Rattle.prefix_trie_table.proofs.table.lookup.find_seat.Goals as goal
 
 pub returns-in-Stored-clause-seat : goal.returns-in-Stored-clause-seat

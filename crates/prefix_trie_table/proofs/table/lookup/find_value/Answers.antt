@@ -1,7 +1,7 @@
 use Rattle.std.proofs.Common.{◌+◌, None, take, sym, ◌∙◌}
 use Rattle.std.proofs.lemmas.List.{get_or_default}
 use Rattle.prefix_trie_table.specs.Forest.{SomeTable}
-use Rattle.prefix_trie_table.proofs.Lending.{cell_there}
+use Rattle.prefix_trie_table.proofs.Lookup.Lending.{cell_there}
 use Rattle.prefix_trie_table.proofs.table.lookup.find_value.Goals as goal
 
 pub at-requires : goal.at-requires

@@ -1,6 +1,6 @@
 use Rattle.std.proofs.Common.{sym, ◌∙◌, arith}
-use Rattle.prefix_trie_table.proofs.Finding.{reached_end}
-use Rattle.prefix_trie_table.proofs.Locating.{located_below, located_none, located_here}
+use Rattle.prefix_trie_table.proofs.Lookup.Finding.{reached_end}
+use Rattle.prefix_trie_table.proofs.Lookup.Locating.{located_below, located_none, located_here}
 use Rattle.prefix_trie_table.proofs.table.lookup.locate_in.Goals as goal
 
 pub returns-then-depth-len-clause-place : goal.returns-then-depth-len-clause-place

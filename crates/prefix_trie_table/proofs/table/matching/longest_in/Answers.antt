@@ -1,5 +1,5 @@
 use Rattle.std.proofs.Common.{◌≤◌, length, take, arith}
-use Rattle.prefix_trie_table.proofs.Matching.{clear-small, steps-within, none_here, longest_here, longest-small}
+use Rattle.prefix_trie_table.proofs.Lookup.Matching.{clear-small, steps-within, none_here, longest_here, longest-small}
 use Rattle.prefix_trie_table.proofs.table.matching.longest_in.Goals as goal
 
 pub longest_match-requires-clause-bitmap : goal.longest_match-requires-clause-bitmap

@@ -1,6 +1,6 @@
 use Rattle.std.proofs.Common.{[], take, arith}
 use Rattle.prefix_trie_table.specs.Digits.{path_of}
-use Rattle.prefix_trie_table.proofs.Going.{deepest_root, deepest_in}
+use Rattle.prefix_trie_table.proofs.Lookup.Going.{deepest_root, deepest_in}
 use Rattle.prefix_trie_table.proofs.table.matching.root.Goals as goal
 
 pub visit-node-requires : goal.visit-node-requires

@@ -1,5 +1,5 @@
 use Rattle.std.proofs.Common.{◌≤◌, length, take, arith}
-use Rattle.prefix_trie_table.proofs.Matching.{clear-small, steps-within, none_here, shortest_here, shortest-small}
+use Rattle.prefix_trie_table.proofs.Lookup.Matching.{clear-small, steps-within, none_here, shortest_here, shortest-small}
 use Rattle.prefix_trie_table.proofs.table.matching.shortest_in.Goals as goal
 
 pub shortest_match-requires-clause-bitmap : goal.shortest_match-requires-clause-bitmap

@@ -1,8 +1,8 @@
 use Rattle.std.proofs.Common.{◌≡◌, ◌+◌, ◌*◌, ◌≤◌, length, take, Some, sym, subst, arith}
 use Rattle.prefix_trie_table.specs.Matching.{IsOnWay, NoneHeld}
 use Rattle.prefix_trie_table.specs.Digits.{path_of}
-use Rattle.prefix_trie_table.proofs.Finding.{reached_end}
-use Rattle.prefix_trie_table.proofs.Matching.{on_way_is, none_past, none_join, shortest_behind}
+use Rattle.prefix_trie_table.proofs.Lookup.Finding.{reached_end}
+use Rattle.prefix_trie_table.proofs.Lookup.Matching.{on_way_is, none_past, none_join, shortest_behind}
 use Rattle.prefix_trie_table.proofs.table.matching.shortest_on_way.Goals as goal
 
 pub way-init : goal.way-init

@@ -1,7 +1,7 @@
 use Rattle.std.proofs.Common.{◌+◌, take, refl, sym, ◌∙◌, arith}
 use Rattle.prefix_trie_table.specs.Digits.{path_of}
-use Rattle.prefix_trie_table.proofs.Going.{deepest_in, down_bit, down_more}
-use Rattle.prefix_trie_table.proofs.Matching.{on_way_down}
+use Rattle.prefix_trie_table.proofs.Lookup.Going.{deepest_in, down_bit, down_more}
+use Rattle.prefix_trie_table.proofs.Lookup.Matching.{on_way_down}
 use Rattle.prefix_trie_table.proofs.table.matching.step_down.Goals as goal
 
 pub returns-then-not-has_bit-clause-step : goal.returns-then-not-has_bit-clause-step

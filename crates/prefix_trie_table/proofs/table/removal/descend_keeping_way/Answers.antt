@@ -5,9 +5,9 @@ use Rattle.prefix_trie_table.specs.Cells.{node_sizes}
 use Rattle.prefix_trie_table.specs.Digits.{path_of}
 use Rattle.prefix_trie_table.specs.Forest.{NodesHold, Deepest}
 use Rattle.prefix_trie_table.specs.Removals.{IsWay}
-use Rattle.prefix_trie_table.proofs.Finding.{reached_none}
-use Rattle.prefix_trie_table.proofs.Going.{IsDown, deepest_root, deepest_in, down_bit, down_more, level_inside}
-use Rattle.prefix_trie_table.proofs.Ways.{way_first, way_more}
+use Rattle.prefix_trie_table.proofs.Lookup.Finding.{reached_none}
+use Rattle.prefix_trie_table.proofs.Lookup.Going.{IsDown, deepest_root, deepest_in, down_bit, down_more, level_inside}
+use Rattle.prefix_trie_table.proofs.Tree.Ways.{way_first, way_more}
 use Rattle.prefix_trie_table.proofs.table.removal.descend_keeping_way.Goals as goal
 
 pub visit-node-requires : goal.visit-node-requires

@@ -4,7 +4,7 @@ use Rattle.prefix_trie_table.specs.Cells.{node_sizes}
 use Rattle.prefix_trie_table.specs.Digits.{path_of}
 use Rattle.prefix_trie_table.specs.Forest.{NodesHold}
 use Rattle.prefix_trie_table.specs.Removals.{IsWay}
-use Rattle.prefix_trie_table.proofs.Going.{IsDown}
+use Rattle.prefix_trie_table.proofs.Lookup.Going.{IsDown}
 use Rattle.prefix_trie_table.proofs.table.removal.descend_keeping_way.Given as goal
 
 abbrev pub invariant-loop-level : goal.invariant-loop-level

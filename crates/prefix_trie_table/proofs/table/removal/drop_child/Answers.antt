@@ -6,12 +6,12 @@ use Rattle.prefix_trie_table.specs.OwnBlocks.{size_if_any}
 use Rattle.prefix_trie_table.specs.Removals.{Shrinks}
 use Rattle.prefix_trie_table.specs.Settling.{headroom_if_any}
 use Rattle.prefix_trie_table.specs.Store.{size_in, tier_at, blocks_entered}
-use Rattle.prefix_trie_table.proofs.Bare.{one_fewer}
-use Rattle.prefix_trie_table.proofs.Bits.{has_bit-is, rank-ones}
-use Rattle.prefix_trie_table.proofs.BitLists.{rank-below}
-use Rattle.prefix_trie_table.proofs.Adding.{at_is, has_list}
-use Rattle.prefix_trie_table.proofs.Removing.{children_dropped, grows_few, gives_back, gives_written, grows_written, steps_down, may_lengthen, list_fits}
-use Rattle.prefix_trie_table.proofs.Settling.{smaller_node, headroom_node}
+use Rattle.prefix_trie_table.proofs.Strings.Bare.{one_fewer}
+use Rattle.prefix_trie_table.proofs.Strings.Bits.{has_bit-is, rank-ones}
+use Rattle.prefix_trie_table.proofs.Strings.BitLists.{rank-below}
+use Rattle.prefix_trie_table.proofs.Insertion.Adding.{at_is, has_list}
+use Rattle.prefix_trie_table.proofs.Removal.Removing.{children_dropped, grows_few, gives_back, gives_written, grows_written, steps_down, may_lengthen, list_fits}
+use Rattle.prefix_trie_table.proofs.Removal.Settling.{smaller_node, headroom_node}
 use Rattle.prefix_trie_table.proofs.table.removal.drop_child.Goals as goal
 
 pub visit-node-requires : goal.visit-node-requires

@@ -6,7 +6,7 @@ use Rattle.prefix_trie_table.specs.Digits.{path_of}
 use Rattle.prefix_trie_table.specs.Forest.{NodesHold}
 use Rattle.prefix_trie_table.specs.Removals.{IsWay, GivesBack}
 use Rattle.prefix_trie_table.specs.Tables.{Grows}
-use Rattle.prefix_trie_table.proofs.Pruning.{Pruning}
+use Rattle.prefix_trie_table.proofs.Removal.Pruning.{Pruning}
 use Rattle.prefix_trie_table.proofs.table.removal.prune_up.Given as goal
 
 abbrev pub invariant-loop-level : goal.invariant-loop-level

@@ -2,10 +2,10 @@ use Rattle.std.proofs.Common.{◌/◌, ◌≤◌, inl, inr, List, length, take, 
 use Rattle.prefix_trie_table.specs.declared.allocator.node.NodeSlot.{NodeSlot}
 use Rattle.prefix_trie_table.specs.Digits.{path_of}
 use Rattle.prefix_trie_table.specs.Removals.{IsWay}
-use Rattle.prefix_trie_table.proofs.Emptying.{nothing_taken, no_value}
-use Rattle.prefix_trie_table.proofs.Finding.{reached_own}
-use Rattle.prefix_trie_table.proofs.Going.{level_last, steps-all}
-use Rattle.prefix_trie_table.proofs.Settling.{Settles-nodes}
+use Rattle.prefix_trie_table.proofs.Removal.Emptying.{nothing_taken, no_value}
+use Rattle.prefix_trie_table.proofs.Lookup.Finding.{reached_own}
+use Rattle.prefix_trie_table.proofs.Lookup.Going.{level_last, steps-all}
+use Rattle.prefix_trie_table.proofs.Removal.Settling.{Settles-nodes}
 use Rattle.prefix_trie_table.proofs.table.removal.remove_entry.Goals as goal
 
 pub returns-in_default-clause-removed : goal.returns-in_default-clause-removed

@@ -1,6 +1,6 @@
 use Rattle.std.proofs.Common.{sym}
-use Rattle.prefix_trie_table.proofs.Emptying.{nothing_taken}
-use Rattle.prefix_trie_table.proofs.Finding.{no_value_below}
+use Rattle.prefix_trie_table.proofs.Removal.Emptying.{nothing_taken}
+use Rattle.prefix_trie_table.proofs.Lookup.Finding.{no_value_below}
 use Rattle.prefix_trie_table.proofs.table.removal.remove_value.Goals as goal
 
 pub returns-then-reached-len-clause-value : goal.returns-then-reached-len-clause-value

@@ -1,9 +1,9 @@
 use Rattle.std.proofs.Common.{◌≡◌, true, is_some, sym, ap, ◌∙◌, arith}
 use Rattle.prefix_trie_table.specs.Bitmaps.{has_bit as is_set}
 use Rattle.prefix_trie_table.specs.Forest.{one_if}
-use Rattle.prefix_trie_table.proofs.Invariant.{deepest_there}
-use Rattle.prefix_trie_table.proofs.Bits.{has_bit-is}
-use Rattle.prefix_trie_table.proofs.Emptying.{own_node, own_slot, none_there, none_taken, some_there, value_there, entry_taken}
+use Rattle.prefix_trie_table.proofs.Tree.Invariant.{deepest_there}
+use Rattle.prefix_trie_table.proofs.Strings.Bits.{has_bit-is}
+use Rattle.prefix_trie_table.proofs.Removal.Emptying.{own_node, own_slot, none_there, none_taken, some_there, value_there, entry_taken}
 use Rattle.prefix_trie_table.proofs.table.removal.take_entry.Goals as goal
 
 pub returns-then-not-has_bit-clause-value : goal.returns-then-not-has_bit-clause-value

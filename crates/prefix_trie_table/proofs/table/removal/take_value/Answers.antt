@@ -5,14 +5,14 @@ use Rattle.prefix_trie_table.specs.OwnBlocks.{size_if_any}
 use Rattle.prefix_trie_table.specs.Removals.{Shrinks}
 use Rattle.prefix_trie_table.specs.Settling.{headroom_if_any}
 use Rattle.prefix_trie_table.specs.Store.{size_in, tier_at, blocks_entered}
-use Rattle.prefix_trie_table.proofs.Bare.{one_fewer}
-use Rattle.prefix_trie_table.proofs.Bits.{has_bit-is, rank-ones}
-use Rattle.prefix_trie_table.proofs.BitLists.{rank-below, rank-all, map_get}
-use Rattle.prefix_trie_table.proofs.Adding.{at_is, at_values, has_values}
-use Rattle.prefix_trie_table.proofs.Trees.{slot_holds}
-use Rattle.prefix_trie_table.proofs.Values.{values_first}
-use Rattle.prefix_trie_table.proofs.Removing.{values_taken, grows_few, steps_down, may_lengthen, list_fits}
-use Rattle.prefix_trie_table.proofs.Settling.{smaller_cell, headroom_cell, value_settles}
+use Rattle.prefix_trie_table.proofs.Strings.Bare.{one_fewer}
+use Rattle.prefix_trie_table.proofs.Strings.Bits.{has_bit-is, rank-ones}
+use Rattle.prefix_trie_table.proofs.Strings.BitLists.{rank-below, rank-all, map_get}
+use Rattle.prefix_trie_table.proofs.Insertion.Adding.{at_is, at_values, has_values}
+use Rattle.prefix_trie_table.proofs.Tree.Trees.{slot_holds}
+use Rattle.prefix_trie_table.proofs.Tree.Values.{values_first}
+use Rattle.prefix_trie_table.proofs.Removal.Removing.{values_taken, grows_few, steps_down, may_lengthen, list_fits}
+use Rattle.prefix_trie_table.proofs.Removal.Settling.{smaller_cell, headroom_cell, value_settles}
 use Rattle.prefix_trie_table.proofs.table.removal.take_value.Goals as goal
 
 pub remove_at-value-requires-clause-holds : goal.remove_at-value-requires-clause-holds

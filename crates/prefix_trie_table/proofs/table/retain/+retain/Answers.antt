@@ -10,16 +10,16 @@ use Rattle.prefix_trie_table.specs.Tables.{IsTrie}
 use Rattle.std.specs.List.{Contains}
 use Rattle.std.proofs.lemmas.List.Elements.{All-weaker, All-contains_itself}
 use Rattle.prefix_trie_table.specs.Bitmaps.{has_bit}
-use Rattle.prefix_trie_table.specs.Walks.{IsPlaceOf}
-use Rattle.prefix_trie_table.proofs.Asked.{none_asked}
-use Rattle.prefix_trie_table.proofs.Bits.{has_bit-is}
-use Rattle.prefix_trie_table.proofs.Lowered.{child_small, lower_inside, lower_few, lower_fits, lower_site, may_ask_lower, still_site, still_lasts, child_stays, child_goes, site3, lasts3}
-use Rattle.prefix_trie_table.proofs.Matching.{clear-small}
-use Rattle.prefix_trie_table.proofs.Placed.{same_place}
-use Rattle.prefix_trie_table.proofs.Retained.{site_holds, site_node}
-use Rattle.prefix_trie_table.proofs.Spots.{place-value, place-small, place-child, place-child-small}
-use Rattle.prefix_trie_table.proofs.Subtrees.{is_in-child}
-use Rattle.prefix_trie_table.proofs.Placed.{this_place, may_ask_this, each_next, apart_next, done_next, lasts_both, lasts_none}
+use Rattle.prefix_trie_table.specs.Walking.Walks.{IsPlaceOf}
+use Rattle.prefix_trie_table.proofs.Retain.Asked.{none_asked}
+use Rattle.prefix_trie_table.proofs.Strings.Bits.{has_bit-is}
+use Rattle.prefix_trie_table.proofs.Retain.Lowered.{child_small, lower_inside, lower_few, lower_fits, lower_site, may_ask_lower, still_site, still_lasts, child_stays, child_goes, site3, lasts3}
+use Rattle.prefix_trie_table.proofs.Lookup.Matching.{clear-small}
+use Rattle.prefix_trie_table.proofs.Retain.Placed.{same_place}
+use Rattle.prefix_trie_table.proofs.Retain.Retained.{site_holds, site_node}
+use Rattle.prefix_trie_table.proofs.Walk.Spots.{place-value, place-small, place-child, place-child-small}
+use Rattle.prefix_trie_table.proofs.Tree.Subtrees.{is_in-child}
+use Rattle.prefix_trie_table.proofs.Retain.Placed.{this_place, may_ask_this, each_next, apart_next, done_next, lasts_both, lasts_none}
 use Rattle.prefix_trie_table.proofs.table.retain.+retain.Goals as goal
 
 pub retain_place-retain_value-requires-clause-bit : goal.retain_place-retain_value-requires-clause-bit

@@ -4,11 +4,11 @@ use Rattle.std.proofs.lemmas.List.Elements.{All-weaker, All-contains_itself}
 use Rattle.prefix_trie_bits.specs.Walks.{to_come}
 use Rattle.prefix_trie_table.specs.Bitmaps.{has_bit}
 use Rattle.prefix_trie_table.specs.Cells.{node_at}
-use Rattle.prefix_trie_table.specs.Walks.{IsPlaceOf}
-use Rattle.prefix_trie_table.proofs.Matching.{clear-small}
-use Rattle.prefix_trie_table.proofs.Rooted.{root_site, root_may_ask, root_asked}
-use Rattle.prefix_trie_table.proofs.Subtrees.{root_inside, few_at}
-use Rattle.prefix_trie_table.proofs.Trees.{read-nil}
+use Rattle.prefix_trie_table.specs.Walking.Walks.{IsPlaceOf}
+use Rattle.prefix_trie_table.proofs.Lookup.Matching.{clear-small}
+use Rattle.prefix_trie_table.proofs.Retain.Rooted.{root_site, root_may_ask, root_asked}
+use Rattle.prefix_trie_table.proofs.Tree.Subtrees.{root_inside, few_at}
+use Rattle.prefix_trie_table.proofs.Tree.Trees.{read-nil}
 use Rattle.prefix_trie_table.proofs.table.retain.retain_entries.Goals as goal
 
 pub visit-root-requires : goal.visit-root-requires

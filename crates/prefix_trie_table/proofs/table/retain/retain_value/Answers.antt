@@ -3,11 +3,11 @@ use Rattle.std.specs.Option.{option_copied}
 use Rattle.std.proofs.lemmas.Bool.{false≢true}
 use Rattle.prefix_trie_bits.specs.Bits.{digits}
 use Rattle.prefix_trie_table.specs.Retaining.{RetainsTo}
-use Rattle.prefix_trie_table.proofs.Bits.{has_bit-is}
-use Rattle.prefix_trie_table.proofs.Retained.{site_holds, site_values}
-use Rattle.prefix_trie_table.proofs.Rooms.{Grows-none}
-use Rattle.prefix_trie_table.proofs.Seen.{short, value_slot, value_got, value_some, value_room, key_filled, may_ask_here, stays_here, goes_here, counted_here, above_here, values_here, children_here, site_here, trie_goes}
-use Rattle.prefix_trie_table.proofs.Turnovers.{made_same}
+use Rattle.prefix_trie_table.proofs.Strings.Bits.{has_bit-is}
+use Rattle.prefix_trie_table.proofs.Retain.Retained.{site_holds, site_values}
+use Rattle.prefix_trie_table.proofs.Insertion.Rooms.{Grows-none}
+use Rattle.prefix_trie_table.proofs.Retain.Seen.{short, value_slot, value_got, value_some, value_room, key_filled, may_ask_here, stays_here, goes_here, counted_here, above_here, values_here, children_here, site_here, trie_goes}
+use Rattle.prefix_trie_table.proofs.Blocks.Turnovers.{made_same}
 use Rattle.prefix_trie_table.proofs.table.retain.retain_value.Goals as goal
 
 pub at-requires : goal.at-requires

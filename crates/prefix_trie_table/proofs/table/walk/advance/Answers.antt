@@ -6,9 +6,9 @@ use Rattle.prefix_trie_table.specs.declared.table.spot.Spot.{Spot}
 use Rattle.prefix_trie_table.specs.Digits.{path_of}
 use Rattle.prefix_trie_table.specs.Forest.{read}
 use Rattle.prefix_trie_table.specs.Store.{Store}
-use Rattle.prefix_trie_table.specs.Walks.{ArePassed, IsSpot, IsStack, pending, site, sites, total_weight}
-use Rattle.prefix_trie_table.proofs.Passing.{passed-popped, passed-put, passed-child}
-use Rattle.prefix_trie_table.proofs.Stacks.{spot-popped, stack-popped, child-room, stack-put, stack-child_way, pending-entry, pending-child_way, pending-done, weight-deeper_way, weight-popped, sites-popped}
+use Rattle.prefix_trie_table.specs.Walking.Walks.{ArePassed, IsSpot, IsStack, pending, site, sites, total_weight}
+use Rattle.prefix_trie_table.proofs.Walk.Passing.{passed-popped, passed-put, passed-child}
+use Rattle.prefix_trie_table.proofs.Walk.Stacks.{spot-popped, stack-popped, child-room, stack-put, stack-child_way, pending-entry, pending-child_way, pending-done, weight-deeper_way, weight-popped, sites-popped}
 use Rattle.prefix_trie_table.proofs.table.walk.advance.Goals as goal
 
 pub next_at-requires-clause-spot : goal.next_at-requires-clause-spot

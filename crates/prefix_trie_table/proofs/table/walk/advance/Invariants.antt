@@ -1,5 +1,5 @@
 use Rattle.std.proofs.Common.{◌≡◌}
-use Rattle.prefix_trie_table.specs.Walks.{Tree, ArePassed, IsStack, pending, sites, total_weight}
+use Rattle.prefix_trie_table.specs.Walking.Walks.{Tree, ArePassed, IsStack, pending, sites, total_weight}
 use Rattle.prefix_trie_table.specs.Tables.{IsTrie}
 use Rattle.prefix_trie_table.proofs.table.walk.advance.Given as goal
 

@@ -1,7 +1,7 @@
 use Rattle.std.proofs.Common.{◌+◌, ◌<◌, ◌≤◌, ◌∙◌, [], ◌∷◌, sym, ap, subst, length, length-append, arith}
 use Rattle.std.proofs.lemmas.Bool.{false≢true}
 use Rattle.prefix_trie_table.specs.declared.table.spot.Spot.{Spot}
-use Rattle.prefix_trie_table.proofs.Paths.{snoc_inj}
+use Rattle.prefix_trie_table.proofs.Strings.Paths.{snoc_inj}
 use Rattle.prefix_trie_table.proofs.table.walk.skip_at_last.Goals as goal
 
 pub skip_below-requires-clause-whole : goal.skip_below-requires-clause-whole

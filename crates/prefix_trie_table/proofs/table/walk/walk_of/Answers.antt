@@ -1,9 +1,9 @@
 use Rattle.std.proofs.Common.{◌∙◌, [], ◌∷◌, ◌++◌, ap}
 use Rattle.prefix_trie_table.specs.Cells.{node_at}
-use Rattle.prefix_trie_table.specs.Walks.{site, sites}
-use Rattle.prefix_trie_table.proofs.Trees.{read-nil}
-use Rattle.prefix_trie_table.proofs.Subtrees.{root_inside, few_at}
-use Rattle.prefix_trie_table.proofs.Walking.{root_walk, root_rest}
+use Rattle.prefix_trie_table.specs.Walking.Walks.{site, sites}
+use Rattle.prefix_trie_table.proofs.Tree.Trees.{read-nil}
+use Rattle.prefix_trie_table.proofs.Tree.Subtrees.{root_inside, few_at}
+use Rattle.prefix_trie_table.proofs.Walk.Walking.{root_walk, root_rest}
 use Rattle.prefix_trie_table.proofs.table.walk.walk_of.Goals as goal
 
 pub enter-requires-clause-stands : goal.enter-requires-clause-stands

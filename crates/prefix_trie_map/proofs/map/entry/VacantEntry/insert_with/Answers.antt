@@ -5,7 +5,7 @@ use Rattle.prefix_trie_bits.specs.Model.Entries.{with_entry}
 use Rattle.prefix_trie_bits.specs.Model.Insertion.{node_slots_lacking, cell_slots_lacking}
 use Rattle.prefix_trie_bits.specs.Model.Nodes.{with_needed}
 use Rattle.prefix_trie_bits.specs.Model.Storage.{ReadiesInStorage}
-use Rattle.prefix_trie_bits.proofs.Model.Readied.{no_node_slots_lack, no_cell_slots_lack}
+use Rattle.prefix_trie_bits.proofs.Model.Storage.Readied.{no_node_slots_lack, no_cell_slots_lack}
 use Rattle.prefix_trie_map.specs.Steps.{state, storage}
 use Rattle.prefix_trie_map.proofs.Entries.{Fills-lent, Refuses-handed}
 use Rattle.prefix_trie_map.proofs.Placing.{entry_only, readied_step}

@@ -1,5 +1,5 @@
 use Rattle.std.proofs.Common.{◌+◌, get_or, sym, ap, ◌∙◌}
-use Rattle.prefix_trie_table.proofs.Soundness.{slot_of_block}
+use Rattle.prefix_trie_table.proofs.Blocks.Soundness.{slot_of_block}
 use Rattle.prefix_trie_table.proofs.allocator.blocks.Blocks.at.Goals as goal
 
 pub returns-clause-item : goal.returns-clause-item

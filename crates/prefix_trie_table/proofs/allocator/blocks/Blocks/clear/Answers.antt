@@ -2,7 +2,7 @@ use Rattle.std.proofs.Common.{◌≡◌, ◌<◌, [], All, length, sym, ap, ◌�
 use Rattle.std.proofs.lemmas.List.{length-take-le}
 use Rattle.std.proofs.lemmas.List.Elements.{All-map}
 use Rattle.prefix_trie_table.specs.Store.{Tier, no_blocks}
-use Rattle.prefix_trie_table.proofs.Soundness.{Sound-new, none_made, no_slots_made}
+use Rattle.prefix_trie_table.proofs.Blocks.Soundness.{Sound-new, none_made, no_slots_made}
 use Rattle.prefix_trie_table.proofs.allocator.blocks.Blocks.clear.Given as given
 use Rattle.prefix_trie_table.proofs.allocator.blocks.Blocks.clear.Goals as goal
 

@@ -1,7 +1,7 @@
 use Rattle.std.proofs.Common.{◌≡◌, ◌<◌, ◌∷◌, [], ◌++◌, length, refl, sym, ap, ◌∙◌}
 use Rattle.std.proofs.lemmas.List.{get_or_default}
 use Rattle.prefix_trie_table.specs.Store.{Tier, tier_at, block}
-use Rattle.prefix_trie_table.proofs.Soundness.{Sound-given}
+use Rattle.prefix_trie_table.proofs.Blocks.Soundness.{Sound-given}
 use Rattle.prefix_trie_table.proofs.allocator.blocks.Blocks.give_back.Goals as goal
 
 pub returns-clause-sound : goal.returns-clause-sound

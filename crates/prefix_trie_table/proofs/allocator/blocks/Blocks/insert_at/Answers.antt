@@ -1,11 +1,11 @@
 use Rattle.std.proofs.Common.{◌≡◌, ◌++◌, [], Some, refl, sym, ap, arith, subst, ◌∙◌}
 use Rattle.std.proofs.lemmas.List.{nil_from_length}
 use Rattle.prefix_trie_table.specs.Store.{Sound, tier_at, block, held, Spends, tier_lacking, tier_for}
-use Rattle.prefix_trie_table.proofs.Soundness.{block_inside, tier_for_holds}
-use Rattle.prefix_trie_table.proofs.Spending.{Spends-taken, Spends-inserted, Spends-then, list_block}
+use Rattle.prefix_trie_table.proofs.Blocks.Soundness.{block_inside, tier_for_holds}
+use Rattle.prefix_trie_table.proofs.Blocks.Spending.{Spends-taken, Spends-inserted, Spends-then, list_block}
 use Rattle.prefix_trie_table.specs.Store.{Turnover, tier_outgrown, none_at, one_at, many_at}
 use Rattle.std.proofs.Common.{None}
-use Rattle.prefix_trie_table.proofs.Turnovers.{Turnover-entered, some_free}
+use Rattle.prefix_trie_table.proofs.Blocks.Turnovers.{Turnover-entered, some_free}
 use Rattle.prefix_trie_table.proofs.allocator.blocks.Blocks.insert_at.Goals as goal
 
 pub insert_within-requires-clause-room : goal.insert_within-requires-clause-room

@@ -1,10 +1,10 @@
 use Rattle.std.proofs.Common.{◌≡◌, ◌+◌, ◌∷◌, insert, refl, sym, arith, subst, ◌∙◌}
 use Rattle.prefix_trie_table.specs.Store.{Sound, tier_at, block}
-use Rattle.prefix_trie_table.proofs.Soundness.{block_inside, tier_of_block, tier_for_holds}
-use Rattle.prefix_trie_table.proofs.Spending.{Spends-inserted}
+use Rattle.prefix_trie_table.proofs.Blocks.Soundness.{block_inside, tier_of_block, tier_for_holds}
+use Rattle.prefix_trie_table.proofs.Blocks.Spending.{Spends-inserted}
 use Rattle.std.proofs.Common.{◌<◌}
 use Rattle.std.proofs.lemmas.Bool.{lt-ltb}
-use Rattle.prefix_trie_table.proofs.Turnovers.{Turnover-written}
+use Rattle.prefix_trie_table.proofs.Blocks.Turnovers.{Turnover-written}
 use Rattle.prefix_trie_table.proofs.allocator.blocks.Blocks.insert_into.Goals as goal
 
 pub size_of-requires : goal.size_of-requires

@@ -1,9 +1,9 @@
 use Rattle.std.proofs.Common.{◌∷◌, [], refl, arith}
 use Rattle.prefix_trie_table.specs.Store.{tier_at, block}
-use Rattle.prefix_trie_table.proofs.Soundness.{Sound-exchanged, block_inside, fits_block, has_place}
-use Rattle.prefix_trie_table.proofs.Spending.{Spends-taken, Spends-given, Spends-inserted, Spends-swapped, Spends-then}
-use Rattle.prefix_trie_table.proofs.Soundness.{tier_of_block}
-use Rattle.prefix_trie_table.proofs.Turnovers.{Turnover-entered, Turnover-left, Turnover-moved, tiers_stay}
+use Rattle.prefix_trie_table.proofs.Blocks.Soundness.{Sound-exchanged, block_inside, fits_block, has_place}
+use Rattle.prefix_trie_table.proofs.Blocks.Spending.{Spends-taken, Spends-given, Spends-inserted, Spends-swapped, Spends-then}
+use Rattle.prefix_trie_table.proofs.Blocks.Soundness.{tier_of_block}
+use Rattle.prefix_trie_table.proofs.Blocks.Turnovers.{Turnover-entered, Turnover-left, Turnover-moved, tiers_stay}
 use Rattle.prefix_trie_table.proofs.allocator.blocks.Blocks.insert_moving.Goals as goal
 
 pub move_items-requires-clause-from_within : goal.move_items-requires-clause-from_within

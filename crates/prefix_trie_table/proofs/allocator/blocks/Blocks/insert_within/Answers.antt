@@ -1,5 +1,5 @@
 use Rattle.std.proofs.Common.{◌≡◌, ◌+◌, insert, remove, sym, ap, ◌∙◌}
-use Rattle.prefix_trie_table.proofs.Soundness.{Sound-inserted}
+use Rattle.prefix_trie_table.proofs.Blocks.Soundness.{Sound-inserted}
 use Rattle.prefix_trie_table.proofs.allocator.blocks.Blocks.insert_within.Goals as goal
 
 pub returns-clause-sound : goal.returns-clause-sound

@@ -1,7 +1,7 @@
 use Rattle.std.proofs.Common.{◌≡◌, ◌+◌, ◌<◌, ◌∷◌, [], ◌++◌, length, replicate, length-append, sym, ap, ◌∙◌, arith, rules}
 use Rattle.std.proofs.lemmas.List.{length-replicate, get_or_default}
 use Rattle.prefix_trie_table.specs.Store.{Tier, tier_at}
-use Rattle.prefix_trie_table.proofs.Soundness.{made_fits, Sound-grown_as}
+use Rattle.prefix_trie_table.proofs.Blocks.Soundness.{made_fits, Sound-grown_as}
 use Rattle.prefix_trie_table.proofs.allocator.blocks.Blocks.make.Goals as goal
 
 pub invariant_of-self-2 : goal.invariant_of-self-2

@@ -1,6 +1,6 @@
 use Rattle.std.proofs.Common.{◌≡◌, ℕ, suc, ◌+◌, ◌-◌, ◌≤◌, length, ap, ◌∙◌, arith, rules}
 use Rattle.prefix_trie_table.specs.Store.{tier_at, grown, grown_times}
-use Rattle.prefix_trie_table.proofs.Spending.{Prepared-same, Prepared-then, Prepared-grown}
+use Rattle.prefix_trie_table.proofs.Blocks.Spending.{Prepared-same, Prepared-then, Prepared-grown}
 use Rattle.prefix_trie_table.proofs.allocator.blocks.Blocks.obtain.Goals as goal
 
 pub loop-i-preserved : goal.loop-i-preserved

@@ -3,9 +3,9 @@ use Rattle.std.proofs.lemmas.Bool.{cases_lt}
 use Rattle.prefix_trie_bits.specs.declared.prefix.Refusal.{Refusal}
 use Rattle.prefix_trie_bits.specs.declared.prefix.Refusal.TheVariants.{Memory, IndexRange}
 use Rattle.prefix_trie_table.specs.Store.{Store, Prepared, CutShort, tier_lacking, free_at, blocks_lacking, many_at, slots_of, tier_sizes}
-use Rattle.prefix_trie_table.proofs.Spending.{Prepared-same, Prepared-then, enough}
-use Rattle.prefix_trie_table.proofs.Soundness.{tier_for_holds}
-use Rattle.prefix_trie_table.proofs.Preparing.{LastWay, Way, way_same, way_first, way_second, way_done, way_short, way_range, need_first, lacking_inside, lacking_bound}
+use Rattle.prefix_trie_table.proofs.Blocks.Spending.{Prepared-same, Prepared-then, enough}
+use Rattle.prefix_trie_table.proofs.Blocks.Soundness.{tier_for_holds}
+use Rattle.prefix_trie_table.proofs.Blocks.Preparing.{LastWay, Way, way_same, way_first, way_second, way_done, way_short, way_range, need_first, lacking_inside, lacking_bound}
 use Rattle.prefix_trie_table.proofs.allocator.blocks.Blocks.prepare.Given as given
 use Rattle.prefix_trie_table.proofs.allocator.blocks.Blocks.prepare.Goals as goal
 use Rattle.prefix_trie_table.proofs.allocator.blocks.Blocks.prepare.Goals.{in-Some+then-tier-eq0, in-Some+else-tier-eq0+in_ok-obtain, in_default}

@@ -1,5 +1,5 @@
 use Rattle.std.proofs.Common.{◌≡◌, ◌+◌, set, sym, ap, ◌∙◌}
-use Rattle.prefix_trie_table.proofs.Soundness.{Sound-set, Sound-set_before}
+use Rattle.prefix_trie_table.proofs.Blocks.Soundness.{Sound-set, Sound-set_before}
 use Rattle.prefix_trie_table.proofs.allocator.blocks.Blocks.put.Goals as goal
 
 pub returns-clause-sound : goal.returns-clause-sound

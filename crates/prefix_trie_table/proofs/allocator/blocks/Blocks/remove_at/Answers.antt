@@ -2,10 +2,10 @@ use Rattle.std.proofs.Common.{◌≡◌, ◌<◌, ◌∷◌, remove, sym, ap, ar
 use Rattle.std.proofs.lemmas.List.Edits.{length-remove}
 use Rattle.std.proofs.lemmas.Bool.{false≢true, cases_lt}
 use Rattle.prefix_trie_table.specs.Store.{Sound, tier_at, tier_for, block}
-use Rattle.prefix_trie_table.proofs.Soundness.{tier_of_block}
-use Rattle.prefix_trie_table.proofs.Spending.{list_block, block_list, no_list}
+use Rattle.prefix_trie_table.proofs.Blocks.Soundness.{tier_of_block}
+use Rattle.prefix_trie_table.proofs.Blocks.Spending.{list_block, block_list, no_list}
 use Rattle.std.proofs.Common.{◌-◌, Some, Option}
-use Rattle.prefix_trie_table.proofs.Soundness.{fits_block, tier_for-first}
+use Rattle.prefix_trie_table.proofs.Blocks.Soundness.{fits_block, tier_for-first}
 use Rattle.prefix_trie_table.proofs.allocator.blocks.Blocks.remove_at.Goals as goal
 
 pub remove_from-value-requires-clause-in_use : goal.remove_from-value-requires-clause-in_use

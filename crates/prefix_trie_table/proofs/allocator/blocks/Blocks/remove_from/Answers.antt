@@ -2,11 +2,11 @@ use Rattle.std.proofs.Common.{◌≡◌, ◌-◌, ◌∷◌, [], length, remove,
 use Rattle.std.proofs.lemmas.List.{nil_from_length}
 use Rattle.std.proofs.lemmas.List.Edits.{length-remove}
 use Rattle.prefix_trie_table.specs.Store.{Store, Sound, tier_at, block}
-use Rattle.prefix_trie_table.proofs.Soundness.{block_inside, fits_block, has_place, tier_of_block, tier_for_holds}
+use Rattle.prefix_trie_table.proofs.Blocks.Soundness.{block_inside, fits_block, has_place, tier_of_block, tier_for_holds}
 use Rattle.prefix_trie_table.specs.Store.{Keeps}
-use Rattle.prefix_trie_table.proofs.Spending.{Spends-given, Keeps-spends, Keeps-then, Keeps-same, Keeps-removed}
+use Rattle.prefix_trie_table.proofs.Blocks.Spending.{Spends-given, Keeps-spends, Keeps-then, Keeps-same, Keeps-removed}
 use Rattle.prefix_trie_table.specs.Store.{Turnover, none_at}
-use Rattle.prefix_trie_table.proofs.Turnovers.{Turnover-written, Turnover-left}
+use Rattle.prefix_trie_table.proofs.Blocks.Turnovers.{Turnover-written, Turnover-left}
 use Rattle.prefix_trie_table.proofs.allocator.blocks.Blocks.remove_from.Given as given
 use Rattle.prefix_trie_table.proofs.allocator.blocks.Blocks.remove_from.Goals as goal
 use Rattle.prefix_trie_table.proofs.allocator.blocks.Blocks.remove_from.Goals.{in-Some+then-tier-k+in_default-step_down, in-Some+else-tier-k, in_default}

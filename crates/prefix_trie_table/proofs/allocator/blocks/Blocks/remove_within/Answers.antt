@@ -1,5 +1,5 @@
 use Rattle.std.proofs.Common.{◌≡◌, ◌+◌, ◌-◌, get_or, insert, remove, arith, sym, ap, ◌∙◌}
-use Rattle.prefix_trie_table.proofs.Soundness.{Sound-removed, slot_of_block}
+use Rattle.prefix_trie_table.proofs.Blocks.Soundness.{Sound-removed, slot_of_block}
 use Rattle.prefix_trie_table.proofs.allocator.blocks.Blocks.remove_within.Goals as goal
 
 pub returns-clause-value : goal.returns-clause-value

@@ -1,11 +1,11 @@
 use Rattle.std.proofs.Common.{◌≤◌, ◌∷◌, [], refl, arith, subst}
 use Rattle.prefix_trie_table.specs.Store.{Sound, tier_at, block}
-use Rattle.prefix_trie_table.proofs.Soundness.{Sound-exchanged, block_inside, fits_block, has_place}
-use Rattle.prefix_trie_table.proofs.Spending.{Spends-taken, Spends-given, Spends-swapped, Keeps-spends, Keeps-prepared, Keeps-then}
+use Rattle.prefix_trie_table.proofs.Blocks.Soundness.{Sound-exchanged, block_inside, fits_block, has_place}
+use Rattle.prefix_trie_table.proofs.Blocks.Spending.{Spends-taken, Spends-given, Spends-swapped, Keeps-spends, Keeps-prepared, Keeps-then}
 use Rattle.std.proofs.Common.{◌≡◌, ◌-◌, rules, sym}
 use Rattle.prefix_trie_table.specs.Store.{Turnover, grown_times, free_at, many_at, none_at}
-use Rattle.prefix_trie_table.proofs.Soundness.{tier_of_block}
-use Rattle.prefix_trie_table.proofs.Turnovers.{Turnover-as, Turnover-then, Turnover-grown_times, Turnover-entered, Turnover-given, Turnover-moved, some_free, tiers_stay}
+use Rattle.prefix_trie_table.proofs.Blocks.Soundness.{tier_of_block}
+use Rattle.prefix_trie_table.proofs.Blocks.Turnovers.{Turnover-as, Turnover-then, Turnover-grown_times, Turnover-entered, Turnover-given, Turnover-moved, some_free, tiers_stay}
 use Rattle.prefix_trie_table.proofs.allocator.blocks.Blocks.step_down.Goals as goal
 
 pub move_items-requires-clause-from_within : goal.move_items-requires-clause-from_within

@@ -1,7 +1,7 @@
 use Rattle.std.proofs.Common.{◌≡◌, ◌<◌, length, sym, ap, ◌∙◌}
 use Rattle.std.proofs.lemmas.List.{get_or_default}
 use Rattle.prefix_trie_table.specs.Store.{Tier, tier_at}
-use Rattle.prefix_trie_table.proofs.Soundness.{Sound-taken}
+use Rattle.prefix_trie_table.proofs.Blocks.Soundness.{Sound-taken}
 use Rattle.prefix_trie_table.proofs.allocator.blocks.Blocks.take.Goals as goal
 
 pub returns-clause-sound : goal.returns-clause-sound

@@ -1,9 +1,9 @@
 use Rattle.std.proofs.Common.{◌∷◌, take, is_some, ap, sym, ◌∙◌, arith}
 use Rattle.std.proofs.lemmas.Bool.{false≢true}
-use Rattle.prefix_trie_table.specs.Covers.{still_covering}
-use Rattle.prefix_trie_table.proofs.Covers.{cover_on}
-use Rattle.prefix_trie_table.proofs.Covered.{gives_none, gives_next, match_there, match_short}
-use Rattle.prefix_trie_table.proofs.Matched.{has_nodes}
+use Rattle.prefix_trie_table.specs.Walking.Covers.{still_covering}
+use Rattle.prefix_trie_table.proofs.Lookup.Covers.{cover_on}
+use Rattle.prefix_trie_table.proofs.Lookup.Covered.{gives_none, gives_next, match_there, match_short}
+use Rattle.prefix_trie_table.proofs.Lookup.Matched.{has_nodes}
 use Rattle.prefix_trie_table.proofs.table.cover.Cover.next.Goals as goal
 
 pub next_match-requires-clause-sound : goal.next_match-requires-clause-sound

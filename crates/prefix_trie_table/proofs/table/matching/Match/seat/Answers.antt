@@ -1,5 +1,5 @@
 use Rattle.std.proofs.Common.{sym, ◌∙◌, arith}
-use Rattle.prefix_trie_table.proofs.Bits.{rank-ones}
+use Rattle.prefix_trie_table.proofs.Strings.Bits.{rank-ones}
 use Rattle.prefix_trie_table.proofs.table.matching.Match.seat.Goals as goal
 
 pub returns : goal.returns

@@ -1,7 +1,7 @@
 use Rattle.std.proofs.Common.{take}
 use Rattle.std.specs.FinMap.{len as size}
-use Rattle.prefix_trie_table.specs.Walks.{Tree, sites}
-use Rattle.prefix_trie_table.proofs.Taking.{seated, walk_below, below_given}
+use Rattle.prefix_trie_table.specs.Walking.Walks.{Tree, sites}
+use Rattle.prefix_trie_table.proofs.Walk.Taking.{seated, walk_below, below_given}
 use Rattle.prefix_trie_table.proofs.table.taking.IntoWalk.below.Goals as goal
 
 pub start_at-stack-requires-clause-tree : goal.start_at-stack-requires-clause-tree

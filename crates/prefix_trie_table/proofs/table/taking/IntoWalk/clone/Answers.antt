@@ -1,8 +1,8 @@
 use Rattle.std.proofs.Common.{refl, ap, ◌∙◌}
 use Rattle.std.specs.List.{each_same}
-use Rattle.prefix_trie_table.specs.Walks.{sites}
-use Rattle.prefix_trie_table.proofs.Copying.{option_pairs}
-use Rattle.prefix_trie_table.proofs.CopiedWalks.{copied_seats, copied_walk, copied_pairs, pairs_same}
+use Rattle.prefix_trie_table.specs.Walking.Walks.{sites}
+use Rattle.prefix_trie_table.proofs.Tree.Copying.{option_pairs}
+use Rattle.prefix_trie_table.proofs.Walk.CopiedWalks.{copied_seats, copied_walk, copied_pairs, pairs_same}
 use Rattle.prefix_trie_table.proofs.table.taking.IntoWalk.clone.Goals as goal
 
 pub invariant_of-result : goal.invariant_of-result

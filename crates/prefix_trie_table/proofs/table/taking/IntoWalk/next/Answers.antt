@@ -1,7 +1,7 @@
 use Rattle.std.proofs.Common.{◌∙◌, sym, ap, is_some}
 use Rattle.std.proofs.lemmas.Bool.{false≢true}
-use Rattle.prefix_trie_table.specs.Walks.{sites}
-use Rattle.prefix_trie_table.proofs.Taking.{none_given, walk_ended, taken_there, walk_goes_on, gives_taken}
+use Rattle.prefix_trie_table.specs.Walking.Walks.{sites}
+use Rattle.prefix_trie_table.proofs.Walk.Taking.{none_given, walk_ended, taken_there, walk_goes_on, gives_taken}
 use Rattle.prefix_trie_table.proofs.table.taking.IntoWalk.next.Goals as goal
 
 pub invariant_of-self : goal.invariant_of-self

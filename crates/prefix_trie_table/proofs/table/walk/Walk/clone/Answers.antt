@@ -1,7 +1,7 @@
 use Rattle.std.proofs.Common.{◌∙◌, ap}
 use Rattle.std.specs.List.{each_same}
-use Rattle.prefix_trie_table.specs.Walks.{sites}
-use Rattle.prefix_trie_table.proofs.Walking.{same_rest, same_walk}
+use Rattle.prefix_trie_table.specs.Walking.Walks.{sites}
+use Rattle.prefix_trie_table.proofs.Walk.Walking.{same_rest, same_walk}
 use Rattle.prefix_trie_table.proofs.table.walk.Walk.clone.Goals as goal
 
 pub invariant_of-result-2 : goal.invariant_of-result-2

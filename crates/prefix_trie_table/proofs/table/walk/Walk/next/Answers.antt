@@ -1,7 +1,7 @@
 use Rattle.std.proofs.Common.{◌∙◌, sym}
-use Rattle.prefix_trie_table.specs.Walks.{Tree, sites}
+use Rattle.prefix_trie_table.specs.Walking.Walks.{Tree, sites}
 use Rattle.std.specs.FinMap.{len}
-use Rattle.prefix_trie_table.proofs.Walking.{rest_at, gives_read}
+use Rattle.prefix_trie_table.proofs.Walk.Walking.{rest_at, gives_read}
 use Rattle.prefix_trie_table.proofs.table.walk.Walk.next.Goals as goal
 
 pub advance-requires : goal.advance-requires

@@ -1,8 +1,8 @@
 use Rattle.std.proofs.Common.{◌∙◌, sym}
-use Rattle.prefix_trie_table.specs.Walks.{Tree, pending, sites}
+use Rattle.prefix_trie_table.specs.Walking.Walks.{Tree, pending, sites}
 use Rattle.std.specs.FinMap.{len}
-use Rattle.prefix_trie_table.proofs.Walking.{rest_at}
-use Rattle.prefix_trie_table.proofs.Skipping.{few_spots, stack_left, passed_left, pending_left}
+use Rattle.prefix_trie_table.proofs.Walk.Walking.{rest_at}
+use Rattle.prefix_trie_table.proofs.Walk.Skipping.{few_spots, stack_left, passed_left, pending_left}
 use Rattle.prefix_trie_table.proofs.table.walk.Walk.next_outermost.Goals as goal
 
 pub advance-requires-clause-tree : goal.advance-requires-clause-tree

@@ -1,5 +1,5 @@
-use Rattle.prefix_trie_table.specs.Walks.{sites}
-use Rattle.prefix_trie_table.proofs.Walking.{spots_walk, spots_rest}
+use Rattle.prefix_trie_table.specs.Walking.Walks.{sites}
+use Rattle.prefix_trie_table.proofs.Walk.Walking.{spots_walk, spots_rest}
 use Rattle.prefix_trie_table.proofs.table.walk.Walk.over.Goals as goal
 
 pub invariant_of-result-2 : goal.invariant_of-result-2

@@ -1,0 +1,150 @@
+//! Cases that ask a map for a prefix, and for its counts.
+use crate::tests::cases::lists::gives_same;
+use crate::tests::cases::{Entry, Pair, prefix_of};
+use crate::{BlockCount, Prefix, PrefixMap};
+use std::alloc::Allocator;
+
+/// A prefix as a pair.
+pub fn pair_of<P: Prefix + Copy>(prefix: P) -> Pair<P::R> {
+    (prefix.repr(), prefix.prefix_len())
+}
+
+/// The pair of a prefix that was found.
+pub fn found_pair<P: Prefix + Copy>(found: Option<P>) -> Option<Pair<P::R>> {
+    match found {
+        Some(prefix) => Some(pair_of(prefix)),
+        None => None,
+    }
+}
+
+/// What was found, as it stands in tables.
+pub fn shown<P: Prefix + Copy>(found: Option<(P, &u64)>) -> Option<Entry<P::R>> {
+    match found {
+        Some((prefix, value)) => Some((pair_of(prefix), *value)),
+        None => None,
+    }
+}
+
+/// The pair of an entry.
+pub fn pair_in<K: Copy>(entry: &Entry<K>) -> Pair<K> {
+    entry.0
+}
+
+/// The value of an entry.
+pub fn value_in<K: Copy>(entry: &Entry<K>) -> u64 {
+    entry.1
+}
+
+/// Whether the lookups of exactly a prefix answer so.
+fn has<P: Prefix + Copy, A: Allocator>(
+    map: &PrefixMap<P, u64, A>,
+    prefix: &P,
+    exact: Option<Entry<P::R>>,
+) -> bool
+    requires { P.IsFitting prefix.now }
+{
+    let value = exact.as_ref().map(value_in);
+    (map.get(prefix).copied() == value)
+        & (map.get_counted(prefix).0.copied() == value)
+        & (map.contains_key(prefix) == value.is_some())
+        & (map.contains_key_counted(prefix).0 == value.is_some())
+        & (shown(map.get_key_value(prefix)) == exact)
+        & (shown(map.get_key_value_counted(prefix).0) == exact)
+}
+
+/// Whether the lookups of the longest match answer so.
+fn has_longest<P: Prefix + Copy, A: Allocator>(
+    map: &PrefixMap<P, u64, A>,
+    prefix: &P,
+    longest: Option<Entry<P::R>>,
+) -> bool
+    requires { P.IsFitting prefix.now }
+{
+    let pair = longest.as_ref().map(pair_in);
+    (shown(map.get_lpm(prefix)) == longest)
+        & (shown(map.get_lpm_counted(prefix).0) == longest)
+        & (found_pair(map.get_lpm_prefix(prefix)) == pair)
+        & (found_pair(map.get_lpm_prefix_counted(prefix).0) == pair)
+}
+
+/// Whether the lookups of the shortest match answer so.
+fn has_shortest<P: Prefix + Copy, A: Allocator>(
+    map: &PrefixMap<P, u64, A>,
+    prefix: &P,
+    shortest: Option<Entry<P::R>>,
+) -> bool
+    requires { P.IsFitting prefix.now }
+{
+    let pair = shortest.as_ref().map(pair_in);
+    (shown(map.get_spm(prefix)) == shortest)
+        & (shown(map.get_spm_counted(prefix).0) == shortest)
+        & (found_pair(map.get_spm_prefix(prefix)) == pair)
+        & (found_pair(map.get_spm_prefix_counted(prefix).0) == pair)
+        & (map.is_covered(prefix) == pair.is_some())
+        & (map.is_covered_counted(prefix).0 == pair.is_some())
+}
+
+/// Whether all lookups of a prefix answer so.
+pub fn finds<P: Prefix + Copy, A: Allocator>(
+    map: &PrefixMap<P, u64, A>,
+    at: Pair<P::R>,
+    exact: Option<Entry<P::R>>,
+    longest: Option<Entry<P::R>>,
+    shortest: Option<Entry<P::R>>,
+) -> bool {
+    let prefix = prefix_of(at);
+    has(map, &prefix, exact)
+        & has_longest(map, &prefix, longest)
+        & has_shortest(map, &prefix, shortest)
+}
+
+pub fn has_len<P: Prefix + Copy, A: Allocator>(map: &PrefixMap<P, u64, A>, len: usize) -> bool {
+    (map.len(), map.is_empty()) == (len, len == 0)
+}
+
+pub fn has_slots<P: Prefix + Copy, A: Allocator>(
+    map: &PrefixMap<P, u64, A>,
+    nodes: usize,
+    cells: usize,
+) -> bool {
+    (map.node_slots(), map.cell_slots()) == (nodes, cells)
+}
+
+/// Whether the blocks of a size are so many used and so many free.
+fn has_blocks(counts: &[BlockCount], wanted: BlockCount) -> bool {
+    for count in counts {
+        if count.size == wanted.size {
+            return *count == wanted;
+        }
+    }
+    false
+}
+
+pub fn has_nodes<P: Prefix + Copy, A: Allocator>(
+    map: &PrefixMap<P, u64, A>,
+    size: usize,
+    used: usize,
+    free: usize,
+) -> bool {
+    has_blocks(&map.node_blocks(), BlockCount { size, used, free })
+}
+
+pub fn has_cells<P: Prefix + Copy, A: Allocator>(
+    map: &PrefixMap<P, u64, A>,
+    size: usize,
+    used: usize,
+    free: usize,
+) -> bool {
+    has_blocks(&map.cell_blocks(), BlockCount { size, used, free })
+}
+
+/// Whether two maps have the same entries, nodes and blocks.
+pub fn is_same<P: Prefix + Copy, A: Allocator>(
+    map: &PrefixMap<P, u64, A>,
+    copy: &PrefixMap<P, u64, A>,
+) -> bool {
+    gives_same(map.iter(), copy.iter())
+        & (map.node_count() == copy.node_count())
+        & (map.node_blocks() == copy.node_blocks())
+        & (map.cell_blocks() == copy.cell_blocks())
+}

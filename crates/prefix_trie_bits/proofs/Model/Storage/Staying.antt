@@ -1,0 +1,160 @@
+-- A step leads from a map, however it is stored, to such a map again.
+use Rattle.std.proofs.Common.{◌≡◌, ◌≢◌, ℕ, ◌<◌, ◌≤◌, inl, inr, Bool, true, false, cond, not, List, [], length, is_some, true≢false, Option, None, refl, sym, ap, ◌∙◌, subst, arith}
+use Rattle.std.proofs.lemmas.Bool.{cases_Bool, cases_eq}
+use Rattle.std.specs.FinMap.{get, contains_key, get-empty}
+use Rattle.prefix_trie_bits.specs.Order.{listing_cmp, same_string}
+use Rattle.prefix_trie_bits.specs.Model.Blocks.{Sizes, StepsDown, SizesStepDown, HasBlock, NodesHaveBlocks, child_block_sizes, value_block_sizes, child_count, own_entries}
+use Rattle.prefix_trie_bits.specs.Model.Entries.{with_entry, without_entry, no_entries}
+use Rattle.prefix_trie_bits.specs.Model.Nodes.{Nodes, has_node, root_alone, with_needed}
+use Rattle.prefix_trie_bits.specs.Model.Step.{State, Call, Insert, Get, Lpm, Spm, Remove, RemoveKeepTree, RemoveChildren, RetainAtLeast, Clear, Len, NodeCount, AddressCount, ListAll, ListFrom, Children, Cover, CallFits, Reply}
+use Rattle.prefix_trie_bits.specs.Model.Storage.{Storage, cleared, HaveBlocks, StepInStorage}
+use Rattle.prefix_trie_bits.specs.Laws.Steps.{IsMap}
+use Rattle.prefix_trie_bits.specs.Laws.Storage.{may_change}
+use Rattle.prefix_trie_bits.specs.Laws.Total.{IsStoredMap}
+use Rattle.prefix_trie_bits.proofs.Model.Storage.Lessened.{IsLeft, removed_is, bare_have, entries_bare, children_bare}
+use Rattle.prefix_trie_bits.proofs.Model.Members.{same_string-is, has-root_alone}
+use Rattle.prefix_trie_bits.proofs.Model.Pruning.{remove_law}
+use Rattle.prefix_trie_bits.proofs.Model.Storage.Readied.{goes_up}
+use Rattle.prefix_trie_bits.proofs.Model.Storage.Shrinking.{has_none, has_some, has_cases, smallest_of}
+use Rattle.prefix_trie_bits.proofs.Model.Steps.{stays_map}
+use Rattle.prefix_trie_bits.proofs.Model.Storage.Stored.{unchanged}
+use Rattle.prefix_trie_bits.proofs.Model.Storage.Supplied.{supplied, stored_have}
+
+-- ---- a list that lost items has its block
+
+step_has : (sizes free : List ℕ) → goes_up 0 sizes ≡ true → (before after : ℕ) (old new : Option ℕ) → StepsDown sizes free before after old new → HasBlock sizes before old → HasBlock sizes after new
+step_has sizes free up before after old new step has = elim (cases_eq after 0) as (λ _. HasBlock sizes after new) [
+  | inl none ↦ has_none sizes after new none (step.none none)
+  | inr other ↦ elim (cases_eq after before) as (λ _. HasBlock sizes after new) [
+    | inl same ↦ subst (λ o. HasBlock sizes after o) (sym (step.same same)) (subst (λ n. HasBlock sizes n old) (sym same) has)
+    | inr fewer ↦
+        let some : 0 < after = grind (arith, other) in
+        let less : after < before = (let h = step.fewer in grind (arith, h, fewer)) in
+        elim (has_cases sizes before old has) as (λ _. HasBlock sizes after new) [
+          | inl none ↦ absurd (let e = none.0 in omega (arith, e, less))
+          | inr holds ↦
+              let fits = holds.fits in
+              let small = smallest_of 0 sizes up after holds.size holds.among (omega (arith, fits, less)) in
+              elim (step.one_of less some) as (λ _. HasBlock sizes after new) [
+                | inl stays ↦ has_some sizes after new holds.size some (stays ∙ holds.is) holds.among (omega (arith, fits, less))
+                | inr steps ↦ has_some sizes after new small.size some (steps ∙ small.found) small.among small.holds
+              ]
+        ]
+  ]
+]
+
+-- and so has each node that is left
+steps_have : (sizes free : List ℕ) → goes_up 0 sizes ≡ true → (n left : Nodes) (before after : List Bool → ℕ) (old new : Sizes) → NodesHaveBlocks sizes n before old
+    → SizesStepDown sizes free n before after old new → ((p : List Bool) → has_node left p ≡ true → has_node n p ≡ true)
+    → ((p : List Bool) → has_node n p ≡ true → has_node left p ≡ false → after p ≡ 0) → NodesHaveBlocks sizes left after new
+steps_have sizes free up n left before after old new have steps stood bare = record {
+  at_nodes = λ p there. step_has sizes free up (before p) (after p) (get old p) (get new p) (steps.at_nodes p (stood p there)) (have.at_nodes p (stood p there));
+  elsewhere = λ p missing. elim (cases_Bool (has_node n p)) as (λ _. get new p ≡ None) [
+    | inl there ↦ (steps.at_nodes p there).none (bare p there missing)
+    | inr none ↦ steps.elsewhere p none
+  ];
+}
+
+module _ {T : Type 0} where
+  -- the blocks of an equal state
+  have_same : (s t : State T) (before after : Storage) → t ≡ s → after.layout.child_blocks ≡ before.layout.child_blocks → after.layout.value_blocks ≡ before.layout.value_blocks →
+      HaveBlocks s before.layout → HaveBlocks t after.layout
+  have_same s t before after same children values have = subst (λ x. HaveBlocks x after.layout) (sym same) (record {
+    child_blocks = subst (NodesHaveBlocks child_block_sizes s.nodes (child_count s.nodes)) (sym children) have.child_blocks;
+    value_blocks = subst (NodesHaveBlocks value_block_sizes s.nodes (own_entries s.entries)) (sym values) have.value_blocks;
+  })
+
+none_stored : (T : Type 0) (k : List Bool) → contains_key (no_entries {T = T}) k ≡ true → ⊥
+none_stored T k has = true≢false (sym has ∙ ap is_some (get-empty listing_cmp k))
+
+module _ {P T : Type 0} (path : P → List Bool) (back : List Bool → P) (width : ℕ) (s : State T × Storage) (whole : IsStoredMap width s) where
+  abbrev Stays : Call P T → Type 0
+  Stays call = (reply : Reply P T) (t : State T × Storage) → CallFits (λ q. length (path q) ≤ width) call → StepInStorage path back width s call reply t → HaveBlocks t.0 t.1.layout
+
+  as_it_was : (call : Call P T) → may_change call ≡ false → Stays call
+  as_it_was call still reply t fits h = subst (λ x. HaveBlocks x.0 x.1.layout) (sym (unchanged path back width s call reply t still h)) whole.have_blocks
+
+  inserted : (q : P) (v : T) → Stays (Insert q v)
+  inserted q v reply t fits h = elim h.step as (λ _. HaveBlocks t.0 t.1.layout) [
+    | inr (new, cause, r, e) ↦ (let left = h.storage.2 cause r in have_same s.0 t.0 s.1 t.1 e left.child_blocks left.value_blocks whole.have_blocks)
+    | inl (r, e) ↦ elim (cases_Bool (contains_key s.0.entries (path q))) as (λ _. HaveBlocks t.0 t.1.layout) [
+      | inl stored ↦
+          let same = h.storage.0 stored in
+          let to : t.0 ≡ record { entries = with_entry s.0.entries (path q) v; nodes = s.0.nodes } =
+          e ∙ (λ i. record { entries = with_entry s.0.entries (path q) v; nodes = cond (stored i) s.0.nodes (with_needed s.0.nodes (path q)) }) in
+          have_same _ t.0 s.1 t.1 to (ap (λ x. x.layout.child_blocks) same) (ap (λ x. x.layout.value_blocks) same)
+          (stored_have width s.0 (path q) v s.1 whole.is_map stored whole.have_blocks)
+      | inr new ↦
+          let set : State T = record { entries = with_entry s.0.entries (path q) v; nodes = with_needed s.0.nodes (path q) } in
+          let to : t.0 ≡ set = e ∙ (λ i. record { entries = with_entry s.0.entries (path q) v; nodes = cond (new i) s.0.nodes (with_needed s.0.nodes (path q)) }) in
+          let is = stays_map path back width s.0 (Insert q v) reply t.0 fits h.step whole.is_map in
+          have_same set t.0 t.1 t.1 to refl refl
+          (supplied width s.0 (path q) v whole.is_map s.1 t.1 new (subst (IsMap width) to is) whole.have_blocks (h.storage.1 _ new r))
+    ]
+  ]
+
+  -- what is left where one entry goes
+  one_gone : (q : P) (t : State T) → IsMap width t → t.entries ≡ without_entry s.0.entries (path q)
+      → ((p : List Bool) → has_node t.nodes p ≡ true → has_node s.0.nodes p ≡ true) → IsLeft width s.0 t
+  one_gone q t is entries stood = record {
+    was = whole.is_map;
+    is = is;
+    test = λ k. not (same_string k (path q));
+    kept = entries ∙ removed_is s.0.entries (path q);
+    stood = stood;
+  }
+
+  removed : (q : P) → Stays (Remove q)
+  removed q reply t fits h =
+      let left = one_gone q t.0 (stays_map path back width s.0 (Remove q) reply t.0 fits h.step whole.is_map) (ap (λ x. x.entries) h.step.1)
+      (λ p there. (remove_law width s.0.entries s.0.nodes (path q) whole.is_map.are_nodes).none_new p (sym (ap (λ x. has_node x.nodes p) h.step.1) ∙ there)) in
+      record {
+        child_blocks = steps_have child_block_sizes _ refl s.0.nodes t.0.nodes _ _ s.1.layout.child_blocks t.1.layout.child_blocks whole.have_blocks.child_blocks
+            h.storage.1.child_blocks left.stood (children_bare width s.0 t.0 left);
+        value_blocks = steps_have value_block_sizes _ refl s.0.nodes t.0.nodes _ _ s.1.layout.value_blocks t.1.layout.value_blocks whole.have_blocks.value_blocks
+            h.storage.0.value_blocks left.stood (entries_bare width s.0 t.0 left);
+      }
+
+  removed_keeping : (q : P) → Stays (RemoveKeepTree q)
+  removed_keeping q reply t fits h =
+      let nodes : t.0.nodes ≡ s.0.nodes = ap (λ x. x.nodes) h.step.1 in
+      let left = one_gone q t.0 (stays_map path back width s.0 (RemoveKeepTree q) reply t.0 fits h.step whole.is_map) (ap (λ x. x.entries) h.step.1)
+      (λ p there. sym (ap (λ n. has_node n p) nodes) ∙ there) in
+      record {
+        child_blocks = subst (NodesHaveBlocks child_block_sizes t.0.nodes (child_count t.0.nodes)) (sym h.storage.2)
+            (subst (λ n. NodesHaveBlocks child_block_sizes n (child_count n) s.1.layout.child_blocks) (sym nodes) whole.have_blocks.child_blocks);
+        value_blocks = steps_have value_block_sizes _ refl s.0.nodes t.0.nodes _ _ s.1.layout.value_blocks t.1.layout.value_blocks whole.have_blocks.value_blocks
+            h.storage.0.value_blocks left.stood (entries_bare width s.0 t.0 left);
+      }
+
+  cleared_all : Stays Clear
+  cleared_all reply t fits h = have_same (record { entries = no_entries; nodes = root_alone }) t.0 (cleared s.1) t.1 h.step.1 (ap (λ x. x.layout.child_blocks) h.storage) (ap (λ x. x.layout.value_blocks) h.storage)
+      (bare_have (record { entries = no_entries; nodes = root_alone }) (none_stored T) (λ k there. same_string-is k [] (sym (has-root_alone k) ∙ there)))
+
+  blocks : (call : Call P T) → ((n : ℕ) → call ≢ RetainAtLeast n) → ((q : P) → call ≢ RemoveChildren q) → Stays call
+  blocks (Insert q v) some below = inserted q v
+  blocks (Get q) some below = as_it_was (Get q) refl
+  blocks (Lpm q) some below = as_it_was (Lpm q) refl
+  blocks (Spm q) some below = as_it_was (Spm q) refl
+  blocks (Remove q) some below = removed q
+  blocks (RemoveKeepTree q) some below = removed_keeping q
+  blocks (RemoveChildren q) some below = absurd (below q refl)
+  blocks (RetainAtLeast n) some below = absurd (some n refl)
+  blocks Clear some below = cleared_all
+  blocks Len some below = as_it_was Len refl
+  blocks NodeCount some below = as_it_was NodeCount refl
+  blocks AddressCount some below = as_it_was AddressCount refl
+  blocks ListAll some below = as_it_was ListAll refl
+  blocks (ListFrom q inclusive) some below = as_it_was (ListFrom q inclusive) refl
+  blocks (Children q) some below = as_it_was (Children q) refl
+  blocks (Cover q) some below = as_it_was (Cover q) refl
+
+  pub stays_stored : (call : Call P T) (reply : Reply P T) (t : State T × Storage) → CallFits (λ q. length (path q) ≤ width) call
+      → ((n : ℕ) → call ≢ RetainAtLeast n) → ((q : P) → call ≢ RemoveChildren q) → StepInStorage path back width s call reply t → IsStoredMap width t
+  stays_stored call reply t fits some below h = record {
+    is_map = stays_map path back width s.0 call reply t.0 fits h.step whole.is_map;
+    have_blocks = blocks call some below reply t fits h;
+    root_fits = subst (λ limit. 0 < limit) (sym h.room.same_limit) whole.root_fits;
+    nodes_within = h.room.nodes_within;
+    cells_within = h.room.cells_within;
+  }

@@ -1,0 +1,281 @@
+-- After an insertion each node has its blocks again.
+use Rattle.std.proofs.Common.{◌≡◌, ℕ, ◌+◌, ◌*◌, ◌/◌, ◌%◌, ◌<◌, ◌≤◌, ◌==◌, inl, inr, Bool, true, false, cond, not, ◌&&◌, ◌||◌, nat_lt, List, length, take, drop, filter, Option, None, Some, refl, sym, ap, ◌∙◌, subst, arith, eqb-true, eq-eqb, ltb-true, true≢false, length-take-le, length-drop}
+use Rattle.std.proofs.lemmas.Bool.{cases_Bool, lt-ltb}
+use Rattle.std.specs.Prelude.{Contains}
+use Rattle.std.specs.Option.{option_or}
+use Rattle.std.specs.List.{list_any}
+use Rattle.std.specs.FinMap.{get, insert, retain_keys, contains_key, len}
+use Rattle.prefix_trie_bits.specs.Begins.{same_bool, begins-length, begins-linear, begins-take, begins-trans, take-begins}
+use Rattle.prefix_trie_bits.specs.Bits.{begins}
+use Rattle.prefix_trie_bits.specs.Order.{same_string}
+use Rattle.prefix_trie_bits.specs.Places.{strings}
+use Rattle.prefix_trie_bits.specs.Laws.Steps.{IsMap}
+use Rattle.prefix_trie_bits.specs.Model.Blocks.{Sizes, child_block_sizes, value_block_sizes, child_count, own_entries, smallest_size, HasBlock, NodesHaveBlocks}
+use Rattle.prefix_trie_bits.specs.Model.Entries.{Entries, with_entry}
+use Rattle.prefix_trie_bits.specs.Model.Insertion.{block_needed, gains_child, TakesBlocks}
+use Rattle.prefix_trie_bits.specs.Model.Nodes.{Nodes, has_node, home, is_node_depth, with_needed}
+use Rattle.prefix_trie_bits.specs.Model.Step.{State}
+use Rattle.prefix_trie_bits.specs.Model.Storage.{Storage, HaveBlocks, InsertsInStorage}
+use Rattle.prefix_trie_bits.proofs.Checks.{each, at_string}
+use Rattle.prefix_trie_bits.proofs.Model.Storage.Counting.{passing-len, passing-inserted, few_behind}
+use Rattle.prefix_trie_bits.proofs.Model.Homes.{home-begins, home-length, home-depth, own_home}
+use Rattle.prefix_trie_bits.proofs.Model.Levels.{no_children, no_entries}
+use Rattle.prefix_trie_bits.proofs.Model.Members.{or-right, and-first, and-second, and-join, same_string-is, is-same_string, has-retained, has-inserted, same_members}
+use Rattle.prefix_trie_bits.proofs.Model.NodeSets.{has-with_needed}
+use Rattle.prefix_trie_bits.proofs.Model.Storage.Readied.{goes_up}
+use Rattle.prefix_trie_bits.proofs.Model.Storage.Shrinking.{has_none, has_some, has_cases, smallest_of}
+
+-- ---- one more item
+
+-- a list that takes the block that it needs for one more has its block
+needed_has : (sizes : List ℕ) → goes_up 0 sizes ≡ true → (top : ℕ) → Contains sizes top → (count : ℕ) (block : Option ℕ) → count + 1 ≤ top → HasBlock sizes count block →
+    HasBlock sizes (count + 1) (option_or (block_needed sizes block count) block)
+needed_has sizes up top largest count block most has = let small = smallest_of 0 sizes up (count + 1) top largest most in elim (has_cases sizes count block has) as (λ _. HasBlock sizes (count + 1) (option_or (block_needed sizes block count) block)) [
+  | inl none ↦ has_some sizes (count + 1) (option_or (block_needed sizes block count) block) small.size (omega arith)
+      (ap (λ o. option_or (block_needed sizes o count) o) none.1 ∙ ap (λ o. option_or o None) small.found) small.among small.holds
+  | inr holds ↦ elim (cases_Bool (nat_lt count holds.size)) as (λ _. HasBlock sizes (count + 1) (option_or (block_needed sizes block count) block)) [
+    | inl room ↦ has_some sizes (count + 1) (option_or (block_needed sizes block count) block) holds.size (omega arith)
+        (ap (λ o. option_or (block_needed sizes o count) o) holds.is ∙ ap (λ b. option_or (cond b None (smallest_size sizes (count + 1))) (Some holds.size)) room) holds.among
+        (let less = ltb-true count holds.size room in omega (arith, less))
+    | inr full ↦ has_some sizes (count + 1) (option_or (block_needed sizes block count) block) small.size (omega arith)
+        (ap (λ o. option_or (block_needed sizes o count) o) holds.is ∙ ap (λ b. option_or (cond b None (smallest_size sizes (count + 1))) (Some holds.size)) full
+        ∙ ap (λ o. option_or o (Some holds.size)) small.found) small.among small.holds
+  ]
+]
+
+-- nodes and counts after nodes came and some lists took one more item
+record Grows (n later : Nodes) (count count_later : List Bool → ℕ) (gains : List Bool → Bool) (top : ℕ) : Type 0 where
+  counts : (p : List Bool) → has_node later p ≡ true → count_later p ≡ count p + cond (gains p) 1 0
+  most : (p : List Bool) → has_node later p ≡ true → count_later p ≤ top
+  bare : (p : List Bool) → has_node later p ≡ true → has_node n p ≡ false → count p ≡ 0
+  stay : (p : List Bool) → has_node n p ≡ true → has_node later p ≡ true
+  inside : (p : List Bool) → gains p ≡ true → has_node later p ≡ true
+
+module _ (sizes : List ℕ) (up : goes_up 0 sizes ≡ true) (top : ℕ) (largest : Contains sizes top) (n later : Nodes) (count count_later : List Bool → ℕ) (gains : List Bool → Bool)
+    (old new : Sizes) (have : NodesHaveBlocks sizes n count old) (grows : Grows n later count count_later gains top)
+    (takes : TakesBlocks (λ p. cond (gains p) (block_needed sizes (get old p) (count p)) None) old new) where
+  had : (p : List Bool) → has_node later p ≡ true → HasBlock sizes (count p) (get old p)
+  had p there = elim (cases_Bool (has_node n p)) as (λ _. HasBlock sizes (count p) (get old p)) [
+    | inl stood ↦ have.at_nodes p stood
+    | inr new_one ↦ has_none sizes (count p) (get old p) (grows.bare p there new_one) (have.elsewhere p new_one)
+  ]
+
+  taken : (p : List Bool) (b : Bool) → gains p ≡ b → get new p ≡ option_or (cond b (block_needed sizes (get old p) (count p)) None) (get old p)
+  taken p b e = takes p ∙ ap (λ c. option_or (cond c (block_needed sizes (get old p) (count p)) None) (get old p)) e
+
+  counted : (p : List Bool) → has_node later p ≡ true → (b : Bool) → gains p ≡ b → count_later p ≡ count p + cond b 1 0
+  counted p there b e = grows.counts p there ∙ ap (λ c. count p + cond c 1 0) e
+
+  grows_have : NodesHaveBlocks sizes later count_later new
+  grows_have = record {
+    at_nodes = λ p there. elim (cases_Bool (gains p)) as (λ _. HasBlock sizes (count_later p) (get new p)) [
+      | inl more ↦ subst (λ o. HasBlock sizes (count_later p) o) (sym (taken p true more)) (subst (λ k. HasBlock sizes k (option_or (block_needed sizes (get old p) (count p)) (get old p))) (sym (counted p there true more))
+          (needed_has sizes up top largest (count p) (get old p) (let few = grows.most p there in let is = counted p there true more in omega (arith, few, is)) (had p there)))
+      | inr same ↦ subst (λ o. HasBlock sizes (count_later p) o) (sym (taken p false same))
+          (subst (λ k. HasBlock sizes k (get old p)) (let is = counted p there false same in let e : count p ≡ count_later p = omega (arith, is) in e) (had p there))
+    ];
+    elsewhere = λ p missing. elim (cases_Bool (gains p)) as (λ _. get new p ≡ None) [
+      | inl more ↦ absurd (true≢false (sym (grows.inside p more) ∙ missing))
+      | inr same ↦ taken p false same ∙ elim (cases_Bool (has_node n p)) as (λ _. get old p ≡ None) [
+        | inl stood ↦ absurd (true≢false (sym (grows.stay p stood) ∙ missing))
+        | inr none ↦ have.elsewhere p none
+      ]
+    ];
+  }
+
+-- ---- a node has 32 children at most, and 31 entries of its own
+
+abbrev of_five : List (List Bool)
+of_five = filter (λ s. length s == 5) (strings 5)
+
+any-five : (s : List Bool) → length s ≡ 5 → list_any (same_string s) of_five ≡ true
+unfolding each strings
+any-five s e = elim (cases_Bool (length s == 5)) as (λ _. list_any (same_string s) of_five ≡ true) [
+  | inl is ↦ sym (ap (λ b. not b || list_any (same_string s) of_five) is) ∙ at_string 5 (λ r. not (length r == 5) || list_any (same_string r) of_five) refl s (omega (arith, e))
+  | inr other ↦ absurd (true≢false (sym (eq-eqb (length s) 5 e) ∙ other))
+]
+
+any-short : (s : List Bool) → length s ≤ 4 → list_any (same_string s) (strings 4) ≡ true
+unfolding each strings
+any-short s h = at_string 4 (λ r. list_any (same_string r) (strings 4)) refl s h
+
+count-five : length of_five ≡ 32
+unfolding strings
+count-five = refl
+
+count-short : length (strings 4) ≡ 31
+unfolding strings
+count-short = refl
+
+behind : (p k : List Bool) (l : ℕ) → length k ≡ length p + l → length (drop (length p) k) ≡ l
+behind p k l e = (let d = length-drop (length p) k in omega (arith, d, e))
+
+children_most : (n : Nodes) (p : List Bool) → child_count n p ≤ 32
+children_most n p =
+    let test : List Bool → Bool = λ k. begins p k && (length k == length p + 5) in
+    let few = few_behind p of_five (retain_keys n test) (λ k has.
+    let child = and-first (test k) (contains_key n k) (sym (has-retained n test k) ∙ has) in
+    let long = eqb-true (length k) (length p + 5) (and-second (begins p k) (length k == length p + 5) child) in
+    (and-first (begins p k) (length k == length p + 5) child, any-five (drop (length p) k) (behind p k 5 long))) in
+    let is = passing-len test n in
+    let count = count-five in
+    omega (arith, few, is, count)
+
+entries_most : {T : Type 0} (m : Entries T) (p : List Bool) → own_entries m p ≤ 31
+entries_most m p =
+    let test : List Bool → Bool = λ k. begins p k && nat_lt (length k) (length p + 5) in
+    let few = few_behind p (strings 4) (retain_keys m test) (λ k has.
+    let own = and-first (test k) (contains_key m k) (sym (has-retained m test k) ∙ has) in
+    let less = ltb-true (length k) (length p + 5) (and-second (begins p k) (nat_lt (length k) (length p + 5)) own) in
+    let d = length-drop (length p) k in
+    (and-first (begins p k) (nat_lt (length k) (length p + 5)) own, any-short (drop (length p) k) (omega (arith, less, d)))) in
+    let is = passing-len test m in
+    let count = count-short in
+    omega (arith, few, is, count)
+
+-- ---- the nodes and entries after an insertion
+
+below_home : (l k : ℕ) → l % 5 ≡ 0 → l + 5 ≤ k → l < 5 * (k / 5)
+below_home l k e h = omega (arith, e, h)
+
+above_home : (l k : ℕ) → l % 5 ≡ 0 → l < 5 * (k / 5) → l + 5 ≤ k
+above_home l k e h = omega (arith, e, h)
+
+five_more : (l k : ℕ) → l % 5 ≡ 0 → k ≡ l + 5 → k % 5 ≡ 0
+five_more l k e f = omega (arith, e, f)
+
+within_five : (l k : ℕ) → l ≡ 5 * (k / 5) → k < l + 5
+within_five l k e = omega (arith, e)
+
+module _ (n : Nodes) (q p : List Bool) (depth : length p % 5 ≡ 0) where
+  abbrev next : List Bool
+  next = take (length p + 5) q
+
+  abbrev is_child : List Bool → Bool
+  is_child k = begins p k && (length k == length p + 5)
+
+  -- of the strings on the way p has one below it
+  child_on_way : (k : List Bool) → is_child k ≡ true → (begins k q && is_node_depth k) ≡ same_string k next
+  child_on_way k child =
+      let long = eqb-true (length k) (length p + 5) (and-second (begins p k) (length k == length p + 5) child) in
+      same_bool (begins k q && is_node_depth k) (same_string k next)
+      (λ on. is-same_string k next (sym (begins-take k q (and-first (begins k q) (is_node_depth k) on)) ∙ ap (λ l. take l q) long))
+      (λ same.
+      let is = same_string-is k next same in
+      and-join (begins k q) (is_node_depth k) (subst (λ x. begins x q ≡ true) (sym is) (take-begins (length p + 5) q)) (eq-eqb (length k % 5) 0 (five_more (length p) (length k) depth long)))
+
+  children_as_one : child_count (with_needed n q) p ≡ child_count (insert n next tt) p
+  children_as_one = passing-len is_child (with_needed n q) ∙ ap (λ x. len x)
+      (same_members (retain_keys (with_needed n q) is_child) (retain_keys (insert n next tt) is_child)
+      (λ k. has-retained (with_needed n q) is_child k ∙ alike k (is_child k) refl ∙ sym (has-retained (insert n next tt) is_child k))) ∙ sym (passing-len is_child (insert n next tt))
+    where
+      swap : (a b : Bool) → (a || b) ≡ (b || a)
+      swap true true = refl
+      swap true false = refl
+      swap false true = refl
+      swap false false = refl
+
+      alike : (k : List Bool) (b : Bool) → is_child k ≡ b → (b && has_node (with_needed n q) k) ≡ (b && has_node (insert n next tt) k)
+      alike k true e =
+          has-with_needed n q k ∙ ap (λ x. has_node n k || x) (child_on_way k e) ∙ swap (has_node n k) (same_string k next) ∙ sym (has-inserted n next tt k)
+      alike k false e = refl
+
+  next_child : is_child next ≡ (begins p q && nat_lt (length p) (length (home q)))
+  next_child = same_bool (is_child next) (begins p q && nat_lt (length p) (length (home q)))
+      (λ child.
+      let long = eqb-true (length next) (length p + 5) (and-second (begins p next) (length next == length p + 5) child) in
+      let short = begins-length next q (take-begins (length p + 5) q) in
+      let less : length p < length (home q) = (let h = home-length q in let b = below_home (length p) (length q) depth (omega (arith, long, short)) in omega (arith, h, b)) in
+      and-join (begins p q) (nat_lt (length p) (length (home q))) (begins-trans p next q (and-first (begins p next) (length next == length p + 5) child) (take-begins (length p + 5) q))
+      (lt-ltb (length p) (length (home q)) less))
+      (λ on.
+      let less = ltb-true (length p) (length (home q)) (and-second (begins p q) (nat_lt (length p) (length (home q))) on) in
+      let inside : length p + 5 ≤ length q = above_home (length p) (length q) depth (let h = home-length q in omega (arith, h, less)) in
+      let long = length-take-le (length p + 5) q inside in
+      and-join (begins p next) (length next == length p + 5)
+      (begins-linear p next q (and-first (begins p q) (nat_lt (length p) (length (home q))) on) (take-begins (length p + 5) q) (omega (arith, long)))
+      (eq-eqb (length next) (length p + 5) long))
+
+  -- a node has one child more where it gains one
+  pub children_grow : child_count (with_needed n q) p ≡ child_count n p + cond (gains_child n q p) 1 0
+  children_grow = children_as_one ∙ passing-inserted is_child n next tt
+      ∙ ap (λ b. child_count n p + cond (b && not (has_node n next)) 1 0) next_child
+      ∙ ap (λ b. child_count n p + cond b 1 0) (regroup (begins p q) (nat_lt (length p) (length (home q))) (not (has_node n next))
+      ∙ sym (ap (λ b. (b && begins p q) && (nat_lt (length p) (length (home q)) && not (has_node n next))) (eq-eqb (length p % 5) 0 depth)))
+    where
+      regroup : (a b c : Bool) → ((a && b) && c) ≡ ((true && a) && (b && c))
+      regroup true b c = refl
+      regroup false b c = refl
+
+module _ {T : Type 0} (m : Entries T) (q p : List Bool) (v : T) (depth : length p % 5 ≡ 0) where
+  own_is_home : (begins p q && nat_lt (length q) (length p + 5)) ≡ same_string p (home q)
+  own_is_home = same_bool (begins p q && nat_lt (length q) (length p + 5)) (same_string p (home q))
+      (λ own. is-same_string p (home q) (own_home p q depth (and-first (begins p q) (nat_lt (length q) (length p + 5)) own)
+      (ltb-true (length q) (length p + 5) (and-second (begins p q) (nat_lt (length q) (length p + 5)) own))))
+      (λ same.
+      let is = same_string-is p (home q) same in
+      let less : length q < length p + 5 = within_five (length p) (length q) (ap (λ s. length s) is ∙ home-length q) in
+      and-join (begins p q) (nat_lt (length q) (length p + 5)) (subst (λ x. begins x q ≡ true) (sym is) (home-begins q)) (lt-ltb (length q) (length p + 5) less))
+
+  -- the own node of a new key has one entry more
+  pub entries_grow : own_entries (with_entry m q v) p ≡ own_entries m p + cond (same_string p (home q) && not (contains_key m q)) 1 0
+  entries_grow = passing-inserted (λ k. begins p k && nat_lt (length k) (length p + 5)) m q v ∙ ap (λ b. own_entries m p + cond (b && not (contains_key m q)) 1 0) own_is_home
+
+-- ---- the law
+
+module _ {T : Type 0} (width : ℕ) (s : State T) (q : List Bool) (v : T) where
+  abbrev set : State T
+  set = record { entries = with_entry s.entries q v; nodes = with_needed s.nodes q }
+
+  pub supplied : IsMap width s → (before after : Storage) → contains_key s.entries q ≡ false → IsMap width set → HaveBlocks s before.layout → InsertsInStorage s q before after → HaveBlocks set after.layout
+  supplied map before after new is have inserted = record {
+    child_blocks = grows_have child_block_sizes refl 32 (6, omega arith, refl) s.nodes set.nodes (child_count s.nodes) (child_count set.nodes) (gains_child s.nodes q)
+        before.layout.child_blocks after.layout.child_blocks have.child_blocks (record {
+          counts = λ p there. children_grow s.nodes q p (depths p there);
+          most = λ p there. children_most set.nodes p;
+          bare = λ p there missing. no_children width s.entries s.nodes map.are_nodes p (depths p there) missing;
+          stay = stays;
+          inside = λ p gains. on_way p (and-first (is_node_depth p && begins p q) _ gains);
+        }) inserted.child_blocks;
+    value_blocks = grows_have value_block_sizes refl 31 (6, omega arith, refl) s.nodes set.nodes (own_entries s.entries) (own_entries set.entries) (λ p. same_string p (home q))
+        before.layout.value_blocks after.layout.value_blocks have.value_blocks (record {
+          counts = λ p there. entries_grow s.entries q p v (depths p there) ∙ ap (λ b. own_entries s.entries p + cond b 1 0) (ap (λ b. same_string p (home q) && not b) new ∙ and-true (same_string p (home q)));
+          most = λ p there. entries_most set.entries p;
+          bare = λ p there missing. no_entries width s.entries s.nodes map.are_nodes p (depths p there) missing;
+          stay = stays;
+          inside = λ p same. on_way p (subst (λ x. (is_node_depth x && begins x q) ≡ true) (sym (same_string-is p (home q) same))
+              (and-join (is_node_depth (home q)) (begins (home q) q) (eq-eqb (length (home q) % 5) 0 (home-depth q)) (home-begins q)));
+        }) inserted.value_blocks;
+  }
+    where
+      depths : (p : List Bool) → has_node set.nodes p ≡ true → length p % 5 ≡ 0
+      depths p there = is.are_nodes.depths p there
+
+      stays : (p : List Bool) → has_node s.nodes p ≡ true → has_node set.nodes p ≡ true
+      stays p stood = has-with_needed s.nodes q p ∙ ap (λ b. b || (begins p q && is_node_depth p)) stood
+
+      on_way : (p : List Bool) → (is_node_depth p && begins p q) ≡ true → has_node set.nodes p ≡ true
+      on_way p h = has-with_needed s.nodes q p ∙ or-right (has_node s.nodes p) (begins p q && is_node_depth p)
+          (and-join (begins p q) (is_node_depth p) (and-second (is_node_depth p) (begins p q) h) (and-first (is_node_depth p) (begins p q) h))
+
+      and-true : (b : Bool) → (b && not false) ≡ b
+      and-true true = refl
+      and-true false = refl
+
+  -- a key that is set again changes no count
+  pub stored_have : (before : Storage) → IsMap width s → contains_key s.entries q ≡ true → HaveBlocks s before.layout →
+      HaveBlocks (record { entries = with_entry s.entries q v; nodes = s.nodes }) before.layout
+  stored_have before is stored have = record {
+    child_blocks = have.child_blocks;
+    value_blocks = record {
+      at_nodes = λ p there. subst (λ k. HasBlock value_block_sizes k (get before.layout.value_blocks p)) (sym (same p (is.are_nodes.depths p there))) (have.value_blocks.at_nodes p there);
+      elsewhere = have.value_blocks.elsewhere;
+    };
+  }
+    where
+      none_more : (b : Bool) (n : ℕ) → n + cond (b && false) 1 0 ≡ n
+      none_more true n = omega arith
+      none_more false n = omega arith
+
+      same : (p : List Bool) → length p % 5 ≡ 0 → own_entries (with_entry s.entries q v) p ≡ own_entries s.entries p
+      same p depth = entries_grow s.entries q p v depth ∙ ap (λ b. own_entries s.entries p + cond (same_string p (home q) && not b) 1 0) stored ∙ none_more (same_string p (home q)) (own_entries s.entries p)

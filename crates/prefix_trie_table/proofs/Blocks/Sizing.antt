@@ -1,0 +1,142 @@
+-- The sizes of the blocks of the nodes in an array, by the strings of the nodes.
+use Rattle.std.proofs.Common.{◌≡◌, ℕ, inl, inr, Bool, true, false, cond, ◌&&◌, ◌||◌, List, [], ◌∷◌, map, length, Option, None, Some, is_some, refl, sym, ap, ◌∙◌, subst}
+use Rattle.std.proofs.lemmas.Bool.{cases_Bool}
+use Rattle.std.specs.List.{list_any}
+use Rattle.std.specs.FinMap.{get, empty, insert, get-insert, get-empty}
+use Rattle.prefix_trie_bits.specs.Order.{listing_total, same_string}
+use Rattle.prefix_trie_bits.specs.Model.Blocks.{Sizes, Layout, no_layout}
+use Rattle.prefix_trie_bits.specs.Model.Nodes.{is_node_depth}
+use Rattle.prefix_trie_bits.specs.Model.Storage.{Storage}
+use Rattle.prefix_trie_bits.proofs.Model.Members.{same_string-is}
+use Rattle.prefix_trie_table.specs.declared.allocator.node.Node.{Node}
+use Rattle.prefix_trie_table.specs.Digits.{path_of}
+use Rattle.prefix_trie_table.specs.Cells.{node_sizes, cell_sizes}
+use Rattle.prefix_trie_table.specs.Store.{Store, Tier, no_blocks, size_in}
+use Rattle.prefix_trie_table.specs.Forest.{NodesHold, Holds, SomeTable}
+use Rattle.prefix_trie_table.specs.Layouts.{AreSizesBy, Sized, Sized-prop, child_block_size, value_block_size, size_if_any, free_counts}
+use Rattle.prefix_trie_table.proofs.Strings.PathStrings.{string_at, string_path, AreSteps, first_steps, other_steps, paths_steps, listed_at}
+use Rattle.prefix_trie_table.proofs.Strings.BitLists.{rank-zero-all}
+use Rattle.prefix_trie_table.proofs.Tree.Shapes.{root_reading, no_values, root_here}
+use Rattle.prefix_trie_table.proofs.Tree.Trees.{reads}
+
+-- the sizes with one more at a string, if there is one
+abbrev pub with_size : Sizes → List Bool → Option ℕ → Sizes
+with_size m s None = m
+with_size m s (Some n) = insert m s n
+
+-- the sizes that a function gives for these paths, by their strings
+abbrev pub sizes_at : (List ℕ → Option ℕ) → List (List ℕ) → Sizes
+sizes_at size [] = empty
+sizes_at size (p ∷ ps) = with_size (sizes_at size ps) (string_at p) (size p)
+
+here_none : (b : Bool) (o : Option ℕ) → o ≡ None → cond b o None ≡ o
+here_none true o e = refl
+here_none false o e = sym e
+
+get-with_size : (m : Sizes) (s t : List Bool) (o : Option ℕ) → same_string s t ≡ false → get (with_size m t o) s ≡ get m s
+get-with_size m s t None h = refl
+get-with_size m s t (Some n) h = get-insert listing_total m t n s ∙ ap (λ b. cond b (Some n) (get m s)) h
+
+module _ (size : List ℕ → Option ℕ) where
+  size_here : (m : Sizes) (s : List Bool) (x : List ℕ) (b : Bool) (o : Option ℕ) → size x ≡ o → same_string s (string_at x) ≡ true → path_of s ≡ x →
+      get m s ≡ cond b (size (path_of s)) None → get (with_size m (string_at x) o) s ≡ size (path_of s)
+  size_here m s x b None e hit path rest = rest ∙ here_none b (size (path_of s)) (ap size path ∙ e)
+  size_here m s x b (Some n) e hit path rest =
+      get-insert listing_total m (string_at x) n s ∙ ap (λ c. cond c (Some n) (get m s)) hit ∙ sym (ap size path ∙ e)
+
+  -- each string of a listed path has the size of this path
+  pub get-sizes_at : (paths : List (List ℕ)) → AreSteps paths → (s : List Bool) →
+      get (sizes_at size paths) s ≡ cond (list_any (same_string s) (map string_at paths)) (size (path_of s)) None
+  get-sizes_at [] steps s = get-empty _ s
+  get-sizes_at (x ∷ paths) steps s =
+      let rest = get-sizes_at paths (other_steps x paths steps) s in
+      elim (cases_Bool (same_string s (string_at x))) as
+      (λ _. get (with_size (sizes_at size paths) (string_at x) (size x)) s ≡ cond (same_string s (string_at x) || list_any (same_string s) (map string_at paths)) (size (path_of s)) None) [
+        | inl hit ↦
+            let path : path_of s ≡ x = ap path_of (same_string-is s (string_at x) hit) ∙ string_path x (first_steps x paths steps) in
+            size_here (sizes_at size paths) s x (list_any (same_string s) (map string_at paths)) (size x) refl hit path rest
+            ∙ sym (ap (λ b. cond (b || list_any (same_string s) (map string_at paths)) (size (path_of s)) None) hit)
+        | inr miss ↦
+            get-with_size (sizes_at size paths) s (string_at x) (size x) miss ∙ rest
+            ∙ sym (ap (λ b. cond (b || list_any (same_string s) (map string_at paths)) (size (path_of s)) None) miss)
+      ]
+
+module _ (sizes : List ℕ) (nodes : List ℕ → Option Node) (paths : List (List ℕ)) (v : Store Node) (hold : NodesHold sizes nodes paths v) where
+  -- the sizes at the paths of the nodes are those of the nodes
+  pub sizes_are : (size : Option Node → Option ℕ) → size None ≡ None → AreSizesBy size v.slots (sizes_at (λ p. size (nodes p)) paths)
+  sizes_are size none s =
+      get-sizes_at (λ p. size (nodes p)) paths (paths_steps sizes nodes paths v hold) s
+      ∙ ap (λ b. cond b (size (nodes (path_of s))) None) (listed_at sizes nodes paths v hold s)
+      ∙ there (is_node_depth s) (nodes (path_of s))
+      ∙ ap (λ o. cond (is_node_depth s) (size o) None) (sym (reads sizes nodes paths v hold (path_of s)))
+    where
+      there : (d : Bool) (o : Option Node) → cond (d && is_some o) (size o) None ≡ cond d (size o) None
+      there true None = sym none
+      there true (Some n) = refl
+      there false o = refl
+
+  -- so the nodes have sizes
+  pub sizes_of : Sized v.slots
+  sizes_of = (
+    sizes_at (λ p. child_block_size (nodes p)) paths,
+    (sizes_at (λ p. value_block_size (nodes p)) paths, (sizes_are child_block_size refl, sizes_are value_block_size refl)),
+  )
+
+  -- and no others
+  pub sizes_only : (x : Sized v.slots) →
+      (x.0 ≡ sizes_at (λ p. child_block_size (nodes p)) paths) × (x.1.0 ≡ sizes_at (λ p. value_block_size (nodes p)) paths)
+  unfolding sizes_of
+  sizes_only x =
+      let same : x ≡ sizes_of = Sized-prop v.slots x sizes_of in
+      (ap (λ (y : Sized v.slots). y.0) same, ap (λ (y : Sized v.slots). y.1.0) same)
+
+-- a table's nodes have sizes
+pub table_sizes : {T : Type 0} (v : Store Node) (w : Store (Option T)) → SomeTable v w → Sized v.slots
+table_sizes v w t = sizes_of node_sizes t.reading t.paths v t.holds.hold
+
+-- the layout of arrays with these nodes and tiers
+abbrev pub layout_of : (nodes : List Node) → List Tier → List Tier → Sized nodes → Layout
+layout_of nodes ts us sized = record {
+  child_blocks = sized.0;
+  value_blocks = sized.1.0;
+  free_child_blocks = free_counts ts;
+  free_value_blocks = free_counts us;
+}
+
+-- how arrays with such a layout are stored
+abbrev pub storage_of : {T : Type 0} (v : Store Node) → Store (Option T) → Sized v.slots → Storage
+storage_of v w sized = record {
+  room = record { limit = v.limit; node_slots = length v.slots; cell_slots = length w.slots };
+  layout = layout_of v.slots v.tiers w.tiers sized;
+}
+
+-- the same nodes and tiers have the same layout
+pub same_layout : (nodes later : List Node) (ts ts2 us us2 : List Tier) (x : Sized nodes) (y : Sized later) → later ≡ nodes → ts2 ≡ ts → us2 ≡ us →
+    layout_of later ts2 us2 y ≡ layout_of nodes ts us x
+same_layout nodes later ts ts2 us us2 x y same tiers cells =
+    subst (λ (k : List Node). (z : Sized k) → layout_of k ts2 us2 z ≡ layout_of nodes ts us x) (sym same)
+    (λ z i. layout_of nodes (tiers i) (cells i) (Sized-prop nodes z x i)) y
+
+-- the root alone has no block
+root_sizes : (size : Option Node → Option ℕ) → size (root_reading []) ≡ None → sizes_at (λ p. size (root_reading p)) ([] ∷ []) ≡ empty
+root_sizes size none = ap (λ o. with_size empty [] o) none
+
+root_none : child_block_size (root_reading []) ≡ None
+root_none = ap child_block_size root_here ∙ ap (λ n. size_if_any n (size_in node_sizes 0)) rank-zero-all
+
+root_none_value : value_block_size (root_reading []) ≡ None
+root_none_value = ap value_block_size root_here ∙ ap (λ n. size_if_any n (size_in cell_sizes 0)) rank-zero-all
+
+-- nor has a table with it alone, and no block is made
+pub root_layout : {T : Type 0} (v : Store Node) (w : Store (Option T)) → Holds root_reading no_values ([] ∷ []) v w → v.tiers ≡ map no_blocks node_sizes →
+    w.tiers ≡ map no_blocks cell_sizes → (x : Sized v.slots) → layout_of v.slots v.tiers w.tiers x ≡ no_layout
+root_layout v w holds tiers cell_tiers x =
+    let only = sizes_only node_sizes root_reading ([] ∷ []) v holds.hold x in
+    let children : x.0 ≡ empty = only.0 ∙ root_sizes child_block_size root_none in
+    let values : x.1.0 ≡ empty = only.1 ∙ root_sizes value_block_size root_none_value in
+    λ i. record {
+      child_blocks = children i;
+      value_blocks = values i;
+      free_child_blocks = free_counts (tiers i);
+      free_value_blocks = free_counts (cell_tiers i);
+    }

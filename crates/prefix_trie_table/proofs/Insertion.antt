@@ -1,0 +1,10 @@
+-- What an insertion needs, asks for and leaves.
+pub mod Adding
+pub mod Inserted
+pub mod Inserting
+pub mod Rooms
+pub mod Placements
+pub mod Needs
+pub mod Asks
+pub mod Foreseen
+pub mod Resized

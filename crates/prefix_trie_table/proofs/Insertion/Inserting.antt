@@ -1,0 +1,123 @@
+-- What an insertion asks for and leaves.
+use Rattle.std.proofs.Common.{◌*◌, ◌≡◌, ℕ, zero, suc, ◌+◌, ◌<◌, ◌≤◌, inl, inr, Bool, true, false, cond, nat_le, List, [], ◌∷◌, ◌++◌, length, get_or, take, Option, None, Some, is_some, IsSome, sym, ap, ◌∙◌, subst, arith, not}
+use Rattle.std.proofs.lemmas.Bool.{cases_Bool, lt-ltb}
+use Rattle.std.specs.List.{position, prefix_len, position_or_len}
+use Rattle.std.proofs.lemmas.Bool.Decides.{nat_tests}
+use Rattle.prefix_trie_table.specs.declared.allocator.node.Node.{Node}
+use Rattle.prefix_trie_table.specs.Bitmaps.{has_bit, rank}
+use Rattle.prefix_trie_table.specs.Store.{Tier, Store, Sound, Block, block, HasList, Prepared, tier_for, tier_sizes}
+use Rattle.prefix_trie_table.specs.Forest.{IsSlot, NodesHold, CellsHold, Deepest, has_value}
+use Rattle.prefix_trie_table.specs.Cells.{blank_node, node_at, node_sizes, cell_sizes}
+use Rattle.prefix_trie_table.proofs.Blocks.Soundness.{tier_of_block, first_place}
+use Rattle.prefix_trie_table.proofs.Blocks.Spending.{tier_for_sizes}
+use Rattle.prefix_trie_table.proofs.Strings.BitLists.{rank-more, rank-lacks}
+use Rattle.prefix_trie_table.specs.Digits.{path_of}
+use Rattle.prefix_trie_table.specs.Tables.{IsReached}
+use Rattle.prefix_trie_table.proofs.Strings.Digits.{step-small}
+use Rattle.prefix_trie_table.proofs.Lookup.Going.{step-inside}
+use Rattle.prefix_trie_table.proofs.Tree.Trees.{reads, slot_holds, held_some}
+
+-- free blocks that were made change nothing
+pub nodes_prepared : (reading : List ℕ → Option Node) (paths : List (List ℕ)) (v x : Store Node) → NodesHold node_sizes reading paths v →
+    Prepared v x → ((live : List (Block Node)) → Sound blank_node live v → Sound blank_node live x) → NodesHold node_sizes reading paths x
+nodes_prepared reading paths v x hold done sound = record {
+  rooted = hold.rooted ∙ ap Some (sym (done.kept 0 blank_node
+      (let w = first_place blank_node _ v hold.sound in let f = hold.first_is in omega arith)));
+  linked = hold.linked;
+  listed = hold.listed;
+  sound = sound _ hold.sound;
+  first_is = done.first_is ∙ hold.first_is;
+  sizes_are = done.sizes ∙ hold.sizes_are;
+}
+
+-- and the values that they held
+pub cells_prepared : {T : Type 0} (reading : List ℕ → Option Node) (values : List ℕ → ℕ → Option T) (paths : List (List ℕ)) (w x : Store (Option T)) →
+    CellsHold cell_sizes reading values paths w → Prepared w x → ((live : List (Block (Option T))) → Sound None live w → Sound None live x) →
+    CellsHold cell_sizes reading values paths x
+cells_prepared reading values paths w x cells done sound = record {
+  set_where = cells.set_where;
+  sound = sound _ cells.sound;
+  sizes_are = done.sizes ∙ cells.sizes_are;
+  within = cells.within;
+}
+
+-- the tier of a list that has items
+pub list_tier : {S : Type 0} (vacant : S) (v : Store S) (k start count : ℕ) → HasList vacant v k start count → 0 < count → k < length v.tiers
+list_tier {S} vacant v k start count h some =
+    let s : Sound vacant (block k start h.size h.items ∷ h.live) v =
+    subst (λ bs. Sound vacant (bs ++ h.live) v) (held_some k start h.size h.items (let e = h.is_count in omega arith)) h.sound in
+    (tier_of_block vacant (block k start h.size h.items) h.live v s).within
+
+-- a list that has a size that passes
+passes_first : (f : ℕ → Bool) (xs : List ℕ) (k : ℕ) → k < length xs → f (get_or xs k 0) ≡ true → prefix_len (λ x. not (f x)) xs < length xs
+passes_first f [] k h e = absurd (omega arith)
+passes_first f (x ∷ xs) zero h e = subst (λ b. cond (not b) (1 + prefix_len (λ y. not (f y)) xs) 0 < suc (length xs)) (sym e) (omega arith)
+passes_first f (x ∷ xs) (suc k) h e =
+    let ih : prefix_len (λ y. not (f y)) xs < length xs = passes_first f xs k (omega arith) e in
+    elim (f x) as (λ b. cond (not b) (1 + prefix_len (λ y. not (f y)) xs) 0 < suc (length xs)) [ true ↦ omega arith | false ↦ omega arith ]
+
+position_there : (f : ℕ → Bool) (xs : List ℕ) (k : ℕ) → k < length xs → f (get_or xs k 0) ≡ true → IsSome (position f xs)
+position_there f xs k h e =
+    ap (λ b. is_some (cond b (Some (position_or_len f xs)) None)) (lt-ltb (position_or_len f xs) (length xs) (passes_first f xs k h e))
+
+-- some block holds one child more
+pub node_fits : (ts : List Tier) (count : ℕ) → tier_sizes ts ≡ node_sizes → count < 32 → IsSome (tier_for ts (count + 1))
+node_fits ts count e few =
+    subst IsSome (sym (tier_for_sizes ts (count + 1) ∙ ap (λ ns. position (λ s. nat_le (count + 1) s) ns) e))
+    (position_there (λ s. nat_le (count + 1) s) node_sizes 6 (omega arith) (le_leb (count + 1) 32 (omega arith)))
+  where
+    le_leb : (a b : ℕ) → a ≤ b → nat_le a b ≡ true
+    le_leb a b h = grind (arith, nat_tests)
+
+-- some block holds one value more
+pub cell_fits : (ts : List Tier) (count : ℕ) → tier_sizes ts ≡ cell_sizes → count < 31 → IsSome (tier_for ts (count + 1))
+cell_fits ts count e few =
+    subst IsSome (sym (tier_for_sizes ts (count + 1) ∙ ap (λ ns. position (λ s. nat_le (count + 1) s) ns) e))
+    (position_there (λ s. nat_le (count + 1) s) cell_sizes 6 (omega arith) (le_leb (count + 1) 31 (omega arith)))
+  where
+    le_leb : (a b : ℕ) → a ≤ b → nat_le a b ≡ true
+    le_leb a b h = grind (arith, nat_tests)
+
+-- free blocks that were made leave each node that is there
+pub node_still : (reading : List ℕ → Option Node) (paths : List (List ℕ)) (v x : Store Node) (p : List ℕ) (slot : ℕ) (n : Node) →
+    NodesHold node_sizes reading paths v → IsSlot reading p slot → reading p ≡ Some n → Prepared v x → node_at x.slots slot ≡ node_at v.slots slot
+node_still reading paths v x p slot n hold stands is done =
+    done.kept slot blank_node (slot_holds node_sizes reading paths v hold p slot n stands is).1
+
+-- a node that lacks a value has room for one more
+pub few_values : {T : Type 0} (reading : List ℕ → Option Node) (values : List ℕ → ℕ → Option T) (paths : List (List ℕ)) (w : Store (Option T))
+    (p : List ℕ) (n : Node) (b : ℕ) → CellsHold cell_sizes reading values paths w → reading p ≡ Some n → b < 31 → has_bit n.value_bitmap b ≡ false →
+    rank n.value_bitmap 32 < 31
+few_values reading values paths w p n b cells is small lacks =
+    let m : ℕ = n.value_bitmap in
+    let last : has_bit n.value_bitmap 31 ≡ false = (elim (cases_Bool (has_bit n.value_bitmap 31)) as (λ _. has_bit n.value_bitmap 31 ≡ false) [
+      | inl e ↦ absurd (let h : 31 < 31 = cells.within p 31 (cells.set_where p 31 ∙ ap (λ o. has_value o 31) is ∙ e) in omega arith)
+      | inr e ↦ e
+    ]) in
+    let less : rank m 31 < 31 = rank-lacks m 31 b small lacks in
+    let up : rank m 32 ≡ rank m 31 + cond (has_bit m 31) 1 0 = rank-more m 31 in
+    let none : ◌≡◌ {A = ℕ} (cond (has_bit m 31) 1 0) 0 = ap (λ s. cond s 1 0) last in
+    omega (arith, less, up, none)
+
+-- what `descend` reached is reached still where free blocks were made
+pub reached_still : (b : List Bool) (len level slot : ℕ) (node : Node) (v x : Store Node) (reading : List ℕ → Option Node) (paths : List (List ℕ)) →
+    IsReached b len level node slot v → NodesHold node_sizes reading paths v → Prepared v x → NodesHold node_sizes reading paths x →
+    IsReached b len level node slot x
+reached_still b len level slot node v x reading paths at hold done later =
+    let deep = at.deepest reading paths hold in
+    record {
+      long = at.long;
+      whole = at.whole;
+      node_is = at.node_is ∙ sym (node_still reading paths v x _ slot deep.node hold deep.stands deep.is done);
+      deepest = λ other ps h.
+          let same : reading ≡ other = (λ i q. (sym (reads node_sizes reading paths x later q) ∙ reads node_sizes other ps x h q) i) in
+          subst (λ f. Deepest f (path_of (take len b)) level slot x) same (record { node = deep.node; stands = deep.stands; is = deep.is });
+      missing = at.missing;
+    }
+
+module _ (b : List Bool) (len level slot : ℕ) (node : Node) (v : Store Node) (at : IsReached b len level node slot v) where
+  -- a node that lacks a child has room for one more
+  pub few_children : 5 * level + 5 ≤ len → rank node.child_bitmap 32 < 32
+  few_children more =
+      rank-lacks node.child_bitmap 32 (get_or (path_of (take len b)) level 0) (step-small (take len b) level (step-inside b len level at.long more))
+      (at.missing more)

@@ -1,0 +1,93 @@
+-- What a call leaves that adds a missing value where its way ends, in the words for an insertion.
+use Rattle.std.proofs.Common.{◌≡◌, ℕ, ◌+◌, false, Bool, List, take, Option, None, Some, Result, Ok, Err, MatchResult, IfErr, sym, ◌∙◌, true≢false, arith}
+use Rattle.std.specs.FinMap.{get, contains_key}
+use Rattle.prefix_trie_bits.specs.declared.prefix.Refused.{Refused}
+use Rattle.prefix_trie_bits.specs.declared.prefix.Refusal.TheVariants.{Memory, IndexRange}
+use Rattle.prefix_trie_bits.specs.Model.Step.{Insert}
+use Rattle.prefix_trie_bits.specs.Model.Storage.{InsertsInStorage, RefusesInStorage, StepOfStrings}
+use Rattle.prefix_trie_table.specs.declared.allocator.node.Node.{Node}
+use Rattle.prefix_trie_table.specs.declared.table.seat.Seat.{Seat}
+use Rattle.prefix_trie_table.specs.declared.table.seat.WayEnd.{WayEnd}
+use Rattle.prefix_trie_table.specs.Asked.{ObtainsBoth, nodes_needed, cells_needed}
+use Rattle.prefix_trie_table.specs.Digits.{path_of, bit_of}
+use Rattle.prefix_trie_table.specs.Forest.{Holds, EntryAdded}
+use Rattle.prefix_trie_table.specs.Layouts.{Sized}
+use Rattle.prefix_trie_table.specs.Shape.{Shaped}
+use Rattle.prefix_trie_table.specs.Steps.{inserted, placed}
+use Rattle.prefix_trie_table.specs.Store.{Store}
+use Rattle.prefix_trie_table.specs.Tables.{IsReached, IsTable, ForHeld, Grows, MayPass}
+use Rattle.prefix_trie_table.proofs.Insertion.Asks.{at_end}
+use Rattle.prefix_trie_table.proofs.Insertion.Foreseen.{obtained}
+use Rattle.prefix_trie_table.proofs.Insertion.Inserted.{inserted_in}
+use Rattle.prefix_trie_table.proofs.Insertion.Resized.{sizes_left}
+use Rattle.prefix_trie_table.proofs.Tree.Shapes.{shape_entries, Leaves, Counts}
+use Rattle.prefix_trie_table.proofs.Blocks.Sizing.{storage_of}
+use Rattle.prefix_trie_table.proofs.Tree.Stated.{inserts_step}
+use Rattle.prefix_trie_table.proofs.Tree.Trees.{is_none-None}
+
+-- an answer as that of an insertion: no value stood there before
+abbrev pub inserting : {T E : Type 0} → Result Seat E → Result (Option T) E
+inserting (Ok seat) = Ok None
+inserting (Err e) = Err e
+
+-- what it obtained
+obtaining : {T E : Type 0} (for_limit for_memory : E → Type 0) (v v2 : Store Node) (w w2 : Store (Option T)) (nodes cells : ℕ → ℕ) (r : Result Seat E) →
+    ObtainsBoth for_limit for_memory r v v2 w w2 nodes cells → ObtainsBoth for_limit for_memory (inserting {T = T} r) v v2 w w2 nodes cells
+obtaining for_limit for_memory v v2 w w2 nodes cells (Ok seat) o =
+    record { nodes_made = o.nodes_made; cells_made = o.cells_made; range = tt; memory = tt; lacks = tt }
+obtaining for_limit for_memory v v2 w w2 nodes cells (Err e) o =
+    record { nodes_made = o.nodes_made; cells_made = o.cells_made; range = o.range; memory = o.memory; lacks = o.lacks }
+
+module _ {T E : Type 0} (q : List Bool) (x : T) (v v2 : Store Node) (w w2 : Store (Option T)) (count count2 : ℕ) (s : Shaped v.slots w.slots)
+    (is : IsTable v w count s.0) where
+  -- what the call says of the arrays, where no value is there
+  pub placed_leaves : contains_key s.0.entries q ≡ false → (r : Result Seat E) → ForHeld v w (λ reading paths values. MatchResult r
+      (λ _. EntryAdded reading values paths (path_of q) (bit_of q) (Some x) v2 w2) (λ _. Holds reading values paths v2 w2)) →
+      Leaves q x v v2 w w2 count count2 s is (inserting r)
+  placed_leaves absent (Ok seat) left = λ reading paths values holds. (
+    sym (is_none-None (get s.0.entries q) absent) ∙ shape_entries reading values paths v w holds s.0 s.1 q,
+    left reading paths values holds,
+  )
+  placed_leaves absent (Err e) left = left
+
+  -- and of the count
+  pub placed_counts : (r : Result Seat E) → MatchResult r (λ _. count2 ≡ count + 1) (λ _. count2 ≡ count) → Counts q x v v2 w w2 count count2 s is (inserting r)
+  placed_counts (Ok seat) counts = omega (arith, counts)
+  placed_counts (Err e) counts = counts
+
+-- so it is a step of the model
+module _ {T : Type 0} (b : List Bool) (len : ℕ) (x : T) (v v2 : Store Node) (w w2 : Store (Option T)) (count count2 : ℕ) (s : Shaped v.slots w.slots)
+    (is : IsTable v w count s.0) (t : Shaped v2.slots w2.slots) (left : IsTable v2 w2 count2 t.0) (sized : Sized v.slots) (later : Sized v2.slots) (end : WayEnd)
+    (at : IsReached b len end.reached.level end.reached.node (end.reached.at.start + end.reached.at.place) v) (absent : contains_key s.0.entries (take len b) ≡ false) where
+  taken : (r : Result Seat (Refused T)) → Leaves (take len b) x v v2 w w2 count count2 s is (inserting r) →
+      ObtainsBoth (λ (e : Refused T). e.cause ≡ IndexRange) (λ (e : Refused T). e.cause ≡ Memory) r v v2 w w2 (nodes_needed v end.reached.node end.reached.level len)
+      (cells_needed w end.reached.node end.reached.level len) →
+      MatchResult (inserting {T = T} r) (λ _. InsertsInStorage s.0 (take len b) (storage_of v w sized) (storage_of v2 w2 later))
+      (λ e. RefusesInStorage s.0 (take len b) e.cause (storage_of v w sized) (storage_of v2 w2 later))
+  taken r leaves obtains =
+      inserted_in v v2 w w2 count count2 s.0 t.0 is left sized later (take len b) (λ e. e.cause) (inserting r)
+      (obtained (λ e. e.cause ≡ IndexRange) (λ e. e.cause ≡ Memory) b len v v2 w w2 count s is sized (inserting r)
+      (λ reading paths values holds none.
+      at_end b len end.reached.level (end.reached.at.start + end.reached.at.place) end.reached.node v at reading paths holds.hold
+      (obtaining _ _ v v2 w w2 _ _ r obtains)) absent)
+      (sizes_left (take len b) x v v2 w w2 count s is sized later absent (inserting r) leaves)
+
+  range_given : (r : Result Seat (Refused T)) → IfErr r (λ e. e.cause ≡ IndexRange → MayPass v w) → IfErr (inserting {T = T} r) (λ e. e.cause ≡ IndexRange → MayPass v w)
+  range_given (Ok seat) h = tt
+  range_given (Err e) h = h
+
+  answered : (r : Result Seat (Refused T)) → StepOfStrings (s.0, storage_of v w sized) (Insert (take len b) x) (inserted (inserting r)) (t.0, storage_of v2 w2 later) →
+      StepOfStrings (s.0, storage_of v w sized) (Insert (take len b) x) (placed r) (t.0, storage_of v2 w2 later)
+  answered (Ok seat) h = h
+  answered (Err e) h = h
+
+  pub placed_step : (r : Result Seat (Refused T)) → Leaves (take len b) x v v2 w w2 count count2 s is (inserting r) →
+      ObtainsBoth (λ (e : Refused T). e.cause ≡ IndexRange) (λ (e : Refused T). e.cause ≡ Memory) r v v2 w w2 (nodes_needed v end.reached.node end.reached.level len)
+      (cells_needed w end.reached.node end.reached.level len) → IfErr r (λ e. e.cause ≡ IndexRange → MayPass v w) → Grows v v2 56 → Grows w w2 31 →
+      StepOfStrings (s.0, storage_of v w sized) (Insert (take len b) x) (placed r) (t.0, storage_of v2 w2 later)
+  placed_step r leaves obtains range nodes cells = answered r (inserts_step v v2 w w2 count count2 s is sized t left later (take len b) x (inserting r) (record {
+    leaves = leaves;
+    stays = λ there. absurd (true≢false (sym there ∙ absent));
+    takes = λ new. taken r leaves obtains;
+    range = range_given r range;
+  }) nodes cells)

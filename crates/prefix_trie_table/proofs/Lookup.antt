@@ -1,0 +1,10 @@
+-- Lookups, matches and covers, and values lent.
+pub mod Going
+pub mod Finding
+pub mod Locating
+pub mod Matching
+pub mod Matched
+pub mod Covers
+pub mod Covered
+pub mod Lending
+pub mod Located

@@ -1,0 +1,252 @@
+-- The entries that a walk over the beginnings of a bit string has still to give.
+use Rattle.std.proofs.Common.{◌≡◌, ◌⊎◌, ℕ, ◌+◌, ◌-◌, ◌*◌, ◌<◌, ◌≤◌, Bool, true, false, cond, ◌&&◌, ◌||◌, nat_le, List, [], ◌∷◌, length, length-drop, filter, take, drop, Option, None, Some, is_some, refl, sym, ap, ◌∙◌, subst, add-sub_of_le, arith, inl, inr}
+use lib.Dec.{T as IsT}
+use Rattle.std.proofs.lemmas.Bool.{le-leb, lt-leb, cases_lt, false≢true}
+use Rattle.std.proofs.lemmas.List.{length-take-le, drop-take, take-take}
+use Rattle.std.proofs.lemmas.List.Elements.{Contains-append_left, Contains-append_right, Contains-push, Contains-push_cases, Contains-append_cases}
+use Rattle.std.specs.List.{Contains}
+use Rattle.std.specs.FinMap.{entries, entries_sorted, is_sorted}
+use Rattle.std.specs.FinMap.Entries.{is_sorted-where_key}
+use Rattle.prefix_trie_bits.specs.Bits.{begins}
+use Rattle.prefix_trie_bits.specs.Begins.{begins-take, begins-length, take-begins}
+use Rattle.prefix_trie_bits.specs.Order.{listing_cmp}
+use Rattle.prefix_trie_bits.specs.Places.{has, value_bit}
+use Rattle.prefix_trie_bits.specs.Model.Entries.{Entries}
+use Rattle.prefix_trie_bits.specs.Model.Matches.{covers, IsMatch}
+use Rattle.prefix_trie_bits.specs.Model.Step.{State}
+use Rattle.prefix_trie_bits.proofs.Model.Matches.{IsMatch-from_covers, covers-from_IsMatch}
+use Rattle.prefix_trie_bits.proofs.Model.Ordered.{each-behind, find-from_Contains, sorted-head, sorted-tail, shorter-first}
+use Rattle.prefix_trie_table.specs.declared.allocator.node.Node.{Node}
+use Rattle.prefix_trie_table.specs.declared.table.matching.Match.{Match}
+use Rattle.prefix_trie_table.specs.Store.{Store}
+use Rattle.prefix_trie_table.specs.Forest.{SomeTable}
+use Rattle.prefix_trie_table.specs.Matching.{holds_value, IsHeld, NoneHeld, cell_slot}
+use Rattle.prefix_trie_table.specs.Shape.{IsShapeOf, same_shape}
+use Rattle.prefix_trie_table.specs.Walking.Covers.{IsCovering, GoesOn, is_ahead, still_covering}
+use Rattle.prefix_trie_table.proofs.Lookup.Matching.{held_is, on_way_is}
+use Rattle.prefix_trie_table.proofs.Lookup.Matched.{match_held, cell_of, cell_inside, is_match, cell_some}
+
+-- ---- filters of lists
+
+module _ {X : Type 0} where
+  here_or : (x : X) (es : List X) (e : X) → Contains (x ∷ es) e → (x ≡ e) ⊎ Contains es e
+  here_or x es e has = elim (Contains-append_cases (x ∷ []) es e has) as (λ _. (x ≡ e) ⊎ Contains es e) [
+    | inl here ↦ elim (Contains-push_cases [] x e here) [ inl none ↦ absurd (omega (arith, none.1)) | inr is ↦ inl is ]
+    | inr there ↦ inr there
+  ]
+
+  first_in : (x : X) (es : List X) → Contains (x ∷ es) x
+  first_in x es = Contains-append_left (x ∷ []) es x (Contains-push [] x)
+
+  later_in : (x : X) (es : List X) (e : X) → Contains es e → Contains (x ∷ es) e
+  later_in x es e has = Contains-append_right (x ∷ []) es e has
+
+  -- tests that agree on the elements
+  agree : (p r : X → Bool) (es : List X) → ((e : X) → Contains es e → p e ≡ r e) → filter p es ≡ filter r es
+  agree p r [] h = refl
+  agree p r (x ∷ es) h =
+      ap (λ b. cond b (x ∷ filter p es) (filter p es)) (h x (first_in x es))
+      ∙ ap (λ ys. cond (r x) (x ∷ ys) ys) (agree p r es (λ e has. h e (later_in x es e has)))
+
+  none_pass : (p : X → Bool) (es : List X) → ((e : X) → Contains es e → p e ≡ false) → filter p es ≡ []
+  none_pass p [] h = refl
+  none_pass p (x ∷ es) h =
+      ap (λ b. cond b (x ∷ filter p es) (filter p es)) (h x (first_in x es)) ∙ none_pass p es (λ e has. h e (later_in x es e has))
+
+  all_pass : (p : X → Bool) (es : List X) → ((e : X) → Contains es e → p e ≡ true) → filter p es ≡ es
+  all_pass p [] h = refl
+  all_pass p (x ∷ es) h =
+      ap (λ b. cond b (x ∷ filter p es) (filter p es)) (h x (first_in x es)) ∙ ap (λ ys. x ∷ ys) (all_pass p es (λ e has. h e (later_in x es e has)))
+
+-- ---- of a list of beginnings, those of so many bits or more
+
+module _ {T : Type 0} where
+  -- the entries whose keys have n bits or more
+  abbrev pub from_length : ℕ → List (List Bool × T) → List (List Bool × T)
+  from_length n es = filter (λ e. nat_le n (length e.0)) es
+
+  module _ (q : List Bool) where
+    head_shorter : (x : List Bool × T) (es : List (List Bool × T)) → IsT (is_sorted listing_cmp (x ∷ es)) → ((e : List Bool × T) → Contains (x ∷ es) e → begins e.0 q ≡ true)
+        → (e : List Bool × T) → Contains es e → length x.0 < length e.0
+    head_shorter x es sorted begin e has =
+        shorter-first q x.0 e.0 (begin x (first_in x es)) (begin e (later_in x es e has))
+        (each-behind x.0 es e.0 e.1 (sorted-head x es sorted) (find-from_Contains es e (sorted-tail x es sorted) has))
+
+    take_head : (first : ℕ) (x : List Bool × T) (es : List (List Bool × T)) → IsT (is_sorted listing_cmp (x ∷ es)) → ((e : List Bool × T) → Contains (x ∷ es) e → begins e.0 q ≡ true)
+        → first ≤ length x.0 → from_length first (x ∷ es) ≡ x ∷ from_length (length x.0 + 1) (x ∷ es)
+    take_head first x es sorted begin low =
+        ap (λ b. cond b (x ∷ from_length first es) (from_length first es)) (le-leb first (length x.0) low)
+        ∙ ap (λ ys. x ∷ ys) (agree (λ e. nat_le first (length e.0)) (λ e. nat_le (length x.0 + 1) (length e.0)) es
+        (λ e has. let l : length x.0 < length e.0 = head_shorter x es sorted begin e has in
+        le-leb first (length e.0) (omega arith) ∙ sym (le-leb (length x.0 + 1) (length e.0) (omega arith)))
+        ∙ ap (λ b. cond b (x ∷ from_length (length x.0 + 1) es) (from_length (length x.0 + 1) es)) (sym (lt-leb (length x.0 + 1) (length x.0) (omega arith))))
+
+    -- the shortest of them comes first
+    take_shortest : (first : ℕ) (d : List Bool × T) (es : List (List Bool × T)) → IsT (is_sorted listing_cmp es) → ((e : List Bool × T) → Contains es e → begins e.0 q ≡ true)
+        → Contains es d → first ≤ length d.0 → ((e : List Bool × T) → Contains es e → first ≤ length e.0 → length d.0 ≤ length e.0)
+        → from_length first es ≡ d ∷ from_length (length d.0 + 1) es
+    take_shortest first d [] sorted begin has low least = absurd (omega (arith, has.1))
+    take_shortest first d (x ∷ es) sorted begin has low least =
+        elim (here_or x es d has) as (λ _. from_length first (x ∷ es) ≡ d ∷ from_length (length d.0 + 1) (x ∷ es)) [
+          | inl here ↦ subst (λ y. from_length first (x ∷ es) ≡ y ∷ from_length (length y.0 + 1) (x ∷ es)) here
+              (take_head first x es sorted begin (subst (λ y. first ≤ length y.0) (sym here) low))
+          | inr there ↦
+              let shorter : length x.0 < length d.0 = head_shorter x es sorted begin d there in
+              let below : length x.0 < first = elim (cases_lt (length x.0) first) [ inl l ↦ l | inr g ↦ let more = least x (first_in x es) g in absurd (omega (arith, more)) ] in
+              ap (λ b. cond b (x ∷ from_length first es) (from_length first es)) (lt-leb first (length x.0) below)
+              ∙ take_shortest first d es (sorted-tail x es sorted) (λ e has. begin e (later_in x es e has)) there low (λ e has. least e (later_in x es e has))
+              ∙ ap (λ b. d ∷ cond b (x ∷ from_length (length d.0 + 1) es) (from_length (length d.0 + 1) es)) (sym (lt-leb (length d.0 + 1) (length x.0) (omega arith)))
+        ]
+
+    -- no two are of one length, so there are not many
+    few : (least : ℕ) (es : List (List Bool × T)) → IsT (is_sorted listing_cmp es) → ((e : List Bool × T) → Contains es e → begins e.0 q ≡ true)
+        → ((e : List Bool × T) → Contains es e → least ≤ length e.0) → least ≤ length q + 1 → length es + least ≤ length q + 1
+    few least [] sorted begin from small = omega arith
+    few least (x ∷ es) sorted begin from small =
+        let own : least ≤ length x.0 = from x (first_in x es) in
+        let short : length x.0 ≤ length q = begins-length x.0 q (begin x (first_in x es)) in
+        let rest : length es + (length x.0 + 1) ≤ length q + 1 =
+        few (length x.0 + 1) es (sorted-tail x es sorted) (λ e has. begin e (later_in x es e has))
+        (λ e has. let l : length x.0 < length e.0 = head_shorter x es sorted begin e has in omega arith) (omega arith) in
+        omega arith
+
+  -- of each length one at most
+  pub covers_few : (m : Entries T) (q : List Bool) → length (covers m q) ≤ length q + 1
+  covers_few m q =
+      let n = few q 0 (covers m q) (is_sorted-where_key listing_cmp (λ k. begins k q) (entries m) (entries_sorted m))
+      (λ e has. (IsMatch-from_covers m q e has).begins_it) (λ e has. omega arith) (omega arith) in
+      omega (arith, n)
+
+  -- ---- what a table's walk has still to give
+
+  module _ (v : Store Node) (w : Store (Option T)) (t : SomeTable v w) (s : State T) (is : IsShapeOf v.slots w.slots s) (b : List Bool) (len : ℕ) (long : len ≤ length b) where
+    asked_long : length (take len b) ≡ len
+    asked_long = length-take-le len b long
+
+    abbrev asked : List Bool
+    asked = take len b
+
+    -- the key of a cover is a beginning that has a value
+    module _ (e : List Bool × T) (has : Contains (covers s.entries (take len b)) e) where
+      cover_match : IsMatch s.entries (take len b) e
+      cover_match = IsMatch-from_covers s.entries asked e has
+
+      cover_within : length e.0 ≤ length (take len b)
+      cover_within = begins-length e.0 asked cover_match.begins_it
+
+      cover_holds : holds_value t.reading (take len b) (length e.0) ≡ true
+      cover_holds = match_held v w t s is b len long e.0 (ap is_some cover_match.stored) cover_match.begins_it
+
+    -- none is left where none is held
+    none_left : (first : ℕ) → NoneHeld t.reading (take len b) first (len + 1) → from_length first (covers s.entries (take len b)) ≡ []
+    none_left first none = none_pass (λ e. nat_le first (length e.0)) (covers s.entries asked) (λ e has.
+        elim (cases_lt (length e.0) first) as (λ _. nat_le first (length e.0) ≡ false) [
+          | inl l ↦ lt-leb first (length e.0) l
+          | inr g ↦ absurd (false≢true (sym (none (length e.0) g (omega (arith, asked_long, cover_within e has)) (cover_within e has)) ∙ cover_holds e has))
+        ])
+
+    -- the next is the shortest that is held
+    next_left : (m : Match) (first : ℕ) → first ≤ m.len → IsHeld t.reading (take len b) m.len m.bit m.node → NoneHeld t.reading (take len b) first m.len
+        → (x : T) → cell_of w m ≡ Some x → from_length first (covers s.entries (take len b)) ≡ (take m.len (take len b), x) ∷ from_length (m.len + 1) (covers s.entries (take len b))
+    next_left m first low held none x read =
+        let d : List Bool × T = (take m.len asked, x) in
+        let own : length (take m.len asked) ≡ m.len = length-take-le m.len asked held.within in
+        take_shortest asked first d (covers s.entries asked) (is_sorted-where_key listing_cmp (λ k. begins k asked) (entries s.entries) (entries_sorted s.entries))
+        (λ e has. (cover_match e has).begins_it)
+        (covers-from_IsMatch s.entries asked d (is_match v w t s is b len long m held x read))
+        (omega (arith, own))
+        (λ e has from. elim (cases_lt (length e.0) m.len) as (λ _. length (take m.len asked) ≤ length e.0) [
+          | inl l ↦ absurd (false≢true (sym (none (length e.0) from l (cover_within e has)) ∙ cover_holds e has))
+          | inr g ↦ omega (arith, own)
+        ])
+        ∙ ap (λ n. d ∷ from_length (n + 1) (covers s.entries asked)) own
+
+    -- what is still to come by the matches where the walk stands
+    module _ (level : ℕ) (node : Node) (slot matches first : ℕ) (at : IsCovering b len level node slot matches first v) where
+      -- in the node
+      match_is : (e : List Bool × T) → Contains (covers s.entries (take len b)) e → 5 * level ≤ length e.0 → length e.0 < 5 * level + 5
+          → has matches (value_bit (drop (5 * level) e.0)) ≡ nat_le first (length e.0)
+      match_is e there from last =
+          let i = length e.0 in
+          let rest = drop (5 * level) asked in
+          let below = drop (5 * level) e.0 in
+          let below_is : drop (5 * level) e.0 ≡ take (i - 5 * level) rest =
+          ap (drop (5 * level)) (sym (begins-take e.0 asked (cover_match e there).begins_it)) ∙ ap (λ n. drop (5 * level) (take n asked)) (sym (add-sub_of_le from))
+          ∙ drop-take (5 * level) (i - 5 * level) asked in
+          let below_long : length (drop (5 * level) e.0) ≡ i - 5 * level = length-drop (5 * level) e.0 in
+          let whole : 5 * level + length (drop (5 * level) e.0) ≡ i = omega (arith, below_long, from) in
+          let stored : has node.value_bitmap (value_bit (drop (5 * level) e.0)) ≡ true =
+          ap (λ k. has node.value_bitmap (value_bit k)) below_is
+          ∙ sym (held_is asked level i from (cover_within e there) last t.reading node (on_way_is b len level slot node v at.on_way t.reading t.paths t.holds.hold)) ∙ cover_holds e there in
+          at.left.bits below (omega (arith, below_long, last))
+          ∙ middle (begins below rest) (nat_le first (5 * level + length below)) (has node.value_bitmap (value_bit below)) (ap (λ k. begins k rest) below_is ∙ take-begins (i - 5 * level) rest) stored
+          ∙ ap (λ n. nat_le first n) whole
+        where
+          middle : (x y z : Bool) → x ≡ true → z ≡ true → (x && (y && z)) ≡ y
+          middle true true z e f = f
+          middle true false z e f = refl
+          middle false y z e f = absurd (false≢true e)
+
+      ahead_is : (e : List Bool × T) → Contains (covers s.entries (take len b)) e → is_ahead level matches e.0 ≡ nat_le first (length e.0)
+      ahead_is e there =
+          let own = has matches (value_bit (drop (5 * level) e.0)) in
+          elim (cases_lt (length e.0) (5 * level + 5)) as (λ _. is_ahead level matches e.0 ≡ nat_le first (length e.0)) [
+            | inl last ↦ ap (λ x. x || (nat_le (5 * level) (length e.0) && own)) (lt-leb (5 * level + 5) (length e.0) last)
+                ∙ elim (cases_lt (length e.0) (5 * level)) as (λ _. (nat_le (5 * level) (length e.0) && own) ≡ nat_le first (length e.0)) [
+                  | inl above ↦ ap (λ x. x && own) (lt-leb (5 * level) (length e.0) above) ∙ sym (lt-leb first (length e.0) (let low = at.low in omega (arith, low, above)))
+                  | inr from ↦ ap (λ x. x && own) (le-leb (5 * level) (length e.0) from) ∙ match_is e there from last
+                ]
+            | inr past ↦ ap (λ x. x || (nat_le (5 * level) (length e.0) && own)) (le-leb (5 * level + 5) (length e.0) past)
+                ∙ sym (le-leb first (length e.0) (let high = at.high in omega (arith, high, past)))
+          ]
+
+      still_is : still_covering s.entries (take len b) level matches ≡ from_length first (covers s.entries (take len b))
+      still_is = agree (λ e. is_ahead level matches e.0) (λ e. nat_le first (length e.0)) (covers s.entries asked) ahead_is
+
+      -- at the start all of them
+      pub all_ahead : first ≡ 0 → still_covering s.entries (take len b) level matches ≡ covers s.entries (take len b)
+      all_ahead e = still_is ∙ all_pass (λ e. nat_le first (length e.0)) (covers s.entries asked) (λ d has. le-leb first (length d.0) (omega (arith, e)))
+
+      pub none_ahead : NoneHeld t.reading (take len b) first (len + 1) → still_covering s.entries (take len b) level matches ≡ []
+      none_ahead none = still_is ∙ none_left first none
+
+  -- ---- one step of a walk
+
+  module _ (v : Store Node) (w : Store (Option T)) (t : SomeTable v w) (s later : State T) (is : IsShapeOf v.slots w.slots s) (later_is : IsShapeOf v.slots w.slots later)
+      (b : List Bool) (len : ℕ) (long : len ≤ length b) (level deeper : ℕ) (node below : Node) (slot place matches rest first : ℕ)
+      (at : IsCovering b len level node slot matches first v) where
+    -- there is no further entry, now and afterwards
+    pub gives_none : GoesOn b len deeper below place rest first None v
+        → (still_covering s.entries (take len b) level matches ≡ []) × (still_covering later.entries (take len b) deeper rest ≡ [])
+    gives_none gone =
+        let next = gone.next t.reading t.paths t.holds.hold in (
+          none_ahead v w t s is b len long level node slot matches first at next.0,
+          none_ahead v w t later later_is b len long deeper below place rest gone.later gone.stands next.1,
+        )
+
+    -- the next entry is that of the match
+    pub gives_next : (m : Match) → GoesOn b len deeper below place rest first (Some m) v → (x : T) → cell_of w m ≡ Some x
+        → still_covering s.entries (take len b) level matches ≡ (take m.len b, x) ∷ still_covering later.entries (take len b) deeper rest
+    gives_next m gone x read =
+        let next = gone.next t.reading t.paths t.holds.hold in
+        let held : IsHeld t.reading (take len b) m.len m.bit m.node = next.2 in
+        let d : List Bool × T = (take m.len b, x) in
+        still_is v w t s is b len long level node slot matches first at
+        ∙ next_left v w t s is b len long m first next.0 held next.3 x read
+        ∙ ap (λ k. (k, x) ∷ from_length (m.len + 1) (covers s.entries (take len b))) (take-take m.len len b (let h = held.within in omega (arith, h, length-take-le len b long)))
+        ∙ ap (λ (z : State T). d ∷ from_length (m.len + 1) (covers z.entries (take len b))) (same_shape v.slots w.slots s later is later_is)
+        ∙ ap (λ n. d ∷ from_length n (covers later.entries (take len b))) (sym next.1)
+        ∙ ap (λ es. d ∷ es) (sym (still_is v w t later later_is b len long deeper below place rest gone.later gone.stands))
+
+    -- the match has its value
+    pub match_there : (m : Match) → GoesOn b len deeper below place rest first (Some m) v → (m.bit < 31) × (cell_slot m < length w.slots) × (is_some (cell_of w m) ≡ true)
+    match_there m gone =
+        let held : IsHeld t.reading (take len b) m.len m.bit m.node = (gone.next t.reading t.paths t.holds.hold).2 in
+        (held.small, cell_inside v w t s is b len long m held, cell_some v w t s is b len long m held)
+
+    -- a match is no longer than the string
+    pub match_short : (m : Match) → GoesOn b len deeper below place rest first (Some m) v → m.len ≤ len
+    match_short m gone =
+        let held : IsHeld t.reading (take len b) m.len m.bit m.node = (gone.next t.reading t.paths t.holds.hold).2 in
+        let within = held.within in
+        omega (arith, within, length-take-le len b long)

@@ -1,0 +1,102 @@
+-- What stands, or does not, at the end of the way down.
+use Rattle.std.proofs.Common.{◌≡◌, ◌≢◌, ℕ, ◌+◌, ◌*◌, ◌<◌, ◌≤◌, inl, inr, ⊎_elim, Bool, true, false, ◌||◌, List, [], ◌∷◌, ◌++◌, length, take, drop, Option, None, Some, is_some, refl, sym, ap, ◌∙◌, arith, nat_le, leb-true}
+use Rattle.std.proofs.lemmas.Bool.Decides.{nat_tests}
+use Rattle.std.proofs.lemmas.Bool.{false≢true, cases_Bool}
+use Rattle.std.proofs.lemmas.List.{take_all}
+use Rattle.prefix_trie_bits.specs.Places.{has, value_bit}
+use Rattle.prefix_trie_table.specs.declared.allocator.node.Node.{Node}
+use Rattle.prefix_trie_table.specs.Bitmaps.{has_bit}
+use Rattle.prefix_trie_table.specs.Cells.{node_sizes}
+use Rattle.prefix_trie_table.specs.Digits.{path_of, bit_of}
+use Rattle.prefix_trie_table.specs.Store.{Store}
+use Rattle.prefix_trie_table.specs.Forest.{same_path, is_start, NodesHold, Holds, IsEnd, has_value}
+use Rattle.prefix_trie_table.specs.Tables.{IsReached}
+use Rattle.prefix_trie_table.proofs.Strings.Plain.{needs_node}
+use Rattle.prefix_trie_table.proofs.Strings.Bits.{has_bit-is}
+use Rattle.prefix_trie_table.proofs.Strings.Paths.{same_path-not, snoc_ind}
+use Rattle.prefix_trie_table.proofs.Strings.Starts.{is_start-snoc, is_start_take, or_either}
+use Rattle.prefix_trie_table.proofs.Tree.Trees.{is_none-None}
+use Rattle.prefix_trie_table.proofs.Tree.Children.{same_or}
+use Rattle.prefix_trie_table.proofs.Lookup.Going.{step-inside, steps-end, bit-read, deepest_is, deepest_end}
+
+or_false_right : (a : Bool) → (a || false) ≡ a
+or_false_right true = refl
+or_false_right false = refl
+
+-- the beginnings of a node's path lead to nodes
+pub prefix_some : (sizes : List ℕ) (nodes : List ℕ → Option Node) (paths : List (List ℕ)) (v : Store Node) → NodesHold sizes nodes paths v →
+    (q p : List ℕ) → is_some (nodes p) ≡ true → is_start q p ≡ true → is_some (nodes q) ≡ true
+prefix_some sizes nodes paths v hold q = snoc_ind (λ p. is_some (nodes p) ≡ true → is_start q p ≡ true → is_some (nodes q) ≡ true)
+    (λ some h. ⊎_elim (λ (e : same_path q [] ≡ true). at_end [] e some) (λ (e : false ≡ true). absurd (false≢true e)) (or_either (same_path q []) false h))
+    (λ p c ih some h. ⊎_elim (λ (e : is_start q p ≡ true). ih (needs_node (nodes p) c (sym (hold.linked p c) ∙ some)) e)
+    (λ (e : (same_path q (p ++ c ∷ []) || false) ≡ true). at_end (p ++ c ∷ []) (sym (or_false_right (same_path q (p ++ c ∷ []))) ∙ e) some)
+    (or_either (is_start q p) (same_path q (p ++ c ∷ []) || false) (sym (is_start-snoc q p c) ∙ h)))
+  where
+    at_end : (p : List ℕ) → same_path q p ≡ true → is_some (nodes p) ≡ true → is_some (nodes q) ≡ true
+    at_end p e some = ⊎_elim (λ (f : q ≡ p). ap (λ y. is_some (nodes y)) f ∙ some)
+        (λ (n : q ≢ p). absurd (false≢true (sym (same_path-not q p n) ∙ e))) (same_or q p)
+
+-- below the end of the way no node stands
+pub none_below : (nodes : List ℕ → Option Node) (paths : List (List ℕ)) (v : Store Node) (path : List ℕ) (depth : ℕ) →
+    NodesHold node_sizes nodes paths v → IsEnd nodes path depth → depth < length path → nodes path ≡ None
+none_below nodes paths v path depth hold end inside =
+    elim (cases_Bool (is_some (nodes path))) as (λ _. nodes path ≡ None) [
+      | inl e ↦ absurd (false≢true (sym (end.stops inside)
+          ∙ prefix_some node_sizes nodes paths v hold (take (depth + 1) path) path e (is_start_take (depth + 1) path)))
+      | inr e ↦ is_none-None (nodes path) e
+    ]
+
+-- whether the node reached has a value at the bit that the code reads
+pub bit_set : (b : List Bool) (len level slot : ℕ) (node : Node) (v : Store Node) → IsReached b len level node slot v → len < 5 * level + 5 → (x : ℕ) → x < 31 →
+    x ≡ value_bit (drop (5 * level) (take len b)) → has_bit node.value_bitmap (bit_of (take len b)) ≡ has node.value_bitmap x
+bit_set b len level slot node v at less x small read =
+    ap (has_bit node.value_bitmap) (bit-read b len level at.long x at.whole less read) ∙ has_bit-is node.value_bitmap x (omega arith)
+
+module _ (b : List Bool) (len level slot : ℕ) (node : Node) (v : Store Node) (at : IsReached b len level node slot v) (reading : List ℕ → Option Node)
+    (paths : List (List ℕ)) (hold : NodesHold node_sizes reading paths v) where
+  abbrev way : List ℕ
+  way = path_of (take len b)
+
+  -- the way has been followed to its end
+  pub reached_end : IsEnd reading (path_of (take len b)) level
+  reached_end = elim (cases_Bool (nat_le (5 * level + 5) len)) as (λ _. IsEnd reading (path_of (take len b)) level) [
+    | inl e ↦
+        let more : 5 * level + 5 ≤ len = leb-true (5 * level + 5) len e in
+        let inside = step-inside b len level at.long more in
+        deepest_end reading paths v (path_of (take len b)) level slot hold (at.deepest reading paths hold) node (omega arith) at.node_is
+        (λ _. at.missing more)
+    | inr e ↦
+        let less : len < 5 * level + 5 = grind (arith, nat_tests) in
+        let last = steps-end b len level at.long at.whole less in
+        deepest_end reading paths v (path_of (take len b)) level slot hold (at.deepest reading paths hold) node (omega arith) at.node_is
+        (λ h. absurd (omega arith))
+  ]
+
+  -- the node reached is the string's own
+  pub reached_own : len < 5 * level + 5 → reading (path_of (take len b)) ≡ Some node
+  reached_own less =
+      ap reading (sym (take_all level (path_of (take len b)) (omega (arith, steps-end b len level at.long at.whole less))))
+      ∙ deepest_is reading paths v (path_of (take len b)) level slot hold (at.deepest reading paths hold) node at.node_is
+
+  -- the node of the string is not there
+  pub reached_none : 5 * level + 5 ≤ len → reading (path_of (take len b)) ≡ None
+  reached_none more = none_below reading paths v (path_of (take len b)) level hold reached_end (step-inside b len level at.long more)
+
+  -- no value where the node is missing
+  pub no_seat_below : 5 * level + 5 ≤ len → has_value (reading (path_of (take len b))) (bit_of (take len b)) ≡ false
+  no_seat_below more = ap (λ o. has_value o (bit_of (take len b))) (reached_none more)
+
+  module _ (less : len < 5 * level + 5) (x : ℕ) (small : x < 31) (read : x ≡ value_bit (drop (5 * level) (take len b))) where
+    -- no value where the bit that the code reads is clear
+    pub no_seat_here : has node.value_bitmap x ≡ false → has_value (reading (path_of (take len b))) (bit_of (take len b)) ≡ false
+    no_seat_here clear = ap (λ o. has_value o (bit_of (take len b))) (reached_own less) ∙ bit_set b len level slot node v at less x small read ∙ clear
+
+module _ {T : Type 0} (b : List Bool) (len level slot : ℕ) (node : Node) (v : Store Node) (at : IsReached b len level node slot v)
+    (reading : List ℕ → Option Node) (values : List ℕ → ℕ → Option T) (paths : List (List ℕ)) (w : Store (Option T))
+    (holds : Holds reading values paths v w) where
+  -- no value where the node is missing
+  pub no_value_below : 5 * level + 5 ≤ len → values (path_of (take len b)) (bit_of (take len b)) ≡ None
+  no_value_below more =
+      is_none-None (values (path_of (take len b)) (bit_of (take len b)))
+      (holds.cells.set_where (path_of (take len b)) (bit_of (take len b))
+      ∙ ap (λ o. has_value o (bit_of (take len b))) (reached_none b len level slot node v at reading paths holds.hold more))

@@ -1,0 +1,143 @@
+-- The way down a bit string, as the code follows it on a key.
+use Rattle.std.proofs.Common.{◌≡◌, ℕ, ◌+◌, ◌*◌, ◌/◌, ◌<◌, ◌≤◌, Bool, true, false, List, [], ◌∷◌, ◌++◌, length, get_or, take, drop, Option, Some, is_some, refl, sym, ap, ◌∙◌, subst, arith}
+use Rattle.std.proofs.lemmas.List.{length-take-le, take_more}
+use Rattle.prefix_trie_bits.specs.Bits.{number}
+use Rattle.prefix_trie_bits.specs.Windows.{window-of-front}
+use Rattle.prefix_trie_bits.specs.Places.{has, ones_below, value_bit}
+use Rattle.prefix_trie_table.specs.declared.allocator.node.Node.{Node}
+use Rattle.prefix_trie_table.specs.Bitmaps.{has_bit, rank}
+use Rattle.prefix_trie_table.specs.Cells.{node_at, node_sizes}
+use Rattle.prefix_trie_table.specs.Digits.{path_of, bit_of}
+use Rattle.prefix_trie_table.specs.Store.{Store}
+use Rattle.prefix_trie_table.specs.Forest.{IsSlot, at_root, at_child, NodesHold, Deepest, IsEnd, has_child, node_or_blank}
+use Rattle.prefix_trie_table.proofs.Strings.Bits.{has_bit-is, rank-ones}
+use Rattle.prefix_trie_table.proofs.Strings.Digits.{path-length, step-is, rest-is}
+use Rattle.prefix_trie_table.proofs.Tree.Trees.{slot_holds, is_some-Some}
+
+-- ---- the steps and the value bit of the first len bits of a key
+
+fifth-more : (level len n : ℕ) → n ≡ len / 5 → 5 * level + 5 ≤ len → level < n
+fifth-more level len n e h = omega (arith, e, h)
+
+fifth-last : (level len n : ℕ) → n ≡ len / 5 → 5 * level ≤ len → len < 5 * level + 5 → n ≡ level
+fifth-last level len n e h k = omega (arith, e, h, k)
+
+module _ (b : List Bool) (len level : ℕ) (within : len ≤ length b) where
+  steps-length : length (path_of (take len b)) ≡ len / 5
+  steps-length = path-length (take len b) ∙ ap (λ n. n / 5) (length-take-le len b within)
+
+  -- a whole step more is one of the way
+  pub step-inside : 5 * level + 5 ≤ len → level < length (path_of (take len b))
+  step-inside h = fifth-more level len (length (path_of (take len b))) steps-length h
+
+  -- the child bit that the code reads is the next step
+  pub step-read : (x : ℕ) → 5 * level + 5 ≤ len → x ≡ number (take 5 (drop (5 * level) b)) → get_or (path_of (take len b)) level 0 ≡ x
+  step-read x h e =
+      step-is (take len b) level (step-inside h) ∙ ap number (window-of-front b len (5 * level) 5 h) ∙ sym e
+
+  -- where no whole step is left, the way is at its end
+  pub steps-end : 5 * level ≤ len → len < 5 * level + 5 → length (path_of (take len b)) ≡ level
+  steps-end h k = fifth-last level len (length (path_of (take len b))) steps-length h k
+
+  -- the value bit that the code reads is the string's own
+  pub bit-read : (x : ℕ) → 5 * level ≤ len → len < 5 * level + 5 → x ≡ value_bit (drop (5 * level) (take len b)) → bit_of (take len b) ≡ x
+  bit-read x h k e =
+      ap value_bit (rest-is (take len b) ∙ ap (λ n. drop (5 * n) (take len b)) (steps-end h k)) ∙ sym e
+
+-- ---- the node where the way stands
+
+-- the root is on every way
+pub deepest_root : (reading : List ℕ → Option Node) (paths : List (List ℕ)) (v : Store Node) (path : List ℕ) → NodesHold node_sizes reading paths v →
+    Deepest reading path 0 0 v
+deepest_root reading paths v path hold = record { node = node_at v.slots 0; stands = at_root; is = hold.rooted }
+
+module _ (reading : List ℕ → Option Node) (paths : List (List ℕ)) (v : Store Node) (path : List ℕ) (depth slot : ℕ)
+    (hold : NodesHold node_sizes reading paths v) (deep : Deepest reading path depth slot v) where
+  -- the slot is one of the array
+  pub deepest_in : slot < length v.slots
+  deepest_in = (slot_holds node_sizes reading paths v hold (take depth path) slot deep.node deep.stands deep.is).1
+
+  -- the node in the slot is the one on the way
+  pub deepest_is : (k : Node) → k ≡ node_at v.slots slot → reading (take depth path) ≡ Some k
+  deepest_is k read =
+      deep.is ∙ ap Some (sym (slot_holds node_sizes reading paths v hold (take depth path) slot deep.node deep.stands deep.is).0 ∙ sym read)
+
+  -- a child that is there is one step deeper
+  pub deepest_more : (place : ℕ) (k : Node) → depth < length path → k ≡ node_at v.slots slot → has_bit k.child_bitmap (get_or path depth 0) ≡ true →
+      place ≡ rank k.child_bitmap (get_or path depth 0) → Deepest reading path (depth + 1) (k.child_block + place) v
+  deepest_more place k inside read bit place_is =
+      let here : reading (take depth path) ≡ Some k = deepest_is k read in
+      let d : ℕ = get_or path depth 0 in
+      let longer : take (depth + 1) path ≡ take depth path ++ d ∷ [] = take_more path depth 0 inside in
+      let some : is_some (reading (take depth path ++ d ∷ [])) ≡ true = hold.linked (take depth path) d ∙ ap (λ o. has_child o d) here ∙ bit in
+      record {
+        node = node_or_blank (reading (take depth path ++ d ∷ []));
+        stands = subst (λ p. IsSlot reading p (k.child_block + place)) (sym longer)
+            (subst (λ i. IsSlot reading (take depth path ++ d ∷ []) (k.child_block + i)) (sym place_is) (at_child (take depth path) d k here bit));
+        is = ap reading longer ∙ is_some-Some (reading (take depth path ++ d ∷ [])) some;
+      }
+
+  -- where the next child is missing, or there is no next one, the way ends
+  pub deepest_end : (k : Node) → depth ≤ length path → k ≡ node_at v.slots slot →
+      (depth < length path → has_bit k.child_bitmap (get_or path depth 0) ≡ false) → IsEnd reading path depth
+  deepest_end k within read missing = record {
+    within = within;
+    stands = ap is_some deep.is;
+    stops = λ inside.
+        let d : ℕ = get_or path depth 0 in
+        ap (λ p. is_some (reading p)) (take_more path depth 0 inside) ∙ hold.linked (take depth path) d ∙ ap (λ o. has_child o d) (deepest_is k read)
+        ∙ missing inside;
+  }
+
+-- what holds as the way goes down
+pub record IsDown (path : List ℕ) (len level : ℕ) (node : Node) (slot : ℕ) (v : Store Node) : Type 0 where
+  pub whole : 5 * level ≤ len
+  pub node_is : node ≡ node_at v.slots slot
+  pub deepest : (reading : List ℕ → Option Node) (paths : List (List ℕ)) → NodesHold node_sizes reading paths v → Deepest reading path level slot v
+
+module _ (b : List Bool) (len level slot : ℕ) (node : Node) (v : Store Node) (within : len ≤ length b)
+    (down : IsDown (path_of (take len b)) len level node slot v) (x : ℕ) (small : x < 32) (read : x ≡ number (take 5 (drop (5 * level) b)))
+    (inside : 5 * level + 5 ≤ len) where
+  -- the bit of the next step in the node's bitmap
+  pub down_bit : has_bit node.child_bitmap (get_or (path_of (take len b)) level 0) ≡ has node.child_bitmap x
+  down_bit = ap (has_bit node.child_bitmap) (step-read b len level within x inside read) ∙ has_bit-is node.child_bitmap x small
+
+  -- one step more
+  pub down_more : (place : ℕ) → has node.child_bitmap x ≡ true → place ≡ ones_below x node.child_bitmap →
+      (reading : List ℕ → Option Node) (paths : List (List ℕ)) → NodesHold node_sizes reading paths v →
+      Deepest reading (path_of (take len b)) (level + 1) (node.child_block + place) v
+  down_more place bit place_is reading paths hold =
+      deepest_more reading paths v (path_of (take len b)) level slot hold (down.deepest reading paths hold) place node
+      (step-inside b len level within inside) down.node_is (down_bit ∙ bit)
+      (place_is ∙ sym (rank-ones node.child_bitmap x (omega arith)) ∙ ap (rank node.child_bitmap) (sym (step-read b len level within x inside read)))
+
+-- ---- whole steps of a length
+
+-- how levels and lengths compare, at a level below the last and at the last
+pub level_inside : (level len : ℕ) → level < len / 5 → 5 * level + 5 ≤ len
+level_inside level len h = omega (arith, h)
+
+pub level_last : (level len : ℕ) → level ≡ len / 5 → len < 5 * level + 5
+level_last level len e = omega (arith, e)
+
+pub level_whole : (level len : ℕ) → level ≡ len / 5 → 5 * level ≤ len
+level_whole level len e = omega (arith, e)
+
+pub level_within : (level len : ℕ) → 5 * level ≤ len → level ≤ len / 5
+level_within level len h = omega (arith, h)
+
+pub level_past : (level len : ℕ) → len < 5 * level + 5 → 5 * level ≤ len → level ≡ len / 5
+level_past level len h k = omega (arith, h, k)
+
+-- the value bit that the code reads at the depth of the last whole step
+pub bit-read-last : (b : List Bool) (len : ℕ) → len ≤ length b → (x : ℕ) → x ≡ value_bit (drop (len / 5 * 5) (take len b)) → bit_of (take len b) ≡ x
+bit-read-last b len within x e =
+    bit-read b len (len / 5) within x (level_whole (len / 5) len refl) (level_last (len / 5) len refl)
+    (e ∙ ap (λ d. value_bit (drop d (take len b))) (turn (len / 5)))
+  where
+    turn : (n : ℕ) → n * 5 ≡ 5 * n
+    turn n = omega arith
+
+-- how many steps the way has
+pub steps-all : (b : List Bool) (len : ℕ) → len ≤ length b → length (path_of (take len b)) ≡ len / 5
+steps-all b len within = steps-length b len 0 within

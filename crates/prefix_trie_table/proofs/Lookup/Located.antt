@@ -1,0 +1,54 @@
+-- What contracts see of a place.
+use Rattle.std.proofs.Common.{◌≡◌, ℕ, ◌+◌, ◌<◌, true, Bool, List, length, get_or, take, Option, None, Some, is_some, sym, ap, ◌∙◌}
+use Rattle.std.proofs.lemmas.List.{get_or_default}
+use Rattle.std.specs.FinMap.{get, contains_key}
+use Rattle.prefix_trie_table.specs.declared.allocator.node.Node.{Node}
+use Rattle.prefix_trie_table.specs.declared.table.seat.Seat.{Seat}
+use Rattle.prefix_trie_table.specs.declared.table.seat.Location.{Location}
+use Rattle.prefix_trie_table.specs.declared.table.seat.Location.TheVariants.{Stored, Missing}
+use Rattle.prefix_trie_table.specs.Digits.{path_of, bit_of}
+use Rattle.prefix_trie_table.specs.Layouts.{Sized}
+use Rattle.prefix_trie_table.specs.Locations.{seat_of, Locates, IsLocation}
+use Rattle.prefix_trie_table.specs.Shape.{Shaped}
+use Rattle.prefix_trie_table.specs.Slots.{IsSeat}
+use Rattle.prefix_trie_table.specs.Store.{Store}
+use Rattle.prefix_trie_table.specs.Tables.{IsTable}
+use Rattle.prefix_trie_table.proofs.Tree.Invariant.{some_table}
+use Rattle.prefix_trie_table.proofs.Lookup.Lending.{seen_of, cell_there, value_there, stored_is}
+use Rattle.prefix_trie_table.proofs.Lookup.Locating.{seat_if, is_seat}
+use Rattle.prefix_trie_table.proofs.Tree.Shapes.{shape_entries}
+use Rattle.prefix_trie_table.proofs.Tree.WayEnds.{way_ends}
+
+module _ {T : Type 0} (v : Store Node) (w : Store (Option T)) (count : ℕ) (s : Shaped v.slots w.slots) (is : IsTable v w count s.0) where
+  -- a string is stored if it has a seat
+  pub stored_if : (q : List Bool) → contains_key s.0.entries q ≡ is_some (seat_of v.slots q)
+  stored_if q =
+      let t = some_table is in
+      ap is_some (shape_entries t.reading t.values t.paths v w t.holds s.0 s.1 q) ∙ t.holds.cells.set_where (path_of q) (bit_of q)
+      ∙ sym (seat_if v t.reading t.paths t.holds.hold q)
+
+  -- what a search found is where the string is
+  pub located : (z : Sized v.slots) (b : List Bool) (len : ℕ) (found : Location) → Locates v b len found → IsLocation (seen_of v w s.0 z) (take len b) found
+  located z b len (Stored seat) found = (stored_if (take len b) ∙ ap is_some found, found)
+  located z b len (Missing end) found =
+      let t = some_table is in
+      (stored_if (take len b) ∙ ap is_some found.0, way_ends v t.reading t.paths t.holds.hold b len end found.1)
+
+  -- a seat that was found, by the table as contracts see it
+  module _ (q : List Bool) (seat : Seat) (build : List Node) (same : v.slots ≡ build) (found : seat_of build q ≡ Some seat) where
+    pub seat_found : IsSeat is.reading (path_of q) (bit_of q) seat
+    seat_found = is_seat v is.reading is.paths is.nodes q seat (ap (λ nodes. seat_of nodes q) same ∙ found)
+
+    -- it is a cell
+    pub found_inside : seat.start + seat.place < length w.slots
+    found_inside = (cell_there v w (some_table is) q seat seat_found).0
+
+    -- what is read there is the value of the string
+    pub found_value : (x : Option T) → x ≡ get_or w.slots (seat.start + seat.place) x → get s.0.entries q ≡ x
+    found_value x read =
+        stored_is v w count s is q ∙ sym (cell_there v w (some_table is) q seat seat_found).1
+        ∙ get_or_default w.slots (seat.start + seat.place) None x found_inside ∙ sym read
+
+    -- and there is one
+    pub found_some : is_some (get s.0.entries q) ≡ true
+    found_some = ap is_some (stored_is v w count s is q) ∙ value_there v w (some_table is) q seat seat_found

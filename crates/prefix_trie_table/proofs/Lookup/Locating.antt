@@ -1,0 +1,158 @@
+-- Where the value of a bit string stands, by the nodes in their array.
+use Rattle.std.proofs.Common.{◌≡◌, ℕ, ◌+◌, ◌*◌, ◌<◌, ◌≤◌, Bool, true, false, cond, ◌||◌, nat_eq, List, ◌++◌, length, set, take, drop, Option, None, Some, is_some, refl, sym, ap, ap₂, ◌∙◌, arith}
+use Rattle.std.proofs.lemmas.Bool.{false≢true}
+use Rattle.std.proofs.lemmas.List.{get_or-set_same}
+use Rattle.prefix_trie_bits.specs.Places.{has, ones_below, value_bit, Sets}
+use Rattle.prefix_trie_bits.proofs.Strings.{value_bit-small}
+use Rattle.prefix_trie_table.specs.declared.allocator.node.Node.{Node}
+use Rattle.prefix_trie_table.specs.declared.table.seat.Seat.{Seat}
+use Rattle.prefix_trie_table.specs.Bitmaps.{has_bit, rank}
+use Rattle.prefix_trie_table.specs.Cells.{blank_node, node_at, node_sizes, cell_sizes}
+use Rattle.prefix_trie_table.specs.Digits.{path_of, bit_of}
+use Rattle.prefix_trie_table.specs.Forest.{read, IsSlot, at_root, at_child, NodesHold, CellsHold, ValueSet, with_node, has_value}
+use Rattle.prefix_trie_table.specs.Locations.{value_seat, seat_in, seat_of}
+use Rattle.prefix_trie_table.specs.Slots.{IsSeat}
+use Rattle.prefix_trie_table.specs.Store.{Store}
+use Rattle.prefix_trie_table.specs.Tables.{IsReached}
+use Rattle.prefix_trie_table.proofs.Strings.Bits.{rank-ones, has_bit-is, has_bit-sets}
+use Rattle.prefix_trie_table.proofs.Strings.BitLists.{rank-same}
+use Rattle.prefix_trie_table.proofs.Tree.Children.{same_number, other_number, with_here, with_other}
+use Rattle.prefix_trie_table.proofs.Strings.Digits.{bit_of-small}
+use Rattle.prefix_trie_table.proofs.Insertion.Inserting.{few_values}
+use Rattle.prefix_trie_table.proofs.Lookup.Finding.{reached_own, no_seat_below, no_seat_here, bit_set}
+use Rattle.prefix_trie_table.proofs.Lookup.Going.{bit-read}
+use Rattle.prefix_trie_table.proofs.Strings.Paths.{snoc_not_same}
+use Rattle.prefix_trie_table.proofs.Strings.Placing.{below_node}
+use Rattle.prefix_trie_table.proofs.Tree.Trees.{reads, slot_holds, is_none-None}
+
+-- a node has a seat where it has a value
+seat_some : (o : Option Node) (b : ℕ) → is_some (seat_in o b) ≡ has_value o b
+seat_some None b = refl
+seat_some (Some n) b = either (has_bit n.value_bitmap b)
+  where
+    either : (t : Bool) → is_some (cond t (Some (value_seat n b)) None) ≡ t
+    either true = refl
+    either false = refl
+
+seat_none : (o : Option Node) (b : ℕ) → has_value o b ≡ false → seat_in o b ≡ None
+seat_none o b e = is_none-None (seat_in o b) (seat_some o b ∙ e)
+
+-- the seat of a value that is there
+pub seat_there : (n : Node) (b : ℕ) → has_bit n.value_bitmap b ≡ true → seat_in (Some n) b ≡ Some (value_seat n b)
+seat_there n b e = ap (λ t. cond t (Some (value_seat n b)) None) e
+
+pub seat_slot : (n : Node) (b : ℕ) (t : Bool) (seat : Seat) → cond t (Some (value_seat n b)) None ≡ Some seat →
+    (t ≡ true) × (seat.start + seat.place ≡ n.value_block + rank n.value_bitmap b)
+seat_slot n b true seat e = (refl, sym (ap slot_of e))
+  where
+    slot_of : Option Seat → ℕ
+    slot_of None = 0
+    slot_of (Some s) = s.start + s.place
+seat_slot n b false seat e = absurd (false≢true (ap is_some e))
+
+-- the seat of a string of less than five bits below a node's
+pub seat_below : (nodes : List Node) (level : ℕ) (u s : List Bool) (n : Node) → length u ≡ 5 * level → length s ≤ 4 → read nodes (path_of u) ≡ Some n →
+    has n.value_bitmap (value_bit s) ≡ true → seat_of nodes (u ++ s) ≡ Some (value_seat n (value_bit s))
+unfolding seat_of
+seat_below nodes level u s n long short stands set =
+    let at = below_node level u s long short in
+    let small = value_bit-small s short in
+    ap₂ (λ p r. seat_in (read nodes p) (value_bit r)) at.0 at.1 ∙ ap (λ o. seat_in o (value_bit s)) stands
+    ∙ seat_there n (value_bit s) (has_bit-is n.value_bitmap (value_bit s) (omega (arith, small)) ∙ set)
+
+module _ (v : Store Node) (reading : List ℕ → Option Node) (paths : List (List ℕ)) (hold : NodesHold node_sizes reading paths v) (q : List Bool) where
+  -- the seat of a string is that at its own node
+  pub seat_reads : seat_of v.slots q ≡ seat_in (reading (path_of q)) (bit_of q)
+  unfolding seat_of
+  seat_reads = ap (λ o. seat_in o (bit_of q)) (reads node_sizes reading paths v hold (path_of q))
+
+  -- there is one where there is a value
+  pub seat_if : is_some (seat_of v.slots q) ≡ has_value (reading (path_of q)) (bit_of q)
+  seat_if = ap is_some seat_reads ∙ seat_some (reading (path_of q)) (bit_of q)
+
+  -- no value where there is none
+  pub no_value_seat : seat_of v.slots q ≡ None → has_value (reading (path_of q)) (bit_of q) ≡ false
+  no_value_seat e = sym seat_if ∙ ap is_some e
+
+  -- and none where there is no value
+  pub no_seat : has_value (reading (path_of q)) (bit_of q) ≡ false → seat_of v.slots q ≡ None
+  no_seat e = seat_reads ∙ seat_none (reading (path_of q)) (bit_of q) e
+
+  -- so no value stands there
+  pub missing_value : {T : Type 0} (values : List ℕ → ℕ → Option T) (w : Store (Option T)) → CellsHold cell_sizes reading values paths w →
+      seat_of v.slots q ≡ None → values (path_of q) (bit_of q) ≡ None
+  missing_value values w cells e = is_none-None (values (path_of q) (bit_of q)) (cells.set_where (path_of q) (bit_of q) ∙ no_value_seat e)
+
+  -- and the value stands there
+  pub is_seat : (seat : Seat) → seat_of v.slots q ≡ Some seat → IsSeat reading (path_of q) (bit_of q) seat
+  is_seat seat e = at (reading (path_of q)) refl (sym seat_reads ∙ e)
+    where
+      at : (o : Option Node) → reading (path_of q) ≡ o → seat_in o (bit_of q) ≡ Some seat → IsSeat reading (path_of q) (bit_of q) seat
+      at None is e = absurd (false≢true (ap is_some e))
+      at (Some n) is e =
+          let there = seat_slot n (bit_of q) (has_bit n.value_bitmap (bit_of q)) seat e in
+          record { node = n; is = is; set = there.0; slot_is = there.1 }
+
+module _ (b : List Bool) (len level slot : ℕ) (node : Node) (v : Store Node) (at : IsReached b len level node slot v) (reading : List ℕ → Option Node)
+    (paths : List (List ℕ)) (hold : NodesHold node_sizes reading paths v) where
+  -- no seat where the node is missing
+  pub located_below : 5 * level + 5 ≤ len → seat_of v.slots (take len b) ≡ None
+  located_below more = no_seat v reading paths hold (take len b) (no_seat_below b len level slot node v at reading paths hold more)
+
+  -- where there is none the bit is clear
+  pub missing_bit : seat_of v.slots (take len b) ≡ None → len < 5 * level + 5 → has_bit node.value_bitmap (bit_of (take len b)) ≡ false
+  missing_bit e less = ap (λ o. has_value o (bit_of (take len b))) (sym (reached_own b len level slot node v at reading paths hold less))
+      ∙ no_value_seat v reading paths hold (take len b) e
+
+  -- so the node takes one more
+  pub missing_few : {T : Type 0} (values : List ℕ → ℕ → Option T) (w : Store (Option T)) → CellsHold cell_sizes reading values paths w →
+      seat_of v.slots (take len b) ≡ None → len < 5 * level + 5 → rank node.value_bitmap 32 < 31
+  missing_few values w cells e less =
+      few_values reading values paths w (path_of (take len b)) node (bit_of (take len b)) cells
+      (reached_own b len level slot node v at reading paths hold less) (bit_of-small (take len b)) (missing_bit e less)
+
+  module _ (less : len < 5 * level + 5) (x : ℕ) (small : x < 31) (read : x ≡ value_bit (drop (5 * level) (take len b))) where
+    -- none where the bit that the code reads is clear
+    pub located_none : has node.value_bitmap x ≡ false → seat_of v.slots (take len b) ≡ None
+    located_none clear = no_seat v reading paths hold (take len b) (no_seat_here b len level slot node v at reading paths hold less x small read clear)
+
+    -- the seat where it is set
+    pub located_here : (place : ℕ) → has node.value_bitmap x ≡ true → place ≡ ones_below x node.value_bitmap →
+        seat_of v.slots (take len b) ≡ Some (record { start = node.value_block; place = place })
+    located_here place set place_is =
+        let bit = bit-read b len level at.long x at.whole less read in
+        let same : rank node.value_bitmap (bit_of (take len b)) ≡ place = ap (rank node.value_bitmap) bit ∙ rank-ones node.value_bitmap x (omega arith) ∙ sym place_is in
+        seat_reads v reading paths hold (take len b)
+        ∙ ap (λ o. seat_in o (bit_of (take len b))) (reached_own b len level slot node v at reading paths hold less)
+        ∙ seat_there node (bit_of (take len b)) (bit_set b len level slot node v at less x small read ∙ set)
+        ∙ ap (λ i. Some (record { start = node.value_block; place = i })) same
+
+-- where a value stands that was added to a node
+module _ (v v2 : Store Node) (slot place b bitmap : ℕ) (k m : Node) (sets : Sets k.value_bitmap b bitmap) (bits_are : m.value_bitmap ≡ bitmap) (small : b < 32) where
+  more : (i : ℕ) → has_bit m.value_bitmap i ≡ (nat_eq i b || has_bit k.value_bitmap i)
+  more i = ap (λ n. has_bit n i) bits_are ∙ has_bit-sets k.value_bitmap b bitmap i sets small
+
+  added_rank : rank m.value_bitmap b ≡ rank k.value_bitmap b
+  added_rank = rank-same k.value_bitmap m.value_bitmap b (λ i h. more i ∙ ap (λ t. t || has_bit k.value_bitmap i) (other_number i b (λ e. omega arith)))
+
+  pub added_seat : place ≡ rank k.value_bitmap b → slot < length v.slots → v2 ≡ record v { slots = set v.slots slot m } →
+      seat_in (Some (node_at v2.slots slot)) b ≡ Some (record { start = m.value_block; place = place })
+  added_seat place_is inside v2_is =
+      let here : node_at v2.slots slot ≡ m = ap (λ (x : Store Node). node_at x.slots slot) v2_is ∙ get_or-set_same v.slots slot m blank_node inside in
+      ap (λ n. seat_in (Some n) b) here ∙ seat_there m b (more b ∙ ap (λ t. t || has_bit k.value_bitmap b) (same_number b))
+      ∙ ap (λ i. Some (record { start = m.value_block; place = i })) (added_rank ∙ sym place_is)
+
+-- the node stands where it stood
+own_slot : (reading : List ℕ → Option Node) (p : List ℕ) (m : Node) (q : List ℕ) (s : ℕ) → IsSlot reading q s → q ≡ p → IsSlot (with_node reading p m) q s
+own_slot reading p m q s (at_root) e = at_root
+own_slot reading p m q s (at_child r d k parent bit) e = at_child r d k (with_other reading p m r (λ f. snoc_not_same r d (e ∙ sym f)) ∙ parent) bit
+
+-- so its value is the string's
+pub entered_seat : {T : Type 0} (reading : List ℕ → Option Node) (values : List ℕ → ℕ → Option T) (paths : List (List ℕ)) (q : List Bool) (slot b : ℕ) (x : Option T) (seat : Seat)
+    (v2 : Store Node) (w2 : Store (Option T)) → IsSlot reading (path_of q) slot → bit_of q ≡ b → (one : ValueSet reading paths values (path_of q) b x v2 w2) →
+    seat_in (Some (node_at v2.slots slot)) b ≡ Some seat → seat_of v2.slots q ≡ Some seat
+entered_seat reading values paths q slot b x seat v2 w2 stands bit one found =
+    let later : List ℕ → Option Node = with_node reading (path_of q) one.node in
+    let is : later (path_of q) ≡ Some one.node = with_here reading (path_of q) one.node (path_of q) refl in
+    let at = slot_holds node_sizes later paths v2 one.hold (path_of q) slot one.node (own_slot reading (path_of q) one.node (path_of q) slot stands refl) is in
+    seat_reads v2 later paths one.hold q ∙ ap₂ (λ o i. seat_in o i) (is ∙ ap Some (sym at.0)) bit ∙ found

@@ -1,0 +1,180 @@
+-- Which beginnings of a bit string have values, node by node on its way.
+use Rattle.std.proofs.Common.{◌≡◌, ℕ, ◌+◌, ◌-◌, ◌*◌, ◌/◌, ◌^◌, ◌<◌, ◌≤◌, Bool, true, false, List, length, length-drop, take, drop, Option, None, Some, is_some, refl, sym, ap, ap₂, ◌∙◌, subst, arith, inl, inr, add-sub_of_le}
+use Rattle.std.specs.Int.{bit_at}
+use Rattle.std.specs.Option.{option_or}
+use Rattle.std.proofs.lemmas.Bool.{false≢true, cases_Bool, cases_lt}
+use Rattle.std.proofs.lemmas.List.{take_all, take-take, length-take-le, drop-take}
+use Rattle.prefix_trie_bits.specs.Bits.{digits}
+use Rattle.prefix_trie_bits.specs.BitStrings.{length-digits}
+use Rattle.prefix_trie_bits.specs.Places.{has, value_bit, stands, IsLongest, IsShortest, NoneBegins}
+use Rattle.prefix_trie_bits.proofs.Ranks.{bit-clear}
+use Rattle.prefix_trie_bits.proofs.Strings.{value_bit-small}
+use Rattle.prefix_trie_table.specs.declared.allocator.node.Node.{Node}
+use Rattle.prefix_trie_table.specs.declared.table.matching.Match.{Match}
+use Rattle.prefix_trie_table.specs.Bitmaps.{has_bit}
+use Rattle.prefix_trie_table.specs.Cells.{node_sizes}
+use Rattle.prefix_trie_table.specs.Digits.{path_of, bit_of}
+use Rattle.prefix_trie_table.specs.Store.{Store}
+use Rattle.prefix_trie_table.specs.Forest.{NodesHold, IsEnd, has_value}
+use Rattle.prefix_trie_table.specs.Matching.{holds_value, NoneHeld, IsHeld, IsOnWay, LongestHeld, ShortestHeld}
+use Rattle.prefix_trie_table.proofs.Strings.Bits.{has_bit-is}
+use Rattle.prefix_trie_table.proofs.Strings.Digits.{path-length, path-take, rest-is}
+use Rattle.prefix_trie_table.proofs.Strings.Starts.{is_start_take}
+use Rattle.prefix_trie_table.proofs.Tree.Trees.{is_none-None}
+use Rattle.prefix_trie_table.proofs.Lookup.Going.{level_past, deepest_is, IsDown}
+use Rattle.prefix_trie_table.proofs.Lookup.Finding.{prefix_some}
+
+-- a bitmap without bit 31
+pub clear-small : (m : ℕ) → m < 2 ^ 32 → has_bit m 31 ≡ false → m < 2 ^ 31
+clear-small m fits clear =
+    let z : bit_at m 31 ≡ 0 = bit-clear m 31 (sym (has_bit-is m 31 (omega arith)) ∙ clear) in omega arith
+
+-- the value bit of some first bits
+bit-small : (n bit : ℕ) (rest : List Bool) → n ≤ 4 → n ≤ length rest → bit ≡ value_bit (take n rest) → bit < 31
+bit-small n bit rest short within is =
+    subst (λ x. x < 31) (sym is) (value_bit-small (take n rest) (omega (arith, length-take-le n rest within)))
+
+-- ---- a beginning of i bits, at least as many as lead to a node
+
+module _ (q : List Bool) (level i : ℕ) (from : 5 * level ≤ i) (within : i ≤ length q) where
+  -- it goes the same way to that node
+  pub take_way : take level (path_of (take i q)) ≡ take level (path_of q)
+  take_way =
+      sym (path-take level (take i q) (omega (arith, length-take-le i q within))) ∙ ap path_of (take-take (5 * level) i q from) ∙ path-take level q (omega arith)
+
+  module _ (last : i < 5 * level + 5) where
+    own_steps : length (path_of (take i q)) ≡ level
+    own_steps = path-length (take i q) ∙ ap (λ n. n / 5) (length-take-le i q within) ∙ sym (level_past level i last from)
+
+    -- the node is its own
+    pub own_way : path_of (take i q) ≡ take level (path_of q)
+    own_way = sym (take_all level (path_of (take i q)) (omega (arith, own_steps))) ∙ take_way
+
+    -- and its value bit there
+    pub own_bit : bit_of (take i q) ≡ value_bit (take (i - 5 * level) (drop (5 * level) q))
+    own_bit =
+        ap value_bit (rest-is (take i q) ∙ ap (λ n. drop (5 * n) (take i q)) own_steps ∙ ap (λ n. drop (5 * level) (take n q)) (sym (add-sub_of_le from)) ∙ drop-take (5 * level) (i - 5 * level) q)
+
+    own_small : value_bit (take (i - 5 * level) (drop (5 * level) q)) < 31
+    own_small = bit-small (i - 5 * level) _ (drop (5 * level) q) (omega arith) (omega (arith, length-drop (5 * level) q)) refl
+
+    -- whether it has a value
+    pub held_is : (reading : List ℕ → Option Node) (node : Node) → reading (take level (path_of q)) ≡ Some node → holds_value reading q i ≡ stands node.value_bitmap (drop (5 * level) q) (i - 5 * level)
+    held_is reading node e =
+        ap₂ (λ o b. has_value o b) (ap reading own_way ∙ e) own_bit ∙ has_bit-is node.value_bitmap (value_bit (take (i - 5 * level) (drop (5 * level) q))) (omega (arith, own_small))
+
+pub none_join : (reading : List ℕ → Option Node) (q : List Bool) (a b c : ℕ) → NoneHeld reading q a b → NoneHeld reading q b c → NoneHeld reading q a c
+none_join reading q a b c low high i from to within = elim (cases_lt i b) [
+  | inl l ↦ low i from l within
+  | inr g ↦ high i g to within
+]
+
+-- ---- what the node on the way has
+
+module _ (q : List Bool) (level : ℕ) (whole : 5 * level ≤ length q) (reading : List ℕ → Option Node) (node : Node) (is : reading (take level (path_of q)) ≡ Some node) where
+  rest-length : length (drop (5 * level) q) ≡ length q - 5 * level
+  rest-length = length-drop (5 * level) q
+
+  pub none_here : NoneBegins node.value_bitmap (drop (5 * level) q) → NoneHeld reading q (5 * level) (5 * level + 5)
+  none_here none i from last within =
+      held_is q level i from within last reading node is ∙ none (i - 5 * level) (omega arith) (omega (arith, rest-length))
+
+  -- a value behind the first n bits of the rest
+  pub held_here : (n bit : ℕ) → n ≤ 4 → n ≤ length (drop (5 * level) q) → bit ≡ value_bit (take n (drop (5 * level) q)) → has node.value_bitmap bit ≡ true → IsHeld reading q (5 * level + n) bit node
+  held_here n bit short within bit_is set =
+      let inside : 5 * level + n ≤ length q = omega (arith, rest-length) in
+      let own : bit_of (take (5 * level + n) q) ≡ bit = own_bit q level (5 * level + n) (omega arith) inside (omega arith) ∙ ap (λ k. value_bit (take k (drop (5 * level) q))) (back (5 * level) n) ∙ sym bit_is in
+      let small : bit < 31 = bit-small n bit (drop (5 * level) q) short within bit_is in
+      record {
+        within = inside;
+        is = ap reading (own_way q level (5 * level + n) (omega arith) inside (omega arith)) ∙ is;
+        bit_is = own;
+        small = small;
+        set = has_bit-is node.value_bitmap bit (omega arith) ∙ set;
+      }
+    where
+      back : (a b : ℕ) → a + b - a ≡ b
+      back a b = omega arith
+
+  -- the length that a value bit tells
+  bit-length : (n bit d x : ℕ) → n ≤ length (drop (5 * level) q) → bit ≡ value_bit (take n (drop (5 * level) q)) → ((s : List Bool) → value_bit s ≡ bit → s ≡ digits d x) → n ≡ d
+  bit-length n bit d x within bit_is only =
+      sym (length-take-le n (drop (5 * level) q) within) ∙ ap length (only (take n (drop (5 * level) q)) (sym bit_is)) ∙ length-digits d x
+
+  module _ (bit d x : ℕ) (only : (s : List Bool) → value_bit s ≡ bit → s ≡ digits d x) where
+    pub longest_here : IsLongest node.value_bitmap (drop (5 * level) q) bit → IsHeld reading q (5 * level + d) bit node × NoneHeld reading q (5 * level + d + 1) (5 * level + 5)
+    longest_here l =
+        let e : l.len ≡ d = bit-length l.len bit d x l.within l.bit_is only in
+        subst (λ n. IsHeld reading q (5 * level + n) bit node × NoneHeld reading q (5 * level + n + 1) (5 * level + 5)) e (
+          held_here l.len bit l.short l.within l.bit_is l.set,
+          λ i from last within. held_is q level i (omega arith) within last reading node is ∙ l.none_longer (i - 5 * level) (omega arith) (omega arith) (omega (arith, rest-length)),
+        )
+
+    pub shortest_here : IsShortest node.value_bitmap (drop (5 * level) q) bit → IsHeld reading q (5 * level + d) bit node × NoneHeld reading q (5 * level) (5 * level + d)
+    shortest_here l =
+        let e : l.len ≡ d = bit-length l.len bit d x l.within l.bit_is only in
+        let short : l.len ≤ 4 = l.short in
+        subst (λ n. IsHeld reading q (5 * level + n) bit node × NoneHeld reading q (5 * level) (5 * level + n)) e (
+          held_here l.len bit l.short l.within l.bit_is l.set,
+          λ i from last within. held_is q level i from within (omega arith) reading node is ∙ l.none_shorter (i - 5 * level) (omega arith),
+        )
+
+pub longest-small : (bitmap bit : ℕ) (rest : List Bool) → IsLongest bitmap rest bit → bit < 31
+longest-small bitmap bit rest l = bit-small l.len bit rest l.short l.within l.bit_is
+
+pub shortest-small : (bitmap bit : ℕ) (rest : List Bool) → IsShortest bitmap rest bit → bit < 31
+shortest-small bitmap bit rest l = bit-small l.len bit rest l.short l.within l.bit_is
+
+-- whole steps within the first len bits
+pub steps-within : (b : List Bool) (len level : ℕ) → len ≤ length b → 5 * level ≤ len → 5 * level ≤ length (take len b)
+steps-within b len level long whole = omega (arith, length-take-le len b long, whole)
+
+-- past the end of the way nothing has a value
+pub none_past : (reading : List ℕ → Option Node) (paths : List (List ℕ)) (v : Store Node) (q : List Bool) (level end : ℕ) → NodesHold node_sizes reading paths v → IsEnd reading (path_of q) level → NoneHeld reading q (5 * level + 5) end
+none_past reading paths v q level end hold at i from last within =
+    let inside : level < length (path_of q) = further level i (length q) (length (path_of q)) from within (path-length q) in
+    let way : take (level + 1) (path_of (take i q)) ≡ take (level + 1) (path_of q) = take_way q (level + 1) i (omega arith) within in
+    elim (cases_Bool (is_some (reading (path_of (take i q))))) as (λ _. holds_value reading q i ≡ false) [
+      | inl e ↦ absurd (false≢true (sym (at.stops inside) ∙ ap (λ p. is_some (reading p)) (sym way) ∙ prefix_some node_sizes reading paths v hold (take (level + 1) (path_of (take i q))) (path_of (take i q)) e (is_start_take (level + 1) (path_of (take i q)))))
+      | inr e ↦ ap (λ o. has_value o (bit_of (take i q))) (is_none-None (reading (path_of (take i q))) e)
+    ]
+  where
+    further : (k i l n : ℕ) → 5 * k + 5 ≤ i → i ≤ l → n ≡ l / 5 → k < n
+    further k i l n a b c = omega (arith, a, b, c)
+
+-- a node on the way is where it stands as the way goes down
+pub on_way_down : (b : List Bool) (len level slot : ℕ) (node : Node) (v : Store Node) → IsOnWay b len level node slot v → IsDown (path_of (take len b)) len level node slot v
+on_way_down b len level slot node v at = record { whole = at.whole; node_is = at.node_is; deepest = at.deepest }
+
+-- the node on the way is the one at its path
+pub on_way_is : (b : List Bool) (len level slot : ℕ) (node : Node) (v : Store Node) → IsOnWay b len level node slot v → (reading : List ℕ → Option Node) (paths : List (List ℕ)) → NodesHold node_sizes reading paths v → reading (take level (path_of (take len b))) ≡ Some node
+on_way_is b len level slot node v at reading paths hold =
+    deepest_is reading paths v (path_of (take len b)) level slot hold (at.deepest reading paths hold) node at.node_is
+
+-- ---- the longest of two parts
+
+module _ (reading : List ℕ → Option Node) (q : List Bool) (a b c : ℕ) where
+  -- nothing behind
+  pub longest_none : (o : Option Match) → LongestHeld reading q a b o → NoneHeld reading q b c → LongestHeld reading q a c o
+  longest_none None low high = none_join reading q a b c low high
+  longest_none (Some m) low high = (low.0, none_join reading q (m.len + 1) b c low.1 high)
+
+  -- what is found behind is longer
+  longest_or : (o later : Option Match) → LongestHeld reading q a b o → LongestHeld reading q b c later → LongestHeld reading q a c (option_or later o)
+  longest_or o None low high = longest_none o low high
+  longest_or o (Some m) low high = high
+
+  -- nothing before, and what is found behind is the first
+  pub shortest_behind : NoneHeld reading q a b → (o : Option Match) → ShortestHeld reading q b c o → ShortestHeld reading q a c o
+  shortest_behind low None high = none_join reading q a b c low high
+  shortest_behind low (Some m) high = (high.0, none_join reading q a b m.len low high.1)
+
+-- the best so far, after the node on the way was searched
+pub longest_now : (b : List Bool) (len level slot : ℕ) (node : Node) (v : Store Node) → IsOnWay b len level node slot v
+    → (reading : List ℕ → Option Node) (paths : List (List ℕ)) → NodesHold node_sizes reading paths v → (best here result : Option Match)
+    → LongestHeld reading (take len b) 0 (5 * level) best
+    → ((nodes : List ℕ → Option Node) → nodes (take level (path_of (take len b))) ≡ Some node → LongestHeld nodes (take len b) (5 * level) (5 * level + 5) here)
+    → result ≡ option_or here best → LongestHeld reading (take len b) 0 (5 * level + 5) result
+longest_now b len level slot node v at reading paths hold best here result so_far found is =
+    subst (LongestHeld reading (take len b) 0 (5 * level + 5)) (sym is)
+    (longest_or reading (take len b) 0 (5 * level) (5 * level + 5) best here so_far (found reading (on_way_is b len level slot node v at reading paths hold)))

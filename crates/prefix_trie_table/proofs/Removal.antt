@@ -1,0 +1,13 @@
+-- What calls that take entries out leave.
+pub mod Clearing
+pub mod Removing
+pub mod Emptying
+pub mod Pruning
+pub mod Removed
+pub mod Settling
+pub mod Emptied
+pub mod PartTaken
+pub mod Stepping
+pub mod Stepped
+pub mod Still
+pub mod Between

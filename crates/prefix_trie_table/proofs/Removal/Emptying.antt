@@ -1,0 +1,249 @@
+-- An entry taken out, and what contracts see of it.
+use Rattle.std.proofs.Common.{◌≡◌, ◌≢◌, ℕ, ◌+◌, ◌-◌, ◌*◌, ◌/◌, ◌<◌, ◌⊎◌, inl, inr, Bool, true, false, cond, ◌&&◌, List, [], ◌∷◌, ◌++◌, length, take, drop, Option, None, Some, is_some, refl, sym, ap, ap₂, ◌∙◌, subst, arith}
+use Rattle.std.proofs.lemmas.Bool.{false≢true}
+use Rattle.std.proofs.lemmas.List.{take_all}
+use Rattle.std.specs.FinMap.{get, len, len-remove}
+use Rattle.prefix_trie_bits.specs.Order.{listing_total}
+use Rattle.prefix_trie_bits.specs.Model.Entries.{without_entry}
+use Rattle.prefix_trie_bits.specs.Model.Nodes.{is_node_depth}
+use Rattle.prefix_trie_bits.specs.Model.Step.{State}
+use Rattle.prefix_trie_bits.proofs.Model.Members.{get-without_entry}
+use Rattle.prefix_trie_bits.specs.Places.{value_bit}
+use Rattle.prefix_trie_table.specs.declared.allocator.node.Node.{Node}
+use Rattle.prefix_trie_table.specs.Bitmaps.{has_bit, rank}
+use Rattle.prefix_trie_table.specs.Cells.{cell_sizes}
+use Rattle.prefix_trie_table.specs.Digits.{path_of, bit_of}
+use Rattle.prefix_trie_table.specs.Store.{Store}
+use Rattle.prefix_trie_table.specs.Forest.{one_if, Holds, IsSlot, at_root, at_child, child_slot, node_or_blank, own_count, has_value, with_node, with_value, SomeTable, entry_count}
+use Rattle.prefix_trie_table.specs.Removals.{Shrinks, LongerByBlock, MayLengthen, SameChildren, ValueTaken, EntryTaken, MakesEntered}
+use Rattle.prefix_trie_table.specs.OwnBlocks.{value_block_size}
+use Rattle.prefix_trie_table.specs.Shape.{IsShapeOf, Shaped, same_shape}
+use Rattle.prefix_trie_table.specs.Tables.{IsReached, IsTable, Grows, ForHeld}
+use Rattle.prefix_trie_table.proofs.Tree.Invariant.{some_table}
+use Rattle.prefix_trie_table.proofs.Tree.Children.{same_or, with_here, with_other}
+use Rattle.prefix_trie_table.proofs.Counts.EntryCounts.{count_with_node}
+use Rattle.prefix_trie_table.proofs.Lookup.Finding.{reached_own}
+use Rattle.prefix_trie_table.proofs.Lookup.Going.{level_last, steps-all, bit-read-last}
+use Rattle.prefix_trie_table.proofs.Tree.Trees.{is_none-None}
+use Rattle.prefix_trie_table.proofs.Strings.Keys.{same_key}
+use Rattle.prefix_trie_table.proofs.Strings.Paths.{same_path-equal, same_path-not, snoc_inj}
+use Rattle.prefix_trie_table.proofs.Tree.Shapes.{shape_of, shape_nodes, shape_entries}
+
+-- each node stands where it stood where a node keeps its children
+pub slots_same : (reading : List ℕ → Option Node) (p : List ℕ) (n m : Node) (q : List ℕ) (s : ℕ) → IsSlot reading q s → reading p ≡ Some n →
+    m.child_bitmap ≡ n.child_bitmap → m.child_block ≡ n.child_block → IsSlot (with_node reading p m) q s
+slots_same reading p n m q s (at_root) is bits block = at_root
+slots_same reading p n m q s (at_child r d k parent bit) is bits block = go (same_or r p)
+  where
+    same : r ≡ p → k ≡ n
+    same e = ap node_or_blank (sym parent ∙ ap reading e ∙ is)
+
+    go : (r ≡ p) ⊎ (r ≢ p) → IsSlot (with_node reading p m) (r ++ d ∷ []) (child_slot k d)
+    go (inl e) =
+        let slot : child_slot m d ≡ child_slot k d = (λ i. block i + rank (bits i) d) ∙ ap (λ (x : Node). child_slot x d) (sym (same e)) in
+        subst (λ t. IsSlot (with_node reading p m) (r ++ d ∷ []) t) slot
+        (at_child r d m (with_here reading p m r e) (ap (λ b. has_bit b d) bits ∙ ap (λ (x : Node). has_bit x.child_bitmap d) (sym (same e)) ∙ bit))
+    go (inr ne) = at_child r d k (with_other reading p m r ne ∙ parent) bit
+
+same_children : (n m : Node) → n ≡ m → SameChildren n m
+same_children n m e = record {
+  bitmap = ap (λ (x : Node). x.child_bitmap) (sym e);
+  block = ap (λ (x : Node). x.child_block) (sym e);
+  tier = ap (λ (x : Node). x.child_tier) (sym e);
+}
+
+module _ {T : Type 0} (reading : List ℕ → Option Node) (values : List ℕ → ℕ → Option T) (paths : List (List ℕ)) (v : Store Node) (w : Store (Option T))
+    (holds : Holds reading values paths v w) where
+  -- nothing is there, so nothing changes
+  pub nothing_taken : (path : List ℕ) (b : ℕ) → values path b ≡ None → EntryTaken reading paths values path b v w w
+  nothing_taken path b none = record {
+    later = reading;
+    holds = subst (λ f. Holds reading f paths v w) (λ i q j. unchanged q j (same_or (q ++ j ∷ []) (path ++ b ∷ [])) i) holds;
+    same = λ q. refl;
+    others = λ q ne. refl;
+    stands = λ q slot at. at;
+    counted = (let z : one_if (is_some (values path b)) ≡ 0 = ap (λ o. one_if (is_some o)) none in omega arith);
+    kept = λ none. refl;
+    children = λ n m a c. same_children n m (ap node_or_blank (sym a ∙ c));
+    fewer = λ there. absurd (false≢true (sym (ap is_some none) ∙ there));
+    shrinks = λ n m a c there. absurd (false≢true (sym (ap is_some none) ∙ there));
+    longer = inl refl;
+    made = λ j inside. omega arith;
+  }
+    where
+      unchanged : (q : List ℕ) (j : ℕ) → (q ++ j ∷ [] ≡ path ++ b ∷ []) ⊎ (q ++ j ∷ [] ≢ path ++ b ∷ []) → values q j ≡ with_value values path b None q j
+      unchanged q j (inl e) =
+          (λ i. values ((snoc_inj q path j b e).0 i) ((snoc_inj q path j b e).1 i)) ∙ none
+          ∙ sym (ap (λ t. cond t None (values q j)) (same_path-equal (q ++ j ∷ []) (path ++ b ∷ []) e))
+      unchanged q j (inr ne) = sym (ap (λ t. cond t None (values q j)) (same_path-not (q ++ j ∷ []) (path ++ b ∷ []) ne))
+
+  -- where the node is missing, there is no value
+  pub no_value : (path : List ℕ) (b : ℕ) → reading path ≡ None → values path b ≡ None
+  no_value path b none = is_none-None (values path b) (holds.cells.set_where path b ∙ ap (λ o. has_value o b) none)
+
+  -- a value that its node has lost is taken
+  pub value_taken : (path : List ℕ) (b : ℕ) (n m : Node) (v2 : Store Node) (w2 : Store (Option T)) → reading path ≡ Some n →
+      is_some (values path b) ≡ true → ValueTaken reading paths values path b n m v2 w w2 →
+      (t : EntryTaken reading paths values path b v2 w w2) × (t.later path ≡ Some m)
+  value_taken path b n m v2 w2 is there a = (
+    record {
+      later = with_node reading path m;
+      holds = record { hold = a.hold; cells = a.cells };
+      same = λ q. stays q (same_or q path);
+      others = λ q ne. with_other reading path m q ne;
+      stands = λ q slot at. slots_same reading path n m q slot at is a.children.bitmap a.children.block;
+      counted =
+          (let c = count_with_node reading path m paths (holds.hold.listed path ∙ ap (λ o. one_if (is_some o)) is) in
+          let o : own_count (reading path) ≡ own_count (Some n) = ap own_count is in
+          let one : one_if (is_some (values path b)) ≡ 1 = ap one_if there in
+          let f = a.fewer in omega arith);
+      kept = λ none. absurd (false≢true (sym none ∙ there));
+      children = λ n2 m2 e f.
+          let first : n ≡ n2 = ap node_or_blank (sym is ∙ e) in
+          let last : m ≡ m2 = ap node_or_blank (sym (with_here reading path m path refl) ∙ f) in
+          subst (λ y. SameChildren y m2) first (subst (λ y. SameChildren n y) last a.children);
+      shrinks = λ n2 m2 e f _.
+          let first : n ≡ n2 = ap node_or_blank (sym is ∙ e) in
+          let last : m ≡ m2 = ap node_or_blank (sym (with_here reading path m path refl) ∙ f) in
+          subst (λ (y : Node). Shrinks w.tiers y.value_tier (rank y.value_bitmap 32) m2.value_tier) first
+          (subst (λ (y : Node). Shrinks w.tiers n.value_tier (rank n.value_bitmap 32) y.value_tier) last a.shrinks);
+      fewer = λ _. ap (λ o. own_count o + 1) (with_here reading path m path refl) ∙ a.fewer ∙ sym (ap own_count is);
+      longer = lengthens a.longer;
+      made = subst (λ o. MakesEntered cell_sizes w w2 (value_block_size o) (value_block_size (with_node reading path m path))) (sym is)
+          (subst (λ o. MakesEntered cell_sizes w w2 (value_block_size (Some n)) (value_block_size o)) (sym (with_here reading path m path refl)) a.made);
+    },
+    with_here reading path m path refl,
+  )
+    where
+      lengthens : MayLengthen cell_sizes w w2 (rank m.value_bitmap 32) n.value_tier m.value_tier →
+          (length w2.slots ≡ length w.slots) ⊎ ((k : Node) × (j : Node) × (reading path ≡ Some k) × (with_node reading path m path ≡ Some j)
+          × LongerByBlock cell_sizes w w2 (rank j.value_bitmap 32) k.value_tier j.value_tier)
+      lengthens (inl same) = inl same
+      lengthens (inr one) = inr (n, m, is, with_here reading path m path refl, one)
+
+      stays : (q : List ℕ) → (q ≡ path) ⊎ (q ≢ path) → is_some (with_node reading path m q) ≡ is_some (reading q)
+      stays q (inl e) = ap is_some (with_here reading path m q e) ∙ sym (ap is_some (ap reading e ∙ is))
+      stays q (inr ne) = ap is_some (with_other reading path m q ne)
+
+  -- the values without that of a key are the entries without it
+  pub entries_without : (key : List Bool) (s : State T) → IsShapeOf v.slots w.slots s → (q : List Bool) →
+      get (without_entry s.entries key) q ≡ with_value values (path_of key) (bit_of key) None (path_of q) (bit_of q)
+  entries_without key s is q =
+      get-without_entry s.entries key q
+      ∙ ap₂ (λ t o. cond t None o) (same_key q key) (shape_entries reading values paths v w holds s is q)
+
+  -- the shape once an entry is taken
+  pub shape_taken : (key : List Bool) (v2 : Store Node) (w2 : Store (Option T)) (s : State T) → IsShapeOf v.slots w.slots s →
+      EntryTaken reading paths values (path_of key) (bit_of key) v2 w w2 →
+      IsShapeOf v2.slots w2.slots (record { entries = without_entry s.entries key; nodes = s.nodes })
+  shape_taken key v2 w2 s is a =
+      shape_of a.later (with_value values (path_of key) (bit_of key) None) paths v2 w2 a.holds (record { entries = without_entry s.entries key; nodes = s.nodes })
+      (λ q. shape_nodes reading values paths v w holds s is q ∙ ap (λ b. is_node_depth q && b) (sym (a.same (path_of q))))
+      (entries_without key s is)
+
+-- one entry less, or as many
+one_less : (c n l : ℕ) (b : Bool) → c ≡ l → n + one_if b ≡ c → n ≡ cond b (l - 1) l
+one_less c n l true e f = omega (arith, e, f)
+one_less c n l false e f = omega (arith, e, f)
+
+-- a removal: what it leaves of the table
+module _ {T : Type 0} (key : List Bool) (v v2 : Store Node) (w w2 : Store (Option T)) (count count2 : ℕ) (s : Shaped v.slots w.slots)
+    (is : IsTable v w count s.0) (removed : Option T)
+    (before : ForHeld v w (λ reading paths values. removed ≡ values (path_of key) (bit_of key))) where
+  -- the answer is the value that was there
+  pub removed_is : removed ≡ get s.0.entries key
+  removed_is =
+      let t = some_table is in
+      before t.reading t.paths t.values t.holds
+      ∙ sym (shape_entries t.reading t.values t.paths v w t.holds s.0 s.1 key)
+
+  -- arrays that have this shape are a table
+  pub table_without : (left : State T) → IsShapeOf v2.slots w2.slots left → left.entries ≡ without_entry s.0.entries key →
+      count2 + one_if (is_some removed) ≡ count → (t : SomeTable v2 w2) × (count2 ≡ entry_count t.reading t.paths) → Grows v v2 24 → Grows w w2 24 →
+      (t : Shaped v2.slots w2.slots) → IsTable v2 w2 count2 t.0
+  table_without left shape entries fewer counted nodes cells t =
+      let only : t.0 ≡ left = same_shape v2.slots w2.slots t.0 left t.1 shape in
+      record {
+        reading = counted.0.reading;
+        values = counted.0.values;
+        paths = counted.0.paths;
+        nodes = counted.0.holds.hold;
+        cells = counted.0.holds.cells;
+        counted = counted.1;
+        sized = one_less count count2 (len s.0.entries) (is_some removed) is.sized fewer
+            ∙ ap (λ b. cond b (len s.0.entries - 1) (len s.0.entries)) (ap is_some removed_is)
+            ∙ sym (len-remove listing_total s.0.entries key)
+            ∙ ap len (sym entries) ∙ ap (λ (y : State T). len y.entries) (sym only);
+        cells_first = cells.first_is ∙ is.cells_first;
+        one_limit = cells.limit_is ∙ is.one_limit ∙ sym nodes.limit_is;
+        nodes_within = nodes.within is.nodes_within;
+        cells_within = cells.within is.cells_within;
+      }
+
+  module _ (taken : ForHeld v w (λ reading paths values. EntryTaken reading paths values (path_of key) (bit_of key) v2 w w2)) where
+    -- the shape that is left where the nodes stay
+    pub kept_shape : IsShapeOf v2.slots w2.slots (record { entries = without_entry s.0.entries key; nodes = s.0.nodes })
+    kept_shape =
+        let t = some_table is in
+        shape_taken t.reading t.values t.paths v w t.holds key v2 w2 s.0 s.1 (taken t.reading t.paths t.values t.holds)
+
+    -- and no other
+    pub kept_only : (t : Shaped v2.slots w2.slots) → t.0 ≡ record { entries = without_entry s.0.entries key; nodes = s.0.nodes }
+    kept_only t = same_shape v2.slots w2.slots t.0 (record { entries = without_entry s.0.entries key; nodes = s.0.nodes }) t.1 kept_shape
+
+    -- the number of entries that the arrays hold then
+    pub counted_without : count2 + one_if (is_some removed) ≡ count →
+        (t : SomeTable v2 w2) × (count2 ≡ entry_count t.reading t.paths)
+    counted_without fewer =
+        let t = some_table is in
+        let a = taken t.reading t.paths t.values t.holds in
+        let had : one_if (is_some removed) ≡ one_if (is_some (t.values (path_of key) (bit_of key))) =
+        ap (λ o. one_if (is_some o)) (before t.reading t.paths t.values t.holds) in (
+          record { reading = a.later; values = with_value t.values (path_of key) (bit_of key) None; paths = t.paths; holds = a.holds },
+          (let n = a.counted in let h = is.counted in omega (arith, n, h, had, fewer)),
+        )
+
+-- a string's own node was reached, and x is the string's value bit
+module _ {T : Type 0} (b : List Bool) (len slot : ℕ) (node : Node) (v : Store Node) (at : IsReached b len (len / 5) node slot v) (x : ℕ)
+    (read : x ≡ value_bit (drop (len / 5 * 5) (take len b))) (reading : List ℕ → Option Node) (paths : List (List ℕ))
+    (values : List ℕ → ℕ → Option T) (w : Store (Option T)) (holds : Holds reading values paths v w) where
+  last : len < 5 * (len / 5) + 5
+  last = level_last (len / 5) len refl
+
+  pub own_node : reading (path_of (take len b)) ≡ Some node
+  own_node = reached_own b len (len / 5) slot node v at reading paths holds.hold last
+
+  pub own_slot : IsSlot reading (path_of (take len b)) slot
+  own_slot = subst (λ p. IsSlot reading p slot) (take_all (len / 5) (path_of (take len b)) (omega (arith, steps-all b len at.long)))
+      (at.deepest reading paths holds.hold).stands
+
+  own_bit : bit_of (take len b) ≡ x
+  own_bit = bit-read-last b len at.long x read
+
+  own_is : is_some (values (path_of (take len b)) (bit_of (take len b))) ≡ has_bit node.value_bitmap x
+  own_is =
+      holds.cells.set_where (path_of (take len b)) (bit_of (take len b)) ∙ ap (λ o. has_value o (bit_of (take len b))) own_node
+      ∙ ap (has_bit node.value_bitmap) own_bit
+
+  -- where the bit is clear there is no value, and nothing is taken
+  pub none_there : has_bit node.value_bitmap x ≡ false → values (path_of (take len b)) (bit_of (take len b)) ≡ None
+  none_there clear = is_none-None (values (path_of (take len b)) (bit_of (take len b))) (own_is ∙ clear)
+
+  pub none_taken : has_bit node.value_bitmap x ≡ false →
+      (t : EntryTaken reading paths values (path_of (take len b)) (bit_of (take len b)) v w w) × (t.later (path_of (take len b)) ≡ Some node)
+  unfolding nothing_taken
+  none_taken clear = (nothing_taken reading values paths v w holds (path_of (take len b)) (bit_of (take len b)) (none_there clear), own_node)
+
+  -- where it is set, what the node loses is the string's value
+  module _ (removed : Option T) (m : Node) (v2 : Store Node) (w2 : Store (Option T)) (there : has_bit node.value_bitmap x ≡ true) where
+    pub some_there : is_some (values (path_of (take len b)) (bit_of (take len b))) ≡ true
+    some_there = own_is ∙ there
+
+    pub value_there : removed ≡ values (path_of (take len b)) x → removed ≡ values (path_of (take len b)) (bit_of (take len b))
+    value_there e = e ∙ ap (values (path_of (take len b))) (sym own_bit)
+
+    pub entry_taken : ValueTaken reading paths values (path_of (take len b)) x node m v2 w w2 →
+        (t : EntryTaken reading paths values (path_of (take len b)) (bit_of (take len b)) v2 w w2) × (t.later (path_of (take len b)) ≡ Some m)
+    entry_taken taken =
+        value_taken reading values paths v w holds (path_of (take len b)) (bit_of (take len b)) node m v2 w2 own_node some_there
+        (subst (λ i. ValueTaken reading paths values (path_of (take len b)) i node m v2 w w2) (sym own_bit) taken)

@@ -1,0 +1,234 @@
+-- A way pruned from its end upward.
+use Rattle.std.proofs.Common.{◌⊎◌, ◌≡◌, ◌≢◌, ℕ, ◌+◌, ◌-◌, ◌<◌, ◌≤◌, inl, inr, ⊎_elim, true, List, [], ◌∷◌, ◌++◌, length, get_or, take, Option, None, Some, is_some, refl, sym, ap, ◌∙◌, subst, arith, length-append}
+use Rattle.std.proofs.lemmas.Bool.{false≢true, cases_lt}
+use Rattle.std.proofs.lemmas.List.{take_more, take_all, length-take-le}
+use Rattle.prefix_trie_table.specs.declared.allocator.node.Node.{Node}
+use Rattle.prefix_trie_table.specs.declared.allocator.node.NodeSlot.{NodeSlot}
+use Rattle.prefix_trie_table.specs.Bitmaps.{has_bit, rank}
+use Rattle.prefix_trie_table.specs.Cells.{node_at, node_sizes, cell_sizes}
+use Rattle.prefix_trie_table.specs.Store.{Store, Tier, tier_at, tier_sizes, tier_for, free_at, size_in}
+use Rattle.prefix_trie_table.specs.Forest.{NodesHold, CellsHold, IsSlot, at_root, at_child, has_child, is_start, without, own_count, entry_count, lacking_child, node_or_blank}
+use Rattle.prefix_trie_table.specs.Removals.{Shrinks, SameValues, IsBare, IsWay, GivesBack, ChildDropped, Drops, none, more, PrunedTo, slot_in, LongerByBlock, MayLengthen}
+use Rattle.prefix_trie_bits.specs.Model.Blocks.{made_of}
+use Rattle.prefix_trie_table.specs.Layouts.{child_block_size, free_counts}
+use Rattle.prefix_trie_table.proofs.Blocks.Entering.{free_is}
+use Rattle.prefix_trie_table.proofs.Insertion.Needs.{nodes_apart}
+use Rattle.prefix_trie_table.proofs.Strings.Bare.{no_bit}
+use Rattle.prefix_trie_table.proofs.Tree.Children.{changed, changed_below, changed_here, changed_other}
+use Rattle.prefix_trie_table.proofs.Counts.EntryCounts.{count_sum}
+use Rattle.prefix_trie_table.proofs.Strings.PathSums.{sum_lacking}
+use Rattle.prefix_trie_table.proofs.Removal.Settling.{NodesSettle-none, NodesSettle-then}
+use Rattle.prefix_trie_table.proofs.Blocks.Spending.{tier_for_same}
+use Rattle.prefix_trie_table.proofs.Strings.Starts.{is_start_take}
+use Rattle.prefix_trie_table.proofs.Tree.Trees.{listed_once, slot_holds}
+use Rattle.prefix_trie_table.proofs.Tree.Values.{cells_lacking_child}
+
+-- a node that is no deeper than p stands where it stood when a child of p comes or goes
+slots_still : (reading : List ℕ → Option Node) (p : List ℕ) (m : Node) (c : ℕ) (o : Option Node) (q : List ℕ) (s : ℕ) → IsSlot reading q s →
+    length q ≤ length p → IsSlot (changed reading p m c o) q s
+slots_still reading p m c o q s (at_root) short = at_root
+slots_still reading p m c o q s (at_child r d k parent bit) short =
+    let less : length r + 1 ≤ length p = (let l = length-append r (d ∷ []) in omega arith) in
+    at_child r d k
+    (changed_other reading p m c o r (λ e. let l : length r ≡ length p = ap (λ (xs : List ℕ). length xs) e in omega arith)
+    (λ e. let l : length r ≡ length p + 1 = ap (λ (xs : List ℕ). length xs) e ∙ length-append p (c ∷ []) in omega arith) ∙ parent) bit
+
+-- what holds as the way is pruned
+pub record Pruning (reading : List ℕ → Option Node) (paths : List (List ℕ)) (path : List ℕ) (way : List NodeSlot) (level : ℕ) (node : Node)
+    (before after : Store Node) : Type 0 where
+  pub to : PrunedTo reading paths path level node before after
+  pub slots : IsWay to.later path way level
+
+-- at first nothing is pruned
+pub pruning_first : (reading : List ℕ → Option Node) (paths : List (List ℕ)) (path : List ℕ) (way : List NodeSlot) (level : ℕ) (node : Node)
+    (v : Store Node) → NodesHold node_sizes reading paths v → IsWay reading path way level → reading path ≡ Some node → level ≡ length path →
+    Pruning reading paths path way level node v v
+pruning_first reading paths path way level node v hold slots is all = record {
+  to = record {
+    later = reading;
+    left = paths;
+    hold = hold;
+    drops = none;
+    within = omega arith;
+    is = ap reading (take_all level path (omega arith)) ∙ is;
+    gone = λ k more less. absurd (omega arith);
+    above = λ k less. refl;
+    off = λ q no. refl;
+    whole = λ end. refl;
+    fewer = λ n less e. absurd (omega arith);
+    shrinks = λ n less e. absurd (omega arith);
+    longer = inl refl;
+    made = λ j small. (omega arith, omega arith);
+    settles = NodesSettle-none v;
+  };
+  slots = slots;
+}
+
+-- a list that shrinks where more is free
+shrinks_from : (ts us : List Tier) (k count to : ℕ) → tier_sizes us ≡ tier_sizes ts → ((j : ℕ) → free_at ts j ≤ free_at us j) → Shrinks us k count to →
+    Shrinks ts k count to
+shrinks_from ts us k count to sizes free s = record {
+  gone = s.gone;
+  smallest = λ h. ⊎_elim (λ (e : to ≡ k). inl e) (λ (e : tier_for us (count - 1) ≡ Some to). inr (sym (tier_for_same ts us (count - 1) sizes) ∙ e)) (s.smallest h);
+  smaller = λ j h e some. s.smaller j h (tier_for_same ts us (count - 1) sizes ∙ e) (let f = free j in omega arith);
+}
+
+module _ (reading : List ℕ → Option Node) (paths : List (List ℕ)) (path : List ℕ) (way : List NodeSlot) (level : ℕ) (node : Node)
+    (before v : Store Node) (p : Pruning reading paths path way (level + 1) node before v) where
+  -- the parent's path, the step from there, and the slot
+  abbrev up : List ℕ
+  up = take level path
+
+  abbrev step : ℕ
+  step = get_or path level 0
+
+  inside : level < length path
+  inside = (let w = p.to.within in omega arith)
+
+  path_is : take (level + 1) path ≡ take level path ++ get_or path level 0 ∷ []
+  path_is = take_more path level 0 inside
+
+  below_is : p.to.later (take level path ++ get_or path level 0 ∷ []) ≡ Some node
+  below_is = ap p.to.later (sym path_is) ∙ p.to.is
+
+  -- the parent has this child
+  parent_has : has_child (p.to.later (take level path)) (get_or path level 0) ≡ true
+  parent_has = sym (p.to.hold.linked (take level path) (get_or path level 0)) ∙ ap is_some below_is
+
+  pub parent : Node
+  parent = node_or_blank (p.to.later (take level path))
+
+  parent_some : (o : Option Node) (c : ℕ) → has_child o c ≡ true → o ≡ Some (node_or_blank o)
+  parent_some None c h = absurd (false≢true h)
+  parent_some (Some n) c h = refl
+
+  pub parent_is : p.to.later (take level path) ≡ Some (node_or_blank (p.to.later (take level path)))
+  parent_is = parent_some (p.to.later (take level path)) (get_or path level 0) parent_has
+
+  pub parent_slot : IsSlot p.to.later (take level path) (slot_in way level)
+  parent_slot = p.slots level (omega arith)
+
+  -- its node in the array has the child's bit
+  pub parent_bit : has_bit (node_at v.slots (slot_in way level)).child_bitmap (get_or path level 0) ≡ true
+  parent_bit =
+      let at = slot_holds node_sizes p.to.later p.to.left v p.to.hold (take level path) (slot_in way level) _ parent_slot parent_is in
+      ap (λ (n : Node). has_bit n.child_bitmap (get_or path level 0)) at.0 ∙ ap (λ o. has_child o (get_or path level 0)) (sym parent_is) ∙ parent_has
+
+  long : (k : ℕ) → k ≤ length path → length (take k path) ≡ k
+  long k h = length-take-le k path h
+
+  -- one more is pruned
+  pub pruning_more : (c : ℕ) (m : Node) (w : Store Node) → c ≡ get_or path level 0 → IsBare node → GivesBack before v →
+      ((f : List ℕ → Option Node) (ps : List (List ℕ)) (q : List ℕ) (n leaf : Node) → NodesHold node_sizes f ps v → IsSlot f q (slot_in way level) →
+      f q ≡ Some n → f (q ++ c ∷ []) ≡ Some leaf → rank leaf.child_bitmap 32 ≡ 0 → ChildDropped f ps q c n m v w) →
+      Pruning reading paths path way level m before w
+  pruning_more c m w digit bare back dropped =
+      let there : p.to.later (take level path ++ c ∷ []) ≡ Some node = ap (λ d. p.to.later (take level path ++ d ∷ [])) digit ∙ below_is in
+      let one : ChildDropped p.to.later p.to.left (take level path) c (node_or_blank (p.to.later (take level path))) m v w =
+      dropped p.to.later p.to.left (take level path) (node_or_blank (p.to.later (take level path))) node p.to.hold parent_slot parent_is there bare.no_children in
+      let end : take (level + 1) path ≡ take level path ++ c ∷ [] = path_is ∙ ap (λ d. take level path ++ d ∷ []) (sym digit) in
+      let not_up : (k : ℕ) → k ≤ length path → k ≢ level → take k path ≢ take level path = λ k h ne e.
+      ne (let a = long k h in let b = long level (let i = inside in omega arith) in let l : length (take k path) ≡ length (take level path) = ap (λ (xs : List ℕ). length xs) e in omega arith) in
+      let not_end : (k : ℕ) → k ≤ length path → k ≢ level + 1 → take k path ≢ take level path ++ c ∷ [] = λ k h ne e.
+      ne (let a = long k h in let b = long (level + 1) (let i = inside in omega arith) in
+      let l : length (take k path) ≡ length (take (level + 1) path) = ap (λ (xs : List ℕ). length xs) (e ∙ sym end) in omega arith) in
+      record {
+        to = record {
+          later = lacking_child p.to.later (take level path) m c;
+          left = without (take level path ++ c ∷ []) p.to.left;
+          hold = one.hold;
+          drops = more p.to.later p.to.left v (take level path) c (node_or_blank (p.to.later (take level path))) m node p.to.drops p.to.hold parent_is there bare one.values;
+          within = (let i = inside in omega arith);
+          is = changed_here p.to.later (take level path) m c None (take level path) refl;
+          gone = λ k deeper h. fall k deeper h m c end (not_up k h (λ e. omega arith)) (not_end k h);
+          above = λ k less.
+              let h : k ≤ length path = (let i = inside in omega arith) in
+              changed_other p.to.later (take level path) m c None (take k path) (not_up k h (λ e. omega arith)) (not_end k h (λ e. omega arith))
+              ∙ p.to.above k (omega arith);
+          off = λ q no.
+              changed_other p.to.later (take level path) m c None q
+              (λ e. false≢true (sym no ∙ ap (λ x. is_start x path) e ∙ is_start_take level path))
+              (λ e. false≢true (sym no ∙ ap (λ x. is_start x path) (e ∙ sym end) ∙ is_start_take (level + 1) path))
+              ∙ p.to.off q no;
+          whole = λ end. absurd (let i = inside in omega arith);
+          fewer = λ n less is.
+              let same : node_or_blank (p.to.later (take level path)) ≡ n = ap node_or_blank (p.to.above level (omega arith) ∙ is) in
+              one.fewer ∙ ap (λ (y : Node). rank y.child_bitmap 32) same;
+          longer = lengthens m one.longer;
+          made = λ j small.
+              let was : reading (take level path) ≡ Some (node_or_blank (p.to.later (take level path))) = sym (p.to.above level (omega arith)) ∙ parent_is in
+              subst (λ o. ((tier_at before.tiers j).made ≤ (tier_at w.tiers j).made)
+              × ((tier_at w.tiers j).made ≤ (tier_at before.tiers j).made
+              + made_of node_sizes (free_counts before.tiers) (child_block_size o) (child_block_size (Some m)) (size_in node_sizes j))) (sym was)
+              (let a = one.made j small in
+              let b = back.made j in
+              let f = free_is v.tiers node_sizes p.to.hold.sizes_are refl nodes_apart j small in
+              let g = free_is before.tiers node_sizes (sym back.sizes ∙ p.to.hold.sizes_are) refl nodes_apart j small in
+              let h = back.free j in
+              (omega arith, omega arith));
+          shrinks = λ n less is.
+              let same : node_or_blank (p.to.later (take level path)) ≡ n = ap node_or_blank (p.to.above level (omega arith) ∙ is) in (
+                subst (λ (y : Node). SameValues y m) same one.values,
+                subst (λ (y : Node). Shrinks before.tiers y.child_tier (rank y.child_bitmap 32) m.child_tier) same
+                    (shrinks_from before.tiers v.tiers _ _ m.child_tier back.sizes back.free one.shrinks),
+              );
+          settles = NodesSettle-then before v w p.to.settles one.settles;
+        };
+        slots = λ k h.
+            slots_still p.to.later (take level path) m c None (take k path) (slot_in way k) (p.slots k (omega arith))
+            (let a = long k (let i = inside in omega arith) in let b = long level (let i = inside in omega arith) in omega arith);
+      }
+    where
+      lengthens : (m : Node) → MayLengthen node_sizes v w (rank m.child_bitmap 32) (node_or_blank (p.to.later (take level path))).child_tier m.child_tier →
+          (length w.slots ≡ length before.slots) ⊎ ((n : Node) × (reading (take level path) ≡ Some n)
+          × LongerByBlock node_sizes before w (rank m.child_bitmap 32) n.child_tier m.child_tier)
+      lengthens m (inl same) = inl (same ∙ back.room.0)
+      lengthens m (inr made) = inr (
+        node_or_blank (p.to.later (take level path)),
+        sym (p.to.above level (omega arith)) ∙ parent_is,
+        record {
+          some = made.some;
+          smaller = made.smaller;
+          within = made.within;
+          none_free = (let f = back.free m.child_tier in let z = made.none_free in omega arith);
+          longer = made.longer ∙ ap (λ n. n + size_in node_sizes m.child_tier) back.room.0;
+        },
+      )
+
+      fall : (k : ℕ) → level < k → k ≤ length path → (m : Node) (c : ℕ) → take (level + 1) path ≡ take level path ++ c ∷ [] →
+          take k path ≢ take level path → (k ≢ level + 1 → take k path ≢ take level path ++ c ∷ []) →
+          lacking_child p.to.later (take level path) m c (take k path) ≡ None
+      fall k deeper h m c end not_up not_end = elim (cases_lt (level + 1) k) as (λ _. lacking_child p.to.later (take level path) m c (take k path) ≡ None) [
+        | inl more_deep ↦ changed_other p.to.later (take level path) m c None (take k path) not_up (not_end (λ e. omega arith)) ∙ p.to.gone k more_deep h
+        | inr last ↦
+            let e : k ≡ level + 1 = omega arith in
+            changed_below p.to.later (take level path) m c None (take k path) (ap (λ i. take i path) e ∙ end)
+      ]
+
+-- ---- what such changes leave of the values
+
+module _ {T : Type 0} (values : List ℕ → ℕ → Option T) (w : Store (Option T)) where
+  -- the cells hold the values that they held
+  pub drops_cells : (reading : List ℕ → Option Node) (paths : List (List ℕ)) (later : List ℕ → Option Node) (left : List (List ℕ)) → Drops reading paths later left →
+      CellsHold cell_sizes reading values paths w → CellsHold cell_sizes later values left w
+  drops_cells reading paths later left (none) cells = cells
+  drops_cells reading paths later left (more f ps v p c n m leaf drops hold is below bare same) cells =
+      cells_lacking_child cell_sizes node_sizes f ps v hold values w (drops_cells reading paths f ps drops cells) p n m is same.bitmap same.block
+      same.tier c leaf below (λ i. no_bit leaf.value_bitmap i bare.no_values)
+
+count_lacking : (f : List ℕ → Option Node) (ps : List (List ℕ)) (v : Store Node) (p : List ℕ) (c : ℕ) (n m leaf : Node) → NodesHold node_sizes f ps v →
+    f p ≡ Some n → f (p ++ c ∷ []) ≡ Some leaf → IsBare leaf → SameValues n m →
+    entry_count (lacking_child f p m c) (without (p ++ c ∷ []) ps) ≡ entry_count f ps
+count_lacking f ps v p c n m leaf hold is below bare same =
+    let change = sum_lacking own_count f ps p c n m leaf is below (listed_once node_sizes f ps v hold p n is)
+    (listed_once node_sizes f ps v hold (p ++ c ∷ []) leaf below) in
+    let nothing = bare.no_values in
+    let as_many : rank m.value_bitmap 32 ≡ rank n.value_bitmap 32 = ap (λ b. rank b 32) same.bitmap in
+    omega (arith, count_sum (lacking_child f p m c) (without (p ++ c ∷ []) ps), count_sum f ps, change, nothing, as_many)
+
+-- the nodes left have as many entries
+pub drops_count : (reading : List ℕ → Option Node) (paths : List (List ℕ)) (later : List ℕ → Option Node) (left : List (List ℕ)) → Drops reading paths later left →
+    entry_count later left ≡ entry_count reading paths
+drops_count reading paths later left (none) = refl
+drops_count reading paths later left (more f ps v p c n m leaf drops hold is below bare same) =
+    count_lacking f ps v p c n m leaf hold is below bare same ∙ drops_count reading paths f ps drops

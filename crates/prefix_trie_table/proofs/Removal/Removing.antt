@@ -1,0 +1,398 @@
+-- What the calls that take a value or a child out leave of the arrays.
+use Rattle.std.proofs.Common.{◌≡◌, ◌≢◌, ℕ, zero, suc, ◌-◌, ◌*◌, ◌<◌, ◌≤◌, ◌⊎◌, ◌+◌, inl, inr, ⊎_elim, true, false, nat_le, List, [], ◌∷◌, ◌++◌, length, get_or, set, remove, map, flat_map, Option, None, Some, refl, sym, ap, ◌∙◌, subst, arith}
+use Rattle.std.specs.List.{position}
+use Rattle.std.proofs.lemmas.List.{length-map, length-set}
+use Rattle.std.proofs.lemmas.List.Quantifiers.{position-Some}
+use Rattle.std.proofs.lemmas.Bool.{true≢false, cases_lt}
+use Rattle.prefix_trie_bits.specs.Places.{Sets}
+use Rattle.prefix_trie_table.specs.declared.allocator.node.Node.{Node}
+use Rattle.prefix_trie_table.specs.Bitmaps.{has_bit, bits, rank}
+use Rattle.prefix_trie_table.specs.Cells.{blank_node, node_at, node_sizes, cell_sizes}
+use Rattle.prefix_trie_table.specs.OwnBlocks.{size_if_any, child_block_size, value_block_size}
+use Rattle.prefix_trie_table.specs.Store.{Store, Block, Sound, block, held, HasList, Keeps, Turnover, SameRoom, tier_at, tier_for, tier_sizes, size_in, free_at, slots_of, one_at, many_at, blocks_entered, tier_entered}
+use Rattle.prefix_trie_table.specs.Forest.{without, child_items, child_blocks, IsSlot, NodesHold, CellsHold, value_blocks, with_node, lacking_child, node_or_blank}
+use Rattle.prefix_trie_table.specs.Removals.{Shrinks, MayLengthen, MakesEntered, ValueTaken, ChildDropped, GivesBack}
+use Rattle.prefix_trie_table.specs.Settling.{smaller_sizes, headroom, headroom_if_any, child_headroom}
+use Rattle.prefix_trie_table.specs.Tables.{Grows}
+use Rattle.prefix_trie_table.proofs.Strings.Bare.{no_bit, cleared, others_stay, one_fewer}
+use Rattle.prefix_trie_table.proofs.Strings.BitLists.{rank-all}
+use Rattle.prefix_trie_table.proofs.Tree.Children.{child_removed, node_changed, number_or}
+use Rattle.prefix_trie_table.proofs.Blocks.Soundness.{fits_block, tier_of_block}
+use Rattle.prefix_trie_table.proofs.Removal.Settling.{smaller_few, tier_headroom, headroom-step, child_settles}
+use Rattle.prefix_trie_table.proofs.Blocks.Spending.{size_at, tier_for_sizes}
+use Rattle.prefix_trie_table.proofs.Tree.Trees.{own_first, slot_holds, held_some}
+use Rattle.prefix_trie_table.proofs.Blocks.Turnovers.{slots_of-le, slots_of-none, slots_of-many, many_here, many_other, made_turned}
+use Rattle.prefix_trie_table.proofs.Blocks.Entering.{le_true, left_none, entered_none, entered_one, entered_is}
+use Rattle.prefix_trie_table.proofs.Insertion.Needs.{nodes_apart, cells_apart}
+use Rattle.prefix_trie_table.proofs.Tree.Values.{values_first, value_removed}
+
+-- ---- by how much an array grows where a list loses an item
+
+-- a size that holds one item less than a size does is no larger
+pub no_larger : (sizes : List ℕ) (k to count : ℕ) → count ≤ size_in sizes k → position (λ s. nat_le (count - 1) s) sizes ≡ Some to → to ≤ k
+no_larger sizes k to count fits is =
+    let first = position-Some (λ s. nat_le (count - 1) s) sizes to 0 is in
+    elim (cases_lt k to) as (λ _. to ≤ k) [
+      | inl less ↦ absurd (true≢false (sym (le_true (count - 1) (size_in sizes k) (omega (arith, fits))) ∙ first.2 k less))
+      | inr more ↦ omega arith
+    ]
+
+-- a list stands in a block of one of the seven tiers, which holds it
+pub held_fits : {S : Type 0} (vacant : S) (v : Store S) (k start count : ℕ) (sizes : List ℕ) → tier_sizes v.tiers ≡ sizes → length sizes ≡ 7 → HasList vacant v k start count →
+    0 < count → (k < 7) × (count ≤ size_in sizes k)
+held_fits vacant v k start count sizes sizes_are seven list some =
+    let s : Sound vacant (block k start list.size list.items ∷ list.live) v =
+    subst (λ bs. Sound vacant (bs ++ list.live) v) (held_some k start list.size list.items (let e = list.is_count in omega arith)) list.sound in
+    let of = tier_of_block vacant (block k start list.size list.items) list.live v s in
+    let fits : length list.items ≤ list.size = fits_block vacant (block k start list.size list.items) list.live v s in
+    let tiers : length v.tiers ≡ 7 = sym (length-map v.tiers (λ t. t.size)) ∙ ap (λ (ns : List ℕ). length ns) sizes_are ∙ seven in
+    let size : list.size ≡ size_in sizes k = of.size_is ∙ size_at v.tiers k ∙ ap (λ ns. size_in ns k) sizes_are in
+    ((let x = of.within in omega arith), (let e = list.is_count in omega arith))
+
+module _ {S : Type 0} (v w : Store S) (k count to : ℕ) (took gave : ℕ → ℕ) (keeps : Keeps v w)
+    (turned : Turnover v w (blocks_entered v.tiers k count to) took gave) where
+  -- no block is made where the list is empty afterwards
+  pub same_room : count ≤ 1 → SameRoom v w
+  same_room h =
+      let none = slots_of-none (tier_sizes v.tiers) (blocks_entered v.tiers k count to) (λ j. (let e = left_none k count to j h in omega arith)) in
+      ((let l = turned.longer in omega arith), keeps.first_is, keeps.limit_is)
+
+  grows_by : slots_of (tier_sizes v.tiers) (blocks_entered v.tiers k count to) ≤ 24 → Grows v w 24
+  grows_by h = record {
+    first_is = keeps.first_is;
+    limit_is = keeps.limit_is;
+    longer = keeps.longer;
+    at_most = (let l = turned.longer in omega arith);
+    within = keeps.within;
+    made = made_turned v w _ _ _ turned;
+  }
+
+  module _ (vacant : S) (start : ℕ) (sizes : List ℕ) (sizes_are : tier_sizes v.tiers ≡ sizes) (seven : length sizes ≡ 7) (smaller : (j : ℕ) → j ≤ 5 → size_in sizes j ≡ get_or smaller_sizes j 0)
+      (list : HasList vacant v k start count) (smallest : 1 < count → (to ≡ k) ⊎ (tier_for v.tiers (count - 1) ≡ Some to)) where
+    -- the tier of the list, and that its block holds it
+    pub list_fits : 0 < count → (k < 7) × (count ≤ size_in sizes k)
+    list_fits = held_fits vacant v k start count sizes sizes_are seven list
+
+    -- another block that it moves to is of a smaller tier, and one such block is made at most
+    entered_lower : 1 < count → to ≢ k → tier_for v.tiers (count - 1) ≡ Some to →
+        (to < k) × (k < 7) × (slots_of (tier_sizes v.tiers) (blocks_entered v.tiers k count to) ≤ size_in sizes to)
+    entered_lower more other is =
+        let at = list_fits (omega arith) in
+        let le : to ≤ k = no_larger sizes k to count at.1 (sym (tier_for_sizes v.tiers (count - 1) ∙ ap (λ ns. position (λ s. nat_le (count - 1) s) ns) sizes_are) ∙ is) in
+        let less = slots_of-le (tier_sizes v.tiers) (blocks_entered v.tiers k count to) (many_at to 1)
+        (λ j. (let e = entered_one k count to j more other in omega arith)) in
+        let one : slots_of (tier_sizes v.tiers) (many_at to 1) ≡ size_in sizes to * 1 =
+        ap (λ ns. slots_of ns (many_at to 1)) sizes_are ∙ slots_of-many sizes to 1 (omega arith) in
+        (below le other, at.0, omega (arith, less, one))
+      where
+        below : to ≤ k → to ≢ k → to < k
+        below le ne = grind arith
+
+    entered_few : 1 < count → to ≢ k → tier_for v.tiers (count - 1) ≡ Some to → slots_of (tier_sizes v.tiers) (blocks_entered v.tiers k count to) ≤ 24
+    entered_few more other is =
+        let lower = entered_lower more other is in
+        let small : to ≤ 5 = (let a = lower.0 in let b = lower.1 in omega arith) in
+        let one = lower.2 in
+        omega (arith, one, smaller to small, smaller_few to small)
+
+    -- a list that loses an item lets its array grow by 24 slots at most
+    pub grows_few : Grows v w 24
+    grows_few = elim (cases_lt 1 count) as (λ _. Grows v w 24) [
+      | inl more ↦ elim (number_or to k) as (λ _. Grows v w 24) [
+        | inl same ↦ grows_by (let n = slots_of-none (tier_sizes v.tiers) (blocks_entered v.tiers k count to)
+            (λ j. (let e = entered_none k count to j more same in omega arith)) in omega arith)
+        | inr other ↦ grows_by (entered_few more other (⊎_elim (λ (e : to ≡ k). absurd (other e)) (λ (e : tier_for v.tiers (count - 1) ≡ Some to). e) (smallest more)))
+      ]
+      | inr few_left ↦ grows_by (let n = slots_of-none (tier_sizes v.tiers) (blocks_entered v.tiers k count to)
+          (λ j. (let e = left_none k count to j (omega arith) in omega arith)) in omega arith)
+    ]
+
+    module _ (rises : (j : ℕ) → j < 7 → headroom (size_in sizes j) ≡ tier_headroom j) where
+      -- and what its block may still make shrinks by as many
+      sizes_down : 1 < count → length w.slots + headroom (size_in sizes to) ≤ length v.slots + headroom (size_in sizes k)
+      sizes_down more = elim (number_or to k) as (λ _. length w.slots + headroom (size_in sizes to) ≤ length v.slots + headroom (size_in sizes k)) [
+        | inl same ↦
+            let n = slots_of-none (tier_sizes v.tiers) (blocks_entered v.tiers k count to) (λ j. (let e = entered_none k count to j more same in omega arith)) in
+            let l = turned.longer in
+            let h : headroom (size_in sizes to) ≡ headroom (size_in sizes k) = ap (λ j. headroom (size_in sizes j)) same in
+            omega (arith, n, l, h)
+        | inr other ↦
+            let lower = entered_lower more other
+            (⊎_elim (λ (e : to ≡ k). absurd (other e)) (λ (e : tier_for v.tiers (count - 1) ≡ Some to). e) (smallest more)) in
+            let less = lower.0 in
+            let seven = lower.1 in
+            let one = lower.2 in
+            let step = headroom-step to k (size_in sizes to) less seven (smaller to (omega (arith, less, seven))) in
+            let l = turned.longer in
+            omega (arith, one, l, step, rises to (omega (arith, less, seven)), rises k seven)
+      ]
+
+      pub steps_down : (left : ℕ) → left + 1 ≡ count → length w.slots + headroom_if_any (size_if_any left (size_in sizes to)) ≤
+          length v.slots + headroom_if_any (size_if_any count (size_in sizes k))
+      steps_down zero one =
+          let n = slots_of-none (tier_sizes v.tiers) (blocks_entered v.tiers k count to) (λ j. (let e = left_none k count to j (omega arith) in omega arith)) in
+          let l = turned.longer in omega (arith, n, l)
+      steps_down (suc left) one =
+          let down = sizes_down (omega (arith, one)) in
+          let some : headroom_if_any (size_if_any count (size_in sizes k)) ≡ headroom (size_in sizes k) =
+          ap (λ n. headroom_if_any (size_if_any n (size_in sizes k))) (let e : count ≡ suc (suc left) = omega (arith, one) in e) in
+          omega (arith, down, some)
+
+    -- exactly one block of another tier is made, where none of it is free
+    lengthens : 1 < count → to ≢ k → tier_for v.tiers (count - 1) ≡ Some to → MayLengthen sizes v w (count - 1) k to
+    lengthens more other is =
+        let lower = entered_lower more other is in
+        let tiers : (to < k) × (k < 7) = (lower.0, lower.1) in
+        let entered = λ (j : ℕ). entered_one k count to j more other in
+        let l = turned.longer in
+        elim (number_or (free_at v.tiers to) 0) as (λ _. MayLengthen sizes v w (count - 1) k to) [
+          | inl none ↦
+              let one : slots_of (tier_sizes v.tiers) (blocks_entered v.tiers k count to) ≡ size_in sizes to * 1 =
+              ap (slots_of (tier_sizes v.tiers)) (λ i j. just_one j (entered j) none (number_or j to) i)
+              ∙ ap (λ ns. slots_of ns (many_at to 1)) sizes_are ∙ slots_of-many sizes to 1 (let a = tiers.0 in let b = tiers.1 in omega arith) in
+              inr (record {
+                some = omega arith;
+                smaller = tiers.0;
+                within = (let b = tiers.1 in omega arith);
+                none_free = none;
+                longer = omega (arith, l, one);
+              })
+          | inr some ↦ inl (let n = slots_of-none (tier_sizes v.tiers) (blocks_entered v.tiers k count to)
+              (λ j. no_more j (entered j) (λ e. some e) (number_or j to)) in omega (arith, l, n))
+        ]
+      where
+        just_one : (j : ℕ) → one_at (tier_entered k count to) j ≡ many_at to 1 j → free_at v.tiers to ≡ 0 → (j ≡ to) ⊎ (j ≢ to) →
+            blocks_entered v.tiers k count to j ≡ many_at to 1 j
+        just_one j e none (inl same) = (let f : free_at v.tiers j ≡ 0 = ap (free_at v.tiers) same ∙ none in omega (arith, e, f))
+        just_one j e none (inr ne) = (let z = many_other to 1 j ne in omega (arith, e, z))
+
+        no_more : (j : ℕ) → one_at (tier_entered k count to) j ≡ many_at to 1 j → free_at v.tiers to ≢ 0 → (j ≡ to) ⊎ (j ≢ to) →
+            blocks_entered v.tiers k count to j ≡ 0
+        no_more j e some (inl same) =
+            let f : free_at v.tiers j ≡ free_at v.tiers to = ap (free_at v.tiers) same in
+            let one : many_at to 1 j ≡ 1 = ap (many_at to 1) same ∙ many_here to 1 in omega (arith, e, f, one)
+        no_more j e some (inr ne) = (let z = many_other to 1 j ne in omega (arith, e, z))
+
+    -- a list that loses an item lets its array grow by that block at most
+    pub may_lengthen : (left : ℕ) → left + 1 ≡ count → MayLengthen sizes v w left k to
+    may_lengthen left is_left = subst (λ n. MayLengthen sizes v w n k to) (let e : count - 1 ≡ left = omega arith in e)
+        (elim (cases_lt 1 count) as (λ _. MayLengthen sizes v w (count - 1) k to) [
+          | inl more ↦ elim (number_or to k) as (λ _. MayLengthen sizes v w (count - 1) k to) [
+            | inl same ↦ inl (let n = slots_of-none (tier_sizes v.tiers) (blocks_entered v.tiers k count to)
+                (λ j. (let e = entered_none k count to j more same in omega arith)) in let l = turned.longer in omega (arith, n, l))
+            | inr other ↦ lengthens more other (⊎_elim (λ (e : to ≡ k). absurd (other e)) (λ (e : tier_for v.tiers (count - 1) ≡ Some to). e) (smallest more))
+          ]
+          | inr few_left ↦ inl (let n = slots_of-none (tier_sizes v.tiers) (blocks_entered v.tiers k count to)
+              (λ j. (let e = left_none k count to j (omega arith) in omega arith)) in let l = turned.longer in omega (arith, n, l))
+        ])
+
+-- ---- the reading of the arrays where a value is gone
+
+module _ {T : Type 0} where
+  -- the list without a value, and the node written with it, lack the value
+  pub values_taken : (v v2 : Store Node) (w u : Store (Option T)) (slot place b tier start bitmap : ℕ) (k m : Node)
+      → k ≡ node_at v.slots slot
+      → Sets bitmap b k.value_bitmap
+      → m ≡ record {
+        value_bitmap = bitmap;
+        child_bitmap = k.child_bitmap;
+        value_block = start;
+        child_block = k.child_block;
+        value_tier = tier;
+        child_tier = k.child_tier;
+      }
+      → Keeps w u
+      → ((n : ℕ) (xs : List (Option T)) (live : List (Block (Option T))) → Sound None (held k.value_tier k.value_block n xs ++ live) w →
+      length xs ≡ rank k.value_bitmap 32 → Sound None (held tier start (tier_at w.tiers tier).size (remove xs place) ++ live) u)
+      → place ≡ rank k.value_bitmap b → b < 31 → has_bit k.value_bitmap b ≡ true → v2 ≡ record v { slots = set v.slots slot m }
+      → Shrinks w.tiers k.value_tier (rank k.value_bitmap 32) tier
+      → ((left : ℕ) → left + 1 ≡ rank k.value_bitmap 32 → MayLengthen cell_sizes w u left k.value_tier tier)
+      → (k.value_tier < 7) × (rank k.value_bitmap 32 ≤ size_in cell_sizes k.value_tier)
+      → ((j : ℕ) → (tier_at u.tiers j).made ≡ (tier_at w.tiers j).made + blocks_entered w.tiers k.value_tier (rank k.value_bitmap 32) tier j)
+      → (reading : List ℕ → Option Node) (paths : List (List ℕ)) (values : List ℕ → ℕ → Option T) (p : List ℕ) (n : Node) →
+      NodesHold node_sizes reading paths v → CellsHold cell_sizes reading values paths w → IsSlot reading p slot → reading p ≡ Some n
+      → ValueTaken reading paths values p b n m v2 w u
+  values_taken v v2 w u slot place b tier start bitmap k m read sets m_is keeps cut place_is small there v2_is shrinks lengthens fits turned reading paths values
+      p n hold cells stands is =
+      let at = slot_holds node_sizes reading paths v hold p slot n stands is in
+      let same : k ≡ n = read ∙ at.0 in
+      let here : reading p ≡ Some k = is ∙ ap Some (sym same) in
+      let size : (tier_at w.tiers tier).size ≡ size_in cell_sizes tier = size_at w.tiers tier ∙ ap (λ ns. size_in ns tier) cells.sizes_are in
+      let bits_are : m.value_bitmap ≡ bitmap = ap (λ (y : Node). y.value_bitmap) m_is in
+      let digit : b < 32 = omega arith in
+      let gone : has_bit m.value_bitmap b ≡ false = ap (λ y. has_bit y b) bits_are ∙ cleared bitmap k.value_bitmap b sets digit in
+      let stay : (i : ℕ) → i ≢ b → has_bit m.value_bitmap i ≡ has_bit k.value_bitmap i = λ i ne. ap (λ y. has_bit y i) bits_are
+      ∙ others_stay bitmap k.value_bitmap b sets digit i ne in
+      let live : List (Block (Option T)) = flat_map (value_blocks cell_sizes reading values) (without p paths) in
+      let left = cut (size_in cell_sizes k.value_tier) (map (values p) (bits k.value_bitmap)) live
+      (values_first cell_sizes node_sizes reading paths v hold values w cells p k here) (rank-all (values p) k.value_bitmap) in
+      let tier_is : m.value_tier ≡ tier = ap (λ (y : Node). y.value_tier) m_is in
+      let start_is : m.value_block ≡ start = ap (λ (y : Node). y.value_block) m_is in
+      let sound : Sound None (held m.value_tier m.value_block (size_in cell_sizes m.value_tier)
+      (remove (map (values p) (bits k.value_bitmap)) (rank k.value_bitmap b)) ++ live) u =
+      subst (λ (bs : List (Block (Option T))). Sound None (bs ++ live) u)
+      (λ i. held (sym tier_is i) (sym start_is i) ((size ∙ ap (size_in cell_sizes) (sym tier_is)) i)
+      (remove (map (values p) (bits k.value_bitmap)) (place_is i))) left in
+      record {
+        hold = subst (λ y. NodesHold node_sizes (with_node reading p m) paths y) (sym v2_is)
+            (node_changed node_sizes reading paths v hold p slot k m stands here (ap (λ (y : Node). y.child_bitmap) m_is)
+            (ap (λ (y : Node). y.child_block) m_is) (ap (λ (y : Node). y.child_tier) m_is));
+        cells = value_removed cell_sizes node_sizes reading paths v hold values w cells p k m b None here stay gone small u digit there refl
+            (keeps.sizes ∙ cells.sizes_are) sound;
+        fewer = (let f = one_fewer bitmap k.value_bitmap b sets digit in
+            let r : rank m.value_bitmap 32 ≡ rank bitmap 32 = ap (λ y. rank y 32) bits_are in
+            let o : rank k.value_bitmap 32 ≡ rank n.value_bitmap 32 = ap (λ (y : Node). rank y.value_bitmap 32) same in omega arith);
+        children = record {
+          bitmap = ap (λ (y : Node). y.child_bitmap) m_is ∙ ap (λ (y : Node). y.child_bitmap) same;
+          block = ap (λ (y : Node). y.child_block) m_is ∙ ap (λ (y : Node). y.child_block) same;
+          tier = ap (λ (y : Node). y.child_tier) m_is ∙ ap (λ (y : Node). y.child_tier) same;
+        };
+        shrinks = subst (λ t. Shrinks w.tiers n.value_tier (rank n.value_bitmap 32) t) (sym tier_is)
+            (subst (λ (y : Node). Shrinks w.tiers y.value_tier (rank y.value_bitmap 32) tier) same shrinks);
+        fits = subst (λ (y : Node). (y.value_tier < 7) × (rank y.value_bitmap 32 ≤ size_in cell_sizes y.value_tier)) same fits;
+        longer = subst (λ t. MayLengthen cell_sizes w u (rank m.value_bitmap 32) n.value_tier t) (sym tier_is)
+            (subst (λ (y : Node). MayLengthen cell_sizes w u (rank m.value_bitmap 32) y.value_tier tier) same
+            (lengthens (rank m.value_bitmap 32)
+            (ap (λ y. rank y 32 + 1) bits_are ∙ one_fewer bitmap k.value_bitmap b sets digit)));
+        made = subst (λ t. MakesEntered cell_sizes w u (value_block_size (Some n)) (size_if_any (rank m.value_bitmap 32) (size_in cell_sizes t))) (sym tier_is)
+            (subst (λ (y : Node). MakesEntered cell_sizes w u (value_block_size (Some y)) (size_if_any (rank m.value_bitmap 32) (size_in cell_sizes tier))) same
+            (λ j inside. turned j ∙ ap (λ x. (tier_at w.tiers j).made + x)
+            (entered_is w.tiers cell_sizes cells.sizes_are refl cells_apart k.value_tier (rank k.value_bitmap 32) tier (rank m.value_bitmap 32)
+            (ap (λ y. rank y 32 + 1) bits_are ∙ one_fewer bitmap k.value_bitmap b sets digit) fits.0 shrinks j inside)));
+      }
+
+-- ---- the reading of the arrays where a child is gone
+
+-- a node written leaves an array as long
+lengthens_written : (v u : Store Node) (left k to slot : ℕ) (m : Node) → MayLengthen node_sizes v u left k to →
+    MayLengthen node_sizes v (record u { slots = set u.slots slot m }) left k to
+lengthens_written v u left k to slot m (inl same) = inl (length-set u.slots slot m ∙ same)
+lengthens_written v u left k to slot m (inr one) = inr (record {
+  some = one.some;
+  smaller = one.smaller;
+  within = one.within;
+  none_free = one.none_free;
+  longer = length-set u.slots slot m ∙ one.longer;
+})
+
+-- the list without a child that has no children, and the node written with it, lack the child
+pub children_dropped : (v u v2 : Store Node) (slot place c tier start bitmap : ℕ) (k m : Node)
+    → k ≡ node_at v.slots slot
+    → Sets bitmap c k.child_bitmap
+    → m ≡ record {
+      value_bitmap = k.value_bitmap;
+      child_bitmap = bitmap;
+      value_block = k.value_block;
+      child_block = start;
+      value_tier = k.value_tier;
+      child_tier = tier;
+    }
+    → Keeps v u
+    → ((n : ℕ) (xs : List Node) (live : List (Block Node)) → Sound blank_node (held k.child_tier k.child_block n xs ++ live) v →
+    length xs ≡ rank k.child_bitmap 32 → Sound blank_node (held tier start (tier_at v.tiers tier).size (remove xs place) ++ live) u)
+    → place ≡ rank k.child_bitmap c → c < 32 → v2 ≡ record u { slots = set u.slots slot m }
+    → Shrinks v.tiers k.child_tier (rank k.child_bitmap 32) tier
+    → ((left : ℕ) → left + 1 ≡ rank k.child_bitmap 32 → MayLengthen node_sizes v u left k.child_tier tier)
+    → (k.child_tier < 7) × (rank k.child_bitmap 32 ≤ size_in node_sizes k.child_tier)
+    → ((j : ℕ) → (tier_at u.tiers j).made ≡ (tier_at v.tiers j).made + blocks_entered v.tiers k.child_tier (rank k.child_bitmap 32) tier j)
+    → ((left : ℕ) → left + 1 ≡ rank k.child_bitmap 32 → length u.slots + headroom_if_any (size_if_any left (size_in node_sizes tier)) ≤
+    length v.slots + child_headroom k)
+    → (reading : List ℕ → Option Node) (paths : List (List ℕ)) (p : List ℕ) (n leaf : Node) →
+    NodesHold node_sizes reading paths v → IsSlot reading p slot → reading p ≡ Some n → reading (p ++ c ∷ []) ≡ Some leaf →
+    rank leaf.child_bitmap 32 ≡ 0
+    → ChildDropped reading paths p c n m v v2
+children_dropped v u v2 slot place c tier start bitmap k m read sets m_is keeps cut place_is digit v2_is shrinks lengthens fits turned steps reading paths p n
+    leaf hold stands is below bare =
+    let at = slot_holds node_sizes reading paths v hold p slot n stands is in
+    let same : k ≡ n = read ∙ at.0 in
+    let here : reading p ≡ Some k = is ∙ ap Some (sym same) in
+    let size : (tier_at v.tiers tier).size ≡ size_in node_sizes tier = size_at v.tiers tier ∙ ap (λ ns. size_in ns tier) hold.sizes_are in
+    let bits_are : m.child_bitmap ≡ bitmap = ap (λ (y : Node). y.child_bitmap) m_is in
+    let gone : has_bit m.child_bitmap c ≡ false = ap (λ y. has_bit y c) bits_are ∙ cleared bitmap k.child_bitmap c sets digit in
+    let stay : (i : ℕ) → i ≢ c → has_bit m.child_bitmap i ≡ has_bit k.child_bitmap i = λ i ne. ap (λ y. has_bit y i) bits_are
+    ∙ others_stay bitmap k.child_bitmap c sets digit i ne in
+    let live : List (Block Node) = flat_map (child_blocks node_sizes reading) (without p paths) in
+    let left = cut (size_in node_sizes k.child_tier) (child_items reading p k.child_bitmap) live
+    (own_first node_sizes reading paths v hold p k here) (rank-all (λ d. node_or_blank (reading (p ++ d ∷ []))) k.child_bitmap) in
+    let tier_is : m.child_tier ≡ tier = ap (λ (y : Node). y.child_tier) m_is in
+    let start_is : m.child_block ≡ start = ap (λ (y : Node). y.child_block) m_is in
+    let sound : Sound blank_node (held m.child_tier m.child_block (size_in node_sizes m.child_tier)
+    (remove (child_items reading p k.child_bitmap) (rank k.child_bitmap c)) ++ live) u =
+    subst (λ (bs : List (Block Node)). Sound blank_node (bs ++ live) u)
+    (λ i. held (sym tier_is i) (sym start_is i) ((size ∙ ap (size_in node_sizes) (sym tier_is)) i)
+    (remove (child_items reading p k.child_bitmap) (place_is i))) left in
+    let fewer_here : rank m.child_bitmap 32 + 1 ≡ rank k.child_bitmap 32 =
+    ap (λ y. rank y 32 + 1) bits_are ∙ one_fewer bitmap k.child_bitmap c sets digit in
+    let later = subst (λ y. NodesHold node_sizes (lacking_child reading p m c) (without (p ++ c ∷ []) paths) y) (sym v2_is)
+    (child_removed node_sizes reading paths v hold p slot k m leaf c u stands here digit below (λ i. no_bit leaf.child_bitmap i bare) gone stay
+    (keeps.first_is ∙ hold.first_is) (keeps.sizes ∙ hold.sizes_are) (keeps.before 0 blank_node (let f = hold.first_is in omega arith)) sound) in
+    record {
+      hold = later;
+      values = record {
+        bitmap = ap (λ (y : Node). y.value_bitmap) m_is ∙ ap (λ (y : Node). y.value_bitmap) same;
+        block = ap (λ (y : Node). y.value_block) m_is ∙ ap (λ (y : Node). y.value_block) same;
+        tier = ap (λ (y : Node). y.value_tier) m_is ∙ ap (λ (y : Node). y.value_tier) same;
+      };
+      fits = subst (λ (y : Node). (y.child_tier < 7) × (rank y.child_bitmap 32 ≤ size_in node_sizes y.child_tier)) same fits;
+      fewer = fewer_here ∙ ap (λ (y : Node). rank y.child_bitmap 32) same;
+      shrinks = subst (λ t. Shrinks v.tiers n.child_tier (rank n.child_bitmap 32) t) (sym tier_is)
+          (subst (λ (y : Node). Shrinks v.tiers y.child_tier (rank y.child_bitmap 32) tier) same shrinks);
+      longer = subst (λ t. MayLengthen node_sizes v v2 (rank m.child_bitmap 32) n.child_tier t) (sym tier_is)
+          (subst (λ (y : Node). MayLengthen node_sizes v v2 (rank m.child_bitmap 32) y.child_tier tier) same
+          (subst (λ (y : Store Node). MayLengthen node_sizes v y (rank m.child_bitmap 32) k.child_tier tier) (sym v2_is)
+          (lengthens_written v u (rank m.child_bitmap 32) k.child_tier tier slot m (lengthens (rank m.child_bitmap 32) fewer_here))));
+      made = subst (λ t. MakesEntered node_sizes v v2 (child_block_size (Some n)) (size_if_any (rank m.child_bitmap 32) (size_in node_sizes t))) (sym tier_is)
+          (subst (λ (y : Node). MakesEntered node_sizes v v2 (child_block_size (Some y)) (size_if_any (rank m.child_bitmap 32) (size_in node_sizes tier))) same
+          (subst (λ (y : Store Node). MakesEntered node_sizes v y (child_block_size (Some k)) (size_if_any (rank m.child_bitmap 32) (size_in node_sizes tier))) (sym v2_is)
+          (λ j inside. turned j ∙ ap (λ x. (tier_at v.tiers j).made + x)
+          (entered_is v.tiers node_sizes hold.sizes_are refl nodes_apart k.child_tier (rank k.child_bitmap 32) tier (rank m.child_bitmap 32)
+          fewer_here fits.0 shrinks j inside))));
+      settles = child_settles reading paths v v2 p c n m leaf hold is below later
+          (ap (λ (y : Node). value_block_size (Some y)) m_is ∙ ap (λ (y : Node). value_block_size (Some y)) same)
+          (let down = steps (rank m.child_bitmap 32) fewer_here in
+          let long : length v2.slots ≡ length u.slots = ap (λ (y : Store Node). length y.slots) v2_is ∙ length-set u.slots slot m in
+          let now : child_headroom m ≡ headroom_if_any (size_if_any (rank m.child_bitmap 32) (size_in node_sizes tier)) =
+          ap (λ t. headroom_if_any (size_if_any (rank m.child_bitmap 32) (size_in node_sizes t))) tier_is in
+          let was : child_headroom k ≡ child_headroom n = ap child_headroom same in omega (arith, down, long, now, was));
+    }
+
+-- where the last child went, no block was made or taken
+pub gives_back : {S : Type 0} (v w : Store S) (k count to : ℕ) (gave : ℕ → ℕ) → Keeps v w
+    → Turnover v w (blocks_entered v.tiers k count to) (one_at (tier_entered k count to)) gave → count ≤ 1 → GivesBack v w
+gives_back v w k count to gave keeps turned few = record {
+  room = same_room v w k count to _ _ keeps turned few;
+  sizes = keeps.sizes;
+  free = λ j. (let f = turned.free_is j in let e = left_none k count to j few in omega arith);
+  made = λ j. (let m = turned.made_is j in let e = left_none k count to j few in omega arith);
+}
+
+-- a node written leaves the room and the free blocks
+pub gives_written : {S : Type 0} (v w x : Store S) (slot : ℕ) (m : S) → GivesBack v w → x ≡ record w { slots = set w.slots slot m } → GivesBack v x
+gives_written v w x slot m back e = subst (λ y. GivesBack v y) (sym e) (record {
+  room = (length-set w.slots slot m ∙ back.room.0, back.room.1, back.room.2);
+  sizes = back.sizes;
+  free = back.free;
+  made = back.made;
+})
+
+pub grows_written : {S : Type 0} (v w x : Store S) (slot : ℕ) (m : S) (most : ℕ) → Grows v w most → x ≡ record w { slots = set w.slots slot m } → Grows v x most
+grows_written v w x slot m most grows e = subst (λ y. Grows v y most) (sym e) (record {
+  first_is = grows.first_is;
+  limit_is = grows.limit_is;
+  longer = (let l = length-set w.slots slot m in let h = grows.longer in omega arith);
+  at_most = (let l = length-set w.slots slot m in let h = grows.at_most in omega arith);
+  within = λ h. (let l = length-set w.slots slot m in let k = grows.within h in omega (arith, l, k));
+  made = grows.made;
+})
+
+-- what is given back, and then more
+pub gives_same : {S : Type 0} (v : Store S) → GivesBack v v
+gives_same v = record { room = (refl, refl, refl); sizes = refl; free = λ j. omega arith; made = λ j. refl }
+
+pub gives_then : {S : Type 0} (v w x : Store S) → GivesBack v w → GivesBack w x → GivesBack v x
+gives_then v w x a b = record {
+  room = (b.room.0 ∙ a.room.0, b.room.1 ∙ a.room.1, b.room.2 ∙ a.room.2);
+  sizes = b.sizes ∙ a.sizes;
+  free = λ j. (let f = a.free j in let h = b.free j in omega arith);
+  made = λ j. b.made j ∙ a.made j;
+}

@@ -1,0 +1,224 @@
+-- That the calls that take values and nodes out raise nothing that the arrays may reach.
+use Rattle.std.proofs.Common.{◌≡◌, inl, inr, Bool, true, not, ℕ, zero, suc, ◌+◌, ◌-◌, ◌*◌, ◌<◌, ◌≤◌, nat_lt, List, [], ◌∷◌, ◌++◌, length, take, get_or, set, sum_by, All, Option, None, Some, is_some, refl, sym, ap, ap₂, ◌∙◌, subst, arith, lit≤}
+use Rattle.std.proofs.lemmas.List.{length-set}
+use Rattle.std.proofs.lemmas.List.Elements.{All-nil, All-cons}
+use Rattle.std.proofs.lemmas.List.Filters.{sum_by-filter_both}
+use Rattle.std.proofs.lemmas.List.Sums.{sum_by-le, sum_by-set, sum_by_more}
+use Rattle.std.specs.FinMap.{len, empty_of_len, get-empty}
+use Rattle.std.proofs.lemmas.Bool.{false≢true, cases_lt}
+use Rattle.prefix_trie_bits.specs.Order.{listing_cmp}
+use Rattle.prefix_trie_bits.specs.Model.Nodes.{Nodes, has_node}
+use Rattle.prefix_trie_bits.specs.Model.Step.{State}
+use Rattle.prefix_trie_table.specs.declared.allocator.node.Node.{Node}
+use Rattle.prefix_trie_table.specs.Cells.{blank_node, node_at, node_sizes, cell_sizes}
+use Rattle.prefix_trie_table.specs.OwnBlocks.{size_if_any, child_block_size, value_block_size}
+use Rattle.prefix_trie_table.specs.Store.{Store, size_in}
+use Rattle.prefix_trie_table.specs.Forest.{without, node_or_blank, lacking_child, NodesHold}
+use Rattle.prefix_trie_table.specs.Shape.{IsShapeOf}
+use Rattle.prefix_trie_table.specs.Tables.{IsTable}
+use Rattle.prefix_trie_table.specs.Settling.{smaller_sizes, headroom, headroom_if_any, child_headroom, value_headroom, node_reach, cell_reach, Settles, NodesSettle}
+use Rattle.prefix_trie_table.proofs.Tree.Invariant.{some_table}
+use Rattle.prefix_trie_table.proofs.Strings.BitLists.{rank-zero-all}
+use Rattle.prefix_trie_table.proofs.Tree.Trees.{listed_once}
+use Rattle.prefix_trie_table.proofs.Strings.PathSums.{sum_lacking}
+use Rattle.prefix_trie_table.proofs.Counts.NodeCounts.{weight, slots_by_path}
+use Rattle.prefix_trie_table.proofs.Strings.PathStrings.{paths_counted}
+use Rattle.prefix_trie_table.proofs.Tree.Shapes.{shape_nodes}
+
+-- ---- the sizes below a tier
+
+headroom-most : (size : ℕ) → headroom size ≤ 55
+unfolding headroom
+headroom-most size =
+    let both = sum_by-filter_both (λ n. nat_lt n size) (λ n. not (nat_lt n size)) (λ n. refl) (λ n. n) smaller_sizes in
+    omega (arith, both)
+
+if_any-most : (o : Option ℕ) → headroom_if_any o ≤ 55
+if_any-most None = omega arith
+if_any-most (Some size) = headroom-most size
+
+-- a blank node has no block
+pub no_children : child_headroom blank_node ≡ 0
+no_children = ap (λ n. headroom_if_any (size_if_any n (size_in node_sizes 0))) rank-zero-all
+
+pub no_own_values : value_headroom blank_node ≡ 0
+no_own_values = ap (λ n. headroom_if_any (size_if_any n (size_in cell_sizes 0))) rank-zero-all
+
+-- the slots of one block of each tier below tier k
+unfoldable pub tier_headroom : ℕ → ℕ
+tier_headroom k = sum_by (λ n. n) (take k smaller_sizes)
+
+tier-more : (k : ℕ) → k ≤ 5 → tier_headroom (k + 1) ≡ tier_headroom k + get_or smaller_sizes k 0
+unfolding tier_headroom
+tier-more k h = sum_by_more (λ n. n) smaller_sizes k 0 (omega (arith, h))
+
+-- the sizes of the seven tiers rise
+pub headroom_node : (k : ℕ) → k < 7 → headroom (size_in node_sizes k) ≡ tier_headroom k
+unfolding headroom tier_headroom
+headroom_node zero h = refl
+headroom_node (suc zero) h = refl
+headroom_node (suc (suc zero)) h = refl
+headroom_node (suc (suc (suc zero))) h = refl
+headroom_node (suc (suc (suc (suc zero)))) h = refl
+headroom_node (suc (suc (suc (suc (suc zero))))) h = refl
+headroom_node (suc (suc (suc (suc (suc (suc zero)))))) h = refl
+headroom_node (suc (suc (suc (suc (suc (suc (suc n))))))) h = absurd (omega (arith, h))
+
+pub headroom_cell : (k : ℕ) → k < 7 → headroom (size_in cell_sizes k) ≡ tier_headroom k
+unfolding headroom tier_headroom
+headroom_cell zero h = refl
+headroom_cell (suc zero) h = refl
+headroom_cell (suc (suc zero)) h = refl
+headroom_cell (suc (suc (suc zero))) h = refl
+headroom_cell (suc (suc (suc (suc zero)))) h = refl
+headroom_cell (suc (suc (suc (suc (suc zero))))) h = refl
+headroom_cell (suc (suc (suc (suc (suc (suc zero)))))) h = refl
+headroom_cell (suc (suc (suc (suc (suc (suc (suc n))))))) h = absurd (omega (arith, h))
+
+-- the sizes of nodes and of values are the same but for the largest
+pub smaller_node : (k : ℕ) → k ≤ 5 → size_in node_sizes k ≡ get_or smaller_sizes k 0
+smaller_node zero h = refl
+smaller_node (suc zero) h = refl
+smaller_node (suc (suc zero)) h = refl
+smaller_node (suc (suc (suc zero))) h = refl
+smaller_node (suc (suc (suc (suc zero)))) h = refl
+smaller_node (suc (suc (suc (suc (suc zero))))) h = refl
+smaller_node (suc (suc (suc (suc (suc (suc n)))))) h = absurd (omega (arith, h))
+
+pub smaller_cell : (k : ℕ) → k ≤ 5 → size_in cell_sizes k ≡ get_or smaller_sizes k 0
+smaller_cell zero h = refl
+smaller_cell (suc zero) h = refl
+smaller_cell (suc (suc zero)) h = refl
+smaller_cell (suc (suc (suc zero))) h = refl
+smaller_cell (suc (suc (suc (suc zero)))) h = refl
+smaller_cell (suc (suc (suc (suc (suc zero))))) h = refl
+smaller_cell (suc (suc (suc (suc (suc (suc n)))))) h = absurd (omega (arith, h))
+
+pub smaller_few : (k : ℕ) → k ≤ 5 → get_or smaller_sizes k 0 ≤ 24
+smaller_few zero h = lit≤ tt
+smaller_few (suc zero) h = lit≤ tt
+smaller_few (suc (suc zero)) h = lit≤ tt
+smaller_few (suc (suc (suc zero))) h = lit≤ tt
+smaller_few (suc (suc (suc (suc zero)))) h = lit≤ tt
+smaller_few (suc (suc (suc (suc (suc zero))))) h = lit≤ tt
+smaller_few (suc (suc (suc (suc (suc (suc n)))))) h = absurd (omega (arith, h))
+
+tier-rises : (k d : ℕ) → k + d ≤ 6 → tier_headroom k ≤ tier_headroom (k + d)
+tier-rises k zero h = let e : tier_headroom (k + 0) ≡ tier_headroom k = ap tier_headroom (let z : k + 0 ≡ k = omega arith in z) in omega (arith, e)
+tier-rises k (suc d) h =
+    let rest : tier_headroom k ≤ tier_headroom (k + d) = tier-rises k d (omega arith) in
+    let more : tier_headroom (k + d + 1) ≡ tier_headroom (k + d) + get_or smaller_sizes (k + d) 0 = tier-more (k + d) (omega arith) in
+    let same : tier_headroom (k + suc d) ≡ tier_headroom (k + d + 1) = ap tier_headroom (let e : k + suc d ≡ k + d + 1 = omega arith in e) in
+    omega (arith, rest, more, same)
+
+-- a block of a smaller tier is one of those below the tier, beside those below its own
+pub headroom-step : (to k size : ℕ) → to < k → k < 7 → size ≡ get_or smaller_sizes to 0 → tier_headroom to + size ≤ tier_headroom k
+headroom-step to k size less seven is =
+    let up : tier_headroom (to + 1) ≤ tier_headroom (to + 1 + (k - (to + 1))) = tier-rises (to + 1) (k - (to + 1)) (omega arith) in
+    let same : tier_headroom (to + 1 + (k - (to + 1))) ≡ tier_headroom k = ap tier_headroom (let e : to + 1 + (k - (to + 1)) ≡ k = omega arith in e) in
+    let more = tier-more to (omega arith) in
+    omega (arith, up, same, more, is)
+
+-- ---- one after another
+
+module _ {T : Type 0} where
+  pub Settles-none : (v v2 : Store Node) (w w2 : Store (Option T)) → v2 ≡ v → w2 ≡ w → Settles v v2 w w2
+  Settles-none v v2 w w2 ev ew = record {
+    nodes = (let e : node_reach v2 ≡ node_reach v = ap node_reach ev in omega (arith, e));
+    cells = (let e : cell_reach v2 w2 ≡ cell_reach v w = ap₂ cell_reach ev ew in omega (arith, e));
+  }
+
+  pub Settles-then : (v v2 v3 : Store Node) (w w2 w3 : Store (Option T)) → Settles v v2 w w2 → Settles v2 v3 w2 w3 → Settles v v3 w w3
+  Settles-then v v2 v3 w w2 w3 a b = record {
+    nodes = (let x = a.nodes in let y = b.nodes in omega (arith, x, y));
+    cells = (let x = a.cells in let y = b.cells in omega (arith, x, y));
+  }
+
+  -- the nodes alone
+  pub Settles-nodes : (v v2 v3 : Store Node) (w w2 : Store (Option T)) → Settles v v2 w w2 → NodesSettle v2 v3 → Settles v v3 w w2
+  Settles-nodes v v2 v3 w w2 a b = record {
+    nodes = (let x = a.nodes in let y = b.nodes in omega (arith, x, y));
+    cells = (let x = a.cells in let y = b.values in omega (arith, x, y));
+  }
+
+pub NodesSettle-none : (v : Store Node) → NodesSettle v v
+NodesSettle-none v = record { nodes = omega arith; values = omega arith }
+
+pub NodesSettle-then : (v v2 v3 : Store Node) → NodesSettle v v2 → NodesSettle v2 v3 → NodesSettle v v3
+NodesSettle-then v v2 v3 a b = record {
+  nodes = (let x = a.nodes in let y = b.nodes in omega (arith, x, y));
+  values = (let x = a.values in let y = b.values in omega (arith, x, y));
+}
+
+-- ---- a value is gone
+
+-- the node in a slot was written over by one with the same children, whose values' block is no larger
+pub value_settles : {T : Type 0} (v v2 : Store Node) (w w2 : Store (Option T)) (slot : ℕ) (k m : Node) → k ≡ node_at v.slots slot → slot < length v.slots →
+    v2 ≡ record v { slots = set v.slots slot m } → child_block_size (Some m) ≡ child_block_size (Some k) →
+    length w2.slots + value_headroom m ≤ length w.slots + value_headroom k → Settles v v2 w w2
+value_settles v v2 w w2 slot k m read inside v2_is same shrunk =
+    let children = sum_by-set child_headroom v.slots slot m blank_node inside in
+    let values = sum_by-set value_headroom v.slots slot m blank_node inside in
+    let long = length-set v.slots slot m in
+    let child_is : child_headroom (node_at v.slots slot) ≡ child_headroom m = ap child_headroom (sym read) ∙ ap headroom_if_any (sym same) in
+    let value_is : value_headroom (node_at v.slots slot) ≡ value_headroom k = ap value_headroom (sym read) in
+    subst (λ u. Settles v u w w2) (sym v2_is) (record {
+      nodes = omega (arith, children, long, child_is);
+      cells = omega (arith, values, value_is, shrunk);
+    })
+
+-- ---- a child is gone
+
+module _ (nodes : List ℕ → Option Node) (paths : List (List ℕ)) (v v2 : Store Node) (p : List ℕ) (c : ℕ) (n m leaf : Node)
+    (hold : NodesHold node_sizes nodes paths v) (is : nodes p ≡ Some n) (below : nodes (p ++ c ∷ []) ≡ Some leaf)
+    (later : NodesHold node_sizes (lacking_child nodes p m c) (without (p ++ c ∷ []) paths) v2) where
+  -- the sum over the slots changes by that node and loses the child
+  dropped_sum : (f : Node → ℕ) → f blank_node ≡ 0 → sum_by f v2.slots + f n ≤ sum_by f v.slots + f m
+  dropped_sum f none =
+      let before = slots_by_path f none node_sizes nodes paths v hold in
+      let after = slots_by_path f none node_sizes (lacking_child nodes p m c) (without (p ++ c ∷ []) paths) v2 later in
+      let change = sum_lacking (λ o. f (node_or_blank o)) nodes paths p c n m leaf is below (listed_once node_sizes nodes paths v hold p n is)
+      (listed_once node_sizes nodes paths v hold (p ++ c ∷ []) leaf below) in
+      omega (arith, before, after, change)
+
+  -- the node n at p, now m, lost its child c, and its children's block is no larger
+  pub child_settles : value_block_size (Some m) ≡ value_block_size (Some n) →
+      length v2.slots + child_headroom m ≤ length v.slots + child_headroom n → NodesSettle v v2
+  child_settles same shrunk =
+      let children = dropped_sum child_headroom no_children in
+      let values = dropped_sum value_headroom no_own_values in
+      let own : value_headroom m ≡ value_headroom n = ap headroom_if_any same in
+      record { nodes = omega (arith, children, shrunk); values = omega (arith, values, own) }
+
+-- ---- what all nodes may still make
+
+-- no node makes more than a block of each smaller size
+headroom_bound : (f : Node → ℕ) → f blank_node ≡ 0 → ((n : Node) → f n ≤ 55) → (nodes : List ℕ → Option Node) (paths : List (List ℕ)) (v : Store Node) →
+    NodesHold node_sizes nodes paths v → sum_by f v.slots ≤ 55 * length paths
+headroom_bound f none few nodes paths v hold =
+    let all = slots_by_path f none node_sizes nodes paths v hold in
+    let most = sum_by-le (weight f none node_sizes nodes) 55 paths (each paths) in
+    omega (arith, all, most)
+  where
+    each : (xs : List (List ℕ)) → All (λ q. weight f none node_sizes nodes q ≤ 55) xs
+    each [] = All-nil (λ q. weight f none node_sizes nodes q ≤ 55)
+    each (x ∷ xs) = All-cons (λ q. weight f none node_sizes nodes q ≤ 55) x xs (few (node_or_blank (nodes x))) (each xs)
+
+-- there is a node where one is at a string
+pub some_nodes : (n : Nodes) (s : List Bool) → has_node n s ≡ true → 0 < len n
+some_nodes n s there = elim (cases_lt 0 (len n)) as (λ _. 0 < len n) [
+  | inl more ↦ more
+  | inr none ↦ absurd (false≢true (sym (ap (λ (m : Nodes). has_node m s) (empty_of_len n (omega (arith, none))) ∙ ap is_some (get-empty listing_cmp s)) ∙ there))
+]
+
+-- so arrays that settle grow by so many slots for each node that there was
+pub settled_room : {T : Type 0} (v v2 : Store Node) (w w2 : Store (Option T)) (count : ℕ) (s : State T) → IsTable v w count s → IsShapeOf v.slots w.slots s →
+    Settles v v2 w w2 → (length v2.slots ≤ length v.slots + 56 * len s.nodes) × (length w2.slots ≤ length w.slots + 56 * len s.nodes)
+settled_room v v2 w w2 count s is shaped settles =
+    let t = some_table is in
+    let children = headroom_bound child_headroom no_children (λ n. if_any-most (child_block_size (Some n))) t.reading t.paths v t.holds.hold in
+    let values = headroom_bound value_headroom no_own_values (λ n. if_any-most (value_block_size (Some n))) t.reading t.paths v t.holds.hold in
+    let number = paths_counted _ t.reading t.paths v t.holds.hold s.nodes (shape_nodes t.reading t.values t.paths v w t.holds s shaped) in
+    let x = settles.nodes in
+    let y = settles.cells in
+    (omega (arith, children, number, x), omega (arith, values, number, y))

@@ -1,0 +1,323 @@
+-- What contracts see of the sizes of blocks after a removal.
+use Rattle.std.proofs.Common.{◌≡◌, ℕ, ◌*◌, ◌%◌, ◌≤◌, inl, inr, Bool, true, cond, ◌&&◌, List, length, take, Option, None, Some, is_some, refl, sym, ap, ◌∙◌, subst, arith, eq-eqb}
+use Rattle.std.proofs.lemmas.Bool.{cases_Bool}
+use Rattle.std.proofs.lemmas.List.{length-take-le}
+use Rattle.std.specs.FinMap.{get}
+use Rattle.prefix_trie_bits.specs.Model.Blocks.{Sizes, StepsDown, SizesStepDown, StepsBetween, SizesStepBetween, made_of, value_block_sizes, child_block_sizes, own_entries, child_count}
+use Rattle.prefix_trie_bits.specs.Model.Nodes.{Nodes, has_node, is_node_depth, home}
+use Rattle.prefix_trie_bits.specs.Model.Step.{State}
+use Rattle.prefix_trie_bits.specs.Model.Storage.{RemovesValueInStorage, PrunesInStorage}
+use Rattle.prefix_trie_bits.proofs.Model.Homes.{home-depth}
+use Rattle.prefix_trie_bits.proofs.Model.Members.{and-first, same_entries}
+use Rattle.prefix_trie_table.specs.declared.allocator.node.Node.{Node}
+use Rattle.prefix_trie_table.specs.Cells.{node_sizes, cell_sizes}
+use Rattle.prefix_trie_table.specs.Digits.{path_of, bit_of}
+use Rattle.prefix_trie_table.specs.Forest.{Holds, SomeTable, has_child, has_value, own_count, read, with_value}
+use Rattle.prefix_trie_table.specs.Layouts.{AreSizesBy, Sized, own_children, child_block_size, value_block_size, free_counts}
+use Rattle.prefix_trie_table.specs.Removals.{EntryTaken, EntryRemoved}
+use Rattle.prefix_trie_table.specs.Retaining.{ValuesBetween, ChildrenBetween}
+use Rattle.prefix_trie_table.specs.Shape.{IsShapeOf, Shaped}
+use Rattle.prefix_trie_table.specs.Store.{Store}
+use Rattle.prefix_trie_table.specs.Tables.{IsTable, ForHeld}
+use Rattle.prefix_trie_table.proofs.Strings.Plain.{fifths}
+use Rattle.prefix_trie_table.proofs.Tree.Invariant.{some_table}
+use Rattle.prefix_trie_table.proofs.Strings.Bare.{no_bit}
+use Rattle.prefix_trie_table.proofs.Strings.BitLists.{rank-zero-all}
+use Rattle.prefix_trie_table.proofs.Strings.Digits.{path-length, path-take}
+use Rattle.prefix_trie_table.proofs.Counts.OwnCounts.{children_counted, values_counted}
+use Rattle.prefix_trie_table.proofs.Removal.Removed.{home_path, pruned_holds}
+use Rattle.prefix_trie_table.proofs.Tree.Shapes.{shape_entries, shape_nodes}
+use Rattle.prefix_trie_table.proofs.Removal.Stepping.{ValuesStep, ChildrenStep, steps_read, children_kept, taken_gone, taken_values, taken_children, taken_grows, drops_gone, drops_values, pruned_children, pruned_grows, GrowsByOne, GrowsAtMost, grows_same, grows_not}
+use Rattle.prefix_trie_table.proofs.Blocks.BySize.{blocks_made, blocks_at_most, nodes_cut, cells_cut}
+use Rattle.prefix_trie_table.proofs.Blocks.Sizing.{storage_of}
+use Rattle.prefix_trie_table.proofs.Tree.Trees.{reads, is_none-None}
+
+-- the size by the string of a node is that by its path
+pub size_read : (size : Option Node → Option ℕ) (nodes : List Node) (f : List ℕ → Option Node) (m : Sizes) →
+    AreSizesBy size nodes m → ((x : List ℕ) → read nodes x ≡ f x) → (p : List Bool) → is_node_depth p ≡ true → get m p ≡ size (f (path_of p))
+size_read size nodes f m m_are reading_is p depth =
+    m_are p ∙ ap (λ b. cond b (size (read nodes (path_of p))) None) depth ∙ ap size (reading_is (path_of p))
+
+-- the sizes by the strings of nodes step down where those by paths do
+module _ (size : Option Node → Option ℕ) (count : Option Node → ℕ) (sizes free : List ℕ) (reading later : List ℕ → Option Node)
+    (step : (x : List ℕ) → StepsDown sizes free (count (reading x)) (count (later x)) (size (reading x)) (size (later x)))
+    (gone : (x : List ℕ) → reading x ≡ None → later x ≡ None) (none : size None ≡ None) (v v2 : List Node)
+    (reads_old : (x : List ℕ) → read v x ≡ reading x) (reads_new : (x : List ℕ) → read v2 x ≡ later x)
+    (n : Nodes) (are : (p : List Bool) → has_node n p ≡ (is_node_depth p && is_some (reading (path_of p)))) (before after : List Bool → ℕ)
+    (had : (p : List Bool) → is_node_depth p ≡ true → before p ≡ count (reading (path_of p)))
+    (has : (p : List Bool) → is_node_depth p ≡ true → after p ≡ count (later (path_of p)))
+    (old new : Sizes) (old_are : AreSizesBy size v old) (new_are : AreSizesBy size v2 new) where
+  pub sizes_step_down : SizesStepDown sizes free n before after old new
+  sizes_step_down = record {
+    at_nodes = λ p there.
+        let depth = and-first (is_node_depth p) (is_some (reading (path_of p))) (sym (are p) ∙ there) in
+        steps_read sizes free (count (reading (path_of p))) (before p) (count (later (path_of p))) (after p) (size (reading (path_of p))) (get old p)
+        (size (later (path_of p))) (get new p) (had p depth) (has p depth) (size_read size v reading old old_are reads_old p depth)
+        (size_read size v2 later new new_are reads_new p depth) (step (path_of p));
+    elsewhere = λ p lacks. elim (cases_Bool (is_node_depth p)) as (λ _. get new p ≡ None) [
+      | inl depth ↦
+          size_read size v2 later new new_are reads_new p depth
+          ∙ ap size (gone (path_of p) (is_none-None (reading (path_of p)) (sym (ap (λ b. b && is_some (reading (path_of p))) depth) ∙ sym (are p) ∙ lacks)))
+          ∙ none
+      | inr other ↦ new_are p ∙ ap (λ b. cond b (size (read v2 (path_of p))) None) other
+    ];
+  }
+
+-- the counts of the model are those of the nodes
+module _ {T : Type 0} (reading : List ℕ → Option Node) (values : List ℕ → ℕ → Option T) (paths : List (List ℕ)) (v : Store Node)
+    (w : Store (Option T)) (holds : Holds reading values paths v w) (s : State T) (is : IsShapeOf v.slots w.slots s) where
+  pub own_is : (p : List Bool) → is_node_depth p ≡ true → own_entries s.entries p ≡ own_count (reading (path_of p))
+  own_is p depth = by (reading (path_of p)) refl
+    where
+      by : (o : Option Node) → reading (path_of p) ≡ o → own_entries s.entries p ≡ own_count (reading (path_of p))
+      by None e =
+          values_counted node_sizes reading paths v holds.hold p depth values w cell_sizes holds.cells s.entries
+          (shape_entries reading values paths v w holds s is) 0 (λ b. ap (λ o. has_value o b) e ∙ sym (no_bit 0 b rank-zero-all))
+          ∙ rank-zero-all ∙ sym (ap own_count e)
+      by (Some n) e =
+          values_counted node_sizes reading paths v holds.hold p depth values w cell_sizes holds.cells s.entries
+          (shape_entries reading values paths v w holds s is) n.value_bitmap (λ b. ap (λ o. has_value o b) e) ∙ sym (ap own_count e)
+
+  pub children_is : (p : List Bool) → is_node_depth p ≡ true → child_count s.nodes p ≡ own_children (reading (path_of p))
+  children_is p depth = by (reading (path_of p)) refl
+    where
+      by : (o : Option Node) → reading (path_of p) ≡ o → child_count s.nodes p ≡ own_children (reading (path_of p))
+      by None e =
+          children_counted node_sizes reading paths v holds.hold p depth s.nodes (shape_nodes reading values paths v w holds s is) 0
+          (λ c. ap (λ o. has_child o c) e ∙ sym (no_bit 0 c rank-zero-all)) ∙ rank-zero-all ∙ sym (ap own_children e)
+      by (Some n) e =
+          children_counted node_sizes reading paths v holds.hold p depth s.nodes (shape_nodes reading values paths v w holds s is) n.child_bitmap
+          (λ c. ap (λ o. has_child o c) e) ∙ sym (ap own_children e)
+
+-- what a removal at a path leaves, by path
+record Left {T : Type 0} (reading : List ℕ → Option Node) (path : List ℕ) (v : Store Node) (w : Store (Option T)) (v2 : Store Node) (w2 : Store (Option T)) : Type 0 where
+  pub later : List ℕ → Option Node
+  pub found : List ℕ → ℕ → Option T
+  pub paths : List (List ℕ)
+  pub holds : Holds later found paths v2 w2
+  pub gone : (x : List ℕ) → reading x ≡ None → later x ≡ None
+  pub values : (x : List ℕ) → ValuesStep (free_counts w.tiers) (reading x) (later x)
+  pub children : (x : List ℕ) → ChildrenStep (free_counts v.tiers) (reading x) (later x)
+  pub of_cells : GrowsByOne cell_sizes w w2 (value_block_size (reading path)) (value_block_size (later path))
+  pub stop : ℕ
+  pub stop_within : stop ≤ length path
+  pub of_nodes : GrowsAtMost node_sizes v v2 (child_block_size (reading (take stop path))) (child_block_size (later (take stop path)))
+
+module _ {T : Type 0} (reading : List ℕ → Option Node) (values : List ℕ → ℕ → Option T) (paths : List (List ℕ)) (v : Store Node)
+    (w : Store (Option T)) (holds : Holds reading values paths v w) (key : List Bool) (v2 : Store Node) (w2 : Store (Option T)) where
+  abbrev set_here : is_some (values (path_of key) (bit_of key)) ≡ has_value (reading (path_of key)) (bit_of key)
+  set_here = holds.cells.set_where (path_of key) (bit_of key)
+
+  left_taken : EntryTaken reading paths values (path_of key) (bit_of key) v2 w w2 → length v2.slots ≡ length v.slots → v2.tiers ≡ v.tiers →
+      Left reading (path_of key) v w v2 w2
+  left_taken t long tiers = record {
+    later = t.later;
+    found = with_value values (path_of key) (bit_of key) None;
+    paths = paths;
+    holds = t.holds;
+    gone = taken_gone reading paths values (path_of key) (bit_of key) v2 w w2 t set_here;
+    values = taken_values reading paths values (path_of key) (bit_of key) v2 w w2 t set_here holds.cells.sizes_are;
+    children = λ x. children_kept (free_counts v.tiers) (reading x) (t.later x)
+        (taken_children reading paths values (path_of key) (bit_of key) v2 w w2 t set_here x);
+    of_cells = taken_grows reading paths values (path_of key) (bit_of key) v2 w w2 t set_here holds.cells.sizes_are;
+    stop = 0;
+    stop_within = omega arith;
+    of_nodes = grows_not node_sizes v v2 _ _ tiers long;
+  }
+
+  left_removed : (s : State T) → IsShapeOf v.slots w.slots s → EntryRemoved reading paths values (path_of key) (bit_of key) v w v2 w2 →
+      Left reading (path_of key) v w v2 w2
+  left_removed s is (inl (missing, same, t)) = left_taken t (ap (λ (x : Store Node). length x.slots) same) (ap (λ (x : Store Node). x.tiers) same)
+  left_removed s is (inr (u, there, t, p, long, tiers)) = record {
+    later = p.to.later;
+    found = with_value values (path_of key) (bit_of key) None;
+    paths = p.to.left;
+    holds = pruned_holds key reading values paths v w holds s is there u v2 w2 t p;
+    gone = λ x e. drops_gone t.later paths p.to.later p.to.left p.to.drops x
+        (taken_gone reading paths values (path_of key) (bit_of key) u w w2 t set_here x e);
+    values = λ x.
+        let same = drops_values t.later paths p.to.later p.to.left p.to.drops x in
+        steps_read cell_sizes (free_counts w.tiers) (own_count (reading x)) (own_count (reading x)) (own_count (t.later x)) (own_count (p.to.later x))
+        (value_block_size (reading x)) (value_block_size (reading x)) (value_block_size (t.later x)) (value_block_size (p.to.later x)) refl same.0 refl same.1
+        (taken_values reading paths values (path_of key) (bit_of key) u w w2 t set_here holds.cells.sizes_are x);
+    children = λ x.
+        let same = taken_children reading paths values (path_of key) (bit_of key) u w w2 t set_here x in
+        steps_read node_sizes (free_counts v.tiers) (own_children (t.later x)) (own_children (reading x)) (own_children (p.to.later x))
+        (own_children (p.to.later x)) (child_block_size (t.later x)) (child_block_size (reading x)) (child_block_size (p.to.later x))
+        (child_block_size (p.to.later x)) (sym same.0) refl (sym same.1) refl
+        (subst (λ ts. ChildrenStep (free_counts ts) (t.later x) (p.to.later x)) tiers
+        (pruned_children t.later paths (path_of key) p.level p.node u v2 p.to t.holds.hold.sizes_are x));
+    of_cells =
+        subst (λ o. GrowsByOne cell_sizes w w2 (value_block_size (reading (path_of key))) o)
+        (sym (drops_values t.later paths p.to.later p.to.left p.to.drops (path_of key)).1)
+        (taken_grows reading paths values (path_of key) (bit_of key) u w w2 t set_here holds.cells.sizes_are);
+    stop = p.level;
+    stop_within = p.to.within;
+    of_nodes =
+        let path = take p.level (path_of key) in
+        subst (λ o. GrowsAtMost node_sizes v v2 o (child_block_size (p.to.later path)))
+        (taken_children reading paths values (path_of key) (bit_of key) u w w2 t set_here path).1
+        (grows_same node_sizes u v v2 _ _ tiers long (pruned_grows t.later paths (path_of key) p.level p.node u v2 p.to t.holds.hold.sizes_are));
+  }
+
+-- the sizes of the blocks of a table
+module _ {T : Type 0} (key : List Bool) (v v2 : Store Node) (w w2 : Store (Option T)) (count : ℕ) (s : Shaped v.slots w.slots) (z : Sized v.slots)
+    (is : IsTable v w count s.0) (s2 : Shaped v2.slots w2.slots) (z2 : Sized v2.slots) where
+  values_left : Left is.reading (path_of key) v w v2 w2 →
+      SizesStepDown value_block_sizes (free_counts w.tiers) s.0.nodes (own_entries s.0.entries) (own_entries s2.0.entries) z.1.0 z2.1.0
+  values_left l =
+      let t = some_table is in
+      sizes_step_down value_block_size own_count cell_sizes (free_counts w.tiers) t.reading l.later l.values l.gone refl v.slots v2.slots
+      (reads node_sizes t.reading t.paths v t.holds.hold) (reads node_sizes l.later l.paths v2 l.holds.hold) s.0.nodes
+      (shape_nodes t.reading t.values t.paths v w t.holds s.0 s.1) (own_entries s.0.entries) (own_entries s2.0.entries)
+      (own_is t.reading t.values t.paths v w t.holds s.0 s.1) (own_is l.later l.found l.paths v2 w2 l.holds s2.0 s2.1) z.1.0 z2.1.0 z.1.1.1 z2.1.1.1
+
+  children_left : Left is.reading (path_of key) v w v2 w2 →
+      SizesStepDown child_block_sizes (free_counts v.tiers) s.0.nodes (child_count s.0.nodes) (child_count s2.0.nodes) z.0 z2.0
+  children_left l =
+      let t = some_table is in
+      sizes_step_down child_block_size own_children node_sizes (free_counts v.tiers) t.reading l.later l.children l.gone refl v.slots v2.slots
+      (reads node_sizes t.reading t.paths v t.holds.hold) (reads node_sizes l.later l.paths v2 l.holds.hold) s.0.nodes
+      (shape_nodes t.reading t.values t.paths v w t.holds s.0 s.1) (child_count s.0.nodes) (child_count s2.0.nodes)
+      (children_is t.reading t.values t.paths v w t.holds s.0 s.1) (children_is l.later l.found l.paths v2 w2 l.holds s2.0 s2.1) z.0 z2.0 z.1.1.0 z2.1.1.0
+
+  cells_grow : Left is.reading (path_of key) v w v2 w2 →
+      GrowsByOne value_block_sizes w w2 (get z.1.0 (home key)) (get z2.1.0 (home key))
+  cells_grow l =
+      let t = some_table is in
+      let depth : is_node_depth (home key) ≡ true = eq-eqb (length (home key) % 5) 0 (home-depth key) in
+      let was : get z.1.0 (home key) ≡ value_block_size (t.reading (path_of key)) =
+      size_read value_block_size v.slots t.reading z.1.0 z.1.1.1 (reads node_sizes t.reading t.paths v t.holds.hold) (home key) depth
+      ∙ ap (λ x. value_block_size (t.reading x)) (home_path key) in
+      let now : get z2.1.0 (home key) ≡ value_block_size (l.later (path_of key)) =
+      size_read value_block_size v2.slots l.later z2.1.0 z2.1.1.1 (reads node_sizes l.later l.paths v2 l.holds.hold) (home key) depth
+      ∙ ap (λ x. value_block_size (l.later x)) (home_path key) in
+      subst (λ o. GrowsByOne value_block_sizes w w2 o (get z2.1.0 (home key))) (sym was)
+      (subst (λ o. GrowsByOne value_block_sizes w w2 (value_block_size (t.reading (path_of key))) o) (sym now) l.of_cells)
+
+  nodes_grow : Left is.reading (path_of key) v w v2 w2 →
+      (p : List Bool) × GrowsAtMost child_block_sizes v v2 (get z.0 p) (get z2.0 p)
+  nodes_grow l =
+      let t = some_table is in
+      let p : List Bool = take (5 * l.stop) key in
+      let inside : 5 * l.stop ≤ length key = fifths (length key) l.stop (length (path_of key)) l.stop_within (path-length key) in
+      let depth : is_node_depth (take (5 * l.stop) key) ≡ true =
+      eq-eqb (length (take (5 * l.stop) key) % 5) 0 (whole l.stop (length (take (5 * l.stop) key)) (length-take-le (5 * l.stop) key inside)) in
+      let path : path_of (take (5 * l.stop) key) ≡ take l.stop (path_of key) = path-take l.stop key inside in
+      let was : get z.0 (take (5 * l.stop) key) ≡ child_block_size (t.reading (take l.stop (path_of key))) =
+      size_read child_block_size v.slots t.reading z.0 z.1.1.0 (reads node_sizes t.reading t.paths v t.holds.hold) (take (5 * l.stop) key) depth
+      ∙ ap (λ x. child_block_size (t.reading x)) path in
+      let now : get z2.0 (take (5 * l.stop) key) ≡ child_block_size (l.later (take l.stop (path_of key))) =
+      size_read child_block_size v2.slots l.later z2.0 z2.1.1.0 (reads node_sizes l.later l.paths v2 l.holds.hold) (take (5 * l.stop) key) depth
+      ∙ ap (λ x. child_block_size (l.later x)) path in (
+        p,
+        subst (λ o. GrowsAtMost child_block_sizes v v2 o (get z2.0 (take (5 * l.stop) key))) (sym was)
+            (subst (λ o. GrowsAtMost child_block_sizes v v2 (child_block_size (t.reading (take l.stop (path_of key)))) o) (sym now) l.of_nodes),
+      )
+    where
+      whole : (k n : ℕ) → n ≡ 5 * k → n % 5 ≡ 0
+      whole k n e = omega (arith, e)
+
+  -- the array of values as the model says
+  removes_in : SomeTable v2 w2 → Left is.reading (path_of key) v w v2 w2 → RemovesValueInStorage s.0 s2.0 key (storage_of v w z) (storage_of v2 w2 z2)
+  removes_in later l =
+      let grows = cells_grow l in
+      record {
+        value_blocks = values_left l;
+        cells_longer = grows.longer;
+        value_blocks_made = blocks_made cell_sizes w w2 z.1.0 z2.1.0 (cells_cut v w (some_table is) z) (cells_cut v2 w2 later z2)
+            (made_of value_block_sizes (free_counts w.tiers) (get z.1.0 (home key)) (get z2.1.0 (home key))) grows.made;
+      }
+
+  -- and that of nodes
+  prunes_in : SomeTable v2 w2 → Left is.reading (path_of key) v w v2 w2 → PrunesInStorage s.0 s2.0 (storage_of v w z) (storage_of v2 w2 z2)
+  prunes_in later l =
+      let grows = nodes_grow l in
+      record {
+        child_blocks = children_left l;
+        nodes_longer = (
+          grows.0,
+          grows.1.longer,
+          blocks_at_most node_sizes v v2 z.0 z2.0 (nodes_cut v w (some_table is) z) (nodes_cut v2 w2 later z2)
+              (made_of child_block_sizes (free_counts v.tiers) (get z.0 grows.0) (get z2.0 grows.0)) grows.1.made,
+        );
+      }
+
+  -- where the nodes stay
+  module _ (taken : ForHeld v w (λ reading paths values. EntryTaken reading paths values (path_of key) (bit_of key) v2 w w2))
+      (long : length v2.slots ≡ length v.slots) (tiers : v2.tiers ≡ v.tiers) where
+    abbrev took : EntryTaken is.reading is.paths is.values (path_of key) (bit_of key) v2 w w2
+    took = taken is.reading is.paths is.values (some_table is).holds
+
+    pub kept_in : SomeTable v2 w2 → RemovesValueInStorage s.0 s2.0 key (storage_of v w z) (storage_of v2 w2 z2)
+    kept_in later = (let t = some_table is in removes_in later (left_taken t.reading t.values t.paths v w t.holds key v2 w2 took long tiers))
+
+    pub kept_children : z2.0 ≡ z.0
+    kept_children =
+        let t = some_table is in
+        same_entries z2.0 z.0 (λ p.
+        z2.1.1.0 p
+        ∙ ap (λ o. cond (is_node_depth p) o None)
+        (ap child_block_size (reads node_sizes took.later t.paths v2 took.holds.hold (path_of p))
+        ∙ (taken_children t.reading t.paths t.values (path_of key) (bit_of key) v2 w w2 took (t.holds.cells.set_where (path_of key) (bit_of key)) (path_of p)).1
+        ∙ ap child_block_size (sym (reads node_sizes t.reading t.paths v t.holds.hold (path_of p))))
+        ∙ sym (z.1.1.0 p))
+
+  -- where the way is pruned
+  module _ (done : ForHeld v w (λ reading paths values. EntryRemoved reading paths values (path_of key) (bit_of key) v w v2 w2)) where
+    removed_left : Left is.reading (path_of key) v w v2 w2
+    removed_left =
+        let t = some_table is in
+        left_removed t.reading t.values t.paths v w t.holds key v2 w2 s.0 s.1 (done t.reading t.paths t.values t.holds)
+
+    pub removed_in : SomeTable v2 w2 → RemovesValueInStorage s.0 s2.0 key (storage_of v w z) (storage_of v2 w2 z2)
+    removed_in later = removes_in later removed_left
+
+    pub pruned_in : SomeTable v2 w2 → PrunesInStorage s.0 s2.0 (storage_of v w z) (storage_of v2 w2 z2)
+    pruned_in later = prunes_in later removed_left
+
+-- ---- where several values are taken
+
+module _ (size : Option Node → Option ℕ) (count : Option Node → ℕ) (sizes : List ℕ) (nothing : count None ≡ 0) (v v2 : List Node)
+    (step : (x : List ℕ) → StepsBetween sizes (count (read v x)) (count (read v2 x)) (size (read v x)) (size (read v2 x)))
+    (n : Nodes) (are : (p : List Bool) → has_node n p ≡ (is_node_depth p && is_some (read v (path_of p)))) (before after : List Bool → ℕ)
+    (had : (p : List Bool) → is_node_depth p ≡ true → before p ≡ count (read v (path_of p)))
+    (has : (p : List Bool) → is_node_depth p ≡ true → after p ≡ count (read v2 (path_of p)))
+    (old new : Sizes) (old_are : AreSizesBy size v old) (new_are : AreSizesBy size v2 new) where
+  -- the sizes by the strings of nodes step down where those by paths do
+  sizes_step_between : SizesStepBetween sizes n before after old new
+  sizes_step_between = record {
+    at_nodes = λ p there.
+        let depth = and-first (is_node_depth p) (is_some (read v (path_of p))) (sym (are p) ∙ there) in
+        subst (λ x. StepsBetween sizes x (after p) (get old p) (get new p)) (sym (had p depth))
+        (subst (λ x. StepsBetween sizes (count (read v (path_of p))) x (get old p) (get new p)) (sym (has p depth))
+        (subst (λ x. StepsBetween sizes (count (read v (path_of p))) (count (read v2 (path_of p))) x (get new p)) (sym (size_read size v (read v) old old_are (λ x. refl) p depth))
+        (subst (λ x. StepsBetween sizes (count (read v (path_of p))) (count (read v2 (path_of p))) (size (read v (path_of p))) x)
+        (sym (size_read size v2 (read v2) new new_are (λ x. refl) p depth)) (step (path_of p)))));
+    elsewhere = λ p lacks. elim (cases_Bool (is_node_depth p)) as (λ _. get new p ≡ None) [
+      | inl depth ↦
+          let missing : read v (path_of p) ≡ None = is_none-None (read v (path_of p)) (sym (ap (λ b. b && is_some (read v (path_of p))) depth) ∙ sym (are p) ∙ lacks) in
+          let zero_before : count (read v (path_of p)) ≡ 0 = ap count missing ∙ nothing in
+          let fewer = (step (path_of p)).fewer in
+          size_read size v2 (read v2) new new_are (λ x. refl) p depth ∙ (step (path_of p)).none (omega (arith, fewer, zero_before))
+      | inr other ↦ new_are p ∙ ap (λ b. cond b (size (read v2 (path_of p))) None) other
+    ];
+  }
+
+module _ {T : Type 0} (v v2 : Store Node) (w w2 : Store (Option T)) (s : Shaped v.slots w.slots) (z : Sized v.slots) (t : SomeTable v w)
+    (s2 : Shaped v2.slots w2.slots) (z2 : Sized v2.slots) (t2 : SomeTable v2 w2) where
+  pub retained_values : ((x : List ℕ) → ValuesBetween (read v.slots x) (read v2.slots x)) →
+      SizesStepBetween value_block_sizes s.0.nodes (own_entries s.0.entries) (own_entries s2.0.entries) z.1.0 z2.1.0
+  retained_values steps =
+      sizes_step_between value_block_size own_count cell_sizes refl v.slots v2.slots steps s.0.nodes s.1.0 (own_entries s.0.entries) (own_entries s2.0.entries)
+      (λ p depth. own_is t.reading t.values t.paths v w t.holds s.0 s.1 p depth ∙ ap own_count (sym (reads node_sizes t.reading t.paths v t.holds.hold (path_of p))))
+      (λ p depth. own_is t2.reading t2.values t2.paths v2 w2 t2.holds s2.0 s2.1 p depth ∙ ap own_count (sym (reads node_sizes t2.reading t2.paths v2 t2.holds.hold (path_of p))))
+      z.1.0 z2.1.0 z.1.1.1 z2.1.1.1
+
+  pub retained_children : ((x : List ℕ) → ChildrenBetween (read v.slots x) (read v2.slots x)) →
+      SizesStepBetween child_block_sizes s.0.nodes (child_count s.0.nodes) (child_count s2.0.nodes) z.0 z2.0
+  retained_children steps =
+      sizes_step_between child_block_size own_children node_sizes refl v.slots v2.slots steps s.0.nodes s.1.0 (child_count s.0.nodes) (child_count s2.0.nodes)
+      (λ p depth. children_is t.reading t.values t.paths v w t.holds s.0 s.1 p depth ∙ ap own_children (sym (reads node_sizes t.reading t.paths v t.holds.hold (path_of p))))
+      (λ p depth. children_is t2.reading t2.values t2.paths v2 w2 t2.holds s2.0 s2.1 p depth ∙ ap own_children (sym (reads node_sizes t2.reading t2.paths v2 t2.holds.hold (path_of p))))
+      z.0 z2.0 z.1.1.0 z2.1.1.0

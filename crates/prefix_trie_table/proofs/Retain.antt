@@ -1,0 +1,8 @@
+-- Asking a test at entries.
+pub mod Asked
+pub mod AskedBelow
+pub mod Retained
+pub mod Seen
+pub mod Placed
+pub mod Lowered
+pub mod Rooted

@@ -1,0 +1,237 @@
+-- Asking at some places of a node and then at others is asking at all of them.
+use Rattle.std.proofs.Common.{◌≡◌, ◌≤◌, Bool, true, false, cond, ◌||◌, nat_lt, List, [], ◌∷◌, ◌++◌, length, None, is_some, refl, sym, ap, ap₂, ◌∙◌, subst, arith, inl, inr, append_assoc, length-append, Less}
+use Rattle.std.specs.List.{All, AllByRecursion}
+use Rattle.std.proofs.lemmas.List.Elements.{All-head, All-tail}
+use Rattle.std.specs.List.Sorted.{IsStrictlySortedBy}
+use Rattle.std.proofs.lemmas.Bool.{false≢true, cases_lt, lt-ltb, le-ltb}
+use Rattle.std.proofs.lemmas.Grind.{flat_map-append}
+use Rattle.std.proofs.lemmas.List.{append_cancel_left}
+use Rattle.std.proofs.lemmas.List.Folds.{list_any-append}
+use Rattle.std.specs.FinMap.{get, entries}
+use Rattle.prefix_trie_bits.specs.Bits.{begins}
+use Rattle.prefix_trie_bits.specs.Begins.{begins-append, begins-length, begins-trans, begins-linear, begins-same-length}
+use Rattle.prefix_trie_bits.specs.Order.{listing_cmp, same_string}
+use Rattle.prefix_trie_bits.specs.Model.Asking.{AsksInOrder, MayAskInOrder}
+use Rattle.prefix_trie_bits.specs.Model.Entries.{Entries, part_below}
+use Rattle.prefix_trie_bits.specs.Model.Selections.{listing_below}
+use Rattle.prefix_trie_bits.specs.Model.NodeListings.{pair_of, listing_at_place, listing_at_places}
+use Rattle.prefix_trie_bits.specs.Model.Step.{State}
+use Rattle.prefix_trie_bits.proofs.Model.Members.{or-cases, or-left, or-right, same_string-is, is-same_string, get-part_below, same_entries}
+use Rattle.prefix_trie_bits.proofs.Model.Ordered.{entries-retained, not_itself}
+use Rattle.prefix_trie_table.specs.Retaining.{is_at, is_at_some, is_under, is_under_some, Needs, Retains}
+use Rattle.prefix_trie_table.proofs.Strings.Plain.{no_or_yes}
+
+-- ---- tests
+
+pub or-first : (a b : Bool) → (a || b) ≡ false → a ≡ false
+or-first true b h = absurd (false≢true (sym h))
+or-first false b h = refl
+
+pub or-second : (a b : Bool) → (a || b) ≡ false → b ≡ false
+or-second true b h = absurd (false≢true (sym h))
+or-second false b h = h
+
+-- ---- which strings are at a place
+
+pub at_value : (s t q : List Bool) → length t ≤ 4 → is_at s t q ≡ same_string q (s ++ t)
+at_value s t q short = ap (λ c. cond c (same_string q (s ++ t)) (begins (s ++ t) q)) (lt-ltb (length t) 5 (omega arith))
+
+pub at_child : (s t q : List Bool) → length t ≡ 5 → is_at s t q ≡ begins (s ++ t) q
+at_child s t q five = ap (λ c. cond c (same_string q (s ++ t)) (begins (s ++ t) q)) (le-ltb (length t) 5 (omega arith))
+
+pub under_value : (s t q : List Bool) → length t ≤ 4 → is_under s t q ≡ false
+under_value s t q short = ap (λ c. cond c false (begins (s ++ t) q)) (lt-ltb (length t) 5 (omega arith))
+
+pub under_child : (s t q : List Bool) → length t ≡ 5 → is_under s t q ≡ begins (s ++ t) q
+under_child s t q five = ap (λ c. cond c false (begins (s ++ t) q)) (le-ltb (length t) 5 (omega arith))
+
+-- what goes on from what is under a place is at it
+under_at : (s t q k : List Bool) → is_under s t q ≡ true → begins q k ≡ true → is_at s t k ≡ true
+under_at s t q k = go (nat_lt (length t) 5)
+  where
+    go : (b : Bool) → cond b false (begins (s ++ t) q) ≡ true → begins q k ≡ true → cond b (same_string k (s ++ t)) (begins (s ++ t) k) ≡ true
+    go true h e = absurd (false≢true h)
+    go false h e = begins-trans (s ++ t) q k h e
+
+pub under_at_some : (s : List Bool) (ts : List (List Bool)) (q k : List Bool) → is_under_some s ts q ≡ true → begins q k ≡ true → is_at_some s ts k ≡ true
+under_at_some s [] q k h e = absurd (false≢true h)
+under_at_some s (t ∷ ts) q k h e = elim (or-cases (is_under s t q) (is_under_some s ts q) h) as (λ _. (is_at s t k || is_at_some s ts k) ≡ true) [
+  | inl here ↦ or-left (is_at s t k) (is_at_some s ts k) (under_at s t q k here e)
+  | inr rest ↦ later (is_at s t k) (under_at_some s ts q k rest e)
+]
+  where
+    later : (b : Bool) → is_at_some s ts k ≡ true → (b || is_at_some s ts k) ≡ true
+    later true h = refl
+    later false h = h
+
+-- what is at a place goes on from the node, and so does what is under it
+pub at_begins : (s t q : List Bool) → is_at s t q ≡ true → begins s q ≡ true
+at_begins s t q = go (nat_lt (length t) 5)
+  where
+    go : (b : Bool) → cond b (same_string q (s ++ t)) (begins (s ++ t) q) ≡ true → begins s q ≡ true
+    go true h = subst (λ x. begins s x ≡ true) (sym (same_string-is q (s ++ t) h)) (begins-append s t)
+    go false h = begins-trans s (s ++ t) q (begins-append s t) h
+
+-- a string is at one place of a node
+pub one_place : (s t u q : List Bool) → length t ≤ 5 → length u ≤ 5 → is_at s t q ≡ true → is_at s u q ≡ true → t ≡ u
+one_place s t u q short_t short_u ht hu = append_cancel_left s t u (elim (cases_lt (length t) 5) as (λ _. s ++ t ≡ s ++ u) [
+  | inl lt ↦
+      let qt : q ≡ s ++ t = same_string-is q (s ++ t) (sym (at_value s t q (omega arith)) ∙ ht) in
+      elim (cases_lt (length u) 5) as (λ _. s ++ t ≡ s ++ u) [
+        | inl lu ↦ sym qt ∙ same_string-is q (s ++ u) (sym (at_value s u q (omega arith)) ∙ hu)
+        | inr gu ↦
+            let five : length u ≡ 5 = omega arith in
+            let long = begins-length (s ++ u) q (sym (at_child s u q five) ∙ hu) in
+            absurd (omega (arith, long, ap length qt, length-append s t, length-append s u, lt, five))
+      ]
+  | inr gt ↦
+      let five : length t ≡ 5 = omega arith in
+      let bt : begins (s ++ t) q ≡ true = sym (at_child s t q five) ∙ ht in
+      elim (cases_lt (length u) 5) as (λ _. s ++ t ≡ s ++ u) [
+        | inl lu ↦
+            let qu : q ≡ s ++ u = same_string-is q (s ++ u) (sym (at_value s u q (omega arith)) ∙ hu) in
+            let long = begins-length (s ++ t) q bt in
+            absurd (omega (arith, long, ap length qu, length-append s t, length-append s u, lu, five))
+        | inr gu ↦
+            let also : length u ≡ 5 = omega arith in
+            let bu : begins (s ++ u) q ≡ true = sym (at_child s u q also) ∙ hu in
+            let same : length (s ++ t) ≡ length (s ++ u) = omega (arith, length-append s t, length-append s u, five, also) in
+            begins-same-length (s ++ t) (s ++ u) (begins-linear (s ++ t) (s ++ u) q bt bu (omega (arith, same))) same
+      ]
+])
+
+-- no string is at the first of some places in listing order and at a later one
+less_apart : (s t : List Bool) (ts : List (List Bool)) (q : List Bool) → length t ≤ 5 → All (λ u. length u ≤ 5) ts → AllByRecursion (λ u. listing_cmp t u ≡ Less) ts →
+    is_at s t q ≡ true → is_at_some s ts q ≡ true → ⊥
+less_apart s t [] q short all less here later = false≢true later
+less_apart s t (u ∷ ts) q short all less here later = elim (or-cases (is_at s u q) (is_at_some s ts q) later) as (λ _. ⊥) [
+  | inl now ↦ not_itself t u less.0 (one_place s t u q short (All-head (λ x. length x ≤ 5) u ts all) here now)
+  | inr rest ↦ less_apart s t ts q short (All-tail (λ x. length x ≤ 5) u ts all) less.1 here rest
+]
+
+pub apart_first : (s t : List Bool) (ts : List (List Bool)) (q : List Bool) → length t ≤ 5 → All (λ u. length u ≤ 5) ts →
+    IsStrictlySortedBy listing_cmp (t ∷ ts) → is_at s t q ≡ true → is_at_some s ts q ≡ true → ⊥
+unfolding IsStrictlySortedBy
+apart_first s t ts q short all sorted = less_apart s t ts q short all sorted.0
+
+-- ---- what the listing has at places
+
+module _ {T : Type 0} where
+  -- below a string the listing depends on the entries there
+  pub below_same : (m n : Entries T) (q : List Bool) → ((k : List Bool) → begins q k ≡ true → get m k ≡ get n k) → listing_below m q ≡ listing_below n q
+  below_same m n q same =
+      sym (entries-retained m (begins q))
+      ∙ ap entries (same_entries (part_below m q) (part_below n q) (λ k. get-part_below m q k ∙ by k (begins q k) refl ∙ sym (get-part_below n q k)))
+      ∙ entries-retained n (begins q)
+    where
+      by : (k : List Bool) (b : Bool) → begins q k ≡ b → cond b (get m k) None ≡ cond b (get n k) None
+      by k true e = same k e
+      by k false e = refl
+
+  -- and at a place on those at the place
+  pub place_same : (m n : Entries T) (s t : List Bool) → ((k : List Bool) → is_at s t k ≡ true → get m k ≡ get n k) → listing_at_place m s t ≡ listing_at_place n s t
+  place_same m n s t = go (nat_lt (length t) 5)
+    where
+      go : (b : Bool) → ((k : List Bool) → cond b (same_string k (s ++ t)) (begins (s ++ t) k) ≡ true → get m k ≡ get n k) →
+          cond b (pair_of (s ++ t) (get m (s ++ t))) (listing_below m (s ++ t)) ≡ cond b (pair_of (s ++ t) (get n (s ++ t))) (listing_below n (s ++ t))
+      go true same = ap (pair_of (s ++ t)) (same (s ++ t) (is-same_string (s ++ t) (s ++ t) refl))
+      go false same = below_same m n (s ++ t) same
+
+  pub places_same : (m n : Entries T) (s : List Bool) (ts : List (List Bool)) → ((k : List Bool) → is_at_some s ts k ≡ true → get m k ≡ get n k) →
+      listing_at_places m s ts ≡ listing_at_places n s ts
+  places_same m n s [] same = refl
+  places_same m n s (t ∷ ts) same =
+      ap₂ (λ a b. a ++ b) (place_same m n s t (λ k h. same k (or-left (is_at s t k) (is_at_some s ts k) h)))
+      (places_same m n s ts (λ k h. same k (or-right (is_at s t k) (is_at_some s ts k) h)))
+
+-- ---- asking
+
+module _ {F T : Type 0} (asks : F → List Bool → T → Bool → F → Type 0) (accepts : F → List Bool → T → Type 0) where
+  -- at no place nothing is asked
+  pub none_asked : (s : List Bool) (f : F) (x : State T) → Retains asks accepts s [] f x f x
+  none_asked s f x = record {
+    kept = [];
+    asked = λ rest later h. h;
+    may_ask = λ rest h. h;
+    stays = refl;
+    others = λ q h. refl;
+    fewer = λ q h. h;
+    off = λ q h. refl;
+    needed = λ q h. absurd (false≢true h);
+  }
+
+  -- what may be asked at some and then at others may be asked at the first
+  pub may_ask_first : (f : F) (es rest : List (List Bool × T)) → MayAskInOrder asks accepts f (es ++ rest) → MayAskInOrder asks accepts f es
+  may_ask_first f [] rest h = tt
+  may_ask_first f (e ∷ es) rest h = (h.0, λ b g called. may_ask_first g es rest (h.1 b g called))
+
+  module _ (s : List Bool) (ts us : List (List Bool)) (f g h : F) (x y z : State T) (first : Retains asks accepts s ts f x g y)
+      (second : Retains asks accepts s us g y h z) (apart : (q : List Bool) → is_at_some s ts q ≡ true → is_at_some s us q ≡ true → ⊥) where
+    not_later : (q : List Bool) → is_at_some s ts q ≡ true → is_at_some s us q ≡ false
+    not_later q here = no_or_yes (is_at_some s us q) (apart q here)
+
+    not_before : (q : List Bool) → is_at_some s us q ≡ true → is_at_some s ts q ≡ false
+    not_before q here = no_or_yes (is_at_some s ts q) (λ before. apart q before here)
+
+    later_same : listing_at_places y.entries s us ≡ listing_at_places x.entries s us
+    later_same = places_same y.entries x.entries s us (λ k at. first.others k (not_before k at))
+
+    first_same : listing_at_places z.entries s ts ≡ listing_at_places y.entries s ts
+    first_same = places_same z.entries y.entries s ts (λ k at. second.others k (not_later k at))
+
+    both_places : (m : Entries T) → listing_at_places m s (ts ++ us) ≡ listing_at_places m s ts ++ listing_at_places m s us
+    both_places m = flat_map-append (listing_at_place m s) ts us
+
+    spread : (rest : List (List Bool × T)) → listing_at_places x.entries s (ts ++ us) ++ rest ≡ listing_at_places x.entries s ts ++ (listing_at_places y.entries s us ++ rest)
+    spread rest =
+        ap (λ es. es ++ rest) (both_places x.entries)
+        ∙ append_assoc (listing_at_places x.entries s ts) (listing_at_places x.entries s us) rest
+        ∙ ap (λ es. listing_at_places x.entries s ts ++ (es ++ rest)) (sym later_same)
+
+    either : (q : List Bool) → is_at_some s (ts ++ us) q ≡ (is_at_some s ts q || is_at_some s us q)
+    either q = list_any-append (λ t. is_at s t q) ts us
+
+    either_under : (q : List Bool) → is_under_some s (ts ++ us) q ≡ (is_under_some s ts q || is_under_some s us q)
+    either_under q = list_any-append (λ t. is_under s t q) ts us
+
+    needs_later : (q : List Bool) → is_under_some s ts q ≡ true → Needs y.entries q → Needs z.entries q
+    needs_later q under n = record {
+      key = n.key;
+      stored = ap is_some (second.others n.key (not_later n.key (under_at_some s ts q n.key under n.goes_on))) ∙ n.stored;
+      goes_on = n.goes_on;
+    }
+
+    -- what was done at some places and then at others was done at all
+    pub asked_both : Retains asks accepts s (ts ++ us) f x h z
+    asked_both = record {
+      kept = first.kept ++ second.kept;
+      asked = λ rest later after.
+          subst (λ es. AsksInOrder asks f es ((first.kept ++ second.kept) ++ later)) (sym (spread rest))
+          (subst (AsksInOrder asks f (listing_at_places x.entries s ts ++ (listing_at_places y.entries s us ++ rest))) (sym (append_assoc first.kept second.kept later))
+          (first.asked (listing_at_places y.entries s us ++ rest) (second.kept ++ later) (second.asked rest later after)));
+      may_ask = λ rest may.
+          second.may_ask rest (first.may_ask (listing_at_places y.entries s us ++ rest) (subst (MayAskInOrder asks accepts f) (spread rest) may));
+      stays = both_places z.entries ∙ ap₂ (λ a b. a ++ b) (first_same ∙ first.stays) second.stays;
+      others = λ q off.
+          let none : (is_at_some s ts q || is_at_some s us q) ≡ false = sym (either q) ∙ off in
+          second.others q (or-second (is_at_some s ts q) (is_at_some s us q) none) ∙ first.others q (or-first (is_at_some s ts q) (is_at_some s us q) none);
+      fewer = λ q there. first.fewer q (second.fewer q there);
+      off = λ q off.
+          let none : (is_under_some s ts q || is_under_some s us q) ≡ false = sym (either_under q) ∙ off in
+          second.off q (or-second (is_under_some s ts q) (is_under_some s us q) none) ∙ first.off q (or-first (is_under_some s ts q) (is_under_some s us q) none);
+      needed = λ q under there.
+          elim (or-cases (is_under_some s ts q) (is_under_some s us q) (sym (either_under q) ∙ under)) as (λ _. Needs z.entries q) [
+            | inl one ↦ needs_later q one (first.needed q one (second.fewer q there))
+            | inr other ↦ second.needed q other there
+          ];
+    }
+
+  -- what may be asked at all may be asked at the others once it was at the first
+  pub may_ask_then : (s : List Bool) (ts us : List (List Bool)) (f g : F) (x y : State T) → Retains asks accepts s ts f x g y →
+      ((q : List Bool) → is_at_some s ts q ≡ true → is_at_some s us q ≡ true → ⊥) →
+      MayAskInOrder asks accepts f (listing_at_places x.entries s (ts ++ us)) → MayAskInOrder asks accepts g (listing_at_places y.entries s us)
+  may_ask_then s ts us f g x y first apart may =
+      let same : listing_at_places y.entries s us ≡ listing_at_places x.entries s us =
+      places_same y.entries x.entries s us (λ k at. first.others k (no_or_yes (is_at_some s ts k) (λ before. apart k before at))) in
+      first.may_ask (listing_at_places y.entries s us)
+      (subst (MayAskInOrder asks accepts f) (flat_map-append (listing_at_place x.entries s) ts us ∙ ap (λ es. listing_at_places x.entries s ts ++ es) (sym same)) may)

@@ -1,0 +1,215 @@
+-- Asking at one value, at all places of a node, and below a child.
+use Rattle.std.proofs.Common.{◌≡◌, ℕ, ◌+◌, ◌%◌, ◌≤◌, Bool, true, false, cond, ◌||◌, nat_lt, List, [], ◌∷◌, ◌++◌, length, take, drop, get_or, None, Some, refl, sym, ap, ◌∙◌, subst, arith, inl, inr, append-nil, append_assoc, length-drop, take-append-drop}
+use Rattle.std.specs.List.{All, Contains}
+use Rattle.std.proofs.lemmas.Bool.{false≢true, cases_Bool}
+use Rattle.std.proofs.lemmas.List.{length-take-le}
+use Rattle.std.proofs.lemmas.List.Elements.{All-head, All-tail, Contains-get_or}
+use Rattle.std.proofs.lemmas.List.Folds.{list_any_at}
+use Rattle.std.specs.FinMap.{get}
+use Rattle.prefix_trie_bits.specs.Bits.{begins}
+use Rattle.prefix_trie_bits.specs.Begins.{begins-refl, begins-append, begins-rest, begins-length, begins-trans, begins-same-length, begins-from-rest}
+use Rattle.prefix_trie_bits.specs.Order.{same_string}
+use Rattle.prefix_trie_bits.specs.Places.{is_in, places}
+use Rattle.prefix_trie_bits.specs.Model.Asking.{AsksInOrder, MayAskInOrder}
+use Rattle.prefix_trie_bits.specs.Model.Entries.{Entries, without_entry}
+use Rattle.prefix_trie_bits.specs.Model.Selections.{listing, listing_below}
+use Rattle.prefix_trie_bits.specs.Model.NodeListings.{listing_at_place, listing_at_places}
+use Rattle.prefix_trie_bits.specs.Model.Nodes.{Nodes, AreNodes, has_node, needed}
+use Rattle.prefix_trie_bits.specs.Model.Step.{State}
+use Rattle.prefix_trie_bits.proofs.Model.Members.{get-without_entry, same_string-is, is-same_string, same_nodes, needs, needs_root}
+use Rattle.prefix_trie_bits.proofs.Model.NodeListings.{listing_by_node_places, listing_at_value, listing_at_no_value, listing_at_child, listing_of_root}
+use Rattle.prefix_trie_table.specs.Retaining.{is_at, is_at_some, is_under, is_under_some, Needs, Retains}
+use Rattle.prefix_trie_table.proofs.Strings.Plain.{fifth_more, no_or_yes}
+use Rattle.prefix_trie_table.proofs.Retain.Asked.{or-first, at_value, at_child, under_value, under_child, at_begins, one_place, place_same}
+
+-- ---- a value
+
+module _ {F T : Type 0} (asks : F → List Bool → T → Bool → F → Type 0) (accepts : F → List Bool → T → Type 0) (s t : List Bool) (short : length t ≤ 4)
+    (x : State T) (v : T) (stored : get x.entries (s ++ t) ≡ Some v) where
+  value_here : listing_at_places x.entries s (t ∷ []) ≡ (s ++ t, v) ∷ []
+  value_here = append-nil (listing_at_place x.entries s t) ∙ listing_at_value x.entries s t v short stored
+
+  -- it may be asked at the value
+  pub may_ask_value : (f : F) → MayAskInOrder asks accepts f (listing_at_places x.entries s (t ∷ [])) → accepts f (s ++ t) v
+  may_ask_value f may = (subst (MayAskInOrder asks accepts f) value_here may).0
+
+  -- the value stays
+  pub value_stays : (f g : F) → asks f (s ++ t) v true g → Retains asks accepts s (t ∷ []) f x g x
+  value_stays f g called = record {
+    kept = (s ++ t, v) ∷ [];
+    asked = λ rest later after. subst (λ es. AsksInOrder asks f (es ++ rest) ((s ++ t, v) ∷ later)) (sym value_here) (true, g, later, called, after, refl);
+    may_ask = λ rest may. (subst (λ es. MayAskInOrder asks accepts f (es ++ rest)) value_here may).1 true g called;
+    stays = value_here;
+    others = λ q off. refl;
+    fewer = λ q there. there;
+    off = λ q off. refl;
+    needed = λ q under there. absurd (false≢true (sym (ap (λ b. b || false) (under_value s t q short)) ∙ under));
+  }
+
+  -- the value goes
+  pub value_goes : (f g : F) → asks f (s ++ t) v false g → Retains asks accepts s (t ∷ []) f x g (record { entries = without_entry x.entries (s ++ t); nodes = x.nodes })
+  value_goes f g called = record {
+    kept = [];
+    asked = λ rest later after. subst (λ es. AsksInOrder asks f (es ++ rest) later) (sym value_here) (false, g, later, called, after, refl);
+    may_ask = λ rest may. (subst (λ es. MayAskInOrder asks accepts f (es ++ rest)) value_here may).1 false g called;
+    stays =
+        append-nil (listing_at_place (without_entry x.entries (s ++ t)) s t)
+        ∙ listing_at_no_value (without_entry x.entries (s ++ t)) s t short
+        (get-without_entry x.entries (s ++ t) (s ++ t) ∙ ap (λ b. cond b None (get x.entries (s ++ t))) (is-same_string (s ++ t) (s ++ t) refl));
+    others = λ q off.
+        get-without_entry x.entries (s ++ t) q
+        ∙ ap (λ b. cond b None (get x.entries q)) (sym (at_value s t q short) ∙ or-first (is_at s t q) false off);
+    fewer = λ q there. there;
+    off = λ q off. refl;
+    needed = λ q under there. absurd (false≢true (sym (ap (λ b. b || false) (under_value s t q short)) ∙ under));
+  }
+
+-- ---- all places of a node
+
+at_some_one : (P : List Bool → Type 0) (s : List Bool) (ts : List (List Bool)) (q : List Bool) → All P ts → is_at_some s ts q ≡ true →
+    (t : List Bool) × P t × (is_at s t q ≡ true)
+at_some_one P s [] q all h = absurd (false≢true h)
+at_some_one P s (t ∷ ts) q all h = elim (cases_Bool (is_at s t q)) as (λ _. (t : List Bool) × P t × (is_at s t q ≡ true)) [
+  | inl here ↦ (t, All-head P t ts all, here)
+  | inr miss ↦ at_some_one P s ts q (All-tail P t ts all) (sym (ap (λ b. b || is_at_some s ts q) miss) ∙ h)
+]
+
+five_more : (c q : List Bool) → length c % 5 ≡ 0 → length q % 5 ≡ 0 → length c ≤ length q → (length q ≡ length c → ⊥) → length c + 5 ≤ length q
+five_more c q one two long ne = fifth_more (length c) (length q) one two long ne
+
+module _ {F T : Type 0} (asks : F → List Bool → T → Bool → F → Type 0) (accepts : F → List Bool → T → Type 0) (c : List Bool) (values children : ℕ)
+    (ts : List (List Bool)) (all : ts ≡ places values children)
+    (each : (u : List Bool) → Contains ts u → (length u ≤ 5) × (is_in values children u ≡ true))
+    (every : (u : List Bool) → length u ≤ 5 → is_in values children u ≡ true → Contains ts u)
+    (f g : F) (x y : State T) (retains : Retains asks accepts c ts f x g y)
+    (unset : (u : List Bool) → length u ≤ 5 → is_in values children u ≡ false → listing_at_place x.entries c u ≡ [])
+    (bare : (u q : List Bool) → length u ≡ 5 → is_in values children u ≡ false → begins (c ++ u) q ≡ true → has_node x.nodes q ≡ true → ⊥)
+    (whole : length c % 5 ≡ 0) (depths : (q : List Bool) → has_node x.nodes q ≡ true → length q % 5 ≡ 0) where
+  each_place : All (λ u. (length u ≤ 5) × (is_in values children u ≡ true)) ts
+  each_place = λ k d inside. each (get_or ts k d) (Contains-get_or ts k d inside)
+
+  below_before : listing_at_places x.entries c ts ≡ listing_below x.entries c
+  below_before = ap (listing_at_places x.entries c) all ∙ listing_by_node_places x.entries c values children unset
+
+  -- what is at a place that is not among these is as it was
+  at_other : (u k : List Bool) → length u ≤ 5 → is_in values children u ≡ false → is_at c u k ≡ true → get y.entries k ≡ get x.entries k
+  at_other u k short clear at = retains.others k (no_or_yes (is_at_some c ts k) (λ some.
+      let one = at_some_one (λ u. (length u ≤ 5) × (is_in values children u ≡ true)) c ts k each_place some in
+      false≢true (sym clear ∙ ap (is_in values children) (one_place c u one.0 k short one.1.0 at one.2) ∙ one.1.1)))
+
+  pub below_after : listing_at_places y.entries c ts ≡ listing_below y.entries c
+  below_after =
+      ap (listing_at_places y.entries c) all
+      ∙ listing_by_node_places y.entries c values children
+      (λ u short clear. place_same y.entries x.entries c u (λ k at. at_other u k short clear at) ∙ unset u short clear)
+
+  off_entries : (q : List Bool) → begins c q ≡ false → get y.entries q ≡ get x.entries q
+  off_entries q off = retains.others q (no_or_yes (is_at_some c ts q) (λ some.
+      let one = at_some_one (λ u. (length u ≤ 5) × (is_in values children u ≡ true)) c ts q each_place some in
+      false≢true (sym off ∙ at_begins c one.0 q one.2)))
+
+  under_begins : (us : List (List Bool)) (q : List Bool) → is_under_some c us q ≡ true → begins c q ≡ true
+  under_begins [] q h = absurd (false≢true h)
+  under_begins (u ∷ us) q h = elim (cases_Bool (is_under c u q)) as (λ _. begins c q ≡ true) [
+    | inl here ↦ go (nat_lt (length u) 5) here
+    | inr miss ↦ under_begins us q (sym (ap (λ b. b || is_under_some c us q) miss) ∙ h)
+  ]
+    where
+      go : (b : Bool) → cond b false (begins (c ++ u) q) ≡ true → begins c q ≡ true
+      go true e = absurd (false≢true e)
+      go false e = begins-trans c (c ++ u) q (begins-append c u) e
+
+  off_nodes : (q : List Bool) → begins c q ≡ false → has_node y.nodes q ≡ has_node x.nodes q
+  off_nodes q off = retains.off q (no_or_yes (is_under_some c ts q) (λ some. false≢true (sym off ∙ under_begins ts q some)))
+
+  -- each node below is needed
+  pub needed_below : (q : List Bool) → begins c q ≡ true → (q ≡ c → ⊥) → has_node y.nodes q ≡ true → Needs y.entries q
+  needed_below q below ne there = retains.needed q under there
+    where
+      before : has_node x.nodes q ≡ true
+      before = retains.fewer q there
+
+      longer : length c + 5 ≤ length q
+      longer = five_more c q whole (depths q before) (begins-length c q below) (λ e. ne (sym (begins-same-length c q below (sym e))))
+
+      u : List Bool
+      u = take 5 (drop (length c) q)
+
+      five : length (take 5 (drop (length c) q)) ≡ 5
+      five = length-take-le 5 (drop (length c) q) (omega (arith, length-drop (length c) q, longer))
+
+      at : begins (c ++ take 5 (drop (length c) q)) q ≡ true
+      at =
+          begins-from-rest (c ++ take 5 (drop (length c) q)) q (drop 5 (drop (length c) q))
+          (begins-rest c q below ∙ ap (λ r. c ++ r) (sym (take-append-drop 5 (drop (length c) q)))
+          ∙ sym (append_assoc c (take 5 (drop (length c) q)) (drop 5 (drop (length c) q))))
+
+      among : is_in values children (take 5 (drop (length c) q)) ≡ true
+      among = elim (cases_Bool (is_in values children (take 5 (drop (length c) q)))) as (λ _. is_in values children (take 5 (drop (length c) q)) ≡ true) [
+        | inl hit ↦ hit
+        | inr miss ↦ absurd (bare (take 5 (drop (length c) q)) q five miss at before)
+      ]
+
+      under : is_under_some c ts q ≡ true
+      under =
+          let h = every (take 5 (drop (length c) q)) (omega (arith, five)) among in
+          list_any_at (λ t. is_under c t q) ts h.0 (take 5 (drop (length c) q)) h.1
+          (ap (λ t. is_under c t q) h.2 ∙ under_child c (take 5 (drop (length c) q)) q five ∙ at)
+
+  -- so asking at all of them is asking below the child at a place of the node above, where the child goes unless it is needed
+  module _ (s t : List Bool) (five : length t ≡ 5) (is : c ≡ s ++ t) (later : Nodes) (fewer : (q : List Bool) → has_node later q ≡ true → has_node y.nodes q ≡ true)
+      (stays : (q : List Bool) → (q ≡ c → ⊥) → has_node later q ≡ has_node y.nodes q) (own : has_node later c ≡ true → Needs y.entries c) where
+    place_is : (m : Entries T) → listing_at_places m s (t ∷ []) ≡ listing_below m c
+    place_is m = append-nil (listing_at_place m s t) ∙ listing_at_child m s t five ∙ ap (listing_below m) (sym is)
+
+    begins_is : (q : List Bool) → begins c q ≡ begins (s ++ t) q
+    begins_is q = ap (λ p. begins p q) is
+
+    pub child_asked : Retains asks accepts s (t ∷ []) f x g (record { entries = y.entries; nodes = later })
+    child_asked = record {
+      kept = retains.kept;
+      asked = λ rest after h.
+          subst (λ es. AsksInOrder asks f (es ++ rest) (retains.kept ++ after)) (below_before ∙ sym (place_is x.entries)) (retains.asked rest after h);
+      may_ask = λ rest may. retains.may_ask rest (subst (λ es. MayAskInOrder asks accepts f (es ++ rest)) (place_is x.entries ∙ sym below_before) may);
+      stays = place_is y.entries ∙ sym below_after ∙ retains.stays;
+      others = λ q off. off_entries q (begins_is q ∙ sym (at_child s t q five) ∙ or-first (is_at s t q) false off);
+      fewer = λ q there. retains.fewer q (fewer q there);
+      off = λ q off.
+          let off_it : begins c q ≡ false = begins_is q ∙ sym (under_child s t q five) ∙ or-first (is_under s t q) false off in
+          stays q (λ e. false≢true (sym off_it ∙ ap (begins c) e ∙ begins-refl c)) ∙ off_nodes q off_it;
+      needed = λ q under there.
+          let below_it : begins c q ≡ true = begins_is q ∙ sym (under_child s t q five) ∙ or-left-only (is_under s t q) under in
+          elim (cases_Bool (same_string q c)) as (λ _. Needs y.entries q) [
+            | inl same ↦
+                let e : q ≡ c = same_string-is q c same in
+                subst (Needs y.entries) (sym e) (own (ap (has_node later) (sym e) ∙ there))
+            | inr other ↦ needed_below q below_it (λ e. false≢true (sym other ∙ is-same_string q c e)) (fewer q there)
+          ];
+    }
+      where
+        or-left-only : (b : Bool) → (b || false) ≡ true → b ≡ true
+        or-left-only true h = refl
+        or-left-only false h = h
+
+  -- where the node is the root, it is asking at the whole listing
+  module _ (root : c ≡ []) where
+    listing_is : (m : Entries T) → listing_below m c ≡ listing m
+    listing_is m = ap (listing_below m) root ∙ listing_of_root m
+
+    pub asked_all : AsksInOrder asks f (listing x.entries) (listing y.entries)
+    asked_all =
+        let kept : retains.kept ≡ listing y.entries = sym retains.stays ∙ below_after ∙ listing_is y.entries in
+        let items : listing_at_places x.entries c ts ++ [] ≡ listing x.entries = append-nil (listing_at_places x.entries c ts) ∙ below_before ∙ listing_is x.entries in
+        subst (λ es. AsksInOrder asks f es (listing y.entries)) items
+        (subst (AsksInOrder asks f (listing_at_places x.entries c ts ++ [])) (append-nil retains.kept ∙ kept) (retains.asked [] [] refl))
+
+    pub nodes_tidy : (width : ℕ) → AreNodes width y.entries y.nodes → y.nodes ≡ needed y.entries
+    nodes_tidy width are = same_nodes y.nodes (needed y.entries) (λ q there. elim (cases_Bool (same_string q c)) as (λ _. has_node (needed y.entries) q ≡ true) [
+      | inl same ↦ subst (λ p. has_node (needed y.entries) p ≡ true) (sym (same_string-is q c same ∙ root)) (needs_root y.entries)
+      | inr other ↦
+          let n = needed_below q (subst (λ p. begins p q ≡ true) (sym root) (nil_begins q)) (λ e. false≢true (sym other ∙ is-same_string q c e)) there in
+          needs y.entries q n.key (are.depths q there) n.stored n.goes_on
+    ]) are.hold_needed
+      where
+        nil_begins : (q : List Bool) → begins [] q ≡ true
+        nil_begins q = begins-append [] q

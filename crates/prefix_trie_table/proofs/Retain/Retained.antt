@@ -1,0 +1,249 @@
+-- What a table is once a test was asked at a place of a node.
+use Rattle.std.proofs.Common.{◌≡◌, ℕ, ◌+◌, ◌-◌, ◌*◌, ◌/◌, ◌%◌, ◌<◌, ◌≤◌, Bool, true, ◌==◌, List, [], ◌∷◌, ◌++◌, length, take, drop, Option, None, Some, is_some, refl, sym, ap, ap₂, ◌∙◌, subst, arith, inl, inr, length-append, eqb-true}
+use Rattle.std.proofs.lemmas.Bool.{false≢true, cases_Bool}
+use Rattle.std.proofs.lemmas.List.{length-take-le}
+use Rattle.prefix_trie_bits.specs.Bits.{begins}
+use Rattle.prefix_trie_bits.specs.Begins.{begins-rest}
+use Rattle.prefix_trie_bits.specs.Places.{has, value_bit}
+use Rattle.prefix_trie_bits.specs.Model.Entries.{without_entry}
+use Rattle.prefix_trie_bits.specs.Model.Nodes.{AreNodes, has_node, is_node_depth}
+use Rattle.prefix_trie_bits.specs.Model.Step.{State}
+use Rattle.prefix_trie_bits.proofs.Model.Members.{and-first, and-second, needed_for}
+use Rattle.prefix_trie_bits.proofs.Model.NodeSets.{AreNodes-without_entry}
+use Rattle.prefix_trie_bits.proofs.Model.Pruning.{removed_fewer}
+use Rattle.prefix_trie_bits.proofs.Strings.{value_bit-small}
+use Rattle.prefix_trie_table.specs.declared.allocator.node.Node.{Node}
+use Rattle.prefix_trie_table.specs.declared.table.retain.Site.{Site}
+use Rattle.prefix_trie_table.specs.Bitmaps.{has_bit}
+use Rattle.prefix_trie_table.specs.Cells.{node_at, node_sizes, cell_sizes}
+use Rattle.prefix_trie_table.specs.Digits.{path_of, bit_of}
+use Rattle.prefix_trie_table.specs.Store.{Store}
+use Rattle.prefix_trie_table.specs.Forest.{read, value_of, has_value, one_if, Holds, SomeTable, IsSlot, at_root, at_child, NodesHold, CellsHold, SomeNodes, IsNodeAt, with_node}
+use Rattle.prefix_trie_table.specs.Removals.{ValueTaken, EntryTaken}
+use Rattle.prefix_trie_table.specs.Shape.{IsShapeOf}
+use Rattle.prefix_trie_table.specs.Tables.{ForHeld, Grows}
+use Rattle.prefix_trie_table.specs.Retaining.{IsSite, ValuesBetween, ChildrenBetween}
+use Rattle.prefix_trie_table.specs.Tables.{IsTrie}
+use Rattle.prefix_trie_table.proofs.Strings.Plain.{both_true}
+use Rattle.prefix_trie_table.proofs.Tree.Invariant.{some_table, some_nodes}
+use Rattle.prefix_trie_table.proofs.Removal.Between.{taken_values_between, taken_children_between}
+use Rattle.prefix_trie_table.proofs.Strings.Bits.{has_bit-is}
+use Rattle.prefix_trie_table.proofs.Tree.Children.{with_here, with_other}
+use Rattle.prefix_trie_table.proofs.Removal.Emptying.{value_taken, shape_taken, table_without, counted_without}
+use Rattle.prefix_trie_table.proofs.Lookup.Going.{steps-all}
+use Rattle.prefix_trie_table.proofs.Strings.Placing.{below_node}
+use Rattle.prefix_trie_table.proofs.Tree.Shapes.{reads_node}
+use Rattle.prefix_trie_table.proofs.Tree.Subtrees.{path-append, read-missing}
+use Rattle.prefix_trie_table.proofs.Tree.Trees.{is_none-None, read-nil, reads, slot_holds}
+
+-- ---- nodes and their slots
+
+-- a node stands where it stood where the nodes above it are as they were
+pub slot_stays : (f g : List ℕ → Option Node) (p : List ℕ) (slot : ℕ) → ((q : List ℕ) → length q < length p → g q ≡ f q) → IsSlot f p slot → IsSlot g p slot
+slot_stays f g p slot same (at_root) = at_root
+slot_stays f g p slot same (at_child r c n is bit) = at_child r c n (same r (omega (arith, length-append r (c ∷ []))) ∙ is) bit
+
+-- with a node stand those above it
+pub read_up : (nodes : List Node) (q k : List Bool) → length q % 5 ≡ 0 → begins q k ≡ true → is_some (read nodes (path_of k)) ≡ true → is_some (read nodes (path_of q)) ≡ true
+read_up nodes q k whole begun there = elim (cases_Bool (is_some (read nodes (path_of q)))) as (λ _. is_some (read nodes (path_of q)) ≡ true) [
+  | inl hit ↦ hit
+  | inr miss ↦
+      let way : path_of k ≡ path_of q ++ path_of (drop (length q) k) = ap path_of (begins-rest q k begun) ∙ path-append q (drop (length q) k) whole in
+      absurd (false≢true (sym (ap is_some (ap (read nodes) way ∙ read-missing nodes (path_of q) (path_of (drop (length q) k)) (is_none-None (read nodes (path_of q)) miss))) ∙ there))
+]
+
+module _ {T : Type 0} where
+  -- a value is in a node
+  pub value_reads : (cells : List (Option T)) (o : Option Node) (b : ℕ) → is_some (value_of cells o b) ≡ true → is_some o ≡ true
+  value_reads cells None b h = h
+  value_reads cells (Some n) b h = refl
+
+  -- the nodes of an array are a set of nodes
+  pub are_nodes : (width : ℕ) (v : Store Node) (w : Store (Option T)) (s : State T) → IsShapeOf v.slots w.slots s →
+      ((q : List Bool) → has_node s.nodes q ≡ true → length q ≤ width) → AreNodes width s.entries s.nodes
+  are_nodes width v w s is within = record {
+    within = within;
+    depths = λ q there. depth q there;
+    rooted = is.0 [] ∙ ap is_some (read-nil v.slots);
+    closed = λ q k there begun whole. stand q whole (read_up v.slots q k whole begun (and-second (is_node_depth k) (is_some (read v.slots (path_of k))) (sym (is.0 k) ∙ there)));
+    hold_needed = λ q h. elim (needed_for s.entries q h) as (λ _. has_node s.nodes q ≡ true) [
+      | inl root ↦ ap (has_node s.nodes) root ∙ is.0 [] ∙ ap is_some (read-nil v.slots)
+      | inr reason ↦
+          stand q reason.five (read_up v.slots q reason.key reason.five reason.begins_it
+          (value_reads w.slots (read v.slots (path_of reason.key)) (bit_of reason.key) (sym (ap is_some (is.1 reason.key)) ∙ reason.stored)))
+    ];
+  }
+    where
+      depth : (q : List Bool) → has_node s.nodes q ≡ true → length q % 5 ≡ 0
+      depth q there = eqb-true (length q % 5) 0 (and-first (is_node_depth q) (is_some (read v.slots (path_of q))) (sym (is.0 q) ∙ there))
+
+      stand : (q : List Bool) → length q % 5 ≡ 0 → is_some (read v.slots (path_of q)) ≡ true → has_node s.nodes q ≡ true
+      stand q whole there = is.0 q ∙ both_true (is_node_depth q) (is_some (read v.slots (path_of q))) (ap (λ k. k == 0) whole) there
+
+  -- the table read by the array itself
+  pub read_held : (reading : List ℕ → Option Node) (values : List ℕ → ℕ → Option T) (paths : List (List ℕ)) (v : Store Node) (w : Store (Option T)) →
+      Holds reading values paths v w → Holds (read v.slots) values paths v w
+  read_held reading values paths v w holds =
+      subst (λ (f : List ℕ → Option Node). Holds f values paths v w) (λ i q. sym (reads_node reading values paths v w holds q) i) holds
+
+-- ---- a node that is at hand
+
+module _ {K : Type 0} (IsKey : K → Type 0) (bits : K → List Bool) (width : ℕ) (v : Store Node) (p : Site K) (n : Node) (at : IsSite IsKey bits width v p n)
+    (long : length (bits p.key) ≡ width) where
+  pub here_length : length (take p.depth (bits p.key)) ≡ p.depth
+  here_length = let w = at.within in length-take-le p.depth (bits p.key) (omega (arith, w, long))
+
+  pub here_whole : length (take p.depth (bits p.key)) % 5 ≡ 0
+  here_whole = let d = at.depth_is in omega (arith, d, here_length)
+
+  pub here_levels : length (take p.depth (bits p.key)) ≡ 5 * (p.depth / 5)
+  here_levels = let d = at.depth_is in omega (arith, d, here_length)
+
+  pub path_levels : length (path_of (take p.depth (bits p.key))) ≡ p.depth / 5
+  path_levels = let w = at.within in steps-all (bits p.key) p.depth (omega (arith, w, long))
+
+  -- it is at hand as long as the nodes above it stay
+  pub site_stays : (v2 : Store Node) (m : Node) → ((q : List ℕ) → length q < p.depth / 5 → read v2.slots q ≡ read v.slots q) →
+      read v2.slots (path_of (take p.depth (bits p.key))) ≡ Some m → IsSite IsKey bits width v2 p m
+  site_stays v2 m above stands = record {
+    key = at.key;
+    level = at.level;
+    depth_is = at.depth_is;
+    within = at.within;
+    stands = stands;
+    slot_is =
+        slot_stays (read v.slots) (read v2.slots) (path_of (take p.depth (bits p.key))) (p.slot.start + p.slot.place)
+        (λ q less. above q (omega (arith, less, path_levels))) at.slot_is;
+  }
+
+  module _ {T : Type 0} (count : ℕ) (w : Store (Option T)) (s : State T) (trie : IsTrie width count v w s) where
+    abbrev held_table : SomeTable v w
+    held_table = some_table trie.table
+
+    pub read_table : Holds (read v.slots) held_table.values held_table.paths v w
+    read_table = read_held held_table.reading held_table.values held_table.paths v w held_table.holds
+
+    pub site_holds : (node_at v.slots (p.slot.start + p.slot.place) ≡ n) × (p.slot.start + p.slot.place < length v.slots)
+    site_holds =
+        slot_holds node_sizes (read v.slots) held_table.paths v read_table.hold (path_of (take p.depth (bits p.key))) (p.slot.start + p.slot.place) n at.slot_is at.stands
+
+    pub site_values : (t : SomeTable v w) × IsNodeAt t.reading (p.slot.start + p.slot.place)
+    site_values = (
+      record { reading = read v.slots; values = held_table.values; paths = held_table.paths; holds = read_table },
+      record { path = path_of (take p.depth (bits p.key)); node = n; stands = at.slot_is; is = at.stands },
+    )
+
+    pub site_node : (t : SomeNodes v) × IsNodeAt t.reading (p.slot.start + p.slot.place)
+    site_node = (some_nodes site_values.0, site_values.1)
+
+    -- ---- a value there
+
+    module _ (t : List Bool) (short : length t ≤ 4) (set : has n.value_bitmap (value_bit t) ≡ true) where
+      pub key_path : path_of (take p.depth (bits p.key) ++ t) ≡ path_of (take p.depth (bits p.key))
+      key_path = (below_node (p.depth / 5) (take p.depth (bits p.key)) t here_levels short).0
+
+      pub key_bit : bit_of (take p.depth (bits p.key) ++ t) ≡ value_bit t
+      key_bit = ap value_bit (below_node (p.depth / 5) (take p.depth (bits p.key)) t here_levels short).1
+
+      pub bit_set : has_bit n.value_bitmap (value_bit t) ≡ true
+      bit_set = let h = value_bit-small t short in has_bit-is n.value_bitmap (value_bit t) (omega (arith, h)) ∙ set
+
+      module _ (reading : List ℕ → Option Node) (paths : List (List ℕ)) (values : List ℕ → ℕ → Option T) (holds : Holds reading values paths v w) where
+        node_there : reading (path_of (take p.depth (bits p.key) ++ t)) ≡ Some n
+        node_there =
+            ap reading key_path ∙ sym (reads_node reading values paths v w holds (path_of (take p.depth (bits p.key)))) ∙ at.stands
+
+        slot_there : IsSlot reading (path_of (take p.depth (bits p.key) ++ t)) (p.slot.start + p.slot.place)
+        slot_there =
+            subst (λ q. IsSlot reading q (p.slot.start + p.slot.place)) (sym key_path)
+            (subst (λ (f : List ℕ → Option Node). IsSlot f (path_of (take p.depth (bits p.key))) (p.slot.start + p.slot.place))
+            (λ i q. reads_node reading values paths v w holds q i) at.slot_is)
+
+        pub some_there : is_some (values (path_of (take p.depth (bits p.key) ++ t)) (bit_of (take p.depth (bits p.key) ++ t))) ≡ true
+        some_there =
+            holds.cells.set_where (path_of (take p.depth (bits p.key) ++ t)) (bit_of (take p.depth (bits p.key) ++ t))
+            ∙ ap₂ has_value node_there key_bit ∙ bit_set
+
+      -- what it leaves where it is taken
+      module _ (removed : Option T) (m : Node) (v2 : Store Node) (w2 : Store (Option T)) (count2 : ℕ)
+          (gives : (reading : List ℕ → Option Node) (paths : List (List ℕ)) (values : List ℕ → ℕ → Option T) (q : List ℕ) (k : Node) → NodesHold node_sizes reading paths v →
+          CellsHold cell_sizes reading values paths w → IsSlot reading q (p.slot.start + p.slot.place) → reading q ≡ Some k → removed ≡ values q (value_bit t))
+          (takes : (reading : List ℕ → Option Node) (paths : List (List ℕ)) (values : List ℕ → ℕ → Option T) (q : List ℕ) (k : Node) → NodesHold node_sizes reading paths v →
+          CellsHold cell_sizes reading values paths w → IsSlot reading q (p.slot.start + p.slot.place) → reading q ≡ Some k →
+          ValueTaken reading paths values q (value_bit t) k m v2 w w2) where
+        before : ForHeld v w (λ reading paths values. removed ≡ values (path_of (take p.depth (bits p.key) ++ t)) (bit_of (take p.depth (bits p.key) ++ t)))
+        before reading paths values holds =
+            gives reading paths values (path_of (take p.depth (bits p.key) ++ t)) n holds.hold holds.cells (slot_there reading paths values holds) (node_there reading paths values holds)
+            ∙ ap (values (path_of (take p.depth (bits p.key) ++ t))) (sym key_bit)
+
+        taken_with : (reading : List ℕ → Option Node) (paths : List (List ℕ)) (values : List ℕ → ℕ → Option T) (holds : Holds reading values paths v w) →
+            ValueTaken reading paths values (path_of (take p.depth (bits p.key) ++ t)) (bit_of (take p.depth (bits p.key) ++ t)) n m v2 w w2
+        taken_with reading paths values holds =
+            subst (λ b. ValueTaken reading paths values (path_of (take p.depth (bits p.key) ++ t)) b n m v2 w w2) (sym key_bit)
+            (takes reading paths values (path_of (take p.depth (bits p.key) ++ t)) n holds.hold holds.cells (slot_there reading paths values holds) (node_there reading paths values holds))
+
+        taken : ForHeld v w (λ reading paths values. EntryTaken reading paths values (path_of (take p.depth (bits p.key) ++ t)) (bit_of (take p.depth (bits p.key) ++ t)) v2 w w2)
+        taken reading paths values holds =
+            (value_taken reading values paths v w holds (path_of (take p.depth (bits p.key) ++ t)) (bit_of (take p.depth (bits p.key) ++ t)) n m v2 w2
+            (node_there reading paths values holds) (some_there reading paths values holds) (taken_with reading paths values holds)).0
+
+        -- the nodes: this one changed, and no other
+        read_after : (q : List ℕ) → read v2.slots q ≡ with_node (read v.slots) (path_of (take p.depth (bits p.key) ++ t)) m q
+        read_after q =
+            let a = taken_with (read v.slots) held_table.paths held_table.values read_table in
+            reads node_sizes (with_node (read v.slots) (path_of (take p.depth (bits p.key) ++ t)) m) held_table.paths v2 a.hold q
+
+        -- what becomes of the sizes of blocks
+        pub value_blocks_after : (q : List ℕ) → ValuesBetween (read v.slots q) (read v2.slots q)
+        value_blocks_after q =
+            subst (ValuesBetween (read v.slots q)) (sym (read_after q))
+            (taken_values_between (read v.slots) held_table.paths held_table.values (path_of (take p.depth (bits p.key) ++ t)) (bit_of (take p.depth (bits p.key) ++ t)) n m v2 w w2
+            (taken_with (read v.slots) held_table.paths held_table.values read_table) (node_there (read v.slots) held_table.paths held_table.values read_table)
+            read_table.cells.sizes_are q)
+
+        pub child_blocks_after : (q : List ℕ) → ChildrenBetween (read v.slots q) (read v2.slots q)
+        child_blocks_after q =
+            subst (ChildrenBetween (read v.slots q)) (sym (read_after q))
+            (taken_children_between (read v.slots) held_table.paths held_table.values (path_of (take p.depth (bits p.key) ++ t)) (bit_of (take p.depth (bits p.key) ++ t)) n m v2 w w2
+            (taken_with (read v.slots) held_table.paths held_table.values read_table) (node_there (read v.slots) held_table.paths held_table.values read_table) q)
+
+        pub value_above : (q : List ℕ) → length q < p.depth / 5 → read v2.slots q ≡ read v.slots q
+        value_above q less =
+            read_after q
+            ∙ with_other (read v.slots) (path_of (take p.depth (bits p.key) ++ t)) m q
+            (λ e. let l : length q ≡ p.depth / 5 = ap (λ (xs : List ℕ). length xs) (e ∙ key_path) ∙ path_levels in omega (arith, l, less))
+
+        pub value_read_after : read v2.slots (path_of (take p.depth (bits p.key))) ≡ Some m
+        value_read_after =
+            read_after (path_of (take p.depth (bits p.key)))
+            ∙ with_here (read v.slots) (path_of (take p.depth (bits p.key) ++ t)) m (path_of (take p.depth (bits p.key))) (sym key_path)
+
+        -- there was one
+        pub some_counted : 0 < count
+        some_counted =
+            let a = taken held_table.reading held_table.paths held_table.values held_table.holds in
+            let one : one_if (is_some (held_table.values (path_of (take p.depth (bits p.key) ++ t)) (bit_of (take p.depth (bits p.key) ++ t)))) ≡ 1 =
+            ap one_if (some_there held_table.reading held_table.paths held_table.values held_table.holds) in
+            omega (arith, a.counted, trie.table.counted, one)
+
+        removed_some : is_some removed ≡ true
+        removed_some =
+            ap is_some (before held_table.reading held_table.paths held_table.values held_table.holds)
+            ∙ some_there held_table.reading held_table.paths held_table.values held_table.holds
+
+        pub trie_taken : count2 ≡ count - 1 → Grows v v2 24 → Grows w w2 24 →
+            IsTrie width count2 v2 w2 (record { entries = without_entry s.entries (take p.depth (bits p.key) ++ t); nodes = s.nodes })
+        trie_taken fewer node_room cell_room =
+            let key = take p.depth (bits p.key) ++ t in
+            let shape = shape_taken held_table.reading held_table.values held_table.paths v w held_table.holds (take p.depth (bits p.key) ++ t) v2 w2 s trie.shaped
+            (taken held_table.reading held_table.paths held_table.values held_table.holds) in
+            let left : count2 + one_if (is_some removed) ≡ count = (let o = ap one_if removed_some in let c = some_counted in omega (arith, o, c, fewer)) in
+            record {
+              table = table_without (take p.depth (bits p.key) ++ t) v v2 w w2 count count2 (s, trie.shaped) trie.table removed before
+                  (record { entries = without_entry s.entries (take p.depth (bits p.key) ++ t); nodes = s.nodes }) shape refl left
+                  (counted_without (take p.depth (bits p.key) ++ t) v v2 w w2 count count2 (s, trie.shaped) trie.table removed before taken left)
+                  node_room cell_room (record { entries = without_entry s.entries (take p.depth (bits p.key) ++ t); nodes = s.nodes }, shape);
+              shaped = shape;
+              within = λ q there. trie.within q (removed_fewer s.entries (take p.depth (bits p.key) ++ t) q there);
+              nodes = AreNodes-without_entry width s.entries s.nodes (take p.depth (bits p.key) ++ t) trie.nodes;
+            }

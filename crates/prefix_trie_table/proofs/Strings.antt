@@ -1,0 +1,14 @@
+-- Bit strings, paths and bitmaps, and plain facts.
+pub mod Digits
+pub mod Plain
+pub mod Bits
+pub mod BitLists
+pub mod Paths
+pub mod Starts
+pub mod Keys
+pub mod PathLists
+pub mod PathSums
+pub mod Bare
+pub mod Placing
+pub mod PathStrings
+pub mod Filling

@@ -1,0 +1,171 @@
+-- Lists with the same paths, and the paths of all nodes as the root's and those of all children.
+use Rattle.std.proofs.Common.{◌≡◌, ◌≢◌, ℕ, zero, suc, ◌+◌, ◌<◌, ◌≤◌, inl, inr, Bool, true, false, cond, List, [], ◌∷◌, ◌++◌, map, flat_map, Option, None, Some, is_some, IsPermutation, refl, sym, ap, ◌∙◌, subst, arith}
+use Rattle.std.proofs.lemmas.Bool.{false≢true, cases_Bool, cases_lt, cases_eq}
+use Rattle.std.proofs.lemmas.List.{map-append}
+use Rattle.std.proofs.lemmas.List.Sorted.{IsPermutation-refl, IsPermutation-trans, IsPermutation-sym, IsPermutation-cons}
+use Rattle.prefix_trie_table.specs.declared.allocator.node.Node.{Node}
+use Rattle.prefix_trie_table.specs.Bitmaps.{has_bit, if_set, bits_below, bits}
+use Rattle.prefix_trie_table.specs.Store.{Store}
+use Rattle.prefix_trie_table.specs.Forest.{same_path, one_if, times, without, has_child, NodesHold}
+use Rattle.prefix_trie_table.proofs.Strings.Plain.{no_or_yes}
+use Rattle.prefix_trie_table.proofs.Strings.Bits.{has_bit-below}
+use Rattle.prefix_trie_table.proofs.Strings.Paths.{same_path-itself, same_path-true, same_path-equal, same_path-not, snoc_ind, snoc_inj, snoc_not_nil, swap_fronts, times_without}
+use Rattle.prefix_trie_table.proofs.Tree.Children.{same_or}
+
+-- one path put first
+pub first_out : (p : List ℕ) (paths : List (List ℕ)) → 0 < times p paths → IsPermutation paths (p ∷ without p paths)
+first_out p [] h = absurd (omega arith)
+first_out p (x ∷ paths) h = elim (cases_Bool (same_path p x)) as (λ _. IsPermutation (x ∷ paths) (p ∷ cond (same_path p x) paths (x ∷ without p paths))) [
+  | inl hit ↦ rw hit (subst (λ y. IsPermutation (x ∷ paths) (y ∷ paths)) (sym (same_path-true p x hit)) (IsPermutation-refl (x ∷ paths)))
+  | inr miss ↦
+      let more : 0 < times p paths = (let e : one_if (same_path p x) ≡ 0 = ap one_if miss in omega arith) in
+      rw miss (IsPermutation-trans (x ∷ paths) (x ∷ p ∷ without p paths) (p ∷ x ∷ without p paths)
+      (IsPermutation-cons x paths (p ∷ without p paths) (first_out p paths more))
+      (exchanged x p (without p paths)))
+]
+  where
+    exchanged : (a b : List ℕ) (rest : List (List ℕ)) → IsPermutation (a ∷ b ∷ rest) (b ∷ a ∷ rest)
+    exchanged a b rest = swap_fronts (a ∷ []) (b ∷ []) rest
+
+-- lists that have each path equally often have the same paths
+pub same_paths : (ps qs : List (List ℕ)) → ((r : List ℕ) → times r ps ≡ times r qs) → IsPermutation ps qs
+same_paths [] [] same = IsPermutation-refl []
+same_paths [] (q ∷ qs) same = absurd (let e = same q in let one : one_if (same_path q q) ≡ 1 = ap one_if (same_path-itself q) in omega arith)
+same_paths (p ∷ ps) qs same =
+    let one : one_if (same_path p p) ≡ 1 = ap one_if (same_path-itself p) in
+    let there : 0 < times p qs = (let e = same p in omega arith) in
+    IsPermutation-trans (p ∷ ps) (p ∷ without p qs) qs
+    (IsPermutation-cons p ps (without p qs) (same_paths ps (without p qs) (λ r. let e = same r in let f = times_without p r qs there in omega arith)))
+    (IsPermutation-sym qs (p ∷ without p qs) (first_out p qs there))
+
+times-append : (q : List ℕ) (xs ys : List (List ℕ)) → times q (xs ++ ys) ≡ times q xs + times q ys
+times-append q [] ys = omega arith
+times-append q (x ∷ xs) ys = omega (arith, times-append q xs ys)
+
+-- a path with a step more
+abbrev pub step : List ℕ → ℕ → List ℕ
+step p c = p ++ c ∷ []
+
+-- the paths of a node's children
+abbrev pub children_of : List ℕ → Option Node → List (List ℕ)
+children_of p None = []
+children_of p (Some n) = map (step p) (bits n.child_bitmap)
+
+step_once : (p : List ℕ) (c : ℕ) (s : Bool) (d : ℕ) → d ≢ c → times (step p c) (map (step p) (if_set s d)) ≡ 0
+step_once p c true d ne = let e : one_if (same_path (step p c) (step p d)) ≡ 0 = ap one_if (same_path-not _ _ (λ f. ne (sym (snoc_inj p p c d f).1))) in omega arith
+step_once p c false d ne = refl
+
+step_here : (p : List ℕ) (c : ℕ) (s : Bool) → times (step p c) (map (step p) (if_set s c)) ≡ one_if s
+step_here p c true = let e : one_if (same_path (step p c) (step p c)) ≡ 1 = ap one_if (same_path-itself (step p c)) in omega arith
+step_here p c false = refl
+
+below_more : (p : List ℕ) (c bitmap n : ℕ) →
+    times (step p c) (map (step p) (bits_below bitmap (suc n)))
+    ≡ times (step p c) (map (step p) (bits_below bitmap n)) + times (step p c) (map (step p) (if_set (has_bit bitmap n) n))
+below_more p c bitmap n =
+    ap (times (step p c)) (map-append (step p) (bits_below bitmap n) (if_set (has_bit bitmap n) n))
+    ∙ times-append (step p c) (map (step p) (bits_below bitmap n)) (map (step p) (if_set (has_bit bitmap n) n))
+
+-- the child c of p is not among those below c, and once among those of a higher bound if it is there
+none_below : (p : List ℕ) (c bitmap n : ℕ) → n ≤ c → times (step p c) (map (step p) (bits_below bitmap n)) ≡ 0
+none_below p c bitmap zero h = refl
+none_below p c bitmap (suc n) h =
+    omega (arith, below_more p c bitmap n, none_below p c bitmap n (omega arith), step_once p c (has_bit bitmap n) n (λ e. omega arith))
+
+one_below : (p : List ℕ) (c bitmap n : ℕ) → c < n → times (step p c) (map (step p) (bits_below bitmap n)) ≡ one_if (has_bit bitmap c)
+one_below p c bitmap zero h = absurd (omega arith)
+one_below p c bitmap (suc n) h = elim (cases_eq n c) as (λ _. times (step p c) (map (step p) (bits_below bitmap (suc n))) ≡ one_if (has_bit bitmap c)) [
+  | inl e ↦
+      let here : times (step p c) (map (step p) (if_set (has_bit bitmap n) n)) ≡ one_if (has_bit bitmap c) = ap (λ k. times (step p c) (map (step p)
+      (if_set (has_bit bitmap k) k))) e ∙ step_here p c (has_bit bitmap c) in
+      omega (arith, below_more p c bitmap n, none_below p c bitmap n (omega arith), here)
+  | inr ne ↦
+      omega (arith, below_more p c bitmap n, one_below p c bitmap n (omega arith), step_once p c (has_bit bitmap n) n ne)
+]
+
+-- the children of another path
+other_below : (p x : List ℕ) (c : ℕ) (ds : List ℕ) → p ≢ x → times (step p c) (map (step x) ds) ≡ 0
+other_below p x c [] ne = refl
+other_below p x c (d ∷ ds) ne =
+    let e : one_if (same_path (step p c) (step x d)) ≡ 0 = ap one_if (same_path-not _ _ (λ f. ne (snoc_inj p x c d f).0)) in
+    omega (arith, other_below p x c ds ne)
+
+child_once : (p : List ℕ) (c : ℕ) (o : Option Node) → times (step p c) (children_of p o) ≡ one_if (has_child o c)
+unfolding bits
+child_once p c None = refl
+child_once p c (Some n) = elim (cases_lt c 32) as (λ _. times (step p c) (map (step p) (bits_below n.child_bitmap 32)) ≡ one_if (has_bit n.child_bitmap c)) [
+  | inl within ↦ one_below p c n.child_bitmap 32 within
+  | inr past ↦ none_below p c n.child_bitmap 32 past ∙ sym (ap one_if (no_or_yes (has_bit n.child_bitmap c) (λ h. let b = has_bit-below n.child_bitmap c h in omega arith)))
+]
+
+child_other : (p x : List ℕ) (c : ℕ) (o : Option Node) → p ≢ x → times (step p c) (children_of x o) ≡ 0
+child_other p x c None ne = refl
+child_other p x c (Some n) ne = other_below p x c (bits n.child_bitmap) ne
+
+nil_below : (x : List ℕ) (ds : List ℕ) → times [] (map (step x) ds) ≡ 0
+nil_below x [] = refl
+nil_below x (d ∷ ds) =
+    let e : one_if (same_path [] (step x d)) ≡ 0 = ap one_if (same_path-not _ _ (λ f. snoc_not_nil x d (sym f))) in omega (arith, nil_below x ds)
+
+child_not_nil : (x : List ℕ) (o : Option Node) → times [] (children_of x o) ≡ 0
+child_not_nil x None = refl
+child_not_nil x (Some n) = nil_below x (bits n.child_bitmap)
+
+module _ (nodes : List ℕ → Option Node) where
+  -- the paths of all children of the nodes at these paths
+  abbrev pub children : List (List ℕ) → List (List ℕ)
+  children paths = flat_map (λ p. children_of p (nodes p)) paths
+
+  children_nil : (paths : List (List ℕ)) → times [] (children paths) ≡ 0
+  children_nil [] = refl
+  children_nil (x ∷ paths) = omega (arith, times-append [] (children_of x (nodes x)) (children paths), child_not_nil x (nodes x), children_nil paths)
+
+  -- a child stands there as often as its parent is listed
+  children_step : (p : List ℕ) (c : ℕ) (b : Bool) → has_child (nodes p) c ≡ b → (paths : List (List ℕ)) →
+      times (step p c) (children paths) ≡ cond b (times p paths) 0
+  children_step p c true e [] = refl
+  children_step p c false e [] = refl
+  children_step p c b e (x ∷ paths) =
+      elim (same_or p x) as (λ _. times (step p c) (children (x ∷ paths)) ≡ cond b (times p (x ∷ paths)) 0) [
+        | inl same ↦
+            let here : times (step p c) (children_of x (nodes x)) ≡ one_if b = ap (λ y. times (step p c) (children_of y (nodes y))) (sym same)
+            ∙ child_once p c (nodes p) ∙ ap one_if e in
+            let one : one_if (same_path p x) ≡ 1 = ap one_if (same_path-equal p x same) in
+            by b (times p paths) _ _ _ (times-append (step p c) (children_of x (nodes x)) (children paths)) here (children_step p c b e paths) one
+        | inr other ↦
+            let here : times (step p c) (children_of x (nodes x)) ≡ 0 = child_other p x c (nodes x) other in
+            let none : one_if (same_path p x) ≡ 0 = ap one_if (same_path-not p x other) in
+            by0 b (times p paths) _ _ _ _ (times-append (step p c) (children_of x (nodes x)) (children paths)) here (children_step p c b e paths) none
+      ]
+    where
+      by : (b : Bool) (t all one rest : ℕ) {k : ℕ} → all ≡ k + rest → k ≡ one_if b → rest ≡ cond b t 0 → one ≡ 1 → all ≡ cond b (one + t) 0
+      by true t all one rest e f g h = omega (arith, e, f, g, h)
+      by false t all one rest e f g h = omega (arith, e, f, g, h)
+
+      by0 : (b : Bool) (t all k rest one : ℕ) → all ≡ k + rest → k ≡ 0 → rest ≡ cond b t 0 → one ≡ 0 → all ≡ cond b (one + t) 0
+      by0 true t all k rest one e f g h = omega (arith, e, f, g, h)
+      by0 false t all k rest one e f g h = omega (arith, e, f, g, h)
+
+  -- each path is the root's or that of one child
+  pub listed_below : (sizes : List ℕ) (paths : List (List ℕ)) (v : Store Node) → NodesHold sizes nodes paths v →
+      IsPermutation paths ([] ∷ children paths)
+  listed_below sizes paths v hold = same_paths paths ([] ∷ children paths) (snoc_ind (λ q. times q paths ≡ times q ([] ∷ children paths)) root more)
+    where
+      root : times [] paths ≡ times [] ([] ∷ children paths)
+      root =
+          let one : one_if (same_path [] []) ≡ 1 = ap one_if (same_path-itself []) in
+          let is : times [] paths ≡ 1 = hold.listed [] ∙ ap (λ o. one_if (is_some o)) hold.rooted in
+          omega (arith, is, one, children_nil paths)
+
+      counted : (p : List ℕ) (c : ℕ) (b : Bool) (o : Option Node) → has_child o c ≡ b → times p paths ≡ one_if (is_some o) → one_if b ≡ cond b (times p paths) 0
+      counted p c true None e t = absurd (false≢true e)
+      counted p c true (Some n) e t = sym t
+      counted p c false o e t = refl
+
+      more : (p : List ℕ) (c : ℕ) → times p paths ≡ times p ([] ∷ children paths) → times (step p c) paths ≡ times (step p c) ([] ∷ children paths)
+      more p c ih =
+          let none : one_if (same_path (step p c) []) ≡ 0 = ap one_if (same_path-not _ _ (snoc_not_nil p c)) in
+          let b : Bool = has_child (nodes p) c in
+          let is : times (step p c) paths ≡ one_if (has_child (nodes p) c) = hold.listed (step p c) ∙ ap one_if (hold.linked p c) in
+          let below : times (step p c) (children paths) ≡ cond (has_child (nodes p) c) (times p paths) 0 = children_step p c (has_child (nodes p) c) refl paths in
+          omega (arith, is, none, below, counted p c (has_child (nodes p) c) (nodes p) refl (hold.listed p))

@@ -1,0 +1,188 @@
+-- The string at which the node of a path stands, and that there are as many nodes as paths.
+use Rattle.std.proofs.Common.{◌≡◌, ℕ, suc, ◌+◌, ◌%◌, ◌^◌, ◌<◌, ◌≤◌, inl, inr, Bool, true, false, cond, ◌&&◌, ◌||◌, List, [], ◌∷◌, ◌++◌, length, length-append, map, Option, None, Some, is_some, refl, sym, ap, ap₂, ◌∙◌, subst, arith, eqb-true, eq-eqb}
+use Rattle.std.proofs.lemmas.Bool.{false≢true, cases_Bool, false_from_ne_true}
+use Rattle.std.proofs.lemmas.List.Elements.{All-nil, All-push, All-head, All-tail}
+use Rattle.std.specs.Prelude.{All}
+use Rattle.std.specs.List.{list_any}
+use Rattle.std.specs.FinMap.{empty, len, contains_key, len-empty, len-insert}
+use Rattle.prefix_trie_bits.specs.Bits.{number, digits}
+use Rattle.prefix_trie_bits.specs.BitStrings.{length-digits, number-digits}
+use Rattle.prefix_trie_bits.specs.Begins.{same_bool}
+use Rattle.prefix_trie_bits.specs.Order.{listing_cmp, listing_total, same_string}
+use Rattle.prefix_trie_bits.specs.Model.Nodes.{Nodes, has_node, with_nodes, is_node_depth}
+use Rattle.prefix_trie_bits.proofs.Model.Members.{or-cases, or-left, or-right, and-first, and-second, and-join, same_string-is, is-same_string, has-empty, has-with_nodes, same_members}
+use Rattle.prefix_trie_table.specs.declared.allocator.node.Node.{Node}
+use Rattle.prefix_trie_table.specs.Digits.{path_of}
+use Rattle.prefix_trie_table.specs.Store.{Store}
+use Rattle.prefix_trie_table.specs.Forest.{same_path, one_if, times, has_child, NodesHold}
+use Rattle.prefix_trie_table.proofs.Strings.Plain.{needs_node}
+use Rattle.prefix_trie_table.proofs.Strings.Bits.{has_bit-below}
+use Rattle.prefix_trie_table.proofs.Strings.Keys.{same_way}
+use Rattle.prefix_trie_table.proofs.Strings.Paths.{same_path-true, same_path-itself, snoc_ind}
+
+-- the string to which a path leads: five bits for each step
+abbrev pub string_at : List ℕ → List Bool
+string_at [] = []
+string_at (c ∷ path) = digits 5 c ++ string_at path
+
+five-more : (l k : ℕ) → k % 5 ≡ 0 → l ≡ 5 + k → l % 5 ≡ 0
+five-more l k e f = omega (arith, e, f)
+
+-- it is as long as a node's
+pub string_depth : (path : List ℕ) → length (string_at path) % 5 ≡ 0
+string_depth [] = refl
+string_depth (c ∷ path) =
+    five-more _ _ (string_depth path) (length-append (digits 5 c) (string_at path) ∙ ap (λ n. n + length (string_at path)) (length-digits 5 c))
+
+path_more : (c : ℕ) (s : List Bool) → path_of (digits 5 c ++ s) ≡ number (digits 5 c) ∷ path_of s
+unfolding digits
+path_more c s = refl
+
+small : (c n : ℕ) → c < 32 → n ≡ c % 2 ^ 5 → n ≡ c
+small c n h e = omega (arith, h, e)
+
+-- steps are numbers of five bits
+abbrev pub IsStep : ℕ → Type 0
+IsStep c = c < 32
+
+-- and it has that path
+pub string_path : (path : List ℕ) → All IsStep path → path_of (string_at path) ≡ path
+string_path [] h = refl
+string_path (c ∷ path) h =
+    path_more c (string_at path)
+    ∙ ap₂ (λ d p. d ∷ p) (small c _ (All-head IsStep c path h) (number-digits 5 c)) (string_path path (All-tail IsStep c path h))
+
+listed-string : (p : List ℕ) (paths : List (List ℕ)) → 0 < times p paths → list_any (same_string (string_at p)) (map string_at paths) ≡ true
+listed-string p [] h = absurd (omega arith)
+listed-string p (x ∷ paths) h =
+    elim (cases_Bool (same_path p x)) as (λ _. (same_string (string_at p) (string_at x) || list_any (same_string (string_at p)) (map string_at paths)) ≡ true) [
+      | inl hit ↦ or-left _ _ (is-same_string (string_at p) (string_at x) (ap string_at (same_path-true p x hit)))
+      | inr miss ↦ or-right _ _ (listed-string p paths (let e : one_if (same_path p x) ≡ 0 = ap one_if miss in omega arith))
+    ]
+
+string-listed : (s : List Bool) (paths : List (List ℕ)) → list_any (same_string s) (map string_at paths) ≡ true →
+    (p : List ℕ) × (0 < times p paths) × (s ≡ string_at p)
+string-listed s [] h = absurd (false≢true h)
+string-listed s (x ∷ paths) h =
+    elim (or-cases (same_string s (string_at x)) (list_any (same_string s) (map string_at paths)) h) as (λ _. (p : List ℕ) × (0 < times p (x ∷ paths)) ×
+    (s ≡ string_at p)) [
+      | inl here ↦ (x, (let e : one_if (same_path x x) ≡ 1 = ap one_if (same_path-itself x) in omega arith), same_string-is s (string_at x) here)
+      | inr there ↦ let r = string-listed s paths there in (r.0, (let m = r.1 in omega arith), r.2)
+    ]
+
+-- the set of the strings of these paths
+abbrev pub nodes_at : List (List ℕ) → Nodes
+nodes_at paths = with_nodes empty (map string_at paths)
+
+has-nodes_at : (paths : List (List ℕ)) (s : List Bool) → has_node (nodes_at paths) s ≡ list_any (same_string s) (map string_at paths)
+has-nodes_at paths s = has-with_nodes empty (map string_at paths) s ∙ ap (λ b. list_any (same_string s) (map string_at paths) || b) (has-empty s)
+    ∙ nothing (list_any (same_string s) (map string_at paths))
+  where
+    nothing : (b : Bool) → (b || false) ≡ b
+    nothing true = refl
+    nothing false = refl
+
+-- each of these paths leads to a string
+abbrev pub AreSteps : List (List ℕ) → Type 0
+AreSteps paths = (p : List ℕ) → 0 < times p paths → All IsStep p
+
+-- no path is there twice
+abbrev pub AreOnce : List (List ℕ) → Type 0
+AreOnce paths = (p : List ℕ) → times p paths ≤ 1
+
+-- so the first one leads to a string, and the others do
+pub first_steps : (x : List ℕ) (paths : List (List ℕ)) → AreSteps (x ∷ paths) → All IsStep x
+first_steps x paths steps = steps x (let e : one_if (same_path x x) ≡ 1 = ap one_if (same_path-itself x) in omega arith)
+
+pub other_steps : (x : List ℕ) (paths : List (List ℕ)) → AreSteps (x ∷ paths) → AreSteps paths
+other_steps x paths steps = λ p h. steps p (omega arith)
+
+-- and the others are there once
+pub other_once : (x : List ℕ) (paths : List (List ℕ)) → AreOnce (x ∷ paths) → AreOnce paths
+other_once x paths once = λ p. let o = once p in omega arith
+
+-- the string of the first path is that of no other
+pub fresh_string : (x : List ℕ) (paths : List (List ℕ)) → AreSteps (x ∷ paths) → AreOnce (x ∷ paths) →
+    list_any (same_string (string_at x)) (map string_at paths) ≡ false
+fresh_string x paths steps once =
+    let one : one_if (same_path x x) ≡ 1 = ap one_if (same_path-itself x) in
+    let gone : times x paths ≡ 0 = (let o = once x in omega arith) in
+    false_from_ne_true (list_any (same_string (string_at x)) (map string_at paths)) (λ h.
+    let r = string-listed (string_at x) paths h in
+    let same : x ≡ r.0 = sym (string_path x (first_steps x paths steps)) ∙ ap path_of r.2 ∙ string_path r.0 (other_steps x paths steps r.0 r.1) in
+    let none : times r.0 paths ≡ 0 = ap (λ p. times p paths) (sym same) ∙ gone in
+    let m = r.1 in absurd (omega arith))
+
+-- nor one of the set of theirs
+pub new_string : (x : List ℕ) (paths : List (List ℕ)) → AreSteps (x ∷ paths) → AreOnce (x ∷ paths) → contains_key (nodes_at paths) (string_at x) ≡ false
+new_string x paths steps once = has-nodes_at paths (string_at x) ∙ fresh_string x paths steps once
+
+-- it has as many as there are paths, where each stands once and leads to a string
+len-nodes_at : (paths : List (List ℕ)) → AreSteps paths → AreOnce paths → len (nodes_at paths) ≡ length paths
+len-nodes_at [] steps once = len-empty listing_cmp (Unit {0})
+len-nodes_at (x ∷ paths) steps once =
+    len-insert listing_total (nodes_at paths) (string_at x) tt
+    ∙ ap (λ b. cond b (len (nodes_at paths)) (len (nodes_at paths) + 1)) (new_string x paths steps once)
+    ∙ ap (λ n. n + 1) (len-nodes_at paths (other_steps x paths steps) (other_once x paths once))
+    ∙ (let e : length paths + 1 ≡ suc (length paths) = omega arith in e)
+
+one-at-most : (b : Bool) (t : ℕ) → t ≡ one_if b → t ≤ 1
+one-at-most true t e = omega (arith, e)
+one-at-most false t e = omega (arith, e)
+
+from-one : (b : Bool) (t : ℕ) → t ≡ one_if b → 0 < t → b ≡ true
+from-one true t e h = refl
+from-one false t e h = absurd (omega (arith, e, h))
+
+module _ (sizes : List ℕ) (nodes : List ℕ → Option Node) (paths : List (List ℕ)) (v : Store Node) (hold : NodesHold sizes nodes paths v) where
+  -- a path to a node has steps of five bits
+  steps_small : (q : List ℕ) → is_some (nodes q) ≡ true → All IsStep q
+  steps_small = snoc_ind (λ q. is_some (nodes q) ≡ true → All IsStep q) (λ h. All-nil IsStep)
+      (λ q c ih h. let has : has_child (nodes q) c ≡ true = sym (hold.linked q c) ∙ h in All-push IsStep q c (ih (needs_node (nodes q) c has)) (within (nodes q) c has))
+    where
+      within : (o : Option Node) (c : ℕ) → has_child o c ≡ true → c < 32
+      within None c h = absurd (false≢true h)
+      within (Some n) c h = has_bit-below n.child_bitmap c h
+
+  -- a listed path leads to a node
+  pub listed_some : (p : List ℕ) → 0 < times p paths → is_some (nodes p) ≡ true
+  listed_some p h = from-one (is_some (nodes p)) (times p paths) (hold.listed p) h
+
+  -- the strings of the listed paths are those at which a node stands
+  pub listed_at : (s : List Bool) → list_any (same_string s) (map string_at paths) ≡ (is_node_depth s && is_some (nodes (path_of s)))
+  listed_at s = sym (same_bool _ _ (into s) (out s))
+    where
+      into : (s : List Bool) → (is_node_depth s && is_some (nodes (path_of s))) ≡ true → list_any (same_string s) (map string_at paths) ≡ true
+      into s h =
+          let some : is_some (nodes (path_of s)) ≡ true = and-second (is_node_depth s) (is_some (nodes (path_of s))) h in
+          let there : times (path_of s) paths ≡ 1 = hold.listed (path_of s) ∙ ap one_if some in
+          let same : string_at (path_of s) ≡ s =
+          same_way (string_at (path_of s)) s (string_depth (path_of s)) (eqb-true (length s % 5) 0 (and-first (is_node_depth s)
+          (is_some (nodes (path_of s))) h)) (string_path (path_of s) (steps_small (path_of s) some)) in
+          subst (λ t. list_any (same_string t) (map string_at paths) ≡ true) same (listed-string (path_of s) paths (omega arith))
+
+      out : (s : List Bool) → list_any (same_string s) (map string_at paths) ≡ true → (is_node_depth s && is_some (nodes (path_of s))) ≡ true
+      out s h =
+          let r = string-listed s paths h in
+          let some : is_some (nodes r.0) ≡ true = listed_some r.0 r.1 in
+          let path : path_of s ≡ r.0 = ap path_of r.2 ∙ string_path r.0 (steps_small r.0 some) in
+          and-join (is_node_depth s) (is_some (nodes (path_of s)))
+          (eq-eqb (length s % 5) 0 (ap (λ t. length t % 5) r.2 ∙ string_depth r.0)) (ap (λ p. is_some (nodes p)) path ∙ some)
+
+  -- all paths lead to strings, and each is there once
+  pub paths_steps : AreSteps paths
+  paths_steps = λ p h. steps_small p (listed_some p h)
+
+  pub paths_once : AreOnce paths
+  paths_once = λ p. one-at-most (is_some (nodes p)) (times p paths) (hold.listed p)
+
+  module _ (n : Nodes) (are : (s : List Bool) → has_node n s ≡ (is_node_depth s && is_some (nodes (path_of s)))) where
+    -- the nodes are those at the strings of the paths
+    pub same_nodes : n ≡ nodes_at paths
+    same_nodes = same_members n (nodes_at paths) (λ s. are s ∙ sym (listed_at s) ∙ sym (has-nodes_at paths s))
+
+    -- the nodes are as many as their paths
+    pub paths_counted : len n ≡ length paths
+    paths_counted =
+        ap (λ m. len m) same_nodes
+        ∙ len-nodes_at paths paths_steps paths_once

@@ -1,0 +1,13 @@
+-- The tree in the two arrays, by path, and what contracts see of it.
+pub mod Trees
+pub mod Invariant
+pub mod Children
+pub mod Values
+pub mod Shapes
+pub mod Growing
+pub mod WayEnds
+pub mod Ways
+pub mod Subtrees
+pub mod Kept
+pub mod Copying
+pub mod Stated

@@ -1,0 +1,330 @@
+-- A path grows digit by digit.
+use Rattle.std.proofs.Common.{◌≡◌, ◌≢◌, ℕ, zero, suc, ◌+◌, ◌<◌, ◌≤◌, ◌⊎◌, inl, inr, ⊎_elim, Bool, true, false, cond, not, nat_lt, ◌&&◌, ◌||◌, List, [], ◌∷◌, ◌++◌, length, get_or, take, Option, None, Some, is_some, refl, sym, ap, ap₂, ◌∙◌, subst, arith, length-take-le}
+use Rattle.std.proofs.lemmas.List.{take_more, take_all, take_at, take-take}
+use Rattle.std.proofs.lemmas.Bool.{false≢true, cases_lt, cases_eq, lt-ltb, le-ltb}
+use Rattle.std.specs.Option.{option_or}
+use Rattle.prefix_trie_bits.specs.Model.Blocks.{child_block_sizes, value_block_sizes}
+use Rattle.prefix_trie_bits.specs.Model.Insertion.{block_needed}
+use Rattle.prefix_trie_table.specs.OwnBlocks.{size_if_any, child_block_size, value_block_size, child_need, value_need}
+use Rattle.prefix_trie_table.specs.declared.allocator.node.Node.{Node}
+use Rattle.prefix_trie_table.specs.Bitmaps.{has_bit, rank}
+use Rattle.prefix_trie_table.specs.Store.{Tier, Store, Enough, IsReady, tier_lacking, tier_for, free_at, size_in}
+use Rattle.prefix_trie_table.specs.Forest.{same_path, is_start, gains, size_gained, one_if, own_count, entry_count, IsSlot, NodesHold, CellsHold, Holds, ValueReady, Walked, EntryAdded, Deepest, ChildAdded, ValueSet, with_child, with_node, has_child}
+use Rattle.prefix_trie_table.specs.Cells.{blank_node, node_at, node_sizes, cell_sizes}
+use Rattle.prefix_trie_table.proofs.Strings.Bits.{has_bit-zero}
+use Rattle.prefix_trie_table.proofs.Strings.Paths.{same_path-equal, same_path-not}
+use Rattle.prefix_trie_table.proofs.Strings.Starts.{is_start-snoc, is_start_take, is_start-is}
+use Rattle.prefix_trie_table.proofs.Lookup.Finding.{prefix_some}
+use Rattle.prefix_trie_table.proofs.Counts.EntryCounts.{count_with_child, count_with_node}
+use Rattle.prefix_trie_table.proofs.Blocks.Spending.{ready_taken}
+use Rattle.prefix_trie_table.proofs.Strings.BitLists.{rank-zero-all}
+use Rattle.prefix_trie_table.proofs.Tree.Trees.{slot_holds, is_none-None}
+use Rattle.prefix_trie_table.proofs.Tree.Children.{changed_below, changed_here, changed_other, same_or, some_stays, with_here, with_other}
+use Rattle.prefix_trie_table.proofs.Tree.Values.{cells_with_child}
+
+or_same : (a b : Bool) → (b ≡ true → a ≡ true) → a ≡ (a || b)
+or_same true b h = refl
+or_same false true h = h refl
+or_same false false h = refl
+
+or_new : (a b : Bool) → true ≡ (a || (b || (true || false)))
+or_new true b = refl
+or_new false true = refl
+or_new false false = refl
+
+or_old : (a b : Bool) → (a || b) ≡ (a || (b || (false || false)))
+or_old true b = refl
+or_old false true = refl
+or_old false false = refl
+
+-- nothing that a false test says, and everything else that a true one does
+and_false : (a b : Bool) → (a && (b && false)) ≡ false
+and_false true true = refl
+and_false true false = refl
+and_false false b = refl
+
+and_none : (a b : Bool) → (a && (false && b)) ≡ false
+and_none true b = refl
+and_none false b = refl
+
+module _ (reading : List ℕ → Option Node) (path : List ℕ) where
+  -- a node that is deep enough gets no child, nor does one whose next node is there
+  gains_deep : (depth : ℕ) (q : List ℕ) → depth ≤ length q → gains reading path depth q ≡ false
+  gains_deep depth q h =
+      ap (λ b. is_start q path && (b && not (is_some (reading (take (length q + 1) path))))) (le-ltb (length q) depth h)
+      ∙ and_none (is_start q path) (not (is_some (reading (take (length q + 1) path))))
+
+  gains_there : (depth : ℕ) (q : List ℕ) → is_some (reading (take (length q + 1) path)) ≡ true → gains reading path depth q ≡ false
+  gains_there depth q some =
+      ap (λ b. is_start q path && (nat_lt (length q) depth && not b)) some ∙ and_false (is_start q path) (nat_lt (length q) depth)
+
+  -- the node where the way is gets one
+  gains_here : (depth : ℕ) → depth < length path → is_some (reading (take (depth + 1) path)) ≡ false → gains reading path (depth + 1) (take depth path) ≡ true
+  gains_here depth inside missing =
+      let long : length (take depth path) ≡ depth = length-take-le depth path (omega arith) in
+      ap (λ b. b && (nat_lt (length (take depth path)) (depth + 1) && not (is_some (reading (take (length (take depth path) + 1) path))))) (is_start_take depth path)
+      ∙ ap (λ n. nat_lt n (depth + 1) && not (is_some (reading (take (n + 1) path)))) long
+      ∙ ap₂ (λ a b. a && not b) (lt-ltb depth (depth + 1) (omega arith)) missing
+
+  start_long : (q : List ℕ) → is_start q path ≡ true → q ≡ take (length q) path
+  start_long q h =
+      let r = is_start-is q path h in
+      sym (ap (take (length q)) r.1 ∙ take_at q r.0 (length q) refl)
+
+  -- the others get one where they did
+  gains_other : (depth : ℕ) (q : List ℕ) → q ≢ take depth path → gains reading path (depth + 1) q ≡ gains reading path depth q
+  gains_other depth q other = ⊎_elim (λ (e : length q ≡ depth). by_start e (is_start q path) refl)
+      (λ (ne : length q ≢ depth). ap (λ b. is_start q path && (b && not (is_some (reading (take (length q + 1) path))))) (same_lt (length q) depth ne)) (cases_eq (length q) depth)
+    where
+      by_start : length q ≡ depth → (b : Bool) → is_start q path ≡ b →
+          (is_start q path && (nat_lt (length q) (depth + 1) && not (is_some (reading (take (length q + 1) path)))))
+          ≡ (is_start q path && (nat_lt (length q) depth && not (is_some (reading (take (length q + 1) path)))))
+      by_start e true h = absurd (other (start_long q h ∙ ap (λ n. take n path) e))
+      by_start e false h =
+          ap (λ b. b && (nat_lt (length q) (depth + 1) && not (is_some (reading (take (length q + 1) path))))) h
+          ∙ sym (ap (λ b. b && (nat_lt (length q) depth && not (is_some (reading (take (length q + 1) path))))) h)
+
+      same_lt : (n d : ℕ) → n ≢ d → nat_lt n (d + 1) ≡ nat_lt n d
+      same_lt n d ne = elim (cases_lt n d) as (λ _. nat_lt n (d + 1) ≡ nat_lt n d) [
+        | inl less ↦ lt-ltb n (d + 1) (omega arith) ∙ sym (lt-ltb n d less)
+        | inr more ↦ le-ltb n (d + 1) (omega arith) ∙ sym (le-ltb n d more)
+      ]
+
+  -- the size that a node has which gets none, and one which gets one
+  size_kept : (depth : ℕ) (q : List ℕ) → gains reading path depth q ≡ false → size_gained reading path depth q ≡ child_block_size (reading q)
+  size_kept depth q e = ap (λ b. option_or (cond b (child_need (reading q)) None) (child_block_size (reading q))) e
+
+  size_new : (depth : ℕ) (q : List ℕ) → gains reading path depth q ≡ true →
+      size_gained reading path depth q ≡ option_or (child_need (reading q)) (child_block_size (reading q))
+  size_new depth q e = ap (λ b. option_or (cond b (child_need (reading q)) None) (child_block_size (reading q))) e
+
+-- a blank node has no block, and needs what a missing one needs
+blank_children : child_block_size (Some blank_node) ≡ None
+blank_children = ap (λ n. size_if_any n (size_in node_sizes 0)) rank-zero-all
+
+blank_values : value_block_size (Some blank_node) ≡ None
+blank_values = ap (λ n. size_if_any n (size_in cell_sizes 0)) rank-zero-all
+
+blank_needs : child_need (Some blank_node) ≡ child_need None
+blank_needs = ap (λ n. block_needed child_block_sizes (size_if_any n (size_in node_sizes 0)) n) rank-zero-all
+
+blank_value_needs : value_need (Some blank_node) ≡ value_need None
+blank_value_needs = ap (λ n. block_needed value_block_sizes (size_if_any n (size_in cell_sizes 0)) n) rank-zero-all
+
+or_none : (a b : Bool) → false ≡ (a || b) → a ≡ false
+or_none true b e = absurd (false≢true e)
+or_none false b e = refl
+
+module _ {T : Type 0} where
+  -- before the first step nothing was added
+  pub walked_start : (reading : List ℕ → Option Node) (values : List ℕ → ℕ → Option T) (paths : List (List ℕ)) (path : List ℕ) (depth slot : ℕ)
+      (v : Store Node) (w : Store (Option T)) → Holds reading values paths v w → Deepest reading path depth slot v →
+      Walked reading values paths path depth slot v w
+  walked_start reading values paths path depth slot v w holds deep = record {
+    later = reading;
+    paths = paths;
+    holds = holds;
+    deep = deep;
+    grown = λ q. or_same (is_some (reading q)) (is_start q (take depth path))
+        (λ h. prefix_some node_sizes reading paths v holds.hold q (take depth path) (ap is_some deep.is) h);
+    counted = refl;
+    children = λ q. sym (size_kept reading path depth q (none_gained q));
+    sized = λ q. refl;
+    needs = (refl, refl);
+  }
+    where
+      none_gained : (q : List ℕ) → gains reading path depth q ≡ false
+      none_gained q = elim (cases_lt (length q) depth) as (λ _. gains reading path depth q ≡ false) [
+        | inl less ↦ gains_there reading path depth q
+            (prefix_some node_sizes reading paths v holds.hold (take (length q + 1) path) (take depth path) (ap is_some deep.is)
+            (ap (λ p. is_start p (take depth path)) (sym (take-take (length q + 1) depth path (omega arith))) ∙ is_start_take (length q + 1) (take depth path)))
+        | inr deep_enough ↦ gains_deep reading path depth q deep_enough
+      ]
+
+  -- a child added is a step more
+  pub walked_more : (reading : List ℕ → Option Node) (values : List ℕ → ℕ → Option T) (before : List (List ℕ)) (path : List ℕ)
+      (depth slot c slot2 : ℕ) (v v2 : Store Node) (w : Store (Option T)) → (a : Walked reading values before path depth slot v w) →
+      depth < length path → c ≡ get_or path depth 0
+      → has_bit (node_at v.slots slot).child_bitmap c ≡ false
+      → ((nodes : List ℕ → Option Node) (paths : List (List ℕ)) (p : List ℕ) (n : Node) → NodesHold node_sizes nodes paths v → IsSlot nodes p slot →
+      nodes p ≡ Some n → ChildAdded nodes paths p n c v2 slot2)
+      → Walked reading values before path (depth + 1) slot2 v2 w × (node_at v2.slots slot2 ≡ blank_node)
+  walked_more reading values before path depth slot c slot2 v v2 w a inside digit missing added =
+      let p : List ℕ = take depth path in
+      let n : Node = a.deep.node in
+      let one : ChildAdded a.later a.paths (take depth path) a.deep.node c v2 slot2 =
+      added a.later a.paths (take depth path) a.deep.node a.holds.hold a.deep.stands a.deep.is in
+      let at = slot_holds node_sizes a.later a.paths v a.holds.hold (take depth path) slot a.deep.node a.deep.stands a.deep.is in
+      let lacks : has_bit a.deep.node.child_bitmap c ≡ false = ap (λ (k : Node). has_bit k.child_bitmap c) (sym at.0) ∙ missing in
+      let longer : take (depth + 1) path ≡ take depth path ++ c ∷ [] = take_more path depth 0 inside ∙ ap (λ d. take depth path ++ d ∷ []) (sym digit) in
+      let new : List ℕ → Option Node = with_child a.later (take depth path) one.node c in
+      let is_new : with_child a.later (take depth path) one.node c (take depth path ++ c ∷ []) ≡ Some blank_node =
+      changed_below a.later (take depth path) one.node c (Some blank_node) (take depth path ++ c ∷ []) refl in (
+        record {
+          later = with_child a.later (take depth path) one.node c;
+          paths = (take depth path ++ c ∷ []) ∷ a.paths;
+          holds = record {
+            hold = one.hold;
+            cells = cells_with_child cell_sizes node_sizes a.later a.paths v a.holds.hold values w a.holds.cells (take depth path) a.deep.node one.node
+                a.deep.is one.value_bitmap one.value_block one.value_tier c lacks;
+          };
+          deep = record { node = blank_node; stands = subst (λ q. IsSlot new q slot2) (sym longer) one.stands; is = ap new longer ∙ is_new };
+          grown = λ q. grow q one.node (same_or q (take depth path ++ c ∷ []))
+              ∙ sym (ap (λ b. is_some (reading q) || b) (ap (is_start q) longer ∙ is_start-snoc q (take depth path) c));
+          counted =
+              count_with_child a.later (take depth path) a.deep.node one.node c a.paths a.deep.is one.value_bitmap
+              (a.holds.hold.listed (take depth path ++ c ∷ [])
+              ∙ ap one_if (a.holds.hold.linked (take depth path) c ∙ ap (λ o. has_child o c) a.deep.is ∙ lacks)) ∙ a.counted;
+          children = λ q. child_sizes q one.node longer lacks one.children (same_or q (take depth path ++ c ∷ [])) (same_or q (take depth path));
+          sized = λ q. value_sizes q one.node longer lacks
+              (λ i. size_if_any (rank (one.value_bitmap i) 32) (size_in cell_sizes (one.value_tier i)))
+              (same_or q (take depth path ++ c ∷ [])) (same_or q (take depth path));
+          needs = (
+            ap child_need (ap new longer ∙ is_new) ∙ blank_needs ∙ sym (ap child_need (was_none longer lacks)),
+            ap value_need (ap new longer ∙ is_new) ∙ blank_value_needs ∙ sym (ap value_need (was_none longer lacks)),
+          );
+        },
+        (slot_holds node_sizes new ((take depth path ++ c ∷ []) ∷ a.paths) v2 one.hold (take depth path ++ c ∷ []) slot2 blank_node one.stands is_new).0,
+      )
+    where
+      was_none : take (depth + 1) path ≡ take depth path ++ c ∷ [] → has_bit a.deep.node.child_bitmap c ≡ false → reading (take (depth + 1) path) ≡ None
+      was_none longer lacks =
+          is_none-None (reading (take (depth + 1) path)) (or_none (is_some (reading (take (depth + 1) path))) (is_start (take (depth + 1) path) (take depth path))
+          (sym (ap (λ p. is_some (a.later p)) longer ∙ a.holds.hold.linked (take depth path) c ∙ ap (λ o. has_child o c) a.deep.is ∙ lacks) ∙ a.grown (take (depth + 1) path)))
+
+      long : length (take depth path) ≡ depth
+      long = length-take-le depth path (omega arith)
+
+      child_sizes : (q : List ℕ) (m : Node) → take (depth + 1) path ≡ take depth path ++ c ∷ [] → has_bit a.deep.node.child_bitmap c ≡ false →
+          child_block_size (Some m) ≡ option_or (child_need (Some a.deep.node)) (child_block_size (Some a.deep.node)) →
+          (q ≡ take depth path ++ c ∷ []) ⊎ (q ≢ take depth path ++ c ∷ []) → (q ≡ take depth path) ⊎ (q ≢ take depth path) →
+          child_block_size (with_child a.later (take depth path) m c q) ≡ size_gained reading path (depth + 1) q
+      child_sizes q m longer lacks more (inl e) at =
+          let none : reading q ≡ None = ap reading (e ∙ sym longer) ∙ was_none longer lacks in
+          let deep : depth + 1 ≤ length q = (let l = ap (λ (xs : List ℕ). length xs) (e ∙ sym longer) in let f = length-take-le (depth + 1) path (omega arith) in omega arith) in
+          ap child_block_size (changed_below a.later (take depth path) m c (Some blank_node) q e) ∙ blank_children
+          ∙ sym (size_kept reading path (depth + 1) q (gains_deep reading path (depth + 1) q deep) ∙ ap child_block_size none)
+      child_sizes q m longer lacks more (inr ne) (inl e) =
+          let before : child_block_size (Some a.deep.node) ≡ child_block_size (reading (take depth path)) =
+          ap child_block_size (sym a.deep.is) ∙ a.children (take depth path)
+          ∙ size_kept reading path depth (take depth path) (gains_deep reading path depth (take depth path) (let l = long in omega arith)) in
+          let need : child_need (Some a.deep.node) ≡ child_need (reading (take depth path)) = ap child_need (sym a.deep.is) ∙ a.needs.0 in
+          ap child_block_size (changed_here a.later (take depth path) m c (Some blank_node) q e) ∙ more ∙ ap₂ option_or need before
+          ∙ sym (size_new reading path (depth + 1) (take depth path) (gains_here reading path depth inside (ap is_some (was_none longer lacks))))
+          ∙ ap (size_gained reading path (depth + 1)) (sym e)
+      child_sizes q m longer lacks more (inr ne) (inr other) =
+          ap child_block_size (changed_other a.later (take depth path) m c (Some blank_node) q other ne) ∙ a.children q
+          ∙ ap (λ b. option_or (cond b (child_need (reading q)) None) (child_block_size (reading q))) (sym (gains_other reading path depth q other))
+
+      value_sizes : (q : List ℕ) (m : Node) → take (depth + 1) path ≡ take depth path ++ c ∷ [] → has_bit a.deep.node.child_bitmap c ≡ false →
+          value_block_size (Some m) ≡ value_block_size (Some a.deep.node) →
+          (q ≡ take depth path ++ c ∷ []) ⊎ (q ≢ take depth path ++ c ∷ []) → (q ≡ take depth path) ⊎ (q ≢ take depth path) →
+          value_block_size (with_child a.later (take depth path) m c q) ≡ value_block_size (reading q)
+      value_sizes q m longer lacks same (inl e) at =
+          ap value_block_size (changed_below a.later (take depth path) m c (Some blank_node) q e) ∙ blank_values
+          ∙ sym (ap value_block_size (ap reading (e ∙ sym longer) ∙ was_none longer lacks))
+      value_sizes q m longer lacks same (inr ne) (inl e) =
+          ap value_block_size (changed_here a.later (take depth path) m c (Some blank_node) q e) ∙ same ∙ ap value_block_size (sym a.deep.is)
+          ∙ a.sized (take depth path) ∙ ap (λ p. value_block_size (reading p)) (sym e)
+      value_sizes q m longer lacks same (inr ne) (inr other) =
+          ap value_block_size (changed_other a.later (take depth path) m c (Some blank_node) q other ne) ∙ a.sized q
+
+      grow : (q : List ℕ) (m : Node) → (q ≡ take depth path ++ c ∷ []) ⊎ (q ≢ take depth path ++ c ∷ []) →
+          is_some (with_child a.later (take depth path) m c q) ≡ (is_some
+          (reading q) || (is_start q (take depth path) || (same_path q (take depth path ++ c ∷ []) || false)))
+      grow q m (inl e) =
+          ap is_some (changed_below a.later (take depth path) m c (Some blank_node) q e) ∙ or_new (is_some (reading q)) (is_start q (take depth path))
+          ∙ ap (λ s. is_some (reading q) || (is_start q (take depth path) || (s || false)))
+          (sym (same_path-equal q (take depth path ++ c ∷ []) e))
+      grow q m (inr ne) =
+          some_stays a.later (take depth path) a.deep.node m c (Some blank_node) a.deep.is q ne ∙ a.grown q
+          ∙ or_old (is_some (reading q)) (is_start q (take depth path))
+          ∙ ap (λ s. is_some (reading q) || (is_start q (take depth path) || (s || false))) (sym (same_path-not q (take depth path ++ c ∷ []) ne))
+
+  -- a value put at the end of the way adds the entry
+  pub entry_added : (reading : List ℕ → Option Node) (values : List ℕ → ℕ → Option T) (before : List (List ℕ)) (path : List ℕ) (depth slot b : ℕ)
+      (x : Option T) (v v2 : Store Node) (w u : Store (Option T)) → (a : Walked reading values before path depth slot v w) → depth ≡ length path
+      → ((nodes : List ℕ → Option Node) (paths : List (List ℕ)) (p : List ℕ) (n : Node) → NodesHold node_sizes nodes paths v →
+      CellsHold cell_sizes nodes values paths w → IsSlot nodes p slot → nodes p ≡ Some n → ValueSet nodes paths values p b x v2 u)
+      → EntryAdded reading values before path b x v2 u
+  entry_added reading values before path depth slot b x v v2 w u a all put =
+      let whole : take depth path ≡ path = take_all depth path (omega arith) in
+      let is : a.later path ≡ Some a.deep.node = ap a.later (sym whole) ∙ a.deep.is in
+      let one : ValueSet a.later a.paths values path b x v2 u =
+      put a.later a.paths path a.deep.node a.holds.hold a.holds.cells (subst (λ p. IsSlot a.later p slot) whole a.deep.stands) is in
+      record {
+        later = with_node a.later path one.node;
+        paths = a.paths;
+        holds = record { hold = one.hold; cells = one.cells };
+        grown = λ q. stays q one.node (same_or q path) ∙ a.grown q ∙ ap (λ p. is_some (reading q) || is_start q p) whole;
+        counted = added_up (entry_count (with_node a.later path one.node) a.paths) (entry_count a.later a.paths) (entry_count reading before)
+            (own_count (a.later path)) (own_count (Some one.node)) _ _
+            (count_with_node a.later path one.node a.paths (a.holds.hold.listed path ∙ ap (λ o. one_if (is_some o)) is)) a.counted one.counted;
+        children = λ q. child_stays q one.node one.children (same_or q path) ∙ a.children q ∙ ap (λ d. size_gained reading path d q) all;
+        sized = λ none q. value_grows q one.node (one.sized none) (same_or q path);
+      }
+    where
+      whole_path : take depth path ≡ path
+      whole_path = take_all depth path (omega arith)
+
+      child_stays : (q : List ℕ) (m : Node) → child_block_size (Some m) ≡ child_block_size (a.later path) → (q ≡ path) ⊎ (q ≢ path) →
+          child_block_size (with_node a.later path m q) ≡ child_block_size (a.later q)
+      child_stays q m same (inl e) = ap child_block_size (with_here a.later path m q e) ∙ same ∙ ap (λ p. child_block_size (a.later p)) (sym e)
+      child_stays q m same (inr ne) = ap child_block_size (with_other a.later path m q ne)
+
+      value_grows : (q : List ℕ) (m : Node) → value_block_size (Some m) ≡ option_or (value_need (a.later path)) (value_block_size (a.later path)) →
+          (q ≡ path) ⊎ (q ≢ path) →
+          value_block_size (with_node a.later path m q) ≡ option_or (cond (same_path q path) (value_need (reading q)) None) (value_block_size (reading q))
+      value_grows q m grown (inl e) =
+          ap value_block_size (with_here a.later path m q e) ∙ grown
+          ∙ ap₂ option_or (ap (λ p. value_need (a.later p)) (sym whole_path) ∙ a.needs.1 ∙ ap (λ p. value_need (reading p)) whole_path) (a.sized path)
+          ∙ ap (λ p. option_or (value_need (reading p)) (value_block_size (reading p))) (sym e)
+          ∙ sym (ap (λ b. option_or (cond b (value_need (reading q)) None) (value_block_size (reading q))) (same_path-equal q path e))
+      value_grows q m grown (inr ne) =
+          ap value_block_size (with_other a.later path m q ne) ∙ a.sized q
+          ∙ sym (ap (λ b. option_or (cond b (value_need (reading q)) None) (value_block_size (reading q))) (same_path-not q path ne))
+
+      added_up : (now mid old own new had has : ℕ) → now + own ≡ mid + new → mid ≡ old → new + had ≡ own + has → now + had ≡ old + has
+      added_up now mid old own new had has e f k = omega arith
+
+      stays : (q : List ℕ) (m : Node) → (q ≡ path) ⊎ (q ≢ path) → is_some (with_node a.later path m q) ≡ is_some (a.later q)
+      stays q m (inl e) = ap is_some (with_here a.later path m q e) ∙ sym (ap is_some (ap a.later (e ∙ sym (take_all depth path (omega arith))) ∙ a.deep.is))
+      stays q m (inr ne) = ap is_some (with_other a.later path m q ne)
+
+-- room for one list that has nothing yet
+pub ready_blank : (ts : List Tier) → tier_for ts 1 ≡ Some 0 → 0 < free_at ts 0 → IsReady ts 0 0
+ready_blank ts single free = ready_taken ts ts 0 0 0 refl single free
+
+-- what is prepared for a blank node
+pub enough_blank : (ts : List Tier) (m : ℕ) → tier_for ts 1 ≡ Some 0 → m + 1 ≤ free_at ts 0 → Enough ts 0 0 m
+enough_blank ts m single free = record { ready = ready_blank ts single (omega arith); singles = omega arith; both = λ _. free }
+
+-- what is left free once one list took its room
+pub enough_next : (ts us : List Tier) (k count lists : ℕ) → Enough ts k count lists → ((j : ℕ) → free_at ts j ≤ free_at us j + 1) →
+    ((j : ℕ) → tier_lacking ts k count ≢ Some j → free_at ts j ≤ free_at us j) → lists ≤ free_at us 0
+enough_next ts us k count lists enough free kept = go (tier_lacking ts k count) refl
+  where
+    go : (o : Option ℕ) → tier_lacking ts k count ≡ o → lists ≤ free_at us 0
+    go None e = (let s = enough.singles in let f = kept 0 (λ z. let x : ◌≡◌ {A = Option ℕ} None (Some 0) = sym e ∙ z in cc) in omega arith)
+    go (Some zero) e = (let s = enough.both e in let f = free 0 in omega arith)
+    go (Some (suc j)) e = (let s = enough.singles in let f =
+        kept 0 (λ z. let x : ◌≡◌ {A = Option ℕ} (Some (suc j)) (Some 0) = sym e ∙ z in not_zero j x) in omega arith)
+      where
+        not_zero : (j : ℕ) → ◌≡◌ {A = Option ℕ} (Some (suc j)) (Some 0) → ⊥
+        not_zero j x = cc
+
+-- a blank bitmap has no bits
+pub rank-blank : rank 0 32 ≡ 0
+rank-blank = rank-zero-all
+
+-- what can be added below a blank node, and at it
+pub enough_below : (n : Node) (ts : List Tier) (m : ℕ) → n ≡ blank_node → tier_for ts 1 ≡ Some 0 → m + 1 ≤ free_at ts 0 →
+    Enough ts n.child_tier (rank n.child_bitmap 32) m
+enough_below n ts m e single free =
+    subst (λ (k : Node). Enough ts k.child_tier (rank k.child_bitmap 32) m) (sym e)
+    (subst (λ r. Enough ts 0 r m) (sym rank-blank) (enough_blank ts m single free))
+
+-- a blank node takes its first value
+pub value_below : {T : Type 0} (n : Node) (w : Store (Option T)) (b : ℕ) → n ≡ blank_node → IsReady w.tiers 0 0 → ValueReady n w b
+value_below n w b e ready =
+    subst (λ (k : Node). ValueReady k w b) (sym e) (record { ready = subst (λ r. IsReady w.tiers 0 r) (sym rank-blank) ready; missing = has_bit-zero b })

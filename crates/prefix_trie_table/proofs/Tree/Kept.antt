@@ -1,0 +1,102 @@
+-- What a call leaves of a table that makes free blocks alone.
+use Rattle.std.proofs.Common.{◌≡◌, ℕ, ◌+◌, ◌≤◌, false, Bool, List, length, take, Option, None, Result, MatchResult, sym, ap, ◌∙◌, subst}
+use Rattle.std.specs.FinMap.{contains_key, len as number_of}
+use Rattle.prefix_trie_bits.specs.declared.prefix.Refusal.{Refusal}
+use Rattle.prefix_trie_bits.specs.declared.prefix.Refusal.TheVariants.{Memory, IndexRange}
+use Rattle.prefix_trie_bits.specs.Model.Step.{State}
+use Rattle.prefix_trie_bits.specs.Model.Storage.{ReadiesInStorage, RefusesInStorage}
+use Rattle.prefix_trie_table.specs.declared.allocator.node.Node.{Node}
+use Rattle.prefix_trie_table.specs.declared.table.seat.WayEnd.{WayEnd}
+use Rattle.prefix_trie_table.specs.Asked.{ObtainsBoth, nodes_needed, cells_needed}
+use Rattle.prefix_trie_table.specs.Cells.{blank_node}
+use Rattle.prefix_trie_table.specs.Forest.{Holds}
+use Rattle.prefix_trie_table.specs.Layouts.{Sized}
+use Rattle.prefix_trie_table.specs.Locations.{seat_of, IsWayEnd}
+use Rattle.prefix_trie_table.specs.Shape.{Shaped, same_shape}
+use Rattle.prefix_trie_table.specs.Store.{Store, Block, Sound, Prepared}
+use Rattle.prefix_trie_table.specs.Tables.{IsReached, IsTable, Grows}
+use Rattle.prefix_trie_table.proofs.Insertion.Asks.{at_end}
+use Rattle.prefix_trie_table.proofs.Insertion.Foreseen.{obtained}
+use Rattle.prefix_trie_table.proofs.Insertion.Inserted.{readied_in}
+use Rattle.prefix_trie_table.proofs.Insertion.Inserting.{nodes_prepared, cells_prepared, reached_still}
+use Rattle.prefix_trie_table.proofs.Tree.Invariant.{some_table}
+use Rattle.prefix_trie_table.proofs.Lookup.Located.{stored_if}
+use Rattle.prefix_trie_table.proofs.Insertion.Resized.{sizes_kept}
+use Rattle.prefix_trie_table.proofs.Tree.Shapes.{shape_kept}
+use Rattle.prefix_trie_table.proofs.Blocks.Sizing.{storage_of}
+use Rattle.prefix_trie_table.proofs.Tree.Trees.{is_none-None}
+use Rattle.prefix_trie_table.proofs.Tree.WayEnds.{way_ends, way_reached}
+
+-- the way that a table has for a missing string
+module _ {T : Type 0} (v : Store Node) (w : Store (Option T)) (count : ℕ) (s : Shaped v.slots w.slots) (is : IsTable v w count s.0) (b : List Bool) (len : ℕ)
+    (long : len ≤ length b) (end : WayEnd) (build : List Node) (same : v.slots ≡ build) where
+  -- it has no seat
+  pub absent_seat : contains_key s.0.entries (take len b) ≡ false → seat_of v.slots (take len b) ≡ None
+  absent_seat absent = is_none-None (seat_of v.slots (take len b)) (sym (stored_if v w count s is (take len b)) ∙ absent)
+
+  -- and the end of its way is the node reached
+  pub end_reached : IsWayEnd build (take len b) end → IsReached b len end.reached.level end.reached.node (end.reached.at.start + end.reached.at.place) v
+  end_reached e =
+      way_reached v is.reading is.paths is.nodes b len end long
+      (subst (λ nodes. IsWayEnd nodes (take len b) end) (sym same) e)
+
+module _ {T : Type 0} (v v2 : Store Node) (w w2 : Store (Option T)) (count : ℕ) (s : Shaped v.slots w.slots) (is : IsTable v w count s.0)
+    (nodes : Prepared v v2) (nodes_sound : (live : List (Block Node)) → Sound blank_node live v → Sound blank_node live v2)
+    (cells : Prepared w w2) (cells_sound : (live : List (Block (Option T))) → Sound None live w → Sound None live w2) where
+  -- the arrays hold what they held
+  pub kept_holds : Holds is.reading is.values is.paths v2 w2
+  kept_holds = record {
+    hold = nodes_prepared is.reading is.paths v v2 is.nodes nodes nodes_sound;
+    cells = cells_prepared is.reading is.values is.paths w w2 is.cells cells cells_sound;
+  }
+
+  -- they have the shape that there was
+  abbrev pub kept_shape : Shaped v2.slots w2.slots
+  kept_shape = (s.0, shape_kept is.reading is.values is.paths v v2 w w2 (some_table is).holds s.0 s.1 kept_holds)
+
+  -- and no other
+  pub kept_same : (t : Shaped v2.slots w2.slots) → t.0 ≡ s.0
+  kept_same t = same_shape v2.slots w2.slots t.0 s.0 t.1 kept_shape.1
+
+  -- and are a table
+  pub kept_table : Grows v v2 56 → Grows w w2 31 → (t : Shaped v2.slots w2.slots) → IsTable v2 w2 count t.0
+  kept_table more_nodes more_cells t = record {
+    reading = is.reading;
+    values = is.values;
+    paths = is.paths;
+    nodes = kept_holds.hold;
+    cells = kept_holds.cells;
+    counted = is.counted;
+    sized = is.sized ∙ ap (λ (y : State T). number_of y.entries) (sym (kept_same t));
+    cells_first = more_cells.first_is ∙ is.cells_first;
+    one_limit = more_cells.limit_is ∙ is.one_limit ∙ sym more_nodes.limit_is;
+    nodes_within = more_nodes.within is.nodes_within;
+    cells_within = more_cells.within is.cells_within;
+  }
+
+  -- with blocks of the sizes that there were
+  pub kept_sizes : (sized : Sized v.slots) (later : Sized v2.slots) → (later.0 ≡ sized.0) × (later.1.0 ≡ sized.1.0)
+  kept_sizes sized later =
+      sizes_kept is.reading is.values is.paths v w (some_table is).holds s.0 s.1 sized v2 w2 later kept_holds
+
+  module _ (b : List Bool) (len : ℕ) (end : WayEnd)
+      (at : IsReached b len end.reached.level end.reached.node (end.reached.at.start + end.reached.at.place) v) where
+    -- a way ends where it ended
+    pub kept_end : IsWayEnd v2.slots (take len b) end
+    kept_end =
+        let t = some_table is in
+        way_ends v2 t.reading t.paths kept_holds.hold b len end
+        (reached_still b len end.reached.level (end.reached.at.start + end.reached.at.place) end.reached.node v v2 t.reading t.paths at t.holds.hold nodes kept_holds.hold)
+
+    -- and what was obtained for it readies its insertion
+    pub kept_readies : {X : Type 0} (sized : Sized v.slots) (later : Sized v2.slots) (r : Result X Refusal) → Grows v v2 56 → Grows w w2 31 →
+        ObtainsBoth (λ cause. cause ≡ IndexRange) (λ cause. cause ≡ Memory) r v v2 w w2 (nodes_needed v end.reached.node end.reached.level len)
+        (cells_needed w end.reached.node end.reached.level len) → contains_key s.0.entries (take len b) ≡ false →
+        MatchResult r (λ _. ReadiesInStorage s.0 (take len b) (storage_of v w sized) (storage_of v2 w2 later))
+        (λ cause. RefusesInStorage s.0 (take len b) cause (storage_of v w sized) (storage_of v2 w2 later))
+    kept_readies sized later r more_nodes more_cells obtains absent =
+        readied_in v v2 w w2 count count s.0 s.0 is (kept_table more_nodes more_cells kept_shape) sized later (take len b) (λ cause. cause) r
+        (obtained (λ cause. cause ≡ IndexRange) (λ cause. cause ≡ Memory) b len v v2 w w2 count s is sized r
+        (λ reading paths values holds none.
+        at_end b len end.reached.level (end.reached.at.start + end.reached.at.place) end.reached.node v at reading paths holds.hold obtains) absent)
+        (kept_sizes sized later)

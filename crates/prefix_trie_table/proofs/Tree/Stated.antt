@@ -1,0 +1,243 @@
+-- A call that changes a table is a step of the model.
+use Rattle.std.proofs.Common.{◌≡◌, ℕ, ◌+◌, ◌<◌, ◌≤◌, inl, inr, Bool, true, false, cond, ◌&&◌, List, [], ◌∷◌, length, Option, Result, Ok, Err, IfErr, MatchResult, IsOk, IsTrue, is_some, refl, sym, ap, ◌∙◌, true≢false, subst, arith}
+use Rattle.std.specs.FinMap.{get, contains_key, len}
+use Rattle.prefix_trie_bits.specs.declared.prefix.Refused.{Refused}
+use Rattle.prefix_trie_bits.specs.declared.prefix.Refusal.{Refusal}
+use Rattle.prefix_trie_bits.specs.declared.prefix.Refusal.TheVariants.{IndexRange}
+use Rattle.prefix_trie_bits.specs.Model.Asking.{AsksInOrder}
+use Rattle.prefix_trie_bits.specs.Model.Entries.{no_entries, without_entry, without_below}
+use Rattle.prefix_trie_bits.specs.Model.Nodes.{has_node, is_node_depth, root_alone, with_needed, nodes_without, nodes_without_below, needed, AreNodes}
+use Rattle.prefix_trie_bits.specs.Model.Room.{MayPassLimit, LeavesRoom}
+use Rattle.prefix_trie_bits.specs.Model.Selections.{listing}
+use Rattle.prefix_trie_bits.specs.Model.Step.{State, Reply, Step, Insert, Remove, RemoveKeepTree, RemoveChildren, Clear, Done, Value}
+use Rattle.prefix_trie_bits.specs.Model.Storage.{Storage, cleared, InsertsInStorage, RefusesInStorage, RemovesValueInStorage, PrunesInStorage, RemovesManyInStorage, LeavesStorage, StepOfStrings, RetainsInStorage}
+use Rattle.prefix_trie_bits.proofs.Model.Members.{same_nodes}
+use Rattle.prefix_trie_table.specs.declared.allocator.node.Node.{Node}
+use Rattle.prefix_trie_table.specs.Digits.{path_of}
+use Rattle.prefix_trie_table.specs.Forest.{read}
+use Rattle.prefix_trie_table.specs.Layouts.{Sized, free_counts}
+use Rattle.prefix_trie_table.specs.Retaining.{Lasts}
+use Rattle.prefix_trie_table.specs.Shape.{Shaped}
+use Rattle.prefix_trie_table.specs.Steps.{inserted, SettlesInStorage}
+use Rattle.prefix_trie_table.specs.Store.{Store, SameRoom}
+use Rattle.prefix_trie_table.specs.Tables.{IsTable, Grows, MayPass}
+use Rattle.prefix_trie_table.proofs.Tree.Invariant.{some_table}
+use Rattle.prefix_trie_table.proofs.Blocks.KeptBlocks.{kept_blocks}
+use Rattle.prefix_trie_table.proofs.Removal.PartTaken.{all_gone, root_left}
+use Rattle.prefix_trie_table.proofs.Strings.Plain.{no_or_yes}
+use Rattle.prefix_trie_table.proofs.Removal.Settling.{settled_room, some_nodes}
+use Rattle.prefix_trie_table.proofs.Tree.Shapes.{Leaves, before_left, left_only, shape_nodes}
+use Rattle.prefix_trie_table.proofs.Blocks.Sizing.{same_layout, storage_of}
+use Rattle.prefix_trie_table.proofs.Removal.Stepped.{retained_values, retained_children}
+use Rattle.prefix_trie_table.proofs.Removal.Still.{nodes_settled, cells_settled, still}
+
+-- what the empty string begins is all
+pub all_step : {T : Type 0} (key_width : ℕ) (s t : State T × Storage) (q : List Bool) → length q ≡ 0 → AreNodes key_width s.0.entries s.0.nodes →
+    StepOfStrings s Clear Done t → StepOfStrings s (RemoveChildren q) Done t
+all_step key_width s t [] none are h width = record {
+  step = (refl, (h width).step.1 ∙ sym (λ i. record { entries = all_gone s.0.entries i; nodes = root_left key_width s.0.entries s.0.nodes are i }));
+  room = (h width).room;
+  index_range = (h width).index_range;
+  storage = (λ _. (h width).storage, λ some. absurd (omega (arith, some)));
+}
+all_step key_width s t (b ∷ q) none are h width = absurd (omega (arith, none))
+
+module _ {T : Type 0} (v v2 : Store Node) (w w2 : Store (Option T)) (count count2 : ℕ) (s : Shaped v.slots w.slots) (is : IsTable v w count s.0)
+    (z : Sized v.slots) (s2 : Shaped v2.slots w2.slots) (left : IsTable v2 w2 count2 s2.0) (z2 : Sized v2.slots) where
+  abbrev before : State T × Storage
+  before = (s.0, storage_of v w z)
+
+  abbrev after : State T × Storage
+  after = (s2.0, storage_of v2 w2 z2)
+
+  -- the root is a node
+  some_node : 0 < len s.0.nodes
+  some_node =
+      let t = some_table is in
+      some_nodes s.0.nodes [] (shape_nodes t.reading t.values t.paths v w t.holds s.0 s.1 [] ∙ ap is_some t.holds.hold.rooted)
+
+  cells_within : length w2.slots ≤ v2.limit
+  cells_within = (let h = left.cells_within in let e = left.one_limit in omega (arith, h, e))
+
+  -- so 56 slots at most are no more than 56 for each node
+  few_slots : v2.limit ≡ v.limit → length v2.slots ≤ length v.slots + 56 → length w2.slots ≤ length w.slots + 56 →
+      LeavesRoom (len s.0.nodes) (storage_of v w z).room (storage_of v2 w2 z2).room
+  few_slots limit nodes cells = record {
+    same_limit = limit;
+    nodes_within = left.nodes_within;
+    cells_within = cells_within;
+    nodes_grow = (let one = some_node in omega (arith, nodes, one));
+    cells_grow = (let one = some_node in omega (arith, cells, one));
+  }
+
+  one_longer : Grows v v2 24 → Grows w w2 24 → LeavesRoom (len s.0.nodes) (storage_of v w z).room (storage_of v2 w2 z2).room
+  one_longer nodes cells =
+      let n = nodes.at_most in
+      let c = cells.at_most in
+      few_slots nodes.limit_is (omega (arith, n)) (omega (arith, c))
+
+  pub longer_room : Grows v v2 56 → Grows w w2 31 → LeavesRoom (len s.0.nodes) (storage_of v w z).room (storage_of v2 w2 z2).room
+  longer_room nodes cells = (let c = cells.at_most in few_slots nodes.limit_is nodes.at_most (omega (arith, c)))
+
+  value_given : (x : Option T) → ◌≡◌ {A = Reply (List Bool) T} (Value x) (Reply.Refused IndexRange) → ⊥
+  value_given x e = cc
+
+  done : ◌≡◌ {A = Reply (List Bool) T} Done (Reply.Refused IndexRange) → ⊥
+  done e = cc
+
+  -- ---- one entry is taken out
+
+  module _ (q : List Bool) (value : Option T) (is_value : value ≡ get s.0.entries q) where
+    pub removes_step : s2.0 ≡ record { entries = without_entry s.0.entries q; nodes = nodes_without s.0.nodes s.0.entries q } →
+        RemovesValueInStorage s.0 s2.0 q (storage_of v w z) (storage_of v2 w2 z2) → PrunesInStorage s.0 s2.0 (storage_of v w z) (storage_of v2 w2 z2) →
+        Grows v v2 24 → Grows w w2 24 → StepOfStrings before (Remove q) (Value value) after
+    removes_step only removes prunes nodes cells width = record {
+      step = (ap Value is_value, only);
+      room = one_longer nodes cells;
+      index_range = λ e. absurd (value_given value e);
+      storage = (removes, prunes);
+    }
+
+    pub takes_step : s2.0 ≡ record { entries = without_entry s.0.entries q; nodes = s.0.nodes } →
+        RemovesValueInStorage s.0 s2.0 q (storage_of v w z) (storage_of v2 w2 z2) → z2.0 ≡ z.0 → v2.tiers ≡ v.tiers →
+        Grows v v2 24 → length v2.slots ≡ length v.slots → Grows w w2 24 → StepOfStrings before (RemoveKeepTree q) (Value value) after
+    takes_step only removes children tiers nodes long cells width = record {
+      step = (ap Value is_value, only);
+      room = one_longer nodes cells;
+      index_range = λ e. absurd (value_given value e);
+      storage = (removes, long, children, ap free_counts tiers);
+    }
+
+  -- ---- many are
+
+  module _ (lasts : Lasts 0 v v2 w w2) where
+    pub settles_in : SettlesInStorage (storage_of v w z) (storage_of v2 w2 z2)
+    settles_in = record {
+      nodes = nodes_settled v v2 w w2 (some_table is) (some_table left) z z2 lasts.settles;
+      cells = cells_settled v v2 w w2 (some_table is) (some_table left) z z2 lasts.settles;
+    }
+
+    pub many_room : LeavesRoom (len s.0.nodes) (storage_of v w z).room (storage_of v2 w2 z2).room
+    many_room = let room = settled_room v v2 w w2 count s.0 is s.1 lasts.settles in record {
+      same_limit = lasts.node_limit;
+      nodes_within = left.nodes_within;
+      cells_within = cells_within;
+      nodes_grow = room.0;
+      cells_grow = room.1;
+    }
+
+    pub removes_many : RemovesManyInStorage s.0 s2.0 (storage_of v w z) (storage_of v2 w2 z2)
+    removes_many =
+        let t = some_table is in
+        let u = some_table left in
+        record {
+          value_blocks = retained_values v v2 w w2 s z t s2 z2 u lasts.values;
+          child_blocks = retained_children v v2 w w2 s z t s2 z2 u lasts.children;
+          node_slots = lasts.node_slots;
+          cell_slots = lasts.cell_slots;
+          nodes_still = still _ _ _ _ settles_in.nodes lasts.node_slots;
+          cells_still = still _ _ _ _ settles_in.cells lasts.cell_slots;
+          keeps = kept_blocks v v2 w w2 t u z z2 lasts.node_made lasts.cell_made;
+        }
+
+    pub retains_step : {F : Type 0} (asks : F → List Bool → T → Bool → F → Type 0) (f : F) (kept : State T) → kept ≡ s2.0 →
+        AsksInOrder asks f (listing s.0.entries) (listing kept.entries) → kept.nodes ≡ needed kept.entries → RetainsInStorage asks f before after
+    retains_step asks f kept same asked tidy = record {
+      kept = subst (λ (x : State T). AsksInOrder asks f (listing s.0.entries) (listing x.entries)) same asked;
+      nodes = subst (λ (x : State T). x.nodes ≡ needed x.entries) same tidy;
+      room = many_room;
+      storage = removes_many;
+    }
+
+    pub part_step : (q : List Bool) → 0 < length q →
+        s2.0 ≡ record { entries = without_below s.0.entries q; nodes = nodes_without_below s.0.nodes s.0.entries q } →
+        StepOfStrings before (RemoveChildren q) Done after
+    part_step q some only width = record {
+      step = (refl, only);
+      room = many_room;
+      index_range = λ e. absurd (done e);
+      storage = (λ none. absurd (omega (arith, none, some)), λ _. removes_many);
+    }
+
+  -- ---- all are
+
+  pub clears_step : s2.0 ≡ record { entries = no_entries; nodes = root_alone } → storage_of v2 w2 z2 ≡ cleared (storage_of v w z) →
+      StepOfStrings before Clear Done after
+  clears_step only emptied width =
+      let limit = ap (λ (x : Storage). x.room.limit) emptied in
+      let nodes = ap (λ (x : Storage). x.room.node_slots) emptied in
+      let cells = ap (λ (x : Storage). x.room.cell_slots) emptied in
+      record {
+        step = (refl, only);
+        room = few_slots limit (omega (arith, nodes)) (omega (arith, cells));
+        index_range = λ e. absurd (done e);
+        storage = emptied;
+      }
+
+  -- ---- one is set
+
+  module _ (q : List Bool) (x : T) where
+    -- what an insertion says of the arrays
+    pub record Inserts (r : Result (Option T) (Refused T)) : Type 0 where
+      pub leaves : Leaves q x v v2 w w2 count count2 s is r
+      pub stays : IsTrue (contains_key s.0.entries q) → IsOk r × SameRoom w w2 × (v2 ≡ v) × (w2.tiers ≡ w.tiers)
+      pub takes : contains_key s.0.entries q ≡ false → MatchResult r (λ _. InsertsInStorage s.0 q (storage_of v w z) (storage_of v2 w2 z2))
+          (λ refused. RefusesInStorage s.0 q refused.cause (storage_of v w z) (storage_of v2 w2 z2))
+      pub range : IfErr r (λ refused. refused.cause ≡ IndexRange → MayPass v w)
+
+    same_set : v2 ≡ v → s2.0.nodes ≡ s.0.nodes
+    same_set e = same_nodes s2.0.nodes s.0.nodes (λ p there. sym (shape_is p) ∙ there) (λ p there. shape_is p ∙ there)
+      where
+        shape_is : (p : List Bool) → has_node s2.0.nodes p ≡ has_node s.0.nodes p
+        shape_is p = s2.1.0 p ∙ ap (λ (a : Store Node). is_node_depth p && is_some (read a.slots (path_of p))) e ∙ sym (s.1.0 p)
+
+    -- a stored key needs no node
+    nodes_set : (b : Bool) → (b ≡ true → v2 ≡ v) → s2.0.nodes ≡ with_needed s.0.nodes q → s2.0.nodes ≡ cond b s.0.nodes (with_needed s.0.nodes q)
+    nodes_set true same e = same_set (same refl)
+    nodes_set false same e = e
+
+    stored_same : (r : Result (Option T) (Refused T)) → IsOk r × SameRoom w w2 × (v2 ≡ v) × (w2.tiers ≡ w.tiers) → storage_of v2 w2 z2 ≡ storage_of v w z
+    stored_same r same =
+        let layout = same_layout _ _ _ _ _ _ z z2 (ap (λ (a : Store Node). a.slots) same.2) (ap (λ (a : Store Node). a.tiers) same.2) same.3 in
+        λ i. record { room = record { limit = (same.2 i).limit; node_slots = length (same.2 i).slots; cell_slots = same.1.0 i }; layout = layout i }
+
+    refused_new : (e : Refused T) → Inserts (Err e) → contains_key s.0.entries q ≡ false
+    refused_new e h = no_or_yes (contains_key s.0.entries q) (λ has. true≢false (sym (h.stays has).0))
+
+    same_cause : (c d : Refusal) → ◌≡◌ {A = Reply (List Bool) T} (Reply.Refused c) (Reply.Refused d) → c ≡ d
+    same_cause c d e = cc
+
+    no_refusal : (o : Option T) (c : Refusal) → ◌≡◌ {A = Reply (List Bool) T} (Value o) (Reply.Refused c) → ⊥
+    no_refusal o c e = cc
+
+    model_step : (width : ℕ) (r : Result (Option T) (Refused T)) → Inserts r → Step (λ p. p) (λ p. p) width s.0 (Insert q x) (inserted r) s2.0
+    model_step width (Ok old) h =
+        let only = left_only q x v v2 w w2 count count2 s is {E = Refused T} (Ok old) h.leaves s2 in
+        let nodes = nodes_set (contains_key s.0.entries q) (λ has. (h.stays has).2) (ap (λ (a : State T). a.nodes) only) in
+        inl (ap Value (before_left q x v v2 w w2 count count2 s is {E = Refused T} (Ok old) h.leaves), λ i. record { entries = (only i).entries; nodes = nodes i })
+    model_step width (Err e) h = inr (refused_new e h, e.cause, refl, left_only q x v v2 w w2 count count2 s is {E = Refused T} (Err e) h.leaves s2)
+
+    leaves_storage : (r : Result (Option T) (Refused T)) → Inserts r →
+        LeavesStorage (λ p. p) s.0 (Insert q x) (inserted r) s2.0 (storage_of v w z) (storage_of v2 w2 z2)
+    leaves_storage (Ok old) h = (λ has. stored_same (Ok old) (h.stays has), λ was new e. h.takes new, λ cause e. absurd (no_refusal old cause e))
+    leaves_storage (Err refused) h = (
+      λ has. stored_same (Err refused) (h.stays has),
+      λ was new e. absurd (no_refusal was refused.cause (sym e)),
+      λ cause e. subst (λ c. RefusesInStorage s.0 q c (storage_of v w z) (storage_of v2 w2 z2)) (same_cause refused.cause cause e) (h.takes (refused_new refused h)),
+    )
+
+    range_given : (r : Result (Option T) (Refused T)) → Inserts r → ◌≡◌ {A = Reply (List Bool) T} (inserted r) (Reply.Refused IndexRange) →
+        MayPassLimit (storage_of v w z).room
+    range_given (Ok old) h e = absurd (no_refusal old IndexRange e)
+    range_given (Err refused) h e = elim (h.range (same_cause refused.cause IndexRange e)) [
+      | inl nodes ↦ inl nodes
+      | inr cells ↦ inr (let same = is.one_limit in omega (arith, cells, same))
+    ]
+
+    pub inserts_step : (r : Result (Option T) (Refused T)) → Inserts r → Grows v v2 56 → Grows w w2 31 → StepOfStrings before (Insert q x) (inserted r) after
+    inserts_step r h nodes cells width = record {
+      step = model_step width r h;
+      room = longer_room nodes cells;
+      index_range = range_given r h;
+      storage = leaves_storage r h;
+    }

@@ -1,0 +1,296 @@
+-- The stack of a walk that starts at a bit string.
+use Rattle.std.proofs.Common.{◌≡◌, ◌≢◌, ℕ, ◌+◌, ◌*◌, ◌^◌, ◌%◌, ◌<◌, ◌≤◌, Bool, true, false, not, ◌&&◌, List, [], ◌∷◌, ◌++◌, length, take, drop, filter, Some, inl, inr, refl, sym, ap, ap₂, ◌∙◌, subst, arith, length-append, length-drop, bit_and, append-nil, append_assoc}
+use Rattle.std.proofs.Math.Seq.{take-add}
+use Rattle.std.specs.List.{All}
+use Rattle.std.proofs.lemmas.List.Elements.{All-nil, All-cons, All-append, All-weaker, filter_passes}
+use Rattle.std.specs.Ordering.{is_lt}
+use Rattle.std.proofs.lemmas.Bool.{cases_lt, false≢true}
+use Rattle.std.proofs.lemmas.Bool.Decides.{eqb_tells}
+use Rattle.std.proofs.lemmas.List.{length-take-le, length-map, take-take, take-append-drop}
+use Rattle.prefix_trie_bits.specs.Bits.{number}
+use Rattle.prefix_trie_bits.specs.Order.{listing-refl}
+use Rattle.prefix_trie_bits.specs.Places.{has, ones_below, value_bit, is_in, is_before, places, strings, HoldsPlaces, Sets}
+use Rattle.prefix_trie_bits.specs.Walks.{to_come}
+use Rattle.prefix_trie_bits.specs.Model.NodeListings.{listing_at_places}
+use Rattle.prefix_trie_bits.specs.Model.Selections.{listing_below}
+use Rattle.prefix_trie_bits.proofs.Selecting.{is_in-and}
+use Rattle.prefix_trie_bits.proofs.Strings.{value_bit-injective}
+use Rattle.prefix_trie_bits.proofs.Model.NodeListings.{listing_at_child}
+use Rattle.prefix_trie_table.specs.declared.allocator.node.Node.{Node}
+use Rattle.prefix_trie_table.specs.declared.table.spot.Spot.{Spot}
+use Rattle.prefix_trie_table.specs.declared.table.cursor.Start.{Start}
+use Rattle.prefix_trie_table.specs.declared.table.cursor.Start.TheVariants.{At, After, Below}
+use Rattle.prefix_trie_table.specs.Cells.{node_at}
+use Rattle.prefix_trie_table.specs.Walking.Cursors.{selected, behind, kept, places_in}
+use Rattle.prefix_trie_table.specs.Digits.{path_of}
+use Rattle.prefix_trie_table.specs.Forest.{read, child_slot}
+use Rattle.prefix_trie_table.specs.Store.{Store}
+use Rattle.prefix_trie_table.specs.Tables.{IsTrie}
+use Rattle.prefix_trie_table.specs.Walking.Walks.{Tree, site, sites, IsSpot, IsTrail, IsStack, IsPlaceOf, IsOther, IsPassed, ArePassed, still, pending}
+use Rattle.prefix_trie_table.proofs.Strings.Bits.{rank-ones}
+use Rattle.prefix_trie_table.proofs.Walk.Passing.{passed-above}
+use Rattle.prefix_trie_table.proofs.Walk.Selected.{and-right, wanted_below, wanted_at_root, wanted_passed, wanted_ended, wanted_none, at_some_places}
+use Rattle.prefix_trie_table.proofs.Walk.Stacks.{pending-push, trail-push, restart, sites-push}
+use Rattle.prefix_trie_table.proofs.Tree.Subtrees.{is_in-value, is_in-child, number-small, child_is, child_inside, unset}
+use Rattle.prefix_trie_table.proofs.Tree.Trees.{read-nil}
+
+-- ---- masks
+
+-- of two strings one is before the other
+before-other : (s r : List Bool) → s ≢ r → not (is_before s r) ≡ is_before r s
+before-other [] [] ne = absurd (ne refl)
+before-other [] (b ∷ r) ne = refl
+before-other (a ∷ s) [] ne = refl
+before-other (true ∷ s) (true ∷ r) ne = before-other s r (λ e. ne (ap (λ t. true ∷ t) e))
+before-other (true ∷ s) (false ∷ r) ne = refl
+before-other (false ∷ s) (true ∷ r) ne = refl
+before-other (false ∷ s) (false ∷ r) ne = before-other s r (λ e. ne (ap (λ t. false ∷ t) e))
+
+not-itself : (s : List Bool) → is_before s s ≡ false
+not-itself s = ap is_lt (listing-refl s)
+
+module _ (values children : ℕ) (r : List Bool) (short : length r ≤ 4) (from : HoldsPlaces values children (λ s. not (is_before s r))) where
+  -- the string's own bit is in the masks from it on
+  pub own_bit : has values (value_bit r) ≡ true
+  own_bit = sym (is_in-value values children r (omega arith)) ∙ from.bits r (omega arith) ∙ ap not (not-itself r)
+
+  -- and without it they are those behind it
+  pub masks_after : (less : ℕ) → Sets less (value_bit r) values → less < 2 ^ 31 → HoldsPlaces less children (is_before r)
+  masks_after less sets small = record { bits = each; small = small }
+    where
+      other : (s : List Bool) → length s ≤ 5 → s ≢ r → is_in less children s ≡ is_in values children s → is_in less children s ≡ is_before r s
+      other s most ne same = same ∙ from.bits s most ∙ before-other s r ne
+
+      each : (s : List Bool) → length s ≤ 5 → is_in less children s ≡ is_before r s
+      each s most = elim (cases_lt (length s) 5) as (λ _. is_in less children s ≡ is_before r s) [
+        | inl l ↦ elim (eqb_tells (value_bit s) (value_bit r)) as (λ _. is_in less children s ≡ is_before r s) [
+          | inl t ↦
+              let same = value_bit-injective s r t.1 in
+              is_in-value less children s l ∙ ap (has less) t.1 ∙ sets.clear ∙ sym (not-itself r) ∙ ap (is_before r) (sym same)
+          | inr t ↦ other s most (λ e. t.1 (ap value_bit e)) (is_in-value less children s l ∙ sym (sets.others (value_bit s) t.1) ∙ sym (is_in-value values children s l))
+        ]
+        | inr g ↦
+            let five : length s ≡ 5 = omega arith in
+            other s most (λ e. absurd (let l = ap length e in omega (arith, l))) (is_in-child less children s five ∙ sym (is_in-child values children s five))
+      ]
+
+-- the places of a node that two masks leave
+pub masked : (n : Node) (values children : ℕ) → places (bit_and n.value_bitmap values) (bit_and n.child_bitmap children) ≡ places_in n values children
+masked n values children = λ i. filter (λ s. is_in-and n.value_bitmap n.child_bitmap values children s i) (strings 5)
+
+-- they are places of the node
+pub in_first : (n : Node) (values children : ℕ) (s : List Bool) → is_in (bit_and n.value_bitmap values) (bit_and n.child_bitmap children) s ≡ true → is_in n.value_bitmap n.child_bitmap s ≡ true
+in_first n values children s h = first (is_in n.value_bitmap n.child_bitmap s) (is_in values children s) (sym (is_in-and n.value_bitmap n.child_bitmap values children s) ∙ h)
+  where
+    first : (a b : Bool) → (a && b) ≡ true → a ≡ true
+    first true b e = refl
+    first false b e = cc
+
+-- at the node where a string ends, less than five bits of it are left
+pub short_rest : (b : List Bool) (width : ℕ) → length b ≡ width → (depth len : ℕ) → len ≤ width → len < depth + 5 → length (drop depth (take len b)) ≤ 4
+short_rest b width long depth len within last =
+    let l = length-take-le len b (omega (arith, long, within)) in omega (arith, length-drop depth (take len b), l, last)
+
+-- ---- the way
+
+-- nothing is behind itself
+behind-itself : (x : Start) (s : List Bool) → behind x s s ≡ false
+behind-itself At s = not-itself s
+behind-itself After s = not-itself s
+behind-itself Below s = refl
+
+module _ {K : Type 0} (IsKey : K → Type 0) (bits : K → List Bool) (width : ℕ) (v : Store Node) (key : K) (len : ℕ) (from : Start) where
+  -- at the next node of the way: what stands above it, and what is selected below it, is the selection
+  pub record IsLaid (T : Type 0) (depth : ℕ) (node : Node) (ps : List Spot) : Type 0 where
+    pub level : ℕ
+    pub depth_is : depth ≡ 5 * level
+    pub inside : depth ≤ len
+    pub high : length ps ≡ level
+    pub stands : read v.slots (path_of (take depth (bits key))) ≡ Some node
+    pub trail : IsTrail IsKey bits width v 0 (sites key ps)
+    pub passed : All (IsPassed bits) (sites key ps)
+    pub rest : (t : Tree T) → IsTrie width t.count v t.cells t.shape →
+        selected from t.shape.entries (take len (bits key)) ≡ wanted_below from t.shape.entries (take len (bits key)) (take depth (bits key)) ++ pending bits t.shape.entries (sites key ps)
+
+  pub laid_root : {T : Type 0} (node : Node) (ps : List Spot) → node ≡ node_at v.slots 0 → ps ≡ [] → IsLaid T 0 node ps
+  laid_root node ps is none = record {
+    level = 0;
+    depth_is = refl;
+    inside = omega arith;
+    high = ap length none;
+    stands = read-nil v.slots ∙ ap Some (sym is);
+    trail = subst (λ qs. IsTrail IsKey bits width v 0 (sites key qs)) (sym none) tt;
+    passed = subst (λ qs. All (IsPassed bits) (sites key qs)) (sym none) (All-nil (IsPassed bits));
+    rest = λ t tree.
+        sym (wanted_at_root from t.shape.entries (take len (bits key))) ∙ sym (append-nil (wanted_below from t.shape.entries (take len (bits key)) []))
+        ∙ ap (λ qs. wanted_below from t.shape.entries (take len (bits key)) [] ++ pending bits t.shape.entries (sites key qs)) (sym none);
+  }
+
+  module _ {T : Type 0} (is_key : IsKey key) (long : length (bits key) ≡ width) (within : len ≤ width) (depth : ℕ) (node : Node) (ps : List Spot) (laid : IsLaid T depth node ps) where
+    string_length : length (take depth (bits key)) ≡ depth
+    string_length = let i = laid.inside in length-take-le depth (bits key) (omega (arith, i, long, within))
+
+    whole : length (take depth (bits key)) % 5 ≡ 0
+    whole = let d = laid.depth_is in omega (arith, d, string_length)
+
+    pub stack_room : width ≤ 128 → length ps < 26
+    stack_room small = let d = laid.depth_is in let i = laid.inside in let h = laid.high in omega (arith, d, i, h, within, small)
+
+    -- what is left of the string here
+    left_is : take len (bits key) ≡ take depth (bits key) ++ drop depth (take len (bits key))
+    left_is =
+        sym (take-append-drop depth (take len (bits key)))
+        ∙ ap (λ s. s ++ drop depth (take len (bits key))) (take-take depth len (bits key) laid.inside)
+
+    -- the way goes on
+    module _ (more : depth + 5 ≤ len) where
+      five : length (take 5 (drop depth (bits key))) ≡ 5
+      five = let d = length-drop depth (bits key) in length-take-le 5 (drop depth (bits key)) (omega (arith, d, long, within, more))
+
+      deeper_string : take (depth + 5) (bits key) ≡ take depth (bits key) ++ take 5 (drop depth (bits key))
+      deeper_string = take-add depth 5 (bits key)
+
+      way_is : take len (bits key) ≡ take depth (bits key) ++ take 5 (drop depth (bits key)) ++ drop (depth + 5) (take len (bits key))
+      way_is =
+          sym (take-append-drop (depth + 5) (take len (bits key)))
+          ∙ ap (λ s. s ++ drop (depth + 5) (take len (bits key))) (take-take (depth + 5) len (bits key) more ∙ deeper_string)
+
+      module _ (t : Tree T) (tree : IsTrie width t.count v t.cells t.shape) (k : ℕ) (k_is : k ≡ number (take 5 (drop depth (bits key)))) where
+        -- the next node, where its bit is set
+        module _ (set : has node.child_bitmap k ≡ true) (place : ℕ) (place_is : place ≡ ones_below k node.child_bitmap) where
+          bit_set : has node.child_bitmap (number (take 5 (drop depth (bits key)))) ≡ true
+          bit_set = ap (has node.child_bitmap) (sym k_is) ∙ set
+
+          slot_is : child_slot node (number (take 5 (drop depth (bits key)))) ≡ node.child_block + place
+          slot_is =
+              let small = number-small (take 5 (drop depth (bits key))) five in
+              ap (λ n. node.child_block + n) (rank-ones node.child_bitmap (number (take 5 (drop depth (bits key)))) (omega (arith, small)) ∙ ap (λ n. ones_below n node.child_bitmap) (sym k_is) ∙ sym place_is)
+
+          pub next_inside : node.child_block + place < length v.slots
+          next_inside = subst (λ n. n < length v.slots) slot_is (child_inside width v t tree (take depth (bits key)) node whole laid.stands (take 5 (drop depth (bits key))) five bit_set)
+
+          next_stands : (next : Node) → next ≡ node_at v.slots (node.child_block + place) → read v.slots (path_of (take (depth + 5) (bits key))) ≡ Some next
+          next_stands next is =
+              ap (λ s. read v.slots (path_of s)) deeper_string
+              ∙ child_is width v t tree (take depth (bits key)) node whole laid.stands (take 5 (drop depth (bits key))) five bit_set
+              ∙ ap (λ n. Some (node_at v.slots n)) slot_is ∙ ap Some (sym is)
+
+        -- where it is clear nothing is stored below
+        none_below : has node.child_bitmap k ≡ false → listing_below t.shape.entries (take (depth + 5) (bits key)) ≡ []
+        none_below clear =
+            ap (listing_below t.shape.entries) deeper_string
+            ∙ sym (listing_at_child t.shape.entries (take depth (bits key)) (take 5 (drop depth (bits key))) five)
+            ∙ unset width v t tree (take depth (bits key)) node whole laid.stands (take 5 (drop depth (bits key))) (omega (arith, five))
+            (is_in-child node.value_bitmap node.child_bitmap (take 5 (drop depth (bits key))) five ∙ ap (has node.child_bitmap) (sym k_is) ∙ clear)
+
+    -- a spot is put at this node
+    module _ (p : Spot) (node_is : p.node ≡ node) (depth_is : p.depth ≡ depth) (each : All (IsPlaceOf node) (to_come p.places)) (qs : List Spot) (pushed : qs ≡ ps ++ p ∷ []) where
+      sites_are : sites key qs ≡ sites key ps ++ site key p ∷ []
+      sites_are = ap (sites key) pushed ∙ sites-push key ps p
+
+      spot : IsSpot IsKey bits width v (site key p)
+      spot = record {
+        key = is_key;
+        level = laid.level;
+        depth_is = depth_is ∙ laid.depth_is;
+        within = (let i = laid.inside in omega (arith, i, depth_is, within));
+        stands = ap (λ d. read v.slots (path_of (take d (bits key)))) depth_is ∙ laid.stands ∙ ap Some (sym node_is);
+        each = subst (λ n. All (IsPlaceOf n) (to_come p.places)) (sym node_is) each;
+      }
+
+      pub trail_pushed : IsTrail IsKey bits width v 0 (sites key qs)
+      trail_pushed =
+          subst (IsTrail IsKey bits width v 0) (sym sites_are)
+          (trail-push IsKey bits width v 0 (sites key ps) (site key p) laid.trail
+          (let d = laid.depth_is in let h = laid.high in let l = length-map ps (site key) in omega (arith, d, h, l, depth_is)) spot)
+
+      pub stack_pushed : IsStack IsKey bits width v (sites key qs)
+      stack_pushed = restart IsKey bits width v 0 (sites key qs) trail_pushed
+
+      pub passed_pushed : ArePassed bits (sites key qs)
+      passed_pushed = passed-above bits (sites key qs) (sites key ps) (site key p) sites_are laid.passed
+
+      module _ (values children : ℕ) (all : to_come p.places ≡ places_in node values children) (test : List Bool → Bool) (holds : HoldsPlaces values children test)
+          (t : Tree T) (tree : IsTrie width t.count v t.cells t.shape) where
+        still_is : still bits t.shape.entries (site key p) ≡ filter (λ e. test (take 5 (drop (length (take depth (bits key))) e.0))) (listing_below t.shape.entries (take depth (bits key)))
+        still_is =
+            ap (λ d. listing_at_places t.shape.entries (take d (bits key)) (to_come p.places)) depth_is
+            ∙ ap (listing_at_places t.shape.entries (take depth (bits key))) all
+            ∙ at_some_places t.shape.entries (take depth (bits key)) test (λ s. is_in node.value_bitmap node.child_bitmap s && is_in values children s) (is_in node.value_bitmap node.child_bitmap)
+            (λ s h. ap (λ b. is_in node.value_bitmap node.child_bitmap s && b) (holds.bits s h))
+            (unset width v t tree (take depth (bits key)) node whole laid.stands)
+
+        pending_is : pending bits t.shape.entries (sites key qs) ≡ still bits t.shape.entries (site key p) ++ pending bits t.shape.entries (sites key ps)
+        pending_is = ap (pending bits t.shape.entries) sites_are ∙ pending-push bits t.shape.entries (sites key ps) (site key p)
+
+      -- the node is passed: what is behind the child taken is left there
+      module _ (more : depth + 5 ≤ len) (values children : ℕ) (all : to_come p.places ≡ places_in node values children) (k : ℕ) (k_is : k ≡ number (take 5 (drop depth (bits key))))
+          (masks : (s : List Bool) → length s ≡ 5 → number s ≡ k → HoldsPlaces values children (behind from s)) where
+        holds : HoldsPlaces values children (behind from (take 5 (drop depth (bits key))))
+        holds = masks (take 5 (drop depth (bits key))) (five more) (sym k_is)
+
+        -- the child is not
+        child_taken : IsPassed bits (site key p)
+        child_taken =
+            subst (All (IsOther (take 5 (drop p.depth (bits key))))) (sym all)
+            (All-weaker (λ s. (is_in node.value_bitmap node.child_bitmap s && is_in values children s) ≡ true) (IsOther (take 5 (drop p.depth (bits key))))
+            (λ s h e. taken s h (e ∙ ap (λ d. take 5 (drop d (bits key))) depth_is))
+            (places_in node values children) (filter_passes (λ s. is_in node.value_bitmap node.child_bitmap s && is_in values children s) (strings 5)))
+          where
+            taken : (s : List Bool) → (is_in node.value_bitmap node.child_bitmap s && is_in values children s) ≡ true → s ≡ take 5 (drop depth (bits key)) → ⊥
+            taken s h e =
+                let five : length s ≡ 5 = ap length e ∙ five more in
+                let none : is_in values children s ≡ false = holds.bits s (omega (arith, five)) ∙ ap (behind from (take 5 (drop depth (bits key)))) e ∙ behind-itself from (take 5 (drop depth (bits key))) in
+                false≢true (sym none ∙ and-right (is_in node.value_bitmap node.child_bitmap s) (is_in values children s) h)
+
+        passed_is : (t : Tree T) → IsTrie width t.count v t.cells t.shape → wanted_below from t.shape.entries (take len (bits key)) (take depth (bits key))
+            ≡ wanted_below from t.shape.entries (take len (bits key)) (take (depth + 5) (bits key)) ++ still bits t.shape.entries (site key p)
+        passed_is t tree =
+            subst (λ q. wanted_below from t.shape.entries q (take depth (bits key)) ≡ wanted_below from t.shape.entries q (take (depth + 5) (bits key)) ++ still bits t.shape.entries (site key p)) (sym (way_is more))
+            (wanted_passed from t.shape.entries (take depth (bits key)) (take 5 (drop depth (bits key))) (drop (depth + 5) (take len (bits key)))
+            ∙ ap₂ (λ s es. wanted_below from t.shape.entries (take depth (bits key) ++ take 5 (drop depth (bits key)) ++ drop (depth + 5) (take len (bits key))) s ++ es) (sym (deeper_string more))
+            (ap (λ n. filter (λ e. behind from (take 5 (drop depth (bits key))) (take n (drop (length (take depth (bits key))) e.0))) (listing_below t.shape.entries (take depth (bits key)))) (five more)
+            ∙ sym (still_is values children all (behind from (take 5 (drop depth (bits key)))) holds t tree)))
+
+        rest_pushed : (t : Tree T) → IsTrie width t.count v t.cells t.shape → selected from t.shape.entries (take len (bits key))
+            ≡ wanted_below from t.shape.entries (take len (bits key)) (take (depth + 5) (bits key)) ++ pending bits t.shape.entries (sites key qs)
+        rest_pushed t tree =
+            laid.rest t tree ∙ ap (λ es. es ++ pending bits t.shape.entries (sites key ps)) (passed_is t tree)
+            ∙ append_assoc (wanted_below from t.shape.entries (take len (bits key)) (take (depth + 5) (bits key))) (still bits t.shape.entries (site key p)) (pending bits t.shape.entries (sites key ps))
+            ∙ ap (λ es. wanted_below from t.shape.entries (take len (bits key)) (take (depth + 5) (bits key)) ++ es) (sym (pending_is values children all (behind from (take 5 (drop depth (bits key)))) holds t tree))
+
+        -- where the child is missing that is all
+        pub rest_missing : has node.child_bitmap k ≡ false → (t : Tree T) → IsTrie width t.count v t.cells t.shape → pending bits t.shape.entries (sites key qs) ≡ selected from t.shape.entries (take len (bits key))
+        rest_missing clear t tree =
+            sym (rest_pushed t tree
+            ∙ ap (λ es. es ++ pending bits t.shape.entries (sites key qs)) (wanted_none from t.shape.entries (take len (bits key)) (take (depth + 5) (bits key)) (none_below more t tree k k_is clear)))
+
+        -- where it stands it is the next node
+        pub laid_next : (t : Tree T) → IsTrie width t.count v t.cells t.shape → has node.child_bitmap k ≡ true → (place : ℕ) → place ≡ ones_below k node.child_bitmap → (next : Node) → next ≡ node_at v.slots (node.child_block + place) →
+            IsLaid T (depth + 5) next qs
+        laid_next t tree set place place_is next is = record {
+          level = laid.level + 1;
+          depth_is = (let d = laid.depth_is in omega (arith, d));
+          inside = more;
+          high = (let h = laid.high in omega (arith, h, ap length pushed, length-append ps (p ∷ [])));
+          stands = next_stands more t tree k k_is set place place_is next is;
+          trail = trail_pushed;
+          passed = subst (All (IsPassed bits)) (sym sites_are)
+              (All-append (IsPassed bits) (sites key ps) (site key p ∷ []) laid.passed (All-cons (IsPassed bits) (site key p) [] child_taken (All-nil (IsPassed bits))));
+          rest = rest_pushed;
+        }
+
+      -- the string ends at this node
+      pub rest_ended : len < depth + 5 → (values children : ℕ) → to_come p.places ≡ places_in node values children → HoldsPlaces values children (kept from (drop depth (take len (bits key)))) →
+          (t : Tree T) → IsTrie width t.count v t.cells t.shape → pending bits t.shape.entries (sites key qs) ≡ selected from t.shape.entries (take len (bits key))
+      rest_ended last values children all masks t tree =
+          pending_is values children all (kept from (drop depth (take len (bits key)))) masks t tree
+          ∙ ap (λ es. es ++ pending bits t.shape.entries (sites key ps)) (sym ended)
+          ∙ sym (laid.rest t tree)
+        where
+          ended : wanted_below from t.shape.entries (take len (bits key)) (take depth (bits key)) ≡ still bits t.shape.entries (site key p)
+          ended =
+              ap (λ q. wanted_below from t.shape.entries q (take depth (bits key))) left_is
+              ∙ wanted_ended from t.shape.entries (take depth (bits key)) (drop depth (take len (bits key)))
+              (let l = short_rest (bits key) width long depth len within last in omega (arith, l))
+              ∙ sym (still_is values children all (kept from (drop depth (take len (bits key)))) masks t tree)

@@ -1,0 +1,95 @@
+-- The strings of entries as a set, and what is still to come of them.
+use Rattle.std.proofs.Common.{◌≡◌, Bool, true, false, cond, ◌&&◌, nat_lt, List, [], ◌∷◌, ◌++◌, length, take, map, filter, Option, None, Some, is_some, is_lt, refl, sym, ap, ap₂, ◌∙◌, subst}
+use lib.Dec.{T as IsT}
+use Rattle.std.proofs.lemmas.Bool.{false≢true}
+use Rattle.std.proofs.lemmas.List.{map-append}
+use Rattle.std.specs.Ordering.{eq_by_cmp}
+use Rattle.std.specs.FinMap.{get, contains_key, entries, entries_sorted, from_sorted, entries-from_sorted, get-from_sorted, get-entries, is_sorted, find}
+use Rattle.std.specs.FinMap.Entries.{below_all}
+use Rattle.prefix_trie_bits.specs.Bits.{begins}
+use Rattle.prefix_trie_bits.specs.Order.{listing_cmp}
+use Rattle.prefix_trie_bits.specs.Model.Entries.{Entries}
+use Rattle.prefix_trie_bits.specs.Model.Nodes.{Nodes, has_node}
+use Rattle.prefix_trie_bits.specs.Model.NodeListings.{pair_of, listing_at_place, listing_at_places}
+use Rattle.prefix_trie_bits.specs.Walks.{to_come}
+use Rattle.prefix_trie_bits.proofs.Model.Members.{same_members}
+use Rattle.prefix_trie_table.specs.Walking.Walks.{Site, still, pending}
+
+-- pairs that keep their keys keep their order
+module _ {X Y : Type 0} (f : List Bool × X → List Bool × Y) (keeps : (e : List Bool × X) → (f e).0 ≡ e.0) where
+  below_mapped : (k : List Bool) (es : List (List Bool × X)) → below_all listing_cmp k (map f es) ≡ below_all listing_cmp k es
+  below_mapped k [] = refl
+  below_mapped k (e ∷ es) = ap₂ (λ s b. is_lt (listing_cmp k s) && b) (keeps e) (below_mapped k es)
+
+  pub sorted_mapped : (es : List (List Bool × X)) → is_sorted listing_cmp (map f es) ≡ is_sorted listing_cmp es
+  sorted_mapped [] = refl
+  sorted_mapped (e ∷ es) =
+      ap₂ (λ a b. a && b) (ap (λ k. below_all listing_cmp k (map f es)) (keeps e) ∙ below_mapped e.0 es) (sorted_mapped es)
+
+module _ {T : Type 0} where
+  -- a pair without its value
+  abbrev pub bare : List Bool × T → List Bool × Unit {0}
+  bare e = (e.0, tt)
+
+  -- the strings of entries
+  abbrev pub strings_of : Entries T → Nodes
+  strings_of m = from_sorted (map bare (entries m))
+
+  sorted_bare : (m : Entries T) → IsT (is_sorted listing_cmp (map bare (entries m)))
+  sorted_bare m = subst (λ b. IsT b) (sym (sorted_mapped bare (λ e. refl) (entries m))) (entries_sorted m)
+
+  find_bare : (q : List Bool) (es : List (List Bool × T)) → is_some (find listing_cmp q (map bare es)) ≡ is_some (find listing_cmp q es)
+  find_bare q [] = refl
+  find_bare q (e ∷ es) = at (eq_by_cmp listing_cmp q e.0) (find_bare q es)
+    where
+      at : (b : Bool) → is_some (find listing_cmp q (map bare es)) ≡ is_some (find listing_cmp q es) →
+          is_some (cond b (Some tt) (find listing_cmp q (map bare es))) ≡ is_some (cond b (Some e.1) (find listing_cmp q es))
+      at true rest = refl
+      at false rest = rest
+
+  pub has-strings_of : (m : Entries T) (q : List Bool) → has_node (strings_of m) q ≡ contains_key m q
+  has-strings_of m q =
+      ap is_some (get-from_sorted listing_cmp (map bare (entries m)) q (sorted_bare m)) ∙ find_bare q (entries m)
+      ∙ ap is_some (sym (get-entries m q))
+
+  filter_bare : (p : List Bool → Bool) (es : List (List Bool × T)) → filter (λ e. p e.0) (map bare es) ≡ map bare (filter (λ e. p e.0) es)
+  filter_bare p [] = refl
+  filter_bare p (e ∷ es) = at (p e.0) (filter_bare p es)
+    where
+      at : (b : Bool) → filter (λ e. p e.0) (map bare es) ≡ map bare (filter (λ e. p e.0) es) →
+          cond b (bare e ∷ filter (λ e. p e.0) (map bare es)) (filter (λ e. p e.0) (map bare es)) ≡ map bare (cond b (e ∷ filter (λ e. p e.0) es) (filter (λ e. p e.0) es))
+      at true rest = ap (λ ks. bare e ∷ ks) rest
+      at false rest = rest
+
+  pair_bare : (s : List Bool) (o : Option (Unit {0})) (x : Option T) → is_some o ≡ is_some x → pair_of s o ≡ map bare (pair_of s x)
+  pair_bare s None None h = refl
+  pair_bare s None (Some x) h = absurd (false≢true h)
+  pair_bare s (Some u) None h = absurd (false≢true (sym h))
+  pair_bare s (Some u) (Some x) h = refl
+
+  -- where a set is that of the strings of entries
+  module _ (m : Entries T) (keys : Nodes) (same : (q : List Bool) → has_node keys q ≡ contains_key m q) where
+    keys_listed : entries keys ≡ map bare (entries m)
+    keys_listed =
+        ap entries (same_members keys (strings_of m) (λ q. same q ∙ sym (has-strings_of m q)))
+        ∙ entries-from_sorted listing_cmp (map bare (entries m)) (sorted_bare m)
+
+    place_bare : (s t : List Bool) → listing_at_place keys s t ≡ map bare (listing_at_place m s t)
+    place_bare s t = at (nat_lt (length t) 5)
+      where
+        at : (b : Bool) → cond b (pair_of (s ++ t) (get keys (s ++ t))) (filter (λ e. begins (s ++ t) e.0) (entries keys))
+            ≡ map bare (cond b (pair_of (s ++ t) (get m (s ++ t))) (filter (λ e. begins (s ++ t) e.0) (entries m)))
+        at true = pair_bare (s ++ t) (get keys (s ++ t)) (get m (s ++ t)) (same (s ++ t))
+        at false = ap (filter (λ e. begins (s ++ t) e.0)) keys_listed ∙ filter_bare (begins (s ++ t)) (entries m)
+
+    places_bare : (s : List Bool) (ts : List (List Bool)) → listing_at_places keys s ts ≡ map bare (listing_at_places m s ts)
+    places_bare s [] = refl
+    places_bare s (t ∷ ts) =
+        ap₂ (λ xs ys. xs ++ ys) (place_bare s t) (places_bare s ts) ∙ sym (map-append bare (listing_at_place m s t) (listing_at_places m s ts))
+
+    -- the strings still to come are those of the pairs
+    pub pending_bare : {K : Type 0} (bits : K → List Bool) (ps : List (Site K)) → pending bits keys ps ≡ map bare (pending bits m ps)
+    pending_bare bits [] = refl
+    pending_bare bits (p ∷ ps) =
+        ap₂ (λ xs ys. xs ++ ys) (pending_bare bits ps) (places_bare (take p.depth (bits p.key)) (to_come p.places))
+        ∙ sym (map-append bare (pending bits m ps) (still bits m p))

@@ -1,0 +1,184 @@
+-- What a walk drops that skips what a key begins.
+use Rattle.std.proofs.Common.{◌≡◌, ℕ, ◌+◌, ◌*◌, ◌≤◌, Bool, true, false, not, cond, ◌&&◌, nat_lt, List, [], ◌∷◌, ◌++◌, length, take, drop, filter, Some, refl, sym, ap, ap₂, ◌∙◌, subst, arith, length-append, length-drop}
+use Rattle.std.proofs.Math.Seq.{take-add}
+use Rattle.std.specs.List.{All}
+use Rattle.std.proofs.lemmas.Bool.{lt-ltb}
+use Rattle.std.proofs.lemmas.List.{take-take, take-append-drop, length-take-le, length-map}
+use Rattle.std.proofs.lemmas.List.Elements.{filter-append, All-head, All-tail, All-weaker, All-filter}
+use Rattle.prefix_trie_bits.specs.Bits.{begins}
+use Rattle.prefix_trie_bits.specs.Begins.{same_bool, begins-length, begins-linear, begins-trans, begins-same-length, begins-from-rest, take-begins}
+use Rattle.prefix_trie_bits.specs.Walks.{to_come}
+use Rattle.prefix_trie_bits.specs.Model.Entries.{Entries}
+use Rattle.prefix_trie_bits.specs.Model.NodeListings.{listing_at_places}
+use Rattle.prefix_trie_bits.proofs.Checks.{each}
+use Rattle.prefix_trie_table.specs.declared.allocator.node.Node.{Node}
+use Rattle.prefix_trie_table.specs.declared.table.spot.Spot.{Spot}
+use Rattle.prefix_trie_table.specs.Digits.{path_of}
+use Rattle.prefix_trie_table.specs.Forest.{read}
+use Rattle.prefix_trie_table.specs.Store.{Store}
+use Rattle.prefix_trie_table.specs.Walking.Walks.{site, sites, IsSpot, IsPlaceOf, IsTrail, IsStack, IsOther, IsPassed, ArePassed, EndsAt, EndsLast, SkipsLast, start, still, pending}
+use Rattle.prefix_trie_table.proofs.Walk.Cursors.{short_rest}
+use Rattle.prefix_trie_table.proofs.Walk.Passing.{passed-below, passed-put}
+use Rattle.prefix_trie_table.proofs.Strings.Paths.{snoc_inj}
+use Rattle.prefix_trie_table.proofs.Walk.Selected.{one-answer, some-places}
+use Rattle.prefix_trie_table.proofs.Walk.Stacks.{pending-popped, spot-popped, stack-room, stack-put, trail-at, sites-popped}
+
+-- ---- at a spot
+
+-- what two strings begin with counts for nothing
+begins-common : (s t u : List Bool) → begins (s ++ t) (s ++ u) ≡ begins t u
+unfolding begins
+begins-common [] t u = refl
+begins-common (true ∷ s) t u = begins-common s t u
+begins-common (false ∷ s) t u = begins-common s t u
+
+begins-within : (s t u k : List Bool) → length t ≤ length u → begins (s ++ u) k ≡ true → begins (s ++ t) k ≡ begins t u
+begins-within s t u k h e =
+    same_bool (begins (s ++ t) k) (begins t u)
+    (λ f. sym (begins-common s t u) ∙ begins-linear (s ++ t) (s ++ u) k f e (omega (arith, h, length-append s t, length-append s u)))
+    (λ f. begins-trans (s ++ t) (s ++ u) k (begins-common s t u ∙ f) e)
+
+abbrev IsShort : List Bool → Type 0
+IsShort t = length t ≤ 5
+
+short-each : (ts : List (List Bool)) → All IsShort ts → each (λ t. nat_lt (length t) 6) ts ≡ true
+unfolding each
+short-each [] h = refl
+short-each (t ∷ ts) h =
+    let s : length t ≤ 5 = All-head IsShort t ts h in
+    ap₂ (λ x y. x && y) (lt-ltb (length t) 6 (omega (arith, s))) (short-each ts (All-tail IsShort t ts h))
+
+module _ {T : Type 0} (m : Entries T) (s : List Bool) where
+  -- the pairs that a string does not begin are those at the places that it does not begin
+  stay-places : (t : List Bool) → length t ≤ 5 → (us : List (List Bool)) → All IsShort us →
+      listing_at_places m s (filter (λ u. not (begins t u)) us) ≡ filter (λ e. not (begins (s ++ t) e.0)) (listing_at_places m s us)
+  stay-places t short us h =
+      some-places m s (λ e. not (begins (s ++ t) e.0)) (λ u. not (begins t u))
+      (λ u l v. ap not (begins-common s t u)) (λ u five e b. ap not (begins-within s t u e.0 (omega (arith, short, five)) b))
+      (λ u. not (begins t u)) (λ u. true) (λ u l. refl) (λ u l e. absurd (cc)) us (short-each us h)
+
+  module _ (c z : List Bool) (five : length c ≡ 5) (way : begins (s ++ c) z ≡ true) where
+    not-begun : (u : List Bool) → IsShort u → IsOther c u → begins c u ≡ false
+    not-begun u h o =
+        same_bool (begins c u) false (λ e. absurd (o (sym (begins-same-length c u e (omega (arith, five, h, begins-length c u e)))))) (λ e. cc)
+
+    none-begun : (us : List (List Bool)) → All IsShort us → All (IsOther c) us → filter (λ u. not (begins c u)) us ≡ us
+    none-begun [] h o = refl
+    none-begun (u ∷ us) h o =
+        ap (λ b. cond (not b) (u ∷ filter (λ x. not (begins c x)) us) (filter (λ x. not (begins c x)) us)) (not-begun u (All-head IsShort u us h) (All-head (IsOther c) u us o))
+        ∙ ap (λ xs. u ∷ xs) (none-begun us (All-tail IsShort u us h) (All-tail (IsOther c) u us o))
+
+    longer : (k : List Bool) → not (begins (s ++ c) k) ≡ true → not (begins z k) ≡ true
+    longer k b =
+        ap not (same_bool (begins z k) false (λ e. let f : begins (s ++ c) k ≡ true = begins-trans (s ++ c) z k way e in let g : not true ≡ true = ap not (sym f) ∙ b in cc) (λ e. cc))
+
+    -- a string that goes on by c begins nothing at other places
+    stay-others : (us : List (List Bool)) → All IsShort us → All (IsOther c) us → filter (λ e. not (begins z e.0)) (listing_at_places m s us) ≡ listing_at_places m s us
+    stay-others us h o =
+        let all : filter (λ e. not (begins (s ++ c) e.0)) (listing_at_places m s us) ≡ listing_at_places m s us =
+        sym (stay-places c (omega (arith, five)) us h) ∙ ap (listing_at_places m s) (none-begun us h o) in
+        ap (filter (λ e. not (begins z e.0))) (sym all)
+        ∙ one-answer (λ e. not (begins z e.0)) (λ e. not (begins (s ++ c) e.0)) true (λ e b. longer e.0 b) (listing_at_places m s us)
+        ∙ all
+
+-- ---- at a stack
+
+-- a stack that is not empty is no longer than levels of a key are
+pub few_spots : {K : Type 0} (IsKey : K → Type 0) (bits : K → List Bool) (width : ℕ) (v : Store Node) (way : K) (ps : List Spot) → width ≤ 128 → IsStack IsKey bits width v (sites way ps) →
+    (key : K) (len : ℕ) → EndsLast bits way ps key len → length ps ≤ 26
+few_spots IsKey bits width v way ps small stack key len ends =
+    let room = stack-room (sites way ps) (sites way ends.below) (site way ends.spot) (sites-popped way ps ends.below ends.spot ends.is) IsKey bits width v stack small in
+    omega (arith, room, length-map ends.below (site way), ap length ends.is, length-append ends.below (ends.spot ∷ []))
+
+module _ {K : Type 0} (IsKey : K → Type 0) (bits : K → List Bool) (width : ℕ) (v : Store Node) (way : K) (long : length (bits way) ≡ width) where
+  shorts : (p : Spot) → IsSpot IsKey bits width v (site way p) → All IsShort (to_come p.places)
+  shorts p i = All-weaker (IsPlaceOf p.node) IsShort (λ s h. h.0) (to_come p.places) i.each
+
+  -- a string that goes on deeper begins nothing of what is to come at spots that it has passed
+  stay-below : {T : Type 0} (m : Entries T) (z : List Bool) (d : ℕ) → d ≤ width → begins (take d (bits way)) z ≡ true → (n : ℕ) (ps : List Spot) → n + 5 * length ps ≤ d →
+      IsTrail IsKey bits width v n (sites way ps) → All (IsPassed bits) (sites way ps) →
+      filter (λ e. not (begins z e.0)) (pending bits m (sites way ps)) ≡ pending bits m (sites way ps)
+  stay-below m z d inside begun n [] h t o = refl
+  stay-below m z d inside begun n (p ∷ ps) h t o =
+      filter-append (λ e. not (begins z e.0)) (pending bits m (sites way ps)) (still bits m (site way p))
+      ∙ ap₂ (λ xs ys. xs ++ ys) (stay-below m z d inside begun (n + 5) ps (omega (arith, h)) t.2 (All-tail (IsPassed bits) (site way p) (sites way ps) o))
+      (stay-others m (take p.depth (bits way)) (take 5 (drop p.depth (bits way))) z five goes_on (to_come p.places) (shorts p t.1) (All-head (IsPassed bits) (site way p) (sites way ps) o))
+    where
+      deeper : p.depth + 5 ≤ d
+      deeper = omega (arith, h, t.0)
+
+      five : length (take 5 (drop p.depth (bits way))) ≡ 5
+      five = length-take-le 5 (drop p.depth (bits way)) (omega (arith, length-drop p.depth (bits way), long, inside, deeper))
+
+      goes_on : begins (take p.depth (bits way) ++ take 5 (drop p.depth (bits way))) z ≡ true
+      goes_on =
+          ap (λ s. begins s z) (sym (take-add p.depth 5 (bits way)) ∙ sym (take-take (p.depth + 5) d (bits way) deeper))
+          ∙ begins-trans (take (p.depth + 5) (take d (bits way))) (take d (bits way)) z (take-begins (p.depth + 5) (take d (bits way))) begun
+
+-- what the first bits of a key begin, which end at the last spot, was dropped there
+module _ {K : Type 0} (IsKey : K → Type 0) (bits : K → List Bool) (width : ℕ) (v : Store Node) (law : (k : K) → IsKey k → length (bits k) ≡ width) (way key : K) (is_key : IsKey key) (len : ℕ) (within : len ≤ width) (old new : List Spot)
+    (stack : IsStack IsKey bits width v (sites way old)) (passed : ArePassed bits (sites way old)) (ends : EndsLast bits way old key len) (skips : SkipsLast (bits key) len old new) where
+  at_old : sites way old ≡ sites way skips.below ++ site way skips.was ∷ []
+  at_old = sites-popped way old skips.below skips.was skips.before
+
+  at_new : sites way new ≡ sites way skips.below ++ site way skips.now ∷ []
+  at_new = sites-popped way new skips.below skips.now skips.after
+
+  spot : IsSpot IsKey bits width v (site way skips.was)
+  spot = spot-popped (sites way old) (sites way skips.below) (site way skips.was) at_old IsKey bits width v stack
+
+  long : length (bits way) ≡ width
+  long = law way spot.key
+
+  ended : EndsAt bits (site way skips.was) key len
+  ended = subst (λ p. EndsAt bits (site way p) key len) (snoc_inj ends.below skips.below ends.spot skips.was (sym ends.is ∙ skips.before)).1 ends.ends
+
+  spot_left : IsSpot IsKey bits width v (site way skips.now)
+  spot_left =
+      let s = skips.skips in record {
+        key = spot.key;
+        level = spot.level;
+        depth_is = s.depth_is ∙ spot.depth_is;
+        within = (let w = spot.within in let d = s.depth_is in omega (arith, w, d));
+        stands = ap (λ d. read v.slots (path_of (take d (bits way)))) s.depth_is ∙ spot.stands ∙ ap Some (sym s.node_is);
+        each = subst (λ n. All (IsPlaceOf n) (to_come skips.now.places)) (sym s.node_is)
+            (subst (All (IsPlaceOf skips.was.node)) (sym s.left)
+            (All-filter (λ u. not (begins (drop skips.was.depth (take len (bits key))) u)) (IsPlaceOf skips.was.node) (to_come skips.was.places) spot.each));
+      }
+
+  pub stack_left : IsStack IsKey bits width v (sites way new)
+  stack_left =
+      subst (IsStack IsKey bits width v) (sym at_new)
+      (stack-put (sites way old) (sites way skips.below) (site way skips.was) at_old IsKey bits width v stack (site way skips.now) skips.skips.depth_is spot_left)
+
+  pub passed_left : ArePassed bits (sites way new)
+  passed_left = passed-put bits (sites way old) (sites way new) (sites way skips.below) (site way skips.was) (site way skips.now) at_old at_new passed
+
+  string_is : take skips.was.depth (bits way) ++ drop skips.was.depth (take len (bits key)) ≡ take len (bits key)
+  string_is =
+      ap (λ s. s ++ drop skips.was.depth (take len (bits key))) (sym ended.way ∙ sym (take-take skips.was.depth len (bits key) ended.whole))
+      ∙ take-append-drop skips.was.depth (take len (bits key))
+
+  module _ {T : Type 0} (m : Entries T) where
+    still_left : still bits m (site way skips.now) ≡ filter (λ e. not (begins (take len (bits key)) e.0)) (still bits m (site way skips.was))
+    still_left =
+        let short = short_rest (bits key) width (law key is_key) skips.was.depth len within ended.last in
+        ap (λ d. listing_at_places m (take d (bits way)) (to_come skips.now.places)) skips.skips.depth_is
+        ∙ ap (listing_at_places m (take skips.was.depth (bits way))) skips.skips.left
+        ∙ stay-places m (take skips.was.depth (bits way)) (drop skips.was.depth (take len (bits key))) (omega (arith, short)) (to_come skips.was.places) (shorts IsKey bits width v way long skips.was spot)
+        ∙ ap (λ z. filter (λ e. not (begins z e.0)) (still bits m (site way skips.was))) string_is
+
+    below_left : filter (λ e. not (begins (take len (bits key)) e.0)) (pending bits m (sites way skips.below)) ≡ pending bits m (sites way skips.below)
+    below_left =
+        let at = trail-at (sites way old) (sites way skips.below) (site way skips.was) at_old IsKey bits width v stack in
+        stay-below IsKey bits width v way long m (take len (bits key)) skips.was.depth spot.within
+        (begins-from-rest (take skips.was.depth (bits way)) (take len (bits key)) (drop skips.was.depth (take len (bits key))) (sym string_is))
+        (start (sites way old)) skips.below (omega (arith, at.1, length-map skips.below (site way))) at.0
+        (passed-below bits (sites way old) (sites way skips.below) (site way skips.was) at_old passed)
+
+    pub pending_left : pending bits m (sites way new) ≡ filter (λ e. not (begins (take len (bits key)) e.0)) (pending bits m (sites way old))
+    pending_left =
+        pending-popped (sites way new) (sites way skips.below) (site way skips.now) at_new bits m
+        ∙ ap₂ (λ xs ys. xs ++ ys) still_left (sym below_left)
+        ∙ sym (filter-append (λ e. not (begins (take len (bits key)) e.0)) (still bits m (site way skips.was)) (pending bits m (sites way skips.below)))
+        ∙ ap (filter (λ e. not (begins (take len (bits key)) e.0))) (sym (pending-popped (sites way old) (sites way skips.below) (site way skips.was) at_old bits m))

@@ -1,0 +1,280 @@
+-- What the next place of a spot gives.
+use Rattle.std.proofs.Common.{◌≡◌, ℕ, zero, suc, ◌+◌, ◌-◌, ◌/◌, ◌%◌, ◌<◌, ◌≤◌, Bool, true, false, cond, List, [], ◌∷◌, ◌++◌, length, take, drop, filter, get_or, None, Some, refl, sym, ap, ap₂, ◌∙◌, subst, arith, inl, inr, length-append, append_assoc}
+use Rattle.std.specs.List.{All}
+use Rattle.std.specs.List.Sorted.{IsStrictlySortedBy}
+use Rattle.std.proofs.lemmas.Bool.{cases_lt, lt-ltb, le-ltb}
+use Rattle.std.proofs.lemmas.List.{length-take-le, take-append-le, take-take, take_at, drop_at}
+use Rattle.std.proofs.lemmas.List.Elements.{All-head, All-tail}
+use Rattle.prefix_trie_bits.specs.Bits.{number, digits, zeros}
+use Rattle.prefix_trie_bits.specs.BitStrings.{length-digits, digits-number}
+use Rattle.prefix_trie_bits.specs.Order.{listing_cmp}
+use Rattle.prefix_trie_bits.specs.Windows.{take-extend}
+use Rattle.prefix_trie_bits.specs.Places.{has, ones_below, value_bit, is_in, places, place_of, strings}
+use Rattle.prefix_trie_bits.specs.Walks.{to_come}
+use Rattle.prefix_trie_bits.specs.declared.node.Place.TheVariants.{Value, Child as ChildPlace}
+use Rattle.prefix_trie_bits.specs.declared.node.Places.{Places}
+use Rattle.prefix_trie_bits.specs.Model.Selections.{listing_below}
+use Rattle.prefix_trie_bits.specs.Model.NodeListings.{listing_at_place, listing_at_places}
+use Rattle.prefix_trie_bits.proofs.Listing.{count-strings}
+use Rattle.prefix_trie_bits.proofs.Strings.{value_bit-small}
+use Rattle.prefix_trie_bits.proofs.Model.NodeListings.{listing_at_child}
+use Rattle.prefix_trie_table.specs.declared.allocator.node.Node.{Node}
+use Rattle.prefix_trie_table.specs.Bitmaps.{has_bit, rank}
+use Rattle.prefix_trie_table.specs.Cells.{node_at}
+use Rattle.prefix_trie_table.specs.Digits.{path_of}
+use Rattle.prefix_trie_table.specs.Locations.{seat_of}
+use Rattle.prefix_trie_table.specs.Store.{Store}
+use Rattle.prefix_trie_table.specs.Forest.{read, child_slot}
+use Rattle.prefix_trie_table.specs.Walking.Walks.{Site, Tree, IsSpot, IsPlaceOf, IsOther, IsPassed, still, GivesSeat, many, most, weight_of, weight}
+use Rattle.prefix_trie_table.specs.Tables.{IsTrie}
+use Rattle.prefix_trie_table.proofs.Walk.Passing.{others_after}
+use Rattle.prefix_trie_table.proofs.Strings.Plain.{whole_levels}
+use Rattle.prefix_trie_table.proofs.Strings.Bits.{rank-ones}
+use Rattle.prefix_trie_table.proofs.Lookup.Locating.{seat_below}
+use Rattle.prefix_trie_table.proofs.Tree.Subtrees.{is_in-value, is_in-child, number-small, stored_value, value_read, value_inside, value_listed, value_fits, child_is, child_inside, child_few, child_fits, all_places}
+
+-- ---- the bound on steps
+
+weight-many : (n : ℕ) (ss : List (List Bool)) (k : ℕ) → length ss ≤ k → weight_of n ss ≤ many k (most n)
+unfolding many
+weight-many n [] zero h = omega arith
+weight-many n [] (suc k) h = omega arith
+weight-many n (s ∷ ss) zero h = absurd (omega (arith, h))
+weight-many n (s ∷ ss) (suc k) h = omega (arith, weight-many n ss k (omega (arith, h)))
+
+most-suc : (n : ℕ) → most (suc n) ≡ many 63 (most n)
+unfolding most
+most-suc n = refl
+
+level-below : (d : ℕ) → d + 5 ≤ 128 → (130 - d) / 5 ≡ suc ((130 - (d + 5)) / 5)
+level-below d h = omega (arith, h)
+
+filter-length : {X : Type 0} (p : X → Bool) (xs : List X) → length (filter p xs) ≤ length xs
+filter-length p [] = omega arith
+filter-length p (x ∷ xs) = go (p x) (filter-length p xs)
+  where
+    go : (b : Bool) → length (filter p xs) ≤ length xs → length (cond b (x ∷ filter p xs) (filter p xs)) ≤ suc (length xs)
+    go true h = omega (arith, h)
+    go false h = omega (arith, h)
+
+-- a child with all its places weighs less than its place did
+weight-child : (d e vs cs : ℕ) (ss : List (List Bool)) → e ≡ d + 5 → e ≤ 128 → ss ≡ places vs cs → weight_of ((130 - e) / 5) ss ≤ most ((130 - d) / 5)
+weight-child d e vs cs ss is fits all =
+    let few : length ss ≤ 63 = omega (arith, ap length all, filter-length (is_in vs cs) (strings 5), count-strings) in
+    let level : (130 - d) / 5 ≡ suc ((130 - e) / 5) = level-below d (omega (arith, is, fits)) ∙ ap (λ k. suc ((130 - k) / 5)) (sym is) in
+    subst (λ m. weight_of ((130 - e) / 5) ss ≤ m) (sym (ap most level ∙ most-suc ((130 - e) / 5))) (weight-many ((130 - e) / 5) ss 63 few)
+
+-- ---- which place it is
+
+-- a value place is that of a string of less than five bits
+pub place-value : (s : List Bool) (b : ℕ) → length s ≤ 5 → Value b ≡ place_of s → (length s ≤ 4) × (b ≡ value_bit s)
+place-value s b h e = elim (cases_lt (length s) 5) as (λ _. (length s ≤ 4) × (b ≡ value_bit s)) [
+  | inl l ↦ (omega arith, let f : Value b ≡ Value (value_bit s) = e ∙ ap (λ c. cond c (Value (value_bit s)) (ChildPlace (number s))) (lt-ltb (length s) 5 l) in cc)
+  | inr g ↦ absurd (let f : Value b ≡ ChildPlace (number s) = e ∙ ap (λ c. cond c (Value (value_bit s)) (ChildPlace (number s))) (le-ltb (length s) 5 g) in cc)
+]
+
+-- a child place is that of a string of five
+pub place-child : (s : List Bool) (b : ℕ) → length s ≤ 5 → ChildPlace b ≡ place_of s → (length s ≡ 5) × (b ≡ number s)
+place-child s b h e = elim (cases_lt (length s) 5) as (λ _. (length s ≡ 5) × (b ≡ number s)) [
+  | inl l ↦ absurd (let f : ChildPlace b ≡ Value (value_bit s) = e ∙ ap (λ c. cond c (Value (value_bit s)) (ChildPlace (number s))) (lt-ltb (length s) 5 l) in cc)
+  | inr g ↦ (omega (arith, h), let f : ChildPlace b ≡ ChildPlace (number s) = e ∙ ap (λ c. cond c (Value (value_bit s)) (ChildPlace (number s))) (le-ltb (length s) 5 g) in cc)
+]
+
+-- the value bit of a value place is below 31
+pub place-small : (s : List Bool) (b : ℕ) → length s ≤ 5 → Value b ≡ place_of s → b < 31
+place-small s b h e =
+    let p = place-value s b h e in let l = value_bit-small s p.0 in omega (arith, l, p.1)
+
+-- the number of a child place is below 32
+pub place-child-small : (s : List Bool) (b : ℕ) → length s ≤ 5 → ChildPlace b ≡ place_of s → b < 32
+place-child-small s b h e =
+    let p = place-child s b h e in let l = number-small s p.0 in omega (arith, l, p.1)
+
+-- ---- a spot
+
+whole-more : (u s : List Bool) → length u % 5 ≡ 0 → length s ≡ 5 → length (u ++ s) % 5 ≡ 0
+whole-more u s h five = omega (arith, h, five, length-append u s)
+
+module _ {K : Type 0} (IsKey : K → Type 0) (bits : K → List Bool) (width : ℕ) (v : Store Node) (p : Site K) (at : IsSpot IsKey bits width v p)
+    (long : length (bits p.key) ≡ width) where
+  pub string-length : length (take p.depth (bits p.key)) ≡ p.depth
+  string-length = let w = at.within in length-take-le p.depth (bits p.key) (omega (arith, w, long))
+
+  whole : length (take p.depth (bits p.key)) % 5 ≡ 0
+  whole = whole_levels (length (take p.depth (bits p.key))) at.level (string-length ∙ at.depth_is)
+
+  -- a key that begins with the spot's path
+  pub same_way : (key : K) (s rest : List Bool) → bits key ≡ take p.depth (bits p.key) ++ s ++ rest → take p.depth (bits key) ≡ take p.depth (bits p.key)
+  same_way key s rest e =
+      ap (take p.depth) (e ∙ append_assoc (take p.depth (bits p.key)) s rest)
+      ∙ take-append-le p.depth (take p.depth (bits p.key)) (s ++ rest) (omega (arith, string-length)) ∙ take-take p.depth p.depth (bits p.key) (omega arith)
+
+  module _ (s : List Bool) (later : Places) (first : to_come p.places ≡ s ∷ to_come later) where
+    -- the spot afterwards
+    abbrev after : Site K
+    after = record { node = p.node; key = p.key; depth = p.depth; places = later }
+
+    here : IsPlaceOf p.node s
+    here = All-head (IsPlaceOf p.node) s (to_come later) (subst (All (IsPlaceOf p.node)) first at.each)
+
+    pub goes_on : IsSpot IsKey bits width v (record { node = p.node; key = p.key; depth = p.depth; places = later })
+    goes_on = record {
+      key = at.key;
+      level = at.level;
+      depth_is = at.depth_is;
+      within = at.within;
+      stands = at.stands;
+      each = All-tail (IsPlaceOf p.node) s (to_come later) (subst (All (IsPlaceOf p.node)) first at.each);
+    }
+
+    weight_is : weight p ≡ most ((130 - p.depth) / 5) + 1 + weight after
+    weight_is = ap (weight_of ((130 - p.depth) / 5)) first
+
+    pub lighter : weight after < weight p
+    lighter = omega (arith, weight_is)
+
+    module _ {T : Type 0} (t : Tree T) (tree : IsTrie width t.count v t.cells t.shape) where
+      still_is : still bits t.shape.entries p ≡ listing_at_place t.shape.entries (take p.depth (bits p.key)) s ++ still bits t.shape.entries after
+      still_is = ap (listing_at_places t.shape.entries (take p.depth (bits p.key))) first
+
+      -- the next place is that of a value
+      module _ (short : length s ≤ 4) where
+        set : has p.node.value_bitmap (value_bit s) ≡ true
+        set = sym (is_in-value p.node.value_bitmap p.node.child_bitmap s (omega arith)) ∙ here.1
+
+        pub value_room : p.depth + length s ≤ width
+        value_room =
+            let h = value_fits width v t tree (take p.depth (bits p.key)) p.node whole at.stands s short set in omega (arith, h, string-length)
+
+        module _ (key : K) (is_key : IsKey key) (n x : ℕ) (is : s ≡ digits n x)
+            (extended : bits key ≡ take p.depth (bits p.key) ++ digits n x ++ zeros (width - (p.depth + n))) where
+          n_is : length s ≡ n
+          n_is = ap length is ∙ length-digits n x
+
+          fits : p.depth + n ≤ width
+          fits = let h = value_room in omega (arith, h, n_is)
+
+          taken : take (p.depth + n) (bits key) ≡ take p.depth (bits p.key) ++ s
+          taken = take-extend (bits p.key) (bits key) width p.depth n x long fits extended ∙ ap (λ u. take p.depth (bits p.key) ++ u) (sym is)
+
+          filled : bits key ≡ take (p.depth + n) (bits key) ++ zeros (width - (p.depth + n))
+          filled =
+              extended ∙ ap (λ u. u ++ zeros (width - (p.depth + n))) (sym (take-extend (bits p.key) (bits key) width p.depth n x long fits extended))
+
+          -- what the step gives
+          pub gives_value : (b place : ℕ) → b ≡ value_bit s → place ≡ ones_below b p.node.value_bitmap
+              → GivesSeat IsKey bits width t key (p.depth + n) (record { start = p.node.value_block; place = place }) (still bits t.shape.entries p) (still bits t.shape.entries after)
+          gives_value b place b_is place_is =
+              let small = value_bit-small s short in
+              let slot : p.node.value_block + rank p.node.value_bitmap (value_bit s) ≡ p.node.value_block + place =
+              ap (λ k. p.node.value_block + k) (rank-ones p.node.value_bitmap (value_bit s) (omega (arith, small)) ∙ ap (λ k. ones_below k p.node.value_bitmap) (sym b_is) ∙ sym place_is) in
+              let x = stored_value width v t tree (take p.depth (bits p.key)) p.node whole at.stands s short set in
+              record {
+                value = x;
+                stands = subst (λ k. k < length t.cells.slots) slot (value_inside width v t tree (take p.depth (bits p.key)) p.node whole at.stands s short set);
+                reads = ap (λ k. get_or t.cells.slots k None) (sym slot) ∙ value_read width v t tree (take p.depth (bits p.key)) p.node whole at.stands s short set;
+                gives = record {
+                  is_key = is_key;
+                  short = fits;
+                  first =
+                      still_is
+                      ∙ ap (λ es. es ++ still bits t.shape.entries after) (value_listed width v t tree (take p.depth (bits p.key)) p.node whole at.stands s short set)
+                      ∙ ap (λ k. (k, x) ∷ still bits t.shape.entries after) (sym taken);
+                  filled = filled;
+                };
+              }
+
+          -- where the seat is that of its key
+          pub value_seated : (b place : ℕ) → b ≡ value_bit s → place ≡ ones_below b p.node.value_bitmap
+              → seat_of v.slots (take (p.depth + n) (bits key)) ≡ Some (record { start = p.node.value_block; place = place })
+          value_seated b place b_is place_is =
+              let small = value_bit-small s short in
+              ap (seat_of v.slots) taken ∙ seat_below v.slots at.level (take p.depth (bits p.key)) s p.node (string-length ∙ at.depth_is) short at.stands set
+              ∙ ap (λ i. Some (record { start = p.node.value_block; place = i }))
+              (rank-ones p.node.value_bitmap (value_bit s) (omega (arith, small)) ∙ ap (λ k. ones_below k p.node.value_bitmap) (sym b_is) ∙ sym place_is)
+
+      -- the next place is that of a child
+      module _ (five : length s ≡ 5) where
+        bit_set : has p.node.child_bitmap (number s) ≡ true
+        bit_set = sym (is_in-child p.node.value_bitmap p.node.child_bitmap s five) ∙ here.1
+
+        pub child_room : p.depth + 5 ≤ width
+        child_room =
+            let h = child_fits width v t tree (take p.depth (bits p.key)) p.node whole at.stands s five bit_set in omega (arith, h, string-length)
+
+        -- which is passed
+        pub child_passed : IsStrictlySortedBy listing_cmp (to_come p.places) → (b : ℕ) → b ≡ number s → (key : K) (rest : List Bool) →
+            bits key ≡ take p.depth (bits p.key) ++ digits 5 b ++ rest → IsPassed bits (record { node = p.node; key = key; depth = p.depth; places = later })
+        unfolding IsStrictlySortedBy
+        child_passed sorted b b_is key rest extended =
+            let child : take 5 (drop p.depth (bits key)) ≡ s =
+            ap (λ k. take 5 (drop p.depth k)) (extended ∙ append_assoc (take p.depth (bits p.key)) (digits 5 b) rest) ∙ ap (take 5) (drop_at (take p.depth (bits p.key)) (digits 5 b ++ rest) p.depth string-length)
+            ∙ take_at (digits 5 b) rest 5 (length-digits 5 b) ∙ ap₂ digits (sym five) b_is ∙ digits-number s in
+            subst (λ c. All (IsOther c) (to_come later)) (sym child) (others_after s (to_come later) (subst (IsStrictlySortedBy listing_cmp) first sorted).0)
+
+        module _ (b place : ℕ) (b_is : b ≡ number s) (place_is : place ≡ ones_below b p.node.child_bitmap) where
+          slot_is : child_slot p.node (number s) ≡ p.node.child_block + place
+          slot_is =
+              let small = number-small s five in
+              ap (λ k. p.node.child_block + k) (rank-ones p.node.child_bitmap (number s) (omega (arith, small)) ∙ ap (λ k. ones_below k p.node.child_bitmap) (sym b_is) ∙ sym place_is)
+
+          pub child_stands_at : p.node.child_block + place < length v.slots
+          child_stands_at =
+              subst (λ k. k < length v.slots) slot_is (child_inside width v t tree (take p.depth (bits p.key)) p.node whole at.stands s five bit_set)
+
+          pub child_without : has_bit (node_at v.slots (p.node.child_block + place)).value_bitmap 31 ≡ false
+          child_without =
+              subst (λ k. has_bit (node_at v.slots k).value_bitmap 31 ≡ false) slot_is
+              (child_few width v t tree (take p.depth (bits p.key)) p.node whole at.stands s five bit_set)
+
+          -- the child, with all its places
+          module _ (c : Site K) (is_key : IsKey c.key)
+              (extended : bits c.key ≡ take p.depth (bits p.key) ++ digits 5 b ++ zeros (width - (p.depth + 5)))
+              (depth_is : c.depth ≡ p.depth + 5) (node_is : c.node ≡ node_at v.slots (p.node.child_block + place))
+              (all : to_come c.places ≡ places c.node.value_bitmap c.node.child_bitmap) (each : All (IsPlaceOf c.node) (to_come c.places)) where
+            digits_are : digits 5 b ≡ s
+            digits_are = ap (digits 5) b_is ∙ ap (λ k. digits k (number s)) (sym five) ∙ digits-number s
+
+            child_string : take c.depth (bits c.key) ≡ take p.depth (bits p.key) ++ s
+            child_string =
+                ap (λ k. take k (bits c.key)) depth_is ∙ take-extend (bits p.key) (bits c.key) width p.depth 5 b long child_room extended
+                ∙ ap (λ u. take p.depth (bits p.key) ++ u) digits_are
+
+            child_node : read v.slots (path_of (take c.depth (bits c.key))) ≡ Some c.node
+            child_node =
+                ap (λ u. read v.slots (path_of u)) child_string
+                ∙ child_is width v t tree (take p.depth (bits p.key)) p.node whole at.stands s five bit_set
+                ∙ ap (λ k. Some (node_at v.slots k)) slot_is ∙ ap Some (sym node_is)
+
+            pub child_spot : IsSpot IsKey bits width v c
+            child_spot = record {
+              key = is_key;
+              level = at.level + 1;
+              depth_is = depth_is ∙ (let e = at.depth_is in omega (arith, e));
+              within = (let h = child_room in omega (arith, h, depth_is));
+              stands = child_node;
+              each = each;
+            }
+
+            -- the spot's path begins the child's key too
+            pub child_way : take p.depth (bits c.key) ≡ take p.depth (bits p.key)
+            child_way =
+                sym (take-take p.depth c.depth (bits c.key) (omega (arith, depth_is))) ∙ ap (take p.depth) child_string
+                ∙ take-append-le p.depth (take p.depth (bits p.key)) s (omega (arith, string-length))
+                ∙ take-take p.depth p.depth (bits p.key) (omega arith)
+
+            child_whole : length (take c.depth (bits c.key)) % 5 ≡ 0
+            child_whole = ap (λ u. length u % 5) child_string ∙ whole-more (take p.depth (bits p.key)) s whole five
+
+            pub child_still : still bits t.shape.entries p ≡ still bits t.shape.entries c ++ still bits t.shape.entries after
+            child_still =
+                still_is
+                ∙ ap (λ es. es ++ still bits t.shape.entries after)
+                (listing_at_child t.shape.entries (take p.depth (bits p.key)) s five ∙ ap (listing_below t.shape.entries) (sym child_string)
+                ∙ sym (ap (listing_at_places t.shape.entries (take c.depth (bits c.key))) all ∙ all_places width v t tree (take c.depth (bits c.key)) c.node child_whole child_node))
+
+            pub child_lighter : width ≤ 128 → weight c + weight after < weight p
+            child_lighter small =
+                let room = child_room in
+                let h = weight-child p.depth c.depth c.node.value_bitmap c.node.child_bitmap (to_come c.places) depth_is (omega (arith, room, depth_is, small)) all in
+                omega (arith, h, weight_is)

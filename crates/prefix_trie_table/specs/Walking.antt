@@ -1,0 +1,7 @@
+-- Walks over the entries of a table.
+pub mod Walks
+pub mod Items
+pub mod Covers
+pub mod Cursors
+pub mod Taking
+pub mod Trails

@@ -1,0 +1,64 @@
+-- What a walk that takes the values of a table out of their cells has still to come. This project's own.
+use Rattle.std.specs.Prelude.{◌≡◌, ◌≢◌, ℕ, Bool, true, List, [], ◌∷◌, ◌++◌, length, Option, is_some, ⊤}
+use Rattle.std.proofs.Common.{sym, ◌∙◌}
+use Rattle.std.specs.Coded.{coded_bool, Coded-set}
+use mathlib.Core.HLevel.{Π_prop, Σ_prop_path}
+use Rattle.prefix_trie_bits.specs.Model.NodeListings.{pair_of}
+use Rattle.prefix_trie_bits.specs.Model.Nodes.{Nodes, has_node}
+use Rattle.prefix_trie_bits.proofs.Model.Members.{same_members}
+use Rattle.prefix_trie_table.specs.declared.allocator.node.Node.{Node}
+use Rattle.prefix_trie_table.specs.Digits.{path_of, bit_of}
+use Rattle.prefix_trie_table.specs.Store.{Store}
+use Rattle.prefix_trie_table.specs.Forest.{read, value_of}
+use Rattle.prefix_trie_table.specs.Locations.{seat_of}
+use Rattle.prefix_trie_table.specs.Tables.{IsTrie}
+use Rattle.prefix_trie_table.specs.Walking.Walks.{Tree, Site, IsStack, pending}
+
+-- the strings for whose values an array of nodes has a seat
+abbrev pub AreSeated : List Node → Nodes → Type 0
+AreSeated nodes keys = (q : List Bool) → has_node keys q ≡ is_some (seat_of nodes q)
+
+-- the one set of such strings
+abbrev pub Seated : List Node → Type 0
+Seated nodes = (keys : Nodes) × AreSeated nodes keys
+
+-- there is one at most
+pub Seated-prop : (nodes : List Node) → IsProp (Seated nodes)
+Seated-prop nodes = λ x y. Σ_prop_path (λ keys. Π_prop (λ _. Coded-set coded_bool _ _)) (same_members x.0 y.0 (λ q. x.1 q ∙ sym (y.1 q)))
+
+module _ {T : Type 0} where
+  -- what stands in the cell of a string
+  abbrev pub cell_of : List Node → List (Option T) → List Bool → Option T
+  cell_of nodes cells q = value_of cells (read nodes (path_of q)) (bit_of q)
+
+  -- these strings with the values that stand in their cells
+  abbrev pub pairs_in : List Node → List (Option T) → List (List Bool × Unit {0}) → List (List Bool × T)
+  pairs_in nodes cells [] = []
+  pairs_in nodes cells (k ∷ ks) = pair_of k.0 (cell_of nodes cells k.0) ++ pairs_in nodes cells ks
+
+  -- a value stands in the cell of each
+  abbrev pub AreHeld : List Node → List (Option T) → List (List Bool × Unit {0}) → Type 0
+  AreHeld nodes cells [] = ⊤
+  AreHeld nodes cells (k ∷ ks) = (is_some (cell_of nodes cells k.0) ≡ true) × AreHeld nodes cells ks
+
+-- the string is none of these
+abbrev pub IsApart : List Bool → List (List Bool × Unit {0}) → Type 0
+IsApart q [] = ⊤
+IsApart q (k ∷ ks) = (q ≢ k.0) × IsApart q ks
+
+-- none of them stands there twice
+abbrev pub AreApart : List (List Bool × Unit {0}) → Type 0
+AreApart [] = ⊤
+AreApart (k ∷ ks) = IsApart k.0 ks × AreApart ks
+
+-- the nodes are those of a table, some of whose values were taken out of their cells, but none that is still to come
+pub record IsTaking {K T : Type 0} (IsKey : K → Type 0) (bits : K → List Bool) (width : ℕ) (v : Store Node) (w : Store (Option T))
+    (keys : Nodes) (ps : List (Site K)) : Type 0 where
+  -- the table
+  pub tree : Tree T
+  pub trie : IsTrie width tree.count v tree.cells tree.shape
+  pub long : length w.slots ≡ length tree.cells.slots
+  -- the spots, and the strings still to come at them
+  pub stack : IsStack IsKey bits width v ps
+  pub held : AreHeld v.slots w.slots (pending bits keys ps)
+  pub apart : AreApart (pending bits keys ps)
