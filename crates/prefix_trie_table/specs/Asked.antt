@@ -42,7 +42,7 @@ abbrev pub LacksWithin : {S : Type 0} → Store S → (ℕ → ℕ) → Type 0
 LacksWithin v needed = (j : ℕ) × (j < length v.tiers) × (free_at v.tiers j < needed j) × (length v.slots + size_in (tier_sizes v.tiers) j ≤ v.limit)
 
 -- a fact about the deepest node that is there on the way to the first len bits of b, and its level
-pub record AtEnd (reading : List ℕ → Option Node) (b : List Bool) (len : ℕ) (P : Node → ℕ → Type 0) : Type 0 where
+pub record AtDeepest (reading : List ℕ → Option Node) (b : List Bool) (len : ℕ) (P : Node → ℕ → Type 0) : Type 0 where
   pub long : len ≤ length b
   pub node : Node
   pub level : ℕ

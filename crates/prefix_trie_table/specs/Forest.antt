@@ -9,7 +9,7 @@ use Rattle.prefix_trie_table.specs.declared.allocator.node.Node.{Node}
 use Rattle.prefix_trie_table.specs.Bitmaps.{has_bit, rank, bits}
 use Rattle.prefix_trie_table.specs.Cells.{blank_node, node_at, node_sizes, cell_sizes}
 pub use Rattle.prefix_trie_table.specs.Store.{held, size_in, tier_sizes}
-use Rattle.prefix_trie_table.specs.Store.{Store, Block, Sound, IsReady}
+use Rattle.prefix_trie_table.specs.Store.{Store, UsedBlock, Sound, IsReady}
 
 -- the slot of the child c of a node
 abbrev pub child_slot : Node → ℕ → ℕ
@@ -72,12 +72,12 @@ abbrev pub child_items : (List ℕ → Option Node) → List ℕ → ℕ → Lis
 child_items nodes p bitmap = map (λ c. node_or_blank (nodes (p ++ c ∷ []))) (bits bitmap)
 
 -- the block of children of a node, if it is there and has children
-abbrev pub child_blocks_of : List ℕ → (List ℕ → Option Node) → List ℕ → Option Node → List (Block Node)
+abbrev pub child_blocks_of : List ℕ → (List ℕ → Option Node) → List ℕ → Option Node → List (UsedBlock Node)
 child_blocks_of sizes nodes p None = []
 child_blocks_of sizes nodes p (Some n) = held n.child_tier n.child_block (size_in sizes n.child_tier) (child_items nodes p n.child_bitmap)
 
 -- the block of children of the node at p
-abbrev pub child_blocks : List ℕ → (List ℕ → Option Node) → List ℕ → List (Block Node)
+abbrev pub child_blocks : List ℕ → (List ℕ → Option Node) → List ℕ → List (UsedBlock Node)
 child_blocks sizes nodes p = child_blocks_of sizes nodes p (nodes p)
 
 -- where the node at a path stands
@@ -101,12 +101,12 @@ pub record NodesHold (sizes : List ℕ) (nodes : List ℕ → Option Node) (path
 
 module _ {T : Type 0} where
   -- the block of values of a node, if it is there and has values
-  abbrev pub value_blocks_of : List ℕ → (List ℕ → ℕ → Option T) → List ℕ → Option Node → List (Block (Option T))
+  abbrev pub value_blocks_of : List ℕ → (List ℕ → ℕ → Option T) → List ℕ → Option Node → List (UsedBlock (Option T))
   value_blocks_of sizes values p None = []
   value_blocks_of sizes values p (Some n) = held n.value_tier n.value_block (size_in sizes n.value_tier) (map (values p) (bits n.value_bitmap))
 
   -- the block of values of the node at p
-  abbrev pub value_blocks : List ℕ → (List ℕ → Option Node) → (List ℕ → ℕ → Option T) → List ℕ → List (Block (Option T))
+  abbrev pub value_blocks : List ℕ → (List ℕ → Option Node) → (List ℕ → ℕ → Option T) → List ℕ → List (UsedBlock (Option T))
   value_blocks sizes nodes values p = value_blocks_of sizes values p (nodes p)
 
   -- the array holds the values of these nodes, and nothing else

@@ -157,7 +157,7 @@ pub record Pruned (reading : List ℕ → Option Node) (paths : List (List ℕ))
   pub stops : (level ≡ 0) ⊎ IsStocked node
 
 -- a node stands at the end of the way to a path, and these are the slots of the nodes on the way
-pub record AtEnd (path : List ℕ) (way : List NodeSlot) (node : Node) (v : Store Node) : Type 0 where
+pub record StandsAtEnd (path : List ℕ) (way : List NodeSlot) (node : Node) (v : Store Node) : Type 0 where
   pub reading : List ℕ → Option Node
   pub paths : List (List ℕ)
   pub hold : NodesHold node_sizes reading paths v

@@ -17,7 +17,7 @@ pub record Store (S : Type 0) : Type 0 where
   pub limit : ℕ
 
 -- a block in use: its tier, where it starts, its size, and the list that it holds
-pub record Block (S : Type 0) : Type 0 where
+pub record UsedBlock (S : Type 0) : Type 0 where
   pub tier : ℕ
   pub start : ℕ
   pub size : ℕ
@@ -36,7 +36,7 @@ abbrev pub tier_sizes : List Tier → List ℕ
 tier_sizes ts = map (λ t. t.size) ts
 
 -- where a block in use stands
-abbrev pub extent : {S : Type 0} → Block S → Extent
+abbrev pub extent : {S : Type 0} → UsedBlock S → Extent
 extent b = record { start = b.start; size = b.size }
 
 -- a block of this size that starts there
@@ -49,7 +49,7 @@ free_extents [] = []
 free_extents (t ∷ ts) = map (of_size t.size) t.starts ++ free_extents ts
 
 -- the block is one of its tier
-pub record IsOfTier {S : Type 0} (ts : List Tier) (b : Block S) : Type 0 where
+pub record IsOfTier {S : Type 0} (ts : List Tier) (b : UsedBlock S) : Type 0 where
   pub within : b.tier < length ts
   pub size_is : b.size ≡ (tier_at ts b.tier).size
 
@@ -58,7 +58,7 @@ abbrev pub filled : {S : Type 0} → S → ℕ → List S → List S
 filled vacant n xs = xs ++ replicate (n - length xs) vacant
 
 -- the block's slots hold its items, and then nothing
-abbrev pub HoldsItems : {S : Type 0} → S → List S → Block S → Type 0
+abbrev pub HoldsItems : {S : Type 0} → S → List S → UsedBlock S → Type 0
 HoldsItems vacant slots b = run slots b.start b.size ≡ filled vacant b.size b.items
 
 -- each slot of a block is vacant
@@ -66,7 +66,7 @@ abbrev pub IsVacant : {S : Type 0} → S → List S → Extent → Type 0
 IsVacant vacant slots e = run slots e.start e.size ≡ replicate e.size vacant
 
 -- these are the blocks in use, and the array holds what they hold and nothing else
-pub record Sound {S : Type 0} (vacant : S) (live : List (Block S)) (v : Store S) : Type 0 where
+pub record Sound {S : Type 0} (vacant : S) (live : List (UsedBlock S)) (v : Store S) : Type 0 where
   -- the blocks in use and the free ones are a rearrangement of blocks that tile the array from its first block on
   pub blocks : AreBlocksOf (tier_sizes v.tiers) v.first (map extent live) (free_extents v.tiers) (length v.slots)
   -- each block in use is one of its tier, and each tier counts its own
@@ -88,12 +88,12 @@ grown vacant v k =
     record v { slots = v.slots ++ replicate t.size vacant; tiers = slice_set v.tiers k (record t { made = t.made + 1; starts = t.starts ++ length v.slots ∷ [] }) }
 
 -- a block that holds these
-abbrev pub block : {S : Type 0} → ℕ → ℕ → ℕ → List S → Block S
+abbrev pub block : {S : Type 0} → ℕ → ℕ → ℕ → List S → UsedBlock S
 block k start size items = record { tier = k; start = start; size = size; items = items }
 
 -- the block of tier k that starts there is in use, and holds `count` values
 pub record InUse {S : Type 0} (vacant : S) (v : Store S) (k start count : ℕ) : Type 0 where
-  pub live : List (Block S)
+  pub live : List (UsedBlock S)
   pub size : ℕ
   pub items : List S
   pub is_count : length items ≡ count
@@ -121,7 +121,7 @@ abbrev pub SameRoom : {S : Type 0} → Store S → Store S → Type 0
 SameRoom v w = (length w.slots ≡ length v.slots) × (w.first ≡ v.first) × (w.limit ≡ v.limit)
 
 -- the block that holds these, where there are any
-abbrev pub held : {S : Type 0} → ℕ → ℕ → ℕ → List S → List (Block S)
+abbrev pub held : {S : Type 0} → ℕ → ℕ → ℕ → List S → List (UsedBlock S)
 held k start size [] = []
 held k start size (x ∷ xs) = block k start size (x ∷ xs) ∷ []
 
@@ -131,7 +131,7 @@ size_in sizes k = slice_index_or sizes k 0
 
 -- a list of so many values stands in a block of tier k from `start` on, or, if it has none, nowhere
 pub record HasList {S : Type 0} (vacant : S) (v : Store S) (k start count : ℕ) : Type 0 where
-  pub live : List (Block S)
+  pub live : List (UsedBlock S)
   pub size : ℕ
   pub items : List S
   pub is_count : length items ≡ count
@@ -222,8 +222,8 @@ abbrev pub blocks_entered : List Tier → ℕ → ℕ → ℕ → ℕ → ℕ
 blocks_entered ts k count to j = one_at (tier_entered k count to) j - free_at ts j
 
 -- the slots of the lacking blocks
-abbrev pub lacking_slots : List Tier → ℕ → ℕ → ℕ → ℕ
-lacking_slots ts k count lists = slots_of (tier_sizes ts) (blocks_lacking ts k count lists)
+abbrev pub tier_slots_lacking : List Tier → ℕ → ℕ → ℕ → ℕ
+tier_slots_lacking ts k count lists = slots_of (tier_sizes ts) (blocks_lacking ts k count lists)
 
 -- of the blocks that are lacking some were made, which are free, and one of tier `short` was refused; for want of memory only where
 -- the limit leaves room for it

@@ -9,7 +9,7 @@ use Rattle.prefix_trie_table.specs.declared.allocator.node.Node.{Node}
 use Rattle.prefix_trie_table.specs.Bitmaps.{has_bit, if_set, bits_below, bits, rank}
 use Rattle.prefix_trie_table.specs.Runs.{run}
 use Rattle.prefix_trie_bits.specs.Model.Blocks.{AreBlocksOf, Block as Extent}
-use Rattle.prefix_trie_table.specs.Store.{Tier, Store, Block, Sound, IsOfTier, HoldsItems, IsVacant, tier_at, tier_sizes, extent, free_extents, filled, held, size_in}
+use Rattle.prefix_trie_table.specs.Store.{Tier, Store, UsedBlock, Sound, IsOfTier, HoldsItems, IsVacant, tier_at, tier_sizes, extent, free_extents, filled, held, size_in}
 use Rattle.prefix_trie_table.specs.Cells.{cell_sizes}
 use Rattle.prefix_trie_table.specs.Forest.{value_blocks, value_blocks_of, value_in, value_of}
 use Rattle.prefix_trie_table.proofs.Blocks.RunLemmas.{length-run}
@@ -61,13 +61,13 @@ module _ {T : Type 0} (xs ys : List (Option T)) (long : length ys ≡ length xs)
       ∙ sym (get_or-replicate e.size i None None small))
 
   -- the block holds what stands in the copy
-  pub record IsRead (b c : Block (Option T)) : Type 0 where
+  pub record IsRead (b c : UsedBlock (Option T)) : Type 0 where
     pub items : List (Option T)
     pub is : c ≡ record b { items = items }
     pub many : length items ≡ length b.items
     pub each : (i : ℕ) → i < length b.items → get_or items i None ≡ get_or ys (b.start + i) None
 
-  items_read : (first : ℕ) (b : Block (Option T)) (items : List (Option T)) → length items ≡ length b.items →
+  items_read : (first : ℕ) (b : UsedBlock (Option T)) (items : List (Option T)) → length items ≡ length b.items →
       ((i : ℕ) → i < length b.items → get_or items i None ≡ get_or ys (b.start + i) None) → Within first (length xs) (extent b) →
       HoldsItems None xs b → HoldsItems None ys (record b { items = items })
   items_read first b items many each inside h =
@@ -91,43 +91,43 @@ module _ {T : Type 0} (xs ys : List (Option T)) (long : length ys ≡ length xs)
           ∙ none_stays (b.start + i) (sym (run_get xs b.start b.size i small) ∙ ap (λ zs. get_or zs i None) h ∙ filled_get b.size b.items i past small)
           ∙ sym (filled_get b.size items i (omega (arith, many, past)) small)
 
-  abbrev pub blocks_read : List (Block (Option T)) → List (Block (Option T)) → Type 0
+  abbrev pub blocks_read : List (UsedBlock (Option T)) → List (UsedBlock (Option T)) → Type 0
   blocks_read live copies = AllZip IsRead live copies
 
-  extents_read : (live copies : List (Block (Option T))) → blocks_read live copies → map extent copies ≡ map extent live
+  extents_read : (live copies : List (UsedBlock (Option T))) → blocks_read live copies → map extent copies ≡ map extent live
   extents_read [] [] z = refl
   extents_read [] (c ∷ copies) z = absurd z
   extents_read (b ∷ live) [] z = absurd z
   extents_read (b ∷ live) (c ∷ copies) z = ap₂ (λ e es. e ∷ es) (ap extent z.0.is) (extents_read live copies z.1)
 
-  counts_read : (k : ℕ) (live copies : List (Block (Option T))) → blocks_read live copies →
+  counts_read : (k : ℕ) (live copies : List (UsedBlock (Option T))) → blocks_read live copies →
       count_by (λ b. eqb b.tier k) copies ≡ count_by (λ b. eqb b.tier k) live
   counts_read k [] [] z = refl
   counts_read k [] (c ∷ copies) z = absurd z
   counts_read k (b ∷ live) [] z = absurd z
   counts_read k (b ∷ live) (c ∷ copies) z =
       sum_by-cons (λ d. cond (eqb d.tier k) 1 0) c copies
-      ∙ ap₂ (λ m n. m + n) (ap (λ (d : Block (Option T)). cond (eqb d.tier k) 1 0) z.0.is) (counts_read k live copies z.1)
+      ∙ ap₂ (λ m n. m + n) (ap (λ (d : UsedBlock (Option T)). cond (eqb d.tier k) 1 0) z.0.is) (counts_read k live copies z.1)
       ∙ sym (sum_by-cons (λ d. cond (eqb d.tier k) 1 0) b live)
 
-  tiers_read : (ts : List Tier) (live copies : List (Block (Option T))) → blocks_read live copies → All (IsOfTier ts) live → All (IsOfTier ts) copies
+  tiers_read : (ts : List Tier) (live copies : List (UsedBlock (Option T))) → blocks_read live copies → All (IsOfTier ts) live → All (IsOfTier ts) copies
   tiers_read ts [] [] z h = All-nil (IsOfTier ts)
   tiers_read ts [] (c ∷ copies) z h = absurd z
   tiers_read ts (b ∷ live) [] z h = absurd z
   tiers_read ts (b ∷ live) (c ∷ copies) z h =
       let of_tier : IsOfTier ts b = All-head (IsOfTier ts) b live h in
       All-cons (IsOfTier ts) c copies
-      (subst (λ (d : Block (Option T)). IsOfTier ts d) (sym z.0.is) (record { within = of_tier.within; size_is = of_tier.size_is }))
+      (subst (λ (d : UsedBlock (Option T)). IsOfTier ts d) (sym z.0.is) (record { within = of_tier.within; size_is = of_tier.size_is }))
       (tiers_read ts live copies z.1 (All-tail (IsOfTier ts) b live h))
 
-  held_read : (first : ℕ) (live copies : List (Block (Option T))) → blocks_read live copies → All (Within first (length xs)) (map extent live) →
+  held_read : (first : ℕ) (live copies : List (UsedBlock (Option T))) → blocks_read live copies → All (Within first (length xs)) (map extent live) →
       All (HoldsItems None xs) live → All (HoldsItems None ys) copies
   held_read first [] [] z inside h = All-nil (HoldsItems None ys)
   held_read first [] (c ∷ copies) z inside h = absurd z
   held_read first (b ∷ live) [] z inside h = absurd z
   held_read first (b ∷ live) (c ∷ copies) z inside h =
       All-cons (HoldsItems None ys) c copies
-      (subst (λ (d : Block (Option T)). HoldsItems None ys d) (sym z.0.is)
+      (subst (λ (d : UsedBlock (Option T)). HoldsItems None ys d) (sym z.0.is)
       (items_read first b z.0.items z.0.many z.0.each (All-head (Within first (length xs)) (extent b) (map extent live) inside)
       (All-head (HoldsItems None xs) b live h)))
       (held_read first live copies z.1 (All-tail (Within first (length xs)) (extent b) (map extent live) inside) (All-tail (HoldsItems None xs) b live h))
@@ -136,7 +136,7 @@ module _ {T : Type 0} (xs ys : List (Option T)) (long : length ys ≡ length xs)
   vacated_read first es inside h k d within = vacant_stays first (get_or es k d) (inside k d within) (h k d within)
 
   -- the copy is sound with blocks that hold what stands there
-  pub Sound-read : (v : Store (Option T)) → v.slots ≡ xs → (live copies : List (Block (Option T))) → blocks_read live copies → Sound None live v →
+  pub Sound-read : (v : Store (Option T)) → v.slots ≡ xs → (live copies : List (UsedBlock (Option T))) → blocks_read live copies → Sound None live v →
       Sound None copies (record v { slots = ys })
   Sound-read v e live copies z s =
       let all : All (Within v.first (length xs)) (map extent live ++ free_extents v.tiers) =
@@ -187,7 +187,7 @@ module _ {T : Type 0} (xs ys : List (Option T)) (long : length ys ≡ length xs)
         (λ i h. ap (λ o. get_or (map (λ b. value_of ys o b) (bits n.value_bitmap)) i None) e
         ∙ value_listed n i (let l = length-map (bits n.value_bitmap) (values p) in omega (arith, l, h)))
 
-    zip_append : (bs cs ds es : List (Block (Option T))) → blocks_read bs cs → blocks_read ds es → blocks_read (bs ++ ds) (cs ++ es)
+    zip_append : (bs cs ds es : List (UsedBlock (Option T))) → blocks_read bs cs → blocks_read ds es → blocks_read (bs ++ ds) (cs ++ es)
     zip_append [] [] ds es y z = z
     zip_append [] (c ∷ cs) ds es y z = absurd y
     zip_append (b ∷ bs) [] ds es y z = absurd y

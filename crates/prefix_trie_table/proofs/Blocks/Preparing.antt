@@ -2,7 +2,7 @@
 use Rattle.std.proofs.Common.{◌≡◌, ◌≢◌, ℕ, ◌+◌, ◌-◌, ◌*◌, ◌<◌, ◌≤◌, ⊎_elim, List, length, All, nat_lt, ◌&&◌, Option, None, Some, refl, sym, ap, ◌∙◌, subst, arith}
 use Rattle.std.proofs.lemmas.List.{length-map}
 use Rattle.std.proofs.lemmas.Bool.{cases_eq}
-use Rattle.prefix_trie_table.specs.Store.{Tier, Store, tier_for, tier_at, grown_times, tier_sizes, size_in, free_at, many_at, one_at, none_at, slots_of, tier_lacking, blocks_lacking, lacking_slots, Turnover, CutShort}
+use Rattle.prefix_trie_table.specs.Store.{Tier, Store, tier_for, tier_at, grown_times, tier_sizes, size_in, free_at, many_at, one_at, none_at, slots_of, tier_lacking, blocks_lacking, tier_slots_lacking, Turnover, CutShort}
 use Rattle.prefix_trie_table.proofs.Blocks.Soundness.{tier_for_holds}
 use Rattle.prefix_trie_table.proofs.Blocks.Spending.{size_at, lacking_some}
 use Rattle.prefix_trie_table.proofs.Blocks.Turnovers.{many_other, many-add, many-sub, slots_of-le, slots_of-add, slots_of-none, slots_of-many, Turnover-same, Turnover-then, Turnover-as, Turnover-grown_times, tiers_stay}
@@ -129,7 +129,7 @@ slots_bound sizes o lists most free some fit inside =
     one_bound None within = (let n = slots_of-none sizes (one_at None) (λ j. refl) in omega arith)
     one_bound (Some t) within = (let n = slots_of-many sizes t 1 (within t refl) in let h : size_in sizes t ≤ most = fit t 0 (within t refl) in omega arith)
 
-pub lacking_bound : (ts : List Tier) (k count lists most : ℕ) → 0 < length ts → All (λ size. size ≤ most) (tier_sizes ts) → lacking_slots ts k count lists ≤ most + size_in (tier_sizes ts) 0 * lists
+pub lacking_bound : (ts : List Tier) (k count lists most : ℕ) → 0 < length ts → All (λ size. size ≤ most) (tier_sizes ts) → tier_slots_lacking ts k count lists ≤ most + size_in (tier_sizes ts) 0 * lists
 lacking_bound ts k count lists most some fit =
     let same = length-map ts (λ t. t.size) in
     slots_bound (tier_sizes ts) (tier_lacking ts k count) lists most (free_at ts) (omega arith) fit (λ t is. (let h = lacking_inside ts k count t is in omega arith))

@@ -6,7 +6,7 @@ use Rattle.std.proofs.lemmas.List.Folds.{sum_by-replicate}
 use Rattle.std.proofs.lemmas.List.Sums.{sum_by-cons, sum_by-append, sum_by-take-drop}
 use Rattle.prefix_trie_bits.specs.Model.Blocks.{Tiles, Block as Extent}
 use Rattle.prefix_trie_table.specs.Runs.{run}
-use Rattle.prefix_trie_table.specs.Store.{Store, Block, Sound, HoldsItems, IsVacant, tier_sizes, extent, free_extents, filled}
+use Rattle.prefix_trie_table.specs.Store.{Store, UsedBlock, Sound, HoldsItems, IsVacant, tier_sizes, extent, free_extents, filled}
 use Rattle.prefix_trie_table.proofs.Blocks.Tilings.{blocks_sum}
 
 -- a sum over lists joined end to end
@@ -29,7 +29,7 @@ module _ {S : Type 0} (f : S → ℕ) where
   abbrev extent_sum : List S → Extent → ℕ
   extent_sum slots e = sum_by f (run slots e.start e.size)
 
-  abbrev pub items_sum : Block S → ℕ
+  abbrev pub items_sum : UsedBlock S → ℕ
   items_sum b = sum_by f b.items
 
   tiled : (slots : List S) (sizes : List ℕ) (first : ℕ) (es : List Extent) → Tiles sizes first es (length slots) → sum_by f (drop first slots) ≡ sum_by (extent_sum slots) es
@@ -50,12 +50,12 @@ module _ {S : Type 0} (f : S → ℕ) where
         let here : extent_sum slots e ≡ 0 = ap (sum_by f) (All-head (IsVacant vacant slots) e es h) ∙ vacant_sum e.size in
         omega (arith, sum_by-cons (extent_sum slots) e es, here, free_sum slots es (All-tail (IsVacant vacant slots) e es h))
 
-    block_sum : (slots : List S) (b : Block S) → HoldsItems vacant slots b → extent_sum slots (extent b) ≡ items_sum b
+    block_sum : (slots : List S) (b : UsedBlock S) → HoldsItems vacant slots b → extent_sum slots (extent b) ≡ items_sum b
     block_sum slots b h =
         let all : extent_sum slots (extent b) ≡ sum_by f (filled vacant b.size b.items) = ap (sum_by f) h in
         omega (arith, all, sum_by-append f b.items (replicate (b.size - length b.items) vacant), vacant_sum (b.size - length b.items))
 
-    live_sum : (slots : List S) (live : List (Block S)) → All (HoldsItems vacant slots) live → sum_by (extent_sum slots) (map extent live) ≡ sum_by items_sum live
+    live_sum : (slots : List S) (live : List (UsedBlock S)) → All (HoldsItems vacant slots) live → sum_by (extent_sum slots) (map extent live) ≡ sum_by items_sum live
     live_sum slots [] h = refl
     live_sum slots (b ∷ bs) h =
         omega (
@@ -67,7 +67,7 @@ module _ {S : Type 0} (f : S → ℕ) where
         )
 
     -- what counts 0 where nothing is
-    pub slots_sum : (live : List (Block S)) (v : Store S) → Sound vacant live v →
+    pub slots_sum : (live : List (UsedBlock S)) (v : Store S) → Sound vacant live v →
         sum_by f v.slots ≡ sum_by f (take v.first v.slots) + sum_by items_sum live
     slots_sum live v s =
         omega (

@@ -11,7 +11,7 @@ use Rattle.std.proofs.lemmas.Bool.Decides.{nat_tests}
 use Rattle.std.specs.Prelude.{Contains}
 use Rattle.prefix_trie_bits.specs.Model.Blocks.{Tiles, AreBlocksOf, Block as Extent}
 use Rattle.prefix_trie_table.specs.Runs.{run, put_run, swap_runs}
-use Rattle.prefix_trie_table.specs.Store.{Tier, Store, Block, Sound, IsOfTier, HoldsItems, IsVacant, tier_at, tier_sizes, slots_made, extent, of_size, free_extents, with_tier, grown, filled, block, tier_for, no_blocks}
+use Rattle.prefix_trie_table.specs.Store.{Tier, Store, UsedBlock, Sound, IsOfTier, HoldsItems, IsVacant, tier_at, tier_sizes, slots_made, extent, of_size, free_extents, with_tier, grown, filled, block, tier_for, no_blocks}
 use Rattle.prefix_trie_table.proofs.Blocks.RunLemmas.{Apart, length-run, length-put_run, run-put_run_same, run-put_run_other, run-append_left, run-append_right, moved_in_run, put_run_part, swap_runs_is, set_in_run, run-set_before}
 use Rattle.prefix_trie_table.proofs.Blocks.Spending.{size_at, sizes_set}
 use Rattle.prefix_trie_table.proofs.Blocks.Tilings.{Disjoint, Within, Tiles-push, others_apart, each_within, first_inside, blocks_moved, All-append_left, All-append_right}
@@ -56,28 +56,28 @@ has_size ts k inside =
     (k, there, get_or_default (tier_sizes ts) k (tier_at ts k).size 0 there ∙ sym (size_at ts k))
 
 module _ {S : Type 0} where
-  of_tier_stays : (ts : List Tier) (k : ℕ) (t : Tier) (live : List (Block S)) → k < length ts → t.size ≡ (tier_at ts k).size → All (IsOfTier ts) live → All (IsOfTier (set ts k t)) live
+  of_tier_stays : (ts : List Tier) (k : ℕ) (t : Tier) (live : List (UsedBlock S)) → k < length ts → t.size ≡ (tier_at ts k).size → All (IsOfTier ts) live → All (IsOfTier (set ts k t)) live
   of_tier_stays ts k t live inside same =
       All-weaker (IsOfTier ts) (IsOfTier (set ts k t)) (λ b h. record { within = (let n = length-set ts k t in omega (arith, h.within)); size_is = h.size_is ∙ sym (sizes_stay ts k t b.tier inside same) }) live
 
   -- every block in use or free lies in the array
-  all_inside : (vacant : S) (live : List (Block S)) (v : Store S) → Sound vacant live v → All (Within v.first (length v.slots)) (map extent live ++ free_extents v.tiers)
+  all_inside : (vacant : S) (live : List (UsedBlock S)) (v : Store S) → Sound vacant live v → All (Within v.first (length v.slots)) (map extent live ++ free_extents v.tiers)
   all_inside vacant live v s = each_within (tier_sizes v.tiers) v.first (length v.slots) (map extent live) (free_extents v.tiers) s.blocks
 
   -- the place of the first block lies in the array
-  pub first_place : (vacant : S) (live : List (Block S)) (v : Store S) → Sound vacant live v → v.first ≤ length v.slots
+  pub first_place : (vacant : S) (live : List (UsedBlock S)) (v : Store S) → Sound vacant live v → v.first ≤ length v.slots
   first_place vacant live v s = first_inside (tier_sizes v.tiers) v.first (length v.slots) (map extent live) (free_extents v.tiers) s.blocks
 
   -- the slots of a block lie in the array
-  pub block_inside : (vacant : S) (b : Block S) (live : List (Block S)) (v : Store S) → Sound vacant (b ∷ live) v → Within v.first (length v.slots) (extent b)
+  pub block_inside : (vacant : S) (b : UsedBlock S) (live : List (UsedBlock S)) (v : Store S) → Sound vacant (b ∷ live) v → Within v.first (length v.slots) (extent b)
   block_inside vacant b live v s = All-head (Within v.first (length v.slots)) (extent b) (map extent live ++ free_extents v.tiers) (all_inside vacant (b ∷ live) v s)
 
   -- all other blocks are apart from the first
-  others : (vacant : S) (b : Block S) (live : List (Block S)) (v : Store S) → Sound vacant (b ∷ live) v → All (Disjoint (extent b)) (map extent live ++ free_extents v.tiers)
+  others : (vacant : S) (b : UsedBlock S) (live : List (UsedBlock S)) (v : Store S) → Sound vacant (b ∷ live) v → All (Disjoint (extent b)) (map extent live ++ free_extents v.tiers)
   others vacant b live v s = others_apart (tier_sizes v.tiers) v.first (length v.slots) (extent b) (map extent live) (free_extents v.tiers) s.blocks
 
   -- a fact of each extent is one of each block
-  All-extent : (P : Extent → Type 0) (live : List (Block S)) → All P (map extent live) → All (λ b. P (extent b)) live
+  All-extent : (P : Extent → Type 0) (live : List (UsedBlock S)) → All P (map extent live) → All (λ b. P (extent b)) live
   All-extent P [] all = All-nil (λ b. P (extent b))
   All-extent P (b ∷ live) all =
       All-cons (λ b. P (extent b)) b live (All-head P (extent b) (map extent live) all) (All-extent P live (All-tail P (extent b) (map extent live) all))
@@ -88,7 +88,7 @@ module _ {S : Type 0} where
       omega (arith, length-append xs (replicate (n - length xs) vacant))
 
   -- the blocks of an array that is as long, one tier of which has others free
-  retiered : (live : List (Block S)) (v : Store S) (k : ℕ) (t : Tier) (live2 : List (Block S)) → t.size ≡ (tier_at v.tiers k).size →
+  retiered : (live : List (UsedBlock S)) (v : Store S) (k : ℕ) (t : Tier) (live2 : List (UsedBlock S)) → t.size ≡ (tier_at v.tiers k).size →
       IsPermutation (map extent live2 ++ free_extents (set v.tiers k t)) (map extent live ++ free_extents v.tiers) →
       AreBlocksOf (tier_sizes v.tiers) v.first (map extent live) (free_extents v.tiers) (length v.slots) →
       AreBlocksOf (tier_sizes (set v.tiers k t)) v.first (map extent live2) (free_extents (set v.tiers k t)) (length v.slots)
@@ -97,7 +97,7 @@ module _ {S : Type 0} where
       (blocks_moved (tier_sizes v.tiers) v.first (length v.slots) (map extent live) (free_extents v.tiers) b (map extent live2) (free_extents (set v.tiers k t)) moved)
 
   -- the first block holds another list
-  pub Sound-written : (vacant : S) (b : Block S) (live : List (Block S)) (v : Store S) (items : List S) → length items ≤ b.size → Sound vacant (b ∷ live) v → Sound vacant (record b { items = items } ∷ live) (record v { slots = put_run v.slots b.start (filled vacant b.size items) })
+  pub Sound-written : (vacant : S) (b : UsedBlock S) (live : List (UsedBlock S)) (v : Store S) (items : List S) → length items ≤ b.size → Sound vacant (b ∷ live) v → Sound vacant (record b { items = items } ∷ live) (record v { slots = put_run v.slots b.start (filled vacant b.size items) })
   Sound-written vacant b live v items few s =
       let ys : List S = filled vacant b.size items in
       let fits : length ys ≡ b.size = length-filled vacant b.size items few in
@@ -113,7 +113,7 @@ module _ {S : Type 0} where
       }
 
   -- the first block's slots
-  pub block_slots : (vacant : S) (b : Block S) (live : List (Block S)) (v : Store S) → Sound vacant (b ∷ live) v → run v.slots b.start b.size ≡ filled vacant b.size b.items
+  pub block_slots : (vacant : S) (b : UsedBlock S) (live : List (UsedBlock S)) (v : Store S) → Sound vacant (b ∷ live) v → run v.slots b.start b.size ≡ filled vacant b.size b.items
   block_slots vacant b live v s = All-head (HoldsItems vacant v.slots) b live s.held
 
   -- nothing is held where all is vacant
@@ -121,19 +121,19 @@ module _ {S : Type 0} where
   filled_none vacant n = ap (λ m. replicate m vacant) (let e : n - 0 ≡ n = omega arith in e)
 
   -- the blocks in use may be named in any order
-  pub Sound-permuted : (vacant : S) (live moved : List (Block S)) (v : Store S) → IsPermutation live moved → Sound vacant live v → Sound vacant moved v
+  pub Sound-permuted : (vacant : S) (live moved : List (UsedBlock S)) (v : Store S) → IsPermutation live moved → Sound vacant live v → Sound vacant moved v
   Sound-permuted vacant live moved v p s =
       record {
         blocks = blocks_moved (tier_sizes v.tiers) v.first (length v.slots) (map extent live) (free_extents v.tiers) s.blocks (map extent moved) (free_extents v.tiers)
             (IsPermutation-append_left (free_extents v.tiers) (map extent moved) (map extent live) (IsPermutation-map extent moved live (IsPermutation-sym live moved p)));
         of_tier = All-permutation (IsOfTier v.tiers) live moved p s.of_tier;
-        counted = λ k h. s.counted k h ∙ ap (λ n. length (tier_at v.tiers k).starts + n) (sym (sum_by-IsPermutation (λ (b : Block S). cond (eqb b.tier k) 1 0) live moved p));
+        counted = λ k h. s.counted k h ∙ ap (λ n. length (tier_at v.tiers k).starts + n) (sym (sum_by-IsPermutation (λ (b : UsedBlock S). cond (eqb b.tier k) 1 0) live moved p));
         held = All-permutation (HoldsItems vacant v.slots) live moved p s.held;
         vacated = s.vacated;
       }
 
   -- a free block was made at the array's end
-  pub Sound-grown : (vacant : S) (live : List (Block S)) (v : Store S) (k : ℕ) → k < length v.tiers → Sound vacant live v → Sound vacant live (grown vacant v k)
+  pub Sound-grown : (vacant : S) (live : List (UsedBlock S)) (v : Store S) (k : ℕ) → k < length v.tiers → Sound vacant live v → Sound vacant live (grown vacant v k)
   Sound-grown vacant live v k inside s =
       let t = tier_at v.tiers k in
       let e : Extent = of_size t.size (length v.slots) in
@@ -151,38 +151,38 @@ module _ {S : Type 0} where
               (IsPermutation-trans _ _ _ (IsPermutation-cons e _ _ s.blocks.rearranged) (IsPermutation-sym _ _ (IsPermutation-to_front s.blocks.blocks e)));
         };
         of_tier = of_tier_stays v.tiers k new live inside refl s.of_tier;
-        counted = tier_changed (λ j u. u.made ≡ length u.starts + count_by (λ (b : Block S). eqb b.tier j) live) v.tiers k new inside (omega (arith, s.counted k inside, length-append t.starts (length v.slots ∷ []))) (λ j h n. s.counted j h);
+        counted = tier_changed (λ j u. u.made ≡ length u.starts + count_by (λ (b : UsedBlock S). eqb b.tier j) live) v.tiers k new inside (omega (arith, s.counted k inside, length-append t.starts (length v.slots ∷ []))) (λ j h n. s.counted j h);
         held = All-both (λ c. Within v.first (length v.slots) (extent c)) (HoldsItems vacant v.slots) (HoldsItems vacant (v.slots ++ replicate t.size vacant)) live (λ c w h. run-append_left v.slots (replicate t.size vacant) c.start c.size w.before ∙ h) (All-extent (Within v.first (length v.slots)) live (All-append_left (Within v.first (length v.slots)) (map extent live) (free_extents v.tiers) within)) s.held;
         vacated = All-permutation (IsVacant vacant (v.slots ++ replicate t.size vacant)) (e ∷ free_extents v.tiers) (free_extents (set v.tiers k new)) pushed (All-cons (IsVacant vacant (v.slots ++ replicate t.size vacant)) e (free_extents v.tiers) (run-append_right v.slots (replicate t.size vacant) t.size (sym (length-replicate t.size vacant))) (All-both (Within v.first (length v.slots)) (IsVacant vacant v.slots) (IsVacant vacant (v.slots ++ replicate t.size vacant)) (free_extents v.tiers) (λ f w h. run-append_left v.slots (replicate t.size vacant) f.start f.size w.before ∙ h) (All-append_right (Within v.first (length v.slots)) (map extent live) (free_extents v.tiers) within) s.vacated));
       }
 
   -- 1 for a block of tier k
-  abbrev one_of : ℕ → Block S → ℕ
+  abbrev one_of : ℕ → UsedBlock S → ℕ
   one_of k b = cond (eqb b.tier k) 1 0
 
-  count_same : (b : Block S) (k : ℕ) → b.tier ≡ k → one_of k b ≡ 1
+  count_same : (b : UsedBlock S) (k : ℕ) → b.tier ≡ k → one_of k b ≡ 1
   count_same b k e = grind (arith, nat_tests)
 
-  count_other : (b : Block S) (k : ℕ) → b.tier ≢ k → one_of k b ≡ 0
+  count_other : (b : UsedBlock S) (k : ℕ) → b.tier ≢ k → one_of k b ≡ 0
   count_other b k e = grind (arith, nat_tests)
 
   -- how many blocks are of tier k
-  abbrev pub count_of : ℕ → List (Block S) → ℕ
-  count_of k live = count_by (λ (b : Block S). eqb b.tier k) live
+  abbrev pub count_of : ℕ → List (UsedBlock S) → ℕ
+  count_of k live = count_by (λ (b : UsedBlock S). eqb b.tier k) live
 
-  count-cons_same : (b : Block S) (live : List (Block S)) (k : ℕ) → b.tier ≡ k → count_of k (b ∷ live) ≡ suc (count_of k live)
+  count-cons_same : (b : UsedBlock S) (live : List (UsedBlock S)) (k : ℕ) → b.tier ≡ k → count_of k (b ∷ live) ≡ suc (count_of k live)
   count-cons_same b live k e =
       omega (arith, sum_by-cons (one_of k) b live, count_same b k e)
 
-  count-cons_other : (b : Block S) (live : List (Block S)) (k : ℕ) → b.tier ≢ k → count_of k (b ∷ live) ≡ count_of k live
+  count-cons_other : (b : UsedBlock S) (live : List (UsedBlock S)) (k : ℕ) → b.tier ≢ k → count_of k (b ∷ live) ≡ count_of k live
   count-cons_other b live k e =
       omega (arith, sum_by-cons (one_of k) b live, count_other b k e)
 
   -- a free block comes into use
-  pub Sound-taken : (vacant : S) (live : List (Block S)) (v : Store S) (k : ℕ) (t : Tier) (x : ℕ) → k < length v.tiers → t.size ≡ (tier_at v.tiers k).size → t.made ≡ (tier_at v.tiers k).made → (tier_at v.tiers k).starts ≡ t.starts ++ x ∷ [] → Sound vacant live v → Sound vacant (block k x (tier_at v.tiers k).size [] ∷ live) (with_tier v k t)
+  pub Sound-taken : (vacant : S) (live : List (UsedBlock S)) (v : Store S) (k : ℕ) (t : Tier) (x : ℕ) → k < length v.tiers → t.size ≡ (tier_at v.tiers k).size → t.made ≡ (tier_at v.tiers k).made → (tier_at v.tiers k).starts ≡ t.starts ++ x ∷ [] → Sound vacant live v → Sound vacant (block k x (tier_at v.tiers k).size [] ∷ live) (with_tier v k t)
   Sound-taken vacant live v k t x inside same_size same_made popped s =
       let old = tier_at v.tiers k in
-      let b : Block S = block k x old.size [] in
+      let b : UsedBlock S = block k x old.size [] in
       let moved : IsPermutation (free_extents v.tiers) (extent b ∷ free_extents (set v.tiers k t)) = free_popped v.tiers k t x inside same_size popped in
       let empty : All (IsVacant vacant v.slots) (extent b ∷ free_extents (set v.tiers k t)) = All-permutation (IsVacant vacant v.slots) _ _ moved s.vacated in
       record {
@@ -194,7 +194,7 @@ module _ {S : Type 0} where
       }
 
   -- a block that holds nothing is given back
-  pub Sound-given : (vacant : S) (b : Block S) (live : List (Block S)) (v : Store S) (t : Tier) → b.items ≡ [] → t.size ≡ (tier_at v.tiers b.tier).size → t.made ≡ (tier_at v.tiers b.tier).made → t.starts ≡ (tier_at v.tiers b.tier).starts ++ b.start ∷ [] → Sound vacant (b ∷ live) v → Sound vacant live (with_tier v b.tier t)
+  pub Sound-given : (vacant : S) (b : UsedBlock S) (live : List (UsedBlock S)) (v : Store S) (t : Tier) → b.items ≡ [] → t.size ≡ (tier_at v.tiers b.tier).size → t.made ≡ (tier_at v.tiers b.tier).made → t.starts ≡ (tier_at v.tiers b.tier).starts ++ b.start ∷ [] → Sound vacant (b ∷ live) v → Sound vacant live (with_tier v b.tier t)
   Sound-given vacant b live v t empty same_size same_made pushed s =
       let of : IsOfTier v.tiers b = All-head (IsOfTier v.tiers) b live s.of_tier in
       let inside : b.tier < length v.tiers = of.within in
@@ -209,7 +209,7 @@ module _ {S : Type 0} where
       }
 
   -- a tier of which a block is in use has a place for it
-  pub has_place : (vacant : S) (b : Block S) (live : List (Block S)) (v : Store S) → Sound vacant (b ∷ live) v → (b.tier < length v.tiers) × (length (tier_at v.tiers b.tier).starts < (tier_at v.tiers b.tier).made)
+  pub has_place : (vacant : S) (b : UsedBlock S) (live : List (UsedBlock S)) (v : Store S) → Sound vacant (b ∷ live) v → (b.tier < length v.tiers) × (length (tier_at v.tiers b.tier).starts < (tier_at v.tiers b.tier).made)
   has_place vacant b live v s =
       let of : IsOfTier v.tiers b = All-head (IsOfTier v.tiers) b live s.of_tier in
       (of.within, omega (arith, s.counted b.tier of.within, count-cons_same b live b.tier refl))
@@ -226,7 +226,7 @@ made_fits ts k old new starts first len inside read new_is total positive =
 
 module _ {S : Type 0} where
   -- `Sound-grown`, as the calls say what they wrote
-  pub Sound-grown_as : (vacant : S) (live : List (Block S)) (v : Store S) (k n x : ℕ) (t : Tier) (items : List S) → k < length v.tiers → items ≡ v.slots ++ replicate n vacant → n ≡ (tier_at v.tiers k).size → x ≡ length v.slots → t ≡ record (tier_at v.tiers k) { made = (tier_at v.tiers k).made + 1; starts = (tier_at v.tiers k).starts ++ x ∷ [] } → Sound vacant live v → Sound vacant live (record v { slots = items; tiers = set v.tiers k t })
+  pub Sound-grown_as : (vacant : S) (live : List (UsedBlock S)) (v : Store S) (k n x : ℕ) (t : Tier) (items : List S) → k < length v.tiers → items ≡ v.slots ++ replicate n vacant → n ≡ (tier_at v.tiers k).size → x ≡ length v.slots → t ≡ record (tier_at v.tiers k) { made = (tier_at v.tiers k).made + 1; starts = (tier_at v.tiers k).starts ++ x ∷ [] } → Sound vacant live v → Sound vacant live (record v { slots = items; tiers = set v.tiers k t })
   Sound-grown_as vacant live v k n x t items inside items_is n_is x_is t_is s =
       let old = tier_at v.tiers k in
       subst (λ ys. Sound vacant live (record v { slots = ys; tiers = set v.tiers k t })) (sym (items_is ∙ ap (λ m. v.slots ++ replicate m vacant) n_is)) (subst (λ u. Sound vacant live (record v { slots = v.slots ++ replicate old.size vacant; tiers = set v.tiers k u })) (sym (t_is ∙ ap (λ y. record old { made = old.made + 1; starts = old.starts ++ y ∷ [] }) x_is)) (Sound-grown vacant live v k inside s))
@@ -253,21 +253,21 @@ module _ {S : Type 0} where
       ap (λ ys. insert ys (length xs - 1) vacant) out ∙ insert-append_right (remove xs i) rest (length (remove xs i)) (length xs - 1) vacant refl (omega arith) ∙ ap (λ k. remove xs i ++ insert rest k vacant) place ∙ ap (λ k. remove xs i ++ replicate k vacant) more
 
   -- a list that a block holds has no more items than the block has slots
-  pub fits_block : (vacant : S) (b : Block S) (live : List (Block S)) (v : Store S) → Sound vacant (b ∷ live) v → length b.items ≤ b.size
+  pub fits_block : (vacant : S) (b : UsedBlock S) (live : List (UsedBlock S)) (v : Store S) → Sound vacant (b ∷ live) v → length b.items ≤ b.size
   fits_block vacant b live v s =
       let w = block_inside vacant b live v s in
       let n : length (run v.slots b.start b.size) ≡ b.size = length-run v.slots b.start b.size w.before in
       let h : length (filled vacant b.size b.items) ≡ b.size = ap (λ ys. length ys) (sym (block_slots vacant b live v s)) ∙ n in
       omega (arith, length-append b.items (replicate (b.size - length b.items) vacant))
 
-  pub Sound-inserted : (vacant : S) (b : Block S) (live : List (Block S)) (v : Store S) (count place : ℕ) (x : S) → length b.items ≡ count → count < b.size → place ≤ count → Sound vacant (b ∷ live) v → Sound vacant (record b { items = insert b.items place x } ∷ live) (record v { slots = insert (remove v.slots (b.start + count)) (b.start + place) x })
+  pub Sound-inserted : (vacant : S) (b : UsedBlock S) (live : List (UsedBlock S)) (v : Store S) (count place : ℕ) (x : S) → length b.items ≡ count → count < b.size → place ≤ count → Sound vacant (b ∷ live) v → Sound vacant (record b { items = insert b.items place x } ∷ live) (record v { slots = insert (remove v.slots (b.start + count)) (b.start + place) x })
   Sound-inserted vacant b live v count place x is_count room within s =
       let w = block_inside vacant b live v s in
       let slots : insert (remove v.slots (b.start + count)) (b.start + place) x ≡ put_run v.slots b.start (filled vacant b.size (insert b.items place x)) = moved_in_run v.slots b.start b.size count place x w.before room (omega arith) ∙ ap (λ ys. put_run v.slots b.start (insert (remove ys count) place x)) (block_slots vacant b live v s) ∙ ap (λ k. put_run v.slots b.start (insert (remove (filled vacant b.size b.items) k) place x)) (sym is_count) ∙ ap (λ ys. put_run v.slots b.start ys) (filled_insert vacant b.size b.items place x (omega arith) (omega arith)) in
       let longer = length-insert b.items place x (omega arith) in
       subst (λ ys. Sound vacant (record b { items = insert b.items place x } ∷ live) (record v { slots = ys })) (sym slots) (Sound-written vacant b live v (insert b.items place x) (omega arith) s)
 
-  pub Sound-removed : (vacant : S) (b : Block S) (live : List (Block S)) (v : Store S) (count place : ℕ) → length b.items ≡ count → place < count → Sound vacant (b ∷ live) v → Sound vacant (record b { items = remove b.items place } ∷ live) (record v { slots = insert (remove v.slots (b.start + place)) (b.start + count - 1) vacant })
+  pub Sound-removed : (vacant : S) (b : UsedBlock S) (live : List (UsedBlock S)) (v : Store S) (count place : ℕ) → length b.items ≡ count → place < count → Sound vacant (b ∷ live) v → Sound vacant (record b { items = remove b.items place } ∷ live) (record v { slots = insert (remove v.slots (b.start + place)) (b.start + count - 1) vacant })
   Sound-removed vacant b live v count place is_count within s =
       let w = block_inside vacant b live v s in
       let fits = fits_block vacant b live v s in
@@ -277,18 +277,18 @@ module _ {S : Type 0} where
       subst (λ ys. Sound vacant (record b { items = remove b.items place } ∷ live) (record v { slots = ys })) (sym slots) (Sound-written vacant b live v (remove b.items place) (omega arith) s)
 
   -- a slot of a block is an item of its list
-  pub slot_of_block : (vacant : S) (b : Block S) (live : List (Block S)) (v : Store S) (place : ℕ) (d : S) → place < length b.items → Sound vacant (b ∷ live) v → get_or v.slots (b.start + place) d ≡ get_or b.items place d
+  pub slot_of_block : (vacant : S) (b : UsedBlock S) (live : List (UsedBlock S)) (v : Store S) (place : ℕ) (d : S) → place < length b.items → Sound vacant (b ∷ live) v → get_or v.slots (b.start + place) d ≡ get_or b.items place d
   slot_of_block vacant b live v place d within s =
       let fits = fits_block vacant b live v s in
       sym (get_or-drop b.start v.slots place d) ∙ sym (get_or-take b.size (drop b.start v.slots) place d (omega arith)) ∙ ap (λ ys. get_or ys place d) (block_slots vacant b live v s) ∙ get_or_append_left b.items (replicate (b.size - length b.items) vacant) d place within
 
   -- the first two blocks change places
-  pub Sound-exchanged : (vacant : S) (a b : Block S) (live : List (Block S)) (v : Store S) → Sound vacant (a ∷ b ∷ live) v → Sound vacant (b ∷ a ∷ live) v
+  pub Sound-exchanged : (vacant : S) (a b : UsedBlock S) (live : List (UsedBlock S)) (v : Store S) → Sound vacant (a ∷ b ∷ live) v → Sound vacant (b ∷ a ∷ live) v
   Sound-exchanged vacant a b live v s =
       Sound-permuted vacant (a ∷ b ∷ live) (b ∷ a ∷ live) v (IsPermutation-middle (a ∷ []) b live) s
 
   -- the items of one block move to the front of another, which holds none
-  pub Sound-moved : (vacant : S) (a b : Block S) (live : List (Block S)) (v : Store S) (count : ℕ) → length a.items ≡ count → b.items ≡ [] → count ≤ b.size → Sound vacant (a ∷ b ∷ live) v → Sound vacant (record a { items = [] } ∷ record b { items = a.items } ∷ live) (record v { slots = swap_runs v.slots a.start b.start count })
+  pub Sound-moved : (vacant : S) (a b : UsedBlock S) (live : List (UsedBlock S)) (v : Store S) (count : ℕ) → length a.items ≡ count → b.items ≡ [] → count ≤ b.size → Sound vacant (a ∷ b ∷ live) v → Sound vacant (record a { items = [] } ∷ record b { items = a.items } ∷ live) (record v { slots = swap_runs v.slots a.start b.start count })
   Sound-moved vacant a b live v c is_count none room s =
       let wa = block_inside vacant a (b ∷ live) v s in
       let wb = block_inside vacant b (a ∷ live) v (Sound-exchanged vacant a b live v s) in
@@ -305,19 +305,19 @@ module _ {S : Type 0} where
       let first : put_run v.slots a.start (replicate c vacant) ≡ put_run v.slots a.start (filled vacant a.size []) = put_run_part v.slots a.start a.size (replicate c vacant) wa.before (omega arith) ∙ ap (λ xs. put_run v.slots a.start xs) emptied in
       let ys : List S = put_run v.slots a.start (filled vacant a.size []) in
       let u : Store S = record v { slots = put_run v.slots a.start (filled vacant a.size []) } in
-      let a' : Block S = record a { items = [] } in
+      let a' : UsedBlock S = record a { items = [] } in
       let su : Sound vacant (b ∷ a' ∷ live) u = Sound-exchanged vacant a' b live u (Sound-written vacant a (b ∷ live) v [] (omega arith) s) in
       let wu = block_inside vacant b (a' ∷ live) u su in
       let slots_u : run ys b.start b.size ≡ replicate b.size vacant = block_slots vacant b (a' ∷ live) u su ∙ ap (λ xs. filled vacant b.size xs) none ∙ filled_none vacant b.size in
       let rest : a.items ++ drop (length a.items) (run ys b.start b.size) ≡ filled vacant b.size a.items = ap (λ xs. a.items ++ drop (length a.items) xs) slots_u ∙ ap (λ xs. a.items ++ xs) (drop-replicate (length a.items) b.size vacant) in
       let second : put_run ys b.start a.items ≡ put_run ys b.start (filled vacant b.size a.items) = put_run_part ys b.start b.size a.items wu.before (omega arith) ∙ ap (λ xs. put_run ys b.start xs) rest in
       let all : swap_runs v.slots a.start b.start c ≡ put_run ys b.start (filled vacant b.size a.items) = swap_runs_is v.slots a.start b.start c vacant (omega (arith, wa.before)) (omega (arith, wb.before)) narrow ∙ ap (λ xs. put_run (put_run v.slots a.start xs) b.start (run v.slots a.start c)) held_b ∙ ap (λ xs. put_run (put_run v.slots a.start (replicate c vacant)) b.start xs) held_a ∙ ap (λ xs. put_run xs b.start a.items) first ∙ second in
-      let b' : Block S = record b { items = a.items } in
+      let b' : UsedBlock S = record b { items = a.items } in
       subst (λ xs. Sound vacant (a' ∷ b' ∷ live) (record v { slots = xs })) (sym all) (Sound-exchanged vacant b' a' live (record u { slots = put_run ys b.start (filled vacant b.size a.items) }) (Sound-written vacant b (a' ∷ live) u a.items (omega arith) su))
 
 module _ {S : Type 0} where
   -- the tier of a block in use
-  pub tier_of_block : (vacant : S) (b : Block S) (live : List (Block S)) (v : Store S) → Sound vacant (b ∷ live) v → IsOfTier v.tiers b
+  pub tier_of_block : (vacant : S) (b : UsedBlock S) (live : List (UsedBlock S)) (v : Store S) → Sound vacant (b ∷ live) v → IsOfTier v.tiers b
   tier_of_block vacant b live v s = All-head (IsOfTier v.tiers) b live s.of_tier
 
 -- the tier that holds n
@@ -368,7 +368,7 @@ module _ {S : Type 0} where
 
 module _ {S : Type 0} where
   -- one item of a block is written
-  pub Sound-set : (vacant : S) (b : Block S) (live : List (Block S)) (v : Store S) (i : ℕ) (x : S) → i < length b.items → Sound vacant (b ∷ live) v → Sound vacant (record b { items = set b.items i x } ∷ live) (record v { slots = set v.slots (b.start + i) x })
+  pub Sound-set : (vacant : S) (b : UsedBlock S) (live : List (UsedBlock S)) (v : Store S) (i : ℕ) (x : S) → i < length b.items → Sound vacant (b ∷ live) v → Sound vacant (record b { items = set b.items i x } ∷ live) (record v { slots = set v.slots (b.start + i) x })
   Sound-set vacant b live v i x within s =
       let w = block_inside vacant b live v s in
       let fits = fits_block vacant b live v s in
@@ -377,7 +377,7 @@ module _ {S : Type 0} where
       subst (λ ys. Sound vacant (record b { items = set b.items i x } ∷ live) (record v { slots = ys })) (sym slots) (Sound-written vacant b live v (set b.items i x) (omega arith) s)
 
   -- a slot before the first block is written
-  pub Sound-set_before : (vacant : S) (live : List (Block S)) (v : Store S) (i : ℕ) (x : S) → i < v.first → Sound vacant live v → Sound vacant live (record v { slots = set v.slots i x })
+  pub Sound-set_before : (vacant : S) (live : List (UsedBlock S)) (v : Store S) (i : ℕ) (x : S) → i < v.first → Sound vacant live v → Sound vacant live (record v { slots = set v.slots i x })
   Sound-set_before vacant live v i x before s =
       let within = all_inside vacant live v s in
       record {

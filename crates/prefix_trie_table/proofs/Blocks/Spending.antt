@@ -4,7 +4,7 @@ use Rattle.std.proofs.lemmas.List.{get_or-set_same, get_or-set_other, length-tak
 use Rattle.std.proofs.lemmas.List.Edits.{get_or-insert_below, get_or-remove_below, length-insert, length-remove, Swapped, swapped_from_swap}
 use Rattle.std.proofs.lemmas.Bool.{cases_eq}
 use Rattle.prefix_trie_table.specs.Runs.{swap_runs}
-use Rattle.prefix_trie_table.specs.Store.{Tier, Store, Block, tier_at, with_tier, taken, Spends, Keeps, Prepared, Enough, IsReady, tier_lacking, tier_for, grown, tier_sizes, free_at, size_in, held, block, Sound}
+use Rattle.prefix_trie_table.specs.Store.{Tier, Store, UsedBlock, tier_at, with_tier, taken, Spends, Keeps, Prepared, Enough, IsReady, tier_lacking, tier_for, grown, tier_sizes, free_at, size_in, held, block, Sound}
 use Rattle.prefix_trie_table.specs.Cells.{node_sizes, cell_sizes}
 use Rattle.std.specs.List.{prefix_len, position_or_len, position}
 use Rattle.std.proofs.lemmas.List.{length-map, length-replicate, get_or_append_left}
@@ -220,14 +220,14 @@ module _ {S : Type 0} where
 
 module _ {S : Type 0} where
   -- a list with items stands in a block
-  pub list_block : (vacant : S) (k start n : ℕ) (xs : List S) (live : List (Block S)) (v : Store S) → 0 < length xs → Sound vacant (held k start n xs ++ live) v → Sound vacant (block k start n xs ∷ live) v
+  pub list_block : (vacant : S) (k start n : ℕ) (xs : List S) (live : List (UsedBlock S)) (v : Store S) → 0 < length xs → Sound vacant (held k start n xs ++ live) v → Sound vacant (block k start n xs ∷ live) v
   list_block vacant k start n [] live v h s = absurd (omega arith)
   list_block vacant k start n (x ∷ xs) live v h s = s
 
-  pub block_list : (vacant : S) (k start n : ℕ) (xs : List S) (live : List (Block S)) (v : Store S) → 0 < length xs → Sound vacant (block k start n xs ∷ live) v → Sound vacant (held k start n xs ++ live) v
+  pub block_list : (vacant : S) (k start n : ℕ) (xs : List S) (live : List (UsedBlock S)) (v : Store S) → 0 < length xs → Sound vacant (block k start n xs ∷ live) v → Sound vacant (held k start n xs ++ live) v
   block_list vacant k start n [] live v h s = absurd (omega arith)
   block_list vacant k start n (x ∷ xs) live v h s = s
 
-  pub no_list : (vacant : S) (k start n : ℕ) (xs : List S) (live : List (Block S)) (v : Store S) → length xs ≡ 0 → Sound vacant live v → Sound vacant (held k start n xs ++ live) v
+  pub no_list : (vacant : S) (k start n : ℕ) (xs : List S) (live : List (UsedBlock S)) (v : Store S) → length xs ≡ 0 → Sound vacant live v → Sound vacant (held k start n xs ++ live) v
   no_list vacant k start n [] live v h s = s
   no_list vacant k start n (x ∷ xs) live v h s = absurd (omega arith)

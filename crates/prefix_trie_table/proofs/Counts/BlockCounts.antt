@@ -13,7 +13,7 @@ use Rattle.prefix_trie_table.specs.Digits.{path_of}
 use Rattle.prefix_trie_table.specs.BlockCounts.{tier_count, block_counts, slots_counted}
 use Rattle.prefix_trie_table.specs.Bitmaps.{bits}
 use Rattle.prefix_trie_table.specs.Cells.{node_sizes, cell_sizes}
-use Rattle.prefix_trie_table.specs.Store.{Tier, Block, Sound, Store, IsOfTier, tier_at, tier_sizes, slots_made, held, size_in}
+use Rattle.prefix_trie_table.specs.Store.{Tier, UsedBlock, Sound, Store, IsOfTier, tier_at, tier_sizes, slots_made, held, size_in}
 use Rattle.prefix_trie_table.specs.Forest.{NodesHold, CellsHold, child_items, child_blocks, child_blocks_of, value_blocks, value_blocks_of}
 use Rattle.prefix_trie_table.specs.Layouts.{Sized, free_counts, size_if_any, child_block_size, value_block_size}
 use Rattle.prefix_trie_table.proofs.Strings.Plain.{some_same}
@@ -46,7 +46,7 @@ abbrev of_this_size : ℕ → List Bool × ℕ → ℕ
 of_this_size n e = cond (e.1 == n) 1 0
 
 -- the blocks of a tier are as many as the sizes that are its size
-module _ {S : Type 0} (g : List ℕ → Option ℕ) (f : List ℕ → List (Block S)) (k n : ℕ) (ts : List Tier)
+module _ {S : Type 0} (g : List ℕ → Option ℕ) (f : List ℕ → List (UsedBlock S)) (k n : ℕ) (ts : List Tier)
     (each : (p : List ℕ) → All (IsOfTier ts) (f p) → count_by (λ b. b.tier == k) (f p) ≡ has_size n (g p)) where
   size_added : (m : Sizes) (s : List Bool) (o : Option ℕ) → contains_key m s ≡ false →
       sum_by (of_this_size n) (entries (with_size m s o)) ≡ has_size n o + sum_by (of_this_size n) (entries m)
@@ -133,7 +133,7 @@ slots_are (t ∷ ts) h =
     ∙ sym (sum_by-cons (λ u. u.size * u.made) t ts)
 
 -- fewer are free than were made
-pub free_within : {S : Type 0} (vacant : S) (live : List (Block S)) (v : Store S) → Sound vacant live v → (k : ℕ) → k < length v.tiers →
+pub free_within : {S : Type 0} (vacant : S) (live : List (UsedBlock S)) (v : Store S) → Sound vacant live v → (k : ℕ) → k < length v.tiers →
     length (tier_at v.tiers k).starts ≤ (tier_at v.tiers k).made
 free_within vacant live v s k inside = let e = s.counted k inside in omega (arith, e)
 

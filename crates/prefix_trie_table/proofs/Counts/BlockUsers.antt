@@ -19,7 +19,7 @@ use Rattle.prefix_trie_table.specs.BlockCounts.{tier_count, used_blocks}
 use Rattle.prefix_trie_table.specs.Bitmaps.{has_bit, rank, bits}
 use Rattle.prefix_trie_table.specs.Cells.{blank_node, node_sizes, cell_sizes}
 use Rattle.prefix_trie_table.specs.Digits.{path_of, bit_of}
-use Rattle.prefix_trie_table.specs.Store.{Tier, Block, Sound, Store, IsOfTier, tier_at, held}
+use Rattle.prefix_trie_table.specs.Store.{Tier, UsedBlock, Sound, Store, IsOfTier, tier_at, held}
 use Rattle.prefix_trie_table.specs.Forest.{NodesHold, CellsHold, times, has_child, has_value, child_items, child_blocks, child_blocks_of, value_blocks, value_blocks_of, size_in, node_or_blank}
 use Rattle.prefix_trie_table.proofs.Strings.PathSums.{sum_same}
 use Rattle.prefix_trie_table.proofs.Strings.Bare.{no_bit, some_bit}
@@ -62,14 +62,14 @@ used_total (t ∷ ts) f h =
     ∙ ap₂ (λ a b. a + b) here (used_total ts (λ j. f (suc j)) (λ k inside. h (suc k) (omega arith)))
 
 module _ {S : Type 0} where
-  is_tier-same : (b : Block S) (k : ℕ) → b.tier ≡ k → ◌≡◌ {A = ℕ} (cond (b.tier == k) 1 0) 1
+  is_tier-same : (b : UsedBlock S) (k : ℕ) → b.tier ≡ k → ◌≡◌ {A = ℕ} (cond (b.tier == k) 1 0) 1
   is_tier-same b k e = grind (arith, nat_tests)
 
-  is_tier-other : (b : Block S) (k : ℕ) → k ≢ b.tier → ◌≡◌ {A = ℕ} (cond (b.tier == k) 1 0) 0
+  is_tier-other : (b : UsedBlock S) (k : ℕ) → k ≢ b.tier → ◌≡◌ {A = ℕ} (cond (b.tier == k) 1 0) 0
   is_tier-other b k e = grind (arith, nat_tests)
 
   -- each block is of one tier
-  blocks_total : (ts : List Tier) (live : List (Block S)) → All (IsOfTier ts) live → total (length ts) (λ k. count_by (λ b. b.tier == k) live) ≡ length live
+  blocks_total : (ts : List Tier) (live : List (UsedBlock S)) → All (IsOfTier ts) live → total (length ts) (λ k. count_by (λ b. b.tier == k) live) ≡ length live
   blocks_total ts [] of = total-none (length ts) _ (λ k. refl)
   blocks_total ts (b ∷ live) of =
       let own = All-head (IsOfTier ts) b live of in
@@ -80,7 +80,7 @@ module _ {S : Type 0} where
       ∙ (let e : 1 + length live ≡ suc (length live) = omega arith in e)
 
   -- the blocks in use are all counted
-  used_live : (vacant : S) (live : List (Block S)) (v : Store S) → Sound vacant live v → used_blocks (map tier_count v.tiers) ≡ length live
+  used_live : (vacant : S) (live : List (UsedBlock S)) (v : Store S) → Sound vacant live v → used_blocks (map tier_count v.tiers) ≡ length live
   used_live vacant live v s = used_total v.tiers (λ k. count_by (λ b. b.tier == k) live) s.counted ∙ blocks_total v.tiers live s.of_tier
 
   -- a list that has anything has one block
@@ -114,7 +114,7 @@ five_deep p s e = fives (length s) (length (string_at p)) (string_depth p) e
 module _ (reading : List ℕ → Option Node) (paths : List (List ℕ)) (v : Store Node) (hold : NodesHold node_sizes reading paths v) (n : Nodes)
     (are : (s : List Bool) → has_node n s ≡ (is_node_depth s && is_some (reading (path_of s)))) where
   -- how many nodes pass a test, by the blocks of each
-  counted_by_blocks : {S : Type 0} (test : List Bool → Bool) (f : List ℕ → List (Block S)) →
+  counted_by_blocks : {S : Type 0} (test : List Bool → Bool) (f : List ℕ → List (UsedBlock S)) →
       ((p : List ℕ) → 0 < times p paths → cond (test (string_at p)) 1 0 ≡ length (f p)) → length (filter test (keys n)) ≡ length (flat_map f paths)
   counted_by_blocks test f each =
       length-filter test (keys n)

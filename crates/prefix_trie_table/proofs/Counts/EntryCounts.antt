@@ -7,7 +7,7 @@ use Rattle.prefix_trie_table.specs.declared.allocator.node.Node.{Node}
 use Rattle.prefix_trie_table.specs.Bitmaps.{bits, rank}
 use Rattle.prefix_trie_table.specs.Cells.{blank_node, cell_sizes}
 use Rattle.prefix_trie_table.specs.Runs.{run}
-use Rattle.prefix_trie_table.specs.Store.{Store, Block, Sound, HoldsItems, tier_sizes, extent, free_extents, filled, held, size_in}
+use Rattle.prefix_trie_table.specs.Store.{Store, UsedBlock, Sound, HoldsItems, tier_sizes, extent, free_extents, filled, held, size_in}
 use Rattle.prefix_trie_table.specs.Forest.{times, without, own_count, entry_count, CellsHold, with_node, with_child, value_blocks, value_blocks_of}
 use Rattle.prefix_trie_table.proofs.Blocks.Tilings.{blocks_sum}
 use Rattle.prefix_trie_table.proofs.Strings.BitLists.{rank-all, rank-zero-all}
@@ -59,11 +59,11 @@ count_with_child f p n m c paths is same none =
 
 -- ---- the cells bound the number of entries
 
-abbrev items_count : {S : Type 0} → List (Block S) → ℕ
+abbrev items_count : {S : Type 0} → List (UsedBlock S) → ℕ
 items_count [] = 0
 items_count (b ∷ bs) = length b.items + items_count bs
 
-items_count-append : {S : Type 0} (xs ys : List (Block S)) → items_count (xs ++ ys) ≡ items_count xs + items_count ys
+items_count-append : {S : Type 0} (xs ys : List (UsedBlock S)) → items_count (xs ++ ys) ≡ items_count xs + items_count ys
 items_count-append [] ys = omega arith
 items_count-append (x ∷ xs) ys = omega (arith, items_count-append xs ys)
 
@@ -78,7 +78,7 @@ tiling-sum sizes first end (e ∷ es) t =
     omega (arith, sum_by-cons size_of_extent e es, rest)
 
 module _ {S : Type 0} (vacant : S) (slots : List S) where
-  item_fits : (b : Block S) → HoldsItems vacant slots b → length b.items ≤ b.size
+  item_fits : (b : UsedBlock S) → HoldsItems vacant slots b → length b.items ≤ b.size
   item_fits b h =
       let n : length (run slots b.start b.size) ≤ b.size = short b.size (drop b.start slots) in
       let e : length (run slots b.start b.size) ≡ length (filled vacant b.size b.items) = ap (λ (xs : List S). length xs) h in
@@ -87,7 +87,7 @@ module _ {S : Type 0} (vacant : S) (slots : List S) where
       short : (n : ℕ) (xs : List S) → length (take n xs) ≤ n
       short n xs = omega (arith, length-take n xs)
 
-  items-sum : (live : List (Block S)) → All (HoldsItems vacant slots) live → items_count live ≤ sum_by size_of_extent (map extent live)
+  items-sum : (live : List (UsedBlock S)) → All (HoldsItems vacant slots) live → items_count live ≤ sum_by size_of_extent (map extent live)
   items-sum [] h = omega arith
   items-sum (b ∷ bs) h =
       omega (
@@ -98,7 +98,7 @@ module _ {S : Type 0} (vacant : S) (slots : List S) where
       )
 
 -- the blocks in use hold no more items than there are slots
-pub items_bound : {S : Type 0} (vacant : S) (live : List (Block S)) (v : Store S) → Sound vacant live v → items_count live ≤ length v.slots
+pub items_bound : {S : Type 0} (vacant : S) (live : List (UsedBlock S)) (v : Store S) → Sound vacant live v → items_count live ≤ length v.slots
 items_bound vacant live v s =
     omega (
       arith,

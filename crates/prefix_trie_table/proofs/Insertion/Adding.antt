@@ -5,7 +5,7 @@ use Rattle.prefix_trie_bits.specs.Places.{Sets}
 use Rattle.prefix_trie_table.specs.declared.allocator.node.Node.{Node}
 use Rattle.prefix_trie_table.specs.declared.allocator.blocks.BlockRef.{BlockRef}
 use Rattle.prefix_trie_table.specs.Bitmaps.{has_bit, bits, rank}
-use Rattle.prefix_trie_table.specs.Store.{Store, Block, Sound, block, held, HasList, Spends, tier_at, tier_sizes, tier_lacking, size_in}
+use Rattle.prefix_trie_table.specs.Store.{Store, UsedBlock, Sound, block, held, HasList, Spends, tier_at, tier_sizes, tier_lacking, size_in}
 use Rattle.std.proofs.lemmas.Bool.{false≢true}
 use Rattle.std.specs.Prelude.{MatchOption}
 use Rattle.std.specs.Option.{option_or}
@@ -52,7 +52,7 @@ has_list v slot k count a read is_count =
     }
 
 -- one of the tiers
-pub tier_small : {S : Type 0} (vacant : S) (b : Block S) (live : List (Block S)) (u : Store S) (sizes : List ℕ) → Sound vacant (b ∷ live) u →
+pub tier_small : {S : Type 0} (vacant : S) (b : UsedBlock S) (live : List (UsedBlock S)) (u : Store S) (sizes : List ℕ) → Sound vacant (b ∷ live) u →
     tier_sizes u.tiers ≡ sizes → b.tier < length sizes
 tier_small vacant b live u sizes s e =
     let w = (tier_of_block vacant b live u s).within in
@@ -77,7 +77,7 @@ pub added : (v u w : Store Node) (slot place c tier start bitmap : ℕ) (o : Opt
       child_tier = tier;
     }
     → Spends v u o
-    → ((n : ℕ) (xs : List Node) (live : List (Block Node)) → Sound blank_node (held k.child_tier k.child_block n xs ++ live) v →
+    → ((n : ℕ) (xs : List Node) (live : List (UsedBlock Node)) → Sound blank_node (held k.child_tier k.child_block n xs ++ live) v →
     length xs ≡ rank k.child_bitmap 32 → Sound blank_node (block tier start (tier_at v.tiers tier).size (insert xs place blank_node) ∷ live) u)
     → MatchOption (tier_lacking v.tiers k.child_tier (rank k.child_bitmap 32)) (tier ≡ k.child_tier) (λ to. tier ≡ to)
     → place ≡ rank k.child_bitmap c → c < 32 → has_bit k.child_bitmap c ≡ false → w ≡ record u { slots = set u.slots slot m }
@@ -92,7 +92,7 @@ added v u w slot place c tier start bitmap o k m read sets m_is spends put enter
     let more : (i : ℕ) → has_bit m.child_bitmap i ≡ (nat_eq i c || has_bit k.child_bitmap i) = λ i. ap (λ (x : Node). has_bit x.child_bitmap i) m_is
     ∙ has_bit-sets k.child_bitmap c bitmap i sets digit in
     let items : List Node = child_items reading p k.child_bitmap in
-    let live : List (Block Node) = flat_map (child_blocks node_sizes reading) (without p paths) in
+    let live : List (UsedBlock Node) = flat_map (child_blocks node_sizes reading) (without p paths) in
     let written : Sound blank_node (block tier start (tier_at v.tiers tier).size
     (insert (child_items reading p k.child_bitmap) place blank_node) ∷ live) u =
     put (size_in node_sizes k.child_tier) (child_items reading p k.child_bitmap) live (own_first node_sizes reading paths v hold p k here)
@@ -101,7 +101,7 @@ added v u w slot place c tier start bitmap o k m read sets m_is spends put enter
     let start_is : m.child_block ≡ start = ap (λ (x : Node). x.child_block) m_is in
     let sound : Sound blank_node (block m.child_tier m.child_block (size_in node_sizes m.child_tier)
     (insert (child_items reading p k.child_bitmap) (rank k.child_bitmap c) blank_node) ∷ live) u =
-    subst (λ (b : Block Node). Sound blank_node (b ∷ live) u)
+    subst (λ (b : UsedBlock Node). Sound blank_node (b ∷ live) u)
     (λ i. block (sym tier_is i) (sym start_is i) ((size ∙ ap (size_in node_sizes) (sym tier_is)) i)
     (insert (child_items reading p k.child_bitmap) (place_is i) blank_node)) written in
     let grown = child_added node_sizes reading paths v hold p slot k m c u stands here digit missing more (spends.room.1 ∙ hold.first_is)
@@ -166,7 +166,7 @@ module _ {T : Type 0} where
         child_tier = k.child_tier;
       }
       → Spends w u o
-      → ((n : ℕ) (xs : List (Option T)) (live : List (Block (Option T))) → Sound None (held k.value_tier k.value_block n xs ++ live) w →
+      → ((n : ℕ) (xs : List (Option T)) (live : List (UsedBlock (Option T))) → Sound None (held k.value_tier k.value_block n xs ++ live) w →
       length xs ≡ rank k.value_bitmap 32 → Sound None (block tier start (tier_at w.tiers tier).size (insert xs place (Some x)) ∷ live) u)
       → MatchOption (tier_lacking w.tiers k.value_tier (rank k.value_bitmap 32)) (tier ≡ k.value_tier) (λ to. tier ≡ to)
       → place ≡ rank k.value_bitmap b → b < 32 → has_bit k.value_bitmap b ≡ false → b < 31 → v2 ≡ record v { slots = set v.slots slot m }
@@ -184,7 +184,7 @@ module _ {T : Type 0} where
       let bit : has_bit m.value_bitmap b ≡ true = more b ∙ ap (λ t. t || has_bit k.value_bitmap b) (same_number b) in
       let stay : (i : ℕ) → i ≢ b → has_bit m.value_bitmap i ≡ has_bit k.value_bitmap i = λ i ne. more i
       ∙ ap (λ t. t || has_bit k.value_bitmap i) (other_number i b ne) in
-      let live : List (Block (Option T)) = flat_map (value_blocks cell_sizes reading values) (without p paths) in
+      let live : List (UsedBlock (Option T)) = flat_map (value_blocks cell_sizes reading values) (without p paths) in
       let written : Sound None (block tier start (tier_at w.tiers tier).size (insert (map (values p) (bits k.value_bitmap)) place (Some x)) ∷ live)
       u = put (size_in cell_sizes k.value_tier) (map (values p) (bits k.value_bitmap)) live
       (values_first cell_sizes node_sizes reading paths v hold values w cells p k here) (rank-all (values p) k.value_bitmap) in
@@ -192,7 +192,7 @@ module _ {T : Type 0} where
       let start_is : m.value_block ≡ start = ap (λ (y : Node). y.value_block) m_is in
       let sound : Sound None (block m.value_tier m.value_block (size_in cell_sizes m.value_tier)
       (insert (map (values p) (bits k.value_bitmap)) (rank k.value_bitmap b) (Some x)) ∷ live) u =
-      subst (λ (c : Block (Option T)). Sound None (c ∷ live) u)
+      subst (λ (c : UsedBlock (Option T)). Sound None (c ∷ live) u)
       (λ i. block (sym tier_is i) (sym start_is i) ((size ∙ ap (size_in cell_sizes) (sym tier_is)) i)
       (insert (map (values p) (bits k.value_bitmap)) (place_is i) (Some x))) written in
       record {

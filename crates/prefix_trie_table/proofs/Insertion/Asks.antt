@@ -7,7 +7,7 @@ use Rattle.prefix_trie_table.specs.declared.allocator.node.Node.{Node}
 use Rattle.prefix_trie_table.specs.Bitmaps.{rank}
 use Rattle.prefix_trie_table.specs.Cells.{node_sizes}
 use Rattle.prefix_trie_table.specs.Store.{Store, SameRoom, SameMade, tier_sizes, none_at, slots_of, blocks_needed, Turnover, CutShort}
-use Rattle.prefix_trie_table.specs.Asked.{nodes_needed, cells_needed, lacking_in, LacksSome, LacksWithin, Made, Makes, Obtains, ObtainsBoth, AtEnd}
+use Rattle.prefix_trie_table.specs.Asked.{nodes_needed, cells_needed, lacking_in, LacksSome, LacksWithin, Made, Makes, Obtains, ObtainsBoth, AtDeepest}
 use Rattle.prefix_trie_table.specs.Digits.{path_of}
 use Rattle.prefix_trie_table.specs.Forest.{NodesHold}
 use Rattle.prefix_trie_table.specs.Tables.{IsReached}
@@ -136,7 +136,7 @@ both_as L M v v2 w w2 r nodes nodes2 cells cells2 en ec o =
 
 -- the node reached is the deepest that is there
 pub at_end : (b : List Bool) (len level slot : ℕ) (node : Node) (v : Store Node) → IsReached b len level node slot v → (reading : List ℕ → Option Node)
-    (paths : List (List ℕ)) → NodesHold node_sizes reading paths v → {P : Node → ℕ → Type 0} → P node level → AtEnd reading b len P
+    (paths : List (List ℕ)) → NodesHold node_sizes reading paths v → {P : Node → ℕ → Type 0} → P node level → AtDeepest reading b len P
 at_end b len level slot node v at reading paths hold fact = record {
   long = at.long;
   node = node;

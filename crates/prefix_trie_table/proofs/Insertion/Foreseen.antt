@@ -11,7 +11,7 @@ use Rattle.prefix_trie_bits.specs.Model.Step.{State}
 use Rattle.prefix_trie_bits.proofs.Model.Members.{is-same_string}
 use Rattle.prefix_trie_bits.proofs.Model.Storage.Ways.{none_needed, blocks_needed}
 use Rattle.prefix_trie_table.specs.declared.allocator.node.Node.{Node}
-use Rattle.prefix_trie_table.specs.Asked.{nodes_needed, cells_needed, AtEnd, ObtainsBoth}
+use Rattle.prefix_trie_table.specs.Asked.{nodes_needed, cells_needed, AtDeepest, ObtainsBoth}
 use Rattle.prefix_trie_table.specs.Tables.{IsTable, ForHeld, own_value}
 use Rattle.prefix_trie_table.specs.Bitmaps.{rank}
 use Rattle.prefix_trie_table.specs.Cells.{node_sizes, cell_sizes}
@@ -176,7 +176,7 @@ pub record Foreseen {T X E : Type 0} (for_limit for_memory : E → Type 0) (v v2
 module _ {T X E : Type 0} (for_limit for_memory : E → Type 0) (b : List Bool) (len : ℕ) (v v2 : Store Node) (w w2 : Store (Option T)) (count : ℕ)
     (s : Shaped v.slots w.slots) (is : IsTable v w count s.0) (sized : Sized v.slots) (r : Result X E) where
   pub obtained : ForHeld v w (λ reading paths values. own_value values b len ≡ None →
-      AtEnd reading b len (λ node level. ObtainsBoth for_limit for_memory r v v2 w w2 (nodes_needed v node level len) (cells_needed w node level len))) →
+      AtDeepest reading b len (λ node level. ObtainsBoth for_limit for_memory r v v2 w w2 (nodes_needed v node level len) (cells_needed w node level len))) →
       contains_key s.0.entries (take len b) ≡ false → Foreseen for_limit for_memory v v2 w w2 s.0 sized r (take len b)
   obtained asked new =
       let t = some_table is in

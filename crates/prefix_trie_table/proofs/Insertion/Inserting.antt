@@ -5,7 +5,7 @@ use Rattle.std.specs.List.{position, prefix_len, position_or_len}
 use Rattle.std.proofs.lemmas.Bool.Decides.{nat_tests}
 use Rattle.prefix_trie_table.specs.declared.allocator.node.Node.{Node}
 use Rattle.prefix_trie_table.specs.Bitmaps.{has_bit, rank}
-use Rattle.prefix_trie_table.specs.Store.{Tier, Store, Sound, Block, block, HasList, Prepared, tier_for, tier_sizes}
+use Rattle.prefix_trie_table.specs.Store.{Tier, Store, Sound, UsedBlock, block, HasList, Prepared, tier_for, tier_sizes}
 use Rattle.prefix_trie_table.specs.Forest.{IsSlot, NodesHold, CellsHold, Deepest, has_value}
 use Rattle.prefix_trie_table.specs.Cells.{blank_node, node_at, node_sizes, cell_sizes}
 use Rattle.prefix_trie_table.proofs.Blocks.Soundness.{tier_of_block, first_place}
@@ -19,7 +19,7 @@ use Rattle.prefix_trie_table.proofs.Tree.Trees.{reads, slot_holds, held_some}
 
 -- free blocks that were made change nothing
 pub nodes_prepared : (reading : List ℕ → Option Node) (paths : List (List ℕ)) (v x : Store Node) → NodesHold node_sizes reading paths v →
-    Prepared v x → ((live : List (Block Node)) → Sound blank_node live v → Sound blank_node live x) → NodesHold node_sizes reading paths x
+    Prepared v x → ((live : List (UsedBlock Node)) → Sound blank_node live v → Sound blank_node live x) → NodesHold node_sizes reading paths x
 nodes_prepared reading paths v x hold done sound = record {
   rooted = hold.rooted ∙ ap Some (sym (done.kept 0 blank_node
       (let w = first_place blank_node _ v hold.sound in let f = hold.first_is in omega arith)));
@@ -32,7 +32,7 @@ nodes_prepared reading paths v x hold done sound = record {
 
 -- and the values that they held
 pub cells_prepared : {T : Type 0} (reading : List ℕ → Option Node) (values : List ℕ → ℕ → Option T) (paths : List (List ℕ)) (w x : Store (Option T)) →
-    CellsHold cell_sizes reading values paths w → Prepared w x → ((live : List (Block (Option T))) → Sound None live w → Sound None live x) →
+    CellsHold cell_sizes reading values paths w → Prepared w x → ((live : List (UsedBlock (Option T))) → Sound None live w → Sound None live x) →
     CellsHold cell_sizes reading values paths x
 cells_prepared reading values paths w x cells done sound = record {
   set_where = cells.set_where;

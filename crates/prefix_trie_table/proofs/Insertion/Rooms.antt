@@ -4,7 +4,7 @@ use Rattle.std.proofs.lemmas.List.Elements.{All-nil, All-cons}
 use Rattle.prefix_trie_bits.specs.declared.prefix.Refusal.{Refusal}
 use Rattle.prefix_trie_bits.specs.declared.prefix.Refusal.TheVariants.{Memory}
 use Rattle.prefix_trie_table.specs.Cells.{node_sizes, cell_sizes}
-use Rattle.prefix_trie_table.specs.Store.{Store, Tier, Turnover, CutShort, Prepared, SameRoom, KeepsMade, slots_of, none_at, tier_sizes, size_in, lacking_slots}
+use Rattle.prefix_trie_table.specs.Store.{Store, Tier, Turnover, CutShort, Prepared, SameRoom, KeepsMade, slots_of, none_at, tier_sizes, size_in, tier_slots_lacking}
 use Rattle.prefix_trie_table.specs.Tables.{Grows}
 use Rattle.prefix_trie_table.proofs.Blocks.Turnovers.{slots_of-le, made_turned, made_same, made_then}
 
@@ -93,18 +93,18 @@ cell_sizes_bound = let P : ℕ → Type 0 = λ size. size ≤ 31 in
 
 -- the slots that an insertion lacks: of nodes one block of 32 and 24 of one at most, of cells one of 31
 pub nodes_lacking : (ts : List Tier) (k count lists : ℕ) → tier_sizes ts ≡ node_sizes →
-    ((most : ℕ) → All (λ size. size ≤ most) (tier_sizes ts) → lacking_slots ts k count lists ≤ most + size_in (tier_sizes ts) 0 * lists) →
-    lists ≤ 24 → lacking_slots ts k count lists ≤ 56
+    ((most : ℕ) → All (λ size. size ≤ most) (tier_sizes ts) → tier_slots_lacking ts k count lists ≤ most + size_in (tier_sizes ts) 0 * lists) →
+    lists ≤ 24 → tier_slots_lacking ts k count lists ≤ 56
 nodes_lacking ts k count lists e bound few =
     let b = bound 32 (subst (λ ns. All (λ size. size ≤ 32) ns) (sym e) node_sizes_bound) in
     let one : size_in (tier_sizes ts) 0 ≡ 1 = ap (λ ns. size_in ns 0) e in
-    let b1 : lacking_slots ts k count lists ≤ 32 + 1 * lists = subst (λ n. lacking_slots ts k count lists ≤ 32 + n * lists) one b in
+    let b1 : tier_slots_lacking ts k count lists ≤ 32 + 1 * lists = subst (λ n. tier_slots_lacking ts k count lists ≤ 32 + n * lists) one b in
     omega (arith, b1, few)
 
 -- the same of values
 pub cells_lacking : (ts : List Tier) (k count : ℕ) → tier_sizes ts ≡ cell_sizes →
-    ((most : ℕ) → All (λ size. size ≤ most) (tier_sizes ts) → lacking_slots ts k count 0 ≤ most + size_in (tier_sizes ts) 0 * 0) →
-    lacking_slots ts k count 0 ≤ 31
+    ((most : ℕ) → All (λ size. size ≤ most) (tier_sizes ts) → tier_slots_lacking ts k count 0 ≤ most + size_in (tier_sizes ts) 0 * 0) →
+    tier_slots_lacking ts k count 0 ≤ 31
 cells_lacking ts k count e bound =
     let b = bound 31 (subst (λ ns. All (λ size. size ≤ 31) ns) (sym e) cell_sizes_bound) in
     omega (arith, b)

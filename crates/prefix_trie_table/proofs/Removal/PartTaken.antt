@@ -17,7 +17,7 @@ use Rattle.prefix_trie_table.specs.Cells.{node_sizes, cell_sizes}
 use Rattle.prefix_trie_table.specs.Digits.{path_of, bit_of}
 use Rattle.prefix_trie_table.specs.Store.{Store}
 use Rattle.prefix_trie_table.specs.Forest.{read, Holds, NodesHold, IsSlot}
-use Rattle.prefix_trie_table.specs.Removals.{EntryTaken, EntryRemoved, Pruned, IsWay, AtEnd, slot_in}
+use Rattle.prefix_trie_table.specs.Removals.{EntryTaken, EntryRemoved, Pruned, IsWay, StandsAtEnd, slot_in}
 use Rattle.prefix_trie_table.specs.Settling.{NodesSettle}
 use Rattle.prefix_trie_table.specs.Shape.{Contents, state, IsShapeOf, Shaped}
 use Rattle.prefix_trie_table.specs.Tables.{ForHeld, Grows, IsReached, IsTable, IsTrie}
@@ -184,7 +184,7 @@ module _ {T : Type 0} (width : ℕ) (b : List Bool) (len : ℕ) (within : len �
       lasts.above p (omega (arith, m, less, low)))
       (found (read v.slots) t.paths (read_held t.reading t.values t.paths v w t.holds).hold k low)
 
-  pub end_left : AtEnd (path_of (take len b)) way n v2
+  pub end_left : StandsAtEnd (path_of (take len b)) way n v2
   end_left =
       let t = some_table emptied.table in
       record {

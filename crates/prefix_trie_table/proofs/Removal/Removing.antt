@@ -9,7 +9,7 @@ use Rattle.prefix_trie_table.specs.declared.allocator.node.Node.{Node}
 use Rattle.prefix_trie_table.specs.Bitmaps.{has_bit, bits, rank}
 use Rattle.prefix_trie_table.specs.Cells.{blank_node, node_at, node_sizes, cell_sizes}
 use Rattle.prefix_trie_table.specs.OwnBlocks.{size_if_any, child_block_size, value_block_size}
-use Rattle.prefix_trie_table.specs.Store.{Store, Block, Sound, block, held, HasList, Keeps, Turnover, SameRoom, tier_at, tier_for, tier_sizes, size_in, free_at, slots_of, one_at, many_at, blocks_entered, tier_entered}
+use Rattle.prefix_trie_table.specs.Store.{Store, UsedBlock, Sound, block, held, HasList, Keeps, Turnover, SameRoom, tier_at, tier_for, tier_sizes, size_in, free_at, slots_of, one_at, many_at, blocks_entered, tier_entered}
 use Rattle.prefix_trie_table.specs.Forest.{without, child_items, child_blocks, IsSlot, NodesHold, CellsHold, value_blocks, with_node, lacking_child, node_or_blank}
 use Rattle.prefix_trie_table.specs.Removals.{Shrinks, MayLengthen, MakesEntered, ValueTaken, ChildDropped, GivesBack}
 use Rattle.prefix_trie_table.specs.Settling.{smaller_sizes, headroom, headroom_if_any, child_headroom}
@@ -202,7 +202,7 @@ module _ {T : Type 0} where
         child_tier = k.child_tier;
       }
       → Keeps w u
-      → ((n : ℕ) (xs : List (Option T)) (live : List (Block (Option T))) → Sound None (held k.value_tier k.value_block n xs ++ live) w →
+      → ((n : ℕ) (xs : List (Option T)) (live : List (UsedBlock (Option T))) → Sound None (held k.value_tier k.value_block n xs ++ live) w →
       length xs ≡ rank k.value_bitmap 32 → Sound None (held tier start (tier_at w.tiers tier).size (remove xs place) ++ live) u)
       → place ≡ rank k.value_bitmap b → b < 31 → has_bit k.value_bitmap b ≡ true → v2 ≡ record v { slots = set v.slots slot m }
       → Shrinks w.tiers k.value_tier (rank k.value_bitmap 32) tier
@@ -223,14 +223,14 @@ module _ {T : Type 0} where
       let gone : has_bit m.value_bitmap b ≡ false = ap (λ y. has_bit y b) bits_are ∙ cleared bitmap k.value_bitmap b sets digit in
       let stay : (i : ℕ) → i ≢ b → has_bit m.value_bitmap i ≡ has_bit k.value_bitmap i = λ i ne. ap (λ y. has_bit y i) bits_are
       ∙ others_stay bitmap k.value_bitmap b sets digit i ne in
-      let live : List (Block (Option T)) = flat_map (value_blocks cell_sizes reading values) (without p paths) in
+      let live : List (UsedBlock (Option T)) = flat_map (value_blocks cell_sizes reading values) (without p paths) in
       let left = cut (size_in cell_sizes k.value_tier) (map (values p) (bits k.value_bitmap)) live
       (values_first cell_sizes node_sizes reading paths v hold values w cells p k here) (rank-all (values p) k.value_bitmap) in
       let tier_is : m.value_tier ≡ tier = ap (λ (y : Node). y.value_tier) m_is in
       let start_is : m.value_block ≡ start = ap (λ (y : Node). y.value_block) m_is in
       let sound : Sound None (held m.value_tier m.value_block (size_in cell_sizes m.value_tier)
       (remove (map (values p) (bits k.value_bitmap)) (rank k.value_bitmap b)) ++ live) u =
-      subst (λ (bs : List (Block (Option T))). Sound None (bs ++ live) u)
+      subst (λ (bs : List (UsedBlock (Option T))). Sound None (bs ++ live) u)
       (λ i. held (sym tier_is i) (sym start_is i) ((size ∙ ap (size_in cell_sizes) (sym tier_is)) i)
       (remove (map (values p) (bits k.value_bitmap)) (place_is i))) left in
       record {
@@ -288,7 +288,7 @@ pub children_dropped : (v u v2 : Store Node) (slot place c tier start bitmap : �
       child_tier = tier;
     }
     → Keeps v u
-    → ((n : ℕ) (xs : List Node) (live : List (Block Node)) → Sound blank_node (held k.child_tier k.child_block n xs ++ live) v →
+    → ((n : ℕ) (xs : List Node) (live : List (UsedBlock Node)) → Sound blank_node (held k.child_tier k.child_block n xs ++ live) v →
     length xs ≡ rank k.child_bitmap 32 → Sound blank_node (held tier start (tier_at v.tiers tier).size (remove xs place) ++ live) u)
     → place ≡ rank k.child_bitmap c → c < 32 → v2 ≡ record u { slots = set u.slots slot m }
     → Shrinks v.tiers k.child_tier (rank k.child_bitmap 32) tier
@@ -311,14 +311,14 @@ children_dropped v u v2 slot place c tier start bitmap k m read sets m_is keeps 
     let gone : has_bit m.child_bitmap c ≡ false = ap (λ y. has_bit y c) bits_are ∙ cleared bitmap k.child_bitmap c sets digit in
     let stay : (i : ℕ) → i ≢ c → has_bit m.child_bitmap i ≡ has_bit k.child_bitmap i = λ i ne. ap (λ y. has_bit y i) bits_are
     ∙ others_stay bitmap k.child_bitmap c sets digit i ne in
-    let live : List (Block Node) = flat_map (child_blocks node_sizes reading) (without p paths) in
+    let live : List (UsedBlock Node) = flat_map (child_blocks node_sizes reading) (without p paths) in
     let left = cut (size_in node_sizes k.child_tier) (child_items reading p k.child_bitmap) live
     (own_first node_sizes reading paths v hold p k here) (rank-all (λ d. node_or_blank (reading (p ++ d ∷ []))) k.child_bitmap) in
     let tier_is : m.child_tier ≡ tier = ap (λ (y : Node). y.child_tier) m_is in
     let start_is : m.child_block ≡ start = ap (λ (y : Node). y.child_block) m_is in
     let sound : Sound blank_node (held m.child_tier m.child_block (size_in node_sizes m.child_tier)
     (remove (child_items reading p k.child_bitmap) (rank k.child_bitmap c)) ++ live) u =
-    subst (λ (bs : List (Block Node)). Sound blank_node (bs ++ live) u)
+    subst (λ (bs : List (UsedBlock Node)). Sound blank_node (bs ++ live) u)
     (λ i. held (sym tier_is i) (sym start_is i) ((size ∙ ap (size_in node_sizes) (sym tier_is)) i)
     (remove (child_items reading p k.child_bitmap) (place_is i))) left in
     let fewer_here : rank m.child_bitmap 32 + 1 ≡ rank k.child_bitmap 32 =

@@ -6,7 +6,7 @@ use Rattle.std.proofs.lemmas.List.{get_or-set_same, get_or-set_other}
 use Rattle.std.proofs.lemmas.List.Edits.{length-insert}
 use Rattle.prefix_trie_table.specs.declared.allocator.node.Node.{Node}
 use Rattle.prefix_trie_table.specs.Bitmaps.{has_bit, bits_below, bits, rank, if_set}
-use Rattle.prefix_trie_table.specs.Store.{Store, Block, Sound, block}
+use Rattle.prefix_trie_table.specs.Store.{Store, UsedBlock, Sound, block}
 use Rattle.prefix_trie_table.specs.Forest.{child_slot, same_path, one_if, times, without, node_or_blank, held, size_in, has_child, child_items, child_blocks_of, child_blocks, IsSlot, at_root, at_child, NodesHold, tier_sizes, with_child, lacking_child, with_node}
 use Rattle.prefix_trie_table.specs.Cells.{blank_node, node_at}
 use Rattle.prefix_trie_table.proofs.Strings.Plain.{needs_node}
@@ -153,7 +153,7 @@ module _ (sizes : List ℕ) (nodes : List ℕ → Option Node) (paths : List (Li
       let not_r : (q : List ℕ) → 0 < times q paths →
       q ≢ p ++ c ∷ [] = λ q h e. (let z : times q paths ≡ 0 = ap (λ y. times y paths) e ∙ none_r in omega arith) in
       let here : later p ≡ Some m = changed_here nodes p m c (Some blank_node) p refl in
-      let own : List (Block Node) = block m.child_tier m.child_block (size_in sizes m.child_tier)
+      let own : List (UsedBlock Node) = block m.child_tier m.child_block (size_in sizes m.child_tier)
       (insert (child_items nodes p n.child_bitmap) (rank n.child_bitmap c) blank_node) ∷ [] in
       let written : Sound blank_node (own ++ flat_map (child_blocks sizes later) (without p paths)) w =
       node_set sizes nodes paths v hold (without p paths) p s n m later own u (parents sizes nodes paths v hold p n is) stands is first
@@ -234,7 +234,7 @@ unfolding bits
 bits-none bitmap none = bits_below-none bitmap 32 none
 
 module _ (sizes : List ℕ) (nodes : List ℕ → Option Node) (paths : List (List ℕ)) (v : Store Node) (hold : NodesHold sizes nodes paths v) where
-  some_root : (u : Store Node) (live : List (Block Node)) → u.first ≡ 1 → Sound blank_node live u → 0 < length u.slots
+  some_root : (u : Store Node) (live : List (UsedBlock Node)) → u.first ≡ 1 → Sound blank_node live u → 0 < length u.slots
   some_root u live first sound = let x = first_place blank_node _ u sound in omega arith
 
   -- the node n at p becomes m, which has the same children
@@ -248,7 +248,7 @@ module _ (sizes : List ℕ) (nodes : List ℕ → Option Node) (paths : List (Li
       let none_p : times p (without p paths) ≡ 0 = times_out_same p paths once in
       let not_p : (q : List ℕ) → 0 < times q (without p paths) →
       q ≢ p = λ q h e. (let z : times q (without p paths) ≡ 0 = ap (λ y. times y (without p paths)) e ∙ none_p in omega arith) in
-      let own : List (Block Node) = held n.child_tier n.child_block (size_in sizes n.child_tier) (child_items nodes p n.child_bitmap) in
+      let own : List (UsedBlock Node) = held n.child_tier n.child_block (size_in sizes n.child_tier) (child_items nodes p n.child_bitmap) in
       let here : later p ≡ Some m = with_here nodes p m p refl in
       let written : Sound blank_node (own ++ flat_map (child_blocks sizes later) (without p paths)) w =
       node_set sizes nodes paths v hold (without p paths) p s n m later own v (parents sizes nodes paths v hold p n is) stands is hold.first_is
@@ -310,7 +310,7 @@ module _ (sizes : List ℕ) (nodes : List ℕ → Option Node) (paths : List (Li
       ap (λ y. times y (without (p ++ c ∷ []) (without p paths))) e ∙ none_r in omega arith) in
       let had : has_bit n.child_bitmap c ≡ true = sym (hold.linked p c ∙ ap (λ o. has_child o c) is) ∙ ap is_some there in
       let here : later p ≡ Some m = changed_here nodes p m c None p refl in
-      let own : List (Block Node) = held m.child_tier m.child_block (size_in sizes m.child_tier)
+      let own : List (UsedBlock Node) = held m.child_tier m.child_block (size_in sizes m.child_tier)
       (remove (child_items nodes p n.child_bitmap) (rank n.child_bitmap c)) in
       let leaf_blocks : child_blocks sizes nodes (p ++ c ∷ []) ≡ [] = ap (child_blocks_of sizes nodes (p ++ c ∷ [])) there
       ∙ ap (λ cs. held leaf.child_tier leaf.child_block (size_in sizes leaf.child_tier)

@@ -13,7 +13,7 @@ use Rattle.prefix_trie_table.specs.Forest.{Holds}
 use Rattle.prefix_trie_table.specs.Layouts.{Sized}
 use Rattle.prefix_trie_table.specs.Locations.{seat_of, IsWayEnd}
 use Rattle.prefix_trie_table.specs.Shape.{Shaped, same_shape}
-use Rattle.prefix_trie_table.specs.Store.{Store, Block, Sound, Prepared}
+use Rattle.prefix_trie_table.specs.Store.{Store, UsedBlock, Sound, Prepared}
 use Rattle.prefix_trie_table.specs.Tables.{IsReached, IsTable, Grows}
 use Rattle.prefix_trie_table.proofs.Insertion.Asks.{at_end}
 use Rattle.prefix_trie_table.proofs.Insertion.Foreseen.{obtained}
@@ -41,8 +41,8 @@ module _ {T : Type 0} (v : Store Node) (w : Store (Option T)) (count : ℕ) (s :
       (subst (λ nodes. IsWayEnd nodes (take len b) end) (sym same) e)
 
 module _ {T : Type 0} (v v2 : Store Node) (w w2 : Store (Option T)) (count : ℕ) (s : Shaped v.slots w.slots) (is : IsTable v w count s.0)
-    (nodes : Prepared v v2) (nodes_sound : (live : List (Block Node)) → Sound blank_node live v → Sound blank_node live v2)
-    (cells : Prepared w w2) (cells_sound : (live : List (Block (Option T))) → Sound None live w → Sound None live w2) where
+    (nodes : Prepared v v2) (nodes_sound : (live : List (UsedBlock Node)) → Sound blank_node live v → Sound blank_node live v2)
+    (cells : Prepared w w2) (cells_sound : (live : List (UsedBlock (Option T))) → Sound None live w → Sound None live w2) where
   -- the arrays hold what they held
   pub kept_holds : Holds is.reading is.values is.paths v2 w2
   kept_holds = record {

@@ -4,7 +4,7 @@ use Rattle.std.proofs.lemmas.Bool.{false≢true, cases_Bool}
 use Rattle.std.proofs.lemmas.List.Sorted.{IsPermutation-sym, IsPermutation-trans, IsPermutation-append_right}
 use Rattle.prefix_trie_table.specs.declared.allocator.node.Node.{Node}
 use Rattle.prefix_trie_table.specs.Bitmaps.{has_bit, rank}
-use Rattle.prefix_trie_table.specs.Store.{Store, Block, Sound, block}
+use Rattle.prefix_trie_table.specs.Store.{Store, UsedBlock, Sound, block}
 use Rattle.prefix_trie_table.specs.Forest.{child_slot, child, below, read_from, read, same_path, one_if, times, without, node_or_blank, held, size_in, has_child, child_items, child_blocks_of, child_blocks, IsSlot, at_root, at_child, NodesHold}
 use Rattle.prefix_trie_table.specs.Cells.{blank_node, node_at}
 use Rattle.prefix_trie_table.proofs.Blocks.Soundness.{Sound-permuted, first_place, Sound-set, Sound-set_before, slot_of_block, block_inside, fits_block}
@@ -52,12 +52,12 @@ is_some-Some (Some x) h = refl
 -- the blocks of all nodes, with those of one node first
 module _ (sizes : List ℕ) (nodes : List ℕ → Option Node) (paths : List (List ℕ)) where
   -- the blocks of one node can be put first
-  pub node_first : {S : Type 0} (vacant : S) (f : List ℕ → List (Block S)) (v : Store S) (p : List ℕ) → 0 < times p paths →
+  pub node_first : {S : Type 0} (vacant : S) (f : List ℕ → List (UsedBlock S)) (v : Store S) (p : List ℕ) → 0 < times p paths →
       Sound vacant (flat_map f paths) v → Sound vacant (f p ++ flat_map f (without p paths)) v
   node_first vacant f v p h s = Sound-permuted vacant (flat_map f paths) (f p ++ flat_map f (without p paths)) v (flat_map_out f p paths h) s
 
   -- and back
-  pub node_back : {S : Type 0} (vacant : S) (f : List ℕ → List (Block S)) (v : Store S) (p : List ℕ) → 0 < times p paths →
+  pub node_back : {S : Type 0} (vacant : S) (f : List ℕ → List (UsedBlock S)) (v : Store S) (p : List ℕ) → 0 < times p paths →
       Sound vacant (f p ++ flat_map f (without p paths)) v → Sound vacant (flat_map f paths) v
   node_back vacant f v p h s = Sound-permuted vacant (f p ++ flat_map f (without p paths)) (flat_map f paths) v
       (IsPermutation-sym (flat_map f paths) (f p ++ flat_map f (without p paths)) (flat_map_out f p paths h)) s
@@ -68,7 +68,7 @@ module _ (sizes : List ℕ) (nodes : List ℕ → Option Node) (paths : List (Li
   listed_once p n e = hold.listed p ∙ ap (λ o. one_if (is_some o)) e
 
   -- the block in which the children of a node stand
-  abbrev block_of : List ℕ → Node → Block Node
+  abbrev block_of : List ℕ → Node → UsedBlock Node
   block_of p n = block n.child_tier n.child_block (size_in sizes n.child_tier) (child_items nodes p n.child_bitmap)
 
   -- a node's own blocks first
@@ -153,7 +153,7 @@ times_out_same p paths h =
 
 module _ (sizes : List ℕ) (nodes : List ℕ → Option Node) (paths : List (List ℕ)) (v : Store Node) (hold : NodesHold sizes nodes paths v) where
   -- the node at p becomes m, where it stands in the block of its parent, or before the first block
-  pub node_set : (rest : List (List ℕ)) (p : List ℕ) (s : ℕ) (n m : Node) (later : List ℕ → Option Node) (own : List (Block Node)) (u : Store Node)
+  pub node_set : (rest : List (List ℕ)) (p : List ℕ) (s : ℕ) (n m : Node) (later : List ℕ → Option Node) (own : List (UsedBlock Node)) (u : Store Node)
       → ((q : List ℕ) (c : ℕ) → q ++ c ∷ [] ≡ p → times q rest ≡ 1)
       → IsSlot nodes p s → nodes p ≡ Some n → u.first ≡ 1
       → ((q : List ℕ) → 0 < times q rest → later q ≡ nodes q)
@@ -171,12 +171,12 @@ module _ (sizes : List ℕ) (nodes : List ℕ → Option Node) (paths : List (Li
       let twice : List (List ℕ) = without q rest in
       let in_rest : times q rest ≡ 1 = parents q c refl in
       let there : 0 < times q rest = omega arith in
-      let F : List ℕ → List (Block Node) = child_blocks sizes nodes in
-      let G : List ℕ → List (Block Node) = child_blocks sizes later in
+      let F : List ℕ → List (UsedBlock Node) = child_blocks sizes nodes in
+      let G : List ℕ → List (UsedBlock Node) = child_blocks sizes later in
       let start = child_stands sizes nodes paths v hold q k c parent bit in
       let items : List Node = child_items nodes q k.child_bitmap in
-      let b : Block Node = block k.child_tier k.child_block (size_in sizes k.child_tier) (child_items nodes q k.child_bitmap) in
-      let b' : Block Node = block k.child_tier k.child_block (size_in sizes k.child_tier)
+      let b : UsedBlock Node = block k.child_tier k.child_block (size_in sizes k.child_tier) (child_items nodes q k.child_bitmap) in
+      let b' : UsedBlock Node = block k.child_tier k.child_block (size_in sizes k.child_tier)
       (set (child_items nodes q k.child_bitmap) (rank k.child_bitmap c) m) in
       let f_is : child_blocks sizes nodes q ≡ b ∷ [] = ap (child_blocks_of sizes nodes q) parent
       ∙ held_some k.child_tier k.child_block (size_in sizes k.child_tier) (child_items nodes q k.child_bitmap) (let x = start.0 in omega arith) in
@@ -194,7 +194,7 @@ module _ (sizes : List ℕ) (nodes : List ℕ → Option Node) (paths : List (Li
       child_blocks-same sizes nodes later x (kept x in_rest_x)
       (λ d. under x d in_rest_x (λ e. let z : times x twice ≡ 0 = ap (λ y. times y twice) (snoc_inj x q d c e).0
       ∙ times_out_same q rest in_rest in absurd (omega arith)))) in
-      let out : (f : List ℕ → List (Block Node)) →
+      let out : (f : List ℕ → List (UsedBlock Node)) →
       IsPermutation (own ++ flat_map f rest) (f q ++ (own ++ flat_map f twice)) =
       λ f. IsPermutation-trans (own ++ flat_map f rest) (own ++ (f q ++ flat_map f twice)) (f q ++ (own ++ flat_map f twice))
       (IsPermutation-append_right own (flat_map f rest) (f q ++ flat_map f twice) (flat_map_out f q rest there))

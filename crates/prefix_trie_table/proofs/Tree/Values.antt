@@ -4,7 +4,7 @@ use Rattle.std.proofs.lemmas.List.{length-set}
 use Rattle.std.proofs.lemmas.List.Edits.{length-insert}
 use Rattle.prefix_trie_table.specs.declared.allocator.node.Node.{Node}
 use Rattle.prefix_trie_table.specs.Bitmaps.{has_bit, bits, rank}
-use Rattle.prefix_trie_table.specs.Store.{Store, Block, Sound, block}
+use Rattle.prefix_trie_table.specs.Store.{Store, UsedBlock, Sound, block}
 use Rattle.prefix_trie_table.specs.Forest.{same_path, one_if, times, without, held, size_in, has_value, has_child, NodesHold, CellsHold, value_blocks, value_blocks_of, tier_sizes, with_child, lacking_child, with_node, with_value}
 use Rattle.prefix_trie_table.specs.Cells.{blank_node}
 use Rattle.prefix_trie_table.proofs.Blocks.Soundness.{Sound-set, slot_of_block, block_inside, fits_block}
@@ -20,7 +20,7 @@ module _ {T : Type 0} (sizes node_sizes : List ℕ) (nodes : List ℕ → Option
   abbrev items_of : List ℕ → Node → List (Option T)
   items_of p n = map (values p) (bits n.value_bitmap)
 
-  abbrev block_of : List ℕ → Node → Block (Option T)
+  abbrev block_of : List ℕ → Node → UsedBlock (Option T)
   block_of p n = block n.value_tier n.value_block (size_in sizes n.value_tier) (items_of p n)
 
   -- a node's own values first
@@ -51,7 +51,7 @@ module _ {T : Type 0} (sizes node_sizes : List ℕ) (nodes : List ℕ → Option
       )
 
   -- what the node at p holds is another list, and all others hold what they held
-  pub cells_changed : (p : List ℕ) (n : Node) (own : List (Block (Option T))) (later : List ℕ → Option Node) (after : List ℕ → ℕ → Option T)
+  pub cells_changed : (p : List ℕ) (n : Node) (own : List (UsedBlock (Option T))) (later : List ℕ → Option Node) (after : List ℕ → ℕ → Option T)
       (u : Store (Option T))
       → nodes p ≡ Some n → value_blocks sizes later after p ≡ own →
       ((q : List ℕ) → q ≢ p → value_blocks sizes later after q ≡ value_blocks sizes nodes values q)
@@ -179,7 +179,7 @@ module _ {T : Type 0} (sizes node_sizes : List ℕ) (nodes : List ℕ → Option
     few q i some (inl e) = (let f : i ≡ b = (snoc_inj q p i b e).1 in omega arith)
     few q i some (inr ne) = cells.within q i (sym (ap is_some (value_other q i ne)) ∙ some)
 
-    changed_to : (own : List (Block (Option T))) (u : Store (Option T)) → tier_sizes u.tiers ≡ sizes →
+    changed_to : (own : List (UsedBlock (Option T))) (u : Store (Option T)) → tier_sizes u.tiers ≡ sizes →
         held m.value_tier m.value_block (size_in sizes m.value_tier) (map (with_value values p b x p) (bits m.value_bitmap)) ≡ own
         → Sound None (own ++ flat_map (value_blocks sizes nodes values) (without p paths)) u →
         CellsHold sizes (with_node nodes p m) (with_value values p b x) paths u

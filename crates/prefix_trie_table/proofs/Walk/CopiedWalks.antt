@@ -10,7 +10,7 @@ use Rattle.prefix_trie_table.specs.Digits.{path_of, bit_of}
 use Rattle.prefix_trie_table.specs.Forest.{read}
 use Rattle.prefix_trie_table.specs.Store.{Store}
 use Rattle.prefix_trie_table.specs.Walking.Taking.{Seated, Seated-prop, cell_of, pairs_in, AreHeld, AreApart, IsTaking}
-use Rattle.prefix_trie_table.specs.Walking.Walks.{Site, IsStack, pending}
+use Rattle.prefix_trie_table.specs.Walking.Walks.{KeyedSpot, IsStack, pending}
 use Rattle.prefix_trie_table.proofs.Tree.Copying.{clones_at, cloned_there, cells_cloned}
 
 module _ {T : Type 0} (C : T → T → Type 0) where
@@ -48,7 +48,7 @@ module _ {T : Type 0} (C : T → T → Type 0) where
 
 -- the nodes and the spots of a copy are the same, and what is in its cells are clones
 module _ {K T : Type 0} (IsKey : K → Type 0) (bits : K → List Bool) (width : ℕ) (C : T → T → Type 0) (R : Option T → Option T → Type 0)
-    (means : (x y : Option T) → R x y → IsCloned C x y) (v v2 : Store Node) (w w2 : Store (Option T)) (s : Seated v.slots) (ps qs : List (Site K))
+    (means : (x y : Option T) → R x y → IsCloned C x y) (v v2 : Store Node) (w w2 : Store (Option T)) (s : Seated v.slots) (ps qs : List (KeyedSpot K))
     (at : IsTaking IsKey bits width v w s.0 ps) (nodes : v2 ≡ v) (clones : AllZip R w.slots w2.slots) (spots : qs ≡ ps) where
   cloned : (i : ℕ) → IsCloned C (get_or w.slots i None) (get_or w2.slots i None)
   cloned i = clones_at C R means w.slots w2.slots clones i

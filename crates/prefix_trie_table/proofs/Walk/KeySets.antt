@@ -13,7 +13,7 @@ use Rattle.prefix_trie_bits.specs.Model.Nodes.{Nodes, has_node}
 use Rattle.prefix_trie_bits.specs.Model.NodeListings.{pair_of, listing_at_place, listing_at_places}
 use Rattle.prefix_trie_bits.specs.Walks.{to_come}
 use Rattle.prefix_trie_bits.proofs.Model.Members.{same_members}
-use Rattle.prefix_trie_table.specs.Walking.Walks.{Site, still, pending}
+use Rattle.prefix_trie_table.specs.Walking.Walks.{KeyedSpot, still, pending}
 
 -- pairs that keep their keys keep their order
 module _ {X Y : Type 0} (f : List Bool × X → List Bool × Y) (keeps : (e : List Bool × X) → (f e).0 ≡ e.0) where
@@ -88,7 +88,7 @@ module _ {T : Type 0} where
         ap₂ (λ xs ys. xs ++ ys) (place_bare s t) (places_bare s ts) ∙ sym (map-append bare (listing_at_place m s t) (listing_at_places m s ts))
 
     -- the strings still to come are those of the pairs
-    pub pending_bare : {K : Type 0} (bits : K → List Bool) (ps : List (Site K)) → pending bits keys ps ≡ map bare (pending bits m ps)
+    pub pending_bare : {K : Type 0} (bits : K → List Bool) (ps : List (KeyedSpot K)) → pending bits keys ps ≡ map bare (pending bits m ps)
     pending_bare bits [] = refl
     pending_bare bits (p ∷ ps) =
         ap₂ (λ xs ys. xs ++ ys) (pending_bare bits ps) (places_bare (take p.depth (bits p.key)) (to_come p.places))

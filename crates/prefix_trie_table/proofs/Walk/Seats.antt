@@ -7,7 +7,7 @@ use Rattle.prefix_trie_table.specs.declared.table.seat.Seat.{Seat}
 use Rattle.prefix_trie_table.specs.Bitmaps.{has_bit, bits, rank}
 use Rattle.prefix_trie_table.specs.Cells.{node_sizes, cell_sizes}
 use Rattle.prefix_trie_table.specs.Digits.{path_of, bit_of}
-use Rattle.prefix_trie_table.specs.Store.{Store, Block, Sound, block, extent, free_extents, tier_sizes}
+use Rattle.prefix_trie_table.specs.Store.{Store, UsedBlock, Sound, block, extent, free_extents, tier_sizes}
 use Rattle.prefix_trie_table.specs.Forest.{SomeTable, size_in, times, without, value_blocks, value_blocks_of}
 use Rattle.prefix_trie_table.specs.Slots.{IsSeat}
 use Rattle.prefix_trie_table.proofs.Strings.Bits.{has_bit-below}
@@ -29,10 +29,10 @@ ranks_differ bitmap b c h k ne e =
 
 module _ {T : Type 0} (v : Store Node) (w : Store (Option T)) (t : SomeTable v w) where
   -- the block of a node's values
-  abbrev own : List ℕ → Node → Block (Option T)
+  abbrev own : List ℕ → Node → UsedBlock (Option T)
   own p n = block n.value_tier n.value_block (size_in cell_sizes n.value_tier) (map (t.values p) (bits n.value_bitmap))
 
-  abbrev blocks_at : List ℕ → List (Block (Option T))
+  abbrev blocks_at : List ℕ → List (UsedBlock (Option T))
   blocks_at = value_blocks cell_sizes t.reading t.values
 
   -- is one block where it has a value
@@ -43,7 +43,7 @@ module _ {T : Type 0} (v : Store Node) (w : Store (Option T)) (t : SomeTable v w
       ∙ held_some n.value_tier n.value_block (size_in cell_sizes n.value_tier) (map (t.values p) (bits n.value_bitmap)) (let x = g.0 in omega arith)
 
   -- a place of a block comes before its end
-  place_below : (p : List ℕ) (n : Node) (b : ℕ) (live : List (Block (Option T))) → has_bit n.value_bitmap b ≡ true → Sound None (own p n ∷ live) w →
+  place_below : (p : List ℕ) (n : Node) (b : ℕ) (live : List (UsedBlock (Option T))) → has_bit n.value_bitmap b ≡ true → Sound None (own p n ∷ live) w →
       rank n.value_bitmap b < size_in cell_sizes n.value_tier
   place_below p n b live bit sound =
       let g = map_get (t.values p) n.value_bitmap b None (has_bit-below n.value_bitmap b bit) bit in

@@ -16,12 +16,12 @@ use Rattle.prefix_trie_table.specs.declared.table.spot.Spot.{Spot}
 use Rattle.prefix_trie_table.specs.Digits.{path_of}
 use Rattle.prefix_trie_table.specs.Forest.{read}
 use Rattle.prefix_trie_table.specs.Store.{Store}
-use Rattle.prefix_trie_table.specs.Walking.Walks.{site, sites, IsSpot, IsPlaceOf, IsTrail, IsStack, IsOther, IsPassed, ArePassed, EndsAt, EndsLast, SkipsLast, start, still, pending}
+use Rattle.prefix_trie_table.specs.Walking.Walks.{keyed_spot, keyed_spots, IsSpot, IsPlaceOf, IsTrail, IsStack, IsOther, IsPassed, ArePassed, EndsAt, EndsLast, SkipsLast, start, still, pending}
 use Rattle.prefix_trie_table.proofs.Walk.Cursors.{short_rest}
 use Rattle.prefix_trie_table.proofs.Walk.Passing.{passed-below, passed-put}
 use Rattle.prefix_trie_table.proofs.Strings.Paths.{snoc_inj}
 use Rattle.prefix_trie_table.proofs.Walk.Selected.{one-answer, some-places}
-use Rattle.prefix_trie_table.proofs.Walk.Stacks.{pending-popped, spot-popped, stack-room, stack-put, trail-at, sites-popped}
+use Rattle.prefix_trie_table.proofs.Walk.Stacks.{pending-popped, spot-popped, stack-room, stack-put, trail-at, keyed_spots-popped}
 
 -- ---- at a spot
 
@@ -84,25 +84,25 @@ module _ {T : Type 0} (m : Entries T) (s : List Bool) where
 -- ---- at a stack
 
 -- a stack that is not empty is no longer than levels of a key are
-pub few_spots : {K : Type 0} (IsKey : K → Type 0) (bits : K → List Bool) (width : ℕ) (v : Store Node) (way : K) (ps : List Spot) → width ≤ 128 → IsStack IsKey bits width v (sites way ps) →
+pub few_spots : {K : Type 0} (IsKey : K → Type 0) (bits : K → List Bool) (width : ℕ) (v : Store Node) (way : K) (ps : List Spot) → width ≤ 128 → IsStack IsKey bits width v (keyed_spots way ps) →
     (key : K) (len : ℕ) → EndsLast bits way ps key len → length ps ≤ 26
 few_spots IsKey bits width v way ps small stack key len ends =
-    let room = stack-room (sites way ps) (sites way ends.below) (site way ends.spot) (sites-popped way ps ends.below ends.spot ends.is) IsKey bits width v stack small in
-    omega (arith, room, length-map ends.below (site way), ap length ends.is, length-append ends.below (ends.spot ∷ []))
+    let room = stack-room (keyed_spots way ps) (keyed_spots way ends.below) (keyed_spot way ends.spot) (keyed_spots-popped way ps ends.below ends.spot ends.is) IsKey bits width v stack small in
+    omega (arith, room, length-map ends.below (keyed_spot way), ap length ends.is, length-append ends.below (ends.spot ∷ []))
 
 module _ {K : Type 0} (IsKey : K → Type 0) (bits : K → List Bool) (width : ℕ) (v : Store Node) (way : K) (long : length (bits way) ≡ width) where
-  shorts : (p : Spot) → IsSpot IsKey bits width v (site way p) → All IsShort (to_come p.places)
+  shorts : (p : Spot) → IsSpot IsKey bits width v (keyed_spot way p) → All IsShort (to_come p.places)
   shorts p i = All-weaker (IsPlaceOf p.node) IsShort (λ s h. h.0) (to_come p.places) i.each
 
   -- a string that goes on deeper begins nothing of what is to come at spots that it has passed
   stay-below : {T : Type 0} (m : Entries T) (z : List Bool) (d : ℕ) → d ≤ width → begins (take d (bits way)) z ≡ true → (n : ℕ) (ps : List Spot) → n + 5 * length ps ≤ d →
-      IsTrail IsKey bits width v n (sites way ps) → All (IsPassed bits) (sites way ps) →
-      filter (λ e. not (begins z e.0)) (pending bits m (sites way ps)) ≡ pending bits m (sites way ps)
+      IsTrail IsKey bits width v n (keyed_spots way ps) → All (IsPassed bits) (keyed_spots way ps) →
+      filter (λ e. not (begins z e.0)) (pending bits m (keyed_spots way ps)) ≡ pending bits m (keyed_spots way ps)
   stay-below m z d inside begun n [] h t o = refl
   stay-below m z d inside begun n (p ∷ ps) h t o =
-      filter-append (λ e. not (begins z e.0)) (pending bits m (sites way ps)) (still bits m (site way p))
-      ∙ ap₂ (λ xs ys. xs ++ ys) (stay-below m z d inside begun (n + 5) ps (omega (arith, h)) t.2 (All-tail (IsPassed bits) (site way p) (sites way ps) o))
-      (stay-others m (take p.depth (bits way)) (take 5 (drop p.depth (bits way))) z five goes_on (to_come p.places) (shorts p t.1) (All-head (IsPassed bits) (site way p) (sites way ps) o))
+      filter-append (λ e. not (begins z e.0)) (pending bits m (keyed_spots way ps)) (still bits m (keyed_spot way p))
+      ∙ ap₂ (λ xs ys. xs ++ ys) (stay-below m z d inside begun (n + 5) ps (omega (arith, h)) t.2 (All-tail (IsPassed bits) (keyed_spot way p) (keyed_spots way ps) o))
+      (stay-others m (take p.depth (bits way)) (take 5 (drop p.depth (bits way))) z five goes_on (to_come p.places) (shorts p t.1) (All-head (IsPassed bits) (keyed_spot way p) (keyed_spots way ps) o))
     where
       deeper : p.depth + 5 ≤ d
       deeper = omega (arith, h, t.0)
@@ -117,23 +117,23 @@ module _ {K : Type 0} (IsKey : K → Type 0) (bits : K → List Bool) (width : �
 
 -- what the first bits of a key begin, which end at the last spot, was dropped there
 module _ {K : Type 0} (IsKey : K → Type 0) (bits : K → List Bool) (width : ℕ) (v : Store Node) (law : (k : K) → IsKey k → length (bits k) ≡ width) (way key : K) (is_key : IsKey key) (len : ℕ) (within : len ≤ width) (old new : List Spot)
-    (stack : IsStack IsKey bits width v (sites way old)) (passed : ArePassed bits (sites way old)) (ends : EndsLast bits way old key len) (skips : SkipsLast (bits key) len old new) where
-  at_old : sites way old ≡ sites way skips.below ++ site way skips.was ∷ []
-  at_old = sites-popped way old skips.below skips.was skips.before
+    (stack : IsStack IsKey bits width v (keyed_spots way old)) (passed : ArePassed bits (keyed_spots way old)) (ends : EndsLast bits way old key len) (skips : SkipsLast (bits key) len old new) where
+  at_old : keyed_spots way old ≡ keyed_spots way skips.below ++ keyed_spot way skips.was ∷ []
+  at_old = keyed_spots-popped way old skips.below skips.was skips.before
 
-  at_new : sites way new ≡ sites way skips.below ++ site way skips.now ∷ []
-  at_new = sites-popped way new skips.below skips.now skips.after
+  at_new : keyed_spots way new ≡ keyed_spots way skips.below ++ keyed_spot way skips.now ∷ []
+  at_new = keyed_spots-popped way new skips.below skips.now skips.after
 
-  spot : IsSpot IsKey bits width v (site way skips.was)
-  spot = spot-popped (sites way old) (sites way skips.below) (site way skips.was) at_old IsKey bits width v stack
+  spot : IsSpot IsKey bits width v (keyed_spot way skips.was)
+  spot = spot-popped (keyed_spots way old) (keyed_spots way skips.below) (keyed_spot way skips.was) at_old IsKey bits width v stack
 
   long : length (bits way) ≡ width
   long = law way spot.key
 
-  ended : EndsAt bits (site way skips.was) key len
-  ended = subst (λ p. EndsAt bits (site way p) key len) (snoc_inj ends.below skips.below ends.spot skips.was (sym ends.is ∙ skips.before)).1 ends.ends
+  ended : EndsAt bits (keyed_spot way skips.was) key len
+  ended = subst (λ p. EndsAt bits (keyed_spot way p) key len) (snoc_inj ends.below skips.below ends.spot skips.was (sym ends.is ∙ skips.before)).1 ends.ends
 
-  spot_left : IsSpot IsKey bits width v (site way skips.now)
+  spot_left : IsSpot IsKey bits width v (keyed_spot way skips.now)
   spot_left =
       let s = skips.skips in record {
         key = spot.key;
@@ -146,13 +146,13 @@ module _ {K : Type 0} (IsKey : K → Type 0) (bits : K → List Bool) (width : �
             (All-filter (λ u. not (begins (drop skips.was.depth (take len (bits key))) u)) (IsPlaceOf skips.was.node) (to_come skips.was.places) spot.each));
       }
 
-  pub stack_left : IsStack IsKey bits width v (sites way new)
+  pub stack_left : IsStack IsKey bits width v (keyed_spots way new)
   stack_left =
       subst (IsStack IsKey bits width v) (sym at_new)
-      (stack-put (sites way old) (sites way skips.below) (site way skips.was) at_old IsKey bits width v stack (site way skips.now) skips.skips.depth_is spot_left)
+      (stack-put (keyed_spots way old) (keyed_spots way skips.below) (keyed_spot way skips.was) at_old IsKey bits width v stack (keyed_spot way skips.now) skips.skips.depth_is spot_left)
 
-  pub passed_left : ArePassed bits (sites way new)
-  passed_left = passed-put bits (sites way old) (sites way new) (sites way skips.below) (site way skips.was) (site way skips.now) at_old at_new passed
+  pub passed_left : ArePassed bits (keyed_spots way new)
+  passed_left = passed-put bits (keyed_spots way old) (keyed_spots way new) (keyed_spots way skips.below) (keyed_spot way skips.was) (keyed_spot way skips.now) at_old at_new passed
 
   string_is : take skips.was.depth (bits way) ++ drop skips.was.depth (take len (bits key)) ≡ take len (bits key)
   string_is =
@@ -160,25 +160,25 @@ module _ {K : Type 0} (IsKey : K → Type 0) (bits : K → List Bool) (width : �
       ∙ take-append-drop skips.was.depth (take len (bits key))
 
   module _ {T : Type 0} (m : Entries T) where
-    still_left : still bits m (site way skips.now) ≡ filter (λ e. not (begins (take len (bits key)) e.0)) (still bits m (site way skips.was))
+    still_left : still bits m (keyed_spot way skips.now) ≡ filter (λ e. not (begins (take len (bits key)) e.0)) (still bits m (keyed_spot way skips.was))
     still_left =
         let short = short_rest (bits key) width (law key is_key) skips.was.depth len within ended.last in
         ap (λ d. listing_at_places m (take d (bits way)) (to_come skips.now.places)) skips.skips.depth_is
         ∙ ap (listing_at_places m (take skips.was.depth (bits way))) skips.skips.left
         ∙ stay-places m (take skips.was.depth (bits way)) (drop skips.was.depth (take len (bits key))) (omega (arith, short)) (to_come skips.was.places) (shorts IsKey bits width v way long skips.was spot)
-        ∙ ap (λ z. filter (λ e. not (begins z e.0)) (still bits m (site way skips.was))) string_is
+        ∙ ap (λ z. filter (λ e. not (begins z e.0)) (still bits m (keyed_spot way skips.was))) string_is
 
-    below_left : filter (λ e. not (begins (take len (bits key)) e.0)) (pending bits m (sites way skips.below)) ≡ pending bits m (sites way skips.below)
+    below_left : filter (λ e. not (begins (take len (bits key)) e.0)) (pending bits m (keyed_spots way skips.below)) ≡ pending bits m (keyed_spots way skips.below)
     below_left =
-        let at = trail-at (sites way old) (sites way skips.below) (site way skips.was) at_old IsKey bits width v stack in
+        let at = trail-at (keyed_spots way old) (keyed_spots way skips.below) (keyed_spot way skips.was) at_old IsKey bits width v stack in
         stay-below IsKey bits width v way long m (take len (bits key)) skips.was.depth spot.within
         (begins-from-rest (take skips.was.depth (bits way)) (take len (bits key)) (drop skips.was.depth (take len (bits key))) (sym string_is))
-        (start (sites way old)) skips.below (omega (arith, at.1, length-map skips.below (site way))) at.0
-        (passed-below bits (sites way old) (sites way skips.below) (site way skips.was) at_old passed)
+        (start (keyed_spots way old)) skips.below (omega (arith, at.1, length-map skips.below (keyed_spot way))) at.0
+        (passed-below bits (keyed_spots way old) (keyed_spots way skips.below) (keyed_spot way skips.was) at_old passed)
 
-    pub pending_left : pending bits m (sites way new) ≡ filter (λ e. not (begins (take len (bits key)) e.0)) (pending bits m (sites way old))
+    pub pending_left : pending bits m (keyed_spots way new) ≡ filter (λ e. not (begins (take len (bits key)) e.0)) (pending bits m (keyed_spots way old))
     pending_left =
-        pending-popped (sites way new) (sites way skips.below) (site way skips.now) at_new bits m
+        pending-popped (keyed_spots way new) (keyed_spots way skips.below) (keyed_spot way skips.now) at_new bits m
         ∙ ap₂ (λ xs ys. xs ++ ys) still_left (sym below_left)
-        ∙ sym (filter-append (λ e. not (begins (take len (bits key)) e.0)) (still bits m (site way skips.was)) (pending bits m (sites way skips.below)))
-        ∙ ap (filter (λ e. not (begins (take len (bits key)) e.0))) (sym (pending-popped (sites way old) (sites way skips.below) (site way skips.was) at_old bits m))
+        ∙ sym (filter-append (λ e. not (begins (take len (bits key)) e.0)) (still bits m (keyed_spot way skips.was)) (pending bits m (keyed_spots way skips.below)))
+        ∙ ap (filter (λ e. not (begins (take len (bits key)) e.0))) (sym (pending-popped (keyed_spots way old) (keyed_spots way skips.below) (keyed_spot way skips.was) at_old bits m))

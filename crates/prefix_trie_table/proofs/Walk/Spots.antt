@@ -25,7 +25,7 @@ use Rattle.prefix_trie_table.specs.Digits.{path_of}
 use Rattle.prefix_trie_table.specs.Locations.{seat_of}
 use Rattle.prefix_trie_table.specs.Store.{Store}
 use Rattle.prefix_trie_table.specs.Forest.{read, child_slot}
-use Rattle.prefix_trie_table.specs.Walking.Walks.{Site, Tree, IsSpot, IsPlaceOf, IsOther, IsPassed, still, GivesSeat, many, most, weight_of, weight}
+use Rattle.prefix_trie_table.specs.Walking.Walks.{KeyedSpot, Tree, IsSpot, IsPlaceOf, IsOther, IsPassed, still, GivesSeat, many, most, weight_of, weight}
 use Rattle.prefix_trie_table.specs.Tables.{IsTrie}
 use Rattle.prefix_trie_table.proofs.Walk.Passing.{others_after}
 use Rattle.prefix_trie_table.proofs.Strings.Plain.{whole_levels}
@@ -95,7 +95,7 @@ place-child-small s b h e =
 whole-more : (u s : List Bool) → length u % 5 ≡ 0 → length s ≡ 5 → length (u ++ s) % 5 ≡ 0
 whole-more u s h five = omega (arith, h, five, length-append u s)
 
-module _ {K : Type 0} (IsKey : K → Type 0) (bits : K → List Bool) (width : ℕ) (v : Store Node) (p : Site K) (at : IsSpot IsKey bits width v p)
+module _ {K : Type 0} (IsKey : K → Type 0) (bits : K → List Bool) (width : ℕ) (v : Store Node) (p : KeyedSpot K) (at : IsSpot IsKey bits width v p)
     (long : length (bits p.key) ≡ width) where
   pub string-length : length (take p.depth (bits p.key)) ≡ p.depth
   string-length = let w = at.within in length-take-le p.depth (bits p.key) (omega (arith, w, long))
@@ -111,7 +111,7 @@ module _ {K : Type 0} (IsKey : K → Type 0) (bits : K → List Bool) (width : �
 
   module _ (s : List Bool) (later : Places) (first : to_come p.places ≡ s ∷ to_come later) where
     -- the spot afterwards
-    abbrev after : Site K
+    abbrev after : KeyedSpot K
     after = record { node = p.node; key = p.key; depth = p.depth; places = later }
 
     here : IsPlaceOf p.node s
@@ -228,7 +228,7 @@ module _ {K : Type 0} (IsKey : K → Type 0) (bits : K → List Bool) (width : �
               (child_few width v t tree (take p.depth (bits p.key)) p.node whole at.stands s five bit_set)
 
           -- the child, with all its places
-          module _ (c : Site K) (is_key : IsKey c.key)
+          module _ (c : KeyedSpot K) (is_key : IsKey c.key)
               (extended : bits c.key ≡ take p.depth (bits p.key) ++ digits 5 b ++ zeros (width - (p.depth + 5)))
               (depth_is : c.depth ≡ p.depth + 5) (node_is : c.node ≡ node_at v.slots (p.node.child_block + place))
               (all : to_come c.places ≡ places c.node.value_bitmap c.node.child_bitmap) (each : All (IsPlaceOf c.node) (to_come c.places)) where

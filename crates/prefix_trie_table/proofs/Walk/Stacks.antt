@@ -9,26 +9,26 @@ use Rattle.prefix_trie_table.specs.Digits.{path_of}
 use Rattle.prefix_trie_table.specs.Forest.{read}
 use Rattle.prefix_trie_table.specs.Store.{Store}
 use Rattle.prefix_trie_table.specs.declared.allocator.node.Node.{Node}
-use Rattle.prefix_trie_table.specs.Walking.Walks.{Site, site, sites, IsSpot, IsTrail, IsStack, start, still, pending, weight, total_weight}
+use Rattle.prefix_trie_table.specs.Walking.Walks.{KeyedSpot, keyed_spot, keyed_spots, IsSpot, IsTrail, IsStack, start, still, pending, weight, total_weight}
 
 module _ {K T : Type 0} (bits : K → List Bool) (m : Entries T) where
-  pub pending-push : (ps : List (Site K)) (p : Site K) → pending bits m (ps ++ p ∷ []) ≡ still bits m p ++ pending bits m ps
+  pub pending-push : (ps : List (KeyedSpot K)) (p : KeyedSpot K) → pending bits m (ps ++ p ∷ []) ≡ still bits m p ++ pending bits m ps
   pending-push [] p = sym (append-nil (still bits m p))
   pending-push (q ∷ ps) p = ap (λ xs. xs ++ still bits m q) (pending-push ps p) ∙ append_assoc (still bits m p) (pending bits m ps) (still bits m q)
 
 module _ {K : Type 0} where
-  pub weight-push : (ps : List (Site K)) (p : Site K) → total_weight (ps ++ p ∷ []) ≡ total_weight ps + weight p
+  pub weight-push : (ps : List (KeyedSpot K)) (p : KeyedSpot K) → total_weight (ps ++ p ∷ []) ≡ total_weight ps + weight p
   weight-push [] p = omega arith
   weight-push (q ∷ ps) p = omega (arith, weight-push ps p)
 
 module _ {K : Type 0} (IsKey : K → Type 0) (bits : K → List Bool) (width : ℕ) (v : Store Node) where
-  pub trail-push : (n : ℕ) (ps : List (Site K)) (p : Site K) → IsTrail IsKey bits width v n ps → p.depth ≡ n + 5 * length ps → IsSpot IsKey bits width v p →
+  pub trail-push : (n : ℕ) (ps : List (KeyedSpot K)) (p : KeyedSpot K) → IsTrail IsKey bits width v n ps → p.depth ≡ n + 5 * length ps → IsSpot IsKey bits width v p →
       IsTrail IsKey bits width v n (ps ++ p ∷ [])
   trail-push n [] p h d i = (omega (arith, d), i, tt)
   trail-push n (q ∷ ps) p h d i = (h.0, h.1, trail-push (n + 5) ps p h.2 (omega (arith, d)) i)
 
   -- what holds of the spots below the last one, and of it
-  pub trail-pop : (n : ℕ) (ps : List (Site K)) (p : Site K) → IsTrail IsKey bits width v n (ps ++ p ∷ []) →
+  pub trail-pop : (n : ℕ) (ps : List (KeyedSpot K)) (p : KeyedSpot K) → IsTrail IsKey bits width v n (ps ++ p ∷ []) →
       IsTrail IsKey bits width v n ps × (p.depth ≡ n + 5 * length ps) × IsSpot IsKey bits width v p
   trail-pop n [] p h = (tt, omega (arith, h.0), h.1)
   trail-pop n (q ∷ ps) p h =
@@ -36,11 +36,11 @@ module _ {K : Type 0} (IsKey : K → Type 0) (bits : K → List Bool) (width : �
       ((h.0, h.1, deeper.0), omega (arith, deeper.1), deeper.2)
 
   -- wherever a trail starts, it is a stack
-  pub restart : (n : ℕ) (ps : List (Site K)) → IsTrail IsKey bits width v n ps → IsStack IsKey bits width v ps
+  pub restart : (n : ℕ) (ps : List (KeyedSpot K)) → IsTrail IsKey bits width v n ps → IsStack IsKey bits width v ps
   restart n [] h = tt
   restart n (p ∷ ps) h = subst (λ k. IsTrail IsKey bits width v k (p ∷ ps)) (sym h.0) h
 
-module _ {K : Type 0} (all below : List (Site K)) (p : Site K) (popped : all ≡ below ++ p ∷ []) where
+module _ {K : Type 0} (all below : List (KeyedSpot K)) (p : KeyedSpot K) (popped : all ≡ below ++ p ∷ []) where
   pub weight-popped : total_weight all ≡ total_weight below + weight p
   weight-popped = ap total_weight popped ∙ weight-push below p
 
@@ -48,10 +48,10 @@ module _ {K : Type 0} (all below : List (Site K)) (p : Site K) (popped : all ≡
     pub pending-popped : pending bits m all ≡ still bits m p ++ pending bits m below
     pending-popped = ap (pending bits m) popped ∙ pending-push bits m below p
 
-    pub pending-entry : (q : Site K) (e : List Bool × T) → still bits m p ≡ e ∷ still bits m q → pending bits m all ≡ e ∷ pending bits m (below ++ q ∷ [])
+    pub pending-entry : (q : KeyedSpot K) (e : List Bool × T) → still bits m p ≡ e ∷ still bits m q → pending bits m all ≡ e ∷ pending bits m (below ++ q ∷ [])
     pending-entry q e h = pending-popped ∙ ap (λ xs. xs ++ pending bits m below) h ∙ ap (λ xs. e ∷ xs) (sym (pending-push bits m below q))
 
-    pub pending-child : (q c : Site K) → still bits m p ≡ still bits m c ++ still bits m q → pending bits m ((below ++ q ∷ []) ++ c ∷ []) ≡ pending bits m all
+    pub pending-child : (q c : KeyedSpot K) → still bits m p ≡ still bits m c ++ still bits m q → pending bits m ((below ++ q ∷ []) ++ c ∷ []) ≡ pending bits m all
     pending-child q c h =
         pending-push bits m (below ++ q ∷ []) c ∙ ap (λ xs. still bits m c ++ xs) (pending-push bits m below q)
         ∙ sym (append_assoc (still bits m c) (still bits m q) (pending bits m below)) ∙ sym (ap (λ xs. xs ++ pending bits m below) h) ∙ sym pending-popped
@@ -74,14 +74,14 @@ module _ {K : Type 0} (all below : List (Site K)) (p : Site K) (popped : all ≡
     stack-room small = let w = trail-at.2.within in omega (arith, w, trail-at.1, small)
 
     -- and for another that is deeper
-    pub child-room : (c : Site K) → width ≤ 128 → c.depth ≡ p.depth + 5 → IsSpot IsKey bits width v c → length below + 1 < 26
+    pub child-room : (c : KeyedSpot K) → width ≤ 128 → c.depth ≡ p.depth + 5 → IsSpot IsKey bits width v c → length below + 1 < 26
     child-room c small d i = let w = i.within in omega (arith, w, d, trail-at.1, small)
 
-    put-at : (q : Site K) → q.depth ≡ p.depth → IsSpot IsKey bits width v q → IsTrail IsKey bits width v (start all) (below ++ q ∷ [])
+    put-at : (q : KeyedSpot K) → q.depth ≡ p.depth → IsSpot IsKey bits width v q → IsTrail IsKey bits width v (start all) (below ++ q ∷ [])
     put-at q d i = trail-push IsKey bits width v (start all) below q trail-at.0 (d ∙ trail-at.1) i
 
     -- the spot is put back as q
-    pub stack-put : (q : Site K) → q.depth ≡ p.depth → IsSpot IsKey bits width v q → IsStack IsKey bits width v (below ++ q ∷ [])
+    pub stack-put : (q : KeyedSpot K) → q.depth ≡ p.depth → IsSpot IsKey bits width v q → IsStack IsKey bits width v (below ++ q ∷ [])
     stack-put q d i = restart IsKey bits width v (start all) (below ++ q ∷ []) (put-at q d i)
 
 -- a key that has the same bits as far as the deepest spot goes serves as well
@@ -89,7 +89,7 @@ module _ {K : Type 0} (IsKey : K → Type 0) (bits : K → List Bool) (width : �
   same_path : (k : ℕ) → k ≤ d → take k (bits other) ≡ take k (bits key)
   same_path k h = sym (take-take k d (bits other) h) ∙ ap (take k) same ∙ take-take k d (bits key) h
 
-  spot-way : (p : Spot) → p.depth ≤ d → IsSpot IsKey bits width v (site key p) → IsSpot IsKey bits width v (site other p)
+  spot-way : (p : Spot) → p.depth ≤ d → IsSpot IsKey bits width v (keyed_spot key p) → IsSpot IsKey bits width v (keyed_spot other p)
   spot-way p h i = record {
     key = is_key;
     level = i.level;
@@ -99,70 +99,70 @@ module _ {K : Type 0} (IsKey : K → Type 0) (bits : K → List Bool) (width : �
     each = i.each;
   }
 
-  pub trail-way : (n : ℕ) (ps : List Spot) → n + 5 * length ps ≤ d + 5 → IsTrail IsKey bits width v n (sites key ps) → IsTrail IsKey bits width v n (sites other ps)
+  pub trail-way : (n : ℕ) (ps : List Spot) → n + 5 * length ps ≤ d + 5 → IsTrail IsKey bits width v n (keyed_spots key ps) → IsTrail IsKey bits width v n (keyed_spots other ps)
   trail-way n [] h t = tt
   trail-way n (p ∷ ps) h t = (t.0, spot-way p (omega (arith, h, t.0)) t.1, trail-way (n + 5) ps (omega (arith, h)) t.2)
 
-  pub pending-way : {T : Type 0} (m : Entries T) (n : ℕ) (ps : List Spot) → n + 5 * length ps ≤ d + 5 → IsTrail IsKey bits width v n (sites key ps) →
-      pending bits m (sites other ps) ≡ pending bits m (sites key ps)
+  pub pending-way : {T : Type 0} (m : Entries T) (n : ℕ) (ps : List Spot) → n + 5 * length ps ≤ d + 5 → IsTrail IsKey bits width v n (keyed_spots key ps) →
+      pending bits m (keyed_spots other ps) ≡ pending bits m (keyed_spots key ps)
   pending-way m n [] h t = refl
   pending-way m n (p ∷ ps) h t =
-      ap (λ es. es ++ still bits m (site other p)) (pending-way m (n + 5) ps (omega (arith, h)) t.2)
-      ∙ ap (λ s. pending bits m (sites key ps) ++ listing_at_places m s (to_come p.places)) (same_path p.depth (omega (arith, h, t.0)))
+      ap (λ es. es ++ still bits m (keyed_spot other p)) (pending-way m (n + 5) ps (omega (arith, h)) t.2)
+      ∙ ap (λ s. pending bits m (keyed_spots key ps) ++ listing_at_places m s (to_come p.places)) (same_path p.depth (omega (arith, h, t.0)))
 
-pub weight-way : {K : Type 0} (key other : K) (ps : List Spot) → total_weight (sites other ps) ≡ total_weight (sites key ps)
+pub weight-way : {K : Type 0} (key other : K) (ps : List Spot) → total_weight (keyed_spots other ps) ≡ total_weight (keyed_spots key ps)
 weight-way key other [] = refl
-weight-way key other (p ∷ ps) = ap (λ n. weight (site key p) + n) (weight-way key other ps)
+weight-way key other (p ∷ ps) = ap (λ n. weight (keyed_spot key p) + n) (weight-way key other ps)
 
-pub sites-push : {K : Type 0} (key : K) (ps : List Spot) (p : Spot) → sites key (ps ++ p ∷ []) ≡ sites key ps ++ site key p ∷ []
-sites-push key ps p = map-append (site key) ps (p ∷ [])
+pub keyed_spots-push : {K : Type 0} (key : K) (ps : List Spot) (p : Spot) → keyed_spots key (ps ++ p ∷ []) ≡ keyed_spots key ps ++ keyed_spot key p ∷ []
+keyed_spots-push key ps p = map-append (keyed_spot key) ps (p ∷ [])
 
-pub sites-popped : {K : Type 0} (key : K) (all below : List Spot) (p : Spot) → all ≡ below ++ p ∷ [] → sites key all ≡ sites key below ++ site key p ∷ []
-sites-popped key all below p e = ap (sites key) e ∙ sites-push key below p
+pub keyed_spots-popped : {K : Type 0} (key : K) (all below : List Spot) (p : Spot) → all ≡ below ++ p ∷ [] → keyed_spots key all ≡ keyed_spots key below ++ keyed_spot key p ∷ []
+keyed_spots-popped key all below p e = ap (keyed_spots key) e ∙ keyed_spots-push key below p
 
 -- the last spot p of these has become q, and c, with a key of its own, stands above it
 module _ {K : Type 0} (IsKey : K → Type 0) (bits : K → List Bool) (width : ℕ) (v : Store Node) (key other : K) (all below : List Spot) (p q c : Spot) (popped : all ≡ below ++ p ∷ [])
-    (stack : IsStack IsKey bits width v (sites key all)) (depth : q.depth ≡ p.depth) (is_q : IsSpot IsKey bits width v (site key q))
-    (deeper : c.depth ≡ p.depth + 5) (is_c : IsSpot IsKey bits width v (site other c)) (same : take p.depth (bits other) ≡ take p.depth (bits key)) where
-  sites_popped : sites key all ≡ sites key below ++ site key p ∷ []
-  sites_popped = sites-popped key all below p popped
+    (stack : IsStack IsKey bits width v (keyed_spots key all)) (depth : q.depth ≡ p.depth) (is_q : IsSpot IsKey bits width v (keyed_spot key q))
+    (deeper : c.depth ≡ p.depth + 5) (is_c : IsSpot IsKey bits width v (keyed_spot other c)) (same : take p.depth (bits other) ≡ take p.depth (bits key)) where
+  sites_popped : keyed_spots key all ≡ keyed_spots key below ++ keyed_spot key p ∷ []
+  sites_popped = keyed_spots-popped key all below p popped
 
   abbrev pub put : List Spot
   put = below ++ q ∷ []
 
-  trail : IsTrail IsKey bits width v (start (sites key all)) (sites key put)
+  trail : IsTrail IsKey bits width v (start (keyed_spots key all)) (keyed_spots key put)
   trail =
-      subst (IsTrail IsKey bits width v (start (sites key all))) (sym (sites-push key below q))
-      (put-at (sites key all) (sites key below) (site key p) sites_popped IsKey bits width v stack (site key q) depth is_q)
+      subst (IsTrail IsKey bits width v (start (keyed_spots key all))) (sym (keyed_spots-push key below q))
+      (put-at (keyed_spots key all) (keyed_spots key below) (keyed_spot key p) sites_popped IsKey bits width v stack (keyed_spot key q) depth is_q)
 
-  long : start (sites key all) + 5 * length put ≤ p.depth + 5
+  long : start (keyed_spots key all) + 5 * length put ≤ p.depth + 5
   long =
-      let at = (trail-at (sites key all) (sites key below) (site key p) sites_popped IsKey bits width v stack).1 in
-      omega (arith, at, length-append below (q ∷ []), length-map below (site key))
+      let at = (trail-at (keyed_spots key all) (keyed_spots key below) (keyed_spot key p) sites_popped IsKey bits width v stack).1 in
+      omega (arith, at, length-append below (q ∷ []), length-map below (keyed_spot key))
 
-  sites_child : sites other (put ++ c ∷ []) ≡ sites other put ++ site other c ∷ []
-  sites_child = sites-push other put c
+  sites_child : keyed_spots other (put ++ c ∷ []) ≡ keyed_spots other put ++ keyed_spot other c ∷ []
+  sites_child = keyed_spots-push other put c
 
-  pub stack-child_way : IsStack IsKey bits width v (sites other (put ++ c ∷ []))
+  pub stack-child_way : IsStack IsKey bits width v (keyed_spots other (put ++ c ∷ []))
   stack-child_way =
-      let at = (trail-at (sites key all) (sites key below) (site key p) sites_popped IsKey bits width v stack).1 in
+      let at = (trail-at (keyed_spots key all) (keyed_spots key below) (keyed_spot key p) sites_popped IsKey bits width v stack).1 in
       subst (IsStack IsKey bits width v) (sym sites_child)
-      (restart IsKey bits width v (start (sites key all)) (sites other put ++ site other c ∷ [])
-      (trail-push IsKey bits width v (start (sites key all)) (sites other put) (site other c)
-      (trail-way IsKey bits width v key other is_c.key p.depth same (start (sites key all)) put long trail)
-      (omega (arith, deeper, at, length-append below (q ∷ []), length-map below (site key), length-map put (site other))) is_c))
+      (restart IsKey bits width v (start (keyed_spots key all)) (keyed_spots other put ++ keyed_spot other c ∷ [])
+      (trail-push IsKey bits width v (start (keyed_spots key all)) (keyed_spots other put) (keyed_spot other c)
+      (trail-way IsKey bits width v key other is_c.key p.depth same (start (keyed_spots key all)) put long trail)
+      (omega (arith, deeper, at, length-append below (q ∷ []), length-map below (keyed_spot key), length-map put (keyed_spot other))) is_c))
 
-  pub pending-child_way : {T : Type 0} (m : Entries T) → still bits m (site key p) ≡ still bits m (site other c) ++ still bits m (site key q) →
-      pending bits m (sites other (put ++ c ∷ [])) ≡ pending bits m (sites key all)
+  pub pending-child_way : {T : Type 0} (m : Entries T) → still bits m (keyed_spot key p) ≡ still bits m (keyed_spot other c) ++ still bits m (keyed_spot key q) →
+      pending bits m (keyed_spots other (put ++ c ∷ [])) ≡ pending bits m (keyed_spots key all)
   pending-child_way m h =
       ap (pending bits m) sites_child
-      ∙ pending-push bits m (sites other put) (site other c)
-      ∙ ap (λ es. still bits m (site other c) ++ es) (pending-way IsKey bits width v key other is_c.key p.depth same m (start (sites key all)) put long trail ∙ ap (pending bits m) (sites-push key below q))
-      ∙ sym (pending-push bits m (sites key below ++ site key q ∷ []) (site other c))
-      ∙ pending-child (sites key all) (sites key below) (site key p) sites_popped bits m (site key q) (site other c) h
+      ∙ pending-push bits m (keyed_spots other put) (keyed_spot other c)
+      ∙ ap (λ es. still bits m (keyed_spot other c) ++ es) (pending-way IsKey bits width v key other is_c.key p.depth same m (start (keyed_spots key all)) put long trail ∙ ap (pending bits m) (keyed_spots-push key below q))
+      ∙ sym (pending-push bits m (keyed_spots key below ++ keyed_spot key q ∷ []) (keyed_spot other c))
+      ∙ pending-child (keyed_spots key all) (keyed_spots key below) (keyed_spot key p) sites_popped bits m (keyed_spot key q) (keyed_spot other c) h
 
-  pub weight-deeper_way : weight (site other c) + weight (site key q) < weight (site key p) → total_weight (sites other (put ++ c ∷ [])) < total_weight (sites key all)
+  pub weight-deeper_way : weight (keyed_spot other c) + weight (keyed_spot key q) < weight (keyed_spot key p) → total_weight (keyed_spots other (put ++ c ∷ [])) < total_weight (keyed_spots key all)
   weight-deeper_way h =
-      let e = ap total_weight sites_child ∙ weight-push (sites other put) (site other c) in
-      let f = weight-way key other put ∙ ap total_weight (sites-push key below q) ∙ weight-push (sites key below) (site key q) in
-      omega (arith, h, e, f, weight-popped (sites key all) (sites key below) (site key p) sites_popped)
+      let e = ap total_weight sites_child ∙ weight-push (keyed_spots other put) (keyed_spot other c) in
+      let f = weight-way key other put ∙ ap total_weight (keyed_spots-push key below q) ∙ weight-push (keyed_spots key below) (keyed_spot key q) in
+      omega (arith, h, e, f, weight-popped (keyed_spots key all) (keyed_spots key below) (keyed_spot key p) sites_popped)

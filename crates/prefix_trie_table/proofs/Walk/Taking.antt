@@ -25,7 +25,7 @@ use Rattle.prefix_trie_table.specs.Locations.{value_seat, seat_in, seat_of}
 use Rattle.prefix_trie_table.specs.Shape.{IsShapeOf, same_shape}
 use Rattle.prefix_trie_table.specs.Tables.{IsTrie}
 use Rattle.prefix_trie_table.specs.Walking.Taking.{Seated, cell_of, pairs_in, AreHeld, IsApart, AreApart, IsTaking}
-use Rattle.prefix_trie_table.specs.Walking.Walks.{Tree, Site, IsStack, pending, slot_of, GivesSeat}
+use Rattle.prefix_trie_table.specs.Walking.Walks.{Tree, KeyedSpot, IsStack, pending, slot_of, GivesSeat}
 use Rattle.prefix_trie_table.proofs.Tree.Invariant.{some_table}
 use Rattle.prefix_trie_table.proofs.Walk.KeySets.{bare, strings_of, has-strings_of, pending_bare}
 use Rattle.prefix_trie_table.proofs.Lookup.Located.{stored_if}
@@ -81,7 +81,7 @@ module _ {T : Type 0} where
 module _ {K T : Type 0} (IsKey : K → Type 0) (bits : K → List Bool) (width : ℕ) (v : Store Node) where
   module _ (t : Tree T) (trie : IsTrie width t.count v t.cells t.shape) where
     -- the strings still to come are those of the pairs of the table
-    strings_come : (keys : Seated v.slots) (ps : List (Site K)) → pending bits keys.0 ps ≡ map bare (pending bits t.shape.entries ps)
+    strings_come : (keys : Seated v.slots) (ps : List (KeyedSpot K)) → pending bits keys.0 ps ≡ map bare (pending bits t.shape.entries ps)
     strings_come keys ps =
         pending_bare t.shape.entries keys.0 (λ q. keys.1 q ∙ sym (stored_if v t.cells t.count (t.shape, trie.shaped) trie.table q)) bits ps
 
@@ -111,8 +111,8 @@ module _ {K T : Type 0} (IsKey : K → Type 0) (bits : K → List Bool) (width :
       held_left (k ∷ ks) h held = (ap is_some (other_cell k.0 h.0) ∙ held.0, held_left ks h.1 held.1)
 
   -- a walk
-  module _ (w : Store (Option T)) (s : Seated v.slots) (ps : List (Site K)) (at : IsTaking IsKey bits width v w s.0 ps) where
-    module _ (keys : Seated v.slots) (qs : List (Site K)) where
+  module _ (w : Store (Option T)) (s : Seated v.slots) (ps : List (KeyedSpot K)) (at : IsTaking IsKey bits width v w s.0 ps) where
+    module _ (keys : Seated v.slots) (qs : List (KeyedSpot K)) where
       -- with nothing left to come
       none_come : pending bits at.tree.shape.entries qs ≡ [] → pending bits keys.0 qs ≡ []
       none_come none = strings_come at.tree at.trie keys qs ∙ ap (λ es. map bare es) none
@@ -131,7 +131,7 @@ module _ {K T : Type 0} (IsKey : K → Type 0) (bits : K → List Bool) (width :
       }
 
     -- which takes the next value
-    module _ (qs : List (Site K)) (key : K) (size : ℕ) (seat : Seat)
+    module _ (qs : List (KeyedSpot K)) (key : K) (size : ℕ) (seat : Seat)
         (h : GivesSeat IsKey bits width at.tree key size seat (pending bits at.tree.shape.entries ps) (pending bits at.tree.shape.entries qs))
         (found : seat_of v.slots (take size (bits key)) ≡ Some seat) where
       abbrev q : List Bool
@@ -224,7 +224,7 @@ module _ {K T : Type 0} (IsKey : K → Type 0) (bits : K → List Bool) (width :
     held_stored [] h = tt
     held_stored (e ∷ es) h = (ap is_some (cell_stored e (All-head IsStored e es h)), held_stored es (All-tail IsStored e es h))
 
-    module _ (keys : Seated v.slots) (ps : List (Site K)) (q : List Bool) (rest : pending bits s.entries ps ≡ listing_below s.entries q) where
+    module _ (keys : Seated v.slots) (ps : List (KeyedSpot K)) (q : List Bool) (rest : pending bits s.entries ps ≡ listing_below s.entries q) where
       below_come : pending bits keys.0 ps ≡ map bare (listing_below s.entries q)
       below_come = strings_come whole trie keys ps ∙ ap (λ es. map bare es) rest
 

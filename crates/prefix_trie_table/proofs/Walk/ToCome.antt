@@ -12,7 +12,7 @@ use Rattle.prefix_trie_bits.specs.Model.NodeListings.{pair_of, listing_at_place,
 use Rattle.prefix_trie_bits.specs.Model.Selections.{listing_below}
 use Rattle.prefix_trie_bits.proofs.Model.Members.{some-value, same_string-is, has-inserted}
 use Rattle.prefix_trie_bits.proofs.Model.Ordered.{each-behind, not_less, sorted-head, sorted-tail}
-use Rattle.prefix_trie_table.specs.Walking.Walks.{Site, still, pending}
+use Rattle.prefix_trie_table.specs.Walking.Walks.{KeyedSpot, still, pending}
 
 module _ {X : Type 0} (k : List Bool) (v : X) where
   -- a key that is there stays where it is
@@ -76,7 +76,7 @@ module _ {X : Type 0} (m : Entries X) (k : List Bool) (v : X) (stored : contains
       ∙ sym (map-append (λ e. e.0) (listing_at_place m s t) (listing_at_places m s ts))
 
   -- so are those still to come at spots
-  pub pending_again : {K : Type 0} (bits : K → List Bool) (ps : List (Site K)) → map (λ e. e.0) (pending bits (with_entry m k v) ps) ≡ map (λ e. e.0) (pending bits m ps)
+  pub pending_again : {K : Type 0} (bits : K → List Bool) (ps : List (KeyedSpot K)) → map (λ e. e.0) (pending bits (with_entry m k v) ps) ≡ map (λ e. e.0) (pending bits m ps)
   pending_again bits [] = refl
   pending_again bits (p ∷ ps) =
       map-append (λ e. e.0) (pending bits (with_entry m k v) ps) (still bits (with_entry m k v) p)

@@ -18,7 +18,7 @@ use Rattle.prefix_trie_table.specs.Forest.{read}
 use Rattle.prefix_trie_table.specs.Shape.{Shaped, IsShapeOf, same_shape}
 use Rattle.prefix_trie_table.specs.declared.table.seat.Seat.{Seat}
 use Rattle.prefix_trie_table.specs.Walking.Items.{GivesFilled}
-use Rattle.prefix_trie_table.specs.Walking.Walks.{Site, Tree, IsSpot, IsPlaceOf, IsStack, IsPassed, ArePassed, still, pending, slot_of, GivesSeat, ShapeOf, rest_of_walk, IsWalk}
+use Rattle.prefix_trie_table.specs.Walking.Walks.{KeyedSpot, Tree, IsSpot, IsPlaceOf, IsStack, IsPassed, ArePassed, still, pending, slot_of, GivesSeat, ShapeOf, rest_of_walk, IsWalk}
 use Rattle.prefix_trie_table.specs.Tables.{IsTrie}
 use Rattle.std.specs.FinMap.{len}
 use Rattle.prefix_trie_table.proofs.Walk.Passing.{passed-above}
@@ -27,16 +27,16 @@ use Rattle.prefix_trie_table.proofs.Tree.Subtrees.{all_places}
 
 module _ {K T : Type 0} (IsKey : K → Type 0) (bits : K → List Bool) (width : ℕ) where
   -- a walk has arrays, which hold a table
-  pub record Rest (arrays : Option (Bor (Store Node) × Bor (Store (Option T)))) (shape : ShapeOf arrays) (ps : List (Site K)) (v : Store Node) (w : Store (Option T)) : Type 0 where
+  pub record Rest (arrays : Option (Bor (Store Node) × Bor (Store (Option T)))) (shape : ShapeOf arrays) (ps : List (KeyedSpot K)) (v : Store Node) (w : Store (Option T)) : Type 0 where
     pub state : State T
     pub tree : IsTrie width (len state.entries) v w state
     pub stack : IsStack IsKey bits width v ps
     pub passed : ArePassed bits ps
     pub rest : rest_of_walk bits arrays shape ps ≡ pending bits state.entries ps
-    pub later : (u : ShapeOf arrays) (qs : List (Site K)) → IsStack IsKey bits width v qs → ArePassed bits qs → IsWalk IsKey bits width arrays u qs
-    pub later_rest : (u : ShapeOf arrays) (qs : List (Site K)) → rest_of_walk bits arrays u qs ≡ pending bits state.entries qs
+    pub later : (u : ShapeOf arrays) (qs : List (KeyedSpot K)) → IsStack IsKey bits width v qs → ArePassed bits qs → IsWalk IsKey bits width arrays u qs
+    pub later_rest : (u : ShapeOf arrays) (qs : List (KeyedSpot K)) → rest_of_walk bits arrays u qs ≡ pending bits state.entries qs
 
-  rest_some : (b : Bor (Store Node) × Bor (Store (Option T))) (shape : ShapeOf (Some b)) (ps : List (Site K)) → IsWalk IsKey bits width (Some b) shape ps →
+  rest_some : (b : Bor (Store Node) × Bor (Store (Option T))) (shape : ShapeOf (Some b)) (ps : List (KeyedSpot K)) → IsWalk IsKey bits width (Some b) shape ps →
       Rest (Some b) shape ps b.0.now b.1.now
   rest_some b shape ps h = record {
     state = shape.0;
@@ -53,19 +53,19 @@ module _ {K T : Type 0} (IsKey : K → Type 0) (bits : K → List Bool) (width :
   }
 
   pub rest_at : (arrays : Option (Bor (Store Node) × Bor (Store (Option T)))) (a : Bor (Store Node) × Bor (Store (Option T))) → arrays ≡ Some a →
-      (shape : ShapeOf arrays) (ps : List (Site K)) → IsWalk IsKey bits width arrays shape ps → Rest arrays shape ps a.0.now a.1.now
+      (shape : ShapeOf arrays) (ps : List (KeyedSpot K)) → IsWalk IsKey bits width arrays shape ps → Rest arrays shape ps a.0.now a.1.now
   rest_at None a e shape ps h = absurd (cc)
   rest_at (Some b) a e shape ps h =
       let same : b ≡ a = cc in subst (λ (x : Bor (Store Node) × Bor (Store (Option T))). Rest (Some b) shape ps x.0.now x.1.now) same (rest_some b shape ps h)
 
   -- the arrays have one shape, whichever is named
-  pub same_rest : (arrays : Option (Bor (Store Node) × Bor (Store (Option T)))) (s u : ShapeOf arrays) (ps qs : List (Site K)) → qs ≡ ps →
+  pub same_rest : (arrays : Option (Bor (Store Node) × Bor (Store (Option T)))) (s u : ShapeOf arrays) (ps qs : List (KeyedSpot K)) → qs ≡ ps →
       rest_of_walk bits arrays u qs ≡ rest_of_walk bits arrays s ps
   same_rest None s u ps qs e = refl
   same_rest (Some a) s u ps qs e =
       ap (λ (x : State T). pending bits x.entries qs) (same_shape a.0.now.slots a.1.now.slots u.0 s.0 u.1 s.1) ∙ ap (pending bits s.0.entries) e
 
-  pub same_walk : (arrays : Option (Bor (Store Node) × Bor (Store (Option T)))) (s u : ShapeOf arrays) (ps qs : List (Site K)) → qs ≡ ps →
+  pub same_walk : (arrays : Option (Bor (Store Node) × Bor (Store (Option T)))) (s u : ShapeOf arrays) (ps qs : List (KeyedSpot K)) → qs ≡ ps →
       IsWalk IsKey bits width arrays s ps → IsWalk IsKey bits width arrays u qs
   same_walk None s u ps qs e h = tt
   same_walk (Some a) s u ps qs e h = (
@@ -88,7 +88,7 @@ module _ {K T : Type 0} (IsKey : K → Type 0) (bits : K → List Bool) (width :
       }
 
   -- spots of the table in the arrays are a walk, and have to come what is pending at them
-  module _ (v : Store Node) (w : Store (Option T)) (s : State T) (tree : IsTrie width (len s.entries) v w s) (ps : List (Site K)) (stack : IsStack IsKey bits width v ps) (u : Shaped v.slots w.slots) where
+  module _ (v : Store Node) (w : Store (Option T)) (s : State T) (tree : IsTrie width (len s.entries) v w s) (ps : List (KeyedSpot K)) (stack : IsStack IsKey bits width v ps) (u : Shaped v.slots w.slots) where
     pub spots_walk : ArePassed bits ps → IsTrie width (len u.0.entries) v w u.0 × IsStack IsKey bits width v ps × ArePassed bits ps
     spots_walk passed = (subst (λ (x : State T). IsTrie width (len x.entries) v w x) (same_shape v.slots w.slots s u.0 tree.shaped u.1) tree, stack, passed)
 
@@ -96,7 +96,7 @@ module _ {K T : Type 0} (IsKey : K → Type 0) (bits : K → List Bool) (width :
     spots_rest x is = ap (λ (y : State T). pending bits y.entries ps) (same_shape v.slots w.slots u.0 x u.1 is)
 
   -- a walk that stands at the root, with all its places
-  module _ (v : Store Node) (w : Store (Option T)) (s : State T) (tree : IsTrie width (len s.entries) v w s) (c : Site K) (is_key : IsKey c.key)
+  module _ (v : Store Node) (w : Store (Option T)) (s : State T) (tree : IsTrie width (len s.entries) v w s) (c : KeyedSpot K) (is_key : IsKey c.key)
       (depth_is : c.depth ≡ 0) (node_is : c.node ≡ node_at v.slots 0) (all : to_come c.places ≡ places c.node.value_bitmap c.node.child_bitmap)
       (each : All (IsPlaceOf c.node) (to_come c.places)) where
     root_string : take c.depth (bits c.key) ≡ []
@@ -122,7 +122,7 @@ module _ {K T : Type 0} (IsKey : K → Type 0) (bits : K → List Bool) (width :
         ∙ ap (listing_below s.entries) root_string ∙ listing_of_root s.entries
 
     -- is a walk
-    pub root_walk : (u : Shaped v.slots w.slots) (ps : List (Site K)) → ps ≡ c ∷ [] →
+    pub root_walk : (u : Shaped v.slots w.slots) (ps : List (KeyedSpot K)) → ps ≡ c ∷ [] →
         IsTrie width (len u.0.entries) v w u.0 × IsStack IsKey bits width v ps × ArePassed bits ps
     root_walk u ps e = (
       subst (λ (x : State T). IsTrie width (len x.entries) v w x) (same_shape v.slots w.slots s u.0 tree.shaped u.1) tree,
@@ -131,7 +131,7 @@ module _ {K T : Type 0} (IsKey : K → Type 0) (bits : K → List Bool) (width :
     )
 
     -- and has the whole listing to come
-    pub root_rest : (u : Shaped v.slots w.slots) (ps : List (Site K)) → ps ≡ c ∷ [] → (x : State T) → IsShapeOf v.slots w.slots x →
+    pub root_rest : (u : Shaped v.slots w.slots) (ps : List (KeyedSpot K)) → ps ≡ c ∷ [] → (x : State T) → IsShapeOf v.slots w.slots x →
         pending bits u.0.entries ps ≡ listing x.entries
     root_rest u ps e x is =
         ap (pending bits u.0.entries) e ∙ ap (λ (y : State T). still bits y.entries c) (same_shape v.slots w.slots u.0 s u.1 tree.shaped)

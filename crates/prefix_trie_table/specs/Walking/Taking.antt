@@ -12,7 +12,7 @@ use Rattle.prefix_trie_table.specs.Store.{Store}
 use Rattle.prefix_trie_table.specs.Forest.{read, value_of}
 use Rattle.prefix_trie_table.specs.Locations.{seat_of}
 use Rattle.prefix_trie_table.specs.Tables.{IsTrie}
-use Rattle.prefix_trie_table.specs.Walking.Walks.{Tree, Site, IsStack, pending}
+use Rattle.prefix_trie_table.specs.Walking.Walks.{Tree, KeyedSpot, IsStack, pending}
 
 -- the strings for whose values an array of nodes has a seat
 abbrev pub AreSeated : List Node → Nodes → Type 0
@@ -53,7 +53,7 @@ AreApart (k ∷ ks) = IsApart k.0 ks × AreApart ks
 
 -- the nodes are those of a table, some of whose values were taken out of their cells, but none that is still to come
 pub record IsTaking {K T : Type 0} (IsKey : K → Type 0) (bits : K → List Bool) (width : ℕ) (v : Store Node) (w : Store (Option T))
-    (keys : Nodes) (ps : List (Site K)) : Type 0 where
+    (keys : Nodes) (ps : List (KeyedSpot K)) : Type 0 where
   -- the table
   pub tree : Tree T
   pub trie : IsTrie width tree.count v tree.cells tree.shape

@@ -12,7 +12,7 @@ use Rattle.prefix_trie_table.specs.declared.table.trail.Trail.{Trail}
 use Rattle.prefix_trie_table.specs.Locations.{seat_of}
 use Rattle.prefix_trie_table.specs.Shape.{coded_node}
 use Rattle.prefix_trie_table.specs.Store.{Store}
-use Rattle.prefix_trie_table.specs.Walking.Walks.{Site, IsSpot, IsTrail, IsStack, start, pending, sites}
+use Rattle.prefix_trie_table.specs.Walking.Walks.{KeyedSpot, IsSpot, IsTrail, IsStack, start, pending, keyed_spots}
 
 -- an array of these nodes
 abbrev pub array_of : List Node → Store Node
@@ -23,8 +23,8 @@ same_level d l m e f = omega (arith, e, f)
 
 module _ {K : Type 0} where
   -- the spots of a trail, each with the key that its path begins
-  abbrev pub trail_sites : Trail K → List (Site K)
-  trail_sites trail = sites trail.key trail.stack.items
+  abbrev pub trail_sites : Trail K → List (KeyedSpot K)
+  trail_sites trail = keyed_spots trail.key trail.stack.items
 
   -- a trail stands in these nodes
   abbrev pub IsTrailIn : (K → List Bool) → ℕ → List Node → Trail K → Type 0
@@ -43,7 +43,7 @@ module _ {K : Type 0} where
     pub seated : seat_of nodes (take len (bits key)) ≡ Some seat
 
   module _ (bits : K → List Bool) (width : ℕ) (v : Store Node) where
-    spot-prop : (p : Site K) → IsProp (IsSpot (λ _. ⊤) bits width v p)
+    spot-prop : (p : KeyedSpot K) → IsProp (IsSpot (λ _. ⊤) bits width v p)
     spot-prop p x y =
         let level : x.level ≡ y.level = same_level p.depth x.level y.level x.depth_is y.depth_is in λ i. record {
           key = tt;
@@ -54,7 +54,7 @@ module _ {K : Type 0} where
           each = Π_prop (λ k. Π_prop (λ d. Π_prop (λ h a b j. (le_prop a.0 b.0 j, Coded-set coded_bool _ _ a.1 b.1 j)))) x.each y.each i;
         }
 
-    trail-prop : (n : ℕ) (ps : List (Site K)) → IsProp (IsTrail (λ _. ⊤) bits width v n ps)
+    trail-prop : (n : ℕ) (ps : List (KeyedSpot K)) → IsProp (IsTrail (λ _. ⊤) bits width v n ps)
     trail-prop n [] = λ x y i. tt
     trail-prop n (p ∷ ps) = λ x y i. (Coded-set coded_ℕ _ _ x.0 y.0 i, spot-prop p x.1 y.1 i, trail-prop (n + 5) ps x.2 y.2 i)
 

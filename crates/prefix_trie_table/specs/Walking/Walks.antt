@@ -31,19 +31,19 @@ pub record Tree (T : Type 0) : Type 0 where
   pub shape : State T
 
 -- a spot with a key that its path begins
-pub record Site (K : Type 0) : Type 0 where
+pub record KeyedSpot (K : Type 0) : Type 0 where
   pub node : Node
   pub key : K
   pub depth : ℕ
   pub places : Places
 
 -- a spot on the way of this key
-abbrev pub site : {K : Type 0} → K → Spot → Site K
-site key p = record { node = p.node; key = key; depth = p.depth; places = p.places }
+abbrev pub keyed_spot : {K : Type 0} → K → Spot → KeyedSpot K
+keyed_spot key p = record { node = p.node; key = key; depth = p.depth; places = p.places }
 
 -- spots on the way of this key
-abbrev pub sites : {K : Type 0} → K → List Spot → List (Site K)
-sites key ps = map (site key) ps
+abbrev pub keyed_spots : {K : Type 0} → K → List Spot → List (KeyedSpot K)
+keyed_spots key ps = map (keyed_spot key) ps
 
 -- the slot of a seat
 abbrev pub slot_of : Seat → ℕ
@@ -74,7 +74,7 @@ pub record SkipsLast (b : List Bool) (len : ℕ) (old new : List Spot) : Type 0 
 
 module _ {K : Type 0} where
   -- the spot is at a node of the array, and only places that the node has are still to come
-  pub record IsSpot (IsKey : K → Type 0) (bits : K → List Bool) (width : ℕ) (v : Store Node) (p : Site K) : Type 0 where
+  pub record IsSpot (IsKey : K → Type 0) (bits : K → List Bool) (width : ℕ) (v : Store Node) (p : KeyedSpot K) : Type 0 where
     pub key : IsKey p.key
     pub level : ℕ
     pub depth_is : p.depth ≡ 5 * level
@@ -83,29 +83,29 @@ module _ {K : Type 0} where
     pub each : All (IsPlaceOf p.node) (to_come p.places)
 
   -- each spot is a level below the one before, and the first is at this depth
-  abbrev pub IsTrail : (K → Type 0) → (K → List Bool) → ℕ → Store Node → ℕ → List (Site K) → Type 0
+  abbrev pub IsTrail : (K → Type 0) → (K → List Bool) → ℕ → Store Node → ℕ → List (KeyedSpot K) → Type 0
   IsTrail IsKey bits width v n [] = ⊤
   IsTrail IsKey bits width v n (p ∷ ps) = (p.depth ≡ n) × IsSpot IsKey bits width v p × IsTrail IsKey bits width v (n + 5) ps
 
   -- the depth at which a stack starts
-  abbrev pub start : List (Site K) → ℕ
+  abbrev pub start : List (KeyedSpot K) → ℕ
   start [] = 0
   start (p ∷ ps) = p.depth
 
   -- the spots stand one below the other, from any depth on
-  abbrev pub IsStack : (K → Type 0) → (K → List Bool) → ℕ → Store Node → List (Site K) → Type 0
+  abbrev pub IsStack : (K → Type 0) → (K → List Bool) → ℕ → Store Node → List (KeyedSpot K) → Type 0
   IsStack IsKey bits width v ps = IsTrail IsKey bits width v (start ps) ps
 
   -- the child on the key's way is not among the places still to come
-  abbrev pub IsPassed : (K → List Bool) → Site K → Type 0
+  abbrev pub IsPassed : (K → List Bool) → KeyedSpot K → Type 0
   IsPassed bits p = All (IsOther (take 5 (drop p.depth (bits p.key)))) (to_come p.places)
 
   -- so it is at each spot but the last: what a key that ends at the last spot begins is to come there alone
-  abbrev pub ArePassed : (K → List Bool) → List (Site K) → Type 0
+  abbrev pub ArePassed : (K → List Bool) → List (KeyedSpot K) → Type 0
   ArePassed bits ps = AllWithin (IsPassed bits) ps 0 (length ps - 1)
 
   -- the first len bits of a key end at the node of the spot
-  pub record EndsAt (bits : K → List Bool) (p : Site K) (key : K) (len : ℕ) : Type 0 where
+  pub record EndsAt (bits : K → List Bool) (p : KeyedSpot K) (key : K) (len : ℕ) : Type 0 where
     pub whole : p.depth ≤ len
     pub last : len < p.depth + 5
     pub way : take p.depth (bits key) ≡ take p.depth (bits p.key)
@@ -115,15 +115,15 @@ module _ {K : Type 0} where
     pub below : List Spot
     pub spot : Spot
     pub is : ps ≡ below ++ spot ∷ []
-    pub ends : EndsAt bits (site way spot) key len
+    pub ends : EndsAt bits (keyed_spot way spot) key len
 
   module _ {T : Type 0} where
     -- the pairs still to come at a spot
-    abbrev pub still : (K → List Bool) → Entries T → Site K → List (List Bool × T)
+    abbrev pub still : (K → List Bool) → Entries T → KeyedSpot K → List (List Bool × T)
     still bits m p = listing_at_places m (take p.depth (bits p.key)) (to_come p.places)
 
     -- the pairs still to come at a stack of spots, the last of which is the deepest
-    abbrev pub pending : (K → List Bool) → Entries T → List (Site K) → List (List Bool × T)
+    abbrev pub pending : (K → List Bool) → Entries T → List (KeyedSpot K) → List (List Bool × T)
     pending bits m [] = []
     pending bits m (p ∷ ps) = pending bits m ps ++ still bits m p
 
@@ -150,24 +150,24 @@ weight_of n [] = 1
 weight_of n (s ∷ ss) = most n + 1 + weight_of n ss
 
 -- a bound on the steps at a spot
-abbrev pub weight : {K : Type 0} → Site K → ℕ
+abbrev pub weight : {K : Type 0} → KeyedSpot K → ℕ
 weight p = weight_of ((130 - p.depth) / 5) (to_come p.places)
 
 -- a bound on the steps at a stack
-abbrev pub total_weight : {K : Type 0} → List (Site K) → ℕ
+abbrev pub total_weight : {K : Type 0} → List (KeyedSpot K) → ℕ
 total_weight [] = 0
 total_weight (p ∷ ps) = weight p + total_weight ps
 
 module _ {K T : Type 0} (IsKey : K → Type 0) (bits : K → List Bool) (width : ℕ) (v : Store Node) (t : Tree T) where
   -- a step at the spot p gave this, and left the spot q
-  abbrev pub Steps : Site K → Step K → Site K → Type 0
+  abbrev pub Steps : KeyedSpot K → Step K → KeyedSpot K → Type 0
   Steps p (Entry key len seat) q =
       GivesSeat IsKey bits width t key len seat (still bits t.shape.entries p) (still bits t.shape.entries q)
       × (weight q < weight p) × IsSpot IsKey bits width v q × (q.depth ≡ p.depth)
   Steps p (Child c key) q =
-      (still bits t.shape.entries p ≡ still bits t.shape.entries (site key c) ++ still bits t.shape.entries q)
-      × (weight (site key c) + weight q < weight p) × IsSpot IsKey bits width v q × (q.depth ≡ p.depth)
-      × IsSpot IsKey bits width v (site key c) × (c.depth ≡ p.depth + 5) × (take p.depth (bits key) ≡ take p.depth (bits p.key))
+      (still bits t.shape.entries p ≡ still bits t.shape.entries (keyed_spot key c) ++ still bits t.shape.entries q)
+      × (weight (keyed_spot key c) + weight q < weight p) × IsSpot IsKey bits width v q × (q.depth ≡ p.depth)
+      × IsSpot IsKey bits width v (keyed_spot key c) × (c.depth ≡ p.depth + 5) × (take p.depth (bits key) ≡ take p.depth (bits p.key))
   Steps p Done q = (still bits t.shape.entries p ≡ []) × (0 < weight p)
 
 -- the seat of an entry that a step gave is that of its key
@@ -177,9 +177,9 @@ IsSeated bits nodes (Child c key) = ⊤
 IsSeated bits nodes Done = ⊤
 
 -- a key that a step gave ends at its spot, and the child that it gave is passed
-abbrev pub KeepsWay : {K : Type 0} → (K → List Bool) → Site K → Step K → Spot → Type 0
+abbrev pub KeepsWay : {K : Type 0} → (K → List Bool) → KeyedSpot K → Step K → Spot → Type 0
 KeepsWay bits p (Entry key len seat) q = EndsAt bits p key len
-KeepsWay bits p (Child c key) q = IsPassed bits (site key q)
+KeepsWay bits p (Child c key) q = IsPassed bits (keyed_spot key q)
 KeepsWay bits p Done q = ⊤
 
 module _ {T : Type 0} where
@@ -194,12 +194,12 @@ module _ {T : Type 0} where
 
   module _ {K : Type 0} where
     -- a walk without arrays has nothing to come
-    abbrev pub rest_of_walk : (K → List Bool) → (arrays : Option (Bor (Store Node) × Bor (Store (Option T)))) → ShapeOf arrays → List (Site K) → List (List Bool × T)
+    abbrev pub rest_of_walk : (K → List Bool) → (arrays : Option (Bor (Store Node) × Bor (Store (Option T)))) → ShapeOf arrays → List (KeyedSpot K) → List (List Bool × T)
     rest_of_walk bits None shape ps = []
     rest_of_walk bits (Some a) shape ps = pending bits shape.0.entries ps
 
     -- the spots of a walk are those of the table in the arrays
-    abbrev pub IsWalk : (K → Type 0) → (K → List Bool) → ℕ → (arrays : Option (Bor (Store Node) × Bor (Store (Option T)))) → ShapeOf arrays → List (Site K) → Type 0
+    abbrev pub IsWalk : (K → Type 0) → (K → List Bool) → ℕ → (arrays : Option (Bor (Store Node) × Bor (Store (Option T)))) → ShapeOf arrays → List (KeyedSpot K) → Type 0
     IsWalk IsKey bits width None shape ps = ⊤
     IsWalk IsKey bits width (Some a) shape ps =
         IsTrie width (len shape.0.entries) a.0.now a.1.now shape.0 × IsStack IsKey bits width a.0.now ps × ArePassed bits ps

@@ -6,7 +6,7 @@ mod moving;
 mod removal;
 
 ghost use Rattle.std.specs.Prelude.{◌≡◌, ◌+◌, ◌*◌, ◌^◌, ◌<◌, ◌≤◌, ◌↔◌, [], ◌∷◌, List, length, take, All, map, None, IfOk, IsErr, IfErr, vec_len, slice_index_or, slice_set};
-ghost use Rattle.prefix_trie_table.specs.Store.{Store, Block, Sound, tier_at, slots_made, tier_for, no_blocks};
+ghost use Rattle.prefix_trie_table.specs.Store.{Store, UsedBlock, Sound, tier_at, slots_made, tier_for, no_blocks};
 ghost use Rattle.prefix_trie_table.specs.BlockCounts.{tier_count};
 ghost use Rattle.prefix_trie_table.specs.Cells.{blank_node, cell_sizes, node_sizes};
 ghost use Rattle.std.specs.Borrow.{sem};
@@ -122,7 +122,7 @@ impl<S: Slot, A: Allocator> Blocks<S, A> {
     pub fn at(&self, start: u32, place: u32) -> &S
         requires { start + place < length self.now.slots }
         ensures slot { result.now ≡ slice_index_or self.now.slots (start + place) result.now }
-        ensures item { (b : Block S) (live : List (Block S)) → Sound S.vacant (b ∷ live) self.now
+        ensures item { (b : UsedBlock S) (live : List (UsedBlock S)) → Sound S.vacant (b ∷ live) self.now
             → b.start ≡ start → place < length b.items
             → result.now ≡ slice_index_or b.items place result.now }
     {
@@ -135,7 +135,7 @@ impl<S: Slot, A: Allocator> Blocks<S, A> {
         requires { start + place < length self.old.slots }
         ensures* writes_back { sem 𝓛 (lends_slot S.row A.row S.Slot A.Allocator self.entry (start + place) result) }
         ensures slot { result.now ≡ slice_index_or self.old.slots (start + place) result.now }
-        ensures sound { (value : S) (b : Block S) (live : List (Block S)) → Sound S.vacant (b ∷ live) self.old
+        ensures sound { (value : S) (b : UsedBlock S) (live : List (UsedBlock S)) → Sound S.vacant (b ∷ live) self.old
             → b.start ≡ start → place < length b.items
             → Sound S.vacant (record b { items = slice_set b.items place value } ∷ live) (with_slot self.old (start + place) value) }
     {
@@ -148,10 +148,10 @@ impl<S: Slot, A: Allocator> Blocks<S, A> {
         requires { start + place < length self.old.slots }
         ensures slots { self.new ≡ record self.old { slots = slice_set self.old.slots (start + place) value } }
         ensures value { result ≡ slice_index_or self.old.slots (start + place) result }
-        ensures sound { (b : Block S) (live : List (Block S)) → Sound S.vacant (b ∷ live) self.old
+        ensures sound { (b : UsedBlock S) (live : List (UsedBlock S)) → Sound S.vacant (b ∷ live) self.old
             → b.start ≡ start → place < length b.items
             → Sound S.vacant (record b { items = slice_set b.items place value } ∷ live) self.new }
-        ensures before { (live : List (Block S)) → start + place < self.old.first
+        ensures before { (live : List (UsedBlock S)) → start + place < self.old.first
             → Sound S.vacant live self.old → Sound S.vacant live self.new }
     {
         mem::replace(&mut self.slots[start as usize + place as usize], value)

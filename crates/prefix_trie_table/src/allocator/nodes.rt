@@ -2,7 +2,7 @@
 ghost use Rattle.std.specs.Prelude.{◌≡◌, ℕ, ◌+◌, ◌-◌, ◌*◌, ◌^◌, ◌<◌, ◌≤◌, ◌↔◌, ◌⊎◌, [], ◌∷◌, ◌++◌, List, Some, IfOk, IfErr, IsOk, IsErr, IsSome, OnOk, MatchOption, All, length, map, insert, remove, slice_set};
 ghost use Rattle.prefix_trie_table.specs.BlockCounts.{tier_count};
 ghost use Rattle.prefix_trie_table.specs.Cells.{blank_node, node_at, node_sizes};
-ghost use Rattle.prefix_trie_table.specs.Store.{Store, Block, Sound, tier_at, slots_made, block, held, HasList, IsReady, tier_lacking, tier_for, no_blocks, Spends, Prepared, Enough, Keeps, Turnover, CutShort, none_at, one_at, free_at, size_in, tier_sizes, blocks_lacking, lacking_slots, blocks_entered, tier_outgrown, tier_entered, tier_left};
+ghost use Rattle.prefix_trie_table.specs.Store.{Store, UsedBlock, Sound, tier_at, slots_made, block, held, HasList, IsReady, tier_lacking, tier_for, no_blocks, Spends, Prepared, Enough, Keeps, Turnover, CutShort, none_at, one_at, free_at, size_in, tier_sizes, blocks_lacking, tier_slots_lacking, blocks_entered, tier_outgrown, tier_entered, tier_left};
 ghost use Rattle.prefix_trie_bits.specs.declared.prefix.Refusal.TheVariants.{Memory, IndexRange};
 
 use crate::allocator::block_count::BlockCount;
@@ -91,11 +91,11 @@ impl<A: Allocator, V: Drop> NodeAllocator<A, V> {
     pub fn put(&mut self, at: NodeSlot, node: Node)
         requires { at.start + at.place < length self.old.slots }
         ensures slots { self.new ≡ record self.old { slots = slice_set self.old.slots (at.start + at.place) node } }
-        ensures sound { (b : Block Node) (live : List (Block Node))
+        ensures sound { (b : UsedBlock Node) (live : List (UsedBlock Node))
             → Sound blank_node (b ∷ live) self.old
             → b.start ≡ at.start → at.place < length b.items
             → Sound blank_node (record b { items = slice_set b.items at.place node } ∷ live) self.new }
-        ensures before { (live : List (Block Node)) → at.start + at.place < self.old.first
+        ensures before { (live : List (UsedBlock Node)) → at.start + at.place < self.old.first
             → Sound blank_node live self.old → Sound blank_node live self.new }
     {
         self.blocks.put(at.start, at.place, node);
@@ -132,16 +132,16 @@ impl<A: Allocator, V: Drop> NodeAllocator<A, V> {
         ensures made { OnOk result (Turnover self.old self.new (blocks_lacking self.old.tiers k count lists) none_at none_at) }
         ensures short { IfErr result (λ e. CutShort self.old self.new (blocks_lacking self.old.tiers k count lists) (e ≡ Memory)) }
         ensures range { IfErr result (λ e. e ≡ IndexRange
-            → self.old.limit < length self.old.slots + lacking_slots self.old.tiers k count lists) }
+            → self.old.limit < length self.old.slots + tier_slots_lacking self.old.tiers k count lists) }
         ensures granted { ((j : ℕ) → blocks_lacking self.old.tiers k count lists j ≡ 0)
             → IsOk result }
         ensures unchanged { ((j : ℕ) → blocks_lacking self.old.tiers k count lists j ≡ 0)
             → self.new ≡ self.old }
         ensures bound { (most : ℕ) → All (λ size. size ≤ most) (tier_sizes self.old.tiers)
-            → lacking_slots self.old.tiers k count lists ≤ most + size_in (tier_sizes self.old.tiers) 0 * lists }
+            → tier_slots_lacking self.old.tiers k count lists ≤ most + size_in (tier_sizes self.old.tiers) 0 * lists }
         ensures enough { OnOk result (Enough self.new.tiers k count lists) }
         ensures prepared { Prepared self.old self.new }
-        ensures sound { (live : List (Block Node)) → Sound blank_node live self.old
+        ensures sound { (live : List (UsedBlock Node)) → Sound blank_node live self.old
             → Sound blank_node live self.new }
     {
         self.blocks.prepare(k, count, lists)
@@ -164,7 +164,7 @@ impl<A: Allocator, V: Drop> NodeAllocator<A, V> {
         ensures turnover { Turnover self.old self.new none_at
             (one_at (tier_lacking self.old.tiers k count)) (one_at (tier_outgrown self.old.tiers k count)) }
         ensures spends { Spends self.old self.new (tier_lacking self.old.tiers k count) }
-        ensures sound { (n : ℕ) (xs : List Node) (live : List (Block Node))
+        ensures sound { (n : ℕ) (xs : List Node) (live : List (UsedBlock Node))
             → Sound blank_node (held k start n xs ++ live) self.old → length xs ≡ count
             → Sound blank_node (block result.tier result.start (tier_at self.old.tiers result.tier).size (insert xs place node) ∷ live) self.new }
     {
@@ -186,7 +186,7 @@ impl<A: Allocator, V: Drop> NodeAllocator<A, V> {
             → 0 < free_at self.old.tiers to → result.tier ≡ to }
         ensures turnover { Turnover self.old self.new (blocks_entered self.old.tiers k count result.tier)
             (one_at (tier_entered k count result.tier)) (one_at (tier_left k count result.tier)) }
-        ensures sound { (n : ℕ) (xs : List Node) (live : List (Block Node))
+        ensures sound { (n : ℕ) (xs : List Node) (live : List (UsedBlock Node))
             → Sound blank_node (held k start n xs ++ live) self.old → length xs ≡ count
             → Sound blank_node (held result.tier result.start (tier_at self.old.tiers result.tier).size (remove xs place) ++ live) self.new }
     {

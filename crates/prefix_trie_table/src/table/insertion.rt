@@ -4,11 +4,11 @@ ghost use Rattle.prefix_trie_table.specs.declared.allocator.node.Node.{Node};
 ghost use Rattle.prefix_trie_table.specs.Bitmaps.{has_bit as is_set, rank as rank_of};
 ghost use Rattle.prefix_trie_table.specs.Cells.{blank_node, node_at, node_sizes, cell_sizes};
 ghost use Rattle.prefix_trie_table.specs.Digits.{path_of, bit_of};
-ghost use Rattle.prefix_trie_table.specs.Store.{Block, Sound, IsReady, tier_lacking, free_at, Prepared, SameRoom, SameMade};
+ghost use Rattle.prefix_trie_table.specs.Store.{UsedBlock, Sound, IsReady, tier_lacking, free_at, Prepared, SameRoom, SameMade};
 ghost use Rattle.prefix_trie_table.specs.Forest.{IsSlot, NodesHold, CellsHold, Holds, SomeTable, SomeNodes, IsNodeAt, ChildAdded, ValueSet, Deepest, entry_count, one_if};
 ghost use Rattle.prefix_trie_table.specs.Locations.{seat_in, seat_of};
 ghost use Rattle.prefix_trie_table.specs.Tables.{IsReached, HasRoom, Grows, MayPass, ForHeld, own_value, EntrySet};
-ghost use Rattle.prefix_trie_table.specs.Asked.{nodes_needed, cells_needed, AtEnd, ObtainsBoth};
+ghost use Rattle.prefix_trie_table.specs.Asked.{nodes_needed, cells_needed, AtDeepest, ObtainsBoth};
 ghost use Rattle.prefix_trie_bits.specs.declared.prefix.Refusal.TheVariants.{Memory, IndexRange};
 
 use crate::allocator::blocks::Blocks;
@@ -152,9 +152,9 @@ pub fn prepare<T: Drop, A: Allocator, V: Tick>(
         (cells_needed cells.old reached.now.node reached.now.level len) }
     ensures nodes { Prepared nodes.old nodes.new }
     ensures cells { Prepared cells.old cells.new }
-    ensures nodes_sound { (live : List (Block Node)) → Sound blank_node live nodes.old
+    ensures nodes_sound { (live : List (UsedBlock Node)) → Sound blank_node live nodes.old
         → Sound blank_node live nodes.new }
-    ensures cells_sound { (live : List (Block (Option T))) → Sound None live cells.old
+    ensures cells_sound { (live : List (UsedBlock (Option T))) → Sound None live cells.old
         → Sound None live cells.new }
 {
     let depth = 5 * reached.level;
@@ -284,7 +284,7 @@ pub fn insert_entry<K: Key, T: Drop, A: Allocator, V: Tick>(
     ensures cell_room { Grows cells.old cells.new 31 }
     ensures asked { ForHeld nodes.old cells.old (λ reading paths values.
         own_value values (K.bits key) len ≡ None
-        → AtEnd reading (K.bits key) len (λ node level.
+        → AtDeepest reading (K.bits key) len (λ node level.
         ObtainsBoth (λ refused. refused.cause ≡ IndexRange) (λ refused. refused.cause ≡ Memory)
         result nodes.old nodes.new cells.old cells.new
         (nodes_needed nodes.old node level len) (cells_needed cells.old node level len))) }

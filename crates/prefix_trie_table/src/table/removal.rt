@@ -6,7 +6,7 @@ ghost use Rattle.prefix_trie_table.specs.Cells.{blank_node, node_at, node_sizes,
 ghost use Rattle.prefix_trie_table.specs.Digits.{path_of, bit_of};
 ghost use Rattle.prefix_trie_table.specs.Store.{Sound, SameRoom, no_blocks};
 ghost use Rattle.prefix_trie_table.specs.Forest.{IsSlot, NodesHold, CellsHold, SomeTable, SomeNodes, IsNodeAt, entry_count, one_if};
-ghost use Rattle.prefix_trie_table.specs.Removals.{ValueTaken, EntryTaken, IsBare, IsStocked, GivesBack, ChildDropped, IsWay, AtEnd, Pruned, EntryRemoved};
+ghost use Rattle.prefix_trie_table.specs.Removals.{ValueTaken, EntryTaken, IsBare, IsStocked, GivesBack, ChildDropped, IsWay, StandsAtEnd, Pruned, EntryRemoved};
 ghost use Rattle.prefix_trie_table.specs.Settling.{Settles, NodesSettle};
 ghost use Rattle.prefix_trie_table.specs.Tables.{IsReached, Grows, ForHeld, own_value};
 
@@ -271,7 +271,7 @@ pub fn prune_up<K: Key, A: Allocator, V: Tick>(
     requires key { K.IsKey key }
     requires within { len ≤ K.bit_width }
     requires long { len / 5 < length way.now }
-    requires stands { AtEnd (path_of (take len (K.bits key))) way.now node nodes.old }
+    requires stands { StandsAtEnd (path_of (take len (K.bits key))) way.now node nodes.old }
     ensures room { Grows nodes.old nodes.new 24 }
     ensures settles { NodesSettle nodes.old nodes.new }
     ensures pruned { (reading : List ℕ → Option Node) (paths : List (List ℕ))

@@ -1,6 +1,6 @@
 //! Putting an item into a list.
 ghost use Rattle.std.specs.Prelude.{◌≡◌, ℕ, ◌+◌, ◌<◌, ◌≤◌, ◌∷◌, ◌++◌, List, Some, length, insert, remove, None, nat_lt, if◌then◌else◌, IsSomeAnd, MatchOption, ◌⊎◌};
-ghost use Rattle.prefix_trie_table.specs.Store.{Block, Sound, tier_at, block, InUse, tier_for, held, HasList, IsReady, tier_lacking, Spends, Turnover, none_at, one_at, many_at, tier_outgrown};
+ghost use Rattle.prefix_trie_table.specs.Store.{UsedBlock, Sound, tier_at, block, InUse, tier_for, held, HasList, IsReady, tier_lacking, Spends, Turnover, none_at, one_at, many_at, tier_outgrown};
 
 use crate::allocator::blocks::{BlockRef, Blocks};
 use crate::allocator::slots::{Slot, shift_in};
@@ -19,7 +19,7 @@ impl<S: Slot, A: Allocator> Blocks<S, A> {
         ensures turnover { Turnover self.old self.new none_at
             (one_at (tier_lacking self.old.tiers k count)) (one_at (tier_outgrown self.old.tiers k count)) }
         ensures spends { Spends self.old self.new (tier_lacking self.old.tiers k count) }
-        ensures sound { (n : ℕ) (xs : List S) (live : List (Block S))
+        ensures sound { (n : ℕ) (xs : List S) (live : List (UsedBlock S))
             → Sound S.vacant (held k start n xs ++ live) self.old → length xs ≡ count
             → Sound S.vacant (block result.tier result.start (tier_at self.old.tiers result.tier).size (insert xs place value) ∷ live) self.new }
     {
@@ -48,7 +48,7 @@ impl<S: Slot, A: Allocator> Blocks<S, A> {
             → Turnover self.old self.new none_at none_at none_at }
         ensures moved { (tier_at self.old.tiers k).size ≤ count
             → Turnover self.old self.new none_at (many_at result.tier 1) (many_at k 1) }
-        ensures sound { (n : ℕ) (xs : List S) (live : List (Block S))
+        ensures sound { (n : ℕ) (xs : List S) (live : List (UsedBlock S))
             → Sound S.vacant (block k start n xs ∷ live) self.old → length xs ≡ count
             → Sound S.vacant (block result.tier result.start (tier_at self.old.tiers result.tier).size (insert xs place value) ∷ live) self.new }
     {
@@ -78,7 +78,7 @@ impl<S: Slot, A: Allocator> Blocks<S, A> {
         requires place { place ≤ count }
         ensures spends { Spends self.old self.new (Some to) }
         ensures turned { Turnover self.old self.new none_at (many_at to 1) (many_at k 1) }
-        ensures sound { (n : ℕ) (xs : List S) (live : List (Block S))
+        ensures sound { (n : ℕ) (xs : List S) (live : List (UsedBlock S))
             → Sound S.vacant (block k outgrown n xs ∷ live) self.old → length xs ≡ count
             → Sound S.vacant (block to result (tier_at self.old.tiers to).size (insert xs place value) ∷ live) self.new }
     {
@@ -95,7 +95,7 @@ impl<S: Slot, A: Allocator> Blocks<S, A> {
         requires place { place ≤ count }
         ensures slots { self.new ≡ record self.old { slots = insert (remove self.old.slots (start + count)) (start + place) value } }
         ensures len { length self.new.slots ≡ length self.old.slots }
-        ensures sound { (b : Block S) (live : List (Block S)) → Sound S.vacant (b ∷ live) self.old
+        ensures sound { (b : UsedBlock S) (live : List (UsedBlock S)) → Sound S.vacant (b ∷ live) self.old
             → b.start ≡ start → length b.items ≡ count → count < b.size
             → Sound S.vacant (record b { items = insert b.items place value } ∷ live) self.new }
     {

@@ -1,6 +1,6 @@
 //! Making blocks, before a list takes one more item.
 ghost use Rattle.std.specs.Prelude.{◌≡◌, ℕ, ◌+◌, ◌-◌, ◌*◌, ◌^◌, ◌<◌, ◌≤◌, ◌↔◌, List, Some, length, All, IsOk, OnOk, OnErr, IfErr, IsSome};
-ghost use Rattle.prefix_trie_table.specs.Store.{Block, Sound, tier_at, grown, grown_times, tier_for, tier_lacking, tier_sizes, Prepared, Enough, Turnover, CutShort, none_at, size_in, blocks_lacking, lacking_slots};
+ghost use Rattle.prefix_trie_table.specs.Store.{UsedBlock, Sound, tier_at, grown, grown_times, tier_for, tier_lacking, tier_sizes, Prepared, Enough, Turnover, CutShort, none_at, size_in, blocks_lacking, tier_slots_lacking};
 ghost use Rattle.prefix_trie_bits.specs.declared.prefix.Refusal.TheVariants.{Memory, IndexRange};
 
 use crate::allocator::blocks::Blocks;
@@ -22,16 +22,16 @@ impl<S: Slot, A: Allocator> Blocks<S, A> {
         ensures made { OnOk result (Turnover self.old self.new (blocks_lacking self.old.tiers k count lists) none_at none_at) }
         ensures short { IfErr result (λ e. CutShort self.old self.new (blocks_lacking self.old.tiers k count lists) (e ≡ Memory)) }
         ensures range { IfErr result (λ e. e ≡ IndexRange
-            → self.old.limit < length self.old.slots + lacking_slots self.old.tiers k count lists) }
+            → self.old.limit < length self.old.slots + tier_slots_lacking self.old.tiers k count lists) }
         ensures granted { ((j : ℕ) → blocks_lacking self.old.tiers k count lists j ≡ 0)
             → IsOk result }
         ensures unchanged { ((j : ℕ) → blocks_lacking self.old.tiers k count lists j ≡ 0)
             → self.new ≡ self.old }
         ensures bound { (most : ℕ) → All (λ size. size ≤ most) (tier_sizes self.old.tiers)
-            → lacking_slots self.old.tiers k count lists ≤ most + size_in (tier_sizes self.old.tiers) 0 * lists }
+            → tier_slots_lacking self.old.tiers k count lists ≤ most + size_in (tier_sizes self.old.tiers) 0 * lists }
         ensures enough { OnOk result (Enough self.new.tiers k count lists) }
         ensures prepared { Prepared self.old self.new }
-        ensures sound { (live : List (Block S)) → Sound S.vacant live self.old
+        ensures sound { (live : List (UsedBlock S)) → Sound S.vacant live self.old
             → Sound S.vacant live self.new }
     {
         let mut singles = lists;
@@ -68,7 +68,7 @@ impl<S: Slot, A: Allocator> Blocks<S, A> {
         ensures free { OnOk result (length (tier_at self.new.tiers k).starts ≡ length (tier_at self.old.tiers k).starts + 1) }
         ensures count { length self.new.tiers ≡ length self.old.tiers }
         ensures size { (tier_at self.new.tiers k).size ≡ (tier_at self.old.tiers k).size }
-        ensures sound { (live : List (Block S)) → Sound S.vacant live self.old
+        ensures sound { (live : List (UsedBlock S)) → Sound S.vacant live self.old
             → Sound S.vacant live self.new }
     {
         let size = self.size_of(k);
@@ -100,7 +100,7 @@ impl<S: Slot, A: Allocator> Blocks<S, A> {
         ensures prepared { Prepared self.old self.new }
         ensures count { length self.new.tiers ≡ length self.old.tiers }
         ensures size { (tier_at self.new.tiers k).size ≡ (tier_at self.old.tiers k).size }
-        ensures sound { (live : List (Block S)) → Sound S.vacant live self.old
+        ensures sound { (live : List (UsedBlock S)) → Sound S.vacant live self.old
             → Sound S.vacant live self.new }
     {
         for _i in self.free_of(k)..n {

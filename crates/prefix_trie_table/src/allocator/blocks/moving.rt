@@ -1,7 +1,7 @@
 //! Taking a block, giving it back, and moving a list from one to another.
 ghost use Rattle.std.specs.Prelude.{◌≡◌, ℕ, ◌+◌, ◌<◌, ◌≤◌, [], ◌∷◌, ◌++◌, List, length};
 ghost use Rattle.prefix_trie_table.specs.Runs.{swap_runs};
-ghost use Rattle.prefix_trie_table.specs.Store.{Block, Sound, tier_at, with_tier, block, taken};
+ghost use Rattle.prefix_trie_table.specs.Store.{UsedBlock, Sound, tier_at, with_tier, block, taken};
 
 use crate::allocator::blocks::Blocks;
 use crate::allocator::slots::{Slot, exchange};
@@ -14,7 +14,7 @@ impl<S: Slot, A: Allocator> Blocks<S, A> {
         requires ready { 0 < length (tier_at self.old.tiers k).starts }
         ensures starts { (tier_at self.old.tiers k).starts ≡ (tier_at self.new.tiers k).starts ++ result ∷ [] }
         ensures value { self.new ≡ record self.old { tiers = taken self.old.tiers k } }
-        ensures sound { (live : List (Block S)) → Sound S.vacant live self.old
+        ensures sound { (live : List (UsedBlock S)) → Sound S.vacant live self.old
             → Sound S.vacant (block k result (tier_at self.old.tiers k).size [] ∷ live) self.new }
     {
         let list = &mut self.lists[k];
@@ -26,7 +26,7 @@ impl<S: Slot, A: Allocator> Blocks<S, A> {
         requires within { k < length self.old.tiers }
         requires place { length (tier_at self.old.tiers k).starts < (tier_at self.old.tiers k).made }
         ensures starts { self.new ≡ with_tier self.old k (record (tier_at self.old.tiers k) { starts = (tier_at self.old.tiers k).starts ++ start ∷ [] }) }
-        ensures sound { (live : List (Block S)) (n : ℕ)
+        ensures sound { (live : List (UsedBlock S)) (n : ℕ)
             → Sound S.vacant (block k start n [] ∷ live) self.old → Sound S.vacant live self.new }
     {
         let list = &mut self.lists[k];
@@ -39,7 +39,7 @@ impl<S: Slot, A: Allocator> Blocks<S, A> {
         requires to_within { to + count ≤ length self.old.slots }
         ensures slots { self.new ≡ record self.old { slots = swap_runs self.old.slots from to count } }
         ensures len { length self.new.slots ≡ length self.old.slots }
-        ensures sound { (a b : Block S) (live : List (Block S))
+        ensures sound { (a b : UsedBlock S) (live : List (UsedBlock S))
             → Sound S.vacant (a ∷ b ∷ live) self.old → a.start ≡ from → b.start ≡ to
             → length a.items ≡ count → b.items ≡ [] → count ≤ b.size
             → Sound S.vacant (record a { items = [] } ∷ record b { items = a.items } ∷ live) self.new }

@@ -1,6 +1,6 @@
 //! Taking an item out of a list.
 ghost use Rattle.std.specs.Prelude.{◌≡◌, ◌≢◌, ℕ, ◌+◌, ◌-◌, ◌<◌, ◌≤◌, ◌↔◌, ◌∷◌, ◌++◌, List, Some, length, insert, remove, IfSome, IfNone, IsSome, MatchOption, ◌⊎◌, slice_index_or};
-ghost use Rattle.prefix_trie_table.specs.Store.{Block, Sound, tier_at, block, InUse, tier_for, taken, held, HasList, free_at, Keeps, Turnover, none_at, one_at, many_at, tier_entered, tier_left, blocks_entered};
+ghost use Rattle.prefix_trie_table.specs.Store.{UsedBlock, Sound, tier_at, block, InUse, tier_for, taken, held, HasList, free_at, Keeps, Turnover, none_at, one_at, many_at, tier_entered, tier_left, blocks_entered};
 
 use crate::allocator::blocks::{BlockRef, Blocks};
 use crate::allocator::slots::{Slot, shift_out};
@@ -23,10 +23,10 @@ impl<S: Slot, A: Allocator> Blocks<S, A> {
             → 0 < free_at self.old.tiers to → result.1.tier ≡ to }
         ensures turnover { Turnover self.old self.new (blocks_entered self.old.tiers k count result.1.tier)
             (one_at (tier_entered k count result.1.tier)) (one_at (tier_left k count result.1.tier)) }
-        ensures value { (n : ℕ) (xs : List S) (live : List (Block S))
+        ensures value { (n : ℕ) (xs : List S) (live : List (UsedBlock S))
             → Sound S.vacant (held k start n xs ++ live) self.old → length xs ≡ count
             → result.0 ≡ slice_index_or xs place result.0 }
-        ensures sound { (n : ℕ) (xs : List S) (live : List (Block S))
+        ensures sound { (n : ℕ) (xs : List S) (live : List (UsedBlock S))
             → Sound S.vacant (held k start n xs ++ live) self.old → length xs ≡ count
             → Sound S.vacant (held result.1.tier result.1.start (tier_at self.old.tiers result.1.tier).size (remove xs place) ++ live) self.new }
     {
@@ -52,10 +52,10 @@ impl<S: Slot, A: Allocator> Blocks<S, A> {
             × Turnover self.old self.new none_at none_at none_at) }
         ensures moved { IfSome result.1 (λ p. p.tier ≢ k
             → Turnover self.old self.new (many_at p.tier (1 - free_at self.old.tiers p.tier)) (many_at p.tier 1) (many_at k 1)) }
-        ensures value { (n : ℕ) (xs : List S) (live : List (Block S))
+        ensures value { (n : ℕ) (xs : List S) (live : List (UsedBlock S))
             → Sound S.vacant (block k start n xs ∷ live) self.old → length xs ≡ count
             → result.0 ≡ slice_index_or xs place result.0 }
-        ensures sound { (n : ℕ) (xs : List S) (live : List (Block S))
+        ensures sound { (n : ℕ) (xs : List S) (live : List (UsedBlock S))
             → Sound S.vacant (block k start n xs ∷ live) self.old → length xs ≡ count
             → MatchOption result.1 (Sound S.vacant live self.new)
             (λ p. Sound S.vacant (block p.tier p.start (tier_at self.old.tiers p.tier).size (remove xs place) ∷ live) self.new) }
@@ -86,7 +86,7 @@ impl<S: Slot, A: Allocator> Blocks<S, A> {
         ensures keeps { Keeps self.old self.new }
         ensures turned { IfSome result
             (λ _. Turnover self.old self.new (many_at to (1 - free_at self.old.tiers to)) (many_at to 1) (many_at k 1)) }
-        ensures sound { IfSome result (λ new. (n : ℕ) (xs : List S) (live : List (Block S))
+        ensures sound { IfSome result (λ new. (n : ℕ) (xs : List S) (live : List (UsedBlock S))
             → Sound S.vacant (block k start n xs ∷ live) self.old → length xs ≡ count
             → Sound S.vacant (block to new (tier_at self.old.tiers to).size xs ∷ live) self.new) }
     {
@@ -104,11 +104,11 @@ impl<S: Slot, A: Allocator> Blocks<S, A> {
         requires within { start + count ≤ length self.old.slots }
         requires place { place < count }
         ensures slots { self.new ≡ record self.old { slots = insert (remove self.old.slots (start + place)) (start + count - 1) S.vacant } }
-        ensures value { (b : Block S) (live : List (Block S)) → Sound S.vacant (b ∷ live) self.old
+        ensures value { (b : UsedBlock S) (live : List (UsedBlock S)) → Sound S.vacant (b ∷ live) self.old
             → b.start ≡ start → length b.items ≡ count
             → result ≡ slice_index_or b.items place result }
         ensures len { length self.new.slots ≡ length self.old.slots }
-        ensures sound { (b : Block S) (live : List (Block S)) → Sound S.vacant (b ∷ live) self.old
+        ensures sound { (b : UsedBlock S) (live : List (UsedBlock S)) → Sound S.vacant (b ∷ live) self.old
             → b.start ≡ start → length b.items ≡ count
             → Sound S.vacant (record b { items = remove b.items place } ∷ live) self.new }
     {

@@ -2,7 +2,7 @@ use Rattle.std.proofs.Common.{◌≡◌, ◌+◌, ◌-◌, length, refl, sym, ap
 use Rattle.prefix_trie_bits.specs.Bits.{digits, zeros}
 use Rattle.prefix_trie_bits.specs.BitStrings.{length-digits}
 use Rattle.prefix_trie_table.proofs.Walk.Spots.{same_way, child_passed, place-value, place-child, place-small, place-child-small, goes_on, lighter, value_room, gives_value, value_seated, child_room, child_stands_at, child_without, child_spot, child_still, child_lighter, child_way}
-use Rattle.prefix_trie_table.specs.Walking.Walks.{site}
+use Rattle.prefix_trie_table.specs.Walking.Walks.{keyed_spot}
 use Rattle.prefix_trie_table.proofs.table.spot.next_at.Goals as goal
 
 pub string_of-n-requires : goal.string_of-n-requires
@@ -17,7 +17,7 @@ rank-requires g c =
 
 pub extend-requires-clause-within : goal.extend-requires-clause-within
 extend-requires-clause-within g c =
-    let p = site c.args.key c.args.spot.now in
+    let p = keyed_spot c.args.key c.args.spot.now in
     let at = c.requires.spot in
     let long = g.met.K.Key.key_laws.bits_length p.key at.key in
     let taken = c.in-Some.ensures.place in
@@ -29,7 +29,7 @@ extend-requires-clause-within g c =
 pub returns-in-Value-clause-step : goal.returns-in-Value-clause-step
 returns-in-Value-clause-step g c =
     λ t tree.
-    let p = site c.args.key c.args.spot.now in
+    let p = keyed_spot c.args.key c.args.spot.now in
     let at = c.requires.spot in
     let long = g.met.K.Key.key_laws.bits_length p.key at.key in
     let taken = c.in-Some.ensures.place in
@@ -42,7 +42,7 @@ returns-in-Value-clause-step g c =
 
 pub returns-in-Value-clause-seat : goal.returns-in-Value-clause-seat
 returns-in-Value-clause-seat g c =
-    let p = site c.args.key c.args.spot.now in
+    let p = keyed_spot c.args.key c.args.spot.now in
     let at = c.requires.spot in
     let long = g.met.K.Key.key_laws.bits_length p.key at.key in
     let taken = c.in-Some.ensures.place in
@@ -51,7 +51,7 @@ returns-in-Value-clause-seat g c =
 
 pub returns-in-Value-clause-way : goal.returns-in-Value-clause-way
 returns-in-Value-clause-way g c =
-    let p = site c.args.key c.args.spot.now in
+    let p = keyed_spot c.args.key c.args.spot.now in
     let at = c.requires.spot in
     let short = c.string_of-n.ensures.short in
     record {
@@ -68,7 +68,7 @@ rank-requires-in-Child g c =
 
 pub extend-below-requires-clause-within : goal.extend-below-requires-clause-within
 extend-below-requires-clause-within g c =
-    let p = site c.args.key c.args.spot.now in
+    let p = keyed_spot c.args.key c.args.spot.now in
     let at = c.requires.spot in
     let long = g.met.K.Key.key_laws.bits_length p.key at.key in
     let taken = c.in-Some.ensures.place in
@@ -82,7 +82,7 @@ extend-below-requires-clause-fits g c =
 
 pub enter-requires-clause-stands : goal.enter-requires-clause-stands
 enter-requires-clause-stands g c =
-    let p = site c.args.key c.args.spot.now in
+    let p = keyed_spot c.args.key c.args.spot.now in
     let at = c.requires.spot in
     let long = g.met.K.Key.key_laws.bits_length p.key at.key in
     let taken = c.in-Some.ensures.place in
@@ -91,7 +91,7 @@ enter-requires-clause-stands g c =
 
 pub enter-requires-clause-few : goal.enter-requires-clause-few
 enter-requires-clause-few g c =
-    let p = site c.args.key c.args.spot.now in
+    let p = keyed_spot c.args.key c.args.spot.now in
     let at = c.requires.spot in
     let long = g.met.K.Key.key_laws.bits_length p.key at.key in
     let taken = c.in-Some.ensures.place in
@@ -101,14 +101,14 @@ enter-requires-clause-few g c =
 pub returns-in-Child-clause-step : goal.returns-in-Child-clause-step
 returns-in-Child-clause-step g c =
     λ t tree.
-    let p = site c.args.key c.args.spot.now in
+    let p = keyed_spot c.args.key c.args.spot.now in
     let at = c.requires.spot in
     let long = g.met.K.Key.key_laws.bits_length p.key at.key in
     let taken = c.in-Some.ensures.place in
     let is = place-child taken.string c.in-Child.child taken.short (sym c.in-Child.is ∙ taken.place) in
     let is_key = c.extend-below.ensures.key in
     let extended = c.extend-below.ensures.value in
-    let child = site c.extend-below.result c.enter.result in (
+    let child = keyed_spot c.extend-below.result c.enter.result in (
       child_still g.K.Key.IsKey g.K.Key.bits g.K.Key.bit_width c.args.nodes.now p at long taken.string c.next_place.new.self taken.first t tree is.0 c.in-Child.child c.rank-in-Child.result is.1 c.rank-in-Child.ensures child is_key extended c.enter.ensures.depth c.enter.ensures.node c.enter.ensures.places c.enter.ensures.each,
       child_lighter g.K.Key.IsKey g.K.Key.bits g.K.Key.bit_width c.args.nodes.now p at long taken.string c.next_place.new.self taken.first t tree is.0 c.in-Child.child c.rank-in-Child.result is.1 c.rank-in-Child.ensures child is_key extended c.enter.ensures.depth c.enter.ensures.node c.enter.ensures.places c.enter.ensures.each g.met.K.Key.key_laws.at_most_128,
       goes_on g.K.Key.IsKey g.K.Key.bits g.K.Key.bit_width c.args.nodes.now p at long taken.string c.next_place.new.self taken.first,
@@ -120,7 +120,7 @@ returns-in-Child-clause-step g c =
 
 pub returns-in-Child-clause-way : goal.returns-in-Child-clause-way
 returns-in-Child-clause-way g c =
-    let p = site c.args.key c.args.spot.now in
+    let p = keyed_spot c.args.key c.args.spot.now in
     let at = c.requires.spot in
     let long = g.met.K.Key.key_laws.bits_length p.key at.key in
     let taken = c.in-Some.ensures.place in

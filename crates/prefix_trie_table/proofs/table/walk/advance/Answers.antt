@@ -6,17 +6,17 @@ use Rattle.prefix_trie_table.specs.declared.table.spot.Spot.{Spot}
 use Rattle.prefix_trie_table.specs.Digits.{path_of}
 use Rattle.prefix_trie_table.specs.Forest.{read}
 use Rattle.prefix_trie_table.specs.Store.{Store}
-use Rattle.prefix_trie_table.specs.Walking.Walks.{ArePassed, IsSpot, IsStack, pending, site, sites, total_weight}
+use Rattle.prefix_trie_table.specs.Walking.Walks.{ArePassed, IsSpot, IsStack, pending, keyed_spot, keyed_spots, total_weight}
 use Rattle.prefix_trie_table.proofs.Walk.Passing.{passed-popped, passed-put, passed-child}
-use Rattle.prefix_trie_table.proofs.Walk.Stacks.{spot-popped, stack-popped, child-room, stack-put, stack-child_way, pending-entry, pending-child_way, pending-done, weight-deeper_way, weight-popped, sites-popped}
+use Rattle.prefix_trie_table.proofs.Walk.Stacks.{spot-popped, stack-popped, child-room, stack-put, stack-child_way, pending-entry, pending-child_way, pending-done, weight-deeper_way, weight-popped, keyed_spots-popped}
 use Rattle.prefix_trie_table.proofs.table.walk.advance.Goals as goal
 
 pub next_at-requires-clause-spot : goal.next_at-requires-clause-spot
-next_at-requires-clause-spot g c = spot-popped _ _ _ (sites-popped c.loop-spot.key _ _ _ c.in-Some.ensures.last.1) g.K.Key.IsKey g.K.Key.bits g.K.Key.bit_width c.args.nodes.now c.loop-spot.invariant.stack
+next_at-requires-clause-spot g c = spot-popped _ _ _ (keyed_spots-popped c.loop-spot.key _ _ _ c.in-Some.ensures.last.1) g.K.Key.IsKey g.K.Key.bits g.K.Key.bit_width c.args.nodes.now c.loop-spot.invariant.stack
 
 -- a spot at the same node as another is that one with other places
 moved : {K : Type 0} (IsKey : K → Type 0) (bits : K → List Bool) (width : ℕ) (v : Store Node) (key : K) (p q : Spot)
-    → IsSpot IsKey bits width v (site key p) → IsSpot IsKey bits width v (site key q) → q.depth ≡ p.depth → record p { places = q.places } ≡ q
+    → IsSpot IsKey bits width v (keyed_spot key p) → IsSpot IsKey bits width v (keyed_spot key q) → q.depth ≡ p.depth → record p { places = q.places } ≡ q
 moved IsKey bits width v key p q at to same =
     let reads : Some p.node ≡ Some q.node = sym at.stands ∙ ap (λ d. read v.slots (path_of (take d (bits key)))) (sym same) ∙ to.stands in
     let node : p.node ≡ q.node = cc in
@@ -27,13 +27,13 @@ some_last : (all below : List Spot) (p : Spot) → all ≡ below ++ p ∷ [] →
 some_last all below p is = omega (arith, ap length is, length-append below (p ∷ []))
 
 module _ {K : Type 0} (IsKey : K → Type 0) (bits : K → List Bool) (width : ℕ) (v : Store Node) (key : K) (all put below : List Spot) (p q : Spot) (is : all ≡ below ++ p ∷ [])
-    (stack : IsStack IsKey bits width v (sites key all)) (depth : q.depth ≡ p.depth) (to : IsSpot IsKey bits width v (site key q))
+    (stack : IsStack IsKey bits width v (keyed_spots key all)) (depth : q.depth ≡ p.depth) (to : IsSpot IsKey bits width v (keyed_spot key q))
     (writes : (under : List Spot) (last : Spot) → all ≡ under ++ last ∷ [] → put ≡ under ++ record last { places = q.places } ∷ []) where
   -- the stack once the places of the last spot are those of the next
   put_is : put ≡ below ++ q ∷ []
   put_is =
       writes below p is ∙
-      ap (λ s. below ++ s ∷ []) (moved IsKey bits width v key p q (spot-popped _ _ _ (sites-popped key _ _ _ is) IsKey bits width v stack) to depth)
+      ap (λ s. below ++ s ∷ []) (moved IsKey bits width v key p q (spot-popped _ _ _ (keyed_spots-popped key _ _ _ is) IsKey bits width v stack) to depth)
 
 pub put_places-requires : goal.put_places-requires
 put_places-requires g c = record { some = some_last _ _ _ c.in-Some.ensures.last.1 }
@@ -42,8 +42,8 @@ pub returns-in-Entry-clause-stack : goal.returns-in-Entry-clause-stack
 returns-in-Entry-clause-stack g c =
     let h = c.in-Entry.ensures.step c.requires.tree.0 c.requires.tree.1 in
     let put = put_is g.K.Key.IsKey g.K.Key.bits g.K.Key.bit_width c.args.nodes.now c.loop-spot.key _ _ _ _ c.next_at.new.spot c.in-Some.ensures.last.1 c.loop-spot.invariant.stack h.3 h.2 c.put_places.ensures.put in
-    subst (IsStack g.K.Key.IsKey g.K.Key.bits g.K.Key.bit_width c.args.nodes.now) (sym (sites-popped c.loop-spot.key _ _ _ put))
-    (stack-put _ _ _ (sites-popped c.loop-spot.key _ _ _ c.in-Some.ensures.last.1) g.K.Key.IsKey g.K.Key.bits g.K.Key.bit_width c.args.nodes.now c.loop-spot.invariant.stack (site c.loop-spot.key c.next_at.new.spot) h.3 h.2)
+    subst (IsStack g.K.Key.IsKey g.K.Key.bits g.K.Key.bit_width c.args.nodes.now) (sym (keyed_spots-popped c.loop-spot.key _ _ _ put))
+    (stack-put _ _ _ (keyed_spots-popped c.loop-spot.key _ _ _ c.in-Some.ensures.last.1) g.K.Key.IsKey g.K.Key.bits g.K.Key.bit_width c.args.nodes.now c.loop-spot.invariant.stack (keyed_spot c.loop-spot.key c.next_at.new.spot) h.3 h.2)
 
 pub returns-in-Entry-clause-entry : goal.returns-in-Entry-clause-entry
 returns-in-Entry-clause-entry g c =
@@ -59,10 +59,10 @@ returns-in-Entry-clause-entry g c =
         is_key = h.gives.is_key;
         short = h.gives.short;
         first =
-            subst (λ ps. pending g.K.Key.bits t.shape.entries (sites c.args.key.now c.args.stack.now.items) ≡ (take c.in-Entry.len (g.K.Key.bits c.in-Entry.found), h.value) ∷ pending g.K.Key.bits t.shape.entries ps)
-            (sym (sites-popped c.loop-spot.key _ _ _ put))
+            subst (λ ps. pending g.K.Key.bits t.shape.entries (keyed_spots c.args.key.now c.args.stack.now.items) ≡ (take c.in-Entry.len (g.K.Key.bits c.in-Entry.found), h.value) ∷ pending g.K.Key.bits t.shape.entries ps)
+            (sym (keyed_spots-popped c.loop-spot.key _ _ _ put))
             (sym (c.loop-spot.invariant.same t tree)
-            ∙ pending-entry _ _ _ (sites-popped c.loop-spot.key _ _ _ c.in-Some.ensures.last.1) g.K.Key.bits t.shape.entries (site c.loop-spot.key c.next_at.new.spot) _ h.gives.first);
+            ∙ pending-entry _ _ _ (keyed_spots-popped c.loop-spot.key _ _ _ c.in-Some.ensures.last.1) g.K.Key.bits t.shape.entries (keyed_spot c.loop-spot.key c.next_at.new.spot) _ h.gives.first);
         filled = h.gives.filled;
       };
     }
@@ -71,7 +71,7 @@ pub returns-in-Entry-clause-passed : goal.returns-in-Entry-clause-passed
 returns-in-Entry-clause-passed g c = λ h.
     let step = c.in-Entry.ensures.step c.requires.tree.0 c.requires.tree.1 in
     let put = put_is g.K.Key.IsKey g.K.Key.bits g.K.Key.bit_width c.args.nodes.now c.loop-spot.key _ _ _ _ c.next_at.new.spot c.in-Some.ensures.last.1 c.loop-spot.invariant.stack step.3 step.2 c.put_places.ensures.put in
-    passed-put g.K.Key.bits _ _ _ _ _ (sites-popped c.loop-spot.key _ _ _ c.in-Some.ensures.last.1) (sites-popped c.loop-spot.key _ _ _ put)
+    passed-put g.K.Key.bits _ _ _ _ _ (keyed_spots-popped c.loop-spot.key _ _ _ c.in-Some.ensures.last.1) (keyed_spots-popped c.loop-spot.key _ _ _ put)
     (c.loop-spot.invariant.passed h)
 
 pub returns-in-Entry-clause-last : goal.returns-in-Entry-clause-last
@@ -98,8 +98,8 @@ push-requires g c =
     let h = c.in-Child.ensures.step c.requires.tree.0 c.requires.tree.1 in
     let put = put_is g.K.Key.IsKey g.K.Key.bits g.K.Key.bit_width c.args.nodes.now c.loop-spot.key _ _ _ _ c.next_at.new.spot c.in-Some.ensures.last.1 c.loop-spot.invariant.stack h.3 h.2 c.put_places-in-Child.ensures.put in
     let below = c.in-Some.ensures.last.0 in
-    let room = child-room _ _ _ (sites-popped c.loop-spot.key _ _ _ c.in-Some.ensures.last.1) g.K.Key.IsKey g.K.Key.bits g.K.Key.bit_width c.args.nodes.now c.loop-spot.invariant.stack (site c.in-Child.below c.in-Child.child) g.met.K.Key.key_laws.at_most_128 h.5 h.4 in
-    (omega arith, omega (arith, room, length-map below (site c.loop-spot.key), ap length put, length-append below (c.next_at.new.spot ∷ [])))
+    let room = child-room _ _ _ (keyed_spots-popped c.loop-spot.key _ _ _ c.in-Some.ensures.last.1) g.K.Key.IsKey g.K.Key.bits g.K.Key.bit_width c.args.nodes.now c.loop-spot.invariant.stack (keyed_spot c.in-Child.below c.in-Child.child) g.met.K.Key.key_laws.at_most_128 h.5 h.4 in
+    (omega arith, omega (arith, room, length-map below (keyed_spot c.loop-spot.key), ap length put, length-append below (c.next_at.new.spot ∷ [])))
 
 -- the spots once the last has moved on and its child is pushed
 pushed : (all put below : List Spot) (q c : Spot) → put ≡ below ++ q ∷ [] → all ≡ put ++ c ∷ [] → all ≡ (below ++ q ∷ []) ++ c ∷ []
@@ -110,7 +110,7 @@ loop-spot-smaller-in-Child g c =
     let h = c.in-Child.ensures.step c.requires.tree.0 c.requires.tree.1 in
     let put = put_is g.K.Key.IsKey g.K.Key.bits g.K.Key.bit_width c.args.nodes.now c.loop-spot.key _ _ _ _ c.next_at.new.spot c.in-Some.ensures.last.1 c.loop-spot.invariant.stack h.3 h.2 c.put_places-in-Child.ensures.put in
     let is = pushed _ _ _ _ _ put c.push.ensures.items in
-    subst (λ ps. total_weight (sites c.in-Child.below ps) < total_weight (sites c.loop-spot.key c.loop-spot.stack.items)) (sym is)
+    subst (λ ps. total_weight (keyed_spots c.in-Child.below ps) < total_weight (keyed_spots c.loop-spot.key c.loop-spot.stack.items)) (sym is)
     (weight-deeper_way g.K.Key.IsKey g.K.Key.bits g.K.Key.bit_width c.args.nodes.now c.loop-spot.key c.in-Child.below c.loop-spot.stack.items c.in-Some.ensures.last.0 c.in-Some.spot c.next_at.new.spot c.in-Child.child c.in-Some.ensures.last.1 c.loop-spot.invariant.stack h.3 h.2 h.5 h.4 h.6 h.1)
 
 pub loop-spot-preserved-in-Child : goal.loop-spot-preserved-in-Child
@@ -121,13 +121,13 @@ loop-spot-preserved-in-Child g c =
     let put = put_is g.K.Key.IsKey g.K.Key.bits g.K.Key.bit_width c.args.nodes.now c.loop-spot.key _ _ _ _ c.next_at.new.spot is c.loop-spot.invariant.stack h.3 h.2 c.put_places-in-Child.ensures.put in
     let all = pushed _ _ _ _ _ put c.push.ensures.items in
     record {
-      stack = subst (λ ps. IsStack g.K.Key.IsKey g.K.Key.bits g.K.Key.bit_width c.args.nodes.now (sites c.in-Child.below ps)) (sym all) (stack-child_way g.K.Key.IsKey g.K.Key.bits g.K.Key.bit_width c.args.nodes.now c.loop-spot.key c.in-Child.below c.loop-spot.stack.items below c.in-Some.spot c.next_at.new.spot c.in-Child.child is c.loop-spot.invariant.stack h.3 h.2 h.5 h.4 h.6);
+      stack = subst (λ ps. IsStack g.K.Key.IsKey g.K.Key.bits g.K.Key.bit_width c.args.nodes.now (keyed_spots c.in-Child.below ps)) (sym all) (stack-child_way g.K.Key.IsKey g.K.Key.bits g.K.Key.bit_width c.args.nodes.now c.loop-spot.key c.in-Child.below c.loop-spot.stack.items below c.in-Some.spot c.next_at.new.spot c.in-Child.child is c.loop-spot.invariant.stack h.3 h.2 h.5 h.4 h.6);
       same = λ t tree.
-          ap (λ ps. pending g.K.Key.bits t.shape.entries (sites c.in-Child.below ps)) all
+          ap (λ ps. pending g.K.Key.bits t.shape.entries (keyed_spots c.in-Child.below ps)) all
           ∙ pending-child_way g.K.Key.IsKey g.K.Key.bits g.K.Key.bit_width c.args.nodes.now c.loop-spot.key c.in-Child.below c.loop-spot.stack.items below c.in-Some.spot c.next_at.new.spot c.in-Child.child is c.loop-spot.invariant.stack h.3 h.2 h.5 h.4 h.6 t.shape.entries (c.in-Child.ensures.step t tree).0
           ∙ c.loop-spot.invariant.same t tree;
       passed = λ o.
-          subst (λ ps. ArePassed g.K.Key.bits (sites c.in-Child.below ps)) (sym all)
+          subst (λ ps. ArePassed g.K.Key.bits (keyed_spots c.in-Child.below ps)) (sym all)
           (passed-child g.K.Key.IsKey g.K.Key.bits g.K.Key.bit_width c.args.nodes.now c.loop-spot.key c.in-Child.below c.loop-spot.stack.items below c.in-Some.spot c.next_at.new.spot c.in-Child.child
           is c.loop-spot.invariant.stack h.6 c.in-Child.ensures.way (c.loop-spot.invariant.passed o));
     }
@@ -143,20 +143,20 @@ pub loop-spot-smaller : goal.loop-spot-smaller
 loop-spot-smaller g c =
     let h = (c.in-Done.ensures.step c.requires.tree.0 c.requires.tree.1).1 in
     let left = left_is _ _ _ _ c.in-Some.ensures.last.1 c.pop.ensures.rest in
-    subst (λ ps. total_weight (sites c.loop-spot.key ps) < total_weight (sites c.loop-spot.key c.loop-spot.stack.items)) (sym left)
-    (omega (arith, h, weight-popped _ _ _ (sites-popped c.loop-spot.key _ _ _ c.in-Some.ensures.last.1)))
+    subst (λ ps. total_weight (keyed_spots c.loop-spot.key ps) < total_weight (keyed_spots c.loop-spot.key c.loop-spot.stack.items)) (sym left)
+    (omega (arith, h, weight-popped _ _ _ (keyed_spots-popped c.loop-spot.key _ _ _ c.in-Some.ensures.last.1)))
 
 pub loop-spot-preserved : goal.loop-spot-preserved
 loop-spot-preserved g c =
-    let is = sites-popped c.loop-spot.key _ _ _ c.in-Some.ensures.last.1 in
+    let is = keyed_spots-popped c.loop-spot.key _ _ _ c.in-Some.ensures.last.1 in
     let left = left_is _ _ _ _ c.in-Some.ensures.last.1 c.pop.ensures.rest in
     record {
       stack =
-          subst (λ ps. IsStack g.K.Key.IsKey g.K.Key.bits g.K.Key.bit_width c.args.nodes.now (sites c.loop-spot.key ps)) (sym left)
+          subst (λ ps. IsStack g.K.Key.IsKey g.K.Key.bits g.K.Key.bit_width c.args.nodes.now (keyed_spots c.loop-spot.key ps)) (sym left)
           (stack-popped _ _ _ is g.K.Key.IsKey g.K.Key.bits g.K.Key.bit_width c.args.nodes.now c.loop-spot.invariant.stack);
       same = λ t tree.
-          ap (λ ps. pending g.K.Key.bits t.shape.entries (sites c.loop-spot.key ps)) left
+          ap (λ ps. pending g.K.Key.bits t.shape.entries (keyed_spots c.loop-spot.key ps)) left
           ∙ pending-done _ _ _ is g.K.Key.bits t.shape.entries (c.in-Done.ensures.step t tree).0
           ∙ c.loop-spot.invariant.same t tree;
-      passed = λ o. subst (λ ps. ArePassed g.K.Key.bits (sites c.loop-spot.key ps)) (sym left) (passed-popped g.K.Key.bits _ _ _ is (c.loop-spot.invariant.passed o));
+      passed = λ o. subst (λ ps. ArePassed g.K.Key.bits (keyed_spots c.loop-spot.key ps)) (sym left) (passed-popped g.K.Key.bits _ _ _ is (c.loop-spot.invariant.passed o));
     }
