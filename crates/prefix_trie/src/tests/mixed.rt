@@ -19,15 +19,22 @@ type Entry = (Key, u64);
 type Map = PrefixMap<Key, u64, Global>;
 
 /// The draw after this one.
-pub fn drawn(x: u64) -> u64 {
+fn drawn(x: u64) -> u64 {
     x.wrapping_mul(1_103_515_245).wrapping_add(12_345) % 0x8000_0000
 }
 
-/// A length of at most eight bits.
-pub fn length_of(draw: u64) -> u8
-    ensures { result ≤ 8 }
+/// The next call's number, and the key that it asks for; the draws are moved on.
+pub fn drawn_call(x: &mut u64) -> (u64, Key)
+    ensures { result.1.1 ≤ 8 }
 {
-    (draw % 9) as u8
+    let call = drawn(*x);
+    let number = drawn(call);
+    let len = drawn(number);
+    *x = len;
+    (
+        call / 65_536 % 1024,
+        ((number / 65_536 % 256) as u8, (len / 65_536 % 9) as u8),
+    )
 }
 
 /// The key of as many bits of this number, without host bits.
@@ -322,12 +329,7 @@ fn agrees(
 fn answer_alike(alloc: Global, map: &mut Map, list: &mut Vec<Entry>) -> Result<bool, Fail> {
     let mut x = 1;
     for index in 0..CALLS {
-        x = drawn(x);
-        let a = x / 65_536 % 1024;
-        x = drawn(x);
-        let number = (x / 65_536 % 256) as u8;
-        x = drawn(x);
-        let asked = (number, length_of(x / 65_536));
+        let (a, asked) = drawn_call(&mut x);
         if !agrees(alloc, map, list, a, asked, index)? {
             return Ok(false);
         }

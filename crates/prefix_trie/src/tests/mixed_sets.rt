@@ -1,7 +1,7 @@
 //! Mixed calls of a set, each answer compared with that of a map that is driven by the same list.
 ghost use Rattle.std.specs.Prelude.{◌≤◌};
 
-use crate::tests::mixed::{CALLS, Key, drawn, length_of};
+use crate::tests::mixed::{CALLS, Key, drawn_call};
 use crate::tests::on_new::on_new;
 use crate::{Prefix, PrefixMap, PrefixSet, Refusal};
 use std::alloc::Global;
@@ -88,12 +88,7 @@ fn agrees(map: &mut Map, set: &mut Set, a: u64, asked: Key) -> Result<bool, Fail
 fn answer_alike(map: &mut Map, set: &mut Set) -> Result<bool, Fail> {
     let mut x = 1;
     for _index in 0..CALLS {
-        x = drawn(x);
-        let a = x / 65_536 % 1024;
-        x = drawn(x);
-        let number = (x / 65_536 % 256) as u8;
-        x = drawn(x);
-        let asked = (number, length_of(x / 65_536));
+        let (a, asked) = drawn_call(&mut x);
         if !agrees(map, set, a, asked)? {
             return Ok(false);
         }
