@@ -1,4 +1,5 @@
 -- Arrays that are cut into blocks.
+pub mod SevenTiers
 pub mod Shifts
 pub mod Tilings
 pub mod RunLemmas

@@ -17,6 +17,7 @@ use Rattle.prefix_trie_table.specs.Store.{Tier, UsedBlock, Sound, Store, IsOfTie
 use Rattle.prefix_trie_table.specs.Forest.{NodesHold, CellsHold, child_items, child_blocks, child_blocks_of, value_blocks, value_blocks_of}
 use Rattle.prefix_trie_table.specs.Layouts.{Sized, free_counts, size_if_any, child_block_size, value_block_size}
 use Rattle.prefix_trie_table.proofs.Strings.Plain.{some_same}
+use Rattle.prefix_trie_table.proofs.Blocks.SevenTiers.{at_seven}
 use Rattle.prefix_trie_table.proofs.Strings.BitLists.{rank-all}
 use Rattle.prefix_trie_table.proofs.Strings.Filling.{sum-fresh}
 use Rattle.prefix_trie_table.proofs.Strings.PathStrings.{string_at, AreSteps, AreOnce, other_steps, other_once, fresh_string, paths_steps, paths_once}
@@ -78,24 +79,10 @@ abbrev AreApart : List ℕ → Type 0
 AreApart sizes = (i : ℕ) → i < 7 → position (λ m. m == size_in sizes i) sizes ≡ Some i
 
 node_sizes_apart : AreApart node_sizes
-node_sizes_apart zero h = refl
-node_sizes_apart (suc zero) h = refl
-node_sizes_apart (suc (suc zero)) h = refl
-node_sizes_apart (suc (suc (suc zero))) h = refl
-node_sizes_apart (suc (suc (suc (suc zero)))) h = refl
-node_sizes_apart (suc (suc (suc (suc (suc zero))))) h = refl
-node_sizes_apart (suc (suc (suc (suc (suc (suc zero)))))) h = refl
-node_sizes_apart (suc (suc (suc (suc (suc (suc (suc i))))))) h = absurd (omega (arith, h))
+node_sizes_apart = at_seven (λ i. position (λ m. m == size_in node_sizes i) node_sizes ≡ Some i) refl refl refl refl refl refl refl
 
 cell_sizes_apart : AreApart cell_sizes
-cell_sizes_apart zero h = refl
-cell_sizes_apart (suc zero) h = refl
-cell_sizes_apart (suc (suc zero)) h = refl
-cell_sizes_apart (suc (suc (suc zero))) h = refl
-cell_sizes_apart (suc (suc (suc (suc zero)))) h = refl
-cell_sizes_apart (suc (suc (suc (suc (suc zero))))) h = refl
-cell_sizes_apart (suc (suc (suc (suc (suc (suc zero)))))) h = refl
-cell_sizes_apart (suc (suc (suc (suc (suc (suc (suc i))))))) h = absurd (omega (arith, h))
+cell_sizes_apart = at_seven (λ i. position (λ m. m == size_in cell_sizes i) cell_sizes ≡ Some i) refl refl refl refl refl refl refl
 
 module _ (sizes : List ℕ) (apart : AreApart sizes) where
   same_tier : (t k : ℕ) → t < 7 → k < 7 → (t == k) ≡ (size_in sizes t == size_in sizes k)

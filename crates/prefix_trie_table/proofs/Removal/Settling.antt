@@ -17,6 +17,7 @@ use Rattle.prefix_trie_table.specs.Forest.{without, node_or_blank, lacking_child
 use Rattle.prefix_trie_table.specs.Shape.{IsShapeOf}
 use Rattle.prefix_trie_table.specs.Tables.{IsTable}
 use Rattle.prefix_trie_table.specs.Settling.{smaller_sizes, headroom, headroom_if_any, child_headroom, value_headroom, node_reach, cell_reach, Settles, NodesSettle}
+use Rattle.prefix_trie_table.proofs.Blocks.SevenTiers.{at_seven}
 use Rattle.prefix_trie_table.proofs.Tree.Invariant.{some_table}
 use Rattle.prefix_trie_table.proofs.Strings.BitLists.{rank-zero-all}
 use Rattle.prefix_trie_table.proofs.Tree.Trees.{listed_once}
@@ -55,53 +56,27 @@ tier-more k h = sum_by_more (λ n. n) smaller_sizes k 0 (omega (arith, h))
 -- the sizes of the seven tiers rise
 pub headroom_node : (k : ℕ) → k < 7 → headroom (size_in node_sizes k) ≡ tier_headroom k
 unfolding headroom tier_headroom
-headroom_node zero h = refl
-headroom_node (suc zero) h = refl
-headroom_node (suc (suc zero)) h = refl
-headroom_node (suc (suc (suc zero))) h = refl
-headroom_node (suc (suc (suc (suc zero)))) h = refl
-headroom_node (suc (suc (suc (suc (suc zero))))) h = refl
-headroom_node (suc (suc (suc (suc (suc (suc zero)))))) h = refl
-headroom_node (suc (suc (suc (suc (suc (suc (suc n))))))) h = absurd (omega (arith, h))
+headroom_node = at_seven (λ k. headroom (size_in node_sizes k) ≡ tier_headroom k) refl refl refl refl refl refl refl
 
 pub headroom_cell : (k : ℕ) → k < 7 → headroom (size_in cell_sizes k) ≡ tier_headroom k
 unfolding headroom tier_headroom
-headroom_cell zero h = refl
-headroom_cell (suc zero) h = refl
-headroom_cell (suc (suc zero)) h = refl
-headroom_cell (suc (suc (suc zero))) h = refl
-headroom_cell (suc (suc (suc (suc zero)))) h = refl
-headroom_cell (suc (suc (suc (suc (suc zero))))) h = refl
-headroom_cell (suc (suc (suc (suc (suc (suc zero)))))) h = refl
-headroom_cell (suc (suc (suc (suc (suc (suc (suc n))))))) h = absurd (omega (arith, h))
+headroom_cell = at_seven (λ k. headroom (size_in cell_sizes k) ≡ tier_headroom k) refl refl refl refl refl refl refl
 
 -- the sizes of nodes and of values are the same but for the largest
 pub smaller_node : (k : ℕ) → k ≤ 5 → size_in node_sizes k ≡ get_or smaller_sizes k 0
-smaller_node zero h = refl
-smaller_node (suc zero) h = refl
-smaller_node (suc (suc zero)) h = refl
-smaller_node (suc (suc (suc zero))) h = refl
-smaller_node (suc (suc (suc (suc zero)))) h = refl
-smaller_node (suc (suc (suc (suc (suc zero))))) h = refl
-smaller_node (suc (suc (suc (suc (suc (suc n)))))) h = absurd (omega (arith, h))
+smaller_node k h =
+    at_seven (λ i. i ≤ 5 → size_in node_sizes i ≡ get_or smaller_sizes i 0) (λ _. refl) (λ _. refl) (λ _. refl) (λ _. refl) (λ _. refl) (λ _. refl)
+    (λ over. absurd (omega (arith, over))) k (omega (arith, h)) h
 
 pub smaller_cell : (k : ℕ) → k ≤ 5 → size_in cell_sizes k ≡ get_or smaller_sizes k 0
-smaller_cell zero h = refl
-smaller_cell (suc zero) h = refl
-smaller_cell (suc (suc zero)) h = refl
-smaller_cell (suc (suc (suc zero))) h = refl
-smaller_cell (suc (suc (suc (suc zero)))) h = refl
-smaller_cell (suc (suc (suc (suc (suc zero))))) h = refl
-smaller_cell (suc (suc (suc (suc (suc (suc n)))))) h = absurd (omega (arith, h))
+smaller_cell k h =
+    at_seven (λ i. i ≤ 5 → size_in cell_sizes i ≡ get_or smaller_sizes i 0) (λ _. refl) (λ _. refl) (λ _. refl) (λ _. refl) (λ _. refl) (λ _. refl)
+    (λ over. absurd (omega (arith, over))) k (omega (arith, h)) h
 
 pub smaller_few : (k : ℕ) → k ≤ 5 → get_or smaller_sizes k 0 ≤ 24
-smaller_few zero h = lit≤ tt
-smaller_few (suc zero) h = lit≤ tt
-smaller_few (suc (suc zero)) h = lit≤ tt
-smaller_few (suc (suc (suc zero))) h = lit≤ tt
-smaller_few (suc (suc (suc (suc zero)))) h = lit≤ tt
-smaller_few (suc (suc (suc (suc (suc zero))))) h = lit≤ tt
-smaller_few (suc (suc (suc (suc (suc (suc n)))))) h = absurd (omega (arith, h))
+smaller_few k h =
+    at_seven (λ i. i ≤ 5 → get_or smaller_sizes i 0 ≤ 24) (λ _. lit≤ tt) (λ _. lit≤ tt) (λ _. lit≤ tt) (λ _. lit≤ tt) (λ _. lit≤ tt) (λ _. lit≤ tt)
+    (λ over. absurd (omega (arith, over))) k (omega (arith, h)) h
 
 tier-rises : (k d : ℕ) → k + d ≤ 6 → tier_headroom k ≤ tier_headroom (k + d)
 tier-rises k zero h = let e : tier_headroom (k + 0) ≡ tier_headroom k = ap tier_headroom (let z : k + 0 ≡ k = omega arith in z) in omega (arith, e)
