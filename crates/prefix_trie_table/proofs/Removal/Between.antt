@@ -143,57 +143,53 @@ values_still n m e = values_between n m (ap own_count e) (ap value_block_size e)
 pub children_still : (n m : Option Node) → m ≡ n → ChildrenBetween n m
 children_still n m e = children_between n m (ap own_children e) (ap child_block_size e)
 
+-- what holds of a node that changed, before and after, and where nothing changed, holds at each path
+module _ (P : Option Node → Option Node → Type 0) (still : (a b : Option Node) → b ≡ a → P a b) (reading : List ℕ → Option Node) (p : List ℕ) (n m : Node)
+    (is : reading p ≡ Some n) (here : P (Some n) (Some m)) where
+  where_written : (x : List ℕ) → P (reading x) (with_node reading p m x)
+  where_written x = elim (same_or x p) as (λ _. P (reading x) (with_node reading p m x)) [
+    | inl e ↦ subst (λ o. P o (with_node reading p m x)) (sym (ap reading e ∙ is)) (subst (P (Some n)) (sym (with_here reading p m x e)) here)
+    | inr ne ↦ still (reading x) (with_node reading p m x) (with_other reading p m x ne)
+  ]
+
+  -- and where its child is gone
+  where_dropped : (c : ℕ) (leaf : Node) → reading (p ++ c ∷ []) ≡ Some leaf → P (Some leaf) None → (x : List ℕ) → P (reading x) (lacking_child reading p m c x)
+  where_dropped c leaf under gone x = by (same_or x (p ++ c ∷ [])) (same_or x p)
+    where
+      by : (x ≡ p ++ c ∷ []) ⊎ (x ≢ p ++ c ∷ []) → (x ≡ p) ⊎ (x ≢ p) → P (reading x) (lacking_child reading p m c x)
+      by (inl at) other =
+          subst (λ o. P o (lacking_child reading p m c x)) (sym (ap reading at ∙ under)) (subst (P (Some leaf)) (sym (changed_below reading p m c None x at)) gone)
+      by (inr ne) (inl at) =
+          subst (λ o. P o (lacking_child reading p m c x)) (sym (ap reading at ∙ is)) (subst (P (Some n)) (sym (changed_here reading p m c None x at)) here)
+      by (inr ne) (inr other) = still (reading x) (lacking_child reading p m c x) (changed_other reading p m c None x other ne)
+
 -- where a value was taken
 module _ {T : Type 0} (reading : List ℕ → Option Node) (paths : List (List ℕ)) (values : List ℕ → ℕ → Option T) (p : List ℕ) (b : ℕ) (n m : Node)
     (v : Store Node) (w w2 : Store (Option T)) (t : ValueTaken reading paths values p b n m v w w2) (is : reading p ≡ Some n) where
   pub taken_values_between : tier_sizes w.tiers ≡ cell_sizes → (x : List ℕ) → ValuesBetween (reading x) (with_node reading p m x)
-  taken_values_between are x = elim (same_or x p) as (λ _. ValuesBetween (reading x) (with_node reading p m x)) [
-    | inl e ↦
-        subst (λ o. ValuesBetween o (with_node reading p m x)) (sym (ap reading e ∙ is))
-        (subst (λ o. ValuesBetween (Some n) o) (sym (with_here reading p m x e))
-        (between_shrunk w.tiers cell_sizes are cells_rising n.value_tier (rank n.value_bitmap 32) m.value_tier (rank m.value_bitmap 32) t.fewer t.shrinks t.fits.0 t.fits.1))
-    | inr ne ↦ values_still (reading x) (with_node reading p m x) (with_other reading p m x ne)
-  ]
+  taken_values_between are =
+      where_written ValuesBetween values_still reading p n m is
+      (between_shrunk w.tiers cell_sizes are cells_rising n.value_tier (rank n.value_bitmap 32) m.value_tier (rank m.value_bitmap 32) t.fewer t.shrinks t.fits.0 t.fits.1)
 
   pub taken_children_between : (x : List ℕ) → ChildrenBetween (reading x) (with_node reading p m x)
-  taken_children_between x = elim (same_or x p) as (λ _. ChildrenBetween (reading x) (with_node reading p m x)) [
-    | inl e ↦
-        let s = same_children n m t.children in
-        subst (λ o. ChildrenBetween o (with_node reading p m x)) (sym (ap reading e ∙ is))
-        (subst (λ o. ChildrenBetween (Some n) o) (sym (with_here reading p m x e)) (children_between (Some n) (Some m) s.0 s.1))
-    | inr ne ↦ children_still (reading x) (with_node reading p m x) (with_other reading p m x ne)
-  ]
+  taken_children_between =
+      let s = same_children n m t.children in
+      where_written ChildrenBetween children_still reading p n m is (children_between (Some n) (Some m) s.0 s.1)
 
 -- where a child was dropped
 module _ (reading : List ℕ → Option Node) (paths : List (List ℕ)) (p : List ℕ) (c : ℕ) (n m leaf : Node) (v v2 : Store Node)
     (t : ChildDropped reading paths p c n m v v2) (is : reading p ≡ Some n) (under : reading (p ++ c ∷ []) ≡ Some leaf) (bare : IsBare leaf) where
   pub dropped_values_between : (x : List ℕ) → ValuesBetween (reading x) (lacking_child reading p m c x)
-  dropped_values_between x = by (same_or x (p ++ c ∷ [])) (same_or x p)
-    where
-      by : (x ≡ p ++ c ∷ []) ⊎ (x ≢ p ++ c ∷ []) → (x ≡ p) ⊎ (x ≢ p) → ValuesBetween (reading x) (lacking_child reading p m c x)
-      by (inl at) other =
-          subst (λ o. ValuesBetween o (lacking_child reading p m c x)) (sym (ap reading at ∙ under))
-          (subst (λ o. ValuesBetween (Some leaf) o) (sym (changed_below reading p m c None x at))
-          (values_between (Some leaf) None (sym bare.no_values) (sym (values_none (Some leaf) bare.no_values))))
-      by (inr ne) (inl at) =
-          let s = same_values n m t.values in
-          subst (λ o. ValuesBetween o (lacking_child reading p m c x)) (sym (ap reading at ∙ is))
-          (subst (λ o. ValuesBetween (Some n) o) (sym (changed_here reading p m c None x at)) (values_between (Some n) (Some m) s.0 s.1))
-      by (inr ne) (inr other) = values_still (reading x) (lacking_child reading p m c x) (changed_other reading p m c None x other ne)
+  dropped_values_between =
+      let s = same_values n m t.values in
+      where_dropped ValuesBetween values_still reading p n m is (values_between (Some n) (Some m) s.0 s.1) c leaf under
+      (values_between (Some leaf) None (sym bare.no_values) (sym (values_none (Some leaf) bare.no_values)))
 
   pub dropped_children_between : tier_sizes v.tiers ≡ node_sizes → (x : List ℕ) → ChildrenBetween (reading x) (lacking_child reading p m c x)
-  dropped_children_between are x = by (same_or x (p ++ c ∷ [])) (same_or x p)
-    where
-      by : (x ≡ p ++ c ∷ []) ⊎ (x ≢ p ++ c ∷ []) → (x ≡ p) ⊎ (x ≢ p) → ChildrenBetween (reading x) (lacking_child reading p m c x)
-      by (inl at) other =
-          subst (λ o. ChildrenBetween o (lacking_child reading p m c x)) (sym (ap reading at ∙ under))
-          (subst (λ o. ChildrenBetween (Some leaf) o) (sym (changed_below reading p m c None x at))
-          (children_between (Some leaf) None (sym bare.no_children) (sym (children_none (Some leaf) bare.no_children))))
-      by (inr ne) (inl at) =
-          subst (λ o. ChildrenBetween o (lacking_child reading p m c x)) (sym (ap reading at ∙ is))
-          (subst (λ o. ChildrenBetween (Some n) o) (sym (changed_here reading p m c None x at))
-          (between_shrunk v.tiers node_sizes are nodes_rising n.child_tier (rank n.child_bitmap 32) m.child_tier (rank m.child_bitmap 32) t.fewer t.shrinks t.fits.0 t.fits.1))
-      by (inr ne) (inr other) = children_still (reading x) (lacking_child reading p m c x) (changed_other reading p m c None x other ne)
+  dropped_children_between are =
+      where_dropped ChildrenBetween children_still reading p n m is
+      (between_shrunk v.tiers node_sizes are nodes_rising n.child_tier (rank n.child_bitmap 32) m.child_tier (rank m.child_bitmap 32) t.fewer t.shrinks t.fits.0 t.fits.1)
+      c leaf under (children_between (Some leaf) None (sym bare.no_children) (sym (children_none (Some leaf) bare.no_children)))
 
 -- pruning leaves each node's values where they were, and the children of the node where it stopped in a smaller block at most
 module _ (reading : List ℕ → Option Node) (paths : List (List ℕ)) (path : List ℕ) (level : ℕ) (node : Node) (v v2 : Store Node)
