@@ -30,25 +30,6 @@ take_value-taken-requires-clause-there g c =
     has_bit-is c.args.node.value_bitmap c.value_bit_of-bit.result (omega (arith, c.value_bit_of-bit.ensures.small))
     ∙ sym c.has_bit.ensures ∙ c.if-not-has_bit.false
 
-pub overflow_sub-entries : goal.overflow_sub-entries
-overflow_sub-entries g c =
-    let t = c.requires.table.0 in
-    let there : is_set c.args.node.value_bitmap c.value_bit_of-bit.result ≡ true =
-    has_bit-is c.args.node.value_bitmap c.value_bit_of-bit.result (omega (arith, c.value_bit_of-bit.ensures.small))
-    ∙ sym c.has_bit.ensures ∙ c.if-not-has_bit.false in
-    let own = own_node (g.K.Key.bits c.args.key) c.args.len _ c.args.node c.args.nodes.now c.requires.reached c.value_bit_of-bit.result
-    c.value_bit_of-bit.ensures.value t.reading t.paths t.values c.args.cells.now t.holds in
-    let slot = own_slot (g.K.Key.bits c.args.key) c.args.len _ c.args.node c.args.nodes.now c.requires.reached c.value_bit_of-bit.result
-    c.value_bit_of-bit.ensures.value t.reading t.paths t.values c.args.cells.now t.holds in
-    let some = some_there (g.K.Key.bits c.args.key) c.args.len _ c.args.node c.args.nodes.now c.requires.reached c.value_bit_of-bit.result
-    c.value_bit_of-bit.ensures.value t.reading t.paths t.values c.args.cells.now t.holds c.take_value-taken.result.0 c.take_value-taken.result.1
-    c.take_value-taken.new.nodes c.take_value-taken.new.cells there in
-    let a = entry_taken (g.K.Key.bits c.args.key) c.args.len _ c.args.node c.args.nodes.now c.requires.reached c.value_bit_of-bit.result
-    c.value_bit_of-bit.ensures.value t.reading t.paths t.values c.args.cells.now t.holds c.take_value-taken.result.0 c.take_value-taken.result.1
-    c.take_value-taken.new.nodes c.take_value-taken.new.cells there
-    (c.take_value-taken.ensures.taken t.reading t.paths t.values _ c.args.node t.holds.hold t.holds.cells slot own) in
-    omega (arith, a.0.counted, ap one_if some, c.requires.table.1)
-
 pub returns-clause-value : goal.returns-clause-value
 returns-clause-value g c = λ reading paths values holds.
     let there : is_set c.args.node.value_bitmap c.value_bit_of-bit.result ≡ true =
@@ -76,6 +57,17 @@ returns-clause-taken g c = λ reading paths values holds.
     c.value_bit_of-bit.ensures.value reading paths values c.args.cells.now holds c.take_value-taken.result.0 c.take_value-taken.result.1
     c.take_value-taken.new.nodes c.take_value-taken.new.cells there
     (c.take_value-taken.ensures.taken reading paths values _ c.args.node holds.hold holds.cells slot own)
+
+pub overflow_sub-entries : goal.overflow_sub-entries
+overflow_sub-entries g c =
+    let t = c.requires.table.0 in
+    let there : is_set c.args.node.value_bitmap c.value_bit_of-bit.result ≡ true =
+    has_bit-is c.args.node.value_bitmap c.value_bit_of-bit.result (omega (arith, c.value_bit_of-bit.ensures.small))
+    ∙ sym c.has_bit.ensures ∙ c.if-not-has_bit.false in
+    let some = some_there (g.K.Key.bits c.args.key) c.args.len _ c.args.node c.args.nodes.now c.requires.reached c.value_bit_of-bit.result
+    c.value_bit_of-bit.ensures.value t.reading t.paths t.values c.args.cells.now t.holds c.take_value-taken.result.0 c.take_value-taken.result.1
+    c.take_value-taken.new.nodes c.take_value-taken.new.cells there in
+    omega (arith, (returns-clause-taken g c t.reading t.paths t.values t.holds).0.counted, ap one_if some, c.requires.table.1)
 
 pub returns-clause-counted : goal.returns-clause-counted
 returns-clause-counted g c =
