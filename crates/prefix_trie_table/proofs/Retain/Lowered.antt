@@ -1,5 +1,5 @@
 -- Asking below a child of a node that is at hand, and the child taken out where nothing is left.
-use Rattle.std.proofs.Common.{◌≡◌, ℕ, ◌+◌, ◌-◌, ◌/◌, ◌%◌, ◌<◌, ◌≤◌, Bool, true, false, not, ◌&&◌, List, [], ◌∷◌, ◌++◌, length, take, Option, None, Some, is_some, refl, sym, ap, ◌∙◌, subst, arith, inl, inr, length-append, append-nil, eqb-true}
+use Rattle.std.proofs.Common.{◌≡◌, ◌↔◌, ℕ, ◌+◌, ◌-◌, ◌/◌, ◌%◌, ◌<◌, ◌≤◌, Bool, true, false, not, ◌&&◌, List, [], ◌∷◌, ◌++◌, length, take, Option, None, Some, is_some, refl, sym, ap, ◌∙◌, subst, arith, inl, inr, length-append, append-nil, eqb-true}
 use Rattle.std.specs.List.{Contains}
 use Rattle.std.proofs.lemmas.Bool.{false≢true}
 use Rattle.std.specs.FinMap.{remove}
@@ -9,6 +9,8 @@ use Rattle.prefix_trie_bits.specs.BitStrings.{digits-number, length-digits, numb
 use Rattle.prefix_trie_bits.specs.Windows.{take-extend}
 use Rattle.prefix_trie_bits.specs.Order.{same_string}
 use Rattle.prefix_trie_bits.specs.Places.{has, ones_below, is_in, places}
+use Rattle.prefix_trie_bits.specs.declared.node.Place.{Place}
+use Rattle.prefix_trie_bits.specs.declared.node.Place.TheVariants.{Child as ChildPlace}
 use Rattle.prefix_trie_bits.specs.Model.Asking.{MayAskInOrder}
 use Rattle.prefix_trie_bits.specs.Model.NodeListings.{listing_at_place, listing_at_places}
 use Rattle.prefix_trie_bits.specs.Model.Selections.{listing_below}
@@ -25,7 +27,7 @@ use Rattle.prefix_trie_table.specs.Store.{Store, KeepsMade}
 use Rattle.prefix_trie_table.specs.Forest.{read, child_slot, Holds, SomeTable, IsSlot, at_child, NodesHold, entry_count, without, lacking_child}
 use Rattle.prefix_trie_table.specs.Removals.{IsBare, IsStocked, ChildDropped, Drops, none, more}
 use Rattle.prefix_trie_table.specs.Walking.Walks.{IsPlaceOf}
-use Rattle.prefix_trie_table.specs.Retaining.{IsSite, Needs, RetainsTo, Lasts, ValuesBetween, ChildrenBetween}
+use Rattle.prefix_trie_table.specs.Retaining.{HasPlace, IsSite, Needs, RetainsTo, Lasts, ValuesBetween, ChildrenBetween}
 use Rattle.prefix_trie_table.specs.Tables.{IsTrie}
 use Rattle.prefix_trie_table.proofs.Strings.Plain.{no_or_yes}
 use Rattle.prefix_trie_table.proofs.Tree.Invariant.{some_table}
@@ -42,16 +44,36 @@ use Rattle.prefix_trie_table.proofs.Removal.Settling.{Settles-nodes}
 use Rattle.prefix_trie_table.proofs.Retain.Retained.{are_nodes, read_held, here_length, here_whole, here_levels, path_levels, site_stays}
 use Rattle.prefix_trie_table.proofs.Tree.Shapes.{reads_node, shape_of, shape_entries}
 use Rattle.prefix_trie_table.specs.Shape.{IsShapeOf}
-use Rattle.prefix_trie_table.proofs.Tree.Subtrees.{child_is, child_inside, child_few, child_fits, few_at, all_places, number-small}
+use Rattle.prefix_trie_table.proofs.Tree.Subtrees.{child_is, child_inside, child_few, child_fits, few_at, all_places, is_in-child, number-small}
+use Rattle.prefix_trie_table.proofs.Walk.Spots.{place-child}
 use Rattle.prefix_trie_table.proofs.Tree.Trees.{reads}
 use Rattle.prefix_trie_table.proofs.Blocks.Turnovers.{made_then}
 
 longer_not : (s u : List Bool) → length u ≡ 5 → s ++ u ≡ s → ⊥
 longer_not s u five e = absurd (omega (arith, ap length e, length-append s u, five))
 
-module _ {K T : Type 0} (IsKey : K → Type 0) (bits : K → List Bool) (width : ℕ) (v : Store Node) (p : Site K) (n : Node) (at : IsSite IsKey bits width v p n)
-    (long : length (bits p.key) ≡ width) (count : ℕ) (w : Store (Option T)) (s : State T) (trie : IsTrie width count v w s) (c : ℕ) (t : List Bool) (five : length t ≡ 5)
-    (c_is : c ≡ number t) (set : has n.child_bitmap c ≡ true) (place : ℕ) (place_is : place ≡ ones_below c n.child_bitmap) where
+module _ {K T : Type 0} (IsKey : K → Type 0) (bits : K → List Bool) (width : ℕ) (bits_length : (k : K) → IsKey k → length (bits k) ≡ width) (v : Store Node) (p : Site K) (n : Node)
+    (at : IsSite IsKey bits width v p n) (count : ℕ) (w : Store (Option T)) (s : State T) (trie : IsTrie width count v w s) {seat : Place} (held : HasPlace n seat)
+    (c : ℕ) (child : seat ≡ ChildPlace c) (place : ℕ) (place_is : place ≡ ones_below c n.child_bitmap) where
+  long : length (bits p.key) ≡ width
+  long = bits_length p.key at.key
+
+  -- the string of the child's place
+  abbrev t : List Bool
+  t = held.string
+
+  kid : (length t ≡ 5) × (c ≡ number t)
+  kid = place-child t c held.short (sym child ∙ held.is)
+
+  five : length t ≡ 5
+  five = kid.0
+
+  c_is : c ≡ number t
+  c_is = kid.1
+
+  set : has n.child_bitmap c ≡ true
+  set = ap (has n.child_bitmap) c_is ∙ sym (is_in-child n.value_bitmap n.child_bitmap t five) ∙ held.set
+
   whole : length (take p.depth (bits p.key)) % 5 ≡ 0
   whole = here_whole IsKey bits width v p n at long
 
@@ -82,9 +104,25 @@ module _ {K T : Type 0} (IsKey : K → Type 0) (bits : K → List Bool) (width :
       ap (λ u. path_of (take p.depth (bits p.key) ++ u)) (sym (digits-number t) ∙ (λ i. digits (five i) (sym c_is i)))
       ∙ step_below (p.depth / 5) (take p.depth (bits p.key)) c (here_levels IsKey bits width v p n at long) child_small
 
+  -- the child's bit
+  pub child_there : has_bit n.child_bitmap c ≡ true
+  child_there = has_bit-is n.child_bitmap c child_small ∙ set
+
   -- the child, with its key
-  module _ (b : Site K) (is_key : IsKey b.key) (long_b : length (bits b.key) ≡ width) (extended : bits b.key ≡ take p.depth (bits p.key) ++ digits 5 c ++ zeros (width - (p.depth + 5)))
-      (depth_is : b.depth ≡ p.depth + 5) (slot_is : b.slot.start + b.slot.place ≡ n.child_block + place) (lower : Node) (lower_is : lower ≡ node_at v.slots (n.child_block + place)) where
+  module _ (key : K) (is_key : IsKey key) (extended : bits key ≡ take p.depth (bits p.key) ++ digits 5 c ++ zeros (width - (p.depth + 5)))
+      (lower : Node) (lower_is : lower ≡ node_at v.slots (n.child_block + place)) where
+    abbrev b : Site K
+    b = record { slot = record { start = n.child_block; place = place }; key = key; depth = p.depth + 5 }
+
+    depth_is : b.depth ≡ p.depth + 5
+    depth_is = refl
+
+    slot_is : b.slot.start + b.slot.place ≡ n.child_block + place
+    slot_is = refl
+
+    long_b : length (bits b.key) ≡ width
+    long_b = bits_length key is_key
+
     pub lower_string : take b.depth (bits b.key) ≡ take p.depth (bits p.key) ++ t
     lower_string =
         ap (λ d. take d (bits b.key)) depth_is ∙ take-extend (bits p.key) (bits b.key) width p.depth 5 c long lower_fits extended
@@ -104,7 +142,7 @@ module _ {K T : Type 0} (IsKey : K → Type 0) (bits : K → List Bool) (width :
           subst (λ k. IsSlot (read v.slots) (path_of (take b.depth (bits b.key))) k)
           (ap (λ k. n.child_block + k) (rank-ones n.child_bitmap c (let h = child_small in omega (arith, h)) ∙ sym place_is) ∙ sym slot_is)
           (subst (λ q. IsSlot (read v.slots) q (child_slot n c)) (sym (ap path_of lower_string ∙ way))
-          (at_child (path_of (take p.depth (bits p.key))) c n at.stands (has_bit-is n.child_bitmap c child_small ∙ set)));
+          (at_child (path_of (take p.depth (bits p.key))) c n at.stands child_there));
     }
 
     -- all that is at the place is below the child
@@ -120,7 +158,7 @@ module _ {K T : Type 0} (IsKey : K → Type 0) (bits : K → List Bool) (width :
 
     -- what the asking below left
     module _ {F : Type 0} (asks : F → List Bool → T → Bool → F → Type 0) (accepts : F → List Bool → T → Type 0) (ts : List (List Bool))
-        (all : ts ≡ places lower.value_bitmap lower.child_bitmap) (each : (u : List Bool) → Contains ts u → IsPlaceOf lower u) (every : (u : List Bool) → IsPlaceOf lower u → Contains ts u)
+        (all : ts ≡ places lower.value_bitmap lower.child_bitmap) (each : (u : List Bool) → Contains ts u ↔ IsPlaceOf lower u)
         (f g : F) (count2 : ℕ) (v2 : Store Node) (w2 : Store (Option T)) (to : RetainsTo asks accepts width (take b.depth (bits b.key)) ts f s g count2 v2 w2)
         (left : Node) (later : IsSite IsKey bits width v2 b left) (lasts : Lasts (b.depth / 5) v v2 w w2) where
       -- the node at hand did not change
@@ -159,7 +197,7 @@ module _ {K T : Type 0} (IsKey : K → Type 0) (bits : K → List Bool) (width :
 
       below_needed : (q : List Bool) → begins (take b.depth (bits b.key)) q ≡ true → (q ≡ take b.depth (bits b.key) → ⊥) → has_node to.after.nodes q ≡ true → Needs to.after.entries q
       below_needed =
-          needed_below asks accepts (take b.depth (bits b.key)) lower.value_bitmap lower.child_bitmap ts all each (λ u h k. every u (h, k)) f g s to.after to.retains unset_b bare_b whole_b trie.nodes.depths
+          needed_below asks accepts (take b.depth (bits b.key)) lower.value_bitmap lower.child_bitmap ts all (λ u m. (each u).0 m) (λ u h k. (each u).1 (h, k)) f g s to.after to.retains unset_b bare_b whole_b trie.nodes.depths
 
       -- a child with a value or a child of its own is needed
       stocked_needed : IsStocked left → Needs to.after.entries (take b.depth (bits b.key))
@@ -199,7 +237,7 @@ module _ {K T : Type 0} (IsKey : K → Type 0) (bits : K → List Bool) (width :
         after = to.after;
         trie = to.trie;
         retains =
-            child_asked asks accepts (take b.depth (bits b.key)) lower.value_bitmap lower.child_bitmap ts all each (λ u h k. every u (h, k)) f g s to.after to.retains unset_b bare_b whole_b trie.nodes.depths
+            child_asked asks accepts (take b.depth (bits b.key)) lower.value_bitmap lower.child_bitmap ts all (λ u m. (each u).0 m) (λ u h k. (each u).1 (h, k)) f g s to.after to.retains unset_b bare_b whole_b trie.nodes.depths
             (take p.depth (bits p.key)) t five lower_string to.after.nodes (λ q h. h) (λ q ne. refl) (λ there. stocked_needed some);
       }
 
@@ -299,7 +337,7 @@ module _ {K T : Type 0} (IsKey : K → Type 0) (bits : K → List Bool) (width :
           after = state3;
           trie = trie3;
           retains =
-              child_asked asks accepts (take b.depth (bits b.key)) lower.value_bitmap lower.child_bitmap ts all each (λ u h k. every u (h, k)) f g s to.after to.retains unset_b bare_b whole_b trie.nodes.depths
+              child_asked asks accepts (take b.depth (bits b.key)) lower.value_bitmap lower.child_bitmap ts all (λ u m. (each u).0 m) (λ u h k. (each u).1 (h, k)) f g s to.after to.retains unset_b bare_b whole_b trie.nodes.depths
               (take p.depth (bits p.key)) t five lower_string (remove to.after.nodes (take b.depth (bits b.key))) still_there
               (λ q ne. removed_is q ∙ ap (λ a. not a && has_node to.after.nodes q) (not_same q ne))
               (λ there. absurd (false≢true (sym (removed_is (take b.depth (bits b.key))

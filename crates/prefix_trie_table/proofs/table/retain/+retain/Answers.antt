@@ -13,7 +13,7 @@ use Rattle.prefix_trie_table.specs.Bitmaps.{has_bit}
 use Rattle.prefix_trie_table.specs.Walking.Walks.{IsPlaceOf}
 use Rattle.prefix_trie_table.proofs.Retain.Asked.{none_asked}
 use Rattle.prefix_trie_table.proofs.Strings.Bits.{has_bit-is}
-use Rattle.prefix_trie_table.proofs.Retain.Lowered.{child_small, lower_inside, lower_few, lower_fits, lower_site, may_ask_lower, still_site, still_lasts, child_stays, child_goes, site3, lasts3}
+use Rattle.prefix_trie_table.proofs.Retain.Lowered.{child_there, lower_inside, lower_few, lower_fits, lower_site, may_ask_lower, still_site, still_lasts, child_stays, child_goes, site3, lasts3}
 use Rattle.prefix_trie_table.proofs.Lookup.Matching.{clear-small}
 use Rattle.prefix_trie_table.proofs.Retain.Placed.{same_place}
 use Rattle.prefix_trie_table.proofs.Retain.Retained.{site_holds, site_node}
@@ -34,11 +34,7 @@ retain_place-rank-requires g t c =
 
 pub retain_place-extend-requires-clause-within : goal.retain_place-extend-requires-clause-within
 retain_place-extend-requires-clause-within g t c =
-    let place = c.requires.place in
-    let kid = place-child place.string c.in-Child.child place.short (sym c.in-Child.is ∙ place.is) in
-    let set = ap (has c.args.node.child_bitmap) kid.1 ∙ sym (is_in-child c.args.node.value_bitmap c.args.node.child_bitmap place.string kid.0) ∙ place.set in
-    let long = g.met.K.Key.key_laws.bits_length c.args.site.key c.requires.site.key in
-    lower_fits g.K.Key.IsKey g.K.Key.bits g.K.Key.bit_width c.args.nodes.now c.args.site c.args.node c.requires.site long c.args.entries.now c.args.cells.now c.requires.trie.0 c.requires.trie.1 c.in-Child.child place.string kid.0 kid.1 set c.rank.result c.rank.ensures
+    lower_fits g.K.Key.IsKey g.K.Key.bits g.K.Key.bit_width g.met.K.Key.key_laws.bits_length c.args.nodes.now c.args.site c.args.node c.requires.site c.args.entries.now c.args.cells.now c.requires.trie.0 c.requires.trie.1 c.requires.place c.in-Child.child c.in-Child.is c.rank.result c.rank.ensures
 
 pub retain_place-extend-requires-clause-fits : goal.retain_place-extend-requires-clause-fits
 retain_place-extend-requires-clause-fits g t c =
@@ -47,27 +43,16 @@ retain_place-extend-requires-clause-fits g t c =
 
 pub retain_place-visit-lower-requires : goal.retain_place-visit-lower-requires
 retain_place-visit-lower-requires g t c =
-    let place = c.requires.place in
-    let kid = place-child place.string c.in-Child.child place.short (sym c.in-Child.is ∙ place.is) in
-    let set = ap (has c.args.node.child_bitmap) kid.1 ∙ sym (is_in-child c.args.node.value_bitmap c.args.node.child_bitmap place.string kid.0) ∙ place.set in
-    let long = g.met.K.Key.key_laws.bits_length c.args.site.key c.requires.site.key in
-    lower_inside g.K.Key.IsKey g.K.Key.bits g.K.Key.bit_width c.args.nodes.now c.args.site c.args.node c.requires.site long c.args.entries.now c.args.cells.now c.requires.trie.0 c.requires.trie.1 c.in-Child.child place.string kid.0 kid.1 set c.rank.result c.rank.ensures
+    lower_inside g.K.Key.IsKey g.K.Key.bits g.K.Key.bit_width g.met.K.Key.key_laws.bits_length c.args.nodes.now c.args.site c.args.node c.requires.site c.args.entries.now c.args.cells.now c.requires.trie.0 c.requires.trie.1 c.requires.place c.in-Child.child c.in-Child.is c.rank.result c.rank.ensures
 
 pub retain_place-new-places-requires : goal.retain_place-new-places-requires
 retain_place-new-places-requires g t c =
-    let place = c.requires.place in
-    let kid = place-child place.string c.in-Child.child place.short (sym c.in-Child.is ∙ place.is) in
-    let set = ap (has c.args.node.child_bitmap) kid.1 ∙ sym (is_in-child c.args.node.value_bitmap c.args.node.child_bitmap place.string kid.0) ∙ place.set in
-    let long = g.met.K.Key.key_laws.bits_length c.args.site.key c.requires.site.key in
-    clear-small c.visit-lower.result.value_bitmap (omega arith) (ap (λ n. has_bit n.value_bitmap 31) c.visit-lower.ensures.node ∙ lower_few g.K.Key.IsKey g.K.Key.bits g.K.Key.bit_width c.args.nodes.now c.args.site c.args.node c.requires.site long c.args.entries.now c.args.cells.now c.requires.trie.0 c.requires.trie.1 c.in-Child.child place.string kid.0 kid.1 set c.rank.result c.rank.ensures)
+    clear-small c.visit-lower.result.value_bitmap (omega arith) (ap (λ n. has_bit n.value_bitmap 31) c.visit-lower.ensures.node ∙ lower_few g.K.Key.IsKey g.K.Key.bits g.K.Key.bit_width g.met.K.Key.key_laws.bits_length c.args.nodes.now c.args.site c.args.node c.requires.site c.args.entries.now c.args.cells.now c.requires.trie.0 c.requires.trie.1 c.requires.place c.in-Child.child c.in-Child.is c.rank.result c.rank.ensures)
 
 pub retain_place-retain_places-left-requires : goal.retain_place-retain_places-left-requires
 retain_place-retain_places-left-requires g t c κs within =
     let place = c.requires.place in
-    let kid = place-child place.string c.in-Child.child place.short (sym c.in-Child.is ∙ place.is) in
-    let set = ap (has c.args.node.child_bitmap) kid.1 ∙ sym (is_in-child c.args.node.value_bitmap c.args.node.child_bitmap place.string kid.0) ∙ place.set in
-    let long = g.met.K.Key.key_laws.bits_length c.args.site.key c.requires.site.key in
-    let fits = lower_fits g.K.Key.IsKey g.K.Key.bits g.K.Key.bit_width c.args.nodes.now c.args.site c.args.node c.requires.site long c.args.entries.now c.args.cells.now c.requires.trie.0 c.requires.trie.1 c.in-Child.child place.string kid.0 kid.1 set c.rank.result c.rank.ensures in (
+    let fits = lower_fits g.K.Key.IsKey g.K.Key.bits g.K.Key.bit_width g.met.K.Key.key_laws.bits_length c.args.nodes.now c.args.site c.args.node c.requires.site c.args.entries.now c.args.cells.now c.requires.trie.0 c.requires.trie.1 c.requires.place c.in-Child.child c.in-Child.is c.rank.result c.rank.ensures in (
       omega (arith, fits),
       (
         within.0,
@@ -82,12 +67,12 @@ retain_place-retain_places-left-requires g t c κs within =
                 (
                   c.requires.trie,
                   (
-                    lower_site g.K.Key.IsKey g.K.Key.bits g.K.Key.bit_width c.args.nodes.now c.args.site c.args.node c.requires.site long c.args.entries.now c.args.cells.now c.requires.trie.0 c.requires.trie.1 c.in-Child.child place.string kid.0 kid.1 set c.rank.result c.rank.ensures (record { slot = record { start = c.args.node.child_block; place = c.rank.result }; key = c.extend.result; depth = c.args.site.depth + 5 }) c.extend.ensures.key (g.met.K.Key.key_laws.bits_length c.extend.result c.extend.ensures.key) c.extend.ensures.value refl refl c.visit-lower.result c.visit-lower.ensures.node,
+                    lower_site g.K.Key.IsKey g.K.Key.bits g.K.Key.bit_width g.met.K.Key.key_laws.bits_length c.args.nodes.now c.args.site c.args.node c.requires.site c.args.entries.now c.args.cells.now c.requires.trie.0 c.requires.trie.1 c.requires.place c.in-Child.child c.in-Child.is c.rank.result c.rank.ensures c.extend.result c.extend.ensures.key c.extend.ensures.value c.visit-lower.result c.visit-lower.ensures.node,
                     (
                       All-weaker (Contains (to_come c.new-places.result)) (IsPlaceOf c.visit-lower.result) (λ u m. (c.new-places.ensures.each u).0 m) (to_come c.new-places.result)
                           (All-contains_itself (to_come c.new-places.result)),
                       λ x h.
-                          may_ask_lower g.K.Key.IsKey g.K.Key.bits g.K.Key.bit_width c.args.nodes.now c.args.site c.args.node c.requires.site long c.args.entries.now c.args.cells.now x h c.in-Child.child place.string kid.0 kid.1 set c.rank.result c.rank.ensures (record { slot = record { start = c.args.node.child_block; place = c.rank.result }; key = c.extend.result; depth = c.args.site.depth + 5 }) c.extend.ensures.key (g.met.K.Key.key_laws.bits_length c.extend.result c.extend.ensures.key) c.extend.ensures.value refl refl c.visit-lower.result c.visit-lower.ensures.node g.F.Keep.asks g.F.Keep.accepts c.args.keep.now (to_come c.new-places.result) c.new-places.ensures.places
+                          may_ask_lower g.K.Key.IsKey g.K.Key.bits g.K.Key.bit_width g.met.K.Key.key_laws.bits_length c.args.nodes.now c.args.site c.args.node c.requires.site c.args.entries.now c.args.cells.now x h c.requires.place c.in-Child.child c.in-Child.is c.rank.result c.rank.ensures c.extend.result c.extend.ensures.key c.extend.ensures.value c.visit-lower.result c.visit-lower.ensures.node g.F.Keep.asks g.F.Keep.accepts c.args.keep.now (to_come c.new-places.result) c.new-places.ensures.places
                           (c.requires.may_ask place.string place.short place.is x h),
                     ),
                   ),
@@ -106,22 +91,16 @@ retain_place-drop_child-requires-clause-child g t c =
 
 pub retain_place-drop_child-requires-clause-stands : goal.retain_place-drop_child-requires-clause-stands
 retain_place-drop_child-requires-clause-stands g t c =
-    let place = c.requires.place in
-    let kid = place-child place.string c.in-Child.child place.short (sym c.in-Child.is ∙ place.is) in
-    let set = ap (has c.args.node.child_bitmap) kid.1 ∙ sym (is_in-child c.args.node.value_bitmap c.args.node.child_bitmap place.string kid.0) ∙ place.set in
     let long = g.met.K.Key.key_laws.bits_length c.args.site.key c.requires.site.key in
     let to = c.retain_places-left.ensures.retains c.requires.trie.0 c.requires.trie.1 in
-    site_node g.K.Key.IsKey g.K.Key.bits g.K.Key.bit_width c.retain_places-left.new.nodes c.args.site c.args.node (still_site g.K.Key.IsKey g.K.Key.bits g.K.Key.bit_width c.args.nodes.now c.args.site c.args.node c.requires.site long c.args.entries.now c.args.cells.now c.requires.trie.0 c.requires.trie.1 c.in-Child.child place.string kid.0 kid.1 set c.rank.result c.rank.ensures (record { slot = record { start = c.args.node.child_block; place = c.rank.result }; key = c.extend.result; depth = c.args.site.depth + 5 }) c.extend.ensures.key (g.met.K.Key.key_laws.bits_length c.extend.result c.extend.ensures.key) c.extend.ensures.value refl refl c.visit-lower.result c.visit-lower.ensures.node g.F.Keep.asks g.F.Keep.accepts (to_come c.new-places.result) c.new-places.ensures.places (λ u m. (c.new-places.ensures.each u).0 m) (λ u m. (c.new-places.ensures.each u).1 m) c.args.keep.now c.retain_places-left.new.keep c.retain_places-left.new.entries c.retain_places-left.new.nodes c.retain_places-left.new.cells (c.retain_places-left.ensures.retains c.requires.trie.0 c.requires.trie.1) c.retain_places-left.result c.retain_places-left.ensures.node c.retain_places-left.ensures.lasts) long c.retain_places-left.new.entries c.retain_places-left.new.cells to.after to.trie
+    site_node g.K.Key.IsKey g.K.Key.bits g.K.Key.bit_width c.retain_places-left.new.nodes c.args.site c.args.node (still_site g.K.Key.IsKey g.K.Key.bits g.K.Key.bit_width g.met.K.Key.key_laws.bits_length c.args.nodes.now c.args.site c.args.node c.requires.site c.args.entries.now c.args.cells.now c.requires.trie.0 c.requires.trie.1 c.requires.place c.in-Child.child c.in-Child.is c.rank.result c.rank.ensures c.extend.result c.extend.ensures.key c.extend.ensures.value c.visit-lower.result c.visit-lower.ensures.node g.F.Keep.asks g.F.Keep.accepts (to_come c.new-places.result) c.new-places.ensures.places c.new-places.ensures.each c.args.keep.now c.retain_places-left.new.keep c.retain_places-left.new.entries c.retain_places-left.new.nodes c.retain_places-left.new.cells (c.retain_places-left.ensures.retains c.requires.trie.0 c.requires.trie.1) c.retain_places-left.result c.retain_places-left.ensures.node c.retain_places-left.ensures.lasts) long c.retain_places-left.new.entries c.retain_places-left.new.cells to.after to.trie
 
 pub retain_place-drop_child-requires-clause-there : goal.retain_place-drop_child-requires-clause-there
 retain_place-drop_child-requires-clause-there g t c =
-    let place = c.requires.place in
-    let kid = place-child place.string c.in-Child.child place.short (sym c.in-Child.is ∙ place.is) in
-    let set = ap (has c.args.node.child_bitmap) kid.1 ∙ sym (is_in-child c.args.node.value_bitmap c.args.node.child_bitmap place.string kid.0) ∙ place.set in
     let long = g.met.K.Key.key_laws.bits_length c.args.site.key c.requires.site.key in
     let to = c.retain_places-left.ensures.retains c.requires.trie.0 c.requires.trie.1 in
-    let held = site_holds g.K.Key.IsKey g.K.Key.bits g.K.Key.bit_width c.retain_places-left.new.nodes c.args.site c.args.node (still_site g.K.Key.IsKey g.K.Key.bits g.K.Key.bit_width c.args.nodes.now c.args.site c.args.node c.requires.site long c.args.entries.now c.args.cells.now c.requires.trie.0 c.requires.trie.1 c.in-Child.child place.string kid.0 kid.1 set c.rank.result c.rank.ensures (record { slot = record { start = c.args.node.child_block; place = c.rank.result }; key = c.extend.result; depth = c.args.site.depth + 5 }) c.extend.ensures.key (g.met.K.Key.key_laws.bits_length c.extend.result c.extend.ensures.key) c.extend.ensures.value refl refl c.visit-lower.result c.visit-lower.ensures.node g.F.Keep.asks g.F.Keep.accepts (to_come c.new-places.result) c.new-places.ensures.places (λ u m. (c.new-places.ensures.each u).0 m) (λ u m. (c.new-places.ensures.each u).1 m) c.args.keep.now c.retain_places-left.new.keep c.retain_places-left.new.entries c.retain_places-left.new.nodes c.retain_places-left.new.cells (c.retain_places-left.ensures.retains c.requires.trie.0 c.requires.trie.1) c.retain_places-left.result c.retain_places-left.ensures.node c.retain_places-left.ensures.lasts) long c.retain_places-left.new.entries c.retain_places-left.new.cells to.after to.trie in
-    ap (λ n. has_bit n.child_bitmap c.in-Child.child) held.0 ∙ has_bit-is c.args.node.child_bitmap c.in-Child.child (child_small g.K.Key.IsKey g.K.Key.bits g.K.Key.bit_width c.args.nodes.now c.args.site c.args.node c.requires.site long c.args.entries.now c.args.cells.now c.requires.trie.0 c.requires.trie.1 c.in-Child.child place.string kid.0 kid.1 set c.rank.result c.rank.ensures) ∙ set
+    let held = site_holds g.K.Key.IsKey g.K.Key.bits g.K.Key.bit_width c.retain_places-left.new.nodes c.args.site c.args.node (still_site g.K.Key.IsKey g.K.Key.bits g.K.Key.bit_width g.met.K.Key.key_laws.bits_length c.args.nodes.now c.args.site c.args.node c.requires.site c.args.entries.now c.args.cells.now c.requires.trie.0 c.requires.trie.1 c.requires.place c.in-Child.child c.in-Child.is c.rank.result c.rank.ensures c.extend.result c.extend.ensures.key c.extend.ensures.value c.visit-lower.result c.visit-lower.ensures.node g.F.Keep.asks g.F.Keep.accepts (to_come c.new-places.result) c.new-places.ensures.places c.new-places.ensures.each c.args.keep.now c.retain_places-left.new.keep c.retain_places-left.new.entries c.retain_places-left.new.nodes c.retain_places-left.new.cells (c.retain_places-left.ensures.retains c.requires.trie.0 c.requires.trie.1) c.retain_places-left.result c.retain_places-left.ensures.node c.retain_places-left.ensures.lasts) long c.retain_places-left.new.entries c.retain_places-left.new.cells to.after to.trie in
+    ap (λ n. has_bit n.child_bitmap c.in-Child.child) held.0 ∙ child_there g.K.Key.IsKey g.K.Key.bits g.K.Key.bit_width g.met.K.Key.key_laws.bits_length c.args.nodes.now c.args.site c.args.node c.requires.site c.args.entries.now c.args.cells.now c.requires.trie.0 c.requires.trie.1 c.requires.place c.in-Child.child c.in-Child.is c.rank.result c.rank.ensures
 
 pub retain_place-returns-in-Value-clause-retains : goal.retain_place-returns-in-Value-clause-retains
 retain_place-returns-in-Value-clause-retains g t c = λ u few is x h.
@@ -131,54 +110,32 @@ retain_place-returns-in-Value-clause-retains g t c = λ u few is x h.
 pub retain_place-returns-then-is_bare-clause-retains : goal.retain_place-returns-then-is_bare-clause-retains
 retain_place-returns-then-is_bare-clause-retains g t c = λ u few is x h.
     let place = c.requires.place in
-    let kid = place-child place.string c.in-Child.child place.short (sym c.in-Child.is ∙ place.is) in
-    let set = ap (has c.args.node.child_bitmap) kid.1 ∙ sym (is_in-child c.args.node.value_bitmap c.args.node.child_bitmap place.string kid.0) ∙ place.set in
-    let long = g.met.K.Key.key_laws.bits_length c.args.site.key c.requires.site.key in
     subst (λ r. RetainsTo g.F.Keep.asks g.F.Keep.accepts g.K.Key.bit_width (take c.args.site.depth (g.K.Key.bits c.args.site.key)) (r ∷ []) c.args.keep.now x c.retain_places-left.new.keep c.retain_places-left.new.entries c.drop_child.new.nodes c.retain_places-left.new.cells)
     (same_place place.string u place.short few (sym place.is ∙ is))
-    (child_goes g.K.Key.IsKey g.K.Key.bits g.K.Key.bit_width c.args.nodes.now c.args.site c.args.node c.requires.site long c.args.entries.now c.args.cells.now x h c.in-Child.child place.string kid.0 kid.1 set c.rank.result c.rank.ensures (record { slot = record { start = c.args.node.child_block; place = c.rank.result }; key = c.extend.result; depth = c.args.site.depth + 5 }) c.extend.ensures.key (g.met.K.Key.key_laws.bits_length c.extend.result c.extend.ensures.key) c.extend.ensures.value refl refl c.visit-lower.result c.visit-lower.ensures.node g.F.Keep.asks g.F.Keep.accepts (to_come c.new-places.result) c.new-places.ensures.places (λ u m. (c.new-places.ensures.each u).0 m) (λ u m. (c.new-places.ensures.each u).1 m) c.args.keep.now c.retain_places-left.new.keep c.retain_places-left.new.entries c.retain_places-left.new.nodes c.retain_places-left.new.cells (c.retain_places-left.ensures.retains x h) c.retain_places-left.result c.retain_places-left.ensures.node c.retain_places-left.ensures.lasts (c.is_bare.ensures.bare c.if-is_bare.true) c.drop_child.result c.drop_child.new.nodes c.drop_child.ensures.dropped c.drop_child.ensures.room.limit_is c.drop_child.ensures.room.longer c.drop_child.ensures.room.within)
+    (child_goes g.K.Key.IsKey g.K.Key.bits g.K.Key.bit_width g.met.K.Key.key_laws.bits_length c.args.nodes.now c.args.site c.args.node c.requires.site c.args.entries.now c.args.cells.now x h c.requires.place c.in-Child.child c.in-Child.is c.rank.result c.rank.ensures c.extend.result c.extend.ensures.key c.extend.ensures.value c.visit-lower.result c.visit-lower.ensures.node g.F.Keep.asks g.F.Keep.accepts (to_come c.new-places.result) c.new-places.ensures.places c.new-places.ensures.each c.args.keep.now c.retain_places-left.new.keep c.retain_places-left.new.entries c.retain_places-left.new.nodes c.retain_places-left.new.cells (c.retain_places-left.ensures.retains x h) c.retain_places-left.result c.retain_places-left.ensures.node c.retain_places-left.ensures.lasts (c.is_bare.ensures.bare c.if-is_bare.true) c.drop_child.result c.drop_child.new.nodes c.drop_child.ensures.dropped c.drop_child.ensures.room.limit_is c.drop_child.ensures.room.longer c.drop_child.ensures.room.within)
 
 pub retain_place-returns-then-is_bare-clause-node : goal.retain_place-returns-then-is_bare-clause-node
 retain_place-returns-then-is_bare-clause-node g t c =
-    let place = c.requires.place in
-    let kid = place-child place.string c.in-Child.child place.short (sym c.in-Child.is ∙ place.is) in
-    let set = ap (has c.args.node.child_bitmap) kid.1 ∙ sym (is_in-child c.args.node.value_bitmap c.args.node.child_bitmap place.string kid.0) ∙ place.set in
-    let long = g.met.K.Key.key_laws.bits_length c.args.site.key c.requires.site.key in
-    site3 g.K.Key.IsKey g.K.Key.bits g.K.Key.bit_width c.args.nodes.now c.args.site c.args.node c.requires.site long c.args.entries.now c.args.cells.now c.requires.trie.0 c.requires.trie.1 c.in-Child.child place.string kid.0 kid.1 set c.rank.result c.rank.ensures (record { slot = record { start = c.args.node.child_block; place = c.rank.result }; key = c.extend.result; depth = c.args.site.depth + 5 }) c.extend.ensures.key (g.met.K.Key.key_laws.bits_length c.extend.result c.extend.ensures.key) c.extend.ensures.value refl refl c.visit-lower.result c.visit-lower.ensures.node g.F.Keep.asks g.F.Keep.accepts (to_come c.new-places.result) c.new-places.ensures.places (λ u m. (c.new-places.ensures.each u).0 m) (λ u m. (c.new-places.ensures.each u).1 m) c.args.keep.now c.retain_places-left.new.keep c.retain_places-left.new.entries c.retain_places-left.new.nodes c.retain_places-left.new.cells (c.retain_places-left.ensures.retains c.requires.trie.0 c.requires.trie.1) c.retain_places-left.result c.retain_places-left.ensures.node c.retain_places-left.ensures.lasts (c.is_bare.ensures.bare c.if-is_bare.true) c.drop_child.result c.drop_child.new.nodes c.drop_child.ensures.dropped c.drop_child.ensures.room.limit_is c.drop_child.ensures.room.longer c.drop_child.ensures.room.within
+    site3 g.K.Key.IsKey g.K.Key.bits g.K.Key.bit_width g.met.K.Key.key_laws.bits_length c.args.nodes.now c.args.site c.args.node c.requires.site c.args.entries.now c.args.cells.now c.requires.trie.0 c.requires.trie.1 c.requires.place c.in-Child.child c.in-Child.is c.rank.result c.rank.ensures c.extend.result c.extend.ensures.key c.extend.ensures.value c.visit-lower.result c.visit-lower.ensures.node g.F.Keep.asks g.F.Keep.accepts (to_come c.new-places.result) c.new-places.ensures.places c.new-places.ensures.each c.args.keep.now c.retain_places-left.new.keep c.retain_places-left.new.entries c.retain_places-left.new.nodes c.retain_places-left.new.cells (c.retain_places-left.ensures.retains c.requires.trie.0 c.requires.trie.1) c.retain_places-left.result c.retain_places-left.ensures.node c.retain_places-left.ensures.lasts (c.is_bare.ensures.bare c.if-is_bare.true) c.drop_child.result c.drop_child.new.nodes c.drop_child.ensures.dropped c.drop_child.ensures.room.limit_is c.drop_child.ensures.room.longer c.drop_child.ensures.room.within
 
 pub retain_place-returns-then-is_bare-clause-lasts : goal.retain_place-returns-then-is_bare-clause-lasts
 retain_place-returns-then-is_bare-clause-lasts g t c =
-    let place = c.requires.place in
-    let kid = place-child place.string c.in-Child.child place.short (sym c.in-Child.is ∙ place.is) in
-    let set = ap (has c.args.node.child_bitmap) kid.1 ∙ sym (is_in-child c.args.node.value_bitmap c.args.node.child_bitmap place.string kid.0) ∙ place.set in
-    let long = g.met.K.Key.key_laws.bits_length c.args.site.key c.requires.site.key in
-    lasts3 g.K.Key.IsKey g.K.Key.bits g.K.Key.bit_width c.args.nodes.now c.args.site c.args.node c.requires.site long c.args.entries.now c.args.cells.now c.requires.trie.0 c.requires.trie.1 c.in-Child.child place.string kid.0 kid.1 set c.rank.result c.rank.ensures (record { slot = record { start = c.args.node.child_block; place = c.rank.result }; key = c.extend.result; depth = c.args.site.depth + 5 }) c.extend.ensures.key (g.met.K.Key.key_laws.bits_length c.extend.result c.extend.ensures.key) c.extend.ensures.value refl refl c.visit-lower.result c.visit-lower.ensures.node g.F.Keep.asks g.F.Keep.accepts (to_come c.new-places.result) c.new-places.ensures.places (λ u m. (c.new-places.ensures.each u).0 m) (λ u m. (c.new-places.ensures.each u).1 m) c.args.keep.now c.retain_places-left.new.keep c.retain_places-left.new.entries c.retain_places-left.new.nodes c.retain_places-left.new.cells (c.retain_places-left.ensures.retains c.requires.trie.0 c.requires.trie.1) c.retain_places-left.result c.retain_places-left.ensures.node c.retain_places-left.ensures.lasts (c.is_bare.ensures.bare c.if-is_bare.true) c.drop_child.result c.drop_child.new.nodes c.drop_child.ensures.dropped c.drop_child.ensures.room.limit_is c.drop_child.ensures.room.longer c.drop_child.ensures.room.within c.drop_child.ensures.room.made
+    lasts3 g.K.Key.IsKey g.K.Key.bits g.K.Key.bit_width g.met.K.Key.key_laws.bits_length c.args.nodes.now c.args.site c.args.node c.requires.site c.args.entries.now c.args.cells.now c.requires.trie.0 c.requires.trie.1 c.requires.place c.in-Child.child c.in-Child.is c.rank.result c.rank.ensures c.extend.result c.extend.ensures.key c.extend.ensures.value c.visit-lower.result c.visit-lower.ensures.node g.F.Keep.asks g.F.Keep.accepts (to_come c.new-places.result) c.new-places.ensures.places c.new-places.ensures.each c.args.keep.now c.retain_places-left.new.keep c.retain_places-left.new.entries c.retain_places-left.new.nodes c.retain_places-left.new.cells (c.retain_places-left.ensures.retains c.requires.trie.0 c.requires.trie.1) c.retain_places-left.result c.retain_places-left.ensures.node c.retain_places-left.ensures.lasts (c.is_bare.ensures.bare c.if-is_bare.true) c.drop_child.result c.drop_child.new.nodes c.drop_child.ensures.dropped c.drop_child.ensures.room.limit_is c.drop_child.ensures.room.longer c.drop_child.ensures.room.within c.drop_child.ensures.room.made
 
 pub retain_place-returns-else-is_bare-clause-retains : goal.retain_place-returns-else-is_bare-clause-retains
 retain_place-returns-else-is_bare-clause-retains g t c = λ u few is x h.
     let place = c.requires.place in
-    let kid = place-child place.string c.in-Child.child place.short (sym c.in-Child.is ∙ place.is) in
-    let set = ap (has c.args.node.child_bitmap) kid.1 ∙ sym (is_in-child c.args.node.value_bitmap c.args.node.child_bitmap place.string kid.0) ∙ place.set in
-    let long = g.met.K.Key.key_laws.bits_length c.args.site.key c.requires.site.key in
     subst (λ r. RetainsTo g.F.Keep.asks g.F.Keep.accepts g.K.Key.bit_width (take c.args.site.depth (g.K.Key.bits c.args.site.key)) (r ∷ []) c.args.keep.now x c.retain_places-left.new.keep c.retain_places-left.new.entries c.retain_places-left.new.nodes c.retain_places-left.new.cells)
     (same_place place.string u place.short few (sym place.is ∙ is))
-    (child_stays g.K.Key.IsKey g.K.Key.bits g.K.Key.bit_width c.args.nodes.now c.args.site c.args.node c.requires.site long c.args.entries.now c.args.cells.now x h c.in-Child.child place.string kid.0 kid.1 set c.rank.result c.rank.ensures (record { slot = record { start = c.args.node.child_block; place = c.rank.result }; key = c.extend.result; depth = c.args.site.depth + 5 }) c.extend.ensures.key (g.met.K.Key.key_laws.bits_length c.extend.result c.extend.ensures.key) c.extend.ensures.value refl refl c.visit-lower.result c.visit-lower.ensures.node g.F.Keep.asks g.F.Keep.accepts (to_come c.new-places.result) c.new-places.ensures.places (λ u m. (c.new-places.ensures.each u).0 m) (λ u m. (c.new-places.ensures.each u).1 m) c.args.keep.now c.retain_places-left.new.keep c.retain_places-left.new.entries c.retain_places-left.new.nodes c.retain_places-left.new.cells (c.retain_places-left.ensures.retains x h) c.retain_places-left.result c.retain_places-left.ensures.node c.retain_places-left.ensures.lasts (c.is_bare.ensures.stocked c.if-is_bare.false))
+    (child_stays g.K.Key.IsKey g.K.Key.bits g.K.Key.bit_width g.met.K.Key.key_laws.bits_length c.args.nodes.now c.args.site c.args.node c.requires.site c.args.entries.now c.args.cells.now x h c.requires.place c.in-Child.child c.in-Child.is c.rank.result c.rank.ensures c.extend.result c.extend.ensures.key c.extend.ensures.value c.visit-lower.result c.visit-lower.ensures.node g.F.Keep.asks g.F.Keep.accepts (to_come c.new-places.result) c.new-places.ensures.places c.new-places.ensures.each c.args.keep.now c.retain_places-left.new.keep c.retain_places-left.new.entries c.retain_places-left.new.nodes c.retain_places-left.new.cells (c.retain_places-left.ensures.retains x h) c.retain_places-left.result c.retain_places-left.ensures.node c.retain_places-left.ensures.lasts (c.is_bare.ensures.stocked c.if-is_bare.false))
 
 pub retain_place-returns-else-is_bare-clause-node : goal.retain_place-returns-else-is_bare-clause-node
 retain_place-returns-else-is_bare-clause-node g t c =
-    let place = c.requires.place in
-    let kid = place-child place.string c.in-Child.child place.short (sym c.in-Child.is ∙ place.is) in
-    let set = ap (has c.args.node.child_bitmap) kid.1 ∙ sym (is_in-child c.args.node.value_bitmap c.args.node.child_bitmap place.string kid.0) ∙ place.set in
-    let long = g.met.K.Key.key_laws.bits_length c.args.site.key c.requires.site.key in
-    still_site g.K.Key.IsKey g.K.Key.bits g.K.Key.bit_width c.args.nodes.now c.args.site c.args.node c.requires.site long c.args.entries.now c.args.cells.now c.requires.trie.0 c.requires.trie.1 c.in-Child.child place.string kid.0 kid.1 set c.rank.result c.rank.ensures (record { slot = record { start = c.args.node.child_block; place = c.rank.result }; key = c.extend.result; depth = c.args.site.depth + 5 }) c.extend.ensures.key (g.met.K.Key.key_laws.bits_length c.extend.result c.extend.ensures.key) c.extend.ensures.value refl refl c.visit-lower.result c.visit-lower.ensures.node g.F.Keep.asks g.F.Keep.accepts (to_come c.new-places.result) c.new-places.ensures.places (λ u m. (c.new-places.ensures.each u).0 m) (λ u m. (c.new-places.ensures.each u).1 m) c.args.keep.now c.retain_places-left.new.keep c.retain_places-left.new.entries c.retain_places-left.new.nodes c.retain_places-left.new.cells (c.retain_places-left.ensures.retains c.requires.trie.0 c.requires.trie.1) c.retain_places-left.result c.retain_places-left.ensures.node c.retain_places-left.ensures.lasts
+    still_site g.K.Key.IsKey g.K.Key.bits g.K.Key.bit_width g.met.K.Key.key_laws.bits_length c.args.nodes.now c.args.site c.args.node c.requires.site c.args.entries.now c.args.cells.now c.requires.trie.0 c.requires.trie.1 c.requires.place c.in-Child.child c.in-Child.is c.rank.result c.rank.ensures c.extend.result c.extend.ensures.key c.extend.ensures.value c.visit-lower.result c.visit-lower.ensures.node g.F.Keep.asks g.F.Keep.accepts (to_come c.new-places.result) c.new-places.ensures.places c.new-places.ensures.each c.args.keep.now c.retain_places-left.new.keep c.retain_places-left.new.entries c.retain_places-left.new.nodes c.retain_places-left.new.cells (c.retain_places-left.ensures.retains c.requires.trie.0 c.requires.trie.1) c.retain_places-left.result c.retain_places-left.ensures.node c.retain_places-left.ensures.lasts
 
 pub retain_place-returns-else-is_bare-clause-lasts : goal.retain_place-returns-else-is_bare-clause-lasts
 retain_place-returns-else-is_bare-clause-lasts g t c =
-    let place = c.requires.place in
-    let kid = place-child place.string c.in-Child.child place.short (sym c.in-Child.is ∙ place.is) in
-    let set = ap (has c.args.node.child_bitmap) kid.1 ∙ sym (is_in-child c.args.node.value_bitmap c.args.node.child_bitmap place.string kid.0) ∙ place.set in
-    let long = g.met.K.Key.key_laws.bits_length c.args.site.key c.requires.site.key in
-    still_lasts g.K.Key.IsKey g.K.Key.bits g.K.Key.bit_width c.args.nodes.now c.args.site c.args.node c.requires.site long c.args.entries.now c.args.cells.now c.requires.trie.0 c.requires.trie.1 c.in-Child.child place.string kid.0 kid.1 set c.rank.result c.rank.ensures (record { slot = record { start = c.args.node.child_block; place = c.rank.result }; key = c.extend.result; depth = c.args.site.depth + 5 }) c.extend.ensures.key (g.met.K.Key.key_laws.bits_length c.extend.result c.extend.ensures.key) c.extend.ensures.value refl refl c.visit-lower.result c.visit-lower.ensures.node g.F.Keep.asks g.F.Keep.accepts (to_come c.new-places.result) c.new-places.ensures.places (λ u m. (c.new-places.ensures.each u).0 m) (λ u m. (c.new-places.ensures.each u).1 m) c.args.keep.now c.retain_places-left.new.keep c.retain_places-left.new.entries c.retain_places-left.new.nodes c.retain_places-left.new.cells (c.retain_places-left.ensures.retains c.requires.trie.0 c.requires.trie.1) c.retain_places-left.result c.retain_places-left.ensures.node c.retain_places-left.ensures.lasts
+    still_lasts g.K.Key.IsKey g.K.Key.bits g.K.Key.bit_width g.met.K.Key.key_laws.bits_length c.args.nodes.now c.args.site c.args.node c.requires.site c.args.entries.now c.args.cells.now c.requires.trie.0 c.requires.trie.1 c.requires.place c.in-Child.child c.in-Child.is c.rank.result c.rank.ensures c.extend.result c.extend.ensures.key c.extend.ensures.value c.visit-lower.result c.visit-lower.ensures.node g.F.Keep.asks g.F.Keep.accepts (to_come c.new-places.result) c.new-places.ensures.places c.new-places.ensures.each c.args.keep.now c.retain_places-left.new.keep c.retain_places-left.new.entries c.retain_places-left.new.nodes c.retain_places-left.new.cells (c.retain_places-left.ensures.retains c.requires.trie.0 c.requires.trie.1) c.retain_places-left.result c.retain_places-left.ensures.node c.retain_places-left.ensures.lasts
 
 pub retain_places-loop-place-init : goal.retain_places-loop-place-init
 retain_places-loop-place-init g t c = record {
