@@ -1,5 +1,5 @@
 -- How many blocks of each size are in use and free.
-use Rattle.std.proofs.Common.{◌≡◌, ℕ, zero, suc, ◌+◌, ◌-◌, ◌*◌, ◌<◌, ◌≤◌, Bool, false, cond, ◌==◌, List, [], ◌∷◌, length, map, flat_map, count_by, sum_by, All, Option, None, Some, is_some, refl, sym, ap, ap₂, ◌∙◌, arith, eqb-true, eq-eqb}
+use Rattle.std.proofs.Common.{◌≡◌, ℕ, suc, ◌+◌, ◌-◌, ◌*◌, ◌<◌, ◌≤◌, Bool, false, cond, ◌==◌, List, [], ◌∷◌, length, map, flat_map, count_by, sum_by, All, Option, None, Some, is_some, refl, sym, ap, ap₂, ◌∙◌, arith, eqb-true, eq-eqb}
 use Rattle.std.specs.Prelude.{position}
 use Rattle.std.specs.FinMap.{entries, values, contains_key}
 use Rattle.std.proofs.lemmas.List.{length-map}

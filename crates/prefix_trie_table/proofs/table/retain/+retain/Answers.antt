@@ -1,6 +1,5 @@
-use Rattle.std.proofs.Common.{◌≡◌, ◌+◌, ◌/◌, [], ◌∷◌, ◌++◌, length, take, refl, sym, ap, ◌∙◌, subst, arith, append-nil, append_assoc}
+use Rattle.std.proofs.Common.{◌≡◌, ◌/◌, [], ◌∷◌, ◌++◌, length, take, refl, sym, ap, ◌∙◌, subst, arith, append-nil, append_assoc}
 use Rattle.std.proofs.lemmas.Bool.{false≢true}
-use Rattle.prefix_trie_bits.specs.Places.{has}
 use Rattle.prefix_trie_bits.specs.Walks.{to_come}
 use Rattle.prefix_trie_bits.specs.Model.Asking.{MayAskInOrder}
 use Rattle.prefix_trie_bits.specs.Model.NodeListings.{listing_at_places}
@@ -12,13 +11,11 @@ use Rattle.std.proofs.lemmas.List.Elements.{All-weaker, All-contains_itself}
 use Rattle.prefix_trie_table.specs.Bitmaps.{has_bit}
 use Rattle.prefix_trie_table.specs.Walking.Walks.{IsPlaceOf}
 use Rattle.prefix_trie_table.proofs.Retain.Asked.{none_asked}
-use Rattle.prefix_trie_table.proofs.Strings.Bits.{has_bit-is}
 use Rattle.prefix_trie_table.proofs.Retain.Lowered.{child_there, lower_inside, lower_few, lower_fits, lower_site, may_ask_lower, still_site, still_lasts, child_stays, child_goes, site3, lasts3}
 use Rattle.prefix_trie_table.proofs.Lookup.Matching.{clear-small}
 use Rattle.prefix_trie_table.proofs.Retain.Placed.{same_place}
 use Rattle.prefix_trie_table.proofs.Retain.Retained.{site_holds, site_node}
-use Rattle.prefix_trie_table.proofs.Walk.Spots.{place-value, place-small, place-child, place-child-small}
-use Rattle.prefix_trie_table.proofs.Tree.Subtrees.{is_in-child}
+use Rattle.prefix_trie_table.proofs.Walk.Spots.{place-value, place-small, place-child-small}
 use Rattle.prefix_trie_table.proofs.Retain.Placed.{this_place, may_ask_this, each_next, apart_next, done_next, lasts_both, lasts_none}
 use Rattle.prefix_trie_table.proofs.table.retain.+retain.Goals as goal
 
