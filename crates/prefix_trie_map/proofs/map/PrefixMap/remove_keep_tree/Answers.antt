@@ -16,22 +16,16 @@ invariant_of-self g c =
     (taken_step g.P.Prefix.path g.P.Prefix.back g.P.R.Key.bit_width c.args.prefix.now c.self.view_is key c.remove_keep_tree.ensures.step).step
     (subst (λ (m : Contents g.row.T.Denot). IsMap g.P.R.Key.bit_width (state m)) c.self.view_is c.self.invariant)
 
-pub returns-clause-value : goal.returns-clause-value
-returns-clause-value g c =
-    let key : take c.from-len.result (g.P.R.Key.bits c.repr-key.result) ≡ g.P.Prefix.path c.args.prefix.now = search rules in
-    ap value_in (taken_step g.P.Prefix.path g.P.Prefix.back g.P.R.Key.bit_width c.args.prefix.now c.self.view_is key c.remove_keep_tree.ensures.step).step.0
-
-pub returns-clause-entries : goal.returns-clause-entries
-returns-clause-entries g c =
-    let key : take c.from-len.result (g.P.R.Key.bits c.repr-key.result) ≡ g.P.Prefix.path c.args.prefix.now = search rules in
-    ap (λ (s : State g.row.T.Denot). s.entries) (taken_step g.P.Prefix.path g.P.Prefix.back g.P.R.Key.bit_width c.args.prefix.now c.self.view_is key c.remove_keep_tree.ensures.step).step.1
-
-pub returns-clause-nodes : goal.returns-clause-nodes
-returns-clause-nodes g c =
-    let key : take c.from-len.result (g.P.R.Key.bits c.repr-key.result) ≡ g.P.Prefix.path c.args.prefix.now = search rules in
-    ap (λ (s : State g.row.T.Denot). s.nodes) (taken_step g.P.Prefix.path g.P.Prefix.back g.P.R.Key.bit_width c.args.prefix.now c.self.view_is key c.remove_keep_tree.ensures.step).step.1
-
 pub returns-clause-step : goal.returns-clause-step
 returns-clause-step g c =
     let key : take c.from-len.result (g.P.R.Key.bits c.repr-key.result) ≡ g.P.Prefix.path c.args.prefix.now = search rules in
     taken_step g.P.Prefix.path g.P.Prefix.back g.P.R.Key.bit_width c.args.prefix.now c.self.view_is key c.remove_keep_tree.ensures.step
+
+pub returns-clause-value : goal.returns-clause-value
+returns-clause-value g c = ap value_in (returns-clause-step g c).step.0
+
+pub returns-clause-entries : goal.returns-clause-entries
+returns-clause-entries g c = ap (λ (s : State g.row.T.Denot). s.entries) (returns-clause-step g c).step.1
+
+pub returns-clause-nodes : goal.returns-clause-nodes
+returns-clause-nodes g c = ap (λ (s : State g.row.T.Denot). s.nodes) (returns-clause-step g c).step.1
