@@ -100,3 +100,8 @@ module _ {T : Type 0} (b : List Bool) (len level slot : ℕ) (node : Node) (v : 
       is_none-None (values (path_of (take len b)) (bit_of (take len b)))
       (holds.cells.set_where (path_of (take len b)) (bit_of (take len b))
       ∙ ap (λ o. has_value o (bit_of (take len b))) (reached_none b len level slot node v at reading paths holds.hold more))
+
+-- and as many nodes were met as levels were passed
+pub met_end : (b : List Bool) (len level slot : ℕ) (node : Node) (v : Store Node) → IsReached b len level node slot v → (before after : ℕ) → after ≡ before + (level + 1) →
+    (reading : List ℕ → Option Node) (paths : List (List ℕ)) → NodesHold node_sizes reading paths v → (last : ℕ) × IsEnd reading (path_of (take len b)) last × (after ≡ before + (last + 1))
+met_end b len level slot node v at before after visits reading paths hold = (level, reached_end b len level slot node v at reading paths hold, visits)

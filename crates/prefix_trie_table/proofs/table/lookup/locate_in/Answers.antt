@@ -1,5 +1,5 @@
 use Rattle.std.proofs.Common.{sym, ◌∙◌, arith}
-use Rattle.prefix_trie_table.proofs.Lookup.Finding.{reached_end}
+use Rattle.prefix_trie_table.proofs.Lookup.Finding.{met_end}
 use Rattle.prefix_trie_table.proofs.Lookup.Locating.{located_below, located_none, located_here}
 use Rattle.prefix_trie_table.proofs.table.lookup.locate_in.Goals as goal
 
@@ -12,12 +12,9 @@ returns-then-depth-len-clause-place g c =
     )
 
 pub returns-then-depth-len-clause-visits : goal.returns-then-depth-len-clause-visits
-returns-then-depth-len-clause-visits g c = λ reading paths hold. (
-  c.descend-reached.result.level,
-  reached_end (g.K.Key.bits c.args.key) c.args.len c.descend-reached.result.level _ c.descend-reached.result.node
-      c.args.nodes.now c.descend-reached.ensures.reached reading paths hold,
-  c.descend-reached.ensures.visits,
-)
+returns-then-depth-len-clause-visits g c =
+    met_end (g.K.Key.bits c.args.key) c.args.len c.descend-reached.result.level _ c.descend-reached.result.node c.args.nodes.now
+    c.descend-reached.ensures.reached _ _ c.descend-reached.ensures.visits
 
 pub returns-then-not-has_bit-clause-place : goal.returns-then-not-has_bit-clause-place
 returns-then-not-has_bit-clause-place g c =
@@ -29,12 +26,9 @@ returns-then-not-has_bit-clause-place g c =
     )
 
 pub returns-then-not-has_bit-clause-visits : goal.returns-then-not-has_bit-clause-visits
-returns-then-not-has_bit-clause-visits g c = λ reading paths hold. (
-  c.descend-reached.result.level,
-  reached_end (g.K.Key.bits c.args.key) c.args.len c.descend-reached.result.level _ c.descend-reached.result.node
-      c.args.nodes.now c.descend-reached.ensures.reached reading paths hold,
-  c.descend-reached.ensures.visits,
-)
+returns-then-not-has_bit-clause-visits g c =
+    met_end (g.K.Key.bits c.args.key) c.args.len c.descend-reached.result.level _ c.descend-reached.result.node c.args.nodes.now
+    c.descend-reached.ensures.reached _ _ c.descend-reached.ensures.visits
 
 pub returns-clause-place : goal.returns-clause-place
 returns-clause-place g c =
@@ -44,9 +38,6 @@ returns-clause-place g c =
     c.value_bit_of-bit.ensures.small c.value_bit_of-bit.ensures.value c.rank.result (sym c.has_bit.ensures ∙ c.if-not-has_bit.false) c.rank.ensures
 
 pub returns-clause-visits : goal.returns-clause-visits
-returns-clause-visits g c = λ reading paths hold. (
-  c.descend-reached.result.level,
-  reached_end (g.K.Key.bits c.args.key) c.args.len c.descend-reached.result.level _ c.descend-reached.result.node
-      c.args.nodes.now c.descend-reached.ensures.reached reading paths hold,
-  c.descend-reached.ensures.visits,
-)
+returns-clause-visits g c =
+    met_end (g.K.Key.bits c.args.key) c.args.len c.descend-reached.result.level _ c.descend-reached.result.node c.args.nodes.now
+    c.descend-reached.ensures.reached _ _ c.descend-reached.ensures.visits
