@@ -1,7 +1,7 @@
-use Rattle.std.proofs.Common.{◌≡◌, ◌-◌, ◌∷◌, [], length, remove, refl, sym, ap, arith, rules, subst}
+use Rattle.std.proofs.Common.{◌≡◌, ℕ, ◌+◌, ◌-◌, ◌<◌, List, ◌∷◌, [], insert, length, remove, refl, sym, ap, arith, rules, subst}
 use Rattle.std.proofs.lemmas.List.{nil_from_length}
 use Rattle.std.proofs.lemmas.List.Edits.{length-remove}
-use Rattle.prefix_trie_table.specs.Store.{Store, Sound, tier_at, block}
+use Rattle.prefix_trie_table.specs.Store.{Store, Sound, UsedBlock, tier_at, block}
 use Rattle.prefix_trie_table.proofs.Blocks.Soundness.{block_inside, fits_block, has_place, tier_of_block, tier_for_holds}
 use Rattle.prefix_trie_table.specs.Store.{Keeps}
 use Rattle.prefix_trie_table.proofs.Blocks.Spending.{Spends-given, Keeps-spends, Keeps-then, Keeps-same, Keeps-removed}
@@ -10,6 +10,15 @@ use Rattle.prefix_trie_table.proofs.Blocks.Turnovers.{Turnover-written, Turnover
 use Rattle.prefix_trie_table.proofs.allocator.blocks.Blocks.remove_from.Given as given
 use Rattle.prefix_trie_table.proofs.allocator.blocks.Blocks.remove_from.Goals as goal
 use Rattle.prefix_trie_table.proofs.allocator.blocks.Blocks.remove_from.Goals.{in-Some+then-tier-k+in_default-step_down, in-Some+else-tier-k, in_default}
+
+-- a list without an item stays in its block
+cut : {S : Type 0} (vacant : S) (v w : Store S) (k start count place size : ℕ) (xs : List S) (live : List (UsedBlock S)) (x : S) → Sound vacant (block k start size xs ∷ live) v →
+    length xs ≡ count → place < count → w ≡ record v { slots = insert (remove v.slots (start + place)) (start + count - 1) x } → Keeps v w
+cut vacant v w k start count place size xs live x sound is_count inside is =
+    let b = block k start size xs in
+    let at = block_inside vacant b live v sound in
+    let fits = fits_block vacant b live v sound in
+    Keeps-removed v w start count place x is at.after (omega (arith, is_count, at.before, fits)) inside
 
 pub remove_within-value-requires-clause-within : goal.remove_within-value-requires-clause-within
 remove_within-value-requires-clause-within g c =
@@ -83,34 +92,25 @@ returns-clause-sound g c = λ n xs live sound count.
 pub returns-then-rest-eq0-clause-keeps : goal.returns-then-rest-eq0-clause-keeps
 returns-then-rest-eq0-clause-keeps g c =
     let u = c.requires.in_use in
-    let b = block c.args.k c.args.start u.size u.items in
-    let w0 = block_inside g.S.Slot.vacant b u.live _ u.sound in
-    let fits = fits_block g.S.Slot.vacant b u.live _ u.sound in
-    let cut = Keeps-removed c.args.self.now c.remove_within-value.new.self c.args.start c.args.count c.args.place g.S.Slot.vacant c.remove_within-value.ensures.slots w0.after (omega (arith, u.is_count, w0.before, fits)) c.requires.place in
-    Keeps-then _ _ _ cut (Keeps-spends _ _ _ (Spends-given c.remove_within-value.new.self c.give_back.new.self c.args.k c.args.start (has_place g.S.Slot.vacant _ _ _ (c.remove_within-value.ensures.sound b u.live u.sound refl u.is_count)).0 c.give_back.ensures.starts))
+    let left = cut g.S.Slot.vacant c.args.self.now c.remove_within-value.new.self c.args.k c.args.start c.args.count c.args.place u.size u.items u.live g.S.Slot.vacant u.sound u.is_count c.requires.place c.remove_within-value.ensures.slots in
+    Keeps-then _ _ _ left (Keeps-spends _ _ _ (Spends-given c.remove_within-value.new.self c.give_back.new.self c.args.k c.args.start (has_place g.S.Slot.vacant _ _ _ (c.remove_within-value.ensures.sound (block c.args.k c.args.start u.size u.items) u.live u.sound refl u.is_count)).0 c.give_back.ensures.starts))
 
 pub returns-in-Some-step_down-clause-keeps : goal.returns-in-Some-step_down-clause-keeps
 returns-in-Some-step_down-clause-keeps g c =
     let u = c.requires.in_use in
-    let b = block c.args.k c.args.start u.size u.items in
-    let w0 = block_inside g.S.Slot.vacant b u.live _ u.sound in
-    let fits = fits_block g.S.Slot.vacant b u.live _ u.sound in
-    let cut = Keeps-removed c.args.self.now c.remove_within-value.new.self c.args.start c.args.count c.args.place g.S.Slot.vacant c.remove_within-value.ensures.slots w0.after (omega (arith, u.is_count, w0.before, fits)) c.requires.place in
-    Keeps-then _ _ _ cut c.step_down.ensures.keeps
+    let left = cut g.S.Slot.vacant c.args.self.now c.remove_within-value.new.self c.args.k c.args.start c.args.count c.args.place u.size u.items u.live g.S.Slot.vacant u.sound u.is_count c.requires.place c.remove_within-value.ensures.slots in
+    Keeps-then _ _ _ left c.step_down.ensures.keeps
 
 pub returns-clause-keeps : goal.returns-clause-keeps
 returns-clause-keeps g c =
     let u = c.requires.in_use in
-    let b = block c.args.k c.args.start u.size u.items in
-    let w0 = block_inside g.S.Slot.vacant b u.live _ u.sound in
-    let fits = fits_block g.S.Slot.vacant b u.live _ u.sound in
-    let cut = Keeps-removed c.args.self.now c.remove_within-value.new.self c.args.start c.args.count c.args.place g.S.Slot.vacant c.remove_within-value.ensures.slots w0.after (omega (arith, u.is_count, w0.before, fits)) c.requires.place in
+    let left = cut g.S.Slot.vacant c.args.self.now c.remove_within-value.new.self c.args.k c.args.start c.args.count c.args.place u.size u.items u.live g.S.Slot.vacant u.sound u.is_count c.requires.place c.remove_within-value.ensures.slots in
     let last : Keeps c.remove_within-value.new.self c.match-tier_for.self = (elim c.match-tier_for.branch [
       | in-Some+then-tier-k+in_default-step_down w ↦ subst (λ v. Keeps c.remove_within-value.new.self v) (sym w.self-is) w.step_down.ensures.keeps
       | in-Some+else-tier-k w ↦ Keeps-same _ _ w.self-is
       | in_default w ↦ Keeps-same _ _ w.self-is
     ]) in
-    Keeps-then _ _ _ cut last
+    Keeps-then _ _ _ left last
 
 pub returns-then-rest-eq0-clause-gone : goal.returns-then-rest-eq0-clause-gone
 returns-then-rest-eq0-clause-gone g c =
