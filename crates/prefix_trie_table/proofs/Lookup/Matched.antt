@@ -36,6 +36,12 @@ module _ {T : Type 0} where
     λ p n is. no_or_yes (has_bit n.value_bitmap 31) (λ e. let h : 31 < 31 = t.holds.cells.within p 31 (t.holds.cells.set_where p 31 ∙ ap (λ o. has_value o 31) is ∙ e) in omega arith),
   )
 
+  -- as many nodes are met on the way of a string as the model counts
+  pub met_on_way : (v : Store Node) (w : Store (Option T)) (t : SomeTable v w) (s : State T) → IsShapeOf v.slots w.slots s → (q : List Bool) (before after : ℕ) →
+      (level : ℕ) × IsEnd t.reading (path_of q) level × (after ≡ before + (level + 1)) → after ≡ before + visits s.nodes q
+  met_on_way v w t s is q before after met =
+      met.2 ∙ ap (λ n. before + n) (sym (visits_counted t.reading t.paths v t.holds.hold s.nodes (shape_nodes t.reading t.values t.paths v w t.holds s is) q met.0 met.1))
+
   -- the cell of a match
   abbrev pub cell_of : Store (Option T) → Match → Option T
   cell_of w m = get_or w.slots (cell_slot m) None
@@ -72,8 +78,7 @@ module _ {T : Type 0} where
 
     -- the nodes met
     pub met_is : (before after : ℕ) → (level : ℕ) × IsEnd t.reading (path_of (take len b)) level × (after ≡ before + (level + 1)) → after ≡ before + visits s.nodes (take len b)
-    met_is before after met =
-        met.2 ∙ ap (λ n. before + n) (sym (visits_counted t.reading t.paths v t.holds.hold s.nodes (shape_nodes t.reading t.values t.paths v w t.holds s is) asked met.0 met.1))
+    met_is before after met = met_on_way v w t s is asked before after met
 
     pub met_none : (before after : ℕ) → NoneHeld t.reading (take len b) 0 (len + 1) → (level : ℕ) × IsEnd t.reading (path_of (take len b)) level × (after ≡ before + (level + 1)) → after ≡ before + visits_to_match s.entries s.nodes (take len b)
     met_none before after none met =

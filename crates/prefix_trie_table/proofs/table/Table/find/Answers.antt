@@ -2,8 +2,8 @@ use Rattle.std.proofs.Common.{◌+◌, take, ap, sym, ◌∙◌}
 use Rattle.std.specs.FinMap.{get}
 use Rattle.prefix_trie_bits.specs.Model.Visits.{visits}
 use Rattle.prefix_trie_table.proofs.Tree.Invariant.{some_table}
-use Rattle.prefix_trie_table.proofs.Counts.Counted.{visits_counted}
-use Rattle.prefix_trie_table.proofs.Tree.Shapes.{shape_nodes, shape_entries}
+use Rattle.prefix_trie_table.proofs.Lookup.Matched.{met_on_way}
+use Rattle.prefix_trie_table.proofs.Tree.Shapes.{shape_entries}
 use Rattle.prefix_trie_table.proofs.table.Table.find.Goals as goal
 
 pub returns-clause-value : goal.returns-clause-value
@@ -16,12 +16,8 @@ returns-clause-value g c =
 
 pub returns-clause-visits : goal.returns-clause-visits
 returns-clause-visits g c =
+    let i = c.self.inside in
     let t = some_table c.self.invariant in
     let q = take c.args.len (g.K.Key.bits c.args.key) in
-    let met = c.find_value.ensures.visits t.reading t.paths t.holds.hold in
-    met.2
-    ∙ ap (λ n. g.V.Tick.count c.args.counter.now + n)
-    (sym (visits_counted t.reading t.paths c.self.inside.nodes t.holds.hold c.self.inside.shape.0.nodes
-    (shape_nodes t.reading t.values t.paths c.self.inside.nodes c.self.inside.cells t.holds c.self.inside.shape.0 c.self.inside.shape.1) q met.0
-    met.1))
+    met_on_way i.nodes i.cells t i.shape.0 i.shape.1 q _ _ (c.find_value.ensures.visits t.reading t.paths t.holds.hold)
     ∙ ap (λ s. g.V.Tick.count c.args.counter.now + visits s.nodes q) c.self.view_is

@@ -1,7 +1,6 @@
 use Rattle.std.proofs.Common.{◌+◌, take, sym, ap, ◌∙◌}
 use Rattle.prefix_trie_table.proofs.Tree.Invariant.{some_table}
-use Rattle.prefix_trie_table.proofs.Counts.Counted.{visits_counted}
-use Rattle.prefix_trie_table.proofs.Tree.Shapes.{shape_nodes}
+use Rattle.prefix_trie_table.proofs.Lookup.Matched.{met_on_way}
 use Rattle.prefix_trie_table.proofs.Lookup.Lending.{seat_of, can_lend, left_shape, table_left, table_kept, value_lent, lender_left, stored_written}
 use Rattle.prefix_trie_table.proofs.table.Table.find_mut.Goals as goal
 
@@ -43,9 +42,6 @@ returns g c =
       record {
         writes_back = tt;
         value = value_lent i.nodes i.cells i.count i.shape c.self.invariant q c.find_seat-seat.result at c.lend_if.result c.lend_if.ensures.value;
-        visits = met.2
-            ∙ ap (λ n. g.V.Tick.count c.args.counter.now + n)
-            (sym (visits_counted t.reading t.paths i.nodes t.holds.hold i.shape.0.nodes
-            (shape_nodes t.reading t.values t.paths i.nodes i.cells t.holds i.shape.0 i.shape.1) q met.0 met.1));
+        visits = met_on_way i.nodes i.cells t i.shape.0 i.shape.1 q _ _ met;
       },
     )
