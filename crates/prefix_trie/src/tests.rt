@@ -6,7 +6,6 @@ mod clones;
 mod collecting;
 mod cover;
 mod entry_callers;
-mod example;
 mod examples;
 mod iter;
 mod lending;

@@ -138,8 +138,8 @@ impl<P: Prefix, T: Drop, A: Allocator> PrefixMap<P, T, A> {
     ///
     /// ```text
     /// 10.0.0.0/8 is stored with 1, and 10.1.0.0/16 with 2
-    /// map.get_lpm_value(10.1.2.3/32)   Some(&2)
-    /// map.get_lpm_value(11.0.0.0/8)    None
+    /// map.get_lpm_value(&10.1.2.3/32)   Some(&2)
+    /// map.get_lpm_value(&11.0.0.0/8)    None
     /// ```
     #[inline]
     pub fn get_lpm_value(&self, prefix: &P) -> Option<&T>
