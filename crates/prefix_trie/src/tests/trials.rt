@@ -45,7 +45,7 @@ fn plays<P: Prefix + Copy, A: Allocator + Copy>(
     alloc: A,
     map: &mut PrefixMap<P, u64, A>,
     other: &mut PrefixMap<P, u64, A>,
-    table: Table<'_, P::R>,
+    table: &Table<'_, P::R>,
     requests: (u64, u64),
 ) -> Result<(), Wrong> {
     heap.refuse(0, 0);
@@ -62,7 +62,7 @@ fn plays<P: Prefix + Copy, A: Allocator + Copy>(
 /// The same of two new maps.
 fn plays_anew<P: Prefix + Copy>(
     heap: &Refusing<Global>,
-    table: Table<'_, P::R>,
+    table: &Table<'_, P::R>,
     requests: (u64, u64),
 ) -> Result<(), Wrong> {
     heap.refuse(0, 0);
@@ -74,7 +74,7 @@ fn plays_anew<P: Prefix + Copy>(
 /// Runs a table time and again, with another request of its second part refused each time, and at last with none.
 pub fn in_turn<P: Prefix + Copy>(
     heap: &Refusing<Global>,
-    table: Table<'_, P::R>,
+    table: &Table<'_, P::R>,
 ) -> Result<(), Wrong> {
     for passed in 0..MANY {
         plays_anew::<P>(heap, table, (passed, 1))?;
@@ -92,7 +92,7 @@ pub fn in_turn<P: Prefix + Copy>(
 /// Runs a table with every request of its second part refused.
 pub fn without_memory<P: Prefix + Copy>(
     heap: &Refusing<Global>,
-    table: Table<'_, P::R>,
+    table: &Table<'_, P::R>,
 ) -> Result<(), Wrong> {
     plays_anew::<P>(heap, table, (0, u64::MAX))
 }
@@ -100,9 +100,9 @@ pub fn without_memory<P: Prefix + Copy>(
 /// Runs a table with every request of its second part refused, where none comes. Those of the first are refused in turn before.
 pub fn starved<P: Prefix + Copy>(
     heap: &Refusing<Global>,
-    table: Table<'_, P::R>,
+    table: &Table<'_, P::R>,
 ) -> Result<(), Wrong> {
-    in_turn::<P>(heap, (&[], table.0))?;
+    in_turn::<P>(heap, &(&[], table.0))?;
     without_memory::<P>(heap, table)?;
     if heap.left() == u64::MAX {
         Ok(())
@@ -114,8 +114,8 @@ pub fn starved<P: Prefix + Copy>(
 /// Runs tables at networks and at pairs.
 pub fn all_in_turn(heap: &Refusing<Global>, tables: &[Table<'_, u32>]) -> Result<(), Wrong> {
     for table in tables {
-        in_turn::<Ipv4Prefix>(heap, *table)?;
-        in_turn::<(u32, u8)>(heap, *table)?;
+        in_turn::<Ipv4Prefix>(heap, table)?;
+        in_turn::<(u32, u8)>(heap, table)?;
     }
     Ok(())
 }
@@ -123,8 +123,8 @@ pub fn all_in_turn(heap: &Refusing<Global>, tables: &[Table<'_, u32>]) -> Result
 /// The same with every request refused.
 pub fn all_starved(heap: &Refusing<Global>, tables: &[Table<'_, u32>]) -> Result<(), Wrong> {
     for table in tables {
-        starved::<Ipv4Prefix>(heap, *table)?;
-        starved::<(u32, u8)>(heap, *table)?;
+        starved::<Ipv4Prefix>(heap, table)?;
+        starved::<(u32, u8)>(heap, table)?;
     }
     Ok(())
 }

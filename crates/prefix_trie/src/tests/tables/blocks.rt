@@ -111,7 +111,7 @@ const FREE: Table<'static, u8> = (
 #[test]
 fn a_free_block_grants_an_insertion(rt: HostRuntime) -> Result<(), Fail> {
     let heap = Refusing::new(rt.alloc());
-    starved::<(u8, u8)>(&heap, FREE)?;
+    starved::<(u8, u8)>(&heap, &FREE)?;
     Ok(())
 }
 
@@ -134,7 +134,7 @@ const MADE: Table<'static, u8> = (
 #[test]
 fn removal_steps_down_not_only_onto_free_blocks(rt: HostRuntime) -> Result<(), Fail> {
     let heap = Refusing::new(rt.alloc());
-    in_turn::<(u8, u8)>(&heap, MADE)?;
+    in_turn::<(u8, u8)>(&heap, &MADE)?;
     Ok(())
 }
 
@@ -156,7 +156,7 @@ const PUT_FIVE: [Case<u32>; 5] = [
     Inserts((0, 1), 1, None),
 ];
 
-const QUESTIONS: Table<'static, u32> = (
+const QUESTIONS: [Table<'static, u32>; 1] = [(
     &PUT_FIVE,
     &[
         Len(5),
@@ -195,11 +195,11 @@ const QUESTIONS: Table<'static, u32> = (
         WritesLongest((0x0b00_0000, 8), 1, Some(((0, 1), 1))),
         WritesLongest((0xff00_0000, 8), 0, Some(((0, 0), 0))),
     ],
-);
+)];
 
 /// A host and a half of all addresses go and come, and then all are taken out. The root's second value moves the first to the free
 /// block of one and back.
-const CHANGES: Table<'static, u32> = (
+const CHANGES: [Table<'static, u32>; 1] = [(
     &PUT_FIVE,
     &[
         Inserts((0x0a01_0101, 32), 99, Some(32)),
@@ -226,11 +226,12 @@ const CHANGES: Table<'static, u32> = (
         Clears,
         Slots(1, 0),
     ],
-);
+)];
 
 #[test]
 fn questions_and_changes_among_free_blocks_ask_for_no_memory(rt: HostRuntime) -> Result<(), Fail> {
     let heap = Refusing::new(rt.alloc());
-    all_starved(&heap, &[QUESTIONS, CHANGES])?;
+    all_starved(&heap, &QUESTIONS)?;
+    all_starved(&heap, &CHANGES)?;
     Ok(())
 }

@@ -10,7 +10,7 @@ use std::test::Fail;
 const TWO: [Entry<u32>; 2] = [((0x0a00_0000, 8), 8), ((0x0a01_0000, 16), 16)];
 
 /// Two networks, with free blocks in both arrays. The copy changes and the source does not, and the other way round.
-const APART: Table<'static, u32> = (
+const APART: [Table<'static, u32>; 1] = [(
     &[],
     &[
         Inserts((0x0a00_0000, 8), 8, None),
@@ -42,17 +42,17 @@ const APART: Table<'static, u32> = (
         Turns,
         Lists(&[((0x0a01_0000, 16), 1)]),
     ],
-);
+)];
 
 #[test]
 fn a_copy_and_its_source_share_nothing(rt: HostRuntime) -> Result<(), Fail> {
     let heap = Refusing::new(rt.alloc());
-    all_in_turn(&heap, &[APART])?;
+    all_in_turn(&heap, &APART)?;
     Ok(())
 }
 
 /// A network goes into the blocks that a removed one left, and out again.
-const FREE: Table<'static, u32> = (
+const FREE: [Table<'static, u32>; 1] = [(
     &[
         Inserts((0x0a00_0000, 8), 8, None),
         Inserts((0x0a01_0000, 16), 16, None),
@@ -69,11 +69,11 @@ const FREE: Table<'static, u32> = (
         Turns,
         Lists(&TWO),
     ],
-);
+)];
 
 #[test]
 fn a_copy_has_the_free_blocks(rt: HostRuntime) -> Result<(), Fail> {
     let heap = Refusing::new(rt.alloc());
-    all_starved(&heap, &[FREE])?;
+    all_starved(&heap, &FREE)?;
     Ok(())
 }

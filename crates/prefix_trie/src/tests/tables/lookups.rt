@@ -36,12 +36,12 @@ const BOTH: Table<'static, u16> = (
 #[test]
 fn answers_and_writes_of_all_lookups(rt: HostRuntime) -> Result<(), Fail> {
     let heap = Refusing::new(rt.alloc());
-    in_turn::<(u16, u8)>(&heap, BOTH)?;
+    in_turn::<(u16, u8)>(&heap, &BOTH)?;
     Ok(())
 }
 
 /// In an empty map, and beside a stored network or above it.
-const NONE: Table<'static, u32> = (
+const NONE: [Table<'static, u32>; 1] = [(
     &[],
     &[
         Finds((0xc0a8_0000, 23), None, None, None),
@@ -49,12 +49,12 @@ const NONE: Table<'static, u32> = (
         Finds((0xc0a8_0200, 24), None, None, None),
         Finds((0xc0a8_0000, 22), None, None, None),
     ],
-);
+)];
 
 #[test]
 fn no_matches(rt: HostRuntime) -> Result<(), Fail> {
     let heap = Refusing::new(rt.alloc());
-    all_in_turn(&heap, &[NONE])?;
+    all_in_turn(&heap, &NONE)?;
     Ok(())
 }
 

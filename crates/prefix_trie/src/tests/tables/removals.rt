@@ -10,7 +10,7 @@ use std::alloc::{AllocError, Global};
 use std::test::Fail;
 
 /// An empty node that is not on the way of a removal stays, and the removal's own goes.
-const OFF_THE_WAY: Table<'static, u32> = (
+const OFF_THE_WAY: [Table<'static, u32>; 1] = [(
     &[],
     &[
         Inserts((0, 32), 1, None),
@@ -21,12 +21,12 @@ const OFF_THE_WAY: Table<'static, u32> = (
         Removes((0x8000_0000, 5), Some(2)),
         Nodes(7),
     ],
-);
+)];
 
 #[test]
 fn nodes_off_the_way_stay(rt: HostRuntime) -> Result<(), Fail> {
     let heap = Refusing::new(rt.alloc());
-    all_in_turn(&heap, &[OFF_THE_WAY])?;
+    all_in_turn(&heap, &OFF_THE_WAY)?;
     Ok(())
 }
 
@@ -78,7 +78,7 @@ fn others_stay(rt: HostRuntime) -> Result<(), Fail> {
     let first = puts(rt.alloc(), 255)?;
     let mut then = takes_even(rt.alloc(), 255)?;
     has_odd(&mut then, 255)?;
-    in_turn::<Ipv4Prefix>(&heap, (first.as_slice(), then.as_slice()))?;
+    in_turn::<Ipv4Prefix>(&heap, &(first.as_slice(), then.as_slice()))?;
     Ok(())
 }
 
@@ -88,7 +88,7 @@ fn removals_need_no_memory(rt: HostRuntime) -> Result<(), Fail> {
     let first = puts(rt.alloc(), 50)?;
     let mut then = takes_even(rt.alloc(), 50)?;
     has_odd(&mut then, 50)?;
-    without_memory::<Ipv4Prefix>(&heap, (first.as_slice(), then.as_slice()))?;
+    without_memory::<Ipv4Prefix>(&heap, &(first.as_slice(), then.as_slice()))?;
     Ok(())
 }
 
@@ -187,7 +187,7 @@ fn taken_in_turn(
 ) -> Result<(), Fail> {
     let first = puts_groups(alloc, groups)?;
     let then = takes_groups(alloc, groups, by)?;
-    in_turn::<Ipv4Prefix>(heap, (first.as_slice(), then.as_slice()))?;
+    in_turn::<Ipv4Prefix>(heap, &(first.as_slice(), then.as_slice()))?;
     Ok(())
 }
 

@@ -8,7 +8,7 @@ use std::test::Fail;
 
 /// A neighbour of a site, an office of the site, the site and all addresses. The walks are around a host of the office, and around
 /// a network that contains the site.
-const ROUTES: Table<'static, u32> = (
+const ROUTES: [Table<'static, u32>; 1] = [(
     &[],
     &[
         Lists(&[]),
@@ -38,12 +38,12 @@ const ROUTES: Table<'static, u32> = (
             ((0xc0a9_0000, 16), 4),
         ]),
     ],
-);
+)];
 
 #[test]
 fn walks_over_all_and_around_one(rt: HostRuntime) -> Result<(), Fail> {
     let heap = Refusing::new(rt.alloc());
-    all_in_turn(&heap, &[ROUTES])?;
+    all_in_turn(&heap, &ROUTES)?;
     Ok(())
 }
 
