@@ -23,6 +23,7 @@ pub use networks::{Ipv4Prefix, Ipv6Prefix};
 /// window(5, 5)   10010, which is 18
 /// keep(6)        0xd4000000
 /// extend(6, 2, 1) 0xd5000000
+/// behind(8)      0xadbeef00
 /// ```
 pub trait Key: Copy + Eq + Debug {
     // how many bits a key has
@@ -76,6 +77,14 @@ pub trait Key: Copy + Eq + Debug {
         requires fits { tail < 2 ^ n }
         ensures key { IsKey result }
         ensures value { bits result ≡ take depth (bits self) ++ digits n tail ++ zeros (bit_width - (depth + n)) };
+
+    /// The bits behind the first `n`, and then zeros.
+    ///
+    /// Asks that `n` is at most the width.
+    fn behind(self, n: u32) -> Self
+        requires { n ≤ bit_width }
+        ensures key { IsKey result }
+        ensures value { bits result ≡ drop n (bits self) ++ zeros n };
 
     /// The key whose number is `2^k`.
     ///

@@ -53,6 +53,13 @@ impl Key for u8 {
     }
 
     #[inline]
+    #[tactic(auto, using(crate::specs::BitStrings::digits_behind, crate::specs::BitStrings::behind_all))]
+    fn behind(self, n: u32) -> u8 {
+        // no shift is as wide as the number
+        if n < 8 { self << n } else { 0 }
+    }
+
+    #[inline]
     #[tactic(auto, using(crate::specs::BitStrings::number_of_digits))]
     fn plus(self, other: u8) -> Option<u8> {
         self.checked_add(other)
@@ -101,6 +108,13 @@ impl Key for u16 {
     #[inline]
     fn extend(self, depth: u32, n: u32, tail: u32) -> u16 {
         extend_of(u64::from(self), 16, depth, n, tail) as u16
+    }
+
+    #[inline]
+    #[tactic(auto, using(crate::specs::BitStrings::digits_behind, crate::specs::BitStrings::behind_all))]
+    fn behind(self, n: u32) -> u16 {
+        // no shift is as wide as the number
+        if n < 16 { self << n } else { 0 }
     }
 
     #[inline]
@@ -155,6 +169,13 @@ impl Key for u32 {
     }
 
     #[inline]
+    #[tactic(auto, using(crate::specs::BitStrings::digits_behind, crate::specs::BitStrings::behind_all))]
+    fn behind(self, n: u32) -> u32 {
+        // no shift is as wide as the number
+        if n < 32 { self << n } else { 0 }
+    }
+
+    #[inline]
     #[tactic(auto, using(crate::specs::BitStrings::number_of_digits))]
     fn plus(self, other: u32) -> Option<u32> {
         self.checked_add(other)
@@ -203,6 +224,13 @@ impl Key for u64 {
     #[inline]
     fn extend(self, depth: u32, n: u32, tail: u32) -> u64 {
         extend_of(self, 64, depth, n, tail)
+    }
+
+    #[inline]
+    #[tactic(auto, using(crate::specs::BitStrings::digits_behind, crate::specs::BitStrings::behind_all))]
+    fn behind(self, n: u32) -> u64 {
+        // no shift is as wide as the number
+        if n < 64 { self << n } else { 0 }
     }
 
     #[inline]
@@ -257,6 +285,13 @@ impl Key for usize {
     }
 
     #[inline]
+    #[tactic(auto, using(crate::specs::BitStrings::digits_behind, crate::specs::BitStrings::behind_all))]
+    fn behind(self, n: u32) -> usize {
+        // no shift is as wide as the number
+        if n < 64 { self << n } else { 0 }
+    }
+
+    #[inline]
     #[tactic(auto, using(crate::specs::BitStrings::number_of_digits))]
     fn plus(self, other: usize) -> Option<usize> {
         self.checked_add(other)
@@ -305,6 +340,13 @@ impl Key for u128 {
     #[inline]
     fn extend(self, depth: u32, n: u32, tail: u32) -> u128 {
         wide_digits::extend_of(self, 128, depth, n, tail)
+    }
+
+    #[inline]
+    #[tactic(auto, using(crate::specs::BitStrings::digits_behind, crate::specs::BitStrings::behind_all))]
+    fn behind(self, n: u32) -> u128 {
+        // no shift is as wide as the number
+        if n < 128 { self << n } else { 0 }
     }
 
     #[inline]
