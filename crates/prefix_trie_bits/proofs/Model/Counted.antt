@@ -3,7 +3,7 @@ use Rattle.std.proofs.Common.{◌≡◌, ◌≢◌, ◌<◌, ◌≤◌, map, tak
 use Rattle.std.proofs.lemmas.List.{take_more, map-append}
 use Rattle.std.proofs.lemmas.List.Elements.{All-head, All-tail, All-nil, All-cons}
 use Rattle.std.specs.List.{All}
-use Rattle.prefix_trie_bits.specs.Model.Step.{State, Call, Insert, Get, Lpm, Spm, Remove, RemoveKeepTree, RemoveChildren, RetainAtLeast, Clear, Len, NodeCount, AddressCount, ListAll, ListFrom, Children, Cover, CallFits, Reply, Step, Runs}
+use Rattle.prefix_trie_bits.specs.Model.Step.{State, Call, Insert, Get, Lpm, Spm, Remove, RemoveKeepTree, RemoveChildren, RetainAtLeast, Clear, ListFrom, Children, Cover, CallFits, Reply, Step, Runs}
 use Rattle.prefix_trie_bits.specs.Model.Storage.{Storage, RunInStorage}
 use Rattle.prefix_trie_bits.specs.Model.Counted.{tidy_after, tidy_after_all, TidyIf, CountedStep, CountedFrom}
 use Rattle.prefix_trie_bits.specs.Laws.Counted.{CountedLaws}
@@ -13,22 +13,8 @@ use Rattle.prefix_trie_bits.proofs.Model.Steps.{stays_map, step_laws}
 
 module _ {P T : Type 0} where
   abbrev keeps_tree : Call P T → Bool
-  keeps_tree (Insert q v) = false
-  keeps_tree (Get q) = false
-  keeps_tree (Lpm q) = false
-  keeps_tree (Spm q) = false
-  keeps_tree (Remove q) = false
   keeps_tree (RemoveKeepTree q) = true
-  keeps_tree (RemoveChildren q) = false
-  keeps_tree (RetainAtLeast n) = false
-  keeps_tree Clear = false
-  keeps_tree Len = false
-  keeps_tree NodeCount = false
-  keeps_tree AddressCount = false
-  keeps_tree ListAll = false
-  keeps_tree (ListFrom q inclusive) = false
-  keeps_tree (Children q) = false
-  keeps_tree (Cover q) = false
+  keeps_tree call = false
 
   -- a call whose prefix is as one fact says, where another follows from it
   fits_more : {Fits More : P → Type 0} → ((q : P) → Fits q → More q) → (call : Call P T) → CallFits Fits call → CallFits More call
@@ -39,15 +25,10 @@ module _ {P T : Type 0} where
   fits_more more (Remove q) fit = more q fit
   fits_more more (RemoveKeepTree q) fit = more q fit
   fits_more more (RemoveChildren q) fit = more q fit
-  fits_more more (RetainAtLeast n) fit = tt
-  fits_more more Clear fit = tt
-  fits_more more Len fit = tt
-  fits_more more NodeCount fit = tt
-  fits_more more AddressCount fit = tt
-  fits_more more ListAll fit = tt
   fits_more more (ListFrom q inclusive) fit = more q fit
   fits_more more (Children q) fit = more q fit
   fits_more more (Cover q) fit = more q fit
+  fits_more more call fit = tt
 
   -- the same of each call in a list
   pub all_fit_more : {Fits More : P → Type 0} {C' : Type 0} → ((q : P) → Fits q → More q) → (call_of : C' → Call P T) (calls : List C') → All (λ c. CallFits Fits (call_of c)) calls → All (CallFits More) (map call_of calls)
@@ -67,22 +48,10 @@ module _ {P T : Type 0} (path : P → List Bool) (back : List Bool → P) (width
 
   -- what is known behind a step
   tidy_step : (tidy : Bool) (s : State T) (call : Call P T) (reply : Reply P T) (t : State T) → Step path back width s call reply t → IsMap width s → TidyIf tidy s → TidyIf (tidy_after tidy call) t
-  tidy_step tidy s (Insert q v) reply t step good is_tidy = stays tidy s (Insert q v) reply t refl step good is_tidy
-  tidy_step tidy s (Get q) reply t step good is_tidy = stays tidy s (Get q) reply t refl step good is_tidy
-  tidy_step tidy s (Lpm q) reply t step good is_tidy = stays tidy s (Lpm q) reply t refl step good is_tidy
-  tidy_step tidy s (Spm q) reply t step good is_tidy = stays tidy s (Spm q) reply t refl step good is_tidy
-  tidy_step tidy s (Remove q) reply t step good is_tidy = stays tidy s (Remove q) reply t refl step good is_tidy
   tidy_step tidy s (RemoveKeepTree q) reply t step good is_tidy = λ is. absurd (true≢false (sym is))
-  tidy_step tidy s (RemoveChildren q) reply t step good is_tidy = stays tidy s (RemoveChildren q) reply t refl step good is_tidy
   tidy_step tidy s (RetainAtLeast n) reply t step good is_tidy = λ _. ((step_laws P T).of_step path back width s (RetainAtLeast n) reply t step).retained_tidy n refl
   tidy_step tidy s Clear reply t step good is_tidy = λ _. ((step_laws P T).of_step path back width s Clear reply t step).cleared_tidy refl
-  tidy_step tidy s Len reply t step good is_tidy = stays tidy s Len reply t refl step good is_tidy
-  tidy_step tidy s NodeCount reply t step good is_tidy = stays tidy s NodeCount reply t refl step good is_tidy
-  tidy_step tidy s AddressCount reply t step good is_tidy = stays tidy s AddressCount reply t refl step good is_tidy
-  tidy_step tidy s ListAll reply t step good is_tidy = stays tidy s ListAll reply t refl step good is_tidy
-  tidy_step tidy s (ListFrom q inclusive) reply t step good is_tidy = stays tidy s (ListFrom q inclusive) reply t refl step good is_tidy
-  tidy_step tidy s (Children q) reply t step good is_tidy = stays tidy s (Children q) reply t refl step good is_tidy
-  tidy_step tidy s (Cover q) reply t step good is_tidy = stays tidy s (Cover q) reply t refl step good is_tidy
+  tidy_step tidy s call reply t step good is_tidy = stays tidy s call reply t refl step good is_tidy
 
   -- steps with their counts, as a loop makes them: nothing is said yet of the nodes
   abbrev pub StepsSoFar : State T × Storage → List (Call P T) → List (Reply P T) → List (Option ℕ) → State T × Storage → Type 0

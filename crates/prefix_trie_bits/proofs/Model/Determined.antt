@@ -3,7 +3,7 @@ use Rattle.std.proofs.Common.{◌≡◌, ◌↔◌, ℕ, Bool, true, false, not,
 use Rattle.std.specs.FinMap.{get, contains_key}
 use Rattle.prefix_trie_bits.specs.Model.Entries.{with_entry}
 use Rattle.prefix_trie_bits.specs.Model.Nodes.{with_needed}
-use Rattle.prefix_trie_bits.specs.Model.Step.{State, Call, Insert, Get, Lpm, Spm, Remove, RemoveKeepTree, RemoveChildren, RetainAtLeast, Clear, Len, NodeCount, AddressCount, ListAll, ListFrom, Children, Cover, Reply, Value, Match, Done, Count, Addresses, Items, Refused, Refusal, Memory, IndexRange, Lists, Step}
+use Rattle.prefix_trie_bits.specs.Model.Step.{State, Call, Insert, ListAll, ListFrom, Children, Cover, Reply, Value, Items, Refused, Refusal, Memory, IndexRange, Lists, Step}
 use Rattle.prefix_trie_bits.specs.Laws.Determined.{is_memory, is_refusal, may_refuse, DeterminedLaws}
 use Rattle.prefix_trie_bits.proofs.Model.Members.{from-not, not-true}
 
@@ -13,13 +13,8 @@ memory-is IndexRange e = absurd (true≢false (sym e))
 
 module _ {P T : Type 0} where
   abbrev pub cause_of : Reply P T → Refusal
-  cause_of (Value o) = Memory
-  cause_of (Match o) = Memory
-  cause_of Done = Memory
-  cause_of (Count n) = Memory
-  cause_of (Addresses o) = Memory
-  cause_of (Items es) = Memory
   cause_of (Refused cause) = cause
+  cause_of reply = Memory
 
   -- a refusal is no other reply
   pub no_refusal : {A : Type 0} (reply other : Reply P T) → is_refusal reply ≡ true → is_refusal other ≡ false → reply ≡ other → A
@@ -58,21 +53,11 @@ module _ {P T : Type 0} (path : P → List Bool) (back : List Bool → P) (width
 
   pub same : (s : State T) (call : Call P T) (reply other : Reply P T) (t u : State T) → is_refusal reply ≡ false → is_refusal other ≡ false → Step path back width s call reply t → Step path back width s call other u → (reply ≡ other) × (t ≡ u)
   same s (Insert q v) reply other t u answers too a b = both reply other _ t u _ (set s q v reply t answers a) (set s q v other u too b)
-  same s (Get q) reply other t u answers too a b = both reply other _ t u s a b
-  same s (Lpm q) reply other t u answers too a b = both reply other _ t u s a b
-  same s (Spm q) reply other t u answers too a b = both reply other _ t u s a b
-  same s (Remove q) reply other t u answers too a b = both reply other _ t u _ a b
-  same s (RemoveKeepTree q) reply other t u answers too a b = both reply other _ t u _ a b
-  same s (RemoveChildren q) reply other t u answers too a b = both reply other _ t u _ a b
-  same s (RetainAtLeast n) reply other t u answers too a b = both reply other _ t u _ a b
-  same s Clear reply other t u answers too a b = both reply other _ t u _ a b
-  same s Len reply other t u answers too a b = both reply other _ t u s a b
-  same s NodeCount reply other t u answers too a b = both reply other _ t u s a b
-  same s AddressCount reply other t u answers too a b = both reply other _ t u s a b
   same s ListAll reply other t u answers too a b = lists s _ reply other t u answers too a b
   same s (ListFrom q inclusive) reply other t u answers too a b = lists s _ reply other t u answers too a b
   same s (Children q) reply other t u answers too a b = lists s _ reply other t u answers too a b
   same s (Cover q) reply other t u answers too a b = lists s _ reply other t u answers too a b
+  same s call reply other t u answers too a b = both reply other _ t u _ a b
 
   refused_set : (s : State T) (q : P) (v : T) (cause : Refusal) (t : State T) → Step path back width s (Insert q v) (Refused cause) t → (not (contains_key s.entries (path q)) ≡ true) × (t ≡ s)
   refused_set s q v cause t (inl (r, e)) = no_refusal (Refused cause) _ refl refl r
@@ -80,39 +65,19 @@ module _ {P T : Type 0} (path : P → List Bool) (back : List Bool → P) (width
 
   pub refused : (s : State T) (call : Call P T) (cause : Refusal) (t : State T) → Step path back width s call (Refused cause) t ↔ ((may_refuse path s call cause ≡ true) × (t ≡ s))
   refused s (Insert q v) cause t = (refused_set s q v cause t, λ m. inr (from-not _ m.0, cause, refl, m.1))
-  refused s (Get q) cause t = never s cause _ t _ refl
-  refused s (Lpm q) cause t = never s cause _ t _ refl
-  refused s (Spm q) cause t = never s cause _ t _ refl
-  refused s (Remove q) cause t = never s cause _ t _ refl
-  refused s (RemoveKeepTree q) cause t = never s cause _ t _ refl
-  refused s (RemoveChildren q) cause t = never s cause _ t _ refl
-  refused s (RetainAtLeast n) cause t = never s cause _ t _ refl
-  refused s Clear cause t = never s cause _ t _ refl
-  refused s Len cause t = never s cause _ t _ refl
-  refused s NodeCount cause t = never s cause _ t _ refl
-  refused s AddressCount cause t = never s cause _ t _ refl
   refused s ListAll cause t = refused_list s _ cause t
   refused s (ListFrom q inclusive) cause t = refused_list s _ cause t
   refused s (Children q) cause t = refused_list s _ cause t
   refused s (Cover q) cause t = refused_list s _ cause t
+  refused s call cause t = never s cause _ t _ refl
 
   answered : (s : State T) (call : Call P T) → (reply : Reply P T) × (t : State T) × Step path back width s call reply t × (is_refusal reply ≡ false)
   answered s (Insert q v) = (_, _, inl (refl, refl), refl)
-  answered s (Get q) = (_, _, (refl, refl), refl)
-  answered s (Lpm q) = (_, _, (refl, refl), refl)
-  answered s (Spm q) = (_, _, (refl, refl), refl)
-  answered s (Remove q) = (_, _, (refl, refl), refl)
-  answered s (RemoveKeepTree q) = (_, _, (refl, refl), refl)
-  answered s (RemoveChildren q) = (_, _, (refl, refl), refl)
-  answered s (RetainAtLeast n) = (_, _, (refl, refl), refl)
-  answered s Clear = (_, _, (refl, refl), refl)
-  answered s Len = (_, _, (refl, refl), refl)
-  answered s NodeCount = (_, _, (refl, refl), refl)
-  answered s AddressCount = (_, _, (refl, refl), refl)
   answered s ListAll = (_, _, (inl refl, refl), refl)
   answered s (ListFrom q inclusive) = (_, _, (inl refl, refl), refl)
   answered s (Children q) = (_, _, (inl refl, refl), refl)
   answered s (Cover q) = (_, _, (inl refl, refl), refl)
+  answered s call = (_, _, (refl, refl), refl)
 
 pub determined_laws : (P T : Type 0) → DeterminedLaws P T
 determined_laws P T = record { same = same; refused = refused; answered = answered }

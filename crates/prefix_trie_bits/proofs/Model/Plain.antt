@@ -223,10 +223,7 @@ module _ {P T : Type 0} (path : P → List Bool) (back : List Bool → P) (width
   step_at s fate Len = stays s _ _ Len _ (here s) (ap Count (sym (len-entries s.entries)), refl)
   step_at s fate NodeCount = stays s _ _ NodeCount _ (here s) (ap Count (sym (len-entries s.nodes)), refl)
   step_at s fate AddressCount = stays s _ _ AddressCount _ (here s) (ap (λ n. Addresses (cond (n == 2 ^ width) None (Some n))) (sym (covered-halves width (keys s.entries))), refl)
-  step_at s fate ListAll = stays s _ _ ListAll _ (here s) (inl refl, refl)
-  step_at s fate (ListFrom q inclusive) = stays s _ _ (ListFrom q inclusive) _ (here s) (inl refl, refl)
-  step_at s fate (Children q) = stays s _ _ (Children q) _ (here s) (inl refl, refl)
-  step_at s fate (Cover q) = stays s _ _ (Cover q) _ (here s) (inl refl, refl)
+  step_at s fate call = stays s _ _ call _ (here s) (inl refl, refl)
 
   -- what the plain model answers to a list of calls is a run
   pub run_at : (s : State T) (cs : List (Call P T × Option Refusal)) → (t : State T) × Run path back width s (calls_of path back width cs) (play_all path back width (entries s.entries) (entries s.nodes) cs) t

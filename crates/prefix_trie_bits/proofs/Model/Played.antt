@@ -1,18 +1,13 @@
 -- A worked row holds where the plain model answers as it says.
 use Rattle.std.proofs.Common.{◌≡◌, ℕ, Bool, List, [], ◌∷◌, map, Option, Some, None, refl, ap, subst}
-use Rattle.prefix_trie_bits.specs.Model.Step.{State, Call, Reply, Value, Match, Done, Count, Addresses, Items, Refused, Refusal, Run}
+use Rattle.prefix_trie_bits.specs.Model.Step.{State, Call, Reply, Refused, Refusal, Run}
 use Rattle.prefix_trie_bits.specs.Rows.Examples.{path_at, back_at, new_map, Row, calls, replies, Gives, LeadsTo}
 use Rattle.prefix_trie_bits.proofs.Model.Plain.{from_new, ends, Shows, Marks, root_mark, calls_of, play_all, end_entries, end_nodes}
 
 -- why a call is refused, if it is
 abbrev fate_of : Reply (ℕ × ℕ) ℕ → Option Refusal
-fate_of (Value o) = None
-fate_of (Match o) = None
-fate_of Done = None
-fate_of (Count n) = None
-fate_of (Addresses o) = None
-fate_of (Items es) = None
 fate_of (Refused cause) = Some cause
+fate_of reply = None
 
 -- the calls of a row, each with its fate
 abbrev pub fated : Row → List (Call (ℕ × ℕ) ℕ × Option Refusal)

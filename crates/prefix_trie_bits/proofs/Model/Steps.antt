@@ -7,7 +7,7 @@ use Rattle.prefix_trie_bits.specs.Bits.{begins}
 use Rattle.prefix_trie_bits.specs.Order.{listing_cmp, same_string}
 use Rattle.prefix_trie_bits.specs.Model.Entries.{Entries, AreWithin, no_entries, with_entry, without_entry, without_below, part_at_least}
 use Rattle.prefix_trie_bits.specs.Model.Nodes.{Nodes, with_needed, needed, AreNodes, IsTidy, nodes_without}
-use Rattle.prefix_trie_bits.specs.Model.Step.{State, Call, Insert, Get, Lpm, Spm, Remove, RemoveKeepTree, RemoveChildren, RetainAtLeast, Clear, Len, NodeCount, AddressCount, ListAll, ListFrom, Children, Cover, CallFits, Reply, Count, Refused, Refusal, Step, Run}
+use Rattle.prefix_trie_bits.specs.Model.Step.{State, Call, Insert, Remove, RemoveKeepTree, RemoveChildren, RetainAtLeast, Clear, NodeCount, CallFits, Reply, Count, Refused, Refusal, Step, Run}
 use Rattle.prefix_trie_bits.specs.Laws.Steps.{IsMap, StepKeeps, StepLaws, touches}
 use Rattle.prefix_trie_bits.proofs.Model.Determined.{refused}
 use Rattle.prefix_trie_bits.proofs.Model.Runs.{runs_join}
@@ -45,9 +45,6 @@ module _ {P T : Type 0} (path : P → List Bool) (back : List Bool → P) (width
   stays_map s (Insert q v) reply t fits (inl (r, e)) h =
       subst (IsMap width) (sym e) (record { keys_within = insert_within width s.entries (path q) v fits h.keys_within; are_nodes = nodes_cond width s.entries s.nodes (path q) v fits h.are_nodes (contains_key s.entries (path q)) refl })
   stays_map s (Insert q v) reply t fits (inr (_, cause, r, e)) h = same_state s t e h
-  stays_map s (Get q) reply t fits (r, e) h = same_state s t e h
-  stays_map s (Lpm q) reply t fits (r, e) h = same_state s t e h
-  stays_map s (Spm q) reply t fits (r, e) h = same_state s t e h
   stays_map s (Remove q) reply t fits (r, e) h =
       subst (IsMap width) (sym e) (record { keys_within = fewer_within width s.entries (without_entry s.entries (path q)) (removed_fewer s.entries (path q)) h.keys_within; are_nodes = (remove_law width s.entries s.nodes (path q) h.are_nodes).are_nodes })
   stays_map s (RemoveKeepTree q) reply t fits (r, e) h =
@@ -58,13 +55,7 @@ module _ {P T : Type 0} (path : P → List Bool) (back : List Bool → P) (width
       let within = fewer_within width s.entries (part_at_least s.entries n) (part_fewer s.entries n) h.keys_within in
       subst (IsMap width) (sym e) (record { keys_within = within; are_nodes = AreNodes-needed width (part_at_least s.entries n) within })
   stays_map s Clear reply t fits (r, e) h = subst (IsMap width) (sym e) (record { keys_within = none_within T width; are_nodes = AreNodes-no_entries width })
-  stays_map s Len reply t fits (r, e) h = same_state s t e h
-  stays_map s NodeCount reply t fits (r, e) h = same_state s t e h
-  stays_map s AddressCount reply t fits (r, e) h = same_state s t e h
-  stays_map s ListAll reply t fits l h = same_state s t l.1 h
-  stays_map s (ListFrom q inclusive) reply t fits l h = same_state s t l.1 h
-  stays_map s (Children q) reply t fits l h = same_state s t l.1 h
-  stays_map s (Cover q) reply t fits l h = same_state s t l.1 h
+  stays_map s call reply t fits step h = same_state s t step.1 h
 
   abbrev TidyState : State T → Type 0
   TidyState s = IsTidy s.entries s.nodes
@@ -76,21 +67,12 @@ module _ {P T : Type 0} (path : P → List Bool) (back : List Bool → P) (width
   stays_tidy s (Insert q v) reply t other (inl (r, e)) h tidy =
       subst TidyState (sym e) (tidy_cond s.entries s.nodes (path q) v tidy (contains_key s.entries (path q)) refl)
   stays_tidy s (Insert q v) reply t other (inr (_, cause, r, e)) h tidy = same_tidy s t e tidy
-  stays_tidy s (Get q) reply t other (r, e) h tidy = same_tidy s t e tidy
-  stays_tidy s (Lpm q) reply t other (r, e) h tidy = same_tidy s t e tidy
-  stays_tidy s (Spm q) reply t other (r, e) h tidy = same_tidy s t e tidy
   stays_tidy s (Remove q) reply t other (r, e) h tidy = subst TidyState (sym e) ((remove_law width s.entries s.nodes (path q) h.are_nodes).stays_tidy tidy)
   stays_tidy s (RemoveKeepTree q) reply t other (r, e) h tidy = absurd (other q refl)
   stays_tidy s (RemoveChildren q) reply t other (r, e) h tidy = subst TidyState (sym e) ((remove_children_law width s.entries s.nodes (path q) h.are_nodes).stays_tidy tidy)
   stays_tidy s (RetainAtLeast n) reply t other (r, e) h tidy = subst TidyState (sym e) refl
   stays_tidy s Clear reply t other (r, e) h tidy = subst TidyState (sym e) (tidy-no_entries T)
-  stays_tidy s Len reply t other (r, e) h tidy = same_tidy s t e tidy
-  stays_tidy s NodeCount reply t other (r, e) h tidy = same_tidy s t e tidy
-  stays_tidy s AddressCount reply t other (r, e) h tidy = same_tidy s t e tidy
-  stays_tidy s ListAll reply t other l h tidy = same_tidy s t l.1 tidy
-  stays_tidy s (ListFrom q inclusive) reply t other l h tidy = same_tidy s t l.1 tidy
-  stays_tidy s (Children q) reply t other l h tidy = same_tidy s t l.1 tidy
-  stays_tidy s (Cover q) reply t other l h tidy = same_tidy s t l.1 tidy
+  stays_tidy s call reply t other step h tidy = same_tidy s t step.1 tidy
 
   retained_tidy : (s : State T) (n : ℕ) (reply : Reply P T) (t : State T) → Step path back width s (RetainAtLeast n) reply t → TidyState t
   retained_tidy s n reply t (r, e) = subst TidyState (sym e) refl
@@ -121,21 +103,12 @@ module _ {P T : Type 0} (path : P → List Bool) (back : List Bool → P) (width
   pub untouched : (s : State T) (call : Call P T) (reply : Reply P T) (t : State T) (k : List Bool) → touches path call k ≡ false → Step path back width s call reply t → get t.entries k ≡ get s.entries k
   untouched s (Insert q v) reply t k away (inl (r, e)) = ap (λ x. get x.entries k) e ∙ get-with_entry s.entries (path q) v k ∙ away_from (same_string k (path q)) _ _ away
   untouched s (Insert q v) reply t k away (inr (_, cause, r, e)) = still s t k e
-  untouched s (Get q) reply t k away (r, e) = still s t k e
-  untouched s (Lpm q) reply t k away (r, e) = still s t k e
-  untouched s (Spm q) reply t k away (r, e) = still s t k e
   untouched s (Remove q) reply t k away (r, e) = ap (λ x. get x.entries k) e ∙ get-without_entry s.entries (path q) k ∙ away_from (same_string k (path q)) _ _ away
   untouched s (RemoveKeepTree q) reply t k away (r, e) = ap (λ x. get x.entries k) e ∙ get-without_entry s.entries (path q) k ∙ away_from (same_string k (path q)) _ _ away
   untouched s (RemoveChildren q) reply t k away (r, e) = ap (λ x. get x.entries k) e ∙ get-without_below s.entries (path q) k ∙ away_from (begins (path q) k) _ _ away
   untouched s (RetainAtLeast n) reply t k away (r, e) = ap (λ x. get x.entries k) e ∙ get-part_at_least s.entries n k ∙ at_least (nat_le n (length k)) _ _ away
   untouched s Clear reply t k away h = absurd (true≢false away)
-  untouched s Len reply t k away (r, e) = still s t k e
-  untouched s NodeCount reply t k away (r, e) = still s t k e
-  untouched s AddressCount reply t k away (r, e) = still s t k e
-  untouched s ListAll reply t k away l = still s t k l.1
-  untouched s (ListFrom q inclusive) reply t k away l = still s t k l.1
-  untouched s (Children q) reply t k away l = still s t k l.1
-  untouched s (Cover q) reply t k away l = still s t k l.1
+  untouched s call reply t k away step = still s t k step.1
 
 module _ {T : Type 0} where
   undone : (b : Bool) (m : Entries T) (s q : List Bool) (v : T) → same_string q s ≡ b → get m s ≡ None → cond b None (cond b (Some v) (get m q)) ≡ get m q

@@ -10,7 +10,7 @@ use Rattle.prefix_trie_bits.specs.Model.Entries.{Entries, with_entry, without_en
 use Rattle.prefix_trie_bits.specs.Model.Insertion.{node_slots_lacking, cell_slots_lacking}
 use Rattle.prefix_trie_bits.specs.Model.Nodes.{Nodes, has_node, with_needed, needed, root_alone, pruned, nodes_not_below, nodes_without, nodes_without_below}
 use Rattle.prefix_trie_bits.specs.Model.Room.{LeavesRoom, MayPassLimit}
-use Rattle.prefix_trie_bits.specs.Model.Step.{State, Call, Insert, Get, Lpm, Spm, Remove, RemoveKeepTree, RemoveChildren, RetainAtLeast, Clear, Len, NodeCount, AddressCount, ListAll, ListFrom, Children, Cover, CallFits, Reply, Value, Done, Refused, Refusal, IndexRange, Step}
+use Rattle.prefix_trie_bits.specs.Model.Step.{State, Call, Insert, Remove, RemoveKeepTree, RemoveChildren, RetainAtLeast, Clear, ListAll, ListFrom, Children, Cover, CallFits, Reply, Value, Done, Refused, Refusal, IndexRange, Step}
 use Rattle.prefix_trie_bits.specs.Model.Storage.{Storage, cleared, HaveBlocks, LeavesStorage, InsertsInStorage, RefusesInStorage, StepInStorage, RunInStorage}
 use Rattle.prefix_trie_bits.specs.Laws.Determined.{is_memory, is_refusal, may_refuse}
 use Rattle.prefix_trie_bits.specs.Laws.Steps.{IsMap}
@@ -268,9 +268,6 @@ module _ {P T : Type 0} (path : P → List Bool) (back : List Bool → P) (width
   -- a call is answered, or it is an insertion without room
   decided : (call : Call P T) → width ≤ 128 → CallFits (λ q. length (path q) ≤ width) call → Answers call ⊎ IsFull call
   decided (Insert q v) short fits = inserts q v short fits
-  decided (Get q) short fits = inl (asks (Get q) _ refl (refl, refl) refl)
-  decided (Lpm q) short fits = inl (asks (Lpm q) _ refl (refl, refl) refl)
-  decided (Spm q) short fits = inl (asks (Spm q) _ refl (refl, refl) refl)
   decided (Remove q) short fits = inl (removes q fits)
   decided (RemoveKeepTree q) short fits = inl (removes_keeping q fits)
   decided (RemoveChildren q) short fits = inl (elim (cases_eq (length (path q)) 0) as (λ _. Answers (RemoveChildren q)) [
@@ -279,13 +276,11 @@ module _ {P T : Type 0} (path : P → List Bool) (back : List Bool → P) (width
   ])
   decided (RetainAtLeast n) short fits = inl (retains n)
   decided Clear short fits = inl clears
-  decided Len short fits = inl (asks Len _ refl (refl, refl) refl)
-  decided NodeCount short fits = inl (asks NodeCount _ refl (refl, refl) refl)
-  decided AddressCount short fits = inl (asks AddressCount _ refl (refl, refl) refl)
   decided ListAll short fits = inl (asks ListAll _ refl (inl refl, refl) refl)
   decided (ListFrom q inclusive) short fits = inl (asks (ListFrom q inclusive) _ refl (inl refl, refl) refl)
   decided (Children q) short fits = inl (asks (Children q) _ refl (inl refl, refl) refl)
   decided (Cover q) short fits = inl (asks (Cover q) _ refl (inl refl, refl) refl)
+  decided call short fits = inl (asks call _ refl (refl, refl) refl)
 
   cause_is : (a b : Refusal) → ◌≡◌ {A = Reply P T} (Refused a) (Refused b) → a ≡ b
   cause_is a b e = ap cause_of e
@@ -310,21 +305,11 @@ module _ {P T : Type 0} (path : P → List Bool) (back : List Bool → P) (width
   refused_call : (call : Call P T) (cause : Refusal) → width ≤ 128 → CallFits (λ q. length (path q) ≤ width) call → may_refuse path s.0 call cause ≡ true
       → ((q : P) (v : T) → call ≡ Insert q v → GivesCause s (path q) cause) → StepInStorage path back width s call (Refused cause) s
   refused_call (Insert q v) cause short fits may given = refused_insertion q v cause short fits (from-not (contains_key s.0.entries (path q)) may) (given q v refl)
-  refused_call (Get q) cause short fits may given = absurd (true≢false (sym may))
-  refused_call (Lpm q) cause short fits may given = absurd (true≢false (sym may))
-  refused_call (Spm q) cause short fits may given = absurd (true≢false (sym may))
-  refused_call (Remove q) cause short fits may given = absurd (true≢false (sym may))
-  refused_call (RemoveKeepTree q) cause short fits may given = absurd (true≢false (sym may))
-  refused_call (RemoveChildren q) cause short fits may given = absurd (true≢false (sym may))
-  refused_call (RetainAtLeast n) cause short fits may given = absurd (true≢false (sym may))
-  refused_call Clear cause short fits may given = absurd (true≢false (sym may))
-  refused_call Len cause short fits may given = absurd (true≢false (sym may))
-  refused_call NodeCount cause short fits may given = absurd (true≢false (sym may))
-  refused_call AddressCount cause short fits may given = absurd (true≢false (sym may))
   refused_call ListAll cause short fits may given = refused_list ListAll cause may ((refused path back width s.0 ListAll cause s.0).1 (may, refl)) refl
   refused_call (ListFrom q inclusive) cause short fits may given = refused_list (ListFrom q inclusive) cause may ((refused path back width s.0 (ListFrom q inclusive) cause s.0).1 (may, refl)) refl
   refused_call (Children q) cause short fits may given = refused_list (Children q) cause may ((refused path back width s.0 (Children q) cause s.0).1 (may, refl)) refl
   refused_call (Cover q) cause short fits may given = refused_list (Cover q) cause may ((refused path back width s.0 (Cover q) cause s.0).1 (may, refl)) refl
+  refused_call call cause short fits may given = absurd (true≢false (sym may))
 
   answered : (call : Call P T) → width ≤ 128 → CallFits (λ q. length (path q) ≤ width) call
       → ((q : P) (v : T) → call ≡ Insert q v → contains_key s.0.entries (path q) ≡ false → GivesCause s (path q) IndexRange → ⊥) → Answers call

@@ -6,7 +6,7 @@ use Rattle.prefix_trie_bits.specs.Order.{listing_cmp, same_string}
 use Rattle.prefix_trie_bits.specs.Model.Blocks.{Sizes, StepsDown, SizesStepDown, HasBlock, NodesHaveBlocks, child_block_sizes, value_block_sizes, child_count, own_entries}
 use Rattle.prefix_trie_bits.specs.Model.Entries.{with_entry, without_entry, no_entries}
 use Rattle.prefix_trie_bits.specs.Model.Nodes.{Nodes, has_node, root_alone, with_needed}
-use Rattle.prefix_trie_bits.specs.Model.Step.{State, Call, Insert, Get, Lpm, Spm, Remove, RemoveKeepTree, RemoveChildren, RetainAtLeast, Clear, Len, NodeCount, AddressCount, ListAll, ListFrom, Children, Cover, CallFits, Reply}
+use Rattle.prefix_trie_bits.specs.Model.Step.{State, Call, Insert, Remove, RemoveKeepTree, RemoveChildren, RetainAtLeast, Clear, CallFits, Reply}
 use Rattle.prefix_trie_bits.specs.Model.Storage.{Storage, cleared, HaveBlocks, StepInStorage}
 use Rattle.prefix_trie_bits.specs.Laws.Steps.{IsMap}
 use Rattle.prefix_trie_bits.specs.Laws.Storage.{may_change}
@@ -133,21 +133,12 @@ module _ {P T : Type 0} (path : P → List Bool) (back : List Bool → P) (width
 
   blocks : (call : Call P T) → ((n : ℕ) → call ≢ RetainAtLeast n) → ((q : P) → call ≢ RemoveChildren q) → Stays call
   blocks (Insert q v) some below = inserted q v
-  blocks (Get q) some below = as_it_was (Get q) refl
-  blocks (Lpm q) some below = as_it_was (Lpm q) refl
-  blocks (Spm q) some below = as_it_was (Spm q) refl
   blocks (Remove q) some below = removed q
   blocks (RemoveKeepTree q) some below = removed_keeping q
   blocks (RemoveChildren q) some below = absurd (below q refl)
   blocks (RetainAtLeast n) some below = absurd (some n refl)
   blocks Clear some below = cleared_all
-  blocks Len some below = as_it_was Len refl
-  blocks NodeCount some below = as_it_was NodeCount refl
-  blocks AddressCount some below = as_it_was AddressCount refl
-  blocks ListAll some below = as_it_was ListAll refl
-  blocks (ListFrom q inclusive) some below = as_it_was (ListFrom q inclusive) refl
-  blocks (Children q) some below = as_it_was (Children q) refl
-  blocks (Cover q) some below = as_it_was (Cover q) refl
+  blocks call some below = as_it_was call refl
 
   pub stays_stored : (call : Call P T) (reply : Reply P T) (t : State T × Storage) → CallFits (λ q. length (path q) ≤ width) call
       → ((n : ℕ) → call ≢ RetainAtLeast n) → ((q : P) → call ≢ RemoveChildren q) → StepInStorage path back width s call reply t → IsStoredMap width t

@@ -5,7 +5,7 @@ use Rattle.prefix_trie_bits.specs.Model.Blocks.{Sizes}
 use Rattle.prefix_trie_bits.specs.Model.Room.{Room}
 use Rattle.prefix_trie_bits.specs.Model.Insertion.{TakesBlocks}
 use Rattle.prefix_trie_bits.specs.Model.Nodes.{is_root}
-use Rattle.prefix_trie_bits.specs.Model.Step.{State, Call, Insert, Get, Lpm, Spm, Remove, RemoveKeepTree, RemoveChildren, RetainAtLeast, Clear, Len, NodeCount, AddressCount, ListAll, ListFrom, Children, Cover, Reply, Refused, Refusal}
+use Rattle.prefix_trie_bits.specs.Model.Step.{State, Call, Insert, Remove, RemoveKeepTree, RemoveChildren, RetainAtLeast, Clear, Reply, Refused, Refusal}
 use Rattle.prefix_trie_bits.specs.Model.Storage.{Storage, InsertsInStorage, StepInStorage}
 use Rattle.prefix_trie_bits.specs.Laws.Determined.{is_refusal}
 use Rattle.prefix_trie_bits.specs.Laws.Storage.{asks_length, may_change, UseAlike, LeavesFixed, StorageLaws}
@@ -46,21 +46,12 @@ module _ {P T : Type 0} (path : P → List Bool) (back : List Bool → P) (width
 
   pub unchanged : (s : State T × Storage) (call : Call P T) (reply : Reply P T) (t : State T × Storage) → may_change call ≡ false → Stored s call reply t → t ≡ s
   unchanged s (Insert q v) reply t e h = absurd (true≢false e)
-  unchanged s (Get q) reply t e h = unchanged_pair s t h.step.1 h.storage
-  unchanged s (Lpm q) reply t e h = unchanged_pair s t h.step.1 h.storage
-  unchanged s (Spm q) reply t e h = unchanged_pair s t h.step.1 h.storage
   unchanged s (Remove q) reply t e h = absurd (true≢false e)
   unchanged s (RemoveKeepTree q) reply t e h = absurd (true≢false e)
   unchanged s (RemoveChildren q) reply t e h = absurd (true≢false e)
   unchanged s (RetainAtLeast n) reply t e h = absurd (true≢false e)
   unchanged s Clear reply t e h = absurd (true≢false e)
-  unchanged s Len reply t e h = unchanged_pair s t h.step.1 h.storage
-  unchanged s NodeCount reply t e h = unchanged_pair s t h.step.1 h.storage
-  unchanged s AddressCount reply t e h = unchanged_pair s t h.step.1 h.storage
-  unchanged s ListAll reply t e h = unchanged_pair s t h.step.1 h.storage
-  unchanged s (ListFrom q inclusive) reply t e h = unchanged_pair s t h.step.1 h.storage
-  unchanged s (Children q) reply t e h = unchanged_pair s t h.step.1 h.storage
-  unchanged s (Cover q) reply t e h = unchanged_pair s t h.step.1 h.storage
+  unchanged s call reply t e h = unchanged_pair s t h.step.1 h.storage
 
   abbrev BlocksStay : State T × Storage → State T × Storage → Type 0
   BlocksStay s t = (t.1.layout.child_blocks ≡ s.1.layout.child_blocks) × (t.1.layout.value_blocks ≡ s.1.layout.value_blocks)
@@ -70,21 +61,12 @@ module _ {P T : Type 0} (path : P → List Bool) (back : List Bool → P) (width
 
   refused : (s : State T × Storage) (call : Call P T) (cause : Refusal) (t : State T × Storage) → Stored s call (Refused cause) t → BlocksStay s t
   refused s (Insert q v) cause t h = let left = h.storage.2 cause refl in (left.child_blocks, left.value_blocks)
-  refused s (Get q) cause t h = stay s t h.storage
-  refused s (Lpm q) cause t h = stay s t h.storage
-  refused s (Spm q) cause t h = stay s t h.storage
   refused s (Remove q) cause t h = no_refusal (Refused cause) _ refl refl h.step.0
   refused s (RemoveKeepTree q) cause t h = no_refusal (Refused cause) _ refl refl h.step.0
   refused s (RemoveChildren q) cause t h = no_refusal (Refused cause) _ refl refl h.step.0
   refused s (RetainAtLeast n) cause t h = no_refusal (Refused cause) _ refl refl h.step.0
   refused s Clear cause t h = no_refusal (Refused cause) _ refl refl h.step.0
-  refused s Len cause t h = stay s t h.storage
-  refused s NodeCount cause t h = stay s t h.storage
-  refused s AddressCount cause t h = stay s t h.storage
-  refused s ListAll cause t h = stay s t h.storage
-  refused s (ListFrom q inclusive) cause t h = stay s t h.storage
-  refused s (Children q) cause t h = stay s t h.storage
-  refused s (Cover q) cause t h = stay s t h.storage
+  refused s call cause t h = stay s t h.storage
 
   fixed : (s : State T × Storage) (call : Call P T) (reply : Reply P T) (t : State T × Storage) → Stored s call reply t → LeavesFixed path back width s call reply t
   fixed s call reply t h = record {
