@@ -1,7 +1,7 @@
 -- A step is determined up to refusal, and each call has one.
 use Rattle.std.specs.Prelude.{◌≡◌, ◌↔◌, ℕ, Bool, true, false, not, List}
 use Rattle.std.specs.FinMap.{contains_key}
-use Rattle.prefix_trie_bits.specs.Model.Step.{State, Call, Insert, Get, Lpm, Spm, Remove, RemoveKeepTree, RemoveChildren, RetainAtLeast, Clear, Len, NodeCount, AddressCount, ListAll, ListFrom, Children, Cover, Reply, Value, Match, Done, Count, Addresses, Items, Refused, Refusal, Memory, IndexRange, Step}
+use Rattle.prefix_trie_bits.specs.Model.Step.{State, Call, Insert, ListAll, ListFrom, Children, Cover, Reply, Refused, Refusal, Memory, IndexRange, Step}
 
 abbrev pub is_memory : Refusal → Bool
 is_memory Memory = true
@@ -10,33 +10,18 @@ is_memory IndexRange = false
 module _ {P T : Type 0} where
   -- whether a reply is a refusal
   abbrev pub is_refusal : Reply P T → Bool
-  is_refusal (Value o) = false
-  is_refusal (Match o) = false
-  is_refusal Done = false
-  is_refusal (Count n) = false
-  is_refusal (Addresses o) = false
-  is_refusal (Items es) = false
   is_refusal (Refused cause) = true
+  is_refusal reply = false
 
   -- whether a call may be refused for a cause: the insertion of a new key for either, a list for want of memory, and no other
   -- call
   abbrev pub may_refuse : (P → List Bool) → State T → Call P T → Refusal → Bool
   may_refuse path s (Insert q v) cause = not (contains_key s.entries (path q))
-  may_refuse path s (Get q) cause = false
-  may_refuse path s (Lpm q) cause = false
-  may_refuse path s (Spm q) cause = false
-  may_refuse path s (Remove q) cause = false
-  may_refuse path s (RemoveKeepTree q) cause = false
-  may_refuse path s (RemoveChildren q) cause = false
-  may_refuse path s (RetainAtLeast n) cause = false
-  may_refuse path s Clear cause = false
-  may_refuse path s Len cause = false
-  may_refuse path s NodeCount cause = false
-  may_refuse path s AddressCount cause = false
   may_refuse path s ListAll cause = is_memory cause
   may_refuse path s (ListFrom q inclusive) cause = is_memory cause
   may_refuse path s (Children q) cause = is_memory cause
   may_refuse path s (Cover q) cause = is_memory cause
+  may_refuse path s call cause = false
 
 pub record DeterminedLaws (P T : Type 0) : Type 0 where
   -- two steps of one call from one state that are not refused have the same reply and lead to the same state

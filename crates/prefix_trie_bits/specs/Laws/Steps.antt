@@ -5,7 +5,7 @@ use Rattle.prefix_trie_bits.specs.Bits.{begins}
 use Rattle.prefix_trie_bits.specs.Order.{same_string}
 use Rattle.prefix_trie_bits.specs.Model.Entries.{Entries, AreWithin, with_entry, without_entry}
 use Rattle.prefix_trie_bits.specs.Model.Nodes.{AreNodes, IsTidy, needed, with_needed, nodes_without}
-use Rattle.prefix_trie_bits.specs.Model.Step.{State, Call, Insert, Get, Lpm, Spm, Remove, RemoveKeepTree, RemoveChildren, RetainAtLeast, Clear, Len, NodeCount, AddressCount, ListAll, ListFrom, Children, Cover, CallFits, Reply, Count, Refused, Refusal, Step, Run}
+use Rattle.prefix_trie_bits.specs.Model.Step.{State, Call, Insert, Remove, RemoveKeepTree, RemoveChildren, RetainAtLeast, Clear, NodeCount, CallFits, Reply, Count, Refused, Refusal, Step, Run}
 
 -- what holds of every map: keys within the width, and a set of nodes for them
 pub record IsMap {T : Type 0} (width : ℕ) (s : State T) : Type 0 where
@@ -15,21 +15,12 @@ pub record IsMap {T : Type 0} (width : ℕ) (s : State T) : Type 0 where
 -- whether a call may set or remove the key k
 abbrev pub touches : {P T : Type 0} → (P → List Bool) → Call P T → List Bool → Bool
 touches path (Insert q v) k = same_string k (path q)
-touches path (Get q) k = false
-touches path (Lpm q) k = false
-touches path (Spm q) k = false
 touches path (Remove q) k = same_string k (path q)
 touches path (RemoveKeepTree q) k = same_string k (path q)
 touches path (RemoveChildren q) k = begins (path q) k
 touches path (RetainAtLeast n) k = not (nat_le n (length k))
 touches path Clear k = true
-touches path Len k = false
-touches path NodeCount k = false
-touches path AddressCount k = false
-touches path ListAll k = false
-touches path (ListFrom q inclusive) k = false
-touches path (Children q) k = false
-touches path (Cover q) k = false
+touches path call k = false
 
 module _ {P T : Type 0} (path : P → List Bool) (back : List Bool → P) (width : ℕ) where
   -- what a step from s to t keeps

@@ -2,7 +2,7 @@
 use Rattle.std.specs.Prelude.{◌≡◌, ℕ, Bool, true, false, List, length, nat_le}
 use Rattle.std.specs.FinMap.{contains_key}
 use Rattle.prefix_trie_bits.specs.Model.Nodes.{is_root}
-use Rattle.prefix_trie_bits.specs.Model.Step.{State, Call, Insert, Get, Lpm, Spm, Remove, RemoveKeepTree, RemoveChildren, RetainAtLeast, Clear, Len, NodeCount, AddressCount, ListAll, ListFrom, Children, Cover, Reply, Done, Refused, Refusal}
+use Rattle.prefix_trie_bits.specs.Model.Step.{State, Call, Insert, Remove, RemoveKeepTree, RemoveChildren, RetainAtLeast, Clear, Reply, Done, Refused, Refusal}
 use Rattle.prefix_trie_bits.specs.Model.Storage.{Storage, ReadiesInStorage, InsertsInStorage, RefusesInStorage, StepInStorage, RetainsInStorage, cleared}
 use Rattle.prefix_trie_bits.specs.Laws.Determined.{is_refusal}
 use Rattle.prefix_trie_bits.specs.Laws.Steps.{IsMap}
@@ -11,21 +11,12 @@ module _ {P T : Type 0} where
   -- whether a call can change a map
   abbrev pub may_change : Call P T → Bool
   may_change (Insert q v) = true
-  may_change (Get q) = false
-  may_change (Lpm q) = false
-  may_change (Spm q) = false
   may_change (Remove q) = true
   may_change (RemoveKeepTree q) = true
   may_change (RemoveChildren q) = true
   may_change (RetainAtLeast n) = true
   may_change Clear = true
-  may_change Len = false
-  may_change NodeCount = false
-  may_change AddressCount = false
-  may_change ListAll = false
-  may_change (ListFrom q inclusive) = false
-  may_change (Children q) = false
-  may_change (Cover q) = false
+  may_change call = false
 
 -- two storages have the same slots, and the same blocks in use
 pub record UseAlike (a b : Storage) : Type 0 where

@@ -2,7 +2,7 @@
 -- The bound is from Eatherton, Dittia and Varghese's tree bitmap; the rest is this project's own.
 use Rattle.std.specs.Prelude.{◌≡◌, ℕ, ◌+◌, ◌/◌, ◌≤◌, Bool, true, false, List, [], ◌∷◌, Option, Some, None, length}
 use Rattle.prefix_trie_bits.specs.Model.Nodes.{IsTidy}
-use Rattle.prefix_trie_bits.specs.Model.Step.{State, Call, Insert, Get, Lpm, Spm, Remove, RemoveKeepTree, RemoveChildren, RetainAtLeast, Clear, Len, NodeCount, AddressCount, ListAll, ListFrom, Children, Cover, Reply}
+use Rattle.prefix_trie_bits.specs.Model.Step.{State, Call, Get, Lpm, Spm, RemoveKeepTree, RetainAtLeast, Clear, Reply}
 use Rattle.prefix_trie_bits.specs.Model.Storage.{Storage, StepInStorage}
 use Rattle.prefix_trie_bits.specs.Model.Visits.{visits, visits_to_match}
 
@@ -10,22 +10,10 @@ module _ {P T : Type 0} where
   -- whether a map is known to be tidy behind a call, where `tidy` says it before: not behind a removal that leaves all nodes, and always
   -- behind a call that leaves only nodes that are needed
   abbrev pub tidy_after : Bool → Call P T → Bool
-  tidy_after tidy (Insert q v) = tidy
-  tidy_after tidy (Get q) = tidy
-  tidy_after tidy (Lpm q) = tidy
-  tidy_after tidy (Spm q) = tidy
-  tidy_after tidy (Remove q) = tidy
   tidy_after tidy (RemoveKeepTree q) = false
-  tidy_after tidy (RemoveChildren q) = tidy
   tidy_after tidy (RetainAtLeast n) = true
   tidy_after tidy Clear = true
-  tidy_after tidy Len = tidy
-  tidy_after tidy NodeCount = tidy
-  tidy_after tidy AddressCount = tidy
-  tidy_after tidy ListAll = tidy
-  tidy_after tidy (ListFrom q inclusive) = tidy
-  tidy_after tidy (Children q) = tidy
-  tidy_after tidy (Cover q) = tidy
+  tidy_after tidy call = tidy
 
   -- the same behind a list of calls
   abbrev pub tidy_after_all : Bool → List (Call P T) → Bool
@@ -44,22 +32,10 @@ ReadsExactly q n read = (read ≡ Some n) × (n ≤ length q / 5 + 1)
 module _ {P T : Type 0} (path : P → List Bool) where
   -- how many nodes a lookup reads; no other call is counted
   abbrev pub CountsReads : State T → Call P T → Option ℕ → Type 0
-  CountsReads s (Insert q v) read = read ≡ None
   CountsReads s (Get q) read = ReadsExactly (path q) (visits s.nodes (path q)) read
   CountsReads s (Lpm q) read = ReadsExactly (path q) (visits s.nodes (path q)) read
   CountsReads s (Spm q) read = ReadsExactly (path q) (visits_to_match s.entries s.nodes (path q)) read
-  CountsReads s (Remove q) read = read ≡ None
-  CountsReads s (RemoveKeepTree q) read = read ≡ None
-  CountsReads s (RemoveChildren q) read = read ≡ None
-  CountsReads s (RetainAtLeast n) read = read ≡ None
-  CountsReads s Clear read = read ≡ None
-  CountsReads s Len read = read ≡ None
-  CountsReads s NodeCount read = read ≡ None
-  CountsReads s AddressCount read = read ≡ None
-  CountsReads s ListAll read = read ≡ None
-  CountsReads s (ListFrom q inclusive) read = read ≡ None
-  CountsReads s (Children q) read = read ≡ None
-  CountsReads s (Cover q) read = read ≡ None
+  CountsReads s call read = read ≡ None
 
 module _ {P T : Type 0} (path : P → List Bool) (back : List Bool → P) (width : ℕ) where
   -- a step from s to t, with the number of nodes that its lookup reads

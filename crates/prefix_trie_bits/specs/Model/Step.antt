@@ -54,15 +54,10 @@ module _ {P T : Type 0} where
   CallFits Fits (Remove q) = Fits q
   CallFits Fits (RemoveKeepTree q) = Fits q
   CallFits Fits (RemoveChildren q) = Fits q
-  CallFits Fits (RetainAtLeast n) = ⊤
-  CallFits Fits Clear = ⊤
-  CallFits Fits Len = ⊤
-  CallFits Fits NodeCount = ⊤
-  CallFits Fits AddressCount = ⊤
-  CallFits Fits ListAll = ⊤
   CallFits Fits (ListFrom q inclusive) = Fits q
   CallFits Fits (Children q) = Fits q
   CallFits Fits (Cover q) = Fits q
+  CallFits Fits call = ⊤
 
   -- the reply is the list of these items, or a refusal for want of memory; the map is as it was
   abbrev pub Lists : State T → List (P × T) → Reply P T → State T → Type 0

@@ -7,7 +7,7 @@ use Rattle.prefix_trie_bits.specs.Model.Insertion.{PassesLimit, LacksWithinLimit
 use Rattle.prefix_trie_bits.specs.Model.Nodes.{home, needed}
 use Rattle.prefix_trie_bits.specs.Model.Room.{Room, MayPassLimit, LeavesRoom}
 use Rattle.prefix_trie_bits.specs.Model.Selections.{listing}
-use Rattle.prefix_trie_bits.specs.Model.Step.{State, Call, Insert, Get, Lpm, Spm, Remove, RemoveKeepTree, RemoveChildren, RetainAtLeast, Clear, Len, NodeCount, AddressCount, ListAll, ListFrom, Children, Cover, Reply, Value, Refused, Refusal, Memory, IndexRange, Step, Runs}
+use Rattle.prefix_trie_bits.specs.Model.Step.{State, Call, Insert, Remove, RemoveKeepTree, RemoveChildren, RetainAtLeast, Clear, Reply, Value, Refused, Refusal, Memory, IndexRange, Step, Runs}
 
 -- how a map is stored: the room of its two arrays, and how they are cut into blocks
 pub record Storage : Type 0 where
@@ -99,9 +99,6 @@ module _ {P T : Type 0} (path : P → List Bool) where
       (contains_key s.entries (path q) ≡ true → after ≡ before)
       × ((old : Option T) → contains_key s.entries (path q) ≡ false → reply ≡ Value old → InsertsInStorage s (path q) before after)
       × ((cause : Refusal) → reply ≡ Refused cause → RefusesInStorage s (path q) cause before after)
-  LeavesStorage s (Get q) reply t before after = after ≡ before
-  LeavesStorage s (Lpm q) reply t before after = after ≡ before
-  LeavesStorage s (Spm q) reply t before after = after ≡ before
   LeavesStorage s (Remove q) reply t before after =
       RemovesValueInStorage s t (path q) before after × PrunesInStorage s t before after
   LeavesStorage s (RemoveKeepTree q) reply t before after =
@@ -111,13 +108,7 @@ module _ {P T : Type 0} (path : P → List Bool) where
       (length (path q) ≡ 0 → after ≡ cleared before) × (0 < length (path q) → RemovesManyInStorage s t before after)
   LeavesStorage s (RetainAtLeast n) reply t before after = RemovesManyInStorage s t before after
   LeavesStorage s Clear reply t before after = after ≡ cleared before
-  LeavesStorage s Len reply t before after = after ≡ before
-  LeavesStorage s NodeCount reply t before after = after ≡ before
-  LeavesStorage s AddressCount reply t before after = after ≡ before
-  LeavesStorage s ListAll reply t before after = after ≡ before
-  LeavesStorage s (ListFrom q inclusive) reply t before after = after ≡ before
-  LeavesStorage s (Children q) reply t before after = after ≡ before
-  LeavesStorage s (Cover q) reply t before after = after ≡ before
+  LeavesStorage s call reply t before after = after ≡ before
 
 module _ {P T : Type 0} (path : P → List Bool) (back : List Bool → P) (width : ℕ) where
   -- a step of the map and of its storage
