@@ -8,8 +8,9 @@ use Rattle.prefix_trie_table.specs.declared.allocator.node.Node.{Node}
 use Rattle.prefix_trie_table.specs.Bitmaps.{has_bit, rank}
 use Rattle.prefix_trie_table.specs.Cells.{node_at, node_sizes}
 use Rattle.prefix_trie_table.specs.Digits.{path_of, bit_of}
+use Rattle.prefix_trie_table.specs.Matching.{IsOnWay}
 use Rattle.prefix_trie_table.specs.Store.{Store}
-use Rattle.prefix_trie_table.specs.Forest.{IsSlot, at_root, at_child, NodesHold, Deepest, IsEnd, has_child, node_or_blank}
+use Rattle.prefix_trie_table.specs.Forest.{IsSlot, at_root, at_child, child_slot, NodesHold, Deepest, IsEnd, has_child, node_or_blank}
 use Rattle.prefix_trie_table.proofs.Strings.Bits.{has_bit-is, rank-ones}
 use Rattle.prefix_trie_table.proofs.Strings.Digits.{path-length, step-is, rest-is}
 use Rattle.prefix_trie_table.proofs.Tree.Trees.{slot_holds, is_some-Some}
@@ -110,6 +111,19 @@ module _ (b : List Bool) (len level slot : ℕ) (node : Node) (v : Store Node) (
       deepest_more reading paths v (path_of (take len b)) level slot hold (down.deepest reading paths hold) place node
       (step-inside b len level within inside) down.node_is (down_bit ∙ bit)
       (place_is ∙ sym (rank-ones node.child_bitmap x (omega arith)) ∙ ap (rank node.child_bitmap) (sym (step-read b len level within x inside read)))
+
+-- a node on the way is where it stands as the way goes down
+pub on_way_down : (b : List Bool) (len level slot : ℕ) (node : Node) (v : Store Node) → IsOnWay b len level node slot v → IsDown (path_of (take len b)) len level node slot v
+on_way_down b len level slot node v at = record { whole = at.whole; node_is = at.node_is; deepest = at.deepest }
+
+-- and its child in a slot the next
+pub next_deep : (b : List Bool) (len level slot : ℕ) (node : Node) (v : Store Node) → IsOnWay b len level node slot v → (x : ℕ) → x < 32
+    → x ≡ number (take 5 (drop (5 * level) b)) → 5 * level + 5 ≤ len → has node.child_bitmap x ≡ true → (to : ℕ) → to ≡ child_slot node x
+    → (reading : List ℕ → Option Node) (paths : List (List ℕ)) → NodesHold node_sizes reading paths v → Deepest reading (path_of (take len b)) (level + 1) to v
+next_deep b len level slot node v at x small read inside set to is reading paths hold =
+    subst (λ i. Deepest reading (path_of (take len b)) (level + 1) i v) (sym is)
+    (down_more b len level slot node v at.long (on_way_down b len level slot node v at) x small read inside (rank node.child_bitmap x) set
+    (rank-ones node.child_bitmap x (omega arith)) reading paths hold)
 
 -- ---- whole steps of a length
 

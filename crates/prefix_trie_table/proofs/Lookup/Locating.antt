@@ -117,15 +117,12 @@ module _ (b : List Bool) (len level slot : ℕ) (node : Node) (v : Store Node) (
     located_none clear = no_seat v reading paths hold (take len b) (no_seat_here b len level slot node v at reading paths hold less x small read clear)
 
     -- the seat where it is set
-    pub located_here : (place : ℕ) → has node.value_bitmap x ≡ true → place ≡ ones_below x node.value_bitmap →
-        seat_of v.slots (take len b) ≡ Some (record { start = node.value_block; place = place })
-    located_here place set place_is =
-        let bit = bit-read b len level at.long x at.whole less read in
-        let same : rank node.value_bitmap (bit_of (take len b)) ≡ place = ap (rank node.value_bitmap) bit ∙ rank-ones node.value_bitmap x (omega arith) ∙ sym place_is in
+    pub located_here : has node.value_bitmap x ≡ true → (seat : Seat) → seat ≡ value_seat node x → seat_of v.slots (take len b) ≡ Some seat
+    located_here set seat is =
         seat_reads v reading paths hold (take len b)
         ∙ ap (λ o. seat_in o (bit_of (take len b))) (reached_own b len level slot node v at reading paths hold less)
         ∙ seat_there node (bit_of (take len b)) (bit_set b len level slot node v at less x small read ∙ set)
-        ∙ ap (λ i. Some (record { start = node.value_block; place = i })) same
+        ∙ ap (λ i. Some (value_seat node i)) (bit-read b len level at.long x at.whole less read) ∙ ap Some (sym is)
 
 -- where a value stands that was added to a node
 module _ (v v2 : Store Node) (slot place b bitmap : ℕ) (k m : Node) (sets : Sets k.value_bitmap b bitmap) (bits_are : m.value_bitmap ≡ bitmap) (small : b < 32) where

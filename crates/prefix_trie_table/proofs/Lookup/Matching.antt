@@ -21,7 +21,7 @@ use Rattle.prefix_trie_table.proofs.Strings.Bits.{has_bit-is}
 use Rattle.prefix_trie_table.proofs.Strings.Digits.{path-length, path-take, rest-is}
 use Rattle.prefix_trie_table.proofs.Strings.Starts.{is_start_take}
 use Rattle.prefix_trie_table.proofs.Tree.Trees.{is_none-None}
-use Rattle.prefix_trie_table.proofs.Lookup.Going.{level_past, deepest_is, IsDown}
+use Rattle.prefix_trie_table.proofs.Lookup.Going.{level_past, deepest_is}
 use Rattle.prefix_trie_table.proofs.Lookup.Finding.{prefix_some}
 
 -- a bitmap without bit 31
@@ -141,10 +141,6 @@ none_past reading paths v q level end hold at i from last within =
   where
     further : (k i l n : ℕ) → 5 * k + 5 ≤ i → i ≤ l → n ≡ l / 5 → k < n
     further k i l n a b c = omega (arith, a, b, c)
-
--- a node on the way is where it stands as the way goes down
-pub on_way_down : (b : List Bool) (len level slot : ℕ) (node : Node) (v : Store Node) → IsOnWay b len level node slot v → IsDown (path_of (take len b)) len level node slot v
-on_way_down b len level slot node v at = record { whole = at.whole; node_is = at.node_is; deepest = at.deepest }
 
 -- the node on the way is the one at its path
 pub on_way_is : (b : List Bool) (len level slot : ℕ) (node : Node) (v : Store Node) → IsOnWay b len level node slot v → (reading : List ℕ → Option Node) (paths : List (List ℕ)) → NodesHold node_sizes reading paths v → reading (take level (path_of (take len b))) ≡ Some node

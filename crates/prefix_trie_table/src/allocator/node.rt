@@ -1,7 +1,9 @@
 //! A node, and where it stands.
-ghost use Rattle.std.specs.Prelude.{◌≡◌};
+ghost use Rattle.std.specs.Prelude.{◌≡◌, ◌+◌, ◌<◌};
+ghost use Rattle.prefix_trie_table.specs.Forest.{child_slot as slot_of_child};
 
 use crate::allocator::slots::Slot;
+use prefix_trie_bits::node::rank;
 
 /// A node of five levels: which of its 31 strings have a value, which of its 32 children are there, and the blocks where
 /// both stand, each by its first slot and the number of its size. A block's fields say nothing where its bitmap is 0.
@@ -30,6 +32,18 @@ impl Node {
             child_block: 0,
             value_tier: 0,
             child_tier: 0,
+        }
+    }
+
+    /// Where the child at a bit stands.
+    #[inline]
+    pub fn child_slot(self, child: u32) -> NodeSlot
+        requires { child < 32 }
+        ensures { result.start + result.place ≡ slot_of_child self child }
+    {
+        NodeSlot {
+            start: self.child_block,
+            place: rank(self.child_bitmap, child),
         }
     }
 }

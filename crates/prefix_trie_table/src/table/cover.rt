@@ -10,8 +10,8 @@ ghost use Rattle.prefix_trie_table.specs.Walking.Covers.{AreLeft, IsCovering, Go
 use crate::allocator::blocks::Blocks;
 use crate::allocator::nodes::{NodeAllocator, Tick};
 use crate::table::Table;
-use crate::table::lookup::Reached;
-use crate::table::matching::{Match, root, step_down, value_of_match};
+use crate::table::lookup::{Reached, root, step_down};
+use crate::table::matching::{Match, value_of_match};
 use prefix_trie_bits::node::{match_mask, string_of, without_bit};
 use prefix_trie_bits::prefix::Key;
 use std::alloc::Allocator;

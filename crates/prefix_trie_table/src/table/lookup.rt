@@ -1,11 +1,12 @@
 //! Going down from the root, and reading a value.
-ghost use Rattle.std.specs.Prelude.{◌≡◌, ℕ, ◌+◌, ◌≤◌, List, Option, take};
+ghost use Rattle.std.specs.Prelude.{◌≡◌, ℕ, ◌+◌, ◌*◌, ◌≤◌, Bool, List, Option, take, length, MatchOption};
 ghost use Rattle.std.specs.Option.{option_copied};
 ghost use Rattle.prefix_trie_table.specs.declared.allocator.node.Node.{Node};
 ghost use Rattle.prefix_trie_table.specs.Cells.{node_sizes};
 ghost use Rattle.prefix_trie_table.specs.Digits.{path_of};
 ghost use Rattle.prefix_trie_table.specs.Forest.{NodesHold, SomeTable, SomeNodes, IsEnd};
 ghost use Rattle.prefix_trie_table.specs.Locations.{Locates};
+ghost use Rattle.prefix_trie_table.specs.Matching.{IsOnWay};
 ghost use Rattle.prefix_trie_table.specs.Tables.{IsReached, ForHeld, own_value};
 ghost use Rattle.prefix_trie_table.specs.Slots.{SeatOf};
 
@@ -13,7 +14,7 @@ use crate::allocator::blocks::Blocks;
 use crate::allocator::node::{Node, NodeSlot};
 use crate::allocator::nodes::{NodeAllocator, Tick};
 use crate::table::seat::{Location, Seat, WayEnd};
-use prefix_trie_bits::node::{child_bit_of, has_bit, rank, value_bit_of};
+use prefix_trie_bits::node::{child_bit_of, has_bit, value_bit_of};
 use prefix_trie_bits::prefix::Key;
 use std::alloc::Allocator;
 
@@ -23,6 +24,58 @@ pub struct Reached {
     pub at: NodeSlot,
     pub node: Node,
     pub level: u32,
+}
+
+/// The root, where every way begins.
+#[inline]
+pub fn root<A: Allocator, V: Tick>(nodes: &NodeAllocator<A, V>, counter: &mut V) -> Reached
+    requires sound { SomeNodes nodes.now }
+    ensures level { result.level ≡ 0 }
+    ensures on_way { (b : List Bool) (len : ℕ) → len ≤ length b
+        → IsOnWay b len 0 result.node (result.at.start + result.at.place) nodes.now }
+    ensures visits { V.count counter.new ≡ V.count counter.old + 1 }
+{
+    let at = NodeSlot::ROOT;
+    let node = nodes.visit(at, counter);
+    Reached { at, node, level: 0 }
+}
+
+/// The next node on the way of a bit string, if it is there.
+#[inline(always)]
+pub fn step_down<K: Key, A: Allocator, V: Tick>(
+    nodes: &NodeAllocator<A, V>,
+    from: Reached,
+    key: K,
+    len: u32,
+    counter: &mut V,
+) -> Option<Reached>
+    requires key { K.IsKey key }
+    requires within { len ≤ K.bit_width }
+    requires sound { SomeNodes nodes.now }
+    requires on_way { IsOnWay (K.bits key) len from.level from.node (from.at.start + from.at.place) nodes.now }
+    ensures step { MatchOption result
+        (IsReached (K.bits key) len from.level from.node (from.at.start + from.at.place) nodes.now)
+        (λ next. (next.level ≡ from.level + 1)
+        × IsOnWay (K.bits key) len next.level next.node (next.at.start + next.at.place) nodes.now) }
+    ensures visits { MatchOption result
+        (V.count counter.new ≡ V.count counter.old)
+        (λ _. V.count counter.new ≡ V.count counter.old + 1) }
+{
+    let depth = 5 * from.level;
+    if depth + 5 > len {
+        return None;
+    }
+    let child = child_bit_of(key, depth);
+    if !has_bit(from.node.child_bitmap, child) {
+        return None;
+    }
+    let at = from.node.child_slot(child);
+    let node = nodes.visit(at, counter);
+    Some(Reached {
+        at,
+        node,
+        level: from.level + 1,
+    })
 }
 
 /// Goes down the way of a bit string as far as nodes stand, and reads each of them once.
@@ -40,22 +93,13 @@ pub fn descend<K: Key, A: Allocator, V: Tick>(
         result.level result.node (result.at.start + result.at.place) nodes.now }
     ensures visits { V.count counter.new ≡ V.count counter.old + (result.level + 1) }
 {
-    let mut at = NodeSlot::ROOT;
-    let mut node = nodes.visit(at, counter);
-    let mut level = 0;
-    while 5 * level + 5 <= len {
-        let child = child_bit_of(key, 5 * level);
-        if !has_bit(node.child_bitmap, child) {
-            return Reached { at, node, level };
-        }
-        at = NodeSlot {
-            start: node.child_block,
-            place: rank(node.child_bitmap, child),
+    let mut here = root(nodes, counter);
+    'way: loop {
+        let Some(next) = step_down(nodes, here, key, len, counter) else {
+            return here;
         };
-        node = nodes.visit(at, counter);
-        level += 1;
+        here = next;
     }
-    Reached { at, node, level }
 }
 
 /// Where the value at a bit string stands, or where its way ends.
@@ -81,14 +125,10 @@ pub fn locate_in<K: Key, A: Allocator, V: Tick>(
         return Location::Missing(WayEnd { reached });
     }
     let bit = value_bit_of(key, depth, len);
-    let bitmap = reached.node.value_bitmap;
-    if !has_bit(bitmap, bit) {
+    if !has_bit(reached.node.value_bitmap, bit) {
         return Location::Missing(WayEnd { reached });
     }
-    Location::Stored(Seat {
-        start: reached.node.value_block,
-        place: rank(bitmap, bit),
-    })
+    Location::Stored(reached.node.value_seat(bit))
 }
 
 /// Where the value at a bit string stands, if there is one.

@@ -9,13 +9,11 @@ ghost use Rattle.prefix_trie_table.specs.Tables.{IsReached};
 ghost use Rattle.prefix_trie_table.specs.Matching.{LackLastBit, IsOnWay, LongestHeld, ShortestHeld, cell_slot, match_seat};
 
 use crate::allocator::blocks::Blocks;
-use crate::allocator::node::{Node, NodeSlot};
+use crate::allocator::node::Node;
 use crate::allocator::nodes::{NodeAllocator, Tick};
-use crate::table::lookup::Reached;
+use crate::table::lookup::{Reached, root, step_down};
 use crate::table::seat::Seat;
-use prefix_trie_bits::node::{
-    child_bit_of, has_bit, longest_match, rank, shortest_match, string_of,
-};
+use prefix_trie_bits::node::{longest_match, shortest_match, string_of};
 use prefix_trie_bits::prefix::Key;
 use std::alloc::Allocator;
 
@@ -34,66 +32,8 @@ impl Match {
         requires { self.bit < 31 }
         ensures { result ≡ match_seat self }
     {
-        Seat {
-            start: self.node.value_block,
-            place: rank(self.node.value_bitmap, self.bit),
-        }
+        self.node.value_seat(self.bit)
     }
-}
-
-/// The root, where every way begins.
-#[inline]
-pub fn root<A: Allocator, V: Tick>(nodes: &NodeAllocator<A, V>, counter: &mut V) -> Reached
-    requires sound { (n : SomeNodes nodes.now) × LackLastBit n.reading }
-    ensures level { result.level ≡ 0 }
-    ensures on_way { (b : List Bool) (len : ℕ) → len ≤ length b
-        → IsOnWay b len 0 result.node (result.at.start + result.at.place) nodes.now }
-    ensures visits { V.count counter.new ≡ V.count counter.old + 1 }
-{
-    let at = NodeSlot::ROOT;
-    let node = nodes.visit(at, counter);
-    Reached { at, node, level: 0 }
-}
-
-/// The next node on the way of a bit string, if it is there.
-#[inline(always)]
-pub fn step_down<K: Key, A: Allocator, V: Tick>(
-    nodes: &NodeAllocator<A, V>,
-    from: Reached,
-    key: K,
-    len: u32,
-    counter: &mut V,
-) -> Option<Reached>
-    requires key { K.IsKey key }
-    requires within { len ≤ K.bit_width }
-    requires sound { (n : SomeNodes nodes.now) × LackLastBit n.reading }
-    requires on_way { IsOnWay (K.bits key) len from.level from.node (from.at.start + from.at.place) nodes.now }
-    ensures step { MatchOption result
-        (IsReached (K.bits key) len from.level from.node (from.at.start + from.at.place) nodes.now)
-        (λ next. (next.level ≡ from.level + 1)
-        × IsOnWay (K.bits key) len next.level next.node (next.at.start + next.at.place) nodes.now) }
-    ensures visits { MatchOption result
-        (V.count counter.new ≡ V.count counter.old)
-        (λ _. V.count counter.new ≡ V.count counter.old + 1) }
-{
-    let depth = 5 * from.level;
-    if depth + 5 > len {
-        return None;
-    }
-    let child = child_bit_of(key, depth);
-    if !has_bit(from.node.child_bitmap, child) {
-        return None;
-    }
-    let at = NodeSlot {
-        start: from.node.child_block,
-        place: rank(from.node.child_bitmap, child),
-    };
-    let node = nodes.visit(at, counter);
-    Some(Reached {
-        at,
-        node,
-        level: from.level + 1,
-    })
 }
 
 /// The longest beginning of a bit string that has its value in this node on the way.

@@ -1,5 +1,10 @@
 //! Where the value of a bit string stands, or where its way ends.
+ghost use Rattle.std.specs.Prelude.{◌≡◌, ◌<◌};
+ghost use Rattle.prefix_trie_table.specs.Locations.{value_seat as seat_of_value};
+
+use crate::allocator::node::Node;
 use crate::table::lookup::Reached;
+use prefix_trie_bits::node::rank;
 
 /// Where a value stands: the first slot of its block, and its place in the block. It is right until the table changes.
 #[derive(Clone, Copy)]
@@ -22,4 +27,18 @@ pub enum Location {
     Stored(Seat),
     /// There is none.
     Missing(WayEnd),
+}
+
+impl Node {
+    /// Where the value at a bit stands.
+    #[inline]
+    pub fn value_seat(self, bit: u32) -> Seat
+        requires { bit < 32 }
+        ensures { result ≡ seat_of_value self bit }
+    {
+        Seat {
+            start: self.value_block,
+            place: rank(self.value_bitmap, bit),
+        }
+    }
 }

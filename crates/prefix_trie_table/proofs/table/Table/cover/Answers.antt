@@ -10,7 +10,7 @@ use Rattle.prefix_trie_table.proofs.Lookup.Matched.{has_nodes}
 use Rattle.prefix_trie_table.proofs.table.Table.cover.Goals as goal
 
 pub root-here-requires : goal.root-here-requires
-root-here-requires g c = record { sound = has_nodes _ _ (some_table c.self.invariant) }
+root-here-requires g c = record { sound = (has_nodes _ _ (some_table c.self.invariant)).0 }
 
 stands : (g : _) (c : goal.After-result-1 g) → IsCovering (g.K.Key.bits c.args.key) c.args.len c.root-here.result.level c.root-here.result.node
     (c.root-here.result.at.start + c.root-here.result.at.place) c.matches_in.result (5 * c.root-here.result.level) c.self.inside.nodes

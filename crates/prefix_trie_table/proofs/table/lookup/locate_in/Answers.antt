@@ -35,7 +35,7 @@ returns-clause-place g c =
     let s = c.requires.sound in
     located_here (g.K.Key.bits c.args.key) c.args.len c.descend-reached.result.level _ c.descend-reached.result.node c.args.nodes.now
     c.descend-reached.ensures.reached s.reading s.paths s.hold (omega (arith, c.if-depth-len.false)) c.value_bit_of-bit.result
-    c.value_bit_of-bit.ensures.small c.value_bit_of-bit.ensures.value c.rank.result (sym c.has_bit.ensures ∙ c.if-not-has_bit.false) c.rank.ensures
+    c.value_bit_of-bit.ensures.small c.value_bit_of-bit.ensures.value (sym c.has_bit.ensures ∙ c.if-not-has_bit.false) _ c.value_seat.ensures
 
 pub returns-clause-visits : goal.returns-clause-visits
 returns-clause-visits g c =

@@ -1,12 +1,12 @@
 use Rattle.std.proofs.Common.{[], take, arith}
 use Rattle.prefix_trie_table.specs.Digits.{path_of}
 use Rattle.prefix_trie_table.proofs.Lookup.Going.{deepest_root, deepest_in}
-use Rattle.prefix_trie_table.proofs.table.matching.root.Goals as goal
+use Rattle.prefix_trie_table.proofs.table.lookup.root.Goals as goal
 
 pub visit-node-requires : goal.visit-node-requires
 visit-node-requires g c =
     let s = c.requires.sound in
-    deepest_in s.0.reading s.0.paths c.args.nodes.now [] 0 0 s.0.hold (deepest_root s.0.reading s.0.paths c.args.nodes.now [] s.0.hold)
+    deepest_in s.reading s.paths c.args.nodes.now [] 0 0 s.hold (deepest_root s.reading s.paths c.args.nodes.now [] s.hold)
 
 pub returns-clause-on_way : goal.returns-clause-on_way
 returns-clause-on_way g c = λ b len long. record {
