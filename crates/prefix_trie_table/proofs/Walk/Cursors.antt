@@ -9,7 +9,7 @@ use Rattle.std.proofs.lemmas.Bool.Decides.{eqb_tells}
 use Rattle.std.proofs.lemmas.List.{length-take-le, length-map, take-take, take-append-drop}
 use Rattle.prefix_trie_bits.specs.Bits.{number}
 use Rattle.prefix_trie_bits.specs.Order.{listing-refl}
-use Rattle.prefix_trie_bits.specs.Places.{has, ones_below, value_bit, is_in, is_before, places, strings, HoldsPlaces, Sets}
+use Rattle.prefix_trie_bits.specs.Places.{has, value_bit, is_in, is_before, places, strings, HoldsPlaces, Sets}
 use Rattle.prefix_trie_bits.specs.Walks.{to_come}
 use Rattle.prefix_trie_bits.specs.Model.NodeListings.{listing_at_places}
 use Rattle.prefix_trie_bits.specs.Model.Selections.{listing_below}
@@ -27,11 +27,10 @@ use Rattle.prefix_trie_table.specs.Forest.{read, child_slot}
 use Rattle.prefix_trie_table.specs.Store.{Store}
 use Rattle.prefix_trie_table.specs.Tables.{IsTrie}
 use Rattle.prefix_trie_table.specs.Walking.Walks.{Tree, keyed_spot, keyed_spots, IsSpot, IsTrail, IsStack, IsPlaceOf, IsOther, IsPassed, ArePassed, still, pending}
-use Rattle.prefix_trie_table.proofs.Strings.Bits.{rank-ones}
 use Rattle.prefix_trie_table.proofs.Walk.Passing.{passed-above}
 use Rattle.prefix_trie_table.proofs.Walk.Selected.{and-right, wanted_below, wanted_at_root, wanted_passed, wanted_ended, wanted_none, at_some_places}
 use Rattle.prefix_trie_table.proofs.Walk.Stacks.{pending-push, trail-push, restart, keyed_spots-push}
-use Rattle.prefix_trie_table.proofs.Tree.Subtrees.{is_in-value, is_in-child, number-small, child_is, child_inside, unset}
+use Rattle.prefix_trie_table.proofs.Tree.Subtrees.{is_in-value, is_in-child, child_is, child_inside, unset}
 use Rattle.prefix_trie_table.proofs.Tree.Trees.{read-nil}
 
 -- ---- masks
@@ -157,23 +156,21 @@ module _ {K : Type 0} (IsKey : K → Type 0) (bits : K → List Bool) (width : �
 
       module _ (t : Tree T) (tree : IsTrie width t.count v t.cells t.shape) (k : ℕ) (k_is : k ≡ number (take 5 (drop depth (bits key)))) where
         -- the next node, where its bit is set
-        module _ (set : has node.child_bitmap k ≡ true) (place : ℕ) (place_is : place ≡ ones_below k node.child_bitmap) where
+        module _ (set : has node.child_bitmap k ≡ true) (slot : ℕ) (slot_is : slot ≡ child_slot node k) where
           bit_set : has node.child_bitmap (number (take 5 (drop depth (bits key)))) ≡ true
           bit_set = ap (has node.child_bitmap) (sym k_is) ∙ set
 
-          slot_is : child_slot node (number (take 5 (drop depth (bits key)))) ≡ node.child_block + place
-          slot_is =
-              let small = number-small (take 5 (drop depth (bits key))) five in
-              ap (λ n. node.child_block + n) (rank-ones node.child_bitmap (number (take 5 (drop depth (bits key)))) (omega (arith, small)) ∙ ap (λ n. ones_below n node.child_bitmap) (sym k_is) ∙ sym place_is)
+          own_slot : child_slot node (number (take 5 (drop depth (bits key)))) ≡ slot
+          own_slot = ap (child_slot node) (sym k_is) ∙ sym slot_is
 
-          pub next_inside : node.child_block + place < length v.slots
-          next_inside = subst (λ n. n < length v.slots) slot_is (child_inside width v t tree (take depth (bits key)) node whole laid.stands (take 5 (drop depth (bits key))) five bit_set)
+          pub next_inside : slot < length v.slots
+          next_inside = subst (λ n. n < length v.slots) own_slot (child_inside width v t tree (take depth (bits key)) node whole laid.stands (take 5 (drop depth (bits key))) five bit_set)
 
-          next_stands : (next : Node) → next ≡ node_at v.slots (node.child_block + place) → read v.slots (path_of (take (depth + 5) (bits key))) ≡ Some next
+          next_stands : (next : Node) → next ≡ node_at v.slots slot → read v.slots (path_of (take (depth + 5) (bits key))) ≡ Some next
           next_stands next is =
               ap (λ s. read v.slots (path_of s)) deeper_string
               ∙ child_is width v t tree (take depth (bits key)) node whole laid.stands (take 5 (drop depth (bits key))) five bit_set
-              ∙ ap (λ n. Some (node_at v.slots n)) slot_is ∙ ap Some (sym is)
+              ∙ ap (λ n. Some (node_at v.slots n)) own_slot ∙ ap Some (sym is)
 
         -- where it is clear nothing is stored below
         none_below : has node.child_bitmap k ≡ false → listing_below t.shape.entries (take (depth + 5) (bits key)) ≡ []
@@ -266,14 +263,14 @@ module _ {K : Type 0} (IsKey : K → Type 0) (bits : K → List Bool) (width : �
             ∙ ap (λ es. es ++ pending bits t.shape.entries (keyed_spots key qs)) (wanted_none from t.shape.entries (take len (bits key)) (take (depth + 5) (bits key)) (none_below more t tree k k_is clear)))
 
         -- where it stands it is the next node
-        pub laid_next : (t : Tree T) → IsTrie width t.count v t.cells t.shape → has node.child_bitmap k ≡ true → (place : ℕ) → place ≡ ones_below k node.child_bitmap → (next : Node) → next ≡ node_at v.slots (node.child_block + place) →
+        pub laid_next : (t : Tree T) → IsTrie width t.count v t.cells t.shape → has node.child_bitmap k ≡ true → (slot : ℕ) → slot ≡ child_slot node k → (next : Node) → next ≡ node_at v.slots slot →
             IsLaid T (depth + 5) next qs
-        laid_next t tree set place place_is next is = record {
+        laid_next t tree set slot slot_is next is = record {
           level = laid.level + 1;
           depth_is = (let d = laid.depth_is in omega (arith, d));
           inside = more;
           high = (let h = laid.high in omega (arith, h, ap length pushed, length-append ps (p ∷ [])));
-          stands = next_stands more t tree k k_is set place place_is next is;
+          stands = next_stands more t tree k k_is set slot slot_is next is;
           trail = trail_pushed;
           passed = subst (All (IsPassed bits)) (sym sites_are)
               (All-append (IsPassed bits) (keyed_spots key ps) (keyed_spot key p ∷ []) laid.passed (All-cons (IsPassed bits) (keyed_spot key p) [] child_taken (All-nil (IsPassed bits))));

@@ -9,7 +9,7 @@ use Rattle.prefix_trie_bits.specs.Bits.{number, digits, zeros}
 use Rattle.prefix_trie_bits.specs.BitStrings.{length-digits, digits-number}
 use Rattle.prefix_trie_bits.specs.Order.{listing_cmp}
 use Rattle.prefix_trie_bits.specs.Windows.{take-extend}
-use Rattle.prefix_trie_bits.specs.Places.{has, ones_below, value_bit, is_in, places, place_of, strings}
+use Rattle.prefix_trie_bits.specs.Places.{has, value_bit, is_in, places, place_of, strings}
 use Rattle.prefix_trie_bits.specs.Walks.{to_come}
 use Rattle.prefix_trie_bits.specs.declared.node.Place.TheVariants.{Value, Child as ChildPlace}
 use Rattle.prefix_trie_bits.specs.declared.node.Places.{Places}
@@ -19,17 +19,17 @@ use Rattle.prefix_trie_bits.proofs.Listing.{count-strings}
 use Rattle.prefix_trie_bits.proofs.Strings.{value_bit-small}
 use Rattle.prefix_trie_bits.proofs.Model.NodeListings.{listing_at_child}
 use Rattle.prefix_trie_table.specs.declared.allocator.node.Node.{Node}
-use Rattle.prefix_trie_table.specs.Bitmaps.{has_bit, rank}
+use Rattle.prefix_trie_table.specs.declared.table.seat.Seat.{Seat}
+use Rattle.prefix_trie_table.specs.Bitmaps.{has_bit}
 use Rattle.prefix_trie_table.specs.Cells.{node_at}
 use Rattle.prefix_trie_table.specs.Digits.{path_of}
-use Rattle.prefix_trie_table.specs.Locations.{seat_of}
+use Rattle.prefix_trie_table.specs.Locations.{seat_of, value_seat}
 use Rattle.prefix_trie_table.specs.Store.{Store}
 use Rattle.prefix_trie_table.specs.Forest.{read, child_slot}
-use Rattle.prefix_trie_table.specs.Walking.Walks.{KeyedSpot, Tree, IsSpot, IsPlaceOf, IsOther, IsPassed, still, GivesSeat, many, most, weight_of, weight}
+use Rattle.prefix_trie_table.specs.Walking.Walks.{KeyedSpot, Tree, IsSpot, IsPlaceOf, IsOther, IsPassed, still, GivesSeat, many, most, weight_of, weight, slot_of}
 use Rattle.prefix_trie_table.specs.Tables.{IsTrie}
 use Rattle.prefix_trie_table.proofs.Walk.Passing.{others_after}
 use Rattle.prefix_trie_table.proofs.Strings.Plain.{whole_levels}
-use Rattle.prefix_trie_table.proofs.Strings.Bits.{rank-ones}
 use Rattle.prefix_trie_table.proofs.Lookup.Locating.{seat_below}
 use Rattle.prefix_trie_table.proofs.Tree.Subtrees.{is_in-value, is_in-child, number-small, stored_value, value_read, value_inside, value_listed, value_fits, child_is, child_inside, child_few, child_fits, all_places}
 
@@ -162,36 +162,30 @@ module _ {K : Type 0} (IsKey : K → Type 0) (bits : K → List Bool) (width : �
               extended ∙ ap (λ u. u ++ zeros (width - (p.depth + n))) (sym (take-extend (bits p.key) (bits key) width p.depth n x long fits extended))
 
           -- what the step gives
-          pub gives_value : (b place : ℕ) → b ≡ value_bit s → place ≡ ones_below b p.node.value_bitmap
-              → GivesSeat IsKey bits width t key (p.depth + n) (record { start = p.node.value_block; place = place }) (still bits t.shape.entries p) (still bits t.shape.entries after)
-          gives_value b place b_is place_is =
-              let small = value_bit-small s short in
-              let slot : p.node.value_block + rank p.node.value_bitmap (value_bit s) ≡ p.node.value_block + place =
-              ap (λ k. p.node.value_block + k) (rank-ones p.node.value_bitmap (value_bit s) (omega (arith, small)) ∙ ap (λ k. ones_below k p.node.value_bitmap) (sym b_is) ∙ sym place_is) in
-              let x = stored_value width v t tree (take p.depth (bits p.key)) p.node whole at.stands s short set in
-              record {
-                value = x;
-                stands = subst (λ k. k < length t.cells.slots) slot (value_inside width v t tree (take p.depth (bits p.key)) p.node whole at.stands s short set);
-                reads = ap (λ k. get_or t.cells.slots k None) (sym slot) ∙ value_read width v t tree (take p.depth (bits p.key)) p.node whole at.stands s short set;
-                gives = record {
-                  is_key = is_key;
-                  short = fits;
-                  first =
-                      still_is
-                      ∙ ap (λ es. es ++ still bits t.shape.entries after) (value_listed width v t tree (take p.depth (bits p.key)) p.node whole at.stands s short set)
-                      ∙ ap (λ k. (k, x) ∷ still bits t.shape.entries after) (sym taken);
-                  filled = filled;
-                };
-              }
+          module _ (seat : Seat) (seat_is : seat ≡ value_seat p.node (value_bit s)) where
+            pub gives_value : GivesSeat IsKey bits width t key (p.depth + n) seat (still bits t.shape.entries p) (still bits t.shape.entries after)
+            gives_value =
+                let x = stored_value width v t tree (take p.depth (bits p.key)) p.node whole at.stands s short set in
+                record {
+                  value = x;
+                  stands = subst (λ k. slot_of k < length t.cells.slots) (sym seat_is) (value_inside width v t tree (take p.depth (bits p.key)) p.node whole at.stands s short set);
+                  reads = ap (λ k. get_or t.cells.slots (slot_of k) None) seat_is ∙ value_read width v t tree (take p.depth (bits p.key)) p.node whole at.stands s short set;
+                  gives = record {
+                    is_key = is_key;
+                    short = fits;
+                    first =
+                        still_is
+                        ∙ ap (λ es. es ++ still bits t.shape.entries after) (value_listed width v t tree (take p.depth (bits p.key)) p.node whole at.stands s short set)
+                        ∙ ap (λ k. (k, x) ∷ still bits t.shape.entries after) (sym taken);
+                    filled = filled;
+                  };
+                }
 
-          -- where the seat is that of its key
-          pub value_seated : (b place : ℕ) → b ≡ value_bit s → place ≡ ones_below b p.node.value_bitmap
-              → seat_of v.slots (take (p.depth + n) (bits key)) ≡ Some (record { start = p.node.value_block; place = place })
-          value_seated b place b_is place_is =
-              let small = value_bit-small s short in
-              ap (seat_of v.slots) taken ∙ seat_below v.slots at.level (take p.depth (bits p.key)) s p.node (string-length ∙ at.depth_is) short at.stands set
-              ∙ ap (λ i. Some (record { start = p.node.value_block; place = i }))
-              (rank-ones p.node.value_bitmap (value_bit s) (omega (arith, small)) ∙ ap (λ k. ones_below k p.node.value_bitmap) (sym b_is) ∙ sym place_is)
+            -- where the seat is that of its key
+            pub value_seated : seat_of v.slots (take (p.depth + n) (bits key)) ≡ Some seat
+            value_seated =
+                ap (seat_of v.slots) taken ∙ seat_below v.slots at.level (take p.depth (bits p.key)) s p.node (string-length ∙ at.depth_is) short at.stands set
+                ∙ ap Some (sym seat_is)
 
       -- the next place is that of a child
       module _ (five : length s ≡ 5) where
@@ -212,25 +206,23 @@ module _ {K : Type 0} (IsKey : K → Type 0) (bits : K → List Bool) (width : �
             ∙ take_at (digits 5 b) rest 5 (length-digits 5 b) ∙ ap₂ digits (sym five) b_is ∙ digits-number s in
             subst (λ c. All (IsOther c) (to_come later)) (sym child) (others_after s (to_come later) (subst (IsStrictlySortedBy listing_cmp) first sorted).0)
 
-        module _ (b place : ℕ) (b_is : b ≡ number s) (place_is : place ≡ ones_below b p.node.child_bitmap) where
-          slot_is : child_slot p.node (number s) ≡ p.node.child_block + place
-          slot_is =
-              let small = number-small s five in
-              ap (λ k. p.node.child_block + k) (rank-ones p.node.child_bitmap (number s) (omega (arith, small)) ∙ ap (λ k. ones_below k p.node.child_bitmap) (sym b_is) ∙ sym place_is)
+        module _ (b slot : ℕ) (b_is : b ≡ number s) (slot_is : slot ≡ child_slot p.node b) where
+          own_slot : slot ≡ child_slot p.node (number s)
+          own_slot = slot_is ∙ ap (child_slot p.node) b_is
 
-          pub child_stands_at : p.node.child_block + place < length v.slots
+          pub child_stands_at : slot < length v.slots
           child_stands_at =
-              subst (λ k. k < length v.slots) slot_is (child_inside width v t tree (take p.depth (bits p.key)) p.node whole at.stands s five bit_set)
+              subst (λ k. k < length v.slots) (sym own_slot) (child_inside width v t tree (take p.depth (bits p.key)) p.node whole at.stands s five bit_set)
 
-          pub child_without : has_bit (node_at v.slots (p.node.child_block + place)).value_bitmap 31 ≡ false
+          pub child_without : has_bit (node_at v.slots slot).value_bitmap 31 ≡ false
           child_without =
-              subst (λ k. has_bit (node_at v.slots k).value_bitmap 31 ≡ false) slot_is
+              subst (λ k. has_bit (node_at v.slots k).value_bitmap 31 ≡ false) (sym own_slot)
               (child_few width v t tree (take p.depth (bits p.key)) p.node whole at.stands s five bit_set)
 
           -- the child, with all its places
           module _ (c : KeyedSpot K) (is_key : IsKey c.key)
               (extended : bits c.key ≡ take p.depth (bits p.key) ++ digits 5 b ++ zeros (width - (p.depth + 5)))
-              (depth_is : c.depth ≡ p.depth + 5) (node_is : c.node ≡ node_at v.slots (p.node.child_block + place))
+              (depth_is : c.depth ≡ p.depth + 5) (node_is : c.node ≡ node_at v.slots slot)
               (all : to_come c.places ≡ places c.node.value_bitmap c.node.child_bitmap) (each : All (IsPlaceOf c.node) (to_come c.places)) where
             digits_are : digits 5 b ≡ s
             digits_are = ap (digits 5) b_is ∙ ap (λ k. digits k (number s)) (sym five) ∙ digits-number s
@@ -244,7 +236,7 @@ module _ {K : Type 0} (IsKey : K → Type 0) (bits : K → List Bool) (width : �
             child_node =
                 ap (λ u. read v.slots (path_of u)) child_string
                 ∙ child_is width v t tree (take p.depth (bits p.key)) p.node whole at.stands s five bit_set
-                ∙ ap (λ k. Some (node_at v.slots k)) slot_is ∙ ap Some (sym node_is)
+                ∙ ap (λ k. Some (node_at v.slots k)) (sym own_slot) ∙ ap Some (sym node_is)
 
             pub child_spot : IsSpot IsKey bits width v c
             child_spot = record {

@@ -18,7 +18,7 @@ use crate::table::spot::Spot;
 use crate::table::walk::Walk;
 use arrayvec::ArrayVec;
 use prefix_trie_bits::node::{
-    Places, behind_child, child_bit_of, child_cover_mask, from_value, has_bit, rank, value_bit_of,
+    Places, behind_child, child_bit_of, child_cover_mask, from_value, has_bit, value_bit_of,
     value_cover_mask, without_bit,
 };
 use prefix_trie_bits::prefix::Key;
@@ -80,11 +80,7 @@ pub(super) fn start_at<K: Key, T: Drop, A: Allocator, V: Tick>(
         if !has_bit(node.child_bitmap, child) {
             return stack;
         }
-        let at = NodeSlot {
-            start: node.child_block,
-            place: rank(node.child_bitmap, child),
-        };
-        node = nodes.visit(at, counter);
+        node = nodes.visit(node.child_slot(child), counter);
         depth += 5;
     }
     stack.push(spot_in(node, depth, places_kept(from, key, depth, len)));

@@ -11,7 +11,7 @@ use crate::allocator::blocks::Blocks;
 use crate::allocator::node::{Node, NodeSlot};
 use crate::allocator::nodes::{NodeAllocator, Tick};
 use crate::table::seat::Seat;
-use prefix_trie_bits::node::{Place, Places, rank, string_of, value_bit_of};
+use prefix_trie_bits::node::{Place, Places, string_of, value_bit_of};
 use prefix_trie_bits::prefix::Key;
 use std::alloc::Allocator;
 
@@ -90,17 +90,14 @@ pub fn next_at<K: Key, A: Allocator, V: Tick, T: Drop>(
     match place {
         Place::Value(bit) => {
             let (n, tail) = string_of(bit);
-            let seat = Seat {
-                start: node.value_block,
-                place: rank(node.value_bitmap, bit),
-            };
-            Step::Entry(key.extend(spot.depth, n, tail), spot.depth + n, seat)
+            Step::Entry(
+                key.extend(spot.depth, n, tail),
+                spot.depth + n,
+                node.value_seat(bit),
+            )
         }
         Place::Child(child) => {
-            let at = NodeSlot {
-                start: node.child_block,
-                place: rank(node.child_bitmap, child),
-            };
+            let at = node.child_slot(child);
             let below = key.extend(spot.depth, 5, child);
             Step::Child(enter(nodes, at, spot.depth + 5, counter), below)
         }

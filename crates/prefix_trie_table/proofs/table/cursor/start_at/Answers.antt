@@ -31,12 +31,12 @@ returns-then-not-has_bit-clause-rest g c =
 pub visit-node-requires-in-loop-depth : goal.visit-node-requires-in-loop-depth
 visit-node-requires-in-loop-depth g c =
     next_inside g.K.Key.IsKey g.K.Key.bits g.K.Key.bit_width c.args.nodes.now c.args.key c.args.len c.args.from c.requires.key (g.met.K.Key.key_laws.bits_length c.args.key c.requires.key) c.requires.within c.loop-depth.depth c.loop-depth.node c.loop-depth.stack.items c.loop-depth.invariant
-    c.loop-depth-test.true c.requires.tree.0 c.requires.tree.1 c.child_bit_of-child.result c.child_bit_of-child.ensures.value (sym c.has_bit.ensures ∙ c.if-not-has_bit.false) c.rank.result c.rank.ensures
+    c.loop-depth-test.true c.requires.tree.0 c.requires.tree.1 c.child_bit_of-child.result c.child_bit_of-child.ensures.value (sym c.has_bit.ensures ∙ c.if-not-has_bit.false) _ c.child_slot.ensures
 
 pub loop-depth-preserved : goal.loop-depth-preserved
 loop-depth-preserved g c =
     laid_next g.K.Key.IsKey g.K.Key.bits g.K.Key.bit_width c.args.nodes.now c.args.key c.args.len c.args.from c.requires.key (g.met.K.Key.key_laws.bits_length c.args.key c.requires.key) c.requires.within c.loop-depth.depth c.loop-depth.node c.loop-depth.stack.items c.loop-depth.invariant c.spot_in.result c.spot_in.ensures.node c.spot_in.ensures.depth c.spot_in.ensures.each c.push.new.self.items c.push.ensures.items
-    c.loop-depth-test.true c.places_behind.result.0 c.places_behind.result.1 c.spot_in.ensures.places c.child_bit_of-child.result c.child_bit_of-child.ensures.value c.places_behind.ensures c.requires.tree.0 c.requires.tree.1 (sym c.has_bit.ensures ∙ c.if-not-has_bit.false) c.rank.result c.rank.ensures
+    c.loop-depth-test.true c.places_behind.result.0 c.places_behind.result.1 c.spot_in.ensures.places c.child_bit_of-child.result c.child_bit_of-child.ensures.value c.places_behind.ensures c.requires.tree.0 c.requires.tree.1 (sym c.has_bit.ensures ∙ c.if-not-has_bit.false) _ c.child_slot.ensures
     c.visit-node-in-loop-depth.result c.visit-node-in-loop-depth.ensures.node
 
 pub spot_in-requires-2 : goal.spot_in-requires-2
