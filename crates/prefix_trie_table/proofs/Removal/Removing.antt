@@ -6,6 +6,7 @@ use Rattle.std.proofs.lemmas.List.Quantifiers.{position-Some}
 use Rattle.std.proofs.lemmas.Bool.{true≢false, cases_lt}
 use Rattle.prefix_trie_bits.specs.Places.{Sets}
 use Rattle.prefix_trie_table.specs.declared.allocator.node.Node.{Node}
+use Rattle.prefix_trie_table.specs.declared.allocator.blocks.BlockRef.{BlockRef}
 use Rattle.prefix_trie_table.specs.Bitmaps.{has_bit, bits, rank}
 use Rattle.prefix_trie_table.specs.Cells.{blank_node, node_at, node_sizes, cell_sizes}
 use Rattle.prefix_trie_table.specs.OwnBlocks.{size_if_any, child_block_size, value_block_size}
@@ -49,10 +50,25 @@ held_fits vacant v k start count sizes sizes_are seven list some =
     let size : list.size ≡ size_in sizes k = of.size_is ∙ size_at v.tiers k ∙ ap (λ ns. size_in ns k) sizes_are in
     ((let x = of.within in omega arith), (let e = list.is_count in omega arith))
 
+-- what is left of an array once a list of so many items, at `start` in a block of tier k, has lost the one at a place and
+-- stands at `next` in a block of tier `to`
+pub record Lost {S : Type 0} (vacant : S) (sizes : List ℕ) (v w : Store S) (k start count place to next : ℕ) : Type 0 where
+  pub keeps : Keeps v w
+  pub fits : (k < 7) × (count ≤ size_in sizes k)
+  pub shrinks : Shrinks v.tiers k count to
+  pub grows : Grows v w 24
+  pub back : count ≤ 1 → GivesBack v w
+  pub longer : (left : ℕ) → left + 1 ≡ count → MayLengthen sizes v w left k to
+  pub down : (left : ℕ) → left + 1 ≡ count → length w.slots + headroom_if_any (size_if_any left (size_in sizes to)) ≤
+      length v.slots + headroom_if_any (size_if_any count (size_in sizes k))
+  pub made : (j : ℕ) → (tier_at w.tiers j).made ≡ (tier_at v.tiers j).made + blocks_entered v.tiers k count to j
+  pub sound : (n : ℕ) (xs : List S) (live : List (UsedBlock S)) → Sound vacant (held k start n xs ++ live) v → length xs ≡ count →
+      Sound vacant (held to next (tier_at v.tiers to).size (remove xs place) ++ live) w
+
 module _ {S : Type 0} (v w : Store S) (k count to : ℕ) (took gave : ℕ → ℕ) (keeps : Keeps v w)
     (turned : Turnover v w (blocks_entered v.tiers k count to) took gave) where
   -- no block is made where the list is empty afterwards
-  pub same_room : count ≤ 1 → SameRoom v w
+  same_room : count ≤ 1 → SameRoom v w
   same_room h =
       let none = slots_of-none (tier_sizes v.tiers) (blocks_entered v.tiers k count to) (λ j. (let e = left_none k count to j h in omega arith)) in
       ((let l = turned.longer in omega arith), keeps.first_is, keeps.limit_is)
@@ -70,7 +86,7 @@ module _ {S : Type 0} (v w : Store S) (k count to : ℕ) (took gave : ℕ → �
   module _ (vacant : S) (start : ℕ) (sizes : List ℕ) (sizes_are : tier_sizes v.tiers ≡ sizes) (seven : length sizes ≡ 7) (smaller : (j : ℕ) → j ≤ 5 → size_in sizes j ≡ get_or smaller_sizes j 0)
       (list : HasList vacant v k start count) (smallest : 1 < count → (to ≡ k) ⊎ (tier_for v.tiers (count - 1) ≡ Some to)) where
     -- the tier of the list, and that its block holds it
-    pub list_fits : 0 < count → (k < 7) × (count ≤ size_in sizes k)
+    list_fits : 0 < count → (k < 7) × (count ≤ size_in sizes k)
     list_fits = held_fits vacant v k start count sizes sizes_are seven list
 
     -- another block that it moves to is of a smaller tier, and one such block is made at most
@@ -96,7 +112,7 @@ module _ {S : Type 0} (v w : Store S) (k count to : ℕ) (took gave : ℕ → �
         omega (arith, one, smaller to small, smaller_few to small)
 
     -- a list that loses an item lets its array grow by 24 slots at most
-    pub grows_few : Grows v w 24
+    grows_few : Grows v w 24
     grows_few = elim (cases_lt 1 count) as (λ _. Grows v w 24) [
       | inl more ↦ elim (number_or to k) as (λ _. Grows v w 24) [
         | inl same ↦ grows_by (let n = slots_of-none (tier_sizes v.tiers) (blocks_entered v.tiers k count to)
@@ -127,7 +143,7 @@ module _ {S : Type 0} (v w : Store S) (k count to : ℕ) (took gave : ℕ → �
             omega (arith, one, l, step, rises to (omega (arith, less, seven)), rises k seven)
       ]
 
-      pub steps_down : (left : ℕ) → left + 1 ≡ count → length w.slots + headroom_if_any (size_if_any left (size_in sizes to)) ≤
+      steps_down : (left : ℕ) → left + 1 ≡ count → length w.slots + headroom_if_any (size_if_any left (size_in sizes to)) ≤
           length v.slots + headroom_if_any (size_if_any count (size_in sizes k))
       steps_down zero one =
           let n = slots_of-none (tier_sizes v.tiers) (blocks_entered v.tiers k count to) (λ j. (let e = left_none k count to j (omega arith) in omega arith)) in
@@ -174,7 +190,7 @@ module _ {S : Type 0} (v w : Store S) (k count to : ℕ) (took gave : ℕ → �
         no_more j e some (inr ne) = (let z = many_other to 1 j ne in omega (arith, e, z))
 
     -- a list that loses an item lets its array grow by that block at most
-    pub may_lengthen : (left : ℕ) → left + 1 ≡ count → MayLengthen sizes v w left k to
+    may_lengthen : (left : ℕ) → left + 1 ≡ count → MayLengthen sizes v w left k to
     may_lengthen left is_left = subst (λ n. MayLengthen sizes v w n k to) (let e : count - 1 ≡ left = omega arith in e)
         (elim (cases_lt 1 count) as (λ _. MayLengthen sizes v w (count - 1) k to) [
           | inl more ↦ elim (number_or to k) as (λ _. MayLengthen sizes v w (count - 1) k to) [
@@ -186,11 +202,45 @@ module _ {S : Type 0} (v w : Store S) (k count to : ℕ) (took gave : ℕ → �
               (λ j. (let e = left_none k count to j (omega arith) in omega arith)) in let l = turned.longer in omega (arith, n, l))
         ])
 
+-- where the last item went, no block was made or taken
+gives_back : {S : Type 0} (v w : Store S) (k count to : ℕ) (gave : ℕ → ℕ) → Keeps v w
+    → Turnover v w (blocks_entered v.tiers k count to) (one_at (tier_entered k count to)) gave → count ≤ 1 → GivesBack v w
+gives_back v w k count to gave keeps turned few = record {
+  room = same_room v w k count to _ _ keeps turned few;
+  sizes = keeps.sizes;
+  free = λ j. (let f = turned.free_is j in let e = left_none k count to j few in omega arith);
+  made = λ j. (let m = turned.made_is j in let e = left_none k count to j few in omega arith);
+}
+
+-- a call that takes an item out of a list, and answers where the list stands then
+pub lost_one : {S : Type 0} (vacant : S) (v w : Store S) (k start count place : ℕ) (next : BlockRef) (sizes : List ℕ) → tier_sizes v.tiers ≡ sizes →
+    length sizes ≡ 7 → ((j : ℕ) → j ≤ 5 → size_in sizes j ≡ get_or smaller_sizes j 0) → ((j : ℕ) → j < 7 → headroom (size_in sizes j) ≡ tier_headroom j)
+    → HasList vacant v k start count → Keeps v w → (count ≡ 1 → next ≡ record { tier = 0; start = 0 })
+    → (1 < count → (next.tier ≡ k) ⊎ (tier_for v.tiers (count - 1) ≡ Some next.tier))
+    → ((to : ℕ) → 1 < count → tier_for v.tiers (count - 1) ≡ Some to → 0 < free_at v.tiers to → next.tier ≡ to)
+    → (gave : ℕ → ℕ) → Turnover v w (blocks_entered v.tiers k count next.tier) (one_at (tier_entered k count next.tier)) gave
+    → ((n : ℕ) (xs : List S) (live : List (UsedBlock S)) → Sound vacant (held k start n xs ++ live) v → length xs ≡ count →
+    Sound vacant (held next.tier next.start (tier_at v.tiers next.tier).size (remove xs place) ++ live) w)
+    → (n at : ℕ) → count ≡ n → place ≡ at → at < n → Lost vacant sizes v w k start n at next.tier next.start
+lost_one vacant v w k start count place next sizes sizes_are seven smaller rises list keeps gone smallest freed gave turned sound n at same is inside =
+    subst (λ x. Lost vacant sizes v w k start x at next.tier next.start) same
+    (subst (λ x. Lost vacant sizes v w k start count x next.tier next.start) is (record {
+      keeps = keeps;
+      fits = list_fits v w k count next.tier _ gave keeps turned vacant start sizes sizes_are seven smaller list smallest (omega (arith, inside, same));
+      shrinks = record { gone = λ one. ap (λ (r : BlockRef). r.tier) (gone one); smallest = smallest; smaller = freed };
+      grows = grows_few v w k count next.tier _ gave keeps turned vacant start sizes sizes_are seven smaller list smallest;
+      back = gives_back v w k count next.tier gave keeps turned;
+      longer = may_lengthen v w k count next.tier _ gave keeps turned vacant start sizes sizes_are seven smaller list smallest;
+      down = steps_down v w k count next.tier _ gave keeps turned vacant start sizes sizes_are seven smaller list smallest rises;
+      made = turned.made_is;
+      sound = sound;
+    }))
+
 -- ---- the reading of the arrays where a value is gone
 
 module _ {T : Type 0} where
   -- the list without a value, and the node written with it, lack the value
-  pub values_taken : (v v2 : Store Node) (w u : Store (Option T)) (slot place b tier start bitmap : ℕ) (k m : Node)
+  pub values_taken : (v v2 : Store Node) (w u : Store (Option T)) (slot b tier start bitmap : ℕ) (k m : Node)
       → k ≡ node_at v.slots slot
       → Sets bitmap b k.value_bitmap
       → m ≡ record {
@@ -201,19 +251,12 @@ module _ {T : Type 0} where
         value_tier = tier;
         child_tier = k.child_tier;
       }
-      → Keeps w u
-      → ((n : ℕ) (xs : List (Option T)) (live : List (UsedBlock (Option T))) → Sound None (held k.value_tier k.value_block n xs ++ live) w →
-      length xs ≡ rank k.value_bitmap 32 → Sound None (held tier start (tier_at w.tiers tier).size (remove xs place) ++ live) u)
-      → place ≡ rank k.value_bitmap b → b < 31 → has_bit k.value_bitmap b ≡ true → v2 ≡ record v { slots = set v.slots slot m }
-      → Shrinks w.tiers k.value_tier (rank k.value_bitmap 32) tier
-      → ((left : ℕ) → left + 1 ≡ rank k.value_bitmap 32 → MayLengthen cell_sizes w u left k.value_tier tier)
-      → (k.value_tier < 7) × (rank k.value_bitmap 32 ≤ size_in cell_sizes k.value_tier)
-      → ((j : ℕ) → (tier_at u.tiers j).made ≡ (tier_at w.tiers j).made + blocks_entered w.tiers k.value_tier (rank k.value_bitmap 32) tier j)
+      → Lost None cell_sizes w u k.value_tier k.value_block (rank k.value_bitmap 32) (rank k.value_bitmap b) tier start
+      → b < 31 → has_bit k.value_bitmap b ≡ true → v2 ≡ record v { slots = set v.slots slot m }
       → (reading : List ℕ → Option Node) (paths : List (List ℕ)) (values : List ℕ → ℕ → Option T) (p : List ℕ) (n : Node) →
       NodesHold node_sizes reading paths v → CellsHold cell_sizes reading values paths w → IsSlot reading p slot → reading p ≡ Some n
       → ValueTaken reading paths values p b n m v2 w u
-  values_taken v v2 w u slot place b tier start bitmap k m read sets m_is keeps cut place_is small there v2_is shrinks lengthens fits turned reading paths values
-      p n hold cells stands is =
+  values_taken v v2 w u slot b tier start bitmap k m read sets m_is lost small there v2_is reading paths values p n hold cells stands is =
       let at = slot_holds node_sizes reading paths v hold p slot n stands is in
       let same : k ≡ n = read ∙ at.0 in
       let here : reading p ≡ Some k = is ∙ ap Some (sym same) in
@@ -224,7 +267,7 @@ module _ {T : Type 0} where
       let stay : (i : ℕ) → i ≢ b → has_bit m.value_bitmap i ≡ has_bit k.value_bitmap i = λ i ne. ap (λ y. has_bit y i) bits_are
       ∙ others_stay bitmap k.value_bitmap b sets digit i ne in
       let live : List (UsedBlock (Option T)) = flat_map (value_blocks cell_sizes reading values) (without p paths) in
-      let left = cut (size_in cell_sizes k.value_tier) (map (values p) (bits k.value_bitmap)) live
+      let left = lost.sound (size_in cell_sizes k.value_tier) (map (values p) (bits k.value_bitmap)) live
       (values_first cell_sizes node_sizes reading paths v hold values w cells p k here) (rank-all (values p) k.value_bitmap) in
       let tier_is : m.value_tier ≡ tier = ap (λ (y : Node). y.value_tier) m_is in
       let start_is : m.value_block ≡ start = ap (λ (y : Node). y.value_block) m_is in
@@ -232,13 +275,13 @@ module _ {T : Type 0} where
       (remove (map (values p) (bits k.value_bitmap)) (rank k.value_bitmap b)) ++ live) u =
       subst (λ (bs : List (UsedBlock (Option T))). Sound None (bs ++ live) u)
       (λ i. held (sym tier_is i) (sym start_is i) ((size ∙ ap (size_in cell_sizes) (sym tier_is)) i)
-      (remove (map (values p) (bits k.value_bitmap)) (place_is i))) left in
+      (remove (map (values p) (bits k.value_bitmap)) (rank k.value_bitmap b))) left in
       record {
         hold = subst (λ y. NodesHold node_sizes (with_node reading p m) paths y) (sym v2_is)
             (node_changed node_sizes reading paths v hold p slot k m stands here (ap (λ (y : Node). y.child_bitmap) m_is)
             (ap (λ (y : Node). y.child_block) m_is) (ap (λ (y : Node). y.child_tier) m_is));
         cells = value_removed cell_sizes node_sizes reading paths v hold values w cells p k m b None here stay gone small u digit there refl
-            (keeps.sizes ∙ cells.sizes_are) sound;
+            (lost.keeps.sizes ∙ cells.sizes_are) sound;
         fewer = (let f = one_fewer bitmap k.value_bitmap b sets digit in
             let r : rank m.value_bitmap 32 ≡ rank bitmap 32 = ap (λ y. rank y 32) bits_are in
             let o : rank k.value_bitmap 32 ≡ rank n.value_bitmap 32 = ap (λ (y : Node). rank y.value_bitmap 32) same in omega arith);
@@ -248,17 +291,17 @@ module _ {T : Type 0} where
           tier = ap (λ (y : Node). y.child_tier) m_is ∙ ap (λ (y : Node). y.child_tier) same;
         };
         shrinks = subst (λ t. Shrinks w.tiers n.value_tier (rank n.value_bitmap 32) t) (sym tier_is)
-            (subst (λ (y : Node). Shrinks w.tiers y.value_tier (rank y.value_bitmap 32) tier) same shrinks);
-        fits = subst (λ (y : Node). (y.value_tier < 7) × (rank y.value_bitmap 32 ≤ size_in cell_sizes y.value_tier)) same fits;
+            (subst (λ (y : Node). Shrinks w.tiers y.value_tier (rank y.value_bitmap 32) tier) same lost.shrinks);
+        fits = subst (λ (y : Node). (y.value_tier < 7) × (rank y.value_bitmap 32 ≤ size_in cell_sizes y.value_tier)) same lost.fits;
         longer = subst (λ t. MayLengthen cell_sizes w u (rank m.value_bitmap 32) n.value_tier t) (sym tier_is)
             (subst (λ (y : Node). MayLengthen cell_sizes w u (rank m.value_bitmap 32) y.value_tier tier) same
-            (lengthens (rank m.value_bitmap 32)
+            (lost.longer (rank m.value_bitmap 32)
             (ap (λ y. rank y 32 + 1) bits_are ∙ one_fewer bitmap k.value_bitmap b sets digit)));
         made = subst (λ t. MakesEntered cell_sizes w u (value_block_size (Some n)) (size_if_any (rank m.value_bitmap 32) (size_in cell_sizes t))) (sym tier_is)
             (subst (λ (y : Node). MakesEntered cell_sizes w u (value_block_size (Some y)) (size_if_any (rank m.value_bitmap 32) (size_in cell_sizes tier))) same
-            (λ j inside. turned j ∙ ap (λ x. (tier_at w.tiers j).made + x)
+            (λ j inside. lost.made j ∙ ap (λ x. (tier_at w.tiers j).made + x)
             (entered_is w.tiers cell_sizes cells.sizes_are refl cells_apart k.value_tier (rank k.value_bitmap 32) tier (rank m.value_bitmap 32)
-            (ap (λ y. rank y 32 + 1) bits_are ∙ one_fewer bitmap k.value_bitmap b sets digit) fits.0 shrinks j inside)));
+            (ap (λ y. rank y 32 + 1) bits_are ∙ one_fewer bitmap k.value_bitmap b sets digit) lost.fits.0 lost.shrinks j inside)));
       }
 
 -- ---- the reading of the arrays where a child is gone
@@ -276,7 +319,7 @@ lengthens_written v u left k to slot m (inr one) = inr (record {
 })
 
 -- the list without a child that has no children, and the node written with it, lack the child
-pub children_dropped : (v u v2 : Store Node) (slot place c tier start bitmap : ℕ) (k m : Node)
+pub children_dropped : (v u v2 : Store Node) (slot c tier start bitmap : ℕ) (k m : Node)
     → k ≡ node_at v.slots slot
     → Sets bitmap c k.child_bitmap
     → m ≡ record {
@@ -287,22 +330,13 @@ pub children_dropped : (v u v2 : Store Node) (slot place c tier start bitmap : �
       value_tier = k.value_tier;
       child_tier = tier;
     }
-    → Keeps v u
-    → ((n : ℕ) (xs : List Node) (live : List (UsedBlock Node)) → Sound blank_node (held k.child_tier k.child_block n xs ++ live) v →
-    length xs ≡ rank k.child_bitmap 32 → Sound blank_node (held tier start (tier_at v.tiers tier).size (remove xs place) ++ live) u)
-    → place ≡ rank k.child_bitmap c → c < 32 → v2 ≡ record u { slots = set u.slots slot m }
-    → Shrinks v.tiers k.child_tier (rank k.child_bitmap 32) tier
-    → ((left : ℕ) → left + 1 ≡ rank k.child_bitmap 32 → MayLengthen node_sizes v u left k.child_tier tier)
-    → (k.child_tier < 7) × (rank k.child_bitmap 32 ≤ size_in node_sizes k.child_tier)
-    → ((j : ℕ) → (tier_at u.tiers j).made ≡ (tier_at v.tiers j).made + blocks_entered v.tiers k.child_tier (rank k.child_bitmap 32) tier j)
-    → ((left : ℕ) → left + 1 ≡ rank k.child_bitmap 32 → length u.slots + headroom_if_any (size_if_any left (size_in node_sizes tier)) ≤
-    length v.slots + child_headroom k)
+    → Lost blank_node node_sizes v u k.child_tier k.child_block (rank k.child_bitmap 32) (rank k.child_bitmap c) tier start
+    → c < 32 → v2 ≡ record u { slots = set u.slots slot m }
     → (reading : List ℕ → Option Node) (paths : List (List ℕ)) (p : List ℕ) (n leaf : Node) →
     NodesHold node_sizes reading paths v → IsSlot reading p slot → reading p ≡ Some n → reading (p ++ c ∷ []) ≡ Some leaf →
     rank leaf.child_bitmap 32 ≡ 0
     → ChildDropped reading paths p c n m v v2
-children_dropped v u v2 slot place c tier start bitmap k m read sets m_is keeps cut place_is digit v2_is shrinks lengthens fits turned steps reading paths p n
-    leaf hold stands is below bare =
+children_dropped v u v2 slot c tier start bitmap k m read sets m_is lost digit v2_is reading paths p n leaf hold stands is below bare =
     let at = slot_holds node_sizes reading paths v hold p slot n stands is in
     let same : k ≡ n = read ∙ at.0 in
     let here : reading p ≡ Some k = is ∙ ap Some (sym same) in
@@ -312,7 +346,7 @@ children_dropped v u v2 slot place c tier start bitmap k m read sets m_is keeps 
     let stay : (i : ℕ) → i ≢ c → has_bit m.child_bitmap i ≡ has_bit k.child_bitmap i = λ i ne. ap (λ y. has_bit y i) bits_are
     ∙ others_stay bitmap k.child_bitmap c sets digit i ne in
     let live : List (UsedBlock Node) = flat_map (child_blocks node_sizes reading) (without p paths) in
-    let left = cut (size_in node_sizes k.child_tier) (child_items reading p k.child_bitmap) live
+    let left = lost.sound (size_in node_sizes k.child_tier) (child_items reading p k.child_bitmap) live
     (own_first node_sizes reading paths v hold p k here) (rank-all (λ d. node_or_blank (reading (p ++ d ∷ []))) k.child_bitmap) in
     let tier_is : m.child_tier ≡ tier = ap (λ (y : Node). y.child_tier) m_is in
     let start_is : m.child_block ≡ start = ap (λ (y : Node). y.child_block) m_is in
@@ -320,12 +354,12 @@ children_dropped v u v2 slot place c tier start bitmap k m read sets m_is keeps 
     (remove (child_items reading p k.child_bitmap) (rank k.child_bitmap c)) ++ live) u =
     subst (λ (bs : List (UsedBlock Node)). Sound blank_node (bs ++ live) u)
     (λ i. held (sym tier_is i) (sym start_is i) ((size ∙ ap (size_in node_sizes) (sym tier_is)) i)
-    (remove (child_items reading p k.child_bitmap) (place_is i))) left in
+    (remove (child_items reading p k.child_bitmap) (rank k.child_bitmap c))) left in
     let fewer_here : rank m.child_bitmap 32 + 1 ≡ rank k.child_bitmap 32 =
     ap (λ y. rank y 32 + 1) bits_are ∙ one_fewer bitmap k.child_bitmap c sets digit in
     let later = subst (λ y. NodesHold node_sizes (lacking_child reading p m c) (without (p ++ c ∷ []) paths) y) (sym v2_is)
     (child_removed node_sizes reading paths v hold p slot k m leaf c u stands here digit below (λ i. no_bit leaf.child_bitmap i bare) gone stay
-    (keeps.first_is ∙ hold.first_is) (keeps.sizes ∙ hold.sizes_are) (keeps.before 0 blank_node (let f = hold.first_is in omega arith)) sound) in
+    (lost.keeps.first_is ∙ hold.first_is) (lost.keeps.sizes ∙ hold.sizes_are) (lost.keeps.before 0 blank_node (let f = hold.first_is in omega arith)) sound) in
     record {
       hold = later;
       values = record {
@@ -333,38 +367,28 @@ children_dropped v u v2 slot place c tier start bitmap k m read sets m_is keeps 
         block = ap (λ (y : Node). y.value_block) m_is ∙ ap (λ (y : Node). y.value_block) same;
         tier = ap (λ (y : Node). y.value_tier) m_is ∙ ap (λ (y : Node). y.value_tier) same;
       };
-      fits = subst (λ (y : Node). (y.child_tier < 7) × (rank y.child_bitmap 32 ≤ size_in node_sizes y.child_tier)) same fits;
+      fits = subst (λ (y : Node). (y.child_tier < 7) × (rank y.child_bitmap 32 ≤ size_in node_sizes y.child_tier)) same lost.fits;
       fewer = fewer_here ∙ ap (λ (y : Node). rank y.child_bitmap 32) same;
       shrinks = subst (λ t. Shrinks v.tiers n.child_tier (rank n.child_bitmap 32) t) (sym tier_is)
-          (subst (λ (y : Node). Shrinks v.tiers y.child_tier (rank y.child_bitmap 32) tier) same shrinks);
+          (subst (λ (y : Node). Shrinks v.tiers y.child_tier (rank y.child_bitmap 32) tier) same lost.shrinks);
       longer = subst (λ t. MayLengthen node_sizes v v2 (rank m.child_bitmap 32) n.child_tier t) (sym tier_is)
           (subst (λ (y : Node). MayLengthen node_sizes v v2 (rank m.child_bitmap 32) y.child_tier tier) same
           (subst (λ (y : Store Node). MayLengthen node_sizes v y (rank m.child_bitmap 32) k.child_tier tier) (sym v2_is)
-          (lengthens_written v u (rank m.child_bitmap 32) k.child_tier tier slot m (lengthens (rank m.child_bitmap 32) fewer_here))));
+          (lengthens_written v u (rank m.child_bitmap 32) k.child_tier tier slot m (lost.longer (rank m.child_bitmap 32) fewer_here))));
       made = subst (λ t. MakesEntered node_sizes v v2 (child_block_size (Some n)) (size_if_any (rank m.child_bitmap 32) (size_in node_sizes t))) (sym tier_is)
           (subst (λ (y : Node). MakesEntered node_sizes v v2 (child_block_size (Some y)) (size_if_any (rank m.child_bitmap 32) (size_in node_sizes tier))) same
           (subst (λ (y : Store Node). MakesEntered node_sizes v y (child_block_size (Some k)) (size_if_any (rank m.child_bitmap 32) (size_in node_sizes tier))) (sym v2_is)
-          (λ j inside. turned j ∙ ap (λ x. (tier_at v.tiers j).made + x)
+          (λ j inside. lost.made j ∙ ap (λ x. (tier_at v.tiers j).made + x)
           (entered_is v.tiers node_sizes hold.sizes_are refl nodes_apart k.child_tier (rank k.child_bitmap 32) tier (rank m.child_bitmap 32)
-          fewer_here fits.0 shrinks j inside))));
+          fewer_here lost.fits.0 lost.shrinks j inside))));
       settles = child_settles reading paths v v2 p c n m leaf hold is below later
           (ap (λ (y : Node). value_block_size (Some y)) m_is ∙ ap (λ (y : Node). value_block_size (Some y)) same)
-          (let down = steps (rank m.child_bitmap 32) fewer_here in
+          (let down = lost.down (rank m.child_bitmap 32) fewer_here in
           let long : length v2.slots ≡ length u.slots = ap (λ (y : Store Node). length y.slots) v2_is ∙ length-set u.slots slot m in
           let now : child_headroom m ≡ headroom_if_any (size_if_any (rank m.child_bitmap 32) (size_in node_sizes tier)) =
           ap (λ t. headroom_if_any (size_if_any (rank m.child_bitmap 32) (size_in node_sizes t))) tier_is in
           let was : child_headroom k ≡ child_headroom n = ap child_headroom same in omega (arith, down, long, now, was));
     }
-
--- where the last child went, no block was made or taken
-pub gives_back : {S : Type 0} (v w : Store S) (k count to : ℕ) (gave : ℕ → ℕ) → Keeps v w
-    → Turnover v w (blocks_entered v.tiers k count to) (one_at (tier_entered k count to)) gave → count ≤ 1 → GivesBack v w
-gives_back v w k count to gave keeps turned few = record {
-  room = same_room v w k count to _ _ keeps turned few;
-  sizes = keeps.sizes;
-  free = λ j. (let f = turned.free_is j in let e = left_none k count to j few in omega arith);
-  made = λ j. (let m = turned.made_is j in let e = left_none k count to j few in omega arith);
-}
 
 -- a node written leaves the room and the free blocks
 pub gives_written : {S : Type 0} (v w x : Store S) (slot : ℕ) (m : S) → GivesBack v w → x ≡ record w { slots = set w.slots slot m } → GivesBack v x

@@ -1,18 +1,15 @@
-use Rattle.std.proofs.Common.{◌≡◌, ℕ, ◌<◌, ◌≤◌, ◌+◌, Some, None, length, get_or, map, sym, ap, ◌∙◌, refl, subst, arith}
+use Rattle.std.proofs.Common.{◌≡◌, ◌<◌, ◌+◌, Some, None, get_or, map, sym, ap, ◌∙◌, refl, arith}
 use Rattle.prefix_trie_table.specs.Bitmaps.{rank, bits}
 use Rattle.prefix_trie_table.specs.Cells.{node_sizes, cell_sizes}
-use Rattle.prefix_trie_table.specs.OwnBlocks.{size_if_any}
-use Rattle.prefix_trie_table.specs.Removals.{Shrinks}
-use Rattle.prefix_trie_table.specs.Settling.{headroom_if_any}
-use Rattle.prefix_trie_table.specs.Store.{size_in, tier_at, blocks_entered}
 use Rattle.prefix_trie_table.proofs.Strings.Bare.{one_fewer}
 use Rattle.prefix_trie_table.proofs.Strings.Bits.{has_bit-is, rank-ones}
 use Rattle.prefix_trie_table.proofs.Strings.BitLists.{rank-below, rank-all, map_get}
 use Rattle.prefix_trie_table.proofs.Insertion.Adding.{at_is, at_values, has_values}
 use Rattle.prefix_trie_table.proofs.Tree.Trees.{slot_holds}
 use Rattle.prefix_trie_table.proofs.Tree.Values.{values_first}
-use Rattle.prefix_trie_table.proofs.Removal.Removing.{values_taken, grows_few, steps_down, may_lengthen, list_fits}
+use Rattle.prefix_trie_table.proofs.Removal.Removing.{Lost, lost_one, values_taken}
 use Rattle.prefix_trie_table.proofs.Removal.Settling.{smaller_cell, headroom_cell, value_settles}
+use Rattle.prefix_trie_table.proofs.table.removal.take_value.Given as given
 use Rattle.prefix_trie_table.proofs.table.removal.take_value.Goals as goal
 
 pub remove_at-value-requires-clause-holds : goal.remove_at-value-requires-clause-holds
@@ -34,30 +31,30 @@ remove_at-value-requires-clause-place g c =
 pub without_bit-requires-clause-set : goal.without_bit-requires-clause-set
 without_bit-requires-clause-set g c = sym (has_bit-is c.args.node.value_bitmap c.args.bit (omega (arith, c.requires.bit))) ∙ c.requires.there
 
+-- what the list of values is like without the value
+lost : (g : given.Over) (c : goal.After-put g) → Lost None cell_sizes c.args.cells.now c.remove_at-value.new.self c.args.node.value_tier
+    c.args.node.value_block (rank c.args.node.value_bitmap 32) (rank c.args.node.value_bitmap c.args.bit)
+    c.remove_at-value.result.1.tier c.remove_at-value.result.1.start
+lost g c =
+    let same : c.count.result ≡ rank c.args.node.value_bitmap 32 = c.count.ensures ∙ sym (rank-ones c.args.node.value_bitmap 32 (omega arith)) in
+    let list = has_values c.args.nodes.now c.args.cells.now (c.args.at.start + c.args.at.place) c.args.node c.count.result c.requires.stands c.requires.node
+    same in
+    let left = c.remove_at-value.ensures in
+    let bit : c.args.bit < 32 = omega (arith, c.requires.bit) in
+    lost_one None c.args.cells.now c.remove_at-value.new.self c.args.node.value_tier c.args.node.value_block c.count.result c.rank.result
+    c.remove_at-value.result.1 cell_sizes c.requires.stands.0.holds.cells.sizes_are refl smaller_cell headroom_cell list left.keeps left.gone left.smallest
+    left.smaller _ left.turnover left.sound _ _ same (c.rank.ensures ∙ sym (rank-ones c.args.node.value_bitmap c.args.bit (omega (arith, bit))))
+    (rank-below c.args.node.value_bitmap c.args.bit bit c.requires.there)
+
 pub returns-clause-cell_room : goal.returns-clause-cell_room
-returns-clause-cell_room g c =
-    let list = has_values c.args.nodes.now c.args.cells.now (c.args.at.start + c.args.at.place) c.args.node c.count.result c.requires.stands
-    c.requires.node (c.count.ensures ∙ sym (rank-ones c.args.node.value_bitmap 32 (omega arith))) in
-    grows_few c.args.cells.now c.remove_at-value.new.self c.args.node.value_tier c.count.result
-    c.remove_at-value.result.1.tier _ _ c.remove_at-value.ensures.keeps c.remove_at-value.ensures.turnover None c.args.node.value_block cell_sizes
-    c.requires.stands.0.holds.cells.sizes_are refl smaller_cell list c.remove_at-value.ensures.smallest
+returns-clause-cell_room g c = (lost g c).grows
 
 pub returns-clause-settles : goal.returns-clause-settles
 returns-clause-settles g c =
-    let same : c.count.result ≡ rank c.args.node.value_bitmap 32 = c.count.ensures ∙ sym (rank-ones c.args.node.value_bitmap 32 (omega arith)) in
-    let list = has_values c.args.nodes.now c.args.cells.now (c.args.at.start + c.args.at.place) c.args.node c.count.result c.requires.stands
-    c.requires.node same in
-    let fewer = one_fewer c.without_bit.result c.args.node.value_bitmap c.args.bit c.without_bit.ensures.clears (omega (arith, c.requires.bit)) in
     value_settles c.args.nodes.now c.put.new.self c.args.cells.now c.remove_at-value.new.self (c.args.at.start + c.args.at.place) c.args.node _
     c.requires.node (at_is c.args.nodes.now (c.args.at.start + c.args.at.place) (at_values c.args.nodes.now c.args.cells.now _ c.requires.stands)).1
     c.put.ensures.slots refl
-    (subst (λ n. length c.remove_at-value.new.self.slots
-    + headroom_if_any (size_if_any (rank c.without_bit.result 32) (size_in cell_sizes c.remove_at-value.result.1.tier)) ≤
-    length c.args.cells.now.slots + headroom_if_any (size_if_any n (size_in cell_sizes c.args.node.value_tier))) same
-    (steps_down c.args.cells.now c.remove_at-value.new.self c.args.node.value_tier c.count.result
-    c.remove_at-value.result.1.tier _ _ c.remove_at-value.ensures.keeps c.remove_at-value.ensures.turnover None c.args.node.value_block cell_sizes
-    c.requires.stands.0.holds.cells.sizes_are refl smaller_cell list c.remove_at-value.ensures.smallest headroom_cell (rank c.without_bit.result 32)
-    (fewer ∙ sym same)))
+    ((lost g c).down _ (one_fewer c.without_bit.result c.args.node.value_bitmap c.args.bit c.without_bit.ensures.clears (omega (arith, c.requires.bit))))
 
 pub returns-clause-value : goal.returns-clause-value
 returns-clause-value g c = λ reading paths values p n hold cells stands is.
@@ -73,32 +70,7 @@ returns-clause-value g c = λ reading paths values p n hold cells stands is.
     ∙ ap (λ i. get_or (map (values p) (bits c.args.node.value_bitmap)) i c.remove_at-value.result.0) place ∙ got.1
 
 pub returns-clause-taken : goal.returns-clause-taken
-returns-clause-taken g c = λ reading paths values p n hold cells stands is.
-    let same : c.count.result ≡ rank c.args.node.value_bitmap 32 = c.count.ensures ∙ sym (rank-ones c.args.node.value_bitmap 32 (omega arith)) in
-    values_taken c.args.nodes.now c.put.new.self c.args.cells.now c.remove_at-value.new.self (c.args.at.start + c.args.at.place) c.rank.result
-    c.args.bit c.remove_at-value.result.1.tier c.remove_at-value.result.1.start c.without_bit.result c.args.node _
-    c.requires.node c.without_bit.ensures.clears refl c.remove_at-value.ensures.keeps
-    (λ size xs live s count. c.remove_at-value.ensures.sound size xs live s (count ∙ sym same))
-    (c.rank.ensures ∙ sym (rank-ones c.args.node.value_bitmap c.args.bit (omega (arith, c.requires.bit)))) c.requires.bit c.requires.there
-    c.put.ensures.slots
-    (subst (λ n. Shrinks c.args.cells.now.tiers c.args.node.value_tier n c.remove_at-value.result.1.tier) same
-    (record {
-      gone = λ one. ap (λ r. r.tier) (c.remove_at-value.ensures.gone one);
-      smallest = c.remove_at-value.ensures.smallest;
-      smaller = c.remove_at-value.ensures.smaller;
-    }))
-    (λ left fewer. may_lengthen c.args.cells.now c.remove_at-value.new.self c.args.node.value_tier c.count.result
-    c.remove_at-value.result.1.tier _ _ c.remove_at-value.ensures.keeps c.remove_at-value.ensures.turnover None c.args.node.value_block cell_sizes
-    c.requires.stands.0.holds.cells.sizes_are refl smaller_cell
-    (has_values c.args.nodes.now c.args.cells.now (c.args.at.start + c.args.at.place) c.args.node c.count.result c.requires.stands c.requires.node same)
-    c.remove_at-value.ensures.smallest left (fewer ∙ sym same))
-    (subst (λ n. (c.args.node.value_tier < 7) × (n ≤ size_in cell_sizes c.args.node.value_tier)) same
-    (list_fits c.args.cells.now c.remove_at-value.new.self c.args.node.value_tier c.count.result
-    c.remove_at-value.result.1.tier _ _ c.remove_at-value.ensures.keeps c.remove_at-value.ensures.turnover None c.args.node.value_block cell_sizes
-    c.requires.stands.0.holds.cells.sizes_are refl smaller_cell
-    (has_values c.args.nodes.now c.args.cells.now (c.args.at.start + c.args.at.place) c.args.node c.count.result c.requires.stands c.requires.node same)
-    c.remove_at-value.ensures.smallest
-    (let some = rank-below c.args.node.value_bitmap c.args.bit (omega (arith, c.requires.bit)) c.requires.there in omega (arith, some, same))))
-    (subst (λ n. (j : ℕ) → (tier_at c.remove_at-value.new.self.tiers j).made ≡ (tier_at c.args.cells.now.tiers j).made
-    + blocks_entered c.args.cells.now.tiers c.args.node.value_tier n c.remove_at-value.result.1.tier j) same c.remove_at-value.ensures.turnover.made_is)
-    reading paths values p n hold cells stands is
+returns-clause-taken g c =
+    values_taken c.args.nodes.now c.put.new.self c.args.cells.now c.remove_at-value.new.self (c.args.at.start + c.args.at.place) c.args.bit
+    c.remove_at-value.result.1.tier c.remove_at-value.result.1.start c.without_bit.result c.args.node _ c.requires.node c.without_bit.ensures.clears refl
+    (lost g c) c.requires.bit c.requires.there c.put.ensures.slots
