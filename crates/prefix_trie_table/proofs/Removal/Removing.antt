@@ -89,58 +89,49 @@ module _ {S : Type 0} (v w : Store S) (k count to : ℕ) (took gave : ℕ → �
     list_fits : 0 < count → (k < 7) × (count ≤ size_in sizes k)
     list_fits = held_fits vacant v k start count sizes sizes_are seven list
 
-    -- another block that it moves to is of a smaller tier, and one such block is made at most
-    entered_lower : 1 < count → to ≢ k → tier_for v.tiers (count - 1) ≡ Some to →
-        (to < k) × (k < 7) × (slots_of (tier_sizes v.tiers) (blocks_entered v.tiers k count to) ≤ size_in sizes to)
-    entered_lower more other is =
-        let at = list_fits (omega arith) in
-        let le : to ≤ k = no_larger sizes k to count at.1 (sym (tier_for_sizes v.tiers (count - 1) ∙ ap (λ ns. position (λ s. nat_le (count - 1) s) ns) sizes_are) ∙ is) in
-        let less = slots_of-le (tier_sizes v.tiers) (blocks_entered v.tiers k count to) (many_at to 1)
-        (λ j. (let e = entered_one k count to j more other in omega arith)) in
-        let one : slots_of (tier_sizes v.tiers) (many_at to 1) ≡ size_in sizes to * 1 =
-        ap (λ ns. slots_of ns (many_at to 1)) sizes_are ∙ slots_of-many sizes to 1 (omega arith) in
-        (below le other, at.0, omega (arith, less, one))
+    -- it stays in its block and none is made, or it moves to one of a smaller tier and one such block is made at most
+    abbrev Moves : Type 0
+    Moves = ((1 < count → to ≡ k) × (slots_of (tier_sizes v.tiers) (blocks_entered v.tiers k count to) ≡ 0))
+        ⊎ ((1 < count) × (to ≢ k) × (to < k) × (k < 7) × (slots_of (tier_sizes v.tiers) (blocks_entered v.tiers k count to) ≤ size_in sizes to))
+
+    moves : Moves
+    moves = elim (cases_lt 1 count) as (λ _. Moves) [
+      | inl more ↦ elim (number_or to k) as (λ _. Moves) [
+        | inl same ↦ inl (λ _. same, slots_of-none _ _ (λ j. (let e = entered_none k count to j more same in omega arith)))
+        | inr other ↦ inr (lower more other (⊎_elim (λ (e : to ≡ k). absurd (other e)) (λ (e : tier_for v.tiers (count - 1) ≡ Some to). e) (smallest more)))
+      ]
+      | inr few_left ↦ inl (λ more. omega (arith, more, few_left), slots_of-none _ _ (λ j. (let e = left_none k count to j (omega arith) in omega arith)))
+    ]
       where
         below : to ≤ k → to ≢ k → to < k
         below le ne = grind arith
 
-    entered_few : 1 < count → to ≢ k → tier_for v.tiers (count - 1) ≡ Some to → slots_of (tier_sizes v.tiers) (blocks_entered v.tiers k count to) ≤ 24
-    entered_few more other is =
-        let lower = entered_lower more other is in
-        let small : to ≤ 5 = (let a = lower.0 in let b = lower.1 in omega arith) in
-        let one = lower.2 in
-        omega (arith, one, smaller to small, smaller_few to small)
+        lower : 1 < count → to ≢ k → tier_for v.tiers (count - 1) ≡ Some to →
+            (1 < count) × (to ≢ k) × (to < k) × (k < 7) × (slots_of (tier_sizes v.tiers) (blocks_entered v.tiers k count to) ≤ size_in sizes to)
+        lower more other is =
+            let at = list_fits (omega arith) in
+            let le : to ≤ k = no_larger sizes k to count at.1 (sym (tier_for_sizes v.tiers (count - 1) ∙ ap (λ ns. position (λ s. nat_le (count - 1) s) ns) sizes_are) ∙ is) in
+            let less = slots_of-le (tier_sizes v.tiers) (blocks_entered v.tiers k count to) (many_at to 1)
+            (λ j. (let e = entered_one k count to j more other in omega arith)) in
+            let one : slots_of (tier_sizes v.tiers) (many_at to 1) ≡ size_in sizes to * 1 =
+            ap (λ ns. slots_of ns (many_at to 1)) sizes_are ∙ slots_of-many sizes to 1 (omega arith) in
+            (more, other, below le other, at.0, omega (arith, less, one))
 
     -- a list that loses an item lets its array grow by 24 slots at most
     grows_few : Grows v w 24
-    grows_few = elim (cases_lt 1 count) as (λ _. Grows v w 24) [
-      | inl more ↦ elim (number_or to k) as (λ _. Grows v w 24) [
-        | inl same ↦ grows_by (let n = slots_of-none (tier_sizes v.tiers) (blocks_entered v.tiers k count to)
-            (λ j. (let e = entered_none k count to j more same in omega arith)) in omega arith)
-        | inr other ↦ grows_by (entered_few more other (⊎_elim (λ (e : to ≡ k). absurd (other e)) (λ (e : tier_for v.tiers (count - 1) ≡ Some to). e) (smallest more)))
-      ]
-      | inr few_left ↦ grows_by (let n = slots_of-none (tier_sizes v.tiers) (blocks_entered v.tiers k count to)
-          (λ j. (let e = left_none k count to j (omega arith) in omega arith)) in omega arith)
+    grows_few = elim moves as (λ _. Grows v w 24) [
+      | inl stays ↦ grows_by (let n = stays.1 in omega arith)
+      | inr (more, other, less, within, one) ↦ (let small : to ≤ 5 = omega (arith, less, within) in grows_by (omega (arith, one, smaller to small, smaller_few to small)))
     ]
 
     module _ (rises : (j : ℕ) → j < 7 → headroom (size_in sizes j) ≡ tier_headroom j) where
       -- and what its block may still make shrinks by as many
       sizes_down : 1 < count → length w.slots + headroom (size_in sizes to) ≤ length v.slots + headroom (size_in sizes k)
-      sizes_down more = elim (number_or to k) as (λ _. length w.slots + headroom (size_in sizes to) ≤ length v.slots + headroom (size_in sizes k)) [
-        | inl same ↦
-            let n = slots_of-none (tier_sizes v.tiers) (blocks_entered v.tiers k count to) (λ j. (let e = entered_none k count to j more same in omega arith)) in
-            let l = turned.longer in
-            let h : headroom (size_in sizes to) ≡ headroom (size_in sizes k) = ap (λ j. headroom (size_in sizes j)) same in
-            omega (arith, n, l, h)
-        | inr other ↦
-            let lower = entered_lower more other
-            (⊎_elim (λ (e : to ≡ k). absurd (other e)) (λ (e : tier_for v.tiers (count - 1) ≡ Some to). e) (smallest more)) in
-            let less = lower.0 in
-            let seven = lower.1 in
-            let one = lower.2 in
-            let step = headroom-step to k (size_in sizes to) less seven (smaller to (omega (arith, less, seven))) in
-            let l = turned.longer in
-            omega (arith, one, l, step, rises to (omega (arith, less, seven)), rises k seven)
+      sizes_down more = elim moves as (λ _. length w.slots + headroom (size_in sizes to) ≤ length v.slots + headroom (size_in sizes k)) [
+        | inl stays ↦ omega (arith, stays.1, turned.longer, ap (λ j. headroom (size_in sizes j)) (stays.0 more))
+        | inr (_, other, less, within, one) ↦
+            omega (arith, one, turned.longer, headroom-step to k (size_in sizes to) less within (smaller to (omega (arith, less, within))),
+            rises to (omega (arith, less, within)), rises k within)
       ]
 
       steps_down : (left : ℕ) → left + 1 ≡ count → length w.slots + headroom_if_any (size_if_any left (size_in sizes to)) ≤
@@ -155,21 +146,19 @@ module _ {S : Type 0} (v w : Store S) (k count to : ℕ) (took gave : ℕ → �
           omega (arith, down, some)
 
     -- exactly one block of another tier is made, where none of it is free
-    lengthens : 1 < count → to ≢ k → tier_for v.tiers (count - 1) ≡ Some to → MayLengthen sizes v w (count - 1) k to
-    lengthens more other is =
-        let lower = entered_lower more other is in
-        let tiers : (to < k) × (k < 7) = (lower.0, lower.1) in
+    lengthens : 1 < count → to ≢ k → to < k → k < 7 → MayLengthen sizes v w (count - 1) k to
+    lengthens more other less within =
         let entered = λ (j : ℕ). entered_one k count to j more other in
         let l = turned.longer in
         elim (number_or (free_at v.tiers to) 0) as (λ _. MayLengthen sizes v w (count - 1) k to) [
           | inl none ↦
               let one : slots_of (tier_sizes v.tiers) (blocks_entered v.tiers k count to) ≡ size_in sizes to * 1 =
               ap (slots_of (tier_sizes v.tiers)) (λ i j. just_one j (entered j) none (number_or j to) i)
-              ∙ ap (λ ns. slots_of ns (many_at to 1)) sizes_are ∙ slots_of-many sizes to 1 (let a = tiers.0 in let b = tiers.1 in omega arith) in
+              ∙ ap (λ ns. slots_of ns (many_at to 1)) sizes_are ∙ slots_of-many sizes to 1 (omega (arith, less, within)) in
               inr (record {
                 some = omega arith;
-                smaller = tiers.0;
-                within = (let b = tiers.1 in omega arith);
+                smaller = less;
+                within = omega (arith, within);
                 none_free = none;
                 longer = omega (arith, l, one);
               })
@@ -192,14 +181,9 @@ module _ {S : Type 0} (v w : Store S) (k count to : ℕ) (took gave : ℕ → �
     -- a list that loses an item lets its array grow by that block at most
     may_lengthen : (left : ℕ) → left + 1 ≡ count → MayLengthen sizes v w left k to
     may_lengthen left is_left = subst (λ n. MayLengthen sizes v w n k to) (let e : count - 1 ≡ left = omega arith in e)
-        (elim (cases_lt 1 count) as (λ _. MayLengthen sizes v w (count - 1) k to) [
-          | inl more ↦ elim (number_or to k) as (λ _. MayLengthen sizes v w (count - 1) k to) [
-            | inl same ↦ inl (let n = slots_of-none (tier_sizes v.tiers) (blocks_entered v.tiers k count to)
-                (λ j. (let e = entered_none k count to j more same in omega arith)) in let l = turned.longer in omega (arith, n, l))
-            | inr other ↦ lengthens more other (⊎_elim (λ (e : to ≡ k). absurd (other e)) (λ (e : tier_for v.tiers (count - 1) ≡ Some to). e) (smallest more))
-          ]
-          | inr few_left ↦ inl (let n = slots_of-none (tier_sizes v.tiers) (blocks_entered v.tiers k count to)
-              (λ j. (let e = left_none k count to j (omega arith) in omega arith)) in let l = turned.longer in omega (arith, n, l))
+        (elim moves as (λ _. MayLengthen sizes v w (count - 1) k to) [
+          | inl stays ↦ inl (omega (arith, stays.1, turned.longer))
+          | inr (more, other, less, within, _) ↦ lengthens more other less within
         ])
 
 -- where the last item went, no block was made or taken
