@@ -61,9 +61,7 @@ impl<P: Prefix, T: Drop, A: Allocator> PrefixMap<P, T, A> {
         ensures value { result.0 ≡ contains_key self.now.entries (P.path prefix.now) }
         ensures reads { ReadsWay self.now.nodes (P.path prefix.now) result.1 }
     {
-        let mut visits = Visits::new();
-        let len = u32::from(prefix.prefix_len());
-        let value = self.table.find(prefix.repr(), len, &mut visits);
+        let (value, visits) = self.get_counted(prefix);
         (value.is_some(), visits)
     }
 
@@ -90,9 +88,7 @@ impl<P: Prefix, T: Drop, A: Allocator> PrefixMap<P, T, A> {
             ≡ option_map (λ value. (P.back (P.path prefix.now), value)) (get self.now.entries (P.path prefix.now)) }
         ensures reads { ReadsWay self.now.nodes (P.path prefix.now) result.1 }
     {
-        let mut visits = Visits::new();
-        let len = u32::from(prefix.prefix_len());
-        let value = self.table.find(prefix.repr(), len, &mut visits);
+        let (value, visits) = self.get_counted(prefix);
         let pair = match value {
             Some(value) => Some((
                 rebuilt(prefix.repr(), u32::from(prefix.prefix_len())),
@@ -169,11 +165,7 @@ impl<P: Prefix, T: Drop, A: Allocator> PrefixMap<P, T, A> {
         ensures value { result.0 ≡ option_map (λ found. P.back found.0) (longest_match self.now.entries (P.path prefix.now)) }
         ensures reads { ReadsWay self.now.nodes (P.path prefix.now) result.1 }
     {
-        let mut visits = Visits::new();
-        let key = prefix.repr();
-        let len = u32::from(prefix.prefix_len());
-        let found = self.table.find_longest(key, len, &mut visits);
-        let longest = rebuilt_match(key, found);
+        let (longest, visits) = self.get_lpm_counted(prefix);
         (prefix_of(longest), visits)
     }
 
@@ -218,11 +210,7 @@ impl<P: Prefix, T: Drop, A: Allocator> PrefixMap<P, T, A> {
         ensures value { result.0 ≡ option_map (λ found. P.back found.0) (shortest_match self.now.entries (P.path prefix.now)) }
         ensures reads { ReadsToMatch self.now.entries self.now.nodes (P.path prefix.now) result.1 }
     {
-        let mut visits = Visits::new();
-        let key = prefix.repr();
-        let len = u32::from(prefix.prefix_len());
-        let found = self.table.find_shortest(key, len, &mut visits);
-        let shortest = rebuilt_match(key, found);
+        let (shortest, visits) = self.get_spm_counted(prefix);
         (prefix_of(shortest), visits)
     }
 
@@ -242,9 +230,7 @@ impl<P: Prefix, T: Drop, A: Allocator> PrefixMap<P, T, A> {
         ensures value { result.0 ≡ is_some (shortest_match self.now.entries (P.path prefix.now)) }
         ensures reads { ReadsToMatch self.now.entries self.now.nodes (P.path prefix.now) result.1 }
     {
-        let mut visits = Visits::new();
-        let len = u32::from(prefix.prefix_len());
-        let shortest = self.table.find_shortest(prefix.repr(), len, &mut visits);
+        let (shortest, visits) = self.get_spm_counted(prefix);
         (shortest.is_some(), visits)
     }
 }
