@@ -1,32 +1,48 @@
--- What walks cite: a local is lent for one call, a `&mut` in an `Option`, and a pair of two machine values. Assumes `Logic`.
-use mathlib.Core.Path.{refl}
-use mathlib.Core.List.{List, [], ◌∷◌}
-use Prim.Native.Nat.{ℕ}
+-- What walks cite: a local is lent for one call, a `&mut` in an `Option`, and a pair of two machine values. What it names of the kit the
+-- proofs of calls that lend name too, so they take it from here. Assumes `Logic`.
 use seplogic.Ra.Ura.{Ura}
-use mir.Syntax.{named, Lifetime}
-use mir.Val.{Val, vptr, vstruct, vcons, vnil}
-use base.Fraction.{full_share}
-use base.Logic.{SProp, ent, ex, sep}
-use base.Fml.{GName, Lft, Share, fat, fdead, flent, flft, fres}
 use types.Logic.{Logic, sem}
-use types.Kit.{‵, raw, ◌⊛◌, some, later, ◌$◌, ◌∵◌, !, qed, move, use1, use2, use3, await, pick, split, fjoin, fpack, feq_i, updating, now, show, done}
 use types.SemTy.{Body}
 use types.Tokens.{lft_new}
 use borrow.Within.Token.{Rest, within_token, within_end}
 use borrow.Table.OneValue.{One, part_in, part_out}
 use denote.Lend.{lends_ref, ref_back}
-use denote.Memory.{lone, mem, part_at}
-use denote.Param.{param}
-use denote.Param.Laws.{Laws, of_field, param_laws, row_shared}
 use denote.Param.Shared.{mut_ref_shared}
-use denote.RattleType.{RattleType, Valss}
-use denote.Ref.{MutRef, NamedLft}
-use denote.Steps.{nothing}
-use denote.Struct.Declared as struct
 use denote.Struct.Field.{mut_ref_field}
 use denote.Struct.Laws.{mut_ref_laws}
 use denote.Struct.Struct.{within}
-use denote.Struct.Tuple.{Tuple, tuple_type}
+pub use Rattle.std.proofs.Common.{◌≡◌, ℕ, ◌+◌, ◌/◌, ◌≤◌, length, List, IfSome, None, Some, Option, [], ◌∷◌, refl, sym, MutBor, arith}
+pub use Rattle.std.proofs.raw_atomic.Walks.{proved}
+pub use mir.Syntax.{Args, named, a_type, dcons, dnil, Lifetime}
+pub use mir.Val.{Val, vptr, vstruct, vcons, vnil}
+pub use mir.MapTy.{inst_fn}
+pub use base.Fraction.{full_share}
+pub use base.Logic.{ent, emp, id⊢, SProp, ex, sep}
+pub use base.Fml.{Fml, GName, ftrue, fat, flft, Lft, Share, fdead, flent, fres}
+pub use contract.BorrowLft.{◌⊑◌}
+pub use contract.Monad.{fact, fact_i}
+pub use contract.Running.{tables}
+pub use types.Kit.{‵, raw, ◌⊛◌, some, later, ◌$◌, ◌∵◌, !, qed, done, move, keep, drop, use0, use1, use2, use3, split, join, fsplit, fjoin, pick, await, rewrite, suffices, frame, fpack, feq_i, updating, now, show}
+pub use types.Part.{agg}
+pub use types.Run.{enter, of_opd, lit, addr, from, stop, no_more, and_then, returns}
+pub use types.ByLocal.{alloc_all, pass_all, free_all, look_at, get, through, sets, lands_as, take_at, give_at}
+pub use denote.Param.{param, copied, bounded}
+pub use denote.Param.Laws.{Laws, param_laws, of_field, row_shared}
+pub use denote.Exit.{yes, no}
+pub use denote.Memory.{lone, mem, part_at}
+pub use denote.RattleType.{RattleType, Valss}
+pub use denote.Ref.{MutRef, ShrRef, mut_vals, mut_Tells, shr_vals, shr_Tells, NamedLft}
+pub use denote.Signature.{plain, mut_ref_to, shr_ref_to}
+pub use denote.Steps.{nothing, heard, peeks}
+pub use denote.Laws.{shows}
+pub use denote.Struct.Tuple.{Tuple, tuple_laws, tuple_type}
+pub use denote.Triple.Call.{calls_at}
+pub use denote.Triple.Clauses.{Lasts, lasts}
+pub use denote.Triple.Spec.{triple_of}
+pub use denote.Triple.Table.{framed}
+pub use denote.Triple.Walked.{Stays, stay_dropped, walk_of, ends_at, Goes-dropped, Goes-spent_ref}
+pub use Rattle.std.proofs.option.Option.TheLaws.{the_row_laws as option_laws}
+use denote.Struct.Declared as struct
 
 module _ {M : Type 1} {𝓤 : Ura M} (𝓛 : Logic 𝓤) (R : RattleType) (one : One R) (ℓ : Lifetime) (b : ℕ) (κ : Lft) (s : Share) where
   -- what the lender keeps of a loan for a new lifetime within κ, for which it gave a token of κ: that of [] is free

@@ -1,31 +1,10 @@
 -- `get_lpm_mut` lends what `get_lpm_mut_counted` lends. Assumes `Logic`.
-use Rattle.std.proofs.Common.{◌≡◌, ℕ, Option, [], ◌∷◌, refl, sym, subst, MutBor}
-use Rattle.std.proofs.raw_atomic.Walks.{proved}
-use mir.Syntax.{Args, named, a_type, dcons, dnil}
-use mir.MapTy.{inst_fn}
-use base.Logic.{emp, id⊢}
-use base.Fml.{Fml, ftrue, flft}
-use contract.BorrowLft.{◌⊑◌}
-use contract.Monad.{fact, fact_i}
-use contract.Running.{tables}
-use types.Kit.{‵, raw, ◌⊛◌, some, later, ◌$◌, ◌∵◌, !, qed, done, move, drop, use0, use1, use2, split, join, fjoin, pick, await, rewrite, suffices, frame}
-use types.Run.{enter, addr, stop, no_more, and_then, returns}
-use types.ByLocal.{alloc_all, pass_all, free_all, look_at, get, through, sets, lands_as}
-use denote.Param.{param, copied, bounded}
-use denote.Param.Laws.{Laws, param_laws}
-use denote.Exit.{yes, no}
-use denote.RattleType.{RattleType}
-use denote.Ref.{MutRef, ShrRef, mut_vals, mut_Tells, shr_vals, shr_Tells}
-use denote.Signature.{plain, mut_ref_to, shr_ref_to}
-use denote.Steps.{nothing, heard, peeks}
-use denote.Laws.{shows}
-use denote.Struct.Tuple.{Tuple, tuple_laws}
-use denote.Triple.Call.{calls_at}
-use denote.Triple.Clauses.{Lasts, lasts}
-use denote.Triple.Spec.{triple_of}
-use denote.Triple.Table.{framed}
-use denote.Triple.Walked.{Stays, stay_dropped, walk_of, ends_at, Goes-dropped, Goes-spent_ref}
-use Rattle.std.proofs.option.Option.TheLaws.{the_row_laws as option_laws}
+use Rattle.prefix_trie_map.proofs.Loans.{◌≡◌, ℕ, Option, [], ◌∷◌, refl, sym, MutBor, proved, Args, named, a_type, dcons, dnil, inst_fn, emp, id⊢, Fml, ftrue, flft, ◌⊑◌, fact, fact_i, tables, ‵, raw, ◌⊛◌, some, later}
+use Rattle.prefix_trie_map.proofs.Loans.{◌$◌, ◌∵◌, !, qed, done, move, drop, use0, use1, use2, split, join, fjoin, pick, await, rewrite, suffices, frame, enter, addr, stop, no_more, and_then, returns, alloc_all}
+use Rattle.prefix_trie_map.proofs.Loans.{pass_all, free_all, look_at, get, through, sets, lands_as, param, copied, bounded, Laws, param_laws, yes, no, RattleType, MutRef, ShrRef, mut_vals, mut_Tells, shr_vals, shr_Tells}
+use Rattle.prefix_trie_map.proofs.Loans.{plain, mut_ref_to, shr_ref_to, nothing, heard, peeks, shows, Tuple, tuple_laws, calls_at, Lasts, lasts, triple_of, framed, Stays, stay_dropped, walk_of, ends_at, Goes-dropped}
+use Rattle.prefix_trie_map.proofs.Loans.{Goes-spent_ref, option_laws, Lent, lent_laws}
+use Rattle.std.proofs.Common.{subst}
 use Rattle.std.specs.contracts.option.Option as option
 use Rattle.prefix_trie_bits.specs.Model.Matches.{longest_match, shown_match}
 use Rattle.prefix_trie_map.specs.Lending.{lends_longest_if, lent_beside}
@@ -35,7 +14,6 @@ use Rattle.std.specs.Option.{option_map}
 use Rattle.prefix_trie_map.specs.contracts.map.PrefixMap as map
 use Rattle.prefix_trie_map.specs.contracts.map.visits.Visits as visits
 use Rattle.prefix_trie_map.proofs.map.visits.Visits.TheLaws.{the_row_laws as visits_laws}
-use Rattle.prefix_trie_map.proofs.Loans.{Lent, lent_laws}
 use Rattle.prefix_trie_map.specs.contracts.map.PrefixMap.get_lpm_mut as f
 use Rattle.prefix_trie_map.specs.contracts.map.PrefixMap.get_lpm_mut_counted as h
 use Rattle.prefix_trie_map.proofs.map.PrefixMap.get_lpm_mut_counted.Met.{met as h_met}

@@ -1,37 +1,16 @@
 -- `get_lpm_mut_counted` lends what `lend_longest` lends, beside its prefix. Assumes `Logic`.
-use Rattle.std.proofs.Common.{◌≡◌, ℕ, ◌+◌, ◌/◌, ◌≤◌, length, take, w32, lit<, MatchOption, IfSome, None, Some, Option, [], ◌∷◌, refl, sym, MutBor, arith}
-use Rattle.std.proofs.raw_atomic.Walks.{proved}
-use mir.Syntax.{Args, named, a_type, dcons, dnil}
-use mir.Val.{Val, vint, vptr}
-use mir.MapTy.{inst_fn}
-use base.Fraction.{full_share}
-use base.Logic.{ent, emp, id⊢}
-use base.Fml.{Fml, GName, ftrue, fat, flft}
-use contract.BorrowLft.{◌⊑◌}
-use contract.Monad.{fact, fact_i}
-use contract.Running.{tables}
-use types.Kit.{‵, raw, ◌⊛◌, some, later, ◌$◌, ◌∵◌, !, qed, done, move, keep, drop, use0, use1, use2, use3, split, join, fsplit, fjoin, pick, await, rewrite, suffices, frame}
-use types.Part.{agg}
-use types.Run.{enter, of_opd, lit, addr, from, stop, no_more, and_then, returns}
-use types.ByLocal.{alloc_all, pass_all, free_all, look_at, get, through, sets, lands_as, take_at, give_at}
+use Rattle.prefix_trie_map.proofs.Loans.{◌≡◌, ℕ, ◌+◌, ◌/◌, ◌≤◌, length, IfSome, None, Some, Option, [], ◌∷◌, refl, sym, MutBor, arith, proved, Args, named, a_type, dcons, dnil, Val, vptr, inst_fn, full_share, ent, emp}
+use Rattle.prefix_trie_map.proofs.Loans.{id⊢, Fml, GName, ftrue, fat, flft, ◌⊑◌, fact, fact_i, tables, ‵, raw, ◌⊛◌, some, later, ◌$◌, ◌∵◌, !, qed, done, move, keep, drop, use0, use1, use2, use3, split, join, fsplit}
+use Rattle.prefix_trie_map.proofs.Loans.{fjoin, pick, await, rewrite, suffices, frame, agg, enter, of_opd, lit, addr, from, stop, no_more, and_then, returns, alloc_all, pass_all, free_all, look_at, get, through, sets}
+use Rattle.prefix_trie_map.proofs.Loans.{lands_as, take_at, give_at, param, copied, bounded, Laws, param_laws, yes, no, lone, RattleType, MutRef, ShrRef, mut_vals, mut_Tells, shr_vals, shr_Tells, plain, mut_ref_to}
+use Rattle.prefix_trie_map.proofs.Loans.{shr_ref_to, nothing, heard, peeks, shows, Tuple, tuple_laws, calls_at, Lasts, lasts, triple_of, framed, Stays, stay_dropped, walk_of, ends_at, Goes-dropped, Goes-spent_ref}
+use Rattle.prefix_trie_map.proofs.Loans.{option_laws, Lent, lent_laws, KeptWithin, lends_within, back_within, pair_of, pair_val}
+use Rattle.std.proofs.Common.{take, w32, lit<, MatchOption}
+use mir.Val.{vint}
 use denote.Builtin.{u32}
-use denote.Param.{param, copied, bounded}
-use denote.Param.Laws.{Laws, param_laws}
-use denote.Exit.{yes, no}
-use denote.Memory.{lone}
 use denote.Plain.{uint_Lawful, uint_Makes}
-use denote.RattleType.{RattleType}
-use denote.Ref.{MutRef, ShrRef, mut_vals, mut_Tells, shr_vals, shr_Tells, shr_copy}
-use denote.Signature.{plain, mut_ref_to, shr_ref_to}
-use denote.Steps.{nothing, owned, heard, peeks}
-use denote.Laws.{shows}
-use denote.Struct.Tuple.{Tuple, tuple_laws}
-use denote.Triple.Call.{calls_at}
-use denote.Triple.Clauses.{Lasts, lasts}
-use denote.Triple.Spec.{triple_of}
-use denote.Triple.Table.{framed}
-use denote.Triple.Walked.{Stays, stay_dropped, walk_of, ends_at, Goes-dropped, Goes-spent_ref}
-use Rattle.std.proofs.option.Option.TheLaws.{the_row_laws as option_laws}
+use denote.Ref.{shr_copy}
+use denote.Steps.{owned}
 use Rattle.std.specs.contracts.option.Option as option
 use Rattle.prefix_trie_bits.specs.Model.Matches.{longest_match, shown_match}
 use Rattle.prefix_trie_bits.specs.Model.Visits.{visits as nodes_read}
@@ -43,7 +22,6 @@ use Rattle.prefix_trie_map.specs.contracts.map.PrefixMap as map
 use Rattle.prefix_trie_map.specs.contracts.map.visits.Visits as visits
 use Rattle.prefix_trie_map.proofs.map.visits.Visits.TheLaws.{the_row_laws as visits_laws}
 use Rattle.prefix_trie_map.proofs.Lending.{lent_shown}
-use Rattle.prefix_trie_map.proofs.Loans.{Lent, lent_laws, KeptWithin, lends_within, back_within, pair_of, pair_val}
 use Rattle.prefix_trie_map.specs.contracts.map.visits.Visits.new as new
 use Rattle.prefix_trie_map.proofs.map.visits.Visits.new.Met.{met as new_met}
 use Rattle.prefix_trie_map.specs.contracts.map.PrefixMap.get_lpm_mut_counted as f

@@ -1,34 +1,10 @@
 -- `get_mut_counted` lends what `lend_entry` lends. Assumes `Logic`.
-use Rattle.std.proofs.Common.{◌≡◌, ℕ, ◌+◌, ◌/◌, ◌≤◌, length, Option, [], ◌∷◌, refl, MutBor, arith}
-use Rattle.std.proofs.raw_atomic.Walks.{proved}
-use mir.Syntax.{Args, named, a_type, dcons, dnil}
-use mir.Val.{Val, vptr}
-use mir.MapTy.{inst_fn}
-use base.Fraction.{full_share}
-use base.Logic.{emp, id⊢}
-use base.Fml.{Fml, GName, ftrue, fat, flft}
-use contract.Monad.{fact, fact_i}
-use contract.Running.{tables}
-use types.Kit.{‵, raw, ◌⊛◌, some, later, ◌$◌, ◌∵◌, !, qed, done, move, keep, drop, use0, use1, use2, use3, split, join, fsplit, fjoin, pick, await, suffices, frame}
-use types.Run.{enter, of_opd, addr, from, stop, no_more, and_then, returns}
-use types.ByLocal.{alloc_all, pass_all, free_all, look_at, get, through, sets, lands_as, take_at, give_at}
-use types.Part.{agg}
-use denote.Param.{param, copied, bounded}
-use denote.Exit.{yes, no}
-use denote.RattleType.{RattleType}
-use denote.Ref.{MutRef, ShrRef, mut_vals, mut_Tells, shr_vals, shr_Tells}
-use denote.Signature.{plain, mut_ref_to, shr_ref_to}
-use denote.Steps.{nothing, heard, peeks}
-use denote.Laws.{shows}
-use denote.Memory.{lone}
-use denote.Triple.Call.{calls_at}
-use denote.Triple.Clauses.{lasts}
-use denote.Triple.Spec.{triple_of}
-use denote.Triple.Table.{framed}
-use denote.Triple.Walked.{Stays, stay_dropped, walk_of, ends_at, Goes-dropped, Goes-spent_ref}
-use denote.Param.Laws.{Laws}
-use denote.Struct.Tuple.{Tuple, tuple_laws}
-use Rattle.std.proofs.option.Option.TheLaws.{the_row_laws as option_laws}
+use Rattle.prefix_trie_map.proofs.Loans.{◌≡◌, ℕ, ◌+◌, ◌/◌, ◌≤◌, length, Option, [], ◌∷◌, refl, MutBor, arith, proved, Args, named, a_type, dcons, dnil, Val, vptr, inst_fn, full_share, emp, id⊢, Fml, GName, ftrue, fat}
+use Rattle.prefix_trie_map.proofs.Loans.{flft, fact, fact_i, tables, ‵, raw, ◌⊛◌, some, later, ◌$◌, ◌∵◌, !, qed, done, move, keep, drop, use0, use1, use2, use3, split, join, fsplit, fjoin, pick, await, suffices, frame}
+use Rattle.prefix_trie_map.proofs.Loans.{agg, enter, of_opd, addr, from, stop, no_more, and_then, returns, alloc_all, pass_all, free_all, look_at, get, through, sets, lands_as, take_at, give_at, param, copied, bounded}
+use Rattle.prefix_trie_map.proofs.Loans.{Laws, yes, no, lone, RattleType, MutRef, ShrRef, mut_vals, mut_Tells, shr_vals, shr_Tells, plain, mut_ref_to, shr_ref_to, nothing, heard, peeks, shows, Tuple, tuple_laws}
+use Rattle.prefix_trie_map.proofs.Loans.{calls_at, lasts, triple_of, framed, Stays, stay_dropped, walk_of, ends_at, Goes-dropped, Goes-spent_ref, option_laws, Lent, lent_laws, KeptWithin, lends_within, back_within}
+use Rattle.prefix_trie_map.proofs.Loans.{pair_of, pair_val}
 use Rattle.std.specs.contracts.option.Option as option
 use Rattle.std.specs.FinMap.{get as lookup}
 use Rattle.std.specs.Option.{option_copied_mut}
@@ -43,7 +19,6 @@ use Rattle.prefix_trie_map.specs.contracts.map.visits.Visits.new as new
 use Rattle.prefix_trie_map.proofs.map.visits.Visits.new.Met.{met as new_met}
 use Rattle.prefix_trie_map.specs.contracts.map.PrefixMap.lend_entry as h
 use Rattle.prefix_trie_map.proofs.map.PrefixMap.lend_entry.Met.{met as h_met}
-use Rattle.prefix_trie_map.proofs.Loans.{Lent, lent_laws, KeptWithin, lends_within, back_within, pair_of, pair_val}
 use Rattle.prefix_trie_map.proofs.map.PrefixMap.get_mut_counted.Statement.{statement}
 use Rattle.prefix_trie_map.proofs.map.PrefixMap.get_mut_counted.Code as code
 

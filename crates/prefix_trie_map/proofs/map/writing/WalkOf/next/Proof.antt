@@ -1,42 +1,18 @@
 -- `next` lends what `lend_next` lends, beside its prefix. Assumes `Logic`.
-use Rattle.std.proofs.Common.{◌≡◌, ℕ, IfSome, None, Some, Option, [], ◌∷◌, refl, sym, MutBor}
-use Rattle.std.proofs.raw_atomic.Walks.{proved}
+use Rattle.prefix_trie_map.proofs.Loans.{◌≡◌, ℕ, IfSome, None, Some, Option, [], ◌∷◌, refl, sym, MutBor, proved, Args, named, a_type, dcons, dnil, Val, vptr, inst_fn, full_share, ent, emp, id⊢, Fml, GName, ftrue, fat}
+use Rattle.prefix_trie_map.proofs.Loans.{flft, ◌⊑◌, fact, fact_i, tables, ‵, raw, ◌⊛◌, some, later, ◌$◌, ◌∵◌, !, qed, done, move, drop, use0, use1, use2, use3, split, join, fsplit, fjoin, pick, await, rewrite, suffices}
+use Rattle.prefix_trie_map.proofs.Loans.{frame, agg, enter, of_opd, lit, addr, from, stop, no_more, and_then, returns, alloc_all, pass_all, free_all, look_at, get, through, sets, lands_as, take_at, give_at, param}
+use Rattle.prefix_trie_map.proofs.Loans.{bounded, Laws, param_laws, no, lone, RattleType, MutRef, mut_vals, mut_Tells, plain, mut_ref_to, nothing, heard, peeks, shows, Tuple, tuple_laws, calls_at, Lasts, lasts}
+use Rattle.prefix_trie_map.proofs.Loans.{triple_of, framed, Stays, stay_dropped, walk_of, ends_at, Goes-spent_ref, option_laws, Lent, lent_laws, KeptWithin, lends_within, back_within}
 use Rattle.std.proofs.RcSteps.{none_of}
-use mir.Syntax.{Args, named, a_type, dcons, dnil}
-use mir.Val.{Val, vptr, vnil}
-use mir.MapTy.{inst_fn}
-use base.Fraction.{full_share}
+use mir.Val.{vnil}
 use base.Share as half
-use base.Logic.{ent, emp, id⊢}
-use base.Fml.{Fml, GName, Share, ftrue, fat, flft}
-use contract.BorrowLft.{◌⊑◌, meet_⊑_right}
-use contract.Monad.{fact, fact_i}
-use contract.Running.{tables}
-use types.Kit.{‵, raw, ◌⊛◌, some, later, ◌$◌, ◌∵◌, !, qed, done, move, drop, use0, use1, use2, use3, split, join, fsplit, fjoin, pick, await, rewrite, suffices, frame}
+use base.Fml.{Share}
+use contract.BorrowLft.{meet_⊑_right}
 use types.Match.{live}
-use types.Part.{agg}
-use types.Run.{enter, of_opd, lit, addr, from, stop, no_more, and_then, returns}
-use types.ByLocal.{alloc_all, pass_all, free_all, look_at, get, through, sets, lands_as, take_at, give_at}
-use denote.Param.{param, bounded}
-use denote.Param.Laws.{Laws, param_laws}
-use denote.Exit.{no}
-use denote.Memory.{lone}
-use denote.RattleType.{RattleType}
-use denote.Ref.{MutRef, mut_vals, mut_Tells}
-use denote.Signature.{plain, mut_ref_to}
-use denote.Steps.{nothing, heard, peeks}
-use denote.Laws.{shows}
-use denote.Struct.Tuple.{Tuple, tuple_laws}
-use denote.Triple.Call.{calls_at}
-use denote.Triple.Clauses.{Lasts, lasts}
-use denote.Triple.Spec.{triple_of}
-use denote.Triple.Table.{framed}
-use denote.Triple.Walked.{Stays, stay_dropped, walk_of, ends_at, Goes-spent_ref}
-use Rattle.std.proofs.option.Option.TheLaws.{the_row_laws as option_laws}
 use Rattle.std.specs.contracts.option.Option as option
 use Rattle.prefix_trie_map.specs.Lending.{lent_beside}
 use Rattle.prefix_trie_map.specs.WritingWalks.{FirstIn, lends_next}
-use Rattle.prefix_trie_map.proofs.Loans.{Lent, lent_laws, KeptWithin, lends_within, back_within}
 use Rattle.prefix_trie_map.proofs.Writing.{HasFirst, prefix_there, first_beside}
 use Rattle.prefix_trie_map.specs.contracts.map.writing.WalkOf as walk
 use Rattle.prefix_trie_map.specs.contracts.map.writing.WalkOf.next as f
