@@ -47,10 +47,6 @@ module _ {P T : Type 0} (path : P → List Bool) where
         cell_slots = slots.cell_slots;
       }
 
-  -- none
-  pub puts_none : (before : Contents T) → Puts path before [] before
-  puts_none before = record { entries = refl; tidy = λ was. was; limit = refl; node_slots = omega arith; cell_slots = omega arith }
-
   -- one more
   pub puts_more : (first then last : Contents T) (xs : List (P × T)) (x : P × T) → Puts path first xs then → Puts path then (x ∷ []) last → Puts path first (xs ++ x ∷ []) last
   puts_more first then last xs x before one = record {

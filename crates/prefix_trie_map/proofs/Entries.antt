@@ -35,19 +35,6 @@ module _ {P T A R : Type 0} {p : prefix.Ghosts P R} {shows : debug.Ghosts P} {k 
           (written_step p.path p.back k.bit_width e.map.now new e.key v None w step);
     }
 
-    -- and with the value that it was placed with
-    pub Fills-now : (key : P) (v : T) → key ≡ e.key → new.entries ≡ with_entry e.map.now.entries (p.path key) v
-        → new.nodes ≡ with_needed e.map.now.nodes (p.path key)
-        → StepInStorage p.path p.back k.bit_width (stored e.map.now) (Insert key v) (Value None) (stored new)
-        → Fills (Vacant e) new v
-    Fills-now key v is entries nodes step = record {
-      entries = subst (λ y. new.entries ≡ with_entry e.map.now.entries (p.path y) v) is entries;
-      nodes = subst (λ y. new.nodes ≡ with_needed e.map.now.nodes (p.path y)) is nodes;
-      step = subst (λ x. StepInStorage p.path p.back k.bit_width (stored e.map.now) (Insert e.key v) (Value x) (stored new))
-          (sym (no_value (get e.map.now.entries (p.path e.key)) e.absent))
-          (subst (λ y. StepInStorage p.path p.back k.bit_width (stored e.map.now) (Insert y v) (Value None) (stored new)) is step);
-    }
-
     -- the same, where the key was handed on, and its path to the call that lends
     pub Fills-lent : (key : P) (q : List Bool) (v w : T) → key ≡ e.key → q ≡ p.path e.key
         → new.entries ≡ with_entry e.map.now.entries (p.path key) v → new.nodes ≡ with_needed e.map.now.nodes (p.path key)

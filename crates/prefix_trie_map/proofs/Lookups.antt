@@ -17,11 +17,6 @@ module _ {T : Type 0} where
   abbrev pub Finds : List Bool → ℕ → Option (List Bool × T) → Option (ℕ × Bor T) → Type 0
   Finds bits len m found = MatchOption found (m ≡ None) (λ f. (f.0 ≤ len) × (m ≡ Some (take f.0 (take len bits), f.1.now)))
 
-  -- it finds something where there is a match
-  pub some_found : (bits : List Bool) (len : ℕ) (m : Option (List Bool × T)) (found : Option (ℕ × Bor T)) → Finds bits len m found → is_some found ≡ is_some m
-  some_found bits len m None none = ap is_some (sym none)
-  some_found bits len m (Some f) some = ap is_some (sym some.1)
-
 module _ {P T : Type 0} (back : List Bool → P) where
   -- a match of the table by its length, and the same by its prefix
   shows : (bits : List Bool) (len : ℕ) (m : Option (List Bool × T)) (found : Option (ℕ × Bor T)) → Finds bits len m found →
@@ -37,25 +32,6 @@ module _ {P T : Type 0} (back : List Bool → P) where
       option_map lent_item result ≡ shown_match back (best now path)
   shows_match best inside now same bits len path key found finds result rebuilt =
       rebuilt ∙ shows bits len (best inside (take len bits)) found finds ∙ (λ i. shown_match back (best (same i) (key i)))
-
-  first-lent : (o : Option (P × Bor T)) → option_map (λ f. f.0) o ≡ option_map (λ e. e.0) (option_map lent_item o)
-  first-lent None = refl
-  first-lent (Some f) = refl
-
-  first-shown : (m : Option (List Bool × T)) → option_map (λ e. e.0) (shown_match back m) ≡ option_map (λ e. back e.0) m
-  first-shown None = refl
-  first-shown (Some e) = refl
-
-  -- and so is its prefix alone
-  pub shows_prefix : (m : Option (List Bool × T)) (o : Option (P × Bor T)) → option_map lent_item o ≡ shown_match back m →
-      option_map (λ f. f.0) o ≡ option_map (λ e. back e.0) m
-  shows_prefix m o is = first-lent o ∙ ap (option_map (λ e. e.0)) is ∙ first-shown m
-
-  -- a value that is lent beside its prefix
-  pub shows_pair : (p : P) (value : Option (Bor T)) (stored : Option T) (pair : Option (P × Bor T)) → option_copied value ≡ stored →
-      pair ≡ option_map (λ v. (p, v)) value → option_map lent_item pair ≡ option_map (λ v. (p, v)) stored
-  shows_pair p None stored pair is made = ap (option_map lent_item) made ∙ ap (option_map (λ v. (p, v))) is
-  shows_pair p (Some v) stored pair is made = ap (option_map lent_item) made ∙ ap (option_map (λ w. (p, w))) is
 
 -- a counter that started at 0, after one lookup of the table
 module _ {T : Type 0} (width : ℕ) (inside now : Contents T) (same : inside ≡ now) (good : IsMap width (state inside)) (asked path : List Bool) (key : asked ≡ path)
