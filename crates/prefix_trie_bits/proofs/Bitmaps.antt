@@ -1,9 +1,10 @@
 -- The bits of `|` and `&` of two bitmaps, and of bitmaps side by side.
-use Rattle.std.proofs.Common.{◌≡◌, ℕ, suc, zero, ◌-◌, ◌*◌, ◌^◌, ◌<◌, ◌≤◌, Bool, true, false, ◌&&◌, ◌||◌, eqb, bit_and, bit_or, min, max, refl, sym, ap, ◌∙◌, arith, add-zero, pow_pos}
+use Rattle.std.proofs.Common.{◌≡◌, ℕ, suc, zero, ◌-◌, ◌*◌, ◌^◌, ◌<◌, ◌≤◌, false, ◌&&◌, ◌||◌, eqb, bit_and, bit_or, min, max, refl, sym, ap, ◌∙◌, arith, add-zero, pow_pos}
 use Rattle.std.specs.Int.{bit_at}
 use Rattle.std.proofs.lemmas.Nat.Bits.{bit_at_or, bit_at_and, bit_at-lt, bit_at-zero, bit_at_above, bit_at_cat_low, bit_at_cat_high}
 use Rattle.prefix_trie_bits.specs.Places.{has}
 use Rattle.prefix_trie_bits.proofs.Ranks.{has-from}
+pub use Rattle.std.proofs.Math.Bool.{or-false, or-true}
 
 pub has-or : (a b i : ℕ) → has (bit_or a b) i ≡ (has a i || has b i)
 has-or a b i =
@@ -14,9 +15,7 @@ has-or a b i =
     go zero (suc zero) l m = refl
     go (suc zero) zero l m = refl
     go (suc zero) (suc zero) l m = refl
-    go zero (suc (suc y)) l m = absurd (omega arith)
-    go (suc zero) (suc (suc y)) l m = absurd (omega arith)
-    go (suc (suc x)) y l m = absurd (omega arith)
+    go x y l m = absurd (omega arith)
 
 pub has-and : (a b i : ℕ) → has (bit_and a b) i ≡ (has a i && has b i)
 has-and a b i =
@@ -27,20 +26,10 @@ has-and a b i =
     go zero (suc zero) l m = refl
     go (suc zero) zero l m = refl
     go (suc zero) (suc zero) l m = refl
-    go zero (suc (suc y)) l m = absurd (omega arith)
-    go (suc zero) (suc (suc y)) l m = absurd (omega arith)
-    go (suc (suc x)) y l m = absurd (omega arith)
+    go x y l m = absurd (omega arith)
 
 pub has-zero : (i : ℕ) → has 0 i ≡ false
 has-zero i = ap (λ x. eqb x 1) (bit_at-zero i)
-
-pub or-false : (x : Bool) → (x || false) ≡ x
-or-false true = refl
-or-false false = refl
-
-pub or-true : (x : Bool) → (x || true) ≡ true
-or-true true = refl
-or-true false = refl
 
 -- ---- a bitmap shifted up
 

@@ -3,11 +3,7 @@ use Rattle.std.proofs.Common.{◌≡◌, ℕ, zero, suc, ◌<◌, ◌≤◌, Boo
 use Rattle.std.specs.Bool.{beq}
 use Rattle.std.proofs.lemmas.Bool.{cases_eq}
 use Rattle.prefix_trie_bits.specs.Places.{strings}
-
-pub both : (x y : Bool) → (x && y) ≡ true → (x ≡ true) × (y ≡ true)
-both true true h = (refl, refl)
-both true false h = cc
-both false y h = cc
+pub use Rattle.std.proofs.lemmas.Bool.{and_parts as both}
 
 pub same : (x y : Bool) → beq x y ≡ true → x ≡ y
 same true true h = refl

@@ -1,5 +1,5 @@
 -- The longest and the shortest string of a bitmap that begins another.
-use Rattle.std.proofs.Common.{◌≡◌, ℕ, suc, ◌+◌, ◌-◌, ◌*◌, ◌/◌, ◌%◌, ◌^◌, ◌<◌, ◌≤◌, Bool, true, false, ◌&&◌, List, length, take, refl, sym, ap, ap₂, ◌∙◌, subst, arith, bit_and, pow_pos, pow-suc}
+use Rattle.std.proofs.Common.{◌≡◌, ℕ, suc, ◌+◌, ◌-◌, ◌*◌, ◌/◌, ◌%◌, ◌^◌, ◌<◌, ◌≤◌, Bool, true, ◌&&◌, List, length, take, sym, ap, ap₂, ◌∙◌, subst, arith, bit_and, pow_pos, pow-suc}
 use Rattle.std.specs.Int.{bit_at, leading_zeros, trailing_zeros, w32}
 use Rattle.std.proofs.lemmas.Nat.{le-div, div_below, and_le_l}
 use Rattle.std.proofs.lemmas.Nat.Bits.{bit_at-zero, bit_at_above, bit_at-trailing_zeros}
@@ -14,10 +14,7 @@ use Rattle.prefix_trie_bits.proofs.Checks.{both}
 use Rattle.prefix_trie_bits.proofs.Ranks.{bit-set, has-from}
 use Rattle.prefix_trie_bits.proofs.Bitmaps.{has-and}
 use Rattle.prefix_trie_bits.proofs.Strings.{top_length, length-short, string-bit, value_bit-longer}
-
-not-true : (b : Bool) → (b ≡ true → ⊥) → b ≡ false
-not-true true f = absurd (f refl)
-not-true false f = refl
+use Rattle.std.proofs.lemmas.Bool.{false_from_ne_true as not-true}
 
 none-of-zero : (x i : ℕ) → x ≡ 0 → has x i ≡ true → ⊥
 none-of-zero x i e h =

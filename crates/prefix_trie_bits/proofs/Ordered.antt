@@ -1,5 +1,5 @@
 -- The strings of a node's places stand in listing order, each once.
-use Rattle.std.proofs.Common.{◌≡◌, ℕ, zero, suc, ◌%◌, ◌/◌, ◌<◌, ◌≤◌, ◌↔◌, ◌⊎◌, Bool, true, false, cond, nat_eq, nat_lt, ltb-true, ◌&&◌, List, [], ◌∷◌, length, map, filter, refl, sym, ap, ◌∙◌, subst, inl, inr, arith, Ordering, Less, Equal, Greater}
+use Rattle.std.proofs.Common.{◌≡◌, ℕ, zero, suc, ◌%◌, ◌/◌, ◌<◌, ◌≤◌, ◌↔◌, ◌⊎◌, Bool, true, false, cond, nat_eq, nat_lt, ltb-true, ◌&&◌, List, [], ◌∷◌, length, map, filter, refl, sym, ap, ◌∙◌, subst, inl, inr, arith, Ordering, Less}
 use Rattle.std.specs.Prelude.{Contains}
 use Rattle.std.specs.Ordering.{is_lt}
 use Rattle.std.specs.List.{AllByRecursion}
@@ -97,8 +97,7 @@ strings-ordered = refl
 
 less : (o : Ordering) → is_lt o ≡ true → o ≡ Less
 less Less e = refl
-less Equal e = cc
-less Greater e = cc
+less o e = cc
 
 all-before : (s : List Bool) (ss : List (List Bool)) → each (is_before s) ss ≡ true → AllByRecursion (λ t. listing_cmp s t ≡ Less) ss
 unfolding each

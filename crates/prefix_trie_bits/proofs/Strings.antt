@@ -7,8 +7,9 @@ use Rattle.std.proofs.lemmas.List.{length-drop, take_all, take-take, length-take
 use Rattle.prefix_trie_bits.specs.Bits.{number, digits, begins, zeros}
 use Rattle.prefix_trie_bits.specs.BitStrings.{same-from-number, number-lt, number-digits, length-digits, digits-number}
 use Rattle.prefix_trie_bits.specs.Begins.{same_bool, begins-take, begins-from-take, begins-trans, take-begins}
-use Rattle.prefix_trie_bits.specs.Windows.{window-inside, window-of-front, length-window, digits-of-number, window-below}
+use Rattle.prefix_trie_bits.specs.Windows.{window-inside, window-of-front, length-window}
 use Rattle.prefix_trie_bits.specs.Places.{value_bit}
+use Rattle.prefix_trie_bits.specs.BitStrings.{bits-number, number-below}
 
 pub pow-le : (a b : ℕ) → a ≤ b → 2 ^ a ≤ 2 ^ b
 pow-le a b l = elim (cases_eq a b) [
@@ -116,12 +117,12 @@ length-four b depth l =
 
 pub pos-below : (b : List Bool) (depth x : ℕ) → depth ≤ length b → x ≡ number (take 4 (drop depth (b ++ zeros 5))) → x < 16
 pos-below b depth x l e =
-    subst (λ y. y < 16) (sym e) (window-below (take 4 (drop depth (b ++ zeros 5))) 4 (length-four b depth l))
+    subst (λ y. y < 16) (sym e) (number-below 4 (take 4 (drop depth (b ++ zeros 5))) (length-four b depth l))
 
 -- the string that a level and four bits stand for
 pub level-string : (b : List Bool) (depth len level pos : ℕ) → depth ≤ len → len ≤ length b → level ≡ min (len - depth) 4 → pos ≡ number (take 4 (drop depth (b ++ zeros 5))) → take level (digits 4 pos) ≡ take 4 (drop depth (take len b))
 level-string b depth len level pos h l level-is pos-is =
-    ap (λ s. take level s) (ap (digits 4) pos-is ∙ digits-of-number (take 4 (drop depth (b ++ zeros 5))) 4 (length-four b depth (omega arith))) ∙
+    ap (λ s. take level s) (ap (digits 4) pos-is ∙ bits-number 4 (take 4 (drop depth (b ++ zeros 5))) (length-four b depth (omega arith))) ∙
     take-take level 4 (drop depth (b ++ zeros 5)) (omega arith) ∙
     window-is b (zeros 5) depth len level (omega arith) l ∙
     elim (cases_lt (len - depth) 4) [
@@ -160,7 +161,7 @@ pub child_bit_from_window : (b : List Bool) (depth x : ℕ) → depth + 5 ≤ le
 child_bit_from_window b depth x h e = e ∙ ap number (window-inside b (zeros 5) depth 5 h)
 
 pub child_bit-small : (b : List Bool) (depth : ℕ) → depth + 5 ≤ length b → number (take 5 (drop depth b)) < 32
-child_bit-small b depth h = window-below (take 5 (drop depth b)) 5 (length-window b depth 5 h)
+child_bit-small b depth h = number-below 5 (take 5 (drop depth b)) (length-window b depth 5 h)
 
 -- ---- one bit more
 

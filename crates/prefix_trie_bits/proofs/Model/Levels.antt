@@ -40,10 +40,10 @@ none_pass test (k ∷ ks) h =
     ap (λ b. length (cond b (k ∷ filter test ks) (filter test ks))) (h k (or-left (same_string k k) (list_any (same_string k) ks) (is-same_string k k refl)))
     ∙ none_pass test ks (λ j at. h j (or-right (same_string j k) (list_any (same_string j) ks) at))
 
-five_times : (i k l : ℕ) → i ≤ k → k ≡ l / 5 → 5 * i ≤ l
+pub five_times : (i k l : ℕ) → i ≤ k → k ≡ l / 5 → 5 * i ≤ l
 five_times i k l h e = omega (arith, h, e)
 
-depth_of : (i l : ℕ) → l ≡ 5 * i → l % 5 ≡ 0
+pub depth_of : (i l : ℕ) → l ≡ 5 * i → l % 5 ≡ 0
 depth_of i l e = omega (arith, e)
 
 -- where the node i levels down on the way to q stands

@@ -8,35 +8,15 @@ use Rattle.prefix_trie_bits.specs.Order.{listing_cmp, listing_total, listing_sam
 use Rattle.prefix_trie_bits.specs.Begins.{same_bool}
 use Rattle.prefix_trie_bits.specs.Model.Entries.{Entries, with_entry, without_entry, without_below, part_below, part_at_least}
 use Rattle.prefix_trie_bits.specs.Model.Nodes.{Nodes, has_node, root_alone, with_nodes, beginnings, is_node_depth, nodes_above, needed}
-
-pub or-cases : (a b : Bool) → (a || b) ≡ true → (a ≡ true) ⊎ (b ≡ true)
-or-cases true b e = inl refl
-or-cases false b e = inr e
-
-pub or-left : (a b : Bool) → a ≡ true → (a || b) ≡ true
-or-left a b e = ap (λ x. x || b) e
-
-pub or-right : (a b : Bool) → b ≡ true → (a || b) ≡ true
-or-right true b e = refl
-or-right false b e = e
+use Rattle.std.proofs.lemmas.Bool.{and_parts}
+pub use Rattle.std.proofs.lemmas.Bool.{or_cases as or-cases, or_left as or-left, or_right as or-right, and_from as and-join, not_from_false as not-true, not-true as from-not}
+use Rattle.std.proofs.Math.Bool.{or-false, or_assoc, and-or_distrib_left}
 
 pub and-first : (a b : Bool) → (a && b) ≡ true → a ≡ true
-and-first true b e = refl
-and-first false b e = e
+and-first a b e = (and_parts a b e).0
 
 pub and-second : (a b : Bool) → (a && b) ≡ true → b ≡ true
-and-second true b e = e
-and-second false b e = absurd (true≢false (sym e))
-
-pub and-join : (a b : Bool) → a ≡ true → b ≡ true → (a && b) ≡ true
-and-join a b e f = ap (λ x. x && b) e ∙ f
-
-pub not-true : (a : Bool) → a ≡ false → not a ≡ true
-not-true a e = ap not e
-
-pub from-not : (a : Bool) → not a ≡ true → a ≡ false
-from-not true e = absurd (true≢false (sym e))
-from-not false e = refl
+and-second a b e = (and_parts a b e).1
 
 pub same_string-is : (s t : List Bool) → same_string s t ≡ true → s ≡ t
 same_string-is s t e = listing_same s t ((Equal-is (listing_cmp s t)).0 e)
@@ -129,21 +109,13 @@ module _ {X : Type 0} where
 pub has-empty : (q : List Bool) → contains_key (empty {X = Unit {0}} {R = listing_cmp}) q ≡ false
 has-empty q = ap is_some (get-empty listing_cmp q)
 
-or-move : (a b c : Bool) → (a || (b || c)) ≡ ((a || b) || c)
-or-move true b c = refl
-or-move false b c = refl
-
-or-nothing : (a : Bool) → (a || false) ≡ a
-or-nothing true = refl
-or-nothing false = refl
-
 pub has-with_nodes : (n : Nodes) (ss : List (List Bool)) (q : List Bool) → has_node (with_nodes n ss) q ≡ (list_any (same_string q) ss || has_node n q)
 has-with_nodes n [] q = refl
 has-with_nodes n (s ∷ ss) q =
-    has-inserted (with_nodes n ss) s tt q ∙ ap (λ b. same_string q s || b) (has-with_nodes n ss q) ∙ or-move (same_string q s) _ _
+    has-inserted (with_nodes n ss) s tt q ∙ ap (λ b. same_string q s || b) (has-with_nodes n ss q) ∙ sym (or_assoc (same_string q s) _ _)
 
 pub has-root_alone : (q : List Bool) → has_node root_alone q ≡ same_string q []
-has-root_alone q = has-inserted empty [] tt q ∙ ap (λ b. same_string q [] || b) (has-empty q) ∙ or-nothing (same_string q [])
+has-root_alone q = has-inserted empty [] tt q ∙ ap (λ b. same_string q [] || b) (has-empty q) ∙ or-false (same_string q [])
 
 any-same : (q : List Bool) (a b : Bool) (ss : List (List Bool)) → list_any (same_string (a ∷ q)) (map (λ t. b ∷ t) ss) ≡ (same_bit a b && list_any (same_string q) ss)
 any-same q true true [] = refl
@@ -161,11 +133,6 @@ any-beginning [] [] = refl
 any-beginning [] (b ∷ s) = refl
 any-beginning (a ∷ q) [] = refl
 any-beginning (a ∷ q) (b ∷ s) = any-same q a b (beginnings s) ∙ ap (λ x. same_bit a b && x) (any-beginning q s)
-
--- a filter's members
-and-swap : (a b c : Bool) → (a && (b || c)) ≡ ((a && b) || (a && c))
-and-swap true b c = refl
-and-swap false b c = refl
 
 any-filter : (p : List Bool → Bool) (q : List Bool) (ss : List (List Bool)) → list_any (same_string q) (filter p ss) ≡ (p q && list_any (same_string q) ss)
 any-filter p q [] = elim (p q) as (λ b. false ≡ (b && false)) [ true ↦ refl | false ↦ refl ]
@@ -189,14 +156,14 @@ any-node_above q s = any-filter is_node_depth q (beginnings s) ∙ ap (λ b. is_
 
 any-append : (q : List Bool) (ss ts : List (List Bool)) → list_any (same_string q) (ss ++ ts) ≡ (list_any (same_string q) ss || list_any (same_string q) ts)
 any-append q [] ts = refl
-any-append q (s ∷ ss) ts = ap (λ b. same_string q s || b) (any-append q ss ts) ∙ or-move (same_string q s) _ _
+any-append q (s ∷ ss) ts = ap (λ b. same_string q s || b) (any-append q ss ts) ∙ sym (or_assoc (same_string q s) _ _)
 
 any-nodes_above : (q : List Bool) (ks : List (List Bool)) → list_any (same_string q) (flat_map nodes_above ks) ≡ (is_node_depth q && list_any (λ k. begins q k) ks)
 any-nodes_above q [] = elim (is_node_depth q) as (λ b. false ≡ (b && false)) [ true ↦ refl | false ↦ refl ]
 any-nodes_above q (k ∷ ks) =
     any-append q (nodes_above k) (flat_map nodes_above ks)
     ∙ (λ i. any-node_above q k i || any-nodes_above q ks i)
-    ∙ sym (and-swap (is_node_depth q) (begins q k) (list_any (λ k. begins q k) ks))
+    ∙ sym (and-or_distrib_left (is_node_depth q) (begins q k) (list_any (λ k. begins q k) ks))
 
 module _ {T : Type 0} where
   pub has-needed : (m : Entries T) (q : List Bool) → has_node (needed m) q ≡ ((is_node_depth q && list_any (λ k. begins q k) (keys m)) || same_string q [])

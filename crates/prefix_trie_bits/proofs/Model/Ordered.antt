@@ -1,5 +1,5 @@
 -- Lists of entries in listing order, and what each operation makes of the listing.
-use Rattle.std.proofs.Common.{◌≡◌, ◌≤◌, ◌<◌, Bool, true, false, cond, not, ◌&&◌, nat_lt, T, List, [], ◌∷◌, ◌++◌, length, filter, is_lt, Ordering, Less, Equal, Greater, Some, None, is_some, refl, sym, ap, ◌∙◌, subst, arith, true≢false, inl, inr, unwrap_or}
+use Rattle.std.proofs.Common.{◌≡◌, ◌≤◌, ◌<◌, Bool, true, false, cond, not, ◌&&◌, nat_lt, T, List, [], ◌∷◌, ◌++◌, length, filter, is_lt, Ordering, Less, Equal, Some, None, is_some, refl, sym, ap, ◌∙◌, subst, arith, true≢false, inl, inr, unwrap_or}
 use Rattle.std.proofs.lemmas.List.Elements.{Contains-append_left, Contains-append_right, Contains-append_cases, Contains-push, Contains-push_cases}
 use Rattle.std.proofs.lemmas.Bool.Decides.{nat_tests}
 use Rattle.std.specs.List.{Contains}
@@ -20,8 +20,7 @@ true-t b e = subst T (sym e) tt
 
 pub lt-less : (o : Ordering) → is_lt o ≡ true → o ≡ Less
 lt-less Less e = refl
-lt-less Equal e = absurd (true≢false (sym e))
-lt-less Greater e = absurd (true≢false (sym e))
+lt-less o e = absurd (true≢false (sym e))
 
 pub not_less : (s t : List Bool) → listing_cmp s t ≡ Less → listing_cmp t s ≡ Less → ⊥
 not_less s t e f =

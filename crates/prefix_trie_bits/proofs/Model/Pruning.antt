@@ -11,10 +11,7 @@ use Rattle.prefix_trie_bits.specs.Model.Nodes.{Nodes, has_node, home, needed, Ar
 use Rattle.prefix_trie_bits.specs.Laws.Pruning.{IsTakenOut, IsPruning, PruningLaws}
 use Rattle.prefix_trie_bits.proofs.Model.Members.{or-cases, or-right, and-first, and-second, and-join, not-true, from-not, same_string-is, is-same_string, some-key, of-key, each-key, all-keys, has-retained, has-removed, needs, needs_root, needed_for, same_nodes}
 use Rattle.prefix_trie_bits.proofs.Model.Homes.{home-begins, home-depth, home-longest}
-
-pub not-so : (b : Bool) → (b ≡ true → ⊥) → b ≡ false
-not-so true f = absurd (f refl)
-not-so false f = refl
+pub use Rattle.std.proofs.lemmas.Bool.{false_from_ne_true as not-so}
 
 pub clash : (b : Bool) → b ≡ true → b ≡ false → ⊥
 clash b e f = true≢false (sym e ∙ f)

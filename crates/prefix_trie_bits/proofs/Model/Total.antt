@@ -25,6 +25,7 @@ use Rattle.prefix_trie_bits.proofs.Model.Storage.Slots.{nodes_most, cells_most}
 use Rattle.prefix_trie_bits.proofs.Model.Storage.Staying.{stays_stored}
 use Rattle.prefix_trie_bits.proofs.Model.Steps.{part_fewer, stays_map}
 use Rattle.prefix_trie_bits.proofs.Model.Storage.Supplied.{supplied, stored_have}
+use Rattle.std.proofs.lemmas.List.{nil_from_length}
 
 -- a map has a node, the root's
 some_node : {T : Type 0} (width : ℕ) (s : State T) → IsMap width s → 1 ≤ len s.nodes
@@ -32,10 +33,6 @@ some_node width s map = elim (cases_eq (len s.nodes) 0) as (λ _. 1 ≤ len s.no
   | inl none ↦ absurd (true≢false (sym map.are_nodes.rooted ∙ ap (λ n. has_node n []) (empty_of_len s.nodes none) ∙ has-empty []))
   | inr some ↦ grind (arith, some)
 ]
-
-no_length : (s : List Bool) → length s ≡ 0 → s ≡ []
-no_length [] e = refl
-no_length (b ∷ s) e = absurd (omega (arith, e))
 
 module _ {P T : Type 0} (path : P → List Bool) (back : List Bool → P) (width : ℕ) (s : State T × Storage) (whole : IsStoredMap width s) where
   -- a step that is no refusal, and leaves such a map
@@ -181,7 +178,7 @@ module _ {P T : Type 0} (path : P → List Bool) (back : List Bool → P) (width
 
   removes_all : (q : P) → length (path q) ≤ width → length (path q) ≡ 0 → Answers (RemoveChildren q)
   removes_all q fits none =
-      let root : path q ≡ [] = no_length (path q) none in
+      let root : path q ≡ [] = nil_from_length (path q) none in
       empties (RemoveChildren q) (below q) fits (refl, refl) (λ _. refl, λ some. absurd (omega (arith, none, some)))
       (bare_have (below q) (λ k has. no_keys s.0.entries k (ap (λ p. contains_key (without_below s.0.entries p) k) (sym root) ∙ has))
       (λ k there. all_below s.0.entries s.0.nodes k whole.is_map.are_nodes.rooted (ap (λ p. has_node (nodes_without_below s.0.nodes s.0.entries p) k) (sym root) ∙ there)))

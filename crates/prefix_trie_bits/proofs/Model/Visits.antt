@@ -1,5 +1,5 @@
 -- How many beginnings of a question a set of nodes has.
-use Rattle.std.proofs.Common.{◌≡◌, suc, ℕ, ◌+◌, ◌*◌, ◌/◌, ◌%◌, ◌≤◌, ◌<◌, Bool, true, false, cond, ◌&&◌, ◌||◌, nat_le, T, List, [], ◌∷◌, length, map, filter, is_lt, Some, None, refl, sym, ap, ◌∙◌, arith, true≢false, Option, take, is_some, length-take-le, nat_lt, ◌⊎◌, inl, inr, leb-true, le-leb}
+use Rattle.std.proofs.Common.{◌≡◌, ℕ, ◌+◌, ◌*◌, ◌/◌, ◌%◌, ◌≤◌, ◌<◌, Bool, true, false, cond, ◌&&◌, ◌||◌, nat_le, T, List, [], ◌∷◌, length, map, filter, is_lt, Some, None, refl, sym, ap, ◌∙◌, arith, true≢false, Option, take, is_some, length-take-le, nat_lt, ◌⊎◌, inl, inr, leb-true, le-leb}
 use Rattle.std.proofs.lemmas.Bool.Decides.{nat_tests}
 use Rattle.std.specs.FinMap.{find, get-entries, contains_key, entries, entries_sorted, keys, contains_key-keys, is_sorted}
 use Rattle.std.specs.FinMap.Entries.{find-where_key, below_all, is_sorted-where_key}
@@ -17,11 +17,12 @@ use Rattle.prefix_trie_bits.proofs.Model.Homes.{home-depth, home-begins}
 use Rattle.prefix_trie_bits.proofs.Model.Matches.{match_laws}
 use Rattle.prefix_trie_bits.proofs.Model.Members.{some-value, same_string-is, needs, and-join, and-first, and-second, or-left, or-right, is-same_string, of-key}
 use Rattle.prefix_trie_bits.proofs.Model.Pruning.{begins-nil}
+use Rattle.prefix_trie_bits.proofs.Model.Storage.Counting.{of_keys}
 
 deeper : (l d k : ℕ) → l % 5 ≡ 0 → 5 * d ≡ k → k < l → 5 * (d + 1) ≤ l
 deeper l d k five is h = omega (arith, five, is, h)
 
-fives : (l : ℕ) → l % 5 ≡ 0 → 5 * (l / 5) ≡ l
+pub fives : (l : ℕ) → l % 5 ≡ 0 → 5 * (l / 5) ≡ l
 fives l e = omega (arith, e)
 
 last-step : (k n l c w : ℕ) → k ≡ n + 1 → n + (l / 5 + 1) ≤ w / 5 + 1 → 5 * c ≤ l → k + c ≤ w / 5 + 1
@@ -59,21 +60,13 @@ module _ {X : Type 0} where
         | false ↦ λ _. rest
       ] refl
 
-  length-keys : (p : List Bool → Bool) (es : List (List Bool × X)) → length (filter p (map (λ e. e.0) es)) ≡ length (filter (λ e. p e.0) es)
-  length-keys p [] = refl
-  length-keys p (e ∷ es) =
-      elim (p e.0) as (λ b. length (cond b (e.0 ∷ filter p (map (λ x. x.0) es)) (filter p (map (λ x. x.0) es))) ≡ length (cond b (e ∷ filter (λ x. p x.0) es) (filter (λ x. p x.0) es))) [
-        | true ↦ ap suc (length-keys p es)
-        | false ↦ length-keys p es
-      ]
-
 pub visits-bound : (n : Nodes) (q : List Bool) → ((s : List Bool) → has_node n s ≡ true → length s % 5 ≡ 0) → visits n q ≤ length q / 5 + 1
 visits-bound n q depths =
     let found = filter (λ e. begins e.0 q) (entries n) in
     let most : length found + 0 ≤ length q / 5 + 1 =
     counted q 0 found (omega arith) (is_sorted-where_key listing_cmp (λ s. begins s q) (entries n) (entries_sorted n))
     (along-filter q (entries n) (λ k at. depths k (contains_key-keys n k ∙ at))) in
-    omega (arith, most, length-keys (λ s. begins s q) (entries n))
+    omega (arith, most, of_keys (λ s. begins s q) (entries n))
 
 -- a narrower test passes no more
 fewer : (p r : List Bool → Bool) (ss : List (List Bool)) → length (filter (λ s. p s && r s) ss) ≤ length (filter p ss)
@@ -194,7 +187,7 @@ visits-exact n q k depths closed short there ends =
     let along = along-filter q (entries n) (λ s at. depths s (contains_key-keys n s ∙ at)) in
     let most = at-most q k 0 found (omega arith) sorted along (short-filter q k (entries n) (λ s at b. no_deeper s (contains_key-keys n s ∙ at) b)) in
     let least = at-least q k 0 0 found short (omega arith) sorted along (λ j _ to. has_each j to) in
-    length-keys (λ s. begins s q) (entries n) ∙ exact-number (length found) k most least
+    of_keys (λ s. begins s q) (entries n) ∙ exact-number (length found) k most least
   where
     no_deeper : (s : List Bool) → has_node n s ≡ true → begins s q ≡ true → length s ≤ 5 * k
     no_deeper s at b =

@@ -1,5 +1,5 @@
 -- The worked facts on blocks, growth and room.
-use Rattle.std.proofs.Common.{◌≡◌, ◌⊎◌, ℕ, zero, suc, ◌+◌, ◌<◌, ◌≤◌, ◌==◌, true, false, List, [], ◌∷◌, ◌++◌, length, Option, Some, None, is_some, unwrap_or, refl, sym, ap, ◌∙◌, subst, inl, inr, true≢false, eq-eqb, arith, lit<, lit≤, slice_index_or}
+use Rattle.std.proofs.Common.{◌≡◌, ◌⊎◌, ℕ, zero, suc, ◌+◌, ◌<◌, ◌≤◌, ◌==◌, true, false, List, [], ◌∷◌, ◌++◌, length, Option, Some, None, is_some, refl, sym, ap, ◌∙◌, subst, inl, inr, true≢false, eq-eqb, arith, lit<, lit≤, slice_index_or}
 use Rattle.std.specs.Prelude.{Contains, sum_by}
 use Rattle.std.specs.List.{list_any}
 use Rattle.std.proofs.lemmas.List.Sums.{sum_by-cons}
@@ -8,9 +8,7 @@ use Rattle.prefix_trie_bits.specs.Model.Blocks.{Block, value_block_sizes, child_
 use Rattle.prefix_trie_bits.specs.Model.Room.{MayPassLimit}
 use Rattle.prefix_trie_bits.specs.Facts.Blocks.{none_free, six_free, room_of, at_slot, HasBlockFacts, BlockNeededFacts, StepsDownFacts, StepsBetweenFacts, LongerByOneFacts, RoomFacts, TilesFacts, BlocksHold}
 use Rattle.prefix_trie_bits.proofs.Model.Members.{or-left, or-right}
-
-pub some_is : (a b : ℕ) → Some a ≡ Some b → a ≡ b
-some_is a b e = ap (λ o. unwrap_or o 0) e
+pub use Rattle.std.proofs.lemmas.Option.{same_Some as some_is}
 
 pub not_some : (a : ℕ) → None ≡ Some a → ⊥
 not_some a e = true≢false (ap is_some (sym e))

@@ -20,7 +20,7 @@ module _ {X : Type 0} where
   abbrev pub passing : (List Bool → Bool) → FinMap listing_cmp X → ℕ
   passing test m = length (filter test (keys m))
 
-  of_keys : (test : List Bool → Bool) (es : List (List Bool × X)) → length (filter test (map (λ e. e.0) es)) ≡ length (filter (λ e. test e.0) es)
+  pub of_keys : (test : List Bool → Bool) (es : List (List Bool × X)) → length (filter test (map (λ e. e.0) es)) ≡ length (filter (λ e. test e.0) es)
   of_keys test [] = refl
   of_keys test (e ∷ es) =
       elim (test e.0) as (λ b. length (cond b (e.0 ∷ filter test (map (λ x. x.0) es)) (filter test (map (λ x. x.0) es)))

@@ -19,6 +19,8 @@ use Rattle.prefix_trie_bits.proofs.Model.Members.{not-true, and-first, and-secon
 use Rattle.prefix_trie_bits.proofs.Model.Pruning.{not-so, pruning_laws}
 use Rattle.prefix_trie_bits.proofs.Model.Storage.Readied.{goes_up}
 use Rattle.prefix_trie_bits.proofs.Model.Storage.Shrinking.{has_none, rest_free, as_many, keeping_all, keeping_steps, keeping_have, lowered_at_one, lowered_steps, lowered_few, lowered_makes_none, lowered_have}
+use Rattle.std.proofs.Math.Bool.{and-false}
+use Rattle.prefix_trie_bits.proofs.Model.Visits.{fives}
 
 -- ---- one array
 
@@ -151,14 +153,7 @@ bare_have t none root = record {
     short : (k p : List Bool) → k ≡ [] → (length k == length p + 5) ≡ false
     short k p e = false_from_ne_true (length k == length p + 5) (λ same. let h = eqb-true (length k) (length p + 5) same in let l = ap (λ s. length s) e in omega (arith, h, l))
 
-    and-false : (b : Bool) → (b && false) ≡ false
-    and-false true = refl
-    and-false false = refl
-
 -- ---- one entry
-
-level_of : (l : ℕ) → l % 5 ≡ 0 → 5 * (l / 5) ≡ l
-level_of l e = omega (arith, e)
 
 next_level : (l : ℕ) → l % 5 ≡ 0 → 5 * (l / 5 + 1) ≡ l + 5
 next_level l e = omega (arith, e)
@@ -168,7 +163,7 @@ levels_within l k h = omega (arith, h)
 
 -- on the way to a question a string is that of its level
 on_way : (p q : List Bool) → length p % 5 ≡ 0 → begins p q ≡ true → at_level q (length p / 5) ≡ p
-on_way p q depth b = ap (λ n. take n q) (level_of (length p) depth) ∙ begins-take p q b
+on_way p q depth b = ap (λ n. take n q) (fives (length p) depth) ∙ begins-take p q b
 
 module _ {T : Type 0} where
   pub removed_is : (m : Entries T) (q : List Bool) → without_entry m q ≡ retain_keys m (λ k. not (same_string k q))

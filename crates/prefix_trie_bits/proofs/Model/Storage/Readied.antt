@@ -1,20 +1,17 @@
 -- What an insertion finds and leaves where the blocks that it lacks were made before it.
-use Rattle.std.proofs.Common.{◌≡◌, ℕ, zero, suc, ◌+◌, ◌-◌, ◌*◌, ◌<◌, Bool, true, false, cond, ◌&&◌, ◌==◌, List, [], ◌∷◌, length, nat_lt, refl, sym, ap, ◌∙◌, subst, arith, eq-eqb, eqb-true, ltb-true}
-use Rattle.std.proofs.lemmas.Bool.{false≢true, false_from_ne_true}
+use Rattle.std.proofs.Common.{◌≡◌, ℕ, zero, suc, ◌+◌, ◌-◌, ◌*◌, ◌<◌, Bool, true, cond, ◌&&◌, ◌==◌, List, [], ◌∷◌, length, nat_lt, refl, sym, ap, ◌∙◌, subst, arith, eq-eqb, eqb-true, ltb-true}
+use Rattle.std.proofs.lemmas.Bool.{false_from_ne_true}
 use Rattle.std.specs.Prelude.{Contains, filter}
 use Rattle.prefix_trie_bits.specs.Model.Blocks.{Sizes, free_of, used_of, child_block_sizes, value_block_sizes, child_block_count, value_block_count}
 use Rattle.prefix_trie_bits.specs.Model.Insertion.{lacking_of, lacking_slots, TakesBlocks, child_block_needed, value_block_needed, child_blocks_needed, value_blocks_needed, child_blocks_lacking, value_blocks_lacking, node_slots_lacking, cell_slots_lacking}
 use Rattle.prefix_trie_bits.specs.Model.Step.{State, Refusal}
 use Rattle.prefix_trie_bits.specs.Model.Storage.{Storage, InsertsInStorage, ReadiesInStorage, RefusesInStorage}
+pub use Rattle.std.proofs.lemmas.Bool.{and_parts as both}
 
 -- whether the numbers go up, from s on
 abbrev pub goes_up : ℕ → List ℕ → Bool
 goes_up s [] = true
 goes_up s (t ∷ ts) = nat_lt s t && goes_up t ts
-
-pub both : (a b : Bool) → (a && b) ≡ true → (a ≡ true) × (b ≡ true)
-both true b e = (refl, e)
-both false b e = absurd (false≢true e)
 
 pub above : (s : ℕ) (ts : List ℕ) → goes_up s ts ≡ true → (x : ℕ) → Contains ts x → s < x
 above s [] up x (k, inside, e) = absurd (omega arith)

@@ -17,6 +17,7 @@ use Rattle.prefix_trie_bits.specs.Model.Storage.{Storage, HaveBlocks, RemovesVal
 use Rattle.prefix_trie_bits.proofs.Model.Members.{and-first, and-second}
 use Rattle.prefix_trie_bits.proofs.Model.Levels.{at_level, closed, no_children_at, split_at}
 use Rattle.prefix_trie_bits.proofs.Model.Storage.Ways.{none_needed, blocks_needed}
+use Rattle.std.proofs.lemmas.Option.{same_Some}
 
 -- ---- the slots of needed blocks are no more than these have
 
@@ -102,12 +103,9 @@ module _ (P : ℕ → Type 0) where
   found_in : (f : ℕ → Bool) (sizes : List ℕ) (x : ℕ) → All P sizes → find f sizes ≡ Some x → P x
   found_in f [] x all e = absurd (let h : ◌≡◌ {A = Option ℕ} None (Some x) = e in cc)
   found_in f (size ∷ sizes) x all e = elim (f size) as (λ b. cond b (Some size) (find f sizes) ≡ Some x → P x) [
-    | true ↦ λ here. subst P (let h : size ≡ x = some_is size x here in h) (All-head P size sizes all)
+    | true ↦ λ here. subst P (let h : size ≡ x = same_Some size x here in h) (All-head P size sizes all)
     | false ↦ λ later. found_in f sizes x (All-tail P size sizes all) later
   ] e
-    where
-      some_is : (a b : ℕ) → Some a ≡ Some b → a ≡ b
-      some_is a b h = cc
 
   seven : (top : ℕ) → P 1 → P 2 → P 4 → P 8 → P 16 → P 24 → P top → All P (sizes_to top)
   seven top a b c d e f g = All-cons P 1 (2 ∷ 4 ∷ 8 ∷ 16 ∷ 24 ∷ top ∷ []) a (All-cons P 2 (4 ∷ 8 ∷ 16 ∷ 24 ∷ top ∷ []) b
@@ -181,9 +179,6 @@ last_of prev [] = prev
 last_of prev (s ∷ small) = last_of s small
 
 module _ (top : ℕ) where
-  same_size : (a b : ℕ) → Some a ≡ Some b → a ≡ b
-  same_size a b e = cc
-
   -- what asks for the largest size is more than the one before it
   over_others : (prev : ℕ) (small : List ℕ) (n x : ℕ) → prev < n → All (λ size. size ≤ 24) small → last_of prev small ≡ 24 →
       find (λ size. nat_le n size) (small ++ top ∷ []) ≡ Some x → 24 < x → 24 < n
@@ -192,7 +187,7 @@ module _ (top : ℕ) where
     | inl over ↦ over_others s small n x over (All-tail (λ size. size ≤ 24) s small all) last
         (ap (λ b. cond b (Some s) (find (λ size. nat_le n size) (small ++ top ∷ []))) (sym (let h : nat_le n s ≡ false = grind (arith, nat_tests, over) in h)) ∙ found) more
     | inr fits ↦ absurd (
-        let is : s ≡ x = same_size s x (ap (λ b. cond b (Some s) (find (λ size. nat_le n size) (small ++ top ∷ [])))
+        let is : s ≡ x = same_Some s x (ap (λ b. cond b (Some s) (find (λ size. nat_le n size) (small ++ top ∷ [])))
         (sym (let h : nat_le n s ≡ true = grind (arith, nat_tests, fits) in h)) ∙ found) in
         let few = All-head (λ size. size ≤ 24) s small all in
         omega (arith, is, few, more))

@@ -24,6 +24,7 @@ use Rattle.prefix_trie_bits.proofs.Model.Members.{or-right, and-first, and-secon
 use Rattle.prefix_trie_bits.proofs.Model.NodeSets.{has-with_needed}
 use Rattle.prefix_trie_bits.proofs.Model.Storage.Readied.{goes_up}
 use Rattle.prefix_trie_bits.proofs.Model.Storage.Shrinking.{has_none, has_some, has_cases, smallest_of}
+use Rattle.std.proofs.Math.Bool.{and-true, and_assoc, or_comm}
 
 -- ---- one more item
 
@@ -169,15 +170,9 @@ module _ (n : Nodes) (q p : List Bool) (depth : length p % 5 ≡ 0) where
       (same_members (retain_keys (with_needed n q) is_child) (retain_keys (insert n next tt) is_child)
       (λ k. has-retained (with_needed n q) is_child k ∙ alike k (is_child k) refl ∙ sym (has-retained (insert n next tt) is_child k))) ∙ sym (passing-len is_child (insert n next tt))
     where
-      swap : (a b : Bool) → (a || b) ≡ (b || a)
-      swap true true = refl
-      swap true false = refl
-      swap false true = refl
-      swap false false = refl
-
       alike : (k : List Bool) (b : Bool) → is_child k ≡ b → (b && has_node (with_needed n q) k) ≡ (b && has_node (insert n next tt) k)
       alike k true e =
-          has-with_needed n q k ∙ ap (λ x. has_node n k || x) (child_on_way k e) ∙ swap (has_node n k) (same_string k next) ∙ sym (has-inserted n next tt k)
+          has-with_needed n q k ∙ ap (λ x. has_node n k || x) (child_on_way k e) ∙ or_comm (has_node n k) (same_string k next) ∙ sym (has-inserted n next tt k)
       alike k false e = refl
 
   next_child : is_child next ≡ (begins p q && nat_lt (length p) (length (home q)))
@@ -200,12 +195,8 @@ module _ (n : Nodes) (q p : List Bool) (depth : length p % 5 ≡ 0) where
   pub children_grow : child_count (with_needed n q) p ≡ child_count n p + cond (gains_child n q p) 1 0
   children_grow = children_as_one ∙ passing-inserted is_child n next tt
       ∙ ap (λ b. child_count n p + cond (b && not (has_node n next)) 1 0) next_child
-      ∙ ap (λ b. child_count n p + cond b 1 0) (regroup (begins p q) (nat_lt (length p) (length (home q))) (not (has_node n next))
+      ∙ ap (λ b. child_count n p + cond b 1 0) (and_assoc (begins p q) (nat_lt (length p) (length (home q))) (not (has_node n next))
       ∙ sym (ap (λ b. (b && begins p q) && (nat_lt (length p) (length (home q)) && not (has_node n next))) (eq-eqb (length p % 5) 0 depth)))
-    where
-      regroup : (a b c : Bool) → ((a && b) && c) ≡ ((true && a) && (b && c))
-      regroup true b c = refl
-      regroup false b c = refl
 
 module _ {T : Type 0} (m : Entries T) (q p : List Bool) (v : T) (depth : length p % 5 ≡ 0) where
   own_is_home : (begins p q && nat_lt (length q) (length p + 5)) ≡ same_string p (home q)
@@ -257,10 +248,6 @@ module _ {T : Type 0} (width : ℕ) (s : State T) (q : List Bool) (v : T) where
       on_way : (p : List Bool) → (is_node_depth p && begins p q) ≡ true → has_node set.nodes p ≡ true
       on_way p h = has-with_needed s.nodes q p ∙ or-right (has_node s.nodes p) (begins p q && is_node_depth p)
           (and-join (begins p q) (is_node_depth p) (and-second (is_node_depth p) (begins p q) h) (and-first (is_node_depth p) (begins p q) h))
-
-      and-true : (b : Bool) → (b && not false) ≡ b
-      and-true true = refl
-      and-true false = refl
 
   -- a key that is set again changes no count
   pub stored_have : (before : Storage) → IsMap width s → contains_key s.entries q ≡ true → HaveBlocks s before.layout →

@@ -9,6 +9,8 @@ use Rattle.prefix_trie_bits.specs.Model.Nodes.{Nodes, has_node, is_node_depth, b
 use Rattle.prefix_trie_bits.specs.Model.Blocks.{Sizes, child_block_sizes, child_count}
 use Rattle.prefix_trie_bits.specs.Model.Insertion.{block_needed, gains_child, child_block_needed}
 use Rattle.prefix_trie_bits.proofs.Model.Homes.{home-length}
+use Rattle.std.proofs.Math.Bool.{and-false}
+use Rattle.prefix_trie_bits.proofs.Model.Levels.{five_times, depth_of}
 
 five_same : (l : ℕ) → suc (suc (suc (suc (suc l)))) % 5 ≡ l % 5
 five_same l = omega arith
@@ -103,15 +105,9 @@ module _ {X : Type 0} where
 
 -- ---- the child blocks that an insertion needs
 
-whole : (i k l : ℕ) → i ≤ k → k ≡ l / 5 → 5 * i ≤ l
-whole i k l h e = omega (arith, h, e)
-
-depth_of : (i l : ℕ) → l ≡ 5 * i → l % 5 ≡ 0
-depth_of i l e = omega (arith, e)
-
 module _ (n : Nodes) (blocks : Sizes) (q : List Bool) (k : ℕ) (is : k ≡ length q / 5) where
   long : (i : ℕ) → i ≤ k → length (take (5 * i) q) ≡ 5 * i
-  long i h = length-take-le (5 * i) q (whole i k (length q) h is)
+  long i h = length-take-le (5 * i) q (five_times i k (length q) h is)
 
   -- a node on the way to q gets a child exactly where it is not q's own and the next one is missing
   pub gains_at : (i : ℕ) → i ≤ k → gains_child n q (take (5 * i) q) ≡ (nat_lt (5 * i) (5 * k) && not (has_node n (take (5 * (i + 1)) q)))
@@ -126,11 +122,7 @@ module _ (n : Nodes) (blocks : Sizes) (q : List Bool) (k : ℕ) (is : k ≡ leng
   needed_at i b e = ap (λ x. cond x (block_needed child_block_sizes (get blocks (take (5 * i) q)) (child_count n (take (5 * i) q))) None) e
 
   gains_not : (i : ℕ) → i ≤ k → has_node n (take (5 * (i + 1)) q) ≡ true → gains_child n q (take (5 * i) q) ≡ false
-  gains_not i h there = gains_at i h ∙ ap (λ b. nat_lt (5 * i) (5 * k) && not b) there ∙ none (nat_lt (5 * i) (5 * k))
-    where
-      none : (b : Bool) → (b && false) ≡ false
-      none true = refl
-      none false = refl
+  gains_not i h there = gains_at i h ∙ ap (λ b. nat_lt (5 * i) (5 * k) && not b) there ∙ and-false (nat_lt (5 * i) (5 * k))
 
   gains_last : gains_child n q (take (5 * k) q) ≡ false
   gains_last = gains_at k (omega arith) ∙ ap (λ b. b && not (has_node n (take (5 * (k + 1)) q))) (le-ltb (5 * k) (5 * k) (omega arith))
