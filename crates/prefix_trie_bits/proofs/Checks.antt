@@ -7,9 +7,8 @@ pub use Rattle.std.proofs.lemmas.Bool.{and_parts as both}
 
 pub same : (x y : Bool) → beq x y ≡ true → x ≡ y
 same true true h = refl
-same true false h = cc
-same false true h = cc
 same false false h = refl
+same x y h = cc
 
 -- a test holds below n
 unfoldable pub below : (ℕ → Bool) → ℕ → Bool

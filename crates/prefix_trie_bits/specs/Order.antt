@@ -28,9 +28,8 @@ listing_total = lists_total bool_cmp_total
 
 bits-same : IsAntisymmetric bool_cmp
 bits-same true true e = refl
-bits-same true false e = cc
-bits-same false true e = cc
 bits-same false false e = refl
+bits-same a b e = cc
 
 -- strings that tie are one
 pub listing_same : IsAntisymmetric listing_cmp
@@ -53,37 +52,26 @@ pub listing-extension : (s t : List Bool) → begins s t ≡ true → length s <
 unfolding begins
 listing-extension [] [] e h = absurd (omega (arith, h))
 listing-extension [] (b ∷ t) e h = refl
-listing-extension (a ∷ s) [] e h = cc
 listing-extension (true ∷ s) (true ∷ t) e h = listing-extension s t e (omega (arith, h))
-listing-extension (true ∷ s) (false ∷ t) e h = cc
-listing-extension (false ∷ s) (true ∷ t) e h = cc
 listing-extension (false ∷ s) (false ∷ t) e h = listing-extension s t e (omega (arith, h))
+listing-extension s t e h = cc
 
 -- strings that differ within both stay in order whatever follows
 pub listing-apart : (s t x y : List Bool) → listing_cmp s t ≡ Less → begins s t ≡ false → listing_cmp (s ++ x) (t ++ y) ≡ Less
 unfolding begins
-listing-apart [] t x y l e = cc
-listing-apart (a ∷ s) [] x y l e = cc
 listing-apart (true ∷ s) (true ∷ t) x y l e = listing-apart s t x y l e
-listing-apart (true ∷ s) (false ∷ t) x y l e = cc
 listing-apart (false ∷ s) (true ∷ t) x y l e = refl
 listing-apart (false ∷ s) (false ∷ t) x y l e = listing-apart s t x y l e
+listing-apart s t x y l e = cc
 
 -- what stands between two extensions of q is one
 pub listing-between : (q s u t : List Bool) → begins q s ≡ true → begins q t ≡ true → listing_cmp s u ≡ Less → listing_cmp u t ≡ Less → begins q u ≡ true
 unfolding begins
 listing-between [] s u t e f l m = refl
-listing-between (a ∷ q) [] u t e f l m = cc
-listing-between (a ∷ q) (b ∷ s) u [] e f l m = cc
-listing-between (a ∷ q) (b ∷ s) [] (d ∷ t) e f l m = cc
 listing-between (true ∷ q) (true ∷ s) (true ∷ u) (true ∷ t) e f l m = listing-between q s u t e f l m
-listing-between (true ∷ q) (true ∷ s) (true ∷ u) (false ∷ t) e f l m = cc
-listing-between (true ∷ q) (true ∷ s) (false ∷ u) (d ∷ t) e f l m = cc
-listing-between (true ∷ q) (false ∷ s) (c ∷ u) (d ∷ t) e f l m = cc
-listing-between (false ∷ q) (true ∷ s) (c ∷ u) (d ∷ t) e f l m = cc
-listing-between (false ∷ q) (false ∷ s) (c ∷ u) (true ∷ t) e f l m = cc
-listing-between (false ∷ q) (false ∷ s) (true ∷ u) (false ∷ t) e f l m = cc
 listing-between (false ∷ q) (false ∷ s) (false ∷ u) (false ∷ t) e f l m = listing-between q s u t e f l m
+listing-between (false ∷ q) (false ∷ s) (true ∷ u) (false ∷ t) e f l m = cc
+listing-between q s u t e f l m = cc
 
 tail-length : (x y : List Bool) → suc (length x) ≡ suc (length y) → length x ≡ length y
 tail-length x y q = omega (arith, q)
@@ -92,8 +80,6 @@ tail-length x y q = omega (arith, q)
 pub listing-numbers : (s t : List Bool) → length s ≡ length t → number s < number t → listing_cmp s t ≡ Less
 unfolding number
 listing-numbers [] [] e h = absurd (omega (arith, h))
-listing-numbers [] (b ∷ t) e h = absurd (omega (arith, e))
-listing-numbers (a ∷ s) [] e h = absurd (omega (arith, e))
 listing-numbers (true ∷ s) (true ∷ t) e h =
     listing-numbers s t (omega (arith, e)) (omega (arith, h, ap (λ k. 2 ^ k) (tail-length s t e)))
 listing-numbers (true ∷ s) (false ∷ t) e h =
@@ -101,3 +87,4 @@ listing-numbers (true ∷ s) (false ∷ t) e h =
 listing-numbers (false ∷ s) (true ∷ t) e h = refl
 listing-numbers (false ∷ s) (false ∷ t) e h =
     listing-numbers s t (omega (arith, e)) (omega (arith, h))
+listing-numbers s t e h = absurd (omega (arith, e))

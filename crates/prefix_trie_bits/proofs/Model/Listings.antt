@@ -34,23 +34,19 @@ longer b s t (inl (e, f)) = inl (begins-cons b s t e, other-tail b b s t f)
 longer b s t (inr (c, x, y, e, f)) = inr (b ∷ c, x, y, ap (λ z. b ∷ z) e, ap (λ z. b ∷ z) f)
 
 less-before : (s t : List Bool) → listing_cmp s t ≡ Less → IsBefore s t
-less-before [] [] e = absurd (true≢false (sym (ap is_lt e)))
 less-before [] (b ∷ t) e = inl (begins-nil (b ∷ t), λ h. true≢false (ap is_root h))
-less-before (a ∷ s) [] e = absurd (true≢false (sym (ap is_lt e)))
 less-before (true ∷ s) (true ∷ t) e = longer true s t (less-before s t e)
-less-before (true ∷ s) (false ∷ t) e = absurd (true≢false (sym (ap is_lt e)))
 less-before (false ∷ s) (true ∷ t) e = inr ([], s, t, refl, refl)
 less-before (false ∷ s) (false ∷ t) e = longer false s t (less-before s t e)
+less-before s t e = absurd (true≢false (sym (ap is_lt e)))
 
 begun-less : (s t : List Bool) → begins s t ≡ true → (s ≢ t) → listing_cmp s t ≡ Less
 unfolding begins
 begun-less [] [] e f = absurd (f refl)
 begun-less [] (b ∷ t) e f = refl
-begun-less (a ∷ s) [] e f = absurd (true≢false (sym e))
 begun-less (true ∷ s) (true ∷ t) e f = begun-less s t e (λ h. f (ap (λ x. true ∷ x) h))
-begun-less (true ∷ s) (false ∷ t) e f = absurd (true≢false (sym e))
-begun-less (false ∷ s) (true ∷ t) e f = absurd (true≢false (sym e))
 begun-less (false ∷ s) (false ∷ t) e f = begun-less s t e (λ h. f (ap (λ x. false ∷ x) h))
+begun-less s t e f = absurd (true≢false (sym e))
 
 before-less : (s t : List Bool) → IsBefore s t → listing_cmp s t ≡ Less
 before-less s t (inl (e, f)) = begun-less s t e f
@@ -61,9 +57,8 @@ back : (s t : List Bool) → listing_cmp s t ≡ Less → listing_cmp t s ≡ Gr
 back s t e = listing_total.antisymm t s ∙ ap ordering_reverse e
 
 le-lt : (o : Ordering) → is_lt o ≡ true → is_le o ≡ true
-le-lt Less e = refl
-le-lt Equal e = refl
 le-lt Greater e = e
+le-lt o e = refl
 
 module _ {X : Type 0} where
   all-behind : (s : List Bool) (es : List (List Bool × X)) → T (below_all listing_cmp s es) → filter (λ e. is_lt (listing_cmp s e.0)) es ≡ es

@@ -154,9 +154,8 @@ module _ {T : Type 0} where
 
 module _ {X : Type 0} where
   last_item-push : (front : List X) (e : X) → last_item (front ++ e ∷ []) ≡ Some e
-  last_item-push [] e = refl
-  last_item-push (x ∷ []) e = refl
   last_item-push (x ∷ y ∷ front) e = last_item-push (y ∷ front) e
+  last_item-push front e = refl
 
   within-first : (front back : List X) (d e : X) → Contains (front ++ d ∷ e ∷ back) d
   within-first front back d e = Contains-append_right front (d ∷ e ∷ back) d (Contains-append_left (d ∷ []) (e ∷ back) d (Contains-push [] d))

@@ -10,7 +10,7 @@ use Rattle.prefix_trie_bits.specs.Model.Entries.{Entries, with_entry, without_en
 use Rattle.prefix_trie_bits.specs.Model.Nodes.{Nodes, has_node, root_alone, with_nodes, beginnings, is_node_depth, nodes_above, needed}
 use Rattle.std.proofs.lemmas.Bool.{and_parts}
 pub use Rattle.std.proofs.lemmas.Bool.{or_cases as or-cases, or_left as or-left, or_right as or-right, and_from as and-join, not_from_false as not-true, not-true as from-not}
-use Rattle.std.proofs.Math.Bool.{or-false, or_assoc, and-or_distrib_left}
+use Rattle.std.proofs.Math.Bool.{or-false, or_assoc, and-false, and-or_distrib_left}
 
 pub and-first : (a b : Bool) → (a && b) ≡ true → a ≡ true
 and-first a b e = (and_parts a b e).0
@@ -118,21 +118,16 @@ pub has-root_alone : (q : List Bool) → has_node root_alone q ≡ same_string q
 has-root_alone q = has-inserted empty [] tt q ∙ ap (λ b. same_string q [] || b) (has-empty q) ∙ or-false (same_string q [])
 
 any-same : (q : List Bool) (a b : Bool) (ss : List (List Bool)) → list_any (same_string (a ∷ q)) (map (λ t. b ∷ t) ss) ≡ (same_bit a b && list_any (same_string q) ss)
-any-same q true true [] = refl
-any-same q true false [] = refl
-any-same q false true [] = refl
-any-same q false false [] = refl
 any-same q true true (s ∷ ss) = ap (λ x. same_string q s || x) (any-same q true true ss)
-any-same q true false (s ∷ ss) = any-same q true false ss
-any-same q false true (s ∷ ss) = any-same q false true ss
 any-same q false false (s ∷ ss) = ap (λ x. same_string q s || x) (any-same q false false ss)
+any-same q a b [] = sym (and-false (same_bit a b))
+any-same q a b (s ∷ ss) = any-same q a b ss
 
 pub any-beginning : (q s : List Bool) → list_any (same_string q) (beginnings s) ≡ begins q s
 unfolding begins
 any-beginning [] [] = refl
-any-beginning [] (b ∷ s) = refl
-any-beginning (a ∷ q) [] = refl
 any-beginning (a ∷ q) (b ∷ s) = any-same q a b (beginnings s) ∙ ap (λ x. same_bit a b && x) (any-beginning q s)
+any-beginning q s = refl
 
 any-filter : (p : List Bool → Bool) (q : List Bool) (ss : List (List Bool)) → list_any (same_string q) (filter p ss) ≡ (p q && list_any (same_string q) ss)
 any-filter p q [] = elim (p q) as (λ b. false ≡ (b && false)) [ true ↦ refl | false ↦ refl ]

@@ -23,31 +23,18 @@ use Rattle.prefix_trie_bits.proofs.Model.Ordered.{t-true, true-t, lt-less, not_l
 -- a string that s begins is s, or goes on with 0, or goes on with 1
 begins-parts : (s t : List Bool) → begins s t ≡ (same_string s t || (begins (s ++ false ∷ []) t || begins (s ++ true ∷ []) t))
 unfolding begins
-begins-parts [] [] = refl
 begins-parts [] (true ∷ t) = refl
-begins-parts [] (false ∷ t) = refl
-begins-parts (a ∷ s) [] = refl
 begins-parts (true ∷ s) (true ∷ t) = begins-parts s t
-begins-parts (true ∷ s) (false ∷ t) = refl
-begins-parts (false ∷ s) (true ∷ t) = refl
 begins-parts (false ∷ s) (false ∷ t) = begins-parts s t
+begins-parts s t = refl
 
 -- what goes on with 0 is before what goes on with 1
 zero-before-one : (s t u : List Bool) → begins (s ++ false ∷ []) t ≡ true → begins (s ++ true ∷ []) u ≡ true → listing_cmp t u ≡ Less
 unfolding begins
-zero-before-one [] [] u e f = cc
-zero-before-one [] (true ∷ t) u e f = cc
-zero-before-one [] (false ∷ t) [] e f = cc
 zero-before-one [] (false ∷ t) (true ∷ u) e f = refl
-zero-before-one [] (false ∷ t) (false ∷ u) e f = cc
-zero-before-one (a ∷ s) [] u e f = cc
-zero-before-one (a ∷ s) (b ∷ t) [] e f = cc
 zero-before-one (true ∷ s) (true ∷ t) (true ∷ u) e f = zero-before-one s t u e f
-zero-before-one (true ∷ s) (true ∷ t) (false ∷ u) e f = cc
-zero-before-one (true ∷ s) (false ∷ t) (c ∷ u) e f = cc
-zero-before-one (false ∷ s) (true ∷ t) (c ∷ u) e f = cc
-zero-before-one (false ∷ s) (false ∷ t) (true ∷ u) e f = cc
 zero-before-one (false ∷ s) (false ∷ t) (false ∷ u) e f = zero-before-one s t u e f
+zero-before-one s t u e f = cc
 
 -- a string is before those that go on behind it
 before-longer : (b : Bool) (s t : List Bool) → begins (s ++ b ∷ []) t ≡ true → listing_cmp s t ≡ Less

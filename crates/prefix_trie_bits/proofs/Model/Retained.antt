@@ -14,9 +14,8 @@ use Rattle.prefix_trie_bits.proofs.Model.Ordered.{entries-retained}
 
 none_either : {T : Type 0} (a b : Bool) → ◌≡◌ {A = Option T} (cond a None None) (cond b None None)
 none_either true true = refl
-none_either true false = refl
 none_either false true = refl
-none_either false false = refl
+none_either a b = refl
 
 module _ {T : Type 0} where
   -- two tests that agree at a stored key

@@ -48,9 +48,8 @@ pub record Layout : Type 0 where
 
 -- how many blocks of a size are free: `free` has a number for each of the sizes
 abbrev pub free_of : List ℕ → List ℕ → ℕ → ℕ
-free_of [] free size = 0
-free_of (s ∷ sizes) [] size = 0
 free_of (s ∷ sizes) (f ∷ free) size = cond (s == size) f (free_of sizes free size)
+free_of sizes free size = 0
 
 -- a list that had `before` items now has `after`, and its block, which had the size `old`, now has `new`: the same where no item
 -- was taken, none where no item is left, and else the old size or the smallest that holds the rest, and that one where such a

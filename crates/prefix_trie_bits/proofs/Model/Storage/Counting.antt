@@ -41,9 +41,8 @@ module _ {X : Type 0} where
 
   either_way : (a b : Bool) (o : Option X) → cond a (cond b o None) None ≡ cond b (cond a o None) None
   either_way true true o = refl
-  either_way true false o = refl
   either_way false true o = refl
-  either_way false false o = refl
+  either_way a b o = refl
 
   kept_fewer : (m : FinMap listing_cmp X) (r : List Bool → Bool) → len (retain_keys m r) ≤ len m
   kept_fewer m r =
@@ -65,10 +64,8 @@ module _ {X : Type 0} where
       omega (arith, left, few, all)
 
   same_kept : (a b : Bool) (o : Option X) → (is_some o ≡ true → a ≡ true → b ≡ true) → cond a (cond b o None) None ≡ cond a o None
-  same_kept true true o h = refl
-  same_kept true false None h = refl
   same_kept true false (Some x) h = absurd (true≢false (sym (h refl refl)))
-  same_kept false b o h = refl
+  same_kept a b o h = refl
 
   -- and as many, where all that pass stay
   pub passing-same : (test r : List Bool → Bool) (m : FinMap listing_cmp X) → ((k : List Bool) → contains_key m k ≡ true → test k ≡ true → r k ≡ true) →
@@ -84,9 +81,8 @@ module _ {X : Type 0} where
     where
       moved : (a b : Bool) (o : Option X) → cond a (cond b (Some v) o) None ≡ cond b (cond a (Some v) None) (cond a o None)
       moved true true o = refl
-      moved true false o = refl
       moved false true o = refl
-      moved false false o = refl
+      moved a b o = refl
 
       at : (q : List Bool) → get (retain_keys (insert m k v) test) q ≡ cond (same_string q k) (cond (test q) (Some v) None) (cond (test q) (get m q) None)
       at q = get-kept (insert m k v) test q ∙ ap (λ o. cond (test q) o None) (get-insert listing_total m k v q) ∙ moved (test q) (same_string q k) (get m q)
@@ -167,9 +163,8 @@ one_no false n = omega arith
 
 in_place : (b c : Bool) (n : ℕ) → cond b (1 + n) n ≤ cond c (1 + n) n + cond b 1 0
 in_place true true n = omega arith
-in_place true false n = omega arith
 in_place false true n = omega arith
-in_place false false n = omega arith
+in_place b c n = omega arith
 
 later : (b : Bool) (x y d : ℕ) → x ≤ y + d → cond b (1 + x) x ≤ cond b (1 + y) y + d
 later true x y d h = omega (arith, h)

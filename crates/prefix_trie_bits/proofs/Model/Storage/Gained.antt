@@ -38,8 +38,7 @@ take_all-at needed (x ∷ ps) blocks p =
 
     twice : (b : Bool) (o h : Option ℕ) → option_or o (cond b (option_or o h) h) ≡ option_or o h
     twice true None h = refl
-    twice true (Some n) h = refl
-    twice false o h = refl
+    twice b o h = refl
 
 take_all-used : (needed : List Bool → Option ℕ) (ps : List (List Bool)) (blocks : Sizes) (size : ℕ) →
     used_of (take_all needed ps blocks) size ≤ used_of blocks size + how_many size (filter_map needed ps)

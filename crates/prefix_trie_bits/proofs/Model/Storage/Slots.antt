@@ -83,12 +83,11 @@ all_slots sizes up [] = none_slots sizes
 all_slots sizes up (x ∷ xs) = (let more = more_slots 0 sizes up x xs in let rest = all_slots sizes up xs in omega (arith, more, rest))
 
 free_fewer : (sizes free needed : List ℕ) → lacking_slots sizes free needed ≤ lacking_slots sizes [] needed
-free_fewer [] free needed = omega arith
-free_fewer (size ∷ sizes) [] needed = omega arith
 free_fewer (size ∷ sizes) (f ∷ free) needed =
     let less : how_many size needed - f ≤ how_many size needed = omega arith in
     let rest = free_fewer sizes free needed in
     omega (arith, mul-le-mul_left size less, rest)
+free_fewer sizes free needed = omega arith
 
 slots_most : (sizes free : List ℕ) → rising 0 sizes ≡ true → (needed : List ℕ) → lacking_slots sizes free needed ≤ total needed
 slots_most sizes free up needed = (let a = free_fewer sizes free needed in let b = all_slots sizes up needed in omega (arith, a, b))

@@ -57,11 +57,7 @@ module _ {X : Type 0} where
       let rest = each_but_last x s (λ t. h (a ∷ b ∷ c ∷ d ∷ e ∷ t)) k (let n = five_next (suc k) (length s) is in omega arith)
       (λ i less. ap h (sym (take_five i a b c d e s)) ∙ each (suc i) (omega arith)) (ap h (sym (take_five k a b c d e s)) ∙ last) in
       first_five h a b c d e s ∙ ap₂ (λ o xs. cons_option o xs) (each 0 (omega arith)) rest
-  each_but_last x (a ∷ b ∷ c ∷ d ∷ []) h k is each last = each_short x (a ∷ b ∷ c ∷ d ∷ []) h k refl is last
-  each_but_last x (a ∷ b ∷ c ∷ []) h k is each last = each_short x (a ∷ b ∷ c ∷ []) h k refl is last
-  each_but_last x (a ∷ b ∷ []) h k is each last = each_short x (a ∷ b ∷ []) h k refl is last
-  each_but_last x (a ∷ []) h k is each last = each_short x (a ∷ []) h k refl is last
-  each_but_last x [] h k is each last = each_short x [] h k refl is last
+  each_but_last x s h k is each last = each_short x s h k refl is last
 
   one_short : (x : X) (s : List Bool) (h : List Bool → Option X) (k level : ℕ) (o : Option X) → nodes_above s ≡ [] ∷ [] → k ≡ 0 → level ≤ k → h (take (5 * level) s) ≡ o →
       filter_map h (nodes_above s) ≡ option_to_list o ++ replicate (k - (level + 1)) x
@@ -97,11 +93,7 @@ module _ {X : Type 0} where
       (λ less. ap h (sym (take_five k a b c d e s)) ∙ last (omega arith)) in
       first_five h a b c d e s ∙ ap₂ (λ y xs. cons_option y xs) (none 0 (omega arith)) rest
       ∙ ap (λ n. option_to_list o ++ replicate n x) (let f : k - (level + 1) ≡ suc k - (suc level + 1) = omega arith in f)
-  from_level x (a ∷ b ∷ c ∷ d ∷ []) h k level o is within none here each last = one_short x (a ∷ b ∷ c ∷ d ∷ []) h k level o refl is within here
-  from_level x (a ∷ b ∷ c ∷ []) h k level o is within none here each last = one_short x (a ∷ b ∷ c ∷ []) h k level o refl is within here
-  from_level x (a ∷ b ∷ []) h k level o is within none here each last = one_short x (a ∷ b ∷ []) h k level o refl is within here
-  from_level x (a ∷ []) h k level o is within none here each last = one_short x (a ∷ []) h k level o refl is within here
-  from_level x [] h k level o is within none here each last = one_short x [] h k level o refl is within here
+  from_level x s h k level o is within none here each last = one_short x s h k level o refl is within here
 
 -- ---- the child blocks that an insertion needs
 
