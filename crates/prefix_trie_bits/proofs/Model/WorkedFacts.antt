@@ -12,7 +12,7 @@ use Rattle.prefix_trie_bits.specs.Model.Visits.{visits_of_match, visits_to_match
 use Rattle.prefix_trie_bits.specs.Model.WritingWalk.{WritingWalk, walk_over}
 use Rattle.prefix_trie_bits.specs.Model.Step.{State}
 use Rattle.prefix_trie_bits.specs.Rows.Examples.{path_at, back_at}
-use Rattle.prefix_trie_bits.specs.Facts.{Visits32, Visits128, VisitsToMatch, TwoFarKeys, KeptTree, OwnEntries, SmallestSizes, GrownCells, GrownNodes, NoBlocks, OddAskings, WrittenWalk, HandedOut, FactsHold}
+use Rattle.prefix_trie_bits.specs.Facts.{FactsHold}
 use Rattle.prefix_trie_bits.specs.Facts.Blocks.{at_slot}
 use Rattle.prefix_trie_bits.proofs.Model.Plain.{keys_of, Shows, Marks, needed-is, needed_marks, pruned_marks, marks_not_below, nodes_without_below-is}
 use Rattle.prefix_trie_bits.proofs.Model.Ordered.{entries-retained}
@@ -53,171 +53,125 @@ own_in p es = length (filter (λ s. begins p s && nat_lt (length s) (length p + 
 abbrev pub children_in : List Bool → Marks → ℕ
 children_in p ns = length (filter (λ s. begins p s && (length s == length p + 5)) (keys_of ns))
 
-visits32 : Visits32
-unfolding digits number begins
-visits32 = leads refl (λ t s. (
-  said (λ es ns. visits_in (path_at 32 (0x01020301, 32)) ns) t s,
-  to_match t.entries t.nodes (path_at 32 (0x01020301, 32)) ∙ said (λ es ns. to_match_in (path_at 32 (0x01020301, 32)) es ns) t s,
-  said (λ es ns. visits_in (path_at 32 (0x01020301, 29)) ns) t s,
-  said (λ es ns. visits_in (path_at 32 (0x81020301, 32)) ns) t s,
-))
-
-visits128 : Visits128
-unfolding digits number begins
-visits128 = leads refl (λ t s. (
-  said (λ es ns. visits_in (path_at 128 (1, 128)) ns) t s,
-  to_match t.entries t.nodes (path_at 128 (1, 128)) ∙ said (λ es ns. to_match_in (path_at 128 (1, 128)) es ns) t s,
-))
-
-visits_to_first : VisitsToMatch
-unfolding digits number begins
-visits_to_first = leads refl (λ t s. (
-  said (λ es ns. visits_in (path_at 32 (0x0a010100, 24)) ns) t s,
-  to_match t.entries t.nodes (path_at 32 (0x0a010100, 24)) ∙ said (λ es ns. to_match_in (path_at 32 (0x0a010100, 24)) es ns) t s,
-))
-
-two_far_keys : TwoFarKeys
-unfolding digits number begins
-two_far_keys = leads refl (λ t s. (
-  said (λ es ns. length (parents_in ns)) t s,
-  said (λ es ns. length (holders_in es ns)) t s,
-  said (λ es ns. children_in [] ns) t s,
-  said (λ es ns. children_in (path_at 32 (0, 5)) ns) t s,
-))
-
-kept_tree : KeptTree
-unfolding digits number begins
-kept_tree = leads refl (λ t s. (
-  said (λ es ns. length (parents_in ns)) t s,
-  said (λ es ns. holders_in es ns) t s,
-  said (λ es ns. visits_in (path_at 32 (0, 32)) ns) t s,
-))
-
-own : OwnEntries
-unfolding digits number begins
-own = leads refl (λ t s. (
-  said (λ es ns. own_in [] es) t s,
-  said (λ es ns. own_in (path_at 8 (0, 5)) es) t s,
-  said (λ es ns. length (holders_in es ns)) t s,
-  said (λ es ns. children_in [] ns) t s,
-))
-
-smallest : SmallestSizes
-smallest = record { three = refl; eight = refl; nine = refl; twenty_five = refl; children_25 = refl; too_many = refl }
-
 -- a block at the front goes to the end
 abbrev to_end : List (ℕ × ℕ)
 to_end = (5, 6) ∷ (4, 5) ∷ (3, 4) ∷ (2, 3) ∷ (1, 2) ∷ (0, 1) ∷ []
 
-cells : GrownCells
-cells = record {
-  blocks = at_slot 0 1 ∷ at_slot 1 2 ∷ at_slot 3 4 ∷ at_slot 7 8 ∷ at_slot 15 16 ∷ at_slot 31 24 ∷ at_slot 55 31 ∷ [];
-  tiles = ((0, lit< tt, refl), refl, ((1, lit< tt, refl), refl, ((2, lit< tt, refl), refl, ((3, lit< tt, refl), refl, ((4, lit< tt, refl), refl, ((5, lit< tt, refl), refl, ((6, lit< tt, refl), refl, refl)))))));
-  rearranged = record { moves = to_end; below = (lit< tt, lit< tt, (lit< tt, lit< tt, (lit< tt, lit< tt, (lit< tt, lit< tt, (lit< tt, lit< tt, (lit< tt, lit< tt, tt)))))); is = refl };
-}
+abbrev behind_in : List (List Bool × ℕ) → List (List Bool)
+behind_in es = keys_of (filter (λ e. is_lt (listing_cmp (path_at 8 (5, 8)) e.0)) es)
 
-nodes : GrownNodes
-nodes = record {
-  blocks = at_slot 1 1 ∷ at_slot 2 2 ∷ at_slot 4 4 ∷ at_slot 8 8 ∷ at_slot 16 16 ∷ at_slot 32 24 ∷ at_slot 56 32 ∷ [];
-  tiles = ((0, lit< tt, refl), refl, ((1, lit< tt, refl), refl, ((2, lit< tt, refl), refl, ((3, lit< tt, refl), refl, ((4, lit< tt, refl), refl, ((5, lit< tt, refl), refl, ((6, lit< tt, refl), refl, refl)))))));
-  rearranged = record { moves = to_end; below = (lit< tt, lit< tt, (lit< tt, lit< tt, (lit< tt, lit< tt, (lit< tt, lit< tt, (lit< tt, lit< tt, (lit< tt, lit< tt, tt)))))); is = refl };
-}
+abbrev left_marks : List Bool → List (List Bool × ℕ) → Marks → Marks
+left_marks q es ns = cond (is_some (find listing_cmp (home q) ns)) (pruned_marks (marks_not_below ns q) (keys_of (filter (λ e. not (begins q e.0)) es)) q) ns
 
-empty_array : NoBlocks
-empty_array = record { blocks = []; tiles = refl; rearranged = record { moves = []; below = tt; is = refl } }
-
-odd_askings : OddAskings
-odd_askings = (
-  true,
-  1,
-  _,
-  (refl, refl),
-  (
-    false,
-    2,
+pub facts_hold : FactsHold
+unfolding digits number begins
+facts_hold = record {
+  visits32 = leads refl (λ t s. (
+    said (λ es ns. visits_in (path_at 32 (0x01020301, 32)) ns) t s,
+    to_match t.entries t.nodes (path_at 32 (0x01020301, 32)) ∙ said (λ es ns. to_match_in (path_at 32 (0x01020301, 32)) es ns) t s,
+    said (λ es ns. visits_in (path_at 32 (0x01020301, 29)) ns) t s,
+    said (λ es ns. visits_in (path_at 32 (0x81020301, 32)) ns) t s,
+  ));
+  visits128 = leads refl (λ t s. (
+    said (λ es ns. visits_in (path_at 128 (1, 128)) ns) t s,
+    to_match t.entries t.nodes (path_at 128 (1, 128)) ∙ said (λ es ns. to_match_in (path_at 128 (1, 128)) es ns) t s,
+  ));
+  visits_to_first = leads refl (λ t s. (
+    said (λ es ns. visits_in (path_at 32 (0x0a010100, 24)) ns) t s,
+    to_match t.entries t.nodes (path_at 32 (0x0a010100, 24)) ∙ said (λ es ns. to_match_in (path_at 32 (0x0a010100, 24)) es ns) t s,
+  ));
+  two_far_keys = leads refl (λ t s. (
+    said (λ es ns. length (parents_in ns)) t s,
+    said (λ es ns. length (holders_in es ns)) t s,
+    said (λ es ns. children_in [] ns) t s,
+    said (λ es ns. children_in (path_at 32 (0, 5)) ns) t s,
+  ));
+  kept_tree = leads refl (λ t s. (
+    said (λ es ns. length (parents_in ns)) t s,
+    said (λ es ns. holders_in es ns) t s,
+    said (λ es ns. visits_in (path_at 32 (0, 32)) ns) t s,
+  ));
+  own = leads refl (λ t s. (
+    said (λ es ns. own_in [] es) t s,
+    said (λ es ns. own_in (path_at 8 (0, 5)) es) t s,
+    said (λ es ns. length (holders_in es ns)) t s,
+    said (λ es ns. children_in [] ns) t s,
+  ));
+  smallest = record { three = refl; eight = refl; nine = refl; twenty_five = refl; children_25 = refl; too_many = refl };
+  cells = record {
+    blocks = at_slot 0 1 ∷ at_slot 1 2 ∷ at_slot 3 4 ∷ at_slot 7 8 ∷ at_slot 15 16 ∷ at_slot 31 24 ∷ at_slot 55 31 ∷ [];
+    tiles = ((0, lit< tt, refl), refl, ((1, lit< tt, refl), refl, ((2, lit< tt, refl), refl, ((3, lit< tt, refl), refl, ((4, lit< tt, refl), refl, ((5, lit< tt, refl), refl, ((6, lit< tt, refl), refl, refl)))))));
+    rearranged = record { moves = to_end; below = (lit< tt, lit< tt, (lit< tt, lit< tt, (lit< tt, lit< tt, (lit< tt, lit< tt, (lit< tt, lit< tt, (lit< tt, lit< tt, tt)))))); is = refl };
+  };
+  nodes = record {
+    blocks = at_slot 1 1 ∷ at_slot 2 2 ∷ at_slot 4 4 ∷ at_slot 8 8 ∷ at_slot 16 16 ∷ at_slot 32 24 ∷ at_slot 56 32 ∷ [];
+    tiles = ((0, lit< tt, refl), refl, ((1, lit< tt, refl), refl, ((2, lit< tt, refl), refl, ((3, lit< tt, refl), refl, ((4, lit< tt, refl), refl, ((5, lit< tt, refl), refl, ((6, lit< tt, refl), refl, refl)))))));
+    rearranged = record { moves = to_end; below = (lit< tt, lit< tt, (lit< tt, lit< tt, (lit< tt, lit< tt, (lit< tt, lit< tt, (lit< tt, lit< tt, (lit< tt, lit< tt, tt)))))); is = refl };
+  };
+  empty_array = record { blocks = []; tiles = refl; rearranged = record { moves = []; below = tt; is = refl } };
+  odd_askings = (
+    true,
+    1,
     _,
     (refl, refl),
     (
-      true,
-      3,
+      false,
+      2,
       _,
       (refl, refl),
       (
-        false,
-        4,
+        true,
+        3,
         _,
         (refl, refl),
-        (true, 5, _, (refl, refl), refl, refl),
+        (
+          false,
+          4,
+          _,
+          (refl, refl),
+          (true, 5, _, (refl, refl), refl, refl),
+          refl,
+        ),
         refl,
       ),
       refl,
     ),
     refl,
-  ),
-  refl,
-)
-
-abbrev behind_in : List (List Bool × ℕ) → List (List Bool)
-behind_in es = keys_of (filter (λ e. is_lt (listing_cmp (path_at 8 (5, 8)) e.0)) es)
-
-written : WrittenWalk
-unfolding digits number begins
-written = leads refl (λ t s.
-    let a = path_at 8 (6, 8) in
-    let b = path_at 8 (8, 5) in
-    let c = path_at 8 (128, 1) in
-    let m1 = with_entry t.entries a 13 in
-    let m2 = with_entry m1 b 14 in
-    let m3 = with_entry m2 c 15 in
-    let w0 : WritingWalk ℕ = walk_over t.entries t.nodes (listing_after t.entries (path_at 8 (5, 8))) in
-    let w1 : WritingWalk ℕ = record { entries = m1; nodes = t.nodes; to_come = b ∷ c ∷ []; lent = Some a } in
-    let w2 : WritingWalk ℕ = record { entries = m2; nodes = t.nodes; to_come = c ∷ []; lent = Some b } in
-    let w3 : WritingWalk ℕ = record { entries = m3; nodes = t.nodes; to_come = []; lent = Some c } in
-    let w4 : WritingWalk ℕ = record { entries = m3; nodes = t.nodes; to_come = []; lent = None } in (
-      w1,
-      w2,
-      w3,
-      w4,
-      (record { entries = t.entries; nodes = t.nodes; to_come = b ∷ c ∷ []; lent = Some a }, (said (λ es ns. behind_in es) t s, refl), (a, refl, refl)),
-      (record { entries = m1; nodes = t.nodes; to_come = c ∷ []; lent = Some b }, (refl, refl), (b, refl, refl)),
-      (record { entries = m2; nodes = t.nodes; to_come = []; lent = Some c }, (refl, refl), (c, refl, refl)),
-      (refl, refl),
-      ap (map (λ e. e.1)) (entries-insert listing_total m2 c 15 ∙ ap (put listing_cmp c 15) (entries-insert listing_total m1 b 14 ∙ ap (put listing_cmp b 14) (entries-insert listing_total t.entries a 13 ∙ ap (put listing_cmp a 13) s.of_entries))),
-    ))
-
-abbrev left_marks : List Bool → List (List Bool × ℕ) → Marks → Marks
-left_marks q es ns = cond (is_some (find listing_cmp (home q) ns)) (pruned_marks (marks_not_below ns q) (keys_of (filter (λ e. not (begins q e.0)) es)) q) ns
-
-handed : HandedOut
-unfolding digits number begins
-handed = leads refl (λ t s.
-    let q = path_at 32 (0xc0a80000, 22) in
-    let m = part_below t.entries q in
-    let listed = entries-retained t.entries (λ k. begins q k) ∙ ap (filter (λ e. begins q e.0)) s.of_entries in
-    let left = entries-retained t.entries (λ k. not (begins q k)) ∙ ap (filter (λ e. not (begins q e.0))) s.of_entries in (
-      record { entries = m; nodes = needed m },
-      record { entries = without_below t.entries q; nodes = nodes_without_below t.nodes t.entries q },
-      record { handed = refl; handed_nodes = refl; left = refl; left_nodes = refl },
-      ap (shown (back_at 32)) listed,
-      len-entries (needed m) ∙ ap length (needed-is m ∙ ap (λ es. needed_marks (keys_of es)) listed),
-      ap (own_in (path_at 32 (0xc0a80000, 20))) listed,
-      ap (map (λ e. e.1)) left,
-      len-entries (nodes_without_below t.nodes t.entries q) ∙ ap length (nodes_without_below-is t.nodes t.entries q) ∙ said (λ es ns. length (left_marks q es ns)) t s,
-    ))
-
-pub facts_hold : FactsHold
-facts_hold = record {
-  visits32 = visits32;
-  visits128 = visits128;
-  visits_to_first = visits_to_first;
-  two_far_keys = two_far_keys;
-  kept_tree = kept_tree;
-  own = own;
-  smallest = smallest;
-  cells = cells;
-  nodes = nodes;
-  empty_array = empty_array;
-  odd_askings = odd_askings;
-  written = written;
-  handed = handed;
+  );
+  written = leads refl (λ t s.
+      let a = path_at 8 (6, 8) in
+      let b = path_at 8 (8, 5) in
+      let c = path_at 8 (128, 1) in
+      let m1 = with_entry t.entries a 13 in
+      let m2 = with_entry m1 b 14 in
+      let m3 = with_entry m2 c 15 in
+      let w0 : WritingWalk ℕ = walk_over t.entries t.nodes (listing_after t.entries (path_at 8 (5, 8))) in
+      let w1 : WritingWalk ℕ = record { entries = m1; nodes = t.nodes; to_come = b ∷ c ∷ []; lent = Some a } in
+      let w2 : WritingWalk ℕ = record { entries = m2; nodes = t.nodes; to_come = c ∷ []; lent = Some b } in
+      let w3 : WritingWalk ℕ = record { entries = m3; nodes = t.nodes; to_come = []; lent = Some c } in
+      let w4 : WritingWalk ℕ = record { entries = m3; nodes = t.nodes; to_come = []; lent = None } in (
+        w1,
+        w2,
+        w3,
+        w4,
+        (record { entries = t.entries; nodes = t.nodes; to_come = b ∷ c ∷ []; lent = Some a }, (said (λ es ns. behind_in es) t s, refl), (a, refl, refl)),
+        (record { entries = m1; nodes = t.nodes; to_come = c ∷ []; lent = Some b }, (refl, refl), (b, refl, refl)),
+        (record { entries = m2; nodes = t.nodes; to_come = []; lent = Some c }, (refl, refl), (c, refl, refl)),
+        (refl, refl),
+        ap (map (λ e. e.1)) (entries-insert listing_total m2 c 15 ∙ ap (put listing_cmp c 15) (entries-insert listing_total m1 b 14 ∙ ap (put listing_cmp b 14) (entries-insert listing_total t.entries a 13 ∙ ap (put listing_cmp a 13) s.of_entries))),
+      ));
+  handed = leads refl (λ t s.
+      let q = path_at 32 (0xc0a80000, 22) in
+      let m = part_below t.entries q in
+      let listed = entries-retained t.entries (λ k. begins q k) ∙ ap (filter (λ e. begins q e.0)) s.of_entries in
+      let left = entries-retained t.entries (λ k. not (begins q k)) ∙ ap (filter (λ e. not (begins q e.0))) s.of_entries in (
+        record { entries = m; nodes = needed m },
+        record { entries = without_below t.entries q; nodes = nodes_without_below t.nodes t.entries q },
+        record { handed = refl; handed_nodes = refl; left = refl; left_nodes = refl },
+        ap (shown (back_at 32)) listed,
+        len-entries (needed m) ∙ ap length (needed-is m ∙ ap (λ es. needed_marks (keys_of es)) listed),
+        ap (own_in (path_at 32 (0xc0a80000, 20))) listed,
+        ap (map (λ e. e.1)) left,
+        len-entries (nodes_without_below t.nodes t.entries q) ∙ ap length (nodes_without_below-is t.nodes t.entries q) ∙ said (λ es ns. length (left_marks q es ns)) t s,
+      ));
 }

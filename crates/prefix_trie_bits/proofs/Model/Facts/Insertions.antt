@@ -12,7 +12,7 @@ use Rattle.prefix_trie_bits.specs.Model.Insertion.{block_needed, gains_child, ch
 use Rattle.prefix_trie_bits.specs.Model.Step.{State}
 use Rattle.prefix_trie_bits.specs.Rows.Examples.{path_at, full_pairs}
 use Rattle.prefix_trie_bits.specs.Facts.Blocks.{none_free}
-use Rattle.prefix_trie_bits.specs.Facts.Insertions.{Blocks, by_path, sizes_at, layout_at, with_one, ones_free, lacking, far_children, far_layout, FirstKey, FreedBlocks, FarKey, FullBlock, BlockWithRoom, FreeBlockServes, FullChildBlock, ThreeSlots, FiveBitsMore, InsertionsHold}
+use Rattle.prefix_trie_bits.specs.Facts.Insertions.{Blocks, by_path, sizes_at, layout_at, with_one, ones_free, lacking, far_children, far_layout, InsertionsHold}
 use Rattle.prefix_trie_bits.proofs.Model.Plain.{Shows, Marks}
 use Rattle.prefix_trie_bits.proofs.Model.Ordered.{entries-empty}
 use Rattle.prefix_trie_bits.proofs.Model.Played.{leads}
@@ -96,94 +96,59 @@ pub neither_more : (limit a b lack_a lack_b n m : ℕ) → lack_a ≡ n → lack
 neither_more limit a b lack_a lack_b n m e f p q (inl l) = absurd (omega arith)
 neither_more limit a b lack_a lack_b n m e f p q (inr l) = absurd (omega arith)
 
-first_key : FirstKey
-unfolding digits number begins
-first_key = leads refl (λ t s.
-    let long = lacks_new 32 t (0, 32) s in
-    let short = lacks_new 32 t (0, 4) s in (
-      long,
-      short,
-      inl (more 4 1 _ 6 (ap (λ x. x.0) long) (lit< tt)),
-      neither_more 4 1 0 _ _ 0 1 (ap (λ x. x.0) short) (ap (λ x. x.1) short) (lit≤ tt) (lit≤ tt),
-    ))
-
-freed : FreedBlocks
-unfolding digits number begins
-freed = leads refl (λ t s. lacks 32 t [] [] (ones_free 6) (ones_free 1) (0xffffffff, 32) s tt tt)
-
 abbrev far_values : Blocks
 far_values = ((0xfffffffc, 30), 1) ∷ []
-
-far_key : FarKey
-unfolding digits number begins
-far_key = leads refl (λ t s.
-    let q = path_at 32 (0, 32) in
-    let children = sizes-is 32 far_children tt in
-    let values = sizes-is 32 far_values tt in
-    let gaining : List (ℕ × ℕ) = (0, 0) ∷ (0, 5) ∷ (0, 25) ∷ (0, 30) ∷ (0xf8000000, 5) ∷ (0, 3) ∷ [] in
-    let parents : List (ℕ × ℕ) = (0, 0) ∷ (0, 5) ∷ (0, 30) ∷ [] in
-    let owners : List (ℕ × ℕ) = (0, 30) ∷ (0, 0) ∷ (0, 25) ∷ [] in (
-      lacks 32 t far_children far_values none_free none_free (0, 32) s tt tt,
-      gains-all t.nodes q gaining ∙ ap (λ ns. map (λ p. gains_in ns q (path_at 32 p)) gaining) s.of_nodes,
-      children-all t.nodes far_layout.child_blocks q parents ∙ ap₂ (λ ns bs. map (λ p. child_needed_in ns bs q (path_at 32 p)) parents) s.of_nodes children,
-      values-all t.entries far_layout.value_blocks q owners ∙ ap₂ (λ es bs. map (λ p. value_needed_in es bs q (path_at 32 p)) owners) s.of_entries values,
-      gains-is t.nodes (path_at 32 (0xfffffffe, 32)) (path_at 32 (0xffffff80, 25))
-          ∙ ap (λ ns. gains_in ns (path_at 32 (0xfffffffe, 32)) (path_at 32 (0xffffff80, 25))) s.of_nodes,
-      lacks 32 t far_children far_values none_free none_free (0xfffffffe, 32) s tt tt,
-    ))
 
 abbrev five_free : List ℕ
 five_free = 1 ∷ 1 ∷ 1 ∷ 1 ∷ 1 ∷ 0 ∷ 0 ∷ []
 
-full : FullBlock
-unfolding digits number begins
-full = leads refl (λ t s. lacks 8 t [] (((0, 0), 24) ∷ []) none_free five_free (192, 2) s tt tt)
-
-with_room : BlockWithRoom
-unfolding digits number begins
-with_room = leads refl (λ t s. lacks 8 t [] (((0, 0), 24) ∷ []) none_free five_free (176, 4) s tt tt)
-
-free_serves : FreeBlockServes
-unfolding digits number begins
-free_serves = leads refl (λ t s. (
-  said (λ es ns. own_in [] es) t s,
-  lacks 8 t [] (((0, 0), 24) ∷ []) none_free (1 ∷ 1 ∷ 1 ∷ 1 ∷ 1 ∷ 0 ∷ 1 ∷ []) (240, 4) s tt tt,
-))
-
-children : FullChildBlock
-unfolding digits number begins
-children = leads refl (λ t s. (
-  said (λ es ns. children_in [] ns) t s,
-  lacks 5 t (((0, 0), 24) ∷ []) (map with_one (take 24 (full_pairs 5))) five_free none_free (24, 5) s tt tt,
-))
-
-three : ThreeSlots
-unfolding digits number begins
-three = leads refl (λ t s.
-    let third = lacks 8 t (((0, 0), 1) ∷ []) (((0, 0), 2) ∷ ((0, 5), 1) ∷ []) none_free none_free (64, 2) s tt tt in (
-      third,
-      inr (more 3 3 _ 4 (ap (λ x. x.1) third) (lit< tt)),
-      neither_more 7 2 3 _ _ 0 4 (ap (λ x. x.0) third) (ap (λ x. x.1) third) (lit≤ tt) (lit≤ tt),
-    ))
-
-five_bits : FiveBitsMore
-unfolding digits number begins
-five_bits = leads refl (λ t s. (
-  said (λ es ns. holders_in es ns) t s,
-  said (λ es ns. own_in [] es) t s,
-  said (λ es ns. own_in (path_at 8 (0, 5)) es) t s,
-  said (λ es ns. parents_in ns) t s,
-))
-
 pub insertions_hold : InsertionsHold
+unfolding digits number begins
 insertions_hold = record {
-  first_key = first_key;
-  freed = freed;
-  far_key = far_key;
-  full = full;
-  with_room = with_room;
-  free_serves = free_serves;
-  children = children;
-  three = three;
-  five_bits = five_bits;
+  first_key = leads refl (λ t s.
+      let long = lacks_new 32 t (0, 32) s in
+      let short = lacks_new 32 t (0, 4) s in (
+        long,
+        short,
+        inl (more 4 1 _ 6 (ap (λ x. x.0) long) (lit< tt)),
+        neither_more 4 1 0 _ _ 0 1 (ap (λ x. x.0) short) (ap (λ x. x.1) short) (lit≤ tt) (lit≤ tt),
+      ));
+  freed = leads refl (λ t s. lacks 32 t [] [] (ones_free 6) (ones_free 1) (0xffffffff, 32) s tt tt);
+  far_key = leads refl (λ t s.
+      let q = path_at 32 (0, 32) in
+      let children = sizes-is 32 far_children tt in
+      let values = sizes-is 32 far_values tt in
+      let gaining : List (ℕ × ℕ) = (0, 0) ∷ (0, 5) ∷ (0, 25) ∷ (0, 30) ∷ (0xf8000000, 5) ∷ (0, 3) ∷ [] in
+      let parents : List (ℕ × ℕ) = (0, 0) ∷ (0, 5) ∷ (0, 30) ∷ [] in
+      let owners : List (ℕ × ℕ) = (0, 30) ∷ (0, 0) ∷ (0, 25) ∷ [] in (
+        lacks 32 t far_children far_values none_free none_free (0, 32) s tt tt,
+        gains-all t.nodes q gaining ∙ ap (λ ns. map (λ p. gains_in ns q (path_at 32 p)) gaining) s.of_nodes,
+        children-all t.nodes far_layout.child_blocks q parents ∙ ap₂ (λ ns bs. map (λ p. child_needed_in ns bs q (path_at 32 p)) parents) s.of_nodes children,
+        values-all t.entries far_layout.value_blocks q owners ∙ ap₂ (λ es bs. map (λ p. value_needed_in es bs q (path_at 32 p)) owners) s.of_entries values,
+        gains-is t.nodes (path_at 32 (0xfffffffe, 32)) (path_at 32 (0xffffff80, 25))
+            ∙ ap (λ ns. gains_in ns (path_at 32 (0xfffffffe, 32)) (path_at 32 (0xffffff80, 25))) s.of_nodes,
+        lacks 32 t far_children far_values none_free none_free (0xfffffffe, 32) s tt tt,
+      ));
+  full = leads refl (λ t s. lacks 8 t [] (((0, 0), 24) ∷ []) none_free five_free (192, 2) s tt tt);
+  with_room = leads refl (λ t s. lacks 8 t [] (((0, 0), 24) ∷ []) none_free five_free (176, 4) s tt tt);
+  free_serves = leads refl (λ t s. (
+    said (λ es ns. own_in [] es) t s,
+    lacks 8 t [] (((0, 0), 24) ∷ []) none_free (1 ∷ 1 ∷ 1 ∷ 1 ∷ 1 ∷ 0 ∷ 1 ∷ []) (240, 4) s tt tt,
+  ));
+  children = leads refl (λ t s. (
+    said (λ es ns. children_in [] ns) t s,
+    lacks 5 t (((0, 0), 24) ∷ []) (map with_one (take 24 (full_pairs 5))) five_free none_free (24, 5) s tt tt,
+  ));
+  three = leads refl (λ t s.
+      let third = lacks 8 t (((0, 0), 1) ∷ []) (((0, 0), 2) ∷ ((0, 5), 1) ∷ []) none_free none_free (64, 2) s tt tt in (
+        third,
+        inr (more 3 3 _ 4 (ap (λ x. x.1) third) (lit< tt)),
+        neither_more 7 2 3 _ _ 0 4 (ap (λ x. x.0) third) (ap (λ x. x.1) third) (lit≤ tt) (lit≤ tt),
+      ));
+  five_bits = leads refl (λ t s. (
+    said (λ es ns. holders_in es ns) t s,
+    said (λ es ns. own_in [] es) t s,
+    said (λ es ns. own_in (path_at 8 (0, 5)) es) t s,
+    said (λ es ns. parents_in ns) t s,
+  ));
 }

@@ -13,7 +13,7 @@ use Rattle.prefix_trie_bits.specs.Laws.Determined.{is_refusal}
 use Rattle.prefix_trie_bits.specs.Rows.Examples.{path_at, back_at, sets}
 use Rattle.prefix_trie_bits.specs.Facts.Blocks.{none_free}
 use Rattle.prefix_trie_bits.specs.Facts.Insertions.{Blocks, sizes_at, three_slots}
-use Rattle.prefix_trie_bits.specs.Facts.Steps.{two_free, four_free, root_child, root_value, child_value, RemoveFacts, PruneFacts, KeepTreeFacts, RetainFacts, InsertFacts, Takes, TakenFacts, KeepsFacts, FilledFacts, StepsHold}
+use Rattle.prefix_trie_bits.specs.Facts.Steps.{two_free, four_free, root_child, root_value, child_value, Takes, KeepsFacts, FilledFacts, StepsHold}
 use Rattle.prefix_trie_bits.proofs.Model.Plain.{Shows, Marks, play, step_at, has-is}
 use Rattle.prefix_trie_bits.proofs.Model.Played.{last_entries, last_marks, leads}
 use Rattle.prefix_trie_bits.proofs.Model.WorkedFacts.{said, own_in, children_in}
@@ -104,75 +104,6 @@ other o p a b e f answers is = unlike a b answers (sym e ∙ is ∙ f)
 no_fewer : (before after made : ℕ) → after ≡ before + made → before ≤ after
 no_fewer before after made e = omega arith
 
-remove : (t : State ℕ) → Shows t es8 ns8 → RemoveFacts t
-unfolding digits number begins
-remove t s = record {
-  not_lost = λ reply u h. lost value_block_sizes (root_value 2) (root_value 1) none_free none_free 2 tt tt (1, lit< tt, refl) (lit< tt) (λ size c. no_fewer _ _ _ (h.storage.0.value_blocks_made size c));
-  not_by_two = λ reply u h. by_wrong value_block_sizes none_free _ _ 3 5 1 (block_at (root_value 1) [] tt) refl refl h.storage.0.cells_longer;
-  not_another = λ reply u h.
-      let p = path_at 8 (0, 5) in
-      let v = after t u (Remove (0, 1)) reply s (ap is_refusal h.step.0) refl h.step in
-      other _ _ 2 1 (block_at (((0, 0), 2) ∷ ((0, 5), 2) ∷ []) p tt) (block_at (root_value 2) p tt) refl
-      ((h.storage.0.value_blocks.at_nodes p (has t p s)).same (said (λ es ns. own_in p es) u v ∙ sym (said (λ es ns. own_in p es) t s)));
-  not_elsewhere = λ reply u h.
-      let p = path_at 8 (128, 5) in
-      there _ 1 (block_at (((0, 0), 2) ∷ ((0, 5), 1) ∷ ((128, 5), 1) ∷ []) p tt) (h.storage.0.value_blocks.elsewhere p (has t p s));
-  not_nodes_longer = λ reply u h. by_none child_block_sizes none_free _ 2 3 refl h.storage.1.nodes_longer.1;
-  not_children = λ reply u h.
-      let v = after t u (Remove (0, 1)) reply s (ap is_refusal h.step.0) refl h.step in
-      other _ _ 2 1 (block_at (((0, 0), 2) ∷ []) [] tt) (block_at root_child [] tt) refl
-      ((h.storage.1.child_blocks.at_nodes [] (has t [] s)).same (said (λ es ns. children_in [] ns) u v ∙ sym (said (λ es ns. children_in [] ns) t s)));
-  not_limit = λ reply u h. differ 11 10 refl h.room.same_limit;
-}
-
-prune : (t : State ℕ) → Shows t es8 ns8 → PruneFacts t
-unfolding digits number begins
-prune t s = record {
-  not_with_values = λ reply u h.
-      let p = path_at 8 (0, 5) in
-      let v = after t u (Remove (0, 5)) reply s (ap is_refusal h.step.0) refl h.step in
-      there _ 1 (block_at (root_value 2) p tt) ((h.storage.0.value_blocks.at_nodes p (has t p s)).none (said (λ es ns. own_in p es) u v));
-  not_with_children = λ reply u h.
-      let v = after t u (Remove (0, 5)) reply s (ap is_refusal h.step.0) refl h.step in
-      there _ 1 (block_at root_child [] tt) ((h.storage.1.child_blocks.at_nodes [] (has t [] s)).none (said (λ es ns. children_in [] ns) u v));
-  not_lost = λ reply u h. lost child_block_sizes root_child [] none_free none_free 1 tt tt (0, lit< tt, refl) (lit< tt) (λ size c. (h.storage.1.nodes_longer.2 size c).0);
-}
-
-keep_tree : (t : State ℕ) → Shows t es8 ns8 → KeepTreeFacts t
-unfolding digits number begins
-keep_tree t s = record {
-  not_children = λ reply u h.
-      let p = path_at 8 (0, 5) in
-      there _ 1 (block_at (((0, 0), 1) ∷ ((0, 5), 1) ∷ []) p tt) (ap (λ b. get b p) h.storage.2 ∙ block_at root_child p tt);
-  not_freed = λ reply u h. differ 1 0 refl (ap (λ free. get_or free 0 0) h.storage.3);
-  not_nodes_longer = λ reply u h. differ 3 2 refl h.storage.1;
-  not_with_values = λ reply u h.
-      let p = path_at 8 (0, 5) in
-      let v = after t u (RemoveKeepTree (0, 5)) reply s (ap is_refusal h.step.0) refl h.step in
-      there _ 1 (block_at (root_value 2) p tt) ((h.storage.0.value_blocks.at_nodes p (has t p s)).none (said (λ es ns. own_in p es) u v));
-  not_lost = λ reply u h. lost value_block_sizes (root_value 2) (((0, 0), 2) ∷ []) none_free none_free 1 tt tt (0, lit< tt, refl) (lit< tt) (λ size c. no_fewer _ _ _ (h.storage.0.value_blocks_made size c));
-}
-
-retain : (t : State ℕ) → Shows t es8 ns8 → RetainFacts t
-unfolding digits number begins
-retain t s = record {
-  not_with_values = λ reply u h.
-      let v = after t u (RetainAtLeast 5) reply s (ap is_refusal h.step.0) refl h.step in
-      there _ 2 (block_at (root_value 2) [] tt) ((h.storage.value_blocks.at_nodes [] (has t [] s)).none (said (λ es ns. own_in [] es) u v));
-  not_lost = λ reply u h. lost value_block_sizes (root_value 2) child_value none_free none_free 2 tt tt (1, lit< tt, refl) (lit< tt) h.storage.keeps.1;
-  not_children = λ reply u h.
-      let v = after t u (RetainAtLeast 5) reply s (ap is_refusal h.step.0) refl h.step in
-      let alike = (h.storage.child_blocks.at_nodes [] (has t [] s)).same (said (λ es ns. children_in [] ns) u v ∙ sym (said (λ es ns. children_in [] ns) t s)) in
-      there _ 1 (block_at root_child [] tt) (sym alike ∙ block_at [] [] tt);
-  not_elsewhere = λ reply u h.
-      let p = path_at 8 (128, 5) in
-      there _ 1 (block_at (((0, 5), 1) ∷ ((128, 5), 1) ∷ []) p tt) (h.storage.value_blocks.elsewhere p (has t p s));
-  not_nodes_longer = λ reply u h. differ 3 2 refl (h.storage.nodes_still refl);
-  not_cells_shorter = λ reply u h. let l : 3 ≤ 2 = h.storage.cell_slots in absurd (omega arith);
-  not_nodes_shorter = λ reply u h. let l : 2 ≤ 1 = h.storage.node_slots in absurd (omega arith);
-  not_cells_longer = λ reply u h. differ 4 3 refl (h.storage.cells_still refl);
-}
-
 -- more slots than were there and lacked
 too_many : (now before lack n : ℕ) → lack ≡ n → before + n < now → now ≤ before + lack → ⊥
 too_many now before lack n e l m = absurd (omega arith)
@@ -183,27 +114,6 @@ none_lack a b e f l = absurd (omega arith)
 lost_value : LosesNoBlock value_block_sizes (sizes_at 8 (root_value 2)) none_free (sizes_at 8 (root_value 4)) none_free → ⊥
 unfolding digits number begins
 lost_value = lost value_block_sizes (root_value 2) (root_value 4) none_free none_free 2 tt tt (1, lit< tt, refl) (lit< tt)
-
-insert : (t : State ℕ) → Shows t es8 ns8 → InsertFacts t
-unfolding digits number begins
-insert t s =
-    let q = path_at 8 (64, 2) in
-    let lacking = lacks 8 t root_child (root_value 2) none_free none_free (64, 2) s tt tt in
-    record {
-      not_lost = λ reply u h. elim h.step [
-        | inl done ↦ lost_value (λ size c. no_fewer _ _ _ ((h.storage.1 _ (stored_key t q s) done.0).value_blocks_made size c))
-        | inr refused ↦ lost_value (λ size c. ((h.storage.2 refused.1 refused.2).value_blocks_made size c).0)
-      ];
-      not_refused_for_slots = λ u h. neither_more 10 2 3 _ _ 0 4 (ap (λ x. x.0) lacking) (ap (λ x. x.1) lacking) (lit≤ tt) (lit≤ tt) ((h.storage.2 IndexRange refl).range refl);
-      not_refused_cells_more = λ u h. too_many 8 3 _ 4 (ap (λ x. x.1) lacking) (lit< tt) (h.storage.2 Memory refl).cell_slots.1;
-      not_refused_cells_fewer = λ u h. let l : 3 ≤ 2 = (h.storage.2 Memory refl).cell_slots.0 in absurd (omega arith);
-      not_refused_nodes_more = λ u h. too_many 3 2 _ 0 (ap (λ x. x.0) lacking) (lit< tt) (h.storage.2 Memory refl).node_slots.1;
-      not_refused_nodes_fewer = λ u h. let l : 2 ≤ 1 = (h.storage.2 Memory refl).node_slots.0 in absurd (omega arith);
-      not_refused_lost = λ u h. lost value_block_sizes (root_value 2) (root_value 2) two_free none_free 2 tt tt (1, lit< tt, refl) (lit< tt) (λ size c. ((h.storage.2 Memory refl).value_blocks_made size c).0);
-      not_refused_beside_free = λ u h.
-          let free = lacks 8 t root_child (root_value 2) none_free four_free (64, 2) s tt tt in
-          none_lack _ _ (ap (λ x. x.0) free) (ap (λ x. x.1) free) (h.storage.2 Memory refl).lacks;
-    }
 
 -- what the root needs for its third entry
 needs : (t : State ℕ) → Shows t es8 ns8 → value_block_needed t.entries three_slots.value_blocks (path_at 8 (64, 2)) [] ≡ Some 4
@@ -219,15 +129,6 @@ taken t s [] =
     block_at (root_value 4) [] tt
     ∙ sym (ap (λ o. option_or o (get three_slots.value_blocks [])) (needs t s))
 taken t s (b ∷ p) = block_at (root_value 4) (b ∷ p) tt ∙ sym (block_at (root_value 2) (b ∷ p) tt)
-
-takes : (t : State ℕ) → Shows t es8 ns8 → TakenFacts t
-unfolding digits number begins
-takes t s = record {
-  taken = taken t s;
-  not_as_before = λ h. other _ _ 2 4 (block_at (root_value 2) [] tt) (ap (λ o. option_or o (get three_slots.value_blocks [])) (needs t s)) refl (h []);
-  not_of_eight = λ h. other _ _ 8 4 (block_at (root_value 8) [] tt) (ap (λ o. option_or o (get three_slots.value_blocks [])) (needs t s)) refl (h []);
-  not_another = λ h. other _ _ 2 1 (block_at (((0, 0), 4) ∷ ((0, 5), 2) ∷ []) (path_at 8 (0, 5)) tt) (block_at (root_value 2) (path_at 8 (0, 5)) tt) refl (h (path_at 8 (0, 5)));
-}
 
 -- of each of some sizes
 abbrev Each : (ℕ → Type 0) → List ℕ → Type 0
@@ -261,12 +162,87 @@ keeps = record {
 filled_facts : (t : State ℕ) → Shows t es8 ns8 → FilledFacts t
 unfolding digits number begins
 filled_facts t s = record {
-  remove = remove t s;
-  prune = prune t s;
-  keep_tree = keep_tree t s;
-  retain = retain t s;
-  insert = insert t s;
-  takes = takes t s;
+  remove = record {
+    not_lost = λ reply u h. lost value_block_sizes (root_value 2) (root_value 1) none_free none_free 2 tt tt (1, lit< tt, refl) (lit< tt) (λ size c. no_fewer _ _ _ (h.storage.0.value_blocks_made size c));
+    not_by_two = λ reply u h. by_wrong value_block_sizes none_free _ _ 3 5 1 (block_at (root_value 1) [] tt) refl refl h.storage.0.cells_longer;
+    not_another = λ reply u h.
+        let p = path_at 8 (0, 5) in
+        let v = after t u (Remove (0, 1)) reply s (ap is_refusal h.step.0) refl h.step in
+        other _ _ 2 1 (block_at (((0, 0), 2) ∷ ((0, 5), 2) ∷ []) p tt) (block_at (root_value 2) p tt) refl
+        ((h.storage.0.value_blocks.at_nodes p (has t p s)).same (said (λ es ns. own_in p es) u v ∙ sym (said (λ es ns. own_in p es) t s)));
+    not_elsewhere = λ reply u h.
+        let p = path_at 8 (128, 5) in
+        there _ 1 (block_at (((0, 0), 2) ∷ ((0, 5), 1) ∷ ((128, 5), 1) ∷ []) p tt) (h.storage.0.value_blocks.elsewhere p (has t p s));
+    not_nodes_longer = λ reply u h. by_none child_block_sizes none_free _ 2 3 refl h.storage.1.nodes_longer.1;
+    not_children = λ reply u h.
+        let v = after t u (Remove (0, 1)) reply s (ap is_refusal h.step.0) refl h.step in
+        other _ _ 2 1 (block_at (((0, 0), 2) ∷ []) [] tt) (block_at root_child [] tt) refl
+        ((h.storage.1.child_blocks.at_nodes [] (has t [] s)).same (said (λ es ns. children_in [] ns) u v ∙ sym (said (λ es ns. children_in [] ns) t s)));
+    not_limit = λ reply u h. differ 11 10 refl h.room.same_limit;
+  };
+  prune = record {
+    not_with_values = λ reply u h.
+        let p = path_at 8 (0, 5) in
+        let v = after t u (Remove (0, 5)) reply s (ap is_refusal h.step.0) refl h.step in
+        there _ 1 (block_at (root_value 2) p tt) ((h.storage.0.value_blocks.at_nodes p (has t p s)).none (said (λ es ns. own_in p es) u v));
+    not_with_children = λ reply u h.
+        let v = after t u (Remove (0, 5)) reply s (ap is_refusal h.step.0) refl h.step in
+        there _ 1 (block_at root_child [] tt) ((h.storage.1.child_blocks.at_nodes [] (has t [] s)).none (said (λ es ns. children_in [] ns) u v));
+    not_lost = λ reply u h. lost child_block_sizes root_child [] none_free none_free 1 tt tt (0, lit< tt, refl) (lit< tt) (λ size c. (h.storage.1.nodes_longer.2 size c).0);
+  };
+  keep_tree = record {
+    not_children = λ reply u h.
+        let p = path_at 8 (0, 5) in
+        there _ 1 (block_at (((0, 0), 1) ∷ ((0, 5), 1) ∷ []) p tt) (ap (λ b. get b p) h.storage.2 ∙ block_at root_child p tt);
+    not_freed = λ reply u h. differ 1 0 refl (ap (λ free. get_or free 0 0) h.storage.3);
+    not_nodes_longer = λ reply u h. differ 3 2 refl h.storage.1;
+    not_with_values = λ reply u h.
+        let p = path_at 8 (0, 5) in
+        let v = after t u (RemoveKeepTree (0, 5)) reply s (ap is_refusal h.step.0) refl h.step in
+        there _ 1 (block_at (root_value 2) p tt) ((h.storage.0.value_blocks.at_nodes p (has t p s)).none (said (λ es ns. own_in p es) u v));
+    not_lost = λ reply u h. lost value_block_sizes (root_value 2) (((0, 0), 2) ∷ []) none_free none_free 1 tt tt (0, lit< tt, refl) (lit< tt) (λ size c. no_fewer _ _ _ (h.storage.0.value_blocks_made size c));
+  };
+  retain = record {
+    not_with_values = λ reply u h.
+        let v = after t u (RetainAtLeast 5) reply s (ap is_refusal h.step.0) refl h.step in
+        there _ 2 (block_at (root_value 2) [] tt) ((h.storage.value_blocks.at_nodes [] (has t [] s)).none (said (λ es ns. own_in [] es) u v));
+    not_lost = λ reply u h. lost value_block_sizes (root_value 2) child_value none_free none_free 2 tt tt (1, lit< tt, refl) (lit< tt) h.storage.keeps.1;
+    not_children = λ reply u h.
+        let v = after t u (RetainAtLeast 5) reply s (ap is_refusal h.step.0) refl h.step in
+        let alike = (h.storage.child_blocks.at_nodes [] (has t [] s)).same (said (λ es ns. children_in [] ns) u v ∙ sym (said (λ es ns. children_in [] ns) t s)) in
+        there _ 1 (block_at root_child [] tt) (sym alike ∙ block_at [] [] tt);
+    not_elsewhere = λ reply u h.
+        let p = path_at 8 (128, 5) in
+        there _ 1 (block_at (((0, 5), 1) ∷ ((128, 5), 1) ∷ []) p tt) (h.storage.value_blocks.elsewhere p (has t p s));
+    not_nodes_longer = λ reply u h. differ 3 2 refl (h.storage.nodes_still refl);
+    not_cells_shorter = λ reply u h. let l : 3 ≤ 2 = h.storage.cell_slots in absurd (omega arith);
+    not_nodes_shorter = λ reply u h. let l : 2 ≤ 1 = h.storage.node_slots in absurd (omega arith);
+    not_cells_longer = λ reply u h. differ 4 3 refl (h.storage.cells_still refl);
+  };
+  insert =
+      let q = path_at 8 (64, 2) in
+      let lacking = lacks 8 t root_child (root_value 2) none_free none_free (64, 2) s tt tt in
+      record {
+        not_lost = λ reply u h. elim h.step [
+          | inl done ↦ lost_value (λ size c. no_fewer _ _ _ ((h.storage.1 _ (stored_key t q s) done.0).value_blocks_made size c))
+          | inr refused ↦ lost_value (λ size c. ((h.storage.2 refused.1 refused.2).value_blocks_made size c).0)
+        ];
+        not_refused_for_slots = λ u h. neither_more 10 2 3 _ _ 0 4 (ap (λ x. x.0) lacking) (ap (λ x. x.1) lacking) (lit≤ tt) (lit≤ tt) ((h.storage.2 IndexRange refl).range refl);
+        not_refused_cells_more = λ u h. too_many 8 3 _ 4 (ap (λ x. x.1) lacking) (lit< tt) (h.storage.2 Memory refl).cell_slots.1;
+        not_refused_cells_fewer = λ u h. let l : 3 ≤ 2 = (h.storage.2 Memory refl).cell_slots.0 in absurd (omega arith);
+        not_refused_nodes_more = λ u h. too_many 3 2 _ 0 (ap (λ x. x.0) lacking) (lit< tt) (h.storage.2 Memory refl).node_slots.1;
+        not_refused_nodes_fewer = λ u h. let l : 2 ≤ 1 = (h.storage.2 Memory refl).node_slots.0 in absurd (omega arith);
+        not_refused_lost = λ u h. lost value_block_sizes (root_value 2) (root_value 2) two_free none_free 2 tt tt (1, lit< tt, refl) (lit< tt) (λ size c. ((h.storage.2 Memory refl).value_blocks_made size c).0);
+        not_refused_beside_free = λ u h.
+            let free = lacks 8 t root_child (root_value 2) none_free four_free (64, 2) s tt tt in
+            none_lack _ _ (ap (λ x. x.0) free) (ap (λ x. x.1) free) (h.storage.2 Memory refl).lacks;
+      };
+  takes = record {
+    taken = taken t s;
+    not_as_before = λ h. other _ _ 2 4 (block_at (root_value 2) [] tt) (ap (λ o. option_or o (get three_slots.value_blocks [])) (needs t s)) refl (h []);
+    not_of_eight = λ h. other _ _ 8 4 (block_at (root_value 8) [] tt) (ap (λ o. option_or o (get three_slots.value_blocks [])) (needs t s)) refl (h []);
+    not_another = λ h. other _ _ 2 1 (block_at (((0, 0), 4) ∷ ((0, 5), 2) ∷ []) (path_at 8 (0, 5)) tt) (block_at (root_value 2) (path_at 8 (0, 5)) tt) refl (h (path_at 8 (0, 5)));
+  };
   not_too_small = λ h.
       not_in value_block_sizes 1 1 (lit< tt)
       (subst (λ n. HasBlock value_block_sizes n (Some 1)) (said (λ es ns. own_in [] es) t s)
