@@ -229,11 +229,11 @@ gone_down b len first level node slot matches v gone new takes deeper below plac
 }
 
 -- a walk begins at the root
-pub at_root : (b : List Bool) (len level : ℕ) (node : Node) (slot matches : ℕ) (v : Store Node) → len ≤ length b → level ≡ 0
-    → ((k : List Bool) (n : ℕ) → n ≤ length k → IsOnWay k n 0 node slot v) → AreLeft matches node.value_bitmap (5 * level) (5 * level) (take len b)
+pub at_root : (b : List Bool) (len level : ℕ) (node : Node) (slot matches : ℕ) (v : Store Node) → len ≤ length b
+    → ((k : List Bool) (n : ℕ) → n ≤ length k → IsOnWay k n level node slot v) → AreLeft matches node.value_bitmap (5 * level) (5 * level) (take len b)
     → IsCovering b len level node slot matches (5 * level) v
-at_root b len level node slot matches v long top on_way left = record {
-  on_way = subst (λ n. IsOnWay b len n node slot v) (sym top) (on_way b len long);
+at_root b len level node slot matches v long on_way left = record {
+  on_way = on_way b len long;
   low = omega arith;
   high = omega arith;
   left = left;

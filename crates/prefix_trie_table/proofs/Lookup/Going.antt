@@ -1,8 +1,8 @@
 -- The way down a bit string, as the code follows it on a key.
 use Rattle.std.proofs.Common.{◌≡◌, ℕ, ◌+◌, ◌*◌, ◌/◌, ◌<◌, ◌≤◌, Bool, true, false, List, [], ◌∷◌, ◌++◌, length, get_or, take, drop, Option, Some, is_some, refl, sym, ap, ◌∙◌, subst, arith}
 use Rattle.std.proofs.lemmas.List.{length-take-le, take_more}
-use Rattle.prefix_trie_bits.specs.Bits.{number}
-use Rattle.prefix_trie_bits.specs.Windows.{window-of-front}
+use Rattle.prefix_trie_bits.specs.Bits.{number, zeros}
+use Rattle.prefix_trie_bits.specs.Windows.{window-of-front, IsRest, rest_whole, rest_behind, rest_front}
 use Rattle.prefix_trie_bits.specs.Places.{has, ones_below, value_bit}
 use Rattle.prefix_trie_table.specs.declared.allocator.node.Node.{Node}
 use Rattle.prefix_trie_table.specs.Bitmaps.{has_bit, rank}
@@ -116,14 +116,32 @@ module _ (b : List Bool) (len level slot : ℕ) (node : Node) (v : Store Node) (
 pub on_way_down : (b : List Bool) (len level slot : ℕ) (node : Node) (v : Store Node) → IsOnWay b len level node slot v → IsDown (path_of (take len b)) len level node slot v
 on_way_down b len level slot node v at = record { whole = at.whole; node_is = at.node_is; deepest = at.deepest }
 
--- and its child in a slot the next
-pub next_deep : (b : List Bool) (len level slot : ℕ) (node : Node) (v : Store Node) → IsOnWay b len level node slot v → (x : ℕ) → x < 32
-    → x ≡ number (take 5 (drop (5 * level) b)) → 5 * level + 5 ≤ len → has node.child_bitmap x ≡ true → (to : ℕ) → to ≡ child_slot node x
-    → (reading : List ℕ → Option Node) (paths : List (List ℕ)) → NodesHold node_sizes reading paths v → Deepest reading (path_of (take len b)) (level + 1) to v
-next_deep b len level slot node v at x small read inside set to is reading paths hold =
-    subst (λ i. Deepest reading (path_of (take len b)) (level + 1) i v) (sym is)
-    (down_more b len level slot node v at.long (on_way_down b len level slot node v at) x small read inside (rank node.child_bitmap x) set
-    (rank-ones node.child_bitmap x (omega arith)) reading paths hold)
+-- the bits behind the next five are those behind its child
+pub rest_next : (b r q : List Bool) (len level next : ℕ) → IsRest b (5 * level) r → len ≤ length b → 5 * next ≤ len → next ≡ level + 1
+    → q ≡ drop 5 r ++ zeros 5 → IsRest b (5 * next) q
+rest_next b r q len level next rest long whole is behind =
+    let more : 5 * level + 5 ≡ 5 * next = omega arith in
+    subst (λ d. IsRest b d q) more (rest_behind b r q (5 * level) 5 rest (omega arith) behind)
+
+-- at the root they are all
+pub rest_root : (b : List Bool) (level : ℕ) → level ≡ 0 → IsRest b (5 * level) b
+rest_root b level top = subst (λ n. IsRest b (5 * n) b) (sym top) (rest_whole b)
+
+-- the bit that the code reads of them is that of the next step, and the child there the next node
+module _ (b : List Bool) (len level slot : ℕ) (node : Node) (v : Store Node) (at : IsOnWay b len level node slot v) (r : List Bool) (rest : IsRest b (5 * level) r)
+    (x : ℕ) (small : x < 32) (read : x ≡ number (take 5 (drop 0 r))) (inside : 5 * level + 5 ≤ len) where
+  read_front : x ≡ number (take 5 (drop (5 * level) b))
+  read_front = let long = at.long in read ∙ ap number (sym (rest_front b r (5 * level) 5 rest (omega (arith, long))))
+
+  pub next_bit : has_bit node.child_bitmap (get_or (path_of (take len b)) level 0) ≡ has node.child_bitmap x
+  next_bit = down_bit b len level slot node v at.long (on_way_down b len level slot node v at) x small read_front inside
+
+  pub next_deep : has node.child_bitmap x ≡ true → (to : ℕ) → to ≡ child_slot node x → (reading : List ℕ → Option Node) (paths : List (List ℕ))
+      → NodesHold node_sizes reading paths v → Deepest reading (path_of (take len b)) (level + 1) to v
+  next_deep set to is reading paths hold =
+      subst (λ i. Deepest reading (path_of (take len b)) (level + 1) i v) (sym is)
+      (down_more b len level slot node v at.long (on_way_down b len level slot node v at) x small read_front inside (rank node.child_bitmap x) set
+      (rank-ones node.child_bitmap x (omega arith)) reading paths hold)
 
 -- ---- whole steps of a length
 

@@ -143,7 +143,8 @@ fn next_match<K: Key, A: Allocator, V: Tick>(
         if let Some(found) = take_match(*here, matches) {
             return Some(found);
         }
-        let Some(next) = step_down(nodes, *here, key, len, counter) else {
+        let rest = key.behind(5 * here.level);
+        let Some(next) = step_down(nodes, *here, rest, len, counter) else {
             return None;
         };
         *matches = matches_in(next, key, len);

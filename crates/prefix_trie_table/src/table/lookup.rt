@@ -1,6 +1,7 @@
 //! Going down from the root, and reading a value.
 ghost use Rattle.std.specs.Prelude.{◌≡◌, ℕ, ◌+◌, ◌*◌, ◌≤◌, Bool, List, Option, take, length, MatchOption};
 ghost use Rattle.std.specs.Option.{option_copied};
+ghost use Rattle.prefix_trie_bits.specs.Windows.{IsRest};
 ghost use Rattle.prefix_trie_table.specs.declared.allocator.node.Node.{Node};
 ghost use Rattle.prefix_trie_table.specs.Cells.{node_sizes};
 ghost use Rattle.prefix_trie_table.specs.Digits.{path_of};
@@ -32,7 +33,7 @@ pub fn root<A: Allocator, V: Tick>(nodes: &NodeAllocator<A, V>, counter: &mut V)
     requires sound { SomeNodes nodes.now }
     ensures level { result.level ≡ 0 }
     ensures on_way { (b : List Bool) (len : ℕ) → len ≤ length b
-        → IsOnWay b len 0 result.node (result.at.start + result.at.place) nodes.now }
+        → IsOnWay b len result.level result.node (result.at.start + result.at.place) nodes.now }
     ensures visits { V.count counter.new ≡ V.count counter.old + 1 }
 {
     let at = NodeSlot::ROOT;
@@ -40,32 +41,34 @@ pub fn root<A: Allocator, V: Tick>(nodes: &NodeAllocator<A, V>, counter: &mut V)
     Reached { at, node, level: 0 }
 }
 
-/// The next node on the way of a bit string, if it is there.
+/// The next node on the way of a bit string, if it is there. `rest` has the bits behind those that led here.
 #[inline(always)]
 pub fn step_down<K: Key, A: Allocator, V: Tick>(
     nodes: &NodeAllocator<A, V>,
     from: Reached,
-    key: K,
+    rest: K,
     len: u32,
     counter: &mut V,
 ) -> Option<Reached>
-    requires key { K.IsKey key }
+    requires key { K.IsKey rest }
     requires within { len ≤ K.bit_width }
     requires sound { SomeNodes nodes.now }
-    requires on_way { IsOnWay (K.bits key) len from.level from.node (from.at.start + from.at.place) nodes.now }
-    ensures step { MatchOption result
-        (IsReached (K.bits key) len from.level from.node (from.at.start + from.at.place) nodes.now)
+    requires on_way { (b : List Bool) × IsOnWay b len from.level from.node (from.at.start + from.at.place) nodes.now
+        × IsRest b (5 * from.level) (K.bits rest) }
+    ensures step { (b : List Bool) → IsOnWay b len from.level from.node (from.at.start + from.at.place) nodes.now
+        → IsRest b (5 * from.level) (K.bits rest)
+        → MatchOption result
+        (IsReached b len from.level from.node (from.at.start + from.at.place) nodes.now)
         (λ next. (next.level ≡ from.level + 1)
-        × IsOnWay (K.bits key) len next.level next.node (next.at.start + next.at.place) nodes.now) }
+        × IsOnWay b len next.level next.node (next.at.start + next.at.place) nodes.now) }
     ensures visits { MatchOption result
         (V.count counter.new ≡ V.count counter.old)
         (λ _. V.count counter.new ≡ V.count counter.old + 1) }
 {
-    let depth = 5 * from.level;
-    if depth + 5 > len {
+    if 5 * from.level + 5 > len {
         return None;
     }
-    let child = child_bit_of(key, depth);
+    let child = child_bit_of(rest, 0);
     if !has_bit(from.node.child_bitmap, child) {
         return None;
     }
@@ -78,27 +81,33 @@ pub fn step_down<K: Key, A: Allocator, V: Tick>(
     })
 }
 
-/// Goes down the way of a bit string as far as nodes stand, and reads each of them once.
+/// Goes down the way of a bit string as far as nodes stand, and reads each of them once. Answers the last, and the bits
+/// behind those that lead to it.
 #[inline(always)]
 pub fn descend<K: Key, A: Allocator, V: Tick>(
     nodes: &NodeAllocator<A, V>,
     key: K,
     len: u32,
     counter: &mut V,
-) -> Reached
+) -> (Reached, K)
     requires key { K.IsKey key }
     requires within { len ≤ K.bit_width }
     requires sound { SomeNodes nodes.now }
     ensures reached { IsReached (K.bits key) len
-        result.level result.node (result.at.start + result.at.place) nodes.now }
-    ensures visits { V.count counter.new ≡ V.count counter.old + (result.level + 1) }
+        result.0.level result.0.node (result.0.at.start + result.0.at.place) nodes.now }
+    ensures key { K.IsKey result.1 }
+    ensures rest { IsRest (K.bits key) (5 * result.0.level) (K.bits result.1) }
+    ensures visits { V.count counter.new ≡ V.count counter.old + (result.0.level + 1) }
 {
     let mut here = root(nodes, counter);
+    let mut rest = key;
     'way: loop {
-        let Some(next) = step_down(nodes, here, key, len, counter) else {
-            return here;
+        let Some(next) = step_down(nodes, here, rest, len, counter) else {
+            return (here, rest);
         };
         here = next;
+        // Shifted by the same at each level: no shift here depends on the depth.
+        rest = rest.behind(5);
     }
 }
 
@@ -119,12 +128,12 @@ pub fn locate_in<K: Key, A: Allocator, V: Tick>(
         → (level : ℕ) × IsEnd reading (path_of (take len (K.bits key))) level
         × (V.count counter.new ≡ V.count counter.old + (level + 1)) }
 {
-    let reached = descend(nodes, key, len, counter);
+    let (reached, rest) = descend(nodes, key, len, counter);
     let depth = 5 * reached.level;
     if depth + 5 <= len {
         return Location::Missing(WayEnd { reached });
     }
-    let bit = value_bit_of(key, depth, len);
+    let bit = value_bit_of(rest, 0, len - depth);
     if !has_bit(reached.node.value_bitmap, bit) {
         return Location::Missing(WayEnd { reached });
     }

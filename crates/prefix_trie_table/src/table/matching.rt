@@ -1,5 +1,6 @@
 //! The longest and the shortest beginning of a bit string that has a value.
 ghost use Rattle.std.specs.Prelude.{◌≡◌, ℕ, ◌+◌, ◌*◌, ◌/◌, ◌^◌, ◌<◌, ◌≤◌, Bool, List, Option, None, Some, false, take, length, IfSome, MatchOption, slice_index_or};
+ghost use Rattle.prefix_trie_bits.specs.Windows.{IsRest};
 ghost use Rattle.prefix_trie_table.specs.declared.allocator.node.Node.{Node};
 ghost use Rattle.prefix_trie_table.specs.Bitmaps.{has_bit as is_set};
 ghost use Rattle.prefix_trie_table.specs.Cells.{node_sizes};
@@ -38,17 +39,18 @@ impl Match {
 
 /// The longest beginning of a bit string that has its value in this node on the way.
 #[inline(always)]
-fn longest_in<K: Key>(here: Reached, key: K, len: u32) -> Option<Match>
-    requires key { K.IsKey key }
+fn longest_in<K: Key>(here: Reached, rest: K, len: u32) -> Option<Match>
+    requires key { K.IsKey rest }
     requires within { len ≤ K.bit_width }
     requires whole { 5 * here.level ≤ len }
     requires few { is_set here.node.value_bitmap 31 ≡ false }
-    ensures { (reading : List ℕ → Option Node)
-        → reading (take here.level (path_of (take len (K.bits key)))) ≡ Some here.node
-        → LongestHeld reading (take len (K.bits key)) (5 * here.level) (5 * here.level + 5) result }
+    ensures { (b : List Bool) (reading : List ℕ → Option Node)
+        → len ≤ length b → IsRest b (5 * here.level) (K.bits rest)
+        → reading (take here.level (path_of (take len b))) ≡ Some here.node
+        → LongestHeld reading (take len b) (5 * here.level) (5 * here.level + 5) result }
 {
     let depth = 5 * here.level;
-    let Some(bit) = longest_match(here.node.value_bitmap, key, depth, len) else {
+    let Some(bit) = longest_match(here.node.value_bitmap, rest, 0, len - depth) else {
         return None;
     };
     Some(Match {
@@ -78,30 +80,33 @@ pub fn longest_on_way<K: Key, A: Allocator, V: Tick>(
         × (V.count counter.new ≡ V.count counter.old + (level + 1)) }
 {
     let mut here = root(nodes, counter);
+    let mut rest = key;
     let mut best = None;
     'way: loop {
-        best = longest_in(here, key, len).or(best);
-        let Some(next) = step_down(nodes, here, key, len, counter) else {
+        best = longest_in(here, rest, len).or(best);
+        let Some(next) = step_down(nodes, here, rest, len, counter) else {
             return best;
         };
         here = next;
+        rest = rest.behind(5);
     }
 }
 
 /// The shortest beginning of a bit string that has its value in this node on the way.
 #[inline]
-fn shortest_in<K: Key>(here: Reached, key: K, len: u32) -> Option<Match>
-    requires key { K.IsKey key }
+fn shortest_in<K: Key>(here: Reached, rest: K, len: u32) -> Option<Match>
+    requires key { K.IsKey rest }
     requires within { len ≤ K.bit_width }
     requires whole { 5 * here.level ≤ len }
     requires few { is_set here.node.value_bitmap 31 ≡ false }
-    ensures found { (reading : List ℕ → Option Node)
-        → reading (take here.level (path_of (take len (K.bits key)))) ≡ Some here.node
-        → ShortestHeld reading (take len (K.bits key)) (5 * here.level) (5 * here.level + 5) result }
+    ensures found { (b : List Bool) (reading : List ℕ → Option Node)
+        → len ≤ length b → IsRest b (5 * here.level) (K.bits rest)
+        → reading (take here.level (path_of (take len b))) ≡ Some here.node
+        → ShortestHeld reading (take len b) (5 * here.level) (5 * here.level + 5) result }
     ensures own { IfSome result (λ m. (5 * here.level ≤ m.len) × (m.len < 5 * here.level + 5)) }
 {
     let depth = 5 * here.level;
-    let Some(bit) = shortest_match(here.node.value_bitmap, key, depth, len) else {
+    let Some(bit) = shortest_match(here.node.value_bitmap, rest, 0, len - depth) else {
         return None;
     };
     Some(Match {
@@ -133,14 +138,16 @@ pub fn shortest_on_way<K: Key, A: Allocator, V: Tick>(
         (λ m. V.count counter.new ≡ V.count counter.old + (m.len / 5 + 1)) }
 {
     let mut here = root(nodes, counter);
+    let mut rest = key;
     'way: loop {
-        if let Some(found) = shortest_in(here, key, len) {
+        if let Some(found) = shortest_in(here, rest, len) {
             return Some(found);
         }
-        let Some(next) = step_down(nodes, here, key, len, counter) else {
+        let Some(next) = step_down(nodes, here, rest, len, counter) else {
             return None;
         };
         here = next;
+        rest = rest.behind(5);
     }
 }
 

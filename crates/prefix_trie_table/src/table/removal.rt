@@ -156,7 +156,7 @@ pub fn remove_value<K: Key, T: Drop, A: Allocator, V: Tick>(
     ensures cell_room { Grows cells.old cells.new 24 }
     ensures settles { Settles nodes.old nodes.new cells.old cells.new }
 {
-    let reached = descend(nodes, key, len, counter);
+    let (reached, _) = descend(nodes, key, len, counter);
     if 5 * reached.level + 5 <= len {
         return None;
     }

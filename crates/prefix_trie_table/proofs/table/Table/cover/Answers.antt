@@ -17,7 +17,7 @@ stands : (g : _) (c : goal.After-result-1 g) → IsCovering (g.K.Key.bits c.args
 stands g c =
     let b = g.K.Key.bits c.args.key in
     let long : c.args.len ≤ length b = omega (arith, g.met.K.Key.key_laws.bits_length c.args.key c.requires.key, c.requires.within) in
-    at_root b c.args.len _ _ _ _ _ long c.root-here.ensures.level c.root-here.ensures.on_way c.matches_in.ensures
+    at_root b c.args.len _ _ _ _ _ long c.root-here.ensures.on_way c.matches_in.ensures
 
 pub invariant_of-result-2 : goal.invariant_of-result-2
 invariant_of-result-2 g c = record {

@@ -16,21 +16,29 @@ take_match-requires-clause-deep g c =
 pub returns-in-Some : goal.returns-in-Some
 returns-in-Some g c = λ first at. gone_on _ _ first _ _ _ _ _ (c.way.invariant.2 first at) c.take_match.new.matches c.in-Some.found c.in-Some.ensures
 
+pub behind-rest-requires : goal.behind-rest-requires
+behind-rest-requires g c =
+    let whole = c.way.invariant.1.on_way.whole in
+    omega (arith, whole, c.requires.within)
+
+pub step_down-requires-clause-sound : goal.step_down-requires-clause-sound
+step_down-requires-clause-sound g c = c.requires.sound.0
+
 pub step_down-requires-clause-on_way : goal.step_down-requires-clause-on_way
-step_down-requires-clause-on_way g c = c.way.invariant.1.on_way
+step_down-requires-clause-on_way g c = (g.K.Key.bits c.args.key, c.way.invariant.1.on_way, c.behind-rest.ensures.value)
 
 pub returns-in_default-step_down : goal.returns-in_default-step_down
-returns-in_default-step_down g c = λ first at. gone_past _ _ first _ _ _ _ _ (c.way.invariant.2 first at) c.take_match.new.matches c.in_default.ensures c.in_default-step_down.ensures.step
+returns-in_default-step_down g c = λ first at. gone_past _ _ first _ _ _ _ _ (c.way.invariant.2 first at) c.take_match.new.matches c.in_default.ensures (c.in_default-step_down.ensures.step (g.K.Key.bits c.args.key) c.way.invariant.1.on_way c.behind-rest.ensures.value)
 
 pub way-smaller : goal.way-smaller
 way-smaller g c =
-    let down = c.in-Some-step_down.ensures.step.0 in
-    let whole = c.in-Some-step_down.ensures.step.1.whole in
-    omega (arith, down, whole)
+    let next = c.in-Some-step_down.ensures.step (g.K.Key.bits c.args.key) c.way.invariant.1.on_way c.behind-rest.ensures.value in
+    let whole = next.1.whole in
+    omega (arith, next.0, whole)
 
 pub way-preserved : goal.way-preserved
 way-preserved g c =
-    let step = c.in-Some-step_down.ensures.step in
+    let step = c.in-Some-step_down.ensures.step (g.K.Key.bits c.args.key) c.way.invariant.1.on_way c.behind-rest.ensures.value in
     let left = c.matches_in.ensures in
     let now =
     gone_down _ _ c.way.invariant.0 _ _ _ _ _ (gone_nowhere _ _ c.way.invariant.0 _ _ _ _ _ c.way.invariant.1) c.take_match.new.matches c.in_default.ensures _ _ _ _ step.0 step.1 left in (

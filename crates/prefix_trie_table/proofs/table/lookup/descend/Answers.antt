@@ -1,13 +1,39 @@
-use Rattle.std.proofs.Common.{◌+◌, ◌≤◌, length, sym, subst, arith}
-use Rattle.prefix_trie_table.specs.Matching.{IsOnWay}
+use Rattle.std.proofs.Common.{◌≤◌, length, arith}
+use Rattle.prefix_trie_table.proofs.Lookup.Going.{rest_root, rest_next}
 use Rattle.prefix_trie_table.proofs.table.lookup.descend.Goals as goal
 
 pub way-init : goal.way-init
 way-init g c =
     let b = g.K.Key.bits c.args.key in
     let long : c.args.len ≤ length b = omega (arith, g.met.K.Key.key_laws.bits_length c.args.key c.requires.key, c.requires.within) in
-    let level = c.root-here.ensures.level in (
-      subst (λ n. IsOnWay b c.args.len n c.root-here.result.node (c.root-here.result.at.start + c.root-here.result.at.place) c.args.nodes.now)
-          (sym level) (c.root-here.ensures.on_way b c.args.len long),
-      omega (arith, level, c.root-here.ensures.visits),
-    )
+    let top = c.root-here.ensures.level in
+    record {
+      on_way = c.root-here.ensures.on_way b c.args.len long;
+      is_key = c.requires.key;
+      rest = rest_root b c.root-here.result.level top;
+      counted = omega (arith, top, c.root-here.ensures.visits);
+    }
+
+pub step_down-requires-clause-on_way : goal.step_down-requires-clause-on_way
+step_down-requires-clause-on_way g c = (g.K.Key.bits c.args.key, c.way.invariant.on_way, c.way.invariant.rest)
+
+pub returns-in_default-clause-reached : goal.returns-in_default-clause-reached
+returns-in_default-clause-reached g c = c.in_default.ensures.step (g.K.Key.bits c.args.key) c.way.invariant.on_way c.way.invariant.rest
+
+pub behind-rest-requires : goal.behind-rest-requires
+behind-rest-requires g c =
+    let next = c.in-Some.ensures.step (g.K.Key.bits c.args.key) c.way.invariant.on_way c.way.invariant.rest in
+    let whole = next.1.whole in
+    omega (arith, next.0, whole, c.requires.within)
+
+pub way-preserved : goal.way-preserved
+way-preserved g c =
+    let b = g.K.Key.bits c.args.key in
+    let at = c.way.invariant in
+    let next = c.in-Some.ensures.step b at.on_way at.rest in
+    record {
+      on_way = next.1;
+      is_key = c.behind-rest.ensures.key;
+      rest = rest_next b _ _ c.args.len c.way.here.level c.in-Some.next.level at.rest next.1.long next.1.whole next.0 c.behind-rest.ensures.value;
+      counted = omega (arith, c.in-Some.ensures.visits, next.0, at.counted);
+    }

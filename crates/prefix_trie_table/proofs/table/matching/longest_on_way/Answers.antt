@@ -1,7 +1,8 @@
-use Rattle.std.proofs.Common.{◌≡◌, ◌+◌, ◌*◌, ◌≤◌, length, take, sym, subst, arith}
-use Rattle.prefix_trie_table.specs.Matching.{IsOnWay, LongestHeld}
+use Rattle.std.proofs.Common.{◌≡◌, ◌+◌, ◌*◌, ◌≤◌, length, take, ◌∙◌, subst, arith}
+use Rattle.prefix_trie_table.specs.Matching.{LongestHeld}
 use Rattle.prefix_trie_table.specs.Digits.{path_of}
-use Rattle.prefix_trie_table.proofs.Lookup.Finding.{reached_end}
+use Rattle.prefix_trie_table.proofs.Lookup.Finding.{reached_end, met_end}
+use Rattle.prefix_trie_table.proofs.Lookup.Going.{rest_root, rest_next}
 use Rattle.prefix_trie_table.proofs.Lookup.Matching.{on_way_is, none_past, longest_none, longest_now}
 use Rattle.prefix_trie_table.proofs.table.matching.longest_on_way.Goals as goal
 
@@ -9,11 +10,13 @@ pub way-init : goal.way-init
 way-init g c =
     let b = g.K.Key.bits c.args.key in
     let long : c.args.len ≤ length b = omega (arith, g.met.K.Key.key_laws.bits_length c.args.key c.requires.key, c.requires.within) in
-    let level : c.root-here.result.level ≡ 0 = c.root-here.ensures.level in
+    let top = c.root-here.ensures.level in
     record {
-      on_way = subst (λ n. IsOnWay b c.args.len n c.root-here.result.node (c.root-here.result.at.start + c.root-here.result.at.place) c.args.nodes.now) (sym level) (c.root-here.ensures.on_way b c.args.len long);
-      counted = omega (arith, level, c.root-here.ensures.visits);
-      best = λ reading paths hold i from last within. absurd (omega (arith, level));
+      on_way = c.root-here.ensures.on_way b c.args.len long;
+      is_key = c.requires.key;
+      rest = rest_root b c.root-here.result.level top;
+      counted = omega (arith, top, c.root-here.ensures.visits);
+      best = λ reading paths hold i from last within. absurd (omega (arith, top));
     }
 
 pub longest_in-requires-clause-few : goal.longest_in-requires-clause-few
@@ -22,30 +25,48 @@ longest_in-requires-clause-few g c =
     let s = c.requires.sound in
     s.1 (take c.way.here.level (path_of (take c.args.len b))) c.way.here.node (on_way_is b c.args.len c.way.here.level _ c.way.here.node c.args.nodes.now c.way.invariant.on_way s.0.reading s.0.paths s.0.hold)
 
+pub step_down-requires-clause-sound : goal.step_down-requires-clause-sound
+step_down-requires-clause-sound g c = c.requires.sound.0
+
+pub step_down-requires-clause-on_way : goal.step_down-requires-clause-on_way
+step_down-requires-clause-on_way g c = (g.K.Key.bits c.args.key, c.way.invariant.on_way, c.way.invariant.rest)
+
 pub returns-in_default-clause-found : goal.returns-in_default-clause-found
 returns-in_default-clause-found g c = λ reading paths hold.
     let b = g.K.Key.bits c.args.key in
     let q = take c.args.len b in
+    let at = c.way.invariant in
     let level = c.way.here.level in
-    let found = longest_now b c.args.len level _ c.way.here.node c.args.nodes.now c.way.invariant.on_way reading paths hold c.way.best c.longest_in.result c.or-best.result (c.way.invariant.best reading paths hold) c.longest_in.ensures c.or-best.ensures in
-    let end = reached_end b c.args.len level _ c.way.here.node c.args.nodes.now c.in_default.ensures.step reading paths hold in
+    let found = longest_now b c.args.len level _ c.way.here.node c.args.nodes.now at.on_way reading paths hold c.way.best c.longest_in.result c.or-best.result (at.best reading paths hold) (λ nodes. c.longest_in.ensures b nodes at.on_way.long at.rest) c.or-best.ensures in
+    let end = reached_end b c.args.len level _ c.way.here.node c.args.nodes.now (c.in_default.ensures.step b at.on_way at.rest) reading paths hold in
     longest_none reading q 0 (5 * level + 5) (c.args.len + 1) c.or-best.result found (none_past reading paths c.args.nodes.now q level (c.args.len + 1) hold end)
 
 pub returns-in_default-clause-visits : goal.returns-in_default-clause-visits
-returns-in_default-clause-visits g c = λ reading paths hold.
-    let b = g.K.Key.bits c.args.key in
-    (c.way.here.level, reached_end b c.args.len c.way.here.level _ c.way.here.node c.args.nodes.now c.in_default.ensures.step reading paths hold, omega (arith, c.in_default.ensures.visits, c.way.invariant.counted))
+returns-in_default-clause-visits g c =
+    let at = c.way.invariant in
+    met_end _ c.args.len c.way.here.level _ c.way.here.node c.args.nodes.now (c.in_default.ensures.step (g.K.Key.bits c.args.key) at.on_way at.rest) _ _
+    (c.in_default.ensures.visits ∙ at.counted)
+
+pub behind-rest-requires : goal.behind-rest-requires
+behind-rest-requires g c =
+    let next = c.in-Some.ensures.step (g.K.Key.bits c.args.key) c.way.invariant.on_way c.way.invariant.rest in
+    let whole = next.1.whole in
+    omega (arith, next.0, whole, c.requires.within)
 
 pub way-preserved : goal.way-preserved
 way-preserved g c =
     let b = g.K.Key.bits c.args.key in
     let q = take c.args.len b in
+    let at = c.way.invariant in
+    let next = c.in-Some.ensures.step b at.on_way at.rest in
     let level = c.way.here.level in
     record {
-      on_way = c.in-Some.ensures.step.1;
-      counted = omega (arith, c.in-Some.ensures.visits, c.in-Some.ensures.step.0, c.way.invariant.counted);
+      on_way = next.1;
+      is_key = c.behind-rest.ensures.key;
+      rest = rest_next b _ _ c.args.len level c.in-Some.next.level at.rest next.1.long next.1.whole next.0 c.behind-rest.ensures.value;
+      counted = omega (arith, c.in-Some.ensures.visits, next.0, at.counted);
       best = λ reading paths hold.
-          let found = longest_now b c.args.len level _ c.way.here.node c.args.nodes.now c.way.invariant.on_way reading paths hold c.way.best c.longest_in.result c.or-best.result (c.way.invariant.best reading paths hold) c.longest_in.ensures c.or-best.ensures in
-          let more : 5 * level + 5 ≡ 5 * c.in-Some.next.level = omega (arith, c.in-Some.ensures.step.0) in
+          let found = longest_now b c.args.len level _ c.way.here.node c.args.nodes.now at.on_way reading paths hold c.way.best c.longest_in.result c.or-best.result (at.best reading paths hold) (λ nodes. c.longest_in.ensures b nodes at.on_way.long at.rest) c.or-best.ensures in
+          let more : 5 * level + 5 ≡ 5 * c.in-Some.next.level = omega (arith, next.0) in
           subst (λ n. LongestHeld reading q 0 n c.or-best.result) more found;
     }
