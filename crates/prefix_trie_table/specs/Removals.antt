@@ -105,9 +105,9 @@ pub record GivesBack {S : Type 0} (v w : Store S) : Type 0 where
 abbrev pub slot_in : List NodeSlot → ℕ → ℕ
 slot_in way k = let s = slice_index_or way k (record { start = 0; place = 0 }) in s.start + s.place
 
--- these are the slots of the nodes on the way to a path, as far as this level
+-- these are the slots of the nodes on the way to a path, above this level
 abbrev pub IsWay : (List ℕ → Option Node) → List ℕ → List NodeSlot → ℕ → Type 0
-IsWay reading path way level = (k : ℕ) → k ≤ level → IsSlot reading (take k path) (slot_in way k)
+IsWay reading path way level = (k : ℕ) → k < level → IsSlot reading (take k path) (slot_in way k)
 
 -- the child c of the node n at p, which has no children, is gone, and the node is m then
 pub record ChildDropped (reading : List ℕ → Option Node) (paths : List (List ℕ)) (p : List ℕ) (c : ℕ) (n m : Node) (before after : Store Node) : Type 0 where
@@ -156,7 +156,7 @@ pub record Pruned (reading : List ℕ → Option Node) (paths : List (List ℕ))
   pub to : PrunedTo reading paths path level node before after
   pub stops : (level ≡ 0) ⊎ IsStocked node
 
--- a node stands at the end of the way to a path, and these are the slots of the nodes on the way
+-- a node stands at the end of the way to a path, and these are the slots of the nodes above it
 pub record StandsAtEnd (path : List ℕ) (way : List NodeSlot) (node : Node) (v : Store Node) : Type 0 where
   pub reading : List ℕ → Option Node
   pub paths : List (List ℕ)

@@ -130,8 +130,14 @@ module _ {S : Type 0} (v w : Store S) (k count to : ℕ) (took gave : ℕ → �
       sizes_down more = elim moves as (λ _. length w.slots + headroom (size_in sizes to) ≤ length v.slots + headroom (size_in sizes k)) [
         | inl stays ↦ omega (arith, stays.1, turned.longer, ap (λ j. headroom (size_in sizes j)) (stays.0 more))
         | inr (_, other, less, within, one) ↦
-            omega (arith, one, turned.longer, headroom-step to k (size_in sizes to) less within (smaller to (omega (arith, less, within))),
-            rises to (omega (arith, less, within)), rises k within)
+            omega (
+              arith,
+              one,
+              turned.longer,
+              headroom-step to k (size_in sizes to) less within (smaller to (omega (arith, less, within))),
+              rises to (omega (arith, less, within)),
+              rises k within,
+            )
       ]
 
       steps_down : (left : ℕ) → left + 1 ≡ count → length w.slots + headroom_if_any (size_if_any left (size_in sizes to)) ≤

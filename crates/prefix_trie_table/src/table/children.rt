@@ -13,6 +13,7 @@ use crate::allocator::node::{Node, NodeSlot};
 use crate::allocator::nodes::{NodeAllocator, Tick};
 use crate::table::removal::{descend_keeping_way, prune_up};
 use crate::table::retain::{Keep, Site, retain_places};
+use arrayvec::ArrayVec;
 use prefix_trie_bits::node::{Places, child_cover_mask, value_cover_mask};
 use prefix_trie_bits::prefix::Key;
 use std::alloc::Allocator;
@@ -96,9 +97,10 @@ pub fn remove_part<K: Key, T: Drop, A: Allocator, V: Tick>(
         }) }
     ensures lasts { Lasts 0 nodes.old nodes.new cells.old cells.new }
 {
-    let Some(way) = descend_keeping_way(nodes, key, len, counter) else {
+    let mut above = ArrayVec::new();
+    let Some((at, node)) = descend_keeping_way(nodes, key, len, &mut above, counter) else {
         return;
     };
-    let node = empty_part(nodes, cells, entries, key, len, way.at, way.node, counter);
-    prune_up(nodes, &way.slots, key, len, node, counter);
+    let left = empty_part(nodes, cells, entries, key, len, at, node, counter);
+    prune_up(nodes, &above, key, len, left, counter);
 }

@@ -163,51 +163,47 @@ pub fn remove_value<K: Key, T: Drop, A: Allocator, V: Tick>(
     take_entry(nodes, cells, entries, key, len, reached.at, reached.node).0
 }
 
-/// The slots of the nodes on a way, from the root to the string's own node, and this node.
-#[derive(Drop)]
-pub struct Way {
-    pub slots: ArrayVec<NodeSlot, 26>,
-    pub at: NodeSlot,
-    pub node: Node,
-}
-
-/// Goes down the way of a bit string to the string's own node, and keeps the way. `None` where a node of it is missing.
+/// Goes down the way of a bit string to the string's own node, and puts the slots of the nodes above it into `above`, which is
+/// empty before. Answers where the node stands, and the node, or `None` where a node of the way is missing.
 pub fn descend_keeping_way<K: Key, A: Allocator, V: Tick>(
     nodes: &NodeAllocator<A, V>,
     key: K,
     len: u32,
+    above: &mut ArrayVec<NodeSlot, 25>,
     counter: &mut V,
-) -> Option<Way>
+) -> Option<(NodeSlot, Node)>
     requires key { K.IsKey key }
     requires within { len ≤ K.bit_width }
     requires sound { SomeNodes nodes.now }
-    ensures found { IfSome result (λ way. IsReached (K.bits key) len (len / 5)
-        way.node (way.at.start + way.at.place) nodes.now
-        × (len / 5 < length way.slots.items)
+    requires empty { above.old.items ≡ [] }
+    ensures found { IfSome result (λ end. IsReached (K.bits key) len (len / 5)
+        end.1 (end.0.start + end.0.place) nodes.now
+        × (length above.new.items ≡ len / 5)
         × ((reading : List ℕ → Option Node) (paths : List (List ℕ))
         → NodesHold node_sizes reading paths nodes.now
-        → IsWay reading (path_of (take len (K.bits key))) way.slots.items (len / 5))) }
+        → IsWay reading (path_of (take len (K.bits key))) above.new.items (len / 5))) }
     ensures missing { IfNone result ((reading : List ℕ → Option Node) (paths : List (List ℕ))
         → NodesHold node_sizes reading paths nodes.now
         → reading (path_of (take len (K.bits key))) ≡ None) }
 {
-    let mut slots = ArrayVec::new();
     let mut at = NodeSlot::ROOT;
     let mut node = nodes.visit(at, counter);
-    slots.push(at);
-    for level in 0..len / 5 {
-        let child = child_bit_of(key, 5 * level);
+    let mut rest = key;
+    for _level in 0..len / 5 {
+        let child = child_bit_of(rest, 0);
         if !has_bit(node.child_bitmap, child) {
             return None;
         }
+        above.push(at);
         at = NodeSlot {
             start: node.child_block,
             place: rank(node.child_bitmap, child),
         };
         node = nodes.visit(at, counter);
-        slots.push(at);
+        // Shifted by the same at each level: no shift here depends on the depth.
+        rest = rest.behind(5);
     }
-    Some(Way { slots, at, node })
+    Some((at, node))
 }
 
 /// Whether a node has neither values nor children.
@@ -259,7 +255,8 @@ pub fn drop_child<A: Allocator, V: Tick>(
     left
 }
 
-/// Takes out the nodes of a way that have nothing left, from its end upward. The root stays.
+/// Takes out the nodes of a way that have nothing left, from its end upward, where `way` has the slots of those above the end.
+/// The root stays.
 pub fn prune_up<K: Key, A: Allocator, V: Tick>(
     nodes: &mut NodeAllocator<A, V>,
     way: &[NodeSlot],
@@ -270,7 +267,7 @@ pub fn prune_up<K: Key, A: Allocator, V: Tick>(
 )
     requires key { K.IsKey key }
     requires within { len ≤ K.bit_width }
-    requires long { len / 5 < length way.now }
+    requires long { length way.now ≡ len / 5 }
     requires stands { StandsAtEnd (path_of (take len (K.bits key))) way.now node nodes.old }
     ensures room { Grows nodes.old nodes.new 24 }
     ensures settles { NodesSettle nodes.old nodes.new }
@@ -313,10 +310,11 @@ pub fn remove_entry<K: Key, T: Drop, A: Allocator, V: Tick>(
     ensures cell_room { Grows cells.old cells.new 24 }
     ensures settles { Settles nodes.old nodes.new cells.old cells.new }
 {
-    let Some(way) = descend_keeping_way(nodes, key, len, counter) else {
+    let mut above = ArrayVec::new();
+    let Some((at, node)) = descend_keeping_way(nodes, key, len, &mut above, counter) else {
         return None;
     };
-    let (value, node) = take_entry(nodes, cells, entries, key, len, way.at, way.node);
-    prune_up(nodes, &way.slots, key, len, node, counter);
+    let (value, left) = take_entry(nodes, cells, entries, key, len, at, node);
+    prune_up(nodes, &above, key, len, left, counter);
     value
 }

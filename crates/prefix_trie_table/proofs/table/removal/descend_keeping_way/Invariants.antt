@@ -1,4 +1,5 @@
-use Rattle.std.proofs.Common.{◌≡◌, ℕ, ◌+◌, ◌/◌, ◌≤◌, List, Option, take, length}
+use Rattle.std.proofs.Common.{◌≡◌, ℕ, ◌+◌, ◌*◌, ◌/◌, ◌≤◌, Bool, List, Option, take, length}
+use Rattle.prefix_trie_bits.specs.Windows.{IsRest}
 use Rattle.prefix_trie_table.specs.declared.allocator.node.Node.{Node}
 use Rattle.prefix_trie_table.specs.Cells.{node_sizes}
 use Rattle.prefix_trie_table.specs.Digits.{path_of}
@@ -9,9 +10,12 @@ use Rattle.prefix_trie_table.proofs.table.removal.descend_keeping_way.Given as g
 
 abbrev pub invariant-loop-level : goal.invariant-loop-level
 invariant-loop-level g l =
-    let path : List ℕ = path_of (take l.len (g.K.Key.bits l.key)) in record {
-      down : IsDown path l.len l.level l.node (l.at.start + l.at.place) l.nodes;
-      way : (reading : List ℕ → Option Node) (paths : List (List ℕ)) → NodesHold node_sizes reading paths l.nodes → IsWay reading path l.slots.items l.level;
-      long : length l.slots.items ≡ l.level + 1;
-      within : l.level ≤ l.len / 5;
+    let b : List Bool = g.K.Key.bits l.fn.key in
+    let path : List ℕ = path_of (take l.len (g.K.Key.bits l.fn.key)) in record {
+      down : IsDown path l.len l._level l.node (l.at.start + l.at.place) l.nodes;
+      way : (reading : List ℕ → Option Node) (paths : List (List ℕ)) → NodesHold node_sizes reading paths l.nodes → IsWay reading path l.above.items l._level;
+      long : length l.above.items ≡ l._level;
+      within : l._level ≤ l.len / 5;
+      key : g.K.Key.IsKey l.rest;
+      rest : IsRest b (5 * l._level) (g.K.Key.bits l.rest);
     }

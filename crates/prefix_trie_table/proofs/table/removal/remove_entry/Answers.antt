@@ -34,7 +34,7 @@ pub returns-clause-removed : goal.returns-clause-removed
 returns-clause-removed g c = λ reading paths values holds.
     let b = g.K.Key.bits c.args.key in
     let path = path_of (take c.args.len b) in
-    let own = reached_own b c.args.len (c.args.len / 5) _ c.in-Some.way.node c.args.nodes.now c.in-Some.ensures.found.0 reading paths holds.hold
+    let own = reached_own b c.args.len (c.args.len / 5) _ c.in-Some.node c.args.nodes.now c.in-Some.ensures.found.0 reading paths holds.hold
     (level_last (c.args.len / 5) c.args.len refl) in
     let taken = c.take_entry-value.ensures.taken reading paths values holds in
     let slots : IsWay taken.0.later path c.deref.result.now (c.args.len / 5) =
