@@ -1,6 +1,8 @@
 //! Programs over the crate as a user writes them, each with a contract of its own.
 pub mod access;
+pub mod cache;
 pub mod copy;
+pub mod delegations;
 pub mod forwarding;
 pub mod inventory;
 pub mod merge;
