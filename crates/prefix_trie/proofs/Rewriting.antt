@@ -77,19 +77,6 @@ module _ {P T A R : Type 0} {p : prefix.Ghosts P R} {shows : debug.Ghosts P} {k 
     pub values : (s : List Bool) → get d.map.now.entries s ≡ cond (is_left d s) (get c.map.now.entries s) (cond (is_left c s) (option_map f (get c.map.now.entries s)) (get c.map.now.entries s))
     pub others : d.map.now ≡ record c.map.now { entries = d.map.now.entries }
 
-  has_rewritten_none : (c : Course P T A R p shows k same writes) → AreOrdered (keys_left c) → HasRewritten c c
-  has_rewritten_none c ordered = record {
-    same_map = refl;
-    ordered = ordered;
-    part = λ s h. h;
-    values = λ s. at (is_left c s) (get c.map.now.entries s) (option_map f (get c.map.now.entries s));
-    others = refl;
-  }
-    where
-      at : {X : Type 0} (b : Bool) (x y : X) → x ≡ cond b x (cond b y x)
-      at true x y = refl
-      at false x y = refl
-
   -- one more is changed
   rewrites_one : (c d e : Course P T A R p shows k same writes) (q : P) (x : T) → HasRewritten c d → IsFirst d q x → GoesOver d (f x) e → HasRewritten c e
   rewrites_one c d e q x so_far first goes = record {
@@ -157,10 +144,6 @@ module _ {P T A R : Type 0} {p : prefix.Ghosts P R} {shows : debug.Ghosts P} {k 
   HasRewrittenIn None (Some d) = ⊥
   HasRewrittenIn (Some c) None = ⊥
   HasRewrittenIn (Some c) (Some d) = HasRewritten c d
-
-  pub starts_rewriting : (o : Option (Course P T A R p shows k same writes)) → OrderedIn o → HasRewrittenIn o o
-  starts_rewriting None h = tt
-  starts_rewriting (Some c) h = has_rewritten_none c h
 
   pub goes_on_rewriting : (start o n : Option (Course P T A R p shows k same writes)) (q : P) (x w : T) → w ≡ f x → HasRewrittenIn start o → FirstIn IsFirst o q x →
       PassesIn GoesOver o w n → HasRewrittenIn start n × (left_in n < left_in o)
