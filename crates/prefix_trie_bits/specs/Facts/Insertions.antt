@@ -41,19 +41,6 @@ with_one p = (p, 1)
 abbrev pub ones_free : ℕ → List ℕ
 ones_free n = n ∷ 0 ∷ 0 ∷ 0 ∷ 0 ∷ 0 ∷ 0 ∷ []
 
--- row 37 and row 13: the first key needs six child blocks and a value block. It passes a limit of 4, and a short key does not
-abbrev pub FirstKey : Type 0
-FirstKey = LeadsTo 32 [] (λ t.
-    (lacking 32 t no_layout (0, 32) ≡ (6, 1))
-    × (lacking 32 t no_layout (0, 4) ≡ (0, 1))
-    × PassesLimit t.entries t.nodes (room_of 4 1 0) no_layout (path_at 32 (0, 32))
-    × (¬ (PassesLimit t.entries t.nodes (room_of 4 1 0) no_layout (path_at 32 (0, 4)))))
-
--- row 37: after that key is removed all its blocks are free, and serve the other one
-abbrev pub FreedBlocks : Type 0
-FreedBlocks = LeadsTo 32 ((Insert (0, 32) 1, Value None) ∷ (Remove (0, 32), Value (Some 1)) ∷ []) (λ t.
-    lacking 32 t (layout_at 32 [] [] (ones_free 6) (ones_free 1)) (0xffffffff, 32) ≡ (0, 0))
-
 -- the child blocks of row 37's map with the other key
 abbrev pub far_children : Blocks
 far_children =
@@ -61,30 +48,6 @@ far_children =
 
 abbrev pub far_layout : Layout
 far_layout = layout_at 32 far_children (((0xfffffffc, 30), 1) ∷ []) none_free none_free
-
--- row 37: the first key again needs a block of two at the root, and one for each of five new nodes; the last node gets no child.
--- A node off the way gets none, and no node stands at the string of three bits
-abbrev pub FarKey : Type 0
-FarKey = LeadsTo 32 ((Insert (0xffffffff, 32) 2, Value None) ∷ []) (λ t.
-    (lacking 32 t far_layout (0, 32) ≡ (7, 1))
-    × (map (λ p. gains_child t.nodes (path_at 32 (0, 32)) (path_at 32 p)) ((0, 0) ∷ (0, 5) ∷ (0, 25) ∷ (0, 30) ∷ (0xf8000000, 5) ∷ (0, 3) ∷ [])
-    ≡ true ∷ true ∷ true ∷ false ∷ false ∷ false ∷ [])
-    × (map (λ p. child_block_needed t.nodes far_layout.child_blocks (path_at 32 (0, 32)) (path_at 32 p)) ((0, 0) ∷ (0, 5) ∷ (0, 30) ∷ [])
-    ≡ Some 2 ∷ Some 1 ∷ None ∷ [])
-    × (map (λ p. value_block_needed t.entries far_layout.value_blocks (path_at 32 (0, 32)) (path_at 32 p)) ((0, 30) ∷ (0, 0) ∷ (0, 25) ∷ [])
-    ≡ Some 1 ∷ None ∷ None ∷ [])
-    -- its neighbour has its node already: no node gets a child, and that node needs a block of two
-    × (gains_child t.nodes (path_at 32 (0xfffffffe, 32)) (path_at 32 (0xffffff80, 25)) ≡ false)
-    × (lacking 32 t far_layout (0xfffffffe, 32) ≡ (0, 2)))
-
--- row 14: with 24 entries the root's block of 24 is full and one of 31 lacks; with 23 none does
-abbrev pub FullBlock : Type 0
-FullBlock = LeadsTo 8 (sets (counted (take 24 short_pairs))) (λ t.
-    lacking 8 t (layout_at 8 [] (((0, 0), 24) ∷ []) none_free (1 ∷ 1 ∷ 1 ∷ 1 ∷ 1 ∷ 0 ∷ 0 ∷ [])) (192, 2) ≡ (0, 31))
-
-abbrev pub BlockWithRoom : Type 0
-BlockWithRoom = LeadsTo 8 (sets (counted (take 23 short_pairs))) (λ t.
-    lacking 8 t (layout_at 8 [] (((0, 0), 24) ∷ []) none_free (1 ∷ 1 ∷ 1 ∷ 1 ∷ 1 ∷ 0 ∷ 0 ∷ [])) (176, 4) ≡ (0, 0))
 
 -- row 17's calls before its last
 abbrev seven_removed : Row
@@ -98,44 +61,54 @@ seven_removed = sets (counted short_pairs) ++
     (Remove (240, 4), Value (Some 30)) ∷
     []
 
--- row 17: the block of 24 is full again, and the free one of 31 serves
-abbrev pub FreeBlockServes : Type 0
-FreeBlockServes = LeadsTo 8 seven_removed (λ t.
-    (own_entries t.entries [] ≡ 24)
-    × (lacking 8 t (layout_at 8 [] (((0, 0), 24) ∷ []) none_free (1 ∷ 1 ∷ 1 ∷ 1 ∷ 1 ∷ 0 ∷ 1 ∷ [])) (240, 4) ≡ (0, 0)))
-
--- as row 15, with nodes of one key each: the root has 24 children in a block of 24, and the next one lacks one of 32
-abbrev pub FullChildBlock : Type 0
-FullChildBlock = LeadsTo 5 (sets (counted (take 24 (full_pairs 5)))) (λ t.
-    (child_count t.nodes [] ≡ 24)
-    × (lacking 5 t (layout_at 5 (((0, 0), 24) ∷ []) (map with_one (take 24 (full_pairs 5))) (1 ∷ 1 ∷ 1 ∷ 1 ∷ 1 ∷ 0 ∷ 0 ∷ []) none_free) (24, 5) ≡ (32, 1)))
-
 -- row 38's layout as first filled
 abbrev pub three_slots : Layout
 three_slots = layout_at 8 (((0, 0), 1) ∷ []) (((0, 0), 2) ∷ ((0, 5), 1) ∷ []) none_free none_free
 
--- row 38: the root's two entries fill its block of two; the third lacks one of four, which passes a limit of 3 and not one of 7
-abbrev pub ThreeSlots : Type 0
-ThreeSlots = LeadsTo 8 (sets (((0, 1), 1) ∷ ((128, 1), 2) ∷ ((0, 5), 3) ∷ [])) (λ t.
-    (lacking 8 t three_slots (64, 2) ≡ (0, 4))
-    × PassesLimit t.entries t.nodes (room_of 3 2 3) three_slots (path_at 8 (64, 2))
-    × (¬ (PassesLimit t.entries t.nodes (room_of 7 2 3) three_slots (path_at 8 (64, 2)))))
-
--- a key that is just five bits longer than a node is not its own
-abbrev pub FiveBitsMore : Type 0
-FiveBitsMore = LeadsTo 8 (sets (((0, 5), 1) ∷ [])) (λ t.
-    (holders t.entries t.nodes ≡ path_at 8 (0, 5) ∷ [])
-    × (own_entries t.entries [] ≡ 0)
-    × (own_entries t.entries (path_at 8 (0, 5)) ≡ 1)
-    × (parents t.nodes ≡ [] ∷ []))
-
 pub record InsertionsHold : Type 0 where
-  pub first_key : FirstKey
-  pub freed : FreedBlocks
-  pub far_key : FarKey
-  pub full : FullBlock
-  pub with_room : BlockWithRoom
-  pub free_serves : FreeBlockServes
-  pub children : FullChildBlock
-  pub three : ThreeSlots
-  pub five_bits : FiveBitsMore
+  -- row 37 and row 13: the first key needs six child blocks and a value block. It passes a limit of 4, and a short key does not
+  pub first_key : LeadsTo 32 [] (λ t.
+      (lacking 32 t no_layout (0, 32) ≡ (6, 1))
+      × (lacking 32 t no_layout (0, 4) ≡ (0, 1))
+      × PassesLimit t.entries t.nodes (room_of 4 1 0) no_layout (path_at 32 (0, 32))
+      × (¬ (PassesLimit t.entries t.nodes (room_of 4 1 0) no_layout (path_at 32 (0, 4)))))
+  -- row 37: after that key is removed all its blocks are free, and serve the other one
+  pub freed : LeadsTo 32 ((Insert (0, 32) 1, Value None) ∷ (Remove (0, 32), Value (Some 1)) ∷ []) (λ t.
+      lacking 32 t (layout_at 32 [] [] (ones_free 6) (ones_free 1)) (0xffffffff, 32) ≡ (0, 0))
+  -- row 37: the first key again needs a block of two at the root, and one for each of five new nodes; the last node gets no child.
+  -- A node off the way gets none, and no node stands at the string of three bits
+  pub far_key : LeadsTo 32 ((Insert (0xffffffff, 32) 2, Value None) ∷ []) (λ t.
+      (lacking 32 t far_layout (0, 32) ≡ (7, 1))
+      × (map (λ p. gains_child t.nodes (path_at 32 (0, 32)) (path_at 32 p)) ((0, 0) ∷ (0, 5) ∷ (0, 25) ∷ (0, 30) ∷ (0xf8000000, 5) ∷ (0, 3) ∷ [])
+      ≡ true ∷ true ∷ true ∷ false ∷ false ∷ false ∷ [])
+      × (map (λ p. child_block_needed t.nodes far_layout.child_blocks (path_at 32 (0, 32)) (path_at 32 p)) ((0, 0) ∷ (0, 5) ∷ (0, 30) ∷ [])
+      ≡ Some 2 ∷ Some 1 ∷ None ∷ [])
+      × (map (λ p. value_block_needed t.entries far_layout.value_blocks (path_at 32 (0, 32)) (path_at 32 p)) ((0, 30) ∷ (0, 0) ∷ (0, 25) ∷ [])
+      ≡ Some 1 ∷ None ∷ None ∷ [])
+      -- its neighbour has its node already: no node gets a child, and that node needs a block of two
+      × (gains_child t.nodes (path_at 32 (0xfffffffe, 32)) (path_at 32 (0xffffff80, 25)) ≡ false)
+      × (lacking 32 t far_layout (0xfffffffe, 32) ≡ (0, 2)))
+  -- row 14: with 24 entries the root's block of 24 is full and one of 31 lacks; with 23 none does
+  pub full : LeadsTo 8 (sets (counted (take 24 short_pairs))) (λ t.
+      lacking 8 t (layout_at 8 [] (((0, 0), 24) ∷ []) none_free (1 ∷ 1 ∷ 1 ∷ 1 ∷ 1 ∷ 0 ∷ 0 ∷ [])) (192, 2) ≡ (0, 31))
+  pub with_room : LeadsTo 8 (sets (counted (take 23 short_pairs))) (λ t.
+      lacking 8 t (layout_at 8 [] (((0, 0), 24) ∷ []) none_free (1 ∷ 1 ∷ 1 ∷ 1 ∷ 1 ∷ 0 ∷ 0 ∷ [])) (176, 4) ≡ (0, 0))
+  -- row 17: the block of 24 is full again, and the free one of 31 serves
+  pub free_serves : LeadsTo 8 seven_removed (λ t.
+      (own_entries t.entries [] ≡ 24)
+      × (lacking 8 t (layout_at 8 [] (((0, 0), 24) ∷ []) none_free (1 ∷ 1 ∷ 1 ∷ 1 ∷ 1 ∷ 0 ∷ 1 ∷ [])) (240, 4) ≡ (0, 0)))
+  -- as row 15, with nodes of one key each: the root has 24 children in a block of 24, and the next one lacks one of 32
+  pub children : LeadsTo 5 (sets (counted (take 24 (full_pairs 5)))) (λ t.
+      (child_count t.nodes [] ≡ 24)
+      × (lacking 5 t (layout_at 5 (((0, 0), 24) ∷ []) (map with_one (take 24 (full_pairs 5))) (1 ∷ 1 ∷ 1 ∷ 1 ∷ 1 ∷ 0 ∷ 0 ∷ []) none_free) (24, 5) ≡ (32, 1)))
+  -- row 38: the root's two entries fill its block of two; the third lacks one of four, which passes a limit of 3 and not one of 7
+  pub three : LeadsTo 8 (sets (((0, 1), 1) ∷ ((128, 1), 2) ∷ ((0, 5), 3) ∷ [])) (λ t.
+      (lacking 8 t three_slots (64, 2) ≡ (0, 4))
+      × PassesLimit t.entries t.nodes (room_of 3 2 3) three_slots (path_at 8 (64, 2))
+      × (¬ (PassesLimit t.entries t.nodes (room_of 7 2 3) three_slots (path_at 8 (64, 2)))))
+  -- a key that is just five bits longer than a node is not its own
+  pub five_bits : LeadsTo 8 (sets (((0, 5), 1) ∷ [])) (λ t.
+      (holders t.entries t.nodes ≡ path_at 8 (0, 5) ∷ [])
+      × (own_entries t.entries [] ≡ 0)
+      × (own_entries t.entries (path_at 8 (0, 5)) ≡ 1)
+      × (parents t.nodes ≡ [] ∷ []))

@@ -125,14 +125,11 @@ pub record FilledFacts (t : State ℕ) : Type 0 where
   pub not_too_small : ¬ (NodesHaveBlocks value_block_sizes t.nodes (own_entries t.entries) (layout_at 8 [] (root_value 1) [] []).value_blocks)
   pub not_elsewhere : ¬ (NodesHaveBlocks value_block_sizes t.nodes (own_entries t.entries) (layout_at 8 [] (((0, 0), 2) ∷ ((0, 5), 1) ∷ ((128, 5), 1) ∷ []) [] []).value_blocks)
 
--- what is left of a storage when all goes
-abbrev pub Cleared : Type 0
-Cleared = cleared filled ≡ record {
-  room = room_of 10 1 0;
-  layout = record { child_blocks = empty; value_blocks = empty; free_child_blocks = none_free; free_value_blocks = none_free };
-}
-
 pub record StepsHold : Type 0 where
-  pub all_gone : Cleared
+  -- what is left of a storage when all goes
+  pub all_gone : cleared filled ≡ record {
+    room = room_of 10 1 0;
+    layout = record { child_blocks = empty; value_blocks = empty; free_child_blocks = none_free; free_value_blocks = none_free };
+  }
   pub keeps : KeepsFacts
   pub filled_map : LeadsTo 8 (sets (((0, 1), 1) ∷ ((128, 1), 2) ∷ ((0, 5), 3) ∷ [])) FilledFacts

@@ -12,88 +12,67 @@ short_pairs =
     (192, 2) ∷ (192, 3) ∷ (192, 4) ∷ (208, 4) ∷ (224, 3) ∷ (224, 4) ∷ (240, 4) ∷
     []
 
--- row 13: a new key is refused for want of slots and leaves the map as it was; a shorter one still has room
-abbrev pub Row13 : Type 0
-Row13 = Gives 32 (
-    (Insert (0, 32) 1, Refused IndexRange) ∷
-    (Len, Count 0) ∷
-    (NodeCount, Count 1) ∷
-    (Insert (0, 4) 2, Value None) ∷
-    [])
-
--- row 14: the root's 31 prefixes, set in listing order and listed so
-abbrev pub Row14 : Type 0
-Row14 = Gives 8 (sets (counted short_pairs) ++
-    (Len, Count 31) ∷
-    (NodeCount, Count 1) ∷
-    (ListAll, Items (counted short_pairs)) ∷
-    [])
-
--- row 15: all 256 keys of eight bits
-abbrev pub Row15 : Type 0
-Row15 = Gives 8 (sets (counted (full_pairs 8)) ++
-    (Len, Count 256) ∷
-    (NodeCount, Count 33) ∷
-    (AddressCount, Addresses None) ∷
-    (Clear, Done) ∷
-    (NodeCount, Count 1) ∷
-    [])
-
--- row 17: seven prefixes of a full root removed, and one of them set again
-abbrev pub Row17 : Type 0
-Row17 = Gives 8 (sets (counted short_pairs) ++
-    (Remove (192, 2), Value (Some 24)) ∷
-    (Remove (192, 3), Value (Some 25)) ∷
-    (Remove (192, 4), Value (Some 26)) ∷
-    (Remove (208, 4), Value (Some 27)) ∷
-    (Remove (224, 3), Value (Some 28)) ∷
-    (Remove (224, 4), Value (Some 29)) ∷
-    (Remove (240, 4), Value (Some 30)) ∷
-    (Len, Count 24) ∷
-    (Insert (240, 4) 99, Value None) ∷
-    (NodeCount, Count 1) ∷
-    [])
-
--- row 38: one new key is refused, and what was stored stays
-abbrev pub Row38 : Type 0
-Row38 = Gives 8 (
-    (Insert (0, 1) 1, Value None) ∷
-    (Insert (128, 1) 2, Value None) ∷
-    (Insert (0, 5) 3, Value None) ∷
-    (NodeCount, Count 2) ∷
-    (Remove (0, 1), Value (Some 1)) ∷
-    (Insert (0, 1) 4, Value None) ∷
-    (Insert (64, 2) 5, Refused IndexRange) ∷
-    (Len, Count 3) ∷
-    [])
-
--- row 39: a refused key leaves the nodes as they were, and a stored key is set without room
-abbrev pub Row39 : Type 0
-Row39 = Gives 8 (
-    (Insert (0, 0) 0, Value None) ∷
-    (Insert (0, 1) 0, Refused IndexRange) ∷
-    (Insert (9, 0) 0, Value (Some 0)) ∷
-    (Remove (0, 0), Value (Some 0)) ∷
-    (Insert (0, 5) 0, Refused IndexRange) ∷
-    (NodeCount, Count 1) ∷
-    [])
-
--- row 40: a stored key is never refused
-abbrev pub Row40 : Type 0
-Row40 = Gives 8 (
-    (Insert (0, 8) 1, Value None) ∷
-    (Insert (128, 8) 2, Refused IndexRange) ∷
-    (Insert (0, 8) 3, Value (Some 1)) ∷
-    (NodeCount, Count 2) ∷
-    (ListAll, Items (((0, 8), 3) ∷ [])) ∷
-    [])
-
 -- the rows of this file
 pub record LimitsHold : Type 0 where
-  pub row13 : Row13
-  pub row14 : Row14
-  pub row15 : Row15
-  pub row17 : Row17
-  pub row38 : Row38
-  pub row39 : Row39
-  pub row40 : Row40
+  -- row 13: a new key is refused for want of slots and leaves the map as it was; a shorter one still has room
+  pub row13 : Gives 32 (
+      (Insert (0, 32) 1, Refused IndexRange) ∷
+      (Len, Count 0) ∷
+      (NodeCount, Count 1) ∷
+      (Insert (0, 4) 2, Value None) ∷
+      [])
+  -- row 14: the root's 31 prefixes, set in listing order and listed so
+  pub row14 : Gives 8 (sets (counted short_pairs) ++
+      (Len, Count 31) ∷
+      (NodeCount, Count 1) ∷
+      (ListAll, Items (counted short_pairs)) ∷
+      [])
+  -- row 15: all 256 keys of eight bits
+  pub row15 : Gives 8 (sets (counted (full_pairs 8)) ++
+      (Len, Count 256) ∷
+      (NodeCount, Count 33) ∷
+      (AddressCount, Addresses None) ∷
+      (Clear, Done) ∷
+      (NodeCount, Count 1) ∷
+      [])
+  -- row 17: seven prefixes of a full root removed, and one of them set again
+  pub row17 : Gives 8 (sets (counted short_pairs) ++
+      (Remove (192, 2), Value (Some 24)) ∷
+      (Remove (192, 3), Value (Some 25)) ∷
+      (Remove (192, 4), Value (Some 26)) ∷
+      (Remove (208, 4), Value (Some 27)) ∷
+      (Remove (224, 3), Value (Some 28)) ∷
+      (Remove (224, 4), Value (Some 29)) ∷
+      (Remove (240, 4), Value (Some 30)) ∷
+      (Len, Count 24) ∷
+      (Insert (240, 4) 99, Value None) ∷
+      (NodeCount, Count 1) ∷
+      [])
+  -- row 38: one new key is refused, and what was stored stays
+  pub row38 : Gives 8 (
+      (Insert (0, 1) 1, Value None) ∷
+      (Insert (128, 1) 2, Value None) ∷
+      (Insert (0, 5) 3, Value None) ∷
+      (NodeCount, Count 2) ∷
+      (Remove (0, 1), Value (Some 1)) ∷
+      (Insert (0, 1) 4, Value None) ∷
+      (Insert (64, 2) 5, Refused IndexRange) ∷
+      (Len, Count 3) ∷
+      [])
+  -- row 39: a refused key leaves the nodes as they were, and a stored key is set without room
+  pub row39 : Gives 8 (
+      (Insert (0, 0) 0, Value None) ∷
+      (Insert (0, 1) 0, Refused IndexRange) ∷
+      (Insert (9, 0) 0, Value (Some 0)) ∷
+      (Remove (0, 0), Value (Some 0)) ∷
+      (Insert (0, 5) 0, Refused IndexRange) ∷
+      (NodeCount, Count 1) ∷
+      [])
+  -- row 40: a stored key is never refused
+  pub row40 : Gives 8 (
+      (Insert (0, 8) 1, Value None) ∷
+      (Insert (128, 8) 2, Refused IndexRange) ∷
+      (Insert (0, 8) 3, Value (Some 1)) ∷
+      (NodeCount, Count 2) ∷
+      (ListAll, Items (((0, 8), 3) ∷ [])) ∷
+      [])

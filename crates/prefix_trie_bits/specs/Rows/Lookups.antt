@@ -3,87 +3,66 @@ use Rattle.std.specs.Prelude.{[], ◌∷◌, Some, None}
 use Rattle.prefix_trie_bits.specs.Model.Step.{Insert, Get, Lpm, Spm, Clear, Len, NodeCount, ListAll, Cover, Value, Match, Done, Count, Items}
 use Rattle.prefix_trie_bits.specs.Rows.Examples.{Gives}
 
--- row 1: a stored network is found and overwritten; neither a neighbour nor a longer prefix is found
-abbrev pub Row1 : Type 0
-Row1 = Gives 32 (
-    (Insert (0xc0a80000, 23) 1, Value None) ∷
-    (Insert (0xc0a80100, 24) 2, Value None) ∷
-    (Insert (0xc0a80100, 24) 3, Value (Some 2)) ∷
-    (Get (0xc0a80100, 24), Value (Some 3)) ∷
-    (Get (0xc0a80200, 24), Value None) ∷
-    (Get (0xc0a80180, 25), Value None) ∷
-    [])
-
--- row 3: of two networks that begin a question the longer is the longest match and the shorter the shortest
-abbrev pub Row3 : Type 0
-Row3 = Gives 32 (
-    (Insert (0xc0a80100, 24) 1, Value None) ∷
-    (Insert (0xc0a80000, 23) 2, Value None) ∷
-    (Lpm (0xc0a80101, 32), Match (Some ((0xc0a80100, 24), 1))) ∷
-    (Lpm (0xc0a80000, 24), Match (Some ((0xc0a80000, 23), 2))) ∷
-    (Lpm (0xc0a80200, 24), Match None) ∷
-    (Spm (0xc0a80101, 32), Match (Some ((0xc0a80000, 23), 2))) ∷
-    [])
-
--- row 4, its first half: a stored prefix of length 0 covers every question
-abbrev pub Row4 : Type 0
-Row4 = Gives 32 (
-    (Insert (0, 0) 0, Value None) ∷
-    (Cover (0x0a000000, 8), Items (((0, 0), 0) ∷ [])) ∷
-    [])
-
--- row 25: the covers of a key, the shortest first, itself among them
-abbrev pub Row25 : Type 0
-Row25 = Gives 32 (
-    (Insert (0x0a000000, 8) 0, Value None) ∷
-    (Insert (0x0a010000, 16) 1, Value None) ∷
-    (Insert (0x0a010100, 24) 2, Value None) ∷
-    (Insert (0x0a010200, 24) 3, Value None) ∷
-    (Insert (0x0a010100, 25) 4, Value None) ∷
-    (Insert (0x0b000000, 8) 5, Value None) ∷
-    (Cover (0x0a010100, 24), Items (((0x0a000000, 8), 0) ∷ ((0x0a010000, 16), 1) ∷ ((0x0a010100, 24), 2) ∷ [])) ∷
-    [])
-
--- row 27: a short run
-abbrev pub Row27 : Type 0
-Row27 = Gives 8 (
-    (Insert (0, 1) 7, Value None) ∷
-    (Lpm (64, 2), Match (Some ((0, 1), 7))) ∷
-    (NodeCount, Count 1) ∷
-    (ListAll, Items (((0, 1), 7) ∷ [])) ∷
-    (Clear, Done) ∷
-    (Len, Count 0) ∷
-    [])
-
--- row 28: bits after a prefix's length count for nothing, and prefixes are shown without them
-abbrev pub Row28 : Type 0
-Row28 = Gives 8 (
-    (Insert (255, 0) 1, Value None) ∷
-    (Insert (129, 1) 2, Value None) ∷
-    (Insert (1, 8) 3, Value None) ∷
-    (Lpm (128, 1), Match (Some ((128, 1), 2))) ∷
-    (Lpm (1, 7), Match (Some ((0, 0), 1))) ∷
-    (Get (0, 8), Value None) ∷
-    (Len, Count 3) ∷
-    (ListAll, Items (((0, 0), 1) ∷ ((1, 8), 3) ∷ ((128, 1), 2) ∷ [])) ∷
-    [])
-
--- row 33, with `insert` and `get` in place of the entry calls: two prefixes with the same path are one key
-abbrev pub Row33 : Type 0
-Row33 = Gives 8 (
-    (Insert (131, 1) 5, Value None) ∷
-    (Get (200, 1), Value (Some 5)) ∷
-    (Insert (200, 1) 7, Value (Some 5)) ∷
-    (Insert (200, 2) 8, Value None) ∷
-    (ListAll, Items (((128, 1), 7) ∷ ((192, 2), 8) ∷ [])) ∷
-    [])
-
 -- the rows of this file
 pub record LookupsHold : Type 0 where
-  pub row1 : Row1
-  pub row3 : Row3
-  pub row4 : Row4
-  pub row25 : Row25
-  pub row27 : Row27
-  pub row28 : Row28
-  pub row33 : Row33
+  -- row 1: a stored network is found and overwritten; neither a neighbour nor a longer prefix is found
+  pub row1 : Gives 32 (
+      (Insert (0xc0a80000, 23) 1, Value None) ∷
+      (Insert (0xc0a80100, 24) 2, Value None) ∷
+      (Insert (0xc0a80100, 24) 3, Value (Some 2)) ∷
+      (Get (0xc0a80100, 24), Value (Some 3)) ∷
+      (Get (0xc0a80200, 24), Value None) ∷
+      (Get (0xc0a80180, 25), Value None) ∷
+      [])
+  -- row 3: of two networks that begin a question the longer is the longest match and the shorter the shortest
+  pub row3 : Gives 32 (
+      (Insert (0xc0a80100, 24) 1, Value None) ∷
+      (Insert (0xc0a80000, 23) 2, Value None) ∷
+      (Lpm (0xc0a80101, 32), Match (Some ((0xc0a80100, 24), 1))) ∷
+      (Lpm (0xc0a80000, 24), Match (Some ((0xc0a80000, 23), 2))) ∷
+      (Lpm (0xc0a80200, 24), Match None) ∷
+      (Spm (0xc0a80101, 32), Match (Some ((0xc0a80000, 23), 2))) ∷
+      [])
+  -- row 4, its first half: a stored prefix of length 0 covers every question
+  pub row4 : Gives 32 (
+      (Insert (0, 0) 0, Value None) ∷
+      (Cover (0x0a000000, 8), Items (((0, 0), 0) ∷ [])) ∷
+      [])
+  -- row 25: the covers of a key, the shortest first, itself among them
+  pub row25 : Gives 32 (
+      (Insert (0x0a000000, 8) 0, Value None) ∷
+      (Insert (0x0a010000, 16) 1, Value None) ∷
+      (Insert (0x0a010100, 24) 2, Value None) ∷
+      (Insert (0x0a010200, 24) 3, Value None) ∷
+      (Insert (0x0a010100, 25) 4, Value None) ∷
+      (Insert (0x0b000000, 8) 5, Value None) ∷
+      (Cover (0x0a010100, 24), Items (((0x0a000000, 8), 0) ∷ ((0x0a010000, 16), 1) ∷ ((0x0a010100, 24), 2) ∷ [])) ∷
+      [])
+  -- row 27: a short run
+  pub row27 : Gives 8 (
+      (Insert (0, 1) 7, Value None) ∷
+      (Lpm (64, 2), Match (Some ((0, 1), 7))) ∷
+      (NodeCount, Count 1) ∷
+      (ListAll, Items (((0, 1), 7) ∷ [])) ∷
+      (Clear, Done) ∷
+      (Len, Count 0) ∷
+      [])
+  -- row 28: bits after a prefix's length count for nothing, and prefixes are shown without them
+  pub row28 : Gives 8 (
+      (Insert (255, 0) 1, Value None) ∷
+      (Insert (129, 1) 2, Value None) ∷
+      (Insert (1, 8) 3, Value None) ∷
+      (Lpm (128, 1), Match (Some ((128, 1), 2))) ∷
+      (Lpm (1, 7), Match (Some ((0, 0), 1))) ∷
+      (Get (0, 8), Value None) ∷
+      (Len, Count 3) ∷
+      (ListAll, Items (((0, 0), 1) ∷ ((1, 8), 3) ∷ ((128, 1), 2) ∷ [])) ∷
+      [])
+  -- row 33, with `insert` and `get` in place of the entry calls: two prefixes with the same path are one key
+  pub row33 : Gives 8 (
+      (Insert (131, 1) 5, Value None) ∷
+      (Get (200, 1), Value (Some 5)) ∷
+      (Insert (200, 1) 7, Value (Some 5)) ∷
+      (Insert (200, 2) 8, Value None) ∷
+      (ListAll, Items (((128, 1), 7) ∷ ((192, 2), 8) ∷ [])) ∷
+      [])

@@ -3,117 +3,6 @@ use Rattle.std.specs.Prelude.{ℕ, ◌++◌, false, List, [], ◌∷◌, Some, N
 use Rattle.prefix_trie_bits.specs.Model.Step.{Insert, Get, Lpm, Spm, Remove, Len, NodeCount, AddressCount, ListAll, ListFrom, Cover, Value, Match, Count, Addresses, Items}
 use Rattle.prefix_trie_bits.specs.Rows.Examples.{Gives, counted, full_pairs, sets}
 
--- row 5: four keys of 32 bits in the last node
-abbrev pub Row5 : Type 0
-Row5 = Gives 32 (
-    (Insert (0x01020300, 32) 1, Value None) ∷
-    (Insert (0x01020301, 32) 2, Value None) ∷
-    (Insert (0x01020302, 32) 3, Value None) ∷
-    (Insert (0x01020303, 32) 4, Value None) ∷
-    (Len, Count 4) ∷
-    (Get (0x01020300, 32), Value (Some 1)) ∷
-    (Get (0x01020301, 32), Value (Some 2)) ∷
-    (Get (0x01020302, 32), Value (Some 3)) ∷
-    (Get (0x01020303, 32), Value (Some 4)) ∷
-    (NodeCount, Count 7) ∷
-    [])
-
--- row 6: 128 bits, where the last node has three levels left
-abbrev pub Row6 : Type 0
-Row6 = Gives 128 (
-    (Insert (0, 125) 1, Value None) ∷
-    (Insert (1, 128) 2, Value None) ∷
-    (Lpm (1, 128), Match (Some ((1, 128), 2))) ∷
-    (Lpm (2, 128), Match (Some ((0, 125), 1))) ∷
-    (NodeCount, Count 26) ∷
-    [])
-
--- row 19: eight bits, where the last node has three levels left
-abbrev pub Row19 : Type 0
-Row19 = Gives 8 (
-    (Insert (0, 5) 1, Value None) ∷
-    (Insert (6, 8) 2, Value None) ∷
-    (Insert (7, 8) 3, Value None) ∷
-    (Lpm (7, 8), Match (Some ((7, 8), 3))) ∷
-    (Lpm (5, 8), Match (Some ((0, 5), 1))) ∷
-    (Lpm (6, 7), Match (Some ((0, 5), 1))) ∷
-    (Spm (7, 8), Match (Some ((0, 5), 1))) ∷
-    (NodeCount, Count 2) ∷
-    [])
-
--- row 29, at u64: 64 bits
-abbrev pub Row29 : Type 0
-Row29 = Gives 64 (
-    (Insert (0, 60) 1, Value None) ∷
-    (Insert (5, 64) 2, Value None) ∷
-    (Insert (6, 63) 3, Value None) ∷
-    (Lpm (5, 64), Match (Some ((5, 64), 2))) ∷
-    (Lpm (4, 64), Match (Some ((0, 60), 1))) ∷
-    (Lpm (7, 64), Match (Some ((6, 63), 3))) ∷
-    (Spm (5, 64), Match (Some ((0, 60), 1))) ∷
-    [])
-
--- row 30: 16 bits
-abbrev pub Row30 : Type 0
-Row30 = Gives 16 (
-    (Insert (32768, 15) 1, Value None) ∷
-    (Insert (32769, 16) 2, Value None) ∷
-    (Lpm (32769, 16), Match (Some ((32769, 16), 2))) ∷
-    (Lpm (32768, 16), Match (Some ((32768, 15), 1))) ∷
-    (Cover (32769, 16), Items (((32768, 15), 1) ∷ ((32769, 16), 2) ∷ [])) ∷
-    (Spm (32770, 16), Match None) ∷
-    [])
-
--- row 41: the first and the last prefix of the order
-abbrev pub Row41 : Type 0
-Row41 = Gives 8 (
-    (Insert (255, 0) 1, Value None) ∷
-    (Insert (255, 8) 2, Value None) ∷
-    (Get (7, 0), Value (Some 1)) ∷
-    (Lpm (255, 8), Match (Some ((255, 8), 2))) ∷
-    (Lpm (254, 8), Match (Some ((0, 0), 1))) ∷
-    (ListFrom (255, 8) false, Items ([])) ∷
-    [])
-
--- row 41, second part: the last prefix of 128 bits
-abbrev pub Row41_wide : Type 0
-Row41_wide = Gives 128 (
-    (Insert (0xffffffffffffffffffffffffffffffff, 128) 3, Value None) ∷
-    (NodeCount, Count 26) ∷
-    (Lpm (0xffffffffffffffffffffffffffffffff, 127), Match None) ∷
-    (Remove (0xffffffffffffffffffffffffffffffff, 128), Value (Some 3)) ∷
-    (NodeCount, Count 1) ∷
-    [])
-
--- row 45: ten bits, a width of the number type's own
-abbrev pub Row45 : Type 0
-Row45 = Gives 10 (
-    (Insert (0, 0) 1, Value None) ∷
-    (Insert (1023, 10) 2, Value None) ∷
-    (Insert (992, 5) 3, Value None) ∷
-    (NodeCount, Count 3) ∷
-    (Lpm (1023, 10), Match (Some ((1023, 10), 2))) ∷
-    (Lpm (1022, 10), Match (Some ((992, 5), 3))) ∷
-    (AddressCount, Addresses None) ∷
-    (Remove (0, 0), Value (Some 1)) ∷
-    (AddressCount, Addresses (Some (32))) ∷
-    (Remove (992, 5), Value (Some 3)) ∷
-    (AddressCount, Addresses (Some (1))) ∷
-    (NodeCount, Count 3) ∷
-    (Remove (1023, 10), Value (Some 2)) ∷
-    (NodeCount, Count 1) ∷
-    [])
-
--- row 46: five bits, where each key of full length has a node of its own
-abbrev pub Row46 : Type 0
-Row46 = Gives 5 (sets (counted (full_pairs 5)) ++
-    (Len, Count 32) ∷
-    (NodeCount, Count 33) ∷
-    (AddressCount, Addresses None) ∷
-    (Remove (31, 5), Value (Some 31)) ∷
-    (AddressCount, Addresses (Some (31))) ∷
-    [])
-
 -- the 15 pairs of three bits, in listing order
 abbrev three_bits : List (ℕ × ℕ)
 three_bits =
@@ -121,24 +10,105 @@ three_bits =
     (4, 1) ∷ (4, 2) ∷ (4, 3) ∷ (5, 3) ∷ (6, 2) ∷ (6, 3) ∷ (7, 3) ∷
     []
 
--- row 46, second part: three bits, where all prefixes stand in the root
-abbrev pub Row46_three : Type 0
-Row46_three = Gives 3 (sets (counted three_bits) ++
-    (Len, Count 15) ∷
-    (NodeCount, Count 1) ∷
-    (AddressCount, Addresses None) ∷
-    (ListAll, Items (counted three_bits)) ∷
-    [])
-
 -- the rows of this file
 pub record WidthsHold : Type 0 where
-  pub row5 : Row5
-  pub row6 : Row6
-  pub row19 : Row19
-  pub row29 : Row29
-  pub row30 : Row30
-  pub row41 : Row41
-  pub row41_wide : Row41_wide
-  pub row45 : Row45
-  pub row46 : Row46
-  pub row46_three : Row46_three
+  -- row 5: four keys of 32 bits in the last node
+  pub row5 : Gives 32 (
+      (Insert (0x01020300, 32) 1, Value None) ∷
+      (Insert (0x01020301, 32) 2, Value None) ∷
+      (Insert (0x01020302, 32) 3, Value None) ∷
+      (Insert (0x01020303, 32) 4, Value None) ∷
+      (Len, Count 4) ∷
+      (Get (0x01020300, 32), Value (Some 1)) ∷
+      (Get (0x01020301, 32), Value (Some 2)) ∷
+      (Get (0x01020302, 32), Value (Some 3)) ∷
+      (Get (0x01020303, 32), Value (Some 4)) ∷
+      (NodeCount, Count 7) ∷
+      [])
+  -- row 6: 128 bits, where the last node has three levels left
+  pub row6 : Gives 128 (
+      (Insert (0, 125) 1, Value None) ∷
+      (Insert (1, 128) 2, Value None) ∷
+      (Lpm (1, 128), Match (Some ((1, 128), 2))) ∷
+      (Lpm (2, 128), Match (Some ((0, 125), 1))) ∷
+      (NodeCount, Count 26) ∷
+      [])
+  -- row 19: eight bits, where the last node has three levels left
+  pub row19 : Gives 8 (
+      (Insert (0, 5) 1, Value None) ∷
+      (Insert (6, 8) 2, Value None) ∷
+      (Insert (7, 8) 3, Value None) ∷
+      (Lpm (7, 8), Match (Some ((7, 8), 3))) ∷
+      (Lpm (5, 8), Match (Some ((0, 5), 1))) ∷
+      (Lpm (6, 7), Match (Some ((0, 5), 1))) ∷
+      (Spm (7, 8), Match (Some ((0, 5), 1))) ∷
+      (NodeCount, Count 2) ∷
+      [])
+  -- row 29, at u64: 64 bits
+  pub row29 : Gives 64 (
+      (Insert (0, 60) 1, Value None) ∷
+      (Insert (5, 64) 2, Value None) ∷
+      (Insert (6, 63) 3, Value None) ∷
+      (Lpm (5, 64), Match (Some ((5, 64), 2))) ∷
+      (Lpm (4, 64), Match (Some ((0, 60), 1))) ∷
+      (Lpm (7, 64), Match (Some ((6, 63), 3))) ∷
+      (Spm (5, 64), Match (Some ((0, 60), 1))) ∷
+      [])
+  -- row 30: 16 bits
+  pub row30 : Gives 16 (
+      (Insert (32768, 15) 1, Value None) ∷
+      (Insert (32769, 16) 2, Value None) ∷
+      (Lpm (32769, 16), Match (Some ((32769, 16), 2))) ∷
+      (Lpm (32768, 16), Match (Some ((32768, 15), 1))) ∷
+      (Cover (32769, 16), Items (((32768, 15), 1) ∷ ((32769, 16), 2) ∷ [])) ∷
+      (Spm (32770, 16), Match None) ∷
+      [])
+  -- row 41: the first and the last prefix of the order
+  pub row41 : Gives 8 (
+      (Insert (255, 0) 1, Value None) ∷
+      (Insert (255, 8) 2, Value None) ∷
+      (Get (7, 0), Value (Some 1)) ∷
+      (Lpm (255, 8), Match (Some ((255, 8), 2))) ∷
+      (Lpm (254, 8), Match (Some ((0, 0), 1))) ∷
+      (ListFrom (255, 8) false, Items ([])) ∷
+      [])
+  -- row 41, second part: the last prefix of 128 bits
+  pub row41_wide : Gives 128 (
+      (Insert (0xffffffffffffffffffffffffffffffff, 128) 3, Value None) ∷
+      (NodeCount, Count 26) ∷
+      (Lpm (0xffffffffffffffffffffffffffffffff, 127), Match None) ∷
+      (Remove (0xffffffffffffffffffffffffffffffff, 128), Value (Some 3)) ∷
+      (NodeCount, Count 1) ∷
+      [])
+  -- row 45: ten bits, a width of the number type's own
+  pub row45 : Gives 10 (
+      (Insert (0, 0) 1, Value None) ∷
+      (Insert (1023, 10) 2, Value None) ∷
+      (Insert (992, 5) 3, Value None) ∷
+      (NodeCount, Count 3) ∷
+      (Lpm (1023, 10), Match (Some ((1023, 10), 2))) ∷
+      (Lpm (1022, 10), Match (Some ((992, 5), 3))) ∷
+      (AddressCount, Addresses None) ∷
+      (Remove (0, 0), Value (Some 1)) ∷
+      (AddressCount, Addresses (Some (32))) ∷
+      (Remove (992, 5), Value (Some 3)) ∷
+      (AddressCount, Addresses (Some (1))) ∷
+      (NodeCount, Count 3) ∷
+      (Remove (1023, 10), Value (Some 2)) ∷
+      (NodeCount, Count 1) ∷
+      [])
+  -- row 46: five bits, where each key of full length has a node of its own
+  pub row46 : Gives 5 (sets (counted (full_pairs 5)) ++
+      (Len, Count 32) ∷
+      (NodeCount, Count 33) ∷
+      (AddressCount, Addresses None) ∷
+      (Remove (31, 5), Value (Some 31)) ∷
+      (AddressCount, Addresses (Some (31))) ∷
+      [])
+  -- row 46, second part: three bits, where all prefixes stand in the root
+  pub row46_three : Gives 3 (sets (counted three_bits) ++
+      (Len, Count 15) ∷
+      (NodeCount, Count 1) ∷
+      (AddressCount, Addresses None) ∷
+      (ListAll, Items (counted three_bits)) ∷
+      [])
