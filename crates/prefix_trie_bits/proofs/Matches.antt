@@ -1,11 +1,10 @@
 -- The longest and the shortest string of a bitmap that begins another.
-use Rattle.std.proofs.Common.{◌≡◌, ℕ, suc, ◌+◌, ◌-◌, ◌*◌, ◌/◌, ◌%◌, ◌^◌, ◌<◌, ◌≤◌, Bool, true, ◌&&◌, List, length, take, sym, ap, ap₂, ◌∙◌, subst, arith, bit_and, pow_pos, pow-suc}
+use Rattle.std.proofs.Common.{◌≡◌, ℕ, suc, ◌+◌, ◌-◌, ◌*◌, ◌/◌, ◌%◌, ◌^◌, ◌<◌, ◌≤◌, Bool, true, ◌&&◌, List, length, take, sym, ap, ap₂, ◌∙◌, subst, arith, bit_and, pow_pos, pow-suc, inl, inr}
 use Rattle.std.specs.Int.{bit_at, leading_zeros, trailing_zeros, w32}
 use Rattle.std.proofs.lemmas.Nat.{le-div, div_below, and_le_l}
 use Rattle.std.proofs.lemmas.Nat.Bits.{bit_at-zero, bit_at_above, bit_at-trailing_zeros}
 use Rattle.std.proofs.lemmas.List.{length-take-le}
-use Rattle.std.proofs.lemmas.Bool.{cases_lt}
-use Rattle.std.proofs.Common.{inl, inr}
+use Rattle.std.proofs.lemmas.Bool.{cases_lt, false_from_ne_true as not-true}
 use Rattle.prefix_trie_bits.specs.Bits.{digits, begins}
 use Rattle.prefix_trie_bits.specs.BitStrings.{length-digits}
 use Rattle.prefix_trie_bits.specs.Begins.{begins-take, begins-length, take-begins}
@@ -14,7 +13,6 @@ use Rattle.prefix_trie_bits.proofs.Checks.{both}
 use Rattle.prefix_trie_bits.proofs.Ranks.{bit-set, has-from}
 use Rattle.prefix_trie_bits.proofs.Bitmaps.{has-and}
 use Rattle.prefix_trie_bits.proofs.Strings.{top_length, length-short, string-bit, value_bit-longer}
-use Rattle.std.proofs.lemmas.Bool.{false_from_ne_true as not-true}
 
 none-of-zero : (x i : ℕ) → x ≡ 0 → has x i ≡ true → ⊥
 none-of-zero x i e h =

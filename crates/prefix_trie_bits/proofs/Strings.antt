@@ -5,11 +5,10 @@ use Rattle.std.proofs.lemmas.Nat.{leading_top, pow_below, one_shl}
 use Rattle.std.proofs.lemmas.Bool.{cases_lt, cases_eq}
 use Rattle.std.proofs.lemmas.List.{length-drop, take_all, take-take, length-take-le, length-append}
 use Rattle.prefix_trie_bits.specs.Bits.{number, digits, begins, zeros}
-use Rattle.prefix_trie_bits.specs.BitStrings.{same-from-number, number-lt, number-digits, length-digits, digits-number}
+use Rattle.prefix_trie_bits.specs.BitStrings.{same-from-number, number-lt, number-digits, length-digits, digits-number, bits-number, number-below}
 use Rattle.prefix_trie_bits.specs.Begins.{same_bool, begins-take, begins-from-take, begins-trans, take-begins}
 use Rattle.prefix_trie_bits.specs.Windows.{window-inside, window-of-front, length-window}
 use Rattle.prefix_trie_bits.specs.Places.{value_bit}
-use Rattle.prefix_trie_bits.specs.BitStrings.{bits-number, number-below}
 
 pub pow-le : (a b : ℕ) → a ≤ b → 2 ^ a ≤ 2 ^ b
 pow-le a b l = elim (cases_eq a b) [

@@ -24,6 +24,15 @@ pub begins-nil : (s : List Bool) → begins [] s ≡ true
 unfolding begins
 begins-nil s = refl
 
+-- what each string that goes on behind another is, and back
+follows : (a b : Bool) → (not a || b) ≡ true → a ≡ true → b ≡ true
+follows true b h e = h
+follows false b h e = absurd (true≢false (sym e))
+
+implied : (a b : Bool) → (a ≡ true → b ≡ true) → (not a || b) ≡ true
+implied true b f = f refl
+implied false b f = refl
+
 has-cond : (b : Bool) (n k : Nodes) (s : List Bool) → has_node (cond b n k) s ≡ cond b (has_node n s) (has_node k s)
 has-cond true n k s = refl
 has-cond false n k s = refl
@@ -99,24 +108,14 @@ module _ {T : Type 0} where
     closed = λ s t e b five.
         stays n m q s (good.closed s t (stood n m q t e) b five) (λ h gone.
         let g = goes n m (home q) s gone in
-        let t_home : begins t (home q) ≡ true =
-        elim (or-cases (not (begins s t)) (begins t (home q)) (each-key n (λ u. not (begins s u) || begins u (home q)) t g.alone (stood n m q t e))) [
-          | inl nay ↦ absurd (clash (begins s t) b (from-not (begins s t) nay))
-          | inr yea ↦ yea
-        ] in
+        let at_home : (u : List Bool) → has_node n u ≡ true → begins s u ≡ true → begins u (home q) ≡ true = λ u at. follows (begins s u) (begins u (home q)) (each-key n (λ v. not (begins s v) || begins v (home q)) u g.alone at) in
         spared n m q t e h (goes_from n m (home q) t (record {
           no_key = not-so (list_any (λ k. begins t k) (keys m)) (λ some.
               let k = some-key m (λ k. begins t k) some in
               clash (list_any (λ k. begins s k) (keys m)) (of-key m (λ k. begins s k) k.0 k.1 (begins-trans s t k.0 b k.2)) g.no_key);
-          on_way = t_home;
+          on_way = at_home t (stood n m q t e) b;
           not_root = longer s t (begins-length s t b) g.not_root;
-          alone = all-keys n (λ u. not (begins t u) || begins u (home q)) (λ u at. elim (begins t u) as (λ x. begins t u ≡ x → (not x || begins u (home q)) ≡ true) [
-            | true ↦ λ tu. elim (or-cases (not (begins s u)) (begins u (home q)) (each-key n (λ v. not (begins s v) || begins v (home q)) u g.alone at)) [
-              | inl nay ↦ absurd (clash (begins s u) (begins-trans s t u b tu) (from-not (begins s u) nay))
-              | inr yea ↦ yea
-            ]
-            | false ↦ λ _. refl
-          ] refl);
+          alone = all-keys n (λ u. not (begins t u) || begins u (home q)) (λ u at. implied (begins t u) (begins u (home q)) (λ tu. at_home u at (begins-trans s t u b tu)));
         })));
     hold_needed = λ s e. needed_stays n m q s (good.hold_needed s e) e;
   }
@@ -158,13 +157,11 @@ module _ {T : Type 0} where
                 no_key = none;
                 on_way = r.near at_home (b ∷ s) why.key here why.five why.stored gone why.begins_it;
                 not_root = refl;
-                alone = all-keys near_nodes (λ u. not (begins (b ∷ s) u) || begins u (home q)) (λ u at. elim (begins (b ∷ s) u) as (λ x. begins (b ∷ s) u ≡ x → (not x || begins u (home q)) ≡ true) [
-                  | true ↦ λ below. elim (needed_for m u (subst (λ x. has_node x u ≡ true) tidy (r.sub u at))) [
-                    | inl root ↦ absurd (too_long b s (subst (λ x. begins (b ∷ s) x ≡ true) root below))
-                    | inr other ↦ r.near at_home u other.key at other.five other.stored (no_longer (b ∷ s) other.key none (begins-trans (b ∷ s) u other.key below other.begins_it)) other.begins_it
-                  ]
-                  | false ↦ λ _. refl
-                ] refl);
+                alone = all-keys near_nodes (λ u. not (begins (b ∷ s) u) || begins u (home q)) (λ u at. implied (begins (b ∷ s) u) (begins u (home q)) (λ below.
+                    elim (needed_for m u (subst (λ x. has_node x u ≡ true) tidy (r.sub u at))) [
+                      | inl root ↦ absurd (too_long b s (subst (λ x. begins (b ∷ s) x ≡ true) root below))
+                      | inr other ↦ r.near at_home u other.key at other.five other.stored (no_longer (b ∷ s) other.key none (begins-trans (b ∷ s) u other.key below other.begins_it)) other.begins_it
+                    ]));
               })))
         ] refl
       ]
@@ -224,11 +221,8 @@ near_stood : (n : Nodes) (q s : List Bool) → has_node (nodes_not_below n q) s 
 near_stood n q s e = and-second (not (begins q s) || same_string s (home q)) (has_node n s) (sym (has-retained n (λ t. not (begins q t) || same_string t (home q)) s) ∙ e)
 
 pub near_is : (n : Nodes) (q s : List Bool) → has_node (nodes_not_below n q) s ≡ true → begins q s ≡ true → s ≡ home q
-near_is n q s e b =
-    elim (or-cases (not (begins q s)) (same_string s (home q)) (and-first (not (begins q s) || same_string s (home q)) (has_node n s) (sym (has-retained n (λ t. not (begins q t) || same_string t (home q)) s) ∙ e))) [
-      | inl nay ↦ absurd (clash (begins q s) b (from-not (begins q s) nay))
-      | inr same ↦ same_string-is s (home q) same
-    ]
+near_is n q s e b = same_string-is s (home q) (follows (begins q s) (same_string s (home q))
+    (and-first (not (begins q s) || same_string s (home q)) (has_node n s) (sym (has-retained n (λ t. not (begins q t) || same_string t (home q)) s) ∙ e)) b)
 
 near_home : (n : Nodes) (q : List Bool) → has_node n (home q) ≡ true → has_node (nodes_not_below n q) (home q) ≡ true
 near_home n q e = near_stays n q (home q) e (or-right (not (begins q (home q))) (same_string (home q) (home q)) (is-same_string (home q) (home q) refl))
@@ -252,7 +246,7 @@ module _ {T : Type 0} where
     where
       stays_near : (s : List Bool) → has_node n s ≡ true → (begins q s ≡ true → s ≡ home q) → has_node (nodes_not_below n q) s ≡ true
       stays_near s e only =
-          near_stays n q s e (elim (begins q s) as (λ x. begins q s ≡ x → (not x || same_string s (home q)) ≡ true) [ true ↦ λ b. is-same_string s (home q) (only b) | false ↦ λ _. refl ] refl)
+          near_stays n q s e (implied (begins q s) (same_string s (home q)) (λ b. is-same_string s (home q) (only b)))
 
       still : (k : List Bool) → contains_key (without_below m q) k ≡ true → begins q k ≡ false
       still k e = from-not (begins q k) (and-first (not (begins q k)) (contains_key m k) (sym (has-retained m (λ s. not (begins q s)) k) ∙ e))
@@ -306,10 +300,7 @@ module _ {T : Type 0} where
     on_way = g.on_way;
     not_root = λ root. is_empty t root g.not_root;
     no_key = λ k has. not-so (begins t k) (λ e. clash (list_any (λ s. begins t s) (keys m)) (of-key m (λ s. begins t s) k has e) g.no_key);
-    alone = λ u has below. elim (or-cases (not (begins t u)) (begins u (home q)) (each-key n (λ x. not (begins t x) || begins x (home q)) u g.alone has)) [
-      | inl nay ↦ absurd (clash (begins t u) below (from-not (begins t u) nay))
-      | inr yea ↦ yea
-    ];
+    alone = λ u has. follows (begins t u) (begins u (home q)) (each-key n (λ x. not (begins t x) || begins x (home q)) u g.alone has);
   }
 
   goes-out : (n : Nodes) (m : Entries T) (q t : List Bool) → IsTakenOut n m q t → Goes n m (home q) t
@@ -319,10 +310,7 @@ module _ {T : Type 0} where
         clash (begins t k.0) k.2 (out.no_key k.0 k.1));
     on_way = out.on_way;
     not_root = not_empty t out.not_root;
-    alone = all-keys n (λ u. not (begins t u) || begins u (home q)) (λ u at. elim (begins t u) as (λ x. begins t u ≡ x → (not x || begins u (home q)) ≡ true) [
-      | true ↦ λ below. out.alone u at below
-      | false ↦ λ _. refl
-    ] refl);
+    alone = all-keys n (λ u. not (begins t u) || begins u (home q)) (λ u at. implied (begins t u) (begins u (home q)) (out.alone u at));
   }
 
   gone-taken : (n : Nodes) (m : Entries T) (q t : List Bool) → has_node n t ≡ true → has_node (pruned n m q) t ≡ false → IsTakenOut n m q t

@@ -31,20 +31,6 @@ no_size sizes n m answers (size, e, c, fits) = not_size sizes m answers (subst (
 no_block : (sizes : List ℕ) (n : ℕ) → HasBlock sizes (suc n) None → ⊥
 no_block sizes n (size, e, c, fits) = not_some size e
 
-has : HasBlockFacts
-has = record {
-  three_in_four = (4, refl, (2, lit< tt, refl), lit≤ tt);
-  three_in_larger = (24, refl, (5, lit< tt, refl), lit≤ tt);
-  none_in_none = refl;
-  not_in_two = not_in value_block_sizes 2 2 (lit< tt);
-  not_in_three = no_size value_block_sizes 2 3 refl;
-  not_in_none = no_block value_block_sizes 2;
-  not_none_in_one = λ e. not_some 1 (sym e);
-}
-
-needed : BlockNeededFacts
-needed = record { in_turn = refl; with_room = refl; children = refl; lacking = refl; free = refl }
-
 -- one number is neither of two others
 neither : (a b c : ℕ) → (a == b) ≡ false → (a == c) ≡ false → (Some a ≡ Some b) ⊎ (Some a ≡ Some c) → ⊥
 neither a b c p q (inl e) = true≢false (sym (eq-eqb a b (some_is a b e)) ∙ p)
@@ -55,25 +41,6 @@ unlike a b p e = true≢false (sym (eq-eqb a b (some_is a b e)) ∙ p)
 
 pub differ : {A : Type 0} (a b : ℕ) → (a == b) ≡ false → a ≡ b → A
 differ a b p e = absurd (true≢false (sym (eq-eqb a b e) ∙ p))
-
-down : StepsDownFacts
-down = record {
-  onto_free = record { fewer = lit≤ tt; same = differ 24 25 refl; none = differ 24 0 refl; one_of = λ _ _. inr refl; smallest = λ size _ _ e f. e };
-  onto_new = record { fewer = lit≤ tt; same = differ 24 25 refl; none = differ 24 0 refl; one_of = λ _ _. inr refl; smallest = λ size _ _ e f. e };
-  may_stay = record {
-    fewer = lit≤ tt;
-    same = differ 24 25 refl;
-    none = differ 24 0 refl;
-    one_of = λ _ _. inl refl;
-    smallest = λ size _ _ e f. let l : 0 < 0 = subst (λ x. 0 < free_of value_block_sizes none_free x) (sym (some_is 24 size e)) f in absurd (omega arith);
-  };
-  gone = record { fewer = lit≤ tt; same = differ 0 1 refl; none = λ _. refl; one_of = λ _ l. absurd (omega arith); smallest = λ size _ l e f. absurd (omega arith) };
-  not_stays = λ h. unlike 31 24 refl (h.smallest 24 (lit< tt) (lit< tt) refl (lit< tt));
-  not_other_size = λ h. neither 24 31 16 refl refl (h.one_of (lit< tt) (lit< tt));
-  not_unasked = λ h. unlike 24 31 refl (h.same refl);
-  not_left_over = λ h. not_some 1 (sym (h.none refl));
-  not_more = λ h. let l : 2 ≤ 1 = h.fewer in absurd (omega arith);
-}
 
 -- the block left is too small, larger than before, or none
 under : (n o least : ℕ) (smallest : Option ℕ) → smallest ≡ Some least → n < least
@@ -97,19 +64,6 @@ may_be n low high = record {
   between = λ _ _. (n, 31, refl, refl, high, λ size e. let is = some_is 16 size e in omega arith);
 }
 
-between : StepsBetweenFacts
-between = record {
-  stays = may_be 31 (lit≤ tt) (lit≤ tt);
-  half_way = may_be 24 (lit≤ tt) (lit≤ tt);
-  smallest = may_be 16 (lit≤ tt) (lit≤ tt);
-  not_too_small = λ h. under 8 31 16 (smallest_size value_block_sizes 9) refl (lit< tt) (h.between (lit< tt) (lit< tt));
-  not_larger = λ h. over 24 16 (smallest_size value_block_sizes 9) (lit< tt) (h.between (lit< tt) (lit< tt));
-  not_without = λ h. without (Some 31) (smallest_size value_block_sizes 9) (h.between (lit< tt) (lit< tt));
-  not_left_over = λ h. not_some 1 (sym (h.none refl));
-  not_unasked = λ h. unlike 16 31 refl (h.same refl);
-  not_more_items = λ h. let l : 10 ≤ 9 = h.fewer in absurd (omega arith);
-}
-
 abbrev Longer : List ℕ → Option ℕ → Option ℕ → ℕ → Type 0
 Longer free old new after = LongerByOne value_block_sizes free old new 86 after
 
@@ -129,46 +83,9 @@ by_another : (after : ℕ) → (after == 86) ≡ false → (after == 110) ≡ fa
 by_another after p q (inl e) = differ after 86 p e
 by_another after p q (inr (size, n, o, f, e)) = differ after 110 q (let is = some_is 24 size n in omega arith)
 
-longer : LongerByOneFacts
-longer = record {
-  as_long = inl refl;
-  longer = inr (24, refl, unlike 31 24 refl, refl, refl);
-  not_beside_free = beside_free;
-  not_unmoved = unmoved;
-  not_without_block = without_block;
-  not_by_two = by_another 134 refl refl;
-  not_shorter = by_another 55 refl refl;
-}
-
 within_both : MayPassLimit (room_of 100 44 69) → ⊥
 within_both (inl l) = let less : 100 < 100 = l in absurd (omega arith)
 within_both (inr l) = let less : 100 < 100 = l in absurd (omega arith)
-
-room : RoomFacts
-room = record {
-  longest = record { same_limit = refl; nodes_within = lit≤ tt; cells_within = lit≤ tt; nodes_grow = lit≤ tt; cells_grow = lit≤ tt };
-  up_to_limit = record { same_limit = refl; nodes_within = lit≤ tt; cells_within = lit≤ tt; nodes_grow = lit≤ tt; cells_grow = lit≤ tt };
-  not_another_limit = λ h. differ 101 100 refl h.same_limit;
-  not_nodes_past_limit = λ h. let l : 101 ≤ 100 = h.nodes_within in absurd (omega arith);
-  not_cells_past_limit = λ h. let l : 101 ≤ 100 = h.cells_within in absurd (omega arith);
-  not_57_for_nodes = λ h. let l : 58 ≤ 57 = h.nodes_grow in absurd (omega arith);
-  not_57_for_cells = λ h. let l : 57 ≤ 56 = h.cells_grow in absurd (omega arith);
-  by_nodes = inl (lit< tt);
-  by_cells = inr (lit< tt);
-  by_neither = within_both;
-}
-
-with_gap : Tiles child_block_sizes 1 (at_slot 1 2 ∷ at_slot 4 1 ∷ []) 5 → ⊥
-with_gap (c, s, (d, t, e)) = differ 4 3 refl t
-
-overlapping : Tiles child_block_sizes 1 (at_slot 1 2 ∷ at_slot 2 1 ∷ []) 3 → ⊥
-overlapping (c, s, (d, t, e)) = differ 2 3 refl t
-
-of_31 : Tiles child_block_sizes 1 (at_slot 1 31 ∷ []) 32 → ⊥
-of_31 (c, s, e) = not_size child_block_sizes 31 refl c
-
-short_of_end : Tiles child_block_sizes 1 (at_slot 1 2 ∷ []) 4 → ⊥
-short_of_end (c, s, e) = differ 4 3 refl e
 
 abbrev size_of : Block → ℕ
 size_of b = b.size
@@ -181,16 +98,74 @@ all_slots sizes first end (b ∷ bs) (c, s, t) = let rest = all_slots sizes (fir
 owned : (sizes : List ℕ) (first end : ℕ) (live free : List Block) → AreBlocksOf sizes first live free end → end ≡ first + sum_by size_of (live ++ free)
 owned sizes first end live free h = all_slots sizes first end h.blocks h.tiles ∙ ap (λ n. first + n) (sum_by-IsPermutation size_of (live ++ free) h.blocks h.rearranged)
 
-tiles : TilesFacts
-tiles = record {
-  tiled = ((1, lit< tt, refl), refl, ((0, lit< tt, refl), refl, refl));
-  not_with_gap = with_gap;
-  not_overlapping = overlapping;
-  not_of_31 = of_31;
-  not_short_of_end = short_of_end;
-  not_without_owner = λ h. differ 4 3 refl (owned child_block_sizes 1 4 (at_slot 1 2 ∷ []) [] h);
-  not_with_two = λ h. differ 3 5 refl (owned child_block_sizes 1 3 (at_slot 1 2 ∷ []) (at_slot 1 2 ∷ []) h);
-}
-
 pub blocks_hold : BlocksHold
-blocks_hold = record { has = has; needed = needed; down = down; between = between; longer = longer; room = room; tiles = tiles }
+blocks_hold = record {
+  has = record {
+    three_in_four = (4, refl, (2, lit< tt, refl), lit≤ tt);
+    three_in_larger = (24, refl, (5, lit< tt, refl), lit≤ tt);
+    none_in_none = refl;
+    not_in_two = not_in value_block_sizes 2 2 (lit< tt);
+    not_in_three = no_size value_block_sizes 2 3 refl;
+    not_in_none = no_block value_block_sizes 2;
+    not_none_in_one = λ e. not_some 1 (sym e);
+  };
+  needed = record { in_turn = refl; with_room = refl; children = refl; lacking = refl; free = refl };
+  down = record {
+    onto_free = record { fewer = lit≤ tt; same = differ 24 25 refl; none = differ 24 0 refl; one_of = λ _ _. inr refl; smallest = λ size _ _ e f. e };
+    onto_new = record { fewer = lit≤ tt; same = differ 24 25 refl; none = differ 24 0 refl; one_of = λ _ _. inr refl; smallest = λ size _ _ e f. e };
+    may_stay = record {
+      fewer = lit≤ tt;
+      same = differ 24 25 refl;
+      none = differ 24 0 refl;
+      one_of = λ _ _. inl refl;
+      smallest = λ size _ _ e f. let l : 0 < 0 = subst (λ x. 0 < free_of value_block_sizes none_free x) (sym (some_is 24 size e)) f in absurd (omega arith);
+    };
+    gone = record { fewer = lit≤ tt; same = differ 0 1 refl; none = λ _. refl; one_of = λ _ l. absurd (omega arith); smallest = λ size _ l e f. absurd (omega arith) };
+    not_stays = λ h. unlike 31 24 refl (h.smallest 24 (lit< tt) (lit< tt) refl (lit< tt));
+    not_other_size = λ h. neither 24 31 16 refl refl (h.one_of (lit< tt) (lit< tt));
+    not_unasked = λ h. unlike 24 31 refl (h.same refl);
+    not_left_over = λ h. not_some 1 (sym (h.none refl));
+    not_more = λ h. let l : 2 ≤ 1 = h.fewer in absurd (omega arith);
+  };
+  between = record {
+    stays = may_be 31 (lit≤ tt) (lit≤ tt);
+    half_way = may_be 24 (lit≤ tt) (lit≤ tt);
+    smallest = may_be 16 (lit≤ tt) (lit≤ tt);
+    not_too_small = λ h. under 8 31 16 (smallest_size value_block_sizes 9) refl (lit< tt) (h.between (lit< tt) (lit< tt));
+    not_larger = λ h. over 24 16 (smallest_size value_block_sizes 9) (lit< tt) (h.between (lit< tt) (lit< tt));
+    not_without = λ h. without (Some 31) (smallest_size value_block_sizes 9) (h.between (lit< tt) (lit< tt));
+    not_left_over = λ h. not_some 1 (sym (h.none refl));
+    not_unasked = λ h. unlike 16 31 refl (h.same refl);
+    not_more_items = λ h. let l : 10 ≤ 9 = h.fewer in absurd (omega arith);
+  };
+  longer = record {
+    as_long = inl refl;
+    longer = inr (24, refl, unlike 31 24 refl, refl, refl);
+    not_beside_free = beside_free;
+    not_unmoved = unmoved;
+    not_without_block = without_block;
+    not_by_two = by_another 134 refl refl;
+    not_shorter = by_another 55 refl refl;
+  };
+  room = record {
+    longest = record { same_limit = refl; nodes_within = lit≤ tt; cells_within = lit≤ tt; nodes_grow = lit≤ tt; cells_grow = lit≤ tt };
+    up_to_limit = record { same_limit = refl; nodes_within = lit≤ tt; cells_within = lit≤ tt; nodes_grow = lit≤ tt; cells_grow = lit≤ tt };
+    not_another_limit = λ h. differ 101 100 refl h.same_limit;
+    not_nodes_past_limit = λ h. let l : 101 ≤ 100 = h.nodes_within in absurd (omega arith);
+    not_cells_past_limit = λ h. let l : 101 ≤ 100 = h.cells_within in absurd (omega arith);
+    not_57_for_nodes = λ h. let l : 58 ≤ 57 = h.nodes_grow in absurd (omega arith);
+    not_57_for_cells = λ h. let l : 57 ≤ 56 = h.cells_grow in absurd (omega arith);
+    by_nodes = inl (lit< tt);
+    by_cells = inr (lit< tt);
+    by_neither = within_both;
+  };
+  tiles = record {
+    tiled = ((1, lit< tt, refl), refl, ((0, lit< tt, refl), refl, refl));
+    not_with_gap = λ h. differ 4 3 refl h.2.1;
+    not_overlapping = λ h. differ 2 3 refl h.2.1;
+    not_of_31 = λ h. not_size child_block_sizes 31 refl h.0;
+    not_short_of_end = λ h. differ 4 3 refl h.2;
+    not_without_owner = λ h. differ 4 3 refl (owned child_block_sizes 1 4 (at_slot 1 2 ∷ []) [] h);
+    not_with_two = λ h. differ 3 5 refl (owned child_block_sizes 1 3 (at_slot 1 2 ∷ []) (at_slot 1 2 ∷ []) h);
+  };
+}
