@@ -9,7 +9,7 @@ use Rattle.prefix_trie_bits.specs.Order.{same_string}
 use Rattle.prefix_trie_bits.specs.Model.Entries.{Entries, without_entry, without_below}
 use Rattle.prefix_trie_bits.specs.Model.Nodes.{Nodes, has_node, home, needed, AreNodes, IsTidy, is_root, is_pruned, pruned, nodes_not_below, nodes_without, nodes_without_below}
 use Rattle.prefix_trie_bits.specs.Laws.Pruning.{IsTakenOut, IsPruning, PruningLaws}
-use Rattle.prefix_trie_bits.proofs.Model.Members.{or-cases, or-right, and-first, and-second, and-join, not-true, from-not, same_string-is, is-same_string, some-key, of-key, each-key, all-keys, has-retained, has-removed, needs, needs_root, needed_for, same_nodes}
+use Rattle.prefix_trie_bits.proofs.Model.Members.{or-right, and-first, and-second, and-join, not-true, from-not, same_string-is, is-same_string, some-key, of-key, each-key, all-keys, has-retained, has-removed, needs, needs_root, needed_for, same_nodes}
 use Rattle.prefix_trie_bits.proofs.Model.Homes.{home-begins, home-depth, home-longest}
 pub use Rattle.std.proofs.lemmas.Bool.{false_from_ne_true as not-so}
 

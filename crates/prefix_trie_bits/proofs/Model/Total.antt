@@ -1,10 +1,9 @@
 -- From every map, however it is stored, each fitting call has a step.
-use Rattle.std.proofs.Common.{◌≡◌, ℕ, ◌+◌, ◌<◌, ◌≤◌, ◌⊎◌, inl, inr, Bool, true, false, cond, not, ◌&&◌, nat_le, is_some, List, [], ◌∷◌, length, All, refl, sym, ap, ◌∙◌, subst, arith, true≢false}
+use Rattle.std.proofs.Common.{◌≡◌, ℕ, ◌+◌, ◌<◌, ◌≤◌, ◌⊎◌, inl, inr, Bool, true, false, cond, not, ◌&&◌, nat_le, List, [], ◌∷◌, length, All, refl, sym, ap, ◌∙◌, subst, arith, true≢false}
 use Rattle.std.proofs.lemmas.Bool.{cases_Bool, cases_eq, cases_lt}
 use Rattle.std.proofs.lemmas.List.Elements.{All-head, All-tail}
-use Rattle.std.specs.FinMap.{get, contains_key, len, empty_of_len, get-empty}
+use Rattle.std.specs.FinMap.{get, contains_key, len, empty_of_len}
 use Rattle.prefix_trie_bits.specs.Bits.{begins}
-use Rattle.prefix_trie_bits.specs.Order.{listing_cmp, same_string}
 use Rattle.prefix_trie_bits.specs.Model.Blocks.{no_layout}
 use Rattle.prefix_trie_bits.specs.Model.Entries.{Entries, with_entry, without_entry, without_below, part_at_least, no_entries}
 use Rattle.prefix_trie_bits.specs.Model.Insertion.{node_slots_lacking, cell_slots_lacking}
@@ -17,12 +16,12 @@ use Rattle.prefix_trie_bits.specs.Laws.Steps.{IsMap}
 use Rattle.prefix_trie_bits.specs.Laws.Total.{IsStoredMap, GivesCause, TotalLaws}
 use Rattle.prefix_trie_bits.proofs.Model.Determined.{cause_of, no_refusal, refused, set}
 use Rattle.prefix_trie_bits.proofs.Model.Storage.Gained.{gained, gained_inserts}
-use Rattle.prefix_trie_bits.proofs.Model.Storage.Lessened.{IsLeft, removed_is, bare_have, many_left, value_left, one_left}
-use Rattle.prefix_trie_bits.proofs.Model.Members.{from-not, same_string-is, has-empty, has-root_alone, has-retained}
+use Rattle.prefix_trie_bits.proofs.Model.Storage.Lessened.{IsLeft, bare_have, new_have, many_left, value_left, one_left}
+use Rattle.prefix_trie_bits.proofs.Model.Members.{from-not, has-empty, has-retained}
 use Rattle.prefix_trie_bits.proofs.Model.Pruning.{begins-nil, needed_fewer, near_is, pruning_laws, remove_law, remove_children_law}
 use Rattle.prefix_trie_bits.proofs.Model.Storage.Refusing.{refuses}
 use Rattle.prefix_trie_bits.proofs.Model.Storage.Slots.{nodes_most, cells_most}
-use Rattle.prefix_trie_bits.proofs.Model.Storage.Staying.{stays_stored}
+use Rattle.prefix_trie_bits.proofs.Model.Storage.Staying.{one_gone, stays_stored}
 use Rattle.prefix_trie_bits.proofs.Model.Steps.{part_fewer, stays_map}
 use Rattle.prefix_trie_bits.proofs.Model.Storage.Supplied.{supplied, stored_have}
 use Rattle.std.proofs.lemmas.List.{nil_from_length}
@@ -115,26 +114,16 @@ module _ {P T : Type 0} (path : P → List Bool) (back : List Bool → P) (width
   removes : (q : P) → length (path q) ≤ width → Answers (Remove q)
   removes q fits =
       let t : State T = record { entries = without_entry s.0.entries (path q); nodes = nodes_without s.0.nodes s.0.entries (path q) } in
-      let left : IsLeft width s.0 t = record {
-        was = whole.is_map;
-        is = stays_map path back width s.0 (Remove q) (Value (get s.0.entries (path q))) t fits (refl, refl) whole.is_map;
-        test = λ k. not (same_string k (path q));
-        kept = removed_is s.0.entries (path q);
-        stood = (remove_law width s.0.entries s.0.nodes (path q) whole.is_map.are_nodes).none_new;
-      } in
+      let left = one_gone path back width s whole q t (stays_map path back width s.0 (Remove q) (Value (get s.0.entries (path q))) t fits (refl, refl) whole.is_map) refl
+      (remove_law width s.0.entries s.0.nodes (path q) whole.is_map.are_nodes).none_new in
       let l = one_left width s.0 t left (path q) s.1 whole.have_blocks refl refl in
       changes (Remove q) (Value (get s.0.entries (path q))) t l.0 fits refl (refl, refl) l.1 (l.2, l.3) l.4
 
   removes_keeping : (q : P) → length (path q) ≤ width → Answers (RemoveKeepTree q)
   removes_keeping q fits =
       let t : State T = record s.0 { entries = without_entry s.0.entries (path q) } in
-      let left : IsLeft width s.0 t = record {
-        was = whole.is_map;
-        is = stays_map path back width s.0 (RemoveKeepTree q) (Value (get s.0.entries (path q))) t fits (refl, refl) whole.is_map;
-        test = λ k. not (same_string k (path q));
-        kept = removed_is s.0.entries (path q);
-        stood = λ p there. there;
-      } in
+      let left = one_gone path back width s whole q t (stays_map path back width s.0 (RemoveKeepTree q) (Value (get s.0.entries (path q))) t fits (refl, refl) whole.is_map) refl
+      (λ p there. there) in
       let l = value_left width s.0 t left (path q) s.1 whole.have_blocks refl refl in
       changes (RemoveKeepTree q) (Value (get s.0.entries (path q))) t l.0 fits refl (refl, refl) l.1 (l.2, ap (λ r. r.node_slots) l.1, l.3, l.4) l.5
 
@@ -184,9 +173,7 @@ module _ {P T : Type 0} (path : P → List Bool) (back : List Bool → P) (width
       (λ k there. all_below s.0.entries s.0.nodes k whole.is_map.are_nodes.rooted (ap (λ p. has_node (nodes_without_below s.0.nodes s.0.entries p) k) (sym root) ∙ there)))
 
   clears : Answers Clear
-  clears = empties Clear (record { entries = no_entries; nodes = root_alone }) tt (refl, refl) refl
-      (bare_have (record { entries = no_entries; nodes = root_alone }) (λ k has. true≢false (sym has ∙ ap is_some (get-empty listing_cmp k)))
-      (λ k there. same_string-is k [] (sym (has-root_alone k) ∙ there)))
+  clears = empties Clear (record { entries = no_entries; nodes = root_alone }) tt (refl, refl) refl (new_have T)
 
   -- ---- insertions
 

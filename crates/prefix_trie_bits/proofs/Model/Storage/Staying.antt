@@ -1,8 +1,8 @@
 -- A step leads from a map, however it is stored, to such a map again.
-use Rattle.std.proofs.Common.{◌≡◌, ◌≢◌, ℕ, ◌<◌, ◌≤◌, inl, inr, Bool, true, false, cond, not, List, [], length, is_some, true≢false, Option, None, refl, sym, ap, ◌∙◌, subst, arith}
+use Rattle.std.proofs.Common.{◌≡◌, ◌≢◌, ℕ, ◌<◌, ◌≤◌, inl, inr, Bool, true, false, cond, not, List, length, Option, None, refl, sym, ap, ◌∙◌, subst, arith}
 use Rattle.std.proofs.lemmas.Bool.{cases_Bool, cases_eq}
-use Rattle.std.specs.FinMap.{get, contains_key, get-empty}
-use Rattle.prefix_trie_bits.specs.Order.{listing_cmp, same_string}
+use Rattle.std.specs.FinMap.{get, contains_key}
+use Rattle.prefix_trie_bits.specs.Order.{same_string}
 use Rattle.prefix_trie_bits.specs.Model.Blocks.{Sizes, StepsDown, SizesStepDown, HasBlock, NodesHaveBlocks, child_block_sizes, value_block_sizes, child_count, own_entries}
 use Rattle.prefix_trie_bits.specs.Model.Entries.{with_entry, without_entry, no_entries}
 use Rattle.prefix_trie_bits.specs.Model.Nodes.{Nodes, has_node, root_alone, with_needed}
@@ -11,8 +11,7 @@ use Rattle.prefix_trie_bits.specs.Model.Storage.{Storage, cleared, HaveBlocks, S
 use Rattle.prefix_trie_bits.specs.Laws.Steps.{IsMap}
 use Rattle.prefix_trie_bits.specs.Laws.Storage.{may_change}
 use Rattle.prefix_trie_bits.specs.Laws.Total.{IsStoredMap}
-use Rattle.prefix_trie_bits.proofs.Model.Storage.Lessened.{IsLeft, removed_is, bare_have, entries_bare, children_bare}
-use Rattle.prefix_trie_bits.proofs.Model.Members.{same_string-is, has-root_alone}
+use Rattle.prefix_trie_bits.proofs.Model.Storage.Lessened.{IsLeft, removed_is, new_have, entries_bare, children_bare}
 use Rattle.prefix_trie_bits.proofs.Model.Pruning.{remove_law}
 use Rattle.prefix_trie_bits.proofs.Model.Storage.Readied.{goes_up}
 use Rattle.prefix_trie_bits.proofs.Model.Storage.Shrinking.{has_none, has_some, has_cases, smallest_of}
@@ -64,9 +63,6 @@ module _ {T : Type 0} where
     value_blocks = subst (NodesHaveBlocks value_block_sizes s.nodes (own_entries s.entries)) (sym values) have.value_blocks;
   })
 
-none_stored : (T : Type 0) (k : List Bool) → contains_key (no_entries {T = T}) k ≡ true → ⊥
-none_stored T k has = true≢false (sym has ∙ ap is_some (get-empty listing_cmp k))
-
 module _ {P T : Type 0} (path : P → List Bool) (back : List Bool → P) (width : ℕ) (s : State T × Storage) (whole : IsStoredMap width s) where
   abbrev Stays : Call P T → Type 0
   Stays call = (reply : Reply P T) (t : State T × Storage) → CallFits (λ q. length (path q) ≤ width) call → StepInStorage path back width s call reply t → HaveBlocks t.0 t.1.layout
@@ -94,7 +90,7 @@ module _ {P T : Type 0} (path : P → List Bool) (back : List Bool → P) (width
   ]
 
   -- what is left where one entry goes
-  one_gone : (q : P) (t : State T) → IsMap width t → t.entries ≡ without_entry s.0.entries (path q)
+  pub one_gone : (q : P) (t : State T) → IsMap width t → t.entries ≡ without_entry s.0.entries (path q)
       → ((p : List Bool) → has_node t.nodes p ≡ true → has_node s.0.nodes p ≡ true) → IsLeft width s.0 t
   one_gone q t is entries stood = record {
     was = whole.is_map;
@@ -129,7 +125,7 @@ module _ {P T : Type 0} (path : P → List Bool) (back : List Bool → P) (width
 
   cleared_all : Stays Clear
   cleared_all reply t fits h = have_same (record { entries = no_entries; nodes = root_alone }) t.0 (cleared s.1) t.1 h.step.1 (ap (λ x. x.layout.child_blocks) h.storage) (ap (λ x. x.layout.value_blocks) h.storage)
-      (bare_have (record { entries = no_entries; nodes = root_alone }) (none_stored T) (λ k there. same_string-is k [] (sym (has-root_alone k) ∙ there)))
+      (new_have T)
 
   blocks : (call : Call P T) → ((n : ℕ) → call ≢ RetainAtLeast n) → ((q : P) → call ≢ RemoveChildren q) → Stays call
   blocks (Insert q v) some below = inserted q v
