@@ -65,7 +65,7 @@ pub fn step_down<K: Key, A: Allocator, V: Tick>(
         (V.count counter.new ≡ V.count counter.old)
         (λ _. V.count counter.new ≡ V.count counter.old + 1) }
 {
-    if 5 * from.level + 5 > len {
+    if from.level >= len / 5 {
         return None;
     }
     let child = child_bit_of(rest, 0);
@@ -130,7 +130,7 @@ pub fn locate_in<K: Key, A: Allocator, V: Tick>(
 {
     let (reached, rest) = descend(nodes, key, len, counter);
     let depth = 5 * reached.level;
-    if depth + 5 <= len {
+    if reached.level < len / 5 {
         return Location::Missing(WayEnd { reached });
     }
     let bit = value_bit_of(rest, 0, len - depth);
