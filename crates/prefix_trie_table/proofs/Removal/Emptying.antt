@@ -146,62 +146,56 @@ one_less : (c n l : ℕ) (b : Bool) → c ≡ l → n + one_if b ≡ c → n ≡
 one_less c n l true e f = omega (arith, e, f)
 one_less c n l false e f = omega (arith, e, f)
 
--- a removal: what it leaves of the table
+-- what a removal that answers this leaves of a table with these entries: arrays that are a table of this state and of no other
+pub record TakenOut {T : Type 0} (key : List Bool) (v v2 : Store Node) (w w2 : Store (Option T)) (count2 : ℕ) (s left : State T) (removed : Option T) : Type 0 where
+  pub was : removed ≡ get s.entries key
+  pub shape : IsShapeOf v2.slots w2.slots left
+  pub only : (t : Shaped v2.slots w2.slots) → t.0 ≡ left
+  pub some : SomeTable v2 w2
+  pub table : Grows v v2 24 → Grows w w2 24 → (t : Shaped v2.slots w2.slots) → IsTable v2 w2 count2 t.0
+
 module _ {T : Type 0} (key : List Bool) (v v2 : Store Node) (w w2 : Store (Option T)) (count count2 : ℕ) (s : Shaped v.slots w.slots)
     (is : IsTable v w count s.0) (removed : Option T)
-    (before : ForHeld v w (λ reading paths values. removed ≡ values (path_of key) (bit_of key))) where
-  -- the answer is the value that was there
-  pub removed_is : removed ≡ get s.0.entries key
-  removed_is =
+    (before : ForHeld v w (λ reading paths values. removed ≡ values (path_of key) (bit_of key))) (fewer : count2 + one_if (is_some removed) ≡ count) where
+  -- arrays that have a shape with the other entries are a table
+  pub left_without : (left : State T) → IsShapeOf v2.slots w2.slots left → left.entries ≡ without_entry s.0.entries key →
+      (t : SomeTable v2 w2) × (entry_count t.reading t.paths + one_if (is_some (is.values (path_of key) (bit_of key))) ≡ entry_count is.reading is.paths) →
+      TakenOut key v v2 w w2 count2 s.0 left removed
+  left_without left shape entries counted =
       let t = some_table is in
-      before t.reading t.paths t.values t.holds
-      ∙ sym (shape_entries t.reading t.values t.paths v w t.holds s.0 s.1 key)
-
-  -- arrays that have this shape are a table
-  pub table_without : (left : State T) → IsShapeOf v2.slots w2.slots left → left.entries ≡ without_entry s.0.entries key →
-      count2 + one_if (is_some removed) ≡ count → (t : SomeTable v2 w2) × (count2 ≡ entry_count t.reading t.paths) → Grows v v2 24 → Grows w w2 24 →
-      (t : Shaped v2.slots w2.slots) → IsTable v2 w2 count2 t.0
-  table_without left shape entries fewer counted nodes cells t =
-      let only : t.0 ≡ left = same_shape v2.slots w2.slots t.0 left t.1 shape in
+      let was : removed ≡ is.values (path_of key) (bit_of key) = before t.reading t.paths t.values t.holds in
+      let stored : removed ≡ get s.0.entries key = was ∙ sym (shape_entries t.reading t.values t.paths v w t.holds s.0 s.1 key) in
       record {
-        reading = counted.0.reading;
-        values = counted.0.values;
-        paths = counted.0.paths;
-        nodes = counted.0.holds.hold;
-        cells = counted.0.holds.cells;
-        counted = counted.1;
-        sized = one_less count count2 (len s.0.entries) (is_some removed) is.sized fewer
-            ∙ ap (λ b. cond b (len s.0.entries - 1) (len s.0.entries)) (ap is_some removed_is)
-            ∙ sym (len-remove listing_total s.0.entries key)
-            ∙ ap len (sym entries) ∙ ap (λ (y : State T). len y.entries) (sym only);
-        cells_first = cells.first_is ∙ is.cells_first;
-        one_limit = cells.limit_is ∙ is.one_limit ∙ sym nodes.limit_is;
-        nodes_within = nodes.within is.nodes_within;
-        cells_within = cells.within is.cells_within;
+        was = stored;
+        shape = shape;
+        only = λ t. same_shape v2.slots w2.slots t.0 left t.1 shape;
+        some = counted.0;
+        table = λ nodes cells t. record {
+          reading = counted.0.reading;
+          values = counted.0.values;
+          paths = counted.0.paths;
+          nodes = counted.0.holds.hold;
+          cells = counted.0.holds.cells;
+          counted = omega (arith, counted.1, is.counted, ap (λ o. one_if (is_some o)) was, fewer);
+          sized = one_less count count2 (len s.0.entries) (is_some removed) is.sized fewer
+              ∙ ap (λ b. cond b (len s.0.entries - 1) (len s.0.entries)) (ap is_some stored)
+              ∙ sym (len-remove listing_total s.0.entries key)
+              ∙ ap len (sym entries) ∙ ap (λ (y : State T). len y.entries) (sym (same_shape v2.slots w2.slots t.0 left t.1 shape));
+          cells_first = cells.first_is ∙ is.cells_first;
+          one_limit = cells.limit_is ∙ is.one_limit ∙ sym nodes.limit_is;
+          nodes_within = nodes.within is.nodes_within;
+          cells_within = cells.within is.cells_within;
+        };
       }
 
-  module _ (taken : ForHeld v w (λ reading paths values. EntryTaken reading paths values (path_of key) (bit_of key) v2 w w2)) where
-    -- the shape that is left where the nodes stay
-    pub kept_shape : IsShapeOf v2.slots w2.slots (record { entries = without_entry s.0.entries key; nodes = s.0.nodes })
-    kept_shape =
-        let t = some_table is in
-        shape_taken t.reading t.values t.paths v w t.holds key v2 w2 s.0 s.1 (taken t.reading t.paths t.values t.holds)
-
-    -- and no other
-    pub kept_only : (t : Shaped v2.slots w2.slots) → t.0 ≡ record { entries = without_entry s.0.entries key; nodes = s.0.nodes }
-    kept_only t = same_shape v2.slots w2.slots t.0 (record { entries = without_entry s.0.entries key; nodes = s.0.nodes }) t.1 kept_shape
-
-    -- the number of entries that the arrays hold then
-    pub counted_without : count2 + one_if (is_some removed) ≡ count →
-        (t : SomeTable v2 w2) × (count2 ≡ entry_count t.reading t.paths)
-    counted_without fewer =
-        let t = some_table is in
-        let a = taken t.reading t.paths t.values t.holds in
-        let had : one_if (is_some removed) ≡ one_if (is_some (t.values (path_of key) (bit_of key))) =
-        ap (λ o. one_if (is_some o)) (before t.reading t.paths t.values t.holds) in (
-          record { reading = a.later; values = with_value t.values (path_of key) (bit_of key) None; paths = t.paths; holds = a.holds },
-          (let n = a.counted in let h = is.counted in omega (arith, n, h, had, fewer)),
-        )
+  -- where the nodes stay
+  pub kept_without : ForHeld v w (λ reading paths values. EntryTaken reading paths values (path_of key) (bit_of key) v2 w w2) →
+      TakenOut key v v2 w w2 count2 s.0 (record { entries = without_entry s.0.entries key; nodes = s.0.nodes }) removed
+  kept_without taken =
+      let t = some_table is in
+      let a = taken t.reading t.paths t.values t.holds in
+      left_without _ (shape_taken t.reading t.values t.paths v w t.holds key v2 w2 s.0 s.1 a) refl
+      (record { reading = a.later; values = with_value t.values (path_of key) (bit_of key) None; paths = t.paths; holds = a.holds }, a.counted)
 
 -- a string's own node was reached, and x is the string's value bit
 module _ {T : Type 0} (b : List Bool) (len slot : ℕ) (node : Node) (v : Store Node) (at : IsReached b len (len / 5) node slot v) (x : ℕ)

@@ -19,18 +19,18 @@ use Rattle.prefix_trie_table.specs.Store.{Store}
 use Rattle.prefix_trie_table.specs.Forest.{read, Holds, NodesHold, IsSlot}
 use Rattle.prefix_trie_table.specs.Removals.{EntryTaken, EntryRemoved, Pruned, IsWay, StandsAtEnd, slot_in}
 use Rattle.prefix_trie_table.specs.Settling.{NodesSettle}
-use Rattle.prefix_trie_table.specs.Shape.{Contents, state, IsShapeOf, Shaped}
+use Rattle.prefix_trie_table.specs.Shape.{Contents, state, Shaped}
 use Rattle.prefix_trie_table.specs.Tables.{ForHeld, Grows, IsReached, IsTable, IsTrie}
 use Rattle.prefix_trie_table.specs.Retaining.{ValuesBetween, ChildrenBetween, IsSite, Lasts, Retains, RetainsTo}
 use Rattle.prefix_trie_table.proofs.Tree.Invariant.{some_table}
 use Rattle.prefix_trie_table.proofs.Removal.Between.{between_then, pruned_values_between, pruned_children_between}
 use Rattle.prefix_trie_table.proofs.Tree.Children.{same_or}
 use Rattle.prefix_trie_table.proofs.Strings.Digits.{path-take}
-use Rattle.prefix_trie_table.proofs.Removal.Emptying.{nothing_taken, table_without}
+use Rattle.prefix_trie_table.proofs.Removal.Emptying.{nothing_taken}
 use Rattle.prefix_trie_table.proofs.Removal.Emptied.{AreBelow, emptied, no_node_there, home_stands, own_gone, removed_alike, pruned_alike}
 use Rattle.prefix_trie_table.proofs.Lookup.Finding.{reached_own}
 use Rattle.prefix_trie_table.proofs.Lookup.Going.{level_last, steps-all}
-use Rattle.prefix_trie_table.proofs.Removal.Removed.{removed_shape, counted_removed}
+use Rattle.prefix_trie_table.proofs.Removal.Removed.{removed_without}
 use Rattle.prefix_trie_table.proofs.Retain.Retained.{read_held, slot_stays}
 use Rattle.prefix_trie_table.proofs.Insertion.Rooms.{Grows-same}
 use Rattle.prefix_trie_table.proofs.Removal.Settling.{Settles-nodes}
@@ -147,20 +147,13 @@ module _ {T : Type 0} (width : ℕ) (q : List Bool) (v v2 : Store Node) (w : Sto
         refl,
       )
 
-  left_shape : IsShapeOf v2.slots w.slots (record { entries = without_entry s.entries q; nodes = nodes_without s.nodes s.entries q })
-  left_shape = removed_shape q v v2 w w count count (s, trie.shaped) trie.table None none_held only_pruned
-
   pub trie_pruned : Grows v v2 24 → IsTrie width count v2 w (record { entries = without_entry s.entries q; nodes = nodes_without s.nodes s.entries q })
   trie_pruned room =
       let laws : PruningLaws T = pruning_laws T in
-      let same : count + 0 ≡ count = omega arith in
+      let left = removed_without q v v2 w w count count (s, trie.shaped) trie.table None none_held (omega arith) only_pruned in
       record {
-        table =
-            table_without q v v2 w w count count (s, trie.shaped) trie.table None none_held
-            (record { entries = without_entry s.entries q; nodes = nodes_without s.nodes s.entries q }) left_shape refl same
-            (counted_removed q v v2 w w count count (s, trie.shaped) trie.table None none_held only_pruned same) room (Grows-same w w 24 refl)
-            (record { entries = without_entry s.entries q; nodes = nodes_without s.nodes s.entries q }, left_shape);
-        shaped = left_shape;
+        table = left.table room (Grows-same w w 24 refl) (_, left.shape);
+        shaped = left.shape;
         within = λ k stored. trie.within k (removed_fewer s.entries q k stored);
         nodes = (laws.of_remove width s.entries s.nodes q trie.nodes).are_nodes;
       }

@@ -21,14 +21,14 @@ use Rattle.prefix_trie_table.specs.Digits.{path_of, bit_of}
 use Rattle.prefix_trie_table.specs.Store.{Store}
 use Rattle.prefix_trie_table.specs.Forest.{is_start, same_path, one_if, entry_count, SomeTable, Holds, has_child, has_value, with_value}
 use Rattle.prefix_trie_table.specs.Removals.{EntryTaken, Pruned, EntryRemoved}
-use Rattle.prefix_trie_table.specs.Shape.{IsShapeOf, Shaped, same_shape}
+use Rattle.prefix_trie_table.specs.Shape.{IsShapeOf, Shaped}
 use Rattle.prefix_trie_table.specs.Tables.{IsTable, ForHeld}
 use Rattle.prefix_trie_table.proofs.Strings.Plain.{fifths}
 use Rattle.prefix_trie_table.proofs.Tree.Invariant.{some_table}
 use Rattle.prefix_trie_table.proofs.Strings.Bare.{some_bit}
 use Rattle.prefix_trie_table.proofs.Strings.Bits.{has_bit-below}
 use Rattle.prefix_trie_table.proofs.Strings.Digits.{path-length, path-take}
-use Rattle.prefix_trie_table.proofs.Removal.Emptying.{entries_without, shape_taken}
+use Rattle.prefix_trie_table.proofs.Removal.Emptying.{TakenOut, left_without, entries_without, shape_taken}
 use Rattle.prefix_trie_table.proofs.Lookup.Finding.{prefix_some}
 use Rattle.prefix_trie_table.proofs.Strings.Keys.{begins-way}
 use Rattle.prefix_trie_table.proofs.Strings.Placing.{below_node, step_below, string_at}
@@ -269,7 +269,7 @@ module _ {T : Type 0} (q : List Bool) (reading : List ℕ → Option Node) (valu
         (entries_without reading values paths v w holds q s is)
 
   -- the shape that a removal leaves
-  pub shape_removed : (v2 : Store Node) (w2 : Store (Option T)) → EntryRemoved reading paths values (path_of q) (bit_of q) v w v2 w2 →
+  shape_removed : (v2 : Store Node) (w2 : Store (Option T)) → EntryRemoved reading paths values (path_of q) (bit_of q) v w v2 w2 →
       IsShapeOf v2.slots w2.slots (record { entries = without_entry s.entries q; nodes = nodes_without s.nodes s.entries q })
   shape_removed v2 w2 (inl kept) =
       subst (λ n. IsShapeOf v2.slots w2.slots (record { entries = without_entry s.entries q; nodes = n })) (sym (none_pruned kept.0))
@@ -277,7 +277,7 @@ module _ {T : Type 0} (q : List Bool) (reading : List ℕ → Option Node) (valu
   shape_removed v2 w2 (inr gone) = shape_pruned gone.1 gone.0 v2 w2 gone.2 gone.3
 
   -- what it leaves is a table with these entries
-  pub left_holds : (v2 : Store Node) (w2 : Store (Option T)) → EntryRemoved reading paths values (path_of q) (bit_of q) v w v2 w2 →
+  left_holds : (v2 : Store Node) (w2 : Store (Option T)) → EntryRemoved reading paths values (path_of q) (bit_of q) v w v2 w2 →
       (t : SomeTable v2 w2) × (entry_count t.reading t.paths + one_if (is_some (values (path_of q) (bit_of q))) ≡ entry_count reading paths)
   left_holds v2 w2 (inl kept) = (record { reading = kept.2.later; values = _; paths = paths; holds = kept.2.holds }, kept.2.counted)
   left_holds v2 w2 (inr gone) = (
@@ -287,27 +287,12 @@ module _ {T : Type 0} (q : List Bool) (reading : List ℕ → Option Node) (valu
   )
 
 -- a removal that prunes: what it leaves of the table
-module _ {T : Type 0} (key : List Bool) (v v2 : Store Node) (w w2 : Store (Option T)) (count count2 : ℕ) (s : Shaped v.slots w.slots)
-    (is : IsTable v w count s.0) (removed : Option T)
-    (before : ForHeld v w (λ reading paths values. removed ≡ values (path_of key) (bit_of key)))
-    (done : ForHeld v w (λ reading paths values. EntryRemoved reading paths values (path_of key) (bit_of key) v w v2 w2)) where
-  -- the shape that is left
-  pub removed_shape : IsShapeOf v2.slots w2.slots (record { entries = without_entry s.0.entries key; nodes = nodes_without s.0.nodes s.0.entries key })
-  removed_shape =
-      let t = some_table is in
-      shape_removed key t.reading t.values t.paths v w t.holds s.0 s.1 v2 w2 (done t.reading t.paths t.values t.holds)
-
-  -- and no other
-  pub removed_only : (t : Shaped v2.slots w2.slots) → t.0 ≡ record { entries = without_entry s.0.entries key; nodes = nodes_without s.0.nodes s.0.entries key }
-  removed_only t =
-      same_shape v2.slots w2.slots t.0 (record { entries = without_entry s.0.entries key; nodes = nodes_without s.0.nodes s.0.entries key }) t.1 removed_shape
-
-  -- the number of entries that the arrays hold then
-  pub counted_removed : count2 + one_if (is_some removed) ≡ count →
-      (t : SomeTable v2 w2) × (count2 ≡ entry_count t.reading t.paths)
-  counted_removed fewer =
-      let t = some_table is in
-      let left = left_holds key t.reading t.values t.paths v w t.holds s.0 s.1 v2 w2 (done t.reading t.paths t.values t.holds) in
-      let had : one_if (is_some removed) ≡ one_if (is_some (t.values (path_of key) (bit_of key))) =
-      ap (λ o. one_if (is_some o)) (before t.reading t.paths t.values t.holds) in
-      (left.0, (let n = left.1 in let h = is.counted in omega (arith, n, h, had, fewer)))
+pub removed_without : {T : Type 0} (key : List Bool) (v v2 : Store Node) (w w2 : Store (Option T)) (count count2 : ℕ) (s : Shaped v.slots w.slots)
+    (is : IsTable v w count s.0) (removed : Option T) → ForHeld v w (λ reading paths values. removed ≡ values (path_of key) (bit_of key)) →
+    count2 + one_if (is_some removed) ≡ count → ForHeld v w (λ reading paths values. EntryRemoved reading paths values (path_of key) (bit_of key) v w v2 w2) →
+    TakenOut key v v2 w w2 count2 s.0 (record { entries = without_entry s.0.entries key; nodes = nodes_without s.0.nodes s.0.entries key }) removed
+removed_without key v v2 w w2 count count2 s is removed before fewer done =
+    let t = some_table is in
+    let gone = done t.reading t.paths t.values t.holds in
+    left_without key v v2 w w2 count count2 s is removed before fewer _ (shape_removed key t.reading t.values t.paths v w t.holds s.0 s.1 v2 w2 gone) refl
+    (left_holds key t.reading t.values t.paths v w t.holds s.0 s.1 v2 w2 gone)

@@ -29,7 +29,7 @@ use Rattle.prefix_trie_table.proofs.Tree.Invariant.{some_table, some_nodes}
 use Rattle.prefix_trie_table.proofs.Removal.Between.{taken_values_between, taken_children_between}
 use Rattle.prefix_trie_table.proofs.Strings.Bits.{has_bit-is}
 use Rattle.prefix_trie_table.proofs.Tree.Children.{with_here, with_other}
-use Rattle.prefix_trie_table.proofs.Removal.Emptying.{value_taken, shape_taken, table_without, counted_without}
+use Rattle.prefix_trie_table.proofs.Removal.Emptying.{value_taken, kept_without}
 use Rattle.prefix_trie_table.proofs.Lookup.Going.{steps-all}
 use Rattle.prefix_trie_table.proofs.Strings.Placing.{below_node}
 use Rattle.prefix_trie_table.proofs.Tree.Shapes.{reads_node}
@@ -234,16 +234,11 @@ module _ {K : Type 0} (IsKey : K → Type 0) (bits : K → List Bool) (width : �
         pub trie_taken : count2 ≡ count - 1 → Grows v v2 24 → Grows w w2 24 →
             IsTrie width count2 v2 w2 (record { entries = without_entry s.entries (take p.depth (bits p.key) ++ t); nodes = s.nodes })
         trie_taken fewer node_room cell_room =
-            let key = take p.depth (bits p.key) ++ t in
-            let shape = shape_taken held_table.reading held_table.values held_table.paths v w held_table.holds (take p.depth (bits p.key) ++ t) v2 w2 s trie.shaped
-            (taken held_table.reading held_table.paths held_table.values held_table.holds) in
-            let left : count2 + one_if (is_some removed) ≡ count = (let o = ap one_if removed_some in let c = some_counted in omega (arith, o, c, fewer)) in
+            let counted : count2 + one_if (is_some removed) ≡ count = (let o = ap one_if removed_some in let c = some_counted in omega (arith, o, c, fewer)) in
+            let left = kept_without (take p.depth (bits p.key) ++ t) v v2 w w2 count count2 (s, trie.shaped) trie.table removed before counted taken in
             record {
-              table = table_without (take p.depth (bits p.key) ++ t) v v2 w w2 count count2 (s, trie.shaped) trie.table removed before
-                  (record { entries = without_entry s.entries (take p.depth (bits p.key) ++ t); nodes = s.nodes }) shape refl left
-                  (counted_without (take p.depth (bits p.key) ++ t) v v2 w w2 count count2 (s, trie.shaped) trie.table removed before taken left)
-                  node_room cell_room (record { entries = without_entry s.entries (take p.depth (bits p.key) ++ t); nodes = s.nodes }, shape);
-              shaped = shape;
+              table = left.table node_room cell_room (_, left.shape);
+              shaped = left.shape;
               within = λ q there. trie.within q (removed_fewer s.entries (take p.depth (bits p.key) ++ t) q there);
               nodes = AreNodes-without_entry width s.entries s.nodes (take p.depth (bits p.key) ++ t) trie.nodes;
             }
