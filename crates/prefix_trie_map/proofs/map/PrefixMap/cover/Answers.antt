@@ -1,25 +1,19 @@
-use Rattle.std.proofs.Common.{rules, ◌≡◌, length, ap, ◌∙◌, arith}
+use Rattle.std.proofs.Common.{rules, length, ap, ◌∙◌, arith}
 use Rattle.std.proofs.lemmas.List.{length-map}
 use Rattle.prefix_trie_bits.specs.Keys.{path_within}
 use Rattle.prefix_trie_bits.specs.Model.Matches.{covers}
-use Rattle.prefix_trie_bits.specs.Model.Selections.{shown}
 use Rattle.prefix_trie_table.proofs.Lookup.Covered.{covers_few}
 use Rattle.prefix_trie_map.specs.Walks.{lent_item}
 use Rattle.prefix_trie_map.proofs.Runs.{shows_in_order}
-use Rattle.prefix_trie_map.proofs.map.PrefixMap.cover.Given as given
 use Rattle.prefix_trie_map.proofs.map.PrefixMap.cover.Goals as goal
 
--- what the walk still gives
-given_items : (g : given.Over) (c : goal.After-over g) → c.over.result ≡ shown g.P.Prefix.back (covers c.args.self.now.entries (g.P.Prefix.path c.args.prefix.now))
-given_items g c = search rules
-
 pub returns-clause-items : goal.returns-clause-items
-returns-clause-items g c = given_items g c
+returns-clause-items g c = search rules
 
 pub returns-clause-counted : goal.returns-clause-counted
 returns-clause-counted g c =
     let found = covers c.args.self.now.entries (g.P.Prefix.path c.args.prefix.now) in
-    ap length (given_items g c) ∙ length-map found (λ e. (g.P.Prefix.back e.0, e.1))
+    ap length (returns-clause-items g c) ∙ length-map found (λ e. (g.P.Prefix.back e.0, e.1))
 
 pub returns-clause-fits : goal.returns-clause-fits
 returns-clause-fits g c =

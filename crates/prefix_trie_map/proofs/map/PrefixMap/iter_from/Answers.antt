@@ -1,23 +1,17 @@
-use Rattle.std.proofs.Common.{rules, ◌≡◌, ◌<◌, ◌^◌, cond, length, ap, arith}
+use Rattle.std.proofs.Common.{rules, ◌<◌, ◌^◌, length, ap, arith}
 use Rattle.std.specs.FinMap.{len}
-use Rattle.prefix_trie_bits.specs.Model.Selections.{listing_from, listing_after, shown}
 use Rattle.prefix_trie_map.specs.Walks.{lent_item}
 use Rattle.prefix_trie_map.proofs.Runs.{shows_in_order}
 use Rattle.prefix_trie_map.proofs.Selections.{few_from}
-use Rattle.prefix_trie_map.proofs.map.PrefixMap.iter_from.Given as given
 use Rattle.prefix_trie_map.proofs.map.PrefixMap.iter_from.Goals as goal
 
--- what the walk still gives
-given_items : (g : given.Over) (c : goal.After-over g) → c.over.result ≡ shown g.P.Prefix.back (cond c.args.inclusive (listing_from c.args.self.now.entries (g.P.Prefix.path c.args.prefix.now)) (listing_after c.args.self.now.entries (g.P.Prefix.path c.args.prefix.now)))
-given_items g c = search rules
-
 pub returns-clause-items : goal.returns-clause-items
-returns-clause-items g c = given_items g c
+returns-clause-items g c = search rules
 
 pub returns-clause-fits : goal.returns-clause-fits
 returns-clause-fits g c =
     let below : len c.args.self.now.entries < 2 ^ 64 = search rules in
-    omega (arith, ap length (given_items g c), few_from g.P.Prefix.back c.args.self.now.entries c.args.inclusive (g.P.Prefix.path c.args.prefix.now), below)
+    omega (arith, ap length (returns-clause-items g c), few_from g.P.Prefix.back c.args.self.now.entries c.args.inclusive (g.P.Prefix.path c.args.prefix.now), below)
 
 pub returns-clause-runs : goal.returns-clause-runs
 returns-clause-runs g c = shows_in_order lent_item
