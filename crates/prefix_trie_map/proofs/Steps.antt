@@ -1,12 +1,14 @@
 -- Steps by bit strings are steps by prefixes.
-use Rattle.std.proofs.Common.{◌≡◌, ℕ, inl, inr, Bool, List, Option, Result, Ok, Err, refl, ap, ◌∙◌, subst}
+use Rattle.std.proofs.Common.{◌≡◌, ◌≤◌, ℕ, inl, inr, Bool, List, length, Option, Result, Ok, Err, refl, ap, ◌∙◌, subst}
 use Rattle.prefix_trie_bits.specs.declared.prefix.Refused.{Refused}
+use Rattle.prefix_trie_bits.specs.Laws.Steps.{IsMap}
 use Rattle.prefix_trie_bits.specs.Model.Entries.{Entries, no_entries}
 use Rattle.prefix_trie_bits.specs.Model.Nodes.{Nodes, root_alone}
-use Rattle.prefix_trie_bits.specs.Model.Step.{State, Reply, Step, Insert, Remove, RemoveKeepTree, RemoveChildren, Clear, Match, Done, Count, Addresses, Items, Value}
+use Rattle.prefix_trie_bits.specs.Model.Step.{State, Call, CallFits, Reply, Step, Insert, Remove, RemoveKeepTree, RemoveChildren, Clear, Match, Done, Count, Addresses, Items, Value}
 use Rattle.prefix_trie_bits.specs.Model.Storage.{Storage, StepInStorage, StepOfStrings}
+use Rattle.prefix_trie_bits.proofs.Model.Steps.{stays_map}
 use Rattle.prefix_trie_table.specs.Shape.{Contents}
-use Rattle.prefix_trie_map.specs.Steps.{stored, inserted, placed}
+use Rattle.prefix_trie_map.specs.Steps.{state, stored, inserted, placed}
 
 -- a reply that shows no prefix, as one of a map with other prefixes
 abbrev pub carried : {P Q T : Type 0} → Reply P T → Reply Q T
@@ -87,6 +89,12 @@ module _ {T : Type 0} where
   pub root_left : {s : State T × Storage} {entries : Entries T} {nodes : Nodes} {kept : Storage} →
       StepOfStrings s Clear Done (record { entries = entries; nodes = nodes }, kept) → nodes ≡ root_alone
   root_left h = ap (λ (s : State T). s.nodes) (h 0).step.1
+
+  -- a step of a map leaves a map
+  pub stays : {P : Type 0} (path : P → List Bool) (back : List Bool → P) (width : ℕ) {inside old : Contents T} {call : Call P T} {r : Reply P T} {t : State T × Storage} →
+      inside ≡ old → IsMap width (state inside) → CallFits (λ q. length (path q) ≤ width) call → StepInStorage path back width (stored old) call r t → IsMap width t.0
+  stays path back width {inside} {old} {call} {r} {t} same good fits h =
+      stays_map path back width (state old) call r t.0 fits h.step (subst (λ m. IsMap width (state m)) same good)
 
   -- the removals, from the table and the key's bits to the map and the prefix's path
   module _ {P : Type 0} (path : P → List Bool) (back : List Bool → P) (width : ℕ) {inside old : Contents T} {t : State T × Storage} {key : List Bool} {value : Option T} (q : P)

@@ -2,12 +2,11 @@ use Rattle.std.proofs.Common.{◌≡◌, ◌∙◌, sym, take, subst}
 use Rattle.prefix_trie_bits.specs.Keys.{path_within}
 use Rattle.prefix_trie_bits.specs.Laws.Steps.{IsMap}
 use Rattle.prefix_trie_bits.specs.Model.Step.{Insert}
-use Rattle.prefix_trie_bits.specs.Model.Storage.{StepInStorage, StepOfStrings}
-use Rattle.prefix_trie_bits.proofs.Model.Steps.{stays_map}
+use Rattle.prefix_trie_bits.specs.Model.Storage.{StepOfStrings}
 use Rattle.prefix_trie_table.specs.Shape.{Contents}
 use Rattle.prefix_trie_map.specs.Steps.{state, stored, inserted}
 use Rattle.prefix_trie_map.proofs.Insertions.{Inserts, inserts_are}
-use Rattle.prefix_trie_map.proofs.Steps.{insert_step, inserted_is, by_key}
+use Rattle.prefix_trie_map.proofs.Steps.{insert_step, inserted_is, by_key, stays}
 use Rattle.prefix_trie_map.proofs.map.PrefixMap.insert.Given as given
 use Rattle.prefix_trie_map.proofs.map.PrefixMap.insert.Goals as goal
 
@@ -18,9 +17,8 @@ key_is g c =
     let repr : c.repr-key.result ≡ g.P.Prefix.repr_of c.args.prefix = c.repr-key.ensures in
     (λ i. take (len i) (g.P.R.Key.bits (repr i))) ∙ sym (g.met.P.Prefix.prefix_laws.path_is c.args.prefix)
 
-step : (g : given.Over) (c : goal.After-drop-prefix g) → StepInStorage g.P.Prefix.path g.P.Prefix.back g.P.R.Key.bit_width (stored c.args.self.now)
-    (Insert c.args.prefix c.args.value) (inserted c.insert.result) (stored c.insert.new.self)
-step g c =
+pub returns-clause-step : goal.returns-clause-step
+returns-clause-step g c =
     insert_step g.P.Prefix.path g.P.Prefix.back g.P.R.Key.bit_width _ _ (inserted_is _ _ c.insert.result) (inserted_is _ _ c.insert.result) c.args.prefix c.args.value
     (by_key (λ old k. StepOfStrings (stored old) (Insert k c.args.value) (inserted c.insert.result) (stored c.insert.new.self)) c.self.view_is (key_is g c)
     c.insert.ensures.step)
@@ -32,12 +30,11 @@ good g c = subst (λ (m : Contents g.row.T.Denot). IsMap g.P.R.Key.bit_width (st
 inserts : (g : given.Over) (c : goal.After-drop-prefix g) → Inserts (state c.args.self.now) (state c.insert.new.self) (g.P.Prefix.path c.args.prefix) c.args.value c.insert.result
 inserts g c =
     inserts_are g.P.Prefix.path g.P.Prefix.back g.P.R.Key.bit_width (state c.args.self.now) (state c.insert.new.self) c.args.prefix c.args.value (good g c).are_nodes
-    c.insert.result (step g c).step
+    c.insert.result (returns-clause-step g c).step
 
 pub invariant_of-self : goal.invariant_of-self
 invariant_of-self g c =
-    stays_map g.P.Prefix.path g.P.Prefix.back g.P.R.Key.bit_width (state c.args.self.now) (Insert c.args.prefix c.args.value) (inserted c.insert.result) (state c.insert.new.self)
-    (path_within g.met.P.Prefix.prefix_laws c.args.prefix c.requires) (step g c).step (good g c)
+    stays g.P.Prefix.path g.P.Prefix.back g.P.R.Key.bit_width c.self.view_is c.self.invariant (path_within g.met.P.Prefix.prefix_laws c.args.prefix c.requires) (returns-clause-step g c)
 
 pub returns-clause-before : goal.returns-clause-before
 returns-clause-before g c = (inserts g c).before
@@ -50,6 +47,3 @@ returns-clause-nodes g c = (inserts g c).nodes
 
 pub returns-clause-unchanged : goal.returns-clause-unchanged
 returns-clause-unchanged g c = (inserts g c).unchanged
-
-pub returns-clause-step : goal.returns-clause-step
-returns-clause-step = step

@@ -1,25 +1,18 @@
-use Rattle.std.proofs.Common.{rules, ◌≡◌, take, ap, subst}
+use Rattle.std.proofs.Common.{rules, ◌≡◌, take, ap}
 use Rattle.prefix_trie_bits.specs.Keys.{path_within}
-use Rattle.prefix_trie_bits.specs.Laws.Steps.{IsMap}
-use Rattle.prefix_trie_bits.specs.Model.Step.{State, Remove, Value}
-use Rattle.prefix_trie_bits.proofs.Model.Steps.{stays_map}
-use Rattle.prefix_trie_table.specs.Shape.{Contents}
-use Rattle.prefix_trie_map.specs.Steps.{state}
-use Rattle.prefix_trie_map.proofs.Steps.{removed_step, value_in}
+use Rattle.prefix_trie_bits.specs.Model.Step.{State}
+use Rattle.prefix_trie_map.proofs.Steps.{removed_step, stays, value_in}
 use Rattle.prefix_trie_map.proofs.map.PrefixMap.remove.Goals as goal
-
-pub invariant_of-self : goal.invariant_of-self
-invariant_of-self g c =
-    let key : take c.from-len.result (g.P.R.Key.bits c.repr-key.result) ≡ g.P.Prefix.path c.args.prefix.now = search rules in
-    stays_map g.P.Prefix.path g.P.Prefix.back g.P.R.Key.bit_width (state c.args.self.now) (Remove c.args.prefix.now) (Value c.remove.result) (state c.remove.new.self)
-    (path_within g.met.P.Prefix.prefix_laws c.args.prefix.now c.requires)
-    (removed_step g.P.Prefix.path g.P.Prefix.back g.P.R.Key.bit_width c.args.prefix.now c.self.view_is key c.remove.ensures.step).step
-    (subst (λ (m : Contents g.row.T.Denot). IsMap g.P.R.Key.bit_width (state m)) c.self.view_is c.self.invariant)
 
 pub returns-clause-step : goal.returns-clause-step
 returns-clause-step g c =
     let key : take c.from-len.result (g.P.R.Key.bits c.repr-key.result) ≡ g.P.Prefix.path c.args.prefix.now = search rules in
     removed_step g.P.Prefix.path g.P.Prefix.back g.P.R.Key.bit_width c.args.prefix.now c.self.view_is key c.remove.ensures.step
+
+pub invariant_of-self : goal.invariant_of-self
+invariant_of-self g c =
+    stays g.P.Prefix.path g.P.Prefix.back g.P.R.Key.bit_width c.self.view_is c.self.invariant (path_within g.met.P.Prefix.prefix_laws c.args.prefix.now c.requires)
+    (returns-clause-step g c)
 
 pub returns-clause-value : goal.returns-clause-value
 returns-clause-value g c = ap value_in (returns-clause-step g c).step.0

@@ -1,13 +1,9 @@
-use Rattle.std.proofs.Common.{rules, ◌≡◌, take, refl, ap, subst}
+use Rattle.std.proofs.Common.{rules, ◌≡◌, take, refl, ap}
 use Rattle.prefix_trie_bits.specs.Keys.{path_within}
-use Rattle.prefix_trie_bits.specs.Laws.Steps.{IsMap}
 use Rattle.prefix_trie_bits.specs.Model.Step.{State, RemoveChildren, Done}
-use Rattle.prefix_trie_bits.specs.Model.Storage.{StepInStorage, StepOfStrings}
-use Rattle.prefix_trie_bits.proofs.Model.Steps.{stays_map}
-use Rattle.prefix_trie_table.specs.Shape.{Contents}
-use Rattle.prefix_trie_map.specs.Steps.{state, stored}
-use Rattle.prefix_trie_map.proofs.Steps.{children_step, by_key}
-use Rattle.prefix_trie_map.proofs.map.PrefixMap.remove_children.Given as given
+use Rattle.prefix_trie_bits.specs.Model.Storage.{StepOfStrings}
+use Rattle.prefix_trie_map.specs.Steps.{stored}
+use Rattle.prefix_trie_map.proofs.Steps.{children_step, by_key, stays}
 use Rattle.prefix_trie_map.proofs.map.PrefixMap.remove_children.Goals as goal
 
 pub remove_children-requires-clause-within : goal.remove_children-requires-clause-within
@@ -16,24 +12,19 @@ remove_children-requires-clause-within g c = c.self.invariant.keys_within
 pub remove_children-requires-clause-nodes : goal.remove_children-requires-clause-nodes
 remove_children-requires-clause-nodes g c = c.self.invariant.are_nodes
 
-step : (g : given.Over) (c : goal.After-drop-new g) → StepInStorage g.P.Prefix.path g.P.Prefix.back g.P.R.Key.bit_width (stored c.args.self.now)
-    (RemoveChildren c.args.prefix.now) Done (stored c.remove_children.new.self)
-step g c =
+pub returns-clause-step : goal.returns-clause-step
+returns-clause-step g c =
     let key : take c.from-len.result (g.P.R.Key.bits c.repr-key.result) ≡ g.P.Prefix.path c.args.prefix.now = search rules in
     children_step g.P.Prefix.path g.P.Prefix.back g.P.R.Key.bit_width Done Done refl refl c.args.prefix.now
     (by_key (λ old k. StepOfStrings (stored old) (RemoveChildren k) Done (stored c.remove_children.new.self)) c.self.view_is key c.remove_children.ensures.step)
 
 pub invariant_of-self : goal.invariant_of-self
 invariant_of-self g c =
-    stays_map g.P.Prefix.path g.P.Prefix.back g.P.R.Key.bit_width (state c.args.self.now) (RemoveChildren c.args.prefix.now) Done (state c.remove_children.new.self)
-    (path_within g.met.P.Prefix.prefix_laws c.args.prefix.now c.requires) (step g c).step
-    (subst (λ (m : Contents g.row.T.Denot). IsMap g.P.R.Key.bit_width (state m)) c.self.view_is c.self.invariant)
+    stays g.P.Prefix.path g.P.Prefix.back g.P.R.Key.bit_width c.self.view_is c.self.invariant (path_within g.met.P.Prefix.prefix_laws c.args.prefix.now c.requires)
+    (returns-clause-step g c)
 
 pub returns-clause-entries : goal.returns-clause-entries
-returns-clause-entries g c = ap (λ (s : State g.row.T.Denot). s.entries) (step g c).step.1
+returns-clause-entries g c = ap (λ (s : State g.row.T.Denot). s.entries) (returns-clause-step g c).step.1
 
 pub returns-clause-nodes : goal.returns-clause-nodes
-returns-clause-nodes g c = ap (λ (s : State g.row.T.Denot). s.nodes) (step g c).step.1
-
-pub returns-clause-step : goal.returns-clause-step
-returns-clause-step = step
+returns-clause-nodes g c = ap (λ (s : State g.row.T.Denot). s.nodes) (returns-clause-step g c).step.1

@@ -4,25 +4,21 @@ use Rattle.prefix_trie_table.specs.Shape.{Contents}
 use Rattle.prefix_trie_map.proofs.Retained.{IsMap-tidied}
 use Rattle.prefix_trie_map.specs.Asking.{AsksAt}
 use Rattle.prefix_trie_map.specs.Steps.{state, stored}
-use Rattle.prefix_trie_map.proofs.map.PrefixMap.retain.Given as given
 use Rattle.prefix_trie_map.proofs.map.PrefixMap.retain.Goals as goal
 
 pub retain-requires-clause-within : goal.retain-requires-clause-within
 retain-requires-clause-within g c = c.self.invariant.keys_within
 
-step : (g : given.Over) (c : goal.After-drop-new g) → RetainsInStorage (AsksAt g.F.FnMut g.P.Prefix.back) c.args.test (stored c.args.self.now) (stored c.retain.new.self)
-step g c =
+pub returns-clause-step : goal.returns-clause-step
+returns-clause-step g c =
     subst (λ (m : Contents g.row.T.Denot). RetainsInStorage (AsksAt g.F.FnMut g.P.Prefix.back) c.args.test (stored m) (stored c.retain.new.self)) c.self.view_is
     c.retain.ensures.step
 
 pub invariant_of-self : goal.invariant_of-self
-invariant_of-self g c = IsMap-tidied g.P.R.Key.bit_width (state c.retain.new.self) c.retain.ensures.fits (step g c).nodes
+invariant_of-self g c = IsMap-tidied g.P.R.Key.bit_width (state c.retain.new.self) c.retain.ensures.fits (returns-clause-step g c).nodes
 
 pub returns-clause-kept : goal.returns-clause-kept
-returns-clause-kept g c = (step g c).kept
+returns-clause-kept g c = (returns-clause-step g c).kept
 
 pub returns-clause-nodes : goal.returns-clause-nodes
-returns-clause-nodes g c = (step g c).nodes
-
-pub returns-clause-step : goal.returns-clause-step
-returns-clause-step = step
+returns-clause-nodes g c = (returns-clause-step g c).nodes
