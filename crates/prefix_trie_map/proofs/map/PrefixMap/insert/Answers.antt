@@ -10,27 +10,19 @@ use Rattle.prefix_trie_map.proofs.Steps.{insert_step, inserted_is, by_key, stays
 use Rattle.prefix_trie_map.proofs.map.PrefixMap.insert.Given as given
 use Rattle.prefix_trie_map.proofs.map.PrefixMap.insert.Goals as goal
 
--- the key that the table is handed, as the prefix's path
-key_is : (g : given.Over) (c : goal.After-drop-prefix g) → take c.from-len.result (g.P.R.Key.bits c.repr-key.result) ≡ g.P.Prefix.path c.args.prefix
-key_is g c =
-    let len : c.from-len.result ≡ g.P.Prefix.len_of c.args.prefix = c.from-len.ensures ∙ c.prefix_len.ensures in
-    let repr : c.repr-key.result ≡ g.P.Prefix.repr_of c.args.prefix = c.repr-key.ensures in
-    (λ i. take (len i) (g.P.R.Key.bits (repr i))) ∙ sym (g.met.P.Prefix.prefix_laws.path_is c.args.prefix)
-
 pub returns-clause-step : goal.returns-clause-step
 returns-clause-step g c =
+    let len : c.from-len.result ≡ g.P.Prefix.len_of c.args.prefix = c.from-len.ensures ∙ c.prefix_len.ensures in
+    let repr : c.repr-key.result ≡ g.P.Prefix.repr_of c.args.prefix = c.repr-key.ensures in
+    let key = (λ i. take (len i) (g.P.R.Key.bits (repr i))) ∙ sym (g.met.P.Prefix.prefix_laws.path_is c.args.prefix) in
     insert_step g.P.Prefix.path g.P.Prefix.back g.P.R.Key.bit_width _ _ (inserted_is _ _ c.insert.result) (inserted_is _ _ c.insert.result) c.args.prefix c.args.value
-    (by_key (λ old k. StepOfStrings (stored old) (Insert k c.args.value) (inserted c.insert.result) (stored c.insert.new.self)) c.self.view_is (key_is g c)
+    (by_key (λ old k. StepOfStrings (stored old) (Insert k c.args.value) (inserted c.insert.result) (stored c.insert.new.self)) c.self.view_is key
     c.insert.ensures.step)
-
--- before it the map is one
-good : (g : given.Over) (c : goal.After-drop-prefix g) → IsMap g.P.R.Key.bit_width (state c.args.self.now)
-good g c = subst (λ (m : Contents g.row.T.Denot). IsMap g.P.R.Key.bit_width (state m)) c.self.view_is c.self.invariant
 
 inserts : (g : given.Over) (c : goal.After-drop-prefix g) → Inserts (state c.args.self.now) (state c.insert.new.self) (g.P.Prefix.path c.args.prefix) c.args.value c.insert.result
 inserts g c =
-    inserts_are g.P.Prefix.path g.P.Prefix.back g.P.R.Key.bit_width (state c.args.self.now) (state c.insert.new.self) c.args.prefix c.args.value (good g c).are_nodes
-    c.insert.result (returns-clause-step g c).step
+    inserts_are g.P.Prefix.path g.P.Prefix.back g.P.R.Key.bit_width (state c.args.self.now) (state c.insert.new.self) c.args.prefix c.args.value
+    (subst (λ (m : Contents g.row.T.Denot). IsMap g.P.R.Key.bit_width (state m)) c.self.view_is c.self.invariant).are_nodes c.insert.result (returns-clause-step g c).step
 
 pub invariant_of-self : goal.invariant_of-self
 invariant_of-self g c =

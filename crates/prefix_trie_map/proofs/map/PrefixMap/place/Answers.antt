@@ -1,14 +1,12 @@
 use Rattle.std.proofs.Common.{rules, ◌≡◌, ◌∙◌, Some, IfOk, take, sym, subst}
 use Rattle.prefix_trie_bits.specs.Keys.{path_within}
-use Rattle.prefix_trie_bits.specs.Laws.Steps.{IsMap}
 use Rattle.prefix_trie_bits.specs.Model.Step.{Insert}
 use Rattle.prefix_trie_bits.specs.Model.Storage.{StepInStorage, StepOfStrings}
-use Rattle.prefix_trie_bits.proofs.Model.Steps.{stays_map}
 use Rattle.prefix_trie_table.specs.Locations.{seat_of, IsWayEnd}
 use Rattle.prefix_trie_table.specs.Shape.{Contents}
-use Rattle.prefix_trie_map.specs.Steps.{state, stored, placed}
+use Rattle.prefix_trie_map.specs.Steps.{stored, placed}
 use Rattle.prefix_trie_map.proofs.Placing.{Places, places}
-use Rattle.prefix_trie_map.proofs.Steps.{insert_step, placed_is, by_key}
+use Rattle.prefix_trie_map.proofs.Steps.{insert_step, placed_is, by_key, stays}
 use Rattle.prefix_trie_map.proofs.map.PrefixMap.place.Given as given
 use Rattle.prefix_trie_map.proofs.map.PrefixMap.place.Goals as goal
 
@@ -39,9 +37,7 @@ left g c =
 
 pub invariant_of-self : goal.invariant_of-self
 invariant_of-self g c =
-    stays_map g.P.Prefix.path g.P.Prefix.back g.P.R.Key.bit_width (state c.args.self.now) (Insert c.args.prefix.now c.args.value) (placed c.place.result) (state c.place.new.self)
-    (path_within g.met.P.Prefix.prefix_laws c.args.prefix.now c.requires.fits) (step g c).step
-    (subst (λ (m : Contents g.row.T.Denot). IsMap g.P.R.Key.bit_width (state m)) c.self.view_is c.self.invariant)
+    stays g.P.Prefix.path g.P.Prefix.back g.P.R.Key.bit_width c.self.view_is c.self.invariant (path_within g.met.P.Prefix.prefix_laws c.args.prefix.now c.requires.fits) (step g c)
 
 pub returns-clause-seat : goal.returns-clause-seat
 returns-clause-seat g c =
