@@ -74,10 +74,7 @@ unfolding position_test
 position-entry n p l =
     let q = get_or POSITION n 0 in
     let b = both (nat_lt q 63) (nat_eq (heap_at q) n) (of-positive n _ p (at_below position_test 64 positions-right n l)) in
-    let inside : q < 63 = ltb-true q 63 b.0 in (
-      heap-listed q inside ∙ ap Some (eqb-true (heap_at q) n b.1),
-      inside,
-    )
+    let inside : q < 63 = ltb-true q 63 b.0 in (heap-listed q inside ∙ ap Some (eqb-true (heap_at q) n b.1), inside)
 
 -- two positions have two heap numbers
 unfoldable back_test : ℕ → Bool

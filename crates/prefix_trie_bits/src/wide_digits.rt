@@ -22,6 +22,7 @@ pub(crate) fn window_of(value: u128, width: u32, depth: u32, n: u32) -> u32
 
 /// The first len bits of value, and then zeros.
 #[inline]
+#[tactic(auto, using(crate::specs::BitStrings::kept_of_128, crate::specs::BitStrings::kept_of_none))]
 pub(crate) fn keep_of(value: u128, width: u32, len: u32) -> u128
     requires narrow { width ≤ 128 }
     requires within { len ≤ width }

@@ -123,8 +123,4 @@ module _ {P T : Type 0} (path : P → List Bool) (back : List Bool → P) (width
       (reply ∷ first, rest, read ∷ early, late, u, e ∙ ap (λ rs. reply ∷ rs) g, f ∙ ap (λ ns. read ∷ ns) h, (reply, first, read, early, mid, refl, refl, is_tidy, step, before), behind)
 
 pub counted_laws : (P T : Type 0) → CountedLaws P T
-counted_laws P T = record {
-  is_run = in_storage;
-  ends_tidy = ends_tidy;
-  splits = splits;
-}
+counted_laws P T = record { is_run = in_storage; ends_tidy = ends_tidy; splits = splits }

@@ -24,11 +24,7 @@ lookups_hold = record {
 
 pub walks_hold : WalksHold
 unfolding digits number begins halves
-walks_hold = record {
-  row7 = gives refl;
-  row8 = gives refl;
-  row34 = gives refl;
-}
+walks_hold = record { row7 = gives refl; row8 = gives refl; row34 = gives refl }
 
 pub removals_hold : RemovalsHold
 unfolding digits number begins halves
@@ -78,9 +74,4 @@ widths_hold = record {
 
 pub addresses_hold : AddressesHold
 unfolding digits number begins halves
-addresses_hold = record {
-  row11 = gives refl;
-  row11_networks = gives refl;
-  row35 = gives refl;
-  row35_wide = gives refl;
-}
+addresses_hold = record { row11 = gives refl; row11_networks = gives refl; row35 = gives refl; row35_wide = gives refl }
