@@ -40,6 +40,7 @@ pub(crate) fn keep_of(value: u128, width: u32, len: u32) -> u128
 
 /// The first depth bits of value, then the n bits of tail, and then zeros.
 #[inline]
+#[tactic(auto, using(crate::specs::BitStrings::extended_by_none))]
 pub(crate) fn extend_of(value: u128, width: u32, depth: u32, n: u32, tail: u32) -> u128
     requires narrow { width ≤ 128 }
     requires few { n ≤ 5 }

@@ -109,8 +109,7 @@ facts_hold = record {
     rearranged = record { moves = to_end; below = (lit< tt, lit< tt, (lit< tt, lit< tt, (lit< tt, lit< tt, (lit< tt, lit< tt, (lit< tt, lit< tt, (lit< tt, lit< tt, tt)))))); is = refl };
   };
   empty_array = record { blocks = []; tiles = refl; rearranged = record { moves = []; below = tt; is = refl } };
-  odd_askings = (true, 1, _, (refl, refl), (false, 2, _, (refl, refl), (true, 3, _, (refl, refl),
-      (false, 4, _, (refl, refl), (true, 5, _, (refl, refl), refl, refl), refl), refl), refl), refl);
+  odd_askings = (true, 1, _, (refl, refl), (false, 2, _, (refl, refl), (true, 3, _, (refl, refl), (false, 4, _, (refl, refl), (true, 5, _, (refl, refl), refl, refl), refl), refl), refl), refl);
   written = leads refl (λ t s.
       let a = path_at 8 (6, 8) in
       let b = path_at 8 (8, 5) in

@@ -1,7 +1,7 @@
 use Rattle.std.proofs.Common.{ℕ, ◌≡◌, ◌-◌, ◌*◌, ◌%◌, ◌^◌, ◌<◌, ◌≤◌, ◌++◌, take, bit_and, sub-le, ap, ◌∙◌}
 use Rattle.std.proofs.lemmas.Nat.Bits.{ones_shl, and_high_mask}
 use Rattle.prefix_trie_bits.specs.Bits.{digits, zeros}
-use Rattle.prefix_trie_bits.specs.BitStrings.{digits-keep, keep-none}
+use Rattle.prefix_trie_bits.specs.BitStrings.{digits-keep, kept_of_none}
 use Rattle.prefix_trie.proofs.tests.prefix.TagPrefix.mask.Goals as goal
 
 -- what `value & (ones << (w - k))` computes
@@ -12,9 +12,7 @@ digits-masked w v k h small =
     digits-keep w v k h
 
 pub returns-then-self-eq0-clause-value : goal.returns-then-self-eq0-clause-value
-returns-then-self-eq0-clause-value c =
-    ap (λ x. digits 8 x) (keep-none 8 c.args.self.now.byte c.args.self.now.len c.if-self-eq0.true c.requires.0) ∙
-    digits-keep 8 c.args.self.now.byte c.args.self.now.len c.requires.1
+returns-then-self-eq0-clause-value c = kept_of_none 8 c.args.self.now.byte c.args.self.now.len c.if-self-eq0.true
 
 pub returns-else-self-eq0-clause-value : goal.returns-else-self-eq0-clause-value
 returns-else-self-eq0-clause-value c = digits-masked 8 c.args.self.now.byte c.args.self.now.len c.requires.1 c.requires.0
