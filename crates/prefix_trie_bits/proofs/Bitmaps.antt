@@ -1,32 +1,22 @@
 -- The bits of `|` and `&` of two bitmaps, and of bitmaps side by side.
-use Rattle.std.proofs.Common.{◌≡◌, ℕ, suc, zero, ◌-◌, ◌*◌, ◌^◌, ◌<◌, ◌≤◌, false, ◌&&◌, ◌||◌, eqb, bit_and, bit_or, min, max, refl, sym, ap, ◌∙◌, arith, add-zero, pow_pos}
+use Rattle.std.proofs.Common.{◌≡◌, ℕ, ◌-◌, ◌*◌, ◌^◌, ◌<◌, ◌≤◌, false, ◌&&◌, ◌||◌, eqb, bit_and, bit_or, min, max, refl, sym, ap, ◌∙◌, add-zero, pow_pos}
 use Rattle.std.specs.Int.{bit_at}
 use Rattle.std.proofs.lemmas.Nat.Bits.{bit_at_or, bit_at_and, bit_at-lt, bit_at-zero, bit_at_above, bit_at_cat_low, bit_at_cat_high}
 use Rattle.prefix_trie_bits.specs.Places.{has}
-use Rattle.prefix_trie_bits.proofs.Ranks.{has-from}
+use Rattle.prefix_trie_bits.proofs.Ranks.{has-from, below_two}
 pub use Rattle.std.proofs.Math.Bool.{or-false, or-true}
 
 pub has-or : (a b i : ℕ) → has (bit_or a b) i ≡ (has a i || has b i)
 has-or a b i =
-    ap (λ x. eqb x 1) (bit_at_or a b i) ∙ go (bit_at a i) (bit_at b i) (bit_at-lt a i) (bit_at-lt b i)
-  where
-    go : (x y : ℕ) → x < 2 → y < 2 → eqb (max x y) 1 ≡ (eqb x 1 || eqb y 1)
-    go zero zero l m = refl
-    go zero (suc zero) l m = refl
-    go (suc zero) zero l m = refl
-    go (suc zero) (suc zero) l m = refl
-    go x y l m = absurd (omega arith)
+    ap (λ x. eqb x 1) (bit_at_or a b i) ∙ below_two (λ x. eqb (max x (bit_at b i)) 1 ≡ (eqb x 1 || eqb (bit_at b i) 1))
+    (below_two (λ y. eqb (max 0 y) 1 ≡ (eqb 0 1 || eqb y 1)) refl refl (bit_at b i) (bit_at-lt b i))
+    (below_two (λ y. eqb (max 1 y) 1 ≡ (eqb 1 1 || eqb y 1)) refl refl (bit_at b i) (bit_at-lt b i)) (bit_at a i) (bit_at-lt a i)
 
 pub has-and : (a b i : ℕ) → has (bit_and a b) i ≡ (has a i && has b i)
 has-and a b i =
-    ap (λ x. eqb x 1) (bit_at_and a b i) ∙ go (bit_at a i) (bit_at b i) (bit_at-lt a i) (bit_at-lt b i)
-  where
-    go : (x y : ℕ) → x < 2 → y < 2 → eqb (min x y) 1 ≡ (eqb x 1 && eqb y 1)
-    go zero zero l m = refl
-    go zero (suc zero) l m = refl
-    go (suc zero) zero l m = refl
-    go (suc zero) (suc zero) l m = refl
-    go x y l m = absurd (omega arith)
+    ap (λ x. eqb x 1) (bit_at_and a b i) ∙ below_two (λ x. eqb (min x (bit_at b i)) 1 ≡ (eqb x 1 && eqb (bit_at b i) 1))
+    (below_two (λ y. eqb (min 0 y) 1 ≡ (eqb 0 1 && eqb y 1)) refl refl (bit_at b i) (bit_at-lt b i))
+    (below_two (λ y. eqb (min 1 y) 1 ≡ (eqb 1 1 && eqb y 1)) refl refl (bit_at b i) (bit_at-lt b i)) (bit_at a i) (bit_at-lt a i)
 
 pub has-zero : (i : ℕ) → has 0 i ≡ false
 has-zero i = ap (λ x. eqb x 1) (bit_at-zero i)

@@ -11,24 +11,20 @@ use Rattle.prefix_trie_bits.specs.Places.{has, ones_below, Sets}
 pub bit-set : (m k : ℕ) → has m k ≡ true → bit_at m k ≡ 1
 bit-set m k h = eqb-true (bit_at m k) 1 h
 
+-- what holds of 0 and of 1 holds of a bit
+pub below_two : (P : ℕ → Type 0) → P 0 → P 1 → (x : ℕ) → x < 2 → P x
+below_two P a b zero l = a
+below_two P a b (suc zero) l = b
+below_two P a b (suc (suc x)) l = absurd (omega arith)
+
 pub bit-clear : (m k : ℕ) → has m k ≡ false → bit_at m k ≡ 0
-bit-clear m k h = go (bit_at m k) (bit_at-lt m k) h
-  where
-    go : (x : ℕ) → x < 2 → eqb x 1 ≡ false → x ≡ 0
-    go zero l e = refl
-    go (suc zero) l e = cc
-    go (suc (suc x)) l e = absurd (omega arith)
+bit-clear m k = below_two (λ x. eqb x 1 ≡ false → x ≡ 0) (λ _. refl) (λ e. cc) (bit_at m k) (bit_at-lt m k)
 
 pub has-from : (m k x : ℕ) → bit_at m k ≡ x → has m k ≡ eqb x 1
 has-from m k x e = ap (λ y. eqb y 1) e
 
 pub bit-of : (m k : ℕ) → cond (has m k) 1 0 ≡ bit_at m k
-bit-of m k = go (bit_at m k) (bit_at-lt m k)
-  where
-    go : (x : ℕ) → x < 2 → cond (eqb x 1) 1 0 ≡ x
-    go zero l = refl
-    go (suc zero) l = refl
-    go (suc (suc x)) l = absurd (omega arith)
+bit-of m k = below_two (λ x. cond (eqb x 1) 1 0 ≡ x) refl refl (bit_at m k) (bit_at-lt m k)
 
 pub low : (m b : ℕ) → m % 2 ^ b < 2 ^ b
 low m b = mod_below m (2 ^ b) (pow_pos b)
