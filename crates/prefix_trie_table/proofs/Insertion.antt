@@ -1,5 +1,6 @@
 -- What an insertion needs, asks for and leaves.
 pub mod Adding
+pub mod Ways
 pub mod Inserted
 pub mod Inserting
 pub mod Rooms

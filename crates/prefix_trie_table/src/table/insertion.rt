@@ -197,20 +197,18 @@ fn add_entry<K: Key, T: Drop, A: Allocator, V: Tick>(
         EntrySet reading paths values (K.bits key) len value nodes.new cells.new) }
     ensures seat { seat_of nodes.new.slots (take len (K.bits key)) ≡ Some result }
 {
-    let mut at = reached.at;
-    let mut node = reached.node;
-    for level in reached.level..len / 5 {
-        at = add_child(nodes, at, node, child_bit_of(key, 5 * level));
-        node = Node::blank();
+    let last = len / 5;
+    let bit = value_bit_of(key, last * 5, len);
+    if reached.level == last {
+        return add_value(nodes, cells, reached.at, reached.node, bit, value);
     }
-    add_value(
-        nodes,
-        cells,
-        at,
-        node,
-        value_bit_of(key, len / 5 * 5, len),
-        value,
-    )
+    // The first node hangs below one that stands, all others below a blank one, which costs less.
+    let child = child_bit_of(key, 5 * reached.level);
+    let mut at = add_child(nodes, reached.at, reached.node, child);
+    for level in reached.level + 1..last {
+        at = add_child(nodes, at, Node::blank(), child_bit_of(key, 5 * level));
+    }
+    add_value(nodes, cells, at, Node::blank(), bit, value)
 }
 
 /// Adds a missing value at a bit string whose way ends so, and the nodes of its way that are missing, and counts it. Answers where
