@@ -1,4 +1,4 @@
-use Rattle.std.proofs.Common.{◌≡◌, ◌+◌, ◌-◌, ◌/◌, ◌<◌, Some, take, length, false, sym, ap, ◌∙◌, arith}
+use Rattle.std.proofs.Common.{◌≡◌, ◌+◌, ◌-◌, ◌/◌, ◌<◌, take, length, false, sym, ap, ◌∙◌, arith}
 use Rattle.prefix_trie_table.specs.declared.allocator.node.Node.{Node}
 use Rattle.prefix_trie_table.specs.Bitmaps.{has_bit, rank}
 use Rattle.prefix_trie_table.specs.Cells.{node_at}
@@ -24,25 +24,16 @@ add_value-requires-clause-missing g c =
 
 pub returns-then-reached-last-clause-added : goal.returns-then-reached-last-clause-added
 returns-then-reached-last-clause-added g c = λ reading paths values holds.
-    let b = g.K.Key.bits c.args.key in
-    let slot = c.args.reached.at.start + c.args.reached.at.place in
-    end_added b c.args.len c.requires.reached.long reading values paths c.args.reached.level slot c.value_bit_of-bit.result (Some c.args.value)
-    c.args.nodes.now c.add_value.new.nodes c.args.cells.now c.add_value.new.cells
-    (walked_start reading values paths (path_of (take c.args.len b)) c.args.reached.level slot c.args.nodes.now c.args.cells.now holds
-    (c.requires.reached.deepest reading paths holds.hold)) c.if-reached-last.true
-    (bit-read-last b c.args.len c.requires.reached.long c.value_bit_of-bit.result c.value_bit_of-bit.ensures.value)
-    (λ nodes ps q m h cells stands is. c.add_value.ensures.added nodes ps values q m h cells stands is)
+    end_added (g.K.Key.bits c.args.key) c.args.len c.requires.reached.long
+    (walked_start reading values paths _ c.args.reached.level _ c.args.nodes.now c.args.cells.now holds (c.requires.reached.deepest reading paths holds.hold))
+    c.if-reached-last.true c.value_bit_of-bit.ensures.value c.add_value.ensures.added
 
 pub returns-then-reached-last-clause-seat : goal.returns-then-reached-last-clause-seat
 returns-then-reached-last-clause-seat g c =
-    let b = g.K.Key.bits c.args.key in
     let s = c.requires.stands in
-    let slot = c.args.reached.at.start + c.args.reached.at.place in
-    end_seat b c.args.len c.requires.reached.long s.0.reading s.0.values s.0.paths c.args.reached.level slot c.value_bit_of-bit.result (Some c.args.value)
-    c.args.nodes.now c.add_value.new.nodes c.args.cells.now c.add_value.new.cells
-    (walked_start s.0.reading s.0.values s.0.paths (path_of (take c.args.len b)) c.args.reached.level slot c.args.nodes.now c.args.cells.now s.0.holds s.1)
-    c.if-reached-last.true (bit-read-last b c.args.len c.requires.reached.long c.value_bit_of-bit.result c.value_bit_of-bit.ensures.value)
-    (λ nodes ps q m h cells stands is. c.add_value.ensures.added nodes ps s.0.values q m h cells stands is) c.add_value.result c.add_value.ensures.seat
+    end_seat (g.K.Key.bits c.args.key) c.args.len c.requires.reached.long
+    (walked_start s.0.reading s.0.values s.0.paths _ c.args.reached.level _ c.args.nodes.now c.args.cells.now s.0.holds s.1)
+    c.if-reached-last.true c.value_bit_of-bit.ensures.value c.add_value.ensures.added c.add_value.result c.add_value.ensures.seat
 
 -- ---- the first new node
 
@@ -168,21 +159,15 @@ add_value-requires-2-clause-ready g c =
 
 pub returns-clause-added : goal.returns-clause-added
 returns-clause-added g c = λ reading paths values holds.
-    let b = g.K.Key.bits c.args.key in
-    let last : c.loop-level.level ≡ c.args.len / 5 = (let w = c.loop-level.invariant.within in omega (arith, w, c.loop-level-test.false)) in
-    end_added b c.args.len c.requires.reached.long reading values paths c.loop-level.level (c.loop-level.at.start + c.loop-level.at.place)
-    c.value_bit_of-bit.result (Some c.args.value) c.loop-level.nodes c.add_value-2.new.nodes c.args.cells.now c.add_value-2.new.cells
-    (c.loop-level.invariant.walked reading paths values holds (c.requires.reached.deepest reading paths holds.hold)) last
-    (bit-read-last b c.args.len c.requires.reached.long c.value_bit_of-bit.result c.value_bit_of-bit.ensures.value)
-    (λ nodes ps q m h cells stands is. c.add_value-2.ensures.added nodes ps values q m h cells stands is)
+    let w = c.loop-level.invariant.within in
+    end_added (g.K.Key.bits c.args.key) c.args.len c.requires.reached.long
+    (c.loop-level.invariant.walked reading paths values holds (c.requires.reached.deepest reading paths holds.hold))
+    (omega (arith, w, c.loop-level-test.false)) c.value_bit_of-bit.ensures.value c.add_value-2.ensures.added
 
 pub returns-clause-seat : goal.returns-clause-seat
 returns-clause-seat g c =
-    let b = g.K.Key.bits c.args.key in
     let s = c.requires.stands in
-    let last : c.loop-level.level ≡ c.args.len / 5 = (let w = c.loop-level.invariant.within in omega (arith, w, c.loop-level-test.false)) in
-    end_seat b c.args.len c.requires.reached.long s.0.reading s.0.values s.0.paths c.loop-level.level (c.loop-level.at.start + c.loop-level.at.place)
-    c.value_bit_of-bit.result (Some c.args.value) c.loop-level.nodes c.add_value-2.new.nodes c.args.cells.now c.add_value-2.new.cells
-    (c.loop-level.invariant.walked s.0.reading s.0.paths s.0.values s.0.holds s.1) last
-    (bit-read-last b c.args.len c.requires.reached.long c.value_bit_of-bit.result c.value_bit_of-bit.ensures.value)
-    (λ nodes ps q m h cells stands is. c.add_value-2.ensures.added nodes ps s.0.values q m h cells stands is) c.add_value-2.result c.add_value-2.ensures.seat
+    let w = c.loop-level.invariant.within in
+    end_seat (g.K.Key.bits c.args.key) c.args.len c.requires.reached.long
+    (c.loop-level.invariant.walked s.0.reading s.0.paths s.0.values s.0.holds s.1)
+    (omega (arith, w, c.loop-level-test.false)) c.value_bit_of-bit.ensures.value c.add_value-2.ensures.added c.add_value-2.result c.add_value-2.ensures.seat
