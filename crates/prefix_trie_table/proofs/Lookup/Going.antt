@@ -15,6 +15,10 @@ use Rattle.prefix_trie_table.proofs.Strings.Bits.{has_bit-is, rank-ones}
 use Rattle.prefix_trie_table.proofs.Strings.Digits.{path-length, step-is, rest-is}
 use Rattle.prefix_trie_table.proofs.Tree.Trees.{slot_holds, is_some-Some}
 
+-- a string is no longer than its key
+pub key_long : (n len width : ℕ) → n ≡ width → len ≤ width → len ≤ n
+key_long n len width e h = omega (arith, e, h)
+
 -- ---- the steps and the value bit of the first len bits of a key
 
 fifth-more : (level len n : ℕ) → n ≡ len / 5 → 5 * level + 5 ≤ len → level < n

@@ -1,14 +1,13 @@
 use Rattle.std.proofs.Common.{◌≤◌, length, arith}
-use Rattle.prefix_trie_table.proofs.Lookup.Going.{rest_root, rest_next}
+use Rattle.prefix_trie_table.proofs.Lookup.Going.{key_long, rest_root, rest_next}
 use Rattle.prefix_trie_table.proofs.table.lookup.descend.Goals as goal
 
 pub way-init : goal.way-init
 way-init g c =
     let b = g.K.Key.bits c.args.key in
-    let long : c.args.len ≤ length b = omega (arith, g.met.K.Key.key_laws.bits_length c.args.key c.requires.key, c.requires.within) in
     let top = c.root-here.ensures.level in
     record {
-      on_way = c.root-here.ensures.on_way b c.args.len long;
+      on_way = c.root-here.ensures.on_way b c.args.len (key_long _ _ _ (g.met.K.Key.key_laws.bits_length c.args.key c.requires.key) c.requires.within);
       is_key = c.requires.key;
       rest = rest_root b c.root-here.result.level top;
       counted = omega (arith, top, c.root-here.ensures.visits);

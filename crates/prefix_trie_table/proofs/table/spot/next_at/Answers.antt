@@ -18,47 +18,36 @@ value_seat-requires g c =
 
 pub extend-requires-clause-within : goal.extend-requires-clause-within
 extend-requires-clause-within g c =
-    let p = keyed_spot c.args.key c.args.spot.now in
-    let at = c.requires.spot in
-    let long = g.met.K.Key.key_laws.bits_length p.key at.key in
     let taken = c.in-Some.ensures.place in
     let is = place-value taken.string c.in-Value.bit taken.short (sym c.in-Value.is ∙ taken.place) in
-    let room = value_room g.K.Key.IsKey g.K.Key.bits g.K.Key.bit_width c.args.nodes.now p at long taken.string c.next_place.new.self taken.first c.requires.tree.0 c.requires.tree.1 is.0 in
+    let room = value_room _ _ _ _ _ c.requires.spot (g.met.K.Key.key_laws.bits_length c.args.key c.requires.spot.key) taken.string c.next_place.new.self taken.first c.requires.tree.0 c.requires.tree.1 is.0 in
     let n_is : length taken.string ≡ c.string_of-n.result.0 = ap length (c.string_of-n.ensures.only taken.string (sym is.1)) ∙ length-digits c.string_of-n.result.0 c.string_of-n.result.1 in
     omega (arith, room, n_is)
 
 pub returns-in-Value-clause-step : goal.returns-in-Value-clause-step
 returns-in-Value-clause-step g c =
     λ t tree.
-    let p = keyed_spot c.args.key c.args.spot.now in
-    let at = c.requires.spot in
-    let long = g.met.K.Key.key_laws.bits_length p.key at.key in
     let taken = c.in-Some.ensures.place in
     let is = place-value taken.string c.in-Value.bit taken.short (sym c.in-Value.is ∙ taken.place) in (
-      gives_value g.K.Key.IsKey g.K.Key.bits g.K.Key.bit_width c.args.nodes.now p at long taken.string c.next_place.new.self taken.first t tree is.0 c.extend.result c.extend.ensures.key c.string_of-n.result.0 c.string_of-n.result.1 (c.string_of-n.ensures.only taken.string (sym is.1)) c.extend.ensures.value _ (c.value_seat.ensures ∙ ap (value_seat p.node) is.1),
-      lighter g.K.Key.IsKey g.K.Key.bits g.K.Key.bit_width c.args.nodes.now p at long taken.string c.next_place.new.self taken.first,
-      goes_on g.K.Key.IsKey g.K.Key.bits g.K.Key.bit_width c.args.nodes.now p at long taken.string c.next_place.new.self taken.first,
+      gives_value _ _ _ _ _ c.requires.spot (g.met.K.Key.key_laws.bits_length c.args.key c.requires.spot.key) taken.string c.next_place.new.self taken.first t tree is.0 c.extend.result c.extend.ensures.key c.string_of-n.result.0 c.string_of-n.result.1 (c.string_of-n.ensures.only taken.string (sym is.1)) c.extend.ensures.value _ (c.value_seat.ensures ∙ ap (value_seat c.args.spot.now.node) is.1),
+      lighter _ _ _ _ _ c.requires.spot (g.met.K.Key.key_laws.bits_length c.args.key c.requires.spot.key) taken.string c.next_place.new.self taken.first,
+      goes_on _ _ _ _ _ c.requires.spot (g.met.K.Key.key_laws.bits_length c.args.key c.requires.spot.key) taken.string c.next_place.new.self taken.first,
       refl,
     )
 
 pub returns-in-Value-clause-seat : goal.returns-in-Value-clause-seat
 returns-in-Value-clause-seat g c =
-    let p = keyed_spot c.args.key c.args.spot.now in
-    let at = c.requires.spot in
-    let long = g.met.K.Key.key_laws.bits_length p.key at.key in
     let taken = c.in-Some.ensures.place in
     let is = place-value taken.string c.in-Value.bit taken.short (sym c.in-Value.is ∙ taken.place) in
-    value_seated g.K.Key.IsKey g.K.Key.bits g.K.Key.bit_width c.args.nodes.now p at long taken.string c.next_place.new.self taken.first c.requires.tree.0 c.requires.tree.1 is.0 c.extend.result c.extend.ensures.key c.string_of-n.result.0 c.string_of-n.result.1 (c.string_of-n.ensures.only taken.string (sym is.1)) c.extend.ensures.value _ (c.value_seat.ensures ∙ ap (value_seat p.node) is.1)
+    value_seated _ _ _ _ _ c.requires.spot (g.met.K.Key.key_laws.bits_length c.args.key c.requires.spot.key) taken.string c.next_place.new.self taken.first c.requires.tree.0 c.requires.tree.1 is.0 c.extend.result c.extend.ensures.key c.string_of-n.result.0 c.string_of-n.result.1 (c.string_of-n.ensures.only taken.string (sym is.1)) c.extend.ensures.value _ (c.value_seat.ensures ∙ ap (value_seat c.args.spot.now.node) is.1)
 
 pub returns-in-Value-clause-way : goal.returns-in-Value-clause-way
 returns-in-Value-clause-way g c =
-    let p = keyed_spot c.args.key c.args.spot.now in
-    let at = c.requires.spot in
     let short = c.string_of-n.ensures.short in
     record {
       whole = omega arith;
       last = omega (arith, short);
-      way = same_way g.K.Key.IsKey g.K.Key.bits g.K.Key.bit_width c.args.nodes.now p at (g.met.K.Key.key_laws.bits_length p.key at.key) c.extend.result
+      way = same_way _ _ _ _ _ c.requires.spot (g.met.K.Key.key_laws.bits_length c.args.key c.requires.spot.key) c.extend.result
           (digits c.string_of-n.result.0 c.string_of-n.result.1) (zeros (g.K.Key.bit_width - (c.args.spot.now.depth + c.string_of-n.result.0))) c.extend.ensures.value;
     }
 
@@ -69,12 +58,9 @@ child_slot-at-requires g c =
 
 pub extend-below-requires-clause-within : goal.extend-below-requires-clause-within
 extend-below-requires-clause-within g c =
-    let p = keyed_spot c.args.key c.args.spot.now in
-    let at = c.requires.spot in
-    let long = g.met.K.Key.key_laws.bits_length p.key at.key in
     let taken = c.in-Some.ensures.place in
     let is = place-child taken.string c.in-Child.child taken.short (sym c.in-Child.is ∙ taken.place) in
-    child_room g.K.Key.IsKey g.K.Key.bits g.K.Key.bit_width c.args.nodes.now p at long taken.string c.next_place.new.self taken.first c.requires.tree.0 c.requires.tree.1 is.0
+    child_room _ _ _ _ _ c.requires.spot (g.met.K.Key.key_laws.bits_length c.args.key c.requires.spot.key) taken.string c.next_place.new.self taken.first c.requires.tree.0 c.requires.tree.1 is.0
 
 pub extend-below-requires-clause-fits : goal.extend-below-requires-clause-fits
 extend-below-requires-clause-fits g c =
@@ -83,48 +69,36 @@ extend-below-requires-clause-fits g c =
 
 pub enter-requires-clause-stands : goal.enter-requires-clause-stands
 enter-requires-clause-stands g c =
-    let p = keyed_spot c.args.key c.args.spot.now in
-    let at = c.requires.spot in
-    let long = g.met.K.Key.key_laws.bits_length p.key at.key in
     let taken = c.in-Some.ensures.place in
     let is = place-child taken.string c.in-Child.child taken.short (sym c.in-Child.is ∙ taken.place) in
-    child_stands_at g.K.Key.IsKey g.K.Key.bits g.K.Key.bit_width c.args.nodes.now p at long taken.string c.next_place.new.self taken.first c.requires.tree.0 c.requires.tree.1 is.0 c.in-Child.child _ is.1 c.child_slot-at.ensures
+    child_stands_at _ _ _ _ _ c.requires.spot (g.met.K.Key.key_laws.bits_length c.args.key c.requires.spot.key) taken.string c.next_place.new.self taken.first c.requires.tree.0 c.requires.tree.1 is.0 c.in-Child.child _ is.1 c.child_slot-at.ensures
 
 pub enter-requires-clause-few : goal.enter-requires-clause-few
 enter-requires-clause-few g c =
-    let p = keyed_spot c.args.key c.args.spot.now in
-    let at = c.requires.spot in
-    let long = g.met.K.Key.key_laws.bits_length p.key at.key in
     let taken = c.in-Some.ensures.place in
     let is = place-child taken.string c.in-Child.child taken.short (sym c.in-Child.is ∙ taken.place) in
-    child_without g.K.Key.IsKey g.K.Key.bits g.K.Key.bit_width c.args.nodes.now p at long taken.string c.next_place.new.self taken.first c.requires.tree.0 c.requires.tree.1 is.0 c.in-Child.child _ is.1 c.child_slot-at.ensures
+    child_without _ _ _ _ _ c.requires.spot (g.met.K.Key.key_laws.bits_length c.args.key c.requires.spot.key) taken.string c.next_place.new.self taken.first c.requires.tree.0 c.requires.tree.1 is.0 c.in-Child.child _ is.1 c.child_slot-at.ensures
 
 pub returns-in-Child-clause-step : goal.returns-in-Child-clause-step
 returns-in-Child-clause-step g c =
     λ t tree.
-    let p = keyed_spot c.args.key c.args.spot.now in
-    let at = c.requires.spot in
-    let long = g.met.K.Key.key_laws.bits_length p.key at.key in
     let taken = c.in-Some.ensures.place in
     let is = place-child taken.string c.in-Child.child taken.short (sym c.in-Child.is ∙ taken.place) in
     let is_key = c.extend-below.ensures.key in
     let extended = c.extend-below.ensures.value in
     let child = keyed_spot c.extend-below.result c.enter.result in (
-      child_still g.K.Key.IsKey g.K.Key.bits g.K.Key.bit_width c.args.nodes.now p at long taken.string c.next_place.new.self taken.first t tree is.0 c.in-Child.child _ is.1 c.child_slot-at.ensures child is_key extended c.enter.ensures.depth c.enter.ensures.node c.enter.ensures.places c.enter.ensures.each,
-      child_lighter g.K.Key.IsKey g.K.Key.bits g.K.Key.bit_width c.args.nodes.now p at long taken.string c.next_place.new.self taken.first t tree is.0 c.in-Child.child _ is.1 c.child_slot-at.ensures child is_key extended c.enter.ensures.depth c.enter.ensures.node c.enter.ensures.places c.enter.ensures.each g.met.K.Key.key_laws.at_most_128,
-      goes_on g.K.Key.IsKey g.K.Key.bits g.K.Key.bit_width c.args.nodes.now p at long taken.string c.next_place.new.self taken.first,
+      child_still _ _ _ _ _ c.requires.spot (g.met.K.Key.key_laws.bits_length c.args.key c.requires.spot.key) taken.string c.next_place.new.self taken.first t tree is.0 c.in-Child.child _ is.1 c.child_slot-at.ensures child is_key extended c.enter.ensures.depth c.enter.ensures.node c.enter.ensures.places c.enter.ensures.each,
+      child_lighter _ _ _ _ _ c.requires.spot (g.met.K.Key.key_laws.bits_length c.args.key c.requires.spot.key) taken.string c.next_place.new.self taken.first t tree is.0 c.in-Child.child _ is.1 c.child_slot-at.ensures child is_key extended c.enter.ensures.depth c.enter.ensures.node c.enter.ensures.places c.enter.ensures.each g.met.K.Key.key_laws.at_most_128,
+      goes_on _ _ _ _ _ c.requires.spot (g.met.K.Key.key_laws.bits_length c.args.key c.requires.spot.key) taken.string c.next_place.new.self taken.first,
       refl,
-      child_spot g.K.Key.IsKey g.K.Key.bits g.K.Key.bit_width c.args.nodes.now p at long taken.string c.next_place.new.self taken.first t tree is.0 c.in-Child.child _ is.1 c.child_slot-at.ensures child is_key extended c.enter.ensures.depth c.enter.ensures.node c.enter.ensures.places c.enter.ensures.each,
+      child_spot _ _ _ _ _ c.requires.spot (g.met.K.Key.key_laws.bits_length c.args.key c.requires.spot.key) taken.string c.next_place.new.self taken.first t tree is.0 c.in-Child.child _ is.1 c.child_slot-at.ensures child is_key extended c.enter.ensures.depth c.enter.ensures.node c.enter.ensures.places c.enter.ensures.each,
       c.enter.ensures.depth,
-      child_way g.K.Key.IsKey g.K.Key.bits g.K.Key.bit_width c.args.nodes.now p at long taken.string c.next_place.new.self taken.first t tree is.0 c.in-Child.child _ is.1 c.child_slot-at.ensures child is_key extended c.enter.ensures.depth c.enter.ensures.node c.enter.ensures.places c.enter.ensures.each,
+      child_way _ _ _ _ _ c.requires.spot (g.met.K.Key.key_laws.bits_length c.args.key c.requires.spot.key) taken.string c.next_place.new.self taken.first t tree is.0 c.in-Child.child _ is.1 c.child_slot-at.ensures child is_key extended c.enter.ensures.depth c.enter.ensures.node c.enter.ensures.places c.enter.ensures.each,
     )
 
 pub returns-in-Child-clause-way : goal.returns-in-Child-clause-way
 returns-in-Child-clause-way g c =
-    let p = keyed_spot c.args.key c.args.spot.now in
-    let at = c.requires.spot in
-    let long = g.met.K.Key.key_laws.bits_length p.key at.key in
     let taken = c.in-Some.ensures.place in
     let is = place-child taken.string c.in-Child.child taken.short (sym c.in-Child.is ∙ taken.place) in
-    child_passed g.K.Key.IsKey g.K.Key.bits g.K.Key.bit_width c.args.nodes.now p at long taken.string c.next_place.new.self taken.first c.requires.tree.0 c.requires.tree.1 is.0
+    child_passed _ _ _ _ _ c.requires.spot (g.met.K.Key.key_laws.bits_length c.args.key c.requires.spot.key) taken.string c.next_place.new.self taken.first c.requires.tree.0 c.requires.tree.1 is.0
     c.next_place.ensures.sorted c.in-Child.child is.1 c.extend-below.result (zeros (g.K.Key.bit_width - (c.args.spot.now.depth + 5))) c.extend-below.ensures.value
