@@ -2,7 +2,7 @@
 use Rattle.std.proofs.Common.{◌≡◌, ℕ, ◌+◌, ◌*◌, ◌<◌, ◌≤◌, Bool, true, false, cond, ◌||◌, nat_eq, List, ◌++◌, length, set, take, drop, Option, None, Some, is_some, refl, sym, ap, ap₂, ◌∙◌, arith}
 use Rattle.std.proofs.lemmas.Bool.{false≢true}
 use Rattle.std.proofs.lemmas.List.{get_or-set_same}
-use Rattle.prefix_trie_bits.specs.Places.{has, ones_below, value_bit, Sets}
+use Rattle.prefix_trie_bits.specs.Places.{has, value_bit, Sets}
 use Rattle.prefix_trie_bits.proofs.Strings.{value_bit-small}
 use Rattle.prefix_trie_table.specs.declared.allocator.node.Node.{Node}
 use Rattle.prefix_trie_table.specs.declared.table.seat.Seat.{Seat}
@@ -14,7 +14,7 @@ use Rattle.prefix_trie_table.specs.Locations.{value_seat, seat_in, seat_of}
 use Rattle.prefix_trie_table.specs.Slots.{IsSeat}
 use Rattle.prefix_trie_table.specs.Store.{Store}
 use Rattle.prefix_trie_table.specs.Tables.{IsReached}
-use Rattle.prefix_trie_table.proofs.Strings.Bits.{rank-ones, has_bit-is, has_bit-sets}
+use Rattle.prefix_trie_table.proofs.Strings.Bits.{has_bit-is, has_bit-sets}
 use Rattle.prefix_trie_table.proofs.Strings.BitLists.{rank-same}
 use Rattle.prefix_trie_table.proofs.Tree.Children.{same_number, other_number, with_here, with_other}
 use Rattle.prefix_trie_table.proofs.Strings.Digits.{bit_of-small}

@@ -1,4 +1,4 @@
-use Rattle.std.proofs.Common.{◌≤◌, length, arith}
+use Rattle.std.proofs.Common.{arith}
 use Rattle.prefix_trie_table.proofs.Lookup.Going.{key_long, rest_root, rest_next}
 use Rattle.prefix_trie_table.proofs.table.lookup.descend.Goals as goal
 

@@ -1,4 +1,4 @@
-use Rattle.std.proofs.Common.{◌≤◌, ◌*◌, length, ap, sym, ◌∙◌, arith}
+use Rattle.std.proofs.Common.{ap, sym, ◌∙◌, arith}
 use Rattle.prefix_trie_bits.specs.Places.{value_bit}
 use Rattle.prefix_trie_bits.specs.Windows.{rest_string}
 use Rattle.prefix_trie_table.proofs.Lookup.Finding.{met_end}

@@ -1,4 +1,4 @@
-use Rattle.std.proofs.Common.{◌≡◌, ◌+◌, ◌*◌, ◌≤◌, length, take, Some, ◌∙◌, subst, arith}
+use Rattle.std.proofs.Common.{◌≡◌, ◌+◌, ◌*◌, take, Some, ◌∙◌, subst, arith}
 use Rattle.prefix_trie_table.specs.Matching.{NoneHeld}
 use Rattle.prefix_trie_table.specs.Digits.{path_of}
 use Rattle.prefix_trie_table.proofs.Lookup.Finding.{reached_end, met_end}
