@@ -25,6 +25,10 @@ use Rattle.prefix_trie_table.proofs.Walk.Passing.{passed-above}
 use Rattle.prefix_trie_table.proofs.Tree.Trees.{read-nil}
 use Rattle.prefix_trie_table.proofs.Tree.Subtrees.{all_places}
 
+-- the table whose values are these
+abbrev pub tree_of : {T : Type 0} → Store (Option T) → State T → Tree T
+tree_of w s = record { count = len s.entries; cells = w; shape = s }
+
 module _ {K T : Type 0} (IsKey : K → Type 0) (bits : K → List Bool) (width : ℕ) where
   -- a walk has arrays, which hold a table
   pub record Rest (arrays : Option (Bor (Store Node) × Bor (Store (Option T)))) (shape : ShapeOf arrays) (ps : List (KeyedSpot K)) (v : Store Node) (w : Store (Option T)) : Type 0 where
