@@ -6,6 +6,7 @@ pub mod RunLemmas
 pub mod Soundness
 pub mod Entering
 pub mod Spending
+pub mod Moving
 pub mod Turnovers
 pub mod Preparing
 pub mod BySize

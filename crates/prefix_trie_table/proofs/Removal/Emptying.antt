@@ -204,10 +204,10 @@ module _ {T : Type 0} (b : List Bool) (len slot : ℕ) (node : Node) (v : Store 
   last : len < 5 * (len / 5) + 5
   last = level_last (len / 5) len refl
 
-  pub own_node : reading (path_of (take len b)) ≡ Some node
+  own_node : reading (path_of (take len b)) ≡ Some node
   own_node = reached_own b len (len / 5) slot node v at reading paths holds.hold last
 
-  pub own_slot : IsSlot reading (path_of (take len b)) slot
+  own_slot : IsSlot reading (path_of (take len b)) slot
   own_slot = subst (λ p. IsSlot reading p slot) (take_all (len / 5) (path_of (take len b)) (omega (arith, steps-all b len at.long)))
       (at.deepest reading paths holds.hold).stands
 
@@ -233,11 +233,13 @@ module _ {T : Type 0} (b : List Bool) (len slot : ℕ) (node : Node) (v : Store 
     pub some_there : is_some (values (path_of (take len b)) (bit_of (take len b))) ≡ true
     some_there = own_is ∙ there
 
-    pub value_there : removed ≡ values (path_of (take len b)) x → removed ≡ values (path_of (take len b)) (bit_of (take len b))
-    value_there e = e ∙ ap (values (path_of (take len b))) (sym own_bit)
+    pub value_there : ((n : Node) → IsSlot reading (path_of (take len b)) slot → reading (path_of (take len b)) ≡ Some n →
+        removed ≡ values (path_of (take len b)) x) → removed ≡ values (path_of (take len b)) (bit_of (take len b))
+    value_there e = e node own_slot own_node ∙ ap (values (path_of (take len b))) (sym own_bit)
 
-    pub entry_taken : ValueTaken reading paths values (path_of (take len b)) x node m v2 w w2 →
+    pub entry_taken : ((n : Node) → IsSlot reading (path_of (take len b)) slot → reading (path_of (take len b)) ≡ Some n →
+        ValueTaken reading paths values (path_of (take len b)) x n m v2 w w2) →
         (t : EntryTaken reading paths values (path_of (take len b)) (bit_of (take len b)) v2 w w2) × (t.later (path_of (take len b)) ≡ Some m)
     entry_taken taken =
         value_taken reading values paths v w holds (path_of (take len b)) (bit_of (take len b)) node m v2 w2 own_node some_there
-        (subst (λ i. ValueTaken reading paths values (path_of (take len b)) i node m v2 w w2) (sym own_bit) taken)
+        (subst (λ i. ValueTaken reading paths values (path_of (take len b)) i node m v2 w w2) (sym own_bit) (taken node own_slot own_node))

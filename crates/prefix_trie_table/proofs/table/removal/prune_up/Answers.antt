@@ -23,27 +23,8 @@ loop-level-init g c =
       within = omega arith;
     }
 
-pub drop_child-node-requires-clause-stands : goal.drop_child-node-requires-clause-stands
-drop_child-node-requires-clause-stands g c =
-    let b = g.K.Key.bits c.args.key in
-    let path = path_of (take c.args.len b) in
-    let long : c.args.len ≤ length b = omega (arith, g.met.K.Key.key_laws.bits_length c.args.key c.requires.key, c.requires.within) in
-    let s = c.requires.stands in
-    let slots = subst (λ n. IsWay s.reading path c.args.way.now n) (steps-all b c.args.len long) s.slots in
-    let up : c.loop-level.level ≡ c.loop-level.level - 1 + 1 = omega (arith, c.loop-level-test.true) in
-    let p = subst (λ n. Pruning s.reading s.paths path c.args.way.now n c.loop-level.node c.args.nodes.now c.loop-level.nodes) up
-    (c.loop-level.invariant.pruned s.reading s.paths s.hold slots s.is) in (
-      record { reading = p.to.later; paths = p.to.left; hold = p.to.hold },
-      record {
-        path = take (c.loop-level.level - 1) path;
-        node = _;
-        stands = parent_slot s.reading s.paths path c.args.way.now (c.loop-level.level - 1) c.loop-level.node c.args.nodes.now c.loop-level.nodes p;
-        is = parent_is s.reading s.paths path c.args.way.now (c.loop-level.level - 1) c.loop-level.node c.args.nodes.now c.loop-level.nodes p;
-      },
-    )
-
-pub drop_child-node-requires-clause-there : goal.drop_child-node-requires-clause-there
-drop_child-node-requires-clause-there g c =
+pub drop_child-node-requires : goal.drop_child-node-requires
+drop_child-node-requires g c =
     let b = g.K.Key.bits c.args.key in
     let path = path_of (take c.args.len b) in
     let long : c.args.len ≤ length b = omega (arith, g.met.K.Key.key_laws.bits_length c.args.key c.requires.key, c.requires.within) in
@@ -55,8 +36,20 @@ drop_child-node-requires-clause-there g c =
     let below : c.loop-level.level - 1 < c.args.len / 5 = omega (arith, c.loop-level.invariant.within, c.loop-level-test.true) in
     let digit = step-read b c.args.len (c.loop-level.level - 1) long c.child_bit_of.result (level_inside (c.loop-level.level - 1) c.args.len below)
     c.child_bit_of.ensures.value in
-    subst (λ d. has_bit (node_at c.loop-level.nodes.slots (slot_in c.args.way.now (c.loop-level.level - 1))).child_bitmap d ≡ true) digit
-    (parent_bit s.reading s.paths path c.args.way.now (c.loop-level.level - 1) c.loop-level.node c.args.nodes.now c.loop-level.nodes p)
+    record {
+      child = c.child_bit_of.ensures.small;
+      stands = (
+        record { reading = p.to.later; paths = p.to.left; hold = p.to.hold },
+        record {
+          path = take (c.loop-level.level - 1) path;
+          node = _;
+          stands = parent_slot s.reading s.paths path c.args.way.now (c.loop-level.level - 1) c.loop-level.node c.args.nodes.now c.loop-level.nodes p;
+          is = parent_is s.reading s.paths path c.args.way.now (c.loop-level.level - 1) c.loop-level.node c.args.nodes.now c.loop-level.nodes p;
+        },
+      );
+      there = subst (λ d. has_bit (node_at c.loop-level.nodes.slots (slot_in c.args.way.now (c.loop-level.level - 1))).child_bitmap d ≡ true) digit
+          (parent_bit s.reading s.paths path c.args.way.now (c.loop-level.level - 1) c.loop-level.node c.args.nodes.now c.loop-level.nodes p);
+    }
 
 pub loop-level-preserved : goal.loop-level-preserved
 loop-level-preserved g c =

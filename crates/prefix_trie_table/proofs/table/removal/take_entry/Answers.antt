@@ -1,9 +1,11 @@
-use Rattle.std.proofs.Common.{◌≡◌, true, is_some, sym, ap, ◌∙◌, arith}
+use Rattle.std.proofs.Common.{◌≡◌, true, is_some, take, sym, ap, ◌∙◌, arith}
 use Rattle.prefix_trie_table.specs.Bitmaps.{has_bit as is_set}
+use Rattle.prefix_trie_table.specs.Digits.{path_of, bit_of}
 use Rattle.prefix_trie_table.specs.Forest.{one_if}
 use Rattle.prefix_trie_table.proofs.Tree.Invariant.{deepest_there}
 use Rattle.prefix_trie_table.proofs.Strings.Bits.{has_bit-is}
-use Rattle.prefix_trie_table.proofs.Removal.Emptying.{own_node, own_slot, none_there, none_taken, some_there, value_there, entry_taken}
+use Rattle.prefix_trie_table.proofs.Removal.Emptying.{none_there, none_taken, some_there, value_there, entry_taken}
+use Rattle.prefix_trie_table.proofs.table.removal.take_entry.Given as given
 use Rattle.prefix_trie_table.proofs.table.removal.take_entry.Goals as goal
 
 pub returns-then-not-has_bit-clause-value : goal.returns-then-not-has_bit-clause-value
@@ -30,53 +32,41 @@ take_value-taken-requires-clause-there g c =
     has_bit-is c.args.node.value_bitmap c.value_bit_of-bit.result (omega (arith, c.value_bit_of-bit.ensures.small))
     ∙ sym c.has_bit.ensures ∙ c.if-not-has_bit.false
 
+-- the bit of the value is set
+there : (g : given.Over) (c : goal.After-row_known-1 g) → is_set c.args.node.value_bitmap c.value_bit_of-bit.result ≡ true
+there g c =
+    has_bit-is c.args.node.value_bitmap c.value_bit_of-bit.result (omega (arith, c.value_bit_of-bit.ensures.small)) ∙ sym c.has_bit.ensures ∙ c.if-not-has_bit.false
+
 pub returns-clause-value : goal.returns-clause-value
 returns-clause-value g c = λ reading paths values holds.
-    let there : is_set c.args.node.value_bitmap c.value_bit_of-bit.result ≡ true =
-    has_bit-is c.args.node.value_bitmap c.value_bit_of-bit.result (omega (arith, c.value_bit_of-bit.ensures.small))
-    ∙ sym c.has_bit.ensures ∙ c.if-not-has_bit.false in
-    let own = own_node (g.K.Key.bits c.args.key) c.args.len _ c.args.node c.args.nodes.now c.requires.reached c.value_bit_of-bit.result
-    c.value_bit_of-bit.ensures.value reading paths values c.args.cells.now holds in
-    let slot = own_slot (g.K.Key.bits c.args.key) c.args.len _ c.args.node c.args.nodes.now c.requires.reached c.value_bit_of-bit.result
-    c.value_bit_of-bit.ensures.value reading paths values c.args.cells.now holds in
     value_there (g.K.Key.bits c.args.key) c.args.len _ c.args.node c.args.nodes.now c.requires.reached c.value_bit_of-bit.result
     c.value_bit_of-bit.ensures.value reading paths values c.args.cells.now holds c.take_value-taken.result.0 c.take_value-taken.result.1
-    c.take_value-taken.new.nodes c.take_value-taken.new.cells there
-    (c.take_value-taken.ensures.value reading paths values _ c.args.node holds.hold holds.cells slot own)
+    c.take_value-taken.new.nodes c.take_value-taken.new.cells (there g c)
+    (λ n. c.take_value-taken.ensures.value reading paths values _ n holds.hold holds.cells)
 
 pub returns-clause-taken : goal.returns-clause-taken
 returns-clause-taken g c = λ reading paths values holds.
-    let there : is_set c.args.node.value_bitmap c.value_bit_of-bit.result ≡ true =
-    has_bit-is c.args.node.value_bitmap c.value_bit_of-bit.result (omega (arith, c.value_bit_of-bit.ensures.small))
-    ∙ sym c.has_bit.ensures ∙ c.if-not-has_bit.false in
-    let own = own_node (g.K.Key.bits c.args.key) c.args.len _ c.args.node c.args.nodes.now c.requires.reached c.value_bit_of-bit.result
-    c.value_bit_of-bit.ensures.value reading paths values c.args.cells.now holds in
-    let slot = own_slot (g.K.Key.bits c.args.key) c.args.len _ c.args.node c.args.nodes.now c.requires.reached c.value_bit_of-bit.result
-    c.value_bit_of-bit.ensures.value reading paths values c.args.cells.now holds in
     entry_taken (g.K.Key.bits c.args.key) c.args.len _ c.args.node c.args.nodes.now c.requires.reached c.value_bit_of-bit.result
     c.value_bit_of-bit.ensures.value reading paths values c.args.cells.now holds c.take_value-taken.result.0 c.take_value-taken.result.1
-    c.take_value-taken.new.nodes c.take_value-taken.new.cells there
-    (c.take_value-taken.ensures.taken reading paths values _ c.args.node holds.hold holds.cells slot own)
+    c.take_value-taken.new.nodes c.take_value-taken.new.cells (there g c)
+    (λ n. c.take_value-taken.ensures.taken reading paths values _ n holds.hold holds.cells)
+
+-- there was one
+some : (g : given.Over) (c : goal.After-row_known-1 g) → (let t = c.requires.table.0 in
+    one_if (is_some (t.values (path_of (take c.args.len (g.K.Key.bits c.args.key))) (bit_of (take c.args.len (g.K.Key.bits c.args.key)))))) ≡ 1
+some g c =
+    let t = c.requires.table.0 in
+    ap one_if (some_there (g.K.Key.bits c.args.key) c.args.len _ c.args.node c.args.nodes.now c.requires.reached c.value_bit_of-bit.result
+    c.value_bit_of-bit.ensures.value t.reading t.paths t.values c.args.cells.now t.holds c.take_value-taken.result.0 c.take_value-taken.result.1
+    c.take_value-taken.new.nodes c.take_value-taken.new.cells (there g c))
 
 pub overflow_sub-entries : goal.overflow_sub-entries
 overflow_sub-entries g c =
     let t = c.requires.table.0 in
-    let there : is_set c.args.node.value_bitmap c.value_bit_of-bit.result ≡ true =
-    has_bit-is c.args.node.value_bitmap c.value_bit_of-bit.result (omega (arith, c.value_bit_of-bit.ensures.small))
-    ∙ sym c.has_bit.ensures ∙ c.if-not-has_bit.false in
-    let some = some_there (g.K.Key.bits c.args.key) c.args.len _ c.args.node c.args.nodes.now c.requires.reached c.value_bit_of-bit.result
-    c.value_bit_of-bit.ensures.value t.reading t.paths t.values c.args.cells.now t.holds c.take_value-taken.result.0 c.take_value-taken.result.1
-    c.take_value-taken.new.nodes c.take_value-taken.new.cells there in
-    omega (arith, (returns-clause-taken g c t.reading t.paths t.values t.holds).0.counted, ap one_if some, c.requires.table.1)
+    omega (arith, (returns-clause-taken g c t.reading t.paths t.values t.holds).0.counted, some g c, c.requires.table.1)
 
 pub returns-clause-counted : goal.returns-clause-counted
 returns-clause-counted g c =
     let t = c.requires.table.0 in
-    let there : is_set c.args.node.value_bitmap c.value_bit_of-bit.result ≡ true =
-    has_bit-is c.args.node.value_bitmap c.value_bit_of-bit.result (omega (arith, c.value_bit_of-bit.ensures.small))
-    ∙ sym c.has_bit.ensures ∙ c.if-not-has_bit.false in
-    let some = some_there (g.K.Key.bits c.args.key) c.args.len _ c.args.node c.args.nodes.now c.requires.reached c.value_bit_of-bit.result
-    c.value_bit_of-bit.ensures.value t.reading t.paths t.values c.args.cells.now t.holds c.take_value-taken.result.0 c.take_value-taken.result.1
-    c.take_value-taken.new.nodes c.take_value-taken.new.cells there in
     let value = returns-clause-value g c t.reading t.paths t.values t.holds in
-    omega (arith, overflow_sub-entries g c, ap (λ o. one_if (is_some o)) value, ap one_if some)
+    omega (arith, overflow_sub-entries g c, ap (λ o. one_if (is_some o)) value, some g c)

@@ -1,46 +1,32 @@
 use Rattle.std.proofs.Common.{◌≤◌, ◌∷◌, [], refl, arith, subst}
 use Rattle.prefix_trie_table.specs.Store.{Sound, tier_at, block}
-use Rattle.prefix_trie_table.proofs.Blocks.Soundness.{Sound-exchanged, block_inside, fits_block, has_place}
-use Rattle.prefix_trie_table.proofs.Blocks.Spending.{Spends-taken, Spends-given, Spends-swapped, Keeps-spends, Keeps-prepared, Keeps-then}
+use Rattle.prefix_trie_table.proofs.Blocks.Soundness.{Sound-exchanged, block_inside, has_place}
+use Rattle.prefix_trie_table.proofs.Blocks.Moving.{runs_within, moved_spends}
+use Rattle.prefix_trie_table.proofs.Blocks.Spending.{Spends-taken, Spends-given, Keeps-spends, Keeps-prepared, Keeps-then}
 use Rattle.std.proofs.Common.{◌≡◌, ◌-◌, rules, sym}
 use Rattle.prefix_trie_table.specs.Store.{Turnover, grown_times, free_at, many_at, none_at}
 use Rattle.prefix_trie_table.proofs.Blocks.Soundness.{tier_of_block}
 use Rattle.prefix_trie_table.proofs.Blocks.Turnovers.{Turnover-as, Turnover-then, Turnover-grown_times, Turnover-entered, Turnover-given, Turnover-moved, some_free, tiers_stay}
 use Rattle.prefix_trie_table.proofs.allocator.blocks.Blocks.step_down.Goals as goal
 
-pub move_items-requires-clause-from_within : goal.move_items-requires-clause-from_within
-move_items-requires-clause-from_within g c =
+pub move_items-requires : goal.move_items-requires
+move_items-requires g c =
     let u = c.requires.in_use in
     let a = block c.args.k c.args.start u.size u.items in
     let b = block c.args.to c.take-new.result (tier_at c.obtain.new.self.tiers c.args.to).size [] in
-    let s = Sound-exchanged g.S.Slot.vacant b a u.live _ (c.take-new.ensures.sound (a ∷ u.live) (c.obtain.ensures.sound (a ∷ u.live) u.sound)) in
-    omega (arith, u.is_count, (block_inside g.S.Slot.vacant a (b ∷ u.live) _ s).before, fits_block g.S.Slot.vacant a (b ∷ u.live) _ s)
+    let within = runs_within g.S.Slot.vacant a b u.live _ c.args.count (c.take-new.ensures.sound (a ∷ u.live) (c.obtain.ensures.sound (a ∷ u.live) u.sound)) u.is_count
+    (omega (arith, c.requires.holds, c.obtain.ensures.size)) in
+    record { from_within = within.0; to_within = within.1 }
 
-pub move_items-requires-clause-to_within : goal.move_items-requires-clause-to_within
-move_items-requires-clause-to_within g c =
-    let u = c.requires.in_use in
-    let a = block c.args.k c.args.start u.size u.items in
-    let b = block c.args.to c.take-new.result (tier_at c.obtain.new.self.tiers c.args.to).size [] in
-    let s = c.take-new.ensures.sound (a ∷ u.live) (c.obtain.ensures.sound (a ∷ u.live) u.sound) in
-    omega (arith, (block_inside g.S.Slot.vacant b (a ∷ u.live) _ s).before, c.requires.holds, c.obtain.ensures.size)
-
-pub give_back-requires-clause-within : goal.give_back-requires-clause-within
-give_back-requires-clause-within g c =
+pub give_back-requires : goal.give_back-requires
+give_back-requires g c =
     let u = c.requires.in_use in
     let a = block c.args.k c.args.start u.size u.items in
     let b = block c.args.to c.take-new.result (tier_at c.obtain.new.self.tiers c.args.to).size [] in
     let s = Sound-exchanged g.S.Slot.vacant b a u.live _ (c.take-new.ensures.sound (a ∷ u.live) (c.obtain.ensures.sound (a ∷ u.live) u.sound)) in
     let room : c.args.count ≤ (tier_at c.obtain.new.self.tiers c.args.to).size = omega (arith, c.requires.holds, c.obtain.ensures.size) in
-    (has_place g.S.Slot.vacant _ _ _ (c.move_items.ensures.sound a b u.live s refl refl u.is_count refl room)).0
-
-pub give_back-requires-clause-place : goal.give_back-requires-clause-place
-give_back-requires-clause-place g c =
-    let u = c.requires.in_use in
-    let a = block c.args.k c.args.start u.size u.items in
-    let b = block c.args.to c.take-new.result (tier_at c.obtain.new.self.tiers c.args.to).size [] in
-    let s = Sound-exchanged g.S.Slot.vacant b a u.live _ (c.take-new.ensures.sound (a ∷ u.live) (c.obtain.ensures.sound (a ∷ u.live) u.sound)) in
-    let room : c.args.count ≤ (tier_at c.obtain.new.self.tiers c.args.to).size = omega (arith, c.requires.holds, c.obtain.ensures.size) in
-    (has_place g.S.Slot.vacant _ _ _ (c.move_items.ensures.sound a b u.live s refl refl u.is_count refl room)).1
+    let place = has_place g.S.Slot.vacant _ _ _ (c.move_items.ensures.sound a b u.live s refl refl u.is_count refl room) in
+    record { within = place.0; place = place.1 }
 
 pub returns-clause-sound : goal.returns-clause-sound
 returns-clause-sound g c = λ n xs live sound count.
@@ -60,13 +46,10 @@ returns-clause-keeps g c =
     let s = Sound-exchanged g.S.Slot.vacant b a u.live _ s0 in
     let room : c.args.count ≤ (tier_at c.obtain.new.self.tiers c.args.to).size = omega (arith, c.requires.holds, c.obtain.ensures.size) in
     let m = c.move_items.ensures.sound a b u.live s refl refl u.is_count refl room in
-    let at_a = block_inside g.S.Slot.vacant a (b ∷ u.live) _ s in
-    let at_b = block_inside g.S.Slot.vacant b (a ∷ u.live) _ s0 in
     let at_0 = block_inside g.S.Slot.vacant a u.live _ u.sound in
-    let fits = fits_block g.S.Slot.vacant a (b ∷ u.live) _ s in
     let k0 = Keeps-prepared c.args.self.now c.obtain.new.self (omega (arith, at_0.after, at_0.before)) c.obtain.ensures.prepared in
     let k1 = Keeps-spends _ _ _ (Spends-taken c.obtain.new.self c.take-new.new.self c.args.to (omega (arith, c.obtain.ensures.count, c.requires.within)) c.take-new.ensures.value) in
-    let k2 = Keeps-spends _ _ _ (Spends-swapped c.take-new.new.self c.move_items.new.self c.args.start c.take-new.result c.args.count c.move_items.ensures.slots at_a.after at_b.after (omega (arith, u.is_count, at_a.before, fits)) (omega (arith, at_b.before, room))) in
+    let k2 = Keeps-spends _ _ _ (moved_spends g.S.Slot.vacant a b u.live _ c.args.count s0 u.is_count room c.move_items.new.self c.move_items.ensures.slots) in
     let k3 = Keeps-spends _ _ _ (Spends-given c.move_items.new.self c.give_back.new.self c.args.k c.args.start (has_place g.S.Slot.vacant _ _ _ m).0 c.give_back.ensures.starts) in
     Keeps-then _ _ _ k0 (Keeps-then _ _ _ k1 (Keeps-then _ _ _ k2 k3))
 
