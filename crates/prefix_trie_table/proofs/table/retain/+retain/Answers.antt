@@ -81,23 +81,17 @@ retain_place-retain_places-left-requires g t c κs within =
       ),
     )
 
-pub retain_place-drop_child-requires-clause-child : goal.retain_place-drop_child-requires-clause-child
-retain_place-drop_child-requires-clause-child g t c =
+pub retain_place-drop_child-requires : goal.retain_place-drop_child-requires
+retain_place-drop_child-requires g t c =
     let place = c.requires.place in
-    place-child-small place.string c.in-Child.child place.short (sym c.in-Child.is ∙ place.is)
-
-pub retain_place-drop_child-requires-clause-stands : goal.retain_place-drop_child-requires-clause-stands
-retain_place-drop_child-requires-clause-stands g t c =
-    let long = g.met.K.Key.key_laws.bits_length c.args.site.key c.requires.site.key in
-    let to = c.retain_places-left.ensures.retains c.requires.trie.0 c.requires.trie.1 in
-    site_node g.K.Key.IsKey g.K.Key.bits g.K.Key.bit_width c.retain_places-left.new.nodes c.args.site c.args.node (still_site g.K.Key.IsKey g.K.Key.bits g.K.Key.bit_width g.met.K.Key.key_laws.bits_length c.args.nodes.now c.args.site c.args.node c.requires.site c.args.entries.now c.args.cells.now c.requires.trie.0 c.requires.trie.1 c.requires.place c.in-Child.child c.in-Child.is c.rank.result c.rank.ensures c.extend.result c.extend.ensures.key c.extend.ensures.value c.visit-lower.result c.visit-lower.ensures.node g.F.Keep.asks g.F.Keep.accepts (to_come c.new-places.result) c.new-places.ensures.places c.new-places.ensures.each c.args.keep.now c.retain_places-left.new.keep c.retain_places-left.new.entries c.retain_places-left.new.nodes c.retain_places-left.new.cells (c.retain_places-left.ensures.retains c.requires.trie.0 c.requires.trie.1) c.retain_places-left.result c.retain_places-left.ensures.node c.retain_places-left.ensures.lasts) long c.retain_places-left.new.entries c.retain_places-left.new.cells to.after to.trie
-
-pub retain_place-drop_child-requires-clause-there : goal.retain_place-drop_child-requires-clause-there
-retain_place-drop_child-requires-clause-there g t c =
     let long = g.met.K.Key.key_laws.bits_length c.args.site.key c.requires.site.key in
     let to = c.retain_places-left.ensures.retains c.requires.trie.0 c.requires.trie.1 in
     let held = site_holds g.K.Key.IsKey g.K.Key.bits g.K.Key.bit_width c.retain_places-left.new.nodes c.args.site c.args.node (still_site g.K.Key.IsKey g.K.Key.bits g.K.Key.bit_width g.met.K.Key.key_laws.bits_length c.args.nodes.now c.args.site c.args.node c.requires.site c.args.entries.now c.args.cells.now c.requires.trie.0 c.requires.trie.1 c.requires.place c.in-Child.child c.in-Child.is c.rank.result c.rank.ensures c.extend.result c.extend.ensures.key c.extend.ensures.value c.visit-lower.result c.visit-lower.ensures.node g.F.Keep.asks g.F.Keep.accepts (to_come c.new-places.result) c.new-places.ensures.places c.new-places.ensures.each c.args.keep.now c.retain_places-left.new.keep c.retain_places-left.new.entries c.retain_places-left.new.nodes c.retain_places-left.new.cells (c.retain_places-left.ensures.retains c.requires.trie.0 c.requires.trie.1) c.retain_places-left.result c.retain_places-left.ensures.node c.retain_places-left.ensures.lasts) long c.retain_places-left.new.entries c.retain_places-left.new.cells to.after to.trie in
-    ap (λ n. has_bit n.child_bitmap c.in-Child.child) held.0 ∙ child_there g.K.Key.IsKey g.K.Key.bits g.K.Key.bit_width g.met.K.Key.key_laws.bits_length c.args.nodes.now c.args.site c.args.node c.requires.site c.args.entries.now c.args.cells.now c.requires.trie.0 c.requires.trie.1 c.requires.place c.in-Child.child c.in-Child.is c.rank.result c.rank.ensures
+    record {
+      child = place-child-small place.string c.in-Child.child place.short (sym c.in-Child.is ∙ place.is);
+      stands = site_node g.K.Key.IsKey g.K.Key.bits g.K.Key.bit_width c.retain_places-left.new.nodes c.args.site c.args.node (still_site g.K.Key.IsKey g.K.Key.bits g.K.Key.bit_width g.met.K.Key.key_laws.bits_length c.args.nodes.now c.args.site c.args.node c.requires.site c.args.entries.now c.args.cells.now c.requires.trie.0 c.requires.trie.1 c.requires.place c.in-Child.child c.in-Child.is c.rank.result c.rank.ensures c.extend.result c.extend.ensures.key c.extend.ensures.value c.visit-lower.result c.visit-lower.ensures.node g.F.Keep.asks g.F.Keep.accepts (to_come c.new-places.result) c.new-places.ensures.places c.new-places.ensures.each c.args.keep.now c.retain_places-left.new.keep c.retain_places-left.new.entries c.retain_places-left.new.nodes c.retain_places-left.new.cells (c.retain_places-left.ensures.retains c.requires.trie.0 c.requires.trie.1) c.retain_places-left.result c.retain_places-left.ensures.node c.retain_places-left.ensures.lasts) long c.retain_places-left.new.entries c.retain_places-left.new.cells to.after to.trie;
+      there = ap (λ n. has_bit n.child_bitmap c.in-Child.child) held.0 ∙ child_there g.K.Key.IsKey g.K.Key.bits g.K.Key.bit_width g.met.K.Key.key_laws.bits_length c.args.nodes.now c.args.site c.args.node c.requires.site c.args.entries.now c.args.cells.now c.requires.trie.0 c.requires.trie.1 c.requires.place c.in-Child.child c.in-Child.is c.rank.result c.rank.ensures;
+    }
 
 pub retain_place-returns-in-Value-clause-retains : goal.retain_place-returns-in-Value-clause-retains
 retain_place-returns-in-Value-clause-retains g t c = λ u few is x h.

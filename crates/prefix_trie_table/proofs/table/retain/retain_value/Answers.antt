@@ -27,23 +27,18 @@ extend-requires-clause-within g c =
     let long = g.met.K.Key.key_laws.bits_length c.args.site.key c.requires.site.key in
     value_room g.K.Key.IsKey g.K.Key.bits g.K.Key.bit_width c.args.nodes.now c.args.site c.args.node c.requires.site long c.args.entries.now c.args.cells.now c.requires.trie.0 c.requires.trie.1 c.args.bit c.string_of-n.result.0 c.string_of-n.result.1 c.requires.bit c.string_of-n.ensures.short c.string_of-n.ensures.bit c.requires.set
 
-pub keeps-requires-clause-within : goal.keeps-requires-clause-within
-keeps-requires-clause-within g c =
-    let long = g.met.K.Key.key_laws.bits_length c.args.site.key c.requires.site.key in
-    value_room g.K.Key.IsKey g.K.Key.bits g.K.Key.bit_width c.args.nodes.now c.args.site c.args.node c.requires.site long c.args.entries.now c.args.cells.now c.requires.trie.0 c.requires.trie.1 c.args.bit c.string_of-n.result.0 c.string_of-n.result.1 c.requires.bit c.string_of-n.ensures.short c.string_of-n.ensures.bit c.requires.set
-
-pub keeps-requires-clause-filled : goal.keeps-requires-clause-filled
-keeps-requires-clause-filled g c =
-    let long = g.met.K.Key.key_laws.bits_length c.args.site.key c.requires.site.key in
-    key_filled g.K.Key.IsKey g.K.Key.bits g.K.Key.bit_width c.args.nodes.now c.args.site c.args.node c.requires.site long c.args.entries.now c.args.cells.now c.requires.trie.0 c.requires.trie.1 c.args.bit c.string_of-n.result.0 c.string_of-n.result.1 c.requires.bit c.string_of-n.ensures.short c.string_of-n.ensures.bit c.requires.set c.extend.result c.extend.ensures.value
-
-pub keeps-requires-clause-accepts : goal.keeps-requires-clause-accepts
-keeps-requires-clause-accepts g c =
+pub keeps-requires : goal.keeps-requires
+keeps-requires g c =
     let long = g.met.K.Key.key_laws.bits_length c.args.site.key c.requires.site.key in
     let got = value_got g.K.Key.IsKey g.K.Key.bits g.K.Key.bit_width c.args.nodes.now c.args.site c.args.node c.requires.site long c.args.entries.now c.args.cells.now c.requires.trie.0 c.requires.trie.1 c.args.bit c.string_of-n.result.0 c.string_of-n.result.1 c.requires.bit c.string_of-n.ensures.short c.string_of-n.ensures.bit c.requires.set c.rank.result c.at.result.now c.rank.ensures c.at.ensures.slot in
     let few = short g.K.Key.IsKey g.K.Key.bits g.K.Key.bit_width c.args.nodes.now c.args.site c.args.node c.requires.site long c.args.entries.now c.args.cells.now c.requires.trie.0 c.requires.trie.1 c.args.bit c.string_of-n.result.0 c.string_of-n.result.1 c.requires.bit c.string_of-n.ensures.short c.string_of-n.ensures.bit c.requires.set in
-    may_ask_here g.K.Key.IsKey g.K.Key.bits g.K.Key.bit_width c.args.nodes.now c.args.site c.args.node c.requires.site long c.args.entries.now c.args.cells.now c.requires.trie.0 c.requires.trie.1 c.args.bit c.string_of-n.result.0 c.string_of-n.result.1 c.requires.bit c.string_of-n.ensures.short c.string_of-n.ensures.bit c.requires.set c.extend.result c.extend.ensures.value g.F.Keep.asks g.F.Keep.accepts c.in-Some.value.now (got ∙ (sym c.as_ref.ensures.value ∙ ap option_copied c.in-Some.is)) c.args.keep.now
-    (c.requires.may_ask (digits c.string_of-n.result.0 c.string_of-n.result.1) few c.string_of-n.ensures.bit c.requires.trie.0 c.requires.trie.1)
+    record {
+      key = c.extend.ensures.key;
+      within = value_room g.K.Key.IsKey g.K.Key.bits g.K.Key.bit_width c.args.nodes.now c.args.site c.args.node c.requires.site long c.args.entries.now c.args.cells.now c.requires.trie.0 c.requires.trie.1 c.args.bit c.string_of-n.result.0 c.string_of-n.result.1 c.requires.bit c.string_of-n.ensures.short c.string_of-n.ensures.bit c.requires.set;
+      filled = key_filled g.K.Key.IsKey g.K.Key.bits g.K.Key.bit_width c.args.nodes.now c.args.site c.args.node c.requires.site long c.args.entries.now c.args.cells.now c.requires.trie.0 c.requires.trie.1 c.args.bit c.string_of-n.result.0 c.string_of-n.result.1 c.requires.bit c.string_of-n.ensures.short c.string_of-n.ensures.bit c.requires.set c.extend.result c.extend.ensures.value;
+      accepts = may_ask_here g.K.Key.IsKey g.K.Key.bits g.K.Key.bit_width c.args.nodes.now c.args.site c.args.node c.requires.site long c.args.entries.now c.args.cells.now c.requires.trie.0 c.requires.trie.1 c.args.bit c.string_of-n.result.0 c.string_of-n.result.1 c.requires.bit c.string_of-n.ensures.short c.string_of-n.ensures.bit c.requires.set c.extend.result c.extend.ensures.value g.F.Keep.asks g.F.Keep.accepts c.in-Some.value.now (got ∙ (sym c.as_ref.ensures.value ∙ ap option_copied c.in-Some.is)) c.args.keep.now
+          (c.requires.may_ask (digits c.string_of-n.result.0 c.string_of-n.result.1) few c.string_of-n.ensures.bit c.requires.trie.0 c.requires.trie.1);
+    }
 
 pub returns-then-keeps-clause-retains : goal.returns-then-keeps-clause-retains
 returns-then-keeps-clause-retains g c = λ t few is before trie.
@@ -53,18 +48,15 @@ returns-then-keeps-clause-retains g c = λ t few is before trie.
     (sym (c.string_of-n.ensures.only t is))
     (stays_here g.K.Key.IsKey g.K.Key.bits g.K.Key.bit_width c.args.nodes.now c.args.site c.args.node c.requires.site long c.args.entries.now c.args.cells.now before trie c.args.bit c.string_of-n.result.0 c.string_of-n.result.1 c.requires.bit c.string_of-n.ensures.short c.string_of-n.ensures.bit c.requires.set c.extend.result c.extend.ensures.value g.F.Keep.asks g.F.Keep.accepts c.in-Some.value.now (got ∙ (sym c.as_ref.ensures.value ∙ ap option_copied c.in-Some.is)) c.args.keep.now c.keeps.new.self c.keeps.result c.keeps.ensures c.if-keeps.true)
 
-pub take_value-requires-clause-stands : goal.take_value-requires-clause-stands
-take_value-requires-clause-stands g c =
+pub take_value-requires : goal.take_value-requires
+take_value-requires g c =
     let long = g.met.K.Key.key_laws.bits_length c.args.site.key c.requires.site.key in
-    site_values g.K.Key.IsKey g.K.Key.bits g.K.Key.bit_width c.args.nodes.now c.args.site c.args.node c.requires.site long c.args.entries.now c.args.cells.now c.requires.trie.0 c.requires.trie.1
-
-pub take_value-requires-clause-node : goal.take_value-requires-clause-node
-take_value-requires-clause-node g c =
-    let long = g.met.K.Key.key_laws.bits_length c.args.site.key c.requires.site.key in
-    sym (site_holds g.K.Key.IsKey g.K.Key.bits g.K.Key.bit_width c.args.nodes.now c.args.site c.args.node c.requires.site long c.args.entries.now c.args.cells.now c.requires.trie.0 c.requires.trie.1).0
-
-pub take_value-requires-clause-there : goal.take_value-requires-clause-there
-take_value-requires-clause-there g c = has_bit-is c.args.node.value_bitmap c.args.bit (let h = c.requires.bit in omega (arith, h)) ∙ c.requires.set
+    record {
+      bit = c.requires.bit;
+      stands = site_values g.K.Key.IsKey g.K.Key.bits g.K.Key.bit_width c.args.nodes.now c.args.site c.args.node c.requires.site long c.args.entries.now c.args.cells.now c.requires.trie.0 c.requires.trie.1;
+      node = sym (site_holds g.K.Key.IsKey g.K.Key.bits g.K.Key.bit_width c.args.nodes.now c.args.site c.args.node c.requires.site long c.args.entries.now c.args.cells.now c.requires.trie.0 c.requires.trie.1).0;
+      there = has_bit-is c.args.node.value_bitmap c.args.bit (let h = c.requires.bit in omega (arith, h)) ∙ c.requires.set;
+    }
 
 pub overflow_sub-entries : goal.overflow_sub-entries
 overflow_sub-entries g c =
