@@ -12,7 +12,7 @@ use Rattle.prefix_trie_bits.proofs.Model.Members.{and-first, same_entries}
 use Rattle.prefix_trie_table.specs.declared.allocator.node.Node.{Node}
 use Rattle.prefix_trie_table.specs.Cells.{node_sizes, cell_sizes}
 use Rattle.prefix_trie_table.specs.Digits.{path_of, bit_of}
-use Rattle.prefix_trie_table.specs.Forest.{Holds, SomeTable, has_child, has_value, own_count, read, with_value}
+use Rattle.prefix_trie_table.specs.Forest.{NodesHold, Holds, SomeTable, has_child, has_value, own_count, read, with_value}
 use Rattle.prefix_trie_table.specs.Layouts.{AreSizesBy, Sized, own_children, child_block_size, value_block_size, free_counts}
 use Rattle.prefix_trie_table.specs.Removals.{EntryTaken, EntryRemoved}
 use Rattle.prefix_trie_table.specs.Retaining.{ValuesBetween, ChildrenBetween}
@@ -38,6 +38,12 @@ pub size_read : (size : Option Node → Option ℕ) (nodes : List Node) (f : Lis
 size_read size nodes f m m_are reading_is p depth =
     m_are p ∙ ap (λ b. cond b (size (read nodes (path_of p))) None) depth ∙ ap size (reading_is (path_of p))
 
+-- and at a string with this path
+size_there : (size : Option Node → Option ℕ) (reading : List ℕ → Option Node) (paths : List (List ℕ)) (v : Store Node) → NodesHold node_sizes reading paths v →
+    (m : Sizes) → AreSizesBy size v.slots m → (p : List Bool) (x : List ℕ) → is_node_depth p ≡ true → path_of p ≡ x → get m p ≡ size (reading x)
+size_there size reading paths v hold m m_are p x depth path =
+    size_read size v.slots reading m m_are (reads node_sizes reading paths v hold) p depth ∙ ap (λ q. size (reading q)) path
+
 -- the sizes by the strings of nodes step down where those by paths do
 module _ (size : Option Node → Option ℕ) (count : Option Node → ℕ) (sizes free : List ℕ) (reading later : List ℕ → Option Node)
     (step : (x : List ℕ) → StepsDown sizes free (count (reading x)) (count (later x)) (size (reading x)) (size (later x)))
@@ -51,8 +57,7 @@ module _ (size : Option Node → Option ℕ) (count : Option Node → ℕ) (size
   sizes_step_down = record {
     at_nodes = λ p there.
         let depth = and-first (is_node_depth p) (is_some (reading (path_of p))) (sym (are p) ∙ there) in
-        steps_read sizes free (count (reading (path_of p))) (before p) (count (later (path_of p))) (after p) (size (reading (path_of p))) (get old p)
-        (size (later (path_of p))) (get new p) (had p depth) (has p depth) (size_read size v reading old old_are reads_old p depth)
+        steps_read (StepsDown sizes free) (had p depth) (has p depth) (size_read size v reading old old_are reads_old p depth)
         (size_read size v2 later new new_are reads_new p depth) (step (path_of p));
     elsewhere = λ p lacks. elim (cases_Bool (is_node_depth p)) as (λ _. get new p ≡ None) [
       | inl depth ↦
@@ -137,14 +142,11 @@ module _ {T : Type 0} (reading : List ℕ → Option Node) (values : List ℕ �
         (taken_gone reading paths values (path_of key) (bit_of key) u w w2 t set_here x e);
     values = λ x.
         let same = drops_values t.later paths p.to.later p.to.left p.to.drops x in
-        steps_read cell_sizes (free_counts w.tiers) (own_count (reading x)) (own_count (reading x)) (own_count (t.later x)) (own_count (p.to.later x))
-        (value_block_size (reading x)) (value_block_size (reading x)) (value_block_size (t.later x)) (value_block_size (p.to.later x)) refl same.0 refl same.1
+        steps_read (StepsDown cell_sizes (free_counts w.tiers)) refl same.0 refl same.1
         (taken_values reading paths values (path_of key) (bit_of key) u w w2 t set_here holds.cells.sizes_are x);
     children = λ x.
         let same = taken_children reading paths values (path_of key) (bit_of key) u w w2 t set_here x in
-        steps_read node_sizes (free_counts v.tiers) (own_children (t.later x)) (own_children (reading x)) (own_children (p.to.later x))
-        (own_children (p.to.later x)) (child_block_size (t.later x)) (child_block_size (reading x)) (child_block_size (p.to.later x))
-        (child_block_size (p.to.later x)) (sym same.0) refl (sym same.1) refl
+        steps_read (StepsDown node_sizes (free_counts v.tiers)) (sym same.0) refl (sym same.1) refl
         (subst (λ ts. ChildrenStep (free_counts ts) (t.later x) (p.to.later x)) tiers
         (pruned_children t.later paths (path_of key) p.level p.node u v2 p.to t.holds.hold.sizes_are x));
     of_cells =
@@ -186,14 +188,9 @@ module _ {T : Type 0} (key : List Bool) (v v2 : Store Node) (w w2 : Store (Optio
   cells_grow l =
       let t = some_table is in
       let depth : is_node_depth (home key) ≡ true = eq-eqb (length (home key) % 5) 0 (home-depth key) in
-      let was : get z.1.0 (home key) ≡ value_block_size (t.reading (path_of key)) =
-      size_read value_block_size v.slots t.reading z.1.0 z.1.1.1 (reads node_sizes t.reading t.paths v t.holds.hold) (home key) depth
-      ∙ ap (λ x. value_block_size (t.reading x)) (home_path key) in
-      let now : get z2.1.0 (home key) ≡ value_block_size (l.later (path_of key)) =
-      size_read value_block_size v2.slots l.later z2.1.0 z2.1.1.1 (reads node_sizes l.later l.paths v2 l.holds.hold) (home key) depth
-      ∙ ap (λ x. value_block_size (l.later x)) (home_path key) in
-      subst (λ o. GrowsByOne value_block_sizes w w2 o (get z2.1.0 (home key))) (sym was)
-      (subst (λ o. GrowsByOne value_block_sizes w w2 (value_block_size (t.reading (path_of key))) o) (sym now) l.of_cells)
+      steps_read {c = 0} {d = 0} (λ _ _ o n. GrowsByOne value_block_sizes w w2 o n) refl refl
+      (size_there value_block_size t.reading t.paths v t.holds.hold z.1.0 z.1.1.1 (home key) (path_of key) depth (home_path key))
+      (size_there value_block_size l.later l.paths v2 l.holds.hold z2.1.0 z2.1.1.1 (home key) (path_of key) depth (home_path key)) l.of_cells
 
   nodes_grow : Left is.reading (path_of key) v w v2 w2 →
       (p : List Bool) × GrowsAtMost child_block_sizes v v2 (get z.0 p) (get z2.0 p)
@@ -204,15 +201,11 @@ module _ {T : Type 0} (key : List Bool) (v v2 : Store Node) (w w2 : Store (Optio
       let depth : is_node_depth (take (5 * l.stop) key) ≡ true =
       eq-eqb (length (take (5 * l.stop) key) % 5) 0 (whole l.stop (length (take (5 * l.stop) key)) (length-take-le (5 * l.stop) key inside)) in
       let path : path_of (take (5 * l.stop) key) ≡ take l.stop (path_of key) = path-take l.stop key inside in
-      let was : get z.0 (take (5 * l.stop) key) ≡ child_block_size (t.reading (take l.stop (path_of key))) =
-      size_read child_block_size v.slots t.reading z.0 z.1.1.0 (reads node_sizes t.reading t.paths v t.holds.hold) (take (5 * l.stop) key) depth
-      ∙ ap (λ x. child_block_size (t.reading x)) path in
-      let now : get z2.0 (take (5 * l.stop) key) ≡ child_block_size (l.later (take l.stop (path_of key))) =
-      size_read child_block_size v2.slots l.later z2.0 z2.1.1.0 (reads node_sizes l.later l.paths v2 l.holds.hold) (take (5 * l.stop) key) depth
-      ∙ ap (λ x. child_block_size (l.later x)) path in (
+      (
         p,
-        subst (λ o. GrowsAtMost child_block_sizes v v2 o (get z2.0 (take (5 * l.stop) key))) (sym was)
-            (subst (λ o. GrowsAtMost child_block_sizes v v2 (child_block_size (t.reading (take l.stop (path_of key)))) o) (sym now) l.of_nodes),
+        steps_read {c = 0} {d = 0} (λ _ _ o n. GrowsAtMost child_block_sizes v v2 o n) refl refl
+            (size_there child_block_size t.reading t.paths v t.holds.hold z.0 z.1.1.0 (take (5 * l.stop) key) (take l.stop (path_of key)) depth path)
+            (size_there child_block_size l.later l.paths v2 l.holds.hold z2.0 z2.1.1.0 (take (5 * l.stop) key) (take l.stop (path_of key)) depth path) l.of_nodes,
       )
     where
       whole : (k n : ℕ) → n ≡ 5 * k → n % 5 ≡ 0
@@ -289,11 +282,8 @@ module _ (size : Option Node → Option ℕ) (count : Option Node → ℕ) (size
   sizes_step_between = record {
     at_nodes = λ p there.
         let depth = and-first (is_node_depth p) (is_some (read v (path_of p))) (sym (are p) ∙ there) in
-        subst (λ x. StepsBetween sizes x (after p) (get old p) (get new p)) (sym (had p depth))
-        (subst (λ x. StepsBetween sizes (count (read v (path_of p))) x (get old p) (get new p)) (sym (has p depth))
-        (subst (λ x. StepsBetween sizes (count (read v (path_of p))) (count (read v2 (path_of p))) x (get new p)) (sym (size_read size v (read v) old old_are (λ x. refl) p depth))
-        (subst (λ x. StepsBetween sizes (count (read v (path_of p))) (count (read v2 (path_of p))) (size (read v (path_of p))) x)
-        (sym (size_read size v2 (read v2) new new_are (λ x. refl) p depth)) (step (path_of p)))));
+        steps_read (StepsBetween sizes) (had p depth) (has p depth) (size_read size v (read v) old old_are (λ x. refl) p depth)
+        (size_read size v2 (read v2) new new_are (λ x. refl) p depth) (step (path_of p));
     elsewhere = λ p lacks. elim (cases_Bool (is_node_depth p)) as (λ _. get new p ≡ None) [
       | inl depth ↦
           let missing : read v (path_of p) ≡ None = is_none-None (read v (path_of p)) (sym (ap (λ b. b && is_some (read v (path_of p))) depth) ∙ sym (are p) ∙ lacks) in

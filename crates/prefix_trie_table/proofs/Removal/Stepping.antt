@@ -140,11 +140,9 @@ pub children_kept : (free : List ℕ) (n m : Option Node) → SameBlock own_chil
 children_kept free n m e = steps_same node_sizes free (own_children n) (own_children m) (child_block_size n) (child_block_size m) e.0 e.1 (children_none m)
 
 -- the same numbers and sizes
-pub steps_read : (sizes free : List ℕ) (c c2 d d2 : ℕ) (o o2 n n2 : Option ℕ) → c2 ≡ c → d2 ≡ d → o2 ≡ o → n2 ≡ n → StepsDown sizes free c d o n →
-    StepsDown sizes free c2 d2 o2 n2
-steps_read sizes free c c2 d d2 o o2 n n2 ec ed eo en s =
-    subst (λ x. StepsDown sizes free x d2 o2 n2) (sym ec)
-    (subst (λ x. StepsDown sizes free c x o2 n2) (sym ed) (subst (λ x. StepsDown sizes free c d x n2) (sym eo) (subst (λ x. StepsDown sizes free c d o x) (sym en) s)))
+pub steps_read : {c c2 d d2 : ℕ} {o o2 n n2 : Option ℕ} (R : ℕ → ℕ → Option ℕ → Option ℕ → Type 0) → c2 ≡ c → d2 ≡ d → o2 ≡ o → n2 ≡ n → R c d o n → R c2 d2 o2 n2
+steps_read R ec ed eo en r =
+    subst (λ (x : ℕ × ℕ × Option ℕ × Option ℕ). R x.0 x.1 x.2 x.3) (λ i. (sym ec i, sym ed i, sym eo i, sym en i)) r
 
 -- an array grew by the block `new`, which a list entered in place of `old`, if one had to be made
 pub record GrowsByOne {S : Type 0} (sizes : List ℕ) (v w : Store S) (old new : Option ℕ) : Type 0 where
