@@ -1,5 +1,0 @@
-use Rattle.std.proofs.Common.{rules}
-use Rattle.prefix_trie_map.proofs.map.PrefixMap.get_lpm_prefix.Goals as goal
-
-pub returns : goal.returns
-returns g c = search rules

@@ -1,5 +1,0 @@
-use Rattle.std.proofs.Common.{rules}
-use Rattle.prefix_trie_map.proofs.map.PrefixMap.node_slots.Goals as goal
-
-pub returns-clause-slots : goal.returns-clause-slots
-returns-clause-slots g c = search rules
