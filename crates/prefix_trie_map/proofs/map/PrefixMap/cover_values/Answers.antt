@@ -13,6 +13,3 @@ returns-clause-counted g c = ap length c.new.ensures ∙ length-map _ (λ e. e.1
 
 pub returns-clause-runs : goal.returns-clause-runs
 returns-clause-runs g c = shows_in_order deref
-
-pub returns-clause-fits : goal.returns-clause-fits
-returns-clause-fits g c = c.cover.ensures.fits

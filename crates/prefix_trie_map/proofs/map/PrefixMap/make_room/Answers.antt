@@ -28,8 +28,8 @@ by_path : (g : given.Over) (c : goal.After-make_room g) (F : Contents g.row.T.De
     F c.self.inside.table (take c.from-len.result (g.P.R.Key.bits c.repr.result)) → F c.args.self.now (g.P.Prefix.path c.args.prefix.now)
 by_path g c F fact = by_key F c.self.view_is (key_is g c) fact
 
-room_left : (g : given.Over) (c : goal.After-make_room g) → LeavesRoom (len c.args.self.now.nodes) c.args.self.now.room c.make_room.new.self.room
-room_left g c = by_path g c (λ old q. LeavesRoom (len old.nodes) old.room c.make_room.new.self.room) c.make_room.ensures.room
+pub returns-clause-room : goal.returns-clause-room
+returns-clause-room g c = by_path g c (λ old q. LeavesRoom (len old.nodes) old.room c.make_room.new.self.room) c.make_room.ensures.room
 
 leaves : (g : given.Over) (c : goal.After-make_room g) → MatchResult c.make_room.result
     (λ _. ReadiesInStorage (state c.args.self.now) (g.P.Prefix.path c.args.prefix.now) (storage c.args.self.now) (storage c.make_room.new.self))
@@ -42,9 +42,6 @@ leaves g c =
 pub returns-clause-end : goal.returns-clause-end
 returns-clause-end g c = subst (λ q. IsWayEnd c.make_room.new.self.build q c.args.end) (key_is g c) c.make_room.ensures.end
 
-pub returns-clause-room : goal.returns-clause-room
-returns-clause-room g c = room_left g c
-
 pub returns-clause-readies : goal.returns-clause-readies
 returns-clause-readies g c =
     room_readied g.P.Prefix.path g.P.Prefix.back g.P.R.Key.bit_width (λ cause. cause) c.args.self.now c.make_room.new.self c.args.prefix.now c.make_room.result (leaves g c)
@@ -52,7 +49,7 @@ returns-clause-readies g c =
 pub returns-clause-refuses : goal.returns-clause-refuses
 returns-clause-refuses g c =
     room_refused g.P.Prefix.path g.P.Prefix.back g.P.R.Key.bit_width (λ cause. cause) c.args.self.now c.make_room.new.self c.args.prefix.now c.make_room.result c.requires.absent
-    (room_left g c)
+    (returns-clause-room g c)
     (by_path g c (λ old q. (c.make_room.new.self.entries ≡ old.entries) × (c.make_room.new.self.nodes ≡ old.nodes)) c.make_room.ensures.unchanged)
     (leaves g c)
     (by_path g c (λ old q. IfErr c.make_room.result (λ cause. cause ≡ IndexRange → MayPassLimit old.room)) c.make_room.ensures.range)
