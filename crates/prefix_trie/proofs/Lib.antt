@@ -1,3 +1,4 @@
+pub mod Allocators
 pub mod AnyMap
 pub mod Copies
 pub mod Putting

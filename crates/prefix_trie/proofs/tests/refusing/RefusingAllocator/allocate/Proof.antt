@@ -1,41 +1,13 @@
 -- It answers an error, or what the inner allocator answers. Assumes `Logic`.
-use Rattle.std.proofs.Common.{Bool, ◌≡◌, ℕ, ◌+◌, ◌^◌, ◌<◌, true, false, List, [], ◌∷◌, Ok, Err, refl, w64, Bor, ap}
-use seplogic.Ra.Ura.{Ura}
-use mir.Syntax.{Ty, Args, Fn, a_type, dnil, dcons}
-use mir.Val.{Val, vbool, vint, vptr}
-use mir.MapTy.{inst_fn}
-use base.Logic.{SProp, ent, id⊢, sep, ex, guard}
-use base.Fml.{Lft, Share, ftrue, flft, fsep}
-use prog.Memory.{Memory, size, align, capped, up}
-use prog.Routine.{Routine}
-use prog.Wp.{WpFn, Tables}
-use types.Logic.{Logic, sem}
-use contract.BorrowLft.{◌⊑◌, ⊑_trans}
-use contract.Monad.{Fun, fact}
-use contract.Running.{tables, tables_of}
-use sound.WpLaws.{fm_of, WpFn-mono}
-use types.Run.{stop, fld, addr, lit, no_more, and_then, first, branches, skips, exec, returns, returns_within, enter}
+use Rattle.prefix_trie.proofs.Allocators.{Bool, ◌≡◌, ℕ, ◌+◌, ◌^◌, ◌<◌, true, false, List, [], ◌∷◌, Ok, Err, refl, w64, Bor, ap, Ura, Ty, Args, Fn, a_type, dnil, dcons, Val, vbool, vint, vptr, inst_fn, SProp, ent, id⊢}
+use Rattle.prefix_trie.proofs.Allocators.{sep, ex, guard, Lft, Share, ftrue, flft, fsep, Memory, size, align, capped, up, Routine, WpFn, Tables, Logic, sem, ◌⊑◌, ⊑_trans, Fun, fact, tables, tables_of, fm_of, WpFn-mono}
+use Rattle.prefix_trie.proofs.Allocators.{stop, fld, addr, lit, no_more, and_then, first, branches, skips, exec, returns, returns_within, enter, yes, owns, RattleType, shr_vals, unhide, bounded, param, uint_vals}
+use Rattle.prefix_trie.proofs.Allocators.{uint_Tells, Slot, plain, types_at, heard, nothing, only, Ended, Clauses, triple_of, Triple, Contract, entered, cited, Stays, stay_dropped, walk_of, ends_at, walked, Goes-dropped}
+use Rattle.prefix_trie.proofs.Allocators.{walk_Meets, ‵, raw, ◌⊛◌, some, later, given, learn, pick, at_ret, ◌$◌, ◌∵◌, !, qed, move, keep, drop, use0, use1, use2, split, join, fsplit, fjoin, suffices, await, done, feq_i}
+use Rattle.prefix_trie.proofs.Allocators.{feq_l, check, show, updating, at_once, alloc_all, pass_all, free_all, look_at, get, through, sets, lands_as, env, block_ptr, usize, RefOf, bool, calls_at, Al, α, seen}
+use Rattle.prefix_trie.proofs.Allocators.{Answer, answer_val, Answer-typed, Answer-Ok, Answer-err, takes_key, Takes, at_takes, Answered, Takes-goes, Takes-gives, answers}
 use types.Part.{agg}
-use denote.Exit.{yes}
-use denote.RattleType.{owns, RattleType}
-use denote.Ref.{shr_vals}
-use denote.Opens.{unhide}
-use denote.Param.{bounded, param}
-use denote.Plain.{uint_vals, uint_Tells}
-use denote.Signature.{Slot, plain, types_at}
-use denote.Steps.{heard, nothing, only}
-use denote.Triple.Clauses.{Ended, Clauses}
-use denote.Triple.Spec.{triple_of}
-use denote.Triple.Statement.{Triple, Contract}
-use denote.Triple.Table.{entered, cited}
-use denote.Triple.Walked.{Stays, stay_dropped, walk_of, ends_at, walked, Goes-dropped, walk_Meets}
-use types.Kit.{‵, raw, ◌⊛◌, some, later, given, learn, pick, at_ret, ◌$◌, ◌∵◌, !, qed, move, keep, drop, use0, use1, use2, split, join, fsplit, fjoin, suffices, await, done, feq_i, feq_l, check, show, updating, now as at_once}
-use types.ByLocal.{alloc_all, pass_all, free_all, look_at, get, through, sets, lands_as, env}
 use Rattle.std.proofs.VecSteps.Shapes.{after}
-use denote.RawPtr.{block_ptr}
-use denote.Builtin.{usize, RefOf, bool}
-use denote.Triple.Call.{calls_at}
-use Rattle.std.proofs.alloc.Calls.{Al, α, seen, Answer, answer_val, Answer-typed, Answer-Ok, Answer-err, takes_key, Takes, at_takes, Answered, Takes-goes, Takes-gives, answers}
 use denote.Memory.{hidden_shr}
 use Rattle.prefix_trie.proofs.tests.refusing.refuses.Symbol as c_sym
 use Rattle.prefix_trie.proofs.tests.refusing.refuses.Met as c_met
