@@ -5,15 +5,16 @@ use Rattle.prefix_trie_bits.specs.declared.prefix.Refusal.{Refusal}
 use Rattle.prefix_trie_bits.specs.declared.prefix.Refused.{Refused}
 use Rattle.prefix_trie_bits.specs.declared.prefix.Refusal.TheVariants.{IndexRange}
 use Rattle.prefix_trie_bits.specs.Model.Entries.{with_entry}
-use Rattle.prefix_trie_bits.specs.Model.Nodes.{with_needed}
+use Rattle.prefix_trie_bits.specs.Model.Nodes.{with_needed, AreNodes}
 use Rattle.prefix_trie_bits.specs.Model.Room.{MayPassLimit, LeavesRoom}
-use Rattle.prefix_trie_bits.specs.Model.Step.{State, Reply, Step, Insert, Value}
+use Rattle.prefix_trie_bits.specs.Model.Step.{Reply, Step, Insert, Value}
 use Rattle.prefix_trie_bits.specs.Model.Storage.{ReadiesInStorage, InsertsInStorage, RefusesInStorage, StepInStorage}
 use Rattle.prefix_trie_bits.proofs.Model.Members.{get-with_entry, is-same_string, same_entries}
 use Rattle.prefix_trie_bits.specs.Order.{same_string}
 use Rattle.prefix_trie_bits.specs.Model.Entries.{Entries}
 use Rattle.prefix_trie_table.specs.Shape.{Contents, with_value_at}
 use Rattle.prefix_trie_map.specs.Steps.{state, storage, stored, placed}
+use Rattle.prefix_trie_map.proofs.Insertions.{inserts_are}
 use Rattle.prefix_trie_bits.proofs.Model.Storage.Readied.{readied_inserts}
 
 pub no_value : {T : Type 0} (o : Option T) → is_some o ≡ false → o ≡ None
@@ -79,24 +80,14 @@ module _ {P T : Type 0} (path : P → List Bool) (back : List Bool → P) (width
   other_refused cause (inl (e, left)) other = absurd (value_not_refused _ cause (sym e))
   other_refused cause (inr refused) other = inr refused
 
-  set_entries : Step path back width (state old) (Insert q v) (Value None) (state new) → new.entries ≡ with_entry old.entries (path q) v
-  set_entries (inl (e, left)) = ap (λ (s : State T). s.entries) left
-  set_entries (inr (fresh, cause, e, same)) = absurd (value_not_refused None cause e)
-
-  set_nodes : Step path back width (state old) (Insert q v) (Value None) (state new) → new.nodes ≡ with_needed old.nodes (path q)
-  set_nodes (inl (e, left)) = ap (λ (s : State T). s.nodes) left ∙ ap (λ b. cond b old.nodes (with_needed old.nodes (path q))) absent
-  set_nodes (inr (fresh, cause, e, same)) = absurd (value_not_refused None cause e)
-
-  kept : (cause : Refusal) → Step path back width (state old) (Insert q v) (Reply.Refused cause) (state new) → (new.entries ≡ old.entries) × (new.nodes ≡ old.nodes)
-  kept cause (inl (e, left)) = absurd (value_not_refused _ cause (sym e))
-  kept cause (inr (fresh, other, e, same)) = (ap (λ (s : State T). s.entries) same, ap (λ (s : State T). s.nodes) same)
-
-  pub places : {X : Type 0} (r : Result X (Refused T)) → StepInStorage path back width (stored old) (Insert q v) (placed r) (stored new) → Places r
-  places (Ok x) h = record { entries = set_entries h.step; nodes = set_nodes h.step; unchanged = tt; step = h; refuses = tt }
-  places (Err e) h = record {
+  pub places : {X : Type 0} (r : Result X (Refused T)) → AreNodes width old.entries old.nodes → StepInStorage path back width (stored old) (Insert q v) (placed r) (stored new) → Places r
+  places (Ok x) good h =
+      let left = inserts_are path back width (state old) (state new) q v good (Ok None) h.step in
+      record { entries = left.entries; nodes = left.nodes; unchanged = tt; step = h; refuses = tt }
+  places (Err e) good h = record {
     entries = tt;
     nodes = tt;
-    unchanged = kept e.cause h.step;
+    unchanged = (inserts_are path back width (state old) (state new) q v good (Err e) h.step).unchanged;
     step = tt;
     refuses = λ other. record {
       step = other_refused e.cause h.step other;

@@ -90,11 +90,15 @@ module _ {T : Type 0} where
       StepOfStrings s Clear Done (record { entries = entries; nodes = nodes }, kept) → nodes ≡ root_alone
   root_left h = ap (λ (s : State T). s.nodes) (h 0).step.1
 
+  -- the table that a map has inside is a map
+  pub is_map : {width : ℕ} {inside old : Contents T} → inside ≡ old → IsMap width (state inside) → IsMap width (state old)
+  is_map {width} same good = subst (λ m. IsMap width (state m)) same good
+
   -- a step of a map leaves a map
   pub stays : {P : Type 0} (path : P → List Bool) (back : List Bool → P) (width : ℕ) {inside old : Contents T} {call : Call P T} {r : Reply P T} {t : State T × Storage} →
       inside ≡ old → IsMap width (state inside) → CallFits (λ q. length (path q) ≤ width) call → StepInStorage path back width (stored old) call r t → IsMap width t.0
   stays path back width {inside} {old} {call} {r} {t} same good fits h =
-      stays_map path back width (state old) call r t.0 fits h.step (subst (λ m. IsMap width (state m)) same good)
+      stays_map path back width (state old) call r t.0 fits h.step (is_map same good)
 
   -- the removals, from the table and the key's bits to the map and the prefix's path
   module _ {P : Type 0} (path : P → List Bool) (back : List Bool → P) (width : ℕ) {inside old : Contents T} {t : State T × Storage} {key : List Bool} {value : Option T} (q : P)

@@ -12,3 +12,6 @@ returns-clause-counted g c = ap length c.new.ensures ∙ length-map _ (λ e. e.0
 
 pub returns-clause-runs : goal.returns-clause-runs
 returns-clause-runs g c = gives_in_order
+
+pub returns-clause-fits : goal.returns-clause-fits
+returns-clause-fits g c = c.cover.ensures.fits

@@ -1,12 +1,10 @@
-use Rattle.std.proofs.Common.{◌≡◌, ◌∙◌, sym, take, subst}
+use Rattle.std.proofs.Common.{◌≡◌, ◌∙◌, sym, take}
 use Rattle.prefix_trie_bits.specs.Keys.{path_within}
-use Rattle.prefix_trie_bits.specs.Laws.Steps.{IsMap}
 use Rattle.prefix_trie_bits.specs.Model.Step.{Insert}
 use Rattle.prefix_trie_bits.specs.Model.Storage.{StepOfStrings}
-use Rattle.prefix_trie_table.specs.Shape.{Contents}
 use Rattle.prefix_trie_map.specs.Steps.{state, stored, inserted}
 use Rattle.prefix_trie_map.proofs.Insertions.{Inserts, inserts_are}
-use Rattle.prefix_trie_map.proofs.Steps.{insert_step, inserted_is, by_key, stays}
+use Rattle.prefix_trie_map.proofs.Steps.{insert_step, inserted_is, by_key, is_map, stays}
 use Rattle.prefix_trie_map.proofs.map.PrefixMap.insert.Given as given
 use Rattle.prefix_trie_map.proofs.map.PrefixMap.insert.Goals as goal
 
@@ -22,7 +20,7 @@ returns-clause-step g c =
 inserts : (g : given.Over) (c : goal.After-drop-prefix g) → Inserts (state c.args.self.now) (state c.insert.new.self) (g.P.Prefix.path c.args.prefix) c.args.value c.insert.result
 inserts g c =
     inserts_are g.P.Prefix.path g.P.Prefix.back g.P.R.Key.bit_width (state c.args.self.now) (state c.insert.new.self) c.args.prefix c.args.value
-    (subst (λ (m : Contents g.row.T.Denot). IsMap g.P.R.Key.bit_width (state m)) c.self.view_is c.self.invariant).are_nodes c.insert.result (returns-clause-step g c).step
+    (is_map c.self.view_is c.self.invariant).are_nodes c.insert.result (returns-clause-step g c).step
 
 pub invariant_of-self : goal.invariant_of-self
 invariant_of-self g c =

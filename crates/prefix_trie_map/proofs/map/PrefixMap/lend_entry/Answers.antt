@@ -5,8 +5,7 @@ use Rattle.std.specs.Option.{ghost_name_of}
 use Rattle.prefix_trie_bits.specs.Model.Visits.{visits}
 use Rattle.prefix_trie_bits.proofs.Model.Visits.{visits-bound}
 use Rattle.prefix_trie_table.specs.Shape.{with_value_at, with_stored_at}
-use Rattle.prefix_trie_bits.specs.Laws.Steps.{IsMap}
-use Rattle.prefix_trie_map.specs.Steps.{state}
+use Rattle.prefix_trie_map.proofs.Steps.{is_map}
 use Rattle.prefix_trie_map.proofs.Lending.{IsMap-with_stored_at, stored_lent}
 use Rattle.prefix_trie_map.proofs.map.PrefixMap.lend_entry.Goals as goal
 
@@ -32,6 +31,6 @@ returns g c =
         writes_back = tt;
         value = c.find_mut.ensures.value ∙ ap (get m.entries) key ∙ ap (λ n. get n.entries path) same;
         exact = counted;
-        bound = omega (arith, counted, visits-bound c.args.self.now.nodes path (subst (λ n. IsMap g.P.R.Key.bit_width (state n)) same c.self.invariant).are_nodes.depths);
+        bound = omega (arith, counted, visits-bound c.args.self.now.nodes path (is_map same c.self.invariant).are_nodes.depths);
       },
     )

@@ -1,13 +1,12 @@
 use borrow.Follows.Closed.{read_of}
 use Rattle.std.proofs.Common.{rules, ◌≡◌, ◌+◌, ◌≤◌, List, Bool, Some, None, take, MatchOption, IfSome, refl, subst, arith}
 use Rattle.std.specs.Option.{ghost_name_of}
-use Rattle.prefix_trie_bits.specs.Laws.Steps.{IsMap}
 use Rattle.prefix_trie_bits.specs.Model.Entries.{Entries}
 use Rattle.prefix_trie_bits.specs.Model.Matches.{longest_match}
 use Rattle.prefix_trie_bits.specs.Model.Visits.{visits}
 use Rattle.prefix_trie_bits.proofs.Model.Visits.{visits-bound}
 use Rattle.prefix_trie_table.specs.Shape.{with_longest_at}
-use Rattle.prefix_trie_map.specs.Steps.{state}
+use Rattle.prefix_trie_map.proofs.Steps.{is_map}
 use Rattle.prefix_trie_map.proofs.Lending.{IsMap-with_longest_at, match_parts}
 use Rattle.prefix_trie_map.proofs.map.PrefixMap.lend_longest.Goals as goal
 
@@ -38,6 +37,6 @@ returns g c =
         value = subst (λ n. Found n.entries path) same (subst (Found m.entries) key found.0);
         within = subst (λ n. IfSome c.find_longest_mut.result (λ value. handed ≤ n)) length_is found.1;
         exact = counted;
-        bound = omega (arith, counted, visits-bound c.args.self.now.nodes path (subst (λ n. IsMap g.P.R.Key.bit_width (state n)) same c.self.invariant).are_nodes.depths);
+        bound = omega (arith, counted, visits-bound c.args.self.now.nodes path (is_map same c.self.invariant).are_nodes.depths);
       },
     )

@@ -6,7 +6,7 @@ use Rattle.prefix_trie_table.specs.Locations.{seat_of, IsWayEnd}
 use Rattle.prefix_trie_table.specs.Shape.{Contents}
 use Rattle.prefix_trie_map.specs.Steps.{stored, placed}
 use Rattle.prefix_trie_map.proofs.Placing.{Places, places}
-use Rattle.prefix_trie_map.proofs.Steps.{insert_step, placed_is, by_key, stays}
+use Rattle.prefix_trie_map.proofs.Steps.{insert_step, placed_is, by_key, is_map, stays}
 use Rattle.prefix_trie_map.proofs.map.PrefixMap.place.Given as given
 use Rattle.prefix_trie_map.proofs.map.PrefixMap.place.Goals as goal
 
@@ -33,7 +33,8 @@ step g c =
 left : (g : given.Over) (c : goal.After-place g) → Places g.P.Prefix.path g.P.Prefix.back g.P.R.Key.bit_width c.args.self.now c.place.new.self c.args.prefix.now c.args.value
     c.requires.absent c.place.result
 left g c =
-    places g.P.Prefix.path g.P.Prefix.back g.P.R.Key.bit_width c.args.self.now c.place.new.self c.args.prefix.now c.args.value c.requires.absent c.place.result (step g c)
+    places g.P.Prefix.path g.P.Prefix.back g.P.R.Key.bit_width c.args.self.now c.place.new.self c.args.prefix.now c.args.value c.requires.absent c.place.result
+    (is_map c.self.view_is c.self.invariant).are_nodes (step g c)
 
 pub invariant_of-self : goal.invariant_of-self
 invariant_of-self g c =
