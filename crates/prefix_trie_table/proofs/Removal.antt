@@ -1,6 +1,7 @@
 -- What calls that take entries out leave.
 pub mod Clearing
 pub mod Removing
+pub mod GivingBack
 pub mod Emptying
 pub mod Pruning
 pub mod Removed

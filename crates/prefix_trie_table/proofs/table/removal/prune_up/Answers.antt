@@ -5,7 +5,7 @@ use Rattle.prefix_trie_table.specs.Digits.{path_of}
 use Rattle.prefix_trie_table.specs.Removals.{IsWay, IsBare, GivesBack, slot_in}
 use Rattle.prefix_trie_table.proofs.Lookup.Going.{steps-all, step-read, level_inside}
 use Rattle.prefix_trie_table.proofs.Removal.Pruning.{Pruning, pruning_first, pruning_more, parent_is, parent_slot, parent_bit}
-use Rattle.prefix_trie_table.proofs.Removal.Removing.{gives_same, gives_then}
+use Rattle.prefix_trie_table.proofs.Removal.GivingBack.{gives_same, gives_then}
 use Rattle.prefix_trie_table.proofs.Insertion.Rooms.{Grows-same, Grows-after}
 use Rattle.prefix_trie_table.proofs.Blocks.Turnovers.{made_kept}
 use Rattle.prefix_trie_table.proofs.table.removal.prune_up.Goals as goal
