@@ -1,0 +1,5 @@
+use Rattle.std.proofs.Common.{rules}
+use Rattle.prefix_trie.proofs.set.shown.give_alike.Goals as goal
+
+pub returns : goal.returns
+returns g c = search rules
