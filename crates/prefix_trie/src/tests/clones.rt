@@ -1,6 +1,5 @@
 //! Copies of a map, and of the walks that take it apart, with each request for memory refused in turn: each value is cloned once.
 use crate::map::{IntoIter, IntoKeys, IntoValues};
-use crate::tests::on_new::on_new;
 use crate::tests::refusing::Refusing;
 use crate::{PrefixMap, Refusal};
 use std::alloc::{AllocError, Allocator, Global};
@@ -37,42 +36,80 @@ fn put_names<A: Allocator + Copy>(alloc: A, names: &mut Names<A>) -> Result<bool
     )
 }
 
-/// What is answered of a new map of three names, with every request refused from then on.
-fn of_names<'a, F: FnOnce(Names<&'a Heap>, &'a Heap) -> Option<u64> + Drop>(
-    heap: &'a Heap,
-    asks: F,
-) -> Result<Option<u64>, Refusal>
-    requires { F.IsAlwaysCallable asks }
-{
+/// What is copied here, and gives its names.
+trait Copied {
+    /// A copy of it.
+    fn copied(&self) -> Result<Self, AllocError>;
+
+    /// Whether it gives all names, or those that the network of nine bits contains.
+    fn gives(self, is_whole: bool) -> bool;
+}
+
+impl<A: Allocator + Clone> Copied for Names<A> {
+    fn copied(&self) -> Result<Self, AllocError> {
+        self.clone()
+    }
+
+    fn gives(self, is_whole: bool) -> bool {
+        gives_items(&mut self.into_iter(), is_whole)
+    }
+}
+
+impl<A: Allocator + Clone> Copied for IntoIter<(u32, u8), String<A>, A> {
+    fn copied(&self) -> Result<Self, AllocError> {
+        self.clone()
+    }
+
+    fn gives(mut self, is_whole: bool) -> bool {
+        gives_items(&mut self, is_whole)
+    }
+}
+
+impl<A: Allocator + Clone> Copied for IntoKeys<(u32, u8), String<A>, A> {
+    fn copied(&self) -> Result<Self, AllocError> {
+        self.clone()
+    }
+
+    fn gives(self, is_whole: bool) -> bool {
+        is_whole & self.eq([(0x0a00_0000, 8), (0x0a00_0000, 9), (0x0a01_0000, 24)])
+    }
+}
+
+impl<A: Allocator + Clone> Copied for IntoValues<(u32, u8), String<A>, A> {
+    fn copied(&self) -> Result<Self, AllocError> {
+        self.clone()
+    }
+
+    fn gives(mut self, is_whole: bool) -> bool {
+        is_whole & gives_values(&mut self)
+    }
+}
+
+/// A new map of three names, with every request refused from then on.
+fn filled(heap: &Heap) -> Option<Names<&Heap>> {
     heap.refuse(0, 0);
-    let mut names = PrefixMap::new(heap)?;
+    let mut names = PrefixMap::new(heap).ok()?;
     let is_filled = put_names(heap, &mut names) == Ok(true);
     heap.refuse(0, u64::MAX);
-    Ok(asks(names, heap).filter(|_| is_filled))
+    if is_filled { Some(names) } else { None }
 }
 
 /// Copies a map or a walk, which was made with every request refused, with another request refused each time. Answers how many were,
 /// if each copy was refused exactly where one was, and at last both the copy and what was copied give all with every request refused.
-fn refused_in_turn<W: Drop, C: Fn(&W) -> Result<W, AllocError> + Drop, G: Fn(W) -> bool + Drop>(
-    heap: &Heap,
-    copied: W,
-    copies: C,
-    gives_all: G,
-) -> Option<u64>
-    requires copies { C.IsAlwaysCallable copies }
-    requires gives { G.IsAlwaysCallable gives_all }
-{
+fn refused_in_turn<W: Copied + Drop>(heap: &Heap, copied: W, is_whole: bool) -> Option<u64> {
     let is_unasked = heap.left() == u64::MAX;
     for passed in 0..MANY {
         heap.refuse(passed, 1);
-        let answer = copies(&copied);
+        let answer = copied.copied();
         let was_refused = heap.left() == 0;
         if answer.is_err() != was_refused {
             return None;
         }
         if let Ok(copy) = answer {
             heap.refuse(0, u64::MAX);
-            let give_all = gives_all(copy) & gives_all(copied) & (heap.left() == u64::MAX);
+            let give_all = copy.gives(is_whole)
+                & copied.gives(is_whole)
+                & (heap.left() == u64::MAX);
             return (is_unasked & give_all).then_some(passed);
         }
     }
@@ -95,53 +132,41 @@ fn is_entry<A: Allocator>(entry: Option<((u32, u8), String<A>)>, len: u8, text: 
     }
 }
 
-/// Whether a walk gives the names that the network of nine bits contains.
-fn gives_part<A: Allocator>(mut walk: IntoIter<(u32, u8), String<A>, A>) -> bool {
-    is_entry(walk.next(), 9, "next") & is_entry(walk.next(), 24, "inner") & walk.next().is_none()
-}
-
-/// Whether it gives all.
-fn gives_items<A: Allocator>(mut walk: IntoIter<(u32, u8), String<A>, A>) -> bool {
-    is_entry(walk.next(), 8, "outer") & gives_part(walk)
-}
-
-/// Whether it gives the prefixes.
-fn gives_keys<A: Allocator>(walk: IntoKeys<(u32, u8), String<A>, A>) -> bool {
-    walk.eq([(0x0a00_0000, 8), (0x0a00_0000, 9), (0x0a01_0000, 24)])
+/// Whether a walk gives all names, or those that the network of nine bits contains.
+fn gives_items<A: Allocator>(walk: &mut IntoIter<(u32, u8), String<A>, A>, is_whole: bool) -> bool {
+    (!is_whole || is_entry(walk.next(), 8, "outer"))
+        & is_entry(walk.next(), 9, "next")
+        & is_entry(walk.next(), 24, "inner")
+        & walk.next().is_none()
 }
 
 /// Whether it gives the names alone.
-fn gives_values<A: Allocator>(mut walk: IntoValues<(u32, u8), String<A>, A>) -> bool {
+fn gives_values<A: Allocator>(walk: &mut IntoValues<(u32, u8), String<A>, A>) -> bool {
     is_name(walk.next(), "outer")
         & is_name(walk.next(), "next")
         & is_name(walk.next(), "inner")
         & walk.next().is_none()
 }
 
-/// Whether a map has all.
-fn has_names<A: Allocator>(names: Names<A>) -> bool {
-    gives_items(names.into_iter())
+fn copies_of_map(heap: &Heap) -> Option<u64> {
+    refused_in_turn(heap, filled(heap)?, true)
 }
 
-fn copies_of_map(names: Names<&Heap>, heap: &Heap) -> Option<u64> {
-    refused_in_turn(heap, names, PrefixMap::clone, has_names)
+fn copies_of_part(heap: &Heap) -> Option<u64> {
+    let part = filled(heap)?.into_children(&(0x0a01_0000, 9));
+    refused_in_turn(heap, part, false)
 }
 
-fn copies_of_part(names: Names<&Heap>, heap: &Heap) -> Option<u64> {
-    let part = names.into_children(&(0x0a01_0000, 9));
-    refused_in_turn(heap, part, IntoIter::clone, gives_part)
+fn copies_of_items(heap: &Heap) -> Option<u64> {
+    refused_in_turn(heap, filled(heap)?.into_iter(), true)
 }
 
-fn copies_of_items(names: Names<&Heap>, heap: &Heap) -> Option<u64> {
-    refused_in_turn(heap, names.into_iter(), IntoIter::clone, gives_items)
+fn copies_of_keys(heap: &Heap) -> Option<u64> {
+    refused_in_turn(heap, filled(heap)?.into_keys(), true)
 }
 
-fn copies_of_keys(names: Names<&Heap>, heap: &Heap) -> Option<u64> {
-    refused_in_turn(heap, names.into_keys(), IntoKeys::clone, gives_keys)
-}
-
-fn copies_of_values(names: Names<&Heap>, heap: &Heap) -> Option<u64> {
-    refused_in_turn(heap, names.into_values(), IntoValues::clone, gives_values)
+fn copies_of_values(heap: &Heap) -> Option<u64> {
+    refused_in_turn(heap, filled(heap)?.into_values(), true)
 }
 
 /// Stores three numbers at the same keys.
@@ -154,8 +179,8 @@ fn put_numbers<A: Allocator>(numbers: &mut Numbers<A>) -> bool {
     answers == [Ok(None), Ok(None), Ok(None)]
 }
 
-/// How many requests the copy of three numbers makes.
-fn requests_for_numbers<'a>(numbers: &mut Numbers<&'a Heap>, heap: &'a Heap) -> Option<u64> {
+/// How many requests the copy of three numbers makes, which are stored first.
+fn requests_of<A: Allocator + Clone>(numbers: &mut Numbers<A>, heap: &Heap) -> Option<u64> {
     let is_filled = put_numbers(numbers);
     heap.refuse(MANY, 0);
     let is_copied = numbers.clone().is_ok();
@@ -163,15 +188,25 @@ fn requests_for_numbers<'a>(numbers: &mut Numbers<&'a Heap>, heap: &'a Heap) -> 
     (is_filled & is_copied).then_some(requests)
 }
 
+/// The same of a new map.
+fn requests_for_numbers(heap: &Heap) -> Result<Option<u64>, Refusal> {
+    let mut numbers = PrefixMap::new(heap)?;
+    Ok(requests_of::<&Heap>(&mut numbers, heap))
+}
+
+/// Whether the copy of a map of names, and that of each walk which takes it apart, makes so many requests.
+fn are_requests(heap: &Heap, requests: Option<u64>) -> bool {
+    copies_of_map(heap) == requests
+        && copies_of_part(heap) == requests
+        && copies_of_items(heap) == requests
+        && copies_of_keys(heap) == requests
+        && copies_of_values(heap) == requests
+}
+
 #[test]
 fn each_request_of_a_copy_refused(rt: HostRuntime) -> Result<(), Fail> {
     let heap = Refusing::new(rt.alloc());
-    let numbers = on_new(PrefixMap::new(&heap), &heap, requests_for_numbers)?;
-    let names = Some(numbers.unwrap_or(0).wrapping_add(3));
-    assert!(rt; of_names(&heap, copies_of_map)? == names);
-    assert!(rt; of_names(&heap, copies_of_part)? == names);
-    assert!(rt; of_names(&heap, copies_of_items)? == names);
-    assert!(rt; of_names(&heap, copies_of_keys)? == names);
-    assert!(rt; of_names(&heap, copies_of_values)? == names);
+    let numbers = requests_for_numbers(&heap)?;
+    assert!(rt; are_requests(&heap, Some(numbers.unwrap_or(0).wrapping_add(3))));
     Ok(())
 }

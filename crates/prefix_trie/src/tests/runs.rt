@@ -321,9 +321,10 @@ fn part_lost<A: Allocator>(
 }
 
 /// Runs five calls on a map, with one request refused.
-fn run_refused<'a>(
-    heap: &'a Refusing<Global>,
-    map: &mut Map<&'a Refusing<Global>>,
+fn run_refused<A: Allocator + Clone>(
+    heap: &Refusing<Global>,
+    alloc: A,
+    map: &mut Map<A>,
     passed: u64,
 ) -> Option<Lost> {
     let calls = [
@@ -334,24 +335,17 @@ fn run_refused<'a>(
         Call::Len,
     ];
     heap.refuse(passed, 1);
-    let outcome = run(heap, map, &calls);
+    let outcome = run(alloc, map, &calls);
     heap.refuse(0, 0);
     part_lost(&outcome, map)
 }
 
-/// Runs them on a map once it has an entry.
-fn run_stored<'a>(
-    map: &mut Map<&'a Refusing<Global>>,
-    with: (&'a Refusing<Global>, u64),
-) -> Option<Lost> {
-    let is_stored = map.insert((0, 0), 7) == Ok(None);
-    let part = run_refused(with.0, map, with.1);
-    if is_stored { part } else { None }
-}
-
-/// The same of a new map.
+/// Runs them on a new map once it has an entry.
 fn run_once(heap: &Refusing<Global>, passed: u64) -> Result<Option<Lost>, Refusal> {
-    on_new(PrefixMap::new(heap), (heap, passed), run_stored)
+    let mut map = PrefixMap::new(heap)?;
+    let is_stored = map.insert((0, 0), 7) == Ok(None);
+    let part = run_refused::<&Refusing<Global>>(heap, heap, &mut map, passed);
+    Ok(if is_stored { part } else { None })
 }
 
 /// Whether what is refused follows on what was refused when one request less was passed on.

@@ -9,9 +9,8 @@ ghost use Rattle.prefix_trie_map.specs.WritingWalks.{EndsIn, FirstIn, PassesIn};
 ghost use Rattle.prefix_trie.specs.Rewriting.{OrderedIn, RewritesIn};
 
 use crate::map::{IterMut, ValuesMut};
-use crate::tests::on_new::on_new;
 use crate::tests::refusing::Refusing;
-use crate::{Prefix, PrefixMap};
+use crate::{Prefix, PrefixMap, Refusal};
 use std::alloc::{Allocator, Global};
 use std::mem;
 use std::test::Fail;
@@ -88,12 +87,12 @@ fn swap_first<P: Prefix, T: Drop, A: Allocator>(
     before
 }
 
-type Numbers<'h> = PrefixMap<(u8, u8), u64, &'h Refusing<Global>>;
+type Numbers<A> = PrefixMap<(u8, u8), u64, A>;
 
-type Entries<'m, 'h> = IterMut<'m, (u8, u8), u64, &'h Refusing<Global>>;
+type Entries<'m, A> = IterMut<'m, (u8, u8), u64, A>;
 
 /// Stores three numbers.
-fn put_three(map: &mut Numbers<'_>) -> bool {
+fn put_three<A: Allocator>(map: &mut Numbers<A>) -> bool {
     let answers = [
         map.insert((0x80, 1), 3),
         map.insert((0xa5, 8), u64::MAX),
@@ -103,8 +102,8 @@ fn put_three(map: &mut Numbers<'_>) -> bool {
 }
 
 /// Whether the next entry is this one, over whose value another is written.
-fn writes_next<'b, 'm, 'h>(
-    walk: &'b mut Entries<'m, 'h>,
+fn writes_next<'b, 'm, A: Allocator>(
+    walk: &'b mut Entries<'m, A>,
     entry: ((u8, u8), u64),
     value: u64,
 ) -> bool {
@@ -119,7 +118,7 @@ fn writes_next<'b, 'm, 'h>(
 }
 
 /// Whether `iter_mut` gives all three entries.
-fn writes_all(map: &mut Numbers<'_>) -> bool {
+fn writes_all<A: Allocator>(map: &mut Numbers<A>) -> bool {
     let mut walk = map.iter_mut();
     writes_next(&mut walk, ((0x80, 1), 1), 10)
         & writes_next(&mut walk, ((0xa0, 3), 8), 20)
@@ -128,7 +127,7 @@ fn writes_all(map: &mut Numbers<'_>) -> bool {
 }
 
 /// Whether `iter_from_mut` gives what comes from the second on, or behind it.
-fn writes_from(map: &mut Numbers<'_>, inclusive: bool) -> bool {
+fn writes_from<A: Allocator>(map: &mut Numbers<A>, inclusive: bool) -> bool {
     let mut walk = map.iter_from_mut(&(0xbf, 3), inclusive);
     (!inclusive || writes_next(&mut walk, ((0xa0, 3), 20), 21))
         & writes_next(&mut walk, ((0xa5, 8), 30), 30)
@@ -136,7 +135,7 @@ fn writes_from(map: &mut Numbers<'_>, inclusive: bool) -> bool {
 }
 
 /// Whether `children_mut` gives what lies below the second.
-fn writes_below(map: &mut Numbers<'_>) -> bool {
+fn writes_below<A: Allocator>(map: &mut Numbers<A>) -> bool {
     let mut walk = map.children_mut(&(0xa0, 2));
     writes_next(&mut walk, ((0xa0, 3), 21), 22)
         & writes_next(&mut walk, ((0xa5, 8), 30), 31)
@@ -144,18 +143,18 @@ fn writes_below(map: &mut Numbers<'_>) -> bool {
 }
 
 /// Whether walks by default have nothing to come, and no map.
-fn are_empty(_map: &mut Numbers<'_>) -> bool {
-    let mut walk: Entries<'_, '_> = IterMut::default();
+fn are_empty<A: Allocator>(_map: &mut Numbers<A>) -> bool {
+    let mut walk: Entries<'_, A> = IterMut::default();
     walk.next().is_none() & walk.into_map().is_none()
 }
 
 /// Whether the values are these.
-fn has(map: &Numbers<'_>, values: [u64; 3]) -> bool {
+fn has<A: Allocator>(map: &Numbers<A>, values: [u64; 3]) -> bool {
     map.values().copied().eq(values)
 }
 
 /// Whether walks over three entries write so, with every request for memory refused, of which none comes.
-fn are_written(map: &mut Numbers<'_>, heap: &Refusing<Global>) -> bool {
+fn are_written<A: Allocator>(map: &mut Numbers<A>, heap: &Refusing<Global>) -> bool {
     let is_put = put_three(map);
     heap.refuse(0, u64::MAX);
     double_all(map);
@@ -174,9 +173,15 @@ fn are_written(map: &mut Numbers<'_>, heap: &Refusing<Global>) -> bool {
     (answers == [true; 9]) & has(map, [7, 7, 7]) & (heap.left() == u64::MAX)
 }
 
+/// The same of a new map.
+fn are_written_anew(heap: &Refusing<Global>) -> Result<bool, Refusal> {
+    let mut map = PrefixMap::new(heap)?;
+    Ok(are_written::<&Refusing<Global>>(&mut map, heap))
+}
+
 #[test]
 fn values_are_written_on_the_way(rt: HostRuntime) -> Result<(), Fail> {
     let heap = Refusing::new(rt.alloc());
-    assert!(rt; on_new(PrefixMap::new(&heap), &heap, are_written)?);
+    assert!(rt; are_written_anew(&heap)?);
     Ok(())
 }

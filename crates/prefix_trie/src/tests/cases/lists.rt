@@ -43,19 +43,30 @@ pub fn gives_same<P: Prefix + Copy, A: Allocator>(
     other.next().is_none()
 }
 
-/// Whether two walks give the prefixes and the values of these entries.
-fn gives_parts<P: Prefix + Copy, A: Allocator>(
+/// Whether a walk gives the prefixes of these entries.
+fn gives_keys<P: Prefix + Copy, A: Allocator>(
     mut keys: Keys<'_, P, u64, A>,
+    entries: &[Entry<P::R>],
+) -> bool {
+    for entry in entries {
+        if found_pair(keys.next()) != Some(entry.0) {
+            return false;
+        }
+    }
+    keys.next().is_none()
+}
+
+/// Whether a walk gives the values of these entries.
+fn gives_values<P: Prefix + Copy, A: Allocator>(
     mut values: Values<'_, P, u64, A>,
     entries: &[Entry<P::R>],
 ) -> bool {
     for entry in entries {
-        let parts = (found_pair(keys.next()), values.next().copied());
-        if parts != (Some(entry.0), Some(entry.1)) {
+        if values.next().copied() != Some(entry.1) {
             return false;
         }
     }
-    keys.next().is_none() & values.next().is_none()
+    values.next().is_none()
 }
 
 /// Whether a walk gives these entries, and a clone of it those behind the first.
@@ -67,18 +78,26 @@ fn gives_twice<P: Prefix + Copy, A: Allocator>(
     (shown(walk.next()) == entries.first().copied()) & gives(walk.clone(), rest) & gives(walk, rest)
 }
 
-/// The same of their prefixes and their values.
-fn gives_parts_twice<P: Prefix + Copy, A: Allocator>(
+/// The same of their prefixes.
+fn gives_keys_twice<P: Prefix + Copy, A: Allocator>(
     mut keys: Keys<'_, P, u64, A>,
+    entries: &[Entry<P::R>],
+) -> bool {
+    let rest = &entries[entries.len().min(1)..];
+    (found_pair(keys.next()) == entries.first().map(pair_in))
+        & gives_keys(keys.clone(), rest)
+        & gives_keys(keys, rest)
+}
+
+/// The same of their values.
+fn gives_values_twice<P: Prefix + Copy, A: Allocator>(
     mut values: Values<'_, P, u64, A>,
     entries: &[Entry<P::R>],
 ) -> bool {
-    let first = entries.first();
     let rest = &entries[entries.len().min(1)..];
-    (found_pair(keys.next()) == first.map(pair_in))
-        & (values.next().copied() == first.map(value_in))
-        & gives_parts(keys.clone(), values.clone(), rest)
-        & gives_parts(keys, values, rest)
+    (values.next().copied() == entries.first().map(value_in))
+        & gives_values(values.clone(), rest)
+        & gives_values(values, rest)
 }
 
 /// Whether there are these entries, and all walks give them.
@@ -89,7 +108,8 @@ pub fn lists<P: Prefix + Copy, A: Allocator>(
     (map.len() == entries.len())
         & gives(map.into_iter(), entries)
         & gives_twice(map.iter(), entries)
-        & gives_parts_twice(map.keys(), map.values(), entries)
+        & gives_keys_twice(map.keys(), entries)
+        & gives_values_twice(map.values(), entries)
 }
 
 /// Whether the walks around a prefix give these entries.
