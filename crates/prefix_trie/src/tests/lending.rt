@@ -7,7 +7,7 @@ ghost use Rattle.prefix_trie_bits.specs.Model.Matches.{longest_match, shown_matc
 ghost use Rattle.prefix_trie_table.specs.Shape.{with_value_at, with_longest_at};
 
 use crate::tests::on_new::on_new;
-use crate::{Ipv6Prefix, Prefix, PrefixMap};
+use crate::{Ipv6Prefix, Prefix, PrefixMap, Refusal};
 use std::alloc::{AllocError, Allocator, Global};
 use std::test::Fail;
 
@@ -67,7 +67,7 @@ fn rewrite<P: Prefix, A: Allocator>(
 }
 
 /// Stores three keys at the end of 64 bits.
-fn put_last_bits(map: &mut PrefixMap<(u64, u8), u8, Global>) -> bool {
+fn put_last_bits<A: Allocator>(map: &mut PrefixMap<(u64, u8), u8, A>) -> bool {
     let answers = [
         map.insert((0, 60), 1),
         map.insert((5, 64), 2),
@@ -77,21 +77,24 @@ fn put_last_bits(map: &mut PrefixMap<(u64, u8), u8, Global>) -> bool {
 }
 
 /// Whether the value of the longest match is written over, twice, and that of no match is not.
-fn is_rewritten(map: &mut PrefixMap<(u64, u8), u8, Global>, _alloc: Global) -> bool {
-    let answers = [
-        put_last_bits(map),
-        rewrite(map, &(7, 64), 8) == Some(((6, 63), 3)),
-        rewrite(map, &(7, 64), 9) == Some(((6, 63), 8)),
-        write_longest(map, &(4, 64), 7),
-        !write_longest(map, &(4, 59), 8),
-        map.values().copied().eq([7, 2, 9]),
-    ];
-    answers == [true; 6]
+fn is_rewritten<A: Allocator>(map: &mut PrefixMap<(u64, u8), u8, A>) -> bool {
+    put_last_bits(map)
+        && rewrite(map, &(7, 64), 8) == Some(((6, 63), 3))
+        && rewrite(map, &(7, 64), 9) == Some(((6, 63), 8))
+        && write_longest(map, &(4, 64), 7)
+        && !write_longest(map, &(4, 59), 8)
+        && map.values().copied().eq([7, 2, 9])
+}
+
+/// The same of a new map.
+fn is_rewritten_anew(alloc: Global) -> Result<bool, Refusal> {
+    let mut map = PrefixMap::new(alloc)?;
+    Ok(is_rewritten::<Global>(&mut map))
 }
 
 #[test]
 fn the_longest_match_is_written(rt: HostRuntime) -> Result<(), Fail> {
-    assert!(rt; on_new(PrefixMap::new(rt.alloc()), rt.alloc(), is_rewritten)?);
+    assert!(rt; is_rewritten_anew(rt.alloc())?);
     Ok(())
 }
 

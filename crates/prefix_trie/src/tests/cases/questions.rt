@@ -43,13 +43,23 @@ fn has<P: Prefix + Copy, A: Allocator>(
 ) -> bool
     requires { P.IsFitting prefix.now }
 {
-    let value = exact.as_ref().map(value_in);
+    (shown(map.get_key_value(prefix)) == exact)
+        & (shown(map.get_key_value_counted(prefix).0) == exact)
+        & has_value(map, prefix, exact.as_ref().map(value_in))
+}
+
+/// Whether those of its value do.
+fn has_value<P: Prefix + Copy, A: Allocator>(
+    map: &PrefixMap<P, u64, A>,
+    prefix: &P,
+    value: Option<u64>,
+) -> bool
+    requires { P.IsFitting prefix.now }
+{
     (map.get(prefix).copied() == value)
         & (map.get_counted(prefix).0.copied() == value)
         & (map.contains_key(prefix) == value.is_some())
         & (map.contains_key_counted(prefix).0 == value.is_some())
-        & (shown(map.get_key_value(prefix)) == exact)
-        & (shown(map.get_key_value_counted(prefix).0) == exact)
 }
 
 /// Whether the lookups of the longest match answer so.
@@ -75,10 +85,20 @@ fn has_shortest<P: Prefix + Copy, A: Allocator>(
 ) -> bool
     requires { P.IsFitting prefix.now }
 {
-    let pair = shortest.as_ref().map(pair_in);
     (shown(map.get_spm(prefix)) == shortest)
         & (shown(map.get_spm_counted(prefix).0) == shortest)
-        & (found_pair(map.get_spm_prefix(prefix)) == pair)
+        & has_shortest_prefix(map, prefix, shortest.as_ref().map(pair_in))
+}
+
+/// Whether those of its prefix do.
+fn has_shortest_prefix<P: Prefix + Copy, A: Allocator>(
+    map: &PrefixMap<P, u64, A>,
+    prefix: &P,
+    pair: Option<Pair<P::R>>,
+) -> bool
+    requires { P.IsFitting prefix.now }
+{
+    (found_pair(map.get_spm_prefix(prefix)) == pair)
         & (found_pair(map.get_spm_prefix_counted(prefix).0) == pair)
         & (map.is_covered(prefix) == pair.is_some())
         & (map.is_covered_counted(prefix).0 == pair.is_some())
