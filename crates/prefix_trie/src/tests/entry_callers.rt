@@ -7,7 +7,7 @@ ghost use Rattle.prefix_trie_bits.specs.Model.Selections.{listing, shown};
 ghost use Rattle.prefix_trie_table.specs.Shape.{with_value_at};
 
 use crate::map::Entry;
-use crate::tests::on_new::{on_new, on_two_new};
+use crate::tests::on_new::on_two_new;
 use crate::{Prefix, PrefixMap, Refusal, Refused};
 use std::alloc::{Allocator, Global};
 use std::test::Fail;
@@ -134,7 +134,7 @@ fn fill_from<P: Prefix, A: Allocator>(
 }
 
 /// Whether a value that is stored is written over.
-fn writes_stored(map: &mut PrefixMap<(u8, u8), u64, Global>) -> bool {
+fn writes_stored<A: Allocator>(map: &mut PrefixMap<(u8, u8), u64, A>) -> bool {
     if !map.contains_key(&(0xa5, 8)) {
         return false;
     }
@@ -143,7 +143,7 @@ fn writes_stored(map: &mut PrefixMap<(u8, u8), u64, Global>) -> bool {
 }
 
 /// Whether counting, storing and taking out answer so.
-fn counts(map: &mut PrefixMap<(u8, u8), u64, Global>, _alloc: Global) -> bool {
+fn counts<A: Allocator>(map: &mut PrefixMap<(u8, u8), u64, A>) -> bool {
     count(map, (0xa5, 8)).is_ok()
         && count(map, (0xa5, 8)).is_ok()
         && writes_stored(map)
@@ -157,9 +157,15 @@ fn counts(map: &mut PrefixMap<(u8, u8), u64, Global>, _alloc: Global) -> bool {
         && map.len() == 1
 }
 
+/// The same of a new map.
+fn counts_anew(alloc: Global) -> Result<bool, Refusal> {
+    let mut map = PrefixMap::new(alloc)?;
+    Ok(counts::<Global>(&mut map))
+}
+
 #[test]
 fn entries_are_counted(rt: HostRuntime) -> Result<(), Fail> {
-    assert!(rt; on_new(PrefixMap::new(rt.alloc()), rt.alloc(), counts)?);
+    assert!(rt; counts_anew(rt.alloc())?);
     Ok(())
 }
 

@@ -7,21 +7,21 @@ pub mod forwarding;
 pub mod inventory;
 pub mod merge;
 
-use crate::tests::on_new::{on_new, on_two_new};
-use crate::{Ipv4Prefix, PrefixMap, PrefixSet};
+use crate::tests::on_new::on_two_new;
+use crate::{Ipv4Prefix, PrefixMap, PrefixSet, Refusal};
 use access::{may_enter, reasons};
 use copy::copied;
 use forwarding::{add, next_hop};
 use inventory::{addresses, count, next};
-use std::alloc::{AllocError, Global};
+use std::alloc::{AllocError, Allocator, Global};
 use std::test::Fail;
 
-type Numbers = PrefixMap<Ipv4Prefix, u32, Global>;
+type Numbers<A> = PrefixMap<Ipv4Prefix, u32, A>;
 
 type Networks = PrefixSet<Ipv4Prefix, Global>;
 
 /// Whether a copy has as many entries.
-fn is_copied(map: &Numbers, alloc: Global) -> bool {
+fn is_copied<A: Allocator>(map: &Numbers<A>, alloc: Global) -> bool {
     match copied(map, alloc) {
         Ok(copy) => copy.len() == map.len(),
         Err(_) => false,
@@ -29,7 +29,7 @@ fn is_copied(map: &Numbers, alloc: Global) -> bool {
 }
 
 /// Whether a network and one within it are a forwarding table, and an inventory.
-fn stands_for_both(map: &mut Numbers, alloc: Global) -> bool {
+fn stands_for_both<A: Allocator>(map: &mut Numbers<A>, alloc: Global) -> bool {
     let wide = Ipv4Prefix::new(0x0a00_0000, 8).unwrap();
     let near = Ipv4Prefix::new(0x0a01_0000, 16).unwrap();
     add(map, wide, 1).is_ok()
@@ -41,6 +41,12 @@ fn stands_for_both(map: &mut Numbers, alloc: Global) -> bool {
         && count(map, wide) == 2
         && addresses(map) == Some(0x0100_0000)
         && is_copied(map, alloc)
+}
+
+/// The same of a new map.
+fn stands_for_both_anew(alloc: Global) -> Result<bool, Refusal> {
+    let mut map = PrefixMap::new(alloc)?;
+    Ok(stands_for_both::<Global>(&mut map, alloc))
 }
 
 /// Whether the networks that keep an address out are this one.
@@ -65,7 +71,7 @@ fn keeps_out(allowed: &mut Networks, denied: &mut Networks, alloc: Global) -> bo
 
 #[test]
 fn examples_run(rt: HostRuntime) -> Result<(), Fail> {
-    assert!(rt; on_new(PrefixMap::new(rt.alloc()), rt.alloc(), stands_for_both)?);
+    assert!(rt; stands_for_both_anew(rt.alloc())?);
     assert!(rt;
         on_two_new(
             PrefixSet::new(rt.alloc()),
