@@ -142,7 +142,7 @@ fn writes_stored<A: Allocator>(map: &mut PrefixMap<(u8, u8), u64, A>) -> bool {
     map.get(&(0xa5, 8)) == Some(&6)
 }
 
-/// Whether counting, storing and taking out answer so.
+/// Whether counting and storing answer so.
 fn counts<A: Allocator>(map: &mut PrefixMap<(u8, u8), u64, A>) -> bool {
     count(map, (0xa5, 8)).is_ok()
         && count(map, (0xa5, 8)).is_ok()
@@ -151,16 +151,20 @@ fn counts<A: Allocator>(map: &mut PrefixMap<(u8, u8), u64, A>) -> bool {
         && swap(map, (0xa5, 8), 8) == Some(7)
         && store_nine(map, (0xa0, 3)).is_ok()
         && set(map, (0xbf, 3), 4) == Ok(Some(9))
-        && map.values().copied().eq([4, 8])
+}
+
+/// Whether one of the two that are there then is taken out.
+fn takes_one_out<A: Allocator>(map: &mut PrefixMap<(u8, u8), u64, A>) -> bool {
+    map.values().copied().eq([4, 8])
         && take_out(map, (0xa5, 8)) == Some(8)
         && take_out(map, (0xa5, 8)).is_none()
         && map.len() == 1
 }
 
-/// The same of a new map.
+/// Both in turn, of a new map.
 fn counts_anew(alloc: Global) -> Result<bool, Refusal> {
     let mut map = PrefixMap::new(alloc)?;
-    Ok(counts::<Global>(&mut map))
+    Ok(counts::<Global>(&mut map) && takes_one_out::<Global>(&mut map))
 }
 
 #[test]

@@ -70,10 +70,20 @@ fn has_longest<P: Prefix + Copy, A: Allocator>(
 ) -> bool
     requires { P.IsFitting prefix.now }
 {
-    let pair = longest.as_ref().map(pair_in);
     (shown(map.get_lpm(prefix)) == longest)
         & (shown(map.get_lpm_counted(prefix).0) == longest)
-        & (found_pair(map.get_lpm_prefix(prefix)) == pair)
+        & has_longest_prefix(map, prefix, longest.as_ref().map(pair_in))
+}
+
+/// Whether those of its prefix do.
+fn has_longest_prefix<P: Prefix + Copy, A: Allocator>(
+    map: &PrefixMap<P, u64, A>,
+    prefix: &P,
+    pair: Option<Pair<P::R>>,
+) -> bool
+    requires { P.IsFitting prefix.now }
+{
+    (found_pair(map.get_lpm_prefix(prefix)) == pair)
         & (found_pair(map.get_lpm_prefix_counted(prefix).0) == pair)
 }
 
