@@ -147,15 +147,9 @@ impl<A: Allocator, V: Drop> NodeAllocator<A, V> {
         self.blocks.prepare(k, count, lists)
     }
 
-    /// As `Blocks::insert_at`: puts a node into a list of `count` nodes, and says where the list stands then.
-    pub fn insert_at(
-        &mut self,
-        k: usize,
-        start: u32,
-        count: u32,
-        place: u32,
-        node: Node,
-    ) -> BlockRef
+    /// As `Blocks::insert_at`: puts a blank node into a list of `count` nodes, and says where the list stands then. The blank
+    /// node is made here, since one that is handed in goes through memory.
+    pub fn insert_blank(&mut self, k: usize, start: u32, count: u32, place: u32) -> BlockRef
         requires holds { HasList blank_node self.old k start count }
         requires ready { IsReady self.old.tiers k count }
         requires place { place ≤ count }
@@ -166,9 +160,9 @@ impl<A: Allocator, V: Drop> NodeAllocator<A, V> {
         ensures spends { Spends self.old self.new (tier_lacking self.old.tiers k count) }
         ensures sound { (n : ℕ) (xs : List Node) (live : List (UsedBlock Node))
             → Sound blank_node (held k start n xs ++ live) self.old → length xs ≡ count
-            → Sound blank_node (block result.tier result.start (tier_at self.old.tiers result.tier).size (insert xs place node) ∷ live) self.new }
+            → Sound blank_node (block result.tier result.start (tier_at self.old.tiers result.tier).size (insert xs place blank_node) ∷ live) self.new }
     {
-        self.blocks.insert_at(k, start, count, place, node)
+        self.blocks.insert_at(k, start, count, place, Node::blank())
     }
 
     /// As `Blocks::remove_at`: takes a node out of a list of `count` nodes, lets it go unread, and says where the rest

@@ -45,12 +45,11 @@ fn add_child<A: Allocator, V: Tick>(
         → ChildAdded reading paths p n child nodes.new (result.start + result.place) }
 {
     let place = rank(node.child_bitmap, child);
-    let block = nodes.insert_at(
+    let block = nodes.insert_blank(
         node.child_tier as usize,
         node.child_block,
         count(node.child_bitmap),
         place,
-        Node::blank(),
     );
     let child_bitmap = with_bit(node.child_bitmap, child);
     nodes.put(
