@@ -64,7 +64,7 @@ pub struct PrefixMap<P: Prefix, T: Drop, A: Allocator> {
     marker: PhantomData<P>,
 }
 
-// Contracts see the table's entries, nodes, room and layout. No key is longer than those of P, and the nodes are such as keys need.
+// Contracts see what they see of the table. No key is longer than those of P, and the nodes are such as keys need.
 impl<P: Prefix, T: Drop, A: Allocator> Model for PrefixMap<P, T, A> {
     ghost use Rattle.prefix_trie_table.specs.Shape.{Contents, contents_code};
     ghost use Rattle.prefix_trie_bits.specs.Laws.Steps.{IsMap};

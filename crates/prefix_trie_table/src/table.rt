@@ -2,8 +2,8 @@
 //!
 //! A bit string is handed in as a key and a length: the first `len` bits of the key. Contracts see a table as its entries,
 //! a finite map from bit strings to values, its nodes, a finite set of bit strings, its room, and its layout: the size of each
-//! node's two blocks, by its bit string, and how many blocks of each size are free. They see no slot and no bitmap, nor
-//! where a block stands.
+//! node's two blocks, by its bit string, and how many blocks of each size are free. Of slots, bitmaps and where blocks stand
+//! only those clauses speak that hand out a place or take one (`build`).
 mod block_counts;
 mod children;
 mod copying;
@@ -67,7 +67,7 @@ pub struct Table<T: Drop, A: Allocator, V: Tick> {
     ghost sizes: { Sized nodes.slots } by { Sized-prop nodes.slots },
 }
 
-// Clauses see the entries, the nodes, the room, and how the arrays are cut into blocks.
+// Clauses see the entries, the nodes, the room, how the arrays are cut into blocks, and for places the nodes in their slots.
 impl<T: Drop, A: Allocator, V: Tick> Model for Table<T, A, V> {
     ghost use Rattle.prefix_trie_table.specs.Shape.{Contents, contents_code};
 

@@ -74,7 +74,7 @@ impl<P: Prefix, A: Allocator> PrefixSet<P, A> {
         ensures entries { self.new.entries ≡ without_below self.old.entries (P.path prefix.now) }
         ensures nodes { self.new.nodes ≡ nodes_without_below self.old.nodes self.old.entries (P.path prefix.now) }
 
-        // It is a step of the model, of the storage too. No slots go, but where all is taken out.
+        // It is a step of the model, of the storage too. No slots go, but at length 0.
         ensures step { StepInStorage P.path P.back P.R.bit_width (stored self.old) (RemoveChildren prefix.now) Done (stored self.new) }
     {
         self.map.remove_children(prefix);

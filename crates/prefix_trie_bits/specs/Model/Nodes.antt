@@ -97,25 +97,15 @@ module _ {T : Type 0} where
   abbrev pub is_holder : Entries T → List Bool → Bool
   is_holder m p = list_any (λ s. begins p s && nat_lt (length s) (length p + 5)) (keys m)
 
-  -- a holder: a node that has entries of its own
-  pub record IsHolder (m : Entries T) (n : Nodes) (p : List Bool) : Type 0 where
-    pub stands : has_node n p ≡ true
-    pub holds : is_holder m p ≡ true
-
 -- whether a node extends p by exactly five bits
 abbrev pub is_parent : Nodes → List Bool → Bool
 is_parent n p = list_any (λ s. begins p s && (length s == length p + 5)) (keys n)
 
--- a parent: a node that has a child
-pub record IsParent (n : Nodes) (p : List Bool) : Type 0 where
-  pub stands : has_node n p ≡ true
-  pub extended : is_parent n p ≡ true
-
 module _ {T : Type 0} where
-  -- the nodes that have entries of their own, in listing order
+  -- the holders, which are the nodes that have entries of their own, in listing order
   abbrev pub holders : Entries T → Nodes → List (List Bool)
   holders m n = filter (λ p. is_holder m p) (keys n)
 
--- the nodes that have a child, in listing order
+-- the parents, which are the nodes that have a child, in listing order
 abbrev pub parents : Nodes → List (List Bool)
 parents n = filter (λ p. is_parent n p) (keys n)

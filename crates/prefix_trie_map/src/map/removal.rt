@@ -8,7 +8,7 @@ ghost use Rattle.prefix_trie_bits.specs.Model.Storage.{StepInStorage};
 ghost use Rattle.prefix_trie_map.specs.Steps.{stored};
 
 use crate::map::{PrefixMap, Visits};
-use prefix_trie_bits::prefix::{Key, Prefix};
+use prefix_trie_bits::prefix::Prefix;
 use std::alloc::Allocator;
 
 impl<P: Prefix, T: Drop, A: Allocator> PrefixMap<P, T, A> {
@@ -78,7 +78,7 @@ impl<P: Prefix, T: Drop, A: Allocator> PrefixMap<P, T, A> {
         ensures entries { self.new.entries ≡ without_below self.old.entries (P.path prefix.now) }
         ensures nodes { self.new.nodes ≡ nodes_without_below self.old.nodes self.old.entries (P.path prefix.now) }
 
-        // It is a step of the model, of the storage too. No slots go, but where all is taken out.
+        // It is a step of the model, of the storage too. No slots go, but at length 0.
         ensures step { StepInStorage P.path P.back P.R.bit_width (stored self.old) (RemoveChildren prefix.now) Done (stored self.new) }
     {
         let key = prefix.repr();

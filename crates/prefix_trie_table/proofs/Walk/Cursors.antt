@@ -132,9 +132,6 @@ module _ {K : Type 0} (IsKey : K → Type 0) (bits : K → List Bool) (width : �
     whole : length (take depth (bits key)) % 5 ≡ 0
     whole = let d = laid.depth_is in omega (arith, d, string_length)
 
-    pub stack_room : width ≤ 128 → length ps < 26
-    stack_room small = let d = laid.depth_is in let i = laid.inside in let h = laid.high in omega (arith, d, i, h, within, small)
-
     -- what is left of the string here
     left_is : take len (bits key) ≡ take depth (bits key) ++ drop depth (take len (bits key))
     left_is =

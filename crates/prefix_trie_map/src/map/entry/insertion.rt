@@ -41,6 +41,8 @@ impl<'a, P: Prefix, T: Drop, A: Allocator> Entry<'a, P, T, A> {
     /// map.entry(10.1.0.0/16).put(2).answer()   Ok(Some(1))
     /// map.entry(10.2.0.0/16).put(3).answer()   Ok(None)
     /// ```
+    ///
+    /// Errors: in `answer`, as of `PrefixMap::insert`, with the value handed back; never where the prefix is stored.
     pub fn put(self, value: T) -> Put<'a, P, T, A>
         ensures same_map { result.map.ghost_name ≡ (entry_map_ref self.entry).ghost_name }
         ensures set { IfOk result.answer (λ before. (before ≡ entry_value self.entry) × Fills self.entry result.map.now value) }
