@@ -19,6 +19,7 @@ mod retain;
 mod run_callers;
 mod runs;
 mod sets;
+mod stored;
 mod tables;
 mod taking;
 mod trials;

@@ -9,11 +9,11 @@ ghost use Rattle.prefix_trie_map.specs.Steps.{storage};
 use crate::tests::examples::merge::merge;
 use crate::tests::on_new::{on_new, on_two_new};
 use crate::tests::retain::keep_from;
+use crate::tests::stored::{has_keys, stores};
 use crate::{Prefix, PrefixMap};
 use prefix_trie_bits::laws::slot_laws;
 use prefix_trie_map::laws::copy_laws;
 use std::alloc::{AllocError, Allocator, Global};
-use std::test::Fail;
 
 // Keeps the entries whose prefixes another map stores too.
 fn keep_common<P: Prefix, A: Allocator>(
@@ -132,35 +132,32 @@ fn tidy_copy<P: Prefix, T: Clone, A: Allocator + Clone>(
 
 type Numbers = PrefixMap<(u16, u8), u64, Global>;
 
-/// Stores two numbers, one of them below ten.
-fn put_two(map: &mut Numbers) -> bool {
-    [map.insert((0x0a00, 8), 9), map.insert((0x0a0b, 16), 10)] == [Ok(None), Ok(None)]
-}
+/// Two numbers, one of them below ten.
+const TWO: [((u16, u8), u64); 2] = [((0x0a00, 8), 9), ((0x0a0b, 16), 10)];
 
 /// Whether the two entries of one map, put into the other, are all that is common to both.
 fn has_common(to: &mut Numbers, from: &Numbers) -> bool {
-    let is_put = to.insert((0x0b00, 8), 1) == Ok(None) && merge(to, from).is_ok();
+    let is_put = stores(to, &[((0x0b00, 8), 1)]) & merge(to, from).is_ok();
     let len = to.len();
     keep_common(to, from);
-    is_put & (len == 3) & to.keys().eq([(0x0a00, 8), (0x0a0b, 16)])
+    is_put & (len == 3) & has_keys(to, &[(0x0a00, 8), (0x0a0b, 16)])
 }
 
 /// The same once the other has the two.
 fn has_common_with_two(to: &mut Numbers, from: &mut Numbers, _alloc: Global) -> bool {
-    put_two(from) & has_common(to, from)
+    stores(from, &TWO) & has_common(to, from)
 }
 
 #[test]
-fn entries_of_another_map(rt: HostRuntime) -> Result<(), Fail> {
+fn entries_of_another_map(rt: HostRuntime) {
     assert!(rt;
         on_two_new(
             PrefixMap::new(rt.alloc()),
             PrefixMap::new(rt.alloc()),
             rt.alloc(),
             has_common_with_two
-        )?
+        ) == Ok(true)
     );
-    Ok(())
 }
 
 /// Whether a map has the nodes that its keys need once it was used, and keeps them where a key comes and goes.
@@ -184,11 +181,10 @@ fn has_tidy_copy(map: &mut Numbers) -> bool {
 
 /// Both in turn, and a key set between them, of a map of two numbers.
 fn is_used(map: &mut Numbers, _alloc: Global) -> bool {
-    put_two(map) & is_counted(map) & set_within(map, (0x0a0b, 16), 12) & has_tidy_copy(map)
+    stores(map, &TWO) & is_counted(map) & set_within(map, (0x0a0b, 16), 12) & has_tidy_copy(map)
 }
 
 #[test]
-fn a_map_that_was_used_before(rt: HostRuntime) -> Result<(), Fail> {
-    assert!(rt; on_new(PrefixMap::new(rt.alloc()), rt.alloc(), is_used)?);
-    Ok(())
+fn a_map_that_was_used_before(rt: HostRuntime) {
+    assert!(rt; on_new(PrefixMap::new(rt.alloc()), rt.alloc(), is_used) == Ok(true));
 }

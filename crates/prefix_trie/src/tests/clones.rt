@@ -1,9 +1,9 @@
 //! Copies of a map, and of the walks that take it apart, with each request for memory refused in turn: each value is cloned once.
 use crate::map::{IntoIter, IntoKeys, IntoValues};
 use crate::tests::refusing::Refusing;
+use crate::tests::stored::stores;
 use crate::{PrefixMap, Refusal};
 use std::alloc::{AllocError, Allocator, Global};
-use std::test::Fail;
 
 /// More requests than one copy makes.
 const MANY: u64 = 100;
@@ -17,23 +17,18 @@ type Names<A> = PrefixMap<(u32, u8), String<A>, A>;
 type Numbers<A> = PrefixMap<(u32, u8), u16, A>;
 
 /// Stores a name of so many bits.
-fn put_name<A: Allocator>(
-    alloc: A,
-    names: &mut Names<A>,
-    len: u8,
-    text: &str,
-) -> Result<bool, AllocError> {
-    let name = String::from_str(alloc, text)?;
-    Ok(names.insert((0x0a01_0000, len.min(32)), name).is_ok())
+fn put_name<A: Allocator>(alloc: A, names: &mut Names<A>, len: u8, text: &str) -> bool {
+    match String::from_str(alloc, text) {
+        Ok(name) => names.insert((0x0a01_0000, len.min(32)), name).is_ok(),
+        Err(AllocError) => false,
+    }
 }
 
 /// Stores three names.
-fn put_names<A: Allocator + Copy>(alloc: A, names: &mut Names<A>) -> Result<bool, AllocError> {
-    Ok(
-        put_name(alloc, names, 8, "outer")?
-            && put_name(alloc, names, 9, "next")?
-            && put_name(alloc, names, 24, "inner")?,
-    )
+fn put_names<A: Allocator + Copy>(alloc: A, names: &mut Names<A>) -> bool {
+    put_name(alloc, names, 8, "outer")
+        & put_name(alloc, names, 9, "next")
+        & put_name(alloc, names, 24, "inner")
 }
 
 /// What is copied here, and gives its names.
@@ -89,7 +84,7 @@ impl<A: Allocator + Clone> Copied for IntoValues<(u32, u8), String<A>, A> {
 fn filled(heap: &Heap) -> Option<Names<&Heap>> {
     heap.refuse(0, 0);
     let mut names = PrefixMap::new(heap).ok()?;
-    let is_filled = put_names(heap, &mut names) == Ok(true);
+    let is_filled = put_names(heap, &mut names);
     heap.refuse(0, u64::MAX);
     if is_filled { Some(names) } else { None }
 }
@@ -169,19 +164,16 @@ fn copies_of_values(heap: &Heap) -> Option<u64> {
     refused_in_turn(heap, filled(heap)?.into_values(), true)
 }
 
-/// Stores three numbers at the same keys.
-fn put_numbers<A: Allocator>(numbers: &mut Numbers<A>) -> bool {
-    let answers = [
-        numbers.insert((0x0a01_0000, 8), 1),
-        numbers.insert((0x0a01_0000, 9), 2),
-        numbers.insert((0x0a01_0000, 24), 3),
-    ];
-    answers == [Ok(None), Ok(None), Ok(None)]
-}
+/// Three numbers at the same keys.
+const NUMBERS: [((u32, u8), u16); 3] = [
+    ((0x0a01_0000, 8), 1),
+    ((0x0a01_0000, 9), 2),
+    ((0x0a01_0000, 24), 3),
+];
 
 /// How many requests the copy of three numbers makes, which are stored first.
 fn requests_of<A: Allocator + Clone>(numbers: &mut Numbers<A>, heap: &Heap) -> Option<u64> {
-    let is_filled = put_numbers(numbers);
+    let is_filled = stores(numbers, &NUMBERS);
     heap.refuse(MANY, 0);
     let is_copied = numbers.clone().is_ok();
     let requests = MANY.wrapping_sub(heap.to_pass());
@@ -194,19 +186,21 @@ fn requests_for_numbers(heap: &Heap) -> Result<Option<u64>, Refusal> {
     Ok(requests_of::<&Heap>(&mut numbers, heap))
 }
 
-/// Whether the copy of a map of names, and that of each walk which takes it apart, makes so many requests.
-fn are_requests(heap: &Heap, requests: Option<u64>) -> bool {
-    copies_of_map(heap) == requests
-        && copies_of_part(heap) == requests
-        && copies_of_items(heap) == requests
-        && copies_of_keys(heap) == requests
-        && copies_of_values(heap) == requests
+/// Whether the copy of a map of names, and that of each walk which takes it apart, makes three requests more than that of numbers.
+fn are_requests(heap: &Heap, numbers: Result<Option<u64>, Refusal>) -> bool {
+    let Ok(Some(numbers)) = numbers else {
+        return false;
+    };
+    let requests = Some(numbers.wrapping_add(3));
+    (copies_of_map(heap) == requests)
+        & (copies_of_part(heap) == requests)
+        & (copies_of_items(heap) == requests)
+        & (copies_of_keys(heap) == requests)
+        & (copies_of_values(heap) == requests)
 }
 
 #[test]
-fn each_request_of_a_copy_refused(rt: HostRuntime) -> Result<(), Fail> {
+fn each_request_of_a_copy_refused(rt: HostRuntime) {
     let heap = Refusing::new(rt.alloc());
-    let numbers = requests_for_numbers(&heap)?;
-    assert!(rt; are_requests(&heap, Some(numbers.unwrap_or(0).wrapping_add(3))));
-    Ok(())
+    assert!(rt; are_requests(&heap, requests_for_numbers(&heap)));
 }

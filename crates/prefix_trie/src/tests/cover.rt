@@ -5,9 +5,9 @@ ghost use Rattle.prefix_trie_bits.specs.Model.Matches.{covers};
 ghost use Rattle.prefix_trie_bits.specs.Model.Selections.{shown};
 
 use crate::tests::on_new::on_new;
+use crate::tests::stored::stores;
 use crate::{Prefix, PrefixMap};
 use std::alloc::{AllocError, Allocator, Global};
-use std::test::Fail;
 
 // How many stored prefixes contain one.
 fn count<P: Prefix, T: Drop, A: Allocator>(m: &PrefixMap<P, T, A>, prefix: &P) -> usize
@@ -44,10 +44,8 @@ fn none_below<P: Prefix, A: Allocator>(m: &PrefixMap<P, u32, A>, prefix: &P, lea
 
 type Numbers = PrefixMap<(u16, u8), u32, Global>;
 
-/// Stores two numbers, of the two last lengths of 16 bits.
-fn put_two(map: &mut Numbers) -> bool {
-    [map.insert((0x8000, 15), 1), map.insert((0x8001, 16), 2)] == [Ok(None), Ok(None)]
-}
+/// Two numbers, of the two last lengths of 16 bits.
+const TWO: [((u16, u8), u32); 2] = [((0x8000, 15), 1), ((0x8001, 16), 2)];
 
 /// Whether the prefixes that contain the last key come in listing order.
 fn lists_both(map: &Numbers, alloc: Global) -> bool {
@@ -60,7 +58,7 @@ fn lists_both(map: &Numbers, alloc: Global) -> bool {
 /// Whether the callers above answer so of the two.
 fn has_two(map: &mut Numbers, alloc: Global) -> bool {
     let answers = [
-        put_two(map),
+        stores(map, &TWO),
         count(map, &(0x8001, 16)) == 2,
         count(map, &(0x8000, 16)) == 1,
         none_below(map, &(0x8001, 16), 1),
@@ -71,7 +69,6 @@ fn has_two(map: &mut Numbers, alloc: Global) -> bool {
 }
 
 #[test]
-fn last_lengths_are_counted_and_listed(rt: HostRuntime) -> Result<(), Fail> {
-    assert!(rt; on_new(PrefixMap::new(rt.alloc()), rt.alloc(), has_two)?);
-    Ok(())
+fn last_lengths_are_counted_and_listed(rt: HostRuntime) {
+    assert!(rt; on_new(PrefixMap::new(rt.alloc()), rt.alloc(), has_two) == Ok(true));
 }

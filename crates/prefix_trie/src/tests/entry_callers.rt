@@ -8,9 +8,9 @@ ghost use Rattle.prefix_trie_table.specs.Shape.{with_value_at};
 
 use crate::map::Entry;
 use crate::tests::on_new::on_two_new;
+use crate::tests::stored::{has_values, stores};
 use crate::{Prefix, PrefixMap, Refusal, Refused};
 use std::alloc::{Allocator, Global};
-use std::test::Fail;
 
 // Counts a prefix once more.
 fn count<P: Prefix, A: Allocator>(
@@ -145,53 +145,51 @@ fn writes_stored<A: Allocator>(map: &mut PrefixMap<(u8, u8), u64, A>) -> bool {
 /// Whether counting and storing answer so.
 fn counts<A: Allocator>(map: &mut PrefixMap<(u8, u8), u64, A>) -> bool {
     count(map, (0xa5, 8)).is_ok()
-        && count(map, (0xa5, 8)).is_ok()
-        && writes_stored(map)
-        && rewrite(map, (0xa5, 8), 7)
-        && swap(map, (0xa5, 8), 8) == Some(7)
-        && store_nine(map, (0xa0, 3)).is_ok()
-        && set(map, (0xbf, 3), 4) == Ok(Some(9))
+        & count(map, (0xa5, 8)).is_ok()
+        & writes_stored(map)
+        & rewrite(map, (0xa5, 8), 7)
+        & (swap(map, (0xa5, 8), 8) == Some(7))
+        & store_nine(map, (0xa0, 3)).is_ok()
+        & (set(map, (0xbf, 3), 4) == Ok(Some(9)))
 }
 
 /// Whether one of the two that are there then is taken out.
 fn takes_one_out<A: Allocator>(map: &mut PrefixMap<(u8, u8), u64, A>) -> bool {
-    map.values().copied().eq([4, 8])
-        && take_out(map, (0xa5, 8)) == Some(8)
-        && take_out(map, (0xa5, 8)).is_none()
-        && map.len() == 1
+    has_values(map, &[4, 8])
+        & (take_out(map, (0xa5, 8)) == Some(8))
+        & take_out(map, (0xa5, 8)).is_none()
+        & (map.len() == 1)
 }
 
 /// Both in turn, of a new map.
 fn counts_anew(alloc: Global) -> Result<bool, Refusal> {
     let mut map = PrefixMap::new(alloc)?;
-    Ok(counts::<Global>(&mut map) && takes_one_out::<Global>(&mut map))
+    Ok(counts::<Global>(&mut map) & takes_one_out::<Global>(&mut map))
 }
 
 #[test]
-fn entries_are_counted(rt: HostRuntime) -> Result<(), Fail> {
-    assert!(rt; counts_anew(rt.alloc())?);
-    Ok(())
+fn entries_are_counted(rt: HostRuntime) {
+    assert!(rt; counts_anew(rt.alloc()) == Ok(true));
 }
 
 type Numbers = PrefixMap<(u16, u8), u64, Global>;
 
 /// Whether a stored number of one map takes the place of that in another.
 fn is_put(from: &mut Numbers, to: &mut Numbers, _alloc: Global) -> bool {
-    from.insert((0x0a00, 8), 9) == Ok(None)
-        && to.insert((0x0a00, 8), 1) == Ok(None)
-        && fill_from(to, from).is_ok()
-        && to.values().copied().eq([9])
+    stores(from, &[((0x0a00, 8), 9)])
+        & stores(to, &[((0x0a00, 8), 1)])
+        & fill_from(to, from).is_ok()
+        & has_values(to, &[9])
 }
 
 #[test]
-fn entries_of_another_map_are_put(rt: HostRuntime) -> Result<(), Fail> {
+fn entries_of_another_map_are_put(rt: HostRuntime) {
     assert!(rt;
         on_two_new(
             PrefixMap::new(rt.alloc()),
             PrefixMap::new(rt.alloc()),
             rt.alloc(),
             is_put
-        )?
+        ) == Ok(true)
     );
-    Ok(())
 }

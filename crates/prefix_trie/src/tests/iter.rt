@@ -6,10 +6,10 @@ ghost use Rattle.prefix_trie_bits.specs.Model.Selections.{listing, shown};
 
 use crate::map::Iter;
 use crate::tests::on_new::on_new;
+use crate::tests::stored::stores;
 use crate::{Prefix, PrefixMap};
 use prefix_trie_map::laws::resume_laws;
 use std::alloc::{AllocError, Allocator, Global};
-use std::test::Fail;
 
 // How many entries a walk finds.
 fn count<P: Prefix, T: Drop, A: Allocator>(m: &PrefixMap<P, T, A>) -> usize
@@ -69,16 +69,13 @@ fn resumed<'m, P: Prefix, T: Drop, A: Allocator>(
 
 type Numbers = PrefixMap<(u8, u8), u32, Global>;
 
-/// Stores four numbers, two of them below a key that has the first three bits.
-fn put_four(map: &mut Numbers) -> bool {
-    let answers = [
-        map.insert((0xa5, 8), 6),
-        map.insert((0xbf, 3), 4),
-        map.insert((0xff, 1), 3),
-        map.insert((0xa3, 7), 5),
-    ];
-    answers == [Ok(None), Ok(None), Ok(None), Ok(None)]
-}
+/// Four numbers, two of them below a key that has the first three bits.
+const FOUR: [((u8, u8), u32); 4] = [
+    ((0xa5, 8), 6),
+    ((0xbf, 3), 4),
+    ((0xff, 1), 3),
+    ((0xa3, 7), 5),
+];
 
 /// Whether all prefixes come in listing order.
 fn lists_four(map: &Numbers, alloc: Global) -> bool {
@@ -88,10 +85,21 @@ fn lists_four(map: &Numbers, alloc: Global) -> bool {
     }
 }
 
+/// Whether a walk gives these values.
+fn gives<P: Prefix, A: Allocator>(mut walk: Iter<'_, P, u32, A>, values: &[u32]) -> bool {
+    for expected in values {
+        match walk.next() {
+            Some((_, value)) if value == expected => {}
+            _ => return false,
+        }
+    }
+    walk.next().is_none()
+}
+
 /// Whether a walk that is resumed behind the first of four gives the rest.
 fn goes_on(map: &Numbers) -> bool {
     match resumed(map, map.iter()) {
-        Some(walk) => walk.map(|(_, value)| *value).eq([4, 5, 6]),
+        Some(walk) => gives(walk, &[4, 5, 6]),
         None => false,
     }
 }
@@ -99,7 +107,7 @@ fn goes_on(map: &Numbers) -> bool {
 /// Whether the callers above answer so of the four.
 fn has_four(map: &mut Numbers, alloc: Global) -> bool {
     let answers = [
-        put_four(map),
+        stores(map, &FOUR),
         count(map) == 4,
         count_twice(map) == (4, 4),
         none_below(map, 3),
@@ -111,7 +119,6 @@ fn has_four(map: &mut Numbers, alloc: Global) -> bool {
 }
 
 #[test]
-fn four_are_counted_and_listed(rt: HostRuntime) -> Result<(), Fail> {
-    assert!(rt; on_new(PrefixMap::new(rt.alloc()), rt.alloc(), has_four)?);
-    Ok(())
+fn four_are_counted_and_listed(rt: HostRuntime) {
+    assert!(rt; on_new(PrefixMap::new(rt.alloc()), rt.alloc(), has_four) == Ok(true));
 }

@@ -7,9 +7,9 @@ ghost use Rattle.prefix_trie_bits.specs.Model.Matches.{longest_match, shown_matc
 ghost use Rattle.prefix_trie_table.specs.Shape.{with_value_at, with_longest_at};
 
 use crate::tests::on_new::on_new;
+use crate::tests::stored::{has_values, stores};
 use crate::{Ipv6Prefix, Prefix, PrefixMap, Refusal};
 use std::alloc::{AllocError, Allocator, Global};
-use std::test::Fail;
 
 // Writes over a stored value, and says whether there was one.
 fn write<P: Prefix, T: Drop, A: Allocator>(
@@ -66,24 +66,17 @@ fn rewrite<P: Prefix, A: Allocator>(
     Some((found, before))
 }
 
-/// Stores three keys at the end of 64 bits.
-fn put_last_bits<A: Allocator>(map: &mut PrefixMap<(u64, u8), u8, A>) -> bool {
-    let answers = [
-        map.insert((0, 60), 1),
-        map.insert((5, 64), 2),
-        map.insert((6, 63), 3),
-    ];
-    answers == [Ok(None), Ok(None), Ok(None)]
-}
+/// Three keys at the end of 64 bits.
+const LAST_BITS: [((u64, u8), u8); 3] = [((0, 60), 1), ((5, 64), 2), ((6, 63), 3)];
 
 /// Whether the value of the longest match is written over, twice, and that of no match is not.
 fn is_rewritten<A: Allocator>(map: &mut PrefixMap<(u64, u8), u8, A>) -> bool {
-    put_last_bits(map)
-        && rewrite(map, &(7, 64), 8) == Some(((6, 63), 3))
-        && rewrite(map, &(7, 64), 9) == Some(((6, 63), 8))
-        && write_longest(map, &(4, 64), 7)
-        && !write_longest(map, &(4, 59), 8)
-        && map.values().copied().eq([7, 2, 9])
+    stores(map, &LAST_BITS)
+        & (rewrite(map, &(7, 64), 8) == Some(((6, 63), 3)))
+        & (rewrite(map, &(7, 64), 9) == Some(((6, 63), 8)))
+        & write_longest(map, &(4, 64), 7)
+        & !write_longest(map, &(4, 59), 8)
+        & has_values(map, &[7, 2, 9])
 }
 
 /// The same of a new map.
@@ -93,9 +86,8 @@ fn is_rewritten_anew(alloc: Global) -> Result<bool, Refusal> {
 }
 
 #[test]
-fn the_longest_match_is_written(rt: HostRuntime) -> Result<(), Fail> {
-    assert!(rt; is_rewritten_anew(rt.alloc())?);
-    Ok(())
+fn the_longest_match_is_written(rt: HostRuntime) {
+    assert!(rt; is_rewritten_anew(rt.alloc()) == Ok(true));
 }
 
 type Texts = PrefixMap<Ipv6Prefix, String<Global>, Global>;
@@ -166,7 +158,6 @@ fn is_written(map: &mut Texts, alloc: Global) -> Result<bool, AllocError> {
 }
 
 #[test]
-fn a_stored_value_is_written(rt: HostRuntime) -> Result<(), Fail> {
-    assert!(rt; on_new(PrefixMap::new(rt.alloc()), rt.alloc(), is_written)??);
-    Ok(())
+fn a_stored_value_is_written(rt: HostRuntime) {
+    assert!(rt; on_new(PrefixMap::new(rt.alloc()), rt.alloc(), is_written) == Ok(Ok(true)));
 }

@@ -5,7 +5,6 @@ use crate::PrefixMap;
 use crate::replay::{Call, Reply, run};
 use crate::tests::on_new::on_new;
 use std::alloc::{AllocError, Global};
-use std::test::Fail;
 
 /// How many calls are made.
 pub const CALLS: u64 = 20_000;
@@ -144,11 +143,12 @@ fn lists(map: &Map, list: &[Entry]) -> bool {
     let mut entries = map.iter();
     let mut keys = map.keys();
     for entry in list {
-        if entries.next().map(owned) != Some(*entry) || keys.next() != Some(entry.0) {
+        let parts = (entries.next().map(owned), keys.next());
+        if parts != (Some(*entry), Some(entry.0)) {
             return false;
         }
     }
-    entries.next().is_none() && keys.next().is_none()
+    entries.next().is_none() & keys.next().is_none()
 }
 
 /// The entries that contain the key: in listing order, the shortest first.
@@ -163,7 +163,7 @@ fn containing(alloc: Global, list: &[Entry], asked: Key) -> Result<Vec<Entry>, A
 }
 
 /// Whether the walk around a key gives these entries.
-fn covers(map: &Map, expected: &[Entry], asked: Key) -> bool
+fn gives(map: &Map, expected: &[Entry], asked: Key) -> bool
     requires { asked.1 ≤ 8 }
 {
     let mut entries = map.cover(&asked);
@@ -173,6 +173,16 @@ fn covers(map: &Map, expected: &[Entry], asked: Key) -> bool
         }
     }
     entries.next().is_none()
+}
+
+/// Whether it gives those of the list that contain the key.
+fn covers(alloc: Global, map: &Map, list: &[Entry], asked: Key) -> bool
+    requires { asked.1 ≤ 8 }
+{
+    match containing(alloc, list, asked) {
+        Ok(expected) => gives(map, &expected, asked),
+        Err(AllocError) => false,
+    }
 }
 
 /// How many keys of all eight bits an entry contains. None if all.
@@ -186,13 +196,20 @@ fn addresses(list: &[Entry]) -> Option<u8> {
     Some(count)
 }
 
-/// Whether a run counts the addresses as the list does.
-fn counts_addresses(alloc: Global, map: &mut Map, list: &[Entry]) -> Result<bool, AllocError> {
-    let replies = run(alloc, map, &[Call::AddressCount])?;
-    Ok(match replies.as_slice() {
-        [Reply::Addresses(count)] => *count == addresses(list),
+/// Whether the one reply is this count of addresses.
+fn is_count(replies: &[Reply<Key, Global>], wanted: Option<u8>) -> bool {
+    match replies {
+        [Reply::Addresses(count)] => *count == wanted,
         _ => false,
-    })
+    }
+}
+
+/// Whether a run counts the addresses as the list does.
+fn counts_addresses(alloc: Global, map: &mut Map, list: &[Entry]) -> bool {
+    match run(alloc, map, &[Call::AddressCount]) {
+        Ok(replies) => is_count(&replies, addresses(list)),
+        Err(AllocError) => false,
+    }
 }
 
 /// Whether a lookup of an entry answers as the list does.
@@ -207,130 +224,117 @@ fn finds(map: &Map, list: &[Entry], which: u64, asked: Key) -> bool
 }
 
 /// Whether a question for a number, a list or a yes is answered as the list does.
-fn tells(
-    alloc: Global,
-    map: &Map,
+fn tells(alloc: Global, map: &Map, list: &[Entry], which: u64, asked: Key) -> bool
+    requires { asked.1 ≤ 8 }
+{
+    match which {
+        6 => map.len() == list.len(),
+        7 => 1 <= map.node_count(),
+        9 => lists(map, list),
+        10 => covers(alloc, map, list, asked),
+        11 => map.contains_key(&asked) == exact(list, asked).is_some(),
+        _ => map.is_covered(&asked) == shortest(list, asked).is_some(),
+    }
+}
+
+/// Keeps the entries of at least so many bits in a map, by a call of a run. Answers whether that had one reply.
+fn keeps_long(alloc: Global, map: &mut Map, len: u8) -> bool {
+    match run(alloc, map, &[Call::RetainAtLeast(len)]) {
+        Ok(replies) => replies.len() == 1,
+        Err(AllocError) => false,
+    }
+}
+
+/// Whether a call that changes a map answers as the list does, which had this value before.
+fn changes(
+    map: &mut Map,
     list: &[Entry],
     which: u64,
     asked: Key,
-) -> Result<bool, AllocError>
+    value: u64,
+    before: Option<u64>,
+) -> bool
     requires { asked.1 ≤ 8 }
 {
     match which {
-        6 => Ok(map.len() == list.len()),
-        7 => Ok(1 <= map.node_count()),
-        9 => Ok(lists(map, list)),
-        10 => {
-            let expected = containing(alloc, list, asked)?;
-            Ok(covers(map, &expected, asked))
+        3 => map.remove(&asked) == before,
+        4 => map.remove_keep_tree(&asked) == before,
+        5 => {
+            map.remove_children(&asked);
+            map.len() == list.len()
         }
-        11 => Ok(map.contains_key(&asked) == exact(list, asked).is_some()),
-        _ => Ok(map.is_covered(&asked) == shortest(list, asked).is_some()),
+        13 => map.insert(asked, value) == Ok(before),
+        _ => {
+            map.clear();
+            map.is_empty()
+        }
     }
 }
 
-/// Keeps the entries of at least so many bits in both, in the map by a call of a run. Answers whether that had one reply.
-fn keeps_long(
-    alloc: Global,
-    map: &mut Map,
-    list: &mut Vec<Entry>,
-    len: u8,
-) -> Result<bool, AllocError> {
-    *list = of_at_least(alloc, list, len)?;
-    let replies = run(alloc, map, &[Call::RetainAtLeast(len)])?;
-    Ok(replies.len() == 1)
+/// The list with this entry in place of that of its key.
+fn with_set(alloc: Global, list: &[Entry], entry: Entry) -> Result<Vec<Entry>, AllocError> {
+    let others = without(alloc, list, entry.0)?;
+    with(alloc, &others, entry)
 }
 
-/// Whether a removal answers as the list does. The entry is taken out of both.
-fn removes(
+/// The list once a call was made, in which this is the value that an insertion sets.
+fn changed(
     alloc: Global,
-    map: &mut Map,
-    list: &mut Vec<Entry>,
-    keep_tree: bool,
-    asked: Key,
-) -> Result<bool, Fail>
-    requires { asked.1 ≤ 8 }
-{
-    let expected = exact(list, asked);
-    *list = without(alloc, list, cleared(asked.0, asked.1))?;
-    let answer = if keep_tree {
-        map.remove_keep_tree(&asked)
-    } else {
-        map.remove(&asked)
-    };
-    Ok(answer == expected)
-}
-
-/// Whether an insertion answers as the list does. The entry is set in both.
-fn inserts(
-    alloc: Global,
-    map: &mut Map,
-    list: &mut Vec<Entry>,
+    list: &[Entry],
+    which: u64,
     asked: Key,
     value: u64,
-) -> Result<bool, Fail>
-    requires { asked.1 ≤ 8 }
-{
-    let expected = exact(list, asked);
+) -> Result<Vec<Entry>, AllocError> {
     let key = cleared(asked.0, asked.1);
-    let others = without(alloc, list, key)?;
-    *list = with(alloc, &others, (key, value))?;
-    Ok(map.insert(asked, value)? == expected)
+    match which {
+        3 | 4 => without(alloc, list, key),
+        5 => outside(alloc, list, asked),
+        13 => with_set(alloc, list, (key, value)),
+        14 => Ok(Vec::new(alloc)),
+        15 => of_at_least(alloc, list, asked.1),
+        _ => of_at_least(alloc, list, 0),
+    }
 }
 
-/// Whether a removal or a question answers as the list does. What a removal takes out goes out of both.
+/// Whether a call answers as the list does, which was changed by it and had this value before.
 fn answers(
     alloc: Global,
     map: &mut Map,
-    list: &mut Vec<Entry>,
+    list: &[Entry],
     which: u64,
     asked: Key,
-) -> Result<bool, Fail>
+    value: u64,
+    before: Option<u64>,
+) -> bool
     requires { asked.1 ≤ 8 }
 {
     match which {
-        0..3 => Ok(finds(map, list, which, asked)),
-        3 => removes(alloc, map, list, false, asked),
-        4 => removes(alloc, map, list, true, asked),
-        5 => {
-            map.remove_children(&asked);
-            *list = outside(alloc, list, asked)?;
-            Ok(map.len() == list.len())
-        }
-        8 => Ok(counts_addresses(alloc, map, list)?),
-        _ => Ok(tells(alloc, map, list, which, asked)?),
+        0..3 => finds(map, list, which, asked),
+        8 => counts_addresses(alloc, map, list),
+        15 => keeps_long(alloc, map, asked.1),
+        3..6 | 13 | 14 => changes(map, list, which, asked, value, before),
+        _ => tells(alloc, map, list, which, asked),
     }
 }
 
-/// Whether one call answers as the list does.
-fn agrees(
-    alloc: Global,
-    map: &mut Map,
-    list: &mut Vec<Entry>,
-    a: u64,
-    asked: Key,
-    index: u64,
-) -> Result<bool, Fail>
-    requires { asked.1 ≤ 8 }
-{
+/// Which call is made: an insertion is 13, `clear` 14 and `retain` 15.
+fn kind(a: u64) -> u64 {
     match a {
-        0..600 => inserts(alloc, map, list, asked, index),
-        600 => {
-            map.clear();
-            list.clear();
-            Ok(true)
-        }
-        601 => Ok(keeps_long(alloc, map, list, asked.1)?),
-        _ => answers(alloc, map, list, a.wrapping_sub(602) % 13, asked),
+        0..600 => 13,
+        600 => 14,
+        601 => 15,
+        _ => a.wrapping_sub(602) % 13,
     }
 }
 
 /// Makes all calls. Answers whether each was answered as by the list.
-fn answer_alike(alloc: Global, map: &mut Map, list: &mut Vec<Entry>) -> Result<bool, Fail> {
+fn answer_alike(alloc: Global, map: &mut Map, list: &mut Vec<Entry>) -> Result<bool, AllocError> {
     let mut x = 1;
     for index in 0..CALLS {
         let (a, asked) = drawn_call(&mut x);
-        if !agrees(alloc, map, list, a, asked, index)? {
+        let before = exact(list, asked);
+        *list = changed(alloc, list, kind(a), asked, index)?;
+        if !answers(alloc, map, list, kind(a), asked, index, before) {
             return Ok(false);
         }
     }
@@ -338,13 +342,12 @@ fn answer_alike(alloc: Global, map: &mut Map, list: &mut Vec<Entry>) -> Result<b
 }
 
 /// Whether all calls are answered as by a list, and the map that they leave has its entries.
-fn is_as_a_list(map: &mut Map, alloc: Global) -> Result<bool, Fail> {
+fn is_as_a_list(map: &mut Map, alloc: Global) -> bool {
     let mut list = Vec::new(alloc);
-    Ok(answer_alike(alloc, map, &mut list)? && lists(map, &list))
+    (answer_alike(alloc, map, &mut list) == Ok(true)) & lists(map, &list)
 }
 
 #[test]
-fn mixed_calls_as_on_a_sorted_list(rt: HostRuntime) -> Result<(), Fail> {
-    assert!(rt; on_new(PrefixMap::new(rt.alloc()), rt.alloc(), is_as_a_list)??);
-    Ok(())
+fn mixed_calls_as_on_a_sorted_list(rt: HostRuntime) {
+    assert!(rt; on_new(PrefixMap::new(rt.alloc()), rt.alloc(), is_as_a_list) == Ok(true));
 }

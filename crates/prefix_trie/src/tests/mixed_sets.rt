@@ -5,7 +5,6 @@ use crate::tests::mixed::{CALLS, Key, drawn_call};
 use crate::tests::on_new::on_new;
 use crate::{Prefix, PrefixMap, PrefixSet, Refusal};
 use std::alloc::Global;
-use std::test::Fail;
 
 type Map = PrefixMap<Key, u64, Global>;
 
@@ -24,6 +23,30 @@ fn finds_alike(map: &Map, set: &Set, which: u64, asked: Key) -> bool
     }
 }
 
+/// Whether both list the same keys.
+fn list_alike(map: &Map, set: &Set) -> bool {
+    let mut keys = map.keys();
+    for prefix in set.iter() {
+        if keys.next() != Some(prefix) {
+            return false;
+        }
+    }
+    keys.next().is_none()
+}
+
+/// Whether the walks around a key give the same.
+fn cover_alike(map: &Map, set: &Set, asked: Key) -> bool
+    requires { asked.1 ≤ 8 }
+{
+    let mut keys = map.cover_keys(&asked);
+    for prefix in set.cover(&asked) {
+        if keys.next() != Some(prefix) {
+            return false;
+        }
+    }
+    keys.next().is_none()
+}
+
 /// Whether a question for a number or a list is answered alike.
 fn tells_alike(map: &Map, set: &Set, which: u64, asked: Key) -> bool
     requires { asked.1 ≤ 8 }
@@ -32,8 +55,8 @@ fn tells_alike(map: &Map, set: &Set, which: u64, asked: Key) -> bool
         5 => set.len() == map.len(),
         6 => set.node_count() == map.node_count(),
         7 => set.address_count() == map.address_count(),
-        8 => set.iter().eq(map.keys()),
-        _ => set.cover(&asked).eq(map.cover_keys(&asked)),
+        8 => list_alike(map, set),
+        _ => cover_alike(map, set, asked),
     }
 }
 
@@ -58,56 +81,69 @@ fn keep_long(map: &mut Map, set: &mut Set, len: u8) {
     set.retain(|prefix| len <= prefix.prefix_len());
 }
 
-/// Whether one call is answered alike.
-fn agrees(map: &mut Map, set: &mut Set, a: u64, asked: Key) -> Result<bool, Fail>
+/// Whether an insertion answers alike.
+fn inserts_alike(map: &mut Map, set: &mut Set, asked: Key, value: u64) -> bool
     requires { asked.1 ≤ 8 }
 {
+    match map.insert(asked, value) {
+        Ok(before) => set.insert(asked) == Ok(before.is_none()),
+        Err(_) => false,
+    }
+}
+
+/// Takes all keys out of both, or those of fewer bits. Answers whether as many are left.
+fn clears_alike(map: &mut Map, set: &mut Set, is_all: bool, len: u8) -> bool {
+    if is_all {
+        map.clear();
+        set.clear();
+    } else {
+        keep_long(map, set, len);
+    }
+    set.len() == map.len()
+}
+
+/// Whether a question answers alike.
+fn answers_alike(map: &Map, set: &Set, which: u64, asked: Key) -> bool
+    requires { asked.1 ≤ 8 }
+{
+    match which {
+        0..5 => finds_alike(map, set, which, asked),
+        _ => tells_alike(map, set, which, asked),
+    }
+}
+
+/// Whether one call is answered alike.
+fn agrees(map: &mut Map, set: &mut Set, a: u64, asked: Key) -> bool
+    requires { asked.1 ≤ 8 }
+{
+    let which = a.wrapping_sub(602) % 13;
     match a {
-        0..600 => Ok(set.insert(asked)? == map.insert(asked, a)?.is_none()),
-        600 => {
-            map.clear();
-            set.clear();
-            Ok(true)
-        }
-        601 => {
-            keep_long(map, set, asked.1);
-            Ok(true)
-        }
-        _ => {
-            let which = a.wrapping_sub(602) % 13;
-            Ok(match which {
-                0..5 => finds_alike(map, set, which, asked),
-                5..10 => tells_alike(map, set, which, asked),
-                _ => removes_alike(map, set, which, asked),
-            })
-        }
+        0..600 => inserts_alike(map, set, asked, a),
+        600..602 => clears_alike(map, set, a == 600, asked.1),
+        _ if which < 10 => answers_alike(map, set, which, asked),
+        _ => removes_alike(map, set, which, asked),
     }
 }
 
 /// Makes all calls. Answers whether each was answered alike, and both have the same keys at the end.
-fn answer_alike(map: &mut Map, set: &mut Set) -> Result<bool, Fail> {
+fn answer_alike(map: &mut Map, set: &mut Set) -> bool {
     let mut x = 1;
     for _index in 0..CALLS {
         let (a, asked) = drawn_call(&mut x);
-        if !agrees(map, set, a, asked)? {
-            return Ok(false);
+        if !agrees(map, set, a, asked) {
+            return false;
         }
     }
-    Ok(set.iter().eq(map.keys()))
+    list_alike(map, set)
 }
 
-/// A new map and a new set.
-fn both(alloc: Global) -> Result<(Map, Set), Refusal> {
-    Ok((PrefixMap::new(alloc)?, PrefixSet::new(alloc)?))
-}
-
-/// Whether all calls are answered alike by the two.
-fn are_alike(made: &mut (Map, Set), _calls: u64) -> Result<bool, Fail> {
-    answer_alike(&mut made.0, &mut made.1)
+/// Whether all calls are answered alike by a map and a new set.
+fn is_alike(map: &mut Map, alloc: Global) -> Result<bool, Refusal> {
+    let mut set = PrefixSet::new(alloc)?;
+    Ok(answer_alike(map, &mut set))
 }
 
 #[test]
-fn mixed_calls_of_a_set_as_of_a_map(rt: HostRuntime) -> Result<(), Fail> {
-    assert!(rt; on_new(both(rt.alloc()), CALLS, are_alike)??);
-    Ok(())
+fn mixed_calls_of_a_set_as_of_a_map(rt: HostRuntime) {
+    assert!(rt; on_new(PrefixMap::new(rt.alloc()), rt.alloc(), is_alike) == Ok(Ok(true)));
 }

@@ -8,7 +8,6 @@ use self::Sample::{Keep, Width, Window};
 use crate::{Ipv4Prefix, Ipv6Prefix, Key, Prefix, Refusal, Refused};
 use std::alloc::Global;
 use std::fmt::{Debug, Display};
-use std::test::Fail;
 
 /// What a key answers.
 enum Sample<K> {
@@ -181,32 +180,33 @@ fn ipv6(rt: HostRuntime) {
 }
 
 /// Whether these are the debug text of a value and the other.
-fn shows<T: Debug + Display>(alloc: Global, value: &T, expected: &str) -> Result<bool, Fail> {
-    let text = format!(in alloc; "{value:?} {value}")?;
-    Ok(text.as_str() == expected)
+fn shows<T: Debug + Display>(alloc: Global, value: &T, expected: &str) -> bool {
+    match format!(in alloc; "{value:?} {value}") {
+        Ok(text) => text.as_str() == expected,
+        Err(_) => false,
+    }
 }
 
 #[test]
-fn texts(rt: HostRuntime) -> Result<(), Fail> {
+fn texts(rt: HostRuntime) {
     let four = Ipv4Prefix::host(0x0a01_0203);
     let six = Ipv6Prefix::host(1);
     let documentation = Ipv6Prefix::from_repr_len(0x2001_0db8_0000_0000_0000_0000_0000_00ff, 32);
-    assert!(rt; shows(rt.alloc(), &four, "10.1.2.3/32 10.1.2.3/32")?);
+    assert!(rt; shows(rt.alloc(), &four, "10.1.2.3/32 10.1.2.3/32"));
     assert!(rt;
         shows(
             rt.alloc(),
             &six,
             "0000:0000:0000:0000:0000:0000:0000:0001/128 0000:0000:0000:0000:0000:0000:0000:0001/128"
-        )?
+        )
     );
     assert!(rt;
         shows(
             rt.alloc(),
             &documentation,
             "2001:0db8:0000:0000:0000:0000:0000:00ff/32 2001:0db8:0000:0000:0000:0000:0000:00ff/32"
-        )?
+        )
     );
-    Ok(())
 }
 
 #[test]

@@ -3,10 +3,9 @@ ghost use Rattle.std.specs.Prelude.{◌≡◌, nat_le, filter};
 ghost use Rattle.prefix_trie_bits.specs.Model.Nodes.{needed};
 ghost use Rattle.prefix_trie_bits.specs.Model.Selections.{listing};
 
-use crate::tests::on_new::on_new;
-use crate::{Prefix, PrefixMap};
+use crate::tests::stored::{has_keys, stores};
+use crate::{Prefix, PrefixMap, Refusal};
 use std::alloc::{Allocator, Global};
-use std::test::Fail;
 
 // Keeps the values from a least one on.
 pub fn keep_from<P: Prefix, A: Allocator>(m: &mut PrefixMap<P, u64, A>, least: u64)
@@ -16,28 +15,28 @@ pub fn keep_from<P: Prefix, A: Allocator>(m: &mut PrefixMap<P, u64, A>, least: u
     m.retain(move |_, value| least <= *value);
 }
 
-type Numbers = PrefixMap<(u8, u8), u64, Global>;
-
-/// Stores four numbers, of which two are below three.
-fn put_four(map: &mut Numbers) -> bool {
-    let answers = [
-        map.insert((0xa5, 8), 4),
-        map.insert((0xbf, 3), 1),
-        map.insert((0xff, 1), 3),
-        map.insert((0x07, 8), 2),
-    ];
-    answers == [Ok(None), Ok(None), Ok(None), Ok(None)]
-}
+/// Four numbers, of which two are below three.
+const FOUR: [((u8, u8), u64); 4] = [
+    ((0xa5, 8), 4),
+    ((0xbf, 3), 1),
+    ((0xff, 1), 3),
+    ((0x07, 8), 2),
+];
 
 /// Whether the other two are left.
-fn keeps_two(map: &mut Numbers, _alloc: Global) -> bool {
-    let is_filled = put_four(map);
+fn keeps_two<A: Allocator>(map: &mut PrefixMap<(u8, u8), u64, A>) -> bool {
+    let is_filled = stores(map, &FOUR);
     keep_from(map, 3);
-    is_filled & (map.len() == 2) & map.keys().eq([(0x80, 1), (0xa5, 8)])
+    is_filled & (map.len() == 2) & has_keys(map, &[(0x80, 1), (0xa5, 8)])
+}
+
+/// The same of a new map.
+fn keeps_two_anew(alloc: Global) -> Result<bool, Refusal> {
+    let mut map = PrefixMap::new(alloc)?;
+    Ok(keeps_two::<Global>(&mut map))
 }
 
 #[test]
-fn numbers_from_three_on(rt: HostRuntime) -> Result<(), Fail> {
-    assert!(rt; on_new(PrefixMap::new(rt.alloc()), rt.alloc(), keeps_two)?);
-    Ok(())
+fn numbers_from_three_on(rt: HostRuntime) {
+    assert!(rt; keeps_two_anew(rt.alloc()) == Ok(true));
 }

@@ -7,7 +7,6 @@ use crate::tests::on_new::on_new;
 use crate::tests::refusing::Refusing;
 use crate::{Prefix, PrefixMap, Refusal};
 use std::alloc::{AllocError, Allocator, Global};
-use std::test::Fail;
 
 /// More requests than one run makes.
 const MANY: u64 = 100;
@@ -91,12 +90,15 @@ fn is<A: Allocator>(reply: &Reply<Key, A>, wanted: Wanted<'_>) -> bool {
 
 /// Whether the replies are these, in order.
 fn are<A: Allocator>(replies: &[Reply<Key, A>], wanted: &[Wanted<'_>]) -> bool {
-    for (reply, one) in replies.iter().zip(wanted) {
-        if !is(reply, *one) {
+    if replies.len() != wanted.len() {
+        return false;
+    }
+    for index in 0..wanted.len() {
+        if !is(&replies[index], wanted[index]) {
             return false;
         }
     }
-    replies.len() == wanted.len()
+    true
 }
 
 /// Whether the calls on a map get these replies.
@@ -123,7 +125,7 @@ fn replies_are(alloc: Global, calls: &[Call<Key>], wanted: &[Wanted<'_>]) -> Res
 }
 
 #[test]
-fn a_reply_to_each_call(rt: HostRuntime) -> Result<(), Fail> {
+fn a_reply_to_each_call(rt: HostRuntime) {
     let calls = [
         Call::List,
         Call::Insert((0x0a00_00ff, 8), 1),
@@ -153,12 +155,11 @@ fn a_reply_to_each_call(rt: HostRuntime) -> Result<(), Fail> {
         Wanted::Addresses(Some(0x0100_0000)),
         Wanted::List(&both),
     ];
-    assert!(rt; replies_are(rt.alloc(), &calls, &wanted)?);
-    Ok(())
+    assert!(rt; replies_are(rt.alloc(), &calls, &wanted) == Ok(true));
 }
 
 #[test]
-fn shortest_matches_and_covers(rt: HostRuntime) -> Result<(), Fail> {
+fn shortest_matches_and_covers(rt: HostRuntime) {
     let calls = [
         Call::Insert((0x0a00_0000, 8), 1),
         Call::Insert((0x0a01_0000, 16), 2),
@@ -178,12 +179,11 @@ fn shortest_matches_and_covers(rt: HostRuntime) -> Result<(), Fail> {
         Wanted::List(&covered),
         Wanted::List(&[]),
     ];
-    assert!(rt; replies_are(rt.alloc(), &calls, &wanted)?);
-    Ok(())
+    assert!(rt; replies_are(rt.alloc(), &calls, &wanted) == Ok(true));
 }
 
 #[test]
-fn removals_and_the_nodes_left(rt: HostRuntime) -> Result<(), Fail> {
+fn removals_and_the_nodes_left(rt: HostRuntime) {
     let calls = [
         Call::Insert((0x0a01_0100, 24), 1),
         Call::RemoveKeepTree((0x0a01_01ff, 24)),
@@ -211,12 +211,11 @@ fn removals_and_the_nodes_left(rt: HostRuntime) -> Result<(), Fail> {
         Wanted::Done,
         Wanted::List(&[((0x0b00_0000, 8), 5)]),
     ];
-    assert!(rt; replies_are(rt.alloc(), &calls, &wanted)?);
-    Ok(())
+    assert!(rt; replies_are(rt.alloc(), &calls, &wanted) == Ok(true));
 }
 
 #[test]
-fn entries_of_a_least_length(rt: HostRuntime) -> Result<(), Fail> {
+fn entries_of_a_least_length(rt: HostRuntime) {
     let calls = [
         Call::Insert((0x0a00_0000, 8), 1),
         Call::Insert((0x0a01_0000, 16), 2),
@@ -241,13 +240,12 @@ fn entries_of_a_least_length(rt: HostRuntime) -> Result<(), Fail> {
         Wanted::Count(1),
         Wanted::Count(0),
     ];
-    assert!(rt; replies_are(rt.alloc(), &calls, &wanted)?);
-    Ok(())
+    assert!(rt; replies_are(rt.alloc(), &calls, &wanted) == Ok(true));
 }
 
 /// Whether a map has the network of all addresses alone, as before the run.
 fn has_first_alone<A: Allocator>(map: &Map<A>) -> bool {
-    map.get(&(0, 0)) == Some(&7) && map.len() == 1 && map.node_count() == 1
+    (map.get(&(0, 0)) == Some(&7)) & (map.len() == 1) & (map.node_count() == 1)
 }
 
 /// What was refused in a run.
@@ -320,13 +318,11 @@ fn part_lost<A: Allocator>(
     }
 }
 
-/// Runs five calls on a map, with one request refused.
-fn run_refused<A: Allocator + Clone>(
-    heap: &Refusing<Global>,
+/// Runs five calls on a map.
+fn run_five<A: Allocator + Clone>(
     alloc: A,
     map: &mut Map<A>,
-    passed: u64,
-) -> Option<Lost> {
+) -> Result<Vec<Reply<Key, A>, A>, AllocError> {
     let calls = [
         Call::Insert((3, 32), 1),
         Call::Get((3, 32)),
@@ -334,8 +330,18 @@ fn run_refused<A: Allocator + Clone>(
         Call::Cover((3, 32)),
         Call::Len,
     ];
+    run(alloc, map, &calls)
+}
+
+/// Runs them with one request refused.
+fn run_refused<A: Allocator + Clone>(
+    heap: &Refusing<Global>,
+    alloc: A,
+    map: &mut Map<A>,
+    passed: u64,
+) -> Option<Lost> {
     heap.refuse(passed, 1);
-    let outcome = run(alloc, map, &calls);
+    let outcome = run_five(alloc, map);
     heap.refuse(0, 0);
     part_lost(&outcome, map)
 }
@@ -359,7 +365,7 @@ fn follows(last: Lost, now: Option<Lost>) -> bool {
 }
 
 /// Whether the requests refused in turn are that for the replies, one or more of the insertion, and one of each list.
-fn are_lost_in_turn(heap: &Refusing<Global>) -> Result<bool, Fail> {
+fn are_lost_in_turn(heap: &Refusing<Global>) -> Result<bool, Refusal> {
     if run_once(heap, 0)? != Some(Lost::All) {
         return Ok(false);
     }
@@ -376,10 +382,9 @@ fn are_lost_in_turn(heap: &Refusing<Global>) -> Result<bool, Fail> {
 
 // The room for the replies is asked for first.
 #[test]
-fn each_request_of_a_run_refused(rt: HostRuntime) -> Result<(), Fail> {
+fn each_request_of_a_run_refused(rt: HostRuntime) {
     let heap = Refusing::new(rt.alloc());
-    assert!(rt; are_lost_in_turn(&heap)?);
-    Ok(())
+    assert!(rt; are_lost_in_turn(&heap) == Ok(true));
 }
 
 /// How many entries a long list has: a prime, so that multiples of a smaller number come in another order.
@@ -429,7 +434,6 @@ fn is_long(map: &mut Map<Global>, alloc: Global) -> bool {
 }
 
 #[test]
-fn a_list_of_more_than_a_thousand(rt: HostRuntime) -> Result<(), Fail> {
-    assert!(rt; on_new(PrefixMap::new(rt.alloc()), rt.alloc(), is_long)?);
-    Ok(())
+fn a_list_of_more_than_a_thousand(rt: HostRuntime) {
+    assert!(rt; on_new(PrefixMap::new(rt.alloc()), rt.alloc(), is_long) == Ok(true));
 }

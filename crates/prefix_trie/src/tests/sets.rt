@@ -1,11 +1,9 @@
 //! Sets with each request for memory refused in turn: what was refused, and what stands afterwards.
 ghost use Rattle.std.specs.Prelude.{All};
 
-use crate::tests::on_new::on_new;
 use crate::tests::refusing::Refusing;
 use crate::{Prefix, PrefixSet, Refusal};
 use std::alloc::{Allocator, Global};
-use std::test::Fail;
 
 /// More requests than one call makes.
 const MANY: u64 = 100;
@@ -13,8 +11,6 @@ const MANY: u64 = 100;
 type Heap = Refusing<Global>;
 
 type Key = (u32, u8);
-
-type Set<'a> = PrefixSet<Key, &'a Heap>;
 
 // The set of the prefixes of a vector.
 fn of_prefixes<P: Prefix, A: Allocator + Clone>(
@@ -26,16 +22,25 @@ fn of_prefixes<P: Prefix, A: Allocator + Clone>(
     PrefixSet::from_iter(alloc, prefixes)
 }
 
-/// How many prefixes the set of two hosts and a network has.
-fn collected(heap: &Heap) -> Result<usize, Refusal> {
-    let Ok(keys) = vec![in heap.inner(); (0_u32, 32_u8), (0, 8), (0x8000_0000, 32)] else {
-        return Err(Refusal::Memory);
-    };
-    Ok(of_prefixes(heap, keys)?.len())
+/// How many prefixes a set has, None where it was refused for want of memory.
+fn len_of<A: Allocator>(made: Result<PrefixSet<Key, A>, Refusal>) -> Option<usize> {
+    match made {
+        Ok(set) => Some(set.len()),
+        Err(Refusal::Memory) => None,
+        Err(_) => Some(0),
+    }
+}
+
+/// The same of the set of two hosts and a network.
+fn collected(heap: &Heap) -> Option<usize> {
+    match vec![in heap.inner(); (0_u32, 32_u8), (0, 8), (0x8000_0000, 32)] {
+        Ok(keys) => len_of(of_prefixes(heap, keys)),
+        Err(_) => None,
+    }
 }
 
 /// How many prefixes a copy has, None where it was refused.
-fn copied(set: &Set<'_>) -> Option<usize> {
+fn copied<A: Allocator + Clone>(set: &PrefixSet<Key, A>) -> Option<usize> {
     match set.clone() {
         Ok(copy) => Some(copy.len()),
         Err(_) => None,
@@ -43,32 +48,38 @@ fn copied(set: &Set<'_>) -> Option<usize> {
 }
 
 /// How many prefixes are there once another is put in, None where it was refused and nothing is changed.
-fn inserted(set: &mut Set<'_>) -> Option<usize> {
+fn inserted<A: Allocator>(set: &mut PrefixSet<Key, A>) -> Option<usize> {
     let old = (set.len(), set.node_count());
-    match set.insert((0, 32)) {
+    let answer = set.insert((0, 32));
+    let is_unchanged = (set.len(), set.node_count()) == old;
+    match answer {
         Ok(true) => Some(set.len()),
-        Ok(false) => Some(0),
-        Err(cause) if cause == Refusal::Memory && (set.len(), set.node_count()) == old => None,
-        Err(_) => Some(0),
+        Err(Refusal::Memory) if is_unchanged => None,
+        _ => Some(0),
     }
 }
 
 /// What a call answers: insertion, copy or collection.
-fn called(set: &mut Set<'_>, heap: &Heap, which: u8) -> Option<usize> {
+fn called<A: Allocator + Clone>(
+    set: &mut PrefixSet<Key, A>,
+    heap: &Heap,
+    which: u8,
+) -> Option<usize> {
     match which {
         0 => inserted(set),
         1 => copied(set),
-        _ => match collected(heap) {
-            Ok(count) => Some(count),
-            Err(cause) if cause == Refusal::Memory => None,
-            Err(_) => Some(0),
-        },
+        _ => collected(heap),
     }
 }
 
 /// Makes a call with another request refused each time. Answers whether some were, each time with a refusal, and at last there are
 /// so many prefixes.
-fn is_refused_in_turn(set: &mut Set<'_>, heap: &Heap, which: u8, count: usize) -> bool {
+fn is_refused_in_turn<A: Allocator + Clone>(
+    set: &mut PrefixSet<Key, A>,
+    heap: &Heap,
+    which: u8,
+    count: usize,
+) -> bool {
     for passed in 0..MANY {
         heap.refuse(passed, 1);
         let answer = called(set, heap, which);
@@ -83,15 +94,20 @@ fn is_refused_in_turn(set: &mut Set<'_>, heap: &Heap, which: u8, count: usize) -
 }
 
 /// Whether insertions, copies and sets of prefixes are so refused.
-fn are_refused<'a>(set: &mut Set<'a>, heap: &'a Heap) -> bool {
+fn are_refused<A: Allocator + Clone>(set: &mut PrefixSet<Key, A>, heap: &Heap) -> bool {
     is_refused_in_turn(set, heap, 0, 1)
-        && is_refused_in_turn(set, heap, 1, 1)
-        && is_refused_in_turn(set, heap, 2, 3)
+        & is_refused_in_turn(set, heap, 1, 1)
+        & is_refused_in_turn(set, heap, 2, 3)
+}
+
+/// The same of a new set.
+fn are_refused_anew(heap: &Heap) -> Result<bool, Refusal> {
+    let mut set = PrefixSet::new(heap)?;
+    Ok(are_refused::<&Heap>(&mut set, heap))
 }
 
 #[test]
-fn each_request_of_a_set_refused(rt: HostRuntime) -> Result<(), Fail> {
+fn each_request_of_a_set_refused(rt: HostRuntime) {
     let heap = Refusing::new(rt.alloc());
-    assert!(rt; on_new(PrefixSet::new(&heap), &heap, are_refused)?);
-    Ok(())
+    assert!(rt; are_refused_anew(&heap) == Ok(true));
 }

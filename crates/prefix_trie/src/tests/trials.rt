@@ -23,6 +23,12 @@ pub enum Wrong {
     Requests,
 }
 
+impl From<Refusal> for Wrong {
+    fn from(cause: Refusal) -> Wrong {
+        Wrong::Start(cause)
+    }
+}
+
 /// The first case that does not hold.
 fn first_wrong<P: Prefix + Copy, A: Allocator + Copy>(
     heap: &Refusing<Global>,
@@ -59,16 +65,28 @@ fn plays<P: Prefix + Copy, A: Allocator + Copy>(
     }
 }
 
-/// The same of two new maps.
-fn plays_anew<P: Prefix + Copy>(
+/// The same of a map and a new one beside it.
+fn plays_beside<P: Prefix + Copy, A: Allocator + Copy>(
     heap: &Refusing<Global>,
+    alloc: A,
+    map: &mut PrefixMap<P, u64, A>,
+    table: &Table<'_, P::R>,
+    requests: (u64, u64),
+) -> Result<(), Wrong> {
+    let mut other = PrefixMap::new(alloc)?;
+    plays(heap, alloc, map, &mut other, table, requests)
+}
+
+/// The same of two new maps.
+fn plays_anew<P: Prefix + Copy, A: Allocator + Copy>(
+    heap: &Refusing<Global>,
+    alloc: A,
     table: &Table<'_, P::R>,
     requests: (u64, u64),
 ) -> Result<(), Wrong> {
     heap.refuse(0, 0);
-    let mut map = PrefixMap::new(heap).map_err(Wrong::Start)?;
-    let mut other = PrefixMap::new(heap).map_err(Wrong::Start)?;
-    plays::<P, &Refusing<Global>>(heap, heap, &mut map, &mut other, table, requests)
+    let mut map = PrefixMap::new(alloc)?;
+    plays_beside::<P, A>(heap, alloc, &mut map, table, requests)
 }
 
 /// Runs a table time and again, with another request of its second part refused each time, and at last with none.
@@ -77,7 +95,7 @@ pub fn in_turn<P: Prefix + Copy>(
     table: &Table<'_, P::R>,
 ) -> Result<(), Wrong> {
     for passed in 0..MANY {
-        plays_anew::<P>(heap, table, (passed, 1))?;
+        plays_anew::<P, &Refusing<Global>>(heap, heap, table, (passed, 1))?;
         if heap.left() == 1 {
             return if passed == 0 {
                 Err(Wrong::Requests)
@@ -94,7 +112,7 @@ pub fn without_memory<P: Prefix + Copy>(
     heap: &Refusing<Global>,
     table: &Table<'_, P::R>,
 ) -> Result<(), Wrong> {
-    plays_anew::<P>(heap, table, (0, u64::MAX))
+    plays_anew::<P, &Refusing<Global>>(heap, heap, table, (0, u64::MAX))
 }
 
 /// Runs a table with every request of its second part refused, where none comes. Those of the first are refused in turn before.
@@ -112,7 +130,7 @@ pub fn starved<P: Prefix + Copy>(
 }
 
 /// Runs tables at networks and at pairs.
-pub fn all_in_turn(heap: &Refusing<Global>, tables: &[Table<'_, u32>]) -> Result<(), Wrong> {
+fn both_in_turn(heap: &Refusing<Global>, tables: &[Table<'_, u32>]) -> Result<(), Wrong> {
     for table in tables {
         in_turn::<Ipv4Prefix>(heap, table)?;
         in_turn::<(u32, u8)>(heap, table)?;
@@ -121,10 +139,32 @@ pub fn all_in_turn(heap: &Refusing<Global>, tables: &[Table<'_, u32>]) -> Result
 }
 
 /// The same with every request refused.
-pub fn all_starved(heap: &Refusing<Global>, tables: &[Table<'_, u32>]) -> Result<(), Wrong> {
+fn both_starved(heap: &Refusing<Global>, tables: &[Table<'_, u32>]) -> Result<(), Wrong> {
     for table in tables {
         starved::<Ipv4Prefix>(heap, table)?;
         starved::<(u32, u8)>(heap, table)?;
+    }
+    Ok(())
+}
+
+/// Runs several tables so. Answers which of them goes wrong, and where.
+pub fn all_in_turn(alloc: Global, all: &[&[Table<'_, u32>]]) -> Result<(), (usize, Wrong)> {
+    let heap = Refusing::new(alloc);
+    for (number, tables) in all.iter().enumerate() {
+        if let Err(wrong) = both_in_turn(&heap, tables) {
+            return Err((number, wrong));
+        }
+    }
+    Ok(())
+}
+
+/// The same with every request refused.
+pub fn all_starved(alloc: Global, all: &[&[Table<'_, u32>]]) -> Result<(), (usize, Wrong)> {
+    let heap = Refusing::new(alloc);
+    for (number, tables) in all.iter().enumerate() {
+        if let Err(wrong) = both_starved(&heap, tables) {
+            return Err((number, wrong));
+        }
     }
     Ok(())
 }

@@ -10,10 +10,10 @@ ghost use Rattle.prefix_trie.specs.Rewriting.{OrderedIn, RewritesIn};
 
 use crate::map::{IterMut, ValuesMut};
 use crate::tests::refusing::Refusing;
+use crate::tests::stored::{has_values, stores};
 use crate::{Prefix, PrefixMap, Refusal};
 use std::alloc::{Allocator, Global};
 use std::mem;
-use std::test::Fail;
 
 // Sets the values that are still to come.
 fn set_rest<'b, 'a, P: Prefix, T: Copy, A: Allocator>(
@@ -91,15 +91,8 @@ type Numbers<A> = PrefixMap<(u8, u8), u64, A>;
 
 type Entries<'m, A> = IterMut<'m, (u8, u8), u64, A>;
 
-/// Stores three numbers.
-fn put_three<A: Allocator>(map: &mut Numbers<A>) -> bool {
-    let answers = [
-        map.insert((0x80, 1), 3),
-        map.insert((0xa5, 8), u64::MAX),
-        map.insert((0xa0, 3), 4),
-    ];
-    answers == [Ok(None), Ok(None), Ok(None)]
-}
+/// Three numbers.
+const THREE: [((u8, u8), u64); 3] = [((0x80, 1), 3), ((0xa5, 8), u64::MAX), ((0xa0, 3), 4)];
 
 /// Whether the next entry is this one, over whose value another is written.
 fn writes_next<'b, 'm, A: Allocator>(
@@ -148,29 +141,24 @@ fn are_empty<A: Allocator>(_map: &mut Numbers<A>) -> bool {
     walk.next().is_none() & walk.into_map().is_none()
 }
 
-/// Whether the values are these.
-fn has<A: Allocator>(map: &Numbers<A>, values: [u64; 3]) -> bool {
-    map.values().copied().eq(values)
-}
-
 /// Whether walks over three entries write so, with every request for memory refused, of which none comes.
 fn are_written<A: Allocator>(map: &mut Numbers<A>, heap: &Refusing<Global>) -> bool {
-    let is_put = put_three(map);
+    let is_put = stores(map, &THREE);
     heap.refuse(0, u64::MAX);
     double_all(map);
     let answers = [
         is_put,
-        has(map, [6, 8, u64::MAX - 1]),
+        has_values(map, &[6, 8, u64::MAX - 1]),
         swap_first(map, 1) == Some(((0x80, 1), 6)),
         writes_all(map),
         writes_from(map, false),
         writes_from(map, true),
         writes_below(map),
-        has(map, [10, 22, 31]),
+        has_values(map, &[10, 22, 31]),
         are_empty(map),
     ];
     set_all(map, 7);
-    (answers == [true; 9]) & has(map, [7, 7, 7]) & (heap.left() == u64::MAX)
+    (answers == [true; 9]) & has_values(map, &[7, 7, 7]) & (heap.left() == u64::MAX)
 }
 
 /// The same of a new map.
@@ -180,8 +168,7 @@ fn are_written_anew(heap: &Refusing<Global>) -> Result<bool, Refusal> {
 }
 
 #[test]
-fn values_are_written_on_the_way(rt: HostRuntime) -> Result<(), Fail> {
+fn values_are_written_on_the_way(rt: HostRuntime) {
     let heap = Refusing::new(rt.alloc());
-    assert!(rt; are_written_anew(&heap)?);
-    Ok(())
+    assert!(rt; are_written_anew(&heap) == Ok(true));
 }

@@ -248,8 +248,8 @@ pub fn writes_longest<P: Prefix + Copy, A: Allocator>(
     before: Option<Entry<P::R>>,
 ) -> bool {
     let prefix = prefix_of(at);
-    let last = before.as_ref().map(value_in);
-    let now = before.as_ref().map(pair_in).zip(Some(value));
+    let last = value_in(before);
+    let now = pair_in(before).zip(Some(value));
     let first = written_longest(map, &prefix, value);
     let second = written_longest_counted(map, &prefix, last.unwrap_or(value));
     let third = written(map.get_lpm_value_mut(&prefix), value);

@@ -6,7 +6,7 @@ use crate::{Prefix, PrefixMap, Refusal, Refused};
 use std::alloc::{Allocator, Global};
 
 /// The calls that fill an entry: of `Entry`, and of `VacantEntry`.
-#[derive(Clone, Copy, PartialEq, Eq)]
+#[derive(Clone, Copy)]
 pub enum Fill {
     OrInsert,
     OrInsertWith,
@@ -45,10 +45,7 @@ fn or_insert_with<P: Prefix, A: Allocator>(
         calls = calls.saturating_add(1);
         value
     });
-    match answer {
-        Ok(value) => (Ok(*value), calls),
-        Err(cause) => (Err((cause, value)), calls),
-    }
+    made(answer, value, calls)
 }
 
 fn insert_with<P: Prefix, A: Allocator>(
@@ -56,17 +53,29 @@ fn insert_with<P: Prefix, A: Allocator>(
     at: Pair<P::R>,
     value: u64,
 ) -> Filled {
-    let mut calls = 0_u64;
-    let Entry::Vacant(entry) = map.entry(prefix_of(at)) else {
-        return (Ok(value), 9);
-    };
-    let answer = entry.insert_with(|| {
-        calls = calls.saturating_add(1);
-        value
-    });
-    match answer {
-        Ok(value) => (Ok(*value), calls),
-        Err(cause) => (Err((cause, value)), calls),
+    match map.entry(prefix_of(at)) {
+        Entry::Vacant(entry) => {
+            let mut calls = 0_u64;
+            let answer = entry.insert_with(|| {
+                calls = calls.saturating_add(1);
+                value
+            });
+            made(answer, value, calls)
+        }
+        Entry::Occupied(_) => (Ok(value), 9),
+    }
+}
+
+fn filled_vacant<P: Prefix, A: Allocator>(
+    map: &mut PrefixMap<P, u64, A>,
+    fill: Fill,
+    at: Pair<P::R>,
+    value: u64,
+) -> Filled {
+    match (map.entry(prefix_of(at)), fill) {
+        (Entry::Vacant(entry), Fill::Insert) => handed(entry.insert(value)),
+        (Entry::Vacant(entry), _) => made(entry.default(), value, 0),
+        (Entry::Occupied(_), _) => (Ok(value), 9),
     }
 }
 
@@ -82,19 +91,6 @@ fn filled<P: Prefix, A: Allocator>(
         Fill::OrDefault => made(map.entry(prefix_of(at)).or_default(), value, 0),
         Fill::InsertWith => insert_with(map, at, value),
         _ => filled_vacant(map, fill, at, value),
-    }
-}
-
-fn filled_vacant<P: Prefix, A: Allocator>(
-    map: &mut PrefixMap<P, u64, A>,
-    fill: Fill,
-    at: Pair<P::R>,
-    value: u64,
-) -> Filled {
-    match map.entry(prefix_of(at)) {
-        Entry::Vacant(entry) if fill == Fill::Insert => handed(entry.insert(value)),
-        Entry::Vacant(entry) => made(entry.default(), value, 0),
-        Entry::Occupied(_) => (Ok(value), 9),
     }
 }
 
@@ -121,9 +117,10 @@ pub fn fills<P: Prefix, A: Allocator>(
     if heap.left() == left {
         return answer == (Ok(value), calls_of(fill));
     }
-    answer == (Err((Refusal::Memory, value)), 0)
-        && (map.len(), map.node_count()) == old
-        && filled(map, fill, at, value) == (Ok(value), calls_of(fill))
+    let is_unchanged = (map.len(), map.node_count()) == old;
+    is_unchanged
+        & (answer == (Err((Refusal::Memory, value)), 0))
+        & (filled(map, fill, at, value) == (Ok(value), calls_of(fill)))
 }
 
 /// Takes a stored value out by its entry.
@@ -146,14 +143,19 @@ pub fn changes<P: Prefix, A: Allocator>(
     before: u64,
 ) -> bool {
     let more = before.saturating_add(1);
-    map.entry(prefix_of(at)).get().copied() == Some(before)
-        && handed(
-            map.entry(prefix_of(at))
-                .and_modify(|n| *n = n.saturating_add(1))
-                .or_insert(0),
-        ) == (Ok(more), 0)
-        && sets(map, at, value) == Some(more)
-        && writes_in(map, at) == Some(value)
+    let stored = map.entry(prefix_of(at)).get().copied();
+    (stored == Some(before))
+        & (adds_one(map, at) == (Ok(more), 0))
+        & (sets(map, at, value) == Some(more))
+        & (writes_in(map, at) == Some(value))
+}
+
+fn adds_one<P: Prefix, A: Allocator>(map: &mut PrefixMap<P, u64, A>, at: Pair<P::R>) -> Filled {
+    handed(
+        map.entry(prefix_of(at))
+            .and_modify(|n| *n = n.saturating_add(1))
+            .or_insert(0),
+    )
 }
 
 fn sets<P: Prefix, A: Allocator>(

@@ -43,61 +43,48 @@ pub fn gives_same<P: Prefix + Copy, A: Allocator>(
     other.next().is_none()
 }
 
-/// Whether a walk gives the prefixes of these entries.
-fn gives_keys<P: Prefix + Copy, A: Allocator>(
-    mut keys: Keys<'_, P, u64, A>,
-    entries: &[Entry<P::R>],
+/// Whether this entry, its prefix and its value are an entry of a table.
+fn are_parts<P: Prefix + Copy>(
+    item: Option<(P, &u64)>,
+    key: Option<P>,
+    value: Option<&u64>,
+    entry: &Entry<P::R>,
 ) -> bool {
-    for entry in entries {
-        if found_pair(keys.next()) != Some(entry.0) {
-            return false;
-        }
-    }
-    keys.next().is_none()
+    (shown(item), found_pair(key), value.copied()) == (Some(*entry), Some(entry.0), Some(entry.1))
 }
 
-/// Whether a walk gives the values of these entries.
-fn gives_values<P: Prefix + Copy, A: Allocator>(
+/// Whether three walks give these entries, their prefixes and their values.
+fn give_all<P: Prefix + Copy, A: Allocator>(
+    mut items: Iter<'_, P, u64, A>,
+    mut keys: Keys<'_, P, u64, A>,
     mut values: Values<'_, P, u64, A>,
     entries: &[Entry<P::R>],
 ) -> bool {
     for entry in entries {
-        if values.next().copied() != Some(entry.1) {
+        if !are_parts(items.next(), keys.next(), values.next(), entry) {
             return false;
         }
     }
-    values.next().is_none()
+    items.next().is_none() & keys.next().is_none() & values.next().is_none()
 }
 
-/// Whether a walk gives these entries, and a clone of it those behind the first.
-fn gives_twice<P: Prefix + Copy, A: Allocator>(
-    mut walk: Iter<'_, P, u64, A>,
-    entries: &[Entry<P::R>],
-) -> bool {
-    let rest = &entries[entries.len().min(1)..];
-    (shown(walk.next()) == entries.first().copied()) & gives(walk.clone(), rest) & gives(walk, rest)
-}
-
-/// The same of their prefixes.
-fn gives_keys_twice<P: Prefix + Copy, A: Allocator>(
+/// Whether three walks are at these entries, and clones of them give the same behind the first as they do.
+fn give_twice<P: Prefix + Copy, A: Allocator>(
+    mut items: Iter<'_, P, u64, A>,
     mut keys: Keys<'_, P, u64, A>,
-    entries: &[Entry<P::R>],
-) -> bool {
-    let rest = &entries[entries.len().min(1)..];
-    (found_pair(keys.next()) == entries.first().map(pair_in))
-        & gives_keys(keys.clone(), rest)
-        & gives_keys(keys, rest)
-}
-
-/// The same of their values.
-fn gives_values_twice<P: Prefix + Copy, A: Allocator>(
     mut values: Values<'_, P, u64, A>,
     entries: &[Entry<P::R>],
 ) -> bool {
+    let first = (
+        shown(items.next()),
+        found_pair(keys.next()),
+        values.next().copied(),
+    );
+    let entry = entries.first().copied();
     let rest = &entries[entries.len().min(1)..];
-    (values.next().copied() == entries.first().map(value_in))
-        & gives_values(values.clone(), rest)
-        & gives_values(values, rest)
+    (first == (entry, pair_in(entry), value_in(entry)))
+        & give_all(items.clone(), keys.clone(), values.clone(), rest)
+        & give_all(items, keys, values, rest)
 }
 
 /// Whether there are these entries, and all walks give them.
@@ -107,9 +94,7 @@ pub fn lists<P: Prefix + Copy, A: Allocator>(
 ) -> bool {
     (map.len() == entries.len())
         & gives(map.into_iter(), entries)
-        & gives_twice(map.iter(), entries)
-        & gives_keys_twice(map.keys(), entries)
-        & gives_values_twice(map.values(), entries)
+        & give_twice(map.iter(), map.keys(), map.values(), entries)
 }
 
 /// Whether the walks around a prefix give these entries.
@@ -123,8 +108,7 @@ pub fn covers<P: Prefix + Copy, A: Allocator>(
     let mut keys = map.cover_keys(&prefix);
     let mut values = map.cover_values(&prefix);
     for entry in expected {
-        let parts = (found_pair(keys.next()), values.next().copied());
-        if (shown(entries.next()), parts) != (Some(*entry), (Some(entry.0), Some(entry.1))) {
+        if !are_parts(entries.next(), keys.next(), values.next(), entry) {
             return false;
         }
     }

@@ -26,13 +26,34 @@ pub fn shown<P: Prefix + Copy>(found: Option<(P, &u64)>) -> Option<Entry<P::R>> 
 }
 
 /// The pair of an entry.
-pub fn pair_in<K: Copy>(entry: &Entry<K>) -> Pair<K> {
-    entry.0
+pub fn pair_in<K: Copy>(entry: Option<Entry<K>>) -> Option<Pair<K>> {
+    match entry {
+        Some((pair, _)) => Some(pair),
+        None => None,
+    }
 }
 
 /// The value of an entry.
-pub fn value_in<K: Copy>(entry: &Entry<K>) -> u64 {
-    entry.1
+pub fn value_in<K: Copy>(entry: Option<Entry<K>>) -> Option<u64> {
+    match entry {
+        Some((_, value)) => Some(value),
+        None => None,
+    }
+}
+
+/// Whether this entry was found.
+fn is_found<P: Prefix + Copy>(found: Option<(P, &u64)>, wanted: Option<Entry<P::R>>) -> bool {
+    shown(found) == wanted
+}
+
+/// Whether the prefix of this pair was found.
+fn is_found_pair<P: Prefix + Copy>(found: Option<P>, wanted: Option<Pair<P::R>>) -> bool {
+    found_pair(found) == wanted
+}
+
+/// Whether this value was found.
+fn is_found_value(found: Option<&u64>, wanted: Option<u64>) -> bool {
+    found.copied() == wanted
 }
 
 /// Whether the lookups of exactly a prefix answer so.
@@ -43,9 +64,9 @@ fn has<P: Prefix + Copy, A: Allocator>(
 ) -> bool
     requires { P.IsFitting prefix.now }
 {
-    (shown(map.get_key_value(prefix)) == exact)
-        & (shown(map.get_key_value_counted(prefix).0) == exact)
-        & has_value(map, prefix, exact.as_ref().map(value_in))
+    is_found(map.get_key_value(prefix), exact)
+        & is_found(map.get_key_value_counted(prefix).0, exact)
+        & has_value(map, prefix, value_in(exact))
 }
 
 /// Whether those of its value do.
@@ -56,8 +77,8 @@ fn has_value<P: Prefix + Copy, A: Allocator>(
 ) -> bool
     requires { P.IsFitting prefix.now }
 {
-    (map.get(prefix).copied() == value)
-        & (map.get_counted(prefix).0.copied() == value)
+    is_found_value(map.get(prefix), value)
+        & is_found_value(map.get_counted(prefix).0, value)
         & (map.contains_key(prefix) == value.is_some())
         & (map.contains_key_counted(prefix).0 == value.is_some())
 }
@@ -70,21 +91,10 @@ fn has_longest<P: Prefix + Copy, A: Allocator>(
 ) -> bool
     requires { P.IsFitting prefix.now }
 {
-    (shown(map.get_lpm(prefix)) == longest)
-        & (shown(map.get_lpm_counted(prefix).0) == longest)
-        & has_longest_prefix(map, prefix, longest.as_ref().map(pair_in))
-}
-
-/// Whether those of its prefix do.
-fn has_longest_prefix<P: Prefix + Copy, A: Allocator>(
-    map: &PrefixMap<P, u64, A>,
-    prefix: &P,
-    pair: Option<Pair<P::R>>,
-) -> bool
-    requires { P.IsFitting prefix.now }
-{
-    (found_pair(map.get_lpm_prefix(prefix)) == pair)
-        & (found_pair(map.get_lpm_prefix_counted(prefix).0) == pair)
+    is_found(map.get_lpm(prefix), longest)
+        & is_found(map.get_lpm_counted(prefix).0, longest)
+        & is_found_pair(map.get_lpm_prefix(prefix), pair_in(longest))
+        & is_found_pair(map.get_lpm_prefix_counted(prefix).0, pair_in(longest))
 }
 
 /// Whether the lookups of the shortest match answer so.
@@ -95,9 +105,9 @@ fn has_shortest<P: Prefix + Copy, A: Allocator>(
 ) -> bool
     requires { P.IsFitting prefix.now }
 {
-    (shown(map.get_spm(prefix)) == shortest)
-        & (shown(map.get_spm_counted(prefix).0) == shortest)
-        & has_shortest_prefix(map, prefix, shortest.as_ref().map(pair_in))
+    is_found(map.get_spm(prefix), shortest)
+        & is_found(map.get_spm_counted(prefix).0, shortest)
+        & has_shortest_prefix(map, prefix, pair_in(shortest))
 }
 
 /// Whether those of its prefix do.
@@ -108,8 +118,8 @@ fn has_shortest_prefix<P: Prefix + Copy, A: Allocator>(
 ) -> bool
     requires { P.IsFitting prefix.now }
 {
-    (found_pair(map.get_spm_prefix(prefix)) == pair)
-        & (found_pair(map.get_spm_prefix_counted(prefix).0) == pair)
+    is_found_pair(map.get_spm_prefix(prefix), pair)
+        & is_found_pair(map.get_spm_prefix_counted(prefix).0, pair)
         & (map.is_covered(prefix) == pair.is_some())
         & (map.is_covered_counted(prefix).0 == pair.is_some())
 }

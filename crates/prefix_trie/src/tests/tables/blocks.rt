@@ -5,8 +5,7 @@ use crate::tests::cases::Case::{
 };
 use crate::tests::cases::Entry;
 use crate::tests::refusing::Refusing;
-use crate::tests::trials::{Table, all_starved, in_turn, starved};
-use std::test::Fail;
+use crate::tests::trials::{Table, in_turn, starved};
 
 /// The first 24 of all pairs of at most four bits, which stand in a block of 24 once the other seven are gone.
 const LEFT: [Entry<u8>; 24] = [
@@ -109,10 +108,9 @@ const FREE: Table<'static, u8> = (
 );
 
 #[test]
-fn a_free_block_grants_an_insertion(rt: HostRuntime) -> Result<(), Fail> {
+fn a_free_block_grants_an_insertion(rt: HostRuntime) {
     let heap = Refusing::new(rt.alloc());
-    starved::<(u8, u8)>(&heap, &FREE)?;
-    Ok(())
+    assert_eq!(rt; starved::<(u8, u8)>(&heap, &FREE), Ok(()));
 }
 
 /// Once the root has one value, no block of one is free, and the limit has room for another: a removal that takes only free blocks
@@ -132,10 +130,9 @@ const MADE: Table<'static, u8> = (
 );
 
 #[test]
-fn removal_steps_down_not_only_onto_free_blocks(rt: HostRuntime) -> Result<(), Fail> {
+fn removal_steps_down_not_only_onto_free_blocks(rt: HostRuntime) {
     let heap = Refusing::new(rt.alloc());
-    in_turn::<(u8, u8)>(&heap, &MADE)?;
-    Ok(())
+    assert_eq!(rt; in_turn::<(u8, u8)>(&heap, &MADE), Ok(()));
 }
 
 /// Five networks, each in the one before it.
@@ -156,82 +153,75 @@ const PUT_FIVE: [Case<u32>; 5] = [
     Inserts((0, 1), 1, None),
 ];
 
-const QUESTIONS: [Table<'static, u32>; 1] = [(
-    &PUT_FIVE,
-    &[
-        Len(5),
-        Nodes(7),
-        Slots(7, 6),
-        NodeBlocks(1, 6, 0),
-        CellBlocks(1, 3, 1),
-        CellBlocks(2, 1, 0),
-        Lists(&FIVE),
-        Covers((0x0a01_0101, 32), &FIVE),
-        Finds(
-            (0x0a01_0101, 32),
-            Some(((0x0a01_0101, 32), 32)),
-            Some(((0x0a01_0101, 32), 32)),
-            Some(((0, 0), 0)),
-        ),
-        Finds(
-            (0x0a01_0100, 24),
-            Some(((0x0a01_0100, 24), 24)),
-            Some(((0x0a01_0100, 24), 24)),
-            Some(((0, 0), 0)),
-        ),
-        Finds(
-            (0x0a01_0200, 24),
-            None,
-            Some(((0x0a00_0000, 8), 8)),
-            Some(((0, 0), 0)),
-        ),
-        Finds((0x0b00_0000, 8), None, Some(((0, 1), 1)), Some(((0, 0), 0))),
-        Finds((0xff00_0000, 8), None, Some(((0, 0), 0)), Some(((0, 0), 0))),
-        Writes((0x0a01_0101, 32), 32, Some(32)),
-        Writes((0x0a01_0200, 24), 9, None),
-        WritesLongest((0x0a01_0101, 32), 32, Some(((0x0a01_0101, 32), 32))),
-        WritesLongest((0x0a01_0100, 24), 24, Some(((0x0a01_0100, 24), 24))),
-        WritesLongest((0x0a01_0200, 24), 8, Some(((0x0a00_0000, 8), 8))),
-        WritesLongest((0x0b00_0000, 8), 1, Some(((0, 1), 1))),
-        WritesLongest((0xff00_0000, 8), 0, Some(((0, 0), 0))),
-    ],
-)];
-
-/// A host and a half of all addresses go and come, and then all are taken out. The root's second value moves the first to the free
-/// block of one and back.
-const CHANGES: [Table<'static, u32>; 1] = [(
-    &PUT_FIVE,
-    &[
-        Inserts((0x0a01_0101, 32), 99, Some(32)),
-        Removes((0x0a01_0101, 32), Some(99)),
-        Inserts((0x0a01_0101, 32), 32, None),
-        Empties((0x0a01_0101, 32), Some(32)),
-        Removes((0x0a01_0101, 32), None),
-        Inserts((0x0a01_0101, 32), 32, None),
-        Inserts((0, 1), 99, Some(1)),
-        Removes((0, 1), Some(99)),
-        Inserts((0, 1), 1, None),
-        Empties((0, 1), Some(1)),
-        Removes((0, 1), None),
-        Inserts((0, 1), 1, None),
-        Nodes(7),
-        Slots(7, 6),
-        NodeBlocks(1, 6, 0),
-        CellBlocks(1, 3, 1),
-        CellBlocks(2, 1, 0),
-        Lists(&FIVE),
-        Covers((0x0a01_0101, 32), &FIVE),
-        RemovesChildren((0x0a00_0000, 8)),
-        Len(2),
-        Clears,
-        Slots(1, 0),
-    ],
-)];
-
-#[test]
-fn questions_and_changes_among_free_blocks_ask_for_no_memory(rt: HostRuntime) -> Result<(), Fail> {
-    let heap = Refusing::new(rt.alloc());
-    all_starved(&heap, &QUESTIONS)?;
-    all_starved(&heap, &CHANGES)?;
-    Ok(())
-}
+pub const AMONG_FREE: [Table<'static, u32>; 2] = [
+    (
+        &PUT_FIVE,
+        &[
+            Len(5),
+            Nodes(7),
+            Slots(7, 6),
+            NodeBlocks(1, 6, 0),
+            CellBlocks(1, 3, 1),
+            CellBlocks(2, 1, 0),
+            Lists(&FIVE),
+            Covers((0x0a01_0101, 32), &FIVE),
+            Finds(
+                (0x0a01_0101, 32),
+                Some(((0x0a01_0101, 32), 32)),
+                Some(((0x0a01_0101, 32), 32)),
+                Some(((0, 0), 0)),
+            ),
+            Finds(
+                (0x0a01_0100, 24),
+                Some(((0x0a01_0100, 24), 24)),
+                Some(((0x0a01_0100, 24), 24)),
+                Some(((0, 0), 0)),
+            ),
+            Finds(
+                (0x0a01_0200, 24),
+                None,
+                Some(((0x0a00_0000, 8), 8)),
+                Some(((0, 0), 0)),
+            ),
+            Finds((0x0b00_0000, 8), None, Some(((0, 1), 1)), Some(((0, 0), 0))),
+            Finds((0xff00_0000, 8), None, Some(((0, 0), 0)), Some(((0, 0), 0))),
+            Writes((0x0a01_0101, 32), 32, Some(32)),
+            Writes((0x0a01_0200, 24), 9, None),
+            WritesLongest((0x0a01_0101, 32), 32, Some(((0x0a01_0101, 32), 32))),
+            WritesLongest((0x0a01_0100, 24), 24, Some(((0x0a01_0100, 24), 24))),
+            WritesLongest((0x0a01_0200, 24), 8, Some(((0x0a00_0000, 8), 8))),
+            WritesLongest((0x0b00_0000, 8), 1, Some(((0, 1), 1))),
+            WritesLongest((0xff00_0000, 8), 0, Some(((0, 0), 0))),
+        ],
+    ),
+    // A host and a half of all addresses go and come, and then all are taken out. The root's second value moves the first to the free
+    // block of one and back.
+    (
+        &PUT_FIVE,
+        &[
+            Inserts((0x0a01_0101, 32), 99, Some(32)),
+            Removes((0x0a01_0101, 32), Some(99)),
+            Inserts((0x0a01_0101, 32), 32, None),
+            Empties((0x0a01_0101, 32), Some(32)),
+            Removes((0x0a01_0101, 32), None),
+            Inserts((0x0a01_0101, 32), 32, None),
+            Inserts((0, 1), 99, Some(1)),
+            Removes((0, 1), Some(99)),
+            Inserts((0, 1), 1, None),
+            Empties((0, 1), Some(1)),
+            Removes((0, 1), None),
+            Inserts((0, 1), 1, None),
+            Nodes(7),
+            Slots(7, 6),
+            NodeBlocks(1, 6, 0),
+            CellBlocks(1, 3, 1),
+            CellBlocks(2, 1, 0),
+            Lists(&FIVE),
+            Covers((0x0a01_0101, 32), &FIVE),
+            RemovesChildren((0x0a00_0000, 8)),
+            Len(2),
+            Clears,
+            Slots(1, 0),
+        ],
+    ),
+];

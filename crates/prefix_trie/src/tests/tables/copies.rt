@@ -3,14 +3,12 @@ use crate::tests::cases::Case::{
     Clears, Copies, Finds, Inserts, Lists, Nodes, Removes, Same, Turns,
 };
 use crate::tests::cases::Entry;
-use crate::tests::refusing::Refusing;
-use crate::tests::trials::{Table, all_in_turn, all_starved};
-use std::test::Fail;
+use crate::tests::trials::Table;
 
 const TWO: [Entry<u32>; 2] = [((0x0a00_0000, 8), 8), ((0x0a01_0000, 16), 16)];
 
 /// Two networks, with free blocks in both arrays. The copy changes and the source does not, and the other way round.
-const APART: [Table<'static, u32>; 1] = [(
+pub const APART: [Table<'static, u32>; 1] = [(
     &[],
     &[
         Inserts((0x0a00_0000, 8), 8, None),
@@ -44,15 +42,8 @@ const APART: [Table<'static, u32>; 1] = [(
     ],
 )];
 
-#[test]
-fn a_copy_and_its_source_share_nothing(rt: HostRuntime) -> Result<(), Fail> {
-    let heap = Refusing::new(rt.alloc());
-    all_in_turn(&heap, &APART)?;
-    Ok(())
-}
-
 /// A network goes into the blocks that a removed one left, and out again.
-const FREE: [Table<'static, u32>; 1] = [(
+pub const FREE: [Table<'static, u32>; 1] = [(
     &[
         Inserts((0x0a00_0000, 8), 8, None),
         Inserts((0x0a01_0000, 16), 16, None),
@@ -70,10 +61,3 @@ const FREE: [Table<'static, u32>; 1] = [(
         Lists(&TWO),
     ],
 )];
-
-#[test]
-fn a_copy_has_the_free_blocks(rt: HostRuntime) -> Result<(), Fail> {
-    let heap = Refusing::new(rt.alloc());
-    all_starved(&heap, &FREE)?;
-    Ok(())
-}

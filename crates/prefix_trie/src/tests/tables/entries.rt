@@ -3,12 +3,10 @@ use crate::tests::cases::Case::{ChangesEntry, Fills, Inserts, Len, Lists, Nodes,
 use crate::tests::cases::filling::Fill::{
     Default, Insert, InsertWith, OrDefault, OrInsert, OrInsertWith,
 };
-use crate::tests::refusing::Refusing;
-use crate::tests::trials::{Table, all_in_turn, all_starved};
-use std::test::Fail;
+use crate::tests::trials::Table;
 
 /// A host's seven nodes, by each call that fills an entry; and a value more in a full block.
-const FILLINGS: [Table<'static, u32>; 7] = [
+pub const ENTRIES: [Table<'static, u32>; 8] = [
     (&[], &[Fills(OrInsert, (0, 32), 9), Len(1), Nodes(7)]),
     (&[], &[Fills(OrInsertWith, (0, 32), 9), Len(1), Nodes(7)]),
     (&[], &[Fills(OrDefault, (0, 32), 0), Len(1), Nodes(7)]),
@@ -22,35 +20,26 @@ const FILLINGS: [Table<'static, u32>; 7] = [
             Lists(&[((0, 0), 0), ((0, 1), 1), ((0, 2), 2)]),
         ],
     ),
+    // Values are taken out of a node that has smaller blocks then, of which none was free.
+    (
+        &[
+            Inserts((0, 0), 0, None),
+            Inserts((0, 1), 1, None),
+            Inserts((0, 2), 2, None),
+            Inserts((0, 5), 5, None),
+            Inserts((0, 6), 6, None),
+        ],
+        &[
+            TakesOut((0, 1), 1),
+            TakesOut((0, 0), 0),
+            Lists(&[((0, 2), 2), ((0, 5), 5), ((0, 6), 6)]),
+            Nodes(2),
+        ],
+    ),
 ];
 
-/// Values are taken out of a node that has smaller blocks then, of which none was free.
-const TAKEN_OUT: [Table<'static, u32>; 1] = [(
-    &[
-        Inserts((0, 0), 0, None),
-        Inserts((0, 1), 1, None),
-        Inserts((0, 2), 2, None),
-        Inserts((0, 5), 5, None),
-        Inserts((0, 6), 6, None),
-    ],
-    &[
-        TakesOut((0, 1), 1),
-        TakesOut((0, 0), 0),
-        Lists(&[((0, 2), 2), ((0, 5), 5), ((0, 6), 6)]),
-        Nodes(2),
-    ],
-)];
-
-#[test]
-fn each_request_of_an_entry_refused(rt: HostRuntime) -> Result<(), Fail> {
-    let heap = Refusing::new(rt.alloc());
-    all_in_turn(&heap, &FILLINGS)?;
-    all_in_turn(&heap, &TAKEN_OUT)?;
-    Ok(())
-}
-
 /// A stored value is read, changed and set without memory.
-const STORED: [Table<'static, u32>; 1] = [(
+pub const STORED: [Table<'static, u32>; 1] = [(
     &[Inserts((0, 32), 1, None)],
     &[
         ChangesEntry((0, 32), 7, 1),
@@ -59,10 +48,3 @@ const STORED: [Table<'static, u32>; 1] = [(
         Nodes(7),
     ],
 )];
-
-#[test]
-fn entries_without_memory(rt: HostRuntime) -> Result<(), Fail> {
-    let heap = Refusing::new(rt.alloc());
-    all_starved(&heap, &STORED)?;
-    Ok(())
-}

@@ -1,24 +1,15 @@
 //! New maps, insertions and limits, with each request for memory refused in turn.
 use crate::tests::cases::Case::{Inserts, Len, Lists, Makes, Nodes, PassesLimit};
-use crate::tests::refusing::Refusing;
-use crate::tests::trials::{Table, all_in_turn};
-use std::test::Fail;
+use crate::tests::trials::Table;
 
-const NEW: [Table<'static, u32>; 2] = [
+pub const NEW: [Table<'static, u32>; 2] = [
     (&[], &[Makes(None), Len(0), Nodes(1)]),
     (&[], &[Makes(Some(1)), Len(0), Nodes(1)]),
 ];
 
-#[test]
-fn each_request_of_a_new_map_refused(rt: HostRuntime) -> Result<(), Fail> {
-    let heap = Refusing::new(rt.alloc());
-    all_in_turn(&heap, &NEW)?;
-    Ok(())
-}
-
 /// A host's seven nodes, twice; a third value in the root, whose block of two is full; and a third child of the root, with nodes
 /// below it.
-const GROWTHS: [Table<'static, u32>; 4] = [
+pub const GROWTHS: [Table<'static, u32>; 4] = [
     (
         &[Nodes(1)],
         &[
@@ -50,15 +41,8 @@ const GROWTHS: [Table<'static, u32>; 4] = [
     ),
 ];
 
-#[test]
-fn each_request_of_an_insertion_refused(rt: HostRuntime) -> Result<(), Fail> {
-    let heap = Refusing::new(rt.alloc());
-    all_in_turn(&heap, &GROWTHS)?;
-    Ok(())
-}
-
 /// A host's way has seven nodes. The root's two values stand in a block of two, and the first stood in a block of one.
-const LIMITS: [Table<'static, u32>; 2] = [
+pub const LIMITS: [Table<'static, u32>; 2] = [
     (
         &[],
         &[
@@ -80,10 +64,3 @@ const LIMITS: [Table<'static, u32>; 2] = [
         ],
     ),
 ];
-
-#[test]
-fn at_the_limits_of_nodes_and_cells(rt: HostRuntime) -> Result<(), Fail> {
-    let heap = Refusing::new(rt.alloc());
-    all_in_turn(&heap, &LIMITS)?;
-    Ok(())
-}

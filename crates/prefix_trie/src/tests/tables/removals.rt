@@ -5,12 +5,12 @@ use crate::tests::cases::Case::{
 };
 use crate::tests::cases::Pair;
 use crate::tests::refusing::Refusing;
-use crate::tests::trials::{Table, all_in_turn, in_turn, without_memory};
+use crate::tests::trials::{Table, in_turn, without_memory};
 use std::alloc::{AllocError, Global};
 use std::test::Fail;
 
 /// An empty node that is not on the way of a removal stays, and the removal's own goes.
-const OFF_THE_WAY: [Table<'static, u32>; 1] = [(
+pub const OFF_THE_WAY: [Table<'static, u32>; 1] = [(
     &[],
     &[
         Inserts((0, 32), 1, None),
@@ -22,13 +22,6 @@ const OFF_THE_WAY: [Table<'static, u32>; 1] = [(
         Nodes(7),
     ],
 )];
-
-#[test]
-fn nodes_off_the_way_stay(rt: HostRuntime) -> Result<(), Fail> {
-    let heap = Refusing::new(rt.alloc());
-    all_in_turn(&heap, &OFF_THE_WAY)?;
-    Ok(())
-}
 
 type Cases = Vec<Case<u32>, Global>;
 
@@ -46,13 +39,17 @@ fn puts(alloc: Global, end: u32) -> Result<Cases, AllocError> {
     Ok(cases)
 }
 
-/// Takes each second of them out, from the first on. It is then not there, and that behind it is.
+/// Takes each second of them out, from the first on, and once more: it is then not there, and that behind it is.
 fn takes_even(alloc: Global, end: u32) -> Result<Cases, AllocError> {
     let mut cases = Vec::new(alloc);
-    for number in (0..end).step_by(2) {
-        let at = numbered(number);
-        cases.push(Removes(at, Some(u64::from(number))))?;
-        cases.push(Removes(at, None))?;
+    for step in 0..end.saturating_add(end % 2) {
+        let number = step - step % 2;
+        let before = if number == step {
+            Some(u64::from(number))
+        } else {
+            None
+        };
+        cases.push(Removes(numbered(number), before))?;
     }
     Ok(cases)
 }
@@ -72,24 +69,35 @@ fn has_odd(cases: &mut Cases, end: u32) -> Result<(), AllocError> {
     Ok(())
 }
 
-#[test]
-fn others_stay(rt: HostRuntime) -> Result<(), Fail> {
-    let heap = Refusing::new(rt.alloc());
-    let first = puts(rt.alloc(), 255)?;
-    let mut then = takes_even(rt.alloc(), 255)?;
-    has_odd(&mut then, 255)?;
-    in_turn::<Ipv4Prefix>(&heap, &(first.as_slice(), then.as_slice()))?;
+/// Both.
+fn takes_even_alone(alloc: Global, end: u32) -> Result<Cases, AllocError> {
+    let mut cases = takes_even(alloc, end)?;
+    has_odd(&mut cases, end)?;
+    Ok(cases)
+}
+
+/// Takes them out with each request of the removals refused in turn, or with every one refused.
+fn even_taken(alloc: Global, end: u32, is_starved: bool) -> Result<(), Fail> {
+    let heap = Refusing::new(alloc);
+    let first = puts(alloc, end)?;
+    let then = takes_even_alone(alloc, end)?;
+    let table = (first.as_slice(), then.as_slice());
+    if is_starved {
+        without_memory::<Ipv4Prefix>(&heap, &table)?;
+    } else {
+        in_turn::<Ipv4Prefix>(&heap, &table)?;
+    }
     Ok(())
 }
 
 #[test]
+fn others_stay(rt: HostRuntime) -> Result<(), Fail> {
+    even_taken(rt.alloc(), 255, false)
+}
+
+#[test]
 fn removals_need_no_memory(rt: HostRuntime) -> Result<(), Fail> {
-    let heap = Refusing::new(rt.alloc());
-    let first = puts(rt.alloc(), 50)?;
-    let mut then = takes_even(rt.alloc(), 50)?;
-    has_odd(&mut then, 50)?;
-    without_memory::<Ipv4Prefix>(&heap, &(first.as_slice(), then.as_slice()))?;
-    Ok(())
+    even_taken(rt.alloc(), 50, true)
 }
 
 /// How far apart 31 groups of five networks stand, and the networks in a group.

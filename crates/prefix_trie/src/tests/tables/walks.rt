@@ -1,14 +1,12 @@
 //! The walks of a map of networks, by the names that this crate gives them.
 use crate::map::{Iter, Keys, Values};
 use crate::tests::cases::Case::{Covers, Inserts, Lists, Writes, WritesLongest};
-use crate::tests::refusing::Refusing;
-use crate::tests::trials::{Table, all_in_turn};
+use crate::tests::trials::Table;
 use std::alloc::Global;
-use std::test::Fail;
 
 /// A neighbour of a site, an office of the site, the site and all addresses. The walks are around a host of the office, and around
 /// a network that contains the site.
-const ROUTES: [Table<'static, u32>; 1] = [(
+pub const ROUTES: [Table<'static, u32>; 1] = [(
     &[],
     &[
         Lists(&[]),
@@ -40,20 +38,13 @@ const ROUTES: [Table<'static, u32>; 1] = [(
     ],
 )];
 
-#[test]
-fn walks_over_all_and_around_one(rt: HostRuntime) -> Result<(), Fail> {
-    let heap = Refusing::new(rt.alloc());
-    all_in_turn(&heap, &ROUTES)?;
-    Ok(())
-}
-
 /// Whether walks of no map are at their end.
 fn are_over(
     mut entries: Iter<'_, (u32, u8), u64, Global>,
     mut keys: Keys<'_, (u32, u8), u64, Global>,
     mut values: Values<'_, (u32, u8), u64, Global>,
 ) -> bool {
-    entries.next().is_none() && keys.next().is_none() && values.next().is_none()
+    entries.next().is_none() & keys.next().is_none() & values.next().is_none()
 }
 
 #[test]

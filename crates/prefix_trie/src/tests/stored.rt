@@ -1,0 +1,52 @@
+//! What tests of any map have in common: entries are stored, and all keys or all values are asked for.
+use crate::{Prefix, PrefixMap, Refused};
+use std::alloc::Allocator;
+
+/// Whether an insertion was of a new key.
+pub fn is_new<T: Drop>(answer: Result<Option<T>, Refused<T>>) -> bool {
+    match answer {
+        Ok(None) => true,
+        _ => false,
+    }
+}
+
+/// Stores entries in turn. Answers whether each prefix fits and is new.
+pub fn stores<P: Prefix + Copy, T: Copy + Drop, A: Allocator>(
+    map: &mut PrefixMap<P, T, A>,
+    entries: &[(P, T)],
+) -> bool {
+    for (prefix, value) in entries {
+        if !prefix.fits() || !is_new(map.insert(*prefix, *value)) {
+            return false;
+        }
+    }
+    true
+}
+
+/// Whether all prefixes are these, in listing order.
+pub fn has_keys<P: Prefix + Copy + PartialEq, T: Drop, A: Allocator>(
+    map: &PrefixMap<P, T, A>,
+    prefixes: &[P],
+) -> bool {
+    let mut keys = map.keys();
+    for prefix in prefixes {
+        if keys.next() != Some(*prefix) {
+            return false;
+        }
+    }
+    keys.next().is_none()
+}
+
+/// Whether all values are these, in listing order.
+pub fn has_values<P: Prefix, T: Copy + PartialEq + Drop, A: Allocator>(
+    map: &PrefixMap<P, T, A>,
+    expected: &[T],
+) -> bool {
+    let mut values = map.values();
+    for value in expected {
+        if values.next() != Some(value) {
+            return false;
+        }
+    }
+    values.next().is_none()
+}
