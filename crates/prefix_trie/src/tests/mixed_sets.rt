@@ -23,30 +23,6 @@ fn finds_alike(map: &Map, set: &Set, which: u64, asked: Key) -> bool
     }
 }
 
-/// Whether both list the same keys.
-fn list_alike(map: &Map, set: &Set) -> bool {
-    let mut keys = map.keys();
-    for prefix in set.iter() {
-        if keys.next() != Some(prefix) {
-            return false;
-        }
-    }
-    keys.next().is_none()
-}
-
-/// Whether the walks around a key give the same.
-fn cover_alike(map: &Map, set: &Set, asked: Key) -> bool
-    requires { asked.1 ≤ 8 }
-{
-    let mut keys = map.cover_keys(&asked);
-    for prefix in set.cover(&asked) {
-        if keys.next() != Some(prefix) {
-            return false;
-        }
-    }
-    keys.next().is_none()
-}
-
 /// Whether a question for a number or a list is answered alike.
 fn tells_alike(map: &Map, set: &Set, which: u64, asked: Key) -> bool
     requires { asked.1 ≤ 8 }
@@ -55,8 +31,8 @@ fn tells_alike(map: &Map, set: &Set, which: u64, asked: Key) -> bool
         5 => set.len() == map.len(),
         6 => set.node_count() == map.node_count(),
         7 => set.address_count() == map.address_count(),
-        8 => list_alike(map, set),
-        _ => cover_alike(map, set, asked),
+        8 => set.iter().eq(map.keys()),
+        _ => set.cover(&asked).eq(map.cover_keys(&asked)),
     }
 }
 
@@ -134,7 +110,7 @@ fn answer_alike(map: &mut Map, set: &mut Set) -> bool {
             return false;
         }
     }
-    list_alike(map, set)
+    set.iter().eq(map.keys())
 }
 
 /// Whether all calls are answered alike by a map and a new set.

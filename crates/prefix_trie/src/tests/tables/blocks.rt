@@ -153,6 +153,7 @@ const PUT_FIVE: [Case<u32>; 5] = [
     Inserts((0, 1), 1, None),
 ];
 
+/// All questions, and changes, of the five networks.
 pub const AMONG_FREE: [Table<'static, u32>; 2] = [
     (
         &PUT_FIVE,

@@ -2,6 +2,7 @@
 use crate::tests::cases::Case::{Inserts, Len, Lists, Makes, Nodes, PassesLimit};
 use crate::tests::trials::Table;
 
+/// A new map, without a limit and under one of one slot.
 pub const NEW: [Table<'static, u32>; 2] = [
     (&[], &[Makes(None), Len(0), Nodes(1)]),
     (&[], &[Makes(Some(1)), Len(0), Nodes(1)]),
