@@ -7,14 +7,18 @@ pub mod forwarding;
 pub mod inventory;
 pub mod merge;
 
-use crate::{Ipv4Prefix, PrefixMap, PrefixSet, Refusal};
+use crate::{Ipv4Prefix, Ipv6Prefix, PrefixMap, PrefixSet, Refusal};
 use access::{may_enter, reasons};
+use cache::store;
 use copy::copied;
+use delegations::{holder, record};
 use forwarding::{add, next_hop};
 use inventory::{addresses, count, next};
 use std::alloc::{AllocError, Allocator, Global};
 
 type Numbers<A> = PrefixMap<Ipv4Prefix, u32, A>;
+
+type Delegated<A> = PrefixMap<Ipv6Prefix, u32, A>;
 
 type Networks = PrefixSet<Ipv4Prefix, Global>;
 
@@ -26,7 +30,7 @@ fn is_copied<A: Allocator>(map: &Numbers<A>, alloc: Global) -> bool {
     }
 }
 
-/// Whether a network and one within it are a forwarding table, and an inventory.
+/// Whether a network and one within it are a forwarding table, an inventory and a cache.
 fn stands_for_both<A: Allocator>(map: &mut Numbers<A>, alloc: Global) -> bool {
     let wide = Ipv4Prefix::new(0x0a00_0000, 8).unwrap();
     let near = Ipv4Prefix::new(0x0a01_0000, 16).unwrap();
@@ -39,12 +43,28 @@ fn stands_for_both<A: Allocator>(map: &mut Numbers<A>, alloc: Global) -> bool {
         & (count(map, wide) == 2)
         & (addresses(map) == Some(0x0100_0000))
         & is_copied(map, alloc)
+        & (store(map, near, 3) == Ok(true))
+        & (next_hop(map, 0x0a01_0203) == Some(3))
 }
 
 /// The same of a new map.
 fn stands_for_both_anew(alloc: Global) -> Result<bool, Refusal> {
     let mut map = PrefixMap::new(alloc)?;
     Ok(stands_for_both::<Global>(&mut map, alloc))
+}
+
+/// Whether the holder of a network is found at its addresses alone.
+fn is_held<A: Allocator>(table: &mut Delegated<A>) -> bool {
+    let network = Ipv6Prefix::new(0x2001_0db8 << 96, 32).unwrap();
+    record(table, network, 7).is_ok()
+        & (holder(table, 0x2001_0db8 << 96 | 1) == Some(7))
+        & holder(table, 1).is_none()
+}
+
+/// The same of a new map.
+fn is_held_anew(alloc: Global) -> Result<bool, Refusal> {
+    let mut table = PrefixMap::new(alloc)?;
+    Ok(is_held::<Global>(&mut table))
 }
 
 /// Whether the networks that keep an address out are this one.
@@ -77,5 +97,6 @@ fn keeps_out_anew(alloc: Global) -> Result<bool, Refusal> {
 #[test]
 fn examples_run(rt: HostRuntime) {
     assert!(rt; stands_for_both_anew(rt.alloc()) == Ok(true));
+    assert!(rt; is_held_anew(rt.alloc()) == Ok(true));
     assert!(rt; keeps_out_anew(rt.alloc()) == Ok(true));
 }
