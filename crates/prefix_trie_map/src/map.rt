@@ -25,6 +25,7 @@ mod into_iter;
 mod iter;
 mod lending;
 mod lookup;
+mod parts;
 mod places;
 mod projection;
 mod removal;
@@ -36,6 +37,7 @@ mod writing;
 pub use cover::{Cover, CoverKeys, CoverValues};
 pub use into_iter::{IntoIter, IntoKeys, IntoValues};
 pub use iter::{Iter, Keys, Values};
+use parts::parts;
 use prefix_trie_bits::prefix::{Prefix, Refusal, Refused};
 pub use prefix_trie_table::allocator::block_count::BlockCount;
 use prefix_trie_table::table::Table;
@@ -135,8 +137,7 @@ impl<P: Prefix, T: Drop, A: Allocator> PrefixMap<P, T, A> {
         // the lacking ones pass the limit, and with `Memory` only where one that lacks still would not.
         ensures step { StepInStorage P.path P.back P.R.bit_width (stored self.old) (Insert prefix value) (inserted result) (stored self.new) }
     {
-        let key = prefix.repr();
-        let len = u32::from(prefix.prefix_len());
+        let (key, len) = parts(&prefix);
         self.table.insert(key, len, value, &mut Visits::new())
     }
 }

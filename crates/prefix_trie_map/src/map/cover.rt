@@ -9,6 +9,7 @@ ghost use Rattle.prefix_trie_map.specs.Walks.{lent_item};
 ghost use Rattle.prefix_trie_map.specs.Whole.{IsWhole};
 
 use crate::map::lookup::rebuilt;
+use crate::map::parts::parts;
 use crate::map::projection::{Keyed, KeysOf};
 use crate::map::{PrefixMap, Visits};
 use prefix_trie_bits::prefix::Prefix;
@@ -35,8 +36,8 @@ impl<P: Prefix, T: Drop, A: Allocator> PrefixMap<P, T, A> {
     {
         // The proof learns from it that the map is whole.
         let _ = self.len();
-        let len = u32::from(prefix.prefix_len());
-        let walk = self.table.cover(prefix.repr(), len, &mut Visits::new());
+        let (key, len) = parts(prefix);
+        let walk = self.table.cover(key, len, &mut Visits::new());
         Cover::over(walk)
     }
 

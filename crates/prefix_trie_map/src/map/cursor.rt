@@ -6,6 +6,7 @@ ghost use Rattle.prefix_trie_map.specs.Walks.{lent_item};
 ghost use Rattle.prefix_trie_map.specs.Whole.{IsWhole};
 
 use crate::map::iter::Iter;
+use crate::map::parts::parts;
 use crate::map::{PrefixMap, Visits};
 use prefix_trie_bits::prefix::Prefix;
 use std::alloc::Allocator;
@@ -34,10 +35,10 @@ impl<P: Prefix, T: Drop, A: Allocator> PrefixMap<P, T, A> {
     {
         // The proof learns from it that the number of entries fits, and that the map is whole.
         let _ = self.len();
-        let len = u32::from(prefix.prefix_len());
+        let (key, len) = parts(prefix);
         let walk = self
             .table
-            .walk_from(prefix.repr(), len, inclusive, &mut Visits::new());
+            .walk_from(key, len, inclusive, &mut Visits::new());
         Iter::over(walk)
     }
 
@@ -59,10 +60,8 @@ impl<P: Prefix, T: Drop, A: Allocator> PrefixMap<P, T, A> {
     {
         // The proof learns from it that the number of entries fits, and that the map is whole.
         let _ = self.len();
-        let len = u32::from(prefix.prefix_len());
-        let walk = self
-            .table
-            .walk_below(prefix.repr(), len, &mut Visits::new());
+        let (key, len) = parts(prefix);
+        let walk = self.table.walk_below(key, len, &mut Visits::new());
         Iter::over(walk)
     }
 }

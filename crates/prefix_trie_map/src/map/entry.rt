@@ -11,6 +11,7 @@ mod vacant;
 
 use crate::map::PrefixMap;
 use crate::map::lookup::rebuilt;
+use crate::map::parts::parts;
 pub use insertion::Put;
 use prefix_trie_bits::prefix::{Prefix, Refusal, Refused};
 use prefix_trie_table::table::seat::{Location, Seat, WayEnd};
@@ -57,7 +58,7 @@ impl<P: Prefix> Fitting<P> {
         ensures path { take result.1 (P.R.bits result.0) ≡ P.path self.now }
         ensures short { length (P.path self.now) ≤ P.R.bit_width }
     {
-        (self.prefix.repr(), u32::from(self.prefix.prefix_len()))
+        parts(&self.prefix)
     }
 
     // The prefix of the same path whose other bits are 0.

@@ -10,6 +10,7 @@ ghost use Rattle.prefix_trie_table.specs.Copies.{IsPairCloned};
 ghost use Rattle.prefix_trie_map.specs.Whole.{IsWhole};
 
 use crate::map::iter::without_host_bits;
+use crate::map::parts::parts;
 use crate::map::projection::{Keyed, KeysOf};
 use crate::map::{PrefixMap, Visits};
 use prefix_trie_bits::prefix::Prefix;
@@ -36,10 +37,8 @@ impl<P: Prefix, T: Drop, A: Allocator> PrefixMap<P, T, A> {
     {
         // The proof learns from it that the number of entries fits, and that the map is whole.
         let _ = self.len();
-        let len = u32::from(prefix.prefix_len());
-        let walk = self
-            .table
-            .into_walk_below(prefix.repr(), len, &mut Visits::new());
+        let (key, len) = parts(prefix);
+        let walk = self.table.into_walk_below(key, len, &mut Visits::new());
         IntoIter::over(walk)
     }
 

@@ -11,6 +11,7 @@ ghost use Rattle.prefix_trie_map.specs.Walks.{lent_item_mut};
 
 use crate::map::PrefixMap;
 use crate::map::lookup::rebuilt;
+use crate::map::parts::parts;
 use crate::map::visits::Visits;
 use prefix_trie_bits::prefix::Prefix;
 use std::alloc::Allocator;
@@ -56,8 +57,8 @@ impl<P: Prefix, T: Drop, A: Allocator> PrefixMap<P, T, A> {
         ensures exact { counter.new ≡ counter.old + visits self.old.nodes (P.path prefix.now) }
         ensures bound { counter.new ≤ counter.old + (length (P.path prefix.now) / 5 + 1) }
     {
-        let len = u32::from(prefix.prefix_len());
-        self.table.find_mut(prefix.repr(), len, counter)
+        let (key, len) = parts(prefix);
+        self.table.find_mut(key, len, counter)
     }
 
     /// The value of the longest stored prefix that contains this one, for writing: what `get_lpm_mut` lends, without the
@@ -122,9 +123,8 @@ impl<P: Prefix, T: Drop, A: Allocator> PrefixMap<P, T, A> {
         ensures exact { counter.new ≡ counter.old + visits self.old.nodes (P.path prefix.now) }
         ensures bound { counter.new ≤ counter.old + (length (P.path prefix.now) / 5 + 1) }
     {
-        let len = u32::from(prefix.prefix_len());
-        self.table
-            .find_longest_mut(prefix.repr(), len, found, counter)
+        let (key, len) = parts(prefix);
+        self.table.find_longest_mut(key, len, found, counter)
     }
 }
 

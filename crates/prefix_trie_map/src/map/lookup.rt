@@ -10,6 +10,7 @@ ghost use Rattle.prefix_trie_map.specs.Reads.{ReadsWay, ReadsToMatch};
 ghost use Rattle.prefix_trie_map.specs.Walks.{lent_item};
 
 use crate::map::PrefixMap;
+use crate::map::parts::parts;
 use crate::map::visits::Visits;
 use prefix_trie_bits::prefix::{Key, Prefix};
 use std::alloc::Allocator;
@@ -40,8 +41,8 @@ impl<P: Prefix, T: Drop, A: Allocator> PrefixMap<P, T, A> {
         ensures reads { ReadsWay self.now.nodes (P.path prefix.now) result.1 }
     {
         let mut visits = Visits::new();
-        let len = u32::from(prefix.prefix_len());
-        let answer = self.table.find(prefix.repr(), len, &mut visits);
+        let (key, len) = parts(prefix);
+        let answer = self.table.find(key, len, &mut visits);
         (answer, visits)
     }
 
@@ -89,11 +90,9 @@ impl<P: Prefix, T: Drop, A: Allocator> PrefixMap<P, T, A> {
         ensures reads { ReadsWay self.now.nodes (P.path prefix.now) result.1 }
     {
         let (value, visits) = self.get_counted(prefix);
+        let (key, len) = parts(prefix);
         let pair = match value {
-            Some(value) => Some((
-                rebuilt(prefix.repr(), u32::from(prefix.prefix_len())),
-                value,
-            )),
+            Some(value) => Some((rebuilt(key, len), value)),
             None => None,
         };
         (pair, visits)
@@ -124,8 +123,7 @@ impl<P: Prefix, T: Drop, A: Allocator> PrefixMap<P, T, A> {
         ensures reads { ReadsWay self.now.nodes (P.path prefix.now) result.1 }
     {
         let mut visits = Visits::new();
-        let key = prefix.repr();
-        let len = u32::from(prefix.prefix_len());
+        let (key, len) = parts(prefix);
         let longest = self.table.find_longest(key, len, &mut visits);
         (rebuilt_match(key, longest), visits)
     }
@@ -142,10 +140,8 @@ impl<P: Prefix, T: Drop, A: Allocator> PrefixMap<P, T, A> {
         requires { P.IsFitting prefix.now }
         ensures { option_copied result ≡ option_map (λ found. found.1) (longest_match self.now.entries (P.path prefix.now)) }
     {
-        let len = u32::from(prefix.prefix_len());
-        let longest = self
-            .table
-            .find_longest(prefix.repr(), len, &mut Visits::new());
+        let (key, len) = parts(prefix);
+        let longest = self.table.find_longest(key, len, &mut Visits::new());
         value_of(longest)
     }
 
@@ -188,8 +184,7 @@ impl<P: Prefix, T: Drop, A: Allocator> PrefixMap<P, T, A> {
         ensures reads { ReadsToMatch self.now.entries self.now.nodes (P.path prefix.now) result.1 }
     {
         let mut visits = Visits::new();
-        let key = prefix.repr();
-        let len = u32::from(prefix.prefix_len());
+        let (key, len) = parts(prefix);
         let shortest = self.table.find_shortest(key, len, &mut visits);
         (rebuilt_match(key, shortest), visits)
     }

@@ -12,6 +12,7 @@ ghost use Rattle.prefix_trie_table.specs.Locations.{seat_of, IsWayEnd, IsLocatio
 ghost use Rattle.prefix_trie_map.specs.Steps.{state, storage, stored};
 ghost use Rattle.prefix_trie_map.specs.Whole.{IsWhole};
 
+use crate::map::parts::parts;
 use crate::map::{PrefixMap, Visits};
 use prefix_trie_bits::prefix::{Prefix, Refusal, Refused};
 use prefix_trie_table::table::seat::{Location, Seat, WayEnd};
@@ -28,8 +29,8 @@ impl<P: Prefix, T: Drop, A: Allocator> PrefixMap<P, T, A> {
         requires { P.IsFitting prefix.now }
         ensures { IsLocation self.now (P.path prefix.now) result }
     {
-        let len = u32::from(prefix.prefix_len());
-        self.table.locate(prefix.repr(), len, &mut Visits::new())
+        let (key, len) = parts(prefix);
+        self.table.locate(key, len, &mut Visits::new())
     }
 
     // The value of a prefix, where it stands.
@@ -39,8 +40,8 @@ impl<P: Prefix, T: Drop, A: Allocator> PrefixMap<P, T, A> {
         requires seat { seat_of self.now.build (P.path prefix.now) ≡ Some seat }
         ensures { get self.now.entries (P.path prefix.now) ≡ Some result.now }
     {
-        let len = u32::from(prefix.prefix_len());
-        self.table.at(prefix.repr(), len, seat)
+        let (key, len) = parts(prefix);
+        self.table.at(key, len, seat)
     }
 
     // The value at the first bits of a key, where it stands, for writing.
@@ -85,8 +86,8 @@ impl<P: Prefix, T: Drop, A: Allocator> PrefixMap<P, T, A> {
         ensures readies { OnOk result (ReadiesInStorage (state self.old) (P.path prefix.now) (storage self.old) (storage self.new)) }
         ensures refuses { IfErr result (λ cause. (value : T) → StepInStorage P.path P.back P.R.bit_width (stored self.old) (Insert prefix.now value) (Refuses cause) (stored self.new)) }
     {
-        let len = u32::from(prefix.prefix_len());
-        self.table.make_room(prefix.repr(), len, end)
+        let (key, len) = parts(prefix);
+        self.table.make_room(key, len, end)
     }
 
     // Inserts a new prefix, whose way ends here, and answers where its value stands.
@@ -103,8 +104,8 @@ impl<P: Prefix, T: Drop, A: Allocator> PrefixMap<P, T, A> {
         ensures step { OnOk result (StepInStorage P.path P.back P.R.bit_width (stored self.old) (Insert prefix.now value) (Value None) (stored self.new)) }
         ensures refuses { IfErr result (λ refused. (other : T) → StepInStorage P.path P.back P.R.bit_width (stored self.old) (Insert prefix.now other) (Refuses refused.cause) (stored self.new)) }
     {
-        let len = u32::from(prefix.prefix_len());
-        self.table.place(prefix.repr(), len, end, value)
+        let (key, len) = parts(prefix);
+        self.table.place(key, len, end, value)
     }
 
     // The same where no block lacks, which is not refused.

@@ -7,6 +7,7 @@ ghost use Rattle.prefix_trie_bits.specs.Model.Step.{Remove, RemoveKeepTree, Remo
 ghost use Rattle.prefix_trie_bits.specs.Model.Storage.{StepInStorage};
 ghost use Rattle.prefix_trie_map.specs.Steps.{stored};
 
+use crate::map::parts::parts;
 use crate::map::{PrefixMap, Visits};
 use prefix_trie_bits::prefix::Prefix;
 use std::alloc::Allocator;
@@ -32,8 +33,7 @@ impl<P: Prefix, T: Drop, A: Allocator> PrefixMap<P, T, A> {
         // made only where none of its size was free.
         ensures step { StepInStorage P.path P.back P.R.bit_width (stored self.old) (Remove prefix.now) (Value result) (stored self.new) }
     {
-        let key = prefix.repr();
-        let len = u32::from(prefix.prefix_len());
+        let (key, len) = parts(prefix);
         self.table.remove(key, len, &mut Visits::new())
     }
 
@@ -55,8 +55,7 @@ impl<P: Prefix, T: Drop, A: Allocator> PrefixMap<P, T, A> {
         // It is a step of the model, of the storage too. The array of nodes is as it was.
         ensures step { StepInStorage P.path P.back P.R.bit_width (stored self.old) (RemoveKeepTree prefix.now) (Value result) (stored self.new) }
     {
-        let key = prefix.repr();
-        let len = u32::from(prefix.prefix_len());
+        let (key, len) = parts(prefix);
         self.table.remove_keep_tree(key, len, &mut Visits::new())
     }
 
@@ -81,8 +80,7 @@ impl<P: Prefix, T: Drop, A: Allocator> PrefixMap<P, T, A> {
         // It is a step of the model, of the storage too. No slots go, but at length 0.
         ensures step { StepInStorage P.path P.back P.R.bit_width (stored self.old) (RemoveChildren prefix.now) Done (stored self.new) }
     {
-        let key = prefix.repr();
-        let len = u32::from(prefix.prefix_len());
+        let (key, len) = parts(prefix);
         self.table.remove_children(key, len, &mut Visits::new());
     }
 

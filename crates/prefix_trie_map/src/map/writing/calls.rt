@@ -4,6 +4,7 @@ ghost use Rattle.prefix_trie_bits.specs.Model.Selections.{listing, listing_from,
 ghost use Rattle.prefix_trie_table.specs.Walking.Cursors.{selected};
 ghost use Rattle.prefix_trie_map.specs.Whole.{IsWhole};
 
+use crate::map::parts::parts;
 use crate::map::writing::{Course, IterMut, ValuesMut, ValuesOf, WalkOf};
 use crate::map::{PrefixMap, Visits};
 use prefix_trie_bits::prefix::{Key, Prefix};
@@ -46,7 +47,8 @@ impl<P: Prefix, T: Drop, A: Allocator> PrefixMap<P, T, A> {
         ensures whole { IsWhole P.R.bit_width self.old }
     {
         let from = if inclusive { Start::At } else { Start::After };
-        self.write_from(prefix.repr(), u32::from(prefix.prefix_len()), from)
+        let (key, len) = parts(prefix);
+        self.write_from(key, len, from)
     }
 
     /// The entries that `children` gives, with their values lent for writing.
@@ -61,7 +63,8 @@ impl<P: Prefix, T: Drop, A: Allocator> PrefixMap<P, T, A> {
         ensures starts { StartsIn self.entry (listing_below self.old.entries (P.path prefix.now)) result.course }
         ensures whole { IsWhole P.R.bit_width self.old }
     {
-        self.write_from(prefix.repr(), u32::from(prefix.prefix_len()), Start::Below)
+        let (key, len) = parts(prefix);
+        self.write_from(key, len, Start::Below)
     }
 
     /// The values, as `values` gives them, lent for writing, each until the next call.

@@ -1,6 +1,5 @@
 use Rattle.std.proofs.Common.{rules, length, ap, ◌∙◌, arith}
 use Rattle.std.proofs.lemmas.List.{length-map}
-use Rattle.prefix_trie_bits.specs.Keys.{path_within}
 use Rattle.prefix_trie_bits.specs.Model.Matches.{covers}
 use Rattle.prefix_trie_table.proofs.Lookup.Covered.{covers_few}
 use Rattle.prefix_trie_map.specs.Walks.{lent_item}
@@ -18,7 +17,7 @@ returns-clause-counted g c =
 pub returns-clause-fits : goal.returns-clause-fits
 returns-clause-fits g c =
     let path = g.P.Prefix.path c.args.prefix.now in
-    omega (arith, covers_few c.args.self.now.entries path, path_within g.met.P.Prefix.prefix_laws c.args.prefix.now c.requires, g.met.P.Prefix.prefix_laws.keys.at_most_128)
+    omega (arith, covers_few c.args.self.now.entries path, c.parts-key.ensures.short, g.met.P.Prefix.prefix_laws.keys.at_most_128)
 
 pub returns-clause-runs : goal.returns-clause-runs
 returns-clause-runs g c = shows_in_order lent_item

@@ -1,5 +1,3 @@
-use Rattle.std.proofs.Common.{◌≡◌, ◌∙◌, sym, take}
-use Rattle.prefix_trie_bits.specs.Keys.{path_within}
 use Rattle.prefix_trie_bits.specs.Model.Step.{Insert}
 use Rattle.prefix_trie_bits.specs.Model.Storage.{StepOfStrings}
 use Rattle.prefix_trie_map.specs.Steps.{state, stored, inserted}
@@ -10,11 +8,8 @@ use Rattle.prefix_trie_map.proofs.map.PrefixMap.insert.Goals as goal
 
 pub returns-clause-step : goal.returns-clause-step
 returns-clause-step g c =
-    let len : c.from-len.result ≡ g.P.Prefix.len_of c.args.prefix = c.from-len.ensures ∙ c.prefix_len.ensures in
-    let repr : c.repr-key.result ≡ g.P.Prefix.repr_of c.args.prefix = c.repr-key.ensures in
-    let key = (λ i. take (len i) (g.P.R.Key.bits (repr i))) ∙ sym (g.met.P.Prefix.prefix_laws.path_is c.args.prefix) in
     insert_step g.P.Prefix.path g.P.Prefix.back g.P.R.Key.bit_width _ _ (inserted_is _ _ c.insert.result) (inserted_is _ _ c.insert.result) c.args.prefix c.args.value
-    (by_key (λ old k. StepOfStrings (stored old) (Insert k c.args.value) (inserted c.insert.result) (stored c.insert.new.self)) c.self.view_is key
+    (by_key (λ old k. StepOfStrings (stored old) (Insert k c.args.value) (inserted c.insert.result) (stored c.insert.new.self)) c.self.view_is c.parts-key.ensures.path
     c.insert.ensures.step)
 
 inserts : (g : given.Over) (c : goal.After-drop-prefix g) → Inserts (state c.args.self.now) (state c.insert.new.self) (g.P.Prefix.path c.args.prefix) c.args.value c.insert.result
@@ -24,7 +19,7 @@ inserts g c =
 
 pub invariant_of-self : goal.invariant_of-self
 invariant_of-self g c =
-    stays g.P.Prefix.path g.P.Prefix.back g.P.R.Key.bit_width c.self.view_is c.self.invariant (path_within g.met.P.Prefix.prefix_laws c.args.prefix c.requires) (returns-clause-step g c)
+    stays g.P.Prefix.path g.P.Prefix.back g.P.R.Key.bit_width c.self.view_is c.self.invariant c.parts-key.ensures.short (returns-clause-step g c)
 
 pub returns-clause-before : goal.returns-clause-before
 returns-clause-before g c = (inserts g c).before

@@ -1,4 +1,4 @@
-use Rattle.std.proofs.Common.{rules, ◌≡◌, ◌<◌, ◌^◌, ◌∙◌, length, take, sym, ap, ap₂, subst, arith}
+use Rattle.std.proofs.Common.{rules, ◌<◌, ◌^◌, ◌∙◌, length, take, ap, arith}
 use Rattle.std.specs.FinMap.{len}
 use Rattle.prefix_trie_bits.specs.Bits.{begins}
 use Rattle.prefix_trie_bits.specs.Model.Selections.{listing_below, shown}
@@ -7,25 +7,12 @@ use Rattle.prefix_trie_map.proofs.Runs.{gives_in_order}
 use Rattle.prefix_trie_map.proofs.Selections.{few_shown}
 use Rattle.prefix_trie_map.proofs.map.PrefixMap.into_children.Goals as goal
 
-pub into_walk_below-walk-requires-clause-key : goal.into_walk_below-walk-requires-clause-key
-into_walk_below-walk-requires-clause-key g c =
-    subst g.P.R.Key.IsKey (sym c.repr.ensures) ((g.met.P.Prefix.prefix_laws.fits_is c.args.prefix.now).0 c.requires).0
-
-pub into_walk_below-walk-requires-clause-long : goal.into_walk_below-walk-requires-clause-long
-into_walk_below-walk-requires-clause-long g c =
-    let fits = (g.met.P.Prefix.prefix_laws.fits_is c.args.prefix.now).0 c.requires in
-    let long = fits.1 in
-    omega (arith, long, c.prefix_len.ensures, c.from-len.ensures)
-
 pub returns-clause-items : goal.returns-clause-items
 returns-clause-items g c =
-    let way : take c.from-len.result (g.P.R.Key.bits c.repr.result) ≡ g.P.Prefix.path c.args.prefix.now =
-    ap₂ (λ n r. take n (g.P.R.Key.bits r)) (c.from-len.ensures ∙ c.prefix_len.ensures) c.repr.ensures
-    ∙ sym (g.met.P.Prefix.prefix_laws.path_is c.args.prefix.now) in
     c.over.ensures
     ∙ ap (shown g.P.Prefix.back) (c.into_walk_below-walk.ensures
-    ∙ ap (λ (s : Contents g.row.T.Denot). listing_below s.entries (take c.from-len.result (g.P.R.Key.bits c.repr.result))) c.self.view_is
-    ∙ ap (listing_below c.args.self.entries) way)
+    ∙ ap (λ (s : Contents g.row.T.Denot). listing_below s.entries (take c.parts-key.result.1 (g.P.R.Key.bits c.parts-key.result.0))) c.self.view_is
+    ∙ ap (listing_below c.args.self.entries) c.parts-key.ensures.path)
 
 pub returns-clause-fits : goal.returns-clause-fits
 returns-clause-fits g c =

@@ -11,17 +11,17 @@ use Rattle.prefix_trie_map.proofs.map.PrefixMap.lend_entry.Goals as goal
 
 pub invariant_of-self-lent : goal.invariant_of-self-lent
 invariant_of-self-lent g c = λ r. (
-  λ x. IsMap-with_stored_at g.P.R.Key.bit_width c.self.inside.table c.self.invariant (take c.from-len.result (g.P.R.Key.bits c.repr.result)) x,
+  λ x. IsMap-with_stored_at g.P.R.Key.bit_width c.self.inside.table c.self.invariant (take c.parts-key.result.1 (g.P.R.Key.bits c.parts-key.result.0)) x,
   c.self.invariant,
 )
 
 pub returns : goal.returns
 returns g c =
     let m = c.self.inside.table in
-    let q = take c.from-len.result (g.P.R.Key.bits c.repr.result) in
+    let q = take c.parts-key.result.1 (g.P.R.Key.bits c.parts-key.result.0) in
     let path = g.P.Prefix.path c.args.prefix.now in
     let name = ghost_name_of c.find_mut.result in
-    let key : q ≡ path = search rules in
+    let key : q ≡ path = c.parts-key.ensures.path in
     let same : m ≡ c.args.self.now = c.self.view_is in
     let counted : c.find_mut.new.counter ≡ c.args.counter.now + visits c.args.self.now.nodes path = search rules in (
       subst (λ n. read_of name (with_stored_at m q) m ≡ read_of name (with_value_at n path) n) same

@@ -1,4 +1,4 @@
-use Rattle.std.proofs.Common.{rules, ◌≡◌, ◌∙◌, Bool, List, IfErr, MatchResult, take, sym, subst}
+use Rattle.std.proofs.Common.{◌≡◌, Bool, List, IfErr, MatchResult, take, sym, subst}
 use Rattle.std.specs.FinMap.{len}
 use Rattle.prefix_trie_bits.specs.declared.prefix.Refusal.TheVariants.{IndexRange}
 use Rattle.prefix_trie_bits.specs.Model.Room.{MayPassLimit, LeavesRoom}
@@ -13,20 +13,12 @@ use Rattle.prefix_trie_map.proofs.map.PrefixMap.make_room.Goals as goal
 
 pub make_room-requires-clause-end : goal.make_room-requires-clause-end
 make_room-requires-clause-end g c =
-    let key : take c.from-len.result (g.P.R.Key.bits c.repr.result) ≡ g.P.Prefix.path c.args.prefix.now = search rules in
-    by_key (λ (m : Contents g.row.T.Denot) q. IsWayEnd m.build q c.args.end) (sym c.self.view_is) (sym key) c.requires.end
-
--- the key that the table is handed, as the prefix's path
-key_is : (g : given.Over) (c : goal.After-make_room g) → take c.from-len.result (g.P.R.Key.bits c.repr.result) ≡ g.P.Prefix.path c.args.prefix.now
-key_is g c =
-    let len : c.from-len.result ≡ g.P.Prefix.len_of c.args.prefix.now = c.from-len.ensures ∙ c.prefix_len.ensures in
-    let repr : c.repr.result ≡ g.P.Prefix.repr_of c.args.prefix.now = c.repr.ensures in
-    (λ i. take (len i) (g.P.R.Key.bits (repr i))) ∙ sym (g.met.P.Prefix.prefix_laws.path_is c.args.prefix.now)
+    by_key (λ (m : Contents g.row.T.Denot) q. IsWayEnd m.build q c.args.end) (sym c.self.view_is) (sym c.parts-key.ensures.path) c.requires.end
 
 -- what holds of the table and the key's bits holds of the map and the prefix's path
 by_path : (g : given.Over) (c : goal.After-make_room g) (F : Contents g.row.T.Denot → List Bool → Type 0) →
-    F c.self.inside.table (take c.from-len.result (g.P.R.Key.bits c.repr.result)) → F c.args.self.now (g.P.Prefix.path c.args.prefix.now)
-by_path g c F fact = by_key F c.self.view_is (key_is g c) fact
+    F c.self.inside.table (take c.parts-key.result.1 (g.P.R.Key.bits c.parts-key.result.0)) → F c.args.self.now (g.P.Prefix.path c.args.prefix.now)
+by_path g c F fact = by_key F c.self.view_is c.parts-key.ensures.path fact
 
 pub returns-clause-room : goal.returns-clause-room
 returns-clause-room g c = by_path g c (λ old q. LeavesRoom (len old.nodes) old.room c.make_room.new.self.room) c.make_room.ensures.room
@@ -40,7 +32,7 @@ leaves g c =
     (λ cause. RefusesInStorage (state old) q cause (storage old) (storage c.make_room.new.self))) c.make_room.ensures.readies
 
 pub returns-clause-end : goal.returns-clause-end
-returns-clause-end g c = subst (λ q. IsWayEnd c.make_room.new.self.build q c.args.end) (key_is g c) c.make_room.ensures.end
+returns-clause-end g c = subst (λ q. IsWayEnd c.make_room.new.self.build q c.args.end) c.parts-key.ensures.path c.make_room.ensures.end
 
 pub returns-clause-readies : goal.returns-clause-readies
 returns-clause-readies g c =

@@ -1,5 +1,4 @@
-use Rattle.std.proofs.Common.{rules, ◌≡◌, ◌∙◌, Some, IfOk, take, sym, subst}
-use Rattle.prefix_trie_bits.specs.Keys.{path_within}
+use Rattle.std.proofs.Common.{◌≡◌, Some, IfOk, sym, subst}
 use Rattle.prefix_trie_bits.specs.Model.Step.{Insert}
 use Rattle.prefix_trie_bits.specs.Model.Storage.{StepInStorage, StepOfStrings}
 use Rattle.prefix_trie_table.specs.Locations.{seat_of, IsWayEnd}
@@ -12,21 +11,13 @@ use Rattle.prefix_trie_map.proofs.map.PrefixMap.place.Goals as goal
 
 pub place-requires-clause-end : goal.place-requires-clause-end
 place-requires-clause-end g c =
-    let key : take c.from-len.result (g.P.R.Key.bits c.repr.result) ≡ g.P.Prefix.path c.args.prefix.now = search rules in
-    by_key (λ (m : Contents g.row.T.Denot) q. IsWayEnd m.build q c.args.end) (sym c.self.view_is) (sym key) c.requires.end
-
--- the key that the table is handed, as the prefix's path
-key_is : (g : given.Over) (c : goal.After-place g) → take c.from-len.result (g.P.R.Key.bits c.repr.result) ≡ g.P.Prefix.path c.args.prefix.now
-key_is g c =
-    let len : c.from-len.result ≡ g.P.Prefix.len_of c.args.prefix.now = c.from-len.ensures ∙ c.prefix_len.ensures in
-    let repr : c.repr.result ≡ g.P.Prefix.repr_of c.args.prefix.now = c.repr.ensures in
-    (λ i. take (len i) (g.P.R.Key.bits (repr i))) ∙ sym (g.met.P.Prefix.prefix_laws.path_is c.args.prefix.now)
+    by_key (λ (m : Contents g.row.T.Denot) q. IsWayEnd m.build q c.args.end) (sym c.self.view_is) (sym c.parts-key.ensures.path) c.requires.end
 
 step : (g : given.Over) (c : goal.After-place g) → StepInStorage g.P.Prefix.path g.P.Prefix.back g.P.R.Key.bit_width (stored c.args.self.now)
     (Insert c.args.prefix.now c.args.value) (placed c.place.result) (stored c.place.new.self)
 step g c =
     insert_step g.P.Prefix.path g.P.Prefix.back g.P.R.Key.bit_width _ _ (placed_is _ _ c.place.result) (placed_is _ _ c.place.result) c.args.prefix.now c.args.value
-    (by_key (λ old k. StepOfStrings (stored old) (Insert k c.args.value) (placed c.place.result) (stored c.place.new.self)) c.self.view_is (key_is g c)
+    (by_key (λ old k. StepOfStrings (stored old) (Insert k c.args.value) (placed c.place.result) (stored c.place.new.self)) c.self.view_is c.parts-key.ensures.path
     c.place.ensures.step)
 
 -- what it says of the map
@@ -38,11 +29,11 @@ left g c =
 
 pub invariant_of-self : goal.invariant_of-self
 invariant_of-self g c =
-    stays g.P.Prefix.path g.P.Prefix.back g.P.R.Key.bit_width c.self.view_is c.self.invariant (path_within g.met.P.Prefix.prefix_laws c.args.prefix.now c.requires.fits) (step g c)
+    stays g.P.Prefix.path g.P.Prefix.back g.P.R.Key.bit_width c.self.view_is c.self.invariant c.parts-key.ensures.short (step g c)
 
 pub returns-clause-seat : goal.returns-clause-seat
 returns-clause-seat g c =
-    subst (λ q. IfOk c.place.result (λ seat. seat_of c.place.new.self.build q ≡ Some seat)) (key_is g c) c.place.ensures.seat
+    subst (λ q. IfOk c.place.result (λ seat. seat_of c.place.new.self.build q ≡ Some seat)) c.parts-key.ensures.path c.place.ensures.seat
 
 pub returns-clause-entries : goal.returns-clause-entries
 returns-clause-entries g c = (left g c).entries

@@ -1,5 +1,4 @@
-use Rattle.std.proofs.Common.{rules, ◌≡◌, take, refl, ap}
-use Rattle.prefix_trie_bits.specs.Keys.{path_within}
+use Rattle.std.proofs.Common.{refl, ap}
 use Rattle.prefix_trie_bits.specs.Model.Step.{State, RemoveChildren, Done}
 use Rattle.prefix_trie_bits.specs.Model.Storage.{StepOfStrings}
 use Rattle.prefix_trie_map.specs.Steps.{stored}
@@ -14,13 +13,12 @@ remove_children-requires-clause-nodes g c = c.self.invariant.are_nodes
 
 pub returns-clause-step : goal.returns-clause-step
 returns-clause-step g c =
-    let key : take c.from-len.result (g.P.R.Key.bits c.repr-key.result) ≡ g.P.Prefix.path c.args.prefix.now = search rules in
     children_step g.P.Prefix.path g.P.Prefix.back g.P.R.Key.bit_width Done Done refl refl c.args.prefix.now
-    (by_key (λ old k. StepOfStrings (stored old) (RemoveChildren k) Done (stored c.remove_children.new.self)) c.self.view_is key c.remove_children.ensures.step)
+    (by_key (λ old k. StepOfStrings (stored old) (RemoveChildren k) Done (stored c.remove_children.new.self)) c.self.view_is c.parts-key.ensures.path c.remove_children.ensures.step)
 
 pub invariant_of-self : goal.invariant_of-self
 invariant_of-self g c =
-    stays g.P.Prefix.path g.P.Prefix.back g.P.R.Key.bit_width c.self.view_is c.self.invariant (path_within g.met.P.Prefix.prefix_laws c.args.prefix.now c.requires)
+    stays g.P.Prefix.path g.P.Prefix.back g.P.R.Key.bit_width c.self.view_is c.self.invariant c.parts-key.ensures.short
     (returns-clause-step g c)
 
 pub returns-clause-entries : goal.returns-clause-entries
