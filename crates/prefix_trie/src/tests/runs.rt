@@ -124,6 +124,22 @@ fn replies_are(alloc: Global, calls: &[Call<Key>], wanted: &[Wanted<'_>]) -> Res
     Ok(replies_on(&mut map, alloc, calls, wanted))
 }
 
+const TO_EACH_CALL: [Wanted<'static>; 11] = [
+    Wanted::List(&[]),
+    Wanted::Value(None),
+    Wanted::Value(None),
+    // The first eight bits are the same.
+    Wanted::Value(Some(1)),
+    Wanted::Value(Some(2)),
+    Wanted::Value(None),
+    Wanted::Match(Some(((0x0a01_0000, 16), 2))),
+    Wanted::Match(None),
+    Wanted::Count(2),
+    // The shorter contains the longer.
+    Wanted::Addresses(Some(0x0100_0000)),
+    Wanted::List(&[((0x0a00_0000, 8), 3), ((0x0a01_0000, 16), 2)]),
+];
+
 #[test]
 fn a_reply_to_each_call(rt: HostRuntime) {
     let calls = [
@@ -139,24 +155,18 @@ fn a_reply_to_each_call(rt: HostRuntime) {
         Call::AddressCount,
         Call::List,
     ];
-    let both = [((0x0a00_0000, 8), 3), ((0x0a01_0000, 16), 2)];
-    let wanted = [
-        Wanted::List(&[]),
-        Wanted::Value(None),
-        Wanted::Value(None),
-        // The first eight bits are the same.
-        Wanted::Value(Some(1)),
-        Wanted::Value(Some(2)),
-        Wanted::Value(None),
-        Wanted::Match(Some(((0x0a01_0000, 16), 2))),
-        Wanted::Match(None),
-        Wanted::Count(2),
-        // The shorter contains the longer.
-        Wanted::Addresses(Some(0x0100_0000)),
-        Wanted::List(&both),
-    ];
-    assert!(rt; replies_are(rt.alloc(), &calls, &wanted) == Ok(true));
+    assert!(rt; replies_are(rt.alloc(), &calls, &TO_EACH_CALL) == Ok(true));
 }
+
+const SHORTEST_AND_COVERS: [Wanted<'static>; 7] = [
+    Wanted::Value(None),
+    Wanted::Value(None),
+    Wanted::Value(None),
+    Wanted::Match(Some(((0x0a00_0000, 8), 1))),
+    Wanted::Match(None),
+    Wanted::List(&[((0x0a00_0000, 8), 1), ((0x0a01_0000, 16), 2)]),
+    Wanted::List(&[]),
+];
 
 #[test]
 fn shortest_matches_and_covers(rt: HostRuntime) {
@@ -169,18 +179,23 @@ fn shortest_matches_and_covers(rt: HostRuntime) {
         Call::Cover((0x0a01_02ff, 24)),
         Call::Cover((0x0c00_0000, 8)),
     ];
-    let covered = [((0x0a00_0000, 8), 1), ((0x0a01_0000, 16), 2)];
-    let wanted = [
-        Wanted::Value(None),
-        Wanted::Value(None),
-        Wanted::Value(None),
-        Wanted::Match(Some(((0x0a00_0000, 8), 1))),
-        Wanted::Match(None),
-        Wanted::List(&covered),
-        Wanted::List(&[]),
-    ];
-    assert!(rt; replies_are(rt.alloc(), &calls, &wanted) == Ok(true));
+    assert!(rt; replies_are(rt.alloc(), &calls, &SHORTEST_AND_COVERS) == Ok(true));
 }
+
+const NODES_LEFT: [Wanted<'static>; 11] = [
+    Wanted::Value(None),
+    Wanted::Value(Some(1)),
+    // At the depths 0, 5, 10, 15 and 20.
+    Wanted::Count(5),
+    Wanted::Value(None),
+    Wanted::Count(1),
+    Wanted::Value(None),
+    Wanted::Value(Some(2)),
+    Wanted::Value(None),
+    Wanted::Value(None),
+    Wanted::Done,
+    Wanted::List(&[((0x0b00_0000, 8), 5)]),
+];
 
 #[test]
 fn removals_and_the_nodes_left(rt: HostRuntime) {
@@ -197,22 +212,21 @@ fn removals_and_the_nodes_left(rt: HostRuntime) {
         Call::RemoveChildren((0x0a01_0000, 16)),
         Call::List,
     ];
-    let wanted = [
-        Wanted::Value(None),
-        Wanted::Value(Some(1)),
-        // At the depths 0, 5, 10, 15 and 20.
-        Wanted::Count(5),
-        Wanted::Value(None),
-        Wanted::Count(1),
-        Wanted::Value(None),
-        Wanted::Value(Some(2)),
-        Wanted::Value(None),
-        Wanted::Value(None),
-        Wanted::Done,
-        Wanted::List(&[((0x0b00_0000, 8), 5)]),
-    ];
-    assert!(rt; replies_are(rt.alloc(), &calls, &wanted) == Ok(true));
+    assert!(rt; replies_are(rt.alloc(), &calls, &NODES_LEFT) == Ok(true));
 }
+
+const LEAST_LENGTH: [Wanted<'static>; 9] = [
+    Wanted::Value(None),
+    Wanted::Value(None),
+    Wanted::Value(None),
+    Wanted::Done,
+    Wanted::List(&[((0x0a00_0000, 8), 1), ((0x0a01_0000, 16), 2)]),
+    // At the depths 0, 5, 10 and 15.
+    Wanted::Count(4),
+    Wanted::Done,
+    Wanted::Count(1),
+    Wanted::Count(0),
+];
 
 #[test]
 fn entries_of_a_least_length(rt: HostRuntime) {
@@ -227,20 +241,7 @@ fn entries_of_a_least_length(rt: HostRuntime) {
         Call::NodeCount,
         Call::Len,
     ];
-    let long = [((0x0a00_0000, 8), 1), ((0x0a01_0000, 16), 2)];
-    let wanted = [
-        Wanted::Value(None),
-        Wanted::Value(None),
-        Wanted::Value(None),
-        Wanted::Done,
-        Wanted::List(&long),
-        // At the depths 0, 5, 10 and 15.
-        Wanted::Count(4),
-        Wanted::Done,
-        Wanted::Count(1),
-        Wanted::Count(0),
-    ];
-    assert!(rt; replies_are(rt.alloc(), &calls, &wanted) == Ok(true));
+    assert!(rt; replies_are(rt.alloc(), &calls, &LEAST_LENGTH) == Ok(true));
 }
 
 /// Whether a map has the network of all addresses alone, as before the run.
