@@ -1,5 +1,5 @@
 -- What a list has that takes in a walk whose items are copied.
-use Rattle.std.proofs.Common.{◌≡◌, List, [], ◌∷◌, ◌++◌, sym, ap, ◌∙◌}
+use Rattle.std.proofs.Common.{◌≡◌, List, [], ◌∷◌, ◌++◌, sym, ap, ◌∙◌, Result, Ok, Err, IfOk}
 use Rattle.std.proofs.lemmas.List.{append-nil}
 use Rattle.std.specs.Iterator.{Yields, Drains}
 use Rattle.std.specs.Iterator.Adapters.{map_source, map_steps}
@@ -17,8 +17,8 @@ module _ {X A F : Type 0} (shows : A → X) (g : Mut F (A × Unit {0}) X) (each 
   all_come : (xs : List X) (s : Map (List X) F) → Drains (map_steps (TakesFirst shows) g) s xs → xs ≡ map_source s
   all_come xs s (u, (t, yields, none)) = sym (come_first xs s t yields ∙ ap (λ zs. xs ++ zs) none.0.0 ∙ append-nil xs)
 
-  -- an empty list that takes in all copies has the walk's items
-  pub takes_copies : {walk before after : List X} (xs : List X) (s copies : Map (List X) F) → Drains (map_steps (TakesFirst shows) g) s xs → s ≡ copies → map_source copies ≡ walk
-      → before ≡ [] → after ≡ before ++ xs → after ≡ walk
-  takes_copies xs s copies drains is source empty added =
-      added ∙ ap (λ zs. zs ++ xs) empty ∙ all_come xs s drains ∙ ap map_source is ∙ source
+  -- where there is memory for them, what is made of all copies has the walk's items
+  pub takes_copies : {V E : Type 0} (items : V → List X) {walk : List X} (copies : Map (List X) F) (made : Result V E)
+      → IfOk made (λ v. Drains (map_steps (TakesFirst shows) g) copies (items v)) → map_source copies ≡ walk → IfOk made (λ v. items v ≡ walk)
+  takes_copies items copies (Ok v) drains source = all_come _ copies drains ∙ source
+  takes_copies items copies (Err e) drains source = tt

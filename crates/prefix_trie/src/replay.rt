@@ -1,6 +1,6 @@
 //! A list of calls, run on a map.
 ghost use Rattle.std.specs.Prelude.{◌≡◌, ◌<◌, ◌^◌, ℕ, Bool, List, Option, All, IfOk, OnOk, OnErr, MatchResult, cond, length, vec_len};
-ghost use Rattle.std.specs.Map.Iter.{ShowsInOrder};
+ghost use Rattle.std.specs.Iterator.{Drains, IsFinite};
 ghost use Rattle.std.specs.FinMap.{get, len};
 ghost use Rattle.prefix_trie_bits.specs.Model.Addresses.{address_answer};
 ghost use Rattle.prefix_trie_bits.specs.Model.Counted.{CountedStep, CountedRun, CountsReads, TidyIf, tidy_after_all};
@@ -15,7 +15,6 @@ ghost use Rattle.prefix_trie.specs.Replay.{IsFittingCall, call_of, calls_of, rep
 
 mod reads;
 
-use crate::map::Iter;
 use crate::{Prefix, PrefixMap, Refusal, Visits};
 pub use reads::Reads;
 use std::alloc::{AllocError, Allocator};
@@ -361,9 +360,7 @@ fn listed<P: Prefix, A: Allocator + Clone>(
 ) -> Result<Vec<(P, u64), A>, AllocError>
     ensures { IfOk result (λ entries. entries.items ≡ shown P.back (listing map.now.entries)) }
 {
-    let mut entries = Vec::with_capacity(alloc.clone()?, map.len())?;
-    entries.extend(map.iter().map(owned))?;
-    Ok(entries)
+    filled(alloc, map.len(), map.iter().map(owned))
 }
 
 /// The entries behind a prefix in listing order, and before them its own where `inclusive`.
@@ -378,7 +375,8 @@ fn listed_from<P: Prefix, A: Allocator + Clone>(
         (listing_from map.now.entries (P.path prefix.now))
         (listing_after map.now.entries (P.path prefix.now)))) }
 {
-    gathered(alloc, map.iter_from(prefix, inclusive))
+    let count = map.iter_from(prefix, inclusive).count();
+    filled(alloc, count, map.iter_from(prefix, inclusive).map(owned))
 }
 
 /// The entries whose prefixes this one contains.
@@ -390,21 +388,8 @@ fn children<P: Prefix, A: Allocator + Clone>(
     requires { P.IsFitting prefix.now }
     ensures { IfOk result (λ entries. entries.items ≡ shown P.back (listing_below map.now.entries (P.path prefix.now))) }
 {
-    gathered(alloc, map.children(prefix))
-}
-
-/// The items of a walk. A copy of it counts them, and room for so many is asked for before they are taken.
-fn gathered<P: Prefix, A: Allocator + Clone>(
-    alloc: &A,
-    walk: Iter<'_, P, u64, A>,
-) -> Result<Vec<(P, u64), A>, AllocError>
-    requires fits { length walk < 2 ^ 64 }
-    requires runs { ShowsInOrder (lent_item {P = P} {T = ℕ}) }
-    ensures { IfOk result (λ entries. entries.items ≡ walk.entry) }
-{
-    let mut entries = Vec::with_capacity(alloc.clone()?, walk.clone().count())?;
-    entries.extend(walk.map(owned))?;
-    Ok(entries)
+    let count = map.children(prefix).count();
+    filled(alloc, count, map.children(prefix).map(owned))
 }
 
 /// The entries whose prefixes contain this one, the shortest first. A first walk counts them, and room for so many is asked
@@ -417,9 +402,23 @@ fn covered<P: Prefix, A: Allocator + Clone>(
     requires { P.IsFitting prefix.now }
     ensures { IfOk result (λ entries. entries.items ≡ shown P.back (listing_covering map.now.entries (P.path prefix.now))) }
 {
-    let mut entries = Vec::with_capacity(alloc.clone()?, map.cover(prefix).count())?;
-    entries.extend(map.cover(prefix).map(owned))?;
-    Ok(entries)
+    let count = map.cover(prefix).count();
+    filled(alloc, count, map.cover(prefix).map(owned))
+}
+
+/// All items, for which room for so many is asked first.
+fn filled<T: Drop, A: Allocator + Clone, I: Iterator<Item = T> + Drop>(
+    alloc: &A,
+    count: usize,
+    items: I,
+) -> Result<Vec<T, A>, AllocError>
+    requires can { I.can_next items }
+    requires finite { IsFinite (I.remaining items) }
+    ensures { IfOk result (λ taken. Drains I.next_gives items taken.items) }
+{
+    let mut taken = Vec::with_capacity(alloc.clone()?, count)?;
+    taken.extend(items)?;
+    Ok(taken)
 }
 
 /// The entries, or the refusal where no memory was found for them.

@@ -4,6 +4,4 @@ use Rattle.prefix_trie.proofs.Copies.{takes_copies}
 use Rattle.prefix_trie.proofs.replay.listed.Goals as goal
 
 pub returns : goal.returns
-returns g c =
-    let ran = c.in_ok-extend.ensures.ran in
-    takes_copies lent_item _ (λ f x y later called. called.met) ran.1 ran.0 c.map.result ran.4 ran.2 (c.map.ensures.source ∙ c.iter.ensures.items) c.in_ok-entries.ensures.items ran.3.0
+returns g c = takes_copies lent_item _ (λ f x y later called. called.met) (λ v. v.items) c.map.result c.filled.result c.filled.ensures (c.map.ensures.source ∙ c.iter.ensures.items)

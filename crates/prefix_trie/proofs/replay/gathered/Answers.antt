@@ -1,8 +1,0 @@
-use Rattle.prefix_trie_map.specs.Walks.{lent_item}
-use Rattle.prefix_trie.proofs.Copies.{takes_copies}
-use Rattle.prefix_trie.proofs.replay.gathered.Goals as goal
-
-pub returns : goal.returns
-returns g c =
-    let ran = c.in_ok-extend.ensures.ran in
-    takes_copies lent_item _ (λ f x y later called. called.met) ran.1 ran.0 c.map.result ran.4 ran.2 c.map.ensures.source c.in_ok-entries.ensures.items ran.3.0
