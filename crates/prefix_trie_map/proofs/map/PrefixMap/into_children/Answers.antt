@@ -1,18 +1,12 @@
-use Rattle.std.proofs.Common.{rules, ◌<◌, ◌^◌, ◌∙◌, length, take, ap, arith}
+use Rattle.std.proofs.Common.{rules, ◌<◌, ◌^◌, length, ap, arith}
 use Rattle.std.specs.FinMap.{len}
 use Rattle.prefix_trie_bits.specs.Bits.{begins}
-use Rattle.prefix_trie_bits.specs.Model.Selections.{listing_below, shown}
-use Rattle.prefix_trie_table.specs.Shape.{Contents}
 use Rattle.prefix_trie_map.proofs.Runs.{gives_in_order}
 use Rattle.prefix_trie_map.proofs.Selections.{few_shown}
 use Rattle.prefix_trie_map.proofs.map.PrefixMap.into_children.Goals as goal
 
 pub returns-clause-items : goal.returns-clause-items
-returns-clause-items g c =
-    c.over.ensures
-    ∙ ap (shown g.P.Prefix.back) (c.into_walk_below-walk.ensures
-    ∙ ap (λ (s : Contents g.row.T.Denot). listing_below s.entries (take c.parts-key.result.1 (g.P.R.Key.bits c.parts-key.result.0))) c.self.view_is
-    ∙ ap (listing_below c.args.self.entries) c.parts-key.ensures.path)
+returns-clause-items g c = search rules
 
 pub returns-clause-fits : goal.returns-clause-fits
 returns-clause-fits g c =
