@@ -1,5 +1,6 @@
 //! A list of calls, run on a map.
-ghost use Rattle.std.specs.Prelude.{◌≡◌, ◌<◌, ◌^◌, ℕ, Bool, List, Option, All, IfOk, OnOk, OnErr, MatchResult, cond, length, vec_len};
+ghost use Rattle.std.specs.Prelude.{◌≡◌, ℕ, Bool, List, Option, All, IfOk, OnOk, OnErr, MatchResult, cond, length, map, vec_len};
+ghost use Rattle.std.specs.Borrow.{Bor};
 ghost use Rattle.std.specs.Iterator.{Drains, IsFinite};
 ghost use Rattle.std.specs.FinMap.{get, len};
 ghost use Rattle.prefix_trie_bits.specs.Model.Addresses.{address_answer};
@@ -360,10 +361,10 @@ fn listed<P: Prefix, A: Allocator + Clone>(
 ) -> Result<Vec<(P, u64), A>, AllocError>
     ensures { IfOk result (λ entries. entries.items ≡ shown P.back (listing map.now.entries)) }
 {
-    filled(alloc, map.len(), map.iter().map(owned))
+    copied(alloc, map.len(), map.iter())
 }
 
-/// The entries behind a prefix in listing order, and before them its own where `inclusive`.
+/// The entries behind a prefix in listing order, and before them its own where `inclusive`. A first walk counts them.
 fn listed_from<P: Prefix, A: Allocator + Clone>(
     alloc: &A,
     map: &PrefixMap<P, u64, A>,
@@ -376,10 +377,10 @@ fn listed_from<P: Prefix, A: Allocator + Clone>(
         (listing_after map.now.entries (P.path prefix.now)))) }
 {
     let count = map.iter_from(prefix, inclusive).count();
-    filled(alloc, count, map.iter_from(prefix, inclusive).map(owned))
+    copied(alloc, count, map.iter_from(prefix, inclusive))
 }
 
-/// The entries whose prefixes this one contains.
+/// The entries whose prefixes this one contains. A first walk counts them.
 fn children<P: Prefix, A: Allocator + Clone>(
     alloc: &A,
     map: &PrefixMap<P, u64, A>,
@@ -389,11 +390,10 @@ fn children<P: Prefix, A: Allocator + Clone>(
     ensures { IfOk result (λ entries. entries.items ≡ shown P.back (listing_below map.now.entries (P.path prefix.now))) }
 {
     let count = map.children(prefix).count();
-    filled(alloc, count, map.children(prefix).map(owned))
+    copied(alloc, count, map.children(prefix))
 }
 
-/// The entries whose prefixes contain this one, the shortest first. A first walk counts them, and room for so many is asked
-/// for before the second.
+/// The entries whose prefixes contain this one, the shortest first. A first walk counts them.
 fn covered<P: Prefix, A: Allocator + Clone>(
     alloc: &A,
     map: &PrefixMap<P, u64, A>,
@@ -403,22 +403,22 @@ fn covered<P: Prefix, A: Allocator + Clone>(
     ensures { IfOk result (λ entries. entries.items ≡ shown P.back (listing_covering map.now.entries (P.path prefix.now))) }
 {
     let count = map.cover(prefix).count();
-    filled(alloc, count, map.cover(prefix).map(owned))
+    copied(alloc, count, map.cover(prefix))
 }
 
-/// All items, for which room for so many is asked first.
-fn filled<T: Drop, A: Allocator + Clone, I: Iterator<Item = T> + Drop>(
+/// The items of a walk with their values copied. Room for so many is asked for before they are taken.
+fn copied<'a, P: Drop, A: Allocator + Clone, I: Iterator<Item = (P, &'a u64)> + Drop>(
     alloc: &A,
     count: usize,
-    items: I,
-) -> Result<Vec<T, A>, AllocError>
-    requires can { I.can_next items }
-    requires finite { IsFinite (I.remaining items) }
-    ensures { IfOk result (λ taken. Drains I.next_gives items taken.items) }
+    walk: I,
+) -> Result<Vec<(P, u64), A>, AllocError>
+    requires can { I.can_next walk }
+    requires finite { IsFinite (I.remaining walk) }
+    ensures { IfOk result (λ entries. (lent : List (P × Bor ℕ)) × Drains I.next_gives walk lent × (entries.items ≡ map lent_item lent)) }
 {
-    let mut taken = Vec::with_capacity(alloc.clone()?, count)?;
-    taken.extend(items)?;
-    Ok(taken)
+    let mut entries = Vec::with_capacity(alloc.clone()?, count)?;
+    entries.extend(walk.map(owned))?;
+    Ok(entries)
 }
 
 /// The entries, or the refusal where no memory was found for them.

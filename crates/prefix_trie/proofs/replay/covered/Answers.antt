@@ -1,7 +1,6 @@
-use Rattle.std.proofs.Common.{◌∙◌}
 use Rattle.prefix_trie_map.specs.Walks.{lent_item}
-use Rattle.prefix_trie.proofs.Copies.{takes_copies}
+use Rattle.prefix_trie.proofs.Copies.{has_walk}
 use Rattle.prefix_trie.proofs.replay.covered.Goals as goal
 
 pub returns : goal.returns
-returns g c = takes_copies lent_item _ (λ f x y later called. called.met) (λ v. v.items) c.map.result c.filled.result c.filled.ensures (c.map.ensures.source ∙ c.cover-2.ensures.items)
+returns g c = has_walk lent_item (λ v. v.items) c.copied.result c.copied.ensures c.cover-2.ensures.items
