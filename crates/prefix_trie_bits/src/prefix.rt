@@ -5,18 +5,22 @@ ghost use Rattle.prefix_trie_bits.specs.Bits.{number, digits, zeros, begins};
 
 use std::fmt::Debug;
 
+mod narrow;
 mod networks;
 mod numbers;
 mod pair;
 mod refusals;
 
+pub use narrow::Narrow;
 pub use networks::{Ipv4Prefix, Ipv6Prefix};
 
 /// A number that is read as a string of bits, the most significant first.
 ///
 /// Laws: all keys of a type have the same number of bits, from 1 to 128, and every string of that
 /// many bits is that of exactly one key. Of `u8`, `u16`, `u32`, `u64`, `u128` and `usize` (64 bits)
-/// every number is a key. Keys that are `==` are the same.
+/// every number is a key, of `Narrow<W>` every number below `2^width`. Keys that are `==` are the same.
+///
+/// `behind` and `power` have bodies here, which a type may replace. That of `behind` moves five bits at a time.
 ///
 /// ```text
 /// 0xd4adbeef_u32 has the bits 1101 0100 1010 1101 ..
@@ -81,10 +85,24 @@ pub trait Key: Copy + Eq + Debug {
     /// The bits behind the first `n`, and then zeros.
     ///
     /// Asks that `n` is at most the width.
+    #[inline]
     fn behind(self, n: u32) -> Self
         requires { n ≤ bit_width }
         ensures key { IsKey result }
-        ensures value { bits result ≡ drop n (bits self) ++ zeros n };
+        ensures value { bits result ≡ drop n (bits self) ++ zeros n }
+    {
+        // The proof learns from it that the number in hand is a key.
+        let _ = self.is_key();
+        let width = Self::width();
+        let mut rest = Self::zero();
+        let mut depth = 0;
+        while n + depth < width {
+            let len = (width - (n + depth)).min(5);
+            rest = rest.extend(depth, len, self.window(n + depth, len));
+            depth += len;
+        }
+        rest
+    }
 
     /// The key whose number is `2^k`.
     ///

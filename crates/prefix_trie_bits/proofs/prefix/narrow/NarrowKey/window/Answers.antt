@@ -1,0 +1,5 @@
+use Rattle.std.proofs.Common.{rules}
+use Rattle.prefix_trie_bits.proofs.prefix.narrow.NarrowKey.window.Goals as goal
+
+pub returns : goal.returns
+returns g c = search rules

@@ -1,0 +1,135 @@
+//! Numbers of any width from 1 to 63 bits as keys.
+ghost use Rattle.std.specs.Prelude.{◌≡◌, ℕ, ◌^◌, ◌<◌, ◌≤◌, MatchOption, Some};
+ghost use Rattle.std.specs.Fmt.{decimal};
+ghost use Rattle.std.proofs.Common.{eqb-true};
+ghost use Rattle.prefix_trie_bits.specs.Bits.{number, digits};
+ghost use Rattle.prefix_trie_bits.specs.Keys.{narrow_width, narrow_keys};
+
+use crate::digits::{behind_of, extend_of, keep_of, window_of};
+use crate::prefix::Key;
+use std::fmt::{self, Debug, Formatter, Write};
+use std::marker::Model;
+
+/// A number of `W` bits as a key: a label, a VLAN, digits of a telephone number, a part of an address.
+///
+/// Its width is `W`, raised to 1 where `W` is 0 and cut to 63 where `W` is larger. With a length, it is a prefix:
+/// `(Narrow<W>, u8)`. Its text in debug form is the number in decimal.
+///
+/// ```text
+/// let vlan = Narrow::<12>::new(100)    Some(100), whose bits are 0000 0110 0100
+/// map.insert((vlan, 10), "office")     VLANs 100 to 103
+/// ```
+#[derive(Clone, Copy, PartialEq, Eq)]
+pub struct Narrow<const W: u32> {
+    value: u64,
+}
+
+// a contract sees the number
+impl<const W: u32> Model for Narrow<W> {
+    ghost Value = { ℕ };
+
+    ghost view = { λ a. a.value };
+
+    ghost invariant = { λ a. a.value < 2 ^ narrow_width W };
+
+    ghost inverse = { λ n. record { value = n } };
+}
+
+impl<const W: u32> Narrow<W> {
+    /// The key of a number: None exactly if the number is `2^width` or more.
+    ///
+    /// ```text
+    /// Narrow::<5>::new(31)   Some(31)
+    /// Narrow::<5>::new(32)   None
+    /// ```
+    #[inline]
+    pub fn new(value: u64) -> Option<Self>
+        ensures { MatchOption result (2 ^ narrow_width W ≤ value) (λ key. (key ≡ value) × (value < 2 ^ narrow_width W)) }
+    {
+        if value < 1 << Self::width() {
+            Some(Narrow { value })
+        } else {
+            None
+        }
+    }
+
+    /// The number, which is below `2^width`.
+    ///
+    /// ```text
+    /// Narrow::<5>::new(31)?.get()   31
+    /// ```
+    #[inline]
+    pub fn get(self) -> u64
+        ensures value { result ≡ self.entry }
+        ensures below { result < 2 ^ narrow_width W }
+    {
+        self.value
+    }
+}
+
+impl<const W: u32> Debug for Narrow<W> {
+    ghost debug_output = { λ key. Some (decimal key) };
+
+    fn fmt<F: Write>(&self, f: &mut Formatter<F>) -> fmt::Result {
+        write!(f, "{}", self.value)
+    }
+}
+
+impl<const W: u32> Key for Narrow<W> {
+    ghost bit_width = { narrow_width W };
+
+    ghost IsKey = { λ k. k < 2 ^ narrow_width W };
+
+    ghost bits = { digits (narrow_width W) };
+
+    ghost key_of = { number };
+
+    ghost key_laws = { narrow_keys W };
+
+    ghost same_if_equal = { eqb-true };
+
+    #[inline]
+    fn width() -> u32 {
+        W.clamp(1, 63)
+    }
+
+    #[inline]
+    #[tactic(auto, using(crate::specs::BitStrings::zero_bits))]
+    fn zero() -> Self {
+        Narrow { value: 0 }
+    }
+
+    #[inline]
+    fn is_key(self) -> bool {
+        self.get() < 1 << Self::width()
+    }
+
+    #[inline]
+    fn window(self, depth: u32, n: u32) -> u32 {
+        window_of(self.value, Self::width(), depth, n)
+    }
+
+    #[inline]
+    fn keep(self, len: u32) -> Self {
+        let value = keep_of(self.value, Self::width(), len);
+        Narrow { value }
+    }
+
+    #[inline]
+    fn extend(self, depth: u32, n: u32, tail: u32) -> Self {
+        let value = extend_of(self.value, Self::width(), depth, n, tail);
+        Narrow { value }
+    }
+
+    #[inline]
+    fn behind(self, n: u32) -> Self {
+        let value = behind_of(self.value, Self::width(), n);
+        Narrow { value }
+    }
+
+    #[inline]
+    #[tactic(auto, using(crate::specs::BitStrings::number_of_digits))]
+    fn plus(self, other: Self) -> Option<Self> {
+        Narrow::new(self.value + other.value)
+    }
+}
