@@ -1,4 +1,4 @@
--- The path of a network, in numbers.
+-- The path of a network, or of a pair of a number and a length, in numbers.
 use Rattle.std.proofs.Common.{◌≡◌, ℕ, ◌+◌, ◌-◌, ◌^◌, ◌/◌, ◌<◌, ◌≤◌, length, take, nat_eq, refl, sym, ap, ◌∙◌, subst, arith, eqb-true, eq-eqb, Option, Some, None}
 use Rattle.std.specs.Option.{IfSome, option_map}
 use Rattle.std.proofs.lemmas.List.{length-take-le, take_all}
@@ -7,6 +7,7 @@ use Rattle.prefix_trie_bits.specs.Bits.{begins, digits, number}
 use Rattle.prefix_trie_bits.specs.BitStrings.{length-digits, take-digits, number_of_digits}
 use Rattle.prefix_trie_bits.specs.Begins.{same_bool, begins-take, begins-from-take}
 use Rattle.prefix_trie.specs.Laws.Networks.{NetworkLaws}
+use Rattle.prefix_trie.specs.Laws.Numbers.{NumberLaws}
 
 -- the number that the first len bits of a number of w bits write has len bits
 first_below : (w n len : ℕ) → n < 2 ^ w → len ≤ w → n / 2 ^ (w - len) < 2 ^ len
@@ -38,6 +39,9 @@ whole w addr = take_all w (digits w addr) (omega (arith, length-digits w addr))
 counted : (w : ℕ) (count : Option ℕ) → IfSome count (λ n. n < 2 ^ w) → option_map (λ n. number (digits w n)) count ≡ count
 counted w None small = refl
 counted w (Some n) small = ap Some (number_of_digits w n small)
+
+pub number_laws : (w : ℕ) → NumberLaws w
+number_laws w = record { whole = whole w; contains = contains w; count = counted w }
 
 pub network_laws : NetworkLaws
 network_laws = record {

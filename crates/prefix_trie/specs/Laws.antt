@@ -4,3 +4,4 @@ pub mod Lookups
 pub mod Putting
 pub mod Paths
 pub mod Networks
+pub mod Numbers

@@ -1,5 +1,6 @@
 -- The words of the model and of the map that a caller's own contract needs, under one name.
 pub use Rattle.prefix_trie_bits.specs.Bits.{begins, digits, number, zeros}
+pub use Rattle.prefix_trie_bits.specs.Keys.{narrow_width}
 pub use Rattle.prefix_trie_bits.specs.Order.{IsBefore, listing_cmp}
 pub use Rattle.prefix_trie_bits.specs.Model.Entries.{Entries, no_entries, with_entry, without_entry, without_below, part_below, put_all, AreWithin}
 pub use Rattle.prefix_trie_bits.specs.Model.Selections.{listing, listing_from, listing_after, listing_below, shown}

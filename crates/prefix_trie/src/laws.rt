@@ -5,7 +5,9 @@ ghost use Rattle.prefix_trie.specs.Laws.Stored.{StoredLaws};
 ghost use Rattle.prefix_trie.specs.Laws.Lookups.{LookupLaws};
 ghost use Rattle.prefix_trie.specs.Laws.Putting.{PutLaws};
 ghost use Rattle.prefix_trie.specs.Laws.Networks.{NetworkLaws};
+ghost use Rattle.prefix_trie.specs.Laws.Numbers.{NumberLaws};
 ghost use Rattle.prefix_trie.specs.Laws.Paths.{PathLaws};
+ghost use Rattle.prefix_trie_bits.specs.Keys.{narrow_width};
 
 pub use prefix_trie_bits::laws::{address_laws, listing_laws, match_laws, slot_laws};
 use prefix_trie_bits::prefix::Prefix;
@@ -35,4 +37,9 @@ pub fn path_laws<P: Prefix>()
 /// `address_count` answers as a number.
 pub fn network_laws()
     ensures { NetworkLaws }
+{}
+
+/// Of `Narrow<W>`: the path of the pair of a number and the width is the number, and which numbers a pair contains, by numbers.
+pub fn narrow_laws<const W: u32>()
+    ensures { NumberLaws (narrow_width W) }
 {}

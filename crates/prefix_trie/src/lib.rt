@@ -12,6 +12,6 @@ pub mod set;
 #[cfg(test)]
 mod tests;
 
-pub use prefix_trie_bits::prefix::{Ipv4Prefix, Ipv6Prefix, Key, Prefix, Refusal, Refused};
+pub use prefix_trie_bits::prefix::{Ipv4Prefix, Ipv6Prefix, Key, Narrow, Prefix, Refusal, Refused};
 pub use prefix_trie_map::map::{BlockCount, PrefixMap, Visits};
 pub use set::PrefixSet;

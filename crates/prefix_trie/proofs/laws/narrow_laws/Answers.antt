@@ -1,0 +1,6 @@
+use Rattle.prefix_trie_bits.specs.Keys.{narrow_width}
+use Rattle.prefix_trie.proofs.Networks.{number_laws}
+use Rattle.prefix_trie.proofs.laws.narrow_laws.Goals as goal
+
+pub returns : goal.returns
+returns g c = number_laws (narrow_width g.row.W)
