@@ -16,15 +16,15 @@ first_below w n len small within = shr_below n len (w - len) (subst (λ k. n < 2
     split : (a c : ℕ) → c ≤ a → c + (a - c) ≡ a
     split a c h = omega arith
 
-module _ (w network addr len : ℕ) (network_small : network < 2 ^ w) (addr_small : addr < 2 ^ w) (within : len ≤ w) where
-  path_long : length (take len (digits w network)) ≡ len
-  path_long = length-take-le len (digits w network) (omega (arith, length-digits w network, within))
+path_long : (w n len : ℕ) → len ≤ w → length (take len (digits w n)) ≡ len
+path_long w n len within = length-take-le len (digits w n) (omega (arith, length-digits w n, within))
 
+module _ (w network addr len : ℕ) (network_small : network < 2 ^ w) (addr_small : addr < 2 ^ w) (within : len ≤ w) where
   contains : begins (take len (digits w network)) (digits w addr) ≡ nat_eq (network / 2 ^ (w - len)) (addr / 2 ^ (w - len))
   contains =
       same_bool _ _
       (λ b.
-      let same : take len (digits w addr) ≡ take len (digits w network) = ap (λ n. take n (digits w addr)) (sym path_long) ∙ begins-take (take len (digits w network)) (digits w addr) b in
+      let same : take len (digits w addr) ≡ take len (digits w network) = ap (λ n. take n (digits w addr)) (sym (path_long w network len within)) ∙ begins-take (take len (digits w network)) (digits w addr) b in
       eq-eqb (network / 2 ^ (w - len)) (addr / 2 ^ (w - len))
       (sym (number_of_digits len (network / 2 ^ (w - len)) (first_below w network len network_small within))
       ∙ ap number (sym (take-digits len w network within) ∙ sym same ∙ take-digits len w addr within)
@@ -41,7 +41,7 @@ counted w None small = refl
 counted w (Some n) small = ap Some (number_of_digits w n small)
 
 pub number_laws : (w : ℕ) → NumberLaws w
-number_laws w = record { whole = whole w; contains = contains w; count = counted w }
+number_laws w = record { as_long = path_long w; whole = whole w; contains = contains w; count = counted w }
 
 pub network_laws : NetworkLaws
 network_laws = record {

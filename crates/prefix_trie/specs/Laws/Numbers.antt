@@ -1,10 +1,12 @@
 -- The path of a pair of a number and a length, in numbers of any width. This project's own.
-use Rattle.std.specs.Prelude.{◌≡◌, ℕ, ◌-◌, ◌^◌, ◌/◌, ◌<◌, ◌≤◌, Option, IfSome, nat_eq, take}
+use Rattle.std.specs.Prelude.{◌≡◌, ℕ, ◌-◌, ◌^◌, ◌/◌, ◌<◌, ◌≤◌, Option, IfSome, length, nat_eq, take}
 use Rattle.std.specs.Option.{option_map}
 use Rattle.prefix_trie_bits.specs.Bits.{begins, digits, number}
 
 pub record NumberLaws (width : ℕ) : Type 0 where
-  -- the path of full length is the number
+  -- a path is as long as its pair says
+  pub as_long : (n len : ℕ) → len ≤ width → length (take len (digits width n)) ≡ len
+  -- of full length it is the number
   pub whole : (n : ℕ) → take width (digits width n) ≡ digits width n
   -- a pair contains a number exactly if the numbers of their first bits are the same
   pub contains : (first n len : ℕ) → first < 2 ^ width → n < 2 ^ width → len ≤ width

@@ -6,19 +6,23 @@ pub mod delegations;
 pub mod forwarding;
 pub mod inventory;
 pub mod merge;
+pub mod ranges;
 
-use crate::{Ipv4Prefix, Ipv6Prefix, PrefixMap, PrefixSet, Refusal};
+use crate::{Ipv4Prefix, Ipv6Prefix, Narrow, PrefixMap, PrefixSet, Refusal};
 use access::{may_enter, reasons};
 use cache::store;
 use copy::copied;
 use delegations::{holder, record};
 use forwarding::{add, next_hop};
 use inventory::{addresses, count, next};
+use ranges::{assign, owner};
 use std::alloc::{AllocError, Allocator, Global};
 
 type Numbers<A> = PrefixMap<Ipv4Prefix, u32, A>;
 
 type Delegated<A> = PrefixMap<Ipv6Prefix, u32, A>;
+
+type Vlans<A> = PrefixMap<(Narrow<12>, u8), u32, A>;
 
 type Networks = PrefixSet<Ipv4Prefix, Global>;
 
@@ -94,9 +98,28 @@ fn keeps_out_anew(alloc: Global) -> Result<bool, Refusal> {
     Ok(keeps_out(&mut allowed, &mut denied, alloc))
 }
 
+/// Whether numbers of 12 bits have the owners of the narrowest ranges with them.
+fn is_owned<A: Allocator>(plan: &mut Vlans<A>) -> bool {
+    let office = Narrow::<12>::new(0x640).unwrap();
+    let printers = Narrow::<12>::new(0x642).unwrap();
+    let guests = Narrow::<12>::new(0x7ff).unwrap();
+    assign(plan, office, 8, 1).is_ok()
+        & assign(plan, printers, 11, 2).is_ok()
+        & (owner(plan, office) == Some(1))
+        & (owner(plan, printers) == Some(2))
+        & owner(plan, guests).is_none()
+}
+
+/// The same of a new map.
+fn is_owned_anew(alloc: Global) -> Result<bool, Refusal> {
+    let mut plan = PrefixMap::new(alloc)?;
+    Ok(is_owned::<Global>(&mut plan))
+}
+
 #[test]
 fn examples_run(rt: HostRuntime) {
     assert!(rt; stands_for_both_anew(rt.alloc()) == Ok(true));
     assert!(rt; is_held_anew(rt.alloc()) == Ok(true));
     assert!(rt; keeps_out_anew(rt.alloc()) == Ok(true));
+    assert!(rt; is_owned_anew(rt.alloc()) == Ok(true));
 }
