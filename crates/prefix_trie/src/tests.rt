@@ -13,6 +13,7 @@ mod mixed;
 mod mixed_sets;
 mod node;
 mod on_new;
+mod own_key;
 mod prefix;
 mod refusing;
 mod retain;
