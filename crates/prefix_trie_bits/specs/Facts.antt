@@ -85,13 +85,14 @@ pub record FactsHold : Type 0 where
       AsksInOrder (λ f _ (_ : ℕ) b f'. (b ≡ (f % 2 == 0)) × (f' ≡ f + 1)) 0
       ((false ∷ [], 1) ∷ (false ∷ false ∷ [], 2) ∷ (false ∷ false ∷ false ∷ [], 4) ∷ (false ∷ true ∷ [], 3) ∷ (false ∷ true ∷ false ∷ [], 5) ∷ [])
       ((false ∷ [], 1) ∷ (false ∷ false ∷ false ∷ [], 4) ∷ (false ∷ true ∷ false ∷ [], 5) ∷ [])
-  -- row 34: a writing walk that starts behind (5, 8) adds ten to each value that it lends, and no other value changes
+  -- row 34: a writing walk that starts behind (5, 8) adds ten to each value that it lends, and no other value changes. It does not end with a key to come
   pub written : LeadsTo 8 five_calls (λ t.
       (first : WritingWalk ℕ) × (second : WritingWalk ℕ) × (third : WritingWalk ℕ) × (last : WritingWalk ℕ)
       × Passes (walk_over t.entries t.nodes (listing_after t.entries (path_at 8 (5, 8)))) (path_at 8 (6, 8)) 13 first
       × Passes first (path_at 8 (8, 5)) 14 second
       × Passes second (path_at 8 (128, 1)) 15 third
       × Next third None last
+      × ((early : WritingWalk ℕ) → ¬ (Next second None early))
       × (values last.entries ≡ 1 ∷ 2 ∷ 13 ∷ 14 ∷ 15 ∷ []))
   -- row 47: handing out 192.168.0.0/22 gives a second map of three entries, and both maps have five nodes
   pub handed : LeadsTo 32 six_calls (λ t.

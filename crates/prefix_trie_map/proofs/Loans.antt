@@ -11,7 +11,7 @@ use denote.Param.Shared.{mut_ref_shared}
 use denote.Struct.Field.{mut_ref_field}
 use denote.Struct.Laws.{mut_ref_laws}
 use denote.Struct.Struct.{within}
-pub use Rattle.std.proofs.Common.{◌≡◌, ℕ, ◌+◌, ◌/◌, ◌≤◌, length, List, IfSome, None, Some, Option, [], ◌∷◌, refl, sym, MutBor, arith}
+pub use Rattle.std.proofs.Common.{◌≡◌, ℕ, ◌+◌, ◌/◌, ◌≤◌, length, List, IfSome, IfNone, None, Some, Option, [], ◌∷◌, refl, sym, MutBor, arith}
 pub use Rattle.std.proofs.raw_atomic.Walks.{proved}
 pub use mir.Syntax.{Args, named, a_type, dcons, dnil, Lifetime}
 pub use mir.Val.{Val, vptr, vstruct, vcons, vnil}

@@ -1,6 +1,6 @@
 -- What a step of a writing walk says of its first entry, that a walk that may have no map steps as what it goes over does, and which keys
 -- are to come of a walk.
-use Rattle.std.proofs.Common.{◌≡◌, Bool, true, List, [], ◌∷◌, map, Option, None, Some, MatchOption, IfSome, refl, sym, ap, ◌∙◌, subst}
+use Rattle.std.proofs.Common.{◌≡◌, Bool, true, List, [], ◌∷◌, map, Option, None, Some, MatchOption, IfSome, IfNone, refl, sym, ap, ◌∙◌, subst}
 use Rattle.std.specs.Borrow.{MutBor}
 use Rattle.std.specs.FinMap.{contains_key}
 use Rattle.std.specs.declared.cmp.PartialEq as partial
@@ -78,9 +78,9 @@ stepped IsAt Holds with First Passes Ends o a b is (Some x) h =
     subst (λ p. StepsIn IsAt Holds with First Passes p x.0 x.1 (Some b)) (sym is) (record { is_at = h.0; first = h.1; passes = h.2 })
 
 -- a value lent for an entry, whose prefix was handed out beside it
-module _ {Q V : Type 0} (First : Q → V → Type 0) (prefix : Option Q) where
+module _ {Q V : Type 0} (IsOver : Type 0) (First : Q → V → Type 0) (prefix : Option Q) where
   abbrev pub HasFirst : Option (MutBor V) → Type 0
-  HasFirst o = IfSome o (λ x. (q : Q) × (prefix ≡ Some q) × First q x.now)
+  HasFirst o = MatchOption o IsOver (λ x. (q : Q) × (prefix ≡ Some q) × First q x.now)
 
   pub prefix_there : (o : Option (MutBor V)) → HasFirst o → IfSome o (λ x. (q : Q) × (prefix ≡ Some q))
   prefix_there None first = tt
@@ -91,3 +91,7 @@ module _ {Q V : Type 0} (First : Q → V → Type 0) (prefix : Option Q) where
   first_beside o (Some r) lent is first =
       let there : HasFirst (Some r.1) = subst (λ v. HasFirst v) (sym lent) first in
       subst (λ p. IfSome p (λ q. First q r.1.now)) (sym there.1 ∙ is) there.2
+
+  pub none_beside : (o : Option (MutBor V)) (answer : Option (Q × MutBor V)) → lent_beside answer ≡ o → HasFirst o → IfNone answer IsOver
+  none_beside o None lent first = subst (λ v. HasFirst v) (sym lent) first
+  none_beside o (Some r) lent first = tt

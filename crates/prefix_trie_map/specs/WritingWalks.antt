@@ -14,6 +14,10 @@ module _ {C : Type 0} where
   EndsIn Ends (Some c) None = ⊥
   EndsIn Ends (Some c) (Some d) = Ends c d
 
+  -- nothing is to come
+  abbrev pub IsOverIn : (C → C → Type 0) → Option C → Type 0
+  IsOverIn Ends o = (n : Option C) × EndsIn Ends o n
+
 module _ {C S : Type 0} where
   -- the walk stands at this stop
   abbrev pub AtIn : (C → S → Type 0) → Option C → S → Type 0

@@ -5,7 +5,7 @@ use Rattle.std.proofs.lemmas.List.Elements.{All-head, All-tail, All-nil, All-con
 use Rattle.std.specs.List.{All}
 use Rattle.prefix_trie_bits.specs.Model.Step.{State, Call, Insert, Get, Lpm, Spm, Remove, RemoveKeepTree, RemoveChildren, RetainAtLeast, Clear, ListFrom, Children, Cover, CallFits, Reply, Step, Runs}
 use Rattle.prefix_trie_bits.specs.Model.Storage.{Storage, RunInStorage}
-use Rattle.prefix_trie_bits.specs.Model.Counted.{tidy_after, tidy_after_all, TidyIf, CountedStep, CountedFrom}
+use Rattle.prefix_trie_bits.specs.Model.Counted.{tidy_after, tidy_after_all, TidyIf, ReadsExactly, CountsReads, CountedStep, CountedFrom}
 use Rattle.prefix_trie_bits.specs.Laws.Counted.{CountedLaws}
 use Rattle.prefix_trie_bits.specs.Laws.Steps.{IsMap}
 use Rattle.prefix_trie_bits.proofs.Model.Runs.{runs_join}
@@ -39,6 +39,24 @@ module _ {P T : Type 0} where
 
   another : (call : Call P T) → keeps_tree call ≡ false → (q : P) → call ≢ RemoveKeepTree q
   another call off q is = true≢false (sym (ap keeps_tree is) ∙ off)
+
+module _ {P T : Type 0} where
+  still_known : (call : Call P T) → ((q : P) → call ≢ RemoveKeepTree q) → tidy_after true call ≡ true
+  still_known (RemoveKeepTree q) other = absurd (other q refl)
+  still_known (RetainAtLeast n) other = refl
+  still_known Clear other = refl
+  still_known call other = refl
+
+-- two numbers that are both one
+alike : (q : List Bool) (n : ℕ) (read other : Option ℕ) → ReadsExactly q n read → ReadsExactly q n other → read ≡ other
+alike q n read other a b = a.0 ∙ sym b.0
+
+module _ {P T : Type 0} (path : P → List Bool) where
+  reads_alike : (s : State T) (call : Call P T) (read other : Option ℕ) → CountsReads path s call read → CountsReads path s call other → read ≡ other
+  reads_alike s (Get q) read other a b = alike (path q) _ read other a b
+  reads_alike s (Lpm q) read other a b = alike (path q) _ read other a b
+  reads_alike s (Spm q) read other a b = alike (path q) _ read other a b
+  reads_alike s call read other a b = a ∙ sym b
 
 module _ {P T : Type 0} (path : P → List Bool) (back : List Bool → P) (width : ℕ) where
   -- a call leaves a tidy map tidy where it is another
@@ -123,4 +141,12 @@ module _ {P T : Type 0} (path : P → List Bool) (back : List Bool → P) (width
       (reply ∷ first, rest, read ∷ early, late, u, e ∙ ap (λ rs. reply ∷ rs) g, f ∙ ap (λ ns. read ∷ ns) h, (reply, first, read, early, mid, refl, refl, is_tidy, step, before), behind)
 
 pub counted_laws : (P T : Type 0) → CountedLaws P T
-counted_laws P T = record { is_run = in_storage; ends_tidy = ends_tidy; splits = splits }
+counted_laws P T = record {
+  reads_alike = reads_alike;
+  retained_known = λ tidy call n e. ap (tidy_after tidy) e;
+  cleared_known = λ tidy call e. ap (tidy_after tidy) e;
+  still_known = still_known;
+  is_run = in_storage;
+  ends_tidy = ends_tidy;
+  splits = splits;
+}

@@ -21,7 +21,7 @@ use Rattle.prefix_trie_bits.proofs.Model.Members.{from-not, has-empty, has-retai
 use Rattle.prefix_trie_bits.proofs.Model.Pruning.{begins-nil, needed_fewer, near_is, pruning_laws, remove_law, remove_children_law}
 use Rattle.prefix_trie_bits.proofs.Model.Storage.Refusing.{refuses}
 use Rattle.prefix_trie_bits.proofs.Model.Storage.Slots.{nodes_most, cells_most}
-use Rattle.prefix_trie_bits.proofs.Model.Storage.Staying.{one_gone, stays_stored}
+use Rattle.prefix_trie_bits.proofs.Model.Storage.Staying.{one_gone, longer_left, outside_left, emptied_have, stays_stored}
 use Rattle.prefix_trie_bits.proofs.Model.Steps.{part_fewer, stays_map}
 use Rattle.prefix_trie_bits.proofs.Model.Storage.Supplied.{supplied, stored_have}
 use Rattle.std.proofs.lemmas.List.{nil_from_length}
@@ -131,13 +131,7 @@ module _ {P T : Type 0} (path : P → List Bool) (back : List Bool → P) (width
   retains n =
       let kept = part_at_least s.0.entries n in
       let t : State T = record { entries = kept; nodes = needed kept } in
-      let left : IsLeft width s.0 t = record {
-        was = whole.is_map;
-        is = stays_map path back width s.0 (RetainAtLeast n) Done t tt (refl, refl) whole.is_map;
-        test = λ k. nat_le n (length k);
-        kept = refl;
-        stood = λ p there. whole.is_map.are_nodes.hold_needed p (needed_fewer s.0.entries kept (part_fewer s.0.entries n) p there);
-      } in
+      let left = longer_left path back width s whole n Done t (refl, refl) in
       let l = many_left width s.0 t left s.1 whole.have_blocks in
       changes (RetainAtLeast n) Done t l.0 tt refl (refl, refl) l.1 l.2 l.3
 
@@ -147,30 +141,14 @@ module _ {P T : Type 0} (path : P → List Bool) (back : List Bool → P) (width
 
   removes_below : (q : P) → length (path q) ≤ width → 0 < length (path q) → Answers (RemoveChildren q)
   removes_below q fits some =
-      let left : IsLeft width s.0 (below q) = record {
-        was = whole.is_map;
-        is = stays_map path back width s.0 (RemoveChildren q) Done (below q) fits (refl, refl) whole.is_map;
-        test = λ k. not (begins (path q) k);
-        kept = refl;
-        stood = (remove_children_law width s.0.entries s.0.nodes (path q) whole.is_map.are_nodes).none_new;
-      } in
+      let left = outside_left path back width s whole q Done (below q) fits (refl, refl) in
       let l = many_left width s.0 (below q) left s.1 whole.have_blocks in
       changes (RemoveChildren q) Done (below q) l.0 fits refl (refl, refl) l.1 (λ e. absurd (omega (arith, e, some)), λ _. l.2) l.3
 
-  -- at the root all entries and all other nodes go
-  all_below : (m : Entries T) (n : Nodes) (k : List Bool) → has_node n [] ≡ true → has_node (nodes_without_below n m []) k ≡ true → k ≡ []
-  all_below m n k rooted there = near_is n [] k ((pruning_laws T).none_added (nodes_not_below n []) (without_below m []) [] k
-      (sym (ap (λ b. has_node (cond b (pruned (nodes_not_below n []) (without_below m []) []) n) k) rooted) ∙ there)) (begins-nil k)
-
-  no_keys : (m : Entries T) (k : List Bool) → contains_key (without_below m []) k ≡ true → ⊥
-  no_keys m k has = true≢false (sym has ∙ has-retained m (λ x. not (begins [] x)) k ∙ ap (λ b. not b && contains_key m k) (begins-nil k))
-
   removes_all : (q : P) → length (path q) ≤ width → length (path q) ≡ 0 → Answers (RemoveChildren q)
   removes_all q fits none =
-      let root : path q ≡ [] = nil_from_length (path q) none in
       empties (RemoveChildren q) (below q) fits (refl, refl) (λ _. refl, λ some. absurd (omega (arith, none, some)))
-      (bare_have (below q) (λ k has. no_keys s.0.entries k (ap (λ p. contains_key (without_below s.0.entries p) k) (sym root) ∙ has))
-      (λ k there. all_below s.0.entries s.0.nodes k whole.is_map.are_nodes.rooted (ap (λ p. has_node (nodes_without_below s.0.nodes s.0.entries p) k) (sym root) ∙ there)))
+      (emptied_have s.0 (path q) whole.is_map.are_nodes.rooted (nil_from_length (path q) none))
 
   clears : Answers Clear
   clears = empties Clear (record { entries = no_entries; nodes = root_alone }) tt (refl, refl) refl (new_have T)

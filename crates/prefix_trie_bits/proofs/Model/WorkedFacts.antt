@@ -17,6 +17,7 @@ use Rattle.prefix_trie_bits.specs.Facts.Blocks.{at_slot}
 use Rattle.prefix_trie_bits.proofs.Model.Plain.{keys_of, Shows, Marks, needed-is, needed_marks, pruned_marks, marks_not_below, nodes_without_below-is}
 use Rattle.prefix_trie_bits.proofs.Model.Ordered.{entries-retained}
 use Rattle.prefix_trie_bits.proofs.Model.Played.{leads}
+use Rattle.prefix_trie_bits.proofs.Model.Facts.Blocks.{differ}
 
 -- what is said of the lists of a state's entries and nodes
 pub said : {A : Type 0} (f : List (List Bool × ℕ) → Marks → A) (t : State ℕ) {es : List (List Bool × ℕ)} {ns : Marks} → Shows t es ns → f (entries t.entries) (entries t.nodes) ≡ f es ns
@@ -130,6 +131,7 @@ facts_hold = record {
         (record { entries = m1; nodes = t.nodes; to_come = c ∷ []; lent = Some b }, (refl, refl), (b, refl, refl)),
         (record { entries = m2; nodes = t.nodes; to_come = []; lent = Some c }, (refl, refl), (c, refl, refl)),
         (refl, refl),
+        λ early h. differ 1 0 refl (ap length h.0),
         ap (map (λ e. e.1)) (entries-insert listing_total m2 c 15 ∙ ap (put listing_cmp c 15) (entries-insert listing_total m1 b 14 ∙ ap (put listing_cmp b 14) (entries-insert listing_total t.entries a 13 ∙ ap (put listing_cmp a 13) s.of_entries))),
       ));
   handed = leads refl (λ t s.

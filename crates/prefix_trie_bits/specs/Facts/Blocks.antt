@@ -51,6 +51,7 @@ pub record StepsBetweenFacts : Type 0 where
   pub stays : StepsBetween value_block_sizes 31 9 (Some 31) (Some 31)
   pub half_way : StepsBetween value_block_sizes 31 9 (Some 31) (Some 24)
   pub smallest : StepsBetween value_block_sizes 31 9 (Some 31) (Some 16)
+  pub not_of_20 : ¬ (StepsBetween value_block_sizes 31 9 (Some 31) (Some 20))
   pub not_too_small : ¬ (StepsBetween value_block_sizes 31 9 (Some 31) (Some 8))
   pub not_larger : ¬ (StepsBetween value_block_sizes 16 9 (Some 16) (Some 24))
   pub not_without : ¬ (StepsBetween value_block_sizes 31 9 (Some 31) None)

@@ -2,7 +2,7 @@
 use Rattle.std.specs.Prelude.{◌≡◌, ℕ, ◌++◌, true, false, Bool, List, [], ◌∷◌, map, take, Some, None}
 use Rattle.std.specs.FinMap.{from_sorted}
 use Rattle.prefix_trie_bits.specs.Model.Blocks.{Sizes, Layout, own_entries, child_count, no_layout}
-use Rattle.prefix_trie_bits.specs.Model.Insertion.{gains_child, child_block_needed, value_block_needed, node_slots_lacking, cell_slots_lacking, PassesLimit}
+use Rattle.prefix_trie_bits.specs.Model.Insertion.{gains_child, child_block_needed, value_block_needed, node_slots_lacking, cell_slots_lacking, PassesLimit, LacksWithinLimit}
 use Rattle.prefix_trie_bits.specs.Model.Nodes.{holders, parents}
 use Rattle.prefix_trie_bits.specs.Model.Step.{State, Insert, Remove, Value}
 use Rattle.prefix_trie_bits.specs.Facts.Blocks.{none_free, room_of}
@@ -72,7 +72,14 @@ pub record InsertionsHold : Type 0 where
       × (lacking 32 t no_layout (0, 4) ≡ (0, 1))
       × PassesLimit t.entries t.nodes (room_of 4 1 0) no_layout (path_at 32 (0, 32))
       × (¬ (PassesLimit t.entries t.nodes (room_of 4 1 0) no_layout (path_at 32 (0, 4)))))
-  -- row 37: after that key is removed all its blocks are free, and serve the other one
+  -- a key of five bits lacks one block for the root's child and one for its value. Where the limit leaves room for either, it has cause to be
+  -- refused for want of memory, and where for neither, it has none
+  pub first_child : LeadsTo 8 [] (λ t.
+      (lacking 8 t no_layout (0, 5) ≡ (1, 1))
+      × LacksWithinLimit t.entries t.nodes (room_of 10 9 10) no_layout (path_at 8 (0, 5))
+      × LacksWithinLimit t.entries t.nodes (room_of 10 10 9) no_layout (path_at 8 (0, 5))
+      × (¬ (LacksWithinLimit t.entries t.nodes (room_of 10 10 10) no_layout (path_at 8 (0, 5)))))
+  -- row 37: after its first key is removed all its blocks are free, and serve the other one
   pub freed : LeadsTo 32 ((Insert (0, 32) 1, Value None) ∷ (Remove (0, 32), Value (Some 1)) ∷ []) (λ t.
       lacking 32 t (layout_at 32 [] [] (ones_free 6) (ones_free 1)) (0xffffffff, 32) ≡ (0, 0))
   -- row 37: the first key again needs a block of two at the root, and one for each of five new nodes; the last node gets no child.
@@ -105,6 +112,7 @@ pub record InsertionsHold : Type 0 where
   pub three : LeadsTo 8 (sets (((0, 1), 1) ∷ ((128, 1), 2) ∷ ((0, 5), 3) ∷ [])) (λ t.
       (lacking 8 t three_slots (64, 2) ≡ (0, 4))
       × PassesLimit t.entries t.nodes (room_of 3 2 3) three_slots (path_at 8 (64, 2))
+      × (¬ (LacksWithinLimit t.entries t.nodes (room_of 3 2 3) three_slots (path_at 8 (64, 2))))
       × (¬ (PassesLimit t.entries t.nodes (room_of 7 2 3) three_slots (path_at 8 (64, 2)))))
   -- a key that is just five bits longer than a node is not its own
   pub five_bits : LeadsTo 8 (sets (((0, 5), 1) ∷ [])) (λ t.

@@ -87,11 +87,13 @@ pub record RetainFacts (t : State ℕ) : Type 0 where
   pub not_cells_longer : CannotLeave t (RetainAtLeast 0) (stored 2 4 (layout_at 8 root_child (root_value 2) none_free (ones_free 1)))
 
 -- the root's third entry lacks four slots. It is not set with a block lost; and it is not refused for want of slots,
--- since these lie within the limit, nor with other slots made, nor with a block lost, nor where a block of four is free
+-- since these lie within the limit, nor with other slots made, nor with blocks of one made in place of one of four, nor with a block
+-- lost, nor where a block of four is free
 pub record InsertFacts (t : State ℕ) : Type 0 where
   pub not_lost : CannotLeave t (Insert (64, 2) 5) (stored 2 7 (layout_at 8 root_child (root_value 4) none_free none_free))
   pub not_refused_for_slots : CannotRefuse t filled (64, 2) IndexRange filled
   pub not_refused_cells_more : CannotRefuse t filled (64, 2) Memory (stored 2 8 (layout_at 8 root_child (root_value 2) none_free four_free))
+  pub not_refused_with_ones : CannotRefuse t filled (64, 2) Memory (stored 2 7 (layout_at 8 root_child (root_value 2) none_free (ones_free 4)))
   pub not_refused_cells_fewer : CannotRefuse t filled (64, 2) Memory (stored 2 2 three_slots)
   pub not_refused_nodes_more : CannotRefuse t filled (64, 2) Memory (stored 3 3 (layout_at 8 root_child (root_value 2) (ones_free 1) none_free))
   pub not_refused_nodes_fewer : CannotRefuse t filled (64, 2) Memory (stored 1 3 three_slots)

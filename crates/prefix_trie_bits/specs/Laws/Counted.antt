@@ -1,10 +1,17 @@
 -- What follows from a run with its counts.
-use Rattle.std.specs.Prelude.{◌≡◌, ℕ, Bool, List, ◌++◌, Option}
-use Rattle.prefix_trie_bits.specs.Model.Step.{State, Call, Reply}
+use Rattle.std.specs.Prelude.{◌≡◌, ◌≢◌, ℕ, Bool, true, List, ◌++◌, Option}
+use Rattle.prefix_trie_bits.specs.Model.Step.{State, Call, RemoveKeepTree, RetainAtLeast, Clear, Reply}
 use Rattle.prefix_trie_bits.specs.Model.Storage.{Storage, RunInStorage}
-use Rattle.prefix_trie_bits.specs.Model.Counted.{tidy_after_all, TidyIf, CountedFrom}
+use Rattle.prefix_trie_bits.specs.Model.Counted.{tidy_after, tidy_after_all, TidyIf, CountsReads, CountedFrom}
 
 pub record CountedLaws (P T : Type 0) : Type 0 where
+  -- how many nodes a call reads from a state is one number
+  pub reads_alike : (path : P → List Bool) (s : State T) (call : Call P T) (read other : Option ℕ) → CountsReads path s call read → CountsReads path s call other → read ≡ other
+  -- behind a call that leaves only nodes that are needed the map is known to be tidy, whatever was known; and a tidy map is known to be so behind each
+  -- call but one that leaves all nodes
+  pub retained_known : (tidy : Bool) (call : Call P T) (n : ℕ) → call ≡ RetainAtLeast n → tidy_after tidy call ≡ true
+  pub cleared_known : (tidy : Bool) (call : Call P T) → call ≡ Clear → tidy_after tidy call ≡ true
+  pub still_known : (call : Call P T) → ((q : P) → call ≢ RemoveKeepTree q) → tidy_after true call ≡ true
   -- it is a run
   pub is_run : (path : P → List Bool) (back : List Bool → P) (width : ℕ) (tidy : Bool) (s : State T × Storage) (calls : List (Call P T)) (replies : List (Reply P T)) (reads : List (Option ℕ)) (t : State T × Storage)
       → CountedFrom path back width tidy s calls replies reads t → RunInStorage path back width s calls replies t

@@ -1,8 +1,8 @@
 -- From every map, however it is stored, each fitting call has a step; and so each list of fitting calls has a run.
-use Rattle.std.specs.Prelude.{◌≡◌, ◌≢◌, ℕ, ◌≤◌, ◌<◌, Bool, true, false, List, length, All}
+use Rattle.std.specs.Prelude.{◌≡◌, ℕ, ◌≤◌, ◌<◌, Bool, true, false, List, length, All}
 use Rattle.std.specs.FinMap.{contains_key}
 use Rattle.prefix_trie_bits.specs.Model.Insertion.{PassesLimit, LacksWithinLimit}
-use Rattle.prefix_trie_bits.specs.Model.Step.{State, Call, Insert, RemoveChildren, RetainAtLeast, CallFits, Reply, Refused, Refusal, Memory, IndexRange}
+use Rattle.prefix_trie_bits.specs.Model.Step.{State, Call, Insert, CallFits, Reply, Refused, Refusal, Memory, IndexRange}
 use Rattle.prefix_trie_bits.specs.Model.Storage.{Storage, HaveBlocks, StepInStorage, RunInStorage}
 use Rattle.prefix_trie_bits.specs.Laws.Determined.{is_refusal, may_refuse}
 use Rattle.prefix_trie_bits.specs.Laws.Steps.{IsMap}
@@ -42,8 +42,7 @@ pub record TotalLaws (P T : Type 0) : Type 0 where
   pub runs : (path : P → List Bool) (back : List Bool → P) (width : ℕ) (s : State T × Storage) (calls : List (Call P T))
       → width ≤ 128 → IsStoredMap width s → All (CallFits (λ q. length (path q) ≤ width)) calls
       → (replies : List (Reply P T)) × (t : State T × Storage) × RunInStorage path back width s calls replies t × IsStoredMap width t
-  -- each step leads from such a map to such a map; of those that may take many entries this says nothing, since their record does not say that
-  -- what a block steps down to is one of the sizes
+  -- each step leads from such a map to such a map
   pub stays : (path : P → List Bool) (back : List Bool → P) (width : ℕ) (s : State T × Storage) (call : Call P T) (reply : Reply P T) (t : State T × Storage)
-      → IsStoredMap width s → CallFits (λ q. length (path q) ≤ width) call → ((n : ℕ) → call ≢ RetainAtLeast n) → ((q : P) → call ≢ RemoveChildren q)
+      → IsStoredMap width s → CallFits (λ q. length (path q) ≤ width) call
       → StepInStorage path back width s call reply t → IsStoredMap width t

@@ -61,14 +61,14 @@ pub record StepsDown (sizes free : List ℕ) (before after : ℕ) (old new : Opt
   pub one_of : after < before → 0 < after → (new ≡ old) ⊎ (new ≡ smallest_size sizes after)
   pub smallest : (size : ℕ) → after < before → 0 < after → smallest_size sizes after ≡ Some size → 0 < free_of sizes free size → new ≡ Some size
 
--- the same of a list that lost its items in several steps: where some are left, its block is no larger than it was and no
--- smaller than the smallest that holds them
+-- the same of a list that lost its items in several steps: where some are left, its block is of one of the sizes, no larger than it
+-- was and no smaller than the smallest that holds them
 pub record StepsBetween (sizes : List ℕ) (before after : ℕ) (old new : Option ℕ) : Type 0 where
   pub fewer : after ≤ before
   pub same : after ≡ before → new ≡ old
   pub none : after ≡ 0 → new ≡ None
   pub between : after < before → 0 < after → (n : ℕ) × (o : ℕ) × (new ≡ Some n) × (old ≡ Some o) × (n ≤ o) ×
-      ((size : ℕ) → smallest_size sizes after ≡ Some size → size ≤ n)
+      ((size : ℕ) → smallest_size sizes after ≡ Some size → size ≤ n) × Contains sizes n
 
 -- the block of each node steps down, where the node p had `before p` items and has `after p`; no other string has a block
 pub record SizesStepDown (sizes free : List ℕ) (n : Nodes) (before after : List Bool → ℕ) (old new : Sizes) : Type 0 where

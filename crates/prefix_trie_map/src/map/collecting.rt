@@ -1,8 +1,9 @@
 //! Maps of the items that an iterator gives.
-ghost use Rattle.std.specs.Prelude.{◌≡◌, List, [], ◌∷◌, ◌+◌, ◌-◌, ◌*◌, ◌^◌, ◌<◌, length, All, IfOk, OnOk, IfErr};
+ghost use Rattle.std.specs.Prelude.{◌≡◌, List, [], ◌∷◌, ◌++◌, ◌+◌, ◌-◌, ◌*◌, ◌^◌, ◌<◌, length, All, IfOk, OnOk, IfErr};
 ghost use Rattle.std.specs.Iterator.{IsFinite, HoldsAlong, Yields, Drains};
-ghost use Rattle.prefix_trie_bits.specs.declared.prefix.Refusal.TheVariants.{IndexRange};
+ghost use Rattle.prefix_trie_bits.specs.declared.prefix.Refusal.TheVariants.{Memory, IndexRange};
 ghost use Rattle.prefix_trie_bits.specs.Model.Entries.{no_entries, put_all};
+ghost use Rattle.prefix_trie_bits.specs.Model.Insertion.{LacksWithinLimit};
 ghost use Rattle.prefix_trie_bits.specs.Model.Nodes.{IsTidy};
 ghost use Rattle.prefix_trie_bits.specs.Model.Room.{MayPassLimit};
 ghost use Rattle.prefix_trie_map.specs.Collected.{Puts, ManyMayPassLimit};
@@ -51,6 +52,10 @@ fn fill<P: Prefix, T: Drop, A: Allocator, I: IntoIterator<Item = (P, T)> + Drop>
     requires fit { (it : I.IntoIter) → I.into_iter_gives items it → HoldsAlong I.IntoIter.next_gives it (All (λ item. P.IsFitting item.0)) }
     ensures ok { OnOk result ((it : I.IntoIter) × (xs : List (P × T)) × I.into_iter_gives items it × Drains I.IntoIter.next_gives it xs × Puts P.path map.old xs map.new) }
     ensures range { IfErr result (λ cause. cause ≡ IndexRange → (it : I.IntoIter) × (xs : List (P × T)) × (rest : I.IntoIter) × I.into_iter_gives items it × Yields I.IntoIter.next_gives it xs rest × ManyMayPassLimit map.old.room (length xs)) }
+
+    // For want of memory only where some block lacks still for the last item taken, and the limit leaves room for it.
+    ensures memory { IfErr result (λ cause. cause ≡ Memory → (it : I.IntoIter) × (xs : List (P × T)) × (last : P × T) × (rest : I.IntoIter) × I.into_iter_gives items it
+        × Yields I.IntoIter.next_gives it (xs ++ last ∷ []) rest × LacksWithinLimit map.new.entries map.new.nodes map.new.room map.new.layout (P.path last.0)) }
 {
     for (prefix, value) in items {
         put(map, prefix, value)?;
@@ -67,6 +72,7 @@ fn put<P: Prefix, T: Drop, A: Allocator>(
     requires { P.IsFitting prefix }
     ensures ok { OnOk result (Puts P.path map.old ((prefix, value) ∷ []) map.new) }
     ensures range { IfErr result (λ cause. cause ≡ IndexRange → MayPassLimit map.old.room) }
+    ensures memory { IfErr result (λ cause. cause ≡ Memory → LacksWithinLimit map.new.entries map.new.nodes map.new.room map.new.layout (P.path prefix)) }
 {
     // The proof learns from it that the map is whole.
     let _ = map.len();

@@ -1,7 +1,8 @@
 //! Lookups: of exactly a prefix, and of the longest and the shortest stored prefix that contains one.
 //!
-//! Each but `get_lpm_value` has a form that also says how many nodes it read: it makes one counter, and hands it to one call of
-//! the table. The plain form is the first part of that answer: `Visits` has no bytes, so it costs nothing to make it.
+//! Each but `get_lpm_value` has a form that also says how many nodes it read. `get_counted`, `get_lpm_counted` and
+//! `get_spm_counted` make one counter, and hand it to one call of the table; the other counted forms ask one of these, and
+//! answer its counter. The plain form is the first part of that answer: `Visits` has no bytes, so it costs nothing to make it.
 ghost use Rattle.std.specs.Prelude.{◌≡◌, ◌≤◌, take, IfSome};
 ghost use Rattle.std.specs.Option.{option_copied, option_map, is_some};
 ghost use Rattle.std.specs.FinMap.{get, contains_key};

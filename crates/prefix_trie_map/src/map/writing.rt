@@ -2,7 +2,7 @@
 //!
 //! Which value comes next depends on the nodes alone, which no write changes. So a walk gives the entries that were selected when it
 //! was made, in listing order, each once, and asks for no memory.
-ghost use Rattle.std.specs.Prelude.{◌≡◌, IfSome, Some, None, MatchOption};
+ghost use Rattle.std.specs.Prelude.{◌≡◌, IfSome, IfNone, Some, None, MatchOption};
 ghost use Rattle.std.specs.Borrow.{sem, Lends};
 ghost use Rattle.prefix_trie_map.specs.Lending.{lent_beside};
 
@@ -64,7 +64,7 @@ impl<C> Default for WalkOf<C> {
 }
 
 impl<C: Source> WalkOf<C> {
-    ghost use Rattle.prefix_trie_map.specs.WritingWalks.{AtIn, HoldsIn, FirstIn, EndsIn, StepsIn, lends_stop, lends_next};
+    ghost use Rattle.prefix_trie_map.specs.WritingWalks.{AtIn, HoldsIn, FirstIn, EndsIn, IsOverIn, StepsIn, lends_stop, lends_next};
 
     /// Goes on to the next entry, and answers its prefix and where its value stands: `value` lends it.
     ///
@@ -121,6 +121,7 @@ impl<C: Source> WalkOf<C> {
     pub fn next(&mut self) -> Option<(C::Prefix, &mut C::Value)>
         ensures* writes_back { sem 𝓛 (lends_next C.row C.Value.row self.entry C.Passes C.Ends (lent_beside result)) }
         ensures first { IfSome result (λ r. FirstIn C.First self.old.course r.0 r.1.now) }
+        ensures none { IfNone result (IsOverIn C.Ends self.old.course) }
     {
         let mut prefix = None;
         let value = self.lend_next(&mut prefix);
@@ -131,7 +132,8 @@ impl<C: Source> WalkOf<C> {
     #[inline]
     fn lend_next(&mut self, prefix: &mut Option<C::Prefix>) -> Option<&mut C::Value>
         ensures* writes_back { sem 𝓛 (lends_next C.row C.Value.row self.entry C.Passes C.Ends result) }
-        ensures first { IfSome result (λ x. (q : C.Prefix) × (prefix.new ≡ Some q) × FirstIn C.First self.old.course q x.now) }
+        ensures first { MatchOption result (IsOverIn C.Ends self.old.course)
+            (λ x. (q : C.Prefix) × (prefix.new ≡ Some q) × FirstIn C.First self.old.course q x.now) }
     {
         let (found, stop) = self.step()?;
         *prefix = Some(found);

@@ -1,9 +1,9 @@
 -- What several removals do to the size of a block.
 use Rattle.std.proofs.Common.{length, take, is_some, ◌≡◌, ◌≢◌, ℕ, ◌+◌, ◌-◌, ◌<◌, ◌≤◌, ◌⊎◌, inl, inr, Bool, true, false, not, ◌||◌, nat_le, List, [], ◌∷◌, ◌++◌, Option, None, Some, option_map, refl, sym, ap, ◌∙◌, subst, arith}
 use Rattle.std.proofs.lemmas.Bool.{cases_lt, cases_Bool, true≢false}
-use Rattle.std.proofs.lemmas.List.{take_all}
+use Rattle.std.proofs.lemmas.List.{take_all, get_or_default}
 use Rattle.std.proofs.lemmas.Bool.Decides.{nat_tests}
-use Rattle.std.specs.List.{position}
+use Rattle.std.specs.List.{Contains, position}
 use Rattle.prefix_trie_bits.specs.Model.Blocks.{StepsBetween, smallest_size}
 use Rattle.prefix_trie_bits.proofs.Checks.{below, at_below}
 use Rattle.prefix_trie_bits.proofs.Model.Members.{or-cases, from-not}
@@ -46,20 +46,20 @@ between_then sizes b m a o x n first second = record {
 }
   where
     go : a < b → 0 < a → (a < m) ⊎ (m ≤ a) → (m < b) ⊎ (b ≤ m) →
-        (k : ℕ) × (l : ℕ) × (n ≡ Some k) × (o ≡ Some l) × (k ≤ l) × ((size : ℕ) → smallest_size sizes a ≡ Some size → size ≤ k)
+        (k : ℕ) × (l : ℕ) × (n ≡ Some k) × (o ≡ Some l) × (k ≤ l) × ((size : ℕ) → smallest_size sizes a ≡ Some size → size ≤ k) × Contains sizes k
     go all some (inl less) (inl more) =
         let s = second.between less some in
         let f = first.between more (omega arith) in
         let same : s.1 ≡ f.0 = some_same s.1 f.0 (sym s.3 ∙ f.2) in
-        (s.0, f.1, s.2, f.3, (let p = s.4 in let q = f.4 in omega (arith, p, q, same)), s.5)
+        (s.0, f.1, s.2, f.3, (let p = s.4 in let q = f.4 in omega (arith, p, q, same)), s.5, s.6)
     go all some (inl less) (inr last) =
         let s = second.between less some in
         let same : x ≡ o = first.same (let f = first.fewer in omega arith) in
-        (s.0, s.1, s.2, sym same ∙ s.3, s.4, s.5)
+        (s.0, s.1, s.2, sym same ∙ s.3, s.4, s.5, s.6)
     go all some (inr last) (inl more) =
         let count : a ≡ m = (let s = second.fewer in omega arith) in
         let f = first.between more (omega arith) in
-        (f.0, f.1, second.same count ∙ f.2, f.3, f.4, λ size e. f.5 size (ap (smallest_size sizes) (sym count) ∙ e))
+        (f.0, f.1, second.same count ∙ f.2, f.3, f.4, λ size e. f.5 size (ap (smallest_size sizes) (sym count) ∙ e), f.6)
     go all some (inr last) (inr first_last) = absurd (omega arith)
 
 -- ---- by tiers
@@ -87,7 +87,7 @@ rising sizes all j t le inside =
       | inr holds ↦ grind (arith, nat_tests)
     ]
 
-module _ (ts : List Tier) (sizes : List ℕ) (are : tier_sizes ts ≡ sizes) (all : all_rising sizes ≡ true) (k count to after : ℕ) (fewer : after + 1 ≡ count)
+module _ (ts : List Tier) (sizes : List ℕ) (are : tier_sizes ts ≡ sizes) (seven : length sizes ≡ 7) (all : all_rising sizes ≡ true) (k count to after : ℕ) (fewer : after + 1 ≡ count)
     (s : Shrinks ts k count to) (inside : k < 7) (fits : count ≤ size_in sizes k) where
   after_is : after ≡ count - 1
   after_is = omega arith
@@ -113,6 +113,11 @@ module _ (ts : List Tier) (sizes : List ℕ) (are : tier_sizes ts ≡ sizes) (al
       let same : j ≡ to = some_same j to (sym at ∙ ap (tier_for ts) after_is ∙ e) in
       let h : size_in sizes j ≡ size_in sizes to = ap (size_in sizes) same in omega (arith, h, is)
 
+  -- the size left is one of the sizes
+  among : (to ≡ k) ⊎ (tier_for ts (count - 1) ≡ Some to) → Contains sizes (size_in sizes to)
+  among (inl e) = (to, omega (arith, e, inside, seven), get_or_default sizes to (size_in sizes to) 0 (omega (arith, e, inside, seven)))
+  among (inr e) = (let low = tier_low to (ap (tier_for ts) after_is ∙ e) in (to, omega (arith, low, inside, seven), get_or_default sizes to (size_in sizes to) 0 (omega (arith, low, inside, seven))))
+
   -- a list that loses an item
   between_shrunk : StepsBetween sizes count after (size_if_any count (size_in sizes k)) (size_if_any after (size_in sizes to))
   between_shrunk = record {
@@ -126,6 +131,7 @@ module _ (ts : List Tier) (sizes : List ℕ) (are : tier_sizes ts ≡ sizes) (al
       some_size count (size_in sizes k) (omega arith),
       at_most some (s.smallest (omega arith)),
       λ size is. at_least size (s.smallest (omega arith)) (size_of size (tier_for ts after) refl (sym (smallest_is ts sizes are after) ∙ is)),
+      among (s.smallest (omega arith)),
     );
   }
 
@@ -169,7 +175,7 @@ module _ {T : Type 0} (reading : List ℕ → Option Node) (paths : List (List �
   pub taken_values_between : tier_sizes w.tiers ≡ cell_sizes → (x : List ℕ) → ValuesBetween (reading x) (with_node reading p m x)
   taken_values_between are =
       where_written ValuesBetween values_still reading p n m is
-      (between_shrunk w.tiers cell_sizes are cells_rising n.value_tier (rank n.value_bitmap 32) m.value_tier (rank m.value_bitmap 32) t.fewer t.shrinks t.fits.0 t.fits.1)
+      (between_shrunk w.tiers cell_sizes are refl cells_rising n.value_tier (rank n.value_bitmap 32) m.value_tier (rank m.value_bitmap 32) t.fewer t.shrinks t.fits.0 t.fits.1)
 
   pub taken_children_between : (x : List ℕ) → ChildrenBetween (reading x) (with_node reading p m x)
   taken_children_between =
@@ -188,7 +194,7 @@ module _ (reading : List ℕ → Option Node) (paths : List (List ℕ)) (p : Lis
   pub dropped_children_between : tier_sizes v.tiers ≡ node_sizes → (x : List ℕ) → ChildrenBetween (reading x) (lacking_child reading p m c x)
   dropped_children_between are =
       where_dropped ChildrenBetween children_still reading p n m is
-      (between_shrunk v.tiers node_sizes are nodes_rising n.child_tier (rank n.child_bitmap 32) m.child_tier (rank m.child_bitmap 32) t.fewer t.shrinks t.fits.0 t.fits.1)
+      (between_shrunk v.tiers node_sizes are refl nodes_rising n.child_tier (rank n.child_bitmap 32) m.child_tier (rank m.child_bitmap 32) t.fewer t.shrinks t.fits.0 t.fits.1)
       c leaf under (children_between (Some leaf) None (sym bare.no_children) (sym (children_none (Some leaf) bare.no_children)))
 
 -- pruning leaves each node's values where they were, and the children of the node where it stopped in a smaller block at most
@@ -221,7 +227,7 @@ module _ (reading : List ℕ → Option Node) (paths : List (List ℕ)) (path : 
           (children_list reading paths v hold (take level path) n was) (omega (arith, one)) in
           subst (λ o. ChildrenBetween o (p.later (take level path))) (sym was)
           (subst (ChildrenBetween (Some n)) (sym p.is)
-          (between_shrunk v.tiers node_sizes hold.sizes_are nodes_rising n.child_tier (rank n.child_bitmap 32) node.child_tier (rank node.child_bitmap 32)
+          (between_shrunk v.tiers node_sizes hold.sizes_are refl nodes_rising n.child_tier (rank n.child_bitmap 32) node.child_tier (rank node.child_bitmap 32)
           one (p.shrinks n less was).1 fits.0 fits.1))
 
   on_way : (k : ℕ) → k ≤ length path → ChildrenBetween (reading (take k path)) (p.later (take k path))

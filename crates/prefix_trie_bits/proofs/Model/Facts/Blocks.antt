@@ -44,24 +44,29 @@ differ a b p e = absurd (true≢false (sym (eq-eqb a b e) ∙ p))
 
 -- the block left is too small, larger than before, or none
 under : (n o least : ℕ) (smallest : Option ℕ) → smallest ≡ Some least → n < least
-    → (m : ℕ) × (k : ℕ) × (Some n ≡ Some m) × (Some o ≡ Some k) × (m ≤ k) × ((size : ℕ) → smallest ≡ Some size → size ≤ m) → ⊥
-under n o least smallest is small (m, k, e, f, l, at_least) = let a = some_is n m e in let b = at_least least is in absurd (omega arith)
+    → (m : ℕ) × (k : ℕ) × (Some n ≡ Some m) × (Some o ≡ Some k) × (m ≤ k) × ((size : ℕ) → smallest ≡ Some size → size ≤ m) × Contains value_block_sizes m → ⊥
+under n o least smallest is small (m, k, e, f, l, at_least, among) = let a = some_is n m e in let b = at_least least is in absurd (omega arith)
 
 over : (n o : ℕ) (smallest : Option ℕ) → o < n
-    → (m : ℕ) × (k : ℕ) × (Some n ≡ Some m) × (Some o ≡ Some k) × (m ≤ k) × ((size : ℕ) → smallest ≡ Some size → size ≤ m) → ⊥
-over n o smallest more (m, k, e, f, l, at_least) = let a = some_is n m e in let b = some_is o k f in absurd (omega arith)
+    → (m : ℕ) × (k : ℕ) × (Some n ≡ Some m) × (Some o ≡ Some k) × (m ≤ k) × ((size : ℕ) → smallest ≡ Some size → size ≤ m) × Contains value_block_sizes m → ⊥
+over n o smallest more (m, k, e, f, l, at_least, among) = let a = some_is n m e in let b = some_is o k f in absurd (omega arith)
 
 without : (old : Option ℕ) (smallest : Option ℕ)
-    → (m : ℕ) × (k : ℕ) × (None ≡ Some m) × (old ≡ Some k) × (m ≤ k) × ((size : ℕ) → smallest ≡ Some size → size ≤ m) → ⊥
-without old smallest (m, k, e, f, l, at_least) = not_some m e
+    → (m : ℕ) × (k : ℕ) × (None ≡ Some m) × (old ≡ Some k) × (m ≤ k) × ((size : ℕ) → smallest ≡ Some size → size ≤ m) × Contains value_block_sizes m → ⊥
+without old smallest (m, k, e, f, l, at_least, among) = not_some m e
 
--- a block that lies between 16 and 31 is right for nine items of 31
-may_be : (n : ℕ) → 16 ≤ n → n ≤ 31 → StepsBetween value_block_sizes 31 9 (Some 31) (Some n)
-may_be n low high = record {
+-- or of no size
+unsized : (n o : ℕ) (smallest : Option ℕ) → list_any (λ s. s == n) value_block_sizes ≡ false
+    → (m : ℕ) × (k : ℕ) × (Some n ≡ Some m) × (Some o ≡ Some k) × (m ≤ k) × ((size : ℕ) → smallest ≡ Some size → size ≤ m) × Contains value_block_sizes m → ⊥
+unsized n o smallest answers (m, k, e, f, l, at_least, among) = not_size value_block_sizes n answers (subst (Contains value_block_sizes) (sym (some_is n m e)) among)
+
+-- a block of a size between 16 and 31 is right for nine items of 31
+may_be : (n : ℕ) → 16 ≤ n → n ≤ 31 → Contains value_block_sizes n → StepsBetween value_block_sizes 31 9 (Some 31) (Some n)
+may_be n low high among = record {
   fewer = lit≤ tt;
   same = differ 9 31 refl;
   none = differ 9 0 refl;
-  between = λ _ _. (n, 31, refl, refl, high, λ size e. let is = some_is 16 size e in omega arith);
+  between = λ _ _. (n, 31, refl, refl, high, λ size e. (let is = some_is 16 size e in omega arith), among);
 }
 
 abbrev Longer : List ℕ → Option ℕ → Option ℕ → ℕ → Type 0
@@ -128,9 +133,10 @@ blocks_hold = record {
     not_more = λ h. let l : 2 ≤ 1 = h.fewer in absurd (omega arith);
   };
   between = record {
-    stays = may_be 31 (lit≤ tt) (lit≤ tt);
-    half_way = may_be 24 (lit≤ tt) (lit≤ tt);
-    smallest = may_be 16 (lit≤ tt) (lit≤ tt);
+    stays = may_be 31 (lit≤ tt) (lit≤ tt) (6, lit< tt, refl);
+    half_way = may_be 24 (lit≤ tt) (lit≤ tt) (5, lit< tt, refl);
+    smallest = may_be 16 (lit≤ tt) (lit≤ tt) (4, lit< tt, refl);
+    not_of_20 = λ h. unsized 20 31 (smallest_size value_block_sizes 9) refl (h.between (lit< tt) (lit< tt));
     not_too_small = λ h. under 8 31 16 (smallest_size value_block_sizes 9) refl (lit< tt) (h.between (lit< tt) (lit< tt));
     not_larger = λ h. over 24 16 (smallest_size value_block_sizes 9) (lit< tt) (h.between (lit< tt) (lit< tt));
     not_without = λ h. without (Some 31) (smallest_size value_block_sizes 9) (h.between (lit< tt) (lit< tt));

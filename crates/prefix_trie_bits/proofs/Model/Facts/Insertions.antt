@@ -1,5 +1,6 @@
 -- The worked facts on what an insertion needs and lacks.
-use Rattle.std.proofs.Common.{◌≡◌, ◌⊎◌, ℕ, ◌+◌, ◌<◌, ◌≤◌, ◌&&◌, Bool, not, cond, List, [], ◌∷◌, map, take, filter_map, length, nat_lt, is_some, Option, None, refl, ap, ap₂, ◌∙◌, inl, inr, arith, lit<, lit≤}
+use Rattle.std.proofs.Common.{◌≡◌, ◌⊎◌, ℕ, ◌+◌, ◌-◌, ◌<◌, ◌≤◌, ◌==◌, ◌&&◌, Bool, not, cond, List, [], ◌∷◌, map, take, filter, filter_map, length, nat_lt, is_some, Option, None, refl, sym, ap, ap₂, ◌∙◌, inl, inr, arith, eqb-true, lit<, lit≤}
+use Rattle.std.proofs.lemmas.Bool.{cases_Bool}
 use Rattle.std.specs.Prelude.{option_to_list}
 use lib.Dec.{T as IsT}
 use Rattle.std.specs.FinMap.{entries, entries-from_sorted, get-entries, find, is_sorted}
@@ -7,12 +8,13 @@ use Rattle.prefix_trie_bits.specs.Bits.{digits, number, begins}
 use Rattle.prefix_trie_bits.specs.Order.{listing_cmp, same_string}
 use Rattle.prefix_trie_bits.specs.Model.Entries.{Entries}
 use Rattle.prefix_trie_bits.specs.Model.Nodes.{Nodes, is_node_depth, nodes_above, home}
-use Rattle.prefix_trie_bits.specs.Model.Blocks.{Sizes, Layout, value_block_sizes, child_block_sizes, no_layout, own_entries, child_count}
-use Rattle.prefix_trie_bits.specs.Model.Insertion.{block_needed, gains_child, child_block_needed, value_block_needed, lacking_slots, node_slots_lacking, cell_slots_lacking}
+use Rattle.prefix_trie_bits.specs.Model.Blocks.{Sizes, Layout, value_block_sizes, child_block_sizes, free_of, no_layout, own_entries, child_count}
+use Rattle.prefix_trie_bits.specs.Model.Insertion.{block_needed, gains_child, child_block_needed, value_block_needed, child_blocks_needed, value_blocks_needed, lacking_of, lacking_slots, node_slots_lacking, cell_slots_lacking, LacksWithinLimit}
+use Rattle.prefix_trie_bits.specs.Model.Room.{Room}
 use Rattle.prefix_trie_bits.specs.Model.Step.{State}
 use Rattle.prefix_trie_bits.specs.Rows.Examples.{path_at, full_pairs}
-use Rattle.prefix_trie_bits.specs.Facts.Blocks.{none_free}
-use Rattle.prefix_trie_bits.specs.Facts.Insertions.{Blocks, by_path, sizes_at, layout_at, with_one, ones_free, lacking, far_children, far_layout, InsertionsHold}
+use Rattle.prefix_trie_bits.specs.Facts.Blocks.{none_free, room_of}
+use Rattle.prefix_trie_bits.specs.Facts.Insertions.{Blocks, by_path, sizes_at, layout_at, with_one, ones_free, lacking, far_children, far_layout, three_slots, InsertionsHold}
 use Rattle.prefix_trie_bits.proofs.Model.Plain.{Shows, Marks}
 use Rattle.prefix_trie_bits.proofs.Model.Ordered.{entries-empty}
 use Rattle.prefix_trie_bits.proofs.Model.Played.{leads}
@@ -70,7 +72,7 @@ listed width blocks = map (by_path width) blocks
 abbrev pub InOrder : ℕ → Blocks → Type 0
 InOrder width blocks = IsT (is_sorted listing_cmp (listed width blocks))
 
-sizes-is : (width : ℕ) (blocks : Blocks) → InOrder width blocks → entries (sizes_at width blocks) ≡ listed width blocks
+pub sizes-is : (width : ℕ) (blocks : Blocks) → InOrder width blocks → entries (sizes_at width blocks) ≡ listed width blocks
 sizes-is width blocks h = entries-from_sorted listing_cmp (listed width blocks) h
 
 lacks_in : (width : ℕ) (t : State ℕ) (layout : Layout) (q : ℕ × ℕ) {es cs vs : Sized} {ns : Marks} → Shows t es ns → entries layout.child_blocks ≡ cs → entries layout.value_blocks ≡ vs
@@ -96,6 +98,52 @@ pub neither_more : (limit a b lack_a lack_b n m : ℕ) → lack_a ≡ n → lack
 neither_more limit a b lack_a lack_b n m e f p q (inl l) = absurd (omega arith)
 neither_more limit a b lack_a lack_b n m e f p q (inr l) = absurd (omega arith)
 
+-- the sizes of the blocks that are needed
+children_needed : (t : State ℕ) (layout : Layout) (q : List Bool) {es cs : Sized} {ns : Marks} → Shows t es ns → entries layout.child_blocks ≡ cs
+    → child_blocks_needed t.nodes layout q ≡ filter_map (child_needed_in ns cs q) (nodes_above q)
+children_needed t layout q s c =
+    (λ i. filter_map (λ p. child-is t.nodes layout.child_blocks q p i) (nodes_above q)) ∙ ap₂ (λ ns bs. filter_map (child_needed_in ns bs q) (nodes_above q)) s.of_nodes c
+
+pub values_needed : (t : State ℕ) (layout : Layout) (q : List Bool) {es vs : Sized} {ns : Marks} → Shows t es ns → entries layout.value_blocks ≡ vs
+    → value_blocks_needed t.entries layout q ≡ option_to_list (value_needed_in es vs q (home q))
+values_needed t layout q s v =
+    ap option_to_list (value-is t.entries layout.value_blocks q (home q) ∙ ap₂ (λ es bs. value_needed_in es bs q (home q)) s.of_entries v)
+
+-- where one block is needed, none lacks of another size
+lacks_one : (sizes free needed : List ℕ) (n size : ℕ) → needed ≡ n ∷ [] → 0 < lacking_of sizes free needed size → size ≡ n
+lacks_one sizes free needed n size e l = elim (cases_Bool (n == size)) as (λ _. size ≡ n) [
+  | inl is ↦ sym (eqb-true n size is)
+  | inr other ↦
+      let none : length (filter (λ s. s == size) needed) ≡ 0 = ap (λ ns. length (filter (λ s. s == size) ns)) e ∙ ap (λ b. length (cond b (n ∷ []) [])) other in
+      let some : 0 < length (filter (λ s. s == size) needed) - free_of sizes free size = l in
+      absurd (omega (arith, none, some))
+]
+
+lacks_none : (sizes free needed : List ℕ) (size : ℕ) → needed ≡ [] → 0 < lacking_of sizes free needed size → ⊥
+lacks_none sizes free needed size e l =
+    let none : length (filter (λ s. s == size) needed) ≡ 0 = ap (λ ns. length (filter (λ s. s == size) ns)) e in
+    let some : 0 < length (filter (λ s. s == size) needed) - free_of sizes free size = l in
+    absurd (omega (arith, none, some))
+
+-- and that one does, if none of its size is free
+lacks_that : (sizes free needed : List ℕ) (n : ℕ) → needed ≡ n ∷ [] → lacking_of sizes free (n ∷ []) n ≡ 1 → 0 < lacking_of sizes free needed n
+lacks_that sizes free needed n e one = let is : lacking_of sizes free needed n ≡ 1 = ap (λ ns. lacking_of sizes free ns n) e ∙ one in omega (arith, is)
+
+-- neither the block of children nor that of values fits
+neither_within : (t : State ℕ) (room : Room) (layout : Layout) (q : List Bool) (n m : ℕ) → child_blocks_needed t.nodes layout q ≡ n ∷ [] → value_blocks_needed t.entries layout q ≡ m ∷ []
+    → room.limit < room.node_slots + n → room.limit < room.cell_slots + m → LacksWithinLimit t.entries t.nodes room layout q → ⊥
+neither_within t room layout q n m e f past_nodes past_cells (inl (size, lacks, fits)) =
+    let is = lacks_one child_block_sizes layout.free_child_blocks _ n size e lacks in absurd (omega (arith, is, fits, past_nodes))
+neither_within t room layout q n m e f past_nodes past_cells (inr (size, lacks, fits)) =
+    let is = lacks_one value_block_sizes layout.free_value_blocks _ m size f lacks in absurd (omega (arith, is, fits, past_cells))
+
+-- where no block of children is needed, that of values does not
+not_within : (t : State ℕ) (room : Room) (layout : Layout) (q : List Bool) (m : ℕ) → child_blocks_needed t.nodes layout q ≡ [] → value_blocks_needed t.entries layout q ≡ m ∷ []
+    → room.limit < room.cell_slots + m → LacksWithinLimit t.entries t.nodes room layout q → ⊥
+not_within t room layout q m e f past (inl (size, lacks, fits)) = lacks_none child_block_sizes layout.free_child_blocks _ size e lacks
+not_within t room layout q m e f past (inr (size, lacks, fits)) =
+    let is = lacks_one value_block_sizes layout.free_value_blocks _ m size f lacks in absurd (omega (arith, is, fits, past))
+
 abbrev far_values : Blocks
 far_values = ((0xfffffffc, 30), 1) ∷ []
 
@@ -112,6 +160,14 @@ insertions_hold = record {
         short,
         inl (more 4 1 _ 6 (ap (λ x. x.0) long) (lit< tt)),
         neither_more 4 1 0 _ _ 0 1 (ap (λ x. x.0) short) (ap (λ x. x.1) short) (lit≤ tt) (lit≤ tt),
+      ));
+  first_child = leads refl (λ t s.
+      let child = children_needed t no_layout (path_at 8 (0, 5)) s (entries-empty ℕ) in
+      let value = values_needed t no_layout (path_at 8 (0, 5)) s (entries-empty ℕ) in (
+        lacks_new 8 t (0, 5) s,
+        inl (1, lacks_that child_block_sizes none_free _ 1 child refl, lit≤ tt),
+        inr (1, lacks_that value_block_sizes none_free _ 1 value refl, lit≤ tt),
+        neither_within t (room_of 10 10 10) no_layout (path_at 8 (0, 5)) 1 1 child value (lit< tt) (lit< tt),
       ));
   freed = leads refl (λ t s. lacks 32 t [] [] (ones_free 6) (ones_free 1) (0xffffffff, 32) s tt tt);
   far_key = leads refl (λ t s.
@@ -143,6 +199,8 @@ insertions_hold = record {
       let third = lacks 8 t (((0, 0), 1) ∷ []) (((0, 0), 2) ∷ ((0, 5), 1) ∷ []) none_free none_free (64, 2) s tt tt in (
         third,
         inr (more 3 3 _ 4 (ap (λ x. x.1) third) (lit< tt)),
+        not_within t (room_of 3 2 3) three_slots (path_at 8 (64, 2)) 4 (children_needed t three_slots (path_at 8 (64, 2)) s (sizes-is 8 (((0, 0), 1) ∷ []) tt))
+            (values_needed t three_slots (path_at 8 (64, 2)) s (sizes-is 8 (((0, 0), 2) ∷ ((0, 5), 1) ∷ []) tt)) (lit< tt),
         neither_more 7 2 3 _ _ 0 4 (ap (λ x. x.0) third) (ap (λ x. x.1) third) (lit≤ tt) (lit≤ tt),
       ));
   five_bits = leads refl (λ t s. (

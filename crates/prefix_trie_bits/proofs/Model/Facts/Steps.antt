@@ -6,8 +6,8 @@ use Rattle.std.specs.FinMap.{entries, get, contains_key, values, entries-from_so
 use Rattle.prefix_trie_bits.specs.Bits.{digits, number, begins}
 use Rattle.prefix_trie_bits.specs.Order.{listing_cmp}
 use Rattle.prefix_trie_bits.specs.Model.Nodes.{has_node}
-use Rattle.prefix_trie_bits.specs.Model.Blocks.{value_block_sizes, child_block_sizes, free_of, own_entries, HasBlock, LongerByOne, LosesNoBlock}
-use Rattle.prefix_trie_bits.specs.Model.Insertion.{value_block_needed}
+use Rattle.prefix_trie_bits.specs.Model.Blocks.{value_block_sizes, child_block_sizes, free_of, own_entries, used_of, HasBlock, LongerByOne, LosesNoBlock}
+use Rattle.prefix_trie_bits.specs.Model.Insertion.{value_block_needed, lacking_of, value_blocks_lacking}
 use Rattle.prefix_trie_bits.specs.Model.Step.{State, Call, Remove, RemoveKeepTree, RetainAtLeast, Reply, Memory, IndexRange, Step}
 use Rattle.prefix_trie_bits.specs.Laws.Determined.{is_refusal}
 use Rattle.prefix_trie_bits.specs.Rows.Examples.{path_at, back_at, sets}
@@ -19,7 +19,7 @@ use Rattle.prefix_trie_bits.proofs.Model.Played.{last_entries, last_marks, leads
 use Rattle.prefix_trie_bits.proofs.Model.WorkedFacts.{said, own_in, children_in}
 use Rattle.prefix_trie_bits.proofs.Model.Determined.{same}
 use Rattle.prefix_trie_bits.proofs.Model.Facts.Blocks.{some_is, not_some, unlike, differ, not_in}
-use Rattle.prefix_trie_bits.proofs.Model.Facts.Insertions.{value_needed_in, value-is, Sized, listed, InOrder, lacks, neither_more}
+use Rattle.prefix_trie_bits.proofs.Model.Facts.Insertions.{value_needed_in, value-is, values_needed, sizes-is, Sized, listed, InOrder, lacks, neither_more}
 
 -- the entries and the nodes of the map, as lists
 abbrev es8 : Sized
@@ -229,6 +229,12 @@ filled_facts t s = record {
         ];
         not_refused_for_slots = λ u h. neither_more 10 2 3 _ _ 0 4 (ap (λ x. x.0) lacking) (ap (λ x. x.1) lacking) (lit≤ tt) (lit≤ tt) ((h.storage.2 IndexRange refl).range refl);
         not_refused_cells_more = λ u h. too_many 8 3 _ 4 (ap (λ x. x.1) lacking) (lit< tt) (h.storage.2 Memory refl).cell_slots.1;
+        not_refused_with_ones = λ u h.
+            let none : value_blocks_lacking t.entries three_slots q 1 ≡ 0 =
+            ap (λ ns. lacking_of value_block_sizes none_free ns 1) (values_needed t three_slots q s (sizes-is 8 (root_value 2) tt)) in
+            let made : used_of (sizes_at 8 (root_value 2)) 1 + 4 ≤ used_of (sizes_at 8 (root_value 2)) 1 + 0 + value_blocks_lacking t.entries three_slots q 1 =
+            ((h.storage.2 Memory refl).value_blocks_made 1 (0, lit< tt, refl)).1 in
+            absurd (omega (arith, none, made));
         not_refused_cells_fewer = λ u h. let l : 3 ≤ 2 = (h.storage.2 Memory refl).cell_slots.0 in absurd (omega arith);
         not_refused_nodes_more = λ u h. too_many 3 2 _ 0 (ap (λ x. x.0) lacking) (lit< tt) (h.storage.2 Memory refl).node_slots.1;
         not_refused_nodes_fewer = λ u h. let l : 2 ≤ 1 = (h.storage.2 Memory refl).node_slots.0 in absurd (omega arith);

@@ -189,6 +189,7 @@ module _ (sizes : List ℕ) (up : goes_up 0 sizes ≡ true) (before after : ℕ)
           holds.is,
           omega arith,
           λ size e. (let is = same_Some size small.size (sym e ∙ small.found) in omega (arith, is, least)),
+          holds.among,
         );
   }
 

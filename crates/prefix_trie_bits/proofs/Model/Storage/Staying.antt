@@ -1,21 +1,24 @@
 -- A step leads from a map, however it is stored, to such a map again.
-use Rattle.std.proofs.Common.{◌≡◌, ◌≢◌, ℕ, ◌<◌, ◌≤◌, inl, inr, Bool, true, false, cond, not, List, length, Option, None, refl, sym, ap, ◌∙◌, subst, arith}
+use Rattle.std.proofs.Common.{◌≡◌, ℕ, ◌<◌, ◌≤◌, inl, inr, Bool, true, false, cond, not, ◌&&◌, nat_le, List, [], length, Option, None, refl, sym, ap, ◌∙◌, subst, arith, true≢false}
 use Rattle.std.proofs.lemmas.Bool.{cases_Bool, cases_eq}
+use Rattle.std.proofs.lemmas.List.{nil_from_length}
 use Rattle.std.specs.FinMap.{get, contains_key}
+use Rattle.prefix_trie_bits.specs.Bits.{begins}
 use Rattle.prefix_trie_bits.specs.Order.{same_string}
-use Rattle.prefix_trie_bits.specs.Model.Blocks.{Sizes, StepsDown, SizesStepDown, HasBlock, NodesHaveBlocks, child_block_sizes, value_block_sizes, child_count, own_entries}
-use Rattle.prefix_trie_bits.specs.Model.Entries.{with_entry, without_entry, no_entries}
-use Rattle.prefix_trie_bits.specs.Model.Nodes.{Nodes, has_node, root_alone, with_needed}
-use Rattle.prefix_trie_bits.specs.Model.Step.{State, Call, Insert, Remove, RemoveKeepTree, RemoveChildren, RetainAtLeast, Clear, CallFits, Reply}
-use Rattle.prefix_trie_bits.specs.Model.Storage.{Storage, cleared, HaveBlocks, StepInStorage}
+use Rattle.prefix_trie_bits.specs.Model.Blocks.{Sizes, no_layout, StepsDown, SizesStepDown, StepsBetween, SizesStepBetween, HasBlock, NodesHaveBlocks, child_block_sizes, value_block_sizes, child_count, own_entries}
+use Rattle.prefix_trie_bits.specs.Model.Entries.{Entries, with_entry, without_entry, without_below, part_at_least, no_entries}
+use Rattle.prefix_trie_bits.specs.Model.Nodes.{Nodes, has_node, root_alone, with_needed, pruned, nodes_not_below, nodes_without_below}
+use Rattle.prefix_trie_bits.specs.Model.Step.{State, Call, Insert, Remove, RemoveKeepTree, RemoveChildren, RetainAtLeast, Clear, CallFits, Reply, Step}
+use Rattle.prefix_trie_bits.specs.Model.Storage.{Storage, cleared, HaveBlocks, RemovesManyInStorage, StepInStorage}
 use Rattle.prefix_trie_bits.specs.Laws.Steps.{IsMap}
 use Rattle.prefix_trie_bits.specs.Laws.Storage.{may_change}
 use Rattle.prefix_trie_bits.specs.Laws.Total.{IsStoredMap}
-use Rattle.prefix_trie_bits.proofs.Model.Storage.Lessened.{IsLeft, removed_is, new_have, entries_bare, children_bare}
-use Rattle.prefix_trie_bits.proofs.Model.Pruning.{remove_law}
+use Rattle.prefix_trie_bits.proofs.Model.Storage.Lessened.{IsLeft, removed_is, bare_have, new_have, entries_bare, children_bare}
+use Rattle.prefix_trie_bits.proofs.Model.Members.{has-retained}
+use Rattle.prefix_trie_bits.proofs.Model.Pruning.{begins-nil, needed_fewer, near_is, pruning_laws, remove_law, remove_children_law}
 use Rattle.prefix_trie_bits.proofs.Model.Storage.Readied.{goes_up}
 use Rattle.prefix_trie_bits.proofs.Model.Storage.Shrinking.{has_none, has_some, has_cases, smallest_of}
-use Rattle.prefix_trie_bits.proofs.Model.Steps.{stays_map}
+use Rattle.prefix_trie_bits.proofs.Model.Steps.{part_fewer, stays_map}
 use Rattle.prefix_trie_bits.proofs.Model.Storage.Stored.{unchanged}
 use Rattle.prefix_trie_bits.proofs.Model.Storage.Supplied.{supplied, stored_have}
 
@@ -54,7 +57,55 @@ steps_have sizes free up n left before after old new have steps stood bare = rec
   ];
 }
 
+-- the same where items were lost in several steps
+between_has : (sizes : List ℕ) → goes_up 0 sizes ≡ true → (before after : ℕ) (old new : Option ℕ) → StepsBetween sizes before after old new → HasBlock sizes before old → HasBlock sizes after new
+between_has sizes up before after old new step has = elim (cases_eq after 0) as (λ _. HasBlock sizes after new) [
+  | inl none ↦ has_none sizes after new none (step.none none)
+  | inr other ↦ elim (cases_eq after before) as (λ _. HasBlock sizes after new) [
+    | inl same ↦ subst (λ o. HasBlock sizes after o) (sym (step.same same)) (subst (λ n. HasBlock sizes n old) (sym same) has)
+    | inr fewer ↦
+        let some : 0 < after = grind (arith, other) in
+        let less : after < before = (let h = step.fewer in grind (arith, h, fewer)) in
+        elim (has_cases sizes before old has) as (λ _. HasBlock sizes after new) [
+          | inl none ↦ absurd (let e = none.0 in omega (arith, e, less))
+          | inr holds ↦
+              let fits = holds.fits in
+              let small = smallest_of 0 sizes up after holds.size holds.among (omega (arith, fits, less)) in
+              let (n, o, is, was, shorter, least, among) = step.between less some in
+              let enough = least small.size small.found in
+              let inside = small.holds in
+              has_some sizes after new n some is among (omega (arith, enough, inside))
+        ]
+  ]
+]
+
+all_between : (sizes : List ℕ) → goes_up 0 sizes ≡ true → (n left : Nodes) (before after : List Bool → ℕ) (old new : Sizes) → NodesHaveBlocks sizes n before old
+    → SizesStepBetween sizes n before after old new → ((p : List Bool) → has_node left p ≡ true → has_node n p ≡ true)
+    → ((p : List Bool) → has_node n p ≡ true → has_node left p ≡ false → after p ≡ 0) → NodesHaveBlocks sizes left after new
+all_between sizes up n left before after old new have steps stood bare = record {
+  at_nodes = λ p there. between_has sizes up (before p) (after p) (get old p) (get new p) (steps.at_nodes p (stood p there)) (have.at_nodes p (stood p there));
+  elsewhere = λ p missing. elim (cases_Bool (has_node n p)) as (λ _. get new p ≡ None) [
+    | inl there ↦ (steps.at_nodes p there).none (bare p there missing)
+    | inr none ↦ steps.elsewhere p none
+  ];
+}
+
 module _ {T : Type 0} where
+  -- at the root all entries and all other nodes go
+  all_below : (m : Entries T) (n : Nodes) (k : List Bool) → has_node n [] ≡ true → has_node (nodes_without_below n m []) k ≡ true → k ≡ []
+  all_below m n k rooted there = near_is n [] k ((pruning_laws T).none_added (nodes_not_below n []) (without_below m []) [] k
+      (sym (ap (λ b. has_node (cond b (pruned (nodes_not_below n []) (without_below m []) []) n) k) rooted) ∙ there)) (begins-nil k)
+
+  no_keys : (m : Entries T) (k : List Bool) → contains_key (without_below m []) k ≡ true → ⊥
+  no_keys m k has = true≢false (sym has ∙ has-retained m (λ x. not (begins [] x)) k ∙ ap (λ b. not b && contains_key m k) (begins-nil k))
+
+  -- so what is left needs no blocks
+  pub emptied_have : (s : State T) (q : List Bool) → has_node s.nodes [] ≡ true → q ≡ []
+      → HaveBlocks (record { entries = without_below s.entries q; nodes = nodes_without_below s.nodes s.entries q }) no_layout
+  emptied_have s q rooted root =
+      bare_have _ (λ k has. no_keys s.entries k (ap (λ p. contains_key (without_below s.entries p) k) (sym root) ∙ has))
+      (λ k there. all_below s.entries s.nodes k rooted (ap (λ p. has_node (nodes_without_below s.nodes s.entries p) k) (sym root) ∙ there))
+
   -- the blocks of an equal state
   have_same : (s t : State T) (before after : Storage) → t ≡ s → after.layout.child_blocks ≡ before.layout.child_blocks → after.layout.value_blocks ≡ before.layout.value_blocks →
       HaveBlocks s before.layout → HaveBlocks t after.layout
@@ -100,6 +151,48 @@ module _ {P T : Type 0} (path : P → List Bool) (back : List Bool → P) (width
     stood = stood;
   }
 
+  -- where the keys of n bits or more stay
+  pub longer_left : (n : ℕ) (reply : Reply P T) (t : State T) → Step path back width s.0 (RetainAtLeast n) reply t → IsLeft width s.0 t
+  longer_left n reply t h = record {
+    was = whole.is_map;
+    is = stays_map path back width s.0 (RetainAtLeast n) reply t tt h whole.is_map;
+    test = λ k. nat_le n (length k);
+    kept = ap (λ x. x.entries) h.1;
+    stood = λ p there. whole.is_map.are_nodes.hold_needed p
+        (needed_fewer s.0.entries (part_at_least s.0.entries n) (part_fewer s.0.entries n) p (sym (ap (λ x. has_node x.nodes p) h.1) ∙ there));
+  }
+
+  -- and where those that q does not begin do
+  pub outside_left : (q : P) (reply : Reply P T) (t : State T) → length (path q) ≤ width → Step path back width s.0 (RemoveChildren q) reply t → IsLeft width s.0 t
+  outside_left q reply t fits h = record {
+    was = whole.is_map;
+    is = stays_map path back width s.0 (RemoveChildren q) reply t fits h whole.is_map;
+    test = λ k. not (begins (path q) k);
+    kept = ap (λ x. x.entries) h.1;
+    stood = λ p there. (remove_children_law width s.0.entries s.0.nodes (path q) whole.is_map.are_nodes).none_new p (sym (ap (λ x. has_node x.nodes p) h.1) ∙ there);
+  }
+
+  -- several entries gone
+  many_gone : (t : State T × Storage) → IsLeft width s.0 t.0 → RemovesManyInStorage s.0 t.0 s.1 t.1 → HaveBlocks t.0 t.1.layout
+  many_gone t left storage = record {
+    child_blocks = all_between child_block_sizes refl s.0.nodes t.0.nodes _ _ s.1.layout.child_blocks t.1.layout.child_blocks whole.have_blocks.child_blocks
+        storage.child_blocks left.stood (children_bare width s.0 t.0 left);
+    value_blocks = all_between value_block_sizes refl s.0.nodes t.0.nodes _ _ s.1.layout.value_blocks t.1.layout.value_blocks whole.have_blocks.value_blocks
+        storage.value_blocks left.stood (entries_bare width s.0 t.0 left);
+  }
+
+  retained : (n : ℕ) → Stays (RetainAtLeast n)
+  retained n reply t fits h = many_gone t (longer_left n reply t.0 h.step) h.storage
+
+  removed_below : (q : P) → Stays (RemoveChildren q)
+  removed_below q reply t fits h = elim (cases_eq (length (path q)) 0) as (λ _. HaveBlocks t.0 t.1.layout) [
+    | inl none ↦
+        let gone = h.storage.0 none in
+        have_same _ t.0 (cleared s.1) t.1 h.step.1 (ap (λ x. x.layout.child_blocks) gone) (ap (λ x. x.layout.value_blocks) gone)
+        (emptied_have s.0 (path q) whole.is_map.are_nodes.rooted (nil_from_length (path q) none))
+    | inr other ↦ many_gone t (outside_left q reply t.0 fits h.step) (h.storage.1 (grind (arith, other)))
+  ]
+
   removed : (q : P) → Stays (Remove q)
   removed q reply t fits h =
       let left = one_gone q t.0 (stays_map path back width s.0 (Remove q) reply t.0 fits h.step whole.is_map) (ap (λ x. x.entries) h.step.1)
@@ -127,20 +220,20 @@ module _ {P T : Type 0} (path : P → List Bool) (back : List Bool → P) (width
   cleared_all reply t fits h = have_same (record { entries = no_entries; nodes = root_alone }) t.0 (cleared s.1) t.1 h.step.1 (ap (λ x. x.layout.child_blocks) h.storage) (ap (λ x. x.layout.value_blocks) h.storage)
       (new_have T)
 
-  blocks : (call : Call P T) → ((n : ℕ) → call ≢ RetainAtLeast n) → ((q : P) → call ≢ RemoveChildren q) → Stays call
-  blocks (Insert q v) some below = inserted q v
-  blocks (Remove q) some below = removed q
-  blocks (RemoveKeepTree q) some below = removed_keeping q
-  blocks (RemoveChildren q) some below = absurd (below q refl)
-  blocks (RetainAtLeast n) some below = absurd (some n refl)
-  blocks Clear some below = cleared_all
-  blocks call some below = as_it_was call refl
+  blocks : (call : Call P T) → Stays call
+  blocks (Insert q v) = inserted q v
+  blocks (Remove q) = removed q
+  blocks (RemoveKeepTree q) = removed_keeping q
+  blocks (RemoveChildren q) = removed_below q
+  blocks (RetainAtLeast n) = retained n
+  blocks Clear = cleared_all
+  blocks call = as_it_was call refl
 
   pub stays_stored : (call : Call P T) (reply : Reply P T) (t : State T × Storage) → CallFits (λ q. length (path q) ≤ width) call
-      → ((n : ℕ) → call ≢ RetainAtLeast n) → ((q : P) → call ≢ RemoveChildren q) → StepInStorage path back width s call reply t → IsStoredMap width t
-  stays_stored call reply t fits some below h = record {
+      → StepInStorage path back width s call reply t → IsStoredMap width t
+  stays_stored call reply t fits h = record {
     is_map = stays_map path back width s.0 call reply t.0 fits h.step whole.is_map;
-    have_blocks = blocks call some below reply t fits h;
+    have_blocks = blocks call reply t fits h;
     root_fits = subst (λ limit. 0 < limit) (sym h.room.same_limit) whole.root_fits;
     nodes_within = h.room.nodes_within;
     cells_within = h.room.cells_within;

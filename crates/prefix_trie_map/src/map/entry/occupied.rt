@@ -56,6 +56,23 @@ impl<'a, P: Prefix, T: Drop, A: Allocator> OccupiedEntry<'a, P, T, A> {
         map.lend_at(number, len, seat)
     }
 
+    /// Lets the entry go. A caller's proof learns what the map is then: what the entry had of it, with what was written through
+    /// `get_mut` or by `and_modify`. Of an entry that is only dropped it learns nothing of the map.
+    ///
+    /// ```text
+    /// if let Entry::Occupied(entry) = map.entry(10.1.0.0/16).and_modify(|n| *n += 1) { entry.release(); }
+    /// ```
+    #[inline]
+    pub fn release(self)
+        ensures { self.exit.0.now ≡ entry_map (Occupied self.entry) }
+    {
+        let OccupiedEntry {
+            map: _,
+            key: _,
+            seat: _,
+        } = self;
+    }
+
     /// Sets the value, and hands out the old one. Never refused.
     #[inline]
     pub fn insert(self, value: T) -> T

@@ -33,3 +33,12 @@ returns-in_err-put-clause-range g c =
       more,
       may_pass g.P.Prefix.path c.args.map.now c.loop-prefix.map xs x c.loop-prefix.invariant (c.in_err-put.ensures.range range),
     ))
+
+pub returns-in_err-put-clause-memory : goal.returns-in_err-put-clause-memory
+returns-in_err-put-clause-memory g c =
+    let it = c.into_iter-prefix-iterator in
+    let xs = c.loop-prefix.yielded in
+    let x : g.row.P.Denot × g.row.T.Denot = (c.in-Some.prefix, c.in-Some.value) in
+    let more = Yields-more g.I.IntoIter.Iterator.next_gives it.result xs c.loop-prefix.prefix-iterator x c.next.new.self c.loop-prefix.yielded_by c.in-Some.ensures.steps in
+    let p = err_from_is_err_and c.from_residual.result c.from_residual.ensures.1 in
+    rw (p.1, p.2) (λ memory. (it.result, xs, x, c.next.new.self, it.ensures.into_iter_gives, more, c.in_err-put.ensures.memory memory))

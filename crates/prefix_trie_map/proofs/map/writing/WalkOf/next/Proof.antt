@@ -1,5 +1,5 @@
 -- `next` lends what `lend_next` lends, beside its prefix. Assumes `Logic`.
-use Rattle.prefix_trie_map.proofs.Loans.{◌≡◌, ℕ, IfSome, None, Some, Option, [], ◌∷◌, refl, sym, MutBor, proved, Args, named, a_type, dcons, dnil, Val, vptr, inst_fn, full_share, ent, emp, id⊢, Fml, GName, ftrue, fat}
+use Rattle.prefix_trie_map.proofs.Loans.{◌≡◌, ℕ, IfSome, IfNone, None, Some, Option, [], ◌∷◌, refl, sym, MutBor, proved, Args, named, a_type, dcons, dnil, Val, vptr, inst_fn, full_share, ent, emp, id⊢, Fml, GName, ftrue, fat}
 use Rattle.prefix_trie_map.proofs.Loans.{flft, ◌⊑◌, fact, fact_i, tables, ‵, raw, ◌⊛◌, some, later, ◌$◌, ◌∵◌, !, qed, done, move, drop, use0, use1, use2, use3, split, join, fsplit, fjoin, pick, await, rewrite, suffices}
 use Rattle.prefix_trie_map.proofs.Loans.{frame, agg, enter, of_opd, lit, addr, from, stop, no_more, and_then, returns, alloc_all, pass_all, free_all, look_at, get, through, sets, lands_as, take_at, give_at, param}
 use Rattle.prefix_trie_map.proofs.Loans.{bounded, Laws, param_laws, no, lone, RattleType, MutRef, mut_vals, mut_Tells, plain, mut_ref_to, nothing, heard, peeks, shows, Tuple, tuple_laws, calls_at, Lasts, lasts}
@@ -12,8 +12,8 @@ use contract.BorrowLft.{meet_⊑_right}
 use types.Match.{live}
 use Rattle.std.specs.contracts.option.Option as option
 use Rattle.prefix_trie_map.specs.Lending.{lent_beside}
-use Rattle.prefix_trie_map.specs.WritingWalks.{FirstIn, lends_next}
-use Rattle.prefix_trie_map.proofs.Writing.{HasFirst, prefix_there, first_beside}
+use Rattle.prefix_trie_map.specs.WritingWalks.{FirstIn, IsOverIn, lends_next}
+use Rattle.prefix_trie_map.proofs.Writing.{HasFirst, prefix_there, first_beside, none_beside}
 use Rattle.prefix_trie_map.specs.contracts.map.writing.WalkOf as walk
 use Rattle.prefix_trie_map.specs.contracts.map.writing.WalkOf.next as f
 use Rattle.prefix_trie_map.specs.contracts.map.writing.WalkOf.lend_next as h
@@ -48,6 +48,7 @@ next_spec 𝓤 𝓛 𝓜 𝓡 wired C P V S lC lP lV lS g c' p' s' mC mP mS =
     let shown_laws : Laws Shown = option_laws Beside (tuple_laws (param 1 P ∷ Lent 2 V κ ∷ []) (param_laws 1 P lP, (lent_laws 2 V lV κ, tt))) in
     let lends : Option (MutBor V.Denot) → Fml = λ o. lends_next (param 0 C) (param 2 V) m g.Passes g.Ends o in
     let First : P.Denot → V.Denot → Type 0 = λ q x. FirstIn g.First m.now.course q x in
+    let IsOver : Type 0 = IsOverIn g.Ends m.now.course in
     let given : (φ : Type 0) → φ → ent 𝓤 (emp 𝓤) (fact 𝓤 φ) = λ φ x. fact_i 𝓤 φ (emp 𝓤) x in
     let InC : Type 0 = κs.1.0 ⊑ C.lives in let InP : Type 0 = π ⊑ P.lives in let InV : Type 0 = κs.1.1.1.0 ⊑ V.lives in let InS : Type 0 = κs.1.1.1.1.0 ⊑ S.lives in
     let Self = ‵ ((MutRef (named 0) κ Walk).own_val m (mut_vals m)) in
@@ -78,13 +79,13 @@ next_spec 𝓤 𝓛 𝓜 𝓡 wired C P V S lC lP lV lS g c' p' s' mC mP mS =
     calls_at ! (framed 𝓤 𝓛.H 𝓜 𝓣) G (h_met 𝓤 𝓛 𝓜 𝓡 (code.calls-prefix_trie_map::map::writing::WalkOf::lend_next 𝓡.env wired) C P V S lC lP lV lS g c' p' s' mC mP mS) z
     (and_then ! (get ! refl) (and_then ! (get ! refl) (no_more !))) (λ u.
     use1 𝓛 (later (some (λ (o : Option (MutBor V.Denot)). ((tok₀ ⊛ ‵ (flft β left) ⊛ tok₁ ⊛ ‵ (flft π right) ⊛ tok₃ ⊛ tok₄) ⊛ ‵ (Found.own_val o (u ∷ [])))
-    ⊛ some (λ (es : Unit {0} × (Option P.Denot × Unit {0})). ‵ (lasts (h.ended C P V S g c' p' s') z.0.0 z.0.3 es) ⊛ ‵ (lends o) ⊛ raw (fact 𝓤 (HasFirst First es.1.0 o)))))) (id⊢ 𝓤 _) $
+    ⊛ some (λ (es : Unit {0} × (Option P.Denot × Unit {0})). ‵ (lasts (h.ended C P V S g c' p' s') z.0.0 z.0.3 es) ⊛ ‵ (lends o) ⊛ raw (fact 𝓤 (HasFirst IsOver First es.1.0 o)))))) (id⊢ 𝓤 _) $
     await ! tt $ pick ! (λ o. split ! $ split ! $ split ! $ move ! (1 ∷ []) $ split ! $ move ! (1 ∷ []) $ split ! $ move ! (1 ∷ []) $ split ! $
     move ! (6 ∷ []) $ pick ! (λ es. let i = es.1.0 in split ! $ fsplit ! $ drop ! $ fsplit ! $ fsplit ! $
     move ! (7 ∷ 10 ∷ 0 ∷ []) $ use3 𝓛 (later (some (λ (x : Val). ‵ (fat full_share (lone Prefix.mir) (l 2) 0 x) ⊛ ‵ (Prefix.own_val i (x ∷ [])) ⊛ ‵ (flft π left))))
     (back_within 𝓛 Prefix refl (named 1) (l 2) π left loan i) $ await ! tt $ pick ! (λ x. split ! $ give_at ! 2 $ split ! $
     move ! (1 ∷ 5 ∷ []) $ use2 𝓛 tok₂ (𝓛.lfts.lft_join π qs.1.1.0) $ move ! (2 ∷ []) $ drop ! $ move ! (2 ∷ []) $ drop ! $
-    move ! (2 ∷ []) $ split ! $ move ! (1 ∷ []) $ heard ! (HasFirst First i o) (λ first.
+    move ! (2 ∷ []) $ split ! $ move ! (1 ∷ []) $ heard ! (HasFirst IsOver First i o) (λ first.
     -- [what self follows; the prefix's token; the prefix; the tokens of the value and the stop, of what it goes over, of self; the value lent]
     move ! (6 ∷ []) $ peeks ! Found _ (shows 𝓛 Found) o (u ∷ []) (λ is_found. let found_ok = ((found_laws.lawful 𝓛).typed o (u ∷ []) is_found).0 in
     move ! (3 ∷ []) $ peeks ! Prefix _ (shows 𝓛 Prefix) i (x ∷ []) (λ is_prefix. let prefix_ok = ((prefix_laws.lawful 𝓛).typed i (x ∷ []) is_prefix).0 in
@@ -94,13 +95,14 @@ next_spec 𝓤 𝓛 𝓜 𝓡 wired C P V S lC lP lV lS g c' p' s' mC mP mS =
     let t : B.Ghost = (((κ, (π, (κs.1.1.1.0, tt))), (qs.0, (qs.1.1.0, (qs.1.1.1.0, tt))), (bounds.1.0, tt), (i, (o, tt)), (x ∷ [], (u ∷ [], tt))), tt) in
     nothing ! $ move ! (2 ∷ 0 ∷ []) $ join ! $ move ! (1 ∷ 0 ∷ []) $ join ! $ move ! (3 ∷ []) $ split ! $
     nothing ! $ move ! (1 ∷ 0 ∷ []) $ join ! $ move ! (4 ∷ 0 ∷ []) $ join ! $ move ! (5 ∷ 0 ∷ []) $ join ! $ move ! (0 ∷ 2 ∷ []) $ join ! $
-    use0 𝓛 (raw (fact 𝓤 There)) (given There (prefix_there First i o first)) $ use0 𝓛 (raw (fact 𝓤 InV)) (given InV inV) $ join ! $ use0 𝓛 (raw (fact 𝓤 InP)) (given InP inP) $ join ! $
+    use0 𝓛 (raw (fact 𝓤 There)) (given There (prefix_there IsOver First i o first)) $ use0 𝓛 (raw (fact 𝓤 InV)) (given InV inV) $ join ! $ use0 𝓛 (raw (fact 𝓤 InP)) (given InP inP) $ join ! $
     move ! (1 ∷ 0 ∷ []) $ use2 𝓛 (raw (B.pre t)) (id⊢ 𝓤 _) $
     calls_at ! (framed 𝓤 𝓛.H 𝓜 𝓣) B (b_met 𝓤 𝓛 𝓜 𝓡 (code.calls-prefix_trie_map::map::writing::beside 𝓡.env wired) P V lP lV p' mP) t
     (and_then ! (get ! refl) (and_then ! (get ! refl) (no_more !))) (λ v.
     let Same : Option (P.Denot × MutBor V.Denot) → Type 0 = λ a. lent_beside a ≡ o in
     let Its : Option (P.Denot × MutBor V.Denot) → Type 0 = λ a. IfSome a (λ r. i ≡ Some r.0) in
     let Answer : Option (P.Denot × MutBor V.Denot) → Type 0 = λ a. IfSome a (λ r. First r.0 r.1.now) in
+    let None_left : Option (P.Denot × MutBor V.Denot) → Type 0 = λ a. IfNone a IsOver in
     use1 𝓛 (later (some (λ (a : Option (P.Denot × MutBor V.Denot)). ((tok₀ ⊛ tok₂ ⊛ tok₃ ⊛ ‵ ftrue) ⊛ ‵ (Shown.own_val a (v ∷ [])))
     ⊛ some (λ (fs : Lasts (b.ended P V p') t.0.0 t.0.3). ‵ (lasts (b.ended P V p') t.0.0 t.0.3 fs) ⊛ raw (fact 𝓤 (Same a)) ⊛ raw (fact 𝓤 (Its a)))))) (id⊢ 𝓤 _) $
     await ! tt $ pick ! (λ a. split ! $ move ! (1 ∷ []) $ pick ! (λ fs. split ! $ drop ! $ split ! $ heard ! (Same a) (λ same. heard ! (Its a) (λ its.
@@ -112,4 +114,5 @@ next_spec 𝓤 𝓛 𝓜 𝓡 wired C P V S lC lP lV lS g c' p' s' mC mP mS =
     suffices ! _ (ends_at 𝓛 En hs c y v a (tt, tt) (tt, tt)) $
     nothing ! $ nothing ! $ fjoin ! $ join ! $ move ! (1 ∷ 0 ∷ []) $ join ! $ frame ! $
     rewrite ! 0 (λ (n : Option (MutBor V.Denot)). ‵ (lends n)) (sym same) refl $ frame ! $
-    use0 𝓛 (raw (fact 𝓤 (Answer a))) (given (Answer a) (first_beside First i o a same its first)) $ done !)))))))))))))))))))))
+    use0 𝓛 (raw (fact 𝓤 (None_left a))) (given (None_left a) (none_beside IsOver First i o a same first)) $
+    use0 𝓛 (raw (fact 𝓤 (Answer a))) (given (Answer a) (first_beside IsOver First i o a same its first)) $ done !)))))))))))))))))))))
