@@ -5,6 +5,7 @@ mod entries;
 mod equality;
 mod limits;
 mod lookups;
+mod narrow;
 mod prefixes;
 mod removals;
 mod runs;
@@ -14,9 +15,10 @@ mod walks;
 mod widths;
 
 use crate::run::{Turn, all_reply};
+use crate::table::narrow::{Asked, all_made};
 use crate::table::sets::{self as of_sets, SetLine};
 use crate::table::{Line, all_hold};
-use prefix_trie::{Ipv4Prefix, Ipv6Prefix, Refusal};
+use prefix_trie::{Ipv4Prefix, Ipv6Prefix, Narrow, Refusal};
 use std::alloc::Global;
 
 /// The tables of a row.
@@ -25,16 +27,21 @@ pub type Row = &'static [Table];
 /// A table with the prefixes of its maps: IP networks, or pairs of a number and a length.
 #[derive(Drop)]
 pub enum Table {
-    Ipv4(&'static [Line<u32>]),
-    Ipv6(&'static [Line<u128>]),
-    U8(&'static [Line<u8>]),
-    U16(&'static [Line<u16>]),
-    U32(&'static [Line<u32>]),
-    U64(&'static [Line<u64>]),
-    U128(&'static [Line<u128>]),
-    Usize(&'static [Line<usize>]),
+    Ipv4(&'static [Line]),
+    Ipv6(&'static [Line]),
+    U8(&'static [Line]),
+    U16(&'static [Line]),
+    U32(&'static [Line]),
+    U64(&'static [Line]),
+    U128(&'static [Line]),
+    Usize(&'static [Line]),
+    Narrow3(&'static [Line]),
+    Narrow5(&'static [Line]),
+    Narrow10(&'static [Line]),
+    /// Which numbers are narrow keys.
+    NarrowKeys(&'static [Asked]),
     /// A run on a new map of this limit.
-    Run(u32, &'static [Turn<u8>]),
+    Run(u32, &'static [Turn]),
     /// Calls of a set.
     Set(Set),
 }
@@ -42,14 +49,14 @@ pub enum Table {
 /// A table of a set with its prefixes.
 #[derive(Drop)]
 pub enum Set {
-    Ipv4(&'static [SetLine<u32>]),
-    U8(&'static [SetLine<u8>]),
-    U32(&'static [SetLine<u32>]),
-    U128(&'static [SetLine<u128>]),
+    Ipv4(&'static [SetLine]),
+    U8(&'static [SetLine]),
+    U32(&'static [SetLine]),
+    U128(&'static [SetLine]),
 }
 
 /// The rows in order, each with its number.
-pub const ROWS: [(u32, Row); 38] = [
+pub const ROWS: [(u32, Row); 41] = [
     (1, &[Table::Ipv4(&lookups::EXACT)]),
     (2, &[Table::Ipv4(&entries::HOST_BITS)]),
     (3, &[Table::Ipv4(&lookups::MATCHES)]),
@@ -137,6 +144,15 @@ pub const ROWS: [(u32, Row); 38] = [
     (38, &[Table::U8(&limits::KEPT_BLOCKS)]),
     (39, &[Table::Set(Set::U8(&sets::ONE_SLOT))]),
     (40, &[Table::Run(2, &runs::UNDER_TWO_SLOTS)]),
+    (44, &[Table::NarrowKeys(&narrow::ENDS_OF_WIDTHS)]),
+    (45, &[Table::Narrow10(&narrow::TWICE_FIVE_BITS)]),
+    (
+        46,
+        &[
+            Table::Narrow3(&narrow::THREE_BITS),
+            Table::Narrow5(&narrow::FIVE_BITS),
+        ],
+    ),
 ];
 
 /// Whether each table of a row comes out as it should.
@@ -159,6 +175,10 @@ fn holds(alloc: Global, table: &Table) -> Result<bool, Refusal> {
         Table::U64(lines) => all_hold::<(u64, u8)>(alloc, lines),
         Table::U128(lines) => all_hold::<(u128, u8)>(alloc, lines),
         Table::Usize(lines) => all_hold::<(usize, u8)>(alloc, lines),
+        Table::Narrow3(lines) => all_hold::<(Narrow<3>, u8)>(alloc, lines),
+        Table::Narrow5(lines) => all_hold::<(Narrow<5>, u8)>(alloc, lines),
+        Table::Narrow10(lines) => all_hold::<(Narrow<10>, u8)>(alloc, lines),
+        Table::NarrowKeys(table) => Ok(all_made(table)),
         Table::Run(limit, turns) => all_reply::<(u8, u8)>(alloc, *limit, turns),
         Table::Set(set) => holds_of_set(alloc, set),
     }

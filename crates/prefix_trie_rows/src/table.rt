@@ -3,12 +3,16 @@ ghost use Rattle.std.specs.Prelude.{IfSome};
 
 mod collecting;
 mod entries;
+pub mod narrow;
+mod numbers;
 pub mod sets;
 mod taking;
 mod texts;
 mod walks;
 mod writing;
 
+use numbers::key_of;
+pub use numbers::{Number, is_number};
 use prefix_trie::{BlockCount, Ipv4Prefix, Ipv6Prefix, Key, Prefix, PrefixMap, Refusal, Refused};
 use std::alloc::Global;
 
@@ -16,73 +20,73 @@ use std::alloc::Global;
 pub type Map<P> = PrefixMap<P, u64, Global>;
 
 /// A prefix as tables write it, a number and a length.
-pub type Pair<R> = (R, u8);
+pub type Pair = (Number, u8);
 
 /// An entry as tables write it.
-pub type Entry<R> = ((R, u8), u64);
+pub type Entry = (Pair, u64);
 
 /// A call, and last the answer that it should have. Calls that answer nothing stand alone.
 #[derive(Drop)]
-pub enum Line<R: 'static> {
+pub enum Line {
     /// Goes on with a new map. A table begins with one.
     New,
     /// Goes on with a new map of this limit, if there is one.
     WithSlotLimit(u32, Result<(), Refusal>),
     /// The value that the prefix had, or why the new one was refused and handed back.
-    Insert(Pair<R>, u64, Result<Option<u64>, Refusal>),
+    Insert(Pair, u64, Result<Option<u64>, Refusal>),
     /// Inserts prefixes in turn, with values from 0 up. All are new.
-    InsertAll(&'static [Pair<R>]),
-    Get(Pair<R>, Option<u64>),
-    GetKeyValue(Pair<R>, Option<Entry<R>>),
-    GetLpm(Pair<R>, Option<Entry<R>>),
-    GetSpm(Pair<R>, Option<Entry<R>>),
+    InsertAll(&'static [Pair]),
+    Get(Pair, Option<u64>),
+    GetKeyValue(Pair, Option<Entry>),
+    GetLpm(Pair, Option<Entry>),
+    GetSpm(Pair, Option<Entry>),
     /// Finds a prefix, whose value is then set to the number.
-    GetLpmMut(Pair<R>, u64, Pair<R>),
-    IsCovered(Pair<R>, bool),
+    GetLpmMut(Pair, u64, Pair),
+    IsCovered(Pair, bool),
     /// All entries, in order.
-    Entries(&'static [Entry<R>]),
+    Entries(&'static [Entry]),
     /// All prefixes, in order, with values from 0 up.
-    Iter(&'static [Pair<R>]),
+    Iter(&'static [Pair]),
     Values(&'static [u64]),
     /// The first values of the walk from a prefix: all, where they are fewer than the number.
-    IterFrom(Pair<R>, bool, usize, &'static [u64]),
-    Children(Pair<R>, &'static [u64]),
+    IterFrom(Pair, bool, usize, &'static [u64]),
+    Children(Pair, &'static [u64]),
     /// The number is added to each value that the walk from a prefix lends.
-    IterFromMut(Pair<R>, bool, u64),
+    IterFromMut(Pair, bool, u64),
     /// Each value that the prefix contains is multiplied by the number.
-    ChildrenMut(Pair<R>, u64),
+    ChildrenMut(Pair, u64),
     /// The first value is set to the number, and the walk is dropped.
     ValuesMut(u64),
     /// A copy of the map gives these up, in order.
-    IntoChildren(Pair<R>, &'static [Entry<R>]),
+    IntoChildren(Pair, &'static [Entry]),
     /// The same of all prefixes.
-    IntoKeys(&'static [Pair<R>]),
-    Cover(Pair<R>, &'static [Entry<R>]),
-    CoverValues(Pair<R>, &'static [u64]),
-    Remove(Pair<R>, Option<u64>),
-    RemoveKeepTree(Pair<R>, Option<u64>),
-    RemoveChildren(Pair<R>),
+    IntoKeys(&'static [Pair]),
+    Cover(Pair, &'static [Entry]),
+    CoverValues(Pair, &'static [u64]),
+    Remove(Pair, Option<u64>),
+    RemoveKeepTree(Pair, Option<u64>),
+    RemoveChildren(Pair),
     /// The prefix of an entry.
-    EntryKey(Pair<R>, Pair<R>),
+    EntryKey(Pair, Pair),
     /// The value of an entry.
-    EntryGet(Pair<R>, Option<u64>),
+    EntryGet(Pair, Option<u64>),
     /// The value set by an entry, and the one that was there before.
-    EntryInsert(Pair<R>, u64, Result<Option<u64>, Refusal>),
+    EntryInsert(Pair, u64, Result<Option<u64>, Refusal>),
     /// `and_modify` that adds one, and then `or_insert` of the number.
-    AddOrInsert(Pair<R>, u64, u64),
+    AddOrInsert(Pair, u64, u64),
     /// `or_default` answers the first number, and the value is then set to the second.
-    OrDefault(Pair<R>, u64, u64),
+    OrDefault(Pair, u64, u64),
     /// `or_insert_with` of a closure that gives the first number answers the second, and calls the closure so many times.
-    OrInsertWith(Pair<R>, u64, u64, u64),
+    OrInsertWith(Pair, u64, u64, u64),
     /// What an occupied entry hands out as it is taken out, if it is one.
-    RemoveEntry(Pair<R>, Option<u64>),
+    RemoveEntry(Pair, Option<u64>),
     /// The values that the test is asked about, in order, each with what the test says.
     Retain(&'static [(u64, bool)]),
     Clear,
     /// The number of entries. The map is empty exactly if it is 0.
     Len(usize),
     NodeCount(usize),
-    AddressCount(Option<R>),
+    AddressCount(Option<Number>),
     NodeSlots(usize),
     CellSlots(usize),
     /// How many blocks of each size are in use, and how many are free.
@@ -91,46 +95,46 @@ pub enum Line<R: 'static> {
     /// A copy is equal to its map, and has its slots and blocks.
     Clone,
     /// Whether the map is equal to the one of these items, collected in this order.
-    Equals(&'static [Entry<R>], bool),
+    Equals(&'static [Entry], bool),
     /// The map as text.
     Text(&'static str),
     /// A prefix as text.
-    PrefixText(Pair<R>, &'static str),
+    PrefixText(Pair, &'static str),
     /// Whether there is a prefix of this number and length.
-    IsPrefix(Pair<R>, bool),
-    Fits(Pair<R>, bool),
-    Mask(Pair<R>, R),
+    IsPrefix(Pair, bool),
+    Fits(Pair, bool),
+    Mask(Pair, Number),
     /// Whether the first contains the second.
-    Contains(Pair<R>, Pair<R>, bool),
+    Contains(Pair, Pair, bool),
 }
 
 /// A prefix that tables write as a number and a length.
 pub trait Written: Prefix + PartialEq {
     /// The prefix of this number and length, if there is one.
-    fn of(number: Self::R, len: u8) -> Option<Self>;
+    fn of(number: Number, len: u8) -> Option<Self>;
 }
 
-/// There is always one, but it need not fit.
+/// There is one for each key, but it need not fit.
 impl<R: Key> Written for (R, u8) {
-    fn of(number: R, len: u8) -> Option<Self> {
-        Some((number, len))
+    fn of(number: Number, len: u8) -> Option<Self> {
+        Some((key_of(number)?, len))
     }
 }
 
 impl Written for Ipv4Prefix {
-    fn of(number: u32, len: u8) -> Option<Self> {
-        Ipv4Prefix::new(number, len)
+    fn of(number: Number, len: u8) -> Option<Self> {
+        Ipv4Prefix::new(key_of(number)?, len)
     }
 }
 
 impl Written for Ipv6Prefix {
-    fn of(number: u128, len: u8) -> Option<Self> {
-        Ipv6Prefix::new(number, len)
+    fn of(number: Number, len: u8) -> Option<Self> {
+        Ipv6Prefix::new(key_of(number)?, len)
     }
 }
 
 /// The prefix that is written so, if there is one and it fits.
-pub fn fitting<P: Written>(pair: Pair<P::R>) -> Option<P>
+pub fn fitting<P: Written>(pair: Pair) -> Option<P>
     ensures { IfSome result P.IsFitting }
 {
     match P::of(pair.0, pair.1) {
@@ -139,14 +143,19 @@ pub fn fitting<P: Written>(pair: Pair<P::R>) -> Option<P>
     }
 }
 
+/// Whether tables write a prefix so.
+pub fn is<P: Prefix>(prefix: &P, (number, len): Pair) -> bool {
+    key_of(number) == Some(prefix.repr()) && prefix.prefix_len() == len
+}
+
 /// Whether each call of a table has its answer, in order. Refused if there is no memory for the first map.
-pub fn all_hold<P: Written>(alloc: Global, lines: &[Line<P::R>]) -> Result<bool, Refusal> {
+pub fn all_hold<P: Written>(alloc: Global, lines: &[Line]) -> Result<bool, Refusal> {
     let mut map: Map<P> = PrefixMap::new(alloc)?;
     Ok(hold_in_order(alloc, &mut map, lines))
 }
 
 /// Whether each call has its answer, where they are put to a map in order.
-fn hold_in_order<P: Written>(alloc: Global, map: &mut Map<P>, lines: &[Line<P::R>]) -> bool {
+fn hold_in_order<P: Written>(alloc: Global, map: &mut Map<P>, lines: &[Line]) -> bool {
     for line in lines {
         if !holds(alloc, map, line) {
             return false;
@@ -156,7 +165,7 @@ fn hold_in_order<P: Written>(alloc: Global, map: &mut Map<P>, lines: &[Line<P::R
 }
 
 /// Whether a call has its answer.
-fn holds<P: Written>(alloc: Global, map: &mut Map<P>, line: &Line<P::R>) -> bool {
+fn holds<P: Written>(alloc: Global, map: &mut Map<P>, line: &Line) -> bool {
     match line {
         Line::New => renews(map, PrefixMap::new(alloc), Ok(())),
         Line::WithSlotLimit(limit, answer) => {
@@ -181,7 +190,7 @@ fn holds<P: Written>(alloc: Global, map: &mut Map<P>, line: &Line<P::R>) -> bool
 }
 
 /// Whether a call of an entry has its answer.
-fn holds_at_entry<P: Written>(map: &mut Map<P>, line: &Line<P::R>) -> bool {
+fn holds_at_entry<P: Written>(map: &mut Map<P>, line: &Line) -> bool {
     match line {
         Line::EntryKey(pair, answer) => entries::has_key(map, *pair, *answer),
         Line::EntryGet(pair, answer) => entries::has_value(map, *pair, *answer),
@@ -197,7 +206,7 @@ fn holds_at_entry<P: Written>(map: &mut Map<P>, line: &Line<P::R>) -> bool {
 }
 
 /// Whether a call that changes no map has its answer.
-fn answers<P: Written>(map: &Map<P>, line: &Line<P::R>) -> bool {
+fn answers<P: Written>(map: &Map<P>, line: &Line) -> bool {
     match line {
         Line::Get(pair, answer) => gets(map, *pair, *answer),
         Line::GetKeyValue(pair, answer) => finds(map, *pair, *answer),
@@ -215,7 +224,7 @@ fn answers<P: Written>(map: &Map<P>, line: &Line<P::R>) -> bool {
         Line::CoverValues(pair, values) => walks::covers_values(map, *pair, values),
         Line::Len(count) => map.len() == *count && map.is_empty() == (*count == 0),
         Line::NodeCount(count) => map.node_count() == *count,
-        Line::AddressCount(count) => map.address_count() == *count,
+        Line::AddressCount(count) => is_number(map.address_count(), *count),
         Line::NodeSlots(count) => map.node_slots() == *count,
         Line::CellSlots(count) => map.cell_slots() == *count,
         Line::NodeBlocks(used, free) => are(map.node_blocks(), NODE_SIZES, *used, *free),
@@ -228,7 +237,7 @@ fn answers<P: Written>(map: &Map<P>, line: &Line<P::R>) -> bool {
 }
 
 /// Whether a question about a prefix by itself has its answer.
-fn answers_alone<P: Written>(line: &Line<P::R>) -> bool {
+fn answers_alone<P: Written>(line: &Line) -> bool {
     match line {
         Line::IsPrefix((number, len), answer) => P::of(*number, *len).is_some() == *answer,
         Line::Fits((number, len), answer) => fits::<P>(*number, *len) == Some(*answer),
@@ -257,7 +266,7 @@ fn renews<P: Prefix>(
 
 fn inserts<P: Written>(
     map: &mut Map<P>,
-    pair: Pair<P::R>,
+    pair: Pair,
     value: u64,
     answer: Result<Option<u64>, Refusal>,
 ) -> bool {
@@ -268,7 +277,7 @@ fn inserts<P: Written>(
     }
 }
 
-fn inserts_all<P: Written>(map: &mut Map<P>, pairs: &[Pair<P::R>]) -> bool {
+fn inserts_all<P: Written>(map: &mut Map<P>, pairs: &[Pair]) -> bool {
     let mut value = 0_u64;
     for pair in pairs {
         if !inserts(map, *pair, value, Ok(None)) {
@@ -279,38 +288,34 @@ fn inserts_all<P: Written>(map: &mut Map<P>, pairs: &[Pair<P::R>]) -> bool {
     true
 }
 
-fn writes<P: Written>(map: &mut Map<P>, pair: Pair<P::R>, value: u64, answer: Pair<P::R>) -> bool {
+fn writes<P: Written>(map: &mut Map<P>, pair: Pair, value: u64, answer: Pair) -> bool {
     let Some(prefix) = fitting::<P>(pair) else {
         return false;
     };
     match map.get_lpm_mut(&prefix) {
         Some((found, place)) => {
             *place = value;
-            (found.repr(), found.prefix_len()) == answer
+            is(&found, answer)
         }
         None => false,
     }
 }
 
-fn removes<P: Written>(map: &mut Map<P>, pair: Pair<P::R>, answer: Option<u64>) -> bool {
+fn removes<P: Written>(map: &mut Map<P>, pair: Pair, answer: Option<u64>) -> bool {
     match fitting::<P>(pair) {
         Some(prefix) => map.remove(&prefix) == answer,
         None => false,
     }
 }
 
-fn removes_keeping_tree<P: Written>(
-    map: &mut Map<P>,
-    pair: Pair<P::R>,
-    answer: Option<u64>,
-) -> bool {
+fn removes_keeping_tree<P: Written>(map: &mut Map<P>, pair: Pair, answer: Option<u64>) -> bool {
     match fitting::<P>(pair) {
         Some(prefix) => map.remove_keep_tree(&prefix) == answer,
         None => false,
     }
 }
 
-fn removes_children<P: Written>(map: &mut Map<P>, pair: Pair<P::R>) -> bool {
+fn removes_children<P: Written>(map: &mut Map<P>, pair: Pair) -> bool {
     match fitting::<P>(pair) {
         Some(prefix) => {
             map.remove_children(&prefix);
@@ -340,43 +345,44 @@ fn clears<P: Prefix>(map: &mut Map<P>) -> bool {
 
 // ---- what a map answers
 
-fn gets<P: Written>(map: &Map<P>, pair: Pair<P::R>, answer: Option<u64>) -> bool {
+fn gets<P: Written>(map: &Map<P>, pair: Pair, answer: Option<u64>) -> bool {
     match fitting::<P>(pair) {
         Some(prefix) => map.get(&prefix).copied() == answer,
         None => false,
     }
 }
 
-/// What a lookup or a walk gives, as tables write it.
-fn shown<P: Prefix>(found: Option<(P, &u64)>) -> Option<Entry<P::R>> {
-    match found {
-        Some((prefix, value)) => Some(((prefix.repr(), prefix.prefix_len()), *value)),
-        None => None,
+/// Whether tables write so what a lookup or a walk gives.
+fn is_shown<P: Prefix>(found: Option<(P, &u64)>, answer: Option<Entry>) -> bool {
+    match (found, answer) {
+        (Some((prefix, value)), Some((pair, expected))) => is(&prefix, pair) && *value == expected,
+        (None, None) => true,
+        _ => false,
     }
 }
 
-fn finds<P: Written>(map: &Map<P>, pair: Pair<P::R>, answer: Option<Entry<P::R>>) -> bool {
+fn finds<P: Written>(map: &Map<P>, pair: Pair, answer: Option<Entry>) -> bool {
     match fitting::<P>(pair) {
-        Some(prefix) => shown(map.get_key_value(&prefix)) == answer,
+        Some(prefix) => is_shown(map.get_key_value(&prefix), answer),
         None => false,
     }
 }
 
-fn finds_longest<P: Written>(map: &Map<P>, pair: Pair<P::R>, answer: Option<Entry<P::R>>) -> bool {
+fn finds_longest<P: Written>(map: &Map<P>, pair: Pair, answer: Option<Entry>) -> bool {
     match fitting::<P>(pair) {
-        Some(prefix) => shown(map.get_lpm(&prefix)) == answer,
+        Some(prefix) => is_shown(map.get_lpm(&prefix), answer),
         None => false,
     }
 }
 
-fn finds_shortest<P: Written>(map: &Map<P>, pair: Pair<P::R>, answer: Option<Entry<P::R>>) -> bool {
+fn finds_shortest<P: Written>(map: &Map<P>, pair: Pair, answer: Option<Entry>) -> bool {
     match fitting::<P>(pair) {
-        Some(prefix) => shown(map.get_spm(&prefix)) == answer,
+        Some(prefix) => is_shown(map.get_spm(&prefix), answer),
         None => false,
     }
 }
 
-fn is_covered<P: Written>(map: &Map<P>, pair: Pair<P::R>, answer: bool) -> bool {
+fn is_covered<P: Written>(map: &Map<P>, pair: Pair, answer: bool) -> bool {
     match fitting::<P>(pair) {
         Some(prefix) => map.is_covered(&prefix) == answer,
         None => false,
@@ -413,18 +419,18 @@ fn is_stored_alike<P: Prefix>(map: &Map<P>, copy: &Map<P>) -> bool {
 
 // ---- what a prefix answers by itself
 
-fn fits<P: Written>(number: P::R, len: u8) -> Option<bool> {
+fn fits<P: Written>(number: Number, len: u8) -> Option<bool> {
     P::of(number, len).map(|prefix| prefix.fits())
 }
 
-fn masks<P: Written>(pair: Pair<P::R>, answer: P::R) -> bool {
+fn masks<P: Written>(pair: Pair, answer: Number) -> bool {
     match fitting::<P>(pair) {
-        Some(prefix) => prefix.mask() == answer,
+        Some(prefix) => key_of(answer) == Some(prefix.mask()),
         None => false,
     }
 }
 
-fn contains<P: Written>(outer: Pair<P::R>, inner: Pair<P::R>) -> Option<bool> {
+fn contains<P: Written>(outer: Pair, inner: Pair) -> Option<bool> {
     match (fitting::<P>(outer), fitting::<P>(inner)) {
         (Some(outer), Some(inner)) => Some(outer.contains(&inner)),
         _ => None,

@@ -101,7 +101,7 @@ impl<const W: u32> Key for Narrow<W> {
 
     #[inline]
     fn is_key(self) -> bool {
-        self.get() < 1 << Self::width()
+        true
     }
 
     #[inline]

@@ -4,7 +4,7 @@ use crate::table::Pair;
 
 /// All prefixes of up to four bits, in listing order.
 #[rattlefmt::skip]
-const UP_TO_FOUR_BITS: [Pair<u8>; 31] = [
+const UP_TO_FOUR_BITS: [Pair; 31] = [
     (0, 0), (0, 1), (0, 2), (0, 3), (0, 4), (16, 4), (32, 3), (32, 4),
     (48, 4), (64, 2), (64, 3), (64, 4), (80, 4), (96, 3), (96, 4), (112, 4),
     (128, 1), (128, 2), (128, 3), (128, 4), (144, 4), (160, 3), (160, 4), (176, 4),
@@ -13,7 +13,7 @@ const UP_TO_FOUR_BITS: [Pair<u8>; 31] = [
 
 /// Row 14: a root with a value at each of its places. On the way to it a block of each size was made, and all but the greatest
 /// are free.
-pub const FULL_ROOT: [Line<u8>; 6] = [
+pub const FULL_ROOT: [Line; 6] = [
     InsertAll(&UP_TO_FOUR_BITS),
     Len(31),
     NodeSlots(1),
@@ -24,7 +24,7 @@ pub const FULL_ROOT: [Line<u8>; 6] = [
 
 /// All addresses of eight bits.
 #[rattlefmt::skip]
-const ADDRESSES: [Pair<u8>; 256] = [
+const ADDRESSES: [Pair; 256] = [
     (0, 8), (1, 8), (2, 8), (3, 8), (4, 8), (5, 8), (6, 8), (7, 8),
     (8, 8), (9, 8), (10, 8), (11, 8), (12, 8), (13, 8), (14, 8), (15, 8),
     (16, 8), (17, 8), (18, 8), (19, 8), (20, 8), (21, 8), (22, 8), (23, 8),
@@ -60,7 +60,7 @@ const ADDRESSES: [Pair<u8>; 256] = [
 ];
 
 /// Row 15: all addresses of eight bits. Nodes take the blocks that others outgrew.
-pub const ALL_ADDRESSES: [Line<u8>; 11] = [
+pub const ALL_ADDRESSES: [Line; 11] = [
     InsertAll(&ADDRESSES),
     Len(256),
     NodeCount(33),
@@ -75,7 +75,7 @@ pub const ALL_ADDRESSES: [Line<u8>; 11] = [
 ];
 
 /// Row 17: removals step down to free blocks, and an insertion takes the free block that it needs.
-pub const STEPS: [Line<u8>; 14] = [
+pub const STEPS: [Line; 14] = [
     InsertAll(&UP_TO_FOUR_BITS),
     Remove((192, 2), Some(24)),
     Remove((192, 3), Some(25)),
@@ -93,7 +93,7 @@ pub const STEPS: [Line<u8>; 14] = [
 ];
 
 /// Row 37: the nodes of two hosts. What one leaves the other takes.
-pub const TWO_HOSTS: [Line<u32>; 21] = [
+pub const TWO_HOSTS: [Line; 21] = [
     Insert((0, 32), 1, Ok(None)),
     NodeSlots(7),
     CellSlots(1),

@@ -2,7 +2,7 @@
 use crate::table::Line::{self, *};
 
 /// Row 2: a stored prefix has no host bits, and one that is not stored has those that were handed in.
-pub const HOST_BITS: [Line<u32>; 4] = [
+pub const HOST_BITS: [Line; 4] = [
     Insert((0xc0a8_0001, 24), 1, Ok(None)),
     GetKeyValue((0xc0a8_0000, 24), Some(((0xc0a8_0000, 24), 1))),
     EntryKey((0xc0a8_0007, 24), (0xc0a8_0000, 24)),
@@ -10,7 +10,7 @@ pub const HOST_BITS: [Line<u32>; 4] = [
 ];
 
 /// Row 20: a stored value is changed and a missing one inserted; both are taken out, and their nodes stay.
-pub const COUNTED: [Line<u32>; 10] = [
+pub const COUNTED: [Line; 10] = [
     Insert((0xc0a8_0100, 24), 1, Ok(None)),
     AddOrInsert((0xc0a8_0100, 24), 9, 2),
     AddOrInsert((0xc0a8_0200, 24), 9, 9),
@@ -24,7 +24,7 @@ pub const COUNTED: [Line<u32>; 10] = [
 ];
 
 /// Row 33: what fills an entry is asked for only where it is vacant.
-pub const FILLED: [Line<u8>; 8] = [
+pub const FILLED: [Line; 8] = [
     EntryKey((131, 1), (131, 1)),
     OrDefault((131, 1), 0, 5),
     EntryKey((200, 1), (128, 1)),

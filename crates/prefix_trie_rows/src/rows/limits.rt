@@ -4,7 +4,7 @@ use prefix_trie::Refusal::IndexRange;
 
 /// Row 13: an insertion whose nodes pass the limit is refused and changes nothing, and one that needs none goes through. No
 /// map exists under a limit of 0.
-pub const FOUR_SLOTS: [Line<u32>; 6] = [
+pub const FOUR_SLOTS: [Line; 6] = [
     WithSlotLimit(4, Ok(())),
     Insert((0, 32), 1, Err(IndexRange)),
     Len(0),
@@ -14,7 +14,7 @@ pub const FOUR_SLOTS: [Line<u32>; 6] = [
 ];
 
 /// Row 38: where the limit has no room for a smaller block, a removal keeps the block, and a copy of the map has it too.
-pub const KEPT_BLOCKS: [Line<u8>; 25] = [
+pub const KEPT_BLOCKS: [Line; 25] = [
     // Three slots have no room for the smaller block: the root keeps its block of two for the one value that is left.
     WithSlotLimit(3, Ok(())),
     Insert((0, 1), 1, Ok(None)),

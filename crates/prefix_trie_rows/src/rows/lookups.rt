@@ -2,7 +2,7 @@
 use crate::table::Line::{self, *};
 
 /// Row 1: a map answers for the networks that it holds, and for no other.
-pub const EXACT: [Line<u32>; 6] = [
+pub const EXACT: [Line; 6] = [
     Insert((0xc0a8_0000, 23), 1, Ok(None)),
     Insert((0xc0a8_0100, 24), 2, Ok(None)),
     Insert((0xc0a8_0100, 24), 3, Ok(Some(2))),
@@ -12,7 +12,7 @@ pub const EXACT: [Line<u32>; 6] = [
 ];
 
 /// Row 3: the longest and the shortest network that contain a network.
-pub const MATCHES: [Line<u32>; 6] = [
+pub const MATCHES: [Line; 6] = [
     Insert((0xc0a8_0100, 24), 1, Ok(None)),
     Insert((0xc0a8_0000, 23), 2, Ok(None)),
     GetLpm((0xc0a8_0101, 32), Some(((0xc0a8_0100, 24), 1))),

@@ -2,7 +2,7 @@
 use crate::table::Line::{self, *};
 
 /// Row 26: which lengths a network has, its mask, and which network contains which.
-pub const NETWORKS: [Line<u32>; 5] = [
+pub const NETWORKS: [Line; 5] = [
     IsPrefix((0, 33), false),
     IsPrefix((0, 32), true),
     Mask((0x0a01_0000, 8), 0x0a00_0000),
@@ -11,7 +11,7 @@ pub const NETWORKS: [Line<u32>; 5] = [
 ];
 
 /// Row 26: a pair whose length is greater than its number's width does not fit.
-pub const PAIRS: [Line<u8>; 1] = [Fits((0, 9), false)];
+pub const PAIRS: [Line; 1] = [Fits((0, 9), false)];
 
 /// Row 30: the greatest length of an IPv6 network.
-pub const LENGTHS_OF_IPV6: [Line<u128>; 2] = [IsPrefix((0, 129), false), IsPrefix((0, 128), true)];
+pub const LENGTHS_OF_IPV6: [Line; 2] = [IsPrefix((0, 129), false), IsPrefix((0, 128), true)];

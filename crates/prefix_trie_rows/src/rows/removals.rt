@@ -2,7 +2,7 @@
 use crate::table::Line::{self, *};
 
 /// Row 9: a network goes with all those in it.
-pub const BELOW_A_NETWORK: [Line<u32>; 9] = [
+pub const BELOW_A_NETWORK: [Line; 9] = [
     Insert((0xc0a8_0000, 21), 1, Ok(None)),
     Insert((0xc0a8_0000, 22), 2, Ok(None)),
     Insert((0xc0a8_0000, 23), 3, Ok(None)),
@@ -15,7 +15,7 @@ pub const BELOW_A_NETWORK: [Line<u32>; 9] = [
 ];
 
 /// Row 10: which nodes each way of taking out the one entry of a map leaves.
-pub const NODES_LEFT: [Line<u32>; 11] = [
+pub const NODES_LEFT: [Line; 11] = [
     NodeCount(1),
     Insert((0, 32), 1, Ok(None)),
     NodeCount(7),
@@ -30,7 +30,7 @@ pub const NODES_LEFT: [Line<u32>; 11] = [
 ];
 
 /// Row 18: the even values are kept. The test is asked once at each entry, in listing order.
-pub const EVEN_VALUES_KEPT: [Line<u32>; 9] = [
+pub const EVEN_VALUES_KEPT: [Line; 9] = [
     Insert((0xc0a8_0000, 24), 1, Ok(None)),
     Insert((0xc0a8_0100, 24), 2, Ok(None)),
     Insert((0xc0a8_0200, 24), 3, Ok(None)),
@@ -43,7 +43,7 @@ pub const EVEN_VALUES_KEPT: [Line<u32>; 9] = [
 ];
 
 /// Row 22: a removal prunes on the way to its prefix, also where that is not stored, and nowhere else.
-pub const PRUNED_ON_THE_WAY: [Line<u32>; 8] = [
+pub const PRUNED_ON_THE_WAY: [Line; 8] = [
     Insert((0, 32), 1, Ok(None)),
     RemoveKeepTree((0, 32), Some(1)),
     Remove((0, 32), None),
@@ -56,7 +56,7 @@ pub const PRUNED_ON_THE_WAY: [Line<u32>; 8] = [
 
 /// Row 31: taking out what stands below a prefix takes all nodes below its own with it, prunes upward from that, and leaves
 /// what stands beside the prefix in one node.
-pub const BELOW_HALF_NODES: [Line<u32>; 22] = [
+pub const BELOW_HALF_NODES: [Line; 22] = [
     // A node is emptied from its middle, and its places are used again.
     Insert((0, 11), 1, Ok(None)),
     NodeCount(3),
@@ -87,7 +87,7 @@ pub const BELOW_HALF_NODES: [Line<u32>; 22] = [
 ];
 
 /// Row 32: empty nodes stay where they have a child, or where the prefix's own node is missing; below the prefix they go.
-pub const EMPTY_NODES_ELSEWHERE: [Line<u32>; 9] = [
+pub const EMPTY_NODES_ELSEWHERE: [Line; 9] = [
     Insert((0, 16), 1, Ok(None)),
     RemoveKeepTree((0, 16), Some(1)),
     NodeCount(4),

@@ -5,7 +5,7 @@ use prefix_trie::Refusal::IndexRange;
 use prefix_trie::replay::Call::*;
 
 /// Row 27: a reply to each call, and what `Clear` leaves.
-pub const REPLIES_IN_ORDER: [Turn<u8>; 6] = [
+pub const REPLIES_IN_ORDER: [Turn; 6] = [
     Turn(Insert((0, 1), 7), Value(None)),
     Turn(Lpm((64, 2)), Match(Some(((0, 1), 7)))),
     Turn(NodeCount, Count(1)),
@@ -15,7 +15,7 @@ pub const REPLIES_IN_ORDER: [Turn<u8>; 6] = [
 ];
 
 /// Row 28: the bits behind a prefix's length count for nothing, and replies show prefixes without them.
-pub const HOST_BITS: [Turn<u8>; 8] = [
+pub const HOST_BITS: [Turn; 8] = [
     Turn(Insert((255, 0), 1), Value(None)),
     Turn(Insert((129, 1), 2), Value(None)),
     Turn(Insert((1, 8), 3), Value(None)),
@@ -28,7 +28,7 @@ pub const HOST_BITS: [Turn<u8>; 8] = [
 
 /// Row 40: under a limit of two slots, a second child of the root is refused and the run goes on. The first key, which is
 /// stored, is set again.
-pub const UNDER_TWO_SLOTS: [Turn<u8>; 5] = [
+pub const UNDER_TWO_SLOTS: [Turn; 5] = [
     Turn(Insert((0, 8), 1), Value(None)),
     Turn(Insert((128, 8), 2), Refused(IndexRange)),
     Turn(Insert((0, 8), 3), Value(Some(1))),

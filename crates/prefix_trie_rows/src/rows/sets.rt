@@ -3,7 +3,7 @@ use crate::table::sets::SetLine::{self, *};
 use prefix_trie::Refusal::IndexRange;
 
 /// Row 11: addresses of one half, and of both.
-pub const HALVES: [SetLine<u8>; 4] = [
+pub const HALVES: [SetLine; 4] = [
     Insert((0, 1), Ok(true)),
     AddressCount(Some(128)),
     Insert((128, 1), Ok(true)),
@@ -11,27 +11,27 @@ pub const HALVES: [SetLine<u8>; 4] = [
 ];
 
 /// Row 23: sets are equal that have the same keys, in whichever order they came.
-pub const EQUAL: [SetLine<u8>; 3] = [
+pub const EQUAL: [SetLine; 3] = [
     FromIter(&[(0, 1), (128, 1)]),
     Equals(&[(128, 1), (0, 1)], true),
     Equals(&[(128, 1)], false),
 ];
 
 /// Row 24: the text of a set.
-pub const PAIRS_AS_TEXT: [SetLine<u32>; 2] = [
+pub const PAIRS_AS_TEXT: [SetLine; 2] = [
     FromIter(&[(0, 0), (0, 1), (0x8000_0000, 1)]),
     Text("{(0, 0), (0, 1), (2147483648, 1)}"),
 ];
 
 /// Row 35: addresses that two keys share are counted once.
-pub const SHARED_ADDRESSES: [SetLine<u8>; 3] = [
+pub const SHARED_ADDRESSES: [SetLine; 3] = [
     FromIter(&[(0, 8), (1, 8), (0, 7), (255, 8)]),
     Len(4),
     AddressCount(Some(3)),
 ];
 
 /// Row 35: addresses of 128 bits.
-pub const ADDRESSES_OF_128_BITS: [SetLine<u128>; 6] = [
+pub const ADDRESSES_OF_128_BITS: [SetLine; 6] = [
     Insert((0, 128), Ok(true)),
     AddressCount(Some(1)),
     Insert((1 << 127, 1), Ok(true)),
@@ -41,14 +41,14 @@ pub const ADDRESSES_OF_128_BITS: [SetLine<u128>; 6] = [
 ];
 
 /// Row 36: the text of an empty set, and of networks, without their host bits.
-pub const NETWORKS_AS_TEXT: [SetLine<u32>; 3] = [
+pub const NETWORKS_AS_TEXT: [SetLine; 3] = [
     Text("{}"),
     FromIter(&[(0x0a01_0203, 8), (0x0a01_0000, 16)]),
     Text("{10.0.0.0/8, 10.1.0.0/16}"),
 ];
 
 /// Row 39: a set under a limit of one slot has the root's keys alone.
-pub const ONE_SLOT: [SetLine<u8>; 7] = [
+pub const ONE_SLOT: [SetLine; 7] = [
     WithSlotLimit(1),
     Insert((0, 0), Ok(true)),
     Insert((0, 1), Err(IndexRange)),

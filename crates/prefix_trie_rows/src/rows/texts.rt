@@ -2,7 +2,7 @@
 use crate::table::Line::{self, *};
 
 /// Row 24: the entries that a prefix contains stand within its own.
-pub const NESTED: [Line<u32>; 4] = [
+pub const NESTED: [Line; 4] = [
     Insert((0, 0), 1, Ok(None)),
     Insert((0, 1), 2, Ok(None)),
     Insert((0x8000_0000, 1), 3, Ok(None)),
@@ -10,7 +10,7 @@ pub const NESTED: [Line<u32>; 4] = [
 ];
 
 /// Row 36: an empty map, and a network with its host bits. And entries that are closed at several depths.
-pub const NETWORKS: [Line<u32>; 8] = [
+pub const NETWORKS: [Line; 8] = [
     Text("{}"),
     PrefixText((0x0a01_0203, 8), "10.1.2.3/8"),
     Insert((0x0a00_0000, 8), 1, Ok(None)),
@@ -24,7 +24,4 @@ pub const NETWORKS: [Line<u32>; 8] = [
 ];
 
 /// Row 36: an IPv6 network.
-pub const IPV6: [Line<u128>; 1] = [PrefixText(
-    (1, 128),
-    "0000:0000:0000:0000:0000:0000:0000:0001/128",
-)];
+pub const IPV6: [Line; 1] = [PrefixText((1, 128), "0000:0000:0000:0000:0000:0000:0000:0001/128")];

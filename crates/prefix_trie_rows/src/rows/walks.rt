@@ -2,7 +2,7 @@
 use crate::table::Line::{self, *};
 
 /// Row 4: the network of all addresses, and an empty map.
-pub const ALL_ADDRESSES: [Line<u32>; 8] = [
+pub const ALL_ADDRESSES: [Line; 8] = [
     Insert((0, 0), 0, Ok(None)),
     Cover((0x0a00_0000, 8), &[((0, 0), 0)]),
     New,
@@ -14,7 +14,7 @@ pub const ALL_ADDRESSES: [Line<u32>; 8] = [
 ];
 
 /// Row 7: values come in the listing order of their networks, in whatever order they were inserted.
-pub const IN_LISTING_ORDER: [Line<u32>; 6] = [
+pub const IN_LISTING_ORDER: [Line; 6] = [
     Insert((0xc0a8_0000, 22), 1, Ok(None)),
     Insert((0xc0a8_0000, 23), 2, Ok(None)),
     Insert((0xc0a8_0200, 23), 3, Ok(None)),
@@ -24,7 +24,7 @@ pub const IN_LISTING_ORDER: [Line<u32>; 6] = [
 ];
 
 /// Row 8: what comes behind a network, which is stored or not.
-pub const BEHIND_A_NETWORK: [Line<u32>; 15] = [
+pub const BEHIND_A_NETWORK: [Line; 15] = [
     Insert((0x0a00_0000, 8), 1, Ok(None)),
     Insert((0x0a01_0000, 16), 2, Ok(None)),
     Insert((0x0a02_0000, 16), 3, Ok(None)),
@@ -44,7 +44,7 @@ pub const BEHIND_A_NETWORK: [Line<u32>; 15] = [
 ];
 
 /// Row 21: the values that a network contains are written, and then taken out of the map.
-pub const WRITTEN_AND_TAKEN: [Line<u32>; 8] = [
+pub const WRITTEN_AND_TAKEN: [Line; 8] = [
     Insert((0xc0a8_0000, 22), 1, Ok(None)),
     Insert((0xc0a8_0000, 23), 2, Ok(None)),
     Insert((0xc0a8_0000, 24), 3, Ok(None)),
@@ -59,7 +59,7 @@ pub const WRITTEN_AND_TAKEN: [Line<u32>; 8] = [
 ];
 
 /// Row 25: the networks that contain one, the shortest first.
-pub const AROUND_A_NETWORK: [Line<u32>; 7] = [
+pub const AROUND_A_NETWORK: [Line; 7] = [
     Insert((0x0a00_0000, 8), 0, Ok(None)),
     Insert((0x0a01_0000, 16), 1, Ok(None)),
     Insert((0x0a01_0100, 24), 2, Ok(None)),
@@ -77,7 +77,7 @@ pub const AROUND_A_NETWORK: [Line<u32>; 7] = [
 ];
 
 /// Row 34: walks from prefixes and below them, stored or not, that read, write and take the map apart.
-pub const FROM_AND_BELOW: [Line<u8>; 19] = [
+pub const FROM_AND_BELOW: [Line; 19] = [
     Insert((0, 5), 1, Ok(None)),
     Insert((4, 6), 2, Ok(None)),
     Insert((6, 8), 3, Ok(None)),

@@ -2,7 +2,7 @@
 use crate::table::Line::{self, *};
 
 /// Row 5: four hosts in a row share all nodes.
-pub const HOSTS_OF_32_BITS: [Line<u32>; 10] = [
+pub const HOSTS_OF_32_BITS: [Line; 10] = [
     Insert((0x0102_0300, 32), 1, Ok(None)),
     Insert((0x0102_0301, 32), 2, Ok(None)),
     Insert((0x0102_0302, 32), 3, Ok(None)),
@@ -16,7 +16,7 @@ pub const HOSTS_OF_32_BITS: [Line<u32>; 10] = [
 ];
 
 /// Row 6: the last node of a key of 128 bits, which spans three bits.
-pub const ENDS_OF_128_BITS: [Line<u128>; 5] = [
+pub const ENDS_OF_128_BITS: [Line; 5] = [
     Insert((0, 125), 1, Ok(None)),
     Insert((1, 128), 2, Ok(None)),
     GetLpm((1, 128), Some(((1, 128), 2))),
@@ -25,7 +25,7 @@ pub const ENDS_OF_128_BITS: [Line<u128>; 5] = [
 ];
 
 /// Row 19: the last node of a key of eight bits, which spans three bits.
-pub const ENDS_OF_8_BITS: [Line<u8>; 8] = [
+pub const ENDS_OF_8_BITS: [Line; 8] = [
     Insert((0, 5), 1, Ok(None)),
     Insert((6, 8), 2, Ok(None)),
     Insert((7, 8), 3, Ok(None)),
@@ -37,7 +37,7 @@ pub const ENDS_OF_8_BITS: [Line<u8>; 8] = [
 ];
 
 /// Row 29: the last node of a key of 64 bits, which spans four bits. The last length but one is set through a longer prefix.
-pub const ENDS_OF_U64: [Line<u64>; 10] = [
+pub const ENDS_OF_U64: [Line; 10] = [
     Insert((0, 60), 1, Ok(None)),
     Insert((5, 64), 2, Ok(None)),
     Insert((6, 63), 3, Ok(None)),
@@ -51,7 +51,7 @@ pub const ENDS_OF_U64: [Line<u64>; 10] = [
 ];
 
 /// Row 29: the same of the other type of such numbers.
-pub const ENDS_OF_USIZE: [Line<usize>; 10] = [
+pub const ENDS_OF_USIZE: [Line; 10] = [
     Insert((0, 60), 1, Ok(None)),
     Insert((5, 64), 2, Ok(None)),
     Insert((6, 63), 3, Ok(None)),
@@ -65,7 +65,7 @@ pub const ENDS_OF_USIZE: [Line<usize>; 10] = [
 ];
 
 /// Row 30: the last node of a key of 16 bits, which spans one bit.
-pub const ENDS_OF_16_BITS: [Line<u16>; 6] = [
+pub const ENDS_OF_16_BITS: [Line; 6] = [
     Insert((0x8000, 15), 1, Ok(None)),
     Insert((0x8001, 16), 2, Ok(None)),
     GetLpm((0x8001, 16), Some(((0x8001, 16), 2))),

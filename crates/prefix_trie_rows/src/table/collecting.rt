@@ -5,12 +5,7 @@ use crate::table::{Entry, Map, Written, fitting};
 use prefix_trie::PrefixMap;
 use std::alloc::{AllocError, Global};
 
-pub fn equals<P: Written>(
-    alloc: Global,
-    map: &Map<P>,
-    entries: &[Entry<P::R>],
-    answer: bool,
-) -> bool {
+pub fn equals<P: Written>(alloc: Global, map: &Map<P>, entries: &[Entry], answer: bool) -> bool {
     match items_of::<P>(alloc, entries) {
         Ok(Some(items)) => are_equal(map, alloc, items, answer),
         _ => false,
@@ -29,7 +24,7 @@ fn are_equal<P: Written>(map: &Map<P>, alloc: Global, items: Vec<(P, u64)>, answ
 /// The items, if the prefix of each fits.
 fn items_of<P: Written>(
     alloc: Global,
-    entries: &[Entry<P::R>],
+    entries: &[Entry],
 ) -> Result<Option<Vec<(P, u64)>>, AllocError>
     ensures { IfOk result (λ items. IfSome items (λ xs. All (λ item. P.IsFitting item.0) xs.items)) }
 {

@@ -1,19 +1,16 @@
 //! What is put to one entry of a map.
-use crate::table::{Map, Pair, Written, fitting};
+use crate::table::{Map, Pair, Written, fitting, is};
 use prefix_trie::map::Entry as MapEntry;
 use prefix_trie::{Prefix, Refusal, Refused};
 
-pub fn has_key<P: Written>(map: &mut Map<P>, pair: Pair<P::R>, answer: Pair<P::R>) -> bool {
+pub fn has_key<P: Written>(map: &mut Map<P>, pair: Pair, answer: Pair) -> bool {
     match fitting::<P>(pair) {
-        Some(prefix) => {
-            let entry = map.entry(prefix);
-            (entry.key().repr(), entry.key().prefix_len()) == answer
-        }
+        Some(prefix) => is(map.entry(prefix).key(), answer),
         None => false,
     }
 }
 
-pub fn has_value<P: Written>(map: &mut Map<P>, pair: Pair<P::R>, answer: Option<u64>) -> bool {
+pub fn has_value<P: Written>(map: &mut Map<P>, pair: Pair, answer: Option<u64>) -> bool {
     match fitting::<P>(pair) {
         Some(prefix) => map.entry(prefix).get().copied() == answer,
         None => false,
@@ -21,7 +18,7 @@ pub fn has_value<P: Written>(map: &mut Map<P>, pair: Pair<P::R>, answer: Option<
 }
 
 /// One is added where there is a value, and else this one is inserted.
-pub fn adds<P: Written>(map: &mut Map<P>, pair: Pair<P::R>, fresh: u64, answer: u64) -> bool {
+pub fn adds<P: Written>(map: &mut Map<P>, pair: Pair, fresh: u64, answer: u64) -> bool {
     let Some(prefix) = fitting::<P>(pair) else {
         return false;
     };
@@ -33,7 +30,7 @@ pub fn adds<P: Written>(map: &mut Map<P>, pair: Pair<P::R>, fresh: u64, answer: 
 }
 
 /// The value is the answer, and is then set to another.
-pub fn or_default<P: Written>(map: &mut Map<P>, pair: Pair<P::R>, answer: u64, then: u64) -> bool {
+pub fn or_default<P: Written>(map: &mut Map<P>, pair: Pair, answer: u64, then: u64) -> bool {
     let Some(prefix) = fitting::<P>(pair) else {
         return false;
     };
@@ -50,7 +47,7 @@ pub fn or_default<P: Written>(map: &mut Map<P>, pair: Pair<P::R>, answer: u64, t
 /// A closure that gives this value is called so many times.
 pub fn or_insert_with<P: Written>(
     map: &mut Map<P>,
-    pair: Pair<P::R>,
+    pair: Pair,
     fresh: u64,
     answer: u64,
     calls: u64,
@@ -72,7 +69,7 @@ pub fn or_insert_with<P: Written>(
 
 pub fn inserts<P: Written>(
     map: &mut Map<P>,
-    pair: Pair<P::R>,
+    pair: Pair,
     value: u64,
     answer: Result<Option<u64>, Refusal>,
 ) -> bool {
@@ -83,7 +80,7 @@ pub fn inserts<P: Written>(
     }
 }
 
-pub fn removes<P: Written>(map: &mut Map<P>, pair: Pair<P::R>, answer: Option<u64>) -> bool {
+pub fn removes<P: Written>(map: &mut Map<P>, pair: Pair, answer: Option<u64>) -> bool {
     let Some(prefix) = fitting::<P>(pair) else {
         return false;
     };

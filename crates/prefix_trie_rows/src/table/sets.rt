@@ -1,7 +1,7 @@
 //! Tables of sets: calls of a set beside the answers that they should have, and what puts them to a set.
 ghost use Rattle.std.specs.Prelude.{All, IfSome, IfOk};
 
-use crate::table::{Pair, Written, fitting};
+use crate::table::{Number, Pair, Written, fitting, is_number};
 use prefix_trie::{Prefix, PrefixSet, Refusal};
 use std::alloc::{AllocError, Global};
 
@@ -10,18 +10,18 @@ type Set<P> = PrefixSet<P, Global>;
 
 /// A call, and last the answer that it should have. A table begins with an empty set.
 #[derive(Drop)]
-pub enum SetLine<R: 'static> {
+pub enum SetLine {
     /// Goes on with a new set of this limit.
     WithSlotLimit(u32),
     /// Goes on with the set of these prefixes.
-    FromIter(&'static [Pair<R>]),
+    FromIter(&'static [Pair]),
     /// Whether the prefix is new, or why it was refused.
-    Insert(Pair<R>, Result<bool, Refusal>),
-    Remove(Pair<R>, bool),
+    Insert(Pair, Result<bool, Refusal>),
+    Remove(Pair, bool),
     /// Whether the set equals that of these prefixes.
-    Equals(&'static [Pair<R>], bool),
+    Equals(&'static [Pair], bool),
     /// How many addresses the keys contain, if not all.
-    AddressCount(Option<R>),
+    AddressCount(Option<Number>),
     Len(usize),
     NodeCount(usize),
     /// The debug text.
@@ -29,13 +29,13 @@ pub enum SetLine<R: 'static> {
 }
 
 /// Whether each call of a table has its answer, in order. Refused if there is no memory for the first set.
-pub fn all_hold<P: Written>(alloc: Global, lines: &[SetLine<P::R>]) -> Result<bool, Refusal> {
+pub fn all_hold<P: Written>(alloc: Global, lines: &[SetLine]) -> Result<bool, Refusal> {
     let mut set: Set<P> = PrefixSet::new(alloc)?;
     Ok(hold_in_order(alloc, &mut set, lines))
 }
 
 /// Whether each call has its answer, where they are put to a set in order.
-fn hold_in_order<P: Written>(alloc: Global, set: &mut Set<P>, lines: &[SetLine<P::R>]) -> bool {
+fn hold_in_order<P: Written>(alloc: Global, set: &mut Set<P>, lines: &[SetLine]) -> bool {
     for line in lines {
         if !holds(alloc, set, line) {
             return false;
@@ -45,14 +45,14 @@ fn hold_in_order<P: Written>(alloc: Global, set: &mut Set<P>, lines: &[SetLine<P
 }
 
 /// Whether a call has its answer.
-fn holds<P: Written>(alloc: Global, set: &mut Set<P>, line: &SetLine<P::R>) -> bool {
+fn holds<P: Written>(alloc: Global, set: &mut Set<P>, line: &SetLine) -> bool {
     match line {
         SetLine::WithSlotLimit(limit) => renews(set, PrefixSet::with_slot_limit(alloc, *limit)),
         SetLine::FromIter(pairs) => renews(set, set_of(alloc, pairs)),
         SetLine::Insert(pair, answer) => inserts(set, *pair, *answer),
         SetLine::Remove(pair, answer) => removes(set, *pair, *answer),
         SetLine::Equals(pairs, answer) => equals(set, set_of(alloc, pairs), *answer),
-        SetLine::AddressCount(answer) => set.address_count() == *answer,
+        SetLine::AddressCount(answer) => is_number(set.address_count(), *answer),
         SetLine::Len(count) => set.len() == *count && set.is_empty() == (*count == 0),
         SetLine::NodeCount(count) => set.node_count() == *count,
         SetLine::Text(text) => has_text(alloc, set, text),
@@ -71,7 +71,7 @@ fn renews<P: Prefix>(set: &mut Set<P>, made: Result<Set<P>, Refusal>) -> bool {
 }
 
 /// The set of these prefixes. Refused for a prefix that does not fit, too.
-fn set_of<P: Written>(alloc: Global, pairs: &[Pair<P::R>]) -> Result<Set<P>, Refusal> {
+fn set_of<P: Written>(alloc: Global, pairs: &[Pair]) -> Result<Set<P>, Refusal> {
     match prefixes_of::<P>(alloc, pairs) {
         Ok(Some(prefixes)) => collected(alloc, prefixes),
         _ => Err(Refusal::Memory),
@@ -85,10 +85,7 @@ fn collected<P: Written>(alloc: Global, prefixes: Vec<P>) -> Result<Set<P>, Refu
 }
 
 /// The prefixes, if each fits.
-fn prefixes_of<P: Written>(
-    alloc: Global,
-    pairs: &[Pair<P::R>],
-) -> Result<Option<Vec<P>>, AllocError>
+fn prefixes_of<P: Written>(alloc: Global, pairs: &[Pair]) -> Result<Option<Vec<P>>, AllocError>
     ensures { IfOk result (λ found. IfSome found (λ xs. All P.IsFitting xs.items)) }
 {
     let mut prefixes = Vec::new(alloc);
@@ -101,14 +98,14 @@ fn prefixes_of<P: Written>(
     Ok(Some(prefixes))
 }
 
-fn inserts<P: Written>(set: &mut Set<P>, pair: Pair<P::R>, answer: Result<bool, Refusal>) -> bool {
+fn inserts<P: Written>(set: &mut Set<P>, pair: Pair, answer: Result<bool, Refusal>) -> bool {
     match fitting::<P>(pair) {
         Some(prefix) => set.insert(prefix) == answer,
         None => false,
     }
 }
 
-fn removes<P: Written>(set: &mut Set<P>, pair: Pair<P::R>, answer: bool) -> bool {
+fn removes<P: Written>(set: &mut Set<P>, pair: Pair, answer: bool) -> bool {
     match fitting::<P>(pair) {
         Some(prefix) => set.remove(&prefix) == answer,
         None => false,

@@ -1,17 +1,17 @@
 //! What walks give that take a map apart: a copy, so that the map stays for the lines to come.
-use crate::table::{Entry, Map, Pair, Written, fitting};
+use crate::table::{Entry, Map, Pair, Written, fitting, is};
 use prefix_trie::Prefix;
 use prefix_trie::map::{IntoIter, IntoKeys};
 use std::alloc::Global;
 
-pub fn gives_children<P: Written>(map: &Map<P>, pair: Pair<P::R>, entries: &[Entry<P::R>]) -> bool {
+pub fn gives_children<P: Written>(map: &Map<P>, pair: Pair, entries: &[Entry]) -> bool {
     match (map.clone(), fitting::<P>(pair)) {
         (Ok(copy), Some(prefix)) => are_entries(copy.into_children(&prefix), entries),
         _ => false,
     }
 }
 
-fn are_entries<P: Prefix>(mut walk: IntoIter<P, u64, Global>, entries: &[Entry<P::R>]) -> bool {
+fn are_entries<P: Prefix>(mut walk: IntoIter<P, u64, Global>, entries: &[Entry]) -> bool {
     for (pair, value) in entries {
         match walk.next() {
             Some((prefix, taken)) if is(&prefix, *pair) && taken == *value => {}
@@ -21,19 +21,14 @@ fn are_entries<P: Prefix>(mut walk: IntoIter<P, u64, Global>, entries: &[Entry<P
     walk.next().is_none()
 }
 
-/// Whether tables write a prefix so.
-fn is<P: Prefix>(prefix: &P, pair: Pair<P::R>) -> bool {
-    (prefix.repr(), prefix.prefix_len()) == pair
-}
-
-pub fn gives_keys<P: Prefix>(map: &Map<P>, pairs: &[Pair<P::R>]) -> bool {
+pub fn gives_keys<P: Prefix>(map: &Map<P>, pairs: &[Pair]) -> bool {
     match map.clone() {
         Ok(copy) => are_keys(copy.into_keys(), pairs),
         Err(_) => false,
     }
 }
 
-fn are_keys<P: Prefix>(mut walk: IntoKeys<P, u64, Global>, pairs: &[Pair<P::R>]) -> bool {
+fn are_keys<P: Prefix>(mut walk: IntoKeys<P, u64, Global>, pairs: &[Pair]) -> bool {
     for pair in pairs {
         match walk.next() {
             Some(prefix) if is(&prefix, *pair) => {}

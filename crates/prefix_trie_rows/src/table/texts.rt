@@ -10,7 +10,7 @@ pub fn is_text<P: Prefix>(alloc: Global, map: &Map<P>, text: &str) -> bool {
     }
 }
 
-pub fn is_prefix_text<P: Written>(alloc: Global, (number, len): Pair<P::R>, text: &str) -> bool {
+pub fn is_prefix_text<P: Written>(alloc: Global, (number, len): Pair, text: &str) -> bool {
     let Some(prefix) = P::of(number, len) else {
         return false;
     };

@@ -1,12 +1,12 @@
 //! What the walks of a map give.
-use crate::table::{Entry, Map, Pair, Written, fitting, shown};
+use crate::table::{Entry, Map, Pair, Written, fitting, is_shown};
 use prefix_trie::Prefix;
 
-pub fn lists<P: Prefix>(map: &Map<P>, pairs: &[Pair<P::R>]) -> bool {
+pub fn lists<P: Prefix>(map: &Map<P>, pairs: &[Pair]) -> bool {
     let mut walk = map.iter();
     let mut value = 0_u64;
     for pair in pairs {
-        if shown(walk.next()) != Some((*pair, value)) {
+        if !is_shown(walk.next(), Some((*pair, value))) {
             return false;
         }
         value = value.wrapping_add(1);
@@ -14,10 +14,10 @@ pub fn lists<P: Prefix>(map: &Map<P>, pairs: &[Pair<P::R>]) -> bool {
     walk.next().is_none()
 }
 
-pub fn lists_entries<P: Prefix>(map: &Map<P>, entries: &[Entry<P::R>]) -> bool {
+pub fn lists_entries<P: Prefix>(map: &Map<P>, entries: &[Entry]) -> bool {
     let mut walk = map.iter();
     for entry in entries {
-        if shown(walk.next()) != Some(*entry) {
+        if !is_shown(walk.next(), Some(*entry)) {
             return false;
         }
     }
@@ -26,7 +26,7 @@ pub fn lists_entries<P: Prefix>(map: &Map<P>, entries: &[Entry<P::R>]) -> bool {
 
 pub fn goes_on_from<P: Written>(
     map: &Map<P>,
-    pair: Pair<P::R>,
+    pair: Pair,
     inclusive: bool,
     count: usize,
     values: &[u64],
@@ -41,7 +41,7 @@ pub fn goes_on_from<P: Written>(
     }
 }
 
-pub fn has_children<P: Written>(map: &Map<P>, pair: Pair<P::R>, values: &[u64]) -> bool {
+pub fn has_children<P: Written>(map: &Map<P>, pair: Pair, values: &[u64]) -> bool {
     match fitting::<P>(pair) {
         Some(prefix) => map.children(&prefix).map(value_of).eq(values),
         None => false,
@@ -54,20 +54,20 @@ fn value_of<'a, P: Prefix>(entry: (P, &'a u64)) -> &'a u64 {
     value
 }
 
-pub fn covers<P: Written>(map: &Map<P>, pair: Pair<P::R>, entries: &[Entry<P::R>]) -> bool {
+pub fn covers<P: Written>(map: &Map<P>, pair: Pair, entries: &[Entry]) -> bool {
     let Some(prefix) = fitting::<P>(pair) else {
         return false;
     };
     let mut walk = map.cover(&prefix);
     for entry in entries {
-        if shown(walk.next()) != Some(*entry) {
+        if !is_shown(walk.next(), Some(*entry)) {
             return false;
         }
     }
     walk.next().is_none()
 }
 
-pub fn covers_values<P: Written>(map: &Map<P>, pair: Pair<P::R>, values: &[u64]) -> bool {
+pub fn covers_values<P: Written>(map: &Map<P>, pair: Pair, values: &[u64]) -> bool {
     match fitting::<P>(pair) {
         Some(prefix) => map.cover_values(&prefix).eq(values),
         None => false,

@@ -5,7 +5,7 @@ use prefix_trie::map::IterMut;
 use std::alloc::Global;
 
 /// A number is added to each value from a prefix on.
-pub fn adds<P: Written>(map: &mut Map<P>, pair: Pair<P::R>, inclusive: bool, more: u64) -> bool {
+pub fn adds<P: Written>(map: &mut Map<P>, pair: Pair, inclusive: bool, more: u64) -> bool {
     let steps = map.len();
     match fitting::<P>(pair) {
         Some(prefix) => {
@@ -17,7 +17,7 @@ pub fn adds<P: Written>(map: &mut Map<P>, pair: Pair<P::R>, inclusive: bool, mor
 }
 
 /// Each value that a prefix contains is multiplied.
-pub fn multiplies<P: Written>(map: &mut Map<P>, pair: Pair<P::R>, factor: u64) -> bool {
+pub fn multiplies<P: Written>(map: &mut Map<P>, pair: Pair, factor: u64) -> bool {
     let steps = map.len();
     match fitting::<P>(pair) {
         Some(prefix) => {
