@@ -1,5 +1,5 @@
 -- What a map becomes whose first value is swapped on a walk.
-use Rattle.std.proofs.Common.{◌≡◌, Bool, true, false, List, [], ◌∷◌, map, Option, None, Some, MatchOption, slice_get, refl, sym, ap, ap₂, ◌∙◌, true≢false, unwrap_or}
+use Rattle.std.proofs.Common.{◌≡◌, Bool, true, false, List, [], ◌∷◌, map, Option, None, Some, IfNone, MatchOption, is_none, slice_get, refl, sym, ap, ap₂, ◌∙◌, true≢false, unwrap_or}
 use Rattle.std.specs.Borrow.{MutBor}
 use Rattle.std.specs.FinMap.{get, get-entries, find}
 use Rattle.std.specs.declared.cmp.PartialEq as partial
@@ -13,7 +13,7 @@ use Rattle.prefix_trie_bits.proofs.Model.Ordered.{found_first}
 use Rattle.prefix_trie_table.specs.Shape.{Contents, with_value_at}
 use Rattle.prefix_trie_map.specs.declared.map.writing.course.Course.{Course}
 use Rattle.prefix_trie_map.specs.Writing.{IsFirst, GoesOver, ComesToEnd, StartsIn, HandsBack}
-use Rattle.prefix_trie_map.specs.WritingWalks.{PassesIn, EndsIn, FirstIn}
+use Rattle.prefix_trie_map.specs.WritingWalks.{PassesIn, EndsIn, IsOverIn, FirstIn}
 use Rattle.prefix_trie_map.proofs.Writing.{left_at_start, left_behind}
 use Rattle.prefix_trie.proofs.Rewriting.{first_key}
 
@@ -43,6 +43,14 @@ module _ {P T : Type 0} where
     pub swapped : (q : List Bool) (v : T) (rest : List (List Bool × T)) → listing m.now.entries ≡ (q, v) ∷ rest → n.now ≡ with_value_at m.now q value
 
 module _ {P T A R : Type 0} {p : prefix.Ghosts P R} {shows : debug.Ghosts P} {k : key.Ghosts R} {same : partial.Ghosts R} {writes : debug.Ghosts R} where
+  -- a walk over a map that is over at its start
+  pub over_at_start : {X : Type 0} (m : MutBor (Contents T)) (o : Option (Course P T A R p shows k same writes)) (found : Option X) →
+      StartsIn m (listing m.now.entries) o → IfNone found (IsOverIn ComesToEnd o) → is_none found ≡ true → listing m.now.entries ≡ []
+  over_at_start m o (Some x) starts over none = absurd (true≢false (sym none))
+  over_at_start m None None starts over none = absurd starts
+  over_at_start m (Some c) None starts (None, ends) none = absurd ends
+  over_at_start m (Some c) None starts (Some n, ends) none = no_keys (listing m.now.entries) (sym (left_at_start m _ c starts) ∙ (ends.ends None).0)
+
   pub swaps_first : (m : MutBor (Contents T)) (value : T) (r : Option (P × T)) (o d : Option (Course P T A R p shows k same writes)) (n : MutBor (Contents T)) →
       StartsIn m (listing m.now.entries) o →
       MatchOption r (EndsIn ComesToEnd o d) (λ e. FirstIn IsFirst o e.0 e.1 × PassesIn GoesOver o value d) → HandsBack d (Some n) → SwapsFirst p.back value r m n

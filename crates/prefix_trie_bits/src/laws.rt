@@ -97,14 +97,14 @@ pub fn slot_laws<P, T>()
 /// From every map of keys of up to 128 bits, however it is stored, each call whose prefix fits has a step that is no refusal, and leads
 /// to such a map again; but the insertion of a new key whose lacking blocks would pass the limit has refusals alone, and one for want
 /// of slots. Where a block lacks that would not, there is one for want of memory too, as a list always has; a refusal may leave all
-/// as it was. So each list of such calls has a run. Each step leads to such a map, but this is not said of those that may take many
-/// entries.
+/// as it was. So each list of such calls has a run. Each step leads to such a map.
 pub fn total_laws<P, T>()
     ensures { TotalLaws P T }
 {}
 
 /// A run with its counts is a run. At its end the map is tidy where the calls leave it so. At each point of it there are two runs:
-/// of the calls before, and of those to come.
+/// of the calls before, and of those to come. The number of nodes that a call reads is one number; behind a call that leaves only
+/// needed nodes the map is known to be tidy.
 pub fn counted_laws<P, T>()
     ensures { CountedLaws P T }
 {}

@@ -1,8 +1,9 @@
 //! Callers of entries, and what they know of the map afterwards.
 ghost use Rattle.std.specs.Prelude.{◌≡◌, true, ℕ, ◌+◌, ◌-◌, ◌<◌, ◌^◌, IfOk, OnOk, OnErr, None, Some, IsTrue, IsFalse, is_some};
-ghost use Rattle.std.specs.FinMap.{get, contains_key};
+ghost use Rattle.std.specs.FinMap.{get, contains_key, len};
 ghost use Rattle.prefix_trie_bits.specs.Model.Entries.{with_entry, without_entry, put_all};
 ghost use Rattle.prefix_trie_bits.specs.Model.Nodes.{with_needed};
+ghost use Rattle.prefix_trie_bits.specs.Model.Room.{LeavesRoom};
 ghost use Rattle.prefix_trie_bits.specs.Model.Selections.{listing, shown};
 ghost use Rattle.prefix_trie_table.specs.Shape.{with_value_at};
 
@@ -89,6 +90,35 @@ fn rewrite<P: Prefix, T: Drop, A: Allocator>(
     }
 }
 
+// Copies a stored value, and lets the entry go.
+fn look<P: Prefix, T: Copy, A: Allocator>(map: &mut PrefixMap<P, T, A>, prefix: P) -> Option<T>
+    requires { P.IsFitting prefix }
+    ensures value { result ≡ get map.old.entries (P.path prefix) }
+    ensures unchanged { map.new ≡ map.old }
+{
+    match map.entry(prefix) {
+        Entry::Occupied(entry) => {
+            let value = *entry.get();
+            entry.release();
+            Some(value)
+        }
+        Entry::Vacant(_unfilled) => None,
+    }
+}
+
+// Counts a prefix once more if it is stored.
+fn count_again<P: Prefix, A: Allocator>(map: &mut PrefixMap<P, u64, A>, prefix: P)
+    requires { P.IsFitting prefix }
+    ensures again { (n : ℕ) → get map.old.entries (P.path prefix) ≡ Some n → n < 2 ^ 64 - 1
+        → map.new ≡ with_value_at map.old (P.path prefix) (n + 1) }
+    ensures unchanged { get map.old.entries (P.path prefix) ≡ None → map.new ≡ map.old }
+{
+    match map.entry(prefix).and_modify(|n| *n = n.saturating_add(1)) {
+        Entry::Occupied(entry) => entry.release(),
+        Entry::Vacant(_unfilled) => {}
+    }
+}
+
 // Swaps a stored value for another.
 fn swap<P: Prefix, T: Drop, A: Allocator>(
     map: &mut PrefixMap<P, T, A>,
@@ -116,6 +146,7 @@ fn set<P: Prefix, T: Drop, A: Allocator>(
     ensures before { IfOk result (λ before. before ≡ get map.old.entries (P.path prefix)) }
     ensures entries { OnOk result (map.new.entries ≡ with_entry map.old.entries (P.path prefix) value) }
     ensures unchanged { OnErr result ((map.new.entries ≡ map.old.entries) × (map.new.nodes ≡ map.old.nodes)) }
+    ensures room { LeavesRoom (len map.old.nodes) map.old.room map.new.room }
 {
     map.entry(prefix).put(value).answer()
 }
@@ -142,6 +173,19 @@ fn writes_stored<A: Allocator>(map: &mut PrefixMap<(u8, u8), u64, A>) -> bool {
     map.get(&(0xa5, 8)) == Some(&6)
 }
 
+/// Whether the entry of a prefix that is not stored lends no value for writing.
+fn lends_none<A: Allocator>(map: &mut PrefixMap<(u8, u8), u64, A>) -> bool {
+    let mut entry = map.entry((0xc0, 3));
+    entry.get_mut().is_none()
+}
+
+/// Whether one more is counted where a count is stored, and none where not. Asking a vacant entry for its value changes nothing.
+fn counts_once_more<A: Allocator>(map: &mut PrefixMap<(u8, u8), u64, A>) -> bool {
+    count_again(map, (0xa0, 3));
+    count_again(map, (0xc0, 3));
+    lends_none(map) & (look(map, (0xa0, 3)) == Some(4)) & look(map, (0xc0, 3)).is_none()
+}
+
 /// Whether counting and storing answer so.
 fn counts<A: Allocator>(map: &mut PrefixMap<(u8, u8), u64, A>) -> bool {
     count(map, (0xa5, 8)).is_ok()
@@ -150,7 +194,8 @@ fn counts<A: Allocator>(map: &mut PrefixMap<(u8, u8), u64, A>) -> bool {
         & rewrite(map, (0xa5, 8), 7)
         & (swap(map, (0xa5, 8), 8) == Some(7))
         & store_nine(map, (0xa0, 3)).is_ok()
-        & (set(map, (0xbf, 3), 4) == Ok(Some(9)))
+        & (set(map, (0xbf, 3), 3) == Ok(Some(9)))
+        & counts_once_more(map)
 }
 
 /// Whether one of the two that are there then is taken out.

@@ -1,5 +1,5 @@
 //! Callers of walks that lend values for writing, and what they know of the map afterwards.
-ghost use Rattle.std.specs.Prelude.{◌≡◌, ◌*◌, ◌%◌, ◌^◌, List, Bool, [], ◌∷◌, MatchOption, slice_get};
+ghost use Rattle.std.specs.Prelude.{◌≡◌, ◌*◌, ◌%◌, ◌^◌, List, Bool, [], ◌∷◌, IsTrue, MatchOption, slice_get};
 ghost use Rattle.std.specs.FinMap.{get};
 ghost use Rattle.std.specs.Option.{option_map};
 ghost use Rattle.prefix_trie_bits.specs.Model.Selections.{listing, shown};
@@ -87,6 +87,14 @@ fn swap_first<P: Prefix, T: Drop, A: Allocator>(
     before
 }
 
+// Whether a map has no value to write.
+fn has_none<P: Prefix, T: Drop, A: Allocator>(map: &mut PrefixMap<P, T, A>) -> bool
+    ensures { IsTrue result → listing map.old.entries ≡ [] }
+{
+    let mut walk = map.iter_mut();
+    walk.next().is_none()
+}
+
 type Numbers<A> = PrefixMap<(u8, u8), u64, A>;
 
 type Entries<'m, A> = IterMut<'m, (u8, u8), u64, A>;
@@ -143,7 +151,7 @@ fn are_empty<A: Allocator>(_map: &mut Numbers<A>) -> bool {
 
 /// Whether walks over three entries write so, with every request for memory refused, of which none comes.
 fn are_written<A: Allocator>(map: &mut Numbers<A>, heap: &Refusing<Global>) -> bool {
-    let is_put = stores(map, &THREE);
+    let is_put = has_none(map) & stores(map, &THREE);
     heap.refuse(0, u64::MAX);
     double_all(map);
     let answers = [
