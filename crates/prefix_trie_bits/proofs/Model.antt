@@ -24,3 +24,4 @@ pub mod Total
 pub mod Askings
 pub mod Retained
 pub mod Storage
+pub mod HandsOut

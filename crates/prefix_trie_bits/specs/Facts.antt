@@ -11,7 +11,7 @@ use Rattle.prefix_trie_bits.specs.Model.Visits.{visits, visits_to_match}
 use Rattle.prefix_trie_bits.specs.Model.Asking.{AsksInOrder}
 use Rattle.prefix_trie_bits.specs.Model.WritingWalk.{WritingWalk, walk_over, Next, Passes}
 use Rattle.prefix_trie_bits.specs.Model.Blocks.{AreBlocksOf, value_block_sizes, child_block_sizes, smallest_size, own_entries, child_count}
-use Rattle.prefix_trie_bits.specs.Model.HandsOut.{HandsOut}
+use Rattle.prefix_trie_bits.specs.Model.HandsOut.{HandsOut, packed_block, packed_slots, packed_node_slots, packed_cell_slots}
 use Rattle.prefix_trie_bits.specs.Model.Step.{State, Insert, Remove, RemoveKeepTree, Value}
 use Rattle.prefix_trie_bits.specs.Facts.Blocks.{at_slot}
 use Rattle.prefix_trie_bits.specs.Rows.Examples.{path_at, back_at, Row, LeadsTo, sets}
@@ -24,6 +24,9 @@ pub record SmallestSizes : Type 0 where
   pub twenty_five : smallest_size value_block_sizes 25 ≡ Some 31
   pub children_25 : smallest_size child_block_sizes 25 ≡ Some 32
   pub too_many : smallest_size value_block_sizes 32 ≡ None
+  -- an empty list has no block, and one of nine children one of sixteen slots
+  pub none : packed_block child_block_sizes 0 ≡ None
+  pub packed_nine : packed_slots child_block_sizes 9 ≡ 16
 
 -- row 34's five entries
 abbrev five_calls : Row
@@ -99,4 +102,5 @@ pub record FactsHold : Type 0 where
       (second : State ℕ) × (after : State ℕ) × HandsOut t (path_at 32 (0xc0a80000, 22)) second after
       × (shown (back_at 32) (listing second.entries) ≡ ((0xc0a80000, 22), 2) ∷ ((0xc0a80000, 23), 3) ∷ ((0xc0a80000, 24), 4) ∷ [])
       × (len second.nodes ≡ 5) × (own_entries second.entries (path_at 32 (0xc0a80000, 20)) ≡ 3)
-      × (values after.entries ≡ 1 ∷ 5 ∷ 6 ∷ []) × (len after.nodes ≡ 5))
+      × (values after.entries ≡ 1 ∷ 5 ∷ 6 ∷ []) × (len after.nodes ≡ 5)
+      × (packed_node_slots second.nodes ≡ 5) × (packed_cell_slots second.entries second.nodes ≡ 4))

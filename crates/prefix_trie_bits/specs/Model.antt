@@ -10,8 +10,8 @@ pub mod Asking
 pub mod WritingWalk
 pub mod Blocks
 pub mod Step
-pub mod HandsOut
 pub mod Room
 pub mod Insertion
 pub mod Storage
+pub mod HandsOut
 pub mod Counted

@@ -4,6 +4,7 @@
 ghost use Rattle.prefix_trie_bits.specs.Laws.Addresses.{AddressLaws};
 ghost use Rattle.prefix_trie_bits.specs.Laws.Counted.{CountedLaws};
 ghost use Rattle.prefix_trie_bits.specs.Laws.Determined.{DeterminedLaws};
+ghost use Rattle.prefix_trie_bits.specs.Laws.HandsOut.{HandingLaws};
 ghost use Rattle.prefix_trie_bits.specs.Laws.Listings.{ListingLaws};
 ghost use Rattle.prefix_trie_bits.specs.Laws.Matches.{MatchLaws};
 ghost use Rattle.prefix_trie_bits.specs.Laws.Nodes.{NodeLaws};
@@ -63,6 +64,12 @@ pub fn visit_laws<T>()
 /// other one contains has 2^(width - length) of them, and those of the prefixes outside of it are others.
 pub fn address_laws<T>()
     ensures { AddressLaws T }
+{}
+
+/// Of what there was, the second map has the entries whose keys the prefix begins and the first has the others, and those of the
+/// second set in the first again make what there was. Both are maps, and the second is tidy.
+pub fn handing_laws<T>()
+    ensures { HandingLaws T }
 {}
 
 /// Every step leaves a map a map, and a tidy one tidy but for `remove_keep_tree`; `retain` and `clear` make any map tidy, and a

@@ -8,6 +8,7 @@ pub mod Entering
 pub mod Spending
 pub mod Moving
 pub mod Turnovers
+pub mod Laying
 pub mod Preparing
 pub mod BySize
 pub mod SlotSums

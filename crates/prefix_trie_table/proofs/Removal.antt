@@ -7,6 +7,7 @@ pub mod Pruning
 pub mod Removed
 pub mod Settling
 pub mod Emptied
+pub mod Listed
 pub mod PartTaken
 pub mod Stepping
 pub mod Stepped

@@ -7,6 +7,7 @@ pub mod OwnBlocks
 pub mod Forest
 pub mod Slots
 pub mod Lending
+pub mod Laying
 pub mod BlockCounts
 pub mod Layouts
 pub mod Shape

@@ -1,5 +1,5 @@
 -- What asking a test at the entries of some places of a node leaves of a table. This project's own.
-use Rattle.std.specs.Prelude.{◌≡◌, ℕ, ◌+◌, ◌*◌, ◌<◌, ◌≤◌, Bool, true, false, cond, nat_lt, List, ◌++◌, length, take, Option, Some}
+use Rattle.std.specs.Prelude.{◌≡◌, ℕ, ◌+◌, ◌*◌, ◌<◌, ◌≤◌, Bool, true, false, cond, nat_lt, List, [], ◌∷◌, ◌++◌, length, take, Option, Some}
 use Rattle.std.specs.List.{list_any}
 use Rattle.std.specs.FinMap.{get, contains_key}
 use Rattle.prefix_trie_bits.specs.Bits.{begins}
@@ -10,7 +10,7 @@ use Rattle.prefix_trie_bits.specs.Model.Asking.{AsksInOrder, MayAskInOrder}
 use Rattle.prefix_trie_bits.specs.Model.Entries.{Entries}
 use Rattle.prefix_trie_bits.specs.Model.NodeListings.{listing_at_places}
 use Rattle.prefix_trie_bits.specs.Model.Nodes.{has_node, needed}
-use Rattle.prefix_trie_bits.specs.Model.Selections.{listing}
+use Rattle.prefix_trie_bits.specs.Model.Selections.{listing, listing_below}
 use Rattle.prefix_trie_bits.specs.Model.Step.{State}
 use Rattle.prefix_trie_table.specs.declared.allocator.node.Node.{Node}
 use Rattle.prefix_trie_table.specs.declared.table.retain.Site.{Site}
@@ -83,6 +83,16 @@ pub record IsSite {K : Type 0} (IsKey : K → Type 0) (bits : K → List Bool) (
   pub stands : read v.slots (path_of (take p.depth (bits p.key))) ≡ Some n
   pub slot_is : IsSlot (read v.slots) (path_of (take p.depth (bits p.key))) (p.slot.start + p.slot.place)
 
+module _ {F T : Type 0} (asks : F → List Bool → T → Bool → F → Type 0) where
+  -- asked once at each entry in turn, from the state f on, the test may be left as g
+  abbrev pub AsksUpTo : F → List (List Bool × T) → F → Type 0
+  AsksUpTo f [] g = g ≡ f
+  AsksUpTo f (e ∷ es) g = (b : Bool) × (f' : F) × asks f e.0 e.1 b f' × AsksUpTo f' es g
+
+  -- it answers no at each
+  abbrev pub SaysNo : Type 0
+  SaysNo = (f : F) (k : List Bool) (x : T) (b : Bool) (g : F) → asks f k x b g → b ≡ false
+
 module _ {F T : Type 0} (asks : F → List Bool → T → Bool → F → Type 0) (accepts : F → List Bool → T → Type 0) where
   -- the test was asked at each entry of these places of the node at s, in listing order, and those answered true are left there.
   -- Of the nodes below them those are left that a key left needs. All else is as it was
@@ -90,6 +100,7 @@ module _ {F T : Type 0} (asks : F → List Bool → T → Bool → F → Type 0)
     pub kept : List (List Bool × T)
     pub asked : (rest later : List (List Bool × T)) → AsksInOrder asks f' rest later →
         AsksInOrder asks f (listing_at_places before.entries s ts ++ rest) (kept ++ later)
+    pub up_to : AsksUpTo asks f (listing_at_places before.entries s ts) f'
     pub may_ask : (rest : List (List Bool × T)) → MayAskInOrder asks accepts f (listing_at_places before.entries s ts ++ rest) →
         MayAskInOrder asks accepts f' rest
     pub stays : listing_at_places after.entries s ts ≡ kept
@@ -112,6 +123,10 @@ module _ {F T : Type 0} (asks : F → List Bool → T → Bool → F → Type 0)
   abbrev pub MayAskAt : ℕ → List Bool → List (List Bool) → F → ℕ → Store Node → Store (Option T) → Type 0
   MayAskAt width s ts f count v w =
       (before : State T) → IsTrie width count v w before → MayAskInOrder asks accepts f (listing_at_places before.entries s ts)
+
+  -- the test may be asked at each entry below q
+  abbrev pub MayAskBelow : ℕ → List Bool → F → ℕ → Store Node → Store (Option T) → Type 0
+  MayAskBelow width q f count v w = (before : State T) → IsTrie width count v w before → MayAskInOrder asks accepts f (listing_below before.entries q)
 
   -- the test was asked at each entry that these arrays held, in listing order. They hold those now at which it answered true, and
   -- the nodes that these need

@@ -42,7 +42,7 @@ ghost use Rattle.prefix_trie_table.specs.Steps.{stored, inserted, SettlesInStora
 
 use crate::allocator::blocks::{Blocks, cells};
 use crate::allocator::nodes::{NodeAllocator, Tick};
-use crate::table::children::remove_part;
+use crate::table::children::{KeepNothing, remove_part};
 use crate::table::cursor::{Start, walk_at};
 use crate::table::insertion::insert_entry;
 use crate::table::lookup::find_value;
@@ -321,6 +321,7 @@ impl<T: Drop, A: Allocator, V: Tick> Table<T, A, V> {
             &mut self.nodes,
             &mut self.cells,
             &mut self.count,
+            &mut KeepNothing,
             key,
             len,
             counter,
@@ -335,7 +336,7 @@ impl<T: Drop, A: Allocator, V: Tick> Table<T, A, V> {
     /// Asks that no key is longer than those of `K` and that the nodes are such as the keys need, as in every map, and that the
     /// test may be asked.
     #[inline]
-    pub fn retain<K: Key, F: Keep<K, T>>(&mut self, keep: F, counter: &mut V)
+    pub fn retain<K: Key, F: Keep<K, T, V>>(&mut self, keep: F, counter: &mut V)
         requires within { AreWithin K.bit_width self.old.entries }
         requires nodes { AreNodes K.bit_width self.old.entries self.old.nodes }
         requires may_ask { MayAskInOrder F.asks F.accepts keep (listing self.old.entries) }

@@ -1,5 +1,5 @@
 -- The worked examples of what replies do not show.
-use Rattle.std.proofs.Common.{◌≡◌, ℕ, ◌+◌, ◌==◌, ◌&&◌, Bool, true, false, not, cond, List, [], ◌∷◌, map, filter, length, nat_lt, nat_le, is_lt, is_some, Option, Some, None, refl, ap, ap₂, ◌∙◌, lit<}
+use Rattle.std.proofs.Common.{◌≡◌, ℕ, ◌+◌, ◌==◌, ◌&&◌, Bool, true, false, not, cond, List, [], ◌∷◌, map, filter, length, nat_lt, nat_le, is_lt, is_some, sum_by, Option, Some, None, refl, ap, ap₂, ◌∙◌, lit<}
 use Rattle.std.specs.List.{list_any}
 use Rattle.std.specs.FinMap.{entries, len-entries, entries-insert, find, put}
 use Rattle.prefix_trie_bits.specs.Bits.{digits, number, begins}
@@ -8,6 +8,8 @@ use Rattle.prefix_trie_bits.specs.Model.Entries.{Entries, with_entry, part_below
 use Rattle.prefix_trie_bits.specs.Model.Selections.{listing_after, shown}
 use Rattle.prefix_trie_bits.specs.Model.Matches.{first_item}
 use Rattle.prefix_trie_bits.specs.Model.Nodes.{Nodes, home, needed, nodes_without_below}
+use Rattle.prefix_trie_bits.specs.Model.Blocks.{child_block_sizes, value_block_sizes}
+use Rattle.prefix_trie_bits.specs.Model.HandsOut.{packed_slots}
 use Rattle.prefix_trie_bits.specs.Model.Visits.{visits_of_match, visits_to_match}
 use Rattle.prefix_trie_bits.specs.Model.WritingWalk.{WritingWalk, walk_over}
 use Rattle.prefix_trie_bits.specs.Model.Step.{State}
@@ -54,6 +56,12 @@ own_in p es = length (filter (λ s. begins p s && nat_lt (length s) (length p + 
 abbrev pub children_in : List Bool → Marks → ℕ
 children_in p ns = length (filter (λ s. begins p s && (length s == length p + 5)) (keys_of ns))
 
+abbrev node_slots_in : Marks → ℕ
+node_slots_in ns = 1 + sum_by (λ p. packed_slots child_block_sizes (children_in p ns)) (keys_of ns)
+
+abbrev cell_slots_in : List (List Bool × ℕ) → Marks → ℕ
+cell_slots_in es ns = sum_by (λ p. packed_slots value_block_sizes (own_in p es)) (keys_of ns)
+
 -- a block at the front goes to the end
 abbrev to_end : List (ℕ × ℕ)
 to_end = (5, 6) ∷ (4, 5) ∷ (3, 4) ∷ (2, 3) ∷ (1, 2) ∷ (0, 1) ∷ []
@@ -98,7 +106,7 @@ facts_hold = record {
     said (λ es ns. length (holders_in es ns)) t s,
     said (λ es ns. children_in [] ns) t s,
   ));
-  smallest = record { three = refl; eight = refl; nine = refl; twenty_five = refl; children_25 = refl; too_many = refl };
+  smallest = record { three = refl; eight = refl; nine = refl; twenty_five = refl; children_25 = refl; too_many = refl; none = refl; packed_nine = refl };
   cells = record {
     blocks = at_slot 0 1 ∷ at_slot 1 2 ∷ at_slot 3 4 ∷ at_slot 7 8 ∷ at_slot 15 16 ∷ at_slot 31 24 ∷ at_slot 55 31 ∷ [];
     tiles = ((0, lit< tt, refl), refl, ((1, lit< tt, refl), refl, ((2, lit< tt, refl), refl, ((3, lit< tt, refl), refl, ((4, lit< tt, refl), refl, ((5, lit< tt, refl), refl, ((6, lit< tt, refl), refl, refl)))))));
@@ -147,5 +155,7 @@ facts_hold = record {
         ap (own_in (path_at 32 (0xc0a80000, 20))) listed,
         ap (map (λ e. e.1)) left,
         len-entries (nodes_without_below t.nodes t.entries q) ∙ ap length (nodes_without_below-is t.nodes t.entries q) ∙ said (λ es ns. length (left_marks q es ns)) t s,
+        ap node_slots_in (needed-is m ∙ ap (λ es. needed_marks (keys_of es)) listed),
+        ap₂ cell_slots_in listed (needed-is m ∙ ap (λ es. needed_marks (keys_of es)) listed),
       ));
 }

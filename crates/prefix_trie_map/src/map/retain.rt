@@ -1,5 +1,5 @@
 //! Keeping the entries at which a test says yes.
-ghost use Rattle.std.specs.Prelude.{◌≡◌};
+ghost use Rattle.std.specs.Prelude.{◌≡◌, false};
 ghost use Rattle.prefix_trie_bits.specs.Model.Asking.{AsksInOrder, MayAskInOrder};
 ghost use Rattle.prefix_trie_bits.specs.Model.Nodes.{needed};
 ghost use Rattle.prefix_trie_bits.specs.Model.Selections.{listing};
@@ -12,6 +12,7 @@ use crate::map::PrefixMap;
 use crate::map::lookup::rebuilt;
 use crate::map::visits::Visits;
 use prefix_trie_bits::prefix::Prefix;
+use prefix_trie_table::allocator::nodes::Tick;
 use prefix_trie_table::table::retain::Keep;
 use std::alloc::Allocator;
 use std::marker::{Model, PhantomData};
@@ -30,15 +31,21 @@ impl<P, F> Model for ByPrefix<P, F> {
     ghost view = { λ a. a.test };
 }
 
-impl<P: Prefix, T, F: FnMut(&P, &T) -> bool + Drop> Keep<P::R, T> for ByPrefix<P, F> {
+// A value that does not stay is dropped.
+impl<P: Prefix, T: Drop, V: Tick, F: FnMut(&P, &T) -> bool + Drop> Keep<P::R, T, V>
+    for ByPrefix<P, F> {
     ghost accepts = { TakesAt F.FnMut P.back };
 
     ghost asks = { AsksAt F.FnMut P.back };
+
+    ghost refuses = { λ f k v f'. AsksAt F.FnMut P.back f k v false f' };
 
     fn keeps(&mut self, key: P::R, len: u32, value: &T) -> bool {
         let prefix = rebuilt::<P>(key, len);
         (self.test)(&prefix, value)
     }
+
+    fn taken(&mut self, _key: P::R, _len: u32, _value: T, _counter: &mut V) {}
 }
 
 impl<P: Prefix, T: Drop, A: Allocator> PrefixMap<P, T, A> {

@@ -75,7 +75,7 @@ module _ {X : Type 0} where
   get_or-put_run_in xs a ys i d inside h =
       sym (get_or-run (put_run xs a ys) a (length ys) i d h) ∙ ap (λ zs. get_or zs i d) (run-put_run_same xs a ys inside)
 
-  get_or-put_run_out : (xs : List X) (a : ℕ) (ys : List X) (k : ℕ) (d : X) → a + length ys ≤ length xs → (k < a) ⊎ (a + length ys ≤ k) → get_or (put_run xs a ys) k d ≡ get_or xs k d
+  pub get_or-put_run_out : (xs : List X) (a : ℕ) (ys : List X) (k : ℕ) (d : X) → a + length ys ≤ length xs → (k < a) ⊎ (a + length ys ≤ k) → get_or (put_run xs a ys) k d ≡ get_or xs k d
   get_or-put_run_out xs a ys k d inside out =
       let apart : Apart a (length ys) k 1 = ⊎_elim (λ (h : k < a). inr (let e : k + 1 ≤ a = omega arith in e)) (λ (h : a + length ys ≤ k). inl h) out in
       let one : (zs : List X) → get_or zs k d ≡ get_or (run zs k 1) 0 d = λ zs. ap (λ m. get_or zs m d) (let e : k ≡ k + 0 = omega arith in e) ∙ sym (get_or-run zs k 1 0 d (omega arith)) in

@@ -50,7 +50,7 @@ module _ {T : Type 0} where
   pair_none s (Some x) h = absurd (omega (arith, ap length h))
 
   -- below a string
-  below_none : (m : Entries T) (q k : List Bool) → listing_below m q ≡ [] → begins q k ≡ true → get m k ≡ None
+  pub below_none : (m : Entries T) (q k : List Bool) → listing_below m q ≡ [] → begins q k ≡ true → get m k ≡ None
   below_none m q k none begun =
       sym (ap (λ b. cond b (get m k) None) begun) ∙ sym (get-part_below m q k) ∙ get-entries (part_below m q) k
       ∙ ap (find listing_cmp k) (entries-retained m (begins q) ∙ none)
@@ -167,12 +167,12 @@ some_goes_on s q k (t ∷ ts) all h = elim (or-cases (is_at s t k) (is_at_some s
   | inr later ↦ some_goes_on s q k ts (All-tail (λ u. begins q (s ++ u) ≡ true) t ts all) later
 ]
 
-home_near : (l h : ℕ) → h ≡ 5 * (l / 5) → l ≤ h + 4
+pub home_near : (l h : ℕ) → h ≡ 5 * (l / 5) → l ≤ h + 4
 home_near l h e = omega (arith, e)
 
 module _ (q : List Bool) where
   -- what q begins goes on from q's node
-  home_goes_on : (k : List Bool) → begins q k ≡ true → begins (home q) k ≡ true
+  pub home_goes_on : (k : List Bool) → begins q k ≡ true → begins (home q) k ≡ true
   home_goes_on k h = begins-trans (home q) q k (home-begins q) h
 
   home_tail : (k : List Bool) → begins q k ≡ true → k ≡ home q ++ drop (length (home q)) k
@@ -221,7 +221,7 @@ module _ {T : Type 0} (width count : ℕ) (v : Store Node) (w : Store (Option T)
         is_in-child values children u five ∙ holds_children u five
   ]
 
-  in_both : (u : List Bool) → length u ≤ 5 → is_in (bit_and n.value_bitmap values) (bit_and n.child_bitmap children) u ≡ (is_in n.value_bitmap n.child_bitmap u && begins rest u)
+  pub in_both : (u : List Bool) → length u ≤ 5 → is_in (bit_and n.value_bitmap values) (bit_and n.child_bitmap children) u ≡ (is_in n.value_bitmap n.child_bitmap u && begins rest u)
   in_both u most =
       is_in-and n.value_bitmap n.child_bitmap values children u
       ∙ ap (λ b. is_in n.value_bitmap n.child_bitmap u && b) (in_masks u most)

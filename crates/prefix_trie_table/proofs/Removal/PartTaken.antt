@@ -1,13 +1,17 @@
 -- What is left of a table once all that a bit string begins is taken out.
-use Rattle.std.proofs.Common.{◌≡◌, ℕ, ◌+◌, ◌*◌, ◌/◌, ◌≤◌, Bool, true, false, not, ◌||◌, List, [], ◌∷◌, ◌++◌, cond, length, take, drop, Option, None, Some, is_some, refl, sym, ap, ◌∙◌, subst, arith, inl, inr}
+use Rattle.std.proofs.Common.{◌≡◌, ◌↔◌, ℕ, ◌+◌, ◌*◌, ◌/◌, ◌≤◌, Bool, true, false, not, ◌||◌, List, [], ◌∷◌, ◌++◌, cond, length, take, drop, Option, None, Some, is_some, refl, sym, ap, ◌∙◌, subst, arith, inl, inr, bit_and}
 use Rattle.std.proofs.lemmas.List.{take_all, take-take, take-append-drop, length-take-le}
+use Rattle.std.specs.List.{Contains}
 use Rattle.std.specs.FinMap.{get, get-empty}
 use Rattle.prefix_trie_bits.specs.Bits.{begins}
 use Rattle.prefix_trie_bits.specs.Order.{same_string}
+use Rattle.prefix_trie_bits.specs.Places.{HoldsValues, HoldsChildren, is_in, places}
 use Rattle.prefix_trie_bits.specs.Laws.Pruning.{PruningLaws}
 use Rattle.prefix_trie_bits.specs.Model.Asking.{MayAskInOrder}
 use Rattle.prefix_trie_bits.specs.Model.Entries.{Entries, AreWithin, no_entries, without_entry, without_below}
 use Rattle.prefix_trie_bits.specs.Model.Nodes.{Nodes, AreNodes, has_node, home, pruned, root_alone, nodes_not_below, nodes_without, nodes_without_below}
+use Rattle.prefix_trie_bits.specs.Model.NodeListings.{listing_at_places}
+use Rattle.prefix_trie_bits.specs.Model.Selections.{listing_below}
 use Rattle.prefix_trie_bits.specs.Model.Step.{State}
 use Rattle.prefix_trie_bits.proofs.Model.Members.{and-first, and-second, get-without_below, has-retained, has-root_alone, same_entries, same_nodes, same_string-is}
 use Rattle.prefix_trie_bits.proofs.Model.Pruning.{begins-nil, pruning_laws, removed_fewer}
@@ -28,6 +32,7 @@ use Rattle.prefix_trie_table.proofs.Tree.Children.{same_or}
 use Rattle.prefix_trie_table.proofs.Strings.Digits.{path-take}
 use Rattle.prefix_trie_table.proofs.Removal.Emptying.{nothing_taken}
 use Rattle.prefix_trie_table.proofs.Removal.Emptied.{AreBelow, emptied, no_node_there, home_stands, own_gone, removed_alike, pruned_alike}
+use Rattle.prefix_trie_table.proofs.Removal.Listed.{listed_below, none_listed}
 use Rattle.prefix_trie_table.proofs.Lookup.Finding.{reached_own}
 use Rattle.prefix_trie_table.proofs.Lookup.Going.{level_last, steps-all}
 use Rattle.prefix_trie_table.proofs.Removal.Removed.{removed_without}
@@ -95,6 +100,19 @@ module _ {K T : Type 0} (IsKey : K → Type 0) (bits : K → List Bool) (width :
             (take_all (len / 5) (path_of (take len (bits key))) (let l = steps-all (bits key) len long_key in omega (arith, l)) ∙ sym (home_steps (bits key) len long_key))
             (reached.deepest (read v.slots) trie.table.paths read_table.hold).stands;
       }
+
+  -- the places of that node that the two masks for the string's end leave list what is below it
+  module _ (values children : ℕ) (holds_values : HoldsValues values (begins (drop (len / 5 * 5) (take len (bits key)))))
+      (holds_children : HoldsChildren children (begins (drop (len / 5 * 5) (take len (bits key))))) (ts : List (List Bool))
+      (each : (u : List Bool) → Contains ts u ↔ ((length u ≤ 5) × (is_in (bit_and n.value_bitmap values) (bit_and n.child_bitmap children) u ≡ true)))
+      (all : ts ≡ places (bit_and n.value_bitmap values) (bit_and n.child_bitmap children)) where
+    pub part_listed : listing_at_places s.entries (take (len / 5 * 5) (bits key)) ts ≡ listing_below s.entries (take len (bits key))
+    part_listed =
+        let long_key = reached.long in
+        ap (λ p. listing_at_places s.entries p ts) (sym (home_is (bits key) len long_key))
+        ∙ listed_below width count v w s trie (take len (bits key)) (drop (len / 5 * 5) (take len (bits key))) (home_rest (bits key) len long_key) n
+        (ap (λ p. read v.slots (path_of p)) (home_is (bits key) len long_key) ∙ reached_site.stands)
+        values children holds_values holds_children ts each all
 
 -- ---- a test that may always be asked
 
@@ -244,6 +262,15 @@ part_missing {T} width b len within v w count s trie missing =
     let none = missing (read v.slots) t.paths (read_held t.reading t.values t.paths v w t.holds).hold in
     let same = no_node_there width count v w s (take len b) trie (ap (read v.slots) (home_way b len within) ∙ none) in
     subst (λ (x : State T). IsTrie width count v w x) (λ i. record { entries = sym same.0 i; nodes = sym same.1 i }) trie
+
+-- there is nothing to list
+pub part_unlisted : {T : Type 0} (width : ℕ) (b : List Bool) (len : ℕ) → len ≤ length b → (v : Store Node) (w : Store (Option T)) (count : ℕ) (s : State T) → IsTrie width count v w s →
+    ((reading : List ℕ → Option Node) (paths : List (List ℕ)) → NodesHold node_sizes reading paths v → reading (path_of (take len b)) ≡ None) →
+    listing_below s.entries (take len b) ≡ []
+part_unlisted {T} width b len within v w count s trie missing =
+    let t = some_table trie.table in
+    let none = missing (read v.slots) t.paths (read_held t.reading t.values t.paths v w t.holds).hold in
+    none_listed width count v w s (take len b) trie (ap (read v.slots) (home_way b len within) ∙ none)
 
 -- ---- what the empty string begins
 

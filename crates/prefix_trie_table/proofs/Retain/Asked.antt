@@ -18,7 +18,7 @@ use Rattle.prefix_trie_bits.specs.Model.NodeListings.{pair_of, listing_at_place,
 use Rattle.prefix_trie_bits.specs.Model.Step.{State}
 use Rattle.prefix_trie_bits.proofs.Model.Members.{or-cases, or-left, or-right, same_string-is, is-same_string, get-part_below, same_entries}
 use Rattle.prefix_trie_bits.proofs.Model.Ordered.{entries-retained, not_itself}
-use Rattle.prefix_trie_table.specs.Retaining.{is_at, is_at_some, is_under, is_under_some, Needs, Retains}
+use Rattle.prefix_trie_table.specs.Retaining.{is_at, is_at_some, is_under, is_under_some, Needs, AsksUpTo, Retains}
 use Rattle.prefix_trie_table.proofs.Strings.Plain.{no_or_yes}
 
 -- ---- tests
@@ -152,6 +152,7 @@ module _ {F T : Type 0} (asks : F → List Bool → T → Bool → F → Type 0)
   none_asked s f x = record {
     kept = [];
     asked = λ rest later h. h;
+    up_to = refl;
     may_ask = λ rest h. h;
     stays = refl;
     others = λ q h. refl;
@@ -159,6 +160,11 @@ module _ {F T : Type 0} (asks : F → List Bool → T → Bool → F → Type 0)
     off = λ q h. refl;
     needed = λ q h. absurd (false≢true h);
   }
+
+  -- asking at some entries and then at others is asking at all
+  up_to_both : (f g h : F) (es rest : List (List Bool × T)) → AsksUpTo asks f es g → AsksUpTo asks g rest h → AsksUpTo asks f (es ++ rest) h
+  up_to_both f g h [] rest first second = subst (λ x. AsksUpTo asks x rest h) first second
+  up_to_both f g h (e ∷ es) rest first second = (first.0, first.1, first.2, up_to_both first.1 g h es rest first.3 second)
 
   -- what may be asked at some and then at others may be asked at the first
   pub may_ask_first : (f : F) (es rest : List (List Bool × T)) → MayAskInOrder asks accepts f (es ++ rest) → MayAskInOrder asks accepts f es
@@ -209,6 +215,9 @@ module _ {F T : Type 0} (asks : F → List Bool → T → Bool → F → Type 0)
           subst (λ es. AsksInOrder asks f es ((first.kept ++ second.kept) ++ later)) (sym (spread rest))
           (subst (AsksInOrder asks f (listing_at_places x.entries s ts ++ (listing_at_places y.entries s us ++ rest))) (sym (append_assoc first.kept second.kept later))
           (first.asked (listing_at_places y.entries s us ++ rest) (second.kept ++ later) (second.asked rest later after)));
+      up_to =
+          subst (λ es. AsksUpTo asks f es h) (ap (λ es. listing_at_places x.entries s ts ++ es) later_same ∙ sym (both_places x.entries))
+          (up_to_both f g h (listing_at_places x.entries s ts) (listing_at_places y.entries s us) first.up_to second.up_to);
       may_ask = λ rest may.
           second.may_ask rest (first.may_ask (listing_at_places y.entries s us ++ rest) (subst (MayAskInOrder asks accepts f) (spread rest) may));
       stays = both_places z.entries ∙ ap₂ (λ a b. a ++ b) (first_same ∙ first.stays) second.stays;

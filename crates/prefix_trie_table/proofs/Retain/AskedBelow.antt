@@ -18,7 +18,7 @@ use Rattle.prefix_trie_bits.specs.Model.Nodes.{Nodes, AreNodes, has_node, needed
 use Rattle.prefix_trie_bits.specs.Model.Step.{State}
 use Rattle.prefix_trie_bits.proofs.Model.Members.{get-without_entry, same_string-is, is-same_string, same_nodes, needs, needs_root}
 use Rattle.prefix_trie_bits.proofs.Model.NodeListings.{listing_by_node_places, listing_at_value, listing_at_no_value, listing_at_child, listing_of_root}
-use Rattle.prefix_trie_table.specs.Retaining.{is_at, is_at_some, is_under, is_under_some, Needs, Retains}
+use Rattle.prefix_trie_table.specs.Retaining.{is_at, is_at_some, is_under, is_under_some, Needs, AsksUpTo, Retains}
 use Rattle.prefix_trie_table.proofs.Strings.Plain.{fifth_more, no_or_yes}
 use Rattle.prefix_trie_table.proofs.Retain.Asked.{or-first, at_value, at_child, under_value, under_child, at_begins, one_place, place_same}
 
@@ -38,6 +38,7 @@ module _ {F T : Type 0} (asks : F → List Bool → T → Bool → F → Type 0)
   value_stays f g called = record {
     kept = (s ++ t, v) ∷ [];
     asked = λ rest later after. subst (λ es. AsksInOrder asks f (es ++ rest) ((s ++ t, v) ∷ later)) (sym value_here) (true, g, later, called, after, refl);
+    up_to = subst (λ es. AsksUpTo asks f es g) (sym value_here) (true, g, called, refl);
     may_ask = λ rest may. (subst (λ es. MayAskInOrder asks accepts f (es ++ rest)) value_here may).1 true g called;
     stays = value_here;
     others = λ q off. refl;
@@ -51,6 +52,7 @@ module _ {F T : Type 0} (asks : F → List Bool → T → Bool → F → Type 0)
   value_goes f g called = record {
     kept = [];
     asked = λ rest later after. subst (λ es. AsksInOrder asks f (es ++ rest) later) (sym value_here) (false, g, later, called, after, refl);
+    up_to = subst (λ es. AsksUpTo asks f es g) (sym value_here) (false, g, called, refl);
     may_ask = λ rest may. (subst (λ es. MayAskInOrder asks accepts f (es ++ rest)) value_here may).1 false g called;
     stays =
         append-nil (listing_at_place (without_entry x.entries (s ++ t)) s t)
@@ -170,6 +172,7 @@ module _ {F T : Type 0} (asks : F → List Bool → T → Bool → F → Type 0)
       kept = retains.kept;
       asked = λ rest after h.
           subst (λ es. AsksInOrder asks f (es ++ rest) (retains.kept ++ after)) (below_before ∙ sym (place_is x.entries)) (retains.asked rest after h);
+      up_to = subst (λ es. AsksUpTo asks f es g) (below_before ∙ sym (place_is x.entries)) retains.up_to;
       may_ask = λ rest may. retains.may_ask rest (subst (λ es. MayAskInOrder asks accepts f (es ++ rest)) (place_is x.entries ∙ sym below_before) may);
       stays = place_is y.entries ∙ sym below_after ∙ retains.stays;
       others = λ q off. off_entries q (begins_is q ∙ sym (at_child s t q five) ∙ or-first (is_at s t q) false off);

@@ -1,5 +1,6 @@
 -- What a table is once a test was asked at a place of a node.
 use Rattle.std.proofs.Common.{◌≡◌, ℕ, ◌+◌, ◌-◌, ◌*◌, ◌/◌, ◌%◌, ◌<◌, ◌≤◌, Bool, true, ◌==◌, List, [], ◌∷◌, ◌++◌, length, take, drop, Option, None, Some, is_some, refl, sym, ap, ap₂, ◌∙◌, subst, arith, inl, inr, length-append, eqb-true}
+use Rattle.std.specs.FinMap.{get}
 use Rattle.std.proofs.lemmas.Bool.{false≢true, cases_Bool}
 use Rattle.std.proofs.lemmas.List.{length-take-le}
 use Rattle.prefix_trie_bits.specs.Bits.{begins}
@@ -32,7 +33,7 @@ use Rattle.prefix_trie_table.proofs.Tree.Children.{with_here, with_other}
 use Rattle.prefix_trie_table.proofs.Removal.Emptying.{value_taken, kept_without}
 use Rattle.prefix_trie_table.proofs.Lookup.Going.{steps-all}
 use Rattle.prefix_trie_table.proofs.Strings.Placing.{below_node}
-use Rattle.prefix_trie_table.proofs.Tree.Shapes.{reads_node}
+use Rattle.prefix_trie_table.proofs.Tree.Shapes.{reads_node, shape_entries}
 use Rattle.prefix_trie_table.proofs.Tree.Subtrees.{path-append, read-missing}
 use Rattle.prefix_trie_table.proofs.Tree.Trees.{is_none-None, read-nil, reads, slot_holds}
 
@@ -225,6 +226,11 @@ module _ {K : Type 0} (IsKey : K → Type 0) (bits : K → List Bool) (width : �
             let one : one_if (is_some (held_table.values (path_of (take p.depth (bits p.key) ++ t)) (bit_of (take p.depth (bits p.key) ++ t)))) ≡ 1 =
             ap one_if (some_there held_table.reading held_table.paths held_table.values held_table.holds) in
             omega (arith, a.counted, trie.table.counted, one)
+
+        pub removed_is : get s.entries (take p.depth (bits p.key) ++ t) ≡ removed
+        removed_is =
+            shape_entries held_table.reading held_table.values held_table.paths v w held_table.holds s trie.shaped (take p.depth (bits p.key) ++ t)
+            ∙ sym (before held_table.reading held_table.paths held_table.values held_table.holds)
 
         removed_some : is_some removed ≡ true
         removed_some =

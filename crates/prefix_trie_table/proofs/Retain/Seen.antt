@@ -22,7 +22,7 @@ use Rattle.prefix_trie_table.specs.Retaining.{IsSite, RetainsTo, ValuesBetween, 
 use Rattle.prefix_trie_table.proofs.Tree.Invariant.{some_table}
 use Rattle.prefix_trie_table.proofs.Retain.AskedBelow.{may_ask_value, value_stays, value_goes}
 use Rattle.prefix_trie_table.proofs.Strings.Bits.{rank-ones}
-use Rattle.prefix_trie_table.proofs.Retain.Retained.{here_length, here_whole, key_path, key_bit, bit_set, some_there, site_stays, some_counted, value_above, value_blocks_after, child_blocks_after, value_read_after, trie_taken}
+use Rattle.prefix_trie_table.proofs.Retain.Retained.{here_length, here_whole, key_path, key_bit, bit_set, some_there, site_stays, some_counted, removed_is, value_above, value_blocks_after, child_blocks_after, value_read_after, trie_taken}
 use Rattle.prefix_trie_table.proofs.Tree.Shapes.{shape_entries}
 use Rattle.prefix_trie_table.proofs.Tree.Subtrees.{value_inside, value_fits}
 
@@ -129,6 +129,10 @@ module _ {K T : Type 0} (IsKey : K → Type 0) (bits : K → List Bool) (width :
 
     pub counted_here : 0 < count
     counted_here = some_counted IsKey bits width v p node at long count w s trie (digits n x) short set_there removed m v2 w2 0 gives_here takes_here
+
+    -- it is what stands there
+    pub taken_here : get s.entries (take p.depth (bits p.key) ++ digits n x) ≡ removed
+    taken_here = removed_is IsKey bits width v p node at long count w s trie (digits n x) short set_there removed m v2 w2 0 gives_here takes_here
 
     pub above_here : (q : List ℕ) → length q < p.depth / 5 → read v2.slots q ≡ read v.slots q
     above_here = value_above IsKey bits width v p node at long count w s trie (digits n x) short set_there removed m v2 w2 0 gives_here takes_here

@@ -1,6 +1,7 @@
 //! An array that is cut into blocks of a few sizes. A block in use holds one list, from its first slot on.
 mod copying;
 mod insertion;
+mod laying;
 mod making;
 mod moving;
 mod removal;

@@ -2,6 +2,7 @@
 ghost use Rattle.std.specs.Prelude.{◌≡◌, ℕ, ◌+◌, ◌-◌, ◌*◌, ◌^◌, ◌<◌, ◌≤◌, ◌↔◌, ◌⊎◌, [], ◌∷◌, ◌++◌, List, Some, IfOk, IfErr, IsOk, IsErr, IsSome, OnOk, MatchOption, All, length, map, insert, remove, slice_set};
 ghost use Rattle.prefix_trie_table.specs.BlockCounts.{tier_count};
 ghost use Rattle.prefix_trie_table.specs.Cells.{blank_node, node_at, node_sizes};
+ghost use Rattle.prefix_trie_table.specs.Laying.{LaysList};
 ghost use Rattle.prefix_trie_table.specs.Store.{Store, UsedBlock, Sound, tier_at, slots_made, block, held, HasList, IsReady, tier_lacking, tier_for, no_blocks, Spends, Prepared, Enough, Keeps, Turnover, CutShort, none_at, one_at, free_at, size_in, tier_sizes, blocks_lacking, tier_slots_lacking, blocks_entered, tier_outgrown, tier_entered, tier_left};
 ghost use Rattle.prefix_trie_bits.specs.declared.prefix.Refusal.TheVariants.{Memory, IndexRange};
 
@@ -186,6 +187,16 @@ impl<A: Allocator, V: Drop> NodeAllocator<A, V> {
     {
         let (_, rest) = self.blocks.remove_at(k, start, count, place);
         rest
+    }
+
+    /// As `Blocks::lay`: lays a list of these nodes in a block of the smallest size that holds them, and says where it stands.
+    pub fn lay(&mut self, items: &[Node]) -> Result<BlockRef, Refusal>
+        requires sound { (live : List (UsedBlock Node)) × Sound blank_node live self.old }
+        requires fits { IsSome (tier_for self.old.tiers (length items.now)) }
+        requires few { length items.now < 2 ^ 32 }
+        ensures { IfOk result (LaysList blank_node self.old self.new items.now) }
+    {
+        self.blocks.lay(items)
     }
 
     /// Takes all nodes out but the root, which is then blank. It asks for no memory.

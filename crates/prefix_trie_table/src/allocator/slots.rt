@@ -1,6 +1,6 @@
 //! What a slot of an array can hold, and work on runs of slots. None of these asks for memory.
 ghost use Rattle.std.specs.Prelude.{◌≡◌, ℕ, ◌+◌, ◌<◌, ◌≤◌, ◌++◌, length, replicate, insert, remove, vec_len, vec_capacity, slice_index_or};
-ghost use Rattle.prefix_trie_table.specs.Runs.{swap_runs};
+ghost use Rattle.prefix_trie_table.specs.Runs.{put_run, swap_runs};
 
 use std::alloc::Allocator;
 use std::mem;
@@ -74,4 +74,13 @@ pub(super) fn exchange<S, A: Allocator>(slots: &mut Vec<S, A>, a: usize, b: usiz
     for i in 0..count {
         slots.swap(a + i, b + i);
     }
+}
+
+/// Writes items over as many places from `from` on.
+pub(super) fn write_run<S: Copy, A: Allocator>(slots: &mut Vec<S, A>, from: usize, items: &[S])
+    requires within { from + length items.now ≤ vec_len slots.old }
+    ensures written { slots.new.items ≡ put_run slots.old.items from items.now }
+    ensures len { vec_len slots.new ≡ vec_len slots.old }
+{
+    slots[from..from + items.len()].copy_from_slice(items);
 }

@@ -2,11 +2,12 @@
 ghost use Rattle.std.specs.Prelude.{◌≡◌, ℕ, ◌+◌, ◌/◌, ◌≤◌, Bool, false, List, Some, take, ⊤};
 ghost use Rattle.prefix_trie_bits.specs.Model.Entries.{without_below};
 ghost use Rattle.prefix_trie_bits.specs.Model.Nodes.{nodes_not_below, nodes_without_below};
+ghost use Rattle.prefix_trie_bits.specs.Model.Selections.{listing_below};
 ghost use Rattle.prefix_trie_bits.specs.Model.Step.{State};
 ghost use Rattle.prefix_trie_table.specs.Digits.{path_of};
 ghost use Rattle.prefix_trie_table.specs.Forest.{read};
 ghost use Rattle.prefix_trie_table.specs.Tables.{IsReached, IsTrie};
-ghost use Rattle.prefix_trie_table.specs.Retaining.{Lasts};
+ghost use Rattle.prefix_trie_table.specs.Retaining.{AsksUpTo, SaysNo, MayAskBelow, Lasts};
 
 use crate::allocator::blocks::Blocks;
 use crate::allocator::node::{Node, NodeSlot};
@@ -18,25 +19,31 @@ use prefix_trie_bits::node::{Places, child_cover_mask, value_cover_mask};
 use prefix_trie_bits::prefix::Key;
 use std::alloc::Allocator;
 
-/// The test that no entry passes.
+/// The test that no entry passes. The values are dropped.
 #[derive(Drop)]
-struct KeepNothing;
+pub struct KeepNothing;
 
-impl<K: Key, T> Keep<K, T> for KeepNothing {
+impl<K: Key, T: Drop, V: Tick> Keep<K, T, V> for KeepNothing {
     ghost accepts = { λ _ _ _. ⊤ };
 
     ghost asks = { λ _ _ _ answer _. answer ≡ false };
 
+    ghost refuses = { λ _ _ _ _. ⊤ };
+
     fn keeps(&mut self, _key: K, _len: u32, _value: &T) -> bool {
         false
     }
+
+    fn taken(&mut self, _key: K, _len: u32, _value: T, _counter: &mut V) {}
 }
 
-/// Takes out what a bit string begins of the string's own node and below it. Answers what the node is then.
-fn empty_part<K: Key, T: Drop, A: Allocator, V: Tick>(
+/// Takes out what a bit string begins of the string's own node and below it, and hands the values to a test that says no at each.
+/// Answers what the node is then.
+fn empty_part<K: Key, T: Drop, A: Allocator, V: Tick, F: Keep<K, T, V>>(
     nodes: &mut NodeAllocator<A, V>,
     cells: &mut Blocks<Option<T>, A>,
     entries: &mut usize,
+    keep: &mut F,
     key: K,
     len: u32,
     at: NodeSlot,
@@ -47,11 +54,15 @@ fn empty_part<K: Key, T: Drop, A: Allocator, V: Tick>(
     requires within { len ≤ K.bit_width }
     requires trie { (s : State T) × IsTrie K.bit_width entries.old nodes.old cells.old s }
     requires reached { IsReached (K.bits key) len (len / 5) node (at.start + at.place) nodes.old }
+    requires none { SaysNo F.asks }
+    requires may_ask { MayAskBelow F.asks F.accepts K.bit_width (take len (K.bits key)) keep.old entries.old nodes.old cells.old }
     ensures emptied { (s : State T) → IsTrie K.bit_width entries.old nodes.old cells.old s
         → IsTrie K.bit_width entries.new nodes.new cells.new (record {
           entries = without_below s.entries (take len (K.bits key));
           nodes = nodes_not_below s.nodes (take len (K.bits key));
         }) }
+    ensures up_to { (s : State T) → IsTrie K.bit_width entries.old nodes.old cells.old s
+        → AsksUpTo F.asks keep.old (listing_below s.entries (take len (K.bits key))) keep.new }
     ensures node { read nodes.new.slots (path_of (take len (K.bits key))) ≡ Some result }
     ensures lasts { Lasts (len / 5) nodes.old nodes.new cells.old cells.new }
 {
@@ -65,24 +76,17 @@ fn empty_part<K: Key, T: Drop, A: Allocator, V: Tick>(
         key,
         depth,
     };
-    retain_places(
-        nodes,
-        cells,
-        entries,
-        &mut KeepNothing,
-        site,
-        node,
-        places,
-        counter,
-    )
+    retain_places(nodes, cells, entries, keep, site, node, places, counter)
 }
 
 /// Takes all entries out that a bit string begins, and all nodes below the string's own, and then the nodes of its way that
-/// have nothing left, from its own upward. Where this node is missing nothing changes.
-pub fn remove_part<K: Key, T: Drop, A: Allocator, V: Tick>(
+/// have nothing left, from its own upward. Where this node is missing nothing changes. The values are handed to a test that says
+/// no at each.
+pub fn remove_part<K: Key, T: Drop, A: Allocator, V: Tick, F: Keep<K, T, V>>(
     nodes: &mut NodeAllocator<A, V>,
     cells: &mut Blocks<Option<T>, A>,
     entries: &mut usize,
+    keep: &mut F,
     key: K,
     len: u32,
     counter: &mut V,
@@ -90,17 +94,21 @@ pub fn remove_part<K: Key, T: Drop, A: Allocator, V: Tick>(
     requires key { K.IsKey key }
     requires within { len ≤ K.bit_width }
     requires trie { (s : State T) × IsTrie K.bit_width entries.old nodes.old cells.old s }
+    requires none { SaysNo F.asks }
+    requires may_ask { MayAskBelow F.asks F.accepts K.bit_width (take len (K.bits key)) keep.old entries.old nodes.old cells.old }
     ensures removed { (s : State T) → IsTrie K.bit_width entries.old nodes.old cells.old s
         → IsTrie K.bit_width entries.new nodes.new cells.new (record {
           entries = without_below s.entries (take len (K.bits key));
           nodes = nodes_without_below s.nodes s.entries (take len (K.bits key));
         }) }
+    ensures up_to { (s : State T) → IsTrie K.bit_width entries.old nodes.old cells.old s
+        → AsksUpTo F.asks keep.old (listing_below s.entries (take len (K.bits key))) keep.new }
     ensures lasts { Lasts 0 nodes.old nodes.new cells.old cells.new }
 {
     let mut above = ArrayVec::new();
     let Some((at, node)) = descend_keeping_way(nodes, key, len, &mut above, counter) else {
         return;
     };
-    let left = empty_part(nodes, cells, entries, key, len, at, node, counter);
+    let left = empty_part(nodes, cells, entries, keep, key, len, at, node, counter);
     prune_up(nodes, &above, key, len, left, counter);
 }

@@ -1,5 +1,5 @@
 //! Asking a test at entries, and taking out those at which it says no.
-ghost use Rattle.std.specs.Prelude.{◌≡◌, ℕ, ◌+◌, ◌-◌, ◌*◌, ◌/◌, ◌<◌, ◌≤◌, [], ◌∷◌, ◌++◌, List, Bool, true, Some, All, take, length, ⊤};
+ghost use Rattle.std.specs.Prelude.{◌≡◌, ℕ, ◌+◌, ◌-◌, ◌*◌, ◌/◌, ◌<◌, ◌≤◌, [], ◌∷◌, ◌++◌, List, Bool, true, false, Some, All, take, length, ⊤};
 ghost use Rattle.prefix_trie_bits.specs.Bits.{zeros};
 ghost use Rattle.prefix_trie_bits.specs.Places.{place_of, value_bit, has};
 ghost use Rattle.prefix_trie_bits.specs.Walks.{to_come};
@@ -20,13 +20,16 @@ use prefix_trie_bits::node::{Place, Places, rank, string_of};
 use prefix_trie_bits::prefix::Key;
 use std::alloc::{AllocError, Allocator};
 
-/// A test that is asked of entries.
-pub trait Keep<K: Key, T>: Sized + Drop {
+/// A test that is asked of entries, and is handed the values of those that do not stay.
+pub trait Keep<K: Key, T, V: Tick>: Sized + Drop {
     // the test may be asked at this key and this value
     ghost accepts: { Self → List Bool → T → Type 0 };
 
-    // asked at this key and this value the test may answer this, and be left as this
+    // asked at this key and this value the test may answer this, and be left as this, once it was handed the value where it said no
     ghost asks: { Self → List Bool → T → Bool → Self → Type 0 };
+
+    // asked at this key and this value the test may say no, and be left as this until it is handed the value
+    ghost refuses: { Self → List Bool → T → Self → Type 0 };
 
     /// Whether the entry of a key and its value stays. The key is the first `len` bits, and has zeros behind them.
     fn keeps(&mut self, key: K, len: u32, value: &T) -> bool
@@ -34,7 +37,17 @@ pub trait Keep<K: Key, T>: Sized + Drop {
         requires within { len ≤ K.bit_width }
         requires filled { K.bits key ≡ take len (K.bits key) ++ zeros (K.bit_width - len) }
         requires accepts { accepts self.old (take len (K.bits key)) value.now }
-        ensures { asks self.old (take len (K.bits key)) value.now result self.new };
+        ensures yes { result ≡ true → asks self.old (take len (K.bits key)) value.now true self.new }
+        ensures no { result ≡ false → refuses self.old (take len (K.bits key)) value.now self.new };
+
+    /// Takes the value of an entry at which the answer was no. The counter is that of the reads that this makes.
+    fn taken(&mut self, key: K, len: u32, value: T, counter: &mut V)
+        requires key { K.IsKey key }
+        requires within { len ≤ K.bit_width }
+        requires filled { K.bits key ≡ take len (K.bits key) ++ zeros (K.bit_width - len) }
+        requires refused { (before : Self) × refuses before (take len (K.bits key)) value self.old }
+        ensures { (before : Self) → refuses before (take len (K.bits key)) value self.old
+            → asks before (take len (K.bits key)) value false self.new };
 }
 
 /// Where a node stands: its slot in the array, and its path, the first `depth` bits of a key.
@@ -58,8 +71,8 @@ impl<K: Key> Clone for Site<K> {
     }
 }
 
-/// Asks at a value of a node, and takes it out where the answer is no. Answers what the node is then.
-fn retain_value<K: Key, T: Drop, A: Allocator, V: Tick, F: Keep<K, T>>(
+/// Asks at a value of a node, and takes it out and hands it over where the answer is no. Answers what the node is then.
+fn retain_value<K: Key, T: Drop, A: Allocator, V: Tick, F: Keep<K, T, V>>(
     nodes: &mut NodeAllocator<A, V>,
     cells: &mut Blocks<Option<T>, A>,
     entries: &mut usize,
@@ -67,6 +80,7 @@ fn retain_value<K: Key, T: Drop, A: Allocator, V: Tick, F: Keep<K, T>>(
     site: Site<K>,
     node: Node,
     bit: u32,
+    counter: &mut V,
 ) -> Node
     requires trie { (s : State T) × IsTrie K.bit_width entries.old nodes.old cells.old s }
     requires site { IsSite K.IsKey K.bits K.bit_width nodes.old site node }
@@ -87,18 +101,23 @@ fn retain_value<K: Key, T: Drop, A: Allocator, V: Tick, F: Keep<K, T>>(
     else {
         unreachable!();
     };
-    if keep.keeps(site.key.extend(site.depth, n, tail), site.depth + n, value) {
+    let key = site.key.extend(site.depth, n, tail);
+    if keep.keeps(key, site.depth + n, value) {
         return node;
     }
-    let (_, left) = take_value(nodes, cells, site.slot, node, bit);
+    let (found, left) = take_value(nodes, cells, site.slot, node, bit);
     *entries -= 1;
+    let Some(value) = found else {
+        unreachable!();
+    };
+    keep.taken(key, site.depth + n, value, counter);
     left
 }
 
 /// Asks at what stands at one place of a node, and takes out what is answered no, and a child that is left with nothing.
 /// Answers what the node is then.
 #[cycle(retain)]
-fn retain_place<K: Key, T: Drop, A: Allocator, V: Tick, F: Keep<K, T>>(
+fn retain_place<K: Key, T: Drop, A: Allocator, V: Tick, F: Keep<K, T, V>>(
     nodes: &mut NodeAllocator<A, V>,
     cells: &mut Blocks<Option<T>, A>,
     entries: &mut usize,
@@ -120,7 +139,7 @@ fn retain_place<K: Key, T: Drop, A: Allocator, V: Tick, F: Keep<K, T>>(
     ensures lasts { Lasts (site.depth / 5) nodes.old nodes.new cells.old cells.new }
 {
     match place {
-        Place::Value(bit) => retain_value(nodes, cells, entries, keep, site, node, bit),
+        Place::Value(bit) => retain_value(nodes, cells, entries, keep, site, node, bit, counter),
         Place::Child(child) => {
             let slot = NodeSlot {
                 start: node.child_block,
@@ -145,7 +164,7 @@ fn retain_place<K: Key, T: Drop, A: Allocator, V: Tick, F: Keep<K, T>>(
 
 /// Asks at what stands at these places of a node, in listing order. Answers what the node is then.
 #[cycle(retain)]
-pub(super) fn retain_places<K: Key, T: Drop, A: Allocator, V: Tick, F: Keep<K, T>>(
+pub(super) fn retain_places<K: Key, T: Drop, A: Allocator, V: Tick, F: Keep<K, T, V>>(
     nodes: &mut NodeAllocator<A, V>,
     cells: &mut Blocks<Option<T>, A>,
     entries: &mut usize,
@@ -175,7 +194,7 @@ pub(super) fn retain_places<K: Key, T: Drop, A: Allocator, V: Tick, F: Keep<K, T
 }
 
 /// Asks at each entry, in listing order, and takes out those at which the answer is no, and all nodes that have nothing left.
-pub fn retain_entries<K: Key, T: Drop, A: Allocator, V: Tick, F: Keep<K, T>>(
+pub fn retain_entries<K: Key, T: Drop, A: Allocator, V: Tick, F: Keep<K, T, V>>(
     nodes: &mut NodeAllocator<A, V>,
     cells: &mut Blocks<Option<T>, A>,
     entries: &mut usize,

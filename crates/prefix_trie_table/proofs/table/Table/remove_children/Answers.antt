@@ -7,7 +7,7 @@ use Rattle.prefix_trie_table.specs.Shape.{Contents, storage, same_shape}
 use Rattle.prefix_trie_table.specs.Steps.{stored, SettlesInStorage}
 use Rattle.prefix_trie_table.specs.Tables.{IsTable, IsTrie}
 use Rattle.prefix_trie_table.proofs.Tree.Invariant.{some_table}
-use Rattle.prefix_trie_table.proofs.Removal.PartTaken.{seen_trie}
+use Rattle.prefix_trie_table.proofs.Removal.PartTaken.{may_ask_all, seen_trie}
 use Rattle.prefix_trie_table.proofs.Blocks.Sizing.{table_sizes, storage_of}
 use Rattle.prefix_trie_table.proofs.Tree.Stated.{all_step, part_step, settles_in}
 use Rattle.prefix_trie_table.proofs.table.Table.remove_children.Given as given
@@ -21,6 +21,9 @@ returns-then-len-eq0-clause-step g c =
 
 pub remove_part-requires-clause-trie : goal.remove_part-requires-clause-trie
 remove_part-requires-clause-trie g c = (c.self.inside.shape.0, seen_trie c.self.inside.shape c.self.invariant c.self.view_is refl c.requires.within c.requires.nodes)
+
+pub remove_part-requires-clause-may_ask : goal.remove_part-requires-clause-may_ask
+remove_part-requires-clause-may_ask g c = λ s trie. may_ask_all _ _ (λ f k x. tt) _ _
 
 pub invariant_of-self-inside : goal.invariant_of-self-inside
 invariant_of-self-inside g c =

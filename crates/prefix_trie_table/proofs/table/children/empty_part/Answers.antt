@@ -1,15 +1,17 @@
-use Rattle.std.proofs.Common.{◌*◌, ◌/◌, ◌≤◌, length, take, drop, sym, ap, ◌∙◌}
+use Rattle.std.proofs.Common.{◌*◌, ◌/◌, ◌≤◌, length, take, drop, sym, ap, ◌∙◌, subst}
 use Rattle.std.specs.List.{Contains}
 use Rattle.std.proofs.lemmas.List.Elements.{All-weaker, All-contains_itself}
 use Rattle.prefix_trie_bits.specs.Places.{is_in}
 use Rattle.prefix_trie_bits.specs.Walks.{to_come}
 use Rattle.prefix_trie_bits.proofs.Model.Members.{and-first}
 use Rattle.prefix_trie_bits.proofs.Selecting.{is_in-and}
+use Rattle.prefix_trie_bits.specs.Model.Asking.{MayAskInOrder}
+use Rattle.prefix_trie_table.specs.Retaining.{AsksUpTo}
 use Rattle.prefix_trie_table.specs.Digits.{path_of}
 use Rattle.prefix_trie_table.specs.Forest.{read}
 use Rattle.prefix_trie_table.specs.Walking.Walks.{IsPlaceOf}
 use Rattle.prefix_trie_table.proofs.Removal.Emptied.{covers_below}
-use Rattle.prefix_trie_table.proofs.Removal.PartTaken.{home_is, home_rest, home_steps, reached_site, part_emptied, may_ask_all}
+use Rattle.prefix_trie_table.proofs.Removal.PartTaken.{home_is, home_rest, home_steps, reached_site, part_emptied, part_listed}
 use Rattle.prefix_trie_table.proofs.table.children.empty_part.Goals as goal
 
 pub retain_places-requires-clause-site : goal.retain_places-requires-clause-site
@@ -29,7 +31,20 @@ retain_places-requires-clause-each g c =
     (to_come c.new-places.result) (All-contains_itself (to_come c.new-places.result))
 
 pub retain_places-requires-clause-may_ask : goal.retain_places-requires-clause-may_ask
-retain_places-requires-clause-may_ask g c = λ s trie. may_ask_all _ _ (λ f k x. tt) _ _
+retain_places-requires-clause-may_ask g c = λ s trie.
+    subst (MayAskInOrder g.F.Keep.asks g.F.Keep.accepts c.args.keep.now)
+    (sym (part_listed g.K.Key.IsKey g.K.Key.bits g.K.Key.bit_width c.args.key c.requires.key (g.met.K.Key.key_laws.bits_length c.args.key c.requires.key)
+    c.args.len c.args.nodes.now c.args.node c.args.at c.requires.reached c.args.entries.now c.args.cells.now s trie
+    c.value_cover_mask.result c.child_cover_mask.result c.value_cover_mask.ensures c.child_cover_mask.ensures (to_come c.new-places.result) c.new-places.ensures.each c.new-places.ensures.places))
+    (c.requires.may_ask s trie)
+
+pub returns-clause-up_to : goal.returns-clause-up_to
+returns-clause-up_to g c = λ s trie.
+    subst (λ es. AsksUpTo g.F.Keep.asks c.args.keep.now es c.retain_places.new.keep)
+    (part_listed g.K.Key.IsKey g.K.Key.bits g.K.Key.bit_width c.args.key c.requires.key (g.met.K.Key.key_laws.bits_length c.args.key c.requires.key)
+    c.args.len c.args.nodes.now c.args.node c.args.at c.requires.reached c.args.entries.now c.args.cells.now s trie
+    c.value_cover_mask.result c.child_cover_mask.result c.value_cover_mask.ensures c.child_cover_mask.ensures (to_come c.new-places.result) c.new-places.ensures.each c.new-places.ensures.places)
+    (c.retain_places.ensures.retains s trie).retains.up_to
 
 pub returns-clause-emptied : goal.returns-clause-emptied
 returns-clause-emptied g c = λ s trie.
@@ -40,7 +55,7 @@ returns-clause-emptied g c = λ s trie.
     let are = covers_below g.K.Key.bit_width c.args.entries.now c.args.nodes.now c.args.cells.now s trie (take c.args.len b) (drop (c.args.len / 5 * 5) (take c.args.len b))
     (home_rest b c.args.len long) c.args.node (ap (λ p. read c.args.nodes.now.slots (path_of p)) (home_is b c.args.len long) ∙ site.stands)
     c.value_cover_mask.result c.child_cover_mask.result c.value_cover_mask.ensures c.child_cover_mask.ensures (to_come c.new-places.result) c.new-places.ensures.each in
-    part_emptied _ (λ f k x answer f2 no. no) _ g.K.Key.bit_width b c.args.len long (to_come c.new-places.result) s are _ _ _ _ _
+    part_emptied _ c.requires.none _ g.K.Key.bit_width b c.args.len long (to_come c.new-places.result) s are _ _ _ _ _
     (c.retain_places.ensures.retains s trie)
 
 pub returns-clause-node : goal.returns-clause-node

@@ -1,14 +1,21 @@
-use Rattle.std.proofs.Common.{◌/◌, ◌≤◌, List, length, take, sym, subst, arith}
+use Rattle.std.proofs.Common.{◌/◌, ◌≤◌, List, length, take, refl, sym, subst, arith}
 use Rattle.prefix_trie_table.specs.declared.allocator.node.NodeSlot.{NodeSlot}
 use Rattle.prefix_trie_table.specs.Digits.{path_of}
 use Rattle.prefix_trie_table.specs.Removals.{IsWay}
-use Rattle.prefix_trie_table.proofs.Removal.PartTaken.{end_left, part_taken, part_lasts, part_missing}
+use Rattle.prefix_trie_table.specs.Retaining.{AsksUpTo}
+use Rattle.prefix_trie_table.proofs.Removal.PartTaken.{end_left, part_taken, part_lasts, part_missing, part_unlisted}
 use Rattle.prefix_trie_table.proofs.table.children.remove_part.Goals as goal
 
 pub returns-in_default-clause-removed : goal.returns-in_default-clause-removed
 returns-in_default-clause-removed g c = λ s trie.
     let long : c.args.len ≤ length (g.K.Key.bits c.args.key) = omega (arith, g.met.K.Key.key_laws.bits_length c.args.key c.requires.key, c.requires.within) in
     part_missing g.K.Key.bit_width (g.K.Key.bits c.args.key) c.args.len long c.args.nodes.now c.args.cells.now c.args.entries.now s trie c.in_default.ensures.missing
+
+pub returns-in_default-clause-up_to : goal.returns-in_default-clause-up_to
+returns-in_default-clause-up_to g c = λ s trie.
+    let long : c.args.len ≤ length (g.K.Key.bits c.args.key) = omega (arith, g.met.K.Key.key_laws.bits_length c.args.key c.requires.key, c.requires.within) in
+    subst (λ es. AsksUpTo g.F.Keep.asks c.args.keep.now es c.args.keep.now)
+    (sym (part_unlisted g.K.Key.bit_width (g.K.Key.bits c.args.key) c.args.len long c.args.nodes.now c.args.cells.now c.args.entries.now s trie c.in_default.ensures.missing)) refl
 
 pub prune_up-requires-clause-stands : goal.prune_up-requires-clause-stands
 prune_up-requires-clause-stands g c =

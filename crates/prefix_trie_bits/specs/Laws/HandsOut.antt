@@ -1,0 +1,25 @@
+-- What is handed out and what is left are together what there was.
+use Rattle.std.specs.Prelude.{◌≡◌, ℕ, ◌+◌, Bool, true, false, List, None}
+use Rattle.std.specs.FinMap.{get, len}
+use Rattle.prefix_trie_bits.specs.Bits.{begins}
+use Rattle.prefix_trie_bits.specs.Model.Entries.{put_all}
+use Rattle.prefix_trie_bits.specs.Model.HandsOut.{HandsOut}
+use Rattle.prefix_trie_bits.specs.Model.Nodes.{IsTidy}
+use Rattle.prefix_trie_bits.specs.Model.Selections.{listing}
+use Rattle.prefix_trie_bits.specs.Model.Step.{State}
+use Rattle.prefix_trie_bits.specs.Laws.Steps.{IsMap}
+
+module _ {T : Type 0} where
+  -- each entry there was is in one of the two maps, and neither has another
+  pub record Splits (before : State T) (q : List Bool) (second after : State T) : Type 0 where
+    pub begun : (k : List Bool) → begins q k ≡ true → (get second.entries k ≡ get before.entries k) × (get after.entries k ≡ None)
+    pub others : (k : List Bool) → begins q k ≡ false → (get second.entries k ≡ None) × (get after.entries k ≡ get before.entries k)
+    pub number : len second.entries + len after.entries ≡ len before.entries
+    -- the entries of the second set in the first again make what there was
+    pub merged : put_all (λ k. k) (listing second.entries) after.entries ≡ before.entries
+
+pub record HandingLaws (T : Type 0) : Type 0 where
+  pub splits : (before : State T) (q : List Bool) (second after : State T) → HandsOut before q second after → Splits before q second after
+  -- both are maps, and the second is tidy
+  pub are_maps : (width : ℕ) (before : State T) (q : List Bool) (second after : State T) → IsMap width before → HandsOut before q second after
+      → IsMap width second × IsTidy second.entries second.nodes × IsMap width after

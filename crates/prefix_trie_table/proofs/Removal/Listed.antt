@@ -1,0 +1,60 @@
+-- The places of a node that two masks leave list what is below a bit string.
+use Rattle.std.proofs.Common.{◌≡◌, ◌↔◌, ℕ, ◌+◌, ◌<◌, ◌≤◌, Bool, true, false, ◌&&◌, List, [], ◌++◌, length, filter, Option, Some, None, is_some, refl, sym, ap, ◌∙◌, arith, bit_and, length-append}
+use Rattle.std.specs.List.{Contains}
+use Rattle.std.proofs.lemmas.Bool.{false≢true}
+use Rattle.prefix_trie_bits.specs.Bits.{begins}
+use Rattle.prefix_trie_bits.specs.Places.{HoldsValues, HoldsChildren, is_in, places}
+use Rattle.prefix_trie_bits.specs.Model.Nodes.{home}
+use Rattle.prefix_trie_bits.specs.Model.NodeListings.{listing_at_places}
+use Rattle.prefix_trie_bits.specs.Model.Selections.{listing, listing_below}
+use Rattle.prefix_trie_bits.specs.Model.Step.{State}
+use Rattle.prefix_trie_bits.proofs.Model.Homes.{home-depth, home-length}
+use Rattle.prefix_trie_bits.proofs.Model.NodeListings.{listing_below_none}
+use Rattle.prefix_trie_table.specs.declared.allocator.node.Node.{Node}
+use Rattle.prefix_trie_table.specs.declared.table.cursor.Start.TheVariants.{Below}
+use Rattle.prefix_trie_table.specs.Digits.{path_of}
+use Rattle.prefix_trie_table.specs.Forest.{read}
+use Rattle.prefix_trie_table.specs.Store.{Store}
+use Rattle.prefix_trie_table.specs.Tables.{IsTrie}
+use Rattle.prefix_trie_table.proofs.Strings.Plain.{no_or_yes}
+use Rattle.prefix_trie_table.proofs.Removal.Emptied.{below_none, home_near, home_goes_on, in_both}
+use Rattle.prefix_trie_table.proofs.Tree.Subtrees.{nothing_below, unset}
+use Rattle.prefix_trie_table.proofs.Walk.Selected.{at_some_places, wanted_ended}
+
+filter_alike : {X : Type 0} (f g : X → Bool) → ((x : X) → f x ≡ g x) → (xs : List X) → filter f xs ≡ filter g xs
+filter_alike f g same xs = λ i. filter (λ x. same x i) xs
+
+-- of two tests of which the second implies the first, both are the second
+both_tests : (a b : Bool) → (b ≡ true → a ≡ true) → (a && b) ≡ b
+both_tests true b h = refl
+both_tests false true h = absurd (false≢true (h refl))
+both_tests false false h = refl
+
+module _ {T : Type 0} (width count : ℕ) (v : Store Node) (w : Store (Option T)) (before : State T) (trie : IsTrie width count v w before) (q rest : List Bool)
+    (is : q ≡ home q ++ rest) (n : Node) (stands : read v.slots (path_of (home q)) ≡ Some n) (values children : ℕ) (holds_values : HoldsValues values (begins rest))
+    (holds_children : HoldsChildren children (begins rest)) (ts : List (List Bool))
+    (each : (u : List Bool) → Contains ts u ↔ ((length u ≤ 5) × (is_in (bit_and n.value_bitmap values) (bit_and n.child_bitmap children) u ≡ true)))
+    (all : ts ≡ places (bit_and n.value_bitmap values) (bit_and n.child_bitmap children)) where
+  short : length rest < 5
+  short =
+      let near = home_near (length q) (length (home q)) (home-length q) in
+      let l : length q ≡ length (home q) + length rest = ap length is ∙ length-append (home q) rest in
+      omega (arith, near, l)
+
+  pub listed_below : listing_at_places before.entries (home q) ts ≡ listing_below before.entries q
+  listed_below =
+      ap (listing_at_places before.entries (home q)) all
+      ∙ at_some_places before.entries (home q) (begins rest) (is_in (bit_and n.value_bitmap values) (bit_and n.child_bitmap children)) (is_in n.value_bitmap n.child_bitmap)
+      (in_both width count v w before trie q rest is n stands values children holds_values holds_children ts each)
+      (unset width v (record { count = count; cells = w; shape = before }) trie (home q) n (home-depth q) stands)
+      ∙ sym (wanted_ended Below before.entries (home q) rest short)
+      ∙ ap (λ p. filter (λ e. begins (home q) e.0 && begins p e.0) (listing before.entries)) (sym is)
+      ∙ filter_alike (λ e. begins (home q) e.0 && begins q e.0) (λ e. begins q e.0) (λ e. both_tests (begins (home q) e.0) (begins q e.0) (home_goes_on q e.0)) (listing before.entries)
+
+-- below a string whose node is missing nothing is listed
+pub none_listed : {T : Type 0} (width count : ℕ) (v : Store Node) (w : Store (Option T)) (s : State T) (q : List Bool) → IsTrie width count v w s →
+    read v.slots (path_of (home q)) ≡ None → listing_below s.entries q ≡ []
+none_listed width count v w s q trie missing =
+    let none : listing_below s.entries (home q) ≡ [] = nothing_below width v (record { count = count; cells = w; shape = s }) trie (home q) (home-depth q) missing in
+    listing_below_none s.entries q (λ k has. no_or_yes (begins q k) (λ e.
+    false≢true (sym (ap is_some (below_none s.entries (home q) k none (home_goes_on q k e))) ∙ has)))
