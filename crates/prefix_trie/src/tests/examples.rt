@@ -3,9 +3,13 @@ pub mod access;
 pub mod cache;
 pub mod copy;
 pub mod delegations;
+pub mod expiry;
 pub mod forwarding;
 pub mod inventory;
 pub mod merge;
+pub mod pruning;
+pub mod rerouting;
+pub mod scaling;
 
 use crate::{Ipv4Prefix, Ipv6Prefix, PrefixMap, PrefixSet, Refusal};
 use access::{may_enter, reasons};

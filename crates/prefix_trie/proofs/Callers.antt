@@ -1,0 +1,3 @@
+-- What a caller's proof cites where a law cannot say it: of the test that `retain` asks, and of a loop over a walk that writes.
+pub use Rattle.prefix_trie_bits.proofs.Model.Askings.{may_ask_always, keeps_filter}
+pub use Rattle.prefix_trie.proofs.Rewriting.{HasRewrittenIn, left_in, starts_ordered, goes_on_rewriting, ends_rewriting, rewritten}
