@@ -15,4 +15,5 @@ mod Lookups
 mod Paths
 mod Networks
 mod Joining
+pub mod Modifying
 mod Comparing

@@ -2,6 +2,7 @@
 pub mod access;
 pub mod cache;
 pub mod copy;
+pub mod counter;
 pub mod delegations;
 pub mod expiry;
 pub mod forwarding;
