@@ -1,5 +1,5 @@
 -- Two maps that `==` finds equal have the same entries.
-use Rattle.std.proofs.Common.{◌≡◌, ℕ, Bool, true, ◌&&◌, List, [], ◌∷◌, map, refl, sym, ap, ◌∙◌}
+use Rattle.std.proofs.Common.{◌≡◌, ◌↔◌, ℕ, Bool, true, ◌&&◌, eqb, eqb-true, eq-eqb, List, [], ◌∷◌, map, refl, sym, ap, ◌∙◌}
 use Rattle.std.specs.Cmp.Lexicographic.{pointwise, pointwise_decides}
 use Rattle.std.specs.FinMap.{same_entries_map}
 use Rattle.std.specs.List.{All}
@@ -28,3 +28,13 @@ equal_laws {path = path} {back = back} laws T = record {
         λ e. items.1 (ap (λ m. shown back (listing m)) e),
       );
 }
+
+-- `==` of numbers, and of networks, decides whether they are the same
+pub numbers_same : (v w : ℕ) → (eqb v w ≡ true) ↔ (v ≡ w)
+numbers_same v w = (eqb-true v w, eq-eqb v w)
+
+pub networks_same : (p q : ℕ × ℕ) → ((eqb p.0 q.0 && eqb p.1 q.1) ≡ true) ↔ (p ≡ q)
+networks_same p q = (
+  λ h i. (eqb-true p.0 q.0 (and-first (eqb p.0 q.0) (eqb p.1 q.1) h) i, eqb-true p.1 q.1 (and-second (eqb p.0 q.0) (eqb p.1 q.1) h) i),
+  λ e. and-join (eqb p.0 q.0) (eqb p.1 q.1) (eq-eqb p.0 q.0 (ap (λ x. x.0) e)) (eq-eqb p.1 q.1 (ap (λ x. x.1) e)),
+)

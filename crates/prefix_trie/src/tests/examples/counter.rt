@@ -1,8 +1,9 @@
 //! Counts of prefixes: how often each was seen, modulo 2^64, and what is made of them.
-ghost use Rattle.std.specs.Prelude.{◌≡◌, ◌+◌, ◌%◌, ◌^◌, List, Bool, OnOk};
+ghost use Rattle.std.specs.Prelude.{◌≡◌, ◌+◌, ◌%◌, ◌^◌, List, Bool, OnOk, map};
 ghost use Rattle.std.specs.Option.{option_map, unwrap_or};
 ghost use Rattle.std.specs.FinMap.{get};
-ghost use Rattle.prefix_trie.specs.Words.{joined_by, with_entry, with_value};
+ghost use Rattle.std.specs.List.{sum};
+ghost use Rattle.prefix_trie.specs.Words.{joined_by, listing, with_entry, with_value};
 
 use crate::laws::join_laws;
 use crate::{Prefix, PrefixMap, Refusal, Refused};
@@ -22,6 +23,18 @@ pub fn count<P: Prefix, A: Allocator>(
         .and_modify(|n| *n = n.wrapping_add(1))
         .or_insert(1)?;
     Ok(())
+}
+
+/// How often any prefix was seen.
+pub fn total<P: Prefix, A: Allocator>(counts: &PrefixMap<P, u64, A>) -> u64
+    ensures { result ≡ sum (map (λ e. e.1) (listing counts.now.entries)) % 2 ^ 64 }
+{
+    let mut total: u64 = 0;
+    let mut walk = counts.values();
+    while let Some(count) = walk.next() {
+        total = total.wrapping_add(*count);
+    }
+    total
 }
 
 /// A count that may be there, and one more.

@@ -1,7 +1,8 @@
-//! A route that is changed where it is found.
-ghost use Rattle.std.specs.Prelude.{◌≡◌, MatchOption, is_some};
+//! A route that is changed where it is found, and tables that are compared.
+ghost use Rattle.std.specs.Prelude.{◌≡◌, ◌↔◌, IsTrue, MatchOption, is_some};
 ghost use Rattle.prefix_trie.specs.Words.{ipv4_address, longest_match, with_entry};
 
+use crate::laws::equal_laws;
 use crate::{Ipv4Prefix, PrefixMap};
 use std::alloc::Allocator;
 
@@ -22,4 +23,15 @@ pub fn reroute<A: Allocator>(routes: &mut Routes<A>, addr: u32, hop: u32) -> boo
         }
         None => false,
     }
+}
+
+/// Whether two tables have the same routes, each with the same next hop.
+pub fn are_same<A: Allocator>(routes: &Routes<A>, others: &Routes<A>) -> bool
+    ensures { IsTrue result ↔ (routes.now.entries ≡ others.now.entries) }
+{
+    equal_laws::<Ipv4Prefix, u32>();
+    // The proof learns from them that both are maps.
+    let _ = routes.len();
+    let _ = others.len();
+    routes == others
 }
