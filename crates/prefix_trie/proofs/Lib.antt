@@ -7,9 +7,13 @@ pub mod Retaining
 pub mod Rewriting
 pub mod Swapping
 mod SameKeys
+pub mod Callers
 pub mod Collecting
 mod Units
 mod Stored
 mod Lookups
 mod Paths
 mod Networks
+mod Joining
+pub mod Modifying
+mod Comparing

@@ -30,7 +30,7 @@ module _ {P T : Type 0} (path : P → List Bool) (IsFitting : P → Type 0) wher
 
 module _ {P T : Type 0} (path : P → List Bool) (back : List Bool → P) where
   -- a string is not found behind its place in a sorted list
-  not_behind : (x : List Bool × T) (es : List (List Bool × T)) (s : List Bool) → IsT (is_sorted listing_cmp (x ∷ es)) → same_string s x.0 ≡ true → find listing_cmp s es ≡ None
+  pub not_behind : (x : List Bool × T) (es : List (List Bool × T)) (s : List Bool) → IsT (is_sorted listing_cmp (x ∷ es)) → same_string s x.0 ≡ true → find listing_cmp s es ≡ None
   not_behind x es s sorted same = elim (find listing_cmp s es) as (λ o. find listing_cmp s es ≡ o → o ≡ None) [
     | None ↦ λ _. refl
     | Some v ↦ λ found. absurd (not_itself x.0 s (each-behind x.0 es s v (sorted-head x es sorted) found) (sym (same_string-is s x.0 same)))

@@ -2,6 +2,8 @@
 pub mod Stored
 pub mod Lookups
 pub mod Putting
+pub mod Comparing
+pub mod Joining
 pub mod Paths
 pub mod Networks
 pub mod Numbers

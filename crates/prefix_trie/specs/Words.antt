@@ -3,11 +3,15 @@ pub use Rattle.prefix_trie_bits.specs.Bits.{begins, digits, number, zeros}
 pub use Rattle.prefix_trie_bits.specs.Keys.{narrow_width}
 pub use Rattle.prefix_trie_bits.specs.Order.{IsBefore, listing_cmp}
 pub use Rattle.prefix_trie_bits.specs.Model.Entries.{Entries, no_entries, with_entry, without_entry, without_below, part_below, put_all, AreWithin}
+pub use Rattle.prefix_trie_bits.specs.Model.Nodes.{Nodes, needed, with_needed, nodes_without, nodes_without_below, root_alone, AreNodes, IsTidy}
 pub use Rattle.prefix_trie_bits.specs.Model.Selections.{listing, listing_from, listing_after, listing_below, shown}
 pub use Rattle.prefix_trie_bits.specs.Model.Matches.{first_item, last_item, covers, IsMatch, IsLongestMatch, IsShortestMatch, longest_match, shortest_match, shown_match}
 pub use Rattle.prefix_trie_bits.specs.Model.Addresses.{addresses, address_answer}
+pub use Rattle.prefix_trie_table.specs.Shape.{with_value_at, with_match_at, with_longest_at}
 pub use Rattle.prefix_trie_map.specs.Walks.{lent_item}
 pub use Rattle.prefix_trie_map.specs.Whole.{IsWhole}
 pub use Rattle.prefix_trie.specs.Networks.{ipv4_address, ipv4_path, ipv4_back, ipv6_address, ipv6_path, ipv6_back}
 pub use Rattle.prefix_trie.specs.Laws.Lookups.{IsUncovered}
 pub use Rattle.prefix_trie.specs.Laws.Putting.{Leads}
+pub use Rattle.prefix_trie.specs.Laws.Joining.{Joins, joined_by, join_all, with_value}
+pub use Rattle.prefix_trie.specs.Rewriting.{OrderedIn, RewritesIn}

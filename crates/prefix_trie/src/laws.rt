@@ -4,12 +4,17 @@
 ghost use Rattle.prefix_trie.specs.Laws.Stored.{StoredLaws};
 ghost use Rattle.prefix_trie.specs.Laws.Lookups.{LookupLaws};
 ghost use Rattle.prefix_trie.specs.Laws.Putting.{PutLaws};
+ghost use Rattle.prefix_trie.specs.Laws.Comparing.{EqualLaws};
+ghost use Rattle.prefix_trie.specs.Laws.Joining.{JoinLaws};
 ghost use Rattle.prefix_trie.specs.Laws.Networks.{NetworkLaws};
 ghost use Rattle.prefix_trie.specs.Laws.Numbers.{NumberLaws};
 ghost use Rattle.prefix_trie.specs.Laws.Paths.{PathLaws};
 ghost use Rattle.prefix_trie_bits.specs.Keys.{narrow_width};
 
-pub use prefix_trie_bits::laws::{address_laws, listing_laws, match_laws, slot_laws};
+pub use prefix_trie_bits::laws::{
+    address_laws, counted_laws, determined_laws, listing_laws, match_laws, node_laws, pruning_laws,
+    slot_laws, step_laws, storage_laws, total_laws, visit_laws,
+};
 use prefix_trie_bits::prefix::Prefix;
 pub use prefix_trie_map::laws::{copy_laws, cover_laws, listed_laws, resume_laws};
 
@@ -26,6 +31,17 @@ pub fn lookup_laws<P, T>()
 /// What a loop leaves that puts the entries of one map into another, and how its invariant goes on.
 pub fn put_laws<P: Prefix, T>()
     ensures { PutLaws T P.R.bit_width P.path P.IsFitting P.back }
+{}
+
+/// What a loop leaves that joins the values of one map to those of another, as a sum does, and how its invariant goes on.
+pub fn join_laws<P: Prefix, T>()
+    ensures { JoinLaws T P.R.bit_width P.path P.IsFitting P.back }
+{}
+
+/// Two maps are equal by `==` exactly if their entries are the same, where `==` of prefixes and of values says the same of those. Asks
+/// what `len` and the makers of walks say of every map.
+pub fn equal_laws<P: Prefix, T>()
+    ensures { EqualLaws T P.R.bit_width P.back }
 {}
 
 /// A path is as long as its prefix says; of a prefix of full length it is the whole number; and the prefix with a path has that path.

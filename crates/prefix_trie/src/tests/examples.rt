@@ -2,11 +2,16 @@
 pub mod access;
 pub mod cache;
 pub mod copy;
+pub mod counter;
 pub mod delegations;
+pub mod expiry;
 pub mod forwarding;
 pub mod inventory;
 pub mod merge;
+pub mod pruning;
 pub mod ranges;
+pub mod rerouting;
+pub mod scaling;
 
 use crate::{Ipv4Prefix, Ipv6Prefix, Narrow, PrefixMap, PrefixSet, Refusal};
 use access::{may_enter, reasons};

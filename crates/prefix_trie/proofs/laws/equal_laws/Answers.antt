@@ -1,0 +1,5 @@
+use Rattle.prefix_trie.proofs.Comparing.{equal_laws}
+use Rattle.prefix_trie.proofs.laws.equal_laws.Goals as goal
+
+pub returns : goal.returns
+returns g c = equal_laws g.met.P.Prefix.prefix_laws _

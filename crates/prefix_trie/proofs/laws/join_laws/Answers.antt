@@ -1,0 +1,5 @@
+use Rattle.prefix_trie.proofs.Joining.{join_laws}
+use Rattle.prefix_trie.proofs.laws.join_laws.Goals as goal
+
+pub returns : goal.returns
+returns g c = join_laws g.met.P.Prefix.prefix_laws _

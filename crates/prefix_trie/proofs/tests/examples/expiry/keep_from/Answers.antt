@@ -1,0 +1,11 @@
+use Rattle.std.proofs.Common.{rules, nat_le, of_calls}
+use Rattle.prefix_trie.proofs.Callers.{may_ask_always, keeps_filter}
+use Rattle.prefix_trie.proofs.tests.examples.expiry.keep_from.Goals as goal
+
+pub retain-requires : goal.retain-requires
+retain-requires g c = may_ask_always _ _ _ _ (λ f k v p q is eq. search (rules, of_calls))
+
+pub returns-clause-kept : goal.returns-clause-kept
+returns-clause-kept g c =
+    keeps_filter _ (λ e. nat_le c.args.least e.1) _ _ _
+    (λ e b f' h. (search (rules, of_calls, h.called, h.shows), search (rules, of_calls, h.called))) c.retain.ensures.kept

@@ -1,0 +1,39 @@
+-- A loop that joins the values of one map to those of another: what it leaves, and an invariant for it. This project's own.
+use Rattle.std.specs.Prelude.{◌≡◌, ℕ, Bool, List, [], ◌∷◌, Option, None, Some, All}
+use Rattle.std.specs.FinMap.{get}
+use Rattle.prefix_trie_bits.specs.Model.Entries.{Entries, AreWithin, with_entry}
+use Rattle.prefix_trie_bits.specs.Model.Selections.{listing, shown}
+
+module _ {T : Type 0} (join : T → T → T) where
+  -- a value that may be there, joined to one that comes
+  abbrev pub with_value : Option T → T → T
+  with_value None w = w
+  with_value (Some v) w = join v w
+
+  -- a value that may be there, joined to one that may come
+  abbrev pub joined_by : Option T → Option T → Option T
+  joined_by before None = before
+  joined_by before (Some w) = Some (with_value before w)
+
+  module _ {P : Type 0} (path : P → List Bool) where
+    -- pairs joined to the entries, in turn
+    abbrev pub join_all : List (P × T) → Entries T → Entries T
+    join_all [] now = now
+    join_all (e ∷ es) now = join_all es (with_entry now (path e.0) (with_value (get now (path e.0)) e.1))
+
+    -- the invariant: each prefix still to come fits, and with all of them joined the map is whole
+    abbrev pub Joins : (P → Type 0) → List (P × T) → Entries T → Entries T → Type 0
+    Joins IsFitting left now whole = All (λ e. IsFitting e.0) left × (join_all left now ≡ whole)
+
+-- where no key is longer than the width, as in every map
+pub record JoinLaws {P : Type 0} (T : Type 0) (width : ℕ) (path : P → List Bool) (IsFitting : P → Type 0) (back : List Bool → P) : Type 0 where
+  -- a walk over a whole map leads to all its entries joined
+  pub starts : (join : T → T → T) (from to : Entries T) → AreWithin width from → (walk : List (P × T)) → walk ≡ shown back (listing from)
+      → Joins join path IsFitting walk to (join_all join path (shown back (listing from)) to)
+  -- so the next prefix fits, and once its value is joined, the rest leads there still
+  pub next_fits : (join : T → T → T) (now whole : Entries T) (item : P × T) (rest left : List (P × T)) → left ≡ item ∷ rest → Joins join path IsFitting left now whole → IsFitting item.0
+  pub goes_on : (join : T → T → T) (now next whole : Entries T) (item : P × T) (rest left : List (P × T)) → left ≡ item ∷ rest
+      → next ≡ with_entry now (path item.0) (with_value join (get now (path item.0)) item.1) → Joins join path IsFitting left now whole → Joins join path IsFitting rest next whole
+  -- each key has its two values joined, or the one that there is
+  pub joined : (join : T → T → T) (from to : Entries T) → AreWithin width from → (s : List Bool)
+      → get (join_all join path (shown back (listing from)) to) s ≡ joined_by join (get to s) (get from s)
