@@ -47,8 +47,10 @@ pub(super) fn shift_in<S: Slot, A: Allocator>(
     ensures items { slots.new.items ≡ insert (remove slots.old.items to) from value }
     ensures len { vec_len slots.new ≡ vec_len slots.old }
 {
-    slots[from..to + 1].rotate_right(1);
-    slots[from] = value;
+    let mut carried = mem::replace(&mut slots[from], value);
+    for i in from..to {
+        carried = mem::replace(&mut slots[i + 1], carried);
+    }
 }
 
 /// Takes the value at `from`, moves what stood from there to `to` one place back, and leaves the place `to` unused.

@@ -171,6 +171,7 @@ pub fn prepare<T: Drop, A: Allocator, V: Tick>(
 }
 
 /// Adds the nodes of a way that are missing, below the deepest that is there, and a value at the last. Answers where it stands.
+#[inline(always)]
 fn add_entry<K: Key, T: Drop, A: Allocator, V: Tick>(
     nodes: &mut NodeAllocator<A, V>,
     cells: &mut Blocks<Option<T>, A>,

@@ -81,7 +81,8 @@ impl<T: Drop, A: Allocator, V: Tick> Table<T, A, V> {
 
     /// Sets the value at a missing bit string, whose way ends here, adds the nodes that are missing on it, and answers where
     /// the value stands. It is refused as `insert` is, and then hands the value back. No node is read.
-    #[inline]
+    // It stands apart, so that what callers do with a stored key stays small.
+    #[inline(never)]
     pub fn place<K: Key>(
         &mut self,
         key: K,
