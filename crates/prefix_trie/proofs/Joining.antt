@@ -24,7 +24,7 @@ module _ {P T : Type 0} (join : T → T → T) (path : P → List Bool) (back : 
       ∙ ap (λ k. joined_by join (get (with_entry to k (with_value join (get to k) x.1)) s) (find listing_cmp s es)) (All-head (λ e. path (back e.0) ≡ e.0) x es paths)
       ∙ ap (λ o. joined_by join o (find listing_cmp s es)) (get-with_entry to x.0 (with_value join (get to x.0) x.1) s)
       ∙ elim (same_string s x.0) as (λ b. same_string s x.0 ≡ b → joined_by join (cond b (Some (with_value join (get to x.0) x.1)) (get to s)) (find listing_cmp s es)
-          ≡ joined_by join (get to s) (cond b (Some x.1) (find listing_cmp s es))) [
+      ≡ joined_by join (get to s) (cond b (Some x.1) (find listing_cmp s es))) [
         | true ↦ λ same.
             ap (joined_by join (Some (with_value join (get to x.0) x.1))) (not_behind path back x es s sorted same)
             ∙ ap (λ k. Some (with_value join (get to k) x.1)) (sym (same_string-is s x.0 same))

@@ -6,9 +6,9 @@ ghost use Rattle.prefix_trie_bits.specs.Model.Nodes.{IsTidy, needed};
 ghost use Rattle.prefix_trie_bits.specs.Model.Selections.{listing};
 ghost use Rattle.prefix_trie_map.specs.Steps.{storage};
 
+use crate::tests::examples::expiry::keep_from;
 use crate::tests::examples::merge::merge;
 use crate::tests::on_new::{on_new, on_two_new};
-use crate::tests::retain::keep_from;
 use crate::tests::stored::{has_keys, stores};
 use crate::{Prefix, PrefixMap};
 use prefix_trie_bits::laws::slot_laws;

@@ -8,27 +8,11 @@ ghost use Rattle.prefix_trie_bits.specs.Model.Selections.{listing, shown};
 ghost use Rattle.prefix_trie_table.specs.Shape.{with_value_at};
 
 use crate::map::Entry;
+use crate::tests::examples::counter::count;
 use crate::tests::on_new::on_two_new;
 use crate::tests::stored::{has_values, stores};
 use crate::{Prefix, PrefixMap, Refusal, Refused};
 use std::alloc::{Allocator, Global};
-
-// Counts a prefix once more.
-fn count<P: Prefix, A: Allocator>(
-    map: &mut PrefixMap<P, u64, A>,
-    prefix: P,
-) -> Result<(), Refused<u64>>
-    requires { P.IsFitting prefix }
-    ensures fresh { OnOk result (get map.old.entries (P.path prefix) ≡ None
-        → map.new.entries ≡ with_entry map.old.entries (P.path prefix) 1) }
-    ensures again { OnOk result ((n : ℕ) → get map.old.entries (P.path prefix) ≡ Some n → n < 2 ^ 64 - 1
-        → map.new.entries ≡ with_entry map.old.entries (P.path prefix) (n + 1)) }
-{
-    map.entry(prefix)
-        .and_modify(|n| *n = n.saturating_add(1))
-        .or_insert(1)?;
-    Ok(())
-}
 
 // Stores nine, whether the prefix is new or not.
 fn store_nine<P: Prefix, A: Allocator>(

@@ -1,19 +1,9 @@
-//! What a caller of `retain` learns, and a map with a test at a concrete type.
-ghost use Rattle.std.specs.Prelude.{◌≡◌, nat_le, filter};
-ghost use Rattle.prefix_trie_bits.specs.Model.Nodes.{needed};
-ghost use Rattle.prefix_trie_bits.specs.Model.Selections.{listing};
+//! A caller of `retain` at a concrete type.
 
+use crate::tests::examples::expiry::keep_from;
 use crate::tests::stored::{has_keys, stores};
-use crate::{Prefix, PrefixMap, Refusal};
+use crate::{PrefixMap, Refusal};
 use std::alloc::{Allocator, Global};
-
-// Keeps the values from a least one on.
-pub fn keep_from<P: Prefix, A: Allocator>(m: &mut PrefixMap<P, u64, A>, least: u64)
-    ensures kept { listing m.new.entries ≡ filter (λ e. nat_le least e.1) (listing m.old.entries) }
-    ensures nodes { m.new.nodes ≡ needed m.new.entries }
-{
-    m.retain(move |_, value| least <= *value);
-}
 
 /// Four numbers, of which two are below three.
 const FOUR: [((u8, u8), u64); 4] = [

@@ -1,5 +1,5 @@
 //! Callers of walks that lend values for writing, and what they know of the map afterwards.
-ghost use Rattle.std.specs.Prelude.{◌≡◌, ◌*◌, ◌%◌, ◌^◌, List, Bool, [], ◌∷◌, IsTrue, MatchOption, slice_get};
+ghost use Rattle.std.specs.Prelude.{◌≡◌, List, Bool, [], ◌∷◌, IsTrue, MatchOption, slice_get};
 ghost use Rattle.std.specs.FinMap.{get};
 ghost use Rattle.std.specs.Option.{option_map};
 ghost use Rattle.prefix_trie_bits.specs.Model.Selections.{listing, shown};
@@ -9,6 +9,7 @@ ghost use Rattle.prefix_trie_map.specs.WritingWalks.{EndsIn, FirstIn, PassesIn};
 ghost use Rattle.prefix_trie.specs.Rewriting.{OrderedIn, RewritesIn};
 
 use crate::map::{IterMut, ValuesMut};
+use crate::tests::examples::scaling::double_all;
 use crate::tests::refusing::Refusing;
 use crate::tests::stored::{has_values, stores};
 use crate::{Prefix, PrefixMap, Refusal};
@@ -35,26 +36,6 @@ fn set_all<P: Prefix, T: Copy, A: Allocator>(map: &mut PrefixMap<P, T, A>, value
 {
     let mut walk = map.values_mut();
     set_rest(&mut walk, value);
-    if let Some(_map) = walk.into_map() {}
-}
-
-// Doubles the values that are still to come.
-fn double_rest<'b, 'a, P: Prefix, A: Allocator>(walk: &'b mut ValuesMut<'a, P, u64, A>)
-    requires { OrderedIn walk.old.walk.course }
-    ensures { RewritesIn (λ v. (v * 2) % 2 ^ 64) walk.old.walk.course walk.new.walk.course }
-{
-    while let Some(place) = walk.next() {
-        *place = place.wrapping_mul(2);
-    }
-}
-
-// Doubles all values of a map.
-fn double_all<P: Prefix, A: Allocator>(map: &mut PrefixMap<P, u64, A>)
-    ensures entries { (q : List Bool) → get map.new.entries q ≡ option_map (λ v. (v * 2) % 2 ^ 64) (get map.old.entries q) }
-    ensures others { map.new ≡ record map.old { entries = map.new.entries } }
-{
-    let mut walk = map.values_mut();
-    double_rest(&mut walk);
     if let Some(_map) = walk.into_map() {}
 }
 

@@ -23,9 +23,9 @@ loop-i-preserved g c =
     let other = c.index_mut-in-loop-i in
     record {
       items = ap (λ w. set l.slots.items (l.i + 1) w) c.replace-carried-in-loop-i.ensures.after ∙ ap (λ ys. set ys (l.i + 1) l.carried) l.invariant.items
-      ∙ ap (λ w. set (insert (remove xs l.i) c.args.from c.args.value) (l.i + 1) w) (sym l.invariant.carried) ∙ carried_on xs c.args.from l.i c.args.value l.carried in_order within;
+          ∙ ap (λ w. set (insert (remove xs l.i) c.args.from c.args.value) (l.i + 1) w) (sym l.invariant.carried) ∙ carried_on xs c.args.from l.i c.args.value l.carried in_order within;
       carried = rw c.replace-carried-in-loop-i.ensures.value (sym (carried_next xs c.args.from l.i c.args.value other.result.now in_order within)
-      ∙ ap (λ ys. get_or ys (l.i + 1) other.result.now) (sym l.invariant.items) ∙ sym other.ensures.value);
+          ∙ ap (λ ys. get_or ys (l.i + 1) other.result.now) (sym l.invariant.items) ∙ sym other.ensures.value);
       len = l.invariant.len;
       low = omega (arith, in_order);
       high = omega (arith, c.loop-i-test.true);

@@ -14,5 +14,5 @@ pub loop-prefix-preserved : goal.loop-prefix-preserved
 loop-prefix-preserved g c =
     let leads = c.put_laws.ensures.goes_on c.loop-prefix.map.entries _ _ (c.in-Some.prefix, c.in-Some.value.now) _ _ c.in-Some.ensures.steps (search rules) c.loop-prefix.invariant.2 in
     let tidy = c.in_ok-insert.ensures.nodes ∙ ap (λ n. with_needed n (g.P.Prefix.path c.in-Some.prefix)) c.loop-prefix.invariant.3
-        ∙ c.node_laws.ensures.needed_with c.loop-prefix.map.entries (g.P.Prefix.path c.in-Some.prefix) c.in-Some.value.now ∙ ap needed (sym c.in_ok-insert.ensures.entries) in
+    ∙ c.node_laws.ensures.needed_with c.loop-prefix.map.entries (g.P.Prefix.path c.in-Some.prefix) c.in-Some.value.now ∙ ap needed (sym c.in_ok-insert.ensures.entries) in
     (tt, tt, leads, tidy)
