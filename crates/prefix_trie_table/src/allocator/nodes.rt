@@ -152,6 +152,7 @@ impl<A: Allocator, V: Drop> NodeAllocator<A, V> {
     /// node is made here, since one that is handed in goes through memory.
     pub fn insert_blank(&mut self, k: usize, start: u32, count: u32, place: u32) -> BlockRef
         requires holds { HasList blank_node self.old k start count }
+        requires single { tier_for self.old.tiers 1 ≡ Some 0 }
         requires ready { IsReady self.old.tiers k count }
         requires place { place ≤ count }
         ensures tier { MatchOption (tier_lacking self.old.tiers k count) (result ≡ record { tier = k; start = start })

@@ -12,6 +12,7 @@ impl<S: Slot, A: Allocator> Blocks<S, A> {
     /// and its old block is free. It makes no block and asks for no memory: `prepare` does that before.
     pub fn insert_at(&mut self, k: usize, start: u32, count: u32, place: u32, value: S) -> BlockRef
         requires holds { HasList S.vacant self.old k start count }
+        requires single { tier_for self.old.tiers 1 ≡ Some 0 }
         requires ready { IsReady self.old.tiers k count }
         requires place { place ≤ count }
         ensures tier { MatchOption (tier_lacking self.old.tiers k count) (result ≡ record { tier = k; start = start })
@@ -24,10 +25,12 @@ impl<S: Slot, A: Allocator> Blocks<S, A> {
             → Sound S.vacant (block result.tier result.start (tier_at self.old.tiers result.tier).size (insert xs place value) ∷ live) self.new }
     {
         if count == 0 {
-            let tier = self.tier_for(1).unwrap();
-            let new = self.take(tier);
+            let new = self.take(0);
             self.insert_within(new, 0, 0, value);
-            return BlockRef { tier, start: new };
+            return BlockRef {
+                tier: 0,
+                start: new,
+            };
         }
         self.insert_into(k, start, count, place, value)
     }

@@ -47,10 +47,14 @@ impl<S: Slot, A: Allocator> Blocks<S, A> {
 
     /// The tier of which a block must be free before a list of `count` values in a block of tier `k` takes one more.
     fn lacking(&self, k: usize, count: u32) -> Option<usize>
-        requires { 0 < count → k < length self.now.tiers }
+        requires tier { 0 < count → k < length self.now.tiers }
+        requires single { tier_for self.now.tiers 1 ≡ Some 0 }
         ensures { result ≡ tier_lacking self.now.tiers k count }
     {
-        if 0 < count && count < self.size_of(k) {
+        if count == 0 {
+            return Some(0);
+        }
+        if count < self.size_of(k) {
             return None;
         }
         self.tier_for(count as usize + 1)

@@ -7,6 +7,7 @@ use Rattle.prefix_trie_table.specs.Store.{Store, IsReady, SameMade, tier_lacking
 use Rattle.prefix_trie_table.proofs.Strings.Bits.{has_bit-is, rank-ones}
 use Rattle.prefix_trie_table.proofs.Strings.BitLists.{rank-within}
 use Rattle.prefix_trie_table.proofs.Insertion.Adding.{entered_as, at_is, has_list, tier_small, added}
+use Rattle.prefix_trie_table.proofs.Blocks.Spending.{single_node}
 use Rattle.prefix_trie_table.proofs.Blocks.Turnovers.{same_turned}
 use Rattle.prefix_trie_table.proofs.table.insertion.add_child.Goals as goal
 
@@ -14,6 +15,9 @@ pub insert_blank-block-requires-clause-holds : goal.insert_blank-block-requires-
 insert_blank-block-requires-clause-holds g c =
     has_list c.args.nodes.now (c.args.at.start + c.args.at.place) c.args.node c.count.result c.requires.stands c.requires.node
     (c.count.ensures ∙ sym (rank-ones c.args.node.child_bitmap 32 (omega arith)))
+
+pub insert_blank-block-requires-clause-single : goal.insert_blank-block-requires-clause-single
+insert_blank-block-requires-clause-single g c = single_node c.args.nodes.now.tiers c.requires.stands.0.hold.sizes_are
 
 pub insert_blank-block-requires-clause-ready : goal.insert_blank-block-requires-clause-ready
 insert_blank-block-requires-clause-ready g c =

@@ -7,6 +7,7 @@ use Rattle.prefix_trie_table.proofs.Strings.Bits.{has_bit-is, rank-ones}
 use Rattle.prefix_trie_table.proofs.Strings.BitLists.{rank-within}
 use Rattle.prefix_trie_table.proofs.Insertion.Adding.{entered_as, at_is, at_values, has_values, tier_small, values_added}
 use Rattle.prefix_trie_table.proofs.Lookup.Locating.{added_seat}
+use Rattle.prefix_trie_table.proofs.Blocks.Spending.{single_cell}
 use Rattle.prefix_trie_table.proofs.Blocks.Turnovers.{same_turned}
 use Rattle.prefix_trie_table.proofs.table.insertion.add_value.Goals as goal
 
@@ -14,6 +15,9 @@ pub insert_at-block-requires-clause-holds : goal.insert_at-block-requires-clause
 insert_at-block-requires-clause-holds g c =
     has_values c.args.nodes.now c.args.cells.now (c.args.at.start + c.args.at.place) c.args.node c.count.result c.requires.stands c.requires.node
     (c.count.ensures ∙ sym (rank-ones c.args.node.value_bitmap 32 (omega arith)))
+
+pub insert_at-block-requires-clause-single : goal.insert_at-block-requires-clause-single
+insert_at-block-requires-clause-single g c = single_cell c.args.cells.now.tiers c.requires.stands.0.holds.cells.sizes_are
 
 pub insert_at-block-requires-clause-ready : goal.insert_at-block-requires-clause-ready
 insert_at-block-requires-clause-ready g c =
