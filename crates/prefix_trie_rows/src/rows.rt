@@ -1,6 +1,7 @@
 //! The rows in order, each with its tables.
 mod addresses;
 mod blocks;
+mod edges;
 mod entries;
 mod equality;
 mod limits;
@@ -56,7 +57,7 @@ pub enum Set {
 }
 
 /// The rows in order, each with its number.
-pub const ROWS: [(u32, Row); 41] = [
+pub const ROWS: [(u32, Row); 43] = [
     (1, &[Table::Ipv4(&lookups::EXACT)]),
     (2, &[Table::Ipv4(&entries::HOST_BITS)]),
     (3, &[Table::Ipv4(&lookups::MATCHES)]),
@@ -144,6 +145,14 @@ pub const ROWS: [(u32, Row); 41] = [
     (38, &[Table::U8(&limits::KEPT_BLOCKS)]),
     (39, &[Table::Set(Set::U8(&sets::ONE_SLOT))]),
     (40, &[Table::Run(2, &runs::UNDER_TWO_SLOTS)]),
+    (
+        41,
+        &[
+            Table::U8(&edges::ENDS_OF_ALL_ONES),
+            Table::U128(&edges::LAST_OF_128_BITS),
+        ],
+    ),
+    (42, &[Table::Ipv4(&edges::EACH_SECOND_KEPT)]),
     (44, &[Table::NarrowKeys(&narrow::ENDS_OF_WIDTHS)]),
     (45, &[Table::Narrow10(&narrow::TWICE_FIVE_BITS)]),
     (

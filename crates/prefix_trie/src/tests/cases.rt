@@ -2,7 +2,7 @@
 mod changes;
 pub mod filling;
 mod lists;
-mod questions;
+pub mod questions;
 
 use crate::tests::cases::changes::{
     clears, copies, empties, inserts, makes, removes, removes_children, retains_from, turns,

@@ -114,3 +114,17 @@ fn one_is_its_copy(alloc: Global) -> Result<bool, Refusal> {
 fn a_map_is_equal_to_its_copy(rt: HostRuntime) {
     assert!(rt; one_is_its_copy(rt.alloc()) == Ok(true));
 }
+
+/// The number of entries of two items at one key, and the value there.
+fn later_of_two(alloc: Global) -> Result<(usize, Option<u64>), Refusal> {
+    let Ok(pairs) = vec![in alloc; ((0_u8, 1_u8), 1_u64), ((0, 1), 2)] else {
+        return Err(Refusal::Memory);
+    };
+    let map = of_pairs(alloc, pairs)?;
+    Ok((map.len(), map.get(&(0, 1)).copied()))
+}
+
+#[test]
+fn the_later_of_two_items_wins(rt: HostRuntime) {
+    assert!(rt; later_of_two(rt.alloc()) == Ok((1, Some(2))));
+}
