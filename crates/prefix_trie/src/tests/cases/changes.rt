@@ -2,8 +2,8 @@
 use crate::tests::cases::lists::{entries_of, gives};
 use crate::tests::cases::questions::{is_same, pair_in, pair_of, value_in};
 use crate::tests::cases::{Entry, Pair, prefix_of};
+use crate::tests::examples::expiry::keep_from;
 use crate::tests::refusing::Refusing;
-use crate::tests::retain::keep_from;
 use crate::{Prefix, PrefixMap, Refusal, Refused};
 use std::alloc::{AllocError, Allocator, Global};
 use std::mem;
