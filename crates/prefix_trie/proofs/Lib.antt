@@ -17,3 +17,4 @@ mod Networks
 mod Joining
 pub mod Modifying
 mod Comparing
+mod Paging

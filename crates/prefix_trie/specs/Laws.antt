@@ -4,6 +4,7 @@ pub mod Lookups
 pub mod Putting
 pub mod Comparing
 pub mod Joining
+pub mod Paging
 pub mod Paths
 pub mod Networks
 pub mod Numbers

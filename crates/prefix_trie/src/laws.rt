@@ -8,6 +8,7 @@ ghost use Rattle.prefix_trie.specs.Laws.Comparing.{EqualLaws};
 ghost use Rattle.prefix_trie.specs.Laws.Joining.{JoinLaws};
 ghost use Rattle.prefix_trie.specs.Laws.Networks.{NetworkLaws};
 ghost use Rattle.prefix_trie.specs.Laws.Numbers.{NumberLaws};
+ghost use Rattle.prefix_trie.specs.Laws.Paging.{PageLaws};
 ghost use Rattle.prefix_trie.specs.Laws.Paths.{PathLaws};
 ghost use Rattle.prefix_trie_bits.specs.Keys.{narrow_width};
 
@@ -36,6 +37,11 @@ pub fn put_laws<P: Prefix, T>()
 /// What a loop leaves that joins the values of one map to those of another, as a sum does, and how its invariant goes on.
 pub fn join_laws<P: Prefix, T>()
     ensures { JoinLaws T P.R.bit_width P.path P.IsFitting P.back }
+{}
+
+/// What is behind the last item that was read of a map, which is how a map is read in pages.
+pub fn page_laws<P: Prefix, T>()
+    ensures { PageLaws T P.R.bit_width P.path P.IsFitting P.back }
 {}
 
 /// Two maps are equal by `==` exactly if their entries are the same, where `==` of prefixes and of values says the same of those. Asks

@@ -8,6 +8,7 @@ pub mod expiry;
 pub mod forwarding;
 pub mod inventory;
 pub mod merge;
+pub mod pages;
 pub mod pruning;
 pub mod ranges;
 pub mod rerouting;

@@ -1,0 +1,76 @@
+-- A list that is read in pages, and what is behind the last item that was read of a listing.
+use Rattle.std.proofs.Common.{◌≡◌, ℕ, ◌+◌, ◌-◌, ◌<◌, ◌≤◌, Bool, List, [], ◌∷◌, ◌++◌, Some, length, take, drop, min, get_or, sym, ap, ◌∙◌, arith, suc, append_assoc, append-nil, length-append}
+use Rattle.std.specs.FinMap.{len-entries}
+use Rattle.std.specs.List.{slice_get}
+use Rattle.std.specs.Option.{unwrap_or}
+use Rattle.std.proofs.lemmas.Option.{slice_get_within, slice_get-get_or}
+use Rattle.std.proofs.lemmas.List.{length-map, length-take, nil_from_length, take_all, take-append-drop}
+use Rattle.std.proofs.lemmas.List.Elements.{All-head, All-same}
+use Rattle.std.proofs.Math.Seq.{drop-cons, take-append_seam}
+use Rattle.std.proofs.Math.ListN.{drop_of_length-le}
+use Rattle.prefix_trie_bits.specs.Keys.{PrefixLaws}
+use Rattle.prefix_trie_bits.specs.Model.Selections.{listing, shown}
+use Rattle.prefix_trie_table.proofs.Blocks.Tilings.{All-append_right}
+use Rattle.prefix_trie_map.proofs.Listed.{listed_fit}
+use Rattle.prefix_trie_map.proofs.Resumed.{resume_laws}
+use Rattle.prefix_trie.specs.Laws.Paging.{PageLaws}
+
+module _ {X : Type 0} (xs : List X) (x : X) (found : slice_get xs (length xs - 1) ≡ Some x) where
+  -- a list ends with its last item
+  ends_so : xs ≡ take (length xs - 1) xs ++ x ∷ []
+  ends_so =
+      let within = slice_get_within xs (length xs - 1) x found in
+      let is : get_or xs (length xs - 1) x ≡ x = some_is (sym (slice_get-get_or xs (length xs - 1) x within) ∙ found) in
+      let none : drop (suc (length xs - 1)) xs ≡ [] = drop_of_length-le xs {i = suc (length xs - 1)} (omega arith) in
+      sym (take-append-drop (length xs - 1) xs) ∙ ap (λ ys. take (length xs - 1) xs ++ ys) (drop-cons xs (length xs - 1) x within ∙ (λ i. is i ∷ none i))
+    where
+      some_is : {a b : X} → Some a ≡ Some b → a ≡ b
+      some_is e = ap (λ o. unwrap_or o x) e
+
+  -- and so does what begins a longer one
+  begins_so : (whole rest : List X) → whole ≡ xs ++ rest → whole ≡ take (length xs - 1) xs ++ x ∷ rest
+  begins_so whole rest is = is ∙ ap (λ ys. ys ++ rest) ends_so ∙ append_assoc (take (length xs - 1) xs) (x ∷ []) rest
+
+-- a list of which the first items are read, in pages
+module _ {X : Type 0} (whole read rest : List X) (begins : whole ≡ read ++ rest) where
+  -- one item more
+  pub read_more : (item : X) (left now : List X) → rest ≡ item ∷ left → now ≡ read ++ item ∷ [] → whole ≡ now ++ left
+  read_more item left now steps is =
+      begins ∙ ap (λ xs. read ++ xs) steps ∙ sym (append_assoc read (item ∷ []) left) ∙ ap (λ xs. xs ++ left) (sym is)
+
+  -- n items were read
+  pub read_so_far : (n : ℕ) → length read ≡ n → read ≡ take n whole
+  read_so_far n many = sym (take-append_seam read rest) ∙ ap (λ k. take k (read ++ rest)) many ∙ ap (take n) (sym begins)
+
+  -- all were read, which are n at most
+  pub read_to_end : (n : ℕ) → rest ≡ [] → length read ≤ n → read ≡ take n whole
+  read_to_end n none far = sym (take_all n read far) ∙ ap (take n) (sym (begins ∙ ap (λ xs. read ++ xs) none ∙ append-nil read))
+
+  -- as many were read as there are
+  pub all_read : length whole ≤ length read → read ≡ whole
+  all_read far =
+      let none : rest ≡ [] = nil_from_length rest (omega (arith, far, ap length begins, length-append read rest)) in
+      sym (begins ∙ ap (λ xs. read ++ xs) none ∙ append-nil read)
+
+module _ {X : Type 0} (whole now : List X) (n : ℕ) (page : now ≡ take n whole) where
+  -- what was read by pages begins the list
+  pub page_begins : whole ≡ now ++ drop n whole
+  page_begins = sym (take-append-drop n whole) ∙ ap (λ xs. xs ++ drop n whole) (sym page)
+
+  -- and less is left than where fewer were read
+  pub page_goes_on : (read size : ℕ) → n ≡ read + size → 0 < size → read < length whole → length whole - length now < length whole - read
+  page_goes_on read size is some short =
+      let many : length now ≡ min n (length whole) = ap length page ∙ length-take n whole in
+      omega (arith, is, some, short, many)
+
+module _ {K P : Type 0} {w : ℕ} {IsKey : K → Type 0} {bits : K → List Bool} {key_of : List Bool → K} {repr_of : P → K} {len_of : P → ℕ} {path : P → List Bool} {IsFitting : P → Type 0} {from_parts : K → ℕ → P} {back : List Bool → P} (laws : PrefixLaws w IsKey bits key_of repr_of len_of path IsFitting from_parts back) where
+  pub page_laws : (T : Type 0) → PageLaws T w path IsFitting back
+  page_laws T = record {
+    last_fits = λ m within read rest last is found.
+        let front = take (length read - 1) read in
+        let listed = All-same (λ e. IsFitting e.0) (front ++ last ∷ rest) (shown back (listing m)) (sym (begins_so read last found (shown back (listing m)) rest is)) (listed_fit laws m within) in
+        All-head (λ e. IsFitting e.0) last rest (All-append_right (λ e. IsFitting e.0) front (last ∷ rest) listed);
+    behind_last = λ m within read rest last is found.
+        (resume_laws laws T).after_iter m within (take (length read - 1) read) last rest (begins_so read last found (shown back (listing m)) rest is);
+    as_many = λ m. length-map (listing m) (λ (e : List Bool × T). (back e.0, e.1)) ∙ sym (len-entries m);
+  }
