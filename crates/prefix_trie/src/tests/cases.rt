@@ -1,7 +1,7 @@
 //! Cases: calls of a map, each beside what it should answer.
-mod changes;
+pub mod changes;
 pub mod filling;
-mod lists;
+pub mod lists;
 pub mod questions;
 
 use crate::tests::cases::changes::{

@@ -4,6 +4,8 @@ ghost use Rattle.std.proofs.Common.{lit≤};
 ghost use Rattle.prefix_trie_bits.specs.Keys.{number_keys};
 ghost use Rattle.prefix_trie_bits.specs.Bits.{number, digits, zeros};
 
+mod edges;
+
 use self::Sample::{Keep, Width, Window};
 use crate::{Ipv4Prefix, Ipv6Prefix, Key, Prefix, Refusal, Refused};
 use std::alloc::Global;

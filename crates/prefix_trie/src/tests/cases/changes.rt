@@ -1,6 +1,6 @@
 //! Cases that change a map.
 use crate::tests::cases::lists::{entries_of, gives};
-use crate::tests::cases::questions::{is_same, pair_in, pair_of, value_in};
+use crate::tests::cases::questions::{has_sums, is_same, pair_in, pair_of, value_in};
 use crate::tests::cases::{Entry, Pair, prefix_of};
 use crate::tests::examples::expiry::keep_from;
 use crate::tests::refusing::Refusing;
@@ -59,6 +59,17 @@ fn answer_of(outcome: Result<Option<u64>, Refusal>, value: u64) -> Answer {
     }
 }
 
+/// Whether a map has these entries and so many nodes, and arrays as long as their blocks.
+pub fn is_as<P: Prefix + Copy, A: Allocator>(
+    map: &PrefixMap<P, u64, A>,
+    old: (&[Entry<P::R>], usize),
+) -> bool {
+    gives(map.iter(), old.0)
+        & (map.len() == old.0.len())
+        & (map.node_count() == old.1)
+        & has_sums(map)
+}
+
 /// Whether the answer of an insertion is as wanted, and the map as it was where that is a refusal.
 fn is_answered<P: Prefix + Copy, A: Allocator>(
     map: &PrefixMap<P, u64, A>,
@@ -66,8 +77,7 @@ fn is_answered<P: Prefix + Copy, A: Allocator>(
     answer: Answer,
     wanted: &Answer,
 ) -> bool {
-    let is_unchanged = gives(map.iter(), old.0) & (map.node_count() == old.1);
-    (answer == *wanted) & (answer.is_ok() | is_unchanged)
+    (answer == *wanted) & (answer.is_ok() | is_as(map, old))
 }
 
 /// Makes an insertion into a map of old entries and nodes, as `inserts` does.
