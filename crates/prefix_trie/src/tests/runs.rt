@@ -1,4 +1,4 @@
-//! A run with each of its requests for memory refused, and a list that is long.
+//! A run with each of its requests for memory refused, the nodes that removals leave, and a list that is long.
 use crate::replay::{Call, Reply, run};
 use crate::tests::cases::questions::has_sums;
 use crate::tests::on_new::on_new;
@@ -154,6 +154,63 @@ fn each_request_of_a_run_refused(rt: HostRuntime) {
     let heap = Refusing::new(rt.alloc());
     assert!(rt; are_refused_in_turn(&heap, 1) == Ok(true));
     assert!(rt; are_refused_in_turn(&heap, u64::MAX) == Ok(true));
+}
+
+/// How many nodes there are once a key of 24 bits is stored, is taken out alone, and with its nodes; once keys of 8, 16 and 7 bits are
+/// stored, those of 8 bits and more are kept, what the key of 16 contains is taken out, and that of 8.
+const NODES_LEFT: [usize; 7] = [5, 5, 1, 5, 4, 2, 1];
+
+/// Runs removals, and counts the nodes behind each.
+fn run_removals<A: Allocator + Clone>(
+    alloc: A,
+    map: &mut Map<A>,
+) -> Result<Vec<Reply<Key, A>, A>, AllocError> {
+    let calls = [
+        Call::Insert((0x0a01_0100, 24), 1),
+        Call::NodeCount,
+        Call::RemoveKeepTree((0x0a01_01ff, 24)),
+        Call::NodeCount,
+        Call::Remove((0x0a01_0100, 24)),
+        Call::NodeCount,
+        Call::Insert((0x0a00_0000, 8), 2),
+        Call::Insert((0x0a01_0000, 16), 3),
+        Call::Insert((0xc000_0000, 7), 4),
+        Call::NodeCount,
+        Call::RetainAtLeast(8),
+        Call::NodeCount,
+        Call::RemoveChildren((0x0a01_ffff, 16)),
+        Call::NodeCount,
+        Call::Remove((0x0aff_ffff, 8)),
+        Call::NodeCount,
+    ];
+    run(alloc, map, &calls)
+}
+
+/// Whether the counts among replies are these, in turn.
+fn has_counts<A: Allocator>(replies: &[Reply<Key, A>], wanted: &[usize]) -> bool {
+    let mut place = 0_usize;
+    for reply in replies {
+        if let Reply::Count(count) = reply {
+            if wanted.get(place) != Some(count) {
+                return false;
+            }
+            place = place.wrapping_add(1);
+        }
+    }
+    place == wanted.len()
+}
+
+/// Whether removals leave so many nodes in a map without entries.
+fn leaves_nodes(map: &mut Map<Global>, alloc: Global) -> bool {
+    match run_removals(alloc, map) {
+        Ok(replies) => has_counts(&replies, &NODES_LEFT),
+        Err(AllocError) => false,
+    }
+}
+
+#[test]
+fn nodes_that_removals_leave(rt: HostRuntime) {
+    assert!(rt; on_new(PrefixMap::new(rt.alloc()), rt.alloc(), leaves_nodes) == Ok(true));
 }
 
 /// How many entries a long list has: a prime, so that multiples of a smaller number come in another order.
