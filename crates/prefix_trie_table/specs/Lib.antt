@@ -14,6 +14,7 @@ pub mod Tables
 pub mod Locations
 pub mod Asked
 pub mod Matching
+pub mod Bulk
 pub mod TableLending
 pub mod Settling
 pub mod Steps
