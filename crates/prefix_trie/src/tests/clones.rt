@@ -89,6 +89,12 @@ fn filled(heap: &Heap) -> Option<Names<&Heap>> {
     if is_filled { Some(names) } else { None }
 }
 
+/// Whether a copy is refused exactly where a request was, with all refused once so many were passed on.
+fn is_refused_from<W: Copied + Drop>(heap: &Heap, copied: &W, passed: u64) -> bool {
+    heap.refuse(passed, u64::MAX);
+    copied.copied().is_err() == (heap.left() < u64::MAX)
+}
+
 /// Copies a map or a walk, which was made with every request refused, with another request refused each time. Answers how many were,
 /// if each copy was refused exactly where one was, and at last both the copy and what was copied give all with every request refused.
 fn refused_in_turn<W: Copied + Drop>(heap: &Heap, copied: W, is_whole: bool) -> Option<u64> {
@@ -97,7 +103,7 @@ fn refused_in_turn<W: Copied + Drop>(heap: &Heap, copied: W, is_whole: bool) -> 
         heap.refuse(passed, 1);
         let answer = copied.copied();
         let was_refused = heap.left() == 0;
-        if answer.is_err() != was_refused {
+        if answer.is_err() != was_refused || !is_refused_from(heap, &copied, passed) {
             return None;
         }
         if let Ok(copy) = answer {
@@ -164,6 +170,14 @@ fn copies_of_values(heap: &Heap) -> Option<u64> {
     refused_in_turn(heap, filled(heap)?.into_values(), true)
 }
 
+/// Of what is left once the first item was taken.
+fn copies_of_rest(heap: &Heap) -> Option<u64> {
+    let mut walk = filled(heap)?.into_iter();
+    let is_first = is_entry(walk.next(), 8, "outer");
+    let requests = refused_in_turn(heap, walk, false)?;
+    is_first.then_some(requests)
+}
+
 /// Three numbers at the same keys.
 const NUMBERS: [((u32, u8), u16); 3] = [
     ((0x0a01_0000, 8), 1),
@@ -191,12 +205,14 @@ fn are_requests(heap: &Heap, numbers: Result<Option<u64>, Refusal>) -> bool {
     let Ok(Some(numbers)) = numbers else {
         return false;
     };
+    let of_two = Some(numbers.wrapping_add(2));
     let requests = Some(numbers.wrapping_add(3));
     (copies_of_map(heap) == requests)
         & (copies_of_part(heap) == requests)
         & (copies_of_items(heap) == requests)
         & (copies_of_keys(heap) == requests)
         & (copies_of_values(heap) == requests)
+        & (copies_of_rest(heap) == of_two)
 }
 
 #[test]

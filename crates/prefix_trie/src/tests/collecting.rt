@@ -72,11 +72,11 @@ fn collected(
     Ok((map.len(), drops.get()))
 }
 
-/// Collects them with another request refused each time. Answers how many were, if each time the refusal was answered, and at last
+/// Collects them with so many requests refused each time, from another one on. Answers how many were, if each time the refusal was answered, and at last
 /// the map has both keys and the value that was there first is dropped; all are dropped in the end.
-fn refused_in_turn(heap: &Refusing<Global>) -> Option<u64> {
+fn refused_in_turn(heap: &Refusing<Global>, refused: u64) -> Option<u64> {
     for passed in 0..MANY {
-        heap.refuse(passed, 1);
+        heap.refuse(passed, refused);
         let drops = Cell::new(0);
         let Ok(pairs) = three(heap.inner(), &drops) else {
             return None;
@@ -85,7 +85,7 @@ fn refused_in_turn(heap: &Refusing<Global>) -> Option<u64> {
         if drops.get() != 3 {
             return None;
         }
-        if heap.left() == 1 {
+        if heap.left() == refused {
             return (answer == Ok((2, 1))).then_some(passed);
         }
         if answer != Err(Refusal::Memory) {
@@ -98,7 +98,8 @@ fn refused_in_turn(heap: &Refusing<Global>) -> Option<u64> {
 #[test]
 fn from_iter_with_each_request_refused_in_turn(rt: HostRuntime) {
     let heap = Refusing::new(rt.alloc());
-    assert!(rt; refused_in_turn(&heap).unwrap_or(0) > 0);
+    assert!(rt; refused_in_turn(&heap, 1).unwrap_or(0) > 0);
+    assert!(rt; refused_in_turn(&heap, u64::MAX).unwrap_or(0) > 0);
 }
 
 /// Whether a map of one entry is equal to its copy.
@@ -113,4 +114,18 @@ fn one_is_its_copy(alloc: Global) -> Result<bool, Refusal> {
 #[test]
 fn a_map_is_equal_to_its_copy(rt: HostRuntime) {
     assert!(rt; one_is_its_copy(rt.alloc()) == Ok(true));
+}
+
+/// The number of entries of two items at one key, and the value there.
+fn later_of_two(alloc: Global) -> Result<(usize, Option<u64>), Refusal> {
+    let Ok(pairs) = vec![in alloc; ((0_u8, 1_u8), 1_u64), ((0, 1), 2)] else {
+        return Err(Refusal::Memory);
+    };
+    let map = of_pairs(alloc, pairs)?;
+    Ok((map.len(), map.get(&(0, 1)).copied()))
+}
+
+#[test]
+fn the_later_of_two_items_wins(rt: HostRuntime) {
+    assert!(rt; later_of_two(rt.alloc()) == Ok((1, Some(2))));
 }

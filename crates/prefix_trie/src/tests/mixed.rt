@@ -1,13 +1,17 @@
-//! Mixed calls, each answer compared with one worked out from a plain sorted list.
-ghost use Rattle.std.specs.Prelude.{◌≤◌};
+//! A long run: calls of all sixteen kinds, and their replies beside those of a plain sorted list.
+ghost use Rattle.std.specs.Prelude.{◌≤◌, All, IfOk};
+ghost use Rattle.prefix_trie.specs.Replay.{IsFittingCall};
 
-use crate::PrefixMap;
 use crate::replay::{Call, Reply, run};
-use crate::tests::on_new::on_new;
+use crate::tests::cases::questions::has_sums;
+use crate::tests::cases::{Pair, prefix_of};
+use crate::{Prefix, PrefixMap, Refusal};
 use std::alloc::{AllocError, Global};
 
-/// How many calls are made.
-pub const CALLS: u64 = 20_000;
+/// How many runs are made, and of how many calls.
+const RUNS: u64 = 100;
+
+const CALLS: u64 = 1_000;
 
 /// A number and a length.
 pub type Key = (u8, u8);
@@ -16,6 +20,14 @@ pub type Key = (u8, u8);
 type Entry = (Key, u64);
 
 type Map = PrefixMap<Key, u64, Global>;
+
+/// What is drawn of a call.
+#[derive(Clone, Copy)]
+struct Draw<K> {
+    kind: u64,
+    at: Pair<K>,
+    is_even: bool,
+}
 
 /// The draw after this one.
 fn drawn(x: u64) -> u64 {
@@ -82,11 +94,142 @@ fn longest(list: &[Entry], asked: Key) -> Option<Entry> {
     last
 }
 
-/// The list without the entry of this key, in the same order.
-fn without(alloc: Global, list: &[Entry], key: Key) -> Result<Vec<Entry>, AllocError> {
+/// How many keys of all eight bits an entry contains. None if all.
+fn addresses(list: &[Entry]) -> Option<u8> {
+    let mut count = 0_u8;
+    for number in 0..256_u16 {
+        if shortest(list, (number as u8, 8)).is_some() {
+            count = count.checked_add(1)?;
+        }
+    }
+    Some(count)
+}
+
+/// One of the thirteen kinds of call that are drawn alike.
+fn other_call<P: Prefix>(which: u64, at: P, inclusive: bool) -> Call<P>
+    requires { P.IsFitting at }
+    ensures { IsFittingCall P.IsFitting result }
+{
+    match which {
+        0 => Call::Get(at),
+        1 => Call::Lpm(at),
+        2 => Call::Spm(at),
+        3 => Call::Remove(at),
+        4 => Call::RemoveKeepTree(at),
+        5 => Call::RemoveChildren(at),
+        6 => Call::Len,
+        7 => Call::NodeCount,
+        8 => Call::AddressCount,
+        9 => Call::List,
+        10 => Call::ListFrom(at, inclusive),
+        11 => Call::Children(at),
+        _ => Call::Cover(at),
+    }
+}
+
+/// The call of a draw, in which an insertion sets this value.
+fn call_of<P: Prefix>(draw: &Draw<P::R>, value: u64) -> Call<P>
+    ensures { IsFittingCall P.IsFitting result }
+{
+    let at = prefix_of::<P>(draw.at);
+    match draw.kind {
+        0..600 => Call::Insert(at, value),
+        600 => Call::Clear,
+        601 => Call::RetainAtLeast(draw.at.1),
+        kind => other_call(kind.wrapping_sub(602) % 13, at, draw.is_even),
+    }
+}
+
+/// The calls of a run, of which the first has this index.
+fn calls_of<P: Prefix>(
+    alloc: Global,
+    draws: &[Draw<P::R>],
+    first: u64,
+) -> Result<Vec<Call<P>>, AllocError>
+    ensures { IfOk result (λ calls. All (IsFittingCall P.IsFitting) calls.items) }
+{
+    let mut calls = Vec::new(alloc);
+    for draw in draws {
+        let index = first.wrapping_add(calls.len() as u64);
+        calls.push(call_of::<P>(draw, index))?;
+    }
+    Ok(calls)
+}
+
+/// The draws of a run.
+fn drawn_run(alloc: Global, x: &mut u64) -> Result<Vec<Draw<u8>>, AllocError> {
+    let mut draws = Vec::new(alloc);
+    for _index in 0..CALLS {
+        let (kind, at) = drawn_call(x);
+        let is_even = at.0 % 2 == 0;
+        draws.push(Draw { kind, at, is_even })?;
+    }
+    Ok(draws)
+}
+
+/// Whether a list that a call asks for has the entry of this key.
+fn selects(call: &Call<Key>, key: Key) -> bool {
+    match call {
+        Call::List => true,
+        Call::ListFrom((number, len), inclusive) => {
+            let from = rank(cleared(*number, *len));
+            from < rank(key) || (*inclusive && from == rank(key))
+        }
+        Call::Children((number, len)) => contains(cleared(*number, *len), key),
+        Call::Cover(at) => contains(key, *at),
+        _ => false,
+    }
+}
+
+/// Whether a list is the one that a call asks for.
+fn are_selected(entries: &[Entry], call: &Call<Key>, list: &[Entry]) -> bool {
+    let mut rest = entries.iter();
+    for entry in list {
+        if selects(call, entry.0) && rest.next() != Some(entry) {
+            return false;
+        }
+    }
+    rest.next().is_none()
+}
+
+/// Whether a reply is that of the list, to which the call was not yet made. Of a count of nodes the list says nothing.
+fn is_reply(reply: &Reply<Key, Global>, call: &Call<Key>, list: &[Entry]) -> bool {
+    match (call, reply) {
+        (Call::Insert(at, _), Reply::Value(value)) => *value == exact(list, *at),
+        (Call::Get(at), Reply::Value(value)) => *value == exact(list, *at),
+        (Call::Remove(at), Reply::Value(value)) => *value == exact(list, *at),
+        (Call::RemoveKeepTree(at), Reply::Value(value)) => *value == exact(list, *at),
+        (Call::Lpm(at), Reply::Match(found)) => *found == longest(list, *at),
+        (Call::Spm(at), Reply::Match(found)) => *found == shortest(list, *at),
+        (Call::Len, Reply::Count(count)) => *count == list.len(),
+        (Call::NodeCount, Reply::Count(count)) => 1 <= *count,
+        (Call::AddressCount, Reply::Addresses(count)) => *count == addresses(list),
+        (Call::RemoveChildren(_), Reply::Done) => true,
+        (Call::RetainAtLeast(_), Reply::Done) => true,
+        (Call::Clear, Reply::Done) => true,
+        (_, Reply::Entries(entries)) => are_selected(entries, call, list),
+        _ => false,
+    }
+}
+
+/// Whether the entry of this key stays as it is.
+fn keeps(call: &Call<Key>, key: Key) -> bool {
+    match call {
+        Call::Insert((number, len), _) => key != cleared(*number, *len),
+        Call::Remove((number, len)) => key != cleared(*number, *len),
+        Call::RemoveKeepTree((number, len)) => key != cleared(*number, *len),
+        Call::RemoveChildren((number, len)) => !contains(cleared(*number, *len), key),
+        Call::RetainAtLeast(len) => *len <= key.1,
+        Call::Clear => false,
+        _ => true,
+    }
+}
+
+/// The list of the entries that stay as they are.
+fn kept(alloc: Global, list: &[Entry], call: &Call<Key>) -> Result<Vec<Entry>, AllocError> {
     let mut left = Vec::new(alloc);
     for entry in list {
-        if entry.0 != key {
+        if keeps(call, entry.0) {
             left.push(*entry)?;
         }
     }
@@ -110,244 +253,65 @@ fn with(alloc: Global, list: &[Entry], added: Entry) -> Result<Vec<Entry>, Alloc
     Ok(all)
 }
 
-/// The list without the entries that the key contains.
-fn outside(alloc: Global, list: &[Entry], asked: Key) -> Result<Vec<Entry>, AllocError> {
-    let key = cleared(asked.0, asked.1);
-    let mut left = Vec::new(alloc);
-    for entry in list {
-        if !contains(key, entry.0) {
-            left.push(*entry)?;
-        }
-    }
-    Ok(left)
-}
-
-/// The entries of at least so many bits.
-fn of_at_least(alloc: Global, list: &[Entry], len: u8) -> Result<Vec<Entry>, AllocError> {
-    let mut left = Vec::new(alloc);
-    for entry in list {
-        if len <= entry.0.1 {
-            left.push(*entry)?;
-        }
-    }
-    Ok(left)
-}
-
-/// An entry with its value copied.
-fn owned(lent: (Key, &u64)) -> Entry {
-    (lent.0, *lent.1)
-}
-
-/// Whether both walks over all give the list.
-fn lists(map: &Map, list: &[Entry]) -> bool {
-    let mut entries = map.iter();
-    let mut keys = map.keys();
-    for entry in list {
-        let parts = (entries.next().map(owned), keys.next());
-        if parts != (Some(*entry), Some(entry.0)) {
-            return false;
-        }
-    }
-    entries.next().is_none() & keys.next().is_none()
-}
-
-/// The entries that contain the key: in listing order, the shortest first.
-fn containing(alloc: Global, list: &[Entry], asked: Key) -> Result<Vec<Entry>, AllocError> {
-    let mut found = Vec::new(alloc);
-    for entry in list {
-        if contains(entry.0, asked) {
-            found.push(*entry)?;
-        }
-    }
-    Ok(found)
-}
-
-/// Whether the walk around a key gives these entries.
-fn gives(map: &Map, expected: &[Entry], asked: Key) -> bool
-    requires { asked.1 ≤ 8 }
-{
-    let mut entries = map.cover(&asked);
-    for entry in expected {
-        if entries.next().map(owned) != Some(*entry) {
-            return false;
-        }
-    }
-    entries.next().is_none()
-}
-
-/// Whether it gives those of the list that contain the key.
-fn covers(alloc: Global, map: &Map, list: &[Entry], asked: Key) -> bool
-    requires { asked.1 ≤ 8 }
-{
-    match containing(alloc, list, asked) {
-        Ok(expected) => gives(map, &expected, asked),
-        Err(AllocError) => false,
+/// The list once a call was made.
+fn changed(alloc: Global, list: &[Entry], call: &Call<Key>) -> Result<Vec<Entry>, AllocError> {
+    let left = kept(alloc, list, call)?;
+    match call {
+        Call::Insert((number, len), value) => with(alloc, &left, (cleared(*number, *len), *value)),
+        _ => Ok(left),
     }
 }
 
-/// How many keys of all eight bits an entry contains. None if all.
-fn addresses(list: &[Entry]) -> Option<u8> {
-    let mut count = 0_u8;
-    for number in 0..256_u16 {
-        if shortest(list, (number as u8, 8)).is_some() {
-            count = count.checked_add(1)?;
-        }
-    }
-    Some(count)
-}
-
-/// Whether the one reply is this count of addresses.
-fn is_count(replies: &[Reply<Key, Global>], wanted: Option<u8>) -> bool {
-    match replies {
-        [Reply::Addresses(count)] => *count == wanted,
-        _ => false,
-    }
-}
-
-/// Whether a run counts the addresses as the list does.
-fn counts_addresses(alloc: Global, map: &mut Map, list: &[Entry]) -> bool {
-    match run(alloc, map, &[Call::AddressCount]) {
-        Ok(replies) => is_count(&replies, addresses(list)),
-        Err(AllocError) => false,
-    }
-}
-
-/// Whether a lookup of an entry answers as the list does.
-fn finds(map: &Map, list: &[Entry], which: u64, asked: Key) -> bool
-    requires { asked.1 ≤ 8 }
-{
-    match which {
-        0 => map.get(&asked).copied() == exact(list, asked),
-        1 => map.get_lpm(&asked).map(owned) == longest(list, asked),
-        _ => map.get_spm(&asked).map(owned) == shortest(list, asked),
-    }
-}
-
-/// Whether a question for a number, a list or a yes is answered as the list does.
-fn tells(alloc: Global, map: &Map, list: &[Entry], which: u64, asked: Key) -> bool
-    requires { asked.1 ≤ 8 }
-{
-    match which {
-        6 => map.len() == list.len(),
-        7 => 1 <= map.node_count(),
-        9 => lists(map, list),
-        10 => covers(alloc, map, list, asked),
-        11 => map.contains_key(&asked) == exact(list, asked).is_some(),
-        _ => map.is_covered(&asked) == shortest(list, asked).is_some(),
-    }
-}
-
-/// Keeps the entries of at least so many bits in a map, by a call of a run. Answers whether that had one reply.
-fn keeps_long(alloc: Global, map: &mut Map, len: u8) -> bool {
-    match run(alloc, map, &[Call::RetainAtLeast(len)]) {
-        Ok(replies) => replies.len() == 1,
-        Err(AllocError) => false,
-    }
-}
-
-/// Whether a call that changes a map answers as the list does, which had this value before.
-fn changes(
-    map: &mut Map,
-    list: &[Entry],
-    which: u64,
-    asked: Key,
-    value: u64,
-    before: Option<u64>,
-) -> bool
-    requires { asked.1 ≤ 8 }
-{
-    match which {
-        3 => map.remove(&asked) == before,
-        4 => map.remove_keep_tree(&asked) == before,
-        5 => {
-            map.remove_children(&asked);
-            map.len() == list.len()
-        }
-        13 => map.insert(asked, value) == Ok(before),
-        _ => {
-            map.clear();
-            map.is_empty()
-        }
-    }
-}
-
-/// The list with this entry in place of that of its key.
-fn with_set(alloc: Global, list: &[Entry], entry: Entry) -> Result<Vec<Entry>, AllocError> {
-    let others = without(alloc, list, entry.0)?;
-    with(alloc, &others, entry)
-}
-
-/// The list once a call was made, in which this is the value that an insertion sets.
-fn changed(
+/// Makes the calls on the list in turn. Answers whether each reply is that of the list.
+fn are_replies(
     alloc: Global,
-    list: &[Entry],
-    which: u64,
-    asked: Key,
-    value: u64,
-) -> Result<Vec<Entry>, AllocError> {
-    let key = cleared(asked.0, asked.1);
-    match which {
-        3 | 4 => without(alloc, list, key),
-        5 => outside(alloc, list, asked),
-        13 => with_set(alloc, list, (key, value)),
-        14 => Ok(Vec::new(alloc)),
-        15 => of_at_least(alloc, list, asked.1),
-        _ => of_at_least(alloc, list, 0),
+    replies: &[Reply<Key, Global>],
+    calls: &[Call<Key>],
+    list: &mut Vec<Entry>,
+) -> Result<bool, AllocError> {
+    for (call, reply) in calls.iter().zip(replies) {
+        if !is_reply(reply, call, list) {
+            return Ok(false);
+        }
+        *list = changed(alloc, list, call)?;
     }
+    Ok(replies.len() == calls.len())
 }
 
-/// Whether a call answers as the list does, which was changed by it and had this value before.
-fn answers(
+/// Makes one run. Answers whether each reply is that of the list, and both arrays are as long as their blocks afterwards.
+fn runs_alike(
     alloc: Global,
     map: &mut Map,
-    list: &[Entry],
-    which: u64,
-    asked: Key,
-    value: u64,
-    before: Option<u64>,
-) -> bool
-    requires { asked.1 ≤ 8 }
+    calls: &[Call<Key>],
+    list: &mut Vec<Entry>,
+) -> Result<bool, AllocError>
+    requires { All (IsFittingCall ⟦<Key as Prefix>⟧.IsFitting) calls.now }
 {
-    match which {
-        0..3 => finds(map, list, which, asked),
-        8 => counts_addresses(alloc, map, list),
-        15 => keeps_long(alloc, map, asked.1),
-        3..6 | 13 | 14 => changes(map, list, which, asked, value, before),
-        _ => tells(alloc, map, list, which, asked),
-    }
+    let replies = run(alloc, map, calls)?;
+    Ok(are_replies(alloc, &replies, calls, list)? & has_sums(map))
 }
 
-/// Which call is made: an insertion is 13, `clear` 14 and `retain` 15.
-fn kind(a: u64) -> u64 {
-    match a {
-        0..600 => 13,
-        600 => 14,
-        601 => 15,
-        _ => a.wrapping_sub(602) % 13,
-    }
-}
-
-/// Makes all calls. Answers whether each was answered as by the list.
-fn answer_alike(alloc: Global, map: &mut Map, list: &mut Vec<Entry>) -> Result<bool, AllocError> {
+/// Draws and makes all runs. Answers whether all replies are those of a list.
+fn all_run_alike(alloc: Global, map: &mut Map) -> Result<bool, AllocError> {
+    let mut list = Vec::new(alloc);
     let mut x = 1;
-    for index in 0..CALLS {
-        let (a, asked) = drawn_call(&mut x);
-        let before = exact(list, asked);
-        *list = changed(alloc, list, kind(a), asked, index)?;
-        if !answers(alloc, map, list, kind(a), asked, index, before) {
+    for number in 0..RUNS {
+        let draws = drawn_run(alloc, &mut x)?;
+        let calls = calls_of::<Key>(alloc, &draws, number.wrapping_mul(CALLS))?;
+        if !runs_alike(alloc, map, &calls, &mut list)? {
             return Ok(false);
         }
     }
-    Ok(true)
+    Ok(!list.is_empty())
 }
 
-/// Whether all calls are answered as by a list, and the map that they leave has its entries.
-fn is_as_a_list(map: &mut Map, alloc: Global) -> bool {
-    let mut list = Vec::new(alloc);
-    (answer_alike(alloc, map, &mut list) == Ok(true)) & lists(map, &list)
+/// The same of a new map.
+fn all_run_alike_anew(alloc: Global) -> Result<bool, Refusal> {
+    let mut map = PrefixMap::new(alloc)?;
+    Ok(all_run_alike(alloc, &mut map) == Ok(true))
 }
 
 #[test]
-fn mixed_calls_as_on_a_sorted_list(rt: HostRuntime) {
-    assert!(rt; on_new(PrefixMap::new(rt.alloc()), rt.alloc(), is_as_a_list) == Ok(true));
+fn a_long_run_as_on_a_sorted_list(rt: HostRuntime) {
+    assert!(rt; all_run_alike_anew(rt.alloc()) == Ok(true));
 }

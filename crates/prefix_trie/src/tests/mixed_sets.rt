@@ -1,10 +1,13 @@
 //! Mixed calls of a set, each answer compared with that of a map that is driven by the same list.
 ghost use Rattle.std.specs.Prelude.{◌≤◌};
 
-use crate::tests::mixed::{CALLS, Key, drawn_call};
+use crate::tests::mixed::{Key, drawn_call};
 use crate::tests::on_new::on_new;
 use crate::{Prefix, PrefixMap, PrefixSet, Refusal};
 use std::alloc::Global;
+
+/// How many calls are made.
+const CALLS: u64 = 20_000;
 
 type Map = PrefixMap<Key, u64, Global>;
 

@@ -11,7 +11,7 @@ mod walks;
 use crate::tests::trials::{Table, all_in_turn, all_starved};
 
 /// The tables that are run with each request refused in turn. As a constant the list is half as dear to check as in the test.
-const IN_TURN: [&[Table<'static, u32>]; 8] = [
+const IN_TURN: [&[Table<'static, u32>]; 9] = [
     &growth::NEW,
     &growth::GROWTHS,
     &growth::LIMITS,
@@ -20,6 +20,7 @@ const IN_TURN: [&[Table<'static, u32>]; 8] = [
     &entries::ENTRIES,
     &copies::APART,
     &removals::OFF_THE_WAY,
+    &removals::BY_LENGTH,
 ];
 
 /// Those that are run with every request refused.

@@ -114,3 +114,66 @@ fn what_is_not_taken_is_dropped_with_the_walk(rt: HostRuntime) {
     assert!(rt; dropped(alloc, 2) == Some([(2, 3), (1, 3), (2, 3), (2, 3)]));
     assert!(rt; dropped(alloc, 4) == Some([(3, 3), (1, 3), (3, 3), (3, 3)]));
 }
+
+/// Puts a value that counts at a key. Answers whether it was granted, what was there before having been let go.
+fn put<'a, A: Allocator>(
+    map: &mut PrefixMap<(u8, u8), Counted<'a>, A>,
+    key: (u8, u8),
+    drops: &'a Cell<u64>,
+) -> bool {
+    key.fits() && map.insert(key, Counted { drops }).is_ok()
+}
+
+/// How many are dropped once three are stored and one of them is replaced, one is taken out, and all are cleared.
+fn drops_of_calls<'a, A: Allocator>(
+    map: &mut PrefixMap<(u8, u8), Counted<'a>, A>,
+    drops: &'a Cell<u64>,
+) -> Option<[u64; 4]> {
+    let are_put = put(map, (0, 0), drops) & put(map, (0, 1), drops) & put(map, (0, 8), drops);
+    let first = drops.get();
+    let is_replaced = put(map, (0, 1), drops);
+    let second = drops.get();
+    let_go(map.remove_keep_tree(&(0, 0)));
+    let third = drops.get();
+    map.clear();
+    (are_put & is_replaced).then_some([first, second, third, drops.get()])
+}
+
+/// The same of a new map, and how many are dropped once it is let go.
+fn drops_of_map(alloc: Global) -> Option<([u64; 4], u64)> {
+    let drops = Cell::new(0);
+    let mut map = PrefixMap::new(alloc).ok()?;
+    let during = drops_of_calls::<Global>(&mut map, &drops)?;
+    let_go(map);
+    Some((during, drops.get()))
+}
+
+/// How many are dropped by an insertion that is refused, by letting its value go, and by letting the map go.
+fn drops_of_refused(alloc: Global) -> Option<[u64; 3]> {
+    let drops = Cell::new(0);
+    let mut map = PrefixMap::with_slot_limit(alloc, 1).ok()?;
+    let answer = map.insert((0_u8, 8_u8), Counted { drops: &drops });
+    let first = drops.get();
+    let is_refused = answer.is_err();
+    let_go(answer);
+    let second = drops.get();
+    let_go(map);
+    is_refused.then_some([first, second, drops.get()])
+}
+
+/// How many are dropped with a map that is let go.
+fn drops_of_whole(alloc: Global) -> Option<(u64, u64)> {
+    let drops = Cell::new(0);
+    let map = three(alloc, &drops)?;
+    let before = drops.get();
+    let_go(map);
+    Some((before, drops.get()))
+}
+
+#[test]
+fn each_value_is_dropped_once(rt: HostRuntime) {
+    let alloc = rt.alloc();
+    assert!(rt; drops_of_map(alloc) == Some(([0, 1, 2, 4], 4)));
+    assert!(rt; drops_of_refused(alloc) == Some([0, 1, 1]));
+    assert!(rt; drops_of_whole(alloc) == Some((0, 3)));
+}

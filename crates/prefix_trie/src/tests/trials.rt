@@ -1,7 +1,9 @@
-//! Tables of cases, run with each request for memory refused in turn, or with every one refused.
-use crate::tests::cases::{Case, holds};
+//! Tables of cases, run on maps and on sets: with each request for memory refused in turn, alone or with all behind it, or with every
+//! one refused.
+use crate::tests::cases::{self, Case};
+use crate::tests::keys;
 use crate::tests::refusing::Refusing;
-use crate::{Ipv4Prefix, Prefix, PrefixMap, Refusal};
+use crate::{Ipv4Prefix, Key, Prefix, PrefixMap, PrefixSet, Refusal};
 use std::alloc::{Allocator, Global};
 
 /// More requests than one table makes.
@@ -15,9 +17,9 @@ pub type Table<'a, K> = (&'a [Case<K>], &'a [Case<K>]);
 pub enum Wrong {
     /// At this case of the first part.
     First(usize),
-    /// At this case of the second part, once so many requests were passed on.
-    Then(usize, u64),
-    /// The two maps are refused with ample memory.
+    /// At this case of the second part, once so many requests were passed on and so many refused.
+    Then(usize, u64, u64),
+    /// Refused with ample memory.
     Start(Refusal),
     /// No request could be refused, or too many.
     Requests,
@@ -29,16 +31,63 @@ impl From<Refusal> for Wrong {
     }
 }
 
+/// What a table is run on.
+pub trait Tried<K: Key, A: Allocator + Copy>: Sized + Drop {
+    /// One without entries.
+    fn made(alloc: A) -> Result<Self, Refusal>;
+
+    /// Whether a case holds of it, beside another.
+    fn holds(
+        &mut self,
+        other: &mut Self,
+        heap: &Refusing<Global>,
+        alloc: A,
+        case: &Case<K>,
+    ) -> bool;
+}
+
+impl<P: Prefix + Copy + PartialEq, A: Allocator + Copy> Tried<P::R, A> for PrefixMap<P, u64, A> {
+    fn made(alloc: A) -> Result<Self, Refusal> {
+        PrefixMap::new(alloc)
+    }
+
+    fn holds(
+        &mut self,
+        other: &mut Self,
+        heap: &Refusing<Global>,
+        alloc: A,
+        case: &Case<P::R>,
+    ) -> bool {
+        cases::holds(heap, alloc, self, other, case)
+    }
+}
+
+impl<P: Prefix + Copy + PartialEq, A: Allocator + Copy> Tried<P::R, A> for PrefixSet<P, A> {
+    fn made(alloc: A) -> Result<Self, Refusal> {
+        PrefixSet::new(alloc)
+    }
+
+    fn holds(
+        &mut self,
+        other: &mut Self,
+        heap: &Refusing<Global>,
+        alloc: A,
+        case: &Case<P::R>,
+    ) -> bool {
+        keys::holds(heap, alloc, self, other, case)
+    }
+}
+
 /// The first case that does not hold.
-fn first_wrong<P: Prefix + Copy, A: Allocator + Copy>(
+fn first_wrong<K: Key, A: Allocator + Copy, M: Tried<K, A>>(
     heap: &Refusing<Global>,
     alloc: A,
-    map: &mut PrefixMap<P, u64, A>,
-    other: &mut PrefixMap<P, u64, A>,
-    cases: &[Case<P::R>],
+    tried: &mut M,
+    other: &mut M,
+    cases: &[Case<K>],
 ) -> Option<usize> {
     for (index, case) in cases.iter().enumerate() {
-        if !holds(heap, alloc, map, other, case) {
+        if !tried.holds(other, heap, alloc, case) {
             return Some(index);
         }
     }
@@ -46,57 +95,59 @@ fn first_wrong<P: Prefix + Copy, A: Allocator + Copy>(
 }
 
 /// Runs both parts of a table, the first with ample memory.
-fn plays<P: Prefix + Copy, A: Allocator + Copy>(
+fn plays<K: Key, A: Allocator + Copy, M: Tried<K, A>>(
     heap: &Refusing<Global>,
     alloc: A,
-    map: &mut PrefixMap<P, u64, A>,
-    other: &mut PrefixMap<P, u64, A>,
-    table: &Table<'_, P::R>,
+    tried: &mut M,
+    other: &mut M,
+    table: &Table<'_, K>,
     requests: (u64, u64),
 ) -> Result<(), Wrong> {
     heap.refuse(0, 0);
-    if let Some(case) = first_wrong(heap, alloc, map, other, table.0) {
+    if let Some(case) = first_wrong(heap, alloc, tried, other, table.0) {
         return Err(Wrong::First(case));
     }
     heap.refuse(requests.0, requests.1);
-    match first_wrong(heap, alloc, map, other, table.1) {
-        Some(case) => Err(Wrong::Then(case, requests.0)),
+    match first_wrong(heap, alloc, tried, other, table.1) {
+        Some(case) => Err(Wrong::Then(case, requests.0, requests.1)),
         None => Ok(()),
     }
 }
 
-/// The same of a map and a new one beside it.
-fn plays_beside<P: Prefix + Copy, A: Allocator + Copy>(
+/// The same of one and a new one beside it.
+fn plays_beside<K: Key, A: Allocator + Copy, M: Tried<K, A>>(
     heap: &Refusing<Global>,
     alloc: A,
-    map: &mut PrefixMap<P, u64, A>,
-    table: &Table<'_, P::R>,
+    tried: &mut M,
+    table: &Table<'_, K>,
     requests: (u64, u64),
 ) -> Result<(), Wrong> {
-    let mut other = PrefixMap::new(alloc)?;
-    plays(heap, alloc, map, &mut other, table, requests)
+    let mut other = M::made(alloc)?;
+    plays(heap, alloc, tried, &mut other, table, requests)
 }
 
-/// The same of two new maps.
-fn plays_anew<P: Prefix + Copy, A: Allocator + Copy>(
+/// The same of two new ones.
+fn plays_anew<K: Key, A: Allocator + Copy, M: Tried<K, A>>(
     heap: &Refusing<Global>,
     alloc: A,
-    table: &Table<'_, P::R>,
+    table: &Table<'_, K>,
     requests: (u64, u64),
 ) -> Result<(), Wrong> {
     heap.refuse(0, 0);
-    let mut map = PrefixMap::new(alloc)?;
-    plays_beside::<P, A>(heap, alloc, &mut map, table, requests)
+    let mut tried = M::made(alloc)?;
+    plays_beside::<K, A, M>(heap, alloc, &mut tried, table, requests)
 }
 
-/// Runs a table time and again, with another request of its second part refused each time, and at last with none.
-pub fn in_turn<P: Prefix + Copy>(
+/// Runs a table time and again, with so many requests of its second part refused each time, from another one on, and at last with none.
+fn refused_in_turn<K: Key, A: Allocator + Copy, M: Tried<K, A>>(
     heap: &Refusing<Global>,
-    table: &Table<'_, P::R>,
+    alloc: A,
+    table: &Table<'_, K>,
+    refused: u64,
 ) -> Result<(), Wrong> {
     for passed in 0..MANY {
-        plays_anew::<P, &Refusing<Global>>(heap, heap, table, (passed, 1))?;
-        if heap.left() == 1 {
+        plays_anew::<K, A, M>(heap, alloc, table, (passed, refused))?;
+        if heap.left() == refused {
             return if passed == 0 {
                 Err(Wrong::Requests)
             } else {
@@ -107,26 +158,109 @@ pub fn in_turn<P: Prefix + Copy>(
     Err(Wrong::Requests)
 }
 
-/// Runs a table with every request of its second part refused.
-pub fn without_memory<P: Prefix + Copy>(
+/// Runs a table with each request of its second part refused in turn: it alone, and with all behind it.
+fn both_refused_in_turn<K: Key, A: Allocator + Copy, M: Tried<K, A>>(
     heap: &Refusing<Global>,
-    table: &Table<'_, P::R>,
+    alloc: A,
+    table: &Table<'_, K>,
 ) -> Result<(), Wrong> {
-    plays_anew::<P, &Refusing<Global>>(heap, heap, table, (0, u64::MAX))
+    refused_in_turn::<K, A, M>(heap, alloc, table, 1)?;
+    refused_in_turn::<K, A, M>(heap, alloc, table, u64::MAX)
+}
+
+/// Runs a table with every request of its second part refused.
+fn all_refused<K: Key, A: Allocator + Copy, M: Tried<K, A>>(
+    heap: &Refusing<Global>,
+    alloc: A,
+    table: &Table<'_, K>,
+) -> Result<(), Wrong> {
+    plays_anew::<K, A, M>(heap, alloc, table, (0, u64::MAX))
 }
 
 /// Runs a table with every request of its second part refused, where none comes. Those of the first are refused in turn before.
-pub fn starved<P: Prefix + Copy>(
+fn none_asked<K: Key, A: Allocator + Copy, M: Tried<K, A>>(
     heap: &Refusing<Global>,
-    table: &Table<'_, P::R>,
+    alloc: A,
+    table: &Table<'_, K>,
 ) -> Result<(), Wrong> {
-    in_turn::<P>(heap, &(&[], table.0))?;
-    without_memory::<P>(heap, table)?;
+    both_refused_in_turn::<K, A, M>(heap, alloc, &(&[], table.0))?;
+    all_refused::<K, A, M>(heap, alloc, table)?;
     if heap.left() == u64::MAX {
         Ok(())
     } else {
         Err(Wrong::Requests)
     }
+}
+
+/// Runs a table on maps in memory of an allocator, with each request of its second part refused in turn.
+fn on_maps<P: Prefix + Copy + PartialEq, A: Allocator + Copy>(
+    heap: &Refusing<Global>,
+    alloc: A,
+    table: &Table<'_, P::R>,
+) -> Result<(), Wrong> {
+    both_refused_in_turn::<P::R, A, PrefixMap<P, u64, A>>(heap, alloc, table)
+}
+
+/// The same on sets.
+fn on_sets<P: Prefix + Copy + PartialEq, A: Allocator + Copy>(
+    heap: &Refusing<Global>,
+    alloc: A,
+    table: &Table<'_, P::R>,
+) -> Result<(), Wrong> {
+    both_refused_in_turn::<P::R, A, PrefixSet<P, A>>(heap, alloc, table)
+}
+
+/// Runs a table on a map and on a set, with every request of its second part refused.
+fn on_none<P: Prefix + Copy + PartialEq, A: Allocator + Copy>(
+    heap: &Refusing<Global>,
+    alloc: A,
+    table: &Table<'_, P::R>,
+) -> Result<(), Wrong> {
+    all_refused::<P::R, A, PrefixMap<P, u64, A>>(heap, alloc, table)?;
+    all_refused::<P::R, A, PrefixSet<P, A>>(heap, alloc, table)
+}
+
+/// The same, where none comes.
+fn asks_none<P: Prefix + Copy + PartialEq, A: Allocator + Copy>(
+    heap: &Refusing<Global>,
+    alloc: A,
+    table: &Table<'_, P::R>,
+) -> Result<(), Wrong> {
+    none_asked::<P::R, A, PrefixMap<P, u64, A>>(heap, alloc, table)?;
+    none_asked::<P::R, A, PrefixSet<P, A>>(heap, alloc, table)
+}
+
+/// Runs a table on maps, with each request of its second part refused in turn.
+pub fn maps_in_turn<P: Prefix + Copy + PartialEq>(
+    heap: &Refusing<Global>,
+    table: &Table<'_, P::R>,
+) -> Result<(), Wrong> {
+    on_maps::<P, &Refusing<Global>>(heap, heap, table)
+}
+
+/// The same on maps and on sets.
+pub fn in_turn<P: Prefix + Copy + PartialEq>(
+    heap: &Refusing<Global>,
+    table: &Table<'_, P::R>,
+) -> Result<(), Wrong> {
+    on_maps::<P, &Refusing<Global>>(heap, heap, table)?;
+    on_sets::<P, &Refusing<Global>>(heap, heap, table)
+}
+
+/// Runs it with every request of its second part refused.
+pub fn without_memory<P: Prefix + Copy + PartialEq>(
+    heap: &Refusing<Global>,
+    table: &Table<'_, P::R>,
+) -> Result<(), Wrong> {
+    on_none::<P, &Refusing<Global>>(heap, heap, table)
+}
+
+/// The same, where none comes.
+pub fn starved<P: Prefix + Copy + PartialEq>(
+    heap: &Refusing<Global>,
+    table: &Table<'_, P::R>,
+) -> Result<(), Wrong> {
+    asks_none::<P, &Refusing<Global>>(heap, heap, table)
 }
 
 /// Runs tables at networks and at pairs.

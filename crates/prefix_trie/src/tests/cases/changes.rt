@@ -1,6 +1,6 @@
 //! Cases that change a map.
 use crate::tests::cases::lists::{entries_of, gives};
-use crate::tests::cases::questions::{is_same, pair_in, pair_of, value_in};
+use crate::tests::cases::questions::{has_sums, is_same, pair_in, pair_of, value_in};
 use crate::tests::cases::{Entry, Pair, prefix_of};
 use crate::tests::refusing::Refusing;
 use crate::tests::retain::keep_from;
@@ -48,6 +48,7 @@ pub fn makes<P: Prefix + Copy, A: Allocator + Copy>(
     if heap.left() == left {
         return replaces(map, answer);
     }
+    heap.refuse(0, 0);
     (answer.err() == Some(Refusal::Memory)) & replaces(map, made(alloc, limit))
 }
 
@@ -59,6 +60,17 @@ fn answer_of(outcome: Result<Option<u64>, Refusal>, value: u64) -> Answer {
     }
 }
 
+/// Whether a map has these entries and so many nodes, and arrays as long as their blocks.
+pub fn is_as<P: Prefix + Copy, A: Allocator>(
+    map: &PrefixMap<P, u64, A>,
+    old: (&[Entry<P::R>], usize),
+) -> bool {
+    gives(map.iter(), old.0)
+        & (map.len() == old.0.len())
+        & (map.node_count() == old.1)
+        & has_sums(map)
+}
+
 /// Whether the answer of an insertion is as wanted, and the map as it was where that is a refusal.
 fn is_answered<P: Prefix + Copy, A: Allocator>(
     map: &PrefixMap<P, u64, A>,
@@ -66,8 +78,7 @@ fn is_answered<P: Prefix + Copy, A: Allocator>(
     answer: Answer,
     wanted: &Answer,
 ) -> bool {
-    let is_unchanged = gives(map.iter(), old.0) & (map.node_count() == old.1);
-    (answer == *wanted) & (answer.is_ok() | is_unchanged)
+    (answer == *wanted) & (answer.is_ok() | is_as(map, old))
 }
 
 /// Makes an insertion into a map of old entries and nodes, as `inserts` does.
@@ -84,6 +95,7 @@ fn inserts_into<P: Prefix + Copy, A: Allocator>(
         return is_answered(map, old, answer, wanted);
     }
     let is_refused = is_answered(map, old, answer, &answer_of(Err(Refusal::Memory), added.1));
+    heap.refuse(0, 0);
     let again = map.insert(prefix_of(added.0), added.1);
     is_refused & is_answered(map, old, again, wanted)
 }
@@ -141,13 +153,21 @@ pub fn retains_from<P: Prefix + Copy, A: Allocator>(
     true
 }
 
+pub fn retains_long<P: Prefix + Copy, A: Allocator>(
+    map: &mut PrefixMap<P, u64, A>,
+    len: u8,
+) -> bool {
+    map.retain(move |prefix, _| len <= prefix.prefix_len());
+    true
+}
+
 pub fn clears<P: Prefix + Copy, A: Allocator>(map: &mut PrefixMap<P, u64, A>) -> bool {
     map.clear();
     map.is_empty()
 }
 
 /// Puts a copy in place of a map, and answers whether it is the same as its source.
-fn replaces_same<P: Prefix + Copy, A: Allocator>(
+fn replaces_same<P: Prefix + Copy + PartialEq, A: Allocator>(
     map: &PrefixMap<P, u64, A>,
     other: &mut PrefixMap<P, u64, A>,
     answer: Result<PrefixMap<P, u64, A>, AllocError>,
@@ -162,7 +182,7 @@ fn replaces_same<P: Prefix + Copy, A: Allocator>(
 }
 
 /// Puts a copy of a map in place of the other. Answers whether it was refused where a request was, and only there.
-pub fn copies<P: Prefix + Copy, A: Allocator + Copy>(
+pub fn copies<P: Prefix + Copy + PartialEq, A: Allocator + Copy>(
     heap: &Refusing<Global>,
     map: &PrefixMap<P, u64, A>,
     other: &mut PrefixMap<P, u64, A>,
@@ -172,6 +192,7 @@ pub fn copies<P: Prefix + Copy, A: Allocator + Copy>(
     if heap.left() == left {
         return replaces_same(map, other, answer);
     }
+    heap.refuse(0, 0);
     answer.is_err() & replaces_same(map, other, map.clone())
 }
 

@@ -1,13 +1,16 @@
 //! Cases of entries: what fills one, changes one and takes one out.
 use crate::map::Entry;
-use crate::tests::cases::{Pair, prefix_of};
+use crate::tests::cases::changes::is_as;
+use crate::tests::cases::lists::entries_of;
+use crate::tests::cases::{Entry as Stored, Pair, prefix_of};
 use crate::tests::refusing::Refusing;
 use crate::{Prefix, PrefixMap, Refusal, Refused};
-use std::alloc::{Allocator, Global};
+use std::alloc::{AllocError, Allocator, Global};
 
 /// The calls that fill an entry: of `Entry`, and of `VacantEntry`.
 #[derive(Clone, Copy)]
 pub enum Fill {
+    Put,
     OrInsert,
     OrInsertWith,
     OrDefault,
@@ -32,6 +35,18 @@ fn made(answer: Result<&mut u64, Refusal>, value: u64, calls: u64) -> Filled {
     match answer {
         Ok(value) => (Ok(*value), calls),
         Err(cause) => (Err((cause, value)), calls),
+    }
+}
+
+/// The value that `put` handed in, where the entry was vacant, or a refusal that hands it back.
+fn put<P: Prefix, A: Allocator>(
+    map: &mut PrefixMap<P, u64, A>,
+    at: Pair<P::R>,
+    value: u64,
+) -> Filled {
+    match map.entry(prefix_of(at)).put(value).answer() {
+        Ok(before) => (Ok(before.unwrap_or(value)), 0),
+        Err(refused) => (Err((refused.cause, refused.value)), 0),
     }
 }
 
@@ -86,6 +101,7 @@ fn filled<P: Prefix, A: Allocator>(
     value: u64,
 ) -> Filled {
     match fill {
+        Fill::Put => put(map, at, value),
         Fill::OrInsert => handed(map.entry(prefix_of(at)).or_insert(value)),
         Fill::OrInsertWith => or_insert_with(map, at, value),
         Fill::OrDefault => made(map.entry(prefix_of(at)).or_default(), value, 0),
@@ -102,25 +118,41 @@ fn calls_of(fill: Fill) -> u64 {
     }
 }
 
+/// Fills a vacant entry of a map of old entries and nodes, as `fills` does.
+fn fills_in<P: Prefix + Copy, A: Allocator>(
+    heap: &Refusing<Global>,
+    map: &mut PrefixMap<P, u64, A>,
+    old: (&[Stored<P::R>], usize),
+    fill: Fill,
+    added: Stored<P::R>,
+) -> bool {
+    let (at, value) = added;
+    let left = heap.left();
+    let answer = filled(map, fill, at, value);
+    if heap.left() == left {
+        return answer == (Ok(value), calls_of(fill));
+    }
+    let is_unchanged = is_as(map, old);
+    heap.refuse(0, 0);
+    is_unchanged
+        & (answer == (Err((Refusal::Memory, value)), 0))
+        & (filled(map, fill, at, value) == (Ok(value), calls_of(fill)))
+}
+
 /// Fills a vacant entry, and once more where a request was refused: then no closure was called, the value came back, and the map
-/// is as long as it was and has as many nodes.
-pub fn fills<P: Prefix, A: Allocator>(
+/// has the entries and the nodes that it had.
+pub fn fills<P: Prefix + Copy, A: Allocator>(
     heap: &Refusing<Global>,
     map: &mut PrefixMap<P, u64, A>,
     fill: Fill,
     at: Pair<P::R>,
     value: u64,
 ) -> bool {
-    let old = (map.len(), map.node_count());
-    let left = heap.left();
-    let answer = filled(map, fill, at, value);
-    if heap.left() == left {
-        return answer == (Ok(value), calls_of(fill));
+    let nodes = map.node_count();
+    match entries_of(heap.inner(), map) {
+        Ok(old) => fills_in(heap, map, (&old, nodes), fill, (at, value)),
+        Err(AllocError) => false,
     }
-    let is_unchanged = (map.len(), map.node_count()) == old;
-    is_unchanged
-        & (answer == (Err((Refusal::Memory, value)), 0))
-        & (filled(map, fill, at, value) == (Ok(value), calls_of(fill)))
 }
 
 /// Takes a stored value out by its entry.
@@ -135,7 +167,8 @@ pub fn takes_out<P: Prefix, A: Allocator>(
     }
 }
 
-/// Reads a stored value by its entry, adds one to it, finds it filled, and sets it to another.
+/// Calls all that finds an occupied entry, which takes none out: each has the value that the one before it left, and no closure
+/// that fills is called. The last sets it to another.
 pub fn changes<P: Prefix, A: Allocator>(
     map: &mut PrefixMap<P, u64, A>,
     at: Pair<P::R>,
@@ -143,13 +176,17 @@ pub fn changes<P: Prefix, A: Allocator>(
     before: u64,
 ) -> bool {
     let more = before.saturating_add(1);
-    let stored = map.entry(prefix_of(at)).get().copied();
-    (stored == Some(before))
+    (reads(map, at) == Some(before))
         & (adds_one(map, at) == (Ok(more), 0))
-        & (sets(map, at, value) == Some(more))
+        & (put(map, at, before) == (Ok(more), 0))
+        & (filled(map, Fill::OrInsert, at, value) == (Ok(before), 0))
+        & (filled(map, Fill::OrInsertWith, at, value) == (Ok(before), 0))
+        & (filled(map, Fill::OrDefault, at, value) == (Ok(before), 0))
+        & (sets(map, at, value) == Some(before))
         & (writes_in(map, at) == Some(value))
 }
 
+/// Adds one by `and_modify`, which finds the entry filled.
 fn adds_one<P: Prefix, A: Allocator>(map: &mut PrefixMap<P, u64, A>, at: Pair<P::R>) -> Filled {
     handed(
         map.entry(prefix_of(at))
@@ -158,6 +195,19 @@ fn adds_one<P: Prefix, A: Allocator>(map: &mut PrefixMap<P, u64, A>, at: Pair<P:
     )
 }
 
+/// Reads a stored value by each call of its entry that reads, if it has the length asked for.
+fn reads<P: Prefix, A: Allocator>(map: &mut PrefixMap<P, u64, A>, at: Pair<P::R>) -> Option<u64> {
+    let first = map.entry(prefix_of(at)).get().copied();
+    match map.entry(prefix_of(at)) {
+        Entry::Occupied(entry) => {
+            let is_same = (entry.key().prefix_len() == at.1) & (first == Some(*entry.get()));
+            is_same.then_some(*entry.get())
+        }
+        Entry::Vacant(_) => None,
+    }
+}
+
+/// Sets a stored value by its entry, and answers the one that was there.
 fn sets<P: Prefix, A: Allocator>(
     map: &mut PrefixMap<P, u64, A>,
     at: Pair<P::R>,
@@ -169,12 +219,29 @@ fn sets<P: Prefix, A: Allocator>(
     }
 }
 
+/// Reads it where it may be written, by `get_mut` of the entry.
+fn lent_by_entry<P: Prefix, A: Allocator>(
+    map: &mut PrefixMap<P, u64, A>,
+    at: Pair<P::R>,
+) -> Option<u64> {
+    let mut entry = map.entry(prefix_of(at));
+    match entry.get_mut() {
+        Some(value) => Some(*value),
+        None => None,
+    }
+}
+
+/// The same, and by `get_mut` of the occupied entry and by `into_mut`.
 fn writes_in<P: Prefix, A: Allocator>(
     map: &mut PrefixMap<P, u64, A>,
     at: Pair<P::R>,
 ) -> Option<u64> {
+    let first = lent_by_entry(map, at);
     match map.entry(prefix_of(at)) {
-        Entry::Occupied(entry) => Some(*entry.into_mut()),
+        Entry::Occupied(mut entry) => {
+            let is_same = first == Some(*entry.get_mut());
+            is_same.then_some(*entry.into_mut())
+        }
         Entry::Vacant(_) => None,
     }
 }

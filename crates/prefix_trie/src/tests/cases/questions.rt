@@ -150,6 +150,22 @@ pub fn has_slots<P: Prefix + Copy, A: Allocator>(
     (map.node_slots(), map.cell_slots()) == (nodes, cells)
 }
 
+/// How many slots blocks have.
+fn slots_in(counts: &[BlockCount]) -> usize {
+    let mut slots = 0_usize;
+    for count in counts {
+        let blocks = count.used.wrapping_add(count.free);
+        slots = slots.wrapping_add(count.size.wrapping_mul(blocks));
+    }
+    slots
+}
+
+/// Whether both arrays are as long as their blocks, and the root's slot.
+pub fn has_sums<P: Prefix, A: Allocator>(map: &PrefixMap<P, u64, A>) -> bool {
+    (map.node_slots() == slots_in(&map.node_blocks()).wrapping_add(1))
+        & (map.cell_slots() == slots_in(&map.cell_blocks()))
+}
+
 /// Whether the blocks of a size are so many used and so many free.
 fn has_blocks(counts: &[BlockCount], wanted: BlockCount) -> bool {
     for count in counts {
@@ -179,11 +195,12 @@ pub fn has_cells<P: Prefix + Copy, A: Allocator>(
 }
 
 /// Whether two maps have the same entries, nodes and blocks.
-pub fn is_same<P: Prefix + Copy, A: Allocator>(
+pub fn is_same<P: Prefix + Copy + PartialEq, A: Allocator>(
     map: &PrefixMap<P, u64, A>,
     copy: &PrefixMap<P, u64, A>,
 ) -> bool {
-    gives_same(map.iter(), copy.iter())
+    (*map == *copy)
+        & gives_same(map.iter(), copy.iter())
         & (map.node_count() == copy.node_count())
         & (map.node_blocks() == copy.node_blocks())
         & (map.cell_blocks() == copy.cell_blocks())

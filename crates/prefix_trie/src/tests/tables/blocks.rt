@@ -1,7 +1,7 @@
 //! Free blocks: what takes them with every request for memory refused, and a removal that makes one.
 use crate::tests::cases::Case::{
-    self, CellBlocks, Clears, Covers, Empties, Finds, Inserts, Len, Lists, Makes, NodeBlocks,
-    Nodes, Removes, RemovesChildren, Slots, Writes, WritesLongest,
+    self, Addresses, CellBlocks, Clears, Covers, Empties, Finds, Inserts, Len, Lists, Makes,
+    NodeBlocks, Nodes, Removes, RemovesChildren, Slots, Writes, WritesLongest,
 };
 use crate::tests::cases::Entry;
 use crate::tests::refusing::Refusing;
@@ -159,6 +159,7 @@ pub const AMONG_FREE: [Table<'static, u32>; 2] = [
         &PUT_FIVE,
         &[
             Len(5),
+            Addresses(None),
             Nodes(7),
             Slots(7, 6),
             NodeBlocks(1, 6, 0),

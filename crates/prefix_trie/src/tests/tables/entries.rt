@@ -1,12 +1,13 @@
 //! Entries, with each request for memory refused in turn, and with every one refused.
 use crate::tests::cases::Case::{ChangesEntry, Fills, Inserts, Len, Lists, Nodes, TakesOut};
 use crate::tests::cases::filling::Fill::{
-    Default, Insert, InsertWith, OrDefault, OrInsert, OrInsertWith,
+    Default, Insert, InsertWith, OrDefault, OrInsert, OrInsertWith, Put,
 };
 use crate::tests::trials::Table;
 
 /// A host's seven nodes, by each call that fills an entry; and a value more in a full block.
-pub const ENTRIES: [Table<'static, u32>; 8] = [
+pub const ENTRIES: [Table<'static, u32>; 9] = [
+    (&[], &[Fills(Put, (0, 32), 9), Len(1), Nodes(7)]),
     (&[], &[Fills(OrInsert, (0, 32), 9), Len(1), Nodes(7)]),
     (&[], &[Fills(OrInsertWith, (0, 32), 9), Len(1), Nodes(7)]),
     (&[], &[Fills(OrDefault, (0, 32), 0), Len(1), Nodes(7)]),
