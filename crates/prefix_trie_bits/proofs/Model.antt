@@ -10,11 +10,7 @@ pub mod Matches
 pub mod Listings
 pub mod Halves
 pub mod Outermost
-pub mod Plain
-pub mod Played
-pub mod WorkedRows
-pub mod WorkedFacts
-pub mod Facts
+pub mod Worked
 pub mod Runs
 pub mod Steps
 pub mod Counted

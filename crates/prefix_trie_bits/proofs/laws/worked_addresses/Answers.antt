@@ -1,4 +1,4 @@
-use Rattle.prefix_trie_bits.proofs.Model.WorkedRows.{addresses_hold}
+use Rattle.prefix_trie_bits.proofs.Model.Worked.Rows.{addresses_hold}
 use Rattle.prefix_trie_bits.proofs.laws.worked_addresses.Goals as goal
 
 pub returns : goal.returns

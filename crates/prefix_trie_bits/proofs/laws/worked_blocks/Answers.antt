@@ -1,4 +1,4 @@
-use Rattle.prefix_trie_bits.proofs.Model.Facts.Blocks.{blocks_hold}
+use Rattle.prefix_trie_bits.proofs.Model.Worked.Blocks.{blocks_hold}
 use Rattle.prefix_trie_bits.proofs.laws.worked_blocks.Goals as goal
 
 pub returns : goal.returns

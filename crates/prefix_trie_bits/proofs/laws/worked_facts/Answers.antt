@@ -1,4 +1,4 @@
-use Rattle.prefix_trie_bits.proofs.Model.WorkedFacts.{facts_hold}
+use Rattle.prefix_trie_bits.proofs.Model.Worked.Examples.{facts_hold}
 use Rattle.prefix_trie_bits.proofs.laws.worked_facts.Goals as goal
 
 pub returns : goal.returns

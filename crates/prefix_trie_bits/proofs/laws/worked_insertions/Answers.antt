@@ -1,4 +1,4 @@
-use Rattle.prefix_trie_bits.proofs.Model.Facts.Insertions.{insertions_hold}
+use Rattle.prefix_trie_bits.proofs.Model.Worked.Insertions.{insertions_hold}
 use Rattle.prefix_trie_bits.proofs.laws.worked_insertions.Goals as goal
 
 pub returns : goal.returns

@@ -1,4 +1,4 @@
-use Rattle.prefix_trie_bits.proofs.Model.WorkedRows.{limits_hold}
+use Rattle.prefix_trie_bits.proofs.Model.Worked.Rows.{limits_hold}
 use Rattle.prefix_trie_bits.proofs.laws.worked_limits.Goals as goal
 
 pub returns : goal.returns

@@ -1,4 +1,4 @@
-use Rattle.prefix_trie_bits.proofs.Model.WorkedRows.{removals_hold}
+use Rattle.prefix_trie_bits.proofs.Model.Worked.Rows.{removals_hold}
 use Rattle.prefix_trie_bits.proofs.laws.worked_removals.Goals as goal
 
 pub returns : goal.returns

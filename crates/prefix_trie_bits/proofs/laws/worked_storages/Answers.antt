@@ -1,4 +1,4 @@
-use Rattle.prefix_trie_bits.proofs.Model.Facts.Steps.{steps_hold}
+use Rattle.prefix_trie_bits.proofs.Model.Worked.Steps.{steps_hold}
 use Rattle.prefix_trie_bits.proofs.laws.worked_storages.Goals as goal
 
 pub returns : goal.returns

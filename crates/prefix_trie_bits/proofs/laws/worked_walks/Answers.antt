@@ -1,4 +1,4 @@
-use Rattle.prefix_trie_bits.proofs.Model.WorkedRows.{walks_hold}
+use Rattle.prefix_trie_bits.proofs.Model.Worked.Rows.{walks_hold}
 use Rattle.prefix_trie_bits.proofs.laws.worked_walks.Goals as goal
 
 pub returns : goal.returns

@@ -1,4 +1,4 @@
-use Rattle.prefix_trie_bits.proofs.Model.WorkedRows.{widths_hold}
+use Rattle.prefix_trie_bits.proofs.Model.Worked.Rows.{widths_hold}
 use Rattle.prefix_trie_bits.proofs.laws.worked_widths.Goals as goal
 
 pub returns : goal.returns

@@ -8,7 +8,7 @@ use Rattle.prefix_trie_bits.specs.Rows.Limits.{LimitsHold}
 use Rattle.prefix_trie_bits.specs.Rows.Widths.{WidthsHold}
 use Rattle.prefix_trie_bits.specs.Rows.Addresses.{AddressesHold}
 use Rattle.prefix_trie_bits.proofs.Model.Halves.{halves}
-use Rattle.prefix_trie_bits.proofs.Model.Played.{gives}
+use Rattle.prefix_trie_bits.proofs.Model.Worked.Played.{gives}
 
 pub lookups_hold : LookupsHold
 unfolding digits number begins halves

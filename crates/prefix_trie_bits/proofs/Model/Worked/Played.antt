@@ -2,7 +2,7 @@
 use Rattle.std.proofs.Common.{◌≡◌, ℕ, Bool, List, [], ◌∷◌, map, Option, Some, None, refl, ap, subst}
 use Rattle.prefix_trie_bits.specs.Model.Step.{State, Call, Reply, Refused, Refusal, Run}
 use Rattle.prefix_trie_bits.specs.Rows.Examples.{path_at, back_at, new_map, Row, calls, replies, Gives, LeadsTo}
-use Rattle.prefix_trie_bits.proofs.Model.Plain.{from_new, ends, Shows, Marks, root_mark, calls_of, play_all, end_entries, end_nodes}
+use Rattle.prefix_trie_bits.proofs.Model.Worked.Plain.{from_new, ends, Shows, Marks, root_mark, calls_of, play_all, end_entries, end_nodes}
 
 -- why a call is refused, if it is
 abbrev fate_of : Reply (ℕ × ℕ) ℕ → Option Refusal

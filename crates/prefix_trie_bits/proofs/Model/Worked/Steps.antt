@@ -14,12 +14,12 @@ use Rattle.prefix_trie_bits.specs.Rows.Examples.{path_at, back_at, sets}
 use Rattle.prefix_trie_bits.specs.Facts.Blocks.{none_free}
 use Rattle.prefix_trie_bits.specs.Facts.Insertions.{Blocks, sizes_at, three_slots}
 use Rattle.prefix_trie_bits.specs.Facts.Steps.{two_free, four_free, root_child, root_value, child_value, Takes, KeepsFacts, FilledFacts, StepsHold}
-use Rattle.prefix_trie_bits.proofs.Model.Plain.{Shows, Marks, play, step_at, has-is}
-use Rattle.prefix_trie_bits.proofs.Model.Played.{last_entries, last_marks, leads}
-use Rattle.prefix_trie_bits.proofs.Model.WorkedFacts.{said, own_in, children_in}
+use Rattle.prefix_trie_bits.proofs.Model.Worked.Plain.{Shows, Marks, play, step_at, has-is}
+use Rattle.prefix_trie_bits.proofs.Model.Worked.Played.{last_entries, last_marks, leads}
+use Rattle.prefix_trie_bits.proofs.Model.Worked.Examples.{said, own_in, children_in}
 use Rattle.prefix_trie_bits.proofs.Model.Determined.{same}
-use Rattle.prefix_trie_bits.proofs.Model.Facts.Blocks.{some_is, not_some, unlike, differ, not_in}
-use Rattle.prefix_trie_bits.proofs.Model.Facts.Insertions.{value_needed_in, value-is, values_needed, sizes-is, Sized, listed, InOrder, lacks, neither_more}
+use Rattle.prefix_trie_bits.proofs.Model.Worked.Blocks.{some_is, not_some, unlike, differ, not_in}
+use Rattle.prefix_trie_bits.proofs.Model.Worked.Insertions.{value_needed_in, value-is, values_needed, sizes-is, Sized, listed, InOrder, lacks, neither_more}
 
 -- the entries and the nodes of the map, as lists
 abbrev es8 : Sized

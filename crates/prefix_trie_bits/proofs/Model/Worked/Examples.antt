@@ -16,10 +16,10 @@ use Rattle.prefix_trie_bits.specs.Model.Step.{State}
 use Rattle.prefix_trie_bits.specs.Rows.Examples.{path_at, back_at}
 use Rattle.prefix_trie_bits.specs.Facts.{FactsHold}
 use Rattle.prefix_trie_bits.specs.Facts.Blocks.{at_slot}
-use Rattle.prefix_trie_bits.proofs.Model.Plain.{keys_of, Shows, Marks, needed-is, needed_marks, pruned_marks, marks_not_below, nodes_without_below-is}
+use Rattle.prefix_trie_bits.proofs.Model.Worked.Plain.{keys_of, Shows, Marks, needed-is, needed_marks, pruned_marks, marks_not_below, nodes_without_below-is}
 use Rattle.prefix_trie_bits.proofs.Model.Ordered.{entries-retained}
-use Rattle.prefix_trie_bits.proofs.Model.Played.{leads}
-use Rattle.prefix_trie_bits.proofs.Model.Facts.Blocks.{differ}
+use Rattle.prefix_trie_bits.proofs.Model.Worked.Played.{leads}
+use Rattle.prefix_trie_bits.proofs.Model.Worked.Blocks.{differ}
 
 -- what is said of the lists of a state's entries and nodes
 pub said : {A : Type 0} (f : List (List Bool × ℕ) → Marks → A) (t : State ℕ) {es : List (List Bool × ℕ)} {ns : Marks} → Shows t es ns → f (entries t.entries) (entries t.nodes) ≡ f es ns

@@ -15,10 +15,10 @@ use Rattle.prefix_trie_bits.specs.Model.Step.{State}
 use Rattle.prefix_trie_bits.specs.Rows.Examples.{path_at, full_pairs}
 use Rattle.prefix_trie_bits.specs.Facts.Blocks.{none_free, room_of}
 use Rattle.prefix_trie_bits.specs.Facts.Insertions.{Blocks, by_path, sizes_at, layout_at, with_one, ones_free, lacking, far_children, far_layout, three_slots, InsertionsHold}
-use Rattle.prefix_trie_bits.proofs.Model.Plain.{Shows, Marks}
+use Rattle.prefix_trie_bits.proofs.Model.Worked.Plain.{Shows, Marks}
 use Rattle.prefix_trie_bits.proofs.Model.Ordered.{entries-empty}
-use Rattle.prefix_trie_bits.proofs.Model.Played.{leads}
-use Rattle.prefix_trie_bits.proofs.Model.WorkedFacts.{said, holders_in, parents_in, own_in, children_in}
+use Rattle.prefix_trie_bits.proofs.Model.Worked.Played.{leads}
+use Rattle.prefix_trie_bits.proofs.Model.Worked.Examples.{said, holders_in, parents_in, own_in, children_in}
 
 abbrev pub Sized : Type 0
 Sized = List (List Bool × ℕ)
