@@ -24,3 +24,4 @@ pub mod Skeleton
 pub mod Retaining
 pub mod Copies
 pub mod Walking
+pub mod Moving

@@ -14,6 +14,7 @@ mod insertion;
 mod lending;
 mod lookup;
 mod matching;
+mod moving;
 mod places;
 mod removal;
 pub mod retain;
@@ -304,7 +305,7 @@ impl<T: Drop, A: Allocator, V: Tick> Table<T, A, V> {
     /// upward as `remove` does. Nothing changes where that node is missing. Never refused. It reads the way down and the part
     /// that it takes out. At length 0 it is `clear`.
     #[inline]
-    pub fn remove_children<K: Key>(&mut self, key: K, len: u32, counter: &mut V)
+    pub fn drop_children<K: Key>(&mut self, key: K, len: u32, counter: &mut V)
         requires key { K.IsKey key }
         requires long { len ≤ K.bit_width }
         requires within { AreWithin K.bit_width self.old.entries }

@@ -10,8 +10,8 @@ use Rattle.prefix_trie_table.proofs.Tree.Invariant.{some_table}
 use Rattle.prefix_trie_table.proofs.Removal.PartTaken.{may_ask_all, seen_trie}
 use Rattle.prefix_trie_table.proofs.Blocks.Sizing.{table_sizes, storage_of}
 use Rattle.prefix_trie_table.proofs.Tree.Stated.{all_step, part_step, settles_in}
-use Rattle.prefix_trie_table.proofs.table.Table.remove_children.Given as given
-use Rattle.prefix_trie_table.proofs.table.Table.remove_children.Goals as goal
+use Rattle.prefix_trie_table.proofs.table.Table.drop_children.Given as given
+use Rattle.prefix_trie_table.proofs.table.Table.drop_children.Goals as goal
 
 pub returns-then-len-eq0-clause-step : goal.returns-then-len-eq0-clause-step
 returns-then-len-eq0-clause-step g c =

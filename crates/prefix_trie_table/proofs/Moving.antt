@@ -1,0 +1,3 @@
+-- A second table to which values come.
+pub mod Coming
+pub mod Handed
