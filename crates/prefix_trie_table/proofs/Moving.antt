@@ -1,3 +1,7 @@
 -- A second table to which values come.
 pub mod Coming
+pub mod Putting
+pub mod Valued
+pub mod Counting
+pub mod Second
 pub mod Handed

@@ -1,28 +1,19 @@
 -- A second table whose values come one after another, in listing order. This project's own.
-use Rattle.std.specs.Prelude.{◌≡◌, ℕ, Bool, false, List, [], ◌∷◌, Option, None, Some, slice_set, length}
+use Rattle.std.specs.Prelude.{◌≡◌, ℕ, Bool, List, [], ◌∷◌, Option, length}
 use Rattle.std.specs.FinMap.{len}
 use Rattle.prefix_trie_bits.specs.Model.Step.{State}
 use Rattle.prefix_trie_table.specs.declared.allocator.node.Node.{Node}
-use Rattle.prefix_trie_table.specs.declared.table.seat.Seat.{Seat}
 use Rattle.prefix_trie_table.specs.Locations.{seat_of}
+use Rattle.prefix_trie_table.specs.Slots.{with_cell}
 use Rattle.prefix_trie_table.specs.Store.{Store}
 use Rattle.prefix_trie_table.specs.Tables.{IsTrie}
-use Rattle.prefix_trie_table.specs.Walking.Walks.{KeyedSpot, IsStack, pending, slot_of}
+use Rattle.prefix_trie_table.specs.Walking.Walks.{KeyedSpot, IsStack, pending}
 
 module _ {T : Type 0} where
-  -- the cells with a value in this seat
-  abbrev pub with_cell : Option Seat → T → List (Option T) → List (Option T)
-  with_cell None x cells = cells
-  with_cell (Some seat) x cells = slice_set cells (slot_of seat) (Some x)
-
-  -- the cells with the value of each pair in the seat of its string
-  abbrev pub with_cells : List Node → List (List Bool × T) → List (Option T) → List (Option T)
-  with_cells nodes [] cells = cells
-  with_cells nodes (e ∷ es) cells = with_cells nodes es (with_cell (seat_of nodes e.0) e.1 cells)
-
-  -- the array with them
+  -- the array with the value of each pair in the seat of its string
   abbrev pub filled_with : List Node → List (List Bool × T) → Store (Option T) → Store (Option T)
-  filled_with nodes es w = record w { slots = with_cells nodes es w.slots }
+  filled_with nodes [] w = w
+  filled_with nodes (e ∷ es) w = filled_with nodes es (with_cell w (seat_of nodes e.0) e.1)
 
   module _ {K : Type 0} (IsKey : K → Type 0) (bits : K → List Bool) (width : ℕ) where
     -- with these values the arrays are a table of these entries and nodes, and the spots stand before the seats of just them, in order

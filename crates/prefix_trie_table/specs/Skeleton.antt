@@ -1,5 +1,5 @@
 -- A second table before its values come: all its nodes and blocks are laid, and each cell is vacant. This project's own.
-use Rattle.std.specs.Prelude.{◌≡◌, ℕ, ◌<◌, ◌≤◌, ◌⊎◌, Bool, true, ◌&&◌, List, ◌∷◌, flat_map, Option, None, Some, is_some, length}
+use Rattle.std.specs.Prelude.{◌≡◌, ℕ, ◌<◌, ◌≤◌, Bool, true, ◌&&◌, List, ◌∷◌, flat_map, Option, None, Some, is_some, length}
 use Rattle.prefix_trie_bits.specs.Bits.{begins}
 use Rattle.prefix_trie_table.specs.declared.allocator.node.Node.{Node}
 use Rattle.prefix_trie_table.specs.Cells.{node_sizes, cell_sizes}
@@ -40,10 +40,3 @@ module _ {T : Type 0} where
     pub cell_limit : w2.limit ≡ v.limit
     pub nodes_within : length v2.slots ≤ v.limit
     pub cells_within : length w2.slots ≤ v.limit
-
--- such arrays would be longer than the limit of v
-pub record PassesLimit (T : Type 0) (q : List Bool) (v : Store Node) : Type 0 where
-  pub node_array : Store Node
-  pub cell_array : Store (Option T)
-  pub skeleton : IsSkeleton q v node_array cell_array
-  pub longer : (v.limit < length node_array.slots) ⊎ (v.limit < length cell_array.slots)

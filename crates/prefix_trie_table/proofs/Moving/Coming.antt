@@ -1,25 +1,26 @@
 -- The next value comes to a second table.
-use Rattle.std.proofs.Common.{◌≡◌, ℕ, ◌<◌, List, [], ◌∷◌, length, take, set, Bool, Option, None, Some, refl, sym, ap, ◌∙◌, subst, arith}
+use Rattle.std.proofs.Common.{◌≡◌, ℕ, ◌+◌, ◌<◌, List, [], ◌∷◌, length, take, set, Bool, Option, None, Some, refl, sym, ap, ◌∙◌, subst, arith}
 use Rattle.std.proofs.lemmas.List.{length-set}
 use Rattle.std.specs.FinMap.{len}
 use Rattle.prefix_trie_bits.specs.Model.Step.{State}
 use Rattle.prefix_trie_table.specs.declared.allocator.node.Node.{Node}
 use Rattle.prefix_trie_table.specs.declared.table.seat.Seat.{Seat}
 use Rattle.prefix_trie_table.specs.Locations.{seat_of}
-use Rattle.prefix_trie_table.specs.Moving.{with_cell, with_cells, filled_with, Awaits, AwaitsNext, HasCome}
+use Rattle.prefix_trie_table.specs.Moving.{filled_with, Awaits, AwaitsNext, HasCome}
+use Rattle.prefix_trie_table.specs.Slots.{with_cell}
 use Rattle.prefix_trie_table.specs.Store.{Store}
 use Rattle.prefix_trie_table.specs.Tables.{IsTrie}
 use Rattle.prefix_trie_table.specs.Walking.Walks.{Tree, KeyedSpot, IsStack, pending, slot_of, GivesSeat}
 
 module _ {T : Type 0} where
-  long_cell : (o : Option Seat) (x : T) (cells : List (Option T)) → length (with_cell o x cells) ≡ length cells
-  long_cell None x cells = refl
-  long_cell (Some seat) x cells = length-set cells (slot_of seat) (Some x)
+  long_cell : (w : Store (Option T)) (o : Option Seat) (x : T) → length (with_cell w o x).slots ≡ length w.slots
+  long_cell w None x = refl
+  long_cell w (Some seat) x = length-set w.slots (seat.start + seat.place) (Some x)
 
   -- there are as many cells
-  pub long_cells : (nodes : List Node) (es : List (List Bool × T)) (cells : List (Option T)) → length (with_cells nodes es cells) ≡ length cells
-  long_cells nodes [] cells = refl
-  long_cells nodes (e ∷ es) cells = long_cells nodes es (with_cell (seat_of nodes e.0) e.1 cells) ∙ long_cell (seat_of nodes e.0) e.1 cells
+  pub long_cells : (nodes : List Node) (es : List (List Bool × T)) (w : Store (Option T)) → length (filled_with nodes es w).slots ≡ length w.slots
+  long_cells nodes [] w = refl
+  long_cells nodes (e ∷ es) w = long_cells nodes es (with_cell w (seat_of nodes e.0) e.1) ∙ long_cell w (seat_of nodes e.0) e.1
 
   none_left : (e : List Bool × T) (es : List (List Bool × T)) → [] ≡ e ∷ es → ⊥
   none_left e es h = cc
@@ -40,7 +41,7 @@ module _ {T : Type 0} where
       -- its seat is in the array
       pub seat_inside : (qs : List (KeyedSpot K)) (key : K) (size : ℕ) (seat : Seat) →
           GivesSeat IsKey bits width whole_tree key size seat (pending bits shape.entries ps) (pending bits shape.entries qs) → slot_of seat < length w.slots
-      seat_inside qs key size seat h = let inside = h.stands in omega (arith, inside, long_cells v.slots ((q, x) ∷ later) w.slots)
+      seat_inside qs key size seat h = let inside = h.stands in omega (arith, inside, long_cells v.slots ((q, x) ∷ later) w)
 
     module _ (qs : List (KeyedSpot K)) (key : K) (size : ℕ) (seat : Seat)
         (gives : (t : Tree T) → IsTrie width t.count v t.cells t.shape →
@@ -53,7 +54,7 @@ module _ {T : Type 0} where
           let same = same_first (q, x) (take size (bits key), h.value) later (pending bits shape.entries qs) (sym at.come ∙ h.gives.first) in
           let here : seat_of v.slots q ≡ Some seat = ap (seat_of v.slots) same.0 ∙ found in
           let filled : filled_with v.slots ((q, x) ∷ later) w ≡ filled_with v.slots later w2 =
-          ap (λ o. filled_with v.slots later (record w { slots = with_cell o x w.slots })) here ∙ sym (ap (filled_with v.slots later) put) in
+          ap (λ o. filled_with v.slots later (with_cell w o x)) here ∙ sym (ap (filled_with v.slots later) put) in
           record {
             trie = subst (λ (y : Store (Option T)). IsTrie width (len shape.entries) v y shape) filled at.trie;
             stack = stack;
