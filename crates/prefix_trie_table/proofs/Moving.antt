@@ -4,4 +4,4 @@ pub mod Putting
 pub mod Valued
 pub mod Counting
 pub mod Second
-pub mod Handed
+pub mod Moved
