@@ -5,3 +5,4 @@ pub mod Valued
 pub mod Counting
 pub mod Second
 pub mod Moved
+pub mod Packed
