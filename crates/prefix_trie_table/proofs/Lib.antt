@@ -7,3 +7,4 @@ pub mod Insertion
 pub mod Removal
 pub mod Retain
 pub mod Counts
+pub mod HandingOut

@@ -19,6 +19,7 @@ pub mod TableLending
 pub mod Settling
 pub mod Steps
 pub mod Removals
+pub mod HandingOut
 pub mod Retaining
 pub mod Copies
 pub mod Walking
