@@ -20,6 +20,7 @@ pub mod Settling
 pub mod Steps
 pub mod Removals
 pub mod HandingOut
+pub mod Skeleton
 pub mod Retaining
 pub mod Copies
 pub mod Walking
