@@ -5,3 +5,6 @@ pub mod Boughs
 pub mod Sources
 pub mod Ground
 pub mod Fits
+pub mod WayParts
+pub mod Twigs
+pub mod Second

@@ -1,17 +1,17 @@
 -- What is chosen of a node, and below its children.
-use Rattle.std.proofs.Common.{◌≡◌, ℕ, ◌+◌, ◌<◌, ◌≤◌, inl, inr, Bool, true, false, ◌&&◌, List, [], ◌∷◌, ◌++◌, length, Option, None, Some, is_some, refl, sym, ap, ◌∙◌, arith, append_assoc, append-nil}
-use Rattle.std.proofs.lemmas.Bool.{false≢true, cases_Bool}
+use Rattle.std.proofs.Common.{◌≡◌, ℕ, ◌+◌, ◌<◌, ◌≤◌, inl, inr, true, false, ◌&&◌, List, [], ◌∷◌, ◌++◌, length, None, Some, is_some, refl, sym, ap, ◌∙◌, arith, append_assoc, append-nil}
+use Rattle.std.proofs.lemmas.Bool.{cases_Bool}
 use Rattle.prefix_trie_table.specs.declared.allocator.node.Node.{Node}
 use Rattle.prefix_trie_table.specs.Bitmaps.{has_bit}
 use Rattle.prefix_trie_table.specs.Cells.{node_at, node_sizes}
-use Rattle.prefix_trie_table.specs.Forest.{child_slot, child, read_from, has_child, has_value}
+use Rattle.prefix_trie_table.specs.Forest.{child_slot, read_from, has_child, has_value}
 use Rattle.prefix_trie_table.specs.HandingOut.{chosen, IsSource}
 use Rattle.prefix_trie_table.specs.Store.{Store}
 use Rattle.prefix_trie_table.proofs.Strings.Bits.{has_bit-below}
 use Rattle.prefix_trie_table.proofs.Tree.Trees.{child-there, child-missing, child_stands, is_some-Some}
 
 -- no step leads anywhere from nowhere
-read_nothing : (nodes : List Node) (p : List ℕ) → read_from nodes None p ≡ None
+pub read_nothing : (nodes : List Node) (p : List ℕ) → read_from nodes None p ≡ None
 read_nothing nodes [] = refl
 read_nothing nodes (c ∷ p) = read_nothing nodes p
 

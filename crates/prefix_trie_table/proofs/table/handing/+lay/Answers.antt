@@ -1,11 +1,9 @@
-use Rattle.std.proofs.Common.{rules, sym, ap, subst, refl, replicate, None, is_some, ◌∙◌, arith, ◌≡◌, ℕ, ◌+◌, ◌<◌, ◌≤◌, true, List, Option, length, IfOk, ◌-◌, ◌*◌, ◌/◌, ◌%◌, Bool, false, nat_eq, nat_lt, [], ◌∷◌, ◌++◌, slice_index_or, slice_set, bit_and, bit_or, Fits, w8, w32, w64, Bor, MutBor}
-use Rattle.prefix_trie_table.specs.Bitmaps.{has_bit as is_set}
+use Rattle.std.proofs.Common.{rules, sym, ap, subst, refl, replicate, None, is_some, ◌∙◌, arith, ◌≡◌, ◌+◌, ◌≤◌, List, length, ◌-◌, []}
 use Rattle.prefix_trie_table.specs.Laying.{LaysList}
 use Rattle.prefix_trie_table.specs.Forest.{has_child}
 use Rattle.prefix_trie_table.specs.Cells.{node_at, blank_node, node_sizes}
 use Rattle.prefix_trie_table.specs.declared.allocator.node.Node.{Node}
-use Rattle.prefix_trie_table.specs.HandingOut.{chosen, IsSource, IsGround, IsBough, LaysNode, Lays}
-use Rattle.prefix_trie_table.specs.Store.{Store}
+use Rattle.prefix_trie_table.specs.HandingOut.{chosen, IsBough, LaysNode}
 use Rattle.prefix_trie_table.proofs.HandingOut.Boughs.{first, bough_start, bough_grafted, bough_closed, bough_passed, bough_bare, bare_nodes, bare_cells}
 use Rattle.prefix_trie_table.proofs.HandingOut.Ground.{Lays-none, Lays-then, Lays-list, ground_nodes, ground_cells}
 use Rattle.prefix_trie_table.proofs.HandingOut.Fits.{values_fit, children_fit, laid_tier}

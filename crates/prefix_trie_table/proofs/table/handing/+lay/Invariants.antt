@@ -1,4 +1,4 @@
-use Rattle.std.proofs.Common.{◌≡◌, ℕ, ◌+◌, ◌≤◌, length, ◌*◌}
+use Rattle.std.proofs.Common.{◌+◌, ◌≤◌, length, ◌*◌}
 use Rattle.prefix_trie_table.specs.HandingOut.{chosen, IsGround, IsBough, Lays}
 use Rattle.prefix_trie_table.proofs.table.handing.+lay.Given as goal
 
