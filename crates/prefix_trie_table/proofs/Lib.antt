@@ -8,3 +8,4 @@ pub mod Removal
 pub mod Retain
 pub mod Counts
 pub mod Moving
+pub mod HandingOut

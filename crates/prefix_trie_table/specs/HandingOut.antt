@@ -1,9 +1,11 @@
 -- A table that is laid with all its blocks before its values come. This project's own.
 use Rattle.std.specs.Prelude.{◌≡◌, ◌<◌, ◌≤◌, ℕ, Bool, true, false, ◌&&◌, List, [], ◌∷◌, ◌++◌, flat_map, Option, None, Some, is_some, length}
+use Rattle.prefix_trie_bits.specs.Bits.{begins}
 use Rattle.prefix_trie_bits.specs.Model.HandsOut.{packed_block}
 use Rattle.prefix_trie_table.specs.declared.allocator.node.Node.{Node}
 use Rattle.prefix_trie_table.specs.Bitmaps.{has_bit, rank}
 use Rattle.prefix_trie_table.specs.Cells.{blank_node, node_sizes, cell_sizes}
+use Rattle.prefix_trie_table.specs.Digits.{path_of, bit_of}
 use Rattle.prefix_trie_table.specs.Laying.{NoneFree}
 use Rattle.prefix_trie_table.specs.OwnBlocks.{child_block_size, value_block_size}
 use Rattle.prefix_trie_table.specs.Store.{Store, UsedBlock, Sound, Keeps, tier_sizes}
@@ -25,6 +27,11 @@ pub record SomeChosen (chosen : List ℕ → ℕ → Bool) (p : List ℕ) : Type
 -- none is
 abbrev pub NoneChosen : (List ℕ → ℕ → Bool) → Type 0
 NoneChosen chosen = (p : List ℕ) (b : ℕ) → chosen p b ≡ false
+
+-- these are the values of a node and of all below it whose strings t begins, from the node on; the node may be missing
+pub record IsPart (nodes : List Node) (at : Option Node) (t : List Bool) (chosen : List ℕ → ℕ → Bool) : Type 0 where
+  pub values : (s : List Bool) → chosen (path_of s) (bit_of s) ≡ (begins t s && has_value (read_from nodes at (path_of s)) (bit_of s))
+  pub within : (p : List ℕ) (b : ℕ) → chosen p b ≡ true → b < 31
 
 -- a node of an array, below which nodes stand on so many levels at most; values stand at the bits of strings
 pub record IsSource (v : Store Node) (n : Node) (levels : ℕ) : Type 0 where
@@ -96,6 +103,12 @@ module _ {T : Type 0} where
   abbrev pub LaysNode : (List ℕ → ℕ → Bool) → Store Node → Store Node → Store (Option T) → Store (Option T) → Option Node → Type 0
   LaysNode chosen v v2 w w2 None = NothingLaid chosen v v2 w w2
   LaysNode chosen v v2 w w2 (Some n) = IsLaid chosen n v v2 w w2
+
+  -- of a node and all below it were laid those values whose strings t begins, from the node on
+  pub record LaysPart (nodes : List Node) (n : Node) (t : List Bool) (v v2 : Store Node) (w w2 : Store (Option T)) (top : Option Node) : Type 0 where
+    pub chosen : List ℕ → ℕ → Bool
+    pub part : IsPart nodes (Some n) t chosen
+    pub laid : LaysNode chosen v v2 w w2 top
 
   -- arrays of a table's sizes in which something may stand
   pub record IsGround (v : Store Node) (w : Store (Option T)) : Type 0 where

@@ -10,6 +10,7 @@ mod copying;
 mod counting;
 mod cover;
 pub mod cursor;
+mod handing;
 mod insertion;
 mod lending;
 mod lookup;
