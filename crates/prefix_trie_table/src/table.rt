@@ -163,15 +163,15 @@ impl<T: Drop, A: Allocator + Clone, V: Tick> Table<T, A, V> {
             len,
             counter,
         );
-        let count = before - self.count;
+        let second = Table {
+            nodes,
+            cells,
+            count: before - self.count,
+        };
         if len == 0 {
             self.clear();
         }
-        Ok(Table {
-            nodes,
-            cells,
-            count,
-        })
+        Ok(second)
     }
 }
 

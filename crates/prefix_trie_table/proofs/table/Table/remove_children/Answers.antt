@@ -39,8 +39,8 @@ invariant_of-self-inside-2 g c =
     let left = c.move_part-nodes.ensures.removed c.self.inside.shape.0 trie in
     ((_, left.shaped), (table_sizes _ _ (some_table left.table), tt))
 
-pub overflow_sub-count : goal.overflow_sub-count
-overflow_sub-count g c =
+pub overflow_sub-second : goal.overflow_sub-second
+overflow_sub-second g c =
     let trie = seen_trie c.self.inside.shape c.self.invariant c.self.view_is refl c.requires.within c.requires.nodes in
     let left = c.move_part-nodes.ensures.removed c.self.inside.shape.0 trie in
     (rest_counted g.K.Key.bit_width _ c.self.inside.count _ _ c.self.inside.shape.0 (take c.args.len (g.K.Key.bits c.args.key)) left c.self.invariant.sized).0
@@ -55,20 +55,20 @@ invariant_of-self-else-len-eq0 g c =
     let trie = seen_trie c.self.inside.shape c.self.invariant c.self.view_is refl c.requires.within c.requires.nodes in
     table_seen (c.move_part-nodes.ensures.removed c.self.inside.shape.0 trie) c.self-2-1.given.0
 
-pub invariant_of-result : goal.invariant_of-result
-invariant_of-result g c =
+pub invariant_of-second-inside : goal.invariant_of-second-inside
+invariant_of-second-inside g c =
     let trie = seen_trie c.self.inside.shape c.self.invariant c.self.view_is refl c.requires.within c.requires.nodes in
     let handed = c.move_part-nodes.ensures.moved c.self.inside.shape.0 trie in
     ((_, handed.shaped), (table_sizes _ _ (some_table handed.table), tt))
 
-pub invariant_of-result-2 : goal.invariant_of-result-2
-invariant_of-result-2 g c =
+pub invariant_of-second : goal.invariant_of-second
+invariant_of-second g c =
     let trie = seen_trie c.self.inside.shape c.self.invariant c.self.view_is refl c.requires.within c.requires.nodes in
     let left = c.move_part-nodes.ensures.removed c.self.inside.shape.0 trie in
     let handed = c.move_part-nodes.ensures.moved c.self.inside.shape.0 trie in
-    subst (λ n. IsTable c.move_part-nodes.result.0 c.move_part-nodes.result.1 n c.result-1.given.0.0)
+    subst (λ n. IsTable c.move_part-nodes.result.0 c.move_part-nodes.result.1 n c.second-1.given.0.0)
     (rest_counted g.K.Key.bit_width _ c.self.inside.count _ _ c.self.inside.shape.0 (take c.args.len (g.K.Key.bits c.args.key)) left c.self.invariant.sized).1
-    (table_seen handed c.result-1.given.0)
+    (table_seen handed c.second-1.given.0)
 
 pub returns-clause-handed : goal.returns-clause-handed
 returns-clause-handed g c =
@@ -96,17 +96,20 @@ returns-clause-handed g c =
           (part_step i.nodes new.nodes i.cells new.cells _ _ i.shape c.self.invariant i.sizes c.self-2-1.given.0 (table_seen left c.self-2-1.given.0) c.self-2-1.given.1.0
           lasts q (omega (arith, long, w.if-len-eq0.false)) (shape_seen left c.self-2-1.given.0)))
     ] in
-    handed_out (stored now) (c.result-1.given.0.0, storage_of two.0 two.1 c.result-1.given.1.0) (stored c.if-len-eq0.self) q step
-    (subst (λ (m : Contents g.row.T.Denot). c.result-1.given.0.0 ≡ record { entries = part_below m.entries q; nodes = needed (part_below m.entries q) }) c.self.view_is
-    (shape_seen handed c.result-1.given.0))
-    (subst (λ (x : State g.row.T.Denot). IsPacked x (storage_of two.0 two.1 c.result-1.given.1.0)) (sym (shape_seen handed c.result-1.given.0))
+    handed_out (stored now) (c.second-1.given.0.0, storage_of two.0 two.1 c.second-1.given.1.0) (stored c.if-len-eq0.self) q step
+    (subst (λ (m : Contents g.row.T.Denot). c.second-1.given.0.0 ≡ record { entries = part_below m.entries q; nodes = needed (part_below m.entries q) }) c.self.view_is
+    (shape_seen handed c.second-1.given.0))
+    (subst (λ (x : State g.row.T.Denot). IsPacked x (storage_of two.0 two.1 c.second-1.given.1.0)) (sym (shape_seen handed c.second-1.given.0))
     (second_packed g.K.Key.bit_width _ q i.nodes c.in_ok-laid.laid two.0 c.in_ok-laid.vacant two.1 c.in_ok-laid.ensures.laid _ handed
-    c.move_part-nodes.ensures.nodes c.move_part-nodes.ensures.cells c.result-1.given.1.0))
+    c.move_part-nodes.ensures.nodes c.move_part-nodes.ensures.cells c.second-1.given.1.0))
     (second_limit g.K.Key.bit_width _ q i.nodes c.in_ok-laid.laid two.0 c.in_ok-laid.vacant two.1 c.in_ok-laid.ensures.laid _ handed
     c.move_part-nodes.ensures.nodes c.move_part-nodes.ensures.cells ∙ ap (λ (m : Contents g.row.T.Denot). m.room.limit) c.self.view_is)
     handed.table.nodes_within
     (second_cells_within g.K.Key.bit_width _ q i.nodes c.in_ok-laid.laid two.0 c.in_ok-laid.vacant two.1 c.in_ok-laid.ensures.laid _ handed
     c.move_part-nodes.ensures.nodes c.move_part-nodes.ensures.cells)
+
+pub returns-clause-kept : goal.returns-clause-kept
+returns-clause-kept g c = tt
 
 pub returns-clause-settles : goal.returns-clause-settles
 returns-clause-settles g c = λ some.
