@@ -7,3 +7,5 @@ pub mod Insertion
 pub mod Removal
 pub mod Retain
 pub mod Counts
+pub mod Moving
+pub mod HandingOut

@@ -19,6 +19,9 @@ pub mod TableLending
 pub mod Settling
 pub mod Steps
 pub mod Removals
+pub mod HandingOut
+pub mod Skeleton
 pub mod Retaining
 pub mod Copies
 pub mod Walking
+pub mod Moving

@@ -10,10 +10,12 @@ mod copying;
 mod counting;
 mod cover;
 pub mod cursor;
+mod handing;
 mod insertion;
 mod lending;
 mod lookup;
 mod matching;
+mod moving;
 mod places;
 mod removal;
 pub mod retain;
@@ -28,6 +30,7 @@ ghost use Rattle.std.specs.Option.{option_copied};
 ghost use Rattle.std.specs.FinMap.{get, len};
 ghost use Rattle.prefix_trie_bits.specs.Model.Asking.{MayAskInOrder};
 ghost use Rattle.prefix_trie_bits.specs.Model.Entries.{no_entries, AreWithin};
+ghost use Rattle.prefix_trie_bits.specs.Model.HandsOut.{HandsOutInStorage, HandedPassLimit};
 ghost use Rattle.prefix_trie_bits.specs.Model.Matches.{longest_match, shortest_match};
 ghost use Rattle.prefix_trie_bits.specs.Model.Nodes.{root_alone, AreNodes};
 ghost use Rattle.prefix_trie_bits.specs.Model.Selections.{listing, listing_from, listing_after, listing_below};
@@ -44,9 +47,11 @@ use crate::allocator::blocks::{Blocks, cells};
 use crate::allocator::nodes::{NodeAllocator, Tick};
 use crate::table::children::{KeepNothing, remove_part};
 use crate::table::cursor::{Start, walk_at};
+use crate::table::handing::lay_part;
 use crate::table::insertion::insert_entry;
 use crate::table::lookup::find_value;
 use crate::table::matching::{longest_on_way, shortest_on_way, value_of_match};
+use crate::table::moving::move_part;
 use crate::table::removal::{clear_entries, remove_entry, remove_value};
 use crate::table::retain::{Keep, retain_entries};
 use crate::table::walk::walk_of;
@@ -120,6 +125,53 @@ impl<T: Drop, A: Allocator + Clone, V: Tick> Table<T, A, V> {
             cells,
             count: 0,
         })
+    }
+
+    /// Takes out all entries whose keys a bit string begins, as `drop_children` does, and hands them out as a table of their own, which
+    /// has just the nodes that they need, in the smallest blocks that hold them. Its allocator is a clone of this one's, and its limit is
+    /// the same. All room of the second table is asked for before the first value moves: refused, it leaves everything as it was.
+    ///
+    /// ```text
+    /// let part = table.remove_children(key, len, &mut counter)?;    // `table` has the other entries
+    /// ```
+    pub fn remove_children<K: Key>(
+        &mut self,
+        key: K,
+        len: u32,
+        counter: &mut V,
+    ) -> Result<Self, Refusal>
+        requires key { K.IsKey key }
+        requires long { len ≤ K.bit_width }
+        requires within { AreWithin K.bit_width self.old.entries }
+        requires nodes { AreNodes K.bit_width self.old.entries self.old.nodes }
+        ensures handed { IfOk result (λ second. HandsOutInStorage (stored self.old) (take len (K.bits key))
+            (stored second) (stored self.new)) }
+        ensures settles { 0 < len → IfOk result (λ _. SettlesInStorage (storage self.old) (storage self.new)) }
+        ensures kept { IfErr result (λ _. stored self.new ≡ stored self.old) }
+        ensures range { IfErr result (λ cause. cause ≡ IndexRange
+            → HandedPassLimit self.old.entries (take len (K.bits key)) self.old.room.limit) }
+    {
+        let (laid, vacant) = lay_part(&self.nodes, &self.cells, key, len, counter)?;
+        let before = self.count;
+        let (nodes, cells) = move_part(
+            &mut self.nodes,
+            &mut self.cells,
+            &mut self.count,
+            laid,
+            vacant,
+            key,
+            len,
+            counter,
+        );
+        let second = Table {
+            nodes,
+            cells,
+            count: before - self.count,
+        };
+        if len == 0 {
+            self.clear();
+        }
+        Ok(second)
     }
 }
 
@@ -304,7 +356,7 @@ impl<T: Drop, A: Allocator, V: Tick> Table<T, A, V> {
     /// upward as `remove` does. Nothing changes where that node is missing. Never refused. It reads the way down and the part
     /// that it takes out. At length 0 it is `clear`.
     #[inline]
-    pub fn remove_children<K: Key>(&mut self, key: K, len: u32, counter: &mut V)
+    pub fn drop_children<K: Key>(&mut self, key: K, len: u32, counter: &mut V)
         requires key { K.IsKey key }
         requires long { len ≤ K.bit_width }
         requires within { AreWithin K.bit_width self.old.entries }

@@ -90,7 +90,7 @@ module _ {S : Type 0} where
   held_length k start size (x ∷ xs) r e b some none = ap (λ c. cond c 1 0) (some (omega (arith, e)))
 
 -- a sum over the nodes is one over their paths
-nodes_sum : (h : List Bool × Unit {0} → ℕ) (paths : List (List ℕ)) → AreSteps paths → AreOnce paths →
+pub nodes_sum : (h : List Bool × Unit {0} → ℕ) (paths : List (List ℕ)) → AreSteps paths → AreOnce paths →
     sum_by h (entries (nodes_at paths)) ≡ sum_by (λ p. h (string_at p, tt)) paths
 nodes_sum h [] steps once = ap (sum_by h) (entries-empty (Unit {0}))
 nodes_sum h (x ∷ paths) steps once =

@@ -24,7 +24,7 @@ pub has_bit-is : (n b : ℕ) → b < 32 → has_bit n b ≡ has n b
 unfolding has_bit
 has_bit-is n b h = ap (λ t. cond t (has n b) false) (lt-ltb b 32 h)
 
-has_bit-past : (n b : ℕ) → ltb b 32 ≡ false → has_bit n b ≡ false
+pub has_bit-past : (n b : ℕ) → ltb b 32 ≡ false → has_bit n b ≡ false
 unfolding has_bit
 has_bit-past n b h = ap (λ t. cond t (has n b) false) h
 

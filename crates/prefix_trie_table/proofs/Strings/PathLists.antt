@@ -38,7 +38,7 @@ same_paths (p ∷ ps) qs same =
     (IsPermutation-cons p ps (without p qs) (same_paths ps (without p qs) (λ r. let e = same r in let f = times_without p r qs there in omega arith)))
     (IsPermutation-sym qs (p ∷ without p qs) (first_out p qs there))
 
-times-append : (q : List ℕ) (xs ys : List (List ℕ)) → times q (xs ++ ys) ≡ times q xs + times q ys
+pub times-append : (q : List ℕ) (xs ys : List (List ℕ)) → times q (xs ++ ys) ≡ times q xs + times q ys
 times-append q [] ys = omega arith
 times-append q (x ∷ xs) ys = omega (arith, times-append q xs ys)
 

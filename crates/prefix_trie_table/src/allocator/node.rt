@@ -7,7 +7,7 @@ use prefix_trie_bits::node::rank;
 
 /// A node of five levels: which of its 31 strings have a value, which of its 32 children are there, and the blocks where
 /// both stand, each by its first slot and the number of its size. A block's fields say nothing where its bitmap is 0.
-#[derive(Clone, Copy)]
+#[derive(Clone, Copy, Default)]
 pub struct Node {
     pub value_bitmap: u32,
     pub child_bitmap: u32,

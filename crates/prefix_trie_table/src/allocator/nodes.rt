@@ -58,6 +58,16 @@ impl<A: Allocator + Clone, V: Drop> NodeAllocator<A, V> {
         })
     }
 
+    /// A new array under the same limit, in memory of its own. Refused as `new` is.
+    pub fn another(&self) -> Result<Self, Refusal>
+        ensures empty { IfOk result
+            (λ a. a ≡ record { slots = blank_node ∷ []; first = 1; tiers = map no_blocks node_sizes; limit = self.now.limit }) }
+        ensures sound { IfOk result (λ a. Sound blank_node [] a) }
+        ensures range { IfErr result (λ e. (e ≡ IndexRange) ↔ (self.now.limit ≡ 0)) }
+    {
+        NodeAllocator::new(self.blocks.allocator(), self.blocks.limit())
+    }
+
     /// An array with the same root and blocks, in memory of its own. Refused only for memory.
     pub fn clone(&self) -> Result<Self, AllocError>
         ensures same { IfOk result (λ copy. copy ≡ self.now) }

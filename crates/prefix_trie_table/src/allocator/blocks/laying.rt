@@ -9,6 +9,18 @@ use prefix_trie_bits::prefix::Refusal;
 use std::alloc::Allocator;
 
 impl<S: Slot, A: Allocator> Blocks<S, A> {
+    /// Where the array has its memory from.
+    pub fn allocator(&self) -> &A {
+        self.slots.allocator()
+    }
+
+    /// The length that the array never passes.
+    pub fn limit(&self) -> u32
+        ensures { result ≡ self.now.limit }
+    {
+        self.limit
+    }
+
     /// Takes a block of the smallest size that holds `count` items for a list of so many vacant ones, and says where it stands. If none
     /// is free it is made at the array's end. A list of none stands nowhere (tier 0, start 0).
     pub fn lay_vacant(&mut self, count: u32) -> Result<BlockRef, Refusal>

@@ -1,68 +1,127 @@
-use Rattle.std.proofs.Common.{◌≡◌, length, take, refl, sym, ◌∙◌, subst, arith, length-take-le}
-use Rattle.prefix_trie_bits.specs.Model.Entries.{without_below}
-use Rattle.prefix_trie_bits.specs.Model.Nodes.{nodes_without_below}
+use Rattle.std.proofs.Common.{◌≡◌, ℕ, ◌-◌, ◌<◌, List, Bool, length, take, refl, sym, ap, ap₂, ◌∙◌, subst, arith, length-take-le}
+use Rattle.std.specs.FinMap.{len}
+use Rattle.prefix_trie_bits.specs.Model.Entries.{part_below, without_below}
+use Rattle.prefix_trie_bits.specs.Model.HandsOut.{IsPacked}
+use Rattle.prefix_trie_bits.specs.Model.Nodes.{needed, nodes_without_below}
 use Rattle.prefix_trie_bits.specs.Model.Step.{State, RemoveChildren, Done}
 use Rattle.prefix_trie_bits.specs.Model.Storage.{StepOfStrings}
-use Rattle.prefix_trie_table.specs.Shape.{Contents, storage, same_shape}
+use Rattle.prefix_trie_table.specs.Layouts.{Sized-prop}
+use Rattle.prefix_trie_table.specs.Shape.{Contents, Shaped-prop, storage}
 use Rattle.prefix_trie_table.specs.Steps.{stored, SettlesInStorage}
-use Rattle.prefix_trie_table.specs.Tables.{IsTable, IsTrie}
-use Rattle.prefix_trie_table.proofs.Tree.Invariant.{some_table}
-use Rattle.prefix_trie_table.proofs.Removal.PartTaken.{may_ask_all, seen_trie}
+use Rattle.prefix_trie_table.specs.Tables.{IsTable}
 use Rattle.prefix_trie_table.proofs.Blocks.Sizing.{table_sizes, storage_of}
+use Rattle.prefix_trie_table.proofs.Moving.HandedOut.{rest_counted, shape_seen, table_seen, root_slot, clear_behind, handed_out, second_packed, second_limit, second_cells_within}
+use Rattle.prefix_trie_table.proofs.Removal.PartTaken.{seen_trie}
+use Rattle.prefix_trie_table.proofs.Tree.Invariant.{some_table}
 use Rattle.prefix_trie_table.proofs.Tree.Stated.{all_step, part_step, settles_in}
 use Rattle.prefix_trie_table.proofs.table.Table.remove_children.Given as given
 use Rattle.prefix_trie_table.proofs.table.Table.remove_children.Goals as goal
+use Rattle.prefix_trie_table.proofs.table.Table.remove_children.Goals.{then-len-eq0, else-len-eq0}
 
-pub returns-then-len-eq0-clause-step : goal.returns-then-len-eq0-clause-step
-returns-then-len-eq0-clause-step g c =
-    all_step g.K.Key.bit_width (stored c.args.self.now) (stored c.clear.new.self) (take c.args.len (g.K.Key.bits c.args.key))
-    (length-take-le c.args.len (g.K.Key.bits c.args.key) (omega (arith, g.met.K.Key.key_laws.bits_length c.args.key c.requires.key, c.requires.long)) ∙ c.if-len-eq0.true)
-    c.requires.nodes c.clear.ensures.step
+pub lay_part-requires-clause-trie : goal.lay_part-requires-clause-trie
+lay_part-requires-clause-trie g c =
+    (c.self.inside.shape.0, c.self.inside.count, seen_trie c.self.inside.shape c.self.invariant c.self.view_is refl c.requires.within c.requires.nodes)
 
-pub remove_part-requires-clause-trie : goal.remove_part-requires-clause-trie
-remove_part-requires-clause-trie g c = (c.self.inside.shape.0, seen_trie c.self.inside.shape c.self.invariant c.self.view_is refl c.requires.within c.requires.nodes)
+pub same-self : goal.same-self
+same-self g c =
+    let i = c.self.inside in
+    let own = c.in_err-laid.self-1-own.given in
+    ap₂ (λ shape sizes. record { nodes = i.nodes; cells = i.cells; count = i.count; shape = shape; sizes = sizes })
+    (Shaped-prop g.row.T.coded i.nodes.slots i.cells.slots own.0 i.shape) (Sized-prop i.nodes.slots own.1.0 i.sizes)
 
-pub remove_part-requires-clause-may_ask : goal.remove_part-requires-clause-may_ask
-remove_part-requires-clause-may_ask g c = λ s trie. may_ask_all _ _ (λ f k x. tt) _ _
+pub move_part-nodes-requires-clause-trie : goal.move_part-nodes-requires-clause-trie
+move_part-nodes-requires-clause-trie g c =
+    (c.self.inside.shape.0, seen_trie c.self.inside.shape c.self.invariant c.self.view_is refl c.requires.within c.requires.nodes)
 
-pub invariant_of-self-inside : goal.invariant_of-self-inside
-invariant_of-self-inside g c =
-    let left = c.remove_part.ensures.removed c.self.inside.shape.0
-    (seen_trie c.self.inside.shape c.self.invariant c.self.view_is refl c.requires.within c.requires.nodes) in
+pub invariant_of-self-inside-2 : goal.invariant_of-self-inside-2
+invariant_of-self-inside-2 g c =
+    let trie = seen_trie c.self.inside.shape c.self.invariant c.self.view_is refl c.requires.within c.requires.nodes in
+    let left = c.move_part-nodes.ensures.removed c.self.inside.shape.0 trie in
     ((_, left.shaped), (table_sizes _ _ (some_table left.table), tt))
 
--- what the arrays hold after it
-left : (g : given.Over) (c : goal.After-self-1 g) → IsTrie g.K.Key.bit_width c.remove_part.new.entries c.remove_part.new.nodes c.remove_part.new.cells (record {
-  entries = without_below c.self.inside.shape.0.entries (take c.args.len (g.K.Key.bits c.args.key));
-  nodes = nodes_without_below c.self.inside.shape.0.nodes c.self.inside.shape.0.entries (take c.args.len (g.K.Key.bits c.args.key));
-})
-left g c = c.remove_part.ensures.removed c.self.inside.shape.0
-    (seen_trie c.self.inside.shape c.self.invariant c.self.view_is refl c.requires.within c.requires.nodes)
-
--- these are the entries and nodes that contracts see
-same : (g : given.Over) (c : goal.After-self-1 g) → c.self-1.given.0.0 ≡ record {
-  entries = without_below c.self.inside.shape.0.entries (take c.args.len (g.K.Key.bits c.args.key));
-  nodes = nodes_without_below c.self.inside.shape.0.nodes c.self.inside.shape.0.entries (take c.args.len (g.K.Key.bits c.args.key));
-}
-same g c = same_shape c.remove_part.new.nodes.slots c.remove_part.new.cells.slots c.self-1.given.0.0 _ c.self-1.given.0.1 (left g c).shaped
+pub overflow_sub-second : goal.overflow_sub-second
+overflow_sub-second g c =
+    let trie = seen_trie c.self.inside.shape c.self.invariant c.self.view_is refl c.requires.within c.requires.nodes in
+    let left = c.move_part-nodes.ensures.removed c.self.inside.shape.0 trie in
+    (rest_counted g.K.Key.bit_width _ c.self.inside.count _ _ c.self.inside.shape.0 (take c.args.len (g.K.Key.bits c.args.key)) left c.self.invariant.sized).0
 
 pub invariant_of-self : goal.invariant_of-self
 invariant_of-self g c =
-    subst (λ (x : State g.row.T.Denot). IsTable c.remove_part.new.nodes c.remove_part.new.cells c.remove_part.new.entries x) (sym (same g c)) (left g c).table
+    let trie = seen_trie c.self.inside.shape c.self.invariant c.self.view_is refl c.requires.within c.requires.nodes in
+    table_seen (c.move_part-nodes.ensures.removed c.self.inside.shape.0 trie) c.self-2-1.given.0
 
-pub returns-clause-step : goal.returns-clause-step
-returns-clause-step g c =
+pub invariant_of-self-else-len-eq0 : goal.invariant_of-self-else-len-eq0
+invariant_of-self-else-len-eq0 g c =
+    let trie = seen_trie c.self.inside.shape c.self.invariant c.self.view_is refl c.requires.within c.requires.nodes in
+    table_seen (c.move_part-nodes.ensures.removed c.self.inside.shape.0 trie) c.self-2-1.given.0
+
+pub invariant_of-second-inside : goal.invariant_of-second-inside
+invariant_of-second-inside g c =
+    let trie = seen_trie c.self.inside.shape c.self.invariant c.self.view_is refl c.requires.within c.requires.nodes in
+    let handed = c.move_part-nodes.ensures.moved c.self.inside.shape.0 trie in
+    ((_, handed.shaped), (table_sizes _ _ (some_table handed.table), tt))
+
+pub invariant_of-second : goal.invariant_of-second
+invariant_of-second g c =
+    let trie = seen_trie c.self.inside.shape c.self.invariant c.self.view_is refl c.requires.within c.requires.nodes in
+    let left = c.move_part-nodes.ensures.removed c.self.inside.shape.0 trie in
+    let handed = c.move_part-nodes.ensures.moved c.self.inside.shape.0 trie in
+    subst (λ n. IsTable c.move_part-nodes.result.0 c.move_part-nodes.result.1 n c.second-1.given.0.0)
+    (rest_counted g.K.Key.bit_width _ c.self.inside.count _ _ c.self.inside.shape.0 (take c.args.len (g.K.Key.bits c.args.key)) left c.self.invariant.sized).1
+    (table_seen handed c.second-1.given.0)
+
+pub returns-clause-handed : goal.returns-clause-handed
+returns-clause-handed g c =
+    let i = c.self.inside in
+    let now = c.args.self.now in
     let q = take c.args.len (g.K.Key.bits c.args.key) in
-    let z2 = c.self-1.given.1.0 in
+    let new = c.move_part-nodes.new in
+    let two = c.move_part-nodes.result in
+    let trie = seen_trie i.shape c.self.invariant c.self.view_is refl c.requires.within c.requires.nodes in
+    let left = c.move_part-nodes.ensures.removed i.shape.0 trie in
+    let handed = c.move_part-nodes.ensures.moved i.shape.0 trie in
+    let lasts = c.move_part-nodes.ensures.lasts in
     let long : length q ≡ c.args.len = length-take-le c.args.len (g.K.Key.bits c.args.key) (omega (arith, g.met.K.Key.key_laws.bits_length c.args.key c.requires.key, c.requires.long)) in
-    subst (λ (m : Contents g.row.T.Denot). StepOfStrings (stored m) (RemoveChildren q) Done
-    (c.self-1.given.0.0, storage_of c.remove_part.new.nodes c.remove_part.new.cells z2)) c.self.view_is
-    (part_step c.self.inside.nodes c.remove_part.new.nodes c.self.inside.cells c.remove_part.new.cells _ _ c.self.inside.shape c.self.invariant
-    c.self.inside.sizes c.self-1.given.0 (invariant_of-self g c) z2 c.remove_part.ensures.lasts q (omega (arith, long, c.if-len-eq0.false)) (same g c))
+    let step : StepOfStrings (stored now) (RemoveChildren q) Done (stored c.if-len-eq0.self) = elim c.if-len-eq0.branch [
+      | then-len-eq0 w ↦
+          subst (λ (m : Contents g.row.T.Denot). StepOfStrings (stored now) (RemoveChildren q) Done (stored m)) (sym w.self-is)
+          (all_step g.K.Key.bit_width (stored now) (stored w.clear.new.self) q (long ∙ w.if-len-eq0.true) c.requires.nodes
+          (clear_behind (stored now) (c.self-2-1.given.0.0, storage_of new.nodes new.cells c.self-2-1.given.1.0) (stored w.clear.new.self)
+          (lasts.node_limit ∙ ap (λ (m : Contents g.row.T.Denot). m.room.limit) c.self.view_is)
+          (subst (λ (m : Contents g.row.T.Denot). 0 < m.room.node_slots) c.self.view_is (root_slot c.self.invariant))
+          w.clear.ensures.step))
+      | else-len-eq0 w ↦
+          subst (λ (m : Contents g.row.T.Denot). StepOfStrings (stored now) (RemoveChildren q) Done (stored m)) (sym w.self-is)
+          (subst (λ (m : Contents g.row.T.Denot). StepOfStrings (stored m) (RemoveChildren q) Done (c.self-2-1.given.0.0, storage_of new.nodes new.cells c.self-2-1.given.1.0)) c.self.view_is
+          (part_step i.nodes new.nodes i.cells new.cells _ _ i.shape c.self.invariant i.sizes c.self-2-1.given.0 (table_seen left c.self-2-1.given.0) c.self-2-1.given.1.0
+          lasts q (omega (arith, long, w.if-len-eq0.false)) (shape_seen left c.self-2-1.given.0)))
+    ] in
+    handed_out (stored now) (c.second-1.given.0.0, storage_of two.0 two.1 c.second-1.given.1.0) (stored c.if-len-eq0.self) q step
+    (subst (λ (m : Contents g.row.T.Denot). c.second-1.given.0.0 ≡ record { entries = part_below m.entries q; nodes = needed (part_below m.entries q) }) c.self.view_is
+    (shape_seen handed c.second-1.given.0))
+    (subst (λ (x : State g.row.T.Denot). IsPacked x (storage_of two.0 two.1 c.second-1.given.1.0)) (sym (shape_seen handed c.second-1.given.0))
+    (second_packed g.K.Key.bit_width _ q i.nodes c.in_ok-laid.laid two.0 c.in_ok-laid.vacant two.1 c.in_ok-laid.ensures.laid _ handed
+    c.move_part-nodes.ensures.nodes c.move_part-nodes.ensures.cells c.second-1.given.1.0))
+    (second_limit g.K.Key.bit_width _ q i.nodes c.in_ok-laid.laid two.0 c.in_ok-laid.vacant two.1 c.in_ok-laid.ensures.laid _ handed
+    c.move_part-nodes.ensures.nodes c.move_part-nodes.ensures.cells ∙ ap (λ (m : Contents g.row.T.Denot). m.room.limit) c.self.view_is)
+    handed.table.nodes_within
+    (second_cells_within g.K.Key.bit_width _ q i.nodes c.in_ok-laid.laid two.0 c.in_ok-laid.vacant two.1 c.in_ok-laid.ensures.laid _ handed
+    c.move_part-nodes.ensures.nodes c.move_part-nodes.ensures.cells)
+
+pub returns-clause-kept : goal.returns-clause-kept
+returns-clause-kept g c = tt
 
 pub returns-clause-settles : goal.returns-clause-settles
-returns-clause-settles g c = λ _.
-    let z2 = c.self-1.given.1.0 in
-    subst (λ (m : Contents g.row.T.Denot). SettlesInStorage (storage m) (storage_of c.remove_part.new.nodes c.remove_part.new.cells z2)) c.self.view_is
-    (settles_in c.self.inside.nodes c.remove_part.new.nodes c.self.inside.cells c.remove_part.new.cells _ _ c.self.inside.shape c.self.invariant
-    c.self.inside.sizes c.self-1.given.0 (invariant_of-self g c) z2 c.remove_part.ensures.lasts)
+returns-clause-settles g c = λ some.
+    let i = c.self.inside in
+    let new = c.move_part-nodes.new in
+    let trie = seen_trie i.shape c.self.invariant c.self.view_is refl c.requires.within c.requires.nodes in
+    let left = c.move_part-nodes.ensures.removed i.shape.0 trie in
+    elim c.if-len-eq0.branch [
+      | then-len-eq0 w ↦ absurd (omega (arith, some, w.if-len-eq0.true))
+      | else-len-eq0 w ↦
+          subst (λ (m : Contents g.row.T.Denot). SettlesInStorage (storage c.args.self.now) (storage m)) (sym w.self-is)
+          (subst (λ (m : Contents g.row.T.Denot). SettlesInStorage (storage m) (storage_of new.nodes new.cells c.self-2-1.given.1.0)) c.self.view_is
+          (settles_in i.nodes new.nodes i.cells new.cells _ _ i.shape c.self.invariant i.sizes c.self-2-1.given.0 (table_seen left c.self-2-1.given.0) c.self-2-1.given.1.0
+          c.move_part-nodes.ensures.lasts))
+    ]

@@ -1,0 +1,10 @@
+-- A table that is laid with all its blocks before its values come.
+pub mod Pushed
+pub mod Grafting
+pub mod Boughs
+pub mod Sources
+pub mod Ground
+pub mod Fits
+pub mod WayParts
+pub mod Twigs
+pub mod Second

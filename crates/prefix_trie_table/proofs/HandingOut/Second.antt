@@ -1,0 +1,174 @@
+-- The second table before its values come, from what was laid in new arrays.
+use Rattle.std.proofs.Common.{◌≡◌, ℕ, zero, suc, ◌/◌, ◌<◌, ◌≤◌, Bool, true, cond, ◌&&◌, List, [], ◌∷◌, ◌++◌, length, map, flat_map, slice_set, Option, None, Some, is_some, refl, sym, ap, ◌∙◌, subst, arith, append-nil, eq-eqb, get_or-set_same, length-set}
+use Rattle.std.proofs.lemmas.Bool.{false≢true}
+use Rattle.prefix_trie_bits.specs.Bits.{begins}
+use Rattle.prefix_trie_bits.specs.Model.HandsOut.{packed_block}
+use Rattle.prefix_trie_bits.specs.Model.Nodes.{has_node, is_node_depth}
+use Rattle.prefix_trie_bits.specs.Model.Step.{State}
+use Rattle.prefix_trie_table.specs.declared.allocator.node.Node.{Node}
+use Rattle.prefix_trie_table.specs.Cells.{blank_node, node_at, node_sizes, cell_sizes}
+use Rattle.prefix_trie_table.specs.Digits.{path_of, bit_of}
+use Rattle.prefix_trie_table.specs.Forest.{one_if, read, has_value, Holds, NodesHold, node_or_blank, child_blocks, value_blocks, at_root}
+use Rattle.prefix_trie_table.specs.HandingOut.{IsLaid, IsPackedNode, IsPart, IsSource, Lays, NothingLaid, SomeChosen, no_value}
+use Rattle.prefix_trie_table.specs.OwnBlocks.{size_if_any}
+use Rattle.prefix_trie_table.specs.Skeleton.{IsSecond}
+use Rattle.prefix_trie_table.specs.Store.{Store, UsedBlock, Sound, free_at, no_blocks, size_in, tier_sizes}
+use Rattle.prefix_trie_table.specs.Tables.{IsTrie}
+use Rattle.prefix_trie_table.proofs.Strings.BitLists.{rank-zero-all}
+use Rattle.prefix_trie_table.proofs.Strings.Digits.{path-length}
+use Rattle.prefix_trie_table.proofs.Strings.Paths.{same_path-not}
+use Rattle.prefix_trie_table.proofs.Strings.PathStrings.{string_at, string_depth, string_path, paths_steps}
+use Rattle.prefix_trie_table.proofs.Strings.Plain.{both_true}
+use Rattle.prefix_trie_table.proofs.Tree.Invariant.{some_table}
+use Rattle.prefix_trie_table.proofs.Tree.Shapes.{root_reading, root_here, root_holds, no_values, shape_nodes}
+use Rattle.prefix_trie_table.proofs.Tree.Trees.{slot_holds}
+
+-- ---- the table that is read
+
+module _ {T : Type 0} (width count : ℕ) (v : Store Node) (w : Store (Option T)) (s : State T) (trie : IsTrie width count v w s) where
+  -- its root has a slot
+  pub root_stands : 0 < length v.slots
+  root_stands =
+      let h = trie.table.nodes in
+      (slot_holds node_sizes trie.table.reading trie.table.paths v h [] 0 (node_at v.slots 0) at_root h.rooted).1
+
+  -- no node is deeper than the width
+  shallow : (q : List ℕ) → is_some (trie.table.reading q) ≡ true → length q ≤ width / 5
+  shallow q there =
+      let path : path_of (string_at q) ≡ q = string_path q
+      (paths_steps node_sizes trie.table.reading trie.table.paths v trie.table.nodes q
+      (let e = trie.table.nodes.listed q ∙ ap one_if there in omega (arith, e))) in
+      let depth : is_node_depth (string_at q) ≡ true = eq-eqb _ 0 (string_depth q) in
+      let stands : has_node s.nodes (string_at q) ≡ true =
+      shape_nodes trie.table.reading trie.table.values trie.table.paths v w (some_table trie.table).holds s trie.shaped (string_at q)
+      ∙ both_true (is_node_depth (string_at q)) (is_some (trie.table.reading (path_of (string_at q)))) depth
+      (ap (λ p. is_some (trie.table.reading p)) path ∙ there) in
+      let long = trie.nodes.within (string_at q) stands in
+      let steps : length q ≡ length (string_at q) / 5 = ap length (sym path) ∙ path-length (string_at q) in
+      omega (arith, long, steps)
+
+  -- so it is a source
+  pub root_source : IsSource v (node_at v.slots 0) (width / 5)
+  root_source = record {
+    reading = trie.table.reading;
+    paths = trie.table.paths;
+    hold = trie.table.nodes;
+    path = [];
+    is = trie.table.nodes.rooted;
+    few = shallow;
+    within = λ q b h. trie.table.cells.within q b (trie.table.cells.set_where q b ∙ h);
+  }
+
+-- ---- new arrays
+
+-- no block is free
+new_none_free : (sizes : List ℕ) (j : ℕ) → free_at (map no_blocks sizes) j ≡ 0
+new_none_free [] j = refl
+new_none_free (size ∷ sizes) zero = refl
+new_none_free (size ∷ sizes) (suc j) = new_none_free sizes j
+
+module _ {T : Type 0} (q : List Bool) (v v1 v2 : Store Node) (w1 w2 : Store (Option T)) (limit : ℕ)
+    (v_is : v1 ≡ record { slots = blank_node ∷ []; first = 1; tiers = map no_blocks node_sizes; limit = limit }) (v_sound : Sound blank_node [] v1)
+    (w_is : w1 ≡ record { slots = []; first = 0; tiers = map no_blocks cell_sizes; limit = limit }) (w_sound : Sound None [] w1)
+    (same : limit ≡ v.limit) (some : 0 < limit) (lays_nodes : Lays v1 v2) (lays_cells : Lays w1 w2)
+    (chosen : List ℕ → ℕ → Bool) (part : IsPart v.slots (Some (node_at v.slots 0)) q chosen) where
+  first_one : v2.first ≡ 1
+  first_one = lays_nodes.keeps.first_is ∙ ap (λ (x : Store Node). x.first) v_is
+
+  sizes_are : tier_sizes v2.tiers ≡ node_sizes
+  sizes_are = lays_nodes.keeps.sizes ∙ ap (λ (x : Store Node). tier_sizes x.tiers) v_is
+
+  values_are : (reading : List ℕ → Option Node) → ((p : List ℕ) (b : ℕ) → has_value (reading p) b ≡ chosen p b) → (s : List Bool) →
+      has_value (reading (path_of s)) (bit_of s) ≡ (begins q s && has_value (read v.slots (path_of s)) (bit_of s))
+  unfolding read
+  values_are reading values s = values (path_of s) (bit_of s) ∙ part.values s
+
+  -- a table with these nodes is the second
+  second : (reading : List ℕ → Option Node) (paths : List (List ℕ)) (v3 : Store Node) → NodesHold node_sizes reading paths v3 →
+      Sound None (flat_map (value_blocks cell_sizes reading no_value) paths) w2 →
+      ((p : List ℕ) (b : ℕ) → has_value (reading p) b ≡ chosen p b) → ((c : ℕ) (p : List ℕ) → is_some (reading (c ∷ p)) ≡ true → SomeChosen chosen (c ∷ p)) →
+      ((p : List ℕ) (n : Node) → reading p ≡ Some n → IsPackedNode n) → v3.tiers ≡ v2.tiers → v3.limit ≡ v2.limit → length v3.slots ≡ length v2.slots →
+      IsSecond q v v3 w2
+  second reading paths v3 hold cells values needed packed tiers limits long = record {
+    skeleton = record {
+      reading = reading;
+      paths = paths;
+      nodes = hold;
+      cells = cells;
+      cells_first = lays_cells.keeps.first_is ∙ ap (λ (x : Store (Option T)). x.first) w_is;
+      cell_sizes_are = lays_cells.keeps.sizes ∙ ap (λ (x : Store (Option T)). tier_sizes x.tiers) w_is;
+      values = values_are reading values;
+      within = λ p b h. part.within p b (sym (values p b) ∙ h);
+      needed = λ c p h.
+          let n = needed c p h in
+          record { below = n.below; bit = n.bit; is = values (c ∷ p ++ n.below) n.bit ∙ n.is };
+      packed = packed;
+      no_node_free = λ j. ap (λ ts. free_at ts j) tiers
+          ∙ lays_nodes.none_free (λ i. ap (λ (x : Store Node). free_at x.tiers i) v_is ∙ new_none_free node_sizes i) j;
+      no_cell_free = lays_cells.none_free (λ i. ap (λ (x : Store (Option T)). free_at x.tiers i) w_is ∙ new_none_free cell_sizes i);
+    };
+    node_limit = limits ∙ node_limit;
+    cell_limit = cell_limit;
+    nodes_within =
+        let l = lays_nodes.keeps.within (subst (λ (x : Store Node). length x.slots ≤ x.limit) (sym v_is) (omega (arith, some))) in omega (arith, l, long, node_limit);
+    cells_within =
+        let l = lays_cells.keeps.within (subst (λ (x : Store (Option T)). length x.slots ≤ x.limit) (sym w_is) (omega arith)) in omega (arith, l, cell_limit);
+  }
+    where
+      node_limit : v2.limit ≡ v.limit
+      node_limit = lays_nodes.keeps.limit_is ∙ ap (λ (x : Store Node). x.limit) v_is ∙ same
+
+      cell_limit : w2.limit ≡ v.limit
+      cell_limit = lays_cells.keeps.limit_is ∙ ap (λ (x : Store (Option T)). x.limit) w_is ∙ same
+
+  -- where something was laid, and its top put in the root's slot
+  pub second_laid : (top : Node) (v3 : Store Node) → IsLaid chosen top v1 v2 w1 w2 → v3 ≡ record v2 { slots = slice_set v2.slots 0 top } →
+      ((live : List (UsedBlock Node)) → 0 < v2.first → Sound blank_node live v2 → Sound blank_node live v3) → IsSecond q v v3 w2
+  second_laid top v3 l put sound =
+      second l.sub l.paths v3
+      (record {
+        rooted = l.hangs.top ∙ ap Some (sym (ap (λ (x : Store Node). node_at x.slots 0) put ∙ get_or-set_same v2.slots 0 top blank_node inside));
+        linked = l.hangs.linked;
+        listed = l.hangs.listed;
+        sound = sound _ (omega (arith, first_one)) (subst (λ bs. Sound blank_node bs v2) (append-nil (flat_map (child_blocks node_sizes l.sub) l.paths)) (l.nodes [] v_sound));
+        first_is = ap (λ (x : Store Node). x.first) put ∙ first_one;
+        sizes_are = ap (λ (x : Store Node). tier_sizes x.tiers) put ∙ sizes_are;
+      })
+      (subst (λ bs. Sound None bs w2) (append-nil (flat_map (value_blocks cell_sizes l.sub no_value) l.paths)) (l.cells [] w_sound))
+      l.values (λ c p h. l.needed (c ∷ p) h) l.packed (ap (λ (x : Store Node). x.tiers) put) (ap (λ (x : Store Node). x.limit) put)
+      (ap (λ (x : Store Node). length x.slots) put ∙ length-set v2.slots 0 top)
+    where
+      inside : 0 < length v2.slots
+      inside = let l = lays_nodes.keeps.longer in let e = ap (λ (x : Store Node). length x.slots) v_is in omega (arith, l, e)
+
+  -- and where nothing was
+  pub second_bare : NothingLaid chosen v1 v2 w1 w2 → IsSecond q v v2 w2
+  second_bare l =
+      second root_reading ([] ∷ []) v2
+      (record {
+        rooted = root_here ∙ ap Some (sym (lays_nodes.keeps.before 0 blank_node (let e = ap (λ (x : Store Node). x.first) v_is in omega (arith, e)) ∙ ap (λ (x : Store Node). node_at x.slots 0) v_is));
+        linked = new.hold.linked;
+        listed = new.hold.listed;
+        sound = l.nodes _ new.hold.sound;
+        first_is = first_one;
+        sizes_are = sizes_are;
+      })
+      (l.cells _ new.cells.sound)
+      (λ p b. sym (new.cells.set_where p b) ∙ sym (l.none p b))
+      (λ c p there. absurd (false≢true (sym (ap is_some (none_deeper c p)) ∙ there)))
+      packed refl refl refl
+    where
+      new : Holds root_reading no_values ([] ∷ []) v1 w1
+      new =
+          root_holds v1 w1 (ap (λ (x : Store Node). x.slots) v_is) (ap (λ (x : Store Node). x.first) v_is) (ap (λ (x : Store Node). x.tiers) v_is) v_sound
+          (ap (λ (x : Store (Option T)). x.tiers) w_is) w_sound
+
+      none_deeper : (c : ℕ) (p : List ℕ) → root_reading (c ∷ p) ≡ None
+      none_deeper c p = ap (λ b. cond b (Some blank_node) None) (same_path-not (c ∷ p) [] (λ e. absurd (omega (arith, ap length e))))
+
+      packed : (p : List ℕ) (n : Node) → root_reading p ≡ Some n → IsPackedNode n
+      packed [] n e = subst IsPackedNode (ap node_or_blank (sym root_here ∙ e)) (record {
+        values = subst (λ k. size_if_any k (size_in cell_sizes 0) ≡ packed_block cell_sizes k) (sym rank-zero-all) refl;
+        children = subst (λ k. size_if_any k (size_in node_sizes 0) ≡ packed_block node_sizes k) (sym rank-zero-all) refl;
+      })
+      packed (c ∷ p) n e = absurd (false≢true (sym (ap is_some (none_deeper c p)) ∙ ap is_some e))

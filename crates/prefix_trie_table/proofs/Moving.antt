@@ -1,0 +1,9 @@
+-- A second table to which values come.
+pub mod Coming
+pub mod Putting
+pub mod Valued
+pub mod Counting
+pub mod Second
+pub mod Moved
+pub mod Packed
+pub mod HandedOut

@@ -1,0 +1,120 @@
+-- A table split along a bit string, as contracts see both parts.
+use Rattle.std.proofs.Common.{◌≡◌, ℕ, ◌+◌, ◌-◌, ◌<◌, ◌≤◌, Bool, List, length, Option, Some, refl, sym, ap, ◌∙◌, subst, arith}
+use Rattle.std.specs.FinMap.{len}
+use Rattle.prefix_trie_bits.specs.declared.prefix.Refusal.{Refusal}
+use Rattle.prefix_trie_bits.specs.declared.prefix.Refusal.TheVariants.{IndexRange}
+use Rattle.prefix_trie_bits.specs.Model.Blocks.{no_layout}
+use Rattle.prefix_trie_bits.specs.Model.Entries.{without_below, part_below}
+use Rattle.prefix_trie_bits.specs.Model.HandsOut.{HandsOut, IsPacked, HandsOutInStorage}
+use Rattle.prefix_trie_bits.specs.Model.Nodes.{needed, nodes_without_below}
+use Rattle.prefix_trie_bits.specs.Model.Step.{State, Reply, RemoveChildren, Clear, Done}
+use Rattle.prefix_trie_bits.specs.Model.Storage.{Storage, StepOfStrings}
+use Rattle.prefix_trie_bits.proofs.Model.HandsOut.{handing_laws}
+use Rattle.prefix_trie_table.specs.declared.allocator.node.Node.{Node}
+use Rattle.prefix_trie_table.specs.Cells.{blank_node, node_sizes}
+use Rattle.prefix_trie_table.specs.Forest.{read}
+use Rattle.prefix_trie_table.specs.HandingOut.{IsPackedNode}
+use Rattle.prefix_trie_table.specs.Laying.{NoneFree}
+use Rattle.prefix_trie_table.specs.Layouts.{Sized}
+use Rattle.prefix_trie_table.specs.Shape.{Shaped, same_shape}
+use Rattle.prefix_trie_table.specs.Skeleton.{IsSecond}
+use Rattle.prefix_trie_table.specs.Store.{Store, Tier, free_at}
+use Rattle.prefix_trie_table.specs.Tables.{IsTable, IsTrie}
+use Rattle.prefix_trie_table.proofs.Blocks.Sizing.{storage_of}
+use Rattle.prefix_trie_table.proofs.Blocks.Soundness.{first_place}
+use Rattle.prefix_trie_table.proofs.Moving.Packed.{is_packed}
+use Rattle.prefix_trie_table.proofs.Tree.Invariant.{some_table}
+use Rattle.prefix_trie_table.proofs.Tree.Shapes.{reads_node}
+use Rattle.prefix_trie_table.proofs.Tree.Trees.{reads}
+
+module _ {T : Type 0} where
+  -- the two parts have the entries of the whole, each once
+  pub parts_counted : (s : State T) (q : List Bool) → len (part_below s.entries q) + len (without_below s.entries q) ≡ len s.entries
+  parts_counted s q =
+      ((handing_laws T).splits s q (record { entries = part_below s.entries q; nodes = needed (part_below s.entries q) })
+      (record { entries = without_below s.entries q; nodes = nodes_without_below s.nodes s.entries q })
+      (record { handed = refl; handed_nodes = refl; left = refl; left_nodes = refl })).number
+
+  -- which says how many came to the second
+  pub rest_counted : (width n count : ℕ) (v2 : Store Node) (w2 : Store (Option T)) (s : State T) (q : List Bool) →
+      IsTrie width n v2 w2 (record { entries = without_below s.entries q; nodes = nodes_without_below s.nodes s.entries q }) → count ≡ len s.entries →
+      (n ≤ count) × (len (part_below s.entries q) ≡ count - n)
+  rest_counted width n count v2 w2 s q left all =
+      let less = left.table.sized in (omega (arith, parts_counted s q, less, all), omega (arith, parts_counted s q, less, all))
+
+  -- what contracts see of arrays is what they hold
+  pub shape_seen : {width count : ℕ} {v : Store Node} {w : Store (Option T)} {s : State T} → IsTrie width count v w s → (z : Shaped v.slots w.slots) → z.0 ≡ s
+  shape_seen {width} {count} {v} {w} {s} trie z = same_shape v.slots w.slots z.0 s z.1 trie.shaped
+
+  pub table_seen : {width count : ℕ} {v : Store Node} {w : Store (Option T)} {s : State T} → IsTrie width count v w s → (z : Shaped v.slots w.slots) →
+      IsTable v w count z.0
+  table_seen {width} {count} {v} {w} {s} trie z = subst (λ (x : State T). IsTable v w count x) (sym (shape_seen trie z)) trie.table
+
+  -- the root has a slot
+  pub root_slot : {count : ℕ} {v : Store Node} {w : Store (Option T)} {s : State T} → IsTable v w count s → 0 < length v.slots
+  root_slot {count} {v} is = (let w = first_place blank_node _ v is.nodes.sound in let f = is.nodes.first_is in omega (arith, w, f))
+
+  not_refused : ◌≡◌ {A = Reply (List Bool) T} Done (Reply.Refused IndexRange) → ⊥
+  not_refused e = cc
+
+  -- what is cleared after another step is as it would be without that
+  pub clear_behind : (before between after : State T × Storage) → between.1.room.limit ≡ before.1.room.limit → 0 < before.1.room.node_slots →
+      StepOfStrings between Clear Done after → StepOfStrings before Clear Done after
+  clear_behind before between after limit some h width = record {
+    step = (h width).step;
+    room = record {
+      same_limit = (h width).room.same_limit ∙ limit;
+      nodes_within = (h width).room.nodes_within;
+      cells_within = (h width).room.cells_within;
+      nodes_grow = (let e = ap (λ (x : Storage). x.room.node_slots) (h width).storage in omega (arith, e, some));
+      cells_grow = (let e = ap (λ (x : Storage). x.room.cell_slots) (h width).storage in omega (arith, e));
+    };
+    index_range = λ e. absurd (not_refused e);
+    storage =
+        (h width).storage
+        ∙ ap (λ n. record { room = record { limit = n; node_slots = 1; cell_slots = 0 }; layout = no_layout }) limit;
+  }
+
+  -- the second part, and the step that leaves the first
+  pub handed_out : (before second after : State T × Storage) (q : List Bool) → StepOfStrings before (RemoveChildren q) Done after →
+      second.0 ≡ record { entries = part_below before.0.entries q; nodes = needed (part_below before.0.entries q) } → IsPacked second.0 second.1 →
+      second.1.room.limit ≡ before.1.room.limit → second.1.room.node_slots ≤ second.1.room.limit → second.1.room.cell_slots ≤ second.1.room.limit →
+      HandsOutInStorage before q second after
+  handed_out before second after q step is packed limit nodes cells =
+      let entries : second.0.entries ≡ part_below before.0.entries q = ap (λ (x : State T). x.entries) is in
+      record {
+        hands_out = record {
+          handed = entries;
+          handed_nodes = ap (λ (x : State T). x.nodes) is ∙ ap (λ m. needed m) (sym entries);
+          left = ap (λ (x : State T). x.entries) (step 0).step.1;
+          left_nodes = ap (λ (x : State T). x.nodes) (step 0).step.1;
+        };
+        packed = packed;
+        same_limit = limit;
+        nodes_within = nodes;
+        cells_within = cells;
+        drops = step;
+      }
+
+  -- the second table's arrays, once all values have come
+  module _ (width count : ℕ) (q : List Bool) (v laid v2 : Store Node) (vacant w2 : Store (Option T)) (second : IsSecond q v laid vacant) (s : State T)
+      (trie : IsTrie width count v2 w2 s) (nodes : v2 ≡ laid) (cells : w2 ≡ record vacant { slots = w2.slots }) where
+    same_node : (p : List ℕ) → trie.table.reading p ≡ second.skeleton.reading p
+    same_node p =
+        let t = some_table trie.table in
+        sym (reads_node t.reading t.values t.paths v2 w2 t.holds p) ∙ ap (λ (x : Store Node). read x.slots p) nodes
+        ∙ reads node_sizes second.skeleton.reading second.skeleton.paths laid second.skeleton.nodes p
+
+    pub second_packed : (z : Sized v2.slots) → IsPacked s (storage_of v2 w2 z)
+    second_packed z =
+        let t = some_table trie.table in
+        is_packed t.reading t.values t.paths v2 w2 t.holds (λ p n e. second.skeleton.packed p n (sym (same_node p) ∙ e))
+        (subst (λ (x : Store Node). NoneFree x) (sym nodes) second.skeleton.no_node_free)
+        (λ j. ap (λ (x : Store (Option T)). free_at x.tiers j) cells ∙ second.skeleton.no_cell_free j)
+        trie.table.cells_first s trie.shaped z
+
+    pub second_limit : v2.limit ≡ v.limit
+    second_limit = ap (λ (x : Store Node). x.limit) nodes ∙ second.node_limit
+
+    pub second_cells_within : length w2.slots ≤ v2.limit
+    second_cells_within = (let h = trie.table.cells_within in let e = trie.table.one_limit in omega (arith, h, e))

@@ -1,0 +1,109 @@
+-- All values that a bit string begins, moved into a second table one after another.
+use Rattle.std.proofs.Common.{◌≡◌, ℕ, Bool, true, false, cond, List, [], ◌∷◌, length, Option, None, refl, sym, ap, ◌∙◌, subst}
+use Rattle.std.specs.FinMap.{get, len, entries}
+use Rattle.prefix_trie_bits.specs.Bits.{begins}
+use Rattle.prefix_trie_bits.specs.Model.Asking.{MayAskInOrder}
+use Rattle.prefix_trie_bits.specs.Model.Entries.{Entries, part_below}
+use Rattle.prefix_trie_bits.specs.Model.Nodes.{needed}
+use Rattle.prefix_trie_bits.specs.Model.Selections.{listing, listing_below}
+use Rattle.prefix_trie_bits.specs.Model.Step.{State}
+use Rattle.prefix_trie_bits.proofs.Model.Members.{same_entries, get-part_below}
+use Rattle.prefix_trie_bits.proofs.Model.Ordered.{entries-retained}
+use Rattle.prefix_trie_table.specs.declared.allocator.node.Node.{Node}
+use Rattle.prefix_trie_table.specs.Moving.{filled_with, Awaits, AwaitsNext, HasCome}
+use Rattle.prefix_trie_table.specs.Retaining.{AsksUpTo}
+use Rattle.prefix_trie_table.specs.Skeleton.{IsSecond}
+use Rattle.prefix_trie_table.specs.Store.{Store}
+use Rattle.prefix_trie_table.specs.Tables.{IsTrie}
+use Rattle.prefix_trie_table.specs.Walking.Walks.{Tree, KeyedSpot, IsStack, pending}
+use Rattle.prefix_trie_table.proofs.Moving.Second.{second_trie}
+
+module _ {T : Type 0} (m : Entries T) (q : List Bool) where
+  -- what q begins is the listing of what is handed out
+  pub part_listed : listing (part_below m q) ≡ listing_below m q
+  part_listed = entries-retained m (λ s. begins q s)
+
+  same_part : part_below (part_below m q) q ≡ part_below m q
+  same_part =
+      same_entries (part_below (part_below m q) q) (part_below m q)
+      (λ t. get-part_below (part_below m q) q t ∙ ap (λ o. cond (begins q t) o None) (get-part_below m q t) ∙ twice (begins q t) (get m t) ∙ sym (get-part_below m q t))
+    where
+      twice : (b : Bool) (o : Option T) → cond b (cond b o None) None ≡ cond b o None
+      twice true o = refl
+      twice false o = refl
+
+  -- and q begins all of that
+  all_below : listing_below (part_below m q) q ≡ listing_below m q
+  all_below = sym (entries-retained (part_below m q) (λ s. begins q s)) ∙ ap (λ (n : Entries T). listing n) same_part ∙ part_listed
+
+module _ {K T : Type 0} (IsKey : K → Type 0) (bits : K → List Bool) (width : ℕ) where
+  -- the arrays are those that were laid but for the values that have come, and wait for the rest
+  pub record Fills (shape : State T) (laid : Store Node) (vacant : Store (Option T)) (v : Store Node) (w : Store (Option T)) (ps : List (KeyedSpot K))
+      (rest : List (List Bool × T)) : Type 0 where
+    pub nodes : v ≡ laid
+    pub cells : w ≡ record vacant { slots = w.slots }
+    pub long : length w.slots ≡ length vacant.slots
+    pub awaits : Awaits IsKey bits width shape v w ps rest
+
+  -- one value more
+  pub fills_next : (shape : State T) (laid : Store Node) (vacant : Store (Option T)) (v v2 : Store Node) (w w2 : Store (Option T)) (ps ps2 : List (KeyedSpot K))
+      (e : List Bool × T) (rest : List (List Bool × T)) → Fills shape laid vacant v w ps (e ∷ rest) → HasCome IsKey bits width v v2 w w2 ps ps2 e.0 e.1 →
+      Fills shape laid vacant v2 w2 ps2 rest
+  fills_next shape laid vacant v v2 w w2 ps ps2 e rest h came = record {
+    nodes = came.nodes ∙ h.nodes;
+    cells = came.cells ∙ ap (λ (x : Store (Option T)). record x { slots = w2.slots }) h.cells;
+    long = came.long ∙ h.long;
+    awaits = came.goes_on shape rest h.awaits;
+  }
+
+  -- before the first
+  pub fills_start : (count : ℕ) (v : Store Node) (w : Store (Option T)) (s : State T) → IsTrie width count v w s → (q : List Bool) (laid : Store Node) (vacant : Store (Option T)) →
+      IsSecond q v laid vacant → (ps : List (KeyedSpot K)) → IsStack IsKey bits width laid ps →
+      ((t : Tree T) → IsTrie width t.count laid t.cells t.shape → pending bits t.shape.entries ps ≡ listing_below t.shape.entries q) →
+      Fills (record { entries = part_below s.entries q; nodes = needed (part_below s.entries q) }) laid vacant laid vacant ps (listing_below s.entries q)
+  fills_start count v w s trie q laid vacant second ps stack rest =
+      let whole = second_trie width count v w s trie q laid vacant second in
+      record {
+        nodes = refl;
+        cells = refl;
+        long = refl;
+        awaits = record {
+          trie = subst (λ es. IsTrie width (len (part_below s.entries q)) laid (filled_with laid.slots es vacant)
+              (record { entries = part_below s.entries q; nodes = needed (part_below s.entries q) })) (part_listed s.entries q) whole;
+          stack = stack;
+          come = rest (record {
+            count = len (part_below s.entries q);
+            cells = filled_with laid.slots (entries (part_below s.entries q)) vacant;
+            shape = record { entries = part_below s.entries q; nodes = needed (part_below s.entries q) };
+          }) whole ∙ all_below s.entries q;
+        };
+      }
+
+  -- ---- a test that says no at each entry, and to which its value comes then
+
+  module _ {F : Type 0} (nodes : F → Store Node) (cells : F → Store (Option T)) (spots : F → List (KeyedSpot K)) where
+    abbrev Waits : F → List Bool → T → Type 0
+    Waits f q x = AwaitsNext IsKey bits width (nodes f) (cells f) (spots f) q x
+
+    abbrev Takes : F → List Bool → T → Bool → F → Type 0
+    Takes f q x answer g = (answer ≡ false) × HasCome IsKey bits width (nodes f) (nodes g) (cells f) (cells g) (spots f) (spots g) q x
+
+    module _ (shape : State T) (laid : Store Node) (vacant : Store (Option T)) where
+      abbrev FillsFrom : F → List (List Bool × T) → Type 0
+      FillsFrom f rest = Fills shape laid vacant (nodes f) (cells f) (spots f) rest
+
+      -- it may be asked at each
+      pub may_fill : (f : F) (es : List (List Bool × T)) → FillsFrom f es → MayAskInOrder Takes Waits f es
+      may_fill f [] h = tt
+      may_fill f (e ∷ es) h = (
+        record { shape = shape; later = es; awaits = h.awaits },
+        λ b g asked. may_fill g es
+            (fills_next shape laid vacant (nodes f) (nodes g) (cells f) (cells g) (spots f) (spots g) e es h asked.1),
+      )
+
+      -- and once it was, no value is missing
+      pub all_filled : (f g : F) (es : List (List Bool × T)) → FillsFrom f es → AsksUpTo Takes f es g → FillsFrom g []
+      all_filled f g [] h same = subst (λ x. FillsFrom x []) (sym same) h
+      all_filled f g (e ∷ es) h asked =
+          all_filled asked.1 g es
+          (fills_next shape laid vacant (nodes f) (nodes asked.1) (cells f) (cells asked.1) (spots f) (spots asked.1) e es h asked.2.1) asked.3

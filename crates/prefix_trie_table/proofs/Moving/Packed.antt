@@ -1,0 +1,185 @@
+-- Where each block is the smallest that holds its list and none is free, slots are numbers of the entries and the nodes.
+use Rattle.std.proofs.Common.{◌≡◌, ℕ, zero, suc, ◌+◌, ◌<◌, ◌≤◌, Bool, true, ◌&&◌, List, [], ◌∷◌, ◌++◌, length, map, flat_map, replicate, sum_by, Option, None, Some, is_some, refl, sym, ap, ap₂, ◌∙◌, subst, arith, eq-eqb, ◌%◌}
+use Rattle.std.proofs.lemmas.List.{length-map}
+use Rattle.std.specs.FinMap.{get, entries, keys}
+use Rattle.prefix_trie_bits.specs.Model.Blocks.{Sizes, Block as Extent, no_layout, child_block_sizes, value_block_sizes, child_count, own_entries}
+use Rattle.prefix_trie_bits.specs.Model.HandsOut.{packed_block, packed_slots, packed_node_slots, packed_cell_slots, ArePacked, IsPacked}
+use Rattle.prefix_trie_bits.specs.Model.Nodes.{Nodes, has_node, is_node_depth}
+use Rattle.prefix_trie_bits.specs.Model.Step.{State}
+use Rattle.prefix_trie_bits.proofs.Model.Members.{and-first}
+use Rattle.prefix_trie_table.specs.declared.allocator.node.Node.{Node}
+use Rattle.prefix_trie_table.specs.Bitmaps.{rank, bits}
+use Rattle.prefix_trie_table.specs.Cells.{blank_node, node_sizes, cell_sizes}
+use Rattle.prefix_trie_table.specs.Digits.{path_of}
+use Rattle.prefix_trie_table.specs.Forest.{read, times, own_count, held, size_in, child_items, child_blocks, child_blocks_of, value_blocks, value_blocks_of, Holds, NodesHold}
+use Rattle.prefix_trie_table.specs.HandingOut.{IsPackedNode}
+use Rattle.prefix_trie_table.specs.Laying.{NoneFree}
+use Rattle.prefix_trie_table.specs.Layouts.{AreSizesBy, Sized, own_children, size_if_any, child_block_size, value_block_size, free_counts}
+use Rattle.prefix_trie_table.specs.Shape.{IsShapeOf}
+use Rattle.prefix_trie_table.specs.Store.{Store, Tier, UsedBlock, Sound, block, extent, of_size, free_at, free_extents, tier_sizes}
+use Rattle.prefix_trie_table.proofs.Blocks.Housed.{child_blocks_housed, value_blocks_housed}
+use Rattle.prefix_trie_table.proofs.Blocks.Sizing.{storage_of}
+use Rattle.prefix_trie_table.proofs.Blocks.SlotSums.{sum_by-flat_map, sum_by-mapped}
+use Rattle.prefix_trie_table.proofs.Blocks.Tilings.{blocks_sum}
+use Rattle.prefix_trie_table.proofs.Counts.BlockUsers.{nodes_sum}
+use Rattle.prefix_trie_table.proofs.Counts.EntryCounts.{size_of_extent, tiling-sum}
+use Rattle.prefix_trie_table.proofs.Removal.Stepped.{size_read, own_is, children_is}
+use Rattle.prefix_trie_table.proofs.Strings.BitLists.{rank-all}
+use Rattle.prefix_trie_table.proofs.Strings.PathStrings.{string_at, string_depth, string_path, paths_steps, paths_once, same_nodes}
+use Rattle.prefix_trie_table.proofs.Strings.PathSums.{sum_same}
+use Rattle.prefix_trie_table.proofs.Tree.Shapes.{reads_node, shape_nodes}
+
+-- ---- no block is free
+
+no_items : {X : Type 0} (xs : List X) → length xs ≡ 0 → xs ≡ []
+no_items [] e = refl
+no_items (x ∷ xs) e = absurd (omega (arith, e))
+
+no_extents : (ts : List Tier) → ((j : ℕ) → free_at ts j ≡ 0) → free_extents ts ≡ []
+no_extents [] none = refl
+no_extents (t ∷ ts) none =
+    ap₂ (λ xs es. map (of_size t.size) xs ++ es) (no_items t.starts (none 0)) (no_extents ts (λ j. none (suc j)))
+
+no_counts : (ts : List Tier) → ((j : ℕ) → free_at ts j ≡ 0) → (n : ℕ) → length ts ≡ n → free_counts ts ≡ replicate n 0
+no_counts [] none n e = ap (λ k. replicate k 0) e
+no_counts (t ∷ ts) none n e = ap₂ (λ k ks. k ∷ ks) (none 0) (no_counts ts (λ j. none (suc j)) (length ts) refl) ∙ ap (λ k. replicate k 0) e
+
+-- ---- the slots of blocks by the nodes that have them
+
+module _ {S : Type 0} where
+  abbrev block_size : UsedBlock S → ℕ
+  block_size b = b.size
+
+  held_slots : (sizes : List ℕ) (k start size : ℕ) (xs : List S) (n : ℕ) → length xs ≡ n → size_if_any n size ≡ packed_block sizes n →
+      sum_by block_size (held k start size xs) ≡ packed_slots sizes n
+  held_slots sizes k start size [] n e packed = ap (packed_slots sizes) e
+  held_slots sizes k start size (x ∷ xs) zero e packed = absurd (omega (arith, e))
+  held_slots sizes k start size (x ∷ xs) (suc n) e packed =
+      (let one : 0 + size ≡ size = omega arith in one)
+      ∙ ap (λ o. elim o as (λ _. ℕ) [ None ↦ 0 | Some m ↦ m ]) packed
+
+  -- all slots behind those that stand before the blocks are of blocks in use
+  all_slots : (vacant : S) (f : List ℕ → List (UsedBlock S)) (paths : List (List ℕ)) (v : Store S) → Sound vacant (flat_map f paths) v → NoneFree v →
+      length v.slots ≡ v.first + sum_by (λ p. sum_by block_size (f p)) paths
+  all_slots vacant f paths v sound none =
+      omega (
+        arith,
+        tiling-sum (tier_sizes v.tiers) v.first (length v.slots) sound.blocks.blocks sound.blocks.tiles,
+        blocks_sum (tier_sizes v.tiers) v.first (length v.slots) (map extent (flat_map f paths)) (free_extents v.tiers) sound.blocks size_of_extent,
+        ap (λ es. sum_by size_of_extent es) (no_extents v.tiers none),
+        sum_by-mapped size_of_extent extent (flat_map f paths),
+        sum_by-flat_map block_size f paths,
+      )
+
+-- a sum over the nodes is one over their paths
+by_paths : (reading : List ℕ → Option Node) (paths : List (List ℕ)) (v : Store Node) → NodesHold node_sizes reading paths v → (n : Nodes) →
+    ((s : List Bool) → has_node n s ≡ (is_node_depth s && is_some (reading (path_of s)))) → (f : List Bool → ℕ) →
+    sum_by f (keys n) ≡ sum_by (λ p. f (string_at p)) paths
+by_paths reading paths v hold n are f =
+    sum_by-mapped f (λ (e : List Bool × Unit {0}). e.0) (entries n)
+    ∙ ap (λ m. sum_by (λ (e : List Bool × Unit {0}). f e.0) (entries m)) (same_nodes node_sizes reading paths v hold n are)
+    ∙ nodes_sum (λ e. f e.0) paths (paths_steps node_sizes reading paths v hold) (paths_once node_sizes reading paths v hold)
+
+-- ---- the sizes of blocks by string
+
+module _ (size : Option Node → Option ℕ) (count : Option Node → ℕ) (sizes : List ℕ) (reading : List ℕ → Option Node)
+    (packed : (x : List ℕ) → size (reading x) ≡ packed_block sizes (count (reading x))) (nodes : List Node) (reads : (x : List ℕ) → read nodes x ≡ reading x)
+    (n : Nodes) (are : (p : List Bool) → has_node n p ≡ (is_node_depth p && is_some (reading (path_of p))))
+    (number : List Bool → ℕ) (has : (p : List Bool) → is_node_depth p ≡ true → number p ≡ count (reading (path_of p)))
+    (blocks : Sizes) (blocks_are : AreSizesBy size nodes blocks) where
+  at_each : (p : List Bool) → has_node n p ≡ true → get blocks p ≡ packed_block sizes (number p)
+  at_each p there =
+      let depth = and-first (is_node_depth p) (is_some (reading (path_of p))) (sym (are p) ∙ there) in
+      size_read size nodes reading blocks blocks_are reads p depth ∙ packed (path_of p) ∙ ap (packed_block sizes) (sym (has p depth))
+
+module _ {T : Type 0} (reading : List ℕ → Option Node) (values : List ℕ → ℕ → Option T) (paths : List (List ℕ)) (v : Store Node) (w : Store (Option T))
+    (holds : Holds reading values paths v w) (packed : (p : List ℕ) (n : Node) → reading p ≡ Some n → IsPackedNode n) (no_node : NoneFree v) (no_cell : NoneFree w)
+    (first : w.first ≡ 0) (s : State T) (is : IsShapeOf v.slots w.slots s) where
+  are : (p : List Bool) → has_node s.nodes p ≡ (is_node_depth p && is_some (reading (path_of p)))
+  are = shape_nodes reading values paths v w holds s is
+
+  children_packed : (x : List ℕ) → child_block_size (reading x) ≡ packed_block child_block_sizes (own_children (reading x))
+  children_packed x = by (reading x) refl
+    where
+      by : (o : Option Node) → reading x ≡ o → child_block_size o ≡ packed_block child_block_sizes (own_children o)
+      by None e = refl
+      by (Some n) e = (packed x n e).children
+
+  values_packed : (x : List ℕ) → value_block_size (reading x) ≡ packed_block value_block_sizes (own_count (reading x))
+  values_packed x = by (reading x) refl
+    where
+      by : (o : Option Node) → reading x ≡ o → value_block_size o ≡ packed_block value_block_sizes (own_count o)
+      by None e = refl
+      by (Some n) e = (packed x n e).values
+
+  -- the slots of one node's blocks
+  child_slots : (p : List ℕ) → sum_by block_size (child_blocks node_sizes reading p) ≡ packed_slots child_block_sizes (own_children (reading p))
+  child_slots p = by (reading p) refl
+    where
+      by : (o : Option Node) → reading p ≡ o → sum_by block_size (child_blocks_of node_sizes reading p o) ≡ packed_slots child_block_sizes (own_children o)
+      by None e = refl
+      by (Some n) e =
+          held_slots child_block_sizes n.child_tier n.child_block (size_in node_sizes n.child_tier) (child_items reading p n.child_bitmap) (rank n.child_bitmap 32)
+          (rank-all _ n.child_bitmap) (packed p n e).children
+
+  cell_slots : (p : List ℕ) → sum_by block_size (value_blocks cell_sizes reading values p) ≡ packed_slots value_block_sizes (own_count (reading p))
+  cell_slots p = by (reading p) refl
+    where
+      by : (o : Option Node) → reading p ≡ o → sum_by block_size (value_blocks_of cell_sizes values p o) ≡ packed_slots value_block_sizes (own_count o)
+      by None e = refl
+      by (Some n) e =
+          held_slots value_block_sizes n.value_tier n.value_block (size_in cell_sizes n.value_tier) (map (values p) (bits n.value_bitmap)) (rank n.value_bitmap 32)
+          (rank-all (values p) n.value_bitmap) (packed p n e).values
+
+  module _ (p : List ℕ) (listed : 0 < times p paths) where
+    own_path : path_of (string_at p) ≡ p
+    own_path = string_path p (paths_steps node_sizes reading paths v holds.hold p listed)
+
+    deep : is_node_depth (string_at p) ≡ true
+    deep = eq-eqb (length (string_at p) % 5) 0 (string_depth p)
+
+    child_slots_at : packed_slots child_block_sizes (child_count s.nodes (string_at p)) ≡ sum_by block_size (child_blocks node_sizes reading p)
+    child_slots_at =
+        ap (packed_slots child_block_sizes) (children_is reading values paths v w holds s is (string_at p) deep ∙ ap (λ x. own_children (reading x)) own_path)
+        ∙ sym (child_slots p)
+
+    cell_slots_at : packed_slots value_block_sizes (own_entries s.entries (string_at p)) ≡ sum_by block_size (value_blocks cell_sizes reading values p)
+    cell_slots_at =
+        ap (packed_slots value_block_sizes) (own_is reading values paths v w holds s is (string_at p) deep ∙ ap (λ x. own_count (reading x)) own_path)
+        ∙ sym (cell_slots p)
+
+  nodes_long : length v.slots ≡ packed_node_slots s.nodes
+  nodes_long =
+      all_slots blank_node (child_blocks node_sizes reading) paths v holds.hold.sound no_node
+      ∙ ap₂ (λ a b. a + b) holds.hold.first_is
+      (sym (by_paths reading paths v holds.hold s.nodes are (λ p. packed_slots child_block_sizes (child_count s.nodes p))
+      ∙ sum_same (λ p. sum_by block_size (child_blocks node_sizes reading p)) (λ p. packed_slots child_block_sizes (child_count s.nodes (string_at p))) paths child_slots_at))
+
+  cells_long : length w.slots ≡ packed_cell_slots s.entries s.nodes
+  cells_long =
+      all_slots None (value_blocks cell_sizes reading values) paths w holds.cells.sound no_cell
+      ∙ ap₂ (λ a b. a + b) first
+      (sym (by_paths reading paths v holds.hold s.nodes are (λ p. packed_slots value_block_sizes (own_entries s.entries p))
+      ∙ sum_same (λ p. sum_by block_size (value_blocks cell_sizes reading values p)) (λ p. packed_slots value_block_sizes (own_entries s.entries (string_at p))) paths cell_slots_at))
+      ∙ (let e : 0 + packed_cell_slots s.entries s.nodes ≡ packed_cell_slots s.entries s.nodes = omega arith in e)
+
+  seven : (ts : List Tier) (sizes : List ℕ) → tier_sizes ts ≡ sizes → length ts ≡ length sizes
+  seven ts sizes e = sym (length-map ts (λ t. t.size)) ∙ ap (λ xs. length xs) e
+
+  pub is_packed : (z : Sized v.slots) → IsPacked s (storage_of v w z)
+  is_packed z = record {
+    child_blocks = record {
+      at_nodes = at_each child_block_size own_children child_block_sizes reading children_packed v.slots (reads_node reading values paths v w holds) s.nodes are
+          (child_count s.nodes) (children_is reading values paths v w holds s is) z.0 z.1.1.0;
+      elsewhere = (child_blocks_housed reading values paths v w holds s is z).elsewhere;
+    };
+    value_blocks = record {
+      at_nodes = at_each value_block_size own_count value_block_sizes reading values_packed v.slots (reads_node reading values paths v w holds) s.nodes are
+          (own_entries s.entries) (own_is reading values paths v w holds s is) z.1.0 z.1.1.1;
+      elsewhere = (value_blocks_housed reading values paths v w holds s is z).elsewhere;
+    };
+    no_child_block_free = no_counts v.tiers no_node 7 (seven v.tiers node_sizes holds.hold.sizes_are);
+    no_value_block_free = no_counts w.tiers no_cell 7 (seven w.tiers cell_sizes holds.cells.sizes_are);
+    node_slots = nodes_long;
+    cell_slots = cells_long;
+  }

@@ -1,0 +1,229 @@
+use Rattle.std.proofs.Common.{rules, sym, ap, subst, refl, replicate, None, is_some, ◌∙◌, arith, ◌≡◌, ◌+◌, ◌≤◌, List, length, ◌-◌, []}
+use Rattle.prefix_trie_table.specs.Laying.{LaysList}
+use Rattle.prefix_trie_table.specs.Forest.{has_child}
+use Rattle.prefix_trie_table.specs.Cells.{node_at, blank_node, node_sizes}
+use Rattle.prefix_trie_table.specs.declared.allocator.node.Node.{Node}
+use Rattle.prefix_trie_table.specs.HandingOut.{chosen, IsBough, LaysNode}
+use Rattle.prefix_trie_table.proofs.HandingOut.Boughs.{first, bough_start, bough_grafted, bough_closed, bough_passed, bough_bare, bare_nodes, bare_cells}
+use Rattle.prefix_trie_table.proofs.HandingOut.Ground.{Lays-none, Lays-then, Lays-list, ground_nodes, ground_cells}
+use Rattle.prefix_trie_table.proofs.HandingOut.Fits.{values_fit, children_fit, laid_tier}
+use Rattle.prefix_trie_table.proofs.HandingOut.Sources.{passed_by, behind, chosen_below, child_inside, some_level, source_below, own_within}
+use Rattle.prefix_trie_table.proofs.Strings.Bare.{was_set, others_stay}
+use Rattle.prefix_trie_table.proofs.Strings.Bits.{has_bit-is, rank-ones}
+use Rattle.prefix_trie_table.proofs.table.handing.+lay.Goals as goal
+
+-- src/table/handing.rt:48:9
+pub lay_child-returns-then-not-has_bit-clause-bough :
+    goal.lay_child-returns-then-not-has_bit-clause-bough
+lay_child-returns-then-not-has_bit-clause-bough g t c values v w b =
+    bough_passed (chosen c.args.from.now.slots c.args.node values c.args.children) c.args.child c.args.laid c.args.below.now.items v c.args.nodes.now w
+    c.args.cells.now b c.args.nodes.now c.args.cells.now
+    (passed_by c.args.from.now.slots c.args.node values c.args.children c.args.child
+    (has_bit-is c.args.children c.args.child c.requires.child ∙ sym c.has_bit.ensures ∙ c.if-not-has_bit.true))
+    (λ live s. s) (λ live s. s)
+
+-- src/table/handing.rt:50:9
+pub lay_child-visit-lower-requires : goal.lay_child-visit-lower-requires
+lay_child-visit-lower-requires g t c =
+    let set = has_bit-is c.args.children c.args.child c.requires.child ∙ sym c.has_bit.ensures ∙ c.if-not-has_bit.false in
+    let inside = child_inside c.args.from.now c.args.node c.args.levels c.requires.source c.args.child (c.requires.children c.args.child set) in
+    let slot = c.child_slot.ensures in omega (arith, inside, slot)
+
+-- src/table/handing.rt:52:62
+pub lay_child-overflow_sub-levels : goal.lay_child-overflow_sub-levels
+lay_child-overflow_sub-levels g t c =
+    let set = has_bit-is c.args.children c.args.child c.requires.child ∙ sym c.has_bit.ensures ∙ c.if-not-has_bit.false in
+    let some = some_level c.args.from.now c.args.node c.args.levels c.requires.source c.args.child (c.requires.children c.args.child set) in omega (arith, some)
+
+-- src/table/handing.rt:51:16
+pub lay_child-lay_node-requires : goal.lay_child-lay_node-requires
+lay_child-lay_node-requires g t c κs within =
+    let set = has_bit-is c.args.children c.args.child c.requires.child ∙ sym c.has_bit.ensures ∙ c.if-not-has_bit.false in
+    let there = c.requires.children c.args.child set in
+    let is = c.visit-lower.ensures.node ∙ ap (node_at c.args.from.now.slots) c.child_slot.ensures in
+    let some = some_level c.args.from.now c.args.node c.args.levels c.requires.source c.args.child there in
+    let fewer : c.args.levels - 1 + 1 ≡ c.args.levels = omega (arith, some) in
+    let below = source_below c.args.from.now c.args.node c.args.levels c.requires.source c.args.child there c.visit-lower.result (c.args.levels - 1) is fewer in (
+      omega (arith, some),
+      (
+        within.0,
+        (
+          within.1.0,
+          (
+            within.1.1,
+            (
+              below,
+              (own_within c.args.from.now c.visit-lower.result (c.args.levels - 1) below, (λ k set_there. set_there, c.requires.ground)),
+            ),
+          ),
+        ),
+      ),
+    )
+
+-- src/table/handing.rt:55:9
+pub lay_child-returns-in_default-clause-bough : goal.lay_child-returns-in_default-clause-bough
+lay_child-returns-in_default-clause-bough g t c values v w b =
+    let set = has_bit-is c.args.children c.args.child c.requires.child ∙ sym c.has_bit.ensures ∙ c.if-not-has_bit.false in
+    let is = c.visit-lower.ensures.node ∙ ap (node_at c.args.from.now.slots) c.child_slot.ensures in
+    let nothing = subst
+    (LaysNode (chosen c.args.from.now.slots c.visit-lower.result c.visit-lower.result.value_bitmap c.visit-lower.result.child_bitmap) c.args.nodes.now
+    c.lay_node.new.nodes c.args.cells.now c.lay_node.new.cells) c.in_default.is c.in_ok-twig.ensures.laid in
+    bough_passed (chosen c.args.from.now.slots c.args.node values c.args.children) c.args.child c.args.laid c.args.below.now.items v c.args.nodes.now w
+    c.args.cells.now b c.lay_node.new.nodes c.lay_node.new.cells
+    (λ p bit. chosen_below c.args.from.now.slots c.args.node c.visit-lower.result values c.args.children c.args.child set
+    (c.requires.children c.args.child set) is p bit ∙ nothing.none p bit) nothing.nodes nothing.cells
+
+-- src/table/handing.rt:60:23
+pub lay_child-with_bit-requires-clause-clear : goal.lay_child-with_bit-requires-clause-clear
+lay_child-with_bit-requires-clause-clear g t c =
+    let b = c.requires.bough.3 in
+    sym (has_bit-is c.args.laid.child_bitmap c.args.child c.requires.child)
+    ∙ sym (b.hangs.linked [] c.args.child ∙ ap (λ o. has_child o c.args.child) b.hangs.top) ∙ ap is_some (b.later c.args.child [] (omega arith))
+
+-- src/table/handing.rt:18:1
+pub lay_child-returns-clause-bough : goal.lay_child-returns-clause-bough
+lay_child-returns-clause-bough g t c values v w b =
+    let set = has_bit-is c.args.children c.args.child c.requires.child ∙ sym c.has_bit.ensures ∙ c.if-not-has_bit.false in
+    let is = c.visit-lower.ensures.node ∙ ap (node_at c.args.from.now.slots) c.child_slot.ensures in
+    let twig = subst
+    (LaysNode (chosen c.args.from.now.slots c.visit-lower.result c.visit-lower.result.value_bitmap c.visit-lower.result.child_bitmap) c.args.nodes.now
+    c.lay_node.new.nodes c.args.cells.now c.lay_node.new.cells) c.in-Some.is c.in_ok-twig.ensures.laid in
+    let sets = c.with_bit.ensures.sets in
+    subst (λ xs. IsBough (chosen c.args.from.now.slots c.args.node values c.args.children) (c.args.child + 1) (record c.args.laid { child_bitmap = c.with_bit.result }) xs v
+    c.lay_node.new.nodes w c.lay_node.new.cells) (sym c.push.ensures.items)
+    (bough_grafted (chosen c.args.from.now.slots c.args.node values c.args.children) c.args.child c.args.laid c.args.below.now.items v c.args.nodes.now w
+    c.args.cells.now b c.in-Some.twig c.with_bit.result
+    (chosen c.args.from.now.slots c.visit-lower.result c.visit-lower.result.value_bitmap c.visit-lower.result.child_bitmap) c.lay_node.new.nodes c.lay_node.new.cells twig c.requires.child
+    (chosen_below c.args.from.now.slots c.args.node c.visit-lower.result values c.args.children c.args.child set (c.requires.children c.args.child set) is)
+    (was_set c.args.laid.child_bitmap c.with_bit.result c.args.child sets c.requires.child) (λ i ne. sym (others_stay c.args.laid.child_bitmap c.with_bit.result c.args.child sets c.requires.child i ne)))
+
+-- src/table/handing.rt:91:15
+pub lay_node-lay_vacant-requires-clause-fits : goal.lay_node-lay_vacant-requires-clause-fits
+lay_node-lay_vacant-requires-clause-fits g t c =
+    values_fit c.args.cells.now.tiers c.args.values c.count.result c.requires.ground.cell_sizes_are c.requires.values
+    (c.count.ensures ∙ sym (rank-ones c.args.values 32 (omega arith)))
+
+-- src/table/handing.rt:101:5
+pub lay_node-loop-child-init : goal.lay_node-loop-child-init
+lay_node-loop-child-init g t c =
+    let laid = subst (λ n. LaysList None c.args.cells.now c.lay_vacant.new.self (replicate n None) c.in_ok-own.own)
+    (c.count.ensures ∙ sym (rank-ones c.args.values 32 (omega arith))) c.in_ok-own.ensures in
+    let empty = c.new-below.ensures in
+    let bough = bough_start (chosen c.args.from.now.slots c.args.node c.args.values c.args.children) c.args.values c.in_ok-own.own c.args.nodes.now c.args.cells.now c.lay_vacant.new.self (λ b. refl)
+    c.requires.ground.cell_sizes_are laid in
+    record {
+      ground = ground_cells c.args.nodes.now c.args.nodes.now c.args.cells.now c.lay_vacant.new.self c.requires.ground _ c.in_ok-own.own laid;
+      few = search rules;
+      bough = subst (λ xs. IsBough (chosen c.args.from.now.slots c.args.node c.args.values c.args.children) 0 (first c.args.values c.in_ok-own.own) xs c.args.nodes.now c.args.nodes.now c.args.cells.now c.lay_vacant.new.self)
+          (sym empty) bough;
+      nodes = Lays-none c.args.nodes.now;
+      cells = Lays-list None c.args.cells.now c.lay_vacant.new.self _ c.in_ok-own.own laid;
+    }
+
+-- src/table/handing.rt:102:16
+pub lay_node-lay_child-requires : goal.lay_node-lay_child-requires
+lay_node-lay_child-requires g t c κs within =
+    let inv = c.loop-child.invariant in (
+      omega arith,
+      (
+        within.0,
+        (
+          within.1.0,
+          (
+            within.1.1,
+            (
+              c.requires.source,
+              (
+                c.loop-child-test.true,
+                (c.requires.children, (inv.ground, (inv.few, (c.args.values, c.args.nodes.now, c.args.cells.now, inv.bough)))),
+              ),
+            ),
+          ),
+        ),
+      ),
+    )
+
+-- src/table/handing.rt:101:5
+pub lay_node-loop-child-preserved : goal.lay_node-loop-child-preserved
+lay_node-loop-child-preserved g t c =
+    let e = c.in_ok-laid.ensures in
+    record {
+      ground = e.ground;
+      few = e.few;
+      bough = e.bough c.args.values c.args.nodes.now c.args.cells.now c.loop-child.invariant.bough;
+      nodes = Lays-then c.args.nodes.now c.loop-child.nodes c.lay_child.new.nodes c.loop-child.invariant.nodes e.lays_nodes;
+      cells = Lays-then c.args.cells.now c.loop-child.cells c.lay_child.new.cells c.loop-child.invariant.cells e.lays_cells;
+    }
+
+-- src/table/handing.rt:107:9
+pub lay_node-returns-then-is_bare-clause-ground : goal.lay_node-returns-then-is_bare-clause-ground
+lay_node-returns-then-is_bare-clause-ground g t c =
+    c.loop-child.invariant.ground
+
+-- src/table/handing.rt:107:9
+pub lay_node-returns-then-is_bare-clause-laid : goal.lay_node-returns-then-is_bare-clause-laid
+lay_node-returns-then-is_bare-clause-laid g t c =
+    let all : 32 ≤ c.loop-child.child = (let h = c.loop-child-test.false in omega (arith, h)) in
+    let past = behind c.args.from.now.slots c.args.node c.args.values c.args.children in
+    let bare = c.is_bare.ensures.bare c.if-is_bare.true in
+    record {
+      none = bough_bare (chosen c.args.from.now.slots c.args.node c.args.values c.args.children) c.loop-child.child c.loop-child.laid c.loop-child.below.items c.args.nodes.now c.loop-child.nodes c.args.cells.now c.loop-child.cells c.loop-child.invariant.bough past all bare;
+      nodes = bare_nodes (chosen c.args.from.now.slots c.args.node c.args.values c.args.children) c.loop-child.child c.loop-child.laid c.loop-child.below.items c.args.nodes.now c.loop-child.nodes c.args.cells.now c.loop-child.cells c.loop-child.invariant.bough past all bare;
+      cells = bare_cells (chosen c.args.from.now.slots c.args.node c.args.values c.args.children) c.loop-child.child c.loop-child.laid c.loop-child.below.items c.args.nodes.now c.loop-child.nodes c.args.cells.now c.loop-child.cells c.loop-child.invariant.bough past all bare;
+    }
+
+-- src/table/handing.rt:107:9
+pub lay_node-returns-then-is_bare-clause-lays_nodes :
+    goal.lay_node-returns-then-is_bare-clause-lays_nodes
+lay_node-returns-then-is_bare-clause-lays_nodes g t c =
+    c.loop-child.invariant.nodes
+
+-- src/table/handing.rt:107:9
+pub lay_node-returns-then-is_bare-clause-lays_cells :
+    goal.lay_node-returns-then-is_bare-clause-lays_cells
+lay_node-returns-then-is_bare-clause-lays_cells g t c =
+    c.loop-child.invariant.cells
+
+-- src/table/handing.rt:109:16
+pub lay_node-lay-requires-clause-sound : goal.lay_node-lay-requires-clause-sound
+lay_node-lay-requires-clause-sound g t c =
+    (c.loop-child.invariant.ground.node_live, c.loop-child.invariant.ground.nodes)
+
+-- src/table/handing.rt:109:16
+pub lay_node-lay-requires-clause-fits : goal.lay_node-lay-requires-clause-fits
+lay_node-lay-requires-clause-fits g t c =
+    children_fit c.loop-child.nodes.tiers (length c.deref.result.now) c.loop-child.invariant.ground.node_sizes_are
+    (let same = ap (λ (xs : List Node). length xs) c.deref.ensures.0 in
+    let few = c.loop-child.invariant.few in
+    let last = c.loop-child.auto.child-end in omega (arith, same, few, last))
+
+-- src/table/handing.rt:116:21
+pub lay_node-overflow_cast-result : goal.lay_node-overflow_cast-result
+lay_node-overflow_cast-result g t c =
+    let small = laid_tier blank_node c.loop-child.nodes c.lay.new.self c.deref.result.now c.in_ok-list.list node_sizes c.loop-child.invariant.ground.node_sizes_are (omega arith)
+    c.in_ok-list.ensures in omega (arith, small)
+
+-- src/table/handing.rt:70:1
+pub lay_node-returns-clause-ground : goal.lay_node-returns-clause-ground
+lay_node-returns-clause-ground g t c =
+    ground_nodes c.loop-child.nodes c.lay.new.self c.loop-child.cells c.loop-child.cells c.loop-child.invariant.ground c.deref.result.now c.in_ok-list.list c.in_ok-list.ensures
+
+-- src/table/handing.rt:70:1
+pub lay_node-returns-clause-laid : goal.lay_node-returns-clause-laid
+lay_node-returns-clause-laid g t c =
+    let all : 32 ≤ c.loop-child.child = (let h = c.loop-child-test.false in omega (arith, h)) in
+    bough_closed (chosen c.args.from.now.slots c.args.node c.args.values c.args.children) c.loop-child.child c.loop-child.laid c.loop-child.below.items c.args.nodes.now c.loop-child.nodes c.args.cells.now c.loop-child.cells c.loop-child.invariant.bough (behind c.args.from.now.slots c.args.node c.args.values c.args.children) all c.lay.new.self c.in_ok-list.list
+    c.loop-child.invariant.ground.node_sizes_are
+    (subst (λ xs. LaysList blank_node c.loop-child.nodes c.lay.new.self xs c.in_ok-list.list) c.deref.ensures.0 c.in_ok-list.ensures)
+    (c.is_bare.ensures.stocked c.if-is_bare.false)
+
+-- src/table/handing.rt:70:1
+pub lay_node-returns-clause-lays_nodes : goal.lay_node-returns-clause-lays_nodes
+lay_node-returns-clause-lays_nodes g t c =
+    Lays-then c.args.nodes.now c.loop-child.nodes c.lay.new.self c.loop-child.invariant.nodes
+    (Lays-list blank_node c.loop-child.nodes c.lay.new.self c.deref.result.now c.in_ok-list.list c.in_ok-list.ensures)
+
+-- src/table/handing.rt:70:1
+pub lay_node-returns-clause-lays_cells : goal.lay_node-returns-clause-lays_cells
+lay_node-returns-clause-lays_cells g t c =
+    c.loop-child.invariant.cells
