@@ -1,8 +1,8 @@
 //! What a slot of an array can hold, and work on runs of slots. None of these asks for memory.
-ghost use Rattle.std.specs.Prelude.{◌≡◌, ℕ, ◌+◌, ◌<◌, ◌≤◌, ◌++◌, length, replicate, insert, remove, vec_len, vec_capacity, slice_index_or};
+ghost use Rattle.std.specs.Prelude.{◌≡◌, ℕ, ◌+◌, ◌<◌, ◌≤◌, ◌++◌, length, replicate, insert, remove, vec_len, vec_capacity, slice_index_or, OnOk, OnErr, IsOk};
 ghost use Rattle.prefix_trie_table.specs.Runs.{put_run, swap_runs};
 
-use std::alloc::Allocator;
+use std::alloc::{AllocError, Allocator};
 use std::mem;
 
 /// What can stand in a slot of an array of blocks, with a value for a slot that is not used.
@@ -23,6 +23,48 @@ impl<T: Drop> Slot for Option<T> {
     fn vacant() -> Self {
         None
     }
+}
+
+/// Makes room for so many more items, by one request for memory at most.
+#[inline]
+pub(super) fn make_room<S, A: Allocator>(
+    items: &mut Vec<S, A>,
+    count: usize,
+) -> Result<(), AllocError>
+    ensures items { items.new.items ≡ items.old.items }
+    ensures len { vec_len items.new ≡ vec_len items.old }
+    ensures ok { OnOk result (vec_len items.new + count ≤ vec_capacity items.new) }
+    ensures capacity { vec_capacity items.old ≤ vec_capacity items.new }
+    ensures succeeds { vec_len items.old + count ≤ vec_capacity items.old → IsOk result }
+    ensures err { OnErr result (vec_capacity items.new ≡ vec_capacity items.old) }
+{
+    if count <= items.capacity() - items.len() {
+        return Ok(());
+    }
+    grow(items, count)
+}
+
+// An array with room for so many items or more grows by a quarter, a shorter one to twice its room: then the less of a long one
+// stands empty, and a short one is seldom moved.
+const LONG: usize = 4096;
+
+// The part of `make_room` that asks for memory, apart so that the test is inlined.
+#[cold]
+#[inline(never)]
+fn grow<S, A: Allocator>(items: &mut Vec<S, A>, count: usize) -> Result<(), AllocError>
+    requires { vec_capacity items.old < vec_len items.old + count }
+    ensures items { items.new.items ≡ items.old.items }
+    ensures len { vec_len items.new ≡ vec_len items.old }
+    ensures ok { OnOk result (vec_len items.new + count ≤ vec_capacity items.new) }
+    ensures capacity { vec_capacity items.old ≤ vec_capacity items.new }
+    ensures err { OnErr result (vec_capacity items.new ≡ vec_capacity items.old) }
+{
+    let room = items.capacity();
+    if room < LONG {
+        return items.reserve(count);
+    }
+    let longer = room + room / 4;
+    items.reserve_exact(count.max(longer - items.len()))
 }
 
 /// Appends unused places, for which there is room.

@@ -4,7 +4,7 @@ ghost use Rattle.prefix_trie_table.specs.Store.{UsedBlock, Sound, tier_at, grown
 ghost use Rattle.prefix_trie_bits.specs.declared.prefix.Refusal.TheVariants.{Memory, IndexRange};
 
 use crate::allocator::blocks::Blocks;
-use crate::allocator::slots::{Slot, push_vacant};
+use crate::allocator::slots::{Slot, make_room, push_vacant};
 use prefix_trie_bits::prefix::Refusal;
 use std::alloc::Allocator;
 
@@ -80,7 +80,7 @@ impl<S: Slot, A: Allocator> Blocks<S, A> {
         if len + size as usize > self.limit as usize {
             return Err(Refusal::IndexRange);
         }
-        if self.slots.reserve(size as usize).is_err() {
+        if make_room(&mut self.slots, size as usize).is_err() {
             return Err(Refusal::Memory);
         }
         let list = &mut self.lists[k];

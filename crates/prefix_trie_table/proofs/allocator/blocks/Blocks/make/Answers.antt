@@ -11,7 +11,7 @@ invariant_of-self-2 g c =
     let within : c.args.k < length v.lists.items = rw (← c.self.view_is) at c.requires in
     let added : c.push_made.new.self ≡ record old { made = old.made + 1; starts = old.starts ++ c.len-len.result ∷ [] } = search rules in
     let size : c.size_of-size.result ≡ old.size = (rw (← c.self.view_is) at c.size_of-size.ensures) ∙ ap (λ (t : Tier). t.size) (get_or_default v.lists.items c.args.k _ old within ∙ sym c.index_mut-list.ensures.value) in
-    let len : length c.push_vacant.new.slots.items ≡ length v.slots.items + old.size = ap (λ xs. length xs) c.push_vacant.ensures ∙ length-append c.reserve.new.self.items (replicate c.size_of-size.result g.S.Slot.vacant) ∙ (let r = length-replicate c.size_of-size.result g.S.Slot.vacant in let e : length c.reserve.new.self.items ≡ length v.slots.items = ap (λ xs. length xs) c.reserve.ensures.items in omega arith) in
+    let len : length c.push_vacant.new.slots.items ≡ length v.slots.items + old.size = ap (λ xs. length xs) c.push_vacant.ensures ∙ length-append c.make_room.new.items.items (replicate c.size_of-size.result g.S.Slot.vacant) ∙ (let r = length-replicate c.size_of-size.result g.S.Slot.vacant in let e : length c.make_room.new.items.items ≡ length v.slots.items = ap (λ xs. length xs) c.make_room.ensures.items in omega arith) in
     let made = made_fits v.lists.items c.args.k old c.push_made.new.self (old.starts ++ c.len-len.result ∷ []) v.first (length v.slots.items) within c.index_mut-list.ensures.value added (c.self.invariant.1 ∙ v.slots.ok.0) c.self.invariant.2 in
     let before : c.len-len.result ≡ length v.slots.items = rw (← c.self.view_is) at c.len-len.ensures.len in
     (omega (arith, len, before, c.if-len-size.false, c.push_vacant.new.slots.ok.0, v.slots.ok.0), made.0 ∙ sym len ∙ sym c.push_vacant.new.slots.ok.0, made.1)
@@ -24,7 +24,7 @@ returns-clause-sound g c = λ live s.
     let at_k : tier_at v.lists.items c.args.k ≡ old = get_or_default v.lists.items c.args.k _ old within ∙ sym c.index_mut-list.ensures.value in
     let added : c.push_made.new.self ≡ record old { made = old.made + 1; starts = old.starts ++ c.len-len.result ∷ [] } = search rules in
     let size : c.size_of-size.result ≡ (tier_at v.lists.items c.args.k).size = rw (← c.self.view_is) at c.size_of-size.ensures in
-    Sound-grown_as g.S.Slot.vacant live _ c.args.k c.size_of-size.result c.len-len.result c.push_made.new.self c.push_vacant.new.slots.items within (c.push_vacant.ensures ∙ ap (λ xs. xs ++ replicate c.size_of-size.result g.S.Slot.vacant) c.reserve.ensures.items) size (rw (← c.self.view_is) at c.len-len.ensures.len) (added ∙ ap (λ (t : Tier). record t { made = t.made + 1; starts = t.starts ++ c.len-len.result ∷ [] }) (sym at_k)) (rw (← c.self.view_is) at s)
+    Sound-grown_as g.S.Slot.vacant live _ c.args.k c.size_of-size.result c.len-len.result c.push_made.new.self c.push_vacant.new.slots.items within (c.push_vacant.ensures ∙ ap (λ xs. xs ++ replicate c.size_of-size.result g.S.Slot.vacant) c.make_room.ensures.items) size (rw (← c.self.view_is) at c.len-len.ensures.len) (added ∙ ap (λ (t : Tier). record t { made = t.made + 1; starts = t.starts ++ c.len-len.result ∷ [] }) (sym at_k)) (rw (← c.self.view_is) at s)
 
 pub returns-then-len-size-clause-range : goal.returns-then-len-size-clause-range
 returns-then-len-size-clause-range g c = search rules
