@@ -7,6 +7,7 @@ pub mod Soundness
 pub mod Entering
 pub mod Spending
 pub mod Moving
+pub mod Tiers
 pub mod Turnovers
 pub mod Laying
 pub mod Preparing

@@ -2,10 +2,9 @@
 use Rattle.std.proofs.Common.{◌≡◌, ℕ, ◌+◌, ◌-◌, ◌<◌, ◌≤◌, inl, List, [], ◌∷◌, ◌++◌, length, take, drop, replicate, None, take-append-drop, refl, sym, ap, ◌∙◌, subst, arith}
 use Rattle.std.proofs.lemmas.List.{length-replicate, drop-replicate, replicate-append-replicate}
 use Rattle.std.proofs.lemmas.List.Elements.{All-head, All-tail, All-cons}
-use Rattle.std.specs.List.{All}
 use Rattle.prefix_trie_table.specs.declared.allocator.blocks.BlockRef.{BlockRef}
 use Rattle.prefix_trie_table.specs.Runs.{run, put_run}
-use Rattle.prefix_trie_table.specs.Store.{Store, UsedBlock, Sound, IsOfTier, HoldsItems, Turnover, Keeps, Prepared, block, filled, held, taken, tier_at, tier_for, free_at, many_at, none_at, grown_times}
+use Rattle.prefix_trie_table.specs.Store.{Store, UsedBlock, Sound, IsOfTier, HoldsItems, Turnover, Keeps, Prepared, block, filled, taken, tier_at, tier_for, free_at, many_at, none_at, grown_times}
 use Rattle.prefix_trie_table.specs.Laying.{NoneFree, LaysList}
 use Rattle.prefix_trie_table.proofs.Blocks.RunLemmas.{length-put_run, get_or-put_run_out, put_run_part}
 use Rattle.prefix_trie_table.proofs.Blocks.Soundness.{Sound-written, block_inside, block_slots, first_place, tier_for_holds}

@@ -2,7 +2,7 @@
 use Rattle.std.proofs.Common.{◌≡◌, ◌≢◌, ℕ, zero, suc, ◌+◌, ◌-◌, ◌*◌, ◌<◌, ◌≤◌, inl, inr, ⊎_elim, true, cond, eqb, leb, Some, List, [], ◌∷◌, ◌++◌, length, get_or, set, take, drop, map, replicate, insert, remove, sum_by, count_by, All, IsPermutation, refl, sym, ap, ◌∙◌, subst, arith, append_assoc, length-append}
 use Rattle.std.proofs.lemmas.List.{length-map, get_or_default, get_or-set_same, get_or-set_other, length-set, set-set, set-get_or, length-replicate, map-append, get_or-take, get_or-drop, get_or_append_left, set-append_left, take-take, take_at, drop_at, take-replicate, drop-replicate, replicate-append-replicate}
 use Rattle.std.proofs.lemmas.List.Edits.{insert-append_left, insert-append_right, remove-append_left, remove-append_right, length-insert, length-remove}
-use Rattle.std.proofs.lemmas.List.Elements.{All-nil, All-cons, All-head, All-tail, All-weaker, All-same, All-set, All-map}
+use Rattle.std.proofs.lemmas.List.Elements.{All-nil, All-cons, All-head, All-tail, All-weaker, All-same, All-map}
 use Rattle.std.proofs.lemmas.List.Sums.{sum_by-cons, sum_by-set}
 use Rattle.std.proofs.lemmas.List.Sorted.{All-permutation, IsPermutation-refl, IsPermutation-sym, IsPermutation-trans, IsPermutation-cons, IsPermutation-to_front, IsPermutation-middle, IsPermutation-append_left, IsPermutation-append_right, IsPermutation-map, sum_by-IsPermutation}
 use Rattle.std.proofs.lemmas.Bool.{cases_eq, cases_lt, false≢true, le-leb}
@@ -215,14 +215,13 @@ module _ {S : Type 0} where
       (of.within, omega (arith, s.counted b.tier of.within, count-cons_same b live b.tier refl))
 
 -- a tier counts one more block: the slots that the tiers take
-pub made_fits : (ts : List Tier) (k : ℕ) (old new : Tier) (starts : List ℕ) (first len : ℕ) → k < length ts → old ≡ get_or ts k old → new ≡ record { size = old.size; made = old.made + 1; starts = starts } → first + slots_made ts ≡ len → All (λ t. 0 < t.size) ts → (first + slots_made (set ts k new) ≡ len + old.size) × All (λ t. 0 < t.size) (set ts k new)
-made_fits ts k old new starts first len inside read new_is total positive =
+pub made_fits : (ts : List Tier) (k : ℕ) (old new : Tier) (starts : List ℕ) (first len : ℕ) → k < length ts → old ≡ get_or ts k old → new ≡ record { size = old.size; made = old.made + 1; starts = starts } → first + slots_made ts ≡ len → first + slots_made (set ts k new) ≡ len + old.size
+made_fits ts k old new starts first len inside read new_is total =
     let f : Tier → ℕ = λ t. t.size * t.made in
     let changed : sum_by f (set ts k new) + f (get_or ts k old) ≡ sum_by f ts + f new = sum_by-set f ts k new old inside in
     let had : f (get_or ts k old) ≡ old.size * old.made = ap f (sym read) in
     let has : f new ≡ old.size * (old.made + 1) = ap f new_is in
-    let pos : 0 < new.size = (let h : 0 < (get_or ts k old).size = positive k old inside in let e : new.size ≡ (get_or ts k old).size = ap (λ (t : Tier). t.size) new_is ∙ ap (λ (t : Tier). t.size) read in omega arith) in
-    (omega (arith, changed, had, has), All-set (λ t. 0 < t.size) ts k new pos positive)
+    omega (arith, changed, had, has)
 
 module _ {S : Type 0} where
   -- `Sound-grown`, as the calls say what they wrote

@@ -59,7 +59,7 @@ impl<S: Slot, A: Allocator> Blocks<S, A> {
             self.insert_within(start, count, place, value);
             return BlockRef { tier: k, start };
         }
-        let tier = self.tier_for(count as usize + 1).unwrap();
+        let tier = self.tier_holding(count as usize + 1);
         let start = self.insert_moving(k, start, tier, count, place, value);
         BlockRef { tier, start }
     }

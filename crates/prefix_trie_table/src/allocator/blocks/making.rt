@@ -49,6 +49,7 @@ impl<S: Slot, A: Allocator> Blocks<S, A> {
     fn lacking(&self, k: usize, count: u32) -> Option<usize>
         requires tier { 0 < count → k < length self.now.tiers }
         requires single { tier_for self.now.tiers 1 ≡ Some 0 }
+        requires fits { IsSome (tier_for self.now.tiers (count + 1)) }
         ensures { result ≡ tier_lacking self.now.tiers k count }
     {
         if count == 0 {
@@ -57,7 +58,7 @@ impl<S: Slot, A: Allocator> Blocks<S, A> {
         if count < self.size_of(k) {
             return None;
         }
-        self.tier_for(count as usize + 1)
+        Some(self.tier_holding(count as usize + 1))
     }
 
     /// Makes a block of tier `k` at the array's end. It is free, with its place in the list of free ones.
