@@ -3,6 +3,7 @@ pub mod SevenTiers
 pub mod Shifts
 pub mod Tilings
 pub mod RunLemmas
+pub mod MovedIn
 pub mod Soundness
 pub mod Entering
 pub mod Spending

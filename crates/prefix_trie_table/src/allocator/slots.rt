@@ -1,6 +1,6 @@
 //! What a slot of an array can hold, and work on runs of slots. None of these asks for memory.
-ghost use Rattle.std.specs.Prelude.{◌≡◌, ℕ, ◌+◌, ◌<◌, ◌≤◌, ◌++◌, length, replicate, insert, remove, vec_len, vec_capacity, slice_index_or, OnOk, OnErr, IsOk};
-ghost use Rattle.prefix_trie_table.specs.Runs.{put_run, swap_runs};
+ghost use Rattle.std.specs.Prelude.{◌≡◌, ℕ, ◌+◌, ◌<◌, ◌≤◌, ◌⊎◌, ◌++◌, length, replicate, insert, remove, vec_len, vec_capacity, slice_index_or, OnOk, OnErr, IsOk};
+ghost use Rattle.prefix_trie_table.specs.Runs.{run, put_run, swap_runs};
 
 use std::alloc::{AllocError, Allocator};
 use std::mem;
@@ -118,6 +118,28 @@ pub(super) fn exchange<S, A: Allocator>(slots: &mut Vec<S, A>, a: usize, b: usiz
     for i in 0..count {
         slots.swap(a + i, b + i);
     }
+}
+
+/// Moves `count` values to unused places, with one more among them at `place`, and leaves theirs unused.
+pub(super) fn move_in<S: Slot, A: Allocator>(
+    slots: &mut Vec<S, A>,
+    from: usize,
+    to: usize,
+    count: usize,
+    place: usize,
+    value: S,
+)
+    requires from_within { from + count ≤ vec_len slots.old }
+    requires to_within { to + count < vec_len slots.old }
+    requires apart { (from + count ≤ to) ⊎ (to + count < from) }
+    requires unused { run slots.old.items to (count + 1) ≡ replicate (count + 1) S.vacant }
+    requires place { place ≤ count }
+    ensures items { slots.new.items ≡ put_run (put_run slots.old.items from (replicate count S.vacant)) to (insert (run slots.old.items from count) place value) }
+    ensures len { vec_len slots.new ≡ vec_len slots.old }
+{
+    exchange(slots, from, to, place);
+    slots[to + place] = value;
+    exchange(slots, from + place, to + place + 1, count - place);
 }
 
 /// Writes items over as many places from `from` on.
