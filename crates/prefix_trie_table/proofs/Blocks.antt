@@ -3,10 +3,12 @@ pub mod SevenTiers
 pub mod Shifts
 pub mod Tilings
 pub mod RunLemmas
+pub mod MovedIn
 pub mod Soundness
 pub mod Entering
 pub mod Spending
 pub mod Moving
+pub mod Tiers
 pub mod Turnovers
 pub mod Laying
 pub mod Preparing

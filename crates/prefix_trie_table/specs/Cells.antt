@@ -1,6 +1,7 @@
 -- Nodes in their array, and the sizes of the blocks of nodes and of values. This project's own.
-use Rattle.std.specs.Prelude.{ℕ, List, slice_index_or}
+use Rattle.std.specs.Prelude.{◌≡◌, ◌⊎◌, ℕ, List, slice_index_or}
 use Rattle.prefix_trie_bits.specs.Model.Blocks.{child_block_sizes, value_block_sizes}
+use Rattle.prefix_trie_table.specs.Store.{Tier, tier_sizes}
 use Rattle.prefix_trie_table.specs.declared.allocator.node.Node.{Node}
 
 -- a node without values and children
@@ -18,3 +19,7 @@ node_sizes = child_block_sizes
 -- the sizes of blocks in the array of values
 abbrev pub cell_sizes : List ℕ
 cell_sizes = value_block_sizes
+
+-- the tiers are those of the one or of the other
+abbrev pub HasSizes : List Tier → Type 0
+HasSizes ts = (tier_sizes ts ≡ cell_sizes) ⊎ (tier_sizes ts ≡ node_sizes)

@@ -68,10 +68,10 @@ module _ {X : Type 0} where
       ap (λ zs. take a xs ++ zs) (ap (λ zs. ys ++ zs) (sym rest) ∙ sym (append_assoc ys (drop (length ys) (run xs a n)) (drop (a + n) xs)) ∙ ap (λ k. (ys ++ drop (length ys) (run xs a n)) ++ drop (a + k) xs) (sym whole))
 
   -- an item of a list, and of a run of it
-  get_or-run : (xs : List X) (a n i : ℕ) (d : X) → i < n → get_or (run xs a n) i d ≡ get_or xs (a + i) d
+  pub get_or-run : (xs : List X) (a n i : ℕ) (d : X) → i < n → get_or (run xs a n) i d ≡ get_or xs (a + i) d
   get_or-run xs a n i d h = get_or-take n (drop a xs) i d h ∙ get_or-drop a xs i d
 
-  get_or-put_run_in : (xs : List X) (a : ℕ) (ys : List X) (i : ℕ) (d : X) → a + length ys ≤ length xs → i < length ys → get_or (put_run xs a ys) (a + i) d ≡ get_or ys i d
+  pub get_or-put_run_in : (xs : List X) (a : ℕ) (ys : List X) (i : ℕ) (d : X) → a + length ys ≤ length xs → i < length ys → get_or (put_run xs a ys) (a + i) d ≡ get_or ys i d
   get_or-put_run_in xs a ys i d inside h =
       sym (get_or-run (put_run xs a ys) a (length ys) i d h) ∙ ap (λ zs. get_or zs i d) (run-put_run_same xs a ys inside)
 
@@ -82,16 +82,16 @@ module _ {X : Type 0} where
       one (put_run xs a ys) ∙ ap (λ zs. get_or zs 0 d) (run-put_run_other xs a ys k 1 inside apart) ∙ sym (one xs)
 
   -- where each item stands after two runs were exchanged
-  record Exchanged (xs zs : List X) (a b n : ℕ) (d : X) : Type 0 where
-    at_a : (i : ℕ) → i < n → get_or zs (a + i) d ≡ get_or xs (b + i) d
-    at_b : (i : ℕ) → i < n → get_or zs (b + i) d ≡ get_or xs (a + i) d
-    elsewhere : (k : ℕ) → (k < a) ⊎ (a + n ≤ k) → (k < b) ⊎ (b + n ≤ k) → get_or zs k d ≡ get_or xs k d
+  pub record Exchanged (xs zs : List X) (a b n : ℕ) (d : X) : Type 0 where
+    pub at_a : (i : ℕ) → i < n → get_or zs (a + i) d ≡ get_or xs (b + i) d
+    pub at_b : (i : ℕ) → i < n → get_or zs (b + i) d ≡ get_or xs (a + i) d
+    pub elsewhere : (k : ℕ) → (k < a) ⊎ (a + n ≤ k) → (k < b) ⊎ (b + n ≤ k) → get_or zs k d ≡ get_or xs k d
 
   pub length-swap_runs : (xs : List X) (a b n : ℕ) → length (swap_runs xs a b n) ≡ length xs
   length-swap_runs xs a b zero = refl
   length-swap_runs xs a b (suc n) = length-swap (swap_runs xs a b n) (a + n) (b + n) ∙ length-swap_runs xs a b n
 
-  exchanged : (xs : List X) (a b n : ℕ) (d : X) → a + n ≤ length xs → b + n ≤ length xs → (a + n ≤ b) ⊎ (b + n ≤ a) → Exchanged xs (swap_runs xs a b n) a b n d
+  pub exchanged : (xs : List X) (a b n : ℕ) (d : X) → a + n ≤ length xs → b + n ≤ length xs → (a + n ≤ b) ⊎ (b + n ≤ a) → Exchanged xs (swap_runs xs a b n) a b n d
   exchanged xs a b zero d ha hb apart =
       record { at_a = λ i h. absurd (omega arith); at_b = λ i h. absurd (omega arith); elsewhere = λ k h j. refl }
   exchanged xs a b (suc n) d ha hb apart =

@@ -1,8 +1,8 @@
 -- What keeps a store sound.
-use Rattle.std.proofs.Common.{◌≡◌, ◌≢◌, ℕ, zero, suc, ◌+◌, ◌-◌, ◌*◌, ◌<◌, ◌≤◌, inl, inr, ⊎_elim, true, cond, eqb, leb, Some, List, [], ◌∷◌, ◌++◌, length, get_or, set, take, drop, map, replicate, insert, remove, sum_by, count_by, All, IsPermutation, refl, sym, ap, ◌∙◌, subst, arith, append_assoc, length-append}
+use Rattle.std.proofs.Common.{◌≡◌, ◌≢◌, ℕ, zero, suc, ◌+◌, ◌-◌, ◌*◌, ◌<◌, ◌≤◌, ◌⊎◌, inl, inr, ⊎_elim, true, cond, eqb, leb, Some, List, [], ◌∷◌, ◌++◌, length, get_or, set, take, drop, map, replicate, insert, remove, sum_by, count_by, All, IsPermutation, refl, sym, ap, ◌∙◌, subst, arith, append_assoc, length-append}
 use Rattle.std.proofs.lemmas.List.{length-map, get_or_default, get_or-set_same, get_or-set_other, length-set, set-set, set-get_or, length-replicate, map-append, get_or-take, get_or-drop, get_or_append_left, set-append_left, take-take, take_at, drop_at, take-replicate, drop-replicate, replicate-append-replicate}
 use Rattle.std.proofs.lemmas.List.Edits.{insert-append_left, insert-append_right, remove-append_left, remove-append_right, length-insert, length-remove}
-use Rattle.std.proofs.lemmas.List.Elements.{All-nil, All-cons, All-head, All-tail, All-weaker, All-same, All-set, All-map}
+use Rattle.std.proofs.lemmas.List.Elements.{All-nil, All-cons, All-head, All-tail, All-weaker, All-same, All-map}
 use Rattle.std.proofs.lemmas.List.Sums.{sum_by-cons, sum_by-set}
 use Rattle.std.proofs.lemmas.List.Sorted.{All-permutation, IsPermutation-refl, IsPermutation-sym, IsPermutation-trans, IsPermutation-cons, IsPermutation-to_front, IsPermutation-middle, IsPermutation-append_left, IsPermutation-append_right, IsPermutation-map, sum_by-IsPermutation}
 use Rattle.std.proofs.lemmas.Bool.{cases_eq, cases_lt, false≢true, le-leb}
@@ -215,14 +215,13 @@ module _ {S : Type 0} where
       (of.within, omega (arith, s.counted b.tier of.within, count-cons_same b live b.tier refl))
 
 -- a tier counts one more block: the slots that the tiers take
-pub made_fits : (ts : List Tier) (k : ℕ) (old new : Tier) (starts : List ℕ) (first len : ℕ) → k < length ts → old ≡ get_or ts k old → new ≡ record { size = old.size; made = old.made + 1; starts = starts } → first + slots_made ts ≡ len → All (λ t. 0 < t.size) ts → (first + slots_made (set ts k new) ≡ len + old.size) × All (λ t. 0 < t.size) (set ts k new)
-made_fits ts k old new starts first len inside read new_is total positive =
+pub made_fits : (ts : List Tier) (k : ℕ) (old new : Tier) (starts : List ℕ) (first len : ℕ) → k < length ts → old ≡ get_or ts k old → new ≡ record { size = old.size; made = old.made + 1; starts = starts } → first + slots_made ts ≡ len → first + slots_made (set ts k new) ≡ len + old.size
+made_fits ts k old new starts first len inside read new_is total =
     let f : Tier → ℕ = λ t. t.size * t.made in
     let changed : sum_by f (set ts k new) + f (get_or ts k old) ≡ sum_by f ts + f new = sum_by-set f ts k new old inside in
     let had : f (get_or ts k old) ≡ old.size * old.made = ap f (sym read) in
     let has : f new ≡ old.size * (old.made + 1) = ap f new_is in
-    let pos : 0 < new.size = (let h : 0 < (get_or ts k old).size = positive k old inside in let e : new.size ≡ (get_or ts k old).size = ap (λ (t : Tier). t.size) new_is ∙ ap (λ (t : Tier). t.size) read in omega arith) in
-    (omega (arith, changed, had, has), All-set (λ t. 0 < t.size) ts k new pos positive)
+    omega (arith, changed, had, has)
 
 module _ {S : Type 0} where
   -- `Sound-grown`, as the calls say what they wrote
@@ -287,20 +286,29 @@ module _ {S : Type 0} where
   Sound-exchanged vacant a b live v s =
       Sound-permuted vacant (a ∷ b ∷ live) (b ∷ a ∷ live) v (IsPermutation-middle (a ∷ []) b live) s
 
-  -- the items of one block move to the front of another, which holds none
-  pub Sound-moved : (vacant : S) (a b : UsedBlock S) (live : List (UsedBlock S)) (v : Store S) (count : ℕ) → length a.items ≡ count → b.items ≡ [] → count ≤ b.size → Sound vacant (a ∷ b ∷ live) v → Sound vacant (record a { items = [] } ∷ record b { items = a.items } ∷ live) (record v { slots = swap_runs v.slots a.start b.start count })
-  Sound-moved vacant a b live v c is_count none room s =
+-- a block in use, and another that holds none
+module _ {S : Type 0} (vacant : S) (a b : UsedBlock S) (live : List (UsedBlock S)) (v : Store S) (none : b.items ≡ []) (s : Sound vacant (a ∷ b ∷ live) v) where
+  slots_none : run v.slots b.start b.size ≡ replicate b.size vacant
+  slots_none = block_slots vacant b (a ∷ live) v (Sound-exchanged vacant a b live v s) ∙ ap (λ xs. filled vacant b.size xs) none ∙ filled_none vacant b.size
+
+  pub two_apart : (a.start + a.size ≤ b.start) ⊎ (b.start + b.size ≤ a.start)
+  two_apart = All-head (Disjoint (extent a)) (extent b) (map extent live ++ free_extents v.tiers) (others vacant a (b ∷ live) v s)
+
+  pub run_items : (c : ℕ) → length a.items ≡ c → run v.slots a.start c ≡ a.items
+  run_items c is_count =
+      sym (take-take c a.size (drop a.start v.slots) (let f = fits_block vacant a (b ∷ live) v s in omega arith)) ∙ ap (λ xs. take c xs) (block_slots vacant a (b ∷ live) v s) ∙ take_at a.items (replicate (a.size - length a.items) vacant) c is_count
+
+  pub run_none : (c : ℕ) → c ≤ b.size → run v.slots b.start c ≡ replicate c vacant
+  run_none c room = sym (take-take c b.size (drop b.start v.slots) room) ∙ ap (λ xs. take c xs) slots_none ∙ take-replicate c b.size vacant room
+
+  -- the first is left empty, and the second holds these
+  pub Sound-put_over : (c : ℕ) (items zs : List S) → length a.items ≡ c → length items ≤ b.size → zs ≡ put_run (put_run v.slots a.start (replicate c vacant)) b.start items →
+      Sound vacant (record a { items = [] } ∷ record b { items = items } ∷ live) (record v { slots = zs })
+  Sound-put_over c items zs is_count room is =
       let wa = block_inside vacant a (b ∷ live) v s in
-      let wb = block_inside vacant b (a ∷ live) v (Sound-exchanged vacant a b live v s) in
       let fits : c ≤ a.size = (let f = fits_block vacant a (b ∷ live) v s in omega arith) in
-      let apart : Disjoint (extent a) (extent b) = All-head (Disjoint (extent a)) (extent b) (map extent live ++ free_extents v.tiers) (others vacant a (b ∷ live) v s) in
-      let narrow : Apart a.start c b.start c = ⊎_elim (λ (h : a.start + a.size ≤ b.start). inl (let e : a.start + c ≤ b.start = omega arith in e)) (λ (h : b.start + b.size ≤ a.start). inr (let e : b.start + c ≤ a.start = omega arith in e)) apart in
-      let slots_a : run v.slots a.start a.size ≡ filled vacant a.size a.items = block_slots vacant a (b ∷ live) v s in
-      let slots_b : run v.slots b.start b.size ≡ replicate b.size vacant = block_slots vacant b (a ∷ live) v (Sound-exchanged vacant a b live v s) ∙ ap (λ xs. filled vacant b.size xs) none ∙ filled_none vacant b.size in
-      let held_a : run v.slots a.start c ≡ a.items = sym (take-take c a.size (drop a.start v.slots) fits) ∙ ap (λ xs. take c xs) slots_a ∙ take_at a.items (replicate (a.size - length a.items) vacant) c is_count in
-      let held_b : run v.slots b.start c ≡ replicate c vacant = sym (take-take c b.size (drop b.start v.slots) room) ∙ ap (λ xs. take c xs) slots_b ∙ take-replicate c b.size vacant room in
       let rc : length (replicate c vacant) ≡ c = length-replicate c vacant in
-      let left : drop c (run v.slots a.start a.size) ≡ replicate (a.size - c) vacant = ap (λ xs. drop c xs) slots_a ∙ drop_at a.items (replicate (a.size - length a.items) vacant) c is_count ∙ ap (λ n. replicate (a.size - n) vacant) is_count in
+      let left : drop c (run v.slots a.start a.size) ≡ replicate (a.size - c) vacant = ap (λ xs. drop c xs) (block_slots vacant a (b ∷ live) v s) ∙ drop_at a.items (replicate (a.size - length a.items) vacant) c is_count ∙ ap (λ n. replicate (a.size - n) vacant) is_count in
       let emptied : replicate c vacant ++ drop (length (replicate c vacant)) (run v.slots a.start a.size) ≡ filled vacant a.size [] = ap (λ n. replicate c vacant ++ drop n (run v.slots a.start a.size)) rc ∙ ap (λ xs. replicate c vacant ++ xs) left ∙ replicate-append-replicate c (a.size - c) vacant ∙ ap (λ n. replicate n vacant) (let e : c + (a.size - c) ≡ a.size - 0 = omega arith in e) in
       let first : put_run v.slots a.start (replicate c vacant) ≡ put_run v.slots a.start (filled vacant a.size []) = put_run_part v.slots a.start a.size (replicate c vacant) wa.before (omega arith) ∙ ap (λ xs. put_run v.slots a.start xs) emptied in
       let ys : List S = put_run v.slots a.start (filled vacant a.size []) in
@@ -309,11 +317,20 @@ module _ {S : Type 0} where
       let su : Sound vacant (b ∷ a' ∷ live) u = Sound-exchanged vacant a' b live u (Sound-written vacant a (b ∷ live) v [] (omega arith) s) in
       let wu = block_inside vacant b (a' ∷ live) u su in
       let slots_u : run ys b.start b.size ≡ replicate b.size vacant = block_slots vacant b (a' ∷ live) u su ∙ ap (λ xs. filled vacant b.size xs) none ∙ filled_none vacant b.size in
-      let rest : a.items ++ drop (length a.items) (run ys b.start b.size) ≡ filled vacant b.size a.items = ap (λ xs. a.items ++ drop (length a.items) xs) slots_u ∙ ap (λ xs. a.items ++ xs) (drop-replicate (length a.items) b.size vacant) in
-      let second : put_run ys b.start a.items ≡ put_run ys b.start (filled vacant b.size a.items) = put_run_part ys b.start b.size a.items wu.before (omega arith) ∙ ap (λ xs. put_run ys b.start xs) rest in
-      let all : swap_runs v.slots a.start b.start c ≡ put_run ys b.start (filled vacant b.size a.items) = swap_runs_is v.slots a.start b.start c vacant (omega (arith, wa.before)) (omega (arith, wb.before)) narrow ∙ ap (λ xs. put_run (put_run v.slots a.start xs) b.start (run v.slots a.start c)) held_b ∙ ap (λ xs. put_run (put_run v.slots a.start (replicate c vacant)) b.start xs) held_a ∙ ap (λ xs. put_run xs b.start a.items) first ∙ second in
-      let b' : UsedBlock S = record b { items = a.items } in
-      subst (λ xs. Sound vacant (a' ∷ b' ∷ live) (record v { slots = xs })) (sym all) (Sound-exchanged vacant b' a' live (record u { slots = put_run ys b.start (filled vacant b.size a.items) }) (Sound-written vacant b (a' ∷ live) u a.items (omega arith) su))
+      let rest : items ++ drop (length items) (run ys b.start b.size) ≡ filled vacant b.size items = ap (λ xs. items ++ drop (length items) xs) slots_u ∙ ap (λ xs. items ++ xs) (drop-replicate (length items) b.size vacant) in
+      let second : put_run ys b.start items ≡ put_run ys b.start (filled vacant b.size items) = put_run_part ys b.start b.size items wu.before (omega arith) ∙ ap (λ xs. put_run ys b.start xs) rest in
+      let b' : UsedBlock S = record b { items = items } in
+      subst (λ xs. Sound vacant (a' ∷ b' ∷ live) (record v { slots = xs })) (sym (is ∙ ap (λ xs. put_run xs b.start items) first ∙ second)) (Sound-exchanged vacant b' a' live (record u { slots = put_run ys b.start (filled vacant b.size items) }) (Sound-written vacant b (a' ∷ live) u items (omega arith) su))
+
+  -- its items move to the front of the other
+  pub Sound-moved : (count : ℕ) → length a.items ≡ count → count ≤ b.size → Sound vacant (record a { items = [] } ∷ record b { items = a.items } ∷ live) (record v { slots = swap_runs v.slots a.start b.start count })
+  Sound-moved c is_count room =
+      let wa = block_inside vacant a (b ∷ live) v s in
+      let wb = block_inside vacant b (a ∷ live) v (Sound-exchanged vacant a b live v s) in
+      let fits : c ≤ a.size = (let f = fits_block vacant a (b ∷ live) v s in omega arith) in
+      let narrow : Apart a.start c b.start c = ⊎_elim (λ (h : a.start + a.size ≤ b.start). inl (let e : a.start + c ≤ b.start = omega arith in e)) (λ (h : b.start + b.size ≤ a.start). inr (let e : b.start + c ≤ a.start = omega arith in e)) two_apart in
+      Sound-put_over c a.items (swap_runs v.slots a.start b.start c) is_count (omega arith)
+      (swap_runs_is v.slots a.start b.start c vacant (omega (arith, wa.before)) (omega (arith, wb.before)) narrow ∙ ap (λ xs. put_run (put_run v.slots a.start xs) b.start (run v.slots a.start c)) (run_none c room) ∙ ap (λ xs. put_run (put_run v.slots a.start (replicate c vacant)) b.start xs) (run_items c is_count))
 
 module _ {S : Type 0} where
   -- the tier of a block in use

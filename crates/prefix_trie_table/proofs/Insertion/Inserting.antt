@@ -1,7 +1,7 @@
 -- What an insertion asks for and leaves.
-use Rattle.std.proofs.Common.{◌*◌, ◌≡◌, ℕ, zero, suc, ◌+◌, ◌<◌, ◌≤◌, inl, inr, Bool, true, false, cond, nat_le, List, [], ◌∷◌, ◌++◌, length, get_or, take, Option, None, Some, is_some, IsSome, sym, ap, ◌∙◌, subst, arith, not}
-use Rattle.std.proofs.lemmas.Bool.{cases_Bool, lt-ltb}
-use Rattle.std.specs.List.{position, prefix_len, position_or_len}
+use Rattle.std.proofs.Common.{◌*◌, ◌≡◌, ℕ, ◌+◌, ◌<◌, ◌≤◌, inl, inr, Bool, true, false, cond, nat_le, List, ◌∷◌, ◌++◌, length, get_or, take, Option, None, Some, IsSome, sym, ap, ◌∙◌, subst, arith}
+use Rattle.std.proofs.lemmas.Bool.{cases_Bool}
+use Rattle.std.specs.List.{position}
 use Rattle.std.proofs.lemmas.Bool.Decides.{nat_tests}
 use Rattle.prefix_trie_table.specs.declared.allocator.node.Node.{Node}
 use Rattle.prefix_trie_table.specs.Bitmaps.{has_bit, rank}
@@ -10,6 +10,7 @@ use Rattle.prefix_trie_table.specs.Forest.{IsSlot, NodesHold, CellsHold, Deepest
 use Rattle.prefix_trie_table.specs.Cells.{blank_node, node_at, node_sizes, cell_sizes}
 use Rattle.prefix_trie_table.proofs.Blocks.Soundness.{tier_of_block, first_place}
 use Rattle.prefix_trie_table.proofs.Blocks.Spending.{tier_for_sizes}
+use Rattle.prefix_trie_table.proofs.Blocks.Tiers.{position_there}
 use Rattle.prefix_trie_table.proofs.Strings.BitLists.{rank-more, rank-lacks}
 use Rattle.prefix_trie_table.specs.Digits.{path_of}
 use Rattle.prefix_trie_table.specs.Tables.{IsReached}
@@ -47,18 +48,6 @@ list_tier {S} vacant v k start count h some =
     let s : Sound vacant (block k start h.size h.items ∷ h.live) v =
     subst (λ bs. Sound vacant (bs ++ h.live) v) (held_some k start h.size h.items (let e = h.is_count in omega arith)) h.sound in
     (tier_of_block vacant (block k start h.size h.items) h.live v s).within
-
--- a list that has a size that passes
-passes_first : (f : ℕ → Bool) (xs : List ℕ) (k : ℕ) → k < length xs → f (get_or xs k 0) ≡ true → prefix_len (λ x. not (f x)) xs < length xs
-passes_first f [] k h e = absurd (omega arith)
-passes_first f (x ∷ xs) zero h e = subst (λ b. cond (not b) (1 + prefix_len (λ y. not (f y)) xs) 0 < suc (length xs)) (sym e) (omega arith)
-passes_first f (x ∷ xs) (suc k) h e =
-    let ih : prefix_len (λ y. not (f y)) xs < length xs = passes_first f xs k (omega arith) e in
-    elim (f x) as (λ b. cond (not b) (1 + prefix_len (λ y. not (f y)) xs) 0 < suc (length xs)) [ true ↦ omega arith | false ↦ omega arith ]
-
-position_there : (f : ℕ → Bool) (xs : List ℕ) (k : ℕ) → k < length xs → f (get_or xs k 0) ≡ true → IsSome (position f xs)
-position_there f xs k h e =
-    ap (λ b. is_some (cond b (Some (position_or_len f xs)) None)) (lt-ltb (position_or_len f xs) (length xs) (passes_first f xs k h e))
 
 -- some block holds one child more
 pub node_fits : (ts : List Tier) (count : ℕ) → tier_sizes ts ≡ node_sizes → count < 32 → IsSome (tier_for ts (count + 1))

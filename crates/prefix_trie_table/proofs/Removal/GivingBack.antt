@@ -1,7 +1,7 @@
 -- What calls that take entries out give back: a node written after them, and one after the other.
-use Rattle.std.proofs.Common.{◌≡◌, ℕ, ◌+◌, ◌≤◌, set, length, refl, sym, ◌∙◌, subst, arith}
+use Rattle.std.proofs.Common.{◌≡◌, ℕ, set, refl, sym, ◌∙◌, subst, arith}
 use Rattle.std.proofs.lemmas.List.{length-set}
-use Rattle.prefix_trie_table.specs.Store.{Store, SameRoom}
+use Rattle.prefix_trie_table.specs.Store.{Store}
 use Rattle.prefix_trie_table.specs.Removals.{GivesBack}
 use Rattle.prefix_trie_table.specs.Tables.{Grows}
 

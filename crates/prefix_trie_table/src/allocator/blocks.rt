@@ -5,11 +5,12 @@ mod laying;
 mod making;
 mod moving;
 mod removal;
+mod tiers;
 
 ghost use Rattle.std.specs.Prelude.{◌≡◌, ◌+◌, ◌*◌, ◌^◌, ◌<◌, ◌≤◌, ◌↔◌, [], ◌∷◌, List, length, take, All, map, None, IfOk, IsErr, IfErr, vec_len, slice_index_or, slice_set};
 ghost use Rattle.prefix_trie_table.specs.Store.{Store, UsedBlock, Sound, tier_at, slots_made, tier_for, no_blocks};
 ghost use Rattle.prefix_trie_table.specs.BlockCounts.{tier_count};
-ghost use Rattle.prefix_trie_table.specs.Cells.{blank_node, cell_sizes, node_sizes};
+ghost use Rattle.prefix_trie_table.specs.Cells.{blank_node, cell_sizes, node_sizes, HasSizes};
 ghost use Rattle.std.specs.Borrow.{sem};
 ghost use Rattle.prefix_trie_table.specs.Slots.{with_slot};
 ghost use Rattle.prefix_trie_table.specs.Lending.{lends_slot};
@@ -52,12 +53,13 @@ pub struct Blocks<S: Slot, A: Allocator> {
 impl<S: Slot, A: Allocator> Model for Blocks<S, A> {
     ghost use Rattle.std.specs.Prelude.{◌≡◌, ◌+◌, ◌≤◌, ◌<◌, length, All, vec_len};
     ghost use Rattle.prefix_trie_table.specs.Store.{Store, slots_made};
+    ghost use Rattle.prefix_trie_table.specs.Cells.{HasSizes};
 
     ghost Value = { Store S };
 
     ghost view = { λ a. record { slots = a.slots.items; first = a.first; tiers = a.lists.items; limit = a.limit } };
 
-    ghost invariant = { λ a. (vec_len a.slots ≤ a.limit) × (a.first + slots_made a.lists.items ≡ vec_len a.slots) × All (λ t. 0 < t.size) a.lists.items };
+    ghost invariant = { λ a. (vec_len a.slots ≤ a.limit) × (a.first + slots_made a.lists.items ≡ vec_len a.slots) × HasSizes a.lists.items };
 }
 
 impl<S: Slot, A: Allocator> Blocks<S, A> {
@@ -174,7 +176,7 @@ impl<S: Slot, A: Allocator> Blocks<S, A> {
     /// An array whose slots all stand outside every block, with a list for each size, of which no block is made.
     fn new(slots: Vec<S, A>, lists: Vec<FreeList<A>, A>, limit: u32) -> Self
         requires within { vec_len slots ≤ limit }
-        requires sizes { All (λ t. 0 < t.size) lists.items }
+        requires sizes { HasSizes lists.items }
         requires none_made { All (λ t. (t.made ≡ 0) × (t.starts ≡ [])) lists.items }
         ensures value { result ≡ record { slots = slots.items; first = vec_len slots; tiers = lists.items; limit = limit } }
         ensures sound { Sound S.vacant [] result }

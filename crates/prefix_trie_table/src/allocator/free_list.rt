@@ -4,6 +4,7 @@ ghost use Rattle.prefix_trie_table.specs.Store.{no_blocks};
 ghost use Rattle.prefix_trie_table.specs.BlockCounts.{tier_count};
 
 use crate::allocator::block_count::BlockCount;
+use crate::allocator::slots::make_room;
 use std::alloc::{AllocError, Allocator};
 use std::marker::Model;
 
@@ -73,7 +74,7 @@ impl<A: Allocator> FreeList<A> {
         ensures err { OnErr result (self.new ≡ self.old) }
     {
         let places = self.made as usize + 1 - self.starts.len();
-        self.starts.reserve(places)?;
+        make_room(&mut self.starts, places)?;
         self.starts.push_reserved(start);
         self.made += 1;
         Ok(())

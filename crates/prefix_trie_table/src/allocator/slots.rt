@@ -1,8 +1,8 @@
 //! What a slot of an array can hold, and work on runs of slots. None of these asks for memory.
-ghost use Rattle.std.specs.Prelude.{◌≡◌, ℕ, ◌+◌, ◌<◌, ◌≤◌, ◌++◌, length, replicate, insert, remove, vec_len, vec_capacity, slice_index_or};
-ghost use Rattle.prefix_trie_table.specs.Runs.{put_run, swap_runs};
+ghost use Rattle.std.specs.Prelude.{◌≡◌, ℕ, ◌+◌, ◌<◌, ◌≤◌, ◌⊎◌, ◌++◌, length, replicate, insert, remove, vec_len, vec_capacity, slice_index_or, OnOk, OnErr, IsOk};
+ghost use Rattle.prefix_trie_table.specs.Runs.{run, put_run, swap_runs};
 
-use std::alloc::Allocator;
+use std::alloc::{AllocError, Allocator};
 use std::mem;
 
 /// What can stand in a slot of an array of blocks, with a value for a slot that is not used.
@@ -23,6 +23,48 @@ impl<T: Drop> Slot for Option<T> {
     fn vacant() -> Self {
         None
     }
+}
+
+/// Makes room for so many more items, by one request for memory at most.
+#[inline]
+pub(super) fn make_room<S, A: Allocator>(
+    items: &mut Vec<S, A>,
+    count: usize,
+) -> Result<(), AllocError>
+    ensures items { items.new.items ≡ items.old.items }
+    ensures len { vec_len items.new ≡ vec_len items.old }
+    ensures ok { OnOk result (vec_len items.new + count ≤ vec_capacity items.new) }
+    ensures capacity { vec_capacity items.old ≤ vec_capacity items.new }
+    ensures succeeds { vec_len items.old + count ≤ vec_capacity items.old → IsOk result }
+    ensures err { OnErr result (vec_capacity items.new ≡ vec_capacity items.old) }
+{
+    if count <= items.capacity() - items.len() {
+        return Ok(());
+    }
+    grow(items, count)
+}
+
+// An array with room for so many items or more grows by a quarter, a shorter one to twice its room: then the less of a long one
+// stands empty, and a short one is seldom moved.
+const LONG: usize = 4096;
+
+// The part of `make_room` that asks for memory, apart so that the test is inlined.
+#[cold]
+#[inline(never)]
+fn grow<S, A: Allocator>(items: &mut Vec<S, A>, count: usize) -> Result<(), AllocError>
+    requires { vec_capacity items.old < vec_len items.old + count }
+    ensures items { items.new.items ≡ items.old.items }
+    ensures len { vec_len items.new ≡ vec_len items.old }
+    ensures ok { OnOk result (vec_len items.new + count ≤ vec_capacity items.new) }
+    ensures capacity { vec_capacity items.old ≤ vec_capacity items.new }
+    ensures err { OnErr result (vec_capacity items.new ≡ vec_capacity items.old) }
+{
+    let room = items.capacity();
+    if room < LONG {
+        return items.reserve(count);
+    }
+    let longer = room + room / 4;
+    items.reserve_exact(count.max(longer - items.len()))
 }
 
 /// Appends unused places, for which there is room.
@@ -76,6 +118,28 @@ pub(super) fn exchange<S, A: Allocator>(slots: &mut Vec<S, A>, a: usize, b: usiz
     for i in 0..count {
         slots.swap(a + i, b + i);
     }
+}
+
+/// Moves `count` values to unused places, with one more among them at `place`, and leaves theirs unused.
+pub(super) fn move_in<S: Slot, A: Allocator>(
+    slots: &mut Vec<S, A>,
+    from: usize,
+    to: usize,
+    count: usize,
+    place: usize,
+    value: S,
+)
+    requires from_within { from + count ≤ vec_len slots.old }
+    requires to_within { to + count < vec_len slots.old }
+    requires apart { (from + count ≤ to) ⊎ (to + count < from) }
+    requires unused { run slots.old.items to (count + 1) ≡ replicate (count + 1) S.vacant }
+    requires place { place ≤ count }
+    ensures items { slots.new.items ≡ put_run (put_run slots.old.items from (replicate count S.vacant)) to (insert (run slots.old.items from count) place value) }
+    ensures len { vec_len slots.new ≡ vec_len slots.old }
+{
+    exchange(slots, from, to, place);
+    slots[to + place] = value;
+    exchange(slots, from + place, to + place + 1, count - place);
 }
 
 /// Writes items over as many places from `from` on.

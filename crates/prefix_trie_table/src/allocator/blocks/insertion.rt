@@ -1,9 +1,10 @@
 //! Putting an item into a list.
-ghost use Rattle.std.specs.Prelude.{◌≡◌, ℕ, ◌+◌, ◌<◌, ◌≤◌, ◌∷◌, ◌++◌, List, Some, length, insert, remove, None, nat_lt, if◌then◌else◌, IsSomeAnd, MatchOption, ◌⊎◌};
+ghost use Rattle.std.specs.Prelude.{◌≡◌, ℕ, ◌+◌, ◌<◌, ◌≤◌, [], ◌∷◌, ◌++◌, List, Some, length, replicate, insert, remove, None, nat_lt, if◌then◌else◌, IsSomeAnd, MatchOption, ◌⊎◌};
+ghost use Rattle.prefix_trie_table.specs.Runs.{run, put_run};
 ghost use Rattle.prefix_trie_table.specs.Store.{UsedBlock, Sound, tier_at, block, InUse, tier_for, held, HasList, IsReady, tier_lacking, Spends, Turnover, none_at, one_at, many_at, tier_outgrown};
 
 use crate::allocator::blocks::{BlockRef, Blocks};
-use crate::allocator::slots::{Slot, shift_in};
+use crate::allocator::slots::{Slot, move_in, shift_in};
 use std::alloc::Allocator;
 
 impl<S: Slot, A: Allocator> Blocks<S, A> {
@@ -59,7 +60,7 @@ impl<S: Slot, A: Allocator> Blocks<S, A> {
             self.insert_within(start, count, place, value);
             return BlockRef { tier: k, start };
         }
-        let tier = self.tier_for(count as usize + 1).unwrap();
+        let tier = self.tier_holding(count as usize + 1);
         let start = self.insert_moving(k, start, tier, count, place, value);
         BlockRef { tier, start }
     }
@@ -86,10 +87,32 @@ impl<S: Slot, A: Allocator> Blocks<S, A> {
             → Sound S.vacant (block to result (tier_at self.old.tiers to).size (insert xs place value) ∷ live) self.new }
     {
         let new = self.take(to);
-        self.move_items(outgrown, new, count);
-        self.insert_within(new, count, place, value);
+        self.move_in(outgrown, new, count, place, value);
         self.give_back(k, outgrown);
         new
+    }
+
+    /// Moves the values of a block to another, which holds none and has room for one more, and puts a value among them.
+    fn move_in(&mut self, from: u32, to: u32, count: u32, place: u32, value: S)
+        requires blocks { (a : UsedBlock S) × (b : UsedBlock S) × (live : List (UsedBlock S))
+            × Sound S.vacant (a ∷ b ∷ live) self.old × (a.start ≡ from) × (b.start ≡ to)
+            × (length a.items ≡ count) × (b.items ≡ []) × (count < b.size) }
+        requires place { place ≤ count }
+        ensures slots { self.new ≡ record self.old { slots = put_run (put_run self.old.slots from (replicate count S.vacant)) to (insert (run self.old.slots from count) place value) } }
+        ensures len { length self.new.slots ≡ length self.old.slots }
+        ensures sound { (a b : UsedBlock S) (live : List (UsedBlock S))
+            → Sound S.vacant (a ∷ b ∷ live) self.old → a.start ≡ from → b.start ≡ to
+            → length a.items ≡ count → b.items ≡ [] → count < b.size
+            → Sound S.vacant (record a { items = [] } ∷ record b { items = insert a.items place value } ∷ live) self.new }
+    {
+        move_in(
+            &mut self.slots,
+            from as usize,
+            to as usize,
+            count as usize,
+            place as usize,
+            value,
+        );
     }
 
     /// Puts a value into a block that has room for it, whose list has `count` values.

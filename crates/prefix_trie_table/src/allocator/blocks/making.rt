@@ -4,7 +4,7 @@ ghost use Rattle.prefix_trie_table.specs.Store.{UsedBlock, Sound, tier_at, grown
 ghost use Rattle.prefix_trie_bits.specs.declared.prefix.Refusal.TheVariants.{Memory, IndexRange};
 
 use crate::allocator::blocks::Blocks;
-use crate::allocator::slots::{Slot, push_vacant};
+use crate::allocator::slots::{Slot, make_room, push_vacant};
 use prefix_trie_bits::prefix::Refusal;
 use std::alloc::Allocator;
 
@@ -49,6 +49,7 @@ impl<S: Slot, A: Allocator> Blocks<S, A> {
     fn lacking(&self, k: usize, count: u32) -> Option<usize>
         requires tier { 0 < count → k < length self.now.tiers }
         requires single { tier_for self.now.tiers 1 ≡ Some 0 }
+        requires fits { IsSome (tier_for self.now.tiers (count + 1)) }
         ensures { result ≡ tier_lacking self.now.tiers k count }
     {
         if count == 0 {
@@ -57,7 +58,7 @@ impl<S: Slot, A: Allocator> Blocks<S, A> {
         if count < self.size_of(k) {
             return None;
         }
-        self.tier_for(count as usize + 1)
+        Some(self.tier_holding(count as usize + 1))
     }
 
     /// Makes a block of tier `k` at the array's end. It is free, with its place in the list of free ones.
@@ -80,7 +81,7 @@ impl<S: Slot, A: Allocator> Blocks<S, A> {
         if len + size as usize > self.limit as usize {
             return Err(Refusal::IndexRange);
         }
-        if self.slots.reserve(size as usize).is_err() {
+        if make_room(&mut self.slots, size as usize).is_err() {
             return Err(Refusal::Memory);
         }
         let list = &mut self.lists[k];

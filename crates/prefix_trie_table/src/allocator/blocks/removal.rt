@@ -66,11 +66,10 @@ impl<S: Slot, A: Allocator> Blocks<S, A> {
             self.give_back(k, start);
             return (value, None);
         }
-        if let Some(tier) = self.tier_for(rest as usize) {
-            if tier < k {
-                if let Some(new) = self.step_down(k, start, tier, rest) {
-                    return (value, Some(BlockRef { tier, start: new }));
-                }
+        let tier = self.tier_holding(rest as usize);
+        if tier < k {
+            if let Some(new) = self.step_down(k, start, tier, rest) {
+                return (value, Some(BlockRef { tier, start: new }));
             }
         }
         (value, Some(BlockRef { tier: k, start }))

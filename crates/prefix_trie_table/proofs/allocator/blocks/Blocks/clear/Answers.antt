@@ -1,8 +1,7 @@
-use Rattle.std.proofs.Common.{◌≡◌, ◌<◌, [], All, length, sym, ap, ◌∙◌, subst, arith}
+use Rattle.std.proofs.Common.{◌≡◌, [], All, length, sym, ap, ◌∙◌, subst, arith}
 use Rattle.std.proofs.lemmas.List.{length-take-le}
-use Rattle.std.proofs.lemmas.List.Elements.{All-map}
-use Rattle.prefix_trie_table.specs.Store.{Tier, no_blocks}
 use Rattle.prefix_trie_table.proofs.Blocks.Soundness.{Sound-new, none_made, no_slots_made}
+use Rattle.prefix_trie_table.proofs.Blocks.Tiers.{cleared_sizes}
 use Rattle.prefix_trie_table.proofs.allocator.blocks.Blocks.clear.Given as given
 use Rattle.prefix_trie_table.proofs.allocator.blocks.Blocks.clear.Goals as goal
 
@@ -15,7 +14,7 @@ invariant_of-self g c =
     let v = c.self.inside in
     let left = length_left g c in
     let none = no_slots_made _ (none_made v.lists.items) in
-    rw c.clear_all.ensures (omega (arith, left, c.truncate.new.self.ok.0, c.self.invariant.0, c.self.invariant.1), omega (arith, left, none, c.truncate.new.self.ok.0), All-map (λ t. 0 < t.size) (λ (t : Tier). no_blocks t.size) v.lists.items c.self.invariant.2)
+    rw c.clear_all.ensures (omega (arith, left, c.truncate.new.self.ok.0, c.self.invariant.0, c.self.invariant.1), omega (arith, left, none, c.truncate.new.self.ok.0), cleared_sizes v.lists.items c.self.invariant.2)
 
 pub returns-clause-sound : goal.returns-clause-sound
 returns-clause-sound g c =

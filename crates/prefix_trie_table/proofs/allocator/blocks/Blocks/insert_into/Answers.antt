@@ -1,4 +1,4 @@
-use Rattle.std.proofs.Common.{◌≡◌, ◌+◌, ◌∷◌, insert, refl, sym, arith, subst, ◌∙◌}
+use Rattle.std.proofs.Common.{◌≡◌, ◌+◌, ◌∷◌, insert, refl, arith, subst}
 use Rattle.prefix_trie_table.specs.Store.{Sound, tier_at, block}
 use Rattle.prefix_trie_table.proofs.Blocks.Soundness.{block_inside, tier_of_block, tier_for_holds}
 use Rattle.prefix_trie_table.proofs.Blocks.Spending.{Spends-inserted}
@@ -27,7 +27,7 @@ returns-then-count-size_of-clause-sound g c = λ n xs live sound count.
 
 pub insert_moving-start-requires-clause-holds : goal.insert_moving-start-requires-clause-holds
 insert_moving-start-requires-clause-holds g c =
-    omega (arith, (tier_for_holds c.args.self.now.tiers (c.args.count + 1) c.unwrap-tier.result (sym c.tier_for.ensures ∙ c.unwrap-tier.ensures)).1)
+    omega (arith, (tier_for_holds c.args.self.now.tiers (c.args.count + 1) c.tier_holding-tier.result c.tier_holding-tier.ensures).1)
 
 pub returns-then-count-size_of-clause-spends : goal.returns-then-count-size_of-clause-spends
 returns-then-count-size_of-clause-spends g c =

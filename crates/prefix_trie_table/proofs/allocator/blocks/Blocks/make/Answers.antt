@@ -2,6 +2,7 @@ use Rattle.std.proofs.Common.{◌≡◌, ◌+◌, ◌<◌, ◌∷◌, [], ◌++�
 use Rattle.std.proofs.lemmas.List.{length-replicate, get_or_default}
 use Rattle.prefix_trie_table.specs.Store.{Tier, tier_at}
 use Rattle.prefix_trie_table.proofs.Blocks.Soundness.{made_fits, Sound-grown_as}
+use Rattle.prefix_trie_table.proofs.Blocks.Tiers.{sizes_kept, made_within, sizes_positive}
 use Rattle.prefix_trie_table.proofs.allocator.blocks.Blocks.make.Goals as goal
 
 pub invariant_of-self-2 : goal.invariant_of-self-2
@@ -11,10 +12,11 @@ invariant_of-self-2 g c =
     let within : c.args.k < length v.lists.items = rw (← c.self.view_is) at c.requires in
     let added : c.push_made.new.self ≡ record old { made = old.made + 1; starts = old.starts ++ c.len-len.result ∷ [] } = search rules in
     let size : c.size_of-size.result ≡ old.size = (rw (← c.self.view_is) at c.size_of-size.ensures) ∙ ap (λ (t : Tier). t.size) (get_or_default v.lists.items c.args.k _ old within ∙ sym c.index_mut-list.ensures.value) in
-    let len : length c.push_vacant.new.slots.items ≡ length v.slots.items + old.size = ap (λ xs. length xs) c.push_vacant.ensures ∙ length-append c.reserve.new.self.items (replicate c.size_of-size.result g.S.Slot.vacant) ∙ (let r = length-replicate c.size_of-size.result g.S.Slot.vacant in let e : length c.reserve.new.self.items ≡ length v.slots.items = ap (λ xs. length xs) c.reserve.ensures.items in omega arith) in
-    let made = made_fits v.lists.items c.args.k old c.push_made.new.self (old.starts ++ c.len-len.result ∷ []) v.first (length v.slots.items) within c.index_mut-list.ensures.value added (c.self.invariant.1 ∙ v.slots.ok.0) c.self.invariant.2 in
+    let len : length c.push_vacant.new.slots.items ≡ length v.slots.items + old.size = ap (λ xs. length xs) c.push_vacant.ensures ∙ length-append c.make_room.new.items.items (replicate c.size_of-size.result g.S.Slot.vacant) ∙ (let r = length-replicate c.size_of-size.result g.S.Slot.vacant in let e : length c.make_room.new.items.items ≡ length v.slots.items = ap (λ xs. length xs) c.make_room.ensures.items in omega arith) in
+    let made = made_fits v.lists.items c.args.k old c.push_made.new.self (old.starts ++ c.len-len.result ∷ []) v.first (length v.slots.items) within c.index_mut-list.ensures.value added (c.self.invariant.1 ∙ v.slots.ok.0) in
+    let kept = sizes_kept v.lists.items c.args.k c.push_made.new.self c.self.invariant.2 (ap (λ (t : Tier). t.size) added ∙ ap (λ (t : Tier). t.size) (c.index_mut-list.ensures.value ∙ sym (get_or_default v.lists.items c.args.k _ old within))) in
     let before : c.len-len.result ≡ length v.slots.items = rw (← c.self.view_is) at c.len-len.ensures.len in
-    (omega (arith, len, before, c.if-len-size.false, c.push_vacant.new.slots.ok.0, v.slots.ok.0), made.0 ∙ sym len ∙ sym c.push_vacant.new.slots.ok.0, made.1)
+    (omega (arith, len, before, c.if-len-size.false, c.push_vacant.new.slots.ok.0, v.slots.ok.0), made ∙ sym len ∙ sym c.push_vacant.new.slots.ok.0, kept)
 
 pub returns-clause-sound : goal.returns-clause-sound
 returns-clause-sound g c = λ live s.
@@ -24,7 +26,17 @@ returns-clause-sound g c = λ live s.
     let at_k : tier_at v.lists.items c.args.k ≡ old = get_or_default v.lists.items c.args.k _ old within ∙ sym c.index_mut-list.ensures.value in
     let added : c.push_made.new.self ≡ record old { made = old.made + 1; starts = old.starts ++ c.len-len.result ∷ [] } = search rules in
     let size : c.size_of-size.result ≡ (tier_at v.lists.items c.args.k).size = rw (← c.self.view_is) at c.size_of-size.ensures in
-    Sound-grown_as g.S.Slot.vacant live _ c.args.k c.size_of-size.result c.len-len.result c.push_made.new.self c.push_vacant.new.slots.items within (c.push_vacant.ensures ∙ ap (λ xs. xs ++ replicate c.size_of-size.result g.S.Slot.vacant) c.reserve.ensures.items) size (rw (← c.self.view_is) at c.len-len.ensures.len) (added ∙ ap (λ (t : Tier). record t { made = t.made + 1; starts = t.starts ++ c.len-len.result ∷ [] }) (sym at_k)) (rw (← c.self.view_is) at s)
+    Sound-grown_as g.S.Slot.vacant live _ c.args.k c.size_of-size.result c.len-len.result c.push_made.new.self c.push_vacant.new.slots.items within (c.push_vacant.ensures ∙ ap (λ xs. xs ++ replicate c.size_of-size.result g.S.Slot.vacant) c.make_room.ensures.items) size (rw (← c.self.view_is) at c.len-len.ensures.len) (added ∙ ap (λ (t : Tier). record t { made = t.made + 1; starts = t.starts ++ c.len-len.result ∷ [] }) (sym at_k)) (rw (← c.self.view_is) at s)
 
 pub returns-then-len-size-clause-range : goal.returns-then-len-size-clause-range
 returns-then-len-size-clause-range g c = search rules
+
+pub push_made-requires : goal.push_made-requires
+push_made-requires g c =
+    let v = c.self.inside in
+    let within : c.args.k < length v.lists.items = rw (← c.self.view_is) at c.requires in
+    let old = c.index_mut-list.result.now in
+    let at_k : (tier_at v.lists.items c.args.k).made ≡ old.made = ap (λ (t : Tier). t.made) (get_or_default v.lists.items c.args.k _ old within ∙ sym c.index_mut-list.ensures.value) in
+    let size : c.size_of-size.result ≡ (tier_at v.lists.items c.args.k).size = rw (← c.self.view_is) at c.size_of-size.ensures in
+    let before : c.len-len.result ≡ length v.slots.items = rw (← c.self.view_is) at c.len-len.ensures.len in
+    omega (arith, at_k, size, before, made_within v.lists.items c.args.k c.self.invariant.2 within, sizes_positive v.lists.items c.self.invariant.2 c.args.k within, c.self.invariant.1, v.slots.ok.0, c.if-len-size.false, c.ranges)

@@ -1,15 +1,16 @@
-use Rattle.std.proofs.Common.{◌≡◌, ℕ, ◌+◌, ◌-◌, ◌<◌, List, ◌∷◌, [], insert, length, remove, refl, sym, ap, arith, rules, subst}
+use Rattle.std.proofs.Common.{◌≡◌, ℕ, ◌+◌, ◌-◌, ◌<◌, List, ◌∷◌, [], insert, length, remove, IsSome, refl, sym, ap, arith, rules, subst}
 use Rattle.std.proofs.lemmas.List.{nil_from_length}
 use Rattle.std.proofs.lemmas.List.Edits.{length-remove}
-use Rattle.prefix_trie_table.specs.Store.{Store, Sound, UsedBlock, tier_at, block}
+use Rattle.prefix_trie_table.specs.Store.{Store, Sound, UsedBlock, tier_at, tier_for, block}
 use Rattle.prefix_trie_table.proofs.Blocks.Soundness.{block_inside, fits_block, has_place, tier_of_block, tier_for_holds}
 use Rattle.prefix_trie_table.specs.Store.{Keeps}
 use Rattle.prefix_trie_table.proofs.Blocks.Spending.{Spends-given, Keeps-spends, Keeps-then, Keeps-same, Keeps-removed}
 use Rattle.prefix_trie_table.specs.Store.{Turnover, none_at}
 use Rattle.prefix_trie_table.proofs.Blocks.Turnovers.{Turnover-written, Turnover-left}
+use Rattle.prefix_trie_table.proofs.Blocks.Tiers.{tier_there}
 use Rattle.prefix_trie_table.proofs.allocator.blocks.Blocks.remove_from.Given as given
 use Rattle.prefix_trie_table.proofs.allocator.blocks.Blocks.remove_from.Goals as goal
-use Rattle.prefix_trie_table.proofs.allocator.blocks.Blocks.remove_from.Goals.{in-Some+then-tier-k+in_default-step_down, in-Some+else-tier-k, in_default}
+use Rattle.prefix_trie_table.proofs.allocator.blocks.Blocks.remove_from.Goals.{then-tier-k+in_default, else-tier-k}
 
 -- a list without an item stays in its block
 cut : {S : Type 0} (vacant : S) (v w : Store S) (k start count place size : ℕ) (xs : List S) (live : List (UsedBlock S)) (x : S) → Sound vacant (block k start size xs ∷ live) v →
@@ -58,29 +59,28 @@ step_down-requires-clause-in_use g c =
 
 pub step_down-requires-clause-holds : goal.step_down-requires-clause-holds
 step_down-requires-clause-holds g c =
-    (tier_for_holds c.remove_within-value.new.self.tiers (c.args.count - 1) c.in-Some.tier (sym c.in-Some.ensures)).1
+    (tier_for_holds c.remove_within-value.new.self.tiers (c.args.count - 1) c.tier_holding-tier.result c.tier_holding-tier.ensures).1
 
-pub returns-in-Some-step_down-clause-value : goal.returns-in-Some-step_down-clause-value
-returns-in-Some-step_down-clause-value g c = λ n xs live sound count.
+pub returns-in-Some-clause-value : goal.returns-in-Some-clause-value
+returns-in-Some-clause-value g c = λ n xs live sound count.
     c.remove_within-value.ensures.value (block c.args.k c.args.start n xs) live sound refl count
 
-pub returns-in-Some-step_down-clause-sound : goal.returns-in-Some-step_down-clause-sound
-returns-in-Some-step_down-clause-sound g c = λ n xs live sound count.
+pub returns-in-Some-clause-sound : goal.returns-in-Some-clause-sound
+returns-in-Some-clause-sound g c = λ n xs live sound count.
     let less : length (remove xs c.args.place) ≡ c.args.count - 1 = omega (arith, length-remove xs c.args.place (omega (arith, c.requires.place))) in
     let removed = c.remove_within-value.ensures.sound (block c.args.k c.args.start n xs) live sound refl count in
-    let size : (tier_at c.remove_within-value.new.self.tiers c.in-Some.tier).size ≡ (tier_at c.args.self.now.tiers c.in-Some.tier).size = ap (λ (v : Store g.row.S.Denot). (tier_at v.tiers c.in-Some.tier).size) c.remove_within-value.ensures.slots in
-    subst (λ m. Sound g.S.Slot.vacant (block c.in-Some.tier c.in-Some-step_down.new m (remove xs c.args.place) ∷ live) c.step_down.new.self) size (c.in-Some-step_down.ensures.sound n (remove xs c.args.place) live removed less)
+    let size : (tier_at c.remove_within-value.new.self.tiers c.tier_holding-tier.result).size ≡ (tier_at c.args.self.now.tiers c.tier_holding-tier.result).size = ap (λ (v : Store g.row.S.Denot). (tier_at v.tiers c.tier_holding-tier.result).size) c.remove_within-value.ensures.slots in
+    subst (λ m. Sound g.S.Slot.vacant (block c.tier_holding-tier.result c.in-Some.new m (remove xs c.args.place) ∷ live) c.step_down.new.self) size (c.in-Some.ensures.sound n (remove xs c.args.place) live removed less)
 
 pub returns-clause-value : goal.returns-clause-value
 returns-clause-value g c = λ n xs live sound count.
     c.remove_within-value.ensures.value (block c.args.k c.args.start n xs) live sound refl count
 
 -- the list stays in its block
-nothing_moved : (g : given.Over) (c : goal.Joined-tier_for g) → c.match-tier_for.self ≡ c.remove_within-value.new.self
-nothing_moved g c = elim c.match-tier_for.branch [
-  | in-Some+then-tier-k+in_default-step_down w ↦ search rules
-  | in-Some+else-tier-k w ↦ w.self-is
-  | in_default w ↦ w.self-is
+nothing_moved : (g : given.Over) (c : goal.Joined-tier-k g) → c.if-tier-k.self ≡ c.remove_within-value.new.self
+nothing_moved g c = elim c.if-tier-k.branch [
+  | then-tier-k+in_default w ↦ search rules
+  | else-tier-k w ↦ w.self-is
 ]
 
 pub returns-clause-sound : goal.returns-clause-sound
@@ -95,8 +95,8 @@ returns-then-rest-eq0-clause-keeps g c =
     let left = cut g.S.Slot.vacant c.args.self.now c.remove_within-value.new.self c.args.k c.args.start c.args.count c.args.place u.size u.items u.live g.S.Slot.vacant u.sound u.is_count c.requires.place c.remove_within-value.ensures.slots in
     Keeps-then _ _ _ left (Keeps-spends _ _ _ (Spends-given c.remove_within-value.new.self c.give_back.new.self c.args.k c.args.start (has_place g.S.Slot.vacant _ _ _ (c.remove_within-value.ensures.sound (block c.args.k c.args.start u.size u.items) u.live u.sound refl u.is_count)).0 c.give_back.ensures.starts))
 
-pub returns-in-Some-step_down-clause-keeps : goal.returns-in-Some-step_down-clause-keeps
-returns-in-Some-step_down-clause-keeps g c =
+pub returns-in-Some-clause-keeps : goal.returns-in-Some-clause-keeps
+returns-in-Some-clause-keeps g c =
     let u = c.requires.in_use in
     let left = cut g.S.Slot.vacant c.args.self.now c.remove_within-value.new.self c.args.k c.args.start c.args.count c.args.place u.size u.items u.live g.S.Slot.vacant u.sound u.is_count c.requires.place c.remove_within-value.ensures.slots in
     Keeps-then _ _ _ left c.step_down.ensures.keeps
@@ -105,10 +105,9 @@ pub returns-clause-keeps : goal.returns-clause-keeps
 returns-clause-keeps g c =
     let u = c.requires.in_use in
     let left = cut g.S.Slot.vacant c.args.self.now c.remove_within-value.new.self c.args.k c.args.start c.args.count c.args.place u.size u.items u.live g.S.Slot.vacant u.sound u.is_count c.requires.place c.remove_within-value.ensures.slots in
-    let last : Keeps c.remove_within-value.new.self c.match-tier_for.self = (elim c.match-tier_for.branch [
-      | in-Some+then-tier-k+in_default-step_down w ↦ subst (λ v. Keeps c.remove_within-value.new.self v) (sym w.self-is) w.step_down.ensures.keeps
-      | in-Some+else-tier-k w ↦ Keeps-same _ _ w.self-is
-      | in_default w ↦ Keeps-same _ _ w.self-is
+    let last : Keeps c.remove_within-value.new.self c.if-tier-k.self = (elim c.if-tier-k.branch [
+      | then-tier-k+in_default w ↦ subst (λ v. Keeps c.remove_within-value.new.self v) (sym w.self-is) w.step_down.ensures.keeps
+      | else-tier-k w ↦ Keeps-same _ _ w.self-is
     ]) in
     Keeps-then _ _ _ left last
 
@@ -124,3 +123,12 @@ returns-clause-stayed g c = λ _.
 
 pub returns-clause-smaller : goal.returns-clause-smaller
 returns-clause-smaller g c = search rules
+
+pub tier_holding-tier-requires : goal.tier_holding-tier-requires
+tier_holding-tier-requires g c =
+    let u = c.requires.in_use in
+    let b = block c.args.k c.args.start u.size u.items in
+    let of = tier_of_block g.S.Slot.vacant b u.live _ u.sound in
+    let tiers : c.remove_within-value.new.self.tiers ≡ c.args.self.now.tiers = ap (λ (v : Store g.row.S.Denot). v.tiers) c.remove_within-value.ensures.slots in
+    subst (λ ts. IsSome (tier_for ts (c.args.count - 1))) (sym tiers)
+    (tier_there c.args.self.now.tiers (c.args.count - 1) c.args.k of.within (omega (arith, of.size_is, fits_block g.S.Slot.vacant b u.live _ u.sound, u.is_count)))

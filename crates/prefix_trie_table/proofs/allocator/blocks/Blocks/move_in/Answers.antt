@@ -1,0 +1,38 @@
+use Rattle.std.proofs.Common.{◌≡◌, ◌+◌, ◌<◌, ◌≤◌, ◌∷◌, inl, inr, ⊎_elim, replicate, insert, sym, ap, ◌∙◌, arith}
+use Rattle.std.proofs.lemmas.List.Edits.{length-insert}
+use Rattle.prefix_trie_table.specs.Runs.{run, put_run}
+use Rattle.prefix_trie_table.proofs.Blocks.Soundness.{Sound-put_over, Sound-exchanged, two_apart, run_items, run_none, block_inside, fits_block}
+use Rattle.prefix_trie_table.proofs.allocator.blocks.Blocks.move_in.Goals as goal
+
+pub move_in-requires : goal.move_in-requires
+move_in-requires g c =
+    let q = c.requires.blocks in
+    let a = q.0 in
+    let b = q.1 in
+    let s = rw (← c.self.view_is) at q.3 in
+    let v = c.self.inside in
+    let wa = block_inside g.S.Slot.vacant a (b ∷ q.2) _ s in
+    let wb = block_inside g.S.Slot.vacant b (a ∷ q.2) _ (Sound-exchanged g.S.Slot.vacant a b q.2 _ s) in
+    let fits = fits_block g.S.Slot.vacant a (b ∷ q.2) _ s in
+    let empty = run_none g.S.Slot.vacant a b q.2 _ q.7 s (c.args.count + 1) (omega (arith, q.8)) in
+    record {
+      from_within = omega (arith, wa.before, fits, q.4, q.6, v.slots.ok.0);
+      to_within = omega (arith, wb.before, q.5, q.8, v.slots.ok.0);
+      apart = ⊎_elim (λ (h : a.start + a.size ≤ b.start). inl (let e : c.args.from + c.args.count ≤ c.args.to = omega (arith, fits, q.4, q.5, q.6) in e)) (λ (h : b.start + b.size ≤ a.start). inr (let e : c.args.to + c.args.count < c.args.from = omega (arith, q.4, q.5, q.8) in e)) (two_apart g.S.Slot.vacant a b q.2 _ q.7 s);
+      unused = ap (λ n. run v.slots.items n (c.args.count + 1)) (sym q.5) ∙ empty;
+      place = c.requires.place;
+    }
+
+pub returns-clause-sound : goal.returns-clause-sound
+returns-clause-sound g c = λ a b live s0 from to count none room.
+    let s = rw (← c.self.view_is) at s0 in
+    let xs = c.self.inside.slots.items in
+    let n = c.args.count in
+    let blank = replicate n g.S.Slot.vacant in
+    let written : c.move_in.new.slots.items ≡ put_run (put_run xs a.start (replicate n g.S.Slot.vacant)) b.start (insert a.items c.args.place c.args.value) =
+    c.move_in.ensures.items
+    ∙ ap (λ i. put_run (put_run xs i (replicate n g.S.Slot.vacant)) c.args.to (insert (run xs i n) c.args.place c.args.value)) (sym from)
+    ∙ ap (λ i. put_run (put_run xs a.start (replicate n g.S.Slot.vacant)) i (insert (run xs a.start n) c.args.place c.args.value)) (sym to)
+    ∙ ap (λ ys. put_run (put_run xs a.start (replicate n g.S.Slot.vacant)) b.start (insert ys c.args.place c.args.value)) (run_items g.S.Slot.vacant a b live _ none s n count) in
+    let long = length-insert a.items c.args.place c.args.value (omega (arith, count, c.requires.place)) in
+    Sound-put_over g.S.Slot.vacant a b live _ none s n (insert a.items c.args.place c.args.value) c.move_in.new.slots.items count (omega (arith, long, count, room)) written
