@@ -10,6 +10,10 @@ use Rattle.prefix_trie_table.specs.Forest.{NodesHold, IsEnd, SomeNodes, read}
 use Rattle.prefix_trie_table.specs.Matching.{IsOnWay, LackLastBit, LongestHeld, match_seat}
 use Rattle.prefix_trie_table.specs.Store.{Store}
 
+-- P says it of each of the first n items and of its place
+abbrev pub EachOf : {X : Type 0} → (ℕ → X → Type 0) → ℕ → List X → Type 0
+EachOf {X} P n xs = (i : ℕ) (x : X) → i < n → x ≡ slice_index_or xs i x → P i x
+
 -- what is kept of a match: how long its string is, and where its value stands
 abbrev pub found_of : Match → Found
 found_of m = record { len = m.len; seat = match_seat m }
@@ -33,6 +37,14 @@ question_of w = w.question
 -- the slot of the node ahead
 abbrev pub slot_of : Way → ℕ
 slot_of w = w.at.start + w.at.place
+
+-- a node is the one to which the way at a place has come
+abbrev pub IsAhead : List Node → List Way → ℕ → Node → Type 0
+IsAhead slots ways i n = (w : Way) → w ≡ slice_index_or ways i w → n ≡ node_at slots (slot_of w)
+
+-- a way is that of the question at its place, and at the root
+abbrev pub IsNew : ℕ → Way → Type 0
+IsNew i w = w ≡ new_way i
 
 -- what the way of a question costs, where each question has its cost
 abbrev pub cost_of : List ℕ → Way → ℕ
@@ -86,7 +98,7 @@ module _ {K : Type 0} (bits : K → List Bool) where
     -- the nodes that these ways have come to were read
     pub record AreRead (level : ℕ) (ways : List Way) (nodes : List Node) : Type 0 where
       pub ways_are : All (IsWay level) ways
-      pub nodes_are : (j : ℕ) (w : Way) (n : Node) → j < length ways → w ≡ slice_index_or ways j w → n ≡ slice_index_or nodes j n → n ≡ node_at v.slots (slot_of w)
+      pub nodes_are : EachOf (IsAhead v.slots ways) (length ways) nodes
 
     -- of these ways some go on, and the questions of the others are answered
     pub record GoOn (level : ℕ) (ways next : List Way) (before after : List (Option Found)) : Type 0 where

@@ -8,7 +8,7 @@ ghost use Rattle.prefix_trie_table.specs.declared.allocator.node.Node.{Node};
 ghost use Rattle.prefix_trie_table.specs.declared.table.bulk.Found.{Found};
 ghost use Rattle.prefix_trie_table.specs.declared.table.bulk.Way.{Way};
 ghost use Rattle.prefix_trie_table.specs.Bitmaps.{has_bit as is_set};
-ghost use Rattle.prefix_trie_table.specs.Bulk.{AreAnswered, AreAnswers, AreCosts, AreRead, CanAsk, GoOn, HasFound, IsAnswer, IsSound, IsWay, IsWayTo, asked, cost_of, found_of, new_way, question_of, slot_of};
+ghost use Rattle.prefix_trie_table.specs.Bulk.{AreAnswered, AreAnswers, AreCosts, AreRead, CanAsk, EachOf, GoOn, HasFound, IsAhead, IsAnswer, IsNew, IsSound, IsWay, IsWayTo, asked, cost_of, found_of, new_way, question_of, slot_of};
 ghost use Rattle.prefix_trie_table.specs.Cells.{node_at};
 ghost use Rattle.prefix_trie_table.specs.Matching.{IsOnWay};
 ghost use Rattle.prefix_trie_table.specs.Store.{Store};
@@ -106,8 +106,7 @@ fn read_each<A: Allocator, V: Tick>(
 )
     requires count { (count ≤ length ways.now) × (count ≤ length read.old) }
     requires inside { All (λ w. slot_of w < length nodes.now.slots) (take count ways.now) }
-    ensures read { (j : ℕ) (w : Way) (n : Node) → j < count → w ≡ slice_index_or ways.now j w → n ≡ slice_index_or read.new j n
-        → n ≡ node_at nodes.now.slots (slot_of w) }
+    ensures read { EachOf (IsAhead nodes.now.slots ways.now) count read.new }
     ensures visits { V.count counter.new ≡ V.count counter.old + count }
     ensures length { length read.new ≡ length read.old }
 {
@@ -159,7 +158,7 @@ fn look_at_each<K: Key>(
 /// Puts the ways of the first `count` questions at the root.
 fn begin(ways: &mut [Way], count: usize)
     requires count { count ≤ length ways.old }
-    ensures new { (j : ℕ) (w : Way) → j < count → w ≡ slice_index_or ways.new j w → w ≡ new_way j }
+    ensures new { EachOf IsNew count ways.new }
     ensures length { length ways.new ≡ length ways.old }
 {
     for j in 0..count {

@@ -1,20 +1,15 @@
-use Rattle.std.proofs.Common.{◌≡◌, ℕ, ◌+◌, ◌*◌, ◌<◌, ◌≤◌, [], List, All, IfSome, MatchOption, None, Some, length, map, option_map, take, sum, sum_by, slice_index_or, ◌-◌}
-use Rattle.prefix_trie_bits.specs.Model.Matches.{longest_match}
-use Rattle.prefix_trie_bits.specs.Model.Visits.{visits}
-use Rattle.prefix_trie_table.specs.declared.allocator.node.Node.{Node}
-use Rattle.prefix_trie_table.specs.declared.table.bulk.Found.{Found}
-use Rattle.prefix_trie_table.specs.declared.table.bulk.Way.{Way}
-use Rattle.prefix_trie_table.specs.Bitmaps.{has_bit as is_set}
-use Rattle.prefix_trie_table.specs.Bulk.{AreAnswered, AreAnswers, AreCosts, AreRead, CanAsk, GoOn, HasFound, IsAnswer, IsSound, IsWay, IsWayTo, asked, cost_of, found_of, new_way, question_of, slot_of}
-use Rattle.prefix_trie_table.specs.Cells.{node_at}
-use Rattle.prefix_trie_table.specs.Matching.{IsOnWay}
-use Rattle.prefix_trie_table.specs.Store.{Store}
-use Rattle.prefix_trie_table.specs.Tables.{IsReached}
+use Rattle.std.proofs.Common.{◌≡◌, ◌+◌, ◌-◌, ◌*◌, ◌≤◌, All, List, ℕ, length, map, take, sum, sum_by}
+use Rattle.prefix_trie_table.specs.Bulk.{AreAnswered, AreCosts, IsWay, cost_of, question_of}
 use Rattle.prefix_trie_table.proofs.table.bulk.answer_each.Given as goal
 
 abbrev pub invariant-round : goal.invariant-round
-invariant-round g l = ?
+invariant-round g l = record {
+  few : l.left ≤ 32;
+  ways : All (IsWay g.K.Key.bits l.nodes l.questions l.level) (take l.left l.ways);
+  answered : AreAnswered g.K.Key.bits l.nodes l.questions (map question_of (take l.left l.ways)) l.found;
+  counted : (costs : List ℕ) → length costs ≡ length l.questions → AreCosts g.K.Key.bits l.nodes l.questions costs
+      → g.V.Tick.count l.counter + sum_by (cost_of costs) (take l.left l.ways) ≡ g.V.Tick.count l.fn.counter + sum costs + l.left * l.level;
+}
 
--- proposed from the loop's first test
 abbrev pub decreases-round : goal.decreases-round
-decreases-round g l = l.left
+decreases-round g l = g.K.Key.bit_width + 5 - 5 * l.level

@@ -1,16 +1,13 @@
-use Rattle.std.proofs.Common.{◌≡◌, ℕ, ◌+◌, ◌*◌, ◌<◌, ◌≤◌, [], List, All, IfSome, MatchOption, None, Some, length, map, option_map, take, sum, sum_by, slice_index_or, ◌-◌}
-use Rattle.prefix_trie_bits.specs.Model.Matches.{longest_match}
-use Rattle.prefix_trie_bits.specs.Model.Visits.{visits}
+use Rattle.std.proofs.Common.{◌≡◌, ◌≤◌, take, drop}
 use Rattle.prefix_trie_table.specs.declared.allocator.node.Node.{Node}
-use Rattle.prefix_trie_table.specs.declared.table.bulk.Found.{Found}
-use Rattle.prefix_trie_table.specs.declared.table.bulk.Way.{Way}
-use Rattle.prefix_trie_table.specs.Bitmaps.{has_bit as is_set}
-use Rattle.prefix_trie_table.specs.Bulk.{AreAnswered, AreAnswers, AreCosts, AreRead, CanAsk, GoOn, HasFound, IsAnswer, IsSound, IsWay, IsWayTo, asked, cost_of, found_of, new_way, question_of, slot_of}
-use Rattle.prefix_trie_table.specs.Cells.{node_at}
-use Rattle.prefix_trie_table.specs.Matching.{IsOnWay}
+use Rattle.prefix_trie_table.specs.Bulk.{AreRead, GoOn}
 use Rattle.prefix_trie_table.specs.Store.{Store}
-use Rattle.prefix_trie_table.specs.Tables.{IsReached}
 use Rattle.prefix_trie_table.proofs.table.bulk.look_at_each.Given as goal
 
 abbrev pub invariant-loop-j : goal.invariant-loop-j
-invariant-loop-j g l = ?
+invariant-loop-j g l = record {
+  few : l.kept ≤ l.j;
+  rest : drop l.j l.ways ≡ drop l.j l.fn.ways;
+  go_on : (v : Store Node) → AreRead g.K.Key.bits v l.questions l.level (take l.count l.fn.ways) l.read
+      → GoOn g.K.Key.bits v l.questions l.level (take l.j l.fn.ways) (take l.kept l.ways) l.fn.found l.found;
+}

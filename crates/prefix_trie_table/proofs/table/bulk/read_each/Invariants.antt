@@ -1,16 +1,9 @@
-use Rattle.std.proofs.Common.{◌≡◌, ℕ, ◌+◌, ◌*◌, ◌<◌, ◌≤◌, [], List, All, IfSome, MatchOption, None, Some, length, map, option_map, take, sum, sum_by, slice_index_or, ◌-◌}
-use Rattle.prefix_trie_bits.specs.Model.Matches.{longest_match}
-use Rattle.prefix_trie_bits.specs.Model.Visits.{visits}
-use Rattle.prefix_trie_table.specs.declared.allocator.node.Node.{Node}
-use Rattle.prefix_trie_table.specs.declared.table.bulk.Found.{Found}
-use Rattle.prefix_trie_table.specs.declared.table.bulk.Way.{Way}
-use Rattle.prefix_trie_table.specs.Bitmaps.{has_bit as is_set}
-use Rattle.prefix_trie_table.specs.Bulk.{AreAnswered, AreAnswers, AreCosts, AreRead, CanAsk, GoOn, HasFound, IsAnswer, IsSound, IsWay, IsWayTo, asked, cost_of, found_of, new_way, question_of, slot_of}
-use Rattle.prefix_trie_table.specs.Cells.{node_at}
-use Rattle.prefix_trie_table.specs.Matching.{IsOnWay}
-use Rattle.prefix_trie_table.specs.Store.{Store}
-use Rattle.prefix_trie_table.specs.Tables.{IsReached}
+use Rattle.std.proofs.Common.{◌≡◌, ◌+◌}
+use Rattle.prefix_trie_table.specs.Bulk.{EachOf, IsAhead}
 use Rattle.prefix_trie_table.proofs.table.bulk.read_each.Given as goal
 
 abbrev pub invariant-loop-j : goal.invariant-loop-j
-invariant-loop-j g l = ?
+invariant-loop-j g l = record {
+  read : EachOf (IsAhead l.nodes.slots l.ways) l.j l.read;
+  counted : g.V.Tick.count l.counter ≡ g.V.Tick.count l.fn.counter + l.j;
+}
