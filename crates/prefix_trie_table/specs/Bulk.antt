@@ -74,13 +74,12 @@ module _ {K : Type 0} (bits : K → List Bool) where
 
   module _ (v : Store Node) (questions : List (K × ℕ)) where
     -- the way of a question has come to the node ahead, and the longest match above it is known
-    pub record IsWayTo (level : ℕ) (w : Way) (q : K × ℕ) : Type 0 where
-      pub on_way : IsOnWay (bits q.0) q.1 level (node_at v.slots (slot_of w)) (slot_of w) v
-      pub best : HasFound v (asked q) (5 * level) w.best
-
     pub record IsWay (level : ℕ) (w : Way) : Type 0 where
+      pub question : K × ℕ
+      pub is : question ≡ slice_index_or questions w.question question
       pub inside : w.question < length questions
-      pub way : (q : K × ℕ) → q ≡ slice_index_or questions w.question q → IsWayTo level w q
+      pub on_way : IsOnWay (bits question.0) question.1 level (node_at v.slots (slot_of w)) (slot_of w) v
+      pub best : HasFound v (asked question) (5 * level) w.best
 
     -- a question that is no longer on its way has its answer
     abbrev pub AreAnswered : List ℕ → List (Option Found) → Type 0
@@ -97,6 +96,7 @@ module _ {K : Type 0} (bits : K → List Bool) where
 
     -- the nodes that these ways have come to were read
     pub record AreRead (level : ℕ) (ways : List Way) (nodes : List Node) : Type 0 where
+      pub sound : SomeNodes v
       pub ways_are : All (IsWay level) ways
       pub nodes_are : EachOf (IsAhead v.slots ways) (length ways) nodes
 

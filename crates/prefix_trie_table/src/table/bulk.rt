@@ -8,7 +8,7 @@ ghost use Rattle.prefix_trie_table.specs.declared.allocator.node.Node.{Node};
 ghost use Rattle.prefix_trie_table.specs.declared.table.bulk.Found.{Found};
 ghost use Rattle.prefix_trie_table.specs.declared.table.bulk.Way.{Way};
 ghost use Rattle.prefix_trie_table.specs.Bitmaps.{has_bit as is_set};
-ghost use Rattle.prefix_trie_table.specs.Bulk.{AreAnswered, AreAnswers, AreCosts, AreRead, CanAsk, EachOf, GoOn, HasFound, IsAhead, IsAnswer, IsNew, IsSound, IsWay, IsWayTo, asked, cost_of, found_of, new_way, question_of, slot_of};
+ghost use Rattle.prefix_trie_table.specs.Bulk.{AreAnswered, AreAnswers, AreCosts, AreRead, CanAsk, EachOf, GoOn, HasFound, IsAhead, IsAnswer, IsNew, IsSound, IsWay, asked, cost_of, found_of, new_way, question_of, slot_of};
 ghost use Rattle.prefix_trie_table.specs.Cells.{node_at};
 ghost use Rattle.prefix_trie_table.specs.Matching.{IsOnWay};
 ghost use Rattle.prefix_trie_table.specs.Store.{Store};
