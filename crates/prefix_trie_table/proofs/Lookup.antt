@@ -9,3 +9,4 @@ pub mod Covered
 pub mod Lending
 pub mod Located
 pub mod Bulk
+pub mod Rounds

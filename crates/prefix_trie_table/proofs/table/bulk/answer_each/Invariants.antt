@@ -5,6 +5,7 @@ use Rattle.prefix_trie_table.proofs.table.bulk.answer_each.Given as goal
 abbrev pub invariant-round : goal.invariant-round
 invariant-round g l = record {
   few : l.left ≤ 32;
+  room : (length l.ways ≡ 32) × (length l.read ≡ 32);
   ways : All (IsWay g.K.Key.bits l.nodes l.questions l.level) (take l.left l.ways);
   answered : AreAnswered g.K.Key.bits l.nodes l.questions (map question_of (take l.left l.ways)) l.found;
   counted : (costs : List ℕ) → length costs ≡ length l.questions → AreCosts g.K.Key.bits l.nodes l.questions costs
