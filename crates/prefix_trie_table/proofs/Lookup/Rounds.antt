@@ -1,17 +1,25 @@
 -- Questions that go down side by side: before the first round, from one to the next, and after the last.
-use Rattle.std.proofs.Common.{◌≡◌, ℕ, zero, suc, ◌+◌, ◌*◌, ◌<◌, ◌≤◌, inl, inr, Bool, List, [], ◌∷◌, ◌++◌, Option, None, Contains, All, map, take, length, get_or, sum, sum_by, refl, sym, ap, ap₂, ◌∙◌, subst, arith}
+use Rattle.std.proofs.Common.{◌≡◌, ℕ, zero, suc, ◌+◌, ◌*◌, ◌<◌, ◌≤◌, inl, inr, Bool, List, [], ◌∷◌, ◌++◌, Option, None, Some, is_some, Contains, All, map, take, length, get_or, sum, sum_by, refl, sym, ap, ap₂, ◌∙◌, subst, arith}
 use Rattle.std.proofs.Math.Nat.{add-mul, mul-zero, mul-add, mul-one, zero-mul}
+use Rattle.std.proofs.lemmas.Bool.{false≢true}
 use Rattle.std.proofs.lemmas.List.{append-nil, length-map, length-take-le, take_all, take_more, get_or_default, get_or-map, get_or-take}
 use Rattle.std.proofs.lemmas.List.Sums.{sum_by_push}
 use Rattle.prefix_trie_table.specs.declared.allocator.node.Node.{Node}
 use Rattle.prefix_trie_table.specs.declared.table.bulk.Found.{Found}
 use Rattle.prefix_trie_table.specs.declared.table.bulk.Way.{Way}
-use Rattle.prefix_trie_table.specs.Bulk.{AreAnswered, AreCosts, AreRead, CanAsk, EachOf, GoOn, HasFound, IsAhead, IsNew, IsWay, asked, cost_of, new_way, question_of, slot_of}
-use Rattle.prefix_trie_table.specs.Cells.{node_at}
+use Rattle.prefix_trie_table.specs.declared.table.matching.Match.{Match}
+use Rattle.prefix_trie_table.specs.Bulk.{AreAnswered, AreAnswers, AreCosts, AreRead, CanAsk, EachOf, GoOn, HasFound, IsAhead, IsAnswer, IsLongestFound, IsNew, IsWay, asked, cost_of, found_of, new_way, question_of, slot_of}
+use Rattle.prefix_trie_table.specs.Cells.{node_at, node_sizes}
 use Rattle.prefix_trie_table.specs.Digits.{path_of}
-use Rattle.prefix_trie_table.specs.Forest.{SomeNodes}
-use Rattle.prefix_trie_table.specs.Matching.{IsOnWay}
+use Rattle.prefix_trie_table.specs.Forest.{IsEnd, NodesHold, SomeNodes, SomeTable, read}
+use Rattle.prefix_trie_table.specs.Matching.{IsHeld, IsOnWay, NoneHeld}
+use Rattle.prefix_trie_table.specs.Shape.{IsShapeOf}
 use Rattle.prefix_trie_table.specs.Store.{Store}
+use Rattle.prefix_trie_bits.specs.Model.Step.{State}
+use Rattle.prefix_trie_bits.specs.Model.Visits.{visits}
+use Rattle.prefix_trie_table.proofs.Counts.Counted.{visits_counted}
+use Rattle.prefix_trie_table.proofs.Tree.Shapes.{shape_nodes}
+use Rattle.prefix_trie_table.proofs.Tree.Trees.{reads}
 use Rattle.prefix_trie_table.proofs.Lookup.Going.{deepest_in, deepest_root, key_long}
 
 -- the item at a place of a list that reaches there
@@ -125,3 +133,44 @@ module _ {K : Type 0} (bits : K → List Bool) (v : Store Node) (questions : Lis
       (subst (λ n. sum_by (cost_of costs) ways + n * (level + 1) ≡ sum_by (cost_of costs) next + l * (level + 1)) next_long
       (subst (λ n. sum_by (cost_of costs) ways + length next * (level + 1) ≡ sum_by (cost_of costs) next + n * (level + 1)) ways_long (go.counted costs are)))
       (mul-add l level 1 ∙ ap (λ n. l * level + n) (mul-one l))
+
+-- ---- after the last
+
+module _ (v : Store Node) (reading : List ℕ → Option Node) (paths : List (List ℕ)) (hold : NodesHold node_sizes reading paths v) where
+  -- what the array says at each path
+  reading_is : read v.slots ≡ reading
+  reading_is = λ i p. reads node_sizes reading paths v hold p i
+
+  module _ {K : Type 0} (bits : K → List Bool) where
+    -- a question that is on its way no more has its answer
+    pub are_answers : (questions : List (K × ℕ)) (found : List (Option Found)) → AreAnswered bits v questions [] found → AreAnswers bits v.slots questions found
+    are_answers questions found answered i q a inside q_is a_is = elim (answered i q a inside q_is a_is) as (λ _. IsAnswer bits v.slots q a) [
+      | inl none ↦ absurd (omega (arith, none.1))
+      | inr has ↦ subst (λ r. IsLongestFound r (asked bits q) (q.1 + 1) a) (sym reading_is) (has reading paths hold)
+    ]
+
+    pub answer_is : (q : K × ℕ) (a : Option Found) → IsAnswer bits v.slots q a → IsLongestFound reading (asked bits q) (q.1 + 1) a
+    answer_is q a is = subst (λ r. IsLongestFound r (asked bits q) (q.1 + 1) a) reading_is is
+
+module _ {T : Type 0} (v : Store Node) (w : Store (Option T)) (t : SomeTable v w) (s : State T) (shaped : IsShapeOf v.slots w.slots s) where
+  -- a question costs the nodes on its way
+  pub costs_are : {K : Type 0} (bits : K → List Bool) (questions : List (K × ℕ)) → AreCosts bits v questions (map (λ q. visits s.nodes (asked bits q)) questions)
+  costs_are bits questions i q inside is reading paths level hold end =
+      let same : reading ≡ t.reading = sym (reading_is v reading paths hold) ∙ reading_is v t.reading t.paths t.holds.hold in
+      get_or-map (λ x. visits s.nodes (asked bits x)) questions i q 0 inside ∙ ap (λ x. visits s.nodes (asked bits x)) (sym is)
+      ∙ visits_counted t.reading t.paths v t.holds.hold s.nodes (shape_nodes t.reading t.values t.paths v w t.holds s shaped) (asked bits q) level
+      (subst (λ r. IsEnd r (path_of (asked bits q)) level) same end)
+
+-- a match that is kept, and what is where none is
+abbrev kept_or : Found → Option Found → Found
+kept_or f None = f
+kept_or f (Some found) = found
+
+pub found_some : (reading : List ℕ → Option Node) (s : List Bool) (n : ℕ) (f : Found) → IsLongestFound reading s n (Some f)
+    → (m : Match) × (f ≡ found_of m) × IsHeld reading s m.len m.bit m.node × NoneHeld reading s (m.len + 1) n
+found_some reading s n f (None, held, is) = absurd (false≢true (sym (ap is_some is)))
+found_some reading s n f (Some m, held, is) = (m, ap (kept_or f) is, held.0, held.1)
+
+pub found_none : (reading : List ℕ → Option Node) (s : List Bool) (n : ℕ) → IsLongestFound reading s n None → NoneHeld reading s 0 n
+found_none reading s n (None, held, is) = held
+found_none reading s n (Some m, held, is) = absurd (false≢true (ap is_some is))

@@ -194,6 +194,21 @@ fn answer_each<K: Key, A: Allocator, V: Tick>(
     }
 }
 
+/// The value of a match, behind the length of its string.
+#[inline(always)]
+fn value_at<'a, T: Drop, A: Allocator>(cells: &'a Blocks<Option<T>, A>, found: Found) -> Option<(u32, &'a T)>
+    requires stands { found.seat.start + found.seat.place < length cells.now.slots }
+    ensures { MatchOption result
+        (slice_index_or cells.now.slots (found.seat.start + found.seat.place) None ≡ None)
+        (λ r. (r.0 ≡ found.len)
+        × (slice_index_or cells.now.slots (found.seat.start + found.seat.place) None ≡ Some r.1.now)) }
+{
+    let Some(value) = cells.at(found.seat.start, found.seat.place).as_ref() else {
+        return None;
+    };
+    Some((found.len, value))
+}
+
 impl<T: Drop, A: Allocator, V: Tick> Table<T, A, V> {
     /// What `find_longest` finds for each question, which is a key and a length: in the place of each in `found` its answer, which
     /// `value_found` reads. Each node on the way of a question is read once for it.
@@ -226,10 +241,10 @@ impl<T: Drop, A: Allocator, V: Tick> Table<T, A, V> {
             × (longest_match self.now.entries (asked K.bits question)
             ≡ Some (take f.0 (asked K.bits question), f.1.now))) }
     {
-        let found = found?;
-        let Some(value) = self.cells.at(found.seat.start, found.seat.place).as_ref() else {
+        let cells = &self.cells;
+        let Some(found) = found else {
             return None;
         };
-        Some((found.len, value))
+        value_at(cells, found)
     }
 }
