@@ -8,3 +8,5 @@ pub mod Covers
 pub mod Covered
 pub mod Lending
 pub mod Located
+pub mod Bulk
+pub mod Rounds

@@ -9,6 +9,7 @@ pub mod Slots
 pub mod Lending
 pub mod Laying
 pub mod BlockCounts
+pub mod Bulk
 pub mod Layouts
 pub mod Shape
 pub mod Tables

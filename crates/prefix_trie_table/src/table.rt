@@ -5,6 +5,7 @@
 //! node's two blocks, by its bit string, and how many blocks of each size are free. Of slots, bitmaps and where blocks stand
 //! only those clauses speak that hand out a place or take one (`build`).
 mod block_counts;
+pub mod bulk;
 mod children;
 mod copying;
 mod counting;

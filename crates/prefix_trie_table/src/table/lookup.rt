@@ -3,13 +3,14 @@ ghost use Rattle.std.specs.Prelude.{◌≡◌, ℕ, ◌+◌, ◌*◌, ◌≤◌,
 ghost use Rattle.std.specs.Option.{option_copied};
 ghost use Rattle.prefix_trie_bits.specs.Windows.{IsRest};
 ghost use Rattle.prefix_trie_table.specs.declared.allocator.node.Node.{Node};
-ghost use Rattle.prefix_trie_table.specs.Cells.{node_sizes};
+ghost use Rattle.prefix_trie_table.specs.Cells.{node_at, node_sizes};
 ghost use Rattle.prefix_trie_table.specs.Digits.{path_of};
 ghost use Rattle.prefix_trie_table.specs.Forest.{NodesHold, SomeTable, SomeNodes, IsEnd};
 ghost use Rattle.prefix_trie_table.specs.Locations.{Locates};
 ghost use Rattle.prefix_trie_table.specs.Matching.{IsOnWay};
 ghost use Rattle.prefix_trie_table.specs.Tables.{IsReached, ForHeld, own_value};
 ghost use Rattle.prefix_trie_table.specs.Slots.{SeatOf};
+ghost use Rattle.prefix_trie_table.specs.Store.{Store};
 
 use crate::allocator::blocks::Blocks;
 use crate::allocator::node::{Node, NodeSlot};
@@ -41,6 +42,29 @@ pub fn root<A: Allocator, V: Tick>(nodes: &NodeAllocator<A, V>, counter: &mut V)
     Reached { at, node, level: 0 }
 }
 
+/// Where the next node on the way of a bit string stands, if it is there. `rest` has the bits behind those that led here. No
+/// node is read.
+#[inline(always)]
+pub fn next_slot<K: Key>(from: Reached, rest: K, len: u32) -> Option<NodeSlot>
+    requires key { K.IsKey rest }
+    requires within { len ≤ K.bit_width }
+    ensures { (b : List Bool) (v : Store Node)
+        → IsOnWay b len from.level from.node (from.at.start + from.at.place) v
+        → IsRest b (5 * from.level) (K.bits rest)
+        → MatchOption result
+        (IsReached b len from.level from.node (from.at.start + from.at.place) v)
+        (λ at. IsOnWay b len (from.level + 1) (node_at v.slots (at.start + at.place)) (at.start + at.place) v) }
+{
+    if from.level >= len / 5 {
+        return None;
+    }
+    let child = child_bit_of(rest, 0);
+    if !has_bit(from.node.child_bitmap, child) {
+        return None;
+    }
+    Some(from.node.child_slot(child))
+}
+
 /// The next node on the way of a bit string, if it is there. `rest` has the bits behind those that led here.
 #[inline(always)]
 pub fn step_down<K: Key, A: Allocator, V: Tick>(
@@ -65,14 +89,9 @@ pub fn step_down<K: Key, A: Allocator, V: Tick>(
         (V.count counter.new ≡ V.count counter.old)
         (λ _. V.count counter.new ≡ V.count counter.old + 1) }
 {
-    if from.level >= len / 5 {
+    let Some(at) = next_slot(from, rest, len) else {
         return None;
-    }
-    let child = child_bit_of(rest, 0);
-    if !has_bit(from.node.child_bitmap, child) {
-        return None;
-    }
-    let at = from.node.child_slot(child);
+    };
     let node = nodes.visit(at, counter);
     Some(Reached {
         at,

@@ -39,7 +39,7 @@ impl Match {
 
 /// The longest beginning of a bit string that has its value in this node on the way.
 #[inline(always)]
-fn longest_in<K: Key>(here: Reached, rest: K, len: u32) -> Option<Match>
+pub fn longest_in<K: Key>(here: Reached, rest: K, len: u32) -> Option<Match>
     requires key { K.IsKey rest }
     requires within { len ≤ K.bit_width }
     requires whole { 5 * here.level ≤ len }

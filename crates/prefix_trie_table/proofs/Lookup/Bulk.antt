@@ -1,0 +1,211 @@
+-- Questions that go down side by side.
+use Rattle.std.proofs.Common.{◌≡◌, ℕ, ◌+◌, ◌*◌, ◌<◌, ◌≤◌, ◌⊎◌, inl, inr, Bool, List, [], ◌∷◌, ◌++◌, Option, None, Some, IfSome, MatchOption, Contains, option_map, map, take, drop, length, length-drop, get_or, set, sum_by, refl, sym, ap, ◌∙◌, subst, arith}
+use Rattle.std.specs.Option.{option_or}
+use Rattle.std.proofs.Math.Nat.{add-mul, one-mul}
+use Rattle.std.proofs.lemmas.Bool.{cases_eq}
+use Rattle.std.proofs.lemmas.List.{append_assoc, map-append, length_push, length-take-le, take_more, take_more_set, drop-drop, get_or_default, get_or-drop, get_or-take, get_or-set_same, get_or-set_other}
+use Rattle.std.proofs.lemmas.List.Elements.{All-nil, All-push, Contains-append_cases, Contains-append_left, Contains-append_right, Contains-push_cases}
+use Rattle.std.proofs.lemmas.List.Sums.{sum_by_push}
+use Rattle.prefix_trie_table.specs.declared.allocator.node.Node.{Node}
+use Rattle.prefix_trie_table.specs.declared.allocator.node.NodeSlot.{NodeSlot}
+use Rattle.prefix_trie_table.specs.declared.table.bulk.Found.{Found}
+use Rattle.prefix_trie_table.specs.declared.table.bulk.Way.{Way}
+use Rattle.prefix_trie_table.specs.declared.table.matching.Match.{Match}
+use Rattle.prefix_trie_table.specs.Bulk.{AreAnswered, AreRead, GoOn, HasFound, IsWay, asked, cost_of, found_of, question_of, slot_of}
+use Rattle.prefix_trie_table.specs.Cells.{node_at}
+use Rattle.prefix_trie_table.specs.Digits.{path_of}
+use Rattle.prefix_trie_table.specs.Forest.{IsEnd, SomeNodes}
+use Rattle.prefix_trie_table.specs.Matching.{IsOnWay, LongestHeld}
+use Rattle.prefix_trie_table.specs.Store.{Store}
+use Rattle.prefix_trie_table.specs.Tables.{IsReached}
+use Rattle.prefix_trie_table.proofs.Lookup.Finding.{reached_end}
+use Rattle.prefix_trie_table.proofs.Lookup.Matching.{none_past, longest_none, longest_now}
+
+-- a match has a value bit
+pub match_few : (reading : List ℕ → Option Node) (s : List Bool) (a b : ℕ) (o : Option Match) → LongestHeld reading s a b o → IfSome o (λ m. m.bit < 31)
+match_few reading s a b None held = tt
+match_few reading s a b (Some m) held = held.0.small
+
+-- what is found in a node is longer than what was found above it
+longer_is : (o m : Option Match) (above result : Option Found) → above ≡ option_map found_of m → MatchOption o (result ≡ above) (λ n. result ≡ Some (found_of n))
+    → result ≡ option_map found_of (option_or o m)
+longer_is None m above result is found = found ∙ is
+longer_is (Some n) m above result is found = found
+
+module _ (b : List Bool) (len level slot : ℕ) (node : Node) (v : Store Node) where
+  pub found_now : IsOnWay b len level node slot v → (above result : Option Found) (here : Option Match) → HasFound v (take len b) (5 * level) above
+      → ((nodes : List ℕ → Option Node) → nodes (take level (path_of (take len b))) ≡ Some node → LongestHeld nodes (take len b) (5 * level) (5 * level + 5) here)
+      → MatchOption here (result ≡ above) (λ m. result ≡ Some (found_of m)) → HasFound v (take len b) (5 * level + 5) result
+  found_now at above result here so_far found is reading paths hold =
+      let was = so_far reading paths hold in
+      (option_or here was.0, longest_now b len level slot node v at reading paths hold was.0 here (option_or here was.0) was.1 found refl, longer_is here was.0 above result was.2 is)
+
+  -- where the way ends it is the answer
+  pub found_end : IsReached b len level node slot v → (found : Option Found) → HasFound v (take len b) (5 * level + 5) found → HasFound v (take len b) (len + 1) found
+  found_end at found has reading paths hold =
+      let so_far = has reading paths hold in
+      let end = reached_end b len level slot node v at reading paths hold in
+      (so_far.0, longest_none reading (take len b) 0 (5 * level + 5) (len + 1) so_far.0 so_far.1 (none_past reading paths v (take len b) level (len + 1) hold end), so_far.2)
+
+-- ---- one round
+
+-- the sums of a round, where one more way goes on, and where one more ends
+sums_on : (S S' T T' A A' B B' c m : ℕ) → S + A ≡ T + B → S' ≡ S + c → T' ≡ T + c → A' ≡ A + m → B' ≡ B + m → S' + A' ≡ T' + B'
+sums_on S S' T T' A A' B B' c m e s t a b = omega (arith, e, s, t, a, b)
+
+sums_end : (S S' T A B B' c m : ℕ) → S + A ≡ T + B → S' ≡ S + c → c ≡ m → B' ≡ B + m → S' + A ≡ T + B'
+sums_end S S' T A B B' c m e s is b = omega (arith, e, s, is, b)
+
+pushed_times : {X : Type 0} (xs : List X) (x : X) (m : ℕ) → length (xs ++ x ∷ []) * m ≡ length xs * m + m
+pushed_times xs x m = ap (λ n. n * m) (length_push xs x) ∙ add-mul (length xs) 1 m ∙ ap (λ n. length xs * m + n) (one-mul m)
+
+-- a list without one of its items has the others
+without : (xs ys : List ℕ) (k i : ℕ) → (i ≡ k → ⊥) → Contains (xs ++ (k ∷ ys)) i → Contains (xs ++ ys) i
+without xs ys k i other has = elim (Contains-append_cases xs (k ∷ ys) i has) as (λ _. Contains (xs ++ ys) i) [
+  | inl h ↦ Contains-append_left xs ys i h
+  | inr h ↦ elim (Contains-append_cases (k ∷ []) ys i h) as (λ _. Contains (xs ++ ys) i) [
+      | inl e ↦ elim (Contains-push_cases [] k i e) as (λ _. Contains (xs ++ ys) i) [
+          | inl none ↦ absurd (omega (arith, none.1))
+          | inr same ↦ absurd (other (sym same))
+        ]
+      | inr e ↦ Contains-append_right xs ys i e
+    ]
+]
+
+-- the numbers of the questions whose ways these are, where one is the last or the first of the others
+numbers_push : (ws : List Way) (w : Way) (others : List ℕ) → map question_of (ws ++ w ∷ []) ++ others ≡ map question_of ws ++ (w.question ∷ others)
+numbers_push ws w others = ap (λ l. l ++ others) (map-append question_of ws (w ∷ [])) ∙ append_assoc (map question_of ws) (w.question ∷ []) others
+
+module _ {K : Type 0} (bits : K → List Bool) (v : Store Node) (questions : List (K × ℕ)) where
+  -- a question is the one at its place, whatever a read gives past the end
+  pub same_question : (i : ℕ) (q r : K × ℕ) → i < length questions → q ≡ get_or questions i q → r ≡ get_or questions i r → r ≡ q
+  same_question i q r inside q_is r_is = r_is ∙ get_or_default questions i r q inside ∙ sym q_is
+
+  module _ (level : ℕ) where
+    pub way_on : (w : Way) (is : IsWay bits v questions level w) (q : K × ℕ) → q ≡ get_or questions w.question q
+        → IsOnWay (bits q.0) q.1 level (node_at v.slots (slot_of w)) (slot_of w) v
+    way_on w is q q_is =
+        subst (λ x. IsOnWay (bits x.0) x.1 level (node_at v.slots (slot_of w)) (slot_of w) v) (sym (same_question w.question is.question q is.inside is.is q_is)) is.on_way
+
+    pub way_best : (w : Way) (is : IsWay bits v questions level w) (q : K × ℕ) → q ≡ get_or questions w.question q → HasFound v (asked bits q) (5 * level) w.best
+    way_best w is q q_is =
+        subst (λ x. HasFound v (asked bits x) (5 * level) w.best) (sym (same_question w.question is.question q is.inside is.is q_is)) is.best
+
+    module _ (before : List (Option Found)) where
+      pub go_on_none : GoOn bits v questions level [] [] before before
+      go_on_none = record { ways_are = All-nil (IsWay bits v questions (level + 1)); answered = λ others h. h; counted = λ costs are. refl }
+
+      module _ (ws next : List Way) (after : List (Option Found)) (go : GoOn bits v questions level ws next before after) (w : Way) where
+        answered_push : (others : List ℕ) → AreAnswered bits v questions (map question_of (ws ++ w ∷ []) ++ others) before
+            → AreAnswered bits v questions (map question_of next ++ (w.question ∷ others)) after
+        answered_push others h = go.answered (w.question ∷ others) (subst (λ l. AreAnswered bits v questions l before) (numbers_push ws w others) h)
+
+        -- one more way goes on
+        pub go_on_more : (y : Way) → y.question ≡ w.question → IsWay bits v questions (level + 1) y → GoOn bits v questions level (ws ++ w ∷ []) (next ++ y ∷ []) before after
+        go_on_more y same is = record {
+          ways_are = All-push (IsWay bits v questions (level + 1)) next y go.ways_are is;
+          answered = λ others h.
+              subst (λ l. AreAnswered bits v questions l after) (ap (λ n. map question_of next ++ (n ∷ others)) (sym same) ∙ sym (numbers_push next y others)) (answered_push others h);
+          counted = λ costs are.
+              sums_on _ _ _ _ _ _ _ _ (cost_of costs w) (level + 1) (go.counted costs are) (sum_by_push (cost_of costs) ws w)
+              (sum_by_push (cost_of costs) next y ∙ ap (λ n. sum_by (cost_of costs) next + get_or costs n 0) same) (pushed_times next y (level + 1)) (pushed_times ws w (level + 1));
+        }
+
+        -- one more is at its end, and its question answered
+        pub go_on_end : (q : K × ℕ) (best : Option Found) → w.question < length questions → length after ≡ length questions → q ≡ get_or questions w.question q
+            → HasFound v (asked bits q) (q.1 + 1) best → (n : SomeNodes v) → IsEnd n.reading (path_of (asked bits q)) level
+            → GoOn bits v questions level (ws ++ w ∷ []) next before (set after w.question best)
+        go_on_end q best inside long is found n end = record {
+          ways_are = go.ways_are;
+          answered = λ others h i r a within r_is a_is.
+              elim (cases_eq i w.question) as (λ _. Contains (map question_of next ++ others) i ⊎ HasFound v (asked bits r) (r.1 + 1) a) [
+                | inl e ↦
+                    let r_same : r ≡ q = same_question w.question q r inside is (r_is ∙ ap (λ k. get_or questions k r) e) in
+                    let a_same : a ≡ best = a_is ∙ ap (λ k. get_or (set after w.question best) k a) e ∙ get_or-set_same after w.question best a (omega (arith, inside, long)) in
+                    inr (subst (λ x. HasFound v (asked bits r) (r.1 + 1) x) (sym a_same) (subst (λ x. HasFound v (asked bits x) (x.1 + 1) best) (sym r_same) found))
+                | inr other ↦
+                    elim (answered_push others h i r a within r_is (a_is ∙ get_or-set_other after w.question i best a other)) as (λ _. Contains (map question_of next ++ others) i ⊎ HasFound v (asked bits r) (r.1 + 1) a) [
+                      | inl has ↦ inl (without (map question_of next) others w.question i other has)
+                      | inr has ↦ inr has
+                    ]
+              ];
+          counted = λ costs are.
+              sums_end _ _ _ _ _ _ (cost_of costs w) (level + 1) (go.counted costs are) (sum_by_push (cost_of costs) ws w)
+              (are w.question q inside is n.reading n.paths level n.hold end) (pushed_times ws w (level + 1));
+        }
+
+    -- a way of this round, while those before it were looked at
+    module _ (ways : List Way) (count : ℕ) (read : List Node) (long : count ≤ length ways) (given : AreRead bits v questions level (take count ways) read)
+        (now : List Way) (j : ℕ) (same : drop j now ≡ drop j ways) (inside : j < count) where
+      now_at : (d : Way) → get_or now j d ≡ get_or ways j d
+      now_at d =
+          let at : j + 0 ≡ j = omega arith in
+          ap (λ i. get_or now i d) (sym at) ∙ sym (get_or-drop j now 0 d) ∙ ap (λ l. get_or l 0 d) same ∙ get_or-drop j ways 0 d ∙ ap (λ i. get_or ways i d) at
+
+      taken_at : (d : Way) → get_or (take count ways) j d ≡ get_or now j d
+      taken_at d = get_or-take count ways j d inside ∙ sym (now_at d)
+
+      inside_taken : j < length (take count ways)
+      inside_taken = omega (arith, inside, length-take-le count ways long)
+
+      pub way_is : (d : Way) → IsWay bits v questions level (get_or now j d)
+      way_is d = subst (IsWay bits v questions level) (taken_at d) (given.ways_are j d inside_taken)
+
+      node_is : (d : Way) (n : Node) → n ≡ get_or read j n → n ≡ node_at v.slots (slot_of (get_or now j d))
+      node_is d n is =
+          let w : Way = get_or now j d in
+          given.nodes_are j n inside_taken is w (sym (get_or-take count ways j w inside ∙ sym (now_at w) ∙ get_or_default now j w d (omega (arith, inside, now_long))))
+        where
+          now_long : j < length now
+          now_long =
+              let a = length-drop j now in
+              let b = length-drop j ways in
+              let c = ap length same in
+              omega (arith, a, b, c, inside, long)
+
+      -- the node that was read for it is on the way
+      pub read_on : (d : Way) (e : Node) → j < length read → (q : K × ℕ) → q ≡ get_or questions (get_or now j d).question q
+          → IsOnWay (bits q.0) q.1 level (get_or read j e) (slot_of (get_or now j d)) v
+      read_on d e long_read q q_is =
+          subst (λ n. IsOnWay (bits q.0) q.1 level n (slot_of (get_or now j d)) v) (sym (node_is d (get_or read j e) (get_or_default read j e (get_or read j e) long_read)))
+          (way_on (get_or now j d) (way_is d) q q_is)
+
+      one_more : (d : Way) → take (j + 1) ways ≡ take j ways ++ get_or now j d ∷ []
+      one_more d = take_more ways j d (omega (arith, inside, long)) ∙ ap (λ w. take j ways ++ w ∷ []) (sym (now_at d))
+
+      -- the way one node further
+      pub way_next : (d : Way) (q : K × ℕ) → q ≡ get_or questions (get_or now j d).question q → (at : NodeSlot) (best : Option Found)
+          → IsOnWay (bits q.0) q.1 (level + 1) (node_at v.slots (at.start + at.place)) (at.start + at.place) v → HasFound v (asked bits q) (5 * level + 5) best
+          → IsWay bits v questions (level + 1) (record { question = (get_or now j d).question; at = at; best = best })
+      way_next d q is at best on_way has = record {
+        question = q;
+        is = is;
+        inside = (way_is d).inside;
+        on_way = on_way;
+        best = let deeper : 5 * level + 5 ≡ 5 * (level + 1) = omega arith in subst (λ n. HasFound v (asked bits q) n best) deeper has;
+      }
+
+      pub rest_more : drop (j + 1) now ≡ drop (j + 1) ways
+      rest_more = sym (drop-drop 1 j now) ∙ ap (λ l. drop 1 l) same ∙ drop-drop 1 j ways
+
+      module _ (kept : ℕ) (before after : List (Option Found)) (go : GoOn bits v questions level (take j ways) (take kept now) before after) (d : Way) where
+        -- it goes on
+        pub round_on : (later : List Way) (kept_later : ℕ) (found : List (Option Found)) → kept < length now → kept_later ≡ kept + 1 → (y : Way) → later ≡ set now kept y
+            → found ≡ after → y.question ≡ (get_or now j d).question → IsWay bits v questions (level + 1) y
+            → GoOn bits v questions level (take (j + 1) ways) (take kept_later later) before found
+        round_on later kept_later found room more y put same_found same_question is =
+            subst (λ l. GoOn bits v questions level l (take kept_later later) before found) (sym (one_more d))
+            (subst (λ l. GoOn bits v questions level (take j ways ++ get_or now j d ∷ []) l before found) (sym (ap (λ n. take n later) more ∙ ap (take (kept + 1)) put ∙ take_more_set now kept y room))
+            (subst (λ f. GoOn bits v questions level (take j ways ++ get_or now j d ∷ []) (take kept now ++ y ∷ []) before f) (sym same_found)
+            (go_on_more before (take j ways) (take kept now) after go (get_or now j d) y same_question is)))
+
+        -- it is at its end
+        pub round_end : (later : List Way) (kept_later : ℕ) (found : List (Option Found)) → kept_later ≡ kept → later ≡ now → (best : Option Found)
+            → found ≡ set after (get_or now j d).question best → length after ≡ length questions → (q : K × ℕ) → q ≡ get_or questions (get_or now j d).question q
+            → HasFound v (asked bits q) (q.1 + 1) best → ((n : SomeNodes v) → IsEnd n.reading (path_of (asked bits q)) level)
+            → GoOn bits v questions level (take (j + 1) ways) (take kept_later later) before found
+        round_end later kept_later found same_kept same_ways best put long q is has end =
+            subst (λ l. GoOn bits v questions level l (take kept_later later) before found) (sym (one_more d))
+            (subst (λ l. GoOn bits v questions level (take j ways ++ get_or now j d ∷ []) l before found) (sym (ap (λ n. take n later) same_kept ∙ ap (take kept) same_ways))
+            (subst (λ f. GoOn bits v questions level (take j ways ++ get_or now j d ∷ []) (take kept now) before f) (sym put)
+            (go_on_end before (take j ways) (take kept now) after go (get_or now j d) q best (way_is d).inside long is has given.sound (end given.sound))))

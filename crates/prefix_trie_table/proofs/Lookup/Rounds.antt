@@ -1,0 +1,176 @@
+-- Questions that go down side by side: before the first round, from one to the next, and after the last.
+use Rattle.std.proofs.Common.{◌≡◌, ℕ, zero, suc, ◌+◌, ◌*◌, ◌<◌, ◌≤◌, inl, inr, Bool, List, [], ◌∷◌, ◌++◌, Option, None, Some, is_some, Contains, All, map, take, length, get_or, sum, sum_by, refl, sym, ap, ap₂, ◌∙◌, subst, arith}
+use Rattle.std.proofs.Math.Nat.{add-mul, mul-zero, mul-add, mul-one, zero-mul}
+use Rattle.std.proofs.lemmas.Bool.{false≢true}
+use Rattle.std.proofs.lemmas.List.{append-nil, length-map, length-take-le, take_all, take_more, get_or_default, get_or-map, get_or-take}
+use Rattle.std.proofs.lemmas.List.Sums.{sum_by_push}
+use Rattle.prefix_trie_table.specs.declared.allocator.node.Node.{Node}
+use Rattle.prefix_trie_table.specs.declared.table.bulk.Found.{Found}
+use Rattle.prefix_trie_table.specs.declared.table.bulk.Way.{Way}
+use Rattle.prefix_trie_table.specs.declared.table.matching.Match.{Match}
+use Rattle.prefix_trie_table.specs.Bulk.{AreAnswered, AreAnswers, AreCosts, AreRead, CanAsk, EachOf, GoOn, HasFound, IsAhead, IsAnswer, IsLongestFound, IsNew, IsWay, asked, cost_of, found_of, new_way, question_of, slot_of}
+use Rattle.prefix_trie_table.specs.Cells.{node_at, node_sizes}
+use Rattle.prefix_trie_table.specs.Digits.{path_of}
+use Rattle.prefix_trie_table.specs.Forest.{IsEnd, NodesHold, SomeNodes, SomeTable, read}
+use Rattle.prefix_trie_table.specs.Matching.{IsHeld, IsOnWay, NoneHeld}
+use Rattle.prefix_trie_table.specs.Shape.{IsShapeOf}
+use Rattle.prefix_trie_table.specs.Store.{Store}
+use Rattle.prefix_trie_bits.specs.Model.Step.{State}
+use Rattle.prefix_trie_bits.specs.Model.Visits.{visits}
+use Rattle.prefix_trie_table.proofs.Counts.Counted.{visits_counted}
+use Rattle.prefix_trie_table.proofs.Tree.Shapes.{shape_nodes}
+use Rattle.prefix_trie_table.proofs.Tree.Trees.{reads}
+use Rattle.prefix_trie_table.proofs.Lookup.Going.{deepest_in, deepest_root, key_long}
+
+-- the item at a place of a list that reaches there
+some_at : {X : Type 0} (xs : List X) (i : ℕ) → i < length xs → (x : X) × (x ≡ get_or xs i x)
+some_at [] i inside = absurd (omega (arith, inside))
+some_at (x ∷ xs) i inside = (get_or (x ∷ xs) i x, get_or_default (x ∷ xs) i x (get_or (x ∷ xs) i x) inside)
+
+-- ---- before the first round
+
+module _ (ways : List Way) where
+  new_at : (n : ℕ) → n ≤ length ways → EachOf IsNew n ways → (i : ℕ) → i < n → (d : Way) → get_or ways i d ≡ new_way i
+  new_at n long new i inside d = new i (get_or ways i d) inside (get_or_default ways i d (get_or ways i d) (omega (arith, inside, long)))
+
+  -- each of these questions is under way
+  pub new_under_way : (n : ℕ) → n ≤ length ways → EachOf IsNew n ways → (i : ℕ) → i < n → Contains (map question_of (take n ways)) i
+  new_under_way n long new i inside =
+      let fits : i < length (take n ways) = omega (arith, inside, length-take-le n ways long) in
+      (
+        i,
+        omega (arith, fits, length-map (take n ways) question_of),
+        get_or-map question_of (take n ways) i (new_way i) i fits ∙ ap question_of (get_or-take n ways i (new_way i) inside ∙ new_at n long new i inside (new_way i)),
+      )
+
+  -- they cost what they cost
+  pub new_costs : (costs : List ℕ) (n : ℕ) → n ≤ length ways → n ≤ length costs → EachOf IsNew n ways → sum_by (cost_of costs) (take n ways) ≡ sum (take n costs)
+  new_costs costs zero long costed new = refl
+  new_costs costs (suc n) long costed new =
+      let more : suc n ≡ n + 1 = omega arith in
+      let earlier = new_costs costs n (omega (arith, long)) (omega (arith, costed)) (λ i x inside is. new i x (omega (arith, inside)) is) in
+      ap (λ k. sum_by (cost_of costs) (take k ways)) more ∙ ap (sum_by (cost_of costs)) (take_more ways n (new_way n) (omega (arith, long))) ∙ sum_by_push (cost_of costs) (take n ways) (get_or ways n (new_way n))
+      ∙ ap₂ (λ a w. a + cost_of costs w) earlier (new_at (suc n) long new n (omega arith) (new_way n))
+      ∙ sym (ap (λ k. sum (take k costs)) more ∙ ap sum (take_more costs n 0 (omega (arith, costed))) ∙ sum_by_push (λ x. x) (take n costs) (get_or costs n 0))
+
+module _ {K : Type 0} (bits : K → List Bool) (IsKey : K → Type 0) (width : ℕ) (laws : (k : K) → IsKey k → length (bits k) ≡ width) (v : Store Node) (questions : List (K × ℕ))
+    (ask : All (CanAsk IsKey width) questions) where
+  can_ask : (i : ℕ) (q : K × ℕ) → i < length questions → q ≡ get_or questions i q → CanAsk IsKey width q
+  can_ask i q inside is = subst (CanAsk IsKey width) (sym is) (ask i q inside)
+
+  new_is_way : (i : ℕ) → i < length questions → IsWay bits v questions 0 (new_way i)
+  new_is_way i inside =
+      let q = some_at questions i inside in
+      let can = can_ask i q.0 inside q.1 in
+      let long = key_long (length (bits q.0.0)) q.0.1 width (laws q.0.0 can.0) can.1 in
+      record {
+        question = q.0;
+        is = q.1;
+        inside = inside;
+        on_way = record {
+          long = long;
+          whole = omega arith;
+          node_is = refl;
+          deepest = λ reading paths hold. deepest_root reading paths v (path_of (take q.0.1 (bits q.0.0))) hold;
+        };
+        best = λ reading paths hold. (None, λ i from last within. absurd (omega (arith, last)), refl);
+      }
+
+  pub new_ways : (ways : List Way) (n : ℕ) → n ≤ length ways → n ≤ length questions → EachOf IsNew n ways → All (IsWay bits v questions 0) (take n ways)
+  new_ways ways n long asked new i d inside =
+      let within : i < n = omega (arith, inside, length-take-le n ways long) in
+      subst (IsWay bits v questions 0) (sym (get_or-take n ways i d within ∙ new_at ways n long new i within d)) (new_is_way i (omega (arith, within, asked)))
+
+  -- ---- from one round to the next
+
+  module _ (level : ℕ) (ways : List Way) (n : ℕ) (long : n ≤ length ways) (all : All (IsWay bits v questions level) (take n ways)) where
+    -- the nodes ahead stand in the array
+    pub ahead_inside : SomeNodes v → All (λ w. slot_of w < length v.slots) (take n ways)
+    ahead_inside s i d inside =
+        let w : Way = get_or (take n ways) i d in
+        let is = all i d inside in
+        deepest_in s.reading s.paths v (path_of (take is.question.1 (bits is.question.0))) level (slot_of w) s.hold (is.on_way.deepest s.reading s.paths s.hold)
+
+    -- a way is no deeper than its question is long
+    pub level_fits : 0 < n → 5 * level ≤ width
+    level_fits some =
+        let is = all 0 (new_way 0) (omega (arith, some, length-take-le n ways long)) in
+        let can = can_ask _ is.question is.inside is.is in
+        let whole = is.on_way.whole in
+        let short = can.1 in
+        omega (arith, whole, short)
+
+    pub are_read : SomeNodes v → (read : List Node) → EachOf (IsAhead v.slots ways) n read → AreRead bits v questions level (take n ways) read
+    are_read s read each = record {
+      sound = s;
+      ways_are = all;
+      nodes_are = λ i x inside is w w_is.
+          let within : i < n = omega (arith, inside, length-take-le n ways long) in
+          each i x within is w (w_is ∙ get_or-take n ways i w within);
+    }
+
+-- the sums before the first round, from one to the next, and after the last
+pub sums_first : (C S Z n : ℕ) → S ≡ Z → C + S ≡ C + Z + n * 0
+sums_first C S Z n e = let none = mul-zero n in omega (arith, e, none)
+
+pub sums_last : (C Z level : ℕ) → C + 0 ≡ Z + 0 * level → C ≡ Z
+sums_last C Z level e = let none = zero-mul level in omega (arith, e, none)
+
+sums_next : (C C' S S' Z L l A B : ℕ) → C + S ≡ Z + L → C' ≡ C + l → S + A ≡ S' + B → B ≡ L + l → C' + S' ≡ Z + A
+sums_next C C' S S' Z L l A B e c s b = omega (arith, e, c, s, b)
+
+module _ {K : Type 0} (bits : K → List Bool) (v : Store Node) (questions : List (K × ℕ)) (level : ℕ) (ways next : List Way) (before after : List (Option Found))
+    (go : GoOn bits v questions level ways next before after) where
+  pub answered_next : AreAnswered bits v questions (map question_of ways) before → AreAnswered bits v questions (map question_of next) after
+  answered_next h =
+      subst (λ l. AreAnswered bits v questions l after) (append-nil (map question_of next))
+      (go.answered [] (subst (λ l. AreAnswered bits v questions l before) (sym (append-nil (map question_of ways))) h))
+
+  pub counted_next : (costs : List ℕ) → AreCosts bits v questions costs → (l k count later start : ℕ) → length ways ≡ l → length next ≡ k
+      → count + sum_by (cost_of costs) ways ≡ start + l * level → later ≡ count + l → later + sum_by (cost_of costs) next ≡ start + k * (level + 1)
+  counted_next costs are l k count later start ways_long next_long so_far read =
+      sums_next count later (sum_by (cost_of costs) ways) (sum_by (cost_of costs) next) start (l * level) l (k * (level + 1)) (l * (level + 1)) so_far read
+      (subst (λ n. sum_by (cost_of costs) ways + n * (level + 1) ≡ sum_by (cost_of costs) next + l * (level + 1)) next_long
+      (subst (λ n. sum_by (cost_of costs) ways + length next * (level + 1) ≡ sum_by (cost_of costs) next + n * (level + 1)) ways_long (go.counted costs are)))
+      (mul-add l level 1 ∙ ap (λ n. l * level + n) (mul-one l))
+
+-- ---- after the last
+
+module _ (v : Store Node) (reading : List ℕ → Option Node) (paths : List (List ℕ)) (hold : NodesHold node_sizes reading paths v) where
+  -- what the array says at each path
+  reading_is : read v.slots ≡ reading
+  reading_is = λ i p. reads node_sizes reading paths v hold p i
+
+  module _ {K : Type 0} (bits : K → List Bool) where
+    -- a question that is on its way no more has its answer
+    pub are_answers : (questions : List (K × ℕ)) (found : List (Option Found)) → AreAnswered bits v questions [] found → AreAnswers bits v.slots questions found
+    are_answers questions found answered i q a inside q_is a_is = elim (answered i q a inside q_is a_is) as (λ _. IsAnswer bits v.slots q a) [
+      | inl none ↦ absurd (omega (arith, none.1))
+      | inr has ↦ subst (λ r. IsLongestFound r (asked bits q) (q.1 + 1) a) (sym reading_is) (has reading paths hold)
+    ]
+
+    pub answer_is : (q : K × ℕ) (a : Option Found) → IsAnswer bits v.slots q a → IsLongestFound reading (asked bits q) (q.1 + 1) a
+    answer_is q a is = subst (λ r. IsLongestFound r (asked bits q) (q.1 + 1) a) reading_is is
+
+module _ {T : Type 0} (v : Store Node) (w : Store (Option T)) (t : SomeTable v w) (s : State T) (shaped : IsShapeOf v.slots w.slots s) where
+  -- a question costs the nodes on its way
+  pub costs_are : {K : Type 0} (bits : K → List Bool) (questions : List (K × ℕ)) → AreCosts bits v questions (map (λ q. visits s.nodes (asked bits q)) questions)
+  costs_are bits questions i q inside is reading paths level hold end =
+      let same : reading ≡ t.reading = sym (reading_is v reading paths hold) ∙ reading_is v t.reading t.paths t.holds.hold in
+      get_or-map (λ x. visits s.nodes (asked bits x)) questions i q 0 inside ∙ ap (λ x. visits s.nodes (asked bits x)) (sym is)
+      ∙ visits_counted t.reading t.paths v t.holds.hold s.nodes (shape_nodes t.reading t.values t.paths v w t.holds s shaped) (asked bits q) level
+      (subst (λ r. IsEnd r (path_of (asked bits q)) level) same end)
+
+-- a match that is kept, and what is where none is
+abbrev kept_or : Found → Option Found → Found
+kept_or f None = f
+kept_or f (Some found) = found
+
+pub found_some : (reading : List ℕ → Option Node) (s : List Bool) (n : ℕ) (f : Found) → IsLongestFound reading s n (Some f)
+    → (m : Match) × (f ≡ found_of m) × IsHeld reading s m.len m.bit m.node × NoneHeld reading s (m.len + 1) n
+found_some reading s n f (None, held, is) = absurd (false≢true (sym (ap is_some is)))
+found_some reading s n f (Some m, held, is) = (m, ap (kept_or f) is, held.0, held.1)
+
+pub found_none : (reading : List ℕ → Option Node) (s : List Bool) (n : ℕ) → IsLongestFound reading s n None → NoneHeld reading s 0 n
+found_none reading s n (None, held, is) = held
+found_none reading s n (Some m, held, is) = absurd (false≢true (ap is_some is))

@@ -1,0 +1,5 @@
+use Rattle.prefix_trie_table.specs.Bulk.{EachOf, IsNew}
+use Rattle.prefix_trie_table.proofs.table.bulk.begin.Given as goal
+
+abbrev pub invariant-loop-j : goal.invariant-loop-j
+invariant-loop-j l = EachOf IsNew l.j l.ways

@@ -1,0 +1,107 @@
+-- Questions of one call that go down side by side, and how far each has come. This project's own.
+use Rattle.std.specs.Prelude.{◌≡◌, ℕ, ◌+◌, ◌*◌, ◌<◌, ◌≤◌, ◌⊎◌, Bool, List, Option, None, All, Contains, ◌++◌, length, map, option_map, slice_index_or, sum_by, take}
+use Rattle.prefix_trie_table.specs.declared.allocator.node.Node.{Node}
+use Rattle.prefix_trie_table.specs.declared.table.bulk.Found.{Found}
+use Rattle.prefix_trie_table.specs.declared.table.bulk.Way.{Way}
+use Rattle.prefix_trie_table.specs.declared.table.matching.Match.{Match}
+use Rattle.prefix_trie_table.specs.Cells.{node_at, node_sizes}
+use Rattle.prefix_trie_table.specs.Digits.{path_of}
+use Rattle.prefix_trie_table.specs.Forest.{NodesHold, IsEnd, SomeNodes, read}
+use Rattle.prefix_trie_table.specs.Matching.{IsOnWay, LackLastBit, LongestHeld, match_seat}
+use Rattle.prefix_trie_table.specs.Store.{Store}
+
+-- P says it of each of the first n items and of its place
+abbrev pub EachOf : {X : Type 0} → (ℕ → X → Type 0) → ℕ → List X → Type 0
+EachOf {X} P n xs = (i : ℕ) (x : X) → i < n → x ≡ slice_index_or xs i x → P i x
+
+-- what is kept of a match: how long its string is, and where its value stands
+abbrev pub found_of : Match → Found
+found_of m = record { len = m.len; seat = match_seat m }
+
+-- what was found is the longest of the beginnings of s shorter than n that have a value
+abbrev pub IsLongestFound : (List ℕ → Option Node) → List Bool → ℕ → Option Found → Type 0
+IsLongestFound reading s n found = (m : Option Match) × LongestHeld reading s 0 n m × (found ≡ option_map found_of m)
+
+-- the same of the nodes in an array
+abbrev pub HasFound : Store Node → List Bool → ℕ → Option Found → Type 0
+HasFound v s n found = (reading : List ℕ → Option Node) (paths : List (List ℕ)) → NodesHold node_sizes reading paths v → IsLongestFound reading s n found
+
+-- a way at the root, where nothing was found yet
+abbrev pub new_way : ℕ → Way
+new_way i = record { question = i; at = record { start = 0; place = 0 }; best = None }
+
+-- the number of the question whose way it is
+abbrev pub question_of : Way → ℕ
+question_of w = w.question
+
+-- the slot of the node ahead
+abbrev pub slot_of : Way → ℕ
+slot_of w = w.at.start + w.at.place
+
+-- a node is the one to which the way at a place has come
+abbrev pub IsAhead : List Node → List Way → ℕ → Node → Type 0
+IsAhead slots ways i n = (w : Way) → w ≡ slice_index_or ways i w → n ≡ node_at slots (slot_of w)
+
+-- a way is that of the question at its place, and at the root
+abbrev pub IsNew : ℕ → Way → Type 0
+IsNew i w = w ≡ new_way i
+
+-- what the way of a question costs, where each question has its cost
+abbrev pub cost_of : List ℕ → Way → ℕ
+cost_of costs w = slice_index_or costs w.question 0
+
+-- a node array as lookups ask it to be
+abbrev pub IsSound : Store Node → Type 0
+IsSound v = (n : SomeNodes v) × LackLastBit n.reading
+
+-- a key, and a number of bits that it has
+abbrev pub CanAsk : {K : Type 0} → (K → Type 0) → ℕ → K × ℕ → Type 0
+CanAsk IsKey width q = IsKey q.0 × (q.1 ≤ width)
+
+module _ {K : Type 0} (bits : K → List Bool) where
+  -- the bit string that is asked for: so many bits of a key
+  abbrev pub asked : K × ℕ → List Bool
+  asked q = take q.1 (bits q.0)
+
+  -- what was found is the answer to a question, in these nodes
+  abbrev pub IsAnswer : List Node → K × ℕ → Option Found → Type 0
+  IsAnswer nodes q found = IsLongestFound (read nodes) (asked q) (q.1 + 1) found
+
+  -- each question has its answer
+  abbrev pub AreAnswers : List Node → List (K × ℕ) → List (Option Found) → Type 0
+  AreAnswers nodes questions found =
+      (i : ℕ) (q : K × ℕ) (a : Option Found) → i < length questions → q ≡ slice_index_or questions i q → a ≡ slice_index_or found i a → IsAnswer nodes q a
+
+  module _ (v : Store Node) (questions : List (K × ℕ)) where
+    -- the way of a question has come to the node ahead, and the longest match above it is known
+    pub record IsWay (level : ℕ) (w : Way) : Type 0 where
+      pub question : K × ℕ
+      pub is : question ≡ slice_index_or questions w.question question
+      pub inside : w.question < length questions
+      pub on_way : IsOnWay (bits question.0) question.1 level (node_at v.slots (slot_of w)) (slot_of w) v
+      pub best : HasFound v (asked question) (5 * level) w.best
+
+    -- a question that is no longer on its way has its answer
+    abbrev pub AreAnswered : List ℕ → List (Option Found) → Type 0
+    AreAnswered under_way found =
+        (i : ℕ) (q : K × ℕ) (a : Option Found) → i < length questions → q ≡ slice_index_or questions i q → a ≡ slice_index_or found i a
+        → Contains under_way i ⊎ HasFound v (asked q) (q.1 + 1) a
+
+    -- how many nodes there are on the way of each question
+    abbrev pub AreCosts : List ℕ → Type 0
+    AreCosts costs =
+        (i : ℕ) (q : K × ℕ) → i < length questions → q ≡ slice_index_or questions i q
+        → (reading : List ℕ → Option Node) (paths : List (List ℕ)) (level : ℕ) → NodesHold node_sizes reading paths v → IsEnd reading (path_of (asked q)) level
+        → slice_index_or costs i 0 ≡ level + 1
+
+    -- the nodes that these ways have come to were read
+    pub record AreRead (level : ℕ) (ways : List Way) (nodes : List Node) : Type 0 where
+      pub sound : SomeNodes v
+      pub ways_are : All (IsWay level) ways
+      pub nodes_are : EachOf (IsAhead v.slots ways) (length ways) nodes
+
+    -- of these ways some go on, and the questions of the others are answered
+    pub record GoOn (level : ℕ) (ways next : List Way) (before after : List (Option Found)) : Type 0 where
+      pub ways_are : All (IsWay (level + 1)) next
+      pub answered : (others : List ℕ) → AreAnswered (map question_of ways ++ others) before → AreAnswered (map question_of next ++ others) after
+      pub counted : (costs : List ℕ) → AreCosts costs → sum_by (cost_of costs) ways + length next * (level + 1) ≡ sum_by (cost_of costs) next + length ways * (level + 1)

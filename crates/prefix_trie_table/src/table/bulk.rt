@@ -1,0 +1,250 @@
+//! Many lookups at once: questions that go down side by side, so that the machine fetches the nodes of all of them together.
+//!
+//! In each round the nodes that lie ahead are read, one after another and with no test of what they hold, and only then looked at.
+ghost use Rattle.std.specs.Prelude.{◌≡◌, ℕ, ◌+◌, ◌*◌, ◌<◌, ◌≤◌, [], List, All, IfSome, MatchOption, None, Some, length, map, option_map, take, sum, sum_by, slice_index_or};
+ghost use Rattle.prefix_trie_bits.specs.Model.Matches.{longest_match};
+ghost use Rattle.prefix_trie_bits.specs.Model.Visits.{visits};
+ghost use Rattle.prefix_trie_table.specs.declared.allocator.node.Node.{Node};
+ghost use Rattle.prefix_trie_table.specs.declared.table.bulk.Found.{Found};
+ghost use Rattle.prefix_trie_table.specs.declared.table.bulk.Way.{Way};
+ghost use Rattle.prefix_trie_table.specs.Bitmaps.{has_bit as is_set};
+ghost use Rattle.prefix_trie_table.specs.Bulk.{AreAnswered, AreAnswers, AreCosts, AreRead, CanAsk, EachOf, GoOn, HasFound, IsAhead, IsAnswer, IsNew, IsSound, IsWay, asked, cost_of, found_of, new_way, question_of, slot_of};
+ghost use Rattle.prefix_trie_table.specs.Cells.{node_at};
+ghost use Rattle.prefix_trie_table.specs.Matching.{IsOnWay};
+ghost use Rattle.prefix_trie_table.specs.Store.{Store};
+ghost use Rattle.prefix_trie_table.specs.Tables.{IsReached};
+
+use crate::allocator::blocks::Blocks;
+use crate::allocator::node::{Node, NodeSlot};
+use crate::allocator::nodes::{NodeAllocator, Tick};
+use crate::table::Table;
+use crate::table::lookup::{Reached, next_slot};
+use crate::table::matching::{Match, longest_in};
+use crate::table::seat::Seat;
+use prefix_trie_bits::prefix::Key;
+use std::alloc::Allocator;
+
+/// How many questions go down side by side.
+pub const GROUP: usize = 32;
+
+/// A match: how long its string is, and where its value stands. It is right until the table changes.
+#[derive(Clone, Copy)]
+pub struct Found {
+    len: u32,
+    seat: Seat,
+}
+
+/// One of the questions on its way down: which, the slot of the node ahead, and the longest match above that node.
+#[derive(Clone, Copy)]
+struct Way {
+    question: usize,
+    at: NodeSlot,
+    best: Option<Found>,
+}
+
+impl Way {
+    /// The way of a question, at the root.
+    #[inline]
+    fn new(question: usize) -> Way
+        ensures { result ≡ new_way question }
+    {
+        Way {
+            question,
+            at: NodeSlot::ROOT,
+            best: None,
+        }
+    }
+}
+
+/// A match in a node if there is one, and else the one above it.
+#[inline(always)]
+fn longer(here: Option<Match>, above: Option<Found>) -> Option<Found>
+    requires few { IfSome here (λ m. m.bit < 31) }
+    ensures { MatchOption here (result ≡ above) (λ m. result ≡ Some (found_of m)) }
+{
+    let Some(found) = here else {
+        return above;
+    };
+    Some(Found {
+        len: found.len,
+        seat: found.seat(),
+    })
+}
+
+/// Looks at the node to which the way of a question has come: what was found so far, and where the next node stands, if the
+/// way goes on.
+#[inline(always)]
+fn look<K: Key>(question: (K, u32), way: Way, level: u32, node: Node) -> (Option<Found>, Option<NodeSlot>)
+    requires asks { CanAsk K.IsKey K.bit_width question }
+    requires on_way { (v : Store Node) × IsSound v × IsOnWay (K.bits question.0) question.1 level node (slot_of way) v }
+    ensures next { (v : Store Node) → IsOnWay (K.bits question.0) question.1 level node (slot_of way) v
+        → MatchOption result.1
+        (IsReached (K.bits question.0) question.1 level node (slot_of way) v)
+        (λ at. IsOnWay (K.bits question.0) question.1 (level + 1) (node_at v.slots (at.start + at.place)) (at.start + at.place) v) }
+    ensures found { (v : Store Node) → IsOnWay (K.bits question.0) question.1 level node (slot_of way) v
+        → HasFound v (asked K.bits question) (5 * level) way.best
+        → HasFound v (asked K.bits question) (5 * level + 5) result.0 }
+{
+    let (key, len) = question;
+    let rest = key.behind(5 * level);
+    let here = Reached {
+        at: way.at,
+        node,
+        level,
+    };
+    let found = longer(longest_in(here, rest, len), way.best);
+    (found, next_slot(here, rest, len))
+}
+
+/// Reads the nodes to which the first `count` ways have come.
+fn read_each<A: Allocator, V: Tick>(
+    nodes: &NodeAllocator<A, V>,
+    ways: &[Way],
+    count: usize,
+    read: &mut [Node],
+    counter: &mut V,
+)
+    requires count { (count ≤ length ways.now) × (count ≤ length read.old) }
+    requires inside { All (λ w. slot_of w < length nodes.now.slots) (take count ways.now) }
+    ensures read { EachOf (IsAhead nodes.now.slots ways.now) count read.new }
+    ensures visits { V.count counter.new ≡ V.count counter.old + count }
+    ensures length { length read.new ≡ length read.old }
+{
+    for j in 0..count {
+        read[j] = nodes.visit(ways[j].at, counter);
+    }
+}
+
+/// Looks at the nodes that were read for the first `count` ways. Those that go on are put first, and the questions of the others
+/// are answered. Answers how many go on.
+fn look_at_each<K: Key>(
+    questions: &[(K, u32)],
+    ways: &mut [Way],
+    count: usize,
+    level: u32,
+    read: &[Node],
+    found: &mut [Option<Found>],
+) -> usize
+    requires ask { All (CanAsk K.IsKey K.bit_width) questions.now }
+    requires same_length { length found.old ≡ length questions.now }
+    requires count { (count ≤ length ways.old) × (count ≤ length read.now) }
+    requires read { (v : Store Node) × IsSound v × AreRead K.bits v questions.now level (take count ways.old) read.now }
+    ensures few { result ≤ count }
+    ensures go_on { (v : Store Node) → AreRead K.bits v questions.now level (take count ways.old) read.now
+        → GoOn K.bits v questions.now level (take count ways.old) (take result ways.new) found.old found.new }
+    ensures lengths { (length ways.new ≡ length ways.old) × (length found.new ≡ length found.old) }
+{
+    let mut kept = 0;
+    for j in 0..count {
+        let way = ways[j];
+        let (best, next) = look(questions[way.question], way, level, read[j]);
+        match next {
+            Some(at) => {
+                ways[kept] = Way {
+                    question: way.question,
+                    at,
+                    best,
+                };
+                kept += 1;
+            }
+            None => {
+                found[way.question] = best;
+            }
+        }
+    }
+    kept
+}
+
+/// Puts the ways of the first `count` questions at the root.
+fn begin(ways: &mut [Way], count: usize)
+    requires count { count ≤ length ways.old }
+    ensures new { EachOf IsNew count ways.new }
+    ensures length { length ways.new ≡ length ways.old }
+{
+    for j in 0..count {
+        ways[j] = Way::new(j);
+    }
+}
+
+/// Goes down for all questions side by side, and answers each.
+fn answer_each<K: Key, A: Allocator, V: Tick>(
+    nodes: &NodeAllocator<A, V>,
+    questions: &[(K, u32)],
+    found: &mut [Option<Found>],
+    counter: &mut V,
+)
+    requires sound { IsSound nodes.now }
+    requires ask { All (CanAsk K.IsKey K.bit_width) questions.now }
+    requires same_length { length found.old ≡ length questions.now }
+    requires few { length questions.now ≤ 32 }
+    ensures answered { AreAnswered K.bits nodes.now questions.now [] found.new }
+    ensures counted { (costs : List ℕ) → length costs ≡ length questions.now → AreCosts K.bits nodes.now questions.now costs
+        → V.count counter.new ≡ V.count counter.old + sum costs }
+    ensures length { length found.new ≡ length found.old }
+{
+    let mut ways = [Way::new(0); GROUP];
+    let mut read = [Node::blank(); GROUP];
+    let mut left = questions.len();
+    begin(&mut ways, left);
+    let mut level = 0;
+    'round: while left > 0 {
+        read_each(nodes, &ways, left, &mut read, counter);
+        left = look_at_each(questions, &mut ways, left, level, &read, found);
+        level += 1;
+    }
+}
+
+/// The value of a match, behind the length of its string.
+#[inline(always)]
+fn value_at<'a, T: Drop, A: Allocator>(cells: &'a Blocks<Option<T>, A>, found: Found) -> Option<(u32, &'a T)>
+    requires stands { found.seat.start + found.seat.place < length cells.now.slots }
+    ensures { MatchOption result
+        (slice_index_or cells.now.slots (found.seat.start + found.seat.place) None ≡ None)
+        (λ r. (r.0 ≡ found.len)
+        × (slice_index_or cells.now.slots (found.seat.start + found.seat.place) None ≡ Some r.1.now)) }
+{
+    let Some(value) = cells.at(found.seat.start, found.seat.place).as_ref() else {
+        return None;
+    };
+    Some((found.len, value))
+}
+
+impl<T: Drop, A: Allocator, V: Tick> Table<T, A, V> {
+    /// What `find_longest` finds for each question, which is a key and a length: in the place of each in `found` its answer, which
+    /// `value_found` reads. Each node on the way of a question is read once for it.
+    #[inline]
+    pub fn find_longest_each<K: Key>(
+        &self,
+        questions: &[(K, u32)],
+        found: &mut [Option<Found>],
+        counter: &mut V,
+    )
+        requires ask { All (CanAsk K.IsKey K.bit_width) questions.now }
+        requires same_length { length found.old ≡ length questions.now }
+        requires few { length questions.now ≤ 32 }
+        ensures answers { AreAnswers K.bits self.now.build questions.now found.new }
+        ensures visits { V.count counter.new
+            ≡ V.count counter.old + sum_by (λ q. visits self.now.nodes (asked K.bits q)) questions.now }
+        ensures length { length found.new ≡ length found.old }
+    {
+        answer_each(&self.nodes, questions, found, counter);
+    }
+
+    /// The value of an answer of `find_longest_each`, behind the length of its string, as `find_longest` answers it.
+    #[inline]
+    pub fn value_found<K: Key>(&self, question: (K, u32), found: Option<Found>) -> Option<(u32, &T)>
+        requires asks { CanAsk K.IsKey K.bit_width question }
+        requires answer { IsAnswer K.bits self.now.build question found }
+        ensures { MatchOption result
+            (longest_match self.now.entries (asked K.bits question) ≡ None)
+            (λ f. (f.0 ≤ question.1)
+            × (longest_match self.now.entries (asked K.bits question)
+            ≡ Some (take f.0 (asked K.bits question), f.1.now))) }
+    {
+        let cells = &self.cells;
+        let Some(found) = found else {
+            return None;
+        };
+        value_at(cells, found)
+    }
+}
