@@ -36,8 +36,9 @@ pub returns : goal.returns
 returns g c = λ before refused.
     let s = c.args.self.now in
     subst (λ (b : Seats g.row.K.Denot g.row.T.Denot g.row.A.Denot g.row.V.Denot). (false ≡ false) × HasCome g.K.Key.IsKey g.K.Key.bits g.K.Key.bit_width b.nodes s.nodes b.cells c.put.new.self
-    (keyed_spots b.key b.stack.items) (keyed_spots c.advance.new.key c.advance.new.stack.items) (take c.args._len (g.K.Key.bits c.args._key)) c.args.value) refused.0
-    (refl,
-    has_come g.K.Key.IsKey g.K.Key.bits g.K.Key.bit_width s.nodes s.cells (keyed_spots s.key s.stack.items) _ _
-    (keyed_spots c.advance.new.key c.advance.new.stack.items) _ _ c.in-Some.seat c.in-Some.ensures.entry c.in-Some.ensures.seat c.advance.ensures.stack
-    c.put.new.self c.put.ensures.slots)
+    (keyed_spots b.key b.stack.items) (keyed_spots c.advance.new.key c.advance.new.stack.items) (take c.args._len (g.K.Key.bits c.args._key)) c.args.value) refused.0 (
+      refl,
+      has_come g.K.Key.IsKey g.K.Key.bits g.K.Key.bit_width s.nodes s.cells (keyed_spots s.key s.stack.items) _ _
+          (keyed_spots c.advance.new.key c.advance.new.stack.items) _ _ c.in-Some.seat c.in-Some.ensures.entry c.in-Some.ensures.seat c.advance.ensures.stack
+          c.put.new.self c.put.ensures.slots,
+    )

@@ -1,0 +1,5 @@
+use Rattle.std.proofs.lemmas.Bool.{false≢true}
+use Rattle.prefix_trie_table.proofs.table.moving.SeatsKeep.keeps.Goals as goal
+
+pub returns-clause-yes : goal.returns-clause-yes
+returns-clause-yes g c = λ yes. absurd (false≢true yes)
