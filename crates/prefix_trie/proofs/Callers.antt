@@ -1,6 +1,8 @@
--- What a caller's proof cites where a law cannot say it: of the test that `retain` asks, of the closure of `and_modify(..).or_insert(..)`, of a loop over a walk that writes, of `==` of numbers and of networks, and of a list that is read in pages.
+-- What a caller's proof cites where a law cannot say it: of the test that `retain` asks, of the closure of `and_modify(..).or_insert(..)`, of a loop over a walk that writes, of `==` of numbers and of networks, of a list that is read in pages, of prefixes that a walk has still to give, and of maps that stay tidy.
 pub use Rattle.prefix_trie_bits.proofs.Model.Askings.{may_ask_always, keeps_filter}
 pub use Rattle.prefix_trie.proofs.Modifying.{modified_or_put}
 pub use Rattle.prefix_trie.proofs.Rewriting.{HasRewrittenIn, left_in, starts_ordered, goes_on_rewriting, ends_rewriting, rewritten}
 pub use Rattle.prefix_trie.proofs.Comparing.{numbers_same, networks_same}
 pub use Rattle.prefix_trie.proofs.Paging.{read_more, read_so_far, read_to_end, all_read, page_begins, page_goes_on}
+pub use Rattle.prefix_trie.proofs.Putting.{fit_in_turn}
+pub use Rattle.prefix_trie.proofs.Tidying.{tidy_with, tidy_without}

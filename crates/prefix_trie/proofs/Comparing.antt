@@ -1,11 +1,10 @@
 -- Two maps that `==` finds equal have the same entries.
 use Rattle.std.proofs.Common.{◌≡◌, ◌↔◌, ℕ, Bool, true, ◌&&◌, eqb, eqb-true, eq-eqb, List, [], ◌∷◌, map, refl, sym, ap, ◌∙◌}
-use Rattle.std.specs.Cmp.Lexicographic.{pointwise, pointwise_decides}
+use Rattle.std.specs.Cmp.Lexicographic.{pointwise_decides}
 use Rattle.std.specs.FinMap.{same_entries_map}
 use Rattle.std.specs.List.{All}
 use Rattle.std.proofs.lemmas.List.Elements.{All-head, All-tail}
 use Rattle.prefix_trie_bits.specs.Keys.{PrefixLaws}
-use Rattle.prefix_trie_bits.specs.Model.Entries.{Entries, AreWithin}
 use Rattle.prefix_trie_bits.specs.Model.Selections.{listing, shown}
 use Rattle.prefix_trie_bits.proofs.Model.Members.{and-first, and-second, and-join}
 use Rattle.prefix_trie_map.proofs.Listed.{listed_paths}

@@ -1,5 +1,5 @@
 -- What a loop leaves that joins the values of one map to those of another, and how its invariant goes on.
-use Rattle.std.proofs.Common.{◌≡◌, ℕ, Bool, true, false, cond, T, List, [], ◌∷◌, Option, Some, None, refl, sym, ap, ◌∙◌}
+use Rattle.std.proofs.Common.{◌≡◌, ℕ, Bool, true, false, cond, T, List, [], ◌∷◌, Some, refl, sym, ap, ◌∙◌}
 use lib.Dec.{T as IsT}
 use Rattle.std.specs.List.{All}
 use Rattle.std.specs.FinMap.{entries_sorted, get, get-entries, is_sorted, find}
@@ -10,7 +10,7 @@ use Rattle.prefix_trie_bits.specs.Model.Entries.{Entries, with_entry}
 use Rattle.prefix_trie_bits.specs.Model.Selections.{listing, shown}
 use Rattle.prefix_trie_bits.proofs.Model.Members.{get-with_entry, same_string-is}
 use Rattle.prefix_trie_bits.proofs.Model.Ordered.{sorted-tail}
-use Rattle.prefix_trie.specs.Laws.Joining.{JoinLaws, Joins, join_all, joined_by, with_value}
+use Rattle.prefix_trie.specs.Laws.Joining.{JoinLaws, join_all, joined_by, with_value}
 use Rattle.prefix_trie_map.proofs.Listed.{listed_fit, listed_paths}
 use Rattle.prefix_trie.proofs.Putting.{not_behind}
 

@@ -18,3 +18,4 @@ mod Joining
 pub mod Modifying
 mod Comparing
 mod Paging
+mod Tidying

@@ -1,6 +1,6 @@
 -- What callers of `and_modify(..).or_insert(..)` conclude.
 use Rattle.std.proofs.Common.{◌≡◌, Bool, false, cond, List, Option, None, Some, is_some, true≢false, refl, sym, ap, ◌∙◌, MutBor}
-use Rattle.std.specs.FinMap.{get, contains_key}
+use Rattle.std.specs.FinMap.{get}
 use Rattle.std.specs.Option.{option_map, unwrap_or}
 use denote.Param.Members.{Once}
 use Rattle.std.specs.declared.cmp.PartialEq as partial
@@ -9,7 +9,7 @@ use Rattle.prefix_trie_bits.specs.declared.prefix.Prefix as prefix
 use Rattle.prefix_trie_bits.specs.declared.prefix.Key as key
 use Rattle.prefix_trie_bits.specs.Model.Entries.{Entries, with_entry}
 use Rattle.prefix_trie_bits.proofs.Model.Members.{get-with_entry, is-same_string}
-use Rattle.prefix_trie_table.specs.Shape.{Contents, with_value_at}
+use Rattle.prefix_trie_table.specs.Shape.{Contents}
 use Rattle.prefix_trie_map.specs.declared.map.entry.Entry.{Entry}
 use Rattle.prefix_trie_map.specs.declared.map.entry.Entry.TheVariants.{Occupied, Vacant}
 use Rattle.prefix_trie_map.specs.Entry.{ModifiesEntry, entry_key, entry_map, entry_path, entry_value}

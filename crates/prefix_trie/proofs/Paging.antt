@@ -1,6 +1,6 @@
 -- A list that is read in pages, and what is behind the last item that was read of a listing.
 use Rattle.std.proofs.Common.{◌≡◌, ℕ, ◌+◌, ◌-◌, ◌<◌, ◌≤◌, Bool, List, [], ◌∷◌, ◌++◌, Some, length, take, drop, min, get_or, sym, ap, ◌∙◌, arith, suc, append_assoc, append-nil, length-append}
-use Rattle.std.specs.FinMap.{len-entries}
+use Rattle.std.specs.FinMap.{len, len-entries}
 use Rattle.std.specs.List.{slice_get}
 use Rattle.std.specs.Option.{unwrap_or}
 use Rattle.std.proofs.lemmas.Option.{slice_get_within, slice_get-get_or}
@@ -9,6 +9,7 @@ use Rattle.std.proofs.lemmas.List.Elements.{All-head, All-same}
 use Rattle.std.proofs.Math.Seq.{drop-cons, take-append_seam}
 use Rattle.std.proofs.Math.ListN.{drop_of_length-le}
 use Rattle.prefix_trie_bits.specs.Keys.{PrefixLaws}
+use Rattle.prefix_trie_bits.specs.Model.Entries.{Entries}
 use Rattle.prefix_trie_bits.specs.Model.Selections.{listing, shown}
 use Rattle.prefix_trie_table.proofs.Blocks.Tilings.{All-append_right}
 use Rattle.prefix_trie_map.proofs.Listed.{listed_fit}
@@ -46,22 +47,28 @@ module _ {X : Type 0} (whole read rest : List X) (begins : whole ≡ read ++ res
   pub read_to_end : (n : ℕ) → rest ≡ [] → length read ≤ n → read ≡ take n whole
   read_to_end n none far = sym (take_all n read far) ∙ ap (take n) (sym (begins ∙ ap (λ xs. read ++ xs) none ∙ append-nil read))
 
-  -- as many were read as there are
-  pub all_read : length whole ≤ length read → read ≡ whole
-  all_read far =
-      let none : rest ≡ [] = nil_from_length rest (omega (arith, far, ap length begins, length-append read rest)) in
-      sym (begins ∙ ap (λ xs. read ++ xs) none ∙ append-nil read)
-
 module _ {X : Type 0} (whole now : List X) (n : ℕ) (page : now ≡ take n whole) where
   -- what was read by pages begins the list
   pub page_begins : whole ≡ now ++ drop n whole
   page_begins = sym (take-append-drop n whole) ∙ ap (λ xs. xs ++ drop n whole) (sym page)
 
-  -- and less is left than where fewer were read
-  pub page_goes_on : (read size : ℕ) → n ≡ read + size → 0 < size → read < length whole → length whole - length now < length whole - read
-  page_goes_on read size is some short =
-      let many : length now ≡ min n (length whole) = ap length page ∙ length-take n whole in
-      omega (arith, is, some, short, many)
+-- a map of which the first items are read, in pages
+module _ {P T : Type 0} (back : List Bool → P) (m : Entries T) where
+  as_many : length (shown back (listing m)) ≡ len m
+  as_many = length-map (listing m) (λ (e : List Bool × T). (back e.0, e.1)) ∙ sym (len-entries m)
+
+  -- a page leaves less to read
+  pub page_goes_on : (read now : List (P × T)) (size : ℕ) → now ≡ take (length read + size) (shown back (listing m)) → 0 < size → length read < len m
+      → len m - length now < len m - length read
+  page_goes_on read now size page some short =
+      let many : length now ≡ min (length read + size) (length (shown back (listing m))) = ap length page ∙ length-take (length read + size) (shown back (listing m)) in
+      omega (arith, some, short, many, as_many)
+
+  -- where as many were read as there are entries, all were
+  pub all_read : (read rest : List (P × T)) → shown back (listing m) ≡ read ++ rest → len m ≤ length read → read ≡ shown back (listing m)
+  all_read read rest begins far =
+      let none : rest ≡ [] = nil_from_length rest (omega (arith, far, as_many, ap length begins, length-append read rest)) in
+      sym (begins ∙ ap (λ xs. read ++ xs) none ∙ append-nil read)
 
 module _ {K P : Type 0} {w : ℕ} {IsKey : K → Type 0} {bits : K → List Bool} {key_of : List Bool → K} {repr_of : P → K} {len_of : P → ℕ} {path : P → List Bool} {IsFitting : P → Type 0} {from_parts : K → ℕ → P} {back : List Bool → P} (laws : PrefixLaws w IsKey bits key_of repr_of len_of path IsFitting from_parts back) where
   pub page_laws : (T : Type 0) → PageLaws T w path IsFitting back
@@ -72,5 +79,5 @@ module _ {K P : Type 0} {w : ℕ} {IsKey : K → Type 0} {bits : K → List Bool
         All-head (λ e. IsFitting e.0) last rest (All-append_right (λ e. IsFitting e.0) front (last ∷ rest) listed);
     behind_last = λ m within read rest last is found.
         (resume_laws laws T).after_iter m within (take (length read - 1) read) last rest (begins_so read last found (shown back (listing m)) rest is);
-    as_many = λ m. length-map (listing m) (λ (e : List Bool × T). (back e.0, e.1)) ∙ sym (len-entries m);
+    as_many = as_many back;
   }

@@ -15,6 +15,12 @@ use Rattle.prefix_trie.specs.Laws.Putting.{Leads, PutLaws}
 use Rattle.prefix_trie_map.proofs.Listed.{listed_fit, listed_paths}
 use Rattle.prefix_trie.proofs.Stored.{stored_laws}
 
+-- of prefixes that fit the next one does, and so do those behind it
+pub fit_in_turn : {P T : Type 0} (IsFitting : P → Type 0) {item : P × T} {rest left : List (P × T)} → left ≡ item ∷ rest → All (λ e. IsFitting e.0) left → IsFitting item.0 × All (λ e. IsFitting e.0) rest
+fit_in_turn IsFitting {item = item} {rest = rest} {left = left} first fit =
+    let both = All-same (λ e. IsFitting e.0) (item ∷ rest) left (sym first) fit in
+    (All-head (λ e. IsFitting e.0) item rest both, All-tail (λ e. IsFitting e.0) item rest both)
+
 module _ {P T : Type 0} (path : P → List Bool) (IsFitting : P → Type 0) where
   -- the next prefix fits
   pub next_fits : (now : Entries T) {item : P × T} {rest left : List (P × T)} {whole : Entries T} → left ≡ item ∷ rest → Leads path IsFitting left now whole → IsFitting item.0

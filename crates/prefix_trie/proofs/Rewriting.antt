@@ -145,13 +145,13 @@ module _ {P T A R : Type 0} {p : prefix.Ghosts P R} {shows : debug.Ghosts P} {k 
   HasRewrittenIn (Some c) None = ⊥
   HasRewrittenIn (Some c) (Some d) = HasRewritten c d
 
-  pub goes_on_rewriting : (start o n : Option (Course P T A R p shows k same writes)) (q : P) (x w : T) → w ≡ f x → HasRewrittenIn start o → FirstIn IsFirst o q x →
-      PassesIn GoesOver o w n → HasRewrittenIn start n × (left_in n < left_in o)
-  goes_on_rewriting start None n q x w is so_far first goes = absurd goes
-  goes_on_rewriting start (Some d) None q x w is so_far first goes = absurd goes
-  goes_on_rewriting None (Some d) (Some e) q x w is so_far first goes = absurd so_far
-  goes_on_rewriting (Some c) (Some d) (Some e) q x w is so_far first goes =
-      (rewrites_one c d e q x so_far first (subst (λ y. GoesOver d y e) is goes), shorter (keys_left d) (keys_left e) goes.key (left_behind d e w goes))
+  pub goes_on_rewriting : (start o n : Option (Course P T A R p shows k same writes)) (x : T) → HasRewrittenIn start o → ((q : P) × FirstIn IsFirst o q x) →
+      PassesIn GoesOver o (f x) n → HasRewrittenIn start n × (left_in n < left_in o)
+  goes_on_rewriting start None n x so_far first goes = absurd goes
+  goes_on_rewriting start (Some d) None x so_far first goes = absurd goes
+  goes_on_rewriting None (Some d) (Some e) x so_far first goes = absurd so_far
+  goes_on_rewriting (Some c) (Some d) (Some e) x so_far first goes =
+      (rewrites_one c d e first.0 x so_far first.1 goes, shorter (keys_left d) (keys_left e) goes.key (left_behind d e (f x) goes))
     where
       shorter : (xs ys : List (List Bool)) (y : List Bool) → xs ≡ y ∷ ys → length ys < length xs
       shorter xs ys y same = omega (arith, ap length same)

@@ -14,14 +14,20 @@ pub mod ranges;
 pub mod rerouting;
 pub mod scaling;
 
+use crate::tests::stored::stores;
 use crate::{Ipv4Prefix, Ipv6Prefix, Narrow, PrefixMap, PrefixSet, Refusal};
 use access::{may_enter, reasons};
 use cache::store;
 use copy::copied;
+use counter::{add_all, total};
 use delegations::{holder, record};
 use forwarding::{add, next_hop};
 use inventory::{addresses, count, next};
+use pages::read_all;
+use pruning::without;
 use ranges::{assign, owner};
+use rerouting::{are_same, reroute};
+use scaling::double_each;
 use std::alloc::{AllocError, Allocator, Global};
 
 type Numbers<A> = PrefixMap<Ipv4Prefix, u32, A>;
@@ -32,16 +38,29 @@ type Vlans<A> = PrefixMap<(Narrow<12>, u8), u32, A>;
 
 type Networks = PrefixSet<Ipv4Prefix, Global>;
 
-/// Whether a copy has as many entries.
-fn is_copied<A: Allocator>(map: &Numbers<A>, alloc: Global) -> bool {
+type Counts<A> = PrefixMap<(u8, u8), u64, A>;
+
+/// Whether two tables are the same until a route of one is changed, which changes its next hops.
+fn differs_once_rerouted<A: Allocator>(map: &Numbers<A>, copy: &mut Numbers<A>) -> bool {
+    are_same(map, copy)
+        & !reroute(copy, 0x0b00_0000, 5)
+        & are_same(map, copy)
+        & reroute(copy, 0x0a01_0203, 4)
+        & !are_same(map, copy)
+        & (next_hop(copy, 0x0a01_0203) == Some(4))
+        & (next_hop(copy, 0x0a02_0203) == Some(1))
+}
+
+/// The same of a map and its copy.
+fn is_copied(map: &Numbers<Global>, alloc: Global) -> bool {
     match copied(map, alloc) {
-        Ok(copy) => copy.len() == map.len(),
+        Ok(mut copy) => differs_once_rerouted::<Global>(map, &mut copy),
         Err(_) => false,
     }
 }
 
 /// Whether a network and one within it are a forwarding table, an inventory and a cache.
-fn stands_for_both<A: Allocator>(map: &mut Numbers<A>, alloc: Global) -> bool {
+fn stands_for_both<A: Allocator>(map: &mut Numbers<A>) -> bool {
     let wide = Ipv4Prefix::new(0x0a00_0000, 8).unwrap();
     let near = Ipv4Prefix::new(0x0a01_0000, 16).unwrap();
     add(map, wide, 1).is_ok()
@@ -52,7 +71,6 @@ fn stands_for_both<A: Allocator>(map: &mut Numbers<A>, alloc: Global) -> bool {
         & (next(map, wide) == Some((near, 2)))
         & (count(map, wide) == 2)
         & (addresses(map) == Some(0x0100_0000))
-        & is_copied(map, alloc)
         & (store(map, near, 3) == Ok(true))
         & (next_hop(map, 0x0a01_0203) == Some(3))
 }
@@ -60,7 +78,7 @@ fn stands_for_both<A: Allocator>(map: &mut Numbers<A>, alloc: Global) -> bool {
 /// The same of a new map.
 fn stands_for_both_anew(alloc: Global) -> Result<bool, Refusal> {
     let mut map = PrefixMap::new(alloc)?;
-    Ok(stands_for_both::<Global>(&mut map, alloc))
+    Ok(stands_for_both::<Global>(&mut map) & is_copied(&map, alloc))
 }
 
 /// Whether the holder of a network is found at its addresses alone.
@@ -122,10 +140,49 @@ fn is_owned_anew(alloc: Global) -> Result<bool, Refusal> {
     Ok(is_owned::<Global>(&mut plan))
 }
 
+/// Whether the counts of two maps are added up and doubled.
+fn adds_up<A: Allocator>(counts: &mut Counts<A>, more: &mut Counts<A>) -> bool {
+    let is_filled = stores(counts, &[((0xa0, 3), 1), ((0xa5, 8), 2)])
+        & stores(more, &[((0xa5, 8), 5), ((0x80, 1), 7)])
+        & add_all(counts, more).is_ok()
+        & (total(counts) == 15);
+    double_each(counts);
+    is_filled & (total(counts) == 30)
+}
+
+/// Whether pages of two have the three counts then.
+fn is_read<A: Allocator>(counts: &Counts<A>, alloc: Global) -> bool {
+    match read_all(counts, 2, alloc) {
+        Ok(read) => read.as_slice()
+            == [((0x80, 1), 14), ((0xa0, 3), 2), ((0xa5, 8), 14)].as_slice(),
+        Err(AllocError) => false,
+    }
+}
+
+/// Whether the one of them that the other map has not is left alone, in the root.
+fn is_pruned(counts: &Counts<Global>, out: &Counts<Global>, alloc: Global) -> bool {
+    match without(counts, out, alloc) {
+        Ok(map) => (map.get(&(0xa0, 3)) == Some(&2)) & (map.len() == 1) & (map.node_count() == 1),
+        Err(_) => false,
+    }
+}
+
+/// The same of new maps.
+fn adds_up_anew(alloc: Global) -> Result<bool, Refusal> {
+    let mut counts = PrefixMap::new(alloc)?;
+    let mut more = PrefixMap::new(alloc)?;
+    Ok(
+        adds_up::<Global>(&mut counts, &mut more)
+            & is_read::<Global>(&counts, alloc)
+            & is_pruned(&counts, &more, alloc),
+    )
+}
+
 #[test]
 fn examples_run(rt: HostRuntime) {
     assert!(rt; stands_for_both_anew(rt.alloc()) == Ok(true));
     assert!(rt; is_held_anew(rt.alloc()) == Ok(true));
     assert!(rt; keeps_out_anew(rt.alloc()) == Ok(true));
     assert!(rt; is_owned_anew(rt.alloc()) == Ok(true));
+    assert!(rt; adds_up_anew(rt.alloc()) == Ok(true));
 }

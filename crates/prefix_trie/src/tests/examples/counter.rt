@@ -47,6 +47,21 @@ fn added(before: Option<u64>, more: u64) -> u64
     }
 }
 
+/// Adds to the count of a prefix.
+fn add<P: Prefix, A: Allocator>(
+    counts: &mut PrefixMap<P, u64, A>,
+    prefix: P,
+    more: u64,
+) -> Result<(), Refused<u64>>
+    requires { P.IsFitting prefix }
+    ensures { OnOk result (counts.new.entries ≡ with_entry counts.old.entries (P.path prefix)
+        (with_value (λ m n. (m + n) % 2 ^ 64) (get counts.old.entries (P.path prefix)) more)) }
+{
+    let sum = added(counts.get(&prefix).copied(), more);
+    counts.insert(prefix, sum)?;
+    Ok(())
+}
+
 /// Adds the counts of another map to those of this one.
 pub fn add_all<P: Prefix, A: Allocator, B: Allocator>(
     counts: &mut PrefixMap<P, u64, A>,
@@ -57,8 +72,7 @@ pub fn add_all<P: Prefix, A: Allocator, B: Allocator>(
 {
     join_laws::<P, u64>();
     for (prefix, count) in more {
-        let sum = added(counts.get(&prefix).copied(), *count);
-        counts.insert(prefix, sum)?;
+        add(counts, prefix, *count)?;
     }
     Ok(())
 }

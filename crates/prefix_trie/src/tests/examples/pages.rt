@@ -52,7 +52,6 @@ pub fn read_all<P: Prefix, A: Allocator, B: Allocator>(
     requires { 0 < size }
     ensures { IfOk result (λ read. read.items ≡ shown P.back (listing map.now.entries)) }
 {
-    page_laws::<P, u64>();
     let mut read = Vec::new(alloc);
     while read.len() < map.len() {
         read_page(map, size, &mut read)?;

@@ -2,7 +2,7 @@
 ghost use Rattle.std.specs.Prelude.{◌≡◌, IfOk};
 ghost use Rattle.prefix_trie.specs.Words.{needed, IsTidy};
 
-use crate::laws::{node_laws, pruning_laws, put_laws};
+use crate::laws::{listed_laws, node_laws, pruning_laws};
 use crate::{Prefix, PrefixMap, Refusal};
 use std::alloc::Allocator;
 
@@ -14,7 +14,7 @@ pub fn prune<P: Prefix, T: Drop, U: Drop, A: Allocator, B: Allocator>(
     requires { IsTidy map.old.entries map.old.nodes }
     ensures { IsTidy map.new.entries map.new.nodes }
 {
-    put_laws::<P, U>();
+    listed_laws::<P, U>();
     pruning_laws::<T>();
     for (prefix, _unused) in out {
         // The proof learns from it that the nodes are those of a map.
@@ -33,8 +33,8 @@ where
     A: Clone,
     ensures { IfOk result (λ map. map.nodes ≡ needed map.entries) }
 {
+    listed_laws::<P, T>();
     node_laws::<T>();
-    put_laws::<P, T>();
     let mut map = PrefixMap::new(alloc)?;
     for (prefix, value) in from {
         map.insert(prefix, *value)?;

@@ -1,5 +1,4 @@
-use Rattle.std.proofs.Common.{rules, ◌+◌, ◌<◌, ◌≤◌, ◌++◌, length, refl, sym, ap, subst}
-use Rattle.std.specs.FinMap.{len}
+use Rattle.std.proofs.Common.{rules, ◌++◌, sym, ap}
 use Rattle.prefix_trie.specs.Words.{listing, shown}
 use Rattle.prefix_trie.proofs.Callers.{all_read, page_begins, page_goes_on}
 use Rattle.prefix_trie.proofs.tests.examples.pages.read_all.Goals as goal
@@ -11,15 +10,10 @@ pub read_page-requires : goal.read_page-requires
 read_page-requires g c = c.loop-read.invariant
 
 pub loop-read-smaller : goal.loop-read-smaller
-loop-read-smaller g c =
-    let short : length c.loop-read.read.items < len c.args.map.now.entries = search rules in
-    page_goes_on _ _ _ c.in_ok-read_page.ensures (length c.loop-read.read.items) c.args.size refl c.requires
-    (subst (λ n. length c.loop-read.read.items < n) (sym (c.page_laws.ensures.as_many c.args.map.now.entries)) short)
+loop-read-smaller g c = page_goes_on g.P.Prefix.back c.args.map.now.entries c.loop-read.read.items _ c.args.size c.in_ok-read_page.ensures c.requires (search rules)
 
 pub loop-read-preserved : goal.loop-read-preserved
 loop-read-preserved g c = (_, page_begins _ _ _ c.in_ok-read_page.ensures)
 
 pub returns : goal.returns
-returns g c =
-    let far : len c.args.map.now.entries ≤ length c.loop-read.read.items = search rules in
-    all_read _ _ _ c.loop-read.invariant.1 (subst (λ n. n ≤ length c.loop-read.read.items) (sym (c.page_laws.ensures.as_many c.args.map.now.entries)) far)
+returns g c = all_read g.P.Prefix.back c.args.map.now.entries _ _ c.loop-read.invariant.1 (search rules)

@@ -1,4 +1,5 @@
 use Rattle.std.proofs.Common.{◌≡◌, ℕ, ◌++◌, ◌-◌, List, length}
+use Rattle.std.specs.FinMap.{len}
 use Rattle.prefix_trie.specs.Words.{listing, shown}
 use Rattle.prefix_trie.proofs.tests.examples.pages.read_all.Given as goal
 
@@ -6,4 +7,4 @@ abbrev pub invariant-loop-read : goal.invariant-loop-read
 invariant-loop-read g l = (rest : List (g.row.P.Denot × ℕ)) × (shown g.P.Prefix.back (listing l.map.entries) ≡ l.read.items ++ rest)
 
 abbrev pub decreases-loop-read : goal.decreases-loop-read
-decreases-loop-read g l = length (shown g.P.Prefix.back (listing l.map.entries)) - length l.read.items
+decreases-loop-read g l = len l.map.entries - length l.read.items

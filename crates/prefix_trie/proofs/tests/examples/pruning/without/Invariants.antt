@@ -1,9 +1,10 @@
-use Rattle.prefix_trie.specs.Words.{IsTidy, Leads}
+use Rattle.std.proofs.Common.{All}
+use Rattle.prefix_trie.specs.Words.{IsTidy}
 use Rattle.prefix_trie.proofs.tests.examples.pruning.without.Given as goal
 
 abbrev pub invariant-loop-prefix : goal.invariant-loop-prefix
 invariant-loop-prefix g l =
     (goal.iterator-loop-prefix g).can_next l.prefix-iterator
     × (goal.iterator-loop-prefix g).is_finite l.prefix-iterator
-    × Leads g.P.Prefix.path g.P.Prefix.IsFitting l.prefix-iterator l.map.entries l.from.entries
+    × All (λ e. g.P.Prefix.IsFitting e.0) l.prefix-iterator
     × IsTidy l.map.entries l.map.nodes

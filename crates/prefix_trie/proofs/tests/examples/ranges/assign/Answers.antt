@@ -7,10 +7,9 @@ pub returns-clause-owned : goal.returns-clause-owned
 returns-clause-owned g c number below same shorter =
     let w = narrow_width g.row.W in
     let first = c.args.first in
-    let len = c.args.len in
     let known = longest_match c.args.plan.now.entries (digits w number) in
     let small : first < 2 ^ w = search rules in
-    let within = c.narrow_laws.ensures.contains first number len small below c.requires ∙ eq-eqb _ _ (sym same) in
-    let fits = subst (λ n. IfSome known (λ (e : List Bool × ℕ). length e.0 ≤ n)) (sym (c.narrow_laws.ensures.as_long first len c.requires)) shorter in
-    let set = c.lookup_laws.ensures.set c.args.plan.now.entries (digits w number) (take len (digits w first)) c.args.owner within fits in
+    let within = c.narrow_laws.ensures.contains first number c.args.len small below c.requires ∙ eq-eqb _ _ (sym same) in
+    let fits = subst (λ n. IfSome known (λ (e : List Bool × ℕ). length e.0 ≤ n)) (sym (c.narrow_laws.ensures.as_long first c.args.len c.requires)) shorter in
+    let set = c.lookup_laws.ensures.set c.args.plan.now.entries (digits w number) (take c.args.len (digits w first)) c.args.owner within fits in
     search rules

@@ -1,16 +1,12 @@
-use Rattle.std.proofs.Common.{refl, ◌*◌, ◌%◌, ◌^◌}
+use Rattle.std.proofs.Common.{◌*◌, ◌%◌, ◌^◌}
 use Rattle.prefix_trie.proofs.Callers.{goes_on_rewriting, ends_rewriting}
 use Rattle.prefix_trie.proofs.tests.examples.scaling.double_rest.Goals as goal
 
 pub loop-place-smaller : goal.loop-place-smaller
-loop-place-smaller g c =
-    let first = c.in-Some.ensures.value in
-    (goes_on_rewriting (λ v. (v * 2) % 2 ^ 64) _ _ _ first.0 c.in-Some.place.now ((c.in-Some.place.now * 2) % 2 ^ 64) refl c.loop-place.invariant first.1 (rw c.in-Some.is at (c.next.follows.holds ((c.in-Some.place.now * 2) % 2 ^ 64)))).1
+loop-place-smaller g c = (goes_on_rewriting (λ v. (v * 2) % 2 ^ 64) _ _ _ c.in-Some.place.now c.loop-place.invariant c.in-Some.ensures.value (rw c.in-Some.is at (c.next.follows.holds ((c.in-Some.place.now * 2) % 2 ^ 64)))).1
 
 pub loop-place-preserved : goal.loop-place-preserved
-loop-place-preserved g c =
-    let first = c.in-Some.ensures.value in
-    (goes_on_rewriting (λ v. (v * 2) % 2 ^ 64) _ _ _ first.0 c.in-Some.place.now ((c.in-Some.place.now * 2) % 2 ^ 64) refl c.loop-place.invariant first.1 (rw c.in-Some.is at (c.next.follows.holds ((c.in-Some.place.now * 2) % 2 ^ 64)))).0
+loop-place-preserved g c = (goes_on_rewriting (λ v. (v * 2) % 2 ^ 64) _ _ _ c.in-Some.place.now c.loop-place.invariant c.in-Some.ensures.value (rw c.in-Some.is at (c.next.follows.holds ((c.in-Some.place.now * 2) % 2 ^ 64)))).0
 
 pub returns : goal.returns
 returns g c = ends_rewriting (λ v. (v * 2) % 2 ^ 64) _ _ _ c.loop-place.invariant (rw c.in_default.is at c.next.follows.holds-at-none)

@@ -1,0 +1,13 @@
+-- A tidy map stays tidy where a key is set and where one is taken out.
+use Rattle.std.proofs.Common.{◌≡◌, ℕ, List, Bool, sym, ap, ◌∙◌}
+use Rattle.prefix_trie_bits.specs.Model.Entries.{Entries, with_entry, without_entry}
+use Rattle.prefix_trie_bits.specs.Model.Nodes.{Nodes, needed, with_needed, nodes_without, AreNodes, IsTidy}
+use Rattle.prefix_trie_bits.specs.Laws.Nodes.{NodeLaws}
+use Rattle.prefix_trie_bits.specs.Laws.Pruning.{PruningLaws}
+
+module _ {T : Type 0} (m now : Entries T) (n nodes : Nodes) (s : List Bool) where
+  pub tidy_with : NodeLaws T → (v : T) → now ≡ with_entry m s v → nodes ≡ with_needed n s → IsTidy m n → IsTidy now nodes
+  tidy_with laws v set grown tidy = grown ∙ ap (λ k. with_needed k s) tidy ∙ laws.needed_with m s v ∙ ap needed (sym set)
+
+  pub tidy_without : PruningLaws T → (width : ℕ) → AreNodes width m n → now ≡ without_entry m s → nodes ≡ nodes_without n m s → IsTidy m n → IsTidy now nodes
+  tidy_without laws width are_nodes taken left tidy = left ∙ (laws.of_remove width m n s are_nodes).stays_tidy tidy ∙ ap needed (sym taken)
