@@ -21,6 +21,7 @@ mod cover;
 mod cursor;
 pub mod entry;
 mod equality;
+mod handing;
 mod into_iter;
 mod iter;
 mod lending;

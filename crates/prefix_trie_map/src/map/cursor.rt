@@ -43,7 +43,7 @@ impl<P: Prefix, T: Drop, A: Allocator> PrefixMap<P, T, A> {
     }
 
     /// The entries whose prefixes this one contains, its own among them, in the order of `iter`. These are the entries that
-    /// `remove_children` takes out: the law `removed` of `listing_laws`.
+    /// `drop_children` and `remove_children` take out: the law `removed` of `listing_laws`.
     ///
     /// ```text
     /// 10.0.0.0/8, 10.1.0.0/16, 10.1.1.0/24 and 10.2.0.0/16 are stored with 1, 2, 3 and 4

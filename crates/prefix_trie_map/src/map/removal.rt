@@ -61,18 +61,19 @@ impl<P: Prefix, T: Drop, A: Allocator> PrefixMap<P, T, A> {
 
     /// Takes out the entries whose prefixes this one contains, its own among them, and all nodes below its own node; and
     /// then the nodes that have nothing left, from its own node upward. Empty nodes elsewhere stay, and where the prefix's own
-    /// node is missing nothing changes. At length 0 it is `clear`. It answers nothing, and is never refused.
+    /// node is missing nothing changes. At length 0 it is `clear`. It answers nothing, and is never refused; `remove_children` hands
+    /// the entries out.
     ///
     /// ```text
     /// map.insert(10.1.0.0/16, 1)       Ok(None)
     /// map.insert(10.1.2.0/24, 2)       Ok(None)
     /// map.insert(10.2.0.0/16, 3)       Ok(None)
-    /// map.remove_children(&10.1.0.0/16)
+    /// map.drop_children(&10.1.0.0/16)
     /// map.get(&10.1.2.0/24)            None
     /// map.len()                        1
     /// ```
     #[inline]
-    pub fn remove_children(&mut self, prefix: &P)
+    pub fn drop_children(&mut self, prefix: &P)
         requires { P.IsFitting prefix.now }
         ensures entries { self.new.entries ≡ without_below self.old.entries (P.path prefix.now) }
         ensures nodes { self.new.nodes ≡ nodes_without_below self.old.nodes self.old.entries (P.path prefix.now) }
@@ -81,7 +82,7 @@ impl<P: Prefix, T: Drop, A: Allocator> PrefixMap<P, T, A> {
         ensures step { StepInStorage P.path P.back P.R.bit_width (stored self.old) (RemoveChildren prefix.now) Done (stored self.new) }
     {
         let (key, len) = parts(prefix);
-        self.table.remove_children(key, len, &mut Visits::new());
+        self.table.drop_children(key, len, &mut Visits::new());
     }
 
     /// Takes all entries out, and leaves the root alone. It asks for no memory. Never refused.

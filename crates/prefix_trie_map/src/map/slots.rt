@@ -42,7 +42,7 @@ impl<P: Prefix, T: Drop, A: Allocator + Clone> PrefixMap<P, T, A> {
 
 impl<P: Prefix, T: Drop, A: Allocator> PrefixMap<P, T, A> {
     /// How many slots the array of nodes has, used or free: a new map has 1. Never more than the limit. A change may add
-    /// slots; only `clear` takes them away, and `remove_children` of a prefix of length 0, which is `clear`.
+    /// slots; only `clear` takes them away, and `drop_children` and `remove_children` of a prefix of length 0.
     #[inline]
     pub fn node_slots(&self) -> usize
         ensures slots { result ≡ self.now.room.node_slots }

@@ -1,28 +1,39 @@
-use Rattle.std.proofs.Common.{refl, ap}
-use Rattle.prefix_trie_bits.specs.Model.Step.{State, RemoveChildren, Done}
-use Rattle.prefix_trie_bits.specs.Model.Storage.{StepOfStrings}
-use Rattle.prefix_trie_map.specs.Steps.{stored}
-use Rattle.prefix_trie_map.proofs.Steps.{children_step, by_key, stays}
+use Rattle.std.proofs.lemmas.Result.{err_from_is_err_and}
+use Rattle.prefix_trie_bits.specs.Model.HandsOut.{HandsOutInStorage, HandedPassLimit}
+use Rattle.prefix_trie_bits.proofs.Model.HandsOut.{handing_laws}
+use Rattle.prefix_trie_map.specs.Steps.{state, stored}
+use Rattle.prefix_trie_map.proofs.Steps.{by_key}
 use Rattle.prefix_trie_map.proofs.map.PrefixMap.remove_children.Goals as goal
 
-pub remove_children-requires-clause-within : goal.remove_children-requires-clause-within
-remove_children-requires-clause-within g c = c.self.invariant.keys_within
+pub invariant_of-result : goal.invariant_of-result
+invariant_of-result g c =
+    ((handing_laws _).are_maps g.P.R.Key.bit_width (state c.self.inside.table) _ (state c.in_ok-table.table) (state c.remove_children.new.self)
+    c.self.invariant c.in_ok-table.ensures.handed.hands_out).0
 
-pub remove_children-requires-clause-nodes : goal.remove_children-requires-clause-nodes
-remove_children-requires-clause-nodes g c = c.self.invariant.are_nodes
+pub invariant_of-self-2 : goal.invariant_of-self-2
+invariant_of-self-2 g c =
+    ((handing_laws _).are_maps g.P.R.Key.bit_width (state c.self.inside.table) _ (state c.in_ok-table.table) (state c.remove_children.new.self)
+    c.self.invariant c.in_ok-table.ensures.handed.hands_out).2
 
 pub returns-clause-step : goal.returns-clause-step
 returns-clause-step g c =
-    children_step g.P.Prefix.path g.P.Prefix.back g.P.R.Key.bit_width Done Done refl refl c.args.prefix.now
-    (by_key (λ old k. StepOfStrings (stored old) (RemoveChildren k) Done (stored c.remove_children.new.self)) c.self.view_is c.parts-key.ensures.path c.remove_children.ensures.step)
+    by_key (λ old k. HandsOutInStorage (stored old) k (stored c.in_ok-table.table) (stored c.remove_children.new.self)) c.self.view_is c.parts-key.ensures.path
+    c.in_ok-table.ensures.handed
 
-pub invariant_of-self : goal.invariant_of-self
-invariant_of-self g c =
-    stays g.P.Prefix.path g.P.Prefix.back g.P.R.Key.bit_width c.self.view_is c.self.invariant c.parts-key.ensures.short
-    (returns-clause-step g c)
+pub returns-clause-handed : goal.returns-clause-handed
+returns-clause-handed g c = (returns-clause-step g c).hands_out.handed
+
+pub returns-clause-handed_nodes : goal.returns-clause-handed_nodes
+returns-clause-handed_nodes g c = (returns-clause-step g c).hands_out.handed_nodes
 
 pub returns-clause-entries : goal.returns-clause-entries
-returns-clause-entries g c = ap (λ (s : State g.row.T.Denot). s.entries) (returns-clause-step g c).step.1
+returns-clause-entries g c = (returns-clause-step g c).hands_out.left
 
 pub returns-clause-nodes : goal.returns-clause-nodes
-returns-clause-nodes g c = ap (λ (s : State g.row.T.Denot). s.nodes) (returns-clause-step g c).step.1
+returns-clause-nodes g c = (returns-clause-step g c).hands_out.left_nodes
+
+pub returns-in_err-table-clause-range : goal.returns-in_err-table-clause-range
+returns-in_err-table-clause-range g c =
+    let p = err_from_is_err_and c.from_residual.result c.from_residual.ensures.1 in
+    rw (p.1, p.2) (λ is_range. by_key (λ old k. HandedPassLimit old.entries k old.room.limit) c.self.view_is c.parts-key.ensures.path
+    (c.in_err-table.ensures.range is_range))
