@@ -34,7 +34,7 @@ pub enum Case<K: 'static> {
     Removes(Pair<K>, Option<u64>),
     /// `remove_keep_tree` answers so.
     Empties(Pair<K>, Option<u64>),
-    /// `remove_children` is made.
+    /// `drop_children` is made.
     RemovesChildren(Pair<K>),
     /// `retain` keeps the values from this one on.
     RetainsFrom(u64),

@@ -47,8 +47,8 @@ fn removes_alike(map: &mut Map, set: &mut Set, which: u64, asked: Key) -> bool
         10 => set.remove(&asked) == map.remove(&asked).is_some(),
         11 => set.remove_keep_tree(&asked) == map.remove_keep_tree(&asked).is_some(),
         _ => {
-            map.remove_children(&asked);
-            set.remove_children(&asked);
+            map.drop_children(&asked);
+            set.drop_children(&asked);
             set.len() == map.len()
         }
     }

@@ -139,7 +139,7 @@ pub fn removes_children<P: Prefix + Copy, A: Allocator>(
     map: &mut PrefixMap<P, u64, A>,
     at: Pair<P::R>,
 ) -> bool {
-    map.remove_children(&prefix_of(at));
+    map.drop_children(&prefix_of(at));
     true
 }
 

@@ -325,7 +325,7 @@ fn are_keys<P: Prefix + Copy + PartialEq, A: Allocator>(
 fn has_no_children<P: Prefix, A: Allocator>(set: &mut PrefixSet<P, A>, prefix: &P) -> bool
     requires { P.IsFitting prefix.now }
 {
-    set.remove_children(prefix);
+    set.drop_children(prefix);
     set.is_empty()
 }
 
