@@ -55,6 +55,13 @@ module _ {P T : Type 0} (path : P → List Bool) (back : List Bool → P) where
         | false ↦ λ _. refl
       ] refl
 
+  -- pairs put under the paths of their prefixes are put under their strings
+  pairs_listed : (es : List (List Bool × T)) (to : Entries T) → All (λ e. path (back e.0) ≡ e.0) es → put_all path (shown back es) to ≡ put_all (λ s. s) es to
+  pairs_listed [] to paths = refl
+  pairs_listed (x ∷ es) to paths =
+      pairs_listed es (with_entry to (path (back x.0)) x.1) (All-tail (λ e. path (back e.0) ≡ e.0) x es paths)
+      ∙ ap (λ k. put_all (λ s. s) es (with_entry to k x.1)) (All-head (λ e. path (back e.0) ≡ e.0) x es paths)
+
 or_none : {T : Type 0} (o : Option T) → option_or o None ≡ o
 or_none None = refl
 or_none (Some v) = refl
@@ -87,5 +94,6 @@ put_laws {path = path} {IsFitting = IsFitting} laws T = record {
   next_fits = λ now whole item rest left. next_fits path IsFitting now;
   goes_on = λ now next whole item rest left. leads_on path IsFitting now;
   put = λ from to within. map_put laws from within to;
+  listed = λ from to within. pairs_listed _ _ (listing from) to (listed_paths laws from within);
   copied = λ from within. copied laws from within;
 }

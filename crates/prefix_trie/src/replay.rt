@@ -35,7 +35,7 @@ pub enum Call<P> {
     Remove(P),
     /// `remove_keep_tree`: takes the entry of this prefix out, and leaves all nodes.
     RemoveKeepTree(P),
-    /// `remove_children`: takes out the entries whose prefixes this one contains, and the nodes that have nothing left then.
+    /// `drop_children`: takes out the entries whose prefixes this one contains, and the nodes that have nothing left then.
     RemoveChildren(P),
     /// `retain`: keeps the entries whose prefixes have this length or a greater one, and the nodes that these need.
     RetainAtLeast(u8),
@@ -190,7 +190,7 @@ fn answer<P: Prefix, A: Allocator + Clone>(
         Call::Spm(prefix) => shortest(map, prefix),
         Call::Remove(prefix) => (remove(map, prefix), None),
         Call::RemoveKeepTree(prefix) => (remove_keep_tree(map, prefix), None),
-        Call::RemoveChildren(prefix) => (remove_children(map, prefix), None),
+        Call::RemoveChildren(prefix) => (drop_children(map, prefix), None),
         Call::RetainAtLeast(least) => (retain_at_least(map, *least), None),
         Call::Clear => (clear(map), None),
         Call::Len => (count_entries(map), None),
@@ -235,15 +235,12 @@ fn remove_keep_tree<P: Prefix, A: Allocator>(
 }
 
 /// Carries out a removal of all that a prefix contains.
-fn remove_children<P: Prefix, A: Allocator>(
-    map: &mut PrefixMap<P, u64, A>,
-    prefix: &P,
-) -> Reply<P, A>
+fn drop_children<P: Prefix, A: Allocator>(map: &mut PrefixMap<P, u64, A>, prefix: &P) -> Reply<P, A>
     requires { P.IsFitting prefix.now }
     ensures { StepInStorage P.path P.back P.R.bit_width
         (stored map.old) (RemoveChildren prefix.now) (reply_of P.R.bits result) (stored map.new) }
 {
-    map.remove_children(prefix);
+    map.drop_children(prefix);
     Reply::Done
 }
 

@@ -18,6 +18,7 @@ ghost use Rattle.prefix_trie_map.specs.Whole.{IsWhole};
 ghost use Rattle.prefix_trie.specs.Sets.{put_in};
 
 mod collecting;
+mod handing;
 mod iter;
 mod lookup;
 mod removal;
@@ -165,7 +166,7 @@ impl<P: Prefix, A: Allocator> PrefixSet<P, A> {
     }
 
     /// How many slots the array of nodes has, used or free: a new set has 1. Never more than the limit. A change may add
-    /// slots; only `clear` takes them away, and `remove_children` of a prefix of length 0, which is `clear`.
+    /// slots; only `clear` takes them away, and `drop_children` and `remove_children` of a prefix of length 0.
     #[inline]
     pub fn node_slots(&self) -> usize
         ensures slots { result ≡ self.now.room.node_slots }

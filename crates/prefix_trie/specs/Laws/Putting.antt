@@ -23,5 +23,7 @@ pub record PutLaws {P : Type 0} (T : Type 0) (width : ℕ) (path : P → List Bo
       → Leads path IsFitting left now whole → Leads path IsFitting rest next whole
   -- each key has its value of the map that was put, or else what it had
   pub put : (from to : Entries T) → AreWithin width from → (s : List Bool) → get (put_all path (shown back (listing from)) to) s ≡ option_or (get from s) (get to s)
+  -- which is the same as its listed strings put as they are
+  pub listed : (from to : Entries T) → AreWithin width from → put_all path (shown back (listing from)) to ≡ put_all (λ s. s) (listing from) to
   -- so put into an empty map it is itself
   pub copied : (from : Entries T) → AreWithin width from → put_all path (shown back (listing from)) no_entries ≡ from

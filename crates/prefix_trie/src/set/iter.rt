@@ -64,7 +64,7 @@ impl<P: Prefix, A: Allocator> PrefixSet<P, A> {
     }
 
     /// The keys that this prefix contains, its own among them, in the order of `iter`. These are the keys that
-    /// `remove_children` takes out.
+    /// `drop_children` and `remove_children` take out.
     ///
     /// ```text
     /// 10.0.0.0/8, 10.1.0.0/16, 10.1.1.0/24 and 10.2.0.0/16 are stored

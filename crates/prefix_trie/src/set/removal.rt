@@ -61,15 +61,15 @@ impl<P: Prefix, A: Allocator> PrefixSet<P, A> {
 
     /// Takes out the keys that this prefix contains, its own among them, and all nodes below its own node; and then the nodes
     /// that have nothing left, from its own node upward. Empty nodes elsewhere stay, and where the prefix's own node is missing
-    /// nothing changes. At length 0 it is `clear`. It answers nothing, and is never refused.
+    /// nothing changes. At length 0 it is `clear`. It answers nothing, and is never refused; `remove_children` hands the keys out.
     ///
     /// ```text
     /// 10.1.0.0/16, 10.1.2.0/24 and 10.2.0.0/16 are stored
-    /// set.remove_children(&10.1.0.0/16)
-    /// set.iter()                          gives 10.2.0.0/16
+    /// set.drop_children(&10.1.0.0/16)
+    /// set.iter()                        gives 10.2.0.0/16
     /// ```
     #[inline]
-    pub fn remove_children(&mut self, prefix: &P)
+    pub fn drop_children(&mut self, prefix: &P)
         requires { P.IsFitting prefix.now }
         ensures entries { self.new.entries ≡ without_below self.old.entries (P.path prefix.now) }
         ensures nodes { self.new.nodes ≡ nodes_without_below self.old.nodes self.old.entries (P.path prefix.now) }
@@ -77,7 +77,7 @@ impl<P: Prefix, A: Allocator> PrefixSet<P, A> {
         // It is a step of the model, of the storage too. No slots go, but at length 0.
         ensures step { StepInStorage P.path P.back P.R.bit_width (stored self.old) (RemoveChildren prefix.now) Done (stored self.new) }
     {
-        self.map.remove_children(prefix);
+        self.map.drop_children(prefix);
     }
 
     /// Takes all keys out, and leaves the root alone. It asks for no memory. Never refused.
