@@ -13,6 +13,7 @@ pub mod pruning;
 pub mod ranges;
 pub mod rerouting;
 pub mod scaling;
+pub mod splitting;
 
 use crate::tests::stored::stores;
 use crate::{Ipv4Prefix, Ipv6Prefix, Narrow, PrefixMap, PrefixSet, Refusal};
