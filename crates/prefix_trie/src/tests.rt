@@ -7,6 +7,7 @@ mod collecting;
 mod cover;
 mod entry_callers;
 mod examples;
+mod handing;
 mod iter;
 mod lending;
 mod mixed;
