@@ -21,5 +21,5 @@ abbrev pub cell_sizes : List ℕ
 cell_sizes = value_block_sizes
 
 -- the tiers are those of the one or of the other
-abbrev pub HasSizes : List Tier → Type 0
+unfoldable pub HasSizes : List Tier → Type 0
 HasSizes ts = (tier_sizes ts ≡ cell_sizes) ⊎ (tier_sizes ts ≡ node_sizes)

@@ -14,6 +14,7 @@ use Rattle.prefix_trie_table.proofs.Blocks.Soundness.{tier_for_holds}
 use Rattle.prefix_trie_table.proofs.Blocks.Spending.{size_at, sizes_set, tier_for_sizes}
 
 pub sizes_kept : (ts : List Tier) (k : ℕ) (t : Tier) → HasSizes ts → t.size ≡ (tier_at ts k).size → HasSizes (set ts k t)
+unfolding HasSizes
 sizes_kept ts k t has same =
     ⊎_elim (λ (e : tier_sizes ts ≡ cell_sizes). inl (sizes_set ts k t same ∙ e)) (λ (e : tier_sizes ts ≡ node_sizes). inr (sizes_set ts k t same ∙ e)) has
 
@@ -32,13 +33,23 @@ pub none_sizes : (ts : List Tier) → tier_sizes (map (λ t. no_blocks t.size) t
 none_sizes [] = refl
 none_sizes (t ∷ ts) = ap (λ ns. t.size ∷ ns) (none_sizes ts)
 
+pub cell_tiers : HasSizes (map no_blocks cell_sizes)
+unfolding HasSizes
+cell_tiers = inl refl
+
+pub node_tiers : HasSizes (map no_blocks node_sizes)
+unfolding HasSizes
+node_tiers = inr refl
+
 pub cleared_sizes : (ts : List Tier) → HasSizes ts → HasSizes (map (λ t. no_blocks t.size) ts)
+unfolding HasSizes
 cleared_sizes ts has =
     ⊎_elim (λ (e : tier_sizes ts ≡ cell_sizes). inl (none_sizes ts ∙ e)) (λ (e : tier_sizes ts ≡ node_sizes). inr (none_sizes ts ∙ e)) has
 
 -- each size of the two arrays
 module _ (P : ℕ → Type 0) (cells : (k : ℕ) → k < 7 → P (size_in cell_sizes k)) (nodes : (k : ℕ) → k < 7 → P (size_in node_sizes k)) where
   pub each_size : (ts : List Tier) → HasSizes ts → (k : ℕ) → k < length ts → P (tier_at ts k).size
+  unfolding HasSizes
   each_size ts has k h =
       ⊎_elim (λ (e : tier_sizes ts ≡ cell_sizes). subst P (sym (size_at ts k ∙ ap (λ ns. size_in ns k) e)) (cells k (few cell_sizes refl e)))
       (λ (e : tier_sizes ts ≡ node_sizes). subst P (sym (size_at ts k ∙ ap (λ ns. size_in ns k) e)) (nodes k (few node_sizes refl e))) has
@@ -98,7 +109,7 @@ held_small ts n has some =
 
 -- and its tier is the one there
 pub tier_in_table : (ts : List Tier) (n : ℕ) → HasSizes ts → IsSome (tier_for ts n) → tier_for ts n ≡ Some (get_or TIERS n 0)
-unfolding is_in_table
+unfolding is_in_table HasSizes
 tier_in_table ts n has some =
     ⊎_elim (λ (e : tier_sizes ts ≡ cell_sizes). by cell_sizes e cells-right) (λ (e : tier_sizes ts ≡ node_sizes). by node_sizes e nodes-right) has
   where
