@@ -68,10 +68,10 @@ items_count-append [] ys = omega arith
 items_count-append (x ∷ xs) ys = omega (arith, items_count-append xs ys)
 
 -- how many slots a block has
-abbrev size_of_extent : Extent → ℕ
+abbrev pub size_of_extent : Extent → ℕ
 size_of_extent e = e.size
 
-tiling-sum : (sizes : List ℕ) (first end : ℕ) (es : List Extent) → Tiles sizes first es end → first + sum_by size_of_extent es ≡ end
+pub tiling-sum : (sizes : List ℕ) (first end : ℕ) (es : List Extent) → Tiles sizes first es end → first + sum_by size_of_extent es ≡ end
 tiling-sum sizes first end [] t = omega (arith, t)
 tiling-sum sizes first end (e ∷ es) t =
     let rest : first + e.size + sum_by size_of_extent es ≡ end = tiling-sum sizes (first + e.size) end es t.2 in
