@@ -5,6 +5,9 @@ pub mod Boughs
 pub mod Sources
 pub mod Ground
 pub mod Fits
+pub mod Space
+pub mod WholeTree
+pub mod RootSpace
 pub mod WayParts
 pub mod Twigs
 pub mod Second

@@ -1,15 +1,15 @@
 -- A table that is laid with all its blocks before its values come. This project's own.
-use Rattle.std.specs.Prelude.{◌≡◌, ◌<◌, ◌≤◌, ℕ, Bool, true, false, ◌&&◌, List, [], ◌∷◌, ◌++◌, flat_map, Option, None, Some, is_some, length}
+use Rattle.std.specs.Prelude.{◌≡◌, ◌+◌, ◌<◌, ◌≤◌, ℕ, zero, suc, Bool, true, false, cond, ◌&&◌, List, [], ◌∷◌, ◌++◌, flat_map, Option, None, Some, is_some, length}
 use Rattle.prefix_trie_bits.specs.Bits.{begins}
-use Rattle.prefix_trie_bits.specs.Model.HandsOut.{packed_block}
+use Rattle.prefix_trie_bits.specs.Model.HandsOut.{packed_block, packed_slots}
 use Rattle.prefix_trie_table.specs.declared.allocator.node.Node.{Node}
 use Rattle.prefix_trie_table.specs.Bitmaps.{has_bit, rank}
-use Rattle.prefix_trie_table.specs.Cells.{blank_node, node_sizes, cell_sizes}
+use Rattle.prefix_trie_table.specs.Cells.{blank_node, node_at, node_sizes, cell_sizes}
 use Rattle.prefix_trie_table.specs.Digits.{path_of, bit_of}
 use Rattle.prefix_trie_table.specs.Laying.{NoneFree}
 use Rattle.prefix_trie_table.specs.OwnBlocks.{child_block_size, value_block_size}
 use Rattle.prefix_trie_table.specs.Store.{Store, UsedBlock, Sound, Keeps, tier_sizes}
-use Rattle.prefix_trie_table.specs.Forest.{read_from, times, one_if, has_child, has_value, NodesHold, child_blocks, value_blocks, child_items}
+use Rattle.prefix_trie_table.specs.Forest.{child_slot, read_from, times, one_if, has_child, has_value, NodesHold, child_blocks, value_blocks, child_items}
 
 -- ---- what is laid anew of the nodes in an array
 
@@ -42,6 +42,41 @@ pub record IsSource (v : Store Node) (n : Node) (levels : ℕ) : Type 0 where
   pub is : reading path ≡ Some n
   pub few : (q : List ℕ) → is_some (reading (path ++ q)) ≡ true → length q ≤ levels
   pub within : (q : List ℕ) (b : ℕ) → has_value (reading (path ++ q)) b ≡ true → b < 31
+
+-- ---- how many slots are needed at most
+
+-- the slots of the smallest blocks for a node's children, and for its values
+abbrev pub child_slots : Node → ℕ
+child_slots n = packed_slots node_sizes (rank n.child_bitmap 32)
+
+abbrev pub value_slots : Node → ℕ
+value_slots n = packed_slots cell_sizes (rank n.value_bitmap 32)
+
+-- the sum of the first n of these numbers
+unfoldable pub sum_to : (ℕ → ℕ) → ℕ → ℕ
+sum_to f zero = 0
+sum_to f (suc n) = sum_to f n + f n
+
+-- what a node has and all nodes below it on so many levels
+abbrev pub slots_below : (Node → ℕ) → List Node → ℕ → Node → ℕ
+slots_below own nodes zero n = own n
+slots_below own nodes (suc levels) n =
+    own n + sum_to (λ c. cond (has_bit n.child_bitmap c) (slots_below own nodes levels (node_at nodes (child_slot n c))) 0) 32
+
+-- what a child has and all nodes below it
+abbrev pub slots_at_child : (Node → ℕ) → List Node → ℕ → Node → ℕ → ℕ
+slots_at_child own nodes zero n c = 0
+slots_at_child own nodes (suc levels) n c = cond (has_bit n.child_bitmap c) (slots_below own nodes levels (node_at nodes (child_slot n c))) 0
+
+-- two arrays may become longer by so many slots each, and stay within their limits
+pub record HasSpace {T : Type 0} (nodes cells : ℕ) (v : Store Node) (w : Store (Option T)) : Type 0 where
+  pub of_nodes : length v.slots + nodes ≤ v.limit
+  pub of_cells : length w.slots + cells ≤ w.limit
+
+-- they became longer by no more
+pub record Lengthens {T : Type 0} (nodes cells : ℕ) (v v2 : Store Node) (w w2 : Store (Option T)) : Type 0 where
+  pub of_nodes : length v2.slots ≤ length v.slots + nodes
+  pub of_cells : length w2.slots ≤ length w.slots + cells
 
 -- ---- nodes that hang from nothing yet
 

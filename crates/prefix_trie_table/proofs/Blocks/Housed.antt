@@ -57,7 +57,7 @@ module _ (size : Option Node → Option ℕ) (count : Option Node → ℕ) (size
 
 module _ {T : Type 0} (reading : List ℕ → Option Node) (values : List ℕ → ℕ → Option T) (paths : List (List ℕ)) (v : Store Node)
     (w : Store (Option T)) (holds : Holds reading values paths v w) where
-  children_housed : (x : List ℕ) → HasBlock node_sizes (own_children (reading x)) (child_block_size (reading x))
+  pub children_housed : (x : List ℕ) → HasBlock node_sizes (own_children (reading x)) (child_block_size (reading x))
   children_housed x = by (reading x) refl
     where
       by : (o : Option Node) → reading x ≡ o → HasBlock node_sizes (own_children o) (child_block_size o)
@@ -66,7 +66,7 @@ module _ {T : Type 0} (reading : List ℕ → Option Node) (values : List ℕ �
           list_housed blank_node v n.child_tier n.child_block node_sizes holds.hold.sizes_are refl (rank n.child_bitmap 32)
           (children_list reading paths v holds.hold x n e)
 
-  values_housed : (x : List ℕ) → HasBlock cell_sizes (own_count (reading x)) (value_block_size (reading x))
+  pub values_housed : (x : List ℕ) → HasBlock cell_sizes (own_count (reading x)) (value_block_size (reading x))
   values_housed x = by (reading x) refl
     where
       list : (n : Node) → reading x ≡ Some n → HasList None w n.value_tier n.value_block (rank n.value_bitmap 32)

@@ -1,16 +1,19 @@
 -- A list laid whole in a block that held none.
-use Rattle.std.proofs.Common.{◌≡◌, ℕ, ◌+◌, ◌-◌, ◌<◌, ◌≤◌, inl, List, [], ◌∷◌, ◌++◌, length, take, drop, replicate, None, take-append-drop, refl, sym, ap, ◌∙◌, subst, arith}
-use Rattle.std.proofs.lemmas.List.{length-replicate, drop-replicate, replicate-append-replicate}
+use Rattle.std.proofs.Common.{◌≡◌, ℕ, zero, suc, ◌+◌, ◌-◌, ◌*◌, ◌<◌, ◌≤◌, inl, List, [], ◌∷◌, ◌++◌, length, take, drop, replicate, Option, None, Some, take-append-drop, refl, sym, ap, ◌∙◌, subst, arith}
+use Rattle.std.specs.Option.{option_map}
+use Rattle.prefix_trie_bits.specs.Model.HandsOut.{packed_slots}
+use Rattle.std.proofs.lemmas.List.{length-map, length-replicate, drop-replicate, replicate-append-replicate}
 use Rattle.std.proofs.lemmas.List.Elements.{All-head, All-tail, All-cons}
 use Rattle.prefix_trie_table.specs.declared.allocator.blocks.BlockRef.{BlockRef}
 use Rattle.prefix_trie_table.specs.Runs.{run, put_run}
-use Rattle.prefix_trie_table.specs.Store.{Store, UsedBlock, Sound, IsOfTier, HoldsItems, Turnover, Keeps, Prepared, block, filled, taken, tier_at, tier_for, free_at, many_at, none_at, grown_times}
+use Rattle.prefix_trie_table.specs.Store.{Store, Tier, UsedBlock, Sound, IsOfTier, HoldsItems, Turnover, Keeps, Prepared, block, filled, taken, tier_at, tier_for, free_at, many_at, none_at, size_in, tier_sizes, grown_times}
 use Rattle.prefix_trie_table.specs.Laying.{NoneFree, LaysList}
 use Rattle.prefix_trie_table.proofs.Blocks.RunLemmas.{length-put_run, get_or-put_run_out, put_run_part}
 use Rattle.prefix_trie_table.proofs.Blocks.Soundness.{Sound-written, block_inside, block_slots, first_place, tier_for_holds}
-use Rattle.prefix_trie_table.proofs.Blocks.Spending.{Spends-taken, Spends-written, Keeps-spends, Keeps-prepared, Keeps-then}
+use Rattle.prefix_trie_table.proofs.Blocks.Spending.{size_at, Spends-taken, Spends-written, Keeps-spends, Keeps-prepared, Keeps-then}
 use Rattle.prefix_trie_table.proofs.Tree.Trees.{held_some}
-use Rattle.prefix_trie_table.proofs.Blocks.Turnovers.{Turnover-grown_times, Turnover-taken, tiers_stay}
+use Rattle.prefix_trie_table.proofs.Blocks.Turnovers.{Turnover-grown_times, Turnover-taken, slots_of-many, tiers_stay}
+use Rattle.prefix_trie_table.proofs.Insertion.Needs.{smallest_is}
 
 module _ {S : Type 0} (vacant : S) where
   -- vacant items are what an empty list leaves
@@ -123,3 +126,48 @@ module _ {S : Type 0} (vacant : S) where
               (λ i d h. get_or-put_run_out u.slots at.start (x ∷ xs) i d inside (inl (let b = behind in omega (arith, b, h))))));
           none_free = laid.none_free;
         }
+
+-- ---- the slots that it takes
+
+-- the smallest block for so many items is of the tier that serves them
+packed_tier : (ts : List Tier) (count k : ℕ) → tier_for ts count ≡ Some k → 0 < count → packed_slots (tier_sizes ts) count ≡ (tier_at ts k).size
+packed_tier ts zero k found some = absurd (omega (arith, some))
+packed_tier ts (suc n) k found some =
+    ap slots_in (smallest_is ts (tier_sizes ts) refl (suc n) ∙ ap (option_map (size_in (tier_sizes ts))) found) ∙ sym (size_at ts k)
+  where
+    slots_in : Option ℕ → ℕ
+    slots_in o = elim o as (λ _. ℕ) [
+      | None ↦ 0
+      | Some size ↦ size
+    ]
+
+module _ {S : Type 0} (vacant : S) (v u : Store S) (k count : ℕ) (found : tier_for v.tiers count ≡ Some k) (some : 0 < count) where
+  inside_tiers : k < length v.tiers
+  inside_tiers = (tier_for_holds v.tiers count k found).0
+
+  -- at most a block is made
+  pub laid_longer : (w : Store S) → u ≡ grown_times vacant v k (1 - free_at v.tiers k) → w ≡ record u { tiers = taken u.tiers k } →
+      length w.slots ≤ length v.slots + packed_slots (tier_sizes v.tiers) count
+  laid_longer w grew took =
+      let turned : Turnover v u (many_at k (1 - free_at v.tiers k)) none_at none_at =
+      subst (λ x. Turnover v x (many_at k (1 - free_at v.tiers k)) none_at none_at) (sym grew) (Turnover-grown_times vacant v k (1 - free_at v.tiers k) inside_tiers) in
+      let long = turned.longer in
+      let same : length w.slots ≡ length u.slots = ap (λ (x : Store S). length x.slots) took in
+      let made = slots_of-many (tier_sizes v.tiers) k (1 - free_at v.tiers k) (let l = length-map v.tiers (λ t. t.size) in omega (arith, l, inside_tiers)) in
+      let size = size_at v.tiers k in
+      let packed = packed_tier v.tiers count k found some in
+      let less : size_in (tier_sizes v.tiers) k * (1 - free_at v.tiers k) ≤ size_in (tier_sizes v.tiers) k = at_most_once (size_in (tier_sizes v.tiers) k) (1 - free_at v.tiers k) (omega arith) in
+      omega (arith, long, same, made, size, packed, less)
+    where
+      at_most_once : (a b : ℕ) → b ≤ 1 → a * b ≤ a
+      at_most_once a zero h = omega arith
+      at_most_once a (suc zero) h = omega arith
+      at_most_once a (suc (suc b)) h = absurd (omega (arith, h))
+
+  -- and where it was refused for want of index room, it would pass the limit
+  pub laid_range : (m : ℕ) → free_at v.tiers k + m < 1 → u ≡ grown_times vacant v k m → u.limit < length u.slots + (tier_at u.tiers k).size →
+      v.limit < length v.slots + packed_slots (tier_sizes v.tiers) count
+  laid_range zero few grew past =
+      subst (λ n. v.limit < length v.slots + n) (sym (packed_tier v.tiers count k found some))
+      (subst (λ (x : Store S). x.limit < length x.slots + (tier_at x.tiers k).size) grew past)
+  laid_range (suc m) few grew past = absurd (omega (arith, few))

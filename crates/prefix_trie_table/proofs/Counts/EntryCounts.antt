@@ -71,7 +71,6 @@ items_count-append (x ∷ xs) ys = omega (arith, items_count-append xs ys)
 abbrev pub size_of_extent : Extent → ℕ
 size_of_extent e = e.size
 
--- the blocks that tile an array take all slots from the first on
 pub tiling-sum : (sizes : List ℕ) (first end : ℕ) (es : List Extent) → Tiles sizes first es end → first + sum_by size_of_extent es ≡ end
 tiling-sum sizes first end [] t = omega (arith, t)
 tiling-sum sizes first end (e ∷ es) t =

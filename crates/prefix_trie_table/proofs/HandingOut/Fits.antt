@@ -17,19 +17,24 @@ use Rattle.prefix_trie_table.proofs.Strings.BitLists.{rank-le, rank-more}
 none_fits : (ts : List Tier) (sizes : List ℕ) → tier_sizes ts ≡ sizes → IsSome (position (λ s. nat_le 0 s) sizes) → IsSome (tier_for ts 0)
 none_fits ts sizes are some = subst IsSome (sym (tier_for_sizes ts 0 ∙ ap (λ ns. position (λ s. nat_le 0 s) ns) are)) some
 
--- some block holds all values of a node
-pub values_fit : (ts : List Tier) (bitmap count : ℕ) → tier_sizes ts ≡ cell_sizes → ((b : ℕ) → has_bit bitmap b ≡ true → b < 31) →
-    count ≡ rank bitmap 32 → IsSome (tier_for ts count)
-values_fit ts bitmap zero are within e = none_fits ts _ are refl
-values_fit ts bitmap (suc n) are within e =
+-- a node has at most 31 values
+pub values_few : (bitmap : ℕ) → ((b : ℕ) → has_bit bitmap b ≡ true → b < 31) → rank bitmap 32 ≤ 31
+values_few bitmap within =
     let last : has_bit bitmap 31 ≡ false = (elim (cases_Bool (has_bit bitmap 31)) as (λ _. has_bit bitmap 31 ≡ false) [
       | inl set ↦ absurd (let h = within 31 set in omega (arith, h))
       | inr clear ↦ clear
     ]) in
     let none : ◌≡◌ {A = ℕ} (cond (has_bit bitmap 31) 1 0) 0 = ap (λ s. cond s 1 0) last in
     let up : rank bitmap 32 ≡ rank bitmap 31 + cond (has_bit bitmap 31) 1 0 = rank-more bitmap 31 in
-    let most = rank-le bitmap 31 in
-    subst (λ k. IsSome (tier_for ts k)) (let s : n + 1 ≡ suc n = omega arith in s) (cell_fits ts n are (omega (arith, none, up, most, e)))
+    let most = rank-le bitmap 31 in omega (arith, none, up, most)
+
+-- some block holds all values of a node
+pub values_fit : (ts : List Tier) (bitmap count : ℕ) → tier_sizes ts ≡ cell_sizes → ((b : ℕ) → has_bit bitmap b ≡ true → b < 31) →
+    count ≡ rank bitmap 32 → IsSome (tier_for ts count)
+values_fit ts bitmap zero are within e = none_fits ts _ are refl
+values_fit ts bitmap (suc n) are within e =
+    let most = values_few bitmap within in
+    subst (λ k. IsSome (tier_for ts k)) (let s : n + 1 ≡ suc n = omega arith in s) (cell_fits ts n are (omega (arith, most, e)))
 
 -- some block holds all children
 pub children_fit : (ts : List Tier) (count : ℕ) → tier_sizes ts ≡ node_sizes → count ≤ 32 → IsSome (tier_for ts count)

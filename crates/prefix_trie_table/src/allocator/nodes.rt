@@ -1,5 +1,6 @@
 //! The array of nodes. Every read of a node is counted.
 ghost use Rattle.std.specs.Prelude.{◌≡◌, ℕ, ◌+◌, ◌-◌, ◌*◌, ◌^◌, ◌<◌, ◌≤◌, ◌↔◌, ◌⊎◌, [], ◌∷◌, ◌++◌, List, Some, IfOk, IfErr, IsOk, IsErr, IsSome, OnOk, MatchOption, All, length, map, insert, remove, slice_set};
+ghost use Rattle.prefix_trie_bits.specs.Model.HandsOut.{packed_slots};
 ghost use Rattle.prefix_trie_table.specs.BlockCounts.{tier_count};
 ghost use Rattle.prefix_trie_table.specs.Cells.{blank_node, node_at, node_sizes};
 ghost use Rattle.prefix_trie_table.specs.Laying.{LaysList};
@@ -205,7 +206,11 @@ impl<A: Allocator, V: Drop> NodeAllocator<A, V> {
         requires sound { (live : List (UsedBlock Node)) × Sound blank_node live self.old }
         requires fits { IsSome (tier_for self.old.tiers (length items.now)) }
         requires few { length items.now < 2 ^ 32 }
-        ensures { IfOk result (LaysList blank_node self.old self.new items.now) }
+        ensures laid { IfOk result (LaysList blank_node self.old self.new items.now) }
+        ensures longer { IfOk result (λ _. length self.new.slots
+            ≤ length self.old.slots + packed_slots (tier_sizes self.old.tiers) (length items.now)) }
+        ensures range { IfErr result (λ cause. cause ≡ IndexRange
+            → self.old.limit < length self.old.slots + packed_slots (tier_sizes self.old.tiers) (length items.now)) }
     {
         self.blocks.lay(items)
     }

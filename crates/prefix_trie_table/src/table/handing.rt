@@ -2,8 +2,8 @@
 ghost use Rattle.std.specs.Prelude.{◌≡◌, ℕ, ◌+◌, ◌*◌, ◌<◌, ◌≤◌, true, List, Option, drop, take, length, IfOk, IfErr};
 ghost use Rattle.prefix_trie_bits.specs.declared.prefix.Refusal.TheVariants.{Memory};
 ghost use Rattle.prefix_trie_bits.specs.Model.Step.{State};
-ghost use Rattle.prefix_trie_table.specs.Bitmaps.{has_bit as is_set};
-ghost use Rattle.prefix_trie_table.specs.HandingOut.{chosen, IsSource, IsGround, IsBough, LaysNode, LaysPart, Lays};
+ghost use Rattle.prefix_trie_table.specs.Bitmaps.{has_bit as is_set, rank};
+ghost use Rattle.prefix_trie_table.specs.HandingOut.{chosen, IsSource, IsGround, IsBough, LaysNode, LaysPart, Lays, HasSpace, Lengthens, child_slots, value_slots, slots_below, slots_at_child};
 ghost use Rattle.prefix_trie_table.specs.Skeleton.{IsSecond};
 ghost use Rattle.prefix_trie_table.specs.Store.{Store};
 ghost use Rattle.prefix_trie_table.specs.Tables.{IsTrie};
@@ -38,17 +38,22 @@ fn lay_child<T: Drop, A: Allocator, V: Tick>(
     requires child { child < 32 }
     requires children { (c : ℕ) → is_set children c ≡ true → is_set node.child_bitmap c ≡ true }
     requires ground { IsGround nodes.old cells.old }
-    requires few { length below.old.items ≤ child }
+    requires space { HasSpace (slots_at_child child_slots from.now.slots levels node child)
+        (slots_at_child value_slots from.now.slots levels node child) nodes.old cells.old }
+    requires few { length below.old.items ≤ rank children child }
     requires bough { (values : ℕ) × (v : Store Node) × (w : Store (Option T))
         × IsBough (chosen from.now.slots node values children) child laid below.old.items v nodes.old w cells.old }
     ensures ground { IfOk result (λ _. IsGround nodes.new cells.new) }
-    ensures few { IfOk result (λ _. length below.new.items ≤ child + 1) }
+    ensures few { IfOk result (λ _. length below.new.items ≤ rank children (child + 1)) }
     ensures bough { (values : ℕ) (v : Store Node) (w : Store (Option T))
         → IsBough (chosen from.now.slots node values children) child laid below.old.items v nodes.old w cells.old
         → IfOk result (λ n. IsBough (chosen from.now.slots node values children) (child + 1) n
         below.new.items v nodes.new w cells.new) }
     ensures lays_nodes { IfOk result (λ _. Lays nodes.old nodes.new) }
     ensures lays_cells { IfOk result (λ _. Lays cells.old cells.new) }
+    ensures longer { IfOk result (λ _. Lengthens (slots_at_child child_slots from.now.slots levels node child)
+        (slots_at_child value_slots from.now.slots levels node child) nodes.old nodes.new cells.old cells.new) }
+    ensures memory { IfErr result (λ cause. cause ≡ Memory) }
 {
     if !has_bit(children, child) {
         return Ok(laid);
@@ -92,14 +97,19 @@ fn lay_node<T: Drop, A: Allocator, V: Tick>(
     counter: &mut V,
 ) -> Result<Option<Node>, Refusal>
     requires source { IsSource from.now node levels }
-    requires values { (b : ℕ) → is_set values b ≡ true → b < 31 }
+    requires values { (b : ℕ) → is_set values b ≡ true → is_set node.value_bitmap b ≡ true }
     requires children { (c : ℕ) → is_set children c ≡ true → is_set node.child_bitmap c ≡ true }
     requires ground { IsGround nodes.old cells.old }
+    requires space { HasSpace (slots_below child_slots from.now.slots levels node) (slots_below value_slots from.now.slots levels node)
+        nodes.old cells.old }
     ensures ground { IfOk result (λ _. IsGround nodes.new cells.new) }
     ensures laid { IfOk result (λ top. LaysNode (chosen from.now.slots node values children)
         nodes.old nodes.new cells.old cells.new top) }
     ensures lays_nodes { IfOk result (λ _. Lays nodes.old nodes.new) }
     ensures lays_cells { IfOk result (λ _. Lays cells.old cells.new) }
+    ensures longer { IfOk result (λ _. Lengthens (slots_below child_slots from.now.slots levels node)
+        (slots_below value_slots from.now.slots levels node) nodes.old nodes.new cells.old cells.new) }
+    ensures memory { IfErr result (λ cause. cause ≡ Memory) }
 {
     let own = cells.lay_vacant(count(values))?;
     let mut laid = Node {
@@ -130,8 +140,8 @@ fn lay_node<T: Drop, A: Allocator, V: Tick>(
     }))
 }
 
-/// Lays the way of a bit string from a node on whose path is its first `depth` bits, and all that the string begins, where there is
-/// something. What it answers has its blocks, and its own slot is still to be found.
+/// Lays the way of a bit string from the node of its first `depth` bits on, and all that the string begins, where there is something.
+/// What it answers has its blocks, and its own slot is still to be found.
 fn lay_way<K: Key, T: Drop, A: Allocator, V: Tick>(
     from: &NodeAllocator<A, V>,
     node: Node,
@@ -148,11 +158,16 @@ fn lay_way<K: Key, T: Drop, A: Allocator, V: Tick>(
     requires whole { depth ≤ len }
     requires source { IsSource from.now node levels }
     requires ground { IsGround nodes.old cells.old }
+    requires space { HasSpace (slots_below child_slots from.now.slots levels node) (slots_below value_slots from.now.slots levels node)
+        nodes.old cells.old }
     ensures ground { IfOk result (λ _. IsGround nodes.new cells.new) }
     ensures laid { IfOk result (λ top. LaysPart from.now.slots node (drop depth (take len (K.bits key)))
         nodes.old nodes.new cells.old cells.new top) }
     ensures lays_nodes { IfOk result (λ _. Lays nodes.old nodes.new) }
     ensures lays_cells { IfOk result (λ _. Lays cells.old cells.new) }
+    ensures longer { IfOk result (λ _. Lengthens (slots_below child_slots from.now.slots levels node)
+        (slots_below value_slots from.now.slots levels node) nodes.old nodes.new cells.old cells.new) }
+    ensures memory { IfErr result (λ cause. cause ≡ Memory) }
 {
     if len < depth + 5 {
         let values = node.value_bitmap & value_cover_mask(key, depth, len);
@@ -190,7 +205,8 @@ fn lay_way<K: Key, T: Drop, A: Allocator, V: Tick>(
 }
 
 /// Lays the nodes and the blocks that the entries need which a bit string begins, in arrays of their own under the same limit.
-/// No value is moved: all cells are vacant. Both arrays are only read. Refused only for memory.
+/// No value is moved: all cells are vacant. Both arrays are only read. Refused only for memory, since these blocks are no larger than
+/// those that the same nodes have here.
 pub(super) fn lay_part<K: Key, T: Drop, A: Allocator + Clone, V: Tick>(
     nodes: &NodeAllocator<A, V>,
     cells: &Blocks<Option<T>, A>,
@@ -209,7 +225,7 @@ pub(super) fn lay_part<K: Key, T: Drop, A: Allocator + Clone, V: Tick>(
         return Err(Refusal::Memory);
     };
     let root = nodes.visit(NodeSlot::ROOT, counter);
-    let Ok(top) = lay_way(
+    let top = lay_way(
         nodes,
         root,
         key,
@@ -219,10 +235,7 @@ pub(super) fn lay_part<K: Key, T: Drop, A: Allocator + Clone, V: Tick>(
         &mut second_nodes,
         &mut second_cells,
         counter,
-    ) else {
-        // Its blocks are no larger than those that the nodes have here, and so stay below the limit.
-        return Err(Refusal::Memory);
-    };
+    )?;
     if let Some(top) = top {
         second_nodes.put(NodeSlot::ROOT, top);
     }

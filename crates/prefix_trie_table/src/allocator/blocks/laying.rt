@@ -1,7 +1,9 @@
 //! Laying a whole list at once, in a block of its final size.
-ghost use Rattle.std.specs.Prelude.{◌≡◌, ◌^◌, ◌<◌, List, length, replicate, IfOk, IsSome};
+ghost use Rattle.std.specs.Prelude.{◌≡◌, ◌+◌, ◌^◌, ◌<◌, ◌≤◌, List, length, replicate, IfOk, IfErr, IsSome};
 ghost use Rattle.prefix_trie_table.specs.Laying.{LaysList};
-ghost use Rattle.prefix_trie_table.specs.Store.{UsedBlock, Sound, tier_for};
+ghost use Rattle.prefix_trie_table.specs.Store.{UsedBlock, Sound, tier_for, tier_sizes};
+ghost use Rattle.prefix_trie_bits.specs.Model.HandsOut.{packed_slots};
+ghost use Rattle.prefix_trie_bits.specs.declared.prefix.Refusal.TheVariants.{IndexRange};
 
 use crate::allocator::blocks::{BlockRef, Blocks};
 use crate::allocator::slots::{Slot, write_run};
@@ -23,10 +25,15 @@ impl<S: Slot, A: Allocator> Blocks<S, A> {
 
     /// Takes a block of the smallest size that holds `count` items for a list of so many vacant ones, and says where it stands. If none
     /// is free it is made at the array's end. A list of none stands nowhere (tier 0, start 0).
+    ///
+    /// Refused with `IndexRange` only where the block would pass the limit, and with `Memory` only where memory was refused.
     pub fn lay_vacant(&mut self, count: u32) -> Result<BlockRef, Refusal>
         requires sound { (live : List (UsedBlock S)) × Sound S.vacant live self.old }
         requires fits { IsSome (tier_for self.old.tiers count) }
-        ensures { IfOk result (LaysList S.vacant self.old self.new (replicate count S.vacant)) }
+        ensures laid { IfOk result (LaysList S.vacant self.old self.new (replicate count S.vacant)) }
+        ensures longer { IfOk result (λ _. length self.new.slots ≤ length self.old.slots + packed_slots (tier_sizes self.old.tiers) count) }
+        ensures range { IfErr result (λ cause. cause ≡ IndexRange
+            → self.old.limit < length self.old.slots + packed_slots (tier_sizes self.old.tiers) count) }
     {
         if count == 0 {
             return Ok(BlockRef { tier: 0, start: 0 });
@@ -44,7 +51,11 @@ impl<S: Slot + Copy, A: Allocator> Blocks<S, A> {
         requires sound { (live : List (UsedBlock S)) × Sound S.vacant live self.old }
         requires fits { IsSome (tier_for self.old.tiers (length items.now)) }
         requires few { length items.now < 2 ^ 32 }
-        ensures { IfOk result (LaysList S.vacant self.old self.new items.now) }
+        ensures laid { IfOk result (LaysList S.vacant self.old self.new items.now) }
+        ensures longer { IfOk result (λ _. length self.new.slots
+            ≤ length self.old.slots + packed_slots (tier_sizes self.old.tiers) (length items.now)) }
+        ensures range { IfErr result (λ cause. cause ≡ IndexRange
+            → self.old.limit < length self.old.slots + packed_slots (tier_sizes self.old.tiers) (length items.now)) }
     {
         let at = self.lay_vacant(items.len() as u32)?;
         write_run(&mut self.slots, at.start as usize, items);

@@ -1,15 +1,19 @@
-use Rattle.std.proofs.Common.{rules, sym, ap, subst, refl, replicate, None, is_some, ◌∙◌, arith, ◌≡◌, ◌+◌, ◌≤◌, List, length, ◌-◌, []}
+use Rattle.std.proofs.Common.{rules, ℕ, cond, sym, ap, subst, refl, replicate, None, is_some, ◌∙◌, arith, ◌≡◌, ◌+◌, ◌≤◌, List, length, ◌-◌, []}
+use Rattle.prefix_trie_bits.specs.declared.prefix.Refusal.TheVariants.{Memory}
+use Rattle.prefix_trie_table.specs.Bitmaps.{has_bit, rank}
 use Rattle.prefix_trie_table.specs.Laying.{LaysList}
-use Rattle.prefix_trie_table.specs.Forest.{has_child}
+use Rattle.prefix_trie_table.specs.Forest.{has_child, tier_sizes}
 use Rattle.prefix_trie_table.specs.Cells.{node_at, blank_node, node_sizes}
 use Rattle.prefix_trie_table.specs.declared.allocator.node.Node.{Node}
-use Rattle.prefix_trie_table.specs.HandingOut.{chosen, IsBough, LaysNode}
+use Rattle.prefix_trie_table.specs.HandingOut.{child_slots, value_slots, slots_below, HasSpace, chosen, IsBough, LaysNode}
 use Rattle.prefix_trie_table.proofs.HandingOut.Boughs.{first, bough_start, bough_grafted, bough_closed, bough_passed, bough_bare, bare_nodes, bare_cells}
 use Rattle.prefix_trie_table.proofs.HandingOut.Ground.{Lays-none, Lays-then, Lays-list, ground_nodes, ground_cells}
 use Rattle.prefix_trie_table.proofs.HandingOut.Fits.{values_fit, children_fit, laid_tier}
+use Rattle.prefix_trie_table.proofs.HandingOut.Space.{for_memory, child_amount, values_packed, children_packed, space_at, space_for_all, laid_next, laid_whole, slots_split, LaidTo}
 use Rattle.prefix_trie_table.proofs.HandingOut.Sources.{passed_by, behind, chosen_below, child_inside, some_level, source_below, own_within}
 use Rattle.prefix_trie_table.proofs.Strings.Bare.{was_set, others_stay}
 use Rattle.prefix_trie_table.proofs.Strings.Bits.{has_bit-is, rank-ones}
+use Rattle.prefix_trie_table.proofs.Strings.BitLists.{rank-le, rank-more}
 use Rattle.prefix_trie_table.proofs.table.handing.+lay.Goals as goal
 
 -- src/table/handing.rt:48:9
@@ -43,22 +47,15 @@ lay_child-lay_node-requires g t c κs within =
     let is = c.visit-lower.ensures.node ∙ ap (node_at c.args.from.now.slots) c.child_slot.ensures in
     let some = some_level c.args.from.now c.args.node c.args.levels c.requires.source c.args.child there in
     let fewer : c.args.levels - 1 + 1 ≡ c.args.levels = omega (arith, some) in
-    let below = source_below c.args.from.now c.args.node c.args.levels c.requires.source c.args.child there c.visit-lower.result (c.args.levels - 1) is fewer in (
-      omega (arith, some),
-      (
-        within.0,
-        (
-          within.1.0,
-          (
-            within.1.1,
-            (
-              below,
-              (own_within c.args.from.now c.visit-lower.result (c.args.levels - 1) below, (λ k set_there. set_there, c.requires.ground)),
-            ),
-          ),
-        ),
-      ),
-    )
+    let below = source_below c.args.from.now c.args.node c.args.levels c.requires.source c.args.child there c.visit-lower.result (c.args.levels - 1) is fewer in
+    let slots = child_amount child_slots c.args.from.now.slots c.args.levels c.args.node c.visit-lower.result c.args.child some there is in
+    let values = child_amount value_slots c.args.from.now.slots c.args.levels c.args.node c.visit-lower.result c.args.child some there is in
+    let nodes_fit = c.requires.space.of_nodes in
+    let cells_fit = c.requires.space.of_cells in
+    let space : HasSpace (slots_below child_slots c.args.from.now.slots (c.args.levels - 1) c.visit-lower.result)
+    (slots_below value_slots c.args.from.now.slots (c.args.levels - 1) c.visit-lower.result) c.args.nodes.now c.args.cells.now =
+    record { of_nodes = omega (arith, slots, nodes_fit); of_cells = omega (arith, values, cells_fit) } in
+    (omega (arith, some), (within.0, (within.1.0, (within.1.1, (below, (λ b own. own, (λ k own. own, (c.requires.ground, space))))))))
 
 -- src/table/handing.rt:55:9
 pub lay_child-returns-in_default-clause-bough : goal.lay_child-returns-in_default-clause-bough
@@ -100,30 +97,36 @@ lay_child-returns-clause-bough g t c values v w b =
 -- src/table/handing.rt:91:15
 pub lay_node-lay_vacant-requires-clause-fits : goal.lay_node-lay_vacant-requires-clause-fits
 lay_node-lay_vacant-requires-clause-fits g t c =
-    values_fit c.args.cells.now.tiers c.args.values c.count.result c.requires.ground.cell_sizes_are c.requires.values
+    values_fit c.args.cells.now.tiers c.args.values c.count.result c.requires.ground.cell_sizes_are
+    (λ b set. own_within c.args.from.now c.args.node c.args.levels c.requires.source b (c.requires.values b set))
     (c.count.ensures ∙ sym (rank-ones c.args.values 32 (omega arith)))
 
 -- src/table/handing.rt:101:5
 pub lay_node-loop-child-init : goal.lay_node-loop-child-init
 lay_node-loop-child-init g t c =
     let laid = subst (λ n. LaysList None c.args.cells.now c.lay_vacant.new.self (replicate n None) c.in_ok-own.own)
-    (c.count.ensures ∙ sym (rank-ones c.args.values 32 (omega arith))) c.in_ok-own.ensures in
+    (c.count.ensures ∙ sym (rank-ones c.args.values 32 (omega arith))) c.in_ok-own.ensures.laid in
     let empty = c.new-below.ensures in
+    let packed = values_packed c.args.node (tier_sizes c.args.cells.now.tiers) c.args.values c.count.result c.requires.ground.cell_sizes_are
+    (c.count.ensures ∙ sym (rank-ones c.args.values 32 (omega arith))) c.requires.values (own_within c.args.from.now c.args.node c.args.levels c.requires.source) in
     let bough = bough_start (chosen c.args.from.now.slots c.args.node c.args.values c.args.children) c.args.values c.in_ok-own.own c.args.nodes.now c.args.cells.now c.lay_vacant.new.self (λ b. refl)
     c.requires.ground.cell_sizes_are laid in
     record {
       ground = ground_cells c.args.nodes.now c.args.nodes.now c.args.cells.now c.lay_vacant.new.self c.requires.ground _ c.in_ok-own.own laid;
-      few = search rules;
+      few = (let e = ap (λ (xs : List Node). length xs) empty in omega (arith, e));
       bough = subst (λ xs. IsBough (chosen c.args.from.now.slots c.args.node c.args.values c.args.children) 0 (first c.args.values c.in_ok-own.own) xs c.args.nodes.now c.args.nodes.now c.args.cells.now c.lay_vacant.new.self)
           (sym empty) bough;
       nodes = Lays-none c.args.nodes.now;
+      longer = record { of_nodes = omega arith; of_cells = (let long = c.in_ok-own.ensures.longer in omega (arith, long, packed)) };
       cells = Lays-list None c.args.cells.now c.lay_vacant.new.self _ c.in_ok-own.own laid;
     }
 
 -- src/table/handing.rt:102:16
 pub lay_node-lay_child-requires : goal.lay_node-lay_child-requires
 lay_node-lay_child-requires g t c κs within =
-    let inv = c.loop-child.invariant in (
+    let inv = c.loop-child.invariant in
+    let space = space_at c.args.from.now.slots c.args.levels c.args.node c.args.nodes.now c.loop-child.nodes c.args.cells.now c.loop-child.cells c.requires.space
+    inv.nodes.keeps.limit_is inv.cells.keeps.limit_is c.loop-child.child c.loop-child-test.true inv.longer in (
       omega arith,
       (
         within.0,
@@ -135,7 +138,7 @@ lay_node-lay_child-requires g t c κs within =
               c.requires.source,
               (
                 c.loop-child-test.true,
-                (c.requires.children, (inv.ground, (inv.few, (c.args.values, c.args.nodes.now, c.args.cells.now, inv.bough)))),
+                (c.requires.children, (inv.ground, (space, (inv.few, (c.args.values, c.args.nodes.now, c.args.cells.now, inv.bough))))),
               ),
             ),
           ),
@@ -151,6 +154,8 @@ lay_node-loop-child-preserved g t c =
       ground = e.ground;
       few = e.few;
       bough = e.bough c.args.values c.args.nodes.now c.args.cells.now c.loop-child.invariant.bough;
+      longer = laid_next c.args.from.now.slots c.args.levels c.args.node c.args.nodes.now c.loop-child.nodes c.args.cells.now c.loop-child.cells c.loop-child.child
+          c.lay_child.new.nodes c.lay_child.new.cells c.loop-child.invariant.longer e.longer;
       nodes = Lays-then c.args.nodes.now c.loop-child.nodes c.lay_child.new.nodes c.loop-child.invariant.nodes e.lays_nodes;
       cells = Lays-then c.args.cells.now c.loop-child.cells c.lay_child.new.cells c.loop-child.invariant.cells e.lays_cells;
     }
@@ -195,18 +200,19 @@ lay_node-lay-requires-clause-fits g t c =
     children_fit c.loop-child.nodes.tiers (length c.deref.result.now) c.loop-child.invariant.ground.node_sizes_are
     (let same = ap (λ (xs : List Node). length xs) c.deref.ensures.0 in
     let few = c.loop-child.invariant.few in
-    let last = c.loop-child.auto.child-end in omega (arith, same, few, last))
+    let most = rank-le c.args.children c.loop-child.child in
+    let last = c.loop-child.auto.child-end in omega (arith, same, few, most, last))
 
 -- src/table/handing.rt:116:21
 pub lay_node-overflow_cast-result : goal.lay_node-overflow_cast-result
 lay_node-overflow_cast-result g t c =
     let small = laid_tier blank_node c.loop-child.nodes c.lay.new.self c.deref.result.now c.in_ok-list.list node_sizes c.loop-child.invariant.ground.node_sizes_are (omega arith)
-    c.in_ok-list.ensures in omega (arith, small)
+    c.in_ok-list.ensures.laid in omega (arith, small)
 
 -- src/table/handing.rt:70:1
 pub lay_node-returns-clause-ground : goal.lay_node-returns-clause-ground
 lay_node-returns-clause-ground g t c =
-    ground_nodes c.loop-child.nodes c.lay.new.self c.loop-child.cells c.loop-child.cells c.loop-child.invariant.ground c.deref.result.now c.in_ok-list.list c.in_ok-list.ensures
+    ground_nodes c.loop-child.nodes c.lay.new.self c.loop-child.cells c.loop-child.cells c.loop-child.invariant.ground c.deref.result.now c.in_ok-list.list c.in_ok-list.ensures.laid
 
 -- src/table/handing.rt:70:1
 pub lay_node-returns-clause-laid : goal.lay_node-returns-clause-laid
@@ -214,16 +220,102 @@ lay_node-returns-clause-laid g t c =
     let all : 32 ≤ c.loop-child.child = (let h = c.loop-child-test.false in omega (arith, h)) in
     bough_closed (chosen c.args.from.now.slots c.args.node c.args.values c.args.children) c.loop-child.child c.loop-child.laid c.loop-child.below.items c.args.nodes.now c.loop-child.nodes c.args.cells.now c.loop-child.cells c.loop-child.invariant.bough (behind c.args.from.now.slots c.args.node c.args.values c.args.children) all c.lay.new.self c.in_ok-list.list
     c.loop-child.invariant.ground.node_sizes_are
-    (subst (λ xs. LaysList blank_node c.loop-child.nodes c.lay.new.self xs c.in_ok-list.list) c.deref.ensures.0 c.in_ok-list.ensures)
+    (subst (λ xs. LaysList blank_node c.loop-child.nodes c.lay.new.self xs c.in_ok-list.list) c.deref.ensures.0 c.in_ok-list.ensures.laid)
     (c.is_bare.ensures.stocked c.if-is_bare.false)
 
 -- src/table/handing.rt:70:1
 pub lay_node-returns-clause-lays_nodes : goal.lay_node-returns-clause-lays_nodes
 lay_node-returns-clause-lays_nodes g t c =
     Lays-then c.args.nodes.now c.loop-child.nodes c.lay.new.self c.loop-child.invariant.nodes
-    (Lays-list blank_node c.loop-child.nodes c.lay.new.self c.deref.result.now c.in_ok-list.list c.in_ok-list.ensures)
+    (Lays-list blank_node c.loop-child.nodes c.lay.new.self c.deref.result.now c.in_ok-list.list c.in_ok-list.ensures.laid)
 
 -- src/table/handing.rt:70:1
 pub lay_node-returns-clause-lays_cells : goal.lay_node-returns-clause-lays_cells
 lay_node-returns-clause-lays_cells g t c =
     c.loop-child.invariant.cells
+
+pub lay_child-push-requires : goal.lay_child-push-requires
+lay_child-push-requires g t c =
+    (omega arith, (let few = c.requires.few in let most = rank-le c.args.children c.args.child in let small = c.requires.child in omega (arith, few, most, small)))
+
+pub lay_child-returns-then-not-has_bit-clause-few :
+    goal.lay_child-returns-then-not-has_bit-clause-few
+lay_child-returns-then-not-has_bit-clause-few g t c =
+    let few = c.requires.few in let more = rank-more c.args.children c.args.child in omega (arith, few, more)
+
+pub lay_child-returns-in_default-clause-few : goal.lay_child-returns-in_default-clause-few
+lay_child-returns-in_default-clause-few g t c =
+    let few = c.requires.few in let more = rank-more c.args.children c.args.child in omega (arith, few, more)
+
+pub lay_child-returns-in_default-clause-longer : goal.lay_child-returns-in_default-clause-longer
+lay_child-returns-in_default-clause-longer g t c =
+    let set = has_bit-is c.args.children c.args.child c.requires.child ∙ sym c.has_bit.ensures ∙ c.if-not-has_bit.false in
+    let there = c.requires.children c.args.child set in
+    let some = some_level c.args.from.now c.args.node c.args.levels c.requires.source c.args.child there in
+    let is = c.visit-lower.ensures.node ∙ ap (node_at c.args.from.now.slots) c.child_slot.ensures in
+    let slots = child_amount child_slots c.args.from.now.slots c.args.levels c.args.node c.visit-lower.result c.args.child some there is in
+    let values = child_amount value_slots c.args.from.now.slots c.args.levels c.args.node c.visit-lower.result c.args.child some there is in
+    let nodes_long = c.in_ok-twig.ensures.longer.of_nodes in
+    let cells_long = c.in_ok-twig.ensures.longer.of_cells in
+    record { of_nodes = omega (arith, slots, nodes_long); of_cells = omega (arith, values, cells_long) }
+
+pub lay_child-returns-clause-few : goal.lay_child-returns-clause-few
+lay_child-returns-clause-few g t c =
+    let set = has_bit-is c.args.children c.args.child c.requires.child ∙ sym c.has_bit.ensures ∙ c.if-not-has_bit.false in
+    let one : ◌≡◌ {A = ℕ} (cond (has_bit c.args.children c.args.child) 1 0) 1 = ap (λ b. cond b 1 0) set in
+    let few = c.requires.few in
+    let more = rank-more c.args.children c.args.child in
+    let long = c.push.ensures.len in omega (arith, few, more, one, long)
+
+pub lay_child-returns-clause-longer : goal.lay_child-returns-clause-longer
+lay_child-returns-clause-longer g t c =
+    let set = has_bit-is c.args.children c.args.child c.requires.child ∙ sym c.has_bit.ensures ∙ c.if-not-has_bit.false in
+    let there = c.requires.children c.args.child set in
+    let some = some_level c.args.from.now c.args.node c.args.levels c.requires.source c.args.child there in
+    let is = c.visit-lower.ensures.node ∙ ap (node_at c.args.from.now.slots) c.child_slot.ensures in
+    let slots = child_amount child_slots c.args.from.now.slots c.args.levels c.args.node c.visit-lower.result c.args.child some there is in
+    let values = child_amount value_slots c.args.from.now.slots c.args.levels c.args.node c.visit-lower.result c.args.child some there is in
+    let nodes_long = c.in_ok-twig.ensures.longer.of_nodes in
+    let cells_long = c.in_ok-twig.ensures.longer.of_cells in
+    record { of_nodes = omega (arith, slots, nodes_long); of_cells = omega (arith, values, cells_long) }
+
+pub lay_node-returns-in_err-own-clause-memory : goal.lay_node-returns-in_err-own-clause-memory
+lay_node-returns-in_err-own-clause-memory g t c =
+    let packed = values_packed c.args.node (tier_sizes c.args.cells.now.tiers) c.args.values c.count.result c.requires.ground.cell_sizes_are
+    (c.count.ensures ∙ sym (rank-ones c.args.values 32 (omega arith))) c.requires.values (own_within c.args.from.now c.args.node c.args.levels c.requires.source) in
+    let split = slots_split value_slots c.args.from.now.slots c.args.levels c.args.node in
+    let space = c.requires.space.of_cells in
+    let memory : c.in_err-own.field-0.0 ≡ Memory =
+    for_memory c.in_err-own.field-0.0 (λ is. let past = c.in_err-own.ensures.range is in absurd (omega (arith, past, packed, split, space))) in
+    search (rules, memory)
+
+pub lay_node-returns-then-is_bare-clause-longer : goal.lay_node-returns-then-is_bare-clause-longer
+lay_node-returns-then-is_bare-clause-longer g t c =
+    let last : c.loop-child.child ≡ 32 = (let h = c.loop-child-test.false in let e = c.loop-child.auto.child-end in omega (arith, h, e)) in
+    let all = subst (LaidTo c.args.from.now.slots c.args.levels c.args.node c.args.nodes.now c.loop-child.nodes c.args.cells.now c.loop-child.cells) last c.loop-child.invariant.longer in
+    laid_whole c.args.from.now.slots c.args.levels c.args.node c.args.nodes.now c.loop-child.nodes c.args.cells.now c.loop-child.cells c.loop-child.nodes all (omega arith)
+
+pub lay_node-returns-in_err-list-clause-memory : goal.lay_node-returns-in_err-list-clause-memory
+lay_node-returns-in_err-list-clause-memory g t c =
+    let last : c.loop-child.child ≡ 32 = (let h = c.loop-child-test.false in let e = c.loop-child.auto.child-end in omega (arith, h, e)) in
+    let all = subst (LaidTo c.args.from.now.slots c.args.levels c.args.node c.args.nodes.now c.loop-child.nodes c.args.cells.now c.loop-child.cells) last c.loop-child.invariant.longer in
+    let packed = children_packed c.args.node (tier_sizes c.loop-child.nodes.tiers) c.args.children (length c.deref.result.now) c.loop-child.invariant.ground.node_sizes_are
+    (let same = ap (λ (xs : List Node). length xs) c.deref.ensures.0 in
+    let few = subst (λ n. length c.loop-child.below.items ≤ rank c.args.children n) last c.loop-child.invariant.few in omega (arith, same, few))
+    c.requires.children in
+    let space = space_for_all c.args.from.now.slots c.args.levels c.args.node c.args.nodes.now c.loop-child.nodes c.args.cells.now c.loop-child.cells c.requires.space
+    c.loop-child.invariant.nodes.keeps.limit_is c.loop-child.invariant.cells.keeps.limit_is all in
+    let memory : c.in_err-list.field-0.0 ≡ Memory =
+    for_memory c.in_err-list.field-0.0 (λ is. let past = c.in_err-list.ensures.range is in absurd (omega (arith, past, packed, space))) in
+    search (rules, memory)
+
+pub lay_node-returns-clause-longer : goal.lay_node-returns-clause-longer
+lay_node-returns-clause-longer g t c =
+    let last : c.loop-child.child ≡ 32 = (let h = c.loop-child-test.false in let e = c.loop-child.auto.child-end in omega (arith, h, e)) in
+    let all = subst (LaidTo c.args.from.now.slots c.args.levels c.args.node c.args.nodes.now c.loop-child.nodes c.args.cells.now c.loop-child.cells) last c.loop-child.invariant.longer in
+    let packed = children_packed c.args.node (tier_sizes c.loop-child.nodes.tiers) c.args.children (length c.deref.result.now) c.loop-child.invariant.ground.node_sizes_are
+    (let same = ap (λ (xs : List Node). length xs) c.deref.ensures.0 in
+    let few = subst (λ n. length c.loop-child.below.items ≤ rank c.args.children n) last c.loop-child.invariant.few in omega (arith, same, few))
+    c.requires.children in
+    let long = c.in_ok-list.ensures.longer in
+    laid_whole c.args.from.now.slots c.args.levels c.args.node c.args.nodes.now c.loop-child.nodes c.args.cells.now c.loop-child.cells c.lay.new.self all (omega (arith, long, packed))

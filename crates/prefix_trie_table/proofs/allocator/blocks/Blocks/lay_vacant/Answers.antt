@@ -1,13 +1,15 @@
-use Rattle.std.proofs.Common.{◌≡◌, ◌-◌, ◌<◌, [], ◌∷◌, ◌++◌, Some, length, replicate, sym, ap, ◌∙◌, subst, arith, rules}
+use Rattle.std.proofs.Common.{◌≡◌, ◌+◌, ◌-◌, ◌<◌, [], ◌∷◌, ◌++◌, Some, length, replicate, sym, ap, ◌∙◌, subst, arith, rules}
 use Rattle.std.proofs.lemmas.List.{length-replicate}
-use Rattle.prefix_trie_table.specs.Store.{Sound, block, free_at, grown_times, tier_at, tier_for}
-use Rattle.prefix_trie_table.proofs.Blocks.Laying.{Sound-vacant, laid_none_free, laid_keeps}
+use Rattle.prefix_trie_bits.specs.Model.HandsOut.{packed_slots}
+use Rattle.prefix_trie_bits.specs.declared.prefix.Refusal.TheVariants.{IndexRange}
+use Rattle.prefix_trie_table.specs.Store.{Sound, block, free_at, grown_times, tier_at, tier_for, tier_sizes}
+use Rattle.prefix_trie_table.proofs.Blocks.Laying.{Sound-vacant, laid_none_free, laid_keeps, laid_longer, laid_range}
 use Rattle.prefix_trie_table.proofs.Blocks.Soundness.{tier_for_holds}
 use Rattle.prefix_trie_table.proofs.Tree.Trees.{held_some}
 use Rattle.prefix_trie_table.proofs.allocator.blocks.Blocks.lay_vacant.Goals as goal
 
-pub returns : goal.returns
-returns g c =
+pub returns-clause-laid : goal.returns-clause-laid
+returns-clause-laid g c =
     let v = c.args.self.now in
     let k = c.unwrap-tier.result in
     let u = c.obtain.new.self in
@@ -28,3 +30,21 @@ returns g c =
       keeps = laid_keeps g.S.Slot.vacant v u c.take-start.new.self k holds.0 grew ready c.take-start.ensures.value c.requires.sound.0 c.requires.sound.1 c.obtain.ensures.prepared;
       none_free = laid_none_free g.S.Slot.vacant v u c.take-start.new.self k holds.0 grew ready c.take-start.ensures.value;
     }
+
+pub returns-clause-longer : goal.returns-clause-longer
+returns-clause-longer g c =
+    let v = c.args.self.now in
+    let k = c.unwrap-tier.result in
+    let found : tier_for v.tiers c.args.count ≡ Some k = sym c.tier_for.ensures ∙ c.unwrap-tier.ensures in
+    let grew : c.obtain.new.self ≡ grown_times g.S.Slot.vacant v k (1 - free_at v.tiers k) = search rules in
+    laid_longer g.S.Slot.vacant v c.obtain.new.self k c.args.count found (let some = c.if-count-eq0.false in omega (arith, some)) c.take-start.new.self grew c.take-start.ensures.value
+
+pub returns-in_err-obtain-clause-range : goal.returns-in_err-obtain-clause-range
+returns-in_err-obtain-clause-range g c =
+    let v = c.args.self.now in
+    let k = c.unwrap-tier.result in
+    let found : tier_for v.tiers c.args.count ≡ Some k = sym c.tier_for.ensures ∙ c.unwrap-tier.ensures in
+    let made = c.in_err-obtain.ensures.err in
+    let full : c.in_err-obtain.field-0.0 ≡ IndexRange → v.limit < length v.slots + packed_slots (tier_sizes v.tiers) c.args.count =
+    λ is. laid_range g.S.Slot.vacant v c.obtain.new.self k c.args.count found (let some = c.if-count-eq0.false in omega (arith, some)) made.0 made.1 made.2 (c.in_err-obtain.ensures.range.0 is) in
+    search (rules, full)

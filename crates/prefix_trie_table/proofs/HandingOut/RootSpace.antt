@@ -1,0 +1,101 @@
+-- A second table never needs more slots than the first has.
+use Rattle.std.proofs.Common.{◌≡◌, ℕ, zero, suc, ◌+◌, ◌<◌, ◌≤◌, true, List, [], ◌∷◌, length, map, flat_map, sum_by, Option, None, Some, refl, sym, ap, ◌∙◌, arith}
+use Rattle.std.proofs.lemmas.List.Sums.{sum_by-le-sum_by}
+use Rattle.prefix_trie_bits.specs.Model.Blocks.{Block as Extent, HasBlock}
+use Rattle.prefix_trie_bits.specs.Model.HandsOut.{packed_slots}
+use Rattle.prefix_trie_bits.specs.Model.Step.{State}
+use Rattle.prefix_trie_bits.proofs.Model.Storage.Readied.{goes_up}
+use Rattle.prefix_trie_bits.proofs.Model.Storage.Shrinking.{smallest_of}
+use Rattle.prefix_trie_table.specs.declared.allocator.node.Node.{Node}
+use Rattle.prefix_trie_table.specs.Bitmaps.{rank, bits}
+use Rattle.prefix_trie_table.specs.Cells.{blank_node, node_at, node_sizes, cell_sizes}
+use Rattle.prefix_trie_table.specs.Forest.{own_count, child_items, child_blocks, child_blocks_of, value_blocks, value_blocks_of}
+use Rattle.prefix_trie_table.specs.HandingOut.{child_slots, value_slots, slots_below, HasSpace}
+use Rattle.prefix_trie_table.specs.Layouts.{own_children}
+use Rattle.prefix_trie_table.specs.OwnBlocks.{size_if_any, child_block_size, value_block_size}
+use Rattle.prefix_trie_table.specs.Store.{Store, UsedBlock, Sound, extent, free_extents, held, size_in, tier_sizes}
+use Rattle.prefix_trie_table.specs.Tables.{IsTrie}
+use Rattle.prefix_trie_table.proofs.Blocks.Housed.{children_housed, values_housed}
+use Rattle.prefix_trie_table.proofs.Blocks.SlotSums.{sum_by-flat_map, sum_by-mapped}
+use Rattle.prefix_trie_table.proofs.Blocks.Tilings.{blocks_sum}
+use Rattle.prefix_trie_table.proofs.Counts.EntryCounts.{size_of_extent, tiling-sum}
+use Rattle.prefix_trie_table.proofs.HandingOut.WholeTree.{own_of, whole_tree}
+use Rattle.prefix_trie_table.proofs.Strings.BitLists.{rank-all}
+use Rattle.prefix_trie_table.proofs.Tree.Invariant.{some_table}
+
+-- the slots of the blocks in use stand in the array behind its first
+blocks_within : {S : Type 0} (vacant : S) {X : Type 0} (f : X → List (UsedBlock S)) (xs : List X) (v : Store S) → Sound vacant (flat_map f xs) v →
+    v.first + sum_by (λ x. sum_by (λ b. b.size) (f x)) xs ≤ length v.slots
+blocks_within vacant f xs v s =
+    omega (
+      arith,
+      tiling-sum (tier_sizes v.tiers) v.first (length v.slots) s.blocks.blocks s.blocks.tiles,
+      blocks_sum (tier_sizes v.tiers) v.first (length v.slots) (map extent (flat_map f xs)) (free_extents v.tiers) s.blocks size_of_extent,
+      sum_by-mapped size_of_extent extent (flat_map f xs),
+      sum_by-flat_map (λ b. b.size) f xs,
+    )
+
+-- the smallest block is no larger than the one that a list has
+packed_within : {S : Type 0} (sizes : List ℕ) → goes_up 0 sizes ≡ true → (count k start : ℕ) (items : List S) → length items ≡ count →
+    HasBlock sizes count (size_if_any count (size_in sizes k)) → packed_slots sizes count ≤ sum_by (λ b. b.size) (held k start (size_in sizes k) items)
+packed_within sizes up zero k start items e has = omega arith
+packed_within sizes up (suc n) k start [] e has = absurd (omega (arith, e))
+packed_within sizes up (suc n) k start (x ∷ items) e has =
+    let least = smallest_of 0 sizes up (suc n) has.0 has.2 has.3 in
+    let size : has.0 ≡ size_in sizes k = some_size (size_in sizes k) has.0 has.1 in
+    let packed : packed_slots sizes (suc n) ≡ least.size = ap slots_in least.found in
+    let less = least.least in omega (arith, size, packed, less)
+  where
+    some_size : (a b : ℕ) → Some a ≡ Some b → b ≡ a
+    some_size a b same = cc
+
+    slots_in : Option ℕ → ℕ
+    slots_in p = elim p as (λ _. ℕ) [
+      | None ↦ 0
+      | Some size ↦ size
+    ]
+
+module _ {T : Type 0} (width count : ℕ) (v : Store Node) (w : Store (Option T)) (s : State T) (trie : IsTrie width count v w s) where
+  abbrev reading : List ℕ → Option Node
+  reading = trie.table.reading
+
+  abbrev paths : List (List ℕ)
+  paths = trie.table.paths
+
+  nodes_at : (x : List ℕ) → own_of child_slots reading paths v trie.table.nodes (reading x) ≤ sum_by (λ b. b.size) (child_blocks node_sizes reading x)
+  nodes_at x = by (reading x) (children_housed reading trie.table.values paths v w (some_table trie.table).holds x)
+    where
+      by : (o : Option Node) → HasBlock node_sizes (own_children o) (child_block_size o) →
+          own_of child_slots reading paths v trie.table.nodes o ≤ sum_by (λ b. b.size) (child_blocks_of node_sizes reading x o)
+      by None has = omega arith
+      by (Some n) has =
+          packed_within node_sizes refl (rank n.child_bitmap 32) n.child_tier n.child_block (child_items reading x n.child_bitmap)
+          (rank-all _ n.child_bitmap) has
+
+  cells_at : (x : List ℕ) → own_of value_slots reading paths v trie.table.nodes (reading x) ≤ sum_by (λ b. b.size) (value_blocks cell_sizes reading trie.table.values x)
+  cells_at x = by (reading x) (values_housed reading trie.table.values paths v w (some_table trie.table).holds x)
+    where
+      by : (o : Option Node) → HasBlock cell_sizes (own_count o) (value_block_size o) →
+          own_of value_slots reading paths v trie.table.nodes o ≤ sum_by (λ b. b.size) (value_blocks_of cell_sizes trie.table.values x o)
+      by None has = omega arith
+      by (Some n) has =
+          packed_within cell_sizes refl (rank n.value_bitmap 32) n.value_tier n.value_block (map (trie.table.values x) (bits n.value_bitmap))
+          (rank-all _ n.value_bitmap) has
+
+  -- new arrays under the same limit have space for all
+  pub root_space : (levels : ℕ) (v1 : Store Node) (w1 : Store (Option T)) → length v1.slots ≡ 1 → length w1.slots ≡ 0 → v1.limit ≡ v.limit → w1.limit ≡ v.limit →
+      HasSpace (slots_below child_slots v.slots levels (node_at v.slots 0)) (slots_below value_slots v.slots levels (node_at v.slots 0)) v1 w1
+  root_space levels v1 w1 one none node_limit cell_limit = record {
+    of_nodes =
+        (let tree = whole_tree child_slots reading paths v trie.table.nodes levels (node_at v.slots 0) trie.table.nodes.rooted in
+        let sums = sum_by-le-sum_by _ (λ x. sum_by (λ b. b.size) (child_blocks node_sizes reading x)) paths nodes_at in
+        let within = blocks_within blank_node (child_blocks node_sizes reading) paths v trie.table.nodes.sound in
+        let first = trie.table.nodes.first_is in
+        let limit = trie.table.nodes_within in omega (arith, tree, sums, within, first, limit, one, node_limit));
+    of_cells =
+        (let tree = whole_tree value_slots reading paths v trie.table.nodes levels (node_at v.slots 0) trie.table.nodes.rooted in
+        let sums = sum_by-le-sum_by _ (λ x. sum_by (λ b. b.size) (value_blocks cell_sizes reading trie.table.values x)) paths cells_at in
+        let within = blocks_within None (value_blocks cell_sizes reading trie.table.values) paths w trie.table.cells.sound in
+        let limit = trie.table.cells_within in
+        let same = trie.table.one_limit in omega (arith, tree, sums, within, limit, same, none, cell_limit));
+  }
