@@ -1,5 +1,5 @@
 -- The nodes of a table have as many values as it has entries.
-use Rattle.std.proofs.Common.{◌≡◌, ℕ, suc, ◌+◌, ◌-◌, ◌*◌, ◌/◌, ◌%◌, ◌<◌, ◌≤◌, inl, inr, Bool, true, false, cond, ◌&&◌, nat_lt, List, [], ◌∷◌, ◌++◌, length, length-drop, take, drop, filter, sum_by, Option, None, Some, is_some, refl, sym, ap, ap₂, ◌∙◌, subst, arith, ltb-true, eq-eqb}
+use Rattle.std.proofs.Common.{◌≡◌, ℕ, ◌+◌, ◌-◌, ◌/◌, ◌%◌, ◌<◌, ◌≤◌, Bool, true, false, cond, ◌&&◌, nat_lt, List, [], ◌∷◌, length, length-drop, drop, filter, sum_by, Option, None, Some, is_some, refl, sym, ap, ◌∙◌, subst, arith, ltb-true, eq-eqb}
 use Rattle.std.proofs.lemmas.Bool.{false≢true, lt-ltb}
 use Rattle.std.proofs.lemmas.List.{take_all, length-map}
 use Rattle.std.proofs.lemmas.List.Elements.{All-head, All-tail, All-map, All-weaker, All-contains_itself}
@@ -13,7 +13,6 @@ use Rattle.prefix_trie_bits.specs.Model.Entries.{Entries}
 use Rattle.prefix_trie_bits.proofs.Model.Members.{and-first, and-second, and-join}
 use Rattle.prefix_trie_bits.proofs.Model.Ordered.{find-from_Contains}
 use Rattle.prefix_trie_table.specs.declared.allocator.node.Node.{Node}
-use Rattle.prefix_trie_table.specs.Bitmaps.{has_bit, rank}
 use Rattle.prefix_trie_table.specs.Cells.{node_sizes, cell_sizes}
 use Rattle.prefix_trie_table.specs.Digits.{path_of, bit_of}
 use Rattle.prefix_trie_table.specs.Forest.{same_path, one_if, times, is_start, has_value, own_count, entry_count, NodesHold, CellsHold}

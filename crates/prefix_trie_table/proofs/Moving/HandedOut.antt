@@ -1,11 +1,10 @@
 -- A table split along a bit string, as contracts see both parts.
-use Rattle.std.proofs.Common.{◌≡◌, ℕ, ◌+◌, ◌-◌, ◌<◌, ◌≤◌, Bool, List, length, Option, Some, refl, sym, ap, ◌∙◌, subst, arith}
+use Rattle.std.proofs.Common.{◌≡◌, ℕ, ◌+◌, ◌-◌, ◌<◌, ◌≤◌, Bool, List, length, Option, refl, sym, ap, ◌∙◌, subst, arith}
 use Rattle.std.specs.FinMap.{len}
-use Rattle.prefix_trie_bits.specs.declared.prefix.Refusal.{Refusal}
 use Rattle.prefix_trie_bits.specs.declared.prefix.Refusal.TheVariants.{IndexRange}
 use Rattle.prefix_trie_bits.specs.Model.Blocks.{no_layout}
 use Rattle.prefix_trie_bits.specs.Model.Entries.{without_below, part_below}
-use Rattle.prefix_trie_bits.specs.Model.HandsOut.{HandsOut, IsPacked, HandsOutInStorage}
+use Rattle.prefix_trie_bits.specs.Model.HandsOut.{IsPacked, HandsOutInStorage}
 use Rattle.prefix_trie_bits.specs.Model.Nodes.{needed, nodes_without_below}
 use Rattle.prefix_trie_bits.specs.Model.Step.{State, Reply, RemoveChildren, Clear, Done}
 use Rattle.prefix_trie_bits.specs.Model.Storage.{Storage, StepOfStrings}
@@ -13,12 +12,11 @@ use Rattle.prefix_trie_bits.proofs.Model.HandsOut.{handing_laws}
 use Rattle.prefix_trie_table.specs.declared.allocator.node.Node.{Node}
 use Rattle.prefix_trie_table.specs.Cells.{blank_node, node_sizes}
 use Rattle.prefix_trie_table.specs.Forest.{read}
-use Rattle.prefix_trie_table.specs.HandingOut.{IsPackedNode}
 use Rattle.prefix_trie_table.specs.Laying.{NoneFree}
 use Rattle.prefix_trie_table.specs.Layouts.{Sized}
 use Rattle.prefix_trie_table.specs.Shape.{Shaped, same_shape}
 use Rattle.prefix_trie_table.specs.Skeleton.{IsSecond}
-use Rattle.prefix_trie_table.specs.Store.{Store, Tier, free_at}
+use Rattle.prefix_trie_table.specs.Store.{Store, free_at}
 use Rattle.prefix_trie_table.specs.Tables.{IsTable, IsTrie}
 use Rattle.prefix_trie_table.proofs.Blocks.Sizing.{storage_of}
 use Rattle.prefix_trie_table.proofs.Blocks.Soundness.{first_place}

@@ -1,9 +1,9 @@
 -- Where each block is the smallest that holds its list and none is free, slots are numbers of the entries and the nodes.
-use Rattle.std.proofs.Common.{◌≡◌, ℕ, zero, suc, ◌+◌, ◌<◌, ◌≤◌, Bool, true, ◌&&◌, List, [], ◌∷◌, ◌++◌, length, map, flat_map, replicate, sum_by, Option, None, Some, is_some, refl, sym, ap, ap₂, ◌∙◌, subst, arith, eq-eqb, ◌%◌}
+use Rattle.std.proofs.Common.{◌≡◌, ℕ, zero, suc, ◌+◌, ◌<◌, Bool, true, ◌&&◌, List, [], ◌∷◌, ◌++◌, length, map, flat_map, replicate, sum_by, Option, None, Some, is_some, refl, sym, ap, ap₂, ◌∙◌, arith, eq-eqb, ◌%◌}
 use Rattle.std.proofs.lemmas.List.{length-map}
 use Rattle.std.specs.FinMap.{get, entries, keys}
-use Rattle.prefix_trie_bits.specs.Model.Blocks.{Sizes, Block as Extent, no_layout, child_block_sizes, value_block_sizes, child_count, own_entries}
-use Rattle.prefix_trie_bits.specs.Model.HandsOut.{packed_block, packed_slots, packed_node_slots, packed_cell_slots, ArePacked, IsPacked}
+use Rattle.prefix_trie_bits.specs.Model.Blocks.{Sizes, child_block_sizes, value_block_sizes, child_count, own_entries}
+use Rattle.prefix_trie_bits.specs.Model.HandsOut.{packed_block, packed_slots, packed_node_slots, packed_cell_slots, IsPacked}
 use Rattle.prefix_trie_bits.specs.Model.Nodes.{Nodes, has_node, is_node_depth}
 use Rattle.prefix_trie_bits.specs.Model.Step.{State}
 use Rattle.prefix_trie_bits.proofs.Model.Members.{and-first}
@@ -16,7 +16,7 @@ use Rattle.prefix_trie_table.specs.HandingOut.{IsPackedNode}
 use Rattle.prefix_trie_table.specs.Laying.{NoneFree}
 use Rattle.prefix_trie_table.specs.Layouts.{AreSizesBy, Sized, own_children, size_if_any, child_block_size, value_block_size, free_counts}
 use Rattle.prefix_trie_table.specs.Shape.{IsShapeOf}
-use Rattle.prefix_trie_table.specs.Store.{Store, Tier, UsedBlock, Sound, block, extent, of_size, free_at, free_extents, tier_sizes}
+use Rattle.prefix_trie_table.specs.Store.{Store, Tier, UsedBlock, Sound, extent, of_size, free_at, free_extents, tier_sizes}
 use Rattle.prefix_trie_table.proofs.Blocks.Housed.{child_blocks_housed, value_blocks_housed}
 use Rattle.prefix_trie_table.proofs.Blocks.Sizing.{storage_of}
 use Rattle.prefix_trie_table.proofs.Blocks.SlotSums.{sum_by-flat_map, sum_by-mapped}

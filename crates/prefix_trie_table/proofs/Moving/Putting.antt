@@ -1,5 +1,5 @@
 -- Values put into the vacant cells of blocks that are laid.
-use Rattle.std.proofs.Common.{◌≡◌, ◌≢◌, ℕ, ◌+◌, ◌<◌, Bool, true, false, cond, List, [], ◌∷◌, ◌++◌, length, set, map, flat_map, Option, None, Some, refl, sym, ap, ◌∙◌, subst, arith}
+use Rattle.std.proofs.Common.{◌≡◌, ◌≢◌, ℕ, ◌+◌, ◌<◌, Bool, true, cond, List, [], ◌∷◌, ◌++◌, set, map, flat_map, Option, None, Some, refl, sym, ap, ◌∙◌, subst, arith}
 use Rattle.std.proofs.lemmas.Bool.{false≢true}
 use Rattle.std.proofs.lemmas.List.{length-set}
 use Rattle.std.proofs.lemmas.List.Elements.{All-head, All-tail}
@@ -9,11 +9,11 @@ use Rattle.prefix_trie_table.specs.declared.table.seat.Seat.{Seat}
 use Rattle.prefix_trie_table.specs.Bitmaps.{has_bit, bits, rank}
 use Rattle.prefix_trie_table.specs.Cells.{node_sizes, cell_sizes}
 use Rattle.prefix_trie_table.specs.Digits.{path_of, bit_of}
-use Rattle.prefix_trie_table.specs.Forest.{same_path, times, without, held, size_in, has_value, with_value, NodesHold, value_blocks, value_blocks_of}
+use Rattle.prefix_trie_table.specs.Forest.{times, without, held, size_in, has_value, with_value, NodesHold, value_blocks, value_blocks_of}
 use Rattle.prefix_trie_table.specs.Locations.{value_seat, seat_in, seat_of}
 use Rattle.prefix_trie_table.specs.Moving.{filled_with}
 use Rattle.prefix_trie_table.specs.Slots.{with_cell}
-use Rattle.prefix_trie_table.specs.Store.{Store, UsedBlock, Sound, block, tier_sizes}
+use Rattle.prefix_trie_table.specs.Store.{Store, UsedBlock, Sound, block}
 use Rattle.prefix_trie_table.proofs.Blocks.Soundness.{Sound-set}
 use Rattle.prefix_trie_table.proofs.Lookup.Locating.{seat_reads}
 use Rattle.prefix_trie_table.proofs.Strings.Bits.{has_bit-below}

@@ -1,5 +1,5 @@
 -- A second table whose blocks are laid is a table once all values have come.
-use Rattle.std.proofs.Common.{◌≡◌, ℕ, ◌+◌, ◌*◌, ◌/◌, ◌%◌, ◌<◌, ◌≤◌, inl, inr, Bool, true, false, cond, ◌&&◌, List, [], ◌∷◌, ◌++◌, length, take, Option, None, Some, is_some, refl, sym, ap, ap₂, ◌∙◌, subst, arith, eqb-true, eq-eqb}
+use Rattle.std.proofs.Common.{◌≡◌, ℕ, ◌/◌, ◌%◌, ◌<◌, inl, inr, Bool, true, false, cond, ◌&&◌, List, [], ◌∷◌, ◌++◌, length, Option, None, Some, is_some, refl, sym, ap, ap₂, ◌∙◌, subst, arith, eqb-true, eq-eqb}
 use Rattle.std.proofs.lemmas.Bool.{false≢true, cases_Bool}
 use Rattle.std.proofs.lemmas.List.{take_at}
 use Rattle.std.proofs.lemmas.List.Elements.{All-weaker, All-contains_itself}
@@ -8,29 +8,29 @@ use Rattle.std.specs.FinMap.{get, contains_key, len, entries, entries_sorted, ge
 use Rattle.prefix_trie_bits.specs.Bits.{begins}
 use Rattle.prefix_trie_bits.specs.Begins.{same_bool}
 use Rattle.prefix_trie_bits.specs.Places.{value_bit}
-use Rattle.prefix_trie_bits.specs.Model.Entries.{Entries, AreWithin, part_below}
+use Rattle.prefix_trie_bits.specs.Model.Entries.{AreWithin, part_below}
 use Rattle.prefix_trie_bits.specs.Model.Nodes.{has_node, is_node_depth, needed}
 use Rattle.prefix_trie_bits.specs.Model.Step.{State}
 use Rattle.prefix_trie_bits.proofs.Model.Members.{and-first, and-second, and-join, get-part_below, needed_for, needs, needs_root}
 use Rattle.prefix_trie_bits.proofs.Model.NodeSets.{AreNodes-needed}
 use Rattle.prefix_trie_bits.proofs.Model.Ordered.{find-from_Contains}
 use Rattle.prefix_trie_table.specs.declared.allocator.node.Node.{Node}
-use Rattle.prefix_trie_table.specs.Cells.{node_sizes, cell_sizes}
-use Rattle.prefix_trie_table.specs.Digits.{path_of, rest_of, bit_of}
-use Rattle.prefix_trie_table.specs.Forest.{read, times, one_if, is_start, has_value, NodesHold, CellsHold, Holds, SomeTable}
+use Rattle.prefix_trie_table.specs.Cells.{node_sizes}
+use Rattle.prefix_trie_table.specs.Digits.{path_of, bit_of}
+use Rattle.prefix_trie_table.specs.Forest.{times, one_if, is_start, has_value, NodesHold, Holds}
 use Rattle.prefix_trie_table.specs.HandingOut.{no_value}
 use Rattle.prefix_trie_table.specs.Moving.{filled_with}
 use Rattle.prefix_trie_table.specs.Shape.{IsShapeOf}
 use Rattle.prefix_trie_table.specs.Skeleton.{IsSkeleton, IsSecond}
 use Rattle.prefix_trie_table.specs.Store.{Store, tier_sizes}
-use Rattle.prefix_trie_table.specs.Tables.{IsTable, IsTrie}
+use Rattle.prefix_trie_table.specs.Tables.{IsTrie}
 use Rattle.prefix_trie_table.proofs.Lookup.Finding.{prefix_some}
 use Rattle.prefix_trie_table.proofs.Moving.Coming.{long_cells}
 use Rattle.prefix_trie_table.proofs.Moving.Counting.{values_all}
-use Rattle.prefix_trie_table.proofs.Moving.Putting.{InBlocks, HasPlace, with_values, put_all, filled_same}
+use Rattle.prefix_trie_table.proofs.Moving.Putting.{HasPlace, put_all, filled_same}
 use Rattle.prefix_trie_table.proofs.Moving.Valued.{entry_values, entry_there, none_there}
 use Rattle.prefix_trie_table.proofs.Strings.Keys.{same_way, begins-way}
-use Rattle.prefix_trie_table.proofs.Strings.PathStrings.{IsStep, string_at, string_depth, string_path, paths_steps}
+use Rattle.prefix_trie_table.proofs.Strings.PathStrings.{string_at, string_depth, string_path, paths_steps}
 use Rattle.prefix_trie_table.proofs.Strings.Placing.{below_node, string_at as string_of}
 use Rattle.prefix_trie_table.proofs.Strings.Plain.{five_times}
 use Rattle.prefix_trie_table.proofs.Strings.Starts.{is_start_take}

@@ -1,14 +1,13 @@
 -- The values of a second table once all have come, by string.
-use Rattle.std.proofs.Common.{◌≡◌, ◌≢◌, ℕ, ◌+◌, ◌<◌, ◌⊎◌, inl, inr, Bool, true, false, cond, ◌&&◌, T as IsT, List, [], ◌∷◌, ◌++◌, length, Option, None, Some, is_some, refl, sym, ap, ap₂, ◌∙◌, subst, arith}
+use Rattle.std.proofs.Common.{◌≡◌, ℕ, Bool, true, false, cond, T as IsT, List, [], ◌∷◌, ◌++◌, Option, None, Some, refl, sym, ap, ap₂, ◌∙◌}
 use Rattle.std.proofs.lemmas.Bool.{false≢true}
-use Rattle.std.proofs.lemmas.List.Elements.{All-head, All-tail, All-weaker, All-contains_itself}
-use Rattle.std.specs.List.{All, Contains}
-use Rattle.std.specs.FinMap.{get, contains_key, entries, entries_sorted, get-entries, is_sorted, find}
-use Rattle.prefix_trie_bits.specs.Bits.{begins}
+use Rattle.std.proofs.lemmas.List.Elements.{All-head, All-tail}
+use Rattle.std.specs.List.{All}
+use Rattle.std.specs.FinMap.{get, entries, entries_sorted, get-entries, is_sorted, find}
 use Rattle.prefix_trie_bits.specs.Order.{listing_cmp, same_string}
 use Rattle.prefix_trie_bits.specs.Model.Entries.{Entries}
-use Rattle.prefix_trie_bits.proofs.Model.Members.{same_string-is, is-same_string}
-use Rattle.prefix_trie_bits.proofs.Model.Ordered.{sorted-head, sorted-tail, each-behind, not_itself, find-from_Contains}
+use Rattle.prefix_trie_bits.proofs.Model.Members.{same_string-is}
+use Rattle.prefix_trie_bits.proofs.Model.Ordered.{sorted-head, sorted-tail, each-behind, not_itself}
 use Rattle.prefix_trie_table.specs.declared.allocator.node.Node.{Node}
 use Rattle.prefix_trie_table.specs.Cells.{node_sizes}
 use Rattle.prefix_trie_table.specs.Digits.{path_of, bit_of}

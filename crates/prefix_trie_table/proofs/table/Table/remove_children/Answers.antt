@@ -1,8 +1,7 @@
-use Rattle.std.proofs.Common.{◌≡◌, ℕ, ◌-◌, ◌<◌, List, Bool, length, take, refl, sym, ap, ap₂, ◌∙◌, subst, arith, length-take-le}
-use Rattle.std.specs.FinMap.{len}
-use Rattle.prefix_trie_bits.specs.Model.Entries.{part_below, without_below}
+use Rattle.std.proofs.Common.{◌≡◌, ◌<◌, length, take, refl, sym, ap, ap₂, ◌∙◌, subst, arith, length-take-le}
+use Rattle.prefix_trie_bits.specs.Model.Entries.{part_below}
 use Rattle.prefix_trie_bits.specs.Model.HandsOut.{IsPacked}
-use Rattle.prefix_trie_bits.specs.Model.Nodes.{needed, nodes_without_below}
+use Rattle.prefix_trie_bits.specs.Model.Nodes.{needed}
 use Rattle.prefix_trie_bits.specs.Model.Step.{State, RemoveChildren, Done}
 use Rattle.prefix_trie_bits.specs.Model.Storage.{StepOfStrings}
 use Rattle.prefix_trie_table.specs.Layouts.{Sized-prop}
@@ -14,7 +13,6 @@ use Rattle.prefix_trie_table.proofs.Moving.HandedOut.{rest_counted, shape_seen, 
 use Rattle.prefix_trie_table.proofs.Removal.PartTaken.{seen_trie}
 use Rattle.prefix_trie_table.proofs.Tree.Invariant.{some_table}
 use Rattle.prefix_trie_table.proofs.Tree.Stated.{all_step, part_step, settles_in}
-use Rattle.prefix_trie_table.proofs.table.Table.remove_children.Given as given
 use Rattle.prefix_trie_table.proofs.table.Table.remove_children.Goals as goal
 use Rattle.prefix_trie_table.proofs.table.Table.remove_children.Goals.{then-len-eq0, else-len-eq0}
 

@@ -1,4 +1,4 @@
-use Rattle.std.proofs.Common.{◌≡◌, List, [], Bool, take}
+use Rattle.std.proofs.Common.{[], take}
 use Rattle.std.specs.FinMap.{len, entries}
 use Rattle.prefix_trie_bits.specs.Model.Entries.{part_below}
 use Rattle.prefix_trie_bits.specs.Model.Nodes.{needed}
