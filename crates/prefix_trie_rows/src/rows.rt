@@ -4,6 +4,7 @@ mod blocks;
 mod edges;
 mod entries;
 mod equality;
+mod handing;
 mod limits;
 mod lookups;
 mod narrow;
@@ -57,7 +58,7 @@ pub enum Set {
 }
 
 /// The rows in order, each with its number.
-pub const ROWS: [(u32, Row); 43] = [
+pub const ROWS: [(u32, Row); 46] = [
     (1, &[Table::Ipv4(&lookups::EXACT)]),
     (2, &[Table::Ipv4(&entries::HOST_BITS)]),
     (3, &[Table::Ipv4(&lookups::MATCHES)]),
@@ -162,6 +163,15 @@ pub const ROWS: [(u32, Row); 43] = [
             Table::Narrow5(&narrow::FIVE_BITS),
         ],
     ),
+    (47, &[Table::Ipv4(&handing::A_NETWORK)]),
+    (
+        48,
+        &[
+            Table::U32(&handing::ALL_AND_NONE),
+            Table::Set(Set::U32(&handing::ALL_KEYS)),
+        ],
+    ),
+    (49, &[Table::U8(&handing::UNDER_THREE_SLOTS)]),
 ];
 
 /// Whether each table of a row comes out as it should.

@@ -3,6 +3,7 @@ ghost use Rattle.std.specs.Prelude.{IfSome};
 
 mod collecting;
 mod entries;
+mod handing;
 pub mod narrow;
 mod numbers;
 pub mod sets;
@@ -65,7 +66,9 @@ pub enum Line {
     CoverValues(Pair, &'static [u64]),
     Remove(Pair, Option<u64>),
     RemoveKeepTree(Pair, Option<u64>),
-    RemoveChildren(Pair),
+    DropChildren(Pair),
+    /// What the map that is handed out answers.
+    RemoveChildren(Pair, &'static [Line]),
     /// The prefix of an entry.
     EntryKey(Pair, Pair),
     /// The value of an entry.
@@ -176,7 +179,8 @@ fn holds<P: Written>(alloc: Global, map: &mut Map<P>, line: &Line) -> bool {
         Line::GetLpmMut(pair, value, answer) => writes(map, *pair, *value, *answer),
         Line::Remove(pair, answer) => removes(map, *pair, *answer),
         Line::RemoveKeepTree(pair, answer) => removes_keeping_tree(map, *pair, *answer),
-        Line::RemoveChildren(pair) => removes_children(map, *pair),
+        Line::DropChildren(pair) => drops_children(map, *pair),
+        Line::RemoveChildren(pair, lines) => handing::hands_out(map, *pair, lines),
         Line::Retain(asked) => retains(map, asked),
         Line::Clear => clears(map),
         Line::IterFromMut(pair, inclusive, more) => writing::adds(map, *pair, *inclusive, *more),
@@ -315,10 +319,10 @@ fn removes_keeping_tree<P: Written>(map: &mut Map<P>, pair: Pair, answer: Option
     }
 }
 
-fn removes_children<P: Written>(map: &mut Map<P>, pair: Pair) -> bool {
+fn drops_children<P: Written>(map: &mut Map<P>, pair: Pair) -> bool {
     match fitting::<P>(pair) {
         Some(prefix) => {
-            map.remove_children(&prefix);
+            map.drop_children(&prefix);
             true
         }
         None => false,

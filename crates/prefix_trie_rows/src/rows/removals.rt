@@ -9,7 +9,7 @@ pub const BELOW_A_NETWORK: [Line; 9] = [
     Insert((0xc0a8_0000, 24), 4, Ok(None)),
     Insert((0xc0a8_0400, 22), 5, Ok(None)),
     Insert((0xc0a8_0400, 23), 6, Ok(None)),
-    RemoveChildren((0xc0a8_0000, 22)),
+    DropChildren((0xc0a8_0000, 22)),
     Len(3),
     Values(&[1, 5, 6]),
 ];
@@ -60,7 +60,7 @@ pub const BELOW_HALF_NODES: [Line; 22] = [
     // A node is emptied from its middle, and its places are used again.
     Insert((0, 11), 1, Ok(None)),
     NodeCount(3),
-    RemoveChildren((0, 5)),
+    DropChildren((0, 5)),
     Len(0),
     NodeCount(1),
     Insert((0x8000_0000, 11), 2, Ok(None)),
@@ -73,14 +73,14 @@ pub const BELOW_HALF_NODES: [Line; 22] = [
     New,
     Insert((0, 16), 1, Ok(None)),
     NodeCount(4),
-    RemoveChildren((0, 12)),
+    DropChildren((0, 12)),
     NodeCount(1),
 
     // Another entry stands in the prefix's node.
     New,
     Insert((0, 6), 1, Ok(None)),
     Insert((0x0400_0000, 6), 2, Ok(None)),
-    RemoveChildren((0, 6)),
+    DropChildren((0, 6)),
     Len(1),
     NodeCount(2),
     Get((0x0400_0000, 6), Some(2)),
@@ -93,8 +93,8 @@ pub const EMPTY_NODES_ELSEWHERE: [Line; 9] = [
     NodeCount(4),
     Remove((0, 11), None),
     NodeCount(4),
-    RemoveChildren((0x8000_0000, 5)),
+    DropChildren((0x8000_0000, 5)),
     NodeCount(4),
-    RemoveChildren((0, 7)),
+    DropChildren((0, 7)),
     NodeCount(1),
 ];

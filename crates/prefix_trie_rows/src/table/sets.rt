@@ -18,6 +18,8 @@ pub enum SetLine {
     /// Whether the prefix is new, or why it was refused.
     Insert(Pair, Result<bool, Refusal>),
     Remove(Pair, bool),
+    /// How many keys the set has that is handed out.
+    RemoveChildren(Pair, usize),
     /// Whether the set equals that of these prefixes.
     Equals(&'static [Pair], bool),
     /// How many addresses the keys contain, if not all.
@@ -51,6 +53,7 @@ fn holds<P: Written>(alloc: Global, set: &mut Set<P>, line: &SetLine) -> bool {
         SetLine::FromIter(pairs) => renews(set, set_of(alloc, pairs)),
         SetLine::Insert(pair, answer) => inserts(set, *pair, *answer),
         SetLine::Remove(pair, answer) => removes(set, *pair, *answer),
+        SetLine::RemoveChildren(pair, count) => hands_out(set, *pair, *count),
         SetLine::Equals(pairs, answer) => equals(set, set_of(alloc, pairs), *answer),
         SetLine::AddressCount(answer) => is_number(set.address_count(), *answer),
         SetLine::Len(count) => set.len() == *count && set.is_empty() == (*count == 0),
@@ -108,6 +111,14 @@ fn inserts<P: Written>(set: &mut Set<P>, pair: Pair, answer: Result<bool, Refusa
 fn removes<P: Written>(set: &mut Set<P>, pair: Pair, answer: bool) -> bool {
     match fitting::<P>(pair) {
         Some(prefix) => set.remove(&prefix) == answer,
+        None => false,
+    }
+}
+
+/// Whether the keys that a prefix contains are handed out as a set of so many.
+fn hands_out<P: Written>(set: &mut Set<P>, pair: Pair, count: usize) -> bool {
+    match fitting::<P>(pair) {
+        Some(prefix) => set.remove_children(&prefix).map(|second| second.len()) == Ok(count),
         None => false,
     }
 }
