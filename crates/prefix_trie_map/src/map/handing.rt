@@ -42,9 +42,9 @@ impl<P: Prefix, T: Drop, A: Allocator + Clone> PrefixMap<P, T, A> {
         ensures range { IfErr result (λ cause. cause ≡ IndexRange → HandedPassLimit self.old.entries (P.path prefix.now) self.old.room.limit) }
     {
         let (key, len) = parts(prefix);
-        let handed = self.table.remove_children(key, len, &mut Visits::new());
+        let table = self.table.remove_children(key, len, &mut Visits::new())?;
         Ok(PrefixMap {
-            table: handed?,
+            table,
             marker: PhantomData,
         })
     }

@@ -1,4 +1,3 @@
-use Rattle.std.proofs.Common.{rules}
 use Rattle.std.proofs.lemmas.Result.{err_from_is_err_and}
 use Rattle.prefix_trie_bits.specs.Model.HandsOut.{HandsOutInStorage, HandedPassLimit}
 use Rattle.prefix_trie_bits.proofs.Model.HandsOut.{handing_laws}
@@ -8,18 +7,18 @@ use Rattle.prefix_trie_map.proofs.map.PrefixMap.remove_children.Goals as goal
 
 pub invariant_of-result : goal.invariant_of-result
 invariant_of-result g c =
-    ((handing_laws _).are_maps g.P.R.Key.bit_width (state c.self.inside.table) _ (state c.in_ok-handed.field-0) (state c.remove_children-handed.new.self)
-    c.self.invariant c.in_ok-handed.ensures.handed.hands_out).0
+    ((handing_laws _).are_maps g.P.R.Key.bit_width (state c.self.inside.table) _ (state c.in_ok-table.table) (state c.remove_children.new.self)
+    c.self.invariant c.in_ok-table.ensures.handed.hands_out).0
 
 pub invariant_of-self-2 : goal.invariant_of-self-2
 invariant_of-self-2 g c =
-    ((handing_laws _).are_maps g.P.R.Key.bit_width (state c.self.inside.table) _ (state c.in_ok-handed.field-0) (state c.remove_children-handed.new.self)
-    c.self.invariant c.in_ok-handed.ensures.handed.hands_out).2
+    ((handing_laws _).are_maps g.P.R.Key.bit_width (state c.self.inside.table) _ (state c.in_ok-table.table) (state c.remove_children.new.self)
+    c.self.invariant c.in_ok-table.ensures.handed.hands_out).2
 
 pub returns-clause-step : goal.returns-clause-step
 returns-clause-step g c =
-    by_key (λ old k. HandsOutInStorage (stored old) k (stored c.in_ok-handed.field-0) (stored c.remove_children-handed.new.self)) c.self.view_is c.parts-key.ensures.path
-    c.in_ok-handed.ensures.handed
+    by_key (λ old k. HandsOutInStorage (stored old) k (stored c.in_ok-table.table) (stored c.remove_children.new.self)) c.self.view_is c.parts-key.ensures.path
+    c.in_ok-table.ensures.handed
 
 pub returns-clause-handed : goal.returns-clause-handed
 returns-clause-handed g c = (returns-clause-step g c).hands_out.handed
@@ -33,11 +32,8 @@ returns-clause-entries g c = (returns-clause-step g c).hands_out.left
 pub returns-clause-nodes : goal.returns-clause-nodes
 returns-clause-nodes g c = (returns-clause-step g c).hands_out.left_nodes
 
-pub returns-in_err-handed-clause-range : goal.returns-in_err-handed-clause-range
-returns-in_err-handed-clause-range g c =
+pub returns-in_err-table-clause-range : goal.returns-in_err-table-clause-range
+returns-in_err-table-clause-range g c =
     let p = err_from_is_err_and c.from_residual.result c.from_residual.ensures.1 in
     rw (p.1, p.2) (λ is_range. by_key (λ old k. HandedPassLimit old.entries k old.room.limit) c.self.view_is c.parts-key.ensures.path
-    (c.in_err-handed.ensures.range is_range))
-
-pub returns-in_err-handed-clause-unchanged : goal.returns-in_err-handed-clause-unchanged
-returns-in_err-handed-clause-unchanged g c = search rules
+    (c.in_err-table.ensures.range is_range))
