@@ -7,7 +7,6 @@ pub mod OwnBlocks
 pub mod Forest
 pub mod Slots
 pub mod Lending
-pub mod Laying
 pub mod BlockCounts
 pub mod Bulk
 pub mod Layouts
@@ -21,8 +20,6 @@ pub mod Settling
 pub mod Steps
 pub mod Removals
 pub mod HandingOut
-pub mod Skeleton
 pub mod Retaining
 pub mod Copies
 pub mod Walking
-pub mod Moving

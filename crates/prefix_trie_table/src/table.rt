@@ -39,7 +39,7 @@ ghost use Rattle.prefix_trie_bits.specs.Model.Visits.{visits, visits_to_match};
 ghost use Rattle.prefix_trie_bits.specs.Model.Blocks.{no_layout};
 ghost use Rattle.prefix_trie_bits.specs.Model.Step.{Insert, Remove, RemoveKeepTree, RemoveChildren, Clear, Done, Value};
 ghost use Rattle.prefix_trie_bits.specs.Model.Storage.{HaveBlocks, StepOfStrings, RetainsInStorage};
-ghost use Rattle.prefix_trie_bits.specs.declared.prefix.Refusal.TheVariants.{IndexRange};
+ghost use Rattle.prefix_trie_bits.specs.declared.prefix.Refusal.TheVariants.{IndexRange, Memory};
 ghost use Rattle.prefix_trie_table.specs.Layouts.{Sized, Sized-prop};
 ghost use Rattle.prefix_trie_table.specs.Shape.{Shaped, Shaped-prop, state, storage};
 ghost use Rattle.prefix_trie_table.specs.Steps.{stored, inserted, SettlesInStorage};
@@ -130,7 +130,8 @@ impl<T: Drop, A: Allocator + Clone, V: Tick> Table<T, A, V> {
 
     /// Takes out all entries whose keys a bit string begins, as `drop_children` does, and hands them out as a table of their own, which
     /// has just the nodes that they need, in the smallest blocks that hold them. Its allocator is a clone of this one's, and its limit is
-    /// the same. All room of the second table is asked for before the first value moves: refused, it leaves everything as it was.
+    /// the same. All room of the second table is asked for before the first value moves: refused, it leaves everything as it was. Refused
+    /// only where memory is, since the second table has no more slots than the first.
     ///
     /// ```text
     /// let part = table.remove_children(key, len, &mut counter)?;    // `table` has the other entries
@@ -151,6 +152,7 @@ impl<T: Drop, A: Allocator + Clone, V: Tick> Table<T, A, V> {
         ensures kept { IfErr result (λ _. stored self.new ≡ stored self.old) }
         ensures range { IfErr result (λ cause. cause ≡ IndexRange
             → HandedPassLimit self.old.entries (take len (K.bits key)) self.old.room.limit) }
+        ensures memory { IfErr result (λ cause. cause ≡ Memory) }
     {
         let (laid, vacant) = lay_part(&self.nodes, &self.cells, key, len, counter)?;
         let before = self.count;

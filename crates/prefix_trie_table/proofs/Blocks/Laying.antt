@@ -7,7 +7,7 @@ use Rattle.std.proofs.lemmas.List.Elements.{All-head, All-tail, All-cons}
 use Rattle.prefix_trie_table.specs.declared.allocator.blocks.BlockRef.{BlockRef}
 use Rattle.prefix_trie_table.specs.Runs.{run, put_run}
 use Rattle.prefix_trie_table.specs.Store.{Store, Tier, UsedBlock, Sound, IsOfTier, HoldsItems, Turnover, Keeps, Prepared, block, filled, taken, tier_at, tier_for, free_at, many_at, none_at, size_in, tier_sizes, grown_times}
-use Rattle.prefix_trie_table.specs.Laying.{NoneFree, LaysList}
+use Rattle.prefix_trie_table.specs.HandingOut.Laying.{NoneFree, LaysList}
 use Rattle.prefix_trie_table.proofs.Blocks.RunLemmas.{length-put_run, get_or-put_run_out, put_run_part}
 use Rattle.prefix_trie_table.proofs.Blocks.Soundness.{Sound-written, block_inside, block_slots, first_place, tier_for_holds}
 use Rattle.prefix_trie_table.proofs.Blocks.Spending.{size_at, Spends-taken, Spends-written, Keeps-spends, Keeps-prepared, Keeps-then}

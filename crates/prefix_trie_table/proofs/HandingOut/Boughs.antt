@@ -10,8 +10,8 @@ use Rattle.prefix_trie_table.specs.declared.allocator.blocks.BlockRef.{BlockRef}
 use Rattle.prefix_trie_table.specs.Bitmaps.{has_bit, bits, rank}
 use Rattle.prefix_trie_table.specs.Cells.{blank_node, node_sizes, cell_sizes}
 use Rattle.prefix_trie_table.specs.Forest.{same_path, one_if, times, has_child, has_value, node_or_blank, child_items, child_blocks_of, child_blocks, value_blocks_of, value_blocks}
-use Rattle.prefix_trie_table.specs.HandingOut.{SomeChosen, NoneChosen, Hangs, IsPackedNode, no_value, IsLaid, IsBough}
-use Rattle.prefix_trie_table.specs.Laying.{LaysList}
+use Rattle.prefix_trie_table.specs.HandingOut.Laid.{SomeChosen, NoneChosen, Hangs, IsPackedNode, no_value, IsLaid, IsBough}
+use Rattle.prefix_trie_table.specs.HandingOut.Laying.{LaysList}
 use Rattle.prefix_trie_table.specs.OwnBlocks.{size_if_any}
 use Rattle.prefix_trie_table.specs.Removals.{IsBare, IsStocked}
 use Rattle.prefix_trie_table.specs.Store.{Store, UsedBlock, Sound, held, size_in, tier_at, tier_sizes, tier_for}

@@ -7,7 +7,7 @@ use Rattle.std.proofs.lemmas.List.{length-map}
 use Rattle.prefix_trie_table.specs.declared.allocator.blocks.BlockRef.{BlockRef}
 use Rattle.prefix_trie_table.specs.Bitmaps.{has_bit, rank}
 use Rattle.prefix_trie_table.specs.Cells.{node_sizes, cell_sizes}
-use Rattle.prefix_trie_table.specs.Laying.{LaysList}
+use Rattle.prefix_trie_table.specs.HandingOut.Laying.{LaysList}
 use Rattle.prefix_trie_table.specs.Store.{Tier, Store, tier_for, tier_sizes}
 use Rattle.prefix_trie_table.proofs.Blocks.Soundness.{tier_for_holds}
 use Rattle.prefix_trie_table.proofs.Blocks.Spending.{tier_for_sizes}

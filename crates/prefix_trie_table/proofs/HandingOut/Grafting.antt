@@ -3,7 +3,7 @@ use Rattle.std.proofs.Common.{◌≡◌, ◌≢◌, ℕ, ◌+◌, inl, inr, true
 use Rattle.prefix_trie_table.specs.declared.allocator.node.Node.{Node}
 use Rattle.prefix_trie_table.specs.Bitmaps.{has_bit}
 use Rattle.prefix_trie_table.specs.Forest.{same_path, one_if, times, has_child}
-use Rattle.prefix_trie_table.specs.HandingOut.{Hangs}
+use Rattle.prefix_trie_table.specs.HandingOut.Laid.{Hangs}
 use Rattle.prefix_trie_table.proofs.Strings.Paths.{same_path-itself, same_path-equal, same_path-not}
 use Rattle.prefix_trie_table.proofs.Strings.PathLists.{times-append}
 use Rattle.prefix_trie_table.proofs.Tree.Children.{same_or, number_or, same_number, other_number}

@@ -3,8 +3,8 @@ use Rattle.std.proofs.Common.{List, refl, ◌∙◌}
 use Rattle.prefix_trie_table.specs.declared.allocator.node.Node.{Node}
 use Rattle.prefix_trie_table.specs.declared.allocator.blocks.BlockRef.{BlockRef}
 use Rattle.prefix_trie_table.specs.Cells.{blank_node}
-use Rattle.prefix_trie_table.specs.HandingOut.{Lays, IsGround}
-use Rattle.prefix_trie_table.specs.Laying.{LaysList}
+use Rattle.prefix_trie_table.specs.HandingOut.Laid.{Lays, IsGround}
+use Rattle.prefix_trie_table.specs.HandingOut.Laying.{LaysList}
 use Rattle.prefix_trie_table.specs.Store.{Store, held, tier_at}
 use Rattle.prefix_trie_table.proofs.Blocks.Spending.{Keeps-same, Keeps-then}
 use Rattle.std.proofs.Common.{Option, None, ◌++◌}

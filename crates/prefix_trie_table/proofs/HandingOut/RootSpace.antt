@@ -10,7 +10,7 @@ use Rattle.prefix_trie_table.specs.declared.allocator.node.Node.{Node}
 use Rattle.prefix_trie_table.specs.Bitmaps.{rank, bits}
 use Rattle.prefix_trie_table.specs.Cells.{blank_node, node_at, node_sizes, cell_sizes}
 use Rattle.prefix_trie_table.specs.Forest.{own_count, child_items, child_blocks, child_blocks_of, value_blocks, value_blocks_of}
-use Rattle.prefix_trie_table.specs.HandingOut.{child_slots, value_slots, slots_below, HasSpace}
+use Rattle.prefix_trie_table.specs.HandingOut.Laid.{child_slots, value_slots, slots_below, HasSpace}
 use Rattle.prefix_trie_table.specs.Layouts.{own_children}
 use Rattle.prefix_trie_table.specs.OwnBlocks.{size_if_any, child_block_size, value_block_size}
 use Rattle.prefix_trie_table.specs.Store.{Store, UsedBlock, Sound, extent, free_extents, held, size_in, tier_sizes}

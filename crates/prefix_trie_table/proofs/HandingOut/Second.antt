@@ -9,9 +9,9 @@ use Rattle.prefix_trie_table.specs.declared.allocator.node.Node.{Node}
 use Rattle.prefix_trie_table.specs.Cells.{blank_node, node_at, node_sizes, cell_sizes}
 use Rattle.prefix_trie_table.specs.Digits.{path_of, bit_of}
 use Rattle.prefix_trie_table.specs.Forest.{one_if, read, has_value, Holds, NodesHold, node_or_blank, child_blocks, value_blocks, at_root}
-use Rattle.prefix_trie_table.specs.HandingOut.{IsLaid, IsPackedNode, IsPart, IsSource, Lays, NothingLaid, SomeChosen, no_value}
+use Rattle.prefix_trie_table.specs.HandingOut.Laid.{IsLaid, IsPackedNode, IsPart, IsSource, Lays, NothingLaid, SomeChosen, no_value}
 use Rattle.prefix_trie_table.specs.OwnBlocks.{size_if_any}
-use Rattle.prefix_trie_table.specs.Skeleton.{IsSecond}
+use Rattle.prefix_trie_table.specs.HandingOut.Skeleton.{IsSecond}
 use Rattle.prefix_trie_table.specs.Store.{Store, UsedBlock, Sound, free_at, no_blocks, size_in, tier_sizes}
 use Rattle.prefix_trie_table.specs.Tables.{IsTrie}
 use Rattle.prefix_trie_table.proofs.Strings.BitLists.{rank-zero-all}

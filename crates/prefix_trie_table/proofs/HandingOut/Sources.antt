@@ -5,7 +5,7 @@ use Rattle.prefix_trie_table.specs.declared.allocator.node.Node.{Node}
 use Rattle.prefix_trie_table.specs.Bitmaps.{has_bit}
 use Rattle.prefix_trie_table.specs.Cells.{node_at, node_sizes}
 use Rattle.prefix_trie_table.specs.Forest.{child_slot, read_from, has_child, has_value}
-use Rattle.prefix_trie_table.specs.HandingOut.{chosen, IsSource}
+use Rattle.prefix_trie_table.specs.HandingOut.Laid.{chosen, IsSource}
 use Rattle.prefix_trie_table.specs.Store.{Store}
 use Rattle.prefix_trie_table.proofs.Strings.Bits.{has_bit-below}
 use Rattle.prefix_trie_table.proofs.Tree.Trees.{child-there, child-missing, child_stands, is_some-Some}

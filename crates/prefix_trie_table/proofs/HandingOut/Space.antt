@@ -11,7 +11,7 @@ use Rattle.prefix_trie_table.specs.declared.allocator.node.Node.{Node}
 use Rattle.prefix_trie_table.specs.Bitmaps.{has_bit, rank}
 use Rattle.prefix_trie_table.specs.Cells.{node_at, node_sizes, cell_sizes}
 use Rattle.prefix_trie_table.specs.Forest.{child_slot}
-use Rattle.prefix_trie_table.specs.HandingOut.{child_slots, value_slots, sum_to, slots_below, slots_at_child, HasSpace, Lengthens}
+use Rattle.prefix_trie_table.specs.HandingOut.Laid.{child_slots, value_slots, sum_to, slots_below, slots_at_child, HasSpace, Lengthens}
 use Rattle.prefix_trie_table.specs.Store.{Store, size_in}
 use Rattle.prefix_trie_table.proofs.Strings.BitLists.{rank-below, rank-le, rank-more, rank-zero}
 use Rattle.prefix_trie_table.proofs.HandingOut.Fits.{values_few}

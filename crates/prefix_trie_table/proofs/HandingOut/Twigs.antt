@@ -8,8 +8,8 @@ use Rattle.prefix_trie_table.specs.declared.allocator.blocks.BlockRef.{BlockRef}
 use Rattle.prefix_trie_table.specs.Bitmaps.{has_bit, rank}
 use Rattle.prefix_trie_table.specs.Cells.{blank_node, node_sizes, cell_sizes}
 use Rattle.prefix_trie_table.specs.Forest.{child}
-use Rattle.prefix_trie_table.specs.HandingOut.{IsBough, IsLaid, IsPart, NothingLaid}
-use Rattle.prefix_trie_table.specs.Laying.{LaysList}
+use Rattle.prefix_trie_table.specs.HandingOut.Laid.{IsBough, IsLaid, IsPart, NothingLaid}
+use Rattle.prefix_trie_table.specs.HandingOut.Laying.{LaysList}
 use Rattle.prefix_trie_table.specs.Store.{Store, tier_sizes}
 use Rattle.prefix_trie_table.proofs.Blocks.Spending.{Keeps-same}
 use Rattle.prefix_trie_table.proofs.HandingOut.Boughs.{first, bough_start, bough_passed, bough_grafted, bough_closed}

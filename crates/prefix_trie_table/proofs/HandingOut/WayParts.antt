@@ -13,7 +13,7 @@ use Rattle.prefix_trie_table.specs.Bitmaps.{has_bit}
 use Rattle.prefix_trie_table.specs.Cells.{node_at}
 use Rattle.prefix_trie_table.specs.Digits.{path_of, bit_of}
 use Rattle.prefix_trie_table.specs.Forest.{child_slot, child, read_from, has_value}
-use Rattle.prefix_trie_table.specs.HandingOut.{chosen, IsPart, IsSource}
+use Rattle.prefix_trie_table.specs.HandingOut.Laid.{chosen, IsPart, IsSource}
 use Rattle.prefix_trie_table.specs.Store.{Store}
 use Rattle.prefix_trie_table.proofs.HandingOut.Sources.{read_nothing, some_level, source_below, own_within}
 use Rattle.prefix_trie_table.proofs.Strings.Bits.{has_bit-is, has_bit-past}

@@ -7,7 +7,7 @@ use Rattle.prefix_trie_table.specs.declared.allocator.node.Node.{Node}
 use Rattle.prefix_trie_table.specs.Bitmaps.{has_bit}
 use Rattle.prefix_trie_table.specs.Cells.{node_at, node_sizes}
 use Rattle.prefix_trie_table.specs.Forest.{child_slot, has_child, is_start, one_if, same_path, times, without, NodesHold}
-use Rattle.prefix_trie_table.specs.HandingOut.{sum_to, slots_below}
+use Rattle.prefix_trie_table.specs.HandingOut.Laid.{sum_to, slots_below}
 use Rattle.prefix_trie_table.specs.Store.{Store}
 use Rattle.prefix_trie_table.proofs.HandingOut.Space.{slots_split, sum_to_none}
 use Rattle.prefix_trie_table.proofs.Strings.Paths.{same_path-itself, same_path-true}

@@ -6,7 +6,7 @@ use Rattle.prefix_trie_bits.specs.Model.Step.{State}
 use Rattle.prefix_trie_table.specs.declared.allocator.node.Node.{Node}
 use Rattle.prefix_trie_table.specs.declared.table.seat.Seat.{Seat}
 use Rattle.prefix_trie_table.specs.Locations.{seat_of}
-use Rattle.prefix_trie_table.specs.Moving.{filled_with, Awaits, HasCome}
+use Rattle.prefix_trie_table.specs.HandingOut.Moving.{filled_with, Awaits, HasCome}
 use Rattle.prefix_trie_table.specs.Slots.{with_cell}
 use Rattle.prefix_trie_table.specs.Store.{Store}
 use Rattle.prefix_trie_table.specs.Tables.{IsTrie}

@@ -12,10 +12,10 @@ use Rattle.prefix_trie_bits.proofs.Model.HandsOut.{handing_laws}
 use Rattle.prefix_trie_table.specs.declared.allocator.node.Node.{Node}
 use Rattle.prefix_trie_table.specs.Cells.{blank_node, node_sizes}
 use Rattle.prefix_trie_table.specs.Forest.{read}
-use Rattle.prefix_trie_table.specs.Laying.{NoneFree}
+use Rattle.prefix_trie_table.specs.HandingOut.Laying.{NoneFree}
 use Rattle.prefix_trie_table.specs.Layouts.{Sized}
 use Rattle.prefix_trie_table.specs.Shape.{Shaped, same_shape}
-use Rattle.prefix_trie_table.specs.Skeleton.{IsSecond}
+use Rattle.prefix_trie_table.specs.HandingOut.Skeleton.{IsSecond}
 use Rattle.prefix_trie_table.specs.Store.{Store, free_at}
 use Rattle.prefix_trie_table.specs.Tables.{IsTable, IsTrie}
 use Rattle.prefix_trie_table.proofs.Blocks.Sizing.{storage_of}

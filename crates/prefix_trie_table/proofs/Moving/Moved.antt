@@ -10,9 +10,9 @@ use Rattle.prefix_trie_bits.specs.Model.Step.{State}
 use Rattle.prefix_trie_bits.proofs.Model.Members.{same_entries, get-part_below}
 use Rattle.prefix_trie_bits.proofs.Model.Ordered.{entries-retained}
 use Rattle.prefix_trie_table.specs.declared.allocator.node.Node.{Node}
-use Rattle.prefix_trie_table.specs.Moving.{filled_with, Awaits, AwaitsNext, HasCome}
+use Rattle.prefix_trie_table.specs.HandingOut.Moving.{filled_with, Awaits, AwaitsNext, HasCome}
 use Rattle.prefix_trie_table.specs.Retaining.{AsksUpTo}
-use Rattle.prefix_trie_table.specs.Skeleton.{IsSecond}
+use Rattle.prefix_trie_table.specs.HandingOut.Skeleton.{IsSecond}
 use Rattle.prefix_trie_table.specs.Store.{Store}
 use Rattle.prefix_trie_table.specs.Tables.{IsTrie}
 use Rattle.prefix_trie_table.specs.Walking.Walks.{Tree, KeyedSpot, IsStack, pending}

@@ -12,8 +12,8 @@ use Rattle.prefix_trie_table.specs.Bitmaps.{rank, bits}
 use Rattle.prefix_trie_table.specs.Cells.{blank_node, node_sizes, cell_sizes}
 use Rattle.prefix_trie_table.specs.Digits.{path_of}
 use Rattle.prefix_trie_table.specs.Forest.{read, times, own_count, held, size_in, child_items, child_blocks, child_blocks_of, value_blocks, value_blocks_of, Holds, NodesHold}
-use Rattle.prefix_trie_table.specs.HandingOut.{IsPackedNode}
-use Rattle.prefix_trie_table.specs.Laying.{NoneFree}
+use Rattle.prefix_trie_table.specs.HandingOut.Laid.{IsPackedNode}
+use Rattle.prefix_trie_table.specs.HandingOut.Laying.{NoneFree}
 use Rattle.prefix_trie_table.specs.Layouts.{AreSizesBy, Sized, own_children, size_if_any, child_block_size, value_block_size, free_counts}
 use Rattle.prefix_trie_table.specs.Shape.{IsShapeOf}
 use Rattle.prefix_trie_table.specs.Store.{Store, Tier, UsedBlock, Sound, extent, of_size, free_at, free_extents, tier_sizes}

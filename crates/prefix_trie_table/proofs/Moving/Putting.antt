@@ -11,7 +11,7 @@ use Rattle.prefix_trie_table.specs.Cells.{node_sizes, cell_sizes}
 use Rattle.prefix_trie_table.specs.Digits.{path_of, bit_of}
 use Rattle.prefix_trie_table.specs.Forest.{times, without, held, size_in, has_value, with_value, NodesHold, value_blocks, value_blocks_of}
 use Rattle.prefix_trie_table.specs.Locations.{value_seat, seat_in, seat_of}
-use Rattle.prefix_trie_table.specs.Moving.{filled_with}
+use Rattle.prefix_trie_table.specs.HandingOut.Moving.{filled_with}
 use Rattle.prefix_trie_table.specs.Slots.{with_cell}
 use Rattle.prefix_trie_table.specs.Store.{Store, UsedBlock, Sound, block}
 use Rattle.prefix_trie_table.proofs.Blocks.Soundness.{Sound-set}

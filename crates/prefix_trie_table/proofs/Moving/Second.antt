@@ -18,10 +18,10 @@ use Rattle.prefix_trie_table.specs.declared.allocator.node.Node.{Node}
 use Rattle.prefix_trie_table.specs.Cells.{node_sizes}
 use Rattle.prefix_trie_table.specs.Digits.{path_of, bit_of}
 use Rattle.prefix_trie_table.specs.Forest.{times, one_if, is_start, has_value, NodesHold, Holds}
-use Rattle.prefix_trie_table.specs.HandingOut.{no_value}
-use Rattle.prefix_trie_table.specs.Moving.{filled_with}
+use Rattle.prefix_trie_table.specs.HandingOut.Laid.{no_value}
+use Rattle.prefix_trie_table.specs.HandingOut.Moving.{filled_with}
 use Rattle.prefix_trie_table.specs.Shape.{IsShapeOf}
-use Rattle.prefix_trie_table.specs.Skeleton.{IsSkeleton, IsSecond}
+use Rattle.prefix_trie_table.specs.HandingOut.Skeleton.{IsSkeleton, IsSecond}
 use Rattle.prefix_trie_table.specs.Store.{Store, tier_sizes}
 use Rattle.prefix_trie_table.specs.Tables.{IsTrie}
 use Rattle.prefix_trie_table.proofs.Lookup.Finding.{prefix_some}

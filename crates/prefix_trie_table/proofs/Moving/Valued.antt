@@ -12,7 +12,7 @@ use Rattle.prefix_trie_table.specs.declared.allocator.node.Node.{Node}
 use Rattle.prefix_trie_table.specs.Cells.{node_sizes}
 use Rattle.prefix_trie_table.specs.Digits.{path_of, bit_of}
 use Rattle.prefix_trie_table.specs.Forest.{same_path, has_value, with_value, NodesHold}
-use Rattle.prefix_trie_table.specs.HandingOut.{no_value}
+use Rattle.prefix_trie_table.specs.HandingOut.Laid.{no_value}
 use Rattle.prefix_trie_table.specs.Store.{Store}
 use Rattle.prefix_trie_table.proofs.Moving.Putting.{with_values, HasPlace}
 use Rattle.prefix_trie_table.proofs.Strings.Keys.{same_key}

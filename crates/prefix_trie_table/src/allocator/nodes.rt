@@ -3,7 +3,7 @@ ghost use Rattle.std.specs.Prelude.{◌≡◌, ℕ, ◌+◌, ◌-◌, ◌*◌, �
 ghost use Rattle.prefix_trie_bits.specs.Model.HandsOut.{packed_slots};
 ghost use Rattle.prefix_trie_table.specs.BlockCounts.{tier_count};
 ghost use Rattle.prefix_trie_table.specs.Cells.{blank_node, node_at, node_sizes};
-ghost use Rattle.prefix_trie_table.specs.Laying.{LaysList};
+ghost use Rattle.prefix_trie_table.specs.HandingOut.Laying.{LaysList};
 ghost use Rattle.prefix_trie_table.specs.Store.{Store, UsedBlock, Sound, tier_at, slots_made, block, held, HasList, IsReady, tier_lacking, tier_for, no_blocks, Spends, Prepared, Enough, Keeps, Turnover, CutShort, none_at, one_at, free_at, size_in, tier_sizes, blocks_lacking, tier_slots_lacking, blocks_entered, tier_outgrown, tier_entered, tier_left};
 ghost use Rattle.prefix_trie_bits.specs.declared.prefix.Refusal.TheVariants.{Memory, IndexRange};
 

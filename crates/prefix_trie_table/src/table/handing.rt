@@ -3,8 +3,8 @@ ghost use Rattle.std.specs.Prelude.{◌≡◌, ℕ, ◌+◌, ◌*◌, ◌<◌, �
 ghost use Rattle.prefix_trie_bits.specs.declared.prefix.Refusal.TheVariants.{Memory};
 ghost use Rattle.prefix_trie_bits.specs.Model.Step.{State};
 ghost use Rattle.prefix_trie_table.specs.Bitmaps.{has_bit as is_set, rank};
-ghost use Rattle.prefix_trie_table.specs.HandingOut.{chosen, IsSource, IsGround, IsBough, LaysNode, LaysPart, Lays, HasSpace, Lengthens, child_slots, value_slots, slots_below, slots_at_child};
-ghost use Rattle.prefix_trie_table.specs.Skeleton.{IsSecond};
+ghost use Rattle.prefix_trie_table.specs.HandingOut.Laid.{chosen, IsSource, IsGround, IsBough, LaysNode, LaysPart, Lays, HasSpace, Lengthens, child_slots, value_slots, slots_below, slots_at_child};
+ghost use Rattle.prefix_trie_table.specs.HandingOut.Skeleton.{IsSecond};
 ghost use Rattle.prefix_trie_table.specs.Store.{Store};
 ghost use Rattle.prefix_trie_table.specs.Tables.{IsTrie};
 

@@ -4,9 +4,9 @@ ghost use Rattle.std.specs.FinMap.{len as size};
 ghost use Rattle.prefix_trie_bits.specs.Model.Entries.{part_below, without_below};
 ghost use Rattle.prefix_trie_bits.specs.Model.Nodes.{needed, nodes_without_below};
 ghost use Rattle.prefix_trie_bits.specs.Model.Step.{State};
-ghost use Rattle.prefix_trie_table.specs.Moving.{AwaitsNext, HasCome};
+ghost use Rattle.prefix_trie_table.specs.HandingOut.Moving.{AwaitsNext, HasCome};
 ghost use Rattle.prefix_trie_table.specs.Retaining.{Lasts};
-ghost use Rattle.prefix_trie_table.specs.Skeleton.{IsSecond};
+ghost use Rattle.prefix_trie_table.specs.HandingOut.Skeleton.{IsSecond};
 ghost use Rattle.prefix_trie_table.specs.Tables.{IsTrie};
 ghost use Rattle.prefix_trie_table.specs.Walking.Walks.{keyed_spots};
 

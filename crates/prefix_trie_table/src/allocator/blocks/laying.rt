@@ -1,6 +1,6 @@
 //! Laying a whole list at once, in a block of its final size.
 ghost use Rattle.std.specs.Prelude.{◌≡◌, ◌+◌, ◌^◌, ◌<◌, ◌≤◌, List, length, replicate, IfOk, IfErr, IsSome};
-ghost use Rattle.prefix_trie_table.specs.Laying.{LaysList};
+ghost use Rattle.prefix_trie_table.specs.HandingOut.Laying.{LaysList};
 ghost use Rattle.prefix_trie_table.specs.Store.{UsedBlock, Sound, tier_for, tier_sizes};
 ghost use Rattle.prefix_trie_bits.specs.Model.HandsOut.{packed_slots};
 ghost use Rattle.prefix_trie_bits.specs.declared.prefix.Refusal.TheVariants.{IndexRange};

@@ -1,11 +1,11 @@
 use Rattle.std.proofs.Common.{rules, ℕ, cond, sym, ap, subst, refl, replicate, None, is_some, ◌∙◌, arith, ◌≡◌, ◌+◌, ◌≤◌, List, length, ◌-◌, []}
 use Rattle.prefix_trie_bits.specs.declared.prefix.Refusal.TheVariants.{Memory}
 use Rattle.prefix_trie_table.specs.Bitmaps.{has_bit, rank}
-use Rattle.prefix_trie_table.specs.Laying.{LaysList}
+use Rattle.prefix_trie_table.specs.HandingOut.Laying.{LaysList}
 use Rattle.prefix_trie_table.specs.Forest.{has_child, tier_sizes}
 use Rattle.prefix_trie_table.specs.Cells.{node_at, blank_node, node_sizes}
 use Rattle.prefix_trie_table.specs.declared.allocator.node.Node.{Node}
-use Rattle.prefix_trie_table.specs.HandingOut.{child_slots, value_slots, slots_below, HasSpace, chosen, IsBough, LaysNode}
+use Rattle.prefix_trie_table.specs.HandingOut.Laid.{child_slots, value_slots, slots_below, HasSpace, chosen, IsBough, LaysNode}
 use Rattle.prefix_trie_table.proofs.HandingOut.Boughs.{first, bough_start, bough_grafted, bough_closed, bough_passed, bough_bare, bare_nodes, bare_cells}
 use Rattle.prefix_trie_table.proofs.HandingOut.Ground.{Lays-none, Lays-then, Lays-list, ground_nodes, ground_cells}
 use Rattle.prefix_trie_table.proofs.HandingOut.Fits.{values_fit, children_fit, laid_tier}

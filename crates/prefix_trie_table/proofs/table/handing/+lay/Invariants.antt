@@ -1,5 +1,5 @@
 use Rattle.std.proofs.Common.{◌+◌, ◌≤◌, length, ◌*◌}
-use Rattle.prefix_trie_table.specs.HandingOut.{chosen, IsGround, IsBough, Lays, Lengthens, child_slots, value_slots, slots_at_child, sum_to}
+use Rattle.prefix_trie_table.specs.HandingOut.Laid.{chosen, IsGround, IsBough, Lays, Lengthens, child_slots, value_slots, slots_at_child, sum_to}
 use Rattle.prefix_trie_table.specs.Bitmaps.{rank}
 use Rattle.prefix_trie_table.proofs.table.handing.+lay.Given as goal
 

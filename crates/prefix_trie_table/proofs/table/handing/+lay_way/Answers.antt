@@ -1,5 +1,5 @@
 use Rattle.std.proofs.Common.{rules, Some, None, arith, sym, ap, ◌∙◌, subst, refl, ◌≡◌, ◌+◌, ◌≤◌, drop, take, length, ◌-◌, [], ◌∷◌, bit_and}
-use Rattle.prefix_trie_table.specs.HandingOut.{chosen, LaysNode, LaysPart}
+use Rattle.prefix_trie_table.specs.HandingOut.Laid.{chosen, LaysNode, LaysPart}
 use Rattle.std.proofs.lemmas.Result.{IfOk-weaker}
 use Rattle.prefix_trie_table.specs.Cells.{node_at, blank_node}
 use Rattle.prefix_trie_table.proofs.Tree.Trees.{child-there, child-missing}

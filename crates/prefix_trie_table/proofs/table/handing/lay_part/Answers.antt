@@ -2,10 +2,10 @@ use Rattle.std.proofs.Common.{◌≡◌, ◌≢◌, refl, ◌∙◌, ◌<◌, sy
 use Rattle.std.proofs.lemmas.Result.{err_from_is_err_and}
 use Rattle.prefix_trie_bits.specs.declared.prefix.Refusal.TheVariants.{Memory, IndexRange, the_data}
 use Rattle.prefix_trie_table.specs.Cells.{node_at}
-use Rattle.prefix_trie_table.specs.HandingOut.{IsPart, IsSource, LaysNode, HasSpace, child_slots, value_slots, slots_below}
+use Rattle.prefix_trie_table.specs.HandingOut.Laid.{IsPart, IsSource, LaysNode, HasSpace, child_slots, value_slots, slots_below}
 use Rattle.prefix_trie_table.specs.declared.allocator.node.Node.{Node}
 use Rattle.prefix_trie_table.specs.Store.{Store}
-use Rattle.prefix_trie_table.specs.Skeleton.{IsSecond}
+use Rattle.prefix_trie_table.specs.HandingOut.Skeleton.{IsSecond}
 use Rattle.prefix_trie_table.proofs.HandingOut.RootSpace.{root_space}
 use Rattle.prefix_trie_table.proofs.HandingOut.Space.{for_memory}
 use Rattle.prefix_trie_table.proofs.HandingOut.Second.{root_stands, root_source, second_laid, second_bare}

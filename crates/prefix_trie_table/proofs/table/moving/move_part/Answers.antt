@@ -5,7 +5,7 @@ use Rattle.prefix_trie_bits.specs.Model.Nodes.{needed}
 use Rattle.prefix_trie_bits.specs.Model.Selections.{listing_below}
 use Rattle.prefix_trie_bits.specs.Model.Step.{State}
 use Rattle.prefix_trie_table.specs.declared.table.moving.Seats.{Seats}
-use Rattle.prefix_trie_table.specs.Moving.{filled_with}
+use Rattle.prefix_trie_table.specs.HandingOut.Moving.{filled_with}
 use Rattle.prefix_trie_table.specs.Tables.{IsTrie}
 use Rattle.prefix_trie_table.specs.Walking.Walks.{keyed_spots}
 use Rattle.prefix_trie_table.proofs.Moving.Second.{second_trie}

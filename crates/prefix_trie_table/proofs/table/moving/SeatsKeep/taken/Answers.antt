@@ -1,6 +1,6 @@
 use Rattle.std.proofs.Common.{◌≡◌, Bool, false, List, refl, take, subst, sym}
 use Rattle.prefix_trie_table.specs.declared.table.moving.Seats.{Seats}
-use Rattle.prefix_trie_table.specs.Moving.{AwaitsNext, HasCome}
+use Rattle.prefix_trie_table.specs.HandingOut.Moving.{AwaitsNext, HasCome}
 use Rattle.prefix_trie_table.specs.Walking.Walks.{keyed_spots}
 use Rattle.prefix_trie_table.proofs.Moving.Coming.{whole_tree, some_comes, seat_inside, has_come}
 use Rattle.prefix_trie_table.proofs.table.moving.SeatsKeep.taken.Given as given

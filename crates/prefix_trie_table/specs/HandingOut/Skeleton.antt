@@ -5,8 +5,8 @@ use Rattle.prefix_trie_table.specs.declared.allocator.node.Node.{Node}
 use Rattle.prefix_trie_table.specs.Cells.{node_sizes, cell_sizes}
 use Rattle.prefix_trie_table.specs.Digits.{path_of, bit_of}
 use Rattle.prefix_trie_table.specs.Forest.{read, has_value, NodesHold, value_blocks}
-use Rattle.prefix_trie_table.specs.HandingOut.{SomeChosen, IsPackedNode, no_value}
-use Rattle.prefix_trie_table.specs.Laying.{NoneFree}
+use Rattle.prefix_trie_table.specs.HandingOut.Laid.{SomeChosen, IsPackedNode, no_value}
+use Rattle.prefix_trie_table.specs.HandingOut.Laying.{NoneFree}
 use Rattle.prefix_trie_table.specs.Store.{Store, Sound, tier_sizes}
 
 -- where values stand in a tree
