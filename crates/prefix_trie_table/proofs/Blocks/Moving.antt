@@ -1,11 +1,59 @@
 -- A list that moves to a block with no items.
-use Rattle.std.proofs.Common.{◌≡◌, ℕ, ◌+◌, ◌<◌, ◌≤◌, inl, List, ◌∷◌, length, replicate, None, arith, ◌∙◌}
-use Rattle.std.proofs.lemmas.List.{length-replicate}
-use Rattle.prefix_trie_table.specs.Runs.{put_run, swap_runs}
-use Rattle.prefix_trie_table.specs.Store.{Store, UsedBlock, Sound, Spends}
-use Rattle.prefix_trie_table.proofs.Blocks.Soundness.{Sound-exchanged, block_inside, fits_block}
+use Rattle.std.proofs.Common.{◌≡◌, ℕ, ◌+◌, ◌-◌, ◌<◌, ◌≤◌, ◌⊎◌, inl, inr, ⊎_elim, List, [], ◌∷◌, ◌++◌, length, map, take, drop, replicate, None, sym, ap, ◌∙◌, subst, arith}
+use Rattle.std.proofs.lemmas.List.{length-replicate, take-take, take_at, drop_at, take-replicate, drop-replicate, replicate-append-replicate}
+use Rattle.std.proofs.lemmas.List.Elements.{All-head}
+use Rattle.prefix_trie_table.specs.Runs.{run, put_run, swap_runs}
+use Rattle.prefix_trie_table.specs.Store.{Store, UsedBlock, Sound, Spends, extent, free_extents, filled}
+use Rattle.prefix_trie_table.proofs.Blocks.Tilings.{Disjoint}
+use Rattle.prefix_trie_table.proofs.Blocks.Soundness.{Sound-exchanged, Sound-written, block_inside, fits_block, block_slots, filled_none, others}
 use Rattle.prefix_trie_table.proofs.Blocks.Spending.{Spends-swapped, Spends-written}
-use Rattle.prefix_trie_table.proofs.Blocks.RunLemmas.{length-put_run, get_or-put_run_out}
+use Rattle.prefix_trie_table.proofs.Blocks.RunLemmas.{Apart, length-put_run, get_or-put_run_out, put_run_part, swap_runs_is}
+
+-- a block in use, and another that holds none
+module _ {S : Type 0} (vacant : S) (a b : UsedBlock S) (live : List (UsedBlock S)) (v : Store S) (none : b.items ≡ []) (s : Sound vacant (a ∷ b ∷ live) v) where
+  slots_none : run v.slots b.start b.size ≡ replicate b.size vacant
+  slots_none = block_slots vacant b (a ∷ live) v (Sound-exchanged vacant a b live v s) ∙ ap (λ xs. filled vacant b.size xs) none ∙ filled_none vacant b.size
+
+  pub two_apart : (a.start + a.size ≤ b.start) ⊎ (b.start + b.size ≤ a.start)
+  two_apart = All-head (Disjoint (extent a)) (extent b) (map extent live ++ free_extents v.tiers) (others vacant a (b ∷ live) v s)
+
+  pub run_items : (c : ℕ) → length a.items ≡ c → run v.slots a.start c ≡ a.items
+  run_items c is_count =
+      sym (take-take c a.size (drop a.start v.slots) (let f = fits_block vacant a (b ∷ live) v s in omega arith)) ∙ ap (λ xs. take c xs) (block_slots vacant a (b ∷ live) v s) ∙ take_at a.items (replicate (a.size - length a.items) vacant) c is_count
+
+  pub run_none : (c : ℕ) → c ≤ b.size → run v.slots b.start c ≡ replicate c vacant
+  run_none c room = sym (take-take c b.size (drop b.start v.slots) room) ∙ ap (λ xs. take c xs) slots_none ∙ take-replicate c b.size vacant room
+
+  -- the first is left empty, and the second holds these
+  pub Sound-put_over : (c : ℕ) (items zs : List S) → length a.items ≡ c → length items ≤ b.size → zs ≡ put_run (put_run v.slots a.start (replicate c vacant)) b.start items →
+      Sound vacant (record a { items = [] } ∷ record b { items = items } ∷ live) (record v { slots = zs })
+  Sound-put_over c items zs is_count room is =
+      let wa = block_inside vacant a (b ∷ live) v s in
+      let fits : c ≤ a.size = (let f = fits_block vacant a (b ∷ live) v s in omega arith) in
+      let rc : length (replicate c vacant) ≡ c = length-replicate c vacant in
+      let left : drop c (run v.slots a.start a.size) ≡ replicate (a.size - c) vacant = ap (λ xs. drop c xs) (block_slots vacant a (b ∷ live) v s) ∙ drop_at a.items (replicate (a.size - length a.items) vacant) c is_count ∙ ap (λ n. replicate (a.size - n) vacant) is_count in
+      let emptied : replicate c vacant ++ drop (length (replicate c vacant)) (run v.slots a.start a.size) ≡ filled vacant a.size [] = ap (λ n. replicate c vacant ++ drop n (run v.slots a.start a.size)) rc ∙ ap (λ xs. replicate c vacant ++ xs) left ∙ replicate-append-replicate c (a.size - c) vacant ∙ ap (λ n. replicate n vacant) (let e : c + (a.size - c) ≡ a.size - 0 = omega arith in e) in
+      let first : put_run v.slots a.start (replicate c vacant) ≡ put_run v.slots a.start (filled vacant a.size []) = put_run_part v.slots a.start a.size (replicate c vacant) wa.before (omega arith) ∙ ap (λ xs. put_run v.slots a.start xs) emptied in
+      let ys : List S = put_run v.slots a.start (filled vacant a.size []) in
+      let u : Store S = record v { slots = put_run v.slots a.start (filled vacant a.size []) } in
+      let a' : UsedBlock S = record a { items = [] } in
+      let su : Sound vacant (b ∷ a' ∷ live) u = Sound-exchanged vacant a' b live u (Sound-written vacant a (b ∷ live) v [] (omega arith) s) in
+      let wu = block_inside vacant b (a' ∷ live) u su in
+      let slots_u : run ys b.start b.size ≡ replicate b.size vacant = block_slots vacant b (a' ∷ live) u su ∙ ap (λ xs. filled vacant b.size xs) none ∙ filled_none vacant b.size in
+      let rest : items ++ drop (length items) (run ys b.start b.size) ≡ filled vacant b.size items = ap (λ xs. items ++ drop (length items) xs) slots_u ∙ ap (λ xs. items ++ xs) (drop-replicate (length items) b.size vacant) in
+      let second : put_run ys b.start items ≡ put_run ys b.start (filled vacant b.size items) = put_run_part ys b.start b.size items wu.before (omega arith) ∙ ap (λ xs. put_run ys b.start xs) rest in
+      let b' : UsedBlock S = record b { items = items } in
+      subst (λ xs. Sound vacant (a' ∷ b' ∷ live) (record v { slots = xs })) (sym (is ∙ ap (λ xs. put_run xs b.start items) first ∙ second)) (Sound-exchanged vacant b' a' live (record u { slots = put_run ys b.start (filled vacant b.size items) }) (Sound-written vacant b (a' ∷ live) u items (omega arith) su))
+
+  -- its items move to the front of the other
+  pub Sound-moved : (count : ℕ) → length a.items ≡ count → count ≤ b.size → Sound vacant (record a { items = [] } ∷ record b { items = a.items } ∷ live) (record v { slots = swap_runs v.slots a.start b.start count })
+  Sound-moved c is_count room =
+      let wa = block_inside vacant a (b ∷ live) v s in
+      let wb = block_inside vacant b (a ∷ live) v (Sound-exchanged vacant a b live v s) in
+      let fits : c ≤ a.size = (let f = fits_block vacant a (b ∷ live) v s in omega arith) in
+      let narrow : Apart a.start c b.start c = ⊎_elim (λ (h : a.start + a.size ≤ b.start). inl (let e : a.start + c ≤ b.start = omega arith in e)) (λ (h : b.start + b.size ≤ a.start). inr (let e : b.start + c ≤ a.start = omega arith in e)) two_apart in
+      Sound-put_over c a.items (swap_runs v.slots a.start b.start c) is_count (omega arith)
+      (swap_runs_is v.slots a.start b.start c vacant (omega (arith, wa.before)) (omega (arith, wb.before)) narrow ∙ ap (λ xs. put_run (put_run v.slots a.start xs) b.start (run v.slots a.start c)) (run_none c room) ∙ ap (λ xs. put_run (put_run v.slots a.start (replicate c vacant)) b.start xs) (run_items c is_count))
 
 module _ {S : Type 0} (vacant : S) (a b : UsedBlock S) (live : List (UsedBlock S)) (v : Store S) (count : ℕ) (sound : Sound vacant (b ∷ a ∷ live) v)
     (is_count : length a.items ≡ count) (room : count ≤ b.size) where
@@ -20,7 +68,6 @@ module _ {S : Type 0} (vacant : S) (a b : UsedBlock S) (live : List (UsedBlock S
   -- and no block is taken, where the second then holds these
   pub put_over_spends : (w : Store S) (items : List S) → length items ≤ b.size → w ≡ record v { slots = put_run (put_run v.slots a.start (replicate count vacant)) b.start items } → Spends v w None
   put_over_spends w items fits e =
-      let blank : List S = replicate count vacant in
       let nb : length (replicate count vacant) ≡ count = length-replicate count vacant in
       let wa = block_inside vacant a (b ∷ live) v (Sound-exchanged vacant b a live v sound) in
       let wb = block_inside vacant b (a ∷ live) v sound in

@@ -1,6 +1,6 @@
 -- What keeps a store sound.
-use Rattle.std.proofs.Common.{◌≡◌, ◌≢◌, ℕ, zero, suc, ◌+◌, ◌-◌, ◌*◌, ◌<◌, ◌≤◌, ◌⊎◌, inl, inr, ⊎_elim, true, cond, eqb, leb, Some, List, [], ◌∷◌, ◌++◌, length, get_or, set, take, drop, map, replicate, insert, remove, sum_by, count_by, All, IsPermutation, refl, sym, ap, ◌∙◌, subst, arith, append_assoc, length-append}
-use Rattle.std.proofs.lemmas.List.{length-map, get_or_default, get_or-set_same, get_or-set_other, length-set, set-set, set-get_or, length-replicate, map-append, get_or-take, get_or-drop, get_or_append_left, set-append_left, take-take, take_at, drop_at, take-replicate, drop-replicate, replicate-append-replicate}
+use Rattle.std.proofs.Common.{◌≡◌, ◌≢◌, ℕ, zero, suc, ◌+◌, ◌-◌, ◌*◌, ◌<◌, ◌≤◌, ⊎_elim, true, cond, eqb, leb, Some, List, [], ◌∷◌, ◌++◌, length, get_or, set, drop, map, replicate, insert, remove, sum_by, count_by, All, IsPermutation, refl, sym, ap, ◌∙◌, subst, arith, append_assoc, length-append}
+use Rattle.std.proofs.lemmas.List.{length-map, get_or_default, get_or-set_same, get_or-set_other, length-set, set-set, set-get_or, length-replicate, map-append, get_or-take, get_or-drop, get_or_append_left, set-append_left}
 use Rattle.std.proofs.lemmas.List.Edits.{insert-append_left, insert-append_right, remove-append_left, remove-append_right, length-insert, length-remove}
 use Rattle.std.proofs.lemmas.List.Elements.{All-nil, All-cons, All-head, All-tail, All-weaker, All-same, All-map}
 use Rattle.std.proofs.lemmas.List.Sums.{sum_by-cons, sum_by-set}
@@ -10,9 +10,9 @@ use Rattle.std.proofs.lemmas.List.Quantifiers.{position-Some}
 use Rattle.std.proofs.lemmas.Bool.Decides.{nat_tests}
 use Rattle.std.specs.Prelude.{Contains}
 use Rattle.prefix_trie_bits.specs.Model.Blocks.{Tiles, AreBlocksOf, Block as Extent}
-use Rattle.prefix_trie_table.specs.Runs.{run, put_run, swap_runs}
+use Rattle.prefix_trie_table.specs.Runs.{run, put_run}
 use Rattle.prefix_trie_table.specs.Store.{Tier, Store, UsedBlock, Sound, IsOfTier, HoldsItems, IsVacant, tier_at, tier_sizes, slots_made, extent, of_size, free_extents, with_tier, grown, filled, block, tier_for, no_blocks}
-use Rattle.prefix_trie_table.proofs.Blocks.RunLemmas.{Apart, length-run, length-put_run, run-put_run_same, run-put_run_other, run-append_left, run-append_right, moved_in_run, put_run_part, swap_runs_is, set_in_run, run-set_before}
+use Rattle.prefix_trie_table.proofs.Blocks.RunLemmas.{Apart, length-run, length-put_run, run-put_run_same, run-put_run_other, run-append_left, run-append_right, moved_in_run, set_in_run, run-set_before}
 use Rattle.prefix_trie_table.proofs.Blocks.Spending.{size_at, sizes_set}
 use Rattle.prefix_trie_table.proofs.Blocks.Tilings.{Disjoint, Within, Tiles-push, others_apart, each_within, first_inside, blocks_moved, All-append_left, All-append_right}
 
@@ -73,7 +73,7 @@ module _ {S : Type 0} where
   block_inside vacant b live v s = All-head (Within v.first (length v.slots)) (extent b) (map extent live ++ free_extents v.tiers) (all_inside vacant (b ∷ live) v s)
 
   -- all other blocks are apart from the first
-  others : (vacant : S) (b : UsedBlock S) (live : List (UsedBlock S)) (v : Store S) → Sound vacant (b ∷ live) v → All (Disjoint (extent b)) (map extent live ++ free_extents v.tiers)
+  pub others : (vacant : S) (b : UsedBlock S) (live : List (UsedBlock S)) (v : Store S) → Sound vacant (b ∷ live) v → All (Disjoint (extent b)) (map extent live ++ free_extents v.tiers)
   others vacant b live v s = others_apart (tier_sizes v.tiers) v.first (length v.slots) (extent b) (map extent live) (free_extents v.tiers) s.blocks
 
   -- a fact of each extent is one of each block
@@ -117,7 +117,7 @@ module _ {S : Type 0} where
   block_slots vacant b live v s = All-head (HoldsItems vacant v.slots) b live s.held
 
   -- nothing is held where all is vacant
-  filled_none : (vacant : S) (n : ℕ) → filled vacant n [] ≡ replicate n vacant
+  pub filled_none : (vacant : S) (n : ℕ) → filled vacant n [] ≡ replicate n vacant
   filled_none vacant n = ap (λ m. replicate m vacant) (let e : n - 0 ≡ n = omega arith in e)
 
   -- the blocks in use may be named in any order
@@ -285,52 +285,6 @@ module _ {S : Type 0} where
   pub Sound-exchanged : (vacant : S) (a b : UsedBlock S) (live : List (UsedBlock S)) (v : Store S) → Sound vacant (a ∷ b ∷ live) v → Sound vacant (b ∷ a ∷ live) v
   Sound-exchanged vacant a b live v s =
       Sound-permuted vacant (a ∷ b ∷ live) (b ∷ a ∷ live) v (IsPermutation-middle (a ∷ []) b live) s
-
--- a block in use, and another that holds none
-module _ {S : Type 0} (vacant : S) (a b : UsedBlock S) (live : List (UsedBlock S)) (v : Store S) (none : b.items ≡ []) (s : Sound vacant (a ∷ b ∷ live) v) where
-  slots_none : run v.slots b.start b.size ≡ replicate b.size vacant
-  slots_none = block_slots vacant b (a ∷ live) v (Sound-exchanged vacant a b live v s) ∙ ap (λ xs. filled vacant b.size xs) none ∙ filled_none vacant b.size
-
-  pub two_apart : (a.start + a.size ≤ b.start) ⊎ (b.start + b.size ≤ a.start)
-  two_apart = All-head (Disjoint (extent a)) (extent b) (map extent live ++ free_extents v.tiers) (others vacant a (b ∷ live) v s)
-
-  pub run_items : (c : ℕ) → length a.items ≡ c → run v.slots a.start c ≡ a.items
-  run_items c is_count =
-      sym (take-take c a.size (drop a.start v.slots) (let f = fits_block vacant a (b ∷ live) v s in omega arith)) ∙ ap (λ xs. take c xs) (block_slots vacant a (b ∷ live) v s) ∙ take_at a.items (replicate (a.size - length a.items) vacant) c is_count
-
-  pub run_none : (c : ℕ) → c ≤ b.size → run v.slots b.start c ≡ replicate c vacant
-  run_none c room = sym (take-take c b.size (drop b.start v.slots) room) ∙ ap (λ xs. take c xs) slots_none ∙ take-replicate c b.size vacant room
-
-  -- the first is left empty, and the second holds these
-  pub Sound-put_over : (c : ℕ) (items zs : List S) → length a.items ≡ c → length items ≤ b.size → zs ≡ put_run (put_run v.slots a.start (replicate c vacant)) b.start items →
-      Sound vacant (record a { items = [] } ∷ record b { items = items } ∷ live) (record v { slots = zs })
-  Sound-put_over c items zs is_count room is =
-      let wa = block_inside vacant a (b ∷ live) v s in
-      let fits : c ≤ a.size = (let f = fits_block vacant a (b ∷ live) v s in omega arith) in
-      let rc : length (replicate c vacant) ≡ c = length-replicate c vacant in
-      let left : drop c (run v.slots a.start a.size) ≡ replicate (a.size - c) vacant = ap (λ xs. drop c xs) (block_slots vacant a (b ∷ live) v s) ∙ drop_at a.items (replicate (a.size - length a.items) vacant) c is_count ∙ ap (λ n. replicate (a.size - n) vacant) is_count in
-      let emptied : replicate c vacant ++ drop (length (replicate c vacant)) (run v.slots a.start a.size) ≡ filled vacant a.size [] = ap (λ n. replicate c vacant ++ drop n (run v.slots a.start a.size)) rc ∙ ap (λ xs. replicate c vacant ++ xs) left ∙ replicate-append-replicate c (a.size - c) vacant ∙ ap (λ n. replicate n vacant) (let e : c + (a.size - c) ≡ a.size - 0 = omega arith in e) in
-      let first : put_run v.slots a.start (replicate c vacant) ≡ put_run v.slots a.start (filled vacant a.size []) = put_run_part v.slots a.start a.size (replicate c vacant) wa.before (omega arith) ∙ ap (λ xs. put_run v.slots a.start xs) emptied in
-      let ys : List S = put_run v.slots a.start (filled vacant a.size []) in
-      let u : Store S = record v { slots = put_run v.slots a.start (filled vacant a.size []) } in
-      let a' : UsedBlock S = record a { items = [] } in
-      let su : Sound vacant (b ∷ a' ∷ live) u = Sound-exchanged vacant a' b live u (Sound-written vacant a (b ∷ live) v [] (omega arith) s) in
-      let wu = block_inside vacant b (a' ∷ live) u su in
-      let slots_u : run ys b.start b.size ≡ replicate b.size vacant = block_slots vacant b (a' ∷ live) u su ∙ ap (λ xs. filled vacant b.size xs) none ∙ filled_none vacant b.size in
-      let rest : items ++ drop (length items) (run ys b.start b.size) ≡ filled vacant b.size items = ap (λ xs. items ++ drop (length items) xs) slots_u ∙ ap (λ xs. items ++ xs) (drop-replicate (length items) b.size vacant) in
-      let second : put_run ys b.start items ≡ put_run ys b.start (filled vacant b.size items) = put_run_part ys b.start b.size items wu.before (omega arith) ∙ ap (λ xs. put_run ys b.start xs) rest in
-      let b' : UsedBlock S = record b { items = items } in
-      subst (λ xs. Sound vacant (a' ∷ b' ∷ live) (record v { slots = xs })) (sym (is ∙ ap (λ xs. put_run xs b.start items) first ∙ second)) (Sound-exchanged vacant b' a' live (record u { slots = put_run ys b.start (filled vacant b.size items) }) (Sound-written vacant b (a' ∷ live) u items (omega arith) su))
-
-  -- its items move to the front of the other
-  pub Sound-moved : (count : ℕ) → length a.items ≡ count → count ≤ b.size → Sound vacant (record a { items = [] } ∷ record b { items = a.items } ∷ live) (record v { slots = swap_runs v.slots a.start b.start count })
-  Sound-moved c is_count room =
-      let wa = block_inside vacant a (b ∷ live) v s in
-      let wb = block_inside vacant b (a ∷ live) v (Sound-exchanged vacant a b live v s) in
-      let fits : c ≤ a.size = (let f = fits_block vacant a (b ∷ live) v s in omega arith) in
-      let narrow : Apart a.start c b.start c = ⊎_elim (λ (h : a.start + a.size ≤ b.start). inl (let e : a.start + c ≤ b.start = omega arith in e)) (λ (h : b.start + b.size ≤ a.start). inr (let e : b.start + c ≤ a.start = omega arith in e)) two_apart in
-      Sound-put_over c a.items (swap_runs v.slots a.start b.start c) is_count (omega arith)
-      (swap_runs_is v.slots a.start b.start c vacant (omega (arith, wa.before)) (omega (arith, wb.before)) narrow ∙ ap (λ xs. put_run (put_run v.slots a.start xs) b.start (run v.slots a.start c)) (run_none c room) ∙ ap (λ xs. put_run (put_run v.slots a.start (replicate c vacant)) b.start xs) (run_items c is_count))
 
 module _ {S : Type 0} where
   -- the tier of a block in use

@@ -1,7 +1,8 @@
 use Rattle.std.proofs.Common.{◌≡◌, ◌+◌, ◌<◌, ◌≤◌, ◌∷◌, inl, inr, ⊎_elim, replicate, insert, sym, ap, ◌∙◌, arith}
 use Rattle.std.proofs.lemmas.List.Edits.{length-insert}
 use Rattle.prefix_trie_table.specs.Runs.{run, put_run}
-use Rattle.prefix_trie_table.proofs.Blocks.Soundness.{Sound-put_over, Sound-exchanged, two_apart, run_items, run_none, block_inside, fits_block}
+use Rattle.prefix_trie_table.proofs.Blocks.Soundness.{Sound-exchanged, block_inside, fits_block}
+use Rattle.prefix_trie_table.proofs.Blocks.Moving.{Sound-put_over, two_apart, run_items, run_none}
 use Rattle.prefix_trie_table.proofs.allocator.blocks.Blocks.move_in.Goals as goal
 
 pub move_in-requires : goal.move_in-requires
@@ -28,7 +29,6 @@ returns-clause-sound g c = λ a b live s0 from to count none room.
     let s = rw (← c.self.view_is) at s0 in
     let xs = c.self.inside.slots.items in
     let n = c.args.count in
-    let blank = replicate n g.S.Slot.vacant in
     let written : c.move_in.new.slots.items ≡ put_run (put_run xs a.start (replicate n g.S.Slot.vacant)) b.start (insert a.items c.args.place c.args.value) =
     c.move_in.ensures.items
     ∙ ap (λ i. put_run (put_run xs i (replicate n g.S.Slot.vacant)) c.args.to (insert (run xs i n) c.args.place c.args.value)) (sym from)
