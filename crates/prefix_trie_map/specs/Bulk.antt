@@ -6,7 +6,7 @@ use Rattle.prefix_trie_bits.specs.Model.Nodes.{Nodes}
 use Rattle.prefix_trie_bits.specs.Model.Visits.{visits}
 use Rattle.prefix_trie_table.specs.declared.allocator.node.Node.{Node}
 use Rattle.prefix_trie_table.specs.declared.table.bulk.Found.{Found}
-use Rattle.prefix_trie_table.specs.Bulk.{EachOf, IsAnswer}
+use Rattle.prefix_trie_table.specs.Bulk.{IsAnswer, asks}
 
 -- how many nodes there are on the ways to these prefixes, a node on several ways once for each
 abbrev pub visits_of_all : {P : Type 0} → (P → List Bool) → Nodes → List P → ℕ
@@ -28,14 +28,11 @@ abbrev pub ReadsMore : {P : Type 0} → (P → List Bool) → Nodes → List P �
 ReadsMore path n prefixes from to before after =
     after + visits_of_all path n (take from prefixes) ≡ before + visits_of_all path n (take to prefixes)
 
--- what the table is asked for the prefix at a place behind another: its number and its length
-abbrev pub IsQuestion : {P K : Type 0} → (P → K) → (P → ℕ) → List P → ℕ → ℕ → K × ℕ → Type 0
-IsQuestion {P} number len prefixes from i q = (p : P) × (p ≡ slice_index_or prefixes (from + i) p) × (q ≡ (number p, len p))
+-- what the table found for the prefix at a place
+abbrev pub IsFound : {P K : Type 0} → (K → List Bool) → (P → K) → (P → ℕ) → List Node → P → Option Found → Type 0
+IsFound bits number len nodes p a = IsAnswer bits nodes (asks number len p) a
 
-abbrev pub AreQuestions : {P K : Type 0} → (P → K) → (P → ℕ) → List P → ℕ → ℕ → List (K × ℕ) → Type 0
-AreQuestions number len prefixes from n questions = EachOf (IsQuestion number len prefixes from) n questions
-
--- what the table found for each of the first n questions
-abbrev pub AreFound : {K : Type 0} → (K → List Bool) → List Node → ℕ → List (K × ℕ) → List (Option Found) → Type 0
-AreFound {K} bits nodes n questions found =
-    (i : ℕ) (q : K × ℕ) (a : Option Found) → i < n → q ≡ slice_index_or questions i q → a ≡ slice_index_or found i a → IsAnswer bits nodes q a
+-- the same of so many prefixes, from a place on
+abbrev pub AreFound : {P K : Type 0} → (K → List Bool) → (P → K) → (P → ℕ) → List Node → List P → ℕ → ℕ → List (Option Found) → Type 0
+AreFound {P} bits number len nodes prefixes from n found =
+    (i : ℕ) (p : P) (a : Option Found) → i < n → p ≡ slice_index_or prefixes (from + i) p → a ≡ slice_index_or found i a → IsFound bits number len nodes p a

@@ -3,14 +3,14 @@
 ghost use Rattle.std.specs.Prelude.{◌≡◌, ℕ, ◌+◌, ◌<◌, ◌≤◌, All, length, map};
 ghost use Rattle.std.specs.Option.{option_copied, option_map};
 ghost use Rattle.prefix_trie_bits.specs.Model.Matches.{longest_match, shown_match};
-ghost use Rattle.prefix_trie_map.specs.Bulk.{AreAnswered, AreFound, AreQuestions, ReadsMore, longest_shown, longest_value, visits_of_all};
+ghost use Rattle.prefix_trie_map.specs.Bulk.{AreAnswered, AreFound, ReadsMore, longest_shown, longest_value, visits_of_all};
 ghost use Rattle.prefix_trie_map.specs.Walks.{lent_item};
 
 use crate::map::PrefixMap;
 use crate::map::lookup::{rebuilt_match, value_of};
 use crate::map::parts::parts;
 use crate::map::visits::Visits;
-use prefix_trie_bits::prefix::{Key, Prefix};
+use prefix_trie_bits::prefix::Prefix;
 use prefix_trie_table::table::Table;
 use prefix_trie_table::table::bulk::{Found, GROUP};
 use std::alloc::Allocator;
@@ -55,45 +55,25 @@ impl<P: Prefix, T: Drop, A: Allocator> PrefixMap<P, T, A> {
     }
 }
 
-/// Asks the table for the next prefixes, from a place on, and answers how many these are: what it was asked, and what it found.
+/// Asks the table for the next prefixes, from a place on, and answers how many these are.
 fn find_group<P: Prefix, T: Drop, A: Allocator>(
     table: &Table<T, A, Visits>,
     prefixes: &[P],
     from: usize,
-    questions: &mut [(P::R, u32)],
     found: &mut [Option<Found>],
     visits: &mut Visits,
 ) -> usize
     requires fit { All P.IsFitting prefixes.now }
     requires some { from < length prefixes.now }
-    requires room { (length questions.old ≡ 32) × (length found.old ≡ 32) }
+    requires room { length found.old ≡ 32 }
     ensures group { (0 < result) × (result ≤ 32) × (from + result ≤ length prefixes.now) }
-    ensures questions { AreQuestions P.repr_of P.len_of prefixes.now from result questions.new }
-    ensures found { AreFound P.R.bits table.now.build result questions.new found.new }
+    ensures found { AreFound P.R.bits P.repr_of P.len_of table.now.build prefixes.now from result found.new }
     ensures visits { ReadsMore P.path table.now.nodes prefixes.now from (from + result) visits.old visits.new }
-    ensures lengths { (length questions.new ≡ 32) × (length found.new ≡ 32) }
+    ensures length { length found.new ≡ 32 }
 {
     let count = (prefixes.len() - from).min(GROUP);
-    ask_each(prefixes, from, count, questions);
-    table.find_longest_each(&questions[..count], &mut found[..count], visits);
+    table.find_longest_each(&prefixes[from..from + count], &mut found[..count], visits);
     count
-}
-
-/// What the table is asked for so many prefixes, from a place on.
-fn ask_each<P: Prefix>(
-    prefixes: &[P],
-    from: usize,
-    count: usize,
-    questions: &mut [(P::R, u32)],
-)
-    requires fit { All P.IsFitting prefixes.now }
-    requires room { (from + count ≤ length prefixes.now) × (count ≤ length questions.old) }
-    ensures questions { AreQuestions P.repr_of P.len_of prefixes.now from count questions.new }
-    ensures length { length questions.new ≡ length questions.old }
-{
-    for i in 0..count {
-        questions[i] = parts(&prefixes[from + i]);
-    }
 }
 
 /// Answers the next prefixes, from a place on, and how many these are.
@@ -113,12 +93,11 @@ fn match_group<'a, P: Prefix, T: Drop, A: Allocator>(
     ensures visits { ReadsMore P.path table.now.nodes prefixes.now from (from + result) visits.old visits.new }
     ensures length { length out.new ≡ length out.old }
 {
-    let mut questions = [(P::R::zero(), 0); GROUP];
     let mut found = [None; GROUP];
-    let count = find_group(table, prefixes, from, &mut questions, &mut found, visits);
+    let count = find_group(table, prefixes, from, &mut found, visits);
     for i in 0..count {
-        let question = questions[i];
-        out[from + i] = rebuilt_match(question.0, table.value_found(question, found[i]));
+        let (key, len) = parts(&prefixes[from + i]);
+        out[from + i] = rebuilt_match(key, table.value_found((key, len), found[i]));
     }
     count
 }
