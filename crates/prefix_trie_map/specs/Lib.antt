@@ -1,4 +1,5 @@
 pub mod Asking
+pub mod Bulk
 pub mod Collected
 pub mod Copied
 pub mod Covers

@@ -14,6 +14,7 @@ ghost use Rattle.prefix_trie_bits.specs.Model.Storage.{StepInStorage};
 ghost use Rattle.prefix_trie_map.specs.Steps.{stored, inserted};
 ghost use Rattle.prefix_trie_map.specs.Whole.{IsWhole};
 
+mod bulk;
 mod clone;
 mod collecting;
 mod counting;

@@ -54,6 +54,13 @@ cost_of costs w = slice_index_or costs w.question 0
 abbrev pub IsSound : Store Node → Type 0
 IsSound v = (n : SomeNodes v) × LackLastBit n.reading
 
+-- what is asked for a prefix: so many bits of its number
+abbrev pub asks : {P K : Type 0} → (P → K) → (P → ℕ) → P → K × ℕ
+asks number len p = (number p, len p)
+
+abbrev pub questions_of : {P K : Type 0} → (P → K) → (P → ℕ) → List P → List (K × ℕ)
+questions_of number len prefixes = map (asks number len) prefixes
+
 -- a key, and a number of bits that it has
 abbrev pub CanAsk : {K : Type 0} → (K → Type 0) → ℕ → K × ℕ → Type 0
 CanAsk IsKey width q = IsKey q.0 × (q.1 ≤ width)

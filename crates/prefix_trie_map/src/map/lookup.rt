@@ -243,7 +243,7 @@ pub(super) fn rebuilt<P: Prefix>(key: P::R, len: u32) -> P
 
 /// A match of the table, with the prefix in place of its length.
 #[inline]
-fn rebuilt_match<P: Prefix, T>(key: P::R, found: Option<(u32, &T)>) -> Option<(P, &T)>
+pub(super) fn rebuilt_match<P: Prefix, T>(key: P::R, found: Option<(u32, &T)>) -> Option<(P, &T)>
     requires key { P.R.IsKey key }
     requires within { IfSome found (λ f. f.0 ≤ P.R.bit_width) }
     ensures { option_map lent_item result ≡ option_map (λ f. (P.back (take f.0 (P.R.bits key)), f.1.now)) found.entry }
@@ -267,7 +267,7 @@ fn prefix_of<P: Prefix, T>(found: Option<(P, &T)>) -> Option<P>
 
 /// The value of a match, without its length.
 #[inline]
-fn value_of<T>(found: Option<(u32, &T)>) -> Option<&T>
+pub(super) fn value_of<T>(found: Option<(u32, &T)>) -> Option<&T>
     ensures { option_copied result ≡ option_map (λ f. f.1.now) found.entry }
 {
     match found {

@@ -8,6 +8,7 @@ use prefix_trie_bits::prefix::Prefix;
 pub(super) fn parts<P: Prefix>(prefix: &P) -> (P::R, u32)
     requires { P.IsFitting prefix.now }
     ensures key { P.R.IsKey result.0 }
+    ensures number { result.0 ≡ P.repr_of prefix.now }
     ensures len { result.1 ≡ P.len_of prefix.now }
     ensures within { result.1 ≤ P.R.bit_width }
     ensures path { take result.1 (P.R.bits result.0) ≡ P.path prefix.now }

@@ -3,7 +3,7 @@ use Rattle.std.proofs.Common.{◌≡◌, ℕ, ◌+◌, ◌*◌, ◌<◌, ◌≤�
 use Rattle.std.specs.Option.{option_or}
 use Rattle.std.proofs.Math.Nat.{add-mul, one-mul}
 use Rattle.std.proofs.lemmas.Bool.{cases_eq}
-use Rattle.std.proofs.lemmas.List.{append_assoc, map-append, length_push, length-take-le, take_more, take_more_set, drop-drop, get_or_default, get_or-drop, get_or-take, get_or-set_same, get_or-set_other}
+use Rattle.std.proofs.lemmas.List.{append_assoc, map-append, length_push, length-take-le, take_more, take_more_set, drop-drop, get_or_default, get_or-map, get_or-drop, get_or-take, get_or-set_same, get_or-set_other}
 use Rattle.std.proofs.lemmas.List.Elements.{All-nil, All-push, Contains-append_cases, Contains-append_left, Contains-append_right, Contains-push_cases}
 use Rattle.std.proofs.lemmas.List.Sums.{sum_by_push}
 use Rattle.prefix_trie_table.specs.declared.allocator.node.Node.{Node}
@@ -11,7 +11,7 @@ use Rattle.prefix_trie_table.specs.declared.allocator.node.NodeSlot.{NodeSlot}
 use Rattle.prefix_trie_table.specs.declared.table.bulk.Found.{Found}
 use Rattle.prefix_trie_table.specs.declared.table.bulk.Way.{Way}
 use Rattle.prefix_trie_table.specs.declared.table.matching.Match.{Match}
-use Rattle.prefix_trie_table.specs.Bulk.{AreAnswered, AreRead, GoOn, HasFound, IsWay, asked, cost_of, found_of, question_of, slot_of}
+use Rattle.prefix_trie_table.specs.Bulk.{AreAnswered, AreRead, GoOn, HasFound, IsWay, asked, asks, cost_of, found_of, question_of, questions_of, slot_of}
 use Rattle.prefix_trie_table.specs.Cells.{node_at}
 use Rattle.prefix_trie_table.specs.Digits.{path_of}
 use Rattle.prefix_trie_table.specs.Forest.{IsEnd, SomeNodes}
@@ -46,6 +46,11 @@ module _ (b : List Bool) (len level slot : ℕ) (node : Node) (v : Store Node) w
       let so_far = has reading paths hold in
       let end = reached_end b len level slot node v at reading paths hold in
       (so_far.0, longest_none reading (take len b) 0 (5 * level + 5) (len + 1) so_far.0 so_far.1 (none_past reading paths v (take len b) level (len + 1) hold end), so_far.2)
+
+-- what is asked for a prefix stands among the questions in its place
+pub question_at : {P K : Type 0} (number : P → K) (len : P → ℕ) (prefixes : List P) (i : ℕ) → i < length prefixes → (p : P) → p ≡ get_or prefixes i p → (q : K × ℕ) → q ≡ asks number len p
+    → q ≡ get_or (questions_of number len prefixes) i q
+question_at number len prefixes i inside p p_is q is = is ∙ ap (asks number len) p_is ∙ sym (get_or-map (asks number len) prefixes i p q inside)
 
 -- ---- one round
 

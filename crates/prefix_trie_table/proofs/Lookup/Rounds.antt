@@ -3,18 +3,21 @@ use Rattle.std.proofs.Common.{◌≡◌, ℕ, zero, suc, ◌+◌, ◌*◌, ◌<�
 use Rattle.std.proofs.Math.Nat.{add-mul, mul-zero, mul-add, mul-one, zero-mul}
 use Rattle.std.proofs.lemmas.Bool.{false≢true}
 use Rattle.std.proofs.lemmas.List.{append-nil, length-map, length-take-le, take_all, take_more, get_or_default, get_or-map, get_or-take}
-use Rattle.std.proofs.lemmas.List.Sums.{sum_by_push}
+use Rattle.std.proofs.lemmas.List.Elements.{All-map}
+use Rattle.std.proofs.lemmas.Simd.{map-map}
+use Rattle.std.proofs.lemmas.List.Sums.{sum_by_push, sum-map}
 use Rattle.prefix_trie_table.specs.declared.allocator.node.Node.{Node}
 use Rattle.prefix_trie_table.specs.declared.table.bulk.Found.{Found}
 use Rattle.prefix_trie_table.specs.declared.table.bulk.Way.{Way}
 use Rattle.prefix_trie_table.specs.declared.table.matching.Match.{Match}
-use Rattle.prefix_trie_table.specs.Bulk.{AreAnswered, AreAnswers, AreCosts, AreRead, CanAsk, EachOf, GoOn, HasFound, IsAhead, IsAnswer, IsLongestFound, IsNew, IsWay, asked, cost_of, found_of, new_way, question_of, slot_of}
+use Rattle.prefix_trie_table.specs.Bulk.{AreAnswered, AreAnswers, AreCosts, AreRead, CanAsk, EachOf, GoOn, HasFound, IsAhead, IsAnswer, IsLongestFound, IsNew, IsWay, asked, asks, cost_of, found_of, new_way, question_of, questions_of, slot_of}
 use Rattle.prefix_trie_table.specs.Cells.{node_at, node_sizes}
 use Rattle.prefix_trie_table.specs.Digits.{path_of}
 use Rattle.prefix_trie_table.specs.Forest.{IsEnd, NodesHold, SomeNodes, SomeTable, read}
 use Rattle.prefix_trie_table.specs.Matching.{IsHeld, IsOnWay, NoneHeld}
 use Rattle.prefix_trie_table.specs.Shape.{IsShapeOf}
 use Rattle.prefix_trie_table.specs.Store.{Store}
+use Rattle.prefix_trie_bits.specs.Model.Nodes.{Nodes}
 use Rattle.prefix_trie_bits.specs.Model.Step.{State}
 use Rattle.prefix_trie_bits.specs.Model.Visits.{visits}
 use Rattle.prefix_trie_table.proofs.Counts.Counted.{visits_counted}
@@ -26,6 +29,12 @@ use Rattle.prefix_trie_table.proofs.Lookup.Going.{deepest_in, deepest_root, key_
 some_at : {X : Type 0} (xs : List X) (i : ℕ) → i < length xs → (x : X) × (x ≡ get_or xs i x)
 some_at [] i inside = absurd (omega (arith, inside))
 some_at (x ∷ xs) i inside = (get_or (x ∷ xs) i x, get_or_default (x ∷ xs) i x (get_or (x ∷ xs) i x) inside)
+
+-- what is asked for prefixes that fit can be asked
+pub can_ask_each : {P K : Type 0} (number : P → K) (len : P → ℕ) (IsFitting : P → Type 0) (IsKey : K → Type 0) (width : ℕ) → ((p : P) → IsFitting p → CanAsk IsKey width (asks number len p))
+    → (prefixes : List P) → All IsFitting prefixes → All (CanAsk IsKey width) (questions_of number len prefixes)
+can_ask_each number len IsFitting IsKey width can prefixes fit =
+    All-map (CanAsk IsKey width) (asks number len) prefixes (λ k d inside. can (get_or prefixes k d) (fit k d inside))
 
 -- ---- before the first round
 
@@ -160,6 +169,14 @@ module _ {T : Type 0} (v : Store Node) (w : Store (Option T)) (t : SomeTable v w
       get_or-map (λ x. visits s.nodes (asked bits x)) questions i q 0 inside ∙ ap (λ x. visits s.nodes (asked bits x)) (sym is)
       ∙ visits_counted t.reading t.paths v t.holds.hold s.nodes (shape_nodes t.reading t.values t.paths v w t.holds s shaped) (asked bits q) level
       (subst (λ r. IsEnd r (path_of (asked bits q)) level) same end)
+
+-- the sum of what is asked for prefixes is that of their paths
+pub costs_sum : {P K : Type 0} (nodes : Nodes) (bits : K → List Bool) (number : P → K) (len : P → ℕ) (path : P → List Bool) → ((p : P) → path p ≡ take (len p) (bits (number p))) → (prefixes : List P)
+    → sum (map (λ q. visits nodes (asked bits q)) (questions_of number len prefixes)) ≡ sum_by (λ p. visits nodes (path p)) prefixes
+costs_sum nodes bits number len path paths prefixes =
+    ap sum (map-map (λ q. visits nodes (asked bits q)) (asks number len) prefixes)
+    ∙ sum-map (λ p. visits nodes (asked bits (asks number len p))) prefixes
+    ∙ (λ i. sum_by (λ p. visits nodes (sym (paths p) i)) prefixes)
 
 -- a match that is kept, and what is where none is
 abbrev kept_or : Found → Option Found → Found

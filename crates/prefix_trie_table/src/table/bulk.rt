@@ -8,7 +8,7 @@ ghost use Rattle.prefix_trie_table.specs.declared.allocator.node.Node.{Node};
 ghost use Rattle.prefix_trie_table.specs.declared.table.bulk.Found.{Found};
 ghost use Rattle.prefix_trie_table.specs.declared.table.bulk.Way.{Way};
 ghost use Rattle.prefix_trie_table.specs.Bitmaps.{has_bit as is_set};
-ghost use Rattle.prefix_trie_table.specs.Bulk.{AreAnswered, AreAnswers, AreCosts, AreRead, CanAsk, EachOf, GoOn, HasFound, IsAhead, IsAnswer, IsNew, IsSound, IsWay, asked, cost_of, found_of, new_way, question_of, slot_of};
+ghost use Rattle.prefix_trie_table.specs.Bulk.{AreAnswered, AreAnswers, AreCosts, AreRead, CanAsk, EachOf, GoOn, HasFound, IsAhead, IsAnswer, IsNew, IsSound, IsWay, asked, asks, found_of, new_way, questions_of, slot_of};
 ghost use Rattle.prefix_trie_table.specs.Cells.{node_at};
 ghost use Rattle.prefix_trie_table.specs.Matching.{IsOnWay};
 ghost use Rattle.prefix_trie_table.specs.Store.{Store};
@@ -21,7 +21,7 @@ use crate::table::Table;
 use crate::table::lookup::{Reached, next_slot};
 use crate::table::matching::{Match, longest_in};
 use crate::table::seat::Seat;
-use prefix_trie_bits::prefix::Key;
+use prefix_trie_bits::prefix::{Key, Prefix};
 use std::alloc::Allocator;
 
 /// How many questions go down side by side.
@@ -71,6 +71,14 @@ fn longer(here: Option<Match>, above: Option<Found>) -> Option<Found>
     })
 }
 
+/// What is asked for a prefix: its number, and how many bits of it.
+#[inline(always)]
+fn question<P: Prefix>(prefix: &P) -> (P::R, u32)
+    ensures { result ≡ asks P.repr_of P.len_of prefix.now }
+{
+    (prefix.repr(), u32::from(prefix.prefix_len()))
+}
+
 /// Looks at the node to which the way of a question has come: what was found so far, and where the next node stands, if the
 /// way goes on.
 #[inline(always)]
@@ -117,27 +125,30 @@ fn read_each<A: Allocator, V: Tick>(
 
 /// Looks at the nodes that were read for the first `count` ways. Those that go on are put first, and the questions of the others
 /// are answered. Answers how many go on.
-fn look_at_each<K: Key>(
-    questions: &[(K, u32)],
+fn look_at_each<P: Prefix>(
+    prefixes: &[P],
     ways: &mut [Way],
     count: usize,
     level: u32,
     read: &[Node],
     found: &mut [Option<Found>],
 ) -> usize
-    requires ask { All (CanAsk K.IsKey K.bit_width) questions.now }
-    requires same_length { length found.old ≡ length questions.now }
+    requires fit { All P.IsFitting prefixes.now }
+    requires same_length { length found.old ≡ length prefixes.now }
     requires count { (count ≤ length ways.old) × (count ≤ length read.now) }
-    requires read { (v : Store Node) × IsSound v × AreRead K.bits v questions.now level (take count ways.old) read.now }
+    requires read { (v : Store Node) × IsSound v
+        × AreRead P.R.bits v (questions_of P.repr_of P.len_of prefixes.now) level (take count ways.old) read.now }
     ensures few { result ≤ count }
-    ensures go_on { (v : Store Node) → AreRead K.bits v questions.now level (take count ways.old) read.now
-        → GoOn K.bits v questions.now level (take count ways.old) (take result ways.new) found.old found.new }
+    ensures go_on { (v : Store Node)
+        → AreRead P.R.bits v (questions_of P.repr_of P.len_of prefixes.now) level (take count ways.old) read.now
+        → GoOn P.R.bits v (questions_of P.repr_of P.len_of prefixes.now) level (take count ways.old) (take result ways.new) found.old found.new }
     ensures lengths { (length ways.new ≡ length ways.old) × (length found.new ≡ length found.old) }
 {
     let mut kept = 0;
     for j in 0..count {
         let way = ways[j];
-        let (best, next) = look(questions[way.question], way, level, read[j]);
+        let asked = question(&prefixes[way.question]);
+        let (best, next) = look(asked, way, level, read[j]);
         match next {
             Some(at) => {
                 ways[kept] = Way {
@@ -166,30 +177,31 @@ fn begin(ways: &mut [Way], count: usize)
     }
 }
 
-/// Goes down for all questions side by side, and answers each.
-fn answer_each<K: Key, A: Allocator, V: Tick>(
+/// Goes down for all prefixes side by side, and answers each.
+fn answer_each<P: Prefix, A: Allocator, V: Tick>(
     nodes: &NodeAllocator<A, V>,
-    questions: &[(K, u32)],
+    prefixes: &[P],
     found: &mut [Option<Found>],
     counter: &mut V,
 )
     requires sound { IsSound nodes.now }
-    requires ask { All (CanAsk K.IsKey K.bit_width) questions.now }
-    requires same_length { length found.old ≡ length questions.now }
-    requires few { length questions.now ≤ 32 }
-    ensures answered { AreAnswered K.bits nodes.now questions.now [] found.new }
-    ensures counted { (costs : List ℕ) → length costs ≡ length questions.now → AreCosts K.bits nodes.now questions.now costs
+    requires fit { All P.IsFitting prefixes.now }
+    requires same_length { length found.old ≡ length prefixes.now }
+    requires few { length prefixes.now ≤ 32 }
+    ensures answered { AreAnswered P.R.bits nodes.now (questions_of P.repr_of P.len_of prefixes.now) [] found.new }
+    ensures counted { (costs : List ℕ) → length costs ≡ length prefixes.now
+        → AreCosts P.R.bits nodes.now (questions_of P.repr_of P.len_of prefixes.now) costs
         → V.count counter.new ≡ V.count counter.old + sum costs }
     ensures length { length found.new ≡ length found.old }
 {
     let mut ways = [Way::new(0); GROUP];
     let mut read = [Node::blank(); GROUP];
-    let mut left = questions.len();
+    let mut left = prefixes.len();
     begin(&mut ways, left);
     let mut level = 0;
     'round: while left > 0 {
         read_each(nodes, &ways, left, &mut read, counter);
-        left = look_at_each(questions, &mut ways, left, level, &read, found);
+        left = look_at_each(prefixes, &mut ways, left, level, &read, found);
         level += 1;
     }
 }
@@ -210,24 +222,26 @@ fn value_at<'a, T: Drop, A: Allocator>(cells: &'a Blocks<Option<T>, A>, found: F
 }
 
 impl<T: Drop, A: Allocator, V: Tick> Table<T, A, V> {
-    /// What `find_longest` finds for each question, which is a key and a length: in the place of each in `found` its answer, which
-    /// `value_found` reads. Each node on the way of a question is read once for it.
+    /// What `find_longest` finds for each prefix: in the place of each in `found` its answer, which `value_found` reads. Each node on
+    /// the way of a prefix is read once for it.
+    ///
+    /// It takes prefixes, where the other calls take a key and a length, since no array of keys of any type is known to fit.
     #[inline]
-    pub fn find_longest_each<K: Key>(
+    pub fn find_longest_each<P: Prefix>(
         &self,
-        questions: &[(K, u32)],
+        prefixes: &[P],
         found: &mut [Option<Found>],
         counter: &mut V,
     )
-        requires ask { All (CanAsk K.IsKey K.bit_width) questions.now }
-        requires same_length { length found.old ≡ length questions.now }
-        requires few { length questions.now ≤ 32 }
-        ensures answers { AreAnswers K.bits self.now.build questions.now found.new }
+        requires fit { All P.IsFitting prefixes.now }
+        requires same_length { length found.old ≡ length prefixes.now }
+        requires few { length prefixes.now ≤ 32 }
+        ensures answers { AreAnswers P.R.bits self.now.build (questions_of P.repr_of P.len_of prefixes.now) found.new }
         ensures visits { V.count counter.new
-            ≡ V.count counter.old + sum_by (λ q. visits self.now.nodes (asked K.bits q)) questions.now }
+            ≡ V.count counter.old + sum_by (λ p. visits self.now.nodes (P.path p)) prefixes.now }
         ensures length { length found.new ≡ length found.old }
     {
-        answer_each(&self.nodes, questions, found, counter);
+        answer_each(&self.nodes, prefixes, found, counter);
     }
 
     /// The value of an answer of `find_longest_each`, behind the length of its string, as `find_longest` answers it.

@@ -1,11 +1,10 @@
 use Rattle.std.proofs.Common.{◌≡◌, ◌+◌, map, sum, sum_by, ap, ◌∙◌, subst}
 use Rattle.std.proofs.lemmas.List.{length-map}
-use Rattle.std.proofs.lemmas.List.Sums.{sum-map}
 use Rattle.prefix_trie_bits.specs.Model.Visits.{visits}
-use Rattle.prefix_trie_table.specs.Bulk.{AreAnswers, asked}
+use Rattle.prefix_trie_table.specs.Bulk.{AreAnswers, asked, asks, questions_of}
 use Rattle.prefix_trie_table.specs.Shape.{Contents}
 use Rattle.prefix_trie_table.proofs.Lookup.Matched.{has_nodes}
-use Rattle.prefix_trie_table.proofs.Lookup.Rounds.{are_answers, costs_are}
+use Rattle.prefix_trie_table.proofs.Lookup.Rounds.{are_answers, costs_are, costs_sum}
 use Rattle.prefix_trie_table.proofs.Tree.Invariant.{some_table}
 use Rattle.prefix_trie_table.proofs.table.Table.find_longest_each.Goals as goal
 
@@ -15,15 +14,18 @@ answer_each-requires-clause-sound g c = has_nodes _ _ (some_table c.self.invaria
 pub returns-clause-answers : goal.returns-clause-answers
 returns-clause-answers g c =
     let t = some_table c.self.invariant in
-    subst (λ (s : Contents g.row.T.Denot). AreAnswers g.K.Key.bits s.build c.args.questions.now c.answer_each.new.found) c.self.view_is
-    (are_answers c.self.inside.nodes t.reading t.paths t.holds.hold g.K.Key.bits c.args.questions.now c.answer_each.new.found c.answer_each.ensures.answered)
+    let qs = questions_of g.P.Prefix.repr_of g.P.Prefix.len_of c.args.prefixes.now in
+    subst (λ (s : Contents g.row.T.Denot). AreAnswers g.P.R.Key.bits s.build qs c.answer_each.new.found) c.self.view_is
+    (are_answers c.self.inside.nodes t.reading t.paths t.holds.hold g.P.R.Key.bits qs c.answer_each.new.found c.answer_each.ensures.answered)
 
 pub returns-clause-visits : goal.returns-clause-visits
 returns-clause-visits g c =
     let t = some_table c.self.invariant in
-    let qs = c.args.questions.now in
+    let ps = c.args.prefixes.now in
+    let qs = questions_of g.P.Prefix.repr_of g.P.Prefix.len_of c.args.prefixes.now in
     let s = c.self.inside.shape in
-    subst (λ (s : Contents g.row.T.Denot). g.V.Tick.count c.answer_each.new.counter ≡ g.V.Tick.count c.args.counter.now + sum_by (λ q. visits s.nodes (asked g.K.Key.bits q)) qs) c.self.view_is
-    (c.answer_each.ensures.counted (map (λ q. visits s.0.nodes (asked g.K.Key.bits q)) qs) (length-map qs (λ q. visits s.0.nodes (asked g.K.Key.bits q)))
-    (costs_are c.self.inside.nodes c.self.inside.cells t s.0 s.1 g.K.Key.bits qs)
-    ∙ ap (λ n. g.V.Tick.count c.args.counter.now + n) (sum-map (λ q. visits s.0.nodes (asked g.K.Key.bits q)) qs))
+    subst (λ (s : Contents g.row.T.Denot). g.V.Tick.count c.answer_each.new.counter ≡ g.V.Tick.count c.args.counter.now + sum_by (λ p. visits s.nodes (g.P.Prefix.path p)) ps) c.self.view_is
+    (c.answer_each.ensures.counted (map (λ q. visits s.0.nodes (asked g.P.R.Key.bits q)) qs)
+    (length-map qs (λ q. visits s.0.nodes (asked g.P.R.Key.bits q)) ∙ length-map ps (asks g.P.Prefix.repr_of g.P.Prefix.len_of))
+    (costs_are c.self.inside.nodes c.self.inside.cells t s.0 s.1 g.P.R.Key.bits qs)
+    ∙ ap (λ n. g.V.Tick.count c.args.counter.now + n) (costs_sum s.0.nodes g.P.R.Key.bits g.P.Prefix.repr_of g.P.Prefix.len_of g.P.Prefix.path g.met.P.Prefix.prefix_laws.path_is ps))

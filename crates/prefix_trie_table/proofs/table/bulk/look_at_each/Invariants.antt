@@ -1,6 +1,6 @@
 use Rattle.std.proofs.Common.{◌≡◌, ◌≤◌, take, drop}
 use Rattle.prefix_trie_table.specs.declared.allocator.node.Node.{Node}
-use Rattle.prefix_trie_table.specs.Bulk.{AreRead, GoOn}
+use Rattle.prefix_trie_table.specs.Bulk.{AreRead, GoOn, questions_of}
 use Rattle.prefix_trie_table.specs.Store.{Store}
 use Rattle.prefix_trie_table.proofs.table.bulk.look_at_each.Given as goal
 
@@ -8,6 +8,6 @@ abbrev pub invariant-loop-j : goal.invariant-loop-j
 invariant-loop-j g l = record {
   few : l.kept ≤ l.j;
   rest : drop l.j l.ways ≡ drop l.j l.fn.ways;
-  go_on : (v : Store Node) → AreRead g.K.Key.bits v l.questions l.level (take l.count l.fn.ways) l.read
-      → GoOn g.K.Key.bits v l.questions l.level (take l.j l.fn.ways) (take l.kept l.ways) l.fn.found l.found;
+  go_on : (v : Store Node) → AreRead g.P.R.Key.bits v (questions_of g.P.Prefix.repr_of g.P.Prefix.len_of l.prefixes) l.level (take l.count l.fn.ways) l.read
+      → GoOn g.P.R.Key.bits v (questions_of g.P.Prefix.repr_of g.P.Prefix.len_of l.prefixes) l.level (take l.j l.fn.ways) (take l.kept l.ways) l.fn.found l.found;
 }

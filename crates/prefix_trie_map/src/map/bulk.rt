@@ -1,0 +1,103 @@
+//! Many longest matches in one call. The machine fetches the nodes of a group of prefixes together, so where a table is larger than
+//! its caches, this takes less time than as many lookups. No memory is asked for.
+ghost use Rattle.std.specs.Prelude.{◌≡◌, ℕ, ◌+◌, ◌<◌, ◌≤◌, All, length, map};
+ghost use Rattle.std.specs.Option.{option_copied, option_map};
+ghost use Rattle.prefix_trie_bits.specs.Model.Matches.{longest_match, shown_match};
+ghost use Rattle.prefix_trie_map.specs.Bulk.{AreAnswered, AreFound, ReadsMore, longest_shown, longest_value, visits_of_all};
+ghost use Rattle.prefix_trie_map.specs.Walks.{lent_item};
+
+use crate::map::PrefixMap;
+use crate::map::lookup::{rebuilt_match, value_of};
+use crate::map::parts::parts;
+use crate::map::visits::Visits;
+use prefix_trie_bits::prefix::Prefix;
+use prefix_trie_table::table::Table;
+use prefix_trie_table::table::bulk::{Found, GROUP};
+use std::alloc::Allocator;
+
+impl<P: Prefix, T: Drop, A: Allocator> PrefixMap<P, T, A> {
+    /// For each prefix what `get_lpm` answers, in the order of the prefixes. Asks that `out` is as long as `prefixes`.
+    ///
+    /// ```text
+    /// 10.0.0.0/8 is stored with 1, and 10.1.0.0/16 with 2
+    /// map.get_lpm_bulk(&[10.1.2.3/32, 11.0.0.0/8, 10.2.0.0/16], &mut out)
+    /// out == [Some((10.1.0.0/16, &2)), None, Some((10.0.0.0/8, &1))]
+    /// ```
+    #[inline]
+    pub fn get_lpm_bulk<'a>(&'a self, prefixes: &[P], out: &mut [Option<(P, &'a T)>])
+        requires fit { All P.IsFitting prefixes.now }
+        requires same_length { length out.old ≡ length prefixes.now }
+        ensures { map (option_map lent_item) out.new
+            ≡ map (λ p. shown_match P.back (longest_match self.now.entries (P.path p))) prefixes.now }
+    {
+        self.get_lpm_bulk_counted(prefixes, out);
+    }
+
+    /// The answers of `get_lpm_bulk`, and how many nodes it read: those on the way of each prefix once for that prefix, as
+    /// `get_lpm_counted` does.
+    pub fn get_lpm_bulk_counted<'a>(
+        &'a self,
+        prefixes: &[P],
+        out: &mut [Option<(P, &'a T)>],
+    ) -> Visits
+        requires fit { All P.IsFitting prefixes.now }
+        requires same_length { length out.old ≡ length prefixes.now }
+        ensures values { map (option_map lent_item) out.new
+            ≡ map (λ p. shown_match P.back (longest_match self.now.entries (P.path p))) prefixes.now }
+        ensures reads { result ≡ visits_of_all P.path self.now.nodes prefixes.now }
+    {
+        let mut visits = Visits::new();
+        let mut from = 0;
+        'groups: while from < prefixes.len() {
+            from += match_group(&self.table, prefixes, from, out, &mut visits);
+        }
+        visits
+    }
+}
+
+/// Asks the table for the next prefixes, from a place on, and answers how many these are.
+fn find_group<P: Prefix, T: Drop, A: Allocator>(
+    table: &Table<T, A, Visits>,
+    prefixes: &[P],
+    from: usize,
+    found: &mut [Option<Found>],
+    visits: &mut Visits,
+) -> usize
+    requires fit { All P.IsFitting prefixes.now }
+    requires some { from < length prefixes.now }
+    requires room { length found.old ≡ 32 }
+    ensures group { (0 < result) × (result ≤ 32) × (from + result ≤ length prefixes.now) }
+    ensures found { AreFound P.R.bits P.repr_of P.len_of table.now.build prefixes.now from result found.new }
+    ensures visits { ReadsMore P.path table.now.nodes prefixes.now from (from + result) visits.old visits.new }
+    ensures length { length found.new ≡ 32 }
+{
+    let count = (prefixes.len() - from).min(GROUP);
+    table.find_longest_each(&prefixes[from..from + count], &mut found[..count], visits);
+    count
+}
+
+/// Answers the next prefixes, from a place on, and how many these are.
+fn match_group<'a, P: Prefix, T: Drop, A: Allocator>(
+    table: &'a Table<T, A, Visits>,
+    prefixes: &[P],
+    from: usize,
+    out: &mut [Option<(P, &'a T)>],
+    visits: &mut Visits,
+) -> usize
+    requires fit { All P.IsFitting prefixes.now }
+    requires same_length { length out.old ≡ length prefixes.now }
+    requires some { from < length prefixes.now }
+    ensures group { (0 < result) × (from + result ≤ length prefixes.now) }
+    ensures answers { AreAnswered (option_map lent_item) (longest_shown P.path P.back table.now.entries) prefixes.now out.old from
+        → AreAnswered (option_map lent_item) (longest_shown P.path P.back table.now.entries) prefixes.now out.new (from + result) }
+    ensures visits { ReadsMore P.path table.now.nodes prefixes.now from (from + result) visits.old visits.new }
+    ensures length { length out.new ≡ length out.old }
+{
+    let mut found = [None; GROUP];
+    let count = find_group(table, prefixes, from, &mut found, visits);
+    for i in 0..count {
+        let (key, len) = parts(&prefixes[from + i]);
+        out[from + i] = rebuilt_match(key, table.value_found((key, len), found[i]));
+    }
+    count
+}
