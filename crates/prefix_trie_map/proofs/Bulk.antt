@@ -1,19 +1,36 @@
--- Many lookups in one call: what a group of them reads, and one answer more.
-use Rattle.std.proofs.Common.{◌≡◌, ℕ, ◌+◌, ◌-◌, ◌<◌, ◌≤◌, Bool, List, [], ◌∷◌, ◌++◌, Option, map, set, take, drop, length, get_or, sum_by, slice_range, refl, sym, ap, ap₂, ◌∙◌, subst, arith}
-use Rattle.std.proofs.lemmas.List.{map-append, take_more, take_more_set, take-take}
-use Rattle.std.proofs.lemmas.List.Sums.{sum_by_push, sum_by-take-drop}
+-- Many lookups in one call: what a group of them reads and finds, and one answer more.
+use Rattle.std.proofs.Common.{◌≡◌, ℕ, ◌+◌, ◌-◌, ◌<◌, ◌≤◌, Bool, List, [], ◌∷◌, ◌++◌, Option, map, set, take, drop, length, get_or, sum_by, slice_range, refl, sym, ap, ap₂, ◌∙◌, subst, arith, add-sub_of_le, length-drop}
+use Rattle.std.proofs.lemmas.List.{drop-take, get_or_append_left, get_or-drop, get_or-map, get_or-take, length-map, length-take-le, map-append, take_more, take_more_set, take-take}
+use Rattle.std.proofs.lemmas.List.Sums.{sum_by-take-drop}
 use Rattle.prefix_trie_bits.specs.Model.Nodes.{Nodes}
 use Rattle.prefix_trie_bits.specs.Model.Visits.{visits}
-use Rattle.prefix_trie_map.specs.Bulk.{AreAnswered, ReadsMore, visits_of_all}
+use Rattle.prefix_trie_table.specs.declared.allocator.node.Node.{Node}
+use Rattle.prefix_trie_table.specs.declared.table.bulk.Found.{Found}
+use Rattle.prefix_trie_table.specs.Bulk.{AreAnswers, asks, questions_of}
+use Rattle.prefix_trie_map.specs.Bulk.{AreAnswered, AreFound, IsFound, ReadsMore, visits_of_all}
 
 -- a group's reads
 pub reads_more : {P : Type 0} (path : P → List Bool) (nodes : Nodes) (prefixes : List P) (from to before after : ℕ) → from ≤ to
     → after ≡ before + sum_by (λ p. visits nodes (path p)) (slice_range prefixes from to) → ReadsMore path nodes prefixes from to before after
 reads_more path nodes prefixes from to before after up read =
-    let f = λ p. visits nodes (path p) in
-    let parts = sum_by-take-drop f (take to prefixes) from in
-    let front = ap (sum_by f) (take-take from to prefixes up) in
-    omega (arith, parts, front, read)
+    let parts = sum_by-take-drop (λ p. visits nodes (path p)) (take to prefixes) from in
+    let front : visits_of_all path nodes (take from (take to prefixes)) ≡ visits_of_all path nodes (take from prefixes) = ap (visits_of_all path nodes) (take-take from to prefixes up) in
+    let back : visits_of_all path nodes (drop from (take to prefixes)) ≡ visits_of_all path nodes (slice_range prefixes from to)
+    = ap (λ n. visits_of_all path nodes (drop from (take n prefixes))) (sym (add-sub_of_le up)) ∙ ap (visits_of_all path nodes) (drop-take from (to - from) prefixes) in
+    omega (arith, parts, front, back, read)
+
+-- what was found for a group, in front of what stood behind
+pub found_more : {P K : Type 0} (bits : K → List Bool) (number : P → K) (len : P → ℕ) (nodes : List Node) (prefixes : List P) (from n : ℕ) (found rest : List (Option Found))
+    → from + n ≤ length prefixes → length found ≡ n → AreAnswers bits nodes (questions_of number len (slice_range prefixes from (from + n))) found
+    → AreFound bits number len nodes prefixes from n (found ++ rest)
+found_more bits number len nodes prefixes from n found rest room long answers i p a inside p_is a_is =
+    let many : from + n - from ≡ n = omega arith in
+    let group : slice_range prefixes from (from + n) ≡ take n (drop from prefixes) = ap (λ k. take k (drop from prefixes)) many in
+    let fits : i < length (take n (drop from prefixes)) = omega (arith, inside, length-take-le n (drop from prefixes) (omega (arith, length-drop from prefixes, room))) in
+    let read : get_or (take n (drop from prefixes)) i p ≡ p = get_or-take n (drop from prefixes) i p inside ∙ get_or-drop from prefixes i p ∙ sym p_is in
+    let q = asks number len p in
+    subst (λ l. AreAnswers bits nodes (questions_of number len l) found) group answers i q a (omega (arith, fits, length-map (take n (drop from prefixes)) (asks number len)))
+    (sym (get_or-map (asks number len) (take n (drop from prefixes)) i p q fits ∙ ap (asks number len) read)) (a_is ∙ get_or_append_left found rest a i (omega (arith, inside, long)))
 
 -- one answer more
 pub answered_more : {P X Y : Type 0} (shows : X → Y) (answer : P → Y) (prefixes : List P) (out : List X) (n m : ℕ) → AreAnswered shows answer prefixes out n → m ≡ n + 1
