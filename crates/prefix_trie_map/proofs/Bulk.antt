@@ -1,19 +1,40 @@
--- Many lookups in one call: what a group of them reads, and one answer more.
-use Rattle.std.proofs.Common.{◌≡◌, ℕ, ◌+◌, ◌-◌, ◌<◌, ◌≤◌, Bool, List, [], ◌∷◌, ◌++◌, Option, map, set, take, drop, length, get_or, sum_by, slice_range, refl, sym, ap, ap₂, ◌∙◌, subst, arith}
-use Rattle.std.proofs.lemmas.List.{map-append, take_more, take_more_set, take-take}
-use Rattle.std.proofs.lemmas.List.Sums.{sum_by_push, sum_by-take-drop}
+-- Many lookups in one call: what a group of them reads and finds, and one answer more.
+use Rattle.std.proofs.Common.{◌≡◌, ℕ, ◌+◌, ◌-◌, ◌<◌, ◌≤◌, Bool, List, [], ◌∷◌, ◌++◌, Option, None, Some, Bor, map, set, take, drop, length, get_or, sum_by, slice_range, refl, sym, ap, ap₂, ◌∙◌, subst, arith, add-sub_of_le, length-drop}
+use Rattle.std.specs.Option.{option_copied, option_map}
+use Rattle.std.proofs.lemmas.List.{drop-take, get_or_append_left, get_or-drop, get_or-map, get_or-take, length-map, length-take-le, map-append, take_more, take_more_set, take-take}
+use Rattle.std.proofs.lemmas.List.Sums.{sum_by-take-drop}
+use Rattle.prefix_trie_bits.specs.Model.Entries.{Entries}
+use Rattle.prefix_trie_bits.specs.Model.Matches.{longest_match}
 use Rattle.prefix_trie_bits.specs.Model.Nodes.{Nodes}
 use Rattle.prefix_trie_bits.specs.Model.Visits.{visits}
-use Rattle.prefix_trie_map.specs.Bulk.{AreAnswered, ReadsMore, visits_of_all}
+use Rattle.prefix_trie_table.specs.declared.allocator.node.Node.{Node}
+use Rattle.prefix_trie_table.specs.declared.table.bulk.Found.{Found}
+use Rattle.prefix_trie_table.specs.Bulk.{AreAnswers, asks, questions_of}
+use Rattle.prefix_trie_map.specs.Bulk.{AreAnswered, AreFound, IsFound, ReadsMore, visits_of_all}
+use Rattle.prefix_trie_map.proofs.Lookups.{Finds}
 
 -- a group's reads
 pub reads_more : {P : Type 0} (path : P → List Bool) (nodes : Nodes) (prefixes : List P) (from to before after : ℕ) → from ≤ to
     → after ≡ before + sum_by (λ p. visits nodes (path p)) (slice_range prefixes from to) → ReadsMore path nodes prefixes from to before after
 reads_more path nodes prefixes from to before after up read =
-    let f = λ p. visits nodes (path p) in
-    let parts = sum_by-take-drop f (take to prefixes) from in
-    let front = ap (sum_by f) (take-take from to prefixes up) in
-    omega (arith, parts, front, read)
+    let parts = sum_by-take-drop (λ p. visits nodes (path p)) (take to prefixes) from in
+    let front : visits_of_all path nodes (take from (take to prefixes)) ≡ visits_of_all path nodes (take from prefixes) = ap (visits_of_all path nodes) (take-take from to prefixes up) in
+    let back : visits_of_all path nodes (drop from (take to prefixes)) ≡ visits_of_all path nodes (slice_range prefixes from to)
+    = ap (λ n. visits_of_all path nodes (drop from (take n prefixes))) (sym (add-sub_of_le up)) ∙ ap (visits_of_all path nodes) (drop-take from (to - from) prefixes) in
+    omega (arith, parts, front, back, read)
+
+-- what was found for a group, in front of what stood behind
+pub found_more : {P K : Type 0} (bits : K → List Bool) (number : P → K) (len : P → ℕ) (nodes : List Node) (prefixes : List P) (from n : ℕ) (found rest : List (Option Found))
+    → from + n ≤ length prefixes → length found ≡ n → AreAnswers bits nodes (questions_of number len (slice_range prefixes from (from + n))) found
+    → AreFound bits number len nodes prefixes from n (found ++ rest)
+found_more bits number len nodes prefixes from n found rest room long answers i p a inside p_is a_is =
+    let many : from + n - from ≡ n = omega arith in
+    let group : slice_range prefixes from (from + n) ≡ take n (drop from prefixes) = ap (λ k. take k (drop from prefixes)) many in
+    let fits : i < length (take n (drop from prefixes)) = omega (arith, inside, length-take-le n (drop from prefixes) (omega (arith, length-drop from prefixes, room))) in
+    let read : get_or (take n (drop from prefixes)) i p ≡ p = get_or-take n (drop from prefixes) i p inside ∙ get_or-drop from prefixes i p ∙ sym p_is in
+    let q = asks number len p in
+    subst (λ l. AreAnswers bits nodes (questions_of number len l) found) group answers i q a (omega (arith, fits, length-map (take n (drop from prefixes)) (asks number len)))
+    (sym (get_or-map (asks number len) (take n (drop from prefixes)) i p q fits ∙ ap (asks number len) read)) (a_is ∙ get_or_append_left found rest a i (omega (arith, inside, long)))
 
 -- one answer more
 pub answered_more : {P X Y : Type 0} (shows : X → Y) (answer : P → Y) (prefixes : List P) (out : List X) (n m : ℕ) → AreAnswered shows answer prefixes out n → m ≡ n + 1
@@ -23,3 +44,10 @@ answered_more shows answer prefixes out n m so_far more room inside p is x shown
     (ap (map shows) (take_more_set out n x room) ∙ map-append shows (take n out) (x ∷ [])
     ∙ ap₂ (λ l y. l ++ y ∷ []) so_far (shown ∙ ap answer is)
     ∙ sym (ap (map answer) (take_more prefixes n p inside) ∙ map-append answer (take n prefixes) (get_or prefixes n p ∷ [])))
+
+-- a value that the table found is that of the longest match
+pub shows_value : {T : Type 0} (entries : Entries T) (bits : List Bool) (len : ℕ) (path : List Bool) → take len bits ≡ path → (found : Option (ℕ × Bor T))
+    → Finds bits len (longest_match entries (take len bits)) found → (result : Option (Bor T)) → option_copied result ≡ option_map (λ f. f.1.now) found
+    → option_copied result ≡ option_map (λ f. f.1) (longest_match entries path)
+shows_value entries bits len path key None finds result is = is ∙ ap (option_map (λ f. f.1)) (sym finds) ∙ ap (λ s. option_map (λ f. f.1) (longest_match entries s)) key
+shows_value entries bits len path key (Some f) finds result is = is ∙ ap (option_map (λ f. f.1)) (sym finds.1) ∙ ap (λ s. option_map (λ f. f.1) (longest_match entries s)) key

@@ -53,6 +53,44 @@ impl<P: Prefix, T: Drop, A: Allocator> PrefixMap<P, T, A> {
         }
         visits
     }
+
+    /// For each prefix what `get_lpm_value` answers, in the order of the prefixes. Asks that `out` is as long as `prefixes`. It
+    /// builds no prefix.
+    ///
+    /// ```text
+    /// 10.0.0.0/8 is stored with 1, and 10.1.0.0/16 with 2
+    /// map.get_lpm_value_bulk(&[10.1.2.3/32, 11.0.0.0/8, 10.2.0.0/16], &mut out)
+    /// out == [Some(&2), None, Some(&1)]
+    /// ```
+    #[inline]
+    pub fn get_lpm_value_bulk<'a>(&'a self, prefixes: &[P], out: &mut [Option<&'a T>])
+        requires fit { All P.IsFitting prefixes.now }
+        requires same_length { length out.old ≡ length prefixes.now }
+        ensures { map option_copied out.new
+            ≡ map (λ p. option_map (λ found. found.1) (longest_match self.now.entries (P.path p))) prefixes.now }
+    {
+        self.get_lpm_value_bulk_counted(prefixes, out);
+    }
+
+    /// The answers of `get_lpm_value_bulk`, and how many nodes it read: as many as `get_lpm_bulk_counted`.
+    pub fn get_lpm_value_bulk_counted<'a>(
+        &'a self,
+        prefixes: &[P],
+        out: &mut [Option<&'a T>],
+    ) -> Visits
+        requires fit { All P.IsFitting prefixes.now }
+        requires same_length { length out.old ≡ length prefixes.now }
+        ensures values { map option_copied out.new
+            ≡ map (λ p. option_map (λ found. found.1) (longest_match self.now.entries (P.path p))) prefixes.now }
+        ensures reads { result ≡ visits_of_all P.path self.now.nodes prefixes.now }
+    {
+        let mut visits = Visits::new();
+        let mut from = 0;
+        'groups: while from < prefixes.len() {
+            from += value_group(&self.table, prefixes, from, out, &mut visits);
+        }
+        visits
+    }
 }
 
 /// Asks the table for the next prefixes, from a place on, and answers how many these are.
@@ -96,8 +134,34 @@ fn match_group<'a, P: Prefix, T: Drop, A: Allocator>(
     let mut found = [None; GROUP];
     let count = find_group(table, prefixes, from, &mut found, visits);
     for i in 0..count {
-        let (key, len) = parts(&prefixes[from + i]);
-        out[from + i] = rebuilt_match(key, table.value_found((key, len), found[i]));
+        let question = parts(&prefixes[from + i]);
+        out[from + i] = rebuilt_match(question.0, table.value_found(question, found[i]));
+    }
+    count
+}
+
+/// Answers the next prefixes with values alone, from a place on, and how many these are.
+fn value_group<'a, P: Prefix, T: Drop, A: Allocator>(
+    table: &'a Table<T, A, Visits>,
+    prefixes: &[P],
+    from: usize,
+    out: &mut [Option<&'a T>],
+    visits: &mut Visits,
+) -> usize
+    requires fit { All P.IsFitting prefixes.now }
+    requires same_length { length out.old ≡ length prefixes.now }
+    requires some { from < length prefixes.now }
+    ensures group { (0 < result) × (from + result ≤ length prefixes.now) }
+    ensures answers { AreAnswered option_copied (longest_value P.path table.now.entries) prefixes.now out.old from
+        → AreAnswered option_copied (longest_value P.path table.now.entries) prefixes.now out.new (from + result) }
+    ensures visits { ReadsMore P.path table.now.nodes prefixes.now from (from + result) visits.old visits.new }
+    ensures length { length out.new ≡ length out.old }
+{
+    let mut found = [None; GROUP];
+    let count = find_group(table, prefixes, from, &mut found, visits);
+    for i in 0..count {
+        let question = parts(&prefixes[from + i]);
+        out[from + i] = value_of(table.value_found(question, found[i]));
     }
     count
 }

@@ -1,7 +1,13 @@
 use Rattle.std.proofs.Common.{length, arith}
-use Rattle.prefix_trie_map.proofs.Bulk.{reads_more}
+use Rattle.std.proofs.lemmas.List.{length-take-le}
+use Rattle.prefix_trie_map.proofs.Bulk.{found_more, reads_more}
 use Rattle.prefix_trie_map.proofs.map.bulk.find_group.Goals as goal
 
 pub returns-clause-visits : goal.returns-clause-visits
 returns-clause-visits g c =
     reads_more g.P.Prefix.path c.args.table.now.nodes c.args.prefixes.now c.args.from _ c.args.visits.now _ (omega arith) c.find_longest_each.ensures.visits
+
+pub returns-clause-found : goal.returns-clause-found
+returns-clause-found g c =
+    found_more g.P.R.Key.bits g.P.Prefix.repr_of g.P.Prefix.len_of c.args.table.now.build c.args.prefixes.now c.args.from c.min-count.result c.find_longest_each.new.found _
+    (omega (arith, c.min-count.ensures, c.requires.some)) (omega (arith, c.find_longest_each.ensures.length, c.min-count.ensures, c.requires.room, length-take-le c.min-count.result c.args.found.now)) c.find_longest_each.ensures.answers

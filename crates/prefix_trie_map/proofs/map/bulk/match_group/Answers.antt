@@ -1,0 +1,30 @@
+use Rattle.std.proofs.Common.{◌≡◌, ◌+◌, ◌<◌, None, length, get_or, option_map, refl, sym, ap₂, subst, arith}
+use Rattle.std.proofs.lemmas.List.{get_or_default}
+use Rattle.prefix_trie_bits.specs.Model.Matches.{longest_match}
+use Rattle.prefix_trie_table.specs.Bulk.{IsAnswer}
+use Rattle.prefix_trie_map.specs.Bulk.{longest_shown}
+use Rattle.prefix_trie_map.specs.Walks.{lent_item}
+use Rattle.prefix_trie_map.proofs.Bulk.{answered_more}
+use Rattle.prefix_trie_map.proofs.Lookups.{shows_match}
+use Rattle.prefix_trie_map.proofs.map.bulk.match_group.Goals as goal
+
+pub value_found-requires-clause-answer : goal.value_found-requires-clause-answer
+value_found-requires-clause-answer g c =
+    let i = c.loop-i.i in
+    let found = c.find_group-count.new.found in
+    let p = c.index-prefixes-from.result in
+    let inside : i < length found = omega (arith, c.loop-i-test.true, c.find_group-count.ensures.group.1, c.find_group-count.ensures.length) in
+    let a = get_or found i None in
+    subst (λ q. IsAnswer g.P.R.Key.bits c.args.table.now.build q a) (sym (ap₂ (λ k n. (k, n)) c.parts-question.ensures.number c.parts-question.ensures.len))
+    (c.find_group-count.ensures.found i p a c.loop-i-test.true c.index-prefixes-from.is (get_or_default found i None a inside))
+
+pub loop-i-preserved : goal.loop-i-preserved
+loop-i-preserved g c = λ so_far.
+    let n = c.args.from + c.loop-i.i in
+    let p = c.index-prefixes-from.result in
+    let entries = c.args.table.now.entries in
+    let inside : n < length c.args.prefixes.now = omega (arith, c.loop-i-test.true, c.find_group-count.ensures.group.2) in
+    answered_more (option_map lent_item) (longest_shown g.P.Prefix.path g.P.Prefix.back entries) c.args.prefixes.now c.loop-i.out n _ (c.loop-i.invariant so_far) (omega arith)
+    (omega (arith, inside, c.requires.same_length, c.loop-i.auto.out)) inside p c.index-prefixes-from.is c.rebuilt_match.result
+    (shows_match g.P.Prefix.back longest_match entries entries refl (g.P.R.Key.bits c.parts-question.result.0) c.parts-question.result.1 (g.P.Prefix.path p) c.parts-question.ensures.path
+    c.value_found.result c.value_found.ensures c.rebuilt_match.result c.rebuilt_match.ensures)
