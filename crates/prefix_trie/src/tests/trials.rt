@@ -264,11 +264,7 @@ where
 }
 
 /// The same of tables, at networks and at pairs.
-fn all_on_both(
-    heap: &Refusing<Global>,
-    tables: &[Table<'_, u32>],
-    how: How,
-) -> Result<(), Wrong> {
+fn all_on_both(heap: &Refusing<Global>, tables: &[Table<'_, u32>], how: How) -> Result<(), Wrong> {
     for table in tables {
         on_both::<Ipv4Prefix>(heap, table, how)?;
         on_both::<(u32, u8)>(heap, table, how)?;

@@ -54,9 +54,7 @@ fn is_as<P: Prefix + Copy + PartialEq, A: Allocator>(
     set: &PrefixSet<P, A>,
     old: (&[P], usize),
 ) -> bool {
-    (set.len() == old.0.len())
-        & (set.node_count() == old.1)
-        & set.iter().eq(old.0.iter().copied())
+    (set.len() == old.0.len()) & (set.node_count() == old.1) & set.iter().eq(old.0.iter().copied())
 }
 
 /// Makes an insertion into a set of old keys and nodes, as `inserts` does.
@@ -146,7 +144,10 @@ fn gives_from<P: Prefix + Copy, A: Allocator>(
 ) -> bool {
     let prefix = prefix_of(at);
     gives(set.iter_from(&prefix, true), entries)
-        & gives(set.iter_from(&prefix, false), entries.get(1..).unwrap_or(&[]))
+        & gives(
+            set.iter_from(&prefix, false),
+            entries.get(1..).unwrap_or(&[]),
+        )
         & gives(set.children(&prefix), below(entries))
 }
 

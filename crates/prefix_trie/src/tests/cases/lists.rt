@@ -114,7 +114,10 @@ fn gives_from<P: Prefix + Copy, A: Allocator>(
 ) -> bool {
     let prefix = prefix_of(at);
     gives(map.iter_from(&prefix, true), entries)
-        & gives(map.iter_from(&prefix, false), entries.get(1..).unwrap_or(&[]))
+        & gives(
+            map.iter_from(&prefix, false),
+            entries.get(1..).unwrap_or(&[]),
+        )
         & gives(map.children(&prefix), below(entries))
 }
 
