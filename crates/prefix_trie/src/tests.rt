@@ -5,6 +5,7 @@ mod cases;
 mod clones;
 mod collecting;
 mod cover;
+mod early;
 mod entry_callers;
 mod examples;
 mod handing;

@@ -1,16 +1,19 @@
 //! Cases: calls of a map, each beside what it should answer.
 pub mod changes;
 pub mod filling;
+pub mod keys;
 pub mod lists;
 pub mod questions;
 
 use crate::tests::cases::changes::{
-    clears, copies, empties, inserts, makes, removes, removes_children, retains_from, turns,
-    writes, writes_longest,
+    clears, copies, empties, inserts, makes, removes, removes_children, retains_from, retains_long,
+    turns, writes, writes_longest,
 };
-use crate::tests::cases::filling::{Fill, changes, fills, takes_out};
+use crate::tests::cases::filling::{Fill, changes, fills, is_vacant, takes_out};
 use crate::tests::cases::lists::{covers, lists};
-use crate::tests::cases::questions::{finds, has_cells, has_len, has_nodes, has_slots, is_same};
+use crate::tests::cases::questions::{
+    finds, has_cells, has_len, has_nodes, has_slots, has_sums, is_same, was_refused,
+};
 use crate::tests::refusing::Refusing;
 use crate::{Key, Prefix, PrefixMap, Refusal};
 use std::alloc::{Allocator, Global};
@@ -38,6 +41,8 @@ pub enum Case<K: 'static> {
     RemovesChildren(Pair<K>),
     /// `retain` keeps the values from this one on.
     RetainsFrom(u64),
+    /// `retain` keeps the prefixes of at least so many bits.
+    RetainsLong(u8),
     /// `clear` is made.
     Clears,
     /// `clone` makes a second map that is the same.
@@ -52,6 +57,8 @@ pub enum Case<K: 'static> {
     WritesLongest(Pair<K>, u64, Option<Entry<K>>),
     /// A vacant entry is filled by this call with this value.
     Fills(Fill, Pair<K>, u64),
+    /// An entry is vacant, and is let go.
+    LeavesVacant(Pair<K>),
     /// An occupied entry is taken out, and has this value.
     TakesOut(Pair<K>, u64),
     /// An occupied entry is set to the first value, and had the second.
@@ -64,6 +71,8 @@ pub enum Case<K: 'static> {
     Covers(Pair<K>, &'static [Entry<K>]),
     /// So many entries.
     Len(usize),
+    /// So many addresses.
+    Addresses(Option<K>),
     /// So many nodes.
     Nodes(usize),
     /// So many slots of nodes and of cells.
@@ -85,10 +94,21 @@ pub fn prefix_of<P: Prefix>(pair: Pair<P::R>) -> P
 
 /// Whether a case holds of a map, beside which a second one stands.
 ///
-/// Where a request is refused, the call that made it is refused with `Memory`, changes nothing and is made once more; but a
-/// removal does all that it should. How the map is stored is asked only where none was refused, since a removal may then take
-/// fewer blocks.
-pub fn holds<P: Prefix + Copy, A: Allocator + Copy>(
+/// Where a request is refused, the call that made it is refused with `Memory`, changes nothing and is made once more, with none
+/// refused from then on; but a removal does all that it should. Both arrays are as long as their blocks after each call. Which
+/// blocks these are is asked only where none was refused, since a removal may then take fewer.
+pub fn holds<P: Prefix + Copy + PartialEq, A: Allocator + Copy>(
+    heap: &Refusing<Global>,
+    alloc: A,
+    map: &mut PrefixMap<P, u64, A>,
+    other: &mut PrefixMap<P, u64, A>,
+    case: &Case<P::R>,
+) -> bool {
+    is_held(heap, alloc, map, other, case) & has_sums(map)
+}
+
+/// Whether the call of a case answers as it should.
+fn is_held<P: Prefix + Copy + PartialEq, A: Allocator + Copy>(
     heap: &Refusing<Global>,
     alloc: A,
     map: &mut PrefixMap<P, u64, A>,
@@ -105,12 +125,14 @@ pub fn holds<P: Prefix + Copy, A: Allocator + Copy>(
         Case::Empties(at, before) => empties(map, *at, *before),
         Case::RemovesChildren(at) => removes_children(map, *at),
         Case::RetainsFrom(least) => retains_from(map, *least),
+        Case::RetainsLong(len) => retains_long(map, *len),
         Case::Clears => clears(map),
         Case::Copies => copies(heap, map, other),
         Case::Turns => turns(map, other),
         Case::Writes(at, value, before) => writes(map, *at, *value, *before),
         Case::WritesLongest(at, value, before) => writes_longest(map, *at, *value, *before),
         Case::Fills(fill, at, value) => fills(heap, map, *fill, *at, *value),
+        Case::LeavesVacant(at) => is_vacant(map, *at),
         Case::TakesOut(at, before) => takes_out(map, *at, *before),
         Case::ChangesEntry(at, value, before) => changes(map, *at, *value, *before),
         _ => answers(heap, map, other, case),
@@ -118,13 +140,13 @@ pub fn holds<P: Prefix + Copy, A: Allocator + Copy>(
 }
 
 /// Whether a map answers as a case asks, beside the second one; a case that changes it asks nothing.
-fn answers<P: Prefix + Copy, A: Allocator>(
+fn answers<P: Prefix + Copy + PartialEq, A: Allocator>(
     heap: &Refusing<Global>,
     map: &PrefixMap<P, u64, A>,
     other: &PrefixMap<P, u64, A>,
     case: &Case<P::R>,
 ) -> bool {
-    let is_unasked = heap.left() == 0;
+    let is_unasked = was_refused(heap);
     match case {
         Case::Same => is_same(map, other),
         Case::Finds(at, exact, longest, shortest) => {
@@ -133,6 +155,7 @@ fn answers<P: Prefix + Copy, A: Allocator>(
         Case::Lists(entries) => lists(map, entries),
         Case::Covers(at, entries) => covers(map, *at, entries),
         Case::Len(len) => has_len(map, *len),
+        Case::Addresses(count) => map.address_count() == *count,
         Case::Nodes(nodes) => map.node_count() == *nodes,
         Case::Slots(nodes, cells) => is_unasked | has_slots(map, *nodes, *cells),
         Case::NodeBlocks(size, used, free) => is_unasked | has_nodes(map, *size, *used, *free),

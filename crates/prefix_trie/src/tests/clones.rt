@@ -1,8 +1,9 @@
-//! Copies of a map, and of the walks that take it apart, with each request for memory refused in turn: each value is cloned once.
+//! Copies of a map and a set, and of the walks that take them apart, with each request for memory refused in turn: each value is cloned
+//! once.
 use crate::map::{IntoIter, IntoKeys, IntoValues};
 use crate::tests::refusing::Refusing;
 use crate::tests::stored::stores;
-use crate::{PrefixMap, Refusal};
+use crate::{PrefixMap, PrefixSet, Refusal};
 use std::alloc::{AllocError, Allocator, Global};
 
 /// More requests than one copy makes.
@@ -10,11 +11,13 @@ const MANY: u64 = 100;
 
 type Heap = Refusing<Global>;
 
+type Key = (u32, u8);
+
 /// Names, each of which asks for memory once when it is cloned.
-type Names<A> = PrefixMap<(u32, u8), String<A>, A>;
+type Names<A> = PrefixMap<Key, String<A>, A>;
 
 /// Numbers, which ask for none.
-type Numbers<A> = PrefixMap<(u32, u8), u16, A>;
+type Numbers<A> = PrefixMap<Key, u16, A>;
 
 /// Stores a name of so many bits.
 fn put_name<A: Allocator>(alloc: A, names: &mut Names<A>, len: u8, text: &str) -> bool {
@@ -31,52 +34,102 @@ fn put_names<A: Allocator + Copy>(alloc: A, names: &mut Names<A>) -> bool {
         & put_name(alloc, names, 24, "inner")
 }
 
-/// What is copied here, and gives its names.
-trait Copied {
+/// What has a copy, which may be refused.
+pub trait Copied: Drop {
     /// A copy of it.
-    fn copied(&self) -> Result<Self, AllocError>;
-
-    /// Whether it gives all names, or those that the network of nine bits contains.
-    fn gives(self, is_whole: bool) -> bool;
+    fn copy(&self) -> Result<Self, AllocError>;
 }
 
-impl<A: Allocator + Clone> Copied for Names<A> {
-    fn copied(&self) -> Result<Self, AllocError> {
+impl<T: Clone, A: Allocator + Clone> Copied for PrefixMap<Key, T, A> {
+    fn copy(&self) -> Result<Self, AllocError> {
         self.clone()
-    }
-
-    fn gives(self, is_whole: bool) -> bool {
-        gives_items(&mut self.into_iter(), is_whole)
     }
 }
 
-impl<A: Allocator + Clone> Copied for IntoIter<(u32, u8), String<A>, A> {
-    fn copied(&self) -> Result<Self, AllocError> {
+impl<A: Allocator + Clone> Copied for PrefixSet<Key, A> {
+    fn copy(&self) -> Result<Self, AllocError> {
         self.clone()
-    }
-
-    fn gives(mut self, is_whole: bool) -> bool {
-        gives_items(&mut self, is_whole)
     }
 }
 
-impl<A: Allocator + Clone> Copied for IntoKeys<(u32, u8), String<A>, A> {
-    fn copied(&self) -> Result<Self, AllocError> {
+impl<T: Clone, A: Allocator + Clone> Copied for IntoIter<Key, T, A> {
+    fn copy(&self) -> Result<Self, AllocError> {
         self.clone()
-    }
-
-    fn gives(self, is_whole: bool) -> bool {
-        is_whole & self.eq([(0x0a00_0000, 8), (0x0a00_0000, 9), (0x0a01_0000, 24)])
     }
 }
 
-impl<A: Allocator + Clone> Copied for IntoValues<(u32, u8), String<A>, A> {
-    fn copied(&self) -> Result<Self, AllocError> {
+impl<T: Clone, A: Allocator + Clone> Copied for IntoKeys<Key, T, A> {
+    fn copy(&self) -> Result<Self, AllocError> {
         self.clone()
     }
+}
 
-    fn gives(mut self, is_whole: bool) -> bool {
-        is_whole & gives_values(&mut self)
+impl<T: Clone, A: Allocator + Clone> Copied for IntoValues<Key, T, A> {
+    fn copy(&self) -> Result<Self, AllocError> {
+        self.clone()
+    }
+}
+
+/// What has three names, or their keys.
+trait Named: Copied {
+    /// Whether it gives the first, which a walk has no more then.
+    fn gives_first(&mut self) -> bool;
+
+    /// Whether it gives the two others, and a walk no more.
+    fn gives_rest(&mut self) -> bool;
+}
+
+impl<A: Allocator + Clone> Named for Names<A> {
+    fn gives_first(&mut self) -> bool {
+        is_stored(self, 8, "outer")
+    }
+
+    fn gives_rest(&mut self) -> bool {
+        is_stored(self, 9, "next") & is_stored(self, 24, "inner") & (self.len() == 3)
+    }
+}
+
+impl<A: Allocator + Clone> Named for PrefixSet<Key, A> {
+    fn gives_first(&mut self) -> bool {
+        self.contains(&(0x0a01_0000, 8))
+    }
+
+    fn gives_rest(&mut self) -> bool {
+        self.contains(&(0x0a01_0000, 9)) & self.contains(&(0x0a01_0000, 24)) & (self.len() == 3)
+    }
+}
+
+impl<A: Allocator + Clone> Named for IntoIter<Key, String<A>, A> {
+    fn gives_first(&mut self) -> bool {
+        is_entry(self.next(), 8, "outer")
+    }
+
+    fn gives_rest(&mut self) -> bool {
+        is_entry(self.next(), 9, "next")
+            & is_entry(self.next(), 24, "inner")
+            & self.next().is_none()
+    }
+}
+
+impl<T: Clone, A: Allocator + Clone> Named for IntoKeys<Key, T, A> {
+    fn gives_first(&mut self) -> bool {
+        self.next() == Some((0x0a00_0000, 8))
+    }
+
+    fn gives_rest(&mut self) -> bool {
+        (self.next() == Some((0x0a00_0000, 9)))
+            & (self.next() == Some((0x0a01_0000, 24)))
+            & self.next().is_none()
+    }
+}
+
+impl<A: Allocator + Clone> Named for IntoValues<Key, String<A>, A> {
+    fn gives_first(&mut self) -> bool {
+        is_name(self.next(), "outer")
+    }
+
+    fn gives_rest(&mut self) -> bool {
+        is_name(self.next(), "next") & is_name(self.next(), "inner") & self.next().is_none()
     }
 }
 
@@ -89,26 +142,48 @@ fn filled(heap: &Heap) -> Option<Names<&Heap>> {
     if is_filled { Some(names) } else { None }
 }
 
-/// Copies a map or a walk, which was made with every request refused, with another request refused each time. Answers how many were,
-/// if each copy was refused exactly where one was, and at last both the copy and what was copied give all with every request refused.
-fn refused_in_turn<W: Copied + Drop>(heap: &Heap, copied: W, is_whole: bool) -> Option<u64> {
+/// Whether it gives all names, or those behind the first.
+fn gives<W: Named>(named: &mut W, is_whole: bool) -> bool {
+    (!is_whole || named.gives_first()) & named.gives_rest()
+}
+
+/// Whether a copy is refused exactly where a request is, with all refused once so many were passed on.
+fn is_refused_from<W: Named>(heap: &Heap, named: &W, passed: u64) -> bool {
+    heap.refuse(passed, u64::MAX);
+    named.copy().is_err() == (heap.left() < u64::MAX)
+}
+
+/// Copies what was made with every request refused, with another request refused each time: it alone, and with all behind it. Answers
+/// how many were, if each copy was refused exactly where one was, and at last both the copy and what was copied give their names with
+/// every request refused, of which none comes.
+fn refused_in_turn<W: Named>(heap: &Heap, named: W, is_whole: bool) -> Option<u64> {
+    let mut named = named;
     let is_unasked = heap.left() == u64::MAX;
     for passed in 0..MANY {
+        let is_refused = is_refused_from(heap, &named, passed);
         heap.refuse(passed, 1);
-        let answer = copied.copied();
-        let was_refused = heap.left() == 0;
-        if answer.is_err() != was_refused {
+        let answer = named.copy();
+        if !is_refused || answer.is_err() != (heap.left() == 0) {
             return None;
         }
         if let Ok(copy) = answer {
+            let mut copy = copy;
             heap.refuse(0, u64::MAX);
-            let give_all = copy.gives(is_whole)
-                & copied.gives(is_whole)
+            let give_all = gives(&mut copy, is_whole)
+                & gives(&mut named, is_whole)
                 & (heap.left() == u64::MAX);
             return (is_unasked & give_all).then_some(passed);
         }
     }
     None
+}
+
+/// The same of a walk that has given the first.
+fn rest_refused_in_turn<W: Named>(heap: &Heap, named: W) -> Option<u64> {
+    let mut named = named;
+    let is_given = named.gives_first();
+    let requests = refused_in_turn(heap, named, false)?;
+    is_given.then_some(requests)
 }
 
 /// Whether a name is this one.
@@ -119,28 +194,20 @@ fn is_name<A: Allocator>(name: Option<String<A>>, text: &str) -> bool {
     }
 }
 
-/// Whether an entry has this length and this name.
-fn is_entry<A: Allocator>(entry: Option<((u32, u8), String<A>)>, len: u8, text: &str) -> bool {
-    match entry {
-        Some((prefix, name)) => (prefix.1 == len) & is_name(Some(name), text),
+/// Whether the name of so many bits is this one.
+fn is_stored<A: Allocator>(names: &Names<A>, len: u8, text: &str) -> bool {
+    match names.get(&(0x0a01_0000, len.min(32))) {
+        Some(name) => name.as_str() == text,
         None => false,
     }
 }
 
-/// Whether a walk gives all names, or those that the network of nine bits contains.
-fn gives_items<A: Allocator>(walk: &mut IntoIter<(u32, u8), String<A>, A>, is_whole: bool) -> bool {
-    (!is_whole || is_entry(walk.next(), 8, "outer"))
-        & is_entry(walk.next(), 9, "next")
-        & is_entry(walk.next(), 24, "inner")
-        & walk.next().is_none()
-}
-
-/// Whether it gives the names alone.
-fn gives_values<A: Allocator>(walk: &mut IntoValues<(u32, u8), String<A>, A>) -> bool {
-    is_name(walk.next(), "outer")
-        & is_name(walk.next(), "next")
-        & is_name(walk.next(), "inner")
-        & walk.next().is_none()
+/// Whether an entry has this length and this name.
+fn is_entry<A: Allocator>(entry: Option<(Key, String<A>)>, len: u8, text: &str) -> bool {
+    match entry {
+        Some((prefix, name)) => (prefix.1 == len) & is_name(Some(name), text),
+        None => false,
+    }
 }
 
 fn copies_of_map(heap: &Heap) -> Option<u64> {
@@ -164,8 +231,44 @@ fn copies_of_values(heap: &Heap) -> Option<u64> {
     refused_in_turn(heap, filled(heap)?.into_values(), true)
 }
 
+/// Of walks that have given the first of three.
+fn copies_of_items_left(heap: &Heap) -> Option<u64> {
+    rest_refused_in_turn(heap, filled(heap)?.into_iter())
+}
+
+fn copies_of_keys_left(heap: &Heap) -> Option<u64> {
+    rest_refused_in_turn(heap, filled(heap)?.into_keys())
+}
+
+fn copies_of_values_left(heap: &Heap) -> Option<u64> {
+    rest_refused_in_turn(heap, filled(heap)?.into_values())
+}
+
+/// A new set of the three keys, with every request refused from then on.
+fn keys(heap: &Heap) -> Option<PrefixSet<Key, &Heap>> {
+    heap.refuse(0, 0);
+    let mut set = PrefixSet::new(heap).ok()?;
+    let is_filled = (set.insert((0x0a01_0000, 8)) == Ok(true))
+        & (set.insert((0x0a01_0000, 9)) == Ok(true))
+        & (set.insert((0x0a01_0000, 24)) == Ok(true));
+    heap.refuse(0, u64::MAX);
+    if is_filled { Some(set) } else { None }
+}
+
+fn copies_of_set(heap: &Heap) -> Option<u64> {
+    refused_in_turn(heap, keys(heap)?, true)
+}
+
+fn copies_of_set_walk(heap: &Heap) -> Option<u64> {
+    refused_in_turn(heap, keys(heap)?.into_iter(), true)
+}
+
+fn copies_of_set_walk_left(heap: &Heap) -> Option<u64> {
+    rest_refused_in_turn(heap, keys(heap)?.into_iter())
+}
+
 /// Three numbers at the same keys.
-const NUMBERS: [((u32, u8), u16); 3] = [
+const NUMBERS: [(Key, u16); 3] = [
     ((0x0a01_0000, 8), 1),
     ((0x0a01_0000, 9), 2),
     ((0x0a01_0000, 24), 3),
@@ -186,21 +289,35 @@ fn requests_for_numbers(heap: &Heap) -> Result<Option<u64>, Refusal> {
     Ok(requests_of::<&Heap>(&mut numbers, heap))
 }
 
-/// Whether the copy of a map of names, and that of each walk which takes it apart, makes three requests more than that of numbers.
+/// Whether the copy of a map of names, and that of each walk which takes it apart, makes three requests more than that of numbers, and
+/// two more where the first name was given.
 fn are_requests(heap: &Heap, numbers: Result<Option<u64>, Refusal>) -> bool {
     let Ok(Some(numbers)) = numbers else {
         return false;
     };
-    let requests = Some(numbers.wrapping_add(3));
-    (copies_of_map(heap) == requests)
-        & (copies_of_part(heap) == requests)
-        & (copies_of_items(heap) == requests)
-        & (copies_of_keys(heap) == requests)
-        & (copies_of_values(heap) == requests)
+    let of_three = Some(numbers.wrapping_add(3));
+    let of_two = Some(numbers.wrapping_add(2));
+    (copies_of_map(heap) == of_three)
+        & (copies_of_part(heap) == of_three)
+        & (copies_of_items(heap) == of_three)
+        & (copies_of_keys(heap) == of_three)
+        & (copies_of_values(heap) == of_three)
+        & (copies_of_items_left(heap) == of_two)
+        & (copies_of_keys_left(heap) == of_two)
+        & (copies_of_values_left(heap) == of_two)
+}
+
+/// Whether the copy of a set, and that of the walk that takes it apart, makes as many requests as the other, and some.
+fn are_alike(heap: &Heap) -> bool {
+    let requests = copies_of_set(heap);
+    (requests.unwrap_or(0) > 0)
+        & (copies_of_set_walk(heap) == requests)
+        & (copies_of_set_walk_left(heap) == requests)
 }
 
 #[test]
 fn each_request_of_a_copy_refused(rt: HostRuntime) {
     let heap = Refusing::new(rt.alloc());
     assert!(rt; are_requests(&heap, requests_for_numbers(&heap)));
+    assert!(rt; are_alike(&heap));
 }

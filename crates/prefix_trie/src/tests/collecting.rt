@@ -72,11 +72,12 @@ fn collected(
     Ok((map.len(), drops.get()))
 }
 
-/// Collects them with another request refused each time. Answers how many were, if each time the refusal was answered, and at last
-/// the map has both keys and the value that was there first is dropped; all are dropped in the end.
-fn refused_in_turn(heap: &Refusing<Global>) -> Option<u64> {
+/// Collects them with so many requests refused from another one on each time. Answers how many were passed on at last, if each time
+/// the refusal was answered, and at last the map has both keys and the value that was there first is dropped; all are dropped in the
+/// end.
+fn refused_in_turn(heap: &Refusing<Global>, refused: u64) -> Option<u64> {
     for passed in 0..MANY {
-        heap.refuse(passed, 1);
+        heap.refuse(passed, refused);
         let drops = Cell::new(0);
         let Ok(pairs) = three(heap.inner(), &drops) else {
             return None;
@@ -85,7 +86,7 @@ fn refused_in_turn(heap: &Refusing<Global>) -> Option<u64> {
         if drops.get() != 3 {
             return None;
         }
-        if heap.left() == 1 {
+        if heap.left() == refused {
             return (answer == Ok((2, 1))).then_some(passed);
         }
         if answer != Err(Refusal::Memory) {
@@ -98,7 +99,8 @@ fn refused_in_turn(heap: &Refusing<Global>) -> Option<u64> {
 #[test]
 fn from_iter_with_each_request_refused_in_turn(rt: HostRuntime) {
     let heap = Refusing::new(rt.alloc());
-    assert!(rt; refused_in_turn(&heap).unwrap_or(0) > 0);
+    assert!(rt; refused_in_turn(&heap, 1).unwrap_or(0) > 0);
+    assert!(rt; refused_in_turn(&heap, u64::MAX).unwrap_or(0) > 0);
 }
 
 /// Whether a map of one entry is equal to its copy.

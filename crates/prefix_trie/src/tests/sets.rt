@@ -1,4 +1,4 @@
-//! Sets with each request for memory refused in turn: what was refused, and what stands afterwards.
+//! Sets of the prefixes of an iterator, with each request for memory refused in turn.
 ghost use Rattle.std.specs.Prelude.{All};
 
 use crate::tests::refusing::Refusing;
@@ -39,52 +39,14 @@ fn collected(heap: &Heap) -> Option<usize> {
     }
 }
 
-/// How many prefixes a copy has, None where it was refused.
-fn copied<A: Allocator + Clone>(set: &PrefixSet<Key, A>) -> Option<usize> {
-    match set.clone() {
-        Ok(copy) => Some(copy.len()),
-        Err(_) => None,
-    }
-}
-
-/// How many prefixes are there once another is put in, None where it was refused and nothing is changed.
-fn inserted<A: Allocator>(set: &mut PrefixSet<Key, A>) -> Option<usize> {
-    let old = (set.len(), set.node_count());
-    let answer = set.insert((0, 32));
-    let is_unchanged = (set.len(), set.node_count()) == old;
-    match answer {
-        Ok(true) => Some(set.len()),
-        Err(Refusal::Memory) if is_unchanged => None,
-        _ => Some(0),
-    }
-}
-
-/// What a call answers: insertion, copy or collection.
-fn called<A: Allocator + Clone>(
-    set: &mut PrefixSet<Key, A>,
-    heap: &Heap,
-    which: u8,
-) -> Option<usize> {
-    match which {
-        0 => inserted(set),
-        1 => copied(set),
-        _ => collected(heap),
-    }
-}
-
-/// Makes a call with another request refused each time. Answers whether some were, each time with a refusal, and at last there are
-/// so many prefixes.
-fn is_refused_in_turn<A: Allocator + Clone>(
-    set: &mut PrefixSet<Key, A>,
-    heap: &Heap,
-    which: u8,
-    count: usize,
-) -> bool {
+/// Collects them with so many requests refused from another one on each time. Answers whether some were, each time with a refusal, and
+/// at last there are three prefixes.
+fn is_refused_in_turn(heap: &Heap, refused: u64) -> bool {
     for passed in 0..MANY {
-        heap.refuse(passed, 1);
-        let answer = called(set, heap, which);
-        if heap.left() == 1 {
-            return 0 < passed && answer == Some(count);
+        heap.refuse(passed, refused);
+        let answer = collected(heap);
+        if heap.left() == refused {
+            return 0 < passed && answer == Some(3);
         }
         if answer.is_some() {
             return false;
@@ -93,21 +55,8 @@ fn is_refused_in_turn<A: Allocator + Clone>(
     false
 }
 
-/// Whether insertions, copies and sets of prefixes are so refused.
-fn are_refused<A: Allocator + Clone>(set: &mut PrefixSet<Key, A>, heap: &Heap) -> bool {
-    is_refused_in_turn(set, heap, 0, 1)
-        & is_refused_in_turn(set, heap, 1, 1)
-        & is_refused_in_turn(set, heap, 2, 3)
-}
-
-/// The same of a new set.
-fn are_refused_anew(heap: &Heap) -> Result<bool, Refusal> {
-    let mut set = PrefixSet::new(heap)?;
-    Ok(are_refused::<&Heap>(&mut set, heap))
-}
-
 #[test]
-fn each_request_of_a_set_refused(rt: HostRuntime) {
+fn each_request_of_a_set_of_prefixes_refused(rt: HostRuntime) {
     let heap = Refusing::new(rt.alloc());
-    assert!(rt; are_refused_anew(&heap) == Ok(true));
+    assert!(rt; is_refused_in_turn(&heap, 1) & is_refused_in_turn(&heap, u64::MAX));
 }

@@ -8,10 +8,10 @@ mod lookups;
 mod removals;
 mod walks;
 
-use crate::tests::trials::{Table, all_in_turn, all_starved};
+use crate::tests::trials::{How, Table, all};
 
 /// The tables that are run with each request refused in turn. As a constant the list is half as dear to check as in the test.
-const IN_TURN: [&[Table<'static, u32>]; 8] = [
+const IN_TURN: [&[Table<'static, u32>]; 9] = [
     &growth::NEW,
     &growth::GROWTHS,
     &growth::LIMITS,
@@ -20,6 +20,7 @@ const IN_TURN: [&[Table<'static, u32>]; 8] = [
     &entries::ENTRIES,
     &copies::APART,
     &removals::OFF_THE_WAY,
+    &removals::BY_LENGTH,
 ];
 
 /// Those that are run with every request refused.
@@ -27,10 +28,10 @@ const STARVED: [&[Table<'static, u32>]; 3] = [&entries::STORED, &copies::FREE, &
 
 #[test]
 fn tables_with_each_request_refused_in_turn(rt: HostRuntime) {
-    assert_eq!(rt; all_in_turn(rt.alloc(), &IN_TURN), Ok(()));
+    assert_eq!(rt; all(rt.alloc(), &IN_TURN, How::InTurn), Ok(()));
 }
 
 #[test]
 fn tables_with_every_request_refused(rt: HostRuntime) {
-    assert_eq!(rt; all_starved(rt.alloc(), &STARVED), Ok(()));
+    assert_eq!(rt; all(rt.alloc(), &STARVED, How::Starved), Ok(()));
 }

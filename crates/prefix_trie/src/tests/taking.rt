@@ -4,6 +4,7 @@ ghost use Rattle.prefix_trie_bits.specs.Model.Entries.{put_all};
 ghost use Rattle.prefix_trie_bits.specs.Model.Selections.{listing, shown};
 
 use crate::map::{IntoIter, IntoKeys, IntoValues};
+use crate::tests::clones::Copied;
 use crate::tests::stored::is_new;
 use crate::{Prefix, PrefixMap, Refused};
 use std::alloc::{Allocator, Global};
@@ -22,7 +23,8 @@ fn pour<P: Prefix, T: Drop, A: Allocator>(
     Ok(())
 }
 
-/// Counts that it is dropped.
+/// Counts that it is dropped, and that each clone of it is.
+#[derive(Clone)]
 pub struct Counted<'a> {
     pub drops: &'a Cell<u64>,
 }
@@ -34,7 +36,7 @@ impl Drop for Counted<'_> {
     }
 }
 
-type Counting<'a> = PrefixMap<(u32, u8), Counted<'a>, Global>;
+pub type Counting<'a> = PrefixMap<(u32, u8), Counted<'a>, Global>;
 
 /// The keys of three that count.
 const KEYS: [(u32, u8); 3] = [(0, 0), (0, 1), (0x8000_0000, 1)];
@@ -53,27 +55,44 @@ fn put_three<'a, A: Allocator>(
 }
 
 /// A map of them.
-fn three<'a>(alloc: Global, drops: &'a Cell<u64>) -> Option<Counting<'a>> {
+pub fn three<'a>(alloc: Global, drops: &'a Cell<u64>) -> Option<Counting<'a>> {
     let mut map = PrefixMap::new(alloc).ok()?;
     let is_filled = put_three(&mut map, drops);
     if is_filled { Some(map) } else { None }
 }
 
 /// Lets a value go.
-fn let_go<V: Drop>(_value: V) {}
+pub fn let_go<V: Drop>(_value: V) {}
+
+/// A walk that takes a map apart.
+trait Taking: Copied {
+    /// Takes the next item, if there is one, and lets it go.
+    fn lets_next_go(&mut self);
+}
+
+impl<T: Clone, A: Allocator + Clone> Taking for IntoIter<(u32, u8), T, A> {
+    fn lets_next_go(&mut self) {
+        let_go(self.next());
+    }
+}
+
+impl<T: Clone, A: Allocator + Clone> Taking for IntoKeys<(u32, u8), T, A> {
+    fn lets_next_go(&mut self) {
+        let_go(self.next());
+    }
+}
+
+impl<T: Clone, A: Allocator + Clone> Taking for IntoValues<(u32, u8), T, A> {
+    fn lets_next_go(&mut self) {
+        let_go(self.next());
+    }
+}
 
 /// How many are dropped once a walk gave so many items, and once it was dropped too.
-fn drops_of<W: Drop, V: Drop, N: Fn(&mut W) -> Option<V> + Drop>(
-    walk: W,
-    next: N,
-    taken: u64,
-    drops: &Cell<u64>,
-) -> (u64, u64)
-    requires { N.IsAlwaysCallable next }
-{
+fn drops_of<W: Taking>(walk: W, taken: u64, drops: &Cell<u64>) -> (u64, u64) {
     let mut walk = walk;
     for _ in 0..taken {
-        let_go(next(&mut walk));
+        walk.lets_next_go();
     }
     let before = drops.get();
     let_go(walk);
@@ -83,26 +102,11 @@ fn drops_of<W: Drop, V: Drop, N: Fn(&mut W) -> Option<V> + Drop>(
 /// The same of each walk.
 fn dropped(alloc: Global, taken: u64) -> Option<[(u64, u64); 4]> {
     let drops = Cell::new(0);
-    let items = drops_of(
-        three(alloc, &drops)?.into_iter(),
-        IntoIter::next,
-        taken,
-        &drops,
-    );
+    let items = drops_of(three(alloc, &drops)?.into_iter(), taken, &drops);
     let part = three(alloc, &drops)?.into_children(&(0, 1));
-    let part = drops_of(part, IntoIter::next, taken, &drops);
-    let keys = drops_of(
-        three(alloc, &drops)?.into_keys(),
-        IntoKeys::next,
-        taken,
-        &drops,
-    );
-    let values = drops_of(
-        three(alloc, &drops)?.into_values(),
-        IntoValues::next,
-        taken,
-        &drops,
-    );
+    let part = drops_of(part, taken, &drops);
+    let keys = drops_of(three(alloc, &drops)?.into_keys(), taken, &drops);
+    let values = drops_of(three(alloc, &drops)?.into_values(), taken, &drops);
     Some([items, part, keys, values])
 }
 
@@ -113,6 +117,42 @@ fn what_is_not_taken_is_dropped_with_the_walk(rt: HostRuntime) {
     assert!(rt; dropped(alloc, 1) == Some([(1, 3), (1, 3), (1, 3), (1, 3)]));
     assert!(rt; dropped(alloc, 2) == Some([(2, 3), (1, 3), (2, 3), (2, 3)]));
     assert!(rt; dropped(alloc, 4) == Some([(3, 3), (1, 3), (3, 3), (3, 3)]));
+}
+
+/// How many are dropped once a walk gave an item, was copied, and gave all the rest, once its copy gave all, and once both were dropped.
+fn drops_of_copy<W: Taking>(walk: W, drops: &Cell<u64>) -> Option<(u64, u64, u64)> {
+    let mut walk = walk;
+    walk.lets_next_go();
+    let mut copy = walk.copy().ok()?;
+    for _ in 0..3 {
+        walk.lets_next_go();
+    }
+    let first = drops.get();
+    for _ in 0..3 {
+        copy.lets_next_go();
+    }
+    let second = drops.get();
+    let_go(walk);
+    let_go(copy);
+    Some((first, second, drops.replace(0)))
+}
+
+/// The same of each walk.
+fn dropped_with_copy(alloc: Global) -> Option<[(u64, u64, u64); 4]> {
+    let drops = Cell::new(0);
+    let items = drops_of_copy(three(alloc, &drops)?.into_iter(), &drops)?;
+    let part = three(alloc, &drops)?.into_children(&(0, 1));
+    let part = drops_of_copy(part, &drops)?;
+    let keys = drops_of_copy(three(alloc, &drops)?.into_keys(), &drops)?;
+    let values = drops_of_copy(three(alloc, &drops)?.into_values(), &drops)?;
+    Some([items, part, keys, values])
+}
+
+#[test]
+fn what_a_copy_has_is_dropped_too(rt: HostRuntime) {
+    assert!(rt;
+        dropped_with_copy(rt.alloc()) == Some([(3, 5, 5), (1, 1, 5), (3, 5, 5), (3, 5, 5)])
+    );
 }
 
 /// Puts a value that counts at a key. Answers whether it was granted, what was there before having been let go.

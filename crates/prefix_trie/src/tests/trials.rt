@@ -1,7 +1,7 @@
-//! Tables of cases, run with each request for memory refused in turn, or with every one refused.
-use crate::tests::cases::{Case, holds};
+//! Tables of cases, run on maps and on sets: with each request for memory refused in turn, or with every one refused.
+use crate::tests::cases::{self, Case, keys};
 use crate::tests::refusing::Refusing;
-use crate::{Ipv4Prefix, Prefix, PrefixMap, Refusal};
+use crate::{Ipv4Prefix, Prefix, PrefixMap, PrefixSet, Refusal};
 use std::alloc::{Allocator, Global};
 
 /// More requests than one table makes.
@@ -10,14 +10,25 @@ const MANY: u64 = 1_000;
 /// Cases in two parts, the first with ample memory.
 pub type Table<'a, K> = (&'a [Case<K>], &'a [Case<K>]);
 
+/// Which requests of a table's second part are refused.
+#[derive(Clone, Copy)]
+pub enum How {
+    /// Each in turn: it alone, and with all behind it.
+    InTurn,
+    /// All.
+    All,
+    /// All, where none comes. Those of the first part are refused in turn before.
+    Starved,
+}
+
 /// Where a table goes wrong.
 #[derive(Clone, Copy, PartialEq, Eq, Debug)]
 pub enum Wrong {
     /// At this case of the first part.
     First(usize),
-    /// At this case of the second part, once so many requests were passed on.
-    Then(usize, u64),
-    /// The two maps are refused with ample memory.
+    /// At this case of the second part, once so many requests were passed on, with so many to be refused.
+    Then(usize, u64, u64),
+    /// Two new ones are refused with ample memory.
     Start(Refusal),
     /// No request could be refused, or too many.
     Requests,
@@ -29,16 +40,69 @@ impl From<Refusal> for Wrong {
     }
 }
 
+/// What tables are run on: maps and sets.
+trait Tried<K: 'static, A: Allocator + Copy>: Drop {
+    /// A new one.
+    fn anew(alloc: A) -> Result<Self, Refusal>;
+
+    /// Whether a case holds of it, beside another.
+    fn holds(
+        &mut self,
+        other: &mut Self,
+        heap: &Refusing<Global>,
+        alloc: A,
+        case: &Case<K>,
+    ) -> bool;
+}
+
+impl<P: Prefix + Copy + PartialEq, A: Allocator + Copy> Tried<P::R, A> for PrefixMap<P, u64, A>
+where
+    P::R: 'static,
+{
+    fn anew(alloc: A) -> Result<Self, Refusal> {
+        PrefixMap::new(alloc)
+    }
+
+    fn holds(
+        &mut self,
+        other: &mut Self,
+        heap: &Refusing<Global>,
+        alloc: A,
+        case: &Case<P::R>,
+    ) -> bool {
+        cases::holds(heap, alloc, self, other, case)
+    }
+}
+
+impl<P: Prefix + Copy + PartialEq, A: Allocator + Copy> Tried<P::R, A> for PrefixSet<P, A>
+where
+    P::R: 'static,
+{
+    fn anew(alloc: A) -> Result<Self, Refusal> {
+        PrefixSet::new(alloc)
+    }
+
+    fn holds(
+        &mut self,
+        other: &mut Self,
+        heap: &Refusing<Global>,
+        alloc: A,
+        case: &Case<P::R>,
+    ) -> bool {
+        keys::holds(heap, alloc, self, other, case)
+    }
+}
+
 /// The first case that does not hold.
-fn first_wrong<P: Prefix + Copy, A: Allocator + Copy>(
+fn first_wrong<K: 'static, A: Allocator + Copy, M: Tried<K, A>>(
     heap: &Refusing<Global>,
     alloc: A,
-    map: &mut PrefixMap<P, u64, A>,
-    other: &mut PrefixMap<P, u64, A>,
-    cases: &[Case<P::R>],
+    tried: &mut M,
+    other: &mut M,
+    cases: &[Case<K>],
 ) -> Option<usize> {
     for (index, case) in cases.iter().enumerate() {
-        if !holds(heap, alloc, map, other, case) {
+        if !tried.holds(other, heap, alloc, case) {
             return Some(index);
         }
     }
@@ -46,57 +110,59 @@ fn first_wrong<P: Prefix + Copy, A: Allocator + Copy>(
 }
 
 /// Runs both parts of a table, the first with ample memory.
-fn plays<P: Prefix + Copy, A: Allocator + Copy>(
+fn plays<K: 'static, A: Allocator + Copy, M: Tried<K, A>>(
     heap: &Refusing<Global>,
     alloc: A,
-    map: &mut PrefixMap<P, u64, A>,
-    other: &mut PrefixMap<P, u64, A>,
-    table: &Table<'_, P::R>,
+    tried: &mut M,
+    other: &mut M,
+    table: &Table<'_, K>,
     requests: (u64, u64),
 ) -> Result<(), Wrong> {
     heap.refuse(0, 0);
-    if let Some(case) = first_wrong(heap, alloc, map, other, table.0) {
+    if let Some(case) = first_wrong::<K, A, M>(heap, alloc, tried, other, table.0) {
         return Err(Wrong::First(case));
     }
     heap.refuse(requests.0, requests.1);
-    match first_wrong(heap, alloc, map, other, table.1) {
-        Some(case) => Err(Wrong::Then(case, requests.0)),
+    match first_wrong::<K, A, M>(heap, alloc, tried, other, table.1) {
+        Some(case) => Err(Wrong::Then(case, requests.0, requests.1)),
         None => Ok(()),
     }
 }
 
-/// The same of a map and a new one beside it.
-fn plays_beside<P: Prefix + Copy, A: Allocator + Copy>(
+/// The same of one, and of a new one beside it.
+fn plays_beside<K: 'static, A: Allocator + Copy, M: Tried<K, A>>(
     heap: &Refusing<Global>,
     alloc: A,
-    map: &mut PrefixMap<P, u64, A>,
-    table: &Table<'_, P::R>,
+    tried: &mut M,
+    table: &Table<'_, K>,
     requests: (u64, u64),
 ) -> Result<(), Wrong> {
-    let mut other = PrefixMap::new(alloc)?;
-    plays(heap, alloc, map, &mut other, table, requests)
+    let mut other = M::anew(alloc)?;
+    plays::<K, A, M>(heap, alloc, tried, &mut other, table, requests)
 }
 
-/// The same of two new maps.
-fn plays_anew<P: Prefix + Copy, A: Allocator + Copy>(
+/// The same of two new ones.
+fn plays_anew<K: 'static, A: Allocator + Copy, M: Tried<K, A>>(
     heap: &Refusing<Global>,
     alloc: A,
-    table: &Table<'_, P::R>,
+    table: &Table<'_, K>,
     requests: (u64, u64),
 ) -> Result<(), Wrong> {
     heap.refuse(0, 0);
-    let mut map = PrefixMap::new(alloc)?;
-    plays_beside::<P, A>(heap, alloc, &mut map, table, requests)
+    let mut tried = M::anew(alloc)?;
+    plays_beside::<K, A, M>(heap, alloc, &mut tried, table, requests)
 }
 
-/// Runs a table time and again, with another request of its second part refused each time, and at last with none.
-pub fn in_turn<P: Prefix + Copy>(
+/// Runs a table time and again, with so many requests of its second part refused from another one on each time, and at last with none.
+fn in_turn<K: 'static, A: Allocator + Copy, M: Tried<K, A>>(
     heap: &Refusing<Global>,
-    table: &Table<'_, P::R>,
+    alloc: A,
+    table: &Table<'_, K>,
+    refused: u64,
 ) -> Result<(), Wrong> {
     for passed in 0..MANY {
-        plays_anew::<P, &Refusing<Global>>(heap, heap, table, (passed, 1))?;
-        if heap.left() == 1 {
+        plays_anew::<K, A, M>(heap, alloc, table, (passed, refused))?;
+        if heap.left() == refused {
             return if passed == 0 {
                 Err(Wrong::Requests)
             } else {
@@ -107,21 +173,24 @@ pub fn in_turn<P: Prefix + Copy>(
     Err(Wrong::Requests)
 }
 
-/// Runs a table with every request of its second part refused.
-pub fn without_memory<P: Prefix + Copy>(
+/// Runs a table with each request of its second part refused in turn: it alone, and with all behind it.
+fn both_in_turn<K: 'static, A: Allocator + Copy, M: Tried<K, A>>(
     heap: &Refusing<Global>,
-    table: &Table<'_, P::R>,
+    alloc: A,
+    table: &Table<'_, K>,
 ) -> Result<(), Wrong> {
-    plays_anew::<P, &Refusing<Global>>(heap, heap, table, (0, u64::MAX))
+    in_turn::<K, A, M>(heap, alloc, table, 1)?;
+    in_turn::<K, A, M>(heap, alloc, table, u64::MAX)
 }
 
 /// Runs a table with every request of its second part refused, where none comes. Those of the first are refused in turn before.
-pub fn starved<P: Prefix + Copy>(
+fn starved<K: 'static, A: Allocator + Copy, M: Tried<K, A>>(
     heap: &Refusing<Global>,
-    table: &Table<'_, P::R>,
+    alloc: A,
+    table: &Table<'_, K>,
 ) -> Result<(), Wrong> {
-    in_turn::<P>(heap, &(&[], table.0))?;
-    without_memory::<P>(heap, table)?;
+    both_in_turn::<K, A, M>(heap, alloc, &(&[], table.0))?;
+    plays_anew::<K, A, M>(heap, alloc, table, (0, u64::MAX))?;
     if heap.left() == u64::MAX {
         Ok(())
     } else {
@@ -129,40 +198,85 @@ pub fn starved<P: Prefix + Copy>(
     }
 }
 
-/// Runs tables at networks and at pairs.
-fn both_in_turn(heap: &Refusing<Global>, tables: &[Table<'_, u32>]) -> Result<(), Wrong> {
+/// Runs a table with requests refused so.
+fn runs<K: 'static, A: Allocator + Copy, M: Tried<K, A>>(
+    heap: &Refusing<Global>,
+    alloc: A,
+    table: &Table<'_, K>,
+    how: How,
+) -> Result<(), Wrong> {
+    match how {
+        How::InTurn => both_in_turn::<K, A, M>(heap, alloc, table),
+        How::All => plays_anew::<K, A, M>(heap, alloc, table, (0, u64::MAX)),
+        How::Starved => starved::<K, A, M>(heap, alloc, table),
+    }
+}
+
+/// Runs it on maps in memory of an allocator.
+fn runs_on_maps<P: Prefix + Copy + PartialEq, A: Allocator + Copy>(
+    heap: &Refusing<Global>,
+    alloc: A,
+    table: &Table<'_, P::R>,
+    how: How,
+) -> Result<(), Wrong>
+where
+    P::R: 'static,
+{
+    runs::<P::R, A, PrefixMap<P, u64, A>>(heap, alloc, table, how)
+}
+
+/// The same on sets.
+fn runs_on_sets<P: Prefix + Copy + PartialEq, A: Allocator + Copy>(
+    heap: &Refusing<Global>,
+    alloc: A,
+    table: &Table<'_, P::R>,
+    how: How,
+) -> Result<(), Wrong>
+where
+    P::R: 'static,
+{
+    runs::<P::R, A, PrefixSet<P, A>>(heap, alloc, table, how)
+}
+
+/// Runs a table on maps.
+pub fn on_maps<P: Prefix + Copy + PartialEq>(
+    heap: &Refusing<Global>,
+    table: &Table<'_, P::R>,
+    how: How,
+) -> Result<(), Wrong>
+where
+    P::R: 'static,
+{
+    runs_on_maps::<P, &Refusing<Global>>(heap, heap, table, how)
+}
+
+/// The same on maps and on sets.
+pub fn on_both<P: Prefix + Copy + PartialEq>(
+    heap: &Refusing<Global>,
+    table: &Table<'_, P::R>,
+    how: How,
+) -> Result<(), Wrong>
+where
+    P::R: 'static,
+{
+    on_maps::<P>(heap, table, how)?;
+    runs_on_sets::<P, &Refusing<Global>>(heap, heap, table, how)
+}
+
+/// The same of tables, at networks and at pairs.
+fn all_on_both(heap: &Refusing<Global>, tables: &[Table<'_, u32>], how: How) -> Result<(), Wrong> {
     for table in tables {
-        in_turn::<Ipv4Prefix>(heap, table)?;
-        in_turn::<(u32, u8)>(heap, table)?;
+        on_both::<Ipv4Prefix>(heap, table, how)?;
+        on_both::<(u32, u8)>(heap, table, how)?;
     }
     Ok(())
 }
 
-/// The same with every request refused.
-fn both_starved(heap: &Refusing<Global>, tables: &[Table<'_, u32>]) -> Result<(), Wrong> {
-    for table in tables {
-        starved::<Ipv4Prefix>(heap, table)?;
-        starved::<(u32, u8)>(heap, table)?;
-    }
-    Ok(())
-}
-
-/// Runs several tables so. Answers which of them goes wrong, and where.
-pub fn all_in_turn(alloc: Global, all: &[&[Table<'_, u32>]]) -> Result<(), (usize, Wrong)> {
+/// The same of several lists of tables. Answers which of them goes wrong, and where.
+pub fn all(alloc: Global, lists: &[&[Table<'_, u32>]], how: How) -> Result<(), (usize, Wrong)> {
     let heap = Refusing::new(alloc);
-    for (number, tables) in all.iter().enumerate() {
-        if let Err(wrong) = both_in_turn(&heap, tables) {
-            return Err((number, wrong));
-        }
-    }
-    Ok(())
-}
-
-/// The same with every request refused.
-pub fn all_starved(alloc: Global, all: &[&[Table<'_, u32>]]) -> Result<(), (usize, Wrong)> {
-    let heap = Refusing::new(alloc);
-    for (number, tables) in all.iter().enumerate() {
-        if let Err(wrong) = both_starved(&heap, tables) {
+    for (number, tables) in lists.iter().enumerate() {
+        if let Err(wrong) = all_on_both(&heap, tables, how) {
             return Err((number, wrong));
         }
     }

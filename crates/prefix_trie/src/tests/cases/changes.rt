@@ -48,6 +48,7 @@ pub fn makes<P: Prefix + Copy, A: Allocator + Copy>(
     if heap.left() == left {
         return replaces(map, answer);
     }
+    heap.refuse(0, 0);
     (answer.err() == Some(Refusal::Memory)) & replaces(map, made(alloc, limit))
 }
 
@@ -94,6 +95,7 @@ fn inserts_into<P: Prefix + Copy, A: Allocator>(
         return is_answered(map, old, answer, wanted);
     }
     let is_refused = is_answered(map, old, answer, &answer_of(Err(Refusal::Memory), added.1));
+    heap.refuse(0, 0);
     let again = map.insert(prefix_of(added.0), added.1);
     is_refused & is_answered(map, old, again, wanted)
 }
@@ -151,13 +153,21 @@ pub fn retains_from<P: Prefix + Copy, A: Allocator>(
     true
 }
 
+pub fn retains_long<P: Prefix + Copy, A: Allocator>(
+    map: &mut PrefixMap<P, u64, A>,
+    len: u8,
+) -> bool {
+    map.retain(move |prefix, _| len <= prefix.prefix_len());
+    true
+}
+
 pub fn clears<P: Prefix + Copy, A: Allocator>(map: &mut PrefixMap<P, u64, A>) -> bool {
     map.clear();
     map.is_empty()
 }
 
 /// Puts a copy in place of a map, and answers whether it is the same as its source.
-fn replaces_same<P: Prefix + Copy, A: Allocator>(
+fn replaces_same<P: Prefix + Copy + PartialEq, A: Allocator>(
     map: &PrefixMap<P, u64, A>,
     other: &mut PrefixMap<P, u64, A>,
     answer: Result<PrefixMap<P, u64, A>, AllocError>,
@@ -172,7 +182,7 @@ fn replaces_same<P: Prefix + Copy, A: Allocator>(
 }
 
 /// Puts a copy of a map in place of the other. Answers whether it was refused where a request was, and only there.
-pub fn copies<P: Prefix + Copy, A: Allocator + Copy>(
+pub fn copies<P: Prefix + Copy + PartialEq, A: Allocator + Copy>(
     heap: &Refusing<Global>,
     map: &PrefixMap<P, u64, A>,
     other: &mut PrefixMap<P, u64, A>,
@@ -182,6 +192,7 @@ pub fn copies<P: Prefix + Copy, A: Allocator + Copy>(
     if heap.left() == left {
         return replaces_same(map, other, answer);
     }
+    heap.refuse(0, 0);
     answer.is_err() & replaces_same(map, other, map.clone())
 }
 

@@ -133,6 +133,7 @@ fn fills_in<P: Prefix + Copy, A: Allocator>(
         return answer == (Ok(value), calls_of(fill));
     }
     let is_unchanged = is_as(map, old);
+    heap.refuse(0, 0);
     is_unchanged
         & (answer == (Err((Refusal::Memory, value)), 0))
         & (filled(map, fill, at, value) == (Ok(value), calls_of(fill)))
@@ -151,6 +152,25 @@ pub fn fills<P: Prefix + Copy, A: Allocator>(
     match entries_of(heap.inner(), map) {
         Ok(old) => fills_in(heap, map, (&old, nodes), fill, (at, value)),
         Err(AllocError) => false,
+    }
+}
+
+/// The prefix of an entry as a pair, and its value.
+fn seen<P: Prefix, A: Allocator>(
+    map: &mut PrefixMap<P, u64, A>,
+    at: Pair<P::R>,
+) -> (Pair<P::R>, Option<u64>) {
+    let entry = map.entry(prefix_of(at));
+    let key = entry.key();
+    ((key.repr(), key.prefix_len()), entry.get().copied())
+}
+
+/// Whether an entry has its prefix as it was handed in, and no value. It is let go.
+pub fn is_vacant<P: Prefix, A: Allocator>(map: &mut PrefixMap<P, u64, A>, at: Pair<P::R>) -> bool {
+    let is_empty = seen(map, at) == (at, None);
+    match map.entry(prefix_of(at)) {
+        Entry::Vacant(entry) => is_empty & (entry.key().prefix_len() == at.1),
+        Entry::Occupied(_) => false,
     }
 }
 
@@ -194,13 +214,17 @@ fn adds_one<P: Prefix, A: Allocator>(map: &mut PrefixMap<P, u64, A>, at: Pair<P:
     )
 }
 
-/// Reads a stored value by each call of its entry that reads, if it has the length asked for.
+/// Reads a stored value by each call of its entry that reads, if it has its prefix without host bits. The entry is released.
 fn reads<P: Prefix, A: Allocator>(map: &mut PrefixMap<P, u64, A>, at: Pair<P::R>) -> Option<u64> {
-    let first = map.entry(prefix_of(at)).get().copied();
+    let prefix: P = prefix_of(at);
+    let first = seen(map, at);
     match map.entry(prefix_of(at)) {
         Entry::Occupied(entry) => {
-            let is_same = (entry.key().prefix_len() == at.1) & (first == Some(*entry.get()));
-            is_same.then_some(*entry.get())
+            let value = *entry.get();
+            let is_same = (first == ((prefix.mask(), at.1), Some(value)))
+                & (entry.key().repr() == prefix.mask());
+            entry.release();
+            is_same.then_some(value)
         }
         Entry::Vacant(_) => None,
     }

@@ -2,7 +2,7 @@
 use crate::map::{Iter, Keys, Values};
 use crate::tests::cases::questions::{found_pair, pair_in, pair_of, shown, value_in};
 use crate::tests::cases::{Entry, Pair, prefix_of};
-use crate::{Prefix, PrefixMap};
+use crate::{Key, Prefix, PrefixMap};
 use std::alloc::{AllocError, Allocator, Global};
 
 /// All entries, by a loop over the map.
@@ -87,6 +87,53 @@ fn give_twice<P: Prefix + Copy, A: Allocator>(
         & give_all(items, keys, values, rest)
 }
 
+/// The first bits of a number.
+fn kept<K: Key>(number: K, len: u8) -> K {
+    let _ = number.is_key();
+    number.keep(u32::from(len).min(K::width()))
+}
+
+/// The first entries of a list, whose prefixes the first contains.
+pub fn below<K: Key>(entries: &[Entry<K>]) -> &[Entry<K>] {
+    let Some(((number, len), _)) = entries.first() else {
+        return entries;
+    };
+    for (end, ((other, _), _)) in entries.iter().enumerate() {
+        if kept(*other, *len) != kept(*number, *len) {
+            return entries.get(..end).unwrap_or(entries);
+        }
+    }
+    entries
+}
+
+/// Whether the walks from a prefix on, behind it and below it give these entries, which begin with its own.
+fn gives_from<P: Prefix + Copy, A: Allocator>(
+    map: &PrefixMap<P, u64, A>,
+    at: Pair<P::R>,
+    entries: &[Entry<P::R>],
+) -> bool {
+    let prefix = prefix_of(at);
+    gives(map.iter_from(&prefix, true), entries)
+        & gives(
+            map.iter_from(&prefix, false),
+            entries.get(1..).unwrap_or(&[]),
+        )
+        & gives(map.children(&prefix), below(entries))
+}
+
+/// The same of each entry.
+fn gives_from_each<P: Prefix + Copy, A: Allocator>(
+    map: &PrefixMap<P, u64, A>,
+    entries: &[Entry<P::R>],
+) -> bool {
+    for (index, entry) in entries.iter().enumerate() {
+        if !gives_from(map, entry.0, entries.get(index..).unwrap_or(&[])) {
+            return false;
+        }
+    }
+    true
+}
+
 /// Whether there are these entries, and all walks give them.
 pub fn lists<P: Prefix + Copy, A: Allocator>(
     map: &PrefixMap<P, u64, A>,
@@ -95,6 +142,7 @@ pub fn lists<P: Prefix + Copy, A: Allocator>(
     (map.len() == entries.len())
         & gives(map.into_iter(), entries)
         & give_twice(map.iter(), map.keys(), map.values(), entries)
+        & gives_from_each(map, entries)
 }
 
 /// Whether the walks around a prefix give these entries.

@@ -1,8 +1,14 @@
 //! Cases that ask a map for a prefix, and for its counts.
 use crate::tests::cases::lists::gives_same;
 use crate::tests::cases::{Entry, Pair, prefix_of};
+use crate::tests::refusing::Refusing;
 use crate::{BlockCount, Prefix, PrefixMap};
-use std::alloc::Allocator;
+use std::alloc::{Allocator, Global};
+
+/// Whether a request was refused, where one was to be or all; or none was to be.
+pub fn was_refused(heap: &Refusing<Global>) -> bool {
+    (heap.left() != 1) & (heap.left() != u64::MAX)
+}
 
 /// A prefix as a pair.
 pub fn pair_of<P: Prefix + Copy>(prefix: P) -> Pair<P::R> {
@@ -195,11 +201,12 @@ pub fn has_cells<P: Prefix + Copy, A: Allocator>(
 }
 
 /// Whether two maps have the same entries, nodes and blocks.
-pub fn is_same<P: Prefix + Copy, A: Allocator>(
+pub fn is_same<P: Prefix + Copy + PartialEq, A: Allocator>(
     map: &PrefixMap<P, u64, A>,
     copy: &PrefixMap<P, u64, A>,
 ) -> bool {
-    gives_same(map.iter(), copy.iter())
+    (*map == *copy)
+        & gives_same(map.iter(), copy.iter())
         & (map.node_count() == copy.node_count())
         & (map.node_blocks() == copy.node_blocks())
         & (map.cell_blocks() == copy.cell_blocks())

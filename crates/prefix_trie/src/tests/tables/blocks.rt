@@ -1,11 +1,11 @@
 //! Free blocks: what takes them with every request for memory refused, and a removal that makes one.
 use crate::tests::cases::Case::{
-    self, CellBlocks, Clears, Covers, Empties, Finds, Inserts, Len, Lists, Makes, NodeBlocks,
-    Nodes, Removes, RemovesChildren, Slots, Writes, WritesLongest,
+    self, Addresses, CellBlocks, Clears, Covers, Empties, Finds, Inserts, LeavesVacant, Len, Lists,
+    Makes, NodeBlocks, Nodes, Removes, RemovesChildren, Slots, Writes, WritesLongest,
 };
 use crate::tests::cases::Entry;
 use crate::tests::refusing::Refusing;
-use crate::tests::trials::{Table, in_turn, starved};
+use crate::tests::trials::{How, Table, on_both};
 
 /// The first 24 of all pairs of at most four bits, which stand in a block of 24 once the other seven are gone.
 const LEFT: [Entry<u8>; 24] = [
@@ -110,7 +110,7 @@ const FREE: Table<'static, u8> = (
 #[test]
 fn a_free_block_grants_an_insertion(rt: HostRuntime) {
     let heap = Refusing::new(rt.alloc());
-    assert_eq!(rt; starved::<(u8, u8)>(&heap, &FREE), Ok(()));
+    assert_eq!(rt; on_both::<(u8, u8)>(&heap, &FREE, How::Starved), Ok(()));
 }
 
 /// Once the root has one value, no block of one is free, and the limit has room for another: a removal that takes only free blocks
@@ -132,7 +132,7 @@ const MADE: Table<'static, u8> = (
 #[test]
 fn removal_steps_down_not_only_onto_free_blocks(rt: HostRuntime) {
     let heap = Refusing::new(rt.alloc());
-    assert_eq!(rt; in_turn::<(u8, u8)>(&heap, &MADE), Ok(()));
+    assert_eq!(rt; on_both::<(u8, u8)>(&heap, &MADE, How::InTurn), Ok(()));
 }
 
 /// Five networks, each in the one before it.
@@ -159,6 +159,9 @@ pub const AMONG_FREE: [Table<'static, u32>; 2] = [
         &PUT_FIVE,
         &[
             Len(5),
+            Addresses(None),
+            LeavesVacant((0x0a01_0102, 32)),
+            LeavesVacant((0xffff_ffff, 32)),
             Nodes(7),
             Slots(7, 6),
             NodeBlocks(1, 6, 0),

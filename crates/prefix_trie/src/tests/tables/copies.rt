@@ -1,6 +1,6 @@
 //! Copies of a map, with each request for memory refused in turn, and with every one refused.
 use crate::tests::cases::Case::{
-    Clears, Copies, Finds, Inserts, Lists, Nodes, Removes, Same, Turns,
+    Addresses, Clears, Copies, Finds, Inserts, Lists, Nodes, Removes, Same, Turns,
 };
 use crate::tests::cases::Entry;
 use crate::tests::trials::Table;
@@ -54,7 +54,9 @@ pub const FREE: [Table<'static, u32>; 1] = [(
     ],
     &[
         Inserts((0xc0a8_0100, 24), 1, None),
+        Addresses(Some(0x0100_0100)),
         Removes((0xc0a8_0100, 24), Some(1)),
+        Addresses(Some(0x0100_0000)),
         Lists(&TWO),
         Same,
         Turns,

@@ -2,7 +2,7 @@
 use crate::Visits;
 use crate::tests::cases::Case::{Finds, Inserts, Lists, Writes, WritesLongest};
 use crate::tests::refusing::Refusing;
-use crate::tests::trials::{Table, in_turn};
+use crate::tests::trials::{How, Table, on_both};
 use std::mem::size_of;
 
 /// Asked for the longer with host bits, for an address in it, and for one that neither contains.
@@ -35,7 +35,7 @@ const BOTH: Table<'static, u16> = (
 #[test]
 fn answers_and_writes_of_all_lookups(rt: HostRuntime) {
     let heap = Refusing::new(rt.alloc());
-    assert_eq!(rt; in_turn::<(u16, u8)>(&heap, &BOTH), Ok(()));
+    assert_eq!(rt; on_both::<(u16, u8)>(&heap, &BOTH, How::InTurn), Ok(()));
 }
 
 /// In an empty map, and beside a stored network or above it.

@@ -1,13 +1,39 @@
 //! Taking entries out of a map, with each request for memory refused in turn, and with every one refused.
 use crate::Ipv4Prefix;
 use crate::tests::cases::Case::{
-    self, Empties, Finds, Inserts, Len, Nodes, Removes, RemovesChildren, RetainsFrom,
+    self, Empties, Finds, Inserts, Len, Lists, Nodes, Removes, RemovesChildren, RetainsFrom,
+    RetainsLong,
 };
 use crate::tests::cases::Pair;
 use crate::tests::refusing::Refusing;
-use crate::tests::trials::{Table, in_turn, without_memory};
+use crate::tests::trials::{How, Table, on_both, on_maps};
 use std::alloc::{AllocError, Global};
 use std::test::Fail;
+
+/// Keys are kept by their lengths. The smaller blocks that a node outgrew are taken by the node filled after it: so `retain` asks for
+/// others.
+pub const BY_LENGTH: [Table<'static, u32>; 1] = [(
+    &[
+        Inserts((0, 0), 0, None),
+        Inserts((0, 1), 1, None),
+        Inserts((0, 2), 2, None),
+        Inserts((0, 5), 3, None),
+        Inserts((0, 6), 4, None),
+        Inserts((0x0800_0000, 7), 5, None),
+    ],
+    &[
+        RetainsLong(1),
+        Len(5),
+        RetainsLong(2),
+        Len(4),
+        Nodes(3),
+        RetainsLong(6),
+        Lists(&[((0, 6), 4), ((0x0800_0000, 7), 5)]),
+        RetainsLong(7),
+        Lists(&[((0x0800_0000, 7), 5)]),
+        Nodes(2),
+    ],
+)];
 
 /// An empty node that is not on the way of a removal stays, and the removal's own goes.
 pub const OFF_THE_WAY: [Table<'static, u32>; 1] = [(
@@ -77,27 +103,23 @@ fn takes_even_alone(alloc: Global, end: u32) -> Result<Cases, AllocError> {
 }
 
 /// Takes them out with each request of the removals refused in turn, or with every one refused.
-fn even_taken(alloc: Global, end: u32, is_starved: bool) -> Result<(), Fail> {
+fn even_taken(alloc: Global, end: u32, how: How) -> Result<(), Fail> {
     let heap = Refusing::new(alloc);
     let first = puts(alloc, end)?;
     let then = takes_even_alone(alloc, end)?;
     let table = (first.as_slice(), then.as_slice());
-    if is_starved {
-        without_memory::<Ipv4Prefix>(&heap, &table)?;
-    } else {
-        in_turn::<Ipv4Prefix>(&heap, &table)?;
-    }
+    on_both::<Ipv4Prefix>(&heap, &table, how)?;
     Ok(())
 }
 
 #[test]
 fn others_stay(rt: HostRuntime) -> Result<(), Fail> {
-    even_taken(rt.alloc(), 255, false)
+    even_taken(rt.alloc(), 255, How::InTurn)
 }
 
 #[test]
 fn removals_need_no_memory(rt: HostRuntime) -> Result<(), Fail> {
-    even_taken(rt.alloc(), 50, true)
+    even_taken(rt.alloc(), 50, How::All)
 }
 
 /// How far apart 31 groups of five networks stand, and the networks in a group.
@@ -195,7 +217,11 @@ fn taken_in_turn(
 ) -> Result<(), Fail> {
     let first = puts_groups(alloc, groups)?;
     let then = takes_groups(alloc, groups, by)?;
-    in_turn::<Ipv4Prefix>(heap, &(first.as_slice(), then.as_slice()))?;
+    let table = (first.as_slice(), then.as_slice());
+    match by {
+        By::Retain => on_maps::<Ipv4Prefix>(heap, &table, How::InTurn)?,
+        _ => on_both::<Ipv4Prefix>(heap, &table, How::InTurn)?,
+    }
     Ok(())
 }
 
