@@ -122,7 +122,7 @@ fn removals_need_no_memory(rt: HostRuntime) -> Result<(), Fail> {
     even_taken(rt.alloc(), 50, How::All)
 }
 
-/// How far apart 31 groups of five networks stand, and the networks in a group.
+/// How far apart 16 groups of five networks stand, and the networks in a group.
 #[derive(Clone, Copy)]
 struct Groups {
     between: u32,
@@ -164,7 +164,7 @@ fn network(groups: Groups, group: u32, item: u32) -> Pair<u32> {
 /// Stores all networks, a group after the other: then a group takes the small blocks that the one before it left.
 fn puts_groups(alloc: Global, groups: Groups) -> Result<Cases, AllocError> {
     let mut cases = Vec::new(alloc);
-    for index in 0..155_u32 {
+    for index in 0..80_u32 {
         let item = index % 5;
         let at = network(groups, index / 5, item);
         cases.push(Inserts(at, u64::from(item), None))?;
@@ -196,13 +196,13 @@ fn left_after(item: u32, by: By) -> usize {
 /// removal does all that it should, and no more.
 fn takes_groups(alloc: Global, groups: Groups, by: By) -> Result<Cases, AllocError> {
     let mut cases = Vec::new(alloc);
-    for index in 0..155_u32 {
-        let item = index / 31;
-        let at = network(groups, index % 31, item);
+    for index in 0..80_u32 {
+        let item = index / 16;
+        let at = network(groups, index % 16, item);
         cases.push(taking(at, item, by))?;
         cases.push(Finds(at, None, None, None))?;
-        if index % 31 == 30 {
-            cases.push(Len(left_after(item, by).wrapping_mul(31)))?;
+        if index % 16 == 15 {
+            cases.push(Len(left_after(item, by).wrapping_mul(16)))?;
         }
     }
     Ok(cases)
