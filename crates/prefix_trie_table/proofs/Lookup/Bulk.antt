@@ -69,12 +69,12 @@ without : (xs ys : List ℕ) (k i : ℕ) → (i ≡ k → ⊥) → Contains (xs 
 without xs ys k i other has = elim (Contains-append_cases xs (k ∷ ys) i has) as (λ _. Contains (xs ++ ys) i) [
   | inl h ↦ Contains-append_left xs ys i h
   | inr h ↦ elim (Contains-append_cases (k ∷ []) ys i h) as (λ _. Contains (xs ++ ys) i) [
-      | inl e ↦ elim (Contains-push_cases [] k i e) as (λ _. Contains (xs ++ ys) i) [
-          | inl none ↦ absurd (omega (arith, none.1))
-          | inr same ↦ absurd (other (sym same))
-        ]
-      | inr e ↦ Contains-append_right xs ys i e
+    | inl e ↦ elim (Contains-push_cases [] k i e) as (λ _. Contains (xs ++ ys) i) [
+      | inl none ↦ absurd (omega (arith, none.1))
+      | inr same ↦ absurd (other (sym same))
     ]
+    | inr e ↦ Contains-append_right xs ys i e
+  ]
 ]
 
 -- the numbers of the questions whose ways these are, where one is the last or the first of the others

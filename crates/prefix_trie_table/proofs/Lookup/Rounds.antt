@@ -45,8 +45,7 @@ module _ (ways : List Way) where
   -- each of these questions is under way
   pub new_under_way : (n : ℕ) → n ≤ length ways → EachOf IsNew n ways → (i : ℕ) → i < n → Contains (map question_of (take n ways)) i
   new_under_way n long new i inside =
-      let fits : i < length (take n ways) = omega (arith, inside, length-take-le n ways long) in
-      (
+      let fits : i < length (take n ways) = omega (arith, inside, length-take-le n ways long) in (
         i,
         omega (arith, fits, length-map (take n ways) question_of),
         get_or-map question_of (take n ways) i (new_way i) i fits ∙ ap question_of (get_or-take n ways i (new_way i) inside ∙ new_at n long new i inside (new_way i)),

@@ -82,7 +82,12 @@ fn question<P: Prefix>(prefix: &P) -> (P::R, u32)
 /// Looks at the node to which the way of a question has come: what was found so far, and where the next node stands, if the
 /// way goes on.
 #[inline(always)]
-fn look<K: Key>(question: (K, u32), way: Way, level: u32, node: Node) -> (Option<Found>, Option<NodeSlot>)
+fn look<K: Key>(
+    question: (K, u32),
+    way: Way,
+    level: u32,
+    node: Node,
+) -> (Option<Found>, Option<NodeSlot>)
     requires asks { CanAsk K.IsKey K.bit_width question }
     requires on_way { (v : Store Node) × IsSound v × IsOnWay (K.bits question.0) question.1 level node (slot_of way) v }
     ensures next { (v : Store Node) → IsOnWay (K.bits question.0) question.1 level node (slot_of way) v
@@ -208,7 +213,10 @@ fn answer_each<P: Prefix, A: Allocator, V: Tick>(
 
 /// The value of a match, behind the length of its string.
 #[inline(always)]
-fn value_at<'a, T: Drop, A: Allocator>(cells: &'a Blocks<Option<T>, A>, found: Found) -> Option<(u32, &'a T)>
+fn value_at<'a, T: Drop, A: Allocator>(
+    cells: &'a Blocks<Option<T>, A>,
+    found: Found,
+) -> Option<(u32, &'a T)>
     requires stands { found.seat.start + found.seat.place < length cells.now.slots }
     ensures { MatchOption result
         (slice_index_or cells.now.slots (found.seat.start + found.seat.place) None ≡ None)

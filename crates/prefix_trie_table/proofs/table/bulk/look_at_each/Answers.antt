@@ -47,12 +47,11 @@ look-best-requires-clause-on_way g c =
     let r = c.requires.read in
     let inside = (way_is g.P.R.Key.bits r.0 qs c.args.level c.args.ways.now c.args.count c.args.read.now c.requires.count.0 r.2 c.loop-j.ways c.loop-j.j c.loop-j.invariant.rest c.loop-j-test.true (new_way 0)).inside in
     let q = c.question-asked.result in
-    let is = question_at g.P.Prefix.repr_of g.P.Prefix.len_of c.args.prefixes.now _ (omega (arith, inside, long)) c.index-prefixes-way.result c.index-prefixes-way.is q c.question-asked.ensures in
-    (
+    let is = question_at g.P.Prefix.repr_of g.P.Prefix.len_of c.args.prefixes.now _ (omega (arith, inside, long)) c.index-prefixes-way.result c.index-prefixes-way.is q c.question-asked.ensures in (
       r.0,
       r.1,
       read_on g.P.R.Key.bits r.0 qs c.args.level c.args.ways.now c.args.count c.args.read.now c.requires.count.0 r.2 c.loop-j.ways c.loop-j.j c.loop-j.invariant.rest c.loop-j-test.true (new_way 0)
-      blank_node (omega (arith, c.loop-j-test.true, c.requires.count.1)) q is,
+          blank_node (omega (arith, c.loop-j-test.true, c.requires.count.1)) q is,
     )
 
 pub offset_bounds-found-way : goal.offset_bounds-found-way
@@ -87,30 +86,30 @@ loop-j-preserved g c =
     let rest = rest_more g.P.R.Key.bits r.0 qs c.args.level c.args.ways.now c.args.count c.args.read.now c.requires.count.0 r.2 c.loop-j.ways j at.rest c.loop-j-test.true in
     elim c.match-next.branch [
       | in-Some w ↦ record {
-            few = omega (arith, w.kept-is, at.few);
-            rest = ap (drop (j + 1)) w.ways-is ∙ drop-set-lt (j + 1) c.loop-j.ways c.loop-j.kept _ (omega (arith, at.few)) ∙ rest;
-            go_on = λ v given.
-                let on = read_on g.P.R.Key.bits v qs c.args.level c.args.ways.now c.args.count c.args.read.now c.requires.count.0 given c.loop-j.ways j at.rest c.loop-j-test.true (new_way 0) blank_node (omega (arith, c.loop-j-test.true, c.requires.count.1)) q is in
-                let way : Way = get_or c.loop-j.ways j (new_way 0) in
-                let node : Node = get_or c.args.read.now j blank_node in
-                let has = c.look-best.ensures.found v on (way_best g.P.R.Key.bits v qs c.args.level way (way_is g.P.R.Key.bits v qs c.args.level c.args.ways.now c.args.count c.args.read.now c.requires.count.0 given c.loop-j.ways j at.rest c.loop-j-test.true (new_way 0)) q is) in
-                let next = subst (λ o. MatchOption o (IsReached b q.1 c.args.level node (slot_of way) v) (λ at. IsOnWay b q.1 (c.args.level + 1) (node_at v.slots (at.start + at.place)) (at.start + at.place) v)) w.in-Some.is (c.look-best.ensures.next v on) in
-                round_on g.P.R.Key.bits v qs c.args.level c.args.ways.now c.args.count c.args.read.now c.requires.count.0 given c.loop-j.ways j at.rest c.loop-j-test.true c.loop-j.kept c.args.found.now c.loop-j.found (at.go_on v given) (new_way 0) c.match-next.ways c.match-next.kept c.match-next.found wide w.kept-is _ w.ways-is w.found-is refl
-                (way_next g.P.R.Key.bits v qs c.args.level c.args.ways.now c.args.count c.args.read.now c.requires.count.0 given c.loop-j.ways j at.rest c.loop-j-test.true (new_way 0) q is w.in-Some.at c.look-best.result.0 next has);
-          }
+        few = omega (arith, w.kept-is, at.few);
+        rest = ap (drop (j + 1)) w.ways-is ∙ drop-set-lt (j + 1) c.loop-j.ways c.loop-j.kept _ (omega (arith, at.few)) ∙ rest;
+        go_on = λ v given.
+            let on = read_on g.P.R.Key.bits v qs c.args.level c.args.ways.now c.args.count c.args.read.now c.requires.count.0 given c.loop-j.ways j at.rest c.loop-j-test.true (new_way 0) blank_node (omega (arith, c.loop-j-test.true, c.requires.count.1)) q is in
+            let way : Way = get_or c.loop-j.ways j (new_way 0) in
+            let node : Node = get_or c.args.read.now j blank_node in
+            let has = c.look-best.ensures.found v on (way_best g.P.R.Key.bits v qs c.args.level way (way_is g.P.R.Key.bits v qs c.args.level c.args.ways.now c.args.count c.args.read.now c.requires.count.0 given c.loop-j.ways j at.rest c.loop-j-test.true (new_way 0)) q is) in
+            let next = subst (λ o. MatchOption o (IsReached b q.1 c.args.level node (slot_of way) v) (λ at. IsOnWay b q.1 (c.args.level + 1) (node_at v.slots (at.start + at.place)) (at.start + at.place) v)) w.in-Some.is (c.look-best.ensures.next v on) in
+            round_on g.P.R.Key.bits v qs c.args.level c.args.ways.now c.args.count c.args.read.now c.requires.count.0 given c.loop-j.ways j at.rest c.loop-j-test.true c.loop-j.kept c.args.found.now c.loop-j.found (at.go_on v given) (new_way 0) c.match-next.ways c.match-next.kept c.match-next.found wide w.kept-is _ w.ways-is w.found-is refl
+            (way_next g.P.R.Key.bits v qs c.args.level c.args.ways.now c.args.count c.args.read.now c.requires.count.0 given c.loop-j.ways j at.rest c.loop-j-test.true (new_way 0) q is w.in-Some.at c.look-best.result.0 next has);
+      }
       | in-None w ↦ record {
-            few = omega (arith, w.kept-is, at.few);
-            rest = ap (drop (j + 1)) w.ways-is ∙ rest;
-            go_on = λ v given.
-                let on = read_on g.P.R.Key.bits v qs c.args.level c.args.ways.now c.args.count c.args.read.now c.requires.count.0 given c.loop-j.ways j at.rest c.loop-j-test.true (new_way 0) blank_node (omega (arith, c.loop-j-test.true, c.requires.count.1)) q is in
-                let way : Way = get_or c.loop-j.ways j (new_way 0) in
-                let node : Node = get_or c.args.read.now j blank_node in
-                let has = c.look-best.ensures.found v on (way_best g.P.R.Key.bits v qs c.args.level way (way_is g.P.R.Key.bits v qs c.args.level c.args.ways.now c.args.count c.args.read.now c.requires.count.0 given c.loop-j.ways j at.rest c.loop-j-test.true (new_way 0)) q is) in
-                let next = subst (λ o. MatchOption o (IsReached b q.1 c.args.level node (slot_of way) v) (λ at. IsOnWay b q.1 (c.args.level + 1) (node_at v.slots (at.start + at.place)) (at.start + at.place) v)) w.in-None.is (c.look-best.ensures.next v on) in
-                round_end g.P.R.Key.bits v qs c.args.level c.args.ways.now c.args.count c.args.read.now c.requires.count.0 given c.loop-j.ways j at.rest c.loop-j-test.true c.loop-j.kept c.args.found.now c.loop-j.found (at.go_on v given) (new_way 0) c.match-next.ways c.match-next.kept c.match-next.found w.kept-is w.ways-is c.look-best.result.0 w.found-is
-                (c.loop-j.auto.found ∙ c.requires.same_length ∙ sym long) q is (found_end b q.1 c.args.level (slot_of way) node v next c.look-best.result.0 has)
-                (λ n. reached_end b q.1 c.args.level (slot_of way) node v next n.reading n.paths n.hold);
-          }
+        few = omega (arith, w.kept-is, at.few);
+        rest = ap (drop (j + 1)) w.ways-is ∙ rest;
+        go_on = λ v given.
+            let on = read_on g.P.R.Key.bits v qs c.args.level c.args.ways.now c.args.count c.args.read.now c.requires.count.0 given c.loop-j.ways j at.rest c.loop-j-test.true (new_way 0) blank_node (omega (arith, c.loop-j-test.true, c.requires.count.1)) q is in
+            let way : Way = get_or c.loop-j.ways j (new_way 0) in
+            let node : Node = get_or c.args.read.now j blank_node in
+            let has = c.look-best.ensures.found v on (way_best g.P.R.Key.bits v qs c.args.level way (way_is g.P.R.Key.bits v qs c.args.level c.args.ways.now c.args.count c.args.read.now c.requires.count.0 given c.loop-j.ways j at.rest c.loop-j-test.true (new_way 0)) q is) in
+            let next = subst (λ o. MatchOption o (IsReached b q.1 c.args.level node (slot_of way) v) (λ at. IsOnWay b q.1 (c.args.level + 1) (node_at v.slots (at.start + at.place)) (at.start + at.place) v)) w.in-None.is (c.look-best.ensures.next v on) in
+            round_end g.P.R.Key.bits v qs c.args.level c.args.ways.now c.args.count c.args.read.now c.requires.count.0 given c.loop-j.ways j at.rest c.loop-j-test.true c.loop-j.kept c.args.found.now c.loop-j.found (at.go_on v given) (new_way 0) c.match-next.ways c.match-next.kept c.match-next.found w.kept-is w.ways-is c.look-best.result.0 w.found-is
+            (c.loop-j.auto.found ∙ c.requires.same_length ∙ sym long) q is (found_end b q.1 c.args.level (slot_of way) node v next c.look-best.result.0 has)
+            (λ n. reached_end b q.1 c.args.level (slot_of way) node v next n.reading n.paths n.hold);
+      }
     ]
 
 pub returns-clause-go_on : goal.returns-clause-go_on
