@@ -8,7 +8,9 @@ use std::alloc::{AllocError, Allocator};
 
 impl<T: Clone, A: Allocator + Clone, V: Tick> Table<T, A, V> {
     /// A table with the same keys and nodes, in the same blocks, whose values are clones, in memory of its own. All of that
-    /// is asked for before the first value is cloned. Refused only where memory is, for the arrays or for a value.
+    /// is asked for before the first value is cloned.
+    ///
+    /// Errors: only where a request for memory is refused, for the arrays or for a value.
     pub fn clone(&self) -> Result<Self, AllocError>
         ensures entries { IfOk result (λ copy. AreCloned T.is_clone self.now.entries copy.entries) }
         ensures nodes { IfOk result (λ copy. copy.nodes ≡ self.now.nodes) }

@@ -72,6 +72,11 @@ impl<'a, K: Key, T: Drop, A: Allocator, V: Tick> Cover<'a, K, T, A, V> {
 
 impl<T: Drop, A: Allocator, V: Tick> Table<T, A, V> {
     /// The entries whose keys begin a bit string, the shortest first. The root is read at once.
+    ///
+    /// ```text
+    /// 10 and 1011 are stored with 1 and 2
+    /// table.cover(key, len, &mut counter)     of 101100 gives 10 with 1, and 1011 with 2
+    /// ```
     #[inline]
     pub fn cover<K: Key>(&self, key: K, len: u32, counter: &mut V) -> Cover<'_, K, T, A, V>
         requires key { K.IsKey key }

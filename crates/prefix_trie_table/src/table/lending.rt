@@ -72,6 +72,12 @@ impl<T: Drop, A: Allocator, V: Tick> Table<T, A, V> {
 
     /// The value at a bit string, for writing. What is written through it becomes the value there, and nothing else changes.
     /// Each node on the way is read once.
+    ///
+    /// ```text
+    /// if let Some(value) = table.find_mut(key, len, &mut counter) {
+    ///     *value = 7;
+    /// }
+    /// ```
     #[inline]
     pub fn find_mut<K: Key>(&mut self, key: K, len: u32, counter: &mut V) -> Option<&mut T>
         requires key { K.IsKey key }

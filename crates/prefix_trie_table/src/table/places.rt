@@ -24,6 +24,15 @@ impl<T: Drop, A: Allocator, V: Tick> Table<T, A, V> {
     ghost use Rattle.prefix_trie_table.specs.TableLending.{lends_entry};
 
     /// Where the value at a bit string stands, or where its way ends. Each node on the way is read once.
+    ///
+    /// ```text
+    /// match table.locate(key, len, &mut counter) {
+    ///     Location::Stored(seat) => *table.at_mut(key, len, seat) = 7,
+    ///     Location::Missing(end) => {
+    ///         table.place(key, len, end, 7)?;     // does not go down again
+    ///     }
+    /// }
+    /// ```
     #[inline]
     pub fn locate<K: Key>(&self, key: K, len: u32, counter: &mut V) -> Location
         requires key { K.IsKey key }
@@ -59,8 +68,10 @@ impl<T: Drop, A: Allocator, V: Tick> Table<T, A, V> {
     }
 
     /// Obtains all blocks that the insertion of a missing bit string needs, whose way ends here: `place` is then not refused.
-    /// It is refused as `insert` is. In each case entries and nodes stay as they are, and so does the end of the way. No node
-    /// is read.
+    /// In each case entries and nodes stay as they are, and so does the end of the way. No node is read.
+    ///
+    /// Errors: as of `insert`, only where a block lacks: `Memory` where a request for memory is refused, and `IndexRange` where the
+    /// slots of the blocks that lack pass the limit.
     #[inline]
     pub fn make_room<K: Key>(&mut self, key: K, len: u32, end: WayEnd) -> Result<(), Refusal>
         requires key { K.IsKey key }
@@ -80,7 +91,9 @@ impl<T: Drop, A: Allocator, V: Tick> Table<T, A, V> {
     }
 
     /// Sets the value at a missing bit string, whose way ends here, adds the nodes that are missing on it, and answers where
-    /// the value stands. It is refused as `insert` is, and then hands the value back. No node is read.
+    /// the value stands. No node is read.
+    ///
+    /// Errors: as of `insert`, and then it hands the value back. Never right behind a `make_room` of the same string that was not refused.
     // It stands apart, so that what callers do with a stored key stays small.
     #[inline(never)]
     pub fn place<K: Key>(

@@ -102,7 +102,9 @@ impl<K: Key, T: Drop, A: Allocator, V: Tick> IntoWalk<K, T, A, V> {
 
 impl<K: Key, T: Clone, A: Allocator + Clone, V: Tick> IntoWalk<K, T, A, V> {
     /// A walk with the same strings to come, whose values are clones, in memory of its own. All of that is asked for before the
-    /// first value is cloned. Refused only where memory is, for the arrays or for a value.
+    /// first value is cloned.
+    ///
+    /// Errors: only where a request for memory is refused, for the arrays or for a value.
     pub fn clone(&self) -> Result<Self, AllocError>
         ensures pairs { IfOk result (λ copy. AllZip (IsPairCloned T.is_clone) self.now copy) }
         ensures same { IfOk result (λ copy. ((x y : T) → T.is_clone x y → y ≡ x) → copy ≡ self.now) }

@@ -27,6 +27,13 @@ impl<T: Drop, A: Allocator, V: Tick> Table<T, A, V> {
     ghost use Rattle.prefix_trie_table.specs.Walking.Trails.{IsTrailIn, keys_to_come, GivesKey};
 
     /// The start of a walk of the entries that are selected from a bit string. Each node on its way is read once.
+    ///
+    /// ```text
+    /// let mut trail = table.trail(K::zero(), 0, Start::Below, &mut counter);
+    /// while let Some((key, len, seat)) = table.step(&mut trail, &mut counter) {
+    ///     *table.at_mut(key, len, seat) = 0;      // no node changes, so the trail is right still
+    /// }
+    /// ```
     #[inline]
     pub fn trail<K: Key>(&self, key: K, len: u32, from: Start, counter: &mut V) -> Trail<K>
         requires key { K.IsKey key }
