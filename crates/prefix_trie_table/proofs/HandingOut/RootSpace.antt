@@ -1,7 +1,7 @@
 -- A second table never needs more slots than the first has.
-use Rattle.std.proofs.Common.{◌≡◌, ℕ, zero, suc, ◌+◌, ◌<◌, ◌≤◌, true, List, [], ◌∷◌, length, map, flat_map, sum_by, Option, None, Some, refl, sym, ap, ◌∙◌, arith}
+use Rattle.std.proofs.Common.{◌≡◌, ℕ, zero, suc, ◌+◌, ◌≤◌, true, List, [], ◌∷◌, length, map, flat_map, sum_by, Option, None, Some, refl, ap, arith}
 use Rattle.std.proofs.lemmas.List.Sums.{sum_by-le-sum_by}
-use Rattle.prefix_trie_bits.specs.Model.Blocks.{Block as Extent, HasBlock}
+use Rattle.prefix_trie_bits.specs.Model.Blocks.{HasBlock}
 use Rattle.prefix_trie_bits.specs.Model.HandsOut.{packed_slots}
 use Rattle.prefix_trie_bits.specs.Model.Step.{State}
 use Rattle.prefix_trie_bits.proofs.Model.Storage.Readied.{goes_up}

@@ -1,10 +1,10 @@
 -- How many slots a node needs at most, with all below it.
 use Rattle.std.proofs.Common.{◌≡◌, ◌≢◌, ℕ, zero, suc, ◌+◌, ◌-◌, ◌<◌, ◌≤◌, inl, inr, Bool, true, false, cond, List, length, Option, None, Some, refl, sym, ap, ◌∙◌, subst, arith}
 use Rattle.std.specs.List.{Contains}
-use Rattle.std.proofs.lemmas.Bool.{cases_Bool, cases_lt, false≢true}
+use Rattle.std.proofs.lemmas.Bool.{cases_lt, false≢true}
 use Rattle.std.proofs.lemmas.List.{get_or_default}
 use Rattle.prefix_trie_bits.specs.declared.prefix.Refusal.TheVariants.{Memory, IndexRange, the_data}
-use Rattle.prefix_trie_bits.specs.Model.HandsOut.{packed_block, packed_slots}
+use Rattle.prefix_trie_bits.specs.Model.HandsOut.{packed_slots}
 use Rattle.prefix_trie_bits.proofs.Model.Storage.Readied.{goes_up}
 use Rattle.prefix_trie_bits.proofs.Model.Storage.Shrinking.{smallest_of}
 use Rattle.prefix_trie_table.specs.declared.allocator.node.Node.{Node}

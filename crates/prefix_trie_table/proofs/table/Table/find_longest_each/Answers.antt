@@ -1,4 +1,4 @@
-use Rattle.std.proofs.Common.{◌≡◌, ◌+◌, map, sum, sum_by, ap, ◌∙◌, subst}
+use Rattle.std.proofs.Common.{◌≡◌, ◌+◌, map, sum_by, ap, ◌∙◌, subst}
 use Rattle.std.proofs.lemmas.List.{length-map}
 use Rattle.prefix_trie_bits.specs.Model.Visits.{visits}
 use Rattle.prefix_trie_table.specs.Bulk.{AreAnswers, asked, asks, questions_of}

@@ -1,8 +1,8 @@
-use Rattle.std.proofs.Common.{◌≡◌, ◌+◌, ◌*◌, ◌≤◌, ◌<◌, MatchOption, get_or, set, length, take, drop, refl, sym, ap, ◌∙◌, subst, arith, rules}
+use Rattle.std.proofs.Common.{◌≡◌, ◌+◌, ◌<◌, MatchOption, get_or, length, take, drop, refl, sym, ap, ◌∙◌, subst, arith}
 use Rattle.std.proofs.lemmas.List.{drop-set-lt, length-map}
 use Rattle.prefix_trie_table.specs.declared.allocator.node.Node.{Node}
 use Rattle.prefix_trie_table.specs.declared.table.bulk.Way.{Way}
-use Rattle.prefix_trie_table.specs.Bulk.{CanAsk, GoOn, HasFound, asked, asks, new_way, questions_of, slot_of}
+use Rattle.prefix_trie_table.specs.Bulk.{CanAsk, GoOn, asks, new_way, questions_of, slot_of}
 use Rattle.prefix_trie_table.specs.Cells.{blank_node, node_at}
 use Rattle.prefix_trie_table.specs.Matching.{IsOnWay}
 use Rattle.prefix_trie_table.specs.Tables.{IsReached}

@@ -1,6 +1,5 @@
-use Rattle.std.proofs.Common.{◌≡◌, ◌≢◌, refl, ◌∙◌, ◌<◌, sym, ap, subst, length, arith, ◌/◌, take, Some}
+use Rattle.std.proofs.Common.{refl, ◌∙◌, ◌<◌, sym, ap, subst, length, arith, ◌/◌, take, Some}
 use Rattle.std.proofs.lemmas.Result.{err_from_is_err_and}
-use Rattle.prefix_trie_bits.specs.declared.prefix.Refusal.TheVariants.{Memory, IndexRange, the_data}
 use Rattle.prefix_trie_table.specs.Cells.{node_at}
 use Rattle.prefix_trie_table.specs.HandingOut.Laid.{IsPart, IsSource, LaysNode, HasSpace, child_slots, value_slots, slots_below}
 use Rattle.prefix_trie_table.specs.declared.allocator.node.Node.{Node}
