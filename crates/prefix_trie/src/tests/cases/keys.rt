@@ -200,7 +200,7 @@ fn retains_long<P: Prefix, A: Allocator>(set: &mut PrefixSet<P, A>, len: u8) -> 
 }
 
 fn removes_children<P: Prefix, A: Allocator>(set: &mut PrefixSet<P, A>, at: Pair<P::R>) -> bool {
-    set.remove_children(&prefix_of(at));
+    set.drop_children(&prefix_of(at));
     true
 }
 
