@@ -1,8 +1,8 @@
 //! Handing keys out as a second set.
 ghost use Rattle.std.specs.Prelude.{◌≡◌, IfOk, OnOk, IfErr, OnErr};
-ghost use Rattle.prefix_trie_bits.specs.declared.prefix.Refusal.TheVariants.{IndexRange};
+ghost use Rattle.prefix_trie_bits.specs.declared.prefix.Refusal.TheVariants.{Memory};
 ghost use Rattle.prefix_trie_bits.specs.Model.Entries.{without_below, part_below};
-ghost use Rattle.prefix_trie_bits.specs.Model.HandsOut.{HandsOutInStorage, HandedPassLimit};
+ghost use Rattle.prefix_trie_bits.specs.Model.HandsOut.{HandsOutInStorage};
 ghost use Rattle.prefix_trie_bits.specs.Model.Nodes.{needed, nodes_without_below};
 ghost use Rattle.prefix_trie_map.specs.Steps.{stored};
 
@@ -17,8 +17,8 @@ impl<P: Prefix, A: Allocator + Clone> PrefixSet<P, A> {
     /// The second set has this set's limit and a clone of its allocator. It is tidy, and as small as a set of its keys can be: each of its
     /// blocks is the smallest that holds its items, and none is free. All its room is asked for before a key moves.
     ///
-    /// Errors: `Memory` where a request for memory is refused, and `IndexRange` where the slots of the second set would pass the limit.
-    /// Then this set is as it was, its slots and blocks too, and no second set exists.
+    /// Errors: `Memory` where a request for memory is refused. Then this set is as it was, its slots and blocks too, and no second set
+    /// exists. `IndexRange` never: the second set has no more slots than this one.
     ///
     /// ```text
     /// 10.1.0.0/16, 10.1.2.0/24 and 10.2.0.0/16 are stored
@@ -36,7 +36,7 @@ impl<P: Prefix, A: Allocator + Clone> PrefixSet<P, A> {
         // It is a step of the model, of the storage of both sets too: that of a map of units.
         ensures step { IfOk result (λ second. HandsOutInStorage (stored self.old) (P.path prefix.now) (stored second) (stored self.new)) }
         ensures unchanged { OnErr result (stored self.new ≡ stored self.old) }
-        ensures range { IfErr result (λ cause. cause ≡ IndexRange → HandedPassLimit self.old.entries (P.path prefix.now) self.old.room.limit) }
+        ensures only_memory { IfErr result (λ cause. cause ≡ Memory) }
     {
         let map = self.map.remove_children(prefix)?;
         Ok(PrefixSet { map })

@@ -1,8 +1,8 @@
 //! Handing entries out as a second map.
 ghost use Rattle.std.specs.Prelude.{◌≡◌, IfOk, OnOk, IfErr, OnErr};
-ghost use Rattle.prefix_trie_bits.specs.declared.prefix.Refusal.TheVariants.{IndexRange};
+ghost use Rattle.prefix_trie_bits.specs.declared.prefix.Refusal.TheVariants.{Memory};
 ghost use Rattle.prefix_trie_bits.specs.Model.Entries.{without_below, part_below};
-ghost use Rattle.prefix_trie_bits.specs.Model.HandsOut.{HandsOutInStorage, HandedPassLimit};
+ghost use Rattle.prefix_trie_bits.specs.Model.HandsOut.{HandsOutInStorage};
 ghost use Rattle.prefix_trie_bits.specs.Model.Nodes.{needed, nodes_without_below};
 ghost use Rattle.prefix_trie_map.specs.Steps.{stored};
 
@@ -20,8 +20,8 @@ impl<P: Prefix, T: Drop, A: Allocator + Clone> PrefixMap<P, T, A> {
     /// The second map has this map's limit and a clone of its allocator. It is tidy, and as small as a map of its entries can be: each of
     /// its blocks is the smallest that holds its items, and none is free. All its room is asked for before a value moves.
     ///
-    /// Errors: `Memory` where a request for memory is refused, and `IndexRange` where the slots of the second map would pass the limit.
-    /// Then this map is as it was, its slots and blocks too, and no second map exists.
+    /// Errors: `Memory` where a request for memory is refused. Then this map is as it was, its slots and blocks too, and no second map
+    /// exists. `IndexRange` never: the second map has no more slots than this one.
     ///
     /// ```text
     /// 10.1.0.0/16, 10.1.2.0/24 and 10.2.0.0/16 are stored with 1, 2 and 3
@@ -39,7 +39,7 @@ impl<P: Prefix, T: Drop, A: Allocator + Clone> PrefixMap<P, T, A> {
         // It is a step of the model, of the storage of both maps too.
         ensures step { IfOk result (λ second. HandsOutInStorage (stored self.old) (P.path prefix.now) (stored second) (stored self.new)) }
         ensures unchanged { OnErr result (stored self.new ≡ stored self.old) }
-        ensures range { IfErr result (λ cause. cause ≡ IndexRange → HandedPassLimit self.old.entries (P.path prefix.now) self.old.room.limit) }
+        ensures only_memory { IfErr result (λ cause. cause ≡ Memory) }
     {
         let (key, len) = parts(prefix);
         let table = self.table.remove_children(key, len, &mut Visits::new())?;

@@ -9,6 +9,3 @@ returns-clause-nodes g c = search rules
 
 pub returns-clause-step : goal.returns-clause-step
 returns-clause-step g c = search rules
-
-pub returns-in_err-map-clause-range : goal.returns-in_err-map-clause-range
-returns-in_err-map-clause-range g c = rw (← c.self.view_is) (search rules)

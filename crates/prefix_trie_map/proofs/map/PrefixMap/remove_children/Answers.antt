@@ -1,5 +1,5 @@
 use Rattle.std.proofs.lemmas.Result.{err_from_is_err_and}
-use Rattle.prefix_trie_bits.specs.Model.HandsOut.{HandsOutInStorage, HandedPassLimit}
+use Rattle.prefix_trie_bits.specs.Model.HandsOut.{HandsOutInStorage}
 use Rattle.prefix_trie_bits.proofs.Model.HandsOut.{handing_laws}
 use Rattle.prefix_trie_map.specs.Steps.{state, stored}
 use Rattle.prefix_trie_map.proofs.Steps.{by_key}
@@ -32,8 +32,6 @@ returns-clause-entries g c = (returns-clause-step g c).hands_out.left
 pub returns-clause-nodes : goal.returns-clause-nodes
 returns-clause-nodes g c = (returns-clause-step g c).hands_out.left_nodes
 
-pub returns-in_err-table-clause-range : goal.returns-in_err-table-clause-range
-returns-in_err-table-clause-range g c =
-    let p = err_from_is_err_and c.from_residual.result c.from_residual.ensures.1 in
-    rw (p.1, p.2) (λ is_range. by_key (λ old k. HandedPassLimit old.entries k old.room.limit) c.self.view_is c.parts-key.ensures.path
-    (c.in_err-table.ensures.range is_range))
+pub returns-in_err-table-clause-only_memory : goal.returns-in_err-table-clause-only_memory
+returns-in_err-table-clause-only_memory g c =
+    let p = err_from_is_err_and c.from_residual.result c.from_residual.ensures.1 in rw (p.1, p.2) c.in_err-table.ensures.memory
