@@ -5,6 +5,7 @@ ghost use Rattle.prefix_trie_bits.specs.Model.Selections.{listing, shown};
 
 use crate::map::{IntoIter, IntoKeys, IntoValues};
 use crate::tests::clones::Copied;
+use crate::tests::refusing::Refusing;
 use crate::tests::stored::is_new;
 use crate::{Prefix, PrefixMap, Refused};
 use std::alloc::{Allocator, Global};
@@ -201,6 +202,70 @@ fn drops_of_refused(alloc: Global) -> Option<[u64; 3]> {
     is_refused.then_some([first, second, drops.get()])
 }
 
+/// A name beside a count of its drops: its copy asks for memory once.
+#[derive(Clone, Drop)]
+struct Named<'a> {
+    name: String<&'a Refusing<Global>>,
+    counted: Counted<'a>,
+}
+
+type Names<'a> = PrefixMap<(u32, u8), Named<'a>, &'a Refusing<Global>>;
+
+/// Stores a name.
+fn put_name<'a>(
+    heap: &'a Refusing<Global>,
+    names: &mut Names<'a>,
+    key: (u32, u8),
+    drops: &'a Cell<u64>,
+) -> bool {
+    let Ok(name) = String::from_str(heap, "name") else {
+        return false;
+    };
+    let counted = Counted { drops };
+    key.fits() && is_new(names.insert(key, Named { name, counted }))
+}
+
+/// How many are dropped by a copy whose request is refused that comes after so many, and how many requests it is refused; none where it
+/// is granted.
+fn drops_of_refused_copy<'a>(
+    heap: &'a Refusing<Global>,
+    names: &Names<'a>,
+    passed: u64,
+    drops: &Cell<u64>,
+) -> Option<u64> {
+    heap.refuse(passed, 1);
+    let copy = names.clone();
+    let is_refused = copy.is_err() & (heap.left() == 0);
+    let_go(copy);
+    let dropped = drops.replace(0);
+    is_refused.then_some(dropped)
+}
+
+/// How many are dropped by the copies of three whose last three requests are refused in turn: those that were copied by then.
+fn drops_of_refused_copies(heap: &Refusing<Global>) -> Option<[Option<u64>; 4]> {
+    let drops = Cell::new(0);
+    let mut names = PrefixMap::new(heap).ok()?;
+    let are_put = put_name(heap, &mut names, KEYS[0], &drops)
+        & put_name(heap, &mut names, KEYS[1], &drops)
+        & put_name(heap, &mut names, KEYS[2], &drops);
+    let first = requests_of_copy(heap, &names).wrapping_sub(3);
+    let _ = drops.replace(0);
+    let counts = [
+        drops_of_refused_copy(heap, &names, first, &drops),
+        drops_of_refused_copy(heap, &names, first.wrapping_add(1), &drops),
+        drops_of_refused_copy(heap, &names, first.wrapping_add(2), &drops),
+        drops_of_refused_copy(heap, &names, first.wrapping_add(3), &drops),
+    ];
+    are_put.then_some(counts)
+}
+
+/// How many requests a copy makes.
+fn requests_of_copy(heap: &Refusing<Global>, names: &Names<'_>) -> u64 {
+    heap.refuse(u64::MAX, 0);
+    let_go(names.clone());
+    u64::MAX.wrapping_sub(heap.to_pass())
+}
+
 /// How many are dropped with a map that is let go.
 fn drops_of_whole(alloc: Global) -> Option<(u64, u64)> {
     let drops = Cell::new(0);
@@ -216,4 +281,6 @@ fn each_value_is_dropped_once(rt: HostRuntime) {
     assert!(rt; drops_of_map(alloc) == Some(([0, 1, 2, 4], 4)));
     assert!(rt; drops_of_refused(alloc) == Some([0, 1, 1]));
     assert!(rt; drops_of_whole(alloc) == Some((0, 3)));
+    let heap = Refusing::new(alloc);
+    assert!(rt; drops_of_refused_copies(&heap) == Some([Some(0), Some(1), Some(2), None]));
 }
