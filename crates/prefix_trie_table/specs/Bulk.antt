@@ -94,11 +94,6 @@ module _ {K : Type 0} (bits : K → List Bool) where
         (i : ℕ) (q : K × ℕ) (a : Option Found) → i < length questions → q ≡ slice_index_or questions i q → a ≡ slice_index_or found i a
         → Contains under_way i ⊎ HasFound v (asked q) (q.1 + 1) a
 
-    -- the first n questions have their answers
-    abbrev pub HasAnswers : ℕ → List (Option Found) → Type 0
-    HasAnswers n found =
-        (i : ℕ) (q : K × ℕ) (a : Option Found) → i < n → q ≡ slice_index_or questions i q → a ≡ slice_index_or found i a → HasFound v (asked q) (q.1 + 1) a
-
     -- how many nodes there are on the way of each question
     abbrev pub AreCosts : List ℕ → Type 0
     AreCosts costs =

@@ -12,9 +12,9 @@ use Rattle.prefix_trie_table.specs.declared.table.bulk.Found.{Found}
 use Rattle.prefix_trie_table.specs.declared.table.bulk.Way.{Way}
 use Rattle.prefix_trie_table.specs.declared.table.matching.Match.{Match}
 use Rattle.prefix_trie_table.specs.Bulk.{AreAnswered, AreRead, GoOn, HasFound, IsWay, asked, asks, cost_of, found_of, question_of, questions_of, slot_of}
-use Rattle.prefix_trie_table.specs.Cells.{node_at, node_sizes}
+use Rattle.prefix_trie_table.specs.Cells.{node_at}
 use Rattle.prefix_trie_table.specs.Digits.{path_of}
-use Rattle.prefix_trie_table.specs.Forest.{IsEnd, NodesHold, SomeNodes}
+use Rattle.prefix_trie_table.specs.Forest.{IsEnd, SomeNodes}
 use Rattle.prefix_trie_table.specs.Matching.{IsOnWay, LongestHeld}
 use Rattle.prefix_trie_table.specs.Store.{Store}
 use Rattle.prefix_trie_table.specs.Tables.{IsReached}
@@ -31,13 +31,6 @@ longer_is : (o m : Option Match) (above result : Option Found) → above ≡ opt
     → result ≡ option_map found_of (option_or o m)
 longer_is None m above result is found = found ∙ is
 longer_is (Some n) m above result is found = found
-
--- a match that was searched for alone
-pub found_alone : (v : Store Node) (s : List Bool) (n : ℕ) (o : Option Match) (result : Option Found)
-    → ((reading : List ℕ → Option Node) (paths : List (List ℕ)) → NodesHold node_sizes reading paths v → LongestHeld reading s 0 n o)
-    → MatchOption o (result ≡ None) (λ m. result ≡ Some (found_of m)) → HasFound v s n result
-found_alone v s n None result held is reading paths hold = (None, held reading paths hold, is)
-found_alone v s n (Some m) result held is reading paths hold = (Some m, held reading paths hold, is)
 
 module _ (b : List Bool) (len level slot : ℕ) (node : Node) (v : Store Node) where
   pub found_now : IsOnWay b len level node slot v → (above result : Option Found) (here : Option Match) → HasFound v (take len b) (5 * level) above

@@ -1,8 +1,8 @@
 -- Questions that go down side by side: before the first round, from one to the next, and after the last.
-use Rattle.std.proofs.Common.{◌≡◌, ℕ, zero, suc, ◌+◌, ◌*◌, ◌<◌, ◌≤◌, inl, inr, Bool, List, [], ◌∷◌, ◌++◌, Option, None, Some, is_some, Contains, All, map, take, length, get_or, set, sum, sum_by, refl, sym, ap, ap₂, ◌∙◌, subst, arith}
+use Rattle.std.proofs.Common.{◌≡◌, ℕ, zero, suc, ◌+◌, ◌*◌, ◌<◌, ◌≤◌, inl, inr, Bool, List, [], ◌∷◌, ◌++◌, Option, None, Some, is_some, Contains, All, map, take, length, get_or, sum, sum_by, refl, sym, ap, ap₂, ◌∙◌, subst, arith}
 use Rattle.std.proofs.Math.Nat.{add-mul, mul-zero, mul-add, mul-one, zero-mul}
-use Rattle.std.proofs.lemmas.Bool.{cases_eq, false≢true}
-use Rattle.std.proofs.lemmas.List.{append-nil, length-map, length-take-le, take_all, take_more, get_or_default, get_or-map, get_or-set_other, get_or-set_same, get_or-take}
+use Rattle.std.proofs.lemmas.Bool.{false≢true}
+use Rattle.std.proofs.lemmas.List.{append-nil, length-map, length-take-le, take_all, take_more, get_or_default, get_or-map, get_or-take}
 use Rattle.std.proofs.lemmas.List.Elements.{All-map}
 use Rattle.std.proofs.lemmas.Simd.{map-map}
 use Rattle.std.proofs.lemmas.List.Sums.{sum_by_push, sum-map}
@@ -10,7 +10,7 @@ use Rattle.prefix_trie_table.specs.declared.allocator.node.Node.{Node}
 use Rattle.prefix_trie_table.specs.declared.table.bulk.Found.{Found}
 use Rattle.prefix_trie_table.specs.declared.table.bulk.Way.{Way}
 use Rattle.prefix_trie_table.specs.declared.table.matching.Match.{Match}
-use Rattle.prefix_trie_table.specs.Bulk.{AreAnswered, AreAnswers, AreCosts, AreRead, CanAsk, EachOf, GoOn, HasAnswers, HasFound, IsAhead, IsAnswer, IsLongestFound, IsNew, IsWay, asked, asks, cost_of, found_of, new_way, question_of, questions_of, slot_of}
+use Rattle.prefix_trie_table.specs.Bulk.{AreAnswered, AreAnswers, AreCosts, AreRead, CanAsk, EachOf, GoOn, HasFound, IsAhead, IsAnswer, IsLongestFound, IsNew, IsWay, asked, asks, cost_of, found_of, new_way, question_of, questions_of, slot_of}
 use Rattle.prefix_trie_table.specs.Cells.{node_at, node_sizes}
 use Rattle.prefix_trie_table.specs.Digits.{path_of}
 use Rattle.prefix_trie_table.specs.Forest.{IsEnd, NodesHold, SomeNodes, SomeTable, read}
@@ -23,7 +23,6 @@ use Rattle.prefix_trie_bits.specs.Model.Visits.{visits}
 use Rattle.prefix_trie_table.proofs.Counts.Counted.{visits_counted}
 use Rattle.prefix_trie_table.proofs.Tree.Shapes.{shape_nodes}
 use Rattle.prefix_trie_table.proofs.Tree.Trees.{reads}
-use Rattle.prefix_trie_table.proofs.Lookup.Bulk.{same_question}
 use Rattle.prefix_trie_table.proofs.Lookup.Going.{deepest_in, deepest_root, key_long}
 
 -- the item at a place of a list that reaches there
@@ -191,28 +190,3 @@ found_some reading s n f (Some m, held, is) = (m, ap (kept_or f) is, held.0, hel
 pub found_none : (reading : List ℕ → Option Node) (s : List Bool) (n : ℕ) → IsLongestFound reading s n None → NoneHeld reading s 0 n
 found_none reading s n (None, held, is) = held
 found_none reading s n (Some m, held, is) = absurd (false≢true (ap is_some is))
-
--- ---- one question after another
-
-module _ {K : Type 0} (bits : K → List Bool) (v : Store Node) (questions : List (K × ℕ)) where
-  -- one answer more
-  pub answers_more : (n : ℕ) (found : List (Option Found)) → HasAnswers bits v questions n found → n < length found → n < length questions → (q : K × ℕ) → q ≡ get_or questions n q
-      → (best : Option Found) → HasFound v (asked bits q) (q.1 + 1) best → HasAnswers bits v questions (n + 1) (set found n best)
-  answers_more n found so_far room inside q q_is best has i r a within r_is a_is = elim (cases_eq i n) as (λ _. HasFound v (asked bits r) (r.1 + 1) a) [
-    | inl e ↦
-        let r_same : r ≡ q = same_question bits v questions n q r inside q_is (r_is ∙ ap (λ k. get_or questions k r) e) in
-        let a_same : a ≡ best = a_is ∙ ap (λ k. get_or (set found n best) k a) e ∙ get_or-set_same found n best a room in
-        subst (λ x. HasFound v (asked bits r) (r.1 + 1) x) (sym a_same) (subst (λ x. HasFound v (asked bits x) (x.1 + 1) best) (sym r_same) has)
-    | inr other ↦ so_far i r a (omega (arith, within, other)) r_is (a_is ∙ get_or-set_other found n i best a other)
-  ]
-
-  -- with all of them none is left
-  pub answers_all : (n : ℕ) (found : List (Option Found)) → length questions ≤ n → HasAnswers bits v questions n found → AreAnswered bits v questions [] found
-  answers_all n found all has i q a inside q_is a_is = inr (has i q a (omega (arith, inside, all)) q_is a_is)
-
-  -- and the nodes on its way
-  pub costs_more : (costs : List ℕ) → AreCosts bits v questions costs → (n : ℕ) → n < length questions → n < length costs → (q : K × ℕ) → q ≡ get_or questions n q
-      → (reading : List ℕ → Option Node) (paths : List (List ℕ)) (level : ℕ) → NodesHold node_sizes reading paths v → IsEnd reading (path_of (asked bits q)) level
-      → sum (take (n + 1) costs) ≡ sum (take n costs) + (level + 1)
-  costs_more costs are n inside fits q q_is reading paths level hold end =
-      ap sum (take_more costs n 0 fits) ∙ sum_by_push (λ x. x) (take n costs) (get_or costs n 0) ∙ ap (λ x. sum (take n costs) + x) (are n q inside q_is reading paths level hold end)

@@ -19,7 +19,7 @@ use crate::allocator::node::{Node, NodeSlot};
 use crate::allocator::nodes::{NodeAllocator, Tick};
 use crate::table::Table;
 use crate::table::lookup::{Reached, next_slot};
-use crate::table::matching::{Match, longest_in, longest_on_way};
+use crate::table::matching::{Match, longest_in};
 use crate::table::seat::Seat;
 use prefix_trie_bits::prefix::{Key, Prefix};
 use std::alloc::Allocator;
@@ -28,7 +28,7 @@ use std::alloc::Allocator;
 pub const GROUP: usize = 32;
 
 /// Up to so many slots of nodes, which the nearer caches hold, one lookup after another takes less time than a group.
-const FEW_NODES: usize = 65_536;
+pub const FEW_NODES: usize = 65_536;
 
 /// A match: how long its string is, and where its value stands. It is right until the table changes.
 #[derive(Clone, Copy)]
@@ -214,52 +214,6 @@ fn answer_each<P: Prefix, A: Allocator, V: Tick>(
     }
 }
 
-/// Goes down for one prefix after another, and answers each.
-fn answer_singly<P: Prefix, A: Allocator, V: Tick>(
-    nodes: &NodeAllocator<A, V>,
-    prefixes: &[P],
-    found: &mut [Option<Found>],
-    counter: &mut V,
-)
-    requires sound { IsSound nodes.now }
-    requires fit { All P.IsFitting prefixes.now }
-    requires same_length { length found.old ≡ length prefixes.now }
-    ensures answered { AreAnswered P.R.bits nodes.now (questions_of P.repr_of P.len_of prefixes.now) [] found.new }
-    ensures counted { (costs : List ℕ) → length costs ≡ length prefixes.now
-        → AreCosts P.R.bits nodes.now (questions_of P.repr_of P.len_of prefixes.now) costs
-        → V.count counter.new ≡ V.count counter.old + sum costs }
-    ensures length { length found.new ≡ length found.old }
-{
-    for i in 0..prefixes.len() {
-        let (key, len) = question(&prefixes[i]);
-        found[i] = longer(longest_on_way(nodes, key, len, counter), None);
-    }
-}
-
-/// Answers each prefix, in the way that takes less time.
-fn answer_all<P: Prefix, A: Allocator, V: Tick>(
-    nodes: &NodeAllocator<A, V>,
-    prefixes: &[P],
-    found: &mut [Option<Found>],
-    counter: &mut V,
-)
-    requires sound { IsSound nodes.now }
-    requires fit { All P.IsFitting prefixes.now }
-    requires same_length { length found.old ≡ length prefixes.now }
-    requires few { length prefixes.now ≤ 32 }
-    ensures answered { AreAnswered P.R.bits nodes.now (questions_of P.repr_of P.len_of prefixes.now) [] found.new }
-    ensures counted { (costs : List ℕ) → length costs ≡ length prefixes.now
-        → AreCosts P.R.bits nodes.now (questions_of P.repr_of P.len_of prefixes.now) costs
-        → V.count counter.new ≡ V.count counter.old + sum costs }
-    ensures length { length found.new ≡ length found.old }
-{
-    if nodes.len() <= FEW_NODES {
-        answer_singly(nodes, prefixes, found, counter);
-    } else {
-        answer_each(nodes, prefixes, found, counter);
-    }
-}
-
 /// The value of a match, behind the length of its string.
 #[inline(always)]
 fn value_at<'a, T: Drop, A: Allocator>(
@@ -298,7 +252,7 @@ impl<T: Drop, A: Allocator, V: Tick> Table<T, A, V> {
             ≡ V.count counter.old + sum_by (λ p. visits self.now.nodes (P.path p)) prefixes.now }
         ensures length { length found.new ≡ length found.old }
     {
-        answer_all(&self.nodes, prefixes, found, counter);
+        answer_each(&self.nodes, prefixes, found, counter);
     }
 
     /// The value of an answer of `find_longest_each`, behind the length of its string, as `find_longest` answers it.

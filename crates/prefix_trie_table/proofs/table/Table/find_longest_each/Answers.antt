@@ -8,15 +8,15 @@ use Rattle.prefix_trie_table.proofs.Lookup.Rounds.{are_answers, costs_are, costs
 use Rattle.prefix_trie_table.proofs.Tree.Invariant.{some_table}
 use Rattle.prefix_trie_table.proofs.table.Table.find_longest_each.Goals as goal
 
-pub answer_all-requires-clause-sound : goal.answer_all-requires-clause-sound
-answer_all-requires-clause-sound g c = has_nodes _ _ (some_table c.self.invariant)
+pub answer_each-requires-clause-sound : goal.answer_each-requires-clause-sound
+answer_each-requires-clause-sound g c = has_nodes _ _ (some_table c.self.invariant)
 
 pub returns-clause-answers : goal.returns-clause-answers
 returns-clause-answers g c =
     let t = some_table c.self.invariant in
     let qs = questions_of g.P.Prefix.repr_of g.P.Prefix.len_of c.args.prefixes.now in
-    subst (λ (s : Contents g.row.T.Denot). AreAnswers g.P.R.Key.bits s.build qs c.answer_all.new.found) c.self.view_is
-    (are_answers c.self.inside.nodes t.reading t.paths t.holds.hold g.P.R.Key.bits qs c.answer_all.new.found c.answer_all.ensures.answered)
+    subst (λ (s : Contents g.row.T.Denot). AreAnswers g.P.R.Key.bits s.build qs c.answer_each.new.found) c.self.view_is
+    (are_answers c.self.inside.nodes t.reading t.paths t.holds.hold g.P.R.Key.bits qs c.answer_each.new.found c.answer_each.ensures.answered)
 
 pub returns-clause-visits : goal.returns-clause-visits
 returns-clause-visits g c =
@@ -24,8 +24,8 @@ returns-clause-visits g c =
     let ps = c.args.prefixes.now in
     let qs = questions_of g.P.Prefix.repr_of g.P.Prefix.len_of c.args.prefixes.now in
     let s = c.self.inside.shape in
-    subst (λ (s : Contents g.row.T.Denot). g.V.Tick.count c.answer_all.new.counter ≡ g.V.Tick.count c.args.counter.now + sum_by (λ p. visits s.nodes (g.P.Prefix.path p)) ps) c.self.view_is
-    (c.answer_all.ensures.counted (map (λ q. visits s.0.nodes (asked g.P.R.Key.bits q)) qs)
+    subst (λ (s : Contents g.row.T.Denot). g.V.Tick.count c.answer_each.new.counter ≡ g.V.Tick.count c.args.counter.now + sum_by (λ p. visits s.nodes (g.P.Prefix.path p)) ps) c.self.view_is
+    (c.answer_each.ensures.counted (map (λ q. visits s.0.nodes (asked g.P.R.Key.bits q)) qs)
     (length-map qs (λ q. visits s.0.nodes (asked g.P.R.Key.bits q)) ∙ length-map ps (asks g.P.Prefix.repr_of g.P.Prefix.len_of))
     (costs_are c.self.inside.nodes c.self.inside.cells t s.0 s.1 g.P.R.Key.bits qs)
     ∙ ap (λ n. g.V.Tick.count c.args.counter.now + n) (costs_sum s.0.nodes g.P.R.Key.bits g.P.Prefix.repr_of g.P.Prefix.len_of g.P.Prefix.path g.met.P.Prefix.prefix_laws.path_is ps))
