@@ -2,7 +2,7 @@
 use Rattle.std.proofs.Common.{◌≡◌, ℕ, ◌+◌, ◌-◌, ◌<◌, ◌≤◌, Bool, List, [], ◌∷◌, ◌++◌, Option, None, Some, Bor, map, set, take, drop, length, get_or, sum_by, slice_range, refl, sym, ap, ap₂, ◌∙◌, subst, arith, add-sub_of_le, length-drop}
 use Rattle.std.specs.Option.{option_copied, option_map}
 use Rattle.std.proofs.lemmas.List.{drop-take, get_or_append_left, get_or-drop, get_or-map, get_or-take, length-map, length-take-le, map-append, take_more, take_more_set, take-take}
-use Rattle.std.proofs.lemmas.List.Sums.{sum_by-take-drop}
+use Rattle.std.proofs.lemmas.List.Sums.{sum_by-take-drop, sum_by_push}
 use Rattle.prefix_trie_bits.specs.Model.Entries.{Entries}
 use Rattle.prefix_trie_bits.specs.Model.Matches.{longest_match}
 use Rattle.prefix_trie_bits.specs.Model.Nodes.{Nodes}
@@ -22,6 +22,16 @@ reads_more path nodes prefixes from to before after up read =
     let back : visits_of_all path nodes (drop from (take to prefixes)) ≡ visits_of_all path nodes (slice_range prefixes from to)
     = ap (λ n. visits_of_all path nodes (drop from (take n prefixes))) (sym (add-sub_of_le up)) ∙ ap (visits_of_all path nodes) (drop-take from (to - from) prefixes) in
     omega (arith, parts, front, back, read)
+
+-- the reads of one more
+pub reads_one : {P : Type 0} (path : P → List Bool) (nodes : Nodes) (prefixes : List P) (n : ℕ) → n < length prefixes → (p : P) → p ≡ get_or prefixes n p → (asked : List Bool) → asked ≡ path p
+    → (start before after : ℕ) → before ≡ start + visits_of_all path nodes (take n prefixes) → after ≡ before + visits nodes asked
+    → after ≡ start + visits_of_all path nodes (take (n + 1) prefixes)
+reads_one path nodes prefixes n inside p is asked same start before after so_far read =
+    let here : visits nodes asked ≡ visits nodes (path (get_or prefixes n p)) = ap (visits nodes) (same ∙ ap path is) in
+    let more : visits_of_all path nodes (take (n + 1) prefixes) ≡ visits_of_all path nodes (take n prefixes) + visits nodes (path (get_or prefixes n p))
+    = ap (visits_of_all path nodes) (take_more prefixes n p inside) ∙ sum_by_push (λ x. visits nodes (path x)) (take n prefixes) (get_or prefixes n p) in
+    omega (arith, so_far, read, here, more)
 
 -- what was found for a group, in front of what stood behind
 pub found_more : {P K : Type 0} (bits : K → List Bool) (number : P → K) (len : P → ℕ) (nodes : List Node) (prefixes : List P) (from n : ℕ) (found rest : List (Option Found))

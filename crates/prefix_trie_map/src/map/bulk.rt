@@ -12,7 +12,7 @@ use crate::map::parts::parts;
 use crate::map::visits::Visits;
 use prefix_trie_bits::prefix::Prefix;
 use prefix_trie_table::table::Table;
-use prefix_trie_table::table::bulk::{Found, GROUP};
+use prefix_trie_table::table::bulk::{FEW_NODES, Found, GROUP};
 use std::alloc::Allocator;
 
 impl<P: Prefix, T: Drop, A: Allocator> PrefixMap<P, T, A> {
@@ -47,10 +47,7 @@ impl<P: Prefix, T: Drop, A: Allocator> PrefixMap<P, T, A> {
         ensures reads { result ≡ visits_of_all P.path self.now.nodes prefixes.now }
     {
         let mut visits = Visits::new();
-        let mut from = 0;
-        'groups: while from < prefixes.len() {
-            from += match_group(&self.table, prefixes, from, out, &mut visits);
-        }
+        match_all(&self.table, prefixes, out, &mut visits);
         visits
     }
 
@@ -85,11 +82,120 @@ impl<P: Prefix, T: Drop, A: Allocator> PrefixMap<P, T, A> {
         ensures reads { result ≡ visits_of_all P.path self.now.nodes prefixes.now }
     {
         let mut visits = Visits::new();
-        let mut from = 0;
-        'groups: while from < prefixes.len() {
-            from += value_group(&self.table, prefixes, from, out, &mut visits);
-        }
+        value_all(&self.table, prefixes, out, &mut visits);
         visits
+    }
+}
+
+/// Answers each prefix, in the way that takes less time.
+#[inline]
+fn match_all<'a, P: Prefix, T: Drop, A: Allocator>(
+    table: &'a Table<T, A, Visits>,
+    prefixes: &[P],
+    out: &mut [Option<(P, &'a T)>],
+    visits: &mut Visits,
+)
+    requires fit { All P.IsFitting prefixes.now }
+    requires same_length { length out.old ≡ length prefixes.now }
+    ensures answers { map (option_map lent_item) out.new ≡ map (longest_shown P.path P.back table.now.entries) prefixes.now }
+    ensures visits { visits.new ≡ visits.old + visits_of_all P.path table.now.nodes prefixes.now }
+{
+    if table.node_slots() <= FEW_NODES {
+        match_singly(table, prefixes, out, visits);
+    } else {
+        match_in_groups(table, prefixes, out, visits);
+    }
+}
+
+/// Answers one prefix after another.
+fn match_singly<'a, P: Prefix, T: Drop, A: Allocator>(
+    table: &'a Table<T, A, Visits>,
+    prefixes: &[P],
+    out: &mut [Option<(P, &'a T)>],
+    visits: &mut Visits,
+)
+    requires fit { All P.IsFitting prefixes.now }
+    requires same_length { length out.old ≡ length prefixes.now }
+    ensures answers { map (option_map lent_item) out.new ≡ map (longest_shown P.path P.back table.now.entries) prefixes.now }
+    ensures visits { visits.new ≡ visits.old + visits_of_all P.path table.now.nodes prefixes.now }
+{
+    for i in 0..prefixes.len() {
+        let (key, len) = parts(&prefixes[i]);
+        out[i] = rebuilt_match(key, table.find_longest(key, len, visits));
+    }
+}
+
+/// Answers a group of prefixes after another.
+fn match_in_groups<'a, P: Prefix, T: Drop, A: Allocator>(
+    table: &'a Table<T, A, Visits>,
+    prefixes: &[P],
+    out: &mut [Option<(P, &'a T)>],
+    visits: &mut Visits,
+)
+    requires fit { All P.IsFitting prefixes.now }
+    requires same_length { length out.old ≡ length prefixes.now }
+    ensures answers { map (option_map lent_item) out.new ≡ map (longest_shown P.path P.back table.now.entries) prefixes.now }
+    ensures visits { visits.new ≡ visits.old + visits_of_all P.path table.now.nodes prefixes.now }
+{
+    let mut from = 0;
+    'groups: while from < prefixes.len() {
+        from += match_group(table, prefixes, from, out, visits);
+    }
+}
+
+/// Answers each prefix with its value alone, in the way that takes less time.
+#[inline]
+fn value_all<'a, P: Prefix, T: Drop, A: Allocator>(
+    table: &'a Table<T, A, Visits>,
+    prefixes: &[P],
+    out: &mut [Option<&'a T>],
+    visits: &mut Visits,
+)
+    requires fit { All P.IsFitting prefixes.now }
+    requires same_length { length out.old ≡ length prefixes.now }
+    ensures answers { map option_copied out.new ≡ map (longest_value P.path table.now.entries) prefixes.now }
+    ensures visits { visits.new ≡ visits.old + visits_of_all P.path table.now.nodes prefixes.now }
+{
+    if table.node_slots() <= FEW_NODES {
+        value_singly(table, prefixes, out, visits);
+    } else {
+        value_in_groups(table, prefixes, out, visits);
+    }
+}
+
+/// Answers one prefix after another with its value alone.
+fn value_singly<'a, P: Prefix, T: Drop, A: Allocator>(
+    table: &'a Table<T, A, Visits>,
+    prefixes: &[P],
+    out: &mut [Option<&'a T>],
+    visits: &mut Visits,
+)
+    requires fit { All P.IsFitting prefixes.now }
+    requires same_length { length out.old ≡ length prefixes.now }
+    ensures answers { map option_copied out.new ≡ map (longest_value P.path table.now.entries) prefixes.now }
+    ensures visits { visits.new ≡ visits.old + visits_of_all P.path table.now.nodes prefixes.now }
+{
+    for i in 0..prefixes.len() {
+        let (key, len) = parts(&prefixes[i]);
+        out[i] = value_of(table.find_longest(key, len, visits));
+    }
+}
+
+/// Answers a group of prefixes after another with its value alone.
+fn value_in_groups<'a, P: Prefix, T: Drop, A: Allocator>(
+    table: &'a Table<T, A, Visits>,
+    prefixes: &[P],
+    out: &mut [Option<&'a T>],
+    visits: &mut Visits,
+)
+    requires fit { All P.IsFitting prefixes.now }
+    requires same_length { length out.old ≡ length prefixes.now }
+    ensures answers { map option_copied out.new ≡ map (longest_value P.path table.now.entries) prefixes.now }
+    ensures visits { visits.new ≡ visits.old + visits_of_all P.path table.now.nodes prefixes.now }
+{
+    let mut from = 0;
+    'groups: while from < prefixes.len() {
+        from += value_group(table, prefixes, from, out, visits);
     }
 }
 
