@@ -46,7 +46,7 @@ pub(super) fn make_room<S, A: Allocator>(
 
 // An array with room for so many items or more grows by a quarter, a shorter one to twice its room: then the less of a long one
 // stands empty, and a short one is seldom moved.
-const LONG: usize = 65_536;
+const LONG: usize = 262_144;
 
 // The part of `make_room` that asks for memory, apart so that the test is inlined.
 #[cold]
