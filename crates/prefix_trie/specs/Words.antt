@@ -7,7 +7,7 @@ pub use Rattle.prefix_trie_bits.specs.Model.Nodes.{Nodes, needed, with_needed, n
 pub use Rattle.prefix_trie_bits.specs.Model.Selections.{listing, listing_from, listing_after, listing_below, shown}
 pub use Rattle.prefix_trie_bits.specs.Model.Matches.{first_item, last_item, covers, IsMatch, IsLongestMatch, IsShortestMatch, longest_match, shortest_match, shown_match}
 pub use Rattle.prefix_trie_bits.specs.Model.Addresses.{addresses, address_answer}
-pub use Rattle.prefix_trie_bits.specs.Model.HandsOut.{HandsOut, IsPacked, packed_node_slots, packed_cell_slots, HandedPassLimit}
+pub use Rattle.prefix_trie_bits.specs.Model.HandsOut.{HandsOut, IsPacked, packed_node_slots, packed_cell_slots}
 pub use Rattle.prefix_trie_bits.specs.Laws.HandsOut.{Splits}
 pub use Rattle.prefix_trie_table.specs.Shape.{with_value_at, with_match_at, with_longest_at}
 pub use Rattle.prefix_trie_map.specs.Walks.{lent_item}

@@ -15,7 +15,6 @@ pub mod Tables
 pub mod Locations
 pub mod Asked
 pub mod Matching
-pub mod TableLending
 pub mod Settling
 pub mod Steps
 pub mod Removals

@@ -31,7 +31,7 @@ ghost use Rattle.std.specs.Option.{option_copied};
 ghost use Rattle.std.specs.FinMap.{get, len};
 ghost use Rattle.prefix_trie_bits.specs.Model.Asking.{MayAskInOrder};
 ghost use Rattle.prefix_trie_bits.specs.Model.Entries.{no_entries, AreWithin};
-ghost use Rattle.prefix_trie_bits.specs.Model.HandsOut.{HandsOutInStorage, HandedPassLimit};
+ghost use Rattle.prefix_trie_bits.specs.Model.HandsOut.{HandsOutInStorage};
 ghost use Rattle.prefix_trie_bits.specs.Model.Matches.{longest_match, shortest_match};
 ghost use Rattle.prefix_trie_bits.specs.Model.Nodes.{root_alone, AreNodes};
 ghost use Rattle.prefix_trie_bits.specs.Model.Selections.{listing, listing_from, listing_after, listing_below};
@@ -150,8 +150,6 @@ impl<T: Drop, A: Allocator + Clone, V: Tick> Table<T, A, V> {
             (stored second) (stored self.new)) }
         ensures settles { 0 < len → IfOk result (λ _. SettlesInStorage (storage self.old) (storage self.new)) }
         ensures kept { IfErr result (λ _. stored self.new ≡ stored self.old) }
-        ensures range { IfErr result (λ cause. cause ≡ IndexRange
-            → HandedPassLimit self.old.entries (take len (K.bits key)) self.old.room.limit) }
         ensures memory { IfErr result (λ cause. cause ≡ Memory) }
     {
         let (laid, vacant) = lay_part(&self.nodes, &self.cells, key, len, counter)?;

@@ -63,9 +63,3 @@ module _ {T : Type 0} where
     pub nodes_within : second.1.room.node_slots ≤ second.1.room.limit
     pub cells_within : second.1.room.cell_slots ≤ second.1.room.limit
     pub drops : StepOfStrings before (RemoveChildren q) Done after
-
-  -- the slots of the second map would pass the limit
-  abbrev pub HandedPassLimit : Entries T → List Bool → ℕ → Type 0
-  HandedPassLimit m q limit =
-      let handed = part_below m q in
-      (limit < packed_node_slots (needed handed)) ⊎ (limit < packed_cell_slots handed (needed handed))

@@ -8,12 +8,12 @@ mod removal;
 mod tiers;
 
 ghost use Rattle.std.specs.Prelude.{◌≡◌, ◌+◌, ◌*◌, ◌^◌, ◌<◌, ◌≤◌, ◌↔◌, [], ◌∷◌, List, length, take, All, map, None, IfOk, IsErr, IfErr, vec_len, slice_index_or, slice_set};
-ghost use Rattle.prefix_trie_table.specs.Store.{Store, UsedBlock, Sound, tier_at, slots_made, tier_for, no_blocks};
+ghost use Rattle.prefix_trie_table.specs.Store.{Store, UsedBlock, Sound, tier_at, slots_made, no_blocks};
 ghost use Rattle.prefix_trie_table.specs.BlockCounts.{tier_count};
 ghost use Rattle.prefix_trie_table.specs.Cells.{blank_node, cell_sizes, node_sizes, HasSizes};
 ghost use Rattle.std.specs.Borrow.{sem};
 ghost use Rattle.prefix_trie_table.specs.Slots.{with_slot};
-ghost use Rattle.prefix_trie_table.specs.Lending.{lends_slot};
+ghost use Rattle.prefix_trie_table.specs.Lending.Blocks.{lends_slot};
 ghost use Rattle.prefix_trie_bits.specs.declared.prefix.Refusal.TheVariants.{IndexRange};
 
 use crate::allocator::block_count::BlockCount;
@@ -188,13 +188,6 @@ impl<S: Slot, A: Allocator> Blocks<S, A> {
             lists,
             limit,
         }
-    }
-
-    /// The smallest tier whose blocks have `n` slots or more.
-    fn tier_for(&self, n: usize) -> Option<usize>
-        ensures { result ≡ tier_for self.now.tiers n }
-    {
-        self.lists.iter().position(|list| list.size() as usize >= n)
     }
 }
 

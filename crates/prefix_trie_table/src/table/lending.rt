@@ -7,7 +7,7 @@ ghost use Rattle.prefix_trie_bits.specs.Model.Matches.{longest_match};
 ghost use Rattle.prefix_trie_bits.specs.Model.Visits.{visits};
 ghost use Rattle.prefix_trie_table.specs.Matching.{SeatAt};
 ghost use Rattle.prefix_trie_table.specs.Slots.{HasValue};
-ghost use Rattle.prefix_trie_table.specs.Lending.{lends_held, lends_cell, lends_cell_if};
+ghost use Rattle.prefix_trie_table.specs.Lending.Blocks.{lends_held, lends_cell, lends_cell_if};
 
 use crate::allocator::blocks::Blocks;
 use crate::allocator::nodes::Tick;
@@ -68,7 +68,7 @@ fn seat_of(longest: Option<Match>, found: &mut u32) -> Option<Seat>
 }
 
 impl<T: Drop, A: Allocator, V: Tick> Table<T, A, V> {
-    ghost use Rattle.prefix_trie_table.specs.TableLending.{lends_entry_if, lends_longest_if};
+    ghost use Rattle.prefix_trie_table.specs.Lending.Tables.{lends_entry_if, lends_longest_if};
 
     /// The value at a bit string, for writing. What is written through it becomes the value there, and nothing else changes.
     /// Each node on the way is read once.

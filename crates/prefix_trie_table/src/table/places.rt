@@ -21,7 +21,7 @@ use prefix_trie_bits::prefix::{Key, Refusal, Refused};
 use std::alloc::Allocator;
 
 impl<T: Drop, A: Allocator, V: Tick> Table<T, A, V> {
-    ghost use Rattle.prefix_trie_table.specs.TableLending.{lends_entry};
+    ghost use Rattle.prefix_trie_table.specs.Lending.Tables.{lends_entry};
 
     /// Where the value at a bit string stands, or where its way ends. Each node on the way is read once.
     ///

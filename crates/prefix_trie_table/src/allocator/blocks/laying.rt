@@ -38,7 +38,7 @@ impl<S: Slot, A: Allocator> Blocks<S, A> {
         if count == 0 {
             return Ok(BlockRef { tier: 0, start: 0 });
         }
-        let tier = self.tier_for(count as usize).unwrap();
+        let tier = self.tier_holding(count as usize);
         self.obtain(tier, 1)?;
         let start = self.take(tier);
         Ok(BlockRef { tier, start })

@@ -11,9 +11,9 @@ use Rattle.prefix_trie_table.proofs.allocator.blocks.Blocks.lay_vacant.Goals as 
 pub returns-clause-laid : goal.returns-clause-laid
 returns-clause-laid g c =
     let v = c.args.self.now in
-    let k = c.unwrap-tier.result in
+    let k = c.tier_holding-tier.result in
     let u = c.obtain.new.self in
-    let found : tier_for v.tiers c.args.count ≡ Some k = sym c.tier_for.ensures ∙ c.unwrap-tier.ensures in
+    let found : tier_for v.tiers c.args.count ≡ Some k = c.tier_holding-tier.ensures in
     let holds = tier_for_holds v.tiers c.args.count k found in
     let grew : u ≡ grown_times g.S.Slot.vacant v k (1 - free_at v.tiers k) = search rules in
     let ready : 0 < free_at u.tiers k = (let e = ap length c.take-start.ensures.starts in search rules) in
@@ -34,16 +34,16 @@ returns-clause-laid g c =
 pub returns-clause-longer : goal.returns-clause-longer
 returns-clause-longer g c =
     let v = c.args.self.now in
-    let k = c.unwrap-tier.result in
-    let found : tier_for v.tiers c.args.count ≡ Some k = sym c.tier_for.ensures ∙ c.unwrap-tier.ensures in
+    let k = c.tier_holding-tier.result in
+    let found : tier_for v.tiers c.args.count ≡ Some k = c.tier_holding-tier.ensures in
     let grew : c.obtain.new.self ≡ grown_times g.S.Slot.vacant v k (1 - free_at v.tiers k) = search rules in
     laid_longer g.S.Slot.vacant v c.obtain.new.self k c.args.count found (let some = c.if-count-eq0.false in omega (arith, some)) c.take-start.new.self grew c.take-start.ensures.value
 
 pub returns-in_err-obtain-clause-range : goal.returns-in_err-obtain-clause-range
 returns-in_err-obtain-clause-range g c =
     let v = c.args.self.now in
-    let k = c.unwrap-tier.result in
-    let found : tier_for v.tiers c.args.count ≡ Some k = sym c.tier_for.ensures ∙ c.unwrap-tier.ensures in
+    let k = c.tier_holding-tier.result in
+    let found : tier_for v.tiers c.args.count ≡ Some k = c.tier_holding-tier.ensures in
     let made = c.in_err-obtain.ensures.err in
     let full : c.in_err-obtain.field-0.0 ≡ IndexRange → v.limit < length v.slots + packed_slots (tier_sizes v.tiers) c.args.count =
     λ is. laid_range g.S.Slot.vacant v c.obtain.new.self k c.args.count found (let some = c.if-count-eq0.false in omega (arith, some)) made.0 made.1 made.2 (c.in_err-obtain.ensures.range.0 is) in
