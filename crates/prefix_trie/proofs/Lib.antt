@@ -1,5 +1,6 @@
 pub mod Allocators
 pub mod AnyMap
+pub mod Batches
 pub mod Copies
 pub mod Putting
 pub mod Ran

@@ -1,6 +1,7 @@
 //! The tests of all crates. What a table can say is a list of cases, which `trials` runs; the rest is code.
 
 mod any_map;
+mod bulk;
 mod cases;
 mod clones;
 mod collecting;

@@ -1,5 +1,6 @@
 //! Programs over the crate as a user writes them, each with a contract of its own.
 pub mod access;
+pub mod batch;
 pub mod cache;
 pub mod copy;
 pub mod counter;
