@@ -1,5 +1,5 @@
 -- Many lookups in one call. This project's own.
-use Rattle.std.specs.Prelude.{◌≡◌, ℕ, ◌+◌, ◌<◌, ◌≤◌, Bool, List, Option, length, map, option_map, slice_index_or, sum_by, take}
+use Rattle.std.specs.Prelude.{◌≡◌, ℕ, ◌+◌, ◌<◌, Bool, List, Option, map, option_map, slice_index_or, sum_by, take}
 use Rattle.prefix_trie_bits.specs.Model.Entries.{Entries}
 use Rattle.prefix_trie_bits.specs.Model.Matches.{longest_match, shown_match}
 use Rattle.prefix_trie_bits.specs.Model.Nodes.{Nodes}

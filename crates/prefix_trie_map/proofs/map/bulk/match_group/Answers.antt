@@ -1,4 +1,4 @@
-use Rattle.std.proofs.Common.{◌≡◌, ◌+◌, ◌<◌, None, length, get_or, option_map, refl, sym, ap₂, subst, arith}
+use Rattle.std.proofs.Common.{◌+◌, ◌<◌, None, length, get_or, option_map, refl, sym, ap₂, subst, arith}
 use Rattle.std.proofs.lemmas.List.{get_or_default}
 use Rattle.prefix_trie_bits.specs.Model.Matches.{longest_match}
 use Rattle.prefix_trie_table.specs.Bulk.{IsAnswer}

@@ -1,4 +1,4 @@
-use Rattle.std.proofs.Common.{◌≡◌, ◌+◌, ◌<◌, length, option_map, refl, take, arith}
+use Rattle.std.proofs.Common.{◌<◌, length, option_map, refl, arith}
 use Rattle.prefix_trie_bits.specs.Model.Matches.{longest_match}
 use Rattle.prefix_trie_map.specs.Bulk.{longest_shown}
 use Rattle.prefix_trie_map.specs.Walks.{lent_item}

@@ -1,4 +1,4 @@
-use Rattle.std.proofs.Common.{◌≡◌, ◌+◌, ◌<◌, None, length, get_or, option_copied, sym, ap₂, subst, arith}
+use Rattle.std.proofs.Common.{◌+◌, ◌<◌, None, length, get_or, option_copied, sym, ap₂, subst, arith}
 use Rattle.std.proofs.lemmas.List.{get_or_default}
 use Rattle.prefix_trie_table.specs.Bulk.{IsAnswer}
 use Rattle.prefix_trie_map.specs.Bulk.{longest_value}

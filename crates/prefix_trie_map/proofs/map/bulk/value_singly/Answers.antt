@@ -1,4 +1,4 @@
-use Rattle.std.proofs.Common.{◌≡◌, ◌+◌, ◌<◌, length, option_copied, take, arith}
+use Rattle.std.proofs.Common.{◌<◌, length, option_copied, arith}
 use Rattle.prefix_trie_map.specs.Bulk.{longest_value}
 use Rattle.prefix_trie_map.proofs.Bulk.{answered_more, reads_one, shows_value}
 use Rattle.prefix_trie_map.proofs.map.bulk.value_singly.Goals as goal
