@@ -1,61 +1,154 @@
-//! Many longest matches in one call: at two types of keys, counted and not, and more of them than go down side by side.
+//! Many longest matches in one call: of no prefix, of one group and of more, in a map of few nodes and in one of so many that it asks in
+//! groups; and a burst of packets.
+ghost use Rattle.std.specs.Prelude.{◌≡◌, ◌^◌, ◌<◌, ◌≤◌, All, length};
+
+use crate::tests::cases::questions::{shown, value_in};
+use crate::tests::cases::{Entry, Pair};
 use crate::tests::examples::batch::next_hops;
-use crate::{Ipv4Prefix, PrefixMap, Refusal};
+use crate::tests::examples::forwarding::add;
+use crate::tests::on_new::on_new;
+use crate::tests::stored::stores;
+use crate::{Ipv4Prefix, Prefix, PrefixMap};
+use prefix_trie_table::table::bulk::FEW_NODES;
 use std::alloc::{Allocator, Global};
 
-type Pairs<A> = PrefixMap<(u128, u8), u32, A>;
+type Map<A> = PrefixMap<Pair<u128>, u64, A>;
 
-type Routes<A> = PrefixMap<Ipv4Prefix, u32, A>;
+/// A network, and one within it.
+const WIDE: Entry<u128> = ((0x2001_0db8 << 96, 32), 1);
 
-/// Whether each of three prefixes has its own answer: the network within another, none, and the other.
-fn answers_pairs<A: Allocator>(map: &mut Pairs<A>) -> bool {
-    let wide = (0x2001_0db8 << 96, 32);
-    let near = (0x2001_0db8_0001 << 80, 48);
-    if map.insert(wide, 1).is_err() || map.insert(near, 2).is_err() {
-        return false;
+const NEAR: Entry<u128> = ((0x2001_0db8_0001 << 80, 48), 2);
+
+/// Prefixes, each beside its longest match among the two: in both, in none, in the wider, the narrower itself, and around both.
+const CASES: [(Pair<u128>, Option<Entry<u128>>); 5] = [
+    ((0x2001_0db8_0001 << 80 | 7, 128), Some(NEAR)),
+    ((1, 128), None),
+    ((0x2001_0db8_0002 << 80, 48), Some(WIDE)),
+    ((0x2001_0db8_0001 << 80, 48), Some(NEAR)),
+    ((0x2001_0db8 << 96, 31), None),
+];
+
+/// As many as three calls ask in groups of 32: two whole ones, and a part.
+const MOST: usize = 70;
+
+/// How many prefixes one call asks for.
+const COUNTS: [usize; 5] = [0, 1, 32, 33, MOST];
+
+/// So many hosts have more nodes than a map has that asks one prefix after another.
+const HOSTS: u64 = 3_200;
+
+/// Writes the prefixes of the cases into a slice, over and over.
+fn ask_in_turn(asked: &mut [Pair<u128>])
+    requires fit { All (λ p. (p.0 < 2 ^ 128) × (p.1 ≤ 128)) asked.old }
+    ensures fit { All (λ p. (p.0 < 2 ^ 128) × (p.1 ≤ 128)) asked.new }
+    ensures length { length asked.new ≡ length asked.old }
+{
+    for place in 0..asked.len() {
+        let prefix = CASES[place % 5].0;
+        if prefix.fits() {
+            asked[place] = prefix;
+        }
     }
-    let asked = [(0x2001_0db8_0001 << 80 | 7, 128), (1, 128), (0x2001_0db8_0002 << 80, 48)];
-    let mut out = [None; 3];
-    let mut values = [None; 3];
-    map.get_lpm_bulk(&asked, &mut out);
-    map.get_lpm_value_bulk(&asked, &mut values);
-    (out[0] == Some((near, &2)))
-        & out[1].is_none()
-        & (out[2] == Some((wide, &1)))
-        & (values[0] == Some(&2))
-        & values[1].is_none()
-        & (values[2] == Some(&1))
 }
 
-/// The same of a new map.
-fn answers_pairs_anew(alloc: Global) -> Result<bool, Refusal> {
-    let mut map = PrefixMap::new(alloc)?;
-    Ok(answers_pairs::<Global>(&mut map))
+/// Whether entries are the answers of the cases in turn.
+fn are_entries(found: &[Option<(Pair<u128>, &u64)>]) -> bool {
+    for (place, entry) in found.iter().enumerate() {
+        if shown(*entry) != CASES[place % 5].1 {
+            return false;
+        }
+    }
+    true
+}
+
+/// The same of values.
+fn are_values(found: &[Option<&u64>]) -> bool {
+    for (place, value) in found.iter().enumerate() {
+        if value.copied() != value_in(CASES[place % 5].1) {
+            return false;
+        }
+    }
+    true
+}
+
+/// Whether the two calls that answer entries do so for the cases in turn.
+fn gives_entries<A: Allocator>(map: &Map<A>, asked: &[Pair<u128>]) -> bool
+    requires fit { All (λ p. (p.0 < 2 ^ 128) × (p.1 ≤ 128)) asked.now }
+    requires few { length asked.now ≤ 70 }
+{
+    let count = asked.len();
+    let mut found = [None; MOST];
+    let mut counted = [None; MOST];
+    map.get_lpm_bulk(asked, &mut found[..count]);
+    map.get_lpm_bulk_counted(asked, &mut counted[..count]);
+    are_entries(&found[..count]) & are_entries(&counted[..count])
+}
+
+/// The same of the two that answer values.
+fn gives_values<A: Allocator>(map: &Map<A>, asked: &[Pair<u128>]) -> bool
+    requires fit { All (λ p. (p.0 < 2 ^ 128) × (p.1 ≤ 128)) asked.now }
+    requires few { length asked.now ≤ 70 }
+{
+    let count = asked.len();
+    let mut found = [None; MOST];
+    let mut counted = [None; MOST];
+    map.get_lpm_value_bulk(asked, &mut found[..count]);
+    map.get_lpm_value_bulk_counted(asked, &mut counted[..count]);
+    are_values(&found[..count]) & are_values(&counted[..count])
+}
+
+/// Whether a map of the two answers as many prefixes as are counted, each time.
+fn gives_all<A: Allocator>(map: &Map<A>) -> bool {
+    let mut asked = [(0, 0); MOST];
+    ask_in_turn(&mut asked);
+    for count in &COUNTS {
+        let some = &asked[..(*count).min(MOST)];
+        if !gives_entries(map, some) || !gives_values(map, some) {
+            return false;
+        }
+    }
+    true
+}
+
+/// Stores hosts, none of which is in a case.
+fn stores_hosts<A: Allocator>(map: &mut Map<A>) -> bool {
+    for number in 0..HOSTS {
+        if map
+            .insert(((0x8000 | u128::from(number)) << 112, 128), number)
+            .is_err()
+        {
+            return false;
+        }
+    }
+    true
+}
+
+/// Whether a new map answers so with few nodes and with many.
+fn answers(map: &mut Map<Global>, _: ()) -> bool {
+    let few = stores(map, &[WIDE, NEAR]) & (map.node_slots() <= FEW_NODES) & gives_all(map);
+    let are_stored = stores_hosts(map);
+    few & are_stored & (FEW_NODES < map.node_slots()) & gives_all(map)
 }
 
 /// Whether 40 addresses have their hops, in their order.
-fn answers_burst<A: Allocator>(table: &mut Routes<A>) -> bool {
+fn answers_burst(table: &mut PrefixMap<Ipv4Prefix, u32, Global>, _: ()) -> bool {
     let wide = Ipv4Prefix::new(0x0a00_0000, 8).unwrap();
     let near = Ipv4Prefix::new(0x0a01_0000, 16).unwrap();
-    if table.insert(wide, 1).is_err() || table.insert(near, 2).is_err() {
-        return false;
-    }
+    let are_added = add(table, wide, 1).is_ok() & add(table, near, 2).is_ok();
     let mut addresses = [0x0a02_0203; 40];
     addresses[33] = 0x0a01_0203;
     addresses[39] = 0x0b00_0000;
     let mut hops = [None; 40];
     next_hops(table, &addresses, &mut hops);
-    (hops[0] == Some(1)) & (hops[32] == Some(1)) & (hops[33] == Some(2)) & hops[39].is_none()
-}
-
-/// The same of a new table.
-fn answers_burst_anew(alloc: Global) -> Result<bool, Refusal> {
-    let mut table = PrefixMap::new(alloc)?;
-    Ok(answers_burst::<Global>(&mut table))
+    are_added
+        & (hops[0] == Some(1))
+        & (hops[32] == Some(1))
+        & (hops[33] == Some(2))
+        & hops[39].is_none()
 }
 
 #[test]
 fn bulk_answers_in_order(rt: HostRuntime) {
-    assert!(rt; answers_pairs_anew(rt.alloc()) == Ok(true));
-    assert!(rt; answers_burst_anew(rt.alloc()) == Ok(true));
+    assert!(rt; on_new(PrefixMap::new(rt.alloc()), (), answers) == Ok(true));
+    assert!(rt; on_new(PrefixMap::new(rt.alloc()), (), answers_burst) == Ok(true));
 }

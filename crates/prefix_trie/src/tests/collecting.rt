@@ -5,8 +5,8 @@ ghost use Rattle.prefix_trie_bits.specs.Model.Entries.{no_entries, put_all};
 ghost use Rattle.prefix_trie_bits.specs.Model.Nodes.{IsTidy};
 ghost use Rattle.prefix_trie_bits.specs.Model.Selections.{listing, shown};
 
+use crate::tests::drops::Counted;
 use crate::tests::refusing::Refusing;
-use crate::tests::taking::Counted;
 use crate::{Prefix, PrefixMap, Refusal};
 use std::alloc::{AllocError, Allocator, Global};
 use std::cell::Cell;

@@ -1,5 +1,6 @@
 //! Maps and sets that are split: what refused requests for memory leave, and what is dropped when.
 use crate::tests::cases::prefix_of;
+use crate::tests::drops::let_go;
 use crate::tests::examples::splitting::split_and_merge;
 use crate::tests::refusing::Refusing;
 use crate::tests::stored::is_new;
@@ -86,9 +87,6 @@ fn is_part<A: Allocator>(map: &Map<'_, A>) -> bool {
         & (map.node_slots() == 5)
         & (map.cell_slots() == 4)
 }
-
-/// Lets a value go.
-fn let_go<V: Drop>(_value: V) {}
 
 /// Splits a map of the six along the second network. Answers whether that was granted, if no value is dropped by it, and both maps are as
 /// they should be, or the one as it was.

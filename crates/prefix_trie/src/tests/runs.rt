@@ -1,4 +1,9 @@
-//! A run with each of its requests for memory refused, the nodes that removals leave, and a list that is long.
+//! Runs: one with each of its requests for memory refused, the nodes that removals leave, and a list that is long.
+
+mod callers;
+mod mixed;
+mod mixed_sets;
+
 use crate::replay::{Call, Reply, run};
 use crate::tests::cases::questions::has_sums;
 use crate::tests::on_new::on_new;

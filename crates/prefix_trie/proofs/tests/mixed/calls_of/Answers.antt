@@ -1,9 +1,0 @@
-use Rattle.std.proofs.Common.{All, sym, subst}
-use Rattle.std.proofs.lemmas.List.Elements.{All-push}
-use Rattle.prefix_trie.specs.Replay.{IsFittingCall}
-use Rattle.prefix_trie.proofs.tests.mixed.calls_of.Goals as goal
-
-pub loop-draw-preserved : goal.loop-draw-preserved
-loop-draw-preserved g c =
-    subst (All (IsFittingCall g.P.Prefix.IsFitting)) (sym c.in_ok-push.ensures.items)
-    (All-push (IsFittingCall g.P.Prefix.IsFitting) c.loop-draw.calls.items _ c.loop-draw.invariant c.call_of.ensures)

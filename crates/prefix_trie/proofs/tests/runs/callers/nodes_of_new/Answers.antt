@@ -1,0 +1,10 @@
+use Rattle.std.proofs.Common.{ℕ, ap, sym, ◌∙◌}
+use Rattle.prefix_trie_bits.specs.Model.Nodes.{needed}
+use Rattle.prefix_trie_bits.proofs.Model.NodeSets.{tidy-no_entries}
+use Rattle.prefix_trie.proofs.Ran.{nodes_of_tidy}
+use Rattle.prefix_trie.proofs.tests.runs.callers.nodes_of_new.Goals as goal
+
+pub returns-in-Ok : goal.returns-in-Ok
+returns-in-Ok g c =
+    let made = c.in_ok-map.ensures in
+    nodes_of_tidy _ _ _ _ _ _ _ _ _ (made.nodes ∙ tidy-no_entries ℕ ∙ ap needed (sym made.entries)) c.in-Ok.ensures.counted.1

@@ -1,0 +1,12 @@
+use Rattle.std.proofs.Common.{◌≡◌, nat_le}
+use Rattle.std.specs.List.{list_all}
+use Rattle.prefix_trie_bits.specs.Model.Matches.{covers}
+use Rattle.prefix_trie_bits.specs.Model.Selections.{shown}
+use Rattle.prefix_trie.proofs.tests.walks.cover.none_below.Given as goal
+
+abbrev pub invariant-loop-value : goal.invariant-loop-value
+invariant-loop-value g l =
+    (goal.iterator-loop-value g).can_next l.value-iterator
+    × (goal.iterator-loop-value g).is_finite l.value-iterator
+    × (list_all (λ e. nat_le l.least e.1) l.value-iterator
+    ≡ list_all (λ e. nat_le l.least e.1) (shown g.P.Prefix.back (covers l.m.entries (g.P.Prefix.path l.prefix))))

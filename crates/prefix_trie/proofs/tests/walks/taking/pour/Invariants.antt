@@ -1,0 +1,10 @@
+use Rattle.prefix_trie_bits.specs.Model.Entries.{put_all}
+use Rattle.prefix_trie_bits.specs.Model.Selections.{listing, shown}
+use Rattle.prefix_trie.specs.Laws.Putting.{Leads}
+use Rattle.prefix_trie.proofs.tests.walks.taking.pour.Given as goal
+
+abbrev pub invariant-loop-prefix : goal.invariant-loop-prefix
+invariant-loop-prefix g l =
+    (goal.iterator-loop-prefix g).can_next l.prefix-iterator
+    × (goal.iterator-loop-prefix g).is_finite l.prefix-iterator
+    × Leads g.P.Prefix.path g.P.Prefix.IsFitting l.prefix-iterator l.to.entries (put_all g.P.Prefix.path (shown g.P.Prefix.back (listing l.fn.from.entries)) l.fn.to.entries)

@@ -1,0 +1,153 @@
+//! Walks that are dropped early, over values that count their drops; and tests with a state.
+use crate::map::{IterMut, ValuesMut};
+use crate::tests::drops::{Counted, let_go};
+use crate::tests::stored::{has_keys, stores};
+use crate::tests::walks::taking::three;
+use crate::{PrefixMap, PrefixSet, Refusal};
+use std::alloc::{Allocator, Global};
+use std::cell::Cell;
+
+type Key = (u32, u8);
+
+/// Whether each walk over a map of three keys gives so many, and is dropped then.
+fn are_read<T: Drop, A: Allocator>(map: &PrefixMap<Key, T, A>, count: usize) -> bool {
+    (map.iter().take(count).count() == count)
+        & (map.keys().take(count).count() == count)
+        & (map.values().take(count).count() == count)
+        & (map.iter_from(&(0, 0), true).take(count).count() == count)
+        & (map.children(&(0, 0)).take(count).count() == count)
+}
+
+/// Whether each walk around the second key does.
+fn are_covered<T: Drop, A: Allocator>(map: &PrefixMap<Key, T, A>, count: usize) -> bool {
+    (map.cover(&(0, 1)).take(count).count() == count)
+        & (map.cover_keys(&(0, 1)).take(count).count() == count)
+        & (map.cover_values(&(0, 1)).take(count).count() == count)
+}
+
+/// Whether each walk over a set of three keys does, and around the second.
+fn are_keys_read<A: Allocator>(set: &PrefixSet<Key, A>, count: usize) -> bool {
+    (set.iter().take(count).count() == count)
+        & (set.iter_from(&(0, 0), true).take(count).count() == count)
+        & (set.children(&(0, 0)).take(count).count() == count)
+        & (set.cover(&(0, 1)).take(count).count() == count)
+}
+
+/// Replaces the next values of a walk.
+fn replaces<'b, 'm, 'a, A: Allocator>(
+    walk: &'b mut IterMut<'m, Key, Counted<'a>, A>,
+    drops: &'a Cell<u64>,
+    count: u64,
+) {
+    for _ in 0..count {
+        if let Some((_, value)) = walk.next() {
+            *value = Counted { drops };
+        }
+    }
+}
+
+/// The same of a walk of values alone.
+fn replaces_values<'b, 'm, 'a, A: Allocator>(
+    walk: &'b mut ValuesMut<'m, Key, Counted<'a>, A>,
+    drops: &'a Cell<u64>,
+    count: u64,
+) {
+    for _ in 0..count {
+        if let Some(value) = walk.next() {
+            *value = Counted { drops };
+        }
+    }
+}
+
+/// How many are dropped by each walk that lends, whose first values are replaced before it is dropped.
+fn drops_of_lending<'a, A: Allocator>(
+    map: &mut PrefixMap<Key, Counted<'a>, A>,
+    drops: &'a Cell<u64>,
+    count: u64,
+) -> [u64; 4] {
+    let mut walk = map.iter_mut();
+    replaces(&mut walk, drops, count);
+    let items = drops.replace(0);
+    let mut walk = map.iter_from_mut(&(0, 0), true);
+    replaces(&mut walk, drops, count);
+    let from = drops.replace(0);
+    let mut walk = map.children_mut(&(0, 0));
+    replaces(&mut walk, drops, count);
+    let below = drops.replace(0);
+    let mut walk = map.values_mut();
+    replaces_values(&mut walk, drops, count);
+    [items, from, below, drops.replace(0)]
+}
+
+/// How many are dropped by walks over a new map that are dropped so early, and by letting it go. None where one gives another number.
+fn drops_of_early(alloc: Global, count: u8) -> Option<(u64, [u64; 4], u64)> {
+    let drops = Cell::new(0);
+    let mut map = three(alloc, &drops)?;
+    let is_given = are_read(&map, usize::from(count)) & are_covered(&map, usize::from(count));
+    let reading = drops.get();
+    let lending = drops_of_lending(&mut map, &drops, u64::from(count));
+    let_go(map);
+    is_given.then_some((reading, lending, drops.get()))
+}
+
+#[test]
+fn walks_dropped_early(rt: HostRuntime) {
+    let alloc = rt.alloc();
+    assert!(rt; drops_of_early(alloc, 0) == Some((0, [0, 0, 0, 0], 3)));
+    assert!(rt; drops_of_early(alloc, 1) == Some((0, [1, 1, 1, 1], 3)));
+    assert!(rt; drops_of_early(alloc, 2) == Some((0, [2, 2, 2, 2], 3)));
+}
+
+/// Keeps the first key of a map, the third and so on.
+fn keep_each_second<A: Allocator>(map: &mut PrefixMap<Key, u64, A>) {
+    let mut is_kept = false;
+    map.retain(|_, _| {
+        is_kept = !is_kept;
+        is_kept
+    });
+}
+
+/// The same of a set.
+fn keep_each_second_key<A: Allocator>(set: &mut PrefixSet<Key, A>) {
+    let mut is_kept = false;
+    set.retain(|_| {
+        is_kept = !is_kept;
+        is_kept
+    });
+}
+
+/// Whether the first and the third of three keys are kept in a map.
+fn is_kept<A: Allocator>(map: &mut PrefixMap<Key, u64, A>) -> bool {
+    let is_filled = stores(map, &[((0, 0), 1), ((0, 1), 2), ((0, 8), 3)]);
+    keep_each_second(map);
+    is_filled & has_keys(map, &[(0, 0), (0, 8)])
+}
+
+/// The same of a set, whose walks are dropped early before.
+fn is_kept_in_set<A: Allocator>(set: &mut PrefixSet<Key, A>) -> bool {
+    let is_filled = set.insert((0, 0)).is_ok()
+        & set.insert((0, 1)).is_ok()
+        & set.insert((0, 8)).is_ok();
+    let is_given = are_keys_read(set, 0) & are_keys_read(set, 1) & are_keys_read(set, 2);
+    keep_each_second_key(set);
+    is_filled & is_given & set.iter().eq([(0, 0), (0, 8)])
+}
+
+/// The same of a new map.
+fn is_kept_anew(alloc: Global) -> Result<bool, Refusal> {
+    let mut map = PrefixMap::new(alloc)?;
+    Ok(is_kept::<Global>(&mut map))
+}
+
+/// And of a new set, which is given up with its second key.
+fn is_kept_in_new_set(alloc: Global) -> Result<bool, Refusal> {
+    let mut set = PrefixSet::new(alloc)?;
+    let is_kept = is_kept_in_set::<Global>(&mut set);
+    Ok(is_kept & (set.into_iter().take(1).count() == 1))
+}
+
+#[test]
+fn a_test_with_a_state(rt: HostRuntime) {
+    assert!(rt; is_kept_anew(rt.alloc()) == Ok(true));
+    assert!(rt; is_kept_in_new_set(rt.alloc()) == Ok(true));
+}
