@@ -49,12 +49,28 @@ fn makes<P: Prefix + Copy, A: Allocator + Copy>(
     (answer.err() == Some(Refusal::Memory)) & replaces(set, made(alloc, limit))
 }
 
+/// Whether a walk gives these keys.
+pub fn gives_keys<P: Prefix + Copy + PartialEq, A: Allocator>(
+    walk: Iter<'_, P, A>,
+    keys: &[P],
+) -> bool {
+    walk.eq(keys.iter().copied())
+}
+
+/// Whether two walks give the same keys.
+pub fn gives_same<P: Prefix + PartialEq, A: Allocator>(
+    walk: Iter<'_, P, A>,
+    other: Iter<'_, P, A>,
+) -> bool {
+    walk.eq(other)
+}
+
 /// Whether a set has these keys and so many nodes.
 fn is_as<P: Prefix + Copy + PartialEq, A: Allocator>(
     set: &PrefixSet<P, A>,
     old: (&[P], usize),
 ) -> bool {
-    (set.len() == old.0.len()) & (set.node_count() == old.1) & set.iter().eq(old.0.iter().copied())
+    gives_keys(set.iter(), old.0) & (set.len() == old.0.len()) & (set.node_count() == old.1)
 }
 
 /// Makes an insertion into a set of old keys and nodes, as `inserts` does.
@@ -102,7 +118,7 @@ fn is_same<P: Prefix + Copy + PartialEq, A: Allocator>(
     other: &PrefixSet<P, A>,
 ) -> bool {
     (*set == *other)
-        & set.iter().eq(other.iter())
+        & gives_same(set.iter(), other.iter())
         & (set.node_count() == other.node_count())
         & (set.node_slots() == other.node_slots())
         & (set.cell_slots() == other.cell_slots())
@@ -194,7 +210,7 @@ fn finds<P: Prefix + Copy, A: Allocator>(
 }
 
 /// Keeps the keys of at least so many bits.
-fn retains_long<P: Prefix, A: Allocator>(set: &mut PrefixSet<P, A>, len: u8) -> bool {
+pub fn retains_long<P: Prefix, A: Allocator>(set: &mut PrefixSet<P, A>, len: u8) -> bool {
     set.retain(move |prefix| len <= prefix.prefix_len());
     true
 }

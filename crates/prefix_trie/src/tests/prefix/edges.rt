@@ -4,6 +4,7 @@ use crate::tests::cases::changes::{
     empties, inserts, removes, removes_children, writes, writes_longest,
 };
 use crate::tests::cases::filling::{Fill, changes, fills, takes_out};
+use crate::tests::cases::keys::gives_same as gives_same_keys;
 use crate::tests::cases::lists::{covers, entries_of, gives_same};
 use crate::tests::cases::questions::{finds, has_len};
 use crate::tests::cases::{Entry, Pair, prefix_of};
@@ -294,9 +295,9 @@ fn are_walked_in_set<P: Prefix + PartialEq, A: Allocator>(
     requires one { P.IsFitting one.now }
     requires other { P.IsFitting other.now }
 {
-    set.iter_from(one, true).eq(set.iter_from(other, true))
-        & set.iter_from(one, false).eq(set.iter_from(other, false))
-        & set.children(one).eq(set.children(other))
+    gives_same_keys(set.iter_from(one, true), set.iter_from(other, true))
+        & gives_same_keys(set.iter_from(one, false), set.iter_from(other, false))
+        & gives_same_keys(set.children(one), set.children(other))
         & set.cover(one).eq(set.cover(other))
 }
 

@@ -1,9 +1,10 @@
 //! Mixed calls of a set, each answer compared with that of a map that is driven by the same list.
 ghost use Rattle.std.specs.Prelude.{◌≤◌};
 
+use crate::tests::cases::{changes, keys};
 use crate::tests::on_new::on_new;
 use crate::tests::runs::mixed::{Key, drawn_call};
-use crate::{Prefix, PrefixMap, PrefixSet, Refusal};
+use crate::{PrefixMap, PrefixSet, Refusal};
 use std::alloc::Global;
 
 /// How many calls are made.
@@ -54,12 +55,6 @@ fn removes_alike(map: &mut Map, set: &mut Set, which: u64, asked: Key) -> bool
     }
 }
 
-/// Keeps the keys of at least so many bits in both.
-fn keep_long(map: &mut Map, set: &mut Set, len: u8) {
-    map.retain(|prefix, _| len <= prefix.prefix_len());
-    set.retain(|prefix| len <= prefix.prefix_len());
-}
-
 /// Whether an insertion answers alike.
 fn inserts_alike(map: &mut Map, set: &mut Set, asked: Key, value: u64) -> bool
     requires { asked.1 ≤ 8 }
@@ -76,7 +71,8 @@ fn clears_alike(map: &mut Map, set: &mut Set, is_all: bool, len: u8) -> bool {
         map.clear();
         set.clear();
     } else {
-        keep_long(map, set, len);
+        changes::retains_long(map, len);
+        keys::retains_long(set, len);
     }
     set.len() == map.len()
 }

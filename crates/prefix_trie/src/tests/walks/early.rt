@@ -1,5 +1,8 @@
 //! Walks that are dropped early, over values that count their drops; and tests with a state.
+ghost use Rattle.std.specs.Iterator.{IsFinite};
+
 use crate::map::{IterMut, ValuesMut};
+use crate::tests::cases::keys::gives_keys;
 use crate::tests::drops::{Counted, let_go};
 use crate::tests::stored::{has_keys, stores};
 use crate::tests::walks::taking::three;
@@ -9,28 +12,38 @@ use std::cell::Cell;
 
 type Key = (u32, u8);
 
-/// Whether each walk over a map of three keys gives so many, and is dropped then.
+/// Whether a walk gives so many, and is dropped then.
+fn gives<I: Iterator + Drop>(walk: I, count: usize) -> bool
+where
+    I::Item: Drop,
+    requires can { I.can_next walk }
+    requires ends { IsFinite (I.remaining walk) }
+{
+    walk.take(count).count() == count
+}
+
+/// Whether each walk over a map of three keys does.
 fn are_read<T: Drop, A: Allocator>(map: &PrefixMap<Key, T, A>, count: usize) -> bool {
-    (map.iter().take(count).count() == count)
-        & (map.keys().take(count).count() == count)
-        & (map.values().take(count).count() == count)
-        & (map.iter_from(&(0, 0), true).take(count).count() == count)
-        & (map.children(&(0, 0)).take(count).count() == count)
+    gives(map.iter(), count)
+        & gives(map.keys(), count)
+        & gives(map.values(), count)
+        & gives(map.iter_from(&(0, 0), true), count)
+        & gives(map.children(&(0, 0)), count)
 }
 
 /// Whether each walk around the second key does.
 fn are_covered<T: Drop, A: Allocator>(map: &PrefixMap<Key, T, A>, count: usize) -> bool {
-    (map.cover(&(0, 1)).take(count).count() == count)
-        & (map.cover_keys(&(0, 1)).take(count).count() == count)
-        & (map.cover_values(&(0, 1)).take(count).count() == count)
+    gives(map.cover(&(0, 1)), count)
+        & gives(map.cover_keys(&(0, 1)), count)
+        & gives(map.cover_values(&(0, 1)), count)
 }
 
 /// Whether each walk over a set of three keys does, and around the second.
 fn are_keys_read<A: Allocator>(set: &PrefixSet<Key, A>, count: usize) -> bool {
-    (set.iter().take(count).count() == count)
-        & (set.iter_from(&(0, 0), true).take(count).count() == count)
-        & (set.children(&(0, 0)).take(count).count() == count)
-        & (set.cover(&(0, 1)).take(count).count() == count)
+    gives(set.iter(), count)
+        & gives(set.iter_from(&(0, 0), true), count)
+        & gives(set.children(&(0, 0)), count)
+        & gives(set.cover(&(0, 1)), count)
 }
 
 /// Replaces the next values of a walk.
@@ -130,7 +143,7 @@ fn is_kept_in_set<A: Allocator>(set: &mut PrefixSet<Key, A>) -> bool {
         & set.insert((0, 8)).is_ok();
     let is_given = are_keys_read(set, 0) & are_keys_read(set, 1) & are_keys_read(set, 2);
     keep_each_second_key(set);
-    is_filled & is_given & set.iter().eq([(0, 0), (0, 8)])
+    is_filled & is_given & gives_keys(set.iter(), &[(0, 0), (0, 8)])
 }
 
 /// The same of a new map.

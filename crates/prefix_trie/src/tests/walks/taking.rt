@@ -210,8 +210,15 @@ fn put_name<'a>(
     key.fits() && is_new(names.insert(key, Named { name, counted }))
 }
 
-/// How many are dropped by a copy whose request is refused that comes after so many, and how many requests it is refused; none where it
-/// is granted.
+/// Whether a copy is refused. It is let go.
+fn is_copy_refused(names: &Names<'_>) -> bool {
+    let copy = names.clone();
+    let is_refused = copy.is_err();
+    let_go(copy);
+    is_refused
+}
+
+/// How many are dropped by a copy whose request is refused that comes after so many; none where it is granted.
 fn drops_of_refused_copy<'a>(
     heap: &'a Refusing<Global>,
     names: &Names<'a>,
@@ -219,9 +226,7 @@ fn drops_of_refused_copy<'a>(
     drops: &Cell<u64>,
 ) -> Option<u64> {
     heap.refuse(passed, 1);
-    let copy = names.clone();
-    let is_refused = copy.is_err() & (heap.left() == 0);
-    let_go(copy);
+    let is_refused = is_copy_refused(names) & (heap.left() == 0);
     let dropped = drops.replace(0);
     is_refused.then_some(dropped)
 }
@@ -247,7 +252,7 @@ fn drops_of_refused_copies(heap: &Refusing<Global>) -> Option<[Option<u64>; 4]> 
 /// How many requests a copy makes.
 fn requests_of_copy(heap: &Refusing<Global>, names: &Names<'_>) -> u64 {
     heap.refuse(u64::MAX, 0);
-    let_go(names.clone());
+    let _ = is_copy_refused(names);
     u64::MAX.wrapping_sub(heap.to_pass())
 }
 
