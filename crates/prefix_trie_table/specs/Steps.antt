@@ -1,9 +1,8 @@
 -- A table as a state of the model beside how it is stored, and what its changing calls answer and leave. This project's own.
-use Rattle.std.specs.Prelude.{◌+◌, ◌≤◌, Option, None, Result, Ok, Err}
+use Rattle.std.specs.Prelude.{Option, None, Result, Ok, Err}
 use Rattle.prefix_trie_bits.specs.declared.prefix.Refused.{Refused}
 use Rattle.prefix_trie_bits.specs.Model.Step.{State, Reply}
 use Rattle.prefix_trie_bits.specs.Model.Storage.{Storage}
-use Rattle.prefix_trie_table.specs.Settling.{headroom_of}
 use Rattle.prefix_trie_table.specs.Shape.{Contents, state, storage}
 
 module _ {T : Type 0} where
@@ -20,8 +19,3 @@ module _ {T : Type 0} where
   abbrev pub placed : {P X : Type 0} → Result X (Refused T) → Reply P T
   placed (Ok x) = Reply.Value None
   placed (Err refused) = Reply.Refused refused.cause
-
--- neither array may become longer than it could before, as more items are taken out
-pub record SettlesInStorage (before after : Storage) : Type 0 where
-  pub nodes : after.room.node_slots + headroom_of after.layout.child_blocks ≤ before.room.node_slots + headroom_of before.layout.child_blocks
-  pub cells : after.room.cell_slots + headroom_of after.layout.value_blocks ≤ before.room.cell_slots + headroom_of before.layout.value_blocks

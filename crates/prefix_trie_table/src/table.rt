@@ -41,8 +41,8 @@ ghost use Rattle.prefix_trie_bits.specs.Model.Step.{Insert, Remove, RemoveKeepTr
 ghost use Rattle.prefix_trie_bits.specs.Model.Storage.{HaveBlocks, StepByPath, RetainsInStorage};
 ghost use Rattle.prefix_trie_bits.specs.declared.prefix.Refusal.TheVariants.{IndexRange, Memory};
 ghost use Rattle.prefix_trie_table.specs.Layouts.{Sized, Sized-prop};
-ghost use Rattle.prefix_trie_table.specs.Shape.{Shaped, Shaped-prop, state, storage};
-ghost use Rattle.prefix_trie_table.specs.Steps.{stored, inserted, SettlesInStorage};
+ghost use Rattle.prefix_trie_table.specs.Shape.{Shaped, Shaped-prop, state};
+ghost use Rattle.prefix_trie_table.specs.Steps.{stored, inserted};
 
 use crate::allocator::blocks::{Blocks, cells};
 use crate::allocator::nodes::{NodeAllocator, Tick};
@@ -148,7 +148,6 @@ impl<T: Drop, A: Allocator + Clone, V: Tick> Table<T, A, V> {
         requires nodes { AreNodes K.bit_width self.old.entries self.old.nodes }
         ensures handed { IfOk result (λ second. HandsOutInStorage (stored self.old) (take len (K.bits key))
             (stored second) (stored self.new)) }
-        ensures settles { 0 < len → IfOk result (λ _. SettlesInStorage (storage self.old) (storage self.new)) }
         ensures kept { IfErr result (λ _. stored self.new ≡ stored self.old) }
         ensures memory { IfErr result (λ cause. cause ≡ Memory) }
     {
@@ -364,7 +363,6 @@ impl<T: Drop, A: Allocator, V: Tick> Table<T, A, V> {
         requires nodes { AreNodes K.bit_width self.old.entries self.old.nodes }
         ensures step { (width : ℕ) → StepByPath width (stored self.old) (RemoveChildren (take len (K.bits key))) Done
             (stored self.new) }
-        ensures settles { 0 < len → SettlesInStorage (storage self.old) (storage self.new) }
     {
         if len == 0 {
             self.clear();
@@ -395,7 +393,6 @@ impl<T: Drop, A: Allocator, V: Tick> Table<T, A, V> {
         requires may_ask { MayAskInOrder F.asks F.accepts keep (listing self.old.entries) }
         ensures step { RetainsInStorage F.asks keep (stored self.old) (stored self.new) }
         ensures fits { AreWithin K.bit_width self.new.entries }
-        ensures settles { SettlesInStorage (storage self.old) (storage self.new) }
     {
         retain_entries::<K, T, A, V, F>(
             &mut self.nodes,

@@ -18,7 +18,7 @@ use Rattle.prefix_trie_table.specs.Forest.{read}
 use Rattle.prefix_trie_table.specs.Layouts.{Sized, free_counts}
 use Rattle.prefix_trie_table.specs.Retaining.{Lasts}
 use Rattle.prefix_trie_table.specs.Shape.{Shaped}
-use Rattle.prefix_trie_table.specs.Steps.{inserted, SettlesInStorage}
+use Rattle.prefix_trie_table.specs.Steps.{inserted}
 use Rattle.prefix_trie_table.specs.Store.{Store, SameRoom}
 use Rattle.prefix_trie_table.specs.Tables.{IsTable, Grows, MayPass}
 use Rattle.prefix_trie_table.proofs.Tree.Invariant.{some_table}
@@ -111,12 +111,6 @@ module _ {T : Type 0} (v v2 : Store Node) (w w2 : Store (Option T)) (count count
   -- ---- many are
 
   module _ (lasts : Lasts 0 v v2 w w2) where
-    pub settles_in : SettlesInStorage (storage_of v w z) (storage_of v2 w2 z2)
-    settles_in = record {
-      nodes = nodes_settled v v2 w w2 (some_table is) (some_table left) z z2 lasts.settles;
-      cells = cells_settled v v2 w w2 (some_table is) (some_table left) z z2 lasts.settles;
-    }
-
     pub many_room : LeavesRoom (len s.0.nodes) (storage_of v w z).room (storage_of v2 w2 z2).room
     many_room = let room = settled_room v v2 w w2 count s.0 is s.1 lasts.settles in record {
       same_limit = lasts.node_limit;
@@ -135,8 +129,8 @@ module _ {T : Type 0} (v v2 : Store Node) (w w2 : Store (Option T)) (count count
           child_blocks = retained_children v v2 w w2 s z t s2 z2 u lasts.children;
           node_slots = lasts.node_slots;
           cell_slots = lasts.cell_slots;
-          nodes_still = still _ _ _ _ settles_in.nodes lasts.node_slots;
-          cells_still = still _ _ _ _ settles_in.cells lasts.cell_slots;
+          nodes_still = still _ _ _ _ (nodes_settled v v2 w w2 t u z z2 lasts.settles) lasts.node_slots;
+          cells_still = still _ _ _ _ (cells_settled v v2 w w2 t u z z2 lasts.settles) lasts.cell_slots;
           keeps = kept_blocks v v2 w w2 t u z z2 lasts.node_made lasts.cell_made;
         }
 

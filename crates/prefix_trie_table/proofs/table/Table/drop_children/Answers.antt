@@ -3,21 +3,22 @@ use Rattle.prefix_trie_bits.specs.Model.Entries.{without_below}
 use Rattle.prefix_trie_bits.specs.Model.Nodes.{nodes_without_below}
 use Rattle.prefix_trie_bits.specs.Model.Step.{State, RemoveChildren, Done}
 use Rattle.prefix_trie_bits.specs.Model.Storage.{StepByPath}
-use Rattle.prefix_trie_table.specs.Shape.{Contents, storage, same_shape}
-use Rattle.prefix_trie_table.specs.Steps.{stored, SettlesInStorage}
+use Rattle.prefix_trie_table.specs.Shape.{Contents, same_shape}
+use Rattle.prefix_trie_table.specs.Steps.{stored}
 use Rattle.prefix_trie_table.specs.Tables.{IsTable, IsTrie}
 use Rattle.prefix_trie_table.proofs.Tree.Invariant.{some_table}
 use Rattle.prefix_trie_table.proofs.Removal.PartTaken.{may_ask_all, seen_trie}
 use Rattle.prefix_trie_table.proofs.Blocks.Sizing.{table_sizes, storage_of}
-use Rattle.prefix_trie_table.proofs.Tree.Stated.{all_step, part_step, settles_in}
+use Rattle.prefix_trie_table.proofs.Tree.Stated.{all_step, part_step}
 use Rattle.prefix_trie_table.proofs.table.Table.drop_children.Given as given
 use Rattle.prefix_trie_table.proofs.table.Table.drop_children.Goals as goal
 
-pub returns-then-len-eq0-clause-step : goal.returns-then-len-eq0-clause-step
-returns-then-len-eq0-clause-step g c =
-    all_step g.K.Key.bit_width (stored c.args.self.now) (stored c.clear.new.self) (take c.args.len (g.K.Key.bits c.args.key))
-    (length-take-le c.args.len (g.K.Key.bits c.args.key) (omega (arith, g.met.K.Key.key_laws.bits_length c.args.key c.requires.key, c.requires.long)) ∙ c.if-len-eq0.true)
-    c.requires.nodes c.clear.ensures.step
+pub returns-then-len-eq0 : goal.returns-then-len-eq0
+returns-then-len-eq0 g c = record {
+  step = all_step g.K.Key.bit_width (stored c.args.self.now) (stored c.clear.new.self) (take c.args.len (g.K.Key.bits c.args.key))
+      (length-take-le c.args.len (g.K.Key.bits c.args.key) (omega (arith, g.met.K.Key.key_laws.bits_length c.args.key c.requires.key, c.requires.long)) ∙ c.if-len-eq0.true)
+      c.requires.nodes c.clear.ensures.step;
+}
 
 pub remove_part-requires-clause-trie : goal.remove_part-requires-clause-trie
 remove_part-requires-clause-trie g c = (c.self.inside.shape.0, seen_trie c.self.inside.shape c.self.invariant c.self.view_is refl c.requires.within c.requires.nodes)
@@ -50,19 +51,14 @@ pub invariant_of-self : goal.invariant_of-self
 invariant_of-self g c =
     subst (λ (x : State g.row.T.Denot). IsTable c.remove_part.new.nodes c.remove_part.new.cells c.remove_part.new.entries x) (sym (same g c)) (left g c).table
 
-pub returns-clause-step : goal.returns-clause-step
-returns-clause-step g c =
+pub returns : goal.returns
+returns g c =
     let q = take c.args.len (g.K.Key.bits c.args.key) in
     let z2 = c.self-1.given.1.0 in
     let long : length q ≡ c.args.len = length-take-le c.args.len (g.K.Key.bits c.args.key) (omega (arith, g.met.K.Key.key_laws.bits_length c.args.key c.requires.key, c.requires.long)) in
-    subst (λ (m : Contents g.row.T.Denot). (width : ℕ) → StepByPath width (stored m) (RemoveChildren q) Done
-    (c.self-1.given.0.0, storage_of c.remove_part.new.nodes c.remove_part.new.cells z2)) c.self.view_is
-    (part_step c.self.inside.nodes c.remove_part.new.nodes c.self.inside.cells c.remove_part.new.cells _ _ c.self.inside.shape c.self.invariant
-    c.self.inside.sizes c.self-1.given.0 (invariant_of-self g c) z2 c.remove_part.ensures.lasts q (omega (arith, long, c.if-len-eq0.false)) (same g c))
-
-pub returns-clause-settles : goal.returns-clause-settles
-returns-clause-settles g c = λ _.
-    let z2 = c.self-1.given.1.0 in
-    subst (λ (m : Contents g.row.T.Denot). SettlesInStorage (storage m) (storage_of c.remove_part.new.nodes c.remove_part.new.cells z2)) c.self.view_is
-    (settles_in c.self.inside.nodes c.remove_part.new.nodes c.self.inside.cells c.remove_part.new.cells _ _ c.self.inside.shape c.self.invariant
-    c.self.inside.sizes c.self-1.given.0 (invariant_of-self g c) z2 c.remove_part.ensures.lasts)
+    record {
+      step = subst (λ (m : Contents g.row.T.Denot). (width : ℕ) → StepByPath width (stored m) (RemoveChildren q) Done
+          (c.self-1.given.0.0, storage_of c.remove_part.new.nodes c.remove_part.new.cells z2)) c.self.view_is
+          (part_step c.self.inside.nodes c.remove_part.new.nodes c.self.inside.cells c.remove_part.new.cells _ _ c.self.inside.shape c.self.invariant
+          c.self.inside.sizes c.self-1.given.0 (invariant_of-self g c) z2 c.remove_part.ensures.lasts q (omega (arith, long, c.if-len-eq0.false)) (same g c));
+    }

@@ -5,14 +5,14 @@ use Rattle.prefix_trie_bits.specs.Model.Nodes.{needed}
 use Rattle.prefix_trie_bits.specs.Model.Step.{State, RemoveChildren, Done}
 use Rattle.prefix_trie_bits.specs.Model.Storage.{StepByPath}
 use Rattle.prefix_trie_table.specs.Layouts.{Sized-prop}
-use Rattle.prefix_trie_table.specs.Shape.{Contents, Shaped-prop, storage}
-use Rattle.prefix_trie_table.specs.Steps.{stored, SettlesInStorage}
+use Rattle.prefix_trie_table.specs.Shape.{Contents, Shaped-prop}
+use Rattle.prefix_trie_table.specs.Steps.{stored}
 use Rattle.prefix_trie_table.specs.Tables.{IsTable}
 use Rattle.prefix_trie_table.proofs.Blocks.Sizing.{table_sizes, storage_of}
 use Rattle.prefix_trie_table.proofs.Moving.HandedOut.{rest_counted, shape_seen, table_seen, root_slot, clear_behind, handed_out, second_packed, second_limit, second_cells_within}
 use Rattle.prefix_trie_table.proofs.Removal.PartTaken.{seen_trie}
 use Rattle.prefix_trie_table.proofs.Tree.Invariant.{some_table}
-use Rattle.prefix_trie_table.proofs.Tree.Stated.{all_step, part_step, settles_in}
+use Rattle.prefix_trie_table.proofs.Tree.Stated.{all_step, part_step}
 use Rattle.prefix_trie_table.proofs.table.Table.remove_children.Goals as goal
 use Rattle.prefix_trie_table.proofs.table.Table.remove_children.Goals.{then-len-eq0, else-len-eq0}
 
@@ -108,18 +108,3 @@ returns-clause-handed g c =
 
 pub returns-clause-kept : goal.returns-clause-kept
 returns-clause-kept g c = tt
-
-pub returns-clause-settles : goal.returns-clause-settles
-returns-clause-settles g c = λ some.
-    let i = c.self.inside in
-    let new = c.move_part-nodes.new in
-    let trie = seen_trie i.shape c.self.invariant c.self.view_is refl c.requires.within c.requires.nodes in
-    let left = c.move_part-nodes.ensures.removed i.shape.0 trie in
-    elim c.if-len-eq0.branch [
-      | then-len-eq0 w ↦ absurd (omega (arith, some, w.if-len-eq0.true))
-      | else-len-eq0 w ↦
-          subst (λ (m : Contents g.row.T.Denot). SettlesInStorage (storage c.args.self.now) (storage m)) (sym w.self-is)
-          (subst (λ (m : Contents g.row.T.Denot). SettlesInStorage (storage m) (storage_of new.nodes new.cells c.self-2-1.given.1.0)) c.self.view_is
-          (settles_in i.nodes new.nodes i.cells new.cells _ _ i.shape c.self.invariant i.sizes c.self-2-1.given.0 (table_seen left c.self-2-1.given.0) c.self-2-1.given.1.0
-          c.move_part-nodes.ensures.lasts))
-    ]

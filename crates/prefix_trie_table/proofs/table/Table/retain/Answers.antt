@@ -5,13 +5,13 @@ use Rattle.prefix_trie_bits.specs.Model.Selections.{listing}
 use Rattle.prefix_trie_bits.specs.Model.Step.{State}
 use Rattle.prefix_trie_bits.specs.Model.Storage.{RetainsInStorage}
 use Rattle.prefix_trie_table.specs.Retaining.{RetainsAll}
-use Rattle.prefix_trie_table.specs.Shape.{Contents, storage, same_shape}
-use Rattle.prefix_trie_table.specs.Steps.{stored, SettlesInStorage}
+use Rattle.prefix_trie_table.specs.Shape.{Contents, same_shape}
+use Rattle.prefix_trie_table.specs.Steps.{stored}
 use Rattle.prefix_trie_table.specs.Tables.{IsTable}
 use Rattle.prefix_trie_table.proofs.Tree.Invariant.{some_table}
 use Rattle.prefix_trie_table.proofs.Removal.PartTaken.{seen_trie}
 use Rattle.prefix_trie_table.proofs.Blocks.Sizing.{table_sizes, storage_of}
-use Rattle.prefix_trie_table.proofs.Tree.Stated.{retains_step, settles_in}
+use Rattle.prefix_trie_table.proofs.Tree.Stated.{retains_step}
 use Rattle.prefix_trie_table.proofs.table.Table.retain.Given as given
 use Rattle.prefix_trie_table.proofs.table.Table.retain.Goals as goal
 
@@ -55,10 +55,3 @@ returns-clause-step g c =
 
 pub returns-clause-fits : goal.returns-clause-fits
 returns-clause-fits g c = subst (λ (x : State g.row.T.Denot). AreWithin g.K.Key.bit_width x.entries) (same g c) (left g c).trie.within
-
-pub returns-clause-settles : goal.returns-clause-settles
-returns-clause-settles g c =
-    let z2 = c.self-1.given.1.0 in
-    subst (λ (m : Contents g.row.T.Denot). SettlesInStorage (storage m) (storage_of c.retain_entries.new.nodes c.retain_entries.new.cells z2)) c.self.view_is
-    (settles_in c.self.inside.nodes c.retain_entries.new.nodes c.self.inside.cells c.retain_entries.new.cells _ _ c.self.inside.shape c.self.invariant
-    c.self.inside.sizes c.self-1.given.0 (invariant_of-self g c) z2 c.retain_entries.ensures.lasts)
