@@ -5,6 +5,7 @@ pub mod GivingBack
 pub mod Emptying
 pub mod Pruning
 pub mod Removed
+pub mod Lessening
 pub mod Settling
 pub mod Emptied
 pub mod Listed

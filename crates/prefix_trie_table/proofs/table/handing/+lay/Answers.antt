@@ -6,9 +6,10 @@ use Rattle.prefix_trie_table.specs.Forest.{has_child, tier_sizes}
 use Rattle.prefix_trie_table.specs.Cells.{node_at, blank_node, node_sizes}
 use Rattle.prefix_trie_table.specs.declared.allocator.node.Node.{Node}
 use Rattle.prefix_trie_table.specs.HandingOut.Laid.{child_slots, value_slots, slots_below, HasSpace, chosen, IsBough, LaysNode}
+use Rattle.prefix_trie_table.proofs.Insertion.Inserting.{node_fits}
 use Rattle.prefix_trie_table.proofs.HandingOut.Boughs.{first, bough_start, bough_grafted, bough_closed, bough_passed, bough_bare, bare_nodes, bare_cells}
 use Rattle.prefix_trie_table.proofs.HandingOut.Ground.{Lays-none, Lays-then, Lays-list, ground_nodes, ground_cells}
-use Rattle.prefix_trie_table.proofs.HandingOut.Fits.{values_fit, children_fit, laid_tier}
+use Rattle.prefix_trie_table.proofs.HandingOut.Fits.{values_fit, laid_tier}
 use Rattle.prefix_trie_table.proofs.HandingOut.Space.{for_memory, child_amount, values_packed, children_packed, space_at, space_for_all, laid_next, laid_whole, slots_split, LaidTo}
 use Rattle.prefix_trie_table.proofs.HandingOut.Sources.{passed_by, behind, chosen_below, child_inside, some_level, source_below, own_within}
 use Rattle.prefix_trie_table.proofs.Strings.Bare.{was_set, others_stay}
@@ -197,7 +198,7 @@ lay_node-lay-requires-clause-sound g t c =
 -- src/table/handing.rt:109:16
 pub lay_node-lay-requires-clause-fits : goal.lay_node-lay-requires-clause-fits
 lay_node-lay-requires-clause-fits g t c =
-    children_fit c.loop-child.nodes.tiers (length c.deref.result.now) c.loop-child.invariant.ground.node_sizes_are
+    node_fits c.loop-child.nodes.tiers (length c.deref.result.now) c.loop-child.invariant.ground.node_sizes_are
     (let same = ap (λ (xs : List Node). length xs) c.deref.ensures.0 in
     let few = c.loop-child.invariant.few in
     let most = rank-le c.args.children c.loop-child.child in
