@@ -1,5 +1,5 @@
 -- What callers of a map with an unknown history conclude.
-use Rattle.std.proofs.Common.{◌≡◌, ℕ, ◌≤◌, Bool, false, List, [], ◌∷◌, length, filter, cond, Option, Some, None, Result, Ok, Err, IfOk, is_some, refl, sym, ap, ◌∙◌, true≢false}
+use Rattle.std.proofs.Common.{◌≡◌, ℕ, ◌≤◌, Bool, false, List, [], ◌∷◌, length, filter, cond, Option, Result, Ok, Err, IfOk, refl, sym, ap, ◌∙◌}
 use Rattle.std.specs.List.{All}
 use Rattle.std.specs.FinMap.{contains_key, get}
 use Rattle.std.proofs.lemmas.List.Elements.{All-head, All-tail}
@@ -10,6 +10,7 @@ use Rattle.prefix_trie_bits.specs.Model.Step.{State, Step, Reply, Insert, Remove
 use Rattle.prefix_trie_bits.proofs.Model.Steps.{stays_map, stays_tidy, step_laws}
 use Rattle.prefix_trie_table.specs.Copies.{AreCloned}
 use Rattle.prefix_trie_table.specs.Shape.{Contents}
+use Rattle.prefix_trie_table.proofs.Tree.Trees.{is_none-None}
 use Rattle.prefix_trie_map.specs.Copied.{CopyLaws}
 
 -- tests that agree at each item keep the same
@@ -20,25 +21,21 @@ filter_where p q (x ∷ xs) same =
     ∙ ap (λ ys. cond (q x) (x ∷ ys) ys) (filter_where p q xs (All-tail (λ y. p y ≡ q y) x xs same))
 
 -- a tidy map stays tidy where a key is set and one is taken out
-pub tidy_again : {P T : Type 0} (path : P → List Bool) (back : List Bool → P) (width : ℕ) (s t u : State T) (set : P) (v : T) (reply : Reply P T) (out : P) (old : Option T) →
-    IsMap width s → IsTidy s.entries s.nodes → length (path set) ≤ width → Step path back width s (Insert set v) reply t →
-    Step path back width t (Remove out) (Value old) u → IsTidy u.entries u.nodes
-tidy_again path back width s t u set v reply out old good tidy short inserts removes =
-    stays_tidy path back width t (Remove out) (Value old) u (λ q e. cc) removes
-    (stays_map path back width s (Insert set v) reply t short inserts good)
-    (stays_tidy path back width s (Insert set v) reply t (λ q e. cc) inserts good tidy)
+pub tidy_again : {T : Type 0} (width : ℕ) (s t u : State T) (set : List Bool) (v : T) (reply : Reply (List Bool) T) (out : List Bool) (old : Option T) →
+    IsMap width s → IsTidy s.entries s.nodes → length set ≤ width → Step (λ q. q) (λ q. q) width s (Insert set v) reply t →
+    Step (λ q. q) (λ q. q) width t (Remove out) (Value old) u → IsTidy u.entries u.nodes
+tidy_again width s t u set v reply out old good tidy short inserts removes =
+    stays_tidy (λ q. q) (λ q. q) width t (Remove out) (Value old) u (λ q e. cc) removes
+    (stays_map (λ q. q) (λ q. q) width s (Insert set v) reply t short inserts good)
+    (stays_tidy (λ q. q) (λ q. q) width s (Insert set v) reply t (λ q e. cc) inserts good tidy)
 
 module _ {T : Type 0} where
-  no_value : (o : Option T) → is_some o ≡ false → o ≡ None
-  no_value None e = refl
-  no_value (Some v) e = absurd (true≢false e)
-
   -- a new key set and taken out again leaves a tidy map as it was
   pub as_before : (width : ℕ) (m t u : State T) (s r : List Bool) (v : T) → IsMap width m → IsTidy m.entries m.nodes → length s ≤ width →
       contains_key m.entries s ≡ false → r ≡ s → t.entries ≡ with_entry m.entries s v → t.nodes ≡ with_needed m.nodes s →
       u.entries ≡ without_entry t.entries r → u.nodes ≡ nodes_without t.nodes t.entries r → (u.entries ≡ m.entries) × (u.nodes ≡ m.nodes)
   as_before width m t u s r v good tidy short new_key same set needs out left =
-      let law = (step_laws (List Bool) T).set_and_removed width m.entries s v good.keys_within short (no_value (get m.entries s) new_key) in
+      let law = (step_laws (List Bool) T).set_and_removed width m.entries s v good.keys_within short (is_none-None (get m.entries s) new_key) in
       let nodes = needs ∙ ap (λ n. with_needed n s) tidy in (
         out ∙ (λ i. without_entry (set i) (same i)) ∙ law.0,
         left ∙ (λ i. nodes_without (nodes i) (set i) (same i)) ∙ law.1 ∙ sym tidy,

@@ -1,4 +1,4 @@
--- What a caller's proof cites where a law cannot say it: of the test that `retain` asks, of the closure of `and_modify(..).or_insert(..)`, of a loop over a walk that writes, of `==` of numbers and of networks, of a list that is read in pages, of prefixes that a walk has still to give, and of maps that stay tidy.
+-- What a caller's proof cites where a law cannot say it: of the test that `retain` asks, of the closure of `and_modify(..).or_insert(..)`, of a loop over a walk that writes, of `==` of numbers and of networks, of a list that is read in pages, of prefixes that a walk has still to give, of maps that stay tidy, and of steps by paths.
 pub use Rattle.prefix_trie_bits.proofs.Model.Askings.{may_ask_always, keeps_filter}
 pub use Rattle.prefix_trie.proofs.Modifying.{modified_or_put}
 pub use Rattle.prefix_trie.proofs.Rewriting.{HasRewrittenIn, left_in, starts_ordered, goes_on_rewriting, ends_rewriting, rewritten}
@@ -6,3 +6,4 @@ pub use Rattle.prefix_trie.proofs.Comparing.{numbers_same, networks_same}
 pub use Rattle.prefix_trie.proofs.Paging.{read_more, read_so_far, read_to_end, all_read, page_begins, page_goes_on}
 pub use Rattle.prefix_trie.proofs.Putting.{fit_in_turn}
 pub use Rattle.prefix_trie.proofs.Tidying.{tidy_with, tidy_without}
+pub use Rattle.prefix_trie.proofs.Steps.{insert_step, remove_step, keep_tree_step, children_step, clear_step}

@@ -11,6 +11,7 @@ mod SameKeys
 pub mod Callers
 pub mod Collecting
 mod Units
+pub mod Steps
 mod Stored
 mod Lookups
 mod Paths

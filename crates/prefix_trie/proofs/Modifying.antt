@@ -1,5 +1,5 @@
 -- What callers of `and_modify(..).or_insert(..)` conclude.
-use Rattle.std.proofs.Common.{◌≡◌, Bool, false, cond, List, Option, None, Some, is_some, true≢false, refl, sym, ap, ◌∙◌, MutBor}
+use Rattle.std.proofs.Common.{◌≡◌, Bool, cond, List, None, Some, refl, sym, ap, ◌∙◌, MutBor}
 use Rattle.std.specs.FinMap.{get}
 use Rattle.std.specs.Option.{option_map, unwrap_or}
 use denote.Param.Members.{Once}
@@ -10,14 +10,11 @@ use Rattle.prefix_trie_bits.specs.declared.prefix.Key as key
 use Rattle.prefix_trie_bits.specs.Model.Entries.{Entries, with_entry}
 use Rattle.prefix_trie_bits.proofs.Model.Members.{get-with_entry, is-same_string}
 use Rattle.prefix_trie_table.specs.Shape.{Contents}
+use Rattle.prefix_trie_table.proofs.Tree.Trees.{is_none-None}
 use Rattle.prefix_trie_map.specs.declared.map.entry.Entry.{Entry}
 use Rattle.prefix_trie_map.specs.declared.map.entry.Entry.TheVariants.{Occupied, Vacant}
 use Rattle.prefix_trie_map.specs.Entry.{ModifiesEntry, entry_key, entry_map, entry_path, entry_value}
 use Rattle.prefix_trie_map.proofs.Placing.{entry_twice}
-
-no_value : {T : Type 0} (o : Option T) → is_some o ≡ false → o ≡ None
-no_value None e = refl
-no_value (Some v) e = absurd (true≢false e)
 
 module _ {P T A R : Type 0} {p : prefix.Ghosts P R} {shows : debug.Ghosts P} {k : key.Ghosts R} {same : partial.Ghosts R} {writes : debug.Ghosts R} where
   module _ {F : Type 0} (h : Once F (MutBor T × Unit {0}) (Unit {0} × (MutBor T × Unit {0}))) (test : F) (f : T → T) (does : (x y : MutBor T) → h.post test (x, tt) (tt, (y, tt)) → y.now ≡ f x.now) where
@@ -25,7 +22,7 @@ module _ {P T A R : Type 0} {p : prefix.Ghosts P R} {shows : debug.Ghosts P} {k 
     changed : (e : Entry P T A R p shows k same writes) (new : Contents T) (v : T) → ModifiesEntry h test e new →
         with_entry new.entries (entry_path e) (unwrap_or (get new.entries (entry_path e)) v) ≡ with_entry (entry_map e).entries (entry_path e) (unwrap_or (option_map f (entry_value e)) v)
     changed (Vacant e) new v update =
-        let none : get e.map.now.entries (p.path e.key) ≡ None = no_value _ e.absent in
+        let none : get e.map.now.entries (p.path e.key) ≡ None = is_none-None _ e.absent in
         ap (λ (m : Contents T). with_entry m.entries (p.path e.key) (unwrap_or (get m.entries (p.path e.key)) v)) update
         ∙ ap (λ o. with_entry e.map.now.entries (p.path e.key) (unwrap_or o v)) none
         ∙ ap (λ o. with_entry e.map.now.entries (p.path e.key) (unwrap_or (option_map f o) v)) (sym none)

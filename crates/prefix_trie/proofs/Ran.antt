@@ -1,15 +1,20 @@
 -- What the counts of a short run say.
-use Rattle.std.proofs.Common.{◌≡◌, ℕ, ◌+◌, ◌/◌, ◌≤◌, true, false, Bool, List, [], ◌∷◌, length, Option, Some, refl, sym, ap, ◌∙◌, true≢false}
+use Rattle.std.proofs.Common.{◌≡◌, ℕ, ◌+◌, ◌/◌, ◌≤◌, true, false, Bool, List, [], ◌∷◌, length, Option, None, Some, MatchOption, refl, sym, ap, ◌∙◌, subst, true≢false}
 use Rattle.std.specs.FinMap.{len}
 use Rattle.prefix_trie_bits.specs.Model.Counted.{CountedFrom, CountedRun}
 use Rattle.prefix_trie_bits.specs.Model.Matches.{longest_match, shown_match}
 use Rattle.prefix_trie_bits.specs.Model.Nodes.{IsTidy, needed}
 use Rattle.prefix_trie_bits.specs.Model.Step.{State, Reply, Lpm, Clear, Insert, NodeCount, Match, Done, Count}
 use Rattle.prefix_trie_bits.specs.Model.Storage.{Storage}
-use Rattle.prefix_trie_bits.specs.Model.Visits.{visits}
+use Rattle.prefix_trie_bits.specs.Model.Visits.{visits, ReadsExactly}
 
 not_known : {X : Type 0} → false ≡ true → X
 not_known is = absurd (true≢false (sym is))
+
+-- the number that was read
+counted : (q : List Bool) (n : ℕ) (read : Option ℕ) → MatchOption read ⊥ (ReadsExactly q n) → (read ≡ Some n) × (n ≤ length q / 5 + 1)
+counted q n None reads = absurd reads
+counted q n (Some count) reads = (ap Some reads.exact, subst (λ k. k ≤ length q / 5 + 1) reads.exact reads.bound)
 
 module _ {P T : Type 0} (path : P → List Bool) (back : List Bool → P) (width : ℕ) where
   -- a longest match alone
@@ -18,7 +23,7 @@ module _ {P T : Type 0} (path : P → List Bool) (back : List Bool → P) (width
   matched s t q replies reads ran =
       let (reply, later, read, more, u, e, f, _, step, (none, no_more, same, _)) = ran false not_known in (
         e ∙ ap (λ r. r ∷ later) step.step.step.0 ∙ ap (λ rs. Match (shown_match back (longest_match s.0.entries (path q))) ∷ rs) none,
-        (visits s.0.nodes (path q), f ∙ ap (λ r. r ∷ more) step.reads.0 ∙ ap (λ ns. Some (visits s.0.nodes (path q)) ∷ ns) no_more, step.reads.1),
+        (visits s.0.nodes (path q), f ∙ ap (λ r. r ∷ more) (counted _ _ read step.reads).0 ∙ ap (λ ns. Some (visits s.0.nodes (path q)) ∷ ns) no_more, (counted _ _ read step.reads).1),
         ap (λ x. x.0) same ∙ step.step.step.1,
       )
 

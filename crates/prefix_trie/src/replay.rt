@@ -5,8 +5,8 @@ ghost use Rattle.std.specs.Iterator.{Drains, IsFinite};
 ghost use Rattle.std.specs.FinMap.{get, len};
 ghost use Rattle.prefix_trie_bits.specs.Model.Addresses.{address_answer};
 ghost use Rattle.prefix_trie_bits.specs.Model.Counted.{CountedStep, CountedRun, CountsReads, TidyIf, tidy_after_all};
-ghost use Rattle.prefix_trie_bits.specs.Model.Matches.{longest_match, shortest_match, shown_match};
-ghost use Rattle.prefix_trie_bits.specs.Model.Selections.{listing, listing_from, listing_after, listing_below, listing_covering, shown};
+ghost use Rattle.prefix_trie_bits.specs.Model.Matches.{covers, longest_match, shortest_match, shown_match};
+ghost use Rattle.prefix_trie_bits.specs.Model.Selections.{listing, listing_from, listing_after, listing_below, shown};
 ghost use Rattle.prefix_trie_bits.specs.Model.Step.{Run, Insert, Get, Lpm, Spm, Remove, RemoveKeepTree, RemoveChildren, RetainAtLeast, Clear, Value, Match, Done, Count, Addresses, Items, Refused};
 ghost use Rattle.prefix_trie_bits.specs.Model.Storage.{StepInStorage, RunInStorage};
 ghost use Rattle.prefix_trie_bits.specs.declared.prefix.Refusal.TheVariants.{Memory};
@@ -397,7 +397,7 @@ fn covered<P: Prefix, A: Allocator + Clone>(
     prefix: &P,
 ) -> Result<Vec<(P, u64), A>, AllocError>
     requires { P.IsFitting prefix.now }
-    ensures { IfOk result (λ entries. entries.items ≡ shown P.back (listing_covering map.now.entries (P.path prefix.now))) }
+    ensures { IfOk result (λ entries. entries.items ≡ shown P.back (covers map.now.entries (P.path prefix.now))) }
 {
     let count = map.cover(prefix).count();
     copied(alloc, count, map.cover(prefix))

@@ -12,7 +12,7 @@ ghost use Rattle.prefix_trie_bits.specs.Model.Blocks.{no_layout};
 ghost use Rattle.prefix_trie_bits.specs.Model.Entries.{no_entries, with_entry};
 ghost use Rattle.prefix_trie_bits.specs.Model.Nodes.{root_alone, with_needed};
 ghost use Rattle.prefix_trie_bits.specs.Model.Step.{Insert};
-ghost use Rattle.prefix_trie_bits.specs.Model.Storage.{StepInStorage};
+ghost use Rattle.prefix_trie_bits.specs.Model.Storage.{StepByPath};
 ghost use Rattle.prefix_trie_map.specs.Steps.{stored};
 ghost use Rattle.prefix_trie_map.specs.Whole.{IsWhole};
 ghost use Rattle.prefix_trie.specs.Sets.{put_in};
@@ -200,7 +200,7 @@ impl<P: Prefix, A: Allocator> PrefixSet<P, A> {
         ensures unchanged { OnErr result ((self.new.entries ≡ self.old.entries) × (self.new.nodes ≡ self.old.nodes)) }
 
         // It is a step of the model, of the storage too: that of a map of units (`PrefixMap::insert`).
-        ensures step { StepInStorage P.path P.back P.R.bit_width (stored self.old) (Insert prefix tt) (put_in result) (stored self.new) }
+        ensures step { StepByPath P.R.bit_width (stored self.old) (Insert (P.path prefix) tt) (put_in result) (stored self.new) }
     {
         match self.map.insert(prefix, ()) {
             Ok(before) => Ok(before.is_none()),

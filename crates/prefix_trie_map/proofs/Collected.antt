@@ -4,7 +4,7 @@ use Rattle.prefix_trie_bits.specs.Model.Entries.{Entries, no_entries, put_all, w
 use Rattle.prefix_trie_bits.specs.Model.Nodes.{IsTidy, needed, root_alone, with_needed}
 use Rattle.prefix_trie_bits.specs.Model.Room.{MayPassLimit}
 use Rattle.prefix_trie_bits.specs.Model.Step.{Insert, Reply}
-use Rattle.prefix_trie_bits.specs.Model.Storage.{StepInStorage}
+use Rattle.prefix_trie_bits.specs.Model.Storage.{StepByPath}
 use Rattle.prefix_trie_bits.proofs.Model.NodeSets.{needed_insert, tidy-no_entries}
 use Rattle.prefix_trie_bits.proofs.Model.Storage.Slots.{slot_laws}
 use Rattle.prefix_trie_table.specs.Shape.{Contents}
@@ -34,11 +34,11 @@ module _ {P T : Type 0} (path : P → List Bool) where
   put_last (y ∷ xs) x m = put_last xs x (with_entry m (path y.0) y.1)
 
   -- one insertion
-  pub puts_one : (back : List Bool → P) (width : ℕ) (before after : Contents T) (prefix : P) (value : T) (reply : Reply P T) → IsWhole width before → length (path prefix) ≤ 128
+  pub puts_one : {width : ℕ} (before after : Contents T) (prefix : P) (value : T) (reply : Reply (List Bool) T) → IsWhole width before → length (path prefix) ≤ 128
       → after.entries ≡ with_entry before.entries (path prefix) value → after.nodes ≡ with_needed before.nodes (path prefix)
-      → StepInStorage path back width (stored before) (Insert prefix value) reply (stored after) → Puts path before ((prefix, value) ∷ []) after
-  puts_one back width before after prefix value reply whole short entries nodes step =
-      let slots = (slot_laws P T).inserted path back width (stored before) prefix value reply (stored after) whole.is_map whole.have_blocks short step in
+      → StepByPath width (stored before) (Insert (path prefix) value) reply (stored after) → Puts path before ((prefix, value) ∷ []) after
+  puts_one {width} before after prefix value reply whole short entries nodes step =
+      let slots = (slot_laws (List Bool) T).inserted (λ q. q) (λ q. q) width (stored before) (path prefix) value reply (stored after) whole.is_map whole.have_blocks short step in
       record {
         entries = entries;
         tidy = λ was. nodes ∙ ap (λ n. with_needed n (path prefix)) was ∙ needed_insert before.entries (path prefix) value ∙ ap needed (sym entries);

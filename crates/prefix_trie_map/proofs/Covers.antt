@@ -1,7 +1,7 @@
 -- The first and the last of the items that cover a question.
 use Rattle.std.proofs.Common.{◌≡◌, ◌≢◌, ◌↔◌, Bool, true, List, [], ◌∷◌, is_some, refl}
-use Rattle.prefix_trie_bits.specs.Model.Matches.{first_item, last_item, shown_match}
-use Rattle.prefix_trie_bits.specs.Model.Selections.{listing_covering, shown}
+use Rattle.prefix_trie_bits.specs.Model.Matches.{covers, first_item, last_item, shown_match}
+use Rattle.prefix_trie_bits.specs.Model.Selections.{shown}
 use Rattle.prefix_trie_map.specs.Covers.{CoverLaws}
 
 module _ {P T : Type 0} where
@@ -20,7 +20,7 @@ module _ {P T : Type 0} where
 
 pub cover_laws : (P T : Type 0) → CoverLaws P T
 cover_laws P T = record {
-  longest_is_last = λ back m q. last-shown back (listing_covering m q);
-  shortest_is_first = λ back m q. first-shown back (listing_covering m q);
-  some_covers = λ back m q. some-shown back (listing_covering m q);
+  longest_is_last = λ back m q. last-shown back (covers m q);
+  shortest_is_first = λ back m q. first-shown back (covers m q);
+  some_covers = λ back m q. some-shown back (covers m q);
 }

@@ -11,50 +11,51 @@ use Rattle.prefix_trie_bits.specs.declared.prefix.Refusal.TheVariants.{IndexRang
 use Rattle.prefix_trie_bits.specs.Model.Entries.{with_entry}
 use Rattle.prefix_trie_bits.specs.Model.Nodes.{with_needed}
 use Rattle.prefix_trie_bits.specs.Model.Step.{Insert, Value, Refused}
-use Rattle.prefix_trie_bits.specs.Model.Storage.{StepInStorage}
+use Rattle.prefix_trie_bits.specs.Model.Storage.{StepByPath}
 use Rattle.prefix_trie_table.specs.Shape.{Contents, with_value_at}
+use Rattle.prefix_trie_table.proofs.Tree.Trees.{is_none-None}
 use Rattle.prefix_trie_map.specs.Steps.{stored}
 use Rattle.prefix_trie_map.specs.Whole.{IsWhole}
 use Rattle.prefix_trie_map.specs.declared.map.entry.VacantEntry.{VacantEntry}
 use Rattle.prefix_trie_map.specs.declared.map.entry.OccupiedEntry.{OccupiedEntry}
 use Rattle.prefix_trie_map.specs.Entry.{Vacant, Occupied, Fills, RefusesToFill, ModifiesEntry}
 use Rattle.prefix_trie_map.proofs.Insertions.{with_needed-stored}
-use Rattle.prefix_trie_map.proofs.Placing.{no_value, value_not_refused, entry_twice, written_step}
+use Rattle.prefix_trie_map.proofs.Placing.{value_not_refused, entry_twice, written_step}
 
 module _ {P T A R : Type 0} {p : prefix.Ghosts P R} {shows : debug.Ghosts P} {k : key.Ghosts R} {same : partial.Ghosts R} {writes : debug.Ghosts R} where
   module _ (e : VacantEntry P T A R p shows k same writes) (new : Contents T) where
     -- what a key left that was placed, with the value last written there
     pub Fills-placed : (v w : T) → new.entries ≡ with_entry e.map.now.entries (p.path e.key) v → new.nodes ≡ with_needed e.map.now.nodes (p.path e.key)
-        → StepInStorage p.path p.back k.bit_width (stored e.map.now) (Insert e.key v) (Value None) (stored new)
+        → StepByPath k.bit_width (stored e.map.now) (Insert (p.path e.key) v) (Value None) (stored new)
         → Fills (Vacant e) (with_value_at new (p.path e.key) w) w
     Fills-placed v w entries nodes step = record {
       entries = ap (λ m. with_entry m (p.path e.key) w) entries ∙ entry_twice e.map.now.entries (p.path e.key) v w;
       nodes = nodes;
-      step = subst (λ x. StepInStorage p.path p.back k.bit_width (stored e.map.now) (Insert e.key w) (Value x) (stored (with_value_at new (p.path e.key) w)))
-          (sym (no_value (get e.map.now.entries (p.path e.key)) e.absent))
-          (written_step p.path p.back k.bit_width e.map.now new e.key v None w step);
+      step = subst (λ x. StepByPath k.bit_width (stored e.map.now) (Insert (p.path e.key) w) (Value x) (stored (with_value_at new (p.path e.key) w)))
+          (sym (is_none-None (get e.map.now.entries (p.path e.key)) e.absent))
+          (written_step k.bit_width e.map.now new (p.path e.key) v None w step);
     }
 
     -- the same, where the key was handed on, and its path to the call that lends
     pub Fills-lent : (key : P) (q : List Bool) (v w : T) → key ≡ e.key → q ≡ p.path e.key
         → new.entries ≡ with_entry e.map.now.entries (p.path key) v → new.nodes ≡ with_needed e.map.now.nodes (p.path key)
-        → StepInStorage p.path p.back k.bit_width (stored e.map.now) (Insert key v) (Value None) (stored new)
+        → StepByPath k.bit_width (stored e.map.now) (Insert (p.path key) v) (Value None) (stored new)
         → Fills (Vacant e) (with_value_at new q w) w
     Fills-lent key q v w is at entries nodes step =
         subst (λ s. Fills (Vacant e) (with_value_at new s w) w) (sym at)
         (Fills-placed v w
         (subst (λ y. new.entries ≡ with_entry e.map.now.entries (p.path y) v) is entries)
         (subst (λ y. new.nodes ≡ with_needed e.map.now.nodes (p.path y)) is nodes)
-        (subst (λ y. StepInStorage p.path p.back k.bit_width (stored e.map.now) (Insert y v) (Value None) (stored new)) is step))
+        (subst (λ y. StepByPath k.bit_width (stored e.map.now) (Insert (p.path y) v) (Value None) (stored new)) is step))
 
     -- and where it was refused
     pub Refuses-handed : (key : P) (cause : Refusal) → key ≡ e.key → new.entries ≡ e.map.now.entries → new.nodes ≡ e.map.now.nodes
-        → ((v : T) → StepInStorage p.path p.back k.bit_width (stored e.map.now) (Insert key v) (Refused cause) (stored new))
+        → ((v : T) → StepByPath k.bit_width (stored e.map.now) (Insert (p.path key) v) (Refused cause) (stored new))
         → RefusesToFill (Vacant e) cause new
     Refuses-handed key cause is entries nodes step = record {
       entries = entries;
       nodes = nodes;
-      step = λ v. subst (λ y. StepInStorage p.path p.back k.bit_width (stored e.map.now) (Insert y v) (Refused cause) (stored new)) is (step v);
+      step = λ v. subst (λ y. StepByPath k.bit_width (stored e.map.now) (Insert (p.path y) v) (Refused cause) (stored new)) is (step v);
     }
 
   -- a stored key has the value last written there
@@ -75,11 +76,11 @@ module _ {P T A R : Type 0} {p : prefix.Ghosts P R} {shows : debug.Ghosts P} {k 
             nodes_grow = omega arith;
             cells_grow = omega arith;
           };
-          index_range = λ e. absurd (value_not_refused {P = P} {T = T} (get m.entries q) IndexRange e);
+          index_range = λ e. absurd (value_not_refused {T = T} (get m.entries q) IndexRange e);
           storage = (
             λ there. refl,
             λ was fresh e. absurd (true≢false (sym o.stored ∙ fresh)),
-            λ cause e. absurd (value_not_refused {P = P} {T = T} (get m.entries q) cause e),
+            λ cause e. absurd (value_not_refused {T = T} (get m.entries q) cause e),
           );
         };
       }

@@ -12,7 +12,7 @@ use Rattle.prefix_trie_bits.specs.Model.Step.{State, Reply, Step, Insert}
 use Rattle.prefix_trie_bits.proofs.Model.Members.{or-cases, or-left, and-first, and-second, needs, same_nodes}
 use Rattle.prefix_trie_bits.proofs.Model.NodeSets.{has-with_needed, AreNodes-no_entries}
 use Rattle.prefix_trie_map.specs.Steps.{inserted}
-use Rattle.prefix_trie_map.proofs.Steps.{value_in}
+use Rattle.prefix_trie_map.proofs.Steps.{one_value}
 
 module _ {T : Type 0} where
   -- no entries and the root alone are a map
@@ -39,20 +39,20 @@ module _ {T : Type 0} where
     pub nodes : OnOk result (t.nodes ≡ with_needed s.nodes q)
     pub unchanged : OnErr result ((t.entries ≡ s.entries) × (t.nodes ≡ s.nodes))
 
-  module _ {P : Type 0} (path : P → List Bool) (back : List Bool → P) (width : ℕ) (s t : State T) (q : P) (v : T) (good : AreNodes width s.entries s.nodes) where
-    no_refusal : (o : Option T) (cause : Refusal) → ◌≡◌ {A = Reply P T} (Reply.Value o) (Reply.Refused cause) → ⊥
+  module _ (s t : State T) (q : List Bool) (v : T) {width : ℕ} (good : AreNodes width s.entries s.nodes) where
+    no_refusal : (o : Option T) (cause : Refusal) → ◌≡◌ {A = Reply (List Bool) T} (Reply.Value o) (Reply.Refused cause) → ⊥
     no_refusal o cause e = cc
 
-    needed_all : (b : Bool) → contains_key s.entries (path q) ≡ b → cond b s.nodes (with_needed s.nodes (path q)) ≡ with_needed s.nodes (path q)
-    needed_all true is = sym (with_needed-stored width s.entries s.nodes (path q) good is)
+    needed_all : (b : Bool) → contains_key s.entries q ≡ b → cond b s.nodes (with_needed s.nodes q) ≡ with_needed s.nodes q
+    needed_all true is = sym (with_needed-stored width s.entries s.nodes q good is)
     needed_all false is = refl
 
     -- it is what the step says
-    pub inserts_are : (result : Result (Option T) (Refused T)) → Step path back width s (Insert q v) (inserted result) t → Inserts s t (path q) v result
+    pub inserts_are : (result : Result (Option T) (Refused T)) → Step (λ k. k) (λ k. k) width s (Insert q v) (inserted result) t → Inserts s t q v result
     inserts_are (Ok before) (inl (e, left)) = record {
-      before = ap value_in e;
+      before = one_value _ _ e;
       entries = ap (λ (x : State T). x.entries) left;
-      nodes = ap (λ (x : State T). x.nodes) left ∙ needed_all (contains_key s.entries (path q)) refl;
+      nodes = ap (λ (x : State T). x.nodes) left ∙ needed_all (contains_key s.entries q) refl;
       unchanged = tt;
     }
     inserts_are (Ok before) (inr (new, cause, e, same)) = absurd (no_refusal before cause e)

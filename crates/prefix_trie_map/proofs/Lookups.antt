@@ -5,10 +5,9 @@ use Rattle.std.proofs.lemmas.List.{take-take}
 use Rattle.prefix_trie_bits.specs.Laws.Steps.{IsMap}
 use Rattle.prefix_trie_bits.specs.Model.Entries.{Entries}
 use Rattle.prefix_trie_bits.specs.Model.Matches.{shown_match}
-use Rattle.prefix_trie_bits.specs.Model.Visits.{visits, visits_to_match}
+use Rattle.prefix_trie_bits.specs.Model.Visits.{visits, visits_to_match, ReadsWay, ReadsToMatch}
 use Rattle.prefix_trie_bits.proofs.Model.Visits.{visits-bound, visit_laws}
 use Rattle.prefix_trie_table.specs.Shape.{Contents}
-use Rattle.prefix_trie_map.specs.Reads.{ReadsWay, ReadsToMatch}
 use Rattle.prefix_trie_map.specs.Steps.{state}
 use Rattle.prefix_trie_map.specs.Walks.{lent_item}
 

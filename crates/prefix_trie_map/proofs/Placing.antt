@@ -1,5 +1,5 @@
 -- That a new key is placed, or refused its blocks, is a step of the model.
-use Rattle.std.proofs.Common.{◌≡◌, ℕ, ◌+◌, ◌*◌, ◌≤◌, Bool, true, false, cond, List, Option, None, Some, is_some, inl, inr, refl, sym, ap, ◌∙◌, true≢false, subst, Result, Ok, Err, IfErr, OnOk, OnErr, MatchResult}
+use Rattle.std.proofs.Common.{◌≡◌, ℕ, ◌+◌, ◌*◌, ◌≤◌, Bool, true, false, cond, List, Option, None, Some, inl, inr, refl, sym, ap, ◌∙◌, true≢false, subst, Result, Ok, Err, IfErr, OnOk, OnErr, MatchResult}
 use Rattle.std.specs.FinMap.{get, contains_key, len}
 use Rattle.prefix_trie_bits.specs.declared.prefix.Refusal.{Refusal}
 use Rattle.prefix_trie_bits.specs.declared.prefix.Refused.{Refused}
@@ -8,36 +8,31 @@ use Rattle.prefix_trie_bits.specs.Model.Entries.{with_entry}
 use Rattle.prefix_trie_bits.specs.Model.Nodes.{with_needed, AreNodes}
 use Rattle.prefix_trie_bits.specs.Model.Room.{MayPassLimit, LeavesRoom}
 use Rattle.prefix_trie_bits.specs.Model.Step.{Reply, Step, Insert, Value}
-use Rattle.prefix_trie_bits.specs.Model.Storage.{ReadiesInStorage, InsertsInStorage, RefusesInStorage, StepInStorage}
+use Rattle.prefix_trie_bits.specs.Model.Storage.{ReadiesInStorage, InsertsInStorage, RefusesInStorage, StepByPath}
 use Rattle.prefix_trie_bits.proofs.Model.Members.{get-with_entry, is-same_string, same_entries}
 use Rattle.prefix_trie_bits.specs.Order.{same_string}
 use Rattle.prefix_trie_bits.specs.Model.Entries.{Entries}
 use Rattle.prefix_trie_table.specs.Shape.{Contents, with_value_at}
+use Rattle.prefix_trie_table.proofs.Tree.Trees.{is_none-None}
 use Rattle.prefix_trie_map.specs.Steps.{state, storage, stored, placed}
 use Rattle.prefix_trie_map.proofs.Insertions.{inserts_are}
 use Rattle.prefix_trie_bits.proofs.Model.Storage.Readied.{readied_inserts}
 
-pub no_value : {T : Type 0} (o : Option T) → is_some o ≡ false → o ≡ None
-no_value None e = refl
-no_value (Some x) e = absurd (true≢false e)
-
-module _ {P T : Type 0} where
-  pub value_not_refused : (x : Option T) (c : Refusal) → ◌≡◌ {A = Reply P T} (Value x) (Reply.Refused c) → ⊥
+module _ {T : Type 0} where
+  pub value_not_refused : (x : Option T) (c : Refusal) → ◌≡◌ {A = Reply (List Bool) T} (Value x) (Reply.Refused c) → ⊥
   value_not_refused x c e = cc
 
-  same_cause : (c d : Refusal) → ◌≡◌ {A = Reply P T} (Reply.Refused c) (Reply.Refused d) → c ≡ d
+  same_cause : (c d : Refusal) → ◌≡◌ {A = Reply (List Bool) T} (Reply.Refused c) (Reply.Refused d) → c ≡ d
   same_cause c d e = cc
 
-module _ {P T : Type 0} (path : P → List Bool) (back : List Bool → P) (width : ℕ) (old new : Contents T) (q : P)
-    (absent : contains_key old.entries (path q) ≡ false) (room : LeavesRoom (len old.nodes) old.room new.room) where
+module _ {T : Type 0} (width : ℕ) (old new : Contents T) (q : List Bool) (absent : contains_key old.entries q ≡ false) (room : LeavesRoom (len old.nodes) old.room new.room) where
   -- it was placed
-  pub placed_step : (v : T) → new.entries ≡ with_entry old.entries (path q) v → new.nodes ≡ with_needed old.nodes (path q)
-      → InsertsInStorage (state old) (path q) (storage old) (storage new)
-      → StepInStorage path back width (stored old) (Insert q v) (Value None) (stored new)
+  pub placed_step : (v : T) → new.entries ≡ with_entry old.entries q v → new.nodes ≡ with_needed old.nodes q
+      → InsertsInStorage (state old) q (storage old) (storage new) → StepByPath width (stored old) (Insert q v) (Value None) (stored new)
   placed_step v entries nodes inserts =
-      let left = nodes ∙ sym (ap (λ b. cond b old.nodes (with_needed old.nodes (path q))) absent) in
+      let left = nodes ∙ sym (ap (λ b. cond b old.nodes (with_needed old.nodes q)) absent) in
       record {
-        step = inl (ap Value (sym (no_value (get old.entries (path q)) absent)), λ i. record { entries = entries i; nodes = left i });
+        step = inl (ap Value (sym (is_none-None (get old.entries q) absent)), λ i. record { entries = entries i; nodes = left i });
         room = room;
         index_range = λ e. absurd (value_not_refused None IndexRange e);
         storage = (
@@ -49,45 +44,44 @@ module _ {P T : Type 0} (path : P → List Bool) (back : List Bool → P) (width
 
   -- it was refused, whatever its value
   pub refused_step : (cause : Refusal) → new.entries ≡ old.entries → new.nodes ≡ old.nodes
-      → RefusesInStorage (state old) (path q) cause (storage old) (storage new) → (cause ≡ IndexRange → MayPassLimit old.room)
-      → (v : T) → StepInStorage path back width (stored old) (Insert q v) (Reply.Refused cause) (stored new)
+      → RefusesInStorage (state old) q cause (storage old) (storage new) → (cause ≡ IndexRange → MayPassLimit old.room)
+      → (v : T) → StepByPath width (stored old) (Insert q v) (Reply.Refused cause) (stored new)
   refused_step cause entries nodes refuses range v = record {
     step = inr (absent, cause, refl, λ i. record { entries = entries i; nodes = nodes i });
     room = room;
-    index_range = λ e. range (same_cause {P = P} {T = T} cause IndexRange e);
+    index_range = λ e. range (same_cause {T = T} cause IndexRange e);
     storage = (
       λ there. absurd (true≢false (sym there ∙ absent)),
       λ was fresh e. absurd (value_not_refused was cause (sym e)),
-      λ c e. subst (λ d. RefusesInStorage (state old) (path q) d (storage old) (storage new)) (same_cause {P = P} {T = T} cause c e) refuses,
+      λ c e. subst (λ d. RefusesInStorage (state old) q d (storage old) (storage new)) (same_cause {T = T} cause c e) refuses,
     );
   }
 
 -- ---- by the answer
 
-module _ {P T : Type 0} (path : P → List Bool) (back : List Bool → P) (width : ℕ) (old new : Contents T) (q : P) (v : T)
-    (absent : contains_key old.entries (path q) ≡ false) where
+module _ {T : Type 0} (width : ℕ) (old new : Contents T) (q : List Bool) (v : T) where
   -- what placing a new key says of the map, by its answer
   pub record Places {X : Type 0} (r : Result X (Refused T)) : Type 0 where
-    pub entries : OnOk r (new.entries ≡ with_entry old.entries (path q) v)
-    pub nodes : OnOk r (new.nodes ≡ with_needed old.nodes (path q))
+    pub entries : OnOk r (new.entries ≡ with_entry old.entries q v)
+    pub nodes : OnOk r (new.nodes ≡ with_needed old.nodes q)
     pub unchanged : OnErr r ((new.entries ≡ old.entries) × (new.nodes ≡ old.nodes))
-    pub step : OnOk r (StepInStorage path back width (stored old) (Insert q v) (Value None) (stored new))
-    pub refuses : IfErr r (λ e. (other : T) → StepInStorage path back width (stored old) (Insert q other) (Reply.Refused e.cause) (stored new))
+    pub step : OnOk r (StepByPath width (stored old) (Insert q v) (Value None) (stored new))
+    pub refuses : IfErr r (λ e. (other : T) → StepByPath width (stored old) (Insert q other) (Reply.Refused e.cause) (stored new))
 
   -- a refusal does not hang on the value
-  other_refused : (cause : Refusal) → Step path back width (state old) (Insert q v) (Reply.Refused cause) (state new) → (other : T) →
-      Step path back width (state old) (Insert q other) (Reply.Refused cause) (state new)
+  other_refused : (cause : Refusal) → Step (λ k. k) (λ k. k) width (state old) (Insert q v) (Reply.Refused cause) (state new) → (other : T) →
+      Step (λ k. k) (λ k. k) width (state old) (Insert q other) (Reply.Refused cause) (state new)
   other_refused cause (inl (e, left)) other = absurd (value_not_refused _ cause (sym e))
   other_refused cause (inr refused) other = inr refused
 
-  pub places : {X : Type 0} (r : Result X (Refused T)) → AreNodes width old.entries old.nodes → StepInStorage path back width (stored old) (Insert q v) (placed r) (stored new) → Places r
+  pub places : {X : Type 0} (r : Result X (Refused T)) → AreNodes width old.entries old.nodes → StepByPath width (stored old) (Insert q v) (placed r) (stored new) → Places r
   places (Ok x) good h =
-      let left = inserts_are path back width (state old) (state new) q v good (Ok None) h.step in
+      let left = inserts_are (state old) (state new) q v good (Ok None) h.step in
       record { entries = left.entries; nodes = left.nodes; unchanged = tt; step = h; refuses = tt }
   places (Err e) good h = record {
     entries = tt;
     nodes = tt;
-    unchanged = (inserts_are path back width (state old) (state new) q v good (Err e) h.step).unchanged;
+    unchanged = (inserts_are (state old) (state new) q v good (Err e) h.step).unchanged;
     step = tt;
     refuses = λ other. record {
       step = other_refused e.cause h.step other;
@@ -99,53 +93,51 @@ module _ {P T : Type 0} (path : P → List Bool) (back : List Bool → P) (width
 
 -- the same of making its blocks alone
 
-module _ {P T S E : Type 0} (path : P → List Bool) (back : List Bool → P) (width : ℕ) (cause : E → Refusal) (old new : Contents T) (q : P) where
+module _ {T S E : Type 0} (width : ℕ) (cause : E → Refusal) (old new : Contents T) (q : List Bool) where
   -- where its blocks are made, or refused
-  pub room_refused : (result : Result S E) → contains_key old.entries (path q) ≡ false → LeavesRoom (len old.nodes) old.room new.room
+  pub room_refused : (result : Result S E) → contains_key old.entries q ≡ false → LeavesRoom (len old.nodes) old.room new.room
       → (new.entries ≡ old.entries) × (new.nodes ≡ old.nodes)
-      → MatchResult result (λ _. ReadiesInStorage (state old) (path q) (storage old) (storage new)) (λ e. RefusesInStorage (state old) (path q) (cause e) (storage old) (storage new))
+      → MatchResult result (λ _. ReadiesInStorage (state old) q (storage old) (storage new)) (λ e. RefusesInStorage (state old) q (cause e) (storage old) (storage new))
       → IfErr result (λ e. cause e ≡ IndexRange → MayPassLimit old.room)
-      → IfErr result (λ e. (other : T) → StepInStorage path back width (stored old) (Insert q other) (Reply.Refused (cause e)) (stored new))
+      → IfErr result (λ e. (other : T) → StepByPath width (stored old) (Insert q other) (Reply.Refused (cause e)) (stored new))
   room_refused (Ok x) absent room same leaves range = tt
-  room_refused (Err e) absent room same leaves range = refused_step path back width old new q absent room (cause e) same.0 same.1 leaves range
+  room_refused (Err e) absent room same leaves range = refused_step width old new q absent room (cause e) same.0 same.1 leaves range
 
   pub room_readied : (result : Result S E)
-      → MatchResult result (λ _. ReadiesInStorage (state old) (path q) (storage old) (storage new)) (λ e. RefusesInStorage (state old) (path q) (cause e) (storage old) (storage new))
-      → OnOk result (ReadiesInStorage (state old) (path q) (storage old) (storage new))
+      → MatchResult result (λ _. ReadiesInStorage (state old) q (storage old) (storage new)) (λ e. RefusesInStorage (state old) q (cause e) (storage old) (storage new))
+      → OnOk result (ReadiesInStorage (state old) q (storage old) (storage new))
   room_readied (Ok x) leaves = leaves
   room_readied (Err e) leaves = tt
 
 -- ---- once its blocks were made
 
-module _ {P T : Type 0} (path : P → List Bool) (back : List Bool → P) (width : ℕ) (old middle new : Contents T) (q : P) (v : T)
-    (absent : contains_key old.entries (path q) ≡ false) (entries : middle.entries ≡ old.entries) (nodes : middle.nodes ≡ old.nodes) where
+module _ {T : Type 0} (width : ℕ) (old middle new : Contents T) (q : List Bool) (v : T)
+    (absent : contains_key old.entries q ≡ false) (entries : middle.entries ≡ old.entries) (nodes : middle.nodes ≡ old.nodes) where
   middle_is : state middle ≡ state old
   middle_is = λ i. record { entries = entries i; nodes = nodes i }
 
-  inserted_then : StepInStorage path back width (stored middle) (Insert q v) (Value None) (stored new)
-      → InsertsInStorage (state old) (path q) (storage middle) (storage new)
+  inserted_then : StepByPath width (stored middle) (Insert q v) (Value None) (stored new) → InsertsInStorage (state old) q (storage middle) (storage new)
   inserted_then step =
-      subst (λ s. InsertsInStorage s (path q) (storage middle) (storage new)) middle_is
-      (step.storage.1 None (ap (λ m. contains_key m (path q)) entries ∙ absent) refl)
+      subst (λ s. InsertsInStorage s q (storage middle) (storage new)) middle_is (step.storage.1 None (ap (λ m. contains_key m q) entries ∙ absent) refl)
 
   -- placing it is the step that it would have been before
-  pub readied_step : LeavesRoom (len old.nodes) old.room middle.room → ReadiesInStorage (state old) (path q) (storage old) (storage middle)
-      → new.entries ≡ with_entry middle.entries (path q) v → new.nodes ≡ with_needed middle.nodes (path q)
-      → StepInStorage path back width (stored middle) (Insert q v) (Value None) (stored new)
-      → StepInStorage path back width (stored old) (Insert q v) (Value None) (stored new)
+  pub readied_step : LeavesRoom (len old.nodes) old.room middle.room → ReadiesInStorage (state old) q (storage old) (storage middle)
+      → new.entries ≡ with_entry middle.entries q v → new.nodes ≡ with_needed middle.nodes q
+      → StepByPath width (stored middle) (Insert q v) (Value None) (stored new) → StepByPath width (stored old) (Insert q v) (Value None) (stored new)
   readied_step room readies entries2 nodes2 step =
-      let made = readied_inserts (state old) (path q) (storage old) (storage middle) readies (storage new) (inserted_then step) in
+      let made = readied_inserts (state old) q (storage old) (storage middle) readies (storage new) (inserted_then step) in
       let node_slots : new.room.node_slots ≡ middle.room.node_slots = made.node_slots ∙ sym readies.node_slots in
       let cell_slots : new.room.cell_slots ≡ middle.room.cell_slots = made.cell_slots ∙ sym readies.cell_slots in
+      let after = step.room in
       let grown : LeavesRoom (len old.nodes) old.room new.room = record {
-        same_limit = step.room.same_limit ∙ room.same_limit;
-        nodes_within = step.room.nodes_within;
-        cells_within = step.room.cells_within;
+        same_limit = after.same_limit ∙ room.same_limit;
+        nodes_within = after.nodes_within;
+        cells_within = after.cells_within;
         nodes_grow = subst (λ n. n ≤ old.room.node_slots + 56 * len old.nodes) (sym node_slots) room.nodes_grow;
         cells_grow = subst (λ n. n ≤ old.room.cell_slots + 56 * len old.nodes) (sym cell_slots) room.cells_grow;
       } in
-      placed_step path back width old new q absent grown
-      v (entries2 ∙ ap (λ m. with_entry m (path q) v) entries) (nodes2 ∙ ap (λ n. with_needed n (path q)) nodes) made
+      placed_step width old new q absent grown
+      v (entries2 ∙ ap (λ m. with_entry m q v) entries) (nodes2 ∙ ap (λ n. with_needed n q) nodes) made
 
 -- ---- once another value is written there
 
@@ -165,17 +157,17 @@ entry_only m n q v r is found =
     let both : Some r ≡ Some v = sym found ∙ ap (λ e. get e q) is ∙ there in
     cc
 
-module _ {P T : Type 0} (path : P → List Bool) (back : List Bool → P) (width : ℕ) (old new : Contents T) (q : P) (v : T) (x : Option T) where
-  rewritten : (w : T) → Step path back width (state old) (Insert q v) (Value x) (state new)
-      → Step path back width (state old) (Insert q w) (Value x) (state (with_value_at new (path q) w))
+module _ {T : Type 0} (width : ℕ) (old new : Contents T) (q : List Bool) (v : T) (x : Option T) where
+  rewritten : (w : T) → Step (λ k. k) (λ k. k) width (state old) (Insert q v) (Value x) (state new)
+      → Step (λ k. k) (λ k. k) width (state old) (Insert q w) (Value x) (state (with_value_at new q w))
   rewritten w (inl e) =
-      let entries = ap (λ s. with_entry s.entries (path q) w) e.1 ∙ entry_twice old.entries (path q) v w in
+      let entries = ap (λ s. with_entry s.entries q w) e.1 ∙ entry_twice old.entries q v w in
       inl (e.0, λ i. record { entries = entries i; nodes = (e.1 i).nodes })
   rewritten w (inr e) = absurd (value_not_refused x e.1 e.2)
 
   -- it is the insertion of that value
-  pub written_step : (w : T) → StepInStorage path back width (stored old) (Insert q v) (Value x) (stored new)
-      → StepInStorage path back width (stored old) (Insert q w) (Value x) (stored (with_value_at new (path q) w))
+  pub written_step : (w : T) → StepByPath width (stored old) (Insert q v) (Value x) (stored new)
+      → StepByPath width (stored old) (Insert q w) (Value x) (stored (with_value_at new q w))
   written_step w h = record {
     step = rewritten w h.step;
     room = h.room;

@@ -6,7 +6,6 @@ pub mod Covers
 pub mod Listed
 pub mod Marks
 pub mod MarksFall
-pub mod Reads
 pub mod Steps
 pub mod Whole
 pub mod Walks

@@ -10,7 +10,7 @@ ghost use Rattle.prefix_trie_bits.specs.Model.Blocks.{no_layout};
 ghost use Rattle.prefix_trie_bits.specs.Model.Entries.{no_entries, with_entry};
 ghost use Rattle.prefix_trie_bits.specs.Model.Nodes.{root_alone, with_needed};
 ghost use Rattle.prefix_trie_bits.specs.Model.Step.{Insert};
-ghost use Rattle.prefix_trie_bits.specs.Model.Storage.{StepInStorage};
+ghost use Rattle.prefix_trie_bits.specs.Model.Storage.{StepByPath};
 ghost use Rattle.prefix_trie_map.specs.Steps.{stored, inserted};
 ghost use Rattle.prefix_trie_map.specs.Whole.{IsWhole};
 
@@ -137,7 +137,7 @@ impl<P: Prefix, T: Drop, A: Allocator> PrefixMap<P, T, A> {
         // It is a step of the model, of the storage too. A stored key is never refused, and needs no block. A new one takes free blocks,
         // and of each size exactly the lacking ones are made. It is refused only where a block lacks: with `IndexRange` only where
         // the lacking ones pass the limit, and with `Memory` only where one that lacks still would not.
-        ensures step { StepInStorage P.path P.back P.R.bit_width (stored self.old) (Insert prefix value) (inserted result) (stored self.new) }
+        ensures step { StepByPath P.R.bit_width (stored self.old) (Insert (P.path prefix) value) (inserted result) (stored self.new) }
     {
         let (key, len) = parts(&prefix);
         self.table.insert(key, len, value, &mut Visits::new())

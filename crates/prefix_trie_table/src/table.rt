@@ -26,7 +26,7 @@ mod taking;
 pub mod trail;
 pub mod walk;
 
-ghost use Rattle.std.specs.Prelude.{◌≡◌, ◌+◌, ◌^◌, ◌<◌, ◌≤◌, cond, take, IfOk, IfErr, IsErr, ◌↔◌, MatchOption, None, Some};
+ghost use Rattle.std.specs.Prelude.{◌≡◌, ◌+◌, ◌^◌, ◌<◌, ◌≤◌, ℕ, cond, take, IfOk, IfErr, IsErr, ◌↔◌, MatchOption, None, Some};
 ghost use Rattle.std.specs.Option.{option_copied};
 ghost use Rattle.std.specs.FinMap.{get, len};
 ghost use Rattle.prefix_trie_bits.specs.Model.Asking.{MayAskInOrder};
@@ -38,7 +38,7 @@ ghost use Rattle.prefix_trie_bits.specs.Model.Selections.{listing, listing_from,
 ghost use Rattle.prefix_trie_bits.specs.Model.Visits.{visits, visits_to_match};
 ghost use Rattle.prefix_trie_bits.specs.Model.Blocks.{no_layout};
 ghost use Rattle.prefix_trie_bits.specs.Model.Step.{Insert, Remove, RemoveKeepTree, RemoveChildren, Clear, Done, Value};
-ghost use Rattle.prefix_trie_bits.specs.Model.Storage.{HaveBlocks, StepOfStrings, RetainsInStorage};
+ghost use Rattle.prefix_trie_bits.specs.Model.Storage.{HaveBlocks, StepByPath, RetainsInStorage};
 ghost use Rattle.prefix_trie_bits.specs.declared.prefix.Refusal.TheVariants.{IndexRange, Memory};
 ghost use Rattle.prefix_trie_table.specs.Layouts.{Sized, Sized-prop};
 ghost use Rattle.prefix_trie_table.specs.Shape.{Shaped, Shaped-prop, state, storage};
@@ -300,7 +300,7 @@ impl<T: Drop, A: Allocator, V: Tick> Table<T, A, V> {
         requires key { K.IsKey key }
         requires within { len ≤ K.bit_width }
         ensures returned { IfErr result (λ refused. refused.value ≡ value) }
-        ensures step { StepOfStrings (stored self.old) (Insert (take len (K.bits key)) value) (inserted result)
+        ensures step { (width : ℕ) → StepByPath width (stored self.old) (Insert (take len (K.bits key)) value) (inserted result)
             (stored self.new) }
     {
         insert_entry(
@@ -321,7 +321,7 @@ impl<T: Drop, A: Allocator, V: Tick> Table<T, A, V> {
     pub fn remove<K: Key>(&mut self, key: K, len: u32, counter: &mut V) -> Option<T>
         requires key { K.IsKey key }
         requires within { len ≤ K.bit_width }
-        ensures step { StepOfStrings (stored self.old) (Remove (take len (K.bits key))) (Value result)
+        ensures step { (width : ℕ) → StepByPath width (stored self.old) (Remove (take len (K.bits key))) (Value result)
             (stored self.new) }
     {
         remove_entry(
@@ -340,7 +340,7 @@ impl<T: Drop, A: Allocator, V: Tick> Table<T, A, V> {
     pub fn remove_keep_tree<K: Key>(&mut self, key: K, len: u32, counter: &mut V) -> Option<T>
         requires key { K.IsKey key }
         requires within { len ≤ K.bit_width }
-        ensures step { StepOfStrings (stored self.old) (RemoveKeepTree (take len (K.bits key))) (Value result)
+        ensures step { (width : ℕ) → StepByPath width (stored self.old) (RemoveKeepTree (take len (K.bits key))) (Value result)
             (stored self.new) }
     {
         remove_value(
@@ -362,7 +362,7 @@ impl<T: Drop, A: Allocator, V: Tick> Table<T, A, V> {
         requires long { len ≤ K.bit_width }
         requires within { AreWithin K.bit_width self.old.entries }
         requires nodes { AreNodes K.bit_width self.old.entries self.old.nodes }
-        ensures step { StepOfStrings (stored self.old) (RemoveChildren (take len (K.bits key))) Done
+        ensures step { (width : ℕ) → StepByPath width (stored self.old) (RemoveChildren (take len (K.bits key))) Done
             (stored self.new) }
         ensures settles { 0 < len → SettlesInStorage (storage self.old) (storage self.new) }
     {
@@ -409,7 +409,7 @@ impl<T: Drop, A: Allocator, V: Tick> Table<T, A, V> {
     /// Takes all entries out, and all nodes but the root. It asks for no memory.
     #[inline]
     pub fn clear(&mut self)
-        ensures step { StepOfStrings (stored self.old) Clear Done (stored self.new) }
+        ensures step { (width : ℕ) → StepByPath width (stored self.old) Clear Done (stored self.new) }
     {
         clear_entries(&mut self.nodes, &mut self.cells, &mut self.count);
     }

@@ -6,7 +6,7 @@ ghost use Rattle.prefix_trie_bits.specs.Model.Entries.{no_entries, without_entry
 ghost use Rattle.prefix_trie_bits.specs.Model.Nodes.{root_alone, needed, nodes_without, nodes_without_below};
 ghost use Rattle.prefix_trie_bits.specs.Model.Selections.{listing};
 ghost use Rattle.prefix_trie_bits.specs.Model.Step.{Remove, RemoveKeepTree, RemoveChildren, Clear, Done};
-ghost use Rattle.prefix_trie_bits.specs.Model.Storage.{StepInStorage, RetainsInStorage};
+ghost use Rattle.prefix_trie_bits.specs.Model.Storage.{StepByPath, RetainsInStorage};
 ghost use Rattle.prefix_trie_map.specs.Steps.{stored};
 ghost use Rattle.prefix_trie_map.specs.Whole.{IsWhole};
 ghost use Rattle.prefix_trie.specs.Sets.{taken_out, AsksKeyAt, TakesKeyAt};
@@ -33,7 +33,7 @@ impl<P: Prefix, A: Allocator> PrefixSet<P, A> {
         ensures nodes { self.new.nodes ≡ nodes_without self.old.nodes self.old.entries (P.path prefix.now) }
 
         // It is a step of the model, of the storage too: that of a map of units.
-        ensures step { StepInStorage P.path P.back P.R.bit_width (stored self.old) (Remove prefix.now) (taken_out result) (stored self.new) }
+        ensures step { StepByPath P.R.bit_width (stored self.old) (Remove (P.path prefix.now)) (taken_out result) (stored self.new) }
     {
         self.map.remove(prefix).is_some()
     }
@@ -54,7 +54,7 @@ impl<P: Prefix, A: Allocator> PrefixSet<P, A> {
         ensures nodes { self.new.nodes ≡ self.old.nodes }
 
         // It is a step of the model, of the storage too. The array of nodes is as it was.
-        ensures step { StepInStorage P.path P.back P.R.bit_width (stored self.old) (RemoveKeepTree prefix.now) (taken_out result) (stored self.new) }
+        ensures step { StepByPath P.R.bit_width (stored self.old) (RemoveKeepTree (P.path prefix.now)) (taken_out result) (stored self.new) }
     {
         self.map.remove_keep_tree(prefix).is_some()
     }
@@ -75,7 +75,7 @@ impl<P: Prefix, A: Allocator> PrefixSet<P, A> {
         ensures nodes { self.new.nodes ≡ nodes_without_below self.old.nodes self.old.entries (P.path prefix.now) }
 
         // It is a step of the model, of the storage too. No slots go, but at length 0.
-        ensures step { StepInStorage P.path P.back P.R.bit_width (stored self.old) (RemoveChildren prefix.now) Done (stored self.new) }
+        ensures step { StepByPath P.R.bit_width (stored self.old) (RemoveChildren (P.path prefix.now)) Done (stored self.new) }
     {
         self.map.drop_children(prefix);
     }
@@ -92,7 +92,7 @@ impl<P: Prefix, A: Allocator> PrefixSet<P, A> {
         ensures nodes { self.new.nodes ≡ root_alone }
 
         // It is a step of the model, of the storage too: the root has its slot, and no block is left.
-        ensures step { StepInStorage P.path P.back P.R.bit_width (stored self.old) Clear Done (stored self.new) }
+        ensures step { StepByPath P.R.bit_width (stored self.old) Clear Done (stored self.new) }
     {
         self.map.clear();
     }

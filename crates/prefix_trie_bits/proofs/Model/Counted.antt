@@ -1,11 +1,12 @@
 -- Runs with their counts.
-use Rattle.std.proofs.Common.{◌≡◌, ◌≢◌, ◌<◌, ◌≤◌, map, take, get_or, ℕ, ◌+◌, Bool, true, false, List, [], ◌∷◌, ◌++◌, length, Option, refl, sym, ap, ◌∙◌, subst, true≢false}
+use Rattle.std.proofs.Common.{◌≡◌, ◌≢◌, ◌<◌, ◌≤◌, map, take, get_or, ℕ, ◌+◌, Bool, true, false, List, [], ◌∷◌, ◌++◌, length, Option, None, Some, MatchOption, refl, sym, ap, ◌∙◌, subst, true≢false}
 use Rattle.std.proofs.lemmas.List.{take_more, map-append}
 use Rattle.std.proofs.lemmas.List.Elements.{All-head, All-tail, All-nil, All-cons}
 use Rattle.std.specs.List.{All}
 use Rattle.prefix_trie_bits.specs.Model.Step.{State, Call, Insert, Get, Lpm, Spm, Remove, RemoveKeepTree, RemoveChildren, RetainAtLeast, Clear, ListFrom, Children, Cover, CallFits, Reply, Step, Runs}
 use Rattle.prefix_trie_bits.specs.Model.Storage.{Storage, RunInStorage}
-use Rattle.prefix_trie_bits.specs.Model.Counted.{tidy_after, tidy_after_all, TidyIf, ReadsExactly, CountsReads, CountedStep, CountedFrom}
+use Rattle.prefix_trie_bits.specs.Model.Counted.{tidy_after, tidy_after_all, TidyIf, CountsReads, CountedStep, CountedFrom}
+use Rattle.prefix_trie_bits.specs.Model.Visits.{ReadsExactly}
 use Rattle.prefix_trie_bits.specs.Laws.Counted.{CountedLaws}
 use Rattle.prefix_trie_bits.specs.Laws.Steps.{IsMap}
 use Rattle.prefix_trie_bits.proofs.Model.Runs.{runs_join}
@@ -48,8 +49,10 @@ module _ {P T : Type 0} where
   still_known call other = refl
 
 -- two numbers that are both one
-alike : (q : List Bool) (n : ℕ) (read other : Option ℕ) → ReadsExactly q n read → ReadsExactly q n other → read ≡ other
-alike q n read other a b = a.0 ∙ sym b.0
+alike : (q : List Bool) (n : ℕ) (read other : Option ℕ) → MatchOption read ⊥ (ReadsExactly q n) → MatchOption other ⊥ (ReadsExactly q n) → read ≡ other
+alike q n None other a b = absurd a
+alike q n read None a b = absurd b
+alike q n (Some count) (Some again) a b = ap Some (a.exact ∙ sym b.exact)
 
 module _ {P T : Type 0} (path : P → List Bool) where
   reads_alike : (s : State T) (call : Call P T) (read other : Option ℕ) → CountsReads path s call read → CountsReads path s call other → read ≡ other

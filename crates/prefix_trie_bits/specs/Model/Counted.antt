@@ -1,10 +1,10 @@
 -- A run with its counts: how many nodes each lookup reads, and where the nodes are exactly those that the keys need.
--- The bound is from Eatherton, Dittia and Varghese's tree bitmap; the rest is this project's own.
-use Rattle.std.specs.Prelude.{◌≡◌, ℕ, ◌+◌, ◌/◌, ◌≤◌, Bool, true, false, List, [], ◌∷◌, Option, Some, None, length}
+-- This project's own.
+use Rattle.std.specs.Prelude.{◌≡◌, ℕ, Bool, true, false, List, [], ◌∷◌, Option, None, MatchOption}
 use Rattle.prefix_trie_bits.specs.Model.Nodes.{IsTidy}
 use Rattle.prefix_trie_bits.specs.Model.Step.{State, Call, Get, Lpm, Spm, RemoveKeepTree, RetainAtLeast, Clear, Reply}
 use Rattle.prefix_trie_bits.specs.Model.Storage.{Storage, StepInStorage}
-use Rattle.prefix_trie_bits.specs.Model.Visits.{visits, visits_to_match}
+use Rattle.prefix_trie_bits.specs.Model.Visits.{ReadsWay, ReadsToMatch}
 
 module _ {P T : Type 0} where
   -- whether a map is known to be tidy behind a call, where `tidy` says it before: not behind a removal that leaves all nodes, and always
@@ -25,16 +25,12 @@ module _ {T : Type 0} where
   abbrev pub TidyIf : Bool → State T → Type 0
   TidyIf tidy s = tidy ≡ true → IsTidy s.entries s.nodes
 
--- exactly n nodes are read, and at most one for each five bits of the question q, and one more
-abbrev pub ReadsExactly : List Bool → ℕ → Option ℕ → Type 0
-ReadsExactly q n read = (read ≡ Some n) × (n ≤ length q / 5 + 1)
-
 module _ {P T : Type 0} (path : P → List Bool) where
   -- how many nodes a lookup reads; no other call is counted
   abbrev pub CountsReads : State T → Call P T → Option ℕ → Type 0
-  CountsReads s (Get q) read = ReadsExactly (path q) (visits s.nodes (path q)) read
-  CountsReads s (Lpm q) read = ReadsExactly (path q) (visits s.nodes (path q)) read
-  CountsReads s (Spm q) read = ReadsExactly (path q) (visits_to_match s.entries s.nodes (path q)) read
+  CountsReads s (Get q) read = MatchOption read ⊥ (ReadsWay s.nodes (path q))
+  CountsReads s (Lpm q) read = MatchOption read ⊥ (ReadsWay s.nodes (path q))
+  CountsReads s (Spm q) read = MatchOption read ⊥ (ReadsToMatch s.entries s.nodes (path q))
   CountsReads s call read = read ≡ None
 
 module _ {P T : Type 0} (path : P → List Bool) (back : List Bool → P) (width : ℕ) where

@@ -1,11 +1,11 @@
 -- Handing out the entries whose keys a prefix begins, as a second map. This project's own.
-use Rattle.std.specs.Prelude.{◌≡◌, ◌⊎◌, ℕ, zero, suc, ◌+◌, ◌≤◌, ◌<◌, Bool, true, false, List, Option, None, Some, sum_by}
+use Rattle.std.specs.Prelude.{◌≡◌, ℕ, zero, suc, ◌+◌, ◌≤◌, Bool, true, false, List, Option, None, Some, sum_by}
 use Rattle.std.specs.FinMap.{get, keys}
 use Rattle.prefix_trie_bits.specs.Model.Blocks.{Sizes, no_layout, smallest_size, child_block_sizes, value_block_sizes, child_count, own_entries}
 use Rattle.prefix_trie_bits.specs.Model.Entries.{Entries, without_below, part_below}
 use Rattle.prefix_trie_bits.specs.Model.Nodes.{Nodes, has_node, needed, nodes_without_below}
 use Rattle.prefix_trie_bits.specs.Model.Step.{State, RemoveChildren, Done}
-use Rattle.prefix_trie_bits.specs.Model.Storage.{Storage, StepOfStrings}
+use Rattle.prefix_trie_bits.specs.Model.Storage.{Storage, StepByPath}
 
 module _ {T : Type 0} where
   -- the second map has the entries whose keys q begins, and the nodes that they need; the first is left as `remove_children` leaves it
@@ -62,4 +62,4 @@ module _ {T : Type 0} where
     pub same_limit : second.1.room.limit ≡ before.1.room.limit
     pub nodes_within : second.1.room.node_slots ≤ second.1.room.limit
     pub cells_within : second.1.room.cell_slots ≤ second.1.room.limit
-    pub drops : StepOfStrings before (RemoveChildren q) Done after
+    pub drops : (width : ℕ) → StepByPath width before (RemoveChildren q) Done after

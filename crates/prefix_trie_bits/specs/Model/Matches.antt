@@ -1,10 +1,10 @@
 -- The stored keys that begin a question, and the longest and the shortest of them.
 -- From the crate's documentation of `get_lpm`, `get_spm` and `cover`.
-use Rattle.std.specs.Prelude.{◌≡◌, ◌≤◌, Bool, true, List, [], ◌∷◌, length, Option, Some, None}
+use Rattle.std.specs.Prelude.{◌≡◌, ◌≤◌, Bool, true, List, [], ◌∷◌, length, filter, Option, Some, None}
 use Rattle.std.specs.FinMap.{get, contains_key}
 use Rattle.prefix_trie_bits.specs.Bits.{begins}
 use Rattle.prefix_trie_bits.specs.Model.Entries.{Entries}
-use Rattle.prefix_trie_bits.specs.Model.Selections.{listing_covering}
+use Rattle.prefix_trie_bits.specs.Model.Selections.{listing}
 
 module _ {X : Type 0} where
   -- the first item of a list, if there is one
@@ -19,9 +19,9 @@ module _ {X : Type 0} where
   last_item (x ∷ y ∷ xs) = last_item (y ∷ xs)
 
 module _ {T : Type 0} where
-  -- the pairs whose keys begin the question q, the shortest first
+  -- the pairs whose keys begin the question q, q's own among them, in listing order; so the shorter keys first
   abbrev pub covers : Entries T → List Bool → List (List Bool × T)
-  covers m q = listing_covering m q
+  covers m q = filter (λ e. begins e.0 q) (listing m)
 
   -- e is a pair of the map, and its key begins the question
   pub record IsMatch (m : Entries T) (q : List Bool) (e : List Bool × T) : Type 0 where

@@ -24,10 +24,6 @@ module _ {T : Type 0} where
   abbrev pub listing_below : Entries T → List Bool → List (List Bool × T)
   listing_below m q = filter (λ e. begins q e.0) (listing m)
 
-  -- the pairs whose keys begin q, q's own among them; so the shorter keys first
-  abbrev pub listing_covering : Entries T → List Bool → List (List Bool × T)
-  listing_covering m q = filter (λ e. begins e.0 q) (listing m)
-
   -- pairs as users see them: in place of each key the prefix rebuilt from it
   abbrev pub shown : {P : Type 0} → (List Bool → P) → List (List Bool × T) → List (P × T)
   shown back es = map (λ e. (back e.0, e.1)) es

@@ -123,9 +123,9 @@ module _ {P T : Type 0} (path : P → List Bool) (back : List Bool → P) (width
   RunInStorage = Runs StepInStorage
 
 module _ {T : Type 0} where
-  -- a step of a map whose keys are handed in as bit strings. No call that changes a map depends on the width
-  abbrev pub StepOfStrings : State T × Storage → Call (List Bool) T → Reply (List Bool) T → State T × Storage → Type 0
-  StepOfStrings s call reply t = (width : ℕ) → StepInStorage (λ q. q) (λ q. q) width s call reply t
+  -- a step by paths: calls are handed bit strings, and replies show them
+  abbrev pub StepByPath : ℕ → State T × Storage → Call (List Bool) T → Reply (List Bool) T → State T × Storage → Type 0
+  StepByPath = StepInStorage (λ q. q) (λ q. q)
 
   -- a step that asks the test f at each entry, in listing order, and keeps those at which it answers true, with the nodes that these
   -- need

@@ -1,6 +1,6 @@
 -- How many nodes a lookup reads, each counted once.
--- From Eatherton, Dittia and Varghese's tree bitmap; the exact number is this project's own.
-use Rattle.std.specs.Prelude.{ℕ, ◌&&◌, Bool, List, Option, Some, None, length, filter, nat_le}
+-- The bound is from Eatherton, Dittia and Varghese's tree bitmap; the exact number is this project's own.
+use Rattle.std.specs.Prelude.{◌≡◌, ℕ, ◌+◌, ◌/◌, ◌≤◌, ◌&&◌, Bool, List, Option, Some, None, length, filter, nat_le}
 use Rattle.std.specs.FinMap.{keys}
 use Rattle.prefix_trie_bits.specs.Bits.{begins}
 use Rattle.prefix_trie_bits.specs.Model.Entries.{Entries}
@@ -24,3 +24,16 @@ module _ {T : Type 0} where
   -- the number for a lookup that stops at the shortest match, as `get_spm`, `get_spm_prefix` and `is_covered` do
   abbrev pub visits_to_match : Entries T → Nodes → List Bool → ℕ
   visits_to_match m n q = visits_of_match n q (shortest_match m q)
+
+-- exactly n nodes were read, and at most one for each five bits of the question q, and one more
+pub record ReadsExactly (q : List Bool) (n count : ℕ) : Type 0 where
+  pub exact : count ≡ n
+  pub bound : count ≤ length q / 5 + 1
+
+-- each node on the way to q once
+abbrev pub ReadsWay : Nodes → List Bool → ℕ → Type 0
+ReadsWay n q count = ReadsExactly q (visits n q) count
+
+-- each of those down to that of the shortest match
+abbrev pub ReadsToMatch : {T : Type 0} → Entries T → Nodes → List Bool → ℕ → Type 0
+ReadsToMatch m n q count = ReadsExactly q (visits_to_match m n q) count

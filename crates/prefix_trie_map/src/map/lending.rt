@@ -6,7 +6,7 @@ ghost use Rattle.std.specs.FinMap.{get};
 ghost use Rattle.prefix_trie_bits.specs.Model.Matches.{longest_match, shown_match};
 ghost use Rattle.prefix_trie_bits.specs.Model.Visits.{visits};
 ghost use Rattle.prefix_trie_map.specs.Lending.{lends_entry_if, lends_longest_if, lent_beside};
-ghost use Rattle.prefix_trie_map.specs.Reads.{ReadsWay};
+ghost use Rattle.prefix_trie_bits.specs.Model.Visits.{ReadsWay};
 ghost use Rattle.prefix_trie_map.specs.Walks.{lent_item_mut};
 
 use crate::map::PrefixMap;

@@ -7,7 +7,7 @@ ghost use Rattle.std.specs.Prelude.{◌≡◌, ◌≤◌, take, IfSome};
 ghost use Rattle.std.specs.Option.{option_copied, option_map, is_some};
 ghost use Rattle.std.specs.FinMap.{get, contains_key};
 ghost use Rattle.prefix_trie_bits.specs.Model.Matches.{longest_match, shortest_match, shown_match};
-ghost use Rattle.prefix_trie_map.specs.Reads.{ReadsWay, ReadsToMatch};
+ghost use Rattle.prefix_trie_bits.specs.Model.Visits.{ReadsWay, ReadsToMatch};
 ghost use Rattle.prefix_trie_map.specs.Walks.{lent_item};
 
 use crate::map::PrefixMap;

@@ -7,7 +7,7 @@ ghost use Rattle.prefix_trie_bits.specs.Model.Insertion.{node_slots_lacking, cel
 ghost use Rattle.prefix_trie_bits.specs.Model.Nodes.{with_needed};
 ghost use Rattle.prefix_trie_bits.specs.Model.Room.{LeavesRoom};
 ghost use Rattle.prefix_trie_bits.specs.Model.Step.{Insert, RemoveKeepTree, Value, Refused as Refuses};
-ghost use Rattle.prefix_trie_bits.specs.Model.Storage.{ReadiesInStorage, StepInStorage};
+ghost use Rattle.prefix_trie_bits.specs.Model.Storage.{ReadiesInStorage, StepByPath};
 ghost use Rattle.prefix_trie_table.specs.Locations.{seat_of, IsWayEnd, IsLocation};
 ghost use Rattle.prefix_trie_map.specs.Steps.{state, storage, stored};
 ghost use Rattle.prefix_trie_map.specs.Whole.{IsWhole};
@@ -84,7 +84,7 @@ impl<P: Prefix, T: Drop, A: Allocator> PrefixMap<P, T, A> {
         ensures end { IsWayEnd self.new.build (P.path prefix.now) end }
         ensures room { LeavesRoom (len self.old.nodes) self.old.room self.new.room }
         ensures readies { OnOk result (ReadiesInStorage (state self.old) (P.path prefix.now) (storage self.old) (storage self.new)) }
-        ensures refuses { IfErr result (λ cause. (value : T) → StepInStorage P.path P.back P.R.bit_width (stored self.old) (Insert prefix.now value) (Refuses cause) (stored self.new)) }
+        ensures refuses { IfErr result (λ cause. (value : T) → StepByPath P.R.bit_width (stored self.old) (Insert (P.path prefix.now) value) (Refuses cause) (stored self.new)) }
     {
         let (key, len) = parts(prefix);
         self.table.make_room(key, len, end)
@@ -101,8 +101,8 @@ impl<P: Prefix, T: Drop, A: Allocator> PrefixMap<P, T, A> {
         ensures nodes { OnOk result (self.new.nodes ≡ with_needed self.old.nodes (P.path prefix.now)) }
         ensures unchanged { OnErr result ((self.new.entries ≡ self.old.entries) × (self.new.nodes ≡ self.old.nodes)) }
         ensures returned { IfErr result (λ refused. refused.value ≡ value) }
-        ensures step { OnOk result (StepInStorage P.path P.back P.R.bit_width (stored self.old) (Insert prefix.now value) (Value None) (stored self.new)) }
-        ensures refuses { IfErr result (λ refused. (other : T) → StepInStorage P.path P.back P.R.bit_width (stored self.old) (Insert prefix.now other) (Refuses refused.cause) (stored self.new)) }
+        ensures step { OnOk result (StepByPath P.R.bit_width (stored self.old) (Insert (P.path prefix.now) value) (Value None) (stored self.new)) }
+        ensures refuses { IfErr result (λ refused. (other : T) → StepByPath P.R.bit_width (stored self.old) (Insert (P.path prefix.now) other) (Refuses refused.cause) (stored self.new)) }
     {
         let (key, len) = parts(prefix);
         self.table.place(key, len, end, value)
@@ -119,7 +119,7 @@ impl<P: Prefix, T: Drop, A: Allocator> PrefixMap<P, T, A> {
         ensures seat { seat_of self.new.build (P.path prefix.now) ≡ Some result }
         ensures entries { self.new.entries ≡ with_entry self.old.entries (P.path prefix.now) value }
         ensures nodes { self.new.nodes ≡ with_needed self.old.nodes (P.path prefix.now) }
-        ensures step { StepInStorage P.path P.back P.R.bit_width (stored self.old) (Insert prefix.now value) (Value None) (stored self.new) }
+        ensures step { StepByPath P.R.bit_width (stored self.old) (Insert (P.path prefix.now) value) (Value None) (stored self.new) }
     {
         match self.place(prefix, end, value) {
             Ok(seat) => seat,
@@ -135,7 +135,7 @@ impl<P: Prefix, T: Drop, A: Allocator> PrefixMap<P, T, A> {
         ensures value { get self.old.entries (P.path prefix.now) ≡ Some result }
         ensures entries { self.new.entries ≡ without_entry self.old.entries (P.path prefix.now) }
         ensures nodes { self.new.nodes ≡ self.old.nodes }
-        ensures step { StepInStorage P.path P.back P.R.bit_width (stored self.old) (RemoveKeepTree prefix.now) (Value (Some result)) (stored self.new) }
+        ensures step { StepByPath P.R.bit_width (stored self.old) (RemoveKeepTree (P.path prefix.now)) (Value (Some result)) (stored self.new) }
     {
         match self.remove_keep_tree(prefix) {
             Some(value) => value,

@@ -4,7 +4,7 @@ use Rattle.std.specs.FinMap.{get, contains_key}
 use Rattle.prefix_trie_bits.specs.declared.prefix.Refused.{Refused}
 use Rattle.prefix_trie_bits.specs.declared.prefix.Refusal.TheVariants.{Memory, IndexRange}
 use Rattle.prefix_trie_bits.specs.Model.Step.{Insert}
-use Rattle.prefix_trie_bits.specs.Model.Storage.{InsertsInStorage, RefusesInStorage, StepOfStrings}
+use Rattle.prefix_trie_bits.specs.Model.Storage.{InsertsInStorage, RefusesInStorage, StepByPath}
 use Rattle.prefix_trie_table.specs.declared.allocator.node.Node.{Node}
 use Rattle.prefix_trie_table.specs.declared.table.seat.Seat.{Seat}
 use Rattle.prefix_trie_table.specs.declared.table.seat.WayEnd.{WayEnd}
@@ -76,18 +76,18 @@ module _ {T : Type 0} (b : List Bool) (len : ℕ) (x : T) (v v2 : Store Node) (w
   range_given (Ok seat) h = tt
   range_given (Err e) h = h
 
-  answered : (r : Result Seat (Refused T)) → StepOfStrings (s.0, storage_of v w sized) (Insert (take len b) x) (inserted (inserting r)) (t.0, storage_of v2 w2 later) →
-      StepOfStrings (s.0, storage_of v w sized) (Insert (take len b) x) (placed r) (t.0, storage_of v2 w2 later)
-  answered (Ok seat) h = h
-  answered (Err e) h = h
+  answered : (width : ℕ) (r : Result Seat (Refused T)) → StepByPath width (s.0, storage_of v w sized) (Insert (take len b) x) (inserted (inserting r)) (t.0, storage_of v2 w2 later) →
+      StepByPath width (s.0, storage_of v w sized) (Insert (take len b) x) (placed r) (t.0, storage_of v2 w2 later)
+  answered width (Ok seat) h = h
+  answered width (Err e) h = h
 
   pub placed_step : (r : Result Seat (Refused T)) → Leaves (take len b) x v v2 w w2 count count2 s is (inserting r) →
       ObtainsBoth (λ (e : Refused T). e.cause ≡ IndexRange) (λ (e : Refused T). e.cause ≡ Memory) r v v2 w w2 (nodes_needed v end.reached.node end.reached.level len)
       (cells_needed w end.reached.node end.reached.level len) → IfErr r (λ e. e.cause ≡ IndexRange → MayPass v w) → Grows v v2 56 → Grows w w2 31 →
-      StepOfStrings (s.0, storage_of v w sized) (Insert (take len b) x) (placed r) (t.0, storage_of v2 w2 later)
-  placed_step r leaves obtains range nodes cells = answered r (inserts_step v v2 w w2 count count2 s is sized t left later (take len b) x (inserting r) (record {
+      (width : ℕ) → StepByPath width (s.0, storage_of v w sized) (Insert (take len b) x) (placed r) (t.0, storage_of v2 w2 later)
+  placed_step r leaves obtains range nodes cells width = answered width r (inserts_step v v2 w w2 count count2 s is sized t left later (take len b) x (inserting r) (record {
     leaves = leaves;
     stays = λ there. absurd (true≢false (sym there ∙ absent));
     takes = λ new. taken r leaves obtains;
     range = range_given r range;
-  }) nodes cells)
+  }) nodes cells width)

@@ -7,7 +7,7 @@ use Rattle.prefix_trie_bits.specs.Model.Entries.{without_below, part_below}
 use Rattle.prefix_trie_bits.specs.Model.HandsOut.{IsPacked, HandsOutInStorage}
 use Rattle.prefix_trie_bits.specs.Model.Nodes.{needed, nodes_without_below}
 use Rattle.prefix_trie_bits.specs.Model.Step.{State, Reply, RemoveChildren, Clear, Done}
-use Rattle.prefix_trie_bits.specs.Model.Storage.{Storage, StepOfStrings}
+use Rattle.prefix_trie_bits.specs.Model.Storage.{Storage, StepByPath}
 use Rattle.prefix_trie_bits.proofs.Model.HandsOut.{handing_laws}
 use Rattle.prefix_trie_table.specs.declared.allocator.node.Node.{Node}
 use Rattle.prefix_trie_table.specs.Cells.{blank_node, node_sizes}
@@ -57,7 +57,7 @@ module _ {T : Type 0} where
 
   -- what is cleared after another step is as it would be without that
   pub clear_behind : (before between after : State T × Storage) → between.1.room.limit ≡ before.1.room.limit → 0 < before.1.room.node_slots →
-      StepOfStrings between Clear Done after → StepOfStrings before Clear Done after
+      ((width : ℕ) → StepByPath width between Clear Done after) → (width : ℕ) → StepByPath width before Clear Done after
   clear_behind before between after limit some h width = record {
     step = (h width).step;
     room = record {
@@ -74,7 +74,7 @@ module _ {T : Type 0} where
   }
 
   -- the second part, and the step that leaves the first
-  pub handed_out : (before second after : State T × Storage) (q : List Bool) → StepOfStrings before (RemoveChildren q) Done after →
+  pub handed_out : (before second after : State T × Storage) (q : List Bool) → ((width : ℕ) → StepByPath width before (RemoveChildren q) Done after) →
       second.0 ≡ record { entries = part_below before.0.entries q; nodes = needed (part_below before.0.entries q) } → IsPacked second.0 second.1 →
       second.1.room.limit ≡ before.1.room.limit → second.1.room.node_slots ≤ second.1.room.limit → second.1.room.cell_slots ≤ second.1.room.limit →
       HandsOutInStorage before q second after

@@ -10,7 +10,7 @@ use Rattle.prefix_trie_bits.specs.Model.Nodes.{has_node, is_node_depth, root_alo
 use Rattle.prefix_trie_bits.specs.Model.Room.{MayPassLimit, LeavesRoom}
 use Rattle.prefix_trie_bits.specs.Model.Selections.{listing}
 use Rattle.prefix_trie_bits.specs.Model.Step.{State, Reply, Step, Insert, Remove, RemoveKeepTree, RemoveChildren, Clear, Done, Value}
-use Rattle.prefix_trie_bits.specs.Model.Storage.{Storage, cleared, InsertsInStorage, RefusesInStorage, RemovesValueInStorage, PrunesInStorage, RemovesManyInStorage, LeavesStorage, StepOfStrings, RetainsInStorage}
+use Rattle.prefix_trie_bits.specs.Model.Storage.{Storage, cleared, InsertsInStorage, RefusesInStorage, RemovesValueInStorage, PrunesInStorage, RemovesManyInStorage, LeavesStorage, StepByPath, RetainsInStorage}
 use Rattle.prefix_trie_bits.proofs.Model.Members.{same_nodes}
 use Rattle.prefix_trie_table.specs.declared.allocator.node.Node.{Node}
 use Rattle.prefix_trie_table.specs.Digits.{path_of}
@@ -33,7 +33,7 @@ use Rattle.prefix_trie_table.proofs.Removal.Still.{nodes_settled, cells_settled,
 
 -- what the empty string begins is all
 pub all_step : {T : Type 0} (key_width : ℕ) (s t : State T × Storage) (q : List Bool) → length q ≡ 0 → AreNodes key_width s.0.entries s.0.nodes →
-    StepOfStrings s Clear Done t → StepOfStrings s (RemoveChildren q) Done t
+    ((width : ℕ) → StepByPath width s Clear Done t) → (width : ℕ) → StepByPath width s (RemoveChildren q) Done t
 all_step key_width s t [] none are h width = record {
   step = (refl, (h width).step.1 ∙ sym (λ i. record { entries = all_gone s.0.entries i; nodes = root_left key_width s.0.entries s.0.nodes are i }));
   room = (h width).room;
@@ -90,7 +90,7 @@ module _ {T : Type 0} (v v2 : Store Node) (w w2 : Store (Option T)) (count count
   module _ (q : List Bool) (value : Option T) (is_value : value ≡ get s.0.entries q) where
     pub removes_step : s2.0 ≡ record { entries = without_entry s.0.entries q; nodes = nodes_without s.0.nodes s.0.entries q } →
         RemovesValueInStorage s.0 s2.0 q (storage_of v w z) (storage_of v2 w2 z2) → PrunesInStorage s.0 s2.0 (storage_of v w z) (storage_of v2 w2 z2) →
-        Grows v v2 24 → Grows w w2 24 → StepOfStrings before (Remove q) (Value value) after
+        Grows v v2 24 → Grows w w2 24 → (width : ℕ) → StepByPath width before (Remove q) (Value value) after
     removes_step only removes prunes nodes cells width = record {
       step = (ap Value is_value, only);
       room = one_longer nodes cells;
@@ -100,7 +100,7 @@ module _ {T : Type 0} (v v2 : Store Node) (w w2 : Store (Option T)) (count count
 
     pub takes_step : s2.0 ≡ record { entries = without_entry s.0.entries q; nodes = s.0.nodes } →
         RemovesValueInStorage s.0 s2.0 q (storage_of v w z) (storage_of v2 w2 z2) → z2.0 ≡ z.0 → v2.tiers ≡ v.tiers →
-        Grows v v2 24 → length v2.slots ≡ length v.slots → Grows w w2 24 → StepOfStrings before (RemoveKeepTree q) (Value value) after
+        Grows v v2 24 → length v2.slots ≡ length v.slots → Grows w w2 24 → (width : ℕ) → StepByPath width before (RemoveKeepTree q) (Value value) after
     takes_step only removes children tiers nodes long cells width = record {
       step = (ap Value is_value, only);
       room = one_longer nodes cells;
@@ -151,7 +151,7 @@ module _ {T : Type 0} (v v2 : Store Node) (w w2 : Store (Option T)) (count count
 
     pub part_step : (q : List Bool) → 0 < length q →
         s2.0 ≡ record { entries = without_below s.0.entries q; nodes = nodes_without_below s.0.nodes s.0.entries q } →
-        StepOfStrings before (RemoveChildren q) Done after
+        (width : ℕ) → StepByPath width before (RemoveChildren q) Done after
     part_step q some only width = record {
       step = (refl, only);
       room = many_room;
@@ -162,7 +162,7 @@ module _ {T : Type 0} (v v2 : Store Node) (w w2 : Store (Option T)) (count count
   -- ---- all are
 
   pub clears_step : s2.0 ≡ record { entries = no_entries; nodes = root_alone } → storage_of v2 w2 z2 ≡ cleared (storage_of v w z) →
-      StepOfStrings before Clear Done after
+      (width : ℕ) → StepByPath width before Clear Done after
   clears_step only emptied width =
       let limit = ap (λ (x : Storage). x.room.limit) emptied in
       let nodes = ap (λ (x : Storage). x.room.node_slots) emptied in
@@ -234,7 +234,7 @@ module _ {T : Type 0} (v v2 : Store Node) (w w2 : Store (Option T)) (count count
       | inr cells ↦ inr (let same = is.one_limit in omega (arith, cells, same))
     ]
 
-    pub inserts_step : (r : Result (Option T) (Refused T)) → Inserts r → Grows v v2 56 → Grows w w2 31 → StepOfStrings before (Insert q x) (inserted r) after
+    pub inserts_step : (r : Result (Option T) (Refused T)) → Inserts r → Grows v v2 56 → Grows w w2 31 → (width : ℕ) → StepByPath width before (Insert q x) (inserted r) after
     inserts_step r h nodes cells width = record {
       step = model_step width r h;
       room = longer_room nodes cells;

@@ -1,10 +1,10 @@
 //! Calls that go down once: one says where a value stands or would stand, and the others take that.
-ghost use Rattle.std.specs.Prelude.{◌≡◌, ◌+◌, ◌≤◌, take, false, IfOk, IfErr, MatchResult, Some};
+ghost use Rattle.std.specs.Prelude.{◌≡◌, ◌+◌, ◌≤◌, ℕ, take, false, IfOk, IfErr, MatchResult, Some};
 ghost use Rattle.std.specs.Borrow.{sem};
 ghost use Rattle.std.specs.FinMap.{get, contains_key, len as number_of};
 ghost use Rattle.prefix_trie_bits.specs.Model.Room.{MayPassLimit, LeavesRoom};
 ghost use Rattle.prefix_trie_bits.specs.Model.Step.{Insert};
-ghost use Rattle.prefix_trie_bits.specs.Model.Storage.{ReadiesInStorage, RefusesInStorage, StepOfStrings};
+ghost use Rattle.prefix_trie_bits.specs.Model.Storage.{ReadiesInStorage, RefusesInStorage, StepByPath};
 ghost use Rattle.prefix_trie_bits.specs.Model.Visits.{visits};
 ghost use Rattle.prefix_trie_bits.specs.declared.prefix.Refusal.TheVariants.{IndexRange};
 ghost use Rattle.prefix_trie_table.specs.Locations.{seat_of, IsWayEnd, IsLocation};
@@ -110,7 +110,7 @@ impl<T: Drop, A: Allocator, V: Tick> Table<T, A, V> {
         ensures seat { IfOk result
             (λ seat. seat_of self.new.build (take len (K.bits key)) ≡ Some seat) }
         ensures returned { IfErr result (λ refused. refused.value ≡ value) }
-        ensures step { StepOfStrings (stored self.old) (Insert (take len (K.bits key)) value) (placed result)
+        ensures step { (width : ℕ) → StepByPath width (stored self.old) (Insert (take len (K.bits key)) value) (placed result)
             (stored self.new) }
     {
         place_entry(

@@ -15,7 +15,7 @@ use Rattle.std.specs.contracts.option.Option as option
 use Rattle.prefix_trie_bits.specs.Model.Matches.{longest_match, shown_match}
 use Rattle.prefix_trie_bits.specs.Model.Visits.{visits as nodes_read}
 use Rattle.prefix_trie_map.specs.Lending.{lends_longest_if, lent_beside}
-use Rattle.prefix_trie_map.specs.Reads.{ReadsWay}
+use Rattle.prefix_trie_bits.specs.Model.Visits.{ReadsWay}
 use Rattle.prefix_trie_map.specs.Walks.{lent_item_mut}
 use Rattle.std.specs.Option.{option_map}
 use Rattle.prefix_trie_map.specs.contracts.map.PrefixMap as map

@@ -10,7 +10,7 @@ use Rattle.std.specs.FinMap.{get as lookup}
 use Rattle.std.specs.Option.{option_copied_mut}
 use Rattle.prefix_trie_bits.specs.Model.Visits.{visits as nodes_read}
 use Rattle.prefix_trie_map.specs.Lending.{lends_entry_if}
-use Rattle.prefix_trie_map.specs.Reads.{ReadsWay}
+use Rattle.prefix_trie_bits.specs.Model.Visits.{ReadsWay}
 use Rattle.prefix_trie_map.specs.contracts.map.PrefixMap as map
 use Rattle.prefix_trie_map.specs.contracts.map.visits.Visits as visits
 use Rattle.prefix_trie_map.specs.contracts.map.PrefixMap.get_mut_counted as f

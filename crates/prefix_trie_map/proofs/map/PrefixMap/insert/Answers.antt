@@ -1,25 +1,23 @@
 use Rattle.prefix_trie_bits.specs.Model.Step.{Insert}
-use Rattle.prefix_trie_bits.specs.Model.Storage.{StepOfStrings}
+use Rattle.prefix_trie_bits.specs.Model.Storage.{StepByPath}
 use Rattle.prefix_trie_map.specs.Steps.{state, stored, inserted}
 use Rattle.prefix_trie_map.proofs.Insertions.{Inserts, inserts_are}
-use Rattle.prefix_trie_map.proofs.Steps.{insert_step, inserted_is, by_key, is_map, stays}
+use Rattle.prefix_trie_map.proofs.Steps.{by_key, is_map, stays}
 use Rattle.prefix_trie_map.proofs.map.PrefixMap.insert.Given as given
 use Rattle.prefix_trie_map.proofs.map.PrefixMap.insert.Goals as goal
 
 pub returns-clause-step : goal.returns-clause-step
 returns-clause-step g c =
-    insert_step g.P.Prefix.path g.P.Prefix.back g.P.R.Key.bit_width _ _ (inserted_is _ _ c.insert.result) (inserted_is _ _ c.insert.result) c.args.prefix c.args.value
-    (by_key (λ old k. StepOfStrings (stored old) (Insert k c.args.value) (inserted c.insert.result) (stored c.insert.new.self)) c.self.view_is c.parts-key.ensures.path
-    c.insert.ensures.step)
+    by_key (λ old k. StepByPath g.P.R.Key.bit_width (stored old) (Insert k c.args.value) (inserted c.insert.result) (stored c.insert.new.self)) c.self.view_is c.parts-key.ensures.path
+    (c.insert.ensures.step g.P.R.Key.bit_width)
 
 inserts : (g : given.Over) (c : goal.After-drop-prefix g) → Inserts (state c.args.self.now) (state c.insert.new.self) (g.P.Prefix.path c.args.prefix) c.args.value c.insert.result
 inserts g c =
-    inserts_are g.P.Prefix.path g.P.Prefix.back g.P.R.Key.bit_width (state c.args.self.now) (state c.insert.new.self) c.args.prefix c.args.value
+    inserts_are (state c.args.self.now) (state c.insert.new.self) (g.P.Prefix.path c.args.prefix) c.args.value
     (is_map c.self.view_is c.self.invariant).are_nodes c.insert.result (returns-clause-step g c).step
 
 pub invariant_of-self : goal.invariant_of-self
-invariant_of-self g c =
-    stays g.P.Prefix.path g.P.Prefix.back g.P.R.Key.bit_width c.self.view_is c.self.invariant c.parts-key.ensures.short (returns-clause-step g c)
+invariant_of-self g c = stays c.self.view_is c.self.invariant c.parts-key.ensures.short (returns-clause-step g c)
 
 pub returns-clause-before : goal.returns-clause-before
 returns-clause-before g c = (inserts g c).before

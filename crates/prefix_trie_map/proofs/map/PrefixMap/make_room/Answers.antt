@@ -36,11 +36,11 @@ returns-clause-end g c = subst (λ q. IsWayEnd c.make_room.new.self.build q c.ar
 
 pub returns-clause-readies : goal.returns-clause-readies
 returns-clause-readies g c =
-    room_readied g.P.Prefix.path g.P.Prefix.back g.P.R.Key.bit_width (λ cause. cause) c.args.self.now c.make_room.new.self c.args.prefix.now c.make_room.result (leaves g c)
+    room_readied g.P.R.Key.bit_width (λ cause. cause) c.args.self.now c.make_room.new.self (g.P.Prefix.path c.args.prefix.now) c.make_room.result (leaves g c)
 
 pub returns-clause-refuses : goal.returns-clause-refuses
 returns-clause-refuses g c =
-    room_refused g.P.Prefix.path g.P.Prefix.back g.P.R.Key.bit_width (λ cause. cause) c.args.self.now c.make_room.new.self c.args.prefix.now c.make_room.result c.requires.absent
+    room_refused g.P.R.Key.bit_width (λ cause. cause) c.args.self.now c.make_room.new.self (g.P.Prefix.path c.args.prefix.now) c.make_room.result c.requires.absent
     (returns-clause-room g c)
     (by_path g c (λ old q. (c.make_room.new.self.entries ≡ old.entries) × (c.make_room.new.self.nodes ≡ old.nodes)) c.make_room.ensures.unchanged)
     (leaves g c)

@@ -1,11 +1,11 @@
 use Rattle.std.proofs.Common.{◌≡◌, Some, IfOk, sym, subst}
 use Rattle.prefix_trie_bits.specs.Model.Step.{Insert}
-use Rattle.prefix_trie_bits.specs.Model.Storage.{StepInStorage, StepOfStrings}
+use Rattle.prefix_trie_bits.specs.Model.Storage.{StepByPath}
 use Rattle.prefix_trie_table.specs.Locations.{seat_of, IsWayEnd}
 use Rattle.prefix_trie_table.specs.Shape.{Contents}
 use Rattle.prefix_trie_map.specs.Steps.{stored, placed}
 use Rattle.prefix_trie_map.proofs.Placing.{Places, places}
-use Rattle.prefix_trie_map.proofs.Steps.{insert_step, placed_is, by_key, is_map, stays}
+use Rattle.prefix_trie_map.proofs.Steps.{by_key, is_map, stays}
 use Rattle.prefix_trie_map.proofs.map.PrefixMap.place.Given as given
 use Rattle.prefix_trie_map.proofs.map.PrefixMap.place.Goals as goal
 
@@ -13,23 +13,20 @@ pub place-requires-clause-end : goal.place-requires-clause-end
 place-requires-clause-end g c =
     by_key (λ (m : Contents g.row.T.Denot) q. IsWayEnd m.build q c.args.end) (sym c.self.view_is) (sym c.parts-key.ensures.path) c.requires.end
 
-step : (g : given.Over) (c : goal.After-place g) → StepInStorage g.P.Prefix.path g.P.Prefix.back g.P.R.Key.bit_width (stored c.args.self.now)
-    (Insert c.args.prefix.now c.args.value) (placed c.place.result) (stored c.place.new.self)
+step : (g : given.Over) (c : goal.After-place g) → StepByPath g.P.R.Key.bit_width (stored c.args.self.now) (Insert (g.P.Prefix.path c.args.prefix.now) c.args.value)
+    (placed c.place.result) (stored c.place.new.self)
 step g c =
-    insert_step g.P.Prefix.path g.P.Prefix.back g.P.R.Key.bit_width _ _ (placed_is _ _ c.place.result) (placed_is _ _ c.place.result) c.args.prefix.now c.args.value
-    (by_key (λ old k. StepOfStrings (stored old) (Insert k c.args.value) (placed c.place.result) (stored c.place.new.self)) c.self.view_is c.parts-key.ensures.path
-    c.place.ensures.step)
+    by_key (λ old k. StepByPath g.P.R.Key.bit_width (stored old) (Insert k c.args.value) (placed c.place.result) (stored c.place.new.self)) c.self.view_is c.parts-key.ensures.path
+    (c.place.ensures.step g.P.R.Key.bit_width)
 
 -- what it says of the map
-left : (g : given.Over) (c : goal.After-place g) → Places g.P.Prefix.path g.P.Prefix.back g.P.R.Key.bit_width c.args.self.now c.place.new.self c.args.prefix.now c.args.value
-    c.requires.absent c.place.result
+left : (g : given.Over) (c : goal.After-place g) → Places g.P.R.Key.bit_width c.args.self.now c.place.new.self (g.P.Prefix.path c.args.prefix.now) c.args.value c.place.result
 left g c =
-    places g.P.Prefix.path g.P.Prefix.back g.P.R.Key.bit_width c.args.self.now c.place.new.self c.args.prefix.now c.args.value c.requires.absent c.place.result
+    places g.P.R.Key.bit_width c.args.self.now c.place.new.self (g.P.Prefix.path c.args.prefix.now) c.args.value c.place.result
     (is_map c.self.view_is c.self.invariant).are_nodes (step g c)
 
 pub invariant_of-self : goal.invariant_of-self
-invariant_of-self g c =
-    stays g.P.Prefix.path g.P.Prefix.back g.P.R.Key.bit_width c.self.view_is c.self.invariant c.parts-key.ensures.short (step g c)
+invariant_of-self g c = stays c.self.view_is c.self.invariant c.parts-key.ensures.short (step g c)
 
 pub returns-clause-seat : goal.returns-clause-seat
 returns-clause-seat g c =

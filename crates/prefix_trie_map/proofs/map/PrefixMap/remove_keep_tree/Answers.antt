@@ -1,19 +1,19 @@
 use Rattle.std.proofs.Common.{ap}
-use Rattle.prefix_trie_bits.specs.Model.Step.{State}
-use Rattle.prefix_trie_map.proofs.Steps.{taken_step, stays, value_in}
+use Rattle.prefix_trie_bits.specs.Model.Step.{State, RemoveKeepTree, Value}
+use Rattle.prefix_trie_bits.specs.Model.Storage.{StepByPath}
+use Rattle.prefix_trie_map.specs.Steps.{stored}
+use Rattle.prefix_trie_map.proofs.Steps.{by_key, one_value, stays}
 use Rattle.prefix_trie_map.proofs.map.PrefixMap.remove_keep_tree.Goals as goal
 
 pub returns-clause-step : goal.returns-clause-step
 returns-clause-step g c =
-    taken_step g.P.Prefix.path g.P.Prefix.back g.P.R.Key.bit_width c.args.prefix.now c.self.view_is c.parts-key.ensures.path c.remove_keep_tree.ensures.step
+    by_key (λ old k. StepByPath g.P.R.Key.bit_width (stored old) (RemoveKeepTree k) (Value c.remove_keep_tree.result) (stored c.remove_keep_tree.new.self)) c.self.view_is c.parts-key.ensures.path (c.remove_keep_tree.ensures.step g.P.R.Key.bit_width)
 
 pub invariant_of-self : goal.invariant_of-self
-invariant_of-self g c =
-    stays g.P.Prefix.path g.P.Prefix.back g.P.R.Key.bit_width c.self.view_is c.self.invariant c.parts-key.ensures.short
-    (returns-clause-step g c)
+invariant_of-self g c = stays c.self.view_is c.self.invariant c.parts-key.ensures.short (returns-clause-step g c)
 
 pub returns-clause-value : goal.returns-clause-value
-returns-clause-value g c = ap value_in (returns-clause-step g c).step.0
+returns-clause-value g c = one_value _ _ (returns-clause-step g c).step.0
 
 pub returns-clause-entries : goal.returns-clause-entries
 returns-clause-entries g c = ap (λ (s : State g.row.T.Denot). s.entries) (returns-clause-step g c).step.1

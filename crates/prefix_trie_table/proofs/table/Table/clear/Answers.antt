@@ -1,6 +1,6 @@
-use Rattle.std.proofs.Common.{[], ◌∷◌, Option, length, ap, sym, subst, arith}
+use Rattle.std.proofs.Common.{ℕ, [], ◌∷◌, Option, length, ap, sym, subst, arith}
 use Rattle.prefix_trie_bits.specs.Model.Step.{Clear, Done}
-use Rattle.prefix_trie_bits.specs.Model.Storage.{StepOfStrings}
+use Rattle.prefix_trie_bits.specs.Model.Storage.{StepByPath}
 use Rattle.prefix_trie_table.specs.Shape.{Contents}
 use Rattle.prefix_trie_table.specs.Steps.{stored}
 use Rattle.prefix_trie_table.specs.Tables.{IsTable}
@@ -47,7 +47,7 @@ returns g c =
     let layout = root_layout v2 w2 (new_holds v2 w2 c.self.inside.nodes.limit e.nodes e.nodes_sound cells e.cells_sound)
     (ap (λ (x : Store Node). x.tiers) e.nodes) (ap (λ (x : Store (Option g.row.T.Denot)). x.tiers) e.cells) z2 in
     record {
-      step = subst (λ (m : Contents g.row.T.Denot). StepOfStrings (stored m) Clear Done (s2.0, storage_of v2 w2 z2)) c.self.view_is
+      step = subst (λ (m : Contents g.row.T.Denot). (width : ℕ) → StepByPath width (stored m) Clear Done (s2.0, storage_of v2 w2 z2)) c.self.view_is
           (clears_step c.self.inside.nodes v2 c.self.inside.cells w2 _ _ c.self.inside.shape is c.self.inside.sizes s2 (invariant_of-self g c) z2
           (new_only v2 w2 c.self.inside.nodes.limit e.nodes e.nodes_sound cells e.cells_sound s2)
           (λ i. record {

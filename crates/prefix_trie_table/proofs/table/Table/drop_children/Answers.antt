@@ -1,8 +1,8 @@
-use Rattle.std.proofs.Common.{◌≡◌, length, take, refl, sym, ◌∙◌, subst, arith, length-take-le}
+use Rattle.std.proofs.Common.{◌≡◌, ℕ, length, take, refl, sym, ◌∙◌, subst, arith, length-take-le}
 use Rattle.prefix_trie_bits.specs.Model.Entries.{without_below}
 use Rattle.prefix_trie_bits.specs.Model.Nodes.{nodes_without_below}
 use Rattle.prefix_trie_bits.specs.Model.Step.{State, RemoveChildren, Done}
-use Rattle.prefix_trie_bits.specs.Model.Storage.{StepOfStrings}
+use Rattle.prefix_trie_bits.specs.Model.Storage.{StepByPath}
 use Rattle.prefix_trie_table.specs.Shape.{Contents, storage, same_shape}
 use Rattle.prefix_trie_table.specs.Steps.{stored, SettlesInStorage}
 use Rattle.prefix_trie_table.specs.Tables.{IsTable, IsTrie}
@@ -55,7 +55,7 @@ returns-clause-step g c =
     let q = take c.args.len (g.K.Key.bits c.args.key) in
     let z2 = c.self-1.given.1.0 in
     let long : length q ≡ c.args.len = length-take-le c.args.len (g.K.Key.bits c.args.key) (omega (arith, g.met.K.Key.key_laws.bits_length c.args.key c.requires.key, c.requires.long)) in
-    subst (λ (m : Contents g.row.T.Denot). StepOfStrings (stored m) (RemoveChildren q) Done
+    subst (λ (m : Contents g.row.T.Denot). (width : ℕ) → StepByPath width (stored m) (RemoveChildren q) Done
     (c.self-1.given.0.0, storage_of c.remove_part.new.nodes c.remove_part.new.cells z2)) c.self.view_is
     (part_step c.self.inside.nodes c.remove_part.new.nodes c.self.inside.cells c.remove_part.new.cells _ _ c.self.inside.shape c.self.invariant
     c.self.inside.sizes c.self-1.given.0 (invariant_of-self g c) z2 c.remove_part.ensures.lasts q (omega (arith, long, c.if-len-eq0.false)) (same g c))

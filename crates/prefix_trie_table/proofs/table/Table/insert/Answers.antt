@@ -1,6 +1,6 @@
-use Rattle.std.proofs.Common.{◌≡◌, is_some, take, sym, ap, ◌∙◌, subst}
+use Rattle.std.proofs.Common.{◌≡◌, ℕ, is_some, take, sym, ap, ◌∙◌, subst}
 use Rattle.prefix_trie_bits.specs.Model.Step.{Insert}
-use Rattle.prefix_trie_bits.specs.Model.Storage.{StepOfStrings}
+use Rattle.prefix_trie_bits.specs.Model.Storage.{StepByPath}
 use Rattle.prefix_trie_bits.specs.declared.prefix.Refusal.TheVariants.{Memory, IndexRange}
 use Rattle.prefix_trie_bits.specs.declared.prefix.Refused.{Refused}
 use Rattle.prefix_trie_table.specs.Shape.{Contents}
@@ -54,7 +54,7 @@ returns-clause-step g c =
     let left = invariant_of-self g c in
     let t = some_table is in
     let r = c.insert_entry.result in
-    subst (λ (m : Contents g.row.T.Denot). StepOfStrings (stored m) (Insert q c.args.value) (inserted r) (s2.0, storage_of v2 w2 z2)) c.self.view_is
+    subst (λ (m : Contents g.row.T.Denot). (width : ℕ) → StepByPath width (stored m) (Insert q c.args.value) (inserted r) (s2.0, storage_of v2 w2 z2)) c.self.view_is
     (inserts_step v v2 w w2 _ _ s is z s2 left z2 q c.args.value r (record {
       leaves = e.inserted;
       stays = λ there. e.stored t.reading t.paths t.values t.holds

@@ -1,7 +1,7 @@
-use Rattle.std.proofs.Common.{◌≤◌, length, take, ap, ◌∙◌, subst, arith}
+use Rattle.std.proofs.Common.{◌≤◌, ℕ, length, take, ap, ◌∙◌, subst, arith}
 use Rattle.std.specs.FinMap.{contains_key}
 use Rattle.prefix_trie_bits.specs.Model.Step.{Insert}
-use Rattle.prefix_trie_bits.specs.Model.Storage.{StepOfStrings}
+use Rattle.prefix_trie_bits.specs.Model.Storage.{StepByPath}
 use Rattle.prefix_trie_table.specs.Shape.{Contents}
 use Rattle.prefix_trie_table.specs.Steps.{stored, placed}
 use Rattle.prefix_trie_table.proofs.Tree.Invariant.{some_table, some_counted}
@@ -68,7 +68,7 @@ returns-clause-step g c =
     let at = end_reached i.nodes i.cells i.count i.shape c.self.invariant b c.args.len long c.args.end _
     (ap (λ (s : Contents g.row.T.Denot). s.build) c.self.view_is) c.requires.end in
     let absent = ap (λ (s : Contents g.row.T.Denot). contains_key s.entries q) c.self.view_is ∙ c.requires.absent in
-    subst (λ (s : Contents g.row.T.Denot). StepOfStrings (stored s) (Insert q c.args.value) (placed p.result)
+    subst (λ (s : Contents g.row.T.Denot). (width : ℕ) → StepByPath width (stored s) (Insert q c.args.value) (placed p.result)
     (c.self-1.given.0.0, storage_of p.new.nodes p.new.cells c.self-1.given.1.0)) c.self.view_is
     (placed_step b c.args.len c.args.value i.nodes p.new.nodes i.cells p.new.cells i.count p.new.entries i.shape c.self.invariant c.self-1.given.0
     (invariant_of-self g c) i.sizes c.self-1.given.1.0 c.args.end at absent p.result

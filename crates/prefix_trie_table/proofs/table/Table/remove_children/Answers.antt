@@ -1,9 +1,9 @@
-use Rattle.std.proofs.Common.{◌≡◌, ◌<◌, length, take, refl, sym, ap, ap₂, ◌∙◌, subst, arith, length-take-le}
+use Rattle.std.proofs.Common.{◌≡◌, ◌<◌, ℕ, length, take, refl, sym, ap, ap₂, ◌∙◌, subst, arith, length-take-le}
 use Rattle.prefix_trie_bits.specs.Model.Entries.{part_below}
 use Rattle.prefix_trie_bits.specs.Model.HandsOut.{IsPacked}
 use Rattle.prefix_trie_bits.specs.Model.Nodes.{needed}
 use Rattle.prefix_trie_bits.specs.Model.Step.{State, RemoveChildren, Done}
-use Rattle.prefix_trie_bits.specs.Model.Storage.{StepOfStrings}
+use Rattle.prefix_trie_bits.specs.Model.Storage.{StepByPath}
 use Rattle.prefix_trie_table.specs.Layouts.{Sized-prop}
 use Rattle.prefix_trie_table.specs.Shape.{Contents, Shaped-prop, storage}
 use Rattle.prefix_trie_table.specs.Steps.{stored, SettlesInStorage}
@@ -80,17 +80,17 @@ returns-clause-handed g c =
     let handed = c.move_part-nodes.ensures.moved i.shape.0 trie in
     let lasts = c.move_part-nodes.ensures.lasts in
     let long : length q ≡ c.args.len = length-take-le c.args.len (g.K.Key.bits c.args.key) (omega (arith, g.met.K.Key.key_laws.bits_length c.args.key c.requires.key, c.requires.long)) in
-    let step : StepOfStrings (stored now) (RemoveChildren q) Done (stored c.if-len-eq0.self) = elim c.if-len-eq0.branch [
+    let step : (width : ℕ) → StepByPath width (stored now) (RemoveChildren q) Done (stored c.if-len-eq0.self) = elim c.if-len-eq0.branch [
       | then-len-eq0 w ↦
-          subst (λ (m : Contents g.row.T.Denot). StepOfStrings (stored now) (RemoveChildren q) Done (stored m)) (sym w.self-is)
+          subst (λ (m : Contents g.row.T.Denot). (width : ℕ) → StepByPath width (stored now) (RemoveChildren q) Done (stored m)) (sym w.self-is)
           (all_step g.K.Key.bit_width (stored now) (stored w.clear.new.self) q (long ∙ w.if-len-eq0.true) c.requires.nodes
           (clear_behind (stored now) (c.self-2-1.given.0.0, storage_of new.nodes new.cells c.self-2-1.given.1.0) (stored w.clear.new.self)
           (lasts.node_limit ∙ ap (λ (m : Contents g.row.T.Denot). m.room.limit) c.self.view_is)
           (subst (λ (m : Contents g.row.T.Denot). 0 < m.room.node_slots) c.self.view_is (root_slot c.self.invariant))
           w.clear.ensures.step))
       | else-len-eq0 w ↦
-          subst (λ (m : Contents g.row.T.Denot). StepOfStrings (stored now) (RemoveChildren q) Done (stored m)) (sym w.self-is)
-          (subst (λ (m : Contents g.row.T.Denot). StepOfStrings (stored m) (RemoveChildren q) Done (c.self-2-1.given.0.0, storage_of new.nodes new.cells c.self-2-1.given.1.0)) c.self.view_is
+          subst (λ (m : Contents g.row.T.Denot). (width : ℕ) → StepByPath width (stored now) (RemoveChildren q) Done (stored m)) (sym w.self-is)
+          (subst (λ (m : Contents g.row.T.Denot). (width : ℕ) → StepByPath width (stored m) (RemoveChildren q) Done (c.self-2-1.given.0.0, storage_of new.nodes new.cells c.self-2-1.given.1.0)) c.self.view_is
           (part_step i.nodes new.nodes i.cells new.cells _ _ i.shape c.self.invariant i.sizes c.self-2-1.given.0 (table_seen left c.self-2-1.given.0) c.self-2-1.given.1.0
           lasts q (omega (arith, long, w.if-len-eq0.false)) (shape_seen left c.self-2-1.given.0)))
     ] in

@@ -1,6 +1,6 @@
-use Rattle.std.proofs.Common.{take, Option, subst}
+use Rattle.std.proofs.Common.{ℕ, take, Option, subst}
 use Rattle.prefix_trie_bits.specs.Model.Step.{RemoveKeepTree, Value}
-use Rattle.prefix_trie_bits.specs.Model.Storage.{StepOfStrings}
+use Rattle.prefix_trie_bits.specs.Model.Storage.{StepByPath}
 use Rattle.prefix_trie_table.specs.Shape.{Contents}
 use Rattle.prefix_trie_table.specs.Steps.{stored}
 use Rattle.prefix_trie_table.proofs.Tree.Invariant.{some_table, some_counted}
@@ -43,7 +43,7 @@ returns g c =
     let gone : Option g.row.T.Denot = c.remove_value.result in
     let out = kept_without q v v2 w w2 _ _ s is gone e.value e.counted e.taken in
     record {
-      step = subst (λ (m : Contents g.row.T.Denot). StepOfStrings (stored m) (RemoveKeepTree q) (Value gone) (s2.0, storage_of v2 w2 z2)) c.self.view_is
+      step = subst (λ (m : Contents g.row.T.Denot). (width : ℕ) → StepByPath width (stored m) (RemoveKeepTree q) (Value gone) (s2.0, storage_of v2 w2 z2)) c.self.view_is
           (takes_step v v2 w w2 _ _ s is z s2 left z2 q gone out.was (out.only s2)
           (kept_in q v v2 w w2 _ s z is s2 z2 e.taken e.node_room.0 e.node_tiers (some_table left))
           (kept_children q v v2 w w2 _ s z is s2 z2 e.taken e.node_room.0 e.node_tiers) e.node_tiers

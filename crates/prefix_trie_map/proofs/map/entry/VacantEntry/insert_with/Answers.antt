@@ -46,7 +46,7 @@ returns g c =
     let readies = subst (λ y. ReadiesInStorage (state old) (path y) (storage old) (storage middle)) (c.prefix.ensures.value ∙ sym is) made.readies in
     let entries = placed.entries ∙ ap (λ m. with_entry m (path key) c.f.result) made.entries in
     let nodes = placed.nodes ∙ ap (λ n. with_needed n (path key)) made.nodes in
-    let step = readied_step path g.P.Prefix.back g.P.R.Key.bit_width old middle c.place_ready-seat.new.self key c.f.result absent made.entries made.nodes made.room readies
+    let step = readied_step g.P.R.Key.bit_width old middle c.place_ready-seat.new.self (path key) c.f.result absent made.entries made.nodes made.room readies
     placed.entries placed.nodes placed.step in
     let found = ap (get c.place_ready-seat.new.self.entries) (ap path is ∙ sym at) ∙ c.lend_at.ensures.value in (
       (refl, (λ w _. Fills-lent c.args.self c.place_ready-seat.new.self key _ c.f.result w is at entries nodes step), tt),
