@@ -1,12 +1,12 @@
 -- What calls that take entries out leave.
 pub mod Clearing
-pub mod Removing
+pub mod Items
 pub mod GivingBack
-pub mod Emptying
+pub mod OneEntry
 pub mod Pruning
-pub mod Removed
+pub mod NodesLeft
 pub mod Settling
-pub mod Emptied
+pub mod AllBelow
 pub mod Listed
 pub mod PartTaken
 pub mod Stepping

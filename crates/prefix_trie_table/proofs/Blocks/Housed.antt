@@ -17,7 +17,7 @@ use Rattle.prefix_trie_table.specs.Shape.{IsShapeOf}
 use Rattle.prefix_trie_table.specs.Store.{Store, HasList, size_in, tier_sizes}
 use Rattle.prefix_trie_table.proofs.Insertion.Adding.{children_list}
 use Rattle.prefix_trie_table.proofs.Strings.BitLists.{rank-all}
-use Rattle.prefix_trie_table.proofs.Removal.Removing.{held_fits}
+use Rattle.prefix_trie_table.proofs.Removal.Items.{held_fits}
 use Rattle.prefix_trie_table.proofs.Tree.Shapes.{reads_node, shape_nodes}
 use Rattle.prefix_trie_table.proofs.Removal.Stepped.{size_read, own_is, children_is}
 use Rattle.prefix_trie_table.proofs.Tree.Trees.{is_none-None}

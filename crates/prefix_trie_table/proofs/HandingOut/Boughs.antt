@@ -10,7 +10,7 @@ use Rattle.prefix_trie_table.specs.declared.allocator.blocks.BlockRef.{BlockRef}
 use Rattle.prefix_trie_table.specs.Bitmaps.{has_bit, bits, rank}
 use Rattle.prefix_trie_table.specs.Cells.{blank_node, node_sizes, cell_sizes}
 use Rattle.prefix_trie_table.specs.Forest.{same_path, one_if, times, has_child, has_value, node_or_blank, child_items, child_blocks_of, child_blocks, value_blocks_of, value_blocks}
-use Rattle.prefix_trie_table.specs.HandingOut.Laid.{SomeChosen, NoneChosen, Hangs, IsPackedNode, no_value, IsLaid, IsBough}
+use Rattle.prefix_trie_table.specs.HandingOut.Laid.{SomeChosen, NoneChosen, Hangs, IsPackedNode, no_value, IsLaid, IsBough, NothingLaid}
 use Rattle.prefix_trie_table.specs.HandingOut.Laying.{LaysList}
 use Rattle.prefix_trie_table.specs.OwnBlocks.{size_if_any}
 use Rattle.prefix_trie_table.specs.Removals.{IsBare, IsStocked}
@@ -361,16 +361,17 @@ module _ {T : Type 0} (chosen : List ℕ → ℕ → Bool) where
         no_paths : b.rest ≡ []
         no_paths = no_rest n b.sub b.rest b.hangs no_child
 
-        pub bough_bare : NoneChosen chosen
-        bough_bare [] bit = sym (b.own bit) ∙ no_bit n.value_bitmap bit bare.no_values
-        bough_bare (c ∷ p) bit = sym (value_is c p bit) ∙ ap (λ o. has_value o bit) (none_below n b.sub b.rest b.hangs c (no_child c) p)
+        none_chosen : NoneChosen chosen
+        none_chosen [] bit = sym (b.own bit) ∙ no_bit n.value_bitmap bit bare.no_values
+        none_chosen (c ∷ p) bit = sym (value_is c p bit) ∙ ap (λ o. has_value o bit) (none_below n b.sub b.rest b.hangs c (no_child c) p)
 
-        pub bare_nodes : (live : List (UsedBlock Node)) → Sound blank_node live v → Sound blank_node live v2
-        bare_nodes live s = subst (λ ps. Sound blank_node (flat_map (child_blocks node_sizes b.sub) ps ++ live) v2) no_paths (b.nodes live s)
-
-        pub bare_cells : (live : List (UsedBlock (Option T))) → Sound None live w → Sound None live w2
-        bare_cells live s = subst (λ bs. Sound None (bs ++ live) w2)
-            (ap₂ (λ xs ps. xs ++ flat_map (cells_of b.sub) ps)
-            (ap (value_blocks_of cell_sizes no_value []) b.hangs.top
-            ∙ ap (λ bs. held n.value_tier n.value_block (size_in cell_sizes n.value_tier) (map (no_value []) bs))
-            (bits-none n.value_bitmap (λ bit. no_bit n.value_bitmap bit bare.no_values))) no_paths) (b.cells live s)
+        pub bough_bare : NothingLaid chosen v v2 w w2
+        bough_bare = record {
+          none = none_chosen;
+          nodes = λ live s. subst (λ ps. Sound blank_node (flat_map (child_blocks node_sizes b.sub) ps ++ live) v2) no_paths (b.nodes live s);
+          cells = λ live s. subst (λ bs. Sound None (bs ++ live) w2)
+              (ap₂ (λ xs ps. xs ++ flat_map (cells_of b.sub) ps)
+              (ap (value_blocks_of cell_sizes no_value []) b.hangs.top
+              ∙ ap (λ bs. held n.value_tier n.value_block (size_in cell_sizes n.value_tier) (map (no_value []) bs))
+              (bits-none n.value_bitmap (λ bit. no_bit n.value_bitmap bit bare.no_values))) no_paths) (b.cells live s);
+        }

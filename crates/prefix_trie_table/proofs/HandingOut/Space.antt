@@ -51,7 +51,7 @@ module _ (own : Node → ℕ) (nodes : List Node) where
   slots_split (suc levels) n = refl
 
   -- what a child that is there has
-  pub child_amount : (levels : ℕ) (n lower : Node) (c : ℕ) → 0 < levels → has_bit n.child_bitmap c ≡ true → lower ≡ node_at nodes (child_slot n c) →
+  child_amount : (levels : ℕ) (n lower : Node) (c : ℕ) → 0 < levels → has_bit n.child_bitmap c ≡ true → lower ≡ node_at nodes (child_slot n c) →
       slots_at_child own nodes levels n c ≡ slots_below own nodes (levels - 1) lower
   child_amount zero n lower c some set is = absurd (omega (arith, some))
   child_amount (suc levels) n lower c some set is =

@@ -19,8 +19,8 @@ use Rattle.prefix_trie_table.proofs.Strings.Plain.{none_some, some_same}
 use Rattle.prefix_trie_table.proofs.Tree.Children.{same_or, with_here, with_other, changed_below, changed_here, changed_other}
 use Rattle.prefix_trie_table.proofs.Insertion.Needs.{smallest_is}
 use Rattle.prefix_trie_table.proofs.Insertion.Adding.{children_list}
-use Rattle.prefix_trie_table.proofs.Removal.Removed.{start_is}
-use Rattle.prefix_trie_table.proofs.Removal.Removing.{held_fits, no_larger}
+use Rattle.prefix_trie_table.proofs.Removal.NodesLeft.{start_is}
+use Rattle.prefix_trie_table.proofs.Removal.Items.{held_fits, no_larger}
 use Rattle.prefix_trie_table.proofs.Blocks.Spending.{tier_for_sizes}
 use Rattle.prefix_trie_table.proofs.Removal.Stepping.{some_size, values_none, children_none, same_values, same_children, drops_gone, drops_values}
 

@@ -17,7 +17,7 @@ use Rattle.prefix_trie_table.specs.Forest.{read}
 use Rattle.prefix_trie_table.specs.Store.{Store}
 use Rattle.prefix_trie_table.specs.Tables.{IsTrie}
 use Rattle.prefix_trie_table.proofs.Strings.Plain.{no_or_yes}
-use Rattle.prefix_trie_table.proofs.Removal.Emptied.{below_none, home_near, home_goes_on, in_both}
+use Rattle.prefix_trie_table.proofs.Removal.AllBelow.{below_none, home_near, home_goes_on, in_both}
 use Rattle.prefix_trie_table.proofs.Tree.Subtrees.{nothing_below, unset}
 use Rattle.prefix_trie_table.proofs.Walk.Selected.{at_some_places, wanted_ended}
 

@@ -30,12 +30,12 @@ use Rattle.prefix_trie_table.proofs.Tree.Invariant.{some_table}
 use Rattle.prefix_trie_table.proofs.Removal.Between.{between_then, pruned_values_between, pruned_children_between}
 use Rattle.prefix_trie_table.proofs.Tree.Children.{same_or}
 use Rattle.prefix_trie_table.proofs.Strings.Digits.{path-take}
-use Rattle.prefix_trie_table.proofs.Removal.Emptying.{nothing_taken}
-use Rattle.prefix_trie_table.proofs.Removal.Emptied.{AreBelow, emptied, no_node_there, home_stands, own_gone, removed_alike, pruned_alike}
+use Rattle.prefix_trie_table.proofs.Removal.OneEntry.{nothing_taken}
+use Rattle.prefix_trie_table.proofs.Removal.AllBelow.{AreBelow, emptied, no_node_there, home_stands, own_gone, removed_alike, pruned_alike}
 use Rattle.prefix_trie_table.proofs.Removal.Listed.{listed_below, none_listed}
 use Rattle.prefix_trie_table.proofs.Lookup.Finding.{reached_own}
 use Rattle.prefix_trie_table.proofs.Lookup.Going.{level_last, steps-all}
-use Rattle.prefix_trie_table.proofs.Removal.Removed.{removed_without}
+use Rattle.prefix_trie_table.proofs.Removal.NodesLeft.{removed_without}
 use Rattle.prefix_trie_table.proofs.Retain.Retained.{read_held, slot_stays}
 use Rattle.prefix_trie_table.proofs.Insertion.Rooms.{Grows-same}
 use Rattle.prefix_trie_table.proofs.Removal.Settling.{Settles-nodes}

@@ -25,7 +25,7 @@ use Rattle.prefix_trie_table.proofs.Strings.Bare.{no_bit}
 use Rattle.prefix_trie_table.proofs.Strings.BitLists.{rank-zero-all}
 use Rattle.prefix_trie_table.proofs.Strings.Digits.{path-length, path-take}
 use Rattle.prefix_trie_table.proofs.Counts.OwnCounts.{children_counted, values_counted}
-use Rattle.prefix_trie_table.proofs.Removal.Removed.{home_path, pruned_holds}
+use Rattle.prefix_trie_table.proofs.Removal.NodesLeft.{home_path, pruned_holds}
 use Rattle.prefix_trie_table.proofs.Tree.Shapes.{shape_entries, shape_nodes}
 use Rattle.prefix_trie_table.proofs.Removal.Stepping.{ValuesStep, ChildrenStep, steps_read, children_kept, taken_gone, taken_values, taken_children, taken_grows, drops_gone, drops_values, pruned_children, pruned_grows, GrowsByOne, GrowsAtMost, grows_same, grows_not}
 use Rattle.prefix_trie_table.proofs.Blocks.BySize.{blocks_made, blocks_at_most, nodes_cut, cells_cut}

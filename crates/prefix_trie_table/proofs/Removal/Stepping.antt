@@ -16,7 +16,7 @@ use Rattle.prefix_trie_table.proofs.Strings.Plain.{none_some, some_same}
 use Rattle.prefix_trie_table.proofs.Tree.Children.{same_or, changed_below, changed_here, changed_other}
 use Rattle.prefix_trie_table.proofs.Blocks.Entering.{free_is}
 use Rattle.prefix_trie_table.proofs.Insertion.Needs.{smallest_is, all_apart, nodes_apart, cells_apart, apart}
-use Rattle.prefix_trie_table.proofs.Removal.Removed.{start_is}
+use Rattle.prefix_trie_table.proofs.Removal.NodesLeft.{start_is}
 use Rattle.prefix_trie_table.proofs.Blocks.Spending.{tier_for_sizes}
 use Rattle.prefix_trie_table.proofs.Tree.Trees.{is_some-Some}
 

@@ -30,7 +30,7 @@ use Rattle.prefix_trie_table.proofs.Tree.Invariant.{some_table, some_nodes}
 use Rattle.prefix_trie_table.proofs.Removal.Between.{taken_values_between, taken_children_between}
 use Rattle.prefix_trie_table.proofs.Strings.Bits.{has_bit-is}
 use Rattle.prefix_trie_table.proofs.Tree.Children.{with_here, with_other}
-use Rattle.prefix_trie_table.proofs.Removal.Emptying.{value_taken, kept_without}
+use Rattle.prefix_trie_table.proofs.Removal.OneEntry.{value_taken, kept_without}
 use Rattle.prefix_trie_table.proofs.Lookup.Going.{steps-all}
 use Rattle.prefix_trie_table.proofs.Strings.Placing.{below_node}
 use Rattle.prefix_trie_table.proofs.Tree.Shapes.{reads_node, shape_entries}

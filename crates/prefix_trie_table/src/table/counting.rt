@@ -1,5 +1,5 @@
 //! Counting the nodes and the slots.
-ghost use Rattle.std.specs.Prelude.{◌≡◌, ℕ, ◌+◌, ◌≤◌, List, Option, length};
+ghost use Rattle.std.specs.Prelude.{◌≡◌, ℕ, ◌+◌, List, Option, length};
 ghost use Rattle.std.specs.FinMap.{len};
 ghost use Rattle.prefix_trie_table.specs.declared.allocator.node.Node.{Node};
 ghost use Rattle.prefix_trie_table.specs.Cells.{node_sizes};
@@ -26,7 +26,6 @@ impl<T: Drop, A: Allocator, V: Tick> Table<T, A, V> {
     #[inline]
     pub fn node_slots(&self) -> usize
         ensures slots { result ≡ self.now.room.node_slots }
-        ensures within { result ≤ self.now.room.limit }
     {
         self.nodes.len()
     }
@@ -35,7 +34,6 @@ impl<T: Drop, A: Allocator, V: Tick> Table<T, A, V> {
     #[inline]
     pub fn cell_slots(&self) -> usize
         ensures slots { result ≡ self.now.room.cell_slots }
-        ensures within { result ≤ self.now.room.limit }
     {
         self.cells.len()
     }

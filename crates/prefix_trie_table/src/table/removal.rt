@@ -121,7 +121,6 @@ fn take_entry<K: Key, T: Drop, A: Allocator, V: Tick>(
     ensures node_room { SameRoom nodes.old nodes.new }
     ensures node_tiers { nodes.new.tiers ≡ nodes.old.tiers }
     ensures cell_room { Grows cells.old cells.new 24 }
-    ensures settles { Settles nodes.old nodes.new cells.old cells.new }
 {
     let bit = value_bit_of(key, len / 5 * 5, len);
     if !has_bit(node.value_bitmap, bit) {
@@ -154,7 +153,6 @@ pub fn remove_value<K: Key, T: Drop, A: Allocator, V: Tick>(
     ensures node_room { SameRoom nodes.old nodes.new }
     ensures node_tiers { nodes.new.tiers ≡ nodes.old.tiers }
     ensures cell_room { Grows cells.old cells.new 24 }
-    ensures settles { Settles nodes.old nodes.new cells.old cells.new }
 {
     let (reached, _) = descend(nodes, key, len, counter);
     if 5 * reached.level + 5 <= len {
@@ -308,7 +306,6 @@ pub fn remove_entry<K: Key, T: Drop, A: Allocator, V: Tick>(
     ensures counted { entries.new + one_if (is_some result) ≡ entries.old }
     ensures node_room { Grows nodes.old nodes.new 24 }
     ensures cell_room { Grows cells.old cells.new 24 }
-    ensures settles { Settles nodes.old nodes.new cells.old cells.new }
 {
     let mut above = ArrayVec::new();
     let Some((at, node)) = descend_keeping_way(nodes, key, len, &mut above, counter) else {

@@ -4,7 +4,7 @@ use Rattle.prefix_trie_bits.specs.Model.Storage.{StepByPath}
 use Rattle.prefix_trie_table.specs.Shape.{Contents}
 use Rattle.prefix_trie_table.specs.Steps.{stored}
 use Rattle.prefix_trie_table.proofs.Tree.Invariant.{some_table, some_counted}
-use Rattle.prefix_trie_table.proofs.Removal.Removed.{removed_without}
+use Rattle.prefix_trie_table.proofs.Removal.NodesLeft.{removed_without}
 use Rattle.prefix_trie_table.proofs.Blocks.Sizing.{table_sizes, storage_of}
 use Rattle.prefix_trie_table.proofs.Tree.Stated.{removes_step}
 use Rattle.prefix_trie_table.proofs.Removal.Stepped.{removed_in, pruned_in}

@@ -4,7 +4,7 @@ use Rattle.prefix_trie_bits.specs.Model.Storage.{StepByPath}
 use Rattle.prefix_trie_table.specs.Shape.{Contents}
 use Rattle.prefix_trie_table.specs.Steps.{stored}
 use Rattle.prefix_trie_table.proofs.Tree.Invariant.{some_table, some_counted}
-use Rattle.prefix_trie_table.proofs.Removal.Emptying.{kept_without}
+use Rattle.prefix_trie_table.proofs.Removal.OneEntry.{kept_without}
 use Rattle.prefix_trie_table.proofs.Insertion.Rooms.{Grows-none}
 use Rattle.prefix_trie_table.proofs.Blocks.Sizing.{table_sizes, storage_of}
 use Rattle.prefix_trie_table.proofs.Tree.Stated.{takes_step}

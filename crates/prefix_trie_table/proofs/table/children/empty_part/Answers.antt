@@ -10,7 +10,7 @@ use Rattle.prefix_trie_table.specs.Retaining.{AsksUpTo}
 use Rattle.prefix_trie_table.specs.Digits.{path_of}
 use Rattle.prefix_trie_table.specs.Forest.{read}
 use Rattle.prefix_trie_table.specs.Walking.Walks.{IsPlaceOf}
-use Rattle.prefix_trie_table.proofs.Removal.Emptied.{covers_below}
+use Rattle.prefix_trie_table.proofs.Removal.AllBelow.{covers_below}
 use Rattle.prefix_trie_table.proofs.Removal.PartTaken.{home_is, home_rest, home_steps, reached_site, part_emptied, part_listed}
 use Rattle.prefix_trie_table.proofs.table.children.empty_part.Goals as goal
 

@@ -5,11 +5,11 @@ use Rattle.prefix_trie_table.specs.HandingOut.Laying.{LaysList}
 use Rattle.prefix_trie_table.specs.Forest.{has_child, tier_sizes}
 use Rattle.prefix_trie_table.specs.Cells.{node_at, blank_node, node_sizes}
 use Rattle.prefix_trie_table.specs.declared.allocator.node.Node.{Node}
-use Rattle.prefix_trie_table.specs.HandingOut.Laid.{child_slots, value_slots, slots_below, HasSpace, chosen, IsBough, LaysNode}
-use Rattle.prefix_trie_table.proofs.HandingOut.Boughs.{first, bough_start, bough_grafted, bough_closed, bough_passed, bough_bare, bare_nodes, bare_cells}
+use Rattle.prefix_trie_table.specs.HandingOut.Laid.{value_slots, chosen, IsBough, LaysNode}
+use Rattle.prefix_trie_table.proofs.HandingOut.Boughs.{first, bough_start, bough_grafted, bough_closed, bough_passed, bough_bare}
 use Rattle.prefix_trie_table.proofs.HandingOut.Ground.{Lays-none, Lays-then, Lays-list, ground_nodes, ground_cells}
 use Rattle.prefix_trie_table.proofs.HandingOut.Fits.{values_fit, children_fit, laid_tier}
-use Rattle.prefix_trie_table.proofs.HandingOut.Space.{for_memory, child_amount, values_packed, children_packed, space_at, space_for_all, laid_next, laid_whole, slots_split, LaidTo}
+use Rattle.prefix_trie_table.proofs.HandingOut.Space.{for_memory, values_packed, children_packed, space_at, space_for_all, space_below, longer_above, laid_next, laid_whole, slots_split, LaidTo}
 use Rattle.prefix_trie_table.proofs.HandingOut.Sources.{passed_by, behind, chosen_below, child_inside, some_level, source_below, own_within}
 use Rattle.prefix_trie_table.proofs.Strings.Bare.{was_set, others_stay}
 use Rattle.prefix_trie_table.proofs.Strings.Bits.{has_bit-is, rank-ones}
@@ -48,13 +48,7 @@ lay_child-lay_node-requires g t c κs within =
     let some = some_level c.args.from.now c.args.node c.args.levels c.requires.source c.args.child there in
     let fewer : c.args.levels - 1 + 1 ≡ c.args.levels = omega (arith, some) in
     let below = source_below c.args.from.now c.args.node c.args.levels c.requires.source c.args.child there c.visit-lower.result (c.args.levels - 1) is fewer in
-    let slots = child_amount child_slots c.args.from.now.slots c.args.levels c.args.node c.visit-lower.result c.args.child some there is in
-    let values = child_amount value_slots c.args.from.now.slots c.args.levels c.args.node c.visit-lower.result c.args.child some there is in
-    let nodes_fit = c.requires.space.of_nodes in
-    let cells_fit = c.requires.space.of_cells in
-    let space : HasSpace (slots_below child_slots c.args.from.now.slots (c.args.levels - 1) c.visit-lower.result)
-    (slots_below value_slots c.args.from.now.slots (c.args.levels - 1) c.visit-lower.result) c.args.nodes.now c.args.cells.now =
-    record { of_nodes = omega (arith, slots, nodes_fit); of_cells = omega (arith, values, cells_fit) } in
+    let space = space_below c.args.from.now.slots c.args.levels c.args.node c.visit-lower.result c.args.child some there is c.args.nodes.now c.args.cells.now c.requires.space in
     (omega (arith, some), (within.0, (within.1.0, (within.1.1, (below, (λ b own. own, (λ k own. own, (c.requires.ground, space))))))))
 
 -- src/table/handing.rt:55:9
@@ -170,12 +164,8 @@ pub lay_node-returns-then-is_bare-clause-laid : goal.lay_node-returns-then-is_ba
 lay_node-returns-then-is_bare-clause-laid g t c =
     let all : 32 ≤ c.loop-child.child = (let h = c.loop-child-test.false in omega (arith, h)) in
     let past = behind c.args.from.now.slots c.args.node c.args.values c.args.children in
-    let bare = c.is_bare.ensures.bare c.if-is_bare.true in
-    record {
-      none = bough_bare (chosen c.args.from.now.slots c.args.node c.args.values c.args.children) c.loop-child.child c.loop-child.laid c.loop-child.below.items c.args.nodes.now c.loop-child.nodes c.args.cells.now c.loop-child.cells c.loop-child.invariant.bough past all bare;
-      nodes = bare_nodes (chosen c.args.from.now.slots c.args.node c.args.values c.args.children) c.loop-child.child c.loop-child.laid c.loop-child.below.items c.args.nodes.now c.loop-child.nodes c.args.cells.now c.loop-child.cells c.loop-child.invariant.bough past all bare;
-      cells = bare_cells (chosen c.args.from.now.slots c.args.node c.args.values c.args.children) c.loop-child.child c.loop-child.laid c.loop-child.below.items c.args.nodes.now c.loop-child.nodes c.args.cells.now c.loop-child.cells c.loop-child.invariant.bough past all bare;
-    }
+    bough_bare (chosen c.args.from.now.slots c.args.node c.args.values c.args.children) c.loop-child.child c.loop-child.laid c.loop-child.below.items c.args.nodes.now
+    c.loop-child.nodes c.args.cells.now c.loop-child.cells c.loop-child.invariant.bough past all (c.is_bare.ensures.bare c.if-is_bare.true)
 
 -- src/table/handing.rt:107:9
 pub lay_node-returns-then-is_bare-clause-lays_nodes :
@@ -253,11 +243,8 @@ lay_child-returns-in_default-clause-longer g t c =
     let there = c.requires.children c.args.child set in
     let some = some_level c.args.from.now c.args.node c.args.levels c.requires.source c.args.child there in
     let is = c.visit-lower.ensures.node ∙ ap (node_at c.args.from.now.slots) c.child_slot.ensures in
-    let slots = child_amount child_slots c.args.from.now.slots c.args.levels c.args.node c.visit-lower.result c.args.child some there is in
-    let values = child_amount value_slots c.args.from.now.slots c.args.levels c.args.node c.visit-lower.result c.args.child some there is in
-    let nodes_long = c.in_ok-twig.ensures.longer.of_nodes in
-    let cells_long = c.in_ok-twig.ensures.longer.of_cells in
-    record { of_nodes = omega (arith, slots, nodes_long); of_cells = omega (arith, values, cells_long) }
+    longer_above c.args.from.now.slots c.args.levels c.args.node c.visit-lower.result c.args.child some there is c.args.nodes.now c.args.cells.now
+    c.lay_node.new.nodes c.lay_node.new.cells c.in_ok-twig.ensures.longer
 
 pub lay_child-returns-clause-few : goal.lay_child-returns-clause-few
 lay_child-returns-clause-few g t c =
@@ -273,11 +260,8 @@ lay_child-returns-clause-longer g t c =
     let there = c.requires.children c.args.child set in
     let some = some_level c.args.from.now c.args.node c.args.levels c.requires.source c.args.child there in
     let is = c.visit-lower.ensures.node ∙ ap (node_at c.args.from.now.slots) c.child_slot.ensures in
-    let slots = child_amount child_slots c.args.from.now.slots c.args.levels c.args.node c.visit-lower.result c.args.child some there is in
-    let values = child_amount value_slots c.args.from.now.slots c.args.levels c.args.node c.visit-lower.result c.args.child some there is in
-    let nodes_long = c.in_ok-twig.ensures.longer.of_nodes in
-    let cells_long = c.in_ok-twig.ensures.longer.of_cells in
-    record { of_nodes = omega (arith, slots, nodes_long); of_cells = omega (arith, values, cells_long) }
+    longer_above c.args.from.now.slots c.args.levels c.args.node c.visit-lower.result c.args.child some there is c.args.nodes.now c.args.cells.now
+    c.lay_node.new.nodes c.lay_node.new.cells c.in_ok-twig.ensures.longer
 
 pub lay_node-returns-in_err-own-clause-memory : goal.lay_node-returns-in_err-own-clause-memory
 lay_node-returns-in_err-own-clause-memory g t c =

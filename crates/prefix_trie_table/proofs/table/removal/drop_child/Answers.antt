@@ -6,7 +6,7 @@ use Rattle.prefix_trie_table.proofs.Strings.Bare.{one_fewer}
 use Rattle.prefix_trie_table.proofs.Strings.Bits.{has_bit-is, rank-ones}
 use Rattle.prefix_trie_table.proofs.Strings.BitLists.{rank-below}
 use Rattle.prefix_trie_table.proofs.Insertion.Adding.{at_is, has_list}
-use Rattle.prefix_trie_table.proofs.Removal.Removing.{Lost, lost_one, children_dropped}
+use Rattle.prefix_trie_table.proofs.Removal.Items.{Lost, lost_one, children_dropped}
 use Rattle.prefix_trie_table.proofs.Removal.GivingBack.{gives_written, grows_written}
 use Rattle.prefix_trie_table.proofs.Removal.Settling.{smaller_node, headroom_node}
 use Rattle.prefix_trie_table.proofs.table.removal.drop_child.Given as given

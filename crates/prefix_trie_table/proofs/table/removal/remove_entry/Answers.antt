@@ -2,10 +2,9 @@ use Rattle.std.proofs.Common.{◌/◌, ◌≤◌, inl, inr, List, length, take, 
 use Rattle.prefix_trie_table.specs.declared.allocator.node.NodeSlot.{NodeSlot}
 use Rattle.prefix_trie_table.specs.Digits.{path_of}
 use Rattle.prefix_trie_table.specs.Removals.{IsWay}
-use Rattle.prefix_trie_table.proofs.Removal.Emptying.{nothing_taken, no_value}
+use Rattle.prefix_trie_table.proofs.Removal.OneEntry.{nothing_taken, no_value}
 use Rattle.prefix_trie_table.proofs.Lookup.Finding.{reached_own}
 use Rattle.prefix_trie_table.proofs.Lookup.Going.{level_last, steps-all}
-use Rattle.prefix_trie_table.proofs.Removal.Settling.{Settles-nodes}
 use Rattle.prefix_trie_table.proofs.table.removal.remove_entry.Goals as goal
 
 pub returns-in_default-clause-removed : goal.returns-in_default-clause-removed
@@ -48,8 +47,3 @@ returns-clause-removed g c = λ reading paths values holds.
       c.take_entry-value.ensures.node_room.0,
       c.take_entry-value.ensures.node_tiers,
     )
-
-pub returns-clause-settles : goal.returns-clause-settles
-returns-clause-settles g c =
-    Settles-nodes c.args.nodes.now c.take_entry-value.new.nodes c.prune_up.new.nodes c.args.cells.now c.take_entry-value.new.cells
-    c.take_entry-value.ensures.settles c.prune_up.ensures.settles

@@ -4,7 +4,7 @@ use Rattle.prefix_trie_table.specs.Digits.{path_of, bit_of}
 use Rattle.prefix_trie_table.specs.Forest.{one_if}
 use Rattle.prefix_trie_table.proofs.Tree.Invariant.{deepest_there}
 use Rattle.prefix_trie_table.proofs.Strings.Bits.{has_bit-is}
-use Rattle.prefix_trie_table.proofs.Removal.Emptying.{none_there, none_taken, some_there, value_there, entry_taken}
+use Rattle.prefix_trie_table.proofs.Removal.OneEntry.{none_there, none_taken, some_there, value_there, entry_taken}
 use Rattle.prefix_trie_table.proofs.table.removal.take_entry.Given as given
 use Rattle.prefix_trie_table.proofs.table.removal.take_entry.Goals as goal
 

@@ -7,7 +7,7 @@ use Rattle.prefix_trie_table.proofs.Strings.BitLists.{rank-below, rank-all, map_
 use Rattle.prefix_trie_table.proofs.Insertion.Adding.{at_is, at_values, has_values}
 use Rattle.prefix_trie_table.proofs.Tree.Trees.{slot_holds}
 use Rattle.prefix_trie_table.proofs.Tree.Values.{values_first}
-use Rattle.prefix_trie_table.proofs.Removal.Removing.{Lost, lost_one, values_taken}
+use Rattle.prefix_trie_table.proofs.Removal.Items.{Lost, lost_one, values_taken}
 use Rattle.prefix_trie_table.proofs.Removal.Settling.{smaller_cell, headroom_cell, value_settles}
 use Rattle.prefix_trie_table.proofs.table.removal.take_value.Given as given
 use Rattle.prefix_trie_table.proofs.table.removal.take_value.Goals as goal

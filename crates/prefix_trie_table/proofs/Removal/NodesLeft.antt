@@ -28,7 +28,7 @@ use Rattle.prefix_trie_table.proofs.Tree.Invariant.{some_table}
 use Rattle.prefix_trie_table.proofs.Strings.Bare.{some_bit}
 use Rattle.prefix_trie_table.proofs.Strings.Bits.{has_bit-below}
 use Rattle.prefix_trie_table.proofs.Strings.Digits.{path-length, path-take}
-use Rattle.prefix_trie_table.proofs.Removal.Emptying.{TakenOut, left_without, entries_without, shape_taken}
+use Rattle.prefix_trie_table.proofs.Removal.OneEntry.{TakenOut, left_without, entries_without, shape_taken}
 use Rattle.prefix_trie_table.proofs.Lookup.Finding.{prefix_some}
 use Rattle.prefix_trie_table.proofs.Strings.Keys.{begins-way}
 use Rattle.prefix_trie_table.proofs.Strings.Placing.{below_node, step_below, string_at}
