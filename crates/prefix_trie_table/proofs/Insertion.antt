@@ -5,7 +5,6 @@ pub mod Inserted
 pub mod Inserting
 pub mod Rooms
 pub mod Placements
-pub mod Needs
 pub mod Asks
 pub mod Foreseen
 pub mod Resized

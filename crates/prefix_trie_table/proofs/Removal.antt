@@ -5,6 +5,7 @@ pub mod GivingBack
 pub mod OneEntry
 pub mod Pruning
 pub mod NodesLeft
+pub mod Lessening
 pub mod Settling
 pub mod AllBelow
 pub mod Listed

@@ -9,7 +9,7 @@ use Rattle.prefix_trie_table.specs.declared.allocator.node.Node.{Node}
 use Rattle.prefix_trie_table.specs.Bitmaps.{has_bit, rank, bits}
 use Rattle.prefix_trie_table.specs.Cells.{blank_node, node_at, node_sizes, cell_sizes}
 pub use Rattle.prefix_trie_table.specs.Store.{held, size_in, tier_sizes}
-use Rattle.prefix_trie_table.specs.Store.{Store, UsedBlock, Sound, IsReady}
+use Rattle.prefix_trie_table.specs.Store.{Store, UsedBlock, Sound}
 
 -- the slot of the child c of a node
 abbrev pub child_slot : Node → ℕ → ℕ
@@ -222,11 +222,6 @@ pub record SomeNodes (v : Store Node) : Type 0 where
   pub reading : List ℕ → Option Node
   pub paths : List (List ℕ)
   pub hold : NodesHold node_sizes reading paths v
-
--- a value can be added at a bit
-pub record ValueReady {T : Type 0} (n : Node) (w : Store (Option T)) (b : ℕ) : Type 0 where
-  pub ready : IsReady w.tiers n.value_tier (rank n.value_bitmap 32)
-  pub missing : has_bit n.value_bitmap b ≡ false
 
 -- the nodes on the beginning of a path of so many digits were added, and the last stands at a slot
 pub record Walked {T : Type 0} (reading : List ℕ → Option Node) (values : List ℕ → ℕ → Option T) (before : List (List ℕ)) (path : List ℕ)

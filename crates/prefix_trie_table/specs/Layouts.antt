@@ -1,5 +1,5 @@
 -- Which blocks the nodes in an array have, and how many blocks of each tier are free. This project's own.
-use Rattle.std.specs.Prelude.{◌≡◌, ℕ, Bool, cond, List, map, length, Option, None, Some}
+use Rattle.std.specs.Prelude.{◌≡◌, ℕ, Bool, cond, List, Option, None, Some}
 use Rattle.std.proofs.Common.{refl, sym, ◌∙◌}
 use Rattle.std.specs.Coded.{Coded, coded_ℕ, coded_option, coded_list, coded_bool, coded×, code_by, Coded-set}
 use Rattle.std.specs.FinMap.{get, code}
@@ -10,9 +10,8 @@ use Rattle.prefix_trie_bits.proofs.Model.Members.{same_entries}
 use Rattle.prefix_trie_table.specs.declared.allocator.node.Node.{Node}
 use Rattle.prefix_trie_table.specs.Bitmaps.{rank}
 use Rattle.prefix_trie_table.specs.Digits.{path_of}
-use Rattle.prefix_trie_table.specs.Store.{Tier}
 use Rattle.prefix_trie_table.specs.Forest.{read}
-pub use Rattle.prefix_trie_table.specs.OwnBlocks.{size_if_any, child_block_size, value_block_size}
+pub use Rattle.prefix_trie_table.specs.OwnBlocks.{child_block_size, value_block_size}
 
 -- how many children a node has
 abbrev pub own_children : Option Node → ℕ
@@ -45,10 +44,6 @@ Sized-prop nodes = λ x y. Σ_prop_path
       AreSizesBy-prop value_block_size nodes values a.1 b.1 i,
     )) (same_sizes value_block_size nodes u.0 w.0 u.1.1 w.1.1))
     (same_sizes child_block_size nodes x.0 y.0 x.1.1.0 y.1.1.0)
-
--- how many blocks of each tier are free
-abbrev pub free_counts : List Tier → List ℕ
-free_counts ts = map (λ t. length t.starts) ts
 
 -- layouts are given by their parts
 abbrev pub coded_layout : Coded Layout

@@ -1,17 +1,12 @@
 -- The sizes of a node's own two blocks, and of those that it needs before it takes one child or one value more. This project's
 -- own.
-use Rattle.std.specs.Prelude.{ℕ, zero, suc, Option, None, Some}
+use Rattle.std.specs.Prelude.{ℕ, Option, None, Some}
 use Rattle.prefix_trie_bits.specs.Model.Blocks.{child_block_sizes, value_block_sizes}
 use Rattle.prefix_trie_bits.specs.Model.Insertion.{block_needed}
 use Rattle.prefix_trie_table.specs.declared.allocator.node.Node.{Node}
 use Rattle.prefix_trie_table.specs.Bitmaps.{rank}
 use Rattle.prefix_trie_table.specs.Cells.{node_sizes, cell_sizes}
-use Rattle.prefix_trie_table.specs.Store.{size_in}
-
--- the size, where there are any
-abbrev pub size_if_any : ℕ → ℕ → Option ℕ
-size_if_any zero size = None
-size_if_any (suc n) size = Some size
+use Rattle.prefix_trie_table.specs.Store.{size_if_any, size_in}
 
 -- the size of the block of a node's children, where it has children
 abbrev pub child_block_size : Option Node → Option ℕ

@@ -1,34 +1,29 @@
 -- What the calls that take values out leave, by path. This project's own.
-use Rattle.std.specs.Prelude.{◌≡◌, ◌≢◌, ℕ, ◌+◌, ◌-◌, ◌<◌, ◌≤◌, ◌⊎◌, true, false, List, [], ◌∷◌, ◌++◌, length, take, slice_index_or, Option, None, Some, is_some}
+use Rattle.std.specs.Prelude.{◌≡◌, ◌≢◌, ℕ, ◌+◌, ◌<◌, ◌≤◌, ◌⊎◌, true, false, List, [], ◌∷◌, ◌++◌, length, take, slice_index_or, Option, None, Some, is_some}
 use Rattle.prefix_trie_table.specs.declared.allocator.node.Node.{Node}
 use Rattle.prefix_trie_table.specs.declared.allocator.node.NodeSlot.{NodeSlot}
 use Rattle.prefix_trie_table.specs.Bitmaps.{rank}
 use Rattle.prefix_trie_table.specs.Cells.{node_sizes, cell_sizes}
-use Rattle.prefix_trie_table.specs.Store.{Store, Tier, SameRoom, SameMade, tier_at, tier_for, tier_sizes, size_in, free_at}
-use Rattle.prefix_trie_bits.specs.Model.Blocks.{made_of}
-use Rattle.prefix_trie_table.specs.Layouts.{child_block_size, value_block_size, free_counts}
+use Rattle.prefix_trie_table.specs.Store.{Store, SameRoom, SameMade, tier_sizes, free_in, made_in, free_counts}
+use Rattle.prefix_trie_bits.specs.Model.Blocks.{HasBlock, StepsDown, LongerByOne, MakesBlocks, MakesAtMost, made_of}
+use Rattle.prefix_trie_table.specs.Layouts.{own_children, child_block_size, value_block_size}
 use Rattle.prefix_trie_table.specs.Settling.{NodesSettle}
 use Rattle.prefix_trie_table.specs.Forest.{NodesHold, CellsHold, Holds, IsSlot, lacking_child, without, is_start, with_node, with_value, own_count, entry_count, one_if}
 
--- a list of so many items in a block of tier k has lost one, and stands in tier `to` now: an empty rest nowhere, which is
--- written as tier 0, another in its old block or in one of the smallest size that holds it, and there if such a one was free
-pub record Shrinks (ts : List Tier) (k count to : ℕ) : Type 0 where
-  pub gone : count ≡ 1 → to ≡ 0
-  pub smallest : 1 < count → (to ≡ k) ⊎ (tier_for ts (count - 1) ≡ Some to)
-  pub smaller : (j : ℕ) → 1 < count → tier_for ts (count - 1) ≡ Some j → 0 < free_at ts j → to ≡ j
+-- a list that had `before` items in a block of the size `old` has `after` in one of the size `new`: it steps down, and the array is longer
+-- by that block at most
+pub record Lessens {S : Type 0} (sizes : List ℕ) (v w : Store S) (before after : ℕ) (old new : Option ℕ) : Type 0 where
+  pub has : after < before → HasBlock sizes before old
+  pub steps : StepsDown sizes (free_counts v.tiers) before after old new
+  pub longer : LongerByOne sizes (free_counts v.tiers) old new (length v.slots) (length w.slots)
 
--- the array is longer by one block of tier `to`, of which none was free, where a list of which so many items are left moved
--- there from tier k
-pub record LongerByBlock {S : Type 0} (sizes : List ℕ) (v w : Store S) (left k to : ℕ) : Type 0 where
-  pub some : 0 < left
-  pub smaller : to < k
-  pub within : k < length sizes
-  pub none_free : free_at v.tiers to ≡ 0
-  pub longer : length w.slots ≡ length v.slots + size_in sizes to
+-- that block was made, if it was to be
+abbrev pub MakesEntered : {S : Type 0} → List ℕ → Store S → Store S → Option ℕ → Option ℕ → Type 0
+MakesEntered sizes v w old new = MakesBlocks sizes (made_of sizes (free_counts v.tiers) old new) (made_in v.tiers) (made_in w.tiers)
 
--- or it is as long as it was
-abbrev pub MayLengthen : {S : Type 0} → List ℕ → Store S → Store S → ℕ → ℕ → ℕ → Type 0
-MayLengthen sizes v w left k to = (length w.slots ≡ length v.slots) ⊎ LongerByBlock sizes v w left k to
+-- or that one at most
+abbrev pub MakesFew : {S : Type 0} → List ℕ → Store S → Store S → Option ℕ → Option ℕ → Type 0
+MakesFew sizes v w old new = MakesAtMost sizes (made_of sizes (free_counts v.tiers) old new) (made_in v.tiers) (made_in w.tiers)
 
 -- two nodes have the same children in the same block
 pub record SameChildren (n m : Node) : Type 0 where
@@ -42,16 +37,6 @@ pub record SameValues (n m : Node) : Type 0 where
   pub block : m.value_block ≡ n.value_block
   pub tier : m.value_tier ≡ n.value_tier
 
--- where a list left its block, of the size `old`, for one of the size `new`, that one was made, unless it is the old size or one was free
-abbrev pub MakesEntered : {S : Type 0} → List ℕ → Store S → Store S → Option ℕ → Option ℕ → Type 0
-MakesEntered sizes v w old new =
-    (j : ℕ) → j < 7 → (tier_at w.tiers j).made ≡ (tier_at v.tiers j).made + made_of sizes (free_counts v.tiers) old new (size_in sizes j)
-
--- or that one at most
-abbrev pub MakesFew : {S : Type 0} → List ℕ → Store S → Store S → Option ℕ → Option ℕ → Type 0
-MakesFew sizes v w old new = (j : ℕ) → j < 7 → ((tier_at v.tiers j).made ≤ (tier_at w.tiers j).made)
-    × ((tier_at w.tiers j).made ≤ (tier_at v.tiers j).made + made_of sizes (free_counts v.tiers) old new (size_in sizes j))
-
 module _ {T : Type 0} where
   -- the node n at p, now m, has lost its value at bit b, and the other nodes and values are as they were
   pub record ValueTaken (reading : List ℕ → Option Node) (paths : List (List ℕ)) (values : List ℕ → ℕ → Option T) (p : List ℕ) (b : ℕ) (n m : Node)
@@ -59,10 +44,8 @@ module _ {T : Type 0} where
     pub hold : NodesHold node_sizes (with_node reading p m) paths v
     pub cells : CellsHold cell_sizes (with_node reading p m) (with_value values p b None) paths after
     pub fewer : own_count (Some m) + 1 ≡ own_count (Some n)
-    pub fits : (n.value_tier < 7) × (rank n.value_bitmap 32 ≤ size_in cell_sizes n.value_tier)
     pub children : SameChildren n m
-    pub shrinks : Shrinks before.tiers n.value_tier (rank n.value_bitmap 32) m.value_tier
-    pub longer : MayLengthen cell_sizes before after (rank m.value_bitmap 32) n.value_tier m.value_tier
+    pub lessens : Lessens cell_sizes before after (own_count (Some n)) (own_count (Some m)) (value_block_size (Some n)) (value_block_size (Some m))
     pub made : MakesEntered cell_sizes before after (value_block_size (Some n)) (value_block_size (Some m))
 
   -- the value at bit b of the node with a path was taken, where there was one, and this node has the children that it had.
@@ -77,12 +60,7 @@ module _ {T : Type 0} where
     pub counted : entry_count later paths + one_if (is_some (values path b)) ≡ entry_count reading paths
     pub kept : is_some (values path b) ≡ false → later path ≡ reading path
     pub children : (n m : Node) → reading path ≡ Some n → later path ≡ Some m → SameChildren n m
-    pub fewer : is_some (values path b) ≡ true → own_count (later path) + 1 ≡ own_count (reading path)
-    pub shrinks : (n m : Node) → reading path ≡ Some n → later path ≡ Some m → is_some (values path b) ≡ true →
-        Shrinks before.tiers n.value_tier (rank n.value_bitmap 32) m.value_tier
-    pub longer : (length after.slots ≡ length before.slots)
-        ⊎ ((n : Node) × (m : Node) × (reading path ≡ Some n) × (later path ≡ Some m)
-        × LongerByBlock cell_sizes before after (rank m.value_bitmap 32) n.value_tier m.value_tier)
+    pub lessens : Lessens cell_sizes before after (own_count (reading path)) (own_count (later path)) (value_block_size (reading path)) (value_block_size (later path))
     pub made : MakesEntered cell_sizes before after (value_block_size (reading path)) (value_block_size (later path))
 
 -- a node without values and children
@@ -98,7 +76,7 @@ IsStocked n = (0 < rank n.value_bitmap 32) ⊎ (0 < rank n.child_bitmap 32)
 pub record GivesBack {S : Type 0} (v w : Store S) : Type 0 where
   pub room : SameRoom v w
   pub sizes : tier_sizes w.tiers ≡ tier_sizes v.tiers
-  pub free : (j : ℕ) → free_at v.tiers j ≤ free_at w.tiers j
+  pub free : (size : ℕ) → free_in v.tiers size ≤ free_in w.tiers size
   pub made : SameMade v w
 
 -- the slot of the k-th node on a way
@@ -114,9 +92,7 @@ pub record ChildDropped (reading : List ℕ → Option Node) (paths : List (List
   pub hold : NodesHold node_sizes (lacking_child reading p m c) (without (p ++ c ∷ []) paths) after
   pub values : SameValues n m
   pub fewer : rank m.child_bitmap 32 + 1 ≡ rank n.child_bitmap 32
-  pub fits : (n.child_tier < 7) × (rank n.child_bitmap 32 ≤ size_in node_sizes n.child_tier)
-  pub shrinks : Shrinks before.tiers n.child_tier (rank n.child_bitmap 32) m.child_tier
-  pub longer : MayLengthen node_sizes before after (rank m.child_bitmap 32) n.child_tier m.child_tier
+  pub lessens : Lessens node_sizes before after (own_children (Some n)) (own_children (Some m)) (child_block_size (Some n)) (child_block_size (Some m))
   pub made : MakesEntered node_sizes before after (child_block_size (Some n)) (child_block_size (Some m))
   pub settles : NodesSettle before after
 
@@ -140,12 +116,8 @@ pub record PrunedTo (reading : List ℕ → Option Node) (paths : List (List ℕ
   pub above : (k : ℕ) → k < level → later (take k path) ≡ reading (take k path)
   pub off : (q : List ℕ) → is_start q path ≡ false → later q ≡ reading q
   pub whole : level ≡ length path → later path ≡ reading path
-  pub fewer : (n : Node) → level < length path → reading (take level path) ≡ Some n → rank node.child_bitmap 32 + 1 ≡ rank n.child_bitmap 32
-  pub shrinks : (n : Node) → level < length path → reading (take level path) ≡ Some n →
-      SameValues n node × Shrinks before.tiers n.child_tier (rank n.child_bitmap 32) node.child_tier
-  pub longer : (length after.slots ≡ length before.slots)
-      ⊎ ((n : Node) × (reading (take level path) ≡ Some n)
-      × LongerByBlock node_sizes before after (rank node.child_bitmap 32) n.child_tier node.child_tier)
+  pub lessens : Lessens node_sizes before after (own_children (reading (take level path))) (own_children (Some node))
+      (child_block_size (reading (take level path))) (child_block_size (Some node))
   pub made : MakesFew node_sizes before after (child_block_size (reading (take level path))) (child_block_size (Some node))
   pub settles : NodesSettle before after
 

@@ -1,14 +1,14 @@
 -- What holds of the fields of every table, and of a way down. This project's own.
-use Rattle.std.specs.Prelude.{◌≡◌, ℕ, ◌+◌, ◌-◌, ◌*◌, ◌/◌, ◌<◌, ◌≤◌, ◌⊎◌, Bool, false, List, Option, Some, length, take, slice_index_or}
+use Rattle.std.specs.Prelude.{◌≡◌, ℕ, ◌+◌, ◌*◌, ◌<◌, ◌≤◌, ◌⊎◌, Bool, false, List, Option, Some, length, take, slice_index_or}
 use Rattle.std.specs.FinMap.{len}
 use Rattle.prefix_trie_bits.specs.Model.Entries.{AreWithin}
 use Rattle.prefix_trie_bits.specs.Model.Nodes.{AreNodes}
 use Rattle.prefix_trie_bits.specs.Model.Step.{State}
 use Rattle.prefix_trie_table.specs.declared.allocator.node.Node.{Node}
-use Rattle.prefix_trie_table.specs.Bitmaps.{has_bit, rank}
+use Rattle.prefix_trie_table.specs.Bitmaps.{has_bit}
 use Rattle.prefix_trie_table.specs.Cells.{node_at, node_sizes, cell_sizes}
 use Rattle.prefix_trie_table.specs.Digits.{path_of, bit_of}
-use Rattle.prefix_trie_table.specs.Store.{Store, IsReady, Enough, KeepsMade}
+use Rattle.prefix_trie_table.specs.Store.{Store, KeepsMade}
 use Rattle.prefix_trie_table.specs.Forest.{NodesHold, CellsHold, Holds, Deepest, EntryAdded, entry_count}
 use Rattle.prefix_trie_table.specs.Shape.{IsShapeOf}
 
@@ -49,12 +49,6 @@ pub record IsReached (b : List Bool) (len level : ℕ) (node : Node) (slot : ℕ
   pub deepest : (reading : List ℕ → Option Node) (paths : List (List ℕ)) → NodesHold node_sizes reading paths v →
       Deepest reading (path_of (take len b)) level slot v
   pub missing : 5 * level + 5 ≤ len → has_bit node.child_bitmap (slice_index_or (path_of (take len b)) level 0) ≡ false
-
--- all blocks stand free that a new value of len bits needs, where this is the deepest node on its way, of this level
-pub record HasRoom {T : Type 0} (v : Store Node) (w : Store (Option T)) (node : Node) (level len : ℕ) : Type 0 where
-  pub here : len < 5 * level + 5 → IsReady w.tiers node.value_tier (rank node.value_bitmap 32)
-  pub below : 5 * level + 5 ≤ len → IsReady w.tiers 0 0
-  pub children : 5 * level + 5 ≤ len → Enough v.tiers node.child_tier (rank node.child_bitmap 32) (len / 5 - (level + 1))
 
 -- an array is as long as it was or longer by so many slots at most, its first block starts where it did, its limit is the
 -- same, where that held it holds, and no block is lost

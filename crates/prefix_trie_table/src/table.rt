@@ -82,7 +82,7 @@ impl<T: Drop, A: Allocator, V: Tick> Model for Table<T, A, V> {
     ghost coded = { contents_code T.code };
 
     ghost use Rattle.std.specs.Prelude.{length};
-    ghost use Rattle.prefix_trie_table.specs.Layouts.{free_counts};
+    ghost use Rattle.prefix_trie_table.specs.Store.{free_counts};
     ghost use Rattle.prefix_trie_table.specs.Tables.{IsTable};
 
     ghost view = { λ t. record {

@@ -12,9 +12,9 @@ use Rattle.prefix_trie_table.specs.Bitmaps.{rank, bits}
 use Rattle.prefix_trie_table.specs.Cells.{blank_node, node_sizes, cell_sizes}
 use Rattle.prefix_trie_table.specs.Digits.{path_of}
 use Rattle.prefix_trie_table.specs.Forest.{Holds, read, own_count, without, value_blocks}
-use Rattle.prefix_trie_table.specs.Layouts.{AreSizesBy, Sized, own_children, size_if_any, child_block_size, value_block_size}
+use Rattle.prefix_trie_table.specs.Layouts.{AreSizesBy, Sized, own_children, child_block_size, value_block_size}
 use Rattle.prefix_trie_table.specs.Shape.{IsShapeOf}
-use Rattle.prefix_trie_table.specs.Store.{Store, HasList, size_in, tier_sizes}
+use Rattle.prefix_trie_table.specs.Store.{Store, HasList, size_in, tier_sizes, size_if_any}
 use Rattle.prefix_trie_table.proofs.Insertion.Adding.{children_list}
 use Rattle.prefix_trie_table.proofs.Strings.BitLists.{rank-all}
 use Rattle.prefix_trie_table.proofs.Removal.Items.{held_fits}

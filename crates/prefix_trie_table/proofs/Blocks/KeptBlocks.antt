@@ -1,46 +1,57 @@
--- No block is lost: by tiers, and so by the sizes in use and free.
-use Rattle.std.proofs.Common.{◌≡◌, ℕ, ◌+◌, ◌<◌, ◌≤◌, true, List, length, Option, refl, ◌∙◌, subst, arith}
+-- Blocks in use and free are those that stand in the array, of each size, and none is lost.
+use Rattle.std.proofs.Common.{◌≡◌, ℕ, ◌+◌, ◌<◌, List, Option, length, refl, sym, ap, ◌∙◌, subst, arith}
+use Rattle.std.specs.Prelude.{Contains}
 use Rattle.std.proofs.lemmas.List.{get_or_default}
-use Rattle.prefix_trie_bits.specs.Model.Blocks.{Sizes, used_of, free_of, LosesNoBlock, KeepsBlocks}
+use Rattle.prefix_trie_bits.specs.Model.Blocks.{Sizes, used_of, free_of, MakesBlocks, MakesAtMost, KeepsBlocks}
 use Rattle.prefix_trie_table.specs.declared.allocator.node.Node.{Node}
-use Rattle.prefix_trie_table.specs.Cells.{node_sizes, cell_sizes}
-use Rattle.prefix_trie_table.specs.Store.{Tier, Store, KeepsMade, tier_at, tier_sizes, size_in, free_at}
+use Rattle.prefix_trie_table.specs.Cells.{HasSizes, node_sizes, cell_sizes}
 use Rattle.prefix_trie_table.specs.Forest.{SomeTable}
-use Rattle.prefix_trie_table.specs.Layouts.{Sized, free_counts}
-use Rattle.prefix_trie_table.proofs.Counts.BlockCounts.{nodes_made, cells_made}
-use Rattle.prefix_trie_table.proofs.Insertion.Needs.{all_apart, nodes_apart, cells_apart}
+use Rattle.prefix_trie_table.specs.Layouts.{Sized}
+use Rattle.prefix_trie_table.specs.Store.{Store, KeepsMade, tier_at, tier_sizes, size_in, free_counts, free_in, made_in}
+use Rattle.prefix_trie_table.proofs.Blocks.BySize.{tiers_long, free_at, made_at, node_sized, cell_sized}
 use Rattle.prefix_trie_table.proofs.Blocks.Sizing.{layout_of}
-use Rattle.prefix_trie_table.proofs.Blocks.Entering.{free_is}
+use Rattle.prefix_trie_table.proofs.Counts.BlockCounts.{nodes_made, cells_made}
 
--- where no tier has fewer blocks, and those of each tier are the free ones and those of its size in use, no size has fewer
-loses_none : (sizes : List ℕ) (seven : length sizes ≡ 7) (differ : all_apart sizes ≡ true) (ts us : List Tier) (m n : Sizes) →
-    tier_sizes ts ≡ sizes → tier_sizes us ≡ sizes →
-    ((k : ℕ) → k < 7 → (tier_at ts k).made ≡ free_at ts k + used_of m (size_in sizes k)) →
-    ((k : ℕ) → k < 7 → (tier_at us k).made ≡ free_at us k + used_of n (size_in sizes k)) →
-    ((k : ℕ) → (tier_at ts k).made ≤ (tier_at us k).made) →
-    LosesNoBlock sizes m (free_counts ts) n (free_counts us)
-loses_none sizes seven differ ts us m n are later before after made = λ size there.
-    let inside : there.0 < 7 = (let i = there.1 in omega (arith, i, seven)) in
-    let is : size_in sizes there.0 ≡ size = get_or_default sizes there.0 0 size there.1 ∙ there.2 in
-    subst (λ s. used_of m s + free_of sizes (free_counts ts) s ≤ used_of n s + free_of sizes (free_counts us) s) is
-    (omega (
-      arith,
-      before there.0 inside,
-      after there.0 inside,
-      made there.0,
-      free_is ts sizes are seven differ there.0 inside,
-      free_is us sizes later seven differ there.0 inside,
-    ))
+-- of each size those that stand in the array are the ones in use, and the free ones
+abbrev pub IsCut : {S : Type 0} → List ℕ → Store S → Sizes → Type 0
+IsCut sizes v used = (size : ℕ) → Contains sizes size → made_in v.tiers size ≡ used_of used size + free_of sizes (free_counts v.tiers) size
+
+-- so it is where it is so of each tier
+cut_by_tiers : {S : Type 0} (sizes : List ℕ) (v : Store S) (used : Sizes) → length sizes ≡ 7 → tier_sizes v.tiers ≡ sizes → HasSizes v.tiers →
+    ((k : ℕ) → k < 7 → (tier_at v.tiers k).made ≡ length (tier_at v.tiers k).starts + used_of used (size_in sizes k)) → IsCut sizes v used
+cut_by_tiers sizes v used seven are has made size (k, inside, is) =
+    subst (λ s. made_in v.tiers s ≡ used_of used s + free_of sizes (free_counts v.tiers) s) (get_or_default sizes k 0 size inside ∙ is)
+    (subst (λ ns. made_in v.tiers (size_in sizes k) ≡ used_of used (size_in sizes k) + free_of ns (free_counts v.tiers) (size_in sizes k)) are
+    (let within : k < length v.tiers = (let l = tiers_long v.tiers sizes are in omega (arith, l, inside)) in
+    let m : made_in v.tiers (size_in sizes k) ≡ (tier_at v.tiers k).made = ap (λ ns. made_in v.tiers (size_in ns k)) (sym are) ∙ made_at v.tiers k has within in
+    let f : free_in v.tiers (size_in sizes k) ≡ length (tier_at v.tiers k).starts = ap (λ ns. free_in v.tiers (size_in ns k)) (sym are) ∙ free_at v.tiers k has within in
+    let all = made k (omega (arith, inside, seven)) in omega (arith, m, f, all)))
+
+module _ {S : Type 0} (sizes : List ℕ) (v v2 : Store S) (used later : Sizes) (cut : IsCut sizes v used) (cut2 : IsCut sizes v2 later) (made : ℕ → ℕ) where
+  -- what is made in the array is made of those in use and free
+  pub blocks_made : MakesBlocks sizes made (made_in v.tiers) (made_in v2.tiers) →
+      MakesBlocks sizes made (λ size. used_of used size + free_of sizes (free_counts v.tiers) size) (λ size. used_of later size + free_of sizes (free_counts v2.tiers) size)
+  blocks_made m = λ size there. (let a = cut size there in let b = cut2 size there in let c = m size there in omega (arith, a, b, c))
+
+  pub blocks_at_most : MakesAtMost sizes made (made_in v.tiers) (made_in v2.tiers) →
+      MakesAtMost sizes made (λ size. used_of used size + free_of sizes (free_counts v.tiers) size) (λ size. used_of later size + free_of sizes (free_counts v2.tiers) size)
+  blocks_at_most m = λ size there. (let a = cut size there in let b = cut2 size there in let c = m size there in (omega (arith, a, b, c.0), omega (arith, a, b, c.1)))
+
+module _ {T : Type 0} (v : Store Node) (w : Store (Option T)) (t : SomeTable v w) (sized : Sized v.slots) where
+  pub nodes_cut : IsCut node_sizes v sized.0
+  nodes_cut =
+      let are = t.holds.hold.sizes_are in
+      cut_by_tiers node_sizes v sized.0 refl are (node_sized v.tiers are) (nodes_made t.reading t.paths v t.holds.hold sized)
+
+  pub cells_cut : IsCut cell_sizes w sized.1.0
+  cells_cut =
+      let are = t.holds.cells.sizes_are in
+      cut_by_tiers cell_sizes w sized.1.0 refl are (cell_sized w.tiers are) (cells_made t.reading t.paths v t.holds.hold t.values w t.holds.cells sized)
 
 module _ {T : Type 0} (v v2 : Store Node) (w w2 : Store (Option T)) (before : SomeTable v w) (after : SomeTable v2 w2) (x : Sized v.slots) (y : Sized v2.slots) where
-  -- the same of two tables
+  -- where no fewer stand in the arrays no block is lost
   pub kept_blocks : KeepsMade v v2 → KeepsMade w w2 → KeepsBlocks (layout_of v.slots v.tiers w.tiers x) (layout_of v2.slots v2.tiers w2.tiers y)
-  kept_blocks nodes cells =
-      let a = before.holds in
-      let b = after.holds in (
-        loses_none node_sizes refl nodes_apart v.tiers v2.tiers x.0 y.0 a.hold.sizes_are b.hold.sizes_are
-            (nodes_made before.reading before.paths v a.hold x) (nodes_made after.reading after.paths v2 b.hold y) nodes,
-        loses_none cell_sizes refl cells_apart w.tiers w2.tiers x.1.0 y.1.0 a.cells.sizes_are b.cells.sizes_are
-            (cells_made before.reading before.paths v a.hold before.values w a.cells x)
-            (cells_made after.reading after.paths v2 b.hold after.values w2 b.cells y) cells,
-      )
+  kept_blocks nodes cells = (
+    λ size there. (let a = nodes_cut v w before x size there in let b = nodes_cut v2 w2 after y size there in let m = nodes size in omega (arith, a, b, m)),
+    λ size there. (let a = cells_cut v w before x size there in let b = cells_cut v2 w2 after y size there in let m = cells size in omega (arith, a, b, m)),
+  )

@@ -1,19 +1,20 @@
 -- A list laid whole in a block that held none.
-use Rattle.std.proofs.Common.{◌≡◌, ℕ, zero, suc, ◌+◌, ◌-◌, ◌*◌, ◌<◌, ◌≤◌, inl, List, [], ◌∷◌, ◌++◌, length, take, drop, replicate, Option, None, Some, take-append-drop, refl, sym, ap, ◌∙◌, subst, arith}
-use Rattle.std.specs.Option.{option_map}
+use Rattle.std.proofs.Common.{◌≡◌, ℕ, zero, suc, ◌+◌, ◌-◌, ◌<◌, ◌≤◌, inl, true, List, [], ◌∷◌, ◌++◌, length, take, drop, replicate, Option, None, Some, take-append-drop, refl, sym, ap, ◌∙◌, subst, arith}
+use Rattle.std.specs.Prelude.{Contains}
+use Rattle.prefix_trie_bits.specs.Model.Blocks.{smallest_size}
 use Rattle.prefix_trie_bits.specs.Model.HandsOut.{packed_slots}
-use Rattle.std.proofs.lemmas.List.{length-map, length-replicate, drop-replicate, replicate-append-replicate}
+use Rattle.prefix_trie_bits.proofs.Model.Storage.Readied.{goes_up}
+use Rattle.std.proofs.lemmas.List.{length-replicate, drop-replicate, replicate-append-replicate}
 use Rattle.std.proofs.lemmas.List.Elements.{All-head, All-tail, All-cons}
 use Rattle.prefix_trie_table.specs.declared.allocator.blocks.BlockRef.{BlockRef}
 use Rattle.prefix_trie_table.specs.Runs.{run, put_run}
-use Rattle.prefix_trie_table.specs.Store.{Store, Tier, UsedBlock, Sound, IsOfTier, HoldsItems, Turnover, Keeps, Prepared, block, filled, taken, tier_at, tier_for, free_at, many_at, none_at, size_in, tier_sizes, grown_times}
+use Rattle.prefix_trie_table.specs.Store.{Store, Tier, UsedBlock, Sound, IsOfTier, HoldsItems, Turnover, block, filled, tier_at, tier_sizes, free_in, many_of, none_of}
 use Rattle.prefix_trie_table.specs.HandingOut.Laying.{NoneFree, LaysList}
+use Rattle.prefix_trie_table.proofs.Blocks.BySize.{size_at, smallest_holds, many-le, slots_of-le, slots_of-none, slots_of-many}
 use Rattle.prefix_trie_table.proofs.Blocks.RunLemmas.{length-put_run, get_or-put_run_out, put_run_part}
-use Rattle.prefix_trie_table.proofs.Blocks.Soundness.{Sound-written, block_inside, block_slots, first_place, tier_for_holds}
-use Rattle.prefix_trie_table.proofs.Blocks.Spending.{size_at, Spends-taken, Spends-written, Keeps-spends, Keeps-prepared, Keeps-then}
+use Rattle.prefix_trie_table.proofs.Blocks.Soundness.{Sound-written, block_inside, block_slots}
+use Rattle.prefix_trie_table.proofs.Blocks.Turnovers.{Keeps-then, Turnover-written}
 use Rattle.prefix_trie_table.proofs.Tree.Trees.{held_some}
-use Rattle.prefix_trie_table.proofs.Blocks.Turnovers.{Turnover-grown_times, Turnover-taken, slots_of-many, tiers_stay}
-use Rattle.prefix_trie_table.proofs.Insertion.Needs.{smallest_is}
 
 module _ {S : Type 0} (vacant : S) where
   -- vacant items are what an empty list leaves
@@ -55,27 +56,23 @@ module _ {S : Type 0} (vacant : S) where
       subst (λ ys. Sound vacant (block k start size items ∷ live) (record v { slots = ys })) (sym slots) (Sound-written vacant b live v items few s)
 
   -- what a block that was made, if none was free, and then taken leaves
-  module _ (v u w : Store S) (k : ℕ) (inside : k < length v.tiers) (grew : u ≡ grown_times vacant v k (1 - free_at v.tiers k))
-      (ready : 0 < free_at u.tiers k) (took : w ≡ record u { tiers = taken u.tiers k }) where
-    obtained : Turnover v u (many_at k (1 - free_at v.tiers k)) none_at none_at
-    obtained =
-        subst (λ x. Turnover v x (many_at k (1 - free_at v.tiers k)) none_at none_at) (sym grew)
-        (Turnover-grown_times vacant v k (1 - free_at v.tiers k) inside)
-
-    inside_then : k < length u.tiers
-    inside_then = (let e = tiers_stay v u obtained.sizes in omega (arith, e, inside))
-
+  module _ (v u w : Store S) (size : ℕ) (made : Turnover v u (many_of size (1 - free_in v.tiers size)) None None) (took : Turnover u w none_of None (Some size)) where
     pub laid_none_free : NoneFree v → NoneFree w
-    laid_none_free none j =
-        let gave = Turnover-taken u w k inside_then ready took in
-        let one = obtained.free_is j in
-        let two = gave.free_is j in
-        let all : many_at k (1 - free_at v.tiers k) j ≡ many_at k 1 j = ap (λ n. many_at k (1 - n) j) (none k) in
-        omega (arith, one, two, all, none j)
+    laid_none_free none n =
+        let one = made.free_is n in
+        let two = took.free_is n in
+        let all : many_of size (1 - free_in v.tiers size) n ≡ many_of size 1 n = ap (λ f. many_of size (1 - f) n) (none size) in
+        omega (arith, one, two, all, none n)
 
-    pub laid_keeps : (live : List (UsedBlock S)) → Sound vacant live v → Prepared v u → Keeps v w
-    laid_keeps live s prepared =
-        Keeps-then v u w (Keeps-prepared v u (first_place vacant live v s) prepared) (Keeps-spends u w _ (Spends-taken u w k inside_then took))
+    -- at most a block is made
+    pub laid_longer : goes_up 0 (tier_sizes v.tiers) ≡ true → Contains (tier_sizes v.tiers) size → length w.slots ≤ length v.slots + size
+    laid_longer up among =
+        let a = made.longer in
+        let b = took.longer in
+        let none = slots_of-none (tier_sizes u.tiers) none_of (λ n. refl) in
+        let less = slots_of-le (tier_sizes v.tiers) (many_of size (1 - free_in v.tiers size)) (many_of size 1) (λ n. many-le size (1 - free_in v.tiers size) 1 n (omega arith)) in
+        let one = slots_of-many 0 (tier_sizes v.tiers) up size 1 among in
+        omega (arith, a, b, none, less, one)
 
   -- items written where so many vacant ones were laid
   module _ (v u : Store S) (at : BlockRef) (live : List (UsedBlock S)) (s : Sound vacant live v) where
@@ -90,7 +87,8 @@ module _ {S : Type 0} (vacant : S) where
     few_laid : (items : List S) → 0 < length items → LaysList vacant v u (replicate (length items) vacant) at → length items ≤ (tier_at v.tiers at.tier).size
     few_laid items some laid =
         let l = length-replicate (length items) vacant in
-        (tier_for_holds v.tiers (length items) at.tier (ap (tier_for v.tiers) (sym l) ∙ laid.tier (omega (arith, l, some)))).1
+        let h = (smallest_holds (tier_sizes v.tiers) (length items) _ (ap (smallest_size (tier_sizes v.tiers)) (sym l) ∙ laid.size (omega (arith, l, some)))).1 in
+        omega (arith, h, size_at v.tiers at.tier)
 
     pub run_inside : (items : List S) → LaysList vacant v u (replicate (length items) vacant) at → at.start + length items ≤ length u.slots
     run_inside [] laid = (let e = ap (λ (r : BlockRef). r.start) (laid.none refl) in omega (arith, e))
@@ -114,60 +112,26 @@ module _ {S : Type 0} (vacant : S) where
         let inside = run_inside (x ∷ xs) laid in
         let behind = (block_inside vacant _ _ u (block_laid (x ∷ xs) some laid live s)).after in
         record {
-          tier = λ h. ap (tier_for v.tiers) (sym l) ∙ laid.tier (omega (arith, l, h));
+          tier = λ h. laid.tier (omega (arith, l, h));
+          size = λ h. ap (smallest_size (tier_sizes v.tiers)) (sym l) ∙ laid.size (omega (arith, l, h));
           none = λ z. absurd (omega (arith, z, some));
           sound = λ live2 s2.
               Sound-laid at.tier at.start (tier_at v.tiers at.tier).size (x ∷ xs) live2 u few (block_laid (x ∷ xs) some laid live2 s2);
           keeps =
               Keeps-then v u (record u { slots = put_run u.slots at.start (x ∷ xs) }) laid.keeps
-              (Keeps-spends u (record u { slots = put_run u.slots at.start (x ∷ xs) }) None
-              (Spends-written u (record u { slots = put_run u.slots at.start (x ∷ xs) }) (put_run u.slots at.start (x ∷ xs)) refl
+              (Turnover-written u (record u { slots = put_run u.slots at.start (x ∷ xs) }) (put_run u.slots at.start (x ∷ xs)) refl
               (length-put_run u.slots at.start (x ∷ xs) inside)
-              (λ i d h. get_or-put_run_out u.slots at.start (x ∷ xs) i d inside (inl (let b = behind in omega (arith, b, h))))));
+              (λ i d h. get_or-put_run_out u.slots at.start (x ∷ xs) i d inside (inl (let b = behind in omega (arith, b, h)))) None).keeps;
           none_free = laid.none_free;
         }
 
--- ---- the slots that it takes
-
--- the smallest block for so many items is of the tier that serves them
-packed_tier : (ts : List Tier) (count k : ℕ) → tier_for ts count ≡ Some k → 0 < count → packed_slots (tier_sizes ts) count ≡ (tier_at ts k).size
-packed_tier ts zero k found some = absurd (omega (arith, some))
-packed_tier ts (suc n) k found some =
-    ap slots_in (smallest_is ts (tier_sizes ts) refl (suc n) ∙ ap (option_map (size_in (tier_sizes ts))) found) ∙ sym (size_at ts k)
+-- the smallest block for so many items has their slots
+pub packed_size : (ts : List Tier) (count size : ℕ) → smallest_size (tier_sizes ts) count ≡ Some size → 0 < count → packed_slots (tier_sizes ts) count ≡ size
+packed_size ts zero size found some = absurd (omega (arith, some))
+packed_size ts (suc n) size found some = ap slots_in found
   where
     slots_in : Option ℕ → ℕ
     slots_in o = elim o as (λ _. ℕ) [
       | None ↦ 0
       | Some size ↦ size
     ]
-
-module _ {S : Type 0} (vacant : S) (v u : Store S) (k count : ℕ) (found : tier_for v.tiers count ≡ Some k) (some : 0 < count) where
-  inside_tiers : k < length v.tiers
-  inside_tiers = (tier_for_holds v.tiers count k found).0
-
-  -- at most a block is made
-  pub laid_longer : (w : Store S) → u ≡ grown_times vacant v k (1 - free_at v.tiers k) → w ≡ record u { tiers = taken u.tiers k } →
-      length w.slots ≤ length v.slots + packed_slots (tier_sizes v.tiers) count
-  laid_longer w grew took =
-      let turned : Turnover v u (many_at k (1 - free_at v.tiers k)) none_at none_at =
-      subst (λ x. Turnover v x (many_at k (1 - free_at v.tiers k)) none_at none_at) (sym grew) (Turnover-grown_times vacant v k (1 - free_at v.tiers k) inside_tiers) in
-      let long = turned.longer in
-      let same : length w.slots ≡ length u.slots = ap (λ (x : Store S). length x.slots) took in
-      let made = slots_of-many (tier_sizes v.tiers) k (1 - free_at v.tiers k) (let l = length-map v.tiers (λ t. t.size) in omega (arith, l, inside_tiers)) in
-      let size = size_at v.tiers k in
-      let packed = packed_tier v.tiers count k found some in
-      let less : size_in (tier_sizes v.tiers) k * (1 - free_at v.tiers k) ≤ size_in (tier_sizes v.tiers) k = at_most_once (size_in (tier_sizes v.tiers) k) (1 - free_at v.tiers k) (omega arith) in
-      omega (arith, long, same, made, size, packed, less)
-    where
-      at_most_once : (a b : ℕ) → b ≤ 1 → a * b ≤ a
-      at_most_once a zero h = omega arith
-      at_most_once a (suc zero) h = omega arith
-      at_most_once a (suc (suc b)) h = absurd (omega (arith, h))
-
-  -- and where it was refused for want of index room, it would pass the limit
-  pub laid_range : (m : ℕ) → free_at v.tiers k + m < 1 → u ≡ grown_times vacant v k m → u.limit < length u.slots + (tier_at u.tiers k).size →
-      v.limit < length v.slots + packed_slots (tier_sizes v.tiers) count
-  laid_range zero few grew past =
-      subst (λ n. v.limit < length v.slots + n) (sym (packed_tier v.tiers count k found some))
-      (subst (λ (x : Store S). x.limit < length x.slots + (tier_at x.tiers k).size) grew past)
-  laid_range (suc m) few grew past = absurd (omega (arith, few))

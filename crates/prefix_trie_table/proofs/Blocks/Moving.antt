@@ -1,12 +1,12 @@
 -- A list that moves to a block with no items.
-use Rattle.std.proofs.Common.{◌≡◌, ℕ, ◌+◌, ◌-◌, ◌<◌, ◌≤◌, ◌⊎◌, inl, inr, ⊎_elim, List, [], ◌∷◌, ◌++◌, length, map, take, drop, replicate, None, sym, ap, ◌∙◌, subst, arith}
+use Rattle.std.proofs.Common.{◌≡◌, ℕ, ◌+◌, ◌-◌, ◌<◌, ◌≤◌, ◌⊎◌, inl, inr, ⊎_elim, List, [], ◌∷◌, ◌++◌, length, map, take, drop, replicate, Option, sym, ap, ◌∙◌, subst, arith}
 use Rattle.std.proofs.lemmas.List.{length-replicate, take-take, take_at, drop_at, take-replicate, drop-replicate, replicate-append-replicate}
 use Rattle.std.proofs.lemmas.List.Elements.{All-head}
 use Rattle.prefix_trie_table.specs.Runs.{run, put_run, swap_runs}
-use Rattle.prefix_trie_table.specs.Store.{Store, UsedBlock, Sound, Spends, extent, free_extents, filled}
+use Rattle.prefix_trie_table.specs.Store.{Store, UsedBlock, Sound, Turnover, none_of, extent, free_extents, filled}
 use Rattle.prefix_trie_table.proofs.Blocks.Tilings.{Disjoint}
 use Rattle.prefix_trie_table.proofs.Blocks.Soundness.{Sound-exchanged, Sound-written, block_inside, fits_block, block_slots, filled_none, others}
-use Rattle.prefix_trie_table.proofs.Blocks.Spending.{Spends-swapped, Spends-written}
+use Rattle.prefix_trie_table.proofs.Blocks.Turnovers.{Turnover-swapped, Turnover-written}
 use Rattle.prefix_trie_table.proofs.Blocks.RunLemmas.{Apart, length-put_run, get_or-put_run_out, put_run_part, swap_runs_is}
 
 -- a block in use, and another that holds none
@@ -66,19 +66,19 @@ module _ {S : Type 0} (vacant : S) (a b : UsedBlock S) (live : List (UsedBlock S
       )
 
   -- and no block is taken, where the second then holds these
-  pub put_over_spends : (w : Store S) (items : List S) → length items ≤ b.size → w ≡ record v { slots = put_run (put_run v.slots a.start (replicate count vacant)) b.start items } → Spends v w None
-  put_over_spends w items fits e =
+  pub put_over_turned : (w : Store S) (items : List S) → length items ≤ b.size → w ≡ record v { slots = put_run (put_run v.slots a.start (replicate count vacant)) b.start items } → (o : Option ℕ) → Turnover v w none_of o o
+  put_over_turned w items fits e =
       let nb : length (replicate count vacant) ≡ count = length-replicate count vacant in
       let wa = block_inside vacant a (b ∷ live) v (Sound-exchanged vacant b a live v sound) in
       let wb = block_inside vacant b (a ∷ live) v sound in
       let ni : length (put_run v.slots a.start (replicate count vacant)) ≡ length v.slots = length-put_run v.slots a.start (replicate count vacant) (omega (arith, runs_within.0)) in
-      Spends-written v w (put_run (put_run v.slots a.start (replicate count vacant)) b.start items) e
+      Turnover-written v w (put_run (put_run v.slots a.start (replicate count vacant)) b.start items) e
       (length-put_run (put_run v.slots a.start (replicate count vacant)) b.start items (omega (arith, wb.before)) ∙ ni)
       (λ i d h. get_or-put_run_out (put_run v.slots a.start (replicate count vacant)) b.start items i d (omega (arith, wb.before)) (inl (let f : i < b.start = omega (arith, wb.after) in f))
       ∙ get_or-put_run_out v.slots a.start (replicate count vacant) i d (omega (arith, runs_within.0)) (inl (let f : i < a.start = omega (arith, wa.after) in f)))
 
   -- nor where its items are exchanged for those of the other
-  pub moved_spends : (w : Store S) → w ≡ record v { slots = swap_runs v.slots a.start b.start count } → Spends v w None
-  moved_spends w e =
-      Spends-swapped v w a.start b.start count e (block_inside vacant a (b ∷ live) v (Sound-exchanged vacant b a live v sound)).after
+  pub moved_turned : (w : Store S) → w ≡ record v { slots = swap_runs v.slots a.start b.start count } → (o : Option ℕ) → Turnover v w none_of o o
+  moved_turned w e =
+      Turnover-swapped v w a.start b.start count e (block_inside vacant a (b ∷ live) v (Sound-exchanged vacant b a live v sound)).after
       (block_inside vacant b (a ∷ live) v sound).after runs_within.0 runs_within.1

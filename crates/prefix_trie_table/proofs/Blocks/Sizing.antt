@@ -11,9 +11,9 @@ use Rattle.prefix_trie_bits.proofs.Model.Members.{same_string-is}
 use Rattle.prefix_trie_table.specs.declared.allocator.node.Node.{Node}
 use Rattle.prefix_trie_table.specs.Digits.{path_of}
 use Rattle.prefix_trie_table.specs.Cells.{node_sizes, cell_sizes}
-use Rattle.prefix_trie_table.specs.Store.{Store, Tier, no_blocks, size_in}
+use Rattle.prefix_trie_table.specs.Store.{Store, Tier, no_blocks, size_in, size_if_any, free_counts}
 use Rattle.prefix_trie_table.specs.Forest.{NodesHold, Holds, SomeTable}
-use Rattle.prefix_trie_table.specs.Layouts.{AreSizesBy, Sized, Sized-prop, child_block_size, value_block_size, size_if_any, free_counts}
+use Rattle.prefix_trie_table.specs.Layouts.{AreSizesBy, Sized, Sized-prop, child_block_size, value_block_size}
 use Rattle.prefix_trie_table.proofs.Strings.PathStrings.{string_at, string_path, AreSteps, first_steps, other_steps, paths_steps, listed_at}
 use Rattle.prefix_trie_table.proofs.Strings.BitLists.{rank-zero-all}
 use Rattle.prefix_trie_table.proofs.Tree.Shapes.{root_reading, no_values, root_here}

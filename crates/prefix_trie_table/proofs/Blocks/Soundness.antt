@@ -1,19 +1,17 @@
 -- What keeps a store sound.
-use Rattle.std.proofs.Common.{◌≡◌, ◌≢◌, ℕ, zero, suc, ◌+◌, ◌-◌, ◌*◌, ◌<◌, ◌≤◌, ⊎_elim, true, cond, eqb, leb, Some, List, [], ◌∷◌, ◌++◌, length, get_or, set, drop, map, replicate, insert, remove, sum_by, count_by, All, IsPermutation, refl, sym, ap, ◌∙◌, subst, arith, append_assoc, length-append}
-use Rattle.std.proofs.lemmas.List.{length-map, get_or_default, get_or-set_same, get_or-set_other, length-set, set-set, set-get_or, length-replicate, map-append, get_or-take, get_or-drop, get_or_append_left, set-append_left}
+use Rattle.std.proofs.Common.{◌≡◌, ◌≢◌, ℕ, zero, suc, ◌+◌, ◌-◌, ◌*◌, ◌<◌, ◌≤◌, ⊎_elim, cond, eqb, List, [], ◌∷◌, ◌++◌, length, get_or, set, drop, map, replicate, insert, remove, sum_by, count_by, All, IsPermutation, refl, sym, ap, ◌∙◌, subst, arith, append_assoc, length-append}
+use Rattle.std.proofs.lemmas.List.{get_or-set_same, get_or-set_other, length-set, set-set, set-get_or, length-replicate, map-append, get_or-take, get_or-drop, get_or_append_left, set-append_left}
 use Rattle.std.proofs.lemmas.List.Edits.{insert-append_left, insert-append_right, remove-append_left, remove-append_right, length-insert, length-remove}
 use Rattle.std.proofs.lemmas.List.Elements.{All-nil, All-cons, All-head, All-tail, All-weaker, All-same, All-map}
 use Rattle.std.proofs.lemmas.List.Sums.{sum_by-cons, sum_by-set}
 use Rattle.std.proofs.lemmas.List.Sorted.{All-permutation, IsPermutation-refl, IsPermutation-sym, IsPermutation-trans, IsPermutation-cons, IsPermutation-to_front, IsPermutation-middle, IsPermutation-append_left, IsPermutation-append_right, IsPermutation-map, sum_by-IsPermutation}
-use Rattle.std.proofs.lemmas.Bool.{cases_eq, cases_lt, false≢true, le-leb}
-use Rattle.std.proofs.lemmas.List.Quantifiers.{position-Some}
+use Rattle.std.proofs.lemmas.Bool.{cases_eq}
 use Rattle.std.proofs.lemmas.Bool.Decides.{nat_tests}
-use Rattle.std.specs.Prelude.{Contains}
 use Rattle.prefix_trie_bits.specs.Model.Blocks.{Tiles, AreBlocksOf, Block as Extent}
 use Rattle.prefix_trie_table.specs.Runs.{run, put_run}
-use Rattle.prefix_trie_table.specs.Store.{Tier, Store, UsedBlock, Sound, IsOfTier, HoldsItems, IsVacant, tier_at, tier_sizes, slots_made, extent, of_size, free_extents, with_tier, grown, filled, block, tier_for, no_blocks}
+use Rattle.prefix_trie_table.specs.Store.{Tier, Store, UsedBlock, Sound, IsOfTier, HoldsItems, IsVacant, tier_at, tier_sizes, slots_made, extent, of_size, free_extents, with_tier, grown, filled, block, held, no_blocks}
 use Rattle.prefix_trie_table.proofs.Blocks.RunLemmas.{Apart, length-run, length-put_run, run-put_run_same, run-put_run_other, run-append_left, run-append_right, moved_in_run, set_in_run, run-set_before}
-use Rattle.prefix_trie_table.proofs.Blocks.Spending.{size_at, sizes_set}
+use Rattle.prefix_trie_table.proofs.Blocks.BySize.{sizes_set, has_size}
 use Rattle.prefix_trie_table.proofs.Blocks.Tilings.{Disjoint, Within, Tiles-push, others_apart, each_within, first_inside, blocks_moved, All-append_left, All-append_right}
 
 -- one more free block of a tier
@@ -48,12 +46,6 @@ free_popped ts k t x inside same popped =
     let back : set (set ts k t) k (tier_at ts k) ≡ ts = set-set ts k t (tier_at ts k) ∙ set-get_or ts k _ in
     let pushed = free_pushed (set ts k t) k (tier_at ts k) x _ there (sym same ∙ ap (λ (u : Tier). u.size) (sym at)) (popped ∙ ap (λ (u : Tier). u.starts ++ x ∷ []) (sym at)) in
     IsPermutation-sym _ _ (subst (λ us. IsPermutation (of_size (tier_at ts k).size x ∷ free_extents (set ts k t)) (free_extents us)) back pushed)
-
--- a tier's size is one of the sizes
-has_size : (ts : List Tier) (k : ℕ) → k < length ts → Contains (tier_sizes ts) (tier_at ts k).size
-has_size ts k inside =
-    let there : k < length (tier_sizes ts) = (let n = length-map ts (λ t. t.size) in omega (arith, inside, n)) in
-    (k, there, get_or_default (tier_sizes ts) k (tier_at ts k).size 0 there ∙ sym (size_at ts k))
 
 module _ {S : Type 0} where
   of_tier_stays : (ts : List Tier) (k : ℕ) (t : Tier) (live : List (UsedBlock S)) → k < length ts → t.size ≡ (tier_at ts k).size → All (IsOfTier ts) live → All (IsOfTier (set ts k t)) live
@@ -291,18 +283,19 @@ module _ {S : Type 0} where
   pub tier_of_block : (vacant : S) (b : UsedBlock S) (live : List (UsedBlock S)) (v : Store S) → Sound vacant (b ∷ live) v → IsOfTier v.tiers b
   tier_of_block vacant b live v s = All-head (IsOfTier v.tiers) b live s.of_tier
 
--- the tier that holds n
-pub tier_for_holds : (ts : List Tier) (n k : ℕ) → tier_for ts n ≡ Some k → (k < length ts) × (n ≤ (tier_at ts k).size)
-tier_for_holds ts n k e =
-    let found = position-Some (λ (t : Tier). leb n t.size) ts k (record { size = 0; made = 0; starts = [] }) e in
-    let passes : leb n (tier_at ts k).size ≡ true = found.1 in
-    (found.0, grind (arith, nat_tests))
+module _ {S : Type 0} where
+  -- a list with items stands in a block
+  pub list_block : (vacant : S) (k start n : ℕ) (xs : List S) (live : List (UsedBlock S)) (v : Store S) → 0 < length xs → Sound vacant (held k start n xs ++ live) v → Sound vacant (block k start n xs ∷ live) v
+  list_block vacant k start n [] live v h s = absurd (omega arith)
+  list_block vacant k start n (x ∷ xs) live v h s = s
 
--- the smallest block that holds n is none larger than one that does
-pub tier_for-first : (ts : List Tier) (n k to : ℕ) → tier_for ts n ≡ Some to → n ≤ (tier_at ts k).size → to ≤ k
-tier_for-first ts n k to e fits =
-    let found = position-Some (λ (t : Tier). leb n t.size) ts to (record { size = 0; made = 0; starts = [] }) e in
-    ⊎_elim (λ (before : k < to). absurd (false≢true (sym (found.2 k before) ∙ le-leb n (tier_at ts k).size fits))) (λ (h : to ≤ k). h) (cases_lt k to)
+  pub block_list : (vacant : S) (k start n : ℕ) (xs : List S) (live : List (UsedBlock S)) (v : Store S) → 0 < length xs → Sound vacant (block k start n xs ∷ live) v → Sound vacant (held k start n xs ++ live) v
+  block_list vacant k start n [] live v h s = absurd (omega arith)
+  block_list vacant k start n (x ∷ xs) live v h s = s
+
+  pub no_list : (vacant : S) (k start n : ℕ) (xs : List S) (live : List (UsedBlock S)) (v : Store S) → length xs ≡ 0 → Sound vacant live v → Sound vacant (held k start n xs ++ live) v
+  no_list vacant k start n [] live v h s = s
+  no_list vacant k start n (x ∷ xs) live v h s = absurd (omega arith)
 
 -- no block is made
 slots_made_none : (ts : List Tier) → All (λ t. (t.made ≡ 0) × (t.starts ≡ [])) ts → slots_made ts ≡ 0

@@ -1,17 +1,15 @@
 -- The sizes of the two arrays: kept where a tier changes otherwise, and in one table by count.
-use Rattle.std.proofs.Common.{◌≡◌, ℕ, zero, suc, ◌+◌, ◌*◌, ◌<◌, ◌≤◌, inl, inr, ⊎_elim, Bool, true, false, cond, not, is_some, List, [], ◌∷◌, length, Option, None, Some, IsSome, get_or, set, map, sum_by, nat_le, nat_eq, eqb-true, refl, sym, ap, ◌∙◌, subst, arith}
+use Rattle.std.proofs.Common.{◌≡◌, ℕ, zero, suc, ◌+◌, ◌*◌, ◌<◌, ◌≤◌, inl, inr, ⊎_elim, Bool, true, ◌&&◌, nat_lt, List, [], ◌∷◌, length, Option, None, Some, IsSome, get_or, set, map, sum_by, nat_eq, eqb-true, ltb-true, refl, sym, ap, ◌∙◌, subst, arith}
 use Rattle.std.proofs.lemmas.List.{length-map, get_or_default}
 use Rattle.std.proofs.lemmas.List.Sums.{sum_by-set, get_or-le-sum_by}
-use Rattle.std.proofs.lemmas.Bool.{lt-ltb}
-use Rattle.std.proofs.lemmas.Bool.Decides.{nat_tests}
-use Rattle.std.specs.List.{position, prefix_len, position_or_len}
+use Rattle.std.proofs.lemmas.Bool.{and_parts}
+use Rattle.prefix_trie_bits.specs.Model.Blocks.{smallest_size}
 use Rattle.prefix_trie_bits.proofs.Checks.{below, at_below}
-use Rattle.prefix_trie_table.specs.Store.{Tier, tier_at, tier_sizes, tier_for, size_in, slots_made, no_blocks}
+use Rattle.prefix_trie_table.specs.Store.{Tier, tier_at, tier_sizes, size_in, slots_made, no_blocks}
 use Rattle.prefix_trie_table.specs.Cells.{cell_sizes, node_sizes, HasSizes}
 use Rattle.prefix_trie_table.specs.declared.allocator.blocks.tiers.TheConstants.{TIERS}
 use Rattle.prefix_trie_table.proofs.Blocks.SevenTiers.{at_seven}
-use Rattle.prefix_trie_table.proofs.Blocks.Soundness.{tier_for_holds}
-use Rattle.prefix_trie_table.proofs.Blocks.Spending.{size_at, sizes_set, tier_for_sizes}
+use Rattle.prefix_trie_table.proofs.Blocks.BySize.{size_at, sizes_set, tiers_long, smallest_holds}
 
 pub sizes_kept : (ts : List Tier) (k : ℕ) (t : Tier) → HasSizes ts → t.size ≡ (tier_at ts k).size → HasSizes (set ts k t)
 unfolding HasSizes
@@ -77,16 +75,16 @@ sizes_small =
     (at_seven (λ k. size_in node_sizes k < 33) (omega arith) (omega arith) (omega arith) (omega arith) (omega arith) (omega arith) (omega arith))
 
 -- the tier by the table, where one holds so many
-abbrev is_tier : Option ℕ → ℕ → Bool
-is_tier None n = true
-is_tier (Some k) n = nat_eq k n
+abbrev is_size : Option ℕ → ℕ → Bool
+is_size None n = true
+is_size (Some k) n = nat_eq k n
 
-tier-is : (o : Option ℕ) (n : ℕ) → is_tier o n ≡ true → IsSome o → o ≡ Some n
-tier-is None n h some = absurd cc
-tier-is (Some k) n h some = ap Some (eqb-true k n h)
+size-is : (o : Option ℕ) (n : ℕ) → is_size o n ≡ true → IsSome o → o ≡ Some n
+size-is None n h some = absurd cc
+size-is (Some k) n h some = ap Some (eqb-true k n h)
 
 unfoldable is_in_table : List ℕ → ℕ → Bool
-is_in_table sizes n = is_tier (position (λ s. nat_le n s) sizes) (get_or TIERS n 0)
+is_in_table sizes n = is_size (smallest_size sizes n) (size_in sizes (get_or TIERS n 0)) && nat_lt (get_or TIERS n 0) 7
 
 cells-right : below (is_in_table cell_sizes) 33 ≡ true
 unfolding below is_in_table
@@ -97,43 +95,30 @@ unfolding below is_in_table
 nodes-right = refl
 
 -- a count that some tier holds is in the table
-pub held_small : (ts : List Tier) (n : ℕ) → HasSizes ts → IsSome (tier_for ts n) → n < 33
+pub held_small : (ts : List Tier) (n : ℕ) → HasSizes ts → IsSome (smallest_size (tier_sizes ts) n) → n < 33
 held_small ts n has some =
-    let found = some_is (tier_for ts n) some in
-    let holds = tier_for_holds ts n found.0 found.1 in
-    omega (arith, holds.1, sizes_small ts has found.0 holds.0)
+    let found = some_is (smallest_size (tier_sizes ts) n) some in
+    let holds = smallest_holds (tier_sizes ts) n found.0 found.1 in
+    let inside : holds.0.0 < length ts = (let i = holds.0.1 in let l = tiers_long ts (tier_sizes ts) refl in omega (arith, i, l)) in
+    let is : size_in (tier_sizes ts) holds.0.0 ≡ found.0 = get_or_default (tier_sizes ts) holds.0.0 0 found.0 holds.0.1 ∙ holds.0.2 in
+    omega (arith, holds.1, sizes_small ts has holds.0.0 inside, size_at ts holds.0.0, is)
   where
     some_is : (o : Option ℕ) → IsSome o → (k : ℕ) × (o ≡ Some k)
     some_is None h = absurd cc
     some_is (Some k) h = (k, refl)
 
 -- and its tier is the one there
-pub tier_in_table : (ts : List Tier) (n : ℕ) → HasSizes ts → IsSome (tier_for ts n) → tier_for ts n ≡ Some (get_or TIERS n 0)
+pub tier_in_table : (ts : List Tier) (n : ℕ) → HasSizes ts → IsSome (smallest_size (tier_sizes ts) n) →
+    (get_or TIERS n 0 < length ts) × (smallest_size (tier_sizes ts) n ≡ Some (size_in (tier_sizes ts) (get_or TIERS n 0)))
 unfolding is_in_table HasSizes
 tier_in_table ts n has some =
-    ⊎_elim (λ (e : tier_sizes ts ≡ cell_sizes). by cell_sizes e cells-right) (λ (e : tier_sizes ts ≡ node_sizes). by node_sizes e nodes-right) has
+    ⊎_elim (λ (e : tier_sizes ts ≡ cell_sizes). by cell_sizes e refl cells-right) (λ (e : tier_sizes ts ≡ node_sizes). by node_sizes e refl nodes-right) has
   where
-    by : (sizes : List ℕ) → tier_sizes ts ≡ sizes → below (is_in_table sizes) 33 ≡ true → tier_for ts n ≡ Some (get_or TIERS n 0)
-    by sizes e right =
-        let at : tier_for ts n ≡ position (λ s. nat_le n s) sizes = tier_for_sizes ts n ∙ ap (λ ns. position (λ s. nat_le n s) ns) e in
-        tier-is (tier_for ts n) (get_or TIERS n 0) (ap (λ o. is_tier o (get_or TIERS n 0)) at ∙ at_below (is_in_table sizes) 33 right n (held_small ts n has some)) some
-
--- a list that has a size that passes
-passes_first : (f : ℕ → Bool) (xs : List ℕ) (k : ℕ) → k < length xs → f (get_or xs k 0) ≡ true → prefix_len (λ x. not (f x)) xs < length xs
-passes_first f [] k h e = absurd (omega arith)
-passes_first f (x ∷ xs) zero h e = subst (λ b. cond (not b) (1 + prefix_len (λ y. not (f y)) xs) 0 < suc (length xs)) (sym e) (omega arith)
-passes_first f (x ∷ xs) (suc k) h e =
-    let ih : prefix_len (λ y. not (f y)) xs < length xs = passes_first f xs k (omega arith) e in
-    elim (f x) as (λ b. cond (not b) (1 + prefix_len (λ y. not (f y)) xs) 0 < suc (length xs)) [ true ↦ omega arith | false ↦ omega arith ]
-
-pub position_there : (f : ℕ → Bool) (xs : List ℕ) (k : ℕ) → k < length xs → f (get_or xs k 0) ≡ true → IsSome (position f xs)
-position_there f xs k h e =
-    ap (λ b. is_some (cond b (Some (position_or_len f xs)) None)) (lt-ltb (position_or_len f xs) (length xs) (passes_first f xs k h e))
-
-pub tier_there : (ts : List Tier) (n k : ℕ) → k < length ts → n ≤ (tier_at ts k).size → IsSome (tier_for ts n)
-tier_there ts n k inside fits =
-    subst IsSome (sym (tier_for_sizes ts n)) (position_there (λ s. nat_le n s) (tier_sizes ts) k (omega (arith, length-map ts (λ t. t.size)))
-    (ap (λ s. nat_le n s) (sym (size_at ts k)) ∙ le_leb n (tier_at ts k).size fits))
-  where
-    le_leb : (a b : ℕ) → a ≤ b → nat_le a b ≡ true
-    le_leb a b h = grind (arith, nat_tests)
+    by : (sizes : List ℕ) → tier_sizes ts ≡ sizes → length sizes ≡ 7 → below (is_in_table sizes) 33 ≡ true →
+        (get_or TIERS n 0 < length ts) × (smallest_size (tier_sizes ts) n ≡ Some (size_in (tier_sizes ts) (get_or TIERS n 0)))
+    by sizes e seven right =
+        let both = and_parts (is_size (smallest_size sizes n) (size_in sizes (get_or TIERS n 0))) (nat_lt (get_or TIERS n 0) 7) (at_below (is_in_table sizes) 33 right n (held_small ts n has some)) in (
+          (let less = ltb-true (get_or TIERS n 0) 7 both.1 in let l = tiers_long ts sizes e in omega (arith, less, l, seven)),
+          subst (λ ns. smallest_size ns n ≡ Some (size_in ns (get_or TIERS n 0))) (sym e)
+              (size-is (smallest_size sizes n) (size_in sizes (get_or TIERS n 0)) both.0 (subst (λ ns. IsSome (smallest_size ns n)) e some)),
+        )

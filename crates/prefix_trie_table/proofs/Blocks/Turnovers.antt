@@ -1,193 +1,189 @@
--- What calls on blocks make, take and give back.
-use Rattle.std.proofs.Common.{◌≡◌, ◌≢◌, ℕ, zero, suc, ◌+◌, ◌-◌, ◌*◌, ◌<◌, ◌≤◌, ⊎_elim, replicate, List, [], ◌∷◌, ◌++◌, length, set, take, refl, sym, ap, ◌∙◌, subst, arith, length-append}
-use Rattle.std.proofs.Math.Nat.{mul-add, mul-le-mul_left}
-use Rattle.std.proofs.lemmas.List.{get_or-set_same, get_or-set_other, length-map, length-take-le, length-replicate}
-use Rattle.std.proofs.lemmas.Bool.{cases_eq}
-use Rattle.std.proofs.lemmas.Bool.Decides.{nat_tests}
-use Rattle.prefix_trie_table.specs.Store.{Tier, Store, tier_at, with_tier, taken, grown, grown_times, tier_sizes, size_in, free_at, many_at, none_at, slots_of, Turnover, KeepsMade, SameMade}
-use Rattle.prefix_trie_table.proofs.Blocks.Spending.{size_at, sizes_set}
-
-pub many_here : (k m : ℕ) → many_at k m k ≡ m
-many_here k m = grind (arith, nat_tests)
-
-pub many_other : (k m j : ℕ) → j ≢ k → many_at k m j ≡ 0
-many_other k m j n = grind (arith, nat_tests)
-
--- the next size
-many_next : (k m j : ℕ) → many_at (suc k) m (suc j) ≡ many_at k m j
-many_next k m j = ⊎_elim (λ (e : j ≡ k). ap (many_at (suc k) m) (ap suc e) ∙ many_here (suc k) m ∙ sym (many_here k m) ∙ ap (many_at k m) (sym e)) (λ (n : j ≢ k). many_other (suc k) m (suc j) (λ e. n (omega arith)) ∙ sym (many_other k m j n)) (cases_eq j k)
-
-pub many-add : (k m n j : ℕ) → many_at k (m + n) j ≡ many_at k m j + many_at k n j
-many-add k m n j = ⊎_elim (λ (e : j ≡ k). (let a = many_here k m in let b = many_here k n in let c = many_here k (m + n) in subst (λ i. many_at k (m + n) i ≡ many_at k m i + many_at k n i) (sym e) (omega arith))) (λ (d : j ≢ k). (let a = many_other k m j d in let b = many_other k n j d in let c = many_other k (m + n) j d in omega arith)) (cases_eq j k)
-
--- what is needed of a tier beyond the free ones
-pub many-sub : (k m : ℕ) (f : ℕ → ℕ) (j : ℕ) → many_at k (m - f k) j ≡ many_at k m j - f j
-many-sub k m f j = ⊎_elim (λ (e : j ≡ k). subst (λ i. many_at k (m - f k) i ≡ many_at k m i - f i) (sym e) (let a = many_here k (m - f k) in let b = many_here k m in omega arith)) (λ (n : j ≢ k). (let a = many_other k (m - f k) j n in let b = many_other k m j n in omega arith)) (cases_eq j k)
-
-pub slots_of-le : (sizes : List ℕ) (m n : ℕ → ℕ) → ((j : ℕ) → m j ≤ n j) → slots_of sizes m ≤ slots_of sizes n
-slots_of-le [] m n le = omega arith
-slots_of-le (size ∷ sizes) m n le =
-    let rest = slots_of-le sizes (λ j. m (suc j)) (λ j. n (suc j)) (λ j. le (suc j)) in
-    omega (arith, mul-le-mul_left size (le 0))
-
-pub slots_of-same : (sizes : List ℕ) (m n : ℕ → ℕ) → ((j : ℕ) → m j ≡ n j) → slots_of sizes m ≡ slots_of sizes n
-slots_of-same sizes m n e =
-    let a = slots_of-le sizes m n (λ j. (let h = e j in omega arith)) in
-    let b = slots_of-le sizes n m (λ j. (let h = e j in omega arith)) in
-    omega arith
-
-pub slots_of-add : (sizes : List ℕ) (m n : ℕ → ℕ) → slots_of sizes (λ j. m j + n j) ≡ slots_of sizes m + slots_of sizes n
-slots_of-add [] m n = refl
-slots_of-add (size ∷ sizes) m n =
-    let rest = slots_of-add sizes (λ j. m (suc j)) (λ j. n (suc j)) in
-    omega (arith, mul-add size (m 0) (n 0))
-
-pub slots_of-none : (sizes : List ℕ) (n : ℕ → ℕ) → ((j : ℕ) → n j ≡ 0) → slots_of sizes n ≡ 0
-slots_of-none [] n e = refl
-slots_of-none (size ∷ sizes) n e =
-    let rest = slots_of-none sizes (λ j. n (suc j)) (λ j. e (suc j)) in
-    let here : size * n 0 ≡ size * 0 = ap (λ x. size * x) (e 0) in
-    omega arith
-
-pub slots_of-many : (sizes : List ℕ) (k m : ℕ) → k < length sizes → slots_of sizes (many_at k m) ≡ size_in sizes k * m
-slots_of-many [] k m inside = absurd (omega arith)
-slots_of-many (size ∷ sizes) zero m inside =
-    let rest = slots_of-none sizes (λ j. many_at 0 m (suc j)) (λ j. many_other 0 m (suc j) (λ e. omega arith)) in
-    let here : size * many_at 0 m 0 ≡ size * m = ap (λ x. size * x) (many_here 0 m) in
-    omega arith
-slots_of-many (size ∷ sizes) (suc k) m inside =
-    let rest : slots_of sizes (λ j. many_at (suc k) m (suc j)) ≡ slots_of sizes (many_at k m) = slots_of-same sizes (λ j. many_at (suc k) m (suc j)) (many_at k m) (many_next k m) in
-    let here : size * many_at (suc k) m 0 ≡ size * 0 = ap (λ x. size * x) (many_other (suc k) m 0 (λ e. omega arith)) in
-    let next = slots_of-many sizes k m (omega arith) in
-    omega arith
-
--- a list that lost its last was not empty
-pub some_free : (xs ys : List ℕ) (x : ℕ) → xs ≡ ys ++ x ∷ [] → 0 < length xs
-some_free xs ys x e = (let n : length xs ≡ length (ys ++ x ∷ []) = ap (λ zs. length zs) e in omega (arith, length-append ys (x ∷ [])))
-
--- each tier after one was set
-tiers_set : (P : ℕ → Tier → Type 0) (ts : List Tier) (k : ℕ) (t : Tier) → k < length ts → P k t → ((j : ℕ) → j ≢ k → P j (tier_at ts j)) → (j : ℕ) → P j (tier_at (set ts k t) j)
-tiers_set P ts k t inside here there j =
-    ⊎_elim (λ (e : j ≡ k). subst (λ i. P i (tier_at (set ts k t) i)) (sym e) (subst (P k) (sym (get_or-set_same ts k t _ inside)) here)) (λ (n : j ≢ k). subst (P j) (sym (get_or-set_other ts k j t _ n)) (there j n)) (cases_eq j k)
+-- What calls on blocks make, take and give back, and what they leave of the rest.
+use Rattle.std.proofs.Common.{◌≡◌, ◌≢◌, ℕ, zero, suc, ◌+◌, ◌*◌, ◌<◌, ◌≤◌, true, List, ◌++◌, length, get_or, set, insert, remove, swap, replicate, Option, None, Some, refl, sym, ap, ◌∙◌, subst, arith, length-append}
+use Rattle.std.proofs.lemmas.List.{length-replicate, length-set, get_or_append_left}
+use Rattle.std.proofs.lemmas.List.Edits.{get_or-insert_below, get_or-remove_below, length-insert, length-remove, Swapped, swapped_from_swap}
+use Rattle.std.specs.Prelude.{Contains}
+use Rattle.std.specs.Option.{option_or}
+use Rattle.prefix_trie_bits.specs.Model.Blocks.{one_of}
+use Rattle.prefix_trie_bits.proofs.Model.Storage.Readied.{goes_up}
+use Rattle.prefix_trie_table.specs.Runs.{swap_runs}
+use Rattle.prefix_trie_table.specs.Store.{Tier, Store, Turnover, Keeps, KeepsMade, SameMade, SameRoom, AreFree, tier_at, with_tier, tier_sizes, size_in, free_in, made_in, many_of, none_of, slots_of, lacking_in}
+use Rattle.prefix_trie_table.proofs.Blocks.BySize.{size_at, sizes_set, has_size, number_set, many_here, many_other, many-none, slots_of-same, slots_of-add, slots_of-none, slots_of-many}
+use Rattle.prefix_trie_table.proofs.Blocks.RunLemmas.{length-swap_runs}
 
 module _ {S : Type 0} where
-  -- a turnover loses no block
-  pub made_turned : (v w : Store S) (m t g : ℕ → ℕ) → Turnover v w m t g → KeepsMade v w
-  made_turned v w m t g a = λ j. (let e = a.made_is j in omega arith)
+  -- ---- what stays
 
-  pub made_kept : (v w : Store S) → SameMade v w → KeepsMade v w
-  made_kept v w same = λ j. (let e = same j in omega arith)
+  pub Keeps-same : (v w : Store S) → w ≡ v → Keeps v w
+  Keeps-same v w e = subst (λ x. Keeps v x) (sym e) (record { first_is = refl; limit_is = refl; sizes = refl; before = λ i d h. refl; longer = omega arith; within = λ h. h })
+
+  pub Keeps-then : (v w x : Store S) → Keeps v w → Keeps w x → Keeps v x
+  Keeps-then v w x a b = record {
+    first_is = b.first_is ∙ a.first_is;
+    limit_is = b.limit_is ∙ a.limit_is;
+    sizes = b.sizes ∙ a.sizes;
+    before = λ i d h. b.before i d (let e = a.first_is in omega arith) ∙ a.before i d h;
+    longer = (let p = a.longer in let q = b.longer in omega arith);
+    within = λ h. b.within (a.within h);
+  }
+
+  -- a turnover loses no block
+  pub made_turned : (v w : Store S) (m : ℕ → ℕ) (o p : Option ℕ) → Turnover v w m o p → KeepsMade v w
+  made_turned v w m o p t = λ size. (let e = t.made_is size in omega (arith, e))
 
   -- where none is made, as many are there
-  pub same_turned : (v w : Store S) (t g : ℕ → ℕ) → Turnover v w none_at t g → SameMade v w
-  same_turned v w t g a = λ j. (let e = a.made_is j in omega arith)
+  pub same_turned : (v w : Store S) (o p : Option ℕ) → Turnover v w none_of o p → SameMade v w
+  same_turned v w o p t = λ size. (let e = t.made_is size in omega (arith, e))
+
+  -- and the array is as long
+  pub room_turned : (v w : Store S) (m : ℕ → ℕ) (o p : Option ℕ) → ((size : ℕ) → m size ≡ 0) → Turnover v w m o p → SameRoom v w
+  room_turned v w m o p none t =
+      ((let l = t.longer in let n = slots_of-none (tier_sizes v.tiers) m none in omega (arith, l, n)), t.keeps.first_is, t.keeps.limit_is)
+
+  pub made_kept : (v w : Store S) → SameMade v w → KeepsMade v w
+  made_kept v w same = λ size. (let e = same size in omega (arith, e))
 
   -- nor do the same tiers
   pub made_same : (v w : Store S) → w.tiers ≡ v.tiers → KeepsMade v w
-  made_same v w e = subst (λ ts. (j : ℕ) → (tier_at v.tiers j).made ≤ (tier_at ts j).made) (sym e) (λ j. omega arith)
+  made_same v w e = λ size. (let h : made_in w.tiers size ≡ made_in v.tiers size = ap (λ ts. made_in ts size) e in omega (arith, h))
 
   pub made_then : (v w x : Store S) → KeepsMade v w → KeepsMade w x → KeepsMade v x
-  made_then v w x a b = λ j. (let p = a j in let q = b j in omega arith)
+  made_then v w x a b = λ size. (let p = a size in let q = b size in omega (arith, p, q))
 
-  pub tiers_stay : (v w : Store S) → tier_sizes w.tiers ≡ tier_sizes v.tiers → length w.tiers ≡ length v.tiers
-  tiers_stay v w e = sym (length-map w.tiers (λ t. t.size)) ∙ ap (λ ns. length ns) e ∙ length-map v.tiers (λ t. t.size)
+  -- the tiers have the sizes that they had
+  pub size_kept : (v w : Store S) (k : ℕ) → tier_sizes w.tiers ≡ tier_sizes v.tiers → (tier_at w.tiers k).size ≡ (tier_at v.tiers k).size
+  size_kept v w k e = size_at w.tiers k ∙ ap (λ ns. size_in ns k) e ∙ sym (size_at v.tiers k)
 
-  pub Turnover-same : (v w : Store S) → w ≡ v → Turnover v w none_at none_at none_at
-  Turnover-same v w e = subst (λ x. Turnover v x none_at none_at none_at) (sym e) (record {
-    made_is = λ j. omega arith;
-    free_is = λ j. omega arith;
-    longer = (let n = slots_of-none (tier_sizes v.tiers) none_at (λ j. refl) in omega arith);
-    sizes = refl;
-    limit_is = refl;
-  })
+  -- ---- turnovers
 
-  pub Turnover-then : (v w x : Store S) (m t g m' t' g' : ℕ → ℕ) → Turnover v w m t g → Turnover w x m' t' g' → Turnover v x (λ j. m j + m' j) (λ j. t j + t' j) (λ j. g j + g' j)
-  Turnover-then v w x m t g m' t' g' a b = record {
-    made_is = λ j. (let p = a.made_is j in let q = b.made_is j in omega arith);
-    free_is = λ j. (let p = a.free_is j in let q = b.free_is j in omega arith);
-    longer = (let p = a.longer in let q = b.longer in let r = slots_of-add (tier_sizes v.tiers) m m' in let e : slots_of (tier_sizes w.tiers) m' ≡ slots_of (tier_sizes v.tiers) m' = ap (λ ns. slots_of ns m') a.sizes in omega arith);
-    sizes = b.sizes ∙ a.sizes;
-    limit_is = b.limit_is ∙ a.limit_is;
+  pub Turnover-as : (v w : Store S) (m n : ℕ → ℕ) (o p : Option ℕ) → ((size : ℕ) → m size ≡ n size) → Turnover v w m o p → Turnover v w n o p
+  Turnover-as v w m n o p same t = record {
+    keeps = t.keeps;
+    made_is = λ size. (let a = t.made_is size in let e = same size in omega (arith, a, e));
+    free_is = λ size. (let a = t.free_is size in let e = same size in omega (arith, a, e));
+    longer = t.longer ∙ ap (λ s. length v.slots + s) (slots_of-same (tier_sizes v.tiers) m n (λ size at. same size));
   }
 
-  pub Turnover-as : (v w : Store S) (m t g m' t' g' : ℕ → ℕ) → Turnover v w m t g → ((j : ℕ) → m j ≡ m' j) → ((j : ℕ) → t j + g' j ≡ t' j + g j) → Turnover v w m' t' g'
-  Turnover-as v w m t g m' t' g' a em et = record {
-    made_is = λ j. (let p = a.made_is j in let q = em j in omega arith);
-    free_is = λ j. (let p = a.free_is j in let q = em j in let r = et j in omega arith);
-    longer = (let p = a.longer in let r = slots_of-same (tier_sizes v.tiers) m m' em in omega arith);
-    sizes = a.sizes;
-    limit_is = a.limit_is;
+  -- one after another: the blocks that lists left and entered add up
+  pub Turnover-then : (v w x : Store S) (m n : ℕ → ℕ) (a b c d o p : Option ℕ) →
+      ((size : ℕ) → one_of a size + one_of c size + one_of p size ≡ one_of b size + one_of d size + one_of o size) →
+      Turnover v w m a b → Turnover w x n c d → Turnover v x (λ size. m size + n size) o p
+  Turnover-then v w x m n a b c d o p sum first second = record {
+    keeps = Keeps-then v w x first.keeps second.keeps;
+    made_is = λ size. (let f = first.made_is size in let s = second.made_is size in omega (arith, f, s));
+    free_is = λ size. (let f = first.free_is size in let s = second.free_is size in let e = sum size in omega (arith, f, s, e));
+    longer = (let f = first.longer in let s = second.longer in let r = slots_of-add (tier_sizes v.tiers) m n in
+        let e : slots_of (tier_sizes w.tiers) n ≡ slots_of (tier_sizes v.tiers) n = ap (λ ns. slots_of ns n) first.keeps.sizes in omega (arith, f, s, r, e));
   }
 
-  pub Turnover-grown : (vacant : S) (v w : Store S) (k : ℕ) → k < length v.tiers → w ≡ grown vacant v k → Turnover v w (many_at k 1) none_at none_at
-  Turnover-grown vacant v w k inside e = subst (λ x. Turnover v x (many_at k 1) none_at none_at) (sym e) (record {
-    made_is = tiers_set (λ j u. u.made ≡ (tier_at v.tiers j).made + many_at k 1 j) v.tiers k new inside (let h = many_here k 1 in omega arith) (λ j n. (let h = many_other k 1 j n in omega arith));
-    free_is = tiers_set (λ j u. length u.starts + 0 ≡ free_at v.tiers j + many_at k 1 j + 0) v.tiers k new inside (let h = many_here k 1 in omega (arith, length-append (tier_at v.tiers k).starts (length v.slots ∷ []))) (λ j n. (let h = many_other k 1 j n in omega arith));
-    longer = (let n = slots_of-many (tier_sizes v.tiers) k 1 (omega (arith, length_sizes)) in let s = size_at v.tiers k in let r = length-replicate (tier_at v.tiers k).size vacant in omega (arith, length-append v.slots (replicate (tier_at v.tiers k).size vacant)));
-    sizes = sizes_set v.tiers k new refl;
-    limit_is = refl;
+  -- a list moved from a block of the size `old` to one of the size `new`
+  pub Turnover-moved : (v u w x : Store S) (m : ℕ → ℕ) (old new : Option ℕ) → Turnover v u m None new → Turnover u w none_of None None → Turnover w x none_of old None → Turnover v x m old new
+  Turnover-moved v u w x m old new a b c =
+      Turnover-as v x _ m old new (λ size. omega arith)
+      (Turnover-then v w x _ none_of None new old None old new (λ size. omega arith) (Turnover-then v u w m none_of None new None None None new (λ size. omega arith) a b) c)
+
+  -- slots behind the first block's start are written
+  pub Turnover-written : (v w : Store S) (xs : List S) → w ≡ record v { slots = xs } → length xs ≡ length v.slots →
+      ((i : ℕ) (d : S) → i < v.first → get_or xs i d ≡ get_or v.slots i d) → (o : Option ℕ) → Turnover v w none_of o o
+  Turnover-written v w xs e len same o = subst (λ x. Turnover v x none_of o o) (sym e) (record {
+    keeps = record { first_is = refl; limit_is = refl; sizes = refl; before = same; longer = omega (arith, len); within = λ h. omega (arith, len, h) };
+    made_is = λ size. omega arith;
+    free_is = λ size. omega arith;
+    longer = (let n = slots_of-none (tier_sizes v.tiers) none_of (λ j. refl) in omega (arith, len, n));
   })
+
+  pub Turnover-same : (v w : Store S) → w ≡ v → (o : Option ℕ) → Turnover v w none_of o o
+  Turnover-same v w e o = Turnover-written v w v.slots e refl (λ i d h. refl) o
+
+  -- a slot is taken out, and another put in
+  pub Turnover-shifted : (v w : Store S) (a b : ℕ) (x : S) → w ≡ record v { slots = insert (remove v.slots a) b x } → v.first ≤ a → v.first ≤ b → a < length v.slots →
+      b < length v.slots → (o : Option ℕ) → Turnover v w none_of o o
+  Turnover-shifted v w a b x e behind_a behind_b in_a in_b =
+      let less = length-remove v.slots a in_a in
+      Turnover-written v w (insert (remove v.slots a) b x) e
+      (let l = length-insert (remove v.slots a) b x (omega (arith, less, in_b)) in omega (arith, less, l))
+      (λ i d h. get_or-insert_below (remove v.slots a) b x d i (omega (arith, h, behind_b)) (omega (arith, less, in_b)) ∙ get_or-remove_below v.slots a d i (omega (arith, h, behind_a)) in_a)
+
+  before_swaps : (xs : List S) (a b n i : ℕ) (d : S) → i < a → i < b → a + n ≤ length xs → b + n ≤ length xs → get_or (swap_runs xs a b n) i d ≡ get_or xs i d
+  before_swaps xs a b zero i d ha hb fa fb = refl
+  before_swaps xs a b (suc n) i d ha hb fa fb =
+      let len : length (swap_runs xs a b n) ≡ length xs = length-swap_runs xs a b n in
+      let step : Swapped (λ j. get_or (swap_runs xs a b n) j d) (λ j. get_or (swap (swap_runs xs a b n) (a + n) (b + n)) j d) (a + n) (b + n) = swapped_from_swap (swap_runs xs a b n) (swap (swap_runs xs a b n) (a + n) (b + n)) (a + n) (b + n) d (omega arith) (omega arith) refl in
+      step.2 i (λ e. omega arith) (λ e. omega arith) ∙ before_swaps xs a b n i d ha hb (omega arith) (omega arith)
+
+  pub Turnover-swapped : (v w : Store S) (a b n : ℕ) → w ≡ record v { slots = swap_runs v.slots a b n } → v.first ≤ a → v.first ≤ b → a + n ≤ length v.slots → b + n ≤ length v.slots →
+      (o : Option ℕ) → Turnover v w none_of o o
+  Turnover-swapped v w a b n e ha hb fa fb =
+      Turnover-written v w (swap_runs v.slots a b n) e (length-swap_runs v.slots a b n) (λ i d h. before_swaps v.slots a b n i d (omega arith) (omega arith) fa fb)
+
+  -- ---- one tier is set
+
+  module _ (v : Store S) (k : ℕ) (t : Tier) (up : goes_up 0 (tier_sizes v.tiers) ≡ true) (inside : k < length v.tiers) (same : t.size ≡ (tier_at v.tiers k).size) where
+    -- m blocks of its size were made, by whose slots the array is longer, and one of its free ones is used by a list, or was
+    turned : (slots : List S) (m : ℕ) (old new : Option ℕ) → t.made ≡ (tier_at v.tiers k).made + m →
+        length t.starts + one_of new t.size ≡ length (tier_at v.tiers k).starts + m + one_of old t.size → ((size : ℕ) → t.size ≢ size → one_of new size ≡ one_of old size) →
+        Keeps v (record v { slots = slots; tiers = set v.tiers k t }) → length slots ≡ length v.slots + t.size * m →
+        Turnover v (record v { slots = slots; tiers = set v.tiers k t }) (many_of t.size m) old new
+    turned slots m old new made starts others keeps long = record {
+      keeps = keeps;
+      made_is = number_set (λ (u : Tier). u.made) (λ size a b. b ≡ a + many_of t.size m size) v.tiers k t up inside same
+          (let h = many_here t.size m in omega (arith, made, h)) (λ size n ne. (let h = many_other t.size m size ne in omega (arith, h)));
+      free_is = number_set (λ (u : Tier). length u.starts) (λ size a b. b + one_of new size ≡ a + many_of t.size m size + one_of old size) v.tiers k t up inside same
+          (let h = many_here t.size m in omega (arith, starts, h)) (λ size n ne. (let h = many_other t.size m size ne in let o = others size ne in omega (arith, h, o)));
+      longer = long ∙ ap (λ s. length v.slots + s) (sym (slots_of-many 0 (tier_sizes v.tiers) up t.size m
+          (subst (λ s. Contains (tier_sizes v.tiers) s) (sym same) (has_size v.tiers k inside))));
+    }
+
+    keeps_slots : Keeps v (with_tier v k t)
+    keeps_slots = record { first_is = refl; limit_is = refl; sizes = sizes_set v.tiers k t same; before = λ i d h. refl; longer = omega arith; within = λ h. h }
+
+    module _ (s : ℕ) (is : (tier_at v.tiers k).size ≡ s) where
+      -- a free block is taken
+      pub Turnover-taken : t.made ≡ (tier_at v.tiers k).made → length t.starts + 1 ≡ length (tier_at v.tiers k).starts → Turnover v (with_tier v k t) none_of None (Some s)
+      Turnover-taken made starts =
+          subst (λ n. Turnover v (with_tier v k t) none_of None (Some n)) (same ∙ is)
+          (Turnover-as v (with_tier v k t) (many_of t.size 0) none_of None (Some t.size) (λ n. many-none t.size 0 n refl)
+          (turned v.slots 0 None (Some t.size) (omega (arith, made)) (let h = many_here t.size 1 in omega (arith, starts, h)) (λ size ne. many_other t.size 1 size ne) keeps_slots (omega arith)))
+
+      -- a block is given back
+      pub Turnover-given : t.made ≡ (tier_at v.tiers k).made → length t.starts ≡ length (tier_at v.tiers k).starts + 1 → Turnover v (with_tier v k t) none_of (Some s) None
+      Turnover-given made starts =
+          subst (λ n. Turnover v (with_tier v k t) none_of (Some n) None) (same ∙ is)
+          (Turnover-as v (with_tier v k t) (many_of t.size 0) none_of (Some t.size) None (λ n. many-none t.size 0 n refl)
+          (turned v.slots 0 (Some t.size) None (omega (arith, made)) (let h = many_here t.size 1 in omega (arith, starts, h)) (λ size ne. sym (many_other t.size 1 size ne)) keeps_slots (omega arith)))
+
+      -- a block is made at the array's end
+      pub Turnover-grown : (vacant : S) (slots : List S) → slots ≡ v.slots ++ replicate s vacant → v.first ≤ length v.slots → length v.slots + s ≤ v.limit → t.made ≡ (tier_at v.tiers k).made + 1 →
+          length t.starts ≡ length (tier_at v.tiers k).starts + 1 → Turnover v (record v { slots = slots; tiers = set v.tiers k t }) (many_of s 1) None None
+      Turnover-grown vacant slots slots_are low fits made starts =
+          let long : length slots ≡ length v.slots + s = ap length slots_are ∙ length-append v.slots (replicate s vacant) ∙ ap (λ n. length v.slots + n) (length-replicate s vacant) in
+          let size : t.size ≡ s = same ∙ is in
+          subst (λ n. Turnover v (record v { slots = slots; tiers = set v.tiers k t }) (many_of n 1) None None) size (turned slots 1 None None made (omega (arith, starts)) (λ n ne. refl) (record {
+            first_is = refl;
+            limit_is = refl;
+            sizes = sizes_set v.tiers k t same;
+            before = λ i d h. ap (λ xs. get_or xs i d) slots_are ∙ get_or_append_left v.slots (replicate s vacant) d i (omega (arith, low, h));
+            longer = omega (arith, long);
+            within = λ h. omega (arith, long, fits);
+          }) (omega (arith, long, size)))
+
+  -- where the lacking blocks were made, all that are needed are free
+  pub free_obtained : (v w : Store S) (needed : List ℕ) → Turnover v w (lacking_in v needed) None None → AreFree w.tiers needed
+  free_obtained v w needed t = λ size. (let e = t.free_is size in omega (arith, e))
+
+  -- a list that took its block left the others free
+  pub free_entered : (v w : Store S) (need own after : Option ℕ) → after ≡ option_or need own → Turnover v w none_of own after → (size : ℕ) →
+      free_in v.tiers size ≤ free_in w.tiers size + one_of need size
+  free_entered v w need own after e t size =
+      let f = t.free_is size in
+      let o : one_of after size ≡ one_of (option_or need own) size = ap (λ x. one_of x size) e in
+      let more = either need own in
+      omega (arith, f, o, more)
     where
-      new : Tier
-      new = record (tier_at v.tiers k) { made = (tier_at v.tiers k).made + 1; starts = (tier_at v.tiers k).starts ++ length v.slots ∷ [] }
+      either : (need own : Option ℕ) → one_of (option_or need own) size ≤ one_of need size + one_of own size
+      either None own = omega arith
+      either (Some n) own = omega arith
 
-      length_sizes : length (tier_sizes v.tiers) ≡ length v.tiers
-      length_sizes = length-map v.tiers (λ t. t.size)
-
-  pub Turnover-grown_times : (vacant : S) (v : Store S) (k m : ℕ) → k < length v.tiers → Turnover v (grown_times vacant v k m) (many_at k m) none_at none_at
-  Turnover-grown_times vacant v k zero inside =
-      Turnover-as v v none_at none_at none_at (many_at k 0) none_at none_at (Turnover-same v v refl) (λ j. (let h = many-add k 0 0 j in omega arith)) (λ j. refl)
-  Turnover-grown_times vacant v k (suc m) inside =
-      let w : Store S = grown_times vacant v k m in
-      let before = Turnover-grown_times vacant v k m inside in
-      let last = Turnover-grown vacant w (grown vacant w k) k (omega (arith, tiers_stay v w before.sizes)) refl in
-      Turnover-as v (grown vacant w k) _ _ _ (many_at k (suc m)) none_at none_at (Turnover-then v w (grown vacant w k) _ _ _ _ _ _ before last) (λ j. (let h = many-add k m 1 j in let e : many_at k (m + 1) j ≡ many_at k (suc m) j = ap (λ n. many_at k n j) (let f : m + 1 ≡ suc m = omega arith in f) in omega arith)) (λ j. refl)
-
-  pub Turnover-taken : (v w : Store S) (k : ℕ) → k < length v.tiers → 0 < free_at v.tiers k → w ≡ record v { tiers = taken v.tiers k } → Turnover v w none_at (many_at k 1) none_at
-  Turnover-taken v w k inside ready e = subst (λ x. Turnover v x none_at (many_at k 1) none_at) (sym e) (record {
-    made_is = tiers_set (λ j u. u.made ≡ (tier_at v.tiers j).made + 0) v.tiers k new inside (omega arith) (λ j n. omega arith);
-    free_is = tiers_set (λ j u. length u.starts + many_at k 1 j ≡ free_at v.tiers j + 0 + 0) v.tiers k new inside (let h = many_here k 1 in let l = length-take-le (free_at v.tiers k - 1) (tier_at v.tiers k).starts (omega arith) in omega arith) (λ j n. (let h = many_other k 1 j n in omega arith));
-    longer = (let n = slots_of-none (tier_sizes v.tiers) none_at (λ j. refl) in omega arith);
-    sizes = sizes_set v.tiers k new refl;
-    limit_is = refl;
-  })
-    where
-      new : Tier
-      new = record (tier_at v.tiers k) { starts = take (free_at v.tiers k - 1) (tier_at v.tiers k).starts }
-
-  pub Turnover-given : (v w : Store S) (k start : ℕ) → k < length v.tiers → w ≡ with_tier v k (record (tier_at v.tiers k) { starts = (tier_at v.tiers k).starts ++ start ∷ [] }) → Turnover v w none_at none_at (many_at k 1)
-  Turnover-given v w k start inside e = subst (λ x. Turnover v x none_at none_at (many_at k 1)) (sym e) (record {
-    made_is = tiers_set (λ j u. u.made ≡ (tier_at v.tiers j).made + 0) v.tiers k new inside (omega arith) (λ j n. omega arith);
-    free_is = tiers_set (λ j u. length u.starts + 0 ≡ free_at v.tiers j + 0 + many_at k 1 j) v.tiers k new inside (let h = many_here k 1 in omega (arith, length-append (tier_at v.tiers k).starts (start ∷ []))) (λ j n. (let h = many_other k 1 j n in omega arith));
-    longer = (let n = slots_of-none (tier_sizes v.tiers) none_at (λ j. refl) in omega arith);
-    sizes = sizes_set v.tiers k new refl;
-    limit_is = refl;
-  })
-    where
-      new : Tier
-      new = record (tier_at v.tiers k) { starts = (tier_at v.tiers k).starts ++ start ∷ [] }
-
-  pub Turnover-written : (v w : Store S) (xs : List S) → w ≡ record v { slots = xs } → length w.slots ≡ length v.slots → Turnover v w none_at none_at none_at
-  Turnover-written v w xs e len = record {
-    made_is = λ j. ap (λ (x : Store S). (tier_at x.tiers j).made) e ∙ (let h : (tier_at v.tiers j).made ≡ (tier_at v.tiers j).made + 0 = omega arith in h);
-    free_is = λ j. (let h : free_at w.tiers j ≡ free_at v.tiers j = ap (λ (x : Store S). free_at x.tiers j) e in omega arith);
-    longer = (let n = slots_of-none (tier_sizes v.tiers) none_at (λ j. refl) in omega arith);
-    sizes = ap (λ (x : Store S). tier_sizes x.tiers) e;
-    limit_is = ap (λ (x : Store S). x.limit) e;
-  }
-
-  -- a free block is taken, and slots are written
-  pub Turnover-entered : (v w x : Store S) (to : ℕ) (xs : List S) → to < length v.tiers → 0 < free_at v.tiers to → w ≡ record v { tiers = taken v.tiers to } → x ≡ record w { slots = xs } → length x.slots ≡ length w.slots → Turnover v x none_at (many_at to 1) none_at
-  Turnover-entered v w x to xs inside ready ew ex lx =
-      Turnover-as v x _ _ _ none_at (many_at to 1) none_at (Turnover-then v w x _ _ _ _ _ _ (Turnover-taken v w to inside ready ew) (Turnover-written w x xs ex lx)) (λ j. refl) (λ j. omega arith)
-
-  -- slots are written, and a block is given back
-  pub Turnover-left : (x y z : Store S) (k start : ℕ) (ys : List S) → k < length x.tiers → y ≡ record x { slots = ys } → length y.slots ≡ length x.slots → z ≡ with_tier y k (record (tier_at y.tiers k) { starts = (tier_at y.tiers k).starts ++ start ∷ [] }) → Turnover x z none_at none_at (many_at k 1)
-  Turnover-left x y z k start ys inside ey ly ez =
-      let a = Turnover-written x y ys ey ly in
-      Turnover-as x z _ _ _ none_at none_at (many_at k 1) (Turnover-then x y z _ _ _ _ _ _ a (Turnover-given y z k start (omega (arith, tiers_stay x y a.sizes)) ez)) (λ j. refl) (λ j. omega arith)
-
-  -- a list moved from a block to another
-  pub Turnover-moved : (v x z : Store S) (k to : ℕ) → Turnover v x none_at (many_at to 1) none_at → Turnover x z none_at none_at (many_at k 1) → Turnover v z none_at (many_at to 1) (many_at k 1)
-  Turnover-moved v x z k to a b =
-      Turnover-as v z _ _ _ none_at (many_at to 1) (many_at k 1) (Turnover-then v x z _ _ _ _ _ _ a b) (λ j. refl) (λ j. omega arith)
+  -- a slot that is written leaves the room
+  pub SameRoom-put : (v w : Store S) (i : ℕ) (x : S) → SameRoom v w → SameRoom v (record w { slots = set w.slots i x })
+  SameRoom-put v w i x room = (length-set w.slots i x ∙ room.0, room.1, room.2)

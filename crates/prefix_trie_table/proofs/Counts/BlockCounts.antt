@@ -2,7 +2,6 @@
 use Rattle.std.proofs.Common.{◌≡◌, ℕ, suc, ◌+◌, ◌-◌, ◌*◌, ◌<◌, ◌≤◌, Bool, false, cond, ◌==◌, List, [], ◌∷◌, length, map, flat_map, count_by, sum_by, All, Option, None, Some, is_some, refl, sym, ap, ap₂, ◌∙◌, arith, eqb-true, eq-eqb}
 use Rattle.std.specs.Prelude.{position}
 use Rattle.std.specs.FinMap.{entries, values, contains_key}
-use Rattle.std.proofs.lemmas.List.{length-map}
 use Rattle.std.proofs.lemmas.List.Elements.{All-head}
 use Rattle.std.proofs.lemmas.List.Sums.{sum_by-cons, sum_by-append}
 use Rattle.prefix_trie_bits.specs.Begins.{same_bool}
@@ -13,11 +12,12 @@ use Rattle.prefix_trie_table.specs.Digits.{path_of}
 use Rattle.prefix_trie_table.specs.BlockCounts.{tier_count, block_counts, slots_counted}
 use Rattle.prefix_trie_table.specs.Bitmaps.{bits}
 use Rattle.prefix_trie_table.specs.Cells.{node_sizes, cell_sizes}
-use Rattle.prefix_trie_table.specs.Store.{Tier, UsedBlock, Sound, Store, IsOfTier, tier_at, tier_sizes, slots_made, held, size_in}
+use Rattle.prefix_trie_table.specs.Store.{Tier, UsedBlock, Sound, Store, IsOfTier, tier_at, tier_sizes, slots_made, held, size_in, size_if_any, free_counts}
 use Rattle.prefix_trie_table.specs.Forest.{NodesHold, CellsHold, child_items, child_blocks, child_blocks_of, value_blocks, value_blocks_of}
-use Rattle.prefix_trie_table.specs.Layouts.{Sized, free_counts, size_if_any, child_block_size, value_block_size}
+use Rattle.prefix_trie_table.specs.Layouts.{Sized, child_block_size, value_block_size}
 use Rattle.prefix_trie_table.proofs.Strings.Plain.{some_same}
 use Rattle.prefix_trie_table.proofs.Blocks.SevenTiers.{at_seven}
+use Rattle.prefix_trie_table.proofs.Blocks.BySize.{tiers_long}
 use Rattle.prefix_trie_table.proofs.Strings.BitLists.{rank-all}
 use Rattle.prefix_trie_table.proofs.Strings.Filling.{sum-fresh}
 use Rattle.prefix_trie_table.proofs.Strings.PathStrings.{string_at, AreSteps, AreOnce, other_steps, other_once, fresh_string, paths_steps, paths_once}
@@ -123,10 +123,6 @@ slots_are (t ∷ ts) h =
 pub free_within : {S : Type 0} (vacant : S) (live : List (UsedBlock S)) (v : Store S) → Sound vacant live v → (k : ℕ) → k < length v.tiers →
     length (tier_at v.tiers k).starts ≤ (tier_at v.tiers k).made
 free_within vacant live v s k inside = let e = s.counted k inside in omega (arith, e)
-
--- there are as many tiers as sizes
-tiers_long : (ts : List Tier) (sizes : List ℕ) → tier_sizes ts ≡ sizes → length ts ≡ length sizes
-tiers_long ts sizes e = sym (length-map ts (λ t. t.size)) ∙ ap length e
 
 module _ (reading : List ℕ → Option Node) (paths : List (List ℕ)) (v : Store Node) (hold : NodesHold node_sizes reading paths v) where
   pub seven_nodes : length v.tiers ≡ 7

@@ -3,7 +3,6 @@ use Rattle.std.proofs.Common.{◌≡◌, ◌≢◌, ℕ, zero, suc, ◌+◌, ◌
 use Rattle.std.proofs.lemmas.Bool.{cases_lt, false≢true, cases_Bool}
 use Rattle.std.proofs.lemmas.List.{length-map, length-replicate}
 use Rattle.std.proofs.lemmas.List.Concat.{flat_map-append}
-use Rattle.std.specs.Option.{option_map}
 use Rattle.prefix_trie_bits.specs.Model.HandsOut.{packed_block}
 use Rattle.prefix_trie_table.specs.declared.allocator.node.Node.{Node}
 use Rattle.prefix_trie_table.specs.declared.allocator.blocks.BlockRef.{BlockRef}
@@ -12,14 +11,13 @@ use Rattle.prefix_trie_table.specs.Cells.{blank_node, node_sizes, cell_sizes}
 use Rattle.prefix_trie_table.specs.Forest.{same_path, one_if, times, has_child, has_value, node_or_blank, child_items, child_blocks_of, child_blocks, value_blocks_of, value_blocks}
 use Rattle.prefix_trie_table.specs.HandingOut.Laid.{SomeChosen, NoneChosen, Hangs, IsPackedNode, no_value, IsLaid, IsBough, NothingLaid}
 use Rattle.prefix_trie_table.specs.HandingOut.Laying.{LaysList}
-use Rattle.prefix_trie_table.specs.OwnBlocks.{size_if_any}
 use Rattle.prefix_trie_table.specs.Removals.{IsBare, IsStocked}
-use Rattle.prefix_trie_table.specs.Store.{Store, UsedBlock, Sound, held, size_in, tier_at, tier_sizes, tier_for}
+use Rattle.prefix_trie_table.specs.Store.{Store, UsedBlock, Sound, held, size_in, tier_at, tier_sizes, size_if_any}
 use Rattle.prefix_trie_table.proofs.Blocks.Soundness.{Sound-permuted}
-use Rattle.prefix_trie_table.proofs.Blocks.Spending.{size_at}
+use Rattle.prefix_trie_table.proofs.Blocks.BySize.{size_at}
 use Rattle.prefix_trie_table.proofs.HandingOut.Grafting.{grafted, graft_here, graft_other, graft_hangs}
 use Rattle.prefix_trie_table.proofs.HandingOut.Pushed.{bits-pushed, map-pushed, map-apart, map-nothing}
-use Rattle.prefix_trie_table.proofs.Insertion.Needs.{smallest_is}
+use Rattle.prefix_trie_bits.specs.Model.Blocks.{smallest_size}
 use Rattle.prefix_trie_table.proofs.Strings.Bare.{no_bit, some_bit}
 use Rattle.prefix_trie_table.proofs.Strings.Bits.{has_bit-zero}
 use Rattle.prefix_trie_table.proofs.Strings.BitLists.{map_same, rank-all}
@@ -124,8 +122,7 @@ laid_packed : {S : Type 0} (vacant : S) (v w : Store S) (sizes : List ℕ) (item
     LaysList vacant v w items at → (count : ℕ) → length items ≡ count → size_if_any count (size_in sizes at.tier) ≡ packed_block sizes count
 laid_packed vacant v w sizes items at are laid zero e = refl
 laid_packed vacant v w sizes items at are laid (suc n) e =
-    sym (smallest_is v.tiers sizes are (suc n)
-    ∙ ap (option_map (size_in sizes)) (ap (tier_for v.tiers) (sym e) ∙ laid.tier (omega (arith, e))))
+    sym (subst (λ ns. smallest_size ns (suc n) ≡ Some (size_in ns at.tier)) are (ap (smallest_size (tier_sizes v.tiers)) (sym e) ∙ laid.size (omega (arith, e))))
 
 -- the nodes, where the first is another
 abbrev pub topped : Node → (List ℕ → Option Node) → List ℕ → Option Node

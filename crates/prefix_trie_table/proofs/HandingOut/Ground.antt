@@ -6,7 +6,7 @@ use Rattle.prefix_trie_table.specs.Cells.{blank_node}
 use Rattle.prefix_trie_table.specs.HandingOut.Laid.{Lays, IsGround}
 use Rattle.prefix_trie_table.specs.HandingOut.Laying.{LaysList}
 use Rattle.prefix_trie_table.specs.Store.{Store, held, tier_at}
-use Rattle.prefix_trie_table.proofs.Blocks.Spending.{Keeps-same, Keeps-then}
+use Rattle.prefix_trie_table.proofs.Blocks.Turnovers.{Keeps-same, Keeps-then}
 use Rattle.std.proofs.Common.{Option, None, ◌++◌}
 
 module _ {S : Type 0} where

@@ -12,8 +12,8 @@ use Rattle.prefix_trie_table.specs.Cells.{blank_node, node_at, node_sizes, cell_
 use Rattle.prefix_trie_table.specs.Forest.{own_count, child_items, child_blocks, child_blocks_of, value_blocks, value_blocks_of}
 use Rattle.prefix_trie_table.specs.HandingOut.Laid.{child_slots, value_slots, slots_below, HasSpace}
 use Rattle.prefix_trie_table.specs.Layouts.{own_children}
-use Rattle.prefix_trie_table.specs.OwnBlocks.{size_if_any, child_block_size, value_block_size}
-use Rattle.prefix_trie_table.specs.Store.{Store, UsedBlock, Sound, extent, free_extents, held, size_in, tier_sizes}
+use Rattle.prefix_trie_table.specs.OwnBlocks.{child_block_size, value_block_size}
+use Rattle.prefix_trie_table.specs.Store.{Store, UsedBlock, Sound, extent, free_extents, held, size_in, tier_sizes, size_if_any}
 use Rattle.prefix_trie_table.specs.Tables.{IsTrie}
 use Rattle.prefix_trie_table.proofs.Blocks.Housed.{children_housed, values_housed}
 use Rattle.prefix_trie_table.proofs.Blocks.SlotSums.{sum_by-flat_map, sum_by-mapped}

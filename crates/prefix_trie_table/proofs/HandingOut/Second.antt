@@ -1,5 +1,5 @@
 -- The second table before its values come, from what was laid in new arrays.
-use Rattle.std.proofs.Common.{◌≡◌, ℕ, zero, suc, ◌/◌, ◌<◌, ◌≤◌, Bool, true, cond, ◌&&◌, List, [], ◌∷◌, ◌++◌, length, map, flat_map, slice_set, Option, None, Some, is_some, refl, sym, ap, ◌∙◌, subst, arith, append-nil, eq-eqb, get_or-set_same, length-set}
+use Rattle.std.proofs.Common.{◌≡◌, ℕ, ◌/◌, ◌<◌, ◌≤◌, ◌==◌, Bool, true, false, cond, ◌&&◌, List, [], ◌∷◌, ◌++◌, length, map, flat_map, slice_set, Option, None, Some, is_some, refl, sym, ap, ◌∙◌, subst, arith, append-nil, eq-eqb, get_or-set_same, length-set}
 use Rattle.std.proofs.lemmas.Bool.{false≢true}
 use Rattle.prefix_trie_bits.specs.Bits.{begins}
 use Rattle.prefix_trie_bits.specs.Model.HandsOut.{packed_block}
@@ -10,9 +10,8 @@ use Rattle.prefix_trie_table.specs.Cells.{blank_node, node_at, node_sizes, cell_
 use Rattle.prefix_trie_table.specs.Digits.{path_of, bit_of}
 use Rattle.prefix_trie_table.specs.Forest.{one_if, read, has_value, Holds, NodesHold, node_or_blank, child_blocks, value_blocks, at_root}
 use Rattle.prefix_trie_table.specs.HandingOut.Laid.{IsLaid, IsPackedNode, IsPart, IsSource, Lays, NothingLaid, SomeChosen, no_value}
-use Rattle.prefix_trie_table.specs.OwnBlocks.{size_if_any}
 use Rattle.prefix_trie_table.specs.HandingOut.Skeleton.{IsSecond}
-use Rattle.prefix_trie_table.specs.Store.{Store, UsedBlock, Sound, free_at, no_blocks, size_in, tier_sizes}
+use Rattle.prefix_trie_table.specs.Store.{Store, UsedBlock, Sound, free_in, no_blocks, size_in, tier_sizes, size_if_any}
 use Rattle.prefix_trie_table.specs.Tables.{IsTrie}
 use Rattle.prefix_trie_table.proofs.Strings.BitLists.{rank-zero-all}
 use Rattle.prefix_trie_table.proofs.Strings.Digits.{path-length}
@@ -62,10 +61,9 @@ module _ {T : Type 0} (width count : ℕ) (v : Store Node) (w : Store (Option T)
 -- ---- new arrays
 
 -- no block is free
-new_none_free : (sizes : List ℕ) (j : ℕ) → free_at (map no_blocks sizes) j ≡ 0
-new_none_free [] j = refl
-new_none_free (size ∷ sizes) zero = refl
-new_none_free (size ∷ sizes) (suc j) = new_none_free sizes j
+new_none_free : (sizes : List ℕ) (size : ℕ) → free_in (map no_blocks sizes) size ≡ 0
+new_none_free [] size = refl
+new_none_free (s ∷ sizes) size = elim (s == size) as (λ b. cond b 0 (free_in (map no_blocks sizes) size) ≡ 0) [ true ↦ refl | false ↦ new_none_free sizes size ]
 
 module _ {T : Type 0} (q : List Bool) (v v1 v2 : Store Node) (w1 w2 : Store (Option T)) (limit : ℕ)
     (v_is : v1 ≡ record { slots = blank_node ∷ []; first = 1; tiers = map no_blocks node_sizes; limit = limit }) (v_sound : Sound blank_node [] v1)
@@ -103,9 +101,9 @@ module _ {T : Type 0} (q : List Bool) (v v1 v2 : Store Node) (w1 w2 : Store (Opt
           let n = needed c p h in
           record { below = n.below; bit = n.bit; is = values (c ∷ p ++ n.below) n.bit ∙ n.is };
       packed = packed;
-      no_node_free = λ j. ap (λ ts. free_at ts j) tiers
-          ∙ lays_nodes.none_free (λ i. ap (λ (x : Store Node). free_at x.tiers i) v_is ∙ new_none_free node_sizes i) j;
-      no_cell_free = lays_cells.none_free (λ i. ap (λ (x : Store (Option T)). free_at x.tiers i) w_is ∙ new_none_free cell_sizes i);
+      no_node_free = λ j. ap (λ ts. free_in ts j) tiers
+          ∙ lays_nodes.none_free (λ i. ap (λ (x : Store Node). free_in x.tiers i) v_is ∙ new_none_free node_sizes i) j;
+      no_cell_free = lays_cells.none_free (λ i. ap (λ (x : Store (Option T)). free_in x.tiers i) w_is ∙ new_none_free cell_sizes i);
     };
     node_limit = limits ∙ node_limit;
     cell_limit = cell_limit;

@@ -11,7 +11,7 @@ use Rattle.prefix_trie_table.specs.Forest.{child}
 use Rattle.prefix_trie_table.specs.HandingOut.Laid.{IsBough, IsLaid, IsPart, NothingLaid}
 use Rattle.prefix_trie_table.specs.HandingOut.Laying.{LaysList}
 use Rattle.prefix_trie_table.specs.Store.{Store, tier_sizes}
-use Rattle.prefix_trie_table.proofs.Blocks.Spending.{Keeps-same}
+use Rattle.prefix_trie_table.proofs.Blocks.Turnovers.{Keeps-same}
 use Rattle.prefix_trie_table.proofs.HandingOut.Boughs.{first, bough_start, bough_passed, bough_grafted, bough_closed}
 use Rattle.prefix_trie_table.proofs.HandingOut.WayParts.{way_part, stepped, stepped-here, stepped-other, stepped-none}
 use Rattle.prefix_trie_table.proofs.Strings.Bare.{was_set, others_stay}
@@ -22,6 +22,7 @@ use Rattle.prefix_trie_table.proofs.Strings.BitLists.{rank-below, rank-zero-all}
 lays_none : {S : Type 0} (vacant : S) (v : Store S) → LaysList vacant v v [] (record { tier = 0; start = 0 })
 lays_none vacant v = record {
   tier = λ some. absurd (omega (arith, some));
+  size = λ some. absurd (omega (arith, some));
   none = λ _. refl;
   sound = λ live s. s;
   keeps = Keeps-same v v refl;

@@ -3,19 +3,17 @@ use Rattle.std.proofs.Common.{◌≡◌, ◌≢◌, ℕ, ◌+◌, ◌<◌, ◌�
 use Rattle.std.proofs.lemmas.List.{length-map}
 use Rattle.prefix_trie_bits.specs.Places.{Sets}
 use Rattle.prefix_trie_table.specs.declared.allocator.node.Node.{Node}
-use Rattle.prefix_trie_table.specs.declared.allocator.blocks.BlockRef.{BlockRef}
 use Rattle.prefix_trie_table.specs.Bitmaps.{has_bit, bits, rank}
-use Rattle.prefix_trie_table.specs.Store.{Store, UsedBlock, Sound, block, held, HasList, Spends, tier_at, tier_sizes, tier_lacking, size_in}
+use Rattle.prefix_trie_table.specs.Store.{Store, Tier, UsedBlock, Sound, block, held, HasList, Keeps, tier_at, tier_sizes, size_in, list_size, list_need, size_if_any}
 use Rattle.std.proofs.lemmas.Bool.{false≢true}
-use Rattle.std.specs.Prelude.{MatchOption}
+use Rattle.prefix_trie_bits.specs.Model.Insertion.{block_needed}
 use Rattle.std.specs.Option.{option_or}
-use Rattle.prefix_trie_table.specs.OwnBlocks.{size_if_any, child_block_size, value_block_size, child_need, value_need}
+use Rattle.prefix_trie_table.specs.OwnBlocks.{child_block_size, value_block_size, child_need, value_need}
 use Rattle.prefix_trie_table.proofs.Tree.Invariant.{some_nodes}
-use Rattle.prefix_trie_table.proofs.Insertion.Needs.{block_after}
 use Rattle.prefix_trie_table.specs.Forest.{without, child_items, child_blocks, IsSlot, at_child, NodesHold, with_child, SomeTable, SomeNodes, IsNodeAt, ChildAdded, ValueSet, CellsHold, value_blocks, with_node, with_value, has_value, own_count, one_if}
 use Rattle.prefix_trie_table.specs.Cells.{blank_node, node_at, node_sizes, cell_sizes}
 use Rattle.prefix_trie_table.proofs.Blocks.Soundness.{tier_of_block}
-use Rattle.prefix_trie_table.proofs.Blocks.Spending.{size_at, single_node, single_cell}
+use Rattle.prefix_trie_table.proofs.Blocks.BySize.{size_at}
 use Rattle.prefix_trie_table.proofs.Strings.Bits.{has_bit-sets}
 use Rattle.prefix_trie_table.proofs.Strings.BitLists.{rank-all, rank-same, rank-more-one}
 use Rattle.prefix_trie_table.proofs.Tree.Trees.{own_first, slot_holds}
@@ -59,13 +57,15 @@ tier_small vacant b live u sizes s e =
     let n : length sizes ≡ length u.tiers = ap (λ (xs : List ℕ). length xs) (sym e) ∙ length-map u.tiers (λ t. t.size) in omega arith
 
 -- where a list stands that took one more
-pub entered_as : (o : Option ℕ) (r : BlockRef) (k start : ℕ) → MatchOption o (r ≡ record { tier = k; start = start }) (λ to. r.tier ≡ to) →
-    MatchOption o (r.tier ≡ k) (λ to. r.tier ≡ to)
-entered_as None r k start e = ap (λ (x : BlockRef). x.tier) e
-entered_as (Some to) r k start e = e
+block_after : (ts : List Tier) (sizes : List ℕ) → tier_sizes ts ≡ sizes → (k tier count more : ℕ) → more ≡ count + 1 →
+    list_size ts tier (count + 1) ≡ option_or (list_need ts k count) (list_size ts k count) →
+    size_if_any more (size_in sizes tier) ≡ option_or (block_needed sizes (size_if_any count (size_in sizes k)) count) (size_if_any count (size_in sizes k))
+block_after ts sizes are k tier count more e stands =
+    ap (λ n. size_if_any n (size_in sizes tier)) e
+    ∙ subst (λ ns. size_if_any (count + 1) (size_in ns tier) ≡ option_or (block_needed ns (size_if_any count (size_in ns k)) count) (size_if_any count (size_in ns k))) are stands
 
 -- a blank child put into the list of children, and the node written with it, add the child
-pub added : (v u w : Store Node) (slot place c tier start bitmap : ℕ) (o : Option ℕ) (k m : Node)
+pub added : (v u w : Store Node) (slot place c tier start bitmap : ℕ) (k m : Node)
     → k ≡ node_at v.slots slot
     → Sets k.child_bitmap c bitmap
     → m ≡ record {
@@ -76,15 +76,15 @@ pub added : (v u w : Store Node) (slot place c tier start bitmap : ℕ) (o : Opt
       value_tier = k.value_tier;
       child_tier = tier;
     }
-    → Spends v u o
+    → Keeps v u
     → ((n : ℕ) (xs : List Node) (live : List (UsedBlock Node)) → Sound blank_node (held k.child_tier k.child_block n xs ++ live) v →
     length xs ≡ rank k.child_bitmap 32 → Sound blank_node (block tier start (tier_at v.tiers tier).size (insert xs place blank_node) ∷ live) u)
-    → MatchOption (tier_lacking v.tiers k.child_tier (rank k.child_bitmap 32)) (tier ≡ k.child_tier) (λ to. tier ≡ to)
+    → list_size v.tiers tier (rank k.child_bitmap 32 + 1) ≡ option_or (list_need v.tiers k.child_tier (rank k.child_bitmap 32)) (list_size v.tiers k.child_tier (rank k.child_bitmap 32))
     → place ≡ rank k.child_bitmap c → c < 32 → has_bit k.child_bitmap c ≡ false → w ≡ record u { slots = set u.slots slot m }
     → (reading : List ℕ → Option Node) (paths : List (List ℕ)) (p : List ℕ) (n : Node) → NodesHold node_sizes reading paths v →
     IsSlot reading p slot → reading p ≡ Some n
     → ChildAdded reading paths p n c w (start + place)
-added v u w slot place c tier start bitmap o k m read sets m_is spends put entered place_is digit missing w_is reading paths p n hold stands is =
+added v u w slot place c tier start bitmap k m read sets m_is keeps put entered place_is digit missing w_is reading paths p n hold stands is =
     let at = slot_holds node_sizes reading paths v hold p slot n stands is in
     let same : k ≡ n = read ∙ at.0 in
     let here : reading p ≡ Some k = is ∙ ap Some (sym same) in
@@ -104,8 +104,8 @@ added v u w slot place c tier start bitmap o k m read sets m_is spends put enter
     subst (λ (b : UsedBlock Node). Sound blank_node (b ∷ live) u)
     (λ i. block (sym tier_is i) (sym start_is i) ((size ∙ ap (size_in node_sizes) (sym tier_is)) i)
     (insert (child_items reading p k.child_bitmap) (place_is i) blank_node)) written in
-    let grown = child_added node_sizes reading paths v hold p slot k m c u stands here digit missing more (spends.room.1 ∙ hold.first_is)
-    (spends.sizes ∙ hold.sizes_are) (spends.before 0 blank_node (let f = hold.first_is in omega arith)) sound in
+    let grown = child_added node_sizes reading paths v hold p slot k m c u stands here digit missing more (keeps.first_is ∙ hold.first_is)
+    (keeps.sizes ∙ hold.sizes_are) (keeps.before 0 blank_node (let f = hold.first_is in omega arith)) sound in
     let bit : has_bit m.child_bitmap c ≡ true = more c ∙ ap (λ b. b || has_bit k.child_bitmap c) (same_number c) in
     let rank_is : rank m.child_bitmap c ≡ rank k.child_bitmap c =
     rank-same k.child_bitmap m.child_bitmap c (λ i h. more i ∙ ap (λ b. b || has_bit k.child_bitmap i) (other_number i c (λ e. omega arith))) in
@@ -120,7 +120,7 @@ added v u w slot place c tier start bitmap o k m read sets m_is spends put enter
       value_tier = ap (λ (x : Node). x.value_tier) m_is ∙ ap (λ (x : Node). x.value_tier) same;
       children =
           ap (λ t. size_if_any (rank m.child_bitmap 32) (size_in node_sizes t)) tier_is
-          ∙ block_after v.tiers node_sizes hold.sizes_are (single_node v.tiers hold.sizes_are) k.child_tier tier (rank k.child_bitmap 32) (rank m.child_bitmap 32)
+          ∙ block_after v.tiers node_sizes hold.sizes_are k.child_tier tier (rank k.child_bitmap 32) (rank m.child_bitmap 32)
           (rank-more-one k.child_bitmap m.child_bitmap c digit missing bit (λ i ne. more i ∙ ap (λ b. b || has_bit k.child_bitmap i) (other_number i c ne))) entered
           ∙ ap (λ (x : Node). option_or (child_need (Some x)) (child_block_size (Some x))) same;
     }
@@ -154,7 +154,7 @@ module _ {T : Type 0} where
       }
 
   -- a value put into the list of values, and the node written with it, set the value
-  pub values_added : (v v2 : Store Node) (w u : Store (Option T)) (slot place b tier start bitmap : ℕ) (o : Option ℕ) (k m : Node) (x : T)
+  pub values_added : (v v2 : Store Node) (w u : Store (Option T)) (slot place b tier start bitmap : ℕ) (k m : Node) (x : T)
       → k ≡ node_at v.slots slot
       → Sets k.value_bitmap b bitmap
       → m ≡ record {
@@ -165,15 +165,15 @@ module _ {T : Type 0} where
         value_tier = tier;
         child_tier = k.child_tier;
       }
-      → Spends w u o
+      → Keeps w u
       → ((n : ℕ) (xs : List (Option T)) (live : List (UsedBlock (Option T))) → Sound None (held k.value_tier k.value_block n xs ++ live) w →
       length xs ≡ rank k.value_bitmap 32 → Sound None (block tier start (tier_at w.tiers tier).size (insert xs place (Some x)) ∷ live) u)
-      → MatchOption (tier_lacking w.tiers k.value_tier (rank k.value_bitmap 32)) (tier ≡ k.value_tier) (λ to. tier ≡ to)
+      → list_size w.tiers tier (rank k.value_bitmap 32 + 1) ≡ option_or (list_need w.tiers k.value_tier (rank k.value_bitmap 32)) (list_size w.tiers k.value_tier (rank k.value_bitmap 32))
       → place ≡ rank k.value_bitmap b → b < 32 → has_bit k.value_bitmap b ≡ false → b < 31 → v2 ≡ record v { slots = set v.slots slot m }
       → (reading : List ℕ → Option Node) (paths : List (List ℕ)) (values : List ℕ → ℕ → Option T) (p : List ℕ) (n : Node) →
       NodesHold node_sizes reading paths v → CellsHold cell_sizes reading values paths w → IsSlot reading p slot → reading p ≡ Some n
       → ValueSet reading paths values p b (Some x) v2 u
-  values_added v v2 w u slot place b tier start bitmap o k m x read sets m_is spends put entered place_is digit missing small v2_is reading paths values p n
+  values_added v v2 w u slot place b tier start bitmap k m x read sets m_is keeps put entered place_is digit missing small v2_is reading paths values p n
       hold cells stands is =
       let at = slot_holds node_sizes reading paths v hold p slot n stands is in
       let same : k ≡ n = read ∙ at.0 in
@@ -201,14 +201,14 @@ module _ {T : Type 0} where
             (node_changed node_sizes reading paths v hold p slot k m stands here (ap (λ (y : Node). y.child_bitmap) m_is)
             (ap (λ (y : Node). y.child_block) m_is) (ap (λ (y : Node). y.child_tier) m_is));
         cells = value_added cell_sizes node_sizes reading paths v hold values w cells p k m b (Some x) here stay bit small u digit missing refl
-            (spends.sizes ∙ cells.sizes_are) sound;
+            (keeps.sizes ∙ cells.sizes_are) sound;
         counted = added_one (rank m.value_bitmap 32) (rank k.value_bitmap 32) (own_count (reading p)) (is_some (values p b))
             (rank-more-one k.value_bitmap m.value_bitmap b digit missing bit stay) (ap own_count here)
             (cells.set_where p b ∙ ap (λ o. has_value o b) here ∙ missing);
         children = ap (λ (y : Node). child_block_size (Some y)) m_is ∙ ap child_block_size (sym here);
         sized = λ _.
             ap (λ t. size_if_any (rank m.value_bitmap 32) (size_in cell_sizes t)) tier_is
-            ∙ block_after w.tiers cell_sizes cells.sizes_are (single_cell w.tiers cells.sizes_are) k.value_tier tier (rank k.value_bitmap 32)
+            ∙ block_after w.tiers cell_sizes cells.sizes_are k.value_tier tier (rank k.value_bitmap 32)
             (rank m.value_bitmap 32) (rank-more-one k.value_bitmap m.value_bitmap b digit missing bit stay) entered
             ∙ ap (λ y. option_or (value_need y) (value_block_size y)) (sym here);
       }

@@ -1,19 +1,21 @@
 -- What an insertion asks of the two arrays, and which blocks it makes.
-use Rattle.std.proofs.Common.{◌≡◌, ℕ, ◌+◌, ◌-◌, ◌*◌, ◌/◌, ◌<◌, ◌≤◌, inl, inr, nat_lt, if◌then◌else◌, List, Bool, length, take, Option, Result, Ok, Err, OnOk, OnErr, IfErr, refl, ap, subst, arith}
+use Rattle.std.proofs.Common.{◌≡◌, ℕ, ◌+◌, ◌-◌, ◌*◌, ◌/◌, ◌<◌, ◌≤◌, inl, inr, nat_lt, if◌then◌else◌, List, [], Bool, take, Option, None, Some, Result, Ok, Err, OnOk, ap, ◌∙◌, arith}
 use Rattle.std.proofs.lemmas.Bool.{lt-ltb, le-ltb}
-use Rattle.prefix_trie_bits.specs.declared.prefix.Refusal.{Refusal}
-use Rattle.prefix_trie_bits.specs.declared.prefix.Refusal.TheVariants.{Memory, IndexRange}
 use Rattle.prefix_trie_table.specs.declared.allocator.node.Node.{Node}
+use Rattle.prefix_trie_table.specs.Cells.{node_sizes, cell_sizes, HasSizes}
+use Rattle.prefix_trie_table.specs.OwnBlocks.{child_need, value_need}
+use Rattle.prefix_trie_table.specs.Store.{Store, Keeps, SameRoom, SameMade, Obtains, AreFree, tier_sizes, size_in, size_if_any, list_need, needs, lacking_in, slots_lacking}
+use Rattle.prefix_trie_bits.specs.Model.Insertion.{block_needed}
 use Rattle.prefix_trie_table.specs.Bitmaps.{rank}
-use Rattle.prefix_trie_table.specs.Cells.{node_sizes}
-use Rattle.prefix_trie_table.specs.Store.{Store, SameRoom, SameMade, tier_sizes, none_at, slots_of, blocks_needed, Turnover, CutShort}
-use Rattle.prefix_trie_table.specs.Asked.{nodes_needed, cells_needed, lacking_in, LacksSome, LacksWithin, Made, Makes, Obtains, ObtainsBoth, AtDeepest}
+use Rattle.prefix_trie_table.specs.Asked.{nodes_needed, cells_needed, Made, Makes, ObtainsBoth, AtDeepest}
 use Rattle.prefix_trie_table.specs.Digits.{path_of}
 use Rattle.prefix_trie_table.specs.Forest.{NodesHold}
 use Rattle.prefix_trie_table.specs.Tables.{IsReached}
 use Rattle.prefix_trie_table.proofs.Lookup.Going.{deepest_is}
 use Rattle.prefix_trie_table.proofs.Lookup.Finding.{reached_end}
-use Rattle.prefix_trie_table.proofs.Blocks.Turnovers.{many_here, slots_of-none, tiers_stay}
+use Rattle.prefix_trie_table.proofs.Blocks.BySize.{sizes_up, slots_of-le, slots_of-none}
+use Rattle.prefix_trie_table.proofs.Blocks.Preparing.{slots_lacking-are}
+use Rattle.prefix_trie_table.proofs.Blocks.Turnovers.{free_obtained}
 
 -- ---- which of the two cases it is
 
@@ -23,116 +25,111 @@ choose x y a b h = ap (λ t. if t then a else b) (lt-ltb x y h)
 other : {A : Type 0} (x y : ℕ) (a b : A) → y ≤ x → (if nat_lt x y then a else b) ≡ b
 other x y a b h = ap (λ t. if t then a else b) (le-ltb x y h)
 
-pub nodes_here : (v : Store Node) (node : Node) (level len : ℕ) → len < 5 * level + 5 → nodes_needed v node level len ≡ none_at
-nodes_here v node level len h =
-    choose len (5 * level + 5) none_at (blocks_needed v.tiers node.child_tier (rank node.child_bitmap 32) (len / 5 - (level + 1))) h
+module _ (node : Node) (level len : ℕ) where
+  pub nodes_here : len < 5 * level + 5 → nodes_needed node level len ≡ []
+  nodes_here h = choose len (5 * level + 5) [] (needs (child_need (Some node)) (len / 5 - (level + 1))) h
 
-pub nodes_below : (v : Store Node) (node : Node) (level len : ℕ) → 5 * level + 5 ≤ len →
-    nodes_needed v node level len ≡ blocks_needed v.tiers node.child_tier (rank node.child_bitmap 32) (len / 5 - (level + 1))
-nodes_below v node level len h =
-    other len (5 * level + 5) none_at (blocks_needed v.tiers node.child_tier (rank node.child_bitmap 32) (len / 5 - (level + 1))) h
+  pub nodes_below : 5 * level + 5 ≤ len → nodes_needed node level len ≡ needs (child_need (Some node)) (len / 5 - (level + 1))
+  nodes_below h = other len (5 * level + 5) [] (needs (child_need (Some node)) (len / 5 - (level + 1))) h
 
-module _ {T : Type 0} (w : Store (Option T)) (node : Node) (level len : ℕ) where
-  pub cells_here : len < 5 * level + 5 → cells_needed w node level len ≡ blocks_needed w.tiers node.value_tier (rank node.value_bitmap 32) 0
-  cells_here h =
-      choose len (5 * level + 5) (blocks_needed w.tiers node.value_tier (rank node.value_bitmap 32) 0) (blocks_needed w.tiers 0 0 0) h
+  pub cells_here : len < 5 * level + 5 → cells_needed node level len ≡ needs (value_need (Some node)) 0
+  cells_here h = ap (λ o. needs o 0) (choose len (5 * level + 5) (value_need (Some node)) (value_need None) h)
 
-  pub cells_below : 5 * level + 5 ≤ len → cells_needed w node level len ≡ blocks_needed w.tiers 0 0 0
-  cells_below h =
-      other len (5 * level + 5) (blocks_needed w.tiers node.value_tier (rank node.value_bitmap 32) 0) (blocks_needed w.tiers 0 0 0) h
+  pub cells_below : 5 * level + 5 ≤ len → cells_needed node level len ≡ needs (value_need None) 0
+  cells_below h = ap (λ o. needs o 0) (other len (5 * level + 5) (value_need (Some node)) (value_need None) h)
+
+-- ---- what lists need, by nodes
+
+pub child_list_need : (v : Store Node) (n : Node) (count : ℕ) → tier_sizes v.tiers ≡ node_sizes → count ≡ rank n.child_bitmap 32 → list_need v.tiers n.child_tier count ≡ child_need (Some n)
+child_list_need v n count are same =
+    ap (list_need v.tiers n.child_tier) same ∙ ap (λ ns. block_needed ns (size_if_any (rank n.child_bitmap 32) (size_in ns n.child_tier)) (rank n.child_bitmap 32)) are
+
+pub value_list_need : {T : Type 0} (w : Store (Option T)) (n : Node) (count : ℕ) → tier_sizes w.tiers ≡ cell_sizes → count ≡ rank n.value_bitmap 32 →
+    list_need w.tiers n.value_tier count ≡ value_need (Some n)
+value_list_need w n count are same =
+    ap (list_need w.tiers n.value_tier) same ∙ ap (λ ns. block_needed ns (size_if_any (rank n.value_bitmap 32) (size_in ns n.value_tier)) (rank n.value_bitmap 32)) are
+
+pub first_list_need : {T : Type 0} (w : Store (Option T)) → tier_sizes w.tiers ≡ cell_sizes → list_need w.tiers 0 0 ≡ value_need None
+first_list_need w are = ap (λ ns. block_needed ns None 0) are
 
 -- ---- what `prepare` of an array leaves
 
 module _ {S : Type 0} where
-  pub Made-none : (v : Store S) (n : ℕ → ℕ) → ((j : ℕ) → n j ≡ 0) → Made v v n
-  Made-none v n none = record {
-    of_tier = λ j. (let e = none j in omega arith);
-    longer = (let e = slots_of-none (tier_sizes v.tiers) n none in omega arith);
-  }
+  -- where nothing is needed nothing lacks
+  none_lacks : (v : Store S) → HasSizes v.tiers → slots_lacking v [] ≡ 0
+  none_lacks v has = slots_lacking-are v [] (sizes_up v.tiers has) ∙ slots_of-none (tier_sizes v.tiers) (lacking_in v []) (λ size. omega arith)
 
   -- where no block is made after, as many were made
-  pub Made-then : (v w x : Store S) (n : ℕ → ℕ) → Made v w n → SameRoom w x → SameMade w x → Made v x n
-  Made-then v w x n made room same = record {
-    of_tier = λ j. (let a = made.of_tier j in let b = same j in omega arith);
-    longer = (let a = made.longer in let b = room.0 in omega arith);
+  pub Made-then : (v w x : Store S) (needed : List ℕ) → Made v w needed → SameRoom w x → SameMade w x → Made v x needed
+  Made-then v w x needed made room same = record {
+    made_is = λ size. (let a = made.made_is size in let b = same size in omega (arith, a, b));
+    longer = (let a = made.longer in let b = room.0 in omega (arith, a, b));
   }
 
-  -- the block that was refused lacks still
-  lacks_still : (v w : Store S) (needed : ℕ → ℕ) (M : Type 0) → CutShort v w (lacking_in v needed) M → M → LacksWithin w needed
-  lacks_still v w needed M cut for_memory = (
-    cut.short,
-    (let i = cut.inside in let e = tiers_stay v w cut.turnover.sizes in omega arith),
-    (let f = cut.fewer cut.short in let one = many_here cut.short 1 in let e = cut.turnover.free_is cut.short in omega arith),
-    cut.room for_memory,
-  )
+  module _ {X E : Type 0} (L M : E → Type 0) (v w : Store S) (needed : List ℕ) (has : HasSizes v.tiers) where
+    pub keeps_by : (r : Result X E) → Obtains L M r v w needed → Keeps v w
+    keeps_by (Ok x) o = o.made.keeps
+    keeps_by (Err e) o = o.made.2.keeps
 
-  module _ {X : Type 0} where
-    made_by : (r : Result X Refusal) (v w : Store S) (needed : ℕ → ℕ) → OnOk r (Turnover v w (lacking_in v needed) none_at none_at) →
-        IfErr r (λ e. CutShort v w (lacking_in v needed) (e ≡ Memory)) → Makes r v w (lacking_in v needed)
-    made_by (Ok x) v w needed done cut = record { of_tier = done.made_is; longer = done.longer }
-    made_by (Err e) v w needed done cut =
-        (cut.made, λ j. (let f = cut.fewer j in omega arith), record { of_tier = cut.turnover.made_is; longer = cut.turnover.longer })
+    -- done, all that are needed are free
+    pub free_by : (r : Result X E) → Obtains L M r v w needed → OnOk r (AreFree w.tiers needed)
+    free_by (Ok x) o = free_obtained v w needed o.made
+    free_by (Err e) o = tt
 
-    memory_by : (r : Result X Refusal) (v w : Store S) (needed : ℕ → ℕ) → IfErr r (λ e. CutShort v w (lacking_in v needed) (e ≡ Memory)) →
-        IfErr r (λ e. e ≡ Memory → LacksWithin w needed)
-    memory_by (Ok x) v w needed cut = tt
-    memory_by (Err e) v w needed cut = λ is. lacks_still v w needed (e ≡ Memory) cut is
-
-    lacks_by : (r : Result X Refusal) (v w : Store S) (needed : ℕ → ℕ) → IfErr r (λ e. CutShort v w (lacking_in v needed) (e ≡ Memory)) → OnErr r (LacksSome v needed)
-    lacks_by (Ok x) v w needed cut = tt
-    lacks_by (Err e) v w needed cut = (cut.short, cut.inside, (let f = cut.fewer cut.short in let one = many_here cut.short 1 in omega arith))
-
-    pub obtains : (r : Result X Refusal) (v w : Store S) (needed : ℕ → ℕ) → OnOk r (Turnover v w (lacking_in v needed) none_at none_at) →
-        IfErr r (λ e. CutShort v w (lacking_in v needed) (e ≡ Memory)) →
-        IfErr r (λ e. e ≡ IndexRange → v.limit < length v.slots + slots_of (tier_sizes v.tiers) (lacking_in v needed)) →
-        Obtains (λ e. e ≡ IndexRange) (λ e. e ≡ Memory) r v w needed
-    obtains r v w needed done cut range = record {
-      made = made_by r v w needed done cut;
-      range = range;
-      memory = memory_by r v w needed cut;
-      lacks = lacks_by r v w needed cut;
+    pub made_by : (r : Result X E) → Obtains L M r v w needed → Makes r v w needed
+    made_by (Ok x) o = record {
+      made_is = o.made.made_is;
+      longer = (let l = o.made.longer in let s = slots_lacking-are v needed (sizes_up v.tiers has) in omega (arith, l, s));
     }
+    made_by (Err e) o =
+        let t = o.made.2 in
+        let few = slots_of-le (tier_sizes v.tiers) o.made.0 (lacking_in v needed) o.made.1 in
+        let s = slots_lacking-are v needed (sizes_up v.tiers has) in
+        let l = t.longer in
+        record {
+          made_is = λ size. (let m = t.made_is size in let f = o.made.1 size in (omega (arith, m), omega (arith, m, f)));
+          longer = (omega (arith, l), omega (arith, l, few, s));
+        }
 
 -- ---- and of both
 
-module _ {T X E : Type 0} (L M : E → Type 0) (v v2 : Store Node) (w w2 : Store (Option T)) (cells : ℕ → ℕ) where
+module _ {T X E : Type 0} (L M : E → Type 0) (v v2 : Store Node) (w w2 : Store (Option T)) (cells : List ℕ) (node_tiers : HasSizes v.tiers) (cell_tiers : HasSizes w.tiers) where
   -- a block for values is refused
-  pub cells_refused : (nodes : ℕ → ℕ) (e : E) → Obtains {X = X} L M (Err e) w w2 cells → ObtainsBoth {X = X} L M (Err e) v v w w2 nodes cells
+  pub cells_refused : (nodes : List ℕ) (e : E) → Obtains {X = X} L M (Err e) w w2 cells → ObtainsBoth {X = X} L M (Err e) v v w w2 nodes cells
   cells_refused nodes e o = record {
-    nodes_made = (none_at, λ j. omega arith, Made-none v none_at (λ j. refl));
-    cells_made = o.made;
+    nodes_made = record { made_is = λ size. (omega arith, omega arith); longer = (omega arith, omega arith) };
+    cells_made = made_by L M w w2 cells cell_tiers (Err e) o;
     range = λ is. inr (o.range is);
     memory = λ is. inr (o.memory is);
-    lacks = inr o.lacks;
+    lacks = (let l = o.lacks in omega (arith, l));
   }
 
   -- no block for nodes is needed
-  pub cells_alone : (r : Result X E) → Obtains L M r w w2 cells → ObtainsBoth L M r v v w w2 none_at cells
+  pub cells_alone : (r : Result X E) → Obtains L M r w w2 cells → ObtainsBoth L M r v v w w2 [] cells
   cells_alone (Ok x) o = record {
-    nodes_made = Made-none v (lacking_in v none_at) (λ j. omega arith);
-    cells_made = o.made;
+    nodes_made = record { made_is = λ size. omega arith; longer = (let n = none_lacks v node_tiers in omega (arith, n)) };
+    cells_made = made_by L M w w2 cells cell_tiers (Ok x) o;
     range = tt;
     memory = tt;
     lacks = tt;
   }
-  cells_alone (Err e) o = cells_refused none_at e o
+  cells_alone (Err e) o = cells_refused [] e o
 
   -- those for values were made
-  pub nodes_then : (nodes : ℕ → ℕ) (r : Result X E) → Obtains L M r v v2 nodes → Made w w2 (lacking_in w cells) → ObtainsBoth L M r v v2 w w2 nodes cells
-  nodes_then nodes (Ok x) o made = record { nodes_made = o.made; cells_made = made; range = tt; memory = tt; lacks = tt }
-  nodes_then nodes (Err e) o made = record {
-    nodes_made = o.made;
-    cells_made = (lacking_in w cells, λ j. omega arith, made);
-    range = λ is. inl (o.range is);
-    memory = λ is. inl (o.memory is);
-    lacks = inl o.lacks;
-  }
-
--- the same numbers of blocks
-pub both_as : {T X E : Type 0} (L M : E → Type 0) (v v2 : Store Node) (w w2 : Store (Option T)) (r : Result X E) (nodes nodes2 cells cells2 : ℕ → ℕ) →
-    nodes ≡ nodes2 → cells ≡ cells2 → ObtainsBoth L M r v v2 w w2 nodes cells → ObtainsBoth L M r v v2 w w2 nodes2 cells2
-both_as L M v v2 w w2 r nodes nodes2 cells cells2 en ec o =
-    subst (λ n. ObtainsBoth L M r v v2 w w2 n cells2) en (subst (λ c. ObtainsBoth L M r v v2 w w2 nodes c) ec o)
+  pub nodes_then : (nodes : List ℕ) (r : Result X E) → Obtains L M r v v2 nodes → {Y : Type 0} (y : Y) → Obtains L M (Ok y) w w2 cells → ObtainsBoth L M r v v2 w w2 nodes cells
+  nodes_then nodes (Ok x) o y made =
+      record { nodes_made = made_by L M v v2 nodes node_tiers (Ok x) o; cells_made = made_by L M w w2 cells cell_tiers (Ok y) made; range = tt; memory = tt; lacks = tt }
+  nodes_then nodes (Err e) o y made =
+      let m = made_by L M w w2 cells cell_tiers (Ok y) made in record {
+        nodes_made = made_by L M v v2 nodes node_tiers (Err e) o;
+        cells_made = record {
+          made_is = λ size. (let i = m.made_is size in (omega (arith, i), omega (arith, i)));
+          longer = (let l = m.longer in (omega (arith, l), omega (arith, l)));
+        };
+        range = λ is. inl (o.range is);
+        memory = λ is. inl (o.memory is);
+        lacks = (let l = o.lacks in omega (arith, l));
+      }
 
 -- the node reached is the deepest that is there
 pub at_end : (b : List Bool) (len level slot : ℕ) (node : Node) (v : Store Node) → IsReached b len level node slot v → (reading : List ℕ → Option Node)

@@ -1,11 +1,11 @@
 -- What an insertion asks for is what the model says of the table's entries, nodes and layout.
-use Rattle.std.proofs.Common.{◌≡◌, ℕ, ◌+◌, ◌-◌, ◌*◌, ◌/◌, ◌%◌, ◌<◌, ◌≤◌, inl, inr, Bool, true, false, cond, ◌&&◌, List, [], ◌++◌, length, take, replicate, Option, None, Some, is_some, Result, refl, sym, ap, ap₂, ◌∙◌, subst, arith, eq-eqb, length-take-le, append-nil}
+use Rattle.std.proofs.Common.{◌≡◌, ℕ, ◌+◌, ◌-◌, ◌*◌, ◌/◌, ◌%◌, ◌<◌, ◌≤◌, inl, inr, Bool, true, false, cond, ◌&&◌, List, length, take, Option, None, Some, is_some, Result, refl, sym, ap, ap₂, ◌∙◌, subst, arith, eq-eqb, length-take-le, append-nil}
 use Rattle.std.proofs.lemmas.Bool.{false≢true, cases_Bool, cases_lt}
 use Rattle.std.proofs.lemmas.List.{take-take}
 use Rattle.std.specs.Prelude.{option_to_list}
 use Rattle.std.specs.FinMap.{get, contains_key}
 use Rattle.prefix_trie_bits.specs.Model.Blocks.{child_block_sizes, value_block_sizes, child_count, own_entries}
-use Rattle.prefix_trie_bits.specs.Model.Insertion.{block_needed, value_block_needed, child_blocks_needed, value_blocks_needed}
+use Rattle.prefix_trie_bits.specs.Model.Insertion.{block_needed, child_blocks_needed, value_blocks_needed}
 use Rattle.prefix_trie_bits.specs.Model.Nodes.{has_node, is_node_depth, home}
 use Rattle.prefix_trie_bits.specs.Model.Step.{State}
 use Rattle.prefix_trie_bits.proofs.Model.Members.{is-same_string}
@@ -17,10 +17,10 @@ use Rattle.prefix_trie_table.specs.Bitmaps.{rank}
 use Rattle.prefix_trie_table.specs.Cells.{node_sizes, cell_sizes}
 use Rattle.prefix_trie_table.specs.Digits.{path_of}
 use Rattle.prefix_trie_table.specs.Forest.{is_start, Holds, IsEnd, has_child, has_value}
-use Rattle.prefix_trie_table.specs.Layouts.{Sized, size_if_any, child_block_size, value_block_size}
+use Rattle.prefix_trie_table.specs.Layouts.{Sized, child_block_size, value_block_size}
+use Rattle.prefix_trie_table.specs.OwnBlocks.{value_need}
 use Rattle.prefix_trie_table.specs.Shape.{IsShapeOf, Shaped}
-use Rattle.prefix_trie_table.specs.Store.{Store, size_in}
-use Rattle.prefix_trie_table.specs.Store.{blocks_needed as tiers_needed}
+use Rattle.prefix_trie_table.specs.Store.{Store, needs}
 use Rattle.prefix_trie_table.proofs.Strings.Plain.{whole_levels}
 use Rattle.prefix_trie_table.proofs.Tree.Invariant.{some_table}
 use Rattle.prefix_trie_table.proofs.Insertion.Asks.{nodes_here, nodes_below, cells_here, cells_below}
@@ -28,7 +28,6 @@ use Rattle.prefix_trie_table.proofs.Strings.Bits.{has_bit-zero}
 use Rattle.prefix_trie_table.proofs.Strings.BitLists.{rank-zero-all}
 use Rattle.prefix_trie_table.proofs.Strings.Digits.{path-length, path-take}
 use Rattle.prefix_trie_table.proofs.Lookup.Finding.{prefix_some}
-use Rattle.prefix_trie_table.proofs.Insertion.Needs.{AreNeeded, are_needed, nodes_apart, cells_apart}
 use Rattle.prefix_trie_table.proofs.Counts.OwnCounts.{children_counted, values_counted}
 use Rattle.prefix_trie_table.proofs.Tree.Shapes.{shape_nodes, shape_entries}
 use Rattle.prefix_trie_table.proofs.Blocks.Sizing.{layout_of}
@@ -112,84 +111,56 @@ module _ {T : Type 0} (reading : List ℕ → Option Node) (values : List ℕ �
       below_none i more h = ap reading (way i h) ∙ gone i more h
 
       -- the blocks for nodes
-      pub children_needed : AreNeeded child_block_sizes (child_blocks_needed s.nodes (layout_of v.slots v.tiers w.tiers sized) q) (nodes_needed v node level (length q))
-      children_needed = elim (cases_lt level (length q / 5)) as
-          (λ _. AreNeeded child_block_sizes (child_blocks_needed s.nodes (layout_of v.slots v.tiers w.tiers sized) q) (nodes_needed v node level (length q))) [
-            | inl inside ↦
-                subst (λ sizes. AreNeeded child_block_sizes sizes (nodes_needed v node level (length q)))
-                (sym (blocks_needed s.nodes sized.0 q (length q / 5) refl level inside
-                (λ i h. node_is i (omega arith) ∙ above i h) (λ i more h. node_is i h ∙ ap is_some (gone i more h))
-                (λ i more h. (child_size (take (5 * i) q) (depth_is i h) None (below_none i more h), no_children (take (5 * i) q) (depth_is i h) (below_none i more h)))
-                ∙ ap₂ (λ o c. option_to_list (block_needed child_block_sizes o c) ++ replicate (length q / 5 - (level + 1)) 1)
-                (child_size (take (5 * level) q) (depth_is level deep) (Some node) here) (children_are (take (5 * level) q) (depth_is level deep) node here)))
-                (subst (λ n. AreNeeded child_block_sizes (option_to_list (block_needed child_block_sizes (child_block_size (Some node)) (rank node.child_bitmap 32))
-                ++ replicate (length q / 5 - (level + 1)) 1) n) (sym (nodes_below v node level (length q) (inner_level level (length q) inside)))
-                (are_needed v.tiers node_sizes holds.hold.sizes_are refl nodes_apart node.child_tier (rank node.child_bitmap 32) (length q / 5 - (level + 1))))
-            | inr past ↦
-                let last : level ≡ length q / 5 = (let d = deep in omega arith) in
-                subst (λ sizes. AreNeeded child_block_sizes sizes (nodes_needed v node level (length q)))
-                (sym (none_needed s.nodes sized.0 q (length q / 5) refl (λ i h. node_is i h ∙ above i (omega arith))))
-                (subst (AreNeeded child_block_sizes []) (sym (nodes_here v node level (length q) (last_level level (length q) last))) (λ j inside. refl))
-          ]
+      children_needed : child_blocks_needed s.nodes (layout_of v.slots v.tiers w.tiers sized) q ≡ nodes_needed node level (length q)
+      children_needed = elim (cases_lt level (length q / 5)) as (λ _. child_blocks_needed s.nodes (layout_of v.slots v.tiers w.tiers sized) q ≡ nodes_needed node level (length q)) [
+        | inl inside ↦
+            blocks_needed s.nodes sized.0 q (length q / 5) refl level inside
+            (λ i h. node_is i (omega arith) ∙ above i h) (λ i more h. node_is i h ∙ ap is_some (gone i more h))
+            (λ i more h. (child_size (take (5 * i) q) (depth_is i h) None (below_none i more h), no_children (take (5 * i) q) (depth_is i h) (below_none i more h)))
+            ∙ ap₂ (λ o c. needs (block_needed child_block_sizes o c) (length q / 5 - (level + 1)))
+            (child_size (take (5 * level) q) (depth_is level deep) (Some node) here) (children_are (take (5 * level) q) (depth_is level deep) node here)
+            ∙ sym (nodes_below node level (length q) (inner_level level (length q) inside))
+        | inr past ↦
+            let last : level ≡ length q / 5 = (let d = deep in omega arith) in
+            none_needed s.nodes sized.0 q (length q / 5) refl (λ i h. node_is i h ∙ above i (omega arith))
+            ∙ sym (nodes_here node level (length q) (last_level level (length q) last))
+      ]
 
-      home_needs : value_block_needed s.entries sized.1.0 q (home q) ≡ block_needed value_block_sizes (get sized.1.0 (home q)) (own_entries s.entries (home q))
-      home_needs =
-          ap (λ b. cond b (block_needed value_block_sizes (get sized.1.0 (home q)) (own_entries s.entries (home q))) None) (is-same_string (home q) (home q) refl)
-
-      one_needed : (k count : ℕ) →
-          block_needed value_block_sizes (get sized.1.0 (home q)) (own_entries s.entries (home q)) ≡ block_needed value_block_sizes (size_if_any count (size_in cell_sizes k)) count →
-          cells_needed w node level (length q) ≡ tiers_needed w.tiers k count 0 →
-          AreNeeded value_block_sizes (value_blocks_needed s.entries (layout_of v.slots v.tiers w.tiers sized) q) (cells_needed w node level (length q))
-      one_needed k count same needed =
-          subst (AreNeeded value_block_sizes (option_to_list (value_block_needed s.entries sized.1.0 q (home q)))) (sym needed)
-          (subst (λ sizes. AreNeeded value_block_sizes sizes (tiers_needed w.tiers k count 0))
-          (append-nil (option_to_list (block_needed value_block_sizes (size_if_any count (size_in cell_sizes k)) count))
-          ∙ ap (λ o. option_to_list o) (sym (home_needs ∙ same)))
-          (are_needed w.tiers cell_sizes holds.cells.sizes_are refl cells_apart k count 0))
+      one_needed : (o : Option ℕ) → block_needed value_block_sizes (get sized.1.0 (home q)) (own_entries s.entries (home q)) ≡ o →
+          value_blocks_needed s.entries (layout_of v.slots v.tiers w.tiers sized) q ≡ needs o 0
+      one_needed o same =
+          ap (λ b. option_to_list (cond b (block_needed value_block_sizes (get sized.1.0 (home q)) (own_entries s.entries (home q))) None)) (is-same_string (home q) (home q) refl)
+          ∙ ap (λ p. option_to_list p) same ∙ sym (append-nil (option_to_list o))
 
       -- the block for values
-      pub values_needed : AreNeeded value_block_sizes (value_blocks_needed s.entries (layout_of v.slots v.tiers w.tiers sized) q) (cells_needed w node level (length q))
-      values_needed = elim (cases_lt level (length q / 5)) as
-          (λ _. AreNeeded value_block_sizes (value_blocks_needed s.entries (layout_of v.slots v.tiers w.tiers sized) q) (cells_needed w node level (length q))) [
-            | inl inside ↦
-                let none = below_none (length q / 5) inside (omega arith) in
-                one_needed 0 0 (ap₂ (block_needed value_block_sizes) (value_size (home q) (depth_is (length q / 5) (omega arith)) None none)
-                (no_values (home q) (depth_is (length q / 5) (omega arith)) none)) (cells_below w node level (length q) (inner_level level (length q) inside))
-            | inr past ↦
-                let last : level ≡ length q / 5 = (let d = deep in omega arith) in
-                let own : reading (path_of (home q)) ≡ Some node = ap (λ i. reading (path_of (take (5 * i) q))) (sym last) ∙ here in
-                one_needed node.value_tier (rank node.value_bitmap 32)
-                (ap₂ (block_needed value_block_sizes) (value_size (home q) (depth_is (length q / 5) (omega arith)) (Some node) own)
-                (values_are (home q) (depth_is (length q / 5) (omega arith)) node own)) (cells_here w node level (length q) (last_level level (length q) last))
-          ]
+      values_needed : value_blocks_needed s.entries (layout_of v.slots v.tiers w.tiers sized) q ≡ cells_needed node level (length q)
+      values_needed = elim (cases_lt level (length q / 5)) as (λ _. value_blocks_needed s.entries (layout_of v.slots v.tiers w.tiers sized) q ≡ cells_needed node level (length q)) [
+        | inl inside ↦
+            let none = below_none (length q / 5) inside (omega arith) in
+            one_needed (value_need None) (ap₂ (block_needed value_block_sizes) (value_size (home q) (depth_is (length q / 5) (omega arith)) None none)
+            (no_values (home q) (depth_is (length q / 5) (omega arith)) none)) ∙ sym (cells_below node level (length q) (inner_level level (length q) inside))
+        | inr past ↦
+            let last : level ≡ length q / 5 = (let d = deep in omega arith) in
+            let own : reading (path_of (home q)) ≡ Some node = ap (λ i. reading (path_of (take (5 * i) q))) (sym last) ∙ here in
+            one_needed (value_need (Some node))
+            (ap₂ (block_needed value_block_sizes) (value_size (home q) (depth_is (length q / 5) (omega arith)) (Some node) own)
+            (values_are (home q) (depth_is (length q / 5) (omega arith)) node own)) ∙ sym (cells_here node level (length q) (last_level level (length q) last))
+      ]
 
--- so many blocks of each tier for nodes and for values does the model say that an insertion of q needs, and obtains
-pub record Foreseen {T X E : Type 0} (for_limit for_memory : E → Type 0) (v v2 : Store Node) (w w2 : Store (Option T)) (s : State T) (sized : Sized v.slots)
-    (r : Result X E) (q : List Bool) : Type 0 where
-  pub nodes : ℕ → ℕ
-  pub cells : ℕ → ℕ
-  pub nodes_are : AreNeeded child_block_sizes (child_blocks_needed s.nodes (layout_of v.slots v.tiers w.tiers sized) q) nodes
-  pub cells_are : AreNeeded value_block_sizes (value_blocks_needed s.entries (layout_of v.slots v.tiers w.tiers sized) q) cells
-  pub obtains : ObtainsBoth for_limit for_memory r v v2 w w2 nodes cells
-
--- so does that of a new key
+-- what an insertion of a new key obtains are the blocks that the model says
 module _ {T X E : Type 0} (for_limit for_memory : E → Type 0) (b : List Bool) (len : ℕ) (v v2 : Store Node) (w w2 : Store (Option T)) (count : ℕ)
     (s : Shaped v.slots w.slots) (is : IsTable v w count s.0) (sized : Sized v.slots) (r : Result X E) where
   pub obtained : ForHeld v w (λ reading paths values. own_value values b len ≡ None →
-      AtDeepest reading b len (λ node level. ObtainsBoth for_limit for_memory r v v2 w w2 (nodes_needed v node level len) (cells_needed w node level len))) →
-      contains_key s.0.entries (take len b) ≡ false → Foreseen for_limit for_memory v v2 w w2 s.0 sized r (take len b)
+      AtDeepest reading b len (λ node level. ObtainsBoth for_limit for_memory r v v2 w w2 (nodes_needed node level len) (cells_needed node level len))) →
+      contains_key s.0.entries (take len b) ≡ false → ObtainsBoth for_limit for_memory r v v2 w w2
+      (child_blocks_needed s.0.nodes (layout_of v.slots v.tiers w.tiers sized) (take len b)) (value_blocks_needed s.0.entries (layout_of v.slots v.tiers w.tiers sized) (take len b))
   obtained asked new =
       let t = some_table is in
       let none : own_value t.values b len ≡ None =
       sym (shape_entries t.reading t.values t.paths v w t.holds s.0 s.1 (take len b)) ∙ is_none-None (get s.0.entries (take len b)) new in
       let a = asked t.reading t.paths t.values t.holds none in
       let long : length (take len b) ≡ len = length-take-le len b a.long in
-      record {
-        nodes = nodes_needed v a.node a.level len;
-        cells = cells_needed w a.node a.level len;
-        nodes_are = subst (λ l. AreNeeded child_block_sizes (child_blocks_needed s.0.nodes (layout_of v.slots v.tiers w.tiers sized) (take len b)) (nodes_needed v a.node a.level l)) long
-            (children_needed t.reading t.values t.paths v w t.holds s.0 s.1 sized (take len b) a.node a.level a.end a.is);
-        cells_are = subst (λ l. AreNeeded value_block_sizes (value_blocks_needed s.0.entries (layout_of v.slots v.tiers w.tiers sized) (take len b)) (cells_needed w a.node a.level l)) long
-            (values_needed t.reading t.values t.paths v w t.holds s.0 s.1 sized (take len b) a.node a.level a.end a.is);
-        obtains = a.fact;
-      }
+      let nodes = children_needed t.reading t.values t.paths v w t.holds s.0 s.1 sized (take len b) a.node a.level a.end a.is ∙ ap (nodes_needed a.node a.level) long in
+      let cells = values_needed t.reading t.values t.paths v w t.holds s.0 s.1 sized (take len b) a.node a.level a.end a.is ∙ ap (cells_needed a.node a.level) long in
+      subst (λ ns. ObtainsBoth for_limit for_memory r v v2 w w2 ns (value_blocks_needed s.0.entries (layout_of v.slots v.tiers w.tiers sized) (take len b))) (sym nodes)
+      (subst (λ cs. ObtainsBoth for_limit for_memory r v v2 w w2 (nodes_needed a.node a.level len) cs) (sym cells) a.fact)

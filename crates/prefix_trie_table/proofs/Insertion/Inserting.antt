@@ -1,16 +1,14 @@
 -- What an insertion asks for and leaves.
-use Rattle.std.proofs.Common.{◌*◌, ◌≡◌, ℕ, ◌+◌, ◌<◌, ◌≤◌, inl, inr, Bool, true, false, cond, nat_le, List, ◌∷◌, ◌++◌, length, get_or, take, Option, None, Some, IsSome, sym, ap, ◌∙◌, subst, arith}
+use Rattle.std.proofs.Common.{◌*◌, ◌≡◌, ℕ, ◌+◌, ◌<◌, ◌≤◌, inl, inr, Bool, false, cond, List, ◌∷◌, ◌++◌, length, get_or, take, Option, None, Some, IsSome, is_some, sym, ap, ◌∙◌, subst, arith}
 use Rattle.std.proofs.lemmas.Bool.{cases_Bool}
-use Rattle.std.specs.List.{position}
-use Rattle.std.proofs.lemmas.Bool.Decides.{nat_tests}
+use Rattle.prefix_trie_bits.specs.Model.Blocks.{smallest_size}
 use Rattle.prefix_trie_table.specs.declared.allocator.node.Node.{Node}
 use Rattle.prefix_trie_table.specs.Bitmaps.{has_bit, rank}
-use Rattle.prefix_trie_table.specs.Store.{Tier, Store, Sound, UsedBlock, block, HasList, Prepared, tier_for, tier_sizes}
+use Rattle.prefix_trie_table.specs.Store.{Tier, Store, Sound, UsedBlock, block, HasList, Prepared, tier_sizes, size_in}
 use Rattle.prefix_trie_table.specs.Forest.{IsSlot, NodesHold, CellsHold, Deepest, has_value}
 use Rattle.prefix_trie_table.specs.Cells.{blank_node, node_at, node_sizes, cell_sizes}
 use Rattle.prefix_trie_table.proofs.Blocks.Soundness.{tier_of_block, first_place}
-use Rattle.prefix_trie_table.proofs.Blocks.Spending.{tier_for_sizes}
-use Rattle.prefix_trie_table.proofs.Blocks.Tiers.{position_there}
+use Rattle.prefix_trie_table.proofs.Blocks.BySize.{smallest_there, node_sized, cell_sized, tiers_long}
 use Rattle.prefix_trie_table.proofs.Strings.BitLists.{rank-more, rank-lacks}
 use Rattle.prefix_trie_table.specs.Digits.{path_of}
 use Rattle.prefix_trie_table.specs.Tables.{IsReached}
@@ -22,13 +20,13 @@ use Rattle.prefix_trie_table.proofs.Tree.Trees.{reads, slot_holds, held_some}
 pub nodes_prepared : (reading : List ℕ → Option Node) (paths : List (List ℕ)) (v x : Store Node) → NodesHold node_sizes reading paths v →
     Prepared v x → ((live : List (UsedBlock Node)) → Sound blank_node live v → Sound blank_node live x) → NodesHold node_sizes reading paths x
 nodes_prepared reading paths v x hold done sound = record {
-  rooted = hold.rooted ∙ ap Some (sym (done.kept 0 blank_node
+  rooted = hold.rooted ∙ ap Some (sym (done.1 0 blank_node
       (let w = first_place blank_node _ v hold.sound in let f = hold.first_is in omega arith)));
   linked = hold.linked;
   listed = hold.listed;
   sound = sound _ hold.sound;
-  first_is = done.first_is ∙ hold.first_is;
-  sizes_are = done.sizes ∙ hold.sizes_are;
+  first_is = done.0.first_is ∙ hold.first_is;
+  sizes_are = done.0.sizes ∙ hold.sizes_are;
 }
 
 -- and the values that they held
@@ -38,7 +36,7 @@ pub cells_prepared : {T : Type 0} (reading : List ℕ → Option Node) (values :
 cells_prepared reading values paths w x cells done sound = record {
   set_where = cells.set_where;
   sound = sound _ cells.sound;
-  sizes_are = done.sizes ∙ cells.sizes_are;
+  sizes_are = done.0.sizes ∙ cells.sizes_are;
   within = cells.within;
 }
 
@@ -50,28 +48,22 @@ list_tier {S} vacant v k start count h some =
     (tier_of_block vacant (block k start h.size h.items) h.live v s).within
 
 -- some block holds one child more
-pub node_fits : (ts : List Tier) (count : ℕ) → tier_sizes ts ≡ node_sizes → count < 32 → IsSome (tier_for ts (count + 1))
+pub node_fits : (ts : List Tier) (count : ℕ) → tier_sizes ts ≡ node_sizes → count ≤ 32 → IsSome (smallest_size (tier_sizes ts) count)
 node_fits ts count e few =
-    subst IsSome (sym (tier_for_sizes ts (count + 1) ∙ ap (λ ns. position (λ s. nat_le (count + 1) s) ns) e))
-    (position_there (λ s. nat_le (count + 1) s) node_sizes 6 (omega arith) (le_leb (count + 1) 32 (omega arith)))
-  where
-    le_leb : (a b : ℕ) → a ≤ b → nat_le a b ≡ true
-    le_leb a b h = grind (arith, nat_tests)
+    let top : size_in (tier_sizes ts) 6 ≡ 32 = ap (λ ns. size_in ns 6) e in
+    ap is_some (smallest_there ts count 6 (node_sized ts e) (let l = tiers_long ts node_sizes e in omega (arith, l)) (omega (arith, top, few))).found
 
 -- some block holds one value more
-pub cell_fits : (ts : List Tier) (count : ℕ) → tier_sizes ts ≡ cell_sizes → count < 31 → IsSome (tier_for ts (count + 1))
+pub cell_fits : (ts : List Tier) (count : ℕ) → tier_sizes ts ≡ cell_sizes → count ≤ 31 → IsSome (smallest_size (tier_sizes ts) count)
 cell_fits ts count e few =
-    subst IsSome (sym (tier_for_sizes ts (count + 1) ∙ ap (λ ns. position (λ s. nat_le (count + 1) s) ns) e))
-    (position_there (λ s. nat_le (count + 1) s) cell_sizes 6 (omega arith) (le_leb (count + 1) 31 (omega arith)))
-  where
-    le_leb : (a b : ℕ) → a ≤ b → nat_le a b ≡ true
-    le_leb a b h = grind (arith, nat_tests)
+    let top : size_in (tier_sizes ts) 6 ≡ 31 = ap (λ ns. size_in ns 6) e in
+    ap is_some (smallest_there ts count 6 (cell_sized ts e) (let l = tiers_long ts cell_sizes e in omega (arith, l)) (omega (arith, top, few))).found
 
 -- free blocks that were made leave each node that is there
 pub node_still : (reading : List ℕ → Option Node) (paths : List (List ℕ)) (v x : Store Node) (p : List ℕ) (slot : ℕ) (n : Node) →
     NodesHold node_sizes reading paths v → IsSlot reading p slot → reading p ≡ Some n → Prepared v x → node_at x.slots slot ≡ node_at v.slots slot
 node_still reading paths v x p slot n hold stands is done =
-    done.kept slot blank_node (slot_holds node_sizes reading paths v hold p slot n stands is).1
+    done.1 slot blank_node (slot_holds node_sizes reading paths v hold p slot n stands is).1
 
 -- a node that lacks a value has room for one more
 pub few_values : {T : Type 0} (reading : List ℕ → Option Node) (values : List ℕ → ℕ → Option T) (paths : List (List ℕ)) (w : Store (Option T))

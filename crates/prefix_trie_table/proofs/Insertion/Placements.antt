@@ -31,7 +31,7 @@ inserting (Ok seat) = Ok None
 inserting (Err e) = Err e
 
 -- what it obtained
-obtaining : {T E : Type 0} (for_limit for_memory : E → Type 0) (v v2 : Store Node) (w w2 : Store (Option T)) (nodes cells : ℕ → ℕ) (r : Result Seat E) →
+obtaining : {T E : Type 0} (for_limit for_memory : E → Type 0) (v v2 : Store Node) (w w2 : Store (Option T)) (nodes cells : List ℕ) (r : Result Seat E) →
     ObtainsBoth for_limit for_memory r v v2 w w2 nodes cells → ObtainsBoth for_limit for_memory (inserting {T = T} r) v v2 w w2 nodes cells
 obtaining for_limit for_memory v v2 w w2 nodes cells (Ok seat) o =
     record { nodes_made = o.nodes_made; cells_made = o.cells_made; range = tt; memory = tt; lacks = tt }
@@ -60,8 +60,8 @@ module _ {T : Type 0} (b : List Bool) (len : ℕ) (x : T) (v v2 : Store Node) (w
     (is : IsTable v w count s.0) (t : Shaped v2.slots w2.slots) (left : IsTable v2 w2 count2 t.0) (sized : Sized v.slots) (later : Sized v2.slots) (end : WayEnd)
     (at : IsReached b len end.reached.level end.reached.node (end.reached.at.start + end.reached.at.place) v) (absent : contains_key s.0.entries (take len b) ≡ false) where
   taken : (r : Result Seat (Refused T)) → Leaves (take len b) x v v2 w w2 count count2 s is (inserting r) →
-      ObtainsBoth (λ (e : Refused T). e.cause ≡ IndexRange) (λ (e : Refused T). e.cause ≡ Memory) r v v2 w w2 (nodes_needed v end.reached.node end.reached.level len)
-      (cells_needed w end.reached.node end.reached.level len) →
+      ObtainsBoth (λ (e : Refused T). e.cause ≡ IndexRange) (λ (e : Refused T). e.cause ≡ Memory) r v v2 w w2 (nodes_needed end.reached.node end.reached.level len)
+      (cells_needed end.reached.node end.reached.level len) →
       MatchResult (inserting {T = T} r) (λ _. InsertsInStorage s.0 (take len b) (storage_of v w sized) (storage_of v2 w2 later))
       (λ e. RefusesInStorage s.0 (take len b) e.cause (storage_of v w sized) (storage_of v2 w2 later))
   taken r leaves obtains =
@@ -82,8 +82,8 @@ module _ {T : Type 0} (b : List Bool) (len : ℕ) (x : T) (v v2 : Store Node) (w
   answered width (Err e) h = h
 
   pub placed_step : (r : Result Seat (Refused T)) → Leaves (take len b) x v v2 w w2 count count2 s is (inserting r) →
-      ObtainsBoth (λ (e : Refused T). e.cause ≡ IndexRange) (λ (e : Refused T). e.cause ≡ Memory) r v v2 w w2 (nodes_needed v end.reached.node end.reached.level len)
-      (cells_needed w end.reached.node end.reached.level len) → IfErr r (λ e. e.cause ≡ IndexRange → MayPass v w) → Grows v v2 56 → Grows w w2 31 →
+      ObtainsBoth (λ (e : Refused T). e.cause ≡ IndexRange) (λ (e : Refused T). e.cause ≡ Memory) r v v2 w w2 (nodes_needed end.reached.node end.reached.level len)
+      (cells_needed end.reached.node end.reached.level len) → IfErr r (λ e. e.cause ≡ IndexRange → MayPass v w) → Grows v v2 56 → Grows w w2 31 →
       (width : ℕ) → StepByPath width (s.0, storage_of v w sized) (Insert (take len b) x) (placed r) (t.0, storage_of v2 w2 later)
   placed_step r leaves obtains range nodes cells width = answered width r (inserts_step v v2 w w2 count count2 s is sized t left later (take len b) x (inserting r) (record {
     leaves = leaves;

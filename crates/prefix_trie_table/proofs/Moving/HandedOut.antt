@@ -16,7 +16,7 @@ use Rattle.prefix_trie_table.specs.HandingOut.Laying.{NoneFree}
 use Rattle.prefix_trie_table.specs.Layouts.{Sized}
 use Rattle.prefix_trie_table.specs.Shape.{Shaped, same_shape}
 use Rattle.prefix_trie_table.specs.HandingOut.Skeleton.{IsSecond}
-use Rattle.prefix_trie_table.specs.Store.{Store, free_at}
+use Rattle.prefix_trie_table.specs.Store.{Store, free_in}
 use Rattle.prefix_trie_table.specs.Tables.{IsTable, IsTrie}
 use Rattle.prefix_trie_table.proofs.Blocks.Sizing.{storage_of}
 use Rattle.prefix_trie_table.proofs.Blocks.Soundness.{first_place}
@@ -108,7 +108,7 @@ module _ {T : Type 0} where
         let t = some_table trie.table in
         is_packed t.reading t.values t.paths v2 w2 t.holds (λ p n e. second.skeleton.packed p n (sym (same_node p) ∙ e))
         (subst (λ (x : Store Node). NoneFree x) (sym nodes) second.skeleton.no_node_free)
-        (λ j. ap (λ (x : Store (Option T)). free_at x.tiers j) cells ∙ second.skeleton.no_cell_free j)
+        (λ j. ap (λ (x : Store (Option T)). free_in x.tiers j) cells ∙ second.skeleton.no_cell_free j)
         trie.table.cells_first s trie.shaped z
 
     pub second_limit : v2.limit ≡ v.limit

@@ -9,14 +9,15 @@ use Rattle.prefix_trie_bits.specs.Model.Step.{State}
 use Rattle.prefix_trie_bits.proofs.Model.Members.{and-first}
 use Rattle.prefix_trie_table.specs.declared.allocator.node.Node.{Node}
 use Rattle.prefix_trie_table.specs.Bitmaps.{rank, bits}
-use Rattle.prefix_trie_table.specs.Cells.{blank_node, node_sizes, cell_sizes}
+use Rattle.prefix_trie_table.specs.Cells.{blank_node, node_sizes, cell_sizes, HasSizes}
+use Rattle.prefix_trie_table.proofs.Blocks.BySize.{free_at, node_sized, cell_sized}
 use Rattle.prefix_trie_table.specs.Digits.{path_of}
 use Rattle.prefix_trie_table.specs.Forest.{read, times, own_count, held, size_in, child_items, child_blocks, child_blocks_of, value_blocks, value_blocks_of, Holds, NodesHold}
 use Rattle.prefix_trie_table.specs.HandingOut.Laid.{IsPackedNode}
 use Rattle.prefix_trie_table.specs.HandingOut.Laying.{NoneFree}
-use Rattle.prefix_trie_table.specs.Layouts.{AreSizesBy, Sized, own_children, size_if_any, child_block_size, value_block_size, free_counts}
+use Rattle.prefix_trie_table.specs.Layouts.{AreSizesBy, Sized, own_children, child_block_size, value_block_size}
 use Rattle.prefix_trie_table.specs.Shape.{IsShapeOf}
-use Rattle.prefix_trie_table.specs.Store.{Store, Tier, UsedBlock, Sound, extent, of_size, free_at, free_extents, tier_sizes}
+use Rattle.prefix_trie_table.specs.Store.{Store, Tier, UsedBlock, Sound, extent, of_size, free_extents, tier_at, tier_sizes, size_in, size_if_any, free_counts}
 use Rattle.prefix_trie_table.proofs.Blocks.Housed.{child_blocks_housed, value_blocks_housed}
 use Rattle.prefix_trie_table.proofs.Blocks.Sizing.{storage_of}
 use Rattle.prefix_trie_table.proofs.Blocks.SlotSums.{sum_by-flat_map, sum_by-mapped}
@@ -35,14 +36,18 @@ no_items : {X : Type 0} (xs : List X) → length xs ≡ 0 → xs ≡ []
 no_items [] e = refl
 no_items (x ∷ xs) e = absurd (omega (arith, e))
 
-no_extents : (ts : List Tier) → ((j : ℕ) → free_at ts j ≡ 0) → free_extents ts ≡ []
+no_extents : (ts : List Tier) → ((j : ℕ) → j < length ts → length (tier_at ts j).starts ≡ 0) → free_extents ts ≡ []
 no_extents [] none = refl
 no_extents (t ∷ ts) none =
-    ap₂ (λ xs es. map (of_size t.size) xs ++ es) (no_items t.starts (none 0)) (no_extents ts (λ j. none (suc j)))
+    ap₂ (λ xs es. map (of_size t.size) xs ++ es) (no_items t.starts (none 0 (omega arith))) (no_extents ts (λ j h. none (suc j) (omega arith)))
 
-no_counts : (ts : List Tier) → ((j : ℕ) → free_at ts j ≡ 0) → (n : ℕ) → length ts ≡ n → free_counts ts ≡ replicate n 0
+no_counts : (ts : List Tier) → ((j : ℕ) → j < length ts → length (tier_at ts j).starts ≡ 0) → (n : ℕ) → length ts ≡ n → free_counts ts ≡ replicate n 0
 no_counts [] none n e = ap (λ k. replicate k 0) e
-no_counts (t ∷ ts) none n e = ap₂ (λ k ks. k ∷ ks) (none 0) (no_counts ts (λ j. none (suc j)) (length ts) refl) ∙ ap (λ k. replicate k 0) e
+no_counts (t ∷ ts) none n e = ap₂ (λ k ks. k ∷ ks) (none 0 (omega arith)) (no_counts ts (λ j h. none (suc j) (omega arith)) (length ts) refl) ∙ ap (λ k. replicate k 0) e
+
+-- nor of any tier
+none_at : {S : Type 0} (v : Store S) → HasSizes v.tiers → NoneFree v → (j : ℕ) → j < length v.tiers → length (tier_at v.tiers j).starts ≡ 0
+none_at v has none j inside = sym (free_at v.tiers j has inside) ∙ none (size_in (tier_sizes v.tiers) j)
 
 -- ---- the slots of blocks by the nodes that have them
 
@@ -59,14 +64,14 @@ module _ {S : Type 0} where
       ∙ ap (λ o. elim o as (λ _. ℕ) [ None ↦ 0 | Some m ↦ m ]) packed
 
   -- all slots behind those that stand before the blocks are of blocks in use
-  all_slots : (vacant : S) (f : List ℕ → List (UsedBlock S)) (paths : List (List ℕ)) (v : Store S) → Sound vacant (flat_map f paths) v → NoneFree v →
+  all_slots : (vacant : S) (f : List ℕ → List (UsedBlock S)) (paths : List (List ℕ)) (v : Store S) → Sound vacant (flat_map f paths) v → HasSizes v.tiers → NoneFree v →
       length v.slots ≡ v.first + sum_by (λ p. sum_by block_size (f p)) paths
-  all_slots vacant f paths v sound none =
+  all_slots vacant f paths v sound has none =
       omega (
         arith,
         tiling-sum (tier_sizes v.tiers) v.first (length v.slots) sound.blocks.blocks sound.blocks.tiles,
         blocks_sum (tier_sizes v.tiers) v.first (length v.slots) (map extent (flat_map f paths)) (free_extents v.tiers) sound.blocks size_of_extent,
-        ap (λ es. sum_by size_of_extent es) (no_extents v.tiers none),
+        ap (λ es. sum_by size_of_extent es) (no_extents v.tiers (none_at v has none)),
         sum_by-mapped size_of_extent extent (flat_map f paths),
         sum_by-flat_map block_size f paths,
       )
@@ -150,14 +155,14 @@ module _ {T : Type 0} (reading : List ℕ → Option Node) (values : List ℕ �
 
   nodes_long : length v.slots ≡ packed_node_slots s.nodes
   nodes_long =
-      all_slots blank_node (child_blocks node_sizes reading) paths v holds.hold.sound no_node
+      all_slots blank_node (child_blocks node_sizes reading) paths v holds.hold.sound (node_sized v.tiers holds.hold.sizes_are) no_node
       ∙ ap₂ (λ a b. a + b) holds.hold.first_is
       (sym (by_paths reading paths v holds.hold s.nodes are (λ p. packed_slots child_block_sizes (child_count s.nodes p))
       ∙ sum_same (λ p. sum_by block_size (child_blocks node_sizes reading p)) (λ p. packed_slots child_block_sizes (child_count s.nodes (string_at p))) paths child_slots_at))
 
   cells_long : length w.slots ≡ packed_cell_slots s.entries s.nodes
   cells_long =
-      all_slots None (value_blocks cell_sizes reading values) paths w holds.cells.sound no_cell
+      all_slots None (value_blocks cell_sizes reading values) paths w holds.cells.sound (cell_sized w.tiers holds.cells.sizes_are) no_cell
       ∙ ap₂ (λ a b. a + b) first
       (sym (by_paths reading paths v holds.hold s.nodes are (λ p. packed_slots value_block_sizes (own_entries s.entries p))
       ∙ sum_same (λ p. sum_by block_size (value_blocks cell_sizes reading values p)) (λ p. packed_slots value_block_sizes (own_entries s.entries (string_at p))) paths cell_slots_at))
@@ -178,8 +183,8 @@ module _ {T : Type 0} (reading : List ℕ → Option Node) (values : List ℕ �
           (own_entries s.entries) (own_is reading values paths v w holds s is) z.1.0 z.1.1.1;
       elsewhere = (value_blocks_housed reading values paths v w holds s is z).elsewhere;
     };
-    no_child_block_free = no_counts v.tiers no_node 7 (seven v.tiers node_sizes holds.hold.sizes_are);
-    no_value_block_free = no_counts w.tiers no_cell 7 (seven w.tiers cell_sizes holds.cells.sizes_are);
+    no_child_block_free = no_counts v.tiers (none_at v (node_sized v.tiers holds.hold.sizes_are) no_node) 7 (seven v.tiers node_sizes holds.hold.sizes_are);
+    no_value_block_free = no_counts w.tiers (none_at w (cell_sized w.tiers holds.cells.sizes_are) no_cell) 7 (seven w.tiers cell_sizes holds.cells.sizes_are);
     node_slots = nodes_long;
     cell_slots = cells_long;
   }

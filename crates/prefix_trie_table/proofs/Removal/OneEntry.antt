@@ -1,5 +1,5 @@
 -- An entry taken out, and what contracts see of it.
-use Rattle.std.proofs.Common.{◌≡◌, ◌≢◌, ℕ, ◌+◌, ◌-◌, ◌*◌, ◌/◌, ◌<◌, ◌⊎◌, inl, inr, Bool, true, false, cond, ◌&&◌, List, [], ◌∷◌, ◌++◌, length, take, drop, Option, None, Some, is_some, refl, sym, ap, ap₂, ◌∙◌, subst, arith}
+use Rattle.std.proofs.Common.{◌≡◌, ◌≢◌, ℕ, ◌+◌, ◌-◌, ◌*◌, ◌/◌, ◌<◌, ◌⊎◌, inl, inr, Bool, true, false, cond, ◌&&◌, List, [], ◌∷◌, ◌++◌, take, drop, Option, None, Some, is_some, refl, sym, ap, ap₂, ◌∙◌, subst, arith}
 use Rattle.std.proofs.lemmas.Bool.{false≢true}
 use Rattle.std.proofs.lemmas.List.{take_all}
 use Rattle.std.specs.FinMap.{get, len, len-remove}
@@ -15,10 +15,11 @@ use Rattle.prefix_trie_table.specs.Cells.{cell_sizes}
 use Rattle.prefix_trie_table.specs.Digits.{path_of, bit_of}
 use Rattle.prefix_trie_table.specs.Store.{Store}
 use Rattle.prefix_trie_table.specs.Forest.{one_if, Holds, IsSlot, at_root, at_child, child_slot, node_or_blank, own_count, has_value, with_node, with_value, SomeTable, entry_count}
-use Rattle.prefix_trie_table.specs.Removals.{Shrinks, LongerByBlock, MayLengthen, SameChildren, ValueTaken, EntryTaken, MakesEntered}
+use Rattle.prefix_trie_table.specs.Removals.{Lessens, SameChildren, ValueTaken, EntryTaken, MakesEntered}
 use Rattle.prefix_trie_table.specs.OwnBlocks.{value_block_size}
 use Rattle.prefix_trie_table.specs.Shape.{IsShapeOf, Shaped, same_shape}
 use Rattle.prefix_trie_table.specs.Tables.{IsReached, IsTable, Grows, ForHeld}
+use Rattle.prefix_trie_table.proofs.Removal.Lessening.{lessens_none, values_none}
 use Rattle.prefix_trie_table.proofs.Tree.Invariant.{some_table}
 use Rattle.prefix_trie_table.proofs.Tree.Children.{same_or, with_here, with_other}
 use Rattle.prefix_trie_table.proofs.Counts.EntryCounts.{count_with_node}
@@ -65,10 +66,8 @@ module _ {T : Type 0} (reading : List ℕ → Option Node) (values : List ℕ �
     counted = (let z : one_if (is_some (values path b)) ≡ 0 = ap (λ o. one_if (is_some o)) none in omega arith);
     kept = λ none. refl;
     children = λ n m a c. same_children n m (ap node_or_blank (sym a ∙ c));
-    fewer = λ there. absurd (false≢true (sym (ap is_some none) ∙ there));
-    shrinks = λ n m a c there. absurd (false≢true (sym (ap is_some none) ∙ there));
-    longer = inl refl;
-    made = λ j inside. omega arith;
+    lessens = lessens_none cell_sizes w w (own_count (reading path)) (value_block_size (reading path)) (values_none (reading path)) refl;
+    made = λ size there. omega arith;
   }
     where
       unchanged : (q : List ℕ) (j : ℕ) → (q ++ j ∷ [] ≡ path ++ b ∷ []) ⊎ (q ++ j ∷ [] ≢ path ++ b ∷ []) → values q j ≡ with_value values path b None q j
@@ -102,25 +101,14 @@ module _ {T : Type 0} (reading : List ℕ → Option Node) (values : List ℕ �
           let first : n ≡ n2 = ap node_or_blank (sym is ∙ e) in
           let last : m ≡ m2 = ap node_or_blank (sym (with_here reading path m path refl) ∙ f) in
           subst (λ y. SameChildren y m2) first (subst (λ y. SameChildren n y) last a.children);
-      shrinks = λ n2 m2 e f _.
-          let first : n ≡ n2 = ap node_or_blank (sym is ∙ e) in
-          let last : m ≡ m2 = ap node_or_blank (sym (with_here reading path m path refl) ∙ f) in
-          subst (λ (y : Node). Shrinks w.tiers y.value_tier (rank y.value_bitmap 32) m2.value_tier) first
-          (subst (λ (y : Node). Shrinks w.tiers n.value_tier (rank n.value_bitmap 32) y.value_tier) last a.shrinks);
-      fewer = λ _. ap (λ o. own_count o + 1) (with_here reading path m path refl) ∙ a.fewer ∙ sym (ap own_count is);
-      longer = lengthens a.longer;
+      lessens = subst (λ o. Lessens cell_sizes w w2 (own_count o) (own_count (with_node reading path m path)) (value_block_size o) (value_block_size (with_node reading path m path))) (sym is)
+          (subst (λ o. Lessens cell_sizes w w2 (own_count (Some n)) (own_count o) (value_block_size (Some n)) (value_block_size o)) (sym (with_here reading path m path refl)) a.lessens);
       made = subst (λ o. MakesEntered cell_sizes w w2 (value_block_size o) (value_block_size (with_node reading path m path))) (sym is)
           (subst (λ o. MakesEntered cell_sizes w w2 (value_block_size (Some n)) (value_block_size o)) (sym (with_here reading path m path refl)) a.made);
     },
     with_here reading path m path refl,
   )
     where
-      lengthens : MayLengthen cell_sizes w w2 (rank m.value_bitmap 32) n.value_tier m.value_tier →
-          (length w2.slots ≡ length w.slots) ⊎ ((k : Node) × (j : Node) × (reading path ≡ Some k) × (with_node reading path m path ≡ Some j)
-          × LongerByBlock cell_sizes w w2 (rank j.value_bitmap 32) k.value_tier j.value_tier)
-      lengthens (inl same) = inl same
-      lengthens (inr one) = inr (n, m, is, with_here reading path m path refl, one)
-
       stays : (q : List ℕ) → (q ≡ path) ⊎ (q ≢ path) → is_some (with_node reading path m q) ≡ is_some (reading q)
       stays q (inl e) = ap is_some (with_here reading path m q e) ∙ sym (ap is_some (ap reading e ∙ is))
       stays q (inr ne) = ap is_some (with_other reading path m q ne)

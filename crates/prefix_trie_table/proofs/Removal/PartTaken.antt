@@ -245,10 +245,10 @@ module _ {T : Type 0} (width : ℕ) (b : List Bool) (len : ℕ) (within : len �
         settles = Settles-nodes v v2 v3 w w2 lasts.settles settles;
         values = λ x. between_then cell_sizes _ _ _ _ _ _ (lasts.values x)
             (subst (ValuesBetween (read v2.slots x)) (sym (later x))
-            (pruned_values_between (read v2.slots) t.paths (path_of (take len b)) pruned.level pruned.node v2 v3 held pruned.to x));
+            (pruned_values_between (read v2.slots) t.paths (path_of (take len b)) pruned.level pruned.node v2 v3 pruned.to x));
         children = λ x. between_then node_sizes _ _ _ _ _ _ (lasts.children x)
             (subst (ChildrenBetween (read v2.slots x)) (sym (later x))
-            (pruned_children_between (read v2.slots) t.paths (path_of (take len b)) pruned.level pruned.node v2 v3 held pruned.to x));
+            (pruned_children_between (read v2.slots) t.paths (path_of (take len b)) pruned.level pruned.node v2 v3 pruned.to x));
         node_made = made_then v v2 v3 lasts.node_made room.made;
         cell_made = lasts.cell_made;
       }

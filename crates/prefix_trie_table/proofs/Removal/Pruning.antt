@@ -1,24 +1,22 @@
 -- A way pruned from its end upward.
-use Rattle.std.proofs.Common.{◌⊎◌, ◌≡◌, ◌≢◌, ℕ, ◌+◌, ◌-◌, ◌<◌, ◌≤◌, inl, inr, ⊎_elim, true, List, [], ◌∷◌, ◌++◌, length, get_or, take, Option, None, Some, is_some, refl, sym, ap, ◌∙◌, subst, arith, length-append}
+use Rattle.std.proofs.Common.{◌≡◌, ◌≢◌, ℕ, ◌+◌, ◌<◌, ◌≤◌, inl, inr, true, List, [], ◌∷◌, ◌++◌, length, get_or, take, Option, None, Some, is_some, refl, sym, ap, ◌∙◌, subst, arith, length-append}
 use Rattle.std.proofs.lemmas.Bool.{false≢true, cases_lt}
 use Rattle.std.proofs.lemmas.List.{take_more, take_all, length-take-le}
 use Rattle.prefix_trie_table.specs.declared.allocator.node.Node.{Node}
 use Rattle.prefix_trie_table.specs.declared.allocator.node.NodeSlot.{NodeSlot}
 use Rattle.prefix_trie_table.specs.Bitmaps.{has_bit, rank}
 use Rattle.prefix_trie_table.specs.Cells.{node_at, node_sizes, cell_sizes}
-use Rattle.prefix_trie_table.specs.Store.{Store, Tier, tier_at, tier_sizes, tier_for, free_at, size_in}
+use Rattle.prefix_trie_table.specs.Store.{Store, tier_sizes, free_counts}
 use Rattle.prefix_trie_table.specs.Forest.{NodesHold, CellsHold, IsSlot, at_root, at_child, has_child, is_start, without, own_count, entry_count, lacking_child, node_or_blank}
-use Rattle.prefix_trie_table.specs.Removals.{Shrinks, SameValues, IsBare, IsWay, GivesBack, ChildDropped, Drops, none, more, PrunedTo, slot_in, LongerByBlock, MayLengthen}
-use Rattle.prefix_trie_bits.specs.Model.Blocks.{made_of}
-use Rattle.prefix_trie_table.specs.Layouts.{child_block_size, free_counts}
-use Rattle.prefix_trie_table.proofs.Blocks.Entering.{free_is}
-use Rattle.prefix_trie_table.proofs.Insertion.Needs.{nodes_apart}
+use Rattle.prefix_trie_table.specs.Removals.{Lessens, MakesEntered, MakesFew, SameValues, IsBare, IsWay, GivesBack, ChildDropped, Drops, none, more, PrunedTo, slot_in}
+use Rattle.prefix_trie_bits.specs.Model.Blocks.{LongerByOne, free_of}
+use Rattle.prefix_trie_table.specs.Layouts.{own_children, child_block_size}
+use Rattle.prefix_trie_table.proofs.Removal.Lessening.{lessens_none, children_none}
 use Rattle.prefix_trie_table.proofs.Strings.Bare.{no_bit}
 use Rattle.prefix_trie_table.proofs.Tree.Children.{changed, changed_below, changed_here, changed_other}
 use Rattle.prefix_trie_table.proofs.Counts.EntryCounts.{count_sum}
 use Rattle.prefix_trie_table.proofs.Strings.PathSums.{sum_lacking}
 use Rattle.prefix_trie_table.proofs.Removal.Settling.{NodesSettle-none, NodesSettle-then}
-use Rattle.prefix_trie_table.proofs.Blocks.Spending.{tier_for_same}
 use Rattle.prefix_trie_table.proofs.Strings.Starts.{is_start_take}
 use Rattle.prefix_trie_table.proofs.Tree.Trees.{listed_once, slot_holds}
 use Rattle.prefix_trie_table.proofs.Tree.Values.{cells_lacking_child}
@@ -55,23 +53,45 @@ pruning_first reading paths path way level node v hold slots is all = record {
     above = λ k less. refl;
     off = λ q no. refl;
     whole = λ end. refl;
-    fewer = λ n less e. absurd (omega arith);
-    shrinks = λ n less e. absurd (omega arith);
-    longer = inl refl;
-    made = λ j small. (omega arith, omega arith);
+    lessens = subst (λ o. Lessens node_sizes v v (own_children o) (own_children (Some node)) (child_block_size o) (child_block_size (Some node))) (sym (ap reading (take_all level path (omega arith)) ∙ is))
+        (lessens_none node_sizes v v (own_children (Some node)) (child_block_size (Some node)) (children_none (Some node)) refl);
+    made = λ size there. (omega arith, omega arith);
     settles = NodesSettle-none v;
   };
   slots = slots;
 }
 
--- a list that shrinks where more is free
-shrinks_from : (ts us : List Tier) (k count to : ℕ) → tier_sizes us ≡ tier_sizes ts → ((j : ℕ) → free_at ts j ≤ free_at us j) → Shrinks us k count to →
-    Shrinks ts k count to
-shrinks_from ts us k count to sizes free s = record {
-  gone = s.gone;
-  smallest = λ h. ⊎_elim (λ (e : to ≡ k). inl e) (λ (e : tier_for us (count - 1) ≡ Some to). inr (sym (tier_for_same ts us (count - 1) sizes) ∙ e)) (s.smallest h);
-  smaller = λ j h e some. s.smaller j h (tier_for_same ts us (count - 1) sizes ∙ e) (let f = free j in omega arith);
-}
+-- a list lost an item where more is free than was
+module _ (u v w : Store Node) (are : tier_sizes v.tiers ≡ node_sizes) (back : GivesBack u v) where
+  more_free : (size : ℕ) → free_of node_sizes (free_counts u.tiers) size ≤ free_of node_sizes (free_counts v.tiers) size
+  more_free size =
+      let f = back.free size in
+      let a = ap (λ ns. free_of ns (free_counts v.tiers) size) are in
+      let b = ap (λ ns. free_of ns (free_counts u.tiers) size) (sym back.sizes ∙ are) in
+      omega (arith, f, a, b)
+
+  lessens_from : (c d : ℕ) (old new : Option ℕ) → Lessens node_sizes v w c d old new → Lessens node_sizes u w c d old new
+  lessens_from c d old new l = record {
+    has = l.has;
+    steps = record {
+      fewer = l.steps.fewer;
+      same = l.steps.same;
+      none = l.steps.none;
+      one_of = l.steps.one_of;
+      smallest = λ size less some is one. l.steps.smallest size less some is (let f = more_free size in omega (arith, f, one));
+    };
+    longer = elim l.longer as (λ _. LongerByOne node_sizes (free_counts u.tiers) old new (length u.slots) (length w.slots)) [
+      | inl same ↦ inl (same ∙ back.room.0)
+      | inr (size, is, other, empty, long) ↦ inr (size, is, other, (let f = more_free size in omega (arith, f, empty)), long ∙ ap (λ n. n + size) back.room.0)
+    ];
+  }
+
+  made_from : (old new : Option ℕ) → MakesEntered node_sizes v w old new → MakesFew node_sizes u w old new
+  made_from old new made = λ size there.
+      let m = made size there in
+      let b = back.made size in
+      let f = more_free size in
+      (omega (arith, m, b), omega (arith, m, b, f))
 
 module _ (reading : List ℕ → Option Node) (paths : List (List ℕ)) (path : List ℕ) (way : List NodeSlot) (level : ℕ) (node : Node)
     (before v : Store Node) (p : Pruning reading paths path way (level + 1) node before v) where
@@ -126,6 +146,7 @@ module _ (reading : List ℕ → Option Node) (paths : List (List ℕ)) (path : 
       let there : p.to.later (take level path ++ c ∷ []) ≡ Some node = ap (λ d. p.to.later (take level path ++ d ∷ [])) digit ∙ below_is in
       let one : ChildDropped p.to.later p.to.left (take level path) c (node_or_blank (p.to.later (take level path))) m v w =
       dropped p.to.later p.to.left (take level path) (node_or_blank (p.to.later (take level path))) node p.to.hold parent_slot parent_is there bare.no_children in
+      let was : reading (take level path) ≡ Some (node_or_blank (p.to.later (take level path))) = sym (p.to.above level (omega arith)) ∙ parent_is in
       let end : take (level + 1) path ≡ take level path ++ c ∷ [] = path_is ∙ ap (λ d. take level path ++ d ∷ []) (sym digit) in
       let not_up : (k : ℕ) → k ≤ length path → k ≢ level → take k path ≢ take level path = λ k h ne e.
       ne (let a = long k h in let b = long level (let i = inside in omega arith) in let l : length (take k path) ≡ length (take level path) = ap (λ (xs : List ℕ). length xs) e in omega arith) in
@@ -151,27 +172,9 @@ module _ (reading : List ℕ → Option Node) (paths : List (List ℕ)) (path : 
               (λ e. false≢true (sym no ∙ ap (λ x. is_start x path) (e ∙ sym end) ∙ is_start_take (level + 1) path))
               ∙ p.to.off q no;
           whole = λ end. absurd (let i = inside in omega arith);
-          fewer = λ n less is.
-              let same : node_or_blank (p.to.later (take level path)) ≡ n = ap node_or_blank (p.to.above level (omega arith) ∙ is) in
-              one.fewer ∙ ap (λ (y : Node). rank y.child_bitmap 32) same;
-          longer = lengthens m one.longer;
-          made = λ j small.
-              let was : reading (take level path) ≡ Some (node_or_blank (p.to.later (take level path))) = sym (p.to.above level (omega arith)) ∙ parent_is in
-              subst (λ o. ((tier_at before.tiers j).made ≤ (tier_at w.tiers j).made)
-              × ((tier_at w.tiers j).made ≤ (tier_at before.tiers j).made
-              + made_of node_sizes (free_counts before.tiers) (child_block_size o) (child_block_size (Some m)) (size_in node_sizes j))) (sym was)
-              (let a = one.made j small in
-              let b = back.made j in
-              let f = free_is v.tiers node_sizes p.to.hold.sizes_are refl nodes_apart j small in
-              let g = free_is before.tiers node_sizes (sym back.sizes ∙ p.to.hold.sizes_are) refl nodes_apart j small in
-              let h = back.free j in
-              (omega arith, omega arith));
-          shrinks = λ n less is.
-              let same : node_or_blank (p.to.later (take level path)) ≡ n = ap node_or_blank (p.to.above level (omega arith) ∙ is) in (
-                subst (λ (y : Node). SameValues y m) same one.values,
-                subst (λ (y : Node). Shrinks before.tiers y.child_tier (rank y.child_bitmap 32) m.child_tier) same
-                    (shrinks_from before.tiers v.tiers _ _ m.child_tier back.sizes back.free one.shrinks),
-              );
+          lessens = subst (λ o. Lessens node_sizes before w (own_children o) (own_children (Some m)) (child_block_size o) (child_block_size (Some m))) (sym was)
+              (lessens_from before v w p.to.hold.sizes_are back _ _ _ _ one.lessens);
+          made = subst (λ o. MakesFew node_sizes before w (child_block_size o) (child_block_size (Some m))) (sym was) (made_from before v w p.to.hold.sizes_are back _ _ one.made);
           settles = NodesSettle-then before v w p.to.settles one.settles;
         };
         slots = λ k h.
@@ -179,22 +182,6 @@ module _ (reading : List ℕ → Option Node) (paths : List (List ℕ)) (path : 
             (let a = long k (let i = inside in omega arith) in let b = long level (let i = inside in omega arith) in omega arith);
       }
     where
-      lengthens : (m : Node) → MayLengthen node_sizes v w (rank m.child_bitmap 32) (node_or_blank (p.to.later (take level path))).child_tier m.child_tier →
-          (length w.slots ≡ length before.slots) ⊎ ((n : Node) × (reading (take level path) ≡ Some n)
-          × LongerByBlock node_sizes before w (rank m.child_bitmap 32) n.child_tier m.child_tier)
-      lengthens m (inl same) = inl (same ∙ back.room.0)
-      lengthens m (inr made) = inr (
-        node_or_blank (p.to.later (take level path)),
-        sym (p.to.above level (omega arith)) ∙ parent_is,
-        record {
-          some = made.some;
-          smaller = made.smaller;
-          within = made.within;
-          none_free = (let f = back.free m.child_tier in let z = made.none_free in omega arith);
-          longer = made.longer ∙ ap (λ n. n + size_in node_sizes m.child_tier) back.room.0;
-        },
-      )
-
       fall : (k : ℕ) → level < k → k ≤ length path → (m : Node) (c : ℕ) → take (level + 1) path ≡ take level path ++ c ∷ [] →
           take k path ≢ take level path → (k ≢ level + 1 → take k path ≢ take level path ++ c ∷ []) →
           lacking_child p.to.later (take level path) m c (take k path) ≡ None

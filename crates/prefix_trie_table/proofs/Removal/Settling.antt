@@ -1,9 +1,9 @@
 -- That the calls that take values and nodes out raise nothing that the arrays may reach.
-use Rattle.std.proofs.Common.{◌≡◌, inl, inr, Bool, true, not, ℕ, zero, suc, ◌+◌, ◌-◌, ◌*◌, ◌<◌, ◌≤◌, nat_lt, List, [], ◌∷◌, ◌++◌, length, take, get_or, set, sum_by, All, Option, None, Some, is_some, refl, sym, ap, ap₂, ◌∙◌, subst, arith, lit≤}
+use Rattle.std.proofs.Common.{◌≡◌, inl, inr, Bool, true, not, ℕ, ◌+◌, ◌*◌, ◌<◌, ◌≤◌, nat_lt, List, [], ◌∷◌, ◌++◌, length, set, sum_by, All, Option, None, Some, is_some, refl, sym, ap, ap₂, ◌∙◌, subst, arith}
 use Rattle.std.proofs.lemmas.List.{length-set}
 use Rattle.std.proofs.lemmas.List.Elements.{All-nil, All-cons}
 use Rattle.std.proofs.lemmas.List.Filters.{sum_by-filter_both}
-use Rattle.std.proofs.lemmas.List.Sums.{sum_by-le, sum_by-set, sum_by_more}
+use Rattle.std.proofs.lemmas.List.Sums.{sum_by-le, sum_by-set}
 use Rattle.std.specs.FinMap.{len, empty_of_len, get-empty}
 use Rattle.std.proofs.lemmas.Bool.{false≢true, cases_lt}
 use Rattle.prefix_trie_bits.specs.Order.{listing_cmp}
@@ -11,13 +11,12 @@ use Rattle.prefix_trie_bits.specs.Model.Nodes.{Nodes, has_node}
 use Rattle.prefix_trie_bits.specs.Model.Step.{State}
 use Rattle.prefix_trie_table.specs.declared.allocator.node.Node.{Node}
 use Rattle.prefix_trie_table.specs.Cells.{blank_node, node_at, node_sizes, cell_sizes}
-use Rattle.prefix_trie_table.specs.OwnBlocks.{size_if_any, child_block_size, value_block_size}
-use Rattle.prefix_trie_table.specs.Store.{Store, size_in}
+use Rattle.prefix_trie_table.specs.OwnBlocks.{child_block_size, value_block_size}
+use Rattle.prefix_trie_table.specs.Store.{Store, size_in, size_if_any}
 use Rattle.prefix_trie_table.specs.Forest.{without, node_or_blank, lacking_child, NodesHold}
 use Rattle.prefix_trie_table.specs.Shape.{IsShapeOf}
 use Rattle.prefix_trie_table.specs.Tables.{IsTable}
 use Rattle.prefix_trie_table.specs.Settling.{smaller_sizes, headroom, headroom_if_any, child_headroom, value_headroom, node_reach, cell_reach, Settles, NodesSettle}
-use Rattle.prefix_trie_table.proofs.Blocks.SevenTiers.{at_seven}
 use Rattle.prefix_trie_table.proofs.Tree.Invariant.{some_table}
 use Rattle.prefix_trie_table.proofs.Strings.BitLists.{rank-zero-all}
 use Rattle.prefix_trie_table.proofs.Tree.Trees.{listed_once}
@@ -44,55 +43,6 @@ no_children = ap (λ n. headroom_if_any (size_if_any n (size_in node_sizes 0))) 
 
 pub no_own_values : value_headroom blank_node ≡ 0
 no_own_values = ap (λ n. headroom_if_any (size_if_any n (size_in cell_sizes 0))) rank-zero-all
-
--- the slots of one block of each tier below tier k
-unfoldable pub tier_headroom : ℕ → ℕ
-tier_headroom k = sum_by (λ n. n) (take k smaller_sizes)
-
-tier-more : (k : ℕ) → k ≤ 5 → tier_headroom (k + 1) ≡ tier_headroom k + get_or smaller_sizes k 0
-unfolding tier_headroom
-tier-more k h = sum_by_more (λ n. n) smaller_sizes k 0 (omega (arith, h))
-
--- the sizes of the seven tiers rise
-pub headroom_node : (k : ℕ) → k < 7 → headroom (size_in node_sizes k) ≡ tier_headroom k
-unfolding headroom tier_headroom
-headroom_node = at_seven (λ k. headroom (size_in node_sizes k) ≡ tier_headroom k) refl refl refl refl refl refl refl
-
-pub headroom_cell : (k : ℕ) → k < 7 → headroom (size_in cell_sizes k) ≡ tier_headroom k
-unfolding headroom tier_headroom
-headroom_cell = at_seven (λ k. headroom (size_in cell_sizes k) ≡ tier_headroom k) refl refl refl refl refl refl refl
-
--- the sizes of nodes and of values are the same but for the largest
-pub smaller_node : (k : ℕ) → k ≤ 5 → size_in node_sizes k ≡ get_or smaller_sizes k 0
-smaller_node k h =
-    at_seven (λ i. i ≤ 5 → size_in node_sizes i ≡ get_or smaller_sizes i 0) (λ _. refl) (λ _. refl) (λ _. refl) (λ _. refl) (λ _. refl) (λ _. refl)
-    (λ over. absurd (omega (arith, over))) k (omega (arith, h)) h
-
-pub smaller_cell : (k : ℕ) → k ≤ 5 → size_in cell_sizes k ≡ get_or smaller_sizes k 0
-smaller_cell k h =
-    at_seven (λ i. i ≤ 5 → size_in cell_sizes i ≡ get_or smaller_sizes i 0) (λ _. refl) (λ _. refl) (λ _. refl) (λ _. refl) (λ _. refl) (λ _. refl)
-    (λ over. absurd (omega (arith, over))) k (omega (arith, h)) h
-
-pub smaller_few : (k : ℕ) → k ≤ 5 → get_or smaller_sizes k 0 ≤ 24
-smaller_few k h =
-    at_seven (λ i. i ≤ 5 → get_or smaller_sizes i 0 ≤ 24) (λ _. lit≤ tt) (λ _. lit≤ tt) (λ _. lit≤ tt) (λ _. lit≤ tt) (λ _. lit≤ tt) (λ _. lit≤ tt)
-    (λ over. absurd (omega (arith, over))) k (omega (arith, h)) h
-
-tier-rises : (k d : ℕ) → k + d ≤ 6 → tier_headroom k ≤ tier_headroom (k + d)
-tier-rises k zero h = let e : tier_headroom (k + 0) ≡ tier_headroom k = ap tier_headroom (let z : k + 0 ≡ k = omega arith in z) in omega (arith, e)
-tier-rises k (suc d) h =
-    let rest : tier_headroom k ≤ tier_headroom (k + d) = tier-rises k d (omega arith) in
-    let more : tier_headroom (k + d + 1) ≡ tier_headroom (k + d) + get_or smaller_sizes (k + d) 0 = tier-more (k + d) (omega arith) in
-    let same : tier_headroom (k + suc d) ≡ tier_headroom (k + d + 1) = ap tier_headroom (let e : k + suc d ≡ k + d + 1 = omega arith in e) in
-    omega (arith, rest, more, same)
-
--- a block of a smaller tier is one of those below the tier, beside those below its own
-pub headroom-step : (to k size : ℕ) → to < k → k < 7 → size ≡ get_or smaller_sizes to 0 → tier_headroom to + size ≤ tier_headroom k
-headroom-step to k size less seven is =
-    let up : tier_headroom (to + 1) ≤ tier_headroom (to + 1 + (k - (to + 1))) = tier-rises (to + 1) (k - (to + 1)) (omega arith) in
-    let same : tier_headroom (to + 1 + (k - (to + 1))) ≡ tier_headroom k = ap tier_headroom (let e : to + 1 + (k - (to + 1)) ≡ k = omega arith in e) in
-    let more = tier-more to (omega arith) in
-    omega (arith, up, same, more, is)
 
 -- ---- one after another
 

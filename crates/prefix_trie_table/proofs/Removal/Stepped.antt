@@ -3,7 +3,7 @@ use Rattle.std.proofs.Common.{◌≡◌, ℕ, ◌*◌, ◌%◌, ◌≤◌, inl, 
 use Rattle.std.proofs.lemmas.Bool.{cases_Bool}
 use Rattle.std.proofs.lemmas.List.{length-take-le}
 use Rattle.std.specs.FinMap.{get}
-use Rattle.prefix_trie_bits.specs.Model.Blocks.{Sizes, StepsDown, SizesStepDown, StepsBetween, SizesStepBetween, made_of, value_block_sizes, child_block_sizes, own_entries, child_count}
+use Rattle.prefix_trie_bits.specs.Model.Blocks.{Sizes, StepsDown, SizesStepDown, StepsBetween, SizesStepBetween, value_block_sizes, child_block_sizes, own_entries, child_count}
 use Rattle.prefix_trie_bits.specs.Model.Nodes.{Nodes, has_node, is_node_depth, home}
 use Rattle.prefix_trie_bits.specs.Model.Step.{State}
 use Rattle.prefix_trie_bits.specs.Model.Storage.{RemovesValueInStorage, PrunesInStorage}
@@ -13,11 +13,11 @@ use Rattle.prefix_trie_table.specs.declared.allocator.node.Node.{Node}
 use Rattle.prefix_trie_table.specs.Cells.{node_sizes, cell_sizes}
 use Rattle.prefix_trie_table.specs.Digits.{path_of, bit_of}
 use Rattle.prefix_trie_table.specs.Forest.{NodesHold, Holds, SomeTable, has_child, has_value, own_count, read, with_value}
-use Rattle.prefix_trie_table.specs.Layouts.{AreSizesBy, Sized, own_children, child_block_size, value_block_size, free_counts}
+use Rattle.prefix_trie_table.specs.Layouts.{AreSizesBy, Sized, own_children, child_block_size, value_block_size}
 use Rattle.prefix_trie_table.specs.Removals.{EntryTaken, EntryRemoved}
 use Rattle.prefix_trie_table.specs.Retaining.{ValuesBetween, ChildrenBetween}
 use Rattle.prefix_trie_table.specs.Shape.{IsShapeOf, Shaped}
-use Rattle.prefix_trie_table.specs.Store.{Store}
+use Rattle.prefix_trie_table.specs.Store.{Store, free_counts}
 use Rattle.prefix_trie_table.specs.Tables.{IsTable, ForHeld}
 use Rattle.prefix_trie_table.proofs.Strings.Plain.{fifths}
 use Rattle.prefix_trie_table.proofs.Tree.Invariant.{some_table}
@@ -28,7 +28,7 @@ use Rattle.prefix_trie_table.proofs.Counts.OwnCounts.{children_counted, values_c
 use Rattle.prefix_trie_table.proofs.Removal.NodesLeft.{home_path, pruned_holds}
 use Rattle.prefix_trie_table.proofs.Tree.Shapes.{shape_entries, shape_nodes}
 use Rattle.prefix_trie_table.proofs.Removal.Stepping.{ValuesStep, ChildrenStep, steps_read, children_kept, taken_gone, taken_values, taken_children, taken_grows, drops_gone, drops_values, pruned_children, pruned_grows, GrowsByOne, GrowsAtMost, grows_same, grows_not}
-use Rattle.prefix_trie_table.proofs.Blocks.BySize.{blocks_made, blocks_at_most, nodes_cut, cells_cut}
+use Rattle.prefix_trie_table.proofs.Blocks.KeptBlocks.{blocks_made, blocks_at_most, nodes_cut, cells_cut}
 use Rattle.prefix_trie_table.proofs.Blocks.Sizing.{storage_of}
 use Rattle.prefix_trie_table.proofs.Tree.Trees.{reads, is_none-None}
 
@@ -110,9 +110,6 @@ record Left {T : Type 0} (reading : List ℕ → Option Node) (path : List ℕ) 
 
 module _ {T : Type 0} (reading : List ℕ → Option Node) (values : List ℕ → ℕ → Option T) (paths : List (List ℕ)) (v : Store Node)
     (w : Store (Option T)) (holds : Holds reading values paths v w) (key : List Bool) (v2 : Store Node) (w2 : Store (Option T)) where
-  abbrev set_here : is_some (values (path_of key) (bit_of key)) ≡ has_value (reading (path_of key)) (bit_of key)
-  set_here = holds.cells.set_where (path_of key) (bit_of key)
-
   left_taken : EntryTaken reading paths values (path_of key) (bit_of key) v2 w w2 → length v2.slots ≡ length v.slots → v2.tiers ≡ v.tiers →
       Left reading (path_of key) v w v2 w2
   left_taken t long tiers = record {
@@ -120,11 +117,11 @@ module _ {T : Type 0} (reading : List ℕ → Option Node) (values : List ℕ �
     found = with_value values (path_of key) (bit_of key) None;
     paths = paths;
     holds = t.holds;
-    gone = taken_gone reading paths values (path_of key) (bit_of key) v2 w w2 t set_here;
-    values = taken_values reading paths values (path_of key) (bit_of key) v2 w w2 t set_here holds.cells.sizes_are;
+    gone = taken_gone reading paths values (path_of key) (bit_of key) v2 w w2 t;
+    values = taken_values reading paths values (path_of key) (bit_of key) v2 w w2 t;
     children = λ x. children_kept (free_counts v.tiers) (reading x) (t.later x)
-        (taken_children reading paths values (path_of key) (bit_of key) v2 w w2 t set_here x);
-    of_cells = taken_grows reading paths values (path_of key) (bit_of key) v2 w w2 t set_here holds.cells.sizes_are;
+        (taken_children reading paths values (path_of key) (bit_of key) v2 w w2 t x);
+    of_cells = taken_grows reading paths values (path_of key) (bit_of key) v2 w w2 t;
     stop = 0;
     stop_within = omega arith;
     of_nodes = grows_not node_sizes v v2 _ _ tiers long;
@@ -139,27 +136,27 @@ module _ {T : Type 0} (reading : List ℕ → Option Node) (values : List ℕ �
     paths = p.to.left;
     holds = pruned_holds key reading values paths v w holds s is there u v2 w2 t p;
     gone = λ x e. drops_gone t.later paths p.to.later p.to.left p.to.drops x
-        (taken_gone reading paths values (path_of key) (bit_of key) u w w2 t set_here x e);
+        (taken_gone reading paths values (path_of key) (bit_of key) u w w2 t x e);
     values = λ x.
         let same = drops_values t.later paths p.to.later p.to.left p.to.drops x in
         steps_read (StepsDown cell_sizes (free_counts w.tiers)) refl same.0 refl same.1
-        (taken_values reading paths values (path_of key) (bit_of key) u w w2 t set_here holds.cells.sizes_are x);
+        (taken_values reading paths values (path_of key) (bit_of key) u w w2 t x);
     children = λ x.
-        let same = taken_children reading paths values (path_of key) (bit_of key) u w w2 t set_here x in
+        let same = taken_children reading paths values (path_of key) (bit_of key) u w w2 t x in
         steps_read (StepsDown node_sizes (free_counts v.tiers)) (sym same.0) refl (sym same.1) refl
         (subst (λ ts. ChildrenStep (free_counts ts) (t.later x) (p.to.later x)) tiers
-        (pruned_children t.later paths (path_of key) p.level p.node u v2 p.to t.holds.hold.sizes_are x));
+        (pruned_children t.later paths (path_of key) p.level p.node u v2 p.to x));
     of_cells =
         subst (λ o. GrowsByOne cell_sizes w w2 (value_block_size (reading (path_of key))) o)
         (sym (drops_values t.later paths p.to.later p.to.left p.to.drops (path_of key)).1)
-        (taken_grows reading paths values (path_of key) (bit_of key) u w w2 t set_here holds.cells.sizes_are);
+        (taken_grows reading paths values (path_of key) (bit_of key) u w w2 t);
     stop = p.level;
     stop_within = p.to.within;
     of_nodes =
         let path = take p.level (path_of key) in
         subst (λ o. GrowsAtMost node_sizes v v2 o (child_block_size (p.to.later path)))
-        (taken_children reading paths values (path_of key) (bit_of key) u w w2 t set_here path).1
-        (grows_same node_sizes u v v2 _ _ tiers long (pruned_grows t.later paths (path_of key) p.level p.node u v2 p.to t.holds.hold.sizes_are));
+        (taken_children reading paths values (path_of key) (bit_of key) u w w2 t path).1
+        (grows_same node_sizes u v v2 _ _ tiers long (pruned_grows t.later paths (path_of key) p.level p.node u v2 p.to));
   }
 
 -- the sizes of the blocks of a table
@@ -217,8 +214,7 @@ module _ {T : Type 0} (key : List Bool) (v v2 : Store Node) (w w2 : Store (Optio
       record {
         value_blocks = values_left l;
         cells_longer = grows.longer;
-        value_blocks_made = blocks_made cell_sizes w w2 z.1.0 z2.1.0 (cells_cut v w (some_table is) z) (cells_cut v2 w2 later z2)
-            (made_of value_block_sizes (free_counts w.tiers) (get z.1.0 (home key)) (get z2.1.0 (home key))) grows.made;
+        value_blocks_made = blocks_made cell_sizes w w2 z.1.0 z2.1.0 (cells_cut v w (some_table is) z) (cells_cut v2 w2 later z2) _ grows.made;
       }
 
   -- and that of nodes
@@ -230,8 +226,7 @@ module _ {T : Type 0} (key : List Bool) (v v2 : Store Node) (w w2 : Store (Optio
         nodes_longer = (
           grows.0,
           grows.1.longer,
-          blocks_at_most node_sizes v v2 z.0 z2.0 (nodes_cut v w (some_table is) z) (nodes_cut v2 w2 later z2)
-              (made_of child_block_sizes (free_counts v.tiers) (get z.0 grows.0) (get z2.0 grows.0)) grows.1.made,
+          blocks_at_most node_sizes v v2 z.0 z2.0 (nodes_cut v w (some_table is) z) (nodes_cut v2 w2 later z2) _ grows.1.made,
         );
       }
 
@@ -251,7 +246,7 @@ module _ {T : Type 0} (key : List Bool) (v v2 : Store Node) (w w2 : Store (Optio
         z2.1.1.0 p
         ∙ ap (λ o. cond (is_node_depth p) o None)
         (ap child_block_size (reads node_sizes took.later t.paths v2 took.holds.hold (path_of p))
-        ∙ (taken_children t.reading t.paths t.values (path_of key) (bit_of key) v2 w w2 took (t.holds.cells.set_where (path_of key) (bit_of key)) (path_of p)).1
+        ∙ (taken_children t.reading t.paths t.values (path_of key) (bit_of key) v2 w w2 took (path_of p)).1
         ∙ ap child_block_size (sym (reads node_sizes t.reading t.paths v t.holds.hold (path_of p))))
         ∙ sym (z.1.1.0 p))
 

@@ -374,7 +374,7 @@ module _ {K T : Type 0} (IsKey : K → Type 0) (bits : K → List Bool) (width :
               (dropped_values_between (read v2.slots) table2.paths here c n m left v2 v3 one still_site.stands leaf_is bare x));
           children = λ x. between_then node_sizes _ _ _ _ _ _ (lasts.children x)
               (subst (ChildrenBetween (read v2.slots x)) (sym (read3 x))
-              (dropped_children_between (read v2.slots) table2.paths here c n m left v2 v3 one still_site.stands leaf_is bare read2.hold.sizes_are x));
+              (dropped_children_between (read v2.slots) table2.paths here c n m left v2 v3 one still_site.stands leaf_is bare x));
           node_made = made_then v v2 v3 lasts.node_made made;
           cell_made = lasts.cell_made;
         }

@@ -199,8 +199,7 @@ module _ {K : Type 0} (IsKey : K → Type 0) (bits : K → List Bool) (width : �
         value_blocks_after q =
             subst (ValuesBetween (read v.slots q)) (sym (read_after q))
             (taken_values_between (read v.slots) held_table.paths held_table.values (path_of (take p.depth (bits p.key) ++ t)) (bit_of (take p.depth (bits p.key) ++ t)) n m v2 w w2
-            (taken_with (read v.slots) held_table.paths held_table.values read_table) (node_there (read v.slots) held_table.paths held_table.values read_table)
-            read_table.cells.sizes_are q)
+            (taken_with (read v.slots) held_table.paths held_table.values read_table) (node_there (read v.slots) held_table.paths held_table.values read_table) q)
 
         pub child_blocks_after : (q : List ℕ) → ChildrenBetween (read v.slots q) (read v2.slots q)
         child_blocks_after q =

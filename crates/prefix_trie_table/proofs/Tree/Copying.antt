@@ -18,8 +18,8 @@ use Rattle.prefix_trie_table.specs.Bitmaps.{has_bit, rank}
 use Rattle.prefix_trie_table.specs.Cells.{cell_sizes}
 use Rattle.prefix_trie_table.specs.Copies.{IsCloned, AreCloned}
 use Rattle.prefix_trie_table.specs.Digits.{path_of, bit_of}
-use Rattle.prefix_trie_table.specs.Layouts.{Sized, Sized-prop, free_counts}
-use Rattle.prefix_trie_table.specs.Store.{Store, Tier}
+use Rattle.prefix_trie_table.specs.Layouts.{Sized, Sized-prop}
+use Rattle.prefix_trie_table.specs.Store.{Store, Tier, free_counts}
 use Rattle.prefix_trie_table.specs.Forest.{SomeTable, CellsHold, read, value_in, value_of, value_blocks}
 use Rattle.prefix_trie_table.specs.Shape.{IsShapeOf, Shaped, same_shape}
 use Rattle.prefix_trie_table.specs.Tables.{IsTable}

@@ -1,22 +1,24 @@
 -- A path grows digit by digit.
-use Rattle.std.proofs.Common.{◌≡◌, ◌≢◌, ℕ, zero, suc, ◌+◌, ◌<◌, ◌≤◌, ◌⊎◌, inl, inr, ⊎_elim, Bool, true, false, cond, not, nat_lt, ◌&&◌, ◌||◌, List, [], ◌∷◌, ◌++◌, length, get_or, take, Option, None, Some, is_some, refl, sym, ap, ap₂, ◌∙◌, subst, arith, length-take-le}
+use Rattle.std.proofs.Common.{◌≡◌, ◌≢◌, ℕ, ◌+◌, ◌<◌, ◌≤◌, ◌⊎◌, inl, inr, ⊎_elim, Bool, true, false, cond, not, nat_lt, ◌&&◌, ◌||◌, List, [], ◌∷◌, ◌++◌, length, get_or, take, Option, None, Some, is_some, refl, sym, ap, ap₂, ◌∙◌, subst, arith, length-take-le}
 use Rattle.std.proofs.lemmas.List.{take_more, take_all, take_at, take-take}
 use Rattle.std.proofs.lemmas.Bool.{false≢true, cases_lt, cases_eq, lt-ltb, le-ltb}
 use Rattle.std.specs.Option.{option_or}
 use Rattle.prefix_trie_bits.specs.Model.Blocks.{child_block_sizes, value_block_sizes}
 use Rattle.prefix_trie_bits.specs.Model.Insertion.{block_needed}
-use Rattle.prefix_trie_table.specs.OwnBlocks.{size_if_any, child_block_size, value_block_size, child_need, value_need}
+use Rattle.prefix_trie_table.specs.OwnBlocks.{child_block_size, value_block_size, child_need, value_need}
 use Rattle.prefix_trie_table.specs.declared.allocator.node.Node.{Node}
 use Rattle.prefix_trie_table.specs.Bitmaps.{has_bit, rank}
-use Rattle.prefix_trie_table.specs.Store.{Tier, Store, Enough, IsReady, tier_lacking, tier_for, free_at, size_in}
-use Rattle.prefix_trie_table.specs.Forest.{same_path, is_start, gains, size_gained, one_if, own_count, entry_count, IsSlot, NodesHold, CellsHold, Holds, ValueReady, Walked, EntryAdded, Deepest, ChildAdded, ValueSet, with_child, with_node, has_child}
+use Rattle.prefix_trie_bits.specs.Model.Blocks.{one_of}
+use Rattle.prefix_trie_bits.proofs.Model.Storage.Slots.{how_many}
+use Rattle.prefix_trie_table.specs.Store.{Tier, Store, AreFree, free_in, size_in, size_if_any, many_of, needs}
+use Rattle.prefix_trie_table.specs.Forest.{same_path, is_start, gains, size_gained, one_if, own_count, entry_count, IsSlot, NodesHold, CellsHold, Holds, Walked, EntryAdded, Deepest, ChildAdded, ValueSet, with_child, with_node, has_child}
 use Rattle.prefix_trie_table.specs.Cells.{blank_node, node_at, node_sizes, cell_sizes}
-use Rattle.prefix_trie_table.proofs.Strings.Bits.{has_bit-zero}
 use Rattle.prefix_trie_table.proofs.Strings.Paths.{same_path-equal, same_path-not}
 use Rattle.prefix_trie_table.proofs.Strings.Starts.{is_start-snoc, is_start_take, is_start-is}
 use Rattle.prefix_trie_table.proofs.Lookup.Finding.{prefix_some}
 use Rattle.prefix_trie_table.proofs.Counts.EntryCounts.{count_with_child, count_with_node}
-use Rattle.prefix_trie_table.proofs.Blocks.Spending.{ready_taken}
+use Rattle.prefix_trie_table.proofs.Blocks.BySize.{many_here, many_other, many-none, many-le}
+use Rattle.prefix_trie_table.proofs.Blocks.Preparing.{how_many-needs}
 use Rattle.prefix_trie_table.proofs.Strings.BitLists.{rank-zero-all}
 use Rattle.prefix_trie_table.proofs.Tree.Trees.{slot_holds, is_none-None}
 use Rattle.prefix_trie_table.proofs.Tree.Children.{changed_below, changed_here, changed_other, same_or, some_stays, with_here, with_other}
@@ -291,40 +293,36 @@ module _ {T : Type 0} where
       stays q m (inl e) = ap is_some (with_here a.later path m q e) ∙ sym (ap is_some (ap a.later (e ∙ sym (take_all depth path (omega arith))) ∙ a.deep.is))
       stays q m (inr ne) = ap is_some (with_other a.later path m q ne)
 
--- room for one list that has nothing yet
-pub ready_blank : (ts : List Tier) → tier_for ts 1 ≡ Some 0 → 0 < free_at ts 0 → IsReady ts 0 0
-ready_blank ts single free = ready_taken ts ts 0 0 0 refl single free
+-- what is left free once one list took its block
+pub free_next : (ts us : List Tier) (o : Option ℕ) (lists : ℕ) → AreFree ts (needs o lists) → ((size : ℕ) → free_in ts size ≤ free_in us size + one_of o size) → lists ≤ free_in us 1
+free_next ts us o lists free left =
+    let a = free 1 in
+    let b = left 1 in
+    let c = how_many-needs o lists 1 in
+    let d = many_here 1 lists in omega (arith, a, b, c, d)
 
--- what is prepared for a blank node
-pub enough_blank : (ts : List Tier) (m : ℕ) → tier_for ts 1 ≡ Some 0 → m + 1 ≤ free_at ts 0 → Enough ts 0 0 m
-enough_blank ts m single free = record { ready = ready_blank ts single (omega arith); singles = omega arith; both = λ _. free }
+-- the block of a list's own is free where more are
+pub free_own : (ts : List Tier) (o : Option ℕ) (lists : ℕ) → AreFree ts (needs o lists) → AreFree ts (needs o 0)
+free_own ts o lists free = λ size.
+    let a = free size in
+    let b = how_many-needs o lists size in
+    let c = how_many-needs o 0 size in
+    let d = many-le 1 0 lists size (omega arith) in omega (arith, a, b, c, d)
 
--- what is left free once one list took its room
-pub enough_next : (ts us : List Tier) (k count lists : ℕ) → Enough ts k count lists → ((j : ℕ) → free_at ts j ≤ free_at us j + 1) →
-    ((j : ℕ) → tier_lacking ts k count ≢ Some j → free_at ts j ≤ free_at us j) → lists ≤ free_at us 0
-enough_next ts us k count lists enough free kept = go (tier_lacking ts k count) refl
-  where
-    go : (o : Option ℕ) → tier_lacking ts k count ≡ o → lists ≤ free_at us 0
-    go None e = (let s = enough.singles in let f = kept 0 (λ z. let x : ◌≡◌ {A = Option ℕ} None (Some 0) = sym e ∙ z in cc) in omega arith)
-    go (Some zero) e = (let s = enough.both e in let f = free 0 in omega arith)
-    go (Some (suc j)) e = (let s = enough.singles in let f =
-        kept 0 (λ z. let x : ◌≡◌ {A = Option ℕ} (Some (suc j)) (Some 0) = sym e ∙ z in not_zero j x) in omega arith)
-      where
-        not_zero : (j : ℕ) → ◌≡◌ {A = Option ℕ} (Some (suc j)) (Some 0) → ⊥
-        not_zero j x = cc
+-- what a blank node needs
+pub blank_child : (n : Node) → n ≡ blank_node → child_need (Some n) ≡ Some 1
+blank_child n e = ap (λ (k : Node). child_need (Some k)) e ∙ blank_needs
 
--- a blank bitmap has no bits
-pub rank-blank : rank 0 32 ≡ 0
-rank-blank = rank-zero-all
+pub blank_value : (n : Node) → n ≡ blank_node → value_need (Some n) ≡ Some 1
+blank_value n e = ap (λ (k : Node). value_need (Some k)) e ∙ blank_value_needs
 
--- what can be added below a blank node, and at it
-pub enough_below : (n : Node) (ts : List Tier) (m : ℕ) → n ≡ blank_node → tier_for ts 1 ≡ Some 0 → m + 1 ≤ free_at ts 0 →
-    Enough ts n.child_tier (rank n.child_bitmap 32) m
-enough_below n ts m e single free =
-    subst (λ (k : Node). Enough ts k.child_tier (rank k.child_bitmap 32) m) (sym e)
-    (subst (λ r. Enough ts 0 r m) (sym rank-blank) (enough_blank ts m single free))
-
--- a blank node takes its first value
-pub value_below : {T : Type 0} (n : Node) (w : Store (Option T)) (b : ℕ) → n ≡ blank_node → IsReady w.tiers 0 0 → ValueReady n w b
-value_below n w b e ready =
-    subst (λ (k : Node). ValueReady k w b) (sym e) (record { ready = subst (λ r. IsReady w.tiers 0 r) (sym rank-blank) ready; missing = has_bit-zero b })
+-- it is free where some of one slot are
+pub free_one : (ts : List Tier) (o : Option ℕ) → o ≡ Some 1 → 0 < free_in ts 1 → AreFree ts (needs o 0)
+free_one ts o e some = λ size.
+    let a = how_many-needs o 0 size in
+    let own : one_of o size ≡ many_of 1 1 size = ap (λ p. one_of p size) e in
+    let none = many-none 1 0 size refl in
+    elim (cases_eq 1 size) as (λ _. how_many size (needs o 0) ≤ free_in ts size) [
+      | inl is ↦ (let h = many_here 1 1 in let f : free_in ts 1 ≡ free_in ts size = ap (free_in ts) is in let m : many_of 1 1 size ≡ many_of 1 1 1 = ap (many_of 1 1) (sym is) in omega (arith, a, own, none, h, f, m, some))
+      | inr ne ↦ (let h = many_other 1 1 size ne in omega (arith, a, own, none, h))
+    ]

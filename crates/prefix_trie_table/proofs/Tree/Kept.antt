@@ -90,8 +90,8 @@ module _ {T : Type 0} (v v2 : Store Node) (w w2 : Store (Option T)) (count : ℕ
 
     -- and what was obtained for it readies its insertion
     pub kept_readies : {X : Type 0} (sized : Sized v.slots) (later : Sized v2.slots) (r : Result X Refusal) → Grows v v2 56 → Grows w w2 31 →
-        ObtainsBoth (λ cause. cause ≡ IndexRange) (λ cause. cause ≡ Memory) r v v2 w w2 (nodes_needed v end.reached.node end.reached.level len)
-        (cells_needed w end.reached.node end.reached.level len) → contains_key s.0.entries (take len b) ≡ false →
+        ObtainsBoth (λ cause. cause ≡ IndexRange) (λ cause. cause ≡ Memory) r v v2 w w2 (nodes_needed end.reached.node end.reached.level len)
+        (cells_needed end.reached.node end.reached.level len) → contains_key s.0.entries (take len b) ≡ false →
         MatchResult r (λ _. ReadiesInStorage s.0 (take len b) (storage_of v w sized) (storage_of v2 w2 later))
         (λ cause. RefusesInStorage s.0 (take len b) cause (storage_of v w sized) (storage_of v2 w2 later))
     kept_readies sized later r more_nodes more_cells obtains absent =

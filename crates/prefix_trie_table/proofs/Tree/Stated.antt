@@ -15,11 +15,11 @@ use Rattle.prefix_trie_bits.proofs.Model.Members.{same_nodes}
 use Rattle.prefix_trie_table.specs.declared.allocator.node.Node.{Node}
 use Rattle.prefix_trie_table.specs.Digits.{path_of}
 use Rattle.prefix_trie_table.specs.Forest.{read}
-use Rattle.prefix_trie_table.specs.Layouts.{Sized, free_counts}
+use Rattle.prefix_trie_table.specs.Layouts.{Sized}
 use Rattle.prefix_trie_table.specs.Retaining.{Lasts}
 use Rattle.prefix_trie_table.specs.Shape.{Shaped}
 use Rattle.prefix_trie_table.specs.Steps.{inserted, SettlesInStorage}
-use Rattle.prefix_trie_table.specs.Store.{Store, SameRoom}
+use Rattle.prefix_trie_table.specs.Store.{Store, SameRoom, free_counts}
 use Rattle.prefix_trie_table.specs.Tables.{IsTable, Grows, MayPass}
 use Rattle.prefix_trie_table.proofs.Tree.Invariant.{some_table}
 use Rattle.prefix_trie_table.proofs.Blocks.KeptBlocks.{kept_blocks}

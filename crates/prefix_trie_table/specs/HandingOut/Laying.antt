@@ -1,16 +1,18 @@
 -- What it leaves of an array of blocks to lay a whole list at once. This project's own.
 use Rattle.std.specs.Prelude.{◌≡◌, ℕ, ◌<◌, List, ◌++◌, Some, length}
+use Rattle.prefix_trie_bits.specs.Model.Blocks.{smallest_size}
 use Rattle.prefix_trie_table.specs.declared.allocator.blocks.BlockRef.{BlockRef}
-use Rattle.prefix_trie_table.specs.Store.{Store, UsedBlock, Sound, Keeps, tier_at, tier_for, free_at, held}
+use Rattle.prefix_trie_table.specs.Store.{Store, UsedBlock, Sound, Keeps, tier_at, tier_sizes, size_in, free_in, held}
 
--- no block of any tier is free
+-- no block of any size is free
 abbrev pub NoneFree : {S : Type 0} → Store S → Type 0
-NoneFree v = (j : ℕ) → free_at v.tiers j ≡ 0
+NoneFree v = (size : ℕ) → free_in v.tiers size ≡ 0
 
 -- the list stands in a block of the smallest size that holds it, which was free or was made; an empty list stands nowhere. No other list
 -- changed
 pub record LaysList {S : Type 0} (vacant : S) (v w : Store S) (items : List S) (at : BlockRef) : Type 0 where
-  pub tier : 0 < length items → tier_for v.tiers (length items) ≡ Some at.tier
+  pub tier : 0 < length items → at.tier < length v.tiers
+  pub size : 0 < length items → smallest_size (tier_sizes v.tiers) (length items) ≡ Some (size_in (tier_sizes v.tiers) at.tier)
   pub none : length items ≡ 0 → at ≡ record { tier = 0; start = 0 }
   pub sound : (live : List (UsedBlock S)) → Sound vacant live v → Sound vacant (held at.tier at.start (tier_at v.tiers at.tier).size items ++ live) w
   pub keeps : Keeps v w

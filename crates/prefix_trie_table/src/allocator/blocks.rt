@@ -8,7 +8,7 @@ mod removal;
 mod tiers;
 
 ghost use Rattle.std.specs.Prelude.{◌≡◌, ◌+◌, ◌*◌, ◌^◌, ◌<◌, ◌≤◌, ◌↔◌, [], ◌∷◌, List, length, take, All, map, None, IfOk, IsErr, IfErr, vec_len, slice_index_or, slice_set};
-ghost use Rattle.prefix_trie_table.specs.Store.{Store, UsedBlock, Sound, tier_at, slots_made, no_blocks};
+ghost use Rattle.prefix_trie_table.specs.Store.{Store, UsedBlock, Sound, tier_at, tier_sizes, size_in, free_in, slots_made, no_blocks};
 ghost use Rattle.prefix_trie_table.specs.BlockCounts.{tier_count};
 ghost use Rattle.prefix_trie_table.specs.Cells.{blank_node, cell_sizes, node_sizes, HasSizes};
 ghost use Rattle.std.specs.Borrow.{sem};
@@ -80,7 +80,7 @@ impl<S: Slot, A: Allocator> Blocks<S, A> {
     /// How many slots a block of tier `k` has.
     fn size_of(&self, k: usize) -> u32
         requires { k < length self.now.tiers }
-        ensures { result ≡ (tier_at self.now.tiers k).size }
+        ensures { result ≡ size_in (tier_sizes self.now.tiers) k }
     {
         self.lists[k].size()
     }
@@ -88,7 +88,7 @@ impl<S: Slot, A: Allocator> Blocks<S, A> {
     /// How many blocks of tier `k` are free. The others that were made hold a list.
     pub fn free_of(&self, k: usize) -> usize
         requires { k < length self.now.tiers }
-        ensures { result ≡ length (tier_at self.now.tiers k).starts }
+        ensures { result ≡ free_in self.now.tiers (size_in (tier_sizes self.now.tiers) k) }
     {
         self.lists[k].free()
     }

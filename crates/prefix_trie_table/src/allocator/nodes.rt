@@ -1,10 +1,12 @@
 //! The array of nodes. Every read of a node is counted.
-ghost use Rattle.std.specs.Prelude.{◌≡◌, ℕ, ◌+◌, ◌-◌, ◌*◌, ◌^◌, ◌<◌, ◌≤◌, ◌↔◌, ◌⊎◌, [], ◌∷◌, ◌++◌, List, Some, IfOk, IfErr, IsOk, IsErr, IsSome, OnOk, MatchOption, All, length, map, insert, remove, slice_set};
+ghost use Rattle.std.specs.Prelude.{◌≡◌, ℕ, ◌+◌, ◌-◌, ◌^◌, ◌<◌, ◌≤◌, ◌↔◌, [], ◌∷◌, ◌++◌, List, None, IfOk, IfErr, IsErr, IsSome, length, map, insert, remove, slice_set};
+ghost use Rattle.std.specs.Option.{option_or};
+ghost use Rattle.prefix_trie_bits.specs.Model.Blocks.{StepsDown, smallest_size, made_of};
 ghost use Rattle.prefix_trie_bits.specs.Model.HandsOut.{packed_slots};
 ghost use Rattle.prefix_trie_table.specs.BlockCounts.{tier_count};
-ghost use Rattle.prefix_trie_table.specs.Cells.{blank_node, node_at, node_sizes};
+ghost use Rattle.prefix_trie_table.specs.Cells.{HasSizes, blank_node, node_at, node_sizes};
 ghost use Rattle.prefix_trie_table.specs.HandingOut.Laying.{LaysList};
-ghost use Rattle.prefix_trie_table.specs.Store.{Store, UsedBlock, Sound, tier_at, slots_made, block, held, HasList, IsReady, tier_lacking, tier_for, no_blocks, Spends, Prepared, Enough, Keeps, Turnover, CutShort, none_at, one_at, free_at, size_in, tier_sizes, blocks_lacking, tier_slots_lacking, blocks_entered, tier_outgrown, tier_entered, tier_left};
+ghost use Rattle.prefix_trie_table.specs.Store.{Store, UsedBlock, Sound, Turnover, Obtains, HasList, AreFree, IsReady, SameSlots, tier_at, tier_sizes, slots_made, free_counts, none_of, no_blocks, block, held, list_size, list_need, needs};
 ghost use Rattle.prefix_trie_bits.specs.declared.prefix.Refusal.TheVariants.{Memory, IndexRange};
 
 use crate::allocator::block_count::BlockCount;
@@ -138,21 +140,13 @@ impl<A: Allocator, V: Drop> NodeAllocator<A, V> {
     /// their first. Refused only where a block lacks beyond the free ones.
     pub fn prepare(&mut self, k: usize, count: u32, lists: usize) -> Result<(), Refusal>
         requires tier { 0 < count → k < length self.old.tiers }
-        requires single { tier_for self.old.tiers 1 ≡ Some 0 }
-        requires fits { IsSome (tier_for self.old.tiers (count + 1)) }
+        requires sizes { HasSizes self.old.tiers }
+        requires fits { IsSome (smallest_size (tier_sizes self.old.tiers) (count + 1)) }
         requires few { lists + 1 < 2 ^ 64 }
-        ensures made { OnOk result (Turnover self.old self.new (blocks_lacking self.old.tiers k count lists) none_at none_at) }
-        ensures short { IfErr result (λ e. CutShort self.old self.new (blocks_lacking self.old.tiers k count lists) (e ≡ Memory)) }
-        ensures range { IfErr result (λ e. e ≡ IndexRange
-            → self.old.limit < length self.old.slots + tier_slots_lacking self.old.tiers k count lists) }
-        ensures granted { ((j : ℕ) → blocks_lacking self.old.tiers k count lists j ≡ 0)
-            → IsOk result }
-        ensures unchanged { ((j : ℕ) → blocks_lacking self.old.tiers k count lists j ≡ 0)
-            → self.new ≡ self.old }
-        ensures bound { (most : ℕ) → All (λ size. size ≤ most) (tier_sizes self.old.tiers)
-            → tier_slots_lacking self.old.tiers k count lists ≤ most + size_in (tier_sizes self.old.tiers) 0 * lists }
-        ensures enough { OnOk result (Enough self.new.tiers k count lists) }
-        ensures prepared { Prepared self.old self.new }
+        ensures obtains { Obtains (λ e. e ≡ IndexRange) (λ e. e ≡ Memory) result self.old self.new
+            (needs (list_need self.old.tiers k count) lists) }
+        ensures kept { SameSlots self.old self.new }
+        ensures unchanged { AreFree self.old.tiers (needs (list_need self.old.tiers k count) lists) → self.new ≡ self.old }
         ensures sound { (live : List (UsedBlock Node)) → Sound blank_node live self.old
             → Sound blank_node live self.new }
     {
@@ -163,14 +157,13 @@ impl<A: Allocator, V: Drop> NodeAllocator<A, V> {
     /// node is made here, since one that is handed in goes through memory.
     pub fn insert_blank(&mut self, k: usize, start: u32, count: u32, place: u32) -> BlockRef
         requires holds { HasList blank_node self.old k start count }
-        requires single { tier_for self.old.tiers 1 ≡ Some 0 }
+        requires sizes { HasSizes self.old.tiers }
         requires ready { IsReady self.old.tiers k count }
         requires place { place ≤ count }
-        ensures tier { MatchOption (tier_lacking self.old.tiers k count) (result ≡ record { tier = k; start = start })
-            (λ to. result.tier ≡ to) }
-        ensures turnover { Turnover self.old self.new none_at
-            (one_at (tier_lacking self.old.tiers k count)) (one_at (tier_outgrown self.old.tiers k count)) }
-        ensures spends { Spends self.old self.new (tier_lacking self.old.tiers k count) }
+        ensures stands { list_size self.old.tiers result.tier (count + 1)
+            ≡ option_or (list_need self.old.tiers k count) (list_size self.old.tiers k count) }
+        ensures stays { list_need self.old.tiers k count ≡ None → result ≡ record { tier = k; start = start } }
+        ensures turnover { Turnover self.old self.new none_of (list_size self.old.tiers k count) (list_size self.old.tiers result.tier (count + 1)) }
         ensures sound { (n : ℕ) (xs : List Node) (live : List (UsedBlock Node))
             → Sound blank_node (held k start n xs ++ live) self.old → length xs ≡ count
             → Sound blank_node (block result.tier result.start (tier_at self.old.tiers result.tier).size (insert xs place blank_node) ∷ live) self.new }
@@ -182,17 +175,16 @@ impl<A: Allocator, V: Drop> NodeAllocator<A, V> {
     /// stands.
     pub fn remove_at(&mut self, k: usize, start: u32, count: u32, place: u32) -> BlockRef
         requires holds { HasList blank_node self.old k start count }
+        requires sizes { HasSizes self.old.tiers }
         requires place { place < count }
-        ensures keeps { Keeps self.old self.new }
-        ensures tier { (result.tier ≡ 0) ⊎ (result.tier < length self.new.tiers) }
+        ensures turnover { Turnover self.old self.new
+            (made_of (tier_sizes self.old.tiers) (free_counts self.old.tiers) (list_size self.old.tiers k count) (list_size self.old.tiers result.tier (count - 1)))
+            (list_size self.old.tiers k count) (list_size self.old.tiers result.tier (count - 1)) }
+        ensures steps { StepsDown (tier_sizes self.old.tiers) (free_counts self.old.tiers) count (count - 1)
+            (list_size self.old.tiers k count) (list_size self.old.tiers result.tier (count - 1)) }
+        ensures tier { result.tier < length self.old.tiers }
         ensures gone { count ≡ 1 → result ≡ record { tier = 0; start = 0 } }
-        ensures smallest { 1 < count → (result.tier ≡ k)
-            ⊎ (tier_for self.old.tiers (count - 1) ≡ Some result.tier) }
         ensures stays { 1 < count → result.tier ≡ k → result.start ≡ start }
-        ensures smaller { (to : ℕ) → 1 < count → tier_for self.old.tiers (count - 1) ≡ Some to
-            → 0 < free_at self.old.tiers to → result.tier ≡ to }
-        ensures turnover { Turnover self.old self.new (blocks_entered self.old.tiers k count result.tier)
-            (one_at (tier_entered k count result.tier)) (one_at (tier_left k count result.tier)) }
         ensures sound { (n : ℕ) (xs : List Node) (live : List (UsedBlock Node))
             → Sound blank_node (held k start n xs ++ live) self.old → length xs ≡ count
             → Sound blank_node (held result.tier result.start (tier_at self.old.tiers result.tier).size (remove xs place) ++ live) self.new }
@@ -204,7 +196,7 @@ impl<A: Allocator, V: Drop> NodeAllocator<A, V> {
     /// As `Blocks::lay`: lays a list of these nodes in a block of the smallest size that holds them, and says where it stands.
     pub fn lay(&mut self, items: &[Node]) -> Result<BlockRef, Refusal>
         requires sound { (live : List (UsedBlock Node)) × Sound blank_node live self.old }
-        requires fits { IsSome (tier_for self.old.tiers (length items.now)) }
+        requires fits { IsSome (smallest_size (tier_sizes self.old.tiers) (length items.now)) }
         requires few { length items.now < 2 ^ 32 }
         ensures laid { IfOk result (LaysList blank_node self.old self.new items.now) }
         ensures longer { IfOk result (λ _. length self.new.slots

@@ -1,14 +1,16 @@
 //! Setting a value.
-ghost use Rattle.std.specs.Prelude.{◌≡◌, ◌≢◌, ℕ, ◌+◌, ◌*◌, ◌<◌, ◌≤◌, List, Option, Some, take, false, true, is_some, IfErr, IfOk, IsOk, MatchResult, OnOk, None};
+ghost use Rattle.std.specs.Prelude.{◌≡◌, ℕ, ◌+◌, ◌*◌, ◌<◌, ◌≤◌, List, Option, Some, take, false, true, is_some, IfErr, IfOk, IsOk, MatchResult, OnOk, None};
 ghost use Rattle.prefix_trie_table.specs.declared.allocator.node.Node.{Node};
 ghost use Rattle.prefix_trie_table.specs.Bitmaps.{has_bit as is_set, rank as rank_of};
 ghost use Rattle.prefix_trie_table.specs.Cells.{blank_node, node_at, node_sizes, cell_sizes};
 ghost use Rattle.prefix_trie_table.specs.Digits.{path_of, bit_of};
-ghost use Rattle.prefix_trie_table.specs.Store.{UsedBlock, Sound, IsReady, tier_lacking, free_at, Prepared, SameRoom, SameMade};
+ghost use Rattle.prefix_trie_bits.specs.Model.Blocks.{one_of};
+ghost use Rattle.prefix_trie_table.specs.OwnBlocks.{child_need, value_need};
+ghost use Rattle.prefix_trie_table.specs.Store.{UsedBlock, Sound, AreFree, Prepared, SameRoom, SameMade, free_in, needs};
 ghost use Rattle.prefix_trie_table.specs.Forest.{IsSlot, NodesHold, CellsHold, Holds, SomeTable, SomeNodes, IsNodeAt, ChildAdded, ValueSet, Deepest, entry_count, one_if};
 ghost use Rattle.prefix_trie_table.specs.Locations.{seat_in, seat_of};
-ghost use Rattle.prefix_trie_table.specs.Tables.{IsReached, HasRoom, Grows, MayPass, ForHeld, own_value, EntrySet};
-ghost use Rattle.prefix_trie_table.specs.Asked.{nodes_needed, cells_needed, AtDeepest, ObtainsBoth};
+ghost use Rattle.prefix_trie_table.specs.Tables.{IsReached, Grows, MayPass, ForHeld, own_value, EntrySet};
+ghost use Rattle.prefix_trie_table.specs.Asked.{nodes_needed, cells_needed, HasRoom, AtDeepest, ObtainsBoth};
 ghost use Rattle.prefix_trie_bits.specs.declared.prefix.Refusal.TheVariants.{Memory, IndexRange};
 
 use crate::allocator::blocks::Blocks;
@@ -32,13 +34,10 @@ fn add_child<A: Allocator, V: Tick>(
     requires stands { (n : SomeNodes nodes.old) × IsNodeAt n.reading (at.start + at.place) }
     requires node { node ≡ node_at nodes.old.slots (at.start + at.place) }
     requires missing { is_set node.child_bitmap child ≡ false }
-    requires ready { IsReady nodes.old.tiers node.child_tier (rank_of node.child_bitmap 32) }
+    requires ready { AreFree nodes.old.tiers (needs (child_need (Some node)) 0) }
     ensures room { SameRoom nodes.old nodes.new }
     ensures made { SameMade nodes.old nodes.new }
-    ensures free { (j : ℕ) → free_at nodes.old.tiers j ≤ free_at nodes.new.tiers j + 1 }
-    ensures kept { (j : ℕ)
-        → tier_lacking nodes.old.tiers node.child_tier (rank_of node.child_bitmap 32) ≢ Some j
-        → free_at nodes.old.tiers j ≤ free_at nodes.new.tiers j }
+    ensures free { (size : ℕ) → free_in nodes.old.tiers size ≤ free_in nodes.new.tiers size + one_of (child_need (Some node)) size }
     ensures added { (reading : List ℕ → Option Node) (paths : List (List ℕ)) (p : List ℕ) (n : Node)
         → NodesHold node_sizes reading paths nodes.old
         → IsSlot reading p (at.start + at.place) → reading p ≡ Some n
@@ -83,7 +82,7 @@ fn add_value<T: Drop, A: Allocator, V: Tick>(
     requires stands { (t : SomeTable nodes.old cells.old) × IsNodeAt t.reading (at.start + at.place) }
     requires node { node ≡ node_at nodes.old.slots (at.start + at.place) }
     requires missing { is_set node.value_bitmap bit ≡ false }
-    requires ready { IsReady cells.old.tiers node.value_tier (rank_of node.value_bitmap 32) }
+    requires ready { AreFree cells.old.tiers (needs (value_need (Some node)) 0) }
     ensures node_room { SameRoom nodes.old nodes.new }
     ensures cell_room { SameRoom cells.old cells.new }
     ensures node_made { SameMade nodes.old nodes.new }
@@ -147,8 +146,8 @@ pub fn prepare<T: Drop, A: Allocator, V: Tick>(
     ensures cell_room { Grows cells.old cells.new 31 }
     ensures obtains { ObtainsBoth (λ cause. cause ≡ IndexRange) (λ cause. cause ≡ Memory)
         result nodes.old nodes.new cells.old cells.new
-        (nodes_needed nodes.old reached.now.node reached.now.level len)
-        (cells_needed cells.old reached.now.node reached.now.level len) }
+        (nodes_needed reached.now.node reached.now.level len)
+        (cells_needed reached.now.node reached.now.level len) }
     ensures nodes { Prepared nodes.old nodes.new }
     ensures cells { Prepared cells.old cells.new }
     ensures nodes_sound { (live : List (UsedBlock Node)) → Sound blank_node live nodes.old
@@ -240,8 +239,8 @@ pub fn place_entry<K: Key, T: Drop, A: Allocator, V: Tick>(
     ensures cell_room { Grows cells.old cells.new 31 }
     ensures obtains { ObtainsBoth (λ refused. refused.cause ≡ IndexRange) (λ refused. refused.cause ≡ Memory)
         result nodes.old nodes.new cells.old cells.new
-        (nodes_needed nodes.old end.reached.node end.reached.level len)
-        (cells_needed cells.old end.reached.node end.reached.level len) }
+        (nodes_needed end.reached.node end.reached.level len)
+        (cells_needed end.reached.node end.reached.level len) }
     ensures returned { IfErr result (λ refused. refused.value ≡ value) }
 {
     if let Err(cause) = prepare(nodes, cells, &end.reached, len) {
@@ -285,7 +284,7 @@ pub fn insert_entry<K: Key, T: Drop, A: Allocator, V: Tick>(
         → AtDeepest reading (K.bits key) len (λ node level.
         ObtainsBoth (λ refused. refused.cause ≡ IndexRange) (λ refused. refused.cause ≡ Memory)
         result nodes.old nodes.new cells.old cells.new
-        (nodes_needed nodes.old node level len) (cells_needed cells.old node level len))) }
+        (nodes_needed node level len) (cells_needed node level len))) }
     ensures returned { IfErr result (λ refused. refused.value ≡ value) }
     ensures stored { ForHeld nodes.old cells.old (λ reading paths values.
         is_some (own_value values (K.bits key) len) ≡ true

@@ -22,11 +22,11 @@ use Rattle.std.proofs.lemmas.Option.{same_Some}
 -- ---- the slots of needed blocks are no more than these have
 
 -- the sizes go up, from above this one
-abbrev rising : ℕ → List ℕ → Bool
+abbrev pub rising : ℕ → List ℕ → Bool
 rising least [] = true
 rising least (size ∷ sizes) = nat_lt least size && rising size sizes
 
-abbrev total : List ℕ → ℕ
+abbrev pub total : List ℕ → ℕ
 total [] = 0
 total (x ∷ xs) = x + total xs
 
@@ -89,13 +89,13 @@ free_fewer (size ∷ sizes) (f ∷ free) needed =
     omega (arith, mul-le-mul_left size less, rest)
 free_fewer sizes free needed = omega arith
 
-slots_most : (sizes free : List ℕ) → rising 0 sizes ≡ true → (needed : List ℕ) → lacking_slots sizes free needed ≤ total needed
+pub slots_most : (sizes free : List ℕ) → rising 0 sizes ≡ true → (needed : List ℕ) → lacking_slots sizes free needed ≤ total needed
 slots_most sizes free up needed = (let a = free_fewer sizes free needed in let b = all_slots sizes up needed in omega (arith, a, b))
 
 -- ---- sizes
 
 -- those of one array, whose largest is `top`
-abbrev sizes_to : ℕ → List ℕ
+abbrev pub sizes_to : ℕ → List ℕ
 sizes_to top = 1 ∷ 2 ∷ 4 ∷ 8 ∷ 16 ∷ 24 ∷ top ∷ []
 
 module _ (P : ℕ → Type 0) where
@@ -119,14 +119,14 @@ sizes_or_top : (top : ℕ) → All (λ size. (size ≤ 24) ⊎ (size ≡ top)) (
 sizes_or_top top = seven (λ size. (size ≤ 24) ⊎ (size ≡ top)) top (inl (lit≤ tt)) (inl (lit≤ tt)) (inl (lit≤ tt)) (inl (lit≤ tt)) (inl (lit≤ tt)) (inl (lit≤ tt)) (inr refl)
 
 -- the block that a list needs is no larger than the largest
-needed_most : (top : ℕ) → 24 ≤ top → (block : Option ℕ) (count x : ℕ) → block_needed (sizes_to top) block count ≡ Some x → x ≤ top
+pub needed_most : (top : ℕ) → 24 ≤ top → (block : Option ℕ) (count x : ℕ) → block_needed (sizes_to top) block count ≡ Some x → x ≤ top
 needed_most top h None count x e = found_in (λ size. size ≤ top) (λ size. nat_le (count + 1) size) (sizes_to top) x (sizes_most top h) e
 needed_most top h (Some size) count x e = elim (nat_lt count size) as (λ b. cond b None (smallest_size (sizes_to top) (count + 1)) ≡ Some x → x ≤ top) [
   | true ↦ λ none. absurd (let h : ◌≡◌ {A = Option ℕ} None (Some x) = none in cc)
   | false ↦ found_in (λ s. s ≤ top) (λ s. nat_le (count + 1) s) (sizes_to top) x (sizes_most top h)
 ] e
 
-total_most : (most : ℕ) (o : Option ℕ) (m : ℕ) → ((x : ℕ) → o ≡ Some x → x ≤ most) → total (option_to_list o ++ replicate m 1) ≤ most + m
+pub total_most : (most : ℕ) (o : Option ℕ) (m : ℕ) → ((x : ℕ) → o ≡ Some x → x ≤ most) → total (option_to_list o ++ replicate m 1) ≤ most + m
 total_most most o m few = one o few
   where
     ones : (n : ℕ) → total (replicate n 1) ≤ n
@@ -212,7 +212,7 @@ module _ (top : ℕ) where
         ]
       ]
 
-  shrinks_few : (free : List ℕ) (before after size : ℕ) (old : Option ℕ) → StepsDown (sizes_to top) free before after old (Some size) →
+  pub shrinks_few : (free : List ℕ) (before after size : ℕ) (old : Option ℕ) → StepsDown (sizes_to top) free before after old (Some size) →
       HasBlock (sizes_to top) before old → old ≢ Some size → size ≤ 24
   shrinks_few free before after size old step has other = elim (cases_lt 24 size) as (λ _. size ≤ 24) [
     | inr few ↦ few

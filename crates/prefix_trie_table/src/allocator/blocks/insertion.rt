@@ -1,7 +1,9 @@
 //! Putting an item into a list.
-ghost use Rattle.std.specs.Prelude.{◌≡◌, ℕ, ◌+◌, ◌<◌, ◌≤◌, [], ◌∷◌, ◌++◌, List, Some, length, replicate, insert, remove, None, nat_lt, if◌then◌else◌, IsSomeAnd, MatchOption, ◌⊎◌};
+ghost use Rattle.std.specs.Prelude.{◌≡◌, ℕ, ◌+◌, ◌<◌, ◌≤◌, [], ◌∷◌, ◌++◌, List, Some, None, length, replicate, insert, remove};
+ghost use Rattle.std.specs.Option.{option_or};
 ghost use Rattle.prefix_trie_table.specs.Runs.{run, put_run};
-ghost use Rattle.prefix_trie_table.specs.Store.{UsedBlock, Sound, tier_at, block, InUse, tier_for, held, HasList, IsReady, tier_lacking, Spends, Turnover, none_at, one_at, many_at, tier_outgrown};
+ghost use Rattle.prefix_trie_table.specs.Cells.{HasSizes};
+ghost use Rattle.prefix_trie_table.specs.Store.{UsedBlock, Sound, Turnover, InUse, HasList, IsReady, tier_at, tier_sizes, size_in, free_in, none_of, block, held, list_size, list_need};
 
 use crate::allocator::blocks::{BlockRef, Blocks};
 use crate::allocator::slots::{Slot, move_in, shift_in};
@@ -13,14 +15,13 @@ impl<S: Slot, A: Allocator> Blocks<S, A> {
     /// and its old block is free. It makes no block and asks for no memory: `prepare` does that before.
     pub fn insert_at(&mut self, k: usize, start: u32, count: u32, place: u32, value: S) -> BlockRef
         requires holds { HasList S.vacant self.old k start count }
-        requires single { tier_for self.old.tiers 1 ≡ Some 0 }
+        requires sizes { HasSizes self.old.tiers }
         requires ready { IsReady self.old.tiers k count }
         requires place { place ≤ count }
-        ensures tier { MatchOption (tier_lacking self.old.tiers k count) (result ≡ record { tier = k; start = start })
-            (λ to. result.tier ≡ to) }
-        ensures turnover { Turnover self.old self.new none_at
-            (one_at (tier_lacking self.old.tiers k count)) (one_at (tier_outgrown self.old.tiers k count)) }
-        ensures spends { Spends self.old self.new (tier_lacking self.old.tiers k count) }
+        ensures stands { list_size self.old.tiers result.tier (count + 1)
+            ≡ option_or (list_need self.old.tiers k count) (list_size self.old.tiers k count) }
+        ensures stays { list_need self.old.tiers k count ≡ None → result ≡ record { tier = k; start = start } }
+        ensures turnover { Turnover self.old self.new none_of (list_size self.old.tiers k count) (list_size self.old.tiers result.tier (count + 1)) }
         ensures sound { (n : ℕ) (xs : List S) (live : List (UsedBlock S))
             → Sound S.vacant (held k start n xs ++ live) self.old → length xs ≡ count
             → Sound S.vacant (block result.tier result.start (tier_at self.old.tiers result.tier).size (insert xs place value) ∷ live) self.new }
@@ -39,19 +40,14 @@ impl<S: Slot, A: Allocator> Blocks<S, A> {
     /// Puts a value into the list of a block. A full one is left for a free block of the smallest size that holds the list.
     fn insert_into(&mut self, k: usize, start: u32, count: u32, place: u32, value: S) -> BlockRef
         requires in_use { InUse S.vacant self.old k start count }
-        requires ready { (count < (tier_at self.old.tiers k).size)
-            ⊎ IsSomeAnd (tier_for self.old.tiers (count + 1))
-            (λ to. 0 < length (tier_at self.old.tiers to).starts) }
+        requires some { 0 < count }
+        requires sizes { HasSizes self.old.tiers }
+        requires ready { IsReady self.old.tiers k count }
         requires place { place ≤ count }
-        ensures stays { count < (tier_at self.old.tiers k).size
-            → result ≡ record { tier = k; start = start } }
-        ensures moves { (tier_at self.old.tiers k).size ≤ count
-            → tier_for self.old.tiers (count + 1) ≡ Some result.tier }
-        ensures spends { Spends self.old self.new (if nat_lt count (tier_at self.old.tiers k).size then None else tier_for self.old.tiers (count + 1)) }
-        ensures stayed { count < (tier_at self.old.tiers k).size
-            → Turnover self.old self.new none_at none_at none_at }
-        ensures moved { (tier_at self.old.tiers k).size ≤ count
-            → Turnover self.old self.new none_at (many_at result.tier 1) (many_at k 1) }
+        ensures stands { list_size self.old.tiers result.tier (count + 1)
+            ≡ option_or (list_need self.old.tiers k count) (list_size self.old.tiers k count) }
+        ensures stays { list_need self.old.tiers k count ≡ None → result ≡ record { tier = k; start = start } }
+        ensures turnover { Turnover self.old self.new none_of (list_size self.old.tiers k count) (list_size self.old.tiers result.tier (count + 1)) }
         ensures sound { (n : ℕ) (xs : List S) (live : List (UsedBlock S))
             → Sound S.vacant (block k start n xs ∷ live) self.old → length xs ≡ count
             → Sound S.vacant (block result.tier result.start (tier_at self.old.tiers result.tier).size (insert xs place value) ∷ live) self.new }
@@ -77,11 +73,10 @@ impl<S: Slot, A: Allocator> Blocks<S, A> {
     ) -> u32
         requires in_use { InUse S.vacant self.old k outgrown count }
         requires within { to < length self.old.tiers }
-        requires ready { 0 < length (tier_at self.old.tiers to).starts }
-        requires holds { count < (tier_at self.old.tiers to).size }
+        requires ready { 0 < free_in self.old.tiers (size_in (tier_sizes self.old.tiers) to) }
+        requires holds { count < size_in (tier_sizes self.old.tiers) to }
         requires place { place ≤ count }
-        ensures spends { Spends self.old self.new (Some to) }
-        ensures turned { Turnover self.old self.new none_at (many_at to 1) (many_at k 1) }
+        ensures turnover { Turnover self.old self.new none_of (Some (size_in (tier_sizes self.old.tiers) k)) (Some (size_in (tier_sizes self.old.tiers) to)) }
         ensures sound { (n : ℕ) (xs : List S) (live : List (UsedBlock S))
             → Sound S.vacant (block k outgrown n xs ∷ live) self.old → length xs ≡ count
             → Sound S.vacant (block to result (tier_at self.old.tiers to).size (insert xs place value) ∷ live) self.new }

@@ -1,7 +1,8 @@
 //! Laying a whole list at once, in a block of its final size.
 ghost use Rattle.std.specs.Prelude.{◌≡◌, ◌+◌, ◌^◌, ◌<◌, ◌≤◌, List, length, replicate, IfOk, IfErr, IsSome};
 ghost use Rattle.prefix_trie_table.specs.HandingOut.Laying.{LaysList};
-ghost use Rattle.prefix_trie_table.specs.Store.{UsedBlock, Sound, tier_for, tier_sizes};
+ghost use Rattle.prefix_trie_table.specs.Store.{UsedBlock, Sound, tier_sizes};
+ghost use Rattle.prefix_trie_bits.specs.Model.Blocks.{smallest_size};
 ghost use Rattle.prefix_trie_bits.specs.Model.HandsOut.{packed_slots};
 ghost use Rattle.prefix_trie_bits.specs.declared.prefix.Refusal.TheVariants.{IndexRange};
 
@@ -29,7 +30,7 @@ impl<S: Slot, A: Allocator> Blocks<S, A> {
     /// Refused with `IndexRange` only where the block would pass the limit, and with `Memory` only where memory was refused.
     pub fn lay_vacant(&mut self, count: u32) -> Result<BlockRef, Refusal>
         requires sound { (live : List (UsedBlock S)) × Sound S.vacant live self.old }
-        requires fits { IsSome (tier_for self.old.tiers count) }
+        requires fits { IsSome (smallest_size (tier_sizes self.old.tiers) count) }
         ensures laid { IfOk result (LaysList S.vacant self.old self.new (replicate count S.vacant)) }
         ensures longer { IfOk result (λ _. length self.new.slots ≤ length self.old.slots + packed_slots (tier_sizes self.old.tiers) count) }
         ensures range { IfErr result (λ cause. cause ≡ IndexRange
@@ -49,7 +50,7 @@ impl<S: Slot + Copy, A: Allocator> Blocks<S, A> {
     /// The same for a list of these items.
     pub fn lay(&mut self, items: &[S]) -> Result<BlockRef, Refusal>
         requires sound { (live : List (UsedBlock S)) × Sound S.vacant live self.old }
-        requires fits { IsSome (tier_for self.old.tiers (length items.now)) }
+        requires fits { IsSome (smallest_size (tier_sizes self.old.tiers) (length items.now)) }
         requires few { length items.now < 2 ^ 32 }
         ensures laid { IfOk result (LaysList S.vacant self.old self.new items.now) }
         ensures longer { IfOk result (λ _. length self.new.slots

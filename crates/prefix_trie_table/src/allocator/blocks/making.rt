@@ -1,6 +1,8 @@
 //! Making blocks, before a list takes one more item.
-ghost use Rattle.std.specs.Prelude.{◌≡◌, ℕ, ◌+◌, ◌-◌, ◌*◌, ◌^◌, ◌<◌, ◌≤◌, ◌↔◌, List, Some, length, All, IsOk, OnOk, OnErr, IfErr, IsSome};
-ghost use Rattle.prefix_trie_table.specs.Store.{UsedBlock, Sound, tier_at, grown, grown_times, tier_for, tier_lacking, tier_sizes, Prepared, Enough, Turnover, CutShort, none_at, size_in, blocks_lacking, tier_slots_lacking};
+ghost use Rattle.std.specs.Prelude.{◌≡◌, ℕ, ◌+◌, ◌-◌, ◌^◌, ◌<◌, ◌≤◌, ◌↔◌, List, None, length, option_map, IfSome, OnOk, OnErr, IfErr, IsSome};
+ghost use Rattle.prefix_trie_bits.specs.Model.Blocks.{smallest_size};
+ghost use Rattle.prefix_trie_table.specs.Cells.{HasSizes};
+ghost use Rattle.prefix_trie_table.specs.Store.{UsedBlock, Sound, Turnover, Obtains, SameSlots, tier_sizes, size_in, free_in, many_of, list_need, needs, AreFree};
 ghost use Rattle.prefix_trie_bits.specs.declared.prefix.Refusal.TheVariants.{Memory, IndexRange};
 
 use crate::allocator::blocks::Blocks;
@@ -16,21 +18,13 @@ impl<S: Slot, A: Allocator> Blocks<S, A> {
     /// with `Memory` only where memory was refused. What was made until then stays, free.
     pub fn prepare(&mut self, k: usize, count: u32, lists: usize) -> Result<(), Refusal>
         requires tier { 0 < count → k < length self.old.tiers }
-        requires single { tier_for self.old.tiers 1 ≡ Some 0 }
-        requires fits { IsSome (tier_for self.old.tiers (count + 1)) }
+        requires sizes { HasSizes self.old.tiers }
+        requires fits { IsSome (smallest_size (tier_sizes self.old.tiers) (count + 1)) }
         requires few { lists + 1 < 2 ^ 64 }
-        ensures made { OnOk result (Turnover self.old self.new (blocks_lacking self.old.tiers k count lists) none_at none_at) }
-        ensures short { IfErr result (λ e. CutShort self.old self.new (blocks_lacking self.old.tiers k count lists) (e ≡ Memory)) }
-        ensures range { IfErr result (λ e. e ≡ IndexRange
-            → self.old.limit < length self.old.slots + tier_slots_lacking self.old.tiers k count lists) }
-        ensures granted { ((j : ℕ) → blocks_lacking self.old.tiers k count lists j ≡ 0)
-            → IsOk result }
-        ensures unchanged { ((j : ℕ) → blocks_lacking self.old.tiers k count lists j ≡ 0)
-            → self.new ≡ self.old }
-        ensures bound { (most : ℕ) → All (λ size. size ≤ most) (tier_sizes self.old.tiers)
-            → tier_slots_lacking self.old.tiers k count lists ≤ most + size_in (tier_sizes self.old.tiers) 0 * lists }
-        ensures enough { OnOk result (Enough self.new.tiers k count lists) }
-        ensures prepared { Prepared self.old self.new }
+        ensures obtains { Obtains (λ e. e ≡ IndexRange) (λ e. e ≡ Memory) result self.old self.new
+            (needs (list_need self.old.tiers k count) lists) }
+        ensures kept { SameSlots self.old self.new }
+        ensures unchanged { AreFree self.old.tiers (needs (list_need self.old.tiers k count) lists) → self.new ≡ self.old }
         ensures sound { (live : List (UsedBlock S)) → Sound S.vacant live self.old
             → Sound S.vacant live self.new }
     {
@@ -45,12 +39,13 @@ impl<S: Slot, A: Allocator> Blocks<S, A> {
         self.obtain(0, singles)
     }
 
-    /// The tier of which a block must be free before a list of `count` values in a block of tier `k` takes one more.
+    /// The tier of the block that must be free before a list of `count` values in a block of tier `k` takes one more.
     fn lacking(&self, k: usize, count: u32) -> Option<usize>
         requires tier { 0 < count → k < length self.now.tiers }
-        requires single { tier_for self.now.tiers 1 ≡ Some 0 }
-        requires fits { IsSome (tier_for self.now.tiers (count + 1)) }
-        ensures { result ≡ tier_lacking self.now.tiers k count }
+        requires sizes { HasSizes self.now.tiers }
+        requires fits { IsSome (smallest_size (tier_sizes self.now.tiers) (count + 1)) }
+        ensures within { IfSome result (λ t. t < length self.now.tiers) }
+        ensures size { list_need self.now.tiers k count ≡ option_map (size_in (tier_sizes self.now.tiers)) result }
     {
         if count == 0 {
             return Some(0);
@@ -65,14 +60,11 @@ impl<S: Slot, A: Allocator> Blocks<S, A> {
     #[inline(never)]
     fn make(&mut self, k: usize) -> Result<(), Refusal>
         requires { k < length self.old.tiers }
-        ensures made { OnOk result (self.new ≡ grown S.vacant self.old k) }
+        ensures made { OnOk result (Turnover self.old self.new (many_of (size_in (tier_sizes self.old.tiers) k) 1) None None) }
         ensures err { OnErr result (self.new ≡ self.old) }
-        ensures within { OnOk result (length self.old.slots + (tier_at self.old.tiers k).size ≤ self.old.limit) }
         ensures range { IfErr result
-            (λ e. (e ≡ IndexRange) ↔ (self.old.limit < length self.old.slots + (tier_at self.old.tiers k).size)) }
-        ensures free { OnOk result (length (tier_at self.new.tiers k).starts ≡ length (tier_at self.old.tiers k).starts + 1) }
-        ensures count { length self.new.tiers ≡ length self.old.tiers }
-        ensures size { (tier_at self.new.tiers k).size ≡ (tier_at self.old.tiers k).size }
+            (λ e. (e ≡ IndexRange) ↔ (self.old.limit < length self.old.slots + size_in (tier_sizes self.old.tiers) k)) }
+        ensures kept { SameSlots self.old self.new }
         ensures sound { (live : List (UsedBlock S)) → Sound S.vacant live self.old
             → Sound S.vacant live self.new }
     {
@@ -96,15 +88,14 @@ impl<S: Slot, A: Allocator> Blocks<S, A> {
     #[inline(always)]
     pub(super) fn obtain(&mut self, k: usize, n: usize) -> Result<(), Refusal>
         requires { k < length self.old.tiers }
-        ensures made { OnOk result (self.new ≡ grown_times S.vacant self.old k (n - length (tier_at self.old.tiers k).starts)) }
-        ensures err { OnErr result ((m : ℕ) × (length (tier_at self.old.tiers k).starts + m < n)
-            × (self.new ≡ grown_times S.vacant self.old k m)) }
+        ensures made { OnOk result (Turnover self.old self.new (many_of (size_in (tier_sizes self.old.tiers) k)
+            (n - free_in self.old.tiers (size_in (tier_sizes self.old.tiers) k))) None None) }
+        ensures err { OnErr result ((m : ℕ) × (free_in self.old.tiers (size_in (tier_sizes self.old.tiers) k) + m < n)
+            × Turnover self.old self.new (many_of (size_in (tier_sizes self.old.tiers) k) m) None None) }
         ensures range { IfErr result
-            (λ e. (e ≡ IndexRange) ↔ (self.new.limit < length self.new.slots + (tier_at self.new.tiers k).size)) }
-        ensures ready { OnOk result (n ≤ length (tier_at self.new.tiers k).starts) }
-        ensures prepared { Prepared self.old self.new }
-        ensures count { length self.new.tiers ≡ length self.old.tiers }
-        ensures size { (tier_at self.new.tiers k).size ≡ (tier_at self.old.tiers k).size }
+            (λ e. (e ≡ IndexRange) ↔ (self.new.limit < length self.new.slots + size_in (tier_sizes self.old.tiers) k)) }
+        ensures unchanged { n ≤ free_in self.old.tiers (size_in (tier_sizes self.old.tiers) k) → self.new ≡ self.old }
+        ensures kept { SameSlots self.old self.new }
         ensures sound { (live : List (UsedBlock S)) → Sound S.vacant live self.old
             → Sound S.vacant live self.new }
     {

@@ -1,7 +1,7 @@
 //! Taking a block, giving it back, and moving a list from one to another.
-ghost use Rattle.std.specs.Prelude.{◌≡◌, ℕ, ◌+◌, ◌<◌, ◌≤◌, [], ◌∷◌, ◌++◌, List, length};
+ghost use Rattle.std.specs.Prelude.{◌≡◌, ℕ, ◌+◌, ◌<◌, ◌≤◌, [], ◌∷◌, List, length, None, Some};
 ghost use Rattle.prefix_trie_table.specs.Runs.{swap_runs};
-ghost use Rattle.prefix_trie_table.specs.Store.{UsedBlock, Sound, tier_at, with_tier, block, taken};
+ghost use Rattle.prefix_trie_table.specs.Store.{UsedBlock, Sound, Turnover, tier_at, tier_sizes, size_in, free_in, none_of, block};
 
 use crate::allocator::blocks::Blocks;
 use crate::allocator::slots::{Slot, exchange};
@@ -11,9 +11,8 @@ impl<S: Slot, A: Allocator> Blocks<S, A> {
     /// Takes a free block of tier `k`.
     pub(super) fn take(&mut self, k: usize) -> u32
         requires within { k < length self.old.tiers }
-        requires ready { 0 < length (tier_at self.old.tiers k).starts }
-        ensures starts { (tier_at self.old.tiers k).starts ≡ (tier_at self.new.tiers k).starts ++ result ∷ [] }
-        ensures value { self.new ≡ record self.old { tiers = taken self.old.tiers k } }
+        requires ready { 0 < free_in self.old.tiers (size_in (tier_sizes self.old.tiers) k) }
+        ensures turnover { Turnover self.old self.new none_of None (Some (size_in (tier_sizes self.old.tiers) k)) }
         ensures sound { (live : List (UsedBlock S)) → Sound S.vacant live self.old
             → Sound S.vacant (block k result (tier_at self.old.tiers k).size [] ∷ live) self.new }
     {
@@ -25,7 +24,7 @@ impl<S: Slot, A: Allocator> Blocks<S, A> {
     pub(super) fn give_back(&mut self, k: usize, start: u32)
         requires within { k < length self.old.tiers }
         requires place { length (tier_at self.old.tiers k).starts < (tier_at self.old.tiers k).made }
-        ensures starts { self.new ≡ with_tier self.old k (record (tier_at self.old.tiers k) { starts = (tier_at self.old.tiers k).starts ++ start ∷ [] }) }
+        ensures turnover { Turnover self.old self.new none_of (Some (size_in (tier_sizes self.old.tiers) k)) None }
         ensures sound { (live : List (UsedBlock S)) (n : ℕ)
             → Sound S.vacant (block k start n [] ∷ live) self.old → Sound S.vacant live self.new }
     {

@@ -1,6 +1,8 @@
 //! Taking an item out of a list.
-ghost use Rattle.std.specs.Prelude.{◌≡◌, ◌≢◌, ℕ, ◌+◌, ◌-◌, ◌<◌, ◌≤◌, ◌↔◌, ◌∷◌, ◌++◌, List, Some, length, insert, remove, IfSome, IfNone, IsSome, MatchOption, ◌⊎◌, slice_index_or};
-ghost use Rattle.prefix_trie_table.specs.Store.{UsedBlock, Sound, tier_at, block, InUse, tier_for, taken, held, HasList, free_at, Keeps, Turnover, none_at, one_at, many_at, tier_entered, tier_left, blocks_entered};
+ghost use Rattle.std.specs.Prelude.{◌≡◌, ℕ, ◌+◌, ◌-◌, ◌<◌, ◌≤◌, ◌↔◌, ◌∷◌, ◌++◌, List, None, Some, length, insert, remove, option_map, IfSome, IfNone, IsSome, MatchOption, slice_index_or};
+ghost use Rattle.prefix_trie_bits.specs.Model.Blocks.{StepsDown, made_of};
+ghost use Rattle.prefix_trie_table.specs.Cells.{HasSizes};
+ghost use Rattle.prefix_trie_table.specs.Store.{UsedBlock, Sound, Turnover, InUse, HasList, tier_at, tier_sizes, size_in, free_in, free_counts, none_of, many_of, block, held, list_size};
 
 use crate::allocator::blocks::{BlockRef, Blocks};
 use crate::allocator::slots::{Slot, shift_out};
@@ -12,17 +14,16 @@ impl<S: Slot, A: Allocator> Blocks<S, A> {
     /// it stays. The block that it leaves is free. An empty rest stands nowhere (tier 0, start 0). Never refused.
     pub fn remove_at(&mut self, k: usize, start: u32, count: u32, place: u32) -> (S, BlockRef)
         requires holds { HasList S.vacant self.old k start count }
+        requires sizes { HasSizes self.old.tiers }
         requires place { place < count }
-        ensures keeps { Keeps self.old self.new }
-        ensures tier { (result.1.tier ≡ 0) ⊎ (result.1.tier < length self.new.tiers) }
+        ensures turnover { Turnover self.old self.new
+            (made_of (tier_sizes self.old.tiers) (free_counts self.old.tiers) (list_size self.old.tiers k count) (list_size self.old.tiers result.1.tier (count - 1)))
+            (list_size self.old.tiers k count) (list_size self.old.tiers result.1.tier (count - 1)) }
+        ensures steps { StepsDown (tier_sizes self.old.tiers) (free_counts self.old.tiers) count (count - 1)
+            (list_size self.old.tiers k count) (list_size self.old.tiers result.1.tier (count - 1)) }
+        ensures tier { result.1.tier < length self.old.tiers }
         ensures gone { count ≡ 1 → result.1 ≡ record { tier = 0; start = 0 } }
-        ensures smallest { 1 < count → (result.1.tier ≡ k)
-            ⊎ (tier_for self.old.tiers (count - 1) ≡ Some result.1.tier) }
         ensures stays { 1 < count → result.1.tier ≡ k → result.1.start ≡ start }
-        ensures smaller { (to : ℕ) → 1 < count → tier_for self.old.tiers (count - 1) ≡ Some to
-            → 0 < free_at self.old.tiers to → result.1.tier ≡ to }
-        ensures turnover { Turnover self.old self.new (blocks_entered self.old.tiers k count result.1.tier)
-            (one_at (tier_entered k count result.1.tier)) (one_at (tier_left k count result.1.tier)) }
         ensures value { (n : ℕ) (xs : List S) (live : List (UsedBlock S))
             → Sound S.vacant (held k start n xs ++ live) self.old → length xs ≡ count
             → result.0 ≡ slice_index_or xs place result.0 }
@@ -40,18 +41,15 @@ impl<S: Slot, A: Allocator> Blocks<S, A> {
     /// Takes a value out of the list of a block, and says where the rest stands, if any is left.
     fn remove_from(&mut self, k: usize, start: u32, count: u32, place: u32) -> (S, Option<BlockRef>)
         requires in_use { InUse S.vacant self.old k start count }
+        requires sizes { HasSizes self.old.tiers }
         requires place { place < count }
         ensures none { IsSome result.1 ↔ (1 < count) }
-        ensures keeps { Keeps self.old self.new }
-        ensures tier { IfSome result.1 (λ p. (p.tier ≡ k)
-            ⊎ (tier_for self.old.tiers (count - 1) ≡ Some p.tier)) }
-        ensures smaller { (to : ℕ) → tier_for self.old.tiers (count - 1) ≡ Some to → to < k
-            → 0 < length (tier_at self.old.tiers to).starts → IfSome result.1 (λ p. p.tier ≡ to) }
-        ensures gone { IfNone result.1 (Turnover self.old self.new none_at none_at (many_at k 1)) }
-        ensures stayed { IfSome result.1 (λ p. p.tier ≡ k → (p.start ≡ start)
-            × Turnover self.old self.new none_at none_at none_at) }
-        ensures moved { IfSome result.1 (λ p. p.tier ≢ k
-            → Turnover self.old self.new (many_at p.tier (1 - free_at self.old.tiers p.tier)) (many_at p.tier 1) (many_at k 1)) }
+        ensures turnover { let left = option_map (λ p. size_in (tier_sizes self.old.tiers) p.tier) result.1 in
+            let size = size_in (tier_sizes self.old.tiers) k in
+            Turnover self.old self.new (made_of (tier_sizes self.old.tiers) (free_counts self.old.tiers) (Some size) left) (Some size) left }
+        ensures steps { StepsDown (tier_sizes self.old.tiers) (free_counts self.old.tiers) count (count - 1)
+            (Some (size_in (tier_sizes self.old.tiers) k)) (option_map (λ p. size_in (tier_sizes self.old.tiers) p.tier) result.1) }
+        ensures stays { IfSome result.1 (λ p. p.tier ≡ k → p.start ≡ start) }
         ensures value { (n : ℕ) (xs : List S) (live : List (UsedBlock S))
             → Sound S.vacant (block k start n xs ∷ live) self.old → length xs ≡ count
             → result.0 ≡ slice_index_or xs place result.0 }
@@ -79,15 +77,15 @@ impl<S: Slot, A: Allocator> Blocks<S, A> {
     fn step_down(&mut self, k: usize, start: u32, to: usize, count: u32) -> Option<u32>
         requires in_use { InUse S.vacant self.old k start count }
         requires within { to < length self.old.tiers }
-        requires holds { count ≤ (tier_at self.old.tiers to).size }
-        ensures kept { IfNone result (self.new ≡ self.old) }
-        ensures taken { 0 < length (tier_at self.old.tiers to).starts → IsSome result }
-        ensures keeps { Keeps self.old self.new }
-        ensures turned { IfSome result
-            (λ _. Turnover self.old self.new (many_at to (1 - free_at self.old.tiers to)) (many_at to 1) (many_at k 1)) }
-        ensures sound { IfSome result (λ new. (n : ℕ) (xs : List S) (live : List (UsedBlock S))
+        requires holds { count ≤ size_in (tier_sizes self.old.tiers) to }
+        ensures kept { IfNone result (Turnover self.old self.new none_of None None) }
+        ensures taken { 0 < free_in self.old.tiers (size_in (tier_sizes self.old.tiers) to) → IsSome result }
+        ensures turnover { let size = size_in (tier_sizes self.old.tiers) to in IfSome result (λ _. Turnover self.old self.new
+            (many_of size (1 - free_in self.old.tiers size)) (Some (size_in (tier_sizes self.old.tiers) k)) (Some size)) }
+        ensures sound { (n : ℕ) (xs : List S) (live : List (UsedBlock S))
             → Sound S.vacant (block k start n xs ∷ live) self.old → length xs ≡ count
-            → Sound S.vacant (block to new (tier_at self.old.tiers to).size xs ∷ live) self.new) }
+            → MatchOption result (Sound S.vacant (block k start n xs ∷ live) self.new)
+            (λ new. Sound S.vacant (block to new (tier_at self.old.tiers to).size xs ∷ live) self.new) }
     {
         if self.obtain(to, 1).is_err() {
             return None;

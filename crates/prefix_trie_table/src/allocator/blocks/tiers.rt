@@ -1,17 +1,21 @@
 //! Which size of block serves a list.
-ghost use Rattle.std.specs.Prelude.{◌≡◌, Some, IsSome};
-ghost use Rattle.prefix_trie_table.specs.Store.{tier_for};
+ghost use Rattle.std.specs.Prelude.{◌≡◌, ◌<◌, length, Some, IsSome};
+ghost use Rattle.prefix_trie_bits.specs.Model.Blocks.{smallest_size};
+ghost use Rattle.prefix_trie_table.specs.Cells.{HasSizes};
+ghost use Rattle.prefix_trie_table.specs.Store.{tier_sizes, size_in};
 
 use crate::allocator::blocks::Blocks;
 use crate::allocator::slots::Slot;
 use std::alloc::Allocator;
 
 impl<S: Slot, A: Allocator> Blocks<S, A> {
-    /// The smallest tier whose blocks have `n` slots or more, where there is one.
+    /// The tier of the smallest blocks that have `n` slots or more, where there are such.
     #[inline]
     pub(super) fn tier_holding(&self, n: usize) -> usize
-        requires { IsSome (tier_for self.now.tiers n) }
-        ensures { tier_for self.now.tiers n ≡ Some result }
+        requires { IsSome (smallest_size (tier_sizes self.now.tiers) n) }
+        ensures sizes { HasSizes self.now.tiers }
+        ensures within { result < length self.now.tiers }
+        ensures size { smallest_size (tier_sizes self.now.tiers) n ≡ Some (size_in (tier_sizes self.now.tiers) result) }
     {
         // Read for the proof alone: the sizes are those of nodes or of values.
         let _lists = &self.lists;

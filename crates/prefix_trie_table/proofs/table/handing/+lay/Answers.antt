@@ -8,8 +8,9 @@ use Rattle.prefix_trie_table.specs.declared.allocator.node.Node.{Node}
 use Rattle.prefix_trie_table.specs.HandingOut.Laid.{value_slots, chosen, IsBough, LaysNode}
 use Rattle.prefix_trie_table.proofs.HandingOut.Boughs.{first, bough_start, bough_grafted, bough_closed, bough_passed, bough_bare}
 use Rattle.prefix_trie_table.proofs.HandingOut.Ground.{Lays-none, Lays-then, Lays-list, ground_nodes, ground_cells}
-use Rattle.prefix_trie_table.proofs.HandingOut.Fits.{values_fit, children_fit, laid_tier}
+use Rattle.prefix_trie_table.proofs.HandingOut.Fits.{values_fit, laid_tier}
 use Rattle.prefix_trie_table.proofs.HandingOut.Space.{for_memory, values_packed, children_packed, space_at, space_for_all, space_below, longer_above, laid_next, laid_whole, slots_split, LaidTo}
+use Rattle.prefix_trie_table.proofs.Insertion.Inserting.{node_fits}
 use Rattle.prefix_trie_table.proofs.HandingOut.Sources.{passed_by, behind, chosen_below, child_inside, some_level, source_below, own_within}
 use Rattle.prefix_trie_table.proofs.Strings.Bare.{was_set, others_stay}
 use Rattle.prefix_trie_table.proofs.Strings.Bits.{has_bit-is, rank-ones}
@@ -187,7 +188,7 @@ lay_node-lay-requires-clause-sound g t c =
 -- src/table/handing.rt:109:16
 pub lay_node-lay-requires-clause-fits : goal.lay_node-lay-requires-clause-fits
 lay_node-lay-requires-clause-fits g t c =
-    children_fit c.loop-child.nodes.tiers (length c.deref.result.now) c.loop-child.invariant.ground.node_sizes_are
+    node_fits c.loop-child.nodes.tiers (length c.deref.result.now) c.loop-child.invariant.ground.node_sizes_are
     (let same = ap (λ (xs : List Node). length xs) c.deref.ensures.0 in
     let few = c.loop-child.invariant.few in
     let most = rank-le c.args.children c.loop-child.child in

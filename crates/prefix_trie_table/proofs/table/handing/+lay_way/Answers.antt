@@ -2,8 +2,8 @@ use Rattle.std.proofs.Common.{rules, Some, None, arith, sym, ap, ◌∙◌, subs
 use Rattle.prefix_trie_table.specs.HandingOut.Laid.{chosen, LaysNode, LaysPart}
 use Rattle.std.proofs.lemmas.Result.{IfOk-weaker}
 use Rattle.prefix_trie_table.specs.Cells.{node_at, blank_node}
+use Rattle.prefix_trie_table.proofs.Insertion.Inserting.{node_fits}
 use Rattle.prefix_trie_table.proofs.Tree.Trees.{child-there, child-missing}
-use Rattle.prefix_trie_table.proofs.HandingOut.Fits.{children_fit}
 use Rattle.prefix_trie_table.proofs.HandingOut.Ground.{Lays-then, Lays-list, ground_nodes}
 use Rattle.prefix_trie_bits.specs.declared.prefix.Refusal.TheVariants.{Memory}
 use Rattle.prefix_trie_table.specs.Forest.{tier_sizes}
@@ -96,7 +96,7 @@ returns-in_default-clause-laid g t c =
 -- src/table/handing.rt:183:16
 pub lay-requires-clause-fits : goal.lay-requires-clause-fits
 lay-requires-clause-fits g t c =
-    children_fit c.lay_way.new.nodes.tiers 1 c.in_ok-twig.ensures.ground.node_sizes_are (omega arith)
+    node_fits c.lay_way.new.nodes.tiers 1 c.in_ok-twig.ensures.ground.node_sizes_are (omega arith)
 
 -- src/table/handing.rt:135:1
 pub returns-clause-ground : goal.returns-clause-ground

@@ -1,14 +1,18 @@
-use Rattle.std.proofs.Common.{◌≡◌, ◌+◌, ◌<◌, ◌≤◌, ap, sym, ◌∙◌, refl, subst, arith}
+use Rattle.std.proofs.Common.{◌≡◌, ◌+◌, ◌<◌, ◌≤◌, Some, ap, sym, ◌∙◌, refl, subst, arith}
+use Rattle.std.specs.Option.{option_or}
+use Rattle.prefix_trie_bits.specs.Model.Blocks.{one_of}
+use Rattle.prefix_trie_bits.specs.Model.Insertion.{block_needed}
 use Rattle.prefix_trie_table.specs.declared.allocator.node.Node.{Node}
-use Rattle.std.specs.Prelude.{MatchOption}
 use Rattle.prefix_trie_table.specs.Bitmaps.{rank}
 use Rattle.prefix_trie_table.specs.Cells.{blank_node, node_sizes}
-use Rattle.prefix_trie_table.specs.Store.{Store, IsReady, SameMade, tier_lacking, free_at}
+use Rattle.prefix_trie_table.specs.OwnBlocks.{child_need}
+use Rattle.prefix_trie_table.specs.Store.{Store, AreFree, SameRoom, SameMade, none_of, free_in, size_in, size_if_any, list_size, list_need, needs}
 use Rattle.prefix_trie_table.proofs.Strings.Bits.{has_bit-is, rank-ones}
-use Rattle.prefix_trie_table.proofs.Strings.BitLists.{rank-within}
-use Rattle.prefix_trie_table.proofs.Insertion.Adding.{entered_as, at_is, has_list, tier_small, added}
-use Rattle.prefix_trie_table.proofs.Blocks.Spending.{single_node}
-use Rattle.prefix_trie_table.proofs.Blocks.Turnovers.{same_turned}
+use Rattle.prefix_trie_table.proofs.Strings.BitLists.{rank-within, rank-lacks}
+use Rattle.prefix_trie_table.proofs.Insertion.Adding.{at_is, has_list, tier_small, added}
+use Rattle.prefix_trie_table.proofs.Insertion.Inserting.{node_fits}
+use Rattle.prefix_trie_table.proofs.Blocks.BySize.{node_sized}
+use Rattle.prefix_trie_table.proofs.Blocks.Turnovers.{same_turned, room_turned, SameRoom-put, free_entered}
 use Rattle.prefix_trie_table.proofs.table.insertion.add_child.Goals as goal
 
 pub insert_blank-block-requires-clause-holds : goal.insert_blank-block-requires-clause-holds
@@ -16,13 +20,18 @@ insert_blank-block-requires-clause-holds g c =
     has_list c.args.nodes.now (c.args.at.start + c.args.at.place) c.args.node c.count.result c.requires.stands c.requires.node
     (c.count.ensures ∙ sym (rank-ones c.args.node.child_bitmap 32 (omega arith)))
 
-pub insert_blank-block-requires-clause-single : goal.insert_blank-block-requires-clause-single
-insert_blank-block-requires-clause-single g c = single_node c.args.nodes.now.tiers c.requires.stands.0.hold.sizes_are
+pub insert_blank-block-requires-clause-sizes : goal.insert_blank-block-requires-clause-sizes
+insert_blank-block-requires-clause-sizes g c = node_sized c.args.nodes.now.tiers c.requires.stands.0.hold.sizes_are
 
 pub insert_blank-block-requires-clause-ready : goal.insert_blank-block-requires-clause-ready
 insert_blank-block-requires-clause-ready g c =
-    subst (λ n. IsReady c.args.nodes.now.tiers c.args.node.child_tier n) (rank-ones c.args.node.child_bitmap 32 (omega arith) ∙ sym c.count.ensures)
-    c.requires.ready
+    let same : rank c.args.node.child_bitmap 32 ≡ c.count.result = rank-ones c.args.node.child_bitmap 32 (omega arith) ∙ sym c.count.ensures in
+    let few = rank-lacks c.args.node.child_bitmap 32 c.args.child c.requires.child c.requires.missing in (
+      node_fits c.args.nodes.now.tiers (c.count.result + 1) c.requires.stands.0.hold.sizes_are (omega (arith, few, same)),
+      subst (λ n. AreFree c.args.nodes.now.tiers (needs (list_need c.args.nodes.now.tiers c.args.node.child_tier n) 0)) same
+          (subst (λ ns. AreFree c.args.nodes.now.tiers (needs (block_needed ns (size_if_any (rank c.args.node.child_bitmap 32) (size_in ns c.args.node.child_tier)) (rank c.args.node.child_bitmap 32)) 0))
+          (sym c.requires.stands.0.hold.sizes_are) c.requires.ready),
+    )
 
 pub insert_blank-block-requires-clause-place : goal.insert_blank-block-requires-clause-place
 insert_blank-block-requires-clause-place g c =
@@ -45,33 +54,46 @@ overflow_cast-block g c =
     let s = c.insert_blank-block.ensures.sound h.size h.items h.live h.sound h.is_count in
     let small : c.insert_blank-block.result.tier < 7 =
     tier_small blank_node _ h.live c.insert_blank-block.new.self node_sizes s
-    (c.insert_blank-block.ensures.spends.sizes ∙ c.requires.stands.0.hold.sizes_are) in
+    (c.insert_blank-block.ensures.turnover.keeps.sizes ∙ c.requires.stands.0.hold.sizes_are) in
     omega arith
 
 pub put-requires : goal.put-requires
 put-requires g c =
     let at = at_is c.args.nodes.now (c.args.at.start + c.args.at.place) c.requires.stands in
-    omega (arith, at.1, c.insert_blank-block.ensures.spends.room.0)
+    (let l = c.insert_blank-block.ensures.turnover.keeps.longer in omega (arith, at.1, l))
+
+pub returns-clause-room : goal.returns-clause-room
+returns-clause-room g c =
+    let v = c.args.nodes.now in
+    let w = c.insert_blank-block.new.self in
+    subst (λ (x : Store Node). SameRoom v x) (sym c.put.ensures.slots) (SameRoom-put v w (c.args.at.start + c.args.at.place) _
+    (room_turned v w none_of _ _ (λ size. refl) c.insert_blank-block.ensures.turnover))
 
 pub returns-clause-made : goal.returns-clause-made
 returns-clause-made g c =
     subst (λ (x : Store Node). SameMade c.args.nodes.now x) (sym c.put.ensures.slots) (same_turned _ _ _ _ c.insert_blank-block.ensures.turnover)
 
-pub returns-clause-kept : goal.returns-clause-kept
-returns-clause-kept g c = λ j other.
+pub returns-clause-free : goal.returns-clause-free
+returns-clause-free g c = λ size.
+    let v = c.args.nodes.now in
+    let w = c.insert_blank-block.new.self in
     let same : c.count.result ≡ rank c.args.node.child_bitmap 32 = c.count.ensures ∙ sym (rank-ones c.args.node.child_bitmap 32 (omega arith)) in
-    let kept = c.insert_blank-block.ensures.spends.kept j (λ e. other (ap (λ n. tier_lacking c.args.nodes.now.tiers c.args.node.child_tier n) (sym same) ∙ e)) in
-    subst (λ (x : Store Node). free_at c.args.nodes.now.tiers j ≤ free_at x.tiers j) (sym c.put.ensures.slots) kept
+    let need : list_need v.tiers c.args.node.child_tier c.count.result ≡ child_need (Some c.args.node) =
+    ap (list_need v.tiers c.args.node.child_tier) same
+    ∙ ap (λ ns. block_needed ns (size_if_any (rank c.args.node.child_bitmap 32) (size_in ns c.args.node.child_tier)) (rank c.args.node.child_bitmap 32)) c.requires.stands.0.hold.sizes_are in
+    let left = free_entered v w _ _ _ c.insert_blank-block.ensures.stands c.insert_blank-block.ensures.turnover size in
+    subst (λ (x : Store Node). free_in v.tiers size ≤ free_in x.tiers size + one_of (child_need (Some c.args.node)) size) (sym c.put.ensures.slots)
+    (subst (λ o. free_in v.tiers size ≤ free_in w.tiers size + one_of o size) need left)
 
 pub returns-clause-added : goal.returns-clause-added
 returns-clause-added g c = λ reading paths p n hold stands is.
+    let v = c.args.nodes.now in
+    let tier = c.insert_blank-block.result.tier in
     let same : c.count.result ≡ rank c.args.node.child_bitmap 32 = c.count.ensures ∙ sym (rank-ones c.args.node.child_bitmap 32 (omega arith)) in
     added c.args.nodes.now c.insert_blank-block.new.self c.put.new.self (c.args.at.start + c.args.at.place) c.rank-place.result c.args.child
-    c.insert_blank-block.result.tier c.insert_blank-block.result.start c.with_bit-child_bitmap.result _ c.args.node _
-    c.requires.node c.with_bit-child_bitmap.ensures.sets refl c.insert_blank-block.ensures.spends
+    c.insert_blank-block.result.tier c.insert_blank-block.result.start c.with_bit-child_bitmap.result c.args.node _
+    c.requires.node c.with_bit-child_bitmap.ensures.sets refl c.insert_blank-block.ensures.turnover.keeps
     (λ size xs live s count. c.insert_blank-block.ensures.sound size xs live s (count ∙ sym same))
-    (subst (λ n. MatchOption (tier_lacking c.args.nodes.now.tiers c.args.node.child_tier n) (c.insert_blank-block.result.tier ≡ c.args.node.child_tier)
-    (λ to. c.insert_blank-block.result.tier ≡ to)) same (entered_as (tier_lacking c.args.nodes.now.tiers c.args.node.child_tier c.count.result) c.insert_blank-block.result
-    c.args.node.child_tier c.args.node.child_block c.insert_blank-block.ensures.tier))
+    (subst (λ n. list_size v.tiers tier (n + 1) ≡ option_or (list_need v.tiers c.args.node.child_tier n) (list_size v.tiers c.args.node.child_tier n)) same c.insert_blank-block.ensures.stands)
     (c.rank-place.ensures ∙ sym (rank-ones c.args.node.child_bitmap c.args.child (omega (arith, c.requires.child)))) c.requires.child
     c.requires.missing c.put.ensures.slots reading paths p n hold stands is

@@ -1,13 +1,17 @@
-use Rattle.std.proofs.Common.{◌≡◌, ◌+◌, ◌-◌, ◌/◌, ◌<◌, take, length, false, sym, ap, ◌∙◌, arith}
+use Rattle.std.proofs.Common.{◌≡◌, ◌+◌, ◌-◌, ◌/◌, ◌<◌, Some, take, length, false, sym, ap, ◌∙◌, subst, arith}
 use Rattle.prefix_trie_table.specs.declared.allocator.node.Node.{Node}
-use Rattle.prefix_trie_table.specs.Bitmaps.{has_bit, rank}
+use Rattle.prefix_trie_table.specs.Bitmaps.{has_bit}
 use Rattle.prefix_trie_table.specs.Cells.{node_at}
-use Rattle.prefix_trie_table.specs.Digits.{path_of, bit_of}
+use Rattle.prefix_trie_table.specs.Digits.{path_of}
 use Rattle.prefix_trie_table.proofs.Tree.Invariant.{deepest_there}
 use Rattle.prefix_trie_table.proofs.Strings.Bits.{has_bit-zero}
-use Rattle.prefix_trie_table.proofs.Blocks.Spending.{single_node}
+use Rattle.prefix_trie_bits.specs.Model.Blocks.{one_of}
+use Rattle.prefix_trie_table.specs.OwnBlocks.{child_need}
+use Rattle.prefix_trie_table.specs.Store.{AreFree, needs}
+use Rattle.prefix_trie_table.proofs.Blocks.BySize.{many_here}
+use Rattle.prefix_trie_table.proofs.Insertion.Asks.{nodes_below, cells_here, cells_below}
 use Rattle.prefix_trie_table.proofs.Lookup.Going.{step-read, level_inside, level_last, level_within, bit-read-last, steps-all}
-use Rattle.prefix_trie_table.proofs.Tree.Growing.{walked_start, walked_more, enough_next, enough_below, value_below}
+use Rattle.prefix_trie_table.proofs.Tree.Growing.{walked_start, walked_more, free_next, free_own, free_one, blank_child, blank_value}
 use Rattle.prefix_trie_table.proofs.Insertion.Rooms.{SameRoom-then}
 use Rattle.prefix_trie_table.proofs.Insertion.Ways.{end_added, end_seat}
 use Rattle.prefix_trie_table.proofs.table.insertion.add_entry.Goals as goal
@@ -21,6 +25,10 @@ pub add_value-requires-clause-missing : goal.add_value-requires-clause-missing
 add_value-requires-clause-missing g c =
     ap (has_bit c.args.reached.node.value_bitmap) (sym (bit-read-last (g.K.Key.bits c.args.key) c.args.len c.requires.reached.long
     c.value_bit_of-bit.result c.value_bit_of-bit.ensures.value)) ∙ c.requires.lacks (level_last c.args.reached.level c.args.len c.if-reached-last.true)
+
+pub add_value-requires-clause-ready : goal.add_value-requires-clause-ready
+add_value-requires-clause-ready g c =
+    subst (AreFree c.args.cells.now.tiers) (cells_here c.args.reached.node c.args.reached.level c.args.len (level_last c.args.reached.level c.args.len c.if-reached-last.true)) c.requires.room.1
 
 pub returns-then-reached-last-clause-added : goal.returns-then-reached-last-clause-added
 returns-then-reached-last-clause-added g c = λ reading paths values holds.
@@ -50,6 +58,13 @@ add_child-at-requires-clause-missing g c =
     ap (has_bit c.args.reached.node.child_bitmap) (sym (step-read (g.K.Key.bits c.args.key) c.args.len c.args.reached.level c.requires.reached.long
     c.child_bit_of-child.result more c.child_bit_of-child.ensures.value)) ∙ c.requires.reached.missing more
 
+pub add_child-at-requires-clause-ready : goal.add_child-at-requires-clause-ready
+add_child-at-requires-clause-ready g c =
+    let inside : c.args.reached.level < c.args.len / 5 = (let w = level_within c.args.reached.level c.args.len c.requires.reached.whole in
+    omega (arith, w, c.if-reached-last.false)) in
+    free_own c.args.nodes.now.tiers (child_need (Some c.args.reached.node)) (c.args.len / 5 - (c.args.reached.level + 1))
+    (subst (AreFree c.args.nodes.now.tiers) (nodes_below c.args.reached.node c.args.reached.level c.args.len (level_inside c.args.reached.level c.args.len inside)) c.requires.room.0)
+
 pub loop-level-init : goal.loop-level-init
 loop-level-init g c =
     let b = g.K.Key.bits c.args.key in
@@ -75,9 +90,8 @@ loop-level-init g c =
           (c.add_child-at.result.start + c.add_child-at.result.place) c.args.nodes.now c.add_child-at.new.nodes c.args.cells.now
           (walked_start reading values paths path now slot c.args.nodes.now c.args.cells.now holds deep) within (sym step) lacks c.add_child-at.ensures.added).0;
       blank = first.1;
-      enough = enough_next c.args.nodes.now.tiers c.add_child-at.new.nodes.tiers c.args.reached.node.child_tier
-          (rank c.args.reached.node.child_bitmap 32) (c.args.len / 5 - (now + 1)) (c.requires.room.children more) c.add_child-at.ensures.free
-          c.add_child-at.ensures.kept;
+      enough = free_next c.args.nodes.now.tiers c.add_child-at.new.nodes.tiers (child_need (Some c.args.reached.node)) (c.args.len / 5 - (now + 1))
+          (subst (AreFree c.args.nodes.now.tiers) (nodes_below c.args.reached.node now c.args.len more) c.requires.room.0) c.add_child-at.ensures.free;
       within = omega (arith, inside);
       from = omega arith;
       room = c.add_child-at.ensures.room;
@@ -98,12 +112,9 @@ add_child-at-requires-in-loop-level-clause-missing g c =
 
 pub add_child-at-requires-in-loop-level-clause-ready : goal.add_child-at-requires-in-loop-level-clause-ready
 add_child-at-requires-in-loop-level-clause-ready g c =
-    let s = c.requires.stands in
-    let a = c.loop-level.invariant.walked s.0.reading s.0.paths s.0.values s.0.holds s.1 in
     let free = c.loop-level.invariant.enough in
     let inside : c.loop-level.level < c.args.len / 5 = c.loop-level-test.true in
-    (enough_below c.blank.result c.loop-level.nodes.tiers (c.args.len / 5 - (c.loop-level.level + 1)) c.blank.ensures
-    (single_node c.loop-level.nodes.tiers a.holds.hold.sizes_are) (omega (arith, free, inside))).ready
+    free_one c.loop-level.nodes.tiers (child_need (Some c.blank.result)) (blank_child c.blank.result c.blank.ensures) (omega (arith, free, inside))
 
 pub loop-level-preserved : goal.loop-level-preserved
 loop-level-preserved g c =
@@ -121,17 +132,17 @@ loop-level-preserved g c =
     let first = walked_more s.0.reading s.0.values s.0.paths path now slot c.child_bit_of.result
     (c.add_child-at-in-loop-level.result.start + c.add_child-at-in-loop-level.result.place) c.loop-level.nodes c.add_child-at-in-loop-level.new.nodes c.args.cells.now
     (inv.walked s.0.reading s.0.paths s.0.values s.0.holds s.1) within (sym step) lacks c.add_child-at-in-loop-level.ensures.added in
-    let free = inv.enough in
-    let enough = enough_below c.blank.result c.loop-level.nodes.tiers (c.args.len / 5 - (now + 1)) c.blank.ensures
-    (single_node c.loop-level.nodes.tiers (inv.walked s.0.reading s.0.paths s.0.values s.0.holds s.1).holds.hold.sizes_are) (omega (arith, free, inside)) in
     record {
       walked = λ reading paths values holds deep. (
           walked_more reading values paths path now slot c.child_bit_of.result
           (c.add_child-at-in-loop-level.result.start + c.add_child-at-in-loop-level.result.place) c.loop-level.nodes c.add_child-at-in-loop-level.new.nodes c.args.cells.now
           (inv.walked reading paths values holds deep) within (sym step) lacks c.add_child-at-in-loop-level.ensures.added).0;
       blank = first.1;
-      enough = enough_next c.loop-level.nodes.tiers c.add_child-at-in-loop-level.new.nodes.tiers c.blank.result.child_tier (rank c.blank.result.child_bitmap 32)
-          (c.args.len / 5 - (now + 1)) enough c.add_child-at-in-loop-level.ensures.free c.add_child-at-in-loop-level.ensures.kept;
+      enough =
+          let free = inv.enough in
+          let left = c.add_child-at-in-loop-level.ensures.free 1 in
+          let one : one_of (child_need (Some c.blank.result)) 1 ≡ 1 = ap (λ o. one_of o 1) (blank_child c.blank.result c.blank.ensures) ∙ many_here 1 1 in
+          omega (arith, free, inside, left, one);
       within = omega (arith, inside);
       from = (let f = inv.from in omega arith);
       room = SameRoom-then c.args.nodes.now c.loop-level.nodes c.add_child-at-in-loop-level.new.nodes inv.room c.add_child-at-in-loop-level.ensures.room;
@@ -154,8 +165,8 @@ pub add_value-requires-2-clause-ready : goal.add_value-requires-2-clause-ready
 add_value-requires-2-clause-ready g c =
     let from = c.loop-level.invariant.from in
     let inside = c.loop-level.invariant.within in
-    (value_below c.blank-2.result c.args.cells.now (bit_of (take c.args.len (g.K.Key.bits c.args.key))) c.blank-2.ensures
-    (c.requires.room.below (level_inside c.args.reached.level c.args.len (omega (arith, from, inside))))).ready
+    subst (λ o. AreFree c.args.cells.now.tiers (needs o 0)) (sym (blank_value c.blank-2.result c.blank-2.ensures))
+    (subst (AreFree c.args.cells.now.tiers) (cells_below c.args.reached.node c.args.reached.level c.args.len (level_inside c.args.reached.level c.args.len (omega (arith, from, inside)))) c.requires.room.1)
 
 pub returns-clause-added : goal.returns-clause-added
 returns-clause-added g c = λ reading paths values holds.

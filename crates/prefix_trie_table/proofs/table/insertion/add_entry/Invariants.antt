@@ -2,7 +2,7 @@ use Rattle.std.proofs.Common.{◌≡◌, ◌+◌, ◌-◌, ◌/◌, ◌≤◌, �
 use Rattle.prefix_trie_table.specs.declared.allocator.node.Node.{Node}
 use Rattle.prefix_trie_table.specs.Cells.{blank_node, node_at}
 use Rattle.prefix_trie_table.specs.Digits.{path_of}
-use Rattle.prefix_trie_table.specs.Store.{SameRoom, SameMade, free_at}
+use Rattle.prefix_trie_table.specs.Store.{SameRoom, SameMade, free_in}
 use Rattle.prefix_trie_table.specs.Forest.{Holds, Deepest, Walked}
 use Rattle.prefix_trie_table.proofs.table.insertion.add_entry.Given as goal
 
@@ -14,7 +14,7 @@ invariant-loop-level g l =
           Deepest reading path l.fn.reached.level (l.fn.reached.at.start + l.fn.reached.at.place) l.fn.nodes →
           Walked reading values paths path l.level (l.at.start + l.at.place) l.nodes l.fn.cells;
       blank : node_at l.nodes.slots (l.at.start + l.at.place) ≡ blank_node;
-      enough : l.len / 5 - l.level ≤ free_at l.nodes.tiers 0;
+      enough : l.len / 5 - l.level ≤ free_in l.nodes.tiers 1;
       within : l.level ≤ l.len / 5;
       from : l.fn.reached.level < l.level;
       room : SameRoom l.fn.nodes l.nodes;

@@ -8,7 +8,8 @@ use Rattle.prefix_trie_table.proofs.Strings.BitLists.{rank-below}
 use Rattle.prefix_trie_table.proofs.Insertion.Adding.{at_is, has_list}
 use Rattle.prefix_trie_table.proofs.Removal.Items.{Lost, lost_one, children_dropped}
 use Rattle.prefix_trie_table.proofs.Removal.GivingBack.{gives_written, grows_written}
-use Rattle.prefix_trie_table.proofs.Removal.Settling.{smaller_node, headroom_node}
+use Rattle.prefix_trie_table.proofs.Removal.Lessening.{node_rooms}
+use Rattle.prefix_trie_table.proofs.Blocks.BySize.{node_sized}
 use Rattle.prefix_trie_table.proofs.table.removal.drop_child.Given as given
 use Rattle.prefix_trie_table.proofs.table.removal.drop_child.Goals as goal
 
@@ -19,6 +20,9 @@ pub remove_at-rest-requires-clause-holds : goal.remove_at-rest-requires-clause-h
 remove_at-rest-requires-clause-holds g c =
     has_list c.args.nodes.now (c.args.at.start + c.args.at.place) c.visit-node.result c.count.result c.requires.stands c.visit-node.ensures.node
     (c.count.ensures ∙ sym (rank-ones c.visit-node.result.child_bitmap 32 (omega arith)))
+
+pub remove_at-rest-requires-clause-sizes : goal.remove_at-rest-requires-clause-sizes
+remove_at-rest-requires-clause-sizes g c = node_sized c.args.nodes.now.tiers c.requires.stands.0.hold.sizes_are
 
 pub remove_at-rest-requires-clause-place : goal.remove_at-rest-requires-clause-place
 remove_at-rest-requires-clause-place g c =
@@ -47,10 +51,10 @@ lost g c =
     let list = has_list c.args.nodes.now (c.args.at.start + c.args.at.place) c.visit-node.result c.count.result c.requires.stands c.visit-node.ensures.node same in
     let left = c.remove_at-rest.ensures in
     lost_one blank_node c.args.nodes.now c.remove_at-rest.new.self c.visit-node.result.child_tier c.visit-node.result.child_block c.count.result c.rank.result
-    c.remove_at-rest.result node_sizes c.requires.stands.0.hold.sizes_are refl smaller_node headroom_node list left.keeps left.gone left.smallest left.smaller
-    _ left.turnover left.sound _ _ same (c.rank.ensures ∙ sym (rank-ones c.visit-node.result.child_bitmap c.args.child (omega (arith, c.requires.child))))
-    (rank-below c.visit-node.result.child_bitmap c.args.child c.requires.child
-    (ap (λ (n : Node). has_bit n.child_bitmap c.args.child) c.visit-node.ensures.node ∙ c.requires.there))
+    c.remove_at-rest.result 32 c.requires.stands.0.hold.sizes_are refl node_rooms list
+    (let h = rank-below c.visit-node.result.child_bitmap c.args.child c.requires.child
+    (ap (λ (n : Node). has_bit n.child_bitmap c.args.child) c.visit-node.ensures.node ∙ c.requires.there) in omega (arith, h, same)) left.tier left.turnover left.steps left.sound _ _ same
+    (c.rank.ensures ∙ sym (rank-ones c.visit-node.result.child_bitmap c.args.child (omega (arith, c.requires.child))))
 
 pub returns-clause-room : goal.returns-clause-room
 returns-clause-room g c = grows_written c.args.nodes.now c.remove_at-rest.new.self c.put.new.self _ _ 24 (lost g c).grows c.put.ensures.slots

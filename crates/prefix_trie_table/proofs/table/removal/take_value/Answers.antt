@@ -8,7 +8,9 @@ use Rattle.prefix_trie_table.proofs.Insertion.Adding.{at_is, at_values, has_valu
 use Rattle.prefix_trie_table.proofs.Tree.Trees.{slot_holds}
 use Rattle.prefix_trie_table.proofs.Tree.Values.{values_first}
 use Rattle.prefix_trie_table.proofs.Removal.Items.{Lost, lost_one, values_taken}
-use Rattle.prefix_trie_table.proofs.Removal.Settling.{smaller_cell, headroom_cell, value_settles}
+use Rattle.prefix_trie_table.proofs.Removal.Settling.{value_settles}
+use Rattle.prefix_trie_table.proofs.Removal.Lessening.{cell_rooms}
+use Rattle.prefix_trie_table.proofs.Blocks.BySize.{cell_sized}
 use Rattle.prefix_trie_table.proofs.table.removal.take_value.Given as given
 use Rattle.prefix_trie_table.proofs.table.removal.take_value.Goals as goal
 
@@ -16,6 +18,9 @@ pub remove_at-value-requires-clause-holds : goal.remove_at-value-requires-clause
 remove_at-value-requires-clause-holds g c =
     has_values c.args.nodes.now c.args.cells.now (c.args.at.start + c.args.at.place) c.args.node c.count.result c.requires.stands c.requires.node
     (c.count.ensures ∙ sym (rank-ones c.args.node.value_bitmap 32 (omega arith)))
+
+pub remove_at-value-requires-clause-sizes : goal.remove_at-value-requires-clause-sizes
+remove_at-value-requires-clause-sizes g c = cell_sized c.args.cells.now.tiers c.requires.stands.0.holds.cells.sizes_are
 
 pub remove_at-value-requires-clause-place : goal.remove_at-value-requires-clause-place
 remove_at-value-requires-clause-place g c =
@@ -42,9 +47,9 @@ lost g c =
     let left = c.remove_at-value.ensures in
     let bit : c.args.bit < 32 = omega (arith, c.requires.bit) in
     lost_one None c.args.cells.now c.remove_at-value.new.self c.args.node.value_tier c.args.node.value_block c.count.result c.rank.result
-    c.remove_at-value.result.1 cell_sizes c.requires.stands.0.holds.cells.sizes_are refl smaller_cell headroom_cell list left.keeps left.gone left.smallest
-    left.smaller _ left.turnover left.sound _ _ same (c.rank.ensures ∙ sym (rank-ones c.args.node.value_bitmap c.args.bit (omega (arith, bit))))
-    (rank-below c.args.node.value_bitmap c.args.bit bit c.requires.there)
+    c.remove_at-value.result.1 31 c.requires.stands.0.holds.cells.sizes_are refl cell_rooms list
+    (let h = rank-below c.args.node.value_bitmap c.args.bit bit c.requires.there in omega (arith, h, same)) left.tier left.turnover left.steps left.sound _ _ same
+    (c.rank.ensures ∙ sym (rank-ones c.args.node.value_bitmap c.args.bit (omega (arith, bit))))
 
 pub returns-clause-cell_room : goal.returns-clause-cell_room
 returns-clause-cell_room g c = (lost g c).grows

@@ -1,6 +1,8 @@
-use Rattle.std.proofs.Common.{◌≡◌, ◌+◌, ◌<◌, ◌∷◌, [], ◌++◌, length, replicate, length-append, sym, ap, ◌∙◌, arith, rules}
-use Rattle.std.proofs.lemmas.List.{length-replicate, get_or_default}
-use Rattle.prefix_trie_table.specs.Store.{Tier, tier_at}
+use Rattle.std.proofs.Common.{◌≡◌, ◌+◌, ◌<◌, ◌∷◌, [], ◌++◌, length, replicate, length-append, get_or, sym, ap, ◌∙◌, arith, rules}
+use Rattle.std.proofs.lemmas.List.{length-replicate, get_or_default, get_or_append_left}
+use Rattle.prefix_trie_table.specs.Store.{Tier, tier_at, tier_sizes, size_in}
+use Rattle.prefix_trie_table.proofs.Blocks.BySize.{size_at, sizes_up}
+use Rattle.prefix_trie_table.proofs.Blocks.Turnovers.{Turnover-grown}
 use Rattle.prefix_trie_table.proofs.Blocks.Soundness.{made_fits, Sound-grown_as}
 use Rattle.prefix_trie_table.proofs.Blocks.Tiers.{sizes_kept, made_within, sizes_positive}
 use Rattle.prefix_trie_table.proofs.allocator.blocks.Blocks.make.Goals as goal
@@ -11,7 +13,7 @@ invariant_of-self-2 g c =
     let old = c.index_mut-list.result.now in
     let within : c.args.k < length v.lists.items = rw (← c.self.view_is) at c.requires in
     let added : c.push_made.new.self ≡ record old { made = old.made + 1; starts = old.starts ++ c.len-len.result ∷ [] } = search rules in
-    let size : c.size_of-size.result ≡ old.size = (rw (← c.self.view_is) at c.size_of-size.ensures) ∙ ap (λ (t : Tier). t.size) (get_or_default v.lists.items c.args.k _ old within ∙ sym c.index_mut-list.ensures.value) in
+    let size : c.size_of-size.result ≡ old.size = (rw (← c.self.view_is) at c.size_of-size.ensures) ∙ sym (size_at v.lists.items c.args.k) ∙ ap (λ (t : Tier). t.size) (get_or_default v.lists.items c.args.k _ old within ∙ sym c.index_mut-list.ensures.value) in
     let len : length c.push_vacant.new.slots.items ≡ length v.slots.items + old.size = ap (λ xs. length xs) c.push_vacant.ensures ∙ length-append c.make_room.new.items.items (replicate c.size_of-size.result g.S.Slot.vacant) ∙ (let r = length-replicate c.size_of-size.result g.S.Slot.vacant in let e : length c.make_room.new.items.items ≡ length v.slots.items = ap (λ xs. length xs) c.make_room.ensures.items in omega arith) in
     let made = made_fits v.lists.items c.args.k old c.push_made.new.self (old.starts ++ c.len-len.result ∷ []) v.first (length v.slots.items) within c.index_mut-list.ensures.value added (c.self.invariant.1 ∙ v.slots.ok.0) in
     let kept = sizes_kept v.lists.items c.args.k c.push_made.new.self c.self.invariant.2 (ap (λ (t : Tier). t.size) added ∙ ap (λ (t : Tier). t.size) (c.index_mut-list.ensures.value ∙ sym (get_or_default v.lists.items c.args.k _ old within))) in
@@ -25,7 +27,7 @@ returns-clause-sound g c = λ live s.
     let within : c.args.k < length v.lists.items = rw (← c.self.view_is) at c.requires in
     let at_k : tier_at v.lists.items c.args.k ≡ old = get_or_default v.lists.items c.args.k _ old within ∙ sym c.index_mut-list.ensures.value in
     let added : c.push_made.new.self ≡ record old { made = old.made + 1; starts = old.starts ++ c.len-len.result ∷ [] } = search rules in
-    let size : c.size_of-size.result ≡ (tier_at v.lists.items c.args.k).size = rw (← c.self.view_is) at c.size_of-size.ensures in
+    let size : c.size_of-size.result ≡ (tier_at v.lists.items c.args.k).size = (rw (← c.self.view_is) at c.size_of-size.ensures) ∙ sym (size_at v.lists.items c.args.k) in
     Sound-grown_as g.S.Slot.vacant live _ c.args.k c.size_of-size.result c.len-len.result c.push_made.new.self c.push_vacant.new.slots.items within (c.push_vacant.ensures ∙ ap (λ xs. xs ++ replicate c.size_of-size.result g.S.Slot.vacant) c.make_room.ensures.items) size (rw (← c.self.view_is) at c.len-len.ensures.len) (added ∙ ap (λ (t : Tier). record t { made = t.made + 1; starts = t.starts ++ c.len-len.result ∷ [] }) (sym at_k)) (rw (← c.self.view_is) at s)
 
 pub returns-then-len-size-clause-range : goal.returns-then-len-size-clause-range
@@ -37,6 +39,29 @@ push_made-requires g c =
     let within : c.args.k < length v.lists.items = rw (← c.self.view_is) at c.requires in
     let old = c.index_mut-list.result.now in
     let at_k : (tier_at v.lists.items c.args.k).made ≡ old.made = ap (λ (t : Tier). t.made) (get_or_default v.lists.items c.args.k _ old within ∙ sym c.index_mut-list.ensures.value) in
-    let size : c.size_of-size.result ≡ (tier_at v.lists.items c.args.k).size = rw (← c.self.view_is) at c.size_of-size.ensures in
+    let size : c.size_of-size.result ≡ (tier_at v.lists.items c.args.k).size = (rw (← c.self.view_is) at c.size_of-size.ensures) ∙ sym (size_at v.lists.items c.args.k) in
     let before : c.len-len.result ≡ length v.slots.items = rw (← c.self.view_is) at c.len-len.ensures.len in
     omega (arith, at_k, size, before, made_within v.lists.items c.args.k c.self.invariant.2 within, sizes_positive v.lists.items c.self.invariant.2 c.args.k within, c.self.invariant.1, v.slots.ok.0, c.if-len-size.false, c.ranges)
+
+pub returns-clause-made : goal.returns-clause-made
+returns-clause-made g c =
+    let v = c.self.inside in
+    let old = c.index_mut-list.result.now in
+    let within : c.args.k < length v.lists.items = rw (← c.self.view_is) at c.requires in
+    let at_k : tier_at v.lists.items c.args.k ≡ old = get_or_default v.lists.items c.args.k _ old within ∙ sym c.index_mut-list.ensures.value in
+    let added : c.push_made.new.self ≡ record old { made = old.made + 1; starts = old.starts ++ c.len-len.result ∷ [] } = search rules in
+    let is : c.push_made.new.self ≡ record (tier_at v.lists.items c.args.k) { made = (tier_at v.lists.items c.args.k).made + 1; starts = (tier_at v.lists.items c.args.k).starts ++ c.len-len.result ∷ [] } =
+    added ∙ ap (λ (u : Tier). record u { made = u.made + 1; starts = u.starts ++ c.len-len.result ∷ [] }) (sym at_k) in
+    let size : c.size_of-size.result ≡ size_in (tier_sizes v.lists.items) c.args.k = rw (← c.self.view_is) at c.size_of-size.ensures in
+    let before : c.len-len.result ≡ length v.slots.items = rw (← c.self.view_is) at c.len-len.ensures.len in
+    let starts : length (c.push_made.new.self).starts ≡ length (tier_at v.lists.items c.args.k).starts + 1 =
+    ap (λ (u : Tier). length u.starts) is ∙ length-append (tier_at v.lists.items c.args.k).starts (c.len-len.result ∷ []) in
+    let slots = c.push_vacant.ensures ∙ ap (λ xs. xs ++ replicate c.size_of-size.result g.S.Slot.vacant) c.make_room.ensures.items ∙ ap (λ n. v.slots.items ++ replicate n g.S.Slot.vacant) size in
+    rw (← c.self.view_is) (Turnover-grown _ c.args.k c.push_made.new.self (sizes_up v.lists.items c.self.invariant.2) within (ap (λ (u : Tier). u.size) is) _
+    (size_at v.lists.items c.args.k) g.S.Slot.vacant _ slots (omega (arith, c.self.invariant.1, v.slots.ok.0)) (omega (arith, c.if-len-size.false, size, before)) (ap (λ (u : Tier). u.made) is) starts)
+
+pub returns-clause-kept : goal.returns-clause-kept
+returns-clause-kept g c =
+    let v = c.self.inside in
+    rw (← c.self.view_is) (λ i d h. ap (λ xs. get_or xs i d) (c.push_vacant.ensures ∙ ap (λ xs. xs ++ replicate c.size_of-size.result g.S.Slot.vacant) c.make_room.ensures.items)
+    ∙ get_or_append_left v.slots.items (replicate c.size_of-size.result g.S.Slot.vacant) d i h)

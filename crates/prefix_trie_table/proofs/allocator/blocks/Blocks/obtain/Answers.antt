@@ -1,36 +1,57 @@
-use Rattle.std.proofs.Common.{◌≡◌, ℕ, suc, ◌+◌, ◌-◌, ◌≤◌, length, ap, ◌∙◌, arith, rules}
-use Rattle.prefix_trie_table.specs.Store.{tier_at, grown, grown_times}
-use Rattle.prefix_trie_table.proofs.Blocks.Spending.{Prepared-same, Prepared-then, Prepared-grown}
+use Rattle.std.proofs.Common.{◌≡◌, ℕ, ◌+◌, ◌-◌, None, refl, sym, ap, ◌∙◌, subst, arith, rules}
+use Rattle.prefix_trie_table.specs.Store.{Turnover, tier_sizes, size_in, free_in, many_of, none_of}
+use Rattle.prefix_trie_table.proofs.Blocks.BySize.{tiers_long, many-add, many-none}
+use Rattle.prefix_trie_table.proofs.Blocks.Turnovers.{Turnover-as, Turnover-then, Turnover-same}
 use Rattle.prefix_trie_table.proofs.allocator.blocks.Blocks.obtain.Goals as goal
+
+pub loop-i-init : goal.loop-i-init
+loop-i-init g c =
+    let v = c.args.self.now in
+    let size : ℕ = size_in (tier_sizes c.args.self.now.tiers) c.args.k in
+    record {
+      made = Turnover-as v v none_of _ None None (λ s. sym (many-none size _ s (omega (arith, c.free_of-i.ensures)))) (Turnover-same v v refl None);
+      from = omega (arith, c.free_of-i.ensures);
+      bound = omega (arith, c.free_of-i.ensures);
+      unchanged = λ e. refl;
+      kept = λ i d h. refl;
+      sound = λ live s. s;
+    }
+
+pub make-requires : goal.make-requires
+make-requires g c =
+    let a = tiers_long c.loop-i.self.tiers (tier_sizes c.args.self.now.tiers) c.loop-i.invariant.made.keeps.sizes in
+    let b = tiers_long c.args.self.now.tiers (tier_sizes c.args.self.now.tiers) refl in
+    omega (arith, a, b, c.requires)
 
 pub loop-i-preserved : goal.loop-i-preserved
 loop-i-preserved g c =
-    let f : ℕ = length (tier_at c.args.self.now.tiers c.args.k).starts in
-    let grew : c.make.new.self ≡ grown g.S.Slot.vacant c.loop-i.self c.args.k = search rules in
-    let next : suc (c.loop-i._i - f) ≡ c.loop-i._i + 1 - f = omega (arith, c.loop-i.invariant.from) in
-    let one_more : length (tier_at c.make.new.self.tiers c.args.k).starts ≡ length (tier_at c.loop-i.self.tiers c.args.k).starts + 1 = search rules in
-    let fits : length c.loop-i.self.slots + (tier_at c.loop-i.self.tiers c.args.k).size ≤ c.loop-i.self.limit = search rules in
+    let v = c.args.self.now in
+    let inv = c.loop-i.invariant in
+    let size : ℕ = size_in (tier_sizes c.args.self.now.tiers) c.args.k in
+    let free : ℕ = free_in c.args.self.now.tiers (size_in (tier_sizes c.args.self.now.tiers) c.args.k) in
+    let same : size_in (tier_sizes c.loop-i.self.tiers) c.args.k ≡ size_in (tier_sizes c.args.self.now.tiers) c.args.k = ap (λ ns. size_in ns c.args.k) inv.made.keeps.sizes in
+    let one : Turnover c.loop-i.self c.make.new.self (many_of (size_in (tier_sizes c.loop-i.self.tiers) c.args.k) 1) None None = search rules in
+    let more = subst (λ n. Turnover c.loop-i.self c.make.new.self (many_of n 1) None None) same one in
     record {
-      made = grew ∙ ap (λ v. grown g.S.Slot.vacant v c.args.k) c.loop-i.invariant.made ∙ ap (λ m. grown_times g.S.Slot.vacant c.args.self.now c.args.k m) next;
-      from = omega (arith, c.loop-i.invariant.from);
-      bound = omega (arith, c.loop-i.invariant.from, c.loop-i-test.true);
-      free = omega (arith, one_more, c.loop-i.invariant.free);
-      count = c.make.ensures.count ∙ c.loop-i.invariant.count;
-      size = c.make.ensures.size ∙ c.loop-i.invariant.size;
-      prepared = Prepared-then _ _ _ c.loop-i.invariant.prepared (Prepared-grown g.S.Slot.vacant _ _ c.args.k (omega (arith, c.loop-i.invariant.count, c.requires)) fits grew);
-      sound = λ live s. c.make.ensures.sound live (c.loop-i.invariant.sound live s);
+      made = Turnover-as v c.make.new.self _ _ None None
+          (λ s. sym (many-add size (c.loop-i._i - free) 1 s) ∙ ap (λ n. many_of size n s) (let e : c.loop-i._i - free + 1 ≡ c.loop-i._i + 1 - free = omega (arith, inv.from) in e))
+          (Turnover-then v c.loop-i.self c.make.new.self _ _ None None None None None None (λ s. refl) inv.made more);
+      from = omega (arith, inv.from);
+      bound = omega (arith, inv.from, c.loop-i-test.true);
+      unchanged = λ e. absurd (omega (arith, inv.from, e));
+      kept = λ i d h. c.make.ensures.kept i d (let l = inv.made.keeps.longer in omega (arith, h, l)) ∙ inv.kept i d h;
+      sound = λ live s. c.make.ensures.sound live (inv.sound live s);
     }
 
 pub returns-clause-made : goal.returns-clause-made
 returns-clause-made g c =
-    let f : ℕ = length (tier_at c.args.self.now.tiers c.args.k).starts in
-    let all : c.loop-i._i - f ≡ c.args.n - f = omega (arith, c.loop-i.invariant.from, c.loop-i.invariant.bound, c.loop-i-test.false) in
-    c.loop-i.invariant.made ∙ ap (λ m. grown_times g.S.Slot.vacant c.args.self.now c.args.k m) all
+    let size : ℕ = size_in (tier_sizes c.args.self.now.tiers) c.args.k in
+    let free : ℕ = free_in c.args.self.now.tiers (size_in (tier_sizes c.args.self.now.tiers) c.args.k) in
+    let inv = c.loop-i.invariant in
+    let all : c.loop-i._i - free ≡ c.args.n - free = omega (arith, inv.from, inv.bound, c.loop-i-test.false) in
+    subst (λ m. Turnover c.args.self.now c.loop-i.self (many_of size m) None None) all inv.made
 
-pub returns-in_err-make-clause-prepared : goal.returns-in_err-make-clause-prepared
-returns-in_err-make-clause-prepared g c =
-    let same : c.make.new.self ≡ c.loop-i.self = search rules in
-    Prepared-then _ _ _ c.loop-i.invariant.prepared (Prepared-same _ _ same)
-
-pub returns-in_err-make-clause-err : goal.returns-in_err-make-clause-err
-returns-in_err-make-clause-err g c = search rules
+pub returns-clause-unchanged : goal.returns-clause-unchanged
+returns-clause-unchanged g c = λ few.
+    let inv = c.loop-i.invariant in
+    inv.unchanged (omega (arith, few, inv.from, inv.bound))

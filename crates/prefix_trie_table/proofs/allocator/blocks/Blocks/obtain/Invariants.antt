@@ -1,16 +1,15 @@
-use Rattle.std.proofs.Common.{◌≡◌, ◌-◌, ◌≤◌, List, length}
-use Rattle.prefix_trie_table.specs.Store.{UsedBlock, Sound, tier_at, grown_times, Prepared}
+use Rattle.std.proofs.Common.{◌≡◌, ℕ, ◌-◌, ◌≤◌, List, None}
+use Rattle.prefix_trie_table.specs.Store.{UsedBlock, Sound, Turnover, SameSlots, tier_sizes, size_in, free_in, many_of}
 use Rattle.prefix_trie_table.proofs.allocator.blocks.Blocks.obtain.Given as goal
 
 abbrev pub invariant-loop-i : goal.invariant-loop-i
 invariant-loop-i g l =
-    record {
-      made : l.self ≡ grown_times g.S.Slot.vacant l.fn.self l.k (l._i - length (tier_at l.fn.self.tiers l.k).starts);
-      from : length (tier_at l.fn.self.tiers l.k).starts ≤ l._i;
-      bound : l._i - length (tier_at l.fn.self.tiers l.k).starts ≤ l.n - length (tier_at l.fn.self.tiers l.k).starts;
-      free : length (tier_at l.self.tiers l.k).starts ≡ l._i;
-      count : length l.self.tiers ≡ length l.fn.self.tiers;
-      size : (tier_at l.self.tiers l.k).size ≡ (tier_at l.fn.self.tiers l.k).size;
-      prepared : Prepared l.fn.self l.self;
+    let size : ℕ = size_in (tier_sizes l.fn.self.tiers) l.k in
+    let free : ℕ = free_in l.fn.self.tiers (size_in (tier_sizes l.fn.self.tiers) l.k) in record {
+      made : Turnover l.fn.self l.self (many_of size (l._i - free)) None None;
+      from : free ≤ l._i;
+      bound : l._i - free ≤ l.n - free;
+      unchanged : l._i ≡ free → l.self ≡ l.fn.self;
+      kept : SameSlots l.fn.self l.self;
       sound : (live : List (UsedBlock g.row.S.Denot)) → Sound g.S.Slot.vacant live l.fn.self → Sound g.S.Slot.vacant live l.self;
     }

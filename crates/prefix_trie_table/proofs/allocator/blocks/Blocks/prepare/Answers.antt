@@ -1,121 +1,96 @@
-use Rattle.std.proofs.Common.{◌≡◌, ℕ, ◌+◌, ◌<◌, ◌≤◌, inl, inr, None, Some, Result, Ok, Err, OnOk, OnErr, IfErr, ◌↔◌, length, sym, ap, ◌∙◌, subst, arith, rules}
-use Rattle.std.proofs.lemmas.Bool.{cases_lt}
-use Rattle.prefix_trie_bits.specs.declared.prefix.Refusal.{Refusal}
-use Rattle.prefix_trie_bits.specs.declared.prefix.Refusal.TheVariants.{Memory, IndexRange}
-use Rattle.prefix_trie_table.specs.Store.{Store, Prepared, CutShort, tier_lacking, free_at, blocks_lacking, many_at, slots_of, tier_sizes}
-use Rattle.prefix_trie_table.proofs.Blocks.Spending.{Prepared-same, Prepared-then, enough}
-use Rattle.prefix_trie_table.proofs.Blocks.Soundness.{tier_for_holds}
-use Rattle.prefix_trie_table.proofs.Blocks.Preparing.{LastWay, Way, way_same, way_first, way_second, way_done, way_short, way_range, need_first, lacking_inside, lacking_bound}
+use Rattle.std.proofs.Common.{◌≡◌, ℕ, ◌+◌, ◌-◌, ◌<◌, ◌≤◌, ◌↔◌, Option, None, Some, OnOk, OnErr, IfErr, length, refl, sym, ap, ◌∙◌, subst, arith}
+use Rattle.std.specs.Prelude.{option_map, Contains}
+use Rattle.std.proofs.lemmas.Result.{err_from_is_err_and}
+use Rattle.prefix_trie_bits.specs.declared.prefix.Refusal.TheVariants.{IndexRange}
+use Rattle.prefix_trie_bits.specs.Model.Blocks.{one_of}
+use Rattle.prefix_trie_table.specs.Store.{Store, Turnover, free_in, many_of, needs, list_need, tier_sizes, size_in}
+use Rattle.prefix_trie_table.proofs.Blocks.BySize.{sizes_up, size_among, tiers_long, first_size, sizes_rise, many_here}
+use Rattle.prefix_trie_table.proofs.Blocks.Preparing.{LastWay, way_same, way_own, way_first, way_second, how_many-needs, obtained, obtained_part}
 use Rattle.prefix_trie_table.proofs.allocator.blocks.Blocks.prepare.Given as given
 use Rattle.prefix_trie_table.proofs.allocator.blocks.Blocks.prepare.Goals as goal
 use Rattle.prefix_trie_table.proofs.allocator.blocks.Blocks.prepare.Goals.{in-Some+then-tier-eq0, in-Some+else-tier-eq0+in_ok-obtain, in_default}
 
-on_ok : {X E P Q : Type 0} (r : Result X E) → (P → Q) → OnOk r P → OnOk r Q
-on_ok (Ok x) f p = f p
-on_ok (Err e) f p = p
-
--- a refusal that says why
-range_of : {X E P F R : Type 0} (r : Result X E) (x : E) → (P → F → R) → OnErr r P → IfErr r (λ e. (e ≡ x) ↔ F) → IfErr r (λ e. e ≡ x → R)
-range_of (Ok y) x f p q = q
-range_of (Err e) x f p q = λ is. f p (q.0 is)
-
--- a refusal for want of memory comes where there is room
-room_of : (e : Refusal) (l n : ℕ) → ((e ≡ IndexRange) ↔ (l < n)) → e ≡ Memory → n ≤ l
-room_of Memory l n range is = elim (cases_lt l n) as (λ _. n ≤ l) [
-  | inl less ↦ absurd (let h : Memory ≡ IndexRange = range.1 less in cc)
-  | inr le ↦ le
-]
-room_of IndexRange l n range is = absurd cc
-
--- what was made until a refusal, which says why
-short_of : {X P : Type 0} (r : Result X Refusal) (l n : ℕ) (C : Type 0 → Type 0) → (P → (M : Type 0) → (M → n ≤ l) → C M) → OnErr r P →
-    IfErr r (λ e. (e ≡ IndexRange) ↔ (l < n)) → IfErr r (λ e. C (e ≡ Memory))
-short_of (Ok x) l n C f p q = tt
-short_of (Err e) l n C f p q = f p (e ≡ Memory) (room_of e l n q)
-
-pub returns-clause-prepared : goal.returns-clause-prepared
-returns-clause-prepared g c =
-    let first : Prepared c.args.self.now c.match-lacking.self = elim c.match-lacking.branch [
-      | in-Some+then-tier-eq0 w ↦ Prepared-same _ _ w.self-is
-      | in-Some+else-tier-eq0+in_ok-obtain w ↦ subst (λ v. Prepared c.args.self.now v) (sym w.self-is) w.obtain.ensures.prepared
-      | in_default w ↦ Prepared-same _ _ w.self-is
-    ] in
-    Prepared-then _ _ _ first c.obtain-2.ensures.prepared
-
-pub returns-clause-enough : goal.returns-clause-enough
-returns-clause-enough g c =
-    let v = c.args.self.now in
-    let w = c.obtain-2.new.self in
-    let all : Prepared v w = returns-clause-prepared g c in
-    on_ok c.obtain-2.result (λ (free : c.match-lacking.singles ≤ free_at w.tiers 0).
-    enough v w c.args.k c.args.count c.args.lists c.match-lacking.singles all c.requires.fits free
-    (elim c.match-lacking.branch [
-      | in-Some+then-tier-eq0 w1 ↦ inl (sym c.lacking.ensures ∙ w1.in-Some.is ∙ ap Some w1.if-tier-eq0.true, w1.singles-is)
-      | in-Some+else-tier-eq0+in_ok-obtain w1 ↦ inr (inl (
-        w1.in-Some.tier,
-        sym c.lacking.ensures ∙ w1.in-Some.is,
-        w1.if-tier-eq0.false,
-        (let a = w1.in_ok-obtain.ensures.ready in let b = c.obtain-2.ensures.prepared.free w1.in-Some.tier in let e : free_at c.match-lacking.self.tiers w1.in-Some.tier ≡ free_at w1.obtain.new.self.tiers w1.in-Some.tier = ap (λ (x : Store g.row.S.Denot). free_at x.tiers w1.in-Some.tier) w1.self-is in omega (arith, a, b, e)),
-        w1.singles-is,
-      ))
-      | in_default w1 ↦ inr (inr (sym c.lacking.ensures ∙ w1.in_default.is, w1.singles-is))
-    ])) c.obtain-2.ensures.ready
+-- the size of the block that the list lacks
+need_is : (g : given.Over) (c : goal.After-from_residual g) → list_need c.args.self.now.tiers c.args.k c.args.count ≡ Some (size_in (tier_sizes c.args.self.now.tiers) c.in-Some.tier)
+need_is g c = c.lacking.ensures.size ∙ ap (option_map (size_in (tier_sizes c.args.self.now.tiers))) c.in-Some.is
 
 -- what is left to make before the last call
-last : (g : given.Over) (c : goal.After-obtain-2 g) → LastWay c.args.self.now c.match-lacking.self (blocks_lacking c.args.self.now.tiers c.args.k c.args.count c.args.lists) 0 c.match-lacking.singles
+last : (g : given.Over) (c : goal.After-obtain-2 g) → LastWay c.args.self.now c.match-lacking.self (needs (list_need c.args.self.now.tiers c.args.k c.args.count) c.args.lists) 1 c.match-lacking.singles
 last g c =
     let v = c.args.self.now in
+    let first = (first_size v.tiers c.requires.sizes).1 in
+    let need = λ (o : Option ℕ) (e : c.lacking.result ≡ o). c.lacking.ensures.size ∙ ap (option_map (size_in (tier_sizes v.tiers))) e in
+    let seen = λ (o : Option ℕ) (u : Store g.row.S.Denot) (e : list_need v.tiers c.args.k c.args.count ≡ o) (is : c.match-lacking.self ≡ u) (way : LastWay v u (needs o c.args.lists) 1 c.match-lacking.singles).
+    subst (λ x. LastWay v x (needs (list_need v.tiers c.args.k c.args.count) c.args.lists) 1 c.match-lacking.singles) (sym is)
+    (subst (λ p. LastWay v u (needs p c.args.lists) 1 c.match-lacking.singles) (sym e) way) in
     elim c.match-lacking.branch [
-      | in-Some+then-tier-eq0 w ↦ way_same v _ c.args.k c.args.count c.args.lists c.match-lacking.singles (Some 0) w.self-is (sym c.lacking.ensures ∙ w.in-Some.is ∙ ap Some w.if-tier-eq0.true) (λ j. need_first c.args.lists c.match-lacking.singles j w.singles-is)
-      | in-Some+else-tier-eq0+in_ok-obtain w ↦ (let is : tier_lacking v.tiers c.args.k c.args.count ≡ Some w.in-Some.tier = sym c.lacking.ensures ∙ w.in-Some.is in
-          subst (λ n. LastWay v c.match-lacking.self (blocks_lacking v.tiers c.args.k c.args.count c.args.lists) 0 n) (sym w.singles-is) (way_second g.S.Slot.vacant v _ c.args.k c.args.count c.args.lists w.in-Some.tier is w.if-tier-eq0.false (lacking_inside v.tiers c.args.k c.args.count w.in-Some.tier is) (w.self-is ∙ w.in_ok-obtain.ensures.made)))
-      | in_default w ↦ way_same v _ c.args.k c.args.count c.args.lists c.match-lacking.singles None w.self-is (sym c.lacking.ensures ∙ w.in_default.is) (λ j. (let e : many_at 0 c.match-lacking.singles j ≡ many_at 0 c.args.lists j = ap (λ n. many_at 0 n j) w.singles-is in omega arith))
+      | in-Some+then-tier-eq0 w ↦ seen (Some 1) v (need (Some 0) (w.in-Some.is ∙ ap Some w.if-tier-eq0.true) ∙ ap Some first) w.self-is (way_own v c.args.lists c.match-lacking.singles w.singles-is)
+      | in-Some+else-tier-eq0+in_ok-obtain w ↦
+          let s : ℕ = size_in (tier_sizes v.tiers) w.in-Some.tier in
+          let inside : w.in-Some.tier < length (tier_sizes v.tiers) = (let l = tiers_long v.tiers (tier_sizes v.tiers) refl in let i = w.in-Some.ensures.within in omega (arith, l, i)) in
+          let up = sizes_rise 0 (tier_sizes v.tiers) (sizes_up v.tiers c.requires.sizes) 0 w.in-Some.tier (omega (arith, w.if-tier-eq0.false)) inside in
+          seen (Some s) w.obtain.new.self (need (Some w.in-Some.tier) w.in-Some.is) w.self-is
+          (subst (λ n. LastWay v w.obtain.new.self (needs (Some s) c.args.lists) 1 n) (sym w.singles-is)
+          (way_second v w.obtain.new.self s c.args.lists (λ e. omega (arith, e, up, first)) w.in_ok-obtain.ensures.made))
+      | in_default w ↦ seen None v (need None w.in_default.is) w.self-is (way_same v None c.args.lists c.match-lacking.singles (λ size. omega (arith, ap (λ n. many_of 1 n size) w.singles-is)))
     ]
 
-first_inside : (g : given.Over) (c : goal.After-obtain-2 g) → 0 < length c.args.self.now.tiers
-first_inside g c = (tier_for_holds c.args.self.now.tiers 1 0 c.requires.single).0
-
-pub returns-clause-made : goal.returns-clause-made
-returns-clause-made g c =
-    on_ok c.obtain-2.result (way_done g.S.Slot.vacant _ _ _ _ 0 c.match-lacking.singles (last g c) (first_inside g c)) c.obtain-2.ensures.made
-
-pub returns-clause-short : goal.returns-clause-short
-returns-clause-short g c =
-    short_of c.obtain-2.result _ _ (CutShort c.args.self.now c.obtain-2.new.self (blocks_lacking c.args.self.now.tiers c.args.k c.args.count c.args.lists))
-    (λ some M room. way_short g.S.Slot.vacant _ _ _ _ 0 c.match-lacking.singles some.0 (last g c).way (first_inside g c) some.1 some.2 M room)
-    c.obtain-2.ensures.err c.obtain-2.ensures.range
-
-pub returns-clause-range : goal.returns-clause-range
-returns-clause-range g c =
-    range_of c.obtain-2.result IndexRange (λ some full. way_range g.S.Slot.vacant _ _ _ _ 0 c.match-lacking.singles some.0 (last g c).way (first_inside g c) some.1 some.2 full) c.obtain-2.ensures.err c.obtain-2.ensures.range
-
-pub returns-clause-bound : goal.returns-clause-bound
-returns-clause-bound g c = λ most sizes.
-    lacking_bound c.args.self.now.tiers c.args.k c.args.count c.args.lists most (first_inside g c) sizes
+pub returns-clause-obtains : goal.returns-clause-obtains
+returns-clause-obtains g c =
+    let v = c.args.self.now in
+    let u = c.match-lacking.self in
+    let x = c.obtain-2.new.self in
+    let n = c.match-lacking.singles in
+    let r = c.obtain-2.result in
+    let way = (last g c).way in
+    let first = first_size v.tiers c.requires.sizes in
+    let one : size_in (tier_sizes c.match-lacking.self.tiers) 0 ≡ 1 = ap (λ ns. size_in ns 0) way.turnover.keeps.sizes ∙ first.1 in
+    obtained v u x (needs (list_need v.tiers c.args.k c.args.count) c.args.lists) 1 n (sizes_up v.tiers c.requires.sizes)
+    (subst (Contains (tier_sizes v.tiers)) first.1 (size_among (tier_sizes v.tiers) 0 (let l = tiers_long v.tiers (tier_sizes v.tiers) refl in omega (arith, l, first.2)))) way r (last g c).all
+    (subst (λ s. OnOk r (Turnover u x (many_of s (n - free_in u.tiers s)) None None)) one c.obtain-2.ensures.made)
+    (subst (λ s. OnErr r ((m : ℕ) × (free_in u.tiers s + m < n) × Turnover u x (many_of s m) None None)) one c.obtain-2.ensures.err)
+    (subst (λ s. IfErr r (λ e. (e ≡ IndexRange) ↔ (x.limit < length x.slots + s))) one c.obtain-2.ensures.range)
 
 -- the block that the list itself lacks was refused
-refused : (g : given.Over) (c : goal.After-from_residual g) → Way c.args.self.now c.args.self.now (blocks_lacking c.args.self.now.tiers c.args.k c.args.count c.args.lists) c.in-Some.tier 1
-refused g c = way_first c.args.self.now c.args.k c.args.count c.args.lists c.in-Some.tier (sym c.lacking.ensures ∙ c.in-Some.is)
-
-refused_inside : (g : given.Over) (c : goal.After-from_residual g) → c.in-Some.tier < length c.args.self.now.tiers
-refused_inside g c = lacking_inside c.args.self.now.tiers c.args.k c.args.count c.in-Some.tier (sym c.lacking.ensures ∙ c.in-Some.is)
-
-pub returns-in_err-obtain-clause-short : goal.returns-in_err-obtain-clause-short
-returns-in_err-obtain-clause-short g c =
+pub returns-in_err-obtain-clause-obtains : goal.returns-in_err-obtain-clause-obtains
+returns-in_err-obtain-clause-obtains g c =
+    let p = err_from_is_err_and c.from_residual.result c.from_residual.ensures.1 in
+    let v = c.args.self.now in
+    let s : ℕ = size_in (tier_sizes v.tiers) c.in-Some.tier in
+    let need : list_need v.tiers c.args.k c.args.count ≡ Some s = need_is g c in
     let some = c.in_err-obtain.ensures.err in
-    let short = way_short g.S.Slot.vacant _ _ _ _ c.in-Some.tier 1 some.0 (refused g c) (refused_inside g c) some.1 some.2 (c.in_err-obtain.field-0.0 ≡ Memory)
-    (room_of c.in_err-obtain.field-0.0 _ _ c.in_err-obtain.ensures.range) in
-    search (rules, short)
+    let all = obtained_part v v c.obtain.new.self (needs (Some s) c.args.lists) s 1 (sizes_up v.tiers c.requires.sizes)
+    (size_among (tier_sizes v.tiers) c.in-Some.tier (let l = tiers_long v.tiers (tier_sizes v.tiers) refl in let i = c.in-Some.ensures.within in omega (arith, l, i)))
+    (way_first v s c.args.lists) c.in_err-obtain.field-0.0 some.0 some.1 some.2 c.in_err-obtain.ensures.range in
+    rw (p.1, p.2, need) all
 
-pub returns-in_err-obtain-clause-range : goal.returns-in_err-obtain-clause-range
-returns-in_err-obtain-clause-range g c =
+-- where what is needed is free, nothing is made
+pub returns-clause-unchanged : goal.returns-clause-unchanged
+returns-clause-unchanged g c = λ free.
+    let v = c.args.self.now in
+    let way = (last g c).way in
+    let first = first_size v.tiers c.requires.sizes in
+    let one : size_in (tier_sizes c.match-lacking.self.tiers) 0 ≡ 1 = ap (λ ns. size_in ns 0) way.turnover.keeps.sizes ∙ first.1 in
+    let same : c.match-lacking.self ≡ v = elim c.match-lacking.branch [
+      | in-Some+then-tier-eq0 w ↦ w.self-is
+      | in-Some+else-tier-eq0+in_ok-obtain w ↦
+          let s : ℕ = size_in (tier_sizes v.tiers) w.in-Some.tier in
+          let need : list_need v.tiers c.args.k c.args.count ≡ Some s = c.lacking.ensures.size ∙ ap (option_map (size_in (tier_sizes v.tiers))) w.in-Some.is in
+          w.self-is ∙ w.obtain.ensures.unchanged (let f = free s in let h = how_many-needs (list_need v.tiers c.args.k c.args.count) c.args.lists s in
+          let o : one_of (list_need v.tiers c.args.k c.args.count) s ≡ 1 = ap (λ o. one_of o s) need ∙ many_here s 1 in omega (arith, f, h, o))
+      | in_default w ↦ w.self-is
+    ] in
+    let few : c.match-lacking.singles ≤ free_in c.match-lacking.self.tiers (size_in (tier_sizes c.match-lacking.self.tiers) 0) =
+    subst (λ n. c.match-lacking.singles ≤ free_in c.match-lacking.self.tiers n) (sym one)
+    (let r = way.rest 1 in let f = free 1 in let h = many_here 1 (c.match-lacking.singles - free_in c.match-lacking.self.tiers 1) in omega (arith, r, f, h)) in
+    c.obtain-2.ensures.unchanged few ∙ same
+
+pub returns-in_err-obtain-clause-unchanged : goal.returns-in_err-obtain-clause-unchanged
+returns-in_err-obtain-clause-unchanged g c = λ free.
+    let v = c.args.self.now in
+    let s : ℕ = size_in (tier_sizes v.tiers) c.in-Some.tier in
     let some = c.in_err-obtain.ensures.err in
-    let full : c.in_err-obtain.field-0.0 ≡ IndexRange → c.args.self.now.limit < length c.args.self.now.slots + slots_of (tier_sizes c.args.self.now.tiers) (blocks_lacking c.args.self.now.tiers c.args.k c.args.count c.args.lists) = λ is. way_range g.S.Slot.vacant _ _ _ _ c.in-Some.tier 1 some.0 (refused g c) (refused_inside g c) some.1 some.2 (c.in_err-obtain.ensures.range.0 is) in
-    search (rules, full)
-
-pub returns-in_err-obtain-clause-bound : goal.returns-in_err-obtain-clause-bound
-returns-in_err-obtain-clause-bound g c = λ most sizes.
-    lacking_bound c.args.self.now.tiers c.args.k c.args.count c.args.lists most (tier_for_holds c.args.self.now.tiers 1 0 c.requires.single).0 sizes
-
-pub returns-clause-granted : goal.returns-clause-granted
-returns-clause-granted g c = search rules
+    let f = free s in
+    let h = how_many-needs (list_need v.tiers c.args.k c.args.count) c.args.lists s in
+    let o : one_of (list_need v.tiers c.args.k c.args.count) s ≡ 1 = ap (λ o. one_of o s) (need_is g c) ∙ many_here s 1 in
+    absurd (omega (arith, f, h, o, some.1))

@@ -1,11 +1,11 @@
-use Rattle.std.proofs.Common.{◌≡◌, ◌<◌, ◌∷◌, remove, sym, ap, arith, subst, MatchOption, IsSome, is_some, ℕ, ◌≤◌, ◌∙◌, ⊎_elim, inr}
+use Rattle.std.proofs.Common.{◌≡◌, ◌<◌, ◌∷◌, List, Option, Some, MatchOption, is_some, remove, refl, sym, ap, ◌∙◌, subst, arith}
+use Rattle.std.proofs.lemmas.Bool.{false≢true}
 use Rattle.std.proofs.lemmas.List.Edits.{length-remove}
-use Rattle.std.proofs.lemmas.Bool.{false≢true, cases_lt}
-use Rattle.prefix_trie_table.specs.Store.{Sound, tier_at, tier_for, block}
-use Rattle.prefix_trie_table.proofs.Blocks.Soundness.{tier_of_block}
-use Rattle.prefix_trie_table.proofs.Blocks.Spending.{list_block, block_list, no_list}
-use Rattle.std.proofs.Common.{◌-◌, Some, Option}
-use Rattle.prefix_trie_table.proofs.Blocks.Soundness.{fits_block, tier_for-first}
+use Rattle.prefix_trie_table.specs.declared.allocator.blocks.BlockRef.{BlockRef}
+use Rattle.prefix_trie_table.specs.Store.{Store, UsedBlock, Sound, tier_at, tier_sizes, block}
+use Rattle.prefix_trie_table.proofs.Blocks.BySize.{first_size, tiers_long}
+use Rattle.prefix_trie_table.proofs.Blocks.Losing.{left_some, none_left, left_none}
+use Rattle.prefix_trie_table.proofs.Blocks.Soundness.{list_block, block_list, no_list, tier_of_block}
 use Rattle.prefix_trie_table.proofs.allocator.blocks.Blocks.remove_at.Goals as goal
 
 pub remove_from-value-requires-clause-in_use : goal.remove_from-value-requires-clause-in_use
@@ -13,47 +13,73 @@ remove_from-value-requires-clause-in_use g c =
     let u = c.requires.holds in
     record { live = u.live; size = u.size; items = u.items; is_count = u.is_count; sound = list_block g.S.Slot.vacant c.args.k c.args.start u.size u.items u.live _ (omega (arith, u.is_count, c.requires.place)) u.sound }
 
+-- ---- some are left
+
 pub returns-in-Some-clause-value : goal.returns-in-Some-clause-value
 returns-in-Some-clause-value g c = λ n xs live s count.
     c.remove_from-value.ensures.value n xs live (list_block g.S.Slot.vacant c.args.k c.args.start n xs live _ (omega (arith, count, c.requires.place)) s) count
 
-pub returns-in-None-clause-value : goal.returns-in-None-clause-value
-returns-in-None-clause-value g c = λ n xs live s count.
-    c.remove_from-value.ensures.value n xs live (list_block g.S.Slot.vacant c.args.k c.args.start n xs live _ (omega (arith, count, c.requires.place)) s) count
+pub returns-in-Some-clause-turnover : goal.returns-in-Some-clause-turnover
+returns-in-Some-clause-turnover g c =
+    let e = c.remove_from-value.ensures in
+    (left_some c.args.self.now c.remove_from-value.new.self c.args.k c.args.count c.remove_from-value.result.1 e.none (e.turnover, e.steps) c.in-Some.place c.in-Some.is).0
+
+pub returns-in-Some-clause-steps : goal.returns-in-Some-clause-steps
+returns-in-Some-clause-steps g c =
+    let e = c.remove_from-value.ensures in
+    (left_some c.args.self.now c.remove_from-value.new.self c.args.k c.args.count c.remove_from-value.result.1 e.none (e.turnover, e.steps) c.in-Some.place c.in-Some.is).1
+
+-- the block of the rest
+rest : {S : Type 0} (vacant : S) (v w : Store S) (xs : List S) (live : List (UsedBlock S)) (o : Option BlockRef) (p : BlockRef) → o ≡ Some p →
+    MatchOption o (Sound vacant live w) (λ p. Sound vacant (block p.tier p.start (tier_at v.tiers p.tier).size xs ∷ live) w) → Sound vacant (block p.tier p.start (tier_at v.tiers p.tier).size xs ∷ live) w
+rest {S} vacant v w xs live o p is =
+    subst (λ (q : Option BlockRef). MatchOption q (Sound vacant live w) (λ p. Sound vacant (block p.tier p.start (tier_at v.tiers p.tier).size xs ∷ live) w)) is
 
 pub returns-in-Some-clause-sound : goal.returns-in-Some-clause-sound
 returns-in-Some-clause-sound g c = λ n xs live s count.
+    let more : 1 < c.args.count = c.remove_from-value.ensures.none.0 (ap (λ o. is_some o) c.in-Some.is) in
     let all = c.remove_from-value.ensures.sound n xs live (list_block g.S.Slot.vacant c.args.k c.args.start n xs live _ (omega (arith, count, c.requires.place)) s) count in
-    let some : IsSome c.remove_from-value.result.1 = ap (λ o. is_some o) c.in-Some.is in
-    let more : 1 < c.args.count = c.remove_from-value.ensures.none.0 some in
-    let one : Sound g.S.Slot.vacant (block c.in-Some.place.tier c.in-Some.place.start (tier_at c.args.self.now.tiers c.in-Some.place.tier).size (remove xs c.args.place) ∷ live) c.remove_from-value.new.self = subst (λ o. MatchOption o (Sound g.S.Slot.vacant live c.remove_from-value.new.self) (λ p. Sound g.S.Slot.vacant (block p.tier p.start (tier_at c.args.self.now.tiers p.tier).size (remove xs c.args.place) ∷ live) c.remove_from-value.new.self)) c.in-Some.is all in
-    block_list g.S.Slot.vacant c.in-Some.place.tier c.in-Some.place.start (tier_at c.args.self.now.tiers c.in-Some.place.tier).size (remove xs c.args.place) live _ (omega (arith, length-remove xs c.args.place (omega (arith, count, c.requires.place)), count, more)) one
-
-pub returns-in-None-clause-sound : goal.returns-in-None-clause-sound
-returns-in-None-clause-sound g c = λ n xs live s count.
-    let all = c.remove_from-value.ensures.sound n xs live (list_block g.S.Slot.vacant c.args.k c.args.start n xs live _ (omega (arith, count, c.requires.place)) s) count in
-    let few : c.args.count ≤ 1 = ⊎_elim (λ (h : 1 < c.args.count). absurd (false≢true (ap is_some (sym c.in-None.is) ∙ c.remove_from-value.ensures.none.1 h))) (λ (h : c.args.count ≤ 1). h) (cases_lt 1 c.args.count) in
-    let one : Sound g.S.Slot.vacant live c.remove_from-value.new.self = subst (λ o. MatchOption o (Sound g.S.Slot.vacant live c.remove_from-value.new.self) (λ p. Sound g.S.Slot.vacant (block p.tier p.start (tier_at c.args.self.now.tiers p.tier).size (remove xs c.args.place) ∷ live) c.remove_from-value.new.self)) c.in-None.is all in
-    no_list g.S.Slot.vacant 0 0 (tier_at c.args.self.now.tiers 0).size (remove xs c.args.place) live _ (omega (arith, length-remove xs c.args.place (omega (arith, count, c.requires.place)), count, few)) one
+    block_list g.S.Slot.vacant c.in-Some.place.tier c.in-Some.place.start (tier_at c.args.self.now.tiers c.in-Some.place.tier).size (remove xs c.args.place) live _
+    (omega (arith, length-remove xs c.args.place (omega (arith, count, c.requires.place)), count, more))
+    (rest g.S.Slot.vacant c.args.self.now c.remove_from-value.new.self (remove xs c.args.place) live c.remove_from-value.result.1 c.in-Some.place c.in-Some.is all)
 
 pub returns-in-Some-clause-tier : goal.returns-in-Some-clause-tier
 returns-in-Some-clause-tier g c =
     let u = c.requires.holds in
     let all = c.remove_from-value.ensures.sound u.size u.items u.live (list_block g.S.Slot.vacant c.args.k c.args.start u.size u.items u.live _ (omega (arith, u.is_count, c.requires.place)) u.sound) u.is_count in
-    let one : Sound g.S.Slot.vacant (block c.in-Some.place.tier c.in-Some.place.start (tier_at c.args.self.now.tiers c.in-Some.place.tier).size (remove u.items c.args.place) ∷ u.live) c.remove_from-value.new.self = subst (λ o. MatchOption o (Sound g.S.Slot.vacant u.live c.remove_from-value.new.self) (λ p. Sound g.S.Slot.vacant (block p.tier p.start (tier_at c.args.self.now.tiers p.tier).size (remove u.items c.args.place) ∷ u.live) c.remove_from-value.new.self)) c.in-Some.is all in
-    inr (tier_of_block g.S.Slot.vacant _ _ _ one).within
+    let one = rest g.S.Slot.vacant c.args.self.now c.remove_from-value.new.self (remove u.items c.args.place) u.live c.remove_from-value.result.1 c.in-Some.place c.in-Some.is all in
+    let within = (tier_of_block g.S.Slot.vacant _ _ _ one).within in
+    let l = tiers_long c.args.self.now.tiers (tier_sizes c.args.self.now.tiers) refl in
+    let m = tiers_long c.remove_from-value.new.self.tiers (tier_sizes c.args.self.now.tiers) c.remove_from-value.ensures.turnover.keeps.sizes in
+    omega (arith, within, l, m)
 
-pub returns-in-Some-clause-smaller : goal.returns-in-Some-clause-smaller
-returns-in-Some-clause-smaller g c = λ to more is free.
-    let u = c.requires.holds in
-    let b = block c.args.k c.args.start u.size u.items in
-    let s = list_block g.S.Slot.vacant c.args.k c.args.start u.size u.items u.live _ (omega (arith, u.is_count, c.requires.place)) u.sound in
-    let size : u.size ≡ (tier_at c.args.self.now.tiers c.args.k).size = (tier_of_block g.S.Slot.vacant b u.live _ s).size_is in
-    let first = tier_for-first c.args.self.now.tiers (c.args.count - 1) c.args.k to is (omega (arith, fits_block g.S.Slot.vacant b u.live _ s, u.is_count, size)) in
-    ⊎_elim
-    (λ (less : to < c.args.k). rw c.in-Some.is at (c.remove_from-value.ensures.smaller to is less free))
-    (λ (h : c.args.k ≤ to). ⊎_elim
-    (λ (e : c.in-Some.place.tier ≡ c.args.k). omega arith)
-    (λ (e : tier_for c.args.self.now.tiers (c.args.count - 1) ≡ Some c.in-Some.place.tier). (let f : ◌≡◌ {A = Option ℕ} (Some c.in-Some.place.tier) (Some to) = sym e ∙ is in cc))
-    (rw c.in-Some.is at c.remove_from-value.ensures.tier))
-    (cases_lt to c.args.k)
+-- ---- none is left
+
+pub returns-in-None-clause-value : goal.returns-in-None-clause-value
+returns-in-None-clause-value g c = λ n xs live s count.
+    c.remove_from-value.ensures.value n xs live (list_block g.S.Slot.vacant c.args.k c.args.start n xs live _ (omega (arith, count, c.requires.place)) s) count
+
+pub returns-in-None-clause-turnover : goal.returns-in-None-clause-turnover
+returns-in-None-clause-turnover g c =
+    let e = c.remove_from-value.ensures in
+    (left_none c.args.self.now c.remove_from-value.new.self c.args.k c.args.count c.remove_from-value.result.1 e.none (e.turnover, e.steps) c.in-None.is (omega (arith, c.requires.place))).0
+
+pub returns-in-None-clause-steps : goal.returns-in-None-clause-steps
+returns-in-None-clause-steps g c =
+    let e = c.remove_from-value.ensures in
+    (left_none c.args.self.now c.remove_from-value.new.self c.args.k c.args.count c.remove_from-value.result.1 e.none (e.turnover, e.steps) c.in-None.is (omega (arith, c.requires.place))).1
+
+pub returns-in-None-clause-tier : goal.returns-in-None-clause-tier
+returns-in-None-clause-tier g c = (first_size c.args.self.now.tiers c.requires.sizes).2
+
+pub returns-in-None-clause-stays : goal.returns-in-None-clause-stays
+returns-in-None-clause-stays g c = λ more. absurd (false≢true (ap (λ o. is_some o) (sym c.in-None.is) ∙ c.remove_from-value.ensures.none.1 more))
+
+pub returns-in-None-clause-sound : goal.returns-in-None-clause-sound
+returns-in-None-clause-sound g c = λ n xs live s count.
+    let w = c.remove_from-value.new.self in
+    let e = c.remove_from-value.ensures in
+    let one = none_left c.args.self.now c.remove_from-value.new.self c.args.k c.args.count c.remove_from-value.result.1 e.none (e.turnover, e.steps) c.in-None.is (omega (arith, c.requires.place)) in
+    let all = e.sound n xs live (list_block g.S.Slot.vacant c.args.k c.args.start n xs live _ (omega (arith, count, c.requires.place)) s) count in
+    no_list g.S.Slot.vacant 0 0 (tier_at c.args.self.now.tiers 0).size (remove xs c.args.place) live _ (omega (arith, length-remove xs c.args.place (omega (arith, count, c.requires.place)), count, one))
+    (subst (λ (o : Option BlockRef). MatchOption o (Sound g.S.Slot.vacant live w) (λ p. Sound g.S.Slot.vacant (block p.tier p.start (tier_at c.args.self.now.tiers p.tier).size (remove xs c.args.place) ∷ live) w)) c.in-None.is all)

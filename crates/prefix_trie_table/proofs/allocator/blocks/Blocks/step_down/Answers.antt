@@ -1,66 +1,86 @@
-use Rattle.std.proofs.Common.{◌≤◌, ◌∷◌, [], refl, arith, subst}
-use Rattle.prefix_trie_table.specs.Store.{Sound, tier_at, block}
-use Rattle.prefix_trie_table.proofs.Blocks.Soundness.{Sound-exchanged, block_inside, has_place}
-use Rattle.prefix_trie_table.proofs.Blocks.Moving.{runs_within, moved_spends}
-use Rattle.prefix_trie_table.proofs.Blocks.Spending.{Spends-taken, Spends-given, Keeps-spends, Keeps-prepared, Keeps-then}
-use Rattle.std.proofs.Common.{◌≡◌, ◌-◌, rules, sym}
-use Rattle.prefix_trie_table.specs.Store.{Turnover, grown_times, free_at, many_at, none_at}
-use Rattle.prefix_trie_table.proofs.Blocks.Soundness.{tier_of_block}
-use Rattle.prefix_trie_table.proofs.Blocks.Turnovers.{Turnover-as, Turnover-then, Turnover-grown_times, Turnover-entered, Turnover-given, Turnover-moved, some_free, tiers_stay}
+use Rattle.std.proofs.Common.{ℕ, ◌+◌, ◌-◌, ◌<◌, ◌≤◌, ◌∷◌, [], None, Some, refl, ◌∙◌, subst, arith, rules}
+use Rattle.prefix_trie_table.specs.Store.{Sound, Turnover, tier_at, tier_sizes, size_in, free_in, many_of, none_of, block}
+use Rattle.prefix_trie_table.proofs.Blocks.BySize.{size_at, many-none}
+use Rattle.prefix_trie_table.proofs.Blocks.Soundness.{Sound-exchanged, has_place}
+use Rattle.prefix_trie_table.proofs.Blocks.Moving.{runs_within, moved_turned}
+use Rattle.prefix_trie_table.proofs.Blocks.Turnovers.{size_kept, Turnover-as, Turnover-then, Turnover-moved}
+use Rattle.prefix_trie_table.proofs.allocator.blocks.Blocks.step_down.Given as given
 use Rattle.prefix_trie_table.proofs.allocator.blocks.Blocks.step_down.Goals as goal
+
+-- ---- refused
+
+pub returns-then-is_err-clause-kept : goal.returns-then-is_err-clause-kept
+returns-then-is_err-clause-kept g c =
+    let v = c.args.self.now in
+    let size : ℕ = size_in (tier_sizes c.args.self.now.tiers) c.args.to in
+    let some : (m : ℕ) × (free_in v.tiers size + m < 1) × Turnover v c.obtain.new.self (many_of size m) None None = search rules in
+    Turnover-as v c.obtain.new.self _ none_of None None (λ n. many-none size some.0 n (let h = some.1 in omega (arith, h))) some.2
+
+pub returns-then-is_err-clause-sound : goal.returns-then-is_err-clause-sound
+returns-then-is_err-clause-sound g c = λ n xs live sound count.
+    c.obtain.ensures.sound (block c.args.k c.args.start n xs ∷ live) sound
+
+-- ---- moved
 
 pub move_items-requires : goal.move_items-requires
 move_items-requires g c =
+    let v = c.args.self.now in
+    let w = c.obtain.new.self in
     let u = c.requires.in_use in
     let a = block c.args.k c.args.start u.size u.items in
     let b = block c.args.to c.take-new.result (tier_at c.obtain.new.self.tiers c.args.to).size [] in
-    let within = runs_within g.S.Slot.vacant a b u.live _ c.args.count (c.take-new.ensures.sound (a ∷ u.live) (c.obtain.ensures.sound (a ∷ u.live) u.sound)) u.is_count
-    (omega (arith, c.requires.holds, c.obtain.ensures.size)) in
+    let size : ℕ = size_in (tier_sizes c.args.self.now.tiers) c.args.to in
+    let made : Turnover v w (many_of size (1 - free_in v.tiers size)) None None = search rules in
+    let room : c.args.count ≤ (tier_at c.obtain.new.self.tiers c.args.to).size = omega (arith, c.requires.holds, size_kept v w c.args.to made.keeps.sizes, size_at v.tiers c.args.to) in
+    let within = runs_within g.S.Slot.vacant a b u.live _ c.args.count (c.take-new.ensures.sound (a ∷ u.live) (c.obtain.ensures.sound (a ∷ u.live) u.sound)) u.is_count room in
     record { from_within = within.0; to_within = within.1 }
 
 pub give_back-requires : goal.give_back-requires
 give_back-requires g c =
+    let v = c.args.self.now in
+    let w = c.obtain.new.self in
     let u = c.requires.in_use in
     let a = block c.args.k c.args.start u.size u.items in
     let b = block c.args.to c.take-new.result (tier_at c.obtain.new.self.tiers c.args.to).size [] in
+    let size : ℕ = size_in (tier_sizes c.args.self.now.tiers) c.args.to in
+    let made : Turnover v w (many_of size (1 - free_in v.tiers size)) None None = search rules in
+    let room : c.args.count ≤ (tier_at c.obtain.new.self.tiers c.args.to).size = omega (arith, c.requires.holds, size_kept v w c.args.to made.keeps.sizes, size_at v.tiers c.args.to) in
     let s = Sound-exchanged g.S.Slot.vacant b a u.live _ (c.take-new.ensures.sound (a ∷ u.live) (c.obtain.ensures.sound (a ∷ u.live) u.sound)) in
-    let room : c.args.count ≤ (tier_at c.obtain.new.self.tiers c.args.to).size = omega (arith, c.requires.holds, c.obtain.ensures.size) in
     let place = has_place g.S.Slot.vacant _ _ _ (c.move_items.ensures.sound a b u.live s refl refl u.is_count refl room) in
     record { within = place.0; place = place.1 }
+
+-- the block was obtained, and has room
+obtained : (g : given.Over) (c : goal.After-give_back g) → Turnover c.args.self.now c.obtain.new.self (many_of (size_in (tier_sizes c.args.self.now.tiers) c.args.to)
+    (1 - free_in c.args.self.now.tiers (size_in (tier_sizes c.args.self.now.tiers) c.args.to))) None None
+obtained g c = search rules
+
+room : (g : given.Over) (c : goal.After-give_back g) → c.args.count ≤ (tier_at c.obtain.new.self.tiers c.args.to).size
+room g c = omega (arith, c.requires.holds, size_kept c.args.self.now c.obtain.new.self c.args.to (obtained g c).keeps.sizes, size_at c.args.self.now.tiers c.args.to)
 
 pub returns-clause-sound : goal.returns-clause-sound
 returns-clause-sound g c = λ n xs live sound count.
     let a = block c.args.k c.args.start n xs in
     let b = block c.args.to c.take-new.result (tier_at c.obtain.new.self.tiers c.args.to).size [] in
     let s = Sound-exchanged g.S.Slot.vacant b a live _ (c.take-new.ensures.sound (a ∷ live) (c.obtain.ensures.sound (a ∷ live) sound)) in
-    let room : c.args.count ≤ (tier_at c.obtain.new.self.tiers c.args.to).size = omega (arith, c.requires.holds, c.obtain.ensures.size) in
-    let m = c.move_items.ensures.sound a b live s refl refl count refl room in
-    subst (λ size. Sound g.S.Slot.vacant (block c.args.to c.take-new.result size xs ∷ live) c.give_back.new.self) c.obtain.ensures.size (c.give_back.ensures.sound _ n m)
+    let m = c.move_items.ensures.sound a b live s refl refl count refl (room g c) in
+    subst (λ size. Sound g.S.Slot.vacant (block c.args.to c.take-new.result size xs ∷ live) c.give_back.new.self)
+    (size_kept c.args.self.now c.obtain.new.self c.args.to (obtained g c).keeps.sizes) (c.give_back.ensures.sound _ n m)
 
-pub returns-clause-keeps : goal.returns-clause-keeps
-returns-clause-keeps g c =
+pub returns-clause-turnover : goal.returns-clause-turnover
+returns-clause-turnover g c =
+    let v = c.args.self.now in
+    let w = c.obtain.new.self in
+    let t = c.take-new.new.self in
+    let y = c.move_items.new.self in
+    let x = c.give_back.new.self in
     let u = c.requires.in_use in
     let a = block c.args.k c.args.start u.size u.items in
     let b = block c.args.to c.take-new.result (tier_at c.obtain.new.self.tiers c.args.to).size [] in
-    let s0 = c.take-new.ensures.sound (a ∷ u.live) (c.obtain.ensures.sound (a ∷ u.live) u.sound) in
-    let s = Sound-exchanged g.S.Slot.vacant b a u.live _ s0 in
-    let room : c.args.count ≤ (tier_at c.obtain.new.self.tiers c.args.to).size = omega (arith, c.requires.holds, c.obtain.ensures.size) in
-    let m = c.move_items.ensures.sound a b u.live s refl refl u.is_count refl room in
-    let at_0 = block_inside g.S.Slot.vacant a u.live _ u.sound in
-    let k0 = Keeps-prepared c.args.self.now c.obtain.new.self (omega (arith, at_0.after, at_0.before)) c.obtain.ensures.prepared in
-    let k1 = Keeps-spends _ _ _ (Spends-taken c.obtain.new.self c.take-new.new.self c.args.to (omega (arith, c.obtain.ensures.count, c.requires.within)) c.take-new.ensures.value) in
-    let k2 = Keeps-spends _ _ _ (moved_spends g.S.Slot.vacant a b u.live _ c.args.count s0 u.is_count room c.move_items.new.self c.move_items.ensures.slots) in
-    let k3 = Keeps-spends _ _ _ (Spends-given c.move_items.new.self c.give_back.new.self c.args.k c.args.start (has_place g.S.Slot.vacant _ _ _ m).0 c.give_back.ensures.starts) in
-    Keeps-then _ _ _ k0 (Keeps-then _ _ _ k1 (Keeps-then _ _ _ k2 k3))
-
-pub returns-clause-turned : goal.returns-clause-turned
-returns-clause-turned g c =
-    let v = c.args.self.now in
-    let u = c.requires.in_use in
-    let inside = (tier_of_block g.S.Slot.vacant (block c.args.k c.args.start u.size u.items) u.live _ u.sound).within in
-    let grew : c.obtain.new.self ≡ grown_times g.S.Slot.vacant v c.args.to (1 - free_at v.tiers c.args.to) = search rules in
-    let obtained : Turnover v c.obtain.new.self (many_at c.args.to (1 - free_at v.tiers c.args.to)) none_at none_at = subst (λ x. Turnover v x (many_at c.args.to (1 - free_at v.tiers c.args.to)) none_at none_at) (sym grew) (Turnover-grown_times g.S.Slot.vacant v c.args.to (1 - free_at v.tiers c.args.to) c.requires.within) in
-    let entered = Turnover-entered c.obtain.new.self c.take-new.new.self c.move_items.new.self c.args.to _ (omega (arith, c.obtain.ensures.count, c.requires.within)) (some_free _ _ _ c.take-new.ensures.starts) c.take-new.ensures.value c.move_items.ensures.slots c.move_items.ensures.len in
-    let left = Turnover-given c.move_items.new.self c.give_back.new.self c.args.k c.args.start (omega (arith, inside, c.obtain.ensures.count, tiers_stay c.obtain.new.self c.move_items.new.self entered.sizes)) c.give_back.ensures.starts in
-    let moved = Turnover-moved c.obtain.new.self c.move_items.new.self c.give_back.new.self c.args.k c.args.to entered left in
-    Turnover-as v c.give_back.new.self _ _ _ (many_at c.args.to (1 - free_at v.tiers c.args.to)) (many_at c.args.to 1) (many_at c.args.k 1) (Turnover-then v c.obtain.new.self c.give_back.new.self _ _ _ _ _ _ obtained moved) (λ j. omega arith) (λ j. omega arith)
+    let first = obtained g c in
+    let still = moved_turned g.S.Slot.vacant a b u.live t c.args.count (c.take-new.ensures.sound (a ∷ u.live) (c.obtain.ensures.sound (a ∷ u.live) u.sound)) u.is_count (room g c) y c.move_items.ensures.slots None in
+    let entered = subst (λ ns. Turnover w t none_of None (Some (size_in ns c.args.to))) first.keeps.sizes c.take-new.ensures.turnover in
+    let left = subst (λ ns. Turnover y x none_of (Some (size_in ns c.args.k)) None) (still.keeps.sizes ∙ entered.keeps.sizes ∙ first.keeps.sizes) c.give_back.ensures.turnover in
+    let old = Some (size_in (tier_sizes v.tiers) c.args.k) in
+    let new = Some (size_in (tier_sizes v.tiers) c.args.to) in
+    Turnover-as v x _ _ old new (λ size. omega arith)
+    (Turnover-then v w x _ none_of None None old new old new (λ size. omega arith) first (Turnover-moved w t y x none_of old new entered still left))
