@@ -80,8 +80,8 @@ has-suc m b = ap (λ x. eqb x 1) (bit_at-suc m b)
 none-below : (k : ℕ) → 0 ≡ 0 + cond (ltb k 0) 1 0
 none-below k = grind (arith, nat_tests)
 
-pub count_ones-below : (w m : ℕ) → m < 2 ^ w → ones_below w m ≡ count_ones m
-count_ones-below w m small = ones_below-is w m ∙ ap count_ones (mod-eq_of_lt small)
+pub count_ones_below : (w m : ℕ) → m < 2 ^ w → ones_below w m ≡ count_ones m
+count_ones_below w m small = ones_below-is w m ∙ ap count_ones (mod-eq_of_lt small)
 
 -- `m | 1 << k`, of a clear bit
 pub set_bit_sets : (m k : ℕ) → k < 32 → has m k ≡ false → Sets m k (bit_or m (1 * 2 ^ k % 4294967296))
@@ -102,10 +102,10 @@ clear_bit_sets m k l small h = record {
   ];
 }
 
-pub set_bit-small : (m k : ℕ) → m < 2 ^ 31 → k < 31 → bit_or m (1 * 2 ^ k % 4294967296) < 2 ^ 31
-set_bit-small m k small l =
+pub set_bit_small : (m k : ℕ) → m < 2 ^ 31 → k < 31 → bit_or m (1 * 2 ^ k % 4294967296) < 2 ^ 31
+set_bit_small m k small l =
     or_lt 31 m _ small (subst (λ x. x < 2 ^ 31) (sym (one_shl k 32 (omega arith))) (pow_below k 31 l))
 
-pub clear_bit-small : (m k : ℕ) → m < 2 ^ 31 → bit_and m (bit_not w32 (1 * 2 ^ k % 4294967296)) < 2 ^ 31
-clear_bit-small m k small =
+pub clear_bit_small : (m k : ℕ) → m < 2 ^ 31 → bit_and m (bit_not w32 (1 * 2 ^ k % 4294967296)) < 2 ^ 31
+clear_bit_small m k small =
     omega (arith, and_le_l m (bit_not w32 (1 * 2 ^ k % 4294967296)))

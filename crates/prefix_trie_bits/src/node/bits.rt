@@ -28,6 +28,7 @@ pub fn rank(bitmap: u32, k: u32) -> u32
 
 /// How many bits are set: the number of items in the node's block.
 #[inline]
+#[tactic(auto, using(crate::proofs::Ranks::count_ones_below))]
 pub fn count(bitmap: u32) -> u32
     ensures { result ≡ ones_below 32 bitmap }
 {
@@ -36,6 +37,7 @@ pub fn count(bitmap: u32) -> u32
 
 /// The bitmap with bit `k` set, which was clear.
 #[inline]
+#[tactic(auto, using(crate::proofs::Ranks::set_bit_sets, crate::proofs::Ranks::set_bit_small))]
 pub fn with_bit(bitmap: u32, k: u32) -> u32
     requires bit { k < 32 }
     requires clear { has bitmap k ≡ false }
@@ -47,6 +49,7 @@ pub fn with_bit(bitmap: u32, k: u32) -> u32
 
 /// The bitmap with bit `k` cleared, which was set.
 #[inline]
+#[tactic(auto, using(crate::proofs::Ranks::clear_bit_sets, crate::proofs::Ranks::clear_bit_small))]
 pub fn without_bit(bitmap: u32, k: u32) -> u32
     requires bit { k < 32 }
     requires set { has bitmap k ≡ true }
