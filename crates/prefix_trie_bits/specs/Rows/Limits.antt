@@ -59,15 +59,6 @@ pub record LimitsHold : Type 0 where
       (Insert (64, 2) 5, Refused IndexRange) ∷
       (Len, Count 3) ∷
       [])
-  -- row 39: a refused key leaves the nodes as they were, and a stored key is set without room
-  pub row39 : Gives 8 (
-      (Insert (0, 0) 0, Value None) ∷
-      (Insert (0, 1) 0, Refused IndexRange) ∷
-      (Insert (9, 0) 0, Value (Some 0)) ∷
-      (Remove (0, 0), Value (Some 0)) ∷
-      (Insert (0, 5) 0, Refused IndexRange) ∷
-      (NodeCount, Count 1) ∷
-      [])
   -- row 40: a stored key is never refused
   pub row40 : Gives 8 (
       (Insert (0, 8) 1, Value None) ∷

@@ -58,11 +58,3 @@ pub record LookupsHold : Type 0 where
       (Len, Count 3) ∷
       (ListAll, Items (((0, 0), 1) ∷ ((1, 8), 3) ∷ ((128, 1), 2) ∷ [])) ∷
       [])
-  -- row 33, with `insert` and `get` in place of the entry calls: two prefixes with the same path are one key
-  pub row33 : Gives 8 (
-      (Insert (131, 1) 5, Value None) ∷
-      (Get (200, 1), Value (Some 5)) ∷
-      (Insert (200, 1) 7, Value (Some 5)) ∷
-      (Insert (200, 2) 8, Value None) ∷
-      (ListAll, Items (((128, 1), 7) ∷ ((192, 2), 8) ∷ [])) ∷
-      [])

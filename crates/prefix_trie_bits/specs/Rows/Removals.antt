@@ -56,19 +56,6 @@ pub record RemovalsHold : Type 0 where
       (Remove (0x80000000, 32), Value None) ∷
       (NodeCount, Count 7) ∷
       [])
-  -- row 31, first part: nodes below the removed prefix go, and new ones are made afterwards
-  pub row31_first : Gives 32 (
-      (Insert (0, 11) 1, Value None) ∷
-      (NodeCount, Count 3) ∷
-      (RemoveChildren (0, 5), Done) ∷
-      (Len, Count 0) ∷
-      (NodeCount, Count 1) ∷
-      (Insert (0x80000000, 11) 2, Value None) ∷
-      (Insert (0, 11) 3, Value None) ∷
-      (NodeCount, Count 5) ∷
-      (Get (0x80000000, 11), Value (Some 2)) ∷
-      (Get (0, 11), Value (Some 3)) ∷
-      [])
   -- row 31, second part: a prefix whose length is no multiple of five
   pub row31_second : Gives 32 (
       (Insert (0, 16) 1, Value None) ∷
@@ -97,31 +84,6 @@ pub record RemovalsHold : Type 0 where
       (RemoveChildren (0, 7), Done) ∷
       (NodeCount, Count 1) ∷
       [])
-  -- row 37: the nodes of two keys that share the root alone
-  pub row37 : Gives 32 (
-      (Insert (0, 32) 1, Value None) ∷
-      (NodeCount, Count 7) ∷
-      (Remove (0, 32), Value (Some 1)) ∷
-      (NodeCount, Count 1) ∷
-      (Insert (0xffffffff, 32) 2, Value None) ∷
-      (NodeCount, Count 7) ∷
-      (Insert (0, 32) 3, Value None) ∷
-      (NodeCount, Count 13) ∷
-      (Remove (0xffffffff, 32), Value (Some 2)) ∷
-      (NodeCount, Count 7) ∷
-      [])
-  -- row 47, what it says of the first map: what is left after 192.168.0.0/22 is handed out
-  pub row47_first : Gives 32 (
-      (Insert (0xc0a80000, 21) 1, Value None) ∷
-      (Insert (0xc0a80000, 22) 2, Value None) ∷
-      (Insert (0xc0a80000, 23) 3, Value None) ∷
-      (Insert (0xc0a80000, 24) 4, Value None) ∷
-      (Insert (0xc0a80400, 22) 5, Value None) ∷
-      (Insert (0xc0a80400, 23) 6, Value None) ∷
-      (RemoveChildren (0xc0a80000, 22), Done) ∷
-      (ListAll, Items (((0xc0a80000, 21), 1) ∷ ((0xc0a80400, 22), 5) ∷ ((0xc0a80400, 23), 6) ∷ [])) ∷
-      (NodeCount, Count 5) ∷
-      [])
   -- row 48, what it says of the first map: the prefix of length 0 takes all, and another call then changes nothing
   pub row48_first : Gives 32 (
       (Insert (0x01020300, 32) 1, Value None) ∷
@@ -132,15 +94,6 @@ pub record RemovalsHold : Type 0 where
       (Len, Count 0) ∷
       (NodeCount, Count 1) ∷
       (RemoveChildren (0, 9), Done) ∷
-      (NodeCount, Count 1) ∷
-      [])
-  -- row 49, what it says of the first map: a half of the root's entries
-  pub row49_first : Gives 8 (
-      (Insert (0, 1) 1, Value None) ∷
-      (Insert (128, 1) 2, Value None) ∷
-      (Insert (0, 5) 3, Value None) ∷
-      (RemoveChildren (0, 1), Done) ∷
-      (ListAll, Items (((128, 1), 2) ∷ [])) ∷
       (NodeCount, Count 1) ∷
       [])
   -- empty nodes that are not on the way to the removed key stay, until `retain` makes the map tidy

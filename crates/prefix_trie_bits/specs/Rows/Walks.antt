@@ -1,19 +1,10 @@
 -- Worked rows: listings, cursors and children.
 use Rattle.std.specs.Prelude.{true, false, [], ◌∷◌, None}
-use Rattle.prefix_trie_bits.specs.Model.Step.{Insert, ListAll, ListFrom, Children, Value, Items}
+use Rattle.prefix_trie_bits.specs.Model.Step.{Insert, ListFrom, Children, Value, Items}
 use Rattle.prefix_trie_bits.specs.Rows.Examples.{Gives}
 
 -- the rows of this file
 pub record WalksHold : Type 0 where
-  -- row 7: a key's extensions are listed before its right neighbour
-  pub row7 : Gives 32 (
-      (Insert (0xc0a80000, 22) 1, Value None) ∷
-      (Insert (0xc0a80000, 23) 2, Value None) ∷
-      (Insert (0xc0a80200, 23) 3, Value None) ∷
-      (Insert (0xc0a80000, 24) 4, Value None) ∷
-      (Insert (0xc0a80200, 24) 5, Value None) ∷
-      (ListAll, Items (((0xc0a80000, 22), 1) ∷ ((0xc0a80000, 23), 2) ∷ ((0xc0a80000, 24), 4) ∷ ((0xc0a80200, 23), 3) ∷ ((0xc0a80200, 24), 5) ∷ [])) ∷
-      [])
   -- row 8: from a key on, with it or behind it; its extensions come behind it
   pub row8 : Gives 32 (
       (Insert (0x0a000000, 8) 1, Value None) ∷

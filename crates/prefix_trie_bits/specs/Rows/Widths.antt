@@ -1,6 +1,6 @@
 -- Worked rows: each width, and the last node of each.
-use Rattle.std.specs.Prelude.{ℕ, ◌++◌, false, List, [], ◌∷◌, Some, None}
-use Rattle.prefix_trie_bits.specs.Model.Step.{Insert, Get, Lpm, Spm, Remove, Len, NodeCount, AddressCount, ListAll, ListFrom, Cover, Value, Match, Count, Addresses, Items}
+use Rattle.std.specs.Prelude.{ℕ, ◌++◌, List, [], ◌∷◌, Some, None}
+use Rattle.prefix_trie_bits.specs.Model.Step.{Insert, Lpm, Spm, Remove, Len, NodeCount, AddressCount, ListAll, Cover, Value, Match, Count, Addresses, Items}
 use Rattle.prefix_trie_bits.specs.Rows.Examples.{Gives, counted, full_pairs, sets}
 
 -- the 15 pairs of three bits, in listing order
@@ -12,19 +12,6 @@ three_bits =
 
 -- the rows of this file
 pub record WidthsHold : Type 0 where
-  -- row 5: four keys of 32 bits in the last node
-  pub row5 : Gives 32 (
-      (Insert (0x01020300, 32) 1, Value None) ∷
-      (Insert (0x01020301, 32) 2, Value None) ∷
-      (Insert (0x01020302, 32) 3, Value None) ∷
-      (Insert (0x01020303, 32) 4, Value None) ∷
-      (Len, Count 4) ∷
-      (Get (0x01020300, 32), Value (Some 1)) ∷
-      (Get (0x01020301, 32), Value (Some 2)) ∷
-      (Get (0x01020302, 32), Value (Some 3)) ∷
-      (Get (0x01020303, 32), Value (Some 4)) ∷
-      (NodeCount, Count 7) ∷
-      [])
   -- row 6: 128 bits, where the last node has three levels left
   pub row6 : Gives 128 (
       (Insert (0, 125) 1, Value None) ∷
@@ -32,17 +19,6 @@ pub record WidthsHold : Type 0 where
       (Lpm (1, 128), Match (Some ((1, 128), 2))) ∷
       (Lpm (2, 128), Match (Some ((0, 125), 1))) ∷
       (NodeCount, Count 26) ∷
-      [])
-  -- row 19: eight bits, where the last node has three levels left
-  pub row19 : Gives 8 (
-      (Insert (0, 5) 1, Value None) ∷
-      (Insert (6, 8) 2, Value None) ∷
-      (Insert (7, 8) 3, Value None) ∷
-      (Lpm (7, 8), Match (Some ((7, 8), 3))) ∷
-      (Lpm (5, 8), Match (Some ((0, 5), 1))) ∷
-      (Lpm (6, 7), Match (Some ((0, 5), 1))) ∷
-      (Spm (7, 8), Match (Some ((0, 5), 1))) ∷
-      (NodeCount, Count 2) ∷
       [])
   -- row 29, at u64: 64 bits
   pub row29 : Gives 64 (
@@ -62,15 +38,6 @@ pub record WidthsHold : Type 0 where
       (Lpm (32768, 16), Match (Some ((32768, 15), 1))) ∷
       (Cover (32769, 16), Items (((32768, 15), 1) ∷ ((32769, 16), 2) ∷ [])) ∷
       (Spm (32770, 16), Match None) ∷
-      [])
-  -- row 41: the first and the last prefix of the order
-  pub row41 : Gives 8 (
-      (Insert (255, 0) 1, Value None) ∷
-      (Insert (255, 8) 2, Value None) ∷
-      (Get (7, 0), Value (Some 1)) ∷
-      (Lpm (255, 8), Match (Some ((255, 8), 2))) ∷
-      (Lpm (254, 8), Match (Some ((0, 0), 1))) ∷
-      (ListFrom (255, 8) false, Items ([])) ∷
       [])
   -- row 41, second part: the last prefix of 128 bits
   pub row41_wide : Gives 128 (

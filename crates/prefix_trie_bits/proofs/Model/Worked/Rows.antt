@@ -19,12 +19,11 @@ lookups_hold = record {
   row25 = gives refl;
   row27 = gives refl;
   row28 = gives refl;
-  row33 = gives refl;
 }
 
 pub walks_hold : WalksHold
 unfolding digits number begins halves
-walks_hold = record { row7 = gives refl; row8 = gives refl; row34 = gives refl }
+walks_hold = record { row8 = gives refl; row34 = gives refl }
 
 pub removals_hold : RemovalsHold
 unfolding digits number begins halves
@@ -33,14 +32,10 @@ removals_hold = record {
   row10 = gives refl;
   row20 = gives refl;
   row22 = gives refl;
-  row31_first = gives refl;
   row31_second = gives refl;
   row31_third = gives refl;
   row32 = gives refl;
-  row37 = gives refl;
-  row47_first = gives refl;
   row48_first = gives refl;
-  row49_first = gives refl;
   off_the_path = gives refl;
   at_least = gives refl;
 }
@@ -53,19 +48,15 @@ limits_hold = record {
   row15 = gives refl;
   row17 = gives refl;
   row38 = gives refl;
-  row39 = gives refl;
   row40 = gives refl;
 }
 
 pub widths_hold : WidthsHold
 unfolding digits number begins halves
 widths_hold = record {
-  row5 = gives refl;
   row6 = gives refl;
-  row19 = gives refl;
   row29 = gives refl;
   row30 = gives refl;
-  row41 = gives refl;
   row41_wide = gives refl;
   row45 = gives refl;
   row46 = gives refl;
@@ -74,4 +65,4 @@ widths_hold = record {
 
 pub addresses_hold : AddressesHold
 unfolding digits number begins halves
-addresses_hold = record { row11 = gives refl; row11_networks = gives refl; row35 = gives refl; row35_wide = gives refl }
+addresses_hold = record { row11_networks = gives refl; row35_wide = gives refl }
