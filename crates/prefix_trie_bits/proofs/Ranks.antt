@@ -1,11 +1,10 @@
 -- How many set bits stand below a bit.
-use Rattle.std.proofs.Common.{◌≡◌, ℕ, zero, suc, ◌+◌, ◌-◌, ◌*◌, ◌/◌, ◌%◌, ◌^◌, ◌<◌, ◌≤◌, true, false, cond, eqb, ltb, refl, sym, ap, ap₂, ◌∙◌, subst, arith, inl, inr, one-add, pow_pos, eqb-true, bit_and, mod-eq_of_lt, bit_or}
+use Rattle.std.proofs.Common.{◌≡◌, ℕ, zero, suc, ◌+◌, ◌-◌, ◌*◌, ◌/◌, ◌%◌, ◌^◌, ◌<◌, ◌≤◌, true, false, cond, eqb, refl, sym, ap, ap₂, ◌∙◌, subst, arith, inl, inr, one-add, pow_pos, eqb-true, bit_and, mod-eq_of_lt, bit_or}
 use Rattle.std.specs.Int.{bit_at, bit_not, w32}
 use Rattle.std.specs.Int.RustNames.{count_ones}
 use Rattle.std.proofs.lemmas.Nat.{ones_cat, ones_le_self, zero_from_ones, and_le_l, mod-pow-add, mod_below, and_mask, one_shl, or_lt, pow_below}
 use Rattle.std.proofs.lemmas.Nat.Bits.{bit_at-lt, bit_at-suc, bit_at_set_same, bit_at_set_other, bit_at_clear_same, bit_at_clear_other, bit_at_above}
 use Rattle.std.proofs.lemmas.Bool.{cases_lt}
-use Rattle.std.proofs.lemmas.Bool.Decides.{nat_tests}
 use Rattle.prefix_trie_bits.specs.Places.{has, ones_below, Sets}
 
 pub bit-set : (m k : ℕ) → has m k ≡ true → bit_at m k ≡ 1
@@ -76,9 +75,6 @@ pub has-suc : (m b : ℕ) → has m (suc b) ≡ has (m / 2) b
 has-suc m b = ap (λ x. eqb x 1) (bit_at-suc m b)
 
 -- ---- a bit set or cleared
-
-none-below : (k : ℕ) → 0 ≡ 0 + cond (ltb k 0) 1 0
-none-below k = grind (arith, nat_tests)
 
 pub count_ones_below : (w m : ℕ) → m < 2 ^ w → ones_below w m ≡ count_ones m
 count_ones_below w m small = ones_below-is w m ∙ ap count_ones (mod-eq_of_lt small)

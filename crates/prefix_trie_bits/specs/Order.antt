@@ -1,12 +1,11 @@
 -- The order of a listing: a string before its extensions, and 0 before 1 at the first difference.
 -- From the crate's documentation of its iterators: lexicographic order.
-use Rattle.std.proofs.Common.{◌≡◌, ◌≢◌, ◌⊎◌, is_eq, suc, ◌^◌, ap, ◌<◌, Bool, true, false, List, [], ◌∷◌, ◌++◌, length, refl, arith, Ordering, Less, Equal}
+use Rattle.std.proofs.Common.{◌≡◌, ◌≢◌, ◌⊎◌, is_eq, ◌<◌, Bool, true, false, List, [], ◌∷◌, ◌++◌, length, refl, arith, Ordering, Less, Equal}
 use Rattle.std.specs.Ordering.{bool_cmp}
 use Rattle.std.specs.Cmp.{IsTotalOrder, bool_cmp_total}
 use Rattle.std.specs.Cmp.Lexicographic.{slice_cmp, lists_total}
 use Rattle.std.specs.FinMap.{IsAntisymmetric, slice_cmp-IsAntisymmetric}
-use Rattle.prefix_trie_bits.specs.Bits.{number, begins}
-use Rattle.prefix_trie_bits.specs.BitStrings.{number-lt}
+use Rattle.prefix_trie_bits.specs.Bits.{begins}
 
 -- the order, as a comparison
 abbrev pub listing_cmp : List Bool → List Bool → Ordering
@@ -55,36 +54,3 @@ listing-extension [] (b ∷ t) e h = refl
 listing-extension (true ∷ s) (true ∷ t) e h = listing-extension s t e (omega (arith, h))
 listing-extension (false ∷ s) (false ∷ t) e h = listing-extension s t e (omega (arith, h))
 listing-extension s t e h = cc
-
--- strings that differ within both stay in order whatever follows
-pub listing-apart : (s t x y : List Bool) → listing_cmp s t ≡ Less → begins s t ≡ false → listing_cmp (s ++ x) (t ++ y) ≡ Less
-unfolding begins
-listing-apart (true ∷ s) (true ∷ t) x y l e = listing-apart s t x y l e
-listing-apart (false ∷ s) (true ∷ t) x y l e = refl
-listing-apart (false ∷ s) (false ∷ t) x y l e = listing-apart s t x y l e
-listing-apart s t x y l e = cc
-
--- what stands between two extensions of q is one
-pub listing-between : (q s u t : List Bool) → begins q s ≡ true → begins q t ≡ true → listing_cmp s u ≡ Less → listing_cmp u t ≡ Less → begins q u ≡ true
-unfolding begins
-listing-between [] s u t e f l m = refl
-listing-between (true ∷ q) (true ∷ s) (true ∷ u) (true ∷ t) e f l m = listing-between q s u t e f l m
-listing-between (false ∷ q) (false ∷ s) (false ∷ u) (false ∷ t) e f l m = listing-between q s u t e f l m
-listing-between (false ∷ q) (false ∷ s) (true ∷ u) (false ∷ t) e f l m = cc
-listing-between q s u t e f l m = cc
-
-tail-length : (x y : List Bool) → suc (length x) ≡ suc (length y) → length x ≡ length y
-tail-length x y q = omega (arith, q)
-
--- strings of one length are listed as their numbers
-pub listing-numbers : (s t : List Bool) → length s ≡ length t → number s < number t → listing_cmp s t ≡ Less
-unfolding number
-listing-numbers [] [] e h = absurd (omega (arith, h))
-listing-numbers (true ∷ s) (true ∷ t) e h =
-    listing-numbers s t (omega (arith, e)) (omega (arith, h, ap (λ k. 2 ^ k) (tail-length s t e)))
-listing-numbers (true ∷ s) (false ∷ t) e h =
-    absurd (omega (arith, h, number-lt t, ap (λ k. 2 ^ k) (tail-length s t e)))
-listing-numbers (false ∷ s) (true ∷ t) e h = refl
-listing-numbers (false ∷ s) (false ∷ t) e h =
-    listing-numbers s t (omega (arith, e)) (omega (arith, h))
-listing-numbers s t e h = absurd (omega (arith, e))
