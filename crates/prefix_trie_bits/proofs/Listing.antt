@@ -49,10 +49,6 @@ listing-entry i d h =
 unfoldable position_test : ℕ → Bool
 position_test n = nat_eq n 0 || nat_lt (get_or POSITION n 0) 63 && nat_eq (heap_at (get_or POSITION n 0)) n
 
-positions-right : below position_test 64 ≡ true
-unfolding below position_test strings number
-positions-right = refl
-
 of-positive : (n : ℕ) (x : Bool) → 0 < n → (nat_eq n 0 || x) ≡ true → x ≡ true
 of-positive n x p h = go (nat_eq n 0) (λ e. let z = eqb-true n 0 e in omega arith) h
   where
@@ -70,23 +66,19 @@ heap-listed q h =
     ap Some (get_or-map heap_number (strings 5) q [] 0 (rw count-strings h))
 
 pub position-entry : (n : ℕ) → 0 < n → n < 64 → (slice_get (map heap_number (strings 5)) (get_or POSITION n 0) ≡ Some n) × (get_or POSITION n 0 < 63)
-unfolding position_test
+unfolding below position_test strings number
 position-entry n p l =
     let q = get_or POSITION n 0 in
-    let b = both (nat_lt q 63) (nat_eq (heap_at q) n) (of-positive n _ p (at_below position_test 64 positions-right n l)) in
+    let b = both (nat_lt q 63) (nat_eq (heap_at q) n) (of-positive n _ p (at_below position_test 64 refl n l)) in
     let inside : q < 63 = ltb-true q 63 b.0 in (heap-listed q inside ∙ ap Some (eqb-true (heap_at q) n b.1), inside)
 
 -- two positions have two heap numbers
 unfoldable back_test : ℕ → Bool
 back_test p = nat_eq (get_or POSITION (heap_at p) 0) p
 
-backs-right : below back_test 63 ≡ true
-unfolding below back_test strings number
-backs-right = refl
-
 back : (p : ℕ) → p < 63 → get_or POSITION (heap_at p) 0 ≡ p
-unfolding back_test
-back p h = eqb-true (get_or POSITION (heap_at p) 0) p (at_below back_test 63 backs-right p h)
+unfolding below back_test strings number
+back p h = eqb-true (get_or POSITION (heap_at p) 0) p (at_below back_test 63 refl p h)
 
 heap_at-injective : (p q : ℕ) → p < 63 → q < 63 → heap_at p ≡ heap_at q → p ≡ q
 heap_at-injective p q h k e = sym (back p h) ∙ ap (λ n. get_or POSITION n 0) e ∙ back q k
@@ -183,30 +175,18 @@ module _ (values children : ℕ) (small : values < 2147483648) (fits : children 
   in-heap : (n : ℕ) → has (heap values children) n ≡ (has (values * 2 ^ 1) n || has (children * 2 ^ 32) n)
   in-heap n =
       has-or (values * 2 ^ 1 % 18446744073709551616) (children * 2 ^ 32 % 18446744073709551616) n ∙
-      ap₂ (λ a b. has a n || has b n) (mod-eq_of_lt v-fits) (mod-eq_of_lt c-fits)
-    where
-      v-fits : values * 2 ^ 1 < 18446744073709551616
-      v-fits = omega arith
-
-      c-fits : children * 2 ^ 32 < 18446744073709551616
-      c-fits = omega arith
+      ap₂ (λ a b. has a n || has b n) (mod-eq_of_lt (let l : values * 2 ^ 1 < 18446744073709551616 = omega arith in l)) (mod-eq_of_lt (let l : children * 2 ^ 32 < 18446744073709551616 = omega arith in l))
 
   heap-value : (b : ℕ) → b < 31 → has (heap values children) (b + 1) ≡ has values b
   heap-value b l =
       in-heap (b + 1) ∙
-      ap₂ (λ x y. x || y) (has-shifted values 1 (b + 1) (omega arith) ∙ ap (λ n. has values n) (less b)) (has-shifted_low children 32 (b + 1) (omega arith)) ∙
+      ap₂ (λ x y. x || y) (has-shifted values 1 (b + 1) (omega arith) ∙ ap (λ n. has values n) (let e : b + 1 - 1 ≡ b = omega arith in e)) (has-shifted_low children 32 (b + 1) (omega arith)) ∙
       or-false (has values b)
-    where
-      less : (n : ℕ) → n + 1 - 1 ≡ n
-      less n = omega arith
 
   heap-child : (c : ℕ) → has (heap values children) (32 + c) ≡ has children c
   heap-child c =
       in-heap (32 + c) ∙
-      ap₂ (λ x y. x || y) (has-above (values * 2 ^ 1) 32 (32 + c) (omega arith) (omega arith)) (has-shifted children 32 (32 + c) (omega arith) ∙ ap (λ n. has children n) (less c))
-    where
-      less : (n : ℕ) → 32 + n - 32 ≡ n
-      less n = omega arith
+      ap₂ (λ x y. x || y) (has-above (values * 2 ^ 1) 32 (32 + c) (omega arith) (omega arith)) (has-shifted children 32 (32 + c) (omega arith) ∙ ap (λ n. has children n) (let e : 32 + c - 32 ≡ c = omega arith in e))
 
   heap_bits : (s : List Bool) → length s < 6 → has (heap values children) (heap_number s) ≡ is_in values children s
   heap_bits s short =

@@ -66,10 +66,7 @@ rank_is m b l =
 -- ---- the lowest bit
 
 pub has-low : (m : ℕ) → has m 0 ≡ eqb (m % 2) 1
-has-low m = ap (λ x. eqb (x % 2) 1) (one m)
-  where
-    one : (x : ℕ) → x / 2 ^ 0 ≡ x
-    one x = omega arith
+has-low m = ap (λ x. eqb (x % 2) 1) (let e : m / 2 ^ 0 ≡ m = omega arith in e)
 
 pub has-suc : (m b : ℕ) → has m (suc b) ≡ has (m / 2) b
 has-suc m b = ap (λ x. eqb x 1) (bit_at-suc m b)

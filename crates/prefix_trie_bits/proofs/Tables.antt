@@ -60,65 +60,45 @@ at_row test h level pos l p =
 unfoldable match_test : ℕ → ℕ → Bool
 match_test level pos = values_hold (get_or MATCHES (16 * level + pos) 0) (λ s. begins s (take level (digits 4 pos)))
 
-matches-right : rows match_test ≡ true
-unfolding rows below match_test values_hold each strings begins digits number
-matches-right = refl
-
 pub match-entry : (level pos : ℕ) → level ≤ 4 → pos < 16 → HoldsValues (get_or MATCHES (16 * level + pos) 0) (λ s. begins s (take level (digits 4 pos)))
-unfolding match_test
-match-entry level pos l p = values-held _ _ (at_row match_test matches-right level pos l p)
+unfolding rows below match_test values_hold each strings begins digits number
+match-entry level pos l p = values-held _ _ (at_row match_test refl level pos l p)
 
 unfoldable value_cover_test : ℕ → ℕ → Bool
 value_cover_test level pos = values_hold (get_or VALUES_COVERED (16 * level + pos) 0) (begins (take level (digits 4 pos)))
 
-value-covers-right : rows value_cover_test ≡ true
-unfolding rows below value_cover_test values_hold each strings begins digits number
-value-covers-right = refl
-
 pub value-cover-entry : (level pos : ℕ) → level ≤ 4 → pos < 16 → HoldsValues (get_or VALUES_COVERED (16 * level + pos) 0) (begins (take level (digits 4 pos)))
-unfolding value_cover_test
+unfolding rows below value_cover_test values_hold each strings begins digits number
 value-cover-entry level pos l p =
-    values-held _ _ (at_row value_cover_test value-covers-right level pos l p)
+    values-held _ _ (at_row value_cover_test refl level pos l p)
 
 unfoldable child_cover_test : ℕ → ℕ → Bool
 child_cover_test level pos = children_hold (get_or CHILDREN_COVERED (16 * level + pos) 0) (begins (take level (digits 4 pos)))
 
-child-covers-right : rows child_cover_test ≡ true
-unfolding rows below child_cover_test children_hold each strings begins digits number
-child-covers-right = refl
-
 pub child-cover-entry : (level pos : ℕ) → level ≤ 4 → pos < 16 → HoldsChildren (get_or CHILDREN_COVERED (16 * level + pos) 0) (begins (take level (digits 4 pos)))
-unfolding child_cover_test
+unfolding rows below child_cover_test children_hold each strings begins digits number
 child-cover-entry level pos l p =
-    children-held _ _ (at_row child_cover_test child-covers-right level pos l p)
+    children-held _ _ (at_row child_cover_test refl level pos l p)
 
 -- ---- what comes from a value bit on, and behind a child bit
 
 unfoldable from_value_test : List Bool → Bool
 from_value_test t = places_hold (get_or FROM_VALUE (value_bit t) (0, 0)).0 (get_or FROM_VALUE (value_bit t) (0, 0)).1 (λ s. not (is_before s t))
 
-from-values-right : each from_value_test (strings 4) ≡ true
-unfolding from_value_test places_hold each strings number
-from-values-right = refl
-
 pub from-value-entry : (b : ℕ) (t : List Bool) → length t ≤ 4 → value_bit t ≡ b → HoldsPlaces (get_or FROM_VALUE b (0, 0)).0 (get_or FROM_VALUE b (0, 0)).1 (λ s. not (is_before s t))
-unfolding from_value_test
+unfolding from_value_test places_hold each strings number
 from-value-entry b t l e =
     subst (λ k. HoldsPlaces (get_or FROM_VALUE k (0, 0)).0 (get_or FROM_VALUE k (0, 0)).1 (λ s. not (is_before s t))) e
-    (places-held _ _ _ (at_string 4 from_value_test from-values-right t l))
+    (places-held _ _ _ (at_string 4 from_value_test refl t l))
 
 unfoldable behind_child_test : List Bool → Bool
 behind_child_test t = not (nat_eq (length t) 5) || places_hold (get_or BEHIND_CHILD (number t) (0, 0)).0 (get_or BEHIND_CHILD (number t) (0, 0)).1 (is_before t)
 
-behind-children-right : each behind_child_test (strings 5) ≡ true
-unfolding behind_child_test places_hold each strings number
-behind-children-right = refl
-
 pub behind-child-entry : (b : ℕ) (t : List Bool) → length t ≡ 5 → number t ≡ b → HoldsPlaces (get_or BEHIND_CHILD b (0, 0)).0 (get_or BEHIND_CHILD b (0, 0)).1 (is_before t)
-unfolding behind_child_test
+unfolding behind_child_test places_hold each strings number
 behind-child-entry b t l e =
     subst (λ k. HoldsPlaces (get_or BEHIND_CHILD k (0, 0)).0 (get_or BEHIND_CHILD k (0, 0)).1 (is_before t)) e
-    (places-held _ _ _ (of-five (length t) _ l (at_string 5 behind_child_test behind-children-right t (omega arith))))
+    (places-held _ _ _ (of-five (length t) _ l (at_string 5 behind_child_test refl t (omega arith))))
 
 -- ---- what a value bit's string does not begin
 
@@ -136,12 +116,8 @@ bits-held mask test (s ∷ ss) h (suc i) l = has-suc mask i ∙ bits-held (mask 
 unfoldable not_below_test : List Bool → Bool
 not_below_test t = bits_hold (get_or NOT_BELOW (value_bit t) 0) (λ s. not (begins t s)) (strings 5)
 
-not-below-right : each not_below_test (strings 4) ≡ true
-unfolding not_below_test bits_hold each strings begins number
-not-below-right = refl
-
 pub not-below-entry : (b : ℕ) (t : List Bool) → length t ≤ 4 → value_bit t ≡ b → HoldsPositions (get_or NOT_BELOW b 0) (λ s. not (begins t s))
-unfolding not_below_test
+unfolding not_below_test bits_hold each strings begins number
 not-below-entry b t l e =
     subst (λ k. HoldsPositions (get_or NOT_BELOW k 0) (λ s. not (begins t s))) e
-    (bits-held _ _ (strings 5) (at_string 4 not_below_test not-below-right t l))
+    (bits-held (get_or NOT_BELOW (value_bit t) 0) (λ s. not (begins t s)) (strings 5) (at_string 4 not_below_test refl t l))

@@ -103,15 +103,8 @@ covered-halves (suc w) ks =
     by same [] = covered-none (suc w)
     by same (k ∷ rest) = covered-suc w (k ∷ rest) ∙ ap₂ (λ a b. a + b) (same (tails false (k ∷ rest))) (same (tails true (k ∷ rest)))
 
-twice : (w a b : ℕ) → a ≤ 2 ^ w → b ≤ 2 ^ w → a + b ≤ 2 ^ suc w
-twice w a b e f = omega (arith, e, f)
-
-one_or_none : (b : Bool) → cond b 1 0 ≤ 1
-one_or_none true = omega arith
-one_or_none false = omega arith
-
 pub covered-most : (w : ℕ) (ks : List (List Bool)) → covered w ks ≤ 2 ^ w
-covered-most zero ks = subst (λ n. n ≤ 1) (sym (one-key ks)) (one_or_none (list_any is_root ks))
+covered-most zero ks = subst (λ n. n ≤ 1) (sym (one-key ks)) (elim (list_any is_root ks) as (λ b. ◌≤◌ (cond b 1 0) 1) [ true ↦ omega arith | false ↦ omega arith ])
 covered-most (suc w) ks =
     subst (λ n. n ≤ 2 ^ suc w) (sym (covered-suc w ks))
-    (twice w (covered w (tails false ks)) (covered w (tails true ks)) (covered-most w (tails false ks)) (covered-most w (tails true ks)))
+    (omega (arith, covered-most w (tails false ks), covered-most w (tails true ks)))

@@ -1,5 +1,5 @@
 -- Where a question's own node stands.
-use Rattle.std.proofs.Common.{◌≡◌, ℕ, ◌+◌, ◌*◌, ◌/◌, ◌%◌, ◌<◌, ◌≤◌, Bool, true, List, length, sym, ◌∙◌, arith, length-take-le}
+use Rattle.std.proofs.Common.{◌≡◌, ◌+◌, ◌*◌, ◌/◌, ◌%◌, ◌<◌, ◌≤◌, Bool, true, List, length, sym, ◌∙◌, arith, length-take-le}
 use Rattle.prefix_trie_bits.specs.Bits.{begins}
 use Rattle.prefix_trie_bits.specs.Begins.{take-begins, begins-linear, begins-length, begins-same-length}
 use Rattle.prefix_trie_bits.specs.Model.Nodes.{home}
@@ -10,26 +10,17 @@ home-begins q = take-begins (5 * (length q / 5)) q
 pub home-length : (q : List Bool) → length (home q) ≡ 5 * (length q / 5)
 home-length q = length-take-le (5 * (length q / 5)) q (omega arith)
 
-times-five : (l k : ℕ) → l ≡ 5 * k → l % 5 ≡ 0
-times-five l k e = omega (arith, e)
-
 pub home-depth : (q : List Bool) → length (home q) % 5 ≡ 0
-home-depth q = times-five (length (home q)) (length q / 5) (home-length q)
-
-below-fifth : (s l : ℕ) → s ≤ l → s % 5 ≡ 0 → s ≤ 5 * (l / 5)
-below-fifth s l h e = omega (arith, h, e)
+home-depth q = let e = home-length q in omega (arith, e)
 
 -- each beginning of such a length begins it
 pub home-longest : (s q : List Bool) → begins s q ≡ true → length s % 5 ≡ 0 → begins s (home q) ≡ true
 home-longest s q e five =
-    let short : length s ≤ length (home q) = omega (arith, home-length q, below-fifth (length s) (length q) (begins-length s q e) five) in
+    let short : length s ≤ length (home q) = omega (arith, home-length q, begins-length s q e, five) in
     begins-linear s (home q) q e (home-begins q) short
-
-multiple : (l k : ℕ) → l % 5 ≡ 0 → l ≤ k → k < l + 5 → l ≡ 5 * (k / 5)
-multiple l k e h less = omega (arith, e, h, less)
 
 -- an own key's node is the key's home
 pub own_home : (p q : List Bool) → length p % 5 ≡ 0 → begins p q ≡ true → length q < length p + 5 → p ≡ home q
 own_home p q depth b less =
-    let e = multiple (length p) (length q) depth (begins-length p q b) less in
+    let e : length p ≡ 5 * (length q / 5) = omega (arith, depth, begins-length p q b, less) in
     begins-same-length p (home q) (home-longest p q b depth) (e ∙ sym (home-length q))

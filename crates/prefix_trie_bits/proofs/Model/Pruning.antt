@@ -224,9 +224,6 @@ pub near_is : (n : Nodes) (q s : List Bool) → has_node (nodes_not_below n q) s
 near_is n q s e b = same_string-is s (home q) (follows (begins q s) (same_string s (home q))
     (and-first (not (begins q s) || same_string s (home q)) (has_node n s) (sym (has-retained n (λ t. not (begins q t) || same_string t (home q)) s) ∙ e)) b)
 
-near_home : (n : Nodes) (q : List Bool) → has_node n (home q) ≡ true → has_node (nodes_not_below n q) (home q) ≡ true
-near_home n q e = near_stays n q (home q) e (or-right (not (begins q (home q))) (same_string (home q) (home q)) (is-same_string (home q) (home q) refl))
-
 -- a beginning of q's own node that q begins is that node
 home_only : (q s : List Bool) → begins q s ≡ true → begins s (home q) ≡ true → s ≡ home q
 home_only q s b e = begins-antisymm s (home q) e (begins-trans (home q) q s (home-begins q) b)
@@ -255,7 +252,7 @@ module _ {T : Type 0} where
   below_by width m n q good true at = is_pruning width m (without_below m q) n (nodes_not_below n q) q (record {
     kept = below_kept m q;
     sub = near_stood n q;
-    home_stays = near_home n q;
+    home_stays = λ e. near_stays n q (home q) e (or-right (not (begins q (home q))) (same_string (home q) (home q)) (is-same_string (home q) (home q) refl));
     near = λ _ t k here five has gone h. by_length t k here five (below_gone m q k has gone) h;
     good = near_nodes_good width m n q good;
   })

@@ -5,7 +5,7 @@ use Rattle.std.specs.List.{All}
 use Rattle.std.specs.FinMap.{get, contains_key, len, get-empty}
 use Rattle.prefix_trie_bits.specs.Bits.{begins}
 use Rattle.prefix_trie_bits.specs.Order.{listing_cmp, same_string}
-use Rattle.prefix_trie_bits.specs.Model.Entries.{Entries, AreWithin, no_entries, with_entry, without_entry, without_below, part_at_least}
+use Rattle.prefix_trie_bits.specs.Model.Entries.{Entries, AreWithin, with_entry, without_entry, without_below, part_at_least}
 use Rattle.prefix_trie_bits.specs.Model.Nodes.{Nodes, with_needed, needed, AreNodes, IsTidy, nodes_without}
 use Rattle.prefix_trie_bits.specs.Model.Step.{State, Call, Insert, Remove, RemoveKeepTree, RemoveChildren, RetainAtLeast, Clear, NodeCount, CallFits, Reply, Count, Refused, Refusal, Step, Run}
 use Rattle.prefix_trie_bits.specs.Laws.Steps.{IsMap, StepKeeps, StepLaws, touches}
@@ -34,9 +34,6 @@ module _ {T : Type 0} where
   tidy_cond m n s v tidy true e = tidy ∙ needed_stored m s v e
   tidy_cond m n s v tidy false e = ap (λ x. with_needed x s) tidy ∙ needed_insert m s v
 
-none_within : (T : Type 0) (width : ℕ) → AreWithin width (no_entries {T = T})
-none_within T width k e = absurd (true≢false (sym e ∙ ap is_some (get-empty listing_cmp k)))
-
 module _ {P T : Type 0} (path : P → List Bool) (back : List Bool → P) (width : ℕ) where
   same_state : (s t : State T) → t ≡ s → IsMap width s → IsMap width t
   same_state s t e h = subst (IsMap width) (sym e) h
@@ -54,7 +51,7 @@ module _ {P T : Type 0} (path : P → List Bool) (back : List Bool → P) (width
   stays_map s (RetainAtLeast n) reply t fits (r, e) h =
       let within = fewer_within width s.entries (part_at_least s.entries n) (part_fewer s.entries n) h.keys_within in
       subst (IsMap width) (sym e) (record { keys_within = within; are_nodes = AreNodes-needed width (part_at_least s.entries n) within })
-  stays_map s Clear reply t fits (r, e) h = subst (IsMap width) (sym e) (record { keys_within = none_within T width; are_nodes = AreNodes-no_entries width })
+  stays_map s Clear reply t fits (r, e) h = subst (IsMap width) (sym e) (record { keys_within = λ k e. absurd (true≢false (sym e ∙ ap is_some (get-empty listing_cmp k))); are_nodes = AreNodes-no_entries width })
   stays_map s call reply t fits step h = same_state s t step.1 h
 
   abbrev TidyState : State T → Type 0

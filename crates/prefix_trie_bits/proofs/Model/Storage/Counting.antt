@@ -1,10 +1,9 @@
 -- How many keys of a map pass a test as entries go and come, and how many blocks of a size are in use.
 use Rattle.std.proofs.Common.{◌≡◌, ℕ, suc, ◌+◌, ◌-◌, ◌≤◌, ◌==◌, Bool, true, false, cond, not, ◌&&◌, List, [], ◌∷◌, ◌++◌, length, filter, map, drop, Option, None, Some, Less, Equal, Greater, is_some, refl, sym, ap, ◌∙◌, subst, arith, inl, inr, true≢false}
-use Rattle.std.proofs.lemmas.List.Recursion.{is_count_by}
-use Rattle.std.proofs.lemmas.List.Sums.{count_by-le-length, length-filter}
+use Rattle.std.proofs.lemmas.List.Sums.{count_by-le-length, length-filter, sum_by-cons}
 use Rattle.std.specs.Prelude.{count_by}
 use Rattle.std.specs.List.{list_any}
-use Rattle.std.specs.FinMap.{FinMap, get, insert, remove, retain_keys, contains_key, keys, values, entries, len, empty, get-empty, get-insert, get-retain_keys, len-entries, len-empty, len-insert, len-remove, entries-insert}
+use Rattle.std.specs.FinMap.{FinMap, get, insert, remove, retain_keys, contains_key, keys, entries, len, empty, get-empty, get-insert, get-retain_keys, len-entries, len-empty, len-insert, len-remove, entries-insert}
 use Rattle.std.specs.FinMap.Entries.{put, by_order}
 use Rattle.prefix_trie_bits.specs.Begins.{begins-rest}
 use Rattle.prefix_trie_bits.specs.Bits.{begins}
@@ -147,64 +146,38 @@ module _ {X : Type 0} where
 
 -- ---- blocks in use
 
-abbrev many : (ℕ → Bool) → List ℕ → ℕ
-many f [] = 0
-many f (x ∷ xs) = cond (f x) (1 + many f xs) (many f xs)
-
-many-is : (f : ℕ → Bool) (m : Sizes) → count_by f (values m) ≡ many f (map (λ e. e.1) (entries m))
-many-is f m = sym (is_count_by (many f) f refl (λ x xs. refl) (values m))
-
 abbrev at_values : (ℕ → Bool) → List (List Bool × ℕ) → ℕ
-at_values f es = many f (map (λ e. e.1) es)
+at_values f es = count_by f (map (λ e. e.1) es)
 
-one_no : (b : Bool) (n : ℕ) → cond b (1 + n) n ≤ n + cond b 1 0
-one_no true n = omega arith
-one_no false n = omega arith
-
-in_place : (b c : Bool) (n : ℕ) → cond b (1 + n) n ≤ cond c (1 + n) n + cond b 1 0
-in_place true true n = omega arith
-in_place false true n = omega arith
-in_place b c n = omega arith
-
-later : (b : Bool) (x y d : ℕ) → x ≤ y + d → cond b (1 + x) x ≤ cond b (1 + y) y + d
-later true x y d h = omega (arith, h)
-later false x y d h = h
-
-gone : (b : Bool) (x y : ℕ) → x ≤ y → x ≤ cond b (1 + y) y
-gone true x y h = omega (arith, h)
-gone false x y h = h
+at_more : (f : ℕ → Bool) (e : List Bool × ℕ) (es : List (List Bool × ℕ)) → at_values f (e ∷ es) ≡ cond (f e.1) 1 0 + at_values f es
+at_more f e es = sum_by-cons (λ n. cond (f n) 1 0) e.1 (map (λ x. x.1) es)
 
 kept_values : (f : ℕ → Bool) (r : List Bool → Bool) (es : List (List Bool × ℕ)) → at_values f (filter (λ e. r e.0) es) ≤ at_values f es
 kept_values f r [] = omega arith
 kept_values f r (e ∷ es) =
     let rest = kept_values f r es in
+    let more = at_more f e es in
     elim (r e.0) as (λ b. at_values f (cond b (e ∷ filter (λ x. r x.0) es) (filter (λ x. r x.0) es)) ≤ at_values f (e ∷ es)) [
-      | true ↦ (let h = later (f e.1) (at_values f (filter (λ x. r x.0) es)) (at_values f es) 0 (let g = rest in omega (arith, g)) in omega (arith, h))
-      | false ↦ gone (f e.1) (at_values f (filter (λ x. r x.0) es)) (at_values f es) rest
+      | true ↦ omega (arith, rest, more, at_more f e (filter (λ x. r x.0) es))
+      | false ↦ omega (arith, rest, more)
     ]
 
 put_values : (f : ℕ → Bool) (k : List Bool) (v : ℕ) (es : List (List Bool × ℕ)) → at_values f (put listing_cmp k v es) ≤ at_values f es + cond (f v) 1 0
-put_values f k v [] = one_no (f v) 0
-put_values f k v (e ∷ es) = elim (listing_cmp k e.0) as (λ o. at_values f (by_order o ((k, v) ∷ e ∷ es) ((e.0, v) ∷ es) (e ∷ put listing_cmp k v es)) ≤ at_values f (e ∷ es) + cond (f v) 1 0) [
-  | Less ↦ one_no (f v) (at_values f (e ∷ es))
-  | Equal ↦ in_place (f v) (f e.1) (at_values f es)
-  | Greater ↦ later (f e.1) (at_values f (put listing_cmp k v es)) (at_values f es) (cond (f v) 1 0) (put_values f k v es)
+put_values f k v [] = omega (arith, at_more f (k, v) [])
+put_values f k v (e ∷ es) = let more = at_more f e es in elim (listing_cmp k e.0) as (λ o. at_values f (by_order o ((k, v) ∷ e ∷ es) ((e.0, v) ∷ es) (e ∷ put listing_cmp k v es)) ≤ at_values f (e ∷ es) + cond (f v) 1 0) [
+  | Less ↦ omega (arith, at_more f (k, v) (e ∷ es))
+  | Equal ↦ omega (arith, more, at_more f (e.0, v) es)
+  | Greater ↦ omega (arith, more, put_values f k v es, at_more f e (put listing_cmp k v es))
 ]
 
 -- no more are in use where nodes go
 pub used-kept : (m : Sizes) (r : List Bool → Bool) (size : ℕ) → used_of (retain_keys m r) size ≤ used_of m size
 used-kept m r size =
     let f : ℕ → Bool = λ n. n == size in
-    let few = subst (λ es. at_values f es ≤ at_values f (entries m)) (sym (entries-retained m r)) (kept_values f r (entries m)) in
-    let a = many-is f (retain_keys m r) in
-    let b = many-is f m in
-    omega (arith, few, a, b)
+    subst (λ es. at_values f es ≤ at_values f (entries m)) (sym (entries-retained m r)) (kept_values f r (entries m))
 
 -- and one more at most where a block is taken
 pub used-taken : (m : Sizes) (k : List Bool) (v size : ℕ) → used_of (insert m k v) size ≤ used_of m size + one_of (Some v) size
 used-taken m k v size =
     let f : ℕ → Bool = λ n. n == size in
-    let few = subst (λ es. at_values f es ≤ at_values f (entries m) + cond (f v) 1 0) (sym (entries-insert listing_total m k v)) (put_values f k v (entries m)) in
-    let a = many-is f (insert m k v) in
-    let b = many-is f m in
-    omega (arith, few, a, b)
+    subst (λ es. at_values f es ≤ at_values f (entries m) + cond (f v) 1 0) (sym (entries-insert listing_total m k v)) (put_values f k v (entries m))

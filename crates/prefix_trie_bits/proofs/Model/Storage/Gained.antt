@@ -4,11 +4,10 @@ use Rattle.std.specs.Prelude.{filter_map, option_to_list}
 use Rattle.std.specs.Option.{option_or}
 use Rattle.std.specs.List.{list_any, cons_option}
 use Rattle.std.specs.FinMap.{get}
-use Rattle.prefix_trie_bits.specs.Bits.{begins}
 use Rattle.prefix_trie_bits.specs.Order.{same_string}
 use Rattle.prefix_trie_bits.specs.Model.Blocks.{Sizes, child_block_sizes, value_block_sizes, free_of, used_of, one_of}
 use Rattle.prefix_trie_bits.specs.Model.Insertion.{gains_child, child_block_needed, value_block_needed, child_blocks_needed, value_blocks_needed, child_blocks_lacking, value_blocks_lacking, node_slots_lacking, cell_slots_lacking, lacking_of, TakesBlocks}
-use Rattle.prefix_trie_bits.specs.Model.Nodes.{Nodes, has_node, home, nodes_above, is_node_depth}
+use Rattle.prefix_trie_bits.specs.Model.Nodes.{has_node, home, nodes_above}
 use Rattle.prefix_trie_bits.specs.Model.Step.{State}
 use Rattle.prefix_trie_bits.specs.Model.Storage.{Storage, InsertsInStorage}
 use Rattle.prefix_trie_bits.proofs.Model.Members.{same_string-is, any-node_above}
@@ -70,9 +69,6 @@ few_lack sizes free needed used old size h = omega (arith, h)
 none_of : (b : Bool) (o : Option ℕ) → b ≡ false → cond b o None ≡ None
 none_of b o e = ap (λ c. cond c o None) e
 
-gains_way : (n : Nodes) (q p : List Bool) → (is_node_depth p && begins p q) ≡ false → gains_child n q p ≡ false
-gains_way n q p e = ap (λ b. b && (nat_lt (length p) (length (home q)) && not (has_node n (take (length p + 5) q)))) e
-
 pub one_list : (o : Option ℕ) → ◌≡◌ {A = List ℕ} (cons_option o []) (option_to_list o)
 one_list None = refl
 one_list (Some n) = refl
@@ -120,7 +116,7 @@ module _ {T : Type 0} (s : State T) (q : List Bool) (before : Storage) where
     node_slots = refl;
     cell_slots = refl;
     child_blocks = takes_all (child_block_needed s.nodes before.layout.child_blocks q) (nodes_above q) before.layout.child_blocks
-        (λ p away. none_of (gains_child s.nodes q p) _ (gains_way s.nodes q p (sym (any-node_above p q) ∙ away)));
+        (λ p away. none_of (gains_child s.nodes q p) _ (ap (λ b. b && (nat_lt (length p) (length (home q)) && not (has_node s.nodes (take (length p + 5) q)))) (sym (any-node_above p q) ∙ away)));
     value_blocks = takes_all (value_block_needed s.entries before.layout.value_blocks q) (home q ∷ []) before.layout.value_blocks
         (λ p away. none_of (same_string p (home q)) _ (first_false (same_string p (home q)) away));
     child_blocks_made = λ size at. as_many child_block_sizes all_children children size (children_few size) at;

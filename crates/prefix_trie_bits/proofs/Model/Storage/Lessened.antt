@@ -160,12 +160,6 @@ new_have T = bare_have (record { entries = new_entries; nodes = root_alone }) (�
 
 -- ---- one entry
 
-next_level : (l : ℕ) → l % 5 ≡ 0 → 5 * (l / 5 + 1) ≡ l + 5
-next_level l e = omega (arith, e)
-
-levels_within : (l k : ℕ) → l + 5 ≤ 5 * k → l / 5 + 1 ≤ k
-levels_within l k h = omega (arith, h)
-
 -- on the way to a question a string is that of its level
 on_way : (p q : List Bool) → length p % 5 ≡ 0 → begins p q ≡ true → at_level q (length p / 5) ≡ p
 on_way p q depth b = ap (λ n. take n q) (fives (length p) depth) ∙ begins-take p q b
@@ -211,8 +205,8 @@ module _ {T : Type 0} (width : ℕ) (s t : State T) (left : IsLeft width s t) (q
   lost_child at last p c depth there missing b long on =
       let in_q = begins-trans c (home q) q on (home-begins q) in
       let p_is = on_way p q depth (begins-trans p c q b in_q) in
-      let c_is : at_level q (length p / 5 + 1) ≡ c = ap (λ n. take n q) (next_level (length p) depth ∙ sym long) ∙ begins-take c q in_q in
-      let inside : length p / 5 + 1 ≤ length q / 5 = levels_within (length p) (length q / 5) (let short = begins-length c (home q) on in let h = home-length q in omega (arith, short, h, long)) in
+      let c_is : at_level q (length p / 5 + 1) ≡ c = ap (λ n. take n q) (let e : 5 * (length p / 5 + 1) ≡ length p + 5 = omega (arith, depth) in e ∙ sym long) ∙ begins-take c q in_q in
+      let inside : length p / 5 + 1 ≤ length q / 5 = (let short = begins-length c (home q) on in let h = home-length q in omega (arith, short, h, long)) in
       sym p_is ∙ last (length p / 5) inside (ap (has_node t.nodes) p_is ∙ there) (ap (has_node t.nodes) c_is ∙ missing)
 
   children_alone : t.nodes ≡ nodes_without s.nodes s.entries q → (at : List Bool)

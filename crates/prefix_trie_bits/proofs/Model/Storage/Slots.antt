@@ -139,9 +139,6 @@ total_most most o m few = one o few
 
 -- ---- an insertion
 
-few_levels : (l level : ℕ) → l ≤ 128 → l / 5 - (level + 1) ≤ 24
-few_levels l level h = omega (arith, h)
-
 module _ {T : Type 0} (width : ℕ) (s : State T) (layout : Layout) (are : AreNodes width s.entries s.nodes) (have : HaveBlocks s layout) (q : List Bool) where
   pub nodes_most : length q ≤ 128 → node_slots_lacking s.nodes layout q ≤ 56
   nodes_most short =
@@ -155,7 +152,7 @@ module _ {T : Type 0} (width : ℕ) (s : State T) (layout : Layout) (are : AreNo
             let bound = total_most 32 o (length q / 5 - (some.0 + 1)) (needed_most 32 (lit≤ tt) (get layout.child_blocks (at_level q some.0)) (child_count s.nodes (at_level q some.0))) in
             most _ (blocks_needed s.nodes layout.child_blocks q (length q / 5) refl some.0 some.1 some.2 some.3 (λ i more inside.
             (have.child_blocks.elsewhere (at_level q i) (some.3 i more inside), no_children_at width s.entries s.nodes are q i inside (some.3 i more inside))))
-            (let few = few_levels (length q) some.0 short in omega (arith, bound, few))
+            (omega (arith, bound, short))
       ]
 
   pub cells_most : cell_slots_lacking s.entries layout q ≤ 31

@@ -1,5 +1,5 @@
 -- After an insertion each node has its blocks again.
-use Rattle.std.proofs.Common.{◌≡◌, ℕ, ◌+◌, ◌*◌, ◌/◌, ◌%◌, ◌<◌, ◌≤◌, ◌==◌, inl, inr, Bool, true, false, cond, not, ◌&&◌, ◌||◌, nat_lt, List, length, take, drop, filter, Option, None, Some, refl, sym, ap, ◌∙◌, subst, arith, eqb-true, eq-eqb, ltb-true, true≢false, length-take-le, length-drop}
+use Rattle.std.proofs.Common.{◌≡◌, ℕ, ◌+◌, ◌%◌, ◌<◌, ◌≤◌, ◌==◌, inl, inr, Bool, true, false, cond, not, ◌&&◌, ◌||◌, nat_lt, List, length, take, drop, filter, Option, None, Some, refl, sym, ap, ◌∙◌, subst, arith, eqb-true, eq-eqb, ltb-true, true≢false, length-take-le, length-drop}
 use Rattle.std.proofs.lemmas.Bool.{cases_Bool, lt-ltb}
 use Rattle.std.specs.Prelude.{Contains}
 use Rattle.std.specs.Option.{option_or}
@@ -136,18 +136,6 @@ entries_most m p =
 
 -- ---- the nodes and entries after an insertion
 
-below_home : (l k : ℕ) → l % 5 ≡ 0 → l + 5 ≤ k → l < 5 * (k / 5)
-below_home l k e h = omega (arith, e, h)
-
-above_home : (l k : ℕ) → l % 5 ≡ 0 → l < 5 * (k / 5) → l + 5 ≤ k
-above_home l k e h = omega (arith, e, h)
-
-five_more : (l k : ℕ) → l % 5 ≡ 0 → k ≡ l + 5 → k % 5 ≡ 0
-five_more l k e f = omega (arith, e, f)
-
-within_five : (l k : ℕ) → l ≡ 5 * (k / 5) → k < l + 5
-within_five l k e = omega (arith, e)
-
 module _ (n : Nodes) (q p : List Bool) (depth : length p % 5 ≡ 0) where
   abbrev next : List Bool
   next = take (length p + 5) q
@@ -163,7 +151,7 @@ module _ (n : Nodes) (q p : List Bool) (depth : length p % 5 ≡ 0) where
       (λ on. is-same_string k next (sym (begins-take k q (and-first (begins k q) (is_node_depth k) on)) ∙ ap (λ l. take l q) long))
       (λ same.
       let is = same_string-is k next same in
-      and-join (begins k q) (is_node_depth k) (subst (λ x. begins x q ≡ true) (sym is) (take-begins (length p + 5) q)) (eq-eqb (length k % 5) 0 (five_more (length p) (length k) depth long)))
+      and-join (begins k q) (is_node_depth k) (subst (λ x. begins x q ≡ true) (sym is) (take-begins (length p + 5) q)) (eq-eqb (length k % 5) 0 (let e : length k % 5 ≡ 0 = omega (arith, depth, long) in e)))
 
   children_as_one : child_count (with_needed n q) p ≡ child_count (insert n next tt) p
   children_as_one = passing-len is_child (with_needed n q) ∙ ap (λ x. len x)
@@ -180,12 +168,12 @@ module _ (n : Nodes) (q p : List Bool) (depth : length p % 5 ≡ 0) where
       (λ child.
       let long = eqb-true (length next) (length p + 5) (and-second (begins p next) (length next == length p + 5) child) in
       let short = begins-length next q (take-begins (length p + 5) q) in
-      let less : length p < length (home q) = (let h = home-length q in let b = below_home (length p) (length q) depth (omega (arith, long, short)) in omega (arith, h, b)) in
+      let less : length p < length (home q) = (let h = home-length q in omega (arith, h, long, short, depth)) in
       and-join (begins p q) (nat_lt (length p) (length (home q))) (begins-trans p next q (and-first (begins p next) (length next == length p + 5) child) (take-begins (length p + 5) q))
       (lt-ltb (length p) (length (home q)) less))
       (λ on.
       let less = ltb-true (length p) (length (home q)) (and-second (begins p q) (nat_lt (length p) (length (home q))) on) in
-      let inside : length p + 5 ≤ length q = above_home (length p) (length q) depth (let h = home-length q in omega (arith, h, less)) in
+      let inside : length p + 5 ≤ length q = (let h = home-length q in omega (arith, h, less, depth)) in
       let long = length-take-le (length p + 5) q inside in
       and-join (begins p next) (length next == length p + 5)
       (begins-linear p next q (and-first (begins p q) (nat_lt (length p) (length (home q))) on) (take-begins (length p + 5) q) (omega (arith, long)))
@@ -205,7 +193,7 @@ module _ {T : Type 0} (m : Entries T) (q p : List Bool) (v : T) (depth : length 
       (ltb-true (length q) (length p + 5) (and-second (begins p q) (nat_lt (length q) (length p + 5)) own))))
       (λ same.
       let is = same_string-is p (home q) same in
-      let less : length q < length p + 5 = within_five (length p) (length q) (ap (λ s. length s) is ∙ home-length q) in
+      let less : length q < length p + 5 = (let e = ap (λ s. length s) is ∙ home-length q in omega (arith, e)) in
       and-join (begins p q) (nat_lt (length q) (length p + 5)) (subst (λ x. begins x q ≡ true) (sym is) (home-begins q)) (lt-ltb (length q) (length p + 5) less))
 
   -- the own node of a new key has one entry more

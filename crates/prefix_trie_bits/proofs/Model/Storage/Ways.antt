@@ -12,17 +12,11 @@ use Rattle.prefix_trie_bits.proofs.Model.Homes.{home-length}
 use Rattle.std.proofs.Math.Bool.{and-false}
 use Rattle.prefix_trie_bits.proofs.Model.Levels.{five_times, depth_of}
 
-five_same : (l : ℕ) → suc (suc (suc (suc (suc l)))) % 5 ≡ l % 5
-five_same l = omega arith
-
 five_next : (k l : ℕ) → k ≡ suc (suc (suc (suc (suc l)))) / 5 → k ≡ suc (l / 5)
 five_next k l e = omega (arith, e)
 
 take_five : (i : ℕ) (a b c d e : Bool) (s : List Bool) → take (5 * suc i) (a ∷ b ∷ c ∷ d ∷ e ∷ s) ≡ a ∷ b ∷ c ∷ d ∷ e ∷ take (5 * i) s
-take_five i a b c d e s = ap (λ k. take k (a ∷ b ∷ c ∷ d ∷ e ∷ s)) (five i)
-  where
-    five : (n : ℕ) → 5 * suc n ≡ suc (suc (suc (suc (suc (5 * n)))))
-    five n = omega arith
+take_five i a b c d e s = ap (λ k. take k (a ∷ b ∷ c ∷ d ∷ e ∷ s)) (let five : 5 * suc i ≡ suc (suc (suc (suc (suc (5 * i))))) = omega arith in five)
 
 module _ {X : Type 0} where
   behind_five : (h : List Bool → Option X) (a b c d e : Bool) (ss : List (List Bool)) →
@@ -32,7 +26,7 @@ module _ {X : Type 0} where
   behind_five h a b c d e (s ∷ ss) =
       let rest = behind_five h a b c d e ss in
       let long : List Bool = a ∷ b ∷ c ∷ d ∷ e ∷ s in
-      ap (λ x. filter_map h (cond (x == 0) (long ∷ filter is_node_depth (map (λ t. a ∷ t) (map (λ t. b ∷ t) (map (λ t. c ∷ t) (map (λ t. d ∷ t) (map (λ t. e ∷ t) ss)))))) (filter is_node_depth (map (λ t. a ∷ t) (map (λ t. b ∷ t) (map (λ t. c ∷ t) (map (λ t. d ∷ t) (map (λ t. e ∷ t) ss)))))))) (five_same (length s))
+      ap (λ x. filter_map h (cond (x == 0) (long ∷ filter is_node_depth (map (λ t. a ∷ t) (map (λ t. b ∷ t) (map (λ t. c ∷ t) (map (λ t. d ∷ t) (map (λ t. e ∷ t) ss)))))) (filter is_node_depth (map (λ t. a ∷ t) (map (λ t. b ∷ t) (map (λ t. c ∷ t) (map (λ t. d ∷ t) (map (λ t. e ∷ t) ss)))))))) (let e : suc (suc (suc (suc (suc (length s))))) % 5 ≡ length s % 5 = omega arith in e)
       ∙ elim (is_node_depth s) as (λ x. filter_map h (cond x (long ∷ filter is_node_depth (map (λ t. a ∷ t) (map (λ t. b ∷ t) (map (λ t. c ∷ t) (map (λ t. d ∷ t) (map (λ t. e ∷ t) ss)))))) (filter is_node_depth (map (λ t. a ∷ t) (map (λ t. b ∷ t) (map (λ t. c ∷ t) (map (λ t. d ∷ t) (map (λ t. e ∷ t) ss)))))))
       ≡ filter_map (λ t. h (a ∷ b ∷ c ∷ d ∷ e ∷ t)) (cond x (s ∷ filter is_node_depth ss) (filter is_node_depth ss))) [
         | true ↦ ap (cons_option (h long)) rest
