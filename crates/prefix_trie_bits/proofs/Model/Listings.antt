@@ -26,11 +26,8 @@ abbrev tail-of : List Bool → List Bool
 tail-of [] = []
 tail-of (b ∷ s) = s
 
-other-tail : (a b : Bool) (s t : List Bool) → (s ≢ t) → (a ∷ s ≢ b ∷ t)
-other-tail a b s t f e = f (ap tail-of e)
-
 longer : (b : Bool) (s t : List Bool) → IsBefore s t → IsBefore (b ∷ s) (b ∷ t)
-longer b s t (inl (e, f)) = inl (begins-cons b s t e, other-tail b b s t f)
+longer b s t (inl (e, f)) = inl (begins-cons b s t e, λ g. f (ap tail-of g))
 longer b s t (inr (c, x, y, e, f)) = inr (b ∷ c, x, y, ap (λ z. b ∷ z) e, ap (λ z. b ∷ z) f)
 
 less-before : (s t : List Bool) → listing_cmp s t ≡ Less → IsBefore s t
@@ -56,61 +53,44 @@ before-less s t (inr (c, x, y, e, f)) =
 back : (s t : List Bool) → listing_cmp s t ≡ Less → listing_cmp t s ≡ Greater
 back s t e = listing_total.antisymm t s ∙ ap ordering_reverse e
 
-le-lt : (o : Ordering) → is_lt o ≡ true → is_le o ≡ true
-le-lt Greater e = e
-le-lt o e = refl
-
 module _ {X : Type 0} where
-  all-behind : (s : List Bool) (es : List (List Bool × X)) → T (below_all listing_cmp s es) → filter (λ e. is_lt (listing_cmp s e.0)) es ≡ es
-  all-behind s [] h = refl
-  all-behind s (x ∷ es) h =
-      let all = t-true (is_lt (listing_cmp s x.0) && below_all listing_cmp s es) h in
-      let less = and-first (is_lt (listing_cmp s x.0)) (below_all listing_cmp s es) all in
-      ap (λ b. cond b (x ∷ filter (λ e. is_lt (listing_cmp s e.0)) es) (filter (λ e. is_lt (listing_cmp s e.0)) es)) less
-      ∙ ap (λ ys. x ∷ ys) (all-behind s es (true-t (below_all listing_cmp s es) (and-second (is_lt (listing_cmp s x.0)) (below_all listing_cmp s es) all)))
-
   -- what comes before the last item of a sorted list is before it
   heads-before : (x : List Bool × X) (read : List (List Bool × X)) (last : List Bool × X) (rest : List (List Bool × X)) → T (below_all listing_cmp x.0 (read ++ last ∷ rest)) → listing_cmp x.0 last.0 ≡ Less
   heads-before x [] last rest h = lt-less (listing_cmp x.0 last.0) (and-first (is_lt (listing_cmp x.0 last.0)) (below_all listing_cmp x.0 rest) (t-true (is_lt (listing_cmp x.0 last.0) && below_all listing_cmp x.0 rest) h))
   heads-before x (r ∷ read) last rest h =
       heads-before x read last rest (true-t (below_all listing_cmp x.0 (read ++ last ∷ rest)) (and-second (is_lt (listing_cmp x.0 r.0)) (below_all listing_cmp x.0 (read ++ last ∷ rest)) (t-true (is_lt (listing_cmp x.0 r.0) && below_all listing_cmp x.0 (read ++ last ∷ rest)) h)))
 
-  after-last : (read : List (List Bool × X)) (last : List Bool × X) (rest : List (List Bool × X)) → T (is_sorted listing_cmp (read ++ last ∷ rest)) → filter (λ e. is_lt (listing_cmp last.0 e.0)) (read ++ last ∷ rest) ≡ rest
-  after-last [] last rest h =
-      ap (λ o. cond (is_lt o) (last ∷ filter (λ e. is_lt (listing_cmp last.0 e.0)) rest) (filter (λ e. is_lt (listing_cmp last.0 e.0)) rest)) (listing-refl last.0)
-      ∙ all-behind last.0 rest (sorted-head last rest h)
-  after-last (x ∷ read) last rest h =
-      ap (λ o. cond (is_lt o) (x ∷ filter (λ e. is_lt (listing_cmp last.0 e.0)) (read ++ last ∷ rest)) (filter (λ e. is_lt (listing_cmp last.0 e.0)) (read ++ last ∷ rest)))
-      (back x.0 last.0 (heads-before x read last rest (sorted-head x (read ++ last ∷ rest) h)))
-      ∙ after-last read last rest (sorted-tail x (read ++ last ∷ rest) h)
+-- what stands behind an item, with it or without it, by a test of the order
+module _ {X : Type 0} (test : Ordering → Bool) (less : test Less ≡ true) (greater : test Greater ≡ false) where
+  abbrev those : List Bool → List (List Bool × X) → List (List Bool × X)
+  those s es = filter (λ e. test (listing_cmp s e.0)) es
 
-  all-from : (s : List Bool) (es : List (List Bool × X)) → T (below_all listing_cmp s es) → filter (λ e. is_le (listing_cmp s e.0)) es ≡ es
-  all-from s [] h = refl
-  all-from s (x ∷ es) h =
+  all-behind : (s : List Bool) (es : List (List Bool × X)) → T (below_all listing_cmp s es) → those s es ≡ es
+  all-behind s [] h = refl
+  all-behind s (x ∷ es) h =
       let all = t-true (is_lt (listing_cmp s x.0) && below_all listing_cmp s es) h in
-      let less = le-lt (listing_cmp s x.0) (and-first (is_lt (listing_cmp s x.0)) (below_all listing_cmp s es) all) in
-      ap (λ b. cond b (x ∷ filter (λ e. is_le (listing_cmp s e.0)) es) (filter (λ e. is_le (listing_cmp s e.0)) es)) less
-      ∙ ap (λ ys. x ∷ ys) (all-from s es (true-t (below_all listing_cmp s es) (and-second (is_lt (listing_cmp s x.0)) (below_all listing_cmp s es) all)))
+      ap (λ b. cond b (x ∷ those s es) (those s es)) (ap test (lt-less (listing_cmp s x.0) (and-first (is_lt (listing_cmp s x.0)) (below_all listing_cmp s es) all)) ∙ less)
+      ∙ ap (λ ys. x ∷ ys) (all-behind s es (true-t (below_all listing_cmp s es) (and-second (is_lt (listing_cmp s x.0)) (below_all listing_cmp s es) all)))
 
-  from-last : (read : List (List Bool × X)) (last : List Bool × X) (rest : List (List Bool × X)) → T (is_sorted listing_cmp (read ++ last ∷ rest)) → filter (λ e. is_le (listing_cmp last.0 e.0)) (read ++ last ∷ rest) ≡ last ∷ rest
+  from-last : (read : List (List Bool × X)) (last : List Bool × X) (rest : List (List Bool × X)) → T (is_sorted listing_cmp (read ++ last ∷ rest)) → those last.0 (read ++ last ∷ rest) ≡ cond (test Equal) (last ∷ rest) rest
   from-last [] last rest h =
-      ap (λ o. cond (is_le o) (last ∷ filter (λ e. is_le (listing_cmp last.0 e.0)) rest) (filter (λ e. is_le (listing_cmp last.0 e.0)) rest)) (listing-refl last.0)
-      ∙ ap (λ ys. last ∷ ys) (all-from last.0 rest (sorted-head last rest h))
+      ap (λ o. cond (test o) (last ∷ those last.0 rest) (those last.0 rest)) (listing-refl last.0)
+      ∙ ap (λ ys. cond (test Equal) (last ∷ ys) ys) (all-behind last.0 rest (sorted-head last rest h))
   from-last (x ∷ read) last rest h =
-      ap (λ o. cond (is_le o) (x ∷ filter (λ e. is_le (listing_cmp last.0 e.0)) (read ++ last ∷ rest)) (filter (λ e. is_le (listing_cmp last.0 e.0)) (read ++ last ∷ rest)))
-      (back x.0 last.0 (heads-before x read last rest (sorted-head x (read ++ last ∷ rest) h)))
+      ap (λ b. cond b (x ∷ those last.0 (read ++ last ∷ rest)) (those last.0 (read ++ last ∷ rest)))
+      (ap test (back x.0 last.0 (heads-before x read last rest (sorted-head x (read ++ last ∷ rest) h))) ∙ greater)
       ∙ from-last read last rest (sorted-tail x (read ++ last ∷ rest) h)
 
 module _ {T : Type 0} where
   resumes : (m : Entries T) (read : List (List Bool × T)) (last : List Bool × T) (rest : List (List Bool × T)) → listing m ≡ read ++ last ∷ rest → listing_after m last.0 ≡ rest
   resumes m read last rest e =
       ap (filter (λ x. is_lt (listing_cmp last.0 x.0))) e
-      ∙ after-last read last rest (subst (λ es. IsT (is_sorted listing_cmp es)) e (entries_sorted m))
+      ∙ from-last is_lt refl refl read last rest (subst (λ es. IsT (is_sorted listing_cmp es)) e (entries_sorted m))
 
   resumes_at : (m : Entries T) (read : List (List Bool × T)) (last : List Bool × T) (rest : List (List Bool × T)) → listing m ≡ read ++ last ∷ rest → listing_from m last.0 ≡ last ∷ rest
   resumes_at m read last rest e =
       ap (filter (λ x. is_le (listing_cmp last.0 x.0))) e
-      ∙ from-last read last rest (subst (λ es. IsT (is_sorted listing_cmp es)) e (entries_sorted m))
+      ∙ from-last is_le refl refl read last rest (subst (λ es. IsT (is_sorted listing_cmp es)) e (entries_sorted m))
 
   has_each : (m : Entries T) (s : List Bool) (v : T) → (get m s ≡ Some v) ↔ Contains (listing m) (s, v)
   has_each m s v = (

@@ -1,8 +1,9 @@
 -- The covers of a question, the first and the last of them.
-use Rattle.std.proofs.Common.{◌≡◌, ◌⊎◌, ◌≤◌, ◌<◌, Bool, true, false, cond, T, List, [], ◌∷◌, ◌++◌, length, is_some, Less, Option, Some, None, refl, sym, ap, ◌∙◌, subst, arith, inl, inr, true≢false, unwrap_or}
+use Rattle.std.proofs.Common.{◌≡◌, ◌⊎◌, ◌≤◌, ◌<◌, Bool, true, false, cond, T, List, [], ◌∷◌, ◌++◌, length, is_some, Less, Option, Some, None, refl, sym, ap, ◌∙◌, subst, arith, inl, inr, true≢false}
 use lib.Dec.{T as IsT}
 use Rattle.std.proofs.lemmas.List.Elements.{Contains-append_left, Contains-append_right, Contains-push}
 use Rattle.std.specs.List.{list_any, Contains}
+use Rattle.std.proofs.lemmas.Option.{same_Some}
 use Rattle.std.specs.FinMap.{entries, entries_sorted, get, contains_key, keys, get-entries, is_sorted, find}
 use Rattle.std.specs.FinMap.Entries.{is_sorted-where_key, find-where_key}
 use Rattle.prefix_trie_bits.specs.Bits.{begins}
@@ -16,9 +17,6 @@ use Rattle.prefix_trie_bits.proofs.Model.Ordered.{each-behind, sorted-tail, sort
 
 pub one_of_length : (q s t : List Bool) → begins s q ≡ true → begins t q ≡ true → length s ≡ length t → s ≡ t
 one_of_length q s t e f l = begins-same-length s t (begins-linear s t q e f (omega (arith, l))) l
-
-same_Some : {A : Type 0} (x y : A) → Some x ≡ Some y → x ≡ y
-same_Some x y e = ap (λ o. unwrap_or o x) e
 
 shorter-or-same : (q s t : List Bool) → begins s q ≡ true → begins t q ≡ true → (s ≡ t) ⊎ (listing_cmp s t ≡ Less) → length s ≤ length t
 shorter-or-same q s t e f (inl same) = omega (arith, ap length same)

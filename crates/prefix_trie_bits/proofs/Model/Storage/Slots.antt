@@ -34,12 +34,9 @@ total (x ∷ xs) = x + total xs
 abbrev pub how_many : ℕ → List ℕ → ℕ
 how_many size needed = length (filter (λ s. s == size) needed)
 
-length-if : (b : Bool) (x : ℕ) (xs : List ℕ) → length (cond b (x ∷ xs) xs) ≡ cond b 1 0 + length xs
-length-if true x xs = omega arith
-length-if false x xs = omega arith
-
 pub how_many-more : (size x : ℕ) (xs : List ℕ) → how_many size (x ∷ xs) ≡ cond (x == size) 1 0 + how_many size xs
-how_many-more size x xs = length-if (x == size) x (filter (λ s. s == size) xs)
+how_many-more size x xs =
+    elim (x == size) as (λ b. length (cond b (x ∷ filter (λ s. s == size) xs) (filter (λ s. s == size) xs)) ≡ cond b 1 0 + how_many size xs) [ true ↦ omega arith | false ↦ omega arith ]
 
 more_below : (least : ℕ) (sizes : List ℕ) → rising least sizes ≡ true → (x : ℕ) (xs : List ℕ) → x ≤ least →
     lacking_slots sizes [] (x ∷ xs) ≤ lacking_slots sizes [] xs

@@ -100,18 +100,11 @@ any-short : (s : List Bool) → length s ≤ 4 → list_any (same_string s) (str
 unfolding each strings
 any-short s h = at_string 4 (λ r. list_any (same_string r) (strings 4)) refl s h
 
-count-five : length of_five ≡ 32
-unfolding strings
-count-five = refl
-
-count-short : length (strings 4) ≡ 31
-unfolding strings
-count-short = refl
-
 behind : (p k : List Bool) (l : ℕ) → length k ≡ length p + l → length (drop (length p) k) ≡ l
 behind p k l e = (let d = length-drop (length p) k in omega (arith, d, e))
 
 children_most : (n : Nodes) (p : List Bool) → child_count n p ≤ 32
+unfolding strings
 children_most n p =
     let test : List Bool → Bool = λ k. begins p k && (length k == length p + 5) in
     let few = few_behind p of_five (retain_keys n test) (λ k has.
@@ -119,10 +112,11 @@ children_most n p =
     let long = eqb-true (length k) (length p + 5) (and-second (begins p k) (length k == length p + 5) child) in
     (and-first (begins p k) (length k == length p + 5) child, any-five (drop (length p) k) (behind p k 5 long))) in
     let is = passing-len test n in
-    let count = count-five in
+    let count : length of_five ≡ 32 = refl in
     omega (arith, few, is, count)
 
 entries_most : {T : Type 0} (m : Entries T) (p : List Bool) → own_entries m p ≤ 31
+unfolding strings
 entries_most m p =
     let test : List Bool → Bool = λ k. begins p k && nat_lt (length k) (length p + 5) in
     let few = few_behind p (strings 4) (retain_keys m test) (λ k has.
@@ -131,7 +125,7 @@ entries_most m p =
     let d = length-drop (length p) k in
     (and-first (begins p k) (nat_lt (length k) (length p + 5)) own, any-short (drop (length p) k) (omega (arith, less, d)))) in
     let is = passing-len test m in
-    let count = count-short in
+    let count : length (strings 4) ≡ 31 = refl in
     omega (arith, few, is, count)
 
 -- ---- the nodes and entries after an insertion

@@ -42,24 +42,6 @@ unlike a b p e = true≢false (sym (eq-eqb a b (some_is a b e)) ∙ p)
 pub differ : {A : Type 0} (a b : ℕ) → (a == b) ≡ false → a ≡ b → A
 differ a b p e = absurd (true≢false (sym (eq-eqb a b e) ∙ p))
 
--- the block left is too small, larger than before, or none
-under : (n o least : ℕ) (smallest : Option ℕ) → smallest ≡ Some least → n < least
-    → (m : ℕ) × (k : ℕ) × (Some n ≡ Some m) × (Some o ≡ Some k) × (m ≤ k) × ((size : ℕ) → smallest ≡ Some size → size ≤ m) × Contains value_block_sizes m → ⊥
-under n o least smallest is small (m, k, e, f, l, at_least, among) = let a = some_is n m e in let b = at_least least is in absurd (omega arith)
-
-over : (n o : ℕ) (smallest : Option ℕ) → o < n
-    → (m : ℕ) × (k : ℕ) × (Some n ≡ Some m) × (Some o ≡ Some k) × (m ≤ k) × ((size : ℕ) → smallest ≡ Some size → size ≤ m) × Contains value_block_sizes m → ⊥
-over n o smallest more (m, k, e, f, l, at_least, among) = let a = some_is n m e in let b = some_is o k f in absurd (omega arith)
-
-without : (old : Option ℕ) (smallest : Option ℕ)
-    → (m : ℕ) × (k : ℕ) × (None ≡ Some m) × (old ≡ Some k) × (m ≤ k) × ((size : ℕ) → smallest ≡ Some size → size ≤ m) × Contains value_block_sizes m → ⊥
-without old smallest (m, k, e, f, l, at_least, among) = not_some m e
-
--- or of no size
-unsized : (n o : ℕ) (smallest : Option ℕ) → list_any (λ s. s == n) value_block_sizes ≡ false
-    → (m : ℕ) × (k : ℕ) × (Some n ≡ Some m) × (Some o ≡ Some k) × (m ≤ k) × ((size : ℕ) → smallest ≡ Some size → size ≤ m) × Contains value_block_sizes m → ⊥
-unsized n o smallest answers (m, k, e, f, l, at_least, among) = not_size value_block_sizes n answers (subst (Contains value_block_sizes) (sym (some_is n m e)) among)
-
 -- a block of a size between 16 and 31 is right for nine items of 31
 may_be : (n : ℕ) → 16 ≤ n → n ≤ 31 → Contains value_block_sizes n → StepsBetween value_block_sizes 31 9 (Some 31) (Some n)
 may_be n low high among = record {
@@ -136,10 +118,10 @@ blocks_hold = record {
     stays = may_be 31 (lit≤ tt) (lit≤ tt) (6, lit< tt, refl);
     half_way = may_be 24 (lit≤ tt) (lit≤ tt) (5, lit< tt, refl);
     smallest = may_be 16 (lit≤ tt) (lit≤ tt) (4, lit< tt, refl);
-    not_of_20 = λ h. unsized 20 31 (smallest_size value_block_sizes 9) refl (h.between (lit< tt) (lit< tt));
-    not_too_small = λ h. under 8 31 16 (smallest_size value_block_sizes 9) refl (lit< tt) (h.between (lit< tt) (lit< tt));
-    not_larger = λ h. over 24 16 (smallest_size value_block_sizes 9) (lit< tt) (h.between (lit< tt) (lit< tt));
-    not_without = λ h. without (Some 31) (smallest_size value_block_sizes 9) (h.between (lit< tt) (lit< tt));
+    not_of_20 = λ h. (let b = h.between (lit< tt) (lit< tt) in not_size value_block_sizes 20 refl (subst (Contains value_block_sizes) (sym (some_is 20 b.0 b.2)) b.6));
+    not_too_small = λ h. (let b = h.between (lit< tt) (lit< tt) in let small = some_is 8 b.0 b.2 in let least = b.5 16 refl in absurd (omega (arith, small, least)));
+    not_larger = λ h. (let b = h.between (lit< tt) (lit< tt) in let new = some_is 24 b.0 b.2 in let old = some_is 16 b.1 b.3 in let l = b.4 in absurd (omega (arith, new, old, l)));
+    not_without = λ h. (let b = h.between (lit< tt) (lit< tt) in not_some b.0 b.2);
     not_left_over = λ h. not_some 1 (sym (h.none refl));
     not_unasked = λ h. unlike 16 31 refl (h.same refl);
     not_more_items = λ h. let l : 10 ≤ 9 = h.fewer in absurd (omega arith);
