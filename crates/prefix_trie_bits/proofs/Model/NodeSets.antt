@@ -1,5 +1,5 @@
 -- Sets of nodes, the nodes that keys need, and what setting or removing a key makes of them.
-use Rattle.std.proofs.Common.{◌≡◌, ◌≢◌, ◌↔◌, ◌⊎◌, ℕ, ◌%◌, ◌≤◌, Bool, true, false, ◌&&◌, ◌||◌, List, [], ◌∷◌, length, is_some, refl, sym, ap, ◌∙◌, subst, arith, inl, inr, true≢false, eqb-true, eq-eqb}
+use Rattle.std.proofs.Common.{◌≡◌, ◌≢◌, ◌↔◌, ◌⊎◌, ℕ, ◌%◌, ◌≤◌, Bool, true, ◌&&◌, ◌||◌, List, [], ◌∷◌, length, is_some, refl, sym, ap, ◌∙◌, subst, arith, inl, inr, true≢false, eqb-true, eq-eqb}
 use Rattle.std.proofs.Math.Bool.{and_comm, or_comm}
 use Rattle.std.specs.FinMap.{contains_key, get-empty}
 use Rattle.prefix_trie_bits.specs.Bits.{begins}
@@ -105,28 +105,6 @@ module _ {T : Type 0} where
   pub needed_stored : (m : Entries T) (s : List Bool) (v : T) → contains_key m s ≡ true → needed m ≡ needed (with_entry m s v)
   needed_stored m s v has = same_nodes (needed m) (needed (with_entry m s v)) (λ q. more_needed m s q v) (λ q. stored_same m s q v has)
 
-  pub AreNodes-no_entries : (width : ℕ) → AreNodes width (no_entries {T = T}) root_alone
-  AreNodes-no_entries width = record {
-    within = λ s e. omega (arith, ap length (root_only s e));
-    depths = λ s e. ap (λ x. length x % 5) (root_only s e);
-    rooted = has-root_alone [] ∙ refl;
-    closed = λ s t e b five. begun s (subst (λ x. begins s x ≡ true) (root_only t e) b);
-    hold_needed = λ s e. elim (needed_for (no_entries {T = T}) s e) [
-      | inl root ↦ subst (λ x. has_node root_alone x ≡ true) (sym root) (has-root_alone [] ∙ refl)
-      | inr why ↦ absurd (true≢false (sym why.stored ∙ has_none why.key))
-    ];
-  }
-    where
-      root_only : (s : List Bool) → has_node root_alone s ≡ true → s ≡ []
-      root_only s e = same_string-is s [] (sym (has-root_alone s) ∙ e)
-
-      begun : (s : List Bool) → begins s [] ≡ true → has_node root_alone s ≡ true
-      begun [] b = has-root_alone [] ∙ refl
-      begun (x ∷ xs) b = absurd (too_long x xs b)
-
-      has_none : (k : List Bool) → contains_key (no_entries {T = T}) k ≡ false
-      has_none k = ap is_some (get-empty listing_cmp k)
-
   -- the nodes that keys within the width need are a set of nodes
   pub AreNodes-needed : (width : ℕ) (m : Entries T) → AreWithin width m → AreNodes width m (needed m)
   AreNodes-needed width m within = record {
@@ -174,7 +152,16 @@ module _ {T : Type 0} where
   )
 
 pub tidy-no_entries : (T : Type 0) → IsTidy (no_entries {T = T}) root_alone
-tidy-no_entries T = same_nodes root_alone (needed (no_entries {T = T})) (λ s e. subst (λ x. has_node (needed (no_entries {T = T})) x ≡ true) (sym (same_string-is s [] (sym (has-root_alone s) ∙ e))) (needs_root (no_entries {T = T}))) (λ s e. (AreNodes-no_entries {T = T} 0).hold_needed s e)
+tidy-no_entries T = same_nodes root_alone (needed (no_entries {T = T}))
+    (λ s e. subst (λ x. has_node (needed (no_entries {T = T})) x ≡ true) (sym (same_string-is s [] (sym (has-root_alone s) ∙ e))) (needs_root (no_entries {T = T})))
+    (λ s e. elim (needed_for (no_entries {T = T}) s e) [
+      | inl root ↦ subst (λ x. has_node root_alone x ≡ true) (sym root) (has-root_alone [] ∙ refl)
+      | inr why ↦ absurd (true≢false (sym why.stored ∙ ap is_some (get-empty listing_cmp why.key)))
+    ])
+
+pub AreNodes-no_entries : {T : Type 0} (width : ℕ) → AreNodes width (no_entries {T = T}) root_alone
+AreNodes-no_entries {T} width =
+    subst (AreNodes width (no_entries {T = T})) (sym (tidy-no_entries T)) (AreNodes-needed width no_entries (λ k e. absurd (true≢false (sym e ∙ ap is_some (get-empty listing_cmp k)))))
 
 home_is : (q : List Bool) → IsHome q (home q)
 home_is q = record { begins_it = home-begins q; five = home-depth q; longest = λ t b five. begins-length t (home q) (home-longest t q b five) }

@@ -4,7 +4,7 @@ use Rattle.std.specs.Prelude.{Contains, sum_by}
 use Rattle.std.specs.List.{list_any}
 use Rattle.std.proofs.lemmas.List.Sums.{sum_by-cons}
 use Rattle.std.proofs.lemmas.List.Sorted.{sum_by-IsPermutation}
-use Rattle.prefix_trie_bits.specs.Model.Blocks.{Block, value_block_sizes, child_block_sizes, smallest_size, free_of, HasBlock, StepsBetween, LongerByOne, Tiles, AreBlocksOf}
+use Rattle.prefix_trie_bits.specs.Model.Blocks.{Block, value_block_sizes, child_block_sizes, free_of, HasBlock, StepsBetween, LongerByOne, Tiles, AreBlocksOf}
 use Rattle.prefix_trie_bits.specs.Model.Room.{MayPassLimit}
 use Rattle.prefix_trie_bits.specs.Facts.Blocks.{none_free, six_free, room_of, at_slot, BlocksHold}
 use Rattle.prefix_trie_bits.proofs.Model.Members.{or-left, or-right}

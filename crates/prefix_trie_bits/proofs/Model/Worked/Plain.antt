@@ -85,19 +85,10 @@ module _ {P T : Type 0} (path : P → List Bool) (back : List Bool → P) (width
   play es ns fate (Children q) = answered (Items (shown back (filter (λ e. begins (path q) e.0) es))) es ns
   play es ns fate (Cover q) = answered (Items (shown back (filter (λ e. begins e.0 (path q)) es))) es ns
 
-  -- where the calls lead
-  abbrev pub end_entries : List (List Bool × T) → Marks → List (Call P T × Option Refusal) → List (List Bool × T)
-  end_entries es ns [] = es
-  end_entries es ns (c ∷ cs) = let r = play es ns c.1 c.0 in end_entries r.entries r.nodes cs
-
-  abbrev pub end_nodes : List (List Bool × T) → Marks → List (Call P T × Option Refusal) → Marks
-  end_nodes es ns [] = ns
-  end_nodes es ns (c ∷ cs) = let r = play es ns c.1 c.0 in end_nodes r.entries r.nodes cs
-
-  -- calls, each with its fate
-  abbrev pub play_all : List (List Bool × T) → Marks → List (Call P T × Option Refusal) → List (Reply P T)
-  play_all es ns [] = []
-  play_all es ns (c ∷ cs) = let r = play es ns c.1 c.0 in r.reply ∷ play_all r.entries r.nodes cs
+  -- what calls are answered, each with its fate, and where they lead
+  abbrev pub play_all : List (List Bool × T) → Marks → List (Call P T × Option Refusal) → List (Reply P T) × List (List Bool × T) × Marks
+  play_all es ns [] = ([], es, ns)
+  play_all es ns (c ∷ cs) = let r = play es ns c.1 c.0 in let rest = play_all r.entries r.nodes cs in (r.reply ∷ rest.0, rest.1, rest.2)
 
   abbrev pub calls_of : List (Call P T × Option Refusal) → List (Call P T)
   calls_of cs = map (λ c. c.0) cs
@@ -225,49 +216,21 @@ module _ {P T : Type 0} (path : P → List Bool) (back : List Bool → P) (width
   step_at s fate AddressCount = stays s _ _ AddressCount _ (here s) (ap (λ n. Addresses (cond (n == 2 ^ width) None (Some n))) (sym (covered-halves width (keys s.entries))), refl)
   step_at s fate call = stays s _ _ call _ (here s) (inl refl, refl)
 
-  -- what the plain model answers to a list of calls is a run
-  pub run_at : (s : State T) (cs : List (Call P T × Option Refusal)) → (t : State T) × Run path back width s (calls_of path back width cs) (play_all path back width (entries s.entries) (entries s.nodes) cs) t
-  run_at s [] = (s, (refl, refl))
+  -- what the plain model answers to a list of calls is a run, and leads to what the plain model ends with
+  abbrev pub Ran : State T → List (Call P T × Option Refusal) → List (List Bool × T) × Marks → Type 0
+  Ran s cs p =
+      (t : State T) × Run path back width s (calls_of path back width cs) (play_all path back width p.0 p.1 cs).0 t × Shows t (play_all path back width p.0 p.1 cs).1 (play_all path back width p.0 p.1 cs).2
+
+  run_at : (s : State T) (cs : List (Call P T × Option Refusal)) → Ran s cs (entries s.entries, entries s.nodes)
+  run_at s [] = (s, (refl, refl), here s)
   run_at s (c ∷ cs) =
       let r = play path back width (entries s.entries) (entries s.nodes) c.1 c.0 in
       let one = step_at s c.1 c.0 in
-      let rest = run_at one.next cs in (
-        rest.0,
-        (
-          r.reply,
-          play_all path back width r.entries r.nodes cs,
-          one.next,
-          refl,
-          one.step,
-          subst (λ rs. Run path back width one.next (calls_of path back width cs) rs rest.0) (ap₂ (λ es ns. play_all path back width es ns cs) one.shows.of_entries one.shows.of_nodes) rest.1,
-        ),
-      )
+      let rest : Ran one.next cs (r.entries, r.nodes) = subst (Ran one.next cs) (λ i. (one.shows.of_entries i, one.shows.of_nodes i)) (run_at one.next cs) in
+      (rest.0, (r.reply, (play_all path back width r.entries r.nodes cs).0, one.next, refl, one.step, rest.1), rest.2)
 
--- on a new map
-pub from_new : {P T : Type 0} (path : P → List Bool) (back : List Bool → P) (width : ℕ) (cs : List (Call P T × Option Refusal)) → (t : State T) × Run path back width (record { entries = no_entries; nodes = root_alone }) (calls_of path back width cs) (play_all path back width [] root_mark cs) t
-from_new {P} {T} path back width cs =
-    let new : State T = record { entries = no_entries; nodes = root_alone } in
-    let ran = run_at path back width new cs in
-    (ran.0, subst (λ rs. Run path back width new (calls_of path back width cs) rs ran.0) (ap₂ (λ es ns. play_all path back width es ns cs) (entries-empty T) root-is) ran.1)
-
-module _ {P T : Type 0} (path : P → List Bool) (back : List Bool → P) (width : ℕ) where
-  run_ends : (s : State T) (cs : List (Call P T × Option Refusal)) → Shows (run_at path back width s cs).0 (end_entries path back width (entries s.entries) (entries s.nodes) cs) (end_nodes path back width (entries s.entries) (entries s.nodes) cs)
-  unfolding run_at
-  run_ends s [] = record { of_entries = refl; of_nodes = refl }
-  run_ends s (c ∷ cs) =
-      let one = step_at path back width s c.1 c.0 in
-      let rest = run_ends one.next cs in
-      record {
-        of_entries = rest.of_entries ∙ ap₂ (λ es ns. end_entries path back width es ns cs) one.shows.of_entries one.shows.of_nodes;
-        of_nodes = rest.of_nodes ∙ ap₂ (λ es ns. end_nodes path back width es ns cs) one.shows.of_entries one.shows.of_nodes;
-      }
-
-  pub ends : (cs : List (Call P T × Option Refusal)) → Shows (from_new path back width cs).0 (end_entries path back width [] root_mark cs) (end_nodes path back width [] root_mark cs)
-  unfolding from_new
-  ends cs =
+  -- on a new map
+  pub from_new : (cs : List (Call P T × Option Refusal)) → Ran (record { entries = no_entries; nodes = root_alone }) cs ([], root_mark)
+  from_new cs =
       let new : State T = record { entries = no_entries; nodes = root_alone } in
-      let last = run_ends new cs in
-      record {
-        of_entries = last.of_entries ∙ ap₂ (λ es ns. end_entries path back width es ns cs) (entries-empty T) root-is;
-        of_nodes = last.of_nodes ∙ ap₂ (λ es ns. end_nodes path back width es ns cs) (entries-empty T) root-is;
-      }
+      subst (Ran new cs) (λ i. (entries-empty T i, root-is i)) (run_at new cs)

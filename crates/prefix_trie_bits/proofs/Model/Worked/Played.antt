@@ -2,7 +2,7 @@
 use Rattle.std.proofs.Common.{◌≡◌, ℕ, Bool, List, [], ◌∷◌, map, Option, Some, None, refl, ap, subst}
 use Rattle.prefix_trie_bits.specs.Model.Step.{State, Call, Reply, Refused, Refusal, Run}
 use Rattle.prefix_trie_bits.specs.Rows.Examples.{path_at, back_at, new_map, Row, calls, replies, Gives, LeadsTo}
-use Rattle.prefix_trie_bits.proofs.Model.Worked.Plain.{from_new, ends, Shows, Marks, root_mark, calls_of, play_all, end_entries, end_nodes}
+use Rattle.prefix_trie_bits.proofs.Model.Worked.Plain.{from_new, Shows, Marks, root_mark, calls_of, play_all}
 
 -- why a call is refused, if it is
 abbrev fate_of : Reply (ℕ × ℕ) ℕ → Option Refusal
@@ -19,14 +19,14 @@ calls-fated width (c ∷ row) = ap (λ cs. c.0 ∷ cs) (calls-fated width row)
 
 -- what the plain model answers to a row's calls
 abbrev pub answers : ℕ → Row → List (Reply (ℕ × ℕ) ℕ)
-answers width row = play_all (path_at width) (back_at width) width [] root_mark (fated row)
+answers width row = (play_all (path_at width) (back_at width) width [] root_mark (fated row)).0
 
 -- the entries and the nodes that the plain model ends with
 abbrev pub last_entries : ℕ → Row → List (List Bool × ℕ)
-last_entries width row = end_entries (path_at width) (back_at width) width [] root_mark (fated row)
+last_entries width row = (play_all (path_at width) (back_at width) width [] root_mark (fated row)).1
 
 abbrev pub last_marks : ℕ → Row → Marks
-last_marks width row = end_nodes (path_at width) (back_at width) width [] root_mark (fated row)
+last_marks width row = (play_all (path_at width) (back_at width) width [] root_mark (fated row)).2
 
 pub gives : {width : ℕ} {row : Row} → answers width row ≡ replies row → Gives width row
 gives {width} {row} e =
@@ -41,4 +41,4 @@ pub leads : {width : ℕ} {row : Row} {Holds : State ℕ → Type 0} → answers
     → ((t : State ℕ) → Shows t (last_entries width row) (last_marks width row) → Holds t) → LeadsTo width row Holds
 unfolding gives
 leads {width} {row} e holds =
-    record { gives = gives e; holds = holds (from_new (path_at width) (back_at width) width (fated row)).0 (ends (path_at width) (back_at width) width (fated row)) }
+    let ran = from_new (path_at width) (back_at width) width (fated row) in record { gives = gives e; holds = holds ran.0 ran.2 }
