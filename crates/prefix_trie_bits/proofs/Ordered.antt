@@ -1,7 +1,6 @@
 -- The strings of a node's places stand in listing order, each once.
 use Rattle.std.proofs.Common.{◌≡◌, ℕ, zero, suc, ◌%◌, ◌/◌, ◌<◌, ◌≤◌, ◌↔◌, ◌⊎◌, Bool, true, false, cond, nat_eq, nat_lt, ltb-true, ◌&&◌, List, [], ◌∷◌, length, map, filter, refl, sym, ap, ◌∙◌, subst, inl, inr, arith, Ordering, Less}
 use Rattle.std.specs.Prelude.{Contains}
-use Rattle.std.specs.Ordering.{is_lt}
 use Rattle.std.specs.List.{AllByRecursion}
 use Rattle.std.specs.List.Sorted.{IsStrictlySortedBy}
 use Rattle.std.proofs.lemmas.List.Elements.{Contains-append_left, Contains-append_right}
@@ -9,6 +8,7 @@ use Rattle.prefix_trie_bits.specs.Order.{listing_cmp}
 use Rattle.prefix_trie_bits.specs.Places.{strings, pick, is_before, is_in, places}
 use Rattle.prefix_trie_bits.proofs.Checks.{both, each, at_index}
 use Rattle.prefix_trie_bits.proofs.Listing.{strings-short}
+use Rattle.prefix_trie_bits.proofs.Model.Ordered.{lt-less}
 
 -- ---- what a list contains
 
@@ -95,16 +95,12 @@ strings-ordered : ordered (strings 5) ≡ true
 unfolding ordered each strings
 strings-ordered = refl
 
-less : (o : Ordering) → is_lt o ≡ true → o ≡ Less
-less Less e = refl
-less o e = cc
-
 all-before : (s : List Bool) (ss : List (List Bool)) → each (is_before s) ss ≡ true → AllByRecursion (λ t. listing_cmp s t ≡ Less) ss
 unfolding each
 all-before s [] h = tt
 all-before s (t ∷ ss) h =
     let b = both (is_before s t) (each (is_before s) ss) h in
-    (less (listing_cmp s t) b.0, all-before s ss b.1)
+    (lt-less (listing_cmp s t) b.0, all-before s ss b.1)
 
 sorted-of : (ss : List (List Bool)) → ordered ss ≡ true → IsStrictlySortedBy listing_cmp ss
 unfolding ordered IsStrictlySortedBy

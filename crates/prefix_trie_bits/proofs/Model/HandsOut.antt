@@ -14,7 +14,7 @@ use Rattle.prefix_trie_bits.specs.Model.Selections.{listing}
 use Rattle.prefix_trie_bits.specs.Model.Step.{State}
 use Rattle.prefix_trie_bits.specs.Laws.HandsOut.{Splits, HandingLaws}
 use Rattle.prefix_trie_bits.specs.Laws.Steps.{IsMap}
-use Rattle.prefix_trie_bits.proofs.Model.Members.{same_entries, same_string-is, get-with_entry, get-without_below, get-part_below}
+use Rattle.prefix_trie_bits.proofs.Model.Members.{and-second, has-retained, same_entries, same_string-is, get-with_entry, get-without_below, get-part_below}
 use Rattle.prefix_trie_bits.proofs.Model.NodeSets.{AreNodes-needed}
 use Rattle.prefix_trie_bits.proofs.Model.Ordered.{entries-retained, find-from_Contains}
 use Rattle.prefix_trie_bits.proofs.Model.Pruning.{remove_children_law, below_fewer}
@@ -81,11 +81,7 @@ module _ {T : Type 0} where
   }
 
   part_fewer : (m : Entries T) (q k : List Bool) → contains_key (part_below m q) k ≡ true → contains_key m k ≡ true
-  part_fewer m q k e = by (begins q k) (sym (ap is_some (get-part_below m q k)) ∙ e)
-    where
-      by : (b : Bool) → is_some (cond b (get m k) None) ≡ true → contains_key m k ≡ true
-      by true h = h
-      by false h = absurd (false≢true h)
+  part_fewer m q k e = and-second (begins q k) (contains_key m k) (sym (has-retained m (λ s. begins q s) k) ∙ e)
 
   maps : (width : ℕ) (before : State T) (q : List Bool) (second after : State T) → IsMap width before → HandsOut before q second after →
       IsMap width second × (second.nodes ≡ needed second.entries) × IsMap width after

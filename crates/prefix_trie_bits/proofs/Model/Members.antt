@@ -202,7 +202,7 @@ module _ {T : Type 0} where
   pub get-without_entry : (m : Entries T) (s t : List Bool) → get (without_entry m s) t ≡ cond (same_string t s) None (get m t)
   get-without_entry m s t = get-remove listing_total m s t
 
-  get-retained : (m : Entries T) (p : List Bool → Bool) (t : List Bool) → get (retain_keys m p) t ≡ cond (p t) (get m t) None
+  pub get-retained : (m : Entries T) (p : List Bool → Bool) (t : List Bool) → get (retain_keys m p) t ≡ cond (p t) (get m t) None
   get-retained m p t = get-retain_keys m p t (λ x e. ap p (sym (listing_same t x e)))
 
   pub get-without_below : (m : Entries T) (q t : List Bool) → get (without_below m q) t ≡ cond (begins q t) None (get m t)

@@ -3,14 +3,15 @@ use Rattle.std.proofs.Common.{◌≡◌, ℕ, suc, ◌+◌, ◌-◌, ◌≤◌, 
 use Rattle.std.proofs.lemmas.List.Sums.{count_by-le-length, length-filter, sum_by-cons}
 use Rattle.std.specs.Prelude.{count_by}
 use Rattle.std.specs.List.{list_any}
-use Rattle.std.specs.FinMap.{FinMap, get, insert, remove, retain_keys, contains_key, keys, entries, len, empty, get-empty, get-insert, get-retain_keys, len-entries, len-empty, len-insert, len-remove, entries-insert}
+use Rattle.std.specs.FinMap.{FinMap, get, insert, remove, retain_keys, contains_key, keys, entries, len, empty, get-empty, get-insert, len-entries, len-empty, len-insert, len-remove, entries-insert}
 use Rattle.std.specs.FinMap.Entries.{put, by_order}
 use Rattle.prefix_trie_bits.specs.Begins.{begins-rest}
 use Rattle.prefix_trie_bits.specs.Bits.{begins}
-use Rattle.prefix_trie_bits.specs.Order.{listing_cmp, listing_total, listing_same, same_string}
+use Rattle.prefix_trie_bits.specs.Order.{listing_cmp, listing_total, same_string}
 use Rattle.prefix_trie_bits.specs.Model.Blocks.{Sizes, used_of, one_of}
 use Rattle.prefix_trie_bits.proofs.Model.Members.{from-not, is-same_string, or-cases, and-first, and-second, same_string-is, same_entries, has-retained, has-removed}
 use Rattle.prefix_trie_bits.proofs.Model.Ordered.{entries-retained}
+pub use Rattle.prefix_trie_bits.proofs.Model.Members.{get-retained as get-kept}
 
 -- ---- keys that pass a test
 
@@ -31,9 +32,6 @@ module _ {X : Type 0} where
   -- they are the entries of the map that the test keeps
   pub passing-len : (test : List Bool → Bool) (m : FinMap listing_cmp X) → passing test m ≡ len (retain_keys m test)
   passing-len test m = of_keys test (entries m) ∙ ap (λ es. length es) (sym (entries-retained m test)) ∙ sym (len-entries (retain_keys m test))
-
-  pub get-kept : (m : FinMap listing_cmp X) (test : List Bool → Bool) (q : List Bool) → get (retain_keys m test) q ≡ cond (test q) (get m q) None
-  get-kept m test q = get-retain_keys m test q (λ x e. ap test (sym (listing_same q x e)))
 
   get-kept_both : (m : FinMap listing_cmp X) (p r : List Bool → Bool) (q : List Bool) → get (retain_keys (retain_keys m p) r) q ≡ cond (r q) (cond (p q) (get m q) None) None
   get-kept_both m p r q = get-kept (retain_keys m p) r q ∙ ap (λ o. cond (r q) o None) (get-kept m p q)
