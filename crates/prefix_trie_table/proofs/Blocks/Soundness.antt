@@ -53,7 +53,7 @@ module _ {S : Type 0} where
       All-weaker (IsOfTier ts) (IsOfTier (set ts k t)) (λ b h. record { within = (let n = length-set ts k t in omega (arith, h.within)); size_is = h.size_is ∙ sym (sizes_stay ts k t b.tier inside same) }) live
 
   -- every block in use or free lies in the array
-  all_inside : (vacant : S) (live : List (UsedBlock S)) (v : Store S) → Sound vacant live v → All (Within v.first (length v.slots)) (map extent live ++ free_extents v.tiers)
+  pub all_inside : (vacant : S) (live : List (UsedBlock S)) (v : Store S) → Sound vacant live v → All (Within v.first (length v.slots)) (map extent live ++ free_extents v.tiers)
   all_inside vacant live v s = each_within (tier_sizes v.tiers) v.first (length v.slots) (map extent live) (free_extents v.tiers) s.blocks
 
   -- the place of the first block lies in the array
@@ -69,7 +69,7 @@ module _ {S : Type 0} where
   others vacant b live v s = others_apart (tier_sizes v.tiers) v.first (length v.slots) (extent b) (map extent live) (free_extents v.tiers) s.blocks
 
   -- a fact of each extent is one of each block
-  All-extent : (P : Extent → Type 0) (live : List (UsedBlock S)) → All P (map extent live) → All (λ b. P (extent b)) live
+  pub All-extent : (P : Extent → Type 0) (live : List (UsedBlock S)) → All P (map extent live) → All (λ b. P (extent b)) live
   All-extent P [] all = All-nil (λ b. P (extent b))
   All-extent P (b ∷ live) all =
       All-cons (λ b. P (extent b)) b live (All-head P (extent b) (map extent live) all) (All-extent P live (All-tail P (extent b) (map extent live) all))

@@ -28,7 +28,7 @@ use Rattle.prefix_trie_table.proofs.Tree.Children.{blank_blocks, bits-zero}
 use Rattle.prefix_trie_table.proofs.Tree.Values.{value_stands}
 
 module _ {T : Type 0} where
-  value_in-there : (cells : List (Option T)) (n : Node) (b : ℕ) → has_bit n.value_bitmap b ≡ true →
+  pub value_in-there : (cells : List (Option T)) (n : Node) (b : ℕ) → has_bit n.value_bitmap b ≡ true →
       value_in cells n b ≡ get_or cells (n.value_block + rank n.value_bitmap b) None
   unfolding value_in
   value_in-there cells n b h = ap (λ s. cond s (get_or cells (n.value_block + rank n.value_bitmap b) None) None) h
