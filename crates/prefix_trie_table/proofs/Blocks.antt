@@ -4,7 +4,6 @@ pub mod BySize
 pub mod Shifts
 pub mod Tilings
 pub mod RunLemmas
-pub mod MovedIn
 pub mod Soundness
 pub mod Moving
 pub mod Tiers

@@ -22,13 +22,9 @@ own_children (Some n) = rank n.child_bitmap 32
 abbrev pub AreSizesBy : (Option Node → Option ℕ) → List Node → Sizes → Type 0
 AreSizesBy size nodes sizes = (s : List Bool) → get sizes s ≡ cond (is_node_depth s) (size (read nodes (path_of s))) None
 
--- these are the sizes of the blocks of the nodes in an array, by the strings at which the nodes stand
-abbrev pub AreSizesOf : List Node → Sizes → Sizes → Type 0
-AreSizesOf nodes children values = AreSizesBy child_block_size nodes children × AreSizesBy value_block_size nodes values
-
 -- the one pair of sizes that the nodes have, of child blocks and of value blocks
 abbrev pub Sized : List Node → Type 0
-Sized nodes = (children : Sizes) × ((values : Sizes) × AreSizesOf nodes children values)
+Sized nodes = (children : Sizes) × ((values : Sizes) × (AreSizesBy child_block_size nodes children × AreSizesBy value_block_size nodes values))
 
 AreSizesBy-prop : (size : Option Node → Option ℕ) (nodes : List Node) (sizes : Sizes) → IsProp (AreSizesBy size nodes sizes)
 AreSizesBy-prop size nodes sizes = λ x y. Π_prop (λ _. Coded-set (coded_option coded_ℕ) _ _) x y

@@ -78,12 +78,6 @@ pub record Sound {S : Type 0} (vacant : S) (live : List (UsedBlock S)) (v : Stor
   -- and so is each slot of a free block
   pub vacated : All (IsVacant vacant v.slots) (free_extents v.tiers)
 
--- a block of tier k that was made at the array's end, free
-abbrev pub grown : {S : Type 0} → S → Store S → ℕ → Store S
-grown vacant v k =
-    let t = tier_at v.tiers k in
-    record v { slots = v.slots ++ replicate t.size vacant; tiers = slice_set v.tiers k (record t { made = t.made + 1; starts = t.starts ++ length v.slots ∷ [] }) }
-
 -- the store with another tier in the place of the one at k
 abbrev pub with_tier : {S : Type 0} → Store S → ℕ → Tier → Store S
 with_tier v k t = record v { tiers = slice_set v.tiers k t }
@@ -185,10 +179,6 @@ slots_of (size ∷ sizes) n = size * n size + slots_of sizes n
 
 -- ---- what a call leaves of an array
 
--- what stands before the first block is the same
-abbrev pub SameBefore : {S : Type 0} → Store S → Store S → Type 0
-SameBefore {S} v w = (i : ℕ) (d : S) → i < v.first → slice_index_or w.slots i d ≡ slice_index_or v.slots i d
-
 -- each slot that there was is the same
 abbrev pub SameSlots : {S : Type 0} → Store S → Store S → Type 0
 SameSlots {S} v w = (i : ℕ) (d : S) → i < length v.slots → slice_index_or w.slots i d ≡ slice_index_or v.slots i d
@@ -211,7 +201,7 @@ pub record Keeps {S : Type 0} (v w : Store S) : Type 0 where
   pub first_is : w.first ≡ v.first
   pub limit_is : w.limit ≡ v.limit
   pub sizes : tier_sizes w.tiers ≡ tier_sizes v.tiers
-  pub before : SameBefore v w
+  pub before : (i : ℕ) (d : S) → i < v.first → slice_index_or w.slots i d ≡ slice_index_or v.slots i d
   pub longer : length v.slots ≤ length w.slots
   pub within : length v.slots ≤ v.limit → length w.slots ≤ w.limit
 

@@ -1,5 +1,5 @@
 -- A list laid whole in a block that held none.
-use Rattle.std.proofs.Common.{◌≡◌, ℕ, zero, suc, ◌+◌, ◌-◌, ◌<◌, ◌≤◌, inl, true, List, [], ◌∷◌, ◌++◌, length, take, drop, replicate, Option, None, Some, take-append-drop, refl, sym, ap, ◌∙◌, subst, arith}
+use Rattle.std.proofs.Common.{◌≡◌, ℕ, zero, suc, ◌+◌, ◌-◌, ◌<◌, ◌≤◌, true, List, [], ◌∷◌, ◌++◌, length, take, drop, replicate, Option, None, Some, take-append-drop, refl, sym, ap, ◌∙◌, subst, arith}
 use Rattle.std.specs.Prelude.{Contains}
 use Rattle.prefix_trie_bits.specs.Model.Blocks.{smallest_size}
 use Rattle.prefix_trie_bits.specs.Model.HandsOut.{packed_slots}
@@ -121,7 +121,7 @@ module _ {S : Type 0} (vacant : S) where
               Keeps-then v u (record u { slots = put_run u.slots at.start (x ∷ xs) }) laid.keeps
               (Turnover-written u (record u { slots = put_run u.slots at.start (x ∷ xs) }) (put_run u.slots at.start (x ∷ xs)) refl
               (length-put_run u.slots at.start (x ∷ xs) inside)
-              (λ i d h. get_or-put_run_out u.slots at.start (x ∷ xs) i d inside (inl (let b = behind in omega (arith, b, h)))) None).keeps;
+              (λ i d h. get_or-put_run_out u.slots at.start (x ∷ xs) i d inside (λ _. let b = behind in omega (arith, b, h))) None).keeps;
           none_free = laid.none_free;
         }
 

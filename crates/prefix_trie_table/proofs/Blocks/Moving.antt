@@ -1,5 +1,5 @@
 -- A list that moves to a block with no items.
-use Rattle.std.proofs.Common.{◌≡◌, ℕ, ◌+◌, ◌-◌, ◌<◌, ◌≤◌, ◌⊎◌, inl, inr, ⊎_elim, List, [], ◌∷◌, ◌++◌, length, map, take, drop, replicate, Option, sym, ap, ◌∙◌, subst, arith}
+use Rattle.std.proofs.Common.{◌≡◌, ℕ, ◌+◌, ◌-◌, ◌≤◌, List, [], ◌∷◌, ◌++◌, length, map, take, drop, replicate, Option, sym, ap, ◌∙◌, subst, arith}
 use Rattle.std.proofs.lemmas.List.{length-replicate, take-take, take_at, drop_at, take-replicate, drop-replicate, replicate-append-replicate}
 use Rattle.std.proofs.lemmas.List.Elements.{All-head}
 use Rattle.prefix_trie_table.specs.Runs.{run, put_run, swap_runs}
@@ -14,7 +14,7 @@ module _ {S : Type 0} (vacant : S) (a b : UsedBlock S) (live : List (UsedBlock S
   slots_none : run v.slots b.start b.size ≡ replicate b.size vacant
   slots_none = block_slots vacant b (a ∷ live) v (Sound-exchanged vacant a b live v s) ∙ ap (λ xs. filled vacant b.size xs) none ∙ filled_none vacant b.size
 
-  pub two_apart : (a.start + a.size ≤ b.start) ⊎ (b.start + b.size ≤ a.start)
+  pub two_apart : Disjoint (extent a) (extent b)
   two_apart = All-head (Disjoint (extent a)) (extent b) (map extent live ++ free_extents v.tiers) (others vacant a (b ∷ live) v s)
 
   pub run_items : (c : ℕ) → length a.items ≡ c → run v.slots a.start c ≡ a.items
@@ -51,7 +51,7 @@ module _ {S : Type 0} (vacant : S) (a b : UsedBlock S) (live : List (UsedBlock S
       let wa = block_inside vacant a (b ∷ live) v s in
       let wb = block_inside vacant b (a ∷ live) v (Sound-exchanged vacant a b live v s) in
       let fits : c ≤ a.size = (let f = fits_block vacant a (b ∷ live) v s in omega arith) in
-      let narrow : Apart a.start c b.start c = ⊎_elim (λ (h : a.start + a.size ≤ b.start). inl (let e : a.start + c ≤ b.start = omega arith in e)) (λ (h : b.start + b.size ≤ a.start). inr (let e : b.start + c ≤ a.start = omega arith in e)) two_apart in
+      let narrow : Apart a.start c b.start c = λ h. (let q = two_apart (omega arith) in omega arith) in
       Sound-put_over c a.items (swap_runs v.slots a.start b.start c) is_count (omega arith)
       (swap_runs_is v.slots a.start b.start c vacant (omega (arith, wa.before)) (omega (arith, wb.before)) narrow ∙ ap (λ xs. put_run (put_run v.slots a.start xs) b.start (run v.slots a.start c)) (run_none c room) ∙ ap (λ xs. put_run (put_run v.slots a.start (replicate c vacant)) b.start xs) (run_items c is_count))
 
@@ -74,8 +74,8 @@ module _ {S : Type 0} (vacant : S) (a b : UsedBlock S) (live : List (UsedBlock S
       let ni : length (put_run v.slots a.start (replicate count vacant)) ≡ length v.slots = length-put_run v.slots a.start (replicate count vacant) (omega (arith, runs_within.0)) in
       Turnover-written v w (put_run (put_run v.slots a.start (replicate count vacant)) b.start items) e
       (length-put_run (put_run v.slots a.start (replicate count vacant)) b.start items (omega (arith, wb.before)) ∙ ni)
-      (λ i d h. get_or-put_run_out (put_run v.slots a.start (replicate count vacant)) b.start items i d (omega (arith, wb.before)) (inl (let f : i < b.start = omega (arith, wb.after) in f))
-      ∙ get_or-put_run_out v.slots a.start (replicate count vacant) i d (omega (arith, runs_within.0)) (inl (let f : i < a.start = omega (arith, wa.after) in f)))
+      (λ i d h. get_or-put_run_out (put_run v.slots a.start (replicate count vacant)) b.start items i d (omega (arith, wb.before)) (λ _. omega (arith, wb.after))
+      ∙ get_or-put_run_out v.slots a.start (replicate count vacant) i d (omega (arith, runs_within.0)) (λ _. omega (arith, wa.after)))
 
   -- nor where its items are exchanged for those of the other
   pub moved_turned : (w : Store S) → w ≡ record v { slots = swap_runs v.slots a.start b.start count } → (o : Option ℕ) → Turnover v w none_of o o

@@ -1,14 +1,21 @@
 -- A write to one run of a list leaves each run that is apart from it.
-use Rattle.std.proofs.Common.{set, ◌≡◌, ℕ, zero, suc, ◌+◌, ◌-◌, ◌<◌, ◌≤◌, ◌⊎◌, inl, inr, ⊎_elim, List, ◌++◌, length, get_or, take, drop, insert, remove, swap, ◌≢◌, refl, sym, ap, ◌∙◌, subst, arith, append_assoc, length-append, length-take, length-drop, take-append-drop, drop-drop}
-use Rattle.std.proofs.lemmas.List.{take_at, drop_at, take-append-le, drop-append-le, length-take-le, length-set, set-append_left, set-append_right, drop-set-lt, take_all, get_or-take, get_or-drop, ext_get_or}
-use Rattle.std.proofs.lemmas.List.Edits.{insert-append_left, insert-append_right, remove-append_left, remove-append_right, length-insert, length-remove, length-swap, Swapped, swapped_from_swap}
+use Rattle.std.proofs.Common.{set, ◌≡◌, ◌≢◌, ℕ, zero, suc, ◌+◌, ◌-◌, ◌<◌, ◌≤◌, ◌⊎◌, inl, inr, ⊎_elim, List, ◌++◌, length, get_or, take, drop, insert, remove, swap, refl, sym, ap, ◌∙◌, subst, arith, append_assoc, length-append, length-take, length-drop, take-append-drop, drop-drop, replicate}
+use Rattle.std.proofs.lemmas.List.{take_at, drop_at, take-append-le, drop-append-le, length-take-le, length-set, set-append_left, set-append_right, drop-set-lt, take_all, get_or-take, get_or-drop, ext_get_or, length-replicate, get_or-set_same, get_or-set_other}
+use Rattle.std.proofs.lemmas.List.Edits.{insert-append_left, insert-append_right, remove-append_left, remove-append_right, length-insert, length-remove, length-swap, Swapped, swapped_from_swap, get_or-insert_below, get_or-insert_at, get_or-insert_above}
 use Rattle.std.proofs.lemmas.Bool.{cases_lt, cases_eq}
 use Rattle.std.proofs.lemmas.Slice.{drop-append-drop}
 use Rattle.prefix_trie_table.specs.Runs.{run, put_run, swap_runs}
 
 -- the m places from a on and the n from b on have none in common
 abbrev pub Apart : ℕ → ℕ → ℕ → ℕ → Type 0
-Apart a m b n = (a + m ≤ b) ⊎ (b + n ≤ a)
+Apart a m b n = b < a + m → b + n ≤ a
+
+-- a place of a run, or none
+within : (a n k : ℕ) → ((a ≤ k) × (k < a + n)) ⊎ (k < a + n → k < a)
+within a n k = elim (cases_lt k a) as (λ _. ((a ≤ k) × (k < a + n)) ⊎ (k < a + n → k < a)) [
+  | inl h ↦ inr (λ _. h)
+  | inr h ↦ ⊎_elim (λ (q : k < a + n). inl (h, q)) (λ (q : a + n ≤ k). inr (λ p. absurd (omega arith))) (cases_lt k (a + n))
+]
 
 module _ {X : Type 0} where
   pub length-run : (xs : List X) (a n : ℕ) → a + n ≤ length xs → length (run xs a n) ≡ n
@@ -37,13 +44,14 @@ module _ {X : Type 0} where
       rw (drop_at (take a xs) (ys ++ drop (a + length ys) xs) a (length-take-le a xs (omega arith))) (take_at ys (drop (a + length ys) xs) (length ys) refl)
 
   pub run-put_run_other : (xs : List X) (a : ℕ) (ys : List X) (b n : ℕ) → a + length ys ≤ length xs → Apart a (length ys) b n → run (put_run xs a ys) b n ≡ run xs b n
-  run-put_run_other xs a ys b n inside apart =
-      ⊎_elim (λ (after : a + length ys ≤ b).
-      let gone : drop b (put_run xs a ys) ≡ drop b xs = ap (λ zs. drop b zs) (sym (append_assoc (take a xs) ys (drop (a + length ys) xs))) ∙ drop-append-drop (a + length ys) xs (take a xs ++ ys) b after (let e : length (take a xs) ≡ a = length-take-le a xs (omega arith) in omega (arith, length-append (take a xs) ys)) in
-      ap (λ zs. take n zs) gone)
-      (λ (before : b + n ≤ a).
-      let front : b + n ≤ length (take a xs) = (let e : length (take a xs) ≡ a = length-take-le a xs (omega arith) in omega arith) in
-      run-append_left (take a xs) (ys ++ drop (a + length ys) xs) b n front ∙ sym (run-append_left (take a xs) (drop a xs) b n front) ∙ ap (λ zs. run zs b n) (take-append-drop a xs)) apart
+  run-put_run_other xs a ys b n inside apart = elim (cases_lt b (a + length ys)) as (λ _. run (put_run xs a ys) b n ≡ run xs b n) [
+    | inr after ↦
+        let gone : drop b (put_run xs a ys) ≡ drop b xs = ap (λ zs. drop b zs) (sym (append_assoc (take a xs) ys (drop (a + length ys) xs))) ∙ drop-append-drop (a + length ys) xs (take a xs ++ ys) b after (let e : length (take a xs) ≡ a = length-take-le a xs (omega arith) in omega (arith, length-append (take a xs) ys)) in
+        ap (λ zs. take n zs) gone
+    | inl h ↦
+        let front : b + n ≤ length (take a xs) = (let e : length (take a xs) ≡ a = length-take-le a xs (omega arith) in let q = apart h in omega arith) in
+        run-append_left (take a xs) (ys ++ drop (a + length ys) xs) b n front ∙ sym (run-append_left (take a xs) (drop a xs) b n front) ∙ ap (λ zs. run zs b n) (take-append-drop a xs)
+  ]
 
   pub length-moved : (ys : List X) (i j : ℕ) (x : X) → i < length ys → j < length ys → length (insert (remove ys i) j x) ≡ length ys
   length-moved ys i j x hi hj =
@@ -75,69 +83,67 @@ module _ {X : Type 0} where
   get_or-put_run_in xs a ys i d inside h =
       sym (get_or-run (put_run xs a ys) a (length ys) i d h) ∙ ap (λ zs. get_or zs i d) (run-put_run_same xs a ys inside)
 
-  pub get_or-put_run_out : (xs : List X) (a : ℕ) (ys : List X) (k : ℕ) (d : X) → a + length ys ≤ length xs → (k < a) ⊎ (a + length ys ≤ k) → get_or (put_run xs a ys) k d ≡ get_or xs k d
+  pub get_or-put_run_out : (xs : List X) (a : ℕ) (ys : List X) (k : ℕ) (d : X) → a + length ys ≤ length xs → (k < a + length ys → k < a) → get_or (put_run xs a ys) k d ≡ get_or xs k d
   get_or-put_run_out xs a ys k d inside out =
-      let apart : Apart a (length ys) k 1 = ⊎_elim (λ (h : k < a). inr (let e : k + 1 ≤ a = omega arith in e)) (λ (h : a + length ys ≤ k). inl h) out in
       let one : (zs : List X) → get_or zs k d ≡ get_or (run zs k 1) 0 d = λ zs. ap (λ m. get_or zs m d) (let e : k ≡ k + 0 = omega arith in e) ∙ sym (get_or-run zs k 1 0 d (omega arith)) in
-      one (put_run xs a ys) ∙ ap (λ zs. get_or zs 0 d) (run-put_run_other xs a ys k 1 inside apart) ∙ sym (one xs)
+      one (put_run xs a ys) ∙ ap (λ zs. get_or zs 0 d) (run-put_run_other xs a ys k 1 inside (λ h. let q = out h in omega arith)) ∙ sym (one xs)
 
   -- where each item stands after two runs were exchanged
   pub record Exchanged (xs zs : List X) (a b n : ℕ) (d : X) : Type 0 where
     pub at_a : (i : ℕ) → i < n → get_or zs (a + i) d ≡ get_or xs (b + i) d
     pub at_b : (i : ℕ) → i < n → get_or zs (b + i) d ≡ get_or xs (a + i) d
-    pub elsewhere : (k : ℕ) → (k < a) ⊎ (a + n ≤ k) → (k < b) ⊎ (b + n ≤ k) → get_or zs k d ≡ get_or xs k d
+    pub elsewhere : (k : ℕ) → (k < a + n → k < a) → (k < b + n → k < b) → get_or zs k d ≡ get_or xs k d
 
   pub length-swap_runs : (xs : List X) (a b n : ℕ) → length (swap_runs xs a b n) ≡ length xs
   length-swap_runs xs a b zero = refl
   length-swap_runs xs a b (suc n) = length-swap (swap_runs xs a b n) (a + n) (b + n) ∙ length-swap_runs xs a b n
 
-  pub exchanged : (xs : List X) (a b n : ℕ) (d : X) → a + n ≤ length xs → b + n ≤ length xs → (a + n ≤ b) ⊎ (b + n ≤ a) → Exchanged xs (swap_runs xs a b n) a b n d
+  pub exchanged : (xs : List X) (a b n : ℕ) (d : X) → a + n ≤ length xs → b + n ≤ length xs → Apart a n b n → Exchanged xs (swap_runs xs a b n) a b n d
   exchanged xs a b zero d ha hb apart =
       record { at_a = λ i h. absurd (omega arith); at_b = λ i h. absurd (omega arith); elsewhere = λ k h j. refl }
   exchanged xs a b (suc n) d ha hb apart =
-      let zs : List X = swap_runs xs a b n in
       let len : length (swap_runs xs a b n) ≡ length xs = length-swap_runs xs a b n in
-      let less : (a + n ≤ b) ⊎ (b + n ≤ a) = ⊎_elim (λ (h : a + suc n ≤ b). inl (let e : a + n ≤ b = omega arith in e)) (λ (h : b + suc n ≤ a). inr (let e : b + n ≤ a = omega arith in e)) apart in
-      let before : Exchanged xs (swap_runs xs a b n) a b n d = exchanged xs a b n d (omega arith) (omega arith) less in
+      let before : Exchanged xs (swap_runs xs a b n) a b n d = exchanged xs a b n d (omega arith) (omega arith) (λ h. omega arith) in
       let step : Swapped (λ i. get_or (swap_runs xs a b n) i d) (λ i. get_or (swap (swap_runs xs a b n) (a + n) (b + n)) i d) (a + n) (b + n) = swapped_from_swap (swap_runs xs a b n) (swap (swap_runs xs a b n) (a + n) (b + n)) (a + n) (b + n) d (omega arith) (omega arith) refl in
-      let a_out : (a + n < b) ⊎ (b + n ≤ a + n) = ⊎_elim (λ (h : a + suc n ≤ b). inl (let e : a + n < b = omega arith in e)) (λ (h : b + suc n ≤ a). inr (let e : b + n ≤ a + n = omega arith in e)) apart in
-      let b_out : (b + n < a) ⊎ (a + n ≤ b + n) = ⊎_elim (λ (h : a + suc n ≤ b). inr (let e : a + n ≤ b + n = omega arith in e)) (λ (h : b + suc n ≤ a). inl (let e : b + n < a = omega arith in e)) apart in
-      let had_a : get_or (swap_runs xs a b n) (a + n) d ≡ get_or xs (a + n) d = before.elsewhere (a + n) (inr (let e : a + n ≤ a + n = omega arith in e)) a_out in
-      let had_b : get_or (swap_runs xs a b n) (b + n) d ≡ get_or xs (b + n) d = before.elsewhere (b + n) b_out (inr (let e : b + n ≤ b + n = omega arith in e)) in
+      let had_a : get_or (swap_runs xs a b n) (a + n) d ≡ get_or xs (a + n) d = before.elsewhere (a + n) (λ h. omega arith) (λ h. grind arith) in
+      let had_b : get_or (swap_runs xs a b n) (b + n) d ≡ get_or xs (b + n) d = before.elsewhere (b + n) (λ h. grind arith) (λ h. omega arith) in
       record {
-        at_a = λ i h. ⊎_elim (λ (e : i ≡ n). subst (λ j. get_or (swap (swap_runs xs a b n) (a + n) (b + n)) (a + j) d ≡ get_or xs (b + j) d) (sym e) (step.0 ∙ had_b)) (λ (ne : i ≢ n). step.2 (a + i) (λ e. ne (let f : i ≡ n = omega arith in f)) (λ e. ⊎_elim (λ (q : a + suc n ≤ b). absurd (omega arith)) (λ (q : b + suc n ≤ a). absurd (omega arith)) apart) ∙ before.at_a i (let f : i < n = omega arith in f)) (cases_eq i n);
-        at_b = λ i h. ⊎_elim (λ (e : i ≡ n). subst (λ j. get_or (swap (swap_runs xs a b n) (a + n) (b + n)) (b + j) d ≡ get_or xs (a + j) d) (sym e) (step.1 ∙ had_a)) (λ (ne : i ≢ n). step.2 (b + i) (λ e. ⊎_elim (λ (q : a + suc n ≤ b). absurd (omega arith)) (λ (q : b + suc n ≤ a). absurd (omega arith)) apart) (λ e. ne (let f : i ≡ n = omega arith in f)) ∙ before.at_b i (let f : i < n = omega arith in f)) (cases_eq i n);
-        elsewhere = λ k out_a out_b. step.2 k (λ e. ⊎_elim (λ (q : k < a). absurd (omega arith)) (λ (q : a + suc n ≤ k). absurd (omega arith)) out_a) (λ e. ⊎_elim (λ (q : k < b). absurd (omega arith)) (λ (q : b + suc n ≤ k). absurd (omega arith)) out_b) ∙ before.elsewhere k (⊎_elim (λ (q : k < a). inl q) (λ (q : a + suc n ≤ k). inr (let e : a + n ≤ k = omega arith in e)) out_a) (⊎_elim (λ (q : k < b). inl q) (λ (q : b + suc n ≤ k). inr (let e : b + n ≤ k = omega arith in e)) out_b);
+        at_a = λ i h. elim (cases_eq i n) as (λ _. get_or (swap (swap_runs xs a b n) (a + n) (b + n)) (a + i) d ≡ get_or xs (b + i) d) [
+          | inl e ↦ subst (λ j. get_or (swap (swap_runs xs a b n) (a + n) (b + n)) (a + j) d ≡ get_or xs (b + j) d) (sym e) (step.0 ∙ had_b)
+          | inr ne ↦ step.2 (a + i) (λ e. omega arith) (λ e. grind arith) ∙ before.at_a i (omega arith)
+        ];
+        at_b = λ i h. elim (cases_eq i n) as (λ _. get_or (swap (swap_runs xs a b n) (a + n) (b + n)) (b + i) d ≡ get_or xs (a + i) d) [
+          | inl e ↦ subst (λ j. get_or (swap (swap_runs xs a b n) (a + n) (b + n)) (b + j) d ≡ get_or xs (a + j) d) (sym e) (step.1 ∙ had_a)
+          | inr ne ↦ step.2 (b + i) (λ e. grind arith) (λ e. omega arith) ∙ before.at_b i (omega arith)
+        ];
+        elsewhere = λ k out_a out_b. step.2 k (λ e. grind arith) (λ e. grind arith) ∙ before.elsewhere k (λ h. grind arith) (λ h. grind arith);
       }
+
+  -- lists that are the same at the places of two runs, and at all others, are the same
+  pub same_zones : (xs ys : List X) (d : X) (a m b n : ℕ) → length xs ≡ length ys → ((j : ℕ) → j < m → get_or xs (a + j) d ≡ get_or ys (a + j) d) →
+      ((j : ℕ) → j < n → get_or xs (b + j) d ≡ get_or ys (b + j) d) →
+      ((k : ℕ) → (k < a + m → k < a) → (k < b + n → k < b) → get_or xs k d ≡ get_or ys k d) → xs ≡ ys
+  same_zones xs ys d a m b n long in_a in_b off = ext_get_or d xs ys long (λ k h. elim (within a m k) as (λ _. get_or xs k d ≡ get_or ys k d) [
+    | inl in_it ↦ subst (λ j. get_or xs j d ≡ get_or ys j d) (let e : a + (k - a) ≡ k = omega (arith, in_it.0) in e) (in_a (k - a) (omega (arith, in_it.0, in_it.1)))
+    | inr out_a ↦ elim (within b n k) as (λ _. get_or xs k d ≡ get_or ys k d) [
+      | inl in_it ↦ subst (λ j. get_or xs j d ≡ get_or ys j d) (let e : b + (k - b) ≡ k = omega (arith, in_it.0) in e) (in_b (k - b) (omega (arith, in_it.0, in_it.1)))
+      | inr out_b ↦ off k out_a out_b
+    ]
+  ])
 
   -- two runs that are apart are exchanged: each holds what the other held, and the rest stays
   pub swap_runs_is : (xs : List X) (a b n : ℕ) (d : X) → a + n ≤ length xs → b + n ≤ length xs → Apart a n b n → swap_runs xs a b n ≡ put_run (put_run xs a (run xs b n)) b (run xs a n)
   swap_runs_is xs a b n d ha hb apart =
-      let zs : List X = swap_runs xs a b n in
-      let ra : List X = run xs a n in
-      let rb : List X = run xs b n in
       let na : length (run xs a n) ≡ n = length-run xs a n ha in
       let nb : length (run xs b n) ≡ n = length-run xs b n hb in
       let ys : List X = put_run xs a (run xs b n) in
       let ny : length (put_run xs a (run xs b n)) ≡ length xs = length-put_run xs a (run xs b n) (omega arith) in
-      let nw : length (put_run (put_run xs a (run xs b n)) b (run xs a n)) ≡ length xs = length-put_run (put_run xs a (run xs b n)) b (run xs a n) (omega arith) ∙ ny in
       let m : Exchanged xs (swap_runs xs a b n) a b n d = exchanged xs a b n d ha hb apart in
-      let Same : ℕ → Type 0 = λ k. get_or (swap_runs xs a b n) k d ≡ get_or (put_run (put_run xs a (run xs b n)) b (run xs a n)) k d in
-      let in_b : (i : ℕ) → i < n → Same (b + i) = λ i h. m.at_b i h ∙ sym (get_or-put_run_in (put_run xs a (run xs b n)) b (run xs a n) i d (omega arith) (omega arith) ∙ get_or-run xs a n i d h) in
-      let out_b : (k : ℕ) → (k < b) ⊎ (b + n ≤ k) → get_or (put_run (put_run xs a (run xs b n)) b (run xs a n)) k d ≡ get_or (put_run xs a (run xs b n)) k d = λ k o. get_or-put_run_out (put_run xs a (run xs b n)) b (run xs a n) k d (omega arith) (⊎_elim (λ (q : k < b). inl q) (λ (q : b + n ≤ k). inr (let e : b + length (run xs a n) ≤ k = omega arith in e)) o) in
-      let in_a : (i : ℕ) → i < n → Same (a + i) = λ i h. m.at_a i h ∙ sym (out_b (a + i) (⊎_elim (λ (q : a + n ≤ b). inl (let e : a + i < b = omega arith in e)) (λ (q : b + n ≤ a). inr (let e : b + n ≤ a + i = omega arith in e)) apart) ∙ get_or-put_run_in xs a (run xs b n) i d (omega arith) (omega arith) ∙ get_or-run xs b n i d h) in
-      let off : (k : ℕ) → (k < a) ⊎ (a + n ≤ k) → (k < b) ⊎ (b + n ≤ k) → Same k = λ k oa ob. m.elsewhere k oa ob ∙ sym (out_b k ob ∙ get_or-put_run_out xs a (run xs b n) k d (omega arith) (⊎_elim (λ (q : k < a). inl q) (λ (q : a + n ≤ k). inr (let e : a + length (run xs b n) ≤ k = omega arith in e)) oa)) in
-      ext_get_or d (swap_runs xs a b n) (put_run (put_run xs a (run xs b n)) b (run xs a n)) (length-swap_runs xs a b n ∙ sym nw) (λ k h.
-      ⊎_elim (λ (before_a : k < a).
-      ⊎_elim (λ (before_b : k < b). off k (inl before_a) (inl before_b))
-      (λ (from_b : b ≤ k).
-      ⊎_elim (λ (inside : k < b + n). subst Same (let e : b + (k - b) ≡ k = omega arith in e) (in_b (k - b) (omega arith))) (λ (past : b + n ≤ k). off k (inl before_a) (inr past)) (cases_lt k (b + n))) (cases_lt k b))
-      (λ (from_a : a ≤ k).
-      ⊎_elim (λ (inside : k < a + n). subst Same (let e : a + (k - a) ≡ k = omega arith in e) (in_a (k - a) (omega arith)))
-      (λ (past_a : a + n ≤ k).
-      ⊎_elim (λ (before_b : k < b). off k (inr past_a) (inl before_b))
-      (λ (from_b : b ≤ k).
-      ⊎_elim (λ (inside : k < b + n). subst Same (let e : b + (k - b) ≡ k = omega arith in e) (in_b (k - b) (omega arith))) (λ (past : b + n ≤ k). off k (inr past_a) (inr past)) (cases_lt k (b + n))) (cases_lt k b)) (cases_lt k (a + n))) (cases_lt k a))
+      let out_b : (k : ℕ) → (k < b + n → k < b) → get_or (put_run ys b (run xs a n)) k d ≡ get_or ys k d = λ k o. get_or-put_run_out ys b (run xs a n) k d (omega arith) (λ h. o (omega arith)) in
+      same_zones (swap_runs xs a b n) (put_run ys b (run xs a n)) d a n b n (length-swap_runs xs a b n ∙ sym (length-put_run ys b (run xs a n) (omega arith) ∙ ny))
+      (λ i h. m.at_a i h ∙ sym (out_b (a + i) (λ q. grind (arith, apart)) ∙ get_or-put_run_in xs a (run xs b n) i d (omega arith) (omega arith) ∙ get_or-run xs b n i d h))
+      (λ i h. m.at_b i h ∙ sym (get_or-put_run_in ys b (run xs a n) i d (omega arith) (omega arith) ∙ get_or-run xs a n i d h))
+      (λ k oa ob. m.elsewhere k oa ob ∙ sym (out_b k ob ∙ get_or-put_run_out xs a (run xs b n) k d (omega arith) (λ h. oa (omega arith))))
 
   -- one place of a run is written
   pub set_in_run : (xs : List X) (a n i : ℕ) (x : X) → a + n ≤ length xs → i < n → set xs (a + i) x ≡ put_run xs a (set (run xs a n) i x)
@@ -150,3 +156,89 @@ module _ {X : Type 0} where
   -- a place before a run is written
   pub run-set_before : (xs : List X) (a n i : ℕ) (x : X) → i < a → run (set xs i x) a n ≡ run xs a n
   run-set_before xs a n i x h = ap (λ zs. take n zs) (drop-set-lt a xs i x h)
+
+-- ---- the items of a run that are moved to an unused run, with one put among them: first those before it, then those behind it
+
+all_vacant : {X : Type 0} (x : X) (n j : ℕ) → get_or (replicate n x) j x ≡ x
+all_vacant x zero j = refl
+all_vacant x (suc n) zero = refl
+all_vacant x (suc n) (suc j) = all_vacant x n j
+
+module _ {X : Type 0} (vacant x : X) (xs : List X) (a b n i : ℕ) (from_within : a + n ≤ length xs) (to_within : b + n < length xs)
+    (apart : b < a + n → b + n < a) (place : i ≤ n) (empty : run xs b (n + 1) ≡ replicate (n + 1) vacant) where
+  -- what is left at last
+  abbrev both_parts : List X
+  both_parts = swap_runs (set (swap_runs xs a b i) (b + i) x) (a + i) (b + i + 1) (n - i)
+
+  none : (j : ℕ) → j ≤ n → get_or xs (b + j) vacant ≡ vacant
+  none j h = sym (get_or-run xs b (n + 1) j vacant (omega arith)) ∙ ap (λ zs. get_or zs j vacant) empty ∙ all_vacant vacant (n + 1) j
+
+  item : (j : ℕ) → j < n → get_or xs (a + j) vacant ≡ get_or (run xs a n) j vacant
+  item j h = sym (get_or-run xs a n j vacant h)
+
+  long : length (run xs a n) ≡ n
+  long = length-run xs a n from_within
+
+  long_first : length (swap_runs xs a b i) ≡ length xs
+  long_first = length-swap_runs xs a b i
+
+  long_item : length (set (swap_runs xs a b i) (b + i) x) ≡ length xs
+  long_item = length-set (swap_runs xs a b i) (b + i) x ∙ long_first
+
+  one : Exchanged xs (swap_runs xs a b i) a b i vacant
+  one = exchanged xs a b i vacant (omega (arith, from_within, place)) (omega (arith, to_within, place)) (λ h. grind (arith, apart, place))
+
+  two : Exchanged (set (swap_runs xs a b i) (b + i) x) both_parts (a + i) (b + i + 1) (n - i) vacant
+  two = exchanged (set (swap_runs xs a b i) (b + i) x) (a + i) (b + i + 1) (n - i) vacant (omega (arith, from_within, place, long_item))
+      (omega (arith, to_within, place, long_item)) (λ h. grind (arith, apart, place))
+
+  wrote : (k : ℕ) → k ≢ b + i → get_or (set (swap_runs xs a b i) (b + i) x) k vacant ≡ get_or (swap_runs xs a b i) k vacant
+  wrote k ne = get_or-set_other (swap_runs xs a b i) (b + i) k x vacant ne
+
+  -- where the items stood nothing is left
+  left : (j : ℕ) → j < n → get_or both_parts (a + j) vacant ≡ vacant
+  left j h = elim (cases_lt j i) as (λ _. get_or both_parts (a + j) vacant ≡ vacant) [
+    | inl q ↦
+        two.elsewhere (a + j) (λ p. omega arith) (λ p. grind (arith, apart, place)) ∙ wrote (a + j) (λ e. grind (arith, apart, place)) ∙ one.at_a j q ∙ none j (omega arith)
+    | inr q ↦
+        subst (λ m. get_or both_parts m vacant ≡ vacant) (let e : a + i + (j - i) ≡ a + j = omega arith in e)
+        (two.at_a (j - i) (omega arith) ∙ wrote (b + i + 1 + (j - i)) (λ e. omega arith)
+        ∙ one.elsewhere (b + i + 1 + (j - i)) (λ p. grind (arith, apart, place)) (λ p. omega arith)
+        ∙ ap (λ m. get_or xs m vacant) (let e : b + i + 1 + (j - i) ≡ b + (j + 1) = omega arith in e) ∙ none (j + 1) (omega arith))
+  ]
+
+  -- and they stand round the item that was put among them
+  moved : (j : ℕ) → j < n + 1 → get_or both_parts (b + j) vacant ≡ get_or (insert (run xs a n) i x) j vacant
+  moved j h = elim (cases_lt j i) as (λ _. get_or both_parts (b + j) vacant ≡ get_or (insert (run xs a n) i x) j vacant) [
+    | inl q ↦
+        two.elsewhere (b + j) (λ p. grind (arith, apart, place)) (λ p. omega arith) ∙ wrote (b + j) (λ e. omega arith) ∙ one.at_b j q ∙ item j (omega (arith, place))
+        ∙ sym (get_or-insert_below (run xs a n) i x vacant j q (omega (arith, place, long)))
+    | inr q ↦ elim (cases_eq j i) as (λ _. get_or both_parts (b + j) vacant ≡ get_or (insert (run xs a n) i x) j vacant) [
+      | inl e ↦
+          subst (λ m. get_or both_parts (b + m) vacant ≡ get_or (insert (run xs a n) i x) m vacant) (sym e)
+          (two.elsewhere (b + i) (λ p. grind (arith, apart, place)) (λ p. omega arith)
+          ∙ get_or-set_same (swap_runs xs a b i) (b + i) x vacant (omega (arith, long_first, to_within, place))
+          ∙ sym (get_or-insert_at (run xs a n) i x vacant (omega (arith, place, long))))
+      | inr other ↦
+          subst (λ m. get_or both_parts m vacant ≡ get_or (insert (run xs a n) i x) j vacant) (let e : b + i + 1 + (j - i - 1) ≡ b + j = omega arith in e)
+          (two.at_b (j - i - 1) (omega arith) ∙ wrote (a + i + (j - i - 1)) (λ e. grind (arith, apart, place))
+          ∙ one.elsewhere (a + i + (j - i - 1)) (λ p. omega arith) (λ p. grind (arith, apart, place))
+          ∙ ap (λ m. get_or xs m vacant) (let e : a + i + (j - i - 1) ≡ a + (j - 1) = omega arith in e) ∙ item (j - 1) (omega arith)
+          ∙ sym (get_or-insert_above (run xs a n) i x vacant (j - 1) (omega arith) (omega (arith, place, long)))
+          ∙ ap (λ m. get_or (insert (run xs a n) i x) m vacant) (let e : j - 1 + 1 ≡ j = omega arith in e))
+    ]
+  ]
+
+  pub moved_in : swap_runs (set (swap_runs xs a b i) (b + i) x) (a + i) (b + i + 1) (n - i) ≡ put_run (put_run xs a (replicate n vacant)) b (insert (run xs a n) i x)
+  moved_in =
+      let nb : length (replicate n vacant) ≡ n = length-replicate n vacant in
+      let ny : length (insert (run xs a n) i x) ≡ n + 1 = (let e = length-insert (run xs a n) i x (omega (arith, place, long)) in omega (arith, long)) in
+      let ys : List X = put_run xs a (replicate n vacant) in
+      let ni : length (put_run xs a (replicate n vacant)) ≡ length xs = length-put_run xs a (replicate n vacant) (omega (arith, from_within)) in
+      let out_b : (k : ℕ) → (k < b + (n + 1) → k < b) → get_or (put_run ys b (insert (run xs a n) i x)) k vacant ≡ get_or ys k vacant = λ k o. get_or-put_run_out ys b (insert (run xs a n) i x) k vacant (omega (arith, to_within)) (λ h. o (omega arith)) in
+      same_zones both_parts (put_run ys b (insert (run xs a n) i x)) vacant a n b (n + 1)
+      (length-swap_runs (set (swap_runs xs a b i) (b + i) x) (a + i) (b + i + 1) (n - i) ∙ long_item ∙ sym (length-put_run ys b (insert (run xs a n) i x) (omega (arith, to_within)) ∙ ni))
+      (λ j q. left j q ∙ sym (out_b (a + j) (λ h. grind (arith, apart)) ∙ get_or-put_run_in xs a (replicate n vacant) j vacant (omega (arith, from_within)) (omega arith) ∙ all_vacant vacant n j))
+      (λ j q. moved j q ∙ sym (get_or-put_run_in ys b (insert (run xs a n) i x) j vacant (omega (arith, to_within)) (omega arith)))
+      (λ m oa ob. two.elsewhere m (λ h. grind (arith, place)) (λ h. grind (arith, place)) ∙ wrote m (λ e. grind (arith, place)) ∙ one.elsewhere m (λ h. grind (arith, place)) (λ h. grind (arith, place))
+      ∙ sym (out_b m ob ∙ get_or-put_run_out xs a (replicate n vacant) m vacant (omega (arith, from_within)) (λ h. oa (omega arith))))

@@ -9,7 +9,7 @@ use Rattle.std.proofs.lemmas.Bool.{cases_eq}
 use Rattle.std.proofs.lemmas.Bool.Decides.{nat_tests}
 use Rattle.prefix_trie_bits.specs.Model.Blocks.{Tiles, AreBlocksOf, Block as Extent}
 use Rattle.prefix_trie_table.specs.Runs.{run, put_run}
-use Rattle.prefix_trie_table.specs.Store.{Tier, Store, UsedBlock, Sound, IsOfTier, HoldsItems, IsVacant, tier_at, tier_sizes, slots_made, extent, of_size, free_extents, with_tier, grown, filled, block, held, no_blocks}
+use Rattle.prefix_trie_table.specs.Store.{Tier, Store, UsedBlock, Sound, IsOfTier, HoldsItems, IsVacant, tier_at, tier_sizes, slots_made, extent, of_size, free_extents, with_tier, filled, block, held, no_blocks}
 use Rattle.prefix_trie_table.proofs.Blocks.RunLemmas.{Apart, length-run, length-put_run, run-put_run_same, run-put_run_other, run-append_left, run-append_right, moved_in_run, set_in_run, run-set_before}
 use Rattle.prefix_trie_table.proofs.Blocks.BySize.{sizes_set, has_size}
 use Rattle.prefix_trie_table.proofs.Blocks.Tilings.{Disjoint, Within, Tiles-push, others_apart, each_within, first_inside, blocks_moved, All-append_left, All-append_right}
@@ -53,7 +53,7 @@ module _ {S : Type 0} where
       All-weaker (IsOfTier ts) (IsOfTier (set ts k t)) (λ b h. record { within = (let n = length-set ts k t in omega (arith, h.within)); size_is = h.size_is ∙ sym (sizes_stay ts k t b.tier inside same) }) live
 
   -- every block in use or free lies in the array
-  all_inside : (vacant : S) (live : List (UsedBlock S)) (v : Store S) → Sound vacant live v → All (Within v.first (length v.slots)) (map extent live ++ free_extents v.tiers)
+  pub all_inside : (vacant : S) (live : List (UsedBlock S)) (v : Store S) → Sound vacant live v → All (Within v.first (length v.slots)) (map extent live ++ free_extents v.tiers)
   all_inside vacant live v s = each_within (tier_sizes v.tiers) v.first (length v.slots) (map extent live) (free_extents v.tiers) s.blocks
 
   -- the place of the first block lies in the array
@@ -69,7 +69,7 @@ module _ {S : Type 0} where
   others vacant b live v s = others_apart (tier_sizes v.tiers) v.first (length v.slots) (extent b) (map extent live) (free_extents v.tiers) s.blocks
 
   -- a fact of each extent is one of each block
-  All-extent : (P : Extent → Type 0) (live : List (UsedBlock S)) → All P (map extent live) → All (λ b. P (extent b)) live
+  pub All-extent : (P : Extent → Type 0) (live : List (UsedBlock S)) → All P (map extent live) → All (λ b. P (extent b)) live
   All-extent P [] all = All-nil (λ b. P (extent b))
   All-extent P (b ∷ live) all =
       All-cons (λ b. P (extent b)) b live (All-head P (extent b) (map extent live) all) (All-extent P live (All-tail P (extent b) (map extent live) all))
@@ -125,7 +125,7 @@ module _ {S : Type 0} where
       }
 
   -- a free block was made at the array's end
-  pub Sound-grown : (vacant : S) (live : List (UsedBlock S)) (v : Store S) (k : ℕ) → k < length v.tiers → Sound vacant live v → Sound vacant live (grown vacant v k)
+  pub Sound-grown : (vacant : S) (live : List (UsedBlock S)) (v : Store S) (k : ℕ) → k < length v.tiers → Sound vacant live v → Sound vacant live (record v { slots = v.slots ++ replicate (tier_at v.tiers k).size vacant; tiers = set v.tiers k (record (tier_at v.tiers k) { made = (tier_at v.tiers k).made + 1; starts = (tier_at v.tiers k).starts ++ length v.slots ∷ [] }) })
   Sound-grown vacant live v k inside s =
       let t = tier_at v.tiers k in
       let e : Extent = of_size t.size (length v.slots) in
@@ -278,12 +278,10 @@ module _ {S : Type 0} where
   Sound-exchanged vacant a b live v s =
       Sound-permuted vacant (a ∷ b ∷ live) (b ∷ a ∷ live) v (IsPermutation-middle (a ∷ []) b live) s
 
-module _ {S : Type 0} where
   -- the tier of a block in use
   pub tier_of_block : (vacant : S) (b : UsedBlock S) (live : List (UsedBlock S)) (v : Store S) → Sound vacant (b ∷ live) v → IsOfTier v.tiers b
   tier_of_block vacant b live v s = All-head (IsOfTier v.tiers) b live s.of_tier
 
-module _ {S : Type 0} where
   -- a list with items stands in a block
   pub list_block : (vacant : S) (k start n : ℕ) (xs : List S) (live : List (UsedBlock S)) (v : Store S) → 0 < length xs → Sound vacant (held k start n xs ++ live) v → Sound vacant (block k start n xs ∷ live) v
   list_block vacant k start n [] live v h s = absurd (omega arith)
@@ -298,17 +296,14 @@ module _ {S : Type 0} where
   no_list vacant k start n (x ∷ xs) live v h s = absurd (omega arith)
 
 -- no block is made
-slots_made_none : (ts : List Tier) → All (λ t. (t.made ≡ 0) × (t.starts ≡ [])) ts → slots_made ts ≡ 0
-slots_made_none [] none = refl
-slots_made_none (t ∷ ts) none =
+pub no_slots_made : (ts : List Tier) → All (λ t. (t.made ≡ 0) × (t.starts ≡ [])) ts → slots_made ts ≡ 0
+no_slots_made [] none = refl
+no_slots_made (t ∷ ts) none =
     let f : Tier → ℕ = λ u. u.size * u.made in
     let here : t.made ≡ 0 = (none 0 t (omega arith)).0 in
     let zero_here : t.size * t.made ≡ 0 = ap (λ m. t.size * m) here ∙ (let e : t.size * 0 ≡ 0 = omega arith in e) in
-    let rest : sum_by f ts ≡ 0 = slots_made_none ts (All-tail (λ u. (u.made ≡ 0) × (u.starts ≡ [])) t ts none) in
+    let rest : sum_by f ts ≡ 0 = no_slots_made ts (All-tail (λ u. (u.made ≡ 0) × (u.starts ≡ [])) t ts none) in
     omega (arith, sum_by-cons f t ts, zero_here, rest)
-
-pub no_slots_made : (ts : List Tier) → All (λ t. (t.made ≡ 0) × (t.starts ≡ [])) ts → slots_made ts ≡ 0
-no_slots_made ts none = slots_made_none ts none
 
 -- no block is made where all are forgotten
 pub none_made : (ts : List Tier) → All (λ t. (t.made ≡ 0) × (t.starts ≡ [])) (map (λ t. no_blocks t.size) ts)

@@ -1,5 +1,5 @@
 -- Blocks that tile an array have no slot in common.
-use Rattle.std.proofs.Common.{◌≡◌, ℕ, zero, suc, ◌+◌, ◌<◌, ◌≤◌, inl, inr, ⊎_elim, cond, leb, List, [], ◌∷◌, ◌++◌, length, get_or, remove, sum_by, All, IsPermutation, refl, sym, ap, ◌∙◌, subst, arith, length-append}
+use Rattle.std.proofs.Common.{◌≡◌, ℕ, zero, suc, ◌+◌, ◌<◌, ◌≤◌, inl, inr, cond, leb, List, [], ◌∷◌, ◌++◌, length, get_or, remove, sum_by, All, IsPermutation, refl, sym, ap, ◌∙◌, subst, arith, length-append}
 use Rattle.std.specs.Prelude.{Contains}
 use Rattle.std.proofs.lemmas.List.Sums.{sum_by-cons, sum_by-append, get_or-le-sum_by}
 use Rattle.std.proofs.lemmas.Bool.{cases_lt}
@@ -36,10 +36,10 @@ Tiles-push sizes first end (x ∷ es) e t sized at = (t.0, t.1, Tiles-push sizes
 all_apart : (sizes : List ℕ) (first end : ℕ) (es : List Extent) (i : ℕ) (d : Extent) → Tiles sizes first es end → i < length es → All (Disjoint (get_or es i d)) (remove es i)
 all_apart sizes first end [] i d t inside = absurd (omega arith)
 all_apart sizes first end (x ∷ es) zero d t inside =
-    All-weaker (Within (first + x.size) end) (Disjoint x) (λ f w. inl (let e : x.start + x.size ≤ f.start = omega (arith, t.1, w.after) in e)) es (all_within sizes (first + x.size) end es t.2).0
+    All-weaker (Within (first + x.size) end) (Disjoint x) (λ f w h. absurd (omega (arith, t.1, w.after, h))) es (all_within sizes (first + x.size) end es t.2).0
 all_apart sizes first end (x ∷ es) (suc i) d t inside =
     let later = (all_within sizes (first + x.size) end es t.2).0 i d (omega arith) in
-    All-cons (Disjoint (get_or es i d)) x (remove es i) (inr (let e : x.start + x.size ≤ (get_or es i d).start = omega (arith, t.1, later.after) in e))
+    All-cons (Disjoint (get_or es i d)) x (remove es i) (λ _. omega (arith, t.1, later.after))
     (all_apart sizes (first + x.size) end es i d t.2 (omega arith))
 
 -- 0 where two blocks are apart
@@ -47,13 +47,16 @@ abbrev overlap : Extent → Extent → ℕ
 overlap e f = cond (leb (e.start + e.size) f.start) 0 (cond (leb (f.start + f.size) e.start) 0 1)
 
 apart-overlap : (e f : Extent) → Disjoint e f → overlap e f ≡ 0
-apart-overlap e f d = ⊎_elim (λ (h : e.start + e.size ≤ f.start). grind (arith, nat_tests)) (λ (h : f.start + f.size ≤ e.start). grind (arith, nat_tests)) d
+apart-overlap e f d = elim (cases_lt f.start (e.start + e.size)) as (λ _. overlap e f ≡ 0) [
+  | inl h ↦ (let q = d h in grind (arith, nat_tests))
+  | inr h ↦ grind (arith, nat_tests)
+]
 
 overlap-apart : (e f : Extent) → overlap e f ≡ 0 → Disjoint e f
-overlap-apart e f none =
-    ⊎_elim (λ (left : f.start < e.start + e.size).
-    ⊎_elim (λ (right : e.start < f.start + f.size). let one : overlap e f ≡ 1 = grind (arith, nat_tests) in absurd (omega (arith, none, one)))
-    (λ (h : f.start + f.size ≤ e.start). inr h) (cases_lt e.start (f.start + f.size))) (λ (h : e.start + e.size ≤ f.start). inl h) (cases_lt f.start (e.start + e.size))
+overlap-apart e f none h = elim (cases_lt e.start (f.start + f.size)) as (λ _. f.start + f.size ≤ e.start) [
+  | inl right ↦ (let one : overlap e f ≡ 1 = grind (arith, nat_tests) in absurd (omega (arith, none, one)))
+  | inr apart ↦ apart
+]
 
 no_overlap : (e : Extent) (fs : List Extent) → All (Disjoint e) fs → sum_by (overlap e) fs ≡ 0
 no_overlap e [] all = refl

@@ -1,6 +1,6 @@
 -- What stands for each set bit, when one bit is set or cleared.
 use Rattle.std.proofs.Common.{◌≡◌, ◌≢◌, ℕ, zero, suc, ◌+◌, ◌-◌, ◌<◌, ◌≤◌, ⊎_elim, Bool, true, false, cond, List, [], ◌∷◌, ◌++◌, length, get_or, set, map, insert, remove, refl, sym, ap, ap₂, ◌∙◌, subst, arith, append_assoc, length-append}
-use Rattle.std.proofs.lemmas.List.{map-append, length-map, get_or-append-add, append-nil}
+use Rattle.std.proofs.lemmas.List.{map-append, length-map, append-nil, get_or_at, set_at}
 use Rattle.std.proofs.lemmas.Bool.{cases_eq}
 use Rattle.std.proofs.lemmas.List.Edits.{insert-append_right, remove-append_right, length-insert}
 use Rattle.prefix_trie_table.proofs.Strings.Bits.{has_bit-zero, if_set-length}
@@ -36,13 +36,6 @@ module _ {Y : Type 0} where
   remove_at xs ys y n e =
       let z : n - length xs ≡ 0 = omega arith in
       remove-append_right xs (y ∷ ys) (length xs) n refl (omega arith) ∙ ap (λ k. xs ++ remove (y ∷ ys) k) z
-
-  set_at : (xs ys : List Y) (x y : Y) (n : ℕ) → n ≡ length xs → set (xs ++ x ∷ ys) n y ≡ xs ++ y ∷ ys
-  set_at [] ys x y n e = ap (λ k. set (x ∷ ys) k y) e
-  set_at (z ∷ xs) ys x y n e = ap (λ k. set (z ∷ (xs ++ x ∷ ys)) k y) e ∙ ap (λ zs. z ∷ zs) (set_at xs ys x y (length xs) refl)
-
-  get_at : (xs ys : List Y) (x d : Y) (n : ℕ) → n ≡ length xs → get_or (xs ++ x ∷ ys) n d ≡ x
-  get_at xs ys x d n e = ap (λ k. get_or (xs ++ x ∷ ys) k d) (let z : n ≡ length xs + 0 = omega arith in z) ∙ get_or-append-add xs (x ∷ ys) 0 d
 
   map_if : (f g : ℕ → Y) (s : Bool) (i : ℕ) → g i ≡ f i → map g (if_set s i) ≡ map f (if_set s i)
   map_if f g true i e = ap (λ y. y ∷ []) e
@@ -97,7 +90,7 @@ module _ {Y : Type 0} where
       let is = map_with f bitmap b h s in (
         let n : length (map f (bits bitmap)) ≡ length (under f bitmap b ++ f b ∷ over f bitmap b) = ap (λ (xs : List Y). length xs) is in
             omega (arith, n, length-append (under f bitmap b) (f b ∷ over f bitmap b), rank_is f bitmap b),
-        ap (λ xs. get_or xs (rank bitmap b) d) is ∙ get_at (under f bitmap b) (over f bitmap b) (f b) d (rank bitmap b) (rank_is f bitmap b),
+        ap (λ xs. get_or xs (rank bitmap b) d) is ∙ get_or_at (under f bitmap b) (f b) (over f bitmap b) d (rank bitmap b) (sym (rank_is f bitmap b)),
       )
 
   -- one bit more
@@ -133,7 +126,7 @@ module _ {Y : Type 0} where
       let high : over g bitmap b ≡ over f bitmap b = map_from f g bitmap bitmap (suc b) (31 - b) (λ i k. refl) (λ i k. eq i (λ e. omega arith)) in
       map_with g bitmap b h is ∙ (λ i. low i ++ g b ∷ high i)
       ∙ sym (ap (λ xs. set xs (rank bitmap b) (g b)) (map_with f bitmap b h is)
-      ∙ set_at (under f bitmap b) (over f bitmap b) (f b) (g b) (rank bitmap b) (rank_is f bitmap b))
+      ∙ set_at (under f bitmap b) (f b) (over f bitmap b) (g b) (rank bitmap b) (sym (rank_is f bitmap b)))
 
   -- the same bits, and the same for each
   pub map_same : (f g : ℕ → Y) (old new : ℕ) → ((i : ℕ) → has_bit new i ≡ has_bit old i) → ((i : ℕ) → g i ≡ f i) → map g (bits new) ≡ map f (bits old)

@@ -1,21 +1,35 @@
 -- What the steps and the value bit say of a bit string.
-use Rattle.std.proofs.Common.{◌≡◌, ℕ, zero, suc, ◌*◌, ◌/◌, ◌<◌, ◌≤◌, Bool, List, [], ◌∷◌, ◌++◌, length, take, drop, get_or, refl, sym, ap, ◌∙◌, arith}
+use Rattle.std.proofs.Common.{◌≡◌, ℕ, zero, suc, ◌*◌, ◌/◌, ◌<◌, ◌≤◌, Bool, List, [], ◌∷◌, ◌++◌, length, take, drop, get_or, refl, sym, ap, ◌∙◌, subst, arith, ◌^◌, ◌%◌, length-drop}
+use Rattle.std.proofs.lemmas.List.{length-take-le, nil_from_length}
+use Rattle.prefix_trie_bits.specs.Places.{value_bit}
 use Rattle.prefix_trie_bits.specs.Bits.{number}
 use Rattle.prefix_trie_bits.specs.BitStrings.{same-from-number, number-lt}
 use Rattle.prefix_trie_bits.proofs.Strings.{value_bit-injective, value_bit-small}
 use Rattle.prefix_trie_table.specs.Digits.{path_of, rest_of, bit_of}
+
+-- induction on a string by its steps of five bits
+pub by_steps : (P : List Bool → Type 0) → ((r : List Bool) → length r ≤ 4 → P r) → ((a b c d e : Bool) (s : List Bool) → P s → P (a ∷ b ∷ c ∷ d ∷ e ∷ s)) → (s : List Bool) → P s
+by_steps P short step (a ∷ b ∷ c ∷ d ∷ e ∷ s) = step a b c d e s (by_steps P short step s)
+by_steps P short step (a ∷ b ∷ c ∷ d ∷ []) = short (a ∷ b ∷ c ∷ d ∷ []) (omega arith)
+by_steps P short step (a ∷ b ∷ c ∷ []) = short (a ∷ b ∷ c ∷ []) (omega arith)
+by_steps P short step (a ∷ b ∷ []) = short (a ∷ b ∷ []) (omega arith)
+by_steps P short step (a ∷ []) = short (a ∷ []) (omega arith)
+by_steps P short step [] = short [] (omega arith)
+
+pub short_path : (r : List Bool) → length r ≤ 4 → (path_of r ≡ []) × (rest_of r ≡ r)
+short_path (a ∷ b ∷ c ∷ d ∷ e ∷ s) h = absurd (omega (arith, h))
+short_path (a ∷ b ∷ c ∷ d ∷ []) h = (refl, refl)
+short_path (a ∷ b ∷ c ∷ []) h = (refl, refl)
+short_path (a ∷ b ∷ []) h = (refl, refl)
+short_path (a ∷ []) h = (refl, refl)
+short_path [] h = (refl, refl)
 
 more : (n l : ℕ) → n ≡ l / 5 → suc n ≡ suc (suc (suc (suc (suc l)))) / 5
 more n l e = omega arith
 
 -- a way has a step for each five bits
 pub path-length : (s : List Bool) → length (path_of s) ≡ length s / 5
-path-length (a ∷ b ∷ c ∷ d ∷ e ∷ s) = more (length (path_of s)) (length s) (path-length s)
-path-length (a ∷ b ∷ c ∷ d ∷ []) = refl
-path-length (a ∷ b ∷ c ∷ []) = refl
-path-length (a ∷ b ∷ []) = refl
-path-length (a ∷ []) = refl
-path-length [] = refl
+path-length = by_steps (λ s. length (path_of s) ≡ length s / 5) (λ r h. let e = ap (λ p. length p) (short_path r h).0 in omega (arith, h, e)) (λ a b c d e s. more (length (path_of s)) (length s))
 
 drop-five : (n : ℕ) (a b c d e : Bool) (s : List Bool) → drop (5 * suc n) (a ∷ b ∷ c ∷ d ∷ e ∷ s) ≡ drop (5 * n) s
 drop-five n a b c d e s = ap (λ k. drop k (a ∷ b ∷ c ∷ d ∷ e ∷ s)) (five n)
@@ -31,32 +45,23 @@ take-five n a b c d e s = ap (λ k. take k (a ∷ b ∷ c ∷ d ∷ e ∷ s)) (f
 
 -- it is what is left when the steps are dropped
 pub rest-is : (s : List Bool) → rest_of s ≡ drop (5 * length (path_of s)) s
-rest-is (a ∷ b ∷ c ∷ d ∷ e ∷ s) = rest-is s ∙ sym (drop-five (length (path_of s)) a b c d e s)
-rest-is (a ∷ b ∷ c ∷ d ∷ []) = refl
-rest-is (a ∷ b ∷ c ∷ []) = refl
-rest-is (a ∷ b ∷ []) = refl
-rest-is (a ∷ []) = refl
-rest-is [] = refl
+rest-is = by_steps (λ s. rest_of s ≡ drop (5 * length (path_of s)) s) (λ r h. (short_path r h).1 ∙ ap (λ p. drop (5 * length p) r) (sym (short_path r h).0))
+    (λ a b c d e s ih. ih ∙ sym (drop-five (length (path_of s)) a b c d e s))
 
 -- each step is the number of its five bits
 pub step-is : (s : List Bool) (k : ℕ) → k < length (path_of s) → get_or (path_of s) k 0 ≡ number (take 5 (drop (5 * k) s))
-step-is (a ∷ b ∷ c ∷ d ∷ e ∷ s) zero h = refl
-step-is (a ∷ b ∷ c ∷ d ∷ e ∷ s) (suc k) h = step-is s k (omega arith) ∙ ap (λ t. number (take 5 t)) (sym (drop-five k a b c d e s))
-step-is (a ∷ b ∷ c ∷ d ∷ []) k h = absurd (omega arith)
-step-is (a ∷ b ∷ c ∷ []) k h = absurd (omega arith)
-step-is (a ∷ b ∷ []) k h = absurd (omega arith)
-step-is (a ∷ []) k h = absurd (omega arith)
-step-is [] k h = absurd (omega arith)
+step-is = by_steps (λ s. (k : ℕ) → k < length (path_of s) → get_or (path_of s) k 0 ≡ number (take 5 (drop (5 * k) s)))
+    (λ r h k less. absurd (let e = ap (λ p. length p) (short_path r h).0 in omega (arith, e, less))) further
+  where
+    further : (a b c d e : Bool) (s : List Bool) → ((k : ℕ) → k < length (path_of s) → get_or (path_of s) k 0 ≡ number (take 5 (drop (5 * k) s))) → (k : ℕ) →
+        k < suc (length (path_of s)) → get_or (number (a ∷ b ∷ c ∷ d ∷ e ∷ []) ∷ path_of s) k 0 ≡ number (take 5 (drop (5 * k) (a ∷ b ∷ c ∷ d ∷ e ∷ s)))
+    further a b c d e s ih zero h = refl
+    further a b c d e s ih (suc k) h = ih k (omega arith) ∙ ap (λ t. number (take 5 t)) (sym (drop-five k a b c d e s))
 
 -- a step is one of 32
 pub step-small : (s : List Bool) (k : ℕ) → k < length (path_of s) → get_or (path_of s) k 0 < 32
-step-small (a ∷ b ∷ c ∷ d ∷ e ∷ s) zero h = number-lt (a ∷ b ∷ c ∷ d ∷ e ∷ [])
-step-small (a ∷ b ∷ c ∷ d ∷ e ∷ s) (suc k) h = step-small s k (omega arith)
-step-small (a ∷ b ∷ c ∷ d ∷ []) k h = absurd (omega arith)
-step-small (a ∷ b ∷ c ∷ []) k h = absurd (omega arith)
-step-small (a ∷ b ∷ []) k h = absurd (omega arith)
-step-small (a ∷ []) k h = absurd (omega arith)
-step-small [] k h = absurd (omega arith)
+step-small s k h = subst (λ n. n < 32) (sym (step-is s k h)) (subst (λ n. number (take 5 (drop (5 * k) s)) < 2 ^ n)
+    (length-take-le 5 (drop (5 * k) s) (omega (arith, h, path-length s, length-drop (5 * k) s))) (number-lt (take 5 (drop (5 * k) s))))
 
 -- the first steps are those of a beginning
 pub path-take : (k : ℕ) (s : List Bool) → 5 * k ≤ length s → path_of (take (5 * k) s) ≡ take k (path_of s)
@@ -83,26 +88,23 @@ string_is s t p q = value_bit-injective s t q
 
 -- a value bit is one of 31
 pub bit_of-small : (s : List Bool) → bit_of s < 31
-bit_of-small [] = value_bit-small [] (omega arith)
-bit_of-small (a ∷ []) = value_bit-small (a ∷ []) (omega arith)
-bit_of-small (a ∷ b ∷ []) = value_bit-small (a ∷ b ∷ []) (omega arith)
-bit_of-small (a ∷ b ∷ c ∷ []) = value_bit-small (a ∷ b ∷ c ∷ []) (omega arith)
-bit_of-small (a ∷ b ∷ c ∷ d ∷ []) = value_bit-small (a ∷ b ∷ c ∷ d ∷ []) (omega arith)
-bit_of-small (a ∷ b ∷ c ∷ d ∷ e ∷ s) = bit_of-small s
-
-pub short_path : (r : List Bool) → length r ≤ 4 → (path_of r ≡ []) × (rest_of r ≡ r)
-short_path (a ∷ b ∷ c ∷ d ∷ e ∷ s) h = absurd (omega (arith, h))
-short_path (a ∷ b ∷ c ∷ d ∷ []) h = (refl, refl)
-short_path (a ∷ b ∷ c ∷ []) h = (refl, refl)
-short_path (a ∷ b ∷ []) h = (refl, refl)
-short_path (a ∷ []) h = (refl, refl)
-short_path [] h = (refl, refl)
+bit_of-small = by_steps (λ s. bit_of s < 31) (λ r h. subst (λ x. value_bit x < 31) (sym (short_path r h).1) (value_bit-small r h)) (λ a b c d e s ih. ih)
 
 pub five_path : (r : List Bool) → length r ≡ 5 → path_of r ≡ number r ∷ []
-five_path (a ∷ b ∷ c ∷ d ∷ e ∷ []) h = refl
-five_path (a ∷ b ∷ c ∷ d ∷ e ∷ x ∷ s) h = absurd (omega (arith, h))
-five_path (a ∷ b ∷ c ∷ d ∷ []) h = absurd (omega (arith, h))
-five_path (a ∷ b ∷ c ∷ []) h = absurd (omega (arith, h))
-five_path (a ∷ b ∷ []) h = absurd (omega (arith, h))
-five_path (a ∷ []) h = absurd (omega (arith, h))
-five_path [] h = absurd (omega (arith, h))
+five_path = by_steps (λ r. length r ≡ 5 → path_of r ≡ number r ∷ []) (λ r h five. absurd (omega (arith, h, five)))
+    (λ a b c d e s ih five. subst (λ t. path_of (a ∷ b ∷ c ∷ d ∷ e ∷ t) ≡ number (a ∷ b ∷ c ∷ d ∷ e ∷ t) ∷ []) (sym (nil_from_length s (omega (arith, five)))) refl)
+
+-- behind a node's string the way goes on, and the rest is that of what follows
+ways-append : (s t : List Bool) → length s % 5 ≡ 0 → (path_of (s ++ t) ≡ path_of s ++ path_of t) × (rest_of (s ++ t) ≡ rest_of t)
+ways-append s t = by_steps (λ s. length s % 5 ≡ 0 → (path_of (s ++ t) ≡ path_of s ++ path_of t) × (rest_of (s ++ t) ≡ rest_of t))
+    (λ r h whole. subst (λ x. (path_of (x ++ t) ≡ path_of x ++ path_of t) × (rest_of (x ++ t) ≡ rest_of t)) (sym (nil_from_length r (omega (arith, h, whole)))) (refl, refl))
+    (λ a b c d e s ih whole. let more = ih (less (length s) whole) in (ap (λ p. number (a ∷ b ∷ c ∷ d ∷ e ∷ []) ∷ p) more.0, more.1)) s
+  where
+    less : (n : ℕ) → suc (suc (suc (suc (suc n)))) % 5 ≡ 0 → n % 5 ≡ 0
+    less n h = omega (arith, h)
+
+pub path-append : (s t : List Bool) → length s % 5 ≡ 0 → path_of (s ++ t) ≡ path_of s ++ path_of t
+path-append s t h = (ways-append s t h).0
+
+pub rest-append : (s t : List Bool) → length s % 5 ≡ 0 → rest_of (s ++ t) ≡ rest_of t
+rest-append s t h = (ways-append s t h).1

@@ -1,31 +1,24 @@
 -- Lists with the same paths, and the paths of all nodes as the root's and those of all children.
 use Rattle.std.proofs.Common.{◌≡◌, ◌≢◌, ℕ, zero, suc, ◌+◌, ◌<◌, ◌≤◌, inl, inr, Bool, true, false, cond, List, [], ◌∷◌, ◌++◌, map, flat_map, Option, None, Some, is_some, IsPermutation, refl, sym, ap, ◌∙◌, subst, arith}
-use Rattle.std.proofs.lemmas.Bool.{false≢true, cases_Bool, cases_lt, cases_eq}
+use Rattle.std.proofs.lemmas.Bool.{false≢true, cases_lt, cases_eq, false_from_ne_true}
 use Rattle.std.proofs.lemmas.List.{map-append}
 use Rattle.std.proofs.lemmas.List.Sorted.{IsPermutation-refl, IsPermutation-trans, IsPermutation-sym, IsPermutation-cons}
 use Rattle.prefix_trie_table.specs.declared.allocator.node.Node.{Node}
 use Rattle.prefix_trie_table.specs.Bitmaps.{has_bit, if_set, bits_below, bits}
 use Rattle.prefix_trie_table.specs.Store.{Store}
 use Rattle.prefix_trie_table.specs.Forest.{same_path, one_if, times, without, has_child, NodesHold}
-use Rattle.prefix_trie_table.proofs.Strings.Plain.{no_or_yes}
 use Rattle.prefix_trie_table.proofs.Strings.Bits.{has_bit-below}
-use Rattle.prefix_trie_table.proofs.Strings.Paths.{same_path-itself, same_path-true, same_path-equal, same_path-not, snoc_ind, snoc_inj, snoc_not_nil, swap_fronts, times_without}
+use Rattle.prefix_trie_table.proofs.Strings.Paths.{same_path-itself, same_path-equal, same_path-not, snoc_ind, snoc_inj, snoc_not_nil, times_without, flat_map_out}
 use Rattle.prefix_trie_table.proofs.Tree.Children.{same_or}
 
 -- one path put first
 pub first_out : (p : List ℕ) (paths : List (List ℕ)) → 0 < times p paths → IsPermutation paths (p ∷ without p paths)
-first_out p [] h = absurd (omega arith)
-first_out p (x ∷ paths) h = elim (cases_Bool (same_path p x)) as (λ _. IsPermutation (x ∷ paths) (p ∷ cond (same_path p x) paths (x ∷ without p paths))) [
-  | inl hit ↦ rw hit (subst (λ y. IsPermutation (x ∷ paths) (y ∷ paths)) (sym (same_path-true p x hit)) (IsPermutation-refl (x ∷ paths)))
-  | inr miss ↦
-      let more : 0 < times p paths = (let e : one_if (same_path p x) ≡ 0 = ap one_if miss in omega arith) in
-      rw miss (IsPermutation-trans (x ∷ paths) (x ∷ p ∷ without p paths) (p ∷ x ∷ without p paths)
-      (IsPermutation-cons x paths (p ∷ without p paths) (first_out p paths more))
-      (exchanged x p (without p paths)))
-]
+first_out p paths h = subst (λ ys. IsPermutation ys (p ∷ without p paths)) (itself paths)
+    (subst (λ ys. IsPermutation (flat_map (λ q. q ∷ []) paths) (p ∷ ys)) (itself (without p paths)) (flat_map_out (λ q. q ∷ []) p paths h))
   where
-    exchanged : (a b : List ℕ) (rest : List (List ℕ)) → IsPermutation (a ∷ b ∷ rest) (b ∷ a ∷ rest)
-    exchanged a b rest = swap_fronts (a ∷ []) (b ∷ []) rest
+    itself : (ps : List (List ℕ)) → flat_map (λ q. q ∷ []) ps ≡ ps
+    itself [] = refl
+    itself (q ∷ ps) = ap (λ qs. q ∷ qs) (itself ps)
 
 -- lists that have each path equally often have the same paths
 pub same_paths : (ps qs : List (List ℕ)) → ((r : List ℕ) → times r ps ≡ times r qs) → IsPermutation ps qs
@@ -95,7 +88,7 @@ unfolding bits
 child_once p c None = refl
 child_once p c (Some n) = elim (cases_lt c 32) as (λ _. times (step p c) (map (step p) (bits_below n.child_bitmap 32)) ≡ one_if (has_bit n.child_bitmap c)) [
   | inl within ↦ one_below p c n.child_bitmap 32 within
-  | inr past ↦ none_below p c n.child_bitmap 32 past ∙ sym (ap one_if (no_or_yes (has_bit n.child_bitmap c) (λ h. let b = has_bit-below n.child_bitmap c h in omega arith)))
+  | inr past ↦ none_below p c n.child_bitmap 32 past ∙ sym (ap one_if (false_from_ne_true (has_bit n.child_bitmap c) (λ h. let b = has_bit-below n.child_bitmap c h in omega arith)))
 ]
 
 child_other : (p x : List ℕ) (c : ℕ) (o : Option Node) → p ≢ x → times (step p c) (children_of x o) ≡ 0
@@ -125,26 +118,20 @@ module _ (nodes : List ℕ → Option Node) where
       times (step p c) (children paths) ≡ cond b (times p paths) 0
   children_step p c true e [] = refl
   children_step p c false e [] = refl
-  children_step p c b e (x ∷ paths) =
-      elim (same_or p x) as (λ _. times (step p c) (children (x ∷ paths)) ≡ cond b (times p (x ∷ paths)) 0) [
-        | inl same ↦
-            let here : times (step p c) (children_of x (nodes x)) ≡ one_if b = ap (λ y. times (step p c) (children_of y (nodes y))) (sym same)
-            ∙ child_once p c (nodes p) ∙ ap one_if e in
-            let one : one_if (same_path p x) ≡ 1 = ap one_if (same_path-equal p x same) in
-            by b (times p paths) _ _ _ (times-append (step p c) (children_of x (nodes x)) (children paths)) here (children_step p c b e paths) one
-        | inr other ↦
-            let here : times (step p c) (children_of x (nodes x)) ≡ 0 = child_other p x c (nodes x) other in
-            let none : one_if (same_path p x) ≡ 0 = ap one_if (same_path-not p x other) in
-            by0 b (times p paths) _ _ _ _ (times-append (step p c) (children_of x (nodes x)) (children paths)) here (children_step p c b e paths) none
-      ]
-    where
-      by : (b : Bool) (t all one rest : ℕ) {k : ℕ} → all ≡ k + rest → k ≡ one_if b → rest ≡ cond b t 0 → one ≡ 1 → all ≡ cond b (one + t) 0
-      by true t all one rest e f g h = omega (arith, e, f, g, h)
-      by false t all one rest e f g h = omega (arith, e, f, g, h)
-
-      by0 : (b : Bool) (t all k rest one : ℕ) → all ≡ k + rest → k ≡ 0 → rest ≡ cond b t 0 → one ≡ 0 → all ≡ cond b (one + t) 0
-      by0 true t all k rest one e f g h = omega (arith, e, f, g, h)
-      by0 false t all k rest one e f g h = omega (arith, e, f, g, h)
+  children_step p c true e (x ∷ paths) = elim (same_or p x) as (λ _. times (step p c) (children (x ∷ paths)) ≡ times p (x ∷ paths)) [
+    | inl same ↦
+        let here = ap (λ y. times (step p c) (children_of y (nodes y))) (sym same) ∙ child_once p c (nodes p) ∙ ap one_if e in
+        omega (arith, times-append (step p c) (children_of x (nodes x)) (children paths), here, children_step p c true e paths, ap one_if (same_path-equal p x same))
+    | inr other ↦
+        let here = child_other p x c (nodes x) other in
+        omega (arith, times-append (step p c) (children_of x (nodes x)) (children paths), here, children_step p c true e paths, ap one_if (same_path-not p x other))
+  ]
+  children_step p c false e (x ∷ paths) =
+      let here : times (step p c) (children_of x (nodes x)) ≡ 0 = elim (same_or p x) as (λ _. times (step p c) (children_of x (nodes x)) ≡ 0) [
+        | inl same ↦ ap (λ y. times (step p c) (children_of y (nodes y))) (sym same) ∙ child_once p c (nodes p) ∙ ap one_if e
+        | inr other ↦ child_other p x c (nodes x) other
+      ] in
+      omega (arith, times-append (step p c) (children_of x (nodes x)) (children paths), here, children_step p c false e paths)
 
   -- each path is the root's or that of one child
   pub listed_below : (sizes : List ℕ) (paths : List (List ℕ)) (v : Store Node) → NodesHold sizes nodes paths v →
@@ -165,7 +152,6 @@ module _ (nodes : List ℕ → Option Node) where
       more : (p : List ℕ) (c : ℕ) → times p paths ≡ times p ([] ∷ children paths) → times (step p c) paths ≡ times (step p c) ([] ∷ children paths)
       more p c ih =
           let none : one_if (same_path (step p c) []) ≡ 0 = ap one_if (same_path-not _ _ (snoc_not_nil p c)) in
-          let b : Bool = has_child (nodes p) c in
           let is : times (step p c) paths ≡ one_if (has_child (nodes p) c) = hold.listed (step p c) ∙ ap one_if (hold.linked p c) in
           let below : times (step p c) (children paths) ≡ cond (has_child (nodes p) c) (times p paths) 0 = children_step p c (has_child (nodes p) c) refl paths in
           omega (arith, is, none, below, counted p c (has_child (nodes p) c) (nodes p) refl (hold.listed p))

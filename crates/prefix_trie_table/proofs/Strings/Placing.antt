@@ -1,36 +1,26 @@
 -- Strings by the way to their node and their place in it.
-use Rattle.std.proofs.Common.{◌≡◌, ℕ, suc, ◌+◌, ◌-◌, ◌*◌, ◌^◌, ◌%◌, ◌<◌, ◌≤◌, Bool, List, [], ◌∷◌, ◌++◌, length, ap, ◌∙◌, arith, w32}
+use Rattle.std.proofs.Common.{◌≡◌, ℕ, ◌+◌, ◌-◌, ◌*◌, ◌^◌, ◌%◌, ◌<◌, ◌≤◌, Bool, List, [], ◌∷◌, ◌++◌, length, ap, ◌∙◌, arith, w32}
 use Rattle.std.specs.Int.{leading_zeros}
 use Rattle.prefix_trie_bits.specs.Bits.{number, digits}
 use Rattle.prefix_trie_bits.specs.BitStrings.{length-digits, number-bits}
 use Rattle.prefix_trie_bits.specs.Places.{value_bit}
 use Rattle.prefix_trie_bits.proofs.Strings.{top_length, length-short, string-bit}
 use Rattle.prefix_trie_table.specs.Digits.{path_of, rest_of}
-use Rattle.prefix_trie_table.proofs.Strings.Digits.{short_path, five_path}
-
-five_less : (l k : ℕ) → suc (suc (suc (suc (suc l)))) ≡ 5 * k → l ≡ 5 * (k - 1)
-five_less l k e = omega (arith, e)
+use Rattle.prefix_trie_table.proofs.Strings.Digits.{short_path, five_path, path-append, rest-append}
+use Rattle.prefix_trie_table.proofs.Strings.Plain.{whole_levels}
+use Rattle.std.proofs.lemmas.List.{append-nil}
 
 -- a string below a node's string has its way
 pub below_node : (k : ℕ) (s r : List Bool) → length s ≡ 5 * k → length r ≤ 4 → (path_of (s ++ r) ≡ path_of s) × (rest_of (s ++ r) ≡ r)
-below_node k (a ∷ b ∷ c ∷ d ∷ e ∷ s) r long h =
-    let ih = below_node (k - 1) s r (five_less (length s) k long) h in
-    (ap (λ p. number (a ∷ b ∷ c ∷ d ∷ e ∷ []) ∷ p) ih.0, ih.1)
-below_node k (a ∷ b ∷ c ∷ d ∷ []) r long h = absurd (omega (arith, long))
-below_node k (a ∷ b ∷ c ∷ []) r long h = absurd (omega (arith, long))
-below_node k (a ∷ b ∷ []) r long h = absurd (omega (arith, long))
-below_node k (a ∷ []) r long h = absurd (omega (arith, long))
-below_node k [] r long h = short_path r h
+below_node k s r long h =
+    let whole = whole_levels (length s) k long in (
+      path-append s r whole ∙ ap (λ p. path_of s ++ p) (short_path r h).0 ∙ append-nil (path_of s),
+      rest-append s r whole ∙ (short_path r h).1,
+    )
 
 -- five bits more are a step more
 pub five_below : (k : ℕ) (s r : List Bool) → length s ≡ 5 * k → length r ≡ 5 → path_of (s ++ r) ≡ path_of s ++ number r ∷ []
-five_below k (x ∷ y ∷ z ∷ u ∷ v ∷ s) r long h =
-    ap (λ p. number (x ∷ y ∷ z ∷ u ∷ v ∷ []) ∷ p) (five_below (k - 1) s r (five_less (length s) k long) h)
-five_below k (x ∷ y ∷ z ∷ u ∷ []) r long h = absurd (omega (arith, long))
-five_below k (x ∷ y ∷ z ∷ []) r long h = absurd (omega (arith, long))
-five_below k (x ∷ y ∷ []) r long h = absurd (omega (arith, long))
-five_below k (x ∷ []) r long h = absurd (omega (arith, long))
-five_below k [] r long h = five_path r h
+five_below k s r long h = path-append s r (whole_levels (length s) k long) ∙ ap (λ p. path_of s ++ p) (five_path r h)
 
 -- those of a step's number are this step
 pub step_below : (k : ℕ) (s : List Bool) (c : ℕ) → length s ≡ 5 * k → c < 32 → path_of (s ++ digits 5 c) ≡ path_of s ++ c ∷ []

@@ -12,7 +12,7 @@ use Rattle.prefix_trie_table.specs.Cells.{blank_node, node_at}
 use Rattle.prefix_trie_table.proofs.Strings.Plain.{needs_node}
 use Rattle.prefix_trie_table.proofs.Strings.Bits.{has_bit-zero}
 use Rattle.prefix_trie_table.proofs.Strings.BitLists.{map_same, map_insert, map_remove}
-use Rattle.prefix_trie_table.proofs.Strings.Paths.{same_path-true, same_path-equal, same_path-not, snoc_inj, snoc_not_nil, snoc_not_same, times_without, flat_map_out}
+use Rattle.prefix_trie_table.proofs.Strings.Paths.{same_path-true, same_path-equal, same_path-not, snoc_inj, snoc_not_nil, snoc_not_same, flat_map_out}
 use Rattle.std.proofs.lemmas.List.Sorted.{IsPermutation-append_right}
 use Rattle.prefix_trie_table.proofs.Blocks.Soundness.{Sound-permuted, first_place}
 use Rattle.prefix_trie_table.proofs.Tree.Trees.{is_none-None, held_some, node_back, listed_once, own_first, child_stands, times_out, times_out_same, node_set}
@@ -73,11 +73,10 @@ some_stays nodes p n m c o is q nr = ⊎_elim
 
 module _ (sizes : List ℕ) (nodes : List ℕ → Option Node) (paths : List (List ℕ)) (v : Store Node) (hold : NodesHold sizes nodes paths v) where
   -- each node still has exactly the children that its bitmap says
-  pub linked_changed : (p : List ℕ) (n m : Node) (c : ℕ) (o : Option Node) → nodes p ≡ Some n → has_bit m.child_bitmap c ≡ is_some o →
-      ((d : ℕ) → has_child o d ≡ false)
-      → ((i : ℕ) → i ≢ c → has_bit m.child_bitmap i ≡ has_bit n.child_bitmap i) → ((d : ℕ) → is_some (nodes ((p ++ c ∷ []) ++ d ∷ [])) ≡ false)
+  linked_changed : (p : List ℕ) (n m : Node) (c : ℕ) (o : Option Node) → nodes p ≡ Some n → has_bit m.child_bitmap c ≡ is_some o →
+      ((i : ℕ) → i ≢ c → has_bit m.child_bitmap i ≡ has_bit n.child_bitmap i) → ((d : ℕ) → is_some (nodes ((p ++ c ∷ []) ++ d ∷ [])) ≡ has_child o d)
       → (q : List ℕ) (d : ℕ) → is_some (changed nodes p m c o (q ++ d ∷ [])) ≡ has_child (changed nodes p m c o q) d
-  linked_changed p n m c o is bit leaf bits_stay none q d = by_p (same_or q p)
+  linked_changed p n m c o is bit bits_stay below q d = by_p (same_or q p)
     where
       at_p : q ≡ p → (d ≡ c) ⊎ (d ≢ c) → is_some (changed nodes p m c o (q ++ d ∷ [])) ≡ has_bit m.child_bitmap d
       at_p e (inl f) = ap is_some (changed_below nodes p m c o (q ++ d ∷ []) (λ i. e i ++ f i ∷ [])) ∙ sym bit ∙ ap (has_bit m.child_bitmap) (sym f)
@@ -85,18 +84,14 @@ module _ (sizes : List ℕ) (nodes : List ℕ → Option Node) (paths : List (Li
           ap is_some (changed_other nodes p m c o (q ++ d ∷ []) (λ f. snoc_not_same q d (f ∙ sym e)) (λ f. nf (snoc_inj q p d c f).1))
           ∙ hold.linked q d ∙ ap (λ x. has_child x d) (ap nodes e ∙ is) ∙ sym (bits_stay d nf)
 
-      other : q ≢ p → q ≢ p ++ c ∷ [] → is_some (changed nodes p m c o (q ++ d ∷ [])) ≡ has_child (nodes q) d
-      other ne nr = some_stays nodes p n m c o is (q ++ d ∷ []) (λ f. ne (snoc_inj q p d c f).0) ∙ hold.linked q d
-
-      by_r : q ≢ p → (q ≡ p ++ c ∷ []) ⊎ (q ≢ p ++ c ∷ []) → is_some (changed nodes p m c o (q ++ d ∷ [])) ≡ has_child (changed nodes p m c o q) d
-      by_r ne (inl e) =
-          some_stays nodes p n m c o is (q ++ d ∷ []) (λ f. ne (snoc_inj q p d c f).0) ∙ ap (λ y. is_some (nodes (y ++ d ∷ []))) e ∙ none d
-          ∙ sym (ap (λ x. has_child x d) (changed_below nodes p m c o q e) ∙ leaf d)
-      by_r ne (inr nr) = other ne nr ∙ sym (ap (λ x. has_child x d) (changed_other nodes p m c o q ne nr))
+      by_r : (q ≡ p ++ c ∷ []) ⊎ (q ≢ p ++ c ∷ []) → q ≢ p → is_some (nodes (q ++ d ∷ [])) ≡ has_child (changed nodes p m c o q) d
+      by_r (inl e) ne = ap (λ y. is_some (nodes (y ++ d ∷ []))) e ∙ below d ∙ sym (ap (λ x. has_child x d) (changed_below nodes p m c o q e))
+      by_r (inr nr) ne = hold.linked q d ∙ sym (ap (λ x. has_child x d) (changed_other nodes p m c o q ne nr))
 
       by_p : (q ≡ p) ⊎ (q ≢ p) → is_some (changed nodes p m c o (q ++ d ∷ [])) ≡ has_child (changed nodes p m c o q) d
       by_p (inl e) = at_p e (number_or d c) ∙ sym (ap (λ x. has_child x d) (changed_here nodes p m c o q e))
-      by_p (inr ne) = by_r ne (same_or q (p ++ c ∷ []))
+      by_p (inr ne) =
+          some_stays nodes p n m c o is (q ++ d ∷ []) (λ f. ne (snoc_inj q p d c f).0) ∙ by_r (same_or q (p ++ c ∷ [])) ne
 
   -- the parent of a node is listed beside it
   pub parents : (p : List ℕ) (n : Node) → nodes p ≡ Some n → (q : List ℕ) (c : ℕ) → q ++ c ∷ [] ≡ p → times q (without p paths) ≡ 1
@@ -106,9 +101,9 @@ module _ (sizes : List ℕ) (nodes : List ℕ → Option Node) (paths : List (Li
       let some : is_some (nodes q) ≡ true = needs_node (nodes q) c there in
       times_out p q paths (omega arith) (λ f. snoc_not_same q c (e ∙ sym f)) ∙ hold.listed q ∙ ap one_if some
 
-is_some_one : (o : Option Node) → 0 < one_if (is_some o) → is_some o ≡ true
-is_some_one None h = absurd (omega arith)
-is_some_one (Some n) h = refl
+-- a path that is listed is not one that is not
+pub not_listed : (p : List ℕ) (paths : List (List ℕ)) → times p paths ≡ 0 → (q : List ℕ) → 0 < times q paths → q ≢ p
+not_listed p paths none q some e = (let same = ap (λ y. times y paths) e in omega arith)
 
 module _ (sizes : List ℕ) (nodes : List ℕ → Option Node) (paths : List (List ℕ)) (v : Store Node) (hold : NodesHold sizes nodes paths v) where
   -- the root after a write to a node's slot
@@ -121,9 +116,35 @@ module _ (sizes : List ℕ) (nodes : List ℕ → Option Node) (paths : List (Li
       other (λ e. snoc_not_nil q c (sym e)) ∙ hold.rooted
       ∙ ap Some (sym kept ∙ sym (get_or-set_other u.slots (child_slot n c) 0 m blank_node (λ e. omega arith)))
 
-  -- paths that are listed lead to nodes
-  listed_some : (q : List ℕ) → 0 < times q paths → is_some (nodes q) ≡ true
-  listed_some q h = is_some_one (nodes q) (let e = hold.listed q in omega arith)
+  -- the node n at p becomes m, and its child c becomes o: the block of the children of p has others, and those of other nodes stay
+  pub child_changed : (p : List ℕ) (s : ℕ) (n m : Node) (c : ℕ) (o : Option Node) (u : Store Node) (own : List (UsedBlock Node)) (rest after : List (List ℕ))
+      → IsSlot nodes p s → nodes p ≡ Some n → has_bit m.child_bitmap c ≡ is_some o →
+      ((i : ℕ) → i ≢ c → has_bit m.child_bitmap i ≡ has_bit n.child_bitmap i) → ((d : ℕ) → is_some (nodes ((p ++ c ∷ []) ++ d ∷ [])) ≡ has_child o d)
+      → u.first ≡ 1 → tier_sizes u.tiers ≡ sizes → node_at u.slots 0 ≡ node_at v.slots 0
+      → times p rest ≡ 0 → times (p ++ c ∷ []) rest ≡ 0 → ((q : List ℕ) (d : ℕ) → q ++ d ∷ [] ≡ p → times q rest ≡ 1)
+      → ((q : List ℕ) → times q after ≡ one_if (is_some (changed nodes p m c o q)))
+      → held m.child_tier m.child_block (size_in sizes m.child_tier) (child_items (changed nodes p m c o) p m.child_bitmap) ≡ own
+      → ((w : Store Node) → Sound blank_node (child_blocks sizes (changed nodes p m c o) p ++ flat_map (child_blocks sizes (changed nodes p m c o)) rest) w →
+      Sound blank_node (flat_map (child_blocks sizes (changed nodes p m c o)) after) w)
+      → Sound blank_node (own ++ flat_map (child_blocks sizes nodes) rest) u
+      → NodesHold sizes (changed nodes p m c o) after (record u { slots = set u.slots s m })
+  child_changed p s n m c o u own rest after stands is bit bits_stay below first sizes_are kept none_p none_r parents listed own_is gather sound =
+      let later : List ℕ → Option Node = changed nodes p m c o in
+      let w : Store Node = record u { slots = set u.slots s m } in
+      let here : later p ≡ Some m = changed_here nodes p m c o p refl in
+      let written : Sound blank_node (own ++ flat_map (child_blocks sizes later) rest) w =
+      node_set sizes nodes paths v hold rest p s n m later own u parents stands is first
+      (λ q h. changed_other nodes p m c o q (not_listed p rest none_p q h) (not_listed (p ++ c ∷ []) rest none_r q h))
+      (λ q d h not_p. changed_other nodes p m c o (q ++ d ∷ []) not_p (λ e. not_listed p rest none_p q h (snoc_inj q p d c e).0)) here sound in
+      record {
+        rooted = root_after p s m later u stands (let x = first_place blank_node _ u sound in omega arith) kept here
+            (λ ne. changed_other nodes p m c o [] ne (λ e. snoc_not_nil p c (sym e)));
+        linked = linked_changed sizes nodes paths v hold p n m c o is bit bits_stay below;
+        listed = listed;
+        sound = gather w (subst (λ bs. Sound blank_node (bs ++ flat_map (child_blocks sizes later) rest) w) (sym (ap (child_blocks_of sizes later p) here ∙ own_is)) written);
+        first_is = first;
+        sizes_are = sizes_are;
+      }
 
   -- the node n at p becomes m, which has the blank child c more
   pub child_added : (p : List ℕ) (s : ℕ) (n m : Node) (c : ℕ) (u : Store Node)
@@ -134,58 +155,30 @@ module _ (sizes : List ℕ) (nodes : List ℕ → Option Node) (paths : List (Li
       (insert (child_items nodes p n.child_bitmap) (rank n.child_bitmap c) blank_node) ∷ flat_map (child_blocks sizes nodes) (without p paths)) u
       → NodesHold sizes (with_child nodes p m c) ((p ++ c ∷ []) ∷ paths) (record u { slots = set u.slots s m })
   child_added p s n m c u stands is digit missing more first sizes_are kept sound =
-      let r : List ℕ = p ++ c ∷ [] in
       let later : List ℕ → Option Node = with_child nodes p m c in
-      let w : Store Node = record u { slots = set u.slots s m } in
-      let gone : is_some (nodes (p ++ c ∷ [])) ≡ false = hold.linked p c ∙ ap (λ o. has_child o c) is ∙ missing in
+      let gone : nodes (p ++ c ∷ []) ≡ None = is_none-None (nodes (p ++ c ∷ [])) (hold.linked p c ∙ ap (λ o. has_child o c) is ∙ missing) in
       let once : times p paths ≡ 1 = listed_once sizes nodes paths v hold p n is in
-      let none_p : times p (without p paths) ≡ 0 = times_out_same p paths once in
-      let none_r : times (p ++ c ∷ []) paths ≡ 0 = hold.listed (p ++ c ∷ []) ∙ ap one_if gone in
+      let none_r : times (p ++ c ∷ []) paths ≡ 0 = hold.listed (p ++ c ∷ []) ∙ ap (λ o. one_if (is_some o)) gone in
       let bit_c : has_bit m.child_bitmap c ≡ true = more c ∙ ap (λ b. b || has_bit n.child_bitmap c) (same_number c) in
       let bit_i : (i : ℕ) → i ≢ c → has_bit m.child_bitmap i ≡ has_bit n.child_bitmap i = λ i ne. more i
       ∙ ap (λ b. b || has_bit n.child_bitmap i) (other_number i c ne) in
-      let in_rest : (q : List ℕ) → 0 < times q (without p paths) → (q ≢ p) ×
-      (0 < times q paths) = λ q h. (
-        λ e. let z : times q (without p paths) ≡ 0 = ap (λ y. times y (without p paths)) e
-            ∙ none_p in omega arith,
-        (let e = times_without p q paths (omega arith) in omega arith),
-      ) in
-      let not_r : (q : List ℕ) → 0 < times q paths →
-      q ≢ p ++ c ∷ [] = λ q h e. (let z : times q paths ≡ 0 = ap (λ y. times y paths) e ∙ none_r in omega arith) in
-      let here : later p ≡ Some m = changed_here nodes p m c (Some blank_node) p refl in
-      let own : List (UsedBlock Node) = block m.child_tier m.child_block (size_in sizes m.child_tier)
-      (insert (child_items nodes p n.child_bitmap) (rank n.child_bitmap c) blank_node) ∷ [] in
-      let written : Sound blank_node (own ++ flat_map (child_blocks sizes later) (without p paths)) w =
-      node_set sizes nodes paths v hold (without p paths) p s n m later own u (parents sizes nodes paths v hold p n is) stands is first
-      (λ q h. changed_other nodes p m c (Some blank_node) q (in_rest q h).0 (not_r q (in_rest q h).1))
-      (λ q d h not_p. changed_other nodes p m c (Some blank_node) (q ++ d ∷ []) not_p (λ e. (in_rest q h).0 (snoc_inj q p d c e).0))
-      here sound in
+      let put : List Node = insert (child_items nodes p n.child_bitmap) (rank n.child_bitmap c) blank_node in
       let grown = map_insert (λ d. node_or_blank (nodes (p ++ d ∷ []))) (λ d. node_or_blank (later (p ++ d ∷ []))) n.child_bitmap m.child_bitmap c
       digit missing bit_c bit_i (λ i ne. ap node_or_blank
       (changed_other nodes p m c (Some blank_node) (p ++ i ∷ []) (snoc_not_same p i) (λ e. ne (snoc_inj p p i c e).1))) in
-      let items : child_items later p m.child_bitmap ≡ insert (child_items nodes p n.child_bitmap) (rank n.child_bitmap c) blank_node = grown.1
+      let items : child_items later p m.child_bitmap ≡ put = grown.1
       ∙ ap (λ y. insert (child_items nodes p n.child_bitmap) (rank n.child_bitmap c) (node_or_blank y))
       (changed_below nodes p m c (Some blank_node) (p ++ c ∷ []) refl) in
-      let own_is : child_blocks sizes later p ≡ own = ap (child_blocks_of sizes later p) here
-      ∙ ap (held m.child_tier m.child_block (size_in sizes m.child_tier)) items
-      ∙ held_some m.child_tier m.child_block (size_in sizes m.child_tier)
-      (insert (child_items nodes p n.child_bitmap) (rank n.child_bitmap c) blank_node)
-      (let l = length-insert (child_items nodes p n.child_bitmap) (rank n.child_bitmap c) blank_node grown.0 in omega arith) in
-      let all : Sound blank_node (flat_map (child_blocks sizes later) paths) w =
-      node_back sizes later paths blank_node (child_blocks sizes later) w p (omega arith)
-      (subst (λ bs. Sound blank_node (bs ++ flat_map (child_blocks sizes later) (without p paths)) w) (sym own_is) written) in
       let none : child_blocks sizes later (p ++ c ∷ []) ≡ [] =
       blank_blocks sizes later (p ++ c ∷ []) (changed_below nodes p m c (Some blank_node) (p ++ c ∷ []) refl) in
-      record {
-        rooted = root_after p s m later u stands (let x = first_place blank_node _ u sound in omega arith) kept here
-            (λ ne. changed_other nodes p m c (Some blank_node) [] ne (λ e. snoc_not_nil p c (sym e)));
-        linked = linked_changed sizes nodes paths v hold p n m c (Some blank_node) is bit_c (λ d. has_bit-zero d) bit_i
-            (λ d. hold.linked (p ++ c ∷ []) d ∙ ap (λ o. has_child o d) (is_none-None (nodes (p ++ c ∷ [])) gone));
-        listed = λ q. list q (same_or q (p ++ c ∷ []));
-        sound = subst (λ bs. Sound blank_node (bs ++ flat_map (child_blocks sizes later) paths) w) (sym none) all;
-        first_is = first;
-        sizes_are = sizes_are;
-      }
+      child_changed p s n m c (Some blank_node) u (block m.child_tier m.child_block (size_in sizes m.child_tier) put ∷ []) (without p paths) ((p ++ c ∷ []) ∷ paths)
+      stands is bit_c bit_i (λ d. hold.linked (p ++ c ∷ []) d ∙ ap (λ o. has_child o d) gone ∙ sym (has_bit-zero d)) first sizes_are kept
+      (times_out_same p paths once) (times_out p (p ++ c ∷ []) paths (omega arith) (snoc_not_same p c) ∙ none_r) (parents sizes nodes paths v hold p n is)
+      (λ q. list q (same_or q (p ++ c ∷ [])))
+      (ap (held m.child_tier m.child_block (size_in sizes m.child_tier)) items ∙ held_some m.child_tier m.child_block (size_in sizes m.child_tier) put
+      (let l = length-insert (child_items nodes p n.child_bitmap) (rank n.child_bitmap c) blank_node grown.0 in omega arith))
+      (λ w whole. subst (λ bs. Sound blank_node (bs ++ flat_map (child_blocks sizes later) paths) w) (sym none)
+      (node_back sizes later paths blank_node (child_blocks sizes later) w p (omega arith) whole)) sound
     where
       list : (q : List ℕ) → (q ≡ p ++ c ∷ []) ⊎ (q ≢ p ++ c ∷ []) →
           one_if (same_path q (p ++ c ∷ [])) + times q paths ≡ one_if (is_some (with_child nodes p m c q))
@@ -234,9 +227,6 @@ unfolding bits
 bits-none bitmap none = bits_below-none bitmap 32 none
 
 module _ (sizes : List ℕ) (nodes : List ℕ → Option Node) (paths : List (List ℕ)) (v : Store Node) (hold : NodesHold sizes nodes paths v) where
-  some_root : (u : Store Node) (live : List (UsedBlock Node)) → u.first ≡ 1 → Sound blank_node live u → 0 < length u.slots
-  some_root u live first sound = let x = first_place blank_node _ u sound in omega arith
-
   -- the node n at p becomes m, which has the same children
   pub node_changed : (p : List ℕ) (s : ℕ) (n m : Node) → IsSlot nodes p s → nodes p ≡ Some n → m.child_bitmap ≡ n.child_bitmap →
       m.child_block ≡ n.child_block → m.child_tier ≡ n.child_tier
@@ -245,9 +235,7 @@ module _ (sizes : List ℕ) (nodes : List ℕ → Option Node) (paths : List (Li
       let later : List ℕ → Option Node = with_node nodes p m in
       let w : Store Node = record v { slots = set v.slots s m } in
       let once : times p paths ≡ 1 = listed_once sizes nodes paths v hold p n is in
-      let none_p : times p (without p paths) ≡ 0 = times_out_same p paths once in
-      let not_p : (q : List ℕ) → 0 < times q (without p paths) →
-      q ≢ p = λ q h e. (let z : times q (without p paths) ≡ 0 = ap (λ y. times y (without p paths)) e ∙ none_p in omega arith) in
+      let not_p = not_listed p (without p paths) (times_out_same p paths once) in
       let own : List (UsedBlock Node) = held n.child_tier n.child_block (size_in sizes n.child_tier) (child_items nodes p n.child_bitmap) in
       let here : later p ≡ Some m = with_here nodes p m p refl in
       let written : Sound blank_node (own ++ flat_map (child_blocks sizes later) (without p paths)) w =
@@ -261,7 +249,7 @@ module _ (sizes : List ℕ) (nodes : List ℕ → Option Node) (paths : List (Li
       ∙ (λ i. held (same_tier i) (same_block i) (size_in sizes (same_tier i)) (items i)) in
       record {
         rooted = root_after sizes nodes paths v hold p s m later v stands
-            (some_root v (flat_map (child_blocks sizes nodes) paths) hold.first_is hold.sound) refl here (λ ne. with_other nodes p m [] ne);
+            (let x = first_place blank_node _ v hold.sound in let y = hold.first_is in omega arith) refl here (λ ne. with_other nodes p m [] ne);
         linked = λ q d. ap is_some refl ∙ link q d (same_or (q ++ d ∷ []) p) (same_or q p);
         listed = λ q. hold.listed q ∙ ap one_if (sym (some_same q (same_or q p)));
         sound = node_back sizes later paths blank_node (child_blocks sizes later) w p (omega arith)
@@ -293,66 +281,37 @@ module _ (sizes : List ℕ) (nodes : List ℕ → Option Node) (paths : List (Li
       → NodesHold sizes (lacking_child nodes p m c) (without (p ++ c ∷ []) paths) (record u { slots = set u.slots s m })
   child_removed p s n m leaf c u stands is digit there bare cleared bit_i first sizes_are kept sound =
       let later : List ℕ → Option Node = lacking_child nodes p m c in
-      let w : Store Node = record u { slots = set u.slots s m } in
       let rest : List (List ℕ) = without (p ++ c ∷ []) (without p paths) in
       let once : times p paths ≡ 1 = listed_once sizes nodes paths v hold p n is in
       let once_r : times (p ++ c ∷ []) paths ≡ 1 = listed_once sizes nodes paths v hold (p ++ c ∷ []) leaf there in
-      let none_p : times p (without p paths) ≡ 0 = times_out_same p paths once in
       let in_p : times (p ++ c ∷ []) (without p paths) ≡ 1 = times_out p (p ++ c ∷ []) paths (omega arith) (snoc_not_same p c) ∙ once_r in
-      let none_r : times (p ++ c ∷ []) (without (p ++ c ∷ []) (without p paths)) ≡ 0 = times_out_same (p ++ c ∷ []) (without p paths) in_p in
-      let before : (q : List ℕ) → 0 < times q (without (p ++ c ∷ []) (without p paths)) →
-      0 < times q (without p paths) = λ q h. (let e = times_without (p ++ c ∷ []) q (without p paths) (omega arith) in omega arith) in
-      let not_p : (q : List ℕ) → 0 < times q (without (p ++ c ∷ []) (without p paths)) →
-      q ≢ p = λ q h e. (let b = before q h in let z : times q (without p paths) ≡ 0 = ap (λ y. times y (without p paths)) e
-      ∙ none_p in omega arith) in
-      let not_r : (q : List ℕ) → 0 < times q (without (p ++ c ∷ []) (without p paths)) →
-      q ≢ p ++ c ∷ [] = λ q h e. (let z : times q (without (p ++ c ∷ []) (without p paths)) ≡ 0 =
-      ap (λ y. times y (without (p ++ c ∷ []) (without p paths))) e ∙ none_r in omega arith) in
+      let apart : p ≢ p ++ c ∷ [] = λ e. snoc_not_same p c (sym e) in
+      let none_p : times p (without (p ++ c ∷ []) (without p paths)) ≡ 0 =
+      times_out (p ++ c ∷ []) p (without p paths) (omega arith) apart ∙ times_out_same p paths once in
       let had : has_bit n.child_bitmap c ≡ true = sym (hold.linked p c ∙ ap (λ o. has_child o c) is) ∙ ap is_some there in
-      let here : later p ≡ Some m = changed_here nodes p m c None p refl in
       let own : List (UsedBlock Node) = held m.child_tier m.child_block (size_in sizes m.child_tier)
       (remove (child_items nodes p n.child_bitmap) (rank n.child_bitmap c)) in
       let leaf_blocks : child_blocks sizes nodes (p ++ c ∷ []) ≡ [] = ap (child_blocks_of sizes nodes (p ++ c ∷ [])) there
       ∙ ap (λ cs. held leaf.child_tier leaf.child_block (size_in sizes leaf.child_tier)
       (map (λ d. node_or_blank (nodes ((p ++ c ∷ []) ++ d ∷ []))) cs)) (bits-none leaf.child_bitmap bare) in
-      let dropped : Sound blank_node (own ++ flat_map (child_blocks sizes nodes) (without (p ++ c ∷ []) (without p paths))) u =
-      Sound-permuted blank_node (own ++ flat_map (child_blocks sizes nodes) (without p paths))
-      (own ++ flat_map (child_blocks sizes nodes) (without (p ++ c ∷ []) (without p paths))) u
-      (IsPermutation-append_right own (flat_map (child_blocks sizes nodes) (without p paths))
-      (flat_map (child_blocks sizes nodes) (without (p ++ c ∷ []) (without p paths)))
-      (subst (λ bs. IsPermutation (flat_map (child_blocks sizes nodes) (without p paths))
-      (bs ++ flat_map (child_blocks sizes nodes) (without (p ++ c ∷ []) (without p paths)))) leaf_blocks
+      let dropped : Sound blank_node (own ++ flat_map (child_blocks sizes nodes) rest) u =
+      Sound-permuted blank_node (own ++ flat_map (child_blocks sizes nodes) (without p paths)) (own ++ flat_map (child_blocks sizes nodes) rest) u
+      (IsPermutation-append_right own (flat_map (child_blocks sizes nodes) (without p paths)) (flat_map (child_blocks sizes nodes) rest)
+      (subst (λ bs. IsPermutation (flat_map (child_blocks sizes nodes) (without p paths)) (bs ++ flat_map (child_blocks sizes nodes) rest)) leaf_blocks
       (flat_map_out (child_blocks sizes nodes) (p ++ c ∷ []) (without p paths) (omega arith)))) sound in
-      let written : Sound blank_node (own ++ flat_map (child_blocks sizes later) (without (p ++ c ∷ []) (without p paths))) w =
-      node_set sizes nodes paths v hold (without (p ++ c ∷ []) (without p paths)) p s n m later own u
-      (λ q d e. times_out (p ++ c ∷ []) q (without p paths) (omega arith) (λ f. longer q d e f) ∙ parents sizes nodes paths v hold p n is q d e)
-      stands is first
-      (λ q h. changed_other nodes p m c None q (not_p q h) (not_r q h))
-      (λ q d h other. changed_other nodes p m c None (q ++ d ∷ []) other (λ e. not_p q h (snoc_inj q p d c e).0))
-      here dropped in
       let items : child_items later p m.child_bitmap ≡ remove (child_items nodes p n.child_bitmap) (rank n.child_bitmap c) =
       map_remove (λ d. node_or_blank (nodes (p ++ d ∷ []))) (λ d. node_or_blank (later (p ++ d ∷ []))) n.child_bitmap m.child_bitmap c digit had
       cleared bit_i (λ i ne. ap node_or_blank
       (changed_other nodes p m c None (p ++ i ∷ []) (snoc_not_same p i) (λ e. ne (snoc_inj p p i c e).1))) in
-      let own_is : child_blocks sizes later p ≡ own = ap (child_blocks_of sizes later p) here
-      ∙ ap (held m.child_tier m.child_block (size_in sizes m.child_tier)) items in
-      let order : without (p ++ c ∷ []) (without p paths) ≡ without p (without (p ++ c ∷ []) paths) =
-      sym (without_both p (p ++ c ∷ []) paths (λ e. snoc_not_same p c (sym e))) in
-      let still : 0 < times p (without (p ++ c ∷ []) paths) =
-      (let e = times_out (p ++ c ∷ []) p paths (omega arith) (λ e. snoc_not_same p c (sym e)) in omega arith) in
-      record {
-        rooted = root_after sizes nodes paths v hold p s m later u stands
-            (some_root u (own ++ flat_map (child_blocks sizes nodes) (without p paths)) first sound) kept here
-            (λ ne. changed_other nodes p m c None [] ne (λ e. snoc_not_nil p c (sym e)));
-        linked = linked_changed sizes nodes paths v hold p n m c None is cleared (λ d. refl) bit_i
-            (λ d. hold.linked (p ++ c ∷ []) d ∙ ap (λ o. has_child o d) there ∙ bare d);
-        listed = λ q. list q once_r (same_or q (p ++ c ∷ []));
-        sound = node_back sizes later (without (p ++ c ∷ []) paths) blank_node (child_blocks sizes later) w p still
-            (subst (λ bs. Sound blank_node (bs ++ flat_map (child_blocks sizes later) (without p (without (p ++ c ∷ []) paths))) w) (sym own_is)
-            (subst (λ qs. Sound blank_node (own ++ flat_map (child_blocks sizes later) qs) w) order written));
-        first_is = first;
-        sizes_are = sizes_are;
-      }
+      let still = times_out (p ++ c ∷ []) p paths (omega arith) apart in
+      child_changed sizes nodes paths v hold p s n m c None u own rest (without (p ++ c ∷ []) paths) stands is cleared bit_i
+      (λ d. hold.linked (p ++ c ∷ []) d ∙ ap (λ o. has_child o d) there ∙ bare d) first sizes_are kept
+      none_p (times_out_same (p ++ c ∷ []) (without p paths) in_p)
+      (λ q d e. times_out (p ++ c ∷ []) q (without p paths) (omega arith) (λ f. longer q d e f) ∙ parents sizes nodes paths v hold p n is q d e)
+      (λ q. list q once_r (same_or q (p ++ c ∷ []))) (ap (held m.child_tier m.child_block (size_in sizes m.child_tier)) items)
+      (λ w whole. node_back sizes later (without (p ++ c ∷ []) paths) blank_node (child_blocks sizes later) w p (omega arith)
+      (subst (λ qs. Sound blank_node (child_blocks sizes later p ++ flat_map (child_blocks sizes later) qs) w)
+      (sym (without_both p (p ++ c ∷ []) paths apart)) whole)) dropped
     where
       longer : (q : List ℕ) (d : ℕ) → q ++ d ∷ [] ≡ p → q ≡ p ++ c ∷ [] → ⊥
       longer q d e f = (let a : length q + 1 ≡ length p = sym (length-append q (d ∷ []))

@@ -19,13 +19,13 @@ use Rattle.prefix_trie_table.specs.Cells.{cell_sizes}
 use Rattle.prefix_trie_table.specs.Copies.{IsCloned, AreCloned}
 use Rattle.prefix_trie_table.specs.Digits.{path_of, bit_of}
 use Rattle.prefix_trie_table.specs.Layouts.{Sized, Sized-prop}
-use Rattle.prefix_trie_table.specs.Store.{Store, Tier, free_counts}
+use Rattle.prefix_trie_table.specs.Store.{Store, Tier, free_counts, Sound}
 use Rattle.prefix_trie_table.specs.Forest.{SomeTable, CellsHold, read, value_in, value_of, value_blocks}
 use Rattle.prefix_trie_table.specs.Shape.{IsShapeOf, Shaped, same_shape}
 use Rattle.prefix_trie_table.specs.Tables.{IsTable}
 use Rattle.prefix_trie_table.proofs.Tree.Invariant.{some_table}
 use Rattle.prefix_trie_table.proofs.Walk.KeySets.{sorted_mapped}
-use Rattle.prefix_trie_table.proofs.Blocks.Copies.{read_values, paths_zip, Sound-read}
+use Rattle.prefix_trie_table.proofs.Blocks.Copies.{paths_read, Sound-read}
 use Rattle.prefix_trie_table.proofs.Lookup.Lending.{seen_of}
 use Rattle.prefix_trie_table.proofs.Tree.Shapes.{reads_node, reads_value}
 use Rattle.prefix_trie_table.proofs.Tree.Trees.{is_none-None}
@@ -138,7 +138,7 @@ module _ {T : Type 0} (C : T → T → Type 0) (R : Option T → Option T → Ty
   of_cloned = cells_cloned C w.slots w2.slots cloned
 
   abbrev values : List ℕ → ℕ → Option T
-  values = read_values w.slots w2.slots long there table.reading table.values
+  values p b = value_of w2.slots (table.reading p) b
 
   value_there : (p : List ℕ) (b : ℕ) → is_some (values p b) ≡ is_some (table.values p b)
   value_there p b =
@@ -149,9 +149,8 @@ module _ {T : Type 0} (C : T → T → Type 0) (R : Option T → Option T → Ty
   cells_hold : CellsHold cell_sizes table.reading values table.paths (record w { slots = w2.slots })
   cells_hold = record {
     set_where = λ p b. value_there p b ∙ table.holds.cells.set_where p b;
-    sound = Sound-read w.slots w2.slots long there w refl (flat_map (value_blocks cell_sizes table.reading table.values) table.paths)
-        (flat_map (value_blocks cell_sizes table.reading values) table.paths)
-        (paths_zip w.slots w2.slots long there table.reading table.values table.paths) table.holds.cells.sound;
+    sound = subst (λ bs. Sound None bs (record w { slots = w2.slots })) (sym (paths_read w2.slots table.reading table.values table.paths))
+        (Sound-read w w2.slots long there (flat_map (value_blocks cell_sizes table.reading table.values) table.paths) table.holds.cells.sound);
     sizes_are = table.holds.cells.sizes_are;
     within = λ p b h. table.holds.cells.within p b (sym (value_there p b) ∙ h);
   }

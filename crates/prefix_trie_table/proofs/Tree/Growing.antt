@@ -11,7 +11,7 @@ use Rattle.prefix_trie_table.specs.Bitmaps.{has_bit, rank}
 use Rattle.prefix_trie_bits.specs.Model.Blocks.{one_of}
 use Rattle.prefix_trie_bits.proofs.Model.Storage.Slots.{how_many}
 use Rattle.prefix_trie_table.specs.Store.{Tier, Store, AreFree, free_in, size_in, size_if_any, many_of, needs}
-use Rattle.prefix_trie_table.specs.Forest.{same_path, is_start, gains, size_gained, one_if, own_count, entry_count, IsSlot, NodesHold, CellsHold, Holds, Walked, EntryAdded, Deepest, ChildAdded, ValueSet, with_child, with_node, has_child}
+use Rattle.prefix_trie_table.specs.Forest.{same_path, is_start, gains, size_gained, one_if, IsSlot, NodesHold, CellsHold, Holds, Walked, EntryAdded, Deepest, ChildAdded, ValueSet, with_child, with_node, has_child}
 use Rattle.prefix_trie_table.specs.Cells.{blank_node, node_at, node_sizes, cell_sizes}
 use Rattle.prefix_trie_table.proofs.Strings.Paths.{same_path-equal, same_path-not}
 use Rattle.prefix_trie_table.proofs.Strings.Starts.{is_start-snoc, is_start_take, is_start-is}
@@ -143,155 +143,142 @@ module _ {T : Type 0} where
         | inr deep_enough ↦ gains_deep reading path depth q deep_enough
       ]
 
-  -- a child added is a step more
-  pub walked_more : (reading : List ℕ → Option Node) (values : List ℕ → ℕ → Option T) (before : List (List ℕ)) (path : List ℕ)
-      (depth slot c slot2 : ℕ) (v v2 : Store Node) (w : Store (Option T)) → (a : Walked reading values before path depth slot v w) →
-      depth < length path → c ≡ get_or path depth 0
-      → has_bit (node_at v.slots slot).child_bitmap c ≡ false
-      → ((nodes : List ℕ → Option Node) (paths : List (List ℕ)) (p : List ℕ) (n : Node) → NodesHold node_sizes nodes paths v → IsSlot nodes p slot →
-      nodes p ≡ Some n → ChildAdded nodes paths p n c v2 slot2)
-      → Walked reading values before path (depth + 1) slot2 v2 w × (node_at v2.slots slot2 ≡ blank_node)
-  walked_more reading values before path depth slot c slot2 v v2 w a inside digit missing added =
-      let p : List ℕ = take depth path in
-      let n : Node = a.deep.node in
-      let one : ChildAdded a.later a.paths (take depth path) a.deep.node c v2 slot2 =
-      added a.later a.paths (take depth path) a.deep.node a.holds.hold a.deep.stands a.deep.is in
-      let at = slot_holds node_sizes a.later a.paths v a.holds.hold (take depth path) slot a.deep.node a.deep.stands a.deep.is in
-      let lacks : has_bit a.deep.node.child_bitmap c ≡ false = ap (λ (k : Node). has_bit k.child_bitmap c) (sym at.0) ∙ missing in
-      let longer : take (depth + 1) path ≡ take depth path ++ c ∷ [] = take_more path depth 0 inside ∙ ap (λ d. take depth path ++ d ∷ []) (sym digit) in
-      let new : List ℕ → Option Node = with_child a.later (take depth path) one.node c in
-      let is_new : with_child a.later (take depth path) one.node c (take depth path ++ c ∷ []) ≡ Some blank_node =
-      changed_below a.later (take depth path) one.node c (Some blank_node) (take depth path ++ c ∷ []) refl in (
-        record {
-          later = with_child a.later (take depth path) one.node c;
-          paths = (take depth path ++ c ∷ []) ∷ a.paths;
-          holds = record {
-            hold = one.hold;
-            cells = cells_with_child cell_sizes node_sizes a.later a.paths v a.holds.hold values w a.holds.cells (take depth path) a.deep.node one.node
-                a.deep.is one.value_bitmap one.value_block one.value_tier c lacks;
-          };
-          deep = record { node = blank_node; stands = subst (λ q. IsSlot new q slot2) (sym longer) one.stands; is = ap new longer ∙ is_new };
-          grown = λ q. grow q one.node (same_or q (take depth path ++ c ∷ []))
-              ∙ sym (ap (λ b. is_some (reading q) || b) (ap (is_start q) longer ∙ is_start-snoc q (take depth path) c));
-          counted =
-              count_with_child a.later (take depth path) a.deep.node one.node c a.paths a.deep.is one.value_bitmap
-              (a.holds.hold.listed (take depth path ++ c ∷ [])
-              ∙ ap one_if (a.holds.hold.linked (take depth path) c ∙ ap (λ o. has_child o c) a.deep.is ∙ lacks)) ∙ a.counted;
-          children = λ q. child_sizes q one.node longer lacks one.children (same_or q (take depth path ++ c ∷ [])) (same_or q (take depth path));
-          sized = λ q. value_sizes q one.node longer lacks
-              (λ i. size_if_any (rank (one.value_bitmap i) 32) (size_in cell_sizes (one.value_tier i)))
-              (same_or q (take depth path ++ c ∷ [])) (same_or q (take depth path));
-          needs = (
-            ap child_need (ap new longer ∙ is_new) ∙ blank_needs ∙ sym (ap child_need (was_none longer lacks)),
-            ap value_need (ap new longer ∙ is_new) ∙ blank_value_needs ∙ sym (ap value_need (was_none longer lacks)),
-          );
-        },
-        (slot_holds node_sizes new ((take depth path ++ c ∷ []) ∷ a.paths) v2 one.hold (take depth path ++ c ∷ []) slot2 blank_node one.stands is_new).0,
-      )
-    where
-      was_none : take (depth + 1) path ≡ take depth path ++ c ∷ [] → has_bit a.deep.node.child_bitmap c ≡ false → reading (take (depth + 1) path) ≡ None
-      was_none longer lacks =
-          is_none-None (reading (take (depth + 1) path)) (or_none (is_some (reading (take (depth + 1) path))) (is_start (take (depth + 1) path) (take depth path))
-          (sym (ap (λ p. is_some (a.later p)) longer ∙ a.holds.hold.linked (take depth path) c ∙ ap (λ o. has_child o c) a.deep.is ∙ lacks) ∙ a.grown (take (depth + 1) path)))
+-- a child added is a step more
+module _ {T : Type 0} (reading : List ℕ → Option Node) (values : List ℕ → ℕ → Option T) (before : List (List ℕ)) (path : List ℕ) (depth slot c slot2 : ℕ)
+    (v v2 : Store Node) (w : Store (Option T)) (a : Walked reading values before path depth slot v w) (inside : depth < length path)
+    (digit : c ≡ get_or path depth 0) (missing : has_bit (node_at v.slots slot).child_bitmap c ≡ false)
+    (added : (nodes : List ℕ → Option Node) (paths : List (List ℕ)) (p : List ℕ) (n : Node) → NodesHold node_sizes nodes paths v → IsSlot nodes p slot →
+    nodes p ≡ Some n → ChildAdded nodes paths p n c v2 slot2) where
+  abbrev way : List ℕ
+  way = take depth path
 
-      long : length (take depth path) ≡ depth
-      long = length-take-le depth path (omega arith)
+  abbrev one : ChildAdded a.later a.paths (take depth path) a.deep.node c v2 slot2
+  one = added a.later a.paths (take depth path) a.deep.node a.holds.hold a.deep.stands a.deep.is
 
-      child_sizes : (q : List ℕ) (m : Node) → take (depth + 1) path ≡ take depth path ++ c ∷ [] → has_bit a.deep.node.child_bitmap c ≡ false →
-          child_block_size (Some m) ≡ option_or (child_need (Some a.deep.node)) (child_block_size (Some a.deep.node)) →
-          (q ≡ take depth path ++ c ∷ []) ⊎ (q ≢ take depth path ++ c ∷ []) → (q ≡ take depth path) ⊎ (q ≢ take depth path) →
-          child_block_size (with_child a.later (take depth path) m c q) ≡ size_gained reading path (depth + 1) q
-      child_sizes q m longer lacks more (inl e) at =
-          let none : reading q ≡ None = ap reading (e ∙ sym longer) ∙ was_none longer lacks in
-          let deep : depth + 1 ≤ length q = (let l = ap (λ (xs : List ℕ). length xs) (e ∙ sym longer) in let f = length-take-le (depth + 1) path (omega arith) in omega arith) in
-          ap child_block_size (changed_below a.later (take depth path) m c (Some blank_node) q e) ∙ blank_children
-          ∙ sym (size_kept reading path (depth + 1) q (gains_deep reading path (depth + 1) q deep) ∙ ap child_block_size none)
-      child_sizes q m longer lacks more (inr ne) (inl e) =
-          let before : child_block_size (Some a.deep.node) ≡ child_block_size (reading (take depth path)) =
-          ap child_block_size (sym a.deep.is) ∙ a.children (take depth path)
-          ∙ size_kept reading path depth (take depth path) (gains_deep reading path depth (take depth path) (let l = long in omega arith)) in
-          let need : child_need (Some a.deep.node) ≡ child_need (reading (take depth path)) = ap child_need (sym a.deep.is) ∙ a.needs.0 in
-          ap child_block_size (changed_here a.later (take depth path) m c (Some blank_node) q e) ∙ more ∙ ap₂ option_or need before
-          ∙ sym (size_new reading path (depth + 1) (take depth path) (gains_here reading path depth inside (ap is_some (was_none longer lacks))))
-          ∙ ap (size_gained reading path (depth + 1)) (sym e)
-      child_sizes q m longer lacks more (inr ne) (inr other) =
-          ap child_block_size (changed_other a.later (take depth path) m c (Some blank_node) q other ne) ∙ a.children q
-          ∙ ap (λ b. option_or (cond b (child_need (reading q)) None) (child_block_size (reading q))) (sym (gains_other reading path depth q other))
+  abbrev more : List ℕ → Option Node
+  more = with_child a.later way one.node c
 
-      value_sizes : (q : List ℕ) (m : Node) → take (depth + 1) path ≡ take depth path ++ c ∷ [] → has_bit a.deep.node.child_bitmap c ≡ false →
-          value_block_size (Some m) ≡ value_block_size (Some a.deep.node) →
-          (q ≡ take depth path ++ c ∷ []) ⊎ (q ≢ take depth path ++ c ∷ []) → (q ≡ take depth path) ⊎ (q ≢ take depth path) →
-          value_block_size (with_child a.later (take depth path) m c q) ≡ value_block_size (reading q)
-      value_sizes q m longer lacks same (inl e) at =
-          ap value_block_size (changed_below a.later (take depth path) m c (Some blank_node) q e) ∙ blank_values
-          ∙ sym (ap value_block_size (ap reading (e ∙ sym longer) ∙ was_none longer lacks))
-      value_sizes q m longer lacks same (inr ne) (inl e) =
-          ap value_block_size (changed_here a.later (take depth path) m c (Some blank_node) q e) ∙ same ∙ ap value_block_size (sym a.deep.is)
-          ∙ a.sized (take depth path) ∙ ap (λ p. value_block_size (reading p)) (sym e)
-      value_sizes q m longer lacks same (inr ne) (inr other) =
-          ap value_block_size (changed_other a.later (take depth path) m c (Some blank_node) q other ne) ∙ a.sized q
+  lacks : has_bit a.deep.node.child_bitmap c ≡ false
+  lacks =
+      let at = slot_holds node_sizes a.later a.paths v a.holds.hold way slot a.deep.node a.deep.stands a.deep.is in
+      ap (λ (k : Node). has_bit k.child_bitmap c) (sym at.0) ∙ missing
 
-      grow : (q : List ℕ) (m : Node) → (q ≡ take depth path ++ c ∷ []) ⊎ (q ≢ take depth path ++ c ∷ []) →
-          is_some (with_child a.later (take depth path) m c q) ≡ (is_some
-          (reading q) || (is_start q (take depth path) || (same_path q (take depth path ++ c ∷ []) || false)))
-      grow q m (inl e) =
-          ap is_some (changed_below a.later (take depth path) m c (Some blank_node) q e) ∙ or_new (is_some (reading q)) (is_start q (take depth path))
-          ∙ ap (λ s. is_some (reading q) || (is_start q (take depth path) || (s || false)))
-          (sym (same_path-equal q (take depth path ++ c ∷ []) e))
-      grow q m (inr ne) =
-          some_stays a.later (take depth path) a.deep.node m c (Some blank_node) a.deep.is q ne ∙ a.grown q
-          ∙ or_old (is_some (reading q)) (is_start q (take depth path))
-          ∙ ap (λ s. is_some (reading q) || (is_start q (take depth path) || (s || false))) (sym (same_path-not q (take depth path ++ c ∷ []) ne))
+  gone : is_some (a.later (way ++ c ∷ [])) ≡ false
+  gone = a.holds.hold.linked way c ∙ ap (λ o. has_child o c) a.deep.is ∙ lacks
 
-  -- a value put at the end of the way adds the entry
-  pub entry_added : (reading : List ℕ → Option Node) (values : List ℕ → ℕ → Option T) (before : List (List ℕ)) (path : List ℕ) (depth slot b : ℕ)
-      (x : Option T) (v v2 : Store Node) (w u : Store (Option T)) → (a : Walked reading values before path depth slot v w) → depth ≡ length path
-      → ((nodes : List ℕ → Option Node) (paths : List (List ℕ)) (p : List ℕ) (n : Node) → NodesHold node_sizes nodes paths v →
-      CellsHold cell_sizes nodes values paths w → IsSlot nodes p slot → nodes p ≡ Some n → ValueSet nodes paths values p b x v2 u)
-      → EntryAdded reading values before path b x v2 u
-  entry_added reading values before path depth slot b x v v2 w u a all put =
-      let whole : take depth path ≡ path = take_all depth path (omega arith) in
-      let is : a.later path ≡ Some a.deep.node = ap a.later (sym whole) ∙ a.deep.is in
-      let one : ValueSet a.later a.paths values path b x v2 u =
-      put a.later a.paths path a.deep.node a.holds.hold a.holds.cells (subst (λ p. IsSlot a.later p slot) whole a.deep.stands) is in
-      record {
-        later = with_node a.later path one.node;
-        paths = a.paths;
-        holds = record { hold = one.hold; cells = one.cells };
-        grown = λ q. stays q one.node (same_or q path) ∙ a.grown q ∙ ap (λ p. is_some (reading q) || is_start q p) whole;
-        counted = added_up (entry_count (with_node a.later path one.node) a.paths) (entry_count a.later a.paths) (entry_count reading before)
-            (own_count (a.later path)) (own_count (Some one.node)) _ _
-            (count_with_node a.later path one.node a.paths (a.holds.hold.listed path ∙ ap (λ o. one_if (is_some o)) is)) a.counted one.counted;
-        children = λ q. child_stays q one.node one.children (same_or q path) ∙ a.children q ∙ ap (λ d. size_gained reading path d q) all;
-        sized = λ none q. value_grows q one.node (one.sized none) (same_or q path);
-      }
-    where
-      whole_path : take depth path ≡ path
-      whole_path = take_all depth path (omega arith)
+  longer : take (depth + 1) path ≡ way ++ c ∷ []
+  longer = take_more path depth 0 inside ∙ ap (λ d. way ++ d ∷ []) (sym digit)
 
-      child_stays : (q : List ℕ) (m : Node) → child_block_size (Some m) ≡ child_block_size (a.later path) → (q ≡ path) ⊎ (q ≢ path) →
-          child_block_size (with_node a.later path m q) ≡ child_block_size (a.later q)
-      child_stays q m same (inl e) = ap child_block_size (with_here a.later path m q e) ∙ same ∙ ap (λ p. child_block_size (a.later p)) (sym e)
-      child_stays q m same (inr ne) = ap child_block_size (with_other a.later path m q ne)
+  is_new : (q : List ℕ) → q ≡ way ++ c ∷ [] → more q ≡ Some blank_node
+  is_new q e = changed_below a.later way one.node c (Some blank_node) q e
 
-      value_grows : (q : List ℕ) (m : Node) → value_block_size (Some m) ≡ option_or (value_need (a.later path)) (value_block_size (a.later path)) →
-          (q ≡ path) ⊎ (q ≢ path) →
-          value_block_size (with_node a.later path m q) ≡ option_or (cond (same_path q path) (value_need (reading q)) None) (value_block_size (reading q))
-      value_grows q m grown (inl e) =
-          ap value_block_size (with_here a.later path m q e) ∙ grown
-          ∙ ap₂ option_or (ap (λ p. value_need (a.later p)) (sym whole_path) ∙ a.needs.1 ∙ ap (λ p. value_need (reading p)) whole_path) (a.sized path)
-          ∙ ap (λ p. option_or (value_need (reading p)) (value_block_size (reading p))) (sym e)
-          ∙ sym (ap (λ b. option_or (cond b (value_need (reading q)) None) (value_block_size (reading q))) (same_path-equal q path e))
-      value_grows q m grown (inr ne) =
-          ap value_block_size (with_other a.later path m q ne) ∙ a.sized q
-          ∙ sym (ap (λ b. option_or (cond b (value_need (reading q)) None) (value_block_size (reading q))) (same_path-not q path ne))
+  was_none : (q : List ℕ) → q ≡ way ++ c ∷ [] → reading q ≡ None
+  was_none q e = is_none-None (reading q) (or_none (is_some (reading q)) (is_start q way) (sym (ap (λ p. is_some (a.later p)) e ∙ gone) ∙ a.grown q))
 
-      added_up : (now mid old own new had has : ℕ) → now + own ≡ mid + new → mid ≡ old → new + had ≡ own + has → now + had ≡ old + has
-      added_up now mid old own new had has e f k = omega arith
+  child_sizes : (q : List ℕ) → (q ≡ way ++ c ∷ []) ⊎ (q ≢ way ++ c ∷ []) → (q ≡ way) ⊎ (q ≢ way) →
+      child_block_size (more q) ≡ size_gained reading path (depth + 1) q
+  child_sizes q (inl e) at =
+      let deep : depth + 1 ≤ length q = (let l = ap (λ (xs : List ℕ). length xs) (e ∙ sym longer) in let f = length-take-le (depth + 1) path (omega arith) in omega arith) in
+      ap child_block_size (is_new q e) ∙ blank_children
+      ∙ sym (size_kept reading path (depth + 1) q (gains_deep reading path (depth + 1) q deep) ∙ ap child_block_size (was_none q e))
+  child_sizes q (inr ne) (inl e) =
+      let old : child_block_size (Some a.deep.node) ≡ child_block_size (reading way) = ap child_block_size (sym a.deep.is) ∙ a.children way
+      ∙ size_kept reading path depth way (gains_deep reading path depth way (let l = length-take-le depth path (omega arith) in omega arith)) in
+      ap child_block_size (changed_here a.later way one.node c (Some blank_node) q e) ∙ one.children ∙ ap₂ option_or (ap child_need (sym a.deep.is) ∙ a.needs.0) old
+      ∙ sym (size_new reading path (depth + 1) way (gains_here reading path depth inside (ap is_some (was_none (take (depth + 1) path) longer))))
+      ∙ ap (size_gained reading path (depth + 1)) (sym e)
+  child_sizes q (inr ne) (inr other) =
+      ap child_block_size (changed_other a.later way one.node c (Some blank_node) q other ne) ∙ a.children q
+      ∙ ap (λ b. option_or (cond b (child_need (reading q)) None) (child_block_size (reading q))) (sym (gains_other reading path depth q other))
 
-      stays : (q : List ℕ) (m : Node) → (q ≡ path) ⊎ (q ≢ path) → is_some (with_node a.later path m q) ≡ is_some (a.later q)
-      stays q m (inl e) = ap is_some (with_here a.later path m q e) ∙ sym (ap is_some (ap a.later (e ∙ sym (take_all depth path (omega arith))) ∙ a.deep.is))
-      stays q m (inr ne) = ap is_some (with_other a.later path m q ne)
+  value_sizes : (q : List ℕ) → (q ≡ way ++ c ∷ []) ⊎ (q ≢ way ++ c ∷ []) → (q ≡ way) ⊎ (q ≢ way) → value_block_size (more q) ≡ value_block_size (reading q)
+  value_sizes q (inl e) at = ap value_block_size (is_new q e) ∙ blank_values ∙ sym (ap value_block_size (was_none q e))
+  value_sizes q (inr ne) (inl e) =
+      ap value_block_size (changed_here a.later way one.node c (Some blank_node) q e)
+      ∙ (λ i. size_if_any (rank (one.value_bitmap i) 32) (size_in cell_sizes (one.value_tier i)))
+      ∙ ap value_block_size (sym a.deep.is) ∙ a.sized way ∙ ap (λ p. value_block_size (reading p)) (sym e)
+  value_sizes q (inr ne) (inr other) = ap value_block_size (changed_other a.later way one.node c (Some blank_node) q other ne) ∙ a.sized q
+
+  grow : (q : List ℕ) → (q ≡ way ++ c ∷ []) ⊎ (q ≢ way ++ c ∷ []) →
+      is_some (more q) ≡ (is_some (reading q) || (is_start q way || (same_path q (way ++ c ∷ []) || false)))
+  grow q (inl e) = ap is_some (is_new q e) ∙ or_new (is_some (reading q)) (is_start q way)
+      ∙ ap (λ s. is_some (reading q) || (is_start q way || (s || false))) (sym (same_path-equal q (way ++ c ∷ []) e))
+  grow q (inr ne) = some_stays a.later way a.deep.node one.node c (Some blank_node) a.deep.is q ne ∙ a.grown q ∙ or_old (is_some (reading q)) (is_start q way)
+      ∙ ap (λ s. is_some (reading q) || (is_start q way || (s || false))) (sym (same_path-not q (way ++ c ∷ []) ne))
+
+  pub walked_more : Walked reading values before path (depth + 1) slot2 v2 w × (node_at v2.slots slot2 ≡ blank_node)
+  walked_more = (
+    record {
+      later = more;
+      paths = (way ++ c ∷ []) ∷ a.paths;
+      holds = record {
+        hold = one.hold;
+        cells = cells_with_child cell_sizes node_sizes a.later a.paths v a.holds.hold values w a.holds.cells way a.deep.node one.node
+            a.deep.is one.value_bitmap one.value_block one.value_tier c lacks;
+      };
+      deep = record { node = blank_node; stands = subst (λ q. IsSlot more q slot2) (sym longer) one.stands; is = is_new (take (depth + 1) path) longer };
+      grown = λ q. grow q (same_or q (way ++ c ∷ [])) ∙ sym (ap (λ b. is_some (reading q) || b) (ap (is_start q) longer ∙ is_start-snoc q way c));
+      counted = count_with_child a.later way a.deep.node one.node c a.paths a.deep.is one.value_bitmap (a.holds.hold.listed (way ++ c ∷ []) ∙ ap one_if gone) ∙ a.counted;
+      children = λ q. child_sizes q (same_or q (way ++ c ∷ [])) (same_or q way);
+      sized = λ q. value_sizes q (same_or q (way ++ c ∷ [])) (same_or q way);
+      needs =
+          let new = is_new (take (depth + 1) path) longer in
+          let old = was_none (take (depth + 1) path) longer in
+          (ap child_need new ∙ blank_needs ∙ sym (ap child_need old), ap value_need new ∙ blank_value_needs ∙ sym (ap value_need old));
+    },
+    (slot_holds node_sizes more ((way ++ c ∷ []) ∷ a.paths) v2 one.hold (way ++ c ∷ []) slot2 blank_node one.stands (is_new (way ++ c ∷ []) refl)).0,
+  )
+
+-- a value put at the end of the way adds the entry
+module _ {T : Type 0} (reading : List ℕ → Option Node) (values : List ℕ → ℕ → Option T) (before : List (List ℕ)) (path : List ℕ) (depth slot b : ℕ) (x : Option T)
+    (v v2 : Store Node) (w u : Store (Option T)) (a : Walked reading values before path depth slot v w) (all : depth ≡ length path)
+    (put : (nodes : List ℕ → Option Node) (paths : List (List ℕ)) (p : List ℕ) (n : Node) → NodesHold node_sizes nodes paths v →
+    CellsHold cell_sizes nodes values paths w → IsSlot nodes p slot → nodes p ≡ Some n → ValueSet nodes paths values p b x v2 u) where
+  whole : take depth path ≡ path
+  whole = take_all depth path (omega arith)
+
+  end_is : a.later path ≡ Some a.deep.node
+  end_is = ap a.later (sym whole) ∙ a.deep.is
+
+  abbrev set_there : ValueSet a.later a.paths values path b x v2 u
+  set_there = put a.later a.paths path a.deep.node a.holds.hold a.holds.cells (subst (λ p. IsSlot a.later p slot) whole a.deep.stands) end_is
+
+  abbrev changed_nodes : List ℕ → Option Node
+  changed_nodes = with_node a.later path set_there.node
+
+  child_stays : (q : List ℕ) → (q ≡ path) ⊎ (q ≢ path) → child_block_size (changed_nodes q) ≡ child_block_size (a.later q)
+  child_stays q (inl e) = ap child_block_size (with_here a.later path set_there.node q e) ∙ set_there.children ∙ ap (λ p. child_block_size (a.later p)) (sym e)
+  child_stays q (inr ne) = ap child_block_size (with_other a.later path set_there.node q ne)
+
+  value_grows : values path b ≡ None → (q : List ℕ) → (q ≡ path) ⊎ (q ≢ path) →
+      value_block_size (changed_nodes q) ≡ option_or (cond (same_path q path) (value_need (reading q)) None) (value_block_size (reading q))
+  value_grows none q (inl e) =
+      ap value_block_size (with_here a.later path set_there.node q e) ∙ set_there.sized none
+      ∙ ap₂ option_or (ap (λ p. value_need (a.later p)) (sym whole) ∙ a.needs.1 ∙ ap (λ p. value_need (reading p)) whole) (a.sized path)
+      ∙ ap (λ p. option_or (value_need (reading p)) (value_block_size (reading p))) (sym e)
+      ∙ sym (ap (λ b. option_or (cond b (value_need (reading q)) None) (value_block_size (reading q))) (same_path-equal q path e))
+  value_grows none q (inr ne) =
+      ap value_block_size (with_other a.later path set_there.node q ne) ∙ a.sized q
+      ∙ sym (ap (λ b. option_or (cond b (value_need (reading q)) None) (value_block_size (reading q))) (same_path-not q path ne))
+
+  stays : (q : List ℕ) → (q ≡ path) ⊎ (q ≢ path) → is_some (changed_nodes q) ≡ is_some (a.later q)
+  stays q (inl e) = ap is_some (with_here a.later path set_there.node q e) ∙ sym (ap is_some (ap a.later e ∙ end_is))
+  stays q (inr ne) = ap is_some (with_other a.later path set_there.node q ne)
+
+  pub entry_added : EntryAdded reading values before path b x v2 u
+  entry_added = record {
+    later = changed_nodes;
+    paths = a.paths;
+    holds = record { hold = set_there.hold; cells = set_there.cells };
+    grown = λ q. stays q (same_or q path) ∙ a.grown q ∙ ap (λ p. is_some (reading q) || is_start q p) whole;
+    counted =
+        let more = count_with_node a.later path set_there.node a.paths (a.holds.hold.listed path ∙ ap (λ o. one_if (is_some o)) end_is) in
+        let one = set_there.counted in
+        let old = a.counted in
+        omega (arith, more, one, old);
+    children = λ q. child_stays q (same_or q path) ∙ a.children q ∙ ap (λ d. size_gained reading path d q) all;
+    sized = λ none q. value_grows none q (same_or q path);
+  }
 
 -- what is left free once one list took its block
 pub free_next : (ts us : List Tier) (o : Option ℕ) (lists : ℕ) → AreFree ts (needs o lists) → ((size : ℕ) → free_in ts size ≤ free_in us size + one_of o size) → lists ≤ free_in us 1

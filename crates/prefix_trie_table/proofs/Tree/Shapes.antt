@@ -1,6 +1,6 @@
 -- What contracts see of a table, before and after an insertion.
 use Rattle.std.proofs.Common.{◌≡◌, ℕ, ◌+◌, ◌<◌, ◌%◌, Bool, true, false, cond, ◌&&◌, ◌||◌, List, [], ◌∷◌, ◌++◌, length, get_or, map, Option, None, Some, is_some, Result, Ok, Err, MatchResult, IfOk, refl, sym, ap, ap₂, ◌∙◌, subst, arith, inl, inr, eqb-true}
-use Rattle.std.proofs.lemmas.Bool.{false≢true, cases_Bool, cases_lt}
+use Rattle.std.proofs.lemmas.Bool.{false≢true, cases_Bool, cases_lt, and_parts}
 use Rattle.std.specs.FinMap.{get, get-insert, get-empty, len-insert, len-empty, contains_key, len}
 use Rattle.prefix_trie_bits.specs.Bits.{begins}
 use Rattle.prefix_trie_bits.specs.Begins.{same_bool}
@@ -17,7 +17,6 @@ use Rattle.prefix_trie_table.specs.Store.{Store, Sound, no_blocks, tier_sizes}
 use Rattle.prefix_trie_table.specs.Forest.{read, value_in, value_of, same_path, one_if, is_start, Holds, EntryAdded, value_blocks_of, held, size_in, has_child, has_value, with_value, entry_count, SomeTable}
 use Rattle.prefix_trie_table.specs.Shape.{IsShapeOf, Shaped, same_shape}
 use Rattle.prefix_trie_table.specs.Tables.{IsTable, Grows}
-use Rattle.prefix_trie_table.proofs.Strings.Plain.{both_hold}
 use Rattle.prefix_trie_table.proofs.Tree.Invariant.{some_table}
 use Rattle.prefix_trie_table.proofs.Strings.Bits.{has_bit-zero}
 use Rattle.prefix_trie_table.proofs.Strings.BitLists.{rank-zero-all}
@@ -28,7 +27,7 @@ use Rattle.prefix_trie_table.proofs.Tree.Children.{blank_blocks, bits-zero}
 use Rattle.prefix_trie_table.proofs.Tree.Values.{value_stands}
 
 module _ {T : Type 0} where
-  value_in-there : (cells : List (Option T)) (n : Node) (b : ℕ) → has_bit n.value_bitmap b ≡ true →
+  pub value_in-there : (cells : List (Option T)) (n : Node) (b : ℕ) → has_bit n.value_bitmap b ≡ true →
       value_in cells n b ≡ get_or cells (n.value_block + rank n.value_bitmap b) None
   unfolding value_in
   value_in-there cells n b h = ap (λ s. cond s (get_or cells (n.value_block + rank n.value_bitmap b) None) None) h
@@ -175,7 +174,7 @@ module _ {T : Type 0} where
       at_root : (q : List Bool) → same_string q [] ≡ (is_node_depth q && same_path (path_of q) [])
       at_root q = same_bool _ _
           (λ h. let e : q ≡ [] = same_string-is q [] h in subst (λ x. (is_node_depth x && same_path (path_of x) []) ≡ true) (sym e) refl)
-          (λ h. let w = both_hold (is_node_depth q) (same_path (path_of q) []) h in
+          (λ h. let w = and_parts (is_node_depth q) (same_path (path_of q) []) h in
           is-same_string q [] (same_way q [] (eqb-true (length q % 5) 0 w.0) refl (same_path-true (path_of q) [] w.1)))
 
 -- a limit that is not none is one slot at least

@@ -1,5 +1,5 @@
 -- What a table has at the places of a node and below them.
-use Rattle.std.proofs.Common.{◌≡◌, ℕ, suc, ◌+◌, ◌%◌, ◌^◌, ◌<◌, ◌≤◌, Bool, true, false, cond, List, [], ◌∷◌, ◌++◌, length, drop, get_or, Option, None, Some, is_some, refl, sym, ap, ap₂, ◌∙◌, subst, arith, inl, inr, append-nil, length-append, ◌==◌}
+use Rattle.std.proofs.Common.{◌≡◌, ℕ, ◌+◌, ◌%◌, ◌^◌, ◌<◌, ◌≤◌, Bool, true, false, cond, List, [], ◌∷◌, ◌++◌, length, drop, get_or, Option, None, Some, is_some, refl, sym, ap, ap₂, ◌∙◌, subst, arith, inl, inr, append-nil, length-append, ◌==◌}
 use Rattle.std.proofs.lemmas.Bool.{false≢true, cases_lt, lt-ltb, le-ltb}
 use Rattle.std.specs.FinMap.{get}
 use Rattle.prefix_trie_bits.specs.Bits.{number, begins}
@@ -14,7 +14,7 @@ use Rattle.prefix_trie_bits.proofs.Model.NodeListings.{listing_by_node_places, l
 use Rattle.prefix_trie_table.specs.declared.allocator.node.Node.{Node}
 use Rattle.prefix_trie_table.specs.Bitmaps.{has_bit, rank}
 use Rattle.prefix_trie_table.specs.Cells.{node_at, node_sizes, cell_sizes}
-use Rattle.prefix_trie_table.specs.Digits.{path_of, rest_of, bit_of}
+use Rattle.prefix_trie_table.specs.Digits.{path_of, bit_of}
 use Rattle.prefix_trie_table.specs.Store.{Store}
 use Rattle.prefix_trie_table.specs.Forest.{read, read_from, below, child, child_slot, has_value, value_of, at_root}
 use Rattle.prefix_trie_table.specs.Walking.Walks.{Tree}
@@ -27,29 +27,8 @@ use Rattle.prefix_trie_table.proofs.Tree.Values.{value_stands}
 use Rattle.prefix_trie_table.proofs.Tree.Shapes.{reads_node, shape_entries}
 use Rattle.prefix_trie_table.proofs.Lookup.Matched.{has_nodes}
 use Rattle.prefix_trie_table.proofs.Strings.Digits.{short_path, five_path}
-
--- ---- ways of joined strings
-
-five-less : (n : ℕ) → suc (suc (suc (suc (suc n)))) % 5 ≡ 0 → n % 5 ≡ 0
-five-less n h = omega (arith, h)
-
--- behind a node's string the way goes on
-pub path-append : (s t : List Bool) → length s % 5 ≡ 0 → path_of (s ++ t) ≡ path_of s ++ path_of t
-path-append [] t h = refl
-path-append (a ∷ []) t h = absurd (omega (arith, h))
-path-append (a ∷ b ∷ []) t h = absurd (omega (arith, h))
-path-append (a ∷ b ∷ c ∷ []) t h = absurd (omega (arith, h))
-path-append (a ∷ b ∷ c ∷ d ∷ []) t h = absurd (omega (arith, h))
-path-append (a ∷ b ∷ c ∷ d ∷ e ∷ s) t h =
-    ap (λ p. number (a ∷ b ∷ c ∷ d ∷ e ∷ []) ∷ p) (path-append s t (five-less (length s) h))
-
-pub rest-append : (s t : List Bool) → length s % 5 ≡ 0 → rest_of (s ++ t) ≡ rest_of t
-rest-append [] t h = refl
-rest-append (a ∷ []) t h = absurd (omega (arith, h))
-rest-append (a ∷ b ∷ []) t h = absurd (omega (arith, h))
-rest-append (a ∷ b ∷ c ∷ []) t h = absurd (omega (arith, h))
-rest-append (a ∷ b ∷ c ∷ d ∷ []) t h = absurd (omega (arith, h))
-rest-append (a ∷ b ∷ c ∷ d ∷ e ∷ s) t h = rest-append s t (five-less (length s) h)
+pub use Rattle.prefix_trie_table.proofs.Strings.Digits.{path-append}
+use Rattle.prefix_trie_table.proofs.Strings.Digits.{rest-append}
 
 read_from-none : (nodes : List Node) (p : List ℕ) → read_from nodes None p ≡ None
 read_from-none nodes [] = refl

@@ -171,10 +171,7 @@ module _ (sizes : List ℕ) (nodes : List ℕ → Option Node) (paths : List (Li
       let twice : List (List ℕ) = without q rest in
       let in_rest : times q rest ≡ 1 = parents q c refl in
       let there : 0 < times q rest = omega arith in
-      let F : List ℕ → List (UsedBlock Node) = child_blocks sizes nodes in
-      let G : List ℕ → List (UsedBlock Node) = child_blocks sizes later in
       let start = child_stands sizes nodes paths v hold q k c parent bit in
-      let items : List Node = child_items nodes q k.child_bitmap in
       let b : UsedBlock Node = block k.child_tier k.child_block (size_in sizes k.child_tier) (child_items nodes q k.child_bitmap) in
       let b' : UsedBlock Node = block k.child_tier k.child_block (size_in sizes k.child_tier)
       (set (child_items nodes q k.child_bitmap) (rank k.child_bitmap c) m) in

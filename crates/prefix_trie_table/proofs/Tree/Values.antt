@@ -5,14 +5,14 @@ use Rattle.std.proofs.lemmas.List.Edits.{length-insert}
 use Rattle.prefix_trie_table.specs.declared.allocator.node.Node.{Node}
 use Rattle.prefix_trie_table.specs.Bitmaps.{has_bit, bits, rank}
 use Rattle.prefix_trie_table.specs.Store.{Store, UsedBlock, Sound, block}
-use Rattle.prefix_trie_table.specs.Forest.{same_path, one_if, times, without, held, size_in, has_value, has_child, NodesHold, CellsHold, value_blocks, value_blocks_of, tier_sizes, with_child, lacking_child, with_node, with_value}
+use Rattle.prefix_trie_table.specs.Forest.{one_if, times, without, held, size_in, has_value, has_child, NodesHold, CellsHold, value_blocks, value_blocks_of, tier_sizes, with_child, lacking_child, with_node, with_value}
 use Rattle.prefix_trie_table.specs.Cells.{blank_node}
 use Rattle.prefix_trie_table.proofs.Blocks.Soundness.{Sound-set, slot_of_block, block_inside, fits_block}
 use Rattle.prefix_trie_table.proofs.Strings.Bits.{has_bit-below, has_bit-zero}
 use Rattle.prefix_trie_table.proofs.Strings.BitLists.{map_get, map_set, map_same, map_insert, map_remove}
 use Rattle.prefix_trie_table.proofs.Strings.Paths.{same_path-equal, same_path-not, snoc_inj, flat_map_same}
 use Rattle.prefix_trie_table.proofs.Tree.Trees.{is_none-None, held_some, node_first, node_back, listed_once, times_out_same}
-use Rattle.prefix_trie_table.proofs.Tree.Children.{bits-zero, bits-none, same_or, number_or, changed_below, changed_here, changed_other, with_here, with_other}
+use Rattle.prefix_trie_table.proofs.Tree.Children.{bits-zero, bits-none, same_or, number_or, changed_below, changed_here, changed_other, with_here, with_other, changed, not_listed}
 
 -- a value that was replaced, and the others
 module _ {T : Type 0} (values : List ℕ → ℕ → Option T) (p : List ℕ) (b : ℕ) (x : Option T) where
@@ -60,10 +60,9 @@ module _ {T : Type 0} (sizes node_sizes : List ℕ) (nodes : List ℕ → Option
       → Sound None (own ++ flat_map (value_blocks sizes nodes values) (without p paths)) u → Sound None (flat_map (value_blocks sizes later after) paths) u
   cells_changed p n own later after u is own_is others sound =
       let once : times p paths ≡ 1 = listed_once node_sizes nodes paths v hold p n is in
-      let none_p : times p (without p paths) ≡ 0 = times_out_same p paths once in
       let rest : flat_map (value_blocks sizes later after) (without p paths) ≡ flat_map (value_blocks sizes nodes values) (without p paths) =
       flat_map_same (value_blocks sizes nodes values) (value_blocks sizes later after) (without p paths)
-      (λ q h. others q (λ e. let z : times q (without p paths) ≡ 0 = ap (λ y. times y (without p paths)) e ∙ none_p in omega arith)) in
+      (λ q h. others q (not_listed p (without p paths) (times_out_same p paths once) q h)) in
       node_back sizes later paths None (value_blocks sizes later after) u p (omega arith)
       (subst (λ bs. Sound None (bs ++ flat_map (value_blocks sizes later after) (without p paths)) u) (sym own_is)
       (subst (λ bs. Sound None (own ++ bs) u) (sym rest) sound))
@@ -122,70 +121,56 @@ module _ {T : Type 0} (sizes node_sizes : List ℕ) (nodes : List ℕ → Option
       has_same : (b : ℕ) → has_value (Some m) b ≡ has_value (nodes p) b
       has_same b = ap (λ k. has_bit k b) same_bits ∙ sym (ap (λ o. has_value o b) is)
 
-      module _ (c : ℕ) where
-        blocks_same : (o : Option Node) (q : List ℕ) → q ≢ p ++ c ∷ [] → (q ≡ p) ⊎ (q ≢ p) →
-            value_blocks sizes (λ x. cond (same_path x (p ++ c ∷ [])) o (cond (same_path x p) (Some m) (nodes x))) values q ≡ value_blocks sizes nodes
-            values q
-        blocks_same o q nr (inl e) = ap (value_blocks_of sizes values q) (changed_here nodes p m c o q e)
+      -- where the child c becomes o, and neither it nor what was there has values
+      module _ (c : ℕ) (o : Option Node) (bare : (b : ℕ) → has_value o b ≡ has_value (nodes (p ++ c ∷ [])) b) where
+        blocks_same : (q : List ℕ) → q ≢ p ++ c ∷ [] → (q ≡ p) ⊎ (q ≢ p) → value_blocks sizes (changed nodes p m c o) values q ≡ value_blocks sizes nodes values q
+        blocks_same q nr (inl e) = ap (value_blocks_of sizes values q) (changed_here nodes p m c o q e)
             ∙ ap (λ y. value_blocks_of sizes values y (Some m)) e ∙ own_same ∙ ap (value_blocks sizes nodes values) (sym e)
-        blocks_same o q nr (inr ne) = ap (value_blocks_of sizes values q) (changed_other nodes p m c o q ne nr)
+        blocks_same q nr (inr ne) = ap (value_blocks_of sizes values q) (changed_other nodes p m c o q ne nr)
 
-        values_same : (o : Option Node) (q : List ℕ) (b : ℕ) → q ≢ p ++ c ∷ [] → (q ≡ p) ⊎ (q ≢ p) →
-            has_value (cond (same_path q (p ++ c ∷ [])) o (cond (same_path q p) (Some m) (nodes q))) b ≡ has_value (nodes q) b
-        values_same o q b nr (inl e) = ap (λ x. has_value x b) (changed_here nodes p m c o q e) ∙ has_same b ∙ ap (λ y. has_value (nodes y) b) (sym e)
-        values_same o q b nr (inr ne) = ap (λ x. has_value x b) (changed_other nodes p m c o q ne nr)
+        values_same : (q : List ℕ) (b : ℕ) → (q ≡ p ++ c ∷ []) ⊎ (q ≢ p ++ c ∷ []) → (q ≡ p) ⊎ (q ≢ p) → has_value (changed nodes p m c o q) b ≡ has_value (nodes q) b
+        values_same q b (inl f) at = ap (λ x. has_value x b) (changed_below nodes p m c o q f) ∙ bare b ∙ ap (λ y. has_value (nodes y) b) (sym f)
+        values_same q b (inr nr) (inl e) = ap (λ x. has_value x b) (changed_here nodes p m c o q e) ∙ has_same b ∙ ap (λ y. has_value (nodes y) b) (sym e)
+        values_same q b (inr nr) (inr ne) = ap (λ x. has_value x b) (changed_other nodes p m c o q ne nr)
 
-        -- a blank child more leaves the values as they were
-        pub cells_with_child : has_bit n.child_bitmap c ≡ false → CellsHold sizes (with_child nodes p m c) values ((p ++ c ∷ []) ∷ paths) w
-        cells_with_child missing =
-            let gone : is_some (nodes (p ++ c ∷ [])) ≡ false = hold.linked p c ∙ ap (λ o. has_child o c) is ∙ missing in
-            let none_r : times (p ++ c ∷ []) paths ≡ 0 = hold.listed (p ++ c ∷ []) ∙ ap one_if gone in
-            let new : value_blocks sizes (with_child nodes p m c) values (p ++ c ∷ []) ≡ [] =
-            ap (value_blocks_of sizes values (p ++ c ∷ [])) (changed_below nodes p m c (Some blank_node) (p ++ c ∷ []) refl)
-            ∙ ap (λ bs. held 0 0 (size_in sizes 0) (map (values (p ++ c ∷ [])) bs)) bits-zero in
-            let rest : flat_map (value_blocks sizes (with_child nodes p m c) values) paths ≡ flat_map (value_blocks sizes nodes values) paths =
-            flat_map_same (value_blocks sizes nodes values) (value_blocks sizes (with_child nodes p m c) values) paths
-            (λ q h. blocks_same (Some blank_node) q (λ e. let z : times q paths ≡ 0 = ap (λ y. times y paths) e ∙ none_r in omega arith) (same_or q p)) in
-            record {
-              set_where = λ q b. cells.set_where q b ∙ sym (by_r q b (same_or q (p ++ c ∷ [])));
-              sound = subst (λ bs. Sound None (bs ++ flat_map (value_blocks sizes (with_child nodes p m c) values) paths) w) (sym new)
-                  (subst (λ bs. Sound None bs w) (sym rest) cells.sound);
-              sizes_are = cells.sizes_are;
-              within = cells.within;
-            }
-          where
-            by_r : (q : List ℕ) (b : ℕ) → (q ≡ p ++ c ∷ []) ⊎ (q ≢ p ++ c ∷ []) → has_value (with_child nodes p m c q) b ≡ has_value (nodes q) b
-            by_r q b (inl e) =
-                let gone : nodes q ≡ None = ap nodes e ∙ is_none-None (nodes (p ++ c ∷ [])) (hold.linked p c ∙ ap (λ o. has_child o c) is ∙ missing) in
-                ap (λ x. has_value x b) (changed_below nodes p m c (Some blank_node) q e) ∙ has_bit-zero b ∙ sym (ap (λ x. has_value x b) gone)
-            by_r q b (inr ne) = values_same (Some blank_node) q b ne (same_or q p)
+        -- all others have the blocks that they had
+        rest_same : (ps : List (List ℕ)) → times (p ++ c ∷ []) ps ≡ 0 →
+            flat_map (value_blocks sizes (changed nodes p m c o) values) ps ≡ flat_map (value_blocks sizes nodes values) ps
+        rest_same ps none = flat_map_same (value_blocks sizes nodes values) (value_blocks sizes (changed nodes p m c o) values) ps
+            (λ q h. blocks_same q (not_listed (p ++ c ∷ []) ps none q h) (same_or q p))
 
-        -- and so does a child less that had none
-        pub cells_lacking_child : (leaf : Node) → nodes (p ++ c ∷ []) ≡ Some leaf → ((i : ℕ) → has_bit leaf.value_bitmap i ≡ false) →
-            CellsHold sizes (lacking_child nodes p m c) values (without (p ++ c ∷ []) paths) w
-        cells_lacking_child leaf there bare =
-            let once : times (p ++ c ∷ []) paths ≡ 1 = listed_once node_sizes nodes paths v hold (p ++ c ∷ []) leaf there in
-            let none_r : times (p ++ c ∷ []) (without (p ++ c ∷ []) paths) ≡ 0 = times_out_same (p ++ c ∷ []) paths once in
-            let none : value_blocks sizes nodes values (p ++ c ∷ []) ≡ [] = ap (value_blocks_of sizes values (p ++ c ∷ [])) there
-            ∙ ap (λ bs. held leaf.value_tier leaf.value_block (size_in sizes leaf.value_tier) (map (values (p ++ c ∷ [])) bs))
-            (bits-none leaf.value_bitmap bare) in
-            let rest : flat_map (value_blocks sizes (lacking_child nodes p m c) values) (without (p ++ c ∷ []) paths) ≡ flat_map
-            (value_blocks sizes nodes values) (without (p ++ c ∷ []) paths) =
-            flat_map_same (value_blocks sizes nodes values) (value_blocks sizes (lacking_child nodes p m c) values) (without (p ++ c ∷ []) paths)
-            (λ q h. blocks_same None q (λ e. let z : times q (without (p ++ c ∷ []) paths) ≡ 0 = ap (λ y. times y (without (p ++ c ∷ []) paths)) e
-            ∙ none_r in omega arith) (same_or q p)) in
-            record {
-              set_where = λ q b. cells.set_where q b ∙ sym (by_r q b (same_or q (p ++ c ∷ [])));
-              sound = subst (λ bs. Sound None bs w) (sym rest)
-                  (subst (λ bs. Sound None (bs ++ flat_map (value_blocks sizes nodes values) (without (p ++ c ∷ []) paths)) w) none
-                  (node_first sizes nodes paths None (value_blocks sizes nodes values) w (p ++ c ∷ []) (omega arith) cells.sound));
-              sizes_are = cells.sizes_are;
-              within = cells.within;
-            }
-          where
-            by_r : (q : List ℕ) (b : ℕ) → (q ≡ p ++ c ∷ []) ⊎ (q ≢ p ++ c ∷ []) → has_value (lacking_child nodes p m c q) b ≡ has_value (nodes q) b
-            by_r q b (inl e) = ap (λ x. has_value x b) (changed_below nodes p m c None q e) ∙ sym (ap (λ x. has_value x b) (ap nodes e ∙ there) ∙ bare b)
-            by_r q b (inr ne) = values_same None q b ne (same_or q p)
+        cells_around : (after : List (List ℕ)) → Sound None (flat_map (value_blocks sizes (changed nodes p m c o) values) after) w →
+            CellsHold sizes (changed nodes p m c o) values after w
+        cells_around after sound = record {
+          set_where = λ q b. cells.set_where q b ∙ sym (values_same q b (same_or q (p ++ c ∷ [])) (same_or q p));
+          sound = sound;
+          sizes_are = cells.sizes_are;
+          within = cells.within;
+        }
+
+      -- a blank child more leaves the values as they were
+      pub cells_with_child : (c : ℕ) → has_bit n.child_bitmap c ≡ false → CellsHold sizes (with_child nodes p m c) values ((p ++ c ∷ []) ∷ paths) w
+      cells_with_child c missing =
+          let gone : nodes (p ++ c ∷ []) ≡ None = is_none-None (nodes (p ++ c ∷ [])) (hold.linked p c ∙ ap (λ o. has_child o c) is ∙ missing) in
+          let bare : (b : ℕ) → has_value (Some blank_node) b ≡ has_value (nodes (p ++ c ∷ [])) b = λ b. has_bit-zero b ∙ sym (ap (λ x. has_value x b) gone) in
+          let new : value_blocks sizes (with_child nodes p m c) values (p ++ c ∷ []) ≡ [] =
+          ap (value_blocks_of sizes values (p ++ c ∷ [])) (changed_below nodes p m c (Some blank_node) (p ++ c ∷ []) refl)
+          ∙ ap (λ bs. held 0 0 (size_in sizes 0) (map (values (p ++ c ∷ [])) bs)) bits-zero in
+          let rest = rest_same c (Some blank_node) bare paths (hold.listed (p ++ c ∷ []) ∙ ap (λ o. one_if (is_some o)) gone) in
+          cells_around c (Some blank_node) bare ((p ++ c ∷ []) ∷ paths) (subst (λ bs. Sound None bs w) (sym (λ i. new i ++ rest i)) cells.sound)
+
+      -- and so does a child less that had none
+      pub cells_lacking_child : (c : ℕ) (leaf : Node) → nodes (p ++ c ∷ []) ≡ Some leaf → ((i : ℕ) → has_bit leaf.value_bitmap i ≡ false) →
+          CellsHold sizes (lacking_child nodes p m c) values (without (p ++ c ∷ []) paths) w
+      cells_lacking_child c leaf there bare =
+          let once : times (p ++ c ∷ []) paths ≡ 1 = listed_once node_sizes nodes paths v hold (p ++ c ∷ []) leaf there in
+          let gone : (b : ℕ) → has_value None b ≡ has_value (nodes (p ++ c ∷ [])) b = λ b. sym (ap (λ x. has_value x b) there ∙ bare b) in
+          let none : value_blocks sizes nodes values (p ++ c ∷ []) ≡ [] = ap (value_blocks_of sizes values (p ++ c ∷ [])) there
+          ∙ ap (λ bs. held leaf.value_tier leaf.value_block (size_in sizes leaf.value_tier) (map (values (p ++ c ∷ [])) bs))
+          (bits-none leaf.value_bitmap bare) in
+          let rest = rest_same c None gone (without (p ++ c ∷ []) paths) (times_out_same (p ++ c ∷ []) paths once) in
+          cells_around c None gone (without (p ++ c ∷ []) paths) (subst (λ bs. Sound None bs w) (λ i. none i ++ sym rest i)
+          (node_first sizes nodes paths None (value_blocks sizes nodes values) w (p ++ c ∷ []) (omega arith) cells.sound))
 
     -- the node n at p becomes m, and its values change at the bit b alone
     module _ (p : List ℕ) (n m : Node) (b : ℕ) (x : Option T) (is : nodes p ≡ Some n)

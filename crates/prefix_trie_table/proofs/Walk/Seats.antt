@@ -73,7 +73,7 @@ module _ {T : Type 0} (v : Store Node) (w : Store (Option T)) (t : SomeTable v w
       (others_apart (tier_sizes w.tiers) w.first (length w.slots) (extent (own p n)) (extent (own q m) ∷ map extent rest) (free_extents w.tiers) both.blocks) in
       let small = place_below p n b (own q m ∷ rest) bit both in
       let small2 = place_below q m c (flat_map blocks_at (without q t.paths)) bit2 swapped in
-      elim apart [ inl before ↦ absurd (omega (arith, before, same, small, small2)) | inr behind ↦ absurd (omega (arith, behind, same, small, small2)) ]
+      absurd (omega (arith, apart, same, small, small2))
 
   -- so two strings have two seats
   pub seats_differ : (q s : List Bool) (x y : Seat) → IsSeat t.reading (path_of q) (bit_of q) x → IsSeat t.reading (path_of s) (bit_of s) y → q ≢ s →

@@ -1,6 +1,6 @@
-use Rattle.std.proofs.Common.{◌+◌, ◌-◌, set, ap, ◌∙◌, arith}
+use Rattle.std.proofs.Common.{◌+◌, ◌-◌, ◌<◌, ◌≤◌, ⊎_elim, set, ap, ◌∙◌, arith}
 use Rattle.prefix_trie_table.specs.Runs.{swap_runs}
-use Rattle.prefix_trie_table.proofs.Blocks.MovedIn.{moved_in}
+use Rattle.prefix_trie_table.proofs.Blocks.RunLemmas.{moved_in}
 use Rattle.prefix_trie_table.proofs.allocator.slots.move_in.Goals as goal
 
 pub returns-clause-items : goal.returns-clause-items
@@ -9,4 +9,4 @@ returns-clause-items g c =
     let xs = a.slots.now.items in
     c.exchange-2.ensures.items
     ∙ ap (λ ys. swap_runs (set ys (a.to + a.place) a.value) (a.from + a.place) (a.to + a.place + 1) (a.count - a.place)) c.exchange.ensures.items
-    ∙ moved_in g.S.Slot.vacant a.value xs a.from a.to a.count a.place (omega (arith, c.requires.from_within, a.slots.now.ok.0)) (omega (arith, c.requires.to_within, a.slots.now.ok.0)) c.requires.apart c.requires.place c.requires.unused
+    ∙ moved_in g.S.Slot.vacant a.value xs a.from a.to a.count a.place (omega (arith, c.requires.from_within, a.slots.now.ok.0)) (omega (arith, c.requires.to_within, a.slots.now.ok.0)) (λ h. ⊎_elim (λ (before : a.from + a.count ≤ a.to). absurd (omega arith)) (λ (behind : a.to + a.count < a.from). behind) c.requires.apart) c.requires.place c.requires.unused

@@ -1,4 +1,5 @@
-use Rattle.std.proofs.Common.{◌≡◌, ◌+◌, ◌<◌, ◌≤◌, ◌∷◌, inl, inr, ⊎_elim, replicate, insert, sym, ap, ◌∙◌, arith}
+use Rattle.std.proofs.Common.{◌≡◌, ◌+◌, ◌∷◌, inl, inr, replicate, insert, sym, ap, ◌∙◌, arith}
+use Rattle.std.proofs.lemmas.Bool.{cases_lt}
 use Rattle.std.proofs.lemmas.List.Edits.{length-insert}
 use Rattle.prefix_trie_table.specs.Runs.{run, put_run}
 use Rattle.prefix_trie_table.proofs.Blocks.Soundness.{Sound-exchanged, block_inside, fits_block}
@@ -19,7 +20,10 @@ move_in-requires g c =
     record {
       from_within = omega (arith, wa.before, fits, q.4, q.6, v.slots.ok.0);
       to_within = omega (arith, wb.before, q.5, q.8, v.slots.ok.0);
-      apart = ⊎_elim (λ (h : a.start + a.size ≤ b.start). inl (let e : c.args.from + c.args.count ≤ c.args.to = omega (arith, fits, q.4, q.5, q.6) in e)) (λ (h : b.start + b.size ≤ a.start). inr (let e : c.args.to + c.args.count < c.args.from = omega (arith, q.4, q.5, q.8) in e)) (two_apart g.S.Slot.vacant a b q.2 _ q.7 s);
+      apart = elim (cases_lt c.args.to (c.args.from + c.args.count)) [
+        | inl h ↦ inr (let apart = two_apart g.S.Slot.vacant a b q.2 _ q.7 s in omega (arith, apart, h, fits, q.4, q.5, q.6, q.8))
+        | inr h ↦ inl h
+      ];
       unused = ap (λ n. run v.slots.items n (c.args.count + 1)) (sym q.5) ∙ empty;
       place = c.requires.place;
     }
