@@ -10,7 +10,8 @@ use Rattle.prefix_trie_table.specs.declared.allocator.node.Node.{Node}
 use Rattle.prefix_trie_table.specs.Bitmaps.{rank, bits}
 use Rattle.prefix_trie_table.specs.Cells.{blank_node, node_at, node_sizes, cell_sizes}
 use Rattle.prefix_trie_table.specs.Forest.{own_count, child_items, child_blocks, child_blocks_of, value_blocks, value_blocks_of}
-use Rattle.prefix_trie_table.specs.HandingOut.Laid.{child_slots, value_slots, slots_below, HasSpace}
+use Rattle.prefix_trie_table.specs.HandingOut.Laying.{CanLay}
+use Rattle.prefix_trie_table.specs.HandingOut.Laid.{child_slots, value_slots, slots_below}
 use Rattle.prefix_trie_table.specs.Layouts.{own_children}
 use Rattle.prefix_trie_table.specs.OwnBlocks.{child_block_size, value_block_size}
 use Rattle.prefix_trie_table.specs.Store.{Store, UsedBlock, Sound, extent, free_extents, held, size_in, tier_sizes, size_if_any}
@@ -83,19 +84,30 @@ module _ {T : Type 0} (width count : ℕ) (v : Store Node) (w : Store (Option T)
           (rank-all _ n.value_bitmap) has
 
   -- new arrays under the same limit have space for all
-  pub root_space : (levels : ℕ) (v1 : Store Node) (w1 : Store (Option T)) → length v1.slots ≡ 1 → length w1.slots ≡ 0 → v1.limit ≡ v.limit → w1.limit ≡ v.limit →
-      HasSpace (slots_below child_slots v.slots levels (node_at v.slots 0)) (slots_below value_slots v.slots levels (node_at v.slots 0)) v1 w1
-  root_space levels v1 w1 one none node_limit cell_limit = record {
-    of_nodes =
+  pub root_nodes : (levels : ℕ) (v1 : Store Node) → Sound blank_node [] v1 → tier_sizes v1.tiers ≡ node_sizes → length v1.slots ≡ 1 → v1.limit ≡ v.limit →
+      CanLay blank_node node_sizes (slots_below child_slots v.slots levels (node_at v.slots 0)) v1
+  root_nodes levels v1 sound are one limit = record {
+    live = [];
+    sound = sound;
+    sizes_are = are;
+    space =
         (let tree = whole_tree child_slots reading paths v trie.table.nodes levels (node_at v.slots 0) trie.table.nodes.rooted in
         let sums = sum_by-le-sum_by _ (λ x. sum_by (λ b. b.size) (child_blocks node_sizes reading x)) paths nodes_at in
         let within = blocks_within blank_node (child_blocks node_sizes reading) paths v trie.table.nodes.sound in
         let first = trie.table.nodes.first_is in
-        let limit = trie.table.nodes_within in omega (arith, tree, sums, within, first, limit, one, node_limit));
-    of_cells =
+        let most = trie.table.nodes_within in omega (arith, tree, sums, within, first, most, one, limit));
+  }
+
+  pub root_cells : (levels : ℕ) (w1 : Store (Option T)) → Sound None [] w1 → tier_sizes w1.tiers ≡ cell_sizes → length w1.slots ≡ 0 → w1.limit ≡ v.limit →
+      CanLay None cell_sizes (slots_below value_slots v.slots levels (node_at v.slots 0)) w1
+  root_cells levels w1 sound are none limit = record {
+    live = [];
+    sound = sound;
+    sizes_are = are;
+    space =
         (let tree = whole_tree value_slots reading paths v trie.table.nodes levels (node_at v.slots 0) trie.table.nodes.rooted in
         let sums = sum_by-le-sum_by _ (λ x. sum_by (λ b. b.size) (value_blocks cell_sizes reading trie.table.values x)) paths cells_at in
         let within = blocks_within None (value_blocks cell_sizes reading trie.table.values) paths w trie.table.cells.sound in
-        let limit = trie.table.cells_within in
-        let same = trie.table.one_limit in omega (arith, tree, sums, within, limit, same, none, cell_limit));
+        let most = trie.table.cells_within in
+        let same = trie.table.one_limit in omega (arith, tree, sums, within, most, same, none, limit));
   }

@@ -1,5 +1,5 @@
 -- How many slots a node needs at most, with all below it.
-use Rattle.std.proofs.Common.{◌≡◌, ◌≢◌, ℕ, zero, suc, ◌+◌, ◌-◌, ◌<◌, ◌≤◌, inl, inr, Bool, true, false, cond, List, length, Option, None, Some, refl, sym, ap, ◌∙◌, subst, arith}
+use Rattle.std.proofs.Common.{◌≡◌, ◌≢◌, ℕ, zero, suc, ◌+◌, ◌-◌, ◌<◌, ◌≤◌, inl, inr, Bool, true, false, cond, List, Option, None, Some, refl, sym, ap, ◌∙◌, subst, arith}
 use Rattle.std.specs.List.{Contains}
 use Rattle.std.proofs.lemmas.Bool.{cases_lt, false≢true}
 use Rattle.std.proofs.lemmas.List.{get_or_default}
@@ -11,9 +11,9 @@ use Rattle.prefix_trie_table.specs.declared.allocator.node.Node.{Node}
 use Rattle.prefix_trie_table.specs.Bitmaps.{has_bit, rank}
 use Rattle.prefix_trie_table.specs.Cells.{node_at, node_sizes, cell_sizes}
 use Rattle.prefix_trie_table.specs.Forest.{child_slot}
-use Rattle.prefix_trie_table.specs.HandingOut.Laid.{child_slots, value_slots, sum_to, slots_below, slots_at_child, HasSpace, Lengthens}
-use Rattle.prefix_trie_table.specs.Store.{Store, size_in}
-use Rattle.prefix_trie_table.proofs.Strings.BitLists.{rank-below, rank-le, rank-more, rank-zero}
+use Rattle.prefix_trie_table.specs.HandingOut.Laid.{child_slots, value_slots, sum_to, slots_below, slots_at_child}
+use Rattle.prefix_trie_table.specs.Store.{size_in}
+use Rattle.prefix_trie_table.proofs.Strings.BitLists.{rank-le, rank-more, rank-zero}
 use Rattle.prefix_trie_table.proofs.HandingOut.Fits.{values_few}
 
 -- a refusal that is not for index room
@@ -51,13 +51,19 @@ module _ (own : Node → ℕ) (nodes : List Node) where
   slots_split (suc levels) n = refl
 
   -- what a child that is there has
-  child_amount : (levels : ℕ) (n lower : Node) (c : ℕ) → 0 < levels → has_bit n.child_bitmap c ≡ true → lower ≡ node_at nodes (child_slot n c) →
+  pub child_amount : (levels : ℕ) (n lower : Node) (c : ℕ) → 0 < levels → has_bit n.child_bitmap c ≡ true → lower ≡ node_at nodes (child_slot n c) →
       slots_at_child own nodes levels n c ≡ slots_below own nodes (levels - 1) lower
   child_amount zero n lower c some set is = absurd (omega (arith, some))
   child_amount (suc levels) n lower c some set is =
       ap (λ b. cond b (slots_below own nodes levels (node_at nodes (child_slot n c))) 0) set
       ∙ ap (slots_below own nodes levels) (sym is)
       ∙ ap (λ l. slots_below own nodes l lower) (let e : levels ≡ suc levels - 1 = omega arith in e)
+
+  -- a node and its children before c leave what the child has
+  pub child_room : (levels : ℕ) (n lower : Node) (c : ℕ) → c < 32 → slots_at_child own nodes levels n c ≡ slots_below own nodes (levels - 1) lower →
+      own n + sum_to (slots_at_child own nodes levels n) c + slots_below own nodes (levels - 1) lower ≤ slots_below own nodes levels n
+  child_room levels n lower c small is =
+      omega (arith, slots_split levels n, sum_to_part (slots_at_child own nodes levels n) c 32 small, is)
 
 -- ---- blocks of fewer items
 
@@ -117,105 +123,3 @@ children_packed n sizes children count are few some =
     let less = rank_fewer children n.child_bitmap 32 some in
     subst (λ ns. packed_slots ns count ≤ child_slots n) (sym are)
     (children_fewer count (rank n.child_bitmap 32) (omega (arith, few, less)) (rank-le n.child_bitmap 32))
-
--- ---- the arrays while a node is laid
-
-module _ {T : Type 0} (nodes : List Node) (levels : ℕ) (n : Node) (v v2 : Store Node) (w w2 : Store (Option T)) where
-  abbrev of_children : ℕ → ℕ
-  of_children = slots_at_child child_slots nodes levels n
-
-  abbrev of_values : ℕ → ℕ
-  of_values = slots_at_child value_slots nodes levels n
-
-  -- the children before c are laid, and the node's values
-  abbrev pub LaidTo : ℕ → Type 0
-  LaidTo c = Lengthens (sum_to of_children c) (value_slots n + sum_to of_values c) v v2 w w2
-
-  module _ (space : HasSpace (slots_below child_slots nodes levels n) (slots_below value_slots nodes levels n) v w)
-      (node_limit : v2.limit ≡ v.limit) (cell_limit : w2.limit ≡ w.limit) where
-    -- the next has its slots
-    pub space_at : (c : ℕ) → c < 32 → LaidTo c → HasSpace (of_children c) (of_values c) v2 w2
-    space_at c small to = record {
-      of_nodes = (let p = sum_to_part of_children c 32 small in let s = slots_split child_slots nodes levels n in
-          let f = space.of_nodes in let t = to.of_nodes in omega (arith, p, s, f, t, node_limit));
-      of_cells = (let p = sum_to_part of_values c 32 small in let s = slots_split value_slots nodes levels n in
-          let f = space.of_cells in let t = to.of_cells in omega (arith, p, s, f, t, cell_limit));
-    }
-
-    -- and the block of all children
-    pub space_for_all : LaidTo 32 → length v2.slots + child_slots n ≤ v2.limit
-    space_for_all to = let s = slots_split child_slots nodes levels n in let f = space.of_nodes in let t = to.of_nodes in omega (arith, s, f, t, node_limit)
-
-  pub laid_next : (c : ℕ) (v3 : Store Node) (w3 : Store (Option T)) → LaidTo c → Lengthens (of_children c) (of_values c) v2 v3 w2 w3 →
-      Lengthens (sum_to of_children (c + 1)) (value_slots n + sum_to of_values (c + 1)) v v3 w w3
-  laid_next c v3 w3 to more = record {
-    of_nodes = (let e = sum_to_next of_children c in let a = to.of_nodes in let b = more.of_nodes in omega (arith, e, a, b));
-    of_cells = (let e = sum_to_next of_values c in let a = to.of_cells in let b = more.of_cells in omega (arith, e, a, b));
-  }
-
-  -- where all children are laid, and their block
-  pub laid_whole : (v3 : Store Node) → LaidTo 32 → length v3.slots ≤ length v2.slots + child_slots n →
-      Lengthens (slots_below child_slots nodes levels n) (slots_below value_slots nodes levels n) v v3 w w2
-  laid_whole v3 to more = record {
-    of_nodes = (let s = slots_split child_slots nodes levels n in let a = to.of_nodes in omega (arith, s, a, more));
-    of_cells = (let s = slots_split value_slots nodes levels n in let a = to.of_cells in omega (arith, s, a));
-  }
-
--- ---- the arrays while one child is laid
-
-module _ {T : Type 0} (nodes : List Node) (levels : ℕ) (n lower : Node) (c : ℕ) (some : 0 < levels) (set : has_bit n.child_bitmap c ≡ true)
-    (is : lower ≡ node_at nodes (child_slot n c)) (v : Store Node) (w : Store (Option T)) where
-  abbrev child_nodes : ℕ
-  child_nodes = slots_at_child child_slots nodes levels n c
-
-  abbrev child_cells : ℕ
-  child_cells = slots_at_child value_slots nodes levels n c
-
-  -- the node at the child has the child's slots
-  pub space_below : HasSpace child_nodes child_cells v w →
-      HasSpace (slots_below child_slots nodes (levels - 1) lower) (slots_below value_slots nodes (levels - 1) lower) v w
-  space_below space = record {
-    of_nodes = (let e = child_amount child_slots nodes levels n lower c some set is in let s = space.of_nodes in omega (arith, e, s));
-    of_cells = (let e = child_amount value_slots nodes levels n lower c some set is in let s = space.of_cells in omega (arith, e, s));
-  }
-
-  pub longer_above : (v2 : Store Node) (w2 : Store (Option T)) →
-      Lengthens (slots_below child_slots nodes (levels - 1) lower) (slots_below value_slots nodes (levels - 1) lower) v v2 w w2 →
-      Lengthens child_nodes child_cells v v2 w w2
-  longer_above v2 w2 l = record {
-    of_nodes = (let e = child_amount child_slots nodes levels n lower c some set is in let s = l.of_nodes in omega (arith, e, s));
-    of_cells = (let e = child_amount value_slots nodes levels n lower c some set is in let s = l.of_cells in omega (arith, e, s));
-  }
-
-  -- ---- the child alone
-
-  module _ (small : c < 32) where
-    one_of : (own : Node → ℕ) → own n + slots_at_child own nodes levels n c ≤ slots_below own nodes levels n
-    one_of own =
-        let part = sum_to_part (slots_at_child own nodes levels n) c 32 small in
-        let split = slots_split own nodes levels n in omega (arith, part, split)
-
-    pub space_for_one : HasSpace (slots_below child_slots nodes levels n) (slots_below value_slots nodes levels n) v w → HasSpace child_nodes child_cells v w
-    space_for_one space = record {
-      of_nodes = (let s = space.of_nodes in omega (arith, one_of child_slots, s));
-      of_cells = (let s = space.of_cells in omega (arith, one_of value_slots, s));
-    }
-
-    module _ (v2 : Store Node) (w2 : Store (Option T)) (l : Lengthens child_nodes child_cells v v2 w w2) where
-      -- there is space for the block of this child
-      pub space_for_block : HasSpace (slots_below child_slots nodes levels n) (slots_below value_slots nodes levels n) v w → v2.limit ≡ v.limit →
-          length v2.slots + child_slots n ≤ v2.limit
-      space_for_block space limit = (let s = space.of_nodes in let long = l.of_nodes in omega (arith, one_of child_slots, s, long, limit))
-
-      -- and with it the node is laid
-      pub one_laid : (v3 : Store Node) → length v3.slots ≤ length v2.slots + child_slots n →
-          Lengthens (slots_below child_slots nodes levels n) (slots_below value_slots nodes levels n) v v3 w w2
-      one_laid v3 more = record {
-        of_nodes = (let long = l.of_nodes in omega (arith, one_of child_slots, long, more));
-        of_cells = (let long = l.of_cells in omega (arith, one_of value_slots, long));
-      }
-
--- the block of a child is no larger than that of all
-pub one_packed : (n : Node) (sizes : List ℕ) (c : ℕ) → sizes ≡ node_sizes → c < 32 → has_bit n.child_bitmap c ≡ true → packed_slots sizes 1 ≤ child_slots n
-one_packed n sizes c are small set =
-    children_packed n sizes n.child_bitmap 1 are (let some = rank-below n.child_bitmap c small set in omega (arith, some)) (λ i there. there)

@@ -106,7 +106,7 @@ module _ {T : Type 0} where
     pub second_packed : (z : Sized v2.slots) → IsPacked s (storage_of v2 w2 z)
     second_packed z =
         let t = some_table trie.table in
-        is_packed t.reading t.values t.paths v2 w2 t.holds (λ p n e. second.skeleton.packed p n (sym (same_node p) ∙ e))
+        is_packed t.reading t.values t.paths v2 w2 t.holds (λ p n e. second.skeleton.part.packed p n (sym (same_node p) ∙ e))
         (subst (λ (x : Store Node). NoneFree x) (sym nodes) second.skeleton.no_node_free)
         (λ j. ap (λ (x : Store (Option T)). free_in x.tiers j) cells ∙ second.skeleton.no_cell_free j)
         trie.table.cells_first s trie.shaped z

@@ -1,5 +1,5 @@
 -- All values that a bit string begins, moved into a second table one after another.
-use Rattle.std.proofs.Common.{◌≡◌, ℕ, Bool, true, false, cond, List, [], ◌∷◌, length, Option, None, refl, sym, ap, ◌∙◌, subst}
+use Rattle.std.proofs.Common.{◌≡◌, ℕ, Bool, true, false, cond, List, [], ◌∷◌, Option, None, refl, sym, ap, ◌∙◌, subst}
 use Rattle.std.specs.FinMap.{get, len, entries}
 use Rattle.prefix_trie_bits.specs.Bits.{begins}
 use Rattle.prefix_trie_bits.specs.Model.Asking.{MayAskInOrder}
@@ -42,7 +42,6 @@ module _ {K T : Type 0} (IsKey : K → Type 0) (bits : K → List Bool) (width :
       (rest : List (List Bool × T)) : Type 0 where
     pub nodes : v ≡ laid
     pub cells : w ≡ record vacant { slots = w.slots }
-    pub long : length w.slots ≡ length vacant.slots
     pub awaits : Awaits IsKey bits width shape v w ps rest
 
   -- one value more
@@ -52,7 +51,6 @@ module _ {K T : Type 0} (IsKey : K → Type 0) (bits : K → List Bool) (width :
   fills_next shape laid vacant v v2 w w2 ps ps2 e rest h came = record {
     nodes = came.nodes ∙ h.nodes;
     cells = came.cells ∙ ap (λ (x : Store (Option T)). record x { slots = w2.slots }) h.cells;
-    long = came.long ∙ h.long;
     awaits = came.goes_on shape rest h.awaits;
   }
 
@@ -66,7 +64,6 @@ module _ {K T : Type 0} (IsKey : K → Type 0) (bits : K → List Bool) (width :
       record {
         nodes = refl;
         cells = refl;
-        long = refl;
         awaits = record {
           trie = subst (λ es. IsTrie width (len (part_below s.entries q)) laid (filled_with laid.slots es vacant)
               (record { entries = part_below s.entries q; nodes = needed (part_below s.entries q) })) (part_listed s.entries q) whole;

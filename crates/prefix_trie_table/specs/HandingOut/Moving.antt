@@ -1,5 +1,5 @@
 -- A second table whose values come one after another, in listing order. This project's own.
-use Rattle.std.specs.Prelude.{◌≡◌, ℕ, Bool, List, [], ◌∷◌, Option, length}
+use Rattle.std.specs.Prelude.{◌≡◌, ℕ, Bool, List, [], ◌∷◌, Option}
 use Rattle.std.specs.FinMap.{len}
 use Rattle.prefix_trie_bits.specs.Model.Step.{State}
 use Rattle.prefix_trie_table.specs.declared.allocator.node.Node.{Node}
@@ -32,5 +32,4 @@ module _ {T : Type 0} where
     pub record HasCome (v v2 : Store Node) (w w2 : Store (Option T)) (ps ps2 : List (KeyedSpot K)) (q : List Bool) (x : T) : Type 0 where
       pub nodes : v2 ≡ v
       pub cells : w2 ≡ record w { slots = w2.slots }
-      pub long : length w2.slots ≡ length w.slots
       pub goes_on : (shape : State T) (later : List (List Bool × T)) → Awaits shape v w ps ((q, x) ∷ later) → Awaits shape v2 w2 ps2 later

@@ -1,5 +1,5 @@
 //! Moving the entries that a bit string begins out of a table into one of their own.
-ghost use Rattle.std.specs.Prelude.{◌≡◌, ◌≤◌, false, length, take};
+ghost use Rattle.std.specs.Prelude.{◌≡◌, ◌≤◌, false, take};
 ghost use Rattle.std.specs.FinMap.{len as size};
 ghost use Rattle.prefix_trie_bits.specs.Model.Entries.{part_below, without_below};
 ghost use Rattle.prefix_trie_bits.specs.Model.Nodes.{needed, nodes_without_below};
@@ -86,7 +86,6 @@ pub(super) fn move_part<K: Key, T: Drop, A: Allocator, V: Tick>(
         }) }
     ensures nodes { result.0 ≡ laid }
     ensures cells { result.1 ≡ record vacant { slots = result.1.slots } }
-    ensures long { length result.1.slots ≡ length vacant.slots }
 {
     let stack = start_at::<K, T, A, V>(&laid, key, len, Start::Below, counter);
     let mut seats = Seats {

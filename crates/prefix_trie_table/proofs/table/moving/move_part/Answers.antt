@@ -60,6 +60,3 @@ returns-clause-nodes g c = (filled g c c.requires.trie.0 c.requires.trie.1).node
 
 pub returns-clause-cells : goal.returns-clause-cells
 returns-clause-cells g c = (filled g c c.requires.trie.0 c.requires.trie.1).cells
-
-pub returns-clause-long : goal.returns-clause-long
-returns-clause-long g c = (filled g c c.requires.trie.0 c.requires.trie.1).long
