@@ -47,14 +47,14 @@ module _ {T : Type 0} (width count : ℕ) (v : Store Node) (w : Store (Option T)
       omega (arith, long, steps)
 
   -- so it is a source
-  pub root_source : IsSource v (node_at v.slots 0) (width / 5)
-  root_source = record {
+  pub root_source : (n : Node) → n ≡ node_at v.slots 0 → (levels : ℕ) → levels ≡ width / 5 → IsSource v n levels
+  root_source n is_root levels e = record {
     reading = trie.table.reading;
     paths = trie.table.paths;
     hold = trie.table.nodes;
     path = [];
-    is = trie.table.nodes.rooted;
-    few = shallow;
+    is = trie.table.nodes.rooted ∙ ap Some (sym is_root);
+    few = λ q there. let few = shallow q there in omega (arith, few, e);
     within = λ q b h. trie.table.cells.within q b (trie.table.cells.set_where q b ∙ h);
   }
 

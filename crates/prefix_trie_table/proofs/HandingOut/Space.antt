@@ -1,9 +1,10 @@
 -- How many slots a node needs at most, with all below it.
-use Rattle.std.proofs.Common.{◌≡◌, ◌≢◌, ℕ, zero, suc, ◌+◌, ◌-◌, ◌<◌, ◌≤◌, inl, inr, Bool, true, false, cond, List, Option, None, Some, refl, sym, ap, ◌∙◌, subst, arith}
+use Rattle.std.proofs.Common.{◌≡◌, ◌≢◌, ℕ, zero, suc, ◌+◌, ◌-◌, ◌<◌, ◌≤◌, inl, inr, Bool, true, false, cond, List, None, Some, refl, sym, ap, ◌∙◌, subst, arith}
 use Rattle.std.specs.List.{Contains}
 use Rattle.std.proofs.lemmas.Bool.{cases_lt, false≢true}
 use Rattle.std.proofs.lemmas.List.{get_or_default}
 use Rattle.prefix_trie_bits.specs.declared.prefix.Refusal.TheVariants.{Memory, IndexRange, the_data}
+use Rattle.prefix_trie_bits.specs.Model.Blocks.{smallest_size}
 use Rattle.prefix_trie_bits.specs.Model.HandsOut.{packed_slots}
 use Rattle.prefix_trie_bits.proofs.Model.Storage.Readied.{goes_up}
 use Rattle.prefix_trie_bits.proofs.Model.Storage.Shrinking.{smallest_of}
@@ -83,6 +84,10 @@ rank_fewer a b (suc n) within =
     bit_less false true h = omega arith
     bit_less false false h = omega arith
 
+-- the slots of the block that is found
+pub slots_found : (sizes : List ℕ) (n size : ℕ) → smallest_size sizes (suc n) ≡ Some size → packed_slots sizes (suc n) ≡ size
+slots_found sizes n size e = ap (λ o. elim o as (λ _. ℕ) [ None ↦ 0 | Some m ↦ m ]) e
+
 module _ (sizes : List ℕ) (up : goes_up 0 sizes ≡ true) (o : ℕ) (among : Contains sizes o) where
   -- no larger block is needed for fewer items
   packed_fewer : (a b : ℕ) → a ≤ b → b ≤ o → packed_slots sizes a ≤ packed_slots sizes b
@@ -91,35 +96,28 @@ module _ (sizes : List ℕ) (up : goes_up 0 sizes ≡ true) (o : ℕ) (among : C
   packed_fewer (suc a) (suc b) less few =
       let of_b = smallest_of 0 sizes up (suc b) o among few in
       let of_a = smallest_of 0 sizes up (suc a) of_b.size of_b.among (let h = of_b.holds in omega (arith, h, less)) in
-      let first : packed_slots sizes (suc a) ≡ of_a.size = ap slots_in of_a.found in
-      let second : packed_slots sizes (suc b) ≡ of_b.size = ap slots_in of_b.found in
+      let first = slots_found sizes a of_a.size of_a.found in
+      let second = slots_found sizes b of_b.size of_b.found in
       let least = of_a.least in omega (arith, first, second, least)
-    where
-      slots_in : Option ℕ → ℕ
-      slots_in p = elim p as (λ _. ℕ) [
-        | None ↦ 0
-        | Some size ↦ size
-      ]
 
-pub children_fewer : (a b : ℕ) → a ≤ b → b ≤ 32 → packed_slots node_sizes a ≤ packed_slots node_sizes b
-children_fewer = packed_fewer node_sizes refl 32 (6, omega arith, get_or_default node_sizes 6 (size_in node_sizes 6) 0 (omega arith))
-
-pub values_fewer : (a b : ℕ) → a ≤ b → b ≤ 31 → packed_slots cell_sizes a ≤ packed_slots cell_sizes b
-values_fewer = packed_fewer cell_sizes refl 31 (6, omega arith, get_or_default cell_sizes 6 (size_in cell_sizes 6) 0 (omega arith))
+  -- nor for some of the places in a bitmap
+  packed_some : (ns : List ℕ) (some all count : ℕ) → ns ≡ sizes → count ≤ rank some 32 → ((i : ℕ) → has_bit some i ≡ true → has_bit all i ≡ true) → rank all 32 ≤ o →
+      packed_slots ns count ≤ packed_slots sizes (rank all 32)
+  packed_some ns some all count are few within most =
+      subst (λ ms. packed_slots ms count ≤ packed_slots sizes (rank all 32)) (sym are)
+      (packed_fewer count (rank all 32) (let less = rank_fewer some all 32 within in omega (arith, few, less)) most)
 
 -- the block of some of a node's values is no larger than that of all
 pub values_packed : (n : Node) (sizes : List ℕ) (values count : ℕ) → sizes ≡ cell_sizes → count ≡ rank values 32 →
     ((b : ℕ) → has_bit values b ≡ true → has_bit n.value_bitmap b ≡ true) → ((b : ℕ) → has_bit n.value_bitmap b ≡ true → b < 31) →
     packed_slots sizes count ≤ value_slots n
 values_packed n sizes values count are e some within =
-    let less = rank_fewer values n.value_bitmap 32 some in
-    subst (λ ns. packed_slots ns count ≤ value_slots n) (sym are)
-    (values_fewer count (rank n.value_bitmap 32) (omega (arith, e, less)) (values_few n.value_bitmap within))
+    packed_some cell_sizes refl 31 (6, omega arith, get_or_default cell_sizes 6 (size_in cell_sizes 6) 0 (omega arith)) sizes values n.value_bitmap count are
+    (omega (arith, e)) some (values_few n.value_bitmap within)
 
 -- nor is that of some of its children
 pub children_packed : (n : Node) (sizes : List ℕ) (children count : ℕ) → sizes ≡ node_sizes → count ≤ rank children 32 →
     ((c : ℕ) → has_bit children c ≡ true → has_bit n.child_bitmap c ≡ true) → packed_slots sizes count ≤ child_slots n
 children_packed n sizes children count are few some =
-    let less = rank_fewer children n.child_bitmap 32 some in
-    subst (λ ns. packed_slots ns count ≤ child_slots n) (sym are)
-    (children_fewer count (rank n.child_bitmap 32) (omega (arith, few, less)) (rank-le n.child_bitmap 32))
+    packed_some node_sizes refl 32 (6, omega arith, get_or_default node_sizes 6 (size_in node_sizes 6) 0 (omega arith)) sizes children n.child_bitmap count are
+    few some (rank-le n.child_bitmap 32)

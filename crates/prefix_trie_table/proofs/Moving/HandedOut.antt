@@ -110,9 +110,3 @@ module _ {T : Type 0} where
         (subst (λ (x : Store Node). NoneFree x) (sym nodes) second.skeleton.no_node_free)
         (λ j. ap (λ (x : Store (Option T)). free_in x.tiers j) cells ∙ second.skeleton.no_cell_free j)
         trie.table.cells_first s trie.shaped z
-
-    pub second_limit : v2.limit ≡ v.limit
-    second_limit = ap (λ (x : Store Node). x.limit) nodes ∙ second.node_limit
-
-    pub second_cells_within : length w2.slots ≤ v2.limit
-    second_cells_within = (let h = trie.table.cells_within in let e = trie.table.one_limit in omega (arith, h, e))

@@ -19,7 +19,7 @@ use Rattle.prefix_trie_table.specs.Cells.{node_sizes}
 use Rattle.prefix_trie_table.specs.Digits.{path_of, bit_of}
 use Rattle.prefix_trie_table.specs.Forest.{read, times, one_if, is_start, has_value, NodesHold, Holds}
 use Rattle.prefix_trie_table.specs.HandingOut.Laid.{no_value}
-use Rattle.prefix_trie_table.specs.HandingOut.Moving.{filled_with}
+use Rattle.prefix_trie_table.specs.HandingOut.Moving.{filled_with, handed}
 use Rattle.prefix_trie_table.specs.Shape.{IsShapeOf}
 use Rattle.prefix_trie_table.specs.HandingOut.Skeleton.{IsSkeleton, IsSecond}
 use Rattle.prefix_trie_table.specs.Store.{Store, tier_sizes}
@@ -62,10 +62,6 @@ string_placed reading paths v hold p b small set =
 
 module _ {T : Type 0} (width count : ℕ) (v : Store Node) (w : Store (Option T)) (s : State T) (trie : IsTrie width count v w s) (q : List Bool)
     (v2 : Store Node) (w2 : Store (Option T)) (k : IsSkeleton q v v2 w2) where
-  -- its entries and its nodes
-  abbrev pub handed_state : State T
-  handed_state = record { entries = part_below s.entries q; nodes = needed (part_below s.entries q) }
-
   -- where a value is to stand an entry is handed out
   placed : (t : List Bool) → contains_key (part_below s.entries q) t ≡ has_value (k.reading (path_of t)) (bit_of t)
   unfolding read
@@ -147,9 +143,9 @@ module _ {T : Type 0} (width count : ℕ) (v : Store Node) (w : Store (Option T)
           ∙ ap₂ is_start (e ∙ sym (take_at (c ∷ p) why.below (length (c ∷ p)) refl)) key.1
           ∙ is_start_take (length (c ∷ p)) ((c ∷ p) ++ why.below))
 
-  pub second_shape : IsShapeOf v2.slots full.slots handed_state
+  pub second_shape : IsShapeOf v2.slots full.slots (handed s q)
   second_shape =
-      shape_of k.reading values k.paths v2 full second_holds handed_state node_there
+      shape_of k.reading values k.paths v2 full second_holds (handed s q) node_there
       (entry_there v2 k.reading k.paths k.nodes (part_below s.entries q))
 
   handed_within : AreWithin width (part_below s.entries q)
@@ -163,8 +159,7 @@ module _ {T : Type 0} where
   -- under the limit it is a table
   pub second_trie : (width count : ℕ) (v : Store Node) (w : Store (Option T)) (s : State T) (trie : IsTrie width count v w s) (q : List Bool)
       (v2 : Store Node) (w2 : Store (Option T)) → IsSecond q v v2 w2 →
-      IsTrie width (len (part_below s.entries q)) v2 (filled_with v2.slots (entries (part_below s.entries q)) w2)
-      (record { entries = part_below s.entries q; nodes = needed (part_below s.entries q) })
+      IsTrie width (len (part_below s.entries q)) v2 (filled_with v2.slots (entries (part_below s.entries q)) w2) (handed s q)
   second_trie width count v w s trie q v2 w2 second =
       let k = second.skeleton in
       let holds = second_holds width count v w s trie q v2 w2 k in

@@ -1,8 +1,7 @@
-use Rattle.std.proofs.Common.{refl, ◌∙◌, ◌<◌, sym, ap, subst, length, arith, ◌/◌, take, None}
+use Rattle.std.proofs.Common.{refl, ◌∙◌, ◌<◌, sym, ap, subst, length, arith, ◌/◌, take}
 use Rattle.std.proofs.lemmas.Result.{err_from_is_err_and}
-use Rattle.prefix_trie_table.specs.Cells.{blank_node, node_at, node_sizes, cell_sizes}
-use Rattle.prefix_trie_table.specs.HandingOut.Laid.{IsSource, LaysNode, child_slots, value_slots, slots_below}
-use Rattle.prefix_trie_table.specs.HandingOut.Laying.{CanLay}
+use Rattle.prefix_trie_table.specs.Cells.{node_at}
+use Rattle.prefix_trie_table.specs.HandingOut.Laid.{LaysNode}
 use Rattle.prefix_trie_table.specs.declared.allocator.node.Node.{Node}
 use Rattle.prefix_trie_table.specs.Store.{Store, tier_sizes}
 use Rattle.prefix_trie_table.specs.HandingOut.Skeleton.{IsSecond}
@@ -26,24 +25,22 @@ visit-root-requires g c =
 
 pub lay_node-requires-clause-source : goal.lay_node-requires-clause-source
 lay_node-requires-clause-source g c =
-    let source = root_source g.K.Key.bit_width c.requires.trie.1 c.args.nodes.now c.args.cells.now c.requires.trie.0 c.requires.trie.2 in
-    subst (λ n. IsSource c.args.nodes.now n (c.width.result / 5)) (sym c.visit-root.ensures.node)
-    (subst (λ k. IsSource c.args.nodes.now (node_at c.args.nodes.now.slots 0) (k / 5)) (sym c.width.ensures) source)
+    root_source g.K.Key.bit_width c.requires.trie.1 c.args.nodes.now c.args.cells.now c.requires.trie.0 c.requires.trie.2 c.visit-root.result c.visit-root.ensures.node
+    (c.width.result / 5) (ap (λ k. k / 5) c.width.ensures)
 
 pub lay_node-requires-clause-nodes : goal.lay_node-requires-clause-nodes
 lay_node-requires-clause-nodes g c =
     let empty = c.in_ok-second_nodes.ensures.empty in
-    subst (λ n. CanLay blank_node node_sizes (slots_below child_slots c.args.nodes.now.slots (c.width.result / 5) n) c.in_ok-second_nodes.second_nodes) (sym c.visit-root.ensures.node)
-    (root_nodes g.K.Key.bit_width c.requires.trie.1 c.args.nodes.now c.args.cells.now c.requires.trie.0 c.requires.trie.2 (c.width.result / 5) c.in_ok-second_nodes.second_nodes
-    c.in_ok-second_nodes.ensures.sound (ap (λ (x : Store Node). tier_sizes x.tiers) empty) (ap (λ (x : Store Node). length x.slots) empty) (ap (λ (x : Store Node). x.limit) empty))
+    root_nodes g.K.Key.bit_width c.requires.trie.1 c.args.nodes.now c.args.cells.now c.requires.trie.0 c.requires.trie.2 c.visit-root.result c.visit-root.ensures.node
+    (c.width.result / 5) c.in_ok-second_nodes.second_nodes c.in_ok-second_nodes.ensures.sound
+    (ap (λ (x : Store Node). tier_sizes x.tiers) empty) (ap (λ (x : Store Node). length x.slots) empty) (ap (λ (x : Store Node). x.limit) empty)
 
 pub lay_node-requires-clause-cells : goal.lay_node-requires-clause-cells
 lay_node-requires-clause-cells g c =
     let empty = c.in-Ok.ensures.empty in
-    subst (λ n. CanLay None cell_sizes (slots_below value_slots c.args.nodes.now.slots (c.width.result / 5) n) c.in-Ok.second_cells) (sym c.visit-root.ensures.node)
-    (root_cells g.K.Key.bit_width c.requires.trie.1 c.args.nodes.now c.args.cells.now c.requires.trie.0 c.requires.trie.2 (c.width.result / 5) c.in-Ok.second_cells
-    c.in-Ok.ensures.sound (ap (λ (x : Store _). tier_sizes x.tiers) empty) (ap (λ (x : Store _). length x.slots) empty)
-    (ap (λ (x : Store _). x.limit) empty ∙ c.limit.ensures ∙ c.requires.trie.2.table.one_limit))
+    root_cells g.K.Key.bit_width c.requires.trie.1 c.args.nodes.now c.args.cells.now c.requires.trie.0 c.requires.trie.2 c.visit-root.result c.visit-root.ensures.node
+    (c.width.result / 5) c.in-Ok.second_cells c.in-Ok.ensures.sound (ap (λ (x : Store _). tier_sizes x.tiers) empty) (ap (λ (x : Store _). length x.slots) empty)
+    (ap (λ (x : Store _). x.limit) empty ∙ c.limit.ensures ∙ c.requires.trie.2.table.one_limit)
 
 pub returns-clause-laid : goal.returns-clause-laid
 returns-clause-laid g c =
