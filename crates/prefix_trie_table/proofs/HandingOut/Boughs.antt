@@ -21,7 +21,7 @@ use Rattle.prefix_trie_table.specs.Removals.{IsBare, IsStocked}
 use Rattle.prefix_trie_table.specs.Store.{Store, UsedBlock, Sound, held, size_in, tier_sizes, size_if_any}
 use Rattle.prefix_trie_table.proofs.Blocks.Soundness.{Sound-permuted}
 use Rattle.prefix_trie_table.proofs.HandingOut.Grafting.{grafted, graft_here, graft_other, graft_hangs, twig_blocks, cells_of, twig_cells, rest_same, none_below, no_rest}
-use Rattle.prefix_trie_table.proofs.HandingOut.Pushed.{bits-pushed, map-pushed, map-apart, map-nothing}
+use Rattle.prefix_trie_table.proofs.HandingOut.Pushed.{map-pushed, map-nothing}
 use Rattle.prefix_trie_bits.specs.Model.Blocks.{smallest_size}
 use Rattle.prefix_trie_table.proofs.Strings.Bare.{no_bit, some_bit}
 use Rattle.prefix_trie_table.proofs.Strings.Bits.{has_bit-zero}
@@ -176,12 +176,9 @@ module _ {T : Type 0} (array : List Node) (levels : ℕ) (n : Node) (t : List Bo
 
       all_children : below ++ top ∷ [] ≡ child_items new [] bitmap
       all_children =
-          let f : ℕ → Node = λ c. node_or_blank (b.sub ([] ++ c ∷ [])) in
-          let g : ℕ → Node = λ c. node_or_blank (new ([] ++ c ∷ [])) in
-          ap (λ xs. xs ++ top ∷ []) b.children
-          ∙ sym (ap (λ cs. map g cs) (bits-pushed m.child_bitmap bitmap i small bough_clear set others) ∙ map-pushed g (bits m.child_bitmap) i
-          ∙ ap₂ (λ xs y. xs ++ y ∷ []) (map-apart f g m.child_bitmap i (bough_clear i (omega arith)) (λ c ne. ap node_or_blank (other c [] ne)))
-          (ap node_or_blank (here i [] refl ∙ l.hangs.top)))
+          ap₂ (λ xs y. xs ++ y ∷ []) b.children (sym (ap node_or_blank (here i [] refl ∙ l.hangs.top)))
+          ∙ sym (map-pushed (λ c. node_or_blank (b.sub ([] ++ c ∷ []))) (λ c. node_or_blank (new ([] ++ c ∷ []))) m.child_bitmap bitmap i small bough_clear set others
+          (λ c ne. ap node_or_blank (other c [] ne)))
 
       node_blocks : flat_map (child_blocks node_sizes new) (map (λ p. i ∷ p) l.paths ++ b.rest) ≡
           flat_map (child_blocks node_sizes l.sub) l.paths ++ flat_map (child_blocks node_sizes b.sub) b.rest

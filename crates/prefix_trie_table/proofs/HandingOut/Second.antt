@@ -7,12 +7,13 @@ use Rattle.prefix_trie_bits.specs.Model.Step.{State}
 use Rattle.prefix_trie_table.specs.declared.allocator.node.Node.{Node}
 use Rattle.prefix_trie_table.specs.Cells.{blank_node, node_at, node_sizes, cell_sizes}
 use Rattle.prefix_trie_table.specs.Digits.{path_of, bit_of}
-use Rattle.prefix_trie_table.specs.Forest.{one_if, Holds, NodesHold, node_or_blank, child_blocks, value_blocks, at_root}
+use Rattle.prefix_trie_table.specs.Forest.{one_if, Holds, NodesHold, node_or_blank, child_blocks, value_blocks}
 use Rattle.prefix_trie_table.specs.HandingOut.Laid.{IsLaid, IsPackedNode, IsPart, IsSource, NothingLaid, SomeValue, no_value}
 use Rattle.prefix_trie_table.specs.HandingOut.Laying.{Lays}
 use Rattle.prefix_trie_table.specs.HandingOut.Skeleton.{IsSecond}
 use Rattle.prefix_trie_table.specs.Store.{Store, UsedBlock, Sound, free_in, no_blocks, size_in, tier_sizes, size_if_any}
-use Rattle.prefix_trie_table.specs.Tables.{IsTrie}
+use Rattle.prefix_trie_table.specs.Tables.{IsTable, IsTrie}
+use Rattle.prefix_trie_table.proofs.Blocks.Soundness.{first_place}
 use Rattle.prefix_trie_table.proofs.Strings.BitLists.{rank-zero-all}
 use Rattle.prefix_trie_table.proofs.Strings.Digits.{path-length}
 use Rattle.prefix_trie_table.proofs.Strings.Paths.{same_path-not}
@@ -20,17 +21,15 @@ use Rattle.prefix_trie_table.proofs.Strings.PathStrings.{string_at, string_depth
 use Rattle.prefix_trie_table.proofs.Strings.Plain.{both_true}
 use Rattle.prefix_trie_table.proofs.Tree.Invariant.{some_table}
 use Rattle.prefix_trie_table.proofs.Tree.Shapes.{root_reading, root_here, root_holds, no_values, shape_nodes}
-use Rattle.prefix_trie_table.proofs.Tree.Trees.{slot_holds}
 
 -- ---- the table that is read
 
-module _ {T : Type 0} (width count : ℕ) (v : Store Node) (w : Store (Option T)) (s : State T) (trie : IsTrie width count v w s) where
-  -- its root has a slot
-  pub root_stands : 0 < length v.slots
-  root_stands =
-      let h = trie.table.nodes in
-      (slot_holds node_sizes trie.table.reading trie.table.paths v h [] 0 (node_at v.slots 0) at_root h.rooted).1
+module _ {T : Type 0} where
+  -- the root has a slot
+  pub root_slot : {count : ℕ} {v : Store Node} {w : Store (Option T)} {s : State T} → IsTable v w count s → 0 < length v.slots
+  root_slot {count} {v} is = (let w = first_place blank_node _ v is.nodes.sound in let f = is.nodes.first_is in omega (arith, w, f))
 
+module _ {T : Type 0} (width count : ℕ) (v : Store Node) (w : Store (Option T)) (s : State T) (trie : IsTrie width count v w s) where
   -- no node is deeper than the width
   shallow : (q : List ℕ) → is_some (trie.table.reading q) ≡ true → length q ≤ width / 5
   shallow q there =

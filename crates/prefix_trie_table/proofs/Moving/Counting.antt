@@ -1,7 +1,7 @@
 -- The nodes of a table have as many values as it has entries.
-use Rattle.std.proofs.Common.{◌≡◌, ℕ, ◌+◌, ◌-◌, ◌/◌, ◌%◌, ◌<◌, ◌≤◌, Bool, true, false, cond, ◌&&◌, nat_lt, List, [], ◌∷◌, length, length-drop, drop, filter, sum_by, Option, None, Some, is_some, refl, sym, ap, ◌∙◌, subst, arith, ltb-true, eq-eqb}
+use Rattle.std.proofs.Common.{append-nil, ◌≡◌, ℕ, ◌+◌, ◌-◌, ◌/◌, ◌%◌, ◌<◌, ◌≤◌, Bool, true, false, cond, ◌&&◌, nat_lt, List, [], ◌∷◌, length, length-drop, drop, filter, sum_by, Option, None, Some, is_some, refl, sym, ap, ◌∙◌, arith, ltb-true, eq-eqb}
 use Rattle.std.proofs.lemmas.Bool.{false≢true, lt-ltb}
-use Rattle.std.proofs.lemmas.List.{take_all, length-map}
+use Rattle.std.proofs.lemmas.List.{length-map}
 use Rattle.std.proofs.lemmas.List.Elements.{All-head, All-tail, All-map, All-weaker, All-contains_itself}
 use Rattle.std.proofs.lemmas.List.Sums.{sum_by-cons}
 use Rattle.std.specs.List.{All, Contains}
@@ -29,7 +29,7 @@ use Rattle.prefix_trie_table.proofs.Strings.PathStrings.{IsStep, string_at, stri
 use Rattle.prefix_trie_table.proofs.Strings.PathSums.{sum_same}
 use Rattle.prefix_trie_table.proofs.Strings.Placing.{below_node}
 use Rattle.prefix_trie_table.proofs.Strings.Plain.{five_times}
-use Rattle.prefix_trie_table.proofs.Strings.Starts.{is_start_take}
+use Rattle.prefix_trie_table.proofs.HandingOut.WholeTree.{begins_its_rest}
 
 -- ---- sums of what passes tests
 
@@ -94,12 +94,9 @@ module _ (p : List ℕ) (steps : All IsStep p) (k : List Bool) where
           let same : path_of k ≡ p = same_path-true (path_of k) p h in
           let way : path_of k ≡ path_of (string_at p) = same ∙ sym (string_path p steps) in
           and-join (begins (string_at p) k) (nat_lt (length k) (length (string_at p) + 5))
-          (sym (begins-way (string_at p) k five) ∙ ap (λ x. is_start x (path_of k)) (sym way) ∙ is_start_itself (path_of k))
+          (sym (begins-way (string_at p) k five) ∙ ap (λ x. is_start x (path_of k)) (sym way) ∙ ap (is_start (path_of k)) (sym (append-nil (path_of k))) ∙ begins_its_rest (path_of k) [])
           (lt-ltb (length k) (length (string_at p) + 5)
           (near (length k) (length (string_at p)) five (sym (path-length k) ∙ ap length way ∙ path-length (string_at p))))
-        where
-          is_start_itself : (x : List ℕ) → is_start x x ≡ true
-          is_start_itself x = subst (λ y. is_start y x ≡ true) (take_all (length x) x (omega arith)) (is_start_take (length x) x)
 
 -- ---- all values
 

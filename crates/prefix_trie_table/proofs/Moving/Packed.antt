@@ -1,6 +1,6 @@
 -- Where each block is the smallest that holds its list and none is free, slots are numbers of the entries and the nodes.
 use Rattle.std.proofs.Common.{◌≡◌, ℕ, zero, suc, ◌+◌, ◌<◌, Bool, true, ◌&&◌, List, [], ◌∷◌, ◌++◌, length, map, flat_map, replicate, sum_by, Option, None, Some, is_some, refl, sym, ap, ap₂, ◌∙◌, arith, eq-eqb, ◌%◌}
-use Rattle.std.proofs.lemmas.List.{length-map}
+use Rattle.std.proofs.lemmas.List.{length-map, nil_from_length}
 use Rattle.std.specs.FinMap.{get, entries, keys}
 use Rattle.prefix_trie_bits.specs.Model.Blocks.{Sizes, child_block_sizes, value_block_sizes, child_count, own_entries}
 use Rattle.prefix_trie_bits.specs.Model.HandsOut.{packed_block, packed_slots, packed_node_slots, packed_cell_slots, IsPacked}
@@ -32,14 +32,10 @@ use Rattle.prefix_trie_table.proofs.Tree.Shapes.{reads_node, shape_nodes}
 
 -- ---- no block is free
 
-no_items : {X : Type 0} (xs : List X) → length xs ≡ 0 → xs ≡ []
-no_items [] e = refl
-no_items (x ∷ xs) e = absurd (omega (arith, e))
-
 no_extents : (ts : List Tier) → ((j : ℕ) → j < length ts → length (tier_at ts j).starts ≡ 0) → free_extents ts ≡ []
 no_extents [] none = refl
 no_extents (t ∷ ts) none =
-    ap₂ (λ xs es. map (of_size t.size) xs ++ es) (no_items t.starts (none 0 (omega arith))) (no_extents ts (λ j h. none (suc j) (omega arith)))
+    ap₂ (λ xs es. map (of_size t.size) xs ++ es) (nil_from_length t.starts (none 0 (omega arith))) (no_extents ts (λ j h. none (suc j) (omega arith)))
 
 no_counts : (ts : List Tier) → ((j : ℕ) → j < length ts → length (tier_at ts j).starts ≡ 0) → (n : ℕ) → length ts ≡ n → free_counts ts ≡ replicate n 0
 no_counts [] none n e = ap (λ k. replicate k 0) e

@@ -10,7 +10,8 @@ use Rattle.prefix_trie_table.specs.Steps.{stored, SettlesInStorage}
 use Rattle.prefix_trie_table.specs.Store.{Store}
 use Rattle.prefix_trie_table.specs.Tables.{IsTable}
 use Rattle.prefix_trie_table.proofs.Blocks.Sizing.{table_sizes, storage_of}
-use Rattle.prefix_trie_table.proofs.Moving.HandedOut.{rest_counted, shape_seen, table_seen, root_slot, clear_behind, handed_out, second_packed}
+use Rattle.prefix_trie_table.proofs.HandingOut.Second.{root_slot}
+use Rattle.prefix_trie_table.proofs.Moving.HandedOut.{rest_counted, shape_seen, table_seen, clear_behind, handed_out, second_packed}
 use Rattle.prefix_trie_table.proofs.Removal.PartTaken.{seen_trie}
 use Rattle.prefix_trie_table.proofs.Tree.Invariant.{some_table}
 use Rattle.prefix_trie_table.proofs.Tree.Stated.{all_step, part_step, settles_in}

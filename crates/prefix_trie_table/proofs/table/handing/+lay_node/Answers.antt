@@ -6,12 +6,12 @@ use Rattle.prefix_trie_table.specs.HandingOut.Laid.{child_slots, value_slots, su
 use Rattle.prefix_trie_table.specs.HandingOut.Laying.{LaysList, Lays}
 use Rattle.prefix_trie_table.specs.Store.{tier_sizes}
 use Rattle.prefix_trie_table.proofs.HandingOut.Boughs.{first, bough_start, bough_few, bough_clear, bough_passed, bough_grafted, bough_closed, bough_bare}
-use Rattle.prefix_trie_table.proofs.HandingOut.Fits.{values_fit, laid_tier}
+use Rattle.prefix_trie_table.proofs.HandingOut.Fits.{values_few, laid_tier}
 use Rattle.prefix_trie_table.proofs.HandingOut.Ground.{Lays-none, can_lay_then}
 use Rattle.prefix_trie_table.proofs.HandingOut.Parts.{kept, own_values, left_out, below_it}
 use Rattle.prefix_trie_table.proofs.HandingOut.Sources.{child_inside, some_level, source_below, own_within}
 use Rattle.prefix_trie_table.proofs.HandingOut.Space.{for_memory, values_packed, children_packed, slots_split, child_amount, child_room}
-use Rattle.prefix_trie_table.proofs.Insertion.Inserting.{node_fits}
+use Rattle.prefix_trie_table.proofs.Insertion.Inserting.{node_fits, cell_fits}
 use Rattle.prefix_trie_table.proofs.Strings.Bare.{was_set, others_stay}
 use Rattle.prefix_trie_table.proofs.Strings.Bits.{has_bit-is, rank-ones}
 use Rattle.prefix_trie_table.proofs.Strings.BitLists.{rank-le, rank-lacks}
@@ -21,9 +21,9 @@ use Rattle.prefix_trie_table.proofs.table.handing.+lay_node.Goals as goal
 pub lay_vacant-requires-clause-fits : goal.lay_vacant-requires-clause-fits
 lay_vacant-requires-clause-fits g t c =
     let values : ℕ = bit_and c.args.node.value_bitmap c.masks-values.result.0 in
-    values_fit c.args.cells.now.tiers values c.count.result c.requires.cells.sizes_are
-    (λ b set. own_within c.args.from.now c.args.node c.args.levels c.requires.source b (kept c.args.node.value_bitmap c.masks-values.result.0 b set))
-    (c.count.ensures ∙ sym (rank-ones values 32 (omega arith)))
+    let few = values_few values (λ b set. own_within c.args.from.now c.args.node c.args.levels c.requires.source b (kept c.args.node.value_bitmap c.masks-values.result.0 b set)) in
+    let counted = c.count.ensures ∙ sym (rank-ones values 32 (omega arith)) in
+    cell_fits c.args.cells.now.tiers c.count.result c.requires.cells.sizes_are (omega (arith, few, counted))
 
 pub returns-in_err-own-clause-memory : goal.returns-in_err-own-clause-memory
 returns-in_err-own-clause-memory g t c =
