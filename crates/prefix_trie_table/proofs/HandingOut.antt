@@ -8,6 +8,5 @@ pub mod Fits
 pub mod Space
 pub mod WholeTree
 pub mod RootSpace
-pub mod WayParts
-pub mod Twigs
+pub mod Parts
 pub mod Second

@@ -1,14 +1,11 @@
 -- The blocks of a node's lists are among the seven sizes.
-use Rattle.std.proofs.Common.{◌≡◌, ℕ, ◌+◌, ◌<◌, ◌≤◌, inl, inr, true, false, cond, List, [], ◌∷◌, length, IsSome, refl, ap, arith}
-use Rattle.prefix_trie_bits.specs.Model.Blocks.{smallest_size}
+use Rattle.std.proofs.Common.{◌≡◌, ℕ, ◌+◌, ◌<◌, ◌≤◌, inl, inr, true, false, cond, List, [], ◌∷◌, length, refl, ap, arith}
 use Rattle.std.proofs.lemmas.Bool.{cases_Bool}
 use Rattle.prefix_trie_table.specs.declared.allocator.blocks.BlockRef.{BlockRef}
 use Rattle.prefix_trie_table.specs.Bitmaps.{has_bit, rank}
-use Rattle.prefix_trie_table.specs.Cells.{cell_sizes}
 use Rattle.prefix_trie_table.specs.HandingOut.Laying.{LaysList}
-use Rattle.prefix_trie_table.specs.Store.{Tier, Store, tier_sizes}
+use Rattle.prefix_trie_table.specs.Store.{Store, tier_sizes}
 use Rattle.prefix_trie_table.proofs.Blocks.BySize.{tiers_long}
-use Rattle.prefix_trie_table.proofs.Insertion.Inserting.{cell_fits}
 use Rattle.prefix_trie_table.proofs.Strings.BitLists.{rank-le, rank-more}
 
 -- a node has at most 31 values
@@ -21,11 +18,6 @@ values_few bitmap within =
     let none : ◌≡◌ {A = ℕ} (cond (has_bit bitmap 31) 1 0) 0 = ap (λ s. cond s 1 0) last in
     let up : rank bitmap 32 ≡ rank bitmap 31 + cond (has_bit bitmap 31) 1 0 = rank-more bitmap 31 in
     let most = rank-le bitmap 31 in omega (arith, none, up, most)
-
--- some block holds all values of a node
-pub values_fit : (ts : List Tier) (bitmap count : ℕ) → tier_sizes ts ≡ cell_sizes → ((b : ℕ) → has_bit bitmap b ≡ true → b < 31) →
-    count ≡ rank bitmap 32 → IsSome (smallest_size (tier_sizes ts) count)
-values_fit ts bitmap count are within e = cell_fits ts count are (let most = values_few bitmap within in omega (arith, most, e))
 
 -- the tier of a list that was laid
 pub laid_tier : {S : Type 0} (vacant : S) (v w : Store S) (items : List S) (at : BlockRef) (sizes : List ℕ) → tier_sizes v.tiers ≡ sizes → 0 < length sizes →

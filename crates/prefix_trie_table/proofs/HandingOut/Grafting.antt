@@ -1,12 +1,17 @@
--- A subtree that hangs from nothing yet is hung below a node.
-use Rattle.std.proofs.Common.{◌≡◌, ◌≢◌, ℕ, ◌+◌, inl, inr, true, cond, nat_eq, List, [], ◌∷◌, ◌++◌, length, map, Option, None, Some, is_some, refl, sym, ap, ap₂, ◌∙◌, arith}
+-- A subtree that hangs from nothing yet is hung below a node, with its blocks.
+use Rattle.std.proofs.Common.{◌≡◌, ◌≢◌, ℕ, ◌+◌, ◌<◌, inl, inr, true, false, cond, nat_eq, List, [], ◌∷◌, ◌++◌, length, map, flat_map, Option, None, Some, is_some, refl, sym, ap, ap₂, ◌∙◌, arith}
+use Rattle.std.proofs.lemmas.Bool.{cases_Bool}
 use Rattle.prefix_trie_table.specs.declared.allocator.node.Node.{Node}
 use Rattle.prefix_trie_table.specs.Bitmaps.{has_bit}
-use Rattle.prefix_trie_table.specs.Forest.{same_path, one_if, times, has_child}
-use Rattle.prefix_trie_table.specs.HandingOut.Laid.{Hangs}
-use Rattle.prefix_trie_table.proofs.Strings.Paths.{same_path-itself, same_path-equal, same_path-not}
+use Rattle.prefix_trie_table.specs.Cells.{node_sizes, cell_sizes}
+use Rattle.prefix_trie_table.specs.Forest.{same_path, one_if, times, has_child, node_or_blank, child_blocks_of, child_blocks, value_blocks_of, value_blocks}
+use Rattle.prefix_trie_table.specs.HandingOut.Laid.{Hangs, no_value}
+use Rattle.prefix_trie_table.specs.Store.{UsedBlock, held, size_in}
+use Rattle.prefix_trie_table.proofs.Strings.BitLists.{map_same}
+use Rattle.prefix_trie_table.proofs.Strings.Paths.{same_path-itself, same_path-equal, same_path-not, snoc_ind, flat_map_same}
 use Rattle.prefix_trie_table.proofs.Strings.PathLists.{times-append}
 use Rattle.prefix_trie_table.proofs.Tree.Children.{same_or, number_or, same_number, other_number}
+use Rattle.prefix_trie_table.proofs.Tree.Trees.{is_none-None}
 
 -- ---- paths with a step more in front
 
@@ -97,3 +102,88 @@ module _ (n m top : Node) (c : ℕ) (sub twig : List ℕ → Option Node) (rest 
 
   pub graft_hangs : Hangs m (grafted m c twig sub) ([] ∷ (map (λ p. c ∷ p) paths ++ rest))
   graft_hangs = record { top = refl; linked = linked; listed = listed }
+
+-- ---- blocks of a graft
+
+module _ (m : Node) (c : ℕ) (sub twig : List ℕ → Option Node) where
+  moved : (p : List ℕ) (o : Option Node) → child_blocks_of node_sizes (grafted m c twig sub) (c ∷ p) o ≡ child_blocks_of node_sizes twig p o
+  moved p None = refl
+  moved p (Some k) =
+      ap (held k.child_tier k.child_block (size_in node_sizes k.child_tier))
+      (map_same (λ e. node_or_blank (twig (p ++ e ∷ []))) (λ e. node_or_blank (grafted m c twig sub (c ∷ (p ++ e ∷ [])))) k.child_bitmap k.child_bitmap (λ i. refl)
+      (λ e. ap node_or_blank (graft_here m c sub twig c (p ++ e ∷ []) refl)))
+
+  pub twig_blocks : (paths : List (List ℕ)) →
+      flat_map (child_blocks node_sizes (grafted m c twig sub)) (map (λ p. c ∷ p) paths) ≡ flat_map (child_blocks node_sizes twig) paths
+  twig_blocks [] = refl
+  twig_blocks (p ∷ paths) =
+      ap₂ (λ xs ys. xs ++ ys)
+      (ap (child_blocks_of node_sizes (grafted m c twig sub) (c ∷ p)) (graft_here m c sub twig c p refl) ∙ moved p (twig p))
+      (twig_blocks paths)
+
+module _ {T : Type 0} where
+  abbrev pub cells_of : (List ℕ → Option Node) → List ℕ → List (UsedBlock (Option T))
+  cells_of sub = value_blocks cell_sizes sub no_value
+
+  same_cells : (p q : List ℕ) (o : Option Node) → ◌≡◌ {A = List (UsedBlock (Option T))} (value_blocks_of cell_sizes no_value p o) (value_blocks_of cell_sizes no_value q o)
+  same_cells p q None = refl
+  same_cells p q (Some k) = refl
+
+  pub twig_cells : (m : Node) (c : ℕ) (sub twig : List ℕ → Option Node) (paths : List (List ℕ)) →
+      flat_map (cells_of (grafted m c twig sub)) (map (λ p. c ∷ p) paths) ≡ flat_map (cells_of twig) paths
+  twig_cells m c sub twig [] = refl
+  twig_cells m c sub twig (p ∷ paths) =
+      ap₂ (λ xs ys. xs ++ ys)
+      (ap (value_blocks_of cell_sizes no_value (c ∷ p)) (graft_here m c sub twig c p refl) ∙ same_cells (c ∷ p) p (twig p))
+      (twig_cells m c sub twig paths)
+
+-- ---- the paths behind the first
+
+module _ (n : Node) (sub : List ℕ → Option Node) (rest : List (List ℕ)) (h : Hangs n sub ([] ∷ rest)) where
+  not_first : times [] rest ≡ 0
+  not_first =
+      let own : one_if (same_path [] []) ≡ 1 = ap one_if (same_path-itself []) in
+      let was : one_if (same_path [] []) + times [] rest ≡ 1 = h.listed [] ∙ ap (λ o. one_if (is_some o)) h.top in
+      omega (arith, own, was)
+
+  stands_there : (c : ℕ) (p : List ℕ) → 0 < times (c ∷ p) rest → is_some (sub (c ∷ p)) ≡ true
+  stands_there c p there = elim (cases_Bool (is_some (sub (c ∷ p)))) as (λ _. is_some (sub (c ∷ p)) ≡ true) [
+    | inl here ↦ here
+    | inr lacks ↦
+        let was = h.listed (c ∷ p) in
+        let none : one_if (is_some (sub (c ∷ p))) ≡ 0 = ap one_if lacks in
+        absurd (omega (arith, was, none, there))
+  ]
+
+  -- what is the same at each path behind the first
+  pub rest_same : {Y : Type 0} (f g : List ℕ → List Y) → ((c : ℕ) (p : List ℕ) → is_some (sub (c ∷ p)) ≡ true → g (c ∷ p) ≡ f (c ∷ p)) →
+      flat_map g rest ≡ flat_map f rest
+  rest_same f g same = flat_map_same f g rest by
+    where
+      by : (q : List ℕ) → 0 < times q rest → g q ≡ f q
+      by [] there = absurd (omega (arith, there, not_first))
+      by (c ∷ p) there = same c p (stands_there c p there)
+
+  -- nothing is below a child that is not there
+  pub none_below : (c : ℕ) → has_bit n.child_bitmap c ≡ false → (p : List ℕ) → sub (c ∷ p) ≡ None
+  none_below c clear =
+      snoc_ind (λ p. sub (c ∷ p) ≡ None)
+      (is_none-None (sub (c ∷ [])) (h.linked [] c ∙ ap (λ o. has_child o c) h.top ∙ clear))
+      (λ p e ih. is_none-None (sub (c ∷ (p ++ e ∷ []))) (h.linked (c ∷ p) e ∙ ap (λ o. has_child o e) ih))
+
+  -- where no child is, no path is behind the first
+  pub no_rest : ((c : ℕ) → has_bit n.child_bitmap c ≡ false) → rest ≡ []
+  no_rest bare = by rest (λ q. none q)
+    where
+      by : (paths : List (List ℕ)) → ((q : List ℕ) → times q paths ≡ 0) → paths ≡ []
+      by [] never = refl
+      by (x ∷ paths) never =
+          let one : one_if (same_path x x) ≡ 1 = ap one_if (same_path-itself x) in
+          absurd (let z = never x in omega (arith, one, z))
+
+      none : (q : List ℕ) → times q rest ≡ 0
+      none [] = not_first
+      none (c ∷ p) =
+          let was = h.listed (c ∷ p) in
+          let gone : one_if (is_some (sub (c ∷ p))) ≡ 0 = ap (λ o. one_if (is_some o)) (none_below c (bare c) p) in
+          omega (arith, was, gone)

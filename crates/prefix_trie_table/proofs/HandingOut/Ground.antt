@@ -1,43 +1,42 @@
 -- Arrays in which lists are laid, one after another.
-use Rattle.std.proofs.Common.{List, refl, ◌∙◌}
-use Rattle.prefix_trie_table.specs.declared.allocator.node.Node.{Node}
+use Rattle.std.proofs.Common.{◌≡◌, ℕ, ◌+◌, ◌≤◌, List, [], ◌++◌, length, refl, ap, ◌∙◌, subst, arith}
 use Rattle.prefix_trie_table.specs.declared.allocator.blocks.BlockRef.{BlockRef}
-use Rattle.prefix_trie_table.specs.Cells.{blank_node}
-use Rattle.prefix_trie_table.specs.HandingOut.Laid.{Lays, IsGround}
-use Rattle.prefix_trie_table.specs.HandingOut.Laying.{LaysList}
-use Rattle.prefix_trie_table.specs.Store.{Store, held, tier_at}
+use Rattle.prefix_trie_table.specs.HandingOut.Laying.{LaysList, CanLay, Lays}
+use Rattle.prefix_trie_table.specs.Store.{Store, UsedBlock, Sound, held, size_in, tier_sizes}
+use Rattle.prefix_trie_table.proofs.Blocks.BySize.{size_at}
 use Rattle.prefix_trie_table.proofs.Blocks.Turnovers.{Keeps-same, Keeps-then}
-use Rattle.std.proofs.Common.{Option, None, ◌++◌}
 
-module _ {S : Type 0} where
-  pub Lays-none : (v : Store S) → Lays v v
-  Lays-none v = record { keeps = Keeps-same v v refl; none_free = λ n. n }
+module _ {S : Type 0} (vacant : S) where
+  pub Lays-none : (v : Store S) (k : ℕ) → Lays vacant [] k v v
+  Lays-none v k = record { sound = λ live s. s; longer = omega arith; keeps = Keeps-same v v refl; none_free = λ n. n }
 
-  pub Lays-then : (v w x : Store S) → Lays v w → Lays w x → Lays v x
-  Lays-then v w x a b = record { keeps = Keeps-then v w x a.keeps b.keeps; none_free = λ n. b.none_free (a.none_free n) }
-
-  pub Lays-list : (vacant : S) (v w : Store S) (items : List S) (at : BlockRef) → LaysList vacant v w items at → Lays v w
-  Lays-list vacant v w items at l = record { keeps = l.keeps; none_free = l.none_free }
-
-module _ {T : Type 0} (v v2 : Store Node) (w w2 : Store (Option T)) (g : IsGround v w) where
-  -- nodes were laid
-  pub ground_nodes : (items : List Node) (at : BlockRef) → LaysList blank_node v v2 items at → IsGround v2 w
-  ground_nodes items at l = record {
-    node_live = held at.tier at.start (tier_at v.tiers at.tier).size items ++ g.node_live;
-    nodes = l.sound g.node_live g.nodes;
-    node_sizes_are = l.keeps.sizes ∙ g.node_sizes_are;
-    cell_live = g.cell_live;
-    cells = g.cells;
-    cell_sizes_are = g.cell_sizes_are;
+  -- what was laid first and then, in blocks that may be listed in another order
+  pub Lays-then : (v w x : Store S) (bs cs ds : List (UsedBlock S)) (k l m : ℕ) → Lays vacant bs k v w → Lays vacant cs l w x →
+      ((live : List (UsedBlock S)) → Sound vacant (cs ++ (bs ++ live)) x → Sound vacant (ds ++ live) x) → k + l ≤ m → Lays vacant ds m v x
+  Lays-then v w x bs cs ds k l m a b same less = record {
+    sound = λ live s. same live (b.sound (bs ++ live) (a.sound live s));
+    longer = let f = a.longer in let g = b.longer in omega (arith, f, g, less);
+    keeps = Keeps-then v w x a.keeps b.keeps;
+    none_free = λ n. b.none_free (a.none_free n);
   }
 
-  -- cells were
-  pub ground_cells : (items : List (Option T)) (at : BlockRef) → LaysList None w w2 items at → IsGround v w2
-  ground_cells items at l = record {
-    node_live = g.node_live;
-    nodes = g.nodes;
-    node_sizes_are = g.node_sizes_are;
-    cell_live = held at.tier at.start (tier_at w.tiers at.tier).size items ++ g.cell_live;
-    cells = l.sound g.cell_live g.cells;
-    cell_sizes_are = l.keeps.sizes ∙ g.cell_sizes_are;
+  -- one list
+  pub Lays-list : (v w : Store S) (sizes : List ℕ) (items : List S) (at : BlockRef) (k : ℕ) → tier_sizes v.tiers ≡ sizes → LaysList vacant v w items at →
+      length w.slots ≤ length v.slots + k → Lays vacant (held at.tier at.start (size_in sizes at.tier) items) k v w
+  Lays-list v w sizes items at k are l longer = record {
+    sound = λ live s. subst (λ size. Sound vacant (held at.tier at.start size items ++ live) w)
+        (size_at v.tiers at.tier ∙ ap (λ ns. size_in ns at.tier) are) (l.sound live s);
+    longer = longer;
+    keeps = l.keeps;
+    none_free = l.none_free;
+  }
+
+  -- others can be laid in what is left
+  pub can_lay_then : (v w : Store S) (sizes : List ℕ) (bs : List (UsedBlock S)) (a b k : ℕ) → CanLay vacant sizes k v → Lays vacant bs a v w → a + b ≤ k →
+      CanLay vacant sizes b w
+  can_lay_then v w sizes bs a b k can laid less = record {
+    live = bs ++ can.live;
+    sound = laid.sound can.live can.sound;
+    sizes_are = laid.keeps.sizes ∙ can.sizes_are;
+    space = let s = can.space in let l = laid.longer in let same = laid.keeps.limit_is in omega (arith, s, l, same, less);
   }

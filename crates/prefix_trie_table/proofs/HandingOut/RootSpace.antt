@@ -1,5 +1,5 @@
 -- A second table never needs more slots than the first has.
-use Rattle.std.proofs.Common.{◌≡◌, ℕ, zero, suc, ◌+◌, ◌≤◌, true, List, [], ◌∷◌, length, map, flat_map, sum_by, Option, None, Some, refl, ap, arith}
+use Rattle.std.proofs.Common.{◌≡◌, ℕ, zero, suc, ◌+◌, ◌≤◌, true, List, [], ◌∷◌, length, map, flat_map, sum_by, Option, None, Some, refl, sym, ap, ◌∙◌, arith}
 use Rattle.std.proofs.lemmas.List.Sums.{sum_by-le-sum_by}
 use Rattle.prefix_trie_bits.specs.Model.Blocks.{HasBlock}
 use Rattle.prefix_trie_bits.specs.Model.HandsOut.{packed_slots}
@@ -10,7 +10,8 @@ use Rattle.prefix_trie_table.specs.declared.allocator.node.Node.{Node}
 use Rattle.prefix_trie_table.specs.Bitmaps.{rank, bits}
 use Rattle.prefix_trie_table.specs.Cells.{blank_node, node_at, node_sizes, cell_sizes}
 use Rattle.prefix_trie_table.specs.Forest.{own_count, child_items, child_blocks, child_blocks_of, value_blocks, value_blocks_of}
-use Rattle.prefix_trie_table.specs.HandingOut.Laid.{child_slots, value_slots, slots_below, HasSpace}
+use Rattle.prefix_trie_table.specs.HandingOut.Laying.{CanLay}
+use Rattle.prefix_trie_table.specs.HandingOut.Laid.{child_slots, value_slots, slots_below}
 use Rattle.prefix_trie_table.specs.Layouts.{own_children}
 use Rattle.prefix_trie_table.specs.OwnBlocks.{child_block_size, value_block_size}
 use Rattle.prefix_trie_table.specs.Store.{Store, UsedBlock, Sound, extent, free_extents, held, size_in, tier_sizes, size_if_any}
@@ -19,14 +20,15 @@ use Rattle.prefix_trie_table.proofs.Blocks.Housed.{children_housed, values_house
 use Rattle.prefix_trie_table.proofs.Blocks.SlotSums.{sum_by-flat_map, sum_by-mapped}
 use Rattle.prefix_trie_table.proofs.Blocks.Tilings.{blocks_sum}
 use Rattle.prefix_trie_table.proofs.Counts.EntryCounts.{size_of_extent, tiling-sum}
+use Rattle.prefix_trie_table.proofs.HandingOut.Space.{slots_found}
 use Rattle.prefix_trie_table.proofs.HandingOut.WholeTree.{own_of, whole_tree}
 use Rattle.prefix_trie_table.proofs.Strings.BitLists.{rank-all}
 use Rattle.prefix_trie_table.proofs.Tree.Invariant.{some_table}
 
--- the slots of the blocks in use stand in the array behind its first
-blocks_within : {S : Type 0} (vacant : S) {X : Type 0} (f : X → List (UsedBlock S)) (xs : List X) (v : Store S) → Sound vacant (flat_map f xs) v →
-    v.first + sum_by (λ x. sum_by (λ b. b.size) (f x)) xs ≤ length v.slots
-blocks_within vacant f xs v s =
+-- an array has the slots before its first block, those of the blocks in use and those of the free ones
+pub slots_told : {S : Type 0} (vacant : S) {X : Type 0} (f : X → List (UsedBlock S)) (xs : List X) (v : Store S) → Sound vacant (flat_map f xs) v →
+    length v.slots ≡ v.first + sum_by (λ x. sum_by (λ b. b.size) (f x)) xs + sum_by size_of_extent (free_extents v.tiers)
+slots_told vacant f xs v s =
     omega (
       arith,
       tiling-sum (tier_sizes v.tiers) v.first (length v.slots) s.blocks.blocks s.blocks.tiles,
@@ -43,17 +45,11 @@ packed_within sizes up (suc n) k start [] e has = absurd (omega (arith, e))
 packed_within sizes up (suc n) k start (x ∷ items) e has =
     let least = smallest_of 0 sizes up (suc n) has.0 has.2 has.3 in
     let size : has.0 ≡ size_in sizes k = some_size (size_in sizes k) has.0 has.1 in
-    let packed : packed_slots sizes (suc n) ≡ least.size = ap slots_in least.found in
+    let packed = slots_found sizes n least.size least.found in
     let less = least.least in omega (arith, size, packed, less)
   where
     some_size : (a b : ℕ) → Some a ≡ Some b → b ≡ a
     some_size a b same = cc
-
-    slots_in : Option ℕ → ℕ
-    slots_in p = elim p as (λ _. ℕ) [
-      | None ↦ 0
-      | Some size ↦ size
-    ]
 
 module _ {T : Type 0} (width count : ℕ) (v : Store Node) (w : Store (Option T)) (s : State T) (trie : IsTrie width count v w s) where
   abbrev reading : List ℕ → Option Node
@@ -82,20 +78,37 @@ module _ {T : Type 0} (width count : ℕ) (v : Store Node) (w : Store (Option T)
           packed_within cell_sizes refl (rank n.value_bitmap 32) n.value_tier n.value_block (map (trie.table.values x) (bits n.value_bitmap))
           (rank-all _ n.value_bitmap) has
 
-  -- new arrays under the same limit have space for all
-  pub root_space : (levels : ℕ) (v1 : Store Node) (w1 : Store (Option T)) → length v1.slots ≡ 1 → length w1.slots ≡ 0 → v1.limit ≡ v.limit → w1.limit ≡ v.limit →
-      HasSpace (slots_below child_slots v.slots levels (node_at v.slots 0)) (slots_below value_slots v.slots levels (node_at v.slots 0)) v1 w1
-  root_space levels v1 w1 one none node_limit cell_limit = record {
-    of_nodes =
-        (let tree = whole_tree child_slots reading paths v trie.table.nodes levels (node_at v.slots 0) trie.table.nodes.rooted in
-        let sums = sum_by-le-sum_by _ (λ x. sum_by (λ b. b.size) (child_blocks node_sizes reading x)) paths nodes_at in
-        let within = blocks_within blank_node (child_blocks node_sizes reading) paths v trie.table.nodes.sound in
-        let first = trie.table.nodes.first_is in
-        let limit = trie.table.nodes_within in omega (arith, tree, sums, within, first, limit, one, node_limit));
-    of_cells =
-        (let tree = whole_tree value_slots reading paths v trie.table.nodes levels (node_at v.slots 0) trie.table.nodes.rooted in
-        let sums = sum_by-le-sum_by _ (λ x. sum_by (λ b. b.size) (value_blocks cell_sizes reading trie.table.values x)) paths cells_at in
-        let within = blocks_within None (value_blocks cell_sizes reading trie.table.values) paths w trie.table.cells.sound in
-        let limit = trie.table.cells_within in
-        let same = trie.table.one_limit in omega (arith, tree, sums, within, limit, same, none, cell_limit));
-  }
+  module _ (n : Node) (is_root : n ≡ node_at v.slots 0) (levels : ℕ) where
+    root_room : {S : Type 0} (vacant : S) (own : Node → ℕ) (f : List ℕ → List (UsedBlock S)) (u : Store S) → Sound vacant (flat_map f paths) u →
+        ((x : List ℕ) → own_of own reading paths v trie.table.nodes (reading x) ≤ sum_by (λ b. b.size) (f x)) →
+        u.first + slots_below own v.slots levels n ≤ length u.slots
+    root_room vacant own f u sound each =
+        omega (
+          arith,
+          whole_tree own reading paths v trie.table.nodes levels n (trie.table.nodes.rooted ∙ ap Some (sym is_root)),
+          sum_by-le-sum_by (λ x. own_of own reading paths v trie.table.nodes (reading x)) (λ x. sum_by (λ b. b.size) (f x)) paths each,
+          slots_told vacant f paths u sound,
+        )
+
+    -- new arrays under the same limit have space for all
+    pub root_nodes : (v1 : Store Node) → Sound blank_node [] v1 → tier_sizes v1.tiers ≡ node_sizes → length v1.slots ≡ 1 → v1.limit ≡ v.limit →
+        CanLay blank_node node_sizes (slots_below child_slots v.slots levels n) v1
+    root_nodes v1 sound are one limit = record {
+      live = [];
+      sound = sound;
+      sizes_are = are;
+      space =
+          let room = root_room blank_node child_slots (child_blocks node_sizes reading) v trie.table.nodes.sound nodes_at in
+          let first = trie.table.nodes.first_is in let within = trie.table.nodes_within in omega (arith, room, first, within, one, limit);
+    }
+
+    pub root_cells : (w1 : Store (Option T)) → Sound None [] w1 → tier_sizes w1.tiers ≡ cell_sizes → length w1.slots ≡ 0 → w1.limit ≡ v.limit →
+        CanLay None cell_sizes (slots_below value_slots v.slots levels n) w1
+    root_cells w1 sound are none limit = record {
+      live = [];
+      sound = sound;
+      sizes_are = are;
+      space =
+          let room = root_room None value_slots (value_blocks cell_sizes reading trie.table.values) w trie.table.cells.sound cells_at in
+          let within = trie.table.cells_within in let same = trie.table.one_limit in omega (arith, room, within, same, none, limit);
+    }

@@ -1,18 +1,19 @@
 -- The second table before its values come, from what was laid in new arrays.
-use Rattle.std.proofs.Common.{◌≡◌, ℕ, ◌/◌, ◌<◌, ◌≤◌, ◌==◌, Bool, true, false, cond, ◌&&◌, List, [], ◌∷◌, ◌++◌, length, map, flat_map, slice_set, Option, None, Some, is_some, refl, sym, ap, ◌∙◌, subst, arith, append-nil, eq-eqb, get_or-set_same, length-set}
+use Rattle.std.proofs.Common.{◌≡◌, ℕ, ◌/◌, ◌<◌, ◌≤◌, ◌==◌, Bool, true, false, cond, List, [], ◌∷◌, length, map, flat_map, slice_set, Option, None, Some, is_some, refl, sym, ap, ◌∙◌, subst, arith, append-nil, eq-eqb, get_or-set_same, length-set}
 use Rattle.std.proofs.lemmas.Bool.{false≢true}
-use Rattle.prefix_trie_bits.specs.Bits.{begins}
 use Rattle.prefix_trie_bits.specs.Model.HandsOut.{packed_block}
 use Rattle.prefix_trie_bits.specs.Model.Nodes.{has_node, is_node_depth}
 use Rattle.prefix_trie_bits.specs.Model.Step.{State}
 use Rattle.prefix_trie_table.specs.declared.allocator.node.Node.{Node}
 use Rattle.prefix_trie_table.specs.Cells.{blank_node, node_at, node_sizes, cell_sizes}
 use Rattle.prefix_trie_table.specs.Digits.{path_of, bit_of}
-use Rattle.prefix_trie_table.specs.Forest.{one_if, read, has_value, Holds, NodesHold, node_or_blank, child_blocks, value_blocks, at_root}
-use Rattle.prefix_trie_table.specs.HandingOut.Laid.{IsLaid, IsPackedNode, IsPart, IsSource, Lays, NothingLaid, SomeChosen, no_value}
+use Rattle.prefix_trie_table.specs.Forest.{one_if, Holds, NodesHold, node_or_blank, child_blocks, value_blocks}
+use Rattle.prefix_trie_table.specs.HandingOut.Laid.{IsLaid, IsPackedNode, IsPart, IsSource, NothingLaid, SomeValue, no_value}
+use Rattle.prefix_trie_table.specs.HandingOut.Laying.{Lays}
 use Rattle.prefix_trie_table.specs.HandingOut.Skeleton.{IsSecond}
 use Rattle.prefix_trie_table.specs.Store.{Store, UsedBlock, Sound, free_in, no_blocks, size_in, tier_sizes, size_if_any}
-use Rattle.prefix_trie_table.specs.Tables.{IsTrie}
+use Rattle.prefix_trie_table.specs.Tables.{IsTable, IsTrie}
+use Rattle.prefix_trie_table.proofs.Blocks.Soundness.{first_place}
 use Rattle.prefix_trie_table.proofs.Strings.BitLists.{rank-zero-all}
 use Rattle.prefix_trie_table.proofs.Strings.Digits.{path-length}
 use Rattle.prefix_trie_table.proofs.Strings.Paths.{same_path-not}
@@ -20,17 +21,15 @@ use Rattle.prefix_trie_table.proofs.Strings.PathStrings.{string_at, string_depth
 use Rattle.prefix_trie_table.proofs.Strings.Plain.{both_true}
 use Rattle.prefix_trie_table.proofs.Tree.Invariant.{some_table}
 use Rattle.prefix_trie_table.proofs.Tree.Shapes.{root_reading, root_here, root_holds, no_values, shape_nodes}
-use Rattle.prefix_trie_table.proofs.Tree.Trees.{slot_holds}
 
 -- ---- the table that is read
 
-module _ {T : Type 0} (width count : ℕ) (v : Store Node) (w : Store (Option T)) (s : State T) (trie : IsTrie width count v w s) where
-  -- its root has a slot
-  pub root_stands : 0 < length v.slots
-  root_stands =
-      let h = trie.table.nodes in
-      (slot_holds node_sizes trie.table.reading trie.table.paths v h [] 0 (node_at v.slots 0) at_root h.rooted).1
+module _ {T : Type 0} where
+  -- the root has a slot
+  pub root_slot : {count : ℕ} {v : Store Node} {w : Store (Option T)} {s : State T} → IsTable v w count s → 0 < length v.slots
+  root_slot {count} {v} is = (let w = first_place blank_node _ v is.nodes.sound in let f = is.nodes.first_is in omega (arith, w, f))
 
+module _ {T : Type 0} (width count : ℕ) (v : Store Node) (w : Store (Option T)) (s : State T) (trie : IsTrie width count v w s) where
   -- no node is deeper than the width
   shallow : (q : List ℕ) → is_some (trie.table.reading q) ≡ true → length q ≤ width / 5
   shallow q there =
@@ -47,14 +46,14 @@ module _ {T : Type 0} (width count : ℕ) (v : Store Node) (w : Store (Option T)
       omega (arith, long, steps)
 
   -- so it is a source
-  pub root_source : IsSource v (node_at v.slots 0) (width / 5)
-  root_source = record {
+  pub root_source : (n : Node) → n ≡ node_at v.slots 0 → (levels : ℕ) → levels ≡ width / 5 → IsSource v n levels
+  root_source n is_root levels e = record {
     reading = trie.table.reading;
     paths = trie.table.paths;
     hold = trie.table.nodes;
     path = [];
-    is = trie.table.nodes.rooted;
-    few = shallow;
+    is = trie.table.nodes.rooted ∙ ap Some (sym is_root);
+    few = λ q there. let few = shallow q there in omega (arith, few, e);
     within = λ q b h. trie.table.cells.within q b (trie.table.cells.set_where q b ∙ h);
   }
 
@@ -68,26 +67,20 @@ new_none_free (s ∷ sizes) size = elim (s == size) as (λ b. cond b 0 (free_in 
 module _ {T : Type 0} (q : List Bool) (v v1 v2 : Store Node) (w1 w2 : Store (Option T)) (limit : ℕ)
     (v_is : v1 ≡ record { slots = blank_node ∷ []; first = 1; tiers = map no_blocks node_sizes; limit = limit }) (v_sound : Sound blank_node [] v1)
     (w_is : w1 ≡ record { slots = []; first = 0; tiers = map no_blocks cell_sizes; limit = limit }) (w_sound : Sound None [] w1)
-    (same : limit ≡ v.limit) (some : 0 < limit) (lays_nodes : Lays v1 v2) (lays_cells : Lays w1 w2)
-    (chosen : List ℕ → ℕ → Bool) (part : IsPart v.slots (Some (node_at v.slots 0)) q chosen) where
+    (same : limit ≡ v.limit) (some : 0 < limit) (bs : List (UsedBlock Node)) (cs : List (UsedBlock (Option T))) (k l : ℕ)
+    (lays_nodes : Lays blank_node bs k v1 v2) (lays_cells : Lays None cs l w1 w2) where
   first_one : v2.first ≡ 1
   first_one = lays_nodes.keeps.first_is ∙ ap (λ (x : Store Node). x.first) v_is
 
   sizes_are : tier_sizes v2.tiers ≡ node_sizes
   sizes_are = lays_nodes.keeps.sizes ∙ ap (λ (x : Store Node). tier_sizes x.tiers) v_is
 
-  values_are : (reading : List ℕ → Option Node) → ((p : List ℕ) (b : ℕ) → has_value (reading p) b ≡ chosen p b) → (s : List Bool) →
-      has_value (reading (path_of s)) (bit_of s) ≡ (begins q s && has_value (read v.slots (path_of s)) (bit_of s))
-  unfolding read
-  values_are reading values s = values (path_of s) (bit_of s) ∙ part.values s
-
   -- a table with these nodes is the second
   second : (reading : List ℕ → Option Node) (paths : List (List ℕ)) (v3 : Store Node) → NodesHold node_sizes reading paths v3 →
       Sound None (flat_map (value_blocks cell_sizes reading no_value) paths) w2 →
-      ((p : List ℕ) (b : ℕ) → has_value (reading p) b ≡ chosen p b) → ((c : ℕ) (p : List ℕ) → is_some (reading (c ∷ p)) ≡ true → SomeChosen chosen (c ∷ p)) →
-      ((p : List ℕ) (n : Node) → reading p ≡ Some n → IsPackedNode n) → v3.tiers ≡ v2.tiers → v3.limit ≡ v2.limit → length v3.slots ≡ length v2.slots →
-      IsSecond q v v3 w2
-  second reading paths v3 hold cells values needed packed tiers limits long = record {
+      IsPart v.slots (node_at v.slots 0) q reading → ((c : ℕ) (p : List ℕ) → is_some (reading (c ∷ p)) ≡ true → SomeValue reading (c ∷ p)) →
+      v3.tiers ≡ v2.tiers → v3.limit ≡ v2.limit → length v3.slots ≡ length v2.slots → IsSecond q v v3 w2
+  second reading paths v3 hold cells part needed tiers limits long = record {
     skeleton = record {
       reading = reading;
       paths = paths;
@@ -95,12 +88,8 @@ module _ {T : Type 0} (q : List Bool) (v v1 v2 : Store Node) (w1 w2 : Store (Opt
       cells = cells;
       cells_first = lays_cells.keeps.first_is ∙ ap (λ (x : Store (Option T)). x.first) w_is;
       cell_sizes_are = lays_cells.keeps.sizes ∙ ap (λ (x : Store (Option T)). tier_sizes x.tiers) w_is;
-      values = values_are reading values;
-      within = λ p b h. part.within p b (sym (values p b) ∙ h);
-      needed = λ c p h.
-          let n = needed c p h in
-          record { below = n.below; bit = n.bit; is = values (c ∷ p ++ n.below) n.bit ∙ n.is };
-      packed = packed;
+      part = part;
+      needed = needed;
       no_node_free = λ j. ap (λ ts. free_in ts j) tiers
           ∙ lays_nodes.none_free (λ i. ap (λ (x : Store Node). free_in x.tiers i) v_is ∙ new_none_free node_sizes i) j;
       no_cell_free = lays_cells.none_free (λ i. ap (λ (x : Store (Option T)). free_in x.tiers i) w_is ∙ new_none_free cell_sizes i);
@@ -120,41 +109,45 @@ module _ {T : Type 0} (q : List Bool) (v v1 v2 : Store Node) (w1 w2 : Store (Opt
       cell_limit = lays_cells.keeps.limit_is ∙ ap (λ (x : Store (Option T)). x.limit) w_is ∙ same
 
   -- where something was laid, and its top put in the root's slot
-  pub second_laid : (top : Node) (v3 : Store Node) → IsLaid chosen top v1 v2 w1 w2 → v3 ≡ record v2 { slots = slice_set v2.slots 0 top } →
+  pub second_laid : (levels : ℕ) (top : Node) (v3 : Store Node) → IsLaid v.slots levels (node_at v.slots 0) q v1 v2 w1 w2 top → v3 ≡ record v2 { slots = slice_set v2.slots 0 top } →
       ((live : List (UsedBlock Node)) → 0 < v2.first → Sound blank_node live v2 → Sound blank_node live v3) → IsSecond q v v3 w2
-  second_laid top v3 l put sound =
-      second l.sub l.paths v3
+  second_laid levels top v3 laid put sound =
+      second laid.sub laid.paths v3
       (record {
-        rooted = l.hangs.top ∙ ap Some (sym (ap (λ (x : Store Node). node_at x.slots 0) put ∙ get_or-set_same v2.slots 0 top blank_node inside));
-        linked = l.hangs.linked;
-        listed = l.hangs.listed;
-        sound = sound _ (omega (arith, first_one)) (subst (λ bs. Sound blank_node bs v2) (append-nil (flat_map (child_blocks node_sizes l.sub) l.paths)) (l.nodes [] v_sound));
+        rooted = laid.hangs.top ∙ ap Some (sym (ap (λ (x : Store Node). node_at x.slots 0) put ∙ get_or-set_same v2.slots 0 top blank_node inside));
+        linked = laid.hangs.linked;
+        listed = laid.hangs.listed;
+        sound = sound _ (omega (arith, first_one)) (subst (λ bs. Sound blank_node bs v2) (append-nil (flat_map (child_blocks node_sizes laid.sub) laid.paths)) (laid.nodes.sound [] v_sound));
         first_is = ap (λ (x : Store Node). x.first) put ∙ first_one;
         sizes_are = ap (λ (x : Store Node). tier_sizes x.tiers) put ∙ sizes_are;
       })
-      (subst (λ bs. Sound None bs w2) (append-nil (flat_map (value_blocks cell_sizes l.sub no_value) l.paths)) (l.cells [] w_sound))
-      l.values (λ c p h. l.needed (c ∷ p) h) l.packed (ap (λ (x : Store Node). x.tiers) put) (ap (λ (x : Store Node). x.limit) put)
+      (subst (λ bs. Sound None bs w2) (append-nil (flat_map (value_blocks cell_sizes laid.sub no_value) laid.paths)) (laid.cells.sound [] w_sound))
+      laid.part (λ c p h. laid.needed (c ∷ p) h) (ap (λ (x : Store Node). x.tiers) put) (ap (λ (x : Store Node). x.limit) put)
       (ap (λ (x : Store Node). length x.slots) put ∙ length-set v2.slots 0 top)
     where
       inside : 0 < length v2.slots
       inside = let l = lays_nodes.keeps.longer in let e = ap (λ (x : Store Node). length x.slots) v_is in omega (arith, l, e)
 
   -- and where nothing was
-  pub second_bare : NothingLaid chosen v1 v2 w1 w2 → IsSecond q v v2 w2
-  second_bare l =
+  pub second_bare : (levels : ℕ) → NothingLaid v.slots levels (node_at v.slots 0) q v1 v2 w1 w2 → IsSecond q v v2 w2
+  second_bare levels none =
       second root_reading ([] ∷ []) v2
       (record {
         rooted = root_here ∙ ap Some (sym (lays_nodes.keeps.before 0 blank_node (let e = ap (λ (x : Store Node). x.first) v_is in omega (arith, e)) ∙ ap (λ (x : Store Node). node_at x.slots 0) v_is));
         linked = new.hold.linked;
         listed = new.hold.listed;
-        sound = l.nodes _ new.hold.sound;
+        sound = none.nodes.sound _ new.hold.sound;
         first_is = first_one;
         sizes_are = sizes_are;
       })
-      (l.cells _ new.cells.sound)
-      (λ p b. sym (new.cells.set_where p b) ∙ sym (l.none p b))
+      (none.cells.sound _ new.cells.sound)
+      (record {
+        values = λ s. sym (new.cells.set_where (path_of s) (bit_of s)) ∙ sym (none.none s);
+        within = λ p b has. absurd (false≢true (new.cells.set_where p b ∙ has));
+        packed = packed;
+      })
       (λ c p there. absurd (false≢true (sym (ap is_some (none_deeper c p)) ∙ there)))
-      packed refl refl refl
+      refl refl refl
     where
       new : Holds root_reading no_values ([] ∷ []) v1 w1
       new =

@@ -46,7 +46,7 @@ sum_to_one f d (suc n) others = elim (number_or n d) as (λ _. sum_to f n + f n 
 
 -- ---- beginnings
 
-begins_its_rest : (p r : List ℕ) → is_start p (p ++ r) ≡ true
+pub begins_its_rest : (p r : List ℕ) → is_start p (p ++ r) ≡ true
 begins_its_rest p r = subst (λ q. is_start q (p ++ r) ≡ true) (take_at p r (length p) refl) (is_start_take (length p) (p ++ r))
 
 -- what goes on by the child c

@@ -66,6 +66,5 @@ module _ {T : Type 0} where
       has_come = record {
         nodes = refl;
         cells = put ∙ sym (ap (λ (y : Store (Option T)). record w { slots = y.slots }) put);
-        long = ap (λ (y : Store (Option T)). length y.slots) put ∙ length-set w.slots (slot_of seat) (Some x);
         goes_on = goes_on;
       }

@@ -1,11 +1,11 @@
 -- The nodes of a table have as many values as it has entries.
-use Rattle.std.proofs.Common.{◌≡◌, ℕ, ◌+◌, ◌-◌, ◌/◌, ◌%◌, ◌<◌, ◌≤◌, Bool, true, false, cond, ◌&&◌, nat_lt, List, [], ◌∷◌, length, length-drop, drop, filter, sum_by, Option, None, Some, is_some, refl, sym, ap, ◌∙◌, subst, arith, ltb-true, eq-eqb}
+use Rattle.std.proofs.Common.{append-nil, ◌≡◌, ℕ, ◌+◌, ◌-◌, ◌/◌, ◌%◌, ◌<◌, ◌≤◌, Bool, true, false, cond, ◌&&◌, nat_lt, List, [], ◌∷◌, length, length-drop, drop, filter, sum_by, Option, None, Some, is_some, refl, sym, ap, ◌∙◌, arith, ltb-true, eq-eqb}
 use Rattle.std.proofs.lemmas.Bool.{false≢true, lt-ltb}
-use Rattle.std.proofs.lemmas.List.{take_all, length-map}
+use Rattle.std.proofs.lemmas.List.{length-map}
 use Rattle.std.proofs.lemmas.List.Elements.{All-head, All-tail, All-map, All-weaker, All-contains_itself}
 use Rattle.std.proofs.lemmas.List.Sums.{sum_by-cons}
 use Rattle.std.specs.List.{All, Contains}
-use Rattle.std.specs.FinMap.{get, contains_key, keys, len, len-entries, entries, entries_sorted, get-entries}
+use Rattle.std.specs.FinMap.{contains_key, keys, len, len-entries, entries, entries_sorted, get-entries}
 use Rattle.prefix_trie_bits.specs.Bits.{begins}
 use Rattle.prefix_trie_bits.specs.Begins.{same_bool, begins-rest}
 use Rattle.prefix_trie_bits.specs.Model.Blocks.{own_entries}
@@ -13,20 +13,23 @@ use Rattle.prefix_trie_bits.specs.Model.Entries.{Entries}
 use Rattle.prefix_trie_bits.proofs.Model.Members.{and-first, and-second, and-join}
 use Rattle.prefix_trie_bits.proofs.Model.Ordered.{find-from_Contains}
 use Rattle.prefix_trie_table.specs.declared.allocator.node.Node.{Node}
-use Rattle.prefix_trie_table.specs.Cells.{node_sizes, cell_sizes}
+use Rattle.prefix_trie_table.specs.Cells.{node_sizes}
 use Rattle.prefix_trie_table.specs.Digits.{path_of, bit_of}
-use Rattle.prefix_trie_table.specs.Forest.{same_path, one_if, times, is_start, has_value, own_count, entry_count, NodesHold, CellsHold}
+use Rattle.prefix_trie_table.specs.Forest.{same_path, one_if, times, is_start, has_value, own_count, entry_count, Holds}
 use Rattle.prefix_trie_table.specs.Store.{Store}
 use Rattle.prefix_trie_table.proofs.Counts.EntryCounts.{count_sum}
-use Rattle.prefix_trie_table.proofs.Counts.OwnCounts.{values_counted}
+use Rattle.prefix_trie_table.proofs.Removal.Stepped.{own_is}
+use Rattle.prefix_trie_table.proofs.Tree.Shapes.{shape_entries}
+use Rattle.prefix_trie_table.specs.Shape.{IsShapeOf}
+use Rattle.prefix_trie_bits.specs.Model.Step.{State}
 use Rattle.prefix_trie_table.proofs.Strings.Digits.{path-length}
 use Rattle.prefix_trie_table.proofs.Strings.Keys.{begins-way}
 use Rattle.prefix_trie_table.proofs.Strings.Paths.{same_path-equal, same_path-true}
-use Rattle.prefix_trie_table.proofs.Strings.PathStrings.{IsStep, string_at, string_depth, string_path, paths_steps, listed_some}
+use Rattle.prefix_trie_table.proofs.Strings.PathStrings.{IsStep, string_at, string_depth, string_path, paths_steps}
 use Rattle.prefix_trie_table.proofs.Strings.PathSums.{sum_same}
 use Rattle.prefix_trie_table.proofs.Strings.Placing.{below_node}
 use Rattle.prefix_trie_table.proofs.Strings.Plain.{five_times}
-use Rattle.prefix_trie_table.proofs.Strings.Starts.{is_start_take}
+use Rattle.prefix_trie_table.proofs.HandingOut.WholeTree.{begins_its_rest}
 
 -- ---- sums of what passes tests
 
@@ -91,37 +94,29 @@ module _ (p : List ℕ) (steps : All IsStep p) (k : List Bool) where
           let same : path_of k ≡ p = same_path-true (path_of k) p h in
           let way : path_of k ≡ path_of (string_at p) = same ∙ sym (string_path p steps) in
           and-join (begins (string_at p) k) (nat_lt (length k) (length (string_at p) + 5))
-          (sym (begins-way (string_at p) k five) ∙ ap (λ x. is_start x (path_of k)) (sym way) ∙ is_start_itself (path_of k))
+          (sym (begins-way (string_at p) k five) ∙ ap (λ x. is_start x (path_of k)) (sym way) ∙ ap (is_start (path_of k)) (sym (append-nil (path_of k))) ∙ begins_its_rest (path_of k) [])
           (lt-ltb (length k) (length (string_at p) + 5)
           (near (length k) (length (string_at p)) five (sym (path-length k) ∙ ap length way ∙ path-length (string_at p))))
-        where
-          is_start_itself : (x : List ℕ) → is_start x x ≡ true
-          is_start_itself x = subst (λ y. is_start y x ≡ true) (take_all (length x) x (omega arith)) (is_start_take (length x) x)
 
 -- ---- all values
 
 module _ {T : Type 0} (reading : List ℕ → Option Node) (values : List ℕ → ℕ → Option T) (paths : List (List ℕ)) (v : Store Node) (w : Store (Option T))
-    (hold : NodesHold node_sizes reading paths v) (cells : CellsHold cell_sizes reading values paths w) (m : Entries T)
-    (are : (s : List Bool) → get m s ≡ values (path_of s) (bit_of s)) where
+    (holds : Holds reading values paths v w) (s : State T) (is : IsShapeOf v.slots w.slots s) where
+  abbrev m : Entries T
+  m = s.entries
+
   own_of : (p : List ℕ) → 0 < times p paths → own_count (reading p) ≡ own_entries m (string_at p)
   own_of p listed =
-      let steps = paths_steps node_sizes reading paths v hold p listed in
-      let same : path_of (string_at p) ≡ p = string_path p steps in
-      by steps (reading p) refl (listed_some node_sizes reading paths v hold p listed)
-    where
-      by : All IsStep p → (o : Option Node) → reading p ≡ o → is_some o ≡ true → own_count o ≡ own_entries m (string_at p)
-      by steps None e some = absurd (false≢true some)
-      by steps (Some n) e some =
-          sym (values_counted node_sizes reading paths v hold (string_at p) (eq-eqb (length (string_at p) % 5) 0 (string_depth p)) values w cell_sizes cells m are
-          n.value_bitmap (λ b. ap (λ q. has_value (reading q) b) (string_path p steps) ∙ ap (λ o. has_value o b) e))
+      sym (own_is reading values paths v w holds s is (string_at p) (eq-eqb (length (string_at p) % 5) 0 (string_depth p))
+      ∙ ap (λ q. own_count (reading q)) (string_path p (paths_steps node_sizes reading paths v holds.hold p listed)))
 
   stands_once : (k : List Bool) → contains_key m k ≡ true →
       sum_by (λ p. one_if (begins (string_at p) k && nat_lt (length k) (length (string_at p) + 5))) paths ≡ 1
   stands_once k stored =
       sum_same (λ p. one_if (same_path (path_of k) p)) (λ p. one_if (begins (string_at p) k && nat_lt (length k) (length (string_at p) + 5))) paths
-      (λ p listed. ap one_if (own_way p (paths_steps node_sizes reading paths v hold p listed) k))
-      ∙ times_sum (path_of k) paths ∙ hold.listed (path_of k)
-      ∙ ap one_if (some (reading (path_of k)) (bit_of k) (sym (cells.set_where (path_of k) (bit_of k)) ∙ ap is_some (sym (are k)) ∙ stored))
+      (λ p listed. ap one_if (own_way p (paths_steps node_sizes reading paths v holds.hold p listed) k))
+      ∙ times_sum (path_of k) paths ∙ holds.hold.listed (path_of k)
+      ∙ ap one_if (some (reading (path_of k)) (bit_of k) (sym (holds.cells.set_where (path_of k) (bit_of k)) ∙ ap is_some (sym (shape_entries reading values paths v w holds s is k)) ∙ stored))
     where
       some : (o : Option Node) (b : ℕ) → has_value o b ≡ true → is_some o ≡ true
       some None b h = absurd (false≢true h)

@@ -1,5 +1,5 @@
 -- A table split along a bit string, as contracts see both parts.
-use Rattle.std.proofs.Common.{◌≡◌, ℕ, ◌+◌, ◌-◌, ◌<◌, ◌≤◌, Bool, List, length, Option, refl, sym, ap, ◌∙◌, subst, arith}
+use Rattle.std.proofs.Common.{◌≡◌, ℕ, ◌+◌, ◌-◌, ◌<◌, ◌≤◌, Bool, List, Option, refl, sym, ap, ◌∙◌, subst, arith}
 use Rattle.std.specs.FinMap.{len}
 use Rattle.prefix_trie_bits.specs.declared.prefix.Refusal.TheVariants.{IndexRange}
 use Rattle.prefix_trie_bits.specs.Model.Blocks.{no_layout}
@@ -10,7 +10,7 @@ use Rattle.prefix_trie_bits.specs.Model.Step.{State, Reply, RemoveChildren, Clea
 use Rattle.prefix_trie_bits.specs.Model.Storage.{Storage, StepByPath}
 use Rattle.prefix_trie_bits.proofs.Model.HandsOut.{handing_laws}
 use Rattle.prefix_trie_table.specs.declared.allocator.node.Node.{Node}
-use Rattle.prefix_trie_table.specs.Cells.{blank_node, node_sizes}
+use Rattle.prefix_trie_table.specs.Cells.{node_sizes}
 use Rattle.prefix_trie_table.specs.Forest.{read}
 use Rattle.prefix_trie_table.specs.HandingOut.Laying.{NoneFree}
 use Rattle.prefix_trie_table.specs.Layouts.{Sized}
@@ -19,7 +19,6 @@ use Rattle.prefix_trie_table.specs.HandingOut.Skeleton.{IsSecond}
 use Rattle.prefix_trie_table.specs.Store.{Store, free_in}
 use Rattle.prefix_trie_table.specs.Tables.{IsTable, IsTrie}
 use Rattle.prefix_trie_table.proofs.Blocks.Sizing.{storage_of}
-use Rattle.prefix_trie_table.proofs.Blocks.Soundness.{first_place}
 use Rattle.prefix_trie_table.proofs.Moving.Packed.{is_packed}
 use Rattle.prefix_trie_table.proofs.Tree.Invariant.{some_table}
 use Rattle.prefix_trie_table.proofs.Tree.Shapes.{reads_node}
@@ -47,10 +46,6 @@ module _ {T : Type 0} where
   pub table_seen : {width count : ℕ} {v : Store Node} {w : Store (Option T)} {s : State T} → IsTrie width count v w s → (z : Shaped v.slots w.slots) →
       IsTable v w count z.0
   table_seen {width} {count} {v} {w} {s} trie z = subst (λ (x : State T). IsTable v w count x) (sym (shape_seen trie z)) trie.table
-
-  -- the root has a slot
-  pub root_slot : {count : ℕ} {v : Store Node} {w : Store (Option T)} {s : State T} → IsTable v w count s → 0 < length v.slots
-  root_slot {count} {v} is = (let w = first_place blank_node _ v is.nodes.sound in let f = is.nodes.first_is in omega (arith, w, f))
 
   not_refused : ◌≡◌ {A = Reply (List Bool) T} Done (Reply.Refused IndexRange) → ⊥
   not_refused e = cc
@@ -106,13 +101,7 @@ module _ {T : Type 0} where
     pub second_packed : (z : Sized v2.slots) → IsPacked s (storage_of v2 w2 z)
     second_packed z =
         let t = some_table trie.table in
-        is_packed t.reading t.values t.paths v2 w2 t.holds (λ p n e. second.skeleton.packed p n (sym (same_node p) ∙ e))
+        is_packed t.reading t.values t.paths v2 w2 t.holds (λ p n e. second.skeleton.part.packed p n (sym (same_node p) ∙ e))
         (subst (λ (x : Store Node). NoneFree x) (sym nodes) second.skeleton.no_node_free)
         (λ j. ap (λ (x : Store (Option T)). free_in x.tiers j) cells ∙ second.skeleton.no_cell_free j)
         trie.table.cells_first s trie.shaped z
-
-    pub second_limit : v2.limit ≡ v.limit
-    second_limit = ap (λ (x : Store Node). x.limit) nodes ∙ second.node_limit
-
-    pub second_cells_within : length w2.slots ≤ v2.limit
-    second_cells_within = (let h = trie.table.cells_within in let e = trie.table.one_limit in omega (arith, h, e))

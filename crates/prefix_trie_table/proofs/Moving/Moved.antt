@@ -1,16 +1,15 @@
 -- All values that a bit string begins, moved into a second table one after another.
-use Rattle.std.proofs.Common.{◌≡◌, ℕ, Bool, true, false, cond, List, [], ◌∷◌, length, Option, None, refl, sym, ap, ◌∙◌, subst}
+use Rattle.std.proofs.Common.{◌≡◌, ℕ, Bool, true, false, cond, List, [], ◌∷◌, Option, None, refl, sym, ap, ◌∙◌, subst}
 use Rattle.std.specs.FinMap.{get, len, entries}
 use Rattle.prefix_trie_bits.specs.Bits.{begins}
 use Rattle.prefix_trie_bits.specs.Model.Asking.{MayAskInOrder}
 use Rattle.prefix_trie_bits.specs.Model.Entries.{Entries, part_below}
-use Rattle.prefix_trie_bits.specs.Model.Nodes.{needed}
 use Rattle.prefix_trie_bits.specs.Model.Selections.{listing, listing_below}
 use Rattle.prefix_trie_bits.specs.Model.Step.{State}
 use Rattle.prefix_trie_bits.proofs.Model.Members.{same_entries, get-part_below}
 use Rattle.prefix_trie_bits.proofs.Model.Ordered.{entries-retained}
 use Rattle.prefix_trie_table.specs.declared.allocator.node.Node.{Node}
-use Rattle.prefix_trie_table.specs.HandingOut.Moving.{filled_with, Awaits, AwaitsNext, HasCome}
+use Rattle.prefix_trie_table.specs.HandingOut.Moving.{filled_with, handed, Awaits, AwaitsNext, HasCome}
 use Rattle.prefix_trie_table.specs.Retaining.{AsksUpTo}
 use Rattle.prefix_trie_table.specs.HandingOut.Skeleton.{IsSecond}
 use Rattle.prefix_trie_table.specs.Store.{Store}
@@ -42,7 +41,6 @@ module _ {K T : Type 0} (IsKey : K → Type 0) (bits : K → List Bool) (width :
       (rest : List (List Bool × T)) : Type 0 where
     pub nodes : v ≡ laid
     pub cells : w ≡ record vacant { slots = w.slots }
-    pub long : length w.slots ≡ length vacant.slots
     pub awaits : Awaits IsKey bits width shape v w ps rest
 
   -- one value more
@@ -52,29 +50,26 @@ module _ {K T : Type 0} (IsKey : K → Type 0) (bits : K → List Bool) (width :
   fills_next shape laid vacant v v2 w w2 ps ps2 e rest h came = record {
     nodes = came.nodes ∙ h.nodes;
     cells = came.cells ∙ ap (λ (x : Store (Option T)). record x { slots = w2.slots }) h.cells;
-    long = came.long ∙ h.long;
     awaits = came.goes_on shape rest h.awaits;
   }
 
   -- before the first
-  pub fills_start : (count : ℕ) (v : Store Node) (w : Store (Option T)) (s : State T) → IsTrie width count v w s → (q : List Bool) (laid : Store Node) (vacant : Store (Option T)) →
+  fills_start : (count : ℕ) (v : Store Node) (w : Store (Option T)) (s : State T) → IsTrie width count v w s → (q : List Bool) (laid : Store Node) (vacant : Store (Option T)) →
       IsSecond q v laid vacant → (ps : List (KeyedSpot K)) → IsStack IsKey bits width laid ps →
       ((t : Tree T) → IsTrie width t.count laid t.cells t.shape → pending bits t.shape.entries ps ≡ listing_below t.shape.entries q) →
-      Fills (record { entries = part_below s.entries q; nodes = needed (part_below s.entries q) }) laid vacant laid vacant ps (listing_below s.entries q)
+      Fills (handed s q) laid vacant laid vacant ps (listing_below s.entries q)
   fills_start count v w s trie q laid vacant second ps stack rest =
       let whole = second_trie width count v w s trie q laid vacant second in
       record {
         nodes = refl;
         cells = refl;
-        long = refl;
         awaits = record {
-          trie = subst (λ es. IsTrie width (len (part_below s.entries q)) laid (filled_with laid.slots es vacant)
-              (record { entries = part_below s.entries q; nodes = needed (part_below s.entries q) })) (part_listed s.entries q) whole;
+          trie = subst (λ es. IsTrie width (len (part_below s.entries q)) laid (filled_with laid.slots es vacant) (handed s q)) (part_listed s.entries q) whole;
           stack = stack;
           come = rest (record {
             count = len (part_below s.entries q);
             cells = filled_with laid.slots (entries (part_below s.entries q)) vacant;
-            shape = record { entries = part_below s.entries q; nodes = needed (part_below s.entries q) };
+            shape = handed s q;
           }) whole ∙ all_below s.entries q;
         };
       }
@@ -93,7 +88,7 @@ module _ {K T : Type 0} (IsKey : K → Type 0) (bits : K → List Bool) (width :
       FillsFrom f rest = Fills shape laid vacant (nodes f) (cells f) (spots f) rest
 
       -- it may be asked at each
-      pub may_fill : (f : F) (es : List (List Bool × T)) → FillsFrom f es → MayAskInOrder Takes Waits f es
+      may_fill : (f : F) (es : List (List Bool × T)) → FillsFrom f es → MayAskInOrder Takes Waits f es
       may_fill f [] h = tt
       may_fill f (e ∷ es) h = (
         record { shape = shape; later = es; awaits = h.awaits },
@@ -102,8 +97,21 @@ module _ {K T : Type 0} (IsKey : K → Type 0) (bits : K → List Bool) (width :
       )
 
       -- and once it was, no value is missing
-      pub all_filled : (f g : F) (es : List (List Bool × T)) → FillsFrom f es → AsksUpTo Takes f es g → FillsFrom g []
+      all_filled : (f g : F) (es : List (List Bool × T)) → FillsFrom f es → AsksUpTo Takes f es g → FillsFrom g []
       all_filled f g [] h same = subst (λ x. FillsFrom x []) (sym same) h
       all_filled f g (e ∷ es) h asked =
           all_filled asked.1 g es
           (fills_next shape laid vacant (nodes f) (nodes asked.1) (cells f) (cells asked.1) (spots f) (spots asked.1) e es h asked.2.1) asked.3
+
+    -- from where nothing has come, with all that q begins to come
+    module _ (count : ℕ) (v : Store Node) (w : Store (Option T)) (s : State T) (trie : IsTrie width count v w s) (q : List Bool) (f : F)
+        (second : IsSecond q v (nodes f) (cells f)) (stack : IsStack IsKey bits width (nodes f) (spots f))
+        (rest : (t : Tree T) → IsTrie width t.count (nodes f) t.cells t.shape → pending bits t.shape.entries (spots f) ≡ listing_below t.shape.entries q) where
+      start : Fills (handed s q) (nodes f) (cells f) (nodes f) (cells f) (spots f) (listing_below s.entries q)
+      start = fills_start count v w s trie q (nodes f) (cells f) second (spots f) stack rest
+
+      pub may_move : MayAskInOrder Takes Waits f (listing_below s.entries q)
+      may_move = may_fill (handed s q) (nodes f) (cells f) f (listing_below s.entries q) start
+
+      pub all_moved : (g : F) → AsksUpTo Takes f (listing_below s.entries q) g → Fills (handed s q) (nodes f) (cells f) (nodes g) (cells g) (spots g) []
+      all_moved g = all_filled (handed s q) (nodes f) (cells f) f g (listing_below s.entries q) start

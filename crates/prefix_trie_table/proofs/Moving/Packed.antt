@@ -1,6 +1,6 @@
 -- Where each block is the smallest that holds its list and none is free, slots are numbers of the entries and the nodes.
 use Rattle.std.proofs.Common.{◌≡◌, ℕ, zero, suc, ◌+◌, ◌<◌, Bool, true, ◌&&◌, List, [], ◌∷◌, ◌++◌, length, map, flat_map, replicate, sum_by, Option, None, Some, is_some, refl, sym, ap, ap₂, ◌∙◌, arith, eq-eqb, ◌%◌}
-use Rattle.std.proofs.lemmas.List.{length-map}
+use Rattle.std.proofs.lemmas.List.{length-map, nil_from_length}
 use Rattle.std.specs.FinMap.{get, entries, keys}
 use Rattle.prefix_trie_bits.specs.Model.Blocks.{Sizes, child_block_sizes, value_block_sizes, child_count, own_entries}
 use Rattle.prefix_trie_bits.specs.Model.HandsOut.{packed_block, packed_slots, packed_node_slots, packed_cell_slots, IsPacked}
@@ -17,13 +17,13 @@ use Rattle.prefix_trie_table.specs.HandingOut.Laid.{IsPackedNode}
 use Rattle.prefix_trie_table.specs.HandingOut.Laying.{NoneFree}
 use Rattle.prefix_trie_table.specs.Layouts.{AreSizesBy, Sized, own_children, child_block_size, value_block_size}
 use Rattle.prefix_trie_table.specs.Shape.{IsShapeOf}
-use Rattle.prefix_trie_table.specs.Store.{Store, Tier, UsedBlock, Sound, extent, of_size, free_extents, tier_at, tier_sizes, size_in, size_if_any, free_counts}
+use Rattle.prefix_trie_table.specs.Store.{Store, Tier, UsedBlock, Sound, of_size, free_extents, tier_at, tier_sizes, size_in, size_if_any, free_counts}
 use Rattle.prefix_trie_table.proofs.Blocks.Housed.{child_blocks_housed, value_blocks_housed}
 use Rattle.prefix_trie_table.proofs.Blocks.Sizing.{storage_of}
-use Rattle.prefix_trie_table.proofs.Blocks.SlotSums.{sum_by-flat_map, sum_by-mapped}
-use Rattle.prefix_trie_table.proofs.Blocks.Tilings.{blocks_sum}
+use Rattle.prefix_trie_table.proofs.Blocks.SlotSums.{sum_by-mapped}
 use Rattle.prefix_trie_table.proofs.Counts.BlockUsers.{nodes_sum}
-use Rattle.prefix_trie_table.proofs.Counts.EntryCounts.{size_of_extent, tiling-sum}
+use Rattle.prefix_trie_table.proofs.Counts.EntryCounts.{size_of_extent}
+use Rattle.prefix_trie_table.proofs.HandingOut.RootSpace.{slots_told}
 use Rattle.prefix_trie_table.proofs.Removal.Stepped.{size_read, own_is, children_is}
 use Rattle.prefix_trie_table.proofs.Strings.BitLists.{rank-all}
 use Rattle.prefix_trie_table.proofs.Strings.PathStrings.{string_at, string_depth, string_path, paths_steps, paths_once, same_nodes}
@@ -32,14 +32,10 @@ use Rattle.prefix_trie_table.proofs.Tree.Shapes.{reads_node, shape_nodes}
 
 -- ---- no block is free
 
-no_items : {X : Type 0} (xs : List X) → length xs ≡ 0 → xs ≡ []
-no_items [] e = refl
-no_items (x ∷ xs) e = absurd (omega (arith, e))
-
 no_extents : (ts : List Tier) → ((j : ℕ) → j < length ts → length (tier_at ts j).starts ≡ 0) → free_extents ts ≡ []
 no_extents [] none = refl
 no_extents (t ∷ ts) none =
-    ap₂ (λ xs es. map (of_size t.size) xs ++ es) (no_items t.starts (none 0 (omega arith))) (no_extents ts (λ j h. none (suc j) (omega arith)))
+    ap₂ (λ xs es. map (of_size t.size) xs ++ es) (nil_from_length t.starts (none 0 (omega arith))) (no_extents ts (λ j h. none (suc j) (omega arith)))
 
 no_counts : (ts : List Tier) → ((j : ℕ) → j < length ts → length (tier_at ts j).starts ≡ 0) → (n : ℕ) → length ts ≡ n → free_counts ts ≡ replicate n 0
 no_counts [] none n e = ap (λ k. replicate k 0) e
@@ -67,14 +63,7 @@ module _ {S : Type 0} where
   all_slots : (vacant : S) (f : List ℕ → List (UsedBlock S)) (paths : List (List ℕ)) (v : Store S) → Sound vacant (flat_map f paths) v → HasSizes v.tiers → NoneFree v →
       length v.slots ≡ v.first + sum_by (λ p. sum_by block_size (f p)) paths
   all_slots vacant f paths v sound has none =
-      omega (
-        arith,
-        tiling-sum (tier_sizes v.tiers) v.first (length v.slots) sound.blocks.blocks sound.blocks.tiles,
-        blocks_sum (tier_sizes v.tiers) v.first (length v.slots) (map extent (flat_map f paths)) (free_extents v.tiers) sound.blocks size_of_extent,
-        ap (λ es. sum_by size_of_extent es) (no_extents v.tiers (none_at v has none)),
-        sum_by-mapped size_of_extent extent (flat_map f paths),
-        sum_by-flat_map block_size f paths,
-      )
+      omega (arith, slots_told vacant f paths v sound, ap (λ es. sum_by size_of_extent es) (no_extents v.tiers (none_at v has none)))
 
 -- a sum over the nodes is one over their paths
 by_paths : (reading : List ℕ → Option Node) (paths : List (List ℕ)) (v : Store Node) → NodesHold node_sizes reading paths v → (n : Nodes) →

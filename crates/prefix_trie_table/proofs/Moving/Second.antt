@@ -17,9 +17,9 @@ use Rattle.prefix_trie_bits.proofs.Model.Ordered.{find-from_Contains}
 use Rattle.prefix_trie_table.specs.declared.allocator.node.Node.{Node}
 use Rattle.prefix_trie_table.specs.Cells.{node_sizes}
 use Rattle.prefix_trie_table.specs.Digits.{path_of, bit_of}
-use Rattle.prefix_trie_table.specs.Forest.{times, one_if, is_start, has_value, NodesHold, Holds}
+use Rattle.prefix_trie_table.specs.Forest.{read, times, one_if, is_start, has_value, NodesHold, Holds}
 use Rattle.prefix_trie_table.specs.HandingOut.Laid.{no_value}
-use Rattle.prefix_trie_table.specs.HandingOut.Moving.{filled_with}
+use Rattle.prefix_trie_table.specs.HandingOut.Moving.{filled_with, handed}
 use Rattle.prefix_trie_table.specs.Shape.{IsShapeOf}
 use Rattle.prefix_trie_table.specs.HandingOut.Skeleton.{IsSkeleton, IsSecond}
 use Rattle.prefix_trie_table.specs.Store.{Store, tier_sizes}
@@ -62,12 +62,9 @@ string_placed reading paths v hold p b small set =
 
 module _ {T : Type 0} (width count : ℕ) (v : Store Node) (w : Store (Option T)) (s : State T) (trie : IsTrie width count v w s) (q : List Bool)
     (v2 : Store Node) (w2 : Store (Option T)) (k : IsSkeleton q v v2 w2) where
-  -- its entries and its nodes
-  abbrev pub handed_state : State T
-  handed_state = record { entries = part_below s.entries q; nodes = needed (part_below s.entries q) }
-
   -- where a value is to stand an entry is handed out
   placed : (t : List Bool) → contains_key (part_below s.entries q) t ≡ has_value (k.reading (path_of t)) (bit_of t)
+  unfolding read
   placed t =
       let u = some_table trie.table in
       ap is_some (get-part_below s.entries q t)
@@ -75,7 +72,7 @@ module _ {T : Type 0} (width count : ℕ) (v : Store Node) (w : Store (Option T)
       ∙ ap (λ b. begins q t && b)
       (ap is_some (shape_entries u.reading u.values u.paths v w u.holds s trie.shaped t) ∙ u.holds.cells.set_where (path_of t) (bit_of t)
       ∙ ap (λ o. has_value o (bit_of t)) (sym (reads_node u.reading u.values u.paths v w u.holds (path_of t))))
-      ∙ sym (k.values t)
+      ∙ sym (k.part.values t)
     where
       both : (b : Bool) (o : Option T) → is_some (cond b o None) ≡ (b && is_some o)
       both true o = refl
@@ -101,7 +98,7 @@ module _ {T : Type 0} (width count : ℕ) (v : Store Node) (w : Store (Option T)
   value_set : (p : List ℕ) (b : ℕ) → is_some (values p b) ≡ has_value (k.reading p) b
   value_set p b = elim (cases_Bool (has_value (k.reading p) b)) as (λ _. is_some (values p b) ≡ has_value (k.reading p) b) [
     | inl set ↦
-        let t = string_placed k.reading k.paths v2 k.nodes p b (k.within p b set) set in
+        let t = string_placed k.reading k.paths v2 k.nodes p b (k.part.within p b set) set in
         ap₂ (λ x i. is_some (values x i)) (sym t.1) (sym t.2)
         ∙ ap is_some (sym (entry_there v2 k.reading k.paths k.nodes (part_below s.entries q) t.0)) ∙ placed t.0
         ∙ ap₂ (λ x i. has_value (k.reading x) i) t.1 t.2
@@ -113,7 +110,7 @@ module _ {T : Type 0} (width count : ℕ) (v : Store Node) (w : Store (Option T)
     hold = k.nodes;
     cells = record {
       set_where = value_set;
-      within = λ p b some. k.within p b (sym (value_set p b) ∙ some);
+      within = λ p b some. k.part.within p b (sym (value_set p b) ∙ some);
       sound = put_all v2 k.reading k.paths k.nodes (entries (part_below s.entries q)) no_value w2 each_placed k.cells;
       sizes_are = ap (λ (x : Store (Option T)). tier_sizes x.tiers) full_same ∙ k.cell_sizes_are;
     };
@@ -138,7 +135,7 @@ module _ {T : Type 0} (width count : ℕ) (v : Store Node) (w : Store (Option T)
           (same_way [] t refl (eqb-true (length t % 5) 0 depth) (sym e)) (needs_root (part_below s.entries q))
       from (c ∷ p) e depth some =
           let why = k.needed c p (ap (λ x. is_some (k.reading x)) (sym e) ∙ some) in
-          let key = string_placed k.reading k.paths v2 k.nodes ((c ∷ p) ++ why.below) why.bit (k.within ((c ∷ p) ++ why.below) why.bit why.is) why.is in
+          let key = string_placed k.reading k.paths v2 k.nodes ((c ∷ p) ++ why.below) why.bit (k.part.within ((c ∷ p) ++ why.below) why.bit why.is) why.is in
           let five = eqb-true (length t % 5) 0 depth in
           needs (part_below s.entries q) t key.0 five
           (placed key.0 ∙ ap₂ (λ x i. has_value (k.reading x) i) key.1 key.2 ∙ why.is)
@@ -146,9 +143,9 @@ module _ {T : Type 0} (width count : ℕ) (v : Store Node) (w : Store (Option T)
           ∙ ap₂ is_start (e ∙ sym (take_at (c ∷ p) why.below (length (c ∷ p)) refl)) key.1
           ∙ is_start_take (length (c ∷ p)) ((c ∷ p) ++ why.below))
 
-  pub second_shape : IsShapeOf v2.slots full.slots handed_state
+  pub second_shape : IsShapeOf v2.slots full.slots (handed s q)
   second_shape =
-      shape_of k.reading values k.paths v2 full second_holds handed_state node_there
+      shape_of k.reading values k.paths v2 full second_holds (handed s q) node_there
       (entry_there v2 k.reading k.paths k.nodes (part_below s.entries q))
 
   handed_within : AreWithin width (part_below s.entries q)
@@ -162,8 +159,7 @@ module _ {T : Type 0} where
   -- under the limit it is a table
   pub second_trie : (width count : ℕ) (v : Store Node) (w : Store (Option T)) (s : State T) (trie : IsTrie width count v w s) (q : List Bool)
       (v2 : Store Node) (w2 : Store (Option T)) → IsSecond q v v2 w2 →
-      IsTrie width (len (part_below s.entries q)) v2 (filled_with v2.slots (entries (part_below s.entries q)) w2)
-      (record { entries = part_below s.entries q; nodes = needed (part_below s.entries q) })
+      IsTrie width (len (part_below s.entries q)) v2 (filled_with v2.slots (entries (part_below s.entries q)) w2) (handed s q)
   second_trie width count v w s trie q v2 w2 second =
       let k = second.skeleton in
       let holds = second_holds width count v w s trie q v2 w2 k in
@@ -181,7 +177,7 @@ module _ {T : Type 0} where
           nodes_within = (let n = second.nodes_within in let l = second.node_limit in omega (arith, n, l));
           cells_within = (let n = second.cells_within in let l = second.cell_limit in let e = ap (λ (x : Store (Option T)). x.limit) same in
               let long = long_cells v2.slots (entries (part_below s.entries q)) w2 in omega (arith, n, l, e, long));
-          counted = sym (values_all k.reading _ k.paths v2 _ holds.hold holds.cells (part_below s.entries q) (entry_there v2 k.reading k.paths k.nodes (part_below s.entries q)));
+          counted = sym (values_all k.reading _ k.paths v2 _ holds _ (second_shape width count v w s trie q v2 w2 k));
           sized = refl;
         };
         shaped = second_shape width count v w s trie q v2 w2 k;

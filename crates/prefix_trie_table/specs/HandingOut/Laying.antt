@@ -1,5 +1,5 @@
 -- What it leaves of an array of blocks to lay a whole list at once. This project's own.
-use Rattle.std.specs.Prelude.{◌≡◌, ℕ, ◌<◌, List, ◌++◌, Some, length}
+use Rattle.std.specs.Prelude.{◌≡◌, ℕ, ◌+◌, ◌<◌, ◌≤◌, List, ◌++◌, Some, length}
 use Rattle.prefix_trie_bits.specs.Model.Blocks.{smallest_size}
 use Rattle.prefix_trie_table.specs.declared.allocator.blocks.BlockRef.{BlockRef}
 use Rattle.prefix_trie_table.specs.Store.{Store, UsedBlock, Sound, Keeps, tier_at, tier_sizes, size_in, free_in, held}
@@ -15,5 +15,19 @@ pub record LaysList {S : Type 0} (vacant : S) (v w : Store S) (items : List S) (
   pub size : 0 < length items → smallest_size (tier_sizes v.tiers) (length items) ≡ Some (size_in (tier_sizes v.tiers) at.tier)
   pub none : length items ≡ 0 → at ≡ record { tier = 0; start = 0 }
   pub sound : (live : List (UsedBlock S)) → Sound vacant live v → Sound vacant (held at.tier at.start (tier_at v.tiers at.tier).size items ++ live) w
+  pub keeps : Keeps v w
+  pub none_free : NoneFree v → NoneFree w
+
+-- lists can be laid in an array of blocks of these sizes, in so many slots more
+pub record CanLay {S : Type 0} (vacant : S) (sizes : List ℕ) (slots : ℕ) (v : Store S) : Type 0 where
+  pub live : List (UsedBlock S)
+  pub sound : Sound vacant live v
+  pub sizes_are : tier_sizes v.tiers ≡ sizes
+  pub space : length v.slots + slots ≤ v.limit
+
+-- these blocks were laid, in so many slots more at most. Nothing else changed, and where no block was free none is
+pub record Lays {S : Type 0} (vacant : S) (blocks : List (UsedBlock S)) (slots : ℕ) (v w : Store S) : Type 0 where
+  pub sound : (live : List (UsedBlock S)) → Sound vacant live v → Sound vacant (blocks ++ live) w
+  pub longer : length w.slots ≤ length v.slots + slots
   pub keeps : Keeps v w
   pub none_free : NoneFree v → NoneFree w

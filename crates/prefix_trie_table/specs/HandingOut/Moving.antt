@@ -1,6 +1,8 @@
 -- A second table whose values come one after another, in listing order. This project's own.
-use Rattle.std.specs.Prelude.{◌≡◌, ℕ, Bool, List, [], ◌∷◌, Option, length}
+use Rattle.std.specs.Prelude.{◌≡◌, ℕ, Bool, List, [], ◌∷◌, Option}
 use Rattle.std.specs.FinMap.{len}
+use Rattle.prefix_trie_bits.specs.Model.Entries.{part_below}
+use Rattle.prefix_trie_bits.specs.Model.Nodes.{needed}
 use Rattle.prefix_trie_bits.specs.Model.Step.{State}
 use Rattle.prefix_trie_table.specs.declared.allocator.node.Node.{Node}
 use Rattle.prefix_trie_table.specs.Locations.{seat_of}
@@ -14,6 +16,10 @@ module _ {T : Type 0} where
   abbrev pub filled_with : List Node → List (List Bool × T) → Store (Option T) → Store (Option T)
   filled_with nodes [] w = w
   filled_with nodes (e ∷ es) w = filled_with nodes es (with_cell w (seat_of nodes e.0) e.1)
+
+  -- what is handed out of a table that has these entries
+  abbrev pub handed : State T → List Bool → State T
+  handed s q = record { entries = part_below s.entries q; nodes = needed (part_below s.entries q) }
 
   module _ {K : Type 0} (IsKey : K → Type 0) (bits : K → List Bool) (width : ℕ) where
     -- with these values the arrays are a table of these entries and nodes, and the spots stand before the seats of just them, in order
@@ -32,5 +38,4 @@ module _ {T : Type 0} where
     pub record HasCome (v v2 : Store Node) (w w2 : Store (Option T)) (ps ps2 : List (KeyedSpot K)) (q : List Bool) (x : T) : Type 0 where
       pub nodes : v2 ≡ v
       pub cells : w2 ≡ record w { slots = w2.slots }
-      pub long : length w2.slots ≡ length w.slots
       pub goes_on : (shape : State T) (later : List (List Bool × T)) → Awaits shape v w ps ((q, x) ∷ later) → Awaits shape v2 w2 ps2 later

@@ -1,17 +1,11 @@
 -- A second table before its values come: all its nodes and blocks are laid, and each cell is vacant. This project's own.
-use Rattle.std.specs.Prelude.{◌≡◌, ℕ, ◌<◌, ◌≤◌, Bool, true, ◌&&◌, List, ◌∷◌, flat_map, Option, None, Some, is_some, length}
-use Rattle.prefix_trie_bits.specs.Bits.{begins}
+use Rattle.std.specs.Prelude.{◌≡◌, ℕ, ◌≤◌, Bool, true, List, ◌∷◌, flat_map, Option, None, is_some, length}
 use Rattle.prefix_trie_table.specs.declared.allocator.node.Node.{Node}
-use Rattle.prefix_trie_table.specs.Cells.{node_sizes, cell_sizes}
-use Rattle.prefix_trie_table.specs.Digits.{path_of, bit_of}
-use Rattle.prefix_trie_table.specs.Forest.{read, has_value, NodesHold, value_blocks}
-use Rattle.prefix_trie_table.specs.HandingOut.Laid.{SomeChosen, IsPackedNode, no_value}
+use Rattle.prefix_trie_table.specs.Cells.{node_at, node_sizes, cell_sizes}
+use Rattle.prefix_trie_table.specs.Forest.{NodesHold, value_blocks}
+use Rattle.prefix_trie_table.specs.HandingOut.Laid.{IsPart, SomeValue, no_value}
 use Rattle.prefix_trie_table.specs.HandingOut.Laying.{NoneFree}
 use Rattle.prefix_trie_table.specs.Store.{Store, Sound, tier_sizes}
-
--- where values stand in a tree
-abbrev pub has_values : (List ℕ → Option Node) → List ℕ → ℕ → Bool
-has_values reading p b = has_value (reading p) b
 
 module _ {T : Type 0} where
   -- two arrays have the nodes and the blocks, still vacant, that the values need whose strings q begins, of those that the nodes in v have
@@ -23,13 +17,11 @@ module _ {T : Type 0} where
     pub cells : Sound None (flat_map (value_blocks cell_sizes reading no_value) paths) w2
     pub cells_first : w2.first ≡ 0
     pub cell_sizes_are : tier_sizes w2.tiers ≡ cell_sizes
-    -- a value is to stand where the first table has one whose string q begins
-    pub values : (s : List Bool) → has_value (reading (path_of s)) (bit_of s) ≡ (begins q s && has_value (read v.slots (path_of s)) (bit_of s))
-    pub within : (p : List ℕ) (b : ℕ) → has_value (reading p) b ≡ true → b < 31
+    -- a value is to stand where the first table has one whose string q begins, and each block is the smallest that holds its list
+    pub part : IsPart v.slots (node_at v.slots 0) q reading
     -- each node but the root has such a value, or one below it
-    pub needed : (c : ℕ) (p : List ℕ) → is_some (reading (c ∷ p)) ≡ true → SomeChosen (has_values reading) (c ∷ p)
-    -- each block is the smallest that holds its list, and none is free
-    pub packed : (p : List ℕ) (n : Node) → reading p ≡ Some n → IsPackedNode n
+    pub needed : (c : ℕ) (p : List ℕ) → is_some (reading (c ∷ p)) ≡ true → SomeValue reading (c ∷ p)
+    -- no block is free
     pub no_node_free : NoneFree v2
     pub no_cell_free : NoneFree w2
 

@@ -1,10 +1,10 @@
 //! Moving the entries that a bit string begins out of a table into one of their own.
-ghost use Rattle.std.specs.Prelude.{◌≡◌, ◌≤◌, false, length, take};
+ghost use Rattle.std.specs.Prelude.{◌≡◌, ◌≤◌, false, take};
 ghost use Rattle.std.specs.FinMap.{len as size};
 ghost use Rattle.prefix_trie_bits.specs.Model.Entries.{part_below, without_below};
-ghost use Rattle.prefix_trie_bits.specs.Model.Nodes.{needed, nodes_without_below};
+ghost use Rattle.prefix_trie_bits.specs.Model.Nodes.{nodes_without_below};
 ghost use Rattle.prefix_trie_bits.specs.Model.Step.{State};
-ghost use Rattle.prefix_trie_table.specs.HandingOut.Moving.{AwaitsNext, HasCome};
+ghost use Rattle.prefix_trie_table.specs.HandingOut.Moving.{AwaitsNext, HasCome, handed};
 ghost use Rattle.prefix_trie_table.specs.Retaining.{Lasts};
 ghost use Rattle.prefix_trie_table.specs.HandingOut.Skeleton.{IsSecond};
 ghost use Rattle.prefix_trie_table.specs.Tables.{IsTrie};
@@ -80,13 +80,10 @@ pub(super) fn move_part<K: Key, T: Drop, A: Allocator, V: Tick>(
         }) }
     ensures lasts { Lasts 0 nodes.old nodes.new cells.old cells.new }
     ensures moved { (s : State T) → IsTrie K.bit_width entries.old nodes.old cells.old s
-        → IsTrie K.bit_width (size (part_below s.entries (take len (K.bits key)))) result.0 result.1 (record {
-          entries = part_below s.entries (take len (K.bits key));
-          nodes = needed (part_below s.entries (take len (K.bits key)));
-        }) }
+        → IsTrie K.bit_width (size (part_below s.entries (take len (K.bits key)))) result.0 result.1
+        (handed s (take len (K.bits key))) }
     ensures nodes { result.0 ≡ laid }
     ensures cells { result.1 ≡ record vacant { slots = result.1.slots } }
-    ensures long { length result.1.slots ≡ length vacant.slots }
 {
     let stack = start_at::<K, T, A, V>(&laid, key, len, Start::Below, counter);
     let mut seats = Seats {

@@ -7,9 +7,11 @@ use Rattle.prefix_trie_bits.specs.Model.Storage.{StepByPath}
 use Rattle.prefix_trie_table.specs.Layouts.{Sized-prop}
 use Rattle.prefix_trie_table.specs.Shape.{Contents, Shaped-prop, storage}
 use Rattle.prefix_trie_table.specs.Steps.{stored, SettlesInStorage}
+use Rattle.prefix_trie_table.specs.Store.{Store}
 use Rattle.prefix_trie_table.specs.Tables.{IsTable}
 use Rattle.prefix_trie_table.proofs.Blocks.Sizing.{table_sizes, storage_of}
-use Rattle.prefix_trie_table.proofs.Moving.HandedOut.{rest_counted, shape_seen, table_seen, root_slot, clear_behind, handed_out, second_packed, second_limit, second_cells_within}
+use Rattle.prefix_trie_table.proofs.HandingOut.Second.{root_slot}
+use Rattle.prefix_trie_table.proofs.Moving.HandedOut.{rest_counted, shape_seen, table_seen, clear_behind, handed_out, second_packed}
 use Rattle.prefix_trie_table.proofs.Removal.PartTaken.{seen_trie}
 use Rattle.prefix_trie_table.proofs.Tree.Invariant.{some_table}
 use Rattle.prefix_trie_table.proofs.Tree.Stated.{all_step, part_step, settles_in}
@@ -100,11 +102,9 @@ returns-clause-handed g c =
     (subst (λ (x : State g.row.T.Denot). IsPacked x (storage_of two.0 two.1 c.second-1.given.1.0)) (sym (shape_seen handed c.second-1.given.0))
     (second_packed g.K.Key.bit_width _ q i.nodes c.in_ok-laid.laid two.0 c.in_ok-laid.vacant two.1 c.in_ok-laid.ensures.laid _ handed
     c.move_part-nodes.ensures.nodes c.move_part-nodes.ensures.cells c.second-1.given.1.0))
-    (second_limit g.K.Key.bit_width _ q i.nodes c.in_ok-laid.laid two.0 c.in_ok-laid.vacant two.1 c.in_ok-laid.ensures.laid _ handed
-    c.move_part-nodes.ensures.nodes c.move_part-nodes.ensures.cells ∙ ap (λ (m : Contents g.row.T.Denot). m.room.limit) c.self.view_is)
+    (ap (λ (x : Store _). x.limit) c.move_part-nodes.ensures.nodes ∙ c.in_ok-laid.ensures.laid.node_limit ∙ ap (λ (m : Contents g.row.T.Denot). m.room.limit) c.self.view_is)
     handed.table.nodes_within
-    (second_cells_within g.K.Key.bit_width _ q i.nodes c.in_ok-laid.laid two.0 c.in_ok-laid.vacant two.1 c.in_ok-laid.ensures.laid _ handed
-    c.move_part-nodes.ensures.nodes c.move_part-nodes.ensures.cells)
+    (let within = handed.table.cells_within in let same = handed.table.one_limit in omega (arith, within, same))
 
 pub returns-clause-kept : goal.returns-clause-kept
 returns-clause-kept g c = tt

@@ -1,0 +1,206 @@
+use Rattle.std.proofs.Common.{rules, ℕ, None, replicate, sym, ap, subst, ◌∙◌, arith, ◌≡◌, ◌+◌, ◌-◌, List, [], length, drop, take, bit_and}
+use Rattle.prefix_trie_bits.specs.declared.prefix.Refusal.TheVariants.{Memory}
+use Rattle.prefix_trie_table.specs.Cells.{node_at, blank_node, node_sizes, cell_sizes}
+use Rattle.prefix_trie_table.specs.declared.allocator.node.Node.{Node}
+use Rattle.prefix_trie_table.specs.HandingOut.Laid.{child_slots, value_slots, sum_to, slots_at_child, slots_below, IsBough, IsLaid, NothingLaid, LaysNode}
+use Rattle.prefix_trie_table.specs.HandingOut.Laying.{LaysList, Lays}
+use Rattle.prefix_trie_table.specs.Store.{tier_sizes}
+use Rattle.prefix_trie_table.proofs.HandingOut.Boughs.{first, bough_start, bough_few, bough_clear, bough_passed, bough_grafted, bough_closed, bough_bare}
+use Rattle.prefix_trie_table.proofs.HandingOut.Fits.{values_few, laid_tier}
+use Rattle.prefix_trie_table.proofs.HandingOut.Ground.{Lays-none, can_lay_then}
+use Rattle.prefix_trie_table.proofs.HandingOut.Parts.{kept, own_values, left_out, below_it}
+use Rattle.prefix_trie_table.proofs.HandingOut.Sources.{child_inside, some_level, source_below, own_within}
+use Rattle.prefix_trie_table.proofs.HandingOut.Space.{for_memory, values_packed, children_packed, slots_split, child_amount, child_room}
+use Rattle.prefix_trie_table.proofs.Insertion.Inserting.{node_fits, cell_fits}
+use Rattle.prefix_trie_table.proofs.Strings.Bare.{was_set, others_stay}
+use Rattle.prefix_trie_table.proofs.Strings.Bits.{has_bit-is, rank-ones}
+use Rattle.prefix_trie_table.proofs.Strings.BitLists.{rank-le, rank-lacks}
+use Rattle.prefix_trie_table.proofs.table.handing.+lay_node.Goals as goal
+
+-- the values that are laid, and their block
+pub lay_vacant-requires-clause-fits : goal.lay_vacant-requires-clause-fits
+lay_vacant-requires-clause-fits g t c =
+    let values : ℕ = bit_and c.args.node.value_bitmap c.masks-values.result.0 in
+    let few = values_few values (λ b set. own_within c.args.from.now c.args.node c.args.levels c.requires.source b (kept c.args.node.value_bitmap c.masks-values.result.0 b set)) in
+    let counted = c.count.ensures ∙ sym (rank-ones values 32 (omega arith)) in
+    cell_fits c.args.cells.now.tiers c.count.result c.requires.cells.sizes_are (omega (arith, few, counted))
+
+pub returns-in_err-own-clause-memory : goal.returns-in_err-own-clause-memory
+returns-in_err-own-clause-memory g t c =
+    let values : ℕ = bit_and c.args.node.value_bitmap c.masks-values.result.0 in
+    let packed = values_packed c.args.node (tier_sizes c.args.cells.now.tiers) values c.count.result c.requires.cells.sizes_are
+    (c.count.ensures ∙ sym (rank-ones values 32 (omega arith))) (kept c.args.node.value_bitmap c.masks-values.result.0)
+    (own_within c.args.from.now c.args.node c.args.levels c.requires.source) in
+    let split = slots_split value_slots c.args.from.now.slots c.args.levels c.args.node in
+    let space = c.requires.cells.space in
+    let memory : c.in_err-own.field-0.0 ≡ Memory =
+    for_memory c.in_err-own.field-0.0 (λ is. let past = c.in_err-own.ensures.range is in absurd (omega (arith, past, packed, split, space))) in
+    search (rules, memory)
+
+pub loop-child-init : goal.loop-child-init
+loop-child-init g t c =
+    let values : ℕ = bit_and c.args.node.value_bitmap c.masks-values.result.0 in
+    let part : List _ = drop c.args.depth (take c.args.len (g.K.Key.bits c.args.key)) in
+    let counted = c.count.ensures ∙ sym (rank-ones values 32 (omega arith)) in
+    let packed = values_packed c.args.node (tier_sizes c.args.cells.now.tiers) values c.count.result c.requires.cells.sizes_are counted
+    (kept c.args.node.value_bitmap c.masks-values.result.0) (own_within c.args.from.now c.args.node c.args.levels c.requires.source) in
+    let long = c.in_ok-own.ensures.longer in
+    subst (λ xs. IsBough c.args.from.now.slots c.args.levels c.args.node part c.args.nodes.now c.args.cells.now 0 (first values c.in_ok-own.own) xs c.args.nodes.now c.lay_vacant.new.self)
+    (sym c.new-below.ensures)
+    (bough_start c.args.from.now.slots c.args.levels c.args.node part c.args.nodes.now c.args.cells.now values c.in_ok-own.own c.lay_vacant.new.self
+    (own_values c.args.node part c.masks-values.result.0 c.masks-values.ensures.values)
+    (λ b set. own_within c.args.from.now c.args.node c.args.levels c.requires.source b (kept c.args.node.value_bitmap c.masks-values.result.0 b set))
+    c.requires.cells.sizes_are
+    (subst (λ n. LaysList None c.args.cells.now c.lay_vacant.new.self (replicate n None) c.in_ok-own.own) counted c.in_ok-own.ensures.laid)
+    (omega (arith, long, packed)))
+
+-- a child that is left out
+pub loop-child-preserved-then-not-has_bit : goal.loop-child-preserved-then-not-has_bit
+loop-child-preserved-then-not-has_bit g t c =
+    let clear = has_bit-is (bit_and c.args.node.child_bitmap c.masks-values.result.1) c.loop-child.child c.loop-child-test.true ∙ sym c.has_bit.ensures ∙ c.if-not-has_bit.true in
+    bough_passed c.args.from.now.slots c.args.levels c.args.node (drop c.args.depth (take c.args.len (g.K.Key.bits c.args.key))) c.args.nodes.now c.args.cells.now
+    c.loop-child.child c.loop-child.laid c.loop-child.below.items c.loop-child.nodes c.loop-child.cells c.loop-child.invariant c.loop-child.nodes c.loop-child.cells
+    (λ u s long is. left_out c.args.from.now.slots c.args.node _ c.masks-values.result.1 c.masks-values.ensures.children c.loop-child.child u s long is clear)
+    (Lays-none blank_node c.loop-child.nodes _) (Lays-none None c.loop-child.cells _)
+
+-- one that is laid
+pub visit-lower-requires : goal.visit-lower-requires
+visit-lower-requires g t c =
+    let set = has_bit-is (bit_and c.args.node.child_bitmap c.masks-values.result.1) c.loop-child.child c.loop-child-test.true ∙ sym c.has_bit.ensures ∙ c.if-not-has_bit.false in
+    let inside = child_inside c.args.from.now c.args.node c.args.levels c.requires.source c.loop-child.child (kept c.args.node.child_bitmap c.masks-values.result.1 c.loop-child.child set) in
+    let slot = c.child_slot.ensures in omega (arith, inside, slot)
+
+pub overflow_sub-fewer : goal.overflow_sub-fewer
+overflow_sub-fewer g t c =
+    let set = has_bit-is (bit_and c.args.node.child_bitmap c.masks-values.result.1) c.loop-child.child c.loop-child-test.true ∙ sym c.has_bit.ensures ∙ c.if-not-has_bit.false in
+    let some = some_level c.args.from.now c.args.node c.args.levels c.requires.source c.loop-child.child (kept c.args.node.child_bitmap c.masks-values.result.1 c.loop-child.child set) in
+    omega (arith, some)
+
+pub lay_node-requires : goal.lay_node-requires
+lay_node-requires g t c κs within =
+    let child : ℕ = c.loop-child.child in
+    let set = has_bit-is (bit_and c.args.node.child_bitmap c.masks-values.result.1) child c.loop-child-test.true ∙ sym c.has_bit.ensures ∙ c.if-not-has_bit.false in
+    let there = kept c.args.node.child_bitmap c.masks-values.result.1 child set in
+    let is = c.visit-lower.ensures.node ∙ ap (node_at c.args.from.now.slots) c.child_slot.ensures in
+    let some = some_level c.args.from.now c.args.node c.args.levels c.requires.source child there in
+    let below = source_below c.args.from.now c.args.node c.args.levels c.requires.source child there c.visit-lower.result (c.args.levels - 1) is (omega (arith, some)) in
+    let amount = λ (own : Node → ℕ). child_amount own c.args.from.now.slots c.args.levels c.args.node c.visit-lower.result child some there is in
+    let room = λ (own : Node → ℕ). child_room own c.args.from.now.slots c.args.levels c.args.node c.visit-lower.result child c.loop-child-test.true (amount own) in
+    let inv = c.loop-child.invariant in
+    let nodes = can_lay_then blank_node c.args.nodes.now c.loop-child.nodes node_sizes _ _ (slots_below child_slots c.args.from.now.slots (c.args.levels - 1) c.visit-lower.result) _
+    c.requires.nodes inv.nodes (let r = room child_slots in omega (arith, r)) in
+    let cells = can_lay_then None c.args.cells.now c.loop-child.cells cell_sizes _ _ (slots_below value_slots c.args.from.now.slots (c.args.levels - 1) c.visit-lower.result) _
+    c.requires.cells inv.cells (let r = room value_slots in omega (arith, r)) in
+    (omega (arith, some), (within.0, (within.1.0, (within.1.1.0, (within.1.1.1, (c.requires.key, (c.requires.within, (c.masks-values.ensures.most, (below, (nodes, cells))))))))))
+
+pub loop-child-preserved-in_default : goal.loop-child-preserved-in_default
+loop-child-preserved-in_default g t c =
+    let child : ℕ = c.loop-child.child in
+    let set = has_bit-is (bit_and c.args.node.child_bitmap c.masks-values.result.1) child c.loop-child-test.true ∙ sym c.has_bit.ensures ∙ c.if-not-has_bit.false in
+    let there = kept c.args.node.child_bitmap c.masks-values.result.1 child set in
+    let is = c.visit-lower.ensures.node ∙ ap (node_at c.args.from.now.slots) c.child_slot.ensures in
+    let some = some_level c.args.from.now c.args.node c.args.levels c.requires.source child there in
+    let amount = λ (own : Node → ℕ). child_amount own c.args.from.now.slots c.args.levels c.args.node c.visit-lower.result child some there is in
+    let nothing = subst (λ x. NothingLaid c.args.from.now.slots (c.args.levels - 1) c.visit-lower.result x c.loop-child.nodes c.lay_node.new.nodes c.loop-child.cells c.lay_node.new.cells)
+    c.masks-values.ensures.deeper
+    (subst (LaysNode c.args.from.now.slots (c.args.levels - 1) c.visit-lower.result (drop c.masks-values.result.2 (take c.args.len (g.K.Key.bits c.args.key))) c.loop-child.nodes
+    c.lay_node.new.nodes c.loop-child.cells c.lay_node.new.cells) c.in_default.is c.in_ok-twig.ensures.laid) in
+    bough_passed c.args.from.now.slots c.args.levels c.args.node (drop c.args.depth (take c.args.len (g.K.Key.bits c.args.key))) c.args.nodes.now c.args.cells.now
+    child c.loop-child.laid c.loop-child.below.items c.loop-child.nodes c.loop-child.cells c.loop-child.invariant c.lay_node.new.nodes c.lay_node.new.cells
+    (λ u s long e. below_it c.args.from.now.slots c.args.node _ c.masks-values.result.1 c.masks-values.ensures.children child u s long e set c.visit-lower.result is ∙ nothing.none s)
+    (subst (λ k. Lays blank_node [] k c.loop-child.nodes c.lay_node.new.nodes) (sym (amount child_slots)) nothing.nodes)
+    (subst (λ k. Lays None [] k c.loop-child.cells c.lay_node.new.cells) (sym (amount value_slots)) nothing.cells)
+
+pub push-requires : goal.push-requires
+push-requires g t c =
+    let clear = bough_clear c.args.from.now.slots c.args.levels c.args.node _ c.args.nodes.now c.args.cells.now c.loop-child.child c.loop-child.laid c.loop-child.below.items
+    c.loop-child.nodes c.loop-child.cells c.loop-child.invariant c.loop-child.child (omega arith) in
+    let few = bough_few c.args.from.now.slots c.args.levels c.args.node _ c.args.nodes.now c.args.cells.now c.loop-child.child c.loop-child.laid c.loop-child.below.items
+    c.loop-child.nodes c.loop-child.cells c.loop-child.invariant in
+    let lacks = rank-lacks c.loop-child.laid.child_bitmap 32 c.loop-child.child c.loop-child-test.true clear in
+    (omega arith, omega (arith, few, lacks))
+
+pub with_bit-requires-clause-clear : goal.with_bit-requires-clause-clear
+with_bit-requires-clause-clear g t c =
+    sym (has_bit-is c.loop-child.laid.child_bitmap c.loop-child.child c.loop-child-test.true)
+    ∙ bough_clear c.args.from.now.slots c.args.levels c.args.node _ c.args.nodes.now c.args.cells.now c.loop-child.child c.loop-child.laid c.loop-child.below.items
+    c.loop-child.nodes c.loop-child.cells c.loop-child.invariant c.loop-child.child (omega arith)
+
+pub loop-child-preserved : goal.loop-child-preserved
+loop-child-preserved g t c =
+    let child : ℕ = c.loop-child.child in
+    let part : List _ = drop c.args.depth (take c.args.len (g.K.Key.bits c.args.key)) in
+    let set = has_bit-is (bit_and c.args.node.child_bitmap c.masks-values.result.1) child c.loop-child-test.true ∙ sym c.has_bit.ensures ∙ c.if-not-has_bit.false in
+    let there = kept c.args.node.child_bitmap c.masks-values.result.1 child set in
+    let is = c.visit-lower.ensures.node ∙ ap (node_at c.args.from.now.slots) c.child_slot.ensures in
+    let some = some_level c.args.from.now c.args.node c.args.levels c.requires.source child there in
+    let twig = subst (λ x. IsLaid c.args.from.now.slots (c.args.levels - 1) c.visit-lower.result x c.loop-child.nodes c.lay_node.new.nodes c.loop-child.cells c.lay_node.new.cells
+    c.in-Some.twig) c.masks-values.ensures.deeper
+    (subst (LaysNode c.args.from.now.slots (c.args.levels - 1) c.visit-lower.result (drop c.masks-values.result.2 (take c.args.len (g.K.Key.bits c.args.key))) c.loop-child.nodes
+    c.lay_node.new.nodes c.loop-child.cells c.lay_node.new.cells) c.in-Some.is c.in_ok-twig.ensures.laid) in
+    let sets = c.with_bit.ensures.sets in
+    subst (λ xs. IsBough c.args.from.now.slots c.args.levels c.args.node part c.args.nodes.now c.args.cells.now (child + 1) (record c.loop-child.laid { child_bitmap = c.with_bit.result }) xs
+    c.lay_node.new.nodes c.lay_node.new.cells) (sym c.push.ensures.items)
+    (bough_grafted c.args.from.now.slots c.args.levels c.args.node part c.args.nodes.now c.args.cells.now child c.loop-child.laid c.loop-child.below.items
+    c.loop-child.nodes c.loop-child.cells c.loop-child.invariant c.in-Some.twig c.with_bit.result (c.args.levels - 1) c.visit-lower.result c.lay_node.new.nodes c.lay_node.new.cells twig
+    c.loop-child-test.true there
+    (λ u s long e. below_it c.args.from.now.slots c.args.node part c.masks-values.result.1 c.masks-values.ensures.children child u s long e set c.visit-lower.result is)
+    (λ own. child_amount own c.args.from.now.slots c.args.levels c.args.node c.visit-lower.result child some there is)
+    (was_set c.loop-child.laid.child_bitmap c.with_bit.result child sets c.loop-child-test.true)
+    (λ i ne. sym (others_stay c.loop-child.laid.child_bitmap c.with_bit.result child sets c.loop-child-test.true i ne)))
+
+-- the node whose children are laid
+pub returns-then-is_bare-clause-laid : goal.returns-then-is_bare-clause-laid
+returns-then-is_bare-clause-laid g t c =
+    let all : c.loop-child.child ≡ 32 = (let h = c.loop-child-test.false in let e = c.loop-child.auto.child-end in omega (arith, h, e)) in
+    bough_bare c.args.from.now.slots c.args.levels c.args.node _ c.args.nodes.now c.args.cells.now c.loop-child.child c.loop-child.laid c.loop-child.below.items
+    c.loop-child.nodes c.loop-child.cells c.loop-child.invariant all (c.is_bare.ensures.bare c.if-is_bare.true)
+
+pub lay-requires-clause-sound : goal.lay-requires-clause-sound
+lay-requires-clause-sound g t c = (_, c.loop-child.invariant.nodes.sound c.requires.nodes.live c.requires.nodes.sound)
+
+pub lay-requires-clause-fits : goal.lay-requires-clause-fits
+lay-requires-clause-fits g t c =
+    let few = bough_few c.args.from.now.slots c.args.levels c.args.node _ c.args.nodes.now c.args.cells.now c.loop-child.child c.loop-child.laid c.loop-child.below.items
+    c.loop-child.nodes c.loop-child.cells c.loop-child.invariant in
+    let same = ap (λ (xs : List Node). length xs) c.deref.ensures.0 in
+    let most = rank-le c.loop-child.laid.child_bitmap 32 in
+    node_fits c.loop-child.nodes.tiers (length c.deref.result.now) (c.loop-child.invariant.nodes.keeps.sizes ∙ c.requires.nodes.sizes_are) (omega (arith, few, same, most))
+
+pub returns-in_err-list-clause-memory : goal.returns-in_err-list-clause-memory
+returns-in_err-list-clause-memory g t c =
+    let all : c.loop-child.child ≡ 32 = (let h = c.loop-child-test.false in let e = c.loop-child.auto.child-end in omega (arith, h, e)) in
+    let few = bough_few c.args.from.now.slots c.args.levels c.args.node _ c.args.nodes.now c.args.cells.now c.loop-child.child c.loop-child.laid c.loop-child.below.items
+    c.loop-child.nodes c.loop-child.cells c.loop-child.invariant in
+    let same = ap (λ (xs : List Node). length xs) c.deref.ensures.0 in
+    let packed = children_packed c.args.node (tier_sizes c.loop-child.nodes.tiers) c.loop-child.laid.child_bitmap (length c.deref.result.now)
+    (c.loop-child.invariant.nodes.keeps.sizes ∙ c.requires.nodes.sizes_are) (omega (arith, same, few)) c.loop-child.invariant.kept in
+    let split = slots_split child_slots c.args.from.now.slots c.args.levels c.args.node in
+    let sums = ap (sum_to (slots_at_child child_slots c.args.from.now.slots c.args.levels c.args.node)) all in
+    let left = can_lay_then blank_node c.args.nodes.now c.loop-child.nodes node_sizes _ _ (child_slots c.args.node) _ c.requires.nodes c.loop-child.invariant.nodes
+    (omega (arith, split, sums)) in
+    let space = left.space in
+    let memory : c.in_err-list.field-0.0 ≡ Memory =
+    for_memory c.in_err-list.field-0.0 (λ is. let past = c.in_err-list.ensures.range is in absurd (omega (arith, past, packed, space))) in
+    search (rules, memory)
+
+pub overflow_cast-laid-2 : goal.overflow_cast-laid-2
+overflow_cast-laid-2 g t c =
+    let small = laid_tier blank_node c.loop-child.nodes c.lay.new.self c.deref.result.now c.in_ok-list.list node_sizes
+    (c.loop-child.invariant.nodes.keeps.sizes ∙ c.requires.nodes.sizes_are) (omega arith) c.in_ok-list.ensures.laid in
+    omega (arith, small)
+
+pub returns-clause-laid : goal.returns-clause-laid
+returns-clause-laid g t c =
+    let all : c.loop-child.child ≡ 32 = (let h = c.loop-child-test.false in let e = c.loop-child.auto.child-end in omega (arith, h, e)) in
+    let few = bough_few c.args.from.now.slots c.args.levels c.args.node _ c.args.nodes.now c.args.cells.now c.loop-child.child c.loop-child.laid c.loop-child.below.items
+    c.loop-child.nodes c.loop-child.cells c.loop-child.invariant in
+    let same = ap (λ (xs : List Node). length xs) c.deref.ensures.0 in
+    let are = c.loop-child.invariant.nodes.keeps.sizes ∙ c.requires.nodes.sizes_are in
+    let packed = children_packed c.args.node (tier_sizes c.loop-child.nodes.tiers) c.loop-child.laid.child_bitmap (length c.deref.result.now) are
+    (omega (arith, same, few)) c.loop-child.invariant.kept in
+    let long = c.in_ok-list.ensures.longer in
+    bough_closed c.args.from.now.slots c.args.levels c.args.node _ c.args.nodes.now c.args.cells.now c.loop-child.child c.loop-child.laid c.loop-child.below.items
+    c.loop-child.nodes c.loop-child.cells c.loop-child.invariant all c.lay.new.self c.in_ok-list.list are
+    (subst (λ xs. LaysList blank_node c.loop-child.nodes c.lay.new.self xs c.in_ok-list.list) c.deref.ensures.0 c.in_ok-list.ensures.laid) (omega (arith, long, packed))
+    (c.is_bare.ensures.stocked c.if-is_bare.false)
