@@ -72,6 +72,11 @@ pub record IsBare (n : Node) : Type 0 where
 abbrev pub IsStocked : Node → Type 0
 IsStocked n = (0 < rank n.value_bitmap 32) ⊎ (0 < rank n.child_bitmap 32)
 
+-- an array is as long as it was, and has the limit and the blocks that it had
+pub record SameBlocks {S : Type 0} (v w : Store S) : Type 0 where
+  pub room : SameRoom v w
+  pub tiers : w.tiers ≡ v.tiers
+
 -- no block was made, taken or lost, so those free before are free
 pub record GivesBack {S : Type 0} (v w : Store S) : Type 0 where
   pub room : SameRoom v w
@@ -143,4 +148,4 @@ abbrev pub EntryRemoved : {T : Type 0} → (List ℕ → Option Node) → List (
 EntryRemoved reading paths values path b v before w after =
     ((reading path ≡ None) × (w ≡ v) × EntryTaken reading paths values path b w before after)
     ⊎ ((u : Store Node) × (is_some (reading path) ≡ true) × (t : EntryTaken reading paths values path b u before after) × Pruned t.later paths path u w
-    × (length u.slots ≡ length v.slots) × (u.tiers ≡ v.tiers))
+    × SameBlocks v u)

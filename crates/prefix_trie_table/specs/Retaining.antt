@@ -7,9 +7,9 @@ use Rattle.prefix_trie_bits.specs.Order.{same_string}
 use Rattle.prefix_trie_bits.specs.Places.{is_in, place_of}
 use Rattle.prefix_trie_bits.specs.declared.node.Place.{Place}
 use Rattle.prefix_trie_bits.specs.Model.Asking.{AsksInOrder, MayAskInOrder}
-use Rattle.prefix_trie_bits.specs.Model.Entries.{Entries}
+use Rattle.prefix_trie_bits.specs.Model.Entries.{Entries, without_below}
 use Rattle.prefix_trie_bits.specs.Model.NodeListings.{listing_at_places}
-use Rattle.prefix_trie_bits.specs.Model.Nodes.{has_node, needed}
+use Rattle.prefix_trie_bits.specs.Model.Nodes.{Nodes, has_node, needed}
 use Rattle.prefix_trie_bits.specs.Model.Selections.{listing, listing_below}
 use Rattle.prefix_trie_bits.specs.Model.Step.{State}
 use Rattle.prefix_trie_table.specs.declared.allocator.node.Node.{Node}
@@ -127,6 +127,11 @@ module _ {F T : Type 0} (asks : F → List Bool → T → Bool → F → Type 0)
   -- the test may be asked at each entry below q
   abbrev pub MayAskBelow : ℕ → List Bool → F → ℕ → Store Node → Store (Option T) → Type 0
   MayAskBelow width q f count v w = (before : State T) → IsTrie width count v w before → MayAskInOrder asks accepts f (listing_below before.entries q)
+
+  -- the test was asked once at each entry below q, and these are gone. Of the nodes these are left
+  pub record TakesBelow (width : ℕ) (q : List Bool) (f : F) (before : State T) (f' : F) (left : Nodes) (count : ℕ) (v : Store Node) (w : Store (Option T)) : Type 0 where
+    pub trie : IsTrie width count v w (record { entries = without_below before.entries q; nodes = left })
+    pub up_to : AsksUpTo asks f (listing_below before.entries q) f'
 
   -- the test was asked at each entry that these arrays held, in listing order. They hold those now at which it answered true, and
   -- the nodes that these need

@@ -15,6 +15,7 @@ use Rattle.prefix_trie_table.specs.Cells.{blank_node, node_at, node_sizes, cell_
 use Rattle.prefix_trie_table.specs.OwnBlocks.{child_block_size, value_block_size}
 use Rattle.prefix_trie_table.specs.Store.{Store, UsedBlock, Sound, block, held, HasList, Keeps, Turnover, tier_at, tier_sizes, size_in, size_if_any, list_size, free_counts, made_in}
 use Rattle.prefix_trie_table.specs.Forest.{without, child_items, child_blocks, IsSlot, NodesHold, CellsHold, value_blocks, with_node, lacking_child, node_or_blank}
+use Rattle.prefix_trie_table.specs.Losing.{LosesOne}
 use Rattle.prefix_trie_table.specs.Removals.{Lessens, MakesEntered, ValueTaken, ChildDropped, GivesBack}
 use Rattle.prefix_trie_table.specs.Settling.{headroom_if_any, child_headroom}
 use Rattle.prefix_trie_table.specs.Tables.{Grows}
@@ -59,15 +60,13 @@ pub record Lost {S : Type 0} (vacant : S) (sizes : List ℕ) (v w : Store S) (k 
 -- a call that takes an item out of a list, and answers where the list stands then
 module _ {S : Type 0} (vacant : S) (v w : Store S) (k start count place : ℕ) (next : BlockRef) (top : ℕ) (are : tier_sizes v.tiers ≡ sizes_to top)
     (up : goes_up 0 (sizes_to top) ≡ true) (rooms : all_rooms (sizes_to top) ≡ true) (list : HasList vacant v k start count) (some : 0 < count) (within : next.tier < length v.tiers)
-    (turned : Turnover v w (made_of (tier_sizes v.tiers) (free_counts v.tiers) (list_size v.tiers k count) (list_size v.tiers next.tier (count - 1)))
-    (list_size v.tiers k count) (list_size v.tiers next.tier (count - 1)))
-    (steps : StepsDown (tier_sizes v.tiers) (free_counts v.tiers) count (count - 1) (list_size v.tiers k count) (list_size v.tiers next.tier (count - 1))) where
+    (loses : LosesOne v w count (list_size v.tiers k count) (list_size v.tiers next.tier (count - 1))) where
   -- its block, and what became of the array then
   from_block : Turnover v w (made_of (tier_sizes v.tiers) (free_counts v.tiers) (Some (size_in (tier_sizes v.tiers) k)) (list_size v.tiers next.tier (count - 1)))
       (Some (size_in (tier_sizes v.tiers) k)) (list_size v.tiers next.tier (count - 1))
   from_block =
       subst (λ o. Turnover v w (made_of (tier_sizes v.tiers) (free_counts v.tiers) o (list_size v.tiers next.tier (count - 1))) o (list_size v.tiers next.tier (count - 1)))
-      (size_some count (size_in (tier_sizes v.tiers) k) some) turned
+      (size_some count (size_in (tier_sizes v.tiers) k) some) loses.turnover
 
   lessens_one : Lessens (sizes_to top) v w count (count - 1) (size_if_any count (size_in (sizes_to top) k)) (size_if_any (count - 1) (size_in (sizes_to top) next.tier))
   lessens_one = record {
@@ -75,7 +74,7 @@ module _ {S : Type 0} (vacant : S) (v w : Store S) (k start count place : ℕ) (
         let fits = held_fits vacant v k start count (sizes_to top) are refl list some in
         has_some (sizes_to top) count (size_if_any count (size_in (sizes_to top) k)) (size_in (sizes_to top) k) some (size_some count (size_in (sizes_to top) k) some)
         (size_among (sizes_to top) k fits.0) fits.1;
-    steps = subst (λ ns. StepsDown ns (free_counts v.tiers) count (count - 1) (size_if_any count (size_in ns k)) (size_if_any (count - 1) (size_in ns next.tier))) are steps;
+    steps = subst (λ ns. StepsDown ns (free_counts v.tiers) count (count - 1) (size_if_any count (size_in ns k)) (size_if_any (count - 1) (size_in ns next.tier))) are loses.steps;
     longer = subst (λ ns. LongerByOne ns (free_counts v.tiers) (size_if_any count (size_in ns k)) (size_if_any (count - 1) (size_in ns next.tier)) (length v.slots) (length w.slots)) are
         (subst (λ o. LongerByOne (tier_sizes v.tiers) (free_counts v.tiers) o (list_size v.tiers next.tier (count - 1)) (length v.slots) (length w.slots))
         (sym (size_some count (size_in (tier_sizes v.tiers) k) some))
@@ -91,17 +90,17 @@ module _ {S : Type 0} (vacant : S) (v w : Store S) (k start count place : ℕ) (
               (size_among (tier_sizes v.tiers) next.tier (let l = tiers_long v.tiers (tier_sizes v.tiers) refl in omega (arith, l, within)))
 
   made_one : MakesEntered (sizes_to top) v w (size_if_any count (size_in (sizes_to top) k)) (size_if_any (count - 1) (size_in (sizes_to top) next.tier))
-  made_one = λ size there. turned.made_is size
+  made_one = λ size there. loses.turnover.made_is size
       ∙ ap (λ ns. made_in v.tiers size + made_of ns (free_counts v.tiers) (size_if_any count (size_in ns k)) (size_if_any (count - 1) (size_in ns next.tier)) size) are
 
   few_more : Grows v w 24
   few_more = record {
-    first_is = turned.keeps.first_is;
-    limit_is = turned.keeps.limit_is;
-    longer = turned.keeps.longer;
+    first_is = loses.turnover.keeps.first_is;
+    limit_is = loses.turnover.keeps.limit_is;
+    longer = loses.turnover.keeps.longer;
     at_most = lessens_few top v w count (count - 1) _ _ lessens_one (omega (arith, some));
-    within = turned.keeps.within;
-    made = made_turned v w _ _ _ turned;
+    within = loses.turnover.keeps.within;
+    made = made_turned v w _ _ _ loses.turnover;
   }
 
   pub lost_one : ((n : ℕ) (xs : List S) (live : List (UsedBlock S)) → Sound vacant (held k start n xs ++ live) v → length xs ≡ count →
@@ -110,7 +109,7 @@ module _ {S : Type 0} (vacant : S) (v w : Store S) (k start count place : ℕ) (
   lost_one sound n at same is =
       subst (λ x. Lost vacant (sizes_to top) v w k start x at next.tier next.start) same
       (subst (λ x. Lost vacant (sizes_to top) v w k start count x next.tier next.start) is (record {
-        keeps = turned.keeps;
+        keeps = loses.turnover.keeps;
         grows = few_more;
         back = λ few. gives_back v w (size_in (tier_sizes v.tiers) k) (list_size v.tiers next.tier (count - 1))
             (ap (λ c. size_if_any c (size_in (tier_sizes v.tiers) next.tier)) (let e : count - 1 ≡ 0 = omega (arith, few) in e)) from_block;

@@ -161,8 +161,7 @@ module _ {T : Type 0} (width : ℕ) (q : List Bool) (v v2 : Store Node) (w : Sto
         subst (λ (f : List ℕ → Option Node). Pruned f paths (path_of q) v v2)
             (λ i p. (same p ∙ sym (later_same reading values paths w v (path_of q) (bit_of q) t no_value p)) i)
             (prunes paths (read_held reading values paths v w holds).hold),
-        refl,
-        refl,
+        record { room = (refl, refl, refl); tiers = refl },
       )
 
   pub trie_pruned : Grows v v2 24 → IsTrie width count v2 w (record { entries = without_entry s.entries q; nodes = nodes_without s.nodes s.entries q })

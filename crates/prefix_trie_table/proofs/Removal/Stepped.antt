@@ -130,7 +130,7 @@ module _ {T : Type 0} (reading : List ℕ → Option Node) (values : List ℕ �
   left_removed : (s : State T) → IsShapeOf v.slots w.slots s → EntryRemoved reading paths values (path_of key) (bit_of key) v w v2 w2 →
       Left reading (path_of key) v w v2 w2
   left_removed s is (inl (missing, same, t)) = left_taken t (ap (λ (x : Store Node). length x.slots) same) (ap (λ (x : Store Node). x.tiers) same)
-  left_removed s is (inr (u, there, t, p, long, tiers)) = record {
+  left_removed s is (inr (u, there, t, p, blocks)) = record {
     later = p.to.later;
     found = with_value values (path_of key) (bit_of key) None;
     paths = p.to.left;
@@ -144,7 +144,7 @@ module _ {T : Type 0} (reading : List ℕ → Option Node) (values : List ℕ �
     children = λ x.
         let same = taken_children reading paths values (path_of key) (bit_of key) u w w2 t x in
         steps_read (StepsDown node_sizes (free_counts v.tiers)) (sym same.0) refl (sym same.1) refl
-        (subst (λ ts. ChildrenStep (free_counts ts) (t.later x) (p.to.later x)) tiers
+        (subst (λ ts. ChildrenStep (free_counts ts) (t.later x) (p.to.later x)) blocks.tiers
         (pruned_children t.later paths (path_of key) p.level p.node u v2 p.to x));
     of_cells =
         subst (λ o. GrowsByOne cell_sizes w w2 (value_block_size (reading (path_of key))) o)
@@ -156,7 +156,7 @@ module _ {T : Type 0} (reading : List ℕ → Option Node) (values : List ℕ �
         let path = take p.level (path_of key) in
         subst (λ o. GrowsAtMost node_sizes v v2 o (child_block_size (p.to.later path)))
         (taken_children reading paths values (path_of key) (bit_of key) u w w2 t path).1
-        (grows_same node_sizes u v v2 _ _ tiers long (pruned_grows t.later paths (path_of key) p.level p.node u v2 p.to));
+        (grows_same node_sizes u v v2 _ _ blocks.tiers blocks.room.0 (pruned_grows t.later paths (path_of key) p.level p.node u v2 p.to));
   }
 
 -- the sizes of the blocks of a table
