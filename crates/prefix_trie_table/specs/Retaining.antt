@@ -47,11 +47,15 @@ pub record HasPlace (n : Node) (p : Place) : Type 0 where
   pub set : is_in n.value_bitmap n.child_bitmap string ≡ true
 
 -- no block of a node's values, or of its children, is larger, or smaller than what is left needs
-abbrev pub ValuesBetween : Option Node → Option Node → Type 0
-ValuesBetween n m = StepsBetween cell_sizes (own_count n) (own_count m) (value_block_size n) (value_block_size m)
+pub record BlocksBetween (n m : Option Node) : Type 0 where
+  pub values : StepsBetween cell_sizes (own_count n) (own_count m) (value_block_size n) (value_block_size m)
+  pub children : StepsBetween node_sizes (own_children n) (own_children m) (child_block_size n) (child_block_size m)
 
-abbrev pub ChildrenBetween : Option Node → Option Node → Type 0
-ChildrenBetween n m = StepsBetween node_sizes (own_children n) (own_children m) (child_block_size n) (child_block_size m)
+-- an array is no shorter, its limit is the same, and no block is lost
+pub record Stays {S : Type 0} (v w : Store S) : Type 0 where
+  pub limit : w.limit ≡ v.limit
+  pub longer : length v.slots ≤ length w.slots
+  pub made : KeepsMade v w
 
 module _ {T : Type 0} where
   -- some stored key goes on from q
@@ -60,19 +64,13 @@ module _ {T : Type 0} where
     pub stored : contains_key m key ≡ true
     pub goes_on : begins q key ≡ true
 
-  -- no array is shorter or has lost a block, neither may become longer than it could, both limits are the same, and so are the
-  -- nodes above this level
+  -- both arrays stay, neither may become longer than it could, and the nodes above this level are the same
   pub record Lasts (level : ℕ) (v v2 : Store Node) (w w2 : Store (Option T)) : Type 0 where
     pub above : (p : List ℕ) → length p < level → read v2.slots p ≡ read v.slots p
-    pub node_limit : v2.limit ≡ v.limit
-    pub node_slots : length v.slots ≤ length v2.slots
-    pub cell_limit : w2.limit ≡ w.limit
-    pub cell_slots : length w.slots ≤ length w2.slots
+    pub nodes : Stays v v2
+    pub cells : Stays w w2
     pub settles : Settles v v2 w w2
-    pub values : (x : List ℕ) → ValuesBetween (read v.slots x) (read v2.slots x)
-    pub children : (x : List ℕ) → ChildrenBetween (read v.slots x) (read v2.slots x)
-    pub node_made : KeepsMade v v2
-    pub cell_made : KeepsMade w w2
+    pub blocks : (x : List ℕ) → BlocksBetween (read v.slots x) (read v2.slots x)
 
 -- a node stands in the slot of the site and at its path, which is no longer than the width
 pub record IsSite {K : Type 0} (IsKey : K → Type 0) (bits : K → List Bool) (width : ℕ) (v : Store Node) (p : Site K) (n : Node) : Type 0 where

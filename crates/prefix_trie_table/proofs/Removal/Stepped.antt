@@ -15,7 +15,7 @@ use Rattle.prefix_trie_table.specs.Digits.{path_of, bit_of}
 use Rattle.prefix_trie_table.specs.Forest.{NodesHold, Holds, SomeTable, has_child, has_value, own_count, read, with_value}
 use Rattle.prefix_trie_table.specs.Layouts.{AreSizesBy, Sized, own_children, child_block_size, value_block_size}
 use Rattle.prefix_trie_table.specs.Removals.{EntryTaken, EntryRemoved}
-use Rattle.prefix_trie_table.specs.Retaining.{ValuesBetween, ChildrenBetween}
+use Rattle.prefix_trie_table.specs.Retaining.{BlocksBetween}
 use Rattle.prefix_trie_table.specs.Shape.{IsShapeOf, Shaped}
 use Rattle.prefix_trie_table.specs.Store.{Store, free_counts}
 use Rattle.prefix_trie_table.specs.Tables.{IsTable, ForHeld}
@@ -290,18 +290,18 @@ module _ (size : Option Node → Option ℕ) (count : Option Node → ℕ) (size
 
 module _ {T : Type 0} (v v2 : Store Node) (w w2 : Store (Option T)) (s : Shaped v.slots w.slots) (z : Sized v.slots) (t : SomeTable v w)
     (s2 : Shaped v2.slots w2.slots) (z2 : Sized v2.slots) (t2 : SomeTable v2 w2) where
-  pub retained_values : ((x : List ℕ) → ValuesBetween (read v.slots x) (read v2.slots x)) →
+  pub retained_values : ((x : List ℕ) → BlocksBetween (read v.slots x) (read v2.slots x)) →
       SizesStepBetween value_block_sizes s.0.nodes (own_entries s.0.entries) (own_entries s2.0.entries) z.1.0 z2.1.0
   retained_values steps =
-      sizes_step_between value_block_size own_count cell_sizes refl v.slots v2.slots steps s.0.nodes s.1.0 (own_entries s.0.entries) (own_entries s2.0.entries)
+      sizes_step_between value_block_size own_count cell_sizes refl v.slots v2.slots (λ x. (steps x).values) s.0.nodes s.1.0 (own_entries s.0.entries) (own_entries s2.0.entries)
       (λ p depth. own_is t.reading t.values t.paths v w t.holds s.0 s.1 p depth ∙ ap own_count (sym (reads node_sizes t.reading t.paths v t.holds.hold (path_of p))))
       (λ p depth. own_is t2.reading t2.values t2.paths v2 w2 t2.holds s2.0 s2.1 p depth ∙ ap own_count (sym (reads node_sizes t2.reading t2.paths v2 t2.holds.hold (path_of p))))
       z.1.0 z2.1.0 z.1.1.1 z2.1.1.1
 
-  pub retained_children : ((x : List ℕ) → ChildrenBetween (read v.slots x) (read v2.slots x)) →
+  pub retained_children : ((x : List ℕ) → BlocksBetween (read v.slots x) (read v2.slots x)) →
       SizesStepBetween child_block_sizes s.0.nodes (child_count s.0.nodes) (child_count s2.0.nodes) z.0 z2.0
   retained_children steps =
-      sizes_step_between child_block_size own_children node_sizes refl v.slots v2.slots steps s.0.nodes s.1.0 (child_count s.0.nodes) (child_count s2.0.nodes)
+      sizes_step_between child_block_size own_children node_sizes refl v.slots v2.slots (λ x. (steps x).children) s.0.nodes s.1.0 (child_count s.0.nodes) (child_count s2.0.nodes)
       (λ p depth. children_is t.reading t.values t.paths v w t.holds s.0 s.1 p depth ∙ ap own_children (sym (reads node_sizes t.reading t.paths v t.holds.hold (path_of p))))
       (λ p depth. children_is t2.reading t2.values t2.paths v2 w2 t2.holds s2.0 s2.1 p depth ∙ ap own_children (sym (reads node_sizes t2.reading t2.paths v2 t2.holds.hold (path_of p))))
       z.0 z2.0 z.1.1.0 z2.1.1.0
