@@ -1,5 +1,6 @@
 pub mod Runs
 pub mod Store
+pub mod Losing
 pub mod Cells
 pub mod Bitmaps
 pub mod Digits

@@ -10,20 +10,25 @@ use Rattle.prefix_trie_table.specs.Layouts.{own_children, child_block_size, valu
 use Rattle.prefix_trie_table.specs.Settling.{NodesSettle}
 use Rattle.prefix_trie_table.specs.Forest.{NodesHold, CellsHold, Holds, IsSlot, lacking_child, without, is_start, with_node, with_value, own_count, entry_count, one_if}
 
--- a list that had `before` items in a block of the size `old` has `after` in one of the size `new`: it steps down, and the array is longer
--- by that block at most
-pub record Lessens {S : Type 0} (sizes : List ℕ) (v w : Store S) (before after : ℕ) (old new : Option ℕ) : Type 0 where
-  pub has : after < before → HasBlock sizes before old
-  pub steps : StepsDown sizes (free_counts v.tiers) before after old new
-  pub longer : LongerByOne sizes (free_counts v.tiers) old new (length v.slots) (length w.slots)
-
--- that block was made, if it was to be
+-- the block that a list entered in place of its old one was made, if it was to be
 abbrev pub MakesEntered : {S : Type 0} → List ℕ → Store S → Store S → Option ℕ → Option ℕ → Type 0
 MakesEntered sizes v w old new = MakesBlocks sizes (made_of sizes (free_counts v.tiers) old new) (made_in v.tiers) (made_in w.tiers)
 
 -- or that one at most
 abbrev pub MakesFew : {S : Type 0} → List ℕ → Store S → Store S → Option ℕ → Option ℕ → Type 0
 MakesFew sizes v w old new = MakesAtMost sizes (made_of sizes (free_counts v.tiers) old new) (made_in v.tiers) (made_in w.tiers)
+
+-- an array is longer by that block at most, which was made as one of these two says
+pub record GrowsBy {S : Type 0} (Makes : List ℕ → Store S → Store S → Option ℕ → Option ℕ → Type 0) (sizes : List ℕ) (v w : Store S) (old new : Option ℕ) : Type 0 where
+  pub longer : LongerByOne sizes (free_counts v.tiers) old new (length v.slots) (length w.slots)
+  pub made : Makes sizes v w old new
+
+-- a list that had `before` items in a block of the size `old` has `after` in one of the size `new`: it steps down, and the array
+-- grows by that block
+pub record Lessens {S : Type 0} (Makes : List ℕ → Store S → Store S → Option ℕ → Option ℕ → Type 0) (sizes : List ℕ) (v w : Store S) (before after : ℕ) (old new : Option ℕ) : Type 0 where
+  pub has : after < before → HasBlock sizes before old
+  pub steps : StepsDown sizes (free_counts v.tiers) before after old new
+  pub grows : GrowsBy Makes sizes v w old new
 
 -- two nodes have the same children in the same block
 pub record SameChildren (n m : Node) : Type 0 where
@@ -45,8 +50,7 @@ module _ {T : Type 0} where
     pub cells : CellsHold cell_sizes (with_node reading p m) (with_value values p b None) paths after
     pub fewer : own_count (Some m) + 1 ≡ own_count (Some n)
     pub children : SameChildren n m
-    pub lessens : Lessens cell_sizes before after (own_count (Some n)) (own_count (Some m)) (value_block_size (Some n)) (value_block_size (Some m))
-    pub made : MakesEntered cell_sizes before after (value_block_size (Some n)) (value_block_size (Some m))
+    pub lessens : Lessens MakesEntered cell_sizes before after (own_count (Some n)) (own_count (Some m)) (value_block_size (Some n)) (value_block_size (Some m))
 
   -- the value at bit b of the node with a path was taken, where there was one, and this node has the children that it had.
   -- The other nodes are as they were, and each node stands where it stood
@@ -60,8 +64,7 @@ module _ {T : Type 0} where
     pub counted : entry_count later paths + one_if (is_some (values path b)) ≡ entry_count reading paths
     pub kept : is_some (values path b) ≡ false → later path ≡ reading path
     pub children : (n m : Node) → reading path ≡ Some n → later path ≡ Some m → SameChildren n m
-    pub lessens : Lessens cell_sizes before after (own_count (reading path)) (own_count (later path)) (value_block_size (reading path)) (value_block_size (later path))
-    pub made : MakesEntered cell_sizes before after (value_block_size (reading path)) (value_block_size (later path))
+    pub lessens : Lessens MakesEntered cell_sizes before after (own_count (reading path)) (own_count (later path)) (value_block_size (reading path)) (value_block_size (later path))
 
 -- a node without values and children
 pub record IsBare (n : Node) : Type 0 where
@@ -71,6 +74,11 @@ pub record IsBare (n : Node) : Type 0 where
 -- a node with a value or a child
 abbrev pub IsStocked : Node → Type 0
 IsStocked n = (0 < rank n.value_bitmap 32) ⊎ (0 < rank n.child_bitmap 32)
+
+-- an array is as long as it was, and has the limit and the blocks that it had
+pub record SameBlocks {S : Type 0} (v w : Store S) : Type 0 where
+  pub room : SameRoom v w
+  pub tiers : w.tiers ≡ v.tiers
 
 -- no block was made, taken or lost, so those free before are free
 pub record GivesBack {S : Type 0} (v w : Store S) : Type 0 where
@@ -92,8 +100,7 @@ pub record ChildDropped (reading : List ℕ → Option Node) (paths : List (List
   pub hold : NodesHold node_sizes (lacking_child reading p m c) (without (p ++ c ∷ []) paths) after
   pub values : SameValues n m
   pub fewer : rank m.child_bitmap 32 + 1 ≡ rank n.child_bitmap 32
-  pub lessens : Lessens node_sizes before after (own_children (Some n)) (own_children (Some m)) (child_block_size (Some n)) (child_block_size (Some m))
-  pub made : MakesEntered node_sizes before after (child_block_size (Some n)) (child_block_size (Some m))
+  pub lessens : Lessens MakesEntered node_sizes before after (own_children (Some n)) (own_children (Some m)) (child_block_size (Some n)) (child_block_size (Some m))
   pub settles : NodesSettle before after
 
 -- nodes were taken out one after another, each of them bare when it went
@@ -116,9 +123,8 @@ pub record PrunedTo (reading : List ℕ → Option Node) (paths : List (List ℕ
   pub above : (k : ℕ) → k < level → later (take k path) ≡ reading (take k path)
   pub off : (q : List ℕ) → is_start q path ≡ false → later q ≡ reading q
   pub whole : level ≡ length path → later path ≡ reading path
-  pub lessens : Lessens node_sizes before after (own_children (reading (take level path))) (own_children (Some node))
+  pub lessens : Lessens MakesFew node_sizes before after (own_children (reading (take level path))) (own_children (Some node))
       (child_block_size (reading (take level path))) (child_block_size (Some node))
-  pub made : MakesFew node_sizes before after (child_block_size (reading (take level path))) (child_block_size (Some node))
   pub settles : NodesSettle before after
 
 -- the way to a path was pruned as far up as nodes are bare
@@ -143,4 +149,4 @@ abbrev pub EntryRemoved : {T : Type 0} → (List ℕ → Option Node) → List (
 EntryRemoved reading paths values path b v before w after =
     ((reading path ≡ None) × (w ≡ v) × EntryTaken reading paths values path b w before after)
     ⊎ ((u : Store Node) × (is_some (reading path) ≡ true) × (t : EntryTaken reading paths values path b u before after) × Pruned t.later paths path u w
-    × (length u.slots ≡ length v.slots) × (u.tiers ≡ v.tiers))
+    × SameBlocks v u)

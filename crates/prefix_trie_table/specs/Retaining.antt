@@ -7,9 +7,9 @@ use Rattle.prefix_trie_bits.specs.Order.{same_string}
 use Rattle.prefix_trie_bits.specs.Places.{is_in, place_of}
 use Rattle.prefix_trie_bits.specs.declared.node.Place.{Place}
 use Rattle.prefix_trie_bits.specs.Model.Asking.{AsksInOrder, MayAskInOrder}
-use Rattle.prefix_trie_bits.specs.Model.Entries.{Entries}
+use Rattle.prefix_trie_bits.specs.Model.Entries.{Entries, without_below}
 use Rattle.prefix_trie_bits.specs.Model.NodeListings.{listing_at_places}
-use Rattle.prefix_trie_bits.specs.Model.Nodes.{has_node, needed}
+use Rattle.prefix_trie_bits.specs.Model.Nodes.{Nodes, has_node, needed}
 use Rattle.prefix_trie_bits.specs.Model.Selections.{listing, listing_below}
 use Rattle.prefix_trie_bits.specs.Model.Step.{State}
 use Rattle.prefix_trie_table.specs.declared.allocator.node.Node.{Node}
@@ -47,11 +47,15 @@ pub record HasPlace (n : Node) (p : Place) : Type 0 where
   pub set : is_in n.value_bitmap n.child_bitmap string ≡ true
 
 -- no block of a node's values, or of its children, is larger, or smaller than what is left needs
-abbrev pub ValuesBetween : Option Node → Option Node → Type 0
-ValuesBetween n m = StepsBetween cell_sizes (own_count n) (own_count m) (value_block_size n) (value_block_size m)
+pub record BlocksBetween (n m : Option Node) : Type 0 where
+  pub values : StepsBetween cell_sizes (own_count n) (own_count m) (value_block_size n) (value_block_size m)
+  pub children : StepsBetween node_sizes (own_children n) (own_children m) (child_block_size n) (child_block_size m)
 
-abbrev pub ChildrenBetween : Option Node → Option Node → Type 0
-ChildrenBetween n m = StepsBetween node_sizes (own_children n) (own_children m) (child_block_size n) (child_block_size m)
+-- an array is no shorter, its limit is the same, and no block is lost
+pub record Stays {S : Type 0} (v w : Store S) : Type 0 where
+  pub limit : w.limit ≡ v.limit
+  pub longer : length v.slots ≤ length w.slots
+  pub made : KeepsMade v w
 
 module _ {T : Type 0} where
   -- some stored key goes on from q
@@ -60,19 +64,13 @@ module _ {T : Type 0} where
     pub stored : contains_key m key ≡ true
     pub goes_on : begins q key ≡ true
 
-  -- no array is shorter or has lost a block, neither may become longer than it could, both limits are the same, and so are the
-  -- nodes above this level
+  -- both arrays stay, neither may become longer than it could, and the nodes above this level are the same
   pub record Lasts (level : ℕ) (v v2 : Store Node) (w w2 : Store (Option T)) : Type 0 where
     pub above : (p : List ℕ) → length p < level → read v2.slots p ≡ read v.slots p
-    pub node_limit : v2.limit ≡ v.limit
-    pub node_slots : length v.slots ≤ length v2.slots
-    pub cell_limit : w2.limit ≡ w.limit
-    pub cell_slots : length w.slots ≤ length w2.slots
+    pub nodes : Stays v v2
+    pub cells : Stays w w2
     pub settles : Settles v v2 w w2
-    pub values : (x : List ℕ) → ValuesBetween (read v.slots x) (read v2.slots x)
-    pub children : (x : List ℕ) → ChildrenBetween (read v.slots x) (read v2.slots x)
-    pub node_made : KeepsMade v v2
-    pub cell_made : KeepsMade w w2
+    pub blocks : (x : List ℕ) → BlocksBetween (read v.slots x) (read v2.slots x)
 
 -- a node stands in the slot of the site and at its path, which is no longer than the width
 pub record IsSite {K : Type 0} (IsKey : K → Type 0) (bits : K → List Bool) (width : ℕ) (v : Store Node) (p : Site K) (n : Node) : Type 0 where
@@ -127,6 +125,11 @@ module _ {F T : Type 0} (asks : F → List Bool → T → Bool → F → Type 0)
   -- the test may be asked at each entry below q
   abbrev pub MayAskBelow : ℕ → List Bool → F → ℕ → Store Node → Store (Option T) → Type 0
   MayAskBelow width q f count v w = (before : State T) → IsTrie width count v w before → MayAskInOrder asks accepts f (listing_below before.entries q)
+
+  -- the test was asked once at each entry below q, and these are gone. Of the nodes these are left
+  pub record TakesBelow (width : ℕ) (q : List Bool) (f : F) (before : State T) (f' : F) (left : Nodes) (count : ℕ) (v : Store Node) (w : Store (Option T)) : Type 0 where
+    pub trie : IsTrie width count v w (record { entries = without_below before.entries q; nodes = left })
+    pub up_to : AsksUpTo asks f (listing_below before.entries q) f'
 
   -- the test was asked at each entry that these arrays held, in listing order. They hold those now at which it answered true, and
   -- the nodes that these need

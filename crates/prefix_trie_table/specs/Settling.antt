@@ -14,10 +14,14 @@ smaller_sizes = 1 ∷ 2 ∷ 4 ∷ 8 ∷ 16 ∷ 24 ∷ []
 unfoldable pub headroom : ℕ → ℕ
 headroom size = sum_by (λ n. n) (filter (λ n. nat_lt n size) smaller_sizes)
 
--- the same of a block that may be missing
+-- a number of a size, where there is one
+abbrev pub of_any : (ℕ → ℕ) → Option ℕ → ℕ
+of_any f None = 0
+of_any f (Some size) = f size
+
+-- the headroom of a block that may be missing
 abbrev pub headroom_if_any : Option ℕ → ℕ
-headroom_if_any None = 0
-headroom_if_any (Some size) = headroom size
+headroom_if_any = of_any headroom
 
 -- the same of all blocks of these sizes
 abbrev pub headroom_of : Sizes → ℕ

@@ -6,7 +6,8 @@ use Rattle.std.specs.Prelude.{option_map}
 use Rattle.prefix_trie_bits.specs.Model.Blocks.{StepsDown, free_of, made_of, smallest_size}
 use Rattle.prefix_trie_table.specs.declared.allocator.blocks.BlockRef.{BlockRef}
 use Rattle.prefix_trie_table.specs.Cells.{HasSizes}
-use Rattle.prefix_trie_table.specs.Store.{Tier, Store, Turnover, tier_sizes, size_in, size_if_any, list_size, free_counts, free_in, many_of}
+use Rattle.prefix_trie_table.specs.Losing.{LosesOne}
+use Rattle.prefix_trie_table.specs.Store.{Tier, Store, tier_sizes, size_in, size_if_any, list_size, free_counts, free_in, many_of}
 use Rattle.prefix_trie_table.proofs.Blocks.BySize.{sizes_up, sizes_rise, tiers_long, smallest_there, size_some, many_here, many_other}
 
 -- no block is made where none is left, or the list stays
@@ -74,18 +75,14 @@ module _ (ts : List Tier) (k count : ℕ) (some : 0 < count) where
 -- ---- the list afterwards
 
 module _ {S : Type 0} (v w : Store S) (k count : ℕ) where
-  -- what becomes of the array and of the list's block, by the blocks' sizes
-  abbrev pub Left : Option ℕ → Option ℕ → Type 0
-  Left old new = Turnover v w (made_of (tier_sizes v.tiers) (free_counts v.tiers) old new) old new × StepsDown (tier_sizes v.tiers) (free_counts v.tiers) count (count - 1) old new
-
   -- where the rest stands, if any is left
-  module _ (o : Option BlockRef) (none : IsSome o ↔ (1 < count)) (left : Left (Some (size_in (tier_sizes v.tiers) k)) (option_map (λ (p : BlockRef). size_in (tier_sizes v.tiers) p.tier) o)) where
-    pub left_some : (p : BlockRef) → o ≡ Some p → Left (list_size v.tiers k count) (list_size v.tiers p.tier (count - 1))
+  module _ (o : Option BlockRef) (none : IsSome o ↔ (1 < count)) (left : LosesOne v w count (Some (size_in (tier_sizes v.tiers) k)) (option_map (λ (p : BlockRef). size_in (tier_sizes v.tiers) p.tier) o)) where
+    pub left_some : (p : BlockRef) → o ≡ Some p → LosesOne v w count (list_size v.tiers k count) (list_size v.tiers p.tier (count - 1))
     left_some p is =
         let more : 1 < count = none.0 (ap (λ q. is_some q) is) in
-        let at = subst (λ (q : Option BlockRef). Left (Some (size_in (tier_sizes v.tiers) k)) (option_map (λ (p : BlockRef). size_in (tier_sizes v.tiers) p.tier) q)) is left in
-        subst (λ o. Left o (list_size v.tiers p.tier (count - 1))) (sym (size_some count (size_in (tier_sizes v.tiers) k) (omega (arith, more))))
-        (subst (λ n. Left (Some (size_in (tier_sizes v.tiers) k)) n) (sym (size_some (count - 1) (size_in (tier_sizes v.tiers) p.tier) (omega (arith, more)))) at)
+        let at = subst (λ (q : Option BlockRef). LosesOne v w count (Some (size_in (tier_sizes v.tiers) k)) (option_map (λ (p : BlockRef). size_in (tier_sizes v.tiers) p.tier) q)) is left in
+        subst (λ o. LosesOne v w count o (list_size v.tiers p.tier (count - 1))) (sym (size_some count (size_in (tier_sizes v.tiers) k) (omega (arith, more))))
+        (subst (λ n. LosesOne v w count (Some (size_in (tier_sizes v.tiers) k)) n) (sym (size_some (count - 1) (size_in (tier_sizes v.tiers) p.tier) (omega (arith, more)))) at)
 
     pub none_left : o ≡ None → 0 < count → count ≡ 1
     none_left is some = elim (cases_lt 1 count) as (λ _. count ≡ 1) [
@@ -93,9 +90,9 @@ module _ {S : Type 0} (v w : Store S) (k count : ℕ) where
       | inr few ↦ omega (arith, few, some)
     ]
 
-    pub left_none : o ≡ None → 0 < count → Left (list_size v.tiers k count) (list_size v.tiers 0 (count - 1))
+    pub left_none : o ≡ None → 0 < count → LosesOne v w count (list_size v.tiers k count) (list_size v.tiers 0 (count - 1))
     left_none is some =
         let one = none_left is some in
-        let at = subst (λ (q : Option BlockRef). Left (Some (size_in (tier_sizes v.tiers) k)) (option_map (λ (p : BlockRef). size_in (tier_sizes v.tiers) p.tier) q)) is left in
-        subst (λ o. Left o (list_size v.tiers 0 (count - 1))) (sym (size_some count (size_in (tier_sizes v.tiers) k) some))
-        (subst (λ n. Left (Some (size_in (tier_sizes v.tiers) k)) n) (sym (ap (λ c. size_if_any c (size_in (tier_sizes v.tiers) 0)) (let e : count - 1 ≡ 0 = omega (arith, one) in e))) at)
+        let at = subst (λ (q : Option BlockRef). LosesOne v w count (Some (size_in (tier_sizes v.tiers) k)) (option_map (λ (p : BlockRef). size_in (tier_sizes v.tiers) p.tier) q)) is left in
+        subst (λ o. LosesOne v w count o (list_size v.tiers 0 (count - 1))) (sym (size_some count (size_in (tier_sizes v.tiers) k) some))
+        (subst (λ n. LosesOne v w count (Some (size_in (tier_sizes v.tiers) k)) n) (sym (ap (λ c. size_if_any c (size_in (tier_sizes v.tiers) 0)) (let e : count - 1 ≡ 0 = omega (arith, one) in e))) at)

@@ -1,8 +1,10 @@
 -- The sizes of the blocks of the nodes in an array, by the strings of the nodes.
-use Rattle.std.proofs.Common.{◌≡◌, ℕ, inl, inr, Bool, true, false, cond, ◌&&◌, ◌||◌, List, [], ◌∷◌, map, length, Option, None, Some, is_some, refl, sym, ap, ◌∙◌, subst}
+use Rattle.std.proofs.Common.{◌≡◌, ℕ, ◌+◌, inl, inr, Bool, true, false, cond, sum_by, arith, ◌&&◌, ◌||◌, List, [], ◌∷◌, map, length, Option, None, Some, is_some, refl, sym, ap, ◌∙◌, subst}
 use Rattle.std.proofs.lemmas.Bool.{cases_Bool}
 use Rattle.std.specs.List.{list_any}
-use Rattle.std.specs.FinMap.{get, empty, insert, get-insert, get-empty}
+use Rattle.std.specs.FinMap.{get, empty, insert, get-insert, get-empty, entries, values, contains_key}
+use Rattle.std.proofs.lemmas.List.Sums.{sum_by-cons}
+use Rattle.prefix_trie_bits.proofs.Model.Ordered.{entries-empty}
 use Rattle.prefix_trie_bits.specs.Order.{listing_total, same_string}
 use Rattle.prefix_trie_bits.specs.Model.Blocks.{Sizes, Layout, no_layout}
 use Rattle.prefix_trie_bits.specs.Model.Nodes.{is_node_depth}
@@ -13,8 +15,11 @@ use Rattle.prefix_trie_table.specs.Digits.{path_of}
 use Rattle.prefix_trie_table.specs.Cells.{node_sizes, cell_sizes}
 use Rattle.prefix_trie_table.specs.Store.{Store, Tier, no_blocks, size_in, size_if_any, free_counts}
 use Rattle.prefix_trie_table.specs.Forest.{NodesHold, Holds, SomeTable}
+use Rattle.prefix_trie_table.specs.Settling.{of_any}
+use Rattle.prefix_trie_table.proofs.Strings.Filling.{sum-fresh}
+use Rattle.prefix_trie_table.proofs.Blocks.SlotSums.{sum_by-mapped}
 use Rattle.prefix_trie_table.specs.Layouts.{AreSizesBy, Sized, Sized-prop, child_block_size, value_block_size}
-use Rattle.prefix_trie_table.proofs.Strings.PathStrings.{string_at, string_path, AreSteps, first_steps, other_steps, paths_steps, listed_at}
+use Rattle.prefix_trie_table.proofs.Strings.PathStrings.{string_at, string_path, AreSteps, AreOnce, first_steps, other_steps, other_once, fresh_string, paths_steps, listed_at}
 use Rattle.prefix_trie_table.proofs.Strings.BitLists.{rank-zero-all}
 use Rattle.prefix_trie_table.proofs.Tree.Shapes.{root_reading, no_values, root_here}
 use Rattle.prefix_trie_table.proofs.Tree.Trees.{reads}
@@ -60,6 +65,26 @@ module _ (size : List ℕ → Option ℕ) where
             get-with_size (sizes_at size paths) s (string_at x) (size x) miss ∙ rest
             ∙ sym (ap (λ b. cond (b || list_any (same_string s) (map string_at paths)) (size (path_of s)) None) miss)
       ]
+
+-- what counts each size counts the paths, each of which stands once
+module _ (f : ℕ → ℕ) (size : List ℕ → Option ℕ) where
+  more_sized : (m : Sizes) (s : List Bool) (o : Option ℕ) → contains_key m s ≡ false →
+      sum_by (λ (e : List Bool × ℕ). f e.1) (entries (with_size m s o)) ≡ of_any f o + sum_by (λ (e : List Bool × ℕ). f e.1) (entries m)
+  more_sized m s None fresh = omega arith
+  more_sized m s (Some n) fresh = sum-fresh (λ (e : List Bool × ℕ). f e.1) m s n fresh
+
+  entries_sum : (paths : List (List ℕ)) → AreSteps paths → AreOnce paths →
+      sum_by (λ (e : List Bool × ℕ). f e.1) (entries (sizes_at size paths)) ≡ sum_by (λ p. of_any f (size p)) paths
+  entries_sum [] steps once = ap (sum_by (λ (e : List Bool × ℕ). f e.1)) (entries-empty ℕ)
+  entries_sum (x ∷ paths) steps once =
+      more_sized (sizes_at size paths) (string_at x) (size x)
+      (ap is_some (get-sizes_at size paths (other_steps x paths steps) (string_at x))
+      ∙ ap (λ b. is_some (cond b (size (path_of (string_at x))) None)) (fresh_string x paths steps once))
+      ∙ ap (λ n. of_any f (size x) + n) (entries_sum paths (other_steps x paths steps) (other_once x paths once))
+      ∙ sym (sum_by-cons (λ p. of_any f (size p)) x paths)
+
+  pub sizes_sum : (paths : List (List ℕ)) → AreSteps paths → AreOnce paths → sum_by f (values (sizes_at size paths)) ≡ sum_by (λ p. of_any f (size p)) paths
+  sizes_sum paths steps once = sum_by-mapped f (λ (e : List Bool × ℕ). e.1) (entries (sizes_at size paths)) ∙ entries_sum paths steps once
 
 module _ (sizes : List ℕ) (nodes : List ℕ → Option Node) (paths : List (List ℕ)) (v : Store Node) (hold : NodesHold sizes nodes paths v) where
   -- the sizes at the paths of the nodes are those of the nodes

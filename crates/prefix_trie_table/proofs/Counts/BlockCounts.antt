@@ -1,28 +1,25 @@
 -- How many blocks of each size are in use and free.
-use Rattle.std.proofs.Common.{◌≡◌, ℕ, suc, ◌+◌, ◌-◌, ◌*◌, ◌<◌, ◌≤◌, Bool, false, cond, ◌==◌, List, [], ◌∷◌, length, map, flat_map, count_by, sum_by, All, Option, None, Some, is_some, refl, sym, ap, ap₂, ◌∙◌, arith, eqb-true, eq-eqb}
+use Rattle.std.proofs.Common.{◌≡◌, ℕ, suc, ◌+◌, ◌-◌, ◌*◌, ◌<◌, ◌≤◌, cond, ◌==◌, List, [], ◌∷◌, length, map, flat_map, count_by, sum_by, All, Option, None, Some, refl, sym, ap, ap₂, ◌∙◌, arith, eqb-true, eq-eqb}
 use Rattle.std.specs.Prelude.{position}
-use Rattle.std.specs.FinMap.{entries, values, contains_key}
+use Rattle.std.specs.FinMap.{values}
 use Rattle.std.proofs.lemmas.List.Elements.{All-head}
 use Rattle.std.proofs.lemmas.List.Sums.{sum_by-cons, sum_by-append}
 use Rattle.prefix_trie_bits.specs.Begins.{same_bool}
 use Rattle.prefix_trie_bits.specs.Model.Blocks.{Sizes, used_of}
-use Rattle.prefix_trie_bits.proofs.Model.Ordered.{entries-empty}
 use Rattle.prefix_trie_table.specs.declared.allocator.node.Node.{Node}
-use Rattle.prefix_trie_table.specs.Digits.{path_of}
 use Rattle.prefix_trie_table.specs.BlockCounts.{tier_count, block_counts, slots_counted}
 use Rattle.prefix_trie_table.specs.Bitmaps.{bits}
 use Rattle.prefix_trie_table.specs.Cells.{node_sizes, cell_sizes}
 use Rattle.prefix_trie_table.specs.Store.{Tier, UsedBlock, Sound, Store, IsOfTier, tier_at, tier_sizes, slots_made, held, size_in, size_if_any, free_counts}
 use Rattle.prefix_trie_table.specs.Forest.{NodesHold, CellsHold, child_items, child_blocks, child_blocks_of, value_blocks, value_blocks_of}
+use Rattle.prefix_trie_table.specs.Settling.{of_any}
 use Rattle.prefix_trie_table.specs.Layouts.{Sized, child_block_size, value_block_size}
 use Rattle.prefix_trie_table.proofs.Strings.Plain.{some_same}
 use Rattle.prefix_trie_table.proofs.Blocks.SevenTiers.{at_seven}
 use Rattle.prefix_trie_table.proofs.Blocks.BySize.{tiers_long}
 use Rattle.prefix_trie_table.proofs.Strings.BitLists.{rank-all}
-use Rattle.prefix_trie_table.proofs.Strings.Filling.{sum-fresh}
-use Rattle.prefix_trie_table.proofs.Strings.PathStrings.{string_at, AreSteps, AreOnce, other_steps, other_once, fresh_string, paths_steps, paths_once}
-use Rattle.prefix_trie_table.proofs.Blocks.Sizing.{with_size, sizes_at, get-sizes_at, sizes_only}
-use Rattle.prefix_trie_table.proofs.Blocks.SlotSums.{sum_by-mapped}
+use Rattle.prefix_trie_table.proofs.Strings.PathStrings.{AreSteps, AreOnce, paths_steps, paths_once}
+use Rattle.prefix_trie_table.proofs.Blocks.Sizing.{sizes_at, sizes_sum, sizes_only}
 use Rattle.prefix_trie_table.proofs.Blocks.Tilings.{All-append_left, All-append_right}
 
 -- a list of seven tiers is that of the tier at each number
@@ -40,39 +37,23 @@ seven_tiers (a ∷ b ∷ c ∷ d ∷ m ∷ n ∷ o ∷ p ∷ ts) e = absurd (ome
 
 -- how often a size stands there
 abbrev has_size : ℕ → Option ℕ → ℕ
-has_size n None = 0
-has_size n (Some m) = cond (m == n) 1 0
-
-abbrev of_this_size : ℕ → List Bool × ℕ → ℕ
-of_this_size n e = cond (e.1 == n) 1 0
+has_size n = of_any (λ m. cond (m == n) 1 0)
 
 -- the blocks of a tier are as many as the sizes that are its size
 module _ {S : Type 0} (g : List ℕ → Option ℕ) (f : List ℕ → List (UsedBlock S)) (k n : ℕ) (ts : List Tier)
     (each : (p : List ℕ) → All (IsOfTier ts) (f p) → count_by (λ b. b.tier == k) (f p) ≡ has_size n (g p)) where
-  size_added : (m : Sizes) (s : List Bool) (o : Option ℕ) → contains_key m s ≡ false →
-      sum_by (of_this_size n) (entries (with_size m s o)) ≡ has_size n o + sum_by (of_this_size n) (entries m)
-  size_added m s None fresh = omega arith
-  size_added m s (Some v) fresh = sum-fresh (of_this_size n) m s v fresh
-
-  fresh_size : (x : List ℕ) (paths : List (List ℕ)) → AreSteps (x ∷ paths) → AreOnce (x ∷ paths) → contains_key (sizes_at g paths) (string_at x) ≡ false
-  fresh_size x paths steps once =
-      ap is_some (get-sizes_at g paths (other_steps x paths steps) (string_at x))
-      ∙ ap (λ b. is_some (cond b (g (path_of (string_at x))) None)) (fresh_string x paths steps once)
-
-  blocks_sized : (paths : List (List ℕ)) → AreSteps paths → AreOnce paths → All (IsOfTier ts) (flat_map f paths) →
-      count_by (λ b. b.tier == k) (flat_map f paths) ≡ sum_by (of_this_size n) (entries (sizes_at g paths))
-  blocks_sized [] steps once of = sym (ap (sum_by (of_this_size n)) (entries-empty ℕ))
-  blocks_sized (x ∷ paths) steps once of =
+  blocks_by_path : (paths : List (List ℕ)) → All (IsOfTier ts) (flat_map f paths) → count_by (λ b. b.tier == k) (flat_map f paths) ≡ sum_by (λ p. has_size n (g p)) paths
+  blocks_by_path [] of = refl
+  blocks_by_path (x ∷ paths) of =
       sum_by-append (λ b. cond (b.tier == k) 1 0) (f x) (flat_map f paths)
       ∙ ap₂ (λ a b. a + b) (each x (All-append_left (IsOfTier ts) (f x) (flat_map f paths) of))
-      (blocks_sized paths (other_steps x paths steps) (other_once x paths once) (All-append_right (IsOfTier ts) (f x) (flat_map f paths) of))
-      ∙ sym (size_added (sizes_at g paths) (string_at x) (g x) (fresh_size x paths steps once))
+      (blocks_by_path paths (All-append_right (IsOfTier ts) (f x) (flat_map f paths) of))
+      ∙ sym (sum_by-cons (λ p. has_size n (g p)) x paths)
 
   -- of this size are as many values as blocks are of this tier
   pub blocks_of_size : (paths : List (List ℕ)) → AreSteps paths → AreOnce paths → All (IsOfTier ts) (flat_map f paths) →
       count_by (λ b. b.tier == k) (flat_map f paths) ≡ count_by (λ m. m == n) (values (sizes_at g paths))
-  blocks_of_size paths steps once of =
-      blocks_sized paths steps once of ∙ sym (sum_by-mapped (λ m. cond (m == n) 1 0) (λ (e : List Bool × ℕ). e.1) (entries (sizes_at g paths)))
+  blocks_of_size paths steps once of = blocks_by_path paths of ∙ sym (sizes_sum (λ m. cond (m == n) 1 0) g paths steps once)
 
 -- the sizes differ: each is found at its own place
 abbrev AreApart : List ℕ → Type 0

@@ -1,33 +1,26 @@
 -- The blocks in use are as many as the nodes with children, and as those with values of their own.
-use Rattle.std.proofs.Common.{◌≡◌, ◌≢◌, ℕ, zero, suc, ◌+◌, ◌-◌, ◌*◌, ◌/◌, ◌%◌, ◌<◌, ◌≤◌, Bool, true, false, cond, ◌==◌, ◌&&◌, List, [], ◌∷◌, ◌++◌, length, length-append, map, filter, flat_map, count_by, sum_by, drop, nat_lt, All, Option, None, Some, is_some, refl, sym, ap, ap₂, ◌∙◌, arith, eqb-true, eq-eqb, ltb-true, lt-ltb}
-use Rattle.std.proofs.lemmas.Bool.{false≢true, false_from_ne_true}
+use Rattle.std.proofs.Common.{◌≡◌, ◌≢◌, ℕ, zero, suc, ◌+◌, ◌-◌, ◌%◌, ◌<◌, Bool, true, false, cond, ◌==◌, ◌&&◌, ◌||◌, List, [], ◌∷◌, length, map, filter, flat_map, count_by, sum_by, nat_lt, All, Option, None, Some, is_some, refl, sym, ap, ap₂, ◌∙◌, arith, eq-eqb, lt-ltb}
+use Rattle.std.specs.List.{list_any}
 use Rattle.std.proofs.lemmas.Bool.Decides.{nat_tests}
 use Rattle.std.proofs.lemmas.List.Elements.{All-head, All-tail}
 use Rattle.std.proofs.lemmas.List.Concat.{length-flat_map}
 use Rattle.std.proofs.lemmas.List.Sums.{sum_by-cons, length-filter}
-use Rattle.std.specs.FinMap.{entries, keys, contains_key, get}
-use Rattle.prefix_trie_bits.specs.Bits.{begins, number, digits}
-use Rattle.prefix_trie_bits.specs.Begins.{begins-append, begins-rest}
-use Rattle.prefix_trie_bits.specs.BitStrings.{length-digits}
-use Rattle.prefix_trie_bits.specs.Places.{value_bit}
+use Rattle.std.specs.FinMap.{entries, keys, get}
 use Rattle.prefix_trie_bits.specs.Model.Entries.{Entries}
 use Rattle.prefix_trie_bits.specs.Model.Nodes.{Nodes, has_node, is_node_depth, is_parent, is_holder, parents, holders}
-use Rattle.prefix_trie_bits.proofs.Model.Members.{and-first, and-second, and-join, some-key, of-key}
 use Rattle.prefix_trie_bits.proofs.Model.Ordered.{entries-empty}
 use Rattle.prefix_trie_table.specs.declared.allocator.node.Node.{Node}
 use Rattle.prefix_trie_table.specs.BlockCounts.{tier_count, used_blocks}
-use Rattle.prefix_trie_table.specs.Bitmaps.{has_bit, rank, bits}
+use Rattle.prefix_trie_table.specs.Bitmaps.{bits}
 use Rattle.prefix_trie_table.specs.Cells.{blank_node, node_sizes, cell_sizes}
 use Rattle.prefix_trie_table.specs.Digits.{path_of, bit_of}
 use Rattle.prefix_trie_table.specs.Store.{Tier, UsedBlock, Sound, Store, IsOfTier, tier_at, held}
 use Rattle.prefix_trie_table.specs.Forest.{NodesHold, CellsHold, times, has_child, has_value, child_items, child_blocks, child_blocks_of, value_blocks, value_blocks_of, size_in, node_or_blank}
+use Rattle.prefix_trie_table.proofs.Counts.OwnCounts.{children_counted, values_counted}
 use Rattle.prefix_trie_table.proofs.Strings.PathSums.{sum_same}
-use Rattle.prefix_trie_table.proofs.Strings.Bare.{no_bit, some_bit}
-use Rattle.prefix_trie_table.proofs.Strings.Bits.{has_bit-below}
 use Rattle.prefix_trie_table.proofs.Strings.BitLists.{rank-all}
 use Rattle.prefix_trie_table.proofs.Strings.Filling.{sum-fresh}
 use Rattle.prefix_trie_table.proofs.Strings.PathStrings.{string_at, string_path, string_depth, nodes_at, AreSteps, AreOnce, other_steps, other_once, new_string, paths_steps, paths_once, listed_some, same_nodes}
-use Rattle.prefix_trie_table.proofs.Strings.Placing as placing
 use Rattle.prefix_trie_table.proofs.Blocks.SlotSums.{sum_by-mapped}
 use Rattle.prefix_trie_table.proofs.Tree.Trees.{is_some-Some}
 
@@ -61,6 +54,14 @@ used_total (t ∷ ts) f h =
     sum_by-cons (λ b. b.used) (tier_count t) (map tier_count ts)
     ∙ ap₂ (λ a b. a + b) here (used_total ts (λ j. f (suc j)) (λ k inside. h (suc k) (omega arith)))
 
+-- any passes where some are left
+any_filtered : (test : List Bool → Bool) (ks : List (List Bool)) → list_any test ks ≡ nat_lt 0 (length (filter test ks))
+any_filtered test [] = refl
+any_filtered test (k ∷ ks) = elim (test k) as (λ b. (b || list_any test ks) ≡ nat_lt 0 (length (cond b (k ∷ filter test ks) (filter test ks)))) [
+  | true ↦ sym (lt-ltb 0 (suc (length (filter test ks))) (omega arith))
+  | false ↦ any_filtered test ks
+]
+
 module _ {S : Type 0} where
   is_tier-same : (b : UsedBlock S) (k : ℕ) → b.tier ≡ k → ◌≡◌ {A = ℕ} (cond (b.tier == k) 1 0) 1
   is_tier-same b k e = grind (arith, nat_tests)
@@ -83,11 +84,11 @@ module _ {S : Type 0} where
   used_live : (vacant : S) (live : List (UsedBlock S)) (v : Store S) → Sound vacant live v → used_blocks (map tier_count v.tiers) ≡ length live
   used_live vacant live v s = used_total v.tiers (λ k. count_by (λ b. b.tier == k) live) s.counted ∙ blocks_total v.tiers live s.of_tier
 
-  -- a list that has anything has one block
-  held_length : (k start size : ℕ) (xs : List S) (r : ℕ) → length xs ≡ r → (b : Bool) → (0 < r → b ≡ true) → (r ≡ 0 → b ≡ false) →
-      cond b 1 0 ≡ length (held k start size xs)
-  held_length k start size [] r e b some none = ap (λ c. cond c 1 0) (none (sym e))
-  held_length k start size (x ∷ xs) r e b some none = ap (λ c. cond c 1 0) (some (omega (arith, e)))
+  -- a list that has as many items as keys pass a test has one block, where any passes
+  held_length : (k start size : ℕ) (xs : List S) (test : List Bool → Bool) (ks : List (List Bool)) → length (filter test ks) ≡ length xs →
+      cond (list_any test ks) 1 0 ≡ length (held k start size xs)
+  held_length k start size [] test ks e = ap (λ c. cond c 1 0) (any_filtered test ks ∙ ap (nat_lt 0) e)
+  held_length k start size (x ∷ xs) test ks e = ap (λ c. cond c 1 0) (any_filtered test ks ∙ ap (nat_lt 0) e ∙ lt-ltb 0 (suc (length xs)) (omega arith))
 
 -- a sum over the nodes is one over their paths
 pub nodes_sum : (h : List Bool × Unit {0} → ℕ) (paths : List (List ℕ)) → AreSteps paths → AreOnce paths →
@@ -97,19 +98,6 @@ nodes_sum h (x ∷ paths) steps once =
     sum-fresh h (nodes_at paths) (string_at x) tt (new_string x paths steps once)
     ∙ ap (λ n. h (string_at x, tt) + n) (nodes_sum h paths (other_steps x paths steps) (other_once x paths once))
     ∙ sym (sum_by-cons (λ p. h (string_at p, tt)) x paths)
-
--- a string's length in steps
-string_long : (p : List ℕ) → length (string_at p) ≡ 5 * (length (string_at p) / 5)
-string_long p = fives (length (string_at p)) (string_depth p)
-  where
-    fives : (l : ℕ) → l % 5 ≡ 0 → l ≡ 5 * (l / 5)
-    fives l e = omega (arith, e)
-
-five_deep : (p : List ℕ) (s : List Bool) → length s ≡ length (string_at p) + 5 → length s % 5 ≡ 0
-five_deep p s e = fives (length s) (length (string_at p)) (string_depth p) e
-  where
-    fives : (l k : ℕ) → k % 5 ≡ 0 → l ≡ k + 5 → l % 5 ≡ 0
-    fives l k e f = omega (arith, e, f)
 
 module _ (reading : List ℕ → Option Node) (paths : List (List ℕ)) (v : Store Node) (hold : NodesHold node_sizes reading paths v) (n : Nodes)
     (are : (s : List Bool) → has_node n s ≡ (is_node_depth s && is_some (reading (path_of s)))) where
@@ -131,50 +119,14 @@ module _ (reading : List ℕ → Option Node) (paths : List (List ℕ)) (v : Sto
     own_node : reading p ≡ Some (node_or_blank (reading p))
     own_node = is_some-Some (reading p) (listed_some node_sizes reading paths v hold p listed)
 
-    -- a child of the node extends it by five bits
-    child_extends : (m : Node) → reading p ≡ Some m → (c : ℕ) → has_bit m.child_bitmap c ≡ true → is_parent n (string_at p) ≡ true
-    child_extends m e c set =
-        let s : List Bool = string_at p ++ digits 5 c in
-        let path : path_of (string_at p ++ digits 5 c) ≡ p ++ c ∷ [] =
-        placing.step_below (length (string_at p) / 5) (string_at p) c (string_long p) (has_bit-below m.child_bitmap c set) ∙ ap (λ q. q ++ c ∷ []) own_path in
-        let long : length (string_at p ++ digits 5 c) ≡ length (string_at p) + 5 =
-        length-append (string_at p) (digits 5 c) ∙ ap (λ l. length (string_at p) + l) (length-digits 5 c) in
-        let stands : has_node n (string_at p ++ digits 5 c) ≡ true =
-        are (string_at p ++ digits 5 c)
-        ∙ and-join (is_node_depth (string_at p ++ digits 5 c)) (is_some (reading (path_of (string_at p ++ digits 5 c))))
-        (eq-eqb (length (string_at p ++ digits 5 c) % 5) 0 (five_deep p (string_at p ++ digits 5 c) long))
-        (ap (λ q. is_some (reading q)) path ∙ hold.linked p c ∙ ap (λ o. has_child o c) e ∙ set) in
-        of-key n (λ t. begins (string_at p) t && (length t == length (string_at p) + 5)) (string_at p ++ digits 5 c) stands
-        (and-join (begins (string_at p) (string_at p ++ digits 5 c)) (length (string_at p ++ digits 5 c) == length (string_at p) + 5)
-        (begins-append (string_at p) (digits 5 c)) (eq-eqb (length (string_at p ++ digits 5 c)) (length (string_at p) + 5) long))
-
-    -- and what extends it by five bits is a child
-    extends_child : (m : Node) → reading p ≡ Some m → is_parent n (string_at p) ≡ true → (c : ℕ) × (has_bit m.child_bitmap c ≡ true)
-    extends_child m e h =
-        let k = some-key n (λ t. begins (string_at p) t && (length t == length (string_at p) + 5)) h in
-        let begun : begins (string_at p) k.0 ≡ true = and-first (begins (string_at p) k.0) (length k.0 == length (string_at p) + 5) k.2 in
-        let long : length k.0 ≡ length (string_at p) + 5 =
-        eqb-true (length k.0) (length (string_at p) + 5) (and-second (begins (string_at p) k.0) (length k.0 == length (string_at p) + 5) k.2) in
-        let rest : k.0 ≡ string_at p ++ drop (length (string_at p)) k.0 = begins-rest (string_at p) k.0 begun in
-        let five : length (drop (length (string_at p)) k.0) ≡ 5 =
-        (let all : length k.0 ≡ length (string_at p) + length (drop (length (string_at p)) k.0) = ap (λ t. length t) rest ∙ length-append (string_at p) (drop (length (string_at p)) k.0) in
-        omega (arith, all, long)) in
-        let path : path_of k.0 ≡ p ++ number (drop (length (string_at p)) k.0) ∷ [] =
-        ap path_of rest ∙ placing.five_below (length (string_at p) / 5) (string_at p) (drop (length (string_at p)) k.0) (string_long p) five
-        ∙ ap (λ q. q ++ number (drop (length (string_at p)) k.0) ∷ []) own_path in
-        let stands : is_some (reading (path_of k.0)) ≡ true = and-second (is_node_depth k.0) (is_some (reading (path_of k.0))) (sym (are k.0) ∙ k.1) in (
-          number (drop (length (string_at p)) k.0),
-          ap (λ o. has_child o (number (drop (length (string_at p)) k.0))) (sym e)
-              ∙ sym (hold.linked p (number (drop (length (string_at p)) k.0))) ∙ ap (λ q. is_some (reading q)) (sym path) ∙ stands,
-        )
+    own_depth : is_node_depth (string_at p) ≡ true
+    own_depth = eq-eqb (length (string_at p) % 5) 0 (string_depth p)
 
     parent_counted : (m : Node) → reading p ≡ Some m → cond (is_parent n (string_at p)) 1 0 ≡ length (child_blocks node_sizes reading p)
     parent_counted m e =
-        held_length m.child_tier m.child_block (size_in node_sizes m.child_tier) (child_items reading p m.child_bitmap) (rank m.child_bitmap 32)
-        (rank-all _ m.child_bitmap) (is_parent n (string_at p))
-        (λ some. let c = some_bit m.child_bitmap some in child_extends m e c.0 c.1)
-        (λ none. false_from_ne_true (is_parent n (string_at p)) (λ h. let c = extends_child m e h in
-        false≢true (sym (no_bit m.child_bitmap c.0 none) ∙ c.1)))
+        held_length m.child_tier m.child_block (size_in node_sizes m.child_tier) (child_items reading p m.child_bitmap) _ (keys n)
+        (children_counted node_sizes reading paths v hold (string_at p) own_depth n are m.child_bitmap (λ c. ap (λ o. has_child o c) (ap reading own_path ∙ e))
+        ∙ sym (rank-all _ m.child_bitmap))
         ∙ ap (λ o. length (child_blocks_of node_sizes reading p o)) (sym e)
 
   -- the parents are as many as the blocks of children
@@ -185,46 +137,13 @@ module _ (reading : List ℕ → Option Node) (paths : List (List ℕ)) (v : Sto
 
   module _ {T : Type 0} (values : List ℕ → ℕ → Option T) (w : Store (Option T)) (cells : CellsHold cell_sizes reading values paths w) (m : Entries T)
       (stored : (s : List Bool) → get m s ≡ values (path_of s) (bit_of s)) where
-    module _ (p : List ℕ) (listed : 0 < times p paths) where
-      -- a value of the node is that of a key that extends it by less than five bits
-      value_extends : (x : Node) → reading p ≡ Some x → (b : ℕ) → has_bit x.value_bitmap b ≡ true → is_holder m (string_at p) ≡ true
-      value_extends x e b set =
-          let value : is_some (values p b) ≡ true = cells.set_where p b ∙ ap (λ o. has_value o b) e ∙ set in
-          let r = placing.string_at b (cells.within p b value) in
-          let at = placing.below_node (length (string_at p) / 5) (string_at p) r.0 (string_long p) r.1 in
-          let is : contains_key m (string_at p ++ r.0) ≡ true =
-          ap is_some (stored (string_at p ++ r.0) ∙ ap₂ values (at.0 ∙ own_path p listed) (ap value_bit at.1 ∙ r.2)) ∙ value in
-          let less : length (string_at p ++ r.0) < length (string_at p) + 5 = (let l = length-append (string_at p) r.0 in let s = r.1 in omega (arith, l, s)) in
-          of-key m (λ s. begins (string_at p) s && nat_lt (length s) (length (string_at p) + 5)) (string_at p ++ r.0) is
-          (and-join (begins (string_at p) (string_at p ++ r.0)) (nat_lt (length (string_at p ++ r.0)) (length (string_at p) + 5)) (begins-append (string_at p) r.0)
-          (lt-ltb (length (string_at p ++ r.0)) (length (string_at p) + 5) less))
-
-      -- and such a key has a value in the node
-      extends_value : (x : Node) → reading p ≡ Some x → is_holder m (string_at p) ≡ true → (b : ℕ) × (has_bit x.value_bitmap b ≡ true)
-      extends_value x e h =
-          let k = some-key m (λ s. begins (string_at p) s && nat_lt (length s) (length (string_at p) + 5)) h in
-          let begun : begins (string_at p) k.0 ≡ true = and-first (begins (string_at p) k.0) (nat_lt (length k.0) (length (string_at p) + 5)) k.2 in
-          let less : length k.0 < length (string_at p) + 5 =
-          ltb-true (length k.0) (length (string_at p) + 5) (and-second (begins (string_at p) k.0) (nat_lt (length k.0) (length (string_at p) + 5)) k.2) in
-          let rest : k.0 ≡ string_at p ++ drop (length (string_at p)) k.0 = begins-rest (string_at p) k.0 begun in
-          let few : length (drop (length (string_at p)) k.0) ≤ 4 =
-          (let all : length k.0 ≡ length (string_at p) + length (drop (length (string_at p)) k.0) = ap (λ t. length t) rest ∙ length-append (string_at p) (drop (length (string_at p)) k.0) in
-          omega (arith, all, less)) in
-          let path : path_of k.0 ≡ p =
-          ap path_of rest ∙ (placing.below_node (length (string_at p) / 5) (string_at p) (drop (length (string_at p)) k.0) (string_long p) few).0 ∙ own_path p listed in (
-            bit_of k.0,
-            ap (λ o. has_value o (bit_of k.0)) (sym e) ∙ sym (cells.set_where p (bit_of k.0)) ∙ ap (λ q. is_some (values q (bit_of k.0))) (sym path)
-                ∙ ap is_some (sym (stored k.0)) ∙ k.1,
-          )
-
-      holder_counted : (x : Node) → reading p ≡ Some x → cond (is_holder m (string_at p)) 1 0 ≡ length (value_blocks cell_sizes reading values p)
-      holder_counted x e =
-          held_length x.value_tier x.value_block (size_in cell_sizes x.value_tier) (map (values p) (bits x.value_bitmap)) (rank x.value_bitmap 32)
-          (rank-all _ x.value_bitmap) (is_holder m (string_at p))
-          (λ some. let b = some_bit x.value_bitmap some in value_extends x e b.0 b.1)
-          (λ none. false_from_ne_true (is_holder m (string_at p)) (λ h. let b = extends_value x e h in
-          false≢true (sym (no_bit x.value_bitmap b.0 none) ∙ b.1)))
-          ∙ ap (λ o. length (value_blocks_of cell_sizes values p o)) (sym e)
+    holder_counted : (p : List ℕ) → 0 < times p paths → (x : Node) → reading p ≡ Some x →
+        cond (is_holder m (string_at p)) 1 0 ≡ length (value_blocks cell_sizes reading values p)
+    holder_counted p listed x e =
+        held_length x.value_tier x.value_block (size_in cell_sizes x.value_tier) (map (values p) (bits x.value_bitmap)) _ (keys m)
+        (values_counted node_sizes reading paths v hold (string_at p) (own_depth p listed) values w cell_sizes cells m stored x.value_bitmap
+        (λ b. ap (λ o. has_value o b) (ap reading (own_path p listed) ∙ e)) ∙ sym (rank-all _ x.value_bitmap))
+        ∙ ap (λ o. length (value_blocks_of cell_sizes values p o)) (sym e)
 
     -- the holders are as many as the blocks of values
     pub holders_used : length (holders m n) ≡ used_blocks (map tier_count w.tiers)

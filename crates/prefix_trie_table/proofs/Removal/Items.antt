@@ -15,6 +15,7 @@ use Rattle.prefix_trie_table.specs.Cells.{blank_node, node_at, node_sizes, cell_
 use Rattle.prefix_trie_table.specs.OwnBlocks.{child_block_size, value_block_size}
 use Rattle.prefix_trie_table.specs.Store.{Store, UsedBlock, Sound, block, held, HasList, Keeps, Turnover, tier_at, tier_sizes, size_in, size_if_any, list_size, free_counts, made_in}
 use Rattle.prefix_trie_table.specs.Forest.{without, child_items, child_blocks, IsSlot, NodesHold, CellsHold, value_blocks, with_node, lacking_child, node_or_blank}
+use Rattle.prefix_trie_table.specs.Losing.{LosesOne}
 use Rattle.prefix_trie_table.specs.Removals.{Lessens, MakesEntered, ValueTaken, ChildDropped, GivesBack}
 use Rattle.prefix_trie_table.specs.Settling.{headroom_if_any, child_headroom}
 use Rattle.prefix_trie_table.specs.Tables.{Grows}
@@ -49,8 +50,7 @@ pub record Lost {S : Type 0} (vacant : S) (sizes : List ℕ) (v w : Store S) (k 
   pub keeps : Keeps v w
   pub grows : Grows v w 24
   pub back : count ≤ 1 → GivesBack v w
-  pub lessens : (left : ℕ) → left + 1 ≡ count → Lessens sizes v w count left (size_if_any count (size_in sizes k)) (size_if_any left (size_in sizes to))
-  pub made : (left : ℕ) → left + 1 ≡ count → MakesEntered sizes v w (size_if_any count (size_in sizes k)) (size_if_any left (size_in sizes to))
+  pub lessens : (left : ℕ) → left + 1 ≡ count → Lessens MakesEntered sizes v w count left (size_if_any count (size_in sizes k)) (size_if_any left (size_in sizes to))
   pub down : (left : ℕ) → left + 1 ≡ count → length w.slots + headroom_if_any (size_if_any left (size_in sizes to)) ≤
       length v.slots + headroom_if_any (size_if_any count (size_in sizes k))
   pub sound : (n : ℕ) (xs : List S) (live : List (UsedBlock S)) → Sound vacant (held k start n xs ++ live) v → length xs ≡ count →
@@ -59,27 +59,29 @@ pub record Lost {S : Type 0} (vacant : S) (sizes : List ℕ) (v w : Store S) (k 
 -- a call that takes an item out of a list, and answers where the list stands then
 module _ {S : Type 0} (vacant : S) (v w : Store S) (k start count place : ℕ) (next : BlockRef) (top : ℕ) (are : tier_sizes v.tiers ≡ sizes_to top)
     (up : goes_up 0 (sizes_to top) ≡ true) (rooms : all_rooms (sizes_to top) ≡ true) (list : HasList vacant v k start count) (some : 0 < count) (within : next.tier < length v.tiers)
-    (turned : Turnover v w (made_of (tier_sizes v.tiers) (free_counts v.tiers) (list_size v.tiers k count) (list_size v.tiers next.tier (count - 1)))
-    (list_size v.tiers k count) (list_size v.tiers next.tier (count - 1)))
-    (steps : StepsDown (tier_sizes v.tiers) (free_counts v.tiers) count (count - 1) (list_size v.tiers k count) (list_size v.tiers next.tier (count - 1))) where
+    (loses : LosesOne v w count (list_size v.tiers k count) (list_size v.tiers next.tier (count - 1))) where
   -- its block, and what became of the array then
   from_block : Turnover v w (made_of (tier_sizes v.tiers) (free_counts v.tiers) (Some (size_in (tier_sizes v.tiers) k)) (list_size v.tiers next.tier (count - 1)))
       (Some (size_in (tier_sizes v.tiers) k)) (list_size v.tiers next.tier (count - 1))
   from_block =
       subst (λ o. Turnover v w (made_of (tier_sizes v.tiers) (free_counts v.tiers) o (list_size v.tiers next.tier (count - 1))) o (list_size v.tiers next.tier (count - 1)))
-      (size_some count (size_in (tier_sizes v.tiers) k) some) turned
+      (size_some count (size_in (tier_sizes v.tiers) k) some) loses.turnover
 
-  lessens_one : Lessens (sizes_to top) v w count (count - 1) (size_if_any count (size_in (sizes_to top) k)) (size_if_any (count - 1) (size_in (sizes_to top) next.tier))
+  lessens_one : Lessens MakesEntered (sizes_to top) v w count (count - 1) (size_if_any count (size_in (sizes_to top) k)) (size_if_any (count - 1) (size_in (sizes_to top) next.tier))
   lessens_one = record {
     has = λ less.
         let fits = held_fits vacant v k start count (sizes_to top) are refl list some in
         has_some (sizes_to top) count (size_if_any count (size_in (sizes_to top) k)) (size_in (sizes_to top) k) some (size_some count (size_in (sizes_to top) k) some)
         (size_among (sizes_to top) k fits.0) fits.1;
-    steps = subst (λ ns. StepsDown ns (free_counts v.tiers) count (count - 1) (size_if_any count (size_in ns k)) (size_if_any (count - 1) (size_in ns next.tier))) are steps;
-    longer = subst (λ ns. LongerByOne ns (free_counts v.tiers) (size_if_any count (size_in ns k)) (size_if_any (count - 1) (size_in ns next.tier)) (length v.slots) (length w.slots)) are
-        (subst (λ o. LongerByOne (tier_sizes v.tiers) (free_counts v.tiers) o (list_size v.tiers next.tier (count - 1)) (length v.slots) (length w.slots))
-        (sym (size_some count (size_in (tier_sizes v.tiers) k) some))
-        (longer_by_one v w (size_in (tier_sizes v.tiers) k) (list_size v.tiers next.tier (count - 1)) (ap (goes_up 0) are ∙ up) among from_block));
+    steps = subst (λ ns. StepsDown ns (free_counts v.tiers) count (count - 1) (size_if_any count (size_in ns k)) (size_if_any (count - 1) (size_in ns next.tier))) are loses.steps;
+    grows = record {
+      longer = subst (λ ns. LongerByOne ns (free_counts v.tiers) (size_if_any count (size_in ns k)) (size_if_any (count - 1) (size_in ns next.tier)) (length v.slots) (length w.slots)) are
+          (subst (λ o. LongerByOne (tier_sizes v.tiers) (free_counts v.tiers) o (list_size v.tiers next.tier (count - 1)) (length v.slots) (length w.slots))
+          (sym (size_some count (size_in (tier_sizes v.tiers) k) some))
+          (longer_by_one v w (size_in (tier_sizes v.tiers) k) (list_size v.tiers next.tier (count - 1)) (ap (goes_up 0) are ∙ up) among from_block));
+      made = λ size there. loses.turnover.made_is size
+          ∙ ap (λ ns. made_in v.tiers size + made_of ns (free_counts v.tiers) (size_if_any count (size_in ns k)) (size_if_any (count - 1) (size_in ns next.tier)) size) are;
+    };
   }
     where
       among : (n : ℕ) → list_size v.tiers next.tier (count - 1) ≡ Some n → Contains (tier_sizes v.tiers) n
@@ -90,18 +92,14 @@ module _ {S : Type 0} (vacant : S) (v w : Store S) (k start count place : ℕ) (
           of (suc c) e = subst (Contains (tier_sizes v.tiers)) (same_Some (size_in (tier_sizes v.tiers) next.tier) n e)
               (size_among (tier_sizes v.tiers) next.tier (let l = tiers_long v.tiers (tier_sizes v.tiers) refl in omega (arith, l, within)))
 
-  made_one : MakesEntered (sizes_to top) v w (size_if_any count (size_in (sizes_to top) k)) (size_if_any (count - 1) (size_in (sizes_to top) next.tier))
-  made_one = λ size there. turned.made_is size
-      ∙ ap (λ ns. made_in v.tiers size + made_of ns (free_counts v.tiers) (size_if_any count (size_in ns k)) (size_if_any (count - 1) (size_in ns next.tier)) size) are
-
   few_more : Grows v w 24
   few_more = record {
-    first_is = turned.keeps.first_is;
-    limit_is = turned.keeps.limit_is;
-    longer = turned.keeps.longer;
+    first_is = loses.turnover.keeps.first_is;
+    limit_is = loses.turnover.keeps.limit_is;
+    longer = loses.turnover.keeps.longer;
     at_most = lessens_few top v w count (count - 1) _ _ lessens_one (omega (arith, some));
-    within = turned.keeps.within;
-    made = made_turned v w _ _ _ turned;
+    within = loses.turnover.keeps.within;
+    made = made_turned v w _ _ _ loses.turnover;
   }
 
   pub lost_one : ((n : ℕ) (xs : List S) (live : List (UsedBlock S)) → Sound vacant (held k start n xs ++ live) v → length xs ≡ count →
@@ -110,14 +108,12 @@ module _ {S : Type 0} (vacant : S) (v w : Store S) (k start count place : ℕ) (
   lost_one sound n at same is =
       subst (λ x. Lost vacant (sizes_to top) v w k start x at next.tier next.start) same
       (subst (λ x. Lost vacant (sizes_to top) v w k start count x next.tier next.start) is (record {
-        keeps = turned.keeps;
+        keeps = loses.turnover.keeps;
         grows = few_more;
         back = λ few. gives_back v w (size_in (tier_sizes v.tiers) k) (list_size v.tiers next.tier (count - 1))
             (ap (λ c. size_if_any c (size_in (tier_sizes v.tiers) next.tier)) (let e : count - 1 ≡ 0 = omega (arith, few) in e)) from_block;
-        lessens = λ left one. subst (λ l. Lessens (sizes_to top) v w count l (size_if_any count (size_in (sizes_to top) k)) (size_if_any l (size_in (sizes_to top) next.tier)))
+        lessens = λ left one. subst (λ l. Lessens MakesEntered (sizes_to top) v w count l (size_if_any count (size_in (sizes_to top) k)) (size_if_any l (size_in (sizes_to top) next.tier)))
             (let e : count - 1 ≡ left = omega (arith, one) in e) lessens_one;
-        made = λ left one. subst (λ l. MakesEntered (sizes_to top) v w (size_if_any count (size_in (sizes_to top) k)) (size_if_any l (size_in (sizes_to top) next.tier)))
-            (let e : count - 1 ≡ left = omega (arith, one) in e) made_one;
         down = λ left one. subst (λ l. length w.slots + headroom_if_any (size_if_any l (size_in (sizes_to top) next.tier)) ≤ length v.slots + headroom_if_any (size_if_any count (size_in (sizes_to top) k)))
             (let e : count - 1 ≡ left = omega (arith, one) in e) (lessens_down (sizes_to top) v w count (count - 1) _ _ up lessens_one rooms refl (omega (arith, some)));
         sound = sound;
@@ -176,12 +172,9 @@ module _ {T : Type 0} where
           block = ap (λ (y : Node). y.child_block) m_is ∙ ap (λ (y : Node). y.child_block) same;
           tier = ap (λ (y : Node). y.child_tier) m_is ∙ ap (λ (y : Node). y.child_tier) same;
         };
-        lessens = subst (λ t. Lessens cell_sizes w u (rank n.value_bitmap 32) (rank m.value_bitmap 32) (value_block_size (Some n)) (size_if_any (rank m.value_bitmap 32) (size_in cell_sizes t))) (sym tier_is)
-            (subst (λ (y : Node). Lessens cell_sizes w u (rank y.value_bitmap 32) (rank m.value_bitmap 32) (value_block_size (Some y)) (size_if_any (rank m.value_bitmap 32) (size_in cell_sizes tier))) same
+        lessens = subst (λ t. Lessens MakesEntered cell_sizes w u (rank n.value_bitmap 32) (rank m.value_bitmap 32) (value_block_size (Some n)) (size_if_any (rank m.value_bitmap 32) (size_in cell_sizes t))) (sym tier_is)
+            (subst (λ (y : Node). Lessens MakesEntered cell_sizes w u (rank y.value_bitmap 32) (rank m.value_bitmap 32) (value_block_size (Some y)) (size_if_any (rank m.value_bitmap 32) (size_in cell_sizes tier))) same
             (lost.lessens (rank m.value_bitmap 32) fewer_here));
-        made = subst (λ t. MakesEntered cell_sizes w u (value_block_size (Some n)) (size_if_any (rank m.value_bitmap 32) (size_in cell_sizes t))) (sym tier_is)
-            (subst (λ (y : Node). MakesEntered cell_sizes w u (value_block_size (Some y)) (size_if_any (rank m.value_bitmap 32) (size_in cell_sizes tier))) same
-            (lost.made (rank m.value_bitmap 32) fewer_here));
       }
 
 -- ---- the reading of the arrays where a child is gone
@@ -237,17 +230,16 @@ children_dropped v u v2 slot c tier start bitmap k m read sets m_is lost digit v
         tier = ap (λ (y : Node). y.value_tier) m_is ∙ ap (λ (y : Node). y.value_tier) same;
       };
       fewer = fewer_here ∙ ap (λ (y : Node). rank y.child_bitmap 32) same;
-      lessens = subst (λ t. Lessens node_sizes v v2 (rank n.child_bitmap 32) (rank m.child_bitmap 32) (child_block_size (Some n)) (size_if_any (rank m.child_bitmap 32) (size_in node_sizes t))) (sym tier_is)
-          (subst (λ (y : Node). Lessens node_sizes v v2 (rank y.child_bitmap 32) (rank m.child_bitmap 32) (child_block_size (Some y)) (size_if_any (rank m.child_bitmap 32) (size_in node_sizes tier))) same
+      lessens = subst (λ t. Lessens MakesEntered node_sizes v v2 (rank n.child_bitmap 32) (rank m.child_bitmap 32) (child_block_size (Some n)) (size_if_any (rank m.child_bitmap 32) (size_in node_sizes t))) (sym tier_is)
+          (subst (λ (y : Node). Lessens MakesEntered node_sizes v v2 (rank y.child_bitmap 32) (rank m.child_bitmap 32) (child_block_size (Some y)) (size_if_any (rank m.child_bitmap 32) (size_in node_sizes tier))) same
           (let l = lost.lessens (rank m.child_bitmap 32) fewer_here in record {
             has = l.has;
             steps = l.steps;
-            longer = subst (λ n. LongerByOne node_sizes (free_counts v.tiers) (child_block_size (Some k)) (size_if_any (rank m.child_bitmap 32) (size_in node_sizes tier)) (length v.slots) n) (sym long) l.longer;
+            grows = record {
+              longer = subst (λ n. LongerByOne node_sizes (free_counts v.tiers) (child_block_size (Some k)) (size_if_any (rank m.child_bitmap 32) (size_in node_sizes tier)) (length v.slots) n) (sym long) l.grows.longer;
+              made = subst (λ (y : Store Node). MakesEntered node_sizes v y (child_block_size (Some k)) (size_if_any (rank m.child_bitmap 32) (size_in node_sizes tier))) (sym v2_is) l.grows.made;
+            };
           }));
-      made = subst (λ t. MakesEntered node_sizes v v2 (child_block_size (Some n)) (size_if_any (rank m.child_bitmap 32) (size_in node_sizes t))) (sym tier_is)
-          (subst (λ (y : Node). MakesEntered node_sizes v v2 (child_block_size (Some y)) (size_if_any (rank m.child_bitmap 32) (size_in node_sizes tier))) same
-          (subst (λ (y : Store Node). MakesEntered node_sizes v y (child_block_size (Some k)) (size_if_any (rank m.child_bitmap 32) (size_in node_sizes tier))) (sym v2_is)
-          (lost.made (rank m.child_bitmap 32) fewer_here)));
       settles = child_settles reading paths v v2 p c n m leaf hold is below later
           (ap (λ (y : Node). value_block_size (Some y)) m_is ∙ ap (λ (y : Node). value_block_size (Some y)) same)
           (let down = lost.down (rank m.child_bitmap 32) fewer_here in

@@ -79,11 +79,12 @@ children_none None e = refl
 children_none (Some n) e = ap (λ c. size_if_any c (size_in node_sizes n.child_tier)) e
 
 -- nothing is taken
-pub lessens_none : {S : Type 0} (sizes : List ℕ) (v w : Store S) (count : ℕ) (block : Option ℕ) → (count ≡ 0 → block ≡ None) → length w.slots ≡ length v.slots → Lessens sizes v w count count block block
-lessens_none sizes v w count block empty long = record {
+pub lessens_none : {S : Type 0} (Makes : List ℕ → Store S → Store S → Option ℕ → Option ℕ → Type 0) (sizes : List ℕ) (v w : Store S) (count : ℕ) (block : Option ℕ) → (count ≡ 0 → block ≡ None) →
+    length w.slots ≡ length v.slots → Makes sizes v w block block → Lessens Makes sizes v w count count block block
+lessens_none Makes sizes v w count block empty long made = record {
   has = λ less. absurd (omega (arith, less));
   steps = steps_same sizes (free_counts v.tiers) count count block block refl refl empty;
-  longer = inl long;
+  grows = record { longer = inl long; made = made };
 }
 
 -- ---- the headroom of sizes
@@ -119,7 +120,8 @@ room_step sizes all seven n o (j, j_inside, j_is) (t, t_inside, t_is) less =
     let b = ap headroom o_is in
     omega (arith, step, a, b, n_is)
 
-module _ {S : Type 0} (sizes : List ℕ) (v w : Store S) (before after : ℕ) (old new : Option ℕ) (up : goes_up 0 sizes ≡ true) (l : Lessens sizes v w before after old new) where
+module _ {S : Type 0} {Makes : List ℕ → Store S → Store S → Option ℕ → Option ℕ → Type 0} (sizes : List ℕ) (v w : Store S) (before after : ℕ) (old new : Option ℕ) (up : goes_up 0 sizes ≡ true)
+    (l : Lessens Makes sizes v w before after old new) where
   pub lessens_between : StepsBetween sizes before after old new
   lessens_between = steps_between sizes (free_counts v.tiers) before after old new up l.has l.steps
 
@@ -129,7 +131,7 @@ module _ {S : Type 0} (sizes : List ℕ) (v w : Store S) (before after : ℕ) (o
     | inr empty ↦
         let gone : new ≡ None = l.steps.none (omega (arith, empty)) in
         let none : headroom_if_any new ≡ 0 = ap headroom_if_any gone in
-        elim l.longer as (λ _. length w.slots + headroom_if_any new ≤ length v.slots + headroom_if_any old) [
+        elim l.grows.longer as (λ _. length w.slots + headroom_if_any new ≤ length v.slots + headroom_if_any old) [
           | inl same ↦ omega (arith, same, none)
           | inr one ↦ absurd (none-some one.0 (sym gone ∙ one.1))
         ]
@@ -146,13 +148,13 @@ module _ {S : Type 0} (sizes : List ℕ) (v w : Store S) (before after : ℕ) (o
               elim (cases_eq b.0 b.1) as (λ _. length w.slots + headroom_if_any new ≤ length v.slots + headroom_if_any old) [
                 | inl e ↦
                     let rooms = ap headroom e in
-                    elim l.longer as (λ _. length w.slots + headroom_if_any new ≤ length v.slots + headroom_if_any old) [
+                    elim l.grows.longer as (λ _. length w.slots + headroom_if_any new ≤ length v.slots + headroom_if_any old) [
                       | inl same ↦ omega (arith, same, now, was, rooms)
                       | inr one ↦ absurd (one.2 (b.3 ∙ ap Some (sym e) ∙ sym b.2 ∙ one.1))
                     ]
                 | inr ne ↦
                     let step = room_step sizes all seven b.0 b.1 b.6 among (grind (arith, le, ne)) in
-                    elim l.longer as (λ _. length w.slots + headroom_if_any new ≤ length v.slots + headroom_if_any old) [
+                    elim l.grows.longer as (λ _. length w.slots + headroom_if_any new ≤ length v.slots + headroom_if_any old) [
                       | inl same ↦ omega (arith, same, now, was, step)
                       | inr one ↦ (let size = same_Some one.0 b.0 (sym one.1 ∙ b.2) in let long = one.4 in omega (arith, long, now, was, step, size))
                     ]
@@ -161,8 +163,8 @@ module _ {S : Type 0} (sizes : List ℕ) (v w : Store S) (before after : ℕ) (o
   ]
 
 -- it grows by 24 slots at most
-pub lessens_few : {S : Type 0} (top : ℕ) (v w : Store S) (before after : ℕ) (old new : Option ℕ) → Lessens (sizes_to top) v w before after old new → after < before → length w.slots ≤ length v.slots + 24
-lessens_few top v w before after old new l less = elim l.longer as (λ _. length w.slots ≤ length v.slots + 24) [
+pub lessens_few : {S : Type 0} {Makes : List ℕ → Store S → Store S → Option ℕ → Option ℕ → Type 0} (top : ℕ) (v w : Store S) (before after : ℕ) (old new : Option ℕ) → Lessens Makes (sizes_to top) v w before after old new → after < before → length w.slots ≤ length v.slots + 24
+lessens_few top v w before after old new l less = elim l.grows.longer as (λ _. length w.slots ≤ length v.slots + 24) [
   | inl same ↦ omega (arith, same)
   | inr (size, is, other, none, long) ↦
       (let few = shrinks_few top (free_counts v.tiers) before after size old (subst (StepsDown (sizes_to top) (free_counts v.tiers) before after old) is l.steps) (l.has less) other in

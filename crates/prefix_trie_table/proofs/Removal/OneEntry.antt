@@ -66,8 +66,8 @@ module _ {T : Type 0} (reading : List ℕ → Option Node) (values : List ℕ �
     counted = (let z : one_if (is_some (values path b)) ≡ 0 = ap (λ o. one_if (is_some o)) none in omega arith);
     kept = λ none. refl;
     children = λ n m a c. same_children n m (ap node_or_blank (sym a ∙ c));
-    lessens = lessens_none cell_sizes w w (own_count (reading path)) (value_block_size (reading path)) (values_none (reading path)) refl;
-    made = λ size there. omega arith;
+    lessens = lessens_none MakesEntered cell_sizes w w (own_count (reading path)) (value_block_size (reading path)) (values_none (reading path)) refl
+        (λ size there. omega arith);
   }
     where
       unchanged : (q : List ℕ) (j : ℕ) → (q ++ j ∷ [] ≡ path ++ b ∷ []) ⊎ (q ++ j ∷ [] ≢ path ++ b ∷ []) → values q j ≡ with_value values path b None q j
@@ -101,10 +101,8 @@ module _ {T : Type 0} (reading : List ℕ → Option Node) (values : List ℕ �
           let first : n ≡ n2 = ap node_or_blank (sym is ∙ e) in
           let last : m ≡ m2 = ap node_or_blank (sym (with_here reading path m path refl) ∙ f) in
           subst (λ y. SameChildren y m2) first (subst (λ y. SameChildren n y) last a.children);
-      lessens = subst (λ o. Lessens cell_sizes w w2 (own_count o) (own_count (with_node reading path m path)) (value_block_size o) (value_block_size (with_node reading path m path))) (sym is)
-          (subst (λ o. Lessens cell_sizes w w2 (own_count (Some n)) (own_count o) (value_block_size (Some n)) (value_block_size o)) (sym (with_here reading path m path refl)) a.lessens);
-      made = subst (λ o. MakesEntered cell_sizes w w2 (value_block_size o) (value_block_size (with_node reading path m path))) (sym is)
-          (subst (λ o. MakesEntered cell_sizes w w2 (value_block_size (Some n)) (value_block_size o)) (sym (with_here reading path m path refl)) a.made);
+      lessens = subst (λ o. Lessens MakesEntered cell_sizes w w2 (own_count o) (own_count (with_node reading path m path)) (value_block_size o) (value_block_size (with_node reading path m path))) (sym is)
+          (subst (λ o. Lessens MakesEntered cell_sizes w w2 (own_count (Some n)) (own_count o) (value_block_size (Some n)) (value_block_size o)) (sym (with_here reading path m path refl)) a.lessens);
     },
     with_here reading path m path refl,
   )

@@ -17,7 +17,7 @@ use Rattle.prefix_trie_bits.proofs.Model.Members.{and-first, and-second, get-wit
 use Rattle.prefix_trie_bits.proofs.Model.Pruning.{begins-nil, pruning_laws, removed_fewer}
 use Rattle.prefix_trie_table.specs.declared.allocator.node.Node.{Node}
 use Rattle.prefix_trie_table.specs.declared.allocator.node.NodeSlot.{NodeSlot}
-use Rattle.prefix_trie_table.specs.Cells.{node_sizes, cell_sizes}
+use Rattle.prefix_trie_table.specs.Cells.{node_sizes}
 use Rattle.prefix_trie_table.specs.Digits.{path_of, bit_of}
 use Rattle.prefix_trie_table.specs.Store.{Store}
 use Rattle.prefix_trie_table.specs.Forest.{read, Holds, NodesHold, IsSlot}
@@ -25,9 +25,9 @@ use Rattle.prefix_trie_table.specs.Removals.{EntryTaken, EntryRemoved, Pruned, I
 use Rattle.prefix_trie_table.specs.Settling.{NodesSettle}
 use Rattle.prefix_trie_table.specs.Shape.{Contents, state, Shaped}
 use Rattle.prefix_trie_table.specs.Tables.{ForHeld, Grows, IsReached, IsTable, IsTrie}
-use Rattle.prefix_trie_table.specs.Retaining.{ValuesBetween, ChildrenBetween, IsSite, Lasts, Retains, RetainsTo}
+use Rattle.prefix_trie_table.specs.Retaining.{BlocksBetween, IsSite, Lasts, Retains, RetainsTo}
 use Rattle.prefix_trie_table.proofs.Tree.Invariant.{some_table}
-use Rattle.prefix_trie_table.proofs.Removal.Between.{between_then, pruned_values_between, pruned_children_between}
+use Rattle.prefix_trie_table.proofs.Removal.Between.{blocks_then, pruned_between, stays_grown, stays_then}
 use Rattle.prefix_trie_table.proofs.Tree.Children.{same_or}
 use Rattle.prefix_trie_table.proofs.Strings.Digits.{path-take}
 use Rattle.prefix_trie_table.proofs.Removal.OneEntry.{nothing_taken}
@@ -41,7 +41,6 @@ use Rattle.prefix_trie_table.proofs.Insertion.Rooms.{Grows-same}
 use Rattle.prefix_trie_table.proofs.Removal.Settling.{Settles-nodes}
 use Rattle.prefix_trie_table.proofs.Tree.Shapes.{reads_node, shape_entries}
 use Rattle.prefix_trie_table.proofs.Tree.Trees.{reads}
-use Rattle.prefix_trie_table.proofs.Blocks.Turnovers.{made_then}
 
 -- ---- the home of a bit string
 
@@ -161,8 +160,7 @@ module _ {T : Type 0} (width : ℕ) (q : List Bool) (v v2 : Store Node) (w : Sto
         subst (λ (f : List ℕ → Option Node). Pruned f paths (path_of q) v v2)
             (λ i p. (same p ∙ sym (later_same reading values paths w v (path_of q) (bit_of q) t no_value p)) i)
             (prunes paths (read_held reading values paths v w holds).hold),
-        refl,
-        refl,
+        record { room = (refl, refl, refl); tiers = refl },
       )
 
   pub trie_pruned : Grows v v2 24 → IsTrie width count v2 w (record { entries = without_entry s.entries q; nodes = nodes_without s.nodes s.entries q })
@@ -238,19 +236,12 @@ module _ {T : Type 0} (width : ℕ) (b : List Bool) (len : ℕ) (within : len �
       let later : (x : List ℕ) → read v3.slots x ≡ pruned.to.later x = λ x. reads node_sizes pruned.to.later pruned.to.left v3 pruned.to.hold x in
       record {
         above = λ p less. absurd (omega (arith, less));
-        node_limit = room.limit_is ∙ lasts.node_limit;
-        node_slots = (let l = lasts.node_slots in let m = room.longer in omega (arith, l, m));
-        cell_limit = lasts.cell_limit;
-        cell_slots = lasts.cell_slots;
+        nodes = stays_then v v2 v3 lasts.nodes (stays_grown v2 v3 24 room);
+        cells = lasts.cells;
         settles = Settles-nodes v v2 v3 w w2 lasts.settles settles;
-        values = λ x. between_then cell_sizes _ _ _ _ _ _ (lasts.values x)
-            (subst (ValuesBetween (read v2.slots x)) (sym (later x))
-            (pruned_values_between (read v2.slots) t.paths (path_of (take len b)) pruned.level pruned.node v2 v3 pruned.to x));
-        children = λ x. between_then node_sizes _ _ _ _ _ _ (lasts.children x)
-            (subst (ChildrenBetween (read v2.slots x)) (sym (later x))
-            (pruned_children_between (read v2.slots) t.paths (path_of (take len b)) pruned.level pruned.node v2 v3 pruned.to x));
-        node_made = made_then v v2 v3 lasts.node_made room.made;
-        cell_made = lasts.cell_made;
+        blocks = λ x. blocks_then _ _ _ (lasts.blocks x)
+            (subst (BlocksBetween (read v2.slots x)) (sym (later x))
+            (pruned_between (read v2.slots) t.paths (path_of (take len b)) pruned.level pruned.node v2 v3 pruned.to x));
       }
 
 -- and where the node of the string is missing

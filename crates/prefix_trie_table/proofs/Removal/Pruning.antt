@@ -53,9 +53,9 @@ pruning_first reading paths path way level node v hold slots is all = record {
     above = λ k less. refl;
     off = λ q no. refl;
     whole = λ end. refl;
-    lessens = subst (λ o. Lessens node_sizes v v (own_children o) (own_children (Some node)) (child_block_size o) (child_block_size (Some node))) (sym (ap reading (take_all level path (omega arith)) ∙ is))
-        (lessens_none node_sizes v v (own_children (Some node)) (child_block_size (Some node)) (children_none (Some node)) refl);
-    made = λ size there. (omega arith, omega arith);
+    lessens = subst (λ o. Lessens MakesFew node_sizes v v (own_children o) (own_children (Some node)) (child_block_size o) (child_block_size (Some node))) (sym (ap reading (take_all level path (omega arith)) ∙ is))
+        (lessens_none MakesFew node_sizes v v (own_children (Some node)) (child_block_size (Some node)) (children_none (Some node)) refl
+        (λ size there. (omega arith, omega arith)));
     settles = NodesSettle-none v;
   };
   slots = slots;
@@ -70,7 +70,7 @@ module _ (u v w : Store Node) (are : tier_sizes v.tiers ≡ node_sizes) (back : 
       let b = ap (λ ns. free_of ns (free_counts u.tiers) size) (sym back.sizes ∙ are) in
       omega (arith, f, a, b)
 
-  lessens_from : (c d : ℕ) (old new : Option ℕ) → Lessens node_sizes v w c d old new → Lessens node_sizes u w c d old new
+  lessens_from : (c d : ℕ) (old new : Option ℕ) → Lessens MakesEntered node_sizes v w c d old new → Lessens MakesFew node_sizes u w c d old new
   lessens_from c d old new l = record {
     has = l.has;
     steps = record {
@@ -80,18 +80,18 @@ module _ (u v w : Store Node) (are : tier_sizes v.tiers ≡ node_sizes) (back : 
       one_of = l.steps.one_of;
       smallest = λ size less some is one. l.steps.smallest size less some is (let f = more_free size in omega (arith, f, one));
     };
-    longer = elim l.longer as (λ _. LongerByOne node_sizes (free_counts u.tiers) old new (length u.slots) (length w.slots)) [
-      | inl same ↦ inl (same ∙ back.room.0)
-      | inr (size, is, other, empty, long) ↦ inr (size, is, other, (let f = more_free size in omega (arith, f, empty)), long ∙ ap (λ n. n + size) back.room.0)
-    ];
+    grows = record {
+      longer = elim l.grows.longer as (λ _. LongerByOne node_sizes (free_counts u.tiers) old new (length u.slots) (length w.slots)) [
+        | inl same ↦ inl (same ∙ back.room.0)
+        | inr (size, is, other, empty, long) ↦ inr (size, is, other, (let f = more_free size in omega (arith, f, empty)), long ∙ ap (λ n. n + size) back.room.0)
+      ];
+      made = λ size there.
+          let m = l.grows.made size there in
+          let b = back.made size in
+          let f = more_free size in
+          (omega (arith, m, b), omega (arith, m, b, f));
+    };
   }
-
-  made_from : (old new : Option ℕ) → MakesEntered node_sizes v w old new → MakesFew node_sizes u w old new
-  made_from old new made = λ size there.
-      let m = made size there in
-      let b = back.made size in
-      let f = more_free size in
-      (omega (arith, m, b), omega (arith, m, b, f))
 
 module _ (reading : List ℕ → Option Node) (paths : List (List ℕ)) (path : List ℕ) (way : List NodeSlot) (level : ℕ) (node : Node)
     (before v : Store Node) (p : Pruning reading paths path way (level + 1) node before v) where
@@ -172,9 +172,8 @@ module _ (reading : List ℕ → Option Node) (paths : List (List ℕ)) (path : 
               (λ e. false≢true (sym no ∙ ap (λ x. is_start x path) (e ∙ sym end) ∙ is_start_take (level + 1) path))
               ∙ p.to.off q no;
           whole = λ end. absurd (let i = inside in omega arith);
-          lessens = subst (λ o. Lessens node_sizes before w (own_children o) (own_children (Some m)) (child_block_size o) (child_block_size (Some m))) (sym was)
+          lessens = subst (λ o. Lessens MakesFew node_sizes before w (own_children o) (own_children (Some m)) (child_block_size o) (child_block_size (Some m))) (sym was)
               (lessens_from before v w p.to.hold.sizes_are back _ _ _ _ one.lessens);
-          made = subst (λ o. MakesFew node_sizes before w (child_block_size o) (child_block_size (Some m))) (sym was) (made_from before v w p.to.hold.sizes_are back _ _ one.made);
           settles = NodesSettle-then before v w p.to.settles one.settles;
         };
         slots = λ k h.

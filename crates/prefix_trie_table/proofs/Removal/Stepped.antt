@@ -14,8 +14,8 @@ use Rattle.prefix_trie_table.specs.Cells.{node_sizes, cell_sizes}
 use Rattle.prefix_trie_table.specs.Digits.{path_of, bit_of}
 use Rattle.prefix_trie_table.specs.Forest.{NodesHold, Holds, SomeTable, has_child, has_value, own_count, read, with_value}
 use Rattle.prefix_trie_table.specs.Layouts.{AreSizesBy, Sized, own_children, child_block_size, value_block_size}
-use Rattle.prefix_trie_table.specs.Removals.{EntryTaken, EntryRemoved}
-use Rattle.prefix_trie_table.specs.Retaining.{ValuesBetween, ChildrenBetween}
+use Rattle.prefix_trie_table.specs.Removals.{EntryTaken, EntryRemoved, GrowsBy, MakesEntered, MakesFew}
+use Rattle.prefix_trie_table.specs.Retaining.{BlocksBetween}
 use Rattle.prefix_trie_table.specs.Shape.{IsShapeOf, Shaped}
 use Rattle.prefix_trie_table.specs.Store.{Store, free_counts}
 use Rattle.prefix_trie_table.specs.Tables.{IsTable, ForHeld}
@@ -27,7 +27,7 @@ use Rattle.prefix_trie_table.proofs.Strings.Digits.{path-length, path-take}
 use Rattle.prefix_trie_table.proofs.Counts.OwnCounts.{children_counted, values_counted}
 use Rattle.prefix_trie_table.proofs.Removal.NodesLeft.{home_path, pruned_holds}
 use Rattle.prefix_trie_table.proofs.Tree.Shapes.{shape_entries, shape_nodes}
-use Rattle.prefix_trie_table.proofs.Removal.Stepping.{ValuesStep, ChildrenStep, steps_read, children_kept, taken_gone, taken_values, taken_children, taken_grows, drops_gone, drops_values, pruned_children, pruned_grows, GrowsByOne, GrowsAtMost, grows_same, grows_not}
+use Rattle.prefix_trie_table.proofs.Removal.Stepping.{ValuesStep, ChildrenStep, steps_read, children_kept, taken_gone, taken_values, taken_children, drops_gone, drops_values, pruned_children, pruned_grows, grows_same, grows_not}
 use Rattle.prefix_trie_table.proofs.Blocks.KeptBlocks.{blocks_made, blocks_at_most, nodes_cut, cells_cut}
 use Rattle.prefix_trie_table.proofs.Blocks.Sizing.{storage_of}
 use Rattle.prefix_trie_table.proofs.Tree.Trees.{reads, is_none-None}
@@ -103,10 +103,10 @@ record Left {T : Type 0} (reading : List ℕ → Option Node) (path : List ℕ) 
   pub gone : (x : List ℕ) → reading x ≡ None → later x ≡ None
   pub values : (x : List ℕ) → ValuesStep (free_counts w.tiers) (reading x) (later x)
   pub children : (x : List ℕ) → ChildrenStep (free_counts v.tiers) (reading x) (later x)
-  pub of_cells : GrowsByOne cell_sizes w w2 (value_block_size (reading path)) (value_block_size (later path))
+  pub of_cells : GrowsBy MakesEntered cell_sizes w w2 (value_block_size (reading path)) (value_block_size (later path))
   pub stop : ℕ
   pub stop_within : stop ≤ length path
-  pub of_nodes : GrowsAtMost node_sizes v v2 (child_block_size (reading (take stop path))) (child_block_size (later (take stop path)))
+  pub of_nodes : GrowsBy MakesFew node_sizes v v2 (child_block_size (reading (take stop path))) (child_block_size (later (take stop path)))
 
 module _ {T : Type 0} (reading : List ℕ → Option Node) (values : List ℕ → ℕ → Option T) (paths : List (List ℕ)) (v : Store Node)
     (w : Store (Option T)) (holds : Holds reading values paths v w) (key : List Bool) (v2 : Store Node) (w2 : Store (Option T)) where
@@ -121,7 +121,7 @@ module _ {T : Type 0} (reading : List ℕ → Option Node) (values : List ℕ �
     values = taken_values reading paths values (path_of key) (bit_of key) v2 w w2 t;
     children = λ x. children_kept (free_counts v.tiers) (reading x) (t.later x)
         (taken_children reading paths values (path_of key) (bit_of key) v2 w w2 t x);
-    of_cells = taken_grows reading paths values (path_of key) (bit_of key) v2 w w2 t;
+    of_cells = t.lessens.grows;
     stop = 0;
     stop_within = omega arith;
     of_nodes = grows_not node_sizes v v2 _ _ tiers long;
@@ -130,7 +130,7 @@ module _ {T : Type 0} (reading : List ℕ → Option Node) (values : List ℕ �
   left_removed : (s : State T) → IsShapeOf v.slots w.slots s → EntryRemoved reading paths values (path_of key) (bit_of key) v w v2 w2 →
       Left reading (path_of key) v w v2 w2
   left_removed s is (inl (missing, same, t)) = left_taken t (ap (λ (x : Store Node). length x.slots) same) (ap (λ (x : Store Node). x.tiers) same)
-  left_removed s is (inr (u, there, t, p, long, tiers)) = record {
+  left_removed s is (inr (u, there, t, p, blocks)) = record {
     later = p.to.later;
     found = with_value values (path_of key) (bit_of key) None;
     paths = p.to.left;
@@ -144,19 +144,19 @@ module _ {T : Type 0} (reading : List ℕ → Option Node) (values : List ℕ �
     children = λ x.
         let same = taken_children reading paths values (path_of key) (bit_of key) u w w2 t x in
         steps_read (StepsDown node_sizes (free_counts v.tiers)) (sym same.0) refl (sym same.1) refl
-        (subst (λ ts. ChildrenStep (free_counts ts) (t.later x) (p.to.later x)) tiers
+        (subst (λ ts. ChildrenStep (free_counts ts) (t.later x) (p.to.later x)) blocks.tiers
         (pruned_children t.later paths (path_of key) p.level p.node u v2 p.to x));
     of_cells =
-        subst (λ o. GrowsByOne cell_sizes w w2 (value_block_size (reading (path_of key))) o)
+        subst (λ o. GrowsBy MakesEntered cell_sizes w w2 (value_block_size (reading (path_of key))) o)
         (sym (drops_values t.later paths p.to.later p.to.left p.to.drops (path_of key)).1)
-        (taken_grows reading paths values (path_of key) (bit_of key) u w w2 t);
+        t.lessens.grows;
     stop = p.level;
     stop_within = p.to.within;
     of_nodes =
         let path = take p.level (path_of key) in
-        subst (λ o. GrowsAtMost node_sizes v v2 o (child_block_size (p.to.later path)))
+        subst (λ o. GrowsBy MakesFew node_sizes v v2 o (child_block_size (p.to.later path)))
         (taken_children reading paths values (path_of key) (bit_of key) u w w2 t path).1
-        (grows_same node_sizes u v v2 _ _ tiers long (pruned_grows t.later paths (path_of key) p.level p.node u v2 p.to));
+        (grows_same node_sizes u v v2 _ _ blocks.tiers blocks.room.0 (pruned_grows t.later paths (path_of key) p.level p.node u v2 p.to));
   }
 
 -- the sizes of the blocks of a table
@@ -181,16 +181,16 @@ module _ {T : Type 0} (key : List Bool) (v v2 : Store Node) (w w2 : Store (Optio
       (children_is t.reading t.values t.paths v w t.holds s.0 s.1) (children_is l.later l.found l.paths v2 w2 l.holds s2.0 s2.1) z.0 z2.0 z.1.1.0 z2.1.1.0
 
   cells_grow : Left is.reading (path_of key) v w v2 w2 →
-      GrowsByOne value_block_sizes w w2 (get z.1.0 (home key)) (get z2.1.0 (home key))
+      GrowsBy MakesEntered value_block_sizes w w2 (get z.1.0 (home key)) (get z2.1.0 (home key))
   cells_grow l =
       let t = some_table is in
       let depth : is_node_depth (home key) ≡ true = eq-eqb (length (home key) % 5) 0 (home-depth key) in
-      steps_read {c = 0} {d = 0} (λ _ _ o n. GrowsByOne value_block_sizes w w2 o n) refl refl
+      steps_read {c = 0} {d = 0} (λ _ _ o n. GrowsBy MakesEntered value_block_sizes w w2 o n) refl refl
       (size_there value_block_size t.reading t.paths v t.holds.hold z.1.0 z.1.1.1 (home key) (path_of key) depth (home_path key))
       (size_there value_block_size l.later l.paths v2 l.holds.hold z2.1.0 z2.1.1.1 (home key) (path_of key) depth (home_path key)) l.of_cells
 
   nodes_grow : Left is.reading (path_of key) v w v2 w2 →
-      (p : List Bool) × GrowsAtMost child_block_sizes v v2 (get z.0 p) (get z2.0 p)
+      (p : List Bool) × GrowsBy MakesFew child_block_sizes v v2 (get z.0 p) (get z2.0 p)
   nodes_grow l =
       let t = some_table is in
       let p : List Bool = take (5 * l.stop) key in
@@ -199,7 +199,7 @@ module _ {T : Type 0} (key : List Bool) (v v2 : Store Node) (w w2 : Store (Optio
       eq-eqb (length (take (5 * l.stop) key) % 5) 0 (whole l.stop (length (take (5 * l.stop) key)) (length-take-le (5 * l.stop) key inside)) in
       let path : path_of (take (5 * l.stop) key) ≡ take l.stop (path_of key) = path-take l.stop key inside in (
         p,
-        steps_read {c = 0} {d = 0} (λ _ _ o n. GrowsAtMost child_block_sizes v v2 o n) refl refl
+        steps_read {c = 0} {d = 0} (λ _ _ o n. GrowsBy MakesFew child_block_sizes v v2 o n) refl refl
             (size_there child_block_size t.reading t.paths v t.holds.hold z.0 z.1.1.0 (take (5 * l.stop) key) (take l.stop (path_of key)) depth path)
             (size_there child_block_size l.later l.paths v2 l.holds.hold z2.0 z2.1.1.0 (take (5 * l.stop) key) (take l.stop (path_of key)) depth path) l.of_nodes,
       )
@@ -290,18 +290,18 @@ module _ (size : Option Node → Option ℕ) (count : Option Node → ℕ) (size
 
 module _ {T : Type 0} (v v2 : Store Node) (w w2 : Store (Option T)) (s : Shaped v.slots w.slots) (z : Sized v.slots) (t : SomeTable v w)
     (s2 : Shaped v2.slots w2.slots) (z2 : Sized v2.slots) (t2 : SomeTable v2 w2) where
-  pub retained_values : ((x : List ℕ) → ValuesBetween (read v.slots x) (read v2.slots x)) →
+  pub retained_values : ((x : List ℕ) → BlocksBetween (read v.slots x) (read v2.slots x)) →
       SizesStepBetween value_block_sizes s.0.nodes (own_entries s.0.entries) (own_entries s2.0.entries) z.1.0 z2.1.0
   retained_values steps =
-      sizes_step_between value_block_size own_count cell_sizes refl v.slots v2.slots steps s.0.nodes s.1.0 (own_entries s.0.entries) (own_entries s2.0.entries)
+      sizes_step_between value_block_size own_count cell_sizes refl v.slots v2.slots (λ x. (steps x).values) s.0.nodes s.1.0 (own_entries s.0.entries) (own_entries s2.0.entries)
       (λ p depth. own_is t.reading t.values t.paths v w t.holds s.0 s.1 p depth ∙ ap own_count (sym (reads node_sizes t.reading t.paths v t.holds.hold (path_of p))))
       (λ p depth. own_is t2.reading t2.values t2.paths v2 w2 t2.holds s2.0 s2.1 p depth ∙ ap own_count (sym (reads node_sizes t2.reading t2.paths v2 t2.holds.hold (path_of p))))
       z.1.0 z2.1.0 z.1.1.1 z2.1.1.1
 
-  pub retained_children : ((x : List ℕ) → ChildrenBetween (read v.slots x) (read v2.slots x)) →
+  pub retained_children : ((x : List ℕ) → BlocksBetween (read v.slots x) (read v2.slots x)) →
       SizesStepBetween child_block_sizes s.0.nodes (child_count s.0.nodes) (child_count s2.0.nodes) z.0 z2.0
   retained_children steps =
-      sizes_step_between child_block_size own_children node_sizes refl v.slots v2.slots steps s.0.nodes s.1.0 (child_count s.0.nodes) (child_count s2.0.nodes)
+      sizes_step_between child_block_size own_children node_sizes refl v.slots v2.slots (λ x. (steps x).children) s.0.nodes s.1.0 (child_count s.0.nodes) (child_count s2.0.nodes)
       (λ p depth. children_is t.reading t.values t.paths v w t.holds s.0 s.1 p depth ∙ ap own_children (sym (reads node_sizes t.reading t.paths v t.holds.hold (path_of p))))
       (λ p depth. children_is t2.reading t2.values t2.paths v2 w2 t2.holds s2.0 s2.1 p depth ∙ ap own_children (sym (reads node_sizes t2.reading t2.paths v2 t2.holds.hold (path_of p))))
       z.0 z2.0 z.1.1.0 z2.1.1.0

@@ -7,7 +7,7 @@ use Rattle.prefix_trie_table.specs.Bitmaps.{rank}
 use Rattle.prefix_trie_table.specs.Cells.{node_sizes, cell_sizes}
 use Rattle.prefix_trie_table.specs.Forest.{lacking_child, own_count, is_start}
 use Rattle.prefix_trie_table.specs.Layouts.{own_children, child_block_size, value_block_size}
-use Rattle.prefix_trie_table.specs.Removals.{MakesEntered, MakesFew, SameChildren, SameValues, EntryTaken, Drops, none, more, PrunedTo}
+use Rattle.prefix_trie_table.specs.Removals.{GrowsBy, MakesFew, SameChildren, SameValues, EntryTaken, Drops, none, more, PrunedTo}
 use Rattle.prefix_trie_table.specs.Store.{Store, size_in, size_if_any, free_counts, made_in}
 use Rattle.prefix_trie_table.proofs.Tree.Children.{same_or, changed_below, changed_here, changed_other}
 use Rattle.prefix_trie_table.proofs.Removal.Lessening.{steps_same, steps_gone, values_none, children_none}
@@ -46,19 +46,9 @@ pub steps_read : {c c2 d d2 : ℕ} {o o2 n n2 : Option ℕ} (R : ℕ → ℕ →
 steps_read R ec ed eo en r =
     subst (λ (x : ℕ × ℕ × Option ℕ × Option ℕ). R x.0 x.1 x.2 x.3) (λ i. (sym ec i, sym ed i, sym eo i, sym en i)) r
 
--- an array grew by the block `new`, which a list entered in place of `old`, if one had to be made
-pub record GrowsByOne {S : Type 0} (sizes : List ℕ) (v w : Store S) (old new : Option ℕ) : Type 0 where
-  pub longer : LongerByOne sizes (free_counts v.tiers) old new (length v.slots) (length w.slots)
-  pub made : MakesEntered sizes v w old new
-
--- or by that one at most
-pub record GrowsAtMost {S : Type 0} (sizes : List ℕ) (v w : Store S) (old new : Option ℕ) : Type 0 where
-  pub longer : LongerByOne sizes (free_counts v.tiers) old new (length v.slots) (length w.slots)
-  pub made : MakesFew sizes v w old new
-
 -- the same of an array that was as long, and cut in the same way
 pub grows_same : {S : Type 0} (sizes : List ℕ) (u v w : Store S) (old new : Option ℕ) → u.tiers ≡ v.tiers → length u.slots ≡ length v.slots →
-    GrowsAtMost sizes u w old new → GrowsAtMost sizes v w old new
+    GrowsBy MakesFew sizes u w old new → GrowsBy MakesFew sizes v w old new
 grows_same sizes u v w old new tiers long g = record {
   longer = subst (λ ts. LongerByOne sizes (free_counts ts) old new (length v.slots) (length w.slots)) tiers
       (subst (λ n. LongerByOne sizes (free_counts u.tiers) old new n (length w.slots)) long g.longer);
@@ -66,7 +56,7 @@ grows_same sizes u v w old new tiers long g = record {
 }
 
 -- where no block changed
-pub grows_not : {S : Type 0} (sizes : List ℕ) (v w : Store S) (old new : Option ℕ) → w.tiers ≡ v.tiers → length w.slots ≡ length v.slots → GrowsAtMost sizes v w old new
+pub grows_not : {S : Type 0} (sizes : List ℕ) (v w : Store S) (old new : Option ℕ) → w.tiers ≡ v.tiers → length w.slots ≡ length v.slots → GrowsBy MakesFew sizes v w old new
 grows_not sizes v w old new tiers long = record {
   longer = inl long;
   made = λ size there. (let e : made_in w.tiers size ≡ made_in v.tiers size = ap (λ ts. made_in ts size) tiers in (omega (arith, e), omega (arith, e)));
@@ -105,10 +95,6 @@ module _ {T : Type 0} (reading : List ℕ → Option Node) (paths : List (List �
       both None (Some m) was is same = absurd (true≢false (ap is_some (sym is) ∙ same ∙ ap is_some was))
       both (Some n) None was is same = absurd (false≢true (ap is_some (sym is) ∙ same ∙ ap is_some was))
       both (Some n) (Some m) was is same = same_children n m (t.children n m was is)
-
-  -- the array of values grew by the block of its node at most
-  pub taken_grows : GrowsByOne cell_sizes w w2 (value_block_size (reading path)) (value_block_size (t.later path))
-  taken_grows = record { longer = t.lessens.longer; made = t.made }
 
 -- ---- by path, where a way was pruned
 
@@ -177,5 +163,5 @@ module _ (reading : List ℕ → Option Node) (paths : List (List ℕ)) (path : 
   ]
 
   -- the array of nodes grew by the block of that node at most
-  pub pruned_grows : GrowsAtMost node_sizes v v2 (child_block_size (reading (take level path))) (child_block_size (p.later (take level path)))
-  pruned_grows = subst (λ o. GrowsAtMost node_sizes v v2 (child_block_size (reading (take level path))) (child_block_size o)) (sym p.is) (record { longer = p.lessens.longer; made = p.made })
+  pub pruned_grows : GrowsBy MakesFew node_sizes v v2 (child_block_size (reading (take level path))) (child_block_size (p.later (take level path)))
+  pruned_grows = subst (λ o. GrowsBy MakesFew node_sizes v v2 (child_block_size (reading (take level path))) (child_block_size o)) (sym p.is) p.lessens.grows

@@ -1,45 +1,17 @@
 -- That the sizes of blocks by string say how far the arrays may grow as items are taken out.
-use Rattle.std.proofs.Common.{◌≡◌, ℕ, ◌+◌, ◌≤◌, Bool, false, cond, List, [], ◌∷◌, length, sum_by, Option, None, Some, is_some, refl, sym, ap, ◌∙◌, arith}
-use Rattle.std.proofs.lemmas.List.Sums.{sum_by-cons}
-use Rattle.std.specs.FinMap.{entries, contains_key}
+use Rattle.std.proofs.Common.{◌≡◌, ℕ, ◌+◌, ◌≤◌, List, length, sum_by, Option, None, Some, refl, sym, ap, ◌∙◌, arith}
 use Rattle.prefix_trie_bits.specs.Model.Blocks.{Sizes}
-use Rattle.prefix_trie_bits.proofs.Model.Ordered.{entries-empty}
 use Rattle.prefix_trie_table.specs.declared.allocator.node.Node.{Node}
-use Rattle.prefix_trie_table.specs.Digits.{path_of}
 use Rattle.prefix_trie_table.specs.Cells.{blank_node, node_sizes}
 use Rattle.prefix_trie_table.specs.Store.{Store}
 use Rattle.prefix_trie_table.specs.Forest.{node_or_blank, NodesHold, SomeTable}
 use Rattle.prefix_trie_table.specs.Layouts.{Sized, child_block_size, value_block_size}
 use Rattle.prefix_trie_table.specs.Settling.{headroom, headroom_if_any, headroom_of, child_headroom, value_headroom, Settles}
-use Rattle.prefix_trie_table.proofs.Strings.Filling.{sum-fresh}
 use Rattle.prefix_trie_table.proofs.Counts.NodeCounts.{slots_by_path}
-use Rattle.prefix_trie_table.proofs.Strings.PathStrings.{string_at, AreSteps, AreOnce, other_steps, other_once, fresh_string, paths_steps, paths_once}
+use Rattle.prefix_trie_table.proofs.Strings.PathStrings.{paths_steps, paths_once}
 use Rattle.prefix_trie_table.proofs.Removal.Settling.{no_children, no_own_values}
-use Rattle.prefix_trie_table.proofs.Blocks.Sizing.{with_size, sizes_at, get-sizes_at, sizes_only}
-use Rattle.prefix_trie_table.proofs.Blocks.SlotSums.{sum_by-same, sum_by-mapped}
-
-abbrev entry_headroom : List Bool × ℕ → ℕ
-entry_headroom e = headroom e.1
-
--- the sizes of paths, each of which stands once, have the headroom of these paths
-module _ (size : List ℕ → Option ℕ) where
-  more_headroom : (m : Sizes) (s : List Bool) (o : Option ℕ) → contains_key m s ≡ false →
-      sum_by entry_headroom (entries (with_size m s o)) ≡ headroom_if_any o + sum_by entry_headroom (entries m)
-  more_headroom m s None fresh = omega arith
-  more_headroom m s (Some n) fresh = sum-fresh entry_headroom m s n fresh
-
-  fresh_size : (x : List ℕ) (paths : List (List ℕ)) → AreSteps (x ∷ paths) → AreOnce (x ∷ paths) → contains_key (sizes_at size paths) (string_at x) ≡ false
-  fresh_size x paths steps once =
-      ap is_some (get-sizes_at size paths (other_steps x paths steps) (string_at x))
-      ∙ ap (λ b. is_some (cond b (size (path_of (string_at x))) None)) (fresh_string x paths steps once)
-
-  headroom_by_path : (paths : List (List ℕ)) → AreSteps paths → AreOnce paths →
-      sum_by entry_headroom (entries (sizes_at size paths)) ≡ sum_by (λ p. headroom_if_any (size p)) paths
-  headroom_by_path [] steps once = ap (sum_by entry_headroom) (entries-empty ℕ)
-  headroom_by_path (x ∷ paths) steps once =
-      more_headroom (sizes_at size paths) (string_at x) (size x) (fresh_size x paths steps once)
-      ∙ ap (λ n. headroom_if_any (size x) + n) (headroom_by_path paths (other_steps x paths steps) (other_once x paths once))
-      ∙ sym (sum_by-cons (λ p. headroom_if_any (size p)) x paths)
+use Rattle.prefix_trie_table.proofs.Blocks.Sizing.{sizes_at, sizes_sum, sizes_only}
+use Rattle.prefix_trie_table.proofs.Blocks.SlotSums.{sum_by-same}
 
 module _ (nodes : List ℕ → Option Node) (paths : List (List ℕ)) (v : Store Node) (hold : NodesHold node_sizes nodes paths v) where
   -- what the slots count is what the sizes do
@@ -48,8 +20,7 @@ module _ (nodes : List ℕ → Option Node) (paths : List (List ℕ)) (v : Store
   slots_headroom size missing blank =
       slots_by_path (λ n. headroom_if_any (size (Some n))) blank node_sizes nodes paths v hold
       ∙ sum_by-same (λ p. headroom_if_any (size (nodes p))) (λ p. headroom_if_any (size (Some (node_or_blank (nodes p))))) paths (λ p. same (nodes p))
-      ∙ sym (headroom_by_path (λ p. size (nodes p)) paths (paths_steps node_sizes nodes paths v hold) (paths_once node_sizes nodes paths v hold))
-      ∙ sym (sum_by-mapped headroom (λ (e : List Bool × ℕ). e.1) (entries (sizes_at (λ p. size (nodes p)) paths)))
+      ∙ sym (sizes_sum headroom (λ p. size (nodes p)) paths (paths_steps node_sizes nodes paths v hold) (paths_once node_sizes nodes paths v hold))
     where
       same : (o : Option Node) → headroom_if_any (size (Some (node_or_blank o))) ≡ headroom_if_any (size o)
       same None = blank ∙ sym (ap headroom_if_any missing)

@@ -21,17 +21,17 @@ use Rattle.prefix_trie_bits.proofs.Model.NodeListings.{listing_at_child}
 use Rattle.prefix_trie_table.specs.declared.allocator.node.Node.{Node}
 use Rattle.prefix_trie_table.specs.declared.table.retain.Site.{Site}
 use Rattle.prefix_trie_table.specs.Bitmaps.{has_bit, rank}
-use Rattle.prefix_trie_table.specs.Cells.{node_at, node_sizes, cell_sizes}
+use Rattle.prefix_trie_table.specs.Cells.{node_at, node_sizes}
 use Rattle.prefix_trie_table.specs.Digits.{path_of}
-use Rattle.prefix_trie_table.specs.Store.{Store, KeepsMade}
+use Rattle.prefix_trie_table.specs.Store.{Store}
 use Rattle.prefix_trie_table.specs.Forest.{read, child_slot, Holds, SomeTable, IsSlot, at_child, NodesHold, entry_count, without, lacking_child}
 use Rattle.prefix_trie_table.specs.Removals.{IsBare, IsStocked, ChildDropped, Drops, none, more}
 use Rattle.prefix_trie_table.specs.Walking.Walks.{IsPlaceOf}
-use Rattle.prefix_trie_table.specs.Retaining.{HasPlace, IsSite, Needs, RetainsTo, Lasts, ValuesBetween, ChildrenBetween}
-use Rattle.prefix_trie_table.specs.Tables.{IsTrie}
+use Rattle.prefix_trie_table.specs.Retaining.{HasPlace, IsSite, Needs, RetainsTo, Lasts, BlocksBetween}
+use Rattle.prefix_trie_table.specs.Tables.{IsTrie, Grows}
 use Rattle.prefix_trie_table.proofs.Strings.Plain.{no_or_yes}
 use Rattle.prefix_trie_table.proofs.Tree.Invariant.{some_table}
-use Rattle.prefix_trie_table.proofs.Removal.Between.{between_then, dropped_values_between, dropped_children_between}
+use Rattle.prefix_trie_table.proofs.Removal.Between.{blocks_then, dropped_between, stays_grown, stays_then}
 use Rattle.prefix_trie_table.proofs.Retain.AskedBelow.{child_asked, needed_below}
 use Rattle.prefix_trie_table.proofs.Strings.Bare.{some_bit}
 use Rattle.prefix_trie_table.proofs.Strings.Bits.{has_bit-is, has_bit-below, rank-ones}
@@ -47,7 +47,6 @@ use Rattle.prefix_trie_table.specs.Shape.{IsShapeOf}
 use Rattle.prefix_trie_table.proofs.Tree.Subtrees.{child_is, child_inside, child_few, child_fits, few_at, all_places, is_in-child, number-small}
 use Rattle.prefix_trie_table.proofs.Walk.Spots.{place-child}
 use Rattle.prefix_trie_table.proofs.Tree.Trees.{reads}
-use Rattle.prefix_trie_table.proofs.Blocks.Turnovers.{made_then}
 
 longer_not : (s u : List Bool) → length u ≡ 5 → s ++ u ≡ s → ⊥
 longer_not s u five e = absurd (omega (arith, ap length e, length-append s u, five))
@@ -175,15 +174,10 @@ module _ {K T : Type 0} (IsKey : K → Type 0) (bits : K → List Bool) (width :
       pub still_lasts : Lasts (p.depth / 5) v v2 w w2
       still_lasts = record {
         above = λ q less. lasts.above q (omega (arith, less, deeper));
-        node_limit = lasts.node_limit;
-        node_slots = lasts.node_slots;
-        cell_limit = lasts.cell_limit;
-        cell_slots = lasts.cell_slots;
+        nodes = lasts.nodes;
+        cells = lasts.cells;
         settles = lasts.settles;
-        values = lasts.values;
-        children = lasts.children;
-        node_made = lasts.node_made;
-        cell_made = lasts.cell_made;
+        blocks = lasts.blocks;
       }
 
       whole_b : length (take b.depth (bits b.key)) % 5 ≡ 0
@@ -246,7 +240,7 @@ module _ {K T : Type 0} (IsKey : K → Type 0) (bits : K → List Bool) (width :
           (dropped : (reading : List ℕ → Option Node) (paths : List (List ℕ)) (q : List ℕ) (k leaf : Node) → NodesHold node_sizes reading paths v2 →
           IsSlot reading q (p.slot.start + p.slot.place) → reading q ≡ Some k → reading (q ++ c ∷ []) ≡ Some leaf → rank leaf.child_bitmap 32 ≡ 0 →
           ChildDropped reading paths q c k m v2 v3)
-          (limit_is : v3.limit ≡ v2.limit) (longer : length v2.slots ≤ length v3.slots) (inside : length v2.slots ≤ v2.limit → length v3.slots ≤ v3.limit) where
+          (room : Grows v2 v3 24) where
         abbrev table2 : SomeTable v2 w2
         table2 = some_table to.trie.table
 
@@ -323,8 +317,8 @@ module _ {K T : Type 0} (IsKey : K → Type 0) (bits : K → List Bool) (width :
             counted = counted3;
             sized = to.trie.table.sized;
             cells_first = to.trie.table.cells_first;
-            one_limit = to.trie.table.one_limit ∙ sym limit_is;
-            nodes_within = inside to.trie.table.nodes_within;
+            one_limit = to.trie.table.one_limit ∙ sym room.limit_is;
+            nodes_within = room.within to.trie.table.nodes_within;
             cells_within = to.trie.table.cells_within;
           };
           shaped = shape3;
@@ -361,20 +355,13 @@ module _ {K T : Type 0} (IsKey : K → Type 0) (bits : K → List Bool) (width :
         pub site3 : IsSite IsKey bits width v3 p m
         site3 = site_stays IsKey bits width v p n at long v3 m above3 (read3 here ∙ changed_here (read v2.slots) here m c None here refl)
 
-        pub lasts3 : KeepsMade v2 v3 → Lasts (p.depth / 5) v v3 w w2
-        lasts3 made = record {
+        pub lasts3 : Lasts (p.depth / 5) v v3 w w2
+        lasts3 = record {
           above = above3;
-          node_limit = limit_is ∙ lasts.node_limit;
-          node_slots = (let l = lasts.node_slots in omega (arith, l, longer));
-          cell_limit = lasts.cell_limit;
-          cell_slots = lasts.cell_slots;
+          nodes = stays_then v v2 v3 lasts.nodes (stays_grown v2 v3 24 room);
+          cells = lasts.cells;
           settles = Settles-nodes v v2 v3 w w2 lasts.settles one.settles;
-          values = λ x. between_then cell_sizes _ _ _ _ _ _ (lasts.values x)
-              (subst (ValuesBetween (read v2.slots x)) (sym (read3 x))
-              (dropped_values_between (read v2.slots) table2.paths here c n m left v2 v3 one still_site.stands leaf_is bare x));
-          children = λ x. between_then node_sizes _ _ _ _ _ _ (lasts.children x)
-              (subst (ChildrenBetween (read v2.slots x)) (sym (read3 x))
-              (dropped_children_between (read v2.slots) table2.paths here c n m left v2 v3 one still_site.stands leaf_is bare x));
-          node_made = made_then v v2 v3 lasts.node_made made;
-          cell_made = lasts.cell_made;
+          blocks = λ x. blocks_then _ _ _ (lasts.blocks x)
+              (subst (BlocksBetween (read v2.slots x)) (sym (read3 x))
+              (dropped_between (read v2.slots) table2.paths here c n m left v2 v3 one still_site.stands leaf_is bare x));
         }

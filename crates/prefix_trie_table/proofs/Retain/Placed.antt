@@ -26,11 +26,10 @@ use Rattle.prefix_trie_table.specs.Store.{Store}
 use Rattle.prefix_trie_table.specs.Forest.{read, has_value, has_child}
 use Rattle.prefix_trie_table.specs.Shape.{same_shape}
 use Rattle.prefix_trie_table.specs.Walking.Walks.{IsPlaceOf}
-use Rattle.prefix_trie_table.specs.Cells.{node_sizes, cell_sizes}
 use Rattle.prefix_trie_table.proofs.Strings.Plain.{no_or_yes, whole_more}
 use Rattle.prefix_trie_table.proofs.Blocks.Soundness.{All-both}
 use Rattle.prefix_trie_table.proofs.Tree.Invariant.{some_table}
-use Rattle.prefix_trie_table.proofs.Removal.Between.{between_then, values_still, children_still}
+use Rattle.prefix_trie_table.proofs.Removal.Between.{blocks_still, blocks_then, stays_none, stays_then}
 use Rattle.prefix_trie_table.specs.Retaining.{is_at, is_at_some, is_under_some, IsSite, Retains, RetainsIn, MayAskAt, Lasts}
 use Rattle.prefix_trie_table.specs.Tables.{IsTrie}
 use Rattle.prefix_trie_table.proofs.Retain.Asked.{at_value, at_child, under_at_some, one_place, apart_first, asked_both, may_ask_first, may_ask_then}
@@ -41,7 +40,6 @@ use Rattle.prefix_trie_table.proofs.Retain.Retained.{here_levels, here_whole}
 use Rattle.prefix_trie_table.proofs.Tree.Shapes.{shape_entries, shape_nodes, reads_node}
 use Rattle.prefix_trie_table.proofs.Walk.Spots.{place-value, place-child}
 use Rattle.prefix_trie_table.proofs.Tree.Subtrees.{unset, is_in-value, is_in-child, number-small}
-use Rattle.prefix_trie_table.proofs.Blocks.Turnovers.{made_then}
 
 -- a place is that of one string
 pub same_place : (s t : List Bool) → length s ≤ 5 → length t ≤ 5 → place_of s ≡ place_of t → s ≡ t
@@ -231,27 +229,17 @@ module _ {K T F : Type 0} (IsKey : K → Type 0) (bits : K → List Bool) (width
 pub lasts_both : {T : Type 0} (level : ℕ) (v v2 v3 : Store Node) (w w2 w3 : Store (Option T)) → Lasts level v v2 w w2 → Lasts level v2 v3 w2 w3 → Lasts level v v3 w w3
 lasts_both level v v2 v3 w w2 w3 a b = record {
   above = λ q less. b.above q less ∙ a.above q less;
-  node_limit = b.node_limit ∙ a.node_limit;
-  node_slots = (let x = a.node_slots in let y = b.node_slots in omega (arith, x, y));
-  cell_limit = b.cell_limit ∙ a.cell_limit;
-  cell_slots = (let x = a.cell_slots in let y = b.cell_slots in omega (arith, x, y));
+  nodes = stays_then v v2 v3 a.nodes b.nodes;
+  cells = stays_then w w2 w3 a.cells b.cells;
   settles = Settles-then v v2 v3 w w2 w3 a.settles b.settles;
-  values = λ x. between_then cell_sizes _ _ _ _ _ _ (a.values x) (b.values x);
-  children = λ x. between_then node_sizes _ _ _ _ _ _ (a.children x) (b.children x);
-  node_made = made_then v v2 v3 a.node_made b.node_made;
-  cell_made = made_then w w2 w3 a.cell_made b.cell_made;
+  blocks = λ x. blocks_then _ _ _ (a.blocks x) (b.blocks x);
 }
 
 pub lasts_none : {T : Type 0} (level : ℕ) (v : Store Node) (w : Store (Option T)) → Lasts level v v w w
 lasts_none level v w = record {
   above = λ q less. refl;
-  node_limit = refl;
-  node_slots = omega arith;
-  cell_limit = refl;
-  cell_slots = omega arith;
+  nodes = stays_none v;
+  cells = stays_none w;
   settles = Settles-none v v w w refl refl;
-  values = λ x. values_still (read v.slots x) (read v.slots x) refl;
-  children = λ x. children_still (read v.slots x) (read v.slots x) refl;
-  node_made = λ j. omega arith;
-  cell_made = λ j. omega arith;
+  blocks = λ x. blocks_still (read v.slots x) (read v.slots x) refl;
 }

@@ -23,11 +23,11 @@ use Rattle.prefix_trie_table.specs.Forest.{read, value_of, has_value, one_if, Ho
 use Rattle.prefix_trie_table.specs.Removals.{ValueTaken, EntryTaken}
 use Rattle.prefix_trie_table.specs.Shape.{IsShapeOf}
 use Rattle.prefix_trie_table.specs.Tables.{ForHeld, Grows}
-use Rattle.prefix_trie_table.specs.Retaining.{IsSite, ValuesBetween, ChildrenBetween}
+use Rattle.prefix_trie_table.specs.Retaining.{IsSite, BlocksBetween}
 use Rattle.prefix_trie_table.specs.Tables.{IsTrie}
 use Rattle.prefix_trie_table.proofs.Strings.Plain.{both_true}
 use Rattle.prefix_trie_table.proofs.Tree.Invariant.{some_table, some_nodes}
-use Rattle.prefix_trie_table.proofs.Removal.Between.{taken_values_between, taken_children_between}
+use Rattle.prefix_trie_table.proofs.Removal.Between.{taken_between}
 use Rattle.prefix_trie_table.proofs.Strings.Bits.{has_bit-is}
 use Rattle.prefix_trie_table.proofs.Tree.Children.{with_here, with_other}
 use Rattle.prefix_trie_table.proofs.Removal.OneEntry.{value_taken, kept_without}
@@ -195,16 +195,10 @@ module _ {K : Type 0} (IsKey : K → Type 0) (bits : K → List Bool) (width : �
             reads node_sizes (with_node (read v.slots) (path_of (take p.depth (bits p.key) ++ t)) m) held_table.paths v2 a.hold q
 
         -- what becomes of the sizes of blocks
-        pub value_blocks_after : (q : List ℕ) → ValuesBetween (read v.slots q) (read v2.slots q)
-        value_blocks_after q =
-            subst (ValuesBetween (read v.slots q)) (sym (read_after q))
-            (taken_values_between (read v.slots) held_table.paths held_table.values (path_of (take p.depth (bits p.key) ++ t)) (bit_of (take p.depth (bits p.key) ++ t)) n m v2 w w2
-            (taken_with (read v.slots) held_table.paths held_table.values read_table) (node_there (read v.slots) held_table.paths held_table.values read_table) q)
-
-        pub child_blocks_after : (q : List ℕ) → ChildrenBetween (read v.slots q) (read v2.slots q)
-        child_blocks_after q =
-            subst (ChildrenBetween (read v.slots q)) (sym (read_after q))
-            (taken_children_between (read v.slots) held_table.paths held_table.values (path_of (take p.depth (bits p.key) ++ t)) (bit_of (take p.depth (bits p.key) ++ t)) n m v2 w w2
+        pub blocks_after : (q : List ℕ) → BlocksBetween (read v.slots q) (read v2.slots q)
+        blocks_after q =
+            subst (BlocksBetween (read v.slots q)) (sym (read_after q))
+            (taken_between (read v.slots) held_table.paths held_table.values (path_of (take p.depth (bits p.key) ++ t)) (bit_of (take p.depth (bits p.key) ++ t)) n m v2 w w2
             (taken_with (read v.slots) held_table.paths held_table.values read_table) (node_there (read v.slots) held_table.paths held_table.values read_table) q)
 
         pub value_above : (q : List ℕ) → length q < p.depth / 5 → read v2.slots q ≡ read v.slots q

@@ -18,11 +18,11 @@ use Rattle.prefix_trie_table.specs.Tables.{Grows, IsTrie}
 use Rattle.prefix_trie_table.specs.Forest.{read, value_in, value_of, NodesHold, CellsHold, IsSlot}
 use Rattle.prefix_trie_table.specs.Cells.{node_sizes, cell_sizes}
 use Rattle.prefix_trie_table.specs.Removals.{ValueTaken}
-use Rattle.prefix_trie_table.specs.Retaining.{IsSite, RetainsTo, ValuesBetween, ChildrenBetween}
+use Rattle.prefix_trie_table.specs.Retaining.{IsSite, RetainsTo, BlocksBetween}
 use Rattle.prefix_trie_table.proofs.Tree.Invariant.{some_table}
 use Rattle.prefix_trie_table.proofs.Retain.AskedBelow.{may_ask_value, value_stays, value_goes}
 use Rattle.prefix_trie_table.proofs.Strings.Bits.{rank-ones}
-use Rattle.prefix_trie_table.proofs.Retain.Retained.{here_length, here_whole, key_path, key_bit, bit_set, some_there, site_stays, some_counted, removed_is, value_above, value_blocks_after, child_blocks_after, value_read_after, trie_taken}
+use Rattle.prefix_trie_table.proofs.Retain.Retained.{here_length, here_whole, key_path, key_bit, bit_set, some_there, site_stays, some_counted, removed_is, value_above, blocks_after, value_read_after, trie_taken}
 use Rattle.prefix_trie_table.proofs.Tree.Shapes.{shape_entries}
 use Rattle.prefix_trie_table.proofs.Tree.Subtrees.{value_inside, value_fits}
 
@@ -137,11 +137,8 @@ module _ {K T : Type 0} (IsKey : K → Type 0) (bits : K → List Bool) (width :
     pub above_here : (q : List ℕ) → length q < p.depth / 5 → read v2.slots q ≡ read v.slots q
     above_here = value_above IsKey bits width v p node at long count w s trie (digits n x) short set_there removed m v2 w2 0 gives_here takes_here
 
-    pub values_here : (q : List ℕ) → ValuesBetween (read v.slots q) (read v2.slots q)
-    values_here = value_blocks_after IsKey bits width v p node at long count w s trie (digits n x) short set_there removed m v2 w2 0 gives_here takes_here
-
-    pub children_here : (q : List ℕ) → ChildrenBetween (read v.slots q) (read v2.slots q)
-    children_here = child_blocks_after IsKey bits width v p node at long count w s trie (digits n x) short set_there removed m v2 w2 0 gives_here takes_here
+    pub blocks_here : (q : List ℕ) → BlocksBetween (read v.slots q) (read v2.slots q)
+    blocks_here = blocks_after IsKey bits width v p node at long count w s trie (digits n x) short set_there removed m v2 w2 0 gives_here takes_here
 
     pub site_here : IsSite IsKey bits width v2 p m
     site_here =

@@ -119,7 +119,7 @@ module _ {T : Type 0} (v v2 : Store Node) (w w2 : Store (Option T)) (count count
 
     pub many_room : LeavesRoom (len s.0.nodes) (storage_of v w z).room (storage_of v2 w2 z2).room
     many_room = let room = settled_room v v2 w w2 count s.0 is s.1 lasts.settles in record {
-      same_limit = lasts.node_limit;
+      same_limit = lasts.nodes.limit;
       nodes_within = left.nodes_within;
       cells_within = cells_within;
       nodes_grow = room.0;
@@ -131,13 +131,13 @@ module _ {T : Type 0} (v v2 : Store Node) (w w2 : Store (Option T)) (count count
         let t = some_table is in
         let u = some_table left in
         record {
-          value_blocks = retained_values v v2 w w2 s z t s2 z2 u lasts.values;
-          child_blocks = retained_children v v2 w w2 s z t s2 z2 u lasts.children;
-          node_slots = lasts.node_slots;
-          cell_slots = lasts.cell_slots;
-          nodes_still = still _ _ _ _ settles_in.nodes lasts.node_slots;
-          cells_still = still _ _ _ _ settles_in.cells lasts.cell_slots;
-          keeps = kept_blocks v v2 w w2 t u z z2 lasts.node_made lasts.cell_made;
+          value_blocks = retained_values v v2 w w2 s z t s2 z2 u lasts.blocks;
+          child_blocks = retained_children v v2 w w2 s z t s2 z2 u lasts.blocks;
+          node_slots = lasts.nodes.longer;
+          cell_slots = lasts.cells.longer;
+          nodes_still = still _ _ _ _ settles_in.nodes lasts.nodes.longer;
+          cells_still = still _ _ _ _ settles_in.cells lasts.cells.longer;
+          keeps = kept_blocks v v2 w w2 t u z z2 lasts.nodes.made lasts.cells.made;
         }
 
     pub retains_step : {F : Type 0} (asks : F → List Bool → T → Bool → F → Type 0) (f : F) (kept : State T) → kept ≡ s2.0 →

@@ -6,6 +6,7 @@ ghost use Rattle.prefix_trie_bits.specs.Model.HandsOut.{packed_slots};
 ghost use Rattle.prefix_trie_table.specs.BlockCounts.{tier_count};
 ghost use Rattle.prefix_trie_table.specs.Cells.{HasSizes, blank_node, node_at, node_sizes};
 ghost use Rattle.prefix_trie_table.specs.HandingOut.Laying.{LaysList};
+ghost use Rattle.prefix_trie_table.specs.Losing.{LosesOne};
 ghost use Rattle.prefix_trie_table.specs.Store.{Store, UsedBlock, Sound, Turnover, Obtains, HasList, AreFree, IsReady, SameSlots, tier_at, tier_sizes, slots_made, free_counts, none_of, no_blocks, block, held, list_size, list_need, needs};
 ghost use Rattle.prefix_trie_bits.specs.declared.prefix.Refusal.TheVariants.{Memory, IndexRange};
 
@@ -177,11 +178,7 @@ impl<A: Allocator, V: Drop> NodeAllocator<A, V> {
         requires holds { HasList blank_node self.old k start count }
         requires sizes { HasSizes self.old.tiers }
         requires place { place < count }
-        ensures turnover { Turnover self.old self.new
-            (made_of (tier_sizes self.old.tiers) (free_counts self.old.tiers) (list_size self.old.tiers k count) (list_size self.old.tiers result.tier (count - 1)))
-            (list_size self.old.tiers k count) (list_size self.old.tiers result.tier (count - 1)) }
-        ensures steps { StepsDown (tier_sizes self.old.tiers) (free_counts self.old.tiers) count (count - 1)
-            (list_size self.old.tiers k count) (list_size self.old.tiers result.tier (count - 1)) }
+        ensures loses { LosesOne self.old self.new count (list_size self.old.tiers k count) (list_size self.old.tiers result.tier (count - 1)) }
         ensures tier { result.tier < length self.old.tiers }
         ensures gone { count ≡ 1 → result ≡ record { tier = 0; start = 0 } }
         ensures stays { 1 < count → result.tier ≡ k → result.start ≡ start }

@@ -7,7 +7,7 @@ ghost use Rattle.prefix_trie_bits.specs.Model.Step.{State};
 ghost use Rattle.prefix_trie_table.specs.Digits.{path_of};
 ghost use Rattle.prefix_trie_table.specs.Forest.{read};
 ghost use Rattle.prefix_trie_table.specs.Tables.{IsReached, IsTrie};
-ghost use Rattle.prefix_trie_table.specs.Retaining.{AsksUpTo, SaysNo, MayAskBelow, Lasts};
+ghost use Rattle.prefix_trie_table.specs.Retaining.{AsksUpTo, SaysNo, MayAskBelow, TakesBelow, Lasts};
 
 use crate::allocator::blocks::Blocks;
 use crate::allocator::node::{Node, NodeSlot};
@@ -57,12 +57,8 @@ fn empty_part<K: Key, T: Drop, A: Allocator, V: Tick, F: Keep<K, T, V>>(
     requires none { SaysNo F.asks }
     requires may_ask { MayAskBelow F.asks F.accepts K.bit_width (take len (K.bits key)) keep.old entries.old nodes.old cells.old }
     ensures emptied { (s : State T) → IsTrie K.bit_width entries.old nodes.old cells.old s
-        → IsTrie K.bit_width entries.new nodes.new cells.new (record {
-          entries = without_below s.entries (take len (K.bits key));
-          nodes = nodes_not_below s.nodes (take len (K.bits key));
-        }) }
-    ensures up_to { (s : State T) → IsTrie K.bit_width entries.old nodes.old cells.old s
-        → AsksUpTo F.asks keep.old (listing_below s.entries (take len (K.bits key))) keep.new }
+        → TakesBelow F.asks F.accepts K.bit_width (take len (K.bits key)) keep.old s keep.new
+        (nodes_not_below s.nodes (take len (K.bits key))) entries.new nodes.new cells.new }
     ensures node { read nodes.new.slots (path_of (take len (K.bits key))) ≡ Some result }
     ensures lasts { Lasts (len / 5) nodes.old nodes.new cells.old cells.new }
 {

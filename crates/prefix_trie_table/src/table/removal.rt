@@ -4,9 +4,9 @@ ghost use Rattle.prefix_trie_table.specs.declared.allocator.node.Node.{Node};
 ghost use Rattle.prefix_trie_table.specs.Bitmaps.{has_bit as is_set, rank as rank_of};
 ghost use Rattle.prefix_trie_table.specs.Cells.{blank_node, node_at, node_sizes, cell_sizes};
 ghost use Rattle.prefix_trie_table.specs.Digits.{path_of, bit_of};
-ghost use Rattle.prefix_trie_table.specs.Store.{Sound, SameRoom, no_blocks};
+ghost use Rattle.prefix_trie_table.specs.Store.{Sound, no_blocks};
 ghost use Rattle.prefix_trie_table.specs.Forest.{IsSlot, NodesHold, CellsHold, SomeTable, SomeNodes, IsNodeAt, entry_count, one_if};
-ghost use Rattle.prefix_trie_table.specs.Removals.{ValueTaken, EntryTaken, IsBare, IsStocked, GivesBack, ChildDropped, IsWay, StandsAtEnd, Pruned, EntryRemoved};
+ghost use Rattle.prefix_trie_table.specs.Removals.{ValueTaken, EntryTaken, SameBlocks, IsBare, IsStocked, GivesBack, ChildDropped, IsWay, StandsAtEnd, Pruned, EntryRemoved};
 ghost use Rattle.prefix_trie_table.specs.Settling.{Settles, NodesSettle};
 ghost use Rattle.prefix_trie_table.specs.Tables.{IsReached, Grows, ForHeld, own_value};
 
@@ -61,8 +61,7 @@ pub fn take_value<T: Drop, A: Allocator, V: Tick>(
     requires stands { (t : SomeTable nodes.old cells.old) × IsNodeAt t.reading (at.start + at.place) }
     requires node { node ≡ node_at nodes.old.slots (at.start + at.place) }
     requires there { is_set node.value_bitmap bit ≡ true }
-    ensures node_room { SameRoom nodes.old nodes.new }
-    ensures node_tiers { nodes.new.tiers ≡ nodes.old.tiers }
+    ensures node_blocks { SameBlocks nodes.old nodes.new }
     ensures cell_room { Grows cells.old cells.new 24 }
     ensures settles { Settles nodes.old nodes.new cells.old cells.new }
     ensures value { (reading : List ℕ → Option Node) (paths : List (List ℕ))
@@ -118,8 +117,7 @@ fn take_entry<K: Key, T: Drop, A: Allocator, V: Tick>(
         (bit_of (take len (K.bits key))) nodes.new cells.old cells.new)
         × (t.later (path_of (take len (K.bits key))) ≡ Some result.1)) }
     ensures counted { entries.new + one_if (is_some result.0) ≡ entries.old }
-    ensures node_room { SameRoom nodes.old nodes.new }
-    ensures node_tiers { nodes.new.tiers ≡ nodes.old.tiers }
+    ensures node_blocks { SameBlocks nodes.old nodes.new }
     ensures cell_room { Grows cells.old cells.new 24 }
 {
     let bit = value_bit_of(key, len / 5 * 5, len);
@@ -150,8 +148,7 @@ pub fn remove_value<K: Key, T: Drop, A: Allocator, V: Tick>(
         EntryTaken reading paths values (path_of (take len (K.bits key)))
         (bit_of (take len (K.bits key))) nodes.new cells.old cells.new) }
     ensures counted { entries.new + one_if (is_some result) ≡ entries.old }
-    ensures node_room { SameRoom nodes.old nodes.new }
-    ensures node_tiers { nodes.new.tiers ≡ nodes.old.tiers }
+    ensures node_blocks { SameBlocks nodes.old nodes.new }
     ensures cell_room { Grows cells.old cells.new 24 }
 {
     let (reached, _) = descend(nodes, key, len, counter);

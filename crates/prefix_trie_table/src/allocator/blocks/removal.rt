@@ -1,8 +1,8 @@
 //! Taking an item out of a list.
 ghost use Rattle.std.specs.Prelude.{◌≡◌, ℕ, ◌+◌, ◌-◌, ◌<◌, ◌≤◌, ◌↔◌, ◌∷◌, ◌++◌, List, None, Some, length, insert, remove, option_map, IfSome, IfNone, IsSome, MatchOption, slice_index_or};
-ghost use Rattle.prefix_trie_bits.specs.Model.Blocks.{StepsDown, made_of};
 ghost use Rattle.prefix_trie_table.specs.Cells.{HasSizes};
-ghost use Rattle.prefix_trie_table.specs.Store.{UsedBlock, Sound, Turnover, InUse, HasList, tier_at, tier_sizes, size_in, free_in, free_counts, none_of, many_of, block, held, list_size};
+ghost use Rattle.prefix_trie_table.specs.Losing.{LosesOne};
+ghost use Rattle.prefix_trie_table.specs.Store.{UsedBlock, Sound, Turnover, InUse, HasList, tier_at, tier_sizes, size_in, free_in, none_of, many_of, block, held, list_size};
 
 use crate::allocator::blocks::{BlockRef, Blocks};
 use crate::allocator::slots::{Slot, shift_out};
@@ -16,11 +16,7 @@ impl<S: Slot, A: Allocator> Blocks<S, A> {
         requires holds { HasList S.vacant self.old k start count }
         requires sizes { HasSizes self.old.tiers }
         requires place { place < count }
-        ensures turnover { Turnover self.old self.new
-            (made_of (tier_sizes self.old.tiers) (free_counts self.old.tiers) (list_size self.old.tiers k count) (list_size self.old.tiers result.1.tier (count - 1)))
-            (list_size self.old.tiers k count) (list_size self.old.tiers result.1.tier (count - 1)) }
-        ensures steps { StepsDown (tier_sizes self.old.tiers) (free_counts self.old.tiers) count (count - 1)
-            (list_size self.old.tiers k count) (list_size self.old.tiers result.1.tier (count - 1)) }
+        ensures loses { LosesOne self.old self.new count (list_size self.old.tiers k count) (list_size self.old.tiers result.1.tier (count - 1)) }
         ensures tier { result.1.tier < length self.old.tiers }
         ensures gone { count ≡ 1 → result.1 ≡ record { tier = 0; start = 0 } }
         ensures stays { 1 < count → result.1.tier ≡ k → result.1.start ≡ start }
@@ -44,11 +40,8 @@ impl<S: Slot, A: Allocator> Blocks<S, A> {
         requires sizes { HasSizes self.old.tiers }
         requires place { place < count }
         ensures none { IsSome result.1 ↔ (1 < count) }
-        ensures turnover { let left = option_map (λ p. size_in (tier_sizes self.old.tiers) p.tier) result.1 in
-            let size = size_in (tier_sizes self.old.tiers) k in
-            Turnover self.old self.new (made_of (tier_sizes self.old.tiers) (free_counts self.old.tiers) (Some size) left) (Some size) left }
-        ensures steps { StepsDown (tier_sizes self.old.tiers) (free_counts self.old.tiers) count (count - 1)
-            (Some (size_in (tier_sizes self.old.tiers) k)) (option_map (λ p. size_in (tier_sizes self.old.tiers) p.tier) result.1) }
+        ensures loses { LosesOne self.old self.new count (Some (size_in (tier_sizes self.old.tiers) k))
+            (option_map (λ p. size_in (tier_sizes self.old.tiers) p.tier) result.1) }
         ensures stays { IfSome result.1 (λ p. p.tier ≡ k → p.start ≡ start) }
         ensures value { (n : ℕ) (xs : List S) (live : List (UsedBlock S))
             → Sound S.vacant (block k start n xs ∷ live) self.old → length xs ≡ count

@@ -87,7 +87,7 @@ returns-clause-handed g c =
           subst (λ (m : Contents g.row.T.Denot). (width : ℕ) → StepByPath width (stored now) (RemoveChildren q) Done (stored m)) (sym w.self-is)
           (all_step g.K.Key.bit_width (stored now) (stored w.clear.new.self) q (long ∙ w.if-len-eq0.true) c.requires.nodes
           (clear_behind (stored now) (c.self-2-1.given.0.0, storage_of new.nodes new.cells c.self-2-1.given.1.0) (stored w.clear.new.self)
-          (lasts.node_limit ∙ ap (λ (m : Contents g.row.T.Denot). m.room.limit) c.self.view_is)
+          (lasts.nodes.limit ∙ ap (λ (m : Contents g.row.T.Denot). m.room.limit) c.self.view_is)
           (subst (λ (m : Contents g.row.T.Denot). 0 < m.room.node_slots) c.self.view_is (root_slot c.self.invariant))
           w.clear.ensures.step))
       | else-len-eq0 w ↦

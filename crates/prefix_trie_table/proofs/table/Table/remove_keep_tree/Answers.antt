@@ -24,7 +24,7 @@ pub invariant_of-self : goal.invariant_of-self
 invariant_of-self g c =
     let left = kept_without (take c.args.len (g.K.Key.bits c.args.key)) c.self.inside.nodes c.remove_value.new.nodes c.self.inside.cells c.remove_value.new.cells c.self.inside.count
     c.remove_value.new.entries c.self.inside.shape c.self.invariant c.remove_value.result c.remove_value.ensures.value c.remove_value.ensures.counted c.remove_value.ensures.taken in
-    left.table (Grows-none _ _ 24 c.remove_value.ensures.node_room c.remove_value.ensures.node_tiers) c.remove_value.ensures.cell_room c.self-1.given.0
+    left.table (Grows-none _ _ 24 c.remove_value.ensures.node_blocks.room c.remove_value.ensures.node_blocks.tiers) c.remove_value.ensures.cell_room c.self-1.given.0
 
 pub returns : goal.returns
 returns g c =
@@ -45,7 +45,7 @@ returns g c =
     record {
       step = subst (λ (m : Contents g.row.T.Denot). (width : ℕ) → StepByPath width (stored m) (RemoveKeepTree q) (Value gone) (s2.0, storage_of v2 w2 z2)) c.self.view_is
           (takes_step v v2 w w2 _ _ s is z s2 left z2 q gone out.was (out.only s2)
-          (kept_in q v v2 w w2 _ s z is s2 z2 e.taken e.node_room.0 e.node_tiers (some_table left))
-          (kept_children q v v2 w w2 _ s z is s2 z2 e.taken e.node_room.0 e.node_tiers) e.node_tiers
-          (Grows-none v v2 24 e.node_room e.node_tiers) e.node_room.0 e.cell_room);
+          (kept_in q v v2 w w2 _ s z is s2 z2 e.taken e.node_blocks.room.0 e.node_blocks.tiers (some_table left))
+          (kept_children q v v2 w w2 _ s z is s2 z2 e.taken e.node_blocks.room.0 e.node_blocks.tiers) e.node_blocks.tiers
+          (Grows-none v v2 24 e.node_blocks.room e.node_blocks.tiers) e.node_blocks.room.0 e.cell_room);
     }

@@ -38,14 +38,6 @@ retain_places-requires-clause-may_ask g c = λ s trie.
     c.value_cover_mask.result c.child_cover_mask.result c.value_cover_mask.ensures c.child_cover_mask.ensures (to_come c.new-places.result) c.new-places.ensures.each c.new-places.ensures.places))
     (c.requires.may_ask s trie)
 
-pub returns-clause-up_to : goal.returns-clause-up_to
-returns-clause-up_to g c = λ s trie.
-    subst (λ es. AsksUpTo g.F.Keep.asks c.args.keep.now es c.retain_places.new.keep)
-    (part_listed g.K.Key.IsKey g.K.Key.bits g.K.Key.bit_width c.args.key c.requires.key (g.met.K.Key.key_laws.bits_length c.args.key c.requires.key)
-    c.args.len c.args.nodes.now c.args.node c.args.at c.requires.reached c.args.entries.now c.args.cells.now s trie
-    c.value_cover_mask.result c.child_cover_mask.result c.value_cover_mask.ensures c.child_cover_mask.ensures (to_come c.new-places.result) c.new-places.ensures.each c.new-places.ensures.places)
-    (c.retain_places.ensures.retains s trie).retains.up_to
-
 pub returns-clause-emptied : goal.returns-clause-emptied
 returns-clause-emptied g c = λ s trie.
     let b = g.K.Key.bits c.args.key in
@@ -55,8 +47,18 @@ returns-clause-emptied g c = λ s trie.
     let are = covers_below g.K.Key.bit_width c.args.entries.now c.args.nodes.now c.args.cells.now s trie (take c.args.len b) (drop (c.args.len / 5 * 5) (take c.args.len b))
     (home_rest b c.args.len long) c.args.node (ap (λ p. read c.args.nodes.now.slots (path_of p)) (home_is b c.args.len long) ∙ site.stands)
     c.value_cover_mask.result c.child_cover_mask.result c.value_cover_mask.ensures c.child_cover_mask.ensures (to_come c.new-places.result) c.new-places.ensures.each in
-    part_emptied _ c.requires.none _ g.K.Key.bit_width b c.args.len long (to_come c.new-places.result) s are _ _ _ _ _
-    (c.retain_places.ensures.retains s trie)
+    let to = c.retain_places.ensures.retains s trie in
+    record {
+      trie =
+          part_emptied _ c.requires.none _ g.K.Key.bit_width b c.args.len long (to_come c.new-places.result) s are _ _ _ _ _
+          to;
+      up_to =
+          subst (λ es. AsksUpTo g.F.Keep.asks c.args.keep.now es c.retain_places.new.keep)
+          (part_listed g.K.Key.IsKey g.K.Key.bits g.K.Key.bit_width c.args.key c.requires.key (g.met.K.Key.key_laws.bits_length c.args.key c.requires.key)
+          c.args.len c.args.nodes.now c.args.node c.args.at c.requires.reached c.args.entries.now c.args.cells.now s trie
+          c.value_cover_mask.result c.child_cover_mask.result c.value_cover_mask.ensures c.child_cover_mask.ensures (to_come c.new-places.result) c.new-places.ensures.each c.new-places.ensures.places)
+          to.retains.up_to;
+    }
 
 pub returns-clause-node : goal.returns-clause-node
 returns-clause-node g c =

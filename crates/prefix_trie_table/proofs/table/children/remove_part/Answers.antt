@@ -23,7 +23,7 @@ prune_up-requires-clause-stands g c =
     let found = c.in-Some.ensures.found in
     let trie = c.requires.trie in
     end_left g.K.Key.bit_width b c.args.len found.0.long c.args.nodes.now c.empty_part-left.new.nodes c.args.cells.now c.empty_part-left.new.cells c.args.entries.now
-    c.empty_part-left.new.entries trie.0 trie.1 (c.empty_part-left.ensures.emptied trie.0 trie.1) c.empty_part-left.ensures.lasts c.deref.result.now
+    c.empty_part-left.new.entries trie.0 trie.1 (c.empty_part-left.ensures.emptied trie.0 trie.1).trie c.empty_part-left.ensures.lasts c.deref.result.now
     (λ reading paths hold. subst (λ (xs : List NodeSlot). IsWay reading (path_of (take c.args.len b)) xs (c.args.len / 5)) (sym c.deref.ensures.0) (found.2 reading paths hold))
     c.empty_part-left.result c.empty_part-left.ensures.node
 
@@ -32,7 +32,7 @@ returns-clause-removed g c = λ s trie.
     let b = g.K.Key.bits c.args.key in
     let found = c.in-Some.ensures.found in
     part_taken g.K.Key.bit_width b c.args.len found.0.long c.args.nodes.now c.empty_part-left.new.nodes c.args.cells.now c.empty_part-left.new.cells c.args.entries.now
-    c.empty_part-left.new.entries s trie (c.empty_part-left.ensures.emptied s trie) c.empty_part-left.ensures.lasts c.deref.result.now
+    c.empty_part-left.new.entries s trie (c.empty_part-left.ensures.emptied s trie).trie c.empty_part-left.ensures.lasts c.deref.result.now
     (λ reading paths hold. subst (λ (xs : List NodeSlot). IsWay reading (path_of (take c.args.len b)) xs (c.args.len / 5)) (sym c.deref.ensures.0) (found.2 reading paths hold))
     c.empty_part-left.result c.empty_part-left.ensures.node c.prune_up.new.nodes c.prune_up.ensures.room c.prune_up.ensures.pruned
 
@@ -42,6 +42,9 @@ returns-clause-lasts g c =
     let found = c.in-Some.ensures.found in
     let trie = c.requires.trie in
     part_lasts g.K.Key.bit_width b c.args.len found.0.long c.args.nodes.now c.empty_part-left.new.nodes c.args.cells.now c.empty_part-left.new.cells c.args.entries.now
-    c.empty_part-left.new.entries trie.0 trie.1 (c.empty_part-left.ensures.emptied trie.0 trie.1) c.empty_part-left.ensures.lasts c.deref.result.now
+    c.empty_part-left.new.entries trie.0 trie.1 (c.empty_part-left.ensures.emptied trie.0 trie.1).trie c.empty_part-left.ensures.lasts c.deref.result.now
     (λ reading paths hold. subst (λ (xs : List NodeSlot). IsWay reading (path_of (take c.args.len b)) xs (c.args.len / 5)) (sym c.deref.ensures.0) (found.2 reading paths hold))
     c.empty_part-left.result c.empty_part-left.ensures.node c.prune_up.new.nodes c.prune_up.ensures.room c.prune_up.ensures.settles c.prune_up.ensures.pruned
+
+pub returns-clause-up_to : goal.returns-clause-up_to
+returns-clause-up_to g c = λ s trie. (c.empty_part-left.ensures.emptied s trie).up_to

@@ -53,7 +53,7 @@ lost g c =
     lost_one blank_node c.args.nodes.now c.remove_at-rest.new.self c.visit-node.result.child_tier c.visit-node.result.child_block c.count.result c.rank.result
     c.remove_at-rest.result 32 c.requires.stands.0.hold.sizes_are refl node_rooms list
     (let h = rank-below c.visit-node.result.child_bitmap c.args.child c.requires.child
-    (ap (λ (n : Node). has_bit n.child_bitmap c.args.child) c.visit-node.ensures.node ∙ c.requires.there) in omega (arith, h, same)) left.tier left.turnover left.steps left.sound _ _ same
+    (ap (λ (n : Node). has_bit n.child_bitmap c.args.child) c.visit-node.ensures.node ∙ c.requires.there) in omega (arith, h, same)) left.tier left.loses left.sound _ _ same
     (c.rank.ensures ∙ sym (rank-ones c.visit-node.result.child_bitmap c.args.child (omega (arith, c.requires.child))))
 
 pub returns-clause-room : goal.returns-clause-room

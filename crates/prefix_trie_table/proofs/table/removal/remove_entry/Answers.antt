@@ -44,6 +44,5 @@ returns-clause-removed g c = λ reading paths values holds.
       ap is_some own,
       taken.0,
       c.prune_up.ensures.pruned taken.0.later paths taken.0.holds.hold slots taken.1,
-      c.take_entry-value.ensures.node_room.0,
-      c.take_entry-value.ensures.node_tiers,
+      c.take_entry-value.ensures.node_blocks,
     )

@@ -48,7 +48,7 @@ lost g c =
     let bit : c.args.bit < 32 = omega (arith, c.requires.bit) in
     lost_one None c.args.cells.now c.remove_at-value.new.self c.args.node.value_tier c.args.node.value_block c.count.result c.rank.result
     c.remove_at-value.result.1 31 c.requires.stands.0.holds.cells.sizes_are refl cell_rooms list
-    (let h = rank-below c.args.node.value_bitmap c.args.bit bit c.requires.there in omega (arith, h, same)) left.tier left.turnover left.steps left.sound _ _ same
+    (let h = rank-below c.args.node.value_bitmap c.args.bit bit c.requires.there in omega (arith, h, same)) left.tier left.loses left.sound _ _ same
     (c.rank.ensures ∙ sym (rank-ones c.args.node.value_bitmap c.args.bit (omega (arith, bit))))
 
 pub returns-clause-cell_room : goal.returns-clause-cell_room

@@ -103,15 +103,15 @@ retain_place-returns-then-is_bare-clause-retains g t c = λ u few is x h.
     let place = c.requires.place in
     subst (λ r. RetainsTo g.F.Keep.asks g.F.Keep.accepts g.K.Key.bit_width (take c.args.site.depth (g.K.Key.bits c.args.site.key)) (r ∷ []) c.args.keep.now x c.retain_places-left.new.keep c.retain_places-left.new.entries c.drop_child.new.nodes c.retain_places-left.new.cells)
     (same_place place.string u place.short few (sym place.is ∙ is))
-    (child_goes g.K.Key.IsKey g.K.Key.bits g.K.Key.bit_width g.met.K.Key.key_laws.bits_length c.args.nodes.now c.args.site c.args.node c.requires.site c.args.entries.now c.args.cells.now x h c.requires.place c.in-Child.child c.in-Child.is c.rank.result c.rank.ensures c.extend.result c.extend.ensures.key c.extend.ensures.value c.visit-lower.result c.visit-lower.ensures.node g.F.Keep.asks g.F.Keep.accepts (to_come c.new-places.result) c.new-places.ensures.places c.new-places.ensures.each c.args.keep.now c.retain_places-left.new.keep c.retain_places-left.new.entries c.retain_places-left.new.nodes c.retain_places-left.new.cells (c.retain_places-left.ensures.retains x h) c.retain_places-left.result c.retain_places-left.ensures.node c.retain_places-left.ensures.lasts (c.is_bare.ensures.bare c.if-is_bare.true) c.drop_child.result c.drop_child.new.nodes c.drop_child.ensures.dropped c.drop_child.ensures.room.limit_is c.drop_child.ensures.room.longer c.drop_child.ensures.room.within)
+    (child_goes g.K.Key.IsKey g.K.Key.bits g.K.Key.bit_width g.met.K.Key.key_laws.bits_length c.args.nodes.now c.args.site c.args.node c.requires.site c.args.entries.now c.args.cells.now x h c.requires.place c.in-Child.child c.in-Child.is c.rank.result c.rank.ensures c.extend.result c.extend.ensures.key c.extend.ensures.value c.visit-lower.result c.visit-lower.ensures.node g.F.Keep.asks g.F.Keep.accepts (to_come c.new-places.result) c.new-places.ensures.places c.new-places.ensures.each c.args.keep.now c.retain_places-left.new.keep c.retain_places-left.new.entries c.retain_places-left.new.nodes c.retain_places-left.new.cells (c.retain_places-left.ensures.retains x h) c.retain_places-left.result c.retain_places-left.ensures.node c.retain_places-left.ensures.lasts (c.is_bare.ensures.bare c.if-is_bare.true) c.drop_child.result c.drop_child.new.nodes c.drop_child.ensures.dropped c.drop_child.ensures.room)
 
 pub retain_place-returns-then-is_bare-clause-node : goal.retain_place-returns-then-is_bare-clause-node
 retain_place-returns-then-is_bare-clause-node g t c =
-    site3 g.K.Key.IsKey g.K.Key.bits g.K.Key.bit_width g.met.K.Key.key_laws.bits_length c.args.nodes.now c.args.site c.args.node c.requires.site c.args.entries.now c.args.cells.now c.requires.trie.0 c.requires.trie.1 c.requires.place c.in-Child.child c.in-Child.is c.rank.result c.rank.ensures c.extend.result c.extend.ensures.key c.extend.ensures.value c.visit-lower.result c.visit-lower.ensures.node g.F.Keep.asks g.F.Keep.accepts (to_come c.new-places.result) c.new-places.ensures.places c.new-places.ensures.each c.args.keep.now c.retain_places-left.new.keep c.retain_places-left.new.entries c.retain_places-left.new.nodes c.retain_places-left.new.cells (c.retain_places-left.ensures.retains c.requires.trie.0 c.requires.trie.1) c.retain_places-left.result c.retain_places-left.ensures.node c.retain_places-left.ensures.lasts (c.is_bare.ensures.bare c.if-is_bare.true) c.drop_child.result c.drop_child.new.nodes c.drop_child.ensures.dropped c.drop_child.ensures.room.limit_is c.drop_child.ensures.room.longer c.drop_child.ensures.room.within
+    site3 g.K.Key.IsKey g.K.Key.bits g.K.Key.bit_width g.met.K.Key.key_laws.bits_length c.args.nodes.now c.args.site c.args.node c.requires.site c.args.entries.now c.args.cells.now c.requires.trie.0 c.requires.trie.1 c.requires.place c.in-Child.child c.in-Child.is c.rank.result c.rank.ensures c.extend.result c.extend.ensures.key c.extend.ensures.value c.visit-lower.result c.visit-lower.ensures.node g.F.Keep.asks g.F.Keep.accepts (to_come c.new-places.result) c.new-places.ensures.places c.new-places.ensures.each c.args.keep.now c.retain_places-left.new.keep c.retain_places-left.new.entries c.retain_places-left.new.nodes c.retain_places-left.new.cells (c.retain_places-left.ensures.retains c.requires.trie.0 c.requires.trie.1) c.retain_places-left.result c.retain_places-left.ensures.node c.retain_places-left.ensures.lasts (c.is_bare.ensures.bare c.if-is_bare.true) c.drop_child.result c.drop_child.new.nodes c.drop_child.ensures.dropped c.drop_child.ensures.room
 
 pub retain_place-returns-then-is_bare-clause-lasts : goal.retain_place-returns-then-is_bare-clause-lasts
 retain_place-returns-then-is_bare-clause-lasts g t c =
-    lasts3 g.K.Key.IsKey g.K.Key.bits g.K.Key.bit_width g.met.K.Key.key_laws.bits_length c.args.nodes.now c.args.site c.args.node c.requires.site c.args.entries.now c.args.cells.now c.requires.trie.0 c.requires.trie.1 c.requires.place c.in-Child.child c.in-Child.is c.rank.result c.rank.ensures c.extend.result c.extend.ensures.key c.extend.ensures.value c.visit-lower.result c.visit-lower.ensures.node g.F.Keep.asks g.F.Keep.accepts (to_come c.new-places.result) c.new-places.ensures.places c.new-places.ensures.each c.args.keep.now c.retain_places-left.new.keep c.retain_places-left.new.entries c.retain_places-left.new.nodes c.retain_places-left.new.cells (c.retain_places-left.ensures.retains c.requires.trie.0 c.requires.trie.1) c.retain_places-left.result c.retain_places-left.ensures.node c.retain_places-left.ensures.lasts (c.is_bare.ensures.bare c.if-is_bare.true) c.drop_child.result c.drop_child.new.nodes c.drop_child.ensures.dropped c.drop_child.ensures.room.limit_is c.drop_child.ensures.room.longer c.drop_child.ensures.room.within c.drop_child.ensures.room.made
+    lasts3 g.K.Key.IsKey g.K.Key.bits g.K.Key.bit_width g.met.K.Key.key_laws.bits_length c.args.nodes.now c.args.site c.args.node c.requires.site c.args.entries.now c.args.cells.now c.requires.trie.0 c.requires.trie.1 c.requires.place c.in-Child.child c.in-Child.is c.rank.result c.rank.ensures c.extend.result c.extend.ensures.key c.extend.ensures.value c.visit-lower.result c.visit-lower.ensures.node g.F.Keep.asks g.F.Keep.accepts (to_come c.new-places.result) c.new-places.ensures.places c.new-places.ensures.each c.args.keep.now c.retain_places-left.new.keep c.retain_places-left.new.entries c.retain_places-left.new.nodes c.retain_places-left.new.cells (c.retain_places-left.ensures.retains c.requires.trie.0 c.requires.trie.1) c.retain_places-left.result c.retain_places-left.ensures.node c.retain_places-left.ensures.lasts (c.is_bare.ensures.bare c.if-is_bare.true) c.drop_child.result c.drop_child.new.nodes c.drop_child.ensures.dropped c.drop_child.ensures.room
 
 pub retain_place-returns-else-is_bare-clause-retains : goal.retain_place-returns-else-is_bare-clause-retains
 retain_place-returns-else-is_bare-clause-retains g t c = λ u few is x h.

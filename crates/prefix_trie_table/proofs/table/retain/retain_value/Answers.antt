@@ -6,8 +6,8 @@ use Rattle.prefix_trie_table.specs.Retaining.{RetainsTo}
 use Rattle.prefix_trie_table.proofs.Strings.Bits.{has_bit-is}
 use Rattle.prefix_trie_table.proofs.Retain.Retained.{site_holds, site_values}
 use Rattle.prefix_trie_table.proofs.Insertion.Rooms.{Grows-none}
-use Rattle.prefix_trie_table.proofs.Retain.Seen.{short, value_slot, value_got, value_some, value_room, key_filled, may_ask_here, stays_here, goes_here, taken_here, counted_here, above_here, values_here, children_here, site_here, trie_goes}
-use Rattle.prefix_trie_table.proofs.Blocks.Turnovers.{made_same}
+use Rattle.prefix_trie_table.proofs.Removal.Between.{stays_grown}
+use Rattle.prefix_trie_table.proofs.Retain.Seen.{short, value_slot, value_got, value_some, value_room, key_filled, may_ask_here, stays_here, goes_here, taken_here, counted_here, above_here, blocks_here, site_here, trie_goes}
 use Rattle.prefix_trie_table.proofs.table.retain.retain_value.Goals as goal
 
 pub at-requires : goal.at-requires
@@ -99,7 +99,7 @@ returns-clause-retains g c = λ t few is before trie.
     let no =
     subst (λ v. g.F.Keep.refuses c.args.keep.now (take (c.args.site.depth + c.string_of-n.result.0) (g.K.Key.bits c.extend-key.result)) v c.keeps.new.self)
     (ap (λ o. unwrap_or o c.in-Some-found.value) asked) (c.keeps.ensures.no c.if-keeps.false) in
-    let later = trie_goes g.K.Key.IsKey g.K.Key.bits g.K.Key.bit_width c.args.nodes.now c.args.site c.args.node c.requires.site long c.args.entries.now c.args.cells.now before trie c.args.bit c.string_of-n.result.0 c.string_of-n.result.1 c.requires.bit c.string_of-n.ensures.short c.string_of-n.ensures.bit c.requires.set c.take_value-found.result.0 c.take_value-found.result.1 c.take_value-found.new.nodes c.take_value-found.new.cells c.take_value-found.ensures.value c.take_value-found.ensures.taken (c.args.entries.now - 1) refl (Grows-none _ _ 24 c.take_value-found.ensures.node_room c.take_value-found.ensures.node_tiers) c.take_value-found.ensures.cell_room in
+    let later = trie_goes g.K.Key.IsKey g.K.Key.bits g.K.Key.bit_width c.args.nodes.now c.args.site c.args.node c.requires.site long c.args.entries.now c.args.cells.now before trie c.args.bit c.string_of-n.result.0 c.string_of-n.result.1 c.requires.bit c.string_of-n.ensures.short c.string_of-n.ensures.bit c.requires.set c.take_value-found.result.0 c.take_value-found.result.1 c.take_value-found.new.nodes c.take_value-found.new.cells c.take_value-found.ensures.value c.take_value-found.ensures.taken (c.args.entries.now - 1) refl (Grows-none _ _ 24 c.take_value-found.ensures.node_blocks.room c.take_value-found.ensures.node_blocks.tiers) c.take_value-found.ensures.cell_room in
     subst (λ u. RetainsTo g.F.Keep.asks g.F.Keep.accepts g.K.Key.bit_width (take c.args.site.depth (g.K.Key.bits c.args.site.key)) (u ∷ []) c.args.keep.now before c.taken.new.self (c.args.entries.now - 1) c.take_value-found.new.nodes c.take_value-found.new.cells)
     (sym (c.string_of-n.ensures.only t is))
     (goes_here g.K.Key.IsKey g.K.Key.bits g.K.Key.bit_width c.args.nodes.now c.args.site c.args.node c.requires.site long c.args.entries.now c.args.cells.now before trie c.args.bit c.string_of-n.result.0 c.string_of-n.result.1 c.requires.bit c.string_of-n.ensures.short c.string_of-n.ensures.bit c.requires.set c.extend-key.result c.extend-key.ensures.value g.F.Keep.asks g.F.Keep.accepts c.in-Some-found.value (there ∙ c.in-Some-found.is) c.args.keep.now c.taken.new.self false (c.args.entries.now - 1) c.take_value-found.new.nodes c.take_value-found.new.cells (c.taken.ensures c.args.keep.now no) refl later)
@@ -114,13 +114,8 @@ returns-clause-lasts g c =
     let long = g.met.K.Key.key_laws.bits_length c.args.site.key c.requires.site.key in
     record {
       above = above_here g.K.Key.IsKey g.K.Key.bits g.K.Key.bit_width c.args.nodes.now c.args.site c.args.node c.requires.site long c.args.entries.now c.args.cells.now c.requires.trie.0 c.requires.trie.1 c.args.bit c.string_of-n.result.0 c.string_of-n.result.1 c.requires.bit c.string_of-n.ensures.short c.string_of-n.ensures.bit c.requires.set c.take_value-found.result.0 c.take_value-found.result.1 c.take_value-found.new.nodes c.take_value-found.new.cells c.take_value-found.ensures.value c.take_value-found.ensures.taken;
-      node_limit = c.take_value-found.ensures.node_room.2;
-      node_slots = (let r = c.take_value-found.ensures.node_room.0 in omega (arith, r));
-      cell_limit = c.take_value-found.ensures.cell_room.limit_is;
-      cell_slots = c.take_value-found.ensures.cell_room.longer;
+      nodes = stays_grown _ _ 24 (Grows-none _ _ 24 c.take_value-found.ensures.node_blocks.room c.take_value-found.ensures.node_blocks.tiers);
+      cells = stays_grown _ _ 24 c.take_value-found.ensures.cell_room;
       settles = c.take_value-found.ensures.settles;
-      node_made = made_same c.args.nodes.now c.take_value-found.new.nodes c.take_value-found.ensures.node_tiers;
-      cell_made = c.take_value-found.ensures.cell_room.made;
-      values = values_here g.K.Key.IsKey g.K.Key.bits g.K.Key.bit_width c.args.nodes.now c.args.site c.args.node c.requires.site long c.args.entries.now c.args.cells.now c.requires.trie.0 c.requires.trie.1 c.args.bit c.string_of-n.result.0 c.string_of-n.result.1 c.requires.bit c.string_of-n.ensures.short c.string_of-n.ensures.bit c.requires.set c.take_value-found.result.0 c.take_value-found.result.1 c.take_value-found.new.nodes c.take_value-found.new.cells c.take_value-found.ensures.value c.take_value-found.ensures.taken;
-      children = children_here g.K.Key.IsKey g.K.Key.bits g.K.Key.bit_width c.args.nodes.now c.args.site c.args.node c.requires.site long c.args.entries.now c.args.cells.now c.requires.trie.0 c.requires.trie.1 c.args.bit c.string_of-n.result.0 c.string_of-n.result.1 c.requires.bit c.string_of-n.ensures.short c.string_of-n.ensures.bit c.requires.set c.take_value-found.result.0 c.take_value-found.result.1 c.take_value-found.new.nodes c.take_value-found.new.cells c.take_value-found.ensures.value c.take_value-found.ensures.taken;
+      blocks = blocks_here g.K.Key.IsKey g.K.Key.bits g.K.Key.bit_width c.args.nodes.now c.args.site c.args.node c.requires.site long c.args.entries.now c.args.cells.now c.requires.trie.0 c.requires.trie.1 c.args.bit c.string_of-n.result.0 c.string_of-n.result.1 c.requires.bit c.string_of-n.ensures.short c.string_of-n.ensures.bit c.requires.set c.take_value-found.result.0 c.take_value-found.result.1 c.take_value-found.new.nodes c.take_value-found.new.cells c.take_value-found.ensures.value c.take_value-found.ensures.taken;
     }

@@ -19,15 +19,10 @@ pub returns-in-Some-clause-value : goal.returns-in-Some-clause-value
 returns-in-Some-clause-value g c = λ n xs live s count.
     c.remove_from-value.ensures.value n xs live (list_block g.S.Slot.vacant c.args.k c.args.start n xs live _ (omega (arith, count, c.requires.place)) s) count
 
-pub returns-in-Some-clause-turnover : goal.returns-in-Some-clause-turnover
-returns-in-Some-clause-turnover g c =
+pub returns-in-Some-clause-loses : goal.returns-in-Some-clause-loses
+returns-in-Some-clause-loses g c =
     let e = c.remove_from-value.ensures in
-    (left_some c.args.self.now c.remove_from-value.new.self c.args.k c.args.count c.remove_from-value.result.1 e.none (e.turnover, e.steps) c.in-Some.place c.in-Some.is).0
-
-pub returns-in-Some-clause-steps : goal.returns-in-Some-clause-steps
-returns-in-Some-clause-steps g c =
-    let e = c.remove_from-value.ensures in
-    (left_some c.args.self.now c.remove_from-value.new.self c.args.k c.args.count c.remove_from-value.result.1 e.none (e.turnover, e.steps) c.in-Some.place c.in-Some.is).1
+    left_some c.args.self.now c.remove_from-value.new.self c.args.k c.args.count c.remove_from-value.result.1 e.none e.loses c.in-Some.place c.in-Some.is
 
 -- the block of the rest
 rest : {S : Type 0} (vacant : S) (v w : Store S) (xs : List S) (live : List (UsedBlock S)) (o : Option BlockRef) (p : BlockRef) → o ≡ Some p →
@@ -50,7 +45,7 @@ returns-in-Some-clause-tier g c =
     let one = rest g.S.Slot.vacant c.args.self.now c.remove_from-value.new.self (remove u.items c.args.place) u.live c.remove_from-value.result.1 c.in-Some.place c.in-Some.is all in
     let within = (tier_of_block g.S.Slot.vacant _ _ _ one).within in
     let l = tiers_long c.args.self.now.tiers (tier_sizes c.args.self.now.tiers) refl in
-    let m = tiers_long c.remove_from-value.new.self.tiers (tier_sizes c.args.self.now.tiers) c.remove_from-value.ensures.turnover.keeps.sizes in
+    let m = tiers_long c.remove_from-value.new.self.tiers (tier_sizes c.args.self.now.tiers) c.remove_from-value.ensures.loses.turnover.keeps.sizes in
     omega (arith, within, l, m)
 
 -- ---- none is left
@@ -59,15 +54,10 @@ pub returns-in-None-clause-value : goal.returns-in-None-clause-value
 returns-in-None-clause-value g c = λ n xs live s count.
     c.remove_from-value.ensures.value n xs live (list_block g.S.Slot.vacant c.args.k c.args.start n xs live _ (omega (arith, count, c.requires.place)) s) count
 
-pub returns-in-None-clause-turnover : goal.returns-in-None-clause-turnover
-returns-in-None-clause-turnover g c =
+pub returns-in-None-clause-loses : goal.returns-in-None-clause-loses
+returns-in-None-clause-loses g c =
     let e = c.remove_from-value.ensures in
-    (left_none c.args.self.now c.remove_from-value.new.self c.args.k c.args.count c.remove_from-value.result.1 e.none (e.turnover, e.steps) c.in-None.is (omega (arith, c.requires.place))).0
-
-pub returns-in-None-clause-steps : goal.returns-in-None-clause-steps
-returns-in-None-clause-steps g c =
-    let e = c.remove_from-value.ensures in
-    (left_none c.args.self.now c.remove_from-value.new.self c.args.k c.args.count c.remove_from-value.result.1 e.none (e.turnover, e.steps) c.in-None.is (omega (arith, c.requires.place))).1
+    left_none c.args.self.now c.remove_from-value.new.self c.args.k c.args.count c.remove_from-value.result.1 e.none e.loses c.in-None.is (omega (arith, c.requires.place))
 
 pub returns-in-None-clause-tier : goal.returns-in-None-clause-tier
 returns-in-None-clause-tier g c = (first_size c.args.self.now.tiers c.requires.sizes).2
@@ -79,7 +69,7 @@ pub returns-in-None-clause-sound : goal.returns-in-None-clause-sound
 returns-in-None-clause-sound g c = λ n xs live s count.
     let w = c.remove_from-value.new.self in
     let e = c.remove_from-value.ensures in
-    let one = none_left c.args.self.now c.remove_from-value.new.self c.args.k c.args.count c.remove_from-value.result.1 e.none (e.turnover, e.steps) c.in-None.is (omega (arith, c.requires.place)) in
+    let one = none_left c.args.self.now c.remove_from-value.new.self c.args.k c.args.count c.remove_from-value.result.1 e.none e.loses c.in-None.is (omega (arith, c.requires.place)) in
     let all = e.sound n xs live (list_block g.S.Slot.vacant c.args.k c.args.start n xs live _ (omega (arith, count, c.requires.place)) s) count in
     no_list g.S.Slot.vacant 0 0 (tier_at c.args.self.now.tiers 0).size (remove xs c.args.place) live _ (omega (arith, length-remove xs c.args.place (omega (arith, count, c.requires.place)), count, one))
     (subst (λ (o : Option BlockRef). MatchOption o (Sound g.S.Slot.vacant live w) (λ p. Sound g.S.Slot.vacant (block p.tier p.start (tier_at c.args.self.now.tiers p.tier).size (remove xs c.args.place) ∷ live) w)) c.in-None.is all)

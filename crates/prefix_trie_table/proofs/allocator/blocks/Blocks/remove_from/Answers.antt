@@ -50,21 +50,21 @@ returns-then-rest-eq0-clause-sound g c = λ n xs live sound count.
     let none : remove xs c.args.place ≡ [] = nil_from_length (remove xs c.args.place) (omega (arith, length-remove xs c.args.place (omega (arith, c.requires.place)), c.if-rest-eq0.true)) in
     c.give_back.ensures.sound live n (subst (λ ys. Sound g.S.Slot.vacant (block c.args.k c.args.start n ys ∷ live) c.remove_within-value.new.self) none (c.remove_within-value.ensures.sound (block c.args.k c.args.start n xs) live sound refl count))
 
-pub returns-then-rest-eq0-clause-steps : goal.returns-then-rest-eq0-clause-steps
-returns-then-rest-eq0-clause-steps g c =
-    steps_gone c.args.self.now.tiers c.args.k c.args.count (omega (arith, c.requires.place)) (omega (arith, c.if-rest-eq0.true, c.requires.place))
-
-pub returns-then-rest-eq0-clause-turnover : goal.returns-then-rest-eq0-clause-turnover
-returns-then-rest-eq0-clause-turnover g c =
-    let v = c.args.self.now in
-    let w = c.remove_within-value.new.self in
-    let x = c.give_back.new.self in
-    let u = c.requires.in_use in
-    let left = cut g.S.Slot.vacant v w c.args.k c.args.start c.args.count c.args.place u.size u.items u.live g.S.Slot.vacant u.sound u.is_count c.requires.place c.remove_within-value.ensures.slots in
-    let old = Some (size_in (tier_sizes v.tiers) c.args.k) in
-    let gave = subst (λ ns. Turnover w x none_of (Some (size_in ns c.args.k)) None) left.keeps.sizes c.give_back.ensures.turnover in
-    Turnover-as v x _ _ old None (λ size. sym (none_made (tier_sizes v.tiers) (free_counts v.tiers) old size))
-    (Turnover-then v w x none_of none_of None None old None old None (λ size. omega arith) left gave)
+pub returns-then-rest-eq0-clause-loses : goal.returns-then-rest-eq0-clause-loses
+returns-then-rest-eq0-clause-loses g c = record {
+  turnover = (
+      let v = c.args.self.now in
+      let w = c.remove_within-value.new.self in
+      let x = c.give_back.new.self in
+      let u = c.requires.in_use in
+      let left = cut g.S.Slot.vacant v w c.args.k c.args.start c.args.count c.args.place u.size u.items u.live g.S.Slot.vacant u.sound u.is_count c.requires.place c.remove_within-value.ensures.slots in
+      let old = Some (size_in (tier_sizes v.tiers) c.args.k) in
+      let gave = subst (λ ns. Turnover w x none_of (Some (size_in ns c.args.k)) None) left.keeps.sizes c.give_back.ensures.turnover in
+      Turnover-as v x _ _ old None (λ size. sym (none_made (tier_sizes v.tiers) (free_counts v.tiers) old size))
+      (Turnover-then v w x none_of none_of None None old None old None (λ size. omega arith) left gave));
+  steps = (
+      steps_gone c.args.self.now.tiers c.args.k c.args.count (omega (arith, c.requires.place)) (omega (arith, c.if-rest-eq0.true, c.requires.place)));
+}
 
 -- ---- the rest stands in a smaller block
 
@@ -119,30 +119,30 @@ returns-in-Some-clause-sound g c = λ n xs live sound count.
     (λ new. Sound g.S.Slot.vacant (block c.tier_holding-tier.result new (tier_at w.tiers c.tier_holding-tier.result).size (remove xs c.args.place) ∷ live) x))
     c.in-Some.is (c.step_down.ensures.sound n (remove xs c.args.place) live removed less))
 
-pub returns-in-Some-clause-steps : goal.returns-in-Some-clause-steps
-returns-in-Some-clause-steps g c =
-    let tiers : c.remove_within-value.new.self.tiers ≡ c.args.self.now.tiers = ap (λ (v : Store g.row.S.Denot). v.tiers) c.remove_within-value.ensures.slots in
-    steps_moved c.args.self.now.tiers c.args.k c.args.count (omega (arith, c.requires.place)) c.tier_holding-tier.result (let z = c.if-rest-eq0.false in omega (arith, z))
-    (subst (λ ts. smallest_size (tier_sizes ts) (c.args.count - 1) ≡ Some (size_in (tier_sizes ts) c.tier_holding-tier.result)) tiers c.tier_holding-tier.ensures.size)
-
-pub returns-in-Some-clause-turnover : goal.returns-in-Some-clause-turnover
-returns-in-Some-clause-turnover g c =
-    let v = c.args.self.now in
-    let w = c.remove_within-value.new.self in
-    let x = c.step_down.new.self in
-    let u = c.requires.in_use in
-    let to = c.tier_holding-tier.result in
-    let o : ℕ = size_in (tier_sizes v.tiers) c.args.k in
-    let n : ℕ = size_in (tier_sizes v.tiers) c.tier_holding-tier.result in
-    let of = tier_of_block g.S.Slot.vacant (block c.args.k c.args.start u.size u.items) u.live _ u.sound in
-    let tiers : c.remove_within-value.new.self.tiers ≡ c.args.self.now.tiers = ap (λ (v : Store g.row.S.Denot). v.tiers) c.remove_within-value.ensures.slots in
-    let left = cut g.S.Slot.vacant v w c.args.k c.args.start c.args.count c.args.place u.size u.items u.live g.S.Slot.vacant u.sound u.is_count c.requires.place c.remove_within-value.ensures.slots in
-    let moved : Turnover w x (many_of (size_in (tier_sizes w.tiers) to) (1 - free_in w.tiers (size_in (tier_sizes w.tiers) to))) (Some (size_in (tier_sizes w.tiers) c.args.k)) (Some (size_in (tier_sizes w.tiers) to)) = c.in-Some.ensures.turnover in
-    let there = subst (λ ts. Turnover w x (many_of (size_in (tier_sizes ts) to) (1 - free_in ts (size_in (tier_sizes ts) to))) (Some (size_in (tier_sizes ts) c.args.k)) (Some (size_in (tier_sizes ts) to))) tiers moved in
-    let inside : c.args.k < length (tier_sizes v.tiers) = (let l = tiers_long v.tiers (tier_sizes v.tiers) refl in let i = of.within in omega (arith, l, i)) in
-    let up = sizes_rise 0 (tier_sizes v.tiers) (sizes_up v.tiers c.requires.sizes) c.tier_holding-tier.result c.args.k (omega (arith, c.if-tier-k.true)) inside in
-    Turnover-as v x _ _ (Some o) (Some n) (λ size. (let z : ◌≡◌ {A = ℕ} (0 + many_of n (1 - free_in v.tiers n) size) (many_of n (1 - free_in v.tiers n) size) = omega arith in z) ∙ one_made (tier_sizes v.tiers) (free_counts v.tiers) o n size (λ e. omega (arith, e, up)))
-    (Turnover-then v w x none_of (many_of n (1 - free_in v.tiers n)) None None (Some o) (Some n) (Some o) (Some n) (λ size. omega arith) left there)
+pub returns-in-Some-clause-loses : goal.returns-in-Some-clause-loses
+returns-in-Some-clause-loses g c = record {
+  turnover = (
+      let v = c.args.self.now in
+      let w = c.remove_within-value.new.self in
+      let x = c.step_down.new.self in
+      let u = c.requires.in_use in
+      let to = c.tier_holding-tier.result in
+      let o : ℕ = size_in (tier_sizes v.tiers) c.args.k in
+      let n : ℕ = size_in (tier_sizes v.tiers) c.tier_holding-tier.result in
+      let of = tier_of_block g.S.Slot.vacant (block c.args.k c.args.start u.size u.items) u.live _ u.sound in
+      let tiers : c.remove_within-value.new.self.tiers ≡ c.args.self.now.tiers = ap (λ (v : Store g.row.S.Denot). v.tiers) c.remove_within-value.ensures.slots in
+      let left = cut g.S.Slot.vacant v w c.args.k c.args.start c.args.count c.args.place u.size u.items u.live g.S.Slot.vacant u.sound u.is_count c.requires.place c.remove_within-value.ensures.slots in
+      let moved : Turnover w x (many_of (size_in (tier_sizes w.tiers) to) (1 - free_in w.tiers (size_in (tier_sizes w.tiers) to))) (Some (size_in (tier_sizes w.tiers) c.args.k)) (Some (size_in (tier_sizes w.tiers) to)) = c.in-Some.ensures.turnover in
+      let there = subst (λ ts. Turnover w x (many_of (size_in (tier_sizes ts) to) (1 - free_in ts (size_in (tier_sizes ts) to))) (Some (size_in (tier_sizes ts) c.args.k)) (Some (size_in (tier_sizes ts) to))) tiers moved in
+      let inside : c.args.k < length (tier_sizes v.tiers) = (let l = tiers_long v.tiers (tier_sizes v.tiers) refl in let i = of.within in omega (arith, l, i)) in
+      let up = sizes_rise 0 (tier_sizes v.tiers) (sizes_up v.tiers c.requires.sizes) c.tier_holding-tier.result c.args.k (omega (arith, c.if-tier-k.true)) inside in
+      Turnover-as v x _ _ (Some o) (Some n) (λ size. (let z : ◌≡◌ {A = ℕ} (0 + many_of n (1 - free_in v.tiers n) size) (many_of n (1 - free_in v.tiers n) size) = omega arith in z) ∙ one_made (tier_sizes v.tiers) (free_counts v.tiers) o n size (λ e. omega (arith, e, up)))
+      (Turnover-then v w x none_of (many_of n (1 - free_in v.tiers n)) None None (Some o) (Some n) (Some o) (Some n) (λ size. omega arith) left there));
+  steps = (
+      let tiers : c.remove_within-value.new.self.tiers ≡ c.args.self.now.tiers = ap (λ (v : Store g.row.S.Denot). v.tiers) c.remove_within-value.ensures.slots in
+      steps_moved c.args.self.now.tiers c.args.k c.args.count (omega (arith, c.requires.place)) c.tier_holding-tier.result (let z = c.if-rest-eq0.false in omega (arith, z))
+      (subst (λ ts. smallest_size (tier_sizes ts) (c.args.count - 1) ≡ Some (size_in (tier_sizes ts) c.tier_holding-tier.result)) tiers c.tier_holding-tier.ensures.size));
+}
 
 -- ---- it stays
 
@@ -161,41 +161,41 @@ nothing_moved g c = elim c.if-tier-k.branch [
   | else-tier-k w ↦ Turnover-same _ _ w.self-is None
 ]
 
-pub returns-clause-turnover : goal.returns-clause-turnover
-returns-clause-turnover g c =
-    let v = c.args.self.now in
-    let w = c.remove_within-value.new.self in
-    let x = c.if-tier-k.self in
-    let u = c.requires.in_use in
-    let old = Some (size_in (tier_sizes v.tiers) c.args.k) in
-    let left = cut g.S.Slot.vacant v w c.args.k c.args.start c.args.count c.args.place u.size u.items u.live g.S.Slot.vacant u.sound u.is_count c.requires.place c.remove_within-value.ensures.slots in
-    Turnover-as v x _ _ old old (λ size. sym (same_made (tier_sizes v.tiers) (free_counts v.tiers) old size))
-    (Turnover-then v w x none_of none_of None None None None old old (λ size. omega arith) left (nothing_moved g c))
-
-pub returns-clause-steps : goal.returns-clause-steps
-returns-clause-steps g c =
-    let v = c.args.self.now in
-    let u = c.requires.in_use in
-    let b = block c.args.k c.args.start u.size u.items in
-    let of = tier_of_block g.S.Slot.vacant b u.live _ u.sound in
-    let tiers : c.remove_within-value.new.self.tiers ≡ c.args.self.now.tiers = ap (λ (v : Store g.row.S.Denot). v.tiers) c.remove_within-value.ensures.slots in
-    let to : ℕ = c.tier_holding-tier.result in
-    let found : smallest_size (tier_sizes v.tiers) (c.args.count - 1) ≡ Some (size_in (tier_sizes v.tiers) to) =
-    subst (λ ts. smallest_size (tier_sizes ts) (c.args.count - 1) ≡ Some (size_in (tier_sizes ts) to)) tiers c.tier_holding-tier.ensures.size in
-    let within : to < length v.tiers = subst (λ (ts : List Tier). to < length ts) tiers c.tier_holding-tier.ensures.within in
-    let fits : c.args.count ≤ size_in (tier_sizes v.tiers) c.args.k = omega (arith, of.size_is, fits_block g.S.Slot.vacant b u.live _ u.sound, u.is_count, size_at v.tiers c.args.k) in
-    let some : 0 < c.args.count = omega (arith, c.requires.place) in
-    steps_stayed v.tiers c.args.k c.args.count some (let z = c.if-rest-eq0.false in omega (arith, z)) (λ size is free.
-    let same : size_in (tier_sizes v.tiers) to ≡ size = same_Some (size_in (tier_sizes v.tiers) to) size (sym found ∙ is) in
-    elim c.if-tier-k.branch as (λ _. size_in (tier_sizes v.tiers) c.args.k ≡ size) [
-      | then-tier-k+in_default w ↦
-          let here : 0 < free_in v.tiers (size_in (tier_sizes v.tiers) to) = subst (λ n. 0 < free_in v.tiers n) (sym same) free in
-          let there = subst (λ ts. 0 < free_in ts (size_in (tier_sizes ts) to)) (sym tiers) here in
-          absurd (false≢true (ap is_some (sym w.in_default.is) ∙ w.step_down.ensures.taken there))
-      | else-tier-k w ↦
-          let low = smallest_low v.tiers c.args.k c.args.count some to c.requires.sizes of.within fits within found in
-          ap (size_in (tier_sizes v.tiers)) (let e : c.args.k ≡ to = omega (arith, low, w.if-tier-k.false) in e) ∙ same
-    ])
+pub returns-clause-loses : goal.returns-clause-loses
+returns-clause-loses g c = record {
+  turnover = (
+      let v = c.args.self.now in
+      let w = c.remove_within-value.new.self in
+      let x = c.if-tier-k.self in
+      let u = c.requires.in_use in
+      let old = Some (size_in (tier_sizes v.tiers) c.args.k) in
+      let left = cut g.S.Slot.vacant v w c.args.k c.args.start c.args.count c.args.place u.size u.items u.live g.S.Slot.vacant u.sound u.is_count c.requires.place c.remove_within-value.ensures.slots in
+      Turnover-as v x _ _ old old (λ size. sym (same_made (tier_sizes v.tiers) (free_counts v.tiers) old size))
+      (Turnover-then v w x none_of none_of None None None None old old (λ size. omega arith) left (nothing_moved g c)));
+  steps = (
+      let v = c.args.self.now in
+      let u = c.requires.in_use in
+      let b = block c.args.k c.args.start u.size u.items in
+      let of = tier_of_block g.S.Slot.vacant b u.live _ u.sound in
+      let tiers : c.remove_within-value.new.self.tiers ≡ c.args.self.now.tiers = ap (λ (v : Store g.row.S.Denot). v.tiers) c.remove_within-value.ensures.slots in
+      let to : ℕ = c.tier_holding-tier.result in
+      let found : smallest_size (tier_sizes v.tiers) (c.args.count - 1) ≡ Some (size_in (tier_sizes v.tiers) to) =
+      subst (λ ts. smallest_size (tier_sizes ts) (c.args.count - 1) ≡ Some (size_in (tier_sizes ts) to)) tiers c.tier_holding-tier.ensures.size in
+      let within : to < length v.tiers = subst (λ (ts : List Tier). to < length ts) tiers c.tier_holding-tier.ensures.within in
+      let fits : c.args.count ≤ size_in (tier_sizes v.tiers) c.args.k = omega (arith, of.size_is, fits_block g.S.Slot.vacant b u.live _ u.sound, u.is_count, size_at v.tiers c.args.k) in
+      let some : 0 < c.args.count = omega (arith, c.requires.place) in
+      steps_stayed v.tiers c.args.k c.args.count some (let z = c.if-rest-eq0.false in omega (arith, z)) (λ size is free.
+      let same : size_in (tier_sizes v.tiers) to ≡ size = same_Some (size_in (tier_sizes v.tiers) to) size (sym found ∙ is) in
+      elim c.if-tier-k.branch as (λ _. size_in (tier_sizes v.tiers) c.args.k ≡ size) [
+        | then-tier-k+in_default w ↦
+            let here : 0 < free_in v.tiers (size_in (tier_sizes v.tiers) to) = subst (λ n. 0 < free_in v.tiers n) (sym same) free in
+            let there = subst (λ ts. 0 < free_in ts (size_in (tier_sizes ts) to)) (sym tiers) here in
+            absurd (false≢true (ap is_some (sym w.in_default.is) ∙ w.step_down.ensures.taken there))
+        | else-tier-k w ↦
+            let low = smallest_low v.tiers c.args.k c.args.count some to c.requires.sizes of.within fits within found in
+            ap (size_in (tier_sizes v.tiers)) (let e : c.args.k ≡ to = omega (arith, low, w.if-tier-k.false) in e) ∙ same
+      ]));
+}
 
 pub returns-clause-sound : goal.returns-clause-sound
 returns-clause-sound g c = λ n xs live sound count.
