@@ -27,17 +27,17 @@ use std::alloc::Allocator;
 fn add_child<A: Allocator, V: Tick>(
     nodes: &mut NodeAllocator<A, V>,
     at: NodeSlot,
-    node: Node,
+    node: &Node,
     child: u32,
 ) -> NodeSlot
     requires child { child < 32 }
     requires stands { (n : SomeNodes nodes.old) × IsNodeAt n.reading (at.start + at.place) }
-    requires node { node ≡ node_at nodes.old.slots (at.start + at.place) }
-    requires missing { is_set node.child_bitmap child ≡ false }
-    requires ready { AreFree nodes.old.tiers (needs (child_need (Some node)) 0) }
+    requires node { node.now ≡ node_at nodes.old.slots (at.start + at.place) }
+    requires missing { is_set node.now.child_bitmap child ≡ false }
+    requires ready { AreFree nodes.old.tiers (needs (child_need (Some node.now)) 0) }
     ensures room { SameRoom nodes.old nodes.new }
     ensures made { SameMade nodes.old nodes.new }
-    ensures free { (size : ℕ) → free_in nodes.old.tiers size ≤ free_in nodes.new.tiers size + one_of (child_need (Some node)) size }
+    ensures free { (size : ℕ) → free_in nodes.old.tiers size ≤ free_in nodes.new.tiers size + one_of (child_need (Some node.now)) size }
     ensures added { (reading : List ℕ → Option Node) (paths : List (List ℕ)) (p : List ℕ) (n : Node)
         → NodesHold node_sizes reading paths nodes.old
         → IsSlot reading p (at.start + at.place) → reading p ≡ Some n
@@ -74,15 +74,15 @@ fn add_value<T: Drop, A: Allocator, V: Tick>(
     nodes: &mut NodeAllocator<A, V>,
     cells: &mut Blocks<Option<T>, A>,
     at: NodeSlot,
-    node: Node,
+    node: &Node,
     bit: u32,
     value: T,
 ) -> Seat
     requires bit { bit < 31 }
     requires stands { (t : SomeTable nodes.old cells.old) × IsNodeAt t.reading (at.start + at.place) }
-    requires node { node ≡ node_at nodes.old.slots (at.start + at.place) }
-    requires missing { is_set node.value_bitmap bit ≡ false }
-    requires ready { AreFree cells.old.tiers (needs (value_need (Some node)) 0) }
+    requires node { node.now ≡ node_at nodes.old.slots (at.start + at.place) }
+    requires missing { is_set node.now.value_bitmap bit ≡ false }
+    requires ready { AreFree cells.old.tiers (needs (value_need (Some node.now)) 0) }
     ensures node_room { SameRoom nodes.old nodes.new }
     ensures cell_room { SameRoom cells.old cells.new }
     ensures node_made { SameMade nodes.old nodes.new }
@@ -155,9 +155,8 @@ pub fn prepare<T: Drop, A: Allocator, V: Tick>(
     ensures cells_sound { (live : List (UsedBlock (Option T))) → Sound None live cells.old
         → Sound None live cells.new }
 {
-    let depth = 5 * reached.level;
     let node = &reached.node;
-    if depth + 5 > len {
+    if reached.level == len / 5 {
         return cells.prepare(node.value_tier as usize, count(node.value_bitmap), 0);
     }
     cells.prepare(0, 0, 0)?;
@@ -174,7 +173,7 @@ pub fn prepare<T: Drop, A: Allocator, V: Tick>(
 fn add_entry<K: Key, T: Drop, A: Allocator, V: Tick>(
     nodes: &mut NodeAllocator<A, V>,
     cells: &mut Blocks<Option<T>, A>,
-    reached: Reached,
+    reached: &Reached,
     key: K,
     len: u32,
     value: T,
@@ -182,12 +181,12 @@ fn add_entry<K: Key, T: Drop, A: Allocator, V: Tick>(
     requires key { K.IsKey key }
     requires within { len ≤ K.bit_width }
     requires stands { (t : SomeTable nodes.old cells.old)
-        × Deepest t.reading (path_of (take len (K.bits key))) reached.level (reached.at.start + reached.at.place) nodes.old }
+        × Deepest t.reading (path_of (take len (K.bits key))) reached.now.level (reached.now.at.start + reached.now.at.place) nodes.old }
     requires reached { IsReached (K.bits key) len
-        reached.level reached.node (reached.at.start + reached.at.place) nodes.old }
-    requires lacks { len < 5 * reached.level + 5
-        → is_set reached.node.value_bitmap (bit_of (take len (K.bits key))) ≡ false }
-    requires room { HasRoom nodes.old cells.old reached.node reached.level len }
+        reached.now.level reached.now.node (reached.now.at.start + reached.now.at.place) nodes.old }
+    requires lacks { len < 5 * reached.now.level + 5
+        → is_set reached.now.node.value_bitmap (bit_of (take len (K.bits key))) ≡ false }
+    requires room { HasRoom nodes.old cells.old reached.now.node reached.now.level len }
     ensures node_room { SameRoom nodes.old nodes.new }
     ensures cell_room { SameRoom cells.old cells.new }
     ensures node_made { SameMade nodes.old nodes.new }
@@ -197,17 +196,18 @@ fn add_entry<K: Key, T: Drop, A: Allocator, V: Tick>(
     ensures seat { seat_of nodes.new.slots (take len (K.bits key)) ≡ Some result }
 {
     let last = len / 5;
-    let bit = value_bit_of(key, last * 5, len);
     if reached.level == last {
-        return add_value(nodes, cells, reached.at, reached.node, bit, value);
+        let bit = value_bit_of(key, last * 5, len);
+        return add_value(nodes, cells, reached.at, &reached.node, bit, value);
     }
     // The first node hangs below one that stands, all others below a blank one, which costs less.
     let child = child_bit_of(key, 5 * reached.level);
-    let mut at = add_child(nodes, reached.at, reached.node, child);
+    let mut at = add_child(nodes, reached.at, &reached.node, child);
     for level in reached.level + 1..last {
-        at = add_child(nodes, at, Node::blank(), child_bit_of(key, 5 * level));
+        at = add_child(nodes, at, &Node::blank(), child_bit_of(key, 5 * level));
     }
-    add_value(nodes, cells, at, Node::blank(), bit, value)
+    let bit = value_bit_of(key, last * 5, len);
+    add_value(nodes, cells, at, &Node::blank(), bit, value)
 }
 
 /// Adds a missing value at a bit string whose way ends so, and the nodes of its way that are missing, and counts it. Answers where
@@ -246,7 +246,7 @@ pub fn place_entry<K: Key, T: Drop, A: Allocator, V: Tick>(
     if let Err(cause) = prepare(nodes, cells, &end.reached, len) {
         return Err(Refused { cause, value });
     }
-    let seat = add_entry(nodes, cells, end.reached, key, len, value);
+    let seat = add_entry(nodes, cells, &end.reached, key, len, value);
     // Each entry has a cell, so the count is within the array's length.
     let slots = cells.len();
     prove!(*entries < slots);

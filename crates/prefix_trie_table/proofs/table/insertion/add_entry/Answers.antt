@@ -10,7 +10,7 @@ use Rattle.prefix_trie_table.specs.OwnBlocks.{child_need}
 use Rattle.prefix_trie_table.specs.Store.{AreFree, needs}
 use Rattle.prefix_trie_table.proofs.Blocks.BySize.{many_here}
 use Rattle.prefix_trie_table.proofs.Insertion.Asks.{nodes_below, cells_here, cells_below}
-use Rattle.prefix_trie_table.proofs.Lookup.Going.{step-read, level_inside, level_last, level_within, bit-read-last, steps-all}
+use Rattle.prefix_trie_table.proofs.Lookup.Going.{step-read, level_inside, level_last, level_more, bit-read-last, steps-all}
 use Rattle.prefix_trie_table.proofs.Tree.Growing.{walked_start, walked_more, free_next, free_own, free_one, blank_child, blank_value}
 use Rattle.prefix_trie_table.proofs.Insertion.Rooms.{SameRoom-then}
 use Rattle.prefix_trie_table.proofs.Insertion.Ways.{end_added, end_seat}
@@ -23,24 +23,24 @@ add_value-requires-clause-stands g c = (c.requires.stands.0, deepest_there c.req
 
 pub add_value-requires-clause-missing : goal.add_value-requires-clause-missing
 add_value-requires-clause-missing g c =
-    ap (has_bit c.args.reached.node.value_bitmap) (sym (bit-read-last (g.K.Key.bits c.args.key) c.args.len c.requires.reached.long
-    c.value_bit_of-bit.result c.value_bit_of-bit.ensures.value)) ∙ c.requires.lacks (level_last c.args.reached.level c.args.len c.if-reached-last.true)
+    ap (has_bit c.args.reached.now.node.value_bitmap) (sym (bit-read-last (g.K.Key.bits c.args.key) c.args.len c.requires.reached.long
+    c.value_bit_of-bit.result c.value_bit_of-bit.ensures.value)) ∙ c.requires.lacks (level_last c.args.reached.now.level c.args.len c.if-reached-last.true)
 
 pub add_value-requires-clause-ready : goal.add_value-requires-clause-ready
 add_value-requires-clause-ready g c =
-    subst (AreFree c.args.cells.now.tiers) (cells_here c.args.reached.node c.args.reached.level c.args.len (level_last c.args.reached.level c.args.len c.if-reached-last.true)) c.requires.room.1
+    subst (AreFree c.args.cells.now.tiers) (cells_here c.args.reached.now.node c.args.reached.now.level c.args.len (level_last c.args.reached.now.level c.args.len c.if-reached-last.true)) c.requires.room.1
 
 pub returns-then-reached-last-clause-added : goal.returns-then-reached-last-clause-added
 returns-then-reached-last-clause-added g c = λ reading paths values holds.
     end_added (g.K.Key.bits c.args.key) c.args.len c.requires.reached.long
-    (walked_start reading values paths _ c.args.reached.level _ c.args.nodes.now c.args.cells.now holds (c.requires.reached.deepest reading paths holds.hold))
+    (walked_start reading values paths _ c.args.reached.now.level _ c.args.nodes.now c.args.cells.now holds (c.requires.reached.deepest reading paths holds.hold))
     c.if-reached-last.true c.value_bit_of-bit.ensures.value c.add_value.ensures.added
 
 pub returns-then-reached-last-clause-seat : goal.returns-then-reached-last-clause-seat
 returns-then-reached-last-clause-seat g c =
     let s = c.requires.stands in
     end_seat (g.K.Key.bits c.args.key) c.args.len c.requires.reached.long
-    (walked_start s.0.reading s.0.values s.0.paths _ c.args.reached.level _ c.args.nodes.now c.args.cells.now s.0.holds s.1)
+    (walked_start s.0.reading s.0.values s.0.paths _ c.args.reached.now.level _ c.args.nodes.now c.args.cells.now s.0.holds s.1)
     c.if-reached-last.true c.value_bit_of-bit.ensures.value c.add_value.ensures.added c.add_value.result c.add_value.ensures.seat
 
 -- ---- the first new node
@@ -52,18 +52,15 @@ add_child-at-requires-clause-stands g c =
 
 pub add_child-at-requires-clause-missing : goal.add_child-at-requires-clause-missing
 add_child-at-requires-clause-missing g c =
-    let inside : c.args.reached.level < c.args.len / 5 = (let w = level_within c.args.reached.level c.args.len c.requires.reached.whole in
-    omega (arith, w, c.if-reached-last.false)) in
-    let more = level_inside c.args.reached.level c.args.len inside in
-    ap (has_bit c.args.reached.node.child_bitmap) (sym (step-read (g.K.Key.bits c.args.key) c.args.len c.args.reached.level c.requires.reached.long
+    let more = level_more c.args.reached.now.level c.args.len c.requires.reached.whole c.if-reached-last.false in
+    ap (has_bit c.args.reached.now.node.child_bitmap) (sym (step-read (g.K.Key.bits c.args.key) c.args.len c.args.reached.now.level c.requires.reached.long
     c.child_bit_of-child.result more c.child_bit_of-child.ensures.value)) ∙ c.requires.reached.missing more
 
 pub add_child-at-requires-clause-ready : goal.add_child-at-requires-clause-ready
 add_child-at-requires-clause-ready g c =
-    let inside : c.args.reached.level < c.args.len / 5 = (let w = level_within c.args.reached.level c.args.len c.requires.reached.whole in
-    omega (arith, w, c.if-reached-last.false)) in
-    free_own c.args.nodes.now.tiers (child_need (Some c.args.reached.node)) (c.args.len / 5 - (c.args.reached.level + 1))
-    (subst (AreFree c.args.nodes.now.tiers) (nodes_below c.args.reached.node c.args.reached.level c.args.len (level_inside c.args.reached.level c.args.len inside)) c.requires.room.0)
+    free_own c.args.nodes.now.tiers (child_need (Some c.args.reached.now.node)) (c.args.len / 5 - (c.args.reached.now.level + 1))
+    (subst (AreFree c.args.nodes.now.tiers) (nodes_below c.args.reached.now.node c.args.reached.now.level c.args.len
+    (level_more c.args.reached.now.level c.args.len c.requires.reached.whole c.if-reached-last.false)) c.requires.room.0)
 
 pub loop-level-init : goal.loop-level-init
 loop-level-init g c =
@@ -71,16 +68,15 @@ loop-level-init g c =
     let path = path_of (take c.args.len b) in
     let at = c.requires.reached in
     let s = c.requires.stands in
-    let now = c.args.reached.level in
-    let slot = c.args.reached.at.start + c.args.reached.at.place in
-    let inside : c.args.reached.level < c.args.len / 5 = (let w = level_within c.args.reached.level c.args.len c.requires.reached.whole in
-    omega (arith, w, c.if-reached-last.false)) in
-    let more = level_inside now c.args.len inside in
-    let within : c.args.reached.level < length (path_of (take c.args.len b)) = omega (arith, inside, steps-all b c.args.len at.long) in
+    let now = c.args.reached.now.level in
+    let slot = c.args.reached.now.at.start + c.args.reached.now.at.place in
+    let more = level_more now c.args.len c.requires.reached.whole c.if-reached-last.false in
+    let inside : c.args.reached.now.level < c.args.len / 5 = omega (arith, more) in
+    let within : c.args.reached.now.level < length (path_of (take c.args.len b)) = omega (arith, inside, steps-all b c.args.len at.long) in
     let step = step-read b c.args.len now at.long c.child_bit_of-child.result more c.child_bit_of-child.ensures.value in
-    let lacks : has_bit (node_at c.args.nodes.now.slots (c.args.reached.at.start + c.args.reached.at.place)).child_bitmap c.child_bit_of-child.result ≡ false =
+    let lacks : has_bit (node_at c.args.nodes.now.slots (c.args.reached.now.at.start + c.args.reached.now.at.place)).child_bitmap c.child_bit_of-child.result ≡ false =
     ap (λ (k : Node). has_bit k.child_bitmap c.child_bit_of-child.result) (sym at.node_is)
-    ∙ ap (has_bit c.args.reached.node.child_bitmap) (sym step) ∙ at.missing more in
+    ∙ ap (has_bit c.args.reached.now.node.child_bitmap) (sym step) ∙ at.missing more in
     let first = walked_more s.0.reading s.0.values s.0.paths path now slot c.child_bit_of-child.result
     (c.add_child-at.result.start + c.add_child-at.result.place) c.args.nodes.now c.add_child-at.new.nodes c.args.cells.now
     (walked_start s.0.reading s.0.values s.0.paths path now slot c.args.nodes.now c.args.cells.now s.0.holds s.1) within (sym step) lacks c.add_child-at.ensures.added in
@@ -90,8 +86,8 @@ loop-level-init g c =
           (c.add_child-at.result.start + c.add_child-at.result.place) c.args.nodes.now c.add_child-at.new.nodes c.args.cells.now
           (walked_start reading values paths path now slot c.args.nodes.now c.args.cells.now holds deep) within (sym step) lacks c.add_child-at.ensures.added).0;
       blank = first.1;
-      enough = free_next c.args.nodes.now.tiers c.add_child-at.new.nodes.tiers (child_need (Some c.args.reached.node)) (c.args.len / 5 - (now + 1))
-          (subst (AreFree c.args.nodes.now.tiers) (nodes_below c.args.reached.node now c.args.len more) c.requires.room.0) c.add_child-at.ensures.free;
+      enough = free_next c.args.nodes.now.tiers c.add_child-at.new.nodes.tiers (child_need (Some c.args.reached.now.node)) (c.args.len / 5 - (now + 1))
+          (subst (AreFree c.args.nodes.now.tiers) (nodes_below c.args.reached.now.node now c.args.len more) c.requires.room.0) c.add_child-at.ensures.free;
       within = omega (arith, inside);
       from = omega arith;
       room = c.add_child-at.ensures.room;
@@ -159,21 +155,21 @@ add_value-requires-2-clause-stands g c =
 
 pub add_value-requires-2-clause-missing : goal.add_value-requires-2-clause-missing
 add_value-requires-2-clause-missing g c =
-    ap (λ (k : Node). has_bit k.value_bitmap c.value_bit_of-bit.result) c.blank-2.ensures ∙ has_bit-zero c.value_bit_of-bit.result
+    ap (λ (k : Node). has_bit k.value_bitmap c.value_bit_of-bit-2.result) c.blank-2.ensures ∙ has_bit-zero c.value_bit_of-bit-2.result
 
 pub add_value-requires-2-clause-ready : goal.add_value-requires-2-clause-ready
 add_value-requires-2-clause-ready g c =
     let from = c.loop-level.invariant.from in
     let inside = c.loop-level.invariant.within in
     subst (λ o. AreFree c.args.cells.now.tiers (needs o 0)) (sym (blank_value c.blank-2.result c.blank-2.ensures))
-    (subst (AreFree c.args.cells.now.tiers) (cells_below c.args.reached.node c.args.reached.level c.args.len (level_inside c.args.reached.level c.args.len (omega (arith, from, inside)))) c.requires.room.1)
+    (subst (AreFree c.args.cells.now.tiers) (cells_below c.args.reached.now.node c.args.reached.now.level c.args.len (level_inside c.args.reached.now.level c.args.len (omega (arith, from, inside)))) c.requires.room.1)
 
 pub returns-clause-added : goal.returns-clause-added
 returns-clause-added g c = λ reading paths values holds.
     let w = c.loop-level.invariant.within in
     end_added (g.K.Key.bits c.args.key) c.args.len c.requires.reached.long
     (c.loop-level.invariant.walked reading paths values holds (c.requires.reached.deepest reading paths holds.hold))
-    (omega (arith, w, c.loop-level-test.false)) c.value_bit_of-bit.ensures.value c.add_value-2.ensures.added
+    (omega (arith, w, c.loop-level-test.false)) c.value_bit_of-bit-2.ensures.value c.add_value-2.ensures.added
 
 pub returns-clause-seat : goal.returns-clause-seat
 returns-clause-seat g c =
@@ -181,4 +177,4 @@ returns-clause-seat g c =
     let w = c.loop-level.invariant.within in
     end_seat (g.K.Key.bits c.args.key) c.args.len c.requires.reached.long
     (c.loop-level.invariant.walked s.0.reading s.0.paths s.0.values s.0.holds s.1)
-    (omega (arith, w, c.loop-level-test.false)) c.value_bit_of-bit.ensures.value c.add_value-2.ensures.added c.add_value-2.result c.add_value-2.ensures.seat
+    (omega (arith, w, c.loop-level-test.false)) c.value_bit_of-bit-2.ensures.value c.add_value-2.ensures.added c.add_value-2.result c.add_value-2.ensures.seat

@@ -18,6 +18,7 @@ use Rattle.prefix_trie_table.proofs.Insertion.Adding.{at_values, has_list, has_v
 use Rattle.prefix_trie_table.proofs.Insertion.Asks.{nodes_here, nodes_below, cells_here, cells_below, child_list_need, value_list_need, first_list_need, keeps_by, free_by, cells_alone, cells_refused, nodes_then}
 use Rattle.prefix_trie_table.proofs.Insertion.Inserting.{list_tier, node_fits, cell_fits}
 use Rattle.prefix_trie_table.proofs.Insertion.Rooms.{Grows-obtained, nodes_lacking, cells_lacking, few_steps}
+use Rattle.prefix_trie_table.proofs.Lookup.Going.{level_last, level_more}
 use Rattle.prefix_trie_table.proofs.table.insertion.prepare.Given as given
 use Rattle.prefix_trie_table.proofs.table.insertion.prepare.Goals as goal
 
@@ -46,7 +47,7 @@ prepare-requires-clause-sizes g c = cell_sized c.args.cells.now.tiers c.requires
 
 pub prepare-requires-clause-fits : goal.prepare-requires-clause-fits
 prepare-requires-clause-fits g c =
-    let few = c.requires.few_values (omega (arith, c.if-depth-len.true)) in
+    let few = c.requires.few_values (level_last c.args.reached.now.level c.args.len c.if-reached-len.true) in
     cell_fits c.args.cells.now.tiers (c.count.result + 1) c.requires.stands.0.holds.cells.sizes_are
     (omega (arith, few, rank-ones c.args.reached.now.node.value_bitmap 32 (omega arith), c.count.ensures))
 
@@ -58,10 +59,10 @@ here g c =
     subst (λ o. Obtains (λ e. e ≡ IndexRange) (λ e. e ≡ Memory) c.prepare.result c.args.cells.now c.prepare.new.self (needs o 0))
     (value_list_need c.args.cells.now n c.count.result c.requires.stands.0.holds.cells.sizes_are same) c.prepare.ensures.obtains
 
-pub returns-then-depth-len-clause-room : goal.returns-then-depth-len-clause-room
-returns-then-depth-len-clause-room g c =
+pub returns-then-reached-len-clause-room : goal.returns-then-reached-len-clause-room
+returns-then-reached-len-clause-room g c =
     let n = c.args.reached.now.node in
-    let short : c.args.len < 5 * c.args.reached.now.level + 5 = omega (arith, c.if-depth-len.true) in
+    let short = level_last c.args.reached.now.level c.args.len c.if-reached-len.true in
     let none = nodes_here n c.args.reached.now.level c.args.len short in
     let one = cells_here n c.args.reached.now.level c.args.len short in
     on_ok_weaker c.prepare.result (λ (free : AreFree c.prepare.new.self.tiers (needs (value_need (Some n)) 0)). (
@@ -69,28 +70,28 @@ returns-then-depth-len-clause-room g c =
       subst (AreFree c.prepare.new.self.tiers) (sym one) free,
     )) (free_by _ _ c.args.cells.now c.prepare.new.self _ (cell_sized c.args.cells.now.tiers c.requires.stands.0.holds.cells.sizes_are) c.prepare.result (here g c))
 
-pub returns-then-depth-len-clause-cell_room : goal.returns-then-depth-len-clause-cell_room
-returns-then-depth-len-clause-cell_room g c =
+pub returns-then-reached-len-clause-cell_room : goal.returns-then-reached-len-clause-cell_room
+returns-then-reached-len-clause-cell_room g c =
     cells_grow c.args.nodes.now c.args.cells.now c.prepare.new.self (value_block_size (Some c.args.reached.now.node)) (rank c.args.reached.now.node.value_bitmap 32) c.prepare.result c.requires.stands.0.holds.cells.sizes_are (here g c)
 
-pub returns-then-depth-len-clause-range : goal.returns-then-depth-len-clause-range
-returns-then-depth-len-clause-range g c =
+pub returns-then-reached-len-clause-range : goal.returns-then-reached-len-clause-range
+returns-then-reached-len-clause-range g c =
     cells_pass c.args.nodes.now c.args.cells.now c.prepare.new.self (value_block_size (Some c.args.reached.now.node)) (rank c.args.reached.now.node.value_bitmap 32) c.prepare.result c.requires.stands.0.holds.cells.sizes_are (here g c)
 
-pub returns-then-depth-len-clause-nodes : goal.returns-then-depth-len-clause-nodes
-returns-then-depth-len-clause-nodes g c = (Keeps-same _ _ refl, λ i d h. refl)
+pub returns-then-reached-len-clause-nodes : goal.returns-then-reached-len-clause-nodes
+returns-then-reached-len-clause-nodes g c = (Keeps-same _ _ refl, λ i d h. refl)
 
-pub returns-then-depth-len-clause-cells : goal.returns-then-depth-len-clause-cells
-returns-then-depth-len-clause-cells g c =
+pub returns-then-reached-len-clause-cells : goal.returns-then-reached-len-clause-cells
+returns-then-reached-len-clause-cells g c =
     (keeps_by _ _ _ _ _ (cell_sized c.args.cells.now.tiers c.requires.stands.0.holds.cells.sizes_are) c.prepare.result c.prepare.ensures.obtains, c.prepare.ensures.kept)
 
-pub returns-then-depth-len-clause-obtains : goal.returns-then-depth-len-clause-obtains
-returns-then-depth-len-clause-obtains g c =
+pub returns-then-reached-len-clause-obtains : goal.returns-then-reached-len-clause-obtains
+returns-then-reached-len-clause-obtains g c =
     let n = c.args.reached.now.node in
     let v = c.args.nodes.now in
     let w = c.args.cells.now in
     let t = c.requires.stands.0 in
-    let short : c.args.len < 5 * c.args.reached.now.level + 5 = omega (arith, c.if-depth-len.true) in
+    let short = level_last c.args.reached.now.level c.args.len c.if-reached-len.true in
     let none = nodes_here n c.args.reached.now.level c.args.len short in
     let one = cells_here n c.args.reached.now.level c.args.len short in
     subst (λ ns. ObtainsBoth (λ e. e ≡ IndexRange) (λ e. e ≡ Memory) c.prepare.result v v w c.prepare.new.self ns (cells_needed n c.args.reached.now.level c.args.len)) (sym none)
@@ -135,7 +136,7 @@ returns-in_err-prepare-clause-obtains g c =
     let v = c.args.nodes.now in
     let w = c.args.cells.now in
     let t = c.requires.stands.0 in
-    let one = ap (λ o. needs o 0) (first_list_need w t.holds.cells.sizes_are) ∙ sym (cells_below n c.args.reached.now.level c.args.len (omega (arith, c.if-depth-len.false))) in
+    let one = ap (λ o. needs o 0) (first_list_need w t.holds.cells.sizes_are) ∙ sym (cells_below n c.args.reached.now.level c.args.len (level_more c.args.reached.now.level c.args.len c.requires.whole c.if-reached-len.false)) in
     let all = cells_refused _ _ v v w c.prepare-2.new.self _ (node_sized v.tiers t.holds.hold.sizes_are) (cell_sized w.tiers t.holds.cells.sizes_are)
     (nodes_needed n c.args.reached.now.level c.args.len) c.in_err-prepare.field-0.0 c.in_err-prepare.ensures.obtains in
     rw (p.1, p.2) (subst (λ cs. ObtainsBoth {X = Unit {0}} (λ e. e ≡ IndexRange) (λ e. e ≡ Memory) (Err c.in_err-prepare.field-0.0) v v w c.prepare-2.new.self (nodes_needed n c.args.reached.now.level c.args.len) cs) one all)
@@ -154,7 +155,7 @@ prepare-requires-3-clause-sizes g c = node_sized c.args.nodes.now.tiers c.requir
 
 pub prepare-requires-3-clause-fits : goal.prepare-requires-3-clause-fits
 prepare-requires-3-clause-fits g c =
-    let few = c.requires.few_children (omega (arith, c.if-depth-len.false)) in
+    let few = c.requires.few_children (level_more c.args.reached.now.level c.args.len c.requires.whole c.if-reached-len.false) in
     node_fits c.args.nodes.now.tiers (c.count-2.result + 1) c.requires.stands.0.holds.hold.sizes_are
     (omega (arith, few, rank-ones c.args.reached.now.node.child_bitmap 32 (omega arith), c.count-2.ensures))
 
@@ -172,7 +173,7 @@ returns-clause-room g c =
     let n = c.args.reached.now.node in
     let w = c.args.cells.now in
     let t = c.requires.stands.0 in
-    let more : 5 * c.args.reached.now.level + 5 ≤ c.args.len = omega (arith, c.if-depth-len.false) in
+    let more = level_more c.args.reached.now.level c.args.len c.requires.whole c.if-reached-len.false in
     let nodes = nodes_below n c.args.reached.now.level c.args.len more in
     let one = cells_below n c.args.reached.now.level c.args.len more in
     let made = free_obtained w c.prepare-2.new.self _ c.in_ok-prepare.ensures.obtains.made in
@@ -213,7 +214,7 @@ returns-clause-obtains g c =
     let v = c.args.nodes.now in
     let w = c.args.cells.now in
     let t = c.requires.stands.0 in
-    let more : 5 * c.args.reached.now.level + 5 ≤ c.args.len = omega (arith, c.if-depth-len.false) in
+    let more = level_more c.args.reached.now.level c.args.len c.requires.whole c.if-reached-len.false in
     let nodes = nodes_below n c.args.reached.now.level c.args.len more in
     let one = ap (λ o. needs o 0) (first_list_need w t.holds.cells.sizes_are) ∙ sym (cells_below n c.args.reached.now.level c.args.len more) in
     subst (λ ns. ObtainsBoth (λ e. e ≡ IndexRange) (λ e. e ≡ Memory) c.prepare-3.result v c.prepare-3.new.self w c.prepare-2.new.self ns (cells_needed n c.args.reached.now.level c.args.len)) (sym nodes)
