@@ -6,13 +6,13 @@ use Rattle.prefix_trie_table.specs.declared.allocator.node.Node.{Node}
 use Rattle.prefix_trie_table.specs.Bitmaps.{rank}
 use Rattle.prefix_trie_table.specs.Cells.{blank_node, node_sizes}
 use Rattle.prefix_trie_table.specs.OwnBlocks.{child_need}
-use Rattle.prefix_trie_table.specs.Store.{Store, AreFree, SameRoom, SameMade, none_of, free_in, size_in, size_if_any, list_size, list_need, needs}
+use Rattle.prefix_trie_table.specs.Store.{Store, AreFree, free_in, size_in, size_if_any, list_size, list_need, needs}
 use Rattle.prefix_trie_table.proofs.Strings.Bits.{has_bit-is, rank-ones}
 use Rattle.prefix_trie_table.proofs.Strings.BitLists.{rank-within, rank-lacks}
 use Rattle.prefix_trie_table.proofs.Insertion.Adding.{at_is, has_list, tier_small, added}
 use Rattle.prefix_trie_table.proofs.Insertion.Inserting.{node_fits}
 use Rattle.prefix_trie_table.proofs.Blocks.BySize.{node_sized}
-use Rattle.prefix_trie_table.proofs.Blocks.Turnovers.{same_turned, room_turned, SameRoom-put, free_entered}
+use Rattle.prefix_trie_table.proofs.Blocks.Turnovers.{none_turned, none_written, free_entered}
 use Rattle.prefix_trie_table.proofs.table.insertion.add_child.Goals as goal
 
 pub insert_blank-block-requires-clause-holds : goal.insert_blank-block-requires-clause-holds
@@ -62,16 +62,9 @@ put-requires g c =
     let at = at_is c.args.nodes.now (c.args.at.start + c.args.at.place) c.requires.stands in
     (let l = c.insert_blank-block.ensures.turnover.keeps.longer in omega (arith, at.1, l))
 
-pub returns-clause-room : goal.returns-clause-room
-returns-clause-room g c =
-    let v = c.args.nodes.now in
-    let w = c.insert_blank-block.new.self in
-    subst (λ (x : Store Node). SameRoom v x) (sym c.put.ensures.slots) (SameRoom-put v w (c.args.at.start + c.args.at.place) _
-    (room_turned v w none_of _ _ (λ size. refl) c.insert_blank-block.ensures.turnover))
-
-pub returns-clause-made : goal.returns-clause-made
-returns-clause-made g c =
-    subst (λ (x : Store Node). SameMade c.args.nodes.now x) (sym c.put.ensures.slots) (same_turned _ _ _ _ c.insert_blank-block.ensures.turnover)
+pub returns-clause-stays : goal.returns-clause-stays
+returns-clause-stays g c =
+    none_written c.args.nodes.now c.insert_blank-block.new.self _ (c.args.at.start + c.args.at.place) _ (none_turned _ _ _ _ c.insert_blank-block.ensures.turnover) c.put.ensures.slots
 
 pub returns-clause-free : goal.returns-clause-free
 returns-clause-free g c = λ size.

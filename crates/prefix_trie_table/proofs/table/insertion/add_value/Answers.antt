@@ -3,14 +3,14 @@ use Rattle.std.specs.Option.{option_or}
 use Rattle.prefix_trie_bits.specs.Model.Insertion.{block_needed}
 use Rattle.prefix_trie_table.specs.Bitmaps.{rank}
 use Rattle.prefix_trie_table.specs.Cells.{cell_sizes}
-use Rattle.prefix_trie_table.specs.Store.{AreFree, none_of, size_in, size_if_any, list_size, list_need, needs}
+use Rattle.prefix_trie_table.specs.Store.{AreFree, size_in, size_if_any, list_size, list_need, needs}
 use Rattle.prefix_trie_table.proofs.Strings.Bits.{has_bit-is, rank-ones}
 use Rattle.prefix_trie_table.proofs.Strings.BitLists.{rank-within}
 use Rattle.prefix_trie_table.proofs.Insertion.Adding.{at_is, at_values, has_values, tier_small, values_added}
 use Rattle.prefix_trie_table.proofs.Insertion.Inserting.{cell_fits, few_values}
 use Rattle.prefix_trie_table.proofs.Lookup.Locating.{added_seat}
 use Rattle.prefix_trie_table.proofs.Blocks.BySize.{cell_sized}
-use Rattle.prefix_trie_table.proofs.Blocks.Turnovers.{same_turned, room_turned}
+use Rattle.prefix_trie_table.proofs.Blocks.Turnovers.{none_turned, none_written, none_same}
 use Rattle.prefix_trie_table.proofs.table.insertion.add_value.Goals as goal
 
 pub insert_at-block-requires-clause-holds : goal.insert_at-block-requires-clause-holds
@@ -61,11 +61,11 @@ overflow_cast-block g c =
 pub put-requires : goal.put-requires
 put-requires g c = (at_is c.args.nodes.now (c.args.at.start + c.args.at.place) (at_values _ _ _ c.requires.stands)).1
 
-pub returns-clause-cell_room : goal.returns-clause-cell_room
-returns-clause-cell_room g c = room_turned _ _ none_of _ _ (λ size. refl) c.insert_at-block.ensures.turnover
+pub returns-clause-nodes : goal.returns-clause-nodes
+returns-clause-nodes g c = none_written _ _ _ (c.args.at.start + c.args.at.place) _ (none_same c.args.nodes.now) c.put.ensures.slots
 
-pub returns-clause-cell_made : goal.returns-clause-cell_made
-returns-clause-cell_made g c = same_turned _ _ _ _ c.insert_at-block.ensures.turnover
+pub returns-clause-cells : goal.returns-clause-cells
+returns-clause-cells g c = none_turned _ _ _ _ c.insert_at-block.ensures.turnover
 
 pub returns-clause-added : goal.returns-clause-added
 returns-clause-added g c = λ reading paths values p n hold cells stands is.
