@@ -7,6 +7,7 @@ use Rattle.std.proofs.Common.{refl}
 use Rattle.std.proofs.Math.Bridge.{le_prop}
 use mathlib.Core.HLevel.{Π_prop}
 use Rattle.prefix_trie_table.specs.declared.allocator.node.Node.{Node}
+use Rattle.prefix_trie_table.specs.declared.table.lookup.Reached.{Reached}
 use Rattle.prefix_trie_table.specs.declared.table.seat.Seat.{Seat}
 use Rattle.prefix_trie_table.specs.declared.table.seat.WayEnd.{WayEnd}
 use Rattle.prefix_trie_table.specs.declared.table.seat.Location.{Location}
@@ -45,12 +46,16 @@ pub record IsWayEnd (nodes : List Node) (q : List Bool) (end : WayEnd) : Type 0 
   pub slot_is : end.reached.at.start + end.reached.at.place ≡ slot_from nodes 0 (take end.reached.level (path_of q))
   pub node_is : end.reached.node ≡ node_at nodes (end.reached.at.start + end.reached.at.place)
 
+-- the first len bits of b have no value, and their way ends at the node that was reached
+abbrev pub EndsAt : Store Node → List Bool → ℕ → Reached → Type 0
+EndsAt v b len reached =
+    (seat_of v.slots (take len b) ≡ None)
+    × IsReached b len reached.level reached.node (reached.at.start + reached.at.place) v
+
 -- what an array of nodes says of the first len bits of b: the seat of their value, or the end of their way where they have none
 abbrev pub Locates : Store Node → List Bool → ℕ → Location → Type 0
 Locates v b len (Stored seat) = seat_of v.slots (take len b) ≡ Some seat
-Locates v b len (Missing end) =
-    (seat_of v.slots (take len b) ≡ None)
-    × IsReached b len end.reached.level end.reached.node (end.reached.at.start + end.reached.at.place) v
+Locates v b len (Missing end) = EndsAt v b len end.reached
 
 -- what a table says of a bit string: the seat of its value, or the end of its way where it has none
 abbrev pub IsLocation : {T : Type 0} → Contents T → List Bool → Location → Type 0

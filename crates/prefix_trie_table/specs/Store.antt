@@ -195,6 +195,11 @@ KeepsMade v w = (size : ℕ) → made_in v.tiers size ≤ made_in w.tiers size
 abbrev pub SameMade : {S : Type 0} → Store S → Store S → Type 0
 SameMade v w = (size : ℕ) → made_in w.tiers size ≡ made_in v.tiers size
 
+-- no block was made
+pub record MakesNone {S : Type 0} (v w : Store S) : Type 0 where
+  pub room : SameRoom v w
+  pub made : SameMade v w
+
 -- the first block starts where it did, the sizes are the same, nothing before the first block was written, and where the limit
 -- held it holds
 pub record Keeps {S : Type 0} (v w : Store S) : Type 0 where
@@ -204,10 +209,6 @@ pub record Keeps {S : Type 0} (v w : Store S) : Type 0 where
   pub before : (i : ℕ) (d : S) → i < v.first → slice_index_or w.slots i d ≡ slice_index_or v.slots i d
   pub longer : length v.slots ≤ length w.slots
   pub within : length v.slots ≤ v.limit → length w.slots ≤ w.limit
-
--- nor was any slot that there was
-abbrev pub Prepared : {S : Type 0} → Store S → Store S → Type 0
-Prepared v w = Keeps v w × SameSlots v w
 
 -- so many blocks of each size were made, by whose slots the array is longer, and a list that stood in a block of the size `old` stands in
 -- one of the size `new`; each other block in use or free is so still

@@ -1,5 +1,5 @@
 -- What holds of the fields of every table, and of a way down. This project's own.
-use Rattle.std.specs.Prelude.{◌≡◌, ℕ, ◌+◌, ◌*◌, ◌<◌, ◌≤◌, ◌⊎◌, Bool, false, List, Option, Some, length, take, slice_index_or}
+use Rattle.std.specs.Prelude.{◌≡◌, ℕ, ◌+◌, ◌*◌, ◌<◌, ◌≤◌, ◌⊎◌, Bool, false, List, Option, Some, length, take, slice_index_or, Result, IfErr}
 use Rattle.std.specs.FinMap.{len}
 use Rattle.prefix_trie_bits.specs.Model.Entries.{AreWithin}
 use Rattle.prefix_trie_bits.specs.Model.Nodes.{AreNodes}
@@ -63,6 +63,12 @@ pub record Grows {S : Type 0} (v w : Store S) (most : ℕ) : Type 0 where
 -- the slots of one insertion's blocks may pass the limit: a block of 32 nodes and 24 of one, or a block of 31 cells
 abbrev pub MayPass : {T : Type 0} → Store Node → Store (Option T) → Type 0
 MayPass v w = (v.limit < length v.slots + 56) ⊎ (w.limit < length w.slots + 31)
+
+-- both arrays grow by those blocks at most, and for the limit a call is refused only where they may pass it
+pub record GrowsBoth {T X E : Type 0} (for_limit : E → Type 0) (r : Result X E) (v v2 : Store Node) (w w2 : Store (Option T)) : Type 0 where
+  pub nodes : Grows v v2 56
+  pub cells : Grows w w2 31
+  pub range : IfErr r (λ e. for_limit e → MayPass v w)
 
 module _ {T : Type 0} where
   -- a fact about each way to read these arrays as a table: its nodes, their paths and its values

@@ -7,7 +7,7 @@ use Rattle.std.specs.Option.{option_or}
 use Rattle.prefix_trie_bits.specs.Model.Blocks.{one_of}
 use Rattle.prefix_trie_bits.proofs.Model.Storage.Readied.{goes_up}
 use Rattle.prefix_trie_table.specs.Runs.{swap_runs}
-use Rattle.prefix_trie_table.specs.Store.{Tier, Store, Turnover, Keeps, KeepsMade, SameMade, SameRoom, AreFree, tier_at, with_tier, tier_sizes, size_in, free_in, made_in, many_of, none_of, slots_of, lacking_in}
+use Rattle.prefix_trie_table.specs.Store.{Tier, Store, Turnover, Keeps, KeepsMade, MakesNone, SameMade, SameRoom, AreFree, tier_at, with_tier, tier_sizes, size_in, free_in, made_in, many_of, none_of, slots_of, lacking_in}
 use Rattle.prefix_trie_table.proofs.Blocks.BySize.{size_at, sizes_set, has_size, number_set, many_here, many_other, many-none, slots_of-same, slots_of-add, slots_of-none, slots_of-many}
 use Rattle.prefix_trie_table.proofs.Blocks.RunLemmas.{length-swap_runs}
 
@@ -31,14 +31,14 @@ module _ {S : Type 0} where
   pub made_turned : (v w : Store S) (m : ℕ → ℕ) (o p : Option ℕ) → Turnover v w m o p → KeepsMade v w
   made_turned v w m o p t = λ size. (let e = t.made_is size in omega (arith, e))
 
-  -- where none is made, as many are there
-  pub same_turned : (v w : Store S) (o p : Option ℕ) → Turnover v w none_of o p → SameMade v w
-  same_turned v w o p t = λ size. (let e = t.made_is size in omega (arith, e))
-
-  -- and the array is as long
+  -- where none is made the array is as long
   pub room_turned : (v w : Store S) (m : ℕ → ℕ) (o p : Option ℕ) → ((size : ℕ) → m size ≡ 0) → Turnover v w m o p → SameRoom v w
   room_turned v w m o p none t =
       ((let l = t.longer in let n = slots_of-none (tier_sizes v.tiers) m none in omega (arith, l, n)), t.keeps.first_is, t.keeps.limit_is)
+
+  -- and has as many
+  pub none_turned : (v w : Store S) (o p : Option ℕ) → Turnover v w none_of o p → MakesNone v w
+  none_turned v w o p t = record { room = room_turned v w none_of o p (λ size. refl) t; made = λ size. (let e = t.made_is size in omega (arith, e)) }
 
   pub made_kept : (v w : Store S) → SameMade v w → KeepsMade v w
   made_kept v w same = λ size. (let e = same size in omega (arith, e))
@@ -184,6 +184,10 @@ module _ {S : Type 0} where
       either None own = omega arith
       either (Some n) own = omega arith
 
-  -- a slot that is written leaves the room
-  pub SameRoom-put : (v w : Store S) (i : ℕ) (x : S) → SameRoom v w → SameRoom v (record w { slots = set w.slots i x })
-  SameRoom-put v w i x room = (length-set w.slots i x ∙ room.0, room.1, room.2)
+  -- nor does writing a slot make one
+  pub none_written : (v w u : Store S) (i : ℕ) (x : S) → MakesNone v w → u ≡ record w { slots = set w.slots i x } → MakesNone v u
+  none_written v w u i x none e =
+      subst (λ y. MakesNone v y) (sym e) (record { room = (length-set w.slots i x ∙ none.room.0, none.room.1, none.room.2); made = none.made })
+
+  pub none_same : (v : Store S) → MakesNone v v
+  none_same v = record { room = (refl, refl, refl); made = λ size. refl }

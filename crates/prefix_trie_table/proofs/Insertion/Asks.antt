@@ -4,7 +4,7 @@ use Rattle.std.proofs.lemmas.Bool.{lt-ltb, le-ltb}
 use Rattle.prefix_trie_table.specs.declared.allocator.node.Node.{Node}
 use Rattle.prefix_trie_table.specs.Cells.{node_sizes, cell_sizes, HasSizes}
 use Rattle.prefix_trie_table.specs.OwnBlocks.{child_need, value_need}
-use Rattle.prefix_trie_table.specs.Store.{Store, Keeps, SameRoom, SameMade, Obtains, AreFree, tier_sizes, size_in, size_if_any, list_need, needs, lacking_in, slots_lacking}
+use Rattle.prefix_trie_table.specs.Store.{Store, Keeps, MakesNone, Obtains, AreFree, tier_sizes, size_in, size_if_any, list_need, needs, lacking_in, slots_lacking}
 use Rattle.prefix_trie_bits.specs.Model.Insertion.{block_needed}
 use Rattle.prefix_trie_table.specs.Bitmaps.{rank}
 use Rattle.prefix_trie_table.specs.Asked.{nodes_needed, cells_needed, Made, Makes, ObtainsBoth, AtDeepest}
@@ -60,10 +60,10 @@ module _ {S : Type 0} where
   none_lacks v has = slots_lacking-are v [] (sizes_up v.tiers has) ∙ slots_of-none (tier_sizes v.tiers) (lacking_in v []) (λ size. omega arith)
 
   -- where no block is made after, as many were made
-  pub Made-then : (v w x : Store S) (needed : List ℕ) → Made v w needed → SameRoom w x → SameMade w x → Made v x needed
-  Made-then v w x needed made room same = record {
-    made_is = λ size. (let a = made.made_is size in let b = same size in omega (arith, a, b));
-    longer = (let a = made.longer in let b = room.0 in omega (arith, a, b));
+  pub Made-then : (v w x : Store S) (needed : List ℕ) → Made v w needed → MakesNone w x → Made v x needed
+  Made-then v w x needed made none = record {
+    made_is = λ size. (let a = made.made_is size in let b = none.made size in omega (arith, a, b));
+    longer = (let a = made.longer in let b = none.room.0 in omega (arith, a, b));
   }
 
   module _ {X E : Type 0} (L M : E → Type 0) (v w : Store S) (needed : List ℕ) (has : HasSizes v.tiers) where

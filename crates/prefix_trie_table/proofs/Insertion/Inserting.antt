@@ -4,9 +4,9 @@ use Rattle.std.proofs.lemmas.Bool.{cases_Bool}
 use Rattle.prefix_trie_bits.specs.Model.Blocks.{smallest_size}
 use Rattle.prefix_trie_table.specs.declared.allocator.node.Node.{Node}
 use Rattle.prefix_trie_table.specs.Bitmaps.{has_bit, rank}
-use Rattle.prefix_trie_table.specs.Store.{Tier, Store, Sound, UsedBlock, block, HasList, Prepared, tier_sizes, size_in}
-use Rattle.prefix_trie_table.specs.Forest.{IsSlot, NodesHold, CellsHold, Deepest, has_value}
-use Rattle.prefix_trie_table.specs.Cells.{blank_node, node_at, node_sizes, cell_sizes}
+use Rattle.prefix_trie_table.specs.Store.{Tier, Store, Sound, UsedBlock, block, HasList, Keeps, SameSlots, tier_sizes, size_in}
+use Rattle.prefix_trie_table.specs.Forest.{NodesHold, CellsHold, Deepest, has_value}
+use Rattle.prefix_trie_table.specs.Cells.{blank_node, node_sizes, cell_sizes}
 use Rattle.prefix_trie_table.proofs.Blocks.Soundness.{tier_of_block, first_place}
 use Rattle.prefix_trie_table.proofs.Blocks.BySize.{smallest_there, node_sized, cell_sized, tiers_long}
 use Rattle.prefix_trie_table.proofs.Strings.BitLists.{rank-more, rank-lacks}
@@ -18,25 +18,25 @@ use Rattle.prefix_trie_table.proofs.Tree.Trees.{reads, slot_holds, held_some}
 
 -- free blocks that were made change nothing
 pub nodes_prepared : (reading : List ℕ → Option Node) (paths : List (List ℕ)) (v x : Store Node) → NodesHold node_sizes reading paths v →
-    Prepared v x → ((live : List (UsedBlock Node)) → Sound blank_node live v → Sound blank_node live x) → NodesHold node_sizes reading paths x
-nodes_prepared reading paths v x hold done sound = record {
-  rooted = hold.rooted ∙ ap Some (sym (done.1 0 blank_node
+    Keeps v x → SameSlots v x → ((live : List (UsedBlock Node)) → Sound blank_node live v → Sound blank_node live x) → NodesHold node_sizes reading paths x
+nodes_prepared reading paths v x hold keeps same sound = record {
+  rooted = hold.rooted ∙ ap Some (sym (same 0 blank_node
       (let w = first_place blank_node _ v hold.sound in let f = hold.first_is in omega arith)));
   linked = hold.linked;
   listed = hold.listed;
   sound = sound _ hold.sound;
-  first_is = done.0.first_is ∙ hold.first_is;
-  sizes_are = done.0.sizes ∙ hold.sizes_are;
+  first_is = keeps.first_is ∙ hold.first_is;
+  sizes_are = keeps.sizes ∙ hold.sizes_are;
 }
 
 -- and the values that they held
 pub cells_prepared : {T : Type 0} (reading : List ℕ → Option Node) (values : List ℕ → ℕ → Option T) (paths : List (List ℕ)) (w x : Store (Option T)) →
-    CellsHold cell_sizes reading values paths w → Prepared w x → ((live : List (UsedBlock (Option T))) → Sound None live w → Sound None live x) →
+    CellsHold cell_sizes reading values paths w → Keeps w x → ((live : List (UsedBlock (Option T))) → Sound None live w → Sound None live x) →
     CellsHold cell_sizes reading values paths x
-cells_prepared reading values paths w x cells done sound = record {
+cells_prepared reading values paths w x cells keeps sound = record {
   set_where = cells.set_where;
   sound = sound _ cells.sound;
-  sizes_are = done.0.sizes ∙ cells.sizes_are;
+  sizes_are = keeps.sizes ∙ cells.sizes_are;
   within = cells.within;
 }
 
@@ -59,12 +59,6 @@ cell_fits ts count e few =
     let top : size_in (tier_sizes ts) 6 ≡ 31 = ap (λ ns. size_in ns 6) e in
     ap is_some (smallest_there ts count 6 (cell_sized ts e) (let l = tiers_long ts cell_sizes e in omega (arith, l)) (omega (arith, top, few))).found
 
--- free blocks that were made leave each node that is there
-pub node_still : (reading : List ℕ → Option Node) (paths : List (List ℕ)) (v x : Store Node) (p : List ℕ) (slot : ℕ) (n : Node) →
-    NodesHold node_sizes reading paths v → IsSlot reading p slot → reading p ≡ Some n → Prepared v x → node_at x.slots slot ≡ node_at v.slots slot
-node_still reading paths v x p slot n hold stands is done =
-    done.1 slot blank_node (slot_holds node_sizes reading paths v hold p slot n stands is).1
-
 -- a node that lacks a value has room for one more
 pub few_values : {T : Type 0} (reading : List ℕ → Option Node) (values : List ℕ → ℕ → Option T) (paths : List (List ℕ)) (w : Store (Option T))
     (p : List ℕ) (n : Node) (b : ℕ) → CellsHold cell_sizes reading values paths w → reading p ≡ Some n → b < 31 → has_bit n.value_bitmap b ≡ false →
@@ -80,16 +74,16 @@ few_values reading values paths w p n b cells is small lacks =
     let none : ◌≡◌ {A = ℕ} (cond (has_bit m 31) 1 0) 0 = ap (λ s. cond s 1 0) last in
     omega (arith, less, up, none)
 
--- what `descend` reached is reached still where free blocks were made
+-- what `descend` reached is reached still where the nodes are the same
 pub reached_still : (b : List Bool) (len level slot : ℕ) (node : Node) (v x : Store Node) (reading : List ℕ → Option Node) (paths : List (List ℕ)) →
-    IsReached b len level node slot v → NodesHold node_sizes reading paths v → Prepared v x → NodesHold node_sizes reading paths x →
-    IsReached b len level node slot x
-reached_still b len level slot node v x reading paths at hold done later =
+    IsReached b len level node slot v → NodesHold node_sizes reading paths v → NodesHold node_sizes reading paths x → IsReached b len level node slot x
+reached_still b len level slot node v x reading paths at hold later =
     let deep = at.deepest reading paths hold in
     record {
       long = at.long;
       whole = at.whole;
-      node_is = at.node_is ∙ sym (node_still reading paths v x _ slot deep.node hold deep.stands deep.is done);
+      node_is = at.node_is ∙ (slot_holds node_sizes reading paths v hold _ slot deep.node deep.stands deep.is).0
+          ∙ sym (slot_holds node_sizes reading paths x later _ slot deep.node deep.stands deep.is).0;
       deepest = λ other ps h.
           let same : reading ≡ other = (λ i q. (sym (reads node_sizes reading paths x later q) ∙ reads node_sizes other ps x h q) i) in
           subst (λ f. Deepest f (path_of (take len b)) level slot x) same (record { node = deep.node; stands = deep.stands; is = deep.is });

@@ -15,7 +15,7 @@ use Rattle.prefix_trie_table.specs.Layouts.{Sized}
 use Rattle.prefix_trie_table.specs.Shape.{Shaped}
 use Rattle.prefix_trie_table.specs.Steps.{inserted, placed}
 use Rattle.prefix_trie_table.specs.Store.{Store}
-use Rattle.prefix_trie_table.specs.Tables.{IsReached, IsTable, ForHeld, Grows, MayPass}
+use Rattle.prefix_trie_table.specs.Tables.{IsReached, IsTable, ForHeld, GrowsBoth, MayPass}
 use Rattle.prefix_trie_table.proofs.Insertion.Asks.{at_end}
 use Rattle.prefix_trie_table.proofs.Insertion.Foreseen.{obtained}
 use Rattle.prefix_trie_table.proofs.Insertion.Inserted.{inserted_in}
@@ -83,11 +83,11 @@ module _ {T : Type 0} (b : List Bool) (len : ℕ) (x : T) (v v2 : Store Node) (w
 
   pub placed_step : (r : Result Seat (Refused T)) → Leaves (take len b) x v v2 w w2 count count2 s is (inserting r) →
       ObtainsBoth (λ (e : Refused T). e.cause ≡ IndexRange) (λ (e : Refused T). e.cause ≡ Memory) r v v2 w w2 (nodes_needed end.reached.node end.reached.level len)
-      (cells_needed end.reached.node end.reached.level len) → IfErr r (λ e. e.cause ≡ IndexRange → MayPass v w) → Grows v v2 56 → Grows w w2 31 →
+      (cells_needed end.reached.node end.reached.level len) → GrowsBoth (λ (e : Refused T). e.cause ≡ IndexRange) r v v2 w w2 →
       (width : ℕ) → StepByPath width (s.0, storage_of v w sized) (Insert (take len b) x) (placed r) (t.0, storage_of v2 w2 later)
-  placed_step r leaves obtains range nodes cells width = answered width r (inserts_step v v2 w w2 count count2 s is sized t left later (take len b) x (inserting r) (record {
+  placed_step r leaves obtains grows width = answered width r (inserts_step v v2 w w2 count count2 s is sized t left later (take len b) x (inserting r) (record {
     leaves = leaves;
     stays = λ there. absurd (true≢false (sym there ∙ absent));
     takes = λ new. taken r leaves obtains;
-    range = range_given r range;
-  }) nodes cells width)
+    range = range_given r grows.range;
+  }) grows.nodes grows.cells width)

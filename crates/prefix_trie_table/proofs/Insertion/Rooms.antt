@@ -4,11 +4,11 @@ use Rattle.prefix_trie_bits.specs.Model.Blocks.{child_block_sizes, value_block_s
 use Rattle.prefix_trie_bits.specs.Model.Insertion.{block_needed, lacking_slots}
 use Rattle.prefix_trie_bits.proofs.Model.Storage.Slots.{slots_most, total_most, needed_most}
 use Rattle.prefix_trie_table.specs.Cells.{node_sizes, cell_sizes, HasSizes}
-use Rattle.prefix_trie_table.specs.Store.{Store, Turnover, Obtains, SameRoom, KeepsMade, tier_sizes, free_counts, needs, lacking_in, slots_lacking}
+use Rattle.prefix_trie_table.specs.Store.{Store, Turnover, Obtains, MakesNone, SameRoom, KeepsMade, tier_sizes, free_counts, needs, lacking_in, slots_lacking}
 use Rattle.prefix_trie_table.specs.Tables.{Grows}
 use Rattle.prefix_trie_table.proofs.Blocks.BySize.{sizes_up, slots_of-le}
 use Rattle.prefix_trie_table.proofs.Blocks.Preparing.{slots_lacking-are}
-use Rattle.prefix_trie_table.proofs.Blocks.Turnovers.{made_turned, made_same, made_then}
+use Rattle.prefix_trie_table.proofs.Blocks.Turnovers.{made_turned, made_kept, made_same, made_then}
 
 module _ {S : Type 0} where
   -- the same room and the same tiers are no growth
@@ -27,14 +27,14 @@ module _ {S : Type 0} where
   Grows-same v w most e = subst (λ x. Grows v x most) (sym e) (record { first_is = refl; limit_is = refl; longer = omega arith; at_most = omega arith; within = λ h. h; made = λ size. omega arith })
 
   -- nothing grows after
-  pub Grows-then : (v w x : Store S) (most : ℕ) → Grows v w most → SameRoom w x → KeepsMade w x → Grows v x most
-  Grows-then v w x most g room made = record {
-    first_is = room.1 ∙ g.first_is;
-    limit_is = room.2 ∙ g.limit_is;
-    longer = (let e = room.0 in let a = g.longer in omega arith);
-    at_most = (let e = room.0 in let a = g.at_most in omega arith);
-    within = λ h. (let e = room.0 in let l = room.2 in let a = g.within h in omega (arith, e, l, a));
-    made = made_then v w x g.made made;
+  pub Grows-then : (v w x : Store S) (most : ℕ) → Grows v w most → MakesNone w x → Grows v x most
+  Grows-then v w x most g none = record {
+    first_is = none.room.1 ∙ g.first_is;
+    limit_is = none.room.2 ∙ g.limit_is;
+    longer = (let e = none.room.0 in let a = g.longer in omega arith);
+    at_most = (let e = none.room.0 in let a = g.at_most in omega arith);
+    within = λ h. (let e = none.room.0 in let l = none.room.2 in let a = g.within h in omega (arith, e, l, a));
+    made = made_then v w x g.made (made_kept w x none.made);
   }
 
   -- nor does anything grow before
@@ -48,9 +48,9 @@ module _ {S : Type 0} where
     made = made_then v w x made g.made;
   }
 
-  -- twice the same room
-  pub SameRoom-then : (v w x : Store S) → SameRoom v w → SameRoom w x → SameRoom v x
-  SameRoom-then v w x a b = (b.0 ∙ a.0, b.1 ∙ a.1, b.2 ∙ a.2)
+  -- twice no block
+  pub none_then : (v w x : Store S) → MakesNone v w → MakesNone w x → MakesNone v x
+  none_then v w x a b = record { room = (b.room.0 ∙ a.room.0, b.room.1 ∙ a.room.1, b.room.2 ∙ a.room.2); made = λ size. b.made size ∙ a.made size }
 
   turned : (v w : Store S) (needed : List ℕ) (most : ℕ) → HasSizes v.tiers → slots_lacking v needed ≤ most → (m : ℕ → ℕ) → ((size : ℕ) → m size ≤ lacking_in v needed size) → Turnover v w m None None → Grows v w most
   turned v w needed most has bound m few t =

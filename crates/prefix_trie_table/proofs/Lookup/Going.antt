@@ -1,5 +1,5 @@
 -- The way down a bit string, as the code follows it on a key.
-use Rattle.std.proofs.Common.{◌≡◌, ℕ, ◌+◌, ◌*◌, ◌/◌, ◌<◌, ◌≤◌, Bool, true, false, List, [], ◌∷◌, ◌++◌, length, get_or, take, drop, Option, Some, is_some, refl, sym, ap, ◌∙◌, subst, arith}
+use Rattle.std.proofs.Common.{◌≡◌, ◌≢◌, ℕ, ◌+◌, ◌*◌, ◌/◌, ◌<◌, ◌≤◌, Bool, true, false, List, [], ◌∷◌, ◌++◌, length, get_or, take, drop, Option, Some, is_some, refl, sym, ap, ◌∙◌, subst, arith}
 use Rattle.std.proofs.lemmas.List.{length-take-le, take_more}
 use Rattle.prefix_trie_bits.specs.Bits.{number, zeros}
 use Rattle.prefix_trie_bits.specs.Windows.{window-of-front, IsRest, rest_whole, rest_behind, rest_front}
@@ -161,6 +161,9 @@ level_whole level len e = omega (arith, e)
 
 pub level_within : (level len : ℕ) → 5 * level ≤ len → level ≤ len / 5
 level_within level len h = omega (arith, h)
+
+pub level_more : (level len : ℕ) → 5 * level ≤ len → level ≢ len / 5 → 5 * level + 5 ≤ len
+level_more level len h other = level_inside level len (let w = level_within level len h in omega (arith, w, other))
 
 pub level_past : (level len : ℕ) → len < 5 * level + 5 → 5 * level ≤ len → level ≡ len / 5
 level_past level len h k = omega (arith, h, k)

@@ -5,12 +5,13 @@ use Rattle.std.proofs.lemmas.List.{get_or-set_same}
 use Rattle.prefix_trie_bits.specs.Places.{has, value_bit, Sets}
 use Rattle.prefix_trie_bits.proofs.Strings.{value_bit-small}
 use Rattle.prefix_trie_table.specs.declared.allocator.node.Node.{Node}
+use Rattle.prefix_trie_table.specs.declared.table.lookup.Reached.{Reached}
 use Rattle.prefix_trie_table.specs.declared.table.seat.Seat.{Seat}
 use Rattle.prefix_trie_table.specs.Bitmaps.{has_bit, rank}
 use Rattle.prefix_trie_table.specs.Cells.{blank_node, node_at, node_sizes, cell_sizes}
 use Rattle.prefix_trie_table.specs.Digits.{path_of, bit_of}
-use Rattle.prefix_trie_table.specs.Forest.{read, IsSlot, at_root, at_child, NodesHold, CellsHold, ValueSet, with_node, has_value}
-use Rattle.prefix_trie_table.specs.Locations.{value_seat, seat_in, seat_of}
+use Rattle.prefix_trie_table.specs.Forest.{read, SomeTable, IsNodeAt, IsSlot, at_root, at_child, NodesHold, CellsHold, ValueSet, with_node, has_value}
+use Rattle.prefix_trie_table.specs.Locations.{EndsAt, value_seat, seat_in, seat_of}
 use Rattle.prefix_trie_table.specs.Slots.{IsSeat}
 use Rattle.prefix_trie_table.specs.Store.{Store}
 use Rattle.prefix_trie_table.specs.Tables.{IsReached}
@@ -18,11 +19,12 @@ use Rattle.prefix_trie_table.proofs.Strings.Bits.{has_bit-is, has_bit-sets}
 use Rattle.prefix_trie_table.proofs.Strings.BitLists.{rank-same}
 use Rattle.prefix_trie_table.proofs.Tree.Children.{same_number, other_number, with_here, with_other}
 use Rattle.prefix_trie_table.proofs.Strings.Digits.{bit_of-small}
-use Rattle.prefix_trie_table.proofs.Insertion.Inserting.{few_values}
+use Rattle.prefix_trie_table.proofs.Insertion.Inserting.{few_values, reached_still}
 use Rattle.prefix_trie_table.proofs.Lookup.Finding.{reached_own, no_seat_below, no_seat_here, bit_set}
 use Rattle.prefix_trie_table.proofs.Lookup.Going.{bit-read}
 use Rattle.prefix_trie_table.proofs.Strings.Paths.{snoc_not_same}
 use Rattle.prefix_trie_table.proofs.Strings.Placing.{below_node}
+use Rattle.prefix_trie_table.proofs.Tree.Invariant.{deepest_there}
 use Rattle.prefix_trie_table.proofs.Tree.Trees.{reads, slot_holds, is_none-None}
 
 -- a node has a seat where it has a value
@@ -153,3 +155,16 @@ entered_seat reading values paths q slot b x seat v2 w2 stands bit one found =
     let is : later (path_of q) ≡ Some one.node = with_here reading (path_of q) one.node (path_of q) refl in
     let at = slot_holds node_sizes later paths v2 one.hold (path_of q) slot one.node (own_slot reading (path_of q) one.node (path_of q) slot stands refl) is in
     seat_reads v2 later paths one.hold q ∙ ap₂ (λ o i. seat_in o i) (is ∙ ap Some (sym at.0)) bit ∙ found
+
+-- a way ends where it ended where the nodes are the same
+pub ends_still : (b : List Bool) (len : ℕ) (reached : Reached) (v x : Store Node) (reading : List ℕ → Option Node) (paths : List (List ℕ)) →
+    EndsAt v b len reached → NodesHold node_sizes reading paths v → NodesHold node_sizes reading paths x → EndsAt x b len reached
+ends_still b len reached v x reading paths ends hold later = (
+  seat_reads x reading paths later (take len b) ∙ sym (seat_reads v reading paths hold (take len b)) ∙ ends.0,
+  reached_still b len reached.level (reached.at.start + reached.at.place) reached.node v x reading paths ends.1 hold later,
+)
+
+-- it stands in its table
+abbrev pub end_there : (b : List Bool) (len : ℕ) (reached : Reached) {T : Type 0} {v : Store Node} {w : Store (Option T)} (t : SomeTable v w) → EndsAt v b len reached →
+    (t : SomeTable v w) × IsNodeAt t.reading (reached.at.start + reached.at.place)
+end_there b len reached t ends = (t, deepest_there (ends.1.deepest t.reading t.paths t.holds.hold))

@@ -1,5 +1,5 @@
 -- What a call leaves of a table that makes free blocks alone.
-use Rattle.std.proofs.Common.{◌≡◌, ℕ, ◌+◌, ◌≤◌, false, Bool, List, length, take, Option, None, Result, MatchResult, sym, ap, ◌∙◌, subst}
+use Rattle.std.proofs.Common.{◌≡◌, ℕ, ◌+◌, ◌≤◌, false, Bool, List, length, take, Option, Result, MatchResult, sym, ap, ◌∙◌, subst}
 use Rattle.std.specs.FinMap.{contains_key, len as number_of}
 use Rattle.prefix_trie_bits.specs.declared.prefix.Refusal.{Refusal}
 use Rattle.prefix_trie_bits.specs.declared.prefix.Refusal.TheVariants.{Memory, IndexRange}
@@ -8,17 +8,16 @@ use Rattle.prefix_trie_bits.specs.Model.Storage.{ReadiesInStorage, RefusesInStor
 use Rattle.prefix_trie_table.specs.declared.allocator.node.Node.{Node}
 use Rattle.prefix_trie_table.specs.declared.table.seat.WayEnd.{WayEnd}
 use Rattle.prefix_trie_table.specs.Asked.{ObtainsBoth, nodes_needed, cells_needed}
-use Rattle.prefix_trie_table.specs.Cells.{blank_node}
 use Rattle.prefix_trie_table.specs.Forest.{Holds}
 use Rattle.prefix_trie_table.specs.Layouts.{Sized}
-use Rattle.prefix_trie_table.specs.Locations.{seat_of, IsWayEnd}
+use Rattle.prefix_trie_table.specs.Locations.{EndsAt, seat_of, IsWayEnd}
 use Rattle.prefix_trie_table.specs.Shape.{Shaped, same_shape}
-use Rattle.prefix_trie_table.specs.Store.{Store, UsedBlock, Sound, Prepared}
-use Rattle.prefix_trie_table.specs.Tables.{IsReached, IsTable, Grows}
+use Rattle.prefix_trie_table.specs.Store.{Store}
+use Rattle.prefix_trie_table.specs.Tables.{IsReached, IsTable, ForHeld, Grows}
 use Rattle.prefix_trie_table.proofs.Insertion.Asks.{at_end}
 use Rattle.prefix_trie_table.proofs.Insertion.Foreseen.{obtained}
 use Rattle.prefix_trie_table.proofs.Insertion.Inserted.{readied_in}
-use Rattle.prefix_trie_table.proofs.Insertion.Inserting.{nodes_prepared, cells_prepared, reached_still}
+use Rattle.prefix_trie_table.proofs.Insertion.Inserting.{reached_still}
 use Rattle.prefix_trie_table.proofs.Tree.Invariant.{some_table}
 use Rattle.prefix_trie_table.proofs.Lookup.Located.{stored_if}
 use Rattle.prefix_trie_table.proofs.Insertion.Resized.{sizes_kept}
@@ -30,25 +29,21 @@ use Rattle.prefix_trie_table.proofs.Tree.WayEnds.{way_ends, way_reached}
 -- the way that a table has for a missing string
 module _ {T : Type 0} (v : Store Node) (w : Store (Option T)) (count : ℕ) (s : Shaped v.slots w.slots) (is : IsTable v w count s.0) (b : List Bool) (len : ℕ)
     (long : len ≤ length b) (end : WayEnd) (build : List Node) (same : v.slots ≡ build) where
-  -- it has no seat
-  pub absent_seat : contains_key s.0.entries (take len b) ≡ false → seat_of v.slots (take len b) ≡ None
-  absent_seat absent = is_none-None (seat_of v.slots (take len b)) (sym (stored_if v w count s is (take len b)) ∙ absent)
-
-  -- and the end of its way is the node reached
+  -- its end is the node reached
   pub end_reached : IsWayEnd build (take len b) end → IsReached b len end.reached.level end.reached.node (end.reached.at.start + end.reached.at.place) v
   end_reached e =
       way_reached v is.reading is.paths is.nodes b len end long
       (subst (λ nodes. IsWayEnd nodes (take len b) end) (sym same) e)
 
+  -- which has no seat for it
+  pub ends_at : contains_key s.0.entries (take len b) ≡ false → IsWayEnd build (take len b) end → EndsAt v b len end.reached
+  ends_at absent e = (is_none-None (seat_of v.slots (take len b)) (sym (stored_if v w count s is (take len b)) ∙ absent), end_reached e)
+
 module _ {T : Type 0} (v v2 : Store Node) (w w2 : Store (Option T)) (count : ℕ) (s : Shaped v.slots w.slots) (is : IsTable v w count s.0)
-    (nodes : Prepared v v2) (nodes_sound : (live : List (UsedBlock Node)) → Sound blank_node live v → Sound blank_node live v2)
-    (cells : Prepared w w2) (cells_sound : (live : List (UsedBlock (Option T))) → Sound None live w → Sound None live w2) where
+    (kept : ForHeld v w (λ reading paths values. Holds reading values paths v2 w2)) where
   -- the arrays hold what they held
   pub kept_holds : Holds is.reading is.values is.paths v2 w2
-  kept_holds = record {
-    hold = nodes_prepared is.reading is.paths v v2 is.nodes nodes nodes_sound;
-    cells = cells_prepared is.reading is.values is.paths w w2 is.cells cells cells_sound;
-  }
+  kept_holds = kept is.reading is.paths is.values (some_table is).holds
 
   -- they have the shape that there was
   abbrev pub kept_shape : Shaped v2.slots w2.slots
@@ -86,7 +81,7 @@ module _ {T : Type 0} (v v2 : Store Node) (w w2 : Store (Option T)) (count : ℕ
     kept_end =
         let t = some_table is in
         way_ends v2 t.reading t.paths kept_holds.hold b len end
-        (reached_still b len end.reached.level (end.reached.at.start + end.reached.at.place) end.reached.node v v2 t.reading t.paths at t.holds.hold nodes kept_holds.hold)
+        (reached_still b len end.reached.level (end.reached.at.start + end.reached.at.place) end.reached.node v v2 t.reading t.paths at t.holds.hold kept_holds.hold)
 
     -- and what was obtained for it readies its insertion
     pub kept_readies : {X : Type 0} (sized : Sized v.slots) (later : Sized v2.slots) (r : Result X Refusal) → Grows v v2 56 → Grows w w2 31 →

@@ -1,15 +1,14 @@
 //! Setting a value.
-ghost use Rattle.std.specs.Prelude.{◌≡◌, ℕ, ◌+◌, ◌*◌, ◌<◌, ◌≤◌, List, Option, Some, take, false, true, is_some, IfErr, IfOk, IsOk, MatchResult, OnOk, None};
+ghost use Rattle.std.specs.Prelude.{◌≡◌, ℕ, Bool, ◌+◌, ◌<◌, ◌≤◌, List, Option, Some, take, false, true, is_some, IfErr, IsOk, MatchResult, OnOk, None};
 ghost use Rattle.prefix_trie_table.specs.declared.allocator.node.Node.{Node};
-ghost use Rattle.prefix_trie_table.specs.Bitmaps.{has_bit as is_set, rank as rank_of};
-ghost use Rattle.prefix_trie_table.specs.Cells.{blank_node, node_at, node_sizes, cell_sizes};
-ghost use Rattle.prefix_trie_table.specs.Digits.{path_of, bit_of};
+ghost use Rattle.prefix_trie_table.specs.Bitmaps.{has_bit as is_set};
+ghost use Rattle.prefix_trie_table.specs.Cells.{node_at, node_sizes, cell_sizes};
 ghost use Rattle.prefix_trie_bits.specs.Model.Blocks.{one_of};
 ghost use Rattle.prefix_trie_table.specs.OwnBlocks.{child_need, value_need};
-ghost use Rattle.prefix_trie_table.specs.Store.{UsedBlock, Sound, AreFree, Prepared, SameRoom, SameMade, free_in, needs};
-ghost use Rattle.prefix_trie_table.specs.Forest.{IsSlot, NodesHold, CellsHold, Holds, SomeTable, SomeNodes, IsNodeAt, ChildAdded, ValueSet, Deepest, entry_count, one_if};
-ghost use Rattle.prefix_trie_table.specs.Locations.{seat_in, seat_of};
-ghost use Rattle.prefix_trie_table.specs.Tables.{IsReached, Grows, MayPass, ForHeld, own_value, EntrySet};
+ghost use Rattle.prefix_trie_table.specs.Store.{AreFree, MakesNone, SameRoom, free_in, needs};
+ghost use Rattle.prefix_trie_table.specs.Forest.{IsSlot, NodesHold, CellsHold, Holds, SomeTable, SomeNodes, IsNodeAt, ChildAdded, ValueSet, entry_count, one_if};
+ghost use Rattle.prefix_trie_table.specs.Locations.{EndsAt, seat_in, seat_of};
+ghost use Rattle.prefix_trie_table.specs.Tables.{GrowsBoth, ForHeld, own_value, EntrySet};
 ghost use Rattle.prefix_trie_table.specs.Asked.{nodes_needed, cells_needed, HasRoom, AtDeepest, ObtainsBoth};
 ghost use Rattle.prefix_trie_bits.specs.declared.prefix.Refusal.TheVariants.{Memory, IndexRange};
 
@@ -27,17 +26,16 @@ use std::alloc::Allocator;
 fn add_child<A: Allocator, V: Tick>(
     nodes: &mut NodeAllocator<A, V>,
     at: NodeSlot,
-    node: Node,
+    node: &Node,
     child: u32,
 ) -> NodeSlot
     requires child { child < 32 }
     requires stands { (n : SomeNodes nodes.old) × IsNodeAt n.reading (at.start + at.place) }
-    requires node { node ≡ node_at nodes.old.slots (at.start + at.place) }
-    requires missing { is_set node.child_bitmap child ≡ false }
-    requires ready { AreFree nodes.old.tiers (needs (child_need (Some node)) 0) }
-    ensures room { SameRoom nodes.old nodes.new }
-    ensures made { SameMade nodes.old nodes.new }
-    ensures free { (size : ℕ) → free_in nodes.old.tiers size ≤ free_in nodes.new.tiers size + one_of (child_need (Some node)) size }
+    requires node { node.now ≡ node_at nodes.old.slots (at.start + at.place) }
+    requires missing { is_set node.now.child_bitmap child ≡ false }
+    requires ready { AreFree nodes.old.tiers (needs (child_need (Some node.now)) 0) }
+    ensures stays { MakesNone nodes.old nodes.new }
+    ensures free { (size : ℕ) → free_in nodes.old.tiers size ≤ free_in nodes.new.tiers size + one_of (child_need (Some node.now)) size }
     ensures added { (reading : List ℕ → Option Node) (paths : List (List ℕ)) (p : List ℕ) (n : Node)
         → NodesHold node_sizes reading paths nodes.old
         → IsSlot reading p (at.start + at.place) → reading p ≡ Some n
@@ -74,19 +72,17 @@ fn add_value<T: Drop, A: Allocator, V: Tick>(
     nodes: &mut NodeAllocator<A, V>,
     cells: &mut Blocks<Option<T>, A>,
     at: NodeSlot,
-    node: Node,
+    node: &Node,
     bit: u32,
     value: T,
 ) -> Seat
     requires bit { bit < 31 }
     requires stands { (t : SomeTable nodes.old cells.old) × IsNodeAt t.reading (at.start + at.place) }
-    requires node { node ≡ node_at nodes.old.slots (at.start + at.place) }
-    requires missing { is_set node.value_bitmap bit ≡ false }
-    requires ready { AreFree cells.old.tiers (needs (value_need (Some node)) 0) }
-    ensures node_room { SameRoom nodes.old nodes.new }
-    ensures cell_room { SameRoom cells.old cells.new }
-    ensures node_made { SameMade nodes.old nodes.new }
-    ensures cell_made { SameMade cells.old cells.new }
+    requires node { node.now ≡ node_at nodes.old.slots (at.start + at.place) }
+    requires missing { is_set node.now.value_bitmap bit ≡ false }
+    requires ready { AreFree cells.old.tiers (needs (value_need (Some node.now)) 0) }
+    ensures nodes { MakesNone nodes.old nodes.new }
+    ensures cells { MakesNone cells.old cells.new }
     ensures added { (reading : List ℕ → Option Node) (paths : List (List ℕ))
         (values : List ℕ → ℕ → Option T) (p : List ℕ) (n : Node)
         → NodesHold node_sizes reading paths nodes.old
@@ -130,34 +126,20 @@ pub fn prepare<T: Drop, A: Allocator, V: Tick>(
     reached: &Reached,
     len: u32,
 ) -> Result<(), Refusal>
-    requires stands { (t : SomeTable nodes.old cells.old) × IsNodeAt t.reading (reached.now.at.start + reached.now.at.place) }
-    requires node { reached.now.node
-        ≡ node_at nodes.old.slots (reached.now.at.start + reached.now.at.place) }
-    requires whole { 5 * reached.now.level ≤ len }
+    requires table { SomeTable nodes.old cells.old }
+    requires ends { (b : List Bool) × EndsAt nodes.old b len reached.now }
     requires short { len ≤ 128 }
-    requires few_values { len < 5 * reached.now.level + 5
-        → rank_of reached.now.node.value_bitmap 32 < 31 }
-    requires few_children { 5 * reached.now.level + 5 ≤ len
-        → rank_of reached.now.node.child_bitmap 32 < 32 }
     ensures room { OnOk result
         (HasRoom nodes.new cells.new reached.now.node reached.now.level len) }
-    ensures range { IfErr result (λ cause. cause ≡ IndexRange → MayPass nodes.old cells.old) }
-    ensures node_room { Grows nodes.old nodes.new 56 }
-    ensures cell_room { Grows cells.old cells.new 31 }
+    ensures grows { GrowsBoth (λ cause. cause ≡ IndexRange) result nodes.old nodes.new cells.old cells.new }
     ensures obtains { ObtainsBoth (λ cause. cause ≡ IndexRange) (λ cause. cause ≡ Memory)
         result nodes.old nodes.new cells.old cells.new
         (nodes_needed reached.now.node reached.now.level len)
         (cells_needed reached.now.node reached.now.level len) }
-    ensures nodes { Prepared nodes.old nodes.new }
-    ensures cells { Prepared cells.old cells.new }
-    ensures nodes_sound { (live : List (UsedBlock Node)) → Sound blank_node live nodes.old
-        → Sound blank_node live nodes.new }
-    ensures cells_sound { (live : List (UsedBlock (Option T))) → Sound None live cells.old
-        → Sound None live cells.new }
+    ensures kept { ForHeld nodes.old cells.old (λ reading paths values. Holds reading values paths nodes.new cells.new) }
 {
-    let depth = 5 * reached.level;
     let node = &reached.node;
-    if depth + 5 > len {
+    if reached.level == len / 5 {
         return cells.prepare(node.value_tier as usize, count(node.value_bitmap), 0);
     }
     cells.prepare(0, 0, 0)?;
@@ -174,40 +156,35 @@ pub fn prepare<T: Drop, A: Allocator, V: Tick>(
 fn add_entry<K: Key, T: Drop, A: Allocator, V: Tick>(
     nodes: &mut NodeAllocator<A, V>,
     cells: &mut Blocks<Option<T>, A>,
-    reached: Reached,
+    reached: &Reached,
     key: K,
     len: u32,
     value: T,
 ) -> Seat
     requires key { K.IsKey key }
     requires within { len ≤ K.bit_width }
-    requires stands { (t : SomeTable nodes.old cells.old)
-        × Deepest t.reading (path_of (take len (K.bits key))) reached.level (reached.at.start + reached.at.place) nodes.old }
-    requires reached { IsReached (K.bits key) len
-        reached.level reached.node (reached.at.start + reached.at.place) nodes.old }
-    requires lacks { len < 5 * reached.level + 5
-        → is_set reached.node.value_bitmap (bit_of (take len (K.bits key))) ≡ false }
-    requires room { HasRoom nodes.old cells.old reached.node reached.level len }
-    ensures node_room { SameRoom nodes.old nodes.new }
-    ensures cell_room { SameRoom cells.old cells.new }
-    ensures node_made { SameMade nodes.old nodes.new }
-    ensures cell_made { SameMade cells.old cells.new }
+    requires table { SomeTable nodes.old cells.old }
+    requires ends { EndsAt nodes.old (K.bits key) len reached.now }
+    requires room { HasRoom nodes.old cells.old reached.now.node reached.now.level len }
+    ensures nodes { MakesNone nodes.old nodes.new }
+    ensures cells { MakesNone cells.old cells.new }
     ensures added { ForHeld nodes.old cells.old (λ reading paths values.
         EntrySet reading paths values (K.bits key) len value nodes.new cells.new) }
     ensures seat { seat_of nodes.new.slots (take len (K.bits key)) ≡ Some result }
 {
     let last = len / 5;
-    let bit = value_bit_of(key, last * 5, len);
     if reached.level == last {
-        return add_value(nodes, cells, reached.at, reached.node, bit, value);
+        let bit = value_bit_of(key, last * 5, len);
+        return add_value(nodes, cells, reached.at, &reached.node, bit, value);
     }
     // The first node hangs below one that stands, all others below a blank one, which costs less.
     let child = child_bit_of(key, 5 * reached.level);
-    let mut at = add_child(nodes, reached.at, reached.node, child);
+    let mut at = add_child(nodes, reached.at, &reached.node, child);
     for level in reached.level + 1..last {
-        at = add_child(nodes, at, Node::blank(), child_bit_of(key, 5 * level));
+        at = add_child(nodes, at, &Node::blank(), child_bit_of(key, 5 * level));
     }
-    add_value(nodes, cells, at, Node::blank(), bit, value)
+    let bit = value_bit_of(key, last * 5, len);
+    add_value(nodes, cells, at, &Node::blank(), bit, value)
 }
 
 /// Adds a missing value at a bit string whose way ends so, and the nodes of its way that are missing, and counts it. Answers where
@@ -225,28 +202,24 @@ pub fn place_entry<K: Key, T: Drop, A: Allocator, V: Tick>(
     requires key { K.IsKey key }
     requires within { len ≤ K.bit_width }
     requires table { (t : SomeTable nodes.old cells.old) × (entries.old ≡ entry_count t.reading t.paths) }
-    requires reached { IsReached (K.bits key) len end.reached.level end.reached.node
-        (end.reached.at.start + end.reached.at.place) nodes.old }
-    requires missing { seat_of nodes.old.slots (take len (K.bits key)) ≡ None }
+    requires ends { EndsAt nodes.old (K.bits key) len end.reached }
     ensures placed { ForHeld nodes.old cells.old (λ reading paths values. MatchResult result
         (λ _. EntrySet reading paths values (K.bits key) len value nodes.new cells.new)
         (λ _. Holds reading values paths nodes.new cells.new)) }
     ensures counted { MatchResult result (λ _. entries.new ≡ entries.old + 1) (λ _. entries.new ≡ entries.old) }
-    ensures seat { IfOk result (λ seat. seat_of nodes.new.slots (take len (K.bits key)) ≡ Some seat) }
-    ensures range { IfErr result
-        (λ refused. refused.cause ≡ IndexRange → MayPass nodes.old cells.old) }
-    ensures node_room { Grows nodes.old nodes.new 56 }
-    ensures cell_room { Grows cells.old cells.new 31 }
+    ensures answer { MatchResult result
+        (λ seat. seat_of nodes.new.slots (take len (K.bits key)) ≡ Some seat)
+        (λ refused. refused.value ≡ value) }
+    ensures grows { GrowsBoth (λ refused. refused.cause ≡ IndexRange) result nodes.old nodes.new cells.old cells.new }
     ensures obtains { ObtainsBoth (λ refused. refused.cause ≡ IndexRange) (λ refused. refused.cause ≡ Memory)
         result nodes.old nodes.new cells.old cells.new
         (nodes_needed end.reached.node end.reached.level len)
         (cells_needed end.reached.node end.reached.level len) }
-    ensures returned { IfErr result (λ refused. refused.value ≡ value) }
 {
     if let Err(cause) = prepare(nodes, cells, &end.reached, len) {
         return Err(Refused { cause, value });
     }
-    let seat = add_entry(nodes, cells, end.reached, key, len, value);
+    let seat = add_entry(nodes, cells, &end.reached, key, len, value);
     // Each entry has a cell, so the count is within the array's length.
     let slots = cells.len();
     prove!(*entries < slots);
@@ -275,10 +248,7 @@ pub fn insert_entry<K: Key, T: Drop, A: Allocator, V: Tick>(
         × EntrySet reading paths values (K.bits key) len value nodes.new cells.new)
         (λ _. Holds reading values paths nodes.new cells.new)) }
     ensures counted { MatchResult result (λ before. entries.new + one_if (is_some before) ≡ entries.old + 1) (λ _. entries.new ≡ entries.old) }
-    ensures range { IfErr result
-        (λ refused. refused.cause ≡ IndexRange → MayPass nodes.old cells.old) }
-    ensures node_room { Grows nodes.old nodes.new 56 }
-    ensures cell_room { Grows cells.old cells.new 31 }
+    ensures grows { GrowsBoth (λ refused. refused.cause ≡ IndexRange) result nodes.old nodes.new cells.old cells.new }
     ensures asked { ForHeld nodes.old cells.old (λ reading paths values.
         own_value values (K.bits key) len ≡ None
         → AtDeepest reading (K.bits key) len (λ node level.

@@ -62,6 +62,8 @@ impl<S: Slot, A: Allocator> Blocks<S, A> {
     }
 
     /// Moves the list of a block to a free block of tier `to`, puts a value into it, and gives the old block back.
+    // It stands apart, so that an item for which there is room costs less.
+    #[inline(never)]
     fn insert_moving(
         &mut self,
         k: usize,

@@ -26,7 +26,7 @@ invariant_of-self-inside g c =
       (
         table_sizes _ _ (some_table (table_left q c.args.value c.self.inside.nodes c.insert_entry.new.nodes c.self.inside.cells c.insert_entry.new.cells
             c.self.inside.count c.insert_entry.new.entries c.self.inside.shape c.self.invariant c.insert_entry.result c.insert_entry.ensures.inserted
-            c.insert_entry.ensures.counted c.insert_entry.ensures.node_room c.insert_entry.ensures.cell_room shape)),
+            c.insert_entry.ensures.counted c.insert_entry.ensures.grows.nodes c.insert_entry.ensures.grows.cells shape)),
         tt,
       ),
     )
@@ -36,7 +36,7 @@ invariant_of-self g c =
     let q = take c.args.len (g.K.Key.bits c.args.key) in
     table_left q c.args.value c.self.inside.nodes c.insert_entry.new.nodes c.self.inside.cells c.insert_entry.new.cells c.self.inside.count
     c.insert_entry.new.entries c.self.inside.shape c.self.invariant c.insert_entry.result c.insert_entry.ensures.inserted
-    c.insert_entry.ensures.counted c.insert_entry.ensures.node_room c.insert_entry.ensures.cell_room c.self-1.given.0
+    c.insert_entry.ensures.counted c.insert_entry.ensures.grows.nodes c.insert_entry.ensures.grows.cells c.self-1.given.0
 
 pub returns-clause-step : goal.returns-clause-step
 returns-clause-step g c =
@@ -63,5 +63,5 @@ returns-clause-step g c =
           (obtained (λ refused. refused.cause ≡ IndexRange) (λ refused. refused.cause ≡ Memory) (g.K.Key.bits c.args.key) c.args.len v v2
           w w2 c.self.inside.count s is z r e.asked new)
           (sizes_left q c.args.value v v2 w w2 c.self.inside.count s is z z2 new r e.inserted);
-      range = e.range;
-    }) e.node_room e.cell_room)
+      range = e.grows.range;
+    }) e.grows.nodes e.grows.cells)

@@ -5,7 +5,7 @@ use Rattle.prefix_trie_bits.specs.Model.Storage.{StepByPath}
 use Rattle.prefix_trie_table.specs.Shape.{Contents}
 use Rattle.prefix_trie_table.specs.Steps.{stored, placed}
 use Rattle.prefix_trie_table.proofs.Tree.Invariant.{some_table, some_counted}
-use Rattle.prefix_trie_table.proofs.Tree.Kept.{absent_seat, end_reached}
+use Rattle.prefix_trie_table.proofs.Tree.Kept.{ends_at, end_reached}
 use Rattle.prefix_trie_table.proofs.Insertion.Placements.{inserting, placed_leaves, placed_counts, placed_step}
 use Rattle.prefix_trie_table.proofs.Tree.Shapes.{left_shape, table_left}
 use Rattle.prefix_trie_table.proofs.Blocks.Sizing.{table_sizes, storage_of}
@@ -14,21 +14,13 @@ use Rattle.prefix_trie_table.proofs.table.Table.place.Goals as goal
 pub place_entry-requires-clause-table : goal.place_entry-requires-clause-table
 place_entry-requires-clause-table g c = some_counted c.self.invariant
 
-pub place_entry-requires-clause-reached : goal.place_entry-requires-clause-reached
-place_entry-requires-clause-reached g c =
+pub place_entry-requires-clause-ends : goal.place_entry-requires-clause-ends
+place_entry-requires-clause-ends g c =
     let i = c.self.inside in
     let b = g.K.Key.bits c.args.key in
     let long : c.args.len ≤ length b = omega (arith, g.met.K.Key.key_laws.bits_length c.args.key c.requires.key, c.requires.within) in
-    end_reached i.nodes i.cells i.count i.shape c.self.invariant b c.args.len long c.args.end _
-    (ap (λ (s : Contents g.row.T.Denot). s.build) c.self.view_is) c.requires.end
-
-pub place_entry-requires-clause-missing : goal.place_entry-requires-clause-missing
-place_entry-requires-clause-missing g c =
-    let i = c.self.inside in
-    let b = g.K.Key.bits c.args.key in
-    let long : c.args.len ≤ length b = omega (arith, g.met.K.Key.key_laws.bits_length c.args.key c.requires.key, c.requires.within) in
-    absent_seat i.nodes i.cells i.count i.shape c.self.invariant b c.args.len long c.args.end _ (ap (λ (s : Contents g.row.T.Denot). s.build) c.self.view_is)
-    (ap (λ (s : Contents g.row.T.Denot). contains_key s.entries (take c.args.len b)) c.self.view_is ∙ c.requires.absent)
+    ends_at i.nodes i.cells i.count i.shape c.self.invariant b c.args.len long c.args.end _ (ap (λ (s : Contents g.row.T.Denot). s.build) c.self.view_is)
+    (ap (λ (s : Contents g.row.T.Denot). contains_key s.entries (take c.args.len b)) c.self.view_is ∙ c.requires.absent) c.requires.end
 
 pub invariant_of-self-inside : goal.invariant_of-self-inside
 invariant_of-self-inside g c =
@@ -42,7 +34,7 @@ invariant_of-self-inside g c =
       shape,
       (
         table_sizes _ _ (some_table (table_left q c.args.value i.nodes p.new.nodes i.cells p.new.cells i.count p.new.entries i.shape c.self.invariant
-            (inserting p.result) leaves counts p.ensures.node_room p.ensures.cell_room shape)),
+            (inserting p.result) leaves counts p.ensures.grows.nodes p.ensures.grows.cells shape)),
         tt,
       ),
     )
@@ -56,7 +48,7 @@ invariant_of-self g c =
     table_left q c.args.value i.nodes p.new.nodes i.cells p.new.cells i.count p.new.entries i.shape c.self.invariant (inserting p.result)
     (placed_leaves q c.args.value i.nodes p.new.nodes i.cells p.new.cells i.count p.new.entries i.shape c.self.invariant absent p.result p.ensures.placed)
     (placed_counts q c.args.value i.nodes p.new.nodes i.cells p.new.cells i.count p.new.entries i.shape c.self.invariant p.result p.ensures.counted)
-    p.ensures.node_room p.ensures.cell_room c.self-1.given.0
+    p.ensures.grows.nodes p.ensures.grows.cells c.self-1.given.0
 
 pub returns-clause-step : goal.returns-clause-step
 returns-clause-step g c =
@@ -73,4 +65,4 @@ returns-clause-step g c =
     (placed_step b c.args.len c.args.value i.nodes p.new.nodes i.cells p.new.cells i.count p.new.entries i.shape c.self.invariant c.self-1.given.0
     (invariant_of-self g c) i.sizes c.self-1.given.1.0 c.args.end at absent p.result
     (placed_leaves q c.args.value i.nodes p.new.nodes i.cells p.new.cells i.count p.new.entries i.shape c.self.invariant absent p.result p.ensures.placed)
-    p.ensures.obtains p.ensures.range p.ensures.node_room p.ensures.cell_room)
+    p.ensures.obtains p.ensures.grows)

@@ -2,7 +2,7 @@ use Rattle.std.proofs.Common.{◌≡◌, ◌+◌, ◌-◌, ◌/◌, ◌≤◌, �
 use Rattle.prefix_trie_table.specs.declared.allocator.node.Node.{Node}
 use Rattle.prefix_trie_table.specs.Cells.{blank_node, node_at}
 use Rattle.prefix_trie_table.specs.Digits.{path_of}
-use Rattle.prefix_trie_table.specs.Store.{SameRoom, SameMade, free_in}
+use Rattle.prefix_trie_table.specs.Store.{MakesNone, free_in}
 use Rattle.prefix_trie_table.specs.Forest.{Holds, Deepest, Walked}
 use Rattle.prefix_trie_table.proofs.table.insertion.add_entry.Given as goal
 
@@ -17,6 +17,5 @@ invariant-loop-level g l =
       enough : l.len / 5 - l.level ≤ free_in l.nodes.tiers 1;
       within : l.level ≤ l.len / 5;
       from : l.fn.reached.level < l.level;
-      room : SameRoom l.fn.nodes l.nodes;
-      made : SameMade l.fn.nodes l.nodes;
+      none : MakesNone l.fn.nodes l.nodes;
     }

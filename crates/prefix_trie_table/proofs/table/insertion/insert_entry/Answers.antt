@@ -1,4 +1,4 @@
-use Rattle.std.proofs.Common.{◌+◌, None, is_some, take, sym, ap, ◌∙◌}
+use Rattle.std.proofs.Common.{◌+◌, None, is_some, take, refl, sym, ap, ◌∙◌}
 use Rattle.std.proofs.lemmas.Bool.{false≢true}
 use Rattle.std.proofs.lemmas.List.{get_or_default}
 use Rattle.std.proofs.lemmas.Result.{err_from_is_err_and}
@@ -6,6 +6,8 @@ use Rattle.prefix_trie_table.specs.Digits.{path_of, bit_of}
 use Rattle.prefix_trie_table.specs.Forest.{SomeTable, one_if}
 use Rattle.prefix_trie_table.proofs.Lookup.Lending.{cell_there, value_there}
 use Rattle.prefix_trie_table.proofs.Insertion.Asks.{at_end}
+use Rattle.prefix_trie_table.proofs.Insertion.Rooms.{Grows-same}
+use Rattle.prefix_trie_table.proofs.Removal.GivingBack.{grows_written}
 use Rattle.prefix_trie_table.proofs.Lookup.Locating.{is_seat, missing_value}
 use Rattle.prefix_trie_table.proofs.Tree.WayEnds.{entry_replaced}
 use Rattle.prefix_trie_table.proofs.table.insertion.insert_entry.Goals as goal
@@ -26,6 +28,13 @@ returns-in-Stored-clause-inserted g c = λ reading paths values holds.
           ∙ sym (get_or_default c.args.cells.now.slots (c.in-Stored.seat.start + c.in-Stored.seat.place) None c.put.result here.0) ∙ here.1,
       entry_replaced reading values paths c.args.nodes.now c.args.cells.now c.put.new.self holds (path_of q) (bit_of q) c.in-Stored.seat at c.args.value c.put.ensures.slots,
     )
+
+pub returns-in-Stored-clause-grows : goal.returns-in-Stored-clause-grows
+returns-in-Stored-clause-grows g c = record {
+  nodes = Grows-same _ _ 56 refl;
+  cells = grows_written _ _ _ (c.in-Stored.seat.start + c.in-Stored.seat.place) _ 31 (Grows-same _ _ 31 refl) c.put.ensures.slots;
+  range = tt;
+}
 
 pub returns-in-Stored-clause-counted : goal.returns-in-Stored-clause-counted
 returns-in-Stored-clause-counted g c =
@@ -49,6 +58,12 @@ pub returns-in_err-place_entry-in-Missing-clause-inserted :
 returns-in_err-place_entry-in-Missing-clause-inserted g c =
     let p = err_from_is_err_and c.from_residual.result c.from_residual.ensures.1 in
     rw p.1 c.in_err-place_entry-in-Missing.ensures.placed
+
+pub returns-in_err-place_entry-in-Missing-clause-grows : goal.returns-in_err-place_entry-in-Missing-clause-grows
+returns-in_err-place_entry-in-Missing-clause-grows g c =
+    let p = err_from_is_err_and c.from_residual.result c.from_residual.ensures.1 in
+    let o = c.in_err-place_entry-in-Missing.ensures.grows in
+    rw (p.1, p.2) (record { nodes = o.nodes; cells = o.cells; range = o.range })
 
 pub returns-in_err-place_entry-in-Missing-clause-asked :
     goal.returns-in_err-place_entry-in-Missing-clause-asked
@@ -77,6 +92,11 @@ returns-in_ok-place_entry-in-Missing-clause-inserted g c = λ reading paths valu
   sym (missing_value c.args.nodes.now reading paths holds.hold (take c.args.len (g.K.Key.bits c.args.key)) values c.args.cells.now holds.cells c.in-Missing.ensures.place.0),
   c.in_ok-place_entry-in-Missing.ensures.placed reading paths values holds,
 )
+
+pub returns-in_ok-place_entry-in-Missing-clause-grows : goal.returns-in_ok-place_entry-in-Missing-clause-grows
+returns-in_ok-place_entry-in-Missing-clause-grows g c =
+    let o = c.in_ok-place_entry-in-Missing.ensures.grows in
+    record { nodes = o.nodes; cells = o.cells; range = tt }
 
 pub returns-in_ok-place_entry-in-Missing-clause-asked :
     goal.returns-in_ok-place_entry-in-Missing-clause-asked

@@ -1,4 +1,4 @@
-use Rattle.std.proofs.Common.{◌≡◌, ℕ, ◌+◌, ◌-◌, ◌*◌, ◌/◌, ◌<◌, ◌≤◌, Option, None, Some, inl, inr, [], Result, Err, IfErr, refl, sym, ap, ◌∙◌, subst, arith}
+use Rattle.std.proofs.Common.{◌≡◌, ℕ, ◌+◌, ◌-◌, ◌*◌, ◌/◌, Option, None, Some, inl, inr, [], Result, Err, refl, sym, ap, ◌∙◌, subst, arith}
 use Rattle.std.proofs.lemmas.Result.{on_ok_weaker, err_from_is_err_and, IfErr-weaker}
 use Rattle.prefix_trie_bits.specs.declared.prefix.Refusal.{Refusal}
 use Rattle.prefix_trie_bits.specs.declared.prefix.Refusal.TheVariants.{Memory, IndexRange}
@@ -9,28 +9,30 @@ use Rattle.prefix_trie_bits.specs.Model.Blocks.{value_block_sizes}
 use Rattle.prefix_trie_bits.specs.Model.Insertion.{block_needed}
 use Rattle.prefix_trie_table.specs.Cells.{blank_node, cell_sizes}
 use Rattle.prefix_trie_table.specs.OwnBlocks.{child_block_size, value_block_size, child_need, value_need}
-use Rattle.prefix_trie_table.specs.Store.{Store, Obtains, AreFree, tier_sizes, needs, slots_lacking}
-use Rattle.prefix_trie_table.specs.Tables.{Grows, MayPass}
+use Rattle.prefix_trie_table.specs.Store.{Store, Obtains, AreFree, tier_sizes, needs}
+use Rattle.prefix_trie_table.specs.Tables.{GrowsBoth, MayPass}
 use Rattle.prefix_trie_table.proofs.Strings.Bits.{rank-ones}
 use Rattle.prefix_trie_table.proofs.Blocks.BySize.{node_sized, cell_sized}
-use Rattle.prefix_trie_table.proofs.Blocks.Turnovers.{Keeps-same, free_obtained}
+use Rattle.prefix_trie_table.proofs.Blocks.Turnovers.{free_obtained}
 use Rattle.prefix_trie_table.proofs.Insertion.Adding.{at_values, has_list, has_values}
 use Rattle.prefix_trie_table.proofs.Insertion.Asks.{nodes_here, nodes_below, cells_here, cells_below, child_list_need, value_list_need, first_list_need, keeps_by, free_by, cells_alone, cells_refused, nodes_then}
-use Rattle.prefix_trie_table.proofs.Insertion.Inserting.{list_tier, node_fits, cell_fits}
-use Rattle.prefix_trie_table.proofs.Insertion.Rooms.{Grows-obtained, nodes_lacking, cells_lacking, few_steps}
+use Rattle.prefix_trie_table.proofs.Insertion.Inserting.{list_tier, node_fits, cell_fits, few_children, nodes_prepared, cells_prepared}
+use Rattle.prefix_trie_table.proofs.Insertion.Rooms.{Grows-same, Grows-obtained, nodes_lacking, cells_lacking, few_steps}
+use Rattle.prefix_trie_table.proofs.Lookup.Locating.{missing_few, end_there}
+use Rattle.prefix_trie_table.proofs.Lookup.Going.{level_last, level_more}
 use Rattle.prefix_trie_table.proofs.table.insertion.prepare.Given as given
 use Rattle.prefix_trie_table.proofs.table.insertion.prepare.Goals as goal
 
 -- an array of values that is asked for one block
 module _ {T : Type 0} (v : Store Node) (w x : Store (Option T)) (o : Option ℕ) (count : ℕ) (r : Result (Unit {0}) Refusal) (are : tier_sizes w.tiers ≡ cell_sizes)
     (got : Obtains (λ e. e ≡ IndexRange) (λ e. e ≡ Memory) r w x (needs (block_needed value_block_sizes o count) 0)) where
-  cells_grow : Grows w x 31
-  cells_grow = Grows-obtained _ _ r w x _ 31 (cell_sized w.tiers are) got (cells_lacking w o count are)
-
-  cells_pass : IfErr r (λ cause. cause ≡ IndexRange → MayPass v w)
-  cells_pass =
-      let few = cells_lacking w o count are in
-      IfErr-weaker r _ (λ cause. cause ≡ IndexRange → MayPass v w) (λ cause h is. inr (let past = h is in omega (arith, past, few))) got.range
+  cells_only : GrowsBoth (λ e. e ≡ IndexRange) r v v w x
+  cells_only =
+      let few = cells_lacking w o count are in record {
+        nodes = Grows-same v v 56 refl;
+        cells = Grows-obtained _ _ r w x _ 31 (cell_sized w.tiers are) got few;
+        range = IfErr-weaker r _ (λ cause. cause ≡ IndexRange → MayPass v w) (λ cause h is. inr (let past = h is in omega (arith, past, few))) got.range;
+      }
 
 -- ---- a value in a node that stands
 
@@ -38,16 +40,18 @@ pub prepare-requires-clause-tier : goal.prepare-requires-clause-tier
 prepare-requires-clause-tier g c = λ some.
     let n = c.args.reached.now.node in
     list_tier None c.args.cells.now n.value_tier n.value_block c.count.result
-    (has_values c.args.nodes.now c.args.cells.now _ n c.count.result c.requires.stands c.requires.node
+    (has_values c.args.nodes.now c.args.cells.now _ n c.count.result (end_there c.requires.ends.0 c.args.len c.args.reached.now c.requires.table c.requires.ends.1) c.requires.ends.1.1.node_is
     (c.count.ensures ∙ sym (rank-ones n.value_bitmap 32 (omega arith)))) some
 
 pub prepare-requires-clause-sizes : goal.prepare-requires-clause-sizes
-prepare-requires-clause-sizes g c = cell_sized c.args.cells.now.tiers c.requires.stands.0.holds.cells.sizes_are
+prepare-requires-clause-sizes g c = cell_sized c.args.cells.now.tiers c.requires.table.holds.cells.sizes_are
 
 pub prepare-requires-clause-fits : goal.prepare-requires-clause-fits
 prepare-requires-clause-fits g c =
-    let few = c.requires.few_values (omega (arith, c.if-depth-len.true)) in
-    cell_fits c.args.cells.now.tiers (c.count.result + 1) c.requires.stands.0.holds.cells.sizes_are
+    let t = c.requires.table in
+    let few = missing_few c.requires.ends.0 c.args.len c.args.reached.now.level _ c.args.reached.now.node c.args.nodes.now c.requires.ends.1.1 t.reading t.paths
+    t.holds.hold t.values c.args.cells.now t.holds.cells c.requires.ends.1.0 (level_last c.args.reached.now.level c.args.len c.if-reached-len.true) in
+    cell_fits c.args.cells.now.tiers (c.count.result + 1) c.requires.table.holds.cells.sizes_are
     (omega (arith, few, rank-ones c.args.reached.now.node.value_bitmap 32 (omega arith), c.count.ensures))
 
 -- what the array of values says of it
@@ -56,41 +60,37 @@ here g c =
     let n = c.args.reached.now.node in
     let same : c.count.result ≡ rank n.value_bitmap 32 = c.count.ensures ∙ sym (rank-ones n.value_bitmap 32 (omega arith)) in
     subst (λ o. Obtains (λ e. e ≡ IndexRange) (λ e. e ≡ Memory) c.prepare.result c.args.cells.now c.prepare.new.self (needs o 0))
-    (value_list_need c.args.cells.now n c.count.result c.requires.stands.0.holds.cells.sizes_are same) c.prepare.ensures.obtains
+    (value_list_need c.args.cells.now n c.count.result c.requires.table.holds.cells.sizes_are same) c.prepare.ensures.obtains
 
-pub returns-then-depth-len-clause-room : goal.returns-then-depth-len-clause-room
-returns-then-depth-len-clause-room g c =
+pub returns-then-reached-len-clause-room : goal.returns-then-reached-len-clause-room
+returns-then-reached-len-clause-room g c =
     let n = c.args.reached.now.node in
-    let short : c.args.len < 5 * c.args.reached.now.level + 5 = omega (arith, c.if-depth-len.true) in
+    let short = level_last c.args.reached.now.level c.args.len c.if-reached-len.true in
     let none = nodes_here n c.args.reached.now.level c.args.len short in
     let one = cells_here n c.args.reached.now.level c.args.len short in
     on_ok_weaker c.prepare.result (λ (free : AreFree c.prepare.new.self.tiers (needs (value_need (Some n)) 0)). (
       subst (AreFree c.args.nodes.now.tiers) (sym none) (λ size. omega arith),
       subst (AreFree c.prepare.new.self.tiers) (sym one) free,
-    )) (free_by _ _ c.args.cells.now c.prepare.new.self _ (cell_sized c.args.cells.now.tiers c.requires.stands.0.holds.cells.sizes_are) c.prepare.result (here g c))
+    )) (free_by _ _ c.args.cells.now c.prepare.new.self _ (cell_sized c.args.cells.now.tiers c.requires.table.holds.cells.sizes_are) c.prepare.result (here g c))
 
-pub returns-then-depth-len-clause-cell_room : goal.returns-then-depth-len-clause-cell_room
-returns-then-depth-len-clause-cell_room g c =
-    cells_grow c.args.nodes.now c.args.cells.now c.prepare.new.self (value_block_size (Some c.args.reached.now.node)) (rank c.args.reached.now.node.value_bitmap 32) c.prepare.result c.requires.stands.0.holds.cells.sizes_are (here g c)
+pub returns-then-reached-len-clause-grows : goal.returns-then-reached-len-clause-grows
+returns-then-reached-len-clause-grows g c =
+    cells_only c.args.nodes.now c.args.cells.now c.prepare.new.self (value_block_size (Some c.args.reached.now.node)) (rank c.args.reached.now.node.value_bitmap 32) c.prepare.result c.requires.table.holds.cells.sizes_are (here g c)
 
-pub returns-then-depth-len-clause-range : goal.returns-then-depth-len-clause-range
-returns-then-depth-len-clause-range g c =
-    cells_pass c.args.nodes.now c.args.cells.now c.prepare.new.self (value_block_size (Some c.args.reached.now.node)) (rank c.args.reached.now.node.value_bitmap 32) c.prepare.result c.requires.stands.0.holds.cells.sizes_are (here g c)
+pub returns-then-reached-len-clause-kept : goal.returns-then-reached-len-clause-kept
+returns-then-reached-len-clause-kept g c = λ reading paths values holds. record {
+  hold = holds.hold;
+  cells = cells_prepared reading values paths _ _ holds.cells
+      (keeps_by _ _ _ _ _ (cell_sized c.args.cells.now.tiers holds.cells.sizes_are) c.prepare.result c.prepare.ensures.obtains) c.prepare.ensures.sound;
+}
 
-pub returns-then-depth-len-clause-nodes : goal.returns-then-depth-len-clause-nodes
-returns-then-depth-len-clause-nodes g c = (Keeps-same _ _ refl, λ i d h. refl)
-
-pub returns-then-depth-len-clause-cells : goal.returns-then-depth-len-clause-cells
-returns-then-depth-len-clause-cells g c =
-    (keeps_by _ _ _ _ _ (cell_sized c.args.cells.now.tiers c.requires.stands.0.holds.cells.sizes_are) c.prepare.result c.prepare.ensures.obtains, c.prepare.ensures.kept)
-
-pub returns-then-depth-len-clause-obtains : goal.returns-then-depth-len-clause-obtains
-returns-then-depth-len-clause-obtains g c =
+pub returns-then-reached-len-clause-obtains : goal.returns-then-reached-len-clause-obtains
+returns-then-reached-len-clause-obtains g c =
     let n = c.args.reached.now.node in
     let v = c.args.nodes.now in
     let w = c.args.cells.now in
-    let t = c.requires.stands.0 in
-    let short : c.args.len < 5 * c.args.reached.now.level + 5 = omega (arith, c.if-depth-len.true) in
+    let t = c.requires.table in
+    let short = level_last c.args.reached.now.level c.args.len c.if-reached-len.true in
     let none = nodes_here n c.args.reached.now.level c.args.len short in
     let one = cells_here n c.args.reached.now.level c.args.len short in
     subst (λ ns. ObtainsBoth (λ e. e ≡ IndexRange) (λ e. e ≡ Memory) c.prepare.result v v w c.prepare.new.self ns (cells_needed n c.args.reached.now.level c.args.len)) (sym none)
@@ -100,33 +100,25 @@ returns-then-depth-len-clause-obtains g c =
 -- ---- below it: a block of one slot for the value
 
 pub prepare-requires-2-clause-sizes : goal.prepare-requires-2-clause-sizes
-prepare-requires-2-clause-sizes g c = cell_sized c.args.cells.now.tiers c.requires.stands.0.holds.cells.sizes_are
+prepare-requires-2-clause-sizes g c = cell_sized c.args.cells.now.tiers c.requires.table.holds.cells.sizes_are
 
 pub prepare-requires-2-clause-fits : goal.prepare-requires-2-clause-fits
-prepare-requires-2-clause-fits g c = cell_fits c.args.cells.now.tiers (0 + 1) c.requires.stands.0.holds.cells.sizes_are (omega arith)
+prepare-requires-2-clause-fits g c = cell_fits c.args.cells.now.tiers (0 + 1) c.requires.table.holds.cells.sizes_are (omega arith)
 
-pub returns-in_err-prepare-clause-cell_room : goal.returns-in_err-prepare-clause-cell_room
-returns-in_err-prepare-clause-cell_room g c =
-    let are = c.requires.stands.0.holds.cells.sizes_are in
-    cells_grow c.args.nodes.now c.args.cells.now c.prepare-2.new.self None 0 c.prepare-2.result are
-    (subst (λ o. Obtains (λ e. e ≡ IndexRange) (λ e. e ≡ Memory) c.prepare-2.result c.args.cells.now c.prepare-2.new.self (needs o 0)) (first_list_need c.args.cells.now are) c.prepare-2.ensures.obtains)
-
-pub returns-in_err-prepare-clause-nodes : goal.returns-in_err-prepare-clause-nodes
-returns-in_err-prepare-clause-nodes g c = (Keeps-same _ _ refl, λ i d h. refl)
-
-pub returns-in_err-prepare-clause-cells : goal.returns-in_err-prepare-clause-cells
-returns-in_err-prepare-clause-cells g c =
-    (keeps_by _ _ _ _ _ (cell_sized c.args.cells.now.tiers c.requires.stands.0.holds.cells.sizes_are) c.prepare-2.result c.prepare-2.ensures.obtains, c.prepare-2.ensures.kept)
-
-pub returns-in_err-prepare-clause-range : goal.returns-in_err-prepare-clause-range
-returns-in_err-prepare-clause-range g c =
+pub returns-in_err-prepare-clause-grows : goal.returns-in_err-prepare-clause-grows
+returns-in_err-prepare-clause-grows g c =
     let p = err_from_is_err_and c.from_residual.result c.from_residual.ensures.1 in
-    let are = c.requires.stands.0.holds.cells.sizes_are in
+    let are = c.requires.table.holds.cells.sizes_are in
     let w = c.args.cells.now in
-    let few = cells_lacking w None 0 are in
-    let same = ap (λ o. slots_lacking w (needs o 0)) (first_list_need w are) in
-    let past = c.in_err-prepare.ensures.obtains.range in
-    rw (p.1, p.2) (λ is. inr (let h = past is in omega (arith, h, few, same)))
+    rw (p.1, p.2) (cells_only c.args.nodes.now w c.prepare-2.new.self None 0 (Err c.in_err-prepare.field-0.0) are
+    (subst (λ o. Obtains {X = Unit {0}} (λ e. e ≡ IndexRange) (λ e. e ≡ Memory) (Err c.in_err-prepare.field-0.0) w c.prepare-2.new.self (needs o 0)) (first_list_need w are) c.in_err-prepare.ensures.obtains))
+
+pub returns-in_err-prepare-clause-kept : goal.returns-in_err-prepare-clause-kept
+returns-in_err-prepare-clause-kept g c = λ reading paths values holds. record {
+  hold = holds.hold;
+  cells = cells_prepared reading values paths _ _ holds.cells
+      (keeps_by _ _ _ _ _ (cell_sized c.args.cells.now.tiers holds.cells.sizes_are) c.prepare-2.result c.prepare-2.ensures.obtains) c.prepare-2.ensures.sound;
+}
 
 pub returns-in_err-prepare-clause-obtains : goal.returns-in_err-prepare-clause-obtains
 returns-in_err-prepare-clause-obtains g c =
@@ -134,8 +126,8 @@ returns-in_err-prepare-clause-obtains g c =
     let n = c.args.reached.now.node in
     let v = c.args.nodes.now in
     let w = c.args.cells.now in
-    let t = c.requires.stands.0 in
-    let one = ap (λ o. needs o 0) (first_list_need w t.holds.cells.sizes_are) ∙ sym (cells_below n c.args.reached.now.level c.args.len (omega (arith, c.if-depth-len.false))) in
+    let t = c.requires.table in
+    let one = ap (λ o. needs o 0) (first_list_need w t.holds.cells.sizes_are) ∙ sym (cells_below n c.args.reached.now.level c.args.len (level_more c.args.reached.now.level c.args.len c.requires.ends.1.1.whole c.if-reached-len.false)) in
     let all = cells_refused _ _ v v w c.prepare-2.new.self _ (node_sized v.tiers t.holds.hold.sizes_are) (cell_sized w.tiers t.holds.cells.sizes_are)
     (nodes_needed n c.args.reached.now.level c.args.len) c.in_err-prepare.field-0.0 c.in_err-prepare.ensures.obtains in
     rw (p.1, p.2) (subst (λ cs. ObtainsBoth {X = Unit {0}} (λ e. e ≡ IndexRange) (λ e. e ≡ Memory) (Err c.in_err-prepare.field-0.0) v v w c.prepare-2.new.self (nodes_needed n c.args.reached.now.level c.args.len) cs) one all)
@@ -146,16 +138,17 @@ pub prepare-requires-3-clause-tier : goal.prepare-requires-3-clause-tier
 prepare-requires-3-clause-tier g c = λ some.
     let n = c.args.reached.now.node in
     list_tier blank_node c.args.nodes.now n.child_tier n.child_block c.count-2.result
-    (has_list c.args.nodes.now _ n c.count-2.result (at_values _ _ _ c.requires.stands) c.requires.node
+    (has_list c.args.nodes.now _ n c.count-2.result (at_values _ _ _ (end_there c.requires.ends.0 c.args.len c.args.reached.now c.requires.table c.requires.ends.1)) c.requires.ends.1.1.node_is
     (c.count-2.ensures ∙ sym (rank-ones n.child_bitmap 32 (omega arith)))) some
 
 pub prepare-requires-3-clause-sizes : goal.prepare-requires-3-clause-sizes
-prepare-requires-3-clause-sizes g c = node_sized c.args.nodes.now.tiers c.requires.stands.0.holds.hold.sizes_are
+prepare-requires-3-clause-sizes g c = node_sized c.args.nodes.now.tiers c.requires.table.holds.hold.sizes_are
 
 pub prepare-requires-3-clause-fits : goal.prepare-requires-3-clause-fits
 prepare-requires-3-clause-fits g c =
-    let few = c.requires.few_children (omega (arith, c.if-depth-len.false)) in
-    node_fits c.args.nodes.now.tiers (c.count-2.result + 1) c.requires.stands.0.holds.hold.sizes_are
+    let few = few_children c.requires.ends.0 c.args.len c.args.reached.now.level _ c.args.reached.now.node c.args.nodes.now c.requires.ends.1.1
+    (level_more c.args.reached.now.level c.args.len c.requires.ends.1.1.whole c.if-reached-len.false) in
+    node_fits c.args.nodes.now.tiers (c.count-2.result + 1) c.requires.table.holds.hold.sizes_are
     (omega (arith, few, rank-ones c.args.reached.now.node.child_bitmap 32 (omega arith), c.count-2.ensures))
 
 -- what the array of nodes says of them
@@ -165,14 +158,14 @@ below g c =
     let n = c.args.reached.now.node in
     let same : c.count-2.result ≡ rank n.child_bitmap 32 = c.count-2.ensures ∙ sym (rank-ones n.child_bitmap 32 (omega arith)) in
     subst (λ o. Obtains (λ e. e ≡ IndexRange) (λ e. e ≡ Memory) c.prepare-3.result c.args.nodes.now c.prepare-3.new.self (needs o (c.args.len / 5 - (c.args.reached.now.level + 1))))
-    (child_list_need c.args.nodes.now n c.count-2.result c.requires.stands.0.holds.hold.sizes_are same) c.prepare-3.ensures.obtains
+    (child_list_need c.args.nodes.now n c.count-2.result c.requires.table.holds.hold.sizes_are same) c.prepare-3.ensures.obtains
 
 pub returns-clause-room : goal.returns-clause-room
 returns-clause-room g c =
     let n = c.args.reached.now.node in
     let w = c.args.cells.now in
-    let t = c.requires.stands.0 in
-    let more : 5 * c.args.reached.now.level + 5 ≤ c.args.len = omega (arith, c.if-depth-len.false) in
+    let t = c.requires.table in
+    let more = level_more c.args.reached.now.level c.args.len c.requires.ends.1.1.whole c.if-reached-len.false in
     let nodes = nodes_below n c.args.reached.now.level c.args.len more in
     let one = cells_below n c.args.reached.now.level c.args.len more in
     let made = free_obtained w c.prepare-2.new.self _ c.in_ok-prepare.ensures.obtains.made in
@@ -181,39 +174,34 @@ returns-clause-room g c =
       subst (AreFree c.prepare-2.new.self.tiers) (ap (λ o. needs o 0) (first_list_need w t.holds.cells.sizes_are) ∙ sym one) made,
     )) (free_by _ _ c.args.nodes.now c.prepare-3.new.self _ (node_sized c.args.nodes.now.tiers t.holds.hold.sizes_are) c.prepare-3.result (below g c))
 
-pub returns-clause-range : goal.returns-clause-range
-returns-clause-range g c =
+pub returns-clause-grows : goal.returns-clause-grows
+returns-clause-grows g c =
     let v = c.args.nodes.now in
-    let few = nodes_lacking v (child_block_size (Some c.args.reached.now.node)) (rank c.args.reached.now.node.child_bitmap 32) (c.args.len / 5 - (c.args.reached.now.level + 1)) c.requires.stands.0.holds.hold.sizes_are (few_steps c.args.len c.args.reached.now.level c.requires.short) in
-    IfErr-weaker c.prepare-3.result _ (λ cause. cause ≡ IndexRange → MayPass v c.args.cells.now) (λ cause h is. inl (let past = h is in omega (arith, past, few))) (below g c).range
+    let w = c.args.cells.now in
+    let t = c.requires.table in
+    let few = nodes_lacking v (child_block_size (Some c.args.reached.now.node)) (rank c.args.reached.now.node.child_bitmap 32) (c.args.len / 5 - (c.args.reached.now.level + 1)) t.holds.hold.sizes_are (few_steps c.args.len c.args.reached.now.level c.requires.short) in
+    record {
+      nodes = Grows-obtained _ _ c.prepare-3.result v c.prepare-3.new.self _ 56 (node_sized v.tiers t.holds.hold.sizes_are) (below g c) few;
+      cells = (cells_only v w c.prepare-2.new.self None 0 c.prepare-2.result t.holds.cells.sizes_are
+          (subst (λ o. Obtains (λ e. e ≡ IndexRange) (λ e. e ≡ Memory) c.prepare-2.result w c.prepare-2.new.self (needs o 0)) (first_list_need w t.holds.cells.sizes_are) c.prepare-2.ensures.obtains)).cells;
+      range = IfErr-weaker c.prepare-3.result _ (λ cause. cause ≡ IndexRange → MayPass v w) (λ cause h is. inl (let past = h is in omega (arith, past, few))) (below g c).range;
+    }
 
-pub returns-clause-node_room : goal.returns-clause-node_room
-returns-clause-node_room g c =
-    let are = c.requires.stands.0.holds.hold.sizes_are in
-    Grows-obtained _ _ c.prepare-3.result c.args.nodes.now c.prepare-3.new.self _ 56 (node_sized c.args.nodes.now.tiers are) (below g c)
-    (nodes_lacking c.args.nodes.now (child_block_size (Some c.args.reached.now.node)) (rank c.args.reached.now.node.child_bitmap 32) (c.args.len / 5 - (c.args.reached.now.level + 1)) are (few_steps c.args.len c.args.reached.now.level c.requires.short))
-
-pub returns-clause-cell_room : goal.returns-clause-cell_room
-returns-clause-cell_room g c =
-    let are = c.requires.stands.0.holds.cells.sizes_are in
-    cells_grow c.args.nodes.now c.args.cells.now c.prepare-2.new.self None 0 c.prepare-2.result are
-    (subst (λ o. Obtains (λ e. e ≡ IndexRange) (λ e. e ≡ Memory) c.prepare-2.result c.args.cells.now c.prepare-2.new.self (needs o 0)) (first_list_need c.args.cells.now are) c.prepare-2.ensures.obtains)
-
-pub returns-clause-nodes : goal.returns-clause-nodes
-returns-clause-nodes g c =
-    (keeps_by _ _ _ _ _ (node_sized c.args.nodes.now.tiers c.requires.stands.0.holds.hold.sizes_are) c.prepare-3.result c.prepare-3.ensures.obtains, c.prepare-3.ensures.kept)
-
-pub returns-clause-cells : goal.returns-clause-cells
-returns-clause-cells g c =
-    (keeps_by _ _ _ _ _ (cell_sized c.args.cells.now.tiers c.requires.stands.0.holds.cells.sizes_are) c.prepare-2.result c.prepare-2.ensures.obtains, c.prepare-2.ensures.kept)
+pub returns-clause-kept : goal.returns-clause-kept
+returns-clause-kept g c = λ reading paths values holds. record {
+  hold = nodes_prepared reading paths _ _ holds.hold
+      (keeps_by _ _ _ _ _ (node_sized c.args.nodes.now.tiers holds.hold.sizes_are) c.prepare-3.result c.prepare-3.ensures.obtains) c.prepare-3.ensures.kept c.prepare-3.ensures.sound;
+  cells = cells_prepared reading values paths _ _ holds.cells
+      (keeps_by _ _ _ _ _ (cell_sized c.args.cells.now.tiers holds.cells.sizes_are) c.prepare-2.result c.prepare-2.ensures.obtains) c.prepare-2.ensures.sound;
+}
 
 pub returns-clause-obtains : goal.returns-clause-obtains
 returns-clause-obtains g c =
     let n = c.args.reached.now.node in
     let v = c.args.nodes.now in
     let w = c.args.cells.now in
-    let t = c.requires.stands.0 in
-    let more : 5 * c.args.reached.now.level + 5 ≤ c.args.len = omega (arith, c.if-depth-len.false) in
+    let t = c.requires.table in
+    let more = level_more c.args.reached.now.level c.args.len c.requires.ends.1.1.whole c.if-reached-len.false in
     let nodes = nodes_below n c.args.reached.now.level c.args.len more in
     let one = ap (λ o. needs o 0) (first_list_need w t.holds.cells.sizes_are) ∙ sym (cells_below n c.args.reached.now.level c.args.len more) in
     subst (λ ns. ObtainsBoth (λ e. e ≡ IndexRange) (λ e. e ≡ Memory) c.prepare-3.result v c.prepare-3.new.self w c.prepare-2.new.self ns (cells_needed n c.args.reached.now.level c.args.len)) (sym nodes)
