@@ -1,6 +1,6 @@
 -- Many lookups in one call: what a group of them reads and finds, and one answer more.
-use Rattle.std.proofs.Common.{◌≡◌, ℕ, ◌+◌, ◌-◌, ◌<◌, ◌≤◌, Bool, List, [], ◌∷◌, ◌++◌, Option, None, Some, Bor, map, set, take, drop, length, get_or, sum_by, slice_range, sym, ap, ap₂, ◌∙◌, subst, arith, add-sub_of_le, length-drop}
-use Rattle.std.specs.Option.{option_copied, option_map}
+use Rattle.std.proofs.Common.{◌≡◌, ℕ, ◌+◌, ◌-◌, ◌<◌, ◌≤◌, Bool, List, [], ◌∷◌, ◌++◌, Option, Bor, map, set, take, drop, length, get_or, sum_by, slice_range, sym, ap, ap₂, ◌∙◌, subst, arith, add-sub_of_le, length-drop}
+use Rattle.std.specs.Option.{option_map}
 use Rattle.std.proofs.lemmas.List.{drop-take, get_or_append_left, get_or-drop, get_or-map, get_or-take, length-map, length-take-le, map-append, take_more, take_more_set, take-take}
 use Rattle.std.proofs.lemmas.List.Sums.{sum_by-take-drop, sum_by_push}
 use Rattle.prefix_trie_bits.specs.Model.Entries.{Entries}
@@ -11,7 +11,7 @@ use Rattle.prefix_trie_table.specs.declared.allocator.node.Node.{Node}
 use Rattle.prefix_trie_table.specs.declared.table.bulk.Found.{Found}
 use Rattle.prefix_trie_table.specs.Bulk.{AreAnswers, asks, questions_of}
 use Rattle.prefix_trie_map.specs.Bulk.{AreAnswered, AreFound, ReadsMore, visits_of_all}
-use Rattle.prefix_trie_map.proofs.Lookups.{Finds}
+use Rattle.prefix_trie_map.proofs.Lookups.{Finds, by_bits}
 
 -- a group's reads
 pub reads_more : {P : Type 0} (path : P → List Bool) (nodes : Nodes) (prefixes : List P) (from to before after : ℕ) → from ≤ to
@@ -55,9 +55,9 @@ answered_more shows answer prefixes out n m so_far more room inside p is x shown
     ∙ ap₂ (λ l y. l ++ y ∷ []) so_far (shown ∙ ap answer is)
     ∙ sym (ap (map answer) (take_more prefixes n p inside) ∙ map-append answer (take n prefixes) (get_or prefixes n p ∷ [])))
 
--- a value that the table found is that of the longest match
-pub shows_value : {T : Type 0} (entries : Entries T) (bits : List Bool) (len : ℕ) (path : List Bool) → take len bits ≡ path → (found : Option (ℕ × Bor T))
-    → Finds bits len (longest_match entries (take len bits)) found → (result : Option (Bor T)) → option_copied result ≡ option_map (λ f. f.1.now) found
-    → option_copied result ≡ option_map (λ f. f.1) (longest_match entries path)
-shows_value entries bits len path key None finds result is = is ∙ ap (option_map (λ f. f.1)) (sym finds) ∙ ap (λ s. option_map (λ f. f.1) (longest_match entries s)) key
-shows_value entries bits len path key (Some f) finds result is = is ∙ ap (option_map (λ f. f.1)) (sym finds.1) ∙ ap (λ s. option_map (λ f. f.1) (longest_match entries s)) key
+-- a match of the table, as what the answer is right for
+pub right_match : {T Y : Type 0} (entries : Entries T) (right : Option (List Bool × T) → Y) (bits : List Bool) (len : ℕ) (path : List Bool) → take len bits ≡ path → (found : Option (ℕ × Bor T))
+    → Finds bits len (longest_match entries (take len bits)) found → (shown : Y) → shown ≡ right (option_map (λ f. (take f.0 bits, f.1.now)) found)
+    → shown ≡ right (longest_match entries path)
+right_match entries right bits len path key found finds shown is =
+    is ∙ ap right (by_bits bits len (longest_match entries (take len bits)) found finds) ∙ ap (λ s. right (longest_match entries s)) key

@@ -1,5 +1,5 @@
 -- Items that are inserted in turn.
-use Rattle.std.proofs.Common.{◌≡◌, ℕ, ◌+◌, ◌*◌, ◌<◌, ◌≤◌, Bool, List, [], ◌∷◌, ◌++◌, length, refl, sym, ap, ◌∙◌, inl, inr, arith, length-append}
+use Rattle.std.proofs.Common.{◌≡◌, ℕ, ◌+◌, ◌≤◌, Bool, List, [], ◌∷◌, ◌++◌, length, refl, sym, ap, ◌∙◌, inl, inr, arith, length-append}
 use Rattle.prefix_trie_bits.specs.Model.Entries.{Entries, no_entries, put_all, with_entry}
 use Rattle.prefix_trie_bits.specs.Model.Nodes.{IsTidy, needed, root_alone, with_needed}
 use Rattle.prefix_trie_bits.specs.Model.Room.{MayPassLimit}
@@ -14,18 +14,6 @@ use Rattle.prefix_trie_map.specs.Whole.{IsWhole}
 
 one_more : {X : Type 0} (xs : List X) (x : X) → length (xs ++ x ∷ []) ≡ length xs + 1
 one_more xs x = length-append xs (x ∷ [])
-
-more_nodes : (first then last n m : ℕ) → m ≡ n + 1 → then ≤ first + 56 * n → last ≤ then + 56 → last ≤ first + 56 * m
-more_nodes first then last n m e h k = omega arith
-
-more_cells : (first then last n m : ℕ) → m ≡ n + 1 → then ≤ first + 31 * n → last ≤ then + 31 → last ≤ first + 31 * m
-more_cells first then last n m e h k = omega arith
-
-past_nodes : (limit same first then n m : ℕ) → m ≡ n + 1 → same ≡ limit → then ≤ first + 56 * n → same < then + 56 → limit < first + 56 * m
-past_nodes limit same first then n m e l h k = omega arith
-
-past_cells : (limit same first then n m : ℕ) → m ≡ n + 1 → same ≡ limit → then ≤ first + 31 * n → same < then + 31 → limit < first + 31 * m
-past_cells limit same first then n m e l h k = omega arith
 
 module _ {P T : Type 0} (path : P → List Bool) where
   -- the last item is set last
@@ -53,16 +41,14 @@ module _ {P T : Type 0} (path : P → List Bool) where
     entries = one.entries ∙ ap (λ m. with_entry m (path x.0) x.1) before.entries ∙ sym (put_last xs x first.entries);
     tidy = λ was. one.tidy (before.tidy was);
     limit = one.limit ∙ before.limit;
-    node_slots = more_nodes first.room.node_slots then.room.node_slots last.room.node_slots (length xs) (length (xs ++ x ∷ [])) (one_more xs x) before.node_slots one.node_slots;
-    cell_slots = more_cells first.room.cell_slots then.room.cell_slots last.room.cell_slots (length xs) (length (xs ++ x ∷ [])) (one_more xs x) before.cell_slots one.cell_slots;
+    node_slots = omega (arith, one_more xs x, before.node_slots, one.node_slots);
+    cell_slots = omega (arith, one_more xs x, before.cell_slots, one.cell_slots);
   }
 
   -- one that may pass the limit
   pub may_pass : (first then : Contents T) (xs : List (P × T)) (x : P × T) → Puts path first xs then → MayPassLimit then.room → ManyMayPassLimit first.room (length (xs ++ x ∷ []))
-  may_pass first then xs x before (inl k) =
-      inl (past_nodes first.room.limit then.room.limit first.room.node_slots then.room.node_slots (length xs) (length (xs ++ x ∷ [])) (one_more xs x) before.limit before.node_slots k)
-  may_pass first then xs x before (inr k) =
-      inr (past_cells first.room.limit then.room.limit first.room.cell_slots then.room.cell_slots (length xs) (length (xs ++ x ∷ [])) (one_more xs x) before.limit before.cell_slots k)
+  may_pass first then xs x before (inl k) = inl (omega (arith, one_more xs x, before.limit, before.node_slots, k))
+  may_pass first then xs x before (inr k) = inr (omega (arith, one_more xs x, before.limit, before.cell_slots, k))
 
   -- from a new map on
   pub tidy_of : (fresh last : Contents T) (xs : List (P × T)) → fresh.entries ≡ no_entries → fresh.nodes ≡ root_alone → Puts path fresh xs last → IsTidy last.entries last.nodes

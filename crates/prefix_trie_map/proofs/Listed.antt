@@ -13,13 +13,9 @@ use Rattle.prefix_trie_bits.proofs.Model.Listings.{listing_laws}
 use Rattle.prefix_trie_map.specs.Listed.{ListedLaws}
 
 module _ {T : Type 0} where
-  -- the key of each pair of the listing is stored
-  listed_stored : (m : Entries T) (e : List Bool × T) → Contains (listing m) e → contains_key m e.0 ≡ true
-  listed_stored m e has = ap is_some (((listing_laws T).has_each m e.0 e.1).1 has)
-
-  -- so what holds of each stored key holds of each pair's
+  -- what holds of each stored key holds of each listed pair's
   pub each_listed : (F : List Bool → Type 0) (m : Entries T) → ((k : List Bool) → contains_key m k ≡ true → F k) → All (λ e. F e.0) (listing m)
-  each_listed F m holds = All-weaker (λ e. Contains (listing m) e) (λ e. F e.0) (λ e has. holds e.0 (listed_stored m e has)) (listing m) (All-contains_itself (listing m))
+  each_listed F m holds = All-weaker (λ e. Contains (listing m) e) (λ e. F e.0) (λ e has. holds e.0 (ap is_some (((listing_laws T).has_each m e.0 e.1).1 has))) (listing m) (All-contains_itself (listing m))
 
 module _ {K P : Type 0} {w : ℕ} {IsKey : K → Type 0} {bits : K → List Bool} {key_of : List Bool → K} {repr_of : P → K} {len_of : P → ℕ} {path : P → List Bool} {IsFitting : P → Type 0} {from_parts : K → ℕ → P} {back : List Bool → P} (laws : PrefixLaws w IsKey bits key_of repr_of len_of path IsFitting from_parts back) {T : Type 0} (m : Entries T) (within : AreWithin w m) where
   -- each listed prefix fits

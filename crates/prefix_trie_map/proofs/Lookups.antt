@@ -16,13 +16,17 @@ module _ {T : Type 0} where
   abbrev pub Finds : List Bool → ℕ → Option (List Bool × T) → Option (ℕ × Bor T) → Type 0
   Finds bits len m found = MatchOption found (m ≡ None) (λ f. (f.0 ≤ len) × (m ≡ Some (take f.0 (take len bits), f.1.now)))
 
+  -- a match of the table by its length, and the same by its bits
+  pub by_bits : (bits : List Bool) (len : ℕ) (m : Option (List Bool × T)) (found : Option (ℕ × Bor T)) → Finds bits len m found → option_map (λ f. (take f.0 bits, f.1.now)) found ≡ m
+  by_bits bits len m None none = sym none
+  by_bits bits len m (Some f) some = ap (λ s. Some (s, f.1.now)) (sym (take-take f.0 len bits some.0)) ∙ sym some.1
+
 module _ {P T : Type 0} (back : List Bool → P) where
-  -- a match of the table by its length, and the same by its prefix
+  -- the same with the prefix of the bits
   shows : (bits : List Bool) (len : ℕ) (m : Option (List Bool × T)) (found : Option (ℕ × Bor T)) → Finds bits len m found →
       option_map (λ f. (back (take f.0 bits), f.1.now)) found ≡ shown_match back m
   shows bits len m None none = ap (shown_match back) (sym none)
-  shows bits len m (Some f) some =
-      ap (λ s. Some (back s, f.1.now)) (sym (take-take f.0 len bits some.0)) ∙ ap (shown_match back) (sym some.1)
+  shows bits len m (Some f) some = ap (shown_match back) (by_bits bits len m (Some f) some)
 
   -- so a match rebuilt is that of the map at the prefix's path
   pub shows_match : (best : Entries T → List Bool → Option (List Bool × T)) (inside now : Entries T) → inside ≡ now →

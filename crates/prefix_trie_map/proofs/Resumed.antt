@@ -31,15 +31,12 @@ module _ {X : Type 0} where
         ] refl
       ] refl
 
-  kept-pass : (p : X → Bool) (xs front : List X) (x : X) (back : List X) → filter p xs ≡ front ++ x ∷ back → p x ≡ true
-  kept-pass p xs front x back e = middle (λ y. p y ≡ true) front x back (subst (All (λ y. p y ≡ true)) e (filter_passes p xs))
-
 module _ {T : Type 0} (m : Entries T) where
   -- of what passes a test that all pass behind one that does, the rest behind an item is all that comes behind it
   some-resumes : (p : List Bool → Bool) → ((s t : List Bool) → p s ≡ true → listing_cmp s t ≡ Less → p t ≡ true) → (front : List (List Bool × T)) (last : List Bool × T) (back : List (List Bool × T)) →
       filter (λ e. p e.0) (listing m) ≡ front ++ last ∷ back → listing_after m last.0 ≡ back
   some-resumes p on front last back e =
-      let passes = kept-pass (λ x. p x.0) (listing m) front last back e in
+      let passes = middle (λ x. p x.0 ≡ true) front last back (subst (All (λ x. p x.0 ≡ true)) e (filter_passes (λ x. p x.0) (listing m))) in
       sym (first-for-nothing (λ x. p x.0) (λ x. is_lt (listing_cmp last.0 x.0)) (λ x h. on last.0 x.0 passes (lt-less (listing_cmp last.0 x.0) h)) (listing m))
       ∙ ap (filter (λ x. is_lt (listing_cmp last.0 x.0))) (sym (entries-retained m p))
       ∙ ((listing_laws T).resumes (retain_keys m p) front last back (entries-retained m p ∙ e)).behind

@@ -1,7 +1,7 @@
 -- Many lookups in one call. This project's own.
-use Rattle.std.specs.Prelude.{◌≡◌, ℕ, ◌+◌, ◌<◌, Bool, List, Option, map, option_map, slice_index_or, sum_by, take}
+use Rattle.std.specs.Prelude.{◌≡◌, ℕ, ◌+◌, ◌<◌, Bool, List, Option, map, slice_index_or, sum_by, take}
 use Rattle.prefix_trie_bits.specs.Model.Entries.{Entries}
-use Rattle.prefix_trie_bits.specs.Model.Matches.{longest_match, shown_match}
+use Rattle.prefix_trie_bits.specs.Model.Matches.{longest_match}
 use Rattle.prefix_trie_bits.specs.Model.Nodes.{Nodes}
 use Rattle.prefix_trie_bits.specs.Model.Visits.{visits}
 use Rattle.prefix_trie_table.specs.declared.allocator.node.Node.{Node}
@@ -12,12 +12,9 @@ use Rattle.prefix_trie_table.specs.Bulk.{IsAnswer, asks}
 abbrev pub visits_of_all : {P : Type 0} → (P → List Bool) → Nodes → List P → ℕ
 visits_of_all path n prefixes = sum_by (λ p. visits n (path p)) prefixes
 
--- the longest match of a prefix as users see it, and its value
-abbrev pub longest_shown : {P T : Type 0} → (P → List Bool) → (List Bool → P) → Entries T → P → Option (P × T)
-longest_shown path back m p = shown_match back (longest_match m (path p))
-
-abbrev pub longest_value : {P T : Type 0} → (P → List Bool) → Entries T → P → Option T
-longest_value path m p = option_map (λ found. found.1) (longest_match m (path p))
+-- what an answer to a prefix has to show, by what it has to show of a match
+abbrev pub right_for : {P T Y : Type 0} → (Option (List Bool × T) → Y) → (P → List Bool) → Entries T → P → Y
+right_for right path m p = right (longest_match m (path p))
 
 -- the first n answers are those to the first n prefixes
 abbrev pub AreAnswered : {P X Y : Type 0} → (X → Y) → (P → Y) → List P → List X → ℕ → Type 0
@@ -28,11 +25,7 @@ abbrev pub ReadsMore : {P : Type 0} → (P → List Bool) → Nodes → List P �
 ReadsMore path n prefixes from to before after =
     after + visits_of_all path n (take from prefixes) ≡ before + visits_of_all path n (take to prefixes)
 
--- what the table found for the prefix at a place
-abbrev pub IsFound : {P K : Type 0} → (K → List Bool) → (P → K) → (P → ℕ) → List Node → P → Option Found → Type 0
-IsFound bits number len nodes p a = IsAnswer bits nodes (asks number len p) a
-
--- the same of so many prefixes, from a place on
+-- the table found these of so many prefixes, from a place on
 abbrev pub AreFound : {P K : Type 0} → (K → List Bool) → (P → K) → (P → ℕ) → List Node → List P → ℕ → ℕ → List (Option Found) → Type 0
 AreFound {P} bits number len nodes prefixes from n found =
-    (i : ℕ) (p : P) (a : Option Found) → i < n → p ≡ slice_index_or prefixes (from + i) p → a ≡ slice_index_or found i a → IsFound bits number len nodes p a
+    (i : ℕ) (p : P) (a : Option Found) → i < n → p ≡ slice_index_or prefixes (from + i) p → a ≡ slice_index_or found i a → IsAnswer bits nodes (asks number len p) a

@@ -1,9 +1,9 @@
 //! Many longest matches in one call. The machine fetches the nodes of a group of prefixes together, so where a table is larger than
 //! its caches, this takes less time than as many lookups. No memory is asked for.
-ghost use Rattle.std.specs.Prelude.{◌≡◌, ℕ, ◌+◌, ◌<◌, ◌≤◌, All, length, map};
+ghost use Rattle.std.specs.Prelude.{◌≡◌, ℕ, ◌+◌, ◌<◌, ◌≤◌, All, Bool, IfSome, List, Option, length, map, take};
 ghost use Rattle.std.specs.Option.{option_copied, option_map};
 ghost use Rattle.prefix_trie_bits.specs.Model.Matches.{longest_match, shown_match};
-ghost use Rattle.prefix_trie_map.specs.Bulk.{AreAnswered, AreFound, ReadsMore, longest_shown, longest_value, visits_of_all};
+ghost use Rattle.prefix_trie_map.specs.Bulk.{AreAnswered, AreFound, ReadsMore, right_for, visits_of_all};
 ghost use Rattle.prefix_trie_map.specs.Walks.{lent_item};
 
 use crate::map::PrefixMap;
@@ -47,7 +47,7 @@ impl<P: Prefix, T: Drop, A: Allocator> PrefixMap<P, T, A> {
         ensures reads { result ≡ visits_of_all P.path self.now.nodes prefixes.now }
     {
         let mut visits = Visits::new();
-        match_all(&self.table, prefixes, out, &mut visits);
+        answer_all(&self.table, prefixes, out, &mut visits);
         visits
     }
 
@@ -82,120 +82,108 @@ impl<P: Prefix, T: Drop, A: Allocator> PrefixMap<P, T, A> {
         ensures reads { result ≡ visits_of_all P.path self.now.nodes prefixes.now }
     {
         let mut visits = Visits::new();
-        value_all(&self.table, prefixes, out, &mut visits);
+        answer_all(&self.table, prefixes, out, &mut visits);
         visits
+    }
+}
+
+/// An answer to one of many questions: what is given for a match of the table.
+trait Answer<'a, P: Prefix, T>: Drop + Sized {
+    type Shown;
+
+    // what clauses see of an answer
+    ghost shows: { Self → Self.Shown };
+
+    // the same of the answer that is right where this is the match
+    ghost right: { Option (List Bool × T) → Self.Shown };
+
+    fn of_match(key: P::R, found: Option<(u32, &'a T)>) -> Self
+        requires key { P.R.IsKey key }
+        requires within { IfSome found (λ f. f.0 ≤ P.R.bit_width) }
+        ensures { shows result ≡ right (option_map (λ f. (take f.0 (P.R.bits key), f.1.now)) found.entry) };
+}
+
+/// The prefix of the match and its value.
+impl<'a, P: Prefix, T> Answer<'a, P, T> for Option<(P, &'a T)> {
+    type Shown = Option<(P, T)>;
+
+    ghost shows = { option_map lent_item };
+
+    ghost right = { shown_match P.back };
+
+    #[inline(always)]
+    fn of_match(key: P::R, found: Option<(u32, &'a T)>) -> Self {
+        rebuilt_match(key, found)
+    }
+}
+
+/// The value of the match alone.
+impl<'a, P: Prefix, T> Answer<'a, P, T> for Option<&'a T> {
+    type Shown = Option<T>;
+
+    ghost shows = { option_copied };
+
+    ghost right = { option_map (λ found. found.1) };
+
+    #[inline(always)]
+    fn of_match(_key: P::R, found: Option<(u32, &'a T)>) -> Self {
+        value_of(found)
     }
 }
 
 /// Answers each prefix, in the way that takes less time.
 #[inline]
-fn match_all<'a, P: Prefix, T: Drop, A: Allocator>(
+fn answer_all<'a, P: Prefix, T: Drop, A: Allocator, X: Answer<'a, P, T>>(
     table: &'a Table<T, A, Visits>,
     prefixes: &[P],
-    out: &mut [Option<(P, &'a T)>],
+    out: &mut [X],
     visits: &mut Visits,
 )
     requires fit { All P.IsFitting prefixes.now }
     requires same_length { length out.old ≡ length prefixes.now }
-    ensures answers { map (option_map lent_item) out.new ≡ map (longest_shown P.path P.back table.now.entries) prefixes.now }
+    ensures answers { map X.shows out.new ≡ map (right_for X.right P.path table.now.entries) prefixes.now }
     ensures visits { visits.new ≡ visits.old + visits_of_all P.path table.now.nodes prefixes.now }
 {
     if table.node_slots() <= FEW_NODES {
-        match_singly(table, prefixes, out, visits);
+        answer_singly(table, prefixes, out, visits);
     } else {
-        match_in_groups(table, prefixes, out, visits);
+        answer_in_groups(table, prefixes, out, visits);
     }
 }
 
 /// Answers one prefix after another.
-fn match_singly<'a, P: Prefix, T: Drop, A: Allocator>(
+fn answer_singly<'a, P: Prefix, T: Drop, A: Allocator, X: Answer<'a, P, T>>(
     table: &'a Table<T, A, Visits>,
     prefixes: &[P],
-    out: &mut [Option<(P, &'a T)>],
+    out: &mut [X],
     visits: &mut Visits,
 )
     requires fit { All P.IsFitting prefixes.now }
     requires same_length { length out.old ≡ length prefixes.now }
-    ensures answers { map (option_map lent_item) out.new ≡ map (longest_shown P.path P.back table.now.entries) prefixes.now }
+    ensures answers { map X.shows out.new ≡ map (right_for X.right P.path table.now.entries) prefixes.now }
     ensures visits { visits.new ≡ visits.old + visits_of_all P.path table.now.nodes prefixes.now }
 {
     for i in 0..prefixes.len() {
         let (key, len) = parts(&prefixes[i]);
-        out[i] = rebuilt_match(key, table.find_longest(key, len, visits));
+        out[i] = X::of_match(key, table.find_longest(key, len, visits));
     }
 }
 
 /// Answers a group of prefixes after another.
-fn match_in_groups<'a, P: Prefix, T: Drop, A: Allocator>(
+fn answer_in_groups<'a, P: Prefix, T: Drop, A: Allocator, X: Answer<'a, P, T>>(
     table: &'a Table<T, A, Visits>,
     prefixes: &[P],
-    out: &mut [Option<(P, &'a T)>],
+    out: &mut [X],
     visits: &mut Visits,
 )
     requires fit { All P.IsFitting prefixes.now }
     requires same_length { length out.old ≡ length prefixes.now }
-    ensures answers { map (option_map lent_item) out.new ≡ map (longest_shown P.path P.back table.now.entries) prefixes.now }
+    ensures answers { map X.shows out.new ≡ map (right_for X.right P.path table.now.entries) prefixes.now }
     ensures visits { visits.new ≡ visits.old + visits_of_all P.path table.now.nodes prefixes.now }
 {
     let mut from = 0;
     'groups: while from < prefixes.len() {
-        from += match_group(table, prefixes, from, out, visits);
-    }
-}
-
-/// Answers each prefix with its value alone, in the way that takes less time.
-#[inline]
-fn value_all<'a, P: Prefix, T: Drop, A: Allocator>(
-    table: &'a Table<T, A, Visits>,
-    prefixes: &[P],
-    out: &mut [Option<&'a T>],
-    visits: &mut Visits,
-)
-    requires fit { All P.IsFitting prefixes.now }
-    requires same_length { length out.old ≡ length prefixes.now }
-    ensures answers { map option_copied out.new ≡ map (longest_value P.path table.now.entries) prefixes.now }
-    ensures visits { visits.new ≡ visits.old + visits_of_all P.path table.now.nodes prefixes.now }
-{
-    if table.node_slots() <= FEW_NODES {
-        value_singly(table, prefixes, out, visits);
-    } else {
-        value_in_groups(table, prefixes, out, visits);
-    }
-}
-
-/// Answers one prefix after another with its value alone.
-fn value_singly<'a, P: Prefix, T: Drop, A: Allocator>(
-    table: &'a Table<T, A, Visits>,
-    prefixes: &[P],
-    out: &mut [Option<&'a T>],
-    visits: &mut Visits,
-)
-    requires fit { All P.IsFitting prefixes.now }
-    requires same_length { length out.old ≡ length prefixes.now }
-    ensures answers { map option_copied out.new ≡ map (longest_value P.path table.now.entries) prefixes.now }
-    ensures visits { visits.new ≡ visits.old + visits_of_all P.path table.now.nodes prefixes.now }
-{
-    for i in 0..prefixes.len() {
-        let (key, len) = parts(&prefixes[i]);
-        out[i] = value_of(table.find_longest(key, len, visits));
-    }
-}
-
-/// Answers a group of prefixes after another with its value alone.
-fn value_in_groups<'a, P: Prefix, T: Drop, A: Allocator>(
-    table: &'a Table<T, A, Visits>,
-    prefixes: &[P],
-    out: &mut [Option<&'a T>],
-    visits: &mut Visits,
-)
-    requires fit { All P.IsFitting prefixes.now }
-    requires same_length { length out.old ≡ length prefixes.now }
-    ensures answers { map option_copied out.new ≡ map (longest_value P.path table.now.entries) prefixes.now }
-    ensures visits { visits.new ≡ visits.old + visits_of_all P.path table.now.nodes prefixes.now }
-{
-    let mut from = 0;
-    'groups: while from < prefixes.len() {
-        from += value_group(table, prefixes, from, out, visits);
+        from += answer_group(table, prefixes, from, out, visits);
     }
 }
 
@@ -221,19 +209,19 @@ fn find_group<P: Prefix, T: Drop, A: Allocator>(
 }
 
 /// Answers the next prefixes, from a place on, and how many these are.
-fn match_group<'a, P: Prefix, T: Drop, A: Allocator>(
+fn answer_group<'a, P: Prefix, T: Drop, A: Allocator, X: Answer<'a, P, T>>(
     table: &'a Table<T, A, Visits>,
     prefixes: &[P],
     from: usize,
-    out: &mut [Option<(P, &'a T)>],
+    out: &mut [X],
     visits: &mut Visits,
 ) -> usize
     requires fit { All P.IsFitting prefixes.now }
     requires same_length { length out.old ≡ length prefixes.now }
     requires some { from < length prefixes.now }
     ensures group { (0 < result) × (from + result ≤ length prefixes.now) }
-    ensures answers { AreAnswered (option_map lent_item) (longest_shown P.path P.back table.now.entries) prefixes.now out.old from
-        → AreAnswered (option_map lent_item) (longest_shown P.path P.back table.now.entries) prefixes.now out.new (from + result) }
+    ensures answers { AreAnswered X.shows (right_for X.right P.path table.now.entries) prefixes.now out.old from
+        → AreAnswered X.shows (right_for X.right P.path table.now.entries) prefixes.now out.new (from + result) }
     ensures visits { ReadsMore P.path table.now.nodes prefixes.now from (from + result) visits.old visits.new }
     ensures length { length out.new ≡ length out.old }
 {
@@ -241,33 +229,7 @@ fn match_group<'a, P: Prefix, T: Drop, A: Allocator>(
     let count = find_group(table, prefixes, from, &mut found, visits);
     for i in 0..count {
         let question = parts(&prefixes[from + i]);
-        out[from + i] = rebuilt_match(question.0, table.value_found(question, found[i]));
-    }
-    count
-}
-
-/// Answers the next prefixes with values alone, from a place on, and how many these are.
-fn value_group<'a, P: Prefix, T: Drop, A: Allocator>(
-    table: &'a Table<T, A, Visits>,
-    prefixes: &[P],
-    from: usize,
-    out: &mut [Option<&'a T>],
-    visits: &mut Visits,
-) -> usize
-    requires fit { All P.IsFitting prefixes.now }
-    requires same_length { length out.old ≡ length prefixes.now }
-    requires some { from < length prefixes.now }
-    ensures group { (0 < result) × (from + result ≤ length prefixes.now) }
-    ensures answers { AreAnswered option_copied (longest_value P.path table.now.entries) prefixes.now out.old from
-        → AreAnswered option_copied (longest_value P.path table.now.entries) prefixes.now out.new (from + result) }
-    ensures visits { ReadsMore P.path table.now.nodes prefixes.now from (from + result) visits.old visits.new }
-    ensures length { length out.new ≡ length out.old }
-{
-    let mut found = [None; GROUP];
-    let count = find_group(table, prefixes, from, &mut found, visits);
-    for i in 0..count {
-        let question = parts(&prefixes[from + i]);
-        out[from + i] = value_of(table.value_found(question, found[i]));
+        out[from + i] = X::of_match(question.0, table.value_found(question, found[i]));
     }
     count
 }

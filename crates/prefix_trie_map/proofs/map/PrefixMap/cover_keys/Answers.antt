@@ -1,14 +1,11 @@
-use Rattle.std.proofs.Common.{◌∙◌, map, length, ap}
-use Rattle.std.proofs.lemmas.List.{length-map}
-use Rattle.std.proofs.lemmas.Simd.{map-map}
-use Rattle.prefix_trie_map.proofs.Runs.{gives_in_order}
+use Rattle.prefix_trie_map.proofs.Runs.{parts_are, parts_count, gives_in_order}
 use Rattle.prefix_trie_map.proofs.map.PrefixMap.cover_keys.Goals as goal
 
 pub returns-clause-items : goal.returns-clause-items
-returns-clause-items g c = c.new.ensures ∙ ap (map (λ e. e.0)) c.cover.ensures.items ∙ map-map (λ e. e.0) _ _
+returns-clause-items g c = parts_are (λ e. e.0) c.new.ensures _ _ c.cover.ensures.items
 
 pub returns-clause-counted : goal.returns-clause-counted
-returns-clause-counted g c = ap length c.new.ensures ∙ length-map _ (λ e. e.0) ∙ c.cover.ensures.counted
+returns-clause-counted g c = parts_count (λ e. e.0) _ c.new.ensures c.cover.ensures.counted
 
 pub returns-clause-runs : goal.returns-clause-runs
 returns-clause-runs g c = gives_in_order

@@ -1,9 +1,9 @@
-use Rattle.std.proofs.Common.{◌+◌, ◌<◌, None, length, get_or, option_copied, sym, ap₂, subst, arith}
+use Rattle.std.proofs.Common.{◌+◌, ◌<◌, None, length, get_or, sym, ap₂, subst, arith}
 use Rattle.std.proofs.lemmas.List.{get_or_default}
 use Rattle.prefix_trie_table.specs.Bulk.{IsAnswer}
-use Rattle.prefix_trie_map.specs.Bulk.{longest_value}
-use Rattle.prefix_trie_map.proofs.Bulk.{answered_more, shows_value}
-use Rattle.prefix_trie_map.proofs.map.bulk.value_group.Goals as goal
+use Rattle.prefix_trie_map.specs.Bulk.{right_for}
+use Rattle.prefix_trie_map.proofs.Bulk.{answered_more, right_match}
+use Rattle.prefix_trie_map.proofs.map.bulk.answer_group.Goals as goal
 
 pub value_found-requires-clause-answer : goal.value_found-requires-clause-answer
 value_found-requires-clause-answer g c =
@@ -21,7 +21,7 @@ loop-i-preserved g c = λ so_far.
     let p = c.index-prefixes-from.result in
     let entries = c.args.table.now.entries in
     let inside : n < length c.args.prefixes.now = omega (arith, c.loop-i-test.true, c.find_group-count.ensures.group.2) in
-    answered_more option_copied (longest_value g.P.Prefix.path entries) c.args.prefixes.now c.loop-i.out n _ (c.loop-i.invariant so_far) (omega arith)
-    (omega (arith, inside, c.requires.same_length, c.loop-i.auto.out)) inside p c.index-prefixes-from.is c.value_of.result
-    (shows_value entries (g.P.R.Key.bits c.parts-question.result.0) c.parts-question.result.1 (g.P.Prefix.path p) c.parts-question.ensures.path
-    c.value_found.result c.value_found.ensures c.value_of.result c.value_of.ensures)
+    answered_more g.X.Answer.shows (right_for g.X.Answer.right g.P.Prefix.path entries) c.args.prefixes.now c.loop-i.out n _ (c.loop-i.invariant so_far) (omega arith)
+    (omega (arith, inside, c.requires.same_length, c.loop-i.auto.out)) inside p c.index-prefixes-from.is c.of_match.result
+    (right_match entries g.X.Answer.right (g.P.R.Key.bits c.parts-question.result.0) c.parts-question.result.1 (g.P.Prefix.path p) c.parts-question.ensures.path
+    c.value_found.result c.value_found.ensures _ c.of_match.ensures)

@@ -1,0 +1,13 @@
+use Rattle.std.proofs.Common.{◌≡◌, ◌+◌, ◌-◌, ◌≤◌, length, take}
+use Rattle.prefix_trie_map.specs.Bulk.{AreAnswered, right_for, visits_of_all}
+use Rattle.prefix_trie_map.proofs.map.bulk.answer_in_groups.Given as goal
+
+abbrev pub invariant-groups : goal.invariant-groups
+invariant-groups g l = record {
+  within : l.from ≤ length l.prefixes;
+  answered : AreAnswered g.X.Answer.shows (right_for g.X.Answer.right g.P.Prefix.path l.table.entries) l.prefixes l.out l.from;
+  read : l.visits ≡ l.fn.visits + visits_of_all g.P.Prefix.path l.table.nodes (take l.from l.prefixes);
+}
+
+abbrev pub decreases-groups : goal.decreases-groups
+decreases-groups g l = length l.prefixes - l.from

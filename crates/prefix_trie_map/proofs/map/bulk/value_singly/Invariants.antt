@@ -1,9 +1,0 @@
-use Rattle.std.proofs.Common.{◌≡◌, ◌+◌, option_copied, take}
-use Rattle.prefix_trie_map.specs.Bulk.{AreAnswered, longest_value, visits_of_all}
-use Rattle.prefix_trie_map.proofs.map.bulk.value_singly.Given as goal
-
-abbrev pub invariant-loop-i : goal.invariant-loop-i
-invariant-loop-i g l = record {
-  answered : AreAnswered option_copied (longest_value g.P.Prefix.path l.table.entries) l.prefixes l.out l.i;
-  read : l.visits ≡ l.fn.visits + visits_of_all g.P.Prefix.path l.table.nodes (take l.i l.prefixes);
-}
