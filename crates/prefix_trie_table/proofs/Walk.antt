@@ -11,4 +11,3 @@ pub mod Seats
 pub mod Taking
 pub mod CopiedWalks
 pub mod Trails
-pub mod ToCome

@@ -1,5 +1,5 @@
 -- Values put into the vacant cells of blocks that are laid.
-use Rattle.std.proofs.Common.{◌≡◌, ◌≢◌, ℕ, Bool, true, cond, List, [], ◌∷◌, set, flat_map, Option, None, Some, refl, sym, ap, ◌∙◌, subst}
+use Rattle.std.proofs.Common.{◌≡◌, ℕ, Bool, true, cond, List, [], ◌∷◌, set, flat_map, Option, None, Some, refl, sym, ap, ◌∙◌, subst}
 use Rattle.std.proofs.lemmas.Bool.{false≢true}
 use Rattle.std.proofs.lemmas.List.Elements.{All-head, All-tail}
 use Rattle.std.specs.List.{All}

@@ -5,12 +5,13 @@ use Rattle.std.proofs.lemmas.Bool.{false≢true}
 use Rattle.std.proofs.lemmas.List.Elements.{length_all_zip}
 use Rattle.prefix_trie_bits.specs.Model.NodeListings.{pair_of}
 use Rattle.prefix_trie_table.specs.declared.allocator.node.Node.{Node}
+use Rattle.prefix_trie_table.specs.declared.table.spot.Spot.{Spot}
 use Rattle.prefix_trie_table.specs.Copies.{IsCloned, IsPairCloned}
 use Rattle.prefix_trie_table.specs.Digits.{path_of, bit_of}
 use Rattle.prefix_trie_table.specs.Forest.{read}
 use Rattle.prefix_trie_table.specs.Store.{Store}
 use Rattle.prefix_trie_table.specs.Walking.Taking.{Seated, Seated-prop, cell_of, pairs_in, AreHeld, AreApart, IsTaking}
-use Rattle.prefix_trie_table.specs.Walking.Walks.{KeyedSpot, IsStack, pending}
+use Rattle.prefix_trie_table.specs.Walking.Walks.{IsStack, pending}
 use Rattle.prefix_trie_table.proofs.Tree.Copying.{clones_at, cloned_there, cells_cloned}
 
 module _ {T : Type 0} (C : T → T → Type 0) where
@@ -48,8 +49,8 @@ module _ {T : Type 0} (C : T → T → Type 0) where
 
 -- the nodes and the spots of a copy are the same, and what is in its cells are clones
 module _ {K T : Type 0} (IsKey : K → Type 0) (bits : K → List Bool) (width : ℕ) (C : T → T → Type 0) (R : Option T → Option T → Type 0)
-    (means : (x y : Option T) → R x y → IsCloned C x y) (v v2 : Store Node) (w w2 : Store (Option T)) (s : Seated v.slots) (ps qs : List (KeyedSpot K))
-    (at : IsTaking IsKey bits width v w s.0 ps) (nodes : v2 ≡ v) (clones : AllZip R w.slots w2.slots) (spots : qs ≡ ps) where
+    (means : (x y : Option T) → R x y → IsCloned C x y) (v v2 : Store Node) (w w2 : Store (Option T)) (s : Seated v.slots) (key : K) (ps qs : List Spot)
+    (at : IsTaking IsKey bits width v w s.0 key ps) (nodes : v2 ≡ v) (clones : AllZip R w.slots w2.slots) (spots : qs ≡ ps) where
   cloned : (i : ℕ) → IsCloned C (get_or w.slots i None) (get_or w2.slots i None)
   cloned i = clones_at C R means w.slots w2.slots clones i
 
@@ -61,24 +62,24 @@ module _ {K T : Type 0} (IsKey : K → Type 0) (bits : K → List Bool) (width :
   same_strings keys =
       subst (λ (y : Store Node). (keys : Seated y.slots) → keys.0 ≡ s.0) (sym nodes) (λ keys. ap (λ (k : Seated v.slots). k.0) (Seated-prop v.slots keys s)) keys
 
-  same_come : (keys : Seated v2.slots) → pending bits keys.0 qs ≡ pending bits s.0 ps
-  same_come keys = ap₂ (λ k ps. pending bits k ps) (same_strings keys) spots
+  same_come : (keys : Seated v2.slots) → pending bits keys.0 key qs ≡ pending bits s.0 key ps
+  same_come keys = ap₂ (λ k ps. pending bits k key ps) (same_strings keys) spots
 
   -- it is a walk
-  pub copied_walk : (keys : Seated v2.slots) → IsTaking IsKey bits width v2 w2 keys.0 qs
+  pub copied_walk : (keys : Seated v2.slots) → IsTaking IsKey bits width v2 w2 keys.0 key qs
   copied_walk keys =
-      subst (λ (y : Store Node). IsTaking IsKey bits width y w2 keys.0 qs) (sym nodes) (record {
+      subst (λ (y : Store Node). IsTaking IsKey bits width y w2 keys.0 key qs) (sym nodes) (record {
         tree = at.tree;
         trie = at.trie;
         long = sym (length_all_zip R w.slots w2.slots clones) ∙ at.long;
-        stack = subst (IsStack IsKey bits width v) (sym spots) at.stack;
-        held = subst (AreHeld v.slots w2.slots) (sym (same_come keys)) (held_cloned C v.slots w.slots w2.slots cloned (pending bits s.0 ps) at.held);
+        stack = subst (IsStack IsKey bits width v key) (sym spots) at.stack;
+        held = subst (AreHeld v.slots w2.slots) (sym (same_come keys)) (held_cloned C v.slots w.slots w2.slots cloned (pending bits s.0 key ps) at.held);
         apart = subst AreApart (sym (same_come keys)) at.apart;
       })
 
   -- with clones of the same pairs
-  pub copied_pairs : (keys : Seated v2.slots) → AllZip (IsPairCloned C) (pairs_in v.slots w.slots (pending bits s.0 ps)) (pairs_in v2.slots w2.slots (pending bits keys.0 qs))
+  pub copied_pairs : (keys : Seated v2.slots) → AllZip (IsPairCloned C) (pairs_in v.slots w.slots (pending bits s.0 key ps)) (pairs_in v2.slots w2.slots (pending bits keys.0 key qs))
   copied_pairs keys =
-      subst (λ ks. AllZip (IsPairCloned C) (pairs_in v.slots w.slots (pending bits s.0 ps)) (pairs_in v2.slots w2.slots ks)) (sym (same_come keys))
-      (subst (λ (y : Store Node). AllZip (IsPairCloned C) (pairs_in v.slots w.slots (pending bits s.0 ps)) (pairs_in y.slots w2.slots (pending bits s.0 ps))) (sym nodes)
-      (pairs_cloned C v.slots w.slots w2.slots cloned (pending bits s.0 ps)))
+      subst (λ ks. AllZip (IsPairCloned C) (pairs_in v.slots w.slots (pending bits s.0 key ps)) (pairs_in v2.slots w2.slots ks)) (sym (same_come keys))
+      (subst (λ (y : Store Node). AllZip (IsPairCloned C) (pairs_in v.slots w.slots (pending bits s.0 key ps)) (pairs_in y.slots w2.slots (pending bits s.0 key ps))) (sym nodes)
+      (pairs_cloned C v.slots w.slots w2.slots cloned (pending bits s.0 key ps)))

@@ -16,6 +16,7 @@ use Rattle.prefix_trie_bits.proofs.Model.Members.{and-first, and-second}
 use Rattle.prefix_trie_bits.proofs.Model.Ordered.{t-true, true-t, lt-less, not_itself, sorted-head, sorted-tail, find-from_Contains}
 use Rattle.prefix_trie_table.specs.declared.allocator.node.Node.{Node}
 use Rattle.prefix_trie_table.specs.declared.table.seat.Seat.{Seat}
+use Rattle.prefix_trie_table.specs.declared.table.spot.Spot.{Spot}
 use Rattle.prefix_trie_table.specs.Bitmaps.{has_bit, rank}
 use Rattle.prefix_trie_table.specs.Digits.{path_of, bit_of}
 use Rattle.prefix_trie_table.specs.Store.{Store}
@@ -25,7 +26,7 @@ use Rattle.prefix_trie_table.specs.Locations.{value_seat, seat_in, seat_of}
 use Rattle.prefix_trie_table.specs.Shape.{IsShapeOf, same_shape}
 use Rattle.prefix_trie_table.specs.Tables.{IsTrie}
 use Rattle.prefix_trie_table.specs.Walking.Taking.{Seated, cell_of, pairs_in, AreHeld, IsApart, AreApart, IsTaking}
-use Rattle.prefix_trie_table.specs.Walking.Walks.{Tree, KeyedSpot, IsStack, pending, slot_of, GivesSeat}
+use Rattle.prefix_trie_table.specs.Walking.Walks.{Tree, IsStack, pending, slot_of, GivesSeat}
 use Rattle.prefix_trie_table.proofs.Tree.Invariant.{some_table}
 use Rattle.prefix_trie_table.proofs.Walk.KeySets.{bare, strings_of, has-strings_of, pending_bare}
 use Rattle.prefix_trie_table.proofs.Lookup.Located.{stored_if}
@@ -81,9 +82,9 @@ module _ {T : Type 0} where
 module _ {K T : Type 0} (IsKey : K → Type 0) (bits : K → List Bool) (width : ℕ) (v : Store Node) where
   module _ (t : Tree T) (trie : IsTrie width t.count v t.cells t.shape) where
     -- the strings still to come are those of the pairs of the table
-    strings_come : (keys : Seated v.slots) (ps : List (KeyedSpot K)) → pending bits keys.0 ps ≡ map bare (pending bits t.shape.entries ps)
-    strings_come keys ps =
-        pending_bare t.shape.entries keys.0 (λ q. keys.1 q ∙ sym (stored_if v t.cells t.count (t.shape, trie.shaped) trie.table q)) bits ps
+    strings_come : (keys : Seated v.slots) (key : K) (ps : List Spot) → pending bits keys.0 key ps ≡ map bare (pending bits t.shape.entries key ps)
+    strings_come keys key ps =
+        pending_bare t.shape.entries keys.0 (λ q. keys.1 q ∙ sym (stored_if v t.cells t.count (t.shape, trie.shaped) trie.table q)) bits key ps
 
     module _ (cells : List (Option T)) (q : List Bool) (x : Seat) (found : seat_of v.slots q ≡ Some x) where
       -- where one cell is made vacant the others are as they were
@@ -111,16 +112,16 @@ module _ {K T : Type 0} (IsKey : K → Type 0) (bits : K → List Bool) (width :
       held_left (k ∷ ks) h held = (ap is_some (other_cell k.0 h.0) ∙ held.0, held_left ks h.1 held.1)
 
   -- a walk
-  module _ (w : Store (Option T)) (s : Seated v.slots) (ps : List (KeyedSpot K)) (at : IsTaking IsKey bits width v w s.0 ps) where
-    module _ (keys : Seated v.slots) (qs : List (KeyedSpot K)) where
+  module _ (w : Store (Option T)) (s : Seated v.slots) (key : K) (ps : List Spot) (at : IsTaking IsKey bits width v w s.0 key ps) where
+    module _ (keys : Seated v.slots) (next : K) (qs : List Spot) where
       -- with nothing left to come
-      none_come : pending bits at.tree.shape.entries qs ≡ [] → pending bits keys.0 qs ≡ []
-      none_come none = strings_come at.tree at.trie keys qs ∙ ap (λ es. map bare es) none
+      none_come : pending bits at.tree.shape.entries next qs ≡ [] → pending bits keys.0 next qs ≡ []
+      none_come none = strings_come at.tree at.trie keys next qs ∙ ap (λ es. map bare es) none
 
-      pub none_given : pending bits at.tree.shape.entries qs ≡ [] → pairs_in v.slots w.slots (pending bits keys.0 qs) ≡ []
+      pub none_given : pending bits at.tree.shape.entries next qs ≡ [] → pairs_in v.slots w.slots (pending bits keys.0 next qs) ≡ []
       none_given none = ap (pairs_in v.slots w.slots) (none_come none)
 
-      pub walk_ended : pending bits at.tree.shape.entries qs ≡ [] → IsStack IsKey bits width v qs → IsTaking IsKey bits width v w keys.0 qs
+      pub walk_ended : pending bits at.tree.shape.entries next qs ≡ [] → IsStack IsKey bits width v next qs → IsTaking IsKey bits width v w keys.0 next qs
       walk_ended none stack = record {
         tree = at.tree;
         trie = at.trie;
@@ -131,21 +132,21 @@ module _ {K T : Type 0} (IsKey : K → Type 0) (bits : K → List Bool) (width :
       }
 
     -- which takes the next value
-    module _ (qs : List (KeyedSpot K)) (key : K) (size : ℕ) (seat : Seat)
-        (h : GivesSeat IsKey bits width at.tree key size seat (pending bits at.tree.shape.entries ps) (pending bits at.tree.shape.entries qs))
-        (found : seat_of v.slots (take size (bits key)) ≡ Some seat) where
+    module _ (next : K) (qs : List Spot) (found_key : K) (size : ℕ) (seat : Seat)
+        (h : GivesSeat IsKey bits width at.tree found_key size seat (pending bits at.tree.shape.entries key ps) (pending bits at.tree.shape.entries next qs))
+        (found : seat_of v.slots (take size (bits found_key)) ≡ Some seat) where
       abbrev q : List Bool
-      q = take size (bits key)
+      q = take size (bits found_key)
 
-      come : pending bits s.0 ps ≡ (q, tt) ∷ pending bits s.0 qs
+      come : pending bits s.0 key ps ≡ (q, tt) ∷ pending bits s.0 next qs
       come =
-          strings_come at.tree at.trie s ps ∙ ap (λ es. map bare es) h.gives.first
-          ∙ ap (λ ks. (q, tt) ∷ ks) (sym (strings_come at.tree at.trie s qs))
+          strings_come at.tree at.trie s key ps ∙ ap (λ es. map bare es) h.gives.first
+          ∙ ap (λ ks. (q, tt) ∷ ks) (sym (strings_come at.tree at.trie s next qs))
 
-      held : (is_some (cell_of v.slots w.slots q) ≡ true) × AreHeld v.slots w.slots (pending bits s.0 qs)
+      held : (is_some (cell_of v.slots w.slots q) ≡ true) × AreHeld v.slots w.slots (pending bits s.0 next qs)
       held = subst (AreHeld v.slots w.slots) come at.held
 
-      apart : IsApart q (pending bits s.0 qs) × AreApart (pending bits s.0 qs)
+      apart : IsApart q (pending bits s.0 next qs) × AreApart (pending bits s.0 next qs)
       apart = subst AreApart come at.apart
 
       pub taken_inside : slot_of seat < length w.slots
@@ -159,37 +160,37 @@ module _ {K T : Type 0} (IsKey : K → Type 0) (bits : K → List Bool) (width :
       taken_there x read = ap is_some (sym (taken_cell x read)) ∙ held.0
 
       module _ (keys : Seated v.slots) (w2 : Store (Option T)) (left : w2 ≡ record w { slots = set w.slots (slot_of seat) None }) where
-        same_keys : pending bits keys.0 qs ≡ pending bits s.0 qs
-        same_keys = strings_come at.tree at.trie keys qs ∙ sym (strings_come at.tree at.trie s qs)
+        same_keys : pending bits keys.0 next qs ≡ pending bits s.0 next qs
+        same_keys = strings_come at.tree at.trie keys next qs ∙ sym (strings_come at.tree at.trie s next qs)
 
         left_slots : w2.slots ≡ set w.slots (slot_of seat) None
         left_slots = ap (λ (x : Store (Option T)). x.slots) left
 
         -- and the walk goes on
-        pub walk_goes_on : IsStack IsKey bits width v qs → IsTaking IsKey bits width v w2 keys.0 qs
+        pub walk_goes_on : IsStack IsKey bits width v next qs → IsTaking IsKey bits width v w2 keys.0 next qs
         walk_goes_on stack = record {
           tree = at.tree;
           trie = at.trie;
           long = ap (λ xs. length xs) left_slots ∙ length-set w.slots (slot_of seat) None ∙ at.long;
           stack = stack;
-          held = subst (λ xs. AreHeld v.slots xs (pending bits keys.0 qs)) (sym left_slots)
+          held = subst (λ xs. AreHeld v.slots xs (pending bits keys.0 next qs)) (sym left_slots)
               (subst (AreHeld v.slots (set w.slots (slot_of seat) None)) (sym same_keys)
-              (held_left at.tree at.trie w.slots q seat found (pending bits s.0 qs) apart.0 held.1));
+              (held_left at.tree at.trie w.slots q seat found (pending bits s.0 next qs) apart.0 held.1));
           apart = subst AreApart (sym same_keys) apart.1;
         }
 
         -- with the rest of the pairs
         pub gives_taken : (x : T) (old : List (List Bool × T)) → Some x ≡ get_or w.slots (slot_of seat) (Some x) →
-            pairs_in v.slots w.slots (pending bits s.0 ps) ≡ old →
-            GivesFilled IsKey bits width key size x old (pairs_in v.slots w2.slots (pending bits keys.0 qs))
+            pairs_in v.slots w.slots (pending bits s.0 key ps) ≡ old →
+            GivesFilled IsKey bits width found_key size x old (pairs_in v.slots w2.slots (pending bits keys.0 next qs))
         gives_taken x old read is = record {
           is_key = h.gives.is_key;
           short = h.gives.short;
           first =
               sym is ∙ ap (pairs_in v.slots w.slots) come
-              ∙ ap (λ o. pair_of q o ++ pairs_in v.slots w.slots (pending bits s.0 qs)) (taken_cell (Some x) read)
-              ∙ ap (λ es. (q, x) ∷ es) (sym (pairs_left at.tree at.trie w.slots q seat found (pending bits s.0 qs) apart.0)
-              ∙ ap (λ xs. pairs_in v.slots xs (pending bits s.0 qs)) (sym left_slots) ∙ ap (pairs_in v.slots w2.slots) (sym same_keys));
+              ∙ ap (λ o. pair_of q o ++ pairs_in v.slots w.slots (pending bits s.0 next qs)) (taken_cell (Some x) read)
+              ∙ ap (λ es. (q, x) ∷ es) (sym (pairs_left at.tree at.trie w.slots q seat found (pending bits s.0 next qs) apart.0)
+              ∙ ap (λ xs. pairs_in v.slots xs (pending bits s.0 next qs)) (sym left_slots) ∙ ap (pairs_in v.slots w2.slots) (sym same_keys));
           filled = h.gives.filled;
         }
 
@@ -224,14 +225,14 @@ module _ {K T : Type 0} (IsKey : K → Type 0) (bits : K → List Bool) (width :
     held_stored [] h = tt
     held_stored (e ∷ es) h = (ap is_some (cell_stored e (All-head IsStored e es h)), held_stored es (All-tail IsStored e es h))
 
-    module _ (keys : Seated v.slots) (ps : List (KeyedSpot K)) (q : List Bool) (rest : pending bits s.entries ps ≡ listing_below s.entries q) where
-      below_come : pending bits keys.0 ps ≡ map bare (listing_below s.entries q)
-      below_come = strings_come whole trie keys ps ∙ ap (λ es. map bare es) rest
+    module _ (keys : Seated v.slots) (key : K) (ps : List Spot) (q : List Bool) (rest : pending bits s.entries key ps ≡ listing_below s.entries q) where
+      below_come : pending bits keys.0 key ps ≡ map bare (listing_below s.entries q)
+      below_come = strings_come whole trie keys key ps ∙ ap (λ es. map bare es) rest
 
       below_stored : All IsStored (listing_below s.entries q)
       below_stored = All-filter (λ e. begins q e.0) IsStored (entries s.entries) all_stored
 
-      pub walk_below : IsStack IsKey bits width v ps → IsTaking IsKey bits width v w keys.0 ps
+      pub walk_below : IsStack IsKey bits width v key ps → IsTaking IsKey bits width v w keys.0 key ps
       walk_below stack = record {
         tree = whole;
         trie = trie;
@@ -242,7 +243,7 @@ module _ {K T : Type 0} (IsKey : K → Type 0) (bits : K → List Bool) (width :
             (apart_sorted (listing_below s.entries q) (is_sorted-where_key listing_cmp (begins q) (entries s.entries) (entries_sorted s.entries)));
       }
 
-      pub below_given : (x : State T) → IsShapeOf v.slots w.slots x → pairs_in v.slots w.slots (pending bits keys.0 ps) ≡ listing_below x.entries q
+      pub below_given : (x : State T) → IsShapeOf v.slots w.slots x → pairs_in v.slots w.slots (pending bits keys.0 key ps) ≡ listing_below x.entries q
       below_given x is =
           ap (pairs_in v.slots w.slots) below_come ∙ pairs_stored (listing_below s.entries q) below_stored
           ∙ ap (λ (y : State T). listing_below y.entries q) (same_shape v.slots w.slots s x trie.shaped is)

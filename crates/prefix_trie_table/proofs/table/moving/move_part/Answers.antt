@@ -7,7 +7,6 @@ use Rattle.prefix_trie_bits.specs.Model.Step.{State}
 use Rattle.prefix_trie_table.specs.declared.table.moving.Seats.{Seats}
 use Rattle.prefix_trie_table.specs.HandingOut.Moving.{filled_with}
 use Rattle.prefix_trie_table.specs.Tables.{IsTrie}
-use Rattle.prefix_trie_table.specs.Walking.Walks.{keyed_spots}
 use Rattle.prefix_trie_table.proofs.Moving.Second.{second_trie}
 use Rattle.prefix_trie_table.proofs.Moving.Moved.{Fills, fills_start, may_fill, all_filled}
 use Rattle.prefix_trie_table.proofs.table.moving.move_part.Given as given
@@ -29,11 +28,11 @@ pub remove_part-requires-clause-may_ask : goal.remove_part-requires-clause-may_a
 remove_part-requires-clause-may_ask g c = λ s trie.
     let q = take c.args.len (g.K.Key.bits c.args.key) in
     may_fill g.K.Key.IsKey g.K.Key.bits g.K.Key.bit_width {F = Seats g.row.K.Denot g.row.T.Denot g.row.A.Denot g.row.V.Denot}
-    (λ f. f.nodes) (λ f. f.cells) (λ f. keyed_spots f.key f.stack.items)
+    (λ f. f.nodes) (λ f. f.cells) (λ f. f.key) (λ f. f.stack.items)
     (record { entries = part_below s.entries q; nodes = needed (part_below s.entries q) }) c.args.laid c.args.vacant
     (record { nodes = c.args.laid; cells = c.args.vacant; key = c.args.key; stack = c.start_at-stack.result }) (listing_below s.entries q)
     (fills_start g.K.Key.IsKey g.K.Key.bits g.K.Key.bit_width c.args.entries.now c.args.nodes.now c.args.cells.now s trie q c.args.laid c.args.vacant c.requires.second
-    (keyed_spots c.args.key c.start_at-stack.result.items) c.start_at-stack.ensures.stack c.start_at-stack.ensures.rest)
+    c.args.key c.start_at-stack.result.items c.start_at-stack.ensures.stack c.start_at-stack.ensures.rest)
 
 -- what the second table has then
 filled : (g : given.Over) (c : goal.After-remove_part g) → (s : State g.row.T.Denot) → IsTrie g.K.Key.bit_width c.args.entries.now c.args.nodes.now c.args.cells.now s →
@@ -41,15 +40,15 @@ filled : (g : given.Over) (c : goal.After-remove_part g) → (s : State g.row.T.
       entries = part_below s.entries (take c.args.len (g.K.Key.bits c.args.key));
       nodes = needed (part_below s.entries (take c.args.len (g.K.Key.bits c.args.key)));
     }) c.args.laid c.args.vacant c.remove_part.new.keep.nodes c.remove_part.new.keep.cells
-    (keyed_spots c.remove_part.new.keep.key c.remove_part.new.keep.stack.items) []
+    c.remove_part.new.keep.key c.remove_part.new.keep.stack.items []
 filled g c = λ s trie.
     let q = take c.args.len (g.K.Key.bits c.args.key) in
     all_filled g.K.Key.IsKey g.K.Key.bits g.K.Key.bit_width {F = Seats g.row.K.Denot g.row.T.Denot g.row.A.Denot g.row.V.Denot}
-    (λ f. f.nodes) (λ f. f.cells) (λ f. keyed_spots f.key f.stack.items)
+    (λ f. f.nodes) (λ f. f.cells) (λ f. f.key) (λ f. f.stack.items)
     (record { entries = part_below s.entries q; nodes = needed (part_below s.entries q) }) c.args.laid c.args.vacant
     (record { nodes = c.args.laid; cells = c.args.vacant; key = c.args.key; stack = c.start_at-stack.result }) c.remove_part.new.keep (listing_below s.entries q)
     (fills_start g.K.Key.IsKey g.K.Key.bits g.K.Key.bit_width c.args.entries.now c.args.nodes.now c.args.cells.now s trie q c.args.laid c.args.vacant c.requires.second
-    (keyed_spots c.args.key c.start_at-stack.result.items) c.start_at-stack.ensures.stack c.start_at-stack.ensures.rest)
+    c.args.key c.start_at-stack.result.items c.start_at-stack.ensures.stack c.start_at-stack.ensures.rest)
     (c.remove_part.ensures.up_to s trie)
 
 pub returns-clause-moved : goal.returns-clause-moved
