@@ -1,14 +1,14 @@
 -- The stack of a walk that starts at a bit string.
-use Rattle.std.proofs.Common.{◌≡◌, ◌≢◌, ℕ, ◌+◌, ◌*◌, ◌^◌, ◌%◌, ◌<◌, ◌≤◌, Bool, true, false, not, ◌&&◌, List, [], ◌∷◌, ◌++◌, length, take, drop, filter, Some, inl, inr, refl, sym, ap, ap₂, ◌∙◌, subst, arith, length-append, length-drop, bit_and, append-nil, append_assoc}
+use Rattle.std.proofs.Common.{◌≡◌, ◌≢◌, ℕ, ◌+◌, ◌*◌, ◌^◌, ◌%◌, ◌<◌, ◌≤◌, Bool, true, false, not, ◌&&◌, List, [], ◌∷◌, ◌++◌, length, take, drop, filter, Some, inl, inr, refl, sym, ap, ap₂, ◌∙◌, subst, arith, length-append, length-drop, bit_and, append-nil, append_assoc, Ordering, Less, Equal, Greater}
 use Rattle.std.proofs.Math.Seq.{take-add}
 use Rattle.std.specs.List.{All}
 use Rattle.std.proofs.lemmas.List.Elements.{All-nil, All-push, All-weaker, filter_passes}
-use Rattle.std.specs.Ordering.{is_lt}
+use Rattle.std.specs.Ordering.{is_lt, ordering_reverse}
 use Rattle.std.proofs.lemmas.Bool.{cases_lt, false≢true}
 use Rattle.std.proofs.lemmas.Bool.Decides.{eqb_tells}
 use Rattle.std.proofs.lemmas.List.{length-take-le, take-take, take-append-drop}
 use Rattle.prefix_trie_bits.specs.Bits.{number}
-use Rattle.prefix_trie_bits.specs.Order.{listing-refl}
+use Rattle.prefix_trie_bits.specs.Order.{listing_cmp, listing_total, listing_same, listing-refl}
 use Rattle.prefix_trie_bits.specs.Places.{has, value_bit, is_in, is_before, places, strings, HoldsPlaces, Sets}
 use Rattle.prefix_trie_bits.specs.Walks.{to_come}
 use Rattle.prefix_trie_bits.specs.Model.NodeListings.{listing_at_places}
@@ -37,13 +37,12 @@ use Rattle.prefix_trie_table.proofs.Tree.Trees.{read-nil}
 
 -- of two strings one is before the other
 before-other : (s r : List Bool) → s ≢ r → not (is_before s r) ≡ is_before r s
-before-other [] [] ne = absurd (ne refl)
-before-other [] (b ∷ r) ne = refl
-before-other (a ∷ s) [] ne = refl
-before-other (true ∷ s) (true ∷ r) ne = before-other s r (λ e. ne (ap (λ t. true ∷ t) e))
-before-other (true ∷ s) (false ∷ r) ne = refl
-before-other (false ∷ s) (true ∷ r) ne = refl
-before-other (false ∷ s) (false ∷ r) ne = before-other s r (λ e. ne (ap (λ t. false ∷ t) e))
+before-other s r ne = at (listing_cmp s r) refl ∙ sym (ap is_lt (listing_total.antisymm r s))
+  where
+    at : (o : Ordering) → listing_cmp s r ≡ o → not (is_lt o) ≡ is_lt (ordering_reverse o)
+    at Less e = refl
+    at Equal e = absurd (ne (listing_same s r e))
+    at Greater e = refl
 
 not-itself : (s : List Bool) → is_before s s ≡ false
 not-itself s = ap is_lt (listing-refl s)

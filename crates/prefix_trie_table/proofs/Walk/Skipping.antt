@@ -20,17 +20,10 @@ use Rattle.prefix_trie_table.specs.Walking.Walks.{IsSpot, IsPlaceOf, IsTrail, Is
 use Rattle.prefix_trie_table.proofs.Walk.Cursors.{short_rest}
 use Rattle.prefix_trie_table.proofs.Walk.Passing.{passed-below, passed-above}
 use Rattle.prefix_trie_table.proofs.Strings.Paths.{snoc_inj}
-use Rattle.prefix_trie_table.proofs.Walk.Selected.{one-answer, some-places}
+use Rattle.prefix_trie_table.proofs.Walk.Selected.{begins-common, one-answer, some-places}
 use Rattle.prefix_trie_table.proofs.Walk.Stacks.{pending-popped, stack-room, stack-put, trail-at}
 
 -- ---- at a spot
-
--- what two strings begin with counts for nothing
-begins-common : (s t u : List Bool) → begins (s ++ t) (s ++ u) ≡ begins t u
-unfolding begins
-begins-common [] t u = refl
-begins-common (true ∷ s) t u = begins-common s t u
-begins-common (false ∷ s) t u = begins-common s t u
 
 begins-within : (s t u k : List Bool) → length t ≤ length u → begins (s ++ u) k ≡ true → begins (s ++ t) k ≡ begins t u
 begins-within s t u k h e =

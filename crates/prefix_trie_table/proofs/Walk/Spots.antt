@@ -1,7 +1,9 @@
 -- What the next place of a spot gives.
-use Rattle.std.proofs.Common.{◌≡◌, ℕ, zero, suc, ◌+◌, ◌-◌, ◌/◌, ◌%◌, ◌<◌, ◌≤◌, Bool, true, false, cond, List, [], ◌∷◌, ◌++◌, length, take, drop, filter, get_or, None, Some, refl, sym, ap, ap₂, ◌∙◌, subst, arith, inl, inr, length-append, append_assoc}
+use Rattle.std.proofs.Common.{◌≡◌, ℕ, suc, ◌+◌, ◌-◌, ◌*◌, ◌^◌, ◌%◌, ◌<◌, ◌≤◌, Bool, true, false, cond, List, [], ◌∷◌, ◌++◌, length, take, drop, filter, get_or, None, Some, refl, sym, ap, ap₂, ◌∙◌, subst, arith, inl, inr, length-append, append_assoc}
 use Rattle.std.specs.List.{All}
 use Rattle.std.specs.List.Sorted.{IsStrictlySortedBy}
+use Rattle.std.proofs.Math.Nat.{add-mul, one-mul}
+use Rattle.std.proofs.lemmas.Nat.{pow_pos, shl_below}
 use Rattle.std.proofs.lemmas.Bool.{cases_lt, lt-ltb, le-ltb}
 use Rattle.std.proofs.lemmas.List.{length-take-le, take-append-le, take-take, take_at, drop_at}
 use Rattle.std.proofs.lemmas.List.Elements.{All-head, All-tail}
@@ -27,7 +29,7 @@ use Rattle.prefix_trie_table.specs.Digits.{path_of}
 use Rattle.prefix_trie_table.specs.Locations.{seat_of, value_seat}
 use Rattle.prefix_trie_table.specs.Store.{Store}
 use Rattle.prefix_trie_table.specs.Forest.{read, child_slot}
-use Rattle.prefix_trie_table.specs.Walking.Walks.{Tree, IsSpot, IsPlaceOf, IsOther, IsPassed, still, GivesSeat, many, most, weight_of, weight, slot_of}
+use Rattle.prefix_trie_table.specs.Walking.Walks.{Tree, IsSpot, IsPlaceOf, IsOther, IsPassed, still, GivesSeat, weight, slot_of}
 use Rattle.prefix_trie_table.specs.Tables.{IsTrie}
 use Rattle.prefix_trie_table.proofs.Walk.Passing.{others_after}
 use Rattle.prefix_trie_table.proofs.Strings.Plain.{whole_levels}
@@ -35,20 +37,6 @@ use Rattle.prefix_trie_table.proofs.Lookup.Locating.{seat_below}
 use Rattle.prefix_trie_table.proofs.Tree.Subtrees.{is_in-value, is_in-child, number-small, stored_value, value_read, value_inside, value_listed, value_fits, child_is, child_inside, child_few, child_fits, all_places}
 
 -- ---- the bound on steps
-
-weight-many : (n : ℕ) (ss : List (List Bool)) (k : ℕ) → length ss ≤ k → weight_of n ss ≤ many k (most n)
-unfolding many
-weight-many n [] zero h = omega arith
-weight-many n [] (suc k) h = omega arith
-weight-many n (s ∷ ss) zero h = absurd (omega (arith, h))
-weight-many n (s ∷ ss) (suc k) h = omega (arith, weight-many n ss k (omega (arith, h)))
-
-most-suc : (n : ℕ) → most (suc n) ≡ many 63 (most n)
-unfolding most
-most-suc n = refl
-
-level-below : (d : ℕ) → d + 5 ≤ 128 → (130 - d) / 5 ≡ suc ((130 - (d + 5)) / 5)
-level-below d h = omega (arith, h)
 
 filter-length : {X : Type 0} (p : X → Bool) (xs : List X) → length (filter p xs) ≤ length xs
 filter-length p [] = omega arith
@@ -58,12 +46,17 @@ filter-length p (x ∷ xs) = go (p x) (filter-length p xs)
     go true h = omega (arith, h)
     go false h = omega (arith, h)
 
+one-less : (n x : ℕ) → suc n * x ≡ x + n * x
+one-less n x = let e : suc n ≡ 1 + n = omega arith in ap (λ k. k * x) e ∙ add-mul 1 n x ∙ ap (λ k. k + n * x) (one-mul x)
+
 -- a child with all its places weighs less than its place did
-weight-child : (d e vs cs : ℕ) (ss : List (List Bool)) → e ≡ d + 5 → e ≤ 128 → ss ≡ places vs cs → weight_of ((130 - e) / 5) ss ≤ most ((130 - d) / 5)
+weight-child : (d e vs cs : ℕ) (ss : List (List Bool)) → e ≡ d + 5 → e ≤ 128 → ss ≡ places vs cs → length ss * 2 ^ (2 * (130 - e)) + 1 < 2 ^ (2 * (130 - d))
 weight-child d e vs cs ss is fits all =
     let few : length ss ≤ 63 = omega (arith, ap length all, filter-length (is_in vs cs) (strings 5), count-strings) in
-    let level : (130 - d) / 5 ≡ suc ((130 - e) / 5) = level-below d (omega (arith, is, fits)) ∙ ap (λ k. suc ((130 - k) / 5)) (sym is) in
-    subst (λ m. weight_of ((130 - e) / 5) ss ≤ m) (sym (ap most level ∙ most-suc ((130 - e) / 5))) (weight-many ((130 - e) / 5) ss 63 few)
+    let level : 10 + 2 * (130 - e) ≡ 2 * (130 - d) = omega (arith, is, fits) in
+    let below : suc (length ss) * 2 ^ (2 * (130 - e)) < 2 ^ (2 * (130 - d)) =
+    subst (λ k. suc (length ss) * 2 ^ (2 * (130 - e)) < 2 ^ k) level (shl_below (suc (length ss)) 10 (2 * (130 - e)) (omega (arith, few))) in
+    omega (arith, below, one-less (length ss) (2 ^ (2 * (130 - e))), pow_pos (2 * (130 - e)))
 
 -- ---- which place it is
 
@@ -128,11 +121,15 @@ module _ {K : Type 0} (IsKey : K → Type 0) (bits : K → List Bool) (width : �
       each = All-tail (IsPlaceOf p.node) s (to_come later) (subst (All (IsPlaceOf p.node)) first at.each);
     }
 
-    weight_is : weight p ≡ most ((130 - p.depth) / 5) + 1 + weight after
-    weight_is = ap (weight_of ((130 - p.depth) / 5)) first
+    weight_is : weight p ≡ 2 ^ (2 * (130 - p.depth)) + weight after
+    weight_is =
+        let e = one-less (length (to_come later)) (2 ^ (2 * (130 - p.depth))) in
+        let l : length (to_come p.places) * 2 ^ (2 * (130 - p.depth)) ≡ suc (length (to_come later)) * 2 ^ (2 * (130 - p.depth)) =
+        ap (λ ss. length ss * 2 ^ (2 * (130 - p.depth))) first in
+        omega (arith, e, l)
 
     pub lighter : weight after < weight p
-    lighter = omega (arith, weight_is)
+    lighter = omega (arith, weight_is, pow_pos (2 * (130 - p.depth)))
 
     module _ {T : Type 0} (t : Tree T) (tree : IsTrie width t.count v t.cells t.shape) where
       still_is : still bits t.shape.entries way p ≡ listing_at_place t.shape.entries (take p.depth (bits way)) s ++ still bits t.shape.entries way after

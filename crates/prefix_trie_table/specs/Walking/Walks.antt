@@ -1,5 +1,5 @@
 -- What a walk of a table has still to come, and what its steps give. This project's own.
-use Rattle.std.specs.Prelude.{◌≡◌, ◌≢◌, ℕ, zero, suc, ◌+◌, ◌-◌, ◌*◌, ◌/◌, ◌<◌, ◌≤◌, Bool, true, not, List, [], ◌∷◌, ◌++◌, length, take, drop, filter, slice_index_or, Option, None, Some, All, ⊤}
+use Rattle.std.specs.Prelude.{◌≡◌, ◌≢◌, ℕ, ◌+◌, ◌-◌, ◌*◌, ◌^◌, ◌<◌, ◌≤◌, Bool, true, not, List, [], ◌∷◌, ◌++◌, length, take, drop, filter, slice_index_or, Option, None, Some, All, ⊤}
 use Rattle.std.specs.List.{AllWithin}
 use Rattle.std.specs.Borrow.{Bor}
 use Rattle.std.specs.Coded.{Coded}
@@ -118,24 +118,9 @@ module _ {K : Type 0} where
       pub reads : slice_index_or t.cells.slots (slot_of seat) None ≡ Some value
       pub gives : GivesFilled IsKey bits width key len value old new
 
--- k times x and k + 1 more
-unfoldable pub many : ℕ → ℕ → ℕ
-many zero x = 1
-many (suc k) x = x + 1 + many k x
-
--- a bound on the steps at a node with so many levels below it, which has 63 places
-unfoldable pub most : ℕ → ℕ
-most zero = 1
-most (suc n) = many 63 (most n)
-
--- a bound on the steps at these places, where so many levels are below
-abbrev pub weight_of : ℕ → List (List Bool) → ℕ
-weight_of n [] = 1
-weight_of n (s ∷ ss) = most n + 1 + weight_of n ss
-
--- a bound on the steps at a spot
+-- a bound on the steps at a spot: 63 places at most weigh less than one of a level above
 abbrev pub weight : Spot → ℕ
-weight p = weight_of ((130 - p.depth) / 5) (to_come p.places)
+weight p = length (to_come p.places) * 2 ^ (2 * (130 - p.depth)) + 1
 
 module _ {K T : Type 0} (IsKey : K → Type 0) (bits : K → List Bool) (width : ℕ) (v : Store Node) (t : Tree T) (key : K) (p : Spot) where
   -- a step at the spot p gave this, and left the spot q
