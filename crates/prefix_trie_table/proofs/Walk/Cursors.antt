@@ -27,9 +27,8 @@ use Rattle.prefix_trie_table.specs.Forest.{read, child_slot}
 use Rattle.prefix_trie_table.specs.Store.{Store}
 use Rattle.prefix_trie_table.specs.Tables.{IsTrie}
 use Rattle.prefix_trie_table.specs.Walking.Walks.{Tree, IsSpot, IsTrail, IsStack, IsPlaceOf, IsOther, IsPassed, ArePassed, still, pending}
-use Rattle.prefix_trie_table.proofs.Walk.Passing.{passed-above}
+use Rattle.prefix_trie_table.proofs.Walk.Stacks.{passed-above, pending-push, trail-push, restart}
 use Rattle.prefix_trie_table.proofs.Walk.Selected.{and-right, wanted_below, wanted_at_root, wanted_passed, wanted_ended, wanted_none, at_some_places}
-use Rattle.prefix_trie_table.proofs.Walk.Stacks.{pending-push, trail-push, restart}
 use Rattle.prefix_trie_table.proofs.Tree.Subtrees.{is_in-value, is_in-child, child_is, child_inside, unset}
 use Rattle.prefix_trie_table.proofs.Tree.Trees.{read-nil}
 

@@ -5,7 +5,8 @@ use Rattle.std.proofs.lemmas.Bool.{false≢true}
 use Rattle.std.proofs.lemmas.List.{map-append}
 use Rattle.std.proofs.lemmas.Simd.{map-map}
 use Rattle.std.specs.Ordering.{eq_by_cmp}
-use Rattle.std.specs.FinMap.{get, contains_key, entries, entries_sorted, from_sorted, entries-from_sorted, get-from_sorted, get-entries, is_sorted, find}
+use Rattle.std.specs.List.{list_any}
+use Rattle.std.specs.FinMap.{get, contains_key, entries, entries_sorted, from_sorted, entries-from_sorted, contains_key-keys, is_sorted}
 use Rattle.std.specs.FinMap.Entries.{below_all}
 use Rattle.prefix_trie_bits.specs.Bits.{begins}
 use Rattle.prefix_trie_bits.specs.Order.{listing_cmp, same_string}
@@ -40,19 +41,11 @@ module _ {T : Type 0} where
   sorted_bare : (m : Entries T) → IsT (is_sorted listing_cmp (map bare (entries m)))
   sorted_bare m = subst (λ b. IsT b) (sym (sorted_mapped bare (λ e. refl) (entries m))) (entries_sorted m)
 
-  find_bare : (q : List Bool) (es : List (List Bool × T)) → is_some (find listing_cmp q (map bare es)) ≡ is_some (find listing_cmp q es)
-  find_bare q [] = refl
-  find_bare q (e ∷ es) = at (eq_by_cmp listing_cmp q e.0) (find_bare q es)
-    where
-      at : (b : Bool) → is_some (find listing_cmp q (map bare es)) ≡ is_some (find listing_cmp q es) →
-          is_some (cond b (Some tt) (find listing_cmp q (map bare es))) ≡ is_some (cond b (Some e.1) (find listing_cmp q es))
-      at true rest = refl
-      at false rest = rest
-
   pub has-strings_of : (m : Entries T) (q : List Bool) → has_node (strings_of m) q ≡ contains_key m q
   has-strings_of m q =
-      ap is_some (get-from_sorted listing_cmp (map bare (entries m)) q (sorted_bare m)) ∙ find_bare q (entries m)
-      ∙ ap is_some (sym (get-entries m q))
+      contains_key-keys (strings_of m) q
+      ∙ ap (λ es. list_any (eq_by_cmp listing_cmp q) (map (λ e. e.0) es)) (entries-from_sorted listing_cmp (map bare (entries m)) (sorted_bare m))
+      ∙ ap (list_any (eq_by_cmp listing_cmp q)) (map-map (λ e. e.0) bare (entries m)) ∙ sym (contains_key-keys m q)
 
   filter_bare : (p : List Bool → Bool) (es : List (List Bool × T)) → filter (λ e. p e.0) (map bare es) ≡ map bare (filter (λ e. p e.0) es)
   filter_bare p [] = refl

@@ -3,7 +3,7 @@ use Rattle.std.proofs.Common.{◌≡◌, ℕ, zero, suc, ◌<◌, ◌≤◌, Boo
 use Rattle.std.proofs.lemmas.Bool.{cases_lt, false≢true}
 use Rattle.std.specs.Ordering.{ordering_reverse}
 use Rattle.std.proofs.lemmas.List.{take-append-drop, take-take, take_all, take_at, drop_at, append_assoc}
-use Rattle.std.proofs.lemmas.List.Elements.{filter-append}
+use Rattle.std.proofs.lemmas.List.Elements.{filter-append, filter_agree}
 use Rattle.std.specs.FinMap.{get, entries, entries_sorted}
 use Rattle.prefix_trie_bits.specs.Bits.{begins}
 use Rattle.prefix_trie_bits.specs.Begins.{begins-rest, begins-take, begins-trans, begins-append}
@@ -156,9 +156,6 @@ end-string x (false ∷ p) r (false ∷ k) h = ap (λ b. begins p k && b) (commo
 -- ---- filters
 
 module _ {X : Type 0} where
-  filter-same : (p r : X → Bool) → ((x : X) → p x ≡ r x) → (xs : List X) → filter p xs ≡ filter r xs
-  filter-same p r h xs = λ i. filter (λ x. h x i) xs
-
   filter-both : (p r : X → Bool) (xs : List X) → filter r (filter p xs) ≡ filter (λ x. p x && r x) xs
   filter-both p r [] = refl
   filter-both p r (x ∷ xs) = elim (p x) as (λ b. filter r (cond b (x ∷ filter p xs) (filter p xs)) ≡ cond (b && r x) (x ∷ filter (λ y. p y && r y) xs) (filter (λ y. p y && r y) xs)) [
@@ -263,7 +260,7 @@ module _ {T : Type 0} (x : Start) (m : Entries T) where
   -- below a node that is passed it is what is selected below the child taken, and then what is behind that child
   pub wanted_passed : (p c r : List Bool) → wanted_below (p ++ c ++ r) p ≡ wanted_below (p ++ c ++ r) (p ++ c) ++ filter (λ e. behind x c (take (length c) (drop (length p) e.0))) (listing_below m p)
   wanted_passed p c r =
-      filter-same _ _ (λ e. passed-string x p c r e.0) (listing m)
+      filter_agree _ _ (λ e. passed-string x p c r e.0) (listing m)
       ∙ two-tests (λ k. begins (p ++ c) k && wanted x (p ++ c ++ r) k) (λ k. begins p k && behind x c (take (length c) (drop (length p) k)))
       (λ k l e f. apart-string p c k l (and-left (begins (p ++ c) k) _ e) (and-left (begins p l) _ f) (behind-before x c _ (and-right (begins p l) _ f)))
       (entries m) (entries_sorted m)
@@ -272,7 +269,7 @@ module _ {T : Type 0} (x : Start) (m : Entries T) where
   -- below the node where the string ends it is what is kept there
   pub wanted_ended : (p r : List Bool) → length r < 5 → wanted_below (p ++ r) p ≡ filter (λ e. kept x r (take 5 (drop (length p) e.0))) (listing_below m p)
   wanted_ended p r h =
-      filter-same _ _ (λ e. end-string x p r e.0 h) (listing m)
+      filter_agree _ _ (λ e. end-string x p r e.0 h) (listing m)
       ∙ sym (filter-both (λ e. begins p e.0) (λ e. kept x r (take 5 (drop (length p) e.0))) (listing m))
 
   -- and nothing where nothing is stored

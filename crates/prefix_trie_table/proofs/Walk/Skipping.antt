@@ -18,10 +18,9 @@ use Rattle.prefix_trie_table.specs.Forest.{read}
 use Rattle.prefix_trie_table.specs.Store.{Store}
 use Rattle.prefix_trie_table.specs.Walking.Walks.{IsSpot, IsPlaceOf, IsTrail, IsStack, IsOther, IsPassed, ArePassed, EndsAt, EndsLast, SkipsLast, start, still, pending}
 use Rattle.prefix_trie_table.proofs.Walk.Cursors.{short_rest}
-use Rattle.prefix_trie_table.proofs.Walk.Passing.{passed-below, passed-above}
+use Rattle.prefix_trie_table.proofs.Walk.Stacks.{passed-below, passed-above, spot_as, pending-popped, stack-room, stack-put, trail-at}
 use Rattle.prefix_trie_table.proofs.Strings.Paths.{snoc_inj}
 use Rattle.prefix_trie_table.proofs.Walk.Selected.{begins-common, one-answer, some-places}
-use Rattle.prefix_trie_table.proofs.Walk.Stacks.{pending-popped, stack-room, stack-put, trail-at}
 
 -- ---- at a spot
 
@@ -122,16 +121,11 @@ module _ {K : Type 0} (IsKey : K → Type 0) (bits : K → List Bool) (width : �
 
   spot_left : IsSpot IsKey bits width v way skips.now
   spot_left =
-      let s = skips.skips in record {
-        is_key = spot.is_key;
-        level = spot.level;
-        depth_is = s.depth_is ∙ spot.depth_is;
-        within = (let w = spot.within in let d = s.depth_is in omega (arith, w, d));
-        stands = ap (λ d. read v.slots (path_of (take d (bits way)))) s.depth_is ∙ spot.stands ∙ ap Some (sym s.node_is);
-        each = subst (λ n. All (IsPlaceOf n) (to_come skips.now.places)) (sym s.node_is)
-            (subst (All (IsPlaceOf skips.was.node)) (sym s.left)
-            (All-filter (λ u. not (begins (drop skips.was.depth (take len (bits key))) u)) (IsPlaceOf skips.was.node) (to_come skips.was.places) spot.each));
-      }
+      let s = skips.skips in
+      spot_as spot spot.is_key s.depth_is (ap (λ d. read v.slots (path_of (take d (bits way)))) s.depth_is ∙ spot.stands ∙ ap Some (sym s.node_is))
+      (subst (λ n. All (IsPlaceOf n) (to_come skips.now.places)) (sym s.node_is)
+      (subst (All (IsPlaceOf skips.was.node)) (sym s.left)
+      (All-filter (λ u. not (begins (drop skips.was.depth (take len (bits key))) u)) (IsPlaceOf skips.was.node) (to_come skips.was.places) spot.each)))
 
   pub stack_left : IsStack IsKey bits width v way new
   stack_left =

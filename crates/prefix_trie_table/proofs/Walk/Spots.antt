@@ -31,7 +31,7 @@ use Rattle.prefix_trie_table.specs.Store.{Store}
 use Rattle.prefix_trie_table.specs.Forest.{read, child_slot}
 use Rattle.prefix_trie_table.specs.Walking.Walks.{Tree, IsSpot, IsPlaceOf, IsOther, IsPassed, still, GivesSeat, weight, slot_of}
 use Rattle.prefix_trie_table.specs.Tables.{IsTrie}
-use Rattle.prefix_trie_table.proofs.Walk.Passing.{others_after}
+use Rattle.prefix_trie_table.proofs.Walk.Stacks.{others_after, spot_as}
 use Rattle.prefix_trie_table.proofs.Strings.Plain.{whole_levels}
 use Rattle.prefix_trie_table.proofs.Lookup.Locating.{seat_below}
 use Rattle.prefix_trie_table.proofs.Tree.Subtrees.{is_in-value, is_in-child, number-small, stored_value, value_read, value_inside, value_listed, value_fits, child_is, child_inside, child_few, child_fits, all_places}
@@ -112,14 +112,7 @@ module _ {K : Type 0} (IsKey : K → Type 0) (bits : K → List Bool) (width : �
     here = All-head (IsPlaceOf p.node) s (to_come later) (subst (All (IsPlaceOf p.node)) first at.each)
 
     pub goes_on : IsSpot IsKey bits width v way (record p { places = later })
-    goes_on = record {
-      is_key = at.is_key;
-      level = at.level;
-      depth_is = at.depth_is;
-      within = at.within;
-      stands = at.stands;
-      each = All-tail (IsPlaceOf p.node) s (to_come later) (subst (All (IsPlaceOf p.node)) first at.each);
-    }
+    goes_on = spot_as at at.is_key refl at.stands (All-tail (IsPlaceOf p.node) s (to_come later) (subst (All (IsPlaceOf p.node)) first at.each))
 
     weight_is : weight p ≡ 2 ^ (2 * (130 - p.depth)) + weight after
     weight_is =
@@ -208,14 +201,12 @@ module _ {K : Type 0} (IsKey : K → Type 0) (bits : K → List Bool) (width : �
           own_slot : slot ≡ child_slot p.node (number s)
           own_slot = slot_is ∙ ap (child_slot p.node) b_is
 
-          pub child_stands_at : slot < length v.slots
-          child_stands_at =
-              subst (λ k. k < length v.slots) (sym own_slot) (child_inside width v t tree (take p.depth (bits way)) p.node whole at.stands s five bit_set)
-
-          pub child_without : has_bit (node_at v.slots slot).value_bitmap 31 ≡ false
-          child_without =
-              subst (λ k. has_bit (node_at v.slots k).value_bitmap 31 ≡ false) (sym own_slot)
-              (child_few width v t tree (take p.depth (bits way)) p.node whole at.stands s five bit_set)
+          pub child_here : (slot < length v.slots) × (has_bit (node_at v.slots slot).value_bitmap 31 ≡ false)
+          child_here =
+              subst (λ k. (k < length v.slots) × (has_bit (node_at v.slots k).value_bitmap 31 ≡ false)) (sym own_slot) (
+                child_inside width v t tree (take p.depth (bits way)) p.node whole at.stands s five bit_set,
+                child_few width v t tree (take p.depth (bits way)) p.node whole at.stands s five bit_set,
+              )
 
           -- the child, with all its places
           module _ (below : K) (c : Spot) (is_key : IsKey below)

@@ -1,5 +1,5 @@
 -- A trail stands in each array of the same nodes, and what a step along it gives.
-use Rattle.std.proofs.Common.{◌≡◌, ℕ, ◌+◌, Bool, List, [], ◌∷◌, take, map, sym, ap, ◌∙◌, Option, None, Some, is_some, true, MatchOption, IfSome}
+use Rattle.std.proofs.Common.{◌≡◌, ℕ, ◌+◌, Bool, List, [], ◌∷◌, take, map, refl, sym, ap, ◌∙◌, Option, None, Some, is_some, true, MatchOption, IfSome}
 use Rattle.std.specs.FinMap.{contains_key}
 use Rattle.prefix_trie_table.specs.declared.allocator.node.Node.{Node}
 use Rattle.prefix_trie_table.specs.declared.table.seat.Seat.{Seat}
@@ -13,20 +13,14 @@ use Rattle.prefix_trie_table.specs.Locations.{seat_of}
 use Rattle.prefix_trie_table.specs.Walking.Trails.{GivesKey}
 use Rattle.prefix_trie_table.specs.Walking.Walks.{Tree, IsTrail, IsStack, GivesSeat, start}
 use Rattle.prefix_trie_table.proofs.Lookup.Located.{stored_if}
+use Rattle.prefix_trie_table.proofs.Walk.Stacks.{spot_as}
 
 module _ {K : Type 0} (bits : K → List Bool) (width : ℕ) (IsKey IsOther : K → Type 0) (v w : Store Node) (same : v.slots ≡ w.slots) (key : K) (is : IsOther key) where
   trail_in : (n : ℕ) (ps : List Spot) → IsTrail IsKey bits width v n key ps → IsTrail IsOther bits width w n key ps
   trail_in n [] h = tt
   trail_in n (p ∷ ps) h = (
     h.0,
-    record {
-      is_key = is;
-      level = h.1.level;
-      depth_is = h.1.depth_is;
-      within = h.1.within;
-      stands = ap (λ nodes. read nodes (path_of (take p.depth (bits key)))) (sym same) ∙ h.1.stands;
-      each = h.1.each;
-    },
+    spot_as h.1 is refl (ap (λ nodes. read nodes (path_of (take p.depth (bits key)))) (sym same) ∙ h.1.stands) h.1.each,
     trail_in (n + 5) ps h.2,
   )
 

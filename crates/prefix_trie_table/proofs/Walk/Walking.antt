@@ -22,7 +22,7 @@ use Rattle.prefix_trie_table.specs.Walking.Items.{GivesFilled}
 use Rattle.prefix_trie_table.specs.Walking.Walks.{Tree, IsSpot, IsPlaceOf, IsStack, IsPassed, ArePassed, still, pending, slot_of, GivesSeat, ShapeOf, rest_of_walk, IsWalk}
 use Rattle.prefix_trie_table.specs.Tables.{IsTrie}
 use Rattle.std.specs.FinMap.{len}
-use Rattle.prefix_trie_table.proofs.Walk.Passing.{passed-above}
+use Rattle.prefix_trie_table.proofs.Walk.Stacks.{passed-above}
 use Rattle.prefix_trie_table.proofs.Tree.Trees.{read-nil}
 use Rattle.prefix_trie_table.proofs.Tree.Subtrees.{all_places}
 

@@ -1,7 +1,7 @@
 use Rattle.std.proofs.Common.{◌≡◌, ◌+◌, ◌-◌, length, refl, sym, ap, ◌∙◌, arith}
 use Rattle.prefix_trie_bits.specs.Bits.{digits, zeros}
 use Rattle.prefix_trie_bits.specs.BitStrings.{length-digits}
-use Rattle.prefix_trie_table.proofs.Walk.Spots.{same_way, child_passed, place-value, place-child, place-small, place-child-small, goes_on, lighter, value_room, gives_value, value_seated, child_room, child_stands_at, child_without, child_spot, child_still, child_lighter}
+use Rattle.prefix_trie_table.proofs.Walk.Spots.{same_way, child_passed, place-value, place-child, place-small, place-child-small, goes_on, lighter, value_room, gives_value, value_seated, child_room, child_here, child_spot, child_still, child_lighter}
 use Rattle.prefix_trie_table.specs.Locations.{value_seat}
 use Rattle.prefix_trie_table.proofs.table.spot.next_at.Goals as goal
 
@@ -70,13 +70,13 @@ pub enter-requires-clause-stands : goal.enter-requires-clause-stands
 enter-requires-clause-stands g c =
     let taken = c.in-Some.ensures.place in
     let is = place-child taken.string c.in-Child.child taken.short (sym c.in-Child.is ∙ taken.place) in
-    child_stands_at _ _ _ _ _ _ c.requires.spot (g.met.K.Key.key_laws.bits_length c.args.key c.requires.spot.is_key) taken.string c.next_place.new.self taken.first c.requires.tree.0 c.requires.tree.1 is.0 c.in-Child.child _ is.1 c.child_slot-at.ensures
+    (child_here _ _ _ _ _ _ c.requires.spot (g.met.K.Key.key_laws.bits_length c.args.key c.requires.spot.is_key) taken.string c.next_place.new.self taken.first c.requires.tree.0 c.requires.tree.1 is.0 c.in-Child.child _ is.1 c.child_slot-at.ensures).0
 
 pub enter-requires-clause-few : goal.enter-requires-clause-few
 enter-requires-clause-few g c =
     let taken = c.in-Some.ensures.place in
     let is = place-child taken.string c.in-Child.child taken.short (sym c.in-Child.is ∙ taken.place) in
-    child_without _ _ _ _ _ _ c.requires.spot (g.met.K.Key.key_laws.bits_length c.args.key c.requires.spot.is_key) taken.string c.next_place.new.self taken.first c.requires.tree.0 c.requires.tree.1 is.0 c.in-Child.child _ is.1 c.child_slot-at.ensures
+    (child_here _ _ _ _ _ _ c.requires.spot (g.met.K.Key.key_laws.bits_length c.args.key c.requires.spot.is_key) taken.string c.next_place.new.self taken.first c.requires.tree.0 c.requires.tree.1 is.0 c.in-Child.child _ is.1 c.child_slot-at.ensures).1
 
 pub returns-in-Child-clause-step : goal.returns-in-Child-clause-step
 returns-in-Child-clause-step g c =

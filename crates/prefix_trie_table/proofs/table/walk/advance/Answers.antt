@@ -2,8 +2,7 @@ use Rattle.std.proofs.Common.{◌≡◌, ◌-◌, ◌<◌, ◌∙◌, List, [], 
 use Rattle.std.proofs.Math.Seq.{take-append_seam}
 use Rattle.prefix_trie_table.specs.declared.table.spot.Spot.{Spot}
 use Rattle.prefix_trie_table.specs.Walking.Walks.{ArePassed, IsStack, pending, weight}
-use Rattle.prefix_trie_table.proofs.Walk.Passing.{passed-below, passed-above, passed-popped, passed-child}
-use Rattle.prefix_trie_table.proofs.Walk.Stacks.{trail-at, stack-popped, stack-put, stack-child_way, pending-entry, pending-child_way, pending-done, weight-deeper, weight-popped}
+use Rattle.prefix_trie_table.proofs.Walk.Stacks.{passed-below, passed-above, passed-popped, passed-child, trail-at, stack-popped, stack-put, stack-child_way, pending-entry, pending-child_way, pending-done, weight-deeper, weight-popped}
 use Rattle.prefix_trie_table.proofs.table.walk.advance.Goals as goal
 
 pub next_at-requires-clause-spot : goal.next_at-requires-clause-spot
