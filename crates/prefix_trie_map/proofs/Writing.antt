@@ -8,9 +8,9 @@ use Rattle.std.specs.declared.fmt.Debug as debug
 use Rattle.prefix_trie_bits.specs.declared.prefix.Prefix as prefix
 use Rattle.prefix_trie_bits.specs.declared.prefix.Key as key
 use Rattle.prefix_trie_table.specs.Shape.{Contents, with_value_at}
-use Rattle.prefix_trie_table.specs.Walking.Trails.{IsTrailIn, IsTrailIn-prop, GivesKey, keys_to_come, trail_sites}
+use Rattle.prefix_trie_table.specs.Walking.Trails.{IsTrailIn, IsTrailIn-prop, GivesKey, keys_to_come}
 use Rattle.prefix_trie_table.specs.declared.table.trail.Trail.{Trail}
-use Rattle.prefix_trie_table.proofs.Walk.ToCome.{pending_again}
+use Rattle.prefix_trie_table.proofs.Walk.KeySets.{pending_again}
 use Rattle.prefix_trie_map.specs.declared.map.writing.course.Course.{Course}
 use Rattle.prefix_trie_map.specs.declared.map.writing.course.Stop.{Stop}
 use Rattle.prefix_trie_map.specs.Writing.{keys_left, as_walk, key_at, StopsAt, HasValueAt, with_written, IsFirst, GoesOver, ComesToEnd, StartsOver}
@@ -35,7 +35,7 @@ module _ {P T A R : Type 0} {p : prefix.Ghosts P R} {shows : debug.Ghosts P} {k 
     key = key_at gone stop;
     passes = λ lent. (
       record (as_walk c lent) { to_come = keys_left (with_written gone stop value); lent = Some (key_at gone stop) },
-      (gives.first ∙ ap (λ ks. key_at gone stop ∷ ks) (sym (pending_again c.map.now.entries (key_at gone stop) value stored k.bits (trail_sites trail))), refl),
+      (gives.first ∙ ap (λ ks. key_at gone stop ∷ ks) (sym (pending_again c.map.now.entries (key_at gone stop) value stored k.bits trail.key trail.stack.items)), refl),
       (key_at gone stop, refl, refl),
     );
     stored = stored;

@@ -1,6 +1,5 @@
 -- Walks over entries, those that start at a string, and those that write or take values out.
 pub mod Stacks
-pub mod Passing
 pub mod Spots
 pub mod Walking
 pub mod Selected
@@ -9,6 +8,4 @@ pub mod Skipping
 pub mod KeySets
 pub mod Seats
 pub mod Taking
-pub mod CopiedWalks
 pub mod Trails
-pub mod ToCome

@@ -3,7 +3,7 @@ use Rattle.std.proofs.Common.{◌≡◌, ℕ, ◌+◌, ◌*◌, ◌<◌, ◌≤�
 use Rattle.std.specs.Option.{option_or}
 use Rattle.std.proofs.Math.Nat.{add-mul, one-mul}
 use Rattle.std.proofs.lemmas.Bool.{cases_eq}
-use Rattle.std.proofs.lemmas.List.{append_assoc, map-append, length_push, length-take-le, take_more, take_more_set, drop-drop, get_or_default, get_or-map, get_or-drop, get_or-take, get_or-set_same, get_or-set_other}
+use Rattle.std.proofs.lemmas.List.{length-map, append_assoc, map-append, length_push, length-take-le, take_more, take_more_set, drop-drop, get_or_default, get_or-map, get_or-drop, get_or-take, get_or-set_same, get_or-set_other}
 use Rattle.std.proofs.lemmas.List.Elements.{All-nil, All-push, Contains-append_cases, Contains-append_left, Contains-append_right, Contains-push_cases}
 use Rattle.std.proofs.lemmas.List.Sums.{sum_by_push}
 use Rattle.prefix_trie_table.specs.declared.allocator.node.Node.{Node}
@@ -214,3 +214,10 @@ module _ {K : Type 0} (bits : K → List Bool) (v : Store Node) (questions : Lis
             (subst (λ l. GoOn bits v questions level (take j ways ++ get_or now j d ∷ []) l before found) (sym (ap (λ n. take n later) same_kept ∙ ap (take kept) same_ways))
             (subst (λ f. GoOn bits v questions level (take j ways ++ get_or now j d ∷ []) (take kept now) before f) (sym put)
             (go_on_end before (take j ways) (take kept now) after go (get_or now j d) q best (way_is d).inside long is has given.sound (end given.sound))))
+
+-- the question of a way of a round is one of those asked for prefixes
+pub way_inside : {P K : Type 0} (bits : K → List Bool) (v : Store Node) (number : P → K) (len : P → ℕ) (prefixes : List P) (level : ℕ) (ways : List Way) (count : ℕ) (read : List Node) (long : count ≤ length ways)
+    → AreRead bits v (questions_of number len prefixes) level (take count ways) read → (now : List Way) (j : ℕ) → drop j now ≡ drop j ways → j < count → (d : Way) → (get_or now j d).question < length prefixes
+way_inside bits v number len prefixes level ways count read long given now j same inside d =
+    let is = (way_is bits v (questions_of number len prefixes) level ways count read long given now j same inside d).inside in
+    omega (arith, is, length-map prefixes (asks number len))

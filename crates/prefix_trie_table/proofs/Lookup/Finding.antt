@@ -82,15 +82,6 @@ module _ (b : List Bool) (len level slot : ℕ) (node : Node) (v : Store Node) (
   pub reached_none : 5 * level + 5 ≤ len → reading (path_of (take len b)) ≡ None
   reached_none more = none_below reading paths v (path_of (take len b)) level hold reached_end (step-inside b len level at.long more)
 
-  -- no value where the node is missing
-  pub no_seat_below : 5 * level + 5 ≤ len → has_value (reading (path_of (take len b))) (bit_of (take len b)) ≡ false
-  no_seat_below more = ap (λ o. has_value o (bit_of (take len b))) (reached_none more)
-
-  module _ (less : len < 5 * level + 5) (x : ℕ) (small : x < 31) (read : x ≡ value_bit (drop (5 * level) (take len b))) where
-    -- no value where the bit that the code reads is clear
-    pub no_seat_here : has node.value_bitmap x ≡ false → has_value (reading (path_of (take len b))) (bit_of (take len b)) ≡ false
-    no_seat_here clear = ap (λ o. has_value o (bit_of (take len b))) (reached_own less) ∙ bit_set b len level slot node v at less x small read ∙ clear
-
 module _ {T : Type 0} (b : List Bool) (len level slot : ℕ) (node : Node) (v : Store Node) (at : IsReached b len level node slot v)
     (reading : List ℕ → Option Node) (values : List ℕ → ℕ → Option T) (paths : List (List ℕ)) (w : Store (Option T))
     (holds : Holds reading values paths v w) where

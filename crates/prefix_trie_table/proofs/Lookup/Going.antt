@@ -10,6 +10,7 @@ use Rattle.prefix_trie_table.specs.Cells.{node_at, node_sizes}
 use Rattle.prefix_trie_table.specs.Digits.{path_of, bit_of}
 use Rattle.prefix_trie_table.specs.Matching.{IsOnWay}
 use Rattle.prefix_trie_table.specs.Store.{Store}
+use Rattle.prefix_trie_table.specs.declared.table.lookup.Reached.{Reached}
 use Rattle.prefix_trie_table.specs.Forest.{IsSlot, at_root, at_child, child_slot, NodesHold, Deepest, IsEnd, has_child, node_or_blank}
 use Rattle.prefix_trie_table.proofs.Strings.Bits.{has_bit-is, rank-ones}
 use Rattle.prefix_trie_table.proofs.Strings.Digits.{path-length, step-is, rest-is}
@@ -120,16 +121,39 @@ module _ (b : List Bool) (len level slot : ℕ) (node : Node) (v : Store Node) (
 pub on_way_down : (b : List Bool) (len level slot : ℕ) (node : Node) (v : Store Node) → IsOnWay b len level node slot v → IsDown (path_of (take len b)) len level node slot v
 on_way_down b len level slot node v at = record { whole = at.whole; node_is = at.node_is; deepest = at.deepest }
 
--- the bits behind the next five are those behind its child
-pub rest_next : (b r q : List Bool) (len level next : ℕ) → IsRest b (5 * level) r → len ≤ length b → 5 * next ≤ len → next ≡ level + 1
-    → q ≡ drop 5 r ++ zeros 5 → IsRest b (5 * next) q
-rest_next b r q len level next rest long whole is behind =
-    let more : 5 * level + 5 ≡ 5 * next = omega arith in
-    subst (λ d. IsRest b d q) more (rest_behind b r q (5 * level) 5 rest (omega arith) behind)
+-- a way was followed to here: the bits behind it are those of a key in hand, and each node on it was met once
+pub record IsFollowed {K : Type 0} (IsKey : K → Type 0) (bits : K → List Bool) (key : K) (len : ℕ) (here : Reached) (v : Store Node) (rest : K) (before now : ℕ) : Type 0 where
+  pub on_way : IsOnWay (bits key) len here.level here.node (here.at.start + here.at.place) v
+  pub is_key : IsKey rest
+  pub behind : IsRest (bits key) (5 * here.level) (bits rest)
+  pub counted : now ≡ before + (here.level + 1)
 
--- at the root they are all
-pub rest_root : (b : List Bool) (level : ℕ) → level ≡ 0 → IsRest b (5 * level) b
-rest_root b level top = subst (λ n. IsRest b (5 * n) b) (sym top) (rest_whole b)
+module _ {K : Type 0} (IsKey : K → Type 0) (bits : K → List Bool) (key : K) (len : ℕ) (here : Reached) (v : Store Node) where
+  -- at the root
+  pub followed_root : (width : ℕ) → IsKey key → length (bits key) ≡ width → len ≤ width → here.level ≡ 0
+      → ((b : List Bool) (n : ℕ) → n ≤ length b → IsOnWay b n here.level here.node (here.at.start + here.at.place) v)
+      → (before now : ℕ) → now ≡ before + 1 → IsFollowed IsKey bits key len here v key before now
+  followed_root width is_key long within top on_way before now met = record {
+    on_way = on_way (bits key) len (key_long (length (bits key)) len width long within);
+    is_key = is_key;
+    behind = subst (λ n. IsRest (bits key) (5 * n) (bits key)) (sym top) (rest_whole (bits key));
+    counted = omega (arith, top, met);
+  }
+
+  -- the bits behind the next five are those behind its child
+  pub followed_next : (rest : K) (before now : ℕ) → IsFollowed IsKey bits key len here v rest before now → (next : Reached)
+      → (next.level ≡ here.level + 1) × IsOnWay (bits key) len next.level next.node (next.at.start + next.at.place) v
+      → (later : K) → IsKey later → bits later ≡ drop 5 (bits rest) ++ zeros 5 → (after : ℕ) → after ≡ now + 1 → IsFollowed IsKey bits key len next v later before after
+  followed_next rest before now at next step later is_key shifted after met =
+      let long = step.1.long in
+      let whole = step.1.whole in
+      let more : 5 * here.level + 5 ≡ 5 * next.level = omega (arith, step.0) in
+      record {
+        on_way = step.1;
+        is_key = is_key;
+        behind = subst (λ d. IsRest (bits key) d (bits later)) more (rest_behind (bits key) (bits rest) (bits later) (5 * here.level) 5 at.behind (omega (arith, long, whole, more)) shifted);
+        counted = omega (arith, met, step.0, at.counted);
+      }
 
 -- the bit that the code reads of them is that of the next step, and the child there the next node
 module _ (b : List Bool) (len level slot : ℕ) (node : Node) (v : Store Node) (at : IsOnWay b len level node slot v) (r : List Bool) (rest : IsRest b (5 * level) r)

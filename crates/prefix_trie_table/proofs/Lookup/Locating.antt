@@ -20,7 +20,7 @@ use Rattle.prefix_trie_table.proofs.Strings.BitLists.{rank-same}
 use Rattle.prefix_trie_table.proofs.Tree.Children.{same_number, other_number, with_here, with_other}
 use Rattle.prefix_trie_table.proofs.Strings.Digits.{bit_of-small}
 use Rattle.prefix_trie_table.proofs.Insertion.Inserting.{few_values, reached_still}
-use Rattle.prefix_trie_table.proofs.Lookup.Finding.{reached_own, no_seat_below, no_seat_here, bit_set}
+use Rattle.prefix_trie_table.proofs.Lookup.Finding.{reached_none, reached_own, bit_set}
 use Rattle.prefix_trie_table.proofs.Lookup.Going.{bit-read}
 use Rattle.prefix_trie_table.proofs.Strings.Paths.{snoc_not_same}
 use Rattle.prefix_trie_table.proofs.Strings.Placing.{below_node}
@@ -99,7 +99,8 @@ module _ (b : List Bool) (len level slot : ℕ) (node : Node) (v : Store Node) (
     (paths : List (List ℕ)) (hold : NodesHold node_sizes reading paths v) where
   -- no seat where the node is missing
   pub located_below : 5 * level + 5 ≤ len → seat_of v.slots (take len b) ≡ None
-  located_below more = no_seat v reading paths hold (take len b) (no_seat_below b len level slot node v at reading paths hold more)
+  located_below more = no_seat v reading paths hold (take len b)
+      (ap (λ o. has_value o (bit_of (take len b))) (reached_none b len level slot node v at reading paths hold more))
 
   -- where there is none the bit is clear
   pub missing_bit : seat_of v.slots (take len b) ≡ None → len < 5 * level + 5 → has_bit node.value_bitmap (bit_of (take len b)) ≡ false
@@ -116,7 +117,9 @@ module _ (b : List Bool) (len level slot : ℕ) (node : Node) (v : Store Node) (
   module _ (less : len < 5 * level + 5) (x : ℕ) (small : x < 31) (read : x ≡ value_bit (drop (5 * level) (take len b))) where
     -- none where the bit that the code reads is clear
     pub located_none : has node.value_bitmap x ≡ false → seat_of v.slots (take len b) ≡ None
-    located_none clear = no_seat v reading paths hold (take len b) (no_seat_here b len level slot node v at reading paths hold less x small read clear)
+    located_none clear = no_seat v reading paths hold (take len b)
+        (ap (λ o. has_value o (bit_of (take len b))) (reached_own b len level slot node v at reading paths hold less)
+        ∙ bit_set b len level slot node v at less x small read ∙ clear)
 
     -- the seat where it is set
     pub located_here : has node.value_bitmap x ≡ true → (seat : Seat) → seat ≡ value_seat node x → seat_of v.slots (take len b) ≡ Some seat

@@ -30,12 +30,6 @@ some_at : {X : Type 0} (xs : List X) (i : ℕ) → i < length xs → (x : X) × 
 some_at [] i inside = absurd (omega (arith, inside))
 some_at (x ∷ xs) i inside = (get_or (x ∷ xs) i x, get_or_default (x ∷ xs) i x (get_or (x ∷ xs) i x) inside)
 
--- what is asked for prefixes that fit can be asked
-pub can_ask_each : {P K : Type 0} (number : P → K) (len : P → ℕ) (IsFitting : P → Type 0) (IsKey : K → Type 0) (width : ℕ) → ((p : P) → IsFitting p → CanAsk IsKey width (asks number len p))
-    → (prefixes : List P) → All IsFitting prefixes → All (CanAsk IsKey width) (questions_of number len prefixes)
-can_ask_each number len IsFitting IsKey width can prefixes fit =
-    All-map (CanAsk IsKey width) (asks number len) prefixes (λ k d inside. can (get_or prefixes k d) (fit k d inside))
-
 -- ---- before the first round
 
 module _ (ways : List Way) where
@@ -61,12 +55,17 @@ module _ (ways : List Way) where
       ∙ ap₂ (λ a w. a + cost_of costs w) earlier (new_at (suc n) long new n (omega arith) (new_way n))
       ∙ sym (ap (λ k. sum (take k costs)) more ∙ ap sum (take_more costs n 0 (omega (arith, costed))) ∙ sum_by_push (λ x. x) (take n costs) (get_or costs n 0))
 
-module _ {K : Type 0} (bits : K → List Bool) (IsKey : K → Type 0) (width : ℕ) (laws : (k : K) → IsKey k → length (bits k) ≡ width) (v : Store Node) (questions : List (K × ℕ))
-    (ask : All (CanAsk IsKey width) questions) where
-  can_ask : (i : ℕ) (q : K × ℕ) → i < length questions → q ≡ get_or questions i q → CanAsk IsKey width q
-  can_ask i q inside is = subst (CanAsk IsKey width) (sym is) (ask i q inside)
+module _ {P K : Type 0} (number : P → K) (len : P → ℕ) (IsFitting : P → Type 0) (IsKey : K → Type 0) (width : ℕ) (can : (p : P) → IsFitting p → CanAsk IsKey width (asks number len p))
+    (bits : K → List Bool) (laws : (k : K) → IsKey k → length (bits k) ≡ width) (v : Store Node) (prefixes : List P) (fit : All IsFitting prefixes) where
+  abbrev questions : List (K × ℕ)
+  questions = questions_of number len prefixes
 
-  new_is_way : (i : ℕ) → i < length questions → IsWay bits v questions 0 (new_way i)
+  -- what is asked for prefixes that fit can be asked
+  can_ask : (i : ℕ) (q : K × ℕ) → i < length questions → q ≡ get_or questions i q → CanAsk IsKey width q
+  can_ask i q inside is =
+      subst (CanAsk IsKey width) (sym is) (All-map (CanAsk IsKey width) (asks number len) prefixes (λ k d inside. can (get_or prefixes k d) (fit k d inside)) i q inside)
+
+  new_is_way : (i : ℕ) → i < length (questions_of number len prefixes) → IsWay bits v (questions_of number len prefixes) 0 (new_way i)
   new_is_way i inside =
       let q = some_at questions i inside in
       let can = can_ask i q.0 inside q.1 in
@@ -84,38 +83,39 @@ module _ {K : Type 0} (bits : K → List Bool) (IsKey : K → Type 0) (width : �
         best = λ reading paths hold. (None, λ i from last within. absurd (omega (arith, last)), refl);
       }
 
-  pub new_ways : (ways : List Way) (n : ℕ) → n ≤ length ways → n ≤ length questions → EachOf IsNew n ways → All (IsWay bits v questions 0) (take n ways)
+  pub new_ways : (ways : List Way) (n : ℕ) → n ≤ length ways → n ≤ length prefixes → EachOf IsNew n ways → All (IsWay bits v (questions_of number len prefixes) 0) (take n ways)
   new_ways ways n long asked new i d inside =
       let within : i < n = omega (arith, inside, length-take-le n ways long) in
-      subst (IsWay bits v questions 0) (sym (get_or-take n ways i d within ∙ new_at ways n long new i within d)) (new_is_way i (omega (arith, within, asked)))
+      subst (IsWay bits v (questions_of number len prefixes) 0) (sym (get_or-take n ways i d within ∙ new_at ways n long new i within d)) (new_is_way i (omega (arith, within, asked, length-map prefixes (asks number len))))
 
-  -- ---- from one round to the next
+  -- a way is no deeper than its question is long
+  pub level_fits : (level : ℕ) (ways : List Way) (n : ℕ) → n ≤ length ways → All (IsWay bits v (questions_of number len prefixes) level) (take n ways) → 0 < n → 5 * level ≤ width
+  level_fits level ways n long all some =
+      let is = all 0 (new_way 0) (omega (arith, some, length-take-le n ways long)) in
+      let can = can_ask _ is.question is.inside is.is in
+      let whole = is.on_way.whole in
+      let short = can.1 in
+      omega (arith, whole, short)
 
-  module _ (level : ℕ) (ways : List Way) (n : ℕ) (long : n ≤ length ways) (all : All (IsWay bits v questions level) (take n ways)) where
-    -- the nodes ahead stand in the array
-    pub ahead_inside : SomeNodes v → All (λ w. slot_of w < length v.slots) (take n ways)
-    ahead_inside s i d inside =
-        let w : Way = get_or (take n ways) i d in
-        let is = all i d inside in
-        deepest_in s.reading s.paths v (path_of (take is.question.1 (bits is.question.0))) level (slot_of w) s.hold (is.on_way.deepest s.reading s.paths s.hold)
+-- ---- from one round to the next
 
-    -- a way is no deeper than its question is long
-    pub level_fits : 0 < n → 5 * level ≤ width
-    level_fits some =
-        let is = all 0 (new_way 0) (omega (arith, some, length-take-le n ways long)) in
-        let can = can_ask _ is.question is.inside is.is in
-        let whole = is.on_way.whole in
-        let short = can.1 in
-        omega (arith, whole, short)
+module _ {K : Type 0} (bits : K → List Bool) (v : Store Node) (questions : List (K × ℕ)) (level : ℕ) (ways : List Way) (n : ℕ) (long : n ≤ length ways)
+    (all : All (IsWay bits v questions level) (take n ways)) where
+  -- the nodes ahead stand in the array
+  pub ahead_inside : SomeNodes v → All (λ w. slot_of w < length v.slots) (take n ways)
+  ahead_inside s i d inside =
+      let w : Way = get_or (take n ways) i d in
+      let is = all i d inside in
+      deepest_in s.reading s.paths v (path_of (take is.question.1 (bits is.question.0))) level (slot_of w) s.hold (is.on_way.deepest s.reading s.paths s.hold)
 
-    pub are_read : SomeNodes v → (read : List Node) → EachOf (IsAhead v.slots ways) n read → AreRead bits v questions level (take n ways) read
-    are_read s read each = record {
-      sound = s;
-      ways_are = all;
-      nodes_are = λ i x inside is w w_is.
-          let within : i < n = omega (arith, inside, length-take-le n ways long) in
-          each i x within is w (w_is ∙ get_or-take n ways i w within);
-    }
+  pub are_read : SomeNodes v → (read : List Node) → EachOf (IsAhead v.slots ways) n read → AreRead bits v questions level (take n ways) read
+  are_read s read each = record {
+    sound = s;
+    ways_are = all;
+    nodes_are = λ i x inside is w w_is.
+        let within : i < n = omega (arith, inside, length-take-le n ways long) in
+        each i x within is w (w_is ∙ get_or-take n ways i w within);
+  }
 
 -- the sums before the first round, from one to the next, and after the last
 pub sums_first : (C S Z n : ℕ) → S ≡ Z → C + S ≡ C + Z + n * 0

@@ -4,13 +4,14 @@ use Rattle.std.proofs.lemmas.List.{length-set}
 use Rattle.std.specs.FinMap.{len}
 use Rattle.prefix_trie_bits.specs.Model.Step.{State}
 use Rattle.prefix_trie_table.specs.declared.allocator.node.Node.{Node}
+use Rattle.prefix_trie_table.specs.declared.table.spot.Spot.{Spot}
 use Rattle.prefix_trie_table.specs.declared.table.seat.Seat.{Seat}
 use Rattle.prefix_trie_table.specs.Locations.{seat_of}
 use Rattle.prefix_trie_table.specs.HandingOut.Moving.{filled_with, Awaits, HasCome}
 use Rattle.prefix_trie_table.specs.Slots.{with_cell}
 use Rattle.prefix_trie_table.specs.Store.{Store}
 use Rattle.prefix_trie_table.specs.Tables.{IsTrie}
-use Rattle.prefix_trie_table.specs.Walking.Walks.{Tree, KeyedSpot, IsStack, pending, slot_of, GivesSeat}
+use Rattle.prefix_trie_table.specs.Walking.Walks.{Tree, IsStack, pending, slot_of, GivesSeat}
 
 module _ {T : Type 0} where
   long_cell : (w : Store (Option T)) (o : Option Seat) (x : T) → length (with_cell w o x).slots ≡ length w.slots
@@ -28,30 +29,30 @@ module _ {T : Type 0} where
   same_first : (e f : List Bool × T) (es fs : List (List Bool × T)) → e ∷ es ≡ f ∷ fs → (e.0 ≡ f.0) × (es ≡ fs)
   same_first e f es fs h = (cc, cc)
 
-  module _ {K : Type 0} (IsKey : K → Type 0) (bits : K → List Bool) (width : ℕ) (v : Store Node) (w : Store (Option T)) (ps : List (KeyedSpot K)) (q : List Bool) (x : T) where
-    module _ (shape : State T) (later : List (List Bool × T)) (at : Awaits IsKey bits width shape v w ps ((q, x) ∷ later)) where
+  module _ {K : Type 0} (IsKey : K → Type 0) (bits : K → List Bool) (width : ℕ) (v : Store Node) (w : Store (Option T)) (way : K) (ps : List Spot) (q : List Bool) (x : T) where
+    module _ (shape : State T) (later : List (List Bool × T)) (at : Awaits IsKey bits width shape v w way ps ((q, x) ∷ later)) where
       -- the table with all its values
       abbrev pub whole_tree : Tree T
       whole_tree = record { count = len shape.entries; cells = filled_with v.slots ((q, x) ∷ later) w; shape = shape }
 
       -- a value is to come
-      pub some_comes : pending bits shape.entries ps ≡ [] → ⊥
+      pub some_comes : pending bits shape.entries way ps ≡ [] → ⊥
       some_comes none = none_left (q, x) later (sym none ∙ at.come)
 
       -- its seat is in the array
-      pub seat_inside : (qs : List (KeyedSpot K)) (key : K) (size : ℕ) (seat : Seat) →
-          GivesSeat IsKey bits width whole_tree key size seat (pending bits shape.entries ps) (pending bits shape.entries qs) → slot_of seat < length w.slots
-      seat_inside qs key size seat h = let inside = h.stands in omega (arith, inside, long_cells v.slots ((q, x) ∷ later) w)
+      pub seat_inside : (next : K) (qs : List Spot) (key : K) (size : ℕ) (seat : Seat) →
+          GivesSeat IsKey bits width whole_tree key size seat (pending bits shape.entries way ps) (pending bits shape.entries next qs) → slot_of seat < length w.slots
+      seat_inside next qs key size seat h = let inside = h.stands in omega (arith, inside, long_cells v.slots ((q, x) ∷ later) w)
 
-    module _ (qs : List (KeyedSpot K)) (key : K) (size : ℕ) (seat : Seat)
+    module _ (next : K) (qs : List Spot) (key : K) (size : ℕ) (seat : Seat)
         (gives : (t : Tree T) → IsTrie width t.count v t.cells t.shape →
-        GivesSeat IsKey bits width t key size seat (pending bits t.shape.entries ps) (pending bits t.shape.entries qs))
-        (found : seat_of v.slots (take size (bits key)) ≡ Some seat) (stack : IsStack IsKey bits width v qs)
+        GivesSeat IsKey bits width t key size seat (pending bits t.shape.entries way ps) (pending bits t.shape.entries next qs))
+        (found : seat_of v.slots (take size (bits key)) ≡ Some seat) (stack : IsStack IsKey bits width v next qs)
         (w2 : Store (Option T)) (put : w2 ≡ record w { slots = set w.slots (slot_of seat) (Some x) }) where
-      goes_on : (shape : State T) (later : List (List Bool × T)) → Awaits IsKey bits width shape v w ps ((q, x) ∷ later) → Awaits IsKey bits width shape v w2 qs later
+      goes_on : (shape : State T) (later : List (List Bool × T)) → Awaits IsKey bits width shape v w way ps ((q, x) ∷ later) → Awaits IsKey bits width shape v w2 next qs later
       goes_on shape later at =
           let h = gives (whole_tree shape later at) at.trie in
-          let same = same_first (q, x) (take size (bits key), h.value) later (pending bits shape.entries qs) (sym at.come ∙ h.gives.first) in
+          let same = same_first (q, x) (take size (bits key), h.value) later (pending bits shape.entries next qs) (sym at.come ∙ h.gives.first) in
           let here : seat_of v.slots q ≡ Some seat = ap (seat_of v.slots) same.0 ∙ found in
           let filled : filled_with v.slots ((q, x) ∷ later) w ≡ filled_with v.slots later w2 =
           ap (λ o. filled_with v.slots later (with_cell w o x)) here ∙ sym (ap (filled_with v.slots later) put) in
@@ -62,7 +63,7 @@ module _ {T : Type 0} where
           }
 
       -- and there it stands then
-      pub has_come : HasCome IsKey bits width v v w w2 ps qs q x
+      pub has_come : HasCome IsKey bits width v v w w2 way ps next qs q x
       has_come = record {
         nodes = refl;
         cells = put ∙ sym (ap (λ (y : Store (Option T)). record w { slots = y.slots }) put);

@@ -9,12 +9,13 @@ use Rattle.prefix_trie_bits.specs.Model.Step.{State}
 use Rattle.prefix_trie_bits.proofs.Model.Members.{same_entries, get-part_below}
 use Rattle.prefix_trie_bits.proofs.Model.Ordered.{entries-retained}
 use Rattle.prefix_trie_table.specs.declared.allocator.node.Node.{Node}
+use Rattle.prefix_trie_table.specs.declared.table.spot.Spot.{Spot}
 use Rattle.prefix_trie_table.specs.HandingOut.Moving.{filled_with, handed, Awaits, AwaitsNext, HasCome}
 use Rattle.prefix_trie_table.specs.Retaining.{AsksUpTo}
 use Rattle.prefix_trie_table.specs.HandingOut.Skeleton.{IsSecond}
 use Rattle.prefix_trie_table.specs.Store.{Store}
 use Rattle.prefix_trie_table.specs.Tables.{IsTrie}
-use Rattle.prefix_trie_table.specs.Walking.Walks.{Tree, KeyedSpot, IsStack, pending}
+use Rattle.prefix_trie_table.specs.Walking.Walks.{Tree, IsStack, pending}
 use Rattle.prefix_trie_table.proofs.Moving.Second.{second_trie}
 
 module _ {T : Type 0} (m : Entries T) (q : List Bool) where
@@ -37,17 +38,17 @@ module _ {T : Type 0} (m : Entries T) (q : List Bool) where
 
 module _ {K T : Type 0} (IsKey : K → Type 0) (bits : K → List Bool) (width : ℕ) where
   -- the arrays are those that were laid but for the values that have come, and wait for the rest
-  pub record Fills (shape : State T) (laid : Store Node) (vacant : Store (Option T)) (v : Store Node) (w : Store (Option T)) (ps : List (KeyedSpot K))
+  pub record Fills (shape : State T) (laid : Store Node) (vacant : Store (Option T)) (v : Store Node) (w : Store (Option T)) (key : K) (ps : List Spot)
       (rest : List (List Bool × T)) : Type 0 where
     pub nodes : v ≡ laid
     pub cells : w ≡ record vacant { slots = w.slots }
-    pub awaits : Awaits IsKey bits width shape v w ps rest
+    pub awaits : Awaits IsKey bits width shape v w key ps rest
 
   -- one value more
-  pub fills_next : (shape : State T) (laid : Store Node) (vacant : Store (Option T)) (v v2 : Store Node) (w w2 : Store (Option T)) (ps ps2 : List (KeyedSpot K))
-      (e : List Bool × T) (rest : List (List Bool × T)) → Fills shape laid vacant v w ps (e ∷ rest) → HasCome IsKey bits width v v2 w w2 ps ps2 e.0 e.1 →
-      Fills shape laid vacant v2 w2 ps2 rest
-  fills_next shape laid vacant v v2 w w2 ps ps2 e rest h came = record {
+  pub fills_next : (shape : State T) (laid : Store Node) (vacant : Store (Option T)) (v v2 : Store Node) (w w2 : Store (Option T)) (key : K) (ps : List Spot) (key2 : K) (ps2 : List Spot)
+      (e : List Bool × T) (rest : List (List Bool × T)) → Fills shape laid vacant v w key ps (e ∷ rest) → HasCome IsKey bits width v v2 w w2 key ps key2 ps2 e.0 e.1 →
+      Fills shape laid vacant v2 w2 key2 ps2 rest
+  fills_next shape laid vacant v v2 w w2 key ps key2 ps2 e rest h came = record {
     nodes = came.nodes ∙ h.nodes;
     cells = came.cells ∙ ap (λ (x : Store (Option T)). record x { slots = w2.slots }) h.cells;
     awaits = came.goes_on shape rest h.awaits;
@@ -55,10 +56,10 @@ module _ {K T : Type 0} (IsKey : K → Type 0) (bits : K → List Bool) (width :
 
   -- before the first
   fills_start : (count : ℕ) (v : Store Node) (w : Store (Option T)) (s : State T) → IsTrie width count v w s → (q : List Bool) (laid : Store Node) (vacant : Store (Option T)) →
-      IsSecond q v laid vacant → (ps : List (KeyedSpot K)) → IsStack IsKey bits width laid ps →
-      ((t : Tree T) → IsTrie width t.count laid t.cells t.shape → pending bits t.shape.entries ps ≡ listing_below t.shape.entries q) →
-      Fills (handed s q) laid vacant laid vacant ps (listing_below s.entries q)
-  fills_start count v w s trie q laid vacant second ps stack rest =
+      IsSecond q v laid vacant → (key : K) (ps : List Spot) → IsStack IsKey bits width laid key ps →
+      ((t : Tree T) → IsTrie width t.count laid t.cells t.shape → pending bits t.shape.entries key ps ≡ listing_below t.shape.entries q) →
+      Fills (handed s q) laid vacant laid vacant key ps (listing_below s.entries q)
+  fills_start count v w s trie q laid vacant second key ps stack rest =
       let whole = second_trie width count v w s trie q laid vacant second in
       record {
         nodes = refl;
@@ -76,16 +77,16 @@ module _ {K T : Type 0} (IsKey : K → Type 0) (bits : K → List Bool) (width :
 
   -- ---- a test that says no at each entry, and to which its value comes then
 
-  module _ {F : Type 0} (nodes : F → Store Node) (cells : F → Store (Option T)) (spots : F → List (KeyedSpot K)) where
+  module _ {F : Type 0} (nodes : F → Store Node) (cells : F → Store (Option T)) (key : F → K) (spots : F → List Spot) where
     abbrev Waits : F → List Bool → T → Type 0
-    Waits f q x = AwaitsNext IsKey bits width (nodes f) (cells f) (spots f) q x
+    Waits f q x = AwaitsNext IsKey bits width (nodes f) (cells f) (key f) (spots f) q x
 
     abbrev Takes : F → List Bool → T → Bool → F → Type 0
-    Takes f q x answer g = (answer ≡ false) × HasCome IsKey bits width (nodes f) (nodes g) (cells f) (cells g) (spots f) (spots g) q x
+    Takes f q x answer g = (answer ≡ false) × HasCome IsKey bits width (nodes f) (nodes g) (cells f) (cells g) (key f) (spots f) (key g) (spots g) q x
 
     module _ (shape : State T) (laid : Store Node) (vacant : Store (Option T)) where
       abbrev FillsFrom : F → List (List Bool × T) → Type 0
-      FillsFrom f rest = Fills shape laid vacant (nodes f) (cells f) (spots f) rest
+      FillsFrom f rest = Fills shape laid vacant (nodes f) (cells f) (key f) (spots f) rest
 
       -- it may be asked at each
       may_fill : (f : F) (es : List (List Bool × T)) → FillsFrom f es → MayAskInOrder Takes Waits f es
@@ -93,7 +94,7 @@ module _ {K T : Type 0} (IsKey : K → Type 0) (bits : K → List Bool) (width :
       may_fill f (e ∷ es) h = (
         record { shape = shape; later = es; awaits = h.awaits },
         λ b g asked. may_fill g es
-            (fills_next shape laid vacant (nodes f) (nodes g) (cells f) (cells g) (spots f) (spots g) e es h asked.1),
+            (fills_next shape laid vacant (nodes f) (nodes g) (cells f) (cells g) (key f) (spots f) (key g) (spots g) e es h asked.1),
       )
 
       -- and once it was, no value is missing
@@ -101,17 +102,17 @@ module _ {K T : Type 0} (IsKey : K → Type 0) (bits : K → List Bool) (width :
       all_filled f g [] h same = subst (λ x. FillsFrom x []) (sym same) h
       all_filled f g (e ∷ es) h asked =
           all_filled asked.1 g es
-          (fills_next shape laid vacant (nodes f) (nodes asked.1) (cells f) (cells asked.1) (spots f) (spots asked.1) e es h asked.2.1) asked.3
+          (fills_next shape laid vacant (nodes f) (nodes asked.1) (cells f) (cells asked.1) (key f) (spots f) (key asked.1) (spots asked.1) e es h asked.2.1) asked.3
 
     -- from where nothing has come, with all that q begins to come
     module _ (count : ℕ) (v : Store Node) (w : Store (Option T)) (s : State T) (trie : IsTrie width count v w s) (q : List Bool) (f : F)
-        (second : IsSecond q v (nodes f) (cells f)) (stack : IsStack IsKey bits width (nodes f) (spots f))
-        (rest : (t : Tree T) → IsTrie width t.count (nodes f) t.cells t.shape → pending bits t.shape.entries (spots f) ≡ listing_below t.shape.entries q) where
-      start : Fills (handed s q) (nodes f) (cells f) (nodes f) (cells f) (spots f) (listing_below s.entries q)
-      start = fills_start count v w s trie q (nodes f) (cells f) second (spots f) stack rest
+        (second : IsSecond q v (nodes f) (cells f)) (stack : IsStack IsKey bits width (nodes f) (key f) (spots f))
+        (rest : (t : Tree T) → IsTrie width t.count (nodes f) t.cells t.shape → pending bits t.shape.entries (key f) (spots f) ≡ listing_below t.shape.entries q) where
+      start : Fills (handed s q) (nodes f) (cells f) (nodes f) (cells f) (key f) (spots f) (listing_below s.entries q)
+      start = fills_start count v w s trie q (nodes f) (cells f) second (key f) (spots f) stack rest
 
       pub may_move : MayAskInOrder Takes Waits f (listing_below s.entries q)
       may_move = may_fill (handed s q) (nodes f) (cells f) f (listing_below s.entries q) start
 
-      pub all_moved : (g : F) → AsksUpTo Takes f (listing_below s.entries q) g → Fills (handed s q) (nodes f) (cells f) (nodes g) (cells g) (spots g) []
+      pub all_moved : (g : F) → AsksUpTo Takes f (listing_below s.entries q) g → Fills (handed s q) (nodes f) (cells f) (nodes g) (cells g) (key g) (spots g) []
       all_moved g = all_filled (handed s q) (nodes f) (cells f) f g (listing_below s.entries q) start

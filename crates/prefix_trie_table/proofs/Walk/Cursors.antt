@@ -1,14 +1,14 @@
 -- The stack of a walk that starts at a bit string.
-use Rattle.std.proofs.Common.{◌≡◌, ◌≢◌, ℕ, ◌+◌, ◌*◌, ◌^◌, ◌%◌, ◌<◌, ◌≤◌, Bool, true, false, not, ◌&&◌, List, [], ◌∷◌, ◌++◌, length, take, drop, filter, Some, inl, inr, refl, sym, ap, ap₂, ◌∙◌, subst, arith, length-append, length-drop, bit_and, append-nil, append_assoc}
+use Rattle.std.proofs.Common.{◌≡◌, ◌≢◌, ℕ, ◌+◌, ◌*◌, ◌^◌, ◌%◌, ◌<◌, ◌≤◌, Bool, true, false, not, ◌&&◌, List, [], ◌∷◌, ◌++◌, length, take, drop, filter, Some, inl, inr, refl, sym, ap, ap₂, ◌∙◌, subst, arith, length-append, length-drop, bit_and, append-nil, append_assoc, Ordering, Less, Equal, Greater}
 use Rattle.std.proofs.Math.Seq.{take-add}
 use Rattle.std.specs.List.{All}
-use Rattle.std.proofs.lemmas.List.Elements.{All-nil, All-cons, All-append, All-weaker, filter_passes}
-use Rattle.std.specs.Ordering.{is_lt}
+use Rattle.std.proofs.lemmas.List.Elements.{All-nil, All-push, All-weaker, filter_passes}
+use Rattle.std.specs.Ordering.{is_lt, ordering_reverse}
 use Rattle.std.proofs.lemmas.Bool.{cases_lt, false≢true}
 use Rattle.std.proofs.lemmas.Bool.Decides.{eqb_tells}
-use Rattle.std.proofs.lemmas.List.{length-take-le, length-map, take-take, take-append-drop}
+use Rattle.std.proofs.lemmas.List.{length-take-le, take-take, take-append-drop}
 use Rattle.prefix_trie_bits.specs.Bits.{number}
-use Rattle.prefix_trie_bits.specs.Order.{listing-refl}
+use Rattle.prefix_trie_bits.specs.Order.{listing_cmp, listing_total, listing_same, listing-refl}
 use Rattle.prefix_trie_bits.specs.Places.{has, value_bit, is_in, is_before, places, strings, HoldsPlaces, Sets}
 use Rattle.prefix_trie_bits.specs.Walks.{to_come}
 use Rattle.prefix_trie_bits.specs.Model.NodeListings.{listing_at_places}
@@ -26,10 +26,9 @@ use Rattle.prefix_trie_table.specs.Digits.{path_of}
 use Rattle.prefix_trie_table.specs.Forest.{read, child_slot}
 use Rattle.prefix_trie_table.specs.Store.{Store}
 use Rattle.prefix_trie_table.specs.Tables.{IsTrie}
-use Rattle.prefix_trie_table.specs.Walking.Walks.{Tree, keyed_spot, keyed_spots, IsSpot, IsTrail, IsStack, IsPlaceOf, IsOther, IsPassed, ArePassed, still, pending}
-use Rattle.prefix_trie_table.proofs.Walk.Passing.{passed-above}
+use Rattle.prefix_trie_table.specs.Walking.Walks.{Tree, IsSpot, IsTrail, IsStack, IsPlaceOf, IsOther, IsPassed, ArePassed, still, pending}
+use Rattle.prefix_trie_table.proofs.Walk.Stacks.{passed-above, pending-push, trail-push, restart}
 use Rattle.prefix_trie_table.proofs.Walk.Selected.{and-right, wanted_below, wanted_at_root, wanted_passed, wanted_ended, wanted_none, at_some_places}
-use Rattle.prefix_trie_table.proofs.Walk.Stacks.{pending-push, trail-push, restart, keyed_spots-push}
 use Rattle.prefix_trie_table.proofs.Tree.Subtrees.{is_in-value, is_in-child, child_is, child_inside, unset}
 use Rattle.prefix_trie_table.proofs.Tree.Trees.{read-nil}
 
@@ -37,13 +36,12 @@ use Rattle.prefix_trie_table.proofs.Tree.Trees.{read-nil}
 
 -- of two strings one is before the other
 before-other : (s r : List Bool) → s ≢ r → not (is_before s r) ≡ is_before r s
-before-other [] [] ne = absurd (ne refl)
-before-other [] (b ∷ r) ne = refl
-before-other (a ∷ s) [] ne = refl
-before-other (true ∷ s) (true ∷ r) ne = before-other s r (λ e. ne (ap (λ t. true ∷ t) e))
-before-other (true ∷ s) (false ∷ r) ne = refl
-before-other (false ∷ s) (true ∷ r) ne = refl
-before-other (false ∷ s) (false ∷ r) ne = before-other s r (λ e. ne (ap (λ t. false ∷ t) e))
+before-other s r ne = at (listing_cmp s r) refl ∙ sym (ap is_lt (listing_total.antisymm r s))
+  where
+    at : (o : Ordering) → listing_cmp s r ≡ o → not (is_lt o) ≡ is_lt (ordering_reverse o)
+    at Less e = refl
+    at Equal e = absurd (ne (listing_same s r e))
+    at Greater e = refl
 
 not-itself : (s : List Bool) → is_before s s ≡ false
 not-itself s = ap is_lt (listing-refl s)
@@ -106,10 +104,10 @@ module _ {K : Type 0} (IsKey : K → Type 0) (bits : K → List Bool) (width : �
     pub inside : depth ≤ len
     pub high : length ps ≡ level
     pub stands : read v.slots (path_of (take depth (bits key))) ≡ Some node
-    pub trail : IsTrail IsKey bits width v 0 (keyed_spots key ps)
-    pub passed : All (IsPassed bits) (keyed_spots key ps)
+    pub trail : IsTrail IsKey bits width v 0 key ps
+    pub passed : All (IsPassed bits key) ps
     pub rest : (t : Tree T) → IsTrie width t.count v t.cells t.shape →
-        selected from t.shape.entries (take len (bits key)) ≡ wanted_below from t.shape.entries (take len (bits key)) (take depth (bits key)) ++ pending bits t.shape.entries (keyed_spots key ps)
+        selected from t.shape.entries (take len (bits key)) ≡ wanted_below from t.shape.entries (take len (bits key)) (take depth (bits key)) ++ pending bits t.shape.entries key ps
 
   pub laid_root : {T : Type 0} (node : Node) (ps : List Spot) → node ≡ node_at v.slots 0 → ps ≡ [] → IsLaid T 0 node ps
   laid_root node ps is none = record {
@@ -118,11 +116,11 @@ module _ {K : Type 0} (IsKey : K → Type 0) (bits : K → List Bool) (width : �
     inside = omega arith;
     high = ap length none;
     stands = read-nil v.slots ∙ ap Some (sym is);
-    trail = subst (λ qs. IsTrail IsKey bits width v 0 (keyed_spots key qs)) (sym none) tt;
-    passed = subst (λ qs. All (IsPassed bits) (keyed_spots key qs)) (sym none) (All-nil (IsPassed bits));
+    trail = subst (λ qs. IsTrail IsKey bits width v 0 key qs) (sym none) tt;
+    passed = subst (All (IsPassed bits key)) (sym none) (All-nil (IsPassed bits key));
     rest = λ t tree.
         sym (wanted_at_root from t.shape.entries (take len (bits key))) ∙ sym (append-nil (wanted_below from t.shape.entries (take len (bits key)) []))
-        ∙ ap (λ qs. wanted_below from t.shape.entries (take len (bits key)) [] ++ pending bits t.shape.entries (keyed_spots key qs)) (sym none);
+        ∙ ap (λ qs. wanted_below from t.shape.entries (take len (bits key)) [] ++ pending bits t.shape.entries key qs) (sym none);
   }
 
   module _ {T : Type 0} (is_key : IsKey key) (long : length (bits key) ≡ width) (within : len ≤ width) (depth : ℕ) (node : Node) (ps : List Spot) (laid : IsLaid T depth node ps) where
@@ -179,12 +177,9 @@ module _ {K : Type 0} (IsKey : K → Type 0) (bits : K → List Bool) (width : �
 
     -- a spot is put at this node
     module _ (p : Spot) (node_is : p.node ≡ node) (depth_is : p.depth ≡ depth) (each : All (IsPlaceOf node) (to_come p.places)) (qs : List Spot) (pushed : qs ≡ ps ++ p ∷ []) where
-      sites_are : keyed_spots key qs ≡ keyed_spots key ps ++ keyed_spot key p ∷ []
-      sites_are = ap (keyed_spots key) pushed ∙ keyed_spots-push key ps p
-
-      spot : IsSpot IsKey bits width v (keyed_spot key p)
+      spot : IsSpot IsKey bits width v key p
       spot = record {
-        key = is_key;
+        is_key = is_key;
         level = laid.level;
         depth_is = depth_is ∙ laid.depth_is;
         within = (let i = laid.inside in omega (arith, i, depth_is, within));
@@ -192,21 +187,20 @@ module _ {K : Type 0} (IsKey : K → Type 0) (bits : K → List Bool) (width : �
         each = subst (λ n. All (IsPlaceOf n) (to_come p.places)) (sym node_is) each;
       }
 
-      pub trail_pushed : IsTrail IsKey bits width v 0 (keyed_spots key qs)
+      pub trail_pushed : IsTrail IsKey bits width v 0 key qs
       trail_pushed =
-          subst (IsTrail IsKey bits width v 0) (sym sites_are)
-          (trail-push IsKey bits width v 0 (keyed_spots key ps) (keyed_spot key p) laid.trail
-          (let d = laid.depth_is in let h = laid.high in let l = length-map ps (keyed_spot key) in omega (arith, d, h, l, depth_is)) spot)
+          subst (IsTrail IsKey bits width v 0 key) (sym pushed)
+          (trail-push IsKey bits width v key 0 ps p laid.trail (let d = laid.depth_is in let h = laid.high in omega (arith, d, h, depth_is)) spot)
 
-      pub stack_pushed : IsStack IsKey bits width v (keyed_spots key qs)
-      stack_pushed = restart IsKey bits width v 0 (keyed_spots key qs) trail_pushed
+      pub stack_pushed : IsStack IsKey bits width v key qs
+      stack_pushed = restart IsKey bits width v key 0 qs trail_pushed
 
-      pub passed_pushed : ArePassed bits (keyed_spots key qs)
-      passed_pushed = passed-above bits (keyed_spots key qs) (keyed_spots key ps) (keyed_spot key p) sites_are laid.passed
+      pub passed_pushed : ArePassed bits key qs
+      passed_pushed = passed-above bits key qs ps p pushed laid.passed
 
       module _ (values children : ℕ) (all : to_come p.places ≡ places_in node values children) (test : List Bool → Bool) (holds : HoldsPlaces values children test)
           (t : Tree T) (tree : IsTrie width t.count v t.cells t.shape) where
-        still_is : still bits t.shape.entries (keyed_spot key p) ≡ filter (λ e. test (take 5 (drop (length (take depth (bits key))) e.0))) (listing_below t.shape.entries (take depth (bits key)))
+        still_is : still bits t.shape.entries key p ≡ filter (λ e. test (take 5 (drop (length (take depth (bits key))) e.0))) (listing_below t.shape.entries (take depth (bits key)))
         still_is =
             ap (λ d. listing_at_places t.shape.entries (take d (bits key)) (to_come p.places)) depth_is
             ∙ ap (listing_at_places t.shape.entries (take depth (bits key))) all
@@ -214,8 +208,8 @@ module _ {K : Type 0} (IsKey : K → Type 0) (bits : K → List Bool) (width : �
             (λ s h. ap (λ b. is_in node.value_bitmap node.child_bitmap s && b) (holds.bits s h))
             (unset width v t tree (take depth (bits key)) node whole laid.stands)
 
-        pending_is : pending bits t.shape.entries (keyed_spots key qs) ≡ still bits t.shape.entries (keyed_spot key p) ++ pending bits t.shape.entries (keyed_spots key ps)
-        pending_is = ap (pending bits t.shape.entries) sites_are ∙ pending-push bits t.shape.entries (keyed_spots key ps) (keyed_spot key p)
+        pending_is : pending bits t.shape.entries key qs ≡ still bits t.shape.entries key p ++ pending bits t.shape.entries key ps
+        pending_is = ap (pending bits t.shape.entries key) pushed ∙ pending-push bits t.shape.entries key ps p
 
       -- the node is passed: what is behind the child taken is left there
       module _ (more : depth + 5 ≤ len) (values children : ℕ) (all : to_come p.places ≡ places_in node values children) (k : ℕ) (k_is : k ≡ number (take 5 (drop depth (bits key))))
@@ -224,7 +218,7 @@ module _ {K : Type 0} (IsKey : K → Type 0) (bits : K → List Bool) (width : �
         holds = masks (take 5 (drop depth (bits key))) (five more) (sym k_is)
 
         -- the child is not
-        child_taken : IsPassed bits (keyed_spot key p)
+        child_taken : IsPassed bits key p
         child_taken =
             subst (All (IsOther (take 5 (drop p.depth (bits key))))) (sym all)
             (All-weaker (λ s. (is_in node.value_bitmap node.child_bitmap s && is_in values children s) ≡ true) (IsOther (take 5 (drop p.depth (bits key))))
@@ -238,26 +232,26 @@ module _ {K : Type 0} (IsKey : K → Type 0) (bits : K → List Bool) (width : �
                 false≢true (sym none ∙ and-right (is_in node.value_bitmap node.child_bitmap s) (is_in values children s) h)
 
         passed_is : (t : Tree T) → IsTrie width t.count v t.cells t.shape → wanted_below from t.shape.entries (take len (bits key)) (take depth (bits key))
-            ≡ wanted_below from t.shape.entries (take len (bits key)) (take (depth + 5) (bits key)) ++ still bits t.shape.entries (keyed_spot key p)
+            ≡ wanted_below from t.shape.entries (take len (bits key)) (take (depth + 5) (bits key)) ++ still bits t.shape.entries key p
         passed_is t tree =
-            subst (λ q. wanted_below from t.shape.entries q (take depth (bits key)) ≡ wanted_below from t.shape.entries q (take (depth + 5) (bits key)) ++ still bits t.shape.entries (keyed_spot key p)) (sym (way_is more))
+            subst (λ q. wanted_below from t.shape.entries q (take depth (bits key)) ≡ wanted_below from t.shape.entries q (take (depth + 5) (bits key)) ++ still bits t.shape.entries key p) (sym (way_is more))
             (wanted_passed from t.shape.entries (take depth (bits key)) (take 5 (drop depth (bits key))) (drop (depth + 5) (take len (bits key)))
             ∙ ap₂ (λ s es. wanted_below from t.shape.entries (take depth (bits key) ++ take 5 (drop depth (bits key)) ++ drop (depth + 5) (take len (bits key))) s ++ es) (sym (deeper_string more))
             (ap (λ n. filter (λ e. behind from (take 5 (drop depth (bits key))) (take n (drop (length (take depth (bits key))) e.0))) (listing_below t.shape.entries (take depth (bits key)))) (five more)
             ∙ sym (still_is values children all (behind from (take 5 (drop depth (bits key)))) holds t tree)))
 
         rest_pushed : (t : Tree T) → IsTrie width t.count v t.cells t.shape → selected from t.shape.entries (take len (bits key))
-            ≡ wanted_below from t.shape.entries (take len (bits key)) (take (depth + 5) (bits key)) ++ pending bits t.shape.entries (keyed_spots key qs)
+            ≡ wanted_below from t.shape.entries (take len (bits key)) (take (depth + 5) (bits key)) ++ pending bits t.shape.entries key qs
         rest_pushed t tree =
-            laid.rest t tree ∙ ap (λ es. es ++ pending bits t.shape.entries (keyed_spots key ps)) (passed_is t tree)
-            ∙ append_assoc (wanted_below from t.shape.entries (take len (bits key)) (take (depth + 5) (bits key))) (still bits t.shape.entries (keyed_spot key p)) (pending bits t.shape.entries (keyed_spots key ps))
+            laid.rest t tree ∙ ap (λ es. es ++ pending bits t.shape.entries key ps) (passed_is t tree)
+            ∙ append_assoc (wanted_below from t.shape.entries (take len (bits key)) (take (depth + 5) (bits key))) (still bits t.shape.entries key p) (pending bits t.shape.entries key ps)
             ∙ ap (λ es. wanted_below from t.shape.entries (take len (bits key)) (take (depth + 5) (bits key)) ++ es) (sym (pending_is values children all (behind from (take 5 (drop depth (bits key)))) holds t tree))
 
         -- where the child is missing that is all
-        pub rest_missing : has node.child_bitmap k ≡ false → (t : Tree T) → IsTrie width t.count v t.cells t.shape → pending bits t.shape.entries (keyed_spots key qs) ≡ selected from t.shape.entries (take len (bits key))
+        pub rest_missing : has node.child_bitmap k ≡ false → (t : Tree T) → IsTrie width t.count v t.cells t.shape → pending bits t.shape.entries key qs ≡ selected from t.shape.entries (take len (bits key))
         rest_missing clear t tree =
             sym (rest_pushed t tree
-            ∙ ap (λ es. es ++ pending bits t.shape.entries (keyed_spots key qs)) (wanted_none from t.shape.entries (take len (bits key)) (take (depth + 5) (bits key)) (none_below more t tree k k_is clear)))
+            ∙ ap (λ es. es ++ pending bits t.shape.entries key qs) (wanted_none from t.shape.entries (take len (bits key)) (take (depth + 5) (bits key)) (none_below more t tree k k_is clear)))
 
         -- where it stands it is the next node
         pub laid_next : (t : Tree T) → IsTrie width t.count v t.cells t.shape → has node.child_bitmap k ≡ true → (slot : ℕ) → slot ≡ child_slot node k → (next : Node) → next ≡ node_at v.slots slot →
@@ -269,20 +263,19 @@ module _ {K : Type 0} (IsKey : K → Type 0) (bits : K → List Bool) (width : �
           high = (let h = laid.high in omega (arith, h, ap length pushed, length-append ps (p ∷ [])));
           stands = next_stands more t tree k k_is set slot slot_is next is;
           trail = trail_pushed;
-          passed = subst (All (IsPassed bits)) (sym sites_are)
-              (All-append (IsPassed bits) (keyed_spots key ps) (keyed_spot key p ∷ []) laid.passed (All-cons (IsPassed bits) (keyed_spot key p) [] child_taken (All-nil (IsPassed bits))));
+          passed = subst (All (IsPassed bits key)) (sym pushed) (All-push (IsPassed bits key) ps p laid.passed child_taken);
           rest = rest_pushed;
         }
 
       -- the string ends at this node
       pub rest_ended : len < depth + 5 → (values children : ℕ) → to_come p.places ≡ places_in node values children → HoldsPlaces values children (kept from (drop depth (take len (bits key)))) →
-          (t : Tree T) → IsTrie width t.count v t.cells t.shape → pending bits t.shape.entries (keyed_spots key qs) ≡ selected from t.shape.entries (take len (bits key))
+          (t : Tree T) → IsTrie width t.count v t.cells t.shape → pending bits t.shape.entries key qs ≡ selected from t.shape.entries (take len (bits key))
       rest_ended last values children all masks t tree =
           pending_is values children all (kept from (drop depth (take len (bits key)))) masks t tree
-          ∙ ap (λ es. es ++ pending bits t.shape.entries (keyed_spots key ps)) (sym ended)
+          ∙ ap (λ es. es ++ pending bits t.shape.entries key ps) (sym ended)
           ∙ sym (laid.rest t tree)
         where
-          ended : wanted_below from t.shape.entries (take len (bits key)) (take depth (bits key)) ≡ still bits t.shape.entries (keyed_spot key p)
+          ended : wanted_below from t.shape.entries (take len (bits key)) (take depth (bits key)) ≡ still bits t.shape.entries key p
           ended =
               ap (λ q. wanted_below from t.shape.entries q (take depth (bits key))) left_is
               ∙ wanted_ended from t.shape.entries (take depth (bits key)) (drop depth (take len (bits key)))

@@ -1,19 +1,22 @@
 -- The strings of entries as a set, and what is still to come of them.
-use Rattle.std.proofs.Common.{◌≡◌, Bool, true, false, cond, ◌&&◌, nat_lt, List, [], ◌∷◌, ◌++◌, length, take, map, filter, Option, None, Some, is_some, is_lt, refl, sym, ap, ap₂, ◌∙◌, subst}
+use Rattle.std.proofs.Common.{◌≡◌, Bool, true, false, cond, ◌&&◌, ◌||◌, nat_lt, List, [], ◌∷◌, ◌++◌, length, take, map, filter, Option, None, Some, is_some, is_lt, refl, sym, ap, ap₂, ◌∙◌, subst}
 use lib.Dec.{T as IsT}
 use Rattle.std.proofs.lemmas.Bool.{false≢true}
 use Rattle.std.proofs.lemmas.List.{map-append}
+use Rattle.std.proofs.lemmas.Simd.{map-map}
 use Rattle.std.specs.Ordering.{eq_by_cmp}
-use Rattle.std.specs.FinMap.{get, contains_key, entries, entries_sorted, from_sorted, entries-from_sorted, get-from_sorted, get-entries, is_sorted, find}
+use Rattle.std.specs.List.{list_any}
+use Rattle.std.specs.FinMap.{get, contains_key, entries, entries_sorted, from_sorted, entries-from_sorted, contains_key-keys, is_sorted}
 use Rattle.std.specs.FinMap.Entries.{below_all}
 use Rattle.prefix_trie_bits.specs.Bits.{begins}
-use Rattle.prefix_trie_bits.specs.Order.{listing_cmp}
-use Rattle.prefix_trie_bits.specs.Model.Entries.{Entries}
+use Rattle.prefix_trie_bits.specs.Order.{listing_cmp, same_string}
+use Rattle.prefix_trie_bits.specs.Model.Entries.{Entries, with_entry}
 use Rattle.prefix_trie_bits.specs.Model.Nodes.{Nodes, has_node}
 use Rattle.prefix_trie_bits.specs.Model.NodeListings.{pair_of, listing_at_place, listing_at_places}
 use Rattle.prefix_trie_bits.specs.Walks.{to_come}
-use Rattle.prefix_trie_bits.proofs.Model.Members.{same_members}
-use Rattle.prefix_trie_table.specs.Walking.Walks.{KeyedSpot, still, pending}
+use Rattle.prefix_trie_bits.proofs.Model.Members.{same_members, same_string-is, has-inserted}
+use Rattle.prefix_trie_table.specs.declared.table.spot.Spot.{Spot}
+use Rattle.prefix_trie_table.specs.Walking.Walks.{still, pending}
 
 -- pairs that keep their keys keep their order
 module _ {X Y : Type 0} (f : List Bool × X → List Bool × Y) (keeps : (e : List Bool × X) → (f e).0 ≡ e.0) where
@@ -38,19 +41,11 @@ module _ {T : Type 0} where
   sorted_bare : (m : Entries T) → IsT (is_sorted listing_cmp (map bare (entries m)))
   sorted_bare m = subst (λ b. IsT b) (sym (sorted_mapped bare (λ e. refl) (entries m))) (entries_sorted m)
 
-  find_bare : (q : List Bool) (es : List (List Bool × T)) → is_some (find listing_cmp q (map bare es)) ≡ is_some (find listing_cmp q es)
-  find_bare q [] = refl
-  find_bare q (e ∷ es) = at (eq_by_cmp listing_cmp q e.0) (find_bare q es)
-    where
-      at : (b : Bool) → is_some (find listing_cmp q (map bare es)) ≡ is_some (find listing_cmp q es) →
-          is_some (cond b (Some tt) (find listing_cmp q (map bare es))) ≡ is_some (cond b (Some e.1) (find listing_cmp q es))
-      at true rest = refl
-      at false rest = rest
-
   pub has-strings_of : (m : Entries T) (q : List Bool) → has_node (strings_of m) q ≡ contains_key m q
   has-strings_of m q =
-      ap is_some (get-from_sorted listing_cmp (map bare (entries m)) q (sorted_bare m)) ∙ find_bare q (entries m)
-      ∙ ap is_some (sym (get-entries m q))
+      contains_key-keys (strings_of m) q
+      ∙ ap (λ es. list_any (eq_by_cmp listing_cmp q) (map (λ e. e.0) es)) (entries-from_sorted listing_cmp (map bare (entries m)) (sorted_bare m))
+      ∙ ap (list_any (eq_by_cmp listing_cmp q)) (map-map (λ e. e.0) bare (entries m)) ∙ sym (contains_key-keys m q)
 
   filter_bare : (p : List Bool → Bool) (es : List (List Bool × T)) → filter (λ e. p e.0) (map bare es) ≡ map bare (filter (λ e. p e.0) es)
   filter_bare p [] = refl
@@ -88,8 +83,25 @@ module _ {T : Type 0} where
         ap₂ (λ xs ys. xs ++ ys) (place_bare s t) (places_bare s ts) ∙ sym (map-append bare (listing_at_place m s t) (listing_at_places m s ts))
 
     -- the strings still to come are those of the pairs
-    pub pending_bare : {K : Type 0} (bits : K → List Bool) (ps : List (KeyedSpot K)) → pending bits keys ps ≡ map bare (pending bits m ps)
-    pending_bare bits [] = refl
-    pending_bare bits (p ∷ ps) =
-        ap₂ (λ xs ys. xs ++ ys) (pending_bare bits ps) (places_bare (take p.depth (bits p.key)) (to_come p.places))
-        ∙ sym (map-append bare (pending bits m ps) (still bits m p))
+    pub pending_bare : {K : Type 0} (bits : K → List Bool) (key : K) (ps : List Spot) → pending bits keys key ps ≡ map bare (pending bits m key ps)
+    pending_bare bits key [] = refl
+    pending_bare bits key (p ∷ ps) =
+        ap₂ (λ xs ys. xs ++ ys) (pending_bare bits key ps) (places_bare (take p.depth (bits key)) (to_come p.places))
+        ∙ sym (map-append bare (pending bits m key ps) (still bits m key p))
+
+-- writing a value that is stored leaves the keys still to come
+module _ {X : Type 0} (m : Entries X) (k : List Bool) (v : X) (stored : contains_key m k ≡ true) where
+  stored_again : (q : List Bool) → contains_key m q ≡ contains_key (with_entry m k v) q
+  stored_again q = sym (has-inserted m k v q ∙ at (same_string q k) refl)
+    where
+      at : (b : Bool) → same_string q k ≡ b → (b || contains_key m q) ≡ contains_key m q
+      at true is = sym (ap (contains_key m) (same_string-is q k is) ∙ stored)
+      at false is = refl
+
+  pub pending_again : {K : Type 0} (bits : K → List Bool) (key : K) (ps : List Spot) →
+      map (λ e. e.0) (pending bits (with_entry m k v) key ps) ≡ map (λ e. e.0) (pending bits m key ps)
+  pending_again bits key ps =
+      sym (map-map (λ e. e.0) bare (pending bits (with_entry m k v) key ps))
+      ∙ ap (map (λ e. e.0)) (sym (pending_bare (with_entry m k v) (strings_of m) (λ q. has-strings_of m q ∙ stored_again q) bits key ps)
+      ∙ pending_bare m (strings_of m) (has-strings_of m) bits key ps)
+      ∙ map-map (λ e. e.0) bare (pending bits m key ps)

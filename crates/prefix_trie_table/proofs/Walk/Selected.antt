@@ -1,22 +1,25 @@
 -- What a walk from a bit string gives, node by node on the string's way.
-use Rattle.std.proofs.Common.{◌≡◌, ℕ, zero, suc, ◌<◌, ◌≤◌, Bool, true, false, not, cond, ◌&&◌, ◌||◌, nat_lt, ltb-true, List, [], ◌∷◌, ◌++◌, length, take, drop, filter, is_lt, is_le, Ordering, Less, Greater, Option, Some, None, inl, inr, refl, sym, ap, ap₂, ◌∙◌, subst, arith}
-use Rattle.std.proofs.lemmas.Bool.{cases_lt}
-use Rattle.std.proofs.lemmas.List.{take_all, take_at, drop_at, append_assoc}
-use Rattle.std.proofs.lemmas.List.Elements.{filter-append}
+use Rattle.std.proofs.Common.{◌≡◌, ℕ, zero, suc, ◌<◌, ◌≤◌, Bool, true, false, not, cond, ◌&&◌, ◌||◌, nat_lt, ltb-true, List, [], ◌∷◌, ◌++◌, length, take, drop, filter, is_lt, is_le, Ordering, Less, Equal, Greater, Option, Some, None, inl, inr, refl, sym, ap, ap₂, ◌∙◌, subst, arith}
+use Rattle.std.proofs.lemmas.Bool.{cases_lt, false≢true}
+use Rattle.std.specs.Ordering.{ordering_reverse}
+use Rattle.std.proofs.lemmas.List.{take-append-drop, take-take, take_all, take_at, drop_at, append_assoc}
+use Rattle.std.proofs.lemmas.List.Elements.{filter-append, filter_agree}
 use Rattle.std.specs.FinMap.{get, entries, entries_sorted}
 use Rattle.prefix_trie_bits.specs.Bits.{begins}
-use Rattle.prefix_trie_bits.specs.Begins.{begins-rest}
-use Rattle.prefix_trie_bits.specs.Order.{listing_cmp}
+use Rattle.prefix_trie_bits.specs.Begins.{begins-rest, begins-take, begins-trans, begins-append}
+use Rattle.prefix_trie_bits.specs.Order.{listing_cmp, listing_total, listing-refl, listing-common, listing-apart}
 use Rattle.prefix_trie_bits.specs.Places.{strings, is_before}
 use Rattle.prefix_trie_bits.specs.Model.Entries.{Entries}
 use Rattle.prefix_trie_bits.specs.Model.Selections.{listing, listing_below}
 use Rattle.prefix_trie_bits.specs.Model.NodeListings.{pair_of, listing_at_place, listing_at_places}
 use Rattle.prefix_trie_bits.proofs.Checks.{both, each}
 use Rattle.prefix_trie_bits.proofs.Listing.{strings-short}
+use Rattle.prefix_trie_bits.proofs.Model.Ordered.{lt-less}
 use Rattle.prefix_trie_bits.proofs.Model.NodeListings.{two-tests, listing_by_places, listing_at_inner, listing_at_child}
 use Rattle.prefix_trie_table.specs.declared.table.cursor.Start.{Start}
 use Rattle.prefix_trie_table.specs.declared.table.cursor.Start.TheVariants.{At, After, Below}
 use Rattle.prefix_trie_table.specs.Walking.Cursors.{selected, behind, kept}
+use Rattle.prefix_trie_table.proofs.Strings.Plain.{no_or_yes}
 
 -- whether a walk from q gives what k has
 abbrev pub wanted : Start → List Bool → List Bool → Bool
@@ -42,16 +45,6 @@ here-ordered f less greater (true ∷ c) r (false ∷ k) = greater
 here-ordered f less greater (false ∷ c) r (true ∷ k) = less
 here-ordered f less greater (false ∷ c) r (false ∷ k) = here-ordered f less greater c r k
 
-passed-ordered : (f : Ordering → Bool) → f Less ≡ true → f Greater ≡ false → (p c r k : List Bool) →
-    (begins p k && f (listing_cmp (p ++ c ++ r) k)) ≡ ((begins (p ++ c) k && f (listing_cmp (p ++ c ++ r) k)) || (begins p k && is_before c (take (length c) (drop (length p) k))))
-unfolding begins
-passed-ordered f less greater [] c r k = here-ordered f less greater c r k
-passed-ordered f less greater (a ∷ p) c r [] = refl
-passed-ordered f less greater (true ∷ p) c r (true ∷ k) = passed-ordered f less greater p c r k
-passed-ordered f less greater (true ∷ p) c r (false ∷ k) = refl
-passed-ordered f less greater (false ∷ p) c r (true ∷ k) = refl
-passed-ordered f less greater (false ∷ p) c r (false ∷ k) = passed-ordered f less greater p c r k
-
 here-below : (c r k : List Bool) → begins (c ++ r) k ≡ ((begins c k && begins (c ++ r) k) || false)
 unfolding begins
 here-below [] r k = or-false (begins r k)
@@ -61,20 +54,34 @@ here-below (true ∷ c) r (false ∷ k) = refl
 here-below (false ∷ c) r (true ∷ k) = refl
 here-below (false ∷ c) r (false ∷ k) = here-below c r k
 
-passed-below : (p c r k : List Bool) → (begins p k && begins (p ++ c ++ r) k) ≡ ((begins (p ++ c) k && begins (p ++ c ++ r) k) || (begins p k && false))
+-- what two strings begin with counts for nothing
+pub begins-common : (s t u : List Bool) → begins (s ++ t) (s ++ u) ≡ begins t u
 unfolding begins
-passed-below [] c r k = here-below c r k
-passed-below (a ∷ p) c r [] = refl
-passed-below (true ∷ p) c r (true ∷ k) = passed-below p c r k
-passed-below (true ∷ p) c r (false ∷ k) = refl
-passed-below (false ∷ p) c r (true ∷ k) = refl
-passed-below (false ∷ p) c r (false ∷ k) = passed-below p c r k
+begins-common [] t u = refl
+begins-common (true ∷ s) t u = begins-common s t u
+begins-common (false ∷ s) t u = begins-common s t u
+
+common : (x : Start) (b : Bool) (q k : List Bool) → wanted x (b ∷ q) (b ∷ k) ≡ wanted x q k
+common At b q k = ap is_le (listing-common (b ∷ []) q k)
+common After b q k = ap is_lt (listing-common (b ∷ []) q k)
+common Below b q k = begins-common (b ∷ []) q k
+
+passed-here : (x : Start) (c r k : List Bool) → wanted x (c ++ r) k ≡ ((begins c k && wanted x (c ++ r) k) || behind x c (take (length c) k))
+passed-here At c r k = here-ordered is_le refl refl c r k
+passed-here After c r k = here-ordered is_lt refl refl c r k
+passed-here Below c r k = here-below c r k
 
 passed-string : (x : Start) (p c r k : List Bool) →
     (begins p k && wanted x (p ++ c ++ r) k) ≡ ((begins (p ++ c) k && wanted x (p ++ c ++ r) k) || (begins p k && behind x c (take (length c) (drop (length p) k))))
-passed-string At p c r k = passed-ordered is_le refl refl p c r k
-passed-string After p c r k = passed-ordered is_lt refl refl p c r k
-passed-string Below p c r k = passed-below p c r k
+unfolding begins
+passed-string x [] c r k = passed-here x c r k
+passed-string x (a ∷ p) c r [] = refl
+passed-string x (true ∷ p) c r (true ∷ k) =
+    subst (λ w. (begins p k && w) ≡ ((begins (p ++ c) k && w) || (begins p k && behind x c (take (length c) (drop (length p) k))))) (sym (common x true (p ++ c ++ r) k)) (passed-string x p c r k)
+passed-string x (true ∷ p) c r (false ∷ k) = refl
+passed-string x (false ∷ p) c r (true ∷ k) = refl
+passed-string x (false ∷ p) c r (false ∷ k) =
+    subst (λ w. (begins p k && w) ≡ ((begins (p ++ c) k && w) || (begins p k && behind x c (take (length c) (drop (length p) k))))) (sym (common x false (p ++ c ++ r) k)) (passed-string x p c r k)
 
 and-left : (a b : Bool) → (a && b) ≡ true → a ≡ true
 and-left true b e = refl
@@ -86,29 +93,20 @@ and-right false b e = cc
 
 -- what is behind comes after what is below
 apart-here : (c k l : List Bool) → begins c k ≡ true → is_before c (take (length c) l) ≡ true → listing_cmp k l ≡ Less
-unfolding begins
-apart-here [] k [] e f = cc
-apart-here [] k (b ∷ l) e f = cc
-apart-here (a ∷ c) [] l e f = cc
-apart-here (a ∷ c) (b ∷ k) [] e f = cc
-apart-here (true ∷ c) (true ∷ k) (true ∷ l) e f = apart-here c k l e f
-apart-here (true ∷ c) (true ∷ k) (false ∷ l) e f = cc
-apart-here (true ∷ c) (false ∷ k) (d ∷ l) e f = cc
-apart-here (false ∷ c) (true ∷ k) (d ∷ l) e f = cc
-apart-here (false ∷ c) (false ∷ k) (true ∷ l) e f = refl
-apart-here (false ∷ c) (false ∷ k) (false ∷ l) e f = apart-here c k l e f
+apart-here c k l e f =
+    ap₂ listing_cmp (begins-rest c k e) (sym (take-append-drop (length c) l))
+    ∙ listing-apart c (take (length c) l) (drop (length c) k) (drop (length c) l) (lt-less (listing_cmp c (take (length c) l)) f) (no_or_yes _ same)
+  where
+    same : begins c (take (length c) l) ≡ true → ⊥
+    same g =
+        let is : take (length c) l ≡ c = sym (take-take (length c) (length c) l (omega arith)) ∙ begins-take c (take (length c) l) g in
+        false≢true (sym (ap is_lt (listing-refl c)) ∙ ap (is_before c) (sym is) ∙ f)
 
 apart-string : (p c k l : List Bool) → begins (p ++ c) k ≡ true → begins p l ≡ true → is_before c (take (length c) (drop (length p) l)) ≡ true → listing_cmp k l ≡ Less
-unfolding begins
-apart-string [] c k l e f g = apart-here c k l e g
-apart-string (a ∷ p) c [] l e f g = cc
-apart-string (a ∷ p) c (b ∷ k) [] e f g = cc
-apart-string (true ∷ p) c (true ∷ k) (true ∷ l) e f g = apart-string p c k l e f g
-apart-string (true ∷ p) c (true ∷ k) (false ∷ l) e f g = cc
-apart-string (true ∷ p) c (false ∷ k) (d ∷ l) e f g = cc
-apart-string (false ∷ p) c (true ∷ k) (d ∷ l) e f g = cc
-apart-string (false ∷ p) c (false ∷ k) (true ∷ l) e f g = cc
-apart-string (false ∷ p) c (false ∷ k) (false ∷ l) e f g = apart-string p c k l e f g
+apart-string p c k l e f g =
+    let under : k ≡ p ++ drop (length p) k = begins-rest p k (begins-trans p (p ++ c) k (begins-append p c) e) in
+    ap₂ listing_cmp under (begins-rest p l f) ∙ listing-common p (drop (length p) k) (drop (length p) l)
+    ∙ apart-here c (drop (length p) k) (drop (length p) l) (sym (begins-common p c (drop (length p) k)) ∙ ap (begins (p ++ c)) (sym under) ∙ e) g
 
 behind-before : (x : Start) (c s : List Bool) → behind x c s ≡ true → is_before c s ≡ true
 behind-before At c s e = e
@@ -116,25 +114,20 @@ behind-before After c s e = e
 behind-before Below c s e = cc
 
 -- a string is compared to a shorter one by its first bits
-end-at : (n : ℕ) (r k : List Bool) → length r < n → is_le (listing_cmp r k) ≡ not (is_before (take n k) r)
-end-at zero r k h = absurd (omega (arith, h))
-end-at (suc n) [] [] h = refl
-end-at (suc n) [] (b ∷ k) h = refl
-end-at (suc n) (a ∷ r) [] h = refl
-end-at (suc n) (true ∷ r) (true ∷ k) h = end-at n r k (omega (arith, h))
-end-at (suc n) (true ∷ r) (false ∷ k) h = refl
-end-at (suc n) (false ∷ r) (true ∷ k) h = refl
-end-at (suc n) (false ∷ r) (false ∷ k) h = end-at n r k (omega (arith, h))
+first-cmp : (n : ℕ) (r k : List Bool) → length r < n → listing_cmp r k ≡ listing_cmp r (take n k)
+first-cmp zero r k h = absurd (omega (arith, h))
+first-cmp (suc n) [] [] h = refl
+first-cmp (suc n) [] (b ∷ k) h = refl
+first-cmp (suc n) (a ∷ r) [] h = refl
+first-cmp (suc n) (true ∷ r) (true ∷ k) h = first-cmp n r k (omega (arith, h))
+first-cmp (suc n) (true ∷ r) (false ∷ k) h = refl
+first-cmp (suc n) (false ∷ r) (true ∷ k) h = refl
+first-cmp (suc n) (false ∷ r) (false ∷ k) h = first-cmp n r k (omega (arith, h))
 
-end-after : (n : ℕ) (r k : List Bool) → length r < n → is_lt (listing_cmp r k) ≡ is_before r (take n k)
-end-after zero r k h = absurd (omega (arith, h))
-end-after (suc n) [] [] h = refl
-end-after (suc n) [] (b ∷ k) h = refl
-end-after (suc n) (a ∷ r) [] h = refl
-end-after (suc n) (true ∷ r) (true ∷ k) h = end-after n r k (omega (arith, h))
-end-after (suc n) (true ∷ r) (false ∷ k) h = refl
-end-after (suc n) (false ∷ r) (true ∷ k) h = refl
-end-after (suc n) (false ∷ r) (false ∷ k) h = end-after n r k (omega (arith, h))
+turned : (o : Ordering) → is_le (ordering_reverse o) ≡ not (is_lt o)
+turned Less = refl
+turned Equal = refl
+turned Greater = refl
 
 end-below : (n : ℕ) (r k : List Bool) → length r < n → begins r k ≡ begins r (take n k)
 unfolding begins
@@ -147,18 +140,9 @@ end-below (suc n) (false ∷ r) (true ∷ k) h = refl
 end-below (suc n) (false ∷ r) (false ∷ k) h = end-below n r k (omega (arith, h))
 
 end-here : (x : Start) (r k : List Bool) → length r < 5 → wanted x r k ≡ kept x r (take 5 k)
-end-here At r k h = end-at 5 r k h
-end-here After r k h = end-after 5 r k h
+end-here At r k h = ap is_le (first-cmp 5 r k h ∙ listing_total.antisymm r (take 5 k)) ∙ turned (listing_cmp (take 5 k) r)
+end-here After r k h = ap is_lt (first-cmp 5 r k h)
 end-here Below r k h = end-below 5 r k h
-
-common : (x : Start) (b : Bool) (q k : List Bool) → wanted x (b ∷ q) (b ∷ k) ≡ wanted x q k
-unfolding begins
-common At true q k = refl
-common At false q k = refl
-common After true q k = refl
-common After false q k = refl
-common Below true q k = refl
-common Below false q k = refl
 
 end-string : (x : Start) (p r k : List Bool) → length r < 5 → (begins p k && wanted x (p ++ r) k) ≡ (begins p k && kept x r (take 5 (drop (length p) k)))
 unfolding begins
@@ -172,9 +156,6 @@ end-string x (false ∷ p) r (false ∷ k) h = ap (λ b. begins p k && b) (commo
 -- ---- filters
 
 module _ {X : Type 0} where
-  filter-same : (p r : X → Bool) → ((x : X) → p x ≡ r x) → (xs : List X) → filter p xs ≡ filter r xs
-  filter-same p r h xs = λ i. filter (λ x. h x i) xs
-
   filter-both : (p r : X → Bool) (xs : List X) → filter r (filter p xs) ≡ filter (λ x. p x && r x) xs
   filter-both p r [] = refl
   filter-both p r (x ∷ xs) = elim (p x) as (λ b. filter r (cond b (x ∷ filter p xs) (filter p xs)) ≡ cond (b && r x) (x ∷ filter (λ y. p y && r y) xs) (filter (λ y. p y && r y) xs)) [
@@ -279,7 +260,7 @@ module _ {T : Type 0} (x : Start) (m : Entries T) where
   -- below a node that is passed it is what is selected below the child taken, and then what is behind that child
   pub wanted_passed : (p c r : List Bool) → wanted_below (p ++ c ++ r) p ≡ wanted_below (p ++ c ++ r) (p ++ c) ++ filter (λ e. behind x c (take (length c) (drop (length p) e.0))) (listing_below m p)
   wanted_passed p c r =
-      filter-same _ _ (λ e. passed-string x p c r e.0) (listing m)
+      filter_agree _ _ (λ e. passed-string x p c r e.0) (listing m)
       ∙ two-tests (λ k. begins (p ++ c) k && wanted x (p ++ c ++ r) k) (λ k. begins p k && behind x c (take (length c) (drop (length p) k)))
       (λ k l e f. apart-string p c k l (and-left (begins (p ++ c) k) _ e) (and-left (begins p l) _ f) (behind-before x c _ (and-right (begins p l) _ f)))
       (entries m) (entries_sorted m)
@@ -288,7 +269,7 @@ module _ {T : Type 0} (x : Start) (m : Entries T) where
   -- below the node where the string ends it is what is kept there
   pub wanted_ended : (p r : List Bool) → length r < 5 → wanted_below (p ++ r) p ≡ filter (λ e. kept x r (take 5 (drop (length p) e.0))) (listing_below m p)
   wanted_ended p r h =
-      filter-same _ _ (λ e. end-string x p r e.0 h) (listing m)
+      filter_agree _ _ (λ e. end-string x p r e.0 h) (listing m)
       ∙ sym (filter-both (λ e. begins p e.0) (λ e. kept x r (take 5 (drop (length p) e.0))) (listing m))
 
   -- and nothing where nothing is stored

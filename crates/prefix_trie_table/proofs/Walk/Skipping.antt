@@ -3,7 +3,7 @@ use Rattle.std.proofs.Common.{◌≡◌, ℕ, ◌+◌, ◌*◌, ◌≤◌, Bool,
 use Rattle.std.proofs.Math.Seq.{take-add}
 use Rattle.std.specs.List.{All}
 use Rattle.std.proofs.lemmas.Bool.{lt-ltb}
-use Rattle.std.proofs.lemmas.List.{take-take, take-append-drop, length-take-le, length-map}
+use Rattle.std.proofs.lemmas.List.{take-take, take-append-drop, length-take-le}
 use Rattle.std.proofs.lemmas.List.Elements.{filter-append, All-head, All-tail, All-weaker, All-filter}
 use Rattle.prefix_trie_bits.specs.Bits.{begins}
 use Rattle.prefix_trie_bits.specs.Begins.{same_bool, begins-length, begins-linear, begins-trans, begins-same-length, begins-from-rest, take-begins}
@@ -16,21 +16,13 @@ use Rattle.prefix_trie_table.specs.declared.table.spot.Spot.{Spot}
 use Rattle.prefix_trie_table.specs.Digits.{path_of}
 use Rattle.prefix_trie_table.specs.Forest.{read}
 use Rattle.prefix_trie_table.specs.Store.{Store}
-use Rattle.prefix_trie_table.specs.Walking.Walks.{keyed_spot, keyed_spots, IsSpot, IsPlaceOf, IsTrail, IsStack, IsOther, IsPassed, ArePassed, EndsAt, EndsLast, SkipsLast, start, still, pending}
+use Rattle.prefix_trie_table.specs.Walking.Walks.{IsSpot, IsPlaceOf, IsTrail, IsStack, IsOther, IsPassed, ArePassed, EndsAt, EndsLast, SkipsLast, start, still, pending}
 use Rattle.prefix_trie_table.proofs.Walk.Cursors.{short_rest}
-use Rattle.prefix_trie_table.proofs.Walk.Passing.{passed-below, passed-put}
+use Rattle.prefix_trie_table.proofs.Walk.Stacks.{passed-below, passed-above, spot_as, pending-popped, stack-room, stack-put, trail-at}
 use Rattle.prefix_trie_table.proofs.Strings.Paths.{snoc_inj}
-use Rattle.prefix_trie_table.proofs.Walk.Selected.{one-answer, some-places}
-use Rattle.prefix_trie_table.proofs.Walk.Stacks.{pending-popped, spot-popped, stack-room, stack-put, trail-at, keyed_spots-popped}
+use Rattle.prefix_trie_table.proofs.Walk.Selected.{begins-common, one-answer, some-places}
 
 -- ---- at a spot
-
--- what two strings begin with counts for nothing
-begins-common : (s t u : List Bool) → begins (s ++ t) (s ++ u) ≡ begins t u
-unfolding begins
-begins-common [] t u = refl
-begins-common (true ∷ s) t u = begins-common s t u
-begins-common (false ∷ s) t u = begins-common s t u
 
 begins-within : (s t u k : List Bool) → length t ≤ length u → begins (s ++ u) k ≡ true → begins (s ++ t) k ≡ begins t u
 begins-within s t u k h e =
@@ -84,25 +76,25 @@ module _ {T : Type 0} (m : Entries T) (s : List Bool) where
 -- ---- at a stack
 
 -- a stack that is not empty is no longer than levels of a key are
-pub few_spots : {K : Type 0} (IsKey : K → Type 0) (bits : K → List Bool) (width : ℕ) (v : Store Node) (way : K) (ps : List Spot) → width ≤ 128 → IsStack IsKey bits width v (keyed_spots way ps) →
+pub few_spots : {K : Type 0} (IsKey : K → Type 0) (bits : K → List Bool) (width : ℕ) (v : Store Node) (way : K) (ps : List Spot) → width ≤ 128 → IsStack IsKey bits width v way ps →
     (key : K) (len : ℕ) → EndsLast bits way ps key len → length ps ≤ 26
 few_spots IsKey bits width v way ps small stack key len ends =
-    let room = stack-room (keyed_spots way ps) (keyed_spots way ends.below) (keyed_spot way ends.spot) (keyed_spots-popped way ps ends.below ends.spot ends.is) IsKey bits width v stack small in
-    omega (arith, room, length-map ends.below (keyed_spot way), ap length ends.is, length-append ends.below (ends.spot ∷ []))
+    let room = stack-room ps ends.below ends.spot ends.is IsKey bits width v way stack small in
+    omega (arith, room, ap length ends.is, length-append ends.below (ends.spot ∷ []))
 
 module _ {K : Type 0} (IsKey : K → Type 0) (bits : K → List Bool) (width : ℕ) (v : Store Node) (way : K) (long : length (bits way) ≡ width) where
-  shorts : (p : Spot) → IsSpot IsKey bits width v (keyed_spot way p) → All IsShort (to_come p.places)
+  shorts : (p : Spot) → IsSpot IsKey bits width v way p → All IsShort (to_come p.places)
   shorts p i = All-weaker (IsPlaceOf p.node) IsShort (λ s h. h.0) (to_come p.places) i.each
 
   -- a string that goes on deeper begins nothing of what is to come at spots that it has passed
   stay-below : {T : Type 0} (m : Entries T) (z : List Bool) (d : ℕ) → d ≤ width → begins (take d (bits way)) z ≡ true → (n : ℕ) (ps : List Spot) → n + 5 * length ps ≤ d →
-      IsTrail IsKey bits width v n (keyed_spots way ps) → All (IsPassed bits) (keyed_spots way ps) →
-      filter (λ e. not (begins z e.0)) (pending bits m (keyed_spots way ps)) ≡ pending bits m (keyed_spots way ps)
+      IsTrail IsKey bits width v n way ps → All (IsPassed bits way) ps →
+      filter (λ e. not (begins z e.0)) (pending bits m way ps) ≡ pending bits m way ps
   stay-below m z d inside begun n [] h t o = refl
   stay-below m z d inside begun n (p ∷ ps) h t o =
-      filter-append (λ e. not (begins z e.0)) (pending bits m (keyed_spots way ps)) (still bits m (keyed_spot way p))
-      ∙ ap₂ (λ xs ys. xs ++ ys) (stay-below m z d inside begun (n + 5) ps (omega (arith, h)) t.2 (All-tail (IsPassed bits) (keyed_spot way p) (keyed_spots way ps) o))
-      (stay-others m (take p.depth (bits way)) (take 5 (drop p.depth (bits way))) z five goes_on (to_come p.places) (shorts p t.1) (All-head (IsPassed bits) (keyed_spot way p) (keyed_spots way ps) o))
+      filter-append (λ e. not (begins z e.0)) (pending bits m way ps) (still bits m way p)
+      ∙ ap₂ (λ xs ys. xs ++ ys) (stay-below m z d inside begun (n + 5) ps (omega (arith, h)) t.2 (All-tail (IsPassed bits way) p ps o))
+      (stay-others m (take p.depth (bits way)) (take 5 (drop p.depth (bits way))) z five goes_on (to_come p.places) (shorts p t.1) (All-head (IsPassed bits way) p ps o))
     where
       deeper : p.depth + 5 ≤ d
       deeper = omega (arith, h, t.0)
@@ -117,68 +109,56 @@ module _ {K : Type 0} (IsKey : K → Type 0) (bits : K → List Bool) (width : �
 
 -- what the first bits of a key begin, which end at the last spot, was dropped there
 module _ {K : Type 0} (IsKey : K → Type 0) (bits : K → List Bool) (width : ℕ) (v : Store Node) (law : (k : K) → IsKey k → length (bits k) ≡ width) (way key : K) (is_key : IsKey key) (len : ℕ) (within : len ≤ width) (old new : List Spot)
-    (stack : IsStack IsKey bits width v (keyed_spots way old)) (passed : ArePassed bits (keyed_spots way old)) (ends : EndsLast bits way old key len) (skips : SkipsLast (bits key) len old new) where
-  at_old : keyed_spots way old ≡ keyed_spots way skips.below ++ keyed_spot way skips.was ∷ []
-  at_old = keyed_spots-popped way old skips.below skips.was skips.before
-
-  at_new : keyed_spots way new ≡ keyed_spots way skips.below ++ keyed_spot way skips.now ∷ []
-  at_new = keyed_spots-popped way new skips.below skips.now skips.after
-
-  spot : IsSpot IsKey bits width v (keyed_spot way skips.was)
-  spot = spot-popped (keyed_spots way old) (keyed_spots way skips.below) (keyed_spot way skips.was) at_old IsKey bits width v stack
+    (stack : IsStack IsKey bits width v way old) (passed : ArePassed bits way old) (ends : EndsLast bits way old key len) (skips : SkipsLast (bits key) len old new) where
+  spot : IsSpot IsKey bits width v way skips.was
+  spot = (trail-at old skips.below skips.was skips.before IsKey bits width v way stack).2
 
   long : length (bits way) ≡ width
-  long = law way spot.key
+  long = law way spot.is_key
 
-  ended : EndsAt bits (keyed_spot way skips.was) key len
-  ended = subst (λ p. EndsAt bits (keyed_spot way p) key len) (snoc_inj ends.below skips.below ends.spot skips.was (sym ends.is ∙ skips.before)).1 ends.ends
+  ended : EndsAt bits way skips.was key len
+  ended = subst (λ p. EndsAt bits way p key len) (snoc_inj ends.below skips.below ends.spot skips.was (sym ends.is ∙ skips.before)).1 ends.ends
 
-  spot_left : IsSpot IsKey bits width v (keyed_spot way skips.now)
+  spot_left : IsSpot IsKey bits width v way skips.now
   spot_left =
-      let s = skips.skips in record {
-        key = spot.key;
-        level = spot.level;
-        depth_is = s.depth_is ∙ spot.depth_is;
-        within = (let w = spot.within in let d = s.depth_is in omega (arith, w, d));
-        stands = ap (λ d. read v.slots (path_of (take d (bits way)))) s.depth_is ∙ spot.stands ∙ ap Some (sym s.node_is);
-        each = subst (λ n. All (IsPlaceOf n) (to_come skips.now.places)) (sym s.node_is)
-            (subst (All (IsPlaceOf skips.was.node)) (sym s.left)
-            (All-filter (λ u. not (begins (drop skips.was.depth (take len (bits key))) u)) (IsPlaceOf skips.was.node) (to_come skips.was.places) spot.each));
-      }
+      let s = skips.skips in
+      spot_as spot spot.is_key s.depth_is (ap (λ d. read v.slots (path_of (take d (bits way)))) s.depth_is ∙ spot.stands ∙ ap Some (sym s.node_is))
+      (subst (λ n. All (IsPlaceOf n) (to_come skips.now.places)) (sym s.node_is)
+      (subst (All (IsPlaceOf skips.was.node)) (sym s.left)
+      (All-filter (λ u. not (begins (drop skips.was.depth (take len (bits key))) u)) (IsPlaceOf skips.was.node) (to_come skips.was.places) spot.each)))
 
-  pub stack_left : IsStack IsKey bits width v (keyed_spots way new)
+  pub stack_left : IsStack IsKey bits width v way new
   stack_left =
-      subst (IsStack IsKey bits width v) (sym at_new)
-      (stack-put (keyed_spots way old) (keyed_spots way skips.below) (keyed_spot way skips.was) at_old IsKey bits width v stack (keyed_spot way skips.now) skips.skips.depth_is spot_left)
+      subst (IsStack IsKey bits width v way) (sym skips.after)
+      (stack-put old skips.below skips.was skips.before IsKey bits width v way stack skips.now skips.skips.depth_is spot_left)
 
-  pub passed_left : ArePassed bits (keyed_spots way new)
-  passed_left = passed-put bits (keyed_spots way old) (keyed_spots way new) (keyed_spots way skips.below) (keyed_spot way skips.was) (keyed_spot way skips.now) at_old at_new passed
+  pub passed_left : ArePassed bits way new
+  passed_left = passed-above bits way new skips.below skips.now skips.after (passed-below bits way old skips.below skips.was skips.before passed)
 
   string_is : take skips.was.depth (bits way) ++ drop skips.was.depth (take len (bits key)) ≡ take len (bits key)
   string_is =
-      ap (λ s. s ++ drop skips.was.depth (take len (bits key))) (sym ended.way ∙ sym (take-take skips.was.depth len (bits key) ended.whole))
+      ap (λ s. s ++ drop skips.was.depth (take len (bits key))) (sym ended.same_way ∙ sym (take-take skips.was.depth len (bits key) ended.whole))
       ∙ take-append-drop skips.was.depth (take len (bits key))
 
   module _ {T : Type 0} (m : Entries T) where
-    still_left : still bits m (keyed_spot way skips.now) ≡ filter (λ e. not (begins (take len (bits key)) e.0)) (still bits m (keyed_spot way skips.was))
+    still_left : still bits m way skips.now ≡ filter (λ e. not (begins (take len (bits key)) e.0)) (still bits m way skips.was)
     still_left =
         let short = short_rest (bits key) width (law key is_key) skips.was.depth len within ended.last in
         ap (λ d. listing_at_places m (take d (bits way)) (to_come skips.now.places)) skips.skips.depth_is
         ∙ ap (listing_at_places m (take skips.was.depth (bits way))) skips.skips.left
         ∙ stay-places m (take skips.was.depth (bits way)) (drop skips.was.depth (take len (bits key))) (omega (arith, short)) (to_come skips.was.places) (shorts IsKey bits width v way long skips.was spot)
-        ∙ ap (λ z. filter (λ e. not (begins z e.0)) (still bits m (keyed_spot way skips.was))) string_is
+        ∙ ap (λ z. filter (λ e. not (begins z e.0)) (still bits m way skips.was)) string_is
 
-    below_left : filter (λ e. not (begins (take len (bits key)) e.0)) (pending bits m (keyed_spots way skips.below)) ≡ pending bits m (keyed_spots way skips.below)
+    below_left : filter (λ e. not (begins (take len (bits key)) e.0)) (pending bits m way skips.below) ≡ pending bits m way skips.below
     below_left =
-        let at = trail-at (keyed_spots way old) (keyed_spots way skips.below) (keyed_spot way skips.was) at_old IsKey bits width v stack in
+        let at = trail-at old skips.below skips.was skips.before IsKey bits width v way stack in
         stay-below IsKey bits width v way long m (take len (bits key)) skips.was.depth spot.within
         (begins-from-rest (take skips.was.depth (bits way)) (take len (bits key)) (drop skips.was.depth (take len (bits key))) (sym string_is))
-        (start (keyed_spots way old)) skips.below (omega (arith, at.1, length-map skips.below (keyed_spot way))) at.0
-        (passed-below bits (keyed_spots way old) (keyed_spots way skips.below) (keyed_spot way skips.was) at_old passed)
+        (start old) skips.below (omega (arith, at.1)) at.0 (passed-below bits way old skips.below skips.was skips.before passed)
 
-    pub pending_left : pending bits m (keyed_spots way new) ≡ filter (λ e. not (begins (take len (bits key)) e.0)) (pending bits m (keyed_spots way old))
+    pub pending_left : pending bits m way new ≡ filter (λ e. not (begins (take len (bits key)) e.0)) (pending bits m way old)
     pending_left =
-        pending-popped (keyed_spots way new) (keyed_spots way skips.below) (keyed_spot way skips.now) at_new bits m
+        pending-popped new skips.below skips.now skips.after bits m way
         ∙ ap₂ (λ xs ys. xs ++ ys) still_left (sym below_left)
-        ∙ sym (filter-append (λ e. not (begins (take len (bits key)) e.0)) (still bits m (keyed_spot way skips.was)) (pending bits m (keyed_spots way skips.below)))
-        ∙ ap (filter (λ e. not (begins (take len (bits key)) e.0))) (sym (pending-popped (keyed_spots way old) (keyed_spots way skips.below) (keyed_spot way skips.was) at_old bits m))
+        ∙ sym (filter-append (λ e. not (begins (take len (bits key)) e.0)) (still bits m way skips.was) (pending bits m way skips.below))
+        ∙ ap (filter (λ e. not (begins (take len (bits key)) e.0))) (sym (pending-popped old skips.below skips.was skips.before bits m way))

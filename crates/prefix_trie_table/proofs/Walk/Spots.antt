@@ -1,7 +1,9 @@
 -- What the next place of a spot gives.
-use Rattle.std.proofs.Common.{◌≡◌, ℕ, zero, suc, ◌+◌, ◌-◌, ◌/◌, ◌%◌, ◌<◌, ◌≤◌, Bool, true, false, cond, List, [], ◌∷◌, ◌++◌, length, take, drop, filter, get_or, None, Some, refl, sym, ap, ap₂, ◌∙◌, subst, arith, inl, inr, length-append, append_assoc}
+use Rattle.std.proofs.Common.{◌≡◌, ℕ, suc, ◌+◌, ◌-◌, ◌*◌, ◌^◌, ◌%◌, ◌<◌, ◌≤◌, Bool, true, false, cond, List, [], ◌∷◌, ◌++◌, length, take, drop, filter, get_or, None, Some, refl, sym, ap, ap₂, ◌∙◌, subst, arith, inl, inr, length-append, append_assoc}
 use Rattle.std.specs.List.{All}
 use Rattle.std.specs.List.Sorted.{IsStrictlySortedBy}
+use Rattle.std.proofs.Math.Nat.{add-mul, one-mul}
+use Rattle.std.proofs.lemmas.Nat.{pow_pos, shl_below}
 use Rattle.std.proofs.lemmas.Bool.{cases_lt, lt-ltb, le-ltb}
 use Rattle.std.proofs.lemmas.List.{length-take-le, take-append-le, take-take, take_at, drop_at}
 use Rattle.std.proofs.lemmas.List.Elements.{All-head, All-tail}
@@ -20,34 +22,21 @@ use Rattle.prefix_trie_bits.proofs.Strings.{value_bit-small}
 use Rattle.prefix_trie_bits.proofs.Model.NodeListings.{listing_at_child}
 use Rattle.prefix_trie_table.specs.declared.allocator.node.Node.{Node}
 use Rattle.prefix_trie_table.specs.declared.table.seat.Seat.{Seat}
+use Rattle.prefix_trie_table.specs.declared.table.spot.Spot.{Spot}
 use Rattle.prefix_trie_table.specs.Bitmaps.{has_bit}
 use Rattle.prefix_trie_table.specs.Cells.{node_at}
 use Rattle.prefix_trie_table.specs.Digits.{path_of}
 use Rattle.prefix_trie_table.specs.Locations.{seat_of, value_seat}
 use Rattle.prefix_trie_table.specs.Store.{Store}
 use Rattle.prefix_trie_table.specs.Forest.{read, child_slot}
-use Rattle.prefix_trie_table.specs.Walking.Walks.{KeyedSpot, Tree, IsSpot, IsPlaceOf, IsOther, IsPassed, still, GivesSeat, many, most, weight_of, weight, slot_of}
+use Rattle.prefix_trie_table.specs.Walking.Walks.{Tree, IsSpot, IsPlaceOf, IsOther, IsPassed, still, GivesSeat, weight, slot_of}
 use Rattle.prefix_trie_table.specs.Tables.{IsTrie}
-use Rattle.prefix_trie_table.proofs.Walk.Passing.{others_after}
+use Rattle.prefix_trie_table.proofs.Walk.Stacks.{others_after, spot_as}
 use Rattle.prefix_trie_table.proofs.Strings.Plain.{whole_levels}
 use Rattle.prefix_trie_table.proofs.Lookup.Locating.{seat_below}
 use Rattle.prefix_trie_table.proofs.Tree.Subtrees.{is_in-value, is_in-child, number-small, stored_value, value_read, value_inside, value_listed, value_fits, child_is, child_inside, child_few, child_fits, all_places}
 
 -- ---- the bound on steps
-
-weight-many : (n : ℕ) (ss : List (List Bool)) (k : ℕ) → length ss ≤ k → weight_of n ss ≤ many k (most n)
-unfolding many
-weight-many n [] zero h = omega arith
-weight-many n [] (suc k) h = omega arith
-weight-many n (s ∷ ss) zero h = absurd (omega (arith, h))
-weight-many n (s ∷ ss) (suc k) h = omega (arith, weight-many n ss k (omega (arith, h)))
-
-most-suc : (n : ℕ) → most (suc n) ≡ many 63 (most n)
-unfolding most
-most-suc n = refl
-
-level-below : (d : ℕ) → d + 5 ≤ 128 → (130 - d) / 5 ≡ suc ((130 - (d + 5)) / 5)
-level-below d h = omega (arith, h)
 
 filter-length : {X : Type 0} (p : X → Bool) (xs : List X) → length (filter p xs) ≤ length xs
 filter-length p [] = omega arith
@@ -57,12 +46,17 @@ filter-length p (x ∷ xs) = go (p x) (filter-length p xs)
     go true h = omega (arith, h)
     go false h = omega (arith, h)
 
+one-less : (n x : ℕ) → suc n * x ≡ x + n * x
+one-less n x = let e : suc n ≡ 1 + n = omega arith in ap (λ k. k * x) e ∙ add-mul 1 n x ∙ ap (λ k. k + n * x) (one-mul x)
+
 -- a child with all its places weighs less than its place did
-weight-child : (d e vs cs : ℕ) (ss : List (List Bool)) → e ≡ d + 5 → e ≤ 128 → ss ≡ places vs cs → weight_of ((130 - e) / 5) ss ≤ most ((130 - d) / 5)
+weight-child : (d e vs cs : ℕ) (ss : List (List Bool)) → e ≡ d + 5 → e ≤ 128 → ss ≡ places vs cs → length ss * 2 ^ (2 * (130 - e)) + 1 < 2 ^ (2 * (130 - d))
 weight-child d e vs cs ss is fits all =
     let few : length ss ≤ 63 = omega (arith, ap length all, filter-length (is_in vs cs) (strings 5), count-strings) in
-    let level : (130 - d) / 5 ≡ suc ((130 - e) / 5) = level-below d (omega (arith, is, fits)) ∙ ap (λ k. suc ((130 - k) / 5)) (sym is) in
-    subst (λ m. weight_of ((130 - e) / 5) ss ≤ m) (sym (ap most level ∙ most-suc ((130 - e) / 5))) (weight-many ((130 - e) / 5) ss 63 few)
+    let level : 10 + 2 * (130 - e) ≡ 2 * (130 - d) = omega (arith, is, fits) in
+    let below : suc (length ss) * 2 ^ (2 * (130 - e)) < 2 ^ (2 * (130 - d)) =
+    subst (λ k. suc (length ss) * 2 ^ (2 * (130 - e)) < 2 ^ k) level (shl_below (suc (length ss)) 10 (2 * (130 - e)) (omega (arith, few))) in
+    omega (arith, below, one-less (length ss) (2 ^ (2 * (130 - e))), pow_pos (2 * (130 - e)))
 
 -- ---- which place it is
 
@@ -95,47 +89,44 @@ place-child-small s b h e =
 whole-more : (u s : List Bool) → length u % 5 ≡ 0 → length s ≡ 5 → length (u ++ s) % 5 ≡ 0
 whole-more u s h five = omega (arith, h, five, length-append u s)
 
-module _ {K : Type 0} (IsKey : K → Type 0) (bits : K → List Bool) (width : ℕ) (v : Store Node) (p : KeyedSpot K) (at : IsSpot IsKey bits width v p)
-    (long : length (bits p.key) ≡ width) where
-  pub string-length : length (take p.depth (bits p.key)) ≡ p.depth
-  string-length = let w = at.within in length-take-le p.depth (bits p.key) (omega (arith, w, long))
+module _ {K : Type 0} (IsKey : K → Type 0) (bits : K → List Bool) (width : ℕ) (v : Store Node) (way : K) (p : Spot) (at : IsSpot IsKey bits width v way p)
+    (long : length (bits way) ≡ width) where
+  pub string-length : length (take p.depth (bits way)) ≡ p.depth
+  string-length = let w = at.within in length-take-le p.depth (bits way) (omega (arith, w, long))
 
-  whole : length (take p.depth (bits p.key)) % 5 ≡ 0
-  whole = whole_levels (length (take p.depth (bits p.key))) at.level (string-length ∙ at.depth_is)
+  whole : length (take p.depth (bits way)) % 5 ≡ 0
+  whole = whole_levels (length (take p.depth (bits way))) at.level (string-length ∙ at.depth_is)
 
   -- a key that begins with the spot's path
-  pub same_way : (key : K) (s rest : List Bool) → bits key ≡ take p.depth (bits p.key) ++ s ++ rest → take p.depth (bits key) ≡ take p.depth (bits p.key)
+  pub same_way : (key : K) (s rest : List Bool) → bits key ≡ take p.depth (bits way) ++ s ++ rest → take p.depth (bits key) ≡ take p.depth (bits way)
   same_way key s rest e =
-      ap (take p.depth) (e ∙ append_assoc (take p.depth (bits p.key)) s rest)
-      ∙ take-append-le p.depth (take p.depth (bits p.key)) (s ++ rest) (omega (arith, string-length)) ∙ take-take p.depth p.depth (bits p.key) (omega arith)
+      ap (take p.depth) (e ∙ append_assoc (take p.depth (bits way)) s rest)
+      ∙ take-append-le p.depth (take p.depth (bits way)) (s ++ rest) (omega (arith, string-length)) ∙ take-take p.depth p.depth (bits way) (omega arith)
 
   module _ (s : List Bool) (later : Places) (first : to_come p.places ≡ s ∷ to_come later) where
     -- the spot afterwards
-    abbrev after : KeyedSpot K
-    after = record { node = p.node; key = p.key; depth = p.depth; places = later }
+    abbrev after : Spot
+    after = record p { places = later }
 
     here : IsPlaceOf p.node s
     here = All-head (IsPlaceOf p.node) s (to_come later) (subst (All (IsPlaceOf p.node)) first at.each)
 
-    pub goes_on : IsSpot IsKey bits width v (record { node = p.node; key = p.key; depth = p.depth; places = later })
-    goes_on = record {
-      key = at.key;
-      level = at.level;
-      depth_is = at.depth_is;
-      within = at.within;
-      stands = at.stands;
-      each = All-tail (IsPlaceOf p.node) s (to_come later) (subst (All (IsPlaceOf p.node)) first at.each);
-    }
+    pub goes_on : IsSpot IsKey bits width v way (record p { places = later })
+    goes_on = spot_as at at.is_key refl at.stands (All-tail (IsPlaceOf p.node) s (to_come later) (subst (All (IsPlaceOf p.node)) first at.each))
 
-    weight_is : weight p ≡ most ((130 - p.depth) / 5) + 1 + weight after
-    weight_is = ap (weight_of ((130 - p.depth) / 5)) first
+    weight_is : weight p ≡ 2 ^ (2 * (130 - p.depth)) + weight after
+    weight_is =
+        let e = one-less (length (to_come later)) (2 ^ (2 * (130 - p.depth))) in
+        let l : length (to_come p.places) * 2 ^ (2 * (130 - p.depth)) ≡ suc (length (to_come later)) * 2 ^ (2 * (130 - p.depth)) =
+        ap (λ ss. length ss * 2 ^ (2 * (130 - p.depth))) first in
+        omega (arith, e, l)
 
     pub lighter : weight after < weight p
-    lighter = omega (arith, weight_is)
+    lighter = omega (arith, weight_is, pow_pos (2 * (130 - p.depth)))
 
     module _ {T : Type 0} (t : Tree T) (tree : IsTrie width t.count v t.cells t.shape) where
-      still_is : still bits t.shape.entries p ≡ listing_at_place t.shape.entries (take p.depth (bits p.key)) s ++ still bits t.shape.entries after
-      still_is = ap (listing_at_places t.shape.entries (take p.depth (bits p.key))) first
+      still_is : still bits t.shape.entries way p ≡ listing_at_place t.shape.entries (take p.depth (bits way)) s ++ still bits t.shape.entries way after
+      still_is = ap (listing_at_places t.shape.entries (take p.depth (bits way))) first
 
       -- the next place is that of a value
       module _ (short : length s ≤ 4) where
@@ -144,39 +135,39 @@ module _ {K : Type 0} (IsKey : K → Type 0) (bits : K → List Bool) (width : �
 
         pub value_room : p.depth + length s ≤ width
         value_room =
-            let h = value_fits width v t tree (take p.depth (bits p.key)) p.node whole at.stands s short set in omega (arith, h, string-length)
+            let h = value_fits width v t tree (take p.depth (bits way)) p.node whole at.stands s short set in omega (arith, h, string-length)
 
         module _ (key : K) (is_key : IsKey key) (n x : ℕ) (is : s ≡ digits n x)
-            (extended : bits key ≡ take p.depth (bits p.key) ++ digits n x ++ zeros (width - (p.depth + n))) where
+            (extended : bits key ≡ take p.depth (bits way) ++ digits n x ++ zeros (width - (p.depth + n))) where
           n_is : length s ≡ n
           n_is = ap length is ∙ length-digits n x
 
           fits : p.depth + n ≤ width
           fits = let h = value_room in omega (arith, h, n_is)
 
-          taken : take (p.depth + n) (bits key) ≡ take p.depth (bits p.key) ++ s
-          taken = take-extend (bits p.key) (bits key) width p.depth n x long fits extended ∙ ap (λ u. take p.depth (bits p.key) ++ u) (sym is)
+          taken : take (p.depth + n) (bits key) ≡ take p.depth (bits way) ++ s
+          taken = take-extend (bits way) (bits key) width p.depth n x long fits extended ∙ ap (λ u. take p.depth (bits way) ++ u) (sym is)
 
           filled : bits key ≡ take (p.depth + n) (bits key) ++ zeros (width - (p.depth + n))
           filled =
-              extended ∙ ap (λ u. u ++ zeros (width - (p.depth + n))) (sym (take-extend (bits p.key) (bits key) width p.depth n x long fits extended))
+              extended ∙ ap (λ u. u ++ zeros (width - (p.depth + n))) (sym (take-extend (bits way) (bits key) width p.depth n x long fits extended))
 
           -- what the step gives
           module _ (seat : Seat) (seat_is : seat ≡ value_seat p.node (value_bit s)) where
-            pub gives_value : GivesSeat IsKey bits width t key (p.depth + n) seat (still bits t.shape.entries p) (still bits t.shape.entries after)
+            pub gives_value : GivesSeat IsKey bits width t key (p.depth + n) seat (still bits t.shape.entries way p) (still bits t.shape.entries way after)
             gives_value =
-                let x = stored_value width v t tree (take p.depth (bits p.key)) p.node whole at.stands s short set in
+                let x = stored_value width v t tree (take p.depth (bits way)) p.node whole at.stands s short set in
                 record {
                   value = x;
-                  stands = subst (λ k. slot_of k < length t.cells.slots) (sym seat_is) (value_inside width v t tree (take p.depth (bits p.key)) p.node whole at.stands s short set);
-                  reads = ap (λ k. get_or t.cells.slots (slot_of k) None) seat_is ∙ value_read width v t tree (take p.depth (bits p.key)) p.node whole at.stands s short set;
+                  stands = subst (λ k. slot_of k < length t.cells.slots) (sym seat_is) (value_inside width v t tree (take p.depth (bits way)) p.node whole at.stands s short set);
+                  reads = ap (λ k. get_or t.cells.slots (slot_of k) None) seat_is ∙ value_read width v t tree (take p.depth (bits way)) p.node whole at.stands s short set;
                   gives = record {
                     is_key = is_key;
                     short = fits;
                     first =
                         still_is
-                        ∙ ap (λ es. es ++ still bits t.shape.entries after) (value_listed width v t tree (take p.depth (bits p.key)) p.node whole at.stands s short set)
-                        ∙ ap (λ k. (k, x) ∷ still bits t.shape.entries after) (sym taken);
+                        ∙ ap (λ es. es ++ still bits t.shape.entries way after) (value_listed width v t tree (take p.depth (bits way)) p.node whole at.stands s short set)
+                        ∙ ap (λ k. (k, x) ∷ still bits t.shape.entries way after) (sym taken);
                     filled = filled;
                   };
                 }
@@ -184,7 +175,7 @@ module _ {K : Type 0} (IsKey : K → Type 0) (bits : K → List Bool) (width : �
             -- where the seat is that of its key
             pub value_seated : seat_of v.slots (take (p.depth + n) (bits key)) ≡ Some seat
             value_seated =
-                ap (seat_of v.slots) taken ∙ seat_below v.slots at.level (take p.depth (bits p.key)) s p.node (string-length ∙ at.depth_is) short at.stands set
+                ap (seat_of v.slots) taken ∙ seat_below v.slots at.level (take p.depth (bits way)) s p.node (string-length ∙ at.depth_is) short at.stands set
                 ∙ ap Some (sym seat_is)
 
       -- the next place is that of a child
@@ -194,15 +185,15 @@ module _ {K : Type 0} (IsKey : K → Type 0) (bits : K → List Bool) (width : �
 
         pub child_room : p.depth + 5 ≤ width
         child_room =
-            let h = child_fits width v t tree (take p.depth (bits p.key)) p.node whole at.stands s five bit_set in omega (arith, h, string-length)
+            let h = child_fits width v t tree (take p.depth (bits way)) p.node whole at.stands s five bit_set in omega (arith, h, string-length)
 
         -- which is passed
         pub child_passed : IsStrictlySortedBy listing_cmp (to_come p.places) → (b : ℕ) → b ≡ number s → (key : K) (rest : List Bool) →
-            bits key ≡ take p.depth (bits p.key) ++ digits 5 b ++ rest → IsPassed bits (record { node = p.node; key = key; depth = p.depth; places = later })
+            bits key ≡ take p.depth (bits way) ++ digits 5 b ++ rest → IsPassed bits key (record p { places = later })
         unfolding IsStrictlySortedBy
         child_passed sorted b b_is key rest extended =
             let child : take 5 (drop p.depth (bits key)) ≡ s =
-            ap (λ k. take 5 (drop p.depth k)) (extended ∙ append_assoc (take p.depth (bits p.key)) (digits 5 b) rest) ∙ ap (take 5) (drop_at (take p.depth (bits p.key)) (digits 5 b ++ rest) p.depth string-length)
+            ap (λ k. take 5 (drop p.depth k)) (extended ∙ append_assoc (take p.depth (bits way)) (digits 5 b) rest) ∙ ap (take 5) (drop_at (take p.depth (bits way)) (digits 5 b ++ rest) p.depth string-length)
             ∙ take_at (digits 5 b) rest 5 (length-digits 5 b) ∙ ap₂ digits (sym five) b_is ∙ digits-number s in
             subst (λ c. All (IsOther c) (to_come later)) (sym child) (others_after s (to_come later) (subst (IsStrictlySortedBy listing_cmp) first sorted).0)
 
@@ -210,37 +201,35 @@ module _ {K : Type 0} (IsKey : K → Type 0) (bits : K → List Bool) (width : �
           own_slot : slot ≡ child_slot p.node (number s)
           own_slot = slot_is ∙ ap (child_slot p.node) b_is
 
-          pub child_stands_at : slot < length v.slots
-          child_stands_at =
-              subst (λ k. k < length v.slots) (sym own_slot) (child_inside width v t tree (take p.depth (bits p.key)) p.node whole at.stands s five bit_set)
-
-          pub child_without : has_bit (node_at v.slots slot).value_bitmap 31 ≡ false
-          child_without =
-              subst (λ k. has_bit (node_at v.slots k).value_bitmap 31 ≡ false) (sym own_slot)
-              (child_few width v t tree (take p.depth (bits p.key)) p.node whole at.stands s five bit_set)
+          pub child_here : (slot < length v.slots) × (has_bit (node_at v.slots slot).value_bitmap 31 ≡ false)
+          child_here =
+              subst (λ k. (k < length v.slots) × (has_bit (node_at v.slots k).value_bitmap 31 ≡ false)) (sym own_slot) (
+                child_inside width v t tree (take p.depth (bits way)) p.node whole at.stands s five bit_set,
+                child_few width v t tree (take p.depth (bits way)) p.node whole at.stands s five bit_set,
+              )
 
           -- the child, with all its places
-          module _ (c : KeyedSpot K) (is_key : IsKey c.key)
-              (extended : bits c.key ≡ take p.depth (bits p.key) ++ digits 5 b ++ zeros (width - (p.depth + 5)))
+          module _ (below : K) (c : Spot) (is_key : IsKey below)
+              (extended : bits below ≡ take p.depth (bits way) ++ digits 5 b ++ zeros (width - (p.depth + 5)))
               (depth_is : c.depth ≡ p.depth + 5) (node_is : c.node ≡ node_at v.slots slot)
               (all : to_come c.places ≡ places c.node.value_bitmap c.node.child_bitmap) (each : All (IsPlaceOf c.node) (to_come c.places)) where
             digits_are : digits 5 b ≡ s
             digits_are = ap (digits 5) b_is ∙ ap (λ k. digits k (number s)) (sym five) ∙ digits-number s
 
-            child_string : take c.depth (bits c.key) ≡ take p.depth (bits p.key) ++ s
+            child_string : take c.depth (bits below) ≡ take p.depth (bits way) ++ s
             child_string =
-                ap (λ k. take k (bits c.key)) depth_is ∙ take-extend (bits p.key) (bits c.key) width p.depth 5 b long child_room extended
-                ∙ ap (λ u. take p.depth (bits p.key) ++ u) digits_are
+                ap (λ k. take k (bits below)) depth_is ∙ take-extend (bits way) (bits below) width p.depth 5 b long child_room extended
+                ∙ ap (λ u. take p.depth (bits way) ++ u) digits_are
 
-            child_node : read v.slots (path_of (take c.depth (bits c.key))) ≡ Some c.node
+            child_node : read v.slots (path_of (take c.depth (bits below))) ≡ Some c.node
             child_node =
                 ap (λ u. read v.slots (path_of u)) child_string
-                ∙ child_is width v t tree (take p.depth (bits p.key)) p.node whole at.stands s five bit_set
+                ∙ child_is width v t tree (take p.depth (bits way)) p.node whole at.stands s five bit_set
                 ∙ ap (λ k. Some (node_at v.slots k)) (sym own_slot) ∙ ap Some (sym node_is)
 
-            pub child_spot : IsSpot IsKey bits width v c
+            pub child_spot : IsSpot IsKey bits width v below c
             child_spot = record {
-              key = is_key;
+              is_key = is_key;
               level = at.level + 1;
               depth_is = depth_is ∙ (let e = at.depth_is in omega (arith, e));
               within = (let h = child_room in omega (arith, h, depth_is));
@@ -248,22 +237,15 @@ module _ {K : Type 0} (IsKey : K → Type 0) (bits : K → List Bool) (width : �
               each = each;
             }
 
-            -- the spot's path begins the child's key too
-            pub child_way : take p.depth (bits c.key) ≡ take p.depth (bits p.key)
-            child_way =
-                sym (take-take p.depth c.depth (bits c.key) (omega (arith, depth_is))) ∙ ap (take p.depth) child_string
-                ∙ take-append-le p.depth (take p.depth (bits p.key)) s (omega (arith, string-length))
-                ∙ take-take p.depth p.depth (bits p.key) (omega arith)
+            child_whole : length (take c.depth (bits below)) % 5 ≡ 0
+            child_whole = ap (λ u. length u % 5) child_string ∙ whole-more (take p.depth (bits way)) s whole five
 
-            child_whole : length (take c.depth (bits c.key)) % 5 ≡ 0
-            child_whole = ap (λ u. length u % 5) child_string ∙ whole-more (take p.depth (bits p.key)) s whole five
-
-            pub child_still : still bits t.shape.entries p ≡ still bits t.shape.entries c ++ still bits t.shape.entries after
+            pub child_still : still bits t.shape.entries way p ≡ still bits t.shape.entries below c ++ still bits t.shape.entries way after
             child_still =
                 still_is
-                ∙ ap (λ es. es ++ still bits t.shape.entries after)
-                (listing_at_child t.shape.entries (take p.depth (bits p.key)) s five ∙ ap (listing_below t.shape.entries) (sym child_string)
-                ∙ sym (ap (listing_at_places t.shape.entries (take c.depth (bits c.key))) all ∙ all_places width v t tree (take c.depth (bits c.key)) c.node child_whole child_node))
+                ∙ ap (λ es. es ++ still bits t.shape.entries way after)
+                (listing_at_child t.shape.entries (take p.depth (bits way)) s five ∙ ap (listing_below t.shape.entries) (sym child_string)
+                ∙ sym (ap (listing_at_places t.shape.entries (take c.depth (bits below))) all ∙ all_places width v t tree (take c.depth (bits below)) c.node child_whole child_node))
 
             pub child_lighter : width ≤ 128 → weight c + weight after < weight p
             child_lighter small =

@@ -1,6 +1,8 @@
 -- A stack of spots, read from its end.
-use Rattle.std.proofs.Common.{◌≡◌, ℕ, ◌+◌, ◌*◌, ◌<◌, ◌≤◌, Bool, List, [], ◌∷◌, ◌++◌, length, take, refl, ap, sym, ◌∙◌, subst, arith, append_assoc, append-nil, length-append}
-use Rattle.std.proofs.lemmas.List.{take-take, map-append, length-map}
+use Rattle.std.proofs.Common.{◌≡◌, ℕ, ◌+◌, ◌*◌, ◌<◌, ◌≤◌, Bool, List, [], ◌∷◌, ◌++◌, length, sum_by, take, Some, refl, ap, sym, ◌∙◌, subst, arith, append_assoc, append-nil, length-append, drop, get_or, Less}
+use Rattle.std.specs.List.{All, AllByRecursion}
+use Rattle.std.proofs.lemmas.List.{take-take, drop-take, get_or_append_left}
+use Rattle.std.proofs.lemmas.List.Sums.{sum_by_push}
 use Rattle.prefix_trie_bits.specs.Walks.{to_come}
 use Rattle.prefix_trie_bits.specs.Model.Entries.{Entries}
 use Rattle.prefix_trie_bits.specs.Model.NodeListings.{listing_at_places}
@@ -9,160 +11,173 @@ use Rattle.prefix_trie_table.specs.Digits.{path_of}
 use Rattle.prefix_trie_table.specs.Forest.{read}
 use Rattle.prefix_trie_table.specs.Store.{Store}
 use Rattle.prefix_trie_table.specs.declared.allocator.node.Node.{Node}
-use Rattle.prefix_trie_table.specs.Walking.Walks.{KeyedSpot, keyed_spot, keyed_spots, IsSpot, IsTrail, IsStack, start, still, pending, weight, total_weight}
+use Rattle.prefix_trie_table.specs.Walking.Walks.{IsSpot, IsPlaceOf, IsTrail, IsStack, start, still, pending, weight, IsOther, IsPassed, ArePassed}
+use Rattle.std.proofs.lemmas.List.Elements.{All-nil, All-cons, All-head, All-tail, All-push}
+use Rattle.prefix_trie_bits.specs.Order.{listing_cmp, listing-refl}
 
-module _ {K T : Type 0} (bits : K → List Bool) (m : Entries T) where
-  pub pending-push : (ps : List (KeyedSpot K)) (p : KeyedSpot K) → pending bits m (ps ++ p ∷ []) ≡ still bits m p ++ pending bits m ps
-  pending-push [] p = sym (append-nil (still bits m p))
-  pending-push (q ∷ ps) p = ap (λ xs. xs ++ still bits m q) (pending-push ps p) ∙ append_assoc (still bits m p) (pending bits m ps) (still bits m q)
+-- a spot of as many levels as another
+pub spot_as : {K : Type 0} {IsKey IsOther : K → Type 0} {bits : K → List Bool} {width : ℕ} {v w : Store Node} {key other : K} {p q : Spot} → IsSpot IsKey bits width v key p →
+    IsOther other → q.depth ≡ p.depth → read w.slots (path_of (take q.depth (bits other))) ≡ Some q.node → All (IsPlaceOf q.node) (to_come q.places) → IsSpot IsOther bits width w other q
+spot_as i is_key same stands each = record {
+  is_key = is_key;
+  level = i.level;
+  depth_is = same ∙ i.depth_is;
+  within = (let h = i.within in omega (arith, h, same));
+  stands = stands;
+  each = each;
+}
 
-module _ {K : Type 0} where
-  pub weight-push : (ps : List (KeyedSpot K)) (p : KeyedSpot K) → total_weight (ps ++ p ∷ []) ≡ total_weight ps + weight p
-  weight-push [] p = omega arith
-  weight-push (q ∷ ps) p = omega (arith, weight-push ps p)
+module _ {K T : Type 0} (bits : K → List Bool) (m : Entries T) (key : K) where
+  pub pending-push : (ps : List Spot) (p : Spot) → pending bits m key (ps ++ p ∷ []) ≡ still bits m key p ++ pending bits m key ps
+  pending-push [] p = sym (append-nil (still bits m key p))
+  pending-push (q ∷ ps) p = ap (λ xs. xs ++ still bits m key q) (pending-push ps p) ∙ append_assoc (still bits m key p) (pending bits m key ps) (still bits m key q)
 
-module _ {K : Type 0} (IsKey : K → Type 0) (bits : K → List Bool) (width : ℕ) (v : Store Node) where
-  pub trail-push : (n : ℕ) (ps : List (KeyedSpot K)) (p : KeyedSpot K) → IsTrail IsKey bits width v n ps → p.depth ≡ n + 5 * length ps → IsSpot IsKey bits width v p →
-      IsTrail IsKey bits width v n (ps ++ p ∷ [])
+module _ {K : Type 0} (IsKey : K → Type 0) (bits : K → List Bool) (width : ℕ) (v : Store Node) (key : K) where
+  pub trail-push : (n : ℕ) (ps : List Spot) (p : Spot) → IsTrail IsKey bits width v n key ps → p.depth ≡ n + 5 * length ps → IsSpot IsKey bits width v key p →
+      IsTrail IsKey bits width v n key (ps ++ p ∷ [])
   trail-push n [] p h d i = (omega (arith, d), i, tt)
   trail-push n (q ∷ ps) p h d i = (h.0, h.1, trail-push (n + 5) ps p h.2 (omega (arith, d)) i)
 
   -- what holds of the spots below the last one, and of it
-  pub trail-pop : (n : ℕ) (ps : List (KeyedSpot K)) (p : KeyedSpot K) → IsTrail IsKey bits width v n (ps ++ p ∷ []) →
-      IsTrail IsKey bits width v n ps × (p.depth ≡ n + 5 * length ps) × IsSpot IsKey bits width v p
+  trail-pop : (n : ℕ) (ps : List Spot) (p : Spot) → IsTrail IsKey bits width v n key (ps ++ p ∷ []) →
+      IsTrail IsKey bits width v n key ps × (p.depth ≡ n + 5 * length ps) × IsSpot IsKey bits width v key p
   trail-pop n [] p h = (tt, omega (arith, h.0), h.1)
   trail-pop n (q ∷ ps) p h =
       let deeper = trail-pop (n + 5) ps p h.2 in
       ((h.0, h.1, deeper.0), omega (arith, deeper.1), deeper.2)
 
   -- wherever a trail starts, it is a stack
-  pub restart : (n : ℕ) (ps : List (KeyedSpot K)) → IsTrail IsKey bits width v n ps → IsStack IsKey bits width v ps
+  pub restart : (n : ℕ) (ps : List Spot) → IsTrail IsKey bits width v n key ps → IsStack IsKey bits width v key ps
   restart n [] h = tt
-  restart n (p ∷ ps) h = subst (λ k. IsTrail IsKey bits width v k (p ∷ ps)) (sym h.0) h
+  restart n (p ∷ ps) h = subst (λ k. IsTrail IsKey bits width v k key (p ∷ ps)) (sym h.0) h
 
-module _ {K : Type 0} (all below : List (KeyedSpot K)) (p : KeyedSpot K) (popped : all ≡ below ++ p ∷ []) where
-  pub weight-popped : total_weight all ≡ total_weight below + weight p
-  weight-popped = ap total_weight popped ∙ weight-push below p
+module _ (all below : List Spot) (p : Spot) (popped : all ≡ below ++ p ∷ []) where
+  pub weight-popped : sum_by weight all ≡ sum_by weight below + weight p
+  weight-popped = ap (sum_by weight) popped ∙ sum_by_push weight below p
 
-  module _ {T : Type 0} (bits : K → List Bool) (m : Entries T) where
-    pub pending-popped : pending bits m all ≡ still bits m p ++ pending bits m below
-    pending-popped = ap (pending bits m) popped ∙ pending-push bits m below p
+  -- the last spot has become q, and c stands above it
+  pub weight-deeper : (q c : Spot) → weight c + weight q < weight p → sum_by weight ((below ++ q ∷ []) ++ c ∷ []) < sum_by weight all
+  weight-deeper q c h = omega (arith, h, sum_by_push weight (below ++ q ∷ []) c, sum_by_push weight below q, weight-popped)
 
-    pub pending-entry : (q : KeyedSpot K) (e : List Bool × T) → still bits m p ≡ e ∷ still bits m q → pending bits m all ≡ e ∷ pending bits m (below ++ q ∷ [])
-    pending-entry q e h = pending-popped ∙ ap (λ xs. xs ++ pending bits m below) h ∙ ap (λ xs. e ∷ xs) (sym (pending-push bits m below q))
+  module _ {K T : Type 0} (bits : K → List Bool) (m : Entries T) (key : K) where
+    pub pending-popped : pending bits m key all ≡ still bits m key p ++ pending bits m key below
+    pending-popped = ap (pending bits m key) popped ∙ pending-push bits m key below p
 
-    pub pending-child : (q c : KeyedSpot K) → still bits m p ≡ still bits m c ++ still bits m q → pending bits m ((below ++ q ∷ []) ++ c ∷ []) ≡ pending bits m all
-    pending-child q c h =
-        pending-push bits m (below ++ q ∷ []) c ∙ ap (λ xs. still bits m c ++ xs) (pending-push bits m below q)
-        ∙ sym (append_assoc (still bits m c) (still bits m q) (pending bits m below)) ∙ sym (ap (λ xs. xs ++ pending bits m below) h) ∙ sym pending-popped
+    pub pending-entry : (q : Spot) (e : List Bool × T) → still bits m key p ≡ e ∷ still bits m key q → pending bits m key all ≡ e ∷ pending bits m key (below ++ q ∷ [])
+    pending-entry q e h = pending-popped ∙ ap (λ xs. xs ++ pending bits m key below) h ∙ ap (λ xs. e ∷ xs) (sym (pending-push bits m key below q))
 
-    pub pending-done : still bits m p ≡ [] → pending bits m below ≡ pending bits m all
-    pending-done h = sym (pending-popped ∙ ap (λ xs. xs ++ pending bits m below) h)
+    pub pending-done : still bits m key p ≡ [] → pending bits m key below ≡ pending bits m key all
+    pending-done h = sym (pending-popped ∙ ap (λ xs. xs ++ pending bits m key below) h)
 
-  module _ (IsKey : K → Type 0) (bits : K → List Bool) (width : ℕ) (v : Store Node) (stack : IsStack IsKey bits width v all) where
-    pub trail-at : IsTrail IsKey bits width v (start all) below × (p.depth ≡ start all + 5 * length below) × IsSpot IsKey bits width v p
-    trail-at = trail-pop IsKey bits width v (start all) below p (subst (IsTrail IsKey bits width v (start all)) popped stack)
+  module _ {K : Type 0} (IsKey : K → Type 0) (bits : K → List Bool) (width : ℕ) (v : Store Node) (key : K) (stack : IsStack IsKey bits width v key all) where
+    pub trail-at : IsTrail IsKey bits width v (start all) key below × (p.depth ≡ start all + 5 * length below) × IsSpot IsKey bits width v key p
+    trail-at = trail-pop IsKey bits width v key (start all) below p (subst (IsTrail IsKey bits width v (start all) key) popped stack)
 
-    pub spot-popped : IsSpot IsKey bits width v p
-    spot-popped = trail-at.2
-
-    pub stack-popped : IsStack IsKey bits width v below
-    stack-popped = restart IsKey bits width v (start all) below trail-at.0
+    pub stack-popped : IsStack IsKey bits width v key below
+    stack-popped = restart IsKey bits width v key (start all) below trail-at.0
 
     -- there is room to put the spot back
     pub stack-room : width ≤ 128 → length below < 26
     stack-room small = let w = trail-at.2.within in omega (arith, w, trail-at.1, small)
 
-    -- and for another that is deeper
-    pub child-room : (c : KeyedSpot K) → width ≤ 128 → c.depth ≡ p.depth + 5 → IsSpot IsKey bits width v c → length below + 1 < 26
-    child-room c small d i = let w = i.within in omega (arith, w, d, trail-at.1, small)
-
-    put-at : (q : KeyedSpot K) → q.depth ≡ p.depth → IsSpot IsKey bits width v q → IsTrail IsKey bits width v (start all) (below ++ q ∷ [])
-    put-at q d i = trail-push IsKey bits width v (start all) below q trail-at.0 (d ∙ trail-at.1) i
+    put-at : (q : Spot) → q.depth ≡ p.depth → IsSpot IsKey bits width v key q → IsTrail IsKey bits width v (start all) key (below ++ q ∷ [])
+    put-at q d i = trail-push IsKey bits width v key (start all) below q trail-at.0 (d ∙ trail-at.1) i
 
     -- the spot is put back as q
-    pub stack-put : (q : KeyedSpot K) → q.depth ≡ p.depth → IsSpot IsKey bits width v q → IsStack IsKey bits width v (below ++ q ∷ [])
-    stack-put q d i = restart IsKey bits width v (start all) (below ++ q ∷ []) (put-at q d i)
+    pub stack-put : (q : Spot) → q.depth ≡ p.depth → IsSpot IsKey bits width v key q → IsStack IsKey bits width v key (below ++ q ∷ [])
+    stack-put q d i = restart IsKey bits width v key (start all) (below ++ q ∷ []) (put-at q d i)
 
 -- a key that has the same bits as far as the deepest spot goes serves as well
 module _ {K : Type 0} (IsKey : K → Type 0) (bits : K → List Bool) (width : ℕ) (v : Store Node) (key other : K) (is_key : IsKey other) (d : ℕ) (same : take d (bits other) ≡ take d (bits key)) where
   same_path : (k : ℕ) → k ≤ d → take k (bits other) ≡ take k (bits key)
   same_path k h = sym (take-take k d (bits other) h) ∙ ap (take k) same ∙ take-take k d (bits key) h
 
-  spot-way : (p : Spot) → p.depth ≤ d → IsSpot IsKey bits width v (keyed_spot key p) → IsSpot IsKey bits width v (keyed_spot other p)
-  spot-way p h i = record {
-    key = is_key;
-    level = i.level;
-    depth_is = i.depth_is;
-    within = i.within;
-    stands = ap (λ s. read v.slots (path_of s)) (same_path p.depth h) ∙ i.stands;
-    each = i.each;
-  }
-
-  pub trail-way : (n : ℕ) (ps : List Spot) → n + 5 * length ps ≤ d + 5 → IsTrail IsKey bits width v n (keyed_spots key ps) → IsTrail IsKey bits width v n (keyed_spots other ps)
+  trail-way : (n : ℕ) (ps : List Spot) → n + 5 * length ps ≤ d + 5 → IsTrail IsKey bits width v n key ps → IsTrail IsKey bits width v n other ps
   trail-way n [] h t = tt
-  trail-way n (p ∷ ps) h t = (t.0, spot-way p (omega (arith, h, t.0)) t.1, trail-way (n + 5) ps (omega (arith, h)) t.2)
+  trail-way n (p ∷ ps) h t = (
+    t.0,
+    spot_as t.1 is_key refl (ap (λ s. read v.slots (path_of s)) (same_path p.depth (omega (arith, h, t.0))) ∙ t.1.stands) t.1.each,
+    trail-way (n + 5) ps (omega (arith, h)) t.2,
+  )
 
-  pub pending-way : {T : Type 0} (m : Entries T) (n : ℕ) (ps : List Spot) → n + 5 * length ps ≤ d + 5 → IsTrail IsKey bits width v n (keyed_spots key ps) →
-      pending bits m (keyed_spots other ps) ≡ pending bits m (keyed_spots key ps)
+  pending-way : {T : Type 0} (m : Entries T) (n : ℕ) (ps : List Spot) → n + 5 * length ps ≤ d + 5 → IsTrail IsKey bits width v n key ps →
+      pending bits m other ps ≡ pending bits m key ps
   pending-way m n [] h t = refl
   pending-way m n (p ∷ ps) h t =
-      ap (λ es. es ++ still bits m (keyed_spot other p)) (pending-way m (n + 5) ps (omega (arith, h)) t.2)
-      ∙ ap (λ s. pending bits m (keyed_spots key ps) ++ listing_at_places m s (to_come p.places)) (same_path p.depth (omega (arith, h, t.0)))
-
-pub weight-way : {K : Type 0} (key other : K) (ps : List Spot) → total_weight (keyed_spots other ps) ≡ total_weight (keyed_spots key ps)
-weight-way key other [] = refl
-weight-way key other (p ∷ ps) = ap (λ n. weight (keyed_spot key p) + n) (weight-way key other ps)
-
-pub keyed_spots-push : {K : Type 0} (key : K) (ps : List Spot) (p : Spot) → keyed_spots key (ps ++ p ∷ []) ≡ keyed_spots key ps ++ keyed_spot key p ∷ []
-keyed_spots-push key ps p = map-append (keyed_spot key) ps (p ∷ [])
-
-pub keyed_spots-popped : {K : Type 0} (key : K) (all below : List Spot) (p : Spot) → all ≡ below ++ p ∷ [] → keyed_spots key all ≡ keyed_spots key below ++ keyed_spot key p ∷ []
-keyed_spots-popped key all below p e = ap (keyed_spots key) e ∙ keyed_spots-push key below p
+      ap (λ es. es ++ still bits m other p) (pending-way m (n + 5) ps (omega (arith, h)) t.2)
+      ∙ ap (λ s. pending bits m key ps ++ listing_at_places m s (to_come p.places)) (same_path p.depth (omega (arith, h, t.0)))
 
 -- the last spot p of these has become q, and c, with a key of its own, stands above it
 module _ {K : Type 0} (IsKey : K → Type 0) (bits : K → List Bool) (width : ℕ) (v : Store Node) (key other : K) (all below : List Spot) (p q c : Spot) (popped : all ≡ below ++ p ∷ [])
-    (stack : IsStack IsKey bits width v (keyed_spots key all)) (depth : q.depth ≡ p.depth) (is_q : IsSpot IsKey bits width v (keyed_spot key q))
-    (deeper : c.depth ≡ p.depth + 5) (is_c : IsSpot IsKey bits width v (keyed_spot other c)) (same : take p.depth (bits other) ≡ take p.depth (bits key)) where
-  sites_popped : keyed_spots key all ≡ keyed_spots key below ++ keyed_spot key p ∷ []
-  sites_popped = keyed_spots-popped key all below p popped
-
-  abbrev pub put : List Spot
+    (stack : IsStack IsKey bits width v key all) (depth : q.depth ≡ p.depth) (is_q : IsSpot IsKey bits width v key q)
+    (deeper : c.depth ≡ p.depth + 5) (is_c : IsSpot IsKey bits width v other c) (same : take p.depth (bits other) ≡ take p.depth (bits key)) where
+  abbrev put : List Spot
   put = below ++ q ∷ []
 
-  trail : IsTrail IsKey bits width v (start (keyed_spots key all)) (keyed_spots key put)
-  trail =
-      subst (IsTrail IsKey bits width v (start (keyed_spots key all))) (sym (keyed_spots-push key below q))
-      (put-at (keyed_spots key all) (keyed_spots key below) (keyed_spot key p) sites_popped IsKey bits width v stack (keyed_spot key q) depth is_q)
+  trail : IsTrail IsKey bits width v (start all) key put
+  trail = put-at all below p popped IsKey bits width v key stack q depth is_q
 
-  long : start (keyed_spots key all) + 5 * length put ≤ p.depth + 5
-  long =
-      let at = (trail-at (keyed_spots key all) (keyed_spots key below) (keyed_spot key p) sites_popped IsKey bits width v stack).1 in
-      omega (arith, at, length-append below (q ∷ []), length-map below (keyed_spot key))
+  long : start all + 5 * length put ≡ p.depth + 5
+  long = let at = (trail-at all below p popped IsKey bits width v key stack).1 in omega (arith, at, length-append below (q ∷ []))
 
-  sites_child : keyed_spots other (put ++ c ∷ []) ≡ keyed_spots other put ++ keyed_spot other c ∷ []
-  sites_child = keyed_spots-push other put c
-
-  pub stack-child_way : IsStack IsKey bits width v (keyed_spots other (put ++ c ∷ []))
+  pub stack-child_way : IsStack IsKey bits width v other (put ++ c ∷ [])
   stack-child_way =
-      let at = (trail-at (keyed_spots key all) (keyed_spots key below) (keyed_spot key p) sites_popped IsKey bits width v stack).1 in
-      subst (IsStack IsKey bits width v) (sym sites_child)
-      (restart IsKey bits width v (start (keyed_spots key all)) (keyed_spots other put ++ keyed_spot other c ∷ [])
-      (trail-push IsKey bits width v (start (keyed_spots key all)) (keyed_spots other put) (keyed_spot other c)
-      (trail-way IsKey bits width v key other is_c.key p.depth same (start (keyed_spots key all)) put long trail)
-      (omega (arith, deeper, at, length-append below (q ∷ []), length-map below (keyed_spot key), length-map put (keyed_spot other))) is_c))
+      restart IsKey bits width v other (start all) (put ++ c ∷ [])
+      (trail-push IsKey bits width v other (start all) put c
+      (trail-way IsKey bits width v key other is_c.is_key p.depth same (start all) put (omega (arith, long)) trail) (omega (arith, deeper, long)) is_c)
 
-  pub pending-child_way : {T : Type 0} (m : Entries T) → still bits m (keyed_spot key p) ≡ still bits m (keyed_spot other c) ++ still bits m (keyed_spot key q) →
-      pending bits m (keyed_spots other (put ++ c ∷ [])) ≡ pending bits m (keyed_spots key all)
+  pub pending-child_way : {T : Type 0} (m : Entries T) → still bits m key p ≡ still bits m other c ++ still bits m key q →
+      pending bits m other (put ++ c ∷ []) ≡ pending bits m key all
   pending-child_way m h =
-      ap (pending bits m) sites_child
-      ∙ pending-push bits m (keyed_spots other put) (keyed_spot other c)
-      ∙ ap (λ es. still bits m (keyed_spot other c) ++ es) (pending-way IsKey bits width v key other is_c.key p.depth same m (start (keyed_spots key all)) put long trail ∙ ap (pending bits m) (keyed_spots-push key below q))
-      ∙ sym (pending-push bits m (keyed_spots key below ++ keyed_spot key q ∷ []) (keyed_spot other c))
-      ∙ pending-child (keyed_spots key all) (keyed_spots key below) (keyed_spot key p) sites_popped bits m (keyed_spot key q) (keyed_spot other c) h
+      pending-push bits m other put c
+      ∙ ap (λ es. still bits m other c ++ es)
+      (pending-way IsKey bits width v key other is_c.is_key p.depth same m (start all) put (omega (arith, long)) trail ∙ pending-push bits m key below q)
+      ∙ sym (append_assoc (still bits m other c) (still bits m key q) (pending bits m key below)) ∙ sym (ap (λ xs. xs ++ pending bits m key below) h)
+      ∙ sym (pending-popped all below p popped bits m key)
 
-  pub weight-deeper_way : weight (keyed_spot other c) + weight (keyed_spot key q) < weight (keyed_spot key p) → total_weight (keyed_spots other (put ++ c ∷ [])) < total_weight (keyed_spots key all)
-  weight-deeper_way h =
-      let e = ap total_weight sites_child ∙ weight-push (keyed_spots other put) (keyed_spot other c) in
-      let f = weight-way key other put ∙ ap total_weight (keyed_spots-push key below q) ∙ weight-push (keyed_spots key below) (keyed_spot key q) in
-      omega (arith, h, e, f, weight-popped (keyed_spots key all) (keyed_spots key below) (keyed_spot key p) sites_popped)
+-- ---- the child that leads from a spot of a walk to the next one is no longer to come
+
+-- what is after a string is another
+pub others_after : (s : List Bool) (ss : List (List Bool)) → AllByRecursion (λ t. listing_cmp s t ≡ Less) ss → All (IsOther s) ss
+others_after s [] h = All-nil (IsOther s)
+others_after s (t ∷ ss) h =
+    All-cons (IsOther s) t ss (λ e. let less : listing_cmp s s ≡ Less = ap (listing_cmp s) (sym e) ∙ h.0 in let tie = listing-refl s in cc) (others_after s ss h.1)
+
+module _ {K : Type 0} (bits : K → List Bool) (key : K) where
+  pub passed-below : (all below : List Spot) (p : Spot) → all ≡ below ++ p ∷ [] → ArePassed bits key all → All (IsPassed bits key) below
+  passed-below all below p e h k d l =
+      subst (IsPassed bits key) (ap (λ ps. get_or ps k d) e ∙ get_or_append_left below (p ∷ []) d k l)
+      (h k d (omega arith) (omega (arith, l, ap length e, length-append below (p ∷ []))))
+
+  pub passed-above : (all below : List Spot) (p : Spot) → all ≡ below ++ p ∷ [] → All (IsPassed bits key) below → ArePassed bits key all
+  passed-above all below p e h k d low high =
+      let l : k < length below = omega (arith, high, ap length e, length-append below (p ∷ [])) in
+      subst (IsPassed bits key) (sym (ap (λ ps. get_or ps k d) e ∙ get_or_append_left below (p ∷ []) d k l)) (h k d l)
+
+  -- the last spot is taken off
+  pub passed-popped : (all below : List Spot) (p : Spot) → all ≡ below ++ p ∷ [] → ArePassed bits key all → ArePassed bits key below
+  passed-popped all below p e h k d low high = passed-below all below p e h k d (omega (arith, high))
+
+-- a key that has the same bits as far as the deepest spot goes serves as well
+module _ {K : Type 0} (IsKey : K → Type 0) (bits : K → List Bool) (width : ℕ) (v : Store Node) (key other : K) where
+  passed-way : (d : ℕ) → take d (bits other) ≡ take d (bits key) → (n : ℕ) (ps : List Spot) → n + 5 * length ps ≤ d → IsTrail IsKey bits width v n key ps →
+      All (IsPassed bits key) ps → All (IsPassed bits other) ps
+  passed-way d same n [] h t p = All-nil (IsPassed bits other)
+  passed-way d same n (q ∷ qs) h t p =
+      All-cons (IsPassed bits other) q qs
+      (subst (λ c. All (IsOther c) (to_come q.places)) (sym (child q.depth (omega (arith, h, t.0)))) (All-head (IsPassed bits key) q qs p))
+      (passed-way d same (n + 5) qs (omega (arith, h)) t.2 (All-tail (IsPassed bits key) q qs p))
+    where
+      child : (k : ℕ) → k + 5 ≤ d → take 5 (drop k (bits other)) ≡ take 5 (drop k (bits key))
+      child k l =
+          sym (drop-take k 5 (bits other))
+          ∙ ap (drop k) (sym (take-take (k + 5) d (bits other) l) ∙ ap (take (k + 5)) same ∙ take-take (k + 5) d (bits key) l)
+          ∙ drop-take k 5 (bits key)
+
+  -- the last spot p has become q, and its child c is put above it
+  pub passed-child : (all below : List Spot) (p q c : Spot) → all ≡ below ++ p ∷ [] → IsStack IsKey bits width v key all → take p.depth (bits other) ≡ take p.depth (bits key) →
+      IsPassed bits other q → ArePassed bits key all → ArePassed bits other ((below ++ q ∷ []) ++ c ∷ [])
+  passed-child all below p q c is stack same behind h =
+      let at = trail-at all below p is IsKey bits width v key stack in
+      passed-above bits other ((below ++ q ∷ []) ++ c ∷ []) (below ++ q ∷ []) c refl
+      (All-push (IsPassed bits other) below q (passed-way p.depth same (start all) below (omega (arith, at.1)) at.0 (passed-below bits key all below p is h)) behind)

@@ -1,5 +1,5 @@
 -- A trail stands in each array of the same nodes, and what a step along it gives.
-use Rattle.std.proofs.Common.{◌≡◌, ℕ, ◌+◌, Bool, List, [], ◌∷◌, take, map, sym, ap, ◌∙◌, Option, None, Some, is_some, true, MatchOption, IfSome}
+use Rattle.std.proofs.Common.{◌≡◌, ℕ, ◌+◌, Bool, List, [], ◌∷◌, take, map, refl, sym, ap, ◌∙◌, Option, None, Some, is_some, true, MatchOption, IfSome}
 use Rattle.std.specs.FinMap.{contains_key}
 use Rattle.prefix_trie_table.specs.declared.allocator.node.Node.{Node}
 use Rattle.prefix_trie_table.specs.declared.table.seat.Seat.{Seat}
@@ -11,27 +11,22 @@ use Rattle.prefix_trie_table.specs.Store.{Store}
 use Rattle.prefix_trie_table.specs.Tables.{IsTable}
 use Rattle.prefix_trie_table.specs.Locations.{seat_of}
 use Rattle.prefix_trie_table.specs.Walking.Trails.{GivesKey}
-use Rattle.prefix_trie_table.specs.Walking.Walks.{Tree, IsSpot, IsTrail, IsStack, GivesSeat, start, keyed_spot, keyed_spots}
+use Rattle.prefix_trie_table.specs.Walking.Walks.{Tree, IsTrail, IsStack, GivesSeat, start}
 use Rattle.prefix_trie_table.proofs.Lookup.Located.{stored_if}
+use Rattle.prefix_trie_table.proofs.Walk.Stacks.{spot_as}
 
 module _ {K : Type 0} (bits : K → List Bool) (width : ℕ) (IsKey IsOther : K → Type 0) (v w : Store Node) (same : v.slots ≡ w.slots) (key : K) (is : IsOther key) where
-  spot_in : (p : Spot) → IsSpot IsKey bits width v (keyed_spot key p) → IsSpot IsOther bits width w (keyed_spot key p)
-  spot_in p h = record {
-    key = is;
-    level = h.level;
-    depth_is = h.depth_is;
-    within = h.within;
-    stands = ap (λ nodes. read nodes (path_of (take p.depth (bits key)))) (sym same) ∙ h.stands;
-    each = h.each;
-  }
-
-  trail_in : (n : ℕ) (ps : List Spot) → IsTrail IsKey bits width v n (keyed_spots key ps) → IsTrail IsOther bits width w n (keyed_spots key ps)
+  trail_in : (n : ℕ) (ps : List Spot) → IsTrail IsKey bits width v n key ps → IsTrail IsOther bits width w n key ps
   trail_in n [] h = tt
-  trail_in n (p ∷ ps) h = (h.0, spot_in p h.1, trail_in (n + 5) ps h.2)
+  trail_in n (p ∷ ps) h = (
+    h.0,
+    spot_as h.1 is refl (ap (λ nodes. read nodes (path_of (take p.depth (bits key)))) (sym same) ∙ h.1.stands) h.1.each,
+    trail_in (n + 5) ps h.2,
+  )
 
   -- spots stand in one array where they stand in another of the same nodes, and whatever a key is
-  pub stack_in : (ps : List Spot) → IsStack IsKey bits width v (keyed_spots key ps) → IsStack IsOther bits width w (keyed_spots key ps)
-  stack_in ps h = trail_in (start (keyed_spots key ps)) ps h
+  pub stack_in : (ps : List Spot) → IsStack IsKey bits width v key ps → IsStack IsOther bits width w key ps
+  stack_in ps h = trail_in (start ps) ps h
 
 -- what a step of a stack gives is the first key still to come
 pub step_gives : {K T : Type 0} (IsKey : K → Type 0) (bits : K → List Bool) (width : ℕ) (t : Tree T) (nodes : List Node) (old new : List (List Bool × T)) (o : Option (K × ℕ × Seat)) →

@@ -17,11 +17,12 @@ use Rattle.prefix_trie_table.specs.Digits.{path_of}
 use Rattle.prefix_trie_table.specs.Forest.{read}
 use Rattle.prefix_trie_table.specs.Shape.{Shaped, IsShapeOf, same_shape}
 use Rattle.prefix_trie_table.specs.declared.table.seat.Seat.{Seat}
+use Rattle.prefix_trie_table.specs.declared.table.spot.Spot.{Spot}
 use Rattle.prefix_trie_table.specs.Walking.Items.{GivesFilled}
-use Rattle.prefix_trie_table.specs.Walking.Walks.{KeyedSpot, Tree, IsSpot, IsPlaceOf, IsStack, IsPassed, ArePassed, still, pending, slot_of, GivesSeat, ShapeOf, rest_of_walk, IsWalk}
+use Rattle.prefix_trie_table.specs.Walking.Walks.{Tree, IsSpot, IsPlaceOf, IsStack, IsPassed, ArePassed, still, pending, slot_of, GivesSeat, ShapeOf, rest_of_walk, IsWalk}
 use Rattle.prefix_trie_table.specs.Tables.{IsTrie}
 use Rattle.std.specs.FinMap.{len}
-use Rattle.prefix_trie_table.proofs.Walk.Passing.{passed-above}
+use Rattle.prefix_trie_table.proofs.Walk.Stacks.{passed-above}
 use Rattle.prefix_trie_table.proofs.Tree.Trees.{read-nil}
 use Rattle.prefix_trie_table.proofs.Tree.Subtrees.{all_places}
 
@@ -31,51 +32,51 @@ tree_of w s = record { count = len s.entries; cells = w; shape = s }
 
 module _ {K T : Type 0} (IsKey : K → Type 0) (bits : K → List Bool) (width : ℕ) where
   -- a walk has arrays, which hold a table
-  pub record Rest (arrays : Option (Bor (Store Node) × Bor (Store (Option T)))) (shape : ShapeOf arrays) (ps : List (KeyedSpot K)) (v : Store Node) (w : Store (Option T)) : Type 0 where
+  pub record Rest (arrays : Option (Bor (Store Node) × Bor (Store (Option T)))) (shape : ShapeOf arrays) (key : K) (ps : List Spot) (v : Store Node) (w : Store (Option T)) : Type 0 where
     pub state : State T
     pub tree : IsTrie width (len state.entries) v w state
-    pub stack : IsStack IsKey bits width v ps
-    pub passed : ArePassed bits ps
-    pub rest : rest_of_walk bits arrays shape ps ≡ pending bits state.entries ps
-    pub later : (u : ShapeOf arrays) (qs : List (KeyedSpot K)) → IsStack IsKey bits width v qs → ArePassed bits qs → IsWalk IsKey bits width arrays u qs
-    pub later_rest : (u : ShapeOf arrays) (qs : List (KeyedSpot K)) → rest_of_walk bits arrays u qs ≡ pending bits state.entries qs
+    pub stack : IsStack IsKey bits width v key ps
+    pub passed : ArePassed bits key ps
+    pub rest : rest_of_walk bits arrays shape key ps ≡ pending bits state.entries key ps
+    pub later : (u : ShapeOf arrays) (k : K) (qs : List Spot) → IsStack IsKey bits width v k qs → ArePassed bits k qs → IsWalk IsKey bits width arrays u k qs
+    pub later_rest : (u : ShapeOf arrays) (k : K) (qs : List Spot) → rest_of_walk bits arrays u k qs ≡ pending bits state.entries k qs
 
-  rest_some : (b : Bor (Store Node) × Bor (Store (Option T))) (shape : ShapeOf (Some b)) (ps : List (KeyedSpot K)) → IsWalk IsKey bits width (Some b) shape ps →
-      Rest (Some b) shape ps b.0.now b.1.now
-  rest_some b shape ps h = record {
+  rest_some : (b : Bor (Store Node) × Bor (Store (Option T))) (shape : ShapeOf (Some b)) (key : K) (ps : List Spot) → IsWalk IsKey bits width (Some b) shape key ps →
+      Rest (Some b) shape key ps b.0.now b.1.now
+  rest_some b shape key ps h = record {
     state = shape.0;
     tree = h.0;
     stack = h.1;
     passed = h.2;
     rest = refl;
-    later = λ u qs k o. (
+    later = λ u k qs stack passed. (
       subst (λ (x : State T). IsTrie width (len x.entries) b.0.now b.1.now x) (same_shape b.0.now.slots b.1.now.slots shape.0 u.0 shape.1 u.1) h.0,
-      k,
-      o,
+      stack,
+      passed,
     );
-    later_rest = λ u qs. ap (λ (x : State T). pending bits x.entries qs) (same_shape b.0.now.slots b.1.now.slots u.0 shape.0 u.1 shape.1);
+    later_rest = λ u k qs. ap (λ (x : State T). pending bits x.entries k qs) (same_shape b.0.now.slots b.1.now.slots u.0 shape.0 u.1 shape.1);
   }
 
   pub rest_at : (arrays : Option (Bor (Store Node) × Bor (Store (Option T)))) (a : Bor (Store Node) × Bor (Store (Option T))) → arrays ≡ Some a →
-      (shape : ShapeOf arrays) (ps : List (KeyedSpot K)) → IsWalk IsKey bits width arrays shape ps → Rest arrays shape ps a.0.now a.1.now
-  rest_at None a e shape ps h = absurd (cc)
-  rest_at (Some b) a e shape ps h =
-      let same : b ≡ a = cc in subst (λ (x : Bor (Store Node) × Bor (Store (Option T))). Rest (Some b) shape ps x.0.now x.1.now) same (rest_some b shape ps h)
+      (shape : ShapeOf arrays) (key : K) (ps : List Spot) → IsWalk IsKey bits width arrays shape key ps → Rest arrays shape key ps a.0.now a.1.now
+  rest_at None a e shape key ps h = absurd (cc)
+  rest_at (Some b) a e shape key ps h =
+      let same : b ≡ a = cc in subst (λ (x : Bor (Store Node) × Bor (Store (Option T))). Rest (Some b) shape key ps x.0.now x.1.now) same (rest_some b shape key ps h)
 
   -- the arrays have one shape, whichever is named
-  pub same_rest : (arrays : Option (Bor (Store Node) × Bor (Store (Option T)))) (s u : ShapeOf arrays) (ps qs : List (KeyedSpot K)) → qs ≡ ps →
-      rest_of_walk bits arrays u qs ≡ rest_of_walk bits arrays s ps
-  same_rest None s u ps qs e = refl
-  same_rest (Some a) s u ps qs e =
-      ap (λ (x : State T). pending bits x.entries qs) (same_shape a.0.now.slots a.1.now.slots u.0 s.0 u.1 s.1) ∙ ap (pending bits s.0.entries) e
+  pub same_rest : (arrays : Option (Bor (Store Node) × Bor (Store (Option T)))) (s u : ShapeOf arrays) (key : K) (ps qs : List Spot) → qs ≡ ps →
+      rest_of_walk bits arrays u key qs ≡ rest_of_walk bits arrays s key ps
+  same_rest None s u key ps qs e = refl
+  same_rest (Some a) s u key ps qs e =
+      ap (λ (x : State T). pending bits x.entries key qs) (same_shape a.0.now.slots a.1.now.slots u.0 s.0 u.1 s.1) ∙ ap (pending bits s.0.entries key) e
 
-  pub same_walk : (arrays : Option (Bor (Store Node) × Bor (Store (Option T)))) (s u : ShapeOf arrays) (ps qs : List (KeyedSpot K)) → qs ≡ ps →
-      IsWalk IsKey bits width arrays s ps → IsWalk IsKey bits width arrays u qs
-  same_walk None s u ps qs e h = tt
-  same_walk (Some a) s u ps qs e h = (
+  pub same_walk : (arrays : Option (Bor (Store Node) × Bor (Store (Option T)))) (s u : ShapeOf arrays) (key : K) (ps qs : List Spot) → qs ≡ ps →
+      IsWalk IsKey bits width arrays s key ps → IsWalk IsKey bits width arrays u key qs
+  same_walk None s u key ps qs e h = tt
+  same_walk (Some a) s u key ps qs e h = (
     subst (λ (x : State T). IsTrie width (len x.entries) a.0.now a.1.now x) (same_shape a.0.now.slots a.1.now.slots s.0 u.0 s.1 u.1) h.0,
-    subst (IsStack IsKey bits width a.0.now) (sym e) h.1,
-    subst (ArePassed bits) (sym e) h.2,
+    subst (IsStack IsKey bits width a.0.now key) (sym e) h.1,
+    subst (ArePassed bits key) (sym e) h.2,
   )
 
   -- the value that is read at its seat is the one that comes next
@@ -91,52 +92,44 @@ module _ {K T : Type 0} (IsKey : K → Type 0) (bits : K → List Bool) (width :
         filled = h.gives.filled;
       }
 
-  -- spots of the table in the arrays are a walk, and have to come what is pending at them
-  module _ (v : Store Node) (w : Store (Option T)) (s : State T) (tree : IsTrie width (len s.entries) v w s) (ps : List (KeyedSpot K)) (stack : IsStack IsKey bits width v ps) (u : Shaped v.slots w.slots) where
-    pub spots_walk : ArePassed bits ps → IsTrie width (len u.0.entries) v w u.0 × IsStack IsKey bits width v ps × ArePassed bits ps
-    spots_walk passed = (subst (λ (x : State T). IsTrie width (len x.entries) v w x) (same_shape v.slots w.slots s u.0 tree.shaped u.1) tree, stack, passed)
+  module _ (v : Store Node) (w : Store (Option T)) (s : State T) (tree : IsTrie width (len s.entries) v w s) (u : Shaped v.slots w.slots) where
+    -- spots of the table in the arrays are a walk, and have to come what is pending at them
+    module _ (key : K) (ps : List Spot) where
+      pub spots_walk : IsStack IsKey bits width v key ps → ArePassed bits key ps → IsTrie width (len u.0.entries) v w u.0 × IsStack IsKey bits width v key ps × ArePassed bits key ps
+      spots_walk stack passed = (subst (λ (x : State T). IsTrie width (len x.entries) v w x) (same_shape v.slots w.slots s u.0 tree.shaped u.1) tree, stack, passed)
 
-    pub spots_rest : (x : State T) → IsShapeOf v.slots w.slots x → pending bits u.0.entries ps ≡ pending bits x.entries ps
-    spots_rest x is = ap (λ (y : State T). pending bits y.entries ps) (same_shape v.slots w.slots u.0 x u.1 is)
+      pub spots_rest : (x : State T) → IsShapeOf v.slots w.slots x → pending bits u.0.entries key ps ≡ pending bits x.entries key ps
+      spots_rest x is = ap (λ (y : State T). pending bits y.entries key ps) (same_shape v.slots w.slots u.0 x u.1 is)
 
-  -- a walk that stands at the root, with all its places
-  module _ (v : Store Node) (w : Store (Option T)) (s : State T) (tree : IsTrie width (len s.entries) v w s) (c : KeyedSpot K) (is_key : IsKey c.key)
-      (depth_is : c.depth ≡ 0) (node_is : c.node ≡ node_at v.slots 0) (all : to_come c.places ≡ places c.node.value_bitmap c.node.child_bitmap)
-      (each : All (IsPlaceOf c.node) (to_come c.places)) where
-    root_string : take c.depth (bits c.key) ≡ []
-    root_string = ap (λ n. take n (bits c.key)) depth_is
+    -- a walk that stands at the root, with all its places
+    module _ (key : K) (c : Spot) (is_key : IsKey key) (depth_is : c.depth ≡ 0) (node_is : c.node ≡ node_at v.slots 0)
+        (all : to_come c.places ≡ places c.node.value_bitmap c.node.child_bitmap) (each : All (IsPlaceOf c.node) (to_come c.places)) (ps : List Spot) (only : ps ≡ c ∷ []) where
+      root_string : take c.depth (bits key) ≡ []
+      root_string = ap (λ n. take n (bits key)) depth_is
 
-    root_stands : read v.slots (path_of (take c.depth (bits c.key))) ≡ Some c.node
-    root_stands = ap (λ u. read v.slots (path_of u)) root_string ∙ read-nil v.slots ∙ ap Some (sym node_is)
+      root_stands : read v.slots (path_of (take c.depth (bits key))) ≡ Some c.node
+      root_stands = ap (λ u. read v.slots (path_of u)) root_string ∙ read-nil v.slots ∙ ap Some (sym node_is)
 
-    root_spot : IsSpot IsKey bits width v c
-    root_spot = record {
-      key = is_key;
-      level = 0;
-      depth_is = depth_is;
-      within = omega (arith, depth_is);
-      stands = root_stands;
-      each = each;
-    }
+      root_spot : IsSpot IsKey bits width v key c
+      root_spot = record {
+        is_key = is_key;
+        level = 0;
+        depth_is = depth_is;
+        within = omega (arith, depth_is);
+        stands = root_stands;
+        each = each;
+      }
 
-    root_still : still bits s.entries c ≡ listing s.entries
-    root_still =
-        ap (listing_at_places s.entries (take c.depth (bits c.key))) all
-        ∙ all_places width v (record { count = len s.entries; cells = w; shape = s }) tree (take c.depth (bits c.key)) c.node (ap (λ u. length u % 5) root_string) root_stands
-        ∙ ap (listing_below s.entries) root_string ∙ listing_of_root s.entries
+      -- is a walk
+      pub root_walk : IsTrie width (len u.0.entries) v w u.0 × IsStack IsKey bits width v key ps × ArePassed bits key ps
+      root_walk =
+          spots_walk key ps (subst (IsStack IsKey bits width v key) (sym only) (refl, root_spot, tt)) (passed-above bits key ps [] c only (All-nil (IsPassed bits key)))
 
-    -- is a walk
-    pub root_walk : (u : Shaped v.slots w.slots) (ps : List (KeyedSpot K)) → ps ≡ c ∷ [] →
-        IsTrie width (len u.0.entries) v w u.0 × IsStack IsKey bits width v ps × ArePassed bits ps
-    root_walk u ps e = (
-      subst (λ (x : State T). IsTrie width (len x.entries) v w x) (same_shape v.slots w.slots s u.0 tree.shaped u.1) tree,
-      subst (IsStack IsKey bits width v) (sym e) (refl, root_spot, tt),
-      passed-above bits ps [] c e (All-nil (IsPassed bits)),
-    )
-
-    -- and has the whole listing to come
-    pub root_rest : (u : Shaped v.slots w.slots) (ps : List (KeyedSpot K)) → ps ≡ c ∷ [] → (x : State T) → IsShapeOf v.slots w.slots x →
-        pending bits u.0.entries ps ≡ listing x.entries
-    root_rest u ps e x is =
-        ap (pending bits u.0.entries) e ∙ ap (λ (y : State T). still bits y.entries c) (same_shape v.slots w.slots u.0 s u.1 tree.shaped)
-        ∙ root_still ∙ ap (λ (y : State T). listing y.entries) (same_shape v.slots w.slots s x tree.shaped is)
+      -- and has the whole listing to come
+      pub root_rest : (x : State T) → IsShapeOf v.slots w.slots x → pending bits u.0.entries key ps ≡ listing x.entries
+      root_rest x is =
+          ap (pending bits u.0.entries key) only ∙ ap (λ (y : State T). still bits y.entries key c) (same_shape v.slots w.slots u.0 s u.1 tree.shaped)
+          ∙ ap (listing_at_places s.entries (take c.depth (bits key))) all
+          ∙ all_places width v (tree_of w s) tree (take c.depth (bits key)) c.node (ap (λ u. length u % 5) root_string) root_stands
+          ∙ ap (listing_below s.entries) root_string ∙ listing_of_root s.entries
+          ∙ ap (λ (y : State T). listing y.entries) (same_shape v.slots w.slots s x tree.shaped is)

@@ -7,12 +7,13 @@ use Rattle.prefix_trie_bits.specs.Model.NodeListings.{pair_of}
 use Rattle.prefix_trie_bits.specs.Model.Nodes.{Nodes, has_node}
 use Rattle.prefix_trie_bits.proofs.Model.Members.{same_members}
 use Rattle.prefix_trie_table.specs.declared.allocator.node.Node.{Node}
+use Rattle.prefix_trie_table.specs.declared.table.spot.Spot.{Spot}
 use Rattle.prefix_trie_table.specs.Digits.{path_of, bit_of}
 use Rattle.prefix_trie_table.specs.Store.{Store}
 use Rattle.prefix_trie_table.specs.Forest.{read, value_of}
 use Rattle.prefix_trie_table.specs.Locations.{seat_of}
 use Rattle.prefix_trie_table.specs.Tables.{IsTrie}
-use Rattle.prefix_trie_table.specs.Walking.Walks.{Tree, KeyedSpot, IsStack, pending}
+use Rattle.prefix_trie_table.specs.Walking.Walks.{Tree, IsStack, pending}
 
 -- the strings for whose values an array of nodes has a seat
 abbrev pub AreSeated : List Node → Nodes → Type 0
@@ -53,12 +54,12 @@ AreApart (k ∷ ks) = IsApart k.0 ks × AreApart ks
 
 -- the nodes are those of a table, some of whose values were taken out of their cells, but none that is still to come
 pub record IsTaking {K T : Type 0} (IsKey : K → Type 0) (bits : K → List Bool) (width : ℕ) (v : Store Node) (w : Store (Option T))
-    (keys : Nodes) (ps : List (KeyedSpot K)) : Type 0 where
+    (keys : Nodes) (key : K) (ps : List Spot) : Type 0 where
   -- the table
   pub tree : Tree T
   pub trie : IsTrie width tree.count v tree.cells tree.shape
   pub long : length w.slots ≡ length tree.cells.slots
   -- the spots, and the strings still to come at them
-  pub stack : IsStack IsKey bits width v ps
-  pub held : AreHeld v.slots w.slots (pending bits keys ps)
-  pub apart : AreApart (pending bits keys ps)
+  pub stack : IsStack IsKey bits width v key ps
+  pub held : AreHeld v.slots w.slots (pending bits keys key ps)
+  pub apart : AreApart (pending bits keys key ps)

@@ -8,11 +8,12 @@ use Rattle.prefix_trie_bits.specs.Bits.{zeros}
 use Rattle.prefix_trie_bits.specs.Model.Entries.{Entries}
 use Rattle.prefix_trie_table.specs.declared.allocator.node.Node.{Node}
 use Rattle.prefix_trie_table.specs.declared.table.seat.Seat.{Seat}
+use Rattle.prefix_trie_table.specs.declared.table.spot.Spot.{Spot}
 use Rattle.prefix_trie_table.specs.declared.table.trail.Trail.{Trail}
 use Rattle.prefix_trie_table.specs.Locations.{seat_of}
 use Rattle.prefix_trie_table.specs.Shape.{coded_node}
 use Rattle.prefix_trie_table.specs.Store.{Store}
-use Rattle.prefix_trie_table.specs.Walking.Walks.{KeyedSpot, IsSpot, IsTrail, IsStack, start, pending, keyed_spots}
+use Rattle.prefix_trie_table.specs.Walking.Walks.{IsSpot, IsTrail, IsStack, start, pending}
 
 -- an array of these nodes
 abbrev pub array_of : List Node → Store Node
@@ -22,17 +23,13 @@ same_level : (d l m : ℕ) → d ≡ 5 * l → d ≡ 5 * m → l ≡ m
 same_level d l m e f = omega (arith, e, f)
 
 module _ {K : Type 0} where
-  -- the spots of a trail, each with the key that its path begins
-  abbrev pub trail_sites : Trail K → List (KeyedSpot K)
-  trail_sites trail = keyed_spots trail.key trail.stack.items
-
   -- a trail stands in these nodes
   abbrev pub IsTrailIn : (K → List Bool) → ℕ → List Node → Trail K → Type 0
-  IsTrailIn bits width nodes trail = IsStack (λ _. ⊤) bits width (array_of nodes) (trail_sites trail)
+  IsTrailIn bits width nodes trail = IsStack (λ _. ⊤) bits width (array_of nodes) trail.key trail.stack.items
 
   -- the keys still to come, in a table with these entries
   abbrev pub keys_to_come : {T : Type 0} → (K → List Bool) → Entries T → Trail K → List (List Bool)
-  keys_to_come bits m trail = map (λ e. e.0) (pending bits m (trail_sites trail))
+  keys_to_come bits m trail = map (λ e. e.0) (pending bits m trail.key trail.stack.items)
 
   -- a step gives the first key still to come, which is the first len bits of a number, with zeros behind them, and its value's seat
   pub record GivesKey (IsKey : K → Type 0) (bits : K → List Bool) (width : ℕ) (nodes : List Node) (key : K) (len : ℕ) (seat : Seat) (old new : List (List Bool)) : Type 0 where
@@ -42,11 +39,11 @@ module _ {K : Type 0} where
     pub first : old ≡ take len (bits key) ∷ new
     pub seated : seat_of nodes (take len (bits key)) ≡ Some seat
 
-  module _ (bits : K → List Bool) (width : ℕ) (v : Store Node) where
-    spot-prop : (p : KeyedSpot K) → IsProp (IsSpot (λ _. ⊤) bits width v p)
+  module _ (bits : K → List Bool) (width : ℕ) (v : Store Node) (key : K) where
+    spot-prop : (p : Spot) → IsProp (IsSpot (λ _. ⊤) bits width v key p)
     spot-prop p x y =
         let level : x.level ≡ y.level = same_level p.depth x.level y.level x.depth_is y.depth_is in λ i. record {
-          key = tt;
+          is_key = tt;
           level = level i;
           depth_is = is_prop→PathP (λ j. p.depth ≡ 5 * level j) (λ j. Coded-set coded_ℕ _ _) x.depth_is y.depth_is i;
           within = le_prop x.within y.within i;
@@ -54,10 +51,10 @@ module _ {K : Type 0} where
           each = Π_prop (λ k. Π_prop (λ d. Π_prop (λ h a b j. (le_prop a.0 b.0 j, Coded-set coded_bool _ _ a.1 b.1 j)))) x.each y.each i;
         }
 
-    trail-prop : (n : ℕ) (ps : List (KeyedSpot K)) → IsProp (IsTrail (λ _. ⊤) bits width v n ps)
+    trail-prop : (n : ℕ) (ps : List Spot) → IsProp (IsTrail (λ _. ⊤) bits width v n key ps)
     trail-prop n [] = λ x y i. tt
     trail-prop n (p ∷ ps) = λ x y i. (Coded-set coded_ℕ _ _ x.0 y.0 i, spot-prop p x.1 y.1 i, trail-prop (n + 5) ps x.2 y.2 i)
 
   -- that a trail stands in these nodes has one proof at most
   pub IsTrailIn-prop : (bits : K → List Bool) (width : ℕ) (nodes : List Node) (trail : Trail K) → IsProp (IsTrailIn bits width nodes trail)
-  IsTrailIn-prop bits width nodes trail = trail-prop bits width (array_of nodes) (start (trail_sites trail)) (trail_sites trail)
+  IsTrailIn-prop bits width nodes trail = trail-prop bits width (array_of nodes) trail.key (start trail.stack.items) trail.stack.items

@@ -1,5 +1,5 @@
 -- What a walk of a table has still to come, and what its steps give. This project's own.
-use Rattle.std.specs.Prelude.{◌≡◌, ◌≢◌, ℕ, zero, suc, ◌+◌, ◌-◌, ◌*◌, ◌/◌, ◌<◌, ◌≤◌, Bool, true, not, List, [], ◌∷◌, ◌++◌, length, take, drop, map, filter, slice_index_or, Option, None, Some, All, ⊤}
+use Rattle.std.specs.Prelude.{◌≡◌, ◌≢◌, ℕ, ◌+◌, ◌-◌, ◌*◌, ◌^◌, ◌<◌, ◌≤◌, Bool, true, not, List, [], ◌∷◌, ◌++◌, length, take, drop, filter, slice_index_or, Option, None, Some, All, ⊤}
 use Rattle.std.specs.List.{AllWithin}
 use Rattle.std.specs.Borrow.{Bor}
 use Rattle.std.specs.Coded.{Coded}
@@ -10,7 +10,6 @@ use Rattle.prefix_trie_bits.specs.Model.Entries.{Entries}
 use Rattle.std.specs.FinMap.{len}
 use Rattle.prefix_trie_bits.specs.Model.NodeListings.{listing_at_places}
 use Rattle.prefix_trie_bits.specs.Model.Step.{State}
-use Rattle.prefix_trie_bits.specs.declared.node.Places.{Places}
 use Rattle.prefix_trie_table.specs.declared.table.spot.Spot.{Spot}
 use Rattle.prefix_trie_table.specs.declared.table.seat.Seat.{Seat}
 use Rattle.prefix_trie_table.specs.declared.table.spot.Step.{Step}
@@ -29,21 +28,6 @@ pub record Tree (T : Type 0) : Type 0 where
   pub count : ℕ
   pub cells : Store (Option T)
   pub shape : State T
-
--- a spot with a key that its path begins
-pub record KeyedSpot (K : Type 0) : Type 0 where
-  pub node : Node
-  pub key : K
-  pub depth : ℕ
-  pub places : Places
-
--- a spot on the way of this key
-abbrev pub keyed_spot : {K : Type 0} → K → Spot → KeyedSpot K
-keyed_spot key p = record { node = p.node; key = key; depth = p.depth; places = p.places }
-
--- spots on the way of this key
-abbrev pub keyed_spots : {K : Type 0} → K → List Spot → List (KeyedSpot K)
-keyed_spots key ps = map (keyed_spot key) ps
 
 -- the slot of a seat
 abbrev pub slot_of : Seat → ℕ
@@ -72,60 +56,60 @@ pub record SkipsLast (b : List Bool) (len : ℕ) (old new : List Spot) : Type 0 
   pub after : new ≡ below ++ now ∷ []
   pub skips : Skips b len was now
 
+-- the depth at which a stack starts
+abbrev pub start : List Spot → ℕ
+start [] = 0
+start (p ∷ ps) = p.depth
+
 module _ {K : Type 0} where
-  -- the spot is at a node of the array, and only places that the node has are still to come
-  pub record IsSpot (IsKey : K → Type 0) (bits : K → List Bool) (width : ℕ) (v : Store Node) (p : KeyedSpot K) : Type 0 where
-    pub key : IsKey p.key
+  -- the spot is at a node of the array, whose path begins the key, and only places that the node has are still to come
+  pub record IsSpot (IsKey : K → Type 0) (bits : K → List Bool) (width : ℕ) (v : Store Node) (key : K) (p : Spot) : Type 0 where
+    pub is_key : IsKey key
     pub level : ℕ
     pub depth_is : p.depth ≡ 5 * level
     pub within : p.depth ≤ width
-    pub stands : read v.slots (path_of (take p.depth (bits p.key))) ≡ Some p.node
+    pub stands : read v.slots (path_of (take p.depth (bits key))) ≡ Some p.node
     pub each : All (IsPlaceOf p.node) (to_come p.places)
 
   -- each spot is a level below the one before, and the first is at this depth
-  abbrev pub IsTrail : (K → Type 0) → (K → List Bool) → ℕ → Store Node → ℕ → List (KeyedSpot K) → Type 0
-  IsTrail IsKey bits width v n [] = ⊤
-  IsTrail IsKey bits width v n (p ∷ ps) = (p.depth ≡ n) × IsSpot IsKey bits width v p × IsTrail IsKey bits width v (n + 5) ps
-
-  -- the depth at which a stack starts
-  abbrev pub start : List (KeyedSpot K) → ℕ
-  start [] = 0
-  start (p ∷ ps) = p.depth
+  abbrev pub IsTrail : (K → Type 0) → (K → List Bool) → ℕ → Store Node → ℕ → K → List Spot → Type 0
+  IsTrail IsKey bits width v n key [] = ⊤
+  IsTrail IsKey bits width v n key (p ∷ ps) = (p.depth ≡ n) × IsSpot IsKey bits width v key p × IsTrail IsKey bits width v (n + 5) key ps
 
   -- the spots stand one below the other, from any depth on
-  abbrev pub IsStack : (K → Type 0) → (K → List Bool) → ℕ → Store Node → List (KeyedSpot K) → Type 0
-  IsStack IsKey bits width v ps = IsTrail IsKey bits width v (start ps) ps
+  abbrev pub IsStack : (K → Type 0) → (K → List Bool) → ℕ → Store Node → K → List Spot → Type 0
+  IsStack IsKey bits width v key ps = IsTrail IsKey bits width v (start ps) key ps
 
   -- the child on the key's way is not among the places still to come
-  abbrev pub IsPassed : (K → List Bool) → KeyedSpot K → Type 0
-  IsPassed bits p = All (IsOther (take 5 (drop p.depth (bits p.key)))) (to_come p.places)
+  abbrev pub IsPassed : (K → List Bool) → K → Spot → Type 0
+  IsPassed bits key p = All (IsOther (take 5 (drop p.depth (bits key)))) (to_come p.places)
 
   -- so it is at each spot but the last: what a key that ends at the last spot begins is to come there alone
-  abbrev pub ArePassed : (K → List Bool) → List (KeyedSpot K) → Type 0
-  ArePassed bits ps = AllWithin (IsPassed bits) ps 0 (length ps - 1)
+  abbrev pub ArePassed : (K → List Bool) → K → List Spot → Type 0
+  ArePassed bits key ps = AllWithin (IsPassed bits key) ps 0 (length ps - 1)
 
   -- the first len bits of a key end at the node of the spot
-  pub record EndsAt (bits : K → List Bool) (p : KeyedSpot K) (key : K) (len : ℕ) : Type 0 where
+  pub record EndsAt (bits : K → List Bool) (way : K) (p : Spot) (key : K) (len : ℕ) : Type 0 where
     pub whole : p.depth ≤ len
     pub last : len < p.depth + 5
-    pub way : take p.depth (bits key) ≡ take p.depth (bits p.key)
+    pub same_way : take p.depth (bits key) ≡ take p.depth (bits way)
 
   -- at that of the last of these spots
   pub record EndsLast (bits : K → List Bool) (way : K) (ps : List Spot) (key : K) (len : ℕ) : Type 0 where
     pub below : List Spot
     pub spot : Spot
     pub is : ps ≡ below ++ spot ∷ []
-    pub ends : EndsAt bits (keyed_spot way spot) key len
+    pub ends : EndsAt bits way spot key len
 
   module _ {T : Type 0} where
     -- the pairs still to come at a spot
-    abbrev pub still : (K → List Bool) → Entries T → KeyedSpot K → List (List Bool × T)
-    still bits m p = listing_at_places m (take p.depth (bits p.key)) (to_come p.places)
+    abbrev pub still : (K → List Bool) → Entries T → K → Spot → List (List Bool × T)
+    still bits m key p = listing_at_places m (take p.depth (bits key)) (to_come p.places)
 
     -- the pairs still to come at a stack of spots, the last of which is the deepest
-    abbrev pub pending : (K → List Bool) → Entries T → List (KeyedSpot K) → List (List Bool × T)
-    pending bits m [] = []
-    pending bits m (p ∷ ps) = pending bits m ps ++ still bits m p
+    abbrev pub pending : (K → List Bool) → Entries T → K → List Spot → List (List Bool × T)
+    pending bits m key [] = []
+    pending bits m key (p ∷ ps) = pending bits m key ps ++ still bits m key p
 
     -- the value at a seat is that of the first pair still to come
     pub record GivesSeat (IsKey : K → Type 0) (bits : K → List Bool) (width : ℕ) (t : Tree T) (key : K) (len : ℕ) (seat : Seat) (old new : List (List Bool × T)) : Type 0 where
@@ -134,41 +118,21 @@ module _ {K : Type 0} where
       pub reads : slice_index_or t.cells.slots (slot_of seat) None ≡ Some value
       pub gives : GivesFilled IsKey bits width key len value old new
 
--- k times x and k + 1 more
-unfoldable pub many : ℕ → ℕ → ℕ
-many zero x = 1
-many (suc k) x = x + 1 + many k x
+-- a bound on the steps at a spot: 63 places at most weigh less than one of a level above
+abbrev pub weight : Spot → ℕ
+weight p = length (to_come p.places) * 2 ^ (2 * (130 - p.depth)) + 1
 
--- a bound on the steps at a node with so many levels below it, which has 63 places
-unfoldable pub most : ℕ → ℕ
-most zero = 1
-most (suc n) = many 63 (most n)
-
--- a bound on the steps at these places, where so many levels are below
-abbrev pub weight_of : ℕ → List (List Bool) → ℕ
-weight_of n [] = 1
-weight_of n (s ∷ ss) = most n + 1 + weight_of n ss
-
--- a bound on the steps at a spot
-abbrev pub weight : {K : Type 0} → KeyedSpot K → ℕ
-weight p = weight_of ((130 - p.depth) / 5) (to_come p.places)
-
--- a bound on the steps at a stack
-abbrev pub total_weight : {K : Type 0} → List (KeyedSpot K) → ℕ
-total_weight [] = 0
-total_weight (p ∷ ps) = weight p + total_weight ps
-
-module _ {K T : Type 0} (IsKey : K → Type 0) (bits : K → List Bool) (width : ℕ) (v : Store Node) (t : Tree T) where
+module _ {K T : Type 0} (IsKey : K → Type 0) (bits : K → List Bool) (width : ℕ) (v : Store Node) (t : Tree T) (key : K) (p : Spot) where
   -- a step at the spot p gave this, and left the spot q
-  abbrev pub Steps : KeyedSpot K → Step K → KeyedSpot K → Type 0
-  Steps p (Entry key len seat) q =
-      GivesSeat IsKey bits width t key len seat (still bits t.shape.entries p) (still bits t.shape.entries q)
-      × (weight q < weight p) × IsSpot IsKey bits width v q × (q.depth ≡ p.depth)
-  Steps p (Child c key) q =
-      (still bits t.shape.entries p ≡ still bits t.shape.entries (keyed_spot key c) ++ still bits t.shape.entries q)
-      × (weight (keyed_spot key c) + weight q < weight p) × IsSpot IsKey bits width v q × (q.depth ≡ p.depth)
-      × IsSpot IsKey bits width v (keyed_spot key c) × (c.depth ≡ p.depth + 5) × (take p.depth (bits key) ≡ take p.depth (bits p.key))
-  Steps p Done q = (still bits t.shape.entries p ≡ []) × (0 < weight p)
+  abbrev pub Steps : Step K → Spot → Type 0
+  Steps (Entry found len seat) q =
+      GivesSeat IsKey bits width t found len seat (still bits t.shape.entries key p) (still bits t.shape.entries key q)
+      × (weight q < weight p) × IsSpot IsKey bits width v key q × (q ≡ record p { places = q.places })
+  Steps (Child c below) q =
+      (still bits t.shape.entries key p ≡ still bits t.shape.entries below c ++ still bits t.shape.entries key q)
+      × (weight c + weight q < weight p) × IsSpot IsKey bits width v key q × (q ≡ record p { places = q.places })
+      × IsSpot IsKey bits width v below c × (c.depth ≡ p.depth + 5) × (take p.depth (bits below) ≡ take p.depth (bits key))
+  Steps Done q = (still bits t.shape.entries key p ≡ []) × (0 < weight p)
 
 -- the seat of an entry that a step gave is that of its key
 abbrev pub IsSeated : {K : Type 0} → (K → List Bool) → List Node → Step K → Type 0
@@ -177,10 +141,10 @@ IsSeated bits nodes (Child c key) = ⊤
 IsSeated bits nodes Done = ⊤
 
 -- a key that a step gave ends at its spot, and the child that it gave is passed
-abbrev pub KeepsWay : {K : Type 0} → (K → List Bool) → KeyedSpot K → Step K → Spot → Type 0
-KeepsWay bits p (Entry key len seat) q = EndsAt bits p key len
-KeepsWay bits p (Child c key) q = IsPassed bits (keyed_spot key q)
-KeepsWay bits p Done q = ⊤
+abbrev pub KeepsWay : {K : Type 0} → (K → List Bool) → K → Spot → Step K → Spot → Type 0
+KeepsWay bits way p (Entry key len seat) q = EndsAt bits way p key len
+KeepsWay bits way p (Child c key) q = IsPassed bits key q
+KeepsWay bits way p Done q = ⊤
 
 module _ {T : Type 0} where
   -- the one shape that the arrays have, where there are arrays
@@ -194,12 +158,12 @@ module _ {T : Type 0} where
 
   module _ {K : Type 0} where
     -- a walk without arrays has nothing to come
-    abbrev pub rest_of_walk : (K → List Bool) → (arrays : Option (Bor (Store Node) × Bor (Store (Option T)))) → ShapeOf arrays → List (KeyedSpot K) → List (List Bool × T)
-    rest_of_walk bits None shape ps = []
-    rest_of_walk bits (Some a) shape ps = pending bits shape.0.entries ps
+    abbrev pub rest_of_walk : (K → List Bool) → (arrays : Option (Bor (Store Node) × Bor (Store (Option T)))) → ShapeOf arrays → K → List Spot → List (List Bool × T)
+    rest_of_walk bits None shape key ps = []
+    rest_of_walk bits (Some a) shape key ps = pending bits shape.0.entries key ps
 
     -- the spots of a walk are those of the table in the arrays
-    abbrev pub IsWalk : (K → Type 0) → (K → List Bool) → ℕ → (arrays : Option (Bor (Store Node) × Bor (Store (Option T)))) → ShapeOf arrays → List (KeyedSpot K) → Type 0
-    IsWalk IsKey bits width None shape ps = ⊤
-    IsWalk IsKey bits width (Some a) shape ps =
-        IsTrie width (len shape.0.entries) a.0.now a.1.now shape.0 × IsStack IsKey bits width a.0.now ps × ArePassed bits ps
+    abbrev pub IsWalk : (K → Type 0) → (K → List Bool) → ℕ → (arrays : Option (Bor (Store Node) × Bor (Store (Option T)))) → ShapeOf arrays → K → List Spot → Type 0
+    IsWalk IsKey bits width None shape key ps = ⊤
+    IsWalk IsKey bits width (Some a) shape key ps =
+        IsTrie width (len shape.0.entries) a.0.now a.1.now shape.0 × IsStack IsKey bits width a.0.now key ps × ArePassed bits key ps

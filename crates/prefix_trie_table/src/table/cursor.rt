@@ -8,7 +8,7 @@ ghost use Rattle.prefix_trie_bits.specs.Model.Step.{State};
 ghost use Rattle.prefix_trie_table.specs.Bitmaps.{has_bit as is_set};
 ghost use Rattle.prefix_trie_table.specs.Shape.{IsShapeOf};
 ghost use Rattle.prefix_trie_table.specs.Tables.{IsTrie};
-ghost use Rattle.prefix_trie_table.specs.Walking.Walks.{Tree, ArePassed, IsStack, IsPlaceOf, pending, keyed_spots};
+ghost use Rattle.prefix_trie_table.specs.Walking.Walks.{Tree, ArePassed, IsStack, IsPlaceOf, pending};
 ghost use Rattle.prefix_trie_table.specs.Walking.Cursors.{selected, behind, kept, places_in};
 
 use crate::allocator::blocks::Blocks;
@@ -66,10 +66,10 @@ pub(super) fn start_at<K: Key, T: Drop, A: Allocator, V: Tick>(
     requires key { K.IsKey key }
     requires within { len ≤ K.bit_width }
     requires tree { (t : Tree T) × IsTrie K.bit_width t.count nodes.now t.cells t.shape }
-    ensures stack { IsStack K.IsKey K.bits K.bit_width nodes.now (keyed_spots key result.items) }
-    ensures passed { ArePassed K.bits (keyed_spots key result.items) }
+    ensures stack { IsStack K.IsKey K.bits K.bit_width nodes.now key result.items }
+    ensures passed { ArePassed K.bits key result.items }
     ensures rest { (t : Tree T) → IsTrie K.bit_width t.count nodes.now t.cells t.shape
-        → pending K.bits t.shape.entries (keyed_spots key result.items) ≡ selected from t.shape.entries (take len (K.bits key)) }
+        → pending K.bits t.shape.entries key result.items ≡ selected from t.shape.entries (take len (K.bits key)) }
 {
     let mut stack = ArrayVec::new();
     let mut node = nodes.visit(NodeSlot::ROOT, counter);

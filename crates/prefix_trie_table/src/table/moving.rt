@@ -8,7 +8,6 @@ ghost use Rattle.prefix_trie_table.specs.HandingOut.Moving.{AwaitsNext, HasCome,
 ghost use Rattle.prefix_trie_table.specs.Retaining.{Lasts};
 ghost use Rattle.prefix_trie_table.specs.HandingOut.Skeleton.{IsSecond};
 ghost use Rattle.prefix_trie_table.specs.Tables.{IsTrie};
-ghost use Rattle.prefix_trie_table.specs.Walking.Walks.{keyed_spots};
 
 use crate::allocator::blocks::Blocks;
 use crate::allocator::nodes::{NodeAllocator, Tick};
@@ -33,12 +32,12 @@ struct Seats<K: Key, T: Drop, A: Allocator, V: Tick> {
 }
 
 impl<K: Key, T: Drop, A: Allocator, V: Tick> Keep<K, T, V> for Seats<K, T, A, V> {
-    ghost accepts = { λ f q x. AwaitsNext K.IsKey K.bits K.bit_width f.nodes f.cells (keyed_spots f.key f.stack.items) q x };
+    ghost accepts = { λ f q x. AwaitsNext K.IsKey K.bits K.bit_width f.nodes f.cells f.key f.stack.items q x };
 
     ghost asks = { λ f q x answer g. (answer ≡ false) × HasCome K.IsKey K.bits K.bit_width f.nodes g.nodes f.cells g.cells
-        (keyed_spots f.key f.stack.items) (keyed_spots g.key g.stack.items) q x };
+        f.key f.stack.items g.key g.stack.items q x };
 
-    ghost refuses = { λ f q x g. (g ≡ f) × AwaitsNext K.IsKey K.bits K.bit_width f.nodes f.cells (keyed_spots f.key f.stack.items) q x };
+    ghost refuses = { λ f q x g. (g ≡ f) × AwaitsNext K.IsKey K.bits K.bit_width f.nodes f.cells f.key f.stack.items q x };
 
     fn keeps(&mut self, _key: K, _len: u32, _value: &T) -> bool {
         false

@@ -5,7 +5,7 @@ ghost use Rattle.prefix_trie_bits.specs.Walks.{to_come};
 ghost use Rattle.prefix_trie_table.specs.Bitmaps.{has_bit as is_set};
 ghost use Rattle.prefix_trie_table.specs.Cells.{node_at};
 ghost use Rattle.prefix_trie_table.specs.Tables.{IsTrie};
-ghost use Rattle.prefix_trie_table.specs.Walking.Walks.{Tree, IsSpot, IsPlaceOf, IsSeated, KeepsWay, Skips, Steps, keyed_spot, slot_of};
+ghost use Rattle.prefix_trie_table.specs.Walking.Walks.{Tree, IsSpot, IsPlaceOf, IsSeated, KeepsWay, Skips, Steps, slot_of};
 
 use crate::allocator::blocks::Blocks;
 use crate::allocator::node::{Node, NodeSlot};
@@ -77,11 +77,11 @@ pub fn next_at<K: Key, A: Allocator, V: Tick, T: Drop>(
     counter: &mut V,
 ) -> Step<K>
     requires tree { (t : Tree T) × IsTrie K.bit_width t.count nodes.now t.cells t.shape }
-    requires spot { IsSpot K.IsKey K.bits K.bit_width nodes.now (keyed_spot key spot.old) }
+    requires spot { IsSpot K.IsKey K.bits K.bit_width nodes.now key spot.old }
     ensures step { (t : Tree T) → IsTrie K.bit_width t.count nodes.now t.cells t.shape
-        → Steps K.IsKey K.bits K.bit_width nodes.now t (keyed_spot key spot.old) result (keyed_spot key spot.new) }
+        → Steps K.IsKey K.bits K.bit_width nodes.now t key spot.old result spot.new }
     ensures seat { IsSeated K.bits nodes.now.slots result }
-    ensures way { KeepsWay K.bits (keyed_spot key spot.old) result spot.new }
+    ensures way { KeepsWay K.bits key spot.old result spot.new }
 {
     let Some(place) = spot.places.next_place() else {
         return Step::Done;

@@ -44,14 +44,14 @@ pub struct IntoWalk<K: Key, T: Drop, A: Allocator, V: Tick> {
 // Clauses see the pairs still to come.
 impl<K: Key, T: Drop, A: Allocator, V: Tick> Model for IntoWalk<K, T, A, V> {
     ghost use Rattle.std.specs.Prelude.{List, Bool};
-    ghost use Rattle.prefix_trie_table.specs.Walking.Walks.{pending, keyed_spots};
+    ghost use Rattle.prefix_trie_table.specs.Walking.Walks.{pending};
     ghost use Rattle.prefix_trie_table.specs.Walking.Taking.{pairs_in, IsTaking};
 
     ghost Value = { List (List Bool × T) };
 
-    ghost view = { λ w. pairs_in w.nodes.slots w.cells.slots (pending K.bits w.seats.0 (keyed_spots w.key w.stack.items)) };
+    ghost view = { λ w. pairs_in w.nodes.slots w.cells.slots (pending K.bits w.seats.0 w.key w.stack.items) };
 
-    ghost invariant = { λ w. IsTaking K.IsKey K.bits K.bit_width w.nodes w.cells w.seats.0 (keyed_spots w.key w.stack.items) };
+    ghost invariant = { λ w. IsTaking K.IsKey K.bits K.bit_width w.nodes w.cells w.seats.0 w.key w.stack.items };
 }
 
 impl<K: Key, T: Drop, A: Allocator, V: Tick> IntoWalk<K, T, A, V> {

@@ -7,7 +7,7 @@ ghost use Rattle.prefix_trie_table.specs.Locations.{seat_of};
 ghost use Rattle.prefix_trie_table.specs.Shape.{IsShapeOf};
 ghost use Rattle.prefix_trie_table.specs.Tables.{IsTrie};
 ghost use Rattle.prefix_trie_table.specs.Walking.Items.{GivesFilled, GivesOutermost};
-ghost use Rattle.prefix_trie_table.specs.Walking.Walks.{Tree, ArePassed, EndsLast, IsStack, SkipsLast, pending, keyed_spots, GivesSeat, ShapeOf, ShapeOf-prop};
+ghost use Rattle.prefix_trie_table.specs.Walking.Walks.{Tree, ArePassed, EndsLast, IsStack, SkipsLast, pending, GivesSeat, ShapeOf, ShapeOf-prop};
 
 use crate::allocator::blocks::Blocks;
 use crate::allocator::node::NodeSlot;
@@ -33,13 +33,13 @@ pub struct Walk<'a, K: Key, T: Drop, A: Allocator, V: Tick> {
 // Clauses see the pairs still to come.
 impl<'a, K: Key, T: Drop, A: Allocator, V: Tick> Model for Walk<'a, K, T, A, V> {
     ghost use Rattle.std.specs.Prelude.{List, Bool};
-    ghost use Rattle.prefix_trie_table.specs.Walking.Walks.{rest_of_walk, IsWalk, keyed_spots};
+    ghost use Rattle.prefix_trie_table.specs.Walking.Walks.{rest_of_walk, IsWalk};
 
     ghost Value = { List (List Bool × T) };
 
-    ghost view = { λ w. rest_of_walk K.bits w.arrays w.shape (keyed_spots w.key w.stack.items) };
+    ghost view = { λ w. rest_of_walk K.bits w.arrays w.shape w.key w.stack.items };
 
-    ghost invariant = { λ w. IsWalk K.IsKey K.bits K.bit_width w.arrays w.shape (keyed_spots w.key w.stack.items) };
+    ghost invariant = { λ w. IsWalk K.IsKey K.bits K.bit_width w.arrays w.shape w.key w.stack.items };
 }
 
 impl<'a, K: Key, T: Drop, A: Allocator, V: Tick> Walk<'a, K, T, A, V> {
@@ -52,10 +52,10 @@ impl<'a, K: Key, T: Drop, A: Allocator, V: Tick> Walk<'a, K, T, A, V> {
         stack: ArrayVec<Spot, 26>,
     ) -> Self
         requires tree { (s : State T) × IsTrie K.bit_width (len s.entries) nodes.now cells.now s }
-        requires stack { IsStack K.IsKey K.bits K.bit_width nodes.now (keyed_spots key stack.items) }
-        requires passed { ArePassed K.bits (keyed_spots key stack.items) }
+        requires stack { IsStack K.IsKey K.bits K.bit_width nodes.now key stack.items }
+        requires passed { ArePassed K.bits key stack.items }
         ensures { (s : State T) → IsShapeOf nodes.now.slots cells.now.slots s
-            → result ≡ pending K.bits s.entries (keyed_spots key stack.items) }
+            → result ≡ pending K.bits s.entries key stack.items }
     {
         Walk {
             arrays: Some((nodes, cells)),
@@ -161,14 +161,14 @@ pub fn advance<K: Key, A: Allocator, V: Tick, T: Drop>(
     counter: &mut V,
 ) -> Option<(K, u32, Seat)>
     requires tree { (t : Tree T) × IsTrie K.bit_width t.count nodes.now t.cells t.shape }
-    requires stack { IsStack K.IsKey K.bits K.bit_width nodes.now (keyed_spots key.old stack.old.items) }
-    ensures stack { IsStack K.IsKey K.bits K.bit_width nodes.now (keyed_spots key.new stack.new.items) }
+    requires stack { IsStack K.IsKey K.bits K.bit_width nodes.now key.old stack.old.items }
+    ensures stack { IsStack K.IsKey K.bits K.bit_width nodes.now key.new stack.new.items }
     ensures entry { (t : Tree T) → IsTrie K.bit_width t.count nodes.now t.cells t.shape → MatchOption result
-        ((pending K.bits t.shape.entries (keyed_spots key.old stack.old.items) ≡ []) × (pending K.bits t.shape.entries (keyed_spots key.new stack.new.items) ≡ []))
+        ((pending K.bits t.shape.entries key.old stack.old.items ≡ []) × (pending K.bits t.shape.entries key.new stack.new.items ≡ []))
         (λ r. GivesSeat K.IsKey K.bits K.bit_width t r.0 r.1 r.2
-        (pending K.bits t.shape.entries (keyed_spots key.old stack.old.items)) (pending K.bits t.shape.entries (keyed_spots key.new stack.new.items))) }
+        (pending K.bits t.shape.entries key.old stack.old.items) (pending K.bits t.shape.entries key.new stack.new.items)) }
     ensures seat { IfSome result (λ r. seat_of nodes.now.slots (take r.1 (K.bits r.0)) ≡ Some r.2) }
-    ensures passed { ArePassed K.bits (keyed_spots key.old stack.old.items) → ArePassed K.bits (keyed_spots key.new stack.new.items) }
+    ensures passed { ArePassed K.bits key.old stack.old.items → ArePassed K.bits key.new stack.new.items }
     ensures last { IfSome result (λ r. EndsLast K.bits key.new stack.new.items r.0 r.1) }
 {
     while let Some(mut spot) = last_spot(stack) {

@@ -3,7 +3,7 @@ use Rattle.std.specs.Prelude.{⊤}
 use Rattle.std.specs.FinMap.{contains_key}
 use Rattle.prefix_trie_table.specs.Shape.{Contents}
 use Rattle.prefix_trie_table.specs.Walking.Trails.{array_of, keys_to_come, GivesKey}
-use Rattle.prefix_trie_table.specs.Walking.Walks.{Tree, pending, keyed_spots}
+use Rattle.prefix_trie_table.specs.Walking.Walks.{Tree, pending}
 use Rattle.prefix_trie_table.proofs.Tree.Invariant.{trie_of}
 use Rattle.prefix_trie_table.proofs.Walk.Trails.{stack_in, step_gives, seated_stored}
 use Rattle.prefix_trie_table.proofs.table.Table.step.Goals as goal
@@ -32,8 +32,8 @@ returns-clause-key g c =
     let trail = c.args.trail.now in
     let t : Tree g.row.T.Denot = record { count = i.count; cells = i.cells; shape = i.shape.0 } in
     let tree = trie_of g.K.Key.bit_width i.count i.nodes i.cells i.shape c.self.invariant c.args.self.now c.self.view_is c.requires.within c.requires.nodes in
-    let given = step_gives g.K.Key.IsKey g.K.Key.bits g.K.Key.bit_width t i.nodes.slots (pending g.K.Key.bits i.shape.0.entries (keyed_spots trail.key trail.stack.items))
-    (pending g.K.Key.bits i.shape.0.entries (keyed_spots c.advance.new.key c.advance.new.stack.items)) c.advance.result (c.advance.ensures.entry t tree) c.advance.ensures.seat in
+    let given = step_gives g.K.Key.IsKey g.K.Key.bits g.K.Key.bit_width t i.nodes.slots (pending g.K.Key.bits i.shape.0.entries trail.key trail.stack.items)
+    (pending g.K.Key.bits i.shape.0.entries c.advance.new.key c.advance.new.stack.items) c.advance.result (c.advance.ensures.entry t tree) c.advance.ensures.seat in
     subst (λ (s : Contents g.row.T.Denot). MatchOption c.advance.result
     ((keys_to_come g.K.Key.bits s.entries trail ≡ []) × (keys_to_come g.K.Key.bits s.entries (record { key = c.advance.new.key; stack = c.advance.new.stack }) ≡ []))
     (λ r. GivesKey g.K.Key.IsKey g.K.Key.bits g.K.Key.bit_width s.build r.0 r.1 r.2 (keys_to_come g.K.Key.bits s.entries trail) (keys_to_come g.K.Key.bits s.entries (record { key = c.advance.new.key; stack = c.advance.new.stack }))))

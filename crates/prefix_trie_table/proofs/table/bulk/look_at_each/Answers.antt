@@ -6,7 +6,7 @@ use Rattle.prefix_trie_table.specs.Bulk.{CanAsk, GoOn, asks, new_way, questions_
 use Rattle.prefix_trie_table.specs.Cells.{blank_node, node_at}
 use Rattle.prefix_trie_table.specs.Matching.{IsOnWay}
 use Rattle.prefix_trie_table.specs.Tables.{IsReached}
-use Rattle.prefix_trie_table.proofs.Lookup.Bulk.{way_is, way_best, way_next, read_on, rest_more, round_on, round_end, question_at, go_on_none, found_end}
+use Rattle.prefix_trie_table.proofs.Lookup.Bulk.{way_is, way_inside, way_best, way_next, read_on, rest_more, round_on, round_end, question_at, go_on_none, found_end}
 use Rattle.prefix_trie_table.proofs.Lookup.Finding.{reached_end}
 use Rattle.prefix_trie_table.proofs.table.bulk.look_at_each.Goals as goal
 use Rattle.prefix_trie_table.proofs.table.bulk.look_at_each.Goals.{in-Some, in-None}
@@ -16,60 +16,42 @@ loop-j-init g c = record { few = omega arith; rest = refl; go_on = λ v given. g
 
 pub offset_bounds-prefixes-way : goal.offset_bounds-prefixes-way
 offset_bounds-prefixes-way g c =
-    let qs = questions_of g.P.Prefix.repr_of g.P.Prefix.len_of c.args.prefixes.now in
-    let long = length-map c.args.prefixes.now (asks g.P.Prefix.repr_of g.P.Prefix.len_of) in
-    let r = c.requires.read in
-    let inside = (way_is g.P.R.Key.bits r.0 qs c.args.level c.args.ways.now c.args.count c.args.read.now c.requires.count.0 r.2 c.loop-j.ways c.loop-j.j c.loop-j.invariant.rest c.loop-j-test.true (new_way 0)).inside in
-    omega (arith, inside, long)
+    let inside = way_inside _ _ g.P.Prefix.repr_of g.P.Prefix.len_of c.args.prefixes.now _ _ _ _ c.requires.count.0 c.requires.read.2 c.loop-j.ways c.loop-j.j c.loop-j.invariant.rest c.loop-j-test.true (new_way 0) in
+    omega (arith, inside)
 
 pub bounds-prefixes-way : goal.bounds-prefixes-way
 bounds-prefixes-way g c =
-    let qs = questions_of g.P.Prefix.repr_of g.P.Prefix.len_of c.args.prefixes.now in
-    let long = length-map c.args.prefixes.now (asks g.P.Prefix.repr_of g.P.Prefix.len_of) in
-    let r = c.requires.read in
-    let inside = (way_is g.P.R.Key.bits r.0 qs c.args.level c.args.ways.now c.args.count c.args.read.now c.requires.count.0 r.2 c.loop-j.ways c.loop-j.j c.loop-j.invariant.rest c.loop-j-test.true (new_way 0)).inside in
-    omega (arith, inside, long)
+    way_inside _ _ g.P.Prefix.repr_of g.P.Prefix.len_of c.args.prefixes.now _ _ _ _ c.requires.count.0 c.requires.read.2 c.loop-j.ways c.loop-j.j c.loop-j.invariant.rest c.loop-j-test.true (new_way 0)
 
 pub look-best-requires-clause-asks : goal.look-best-requires-clause-asks
 look-best-requires-clause-asks g c =
-    let qs = questions_of g.P.Prefix.repr_of g.P.Prefix.len_of c.args.prefixes.now in
-    let long = length-map c.args.prefixes.now (asks g.P.Prefix.repr_of g.P.Prefix.len_of) in
-    let r = c.requires.read in
-    let inside = (way_is g.P.R.Key.bits r.0 qs c.args.level c.args.ways.now c.args.count c.args.read.now c.requires.count.0 r.2 c.loop-j.ways c.loop-j.j c.loop-j.invariant.rest c.loop-j-test.true (new_way 0)).inside in
+    let inside = way_inside _ _ g.P.Prefix.repr_of g.P.Prefix.len_of c.args.prefixes.now _ _ _ _ c.requires.count.0 c.requires.read.2 c.loop-j.ways c.loop-j.j c.loop-j.invariant.rest c.loop-j-test.true (new_way 0) in
     let p = c.index-prefixes-way.result in
-    let fits = subst g.P.Prefix.IsFitting (sym c.index-prefixes-way.is) (c.requires.fit _ p (omega (arith, inside, long))) in
+    let fits = subst g.P.Prefix.IsFitting (sym c.index-prefixes-way.is) (c.requires.fit _ p inside) in
     subst (CanAsk g.P.R.Key.IsKey g.P.R.Key.bit_width) (sym c.question-asked.ensures) ((g.met.P.Prefix.prefix_laws.fits_is p).0 fits)
 
 pub look-best-requires-clause-on_way : goal.look-best-requires-clause-on_way
 look-best-requires-clause-on_way g c =
-    let qs = questions_of g.P.Prefix.repr_of g.P.Prefix.len_of c.args.prefixes.now in
-    let long = length-map c.args.prefixes.now (asks g.P.Prefix.repr_of g.P.Prefix.len_of) in
+    let inside = way_inside _ _ g.P.Prefix.repr_of g.P.Prefix.len_of c.args.prefixes.now _ _ _ _ c.requires.count.0 c.requires.read.2 c.loop-j.ways c.loop-j.j c.loop-j.invariant.rest c.loop-j-test.true (new_way 0) in
     let r = c.requires.read in
-    let inside = (way_is g.P.R.Key.bits r.0 qs c.args.level c.args.ways.now c.args.count c.args.read.now c.requires.count.0 r.2 c.loop-j.ways c.loop-j.j c.loop-j.invariant.rest c.loop-j-test.true (new_way 0)).inside in
     let q = c.question-asked.result in
-    let is = question_at g.P.Prefix.repr_of g.P.Prefix.len_of c.args.prefixes.now _ (omega (arith, inside, long)) c.index-prefixes-way.result c.index-prefixes-way.is q c.question-asked.ensures in (
+    let is = question_at g.P.Prefix.repr_of g.P.Prefix.len_of c.args.prefixes.now _ inside c.index-prefixes-way.result c.index-prefixes-way.is q c.question-asked.ensures in (
       r.0,
       r.1,
-      read_on g.P.R.Key.bits r.0 qs c.args.level c.args.ways.now c.args.count c.args.read.now c.requires.count.0 r.2 c.loop-j.ways c.loop-j.j c.loop-j.invariant.rest c.loop-j-test.true (new_way 0)
+      read_on g.P.R.Key.bits r.0 _ c.args.level c.args.ways.now c.args.count c.args.read.now c.requires.count.0 r.2 c.loop-j.ways c.loop-j.j c.loop-j.invariant.rest c.loop-j-test.true (new_way 0)
           blank_node (omega (arith, c.loop-j-test.true, c.requires.count.1)) q is,
     )
 
 pub offset_bounds-found-way : goal.offset_bounds-found-way
 offset_bounds-found-way g c =
-    let qs = questions_of g.P.Prefix.repr_of g.P.Prefix.len_of c.args.prefixes.now in
-    let long = length-map c.args.prefixes.now (asks g.P.Prefix.repr_of g.P.Prefix.len_of) in
-    let r = c.requires.read in
-    let inside = (way_is g.P.R.Key.bits r.0 qs c.args.level c.args.ways.now c.args.count c.args.read.now c.requires.count.0 r.2 c.loop-j.ways c.loop-j.j c.loop-j.invariant.rest c.loop-j-test.true (new_way 0)).inside in
+    let inside = way_inside _ _ g.P.Prefix.repr_of g.P.Prefix.len_of c.args.prefixes.now _ _ _ _ c.requires.count.0 c.requires.read.2 c.loop-j.ways c.loop-j.j c.loop-j.invariant.rest c.loop-j-test.true (new_way 0) in
     let fits = c.well_formed in
-    omega (arith, inside, long, c.requires.same_length, c.loop-j.auto.found)
+    omega (arith, inside, c.requires.same_length, c.loop-j.auto.found)
 
 pub bounds-found-way : goal.bounds-found-way
 bounds-found-way g c =
-    let qs = questions_of g.P.Prefix.repr_of g.P.Prefix.len_of c.args.prefixes.now in
-    let long = length-map c.args.prefixes.now (asks g.P.Prefix.repr_of g.P.Prefix.len_of) in
-    let r = c.requires.read in
-    let inside = (way_is g.P.R.Key.bits r.0 qs c.args.level c.args.ways.now c.args.count c.args.read.now c.requires.count.0 r.2 c.loop-j.ways c.loop-j.j c.loop-j.invariant.rest c.loop-j-test.true (new_way 0)).inside in
-    omega (arith, inside, long, c.requires.same_length, c.loop-j.auto.found)
+    let inside = way_inside _ _ g.P.Prefix.repr_of g.P.Prefix.len_of c.args.prefixes.now _ _ _ _ c.requires.count.0 c.requires.read.2 c.loop-j.ways c.loop-j.j c.loop-j.invariant.rest c.loop-j-test.true (new_way 0) in
+    omega (arith, inside, c.requires.same_length, c.loop-j.auto.found)
 
 pub loop-j-preserved : goal.loop-j-preserved
 loop-j-preserved g c =
@@ -77,37 +59,35 @@ loop-j-preserved g c =
     let j = c.loop-j.j in
     let q = c.question-asked.result in
     let b = g.P.R.Key.bits q.0 in
-    let qs = questions_of g.P.Prefix.repr_of g.P.Prefix.len_of c.args.prefixes.now in
-    let long = length-map c.args.prefixes.now (asks g.P.Prefix.repr_of g.P.Prefix.len_of) in
+    let inside = way_inside _ _ g.P.Prefix.repr_of g.P.Prefix.len_of c.args.prefixes.now _ _ _ _ c.requires.count.0 c.requires.read.2 c.loop-j.ways c.loop-j.j c.loop-j.invariant.rest c.loop-j-test.true (new_way 0) in
     let r = c.requires.read in
-    let inside = (way_is g.P.R.Key.bits r.0 qs c.args.level c.args.ways.now c.args.count c.args.read.now c.requires.count.0 r.2 c.loop-j.ways c.loop-j.j c.loop-j.invariant.rest c.loop-j-test.true (new_way 0)).inside in
-    let is = question_at g.P.Prefix.repr_of g.P.Prefix.len_of c.args.prefixes.now _ (omega (arith, inside, long)) c.index-prefixes-way.result c.index-prefixes-way.is q c.question-asked.ensures in
+    let is = question_at g.P.Prefix.repr_of g.P.Prefix.len_of c.args.prefixes.now _ inside c.index-prefixes-way.result c.index-prefixes-way.is q c.question-asked.ensures in
     let wide : c.loop-j.kept < length c.loop-j.ways = omega (arith, at.few, c.loop-j-test.true, c.requires.count.0, c.loop-j.auto.ways) in
-    let rest = rest_more g.P.R.Key.bits r.0 qs c.args.level c.args.ways.now c.args.count c.args.read.now c.requires.count.0 r.2 c.loop-j.ways j at.rest c.loop-j-test.true in
+    let rest = rest_more g.P.R.Key.bits r.0 _ c.args.level c.args.ways.now c.args.count c.args.read.now c.requires.count.0 r.2 c.loop-j.ways j at.rest c.loop-j-test.true in
     elim c.match-next.branch [
       | in-Some w ↦ record {
         few = omega (arith, w.kept-is, at.few);
         rest = ap (drop (j + 1)) w.ways-is ∙ drop-set-lt (j + 1) c.loop-j.ways c.loop-j.kept _ (omega (arith, at.few)) ∙ rest;
         go_on = λ v given.
-            let on = read_on g.P.R.Key.bits v qs c.args.level c.args.ways.now c.args.count c.args.read.now c.requires.count.0 given c.loop-j.ways j at.rest c.loop-j-test.true (new_way 0) blank_node (omega (arith, c.loop-j-test.true, c.requires.count.1)) q is in
+            let on = read_on g.P.R.Key.bits v _ c.args.level c.args.ways.now c.args.count c.args.read.now c.requires.count.0 given c.loop-j.ways j at.rest c.loop-j-test.true (new_way 0) blank_node (omega (arith, c.loop-j-test.true, c.requires.count.1)) q is in
             let way : Way = get_or c.loop-j.ways j (new_way 0) in
             let node : Node = get_or c.args.read.now j blank_node in
-            let has = c.look-best.ensures.found v on (way_best g.P.R.Key.bits v qs c.args.level way (way_is g.P.R.Key.bits v qs c.args.level c.args.ways.now c.args.count c.args.read.now c.requires.count.0 given c.loop-j.ways j at.rest c.loop-j-test.true (new_way 0)) q is) in
+            let has = c.look-best.ensures.found v on (way_best g.P.R.Key.bits v _ c.args.level way (way_is g.P.R.Key.bits v _ c.args.level c.args.ways.now c.args.count c.args.read.now c.requires.count.0 given c.loop-j.ways j at.rest c.loop-j-test.true (new_way 0)) q is) in
             let next = subst (λ o. MatchOption o (IsReached b q.1 c.args.level node (slot_of way) v) (λ at. IsOnWay b q.1 (c.args.level + 1) (node_at v.slots (at.start + at.place)) (at.start + at.place) v)) w.in-Some.is (c.look-best.ensures.next v on) in
-            round_on g.P.R.Key.bits v qs c.args.level c.args.ways.now c.args.count c.args.read.now c.requires.count.0 given c.loop-j.ways j at.rest c.loop-j-test.true c.loop-j.kept c.args.found.now c.loop-j.found (at.go_on v given) (new_way 0) c.match-next.ways c.match-next.kept c.match-next.found wide w.kept-is _ w.ways-is w.found-is refl
-            (way_next g.P.R.Key.bits v qs c.args.level c.args.ways.now c.args.count c.args.read.now c.requires.count.0 given c.loop-j.ways j at.rest c.loop-j-test.true (new_way 0) q is w.in-Some.at c.look-best.result.0 next has);
+            round_on g.P.R.Key.bits v _ c.args.level c.args.ways.now c.args.count c.args.read.now c.requires.count.0 given c.loop-j.ways j at.rest c.loop-j-test.true c.loop-j.kept c.args.found.now c.loop-j.found (at.go_on v given) (new_way 0) c.match-next.ways c.match-next.kept c.match-next.found wide w.kept-is _ w.ways-is w.found-is refl
+            (way_next g.P.R.Key.bits v _ c.args.level c.args.ways.now c.args.count c.args.read.now c.requires.count.0 given c.loop-j.ways j at.rest c.loop-j-test.true (new_way 0) q is w.in-Some.at c.look-best.result.0 next has);
       }
       | in-None w ↦ record {
         few = omega (arith, w.kept-is, at.few);
         rest = ap (drop (j + 1)) w.ways-is ∙ rest;
         go_on = λ v given.
-            let on = read_on g.P.R.Key.bits v qs c.args.level c.args.ways.now c.args.count c.args.read.now c.requires.count.0 given c.loop-j.ways j at.rest c.loop-j-test.true (new_way 0) blank_node (omega (arith, c.loop-j-test.true, c.requires.count.1)) q is in
+            let on = read_on g.P.R.Key.bits v _ c.args.level c.args.ways.now c.args.count c.args.read.now c.requires.count.0 given c.loop-j.ways j at.rest c.loop-j-test.true (new_way 0) blank_node (omega (arith, c.loop-j-test.true, c.requires.count.1)) q is in
             let way : Way = get_or c.loop-j.ways j (new_way 0) in
             let node : Node = get_or c.args.read.now j blank_node in
-            let has = c.look-best.ensures.found v on (way_best g.P.R.Key.bits v qs c.args.level way (way_is g.P.R.Key.bits v qs c.args.level c.args.ways.now c.args.count c.args.read.now c.requires.count.0 given c.loop-j.ways j at.rest c.loop-j-test.true (new_way 0)) q is) in
+            let has = c.look-best.ensures.found v on (way_best g.P.R.Key.bits v _ c.args.level way (way_is g.P.R.Key.bits v _ c.args.level c.args.ways.now c.args.count c.args.read.now c.requires.count.0 given c.loop-j.ways j at.rest c.loop-j-test.true (new_way 0)) q is) in
             let next = subst (λ o. MatchOption o (IsReached b q.1 c.args.level node (slot_of way) v) (λ at. IsOnWay b q.1 (c.args.level + 1) (node_at v.slots (at.start + at.place)) (at.start + at.place) v)) w.in-None.is (c.look-best.ensures.next v on) in
-            round_end g.P.R.Key.bits v qs c.args.level c.args.ways.now c.args.count c.args.read.now c.requires.count.0 given c.loop-j.ways j at.rest c.loop-j-test.true c.loop-j.kept c.args.found.now c.loop-j.found (at.go_on v given) (new_way 0) c.match-next.ways c.match-next.kept c.match-next.found w.kept-is w.ways-is c.look-best.result.0 w.found-is
-            (c.loop-j.auto.found ∙ c.requires.same_length ∙ sym long) q is (found_end b q.1 c.args.level (slot_of way) node v next c.look-best.result.0 has)
+            round_end g.P.R.Key.bits v _ c.args.level c.args.ways.now c.args.count c.args.read.now c.requires.count.0 given c.loop-j.ways j at.rest c.loop-j-test.true c.loop-j.kept c.args.found.now c.loop-j.found (at.go_on v given) (new_way 0) c.match-next.ways c.match-next.kept c.match-next.found w.kept-is w.ways-is c.look-best.result.0 w.found-is
+            (c.loop-j.auto.found ∙ c.requires.same_length ∙ sym (length-map c.args.prefixes.now (asks g.P.Prefix.repr_of g.P.Prefix.len_of))) q is (found_end b q.1 c.args.level (slot_of way) node v next c.look-best.result.0 has)
             (λ n. reached_end b q.1 c.args.level (slot_of way) node v next n.reading n.paths n.hold);
       }
     ]

@@ -1,16 +1,9 @@
-use Rattle.std.proofs.Common.{◌≡◌, ◌+◌, ◌*◌, ◌-◌}
-use Rattle.prefix_trie_bits.specs.Windows.{IsRest}
-use Rattle.prefix_trie_table.specs.Matching.{IsOnWay}
+use Rattle.std.proofs.Common.{◌+◌, ◌*◌, ◌-◌}
+use Rattle.prefix_trie_table.proofs.Lookup.Going.{IsFollowed}
 use Rattle.prefix_trie_table.proofs.table.lookup.descend.Given as goal
 
 abbrev pub invariant-way : goal.invariant-way
-invariant-way g l =
-    record {
-      on_way : IsOnWay (g.K.Key.bits l.fn.key) l.len l.here.level l.here.node (l.here.at.start + l.here.at.place) l.nodes;
-      is_key : g.K.Key.IsKey l.rest;
-      rest : IsRest (g.K.Key.bits l.fn.key) (5 * l.here.level) (g.K.Key.bits l.rest);
-      counted : g.V.Tick.count l.counter ≡ g.V.Tick.count l.fn.counter + (l.here.level + 1);
-    }
+invariant-way g l = IsFollowed g.K.Key.IsKey g.K.Key.bits l.fn.key l.len l.here l.nodes l.rest (g.V.Tick.count l.fn.counter) (g.V.Tick.count l.counter)
 
 abbrev pub decreases-way : goal.decreases-way
 decreases-way g l = l.len + 5 - 5 * l.here.level

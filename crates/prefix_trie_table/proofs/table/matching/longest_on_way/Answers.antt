@@ -2,33 +2,27 @@ use Rattle.std.proofs.Common.{◌≡◌, ◌+◌, ◌*◌, take, ◌∙◌, subs
 use Rattle.prefix_trie_table.specs.Matching.{LongestHeld}
 use Rattle.prefix_trie_table.specs.Digits.{path_of}
 use Rattle.prefix_trie_table.proofs.Lookup.Finding.{reached_end, met_end}
-use Rattle.prefix_trie_table.proofs.Lookup.Going.{key_long, rest_root, rest_next}
+use Rattle.prefix_trie_table.proofs.Lookup.Going.{followed_root, followed_next}
 use Rattle.prefix_trie_table.proofs.Lookup.Matching.{on_way_is, none_past, longest_none, longest_now}
 use Rattle.prefix_trie_table.proofs.table.matching.longest_on_way.Goals as goal
 
 pub way-init : goal.way-init
-way-init g c =
-    let b = g.K.Key.bits c.args.key in
-    let top = c.root-here.ensures.level in
-    record {
-      on_way = c.root-here.ensures.on_way b c.args.len (key_long _ _ _ (g.met.K.Key.key_laws.bits_length c.args.key c.requires.key) c.requires.within);
-      is_key = c.requires.key;
-      rest = rest_root b c.root-here.result.level top;
-      counted = omega (arith, top, c.root-here.ensures.visits);
-      best = λ reading paths hold i from last within. absurd (omega (arith, top));
-    }
+way-init g c = record {
+  way = followed_root g.K.Key.IsKey g.K.Key.bits c.args.key c.args.len c.root-here.result c.args.nodes.now g.K.Key.bit_width c.requires.key (g.met.K.Key.key_laws.bits_length c.args.key c.requires.key) c.requires.within c.root-here.ensures.level c.root-here.ensures.on_way _ _ c.root-here.ensures.visits;
+  best = λ reading paths hold i from last within. absurd (let top = c.root-here.ensures.level in omega (arith, top));
+}
 
 pub longest_in-requires-clause-few : goal.longest_in-requires-clause-few
 longest_in-requires-clause-few g c =
     let b = g.K.Key.bits c.args.key in
     let s = c.requires.sound in
-    s.1 (take c.way.here.level (path_of (take c.args.len b))) c.way.here.node (on_way_is b c.args.len c.way.here.level _ c.way.here.node c.args.nodes.now c.way.invariant.on_way s.0.reading s.0.paths s.0.hold)
+    s.1 (take c.way.here.level (path_of (take c.args.len b))) c.way.here.node (on_way_is b c.args.len c.way.here.level _ c.way.here.node c.args.nodes.now c.way.invariant.way.on_way s.0.reading s.0.paths s.0.hold)
 
 pub step_down-requires-clause-sound : goal.step_down-requires-clause-sound
 step_down-requires-clause-sound g c = c.requires.sound.0
 
 pub step_down-requires-clause-on_way : goal.step_down-requires-clause-on_way
-step_down-requires-clause-on_way g c = (g.K.Key.bits c.args.key, c.way.invariant.on_way, c.way.invariant.rest)
+step_down-requires-clause-on_way g c = (g.K.Key.bits c.args.key, c.way.invariant.way.on_way, c.way.invariant.way.behind)
 
 pub returns-in_default-clause-found : goal.returns-in_default-clause-found
 returns-in_default-clause-found g c = λ reading paths hold.
@@ -36,19 +30,19 @@ returns-in_default-clause-found g c = λ reading paths hold.
     let q = take c.args.len b in
     let at = c.way.invariant in
     let level = c.way.here.level in
-    let found = longest_now b c.args.len level _ c.way.here.node c.args.nodes.now at.on_way reading paths hold c.way.best c.longest_in.result c.or-best.result (at.best reading paths hold) (λ nodes. c.longest_in.ensures b nodes at.on_way.long at.rest) c.or-best.ensures in
-    let end = reached_end b c.args.len level _ c.way.here.node c.args.nodes.now (c.in_default.ensures.step b at.on_way at.rest) reading paths hold in
+    let found = longest_now b c.args.len level _ c.way.here.node c.args.nodes.now at.way.on_way reading paths hold c.way.best c.longest_in.result c.or-best.result (at.best reading paths hold) (λ nodes. c.longest_in.ensures b nodes at.way.on_way.long at.way.behind) c.or-best.ensures in
+    let end = reached_end b c.args.len level _ c.way.here.node c.args.nodes.now (c.in_default.ensures.step b at.way.on_way at.way.behind) reading paths hold in
     longest_none reading q 0 (5 * level + 5) (c.args.len + 1) c.or-best.result found (none_past reading paths c.args.nodes.now q level (c.args.len + 1) hold end)
 
 pub returns-in_default-clause-visits : goal.returns-in_default-clause-visits
 returns-in_default-clause-visits g c =
     let at = c.way.invariant in
-    met_end _ c.args.len c.way.here.level _ c.way.here.node c.args.nodes.now (c.in_default.ensures.step (g.K.Key.bits c.args.key) at.on_way at.rest) _ _
-    (c.in_default.ensures.visits ∙ at.counted)
+    met_end _ c.args.len c.way.here.level _ c.way.here.node c.args.nodes.now (c.in_default.ensures.step (g.K.Key.bits c.args.key) at.way.on_way at.way.behind) _ _
+    (c.in_default.ensures.visits ∙ at.way.counted)
 
 pub behind-rest-requires : goal.behind-rest-requires
 behind-rest-requires g c =
-    let next = c.in-Some.ensures.step (g.K.Key.bits c.args.key) c.way.invariant.on_way c.way.invariant.rest in
+    let next = c.in-Some.ensures.step (g.K.Key.bits c.args.key) c.way.invariant.way.on_way c.way.invariant.way.behind in
     let whole = next.1.whole in
     omega (arith, next.0, whole, c.requires.within)
 
@@ -57,15 +51,12 @@ way-preserved g c =
     let b = g.K.Key.bits c.args.key in
     let q = take c.args.len b in
     let at = c.way.invariant in
-    let next = c.in-Some.ensures.step b at.on_way at.rest in
+    let next = c.in-Some.ensures.step b at.way.on_way at.way.behind in
     let level = c.way.here.level in
     record {
-      on_way = next.1;
-      is_key = c.behind-rest.ensures.key;
-      rest = rest_next b _ _ c.args.len level c.in-Some.next.level at.rest next.1.long next.1.whole next.0 c.behind-rest.ensures.value;
-      counted = omega (arith, c.in-Some.ensures.visits, next.0, at.counted);
+      way = followed_next g.K.Key.IsKey g.K.Key.bits c.args.key c.args.len c.way.here c.args.nodes.now _ _ _ at.way c.in-Some.next (c.in-Some.ensures.step (g.K.Key.bits c.args.key) at.way.on_way at.way.behind) c.behind-rest.result c.behind-rest.ensures.key c.behind-rest.ensures.value _ c.in-Some.ensures.visits;
       best = λ reading paths hold.
-          let found = longest_now b c.args.len level _ c.way.here.node c.args.nodes.now at.on_way reading paths hold c.way.best c.longest_in.result c.or-best.result (at.best reading paths hold) (λ nodes. c.longest_in.ensures b nodes at.on_way.long at.rest) c.or-best.ensures in
+          let found = longest_now b c.args.len level _ c.way.here.node c.args.nodes.now at.way.on_way reading paths hold c.way.best c.longest_in.result c.or-best.result (at.best reading paths hold) (λ nodes. c.longest_in.ensures b nodes at.way.on_way.long at.way.behind) c.or-best.ensures in
           let more : 5 * level + 5 ≡ 5 * c.in-Some.next.level = omega (arith, next.0) in
           subst (λ n. LongestHeld reading q 0 n c.or-best.result) more found;
     }

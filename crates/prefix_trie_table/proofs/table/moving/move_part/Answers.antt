@@ -5,7 +5,6 @@ use Rattle.prefix_trie_bits.specs.Model.Step.{State}
 use Rattle.prefix_trie_table.specs.declared.table.moving.Seats.{Seats}
 use Rattle.prefix_trie_table.specs.HandingOut.Moving.{filled_with, handed}
 use Rattle.prefix_trie_table.specs.Tables.{IsTrie}
-use Rattle.prefix_trie_table.specs.Walking.Walks.{keyed_spots}
 use Rattle.prefix_trie_table.proofs.Moving.Second.{second_trie}
 use Rattle.prefix_trie_table.proofs.Moving.Moved.{Fills, may_move, all_moved}
 use Rattle.prefix_trie_table.proofs.table.moving.move_part.Given as given
@@ -22,17 +21,17 @@ start_at-stack-requires-clause-tree g c =
 pub remove_part-requires-clause-may_ask : goal.remove_part-requires-clause-may_ask
 remove_part-requires-clause-may_ask g c = λ s trie.
     may_move g.K.Key.IsKey g.K.Key.bits g.K.Key.bit_width {F = Seats g.row.K.Denot g.row.T.Denot g.row.A.Denot g.row.V.Denot}
-    (λ f. f.nodes) (λ f. f.cells) (λ f. keyed_spots f.key f.stack.items) c.args.entries.now c.args.nodes.now c.args.cells.now s trie
+    (λ f. f.nodes) (λ f. f.cells) (λ f. f.key) (λ f. f.stack.items) c.args.entries.now c.args.nodes.now c.args.cells.now s trie
     (take c.args.len (g.K.Key.bits c.args.key)) (record { nodes = c.args.laid; cells = c.args.vacant; key = c.args.key; stack = c.start_at-stack.result })
     c.requires.second c.start_at-stack.ensures.stack c.start_at-stack.ensures.rest
 
 -- what the second table has then
 filled : (g : given.Over) (c : goal.After-remove_part g) → (s : State g.row.T.Denot) → IsTrie g.K.Key.bit_width c.args.entries.now c.args.nodes.now c.args.cells.now s →
     Fills g.K.Key.IsKey g.K.Key.bits g.K.Key.bit_width (handed s (take c.args.len (g.K.Key.bits c.args.key))) c.args.laid c.args.vacant
-    c.remove_part.new.keep.nodes c.remove_part.new.keep.cells (keyed_spots c.remove_part.new.keep.key c.remove_part.new.keep.stack.items) []
+    c.remove_part.new.keep.nodes c.remove_part.new.keep.cells c.remove_part.new.keep.key c.remove_part.new.keep.stack.items []
 filled g c = λ s trie.
     all_moved g.K.Key.IsKey g.K.Key.bits g.K.Key.bit_width {F = Seats g.row.K.Denot g.row.T.Denot g.row.A.Denot g.row.V.Denot}
-    (λ f. f.nodes) (λ f. f.cells) (λ f. keyed_spots f.key f.stack.items) c.args.entries.now c.args.nodes.now c.args.cells.now s trie
+    (λ f. f.nodes) (λ f. f.cells) (λ f. f.key) (λ f. f.stack.items) c.args.entries.now c.args.nodes.now c.args.cells.now s trie
     (take c.args.len (g.K.Key.bits c.args.key)) (record { nodes = c.args.laid; cells = c.args.vacant; key = c.args.key; stack = c.start_at-stack.result })
     c.requires.second c.start_at-stack.ensures.stack c.start_at-stack.ensures.rest c.remove_part.new.keep (c.remove_part.ensures.up_to s trie)
 

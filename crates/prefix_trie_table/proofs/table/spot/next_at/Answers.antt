@@ -1,9 +1,8 @@
 use Rattle.std.proofs.Common.{◌≡◌, ◌+◌, ◌-◌, length, refl, sym, ap, ◌∙◌, arith}
 use Rattle.prefix_trie_bits.specs.Bits.{digits, zeros}
 use Rattle.prefix_trie_bits.specs.BitStrings.{length-digits}
-use Rattle.prefix_trie_table.proofs.Walk.Spots.{same_way, child_passed, place-value, place-child, place-small, place-child-small, goes_on, lighter, value_room, gives_value, value_seated, child_room, child_stands_at, child_without, child_spot, child_still, child_lighter, child_way}
+use Rattle.prefix_trie_table.proofs.Walk.Spots.{same_way, child_passed, place-value, place-child, place-small, place-child-small, goes_on, lighter, value_room, gives_value, value_seated, child_room, child_here, child_spot, child_still, child_lighter}
 use Rattle.prefix_trie_table.specs.Locations.{value_seat}
-use Rattle.prefix_trie_table.specs.Walking.Walks.{keyed_spot}
 use Rattle.prefix_trie_table.proofs.table.spot.next_at.Goals as goal
 
 pub string_of-n-requires : goal.string_of-n-requires
@@ -20,7 +19,7 @@ pub extend-requires-clause-within : goal.extend-requires-clause-within
 extend-requires-clause-within g c =
     let taken = c.in-Some.ensures.place in
     let is = place-value taken.string c.in-Value.bit taken.short (sym c.in-Value.is ∙ taken.place) in
-    let room = value_room _ _ _ _ _ c.requires.spot (g.met.K.Key.key_laws.bits_length c.args.key c.requires.spot.key) taken.string c.next_place.new.self taken.first c.requires.tree.0 c.requires.tree.1 is.0 in
+    let room = value_room _ _ _ _ _ _ c.requires.spot (g.met.K.Key.key_laws.bits_length c.args.key c.requires.spot.is_key) taken.string c.next_place.new.self taken.first c.requires.tree.0 c.requires.tree.1 is.0 in
     let n_is : length taken.string ≡ c.string_of-n.result.0 = ap length (c.string_of-n.ensures.only taken.string (sym is.1)) ∙ length-digits c.string_of-n.result.0 c.string_of-n.result.1 in
     omega (arith, room, n_is)
 
@@ -29,9 +28,9 @@ returns-in-Value-clause-step g c =
     λ t tree.
     let taken = c.in-Some.ensures.place in
     let is = place-value taken.string c.in-Value.bit taken.short (sym c.in-Value.is ∙ taken.place) in (
-      gives_value _ _ _ _ _ c.requires.spot (g.met.K.Key.key_laws.bits_length c.args.key c.requires.spot.key) taken.string c.next_place.new.self taken.first t tree is.0 c.extend.result c.extend.ensures.key c.string_of-n.result.0 c.string_of-n.result.1 (c.string_of-n.ensures.only taken.string (sym is.1)) c.extend.ensures.value _ (c.value_seat.ensures ∙ ap (value_seat c.args.spot.now.node) is.1),
-      lighter _ _ _ _ _ c.requires.spot (g.met.K.Key.key_laws.bits_length c.args.key c.requires.spot.key) taken.string c.next_place.new.self taken.first,
-      goes_on _ _ _ _ _ c.requires.spot (g.met.K.Key.key_laws.bits_length c.args.key c.requires.spot.key) taken.string c.next_place.new.self taken.first,
+      gives_value _ _ _ _ _ _ c.requires.spot (g.met.K.Key.key_laws.bits_length c.args.key c.requires.spot.is_key) taken.string c.next_place.new.self taken.first t tree is.0 c.extend.result c.extend.ensures.key c.string_of-n.result.0 c.string_of-n.result.1 (c.string_of-n.ensures.only taken.string (sym is.1)) c.extend.ensures.value _ (c.value_seat.ensures ∙ ap (value_seat c.args.spot.now.node) is.1),
+      lighter _ _ _ _ _ _ c.requires.spot (g.met.K.Key.key_laws.bits_length c.args.key c.requires.spot.is_key) taken.string c.next_place.new.self taken.first,
+      goes_on _ _ _ _ _ _ c.requires.spot (g.met.K.Key.key_laws.bits_length c.args.key c.requires.spot.is_key) taken.string c.next_place.new.self taken.first,
       refl,
     )
 
@@ -39,7 +38,7 @@ pub returns-in-Value-clause-seat : goal.returns-in-Value-clause-seat
 returns-in-Value-clause-seat g c =
     let taken = c.in-Some.ensures.place in
     let is = place-value taken.string c.in-Value.bit taken.short (sym c.in-Value.is ∙ taken.place) in
-    value_seated _ _ _ _ _ c.requires.spot (g.met.K.Key.key_laws.bits_length c.args.key c.requires.spot.key) taken.string c.next_place.new.self taken.first c.requires.tree.0 c.requires.tree.1 is.0 c.extend.result c.extend.ensures.key c.string_of-n.result.0 c.string_of-n.result.1 (c.string_of-n.ensures.only taken.string (sym is.1)) c.extend.ensures.value _ (c.value_seat.ensures ∙ ap (value_seat c.args.spot.now.node) is.1)
+    value_seated _ _ _ _ _ _ c.requires.spot (g.met.K.Key.key_laws.bits_length c.args.key c.requires.spot.is_key) taken.string c.next_place.new.self taken.first c.requires.tree.0 c.requires.tree.1 is.0 c.extend.result c.extend.ensures.key c.string_of-n.result.0 c.string_of-n.result.1 (c.string_of-n.ensures.only taken.string (sym is.1)) c.extend.ensures.value _ (c.value_seat.ensures ∙ ap (value_seat c.args.spot.now.node) is.1)
 
 pub returns-in-Value-clause-way : goal.returns-in-Value-clause-way
 returns-in-Value-clause-way g c =
@@ -47,7 +46,7 @@ returns-in-Value-clause-way g c =
     record {
       whole = omega arith;
       last = omega (arith, short);
-      way = same_way _ _ _ _ _ c.requires.spot (g.met.K.Key.key_laws.bits_length c.args.key c.requires.spot.key) c.extend.result
+      same_way = same_way _ _ _ _ _ _ c.requires.spot (g.met.K.Key.key_laws.bits_length c.args.key c.requires.spot.is_key) c.extend.result
           (digits c.string_of-n.result.0 c.string_of-n.result.1) (zeros (g.K.Key.bit_width - (c.args.spot.now.depth + c.string_of-n.result.0))) c.extend.ensures.value;
     }
 
@@ -60,7 +59,7 @@ pub extend-below-requires-clause-within : goal.extend-below-requires-clause-with
 extend-below-requires-clause-within g c =
     let taken = c.in-Some.ensures.place in
     let is = place-child taken.string c.in-Child.child taken.short (sym c.in-Child.is ∙ taken.place) in
-    child_room _ _ _ _ _ c.requires.spot (g.met.K.Key.key_laws.bits_length c.args.key c.requires.spot.key) taken.string c.next_place.new.self taken.first c.requires.tree.0 c.requires.tree.1 is.0
+    child_room _ _ _ _ _ _ c.requires.spot (g.met.K.Key.key_laws.bits_length c.args.key c.requires.spot.is_key) taken.string c.next_place.new.self taken.first c.requires.tree.0 c.requires.tree.1 is.0
 
 pub extend-below-requires-clause-fits : goal.extend-below-requires-clause-fits
 extend-below-requires-clause-fits g c =
@@ -71,13 +70,13 @@ pub enter-requires-clause-stands : goal.enter-requires-clause-stands
 enter-requires-clause-stands g c =
     let taken = c.in-Some.ensures.place in
     let is = place-child taken.string c.in-Child.child taken.short (sym c.in-Child.is ∙ taken.place) in
-    child_stands_at _ _ _ _ _ c.requires.spot (g.met.K.Key.key_laws.bits_length c.args.key c.requires.spot.key) taken.string c.next_place.new.self taken.first c.requires.tree.0 c.requires.tree.1 is.0 c.in-Child.child _ is.1 c.child_slot-at.ensures
+    (child_here _ _ _ _ _ _ c.requires.spot (g.met.K.Key.key_laws.bits_length c.args.key c.requires.spot.is_key) taken.string c.next_place.new.self taken.first c.requires.tree.0 c.requires.tree.1 is.0 c.in-Child.child _ is.1 c.child_slot-at.ensures).0
 
 pub enter-requires-clause-few : goal.enter-requires-clause-few
 enter-requires-clause-few g c =
     let taken = c.in-Some.ensures.place in
     let is = place-child taken.string c.in-Child.child taken.short (sym c.in-Child.is ∙ taken.place) in
-    child_without _ _ _ _ _ c.requires.spot (g.met.K.Key.key_laws.bits_length c.args.key c.requires.spot.key) taken.string c.next_place.new.self taken.first c.requires.tree.0 c.requires.tree.1 is.0 c.in-Child.child _ is.1 c.child_slot-at.ensures
+    (child_here _ _ _ _ _ _ c.requires.spot (g.met.K.Key.key_laws.bits_length c.args.key c.requires.spot.is_key) taken.string c.next_place.new.self taken.first c.requires.tree.0 c.requires.tree.1 is.0 c.in-Child.child _ is.1 c.child_slot-at.ensures).1
 
 pub returns-in-Child-clause-step : goal.returns-in-Child-clause-step
 returns-in-Child-clause-step g c =
@@ -86,19 +85,20 @@ returns-in-Child-clause-step g c =
     let is = place-child taken.string c.in-Child.child taken.short (sym c.in-Child.is ∙ taken.place) in
     let is_key = c.extend-below.ensures.key in
     let extended = c.extend-below.ensures.value in
-    let child = keyed_spot c.extend-below.result c.enter.result in (
-      child_still _ _ _ _ _ c.requires.spot (g.met.K.Key.key_laws.bits_length c.args.key c.requires.spot.key) taken.string c.next_place.new.self taken.first t tree is.0 c.in-Child.child _ is.1 c.child_slot-at.ensures child is_key extended c.enter.ensures.depth c.enter.ensures.node c.enter.ensures.places c.enter.ensures.each,
-      child_lighter _ _ _ _ _ c.requires.spot (g.met.K.Key.key_laws.bits_length c.args.key c.requires.spot.key) taken.string c.next_place.new.self taken.first t tree is.0 c.in-Child.child _ is.1 c.child_slot-at.ensures child is_key extended c.enter.ensures.depth c.enter.ensures.node c.enter.ensures.places c.enter.ensures.each g.met.K.Key.key_laws.at_most_128,
-      goes_on _ _ _ _ _ c.requires.spot (g.met.K.Key.key_laws.bits_length c.args.key c.requires.spot.key) taken.string c.next_place.new.self taken.first,
+    let below = c.extend-below.result in
+    let child = c.enter.result in (
+      child_still _ _ _ _ _ _ c.requires.spot (g.met.K.Key.key_laws.bits_length c.args.key c.requires.spot.is_key) taken.string c.next_place.new.self taken.first t tree is.0 c.in-Child.child _ is.1 c.child_slot-at.ensures below child is_key extended c.enter.ensures.depth c.enter.ensures.node c.enter.ensures.places c.enter.ensures.each,
+      child_lighter _ _ _ _ _ _ c.requires.spot (g.met.K.Key.key_laws.bits_length c.args.key c.requires.spot.is_key) taken.string c.next_place.new.self taken.first t tree is.0 c.in-Child.child _ is.1 c.child_slot-at.ensures below child is_key extended c.enter.ensures.depth c.enter.ensures.node c.enter.ensures.places c.enter.ensures.each g.met.K.Key.key_laws.at_most_128,
+      goes_on _ _ _ _ _ _ c.requires.spot (g.met.K.Key.key_laws.bits_length c.args.key c.requires.spot.is_key) taken.string c.next_place.new.self taken.first,
       refl,
-      child_spot _ _ _ _ _ c.requires.spot (g.met.K.Key.key_laws.bits_length c.args.key c.requires.spot.key) taken.string c.next_place.new.self taken.first t tree is.0 c.in-Child.child _ is.1 c.child_slot-at.ensures child is_key extended c.enter.ensures.depth c.enter.ensures.node c.enter.ensures.places c.enter.ensures.each,
+      child_spot _ _ _ _ _ _ c.requires.spot (g.met.K.Key.key_laws.bits_length c.args.key c.requires.spot.is_key) taken.string c.next_place.new.self taken.first t tree is.0 c.in-Child.child _ is.1 c.child_slot-at.ensures below child is_key extended c.enter.ensures.depth c.enter.ensures.node c.enter.ensures.places c.enter.ensures.each,
       c.enter.ensures.depth,
-      child_way _ _ _ _ _ c.requires.spot (g.met.K.Key.key_laws.bits_length c.args.key c.requires.spot.key) taken.string c.next_place.new.self taken.first t tree is.0 c.in-Child.child _ is.1 c.child_slot-at.ensures child is_key extended c.enter.ensures.depth c.enter.ensures.node c.enter.ensures.places c.enter.ensures.each,
+      same_way _ _ _ _ _ _ c.requires.spot (g.met.K.Key.key_laws.bits_length c.args.key c.requires.spot.is_key) below (digits 5 c.in-Child.child) (zeros (g.K.Key.bit_width - (c.args.spot.now.depth + 5))) extended,
     )
 
 pub returns-in-Child-clause-way : goal.returns-in-Child-clause-way
 returns-in-Child-clause-way g c =
     let taken = c.in-Some.ensures.place in
     let is = place-child taken.string c.in-Child.child taken.short (sym c.in-Child.is ∙ taken.place) in
-    child_passed _ _ _ _ _ c.requires.spot (g.met.K.Key.key_laws.bits_length c.args.key c.requires.spot.key) taken.string c.next_place.new.self taken.first c.requires.tree.0 c.requires.tree.1 is.0
+    child_passed _ _ _ _ _ _ c.requires.spot (g.met.K.Key.key_laws.bits_length c.args.key c.requires.spot.is_key) taken.string c.next_place.new.self taken.first c.requires.tree.0 c.requires.tree.1 is.0
     c.next_place.ensures.sorted c.in-Child.child is.1 c.extend-below.result (zeros (g.K.Key.bit_width - (c.args.spot.now.depth + 5))) c.extend-below.ensures.value

@@ -1,15 +1,15 @@
-use Rattle.std.proofs.Common.{◌≡◌}
-use Rattle.prefix_trie_table.specs.Walking.Walks.{Tree, ArePassed, IsStack, pending, keyed_spots, total_weight}
+use Rattle.std.proofs.Common.{◌≡◌, sum_by}
+use Rattle.prefix_trie_table.specs.Walking.Walks.{Tree, ArePassed, IsStack, pending, weight}
 use Rattle.prefix_trie_table.specs.Tables.{IsTrie}
 use Rattle.prefix_trie_table.proofs.table.walk.advance.Given as goal
 
 abbrev pub invariant-loop-spot : goal.invariant-loop-spot
 invariant-loop-spot g l =
     record {
-      stack : IsStack g.K.Key.IsKey g.K.Key.bits g.K.Key.bit_width l.nodes (keyed_spots l.key l.stack.items);
-      same : (t : Tree g.row.T.Denot) → IsTrie g.K.Key.bit_width t.count l.nodes t.cells t.shape → pending g.K.Key.bits t.shape.entries (keyed_spots l.key l.stack.items) ≡ pending g.K.Key.bits t.shape.entries (keyed_spots l.fn.key l.fn.stack.items);
-      passed : ArePassed g.K.Key.bits (keyed_spots l.fn.key l.fn.stack.items) → ArePassed g.K.Key.bits (keyed_spots l.key l.stack.items);
+      stack : IsStack g.K.Key.IsKey g.K.Key.bits g.K.Key.bit_width l.nodes l.key l.stack.items;
+      same : (t : Tree g.row.T.Denot) → IsTrie g.K.Key.bit_width t.count l.nodes t.cells t.shape → pending g.K.Key.bits t.shape.entries l.key l.stack.items ≡ pending g.K.Key.bits t.shape.entries l.fn.key l.fn.stack.items;
+      passed : ArePassed g.K.Key.bits l.fn.key l.fn.stack.items → ArePassed g.K.Key.bits l.key l.stack.items;
     }
 
 abbrev pub decreases-loop-spot : goal.decreases-loop-spot
-decreases-loop-spot g l = total_weight (keyed_spots l.key l.stack.items)
+decreases-loop-spot g l = sum_by weight l.stack.items

@@ -1,6 +1,5 @@
 use Rattle.std.proofs.Common.{◌∙◌, [], ◌∷◌, ◌++◌, ap}
 use Rattle.prefix_trie_table.specs.Cells.{node_at}
-use Rattle.prefix_trie_table.specs.Walking.Walks.{keyed_spot, keyed_spots}
 use Rattle.prefix_trie_table.proofs.Tree.Trees.{read-nil}
 use Rattle.prefix_trie_table.proofs.Tree.Subtrees.{root_inside, few_at}
 use Rattle.prefix_trie_table.proofs.Walk.Walking.{root_walk, root_rest}
@@ -15,10 +14,10 @@ enter-requires-clause-few g c =
 
 pub invariant_of-result-2 : goal.invariant_of-result-2
 invariant_of-result-2 g c =
-    root_walk g.K.Key.IsKey g.K.Key.bits g.K.Key.bit_width c.args.nodes.now c.args.cells.now c.requires.0 c.requires.1 (keyed_spot c.zero.result c.enter.result) c.zero.ensures.key c.enter.ensures.depth c.enter.ensures.node c.enter.ensures.places c.enter.ensures.each
-    c.result-1.given.0 (keyed_spots c.zero.result c.push.new.self.items) (ap (keyed_spots c.zero.result) (c.push.ensures.items ∙ ap (λ xs. xs ++ c.enter.result ∷ []) c.new-stack.ensures))
+    root_walk g.K.Key.IsKey g.K.Key.bits g.K.Key.bit_width c.args.nodes.now c.args.cells.now c.requires.0 c.requires.1 c.result-1.given.0 c.zero.result c.enter.result c.zero.ensures.key c.enter.ensures.depth c.enter.ensures.node c.enter.ensures.places c.enter.ensures.each
+    c.push.new.self.items (c.push.ensures.items ∙ ap (λ xs. xs ++ c.enter.result ∷ []) c.new-stack.ensures)
 
 pub returns : goal.returns
 returns g c =
-    root_rest g.K.Key.IsKey g.K.Key.bits g.K.Key.bit_width c.args.nodes.now c.args.cells.now c.requires.0 c.requires.1 (keyed_spot c.zero.result c.enter.result) c.zero.ensures.key c.enter.ensures.depth c.enter.ensures.node c.enter.ensures.places c.enter.ensures.each
-    c.result-1.given.0 (keyed_spots c.zero.result c.push.new.self.items) (ap (keyed_spots c.zero.result) (c.push.ensures.items ∙ ap (λ xs. xs ++ c.enter.result ∷ []) c.new-stack.ensures))
+    root_rest g.K.Key.IsKey g.K.Key.bits g.K.Key.bit_width c.args.nodes.now c.args.cells.now c.requires.0 c.requires.1 c.result-1.given.0 c.zero.result c.enter.result c.zero.ensures.key c.enter.ensures.depth c.enter.ensures.node c.enter.ensures.places c.enter.ensures.each
+    c.push.new.self.items (c.push.ensures.items ∙ ap (λ xs. xs ++ c.enter.result ∷ []) c.new-stack.ensures)

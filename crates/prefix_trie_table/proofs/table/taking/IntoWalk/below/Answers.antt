@@ -1,6 +1,6 @@
 use Rattle.std.proofs.Common.{take}
 use Rattle.std.specs.FinMap.{len as size}
-use Rattle.prefix_trie_table.specs.Walking.Walks.{Tree, keyed_spots}
+use Rattle.prefix_trie_table.specs.Walking.Walks.{Tree}
 use Rattle.prefix_trie_table.proofs.Walk.Taking.{seated, walk_below, below_given}
 use Rattle.prefix_trie_table.proofs.table.taking.IntoWalk.below.Goals as goal
 
@@ -16,12 +16,12 @@ pub invariant_of-result-2 : goal.invariant_of-result-2
 invariant_of-result-2 g c =
     let t : Tree g.row.T.Denot = record { count = size c.requires.tree.0.entries; cells = c.args.cells; shape = c.requires.tree.0 } in
     walk_below g.K.Key.IsKey g.K.Key.bits g.K.Key.bit_width c.args.nodes c.args.cells c.requires.tree.0 c.requires.tree.1 c.result-1.given.0
-    (keyed_spots c.args.key c.start_at-stack.result.items) (take c.args.len (g.K.Key.bits c.args.key))
+    c.args.key c.start_at-stack.result.items (take c.args.len (g.K.Key.bits c.args.key))
     (c.start_at-stack.ensures.rest t c.requires.tree.1) c.start_at-stack.ensures.stack
 
 pub returns : goal.returns
 returns g c =
     let t : Tree g.row.T.Denot = record { count = size c.requires.tree.0.entries; cells = c.args.cells; shape = c.requires.tree.0 } in
     below_given g.K.Key.IsKey g.K.Key.bits g.K.Key.bit_width c.args.nodes c.args.cells c.requires.tree.0 c.requires.tree.1 c.result-1.given.0
-    (keyed_spots c.args.key c.start_at-stack.result.items) (take c.args.len (g.K.Key.bits c.args.key))
+    c.args.key c.start_at-stack.result.items (take c.args.len (g.K.Key.bits c.args.key))
     (c.start_at-stack.ensures.rest t c.requires.tree.1)

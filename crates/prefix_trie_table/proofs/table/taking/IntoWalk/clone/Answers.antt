@@ -1,39 +1,38 @@
-use Rattle.std.proofs.Common.{refl, ap, ◌∙◌}
+use Rattle.std.proofs.Common.{refl, ◌∙◌}
 use Rattle.std.specs.List.{each_same}
-use Rattle.prefix_trie_table.specs.Walking.Walks.{keyed_spots}
 use Rattle.prefix_trie_table.proofs.Tree.Copying.{option_pairs}
-use Rattle.prefix_trie_table.proofs.Walk.CopiedWalks.{copied_seats, copied_walk, copied_pairs, pairs_same}
+use Rattle.prefix_trie_table.proofs.Walk.Taking.{copied_seats, copied_walk, pairs_same}
 use Rattle.prefix_trie_table.proofs.table.taking.IntoWalk.clone.Goals as goal
 
 pub invariant_of-result : goal.invariant_of-result
 invariant_of-result g c =
     let i = c.self.inside in (
       copied_seats g.K.Key.IsKey g.K.Key.bits g.K.Key.bit_width g.T.Clone.is_clone _ (option_pairs _ (λ _. refl) (λ _ h. absurd h) (λ _ h. h) (λ _ _ h. h))
-          i.nodes c.in_ok-nodes.nodes i.cells c.in_ok-cells.cells i.seats (keyed_spots i.key i.stack.items) (keyed_spots i.key c.in-Ok.stack.items) c.self.invariant
-          c.in_ok-nodes.ensures.same c.in_ok-cells.ensures.slots (ap (keyed_spots i.key) (each_same i.stack.items c.in-Ok.stack.items c.in-Ok.ensures.cases)),
+          i.nodes c.in_ok-nodes.nodes i.cells c.in_ok-cells.cells i.seats i.key i.stack.items c.in-Ok.stack.items c.self.invariant
+          c.in_ok-nodes.ensures.same c.in_ok-cells.ensures.slots (each_same i.stack.items c.in-Ok.stack.items c.in-Ok.ensures.cases),
       tt,
     )
 
 pub invariant_of-result-2 : goal.invariant_of-result-2
 invariant_of-result-2 g c =
     let i = c.self.inside in
-    copied_walk g.K.Key.IsKey g.K.Key.bits g.K.Key.bit_width g.T.Clone.is_clone _ (option_pairs _ (λ _. refl) (λ _ h. absurd h) (λ _ h. h) (λ _ _ h. h))
-    i.nodes c.in_ok-nodes.nodes i.cells c.in_ok-cells.cells i.seats (keyed_spots i.key i.stack.items) (keyed_spots i.key c.in-Ok.stack.items) c.self.invariant
-    c.in_ok-nodes.ensures.same c.in_ok-cells.ensures.slots (ap (keyed_spots i.key) (each_same i.stack.items c.in-Ok.stack.items c.in-Ok.ensures.cases)) c.result-2-1.given.0
+    (copied_walk g.K.Key.IsKey g.K.Key.bits g.K.Key.bit_width g.T.Clone.is_clone _ (option_pairs _ (λ _. refl) (λ _ h. absurd h) (λ _ h. h) (λ _ _ h. h))
+    i.nodes c.in_ok-nodes.nodes i.cells c.in_ok-cells.cells i.seats i.key i.stack.items c.in-Ok.stack.items c.self.invariant
+    c.in_ok-nodes.ensures.same c.in_ok-cells.ensures.slots (each_same i.stack.items c.in-Ok.stack.items c.in-Ok.ensures.cases) c.result-2-1.given.0).0
 
 pub returns-clause-pairs : goal.returns-clause-pairs
 returns-clause-pairs g c =
     let i = c.self.inside in
     rw (← c.self.view_is)
-    (copied_pairs g.K.Key.IsKey g.K.Key.bits g.K.Key.bit_width g.T.Clone.is_clone _ (option_pairs _ (λ _. refl) (λ _ h. absurd h) (λ _ h. h) (λ _ _ h. h))
-    i.nodes c.in_ok-nodes.nodes i.cells c.in_ok-cells.cells i.seats (keyed_spots i.key i.stack.items) (keyed_spots i.key c.in-Ok.stack.items) c.self.invariant
-    c.in_ok-nodes.ensures.same c.in_ok-cells.ensures.slots (ap (keyed_spots i.key) (each_same i.stack.items c.in-Ok.stack.items c.in-Ok.ensures.cases)) c.result-2-1.given.0)
+    (copied_walk g.K.Key.IsKey g.K.Key.bits g.K.Key.bit_width g.T.Clone.is_clone _ (option_pairs _ (λ _. refl) (λ _ h. absurd h) (λ _ h. h) (λ _ _ h. h))
+    i.nodes c.in_ok-nodes.nodes i.cells c.in_ok-cells.cells i.seats i.key i.stack.items c.in-Ok.stack.items c.self.invariant
+    c.in_ok-nodes.ensures.same c.in_ok-cells.ensures.slots (each_same i.stack.items c.in-Ok.stack.items c.in-Ok.ensures.cases) c.result-2-1.given.0).1
 
 pub returns-clause-same : goal.returns-clause-same
 returns-clause-same g c = λ law.
     let i = c.self.inside in
     pairs_same g.T.Clone.is_clone law _ _
-    (copied_pairs g.K.Key.IsKey g.K.Key.bits g.K.Key.bit_width g.T.Clone.is_clone _ (option_pairs _ (λ _. refl) (λ _ h. absurd h) (λ _ h. h) (λ _ _ h. h))
-    i.nodes c.in_ok-nodes.nodes i.cells c.in_ok-cells.cells i.seats (keyed_spots i.key i.stack.items) (keyed_spots i.key c.in-Ok.stack.items) c.self.invariant
-    c.in_ok-nodes.ensures.same c.in_ok-cells.ensures.slots (ap (keyed_spots i.key) (each_same i.stack.items c.in-Ok.stack.items c.in-Ok.ensures.cases)) c.result-2-1.given.0)
+    (copied_walk g.K.Key.IsKey g.K.Key.bits g.K.Key.bit_width g.T.Clone.is_clone _ (option_pairs _ (λ _. refl) (λ _ h. absurd h) (λ _ h. h) (λ _ _ h. h))
+    i.nodes c.in_ok-nodes.nodes i.cells c.in_ok-cells.cells i.seats i.key i.stack.items c.in-Ok.stack.items c.self.invariant
+    c.in_ok-nodes.ensures.same c.in_ok-cells.ensures.slots (each_same i.stack.items c.in-Ok.stack.items c.in-Ok.ensures.cases) c.result-2-1.given.0).1
     ∙ c.self.view_is

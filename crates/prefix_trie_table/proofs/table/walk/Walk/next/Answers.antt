@@ -1,41 +1,40 @@
 use Rattle.std.proofs.Common.{◌∙◌, sym}
-use Rattle.prefix_trie_table.specs.Walking.Walks.{keyed_spots}
 use Rattle.prefix_trie_table.proofs.Walk.Walking.{tree_of, rest_at, gives_read}
 use Rattle.prefix_trie_table.proofs.table.walk.Walk.next.Goals as goal
 
 pub advance-requires : goal.advance-requires
 advance-requires g c =
-    let r = rest_at g.K.Key.IsKey g.K.Key.bits g.K.Key.bit_width c.self.inside.arrays (c.in-Some.nodes, c.in-Some.cells) c.in-Some.is c.self.inside.shape (keyed_spots c.self.inside.key c.self.inside.stack.items) c.self.invariant in
+    let r = rest_at g.K.Key.IsKey g.K.Key.bits g.K.Key.bit_width c.self.inside.arrays (c.in-Some.nodes, c.in-Some.cells) c.in-Some.is c.self.inside.shape c.self.inside.key c.self.inside.stack.items c.self.invariant in
     record { tree = (tree_of c.in-Some.cells.now r.state, r.tree); stack = r.stack }
 
 pub invariant_of-self : goal.invariant_of-self
 invariant_of-self g c =
-    let r = rest_at g.K.Key.IsKey g.K.Key.bits g.K.Key.bit_width c.self.inside.arrays (c.in-Some.nodes, c.in-Some.cells) c.in-Some.is c.self.inside.shape (keyed_spots c.self.inside.key c.self.inside.stack.items) c.self.invariant in
-    r.later _ (keyed_spots c.advance.new.key c.advance.new.stack.items) c.advance.ensures.stack (c.advance.ensures.passed r.passed)
+    let r = rest_at g.K.Key.IsKey g.K.Key.bits g.K.Key.bit_width c.self.inside.arrays (c.in-Some.nodes, c.in-Some.cells) c.in-Some.is c.self.inside.shape c.self.inside.key c.self.inside.stack.items c.self.invariant in
+    r.later _ c.advance.new.key c.advance.new.stack.items c.advance.ensures.stack (c.advance.ensures.passed r.passed)
 
 pub invariant_of-self-2 : goal.invariant_of-self-2
 invariant_of-self-2 g c =
-    let r = rest_at g.K.Key.IsKey g.K.Key.bits g.K.Key.bit_width c.self.inside.arrays (c.in-Some.nodes, c.in-Some.cells) c.in-Some.is c.self.inside.shape (keyed_spots c.self.inside.key c.self.inside.stack.items) c.self.invariant in
-    r.later _ (keyed_spots c.advance.new.key c.advance.new.stack.items) c.advance.ensures.stack (c.advance.ensures.passed r.passed)
+    let r = rest_at g.K.Key.IsKey g.K.Key.bits g.K.Key.bit_width c.self.inside.arrays (c.in-Some.nodes, c.in-Some.cells) c.in-Some.is c.self.inside.shape c.self.inside.key c.self.inside.stack.items c.self.invariant in
+    r.later _ c.advance.new.key c.advance.new.stack.items c.advance.ensures.stack (c.advance.ensures.passed r.passed)
 
 pub returns-in_default-advance : goal.returns-in_default-advance
 returns-in_default-advance g c =
-    let r = rest_at g.K.Key.IsKey g.K.Key.bits g.K.Key.bit_width c.self.inside.arrays (c.in-Some.nodes, c.in-Some.cells) c.in-Some.is c.self.inside.shape (keyed_spots c.self.inside.key c.self.inside.stack.items) c.self.invariant in
+    let r = rest_at g.K.Key.IsKey g.K.Key.bits g.K.Key.bit_width c.self.inside.arrays (c.in-Some.nodes, c.in-Some.cells) c.in-Some.is c.self.inside.shape c.self.inside.key c.self.inside.stack.items c.self.invariant in
     let h = c.in_default-advance.ensures.entry (tree_of c.in-Some.cells.now r.state) r.tree in
-    (sym c.self.view_is ∙ r.rest ∙ h.0, r.later_rest _ (keyed_spots c.advance.new.key c.advance.new.stack.items) ∙ h.1)
+    (sym c.self.view_is ∙ r.rest ∙ h.0, r.later_rest _ c.advance.new.key c.advance.new.stack.items ∙ h.1)
 
 pub value_at-requires-clause-stands : goal.value_at-requires-clause-stands
 value_at-requires-clause-stands g c =
-    let r = rest_at g.K.Key.IsKey g.K.Key.bits g.K.Key.bit_width c.self.inside.arrays (c.in-Some.nodes, c.in-Some.cells) c.in-Some.is c.self.inside.shape (keyed_spots c.self.inside.key c.self.inside.stack.items) c.self.invariant in
+    let r = rest_at g.K.Key.IsKey g.K.Key.bits g.K.Key.bit_width c.self.inside.arrays (c.in-Some.nodes, c.in-Some.cells) c.in-Some.is c.self.inside.shape c.self.inside.key c.self.inside.stack.items c.self.invariant in
     (c.in-Some-advance.ensures.entry (tree_of c.in-Some.cells.now r.state) r.tree).stands
 
 pub value_at-requires-clause-set : goal.value_at-requires-clause-set
 value_at-requires-clause-set g c =
-    let r = rest_at g.K.Key.IsKey g.K.Key.bits g.K.Key.bit_width c.self.inside.arrays (c.in-Some.nodes, c.in-Some.cells) c.in-Some.is c.self.inside.shape (keyed_spots c.self.inside.key c.self.inside.stack.items) c.self.invariant in
+    let r = rest_at g.K.Key.IsKey g.K.Key.bits g.K.Key.bit_width c.self.inside.arrays (c.in-Some.nodes, c.in-Some.cells) c.in-Some.is c.self.inside.shape c.self.inside.key c.self.inside.stack.items c.self.invariant in
     let h = c.in-Some-advance.ensures.entry (tree_of c.in-Some.cells.now r.state) r.tree in (h.value, h.reads)
 
 pub returns : goal.returns
 returns g c =
-    let r = rest_at g.K.Key.IsKey g.K.Key.bits g.K.Key.bit_width c.self.inside.arrays (c.in-Some.nodes, c.in-Some.cells) c.in-Some.is c.self.inside.shape (keyed_spots c.self.inside.key c.self.inside.stack.items) c.self.invariant in
+    let r = rest_at g.K.Key.IsKey g.K.Key.bits g.K.Key.bit_width c.self.inside.arrays (c.in-Some.nodes, c.in-Some.cells) c.in-Some.is c.self.inside.shape c.self.inside.key c.self.inside.stack.items c.self.invariant in
     let h = c.in-Some-advance.ensures.entry (tree_of c.in-Some.cells.now r.state) r.tree in
-    gives_read g.K.Key.IsKey g.K.Key.bits g.K.Key.bit_width (tree_of c.in-Some.cells.now r.state) _ _ _ _ _ c.args.self.now _ c.value_at.result.now h c.value_at.ensures (sym c.self.view_is ∙ r.rest) (r.later_rest _ (keyed_spots c.advance.new.key c.advance.new.stack.items))
+    gives_read g.K.Key.IsKey g.K.Key.bits g.K.Key.bit_width (tree_of c.in-Some.cells.now r.state) _ _ _ _ _ c.args.self.now _ c.value_at.result.now h c.value_at.ensures (sym c.self.view_is ∙ r.rest) (r.later_rest _ c.advance.new.key c.advance.new.stack.items)

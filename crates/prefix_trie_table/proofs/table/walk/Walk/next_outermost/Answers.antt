@@ -1,33 +1,33 @@
 use Rattle.std.proofs.Common.{◌∙◌, sym}
-use Rattle.prefix_trie_table.specs.Walking.Walks.{pending, keyed_spots}
+use Rattle.prefix_trie_table.specs.Walking.Walks.{pending}
 use Rattle.prefix_trie_table.proofs.Walk.Walking.{tree_of, rest_at}
 use Rattle.prefix_trie_table.proofs.Walk.Skipping.{few_spots, stack_left, passed_left, pending_left}
 use Rattle.prefix_trie_table.proofs.table.walk.Walk.next_outermost.Goals as goal
 
 pub advance-requires-clause-tree : goal.advance-requires-clause-tree
 advance-requires-clause-tree g c =
-    let r = rest_at g.K.Key.IsKey g.K.Key.bits g.K.Key.bit_width c.self.inside.arrays (c.in-Some.nodes, c.in-Some.field-0-1) c.in-Some.is c.self.inside.shape (keyed_spots c.self.inside.key c.self.inside.stack.items) c.self.invariant in
+    let r = rest_at g.K.Key.IsKey g.K.Key.bits g.K.Key.bit_width c.self.inside.arrays (c.in-Some.nodes, c.in-Some.field-0-1) c.in-Some.is c.self.inside.shape c.self.inside.key c.self.inside.stack.items c.self.invariant in
     (tree_of c.in-Some.field-0-1.now r.state, r.tree)
 
 pub invariant_of-self : goal.invariant_of-self
 invariant_of-self g c =
-    let r = rest_at g.K.Key.IsKey g.K.Key.bits g.K.Key.bit_width c.self.inside.arrays (c.in-Some.nodes, c.in-Some.field-0-1) c.in-Some.is c.self.inside.shape (keyed_spots c.self.inside.key c.self.inside.stack.items) c.self.invariant in
-    r.later _ (keyed_spots c.advance.new.key c.advance.new.stack.items) c.advance.ensures.stack (c.advance.ensures.passed r.passed)
+    let r = rest_at g.K.Key.IsKey g.K.Key.bits g.K.Key.bit_width c.self.inside.arrays (c.in-Some.nodes, c.in-Some.field-0-1) c.in-Some.is c.self.inside.shape c.self.inside.key c.self.inside.stack.items c.self.invariant in
+    r.later _ c.advance.new.key c.advance.new.stack.items c.advance.ensures.stack (c.advance.ensures.passed r.passed)
 
 pub returns-in_default-advance : goal.returns-in_default-advance
 returns-in_default-advance g c =
-    let r = rest_at g.K.Key.IsKey g.K.Key.bits g.K.Key.bit_width c.self.inside.arrays (c.in-Some.nodes, c.in-Some.field-0-1) c.in-Some.is c.self.inside.shape (keyed_spots c.self.inside.key c.self.inside.stack.items) c.self.invariant in
+    let r = rest_at g.K.Key.IsKey g.K.Key.bits g.K.Key.bit_width c.self.inside.arrays (c.in-Some.nodes, c.in-Some.field-0-1) c.in-Some.is c.self.inside.shape c.self.inside.key c.self.inside.stack.items c.self.invariant in
     let h = c.in_default-advance.ensures.entry (tree_of c.in-Some.field-0-1.now r.state) r.tree in
-    (sym c.self.view_is ∙ r.rest ∙ h.0, r.later_rest _ (keyed_spots c.advance.new.key c.advance.new.stack.items) ∙ h.1)
+    (sym c.self.view_is ∙ r.rest ∙ h.0, r.later_rest _ c.advance.new.key c.advance.new.stack.items ∙ h.1)
 
 pub skip_at_last-requires-clause-key : goal.skip_at_last-requires-clause-key
 skip_at_last-requires-clause-key g c =
-    let r = rest_at g.K.Key.IsKey g.K.Key.bits g.K.Key.bit_width c.self.inside.arrays (c.in-Some.nodes, c.in-Some.field-0-1) c.in-Some.is c.self.inside.shape (keyed_spots c.self.inside.key c.self.inside.stack.items) c.self.invariant in
+    let r = rest_at g.K.Key.IsKey g.K.Key.bits g.K.Key.bit_width c.self.inside.arrays (c.in-Some.nodes, c.in-Some.field-0-1) c.in-Some.is c.self.inside.shape c.self.inside.key c.self.inside.stack.items c.self.invariant in
     (c.in-Some-advance.ensures.entry (tree_of c.in-Some.field-0-1.now r.state) r.tree).gives.is_key
 
 pub skip_at_last-requires-clause-within : goal.skip_at_last-requires-clause-within
 skip_at_last-requires-clause-within g c =
-    let r = rest_at g.K.Key.IsKey g.K.Key.bits g.K.Key.bit_width c.self.inside.arrays (c.in-Some.nodes, c.in-Some.field-0-1) c.in-Some.is c.self.inside.shape (keyed_spots c.self.inside.key c.self.inside.stack.items) c.self.invariant in
+    let r = rest_at g.K.Key.IsKey g.K.Key.bits g.K.Key.bit_width c.self.inside.arrays (c.in-Some.nodes, c.in-Some.field-0-1) c.in-Some.is c.self.inside.shape c.self.inside.key c.self.inside.stack.items c.self.invariant in
     (c.in-Some-advance.ensures.entry (tree_of c.in-Some.field-0-1.now r.state) r.tree).gives.short
 
 pub skip_at_last-requires-clause-room : goal.skip_at_last-requires-clause-room
@@ -36,24 +36,24 @@ skip_at_last-requires-clause-room g c =
 
 pub invariant_of-self-2 : goal.invariant_of-self-2
 invariant_of-self-2 g c =
-    let r = rest_at g.K.Key.IsKey g.K.Key.bits g.K.Key.bit_width c.self.inside.arrays (c.in-Some.nodes, c.in-Some.field-0-1) c.in-Some.is c.self.inside.shape (keyed_spots c.self.inside.key c.self.inside.stack.items) c.self.invariant in
+    let r = rest_at g.K.Key.IsKey g.K.Key.bits g.K.Key.bit_width c.self.inside.arrays (c.in-Some.nodes, c.in-Some.field-0-1) c.in-Some.is c.self.inside.shape c.self.inside.key c.self.inside.stack.items c.self.invariant in
     let h = (c.in-Some-advance.ensures.entry (tree_of c.in-Some.field-0-1.now r.state) r.tree).gives in
-    r.later _ (keyed_spots c.advance.new.key c.skip_at_last.new.stack.items)
+    r.later _ c.advance.new.key c.skip_at_last.new.stack.items
     (stack_left g.K.Key.IsKey g.K.Key.bits g.K.Key.bit_width c.in-Some.nodes.now g.met.K.Key.key_laws.bits_length c.advance.new.key _ h.is_key _ h.short c.advance.new.stack.items c.skip_at_last.new.stack.items c.advance.ensures.stack (c.advance.ensures.passed r.passed) c.in-Some-advance.ensures.last c.skip_at_last.ensures)
     (passed_left g.K.Key.IsKey g.K.Key.bits g.K.Key.bit_width c.in-Some.nodes.now g.met.K.Key.key_laws.bits_length c.advance.new.key _ h.is_key _ h.short c.advance.new.stack.items c.skip_at_last.new.stack.items c.advance.ensures.stack (c.advance.ensures.passed r.passed) c.in-Some-advance.ensures.last c.skip_at_last.ensures)
 
 pub returns : goal.returns
 returns g c =
-    let r = rest_at g.K.Key.IsKey g.K.Key.bits g.K.Key.bit_width c.self.inside.arrays (c.in-Some.nodes, c.in-Some.field-0-1) c.in-Some.is c.self.inside.shape (keyed_spots c.self.inside.key c.self.inside.stack.items) c.self.invariant in
+    let r = rest_at g.K.Key.IsKey g.K.Key.bits g.K.Key.bit_width c.self.inside.arrays (c.in-Some.nodes, c.in-Some.field-0-1) c.in-Some.is c.self.inside.shape c.self.inside.key c.self.inside.stack.items c.self.invariant in
     let h = (c.in-Some-advance.ensures.entry (tree_of c.in-Some.field-0-1.now r.state) r.tree).gives in
     record {
       is_key = h.is_key;
       short = h.short;
       filled = h.filled;
       value = (c.in-Some-advance.ensures.entry (tree_of c.in-Some.field-0-1.now r.state) r.tree).value;
-      later = pending g.K.Key.bits r.state.entries (keyed_spots c.advance.new.key c.advance.new.stack.items);
+      later = pending g.K.Key.bits r.state.entries c.advance.new.key c.advance.new.stack.items;
       first = sym c.self.view_is ∙ r.rest ∙ h.first;
       rest =
-          r.later_rest _ (keyed_spots c.advance.new.key c.skip_at_last.new.stack.items)
+          r.later_rest _ c.advance.new.key c.skip_at_last.new.stack.items
           ∙ pending_left g.K.Key.IsKey g.K.Key.bits g.K.Key.bit_width c.in-Some.nodes.now g.met.K.Key.key_laws.bits_length c.advance.new.key _ h.is_key _ h.short c.advance.new.stack.items c.skip_at_last.new.stack.items c.advance.ensures.stack (c.advance.ensures.passed r.passed) c.in-Some-advance.ensures.last c.skip_at_last.ensures r.state.entries;
     }
