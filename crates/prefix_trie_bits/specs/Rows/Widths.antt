@@ -1,6 +1,6 @@
 -- Worked rows: each width, and the last node of each.
 use Rattle.std.specs.Prelude.{ℕ, ◌++◌, List, [], ◌∷◌, Some, None}
-use Rattle.prefix_trie_bits.specs.Model.Step.{Insert, Lpm, Spm, Remove, Len, NodeCount, AddressCount, ListAll, Cover, Value, Match, Count, Addresses, Items}
+use Rattle.prefix_trie_bits.specs.Model.Step.{Insert, Lpm, Spm, Remove, Len, NodeCount, AddressCount, ListAll, Value, Match, Count, Addresses, Items}
 use Rattle.prefix_trie_bits.specs.Rows.Examples.{Gives, counted, full_pairs, sets}
 
 -- the 15 pairs of three bits, in listing order
@@ -29,15 +29,6 @@ pub record WidthsHold : Type 0 where
       (Lpm (4, 64), Match (Some ((0, 60), 1))) ∷
       (Lpm (7, 64), Match (Some ((6, 63), 3))) ∷
       (Spm (5, 64), Match (Some ((0, 60), 1))) ∷
-      [])
-  -- row 30: 16 bits
-  pub row30 : Gives 16 (
-      (Insert (32768, 15) 1, Value None) ∷
-      (Insert (32769, 16) 2, Value None) ∷
-      (Lpm (32769, 16), Match (Some ((32769, 16), 2))) ∷
-      (Lpm (32768, 16), Match (Some ((32768, 15), 1))) ∷
-      (Cover (32769, 16), Items (((32768, 15), 1) ∷ ((32769, 16), 2) ∷ [])) ∷
-      (Spm (32770, 16), Match None) ∷
       [])
   -- row 41, second part: the last prefix of 128 bits
   pub row41_wide : Gives 128 (

@@ -56,7 +56,6 @@ unfolding digits number begins halves
 widths_hold = record {
   row6 = gives refl;
   row29 = gives refl;
-  row30 = gives refl;
   row41_wide = gives refl;
   row45 = gives refl;
   row46 = gives refl;
