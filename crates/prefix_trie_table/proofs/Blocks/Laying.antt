@@ -97,7 +97,6 @@ module _ {S : Type 0} (vacant : S) where
         whole : (ys : List S) (a : ℕ) → put_run ys a [] ≡ ys
         whole ys a = ap (λ n. take a ys ++ drop n ys) (let e : a + 0 ≡ a = omega arith in e) ∙ take-append-drop a ys
     items_laid (x ∷ xs) laid =
-        let items = x ∷ xs in
         let some : 0 < length (x ∷ xs) = omega arith in
         let few = few_laid (x ∷ xs) some laid in
         let l = length-replicate (length (x ∷ xs)) vacant in
