@@ -5,13 +5,12 @@ use Rattle.prefix_trie_bits.specs.Model.Blocks.{smallest_size}
 use Rattle.prefix_trie_bits.specs.Model.HandsOut.{packed_slots}
 use Rattle.prefix_trie_bits.proofs.Model.Storage.Readied.{goes_up}
 use Rattle.std.proofs.lemmas.List.{length-replicate, drop-replicate, replicate-append-replicate}
-use Rattle.std.proofs.lemmas.List.Elements.{All-head, All-tail, All-cons}
 use Rattle.prefix_trie_table.specs.declared.allocator.blocks.BlockRef.{BlockRef}
 use Rattle.prefix_trie_table.specs.Runs.{run, put_run}
-use Rattle.prefix_trie_table.specs.Store.{Store, Tier, UsedBlock, Sound, IsOfTier, HoldsItems, Turnover, block, filled, tier_at, tier_sizes, free_in, many_of, none_of}
+use Rattle.prefix_trie_table.specs.Store.{Store, Tier, UsedBlock, Sound, Turnover, block, filled, tier_at, tier_sizes, free_in, many_of, none_of}
 use Rattle.prefix_trie_table.specs.HandingOut.Laying.{NoneFree, LaysList}
 use Rattle.prefix_trie_table.proofs.Blocks.BySize.{size_at, smallest_holds, many-le, slots_of-le, slots_of-none, slots_of-many}
-use Rattle.prefix_trie_table.proofs.Blocks.RunLemmas.{length-put_run, get_or-put_run_out, put_run_part}
+use Rattle.prefix_trie_table.proofs.Blocks.RunLemmas.{length-put_run, get_or-put_run_out, put_run_part, put_run_self}
 use Rattle.prefix_trie_table.proofs.Blocks.Soundness.{Sound-written, block_inside, block_slots}
 use Rattle.prefix_trie_table.proofs.Blocks.Turnovers.{Keeps-then, Turnover-written}
 use Rattle.prefix_trie_table.proofs.Tree.Trees.{held_some}
@@ -26,19 +25,12 @@ module _ {S : Type 0} (vacant : S) where
   -- a block that holds nothing holds so many vacant items
   pub Sound-vacant : (k start size count : ℕ) (live : List (UsedBlock S)) (v : Store S) → count ≤ size → Sound vacant (block k start size [] ∷ live) v →
       Sound vacant (block k start size (replicate count vacant) ∷ live) v
-  Sound-vacant k start size count live v few s = record {
-    blocks = s.blocks;
-    of_tier =
-        All-cons (IsOfTier v.tiers) (block k start size (replicate count vacant)) live
-        (let h = All-head (IsOfTier v.tiers) (block k start size []) live s.of_tier in record { within = h.within; size_is = h.size_is })
-        (All-tail (IsOfTier v.tiers) (block k start size []) live s.of_tier);
-    counted = s.counted;
-    held =
-        All-cons (HoldsItems vacant v.slots) (block k start size (replicate count vacant)) live
-        (block_slots vacant (block k start size []) live v s ∙ sym (filled_vacant size count few))
-        (All-tail (HoldsItems vacant v.slots) (block k start size []) live s.held);
-    vacated = s.vacated;
-  }
+  Sound-vacant k start size count live v few s =
+      let same : put_run v.slots start (filled vacant size (replicate count vacant)) ≡ v.slots =
+      ap (put_run v.slots start) (filled_vacant size count few ∙ sym (block_slots vacant (block k start size []) live v s))
+      ∙ put_run_self v.slots start size (block_inside vacant (block k start size []) live v s).before in
+      subst (λ xs. Sound vacant (block k start size (replicate count vacant) ∷ live) (record v { slots = xs })) same
+      (Sound-written vacant (block k start size []) live v (replicate count vacant) (let l = length-replicate count vacant in omega (arith, l, few)) s)
 
   -- a list written over vacant items from the block's first slot on is the block's
   pub Sound-laid : (k start size : ℕ) (items : List S) (live : List (UsedBlock S)) (v : Store S) → length items ≤ size →
@@ -105,7 +97,6 @@ module _ {S : Type 0} (vacant : S) where
         whole : (ys : List S) (a : ℕ) → put_run ys a [] ≡ ys
         whole ys a = ap (λ n. take a ys ++ drop n ys) (let e : a + 0 ≡ a = omega arith in e) ∙ take-append-drop a ys
     items_laid (x ∷ xs) laid =
-        let items = x ∷ xs in
         let some : 0 < length (x ∷ xs) = omega arith in
         let few = few_laid (x ∷ xs) some laid in
         let l = length-replicate (length (x ∷ xs)) vacant in

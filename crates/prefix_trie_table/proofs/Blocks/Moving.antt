@@ -6,8 +6,8 @@ use Rattle.prefix_trie_table.specs.Runs.{run, put_run, swap_runs}
 use Rattle.prefix_trie_table.specs.Store.{Store, UsedBlock, Sound, Turnover, none_of, extent, free_extents, filled}
 use Rattle.prefix_trie_table.proofs.Blocks.Tilings.{Disjoint}
 use Rattle.prefix_trie_table.proofs.Blocks.Soundness.{Sound-exchanged, Sound-written, block_inside, fits_block, block_slots, filled_none, others}
-use Rattle.prefix_trie_table.proofs.Blocks.Turnovers.{Turnover-swapped, Turnover-written}
-use Rattle.prefix_trie_table.proofs.Blocks.RunLemmas.{Apart, length-put_run, get_or-put_run_out, put_run_part, swap_runs_is}
+use Rattle.prefix_trie_table.proofs.Blocks.Turnovers.{Turnover-written}
+use Rattle.prefix_trie_table.proofs.Blocks.RunLemmas.{Apart, length-put_run, get_or-put_run_out, put_run_part, swap_runs_is, exchanged, length-swap_runs}
 
 -- a block in use, and another that holds none
 module _ {S : Type 0} (vacant : S) (a b : UsedBlock S) (live : List (UsedBlock S)) (v : Store S) (none : b.items ≡ []) (s : Sound vacant (a ∷ b ∷ live) v) where
@@ -80,5 +80,10 @@ module _ {S : Type 0} (vacant : S) (a b : UsedBlock S) (live : List (UsedBlock S
   -- nor where its items are exchanged for those of the other
   pub moved_turned : (w : Store S) → w ≡ record v { slots = swap_runs v.slots a.start b.start count } → (o : Option ℕ) → Turnover v w none_of o o
   moved_turned w e =
-      Turnover-swapped v w a.start b.start count e (block_inside vacant a (b ∷ live) v (Sound-exchanged vacant b a live v sound)).after
-      (block_inside vacant b (a ∷ live) v sound).after runs_within.0 runs_within.1
+      let s = Sound-exchanged vacant b a live v sound in
+      let apart = All-head (Disjoint (extent a)) (extent b) (map extent live ++ free_extents v.tiers) (others vacant a (b ∷ live) v s) in
+      let fits = fits_block vacant a (b ∷ live) v s in
+      Turnover-written v w (swap_runs v.slots a.start b.start count) e (length-swap_runs v.slots a.start b.start count)
+      (λ i d h. (exchanged v.slots a.start b.start count d runs_within.0 runs_within.1
+      (λ q. let p = apart (omega (arith, q, fits, is_count)) in omega (arith, p, room))).elsewhere i
+      (λ _. omega (arith, h, (block_inside vacant a (b ∷ live) v s).after)) (λ _. omega (arith, h, (block_inside vacant b (a ∷ live) v sound).after)))

@@ -39,6 +39,10 @@ module _ {X : Type 0} where
   round_run xs a n =
       sym (take-append-drop a xs) ∙ ap (λ ys. take a xs ++ ys) (sym (take-append-drop n (drop a xs)) ∙ ap (λ ys. run xs a n ++ ys) (drop-drop n a xs))
 
+  -- a run written over itself
+  pub put_run_self : (xs : List X) (a n : ℕ) → a + n ≤ length xs → put_run xs a (run xs a n) ≡ xs
+  put_run_self xs a n inside = ap (λ k. take a xs ++ (run xs a n ++ drop (a + k) xs)) (length-run xs a n inside) ∙ sym (round_run xs a n)
+
   pub run-put_run_same : (xs : List X) (a : ℕ) (ys : List X) → a + length ys ≤ length xs → run (put_run xs a ys) a (length ys) ≡ ys
   run-put_run_same xs a ys inside =
       rw (drop_at (take a xs) (ys ++ drop (a + length ys) xs) a (length-take-le a xs (omega arith))) (take_at ys (drop (a + length ys) xs) (length ys) refl)

@@ -1,6 +1,7 @@
 -- The sizes of the blocks of the nodes in an array, by the strings of the nodes.
-use Rattle.std.proofs.Common.{◌≡◌, ℕ, ◌+◌, inl, inr, Bool, true, false, cond, sum_by, arith, ◌&&◌, ◌||◌, List, [], ◌∷◌, map, length, Option, None, Some, is_some, refl, sym, ap, ◌∙◌, subst}
+use Rattle.std.proofs.Common.{◌≡◌, ℕ, ◌+◌, inl, inr, Bool, true, false, cond, sum_by, arith, ◌&&◌, ◌||◌, List, [], ◌∷◌, map, length, Option, None, Some, is_some, refl, sym, ap, ◌∙◌, subst, ap₂}
 use Rattle.std.proofs.lemmas.Bool.{cases_Bool}
+use Rattle.std.specs.Option.{option_or}
 use Rattle.std.specs.List.{list_any}
 use Rattle.std.specs.FinMap.{get, empty, insert, get-insert, get-empty, entries, values, contains_key}
 use Rattle.std.proofs.lemmas.List.Sums.{sum_by-cons}
@@ -34,37 +35,30 @@ abbrev pub sizes_at : (List ℕ → Option ℕ) → List (List ℕ) → Sizes
 sizes_at size [] = empty
 sizes_at size (p ∷ ps) = with_size (sizes_at size ps) (string_at p) (size p)
 
-here_none : (b : Bool) (o : Option ℕ) → o ≡ None → cond b o None ≡ o
-here_none true o e = refl
-here_none false o e = sym e
+get-with_size : (m : Sizes) (s t : List Bool) (o : Option ℕ) → get (with_size m t o) s ≡ cond (same_string s t) (option_or o (get m s)) (get m s)
+get-with_size m s t None = elim (same_string s t) as (λ b. get m s ≡ cond b (get m s) (get m s)) [ true ↦ refl | false ↦ refl ]
+get-with_size m s t (Some n) = get-insert listing_total m t n s
 
-get-with_size : (m : Sizes) (s t : List Bool) (o : Option ℕ) → same_string s t ≡ false → get (with_size m t o) s ≡ get m s
-get-with_size m s t None h = refl
-get-with_size m s t (Some n) h = get-insert listing_total m t n s ∙ ap (λ b. cond b (Some n) (get m s)) h
+here_or : (b : Bool) (o : Option ℕ) → option_or o (cond b o None) ≡ o
+here_or true None = refl
+here_or false None = refl
+here_or b (Some n) = refl
 
 module _ (size : List ℕ → Option ℕ) where
-  size_here : (m : Sizes) (s : List Bool) (x : List ℕ) (b : Bool) (o : Option ℕ) → size x ≡ o → same_string s (string_at x) ≡ true → path_of s ≡ x →
-      get m s ≡ cond b (size (path_of s)) None → get (with_size m (string_at x) o) s ≡ size (path_of s)
-  size_here m s x b None e hit path rest = rest ∙ here_none b (size (path_of s)) (ap size path ∙ e)
-  size_here m s x b (Some n) e hit path rest =
-      get-insert listing_total m (string_at x) n s ∙ ap (λ c. cond c (Some n) (get m s)) hit ∙ sym (ap size path ∙ e)
-
   -- each string of a listed path has the size of this path
   pub get-sizes_at : (paths : List (List ℕ)) → AreSteps paths → (s : List Bool) →
       get (sizes_at size paths) s ≡ cond (list_any (same_string s) (map string_at paths)) (size (path_of s)) None
   get-sizes_at [] steps s = get-empty _ s
   get-sizes_at (x ∷ paths) steps s =
-      let rest = get-sizes_at paths (other_steps x paths steps) s in
-      elim (cases_Bool (same_string s (string_at x))) as
-      (λ _. get (with_size (sizes_at size paths) (string_at x) (size x)) s ≡ cond (same_string s (string_at x) || list_any (same_string s) (map string_at paths)) (size (path_of s)) None) [
-        | inl hit ↦
-            let path : path_of s ≡ x = ap path_of (same_string-is s (string_at x) hit) ∙ string_path x (first_steps x paths steps) in
-            size_here (sizes_at size paths) s x (list_any (same_string s) (map string_at paths)) (size x) refl hit path rest
-            ∙ sym (ap (λ b. cond (b || list_any (same_string s) (map string_at paths)) (size (path_of s)) None) hit)
-        | inr miss ↦
-            get-with_size (sizes_at size paths) s (string_at x) (size x) miss ∙ rest
-            ∙ sym (ap (λ b. cond (b || list_any (same_string s) (map string_at paths)) (size (path_of s)) None) miss)
-      ]
+      get-with_size (sizes_at size paths) s (string_at x) (size x) ∙ by (same_string s (string_at x)) refl (get-sizes_at paths (other_steps x paths steps) s)
+    where
+      by : (b : Bool) → same_string s (string_at x) ≡ b → get (sizes_at size paths) s ≡ cond (list_any (same_string s) (map string_at paths)) (size (path_of s)) None →
+          cond b (option_or (size x) (get (sizes_at size paths) s)) (get (sizes_at size paths) s)
+          ≡ cond (b || list_any (same_string s) (map string_at paths)) (size (path_of s)) None
+      by true hit rest =
+          let path : path_of s ≡ x = ap path_of (same_string-is s (string_at x) hit) ∙ string_path x (first_steps x paths steps) in
+          ap₂ option_or (ap size (sym path)) rest ∙ here_or (list_any (same_string s) (map string_at paths)) (size (path_of s))
+      by false miss rest = rest
 
 -- what counts each size counts the paths, each of which stands once
 module _ (f : ℕ → ℕ) (size : List ℕ → Option ℕ) where

@@ -1,7 +1,7 @@
 -- What calls on blocks make, take and give back, and what they leave of the rest.
-use Rattle.std.proofs.Common.{◌≡◌, ◌≢◌, ℕ, zero, suc, ◌+◌, ◌*◌, ◌<◌, ◌≤◌, true, List, ◌++◌, length, get_or, set, insert, remove, swap, replicate, Option, None, Some, refl, sym, ap, ◌∙◌, subst, arith, length-append}
+use Rattle.std.proofs.Common.{◌≡◌, ◌≢◌, ℕ, ◌+◌, ◌*◌, ◌<◌, ◌≤◌, true, List, ◌++◌, length, get_or, set, insert, remove, replicate, Option, None, Some, refl, sym, ap, ◌∙◌, subst, arith, length-append}
 use Rattle.std.proofs.lemmas.List.{length-replicate, length-set, get_or_append_left}
-use Rattle.std.proofs.lemmas.List.Edits.{get_or-insert_below, get_or-remove_below, length-insert, length-remove, Swapped, swapped_from_swap}
+use Rattle.std.proofs.lemmas.List.Edits.{get_or-insert_below, get_or-remove_below, length-insert, length-remove}
 use Rattle.std.specs.Prelude.{Contains}
 use Rattle.std.specs.Option.{option_or}
 use Rattle.prefix_trie_bits.specs.Model.Blocks.{one_of}
@@ -9,7 +9,6 @@ use Rattle.prefix_trie_bits.proofs.Model.Storage.Readied.{goes_up}
 use Rattle.prefix_trie_table.specs.Runs.{swap_runs}
 use Rattle.prefix_trie_table.specs.Store.{Tier, Store, Turnover, Keeps, KeepsMade, MakesNone, SameMade, SameRoom, AreFree, tier_at, with_tier, tier_sizes, size_in, free_in, made_in, many_of, none_of, slots_of, lacking_in}
 use Rattle.prefix_trie_table.proofs.Blocks.BySize.{size_at, sizes_set, has_size, number_set, many_here, many_other, many-none, slots_of-same, slots_of-add, slots_of-none, slots_of-many}
-use Rattle.prefix_trie_table.proofs.Blocks.RunLemmas.{length-swap_runs}
 
 module _ {S : Type 0} where
   -- ---- what stays
@@ -103,18 +102,6 @@ module _ {S : Type 0} where
       Turnover-written v w (insert (remove v.slots a) b x) e
       (let l = length-insert (remove v.slots a) b x (omega (arith, less, in_b)) in omega (arith, less, l))
       (λ i d h. get_or-insert_below (remove v.slots a) b x d i (omega (arith, h, behind_b)) (omega (arith, less, in_b)) ∙ get_or-remove_below v.slots a d i (omega (arith, h, behind_a)) in_a)
-
-  before_swaps : (xs : List S) (a b n i : ℕ) (d : S) → i < a → i < b → a + n ≤ length xs → b + n ≤ length xs → get_or (swap_runs xs a b n) i d ≡ get_or xs i d
-  before_swaps xs a b zero i d ha hb fa fb = refl
-  before_swaps xs a b (suc n) i d ha hb fa fb =
-      let len : length (swap_runs xs a b n) ≡ length xs = length-swap_runs xs a b n in
-      let step : Swapped (λ j. get_or (swap_runs xs a b n) j d) (λ j. get_or (swap (swap_runs xs a b n) (a + n) (b + n)) j d) (a + n) (b + n) = swapped_from_swap (swap_runs xs a b n) (swap (swap_runs xs a b n) (a + n) (b + n)) (a + n) (b + n) d (omega arith) (omega arith) refl in
-      step.2 i (λ e. omega arith) (λ e. omega arith) ∙ before_swaps xs a b n i d ha hb (omega arith) (omega arith)
-
-  pub Turnover-swapped : (v w : Store S) (a b n : ℕ) → w ≡ record v { slots = swap_runs v.slots a b n } → v.first ≤ a → v.first ≤ b → a + n ≤ length v.slots → b + n ≤ length v.slots →
-      (o : Option ℕ) → Turnover v w none_of o o
-  Turnover-swapped v w a b n e ha hb fa fb =
-      Turnover-written v w (swap_runs v.slots a b n) e (length-swap_runs v.slots a b n) (λ i d h. before_swaps v.slots a b n i d (omega arith) (omega arith) fa fb)
 
   -- ---- one tier is set
 

@@ -1,5 +1,5 @@
 -- What stands for each set bit, when one bit is set or cleared.
-use Rattle.std.proofs.Common.{◌≡◌, ◌≢◌, ℕ, zero, suc, ◌+◌, ◌-◌, ◌<◌, ◌≤◌, ⊎_elim, Bool, true, false, cond, List, [], ◌∷◌, ◌++◌, length, get_or, set, map, insert, remove, refl, sym, ap, ap₂, ◌∙◌, subst, arith, append_assoc, length-append}
+use Rattle.std.proofs.Common.{◌≡◌, ◌≢◌, ℕ, zero, suc, ◌+◌, ◌-◌, ◌<◌, ◌≤◌, ⊎_elim, Bool, true, false, cond, List, [], ◌∷◌, ◌++◌, length, get_or, set, map, insert, remove, refl, sym, ap, ◌∙◌, subst, arith, append_assoc, length-append}
 use Rattle.std.proofs.lemmas.List.{map-append, length-map, append-nil, get_or_at, set_at}
 use Rattle.std.proofs.lemmas.Bool.{cases_eq}
 use Rattle.std.proofs.lemmas.List.Edits.{insert-append_right, remove-append_right, length-insert}
@@ -193,15 +193,14 @@ rank-below bitmap b h set =
     let up : rank bitmap (b + 1) ≤ rank bitmap 32 = subst (λ n. rank bitmap (b + 1) ≤ rank bitmap n) (sym e) (rank-mono bitmap (b + 1) (31 - b)) in
     omega (arith, more, one, up)
 
--- an empty bitmap has no bit set
+-- no bit is set
+pub bits_below-none : (bitmap n : ℕ) → ((i : ℕ) → has_bit bitmap i ≡ false) → bits_below bitmap n ≡ []
+bits_below-none bitmap zero none = refl
+bits_below-none bitmap (suc n) none = ap (λ xs. xs ++ if_set (has_bit bitmap n) n) (bits_below-none bitmap n none) ∙ ap (λ s. if_set s n) (none n)
+
 pub rank-zero-all : rank 0 32 ≡ 0
 unfolding rank
-rank-zero-all = none 32
-  where
-    none : (n : ℕ) → length (bits_below 0 n) ≡ 0
-    none zero = refl
-    none (suc n) = length-append (bits_below 0 n) (if_set (has_bit 0 n) n)
-        ∙ ap₂ (λ x y. x + y) (none n) (if_set-length (has_bit 0 n) n ∙ ap (λ b. cond b 1 0) (has_bit-zero n))
+rank-zero-all = ap (λ xs. length xs) (bits_below-none 0 32 has_bit-zero)
 
 -- one bit more is one more set
 pub rank-more-one : (old new b : ℕ) → b < 32 → has_bit old b ≡ false → has_bit new b ≡ true → ((i : ℕ) → i ≢ b → has_bit new i ≡ has_bit old i) →

@@ -31,17 +31,14 @@ more n l e = omega arith
 pub path-length : (s : List Bool) → length (path_of s) ≡ length s / 5
 path-length = by_steps (λ s. length (path_of s) ≡ length s / 5) (λ r h. let e = ap (λ p. length p) (short_path r h).0 in omega (arith, h, e)) (λ a b c d e s. more (length (path_of s)) (length s))
 
+five_more : (n : ℕ) → 5 * suc n ≡ suc (suc (suc (suc (suc (5 * n)))))
+five_more n = omega arith
+
 drop-five : (n : ℕ) (a b c d e : Bool) (s : List Bool) → drop (5 * suc n) (a ∷ b ∷ c ∷ d ∷ e ∷ s) ≡ drop (5 * n) s
-drop-five n a b c d e s = ap (λ k. drop k (a ∷ b ∷ c ∷ d ∷ e ∷ s)) (five n)
-  where
-    five : (n : ℕ) → 5 * suc n ≡ suc (suc (suc (suc (suc (5 * n)))))
-    five n = omega arith
+drop-five n a b c d e s = ap (λ k. drop k (a ∷ b ∷ c ∷ d ∷ e ∷ s)) (five_more n)
 
 take-five : (n : ℕ) (a b c d e : Bool) (s : List Bool) → take (5 * suc n) (a ∷ b ∷ c ∷ d ∷ e ∷ s) ≡ a ∷ b ∷ c ∷ d ∷ e ∷ take (5 * n) s
-take-five n a b c d e s = ap (λ k. take k (a ∷ b ∷ c ∷ d ∷ e ∷ s)) (five n)
-  where
-    five : (n : ℕ) → 5 * suc n ≡ suc (suc (suc (suc (suc (5 * n)))))
-    five n = omega arith
+take-five n a b c d e s = ap (λ k. take k (a ∷ b ∷ c ∷ d ∷ e ∷ s)) (five_more n)
 
 -- it is what is left when the steps are dropped
 pub rest-is : (s : List Bool) → rest_of s ≡ drop (5 * length (path_of s)) s

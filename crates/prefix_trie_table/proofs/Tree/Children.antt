@@ -1,29 +1,28 @@
 -- A node gains a child, loses one, or is another.
-use Rattle.std.proofs.Common.{◌≡◌, ◌≢◌, ℕ, zero, suc, ◌+◌, ◌<◌, ◌⊎◌, inl, inr, ⊎_elim, true, false, cond, ◌||◌, nat_eq, List, [], ◌∷◌, ◌++◌, length, set, insert, remove, map, flat_map, Option, None, Some, is_some, IsPermutation, refl, sym, ap, ◌∙◌, subst, arith, length-append}
+use Rattle.std.proofs.Common.{◌≡◌, ◌≢◌, ℕ, ◌+◌, ◌<◌, ◌⊎◌, inl, inr, ⊎_elim, true, false, cond, ◌||◌, nat_eq, List, [], ◌∷◌, ◌++◌, length, set, insert, remove, map, flat_map, Option, None, Some, is_some, IsPermutation, refl, sym, ap, ◌∙◌, subst, arith, length-append}
 use Rattle.std.proofs.lemmas.Bool.{false≢true, cases_Bool}
 use Rattle.std.proofs.lemmas.Bool.Decides.{eqb_tells}
 use Rattle.std.proofs.lemmas.List.{get_or-set_same, get_or-set_other}
 use Rattle.std.proofs.lemmas.List.Edits.{length-insert}
 use Rattle.prefix_trie_table.specs.declared.allocator.node.Node.{Node}
-use Rattle.prefix_trie_table.specs.Bitmaps.{has_bit, bits_below, bits, rank, if_set}
+use Rattle.prefix_trie_table.specs.Bitmaps.{has_bit, bits, rank}
 use Rattle.prefix_trie_table.specs.Store.{Store, UsedBlock, Sound, block}
 use Rattle.prefix_trie_table.specs.Forest.{child_slot, same_path, one_if, times, without, node_or_blank, held, size_in, has_child, child_items, child_blocks_of, child_blocks, IsSlot, at_root, at_child, NodesHold, tier_sizes, with_child, lacking_child, with_node}
 use Rattle.prefix_trie_table.specs.Cells.{blank_node, node_at}
 use Rattle.prefix_trie_table.proofs.Strings.Plain.{needs_node}
 use Rattle.prefix_trie_table.proofs.Strings.Bits.{has_bit-zero}
-use Rattle.prefix_trie_table.proofs.Strings.BitLists.{map_same, map_insert, map_remove}
+use Rattle.prefix_trie_table.proofs.Strings.BitLists.{map_same, map_insert, map_remove, bits_below-none}
 use Rattle.prefix_trie_table.proofs.Strings.Paths.{same_path-true, same_path-equal, same_path-not, snoc_inj, snoc_not_nil, snoc_not_same, flat_map_out}
 use Rattle.std.proofs.lemmas.List.Sorted.{IsPermutation-append_right}
 use Rattle.prefix_trie_table.proofs.Blocks.Soundness.{Sound-permuted, first_place}
 use Rattle.prefix_trie_table.proofs.Tree.Trees.{is_none-None, held_some, node_back, listed_once, own_first, child_stands, times_out, times_out_same, node_set}
 
-bits_below-zero : (n : ℕ) → bits_below 0 n ≡ []
-bits_below-zero zero = refl
-bits_below-zero (suc n) = ap (λ xs. xs ++ if_set (has_bit 0 n) n) (bits_below-zero n) ∙ ap (λ s. if_set s n) (has_bit-zero n)
+pub bits-none : (bitmap : ℕ) → ((i : ℕ) → has_bit bitmap i ≡ false) → bits bitmap ≡ []
+unfolding bits
+bits-none bitmap none = bits_below-none bitmap 32 none
 
 pub bits-zero : bits 0 ≡ []
-unfolding bits
-bits-zero = bits_below-zero 32
+bits-zero = bits-none 0 has_bit-zero
 
 -- a blank node has no block of children
 pub blank_blocks : (sizes : List ℕ) (nodes : List ℕ → Option Node) (q : List ℕ) → nodes q ≡ Some blank_node → child_blocks sizes nodes q ≡ []
@@ -216,15 +215,6 @@ without_both p r (x ∷ paths) ne = by_p (without_both p r paths ne) (same_or p 
     by_p ih (inr n) (inr nf) =
         let a = same_path-not p x n in let b = same_path-not r x nf in
         rw (a, b) (ap (λ t. cond t (without r paths) (x ∷ without p (without r paths))) a ∙ ap (λ ys. x ∷ ys) ih)
-
--- no bit is set
-bits_below-none : (bitmap n : ℕ) → ((i : ℕ) → has_bit bitmap i ≡ false) → bits_below bitmap n ≡ []
-bits_below-none bitmap zero none = refl
-bits_below-none bitmap (suc n) none = ap (λ xs. xs ++ if_set (has_bit bitmap n) n) (bits_below-none bitmap n none) ∙ ap (λ s. if_set s n) (none n)
-
-pub bits-none : (bitmap : ℕ) → ((i : ℕ) → has_bit bitmap i ≡ false) → bits bitmap ≡ []
-unfolding bits
-bits-none bitmap none = bits_below-none bitmap 32 none
 
 module _ (sizes : List ℕ) (nodes : List ℕ → Option Node) (paths : List (List ℕ)) (v : Store Node) (hold : NodesHold sizes nodes paths v) where
   -- the node n at p becomes m, which has the same children

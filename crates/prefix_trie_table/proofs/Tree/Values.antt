@@ -176,12 +176,6 @@ module _ {T : Type 0} (sizes node_sizes : List ℕ) (nodes : List ℕ → Option
     module _ (p : List ℕ) (n m : Node) (b : ℕ) (x : Option T) (is : nodes p ≡ Some n)
         (bits_stay : (i : ℕ) → i ≢ b → has_bit m.value_bitmap i ≡ has_bit n.value_bitmap i) (bit : has_bit m.value_bitmap b ≡ is_some x)
         (small : b < 31) where
-      abbrev after : List ℕ → ℕ → Option T
-      after = with_value values p b x
-
-      abbrev later : List ℕ → Option Node
-      later = with_node nodes p m
-
       others_same : (q : List ℕ) → q ≢ p → value_blocks sizes (with_node nodes p m) (with_value values p b x) q ≡ value_blocks sizes nodes values q
       others_same q ne = ap (value_blocks_of sizes (with_value values p b x) q) (with_other nodes p m q ne) ∙ blocks_other values p b x sizes q ne (nodes q)
 
