@@ -6,11 +6,10 @@ use Rattle.prefix_trie_table.specs.HandingOut.Laid.{child_slots, value_slots, su
 use Rattle.prefix_trie_table.specs.HandingOut.Laying.{LaysList, Lays}
 use Rattle.prefix_trie_table.specs.Store.{tier_sizes}
 use Rattle.prefix_trie_table.proofs.HandingOut.Boughs.{first, bough_start, bough_few, bough_clear, bough_passed, bough_grafted, bough_closed, bough_bare}
-use Rattle.prefix_trie_table.proofs.HandingOut.Fits.{values_few, laid_tier}
 use Rattle.prefix_trie_table.proofs.HandingOut.Ground.{Lays-none, can_lay_then}
 use Rattle.prefix_trie_table.proofs.HandingOut.Parts.{kept, own_values, left_out, below_it}
 use Rattle.prefix_trie_table.proofs.HandingOut.Sources.{child_inside, some_level, source_below, own_within}
-use Rattle.prefix_trie_table.proofs.HandingOut.Space.{for_memory, values_packed, children_packed, slots_split, child_amount, child_room}
+use Rattle.prefix_trie_table.proofs.HandingOut.Space.{values_few, laid_tier, for_memory, values_packed, children_packed, slots_split, child_amount, child_room}
 use Rattle.prefix_trie_table.proofs.Insertion.Inserting.{node_fits, cell_fits}
 use Rattle.prefix_trie_table.proofs.Strings.Bare.{was_set, others_stay}
 use Rattle.prefix_trie_table.proofs.Strings.Bits.{has_bit-is, rank-ones}
