@@ -4,7 +4,6 @@ pub mod Grafting
 pub mod Boughs
 pub mod Sources
 pub mod Ground
-pub mod Fits
 pub mod Space
 pub mod WholeTree
 pub mod RootSpace

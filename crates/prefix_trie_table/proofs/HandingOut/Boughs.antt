@@ -53,13 +53,14 @@ topped m sub (c ∷ p) = sub (c ∷ p)
 abbrev pub first : ℕ → BlockRef → Node
 first values at = record { value_bitmap = values; child_bitmap = 0; value_block = at.start; child_block = 0; value_tier = at.tier; child_tier = 0 }
 
-module _ {T : Type 0} (array : List Node) (levels : ℕ) (n : Node) (t : List Bool) (v : Store Node) (w : Store (Option T)) where
-  abbrev of_nodes : ℕ → ℕ
-  of_nodes = sum_to (slots_at_child child_slots array levels n)
+-- the slots of the children before i, and of a node's values with those
+abbrev of_nodes : List Node → ℕ → Node → ℕ → ℕ
+of_nodes array levels n = sum_to (slots_at_child child_slots array levels n)
 
-  abbrev of_cells : ℕ → ℕ
-  of_cells = λ i. value_slots n + sum_to (slots_at_child value_slots array levels n) i
+abbrev of_cells : List Node → ℕ → Node → ℕ → ℕ
+of_cells array levels n i = value_slots n + sum_to (slots_at_child value_slots array levels n) i
 
+module _ {T : Type 0} {array : List Node} {levels : ℕ} {n : Node} {t : List Bool} {v : Store Node} {w : Store (Option T)} where
   -- its values have their block
   pub bough_start : (values : ℕ) (at : BlockRef) (w2 : Store (Option T)) →
       ((s : List Bool) → length s ≤ 4 → has_bit values (value_bit s) ≡ (begins t s && has_bit n.value_bitmap (value_bit s))) →
@@ -78,9 +79,9 @@ module _ {T : Type 0} (array : List Node) (levels : ℕ) (n : Node) (t : List Bo
     needed = λ c p e. absurd (false≢true e);
     kept = λ c set. absurd (false≢true (sym (has_bit-zero c) ∙ set));
     children = sym (ap (λ cs. map (λ c. node_or_blank (alone (first values at) ([] ++ c ∷ []))) cs) bits-zero);
-    nodes = Lays-none blank_node v (of_nodes 0);
-    cells = subst (λ bs. Lays None bs (of_cells 0) w w2) same
-        (Lays-list None w w2 cell_sizes (replicate (rank values 32) None) at (of_cells 0) are laid (omega (arith, longer)));
+    nodes = Lays-none blank_node v (of_nodes array levels n 0);
+    cells = subst (λ bs. Lays None bs (of_cells array levels n 0) w w2) same
+        (Lays-list None w w2 cell_sizes (replicate (rank values 32) None) at (of_cells array levels n 0) are laid (omega (arith, longer)));
   }
     where
       linked : (p : List ℕ) (c : ℕ) → is_some (alone (first values at) (p ++ c ∷ [])) ≡ has_child (alone (first values at) p) c
@@ -101,12 +102,12 @@ module _ {T : Type 0} (array : List Node) (levels : ℕ) (n : Node) (t : List Bo
           (ap (λ n. replicate n None) (sym (rank-all (λ (b : ℕ). b) values) ∙ length-map (bits values) (λ b. b)) ∙ sym (map-nothing (bits values)))
           ∙ sym (append-nil (held at.tier at.start (size_in cell_sizes at.tier) (map (no_value []) (bits values))))
 
-  module _ (i : ℕ) (m : Node) (below : List Node) (v2 : Store Node) (w2 : Store (Option T)) (b : IsBough array levels n t v w i m below v2 w2) where
+  module _ {i : ℕ} {m : Node} {below : List Node} {v2 : Store Node} {w2 : Store (Option T)} (b : IsBough array levels n t v w i m below v2 w2) where
     -- the slots so far, and those of the next child
-    nodes_next : of_nodes i + slots_at_child child_slots array levels n i ≤ of_nodes (i + 1)
+    nodes_next : of_nodes array levels n i + slots_at_child child_slots array levels n i ≤ of_nodes array levels n (i + 1)
     nodes_next = let e = sum_to_next (slots_at_child child_slots array levels n) i in omega (arith, e)
 
-    cells_next : of_cells i + slots_at_child value_slots array levels n i ≤ of_cells (i + 1)
+    cells_next : of_cells array levels n i + slots_at_child value_slots array levels n i ≤ of_cells array levels n (i + 1)
     cells_next = let e = sum_to_next (slots_at_child value_slots array levels n) i in omega (arith, e)
 
     -- as many are laid as it has children
@@ -249,11 +250,11 @@ module _ {T : Type 0} (array : List Node) (levels : ℕ) (n : Node) (t : List Bo
       value_is (a ∷ []) = ap (λ o. has_value o (bit_of (a ∷ []))) b.hangs.top ∙ b.own (a ∷ []) (omega arith)
       value_is [] = ap (λ o. has_value o (bit_of [])) b.hangs.top ∙ b.own [] (omega arith)
 
-      nodes_all : of_nodes i + child_slots n ≤ slots_below child_slots array levels n
-      nodes_all = let e = slots_split child_slots array levels n in let f = ap of_nodes all in omega (arith, e, f)
+      nodes_all : of_nodes array levels n i + child_slots n ≤ slots_below child_slots array levels n
+      nodes_all = let e = slots_split child_slots array levels n in let f = ap (of_nodes array levels n) all in omega (arith, e, f)
 
-      cells_all : of_cells i + 0 ≤ slots_below value_slots array levels n
-      cells_all = let e = slots_split value_slots array levels n in let f = ap of_cells all in omega (arith, e, f)
+      cells_all : of_cells array levels n i + 0 ≤ slots_below value_slots array levels n
+      cells_all = let e = slots_split value_slots array levels n in let f = ap (of_cells array levels n) all in omega (arith, e, f)
 
       -- its block is laid, and it is whole
       module _ (v3 : Store Node) (at : BlockRef) (are : tier_sizes v2.tiers ≡ node_sizes) (laid : LaysList blank_node v2 v3 below at)

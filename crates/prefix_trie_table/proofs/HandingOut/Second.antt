@@ -12,8 +12,7 @@ use Rattle.prefix_trie_table.specs.HandingOut.Laid.{IsLaid, IsPackedNode, IsPart
 use Rattle.prefix_trie_table.specs.HandingOut.Laying.{Lays}
 use Rattle.prefix_trie_table.specs.HandingOut.Skeleton.{IsSecond}
 use Rattle.prefix_trie_table.specs.Store.{Store, UsedBlock, Sound, free_in, no_blocks, size_in, tier_sizes, size_if_any}
-use Rattle.prefix_trie_table.specs.Tables.{IsTable, IsTrie}
-use Rattle.prefix_trie_table.proofs.Blocks.Soundness.{first_place}
+use Rattle.prefix_trie_table.specs.Tables.{IsTrie}
 use Rattle.prefix_trie_table.proofs.Strings.BitLists.{rank-zero-all}
 use Rattle.prefix_trie_table.proofs.Strings.Digits.{path-length}
 use Rattle.prefix_trie_table.proofs.Strings.Paths.{same_path-not}
@@ -23,11 +22,6 @@ use Rattle.prefix_trie_table.proofs.Tree.Invariant.{some_table}
 use Rattle.prefix_trie_table.proofs.Tree.Shapes.{root_reading, root_here, root_holds, no_values, shape_nodes}
 
 -- ---- the table that is read
-
-module _ {T : Type 0} where
-  -- the root has a slot
-  pub root_slot : {count : ℕ} {v : Store Node} {w : Store (Option T)} {s : State T} → IsTable v w count s → 0 < length v.slots
-  root_slot {count} {v} is = (let w = first_place blank_node _ v is.nodes.sound in let f = is.nodes.first_is in omega (arith, w, f))
 
 module _ {T : Type 0} (width count : ℕ) (v : Store Node) (w : Store (Option T)) (s : State T) (trie : IsTrie width count v w s) where
   -- no node is deeper than the width

@@ -1,5 +1,5 @@
 -- How many slots a node needs at most, with all below it.
-use Rattle.std.proofs.Common.{◌≡◌, ◌≢◌, ℕ, zero, suc, ◌+◌, ◌-◌, ◌<◌, ◌≤◌, inl, inr, Bool, true, false, cond, List, None, Some, refl, sym, ap, ◌∙◌, subst, arith}
+use Rattle.std.proofs.Common.{◌≡◌, ◌≢◌, ℕ, zero, suc, ◌+◌, ◌-◌, ◌<◌, ◌≤◌, inl, inr, Bool, true, false, cond, List, [], ◌∷◌, length, None, Some, refl, sym, ap, ◌∙◌, subst, arith}
 use Rattle.std.specs.List.{Contains}
 use Rattle.std.proofs.lemmas.Bool.{cases_lt, false≢true}
 use Rattle.std.proofs.lemmas.List.{get_or_default}
@@ -13,14 +13,28 @@ use Rattle.prefix_trie_table.specs.Bitmaps.{has_bit, rank}
 use Rattle.prefix_trie_table.specs.Cells.{node_at, node_sizes, cell_sizes}
 use Rattle.prefix_trie_table.specs.Forest.{child_slot}
 use Rattle.prefix_trie_table.specs.HandingOut.Laid.{child_slots, value_slots, sum_to, slots_below, slots_at_child}
-use Rattle.prefix_trie_table.specs.Store.{size_in}
-use Rattle.prefix_trie_table.proofs.Strings.BitLists.{rank-le, rank-more, rank-zero}
-use Rattle.prefix_trie_table.proofs.HandingOut.Fits.{values_few}
+use Rattle.prefix_trie_table.specs.Store.{Store, size_in, tier_sizes}
+use Rattle.prefix_trie_table.specs.declared.allocator.blocks.BlockRef.{BlockRef}
+use Rattle.prefix_trie_table.specs.HandingOut.Laying.{LaysList}
+use Rattle.prefix_trie_table.proofs.Blocks.BySize.{tiers_long}
+use Rattle.prefix_trie_table.proofs.Strings.BitLists.{rank-lacks, rank-le, rank-more, rank-zero}
+use Rattle.prefix_trie_table.proofs.Strings.Plain.{no_or_yes}
 
 -- a refusal that is not for index room
 pub for_memory : (cause : the_data) → cause ≢ IndexRange → cause ≡ Memory
 for_memory Memory other = refl
 for_memory IndexRange other = absurd (other refl)
+
+-- the tier of a list that was laid
+pub laid_tier : {S : Type 0} (vacant : S) (v w : Store S) (items : List S) (at : BlockRef) (sizes : List ℕ) → tier_sizes v.tiers ≡ sizes → 0 < length sizes →
+    LaysList vacant v w items at → at.tier < length sizes
+laid_tier vacant v w [] at sizes are some laid = let e = ap (λ (r : BlockRef). r.tier) (laid.none refl) in omega (arith, e, some)
+laid_tier vacant v w (x ∷ xs) at sizes are some laid = (let h = laid.tier (omega arith) in let l = tiers_long v.tiers sizes are in omega (arith, h, l))
+
+-- a node has at most 31 values
+pub values_few : (bitmap : ℕ) → ((b : ℕ) → has_bit bitmap b ≡ true → b < 31) → rank bitmap 32 ≤ 31
+values_few bitmap within =
+    let lacks = rank-lacks bitmap 32 31 (omega arith) (no_or_yes (has_bit bitmap 31) (λ set. let h = within 31 set in omega (arith, h))) in omega (arith, lacks)
 
 -- ---- sums
 

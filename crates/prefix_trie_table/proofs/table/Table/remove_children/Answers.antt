@@ -10,7 +10,7 @@ use Rattle.prefix_trie_table.specs.Steps.{stored, SettlesInStorage}
 use Rattle.prefix_trie_table.specs.Store.{Store}
 use Rattle.prefix_trie_table.specs.Tables.{IsTable}
 use Rattle.prefix_trie_table.proofs.Blocks.Sizing.{table_sizes, storage_of}
-use Rattle.prefix_trie_table.proofs.HandingOut.Second.{root_slot}
+use Rattle.prefix_trie_table.proofs.Removal.Clearing.{root_slot}
 use Rattle.prefix_trie_table.proofs.Moving.HandedOut.{rest_counted, shape_seen, table_seen, clear_behind, handed_out, second_packed}
 use Rattle.prefix_trie_table.proofs.Removal.PartTaken.{seen_trie}
 use Rattle.prefix_trie_table.proofs.Tree.Invariant.{some_table}
@@ -88,7 +88,7 @@ returns-clause-handed g c =
           (all_step g.K.Key.bit_width (stored now) (stored w.clear.new.self) q (long ∙ w.if-len-eq0.true) c.requires.nodes
           (clear_behind (stored now) (c.self-2-1.given.0.0, storage_of new.nodes new.cells c.self-2-1.given.1.0) (stored w.clear.new.self)
           (lasts.nodes.limit ∙ ap (λ (m : Contents g.row.T.Denot). m.room.limit) c.self.view_is)
-          (subst (λ (m : Contents g.row.T.Denot). 0 < m.room.node_slots) c.self.view_is (root_slot c.self.invariant))
+          (subst (λ (m : Contents g.row.T.Denot). 0 < m.room.node_slots) c.self.view_is (root_slot c.self.inside.nodes c.self.inside.cells (some_table c.self.invariant)))
           w.clear.ensures.step))
       | else-len-eq0 w ↦
           subst (λ (m : Contents g.row.T.Denot). (width : ℕ) → StepByPath width (stored now) (RemoveChildren q) Done (stored m)) (sym w.self-is)

@@ -6,11 +6,10 @@ use Rattle.prefix_trie_table.specs.HandingOut.Laid.{child_slots, value_slots, su
 use Rattle.prefix_trie_table.specs.HandingOut.Laying.{LaysList, Lays}
 use Rattle.prefix_trie_table.specs.Store.{tier_sizes}
 use Rattle.prefix_trie_table.proofs.HandingOut.Boughs.{first, bough_start, bough_few, bough_clear, bough_passed, bough_grafted, bough_closed, bough_bare}
-use Rattle.prefix_trie_table.proofs.HandingOut.Fits.{values_few, laid_tier}
 use Rattle.prefix_trie_table.proofs.HandingOut.Ground.{Lays-none, can_lay_then}
 use Rattle.prefix_trie_table.proofs.HandingOut.Parts.{kept, own_values, left_out, below_it}
 use Rattle.prefix_trie_table.proofs.HandingOut.Sources.{child_inside, some_level, source_below, own_within}
-use Rattle.prefix_trie_table.proofs.HandingOut.Space.{for_memory, values_packed, children_packed, slots_split, child_amount, child_room}
+use Rattle.prefix_trie_table.proofs.HandingOut.Space.{values_few, laid_tier, for_memory, values_packed, children_packed, slots_split, child_amount, child_room}
 use Rattle.prefix_trie_table.proofs.Insertion.Inserting.{node_fits, cell_fits}
 use Rattle.prefix_trie_table.proofs.Strings.Bare.{was_set, others_stay}
 use Rattle.prefix_trie_table.proofs.Strings.Bits.{has_bit-is, rank-ones}
@@ -47,7 +46,7 @@ loop-child-init g t c =
     let long = c.in_ok-own.ensures.longer in
     subst (λ xs. IsBough c.args.from.now.slots c.args.levels c.args.node part c.args.nodes.now c.args.cells.now 0 (first values c.in_ok-own.own) xs c.args.nodes.now c.lay_vacant.new.self)
     (sym c.new-below.ensures)
-    (bough_start c.args.from.now.slots c.args.levels c.args.node part c.args.nodes.now c.args.cells.now values c.in_ok-own.own c.lay_vacant.new.self
+    (bough_start values c.in_ok-own.own c.lay_vacant.new.self
     (own_values c.args.node part c.masks-values.result.0 c.masks-values.ensures.values)
     (λ b set. own_within c.args.from.now c.args.node c.args.levels c.requires.source b (kept c.args.node.value_bitmap c.masks-values.result.0 b set))
     c.requires.cells.sizes_are
@@ -58,8 +57,7 @@ loop-child-init g t c =
 pub loop-child-preserved-then-not-has_bit : goal.loop-child-preserved-then-not-has_bit
 loop-child-preserved-then-not-has_bit g t c =
     let clear = has_bit-is (bit_and c.args.node.child_bitmap c.masks-values.result.1) c.loop-child.child c.loop-child-test.true ∙ sym c.has_bit.ensures ∙ c.if-not-has_bit.true in
-    bough_passed c.args.from.now.slots c.args.levels c.args.node (drop c.args.depth (take c.args.len (g.K.Key.bits c.args.key))) c.args.nodes.now c.args.cells.now
-    c.loop-child.child c.loop-child.laid c.loop-child.below.items c.loop-child.nodes c.loop-child.cells c.loop-child.invariant c.loop-child.nodes c.loop-child.cells
+    bough_passed c.loop-child.invariant c.loop-child.nodes c.loop-child.cells
     (λ u s long is. left_out c.args.from.now.slots c.args.node _ c.masks-values.result.1 c.masks-values.ensures.children c.loop-child.child u s long is clear)
     (Lays-none blank_node c.loop-child.nodes _) (Lays-none None c.loop-child.cells _)
 
@@ -105,26 +103,22 @@ loop-child-preserved-in_default g t c =
     c.masks-values.ensures.deeper
     (subst (LaysNode c.args.from.now.slots (c.args.levels - 1) c.visit-lower.result (drop c.masks-values.result.2 (take c.args.len (g.K.Key.bits c.args.key))) c.loop-child.nodes
     c.lay_node.new.nodes c.loop-child.cells c.lay_node.new.cells) c.in_default.is c.in_ok-twig.ensures.laid) in
-    bough_passed c.args.from.now.slots c.args.levels c.args.node (drop c.args.depth (take c.args.len (g.K.Key.bits c.args.key))) c.args.nodes.now c.args.cells.now
-    child c.loop-child.laid c.loop-child.below.items c.loop-child.nodes c.loop-child.cells c.loop-child.invariant c.lay_node.new.nodes c.lay_node.new.cells
+    bough_passed c.loop-child.invariant c.lay_node.new.nodes c.lay_node.new.cells
     (λ u s long e. below_it c.args.from.now.slots c.args.node _ c.masks-values.result.1 c.masks-values.ensures.children child u s long e set c.visit-lower.result is ∙ nothing.none s)
     (subst (λ k. Lays blank_node [] k c.loop-child.nodes c.lay_node.new.nodes) (sym (amount child_slots)) nothing.nodes)
     (subst (λ k. Lays None [] k c.loop-child.cells c.lay_node.new.cells) (sym (amount value_slots)) nothing.cells)
 
 pub push-requires : goal.push-requires
 push-requires g t c =
-    let clear = bough_clear c.args.from.now.slots c.args.levels c.args.node _ c.args.nodes.now c.args.cells.now c.loop-child.child c.loop-child.laid c.loop-child.below.items
-    c.loop-child.nodes c.loop-child.cells c.loop-child.invariant c.loop-child.child (omega arith) in
-    let few = bough_few c.args.from.now.slots c.args.levels c.args.node _ c.args.nodes.now c.args.cells.now c.loop-child.child c.loop-child.laid c.loop-child.below.items
-    c.loop-child.nodes c.loop-child.cells c.loop-child.invariant in
+    let clear = bough_clear c.loop-child.invariant c.loop-child.child (omega arith) in
+    let few = bough_few c.loop-child.invariant in
     let lacks = rank-lacks c.loop-child.laid.child_bitmap 32 c.loop-child.child c.loop-child-test.true clear in
     (omega arith, omega (arith, few, lacks))
 
 pub with_bit-requires-clause-clear : goal.with_bit-requires-clause-clear
 with_bit-requires-clause-clear g t c =
     sym (has_bit-is c.loop-child.laid.child_bitmap c.loop-child.child c.loop-child-test.true)
-    ∙ bough_clear c.args.from.now.slots c.args.levels c.args.node _ c.args.nodes.now c.args.cells.now c.loop-child.child c.loop-child.laid c.loop-child.below.items
-    c.loop-child.nodes c.loop-child.cells c.loop-child.invariant c.loop-child.child (omega arith)
+    ∙ bough_clear c.loop-child.invariant c.loop-child.child (omega arith)
 
 pub loop-child-preserved : goal.loop-child-preserved
 loop-child-preserved g t c =
@@ -141,8 +135,7 @@ loop-child-preserved g t c =
     let sets = c.with_bit.ensures.sets in
     subst (λ xs. IsBough c.args.from.now.slots c.args.levels c.args.node part c.args.nodes.now c.args.cells.now (child + 1) (record c.loop-child.laid { child_bitmap = c.with_bit.result }) xs
     c.lay_node.new.nodes c.lay_node.new.cells) (sym c.push.ensures.items)
-    (bough_grafted c.args.from.now.slots c.args.levels c.args.node part c.args.nodes.now c.args.cells.now child c.loop-child.laid c.loop-child.below.items
-    c.loop-child.nodes c.loop-child.cells c.loop-child.invariant c.in-Some.twig c.with_bit.result (c.args.levels - 1) c.visit-lower.result c.lay_node.new.nodes c.lay_node.new.cells twig
+    (bough_grafted c.loop-child.invariant c.in-Some.twig c.with_bit.result (c.args.levels - 1) c.visit-lower.result c.lay_node.new.nodes c.lay_node.new.cells twig
     c.loop-child-test.true there
     (λ u s long e. below_it c.args.from.now.slots c.args.node part c.masks-values.result.1 c.masks-values.ensures.children child u s long e set c.visit-lower.result is)
     (λ own. child_amount own c.args.from.now.slots c.args.levels c.args.node c.visit-lower.result child some there is)
@@ -153,16 +146,14 @@ loop-child-preserved g t c =
 pub returns-then-is_bare-clause-laid : goal.returns-then-is_bare-clause-laid
 returns-then-is_bare-clause-laid g t c =
     let all : c.loop-child.child ≡ 32 = (let h = c.loop-child-test.false in let e = c.loop-child.auto.child-end in omega (arith, h, e)) in
-    bough_bare c.args.from.now.slots c.args.levels c.args.node _ c.args.nodes.now c.args.cells.now c.loop-child.child c.loop-child.laid c.loop-child.below.items
-    c.loop-child.nodes c.loop-child.cells c.loop-child.invariant all (c.is_bare.ensures.bare c.if-is_bare.true)
+    bough_bare c.loop-child.invariant all (c.is_bare.ensures.bare c.if-is_bare.true)
 
 pub lay-requires-clause-sound : goal.lay-requires-clause-sound
 lay-requires-clause-sound g t c = (_, c.loop-child.invariant.nodes.sound c.requires.nodes.live c.requires.nodes.sound)
 
 pub lay-requires-clause-fits : goal.lay-requires-clause-fits
 lay-requires-clause-fits g t c =
-    let few = bough_few c.args.from.now.slots c.args.levels c.args.node _ c.args.nodes.now c.args.cells.now c.loop-child.child c.loop-child.laid c.loop-child.below.items
-    c.loop-child.nodes c.loop-child.cells c.loop-child.invariant in
+    let few = bough_few c.loop-child.invariant in
     let same = ap (λ (xs : List Node). length xs) c.deref.ensures.0 in
     let most = rank-le c.loop-child.laid.child_bitmap 32 in
     node_fits c.loop-child.nodes.tiers (length c.deref.result.now) (c.loop-child.invariant.nodes.keeps.sizes ∙ c.requires.nodes.sizes_are) (omega (arith, few, same, most))
@@ -170,8 +161,7 @@ lay-requires-clause-fits g t c =
 pub returns-in_err-list-clause-memory : goal.returns-in_err-list-clause-memory
 returns-in_err-list-clause-memory g t c =
     let all : c.loop-child.child ≡ 32 = (let h = c.loop-child-test.false in let e = c.loop-child.auto.child-end in omega (arith, h, e)) in
-    let few = bough_few c.args.from.now.slots c.args.levels c.args.node _ c.args.nodes.now c.args.cells.now c.loop-child.child c.loop-child.laid c.loop-child.below.items
-    c.loop-child.nodes c.loop-child.cells c.loop-child.invariant in
+    let few = bough_few c.loop-child.invariant in
     let same = ap (λ (xs : List Node). length xs) c.deref.ensures.0 in
     let packed = children_packed c.args.node (tier_sizes c.loop-child.nodes.tiers) c.loop-child.laid.child_bitmap (length c.deref.result.now)
     (c.loop-child.invariant.nodes.keeps.sizes ∙ c.requires.nodes.sizes_are) (omega (arith, same, few)) c.loop-child.invariant.kept in
@@ -193,14 +183,12 @@ overflow_cast-laid-2 g t c =
 pub returns-clause-laid : goal.returns-clause-laid
 returns-clause-laid g t c =
     let all : c.loop-child.child ≡ 32 = (let h = c.loop-child-test.false in let e = c.loop-child.auto.child-end in omega (arith, h, e)) in
-    let few = bough_few c.args.from.now.slots c.args.levels c.args.node _ c.args.nodes.now c.args.cells.now c.loop-child.child c.loop-child.laid c.loop-child.below.items
-    c.loop-child.nodes c.loop-child.cells c.loop-child.invariant in
+    let few = bough_few c.loop-child.invariant in
     let same = ap (λ (xs : List Node). length xs) c.deref.ensures.0 in
     let are = c.loop-child.invariant.nodes.keeps.sizes ∙ c.requires.nodes.sizes_are in
     let packed = children_packed c.args.node (tier_sizes c.loop-child.nodes.tiers) c.loop-child.laid.child_bitmap (length c.deref.result.now) are
     (omega (arith, same, few)) c.loop-child.invariant.kept in
     let long = c.in_ok-list.ensures.longer in
-    bough_closed c.args.from.now.slots c.args.levels c.args.node _ c.args.nodes.now c.args.cells.now c.loop-child.child c.loop-child.laid c.loop-child.below.items
-    c.loop-child.nodes c.loop-child.cells c.loop-child.invariant all c.lay.new.self c.in_ok-list.list are
+    bough_closed c.loop-child.invariant all c.lay.new.self c.in_ok-list.list are
     (subst (λ xs. LaysList blank_node c.loop-child.nodes c.lay.new.self xs c.in_ok-list.list) c.deref.ensures.0 c.in_ok-list.ensures.laid) (omega (arith, long, packed))
     (c.is_bare.ensures.stocked c.if-is_bare.false)

@@ -7,21 +7,22 @@ use Rattle.prefix_trie_table.specs.Store.{Store, tier_sizes}
 use Rattle.prefix_trie_table.specs.HandingOut.Skeleton.{IsSecond}
 use Rattle.prefix_trie_table.proofs.HandingOut.RootSpace.{root_nodes, root_cells}
 use Rattle.prefix_trie_table.proofs.HandingOut.Space.{for_memory}
-use Rattle.prefix_trie_table.proofs.HandingOut.Second.{root_slot, root_source, second_laid, second_bare}
-use Rattle.prefix_trie_table.proofs.Removal.Clearing.{under_limit}
+use Rattle.prefix_trie_table.proofs.HandingOut.Second.{root_source, second_laid, second_bare}
+use Rattle.prefix_trie_table.proofs.Removal.Clearing.{under_limit, root_slot}
+use Rattle.prefix_trie_table.proofs.Tree.Invariant.{some_table}
 use Rattle.prefix_trie_table.proofs.table.handing.lay_part.Goals.{in-Some, in_default-top}
 use Rattle.prefix_trie_table.proofs.table.handing.lay_part.Goals as goal
 
 pub returns-in_err-second_nodes-clause-range : goal.returns-in_err-second_nodes-clause-range
 returns-in_err-second_nodes-clause-range g c =
     let p = err_from_is_err_and c.from_residual.result c.from_residual.ensures.1 in
-    let stands = root_slot c.requires.trie.2.table in
+    let stands = root_slot c.args.nodes.now c.args.cells.now (some_table c.requires.trie.2.table) in
     let within = c.requires.trie.2.table.nodes_within in
     rw (p.1, p.2) (for_memory c.in_err-second_nodes.field-0.0 (λ e. let none = (c.in_err-second_nodes.ensures.range).0 e in absurd (omega (arith, none, stands, within))))
 
 pub visit-root-requires : goal.visit-root-requires
 visit-root-requires g c =
-    root_slot c.requires.trie.2.table
+    root_slot c.args.nodes.now c.args.cells.now (some_table c.requires.trie.2.table)
 
 pub lay_node-requires-clause-source : goal.lay_node-requires-clause-source
 lay_node-requires-clause-source g c =
@@ -46,7 +47,7 @@ pub returns-clause-laid : goal.returns-clause-laid
 returns-clause-laid g c =
     let trie = c.requires.trie.2 in
     let q = take c.args.len (g.K.Key.bits c.args.key) in
-    let stands = root_slot trie.table in
+    let stands = root_slot c.args.nodes.now c.args.cells.now (some_table trie.table) in
     let some : 0 < c.args.nodes.now.limit = (let within = trie.table.nodes_within in omega (arith, stands, within)) in
     let cells_are = under_limit c.in-Ok.second_cells c.limit.result c.args.nodes.now.limit c.in-Ok.ensures.empty (c.limit.ensures ∙ trie.table.one_limit) in
     let laid = subst (λ n. LaysNode c.args.nodes.now.slots (c.width.result / 5) n q c.in_ok-second_nodes.second_nodes c.lay_node.new.nodes c.in-Ok.second_cells c.lay_node.new.cells
