@@ -36,7 +36,8 @@ use Rattle.prefix_trie_table.proofs.Removal.Listed.{listed_below, none_listed}
 use Rattle.prefix_trie_table.proofs.Lookup.Finding.{reached_own}
 use Rattle.prefix_trie_table.proofs.Lookup.Going.{level_last, steps-all}
 use Rattle.prefix_trie_table.proofs.Removal.NodesLeft.{removed_without}
-use Rattle.prefix_trie_table.proofs.Retain.Retained.{read_held, slot_stays}
+use Rattle.prefix_trie_table.proofs.Retain.Retained.{read_held}
+use Rattle.prefix_trie_table.proofs.Removal.Pruning.{slot_stays}
 use Rattle.prefix_trie_table.proofs.Insertion.Rooms.{Grows-same}
 use Rattle.prefix_trie_table.proofs.Removal.Settling.{Settles-nodes}
 use Rattle.prefix_trie_table.proofs.Tree.Shapes.{reads_node, shape_entries}
