@@ -132,15 +132,12 @@ module _ {T : Type 0} (q : List Bool) (reading : List ℕ → Option Node) (valu
             | inr off ↦ absurd (clash _ gone (off_way (path_of u) off ∙ stood u h))
           ];
           not_root = λ e. clash _ gone (ap (λ x. is_some (p.to.later (path_of x))) e ∙ ap is_some p.to.hold.rooted);
-          no_key = λ k has. elim (cases_Bool (begins u k)) as (λ _. begins u k ≡ false) [
-            | inl hit ↦
-                let value : is_some (with_value values (path_of q) (bit_of q) None (path_of k) (bit_of k)) ≡ true =
-                ap is_some (sym (entries_without reading values paths v w holds q s is k)) ∙ has in
-                let node : is_some (p.to.later (path_of k)) ≡ true =
-                needs (p.to.later (path_of k)) (bit_of k) (sym (pruned_holds.cells.set_where (path_of k) (bit_of k)) ∙ value) in
-                absurd (clash _ gone (above_left (path_of u) (path_of k) node (begins-way u k five ∙ hit)))
-            | inr miss ↦ miss
-          ];
+          no_key = λ k has. false_from_ne_true (begins u k) (λ hit.
+              let value : is_some (with_value values (path_of q) (bit_of q) None (path_of k) (bit_of k)) ≡ true =
+              ap is_some (sym (entries_without reading values paths v w holds q s is k)) ∙ has in
+              let node : is_some (p.to.later (path_of k)) ≡ true =
+              needs (p.to.later (path_of k)) (bit_of k) (sym (pruned_holds.cells.set_where (path_of k) (bit_of k)) ∙ value) in
+              clash _ gone (above_left (path_of u) (path_of k) node (begins-way u k five ∙ hit)));
           alone = λ x there_x below. elim (cases_Bool (is_start (path_of x) (path_of q))) as (λ _. begins x (home q) ≡ true) [
             | inl on ↦ begins_home x (five_of x there_x) on
             | inr off ↦ absurd (clash _ gone (above_left (path_of u) (path_of x) (off_way (path_of x) off ∙ stood x there_x) (begins-way u x five ∙ below)))

@@ -1,7 +1,7 @@
 -- What a table is once a test was asked at a place of a node.
 use Rattle.std.proofs.Common.{◌≡◌, ℕ, ◌+◌, ◌-◌, ◌*◌, ◌/◌, ◌%◌, ◌<◌, ◌≤◌, Bool, true, ◌==◌, List, [], ◌++◌, length, take, drop, Option, None, Some, is_some, refl, sym, ap, ap₂, ◌∙◌, subst, arith, inl, inr, eqb-true}
 use Rattle.std.specs.FinMap.{get}
-use Rattle.std.proofs.lemmas.Bool.{false≢true, cases_Bool}
+use Rattle.std.proofs.lemmas.Bool.{false≢true, true_from_ne_false}
 use Rattle.std.proofs.lemmas.List.{length-take-le}
 use Rattle.prefix_trie_bits.specs.Bits.{begins}
 use Rattle.prefix_trie_bits.specs.Begins.{begins-rest}
@@ -42,12 +42,9 @@ use Rattle.prefix_trie_table.proofs.Tree.Trees.{is_none-None, read-nil, reads, s
 
 -- with a node stand those above it
 pub read_up : (nodes : List Node) (q k : List Bool) → length q % 5 ≡ 0 → begins q k ≡ true → is_some (read nodes (path_of k)) ≡ true → is_some (read nodes (path_of q)) ≡ true
-read_up nodes q k whole begun there = elim (cases_Bool (is_some (read nodes (path_of q)))) as (λ _. is_some (read nodes (path_of q)) ≡ true) [
-  | inl hit ↦ hit
-  | inr miss ↦
-      let way : path_of k ≡ path_of q ++ path_of (drop (length q) k) = ap path_of (begins-rest q k begun) ∙ path-append q (drop (length q) k) whole in
-      absurd (false≢true (sym (ap is_some (ap (read nodes) way ∙ read-missing nodes (path_of q) (path_of (drop (length q) k)) (is_none-None (read nodes (path_of q)) miss))) ∙ there))
-]
+read_up nodes q k whole begun there = true_from_ne_false (is_some (read nodes (path_of q))) (λ miss.
+    let way : path_of k ≡ path_of q ++ path_of (drop (length q) k) = ap path_of (begins-rest q k begun) ∙ path-append q (drop (length q) k) whole in
+    false≢true (sym (ap is_some (ap (read nodes) way ∙ read-missing nodes (path_of q) (path_of (drop (length q) k)) (is_none-None (read nodes (path_of q)) miss))) ∙ there))
 
 module _ {T : Type 0} where
   -- a value is in a node
