@@ -16,7 +16,7 @@ use Rattle.prefix_trie_table.proofs.Strings.Bare.{no_bit}
 use Rattle.prefix_trie_table.proofs.Tree.Children.{changed, changed_below, changed_here, changed_other}
 use Rattle.prefix_trie_table.proofs.Counts.EntryCounts.{count_sum}
 use Rattle.prefix_trie_table.proofs.Strings.PathSums.{sum_lacking}
-use Rattle.prefix_trie_table.proofs.Removal.Settling.{NodesSettle-none, NodesSettle-then}
+use Rattle.prefix_trie_table.proofs.Removal.Settling.{settles_none, settles_then}
 use Rattle.prefix_trie_table.proofs.Strings.Starts.{is_start_take}
 use Rattle.prefix_trie_table.proofs.Tree.Trees.{listed_once, slot_holds}
 use Rattle.prefix_trie_table.proofs.Tree.Values.{cells_lacking_child}
@@ -58,7 +58,7 @@ pruning_first reading paths path way level node v hold slots is all = record {
     lessens = subst (λ o. Lessens MakesFew node_sizes v v (own_children o) (own_children (Some node)) (child_block_size o) (child_block_size (Some node))) (sym (ap reading (take_all level path (omega arith)) ∙ is))
         (lessens_none MakesFew node_sizes v v (own_children (Some node)) (child_block_size (Some node)) (children_none (Some node)) refl
         (λ size there. (omega arith, omega arith)));
-    settles = NodesSettle-none v;
+    settles = settles_none v 0;
   };
   slots = slots;
 }
@@ -176,7 +176,7 @@ module _ (reading : List ℕ → Option Node) (paths : List (List ℕ)) (path : 
           whole = λ end. absurd (let i = inside in omega arith);
           lessens = subst (λ o. Lessens MakesFew node_sizes before w (own_children o) (own_children (Some m)) (child_block_size o) (child_block_size (Some m))) (sym was)
               (lessens_from before v w p.to.hold.sizes_are back _ _ _ _ one.lessens);
-          settles = NodesSettle-then before v w p.to.settles one.settles;
+          settles = settles_then before v w 0 0 0 p.to.settles one.settles;
         };
         slots = λ k h.
             slots_still p.to.later (take level path) m c None (take k path) (slot_in way k) (p.slots k (omega arith))
