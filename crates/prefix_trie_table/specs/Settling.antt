@@ -38,16 +38,14 @@ value_headroom n = headroom_if_any (value_block_size (Some n))
 abbrev pub node_reach : Store Node → ℕ
 node_reach v = length v.slots + sum_by child_headroom v.slots
 
--- the same of the array of values
-abbrev pub cell_reach : {T : Type 0} → Store Node → Store (Option T) → ℕ
-cell_reach v w = length w.slots + sum_by value_headroom v.slots
-
--- neither array may become longer than it could before
-pub record Settles {T : Type 0} (v v2 : Store Node) (w w2 : Store (Option T)) : Type 0 where
+-- the array of nodes may not become longer than it could before, nor may that of values, which was so long and is so long now
+pub record SettlesBy (v v2 : Store Node) (long long2 : ℕ) : Type 0 where
   pub nodes : node_reach v2 ≤ node_reach v
-  pub cells : cell_reach v2 w2 ≤ cell_reach v w
+  pub cells : long2 + sum_by value_headroom v2.slots ≤ long + sum_by value_headroom v.slots
+
+abbrev pub Settles : {T : Type 0} → Store Node → Store Node → Store (Option T) → Store (Option T) → Type 0
+Settles v v2 w w2 = SettlesBy v v2 (length w.slots) (length w2.slots)
 
 -- the same where the array of values did not change
-pub record NodesSettle (v v2 : Store Node) : Type 0 where
-  pub nodes : node_reach v2 ≤ node_reach v
-  pub values : sum_by value_headroom v2.slots ≤ sum_by value_headroom v.slots
+abbrev pub NodesSettle : Store Node → Store Node → Type 0
+NodesSettle v v2 = SettlesBy v v2 0 0

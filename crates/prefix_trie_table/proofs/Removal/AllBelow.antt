@@ -1,9 +1,9 @@
 -- What is left of a table where a test said no at each entry below a bit string.
-use Rattle.std.proofs.Common.{◌≡◌, ◌↔◌, ℕ, ◌+◌, ◌*◌, ◌/◌, ◌<◌, ◌≤◌, Bool, true, false, cond, not, ◌&&◌, ◌||◌, ◌==◌, nat_lt, List, [], ◌∷◌, ◌++◌, length, take, drop, Option, None, Some, is_some, refl, sym, ap, ap₂, ◌∙◌, subst, arith, inl, inr, bit_and, append-nil, append_assoc, length-append, length-drop, take-append-drop}
+use Rattle.std.proofs.Common.{◌≡◌, ◌↔◌, ℕ, ◌+◌, ◌*◌, ◌/◌, ◌<◌, ◌≤◌, Bool, true, false, cond, not, ◌&&◌, ◌||◌, ◌==◌, nat_lt, List, [], ◌∷◌, ◌++◌, length, take, drop, Option, None, Some, is_some, refl, sym, ap, ap₂, ◌∙◌, subst, arith, inl, inr, bit_and, append-nil, append_assoc, length-append, length-drop}
 use Rattle.std.specs.List.{All, Contains}
 use Rattle.std.proofs.lemmas.Bool.{false≢true, cases_Bool, cases_lt, lt-ltb, le-ltb}
-use Rattle.std.proofs.lemmas.List.{append_cancel_left, length-take-le}
-use Rattle.std.proofs.lemmas.List.Elements.{All-head, All-tail, All-weaker, All-contains_itself}
+use Rattle.std.proofs.lemmas.List.{append_cancel_left}
+use Rattle.std.proofs.lemmas.List.Elements.{All-weaker, All-contains_itself}
 use Rattle.std.proofs.lemmas.List.Folds.{list_any_at}
 use Rattle.std.specs.FinMap.{get, find, get-entries}
 use Rattle.prefix_trie_bits.specs.Bits.{begins, number, digits}
@@ -28,7 +28,7 @@ use Rattle.prefix_trie_table.specs.Store.{Store}
 use Rattle.prefix_trie_table.specs.Retaining.{is_at, is_at_some, is_under, is_under_some, Retains}
 use Rattle.prefix_trie_table.specs.Tables.{IsTrie}
 use Rattle.prefix_trie_table.proofs.Strings.Plain.{fifth_more, no_or_yes, whole_more}
-use Rattle.prefix_trie_table.proofs.Retain.Asked.{at_value, at_child, under_child, under_at_some}
+use Rattle.prefix_trie_table.proofs.Retain.Asked.{at_value, at_child, under_child, under_at_some, at_goes_on, at_some_one, five_further}
 use Rattle.prefix_trie_table.proofs.Strings.Bits.{has_bit-is}
 use Rattle.prefix_trie_table.proofs.Strings.Placing.{step_below}
 use Rattle.prefix_trie_table.proofs.Tree.Subtrees.{nothing_below, unset, is_in-value, is_in-child, number-small}
@@ -152,20 +152,10 @@ module _ {F T : Type 0} (asks : F → List Bool → T → Bool → F → Type 0)
 
 -- ---- strings below another, from its node on
 
--- what is at a place goes on from its string
-at_goes_on : (s t k : List Bool) → is_at s t k ≡ true → begins (s ++ t) k ≡ true
-at_goes_on s t k = go (nat_lt (length t) 5)
-  where
-    go : (b : Bool) → cond b (same_string k (s ++ t)) (begins (s ++ t) k) ≡ true → begins (s ++ t) k ≡ true
-    go true h = subst (λ x. begins (s ++ t) x ≡ true) (sym (same_string-is k (s ++ t) h)) (begins-refl (s ++ t))
-    go false h = h
-
 some_goes_on : (s q k : List Bool) (ts : List (List Bool)) → All (λ t. begins q (s ++ t) ≡ true) ts → is_at_some s ts k ≡ true → begins q k ≡ true
-some_goes_on s q k [] all h = absurd (false≢true h)
-some_goes_on s q k (t ∷ ts) all h = elim (or-cases (is_at s t k) (is_at_some s ts k) h) as (λ _. begins q k ≡ true) [
-  | inl here ↦ begins-trans q (s ++ t) k (All-head (λ u. begins q (s ++ u) ≡ true) t ts all) (at_goes_on s t k here)
-  | inr later ↦ some_goes_on s q k ts (All-tail (λ u. begins q (s ++ u) ≡ true) t ts all) later
-]
+some_goes_on s q k ts all h =
+    let one = at_some_one (λ t. begins q (s ++ t) ≡ true) s ts k all h in
+    begins-trans q (s ++ one.0) k one.1 (at_goes_on s one.0 k one.2)
 
 pub home_near : (l h : ℕ) → h ≡ 5 * (l / 5) → l ≤ h + 4
 home_near l h e = omega (arith, e)
@@ -180,20 +170,14 @@ module _ (q : List Bool) where
 
   -- by five bits at least
   module _ (k : List Bool) (goes_on : begins q k ≡ true) (long : length (home q) + 5 ≤ length k) where
-    five_bits : length (take 5 (drop (length (home q)) k)) ≡ 5
-    five_bits = length-take-le 5 (drop (length (home q)) k) (omega (arith, length-drop (length (home q)) k, long))
-
-    five_begin : begins (home q ++ take 5 (drop (length (home q)) k)) k ≡ true
-    five_begin =
-        begins-from-rest (home q ++ take 5 (drop (length (home q)) k)) k (drop 5 (drop (length (home q)) k))
-        (home_tail k goes_on ∙ ap (λ r. home q ++ r) (sym (take-append-drop 5 (drop (length (home q)) k)))
-        ∙ sym (append_assoc (home q) (take 5 (drop (length (home q)) k)) (drop 5 (drop (length (home q)) k))))
+    further : (length (take 5 (drop (length (home q)) k)) ≡ 5) × (begins (home q ++ take 5 (drop (length (home q)) k)) k ≡ true)
+    further = five_further (home q) k (home_goes_on k goes_on) long
 
     five_below : begins q (home q ++ take 5 (drop (length (home q)) k)) ≡ true
     five_below =
         let near = home_near (length q) (length (home q)) (home-length q) in
-        begins-linear q (home q ++ take 5 (drop (length (home q)) k)) k goes_on five_begin
-        (omega (arith, near, five_bits, length-append (home q) (take 5 (drop (length (home q)) k))))
+        begins-linear q (home q ++ take 5 (drop (length (home q)) k)) k goes_on further.1
+        (let five = further.0 in omega (arith, near, five, length-append (home q) (take 5 (drop (length (home q)) k))))
 
   module _ (rest : List Bool) (is : q ≡ home q ++ rest) where
     to_rest : (u : List Bool) → begins q (home q ++ u) ≡ true → begins rest u ≡ true
@@ -258,9 +242,9 @@ module _ {T : Type 0} (width count : ℕ) (v : Store Node) (w : Store (Option T)
         (at_value (home q) (drop (length (home q)) k) k (let l = less in omega (arith, l)) ∙ is-same_string k (home q ++ drop (length (home q)) k) tail) off
     | inr more ↦
         let long : length (home q) + 5 ≤ length k = (let l = more in omega (arith, l, length-drop (length (home q)) k)) in
-        let five = five_bits q k goes_on long in
+        let five = (further q k goes_on long).0 in
         not_among k (take 5 (drop (length (home q)) k)) (let f = five in omega (arith, f)) (five_below q k goes_on long)
-        (at_child (home q) (take 5 (drop (length (home q)) k)) k five ∙ five_begin q k goes_on long) off
+        (at_child (home q) (take 5 (drop (length (home q)) k)) k five ∙ (further q k goes_on long).1) off
   ]
 
   -- where a child is missing no node stands
@@ -284,10 +268,10 @@ module _ {T : Type 0} (width count : ℕ) (v : Store Node) (w : Store (Option T)
         | inl hit ↦
             let m = member (take 5 (drop (length (home q)) t)) (let f = five in omega (arith, f)) hit (five_below q t goes_on long) in
             false≢true (sym off ∙ list_any_at (λ u. is_under (home q) u t) ts m.0 (take 5 (drop (length (home q)) t)) m.1
-            (ap (λ u. is_under (home q) u t) m.2 ∙ under_child (home q) (take 5 (drop (length (home q)) t)) t five ∙ five_begin q t goes_on long))
+            (ap (λ u. is_under (home q) u t) m.2 ∙ under_child (home q) (take 5 (drop (length (home q)) t)) t five ∙ (further q t goes_on long).1))
         | inr miss ↦
             false≢true (sym (no_child (take 5 (drop (length (home q)) t)) five miss)
-            ∙ trie.nodes.closed (home q ++ take 5 (drop (length (home q)) t)) t there (five_begin q t goes_on long)
+            ∙ trie.nodes.closed (home q ++ take 5 (drop (length (home q)) t)) t there (further q t goes_on long).1
             (whole_more (length (home q)) (length (take 5 (drop (length (home q)) t))) (length (home q ++ take 5 (drop (length (home q)) t))) (home-depth q) five
             (length-append (home q) (take 5 (drop (length (home q)) t)))))
       ]
@@ -298,7 +282,7 @@ module _ {T : Type 0} (width count : ℕ) (v : Store Node) (w : Store (Option T)
           (λ e. false≢true (sym other ∙ is-same_string t (home q) (sym (begins-same-length (home q) t (home_goes_on q t goes_on) (sym e)))))
 
       five : length (take 5 (drop (length (home q)) t)) ≡ 5
-      five = five_bits q t goes_on long
+      five = (further q t goes_on long).0
 
   -- the places of a node that the two masks for the end of q leave are those below q
   pub covers_below : AreBelow q ts before

@@ -1,22 +1,21 @@
 -- What several removals do to the size of a block.
-use Rattle.std.proofs.Common.{length, take, ◌≡◌, ◌≢◌, ℕ, ◌<◌, ◌≤◌, ◌⊎◌, inl, inr, List, [], ◌∷◌, ◌++◌, Option, None, Some, refl, sym, ap, ◌∙◌, subst, arith}
-use Rattle.std.proofs.lemmas.Bool.{cases_lt, cases_Bool}
+use Rattle.std.proofs.Common.{◌≡◌, ◌≢◌, ℕ, ◌<◌, ◌≤◌, ◌⊎◌, inl, inr, List, [], ◌∷◌, ◌++◌, Option, None, Some, refl, sym, ap, ◌∙◌, subst, arith}
+use Rattle.std.proofs.lemmas.Bool.{cases_lt}
 use Rattle.std.specs.List.{Contains}
 use Rattle.prefix_trie_bits.specs.Model.Blocks.{StepsBetween, smallest_size}
 use Rattle.prefix_trie_table.specs.declared.allocator.node.Node.{Node}
 use Rattle.prefix_trie_table.specs.Cells.{node_sizes, cell_sizes}
-use Rattle.prefix_trie_table.specs.Forest.{is_start, with_node, lacking_child, own_count}
+use Rattle.prefix_trie_table.specs.Forest.{with_node, lacking_child, own_count}
 use Rattle.prefix_trie_table.specs.Layouts.{own_children, child_block_size, value_block_size}
 use Rattle.prefix_trie_table.specs.Removals.{ValueTaken, ChildDropped, IsBare, PrunedTo}
 use Rattle.prefix_trie_table.specs.Retaining.{BlocksBetween, Stays}
-use Rattle.prefix_trie_table.specs.Store.{Store}
+use Rattle.prefix_trie_table.specs.Store.{Store, free_counts}
 use Rattle.prefix_trie_table.specs.Tables.{Grows}
 use Rattle.prefix_trie_table.proofs.Blocks.Turnovers.{made_then}
 use Rattle.prefix_trie_table.proofs.Strings.Plain.{some_same}
 use Rattle.prefix_trie_table.proofs.Tree.Children.{same_or, with_here, with_other, changed_below, changed_here, changed_other}
-use Rattle.prefix_trie_table.proofs.Removal.Lessening.{lessens_between, values_none, children_none}
-use Rattle.prefix_trie_table.proofs.Removal.NodesLeft.{start_is}
-use Rattle.prefix_trie_table.proofs.Removal.Stepping.{same_values, same_children, drops_values}
+use Rattle.prefix_trie_table.proofs.Removal.Lessening.{steps_between, lessens_between, values_none, children_none}
+use Rattle.prefix_trie_table.proofs.Removal.Stepping.{same_values, same_children, drops_values, pruned_children}
 
 -- ---- by numbers
 
@@ -110,40 +109,15 @@ dropped_between reading paths p c n m leaf v v2 t is under bare x = by (same_or 
     by (inr ne) (inr other) = blocks_still (reading x) (lacking_child reading p m c x) (changed_other reading p m c None x other ne)
 
 -- pruning leaves each node's values where they were, and the children of the node where it stopped in a smaller block at most
-module _ (reading : List ℕ → Option Node) (paths : List (List ℕ)) (path : List ℕ) (level : ℕ) (node : Node) (v v2 : Store Node)
-    (p : PrunedTo reading paths path level node v v2) where
-  abbrev Between : List ℕ → Type 0
-  Between x = StepsBetween node_sizes (own_children (reading x)) (own_children (p.later x)) (child_block_size (reading x)) (child_block_size (p.later x))
-
-  children_as : (x : List ℕ) → p.later x ≡ reading x → Between x
-  children_as x e = children_between (reading x) (p.later x) (ap own_children e) (ap child_block_size e)
-
-  on_way : (k : ℕ) → k ≤ length path → Between (take k path)
-  on_way k within = elim (cases_lt k level) as (λ _. Between (take k path)) [
-    | inl high ↦ children_as (take k path) (p.above k high)
-    | inr deep ↦ elim (cases_lt level k) as (λ _. Between (take k path)) [
-      | inl below ↦
-          let gone = p.gone k below within in
-          record {
-            fewer = (let z = ap own_children gone in omega (arith, z));
-            same = λ none. ap child_block_size gone ∙ sym (children_none (reading (take k path)) (sym none ∙ ap own_children gone));
-            none = λ e. ap child_block_size gone;
-            between = λ less some. absurd (let z = ap own_children gone in omega (arith, some, z));
-          }
-      | inr up ↦ subst (λ l. Between (take l path)) (let e : level ≡ k = omega arith in e)
-          (subst (λ o. StepsBetween node_sizes (own_children (reading (take level path))) (own_children o) (child_block_size (reading (take level path))) (child_block_size o)) (sym p.is)
-          (lessens_between node_sizes v v2 _ _ _ _ refl p.lessens))
-    ]
-  ]
-
-  pub pruned_between : (x : List ℕ) → BlocksBetween (reading x) (p.later x)
-  pruned_between x = record {
-    values = (let s = drops_values reading paths p.later p.left p.drops x in values_between (reading x) (p.later x) s.0 s.1);
-    children = elim (cases_Bool (is_start x path)) as (λ _. Between x) [
-      | inl on ↦ (let s = start_is x path on in subst Between s.0 (on_way (length x) s.1))
-      | inr off ↦ children_as x (p.off x off)
-    ];
-  }
+pub pruned_between : (reading : List ℕ → Option Node) (paths : List (List ℕ)) (path : List ℕ) (level : ℕ) (node : Node) (v v2 : Store Node)
+    (p : PrunedTo reading paths path level node v v2) (x : List ℕ) → BlocksBetween (reading x) (p.later x)
+pruned_between reading paths path level node v v2 p x =
+    let same = drops_values reading paths p.later p.left p.drops x in
+    let steps = pruned_children reading paths path level node v v2 p x in
+    record {
+      values = values_between (reading x) (p.later x) same.0 same.1;
+      children = steps_between node_sizes (free_counts v.tiers) _ _ _ _ refl steps.1 steps.0;
+    }
 
 -- ---- arrays that stay
 

@@ -1,5 +1,5 @@
 -- What the calls that take a value or a child out leave of the arrays.
-use Rattle.std.proofs.Common.{◌≡◌, ◌≢◌, ℕ, zero, suc, ◌+◌, ◌-◌, ◌<◌, ◌≤◌, true, false, List, [], ◌∷◌, ◌++◌, length, set, remove, map, flat_map, Option, None, Some, refl, sym, ap, ◌∙◌, subst, arith}
+use Rattle.std.proofs.Common.{◌≡◌, ℕ, zero, suc, ◌+◌, ◌-◌, ◌<◌, ◌≤◌, true, List, [], ◌∷◌, ◌++◌, length, set, remove, map, flat_map, Option, None, Some, refl, sym, ap, ◌∙◌, subst, arith}
 use Rattle.std.specs.Prelude.{Contains}
 use Rattle.std.proofs.lemmas.List.{length-set}
 use Rattle.std.proofs.lemmas.Option.{same_Some, none-some}
@@ -16,7 +16,7 @@ use Rattle.prefix_trie_table.specs.OwnBlocks.{child_block_size, value_block_size
 use Rattle.prefix_trie_table.specs.Store.{Store, UsedBlock, Sound, block, held, HasList, Keeps, Turnover, tier_at, tier_sizes, size_in, size_if_any, list_size, free_counts, made_in}
 use Rattle.prefix_trie_table.specs.Forest.{without, child_items, child_blocks, IsSlot, NodesHold, CellsHold, value_blocks, with_node, lacking_child, node_or_blank}
 use Rattle.prefix_trie_table.specs.Losing.{LosesOne}
-use Rattle.prefix_trie_table.specs.Removals.{Lessens, MakesEntered, ValueTaken, ChildDropped, GivesBack}
+use Rattle.prefix_trie_table.specs.Removals.{SameChildren, SameValues, Lessens, MakesEntered, ValueTaken, ChildDropped, GivesBack}
 use Rattle.prefix_trie_table.specs.Settling.{headroom_if_any, child_headroom}
 use Rattle.prefix_trie_table.specs.Tables.{Grows}
 use Rattle.prefix_trie_table.proofs.Strings.Bare.{no_bit, cleared, others_stay, one_fewer}
@@ -121,129 +121,80 @@ module _ {S : Type 0} (vacant : S) (v w : Store S) (k start count place : ℕ) (
 
 -- ---- the reading of the arrays where a value is gone
 
-module _ {T : Type 0} where
-  -- the list without a value, and the node written with it, lack the value
-  pub values_taken : (v v2 : Store Node) (w u : Store (Option T)) (slot b tier start bitmap : ℕ) (k m : Node)
-      → k ≡ node_at v.slots slot
-      → Sets bitmap b k.value_bitmap
-      → m ≡ record {
-        value_bitmap = bitmap;
-        child_bitmap = k.child_bitmap;
-        value_block = start;
-        child_block = k.child_block;
-        value_tier = tier;
-        child_tier = k.child_tier;
-      }
-      → Lost None cell_sizes w u k.value_tier k.value_block (rank k.value_bitmap 32) (rank k.value_bitmap b) tier start
-      → b < 31 → has_bit k.value_bitmap b ≡ true → v2 ≡ record v { slots = set v.slots slot m }
-      → (reading : List ℕ → Option Node) (paths : List (List ℕ)) (values : List ℕ → ℕ → Option T) (p : List ℕ) (n : Node) →
-      NodesHold node_sizes reading paths v → CellsHold cell_sizes reading values paths w → IsSlot reading p slot → reading p ≡ Some n
-      → ValueTaken reading paths values p b n m v2 w u
-  values_taken v v2 w u slot b tier start bitmap k m read sets m_is lost small there v2_is reading paths values p n hold cells stands is =
-      let at = slot_holds node_sizes reading paths v hold p slot n stands is in
-      let same : k ≡ n = read ∙ at.0 in
-      let here : reading p ≡ Some k = is ∙ ap Some (sym same) in
-      let size : (tier_at w.tiers tier).size ≡ size_in cell_sizes tier = size_at w.tiers tier ∙ ap (λ ns. size_in ns tier) cells.sizes_are in
-      let bits_are : m.value_bitmap ≡ bitmap = ap (λ (y : Node). y.value_bitmap) m_is in
-      let digit : b < 32 = omega arith in
-      let gone : has_bit m.value_bitmap b ≡ false = ap (λ y. has_bit y b) bits_are ∙ cleared bitmap k.value_bitmap b sets digit in
-      let stay : (i : ℕ) → i ≢ b → has_bit m.value_bitmap i ≡ has_bit k.value_bitmap i = λ i ne. ap (λ y. has_bit y i) bits_are
-      ∙ others_stay bitmap k.value_bitmap b sets digit i ne in
-      let fewer_here : rank m.value_bitmap 32 + 1 ≡ rank k.value_bitmap 32 = ap (λ y. rank y 32 + 1) bits_are ∙ one_fewer bitmap k.value_bitmap b sets digit in
-      let live : List (UsedBlock (Option T)) = flat_map (value_blocks cell_sizes reading values) (without p paths) in
-      let left = lost.sound (size_in cell_sizes k.value_tier) (map (values p) (bits k.value_bitmap)) live
-      (values_first cell_sizes node_sizes reading paths v hold values w cells p k here) (rank-all (values p) k.value_bitmap) in
-      let tier_is : m.value_tier ≡ tier = ap (λ (y : Node). y.value_tier) m_is in
-      let start_is : m.value_block ≡ start = ap (λ (y : Node). y.value_block) m_is in
-      let sound : Sound None (held m.value_tier m.value_block (size_in cell_sizes m.value_tier)
-      (remove (map (values p) (bits k.value_bitmap)) (rank k.value_bitmap b)) ++ live) u =
-      subst (λ (bs : List (UsedBlock (Option T))). Sound None (bs ++ live) u)
-      (λ i. held (sym tier_is i) (sym start_is i) ((size ∙ ap (size_in cell_sizes) (sym tier_is)) i)
-      (remove (map (values p) (bits k.value_bitmap)) (rank k.value_bitmap b))) left in
-      record {
-        hold = subst (λ y. NodesHold node_sizes (with_node reading p m) paths y) (sym v2_is)
-            (node_changed node_sizes reading paths v hold p slot k m stands here (ap (λ (y : Node). y.child_bitmap) m_is)
-            (ap (λ (y : Node). y.child_block) m_is) (ap (λ (y : Node). y.child_tier) m_is));
-        cells = value_removed cell_sizes node_sizes reading paths v hold values w cells p k m b None here stay gone small u digit there refl
-            (lost.keeps.sizes ∙ cells.sizes_are) sound;
-        fewer = fewer_here ∙ ap (λ (y : Node). rank y.value_bitmap 32) same;
-        children = record {
-          bitmap = ap (λ (y : Node). y.child_bitmap) m_is ∙ ap (λ (y : Node). y.child_bitmap) same;
-          block = ap (λ (y : Node). y.child_block) m_is ∙ ap (λ (y : Node). y.child_block) same;
-          tier = ap (λ (y : Node). y.child_tier) m_is ∙ ap (λ (y : Node). y.child_tier) same;
-        };
-        lessens = subst (λ t. Lessens MakesEntered cell_sizes w u (rank n.value_bitmap 32) (rank m.value_bitmap 32) (value_block_size (Some n)) (size_if_any (rank m.value_bitmap 32) (size_in cell_sizes t))) (sym tier_is)
-            (subst (λ (y : Node). Lessens MakesEntered cell_sizes w u (rank y.value_bitmap 32) (rank m.value_bitmap 32) (value_block_size (Some y)) (size_if_any (rank m.value_bitmap 32) (size_in cell_sizes tier))) same
-            (lost.lessens (rank m.value_bitmap 32) fewer_here));
-      }
+-- a node with another list of values, and with another of children
+abbrev pub with_values : Node → ℕ → ℕ → ℕ → Node
+with_values k bitmap start tier = record k { value_bitmap = bitmap; value_block = start; value_tier = tier }
+
+abbrev pub with_children : Node → ℕ → ℕ → ℕ → Node
+with_children k bitmap start tier = record k { child_bitmap = bitmap; child_block = start; child_tier = tier }
+
+-- the list without a value, and the node written with it, lack the value
+pub values_taken : {T : Type 0} (v v2 : Store Node) (w u : Store (Option T)) (slot b tier start bitmap : ℕ) (k : Node) → k ≡ node_at v.slots slot → Sets bitmap b k.value_bitmap
+    → Lost None cell_sizes w u k.value_tier k.value_block (rank k.value_bitmap 32) (rank k.value_bitmap b) tier start
+    → b < 31 → has_bit k.value_bitmap b ≡ true → v2 ≡ record v { slots = set v.slots slot (with_values k bitmap start tier) }
+    → (reading : List ℕ → Option Node) (paths : List (List ℕ)) (values : List ℕ → ℕ → Option T) (p : List ℕ) (n : Node) →
+    NodesHold node_sizes reading paths v → CellsHold cell_sizes reading values paths w → IsSlot reading p slot → reading p ≡ Some n
+    → ValueTaken reading paths values p b n (with_values k bitmap start tier) v2 w u
+values_taken {T} v v2 w u slot b tier start bitmap k read sets lost small there v2_is reading paths values p n hold cells stands is =
+    let at = slot_holds node_sizes reading paths v hold p slot n stands is in
+    let same : k ≡ n = read ∙ at.0 in
+    let here : reading p ≡ Some k = is ∙ ap Some (sym same) in
+    let size : (tier_at w.tiers tier).size ≡ size_in cell_sizes tier = size_at w.tiers tier ∙ ap (λ ns. size_in ns tier) cells.sizes_are in
+    let digit : b < 32 = omega arith in
+    let fewer_here : rank bitmap 32 + 1 ≡ rank k.value_bitmap 32 = one_fewer bitmap k.value_bitmap b sets digit in
+    let live : List (UsedBlock (Option T)) = flat_map (value_blocks cell_sizes reading values) (without p paths) in
+    let left = lost.sound (size_in cell_sizes k.value_tier) (map (values p) (bits k.value_bitmap)) live
+    (values_first cell_sizes node_sizes reading paths v hold values w cells p k here) (rank-all (values p) k.value_bitmap) in
+    record {
+      hold = subst (λ y. NodesHold node_sizes (with_node reading p (with_values k bitmap start tier)) paths y) (sym v2_is)
+          (node_changed node_sizes reading paths v hold p slot k (with_values k bitmap start tier) stands here refl refl refl);
+      cells = value_removed cell_sizes node_sizes reading paths v hold values w cells p k (with_values k bitmap start tier) b None here
+          (others_stay bitmap k.value_bitmap b sets digit) (cleared bitmap k.value_bitmap b sets digit) small u digit there refl (lost.keeps.sizes ∙ cells.sizes_are)
+          (subst (λ size. Sound None (held tier start size (remove (map (values p) (bits k.value_bitmap)) (rank k.value_bitmap b)) ++ live) u) size left);
+      fewer = fewer_here ∙ ap (λ (y : Node). rank y.value_bitmap 32) same;
+      children = subst (λ (y : Node). SameChildren y (with_values k bitmap start tier)) same (record { bitmap = refl; block = refl; tier = refl });
+      lessens = subst (λ (y : Node). Lessens MakesEntered cell_sizes w u (rank y.value_bitmap 32) (rank bitmap 32) (value_block_size (Some y)) (size_if_any (rank bitmap 32) (size_in cell_sizes tier))) same
+          (lost.lessens (rank bitmap 32) fewer_here);
+    }
 
 -- ---- the reading of the arrays where a child is gone
 
 -- the list without a child that has no children, and the node written with it, lack the child
-pub children_dropped : (v u v2 : Store Node) (slot c tier start bitmap : ℕ) (k m : Node)
-    → k ≡ node_at v.slots slot
-    → Sets bitmap c k.child_bitmap
-    → m ≡ record {
-      value_bitmap = k.value_bitmap;
-      child_bitmap = bitmap;
-      value_block = k.value_block;
-      child_block = start;
-      value_tier = k.value_tier;
-      child_tier = tier;
-    }
+pub children_dropped : (v u v2 : Store Node) (slot c tier start bitmap : ℕ) (k : Node) → k ≡ node_at v.slots slot → Sets bitmap c k.child_bitmap
     → Lost blank_node node_sizes v u k.child_tier k.child_block (rank k.child_bitmap 32) (rank k.child_bitmap c) tier start
-    → c < 32 → v2 ≡ record u { slots = set u.slots slot m }
+    → c < 32 → v2 ≡ record u { slots = set u.slots slot (with_children k bitmap start tier) }
     → (reading : List ℕ → Option Node) (paths : List (List ℕ)) (p : List ℕ) (n leaf : Node) →
     NodesHold node_sizes reading paths v → IsSlot reading p slot → reading p ≡ Some n → reading (p ++ c ∷ []) ≡ Some leaf →
     rank leaf.child_bitmap 32 ≡ 0
-    → ChildDropped reading paths p c n m v v2
-children_dropped v u v2 slot c tier start bitmap k m read sets m_is lost digit v2_is reading paths p n leaf hold stands is below bare =
+    → ChildDropped reading paths p c n (with_children k bitmap start tier) v v2
+children_dropped v u v2 slot c tier start bitmap k read sets lost digit v2_is reading paths p n leaf hold stands is below bare =
     let at = slot_holds node_sizes reading paths v hold p slot n stands is in
     let same : k ≡ n = read ∙ at.0 in
     let here : reading p ≡ Some k = is ∙ ap Some (sym same) in
     let size : (tier_at v.tiers tier).size ≡ size_in node_sizes tier = size_at v.tiers tier ∙ ap (λ ns. size_in ns tier) hold.sizes_are in
-    let bits_are : m.child_bitmap ≡ bitmap = ap (λ (y : Node). y.child_bitmap) m_is in
-    let gone : has_bit m.child_bitmap c ≡ false = ap (λ y. has_bit y c) bits_are ∙ cleared bitmap k.child_bitmap c sets digit in
-    let stay : (i : ℕ) → i ≢ c → has_bit m.child_bitmap i ≡ has_bit k.child_bitmap i = λ i ne. ap (λ y. has_bit y i) bits_are
-    ∙ others_stay bitmap k.child_bitmap c sets digit i ne in
     let live : List (UsedBlock Node) = flat_map (child_blocks node_sizes reading) (without p paths) in
     let left = lost.sound (size_in node_sizes k.child_tier) (child_items reading p k.child_bitmap) live
     (own_first node_sizes reading paths v hold p k here) (rank-all (λ d. node_or_blank (reading (p ++ d ∷ []))) k.child_bitmap) in
-    let tier_is : m.child_tier ≡ tier = ap (λ (y : Node). y.child_tier) m_is in
-    let start_is : m.child_block ≡ start = ap (λ (y : Node). y.child_block) m_is in
-    let sound : Sound blank_node (held m.child_tier m.child_block (size_in node_sizes m.child_tier)
-    (remove (child_items reading p k.child_bitmap) (rank k.child_bitmap c)) ++ live) u =
-    subst (λ (bs : List (UsedBlock Node)). Sound blank_node (bs ++ live) u)
-    (λ i. held (sym tier_is i) (sym start_is i) ((size ∙ ap (size_in node_sizes) (sym tier_is)) i)
-    (remove (child_items reading p k.child_bitmap) (rank k.child_bitmap c))) left in
-    let fewer_here : rank m.child_bitmap 32 + 1 ≡ rank k.child_bitmap 32 =
-    ap (λ y. rank y 32 + 1) bits_are ∙ one_fewer bitmap k.child_bitmap c sets digit in
-    let long : length v2.slots ≡ length u.slots = ap (λ (y : Store Node). length y.slots) v2_is ∙ length-set u.slots slot m in
-    let later = subst (λ y. NodesHold node_sizes (lacking_child reading p m c) (without (p ++ c ∷ []) paths) y) (sym v2_is)
-    (child_removed node_sizes reading paths v hold p slot k m leaf c u stands here digit below (λ i. no_bit leaf.child_bitmap i bare) gone stay
-    (lost.keeps.first_is ∙ hold.first_is) (lost.keeps.sizes ∙ hold.sizes_are) (lost.keeps.before 0 blank_node (let f = hold.first_is in omega arith)) sound) in
+    let fewer_here : rank bitmap 32 + 1 ≡ rank k.child_bitmap 32 = one_fewer bitmap k.child_bitmap c sets digit in
+    let long : length v2.slots ≡ length u.slots = ap (λ (y : Store Node). length y.slots) v2_is ∙ length-set u.slots slot (with_children k bitmap start tier) in
+    let later = subst (λ y. NodesHold node_sizes (lacking_child reading p (with_children k bitmap start tier) c) (without (p ++ c ∷ []) paths) y) (sym v2_is)
+    (child_removed node_sizes reading paths v hold p slot k (with_children k bitmap start tier) leaf c u stands here digit below (λ i. no_bit leaf.child_bitmap i bare)
+    (cleared bitmap k.child_bitmap c sets digit) (others_stay bitmap k.child_bitmap c sets digit)
+    (lost.keeps.first_is ∙ hold.first_is) (lost.keeps.sizes ∙ hold.sizes_are) (lost.keeps.before 0 blank_node (let f = hold.first_is in omega arith))
+    (subst (λ size. Sound blank_node (held tier start size (remove (child_items reading p k.child_bitmap) (rank k.child_bitmap c)) ++ live) u) size left)) in
     record {
       hold = later;
-      values = record {
-        bitmap = ap (λ (y : Node). y.value_bitmap) m_is ∙ ap (λ (y : Node). y.value_bitmap) same;
-        block = ap (λ (y : Node). y.value_block) m_is ∙ ap (λ (y : Node). y.value_block) same;
-        tier = ap (λ (y : Node). y.value_tier) m_is ∙ ap (λ (y : Node). y.value_tier) same;
-      };
+      values = subst (λ (y : Node). SameValues y (with_children k bitmap start tier)) same (record { bitmap = refl; block = refl; tier = refl });
       fewer = fewer_here ∙ ap (λ (y : Node). rank y.child_bitmap 32) same;
-      lessens = subst (λ t. Lessens MakesEntered node_sizes v v2 (rank n.child_bitmap 32) (rank m.child_bitmap 32) (child_block_size (Some n)) (size_if_any (rank m.child_bitmap 32) (size_in node_sizes t))) (sym tier_is)
-          (subst (λ (y : Node). Lessens MakesEntered node_sizes v v2 (rank y.child_bitmap 32) (rank m.child_bitmap 32) (child_block_size (Some y)) (size_if_any (rank m.child_bitmap 32) (size_in node_sizes tier))) same
-          (let l = lost.lessens (rank m.child_bitmap 32) fewer_here in record {
+      lessens = subst (λ (y : Node). Lessens MakesEntered node_sizes v v2 (rank y.child_bitmap 32) (rank bitmap 32) (child_block_size (Some y)) (size_if_any (rank bitmap 32) (size_in node_sizes tier))) same
+          (let l = lost.lessens (rank bitmap 32) fewer_here in record {
             has = l.has;
             steps = l.steps;
             grows = record {
-              longer = subst (λ n. LongerByOne node_sizes (free_counts v.tiers) (child_block_size (Some k)) (size_if_any (rank m.child_bitmap 32) (size_in node_sizes tier)) (length v.slots) n) (sym long) l.grows.longer;
-              made = subst (λ (y : Store Node). MakesEntered node_sizes v y (child_block_size (Some k)) (size_if_any (rank m.child_bitmap 32) (size_in node_sizes tier))) (sym v2_is) l.grows.made;
+              longer = subst (λ n. LongerByOne node_sizes (free_counts v.tiers) (child_block_size (Some k)) (size_if_any (rank bitmap 32) (size_in node_sizes tier)) (length v.slots) n) (sym long) l.grows.longer;
+              made = subst (λ (y : Store Node). MakesEntered node_sizes v y (child_block_size (Some k)) (size_if_any (rank bitmap 32) (size_in node_sizes tier))) (sym v2_is) l.grows.made;
             };
-          }));
-      settles = child_settles reading paths v v2 p c n m leaf hold is below later
-          (ap (λ (y : Node). value_block_size (Some y)) m_is ∙ ap (λ (y : Node). value_block_size (Some y)) same)
-          (let down = lost.down (rank m.child_bitmap 32) fewer_here in
-          let now : child_headroom m ≡ headroom_if_any (size_if_any (rank m.child_bitmap 32) (size_in node_sizes tier)) =
-          ap (λ t. headroom_if_any (size_if_any (rank m.child_bitmap 32) (size_in node_sizes t))) tier_is in
-          let was : child_headroom k ≡ child_headroom n = ap child_headroom same in omega (arith, down, long, now, was));
+          });
+      settles = child_settles reading paths v v2 p c n (with_children k bitmap start tier) leaf hold is below later (ap (λ (y : Node). value_block_size (Some y)) same)
+          (let down = lost.down (rank bitmap 32) fewer_here in let was : child_headroom k ≡ child_headroom n = ap child_headroom same in omega (arith, down, long, was));
     }

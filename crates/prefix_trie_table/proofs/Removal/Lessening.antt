@@ -48,12 +48,12 @@ module _ (sizes free : List ℕ) (before after : ℕ) (old new : Option ℕ) whe
   Between = (n : ℕ) × (o : ℕ) × (new ≡ Some n) × (old ≡ Some o) × (n ≤ o) × ((size : ℕ) → smallest_size sizes after ≡ Some size → size ≤ n) × Contains sizes n
 
   -- a block that stepped down has a size between the smallest and the old one
-  pub steps_between : goes_up 0 sizes ≡ true → (after < before → HasBlock sizes before old) → StepsDown sizes free before after old new → StepsBetween sizes before after old new
+  pub steps_between : goes_up 0 sizes ≡ true → (after < before → 0 < after → HasBlock sizes before old) → StepsDown sizes free before after old new → StepsBetween sizes before after old new
   steps_between up has s = record {
     fewer = s.fewer;
     same = s.same;
     none = s.none;
-    between = λ less some. elim (has_cases sizes before old (has less)) as (λ _. Between) [
+    between = λ less some. elim (has_cases sizes before old (has less some)) as (λ _. Between) [
       | inl none ↦ absurd (let n = none.0 in omega (arith, n, less))
       | inr h ↦ held less some h (s.one_of less some)
     ];
@@ -123,7 +123,7 @@ room_step sizes all seven n o (j, j_inside, j_is) (t, t_inside, t_is) less =
 module _ {S : Type 0} {Makes : List ℕ → Store S → Store S → Option ℕ → Option ℕ → Type 0} (sizes : List ℕ) (v w : Store S) (before after : ℕ) (old new : Option ℕ) (up : goes_up 0 sizes ≡ true)
     (l : Lessens Makes sizes v w before after old new) where
   pub lessens_between : StepsBetween sizes before after old new
-  lessens_between = steps_between sizes (free_counts v.tiers) before after old new up l.has l.steps
+  lessens_between = steps_between sizes (free_counts v.tiers) before after old new up (λ less some. l.has less) l.steps
 
   -- what the array may still make shrinks by as much as it grew
   pub lessens_down : all_rooms sizes ≡ true → length sizes ≡ 7 → after < before → length w.slots + headroom_if_any new ≤ length v.slots + headroom_if_any old

@@ -1,7 +1,7 @@
 -- What contracts see of a removal that prunes: the nodes left are those of the model.
 use Rattle.std.proofs.Common.{◌≡◌, ℕ, ◌+◌, ◌*◌, ◌/◌, ◌%◌, ◌≤◌, ◌⊎◌, inl, inr, Bool, true, false, cond, not, ◌&&◌, ◌||◌, List, [], ◌∷◌, ◌++◌, length, take, Option, None, Some, is_some, refl, sym, ap, ap₂, ◌∙◌, subst, arith, eqb-true, eq-eqb, length-append}
-use Rattle.std.proofs.lemmas.Bool.{false≢true, cases_Bool, cases_lt}
-use Rattle.std.proofs.lemmas.List.{take_at, take_all, take-take, length-take-le}
+use Rattle.std.proofs.lemmas.Bool.{false≢true, cases_Bool, cases_lt, true_from_ne_false, false_from_ne_true}
+use Rattle.std.proofs.lemmas.List.{nil_from_length, take_at, take_all, take-take, length-take-le}
 use Rattle.std.specs.FinMap.{contains_key, retain_keys}
 use Rattle.prefix_trie_bits.specs.Begins.{begins-trans}
 use Rattle.prefix_trie_bits.specs.Bits.{begins, digits}
@@ -69,10 +69,6 @@ five_more l k e = omega (arith, e)
 no_steps : (l n : ℕ) → n ≡ l / 5 → l % 5 ≡ 0 → n ≡ 0 → l ≡ 0
 no_steps l n e f z = omega (arith, e, f, z)
 
-empty_is : (s : List Bool) → length s ≡ 0 → s ≡ []
-empty_is [] h = refl
-empty_is (b ∷ s) h = absurd (omega (arith, h))
-
 module _ {T : Type 0} (q : List Bool) (reading : List ℕ → Option Node) (values : List ℕ → ℕ → Option T) (paths : List (List ℕ)) (v : Store Node)
     (w : Store (Option T)) (holds : Holds reading values paths v w) (s : State T) (is : IsShapeOf v.slots w.slots s) where
   home_is : has_node s.nodes (home q) ≡ is_some (reading (path_of q))
@@ -136,15 +132,12 @@ module _ {T : Type 0} (q : List Bool) (reading : List ℕ → Option Node) (valu
             | inr off ↦ absurd (clash _ gone (off_way (path_of u) off ∙ stood u h))
           ];
           not_root = λ e. clash _ gone (ap (λ x. is_some (p.to.later (path_of x))) e ∙ ap is_some p.to.hold.rooted);
-          no_key = λ k has. elim (cases_Bool (begins u k)) as (λ _. begins u k ≡ false) [
-            | inl hit ↦
-                let value : is_some (with_value values (path_of q) (bit_of q) None (path_of k) (bit_of k)) ≡ true =
-                ap is_some (sym (entries_without reading values paths v w holds q s is k)) ∙ has in
-                let node : is_some (p.to.later (path_of k)) ≡ true =
-                needs (p.to.later (path_of k)) (bit_of k) (sym (pruned_holds.cells.set_where (path_of k) (bit_of k)) ∙ value) in
-                absurd (clash _ gone (above_left (path_of u) (path_of k) node (begins-way u k five ∙ hit)))
-            | inr miss ↦ miss
-          ];
+          no_key = λ k has. false_from_ne_true (begins u k) (λ hit.
+              let value : is_some (with_value values (path_of q) (bit_of q) None (path_of k) (bit_of k)) ≡ true =
+              ap is_some (sym (entries_without reading values paths v w holds q s is k)) ∙ has in
+              let node : is_some (p.to.later (path_of k)) ≡ true =
+              needs (p.to.later (path_of k)) (bit_of k) (sym (pruned_holds.cells.set_where (path_of k) (bit_of k)) ∙ value) in
+              clash _ gone (above_left (path_of u) (path_of k) node (begins-way u k five ∙ hit)));
           alone = λ x there_x below. elim (cases_Bool (is_start (path_of x) (path_of q))) as (λ _. begins x (home q) ≡ true) [
             | inl on ↦ begins_home x (five_of x there_x) on
             | inr off ↦ absurd (clash _ gone (above_left (path_of u) (path_of x) (off_way (path_of x) off ∙ stood x there_x) (begins-way u x five ∙ below)))
@@ -215,7 +208,7 @@ module _ {T : Type 0} (q : List Bool) (reading : List ℕ → Option Node) (valu
           | inr high ↦
               let start : is_start (path_of u) (take p.level (path_of q)) ≡ true = start_of_more (path_of u) (path_of q) p.level on high in
               elim p.stops as (λ _. ⊥) [
-                | inl root ↦ out.not_root (empty_is u (no_steps (length u) (length (path_of u)) (path-length u) five (omega arith)))
+                | inl root ↦ out.not_root (nil_from_length u (no_steps (length u) (length (path_of u)) (path-length u) five (omega arith)))
                 | inr (inl some) ↦ let b = some_bit p.node.value_bitmap some in value_left u b.0 five start b.1 out.no_key
                 | inr (inr some) ↦
                     let c = some_bit p.node.child_bitmap some in
@@ -231,30 +224,21 @@ module _ {T : Type 0} (q : List Bool) (reading : List ℕ → Option Node) (valu
     nodes_are u = elim (cases_Bool (has_node s.nodes u)) as
         (λ _. has_node (nodes_without s.nodes s.entries q) u ≡ (is_node_depth u && is_some (p.to.later (path_of u)))) [
           | inl stands ↦ with_depth u stands (cases_Bool (is_some (p.to.later (path_of u))))
-          | inr lacks ↦ both_false _ _
-              (λ h. clash (has_node s.nodes u) lacks (laws.none_added s.nodes (without_entry s.entries q) q u h))
-              (λ h. clash (has_node s.nodes u) lacks
+          | inr lacks ↦
+              false_from_ne_true _ (λ h. clash (has_node s.nodes u) lacks (laws.none_added s.nodes (without_entry s.entries q) q u h))
+              ∙ sym (false_from_ne_true _ (λ h. clash (has_node s.nodes u) lacks
               (shape_nodes reading values paths v w holds s is u
               ∙ and-join (is_node_depth u) (is_some (reading (path_of u))) (and-first (is_node_depth u) (is_some (p.to.later (path_of u))) h)
-              (only_old (path_of u) (and-second (is_node_depth u) (is_some (p.to.later (path_of u))) h))))
+              (only_old (path_of u) (and-second (is_node_depth u) (is_some (p.to.later (path_of u))) h)))))
         ]
       where
         laws : PruningLaws T
         laws = pruning_laws T
 
-        both_false : (a b : Bool) → (a ≡ true → ⊥) → (b ≡ true → ⊥) → a ≡ b
-        both_false true b h k = absurd (h refl)
-        both_false false true h k = absurd (k refl)
-        both_false false false h k = refl
-
-        not_false : (a : Bool) → (a ≡ false → ⊥) → a ≡ true
-        not_false true h = refl
-        not_false false h = absurd (h refl)
-
         with_depth : (u : List Bool) → has_node s.nodes u ≡ true → (is_some (p.to.later (path_of u)) ≡ true) ⊎ (is_some (p.to.later (path_of u)) ≡ false) →
             has_node (nodes_without s.nodes s.entries q) u ≡ (is_node_depth u && is_some (p.to.later (path_of u)))
         with_depth u stands (inl left) =
-            not_false (has_node (nodes_without s.nodes s.entries q) u)
+            true_from_ne_false (has_node (nodes_without s.nodes s.entries q) u)
             (λ out. out_gone u stands ((laws.in_words s.nodes (without_entry s.entries q) q u stands).0 out) left)
             ∙ sym (and-join (is_node_depth u) (is_some (p.to.later (path_of u))) (depth_of u stands) left)
         with_depth u stands (inr gone) =

@@ -36,9 +36,10 @@ use Rattle.prefix_trie_table.proofs.Removal.Listed.{listed_below, none_listed}
 use Rattle.prefix_trie_table.proofs.Lookup.Finding.{reached_own}
 use Rattle.prefix_trie_table.proofs.Lookup.Going.{level_last, steps-all}
 use Rattle.prefix_trie_table.proofs.Removal.NodesLeft.{removed_without}
-use Rattle.prefix_trie_table.proofs.Retain.Retained.{read_held, slot_stays}
+use Rattle.prefix_trie_table.proofs.Retain.Retained.{read_held}
+use Rattle.prefix_trie_table.proofs.Removal.Pruning.{slot_stays}
 use Rattle.prefix_trie_table.proofs.Insertion.Rooms.{Grows-same}
-use Rattle.prefix_trie_table.proofs.Removal.Settling.{Settles-nodes}
+use Rattle.prefix_trie_table.proofs.Removal.Settling.{settles_nodes, settles_then}
 use Rattle.prefix_trie_table.proofs.Tree.Shapes.{reads_node, shape_entries}
 use Rattle.prefix_trie_table.proofs.Tree.Trees.{reads}
 
@@ -238,7 +239,7 @@ module _ {T : Type 0} (width : ℕ) (b : List Bool) (len : ℕ) (within : len �
         above = λ p less. absurd (omega (arith, less));
         nodes = stays_then v v2 v3 lasts.nodes (stays_grown v2 v3 24 room);
         cells = lasts.cells;
-        settles = Settles-nodes v v2 v3 w w2 lasts.settles settles;
+        settles = settles_then v v2 v3 _ _ _ lasts.settles (settles_nodes v2 v3 (length w2.slots) settles);
         blocks = λ x. blocks_then _ _ _ (lasts.blocks x)
             (subst (BlocksBetween (read v2.slots x)) (sym (later x))
             (pruned_between (read v2.slots) t.paths (path_of (take len b)) pruned.level pruned.node v2 v3 pruned.to x));

@@ -16,20 +16,22 @@ use Rattle.prefix_trie_table.proofs.Strings.Bare.{no_bit}
 use Rattle.prefix_trie_table.proofs.Tree.Children.{changed, changed_below, changed_here, changed_other}
 use Rattle.prefix_trie_table.proofs.Counts.EntryCounts.{count_sum}
 use Rattle.prefix_trie_table.proofs.Strings.PathSums.{sum_lacking}
-use Rattle.prefix_trie_table.proofs.Removal.Settling.{NodesSettle-none, NodesSettle-then}
+use Rattle.prefix_trie_table.proofs.Removal.Settling.{settles_none, settles_then}
 use Rattle.prefix_trie_table.proofs.Strings.Starts.{is_start_take}
 use Rattle.prefix_trie_table.proofs.Tree.Trees.{listed_once, slot_holds}
 use Rattle.prefix_trie_table.proofs.Tree.Values.{cells_lacking_child}
 
--- a node that is no deeper than p stands where it stood when a child of p comes or goes
+-- a node stands where it stood where the nodes above it are as they were
+pub slot_stays : (f g : List ℕ → Option Node) (p : List ℕ) (slot : ℕ) → ((q : List ℕ) → length q < length p → g q ≡ f q) → IsSlot f p slot → IsSlot g p slot
+slot_stays f g p slot same (at_root) = at_root
+slot_stays f g p slot same (at_child r c n is bit) = at_child r c n (same r (omega (arith, length-append r (c ∷ []))) ∙ is) bit
+
+-- so it does, where it is no deeper than p, when a child of p comes or goes
 slots_still : (reading : List ℕ → Option Node) (p : List ℕ) (m : Node) (c : ℕ) (o : Option Node) (q : List ℕ) (s : ℕ) → IsSlot reading q s →
     length q ≤ length p → IsSlot (changed reading p m c o) q s
-slots_still reading p m c o q s (at_root) short = at_root
-slots_still reading p m c o q s (at_child r d k parent bit) short =
-    let less : length r + 1 ≤ length p = (let l = length-append r (d ∷ []) in omega arith) in
-    at_child r d k
-    (changed_other reading p m c o r (λ e. let l : length r ≡ length p = ap (λ (xs : List ℕ). length xs) e in omega arith)
-    (λ e. let l : length r ≡ length p + 1 = ap (λ (xs : List ℕ). length xs) e ∙ length-append p (c ∷ []) in omega arith) ∙ parent) bit
+slots_still reading p m c o q s at short = slot_stays reading (changed reading p m c o) q s (λ r less. changed_other reading p m c o r
+    (λ e. let l : length r ≡ length p = ap (λ (xs : List ℕ). length xs) e in omega arith)
+    (λ e. let l : length r ≡ length p + 1 = ap (λ (xs : List ℕ). length xs) e ∙ length-append p (c ∷ []) in omega arith)) at
 
 -- what holds as the way is pruned
 pub record Pruning (reading : List ℕ → Option Node) (paths : List (List ℕ)) (path : List ℕ) (way : List NodeSlot) (level : ℕ) (node : Node)
@@ -56,7 +58,7 @@ pruning_first reading paths path way level node v hold slots is all = record {
     lessens = subst (λ o. Lessens MakesFew node_sizes v v (own_children o) (own_children (Some node)) (child_block_size o) (child_block_size (Some node))) (sym (ap reading (take_all level path (omega arith)) ∙ is))
         (lessens_none MakesFew node_sizes v v (own_children (Some node)) (child_block_size (Some node)) (children_none (Some node)) refl
         (λ size there. (omega arith, omega arith)));
-    settles = NodesSettle-none v;
+    settles = settles_none v 0;
   };
   slots = slots;
 }
@@ -174,7 +176,7 @@ module _ (reading : List ℕ → Option Node) (paths : List (List ℕ)) (path : 
           whole = λ end. absurd (let i = inside in omega arith);
           lessens = subst (λ o. Lessens MakesFew node_sizes before w (own_children o) (own_children (Some m)) (child_block_size o) (child_block_size (Some m))) (sym was)
               (lessens_from before v w p.to.hold.sizes_are back _ _ _ _ one.lessens);
-          settles = NodesSettle-then before v w p.to.settles one.settles;
+          settles = settles_then before v w 0 0 0 p.to.settles one.settles;
         };
         slots = λ k h.
             slots_still p.to.later (take level path) m c None (take k path) (slot_in way k) (p.slots k (omega arith))

@@ -1,5 +1,5 @@
 -- That the calls that take values and nodes out raise nothing that the arrays may reach.
-use Rattle.std.proofs.Common.{◌≡◌, inl, inr, Bool, true, not, ℕ, ◌+◌, ◌*◌, ◌<◌, ◌≤◌, nat_lt, List, [], ◌∷◌, ◌++◌, length, set, sum_by, All, Option, None, Some, is_some, refl, sym, ap, ap₂, ◌∙◌, subst, arith}
+use Rattle.std.proofs.Common.{◌≡◌, inl, inr, Bool, true, not, ℕ, ◌+◌, ◌*◌, ◌<◌, ◌≤◌, nat_lt, List, [], ◌∷◌, ◌++◌, length, set, sum_by, All, Option, None, Some, is_some, refl, sym, ap, ◌∙◌, subst, arith}
 use Rattle.std.proofs.lemmas.List.{length-set}
 use Rattle.std.proofs.lemmas.List.Elements.{All-nil, All-cons}
 use Rattle.std.proofs.lemmas.List.Filters.{sum_by-filter_both}
@@ -16,7 +16,7 @@ use Rattle.prefix_trie_table.specs.Store.{Store, size_in, size_if_any}
 use Rattle.prefix_trie_table.specs.Forest.{without, node_or_blank, lacking_child, NodesHold}
 use Rattle.prefix_trie_table.specs.Shape.{IsShapeOf}
 use Rattle.prefix_trie_table.specs.Tables.{IsTable}
-use Rattle.prefix_trie_table.specs.Settling.{smaller_sizes, headroom, headroom_if_any, child_headroom, value_headroom, node_reach, cell_reach, Settles, NodesSettle}
+use Rattle.prefix_trie_table.specs.Settling.{smaller_sizes, headroom, headroom_if_any, child_headroom, value_headroom, SettlesBy, Settles, NodesSettle}
 use Rattle.prefix_trie_table.proofs.Tree.Invariant.{some_table}
 use Rattle.prefix_trie_table.proofs.Strings.BitLists.{rank-zero-all}
 use Rattle.prefix_trie_table.proofs.Tree.Trees.{listed_once}
@@ -46,34 +46,18 @@ no_own_values = ap (λ n. headroom_if_any (size_if_any n (size_in cell_sizes 0))
 
 -- ---- one after another
 
-module _ {T : Type 0} where
-  pub Settles-none : (v v2 : Store Node) (w w2 : Store (Option T)) → v2 ≡ v → w2 ≡ w → Settles v v2 w w2
-  Settles-none v v2 w w2 ev ew = record {
-    nodes = (let e : node_reach v2 ≡ node_reach v = ap node_reach ev in omega (arith, e));
-    cells = (let e : cell_reach v2 w2 ≡ cell_reach v w = ap₂ cell_reach ev ew in omega (arith, e));
-  }
+pub settles_none : (v : Store Node) (long : ℕ) → SettlesBy v v long long
+settles_none v long = record { nodes = omega arith; cells = omega arith }
 
-  pub Settles-then : (v v2 v3 : Store Node) (w w2 w3 : Store (Option T)) → Settles v v2 w w2 → Settles v2 v3 w2 w3 → Settles v v3 w w3
-  Settles-then v v2 v3 w w2 w3 a b = record {
-    nodes = (let x = a.nodes in let y = b.nodes in omega (arith, x, y));
-    cells = (let x = a.cells in let y = b.cells in omega (arith, x, y));
-  }
-
-  -- the nodes alone
-  pub Settles-nodes : (v v2 v3 : Store Node) (w w2 : Store (Option T)) → Settles v v2 w w2 → NodesSettle v2 v3 → Settles v v3 w w2
-  Settles-nodes v v2 v3 w w2 a b = record {
-    nodes = (let x = a.nodes in let y = b.nodes in omega (arith, x, y));
-    cells = (let x = a.cells in let y = b.values in omega (arith, x, y));
-  }
-
-pub NodesSettle-none : (v : Store Node) → NodesSettle v v
-NodesSettle-none v = record { nodes = omega arith; values = omega arith }
-
-pub NodesSettle-then : (v v2 v3 : Store Node) → NodesSettle v v2 → NodesSettle v2 v3 → NodesSettle v v3
-NodesSettle-then v v2 v3 a b = record {
-  nodes = (let x = a.nodes in let y = b.nodes in omega (arith, x, y));
-  values = (let x = a.values in let y = b.values in omega (arith, x, y));
+pub settles_then : (v v2 v3 : Store Node) (a b c : ℕ) → SettlesBy v v2 a b → SettlesBy v2 v3 b c → SettlesBy v v3 a c
+settles_then v v2 v3 a b c one two = record {
+  nodes = (let x = one.nodes in let y = two.nodes in omega (arith, x, y));
+  cells = (let x = one.cells in let y = two.cells in omega (arith, x, y));
 }
+
+-- the nodes alone
+pub settles_nodes : (v v2 : Store Node) (long : ℕ) → NodesSettle v v2 → SettlesBy v v2 long long
+settles_nodes v v2 long one = record { nodes = one.nodes; cells = (let x = one.cells in omega (arith, x)) }
 
 -- ---- a value is gone
 
@@ -113,7 +97,7 @@ module _ (nodes : List ℕ → Option Node) (paths : List (List ℕ)) (v v2 : St
       let children = dropped_sum child_headroom no_children in
       let values = dropped_sum value_headroom no_own_values in
       let own : value_headroom m ≡ value_headroom n = ap headroom_if_any same in
-      record { nodes = omega (arith, children, shrunk); values = omega (arith, values, own) }
+      record { nodes = omega (arith, children, shrunk); cells = omega (arith, values, own) }
 
 -- ---- what all nodes may still make
 

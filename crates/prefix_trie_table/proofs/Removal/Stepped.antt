@@ -145,7 +145,7 @@ module _ {T : Type 0} (reading : List ℕ → Option Node) (values : List ℕ �
         let same = taken_children reading paths values (path_of key) (bit_of key) u w w2 t x in
         steps_read (StepsDown node_sizes (free_counts v.tiers)) (sym same.0) refl (sym same.1) refl
         (subst (λ ts. ChildrenStep (free_counts ts) (t.later x) (p.to.later x)) blocks.tiers
-        (pruned_children t.later paths (path_of key) p.level p.node u v2 p.to x));
+        (pruned_children t.later paths (path_of key) p.level p.node u v2 p.to x).0);
     of_cells =
         subst (λ o. GrowsBy MakesEntered cell_sizes w w2 (value_block_size (reading (path_of key))) o)
         (sym (drops_values t.later paths p.to.later p.to.left p.to.drops (path_of key)).1)

@@ -1,7 +1,7 @@
 -- What a removal does to the size of a block, by the tiers and counts of nodes.
-use Rattle.std.proofs.Common.{◌≡◌, ◌≢◌, ℕ, ◌≤◌, ◌⊎◌, inl, inr, false, List, [], ◌∷◌, ◌++◌, length, take, Option, None, Some, is_some, refl, sym, ap, ◌∙◌, subst, arith}
+use Rattle.std.proofs.Common.{◌≡◌, ◌≢◌, ℕ, ◌<◌, ◌≤◌, ◌⊎◌, inl, inr, false, List, [], ◌∷◌, ◌++◌, length, take, Option, None, Some, is_some, refl, sym, ap, ◌∙◌, subst, arith}
 use Rattle.std.proofs.lemmas.Bool.{true≢false, false≢true, cases_Bool, cases_lt}
-use Rattle.prefix_trie_bits.specs.Model.Blocks.{StepsDown, LongerByOne, MakesAtMost, made_of}
+use Rattle.prefix_trie_bits.specs.Model.Blocks.{HasBlock, StepsDown, LongerByOne, MakesAtMost, made_of}
 use Rattle.prefix_trie_table.specs.declared.allocator.node.Node.{Node}
 use Rattle.prefix_trie_table.specs.Bitmaps.{rank}
 use Rattle.prefix_trie_table.specs.Cells.{node_sizes, cell_sizes}
@@ -137,29 +137,38 @@ drops_values reading paths later left (more f ps v p c n m leaf drops hold is be
 
 module _ (reading : List ℕ → Option Node) (paths : List (List ℕ)) (path : List ℕ) (level : ℕ) (node : Node) (v v2 : Store Node)
     (p : PrunedTo reading paths path level node v v2) where
-  pruned_on : (k : ℕ) → k ≤ length path → ChildrenStep (free_counts v.tiers) (reading (take k path)) (p.later (take k path))
-  pruned_on k within = elim (cases_lt k level) as (λ _. ChildrenStep (free_counts v.tiers) (reading (take k path)) (p.later (take k path))) [
-    | inl high ↦ children_kept (free_counts v.tiers) (reading (take k path)) (p.later (take k path))
-        (same_node own_children child_block_size (reading (take k path)) (p.later (take k path)) (p.above k high))
-    | inr deep ↦ elim (cases_lt level k) as (λ _. ChildrenStep (free_counts v.tiers) (reading (take k path)) (p.later (take k path))) [
-      | inl below ↦
-          let gone : p.later (take k path) ≡ None = p.gone k below within in
-          steps_gone node_sizes (free_counts v.tiers) (own_children (reading (take k path))) (own_children (p.later (take k path)))
-          (child_block_size (reading (take k path))) (child_block_size (p.later (take k path))) (ap own_children gone) (ap child_block_size gone)
-          (children_none (reading (take k path)))
-      | inr up ↦ subst (λ l. ChildrenStep (free_counts v.tiers) (reading (take l path)) (p.later (take l path))) (let e : level ≡ k = omega arith in e)
-          (subst (ChildrenStep (free_counts v.tiers) (reading (take level path))) (sym p.is) p.lessens.steps)
+  -- the list of the children of a node steps down, and where some are left of more it stood in a block
+  abbrev Steps : List ℕ → Option Node → Type 0
+  Steps x o =
+      ChildrenStep (free_counts v.tiers) (reading x) o
+      × (own_children o < own_children (reading x) → 0 < own_children o → HasBlock node_sizes (own_children (reading x)) (child_block_size (reading x)))
+
+  as_it_was : (x : List ℕ) → p.later x ≡ reading x → Steps x (p.later x)
+  as_it_was x e = (
+    children_kept (free_counts v.tiers) (reading x) (p.later x) (same_node own_children child_block_size (reading x) (p.later x) e),
+    λ less some. absurd (let s = ap own_children e in omega (arith, less, s)),
+  )
+
+  pruned_on : (k : ℕ) → k ≤ length path → Steps (take k path) (p.later (take k path))
+  pruned_on k within = elim (cases_lt k level) as (λ _. Steps (take k path) (p.later (take k path))) [
+    | inl high ↦ as_it_was (take k path) (p.above k high)
+    | inr deep ↦ elim (cases_lt level k) as (λ _. Steps (take k path) (p.later (take k path))) [
+      | inl below ↦ subst (Steps (take k path)) (sym (p.gone k below within)) (
+        steps_gone node_sizes (free_counts v.tiers) (own_children (reading (take k path))) 0 (child_block_size (reading (take k path))) None refl refl
+            (children_none (reading (take k path))),
+        λ less some. absurd (omega (arith, some)),
+      )
+      | inr up ↦ subst (λ l. Steps (take l path) (p.later (take l path))) (let e : level ≡ k = omega arith in e)
+          (subst (Steps (take level path)) (sym p.is) (p.lessens.steps, λ less some. p.lessens.has less))
     ]
   ]
 
   -- the block of the children of the node where pruning stopped steps down, as do those of the nodes that are gone, and each other is
   -- as it was
-  pub pruned_children : (x : List ℕ) → ChildrenStep (free_counts v.tiers) (reading x) (p.later x)
-  pruned_children x = elim (cases_Bool (is_start x path)) as (λ _. ChildrenStep (free_counts v.tiers) (reading x) (p.later x)) [
-    | inl on ↦
-        let s = start_is x path on in
-        subst (λ y. ChildrenStep (free_counts v.tiers) (reading y) (p.later y)) s.0 (pruned_on (length x) s.1)
-    | inr off ↦ children_kept (free_counts v.tiers) (reading x) (p.later x) (same_node own_children child_block_size (reading x) (p.later x) (p.off x off))
+  pub pruned_children : (x : List ℕ) → Steps x (p.later x)
+  pruned_children x = elim (cases_Bool (is_start x path)) as (λ _. Steps x (p.later x)) [
+    | inl on ↦ (let s = start_is x path on in subst (λ y. Steps y (p.later y)) s.0 (pruned_on (length x) s.1))
+    | inr off ↦ as_it_was x (p.off x off)
   ]
 
   -- the array of nodes grew by the block of that node at most

@@ -1,15 +1,15 @@
 -- Asking at some places of a node and then at others is asking at all of them.
-use Rattle.std.proofs.Common.{◌≡◌, ◌≤◌, Bool, true, false, cond, ◌||◌, nat_lt, List, [], ◌∷◌, ◌++◌, length, None, is_some, refl, sym, ap, ap₂, ◌∙◌, subst, arith, inl, inr, append_assoc, length-append, Less}
+use Rattle.std.proofs.Common.{◌≡◌, ◌+◌, ◌≤◌, take, drop, length-drop, take-append-drop, Bool, true, false, cond, ◌||◌, nat_lt, List, [], ◌∷◌, ◌++◌, length, None, is_some, refl, sym, ap, ap₂, ◌∙◌, subst, arith, inl, inr, append_assoc, length-append, Less}
 use Rattle.std.specs.List.{All, AllByRecursion}
 use Rattle.std.proofs.lemmas.List.Elements.{All-head, All-tail}
 use Rattle.std.specs.List.Sorted.{IsStrictlySortedBy}
 use Rattle.std.proofs.lemmas.Bool.{false≢true, cases_lt, lt-ltb, le-ltb}
 use Rattle.std.proofs.lemmas.Grind.{flat_map-append}
-use Rattle.std.proofs.lemmas.List.{append_cancel_left}
+use Rattle.std.proofs.lemmas.List.{append_cancel_left, length-take-le}
 use Rattle.std.proofs.lemmas.List.Folds.{list_any-append}
 use Rattle.std.specs.FinMap.{get, entries}
 use Rattle.prefix_trie_bits.specs.Bits.{begins}
-use Rattle.prefix_trie_bits.specs.Begins.{begins-append, begins-length, begins-trans, begins-linear, begins-same-length}
+use Rattle.prefix_trie_bits.specs.Begins.{begins-append, begins-refl, begins-rest, begins-from-rest, begins-length, begins-trans, begins-linear, begins-same-length}
 use Rattle.prefix_trie_bits.specs.Order.{listing_cmp, same_string}
 use Rattle.prefix_trie_bits.specs.Model.Asking.{AsksInOrder, MayAskInOrder}
 use Rattle.prefix_trie_bits.specs.Model.Entries.{Entries, part_below}
@@ -64,13 +64,35 @@ under_at_some s (t ∷ ts) q k h e = elim (or-cases (is_under s t q) (is_under_s
     later true h = refl
     later false h = h
 
--- what is at a place goes on from the node, and so does what is under it
-pub at_begins : (s t q : List Bool) → is_at s t q ≡ true → begins s q ≡ true
-at_begins s t q = go (nat_lt (length t) 5)
+-- what is at a place goes on from its string, and so from the node
+pub at_goes_on : (s t k : List Bool) → is_at s t k ≡ true → begins (s ++ t) k ≡ true
+at_goes_on s t k = go (nat_lt (length t) 5)
   where
-    go : (b : Bool) → cond b (same_string q (s ++ t)) (begins (s ++ t) q) ≡ true → begins s q ≡ true
-    go true h = subst (λ x. begins s x ≡ true) (sym (same_string-is q (s ++ t) h)) (begins-append s t)
-    go false h = begins-trans s (s ++ t) q (begins-append s t) h
+    go : (b : Bool) → cond b (same_string k (s ++ t)) (begins (s ++ t) k) ≡ true → begins (s ++ t) k ≡ true
+    go true h = subst (λ x. begins (s ++ t) x ≡ true) (sym (same_string-is k (s ++ t) h)) (begins-refl (s ++ t))
+    go false h = h
+
+pub at_begins : (s t q : List Bool) → is_at s t q ≡ true → begins s q ≡ true
+at_begins s t q h = begins-trans s (s ++ t) q (begins-append s t) (at_goes_on s t q h)
+
+-- what is at one of some places is at a place of them
+pub at_some_one : (P : List Bool → Type 0) (s : List Bool) (ts : List (List Bool)) (q : List Bool) → All P ts → is_at_some s ts q ≡ true →
+    (t : List Bool) × P t × (is_at s t q ≡ true)
+at_some_one P s [] q all h = absurd (false≢true h)
+at_some_one P s (t ∷ ts) q all h = elim (or-cases (is_at s t q) (is_at_some s ts q) h) as (λ _. (t : List Bool) × P t × (is_at s t q ≡ true)) [
+  | inl here ↦ (t, All-head P t ts all, here)
+  | inr later ↦ at_some_one P s ts q (All-tail P t ts all) later
+]
+
+-- the five bits with which a string goes on from another
+pub five_further : (c q : List Bool) → begins c q ≡ true → length c + 5 ≤ length q →
+    (length (take 5 (drop (length c) q)) ≡ 5) × (begins (c ++ take 5 (drop (length c) q)) q ≡ true)
+five_further c q below longer = (
+  length-take-le 5 (drop (length c) q) (omega (arith, length-drop (length c) q, longer)),
+  begins-from-rest (c ++ take 5 (drop (length c) q)) q (drop 5 (drop (length c) q))
+      (begins-rest c q below ∙ ap (λ r. c ++ r) (sym (take-append-drop 5 (drop (length c) q)))
+      ∙ sym (append_assoc c (take 5 (drop (length c) q)) (drop 5 (drop (length c) q)))),
+)
 
 -- a string is at one place of a node
 pub one_place : (s t u q : List Bool) → length t ≤ 5 → length u ≤ 5 → is_at s t q ≡ true → is_at s u q ≡ true → t ≡ u

@@ -1,13 +1,12 @@
 -- Asking at one value, at all places of a node, and below a child.
-use Rattle.std.proofs.Common.{◌≡◌, ℕ, ◌+◌, ◌%◌, ◌≤◌, Bool, true, false, cond, ◌||◌, nat_lt, List, [], ◌∷◌, ◌++◌, length, take, drop, get_or, None, Some, refl, sym, ap, ◌∙◌, subst, arith, inl, inr, append-nil, append_assoc, length-drop, take-append-drop}
+use Rattle.std.proofs.Common.{◌≡◌, ℕ, ◌+◌, ◌%◌, ◌≤◌, Bool, true, false, cond, ◌||◌, nat_lt, List, [], ◌∷◌, ◌++◌, length, take, drop, get_or, None, Some, refl, sym, ap, ◌∙◌, subst, arith, inl, inr, append-nil}
 use Rattle.std.specs.List.{All, Contains}
-use Rattle.std.proofs.lemmas.Bool.{false≢true, cases_Bool}
-use Rattle.std.proofs.lemmas.List.{length-take-le}
-use Rattle.std.proofs.lemmas.List.Elements.{All-head, All-tail, Contains-get_or}
+use Rattle.std.proofs.lemmas.Bool.{false≢true, cases_Bool, true_from_ne_false}
+use Rattle.std.proofs.lemmas.List.Elements.{Contains-get_or}
 use Rattle.std.proofs.lemmas.List.Folds.{list_any_at}
 use Rattle.std.specs.FinMap.{get}
 use Rattle.prefix_trie_bits.specs.Bits.{begins}
-use Rattle.prefix_trie_bits.specs.Begins.{begins-refl, begins-append, begins-rest, begins-length, begins-trans, begins-same-length, begins-from-rest}
+use Rattle.prefix_trie_bits.specs.Begins.{begins-refl, begins-append, begins-length, begins-trans, begins-same-length}
 use Rattle.prefix_trie_bits.specs.Order.{same_string}
 use Rattle.prefix_trie_bits.specs.Places.{is_in, places}
 use Rattle.prefix_trie_bits.specs.Model.Asking.{AsksInOrder, MayAskInOrder}
@@ -20,7 +19,7 @@ use Rattle.prefix_trie_bits.proofs.Model.Members.{get-without_entry, same_string
 use Rattle.prefix_trie_bits.proofs.Model.NodeListings.{listing_by_node_places, listing_at_value, listing_at_no_value, listing_at_child, listing_of_root}
 use Rattle.prefix_trie_table.specs.Retaining.{is_at, is_at_some, is_under, is_under_some, Needs, AsksUpTo, Retains}
 use Rattle.prefix_trie_table.proofs.Strings.Plain.{fifth_more, no_or_yes}
-use Rattle.prefix_trie_table.proofs.Retain.Asked.{or-first, at_value, at_child, under_value, under_child, at_begins, one_place, place_same}
+use Rattle.prefix_trie_table.proofs.Retain.Asked.{or-first, at_value, at_child, under_value, under_child, at_begins, one_place, place_same, at_some_one, five_further}
 
 -- ---- a value
 
@@ -67,17 +66,6 @@ module _ {F T : Type 0} (asks : F → List Bool → T → Bool → F → Type 0)
   }
 
 -- ---- all places of a node
-
-at_some_one : (P : List Bool → Type 0) (s : List Bool) (ts : List (List Bool)) (q : List Bool) → All P ts → is_at_some s ts q ≡ true →
-    (t : List Bool) × P t × (is_at s t q ≡ true)
-at_some_one P s [] q all h = absurd (false≢true h)
-at_some_one P s (t ∷ ts) q all h = elim (cases_Bool (is_at s t q)) as (λ _. (t : List Bool) × P t × (is_at s t q ≡ true)) [
-  | inl here ↦ (t, All-head P t ts all, here)
-  | inr miss ↦ at_some_one P s ts q (All-tail P t ts all) (sym (ap (λ b. b || is_at_some s ts q) miss) ∙ h)
-]
-
-five_more : (c q : List Bool) → length c % 5 ≡ 0 → length q % 5 ≡ 0 → length c ≤ length q → (length q ≡ length c → ⊥) → length c + 5 ≤ length q
-five_more c q one two long ne = fifth_more (length c) (length q) one two long ne
 
 module _ {F T : Type 0} (asks : F → List Bool → T → Bool → F → Type 0) (accepts : F → List Bool → T → Type 0) (c : List Bool) (values children : ℕ)
     (ts : List (List Bool)) (all : ts ≡ places values children)
@@ -132,31 +120,19 @@ module _ {F T : Type 0} (asks : F → List Bool → T → Bool → F → Type 0)
       before = retains.fewer q there
 
       longer : length c + 5 ≤ length q
-      longer = five_more c q whole (depths q before) (begins-length c q below) (λ e. ne (sym (begins-same-length c q below (sym e))))
+      longer = fifth_more (length c) (length q) whole (depths q before) (begins-length c q below) (λ e. ne (sym (begins-same-length c q below (sym e))))
 
-      u : List Bool
-      u = take 5 (drop (length c) q)
-
-      five : length (take 5 (drop (length c) q)) ≡ 5
-      five = length-take-le 5 (drop (length c) q) (omega (arith, length-drop (length c) q, longer))
-
-      at : begins (c ++ take 5 (drop (length c) q)) q ≡ true
-      at =
-          begins-from-rest (c ++ take 5 (drop (length c) q)) q (drop 5 (drop (length c) q))
-          (begins-rest c q below ∙ ap (λ r. c ++ r) (sym (take-append-drop 5 (drop (length c) q)))
-          ∙ sym (append_assoc c (take 5 (drop (length c) q)) (drop 5 (drop (length c) q))))
+      further : (length (take 5 (drop (length c) q)) ≡ 5) × (begins (c ++ take 5 (drop (length c) q)) q ≡ true)
+      further = five_further c q below longer
 
       among : is_in values children (take 5 (drop (length c) q)) ≡ true
-      among = elim (cases_Bool (is_in values children (take 5 (drop (length c) q)))) as (λ _. is_in values children (take 5 (drop (length c) q)) ≡ true) [
-        | inl hit ↦ hit
-        | inr miss ↦ absurd (bare (take 5 (drop (length c) q)) q five miss at before)
-      ]
+      among = true_from_ne_false (is_in values children (take 5 (drop (length c) q))) (λ miss. bare (take 5 (drop (length c) q)) q further.0 miss further.1 before)
 
       under : is_under_some c ts q ≡ true
       under =
-          let h = every (take 5 (drop (length c) q)) (omega (arith, five)) among in
+          let h = every (take 5 (drop (length c) q)) (omega (arith, further.0)) among in
           list_any_at (λ t. is_under c t q) ts h.0 (take 5 (drop (length c) q)) h.1
-          (ap (λ t. is_under c t q) h.2 ∙ under_child c (take 5 (drop (length c) q)) q five ∙ at)
+          (ap (λ t. is_under c t q) h.2 ∙ under_child c (take 5 (drop (length c) q)) q further.0 ∙ further.1)
 
   -- so asking at all of them is asking below the child at a place of the node above, where the child goes unless it is needed
   module _ (s t : List Bool) (five : length t ≡ 5) (is : c ≡ s ++ t) (later : Nodes) (fewer : (q : List Bool) → has_node later q ≡ true → has_node y.nodes q ≡ true)

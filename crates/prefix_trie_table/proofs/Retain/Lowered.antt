@@ -40,7 +40,7 @@ use Rattle.prefix_trie_table.proofs.Strings.Keys.{same_way}
 use Rattle.prefix_trie_table.proofs.Strings.Placing.{step_below, string_at}
 use Rattle.prefix_trie_table.proofs.Retain.Placed.{value_iff, child_iff, nothing_at, none_below_it}
 use Rattle.prefix_trie_table.proofs.Removal.Pruning.{drops_cells, drops_count}
-use Rattle.prefix_trie_table.proofs.Removal.Settling.{Settles-nodes}
+use Rattle.prefix_trie_table.proofs.Removal.Settling.{settles_nodes, settles_then}
 use Rattle.prefix_trie_table.proofs.Retain.Retained.{are_nodes, read_held, here_length, here_whole, here_levels, path_levels, site_stays}
 use Rattle.prefix_trie_table.proofs.Tree.Shapes.{reads_node, shape_of, shape_entries}
 use Rattle.prefix_trie_table.specs.Shape.{IsShapeOf}
@@ -360,7 +360,7 @@ module _ {K T : Type 0} (IsKey : K → Type 0) (bits : K → List Bool) (width :
           above = above3;
           nodes = stays_then v v2 v3 lasts.nodes (stays_grown v2 v3 24 room);
           cells = lasts.cells;
-          settles = Settles-nodes v v2 v3 w w2 lasts.settles one.settles;
+          settles = settles_then v v2 v3 _ _ _ lasts.settles (settles_nodes v2 v3 (length w2.slots) one.settles);
           blocks = λ x. blocks_then _ _ _ (lasts.blocks x)
               (subst (BlocksBetween (read v2.slots x)) (sym (read3 x))
               (dropped_between (read v2.slots) table2.paths here c n m left v2 v3 one still_site.stands leaf_is bare x));

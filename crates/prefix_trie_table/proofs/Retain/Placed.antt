@@ -35,7 +35,7 @@ use Rattle.prefix_trie_table.specs.Tables.{IsTrie}
 use Rattle.prefix_trie_table.proofs.Retain.Asked.{at_value, at_child, under_at_some, one_place, apart_first, asked_both, may_ask_first, may_ask_then}
 use Rattle.prefix_trie_table.proofs.Strings.Bits.{has_bit-is}
 use Rattle.prefix_trie_table.proofs.Strings.Placing.{below_node, step_below}
-use Rattle.prefix_trie_table.proofs.Removal.Settling.{Settles-none, Settles-then}
+use Rattle.prefix_trie_table.proofs.Removal.Settling.{settles_none, settles_then}
 use Rattle.prefix_trie_table.proofs.Retain.Retained.{here_levels, here_whole}
 use Rattle.prefix_trie_table.proofs.Tree.Shapes.{shape_entries, shape_nodes, reads_node}
 use Rattle.prefix_trie_table.proofs.Walk.Spots.{place-value, place-child}
@@ -231,7 +231,7 @@ lasts_both level v v2 v3 w w2 w3 a b = record {
   above = λ q less. b.above q less ∙ a.above q less;
   nodes = stays_then v v2 v3 a.nodes b.nodes;
   cells = stays_then w w2 w3 a.cells b.cells;
-  settles = Settles-then v v2 v3 w w2 w3 a.settles b.settles;
+  settles = settles_then v v2 v3 _ _ _ a.settles b.settles;
   blocks = λ x. blocks_then _ _ _ (a.blocks x) (b.blocks x);
 }
 
@@ -240,6 +240,6 @@ lasts_none level v w = record {
   above = λ q less. refl;
   nodes = stays_none v;
   cells = stays_none w;
-  settles = Settles-none v v w w refl refl;
+  settles = settles_none v (length w.slots);
   blocks = λ x. blocks_still (read v.slots x) (read v.slots x) refl;
 }

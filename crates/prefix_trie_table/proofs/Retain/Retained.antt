@@ -1,7 +1,7 @@
 -- What a table is once a test was asked at a place of a node.
-use Rattle.std.proofs.Common.{◌≡◌, ℕ, ◌+◌, ◌-◌, ◌*◌, ◌/◌, ◌%◌, ◌<◌, ◌≤◌, Bool, true, ◌==◌, List, [], ◌∷◌, ◌++◌, length, take, drop, Option, None, Some, is_some, refl, sym, ap, ap₂, ◌∙◌, subst, arith, inl, inr, length-append, eqb-true}
+use Rattle.std.proofs.Common.{◌≡◌, ℕ, ◌+◌, ◌-◌, ◌*◌, ◌/◌, ◌%◌, ◌<◌, ◌≤◌, Bool, true, ◌==◌, List, [], ◌++◌, length, take, drop, Option, None, Some, is_some, refl, sym, ap, ap₂, ◌∙◌, subst, arith, inl, inr, eqb-true}
 use Rattle.std.specs.FinMap.{get}
-use Rattle.std.proofs.lemmas.Bool.{false≢true, cases_Bool}
+use Rattle.std.proofs.lemmas.Bool.{false≢true, true_from_ne_false}
 use Rattle.std.proofs.lemmas.List.{length-take-le}
 use Rattle.prefix_trie_bits.specs.Bits.{begins}
 use Rattle.prefix_trie_bits.specs.Begins.{begins-rest}
@@ -19,7 +19,7 @@ use Rattle.prefix_trie_table.specs.Bitmaps.{has_bit}
 use Rattle.prefix_trie_table.specs.Cells.{node_at, node_sizes, cell_sizes}
 use Rattle.prefix_trie_table.specs.Digits.{path_of, bit_of}
 use Rattle.prefix_trie_table.specs.Store.{Store}
-use Rattle.prefix_trie_table.specs.Forest.{read, value_of, has_value, one_if, Holds, SomeTable, IsSlot, at_root, at_child, NodesHold, CellsHold, SomeNodes, IsNodeAt, with_node}
+use Rattle.prefix_trie_table.specs.Forest.{read, value_of, has_value, one_if, Holds, SomeTable, IsSlot, NodesHold, CellsHold, SomeNodes, IsNodeAt, with_node}
 use Rattle.prefix_trie_table.specs.Removals.{ValueTaken, EntryTaken}
 use Rattle.prefix_trie_table.specs.Shape.{IsShapeOf}
 use Rattle.prefix_trie_table.specs.Tables.{ForHeld, Grows}
@@ -28,6 +28,7 @@ use Rattle.prefix_trie_table.specs.Tables.{IsTrie}
 use Rattle.prefix_trie_table.proofs.Strings.Plain.{both_true}
 use Rattle.prefix_trie_table.proofs.Tree.Invariant.{some_table, some_nodes}
 use Rattle.prefix_trie_table.proofs.Removal.Between.{taken_between}
+use Rattle.prefix_trie_table.proofs.Removal.Pruning.{slot_stays}
 use Rattle.prefix_trie_table.proofs.Strings.Bits.{has_bit-is}
 use Rattle.prefix_trie_table.proofs.Tree.Children.{with_here, with_other}
 use Rattle.prefix_trie_table.proofs.Removal.OneEntry.{value_taken, kept_without}
@@ -39,19 +40,11 @@ use Rattle.prefix_trie_table.proofs.Tree.Trees.{is_none-None, read-nil, reads, s
 
 -- ---- nodes and their slots
 
--- a node stands where it stood where the nodes above it are as they were
-pub slot_stays : (f g : List ℕ → Option Node) (p : List ℕ) (slot : ℕ) → ((q : List ℕ) → length q < length p → g q ≡ f q) → IsSlot f p slot → IsSlot g p slot
-slot_stays f g p slot same (at_root) = at_root
-slot_stays f g p slot same (at_child r c n is bit) = at_child r c n (same r (omega (arith, length-append r (c ∷ []))) ∙ is) bit
-
 -- with a node stand those above it
 pub read_up : (nodes : List Node) (q k : List Bool) → length q % 5 ≡ 0 → begins q k ≡ true → is_some (read nodes (path_of k)) ≡ true → is_some (read nodes (path_of q)) ≡ true
-read_up nodes q k whole begun there = elim (cases_Bool (is_some (read nodes (path_of q)))) as (λ _. is_some (read nodes (path_of q)) ≡ true) [
-  | inl hit ↦ hit
-  | inr miss ↦
-      let way : path_of k ≡ path_of q ++ path_of (drop (length q) k) = ap path_of (begins-rest q k begun) ∙ path-append q (drop (length q) k) whole in
-      absurd (false≢true (sym (ap is_some (ap (read nodes) way ∙ read-missing nodes (path_of q) (path_of (drop (length q) k)) (is_none-None (read nodes (path_of q)) miss))) ∙ there))
-]
+read_up nodes q k whole begun there = true_from_ne_false (is_some (read nodes (path_of q))) (λ miss.
+    let way : path_of k ≡ path_of q ++ path_of (drop (length q) k) = ap path_of (begins-rest q k begun) ∙ path-append q (drop (length q) k) whole in
+    false≢true (sym (ap is_some (ap (read nodes) way ∙ read-missing nodes (path_of q) (path_of (drop (length q) k)) (is_none-None (read nodes (path_of q)) miss))) ∙ there))
 
 module _ {T : Type 0} where
   -- a value is in a node

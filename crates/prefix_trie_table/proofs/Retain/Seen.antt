@@ -27,8 +27,11 @@ use Rattle.prefix_trie_table.proofs.Tree.Shapes.{shape_entries}
 use Rattle.prefix_trie_table.proofs.Tree.Subtrees.{value_inside, value_fits}
 
 module _ {K T : Type 0} (IsKey : K → Type 0) (bits : K → List Bool) (width : ℕ) (v : Store Node) (p : Site K) (node : Node) (at : IsSite IsKey bits width v p node)
-    (long : length (bits p.key) ≡ width) (count : ℕ) (w : Store (Option T)) (s : State T) (trie : IsTrie width count v w s)
+    (bits_length : (k : K) → IsKey k → length (bits k) ≡ width) (count : ℕ) (w : Store (Option T)) (s : State T) (trie : IsTrie width count v w s)
     (bit n x : ℕ) (small : bit < 31) (few : n ≤ 4) (bit_is : value_bit (digits n x) ≡ bit) (set : has node.value_bitmap bit ≡ true) where
+  long : length (bits p.key) ≡ width
+  long = bits_length p.key at.key
+
   pub short : length (digits n x) ≤ 4
   short = let l = length-digits n x in omega (arith, l, few)
 

@@ -69,5 +69,5 @@ returns-clause-last g c = λ none.
 pub returns-clause-dropped : goal.returns-clause-dropped
 returns-clause-dropped g c =
     children_dropped c.args.nodes.now c.remove_at-rest.new.self c.put.new.self (c.args.at.start + c.args.at.place) c.args.child c.remove_at-rest.result.tier
-    c.remove_at-rest.result.start c.without_bit.result c.visit-node.result _ c.visit-node.ensures.node c.without_bit.ensures.clears refl (lost g c)
+    c.remove_at-rest.result.start c.without_bit.result c.visit-node.result c.visit-node.ensures.node c.without_bit.ensures.clears (lost g c)
     c.requires.child c.put.ensures.slots

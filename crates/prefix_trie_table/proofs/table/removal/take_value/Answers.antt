@@ -77,5 +77,5 @@ returns-clause-value g c = λ reading paths values p n hold cells stands is.
 pub returns-clause-taken : goal.returns-clause-taken
 returns-clause-taken g c =
     values_taken c.args.nodes.now c.put.new.self c.args.cells.now c.remove_at-value.new.self (c.args.at.start + c.args.at.place) c.args.bit
-    c.remove_at-value.result.1.tier c.remove_at-value.result.1.start c.without_bit.result c.args.node _ c.requires.node c.without_bit.ensures.clears refl
-    (lost g c) c.requires.bit c.requires.there c.put.ensures.slots
+    c.remove_at-value.result.1.tier c.remove_at-value.result.1.start c.without_bit.result c.args.node c.requires.node c.without_bit.ensures.clears (lost g c)
+    c.requires.bit c.requires.there c.put.ensures.slots

@@ -12,41 +12,36 @@ use Rattle.prefix_trie_table.proofs.table.retain.retain_value.Goals as goal
 
 pub at-requires : goal.at-requires
 at-requires g c =
-    let long = g.met.K.Key.key_laws.bits_length c.args.site.key c.requires.site.key in
-    value_slot g.K.Key.IsKey g.K.Key.bits g.K.Key.bit_width c.args.nodes.now c.args.site c.args.node c.requires.site long c.args.entries.now c.args.cells.now c.requires.trie.0 c.requires.trie.1 c.args.bit c.string_of-n.result.0 c.string_of-n.result.1 c.requires.bit c.string_of-n.ensures.short c.string_of-n.ensures.bit c.requires.set c.rank.result c.rank.ensures
+    value_slot g.K.Key.IsKey g.K.Key.bits g.K.Key.bit_width c.args.nodes.now c.args.site c.args.node c.requires.site g.met.K.Key.key_laws.bits_length c.args.entries.now c.args.cells.now c.requires.trie.0 c.requires.trie.1 c.args.bit c.string_of-n.result.0 c.string_of-n.result.1 c.requires.bit c.string_of-n.ensures.short c.string_of-n.ensures.bit c.requires.set c.rank.result c.rank.ensures
 
 pub unreachable-requires : goal.unreachable-requires
 unreachable-requires g c =
-    let long = g.met.K.Key.key_laws.bits_length c.args.site.key c.requires.site.key in
-    let got = value_got g.K.Key.IsKey g.K.Key.bits g.K.Key.bit_width c.args.nodes.now c.args.site c.args.node c.requires.site long c.args.entries.now c.args.cells.now c.requires.trie.0 c.requires.trie.1 c.args.bit c.string_of-n.result.0 c.string_of-n.result.1 c.requires.bit c.string_of-n.ensures.short c.string_of-n.ensures.bit c.requires.set c.rank.result c.at.result.now c.rank.ensures c.at.ensures.slot in
-    let some = value_some g.K.Key.IsKey g.K.Key.bits g.K.Key.bit_width c.args.nodes.now c.args.site c.args.node c.requires.site long c.args.entries.now c.args.cells.now c.requires.trie.0 c.requires.trie.1 c.args.bit c.string_of-n.result.0 c.string_of-n.result.1 c.requires.bit c.string_of-n.ensures.short c.string_of-n.ensures.bit c.requires.set in
+    let got = value_got g.K.Key.IsKey g.K.Key.bits g.K.Key.bit_width c.args.nodes.now c.args.site c.args.node c.requires.site g.met.K.Key.key_laws.bits_length c.args.entries.now c.args.cells.now c.requires.trie.0 c.requires.trie.1 c.args.bit c.string_of-n.result.0 c.string_of-n.result.1 c.requires.bit c.string_of-n.ensures.short c.string_of-n.ensures.bit c.requires.set c.rank.result c.at.result.now c.rank.ensures c.at.ensures.slot in
+    let some = value_some g.K.Key.IsKey g.K.Key.bits g.K.Key.bit_width c.args.nodes.now c.args.site c.args.node c.requires.site g.met.K.Key.key_laws.bits_length c.args.entries.now c.args.cells.now c.requires.trie.0 c.requires.trie.1 c.args.bit c.string_of-n.result.0 c.string_of-n.result.1 c.requires.bit c.string_of-n.ensures.short c.string_of-n.ensures.bit c.requires.set in
     false≢true (sym (ap is_some c.in_default.is) ∙ c.as_ref.ensures.variant ∙ sym (ap is_some got) ∙ some)
 
 pub extend-key-requires-clause-within : goal.extend-key-requires-clause-within
 extend-key-requires-clause-within g c =
-    let long = g.met.K.Key.key_laws.bits_length c.args.site.key c.requires.site.key in
-    value_room g.K.Key.IsKey g.K.Key.bits g.K.Key.bit_width c.args.nodes.now c.args.site c.args.node c.requires.site long c.args.entries.now c.args.cells.now c.requires.trie.0 c.requires.trie.1 c.args.bit c.string_of-n.result.0 c.string_of-n.result.1 c.requires.bit c.string_of-n.ensures.short c.string_of-n.ensures.bit c.requires.set
+    value_room g.K.Key.IsKey g.K.Key.bits g.K.Key.bit_width c.args.nodes.now c.args.site c.args.node c.requires.site g.met.K.Key.key_laws.bits_length c.args.entries.now c.args.cells.now c.requires.trie.0 c.requires.trie.1 c.args.bit c.string_of-n.result.0 c.string_of-n.result.1 c.requires.bit c.string_of-n.ensures.short c.string_of-n.ensures.bit c.requires.set
 
 pub keeps-requires : goal.keeps-requires
 keeps-requires g c =
-    let long = g.met.K.Key.key_laws.bits_length c.args.site.key c.requires.site.key in
-    let got = value_got g.K.Key.IsKey g.K.Key.bits g.K.Key.bit_width c.args.nodes.now c.args.site c.args.node c.requires.site long c.args.entries.now c.args.cells.now c.requires.trie.0 c.requires.trie.1 c.args.bit c.string_of-n.result.0 c.string_of-n.result.1 c.requires.bit c.string_of-n.ensures.short c.string_of-n.ensures.bit c.requires.set c.rank.result c.at.result.now c.rank.ensures c.at.ensures.slot in
-    let few = short g.K.Key.IsKey g.K.Key.bits g.K.Key.bit_width c.args.nodes.now c.args.site c.args.node c.requires.site long c.args.entries.now c.args.cells.now c.requires.trie.0 c.requires.trie.1 c.args.bit c.string_of-n.result.0 c.string_of-n.result.1 c.requires.bit c.string_of-n.ensures.short c.string_of-n.ensures.bit c.requires.set in
+    let got = value_got g.K.Key.IsKey g.K.Key.bits g.K.Key.bit_width c.args.nodes.now c.args.site c.args.node c.requires.site g.met.K.Key.key_laws.bits_length c.args.entries.now c.args.cells.now c.requires.trie.0 c.requires.trie.1 c.args.bit c.string_of-n.result.0 c.string_of-n.result.1 c.requires.bit c.string_of-n.ensures.short c.string_of-n.ensures.bit c.requires.set c.rank.result c.at.result.now c.rank.ensures c.at.ensures.slot in
+    let few = short g.K.Key.IsKey g.K.Key.bits g.K.Key.bit_width c.args.nodes.now c.args.site c.args.node c.requires.site g.met.K.Key.key_laws.bits_length c.args.entries.now c.args.cells.now c.requires.trie.0 c.requires.trie.1 c.args.bit c.string_of-n.result.0 c.string_of-n.result.1 c.requires.bit c.string_of-n.ensures.short c.string_of-n.ensures.bit c.requires.set in
     record {
       key = c.extend-key.ensures.key;
-      within = value_room g.K.Key.IsKey g.K.Key.bits g.K.Key.bit_width c.args.nodes.now c.args.site c.args.node c.requires.site long c.args.entries.now c.args.cells.now c.requires.trie.0 c.requires.trie.1 c.args.bit c.string_of-n.result.0 c.string_of-n.result.1 c.requires.bit c.string_of-n.ensures.short c.string_of-n.ensures.bit c.requires.set;
-      filled = key_filled g.K.Key.IsKey g.K.Key.bits g.K.Key.bit_width c.args.nodes.now c.args.site c.args.node c.requires.site long c.args.entries.now c.args.cells.now c.requires.trie.0 c.requires.trie.1 c.args.bit c.string_of-n.result.0 c.string_of-n.result.1 c.requires.bit c.string_of-n.ensures.short c.string_of-n.ensures.bit c.requires.set c.extend-key.result c.extend-key.ensures.value;
-      accepts = may_ask_here g.K.Key.IsKey g.K.Key.bits g.K.Key.bit_width c.args.nodes.now c.args.site c.args.node c.requires.site long c.args.entries.now c.args.cells.now c.requires.trie.0 c.requires.trie.1 c.args.bit c.string_of-n.result.0 c.string_of-n.result.1 c.requires.bit c.string_of-n.ensures.short c.string_of-n.ensures.bit c.requires.set c.extend-key.result c.extend-key.ensures.value g.F.Keep.asks g.F.Keep.accepts c.in-Some.value.now (got ∙ (sym c.as_ref.ensures.value ∙ ap option_copied c.in-Some.is)) c.args.keep.now
+      within = value_room g.K.Key.IsKey g.K.Key.bits g.K.Key.bit_width c.args.nodes.now c.args.site c.args.node c.requires.site g.met.K.Key.key_laws.bits_length c.args.entries.now c.args.cells.now c.requires.trie.0 c.requires.trie.1 c.args.bit c.string_of-n.result.0 c.string_of-n.result.1 c.requires.bit c.string_of-n.ensures.short c.string_of-n.ensures.bit c.requires.set;
+      filled = key_filled g.K.Key.IsKey g.K.Key.bits g.K.Key.bit_width c.args.nodes.now c.args.site c.args.node c.requires.site g.met.K.Key.key_laws.bits_length c.args.entries.now c.args.cells.now c.requires.trie.0 c.requires.trie.1 c.args.bit c.string_of-n.result.0 c.string_of-n.result.1 c.requires.bit c.string_of-n.ensures.short c.string_of-n.ensures.bit c.requires.set c.extend-key.result c.extend-key.ensures.value;
+      accepts = may_ask_here g.K.Key.IsKey g.K.Key.bits g.K.Key.bit_width c.args.nodes.now c.args.site c.args.node c.requires.site g.met.K.Key.key_laws.bits_length c.args.entries.now c.args.cells.now c.requires.trie.0 c.requires.trie.1 c.args.bit c.string_of-n.result.0 c.string_of-n.result.1 c.requires.bit c.string_of-n.ensures.short c.string_of-n.ensures.bit c.requires.set c.extend-key.result c.extend-key.ensures.value g.F.Keep.asks g.F.Keep.accepts c.in-Some.value.now (got ∙ (sym c.as_ref.ensures.value ∙ ap option_copied c.in-Some.is)) c.args.keep.now
           (c.requires.may_ask (digits c.string_of-n.result.0 c.string_of-n.result.1) few c.string_of-n.ensures.bit c.requires.trie.0 c.requires.trie.1);
     }
 
 pub returns-then-keeps-clause-retains : goal.returns-then-keeps-clause-retains
 returns-then-keeps-clause-retains g c = λ t few is before trie.
-    let long = g.met.K.Key.key_laws.bits_length c.args.site.key c.requires.site.key in
-    let got = value_got g.K.Key.IsKey g.K.Key.bits g.K.Key.bit_width c.args.nodes.now c.args.site c.args.node c.requires.site long c.args.entries.now c.args.cells.now before trie c.args.bit c.string_of-n.result.0 c.string_of-n.result.1 c.requires.bit c.string_of-n.ensures.short c.string_of-n.ensures.bit c.requires.set c.rank.result c.at.result.now c.rank.ensures c.at.ensures.slot in
+    let got = value_got g.K.Key.IsKey g.K.Key.bits g.K.Key.bit_width c.args.nodes.now c.args.site c.args.node c.requires.site g.met.K.Key.key_laws.bits_length c.args.entries.now c.args.cells.now before trie c.args.bit c.string_of-n.result.0 c.string_of-n.result.1 c.requires.bit c.string_of-n.ensures.short c.string_of-n.ensures.bit c.requires.set c.rank.result c.at.result.now c.rank.ensures c.at.ensures.slot in
     subst (λ u. RetainsTo g.F.Keep.asks g.F.Keep.accepts g.K.Key.bit_width (take c.args.site.depth (g.K.Key.bits c.args.site.key)) (u ∷ []) c.args.keep.now before c.keeps.new.self c.args.entries.now c.args.nodes.now c.args.cells.now)
     (sym (c.string_of-n.ensures.only t is))
-    (stays_here g.K.Key.IsKey g.K.Key.bits g.K.Key.bit_width c.args.nodes.now c.args.site c.args.node c.requires.site long c.args.entries.now c.args.cells.now before trie c.args.bit c.string_of-n.result.0 c.string_of-n.result.1 c.requires.bit c.string_of-n.ensures.short c.string_of-n.ensures.bit c.requires.set c.extend-key.result c.extend-key.ensures.value g.F.Keep.asks g.F.Keep.accepts c.in-Some.value.now (got ∙ (sym c.as_ref.ensures.value ∙ ap option_copied c.in-Some.is)) c.args.keep.now c.keeps.new.self true (c.keeps.ensures.yes c.if-keeps.true) refl)
+    (stays_here g.K.Key.IsKey g.K.Key.bits g.K.Key.bit_width c.args.nodes.now c.args.site c.args.node c.requires.site g.met.K.Key.key_laws.bits_length c.args.entries.now c.args.cells.now before trie c.args.bit c.string_of-n.result.0 c.string_of-n.result.1 c.requires.bit c.string_of-n.ensures.short c.string_of-n.ensures.bit c.requires.set c.extend-key.result c.extend-key.ensures.value g.F.Keep.asks g.F.Keep.accepts c.in-Some.value.now (got ∙ (sym c.as_ref.ensures.value ∙ ap option_copied c.in-Some.is)) c.args.keep.now c.keeps.new.self true (c.keeps.ensures.yes c.if-keeps.true) refl)
 
 pub take_value-found-requires : goal.take_value-found-requires
 take_value-found-requires g c =
@@ -60,28 +55,25 @@ take_value-found-requires g c =
 
 pub overflow_sub-entries : goal.overflow_sub-entries
 overflow_sub-entries g c =
-    let long = g.met.K.Key.key_laws.bits_length c.args.site.key c.requires.site.key in
-    let some = counted_here g.K.Key.IsKey g.K.Key.bits g.K.Key.bit_width c.args.nodes.now c.args.site c.args.node c.requires.site long c.args.entries.now c.args.cells.now c.requires.trie.0 c.requires.trie.1 c.args.bit c.string_of-n.result.0 c.string_of-n.result.1 c.requires.bit c.string_of-n.ensures.short c.string_of-n.ensures.bit c.requires.set c.take_value-found.result.0 c.take_value-found.result.1 c.take_value-found.new.nodes c.take_value-found.new.cells c.take_value-found.ensures.value c.take_value-found.ensures.taken in
+    let some = counted_here g.K.Key.IsKey g.K.Key.bits g.K.Key.bit_width c.args.nodes.now c.args.site c.args.node c.requires.site g.met.K.Key.key_laws.bits_length c.args.entries.now c.args.cells.now c.requires.trie.0 c.requires.trie.1 c.args.bit c.string_of-n.result.0 c.string_of-n.result.1 c.requires.bit c.string_of-n.ensures.short c.string_of-n.ensures.bit c.requires.set c.take_value-found.result.0 c.take_value-found.result.1 c.take_value-found.new.nodes c.take_value-found.new.cells c.take_value-found.ensures.value c.take_value-found.ensures.taken in
     omega (arith, some)
 
 pub unreachable-requires-in_default-found : goal.unreachable-requires-in_default-found
 unreachable-requires-in_default-found g c =
-    let long = g.met.K.Key.key_laws.bits_length c.args.site.key c.requires.site.key in
-    let is = taken_here g.K.Key.IsKey g.K.Key.bits g.K.Key.bit_width c.args.nodes.now c.args.site c.args.node c.requires.site long c.args.entries.now c.args.cells.now c.requires.trie.0 c.requires.trie.1 c.args.bit c.string_of-n.result.0 c.string_of-n.result.1 c.requires.bit c.string_of-n.ensures.short c.string_of-n.ensures.bit c.requires.set c.take_value-found.result.0 c.take_value-found.result.1 c.take_value-found.new.nodes c.take_value-found.new.cells c.take_value-found.ensures.value c.take_value-found.ensures.taken in
-    let some = value_some g.K.Key.IsKey g.K.Key.bits g.K.Key.bit_width c.args.nodes.now c.args.site c.args.node c.requires.site long c.args.entries.now c.args.cells.now c.requires.trie.0 c.requires.trie.1 c.args.bit c.string_of-n.result.0 c.string_of-n.result.1 c.requires.bit c.string_of-n.ensures.short c.string_of-n.ensures.bit c.requires.set in
+    let is = taken_here g.K.Key.IsKey g.K.Key.bits g.K.Key.bit_width c.args.nodes.now c.args.site c.args.node c.requires.site g.met.K.Key.key_laws.bits_length c.args.entries.now c.args.cells.now c.requires.trie.0 c.requires.trie.1 c.args.bit c.string_of-n.result.0 c.string_of-n.result.1 c.requires.bit c.string_of-n.ensures.short c.string_of-n.ensures.bit c.requires.set c.take_value-found.result.0 c.take_value-found.result.1 c.take_value-found.new.nodes c.take_value-found.new.cells c.take_value-found.ensures.value c.take_value-found.ensures.taken in
+    let some = value_some g.K.Key.IsKey g.K.Key.bits g.K.Key.bit_width c.args.nodes.now c.args.site c.args.node c.requires.site g.met.K.Key.key_laws.bits_length c.args.entries.now c.args.cells.now c.requires.trie.0 c.requires.trie.1 c.args.bit c.string_of-n.result.0 c.string_of-n.result.1 c.requires.bit c.string_of-n.ensures.short c.string_of-n.ensures.bit c.requires.set in
     false≢true (sym (ap is_some (is ∙ c.in_default-found.is)) ∙ some)
 
 pub taken-requires : goal.taken-requires
 taken-requires g c =
-    let long = g.met.K.Key.key_laws.bits_length c.args.site.key c.requires.site.key in
-    let got = value_got g.K.Key.IsKey g.K.Key.bits g.K.Key.bit_width c.args.nodes.now c.args.site c.args.node c.requires.site long c.args.entries.now c.args.cells.now c.requires.trie.0 c.requires.trie.1 c.args.bit c.string_of-n.result.0 c.string_of-n.result.1 c.requires.bit c.string_of-n.ensures.short c.string_of-n.ensures.bit c.requires.set c.rank.result c.at.result.now c.rank.ensures c.at.ensures.slot in
-    let is = taken_here g.K.Key.IsKey g.K.Key.bits g.K.Key.bit_width c.args.nodes.now c.args.site c.args.node c.requires.site long c.args.entries.now c.args.cells.now c.requires.trie.0 c.requires.trie.1 c.args.bit c.string_of-n.result.0 c.string_of-n.result.1 c.requires.bit c.string_of-n.ensures.short c.string_of-n.ensures.bit c.requires.set c.take_value-found.result.0 c.take_value-found.result.1 c.take_value-found.new.nodes c.take_value-found.new.cells c.take_value-found.ensures.value c.take_value-found.ensures.taken in
+    let got = value_got g.K.Key.IsKey g.K.Key.bits g.K.Key.bit_width c.args.nodes.now c.args.site c.args.node c.requires.site g.met.K.Key.key_laws.bits_length c.args.entries.now c.args.cells.now c.requires.trie.0 c.requires.trie.1 c.args.bit c.string_of-n.result.0 c.string_of-n.result.1 c.requires.bit c.string_of-n.ensures.short c.string_of-n.ensures.bit c.requires.set c.rank.result c.at.result.now c.rank.ensures c.at.ensures.slot in
+    let is = taken_here g.K.Key.IsKey g.K.Key.bits g.K.Key.bit_width c.args.nodes.now c.args.site c.args.node c.requires.site g.met.K.Key.key_laws.bits_length c.args.entries.now c.args.cells.now c.requires.trie.0 c.requires.trie.1 c.args.bit c.string_of-n.result.0 c.string_of-n.result.1 c.requires.bit c.string_of-n.ensures.short c.string_of-n.ensures.bit c.requires.set c.take_value-found.result.0 c.take_value-found.result.1 c.take_value-found.new.nodes c.take_value-found.new.cells c.take_value-found.ensures.value c.take_value-found.ensures.taken in
     let asked : Some c.in-Some.value.now ≡ Some c.in-Some-found.value =
     sym (got ∙ (sym c.as_ref.ensures.value ∙ ap option_copied c.in-Some.is)) ∙ is ∙ c.in-Some-found.is in
     record {
       key = c.extend-key.ensures.key;
-      within = value_room g.K.Key.IsKey g.K.Key.bits g.K.Key.bit_width c.args.nodes.now c.args.site c.args.node c.requires.site long c.args.entries.now c.args.cells.now c.requires.trie.0 c.requires.trie.1 c.args.bit c.string_of-n.result.0 c.string_of-n.result.1 c.requires.bit c.string_of-n.ensures.short c.string_of-n.ensures.bit c.requires.set;
-      filled = key_filled g.K.Key.IsKey g.K.Key.bits g.K.Key.bit_width c.args.nodes.now c.args.site c.args.node c.requires.site long c.args.entries.now c.args.cells.now c.requires.trie.0 c.requires.trie.1 c.args.bit c.string_of-n.result.0 c.string_of-n.result.1 c.requires.bit c.string_of-n.ensures.short c.string_of-n.ensures.bit c.requires.set c.extend-key.result c.extend-key.ensures.value;
+      within = value_room g.K.Key.IsKey g.K.Key.bits g.K.Key.bit_width c.args.nodes.now c.args.site c.args.node c.requires.site g.met.K.Key.key_laws.bits_length c.args.entries.now c.args.cells.now c.requires.trie.0 c.requires.trie.1 c.args.bit c.string_of-n.result.0 c.string_of-n.result.1 c.requires.bit c.string_of-n.ensures.short c.string_of-n.ensures.bit c.requires.set;
+      filled = key_filled g.K.Key.IsKey g.K.Key.bits g.K.Key.bit_width c.args.nodes.now c.args.site c.args.node c.requires.site g.met.K.Key.key_laws.bits_length c.args.entries.now c.args.cells.now c.requires.trie.0 c.requires.trie.1 c.args.bit c.string_of-n.result.0 c.string_of-n.result.1 c.requires.bit c.string_of-n.ensures.short c.string_of-n.ensures.bit c.requires.set c.extend-key.result c.extend-key.ensures.value;
       refused = (
         c.args.keep.now,
         subst (λ v. g.F.Keep.refuses c.args.keep.now (take (c.args.site.depth + c.string_of-n.result.0) (g.K.Key.bits c.extend-key.result)) v c.keeps.new.self)
@@ -91,31 +83,28 @@ taken-requires g c =
 
 pub returns-clause-retains : goal.returns-clause-retains
 returns-clause-retains g c = λ t few is before trie.
-    let long = g.met.K.Key.key_laws.bits_length c.args.site.key c.requires.site.key in
-    let got = value_got g.K.Key.IsKey g.K.Key.bits g.K.Key.bit_width c.args.nodes.now c.args.site c.args.node c.requires.site long c.args.entries.now c.args.cells.now before trie c.args.bit c.string_of-n.result.0 c.string_of-n.result.1 c.requires.bit c.string_of-n.ensures.short c.string_of-n.ensures.bit c.requires.set c.rank.result c.at.result.now c.rank.ensures c.at.ensures.slot in
-    let there = taken_here g.K.Key.IsKey g.K.Key.bits g.K.Key.bit_width c.args.nodes.now c.args.site c.args.node c.requires.site long c.args.entries.now c.args.cells.now before trie c.args.bit c.string_of-n.result.0 c.string_of-n.result.1 c.requires.bit c.string_of-n.ensures.short c.string_of-n.ensures.bit c.requires.set c.take_value-found.result.0 c.take_value-found.result.1 c.take_value-found.new.nodes c.take_value-found.new.cells c.take_value-found.ensures.value c.take_value-found.ensures.taken in
+    let got = value_got g.K.Key.IsKey g.K.Key.bits g.K.Key.bit_width c.args.nodes.now c.args.site c.args.node c.requires.site g.met.K.Key.key_laws.bits_length c.args.entries.now c.args.cells.now before trie c.args.bit c.string_of-n.result.0 c.string_of-n.result.1 c.requires.bit c.string_of-n.ensures.short c.string_of-n.ensures.bit c.requires.set c.rank.result c.at.result.now c.rank.ensures c.at.ensures.slot in
+    let there = taken_here g.K.Key.IsKey g.K.Key.bits g.K.Key.bit_width c.args.nodes.now c.args.site c.args.node c.requires.site g.met.K.Key.key_laws.bits_length c.args.entries.now c.args.cells.now before trie c.args.bit c.string_of-n.result.0 c.string_of-n.result.1 c.requires.bit c.string_of-n.ensures.short c.string_of-n.ensures.bit c.requires.set c.take_value-found.result.0 c.take_value-found.result.1 c.take_value-found.new.nodes c.take_value-found.new.cells c.take_value-found.ensures.value c.take_value-found.ensures.taken in
     let asked : Some c.in-Some.value.now ≡ Some c.in-Some-found.value =
     sym (got ∙ (sym c.as_ref.ensures.value ∙ ap option_copied c.in-Some.is)) ∙ there ∙ c.in-Some-found.is in
     let no =
     subst (λ v. g.F.Keep.refuses c.args.keep.now (take (c.args.site.depth + c.string_of-n.result.0) (g.K.Key.bits c.extend-key.result)) v c.keeps.new.self)
     (ap (λ o. unwrap_or o c.in-Some-found.value) asked) (c.keeps.ensures.no c.if-keeps.false) in
-    let later = trie_goes g.K.Key.IsKey g.K.Key.bits g.K.Key.bit_width c.args.nodes.now c.args.site c.args.node c.requires.site long c.args.entries.now c.args.cells.now before trie c.args.bit c.string_of-n.result.0 c.string_of-n.result.1 c.requires.bit c.string_of-n.ensures.short c.string_of-n.ensures.bit c.requires.set c.take_value-found.result.0 c.take_value-found.result.1 c.take_value-found.new.nodes c.take_value-found.new.cells c.take_value-found.ensures.value c.take_value-found.ensures.taken (c.args.entries.now - 1) refl (Grows-none _ _ 24 c.take_value-found.ensures.node_blocks.room c.take_value-found.ensures.node_blocks.tiers) c.take_value-found.ensures.cell_room in
+    let later = trie_goes g.K.Key.IsKey g.K.Key.bits g.K.Key.bit_width c.args.nodes.now c.args.site c.args.node c.requires.site g.met.K.Key.key_laws.bits_length c.args.entries.now c.args.cells.now before trie c.args.bit c.string_of-n.result.0 c.string_of-n.result.1 c.requires.bit c.string_of-n.ensures.short c.string_of-n.ensures.bit c.requires.set c.take_value-found.result.0 c.take_value-found.result.1 c.take_value-found.new.nodes c.take_value-found.new.cells c.take_value-found.ensures.value c.take_value-found.ensures.taken (c.args.entries.now - 1) refl (Grows-none _ _ 24 c.take_value-found.ensures.node_blocks.room c.take_value-found.ensures.node_blocks.tiers) c.take_value-found.ensures.cell_room in
     subst (λ u. RetainsTo g.F.Keep.asks g.F.Keep.accepts g.K.Key.bit_width (take c.args.site.depth (g.K.Key.bits c.args.site.key)) (u ∷ []) c.args.keep.now before c.taken.new.self (c.args.entries.now - 1) c.take_value-found.new.nodes c.take_value-found.new.cells)
     (sym (c.string_of-n.ensures.only t is))
-    (goes_here g.K.Key.IsKey g.K.Key.bits g.K.Key.bit_width c.args.nodes.now c.args.site c.args.node c.requires.site long c.args.entries.now c.args.cells.now before trie c.args.bit c.string_of-n.result.0 c.string_of-n.result.1 c.requires.bit c.string_of-n.ensures.short c.string_of-n.ensures.bit c.requires.set c.extend-key.result c.extend-key.ensures.value g.F.Keep.asks g.F.Keep.accepts c.in-Some-found.value (there ∙ c.in-Some-found.is) c.args.keep.now c.taken.new.self false (c.args.entries.now - 1) c.take_value-found.new.nodes c.take_value-found.new.cells (c.taken.ensures c.args.keep.now no) refl later)
+    (goes_here g.K.Key.IsKey g.K.Key.bits g.K.Key.bit_width c.args.nodes.now c.args.site c.args.node c.requires.site g.met.K.Key.key_laws.bits_length c.args.entries.now c.args.cells.now before trie c.args.bit c.string_of-n.result.0 c.string_of-n.result.1 c.requires.bit c.string_of-n.ensures.short c.string_of-n.ensures.bit c.requires.set c.extend-key.result c.extend-key.ensures.value g.F.Keep.asks g.F.Keep.accepts c.in-Some-found.value (there ∙ c.in-Some-found.is) c.args.keep.now c.taken.new.self false (c.args.entries.now - 1) c.take_value-found.new.nodes c.take_value-found.new.cells (c.taken.ensures c.args.keep.now no) refl later)
 
 pub returns-clause-node : goal.returns-clause-node
 returns-clause-node g c =
-    let long = g.met.K.Key.key_laws.bits_length c.args.site.key c.requires.site.key in
-    site_here g.K.Key.IsKey g.K.Key.bits g.K.Key.bit_width c.args.nodes.now c.args.site c.args.node c.requires.site long c.args.entries.now c.args.cells.now c.requires.trie.0 c.requires.trie.1 c.args.bit c.string_of-n.result.0 c.string_of-n.result.1 c.requires.bit c.string_of-n.ensures.short c.string_of-n.ensures.bit c.requires.set c.take_value-found.result.0 c.take_value-found.result.1 c.take_value-found.new.nodes c.take_value-found.new.cells c.take_value-found.ensures.value c.take_value-found.ensures.taken
+    site_here g.K.Key.IsKey g.K.Key.bits g.K.Key.bit_width c.args.nodes.now c.args.site c.args.node c.requires.site g.met.K.Key.key_laws.bits_length c.args.entries.now c.args.cells.now c.requires.trie.0 c.requires.trie.1 c.args.bit c.string_of-n.result.0 c.string_of-n.result.1 c.requires.bit c.string_of-n.ensures.short c.string_of-n.ensures.bit c.requires.set c.take_value-found.result.0 c.take_value-found.result.1 c.take_value-found.new.nodes c.take_value-found.new.cells c.take_value-found.ensures.value c.take_value-found.ensures.taken
 
 pub returns-clause-lasts : goal.returns-clause-lasts
 returns-clause-lasts g c =
-    let long = g.met.K.Key.key_laws.bits_length c.args.site.key c.requires.site.key in
     record {
-      above = above_here g.K.Key.IsKey g.K.Key.bits g.K.Key.bit_width c.args.nodes.now c.args.site c.args.node c.requires.site long c.args.entries.now c.args.cells.now c.requires.trie.0 c.requires.trie.1 c.args.bit c.string_of-n.result.0 c.string_of-n.result.1 c.requires.bit c.string_of-n.ensures.short c.string_of-n.ensures.bit c.requires.set c.take_value-found.result.0 c.take_value-found.result.1 c.take_value-found.new.nodes c.take_value-found.new.cells c.take_value-found.ensures.value c.take_value-found.ensures.taken;
+      above = above_here g.K.Key.IsKey g.K.Key.bits g.K.Key.bit_width c.args.nodes.now c.args.site c.args.node c.requires.site g.met.K.Key.key_laws.bits_length c.args.entries.now c.args.cells.now c.requires.trie.0 c.requires.trie.1 c.args.bit c.string_of-n.result.0 c.string_of-n.result.1 c.requires.bit c.string_of-n.ensures.short c.string_of-n.ensures.bit c.requires.set c.take_value-found.result.0 c.take_value-found.result.1 c.take_value-found.new.nodes c.take_value-found.new.cells c.take_value-found.ensures.value c.take_value-found.ensures.taken;
       nodes = stays_grown _ _ 24 (Grows-none _ _ 24 c.take_value-found.ensures.node_blocks.room c.take_value-found.ensures.node_blocks.tiers);
       cells = stays_grown _ _ 24 c.take_value-found.ensures.cell_room;
       settles = c.take_value-found.ensures.settles;
-      blocks = blocks_here g.K.Key.IsKey g.K.Key.bits g.K.Key.bit_width c.args.nodes.now c.args.site c.args.node c.requires.site long c.args.entries.now c.args.cells.now c.requires.trie.0 c.requires.trie.1 c.args.bit c.string_of-n.result.0 c.string_of-n.result.1 c.requires.bit c.string_of-n.ensures.short c.string_of-n.ensures.bit c.requires.set c.take_value-found.result.0 c.take_value-found.result.1 c.take_value-found.new.nodes c.take_value-found.new.cells c.take_value-found.ensures.value c.take_value-found.ensures.taken;
+      blocks = blocks_here g.K.Key.IsKey g.K.Key.bits g.K.Key.bit_width c.args.nodes.now c.args.site c.args.node c.requires.site g.met.K.Key.key_laws.bits_length c.args.entries.now c.args.cells.now c.requires.trie.0 c.requires.trie.1 c.args.bit c.string_of-n.result.0 c.string_of-n.result.1 c.requires.bit c.string_of-n.ensures.short c.string_of-n.ensures.bit c.requires.set c.take_value-found.result.0 c.take_value-found.result.1 c.take_value-found.new.nodes c.take_value-found.new.cells c.take_value-found.ensures.value c.take_value-found.ensures.taken;
     }
