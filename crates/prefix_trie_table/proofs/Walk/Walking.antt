@@ -113,20 +113,11 @@ module _ {K T : Type 0} (IsKey : K → Type 0) (bits : K → List Bool) (width :
       root_stands : read v.slots (path_of (take c.depth (bits key))) ≡ Some c.node
       root_stands = ap (λ u. read v.slots (path_of u)) root_string ∙ read-nil v.slots ∙ ap Some (sym node_is)
 
-      root_spot : IsSpot IsKey bits width v key c
-      root_spot = record {
-        is_key = is_key;
-        level = 0;
-        depth_is = depth_is;
-        within = omega (arith, depth_is);
-        stands = root_stands;
-        each = each;
-      }
-
       -- is a walk
       pub root_walk : IsTrie width (len u.0.entries) v w u.0 × IsStack IsKey bits width v key ps × ArePassed bits key ps
       root_walk =
-          spots_walk key ps (subst (IsStack IsKey bits width v key) (sym only) (refl, root_spot, tt)) (passed-above bits key ps [] c only (All-nil (IsPassed bits key)))
+          let spot : IsSpot IsKey bits width v key c = record { is_key = is_key; level = 0; depth_is = depth_is; within = omega (arith, depth_is); stands = root_stands; each = each } in
+          spots_walk key ps (subst (IsStack IsKey bits width v key) (sym only) (refl, spot, tt)) (passed-above bits key ps [] c only (All-nil (IsPassed bits key)))
 
       -- and has the whole listing to come
       pub root_rest : (x : State T) → IsShapeOf v.slots w.slots x → pending bits u.0.entries key ps ≡ listing x.entries
