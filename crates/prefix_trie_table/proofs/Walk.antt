@@ -8,4 +8,3 @@ pub mod Skipping
 pub mod KeySets
 pub mod Seats
 pub mod Taking
-pub mod Trails

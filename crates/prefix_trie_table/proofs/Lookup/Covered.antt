@@ -120,9 +120,6 @@ module _ {T : Type 0} where
   -- ---- what a table's walk has still to give
 
   module _ (v : Store Node) (w : Store (Option T)) (t : SomeTable v w) (s : State T) (is : IsShapeOf v.slots w.slots s) (b : List Bool) (len : ℕ) (long : len ≤ length b) where
-    asked_long : length (take len b) ≡ len
-    asked_long = length-take-le len b long
-
     abbrev asked : List Bool
     asked = take len b
 
@@ -142,7 +139,7 @@ module _ {T : Type 0} where
     none_left first none = none_pass (λ e. nat_le first (length e.0)) (covers s.entries asked) (λ e has.
         elim (cases_lt (length e.0) first) as (λ _. nat_le first (length e.0) ≡ false) [
           | inl l ↦ lt-leb first (length e.0) l
-          | inr g ↦ absurd (false≢true (sym (none (length e.0) g (omega (arith, asked_long, cover_within e has)) (cover_within e has)) ∙ cover_holds e has))
+          | inr g ↦ absurd (false≢true (sym (none (length e.0) g (omega (arith, length-take-le len b long, cover_within e has)) (cover_within e has)) ∙ cover_holds e has))
         ])
 
     -- the next is the shortest that is held

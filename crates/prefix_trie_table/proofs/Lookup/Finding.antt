@@ -54,9 +54,6 @@ bit_set b len level slot node v at less x small read =
 
 module _ (b : List Bool) (len level slot : ℕ) (node : Node) (v : Store Node) (at : IsReached b len level node slot v) (reading : List ℕ → Option Node)
     (paths : List (List ℕ)) (hold : NodesHold node_sizes reading paths v) where
-  abbrev way : List ℕ
-  way = path_of (take len b)
-
   -- the way has been followed to its end
   pub reached_end : IsEnd reading (path_of (take len b)) level
   reached_end = elim (cases_Bool (nat_le (5 * level + 5) len)) as (λ _. IsEnd reading (path_of (take len b)) level) [

@@ -15,6 +15,7 @@ use Rattle.prefix_trie_bits.specs.Model.NodeListings.{listing_at_places}
 use Rattle.prefix_trie_bits.specs.Model.Selections.{listing_below}
 use Rattle.prefix_trie_bits.proofs.Selecting.{is_in-and}
 use Rattle.prefix_trie_bits.proofs.Strings.{value_bit-injective}
+use Rattle.prefix_trie_bits.proofs.Model.Members.{and-first, and-second}
 use Rattle.prefix_trie_bits.proofs.Model.NodeListings.{listing_at_child}
 use Rattle.prefix_trie_table.specs.declared.allocator.node.Node.{Node}
 use Rattle.prefix_trie_table.specs.declared.table.spot.Spot.{Spot}
@@ -28,7 +29,7 @@ use Rattle.prefix_trie_table.specs.Store.{Store}
 use Rattle.prefix_trie_table.specs.Tables.{IsTrie}
 use Rattle.prefix_trie_table.specs.Walking.Walks.{Tree, IsSpot, IsTrail, IsStack, IsPlaceOf, IsOther, IsPassed, ArePassed, still, pending}
 use Rattle.prefix_trie_table.proofs.Walk.Stacks.{passed-above, pending-push, trail-push, restart}
-use Rattle.prefix_trie_table.proofs.Walk.Selected.{and-right, wanted_below, wanted_at_root, wanted_passed, wanted_ended, wanted_none, at_some_places}
+use Rattle.prefix_trie_table.proofs.Walk.Selected.{wanted_below, wanted_at_root, wanted_passed, wanted_ended, wanted_none, at_some_places}
 use Rattle.prefix_trie_table.proofs.Tree.Subtrees.{is_in-value, is_in-child, child_is, child_inside, unset}
 use Rattle.prefix_trie_table.proofs.Tree.Trees.{read-nil}
 
@@ -77,11 +78,7 @@ masked n values children = λ i. filter (λ s. is_in-and n.value_bitmap n.child_
 
 -- they are places of the node
 pub in_first : (n : Node) (values children : ℕ) (s : List Bool) → is_in (bit_and n.value_bitmap values) (bit_and n.child_bitmap children) s ≡ true → is_in n.value_bitmap n.child_bitmap s ≡ true
-in_first n values children s h = first (is_in n.value_bitmap n.child_bitmap s) (is_in values children s) (sym (is_in-and n.value_bitmap n.child_bitmap values children s) ∙ h)
-  where
-    first : (a b : Bool) → (a && b) ≡ true → a ≡ true
-    first true b e = refl
-    first false b e = cc
+in_first n values children s h = and-first (is_in n.value_bitmap n.child_bitmap s) (is_in values children s) (sym (is_in-and n.value_bitmap n.child_bitmap values children s) ∙ h)
 
 -- at the node where a string ends, less than five bits of it are left
 pub short_rest : (b : List Bool) (width : ℕ) → length b ≡ width → (depth len : ℕ) → len ≤ width → len < depth + 5 → length (drop depth (take len b)) ≤ 4
@@ -229,7 +226,7 @@ module _ {K : Type 0} (IsKey : K → Type 0) (bits : K → List Bool) (width : �
             taken s h e =
                 let five : length s ≡ 5 = ap length e ∙ five more in
                 let none : is_in values children s ≡ false = holds.bits s (omega (arith, five)) ∙ ap (behind from (take 5 (drop depth (bits key)))) e ∙ behind-itself from (take 5 (drop depth (bits key))) in
-                false≢true (sym none ∙ and-right (is_in node.value_bitmap node.child_bitmap s) (is_in values children s) h)
+                false≢true (sym none ∙ and-second (is_in node.value_bitmap node.child_bitmap s) (is_in values children s) h)
 
         passed_is : (t : Tree T) → IsTrie width t.count v t.cells t.shape → wanted_below from t.shape.entries (take len (bits key)) (take depth (bits key))
             ≡ wanted_below from t.shape.entries (take len (bits key)) (take (depth + 5) (bits key)) ++ still bits t.shape.entries key p

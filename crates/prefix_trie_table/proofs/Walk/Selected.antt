@@ -6,7 +6,7 @@ use Rattle.std.proofs.lemmas.List.{take-append-drop, take-take, take_all, take_a
 use Rattle.std.proofs.lemmas.List.Elements.{filter-append, filter_agree}
 use Rattle.std.specs.FinMap.{get, entries, entries_sorted}
 use Rattle.prefix_trie_bits.specs.Bits.{begins}
-use Rattle.prefix_trie_bits.specs.Begins.{begins-rest, begins-take, begins-trans, begins-append}
+use Rattle.prefix_trie_bits.specs.Begins.{same_bool, begins-from-take, take-begins, begins-rest, begins-take, begins-trans, begins-append}
 use Rattle.prefix_trie_bits.specs.Order.{listing_cmp, listing_total, listing-refl, listing-common, listing-apart}
 use Rattle.prefix_trie_bits.specs.Places.{strings, is_before}
 use Rattle.prefix_trie_bits.specs.Model.Entries.{Entries}
@@ -14,6 +14,7 @@ use Rattle.prefix_trie_bits.specs.Model.Selections.{listing, listing_below}
 use Rattle.prefix_trie_bits.specs.Model.NodeListings.{pair_of, listing_at_place, listing_at_places}
 use Rattle.prefix_trie_bits.proofs.Checks.{both, each}
 use Rattle.prefix_trie_bits.proofs.Listing.{strings-short}
+use Rattle.prefix_trie_bits.proofs.Model.Members.{and-first, and-second}
 use Rattle.prefix_trie_bits.proofs.Model.Ordered.{lt-less}
 use Rattle.prefix_trie_bits.proofs.Model.NodeListings.{two-tests, listing_by_places, listing_at_inner, listing_at_child}
 use Rattle.prefix_trie_table.specs.declared.table.cursor.Start.{Start}
@@ -83,14 +84,6 @@ passed-string x (false ∷ p) c r (true ∷ k) = refl
 passed-string x (false ∷ p) c r (false ∷ k) =
     subst (λ w. (begins p k && w) ≡ ((begins (p ++ c) k && w) || (begins p k && behind x c (take (length c) (drop (length p) k))))) (sym (common x false (p ++ c ++ r) k)) (passed-string x p c r k)
 
-and-left : (a b : Bool) → (a && b) ≡ true → a ≡ true
-and-left true b e = refl
-and-left false b e = cc
-
-pub and-right : (a b : Bool) → (a && b) ≡ true → b ≡ true
-and-right true b e = e
-and-right false b e = cc
-
 -- what is behind comes after what is below
 apart-here : (c k l : List Bool) → begins c k ≡ true → is_before c (take (length c) l) ≡ true → listing_cmp k l ≡ Less
 apart-here c k l e f =
@@ -130,14 +123,8 @@ turned Equal = refl
 turned Greater = refl
 
 end-below : (n : ℕ) (r k : List Bool) → length r < n → begins r k ≡ begins r (take n k)
-unfolding begins
-end-below zero r k h = absurd (omega (arith, h))
-end-below (suc n) [] k h = refl
-end-below (suc n) (a ∷ r) [] h = refl
-end-below (suc n) (true ∷ r) (true ∷ k) h = end-below n r k (omega (arith, h))
-end-below (suc n) (true ∷ r) (false ∷ k) h = refl
-end-below (suc n) (false ∷ r) (true ∷ k) h = refl
-end-below (suc n) (false ∷ r) (false ∷ k) h = end-below n r k (omega (arith, h))
+end-below n r k h = same_bool _ _
+    (λ e. begins-from-take r (take n k) (length r) (take-take (length r) n k (omega (arith, h)) ∙ begins-take r k e)) (λ e. begins-trans r (take n k) k e (take-begins n k))
 
 end-here : (x : Start) (r k : List Bool) → length r < 5 → wanted x r k ≡ kept x r (take 5 k)
 end-here At r k h = ap is_le (first-cmp 5 r k h ∙ listing_total.antisymm r (take 5 k)) ∙ turned (listing_cmp (take 5 k) r)
@@ -262,7 +249,7 @@ module _ {T : Type 0} (x : Start) (m : Entries T) where
   wanted_passed p c r =
       filter_agree _ _ (λ e. passed-string x p c r e.0) (listing m)
       ∙ two-tests (λ k. begins (p ++ c) k && wanted x (p ++ c ++ r) k) (λ k. begins p k && behind x c (take (length c) (drop (length p) k)))
-      (λ k l e f. apart-string p c k l (and-left (begins (p ++ c) k) _ e) (and-left (begins p l) _ f) (behind-before x c _ (and-right (begins p l) _ f)))
+      (λ k l e f. apart-string p c k l (and-first (begins (p ++ c) k) _ e) (and-first (begins p l) _ f) (behind-before x c _ (and-second (begins p l) _ f)))
       (entries m) (entries_sorted m)
       ∙ ap (λ es. wanted_below (p ++ c ++ r) (p ++ c) ++ es) (sym (filter-both (λ e. begins p e.0) (λ e. behind x c (take (length c) (drop (length p) e.0))) (listing m)))
 

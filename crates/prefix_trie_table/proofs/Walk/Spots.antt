@@ -1,9 +1,10 @@
 -- What the next place of a spot gives.
-use Rattle.std.proofs.Common.{◌≡◌, ℕ, suc, ◌+◌, ◌-◌, ◌*◌, ◌^◌, ◌%◌, ◌<◌, ◌≤◌, Bool, true, false, cond, List, [], ◌∷◌, ◌++◌, length, take, drop, filter, get_or, None, Some, refl, sym, ap, ap₂, ◌∙◌, subst, arith, inl, inr, length-append, append_assoc}
+use Rattle.std.proofs.Common.{◌≡◌, ℕ, suc, ◌+◌, ◌-◌, ◌*◌, ◌^◌, ◌%◌, ◌<◌, ◌≤◌, Bool, true, false, not, cond, List, [], ◌∷◌, ◌++◌, length, take, drop, filter, get_or, None, Some, refl, sym, ap, ap₂, ◌∙◌, subst, arith, inl, inr, length-append, append_assoc}
 use Rattle.std.specs.List.{All}
 use Rattle.std.specs.List.Sorted.{IsStrictlySortedBy}
 use Rattle.std.proofs.Math.Nat.{add-mul, one-mul}
 use Rattle.std.proofs.lemmas.Nat.{pow_pos, shl_below}
+use Rattle.std.proofs.lemmas.List.Filters.{length-filter_both}
 use Rattle.std.proofs.lemmas.Bool.{cases_lt, lt-ltb, le-ltb}
 use Rattle.std.proofs.lemmas.List.{length-take-le, take-append-le, take-take, take_at, drop_at}
 use Rattle.std.proofs.lemmas.List.Elements.{All-head, All-tail}
@@ -38,21 +39,13 @@ use Rattle.prefix_trie_table.proofs.Tree.Subtrees.{is_in-value, is_in-child, num
 
 -- ---- the bound on steps
 
-filter-length : {X : Type 0} (p : X → Bool) (xs : List X) → length (filter p xs) ≤ length xs
-filter-length p [] = omega arith
-filter-length p (x ∷ xs) = go (p x) (filter-length p xs)
-  where
-    go : (b : Bool) → length (filter p xs) ≤ length xs → length (cond b (x ∷ filter p xs) (filter p xs)) ≤ suc (length xs)
-    go true h = omega (arith, h)
-    go false h = omega (arith, h)
-
 one-less : (n x : ℕ) → suc n * x ≡ x + n * x
 one-less n x = let e : suc n ≡ 1 + n = omega arith in ap (λ k. k * x) e ∙ add-mul 1 n x ∙ ap (λ k. k + n * x) (one-mul x)
 
 -- a child with all its places weighs less than its place did
 weight-child : (d e vs cs : ℕ) (ss : List (List Bool)) → e ≡ d + 5 → e ≤ 128 → ss ≡ places vs cs → length ss * 2 ^ (2 * (130 - e)) + 1 < 2 ^ (2 * (130 - d))
 weight-child d e vs cs ss is fits all =
-    let few : length ss ≤ 63 = omega (arith, ap length all, filter-length (is_in vs cs) (strings 5), count-strings) in
+    let few : length ss ≤ 63 = omega (arith, ap length all, length-filter_both (is_in vs cs) (λ s. not (is_in vs cs s)) (λ s. refl) (strings 5), count-strings) in
     let level : 10 + 2 * (130 - e) ≡ 2 * (130 - d) = omega (arith, is, fits) in
     let below : suc (length ss) * 2 ^ (2 * (130 - e)) < 2 ^ (2 * (130 - d)) =
     subst (λ k. suc (length ss) * 2 ^ (2 * (130 - e)) < 2 ^ k) level (shl_below (suc (length ss)) 10 (2 * (130 - e)) (omega (arith, few))) in

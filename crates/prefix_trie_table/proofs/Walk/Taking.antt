@@ -1,5 +1,5 @@
 -- A walk that takes values out of their cells.
-use Rattle.std.proofs.Common.{◌≡◌, ◌≢◌, ℕ, ◌+◌, ◌<◌, Bool, true, false, cond, ◌&&◌, List, [], ◌∷◌, ◌++◌, length, take, get_or, set, map, Option, None, Some, is_some, is_lt, refl, sym, ap, ◌∙◌, subst, arith, ap₂}
+use Rattle.std.proofs.Common.{◌≡◌, ◌≢◌, ℕ, ◌+◌, ◌<◌, Bool, true, false, cond, ◌&&◌, List, [], ◌∷◌, ◌++◌, length, take, get_or, set, map, Option, None, Some, is_some, is_lt, refl, sym, ap, ◌∙◌, subst, arith}
 use lib.Dec.{T as IsT}
 use Rattle.std.specs.List.{All, Contains, AllZip}
 use Rattle.std.specs.FinMap.{get, len, entries, entries_sorted, get-entries, is_sorted}
@@ -30,7 +30,7 @@ use Rattle.prefix_trie_table.specs.Walking.Walks.{Tree, IsStack, pending, slot_o
 use Rattle.prefix_trie_table.proofs.Tree.Invariant.{some_table}
 use Rattle.prefix_trie_table.proofs.Walk.KeySets.{bare, strings_of, has-strings_of, pending_bare}
 use Rattle.prefix_trie_table.proofs.Lookup.Located.{stored_if}
-use Rattle.prefix_trie_table.proofs.Lookup.Locating.{seat_slot, is_seat}
+use Rattle.prefix_trie_table.proofs.Lookup.Locating.{is_seat}
 use Rattle.prefix_trie_table.proofs.Walk.Seats.{seats_differ}
 use Rattle.prefix_trie_table.specs.Copies.{IsCloned, IsPairCloned}
 use Rattle.prefix_trie_table.proofs.Tree.Copying.{clones_at, cloned_there, cells_cloned}

@@ -1,5 +1,5 @@
 -- What the arrays and the spots of a walk say of what is still to come.
-use Rattle.std.proofs.Common.{◌≡◌, ℕ, ◌%◌, Bool, List, [], ◌∷◌, length, take, arith, Option, None, Some, refl, sym, ap, ◌∙◌, subst}
+use Rattle.std.proofs.Common.{◌≡◌, ℕ, ◌%◌, Bool, List, [], ◌∷◌, length, take, arith, Option, None, Some, refl, sym, ap, ◌∙◌, subst, ◌+◌, map, is_some, true, MatchOption, IfSome}
 use Rattle.std.specs.List.{All}
 use Rattle.std.proofs.lemmas.List.Elements.{All-nil}
 use Rattle.std.specs.Prelude.{slice_index_or}
@@ -19,12 +19,15 @@ use Rattle.prefix_trie_table.specs.Shape.{Shaped, IsShapeOf, same_shape}
 use Rattle.prefix_trie_table.specs.declared.table.seat.Seat.{Seat}
 use Rattle.prefix_trie_table.specs.declared.table.spot.Spot.{Spot}
 use Rattle.prefix_trie_table.specs.Walking.Items.{GivesFilled}
-use Rattle.prefix_trie_table.specs.Walking.Walks.{Tree, IsSpot, IsPlaceOf, IsStack, IsPassed, ArePassed, still, pending, slot_of, GivesSeat, ShapeOf, rest_of_walk, IsWalk}
-use Rattle.prefix_trie_table.specs.Tables.{IsTrie}
-use Rattle.std.specs.FinMap.{len}
-use Rattle.prefix_trie_table.proofs.Walk.Stacks.{passed-above}
+use Rattle.prefix_trie_table.specs.Walking.Walks.{Tree, IsSpot, IsPlaceOf, IsStack, IsPassed, ArePassed, still, pending, slot_of, GivesSeat, ShapeOf, rest_of_walk, IsWalk, IsTrail, start}
+use Rattle.prefix_trie_table.specs.Tables.{IsTrie, IsTable}
+use Rattle.std.specs.FinMap.{len, contains_key}
+use Rattle.prefix_trie_table.proofs.Walk.Stacks.{passed-above, spot_as}
 use Rattle.prefix_trie_table.proofs.Tree.Trees.{read-nil}
 use Rattle.prefix_trie_table.proofs.Tree.Subtrees.{all_places}
+use Rattle.prefix_trie_table.specs.Locations.{seat_of}
+use Rattle.prefix_trie_table.specs.Walking.Trails.{GivesKey}
+use Rattle.prefix_trie_table.proofs.Lookup.Located.{stored_if}
 
 -- the table whose values are these
 abbrev pub tree_of : {T : Type 0} → Store (Option T) → State T → Tree T
@@ -110,20 +113,11 @@ module _ {K T : Type 0} (IsKey : K → Type 0) (bits : K → List Bool) (width :
       root_stands : read v.slots (path_of (take c.depth (bits key))) ≡ Some c.node
       root_stands = ap (λ u. read v.slots (path_of u)) root_string ∙ read-nil v.slots ∙ ap Some (sym node_is)
 
-      root_spot : IsSpot IsKey bits width v key c
-      root_spot = record {
-        is_key = is_key;
-        level = 0;
-        depth_is = depth_is;
-        within = omega (arith, depth_is);
-        stands = root_stands;
-        each = each;
-      }
-
       -- is a walk
       pub root_walk : IsTrie width (len u.0.entries) v w u.0 × IsStack IsKey bits width v key ps × ArePassed bits key ps
       root_walk =
-          spots_walk key ps (subst (IsStack IsKey bits width v key) (sym only) (refl, root_spot, tt)) (passed-above bits key ps [] c only (All-nil (IsPassed bits key)))
+          let spot : IsSpot IsKey bits width v key c = record { is_key = is_key; level = 0; depth_is = depth_is; within = omega (arith, depth_is); stands = root_stands; each = each } in
+          spots_walk key ps (subst (IsStack IsKey bits width v key) (sym only) (refl, spot, tt)) (passed-above bits key ps [] c only (All-nil (IsPassed bits key)))
 
       -- and has the whole listing to come
       pub root_rest : (x : State T) → IsShapeOf v.slots w.slots x → pending bits u.0.entries key ps ≡ listing x.entries
@@ -133,3 +127,37 @@ module _ {K T : Type 0} (IsKey : K → Type 0) (bits : K → List Bool) (width :
           ∙ all_places width v (tree_of w s) tree (take c.depth (bits key)) c.node (ap (λ u. length u % 5) root_string) root_stands
           ∙ ap (listing_below s.entries) root_string ∙ listing_of_root s.entries
           ∙ ap (λ (y : State T). listing y.entries) (same_shape v.slots w.slots s x tree.shaped is)
+
+-- ---- a trail stands in each array of the same nodes, and what a step along it gives
+
+module _ {K : Type 0} (bits : K → List Bool) (width : ℕ) (IsKey IsOther : K → Type 0) (v w : Store Node) (same : v.slots ≡ w.slots) (key : K) (is : IsOther key) where
+  trail_in : (n : ℕ) (ps : List Spot) → IsTrail IsKey bits width v n key ps → IsTrail IsOther bits width w n key ps
+  trail_in n [] h = tt
+  trail_in n (p ∷ ps) h = (
+    h.0,
+    spot_as h.1 is refl (ap (λ nodes. read nodes (path_of (take p.depth (bits key)))) (sym same) ∙ h.1.stands) h.1.each,
+    trail_in (n + 5) ps h.2,
+  )
+
+  -- spots stand in one array where they stand in another of the same nodes, and whatever a key is
+  pub stack_in : (ps : List Spot) → IsStack IsKey bits width v key ps → IsStack IsOther bits width w key ps
+  stack_in ps h = trail_in (start ps) ps h
+
+-- what a step of a stack gives is the first key still to come
+pub step_gives : {K T : Type 0} (IsKey : K → Type 0) (bits : K → List Bool) (width : ℕ) (t : Tree T) (nodes : List Node) (old new : List (List Bool × T)) (o : Option (K × ℕ × Seat)) →
+    MatchOption o ((old ≡ []) × (new ≡ [])) (λ r. GivesSeat IsKey bits width t r.0 r.1 r.2 old new) → IfSome o (λ r. seat_of nodes (take r.1 (bits r.0)) ≡ Some r.2) →
+    MatchOption o ((map (λ e. e.0) old ≡ []) × (map (λ e. e.0) new ≡ [])) (λ r. GivesKey IsKey bits width nodes r.0 r.1 r.2 (map (λ e. e.0) old) (map (λ e. e.0) new))
+step_gives IsKey bits width t nodes old new None h seat = (ap (map (λ e. e.0)) h.0, ap (map (λ e. e.0)) h.1)
+step_gives IsKey bits width t nodes old new (Some r) h seat = record {
+  is_key = h.gives.is_key;
+  short = h.gives.short;
+  filled = h.gives.filled;
+  first = ap (map (λ e. e.0)) h.gives.first;
+  seated = seat;
+}
+
+-- a string that has a seat is stored
+pub seated_stored : {K T : Type 0} (bits : K → List Bool) (v : Store Node) (w : Store (Option T)) (count : ℕ) (s : Shaped v.slots w.slots) → IsTable v w count s.0 → (o : Option (K × ℕ × Seat)) →
+    IfSome o (λ r. seat_of v.slots (take r.1 (bits r.0)) ≡ Some r.2) → IfSome o (λ r. contains_key s.0.entries (take r.1 (bits r.0)) ≡ true)
+seated_stored bits v w count s is None h = tt
+seated_stored bits v w count s is (Some r) h = stored_if v w count s is (take r.1 (bits r.0)) ∙ ap is_some h

@@ -5,7 +5,7 @@ use Rattle.prefix_trie_table.specs.Shape.{Contents}
 use Rattle.prefix_trie_table.specs.Walking.Trails.{array_of, keys_to_come, GivesKey}
 use Rattle.prefix_trie_table.specs.Walking.Walks.{Tree, pending}
 use Rattle.prefix_trie_table.proofs.Tree.Invariant.{trie_of}
-use Rattle.prefix_trie_table.proofs.Walk.Trails.{stack_in, step_gives, seated_stored}
+use Rattle.prefix_trie_table.proofs.Walk.Walking.{stack_in, step_gives, seated_stored}
 use Rattle.prefix_trie_table.proofs.table.Table.step.Goals as goal
 
 pub advance-requires : goal.advance-requires

@@ -5,7 +5,7 @@ use Rattle.prefix_trie_table.specs.Shape.{Contents}
 use Rattle.prefix_trie_table.specs.Walking.Trails.{array_of, keys_to_come}
 use Rattle.prefix_trie_table.specs.Walking.Walks.{Tree}
 use Rattle.prefix_trie_table.proofs.Tree.Invariant.{trie_of}
-use Rattle.prefix_trie_table.proofs.Walk.Trails.{stack_in}
+use Rattle.prefix_trie_table.proofs.Walk.Walking.{stack_in}
 use Rattle.prefix_trie_table.proofs.table.Table.trail.Goals as goal
 
 pub start_at-stack-requires-clause-tree : goal.start_at-stack-requires-clause-tree
