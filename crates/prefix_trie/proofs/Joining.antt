@@ -12,7 +12,7 @@ use Rattle.prefix_trie_bits.proofs.Model.Members.{get-with_entry, same_string-is
 use Rattle.prefix_trie_bits.proofs.Model.Ordered.{sorted-tail}
 use Rattle.prefix_trie.specs.Laws.Joining.{JoinLaws, join_all, joined_by, with_value}
 use Rattle.prefix_trie_map.proofs.Listed.{listed_fit, listed_paths}
-use Rattle.prefix_trie.proofs.Putting.{not_behind}
+use Rattle.prefix_trie.proofs.Putting.{fit_in_turn, not_behind}
 
 module _ {P T : Type 0} (join : T → T → T) (path : P → List Bool) (back : List Bool → P) where
   -- pairs joined in turn: of each key its value joined to the one that stands among them
@@ -36,10 +36,9 @@ pub join_laws : {K P : Type 0} {w : ℕ} {IsKey : K → Type 0} {bits : K → Li
 join_laws {path = path} {IsFitting = IsFitting} {back = back} laws T = record {
   starts = λ join from to within walk gives.
       (All-same (λ e. IsFitting e.0) walk (shown back (listing from)) gives (listed_fit laws from within), ap (λ xs. join_all join path xs to) gives);
-  next_fits = λ join now whole item rest left first joins.
-      All-head (λ e. IsFitting e.0) item rest (All-same (λ e. IsFitting e.0) (item ∷ rest) left (sym first) joins.0);
+  next_fits = λ join now whole item rest left first joins. (fit_in_turn IsFitting first joins.0).0;
   goes_on = λ join now next whole item rest left first put joins. (
-    All-tail (λ e. IsFitting e.0) item rest (All-same (λ e. IsFitting e.0) (item ∷ rest) left (sym first) joins.0),
+    (fit_in_turn IsFitting first joins.0).1,
     ap (join_all join path rest) put ∙ ap (λ xs. join_all join path xs now) (sym first) ∙ joins.1,
   );
   joined = λ join from to within s.

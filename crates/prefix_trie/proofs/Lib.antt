@@ -10,7 +10,6 @@ pub mod Swapping
 mod SameKeys
 pub mod Callers
 pub mod Collecting
-mod Units
 pub mod Steps
 mod Stored
 mod Lookups

@@ -24,15 +24,12 @@ fit_in_turn IsFitting {item = item} {rest = rest} {left = left} first fit =
 module _ {P T : Type 0} (path : P → List Bool) (IsFitting : P → Type 0) where
   -- the next prefix fits
   pub next_fits : (now : Entries T) {item : P × T} {rest left : List (P × T)} {whole : Entries T} → left ≡ item ∷ rest → Leads path IsFitting left now whole → IsFitting item.0
-  next_fits now {item = item} {rest = rest} {left = left} first leads =
-      All-head (λ e. IsFitting e.0) item rest (All-same (λ e. IsFitting e.0) (item ∷ rest) left (sym first) leads.0)
+  next_fits now first leads = (fit_in_turn IsFitting first leads.0).0
 
   -- and once it is put, the rest leads there still
   pub leads_on : (now : Entries T) {item : P × T} {rest left : List (P × T)} {then whole : Entries T} → left ≡ item ∷ rest → then ≡ with_entry now (path item.0) item.1 → Leads path IsFitting left now whole → Leads path IsFitting rest then whole
-  leads_on now {item = item} {rest = rest} {left = left} first put leads = (
-    All-tail (λ e. IsFitting e.0) item rest (All-same (λ e. IsFitting e.0) (item ∷ rest) left (sym first) leads.0),
-    ap (put_all path rest) put ∙ ap (λ xs. put_all path xs now) (sym first) ∙ leads.1,
-  )
+  leads_on now {rest = rest} first put leads =
+      ((fit_in_turn IsFitting first leads.0).1, ap (put_all path rest) put ∙ ap (λ xs. put_all path xs now) (sym first) ∙ leads.1)
 
 module _ {P T : Type 0} (path : P → List Bool) (back : List Bool → P) where
   -- a string is not found behind its place in a sorted list

@@ -13,7 +13,7 @@ use Rattle.prefix_trie_bits.specs.declared.prefix.Key as key
 use Rattle.prefix_trie_bits.specs.Order.{listing_cmp, same_string}
 use Rattle.prefix_trie_bits.specs.Model.Entries.{Entries, with_entry}
 use Rattle.prefix_trie_bits.specs.Model.Selections.{listing}
-use Rattle.prefix_trie_bits.proofs.Model.Members.{and-first, and-second, get-with_entry, is-same_string, same_string-is}
+use Rattle.prefix_trie_bits.proofs.Model.Members.{and-first, and-second, or-right, get-with_entry, is-same_string, same_string-is}
 use Rattle.prefix_trie_bits.proofs.Model.Ordered.{sorted-head, sorted-tail, t-true, true-t}
 use Rattle.prefix_trie_table.specs.Shape.{Contents}
 use Rattle.prefix_trie_table.proofs.Walk.KeySets.{bare, sorted_mapped}
@@ -22,11 +22,6 @@ use Rattle.prefix_trie_map.specs.Writing.{keys_left, IsFirst, GoesOver, ComesToE
 use Rattle.prefix_trie_map.specs.WritingWalks.{PassesIn, EndsIn, FirstIn}
 use Rattle.prefix_trie_map.proofs.Writing.{left_at_start, left_behind, none_left}
 use Rattle.prefix_trie.specs.Rewriting.{keyed, AreOrdered, is_left, Rewrites, RewritesIn, OrderedIn}
-
--- the first of some keys
-abbrev pub first_key : List (List Bool) → List Bool
-first_key [] = []
-first_key (s ∷ ks) = s
 
 -- a key that comes before all of a list is not in it
 apart : (k : List Bool) (ks : List (List Bool)) → IsT (below_all listing_cmp k (map keyed ks)) → list_any (same_string k) ks ≡ false
@@ -82,7 +77,7 @@ module _ {P T A R : Type 0} {p : prefix.Ghosts P R} {shows : debug.Ghosts P} {k 
   rewrites_one c d e q x so_far first goes = record {
     same_map = ap (λ (b : MutBor (Contents T)). b.ghost_name) goes.map ∙ so_far.same_map;
     ordered = sorted-tail (keyed goes.key) (map keyed (keys_left e)) sorted;
-    part = λ s h. so_far.part s (ap (list_any (same_string s)) behind ∙ later (same_string s goes.key) (is_left e s) h);
+    part = λ s h. so_far.part s (ap (list_any (same_string s)) behind ∙ or-right (same_string s goes.key) (is_left e s) h);
     values = λ s. ap (λ (b : MutBor (Contents T)). get b.now.entries s) goes.map ∙ get-with_entry d.map.now.entries goes.key (f x) s ∙ at s (same_string s goes.key) refl;
     others =
         ap (λ (b : MutBor (Contents T)). b.now) goes.map
@@ -96,12 +91,8 @@ module _ {P T A R : Type 0} {p : prefix.Ghosts P R} {shows : debug.Ghosts P} {k 
       sorted : IsT (is_sorted listing_cmp (map keyed (goes.key ∷ keys_left e)))
       sorted = subst AreOrdered behind so_far.ordered
 
-      later : (a b : Bool) → b ≡ true → (a || b) ≡ true
-      later true b h = refl
-      later false b h = h
-
       key_is : first.0 ≡ goes.key
-      key_is = ap first_key (sym first.2.0 ∙ behind)
+      key_is = let both = sym first.2.0 ∙ behind in cc
 
       left_before : is_left d goes.key ≡ true
       left_before = ap (list_any (same_string goes.key)) behind ∙ ap (λ b. b || is_left e goes.key) (is-same_string goes.key goes.key refl)

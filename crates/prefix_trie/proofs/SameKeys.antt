@@ -19,19 +19,16 @@ same_entries m n =
     (λ h. same_entries_map m n (lists.0 h), λ h. lists.1 (ap listing h))
 
 -- the strings of some entries are no longer than the width
-AreShort : ℕ → List (List Bool × Unit {0}) → Type 0
+abbrev AreShort : ℕ → List (List Bool × Unit {0}) → Type 0
 AreShort w es = (k : List Bool) → list_any (same_string k) (map (λ e. e.0) es) ≡ true → length k ≤ w
 
 short_first : (w : ℕ) (e : List Bool × Unit {0}) (es : List (List Bool × Unit {0})) → AreShort w (e ∷ es) → length e.0 ≤ w
-unfolding AreShort
 short_first w e es h = h e.0 (or-left (same_string e.0 e.0) (list_any (same_string e.0) (map (λ e. e.0) es)) (is-same_string e.0 e.0 refl))
 
 short_later : (w : ℕ) (e : List Bool × Unit {0}) (es : List (List Bool × Unit {0})) → AreShort w (e ∷ es) → AreShort w es
-unfolding AreShort
 short_later w e es h = λ k is. h k (or-right (same_string k e.0) (list_any (same_string k) (map (λ e. e.0) es)) is)
 
 short_keys : (w : ℕ) (m : Entries (Unit {0})) → AreWithin w m → AreShort w (listing m)
-unfolding AreShort
 short_keys w m h = λ k is. h k (contains_key-keys m k ∙ is)
 
 module _ {K P : Type 0} {w : ℕ} {IsKey : K → Type 0} {bits : K → List Bool} {key_of : List Bool → K} {repr_of : P → K} {len_of : P → ℕ} {path : P → List Bool} {IsFitting : P → Type 0} {from_parts : K → ℕ → P} {back : List Bool → P} (laws : PrefixLaws w IsKey bits key_of repr_of len_of path IsFitting from_parts back) (same : K → K → Bool) (itself : (a : K) → same a a ≡ true) (is : (a b : K) → same a b ≡ true → a ≡ b) where

@@ -1,5 +1,5 @@
 -- What a map becomes whose first value is swapped on a walk.
-use Rattle.std.proofs.Common.{◌≡◌, Bool, true, false, List, [], ◌∷◌, map, Option, None, Some, IfNone, MatchOption, is_none, slice_get, refl, sym, ap, ap₂, ◌∙◌, true≢false, unwrap_or}
+use Rattle.std.proofs.Common.{◌≡◌, Bool, true, List, [], ◌∷◌, map, Option, None, Some, IfNone, MatchOption, is_none, slice_get, refl, sym, ap, ap₂, ◌∙◌, true≢false, unwrap_or}
 use Rattle.std.specs.Borrow.{MutBor}
 use Rattle.std.specs.FinMap.{get, get-entries, find}
 use Rattle.std.specs.declared.cmp.PartialEq as partial
@@ -15,22 +15,17 @@ use Rattle.prefix_trie_map.specs.declared.map.writing.course.Course.{Course}
 use Rattle.prefix_trie_map.specs.Writing.{IsFirst, GoesOver, ComesToEnd, StartsIn, HandsBack}
 use Rattle.prefix_trie_map.specs.WritingWalks.{PassesIn, EndsIn, IsOverIn, FirstIn}
 use Rattle.prefix_trie_map.proofs.Writing.{left_at_start, left_behind}
-use Rattle.prefix_trie.proofs.Rewriting.{first_key}
-
-abbrev is_cons : {X : Type 0} → List X → Bool
-is_cons [] = false
-is_cons (x ∷ xs) = true
 
 no_keys : {T : Type 0} (es : List (List Bool × T)) → map (λ e. e.0) es ≡ [] → es ≡ []
 no_keys [] is = refl
-no_keys (e ∷ es) is = absurd (true≢false (ap is_cons is))
+no_keys (e ∷ es) is = absurd cc
 
 -- the first entry of a map, as users see it
 first_shown : {P T : Type 0} (back : List Bool → P) (m : Entries T) (es : List (List Bool × T)) (s : List Bool) (rest : List (List Bool)) (v : T) →
     listing m ≡ es → map (λ e. e.0) es ≡ s ∷ rest → get m s ≡ Some v → Some (back s, v) ≡ slice_get (shown back es) 0
-first_shown back m [] s rest v listed is found = absurd (true≢false (ap is_cons (sym is)))
+first_shown back m [] s rest v listed is found = absurd cc
 first_shown back m (e ∷ es) s rest v listed is found =
-    let key : e.0 ≡ s = ap first_key is in
+    let key : e.0 ≡ s = cc in
     let value : Some v ≡ Some e.1 = sym found ∙ ap (get m) (sym key) ∙ get-entries m e.0 ∙ ap (find listing_cmp e.0) listed ∙ found_first e es in
     ap₂ (λ q x. Some (q, x)) (ap back (sym key)) (ap (λ o. unwrap_or o v) value)
 
@@ -62,15 +57,16 @@ module _ {P T A R : Type 0} {p : prefix.Ghosts P R} {shows : debug.Ghosts P} {k 
         same_map = back.0 ∙ ap (λ (b : MutBor (Contents T)). b.ghost_name) ends.map ∙ starts.same_map;
         before = sym (ap (λ es. slice_get (shown p.back es) 0) none);
         unchanged = λ h. back.1 ∙ ap (λ (b : MutBor (Contents T)). b.now) ends.map ∙ starts.map;
-        swapped = λ q v rest is. absurd (true≢false (ap is_cons (sym is ∙ none)));
+        swapped = λ q v rest is. absurd (let both = sym is ∙ none in cc);
       }
   swaps_first m value (Some e) (Some c) (Some d) n starts (first, goes) back = record {
     same_map = back.0 ∙ ap (λ (b : MutBor (Contents T)). b.ghost_name) goes.map ∙ starts.same_map;
     before =
         ap (λ q. Some (q, e.1)) first.3
         ∙ first_shown p.back m.now.entries (listing m.now.entries) first.0 first.1.to_come e.1 refl (sym (left_at_start m _ c starts) ∙ first.2.0) (ap (λ (x : Contents T). get x.entries first.0) (sym starts.map) ∙ first.4);
-    unchanged = λ none. absurd (true≢false (ap is_cons (sym first.2.0 ∙ left_at_start m _ c starts ∙ ap (map (λ x. x.0)) none)));
+    unchanged = λ none. absurd (let both = sym first.2.0 ∙ left_at_start m _ c starts ∙ ap (map (λ x. x.0)) none in cc);
     swapped = λ q v rest is.
-        let key : goes.key ≡ q = ap first_key (sym (left_behind c d value goes) ∙ left_at_start m _ c starts ∙ ap (map (λ x. x.0)) is) in
+        let both = sym (left_behind c d value goes) ∙ left_at_start m _ c starts ∙ ap (map (λ x. x.0)) is in
+        let key : goes.key ≡ q = cc in
         back.1 ∙ ap (λ (b : MutBor (Contents T)). b.now) goes.map ∙ (λ i. with_value_at (starts.map i) (key i) value);
   }

@@ -5,19 +5,19 @@ use Rattle.std.specs.Iterator.{HoldsAlong, Yields, Drains}
 use Rattle.std.specs.Iterator.Adapters.{map_source}
 use Rattle.prefix_trie_bits.specs.Model.Entries.{no_entries, put_all}
 use Rattle.prefix_trie.specs.Sets.{as_item}
-use Rattle.prefix_trie.proofs.Units.{units_from, units_drained, units_fit}
+use Rattle.prefix_trie.proofs.Copies.{come_copied, all_copied, copies_hold}
 use Rattle.prefix_trie.proofs.set.PrefixSet.from_iter.Goals as goal
 
 pub from_iter-requires-clause-fit : goal.from_iter-requires-clause-fit
 from_iter-requires-clause-fit g c = λ it is.
-    units_fit g.I.IntoIter.Iterator.next_gives _ (λ f p x f' called. search (rules, of_calls, called)) g.P.Prefix.IsFitting it
+    copies_hold g.I.IntoIter.Iterator.next_gives as_item _ (λ f p x f' called. search (rules, of_calls, called)) (λ item. g.P.Prefix.IsFitting item.0) it
     (subst (λ s. HoldsAlong g.I.IntoIter.Iterator.next_gives s (All g.P.Prefix.IsFitting)) (sym (ap map_source is ∙ c.map-units.ensures.source))
     (c.requires.fit c.into_iter.result c.into_iter.ensures.into_iter_gives))
 
 pub returns-clause-entries : goal.returns-clause-entries
 returns-clause-entries g c =
     let e = c.in_ok-map.ensures.entries in
-    let d = units_drained g.I.IntoIter.Iterator.next_gives _ (λ f p x f' called. search (rules, of_calls, called)) e.0 e.1 e.3 in (
+    let d = all_copied g.I.IntoIter.Iterator.next_gives as_item _ (λ f p x f' called. search (rules, of_calls, called)) e.1 e.0 e.3 in (
       c.into_iter.result,
       d.0,
       c.into_iter.ensures.into_iter_gives,
@@ -30,7 +30,7 @@ returns-in_err-map-clause-range g c =
     let p = err_from_is_err_and c.from_residual.result c.from_residual.ensures.1 in
     rw (p.1, p.2) (λ is_range.
     let e = c.in_err-map.ensures.range is_range in
-    let y = units_from g.I.IntoIter.Iterator.next_gives _ (λ f p x f' called. search (rules, of_calls, called)) e.0 e.2 e.1 e.4 in (
+    let y = come_copied g.I.IntoIter.Iterator.next_gives as_item _ (λ f p x f' called. search (rules, of_calls, called)) e.1 e.0 e.2 e.4 in (
       c.into_iter.result,
       y.0,
       map_source e.2,
