@@ -54,3 +54,11 @@ listing-extension [] (b ∷ t) e h = refl
 listing-extension (true ∷ s) (true ∷ t) e h = listing-extension s t e (omega (arith, h))
 listing-extension (false ∷ s) (false ∷ t) e h = listing-extension s t e (omega (arith, h))
 listing-extension s t e h = cc
+
+-- strings that differ within both stay in order whatever follows
+pub listing-apart : (s t x y : List Bool) → listing_cmp s t ≡ Less → begins s t ≡ false → listing_cmp (s ++ x) (t ++ y) ≡ Less
+unfolding begins
+listing-apart (true ∷ s) (true ∷ t) x y l e = listing-apart s t x y l e
+listing-apart (false ∷ s) (true ∷ t) x y l e = refl
+listing-apart (false ∷ s) (false ∷ t) x y l e = listing-apart s t x y l e
+listing-apart s t x y l e = cc
