@@ -1,17 +1,6 @@
 -- What callers of a map with an unknown history conclude.
-use Rattle.std.proofs.Common.{◌≡◌, ℕ, ◌≤◌, Bool, false, List, [], ◌∷◌, length, filter, cond, Option, Result, Ok, Err, IfOk, refl, sym, ap, ◌∙◌}
+use Rattle.prefix_trie.proofs.Prelude.{◌≡◌, ℕ, ◌≤◌, Bool, false, List, [], ◌∷◌, length, filter, cond, Option, Result, Ok, Err, IfOk, refl, sym, ap, ◌∙◌, contains_key, get, All-head, All-tail, IsMap, with_entry, without_entry, IsTidy, with_needed, nodes_without, State, Step, Reply, Insert, Remove, Value, stays_map, stays_tidy, step_laws, AreCloned, Contents, is_none-None, CopyLaws}
 use Rattle.std.specs.List.{All}
-use Rattle.std.specs.FinMap.{contains_key, get}
-use Rattle.std.proofs.lemmas.List.Elements.{All-head, All-tail}
-use Rattle.prefix_trie_bits.specs.Laws.Steps.{IsMap}
-use Rattle.prefix_trie_bits.specs.Model.Entries.{with_entry, without_entry}
-use Rattle.prefix_trie_bits.specs.Model.Nodes.{IsTidy, with_needed, nodes_without}
-use Rattle.prefix_trie_bits.specs.Model.Step.{State, Step, Reply, Insert, Remove, Value}
-use Rattle.prefix_trie_bits.proofs.Model.Steps.{stays_map, stays_tidy, step_laws}
-use Rattle.prefix_trie_table.specs.Copies.{AreCloned}
-use Rattle.prefix_trie_table.specs.Shape.{Contents}
-use Rattle.prefix_trie_table.proofs.Tree.Trees.{is_none-None}
-use Rattle.prefix_trie_map.specs.Copied.{CopyLaws}
 
 -- tests that agree at each item keep the same
 pub filter_where : {X : Type 0} (p q : X → Bool) (xs : List X) → All (λ x. p x ≡ q x) xs → filter p xs ≡ filter q xs

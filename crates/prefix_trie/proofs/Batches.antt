@@ -1,10 +1,6 @@
 -- What one call answers of many addresses.
-use Rattle.std.proofs.Common.{◌≡◌, ℕ, List, Option, map, take, ap, ◌∙◌, arith}
-use Rattle.std.specs.Option.{option_map}
-use Rattle.std.proofs.lemmas.List.{take_all}
-use Rattle.std.proofs.lemmas.Simd.{map-map}
-use Rattle.prefix_trie_bits.specs.BitStrings.{length-digits}
-use Rattle.prefix_trie.specs.Words.{Entries, digits, ipv4_address, longest_match}
+use Rattle.prefix_trie.proofs.Prelude.{◌≡◌, ℕ, List, Option, map, take, ap, ◌∙◌, arith, option_map, take_all, map-map, length-digits, ipv4_address, longest_match}
+use Rattle.prefix_trie.specs.Words.{Entries, digits}
 
 -- the values of the longest matches of addresses
 pub hops_of : {T : Type 0} (entries : Entries T) (addresses : List ℕ) (asked : List (ℕ × ℕ)) → asked ≡ map (λ addr. (addr, 32)) addresses → (answers : List (Option T))

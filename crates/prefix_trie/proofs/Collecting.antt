@@ -1,8 +1,6 @@
 -- What an iterator gives that is seen as the list of the items still to come.
-use Rattle.std.proofs.Common.{◌≡◌, List, [], ◌∷◌, Option, None, Some, sym, ap, ◌∙◌}
-use Rattle.std.specs.Iterator.{Drains, HoldsAlong}
+use Rattle.prefix_trie.proofs.Prelude.{◌≡◌, List, [], ◌∷◌, Option, None, Some, sym, ap, ◌∙◌, Drains, HoldsAlong, All-nil, All-cons, All-head, All-tail, All-same}
 use Rattle.std.specs.List.{All}
-use Rattle.std.proofs.lemmas.List.Elements.{All-nil, All-cons, All-head, All-tail, All-same}
 
 module _ {S A : Type 0} (steps : S → Option A → S → Type 0) (rest : S → List A) (first : (s t : S) (x : A) → steps s (Some x) t → rest s ≡ x ∷ rest t) where
   -- what holds of each of them holds of each that was given

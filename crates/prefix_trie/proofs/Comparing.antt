@@ -1,14 +1,6 @@
 -- Two maps that `==` finds equal have the same entries.
-use Rattle.std.proofs.Common.{◌≡◌, ◌↔◌, ℕ, Bool, true, ◌&&◌, eqb, eqb-true, eq-eqb, List, [], ◌∷◌, map, refl, sym, ap, ◌∙◌}
-use Rattle.std.specs.Cmp.Lexicographic.{pointwise_decides}
-use Rattle.std.specs.FinMap.{same_entries_map}
+use Rattle.prefix_trie.proofs.Prelude.{◌≡◌, ◌↔◌, ℕ, Bool, true, ◌&&◌, eqb, eqb-true, eq-eqb, List, [], ◌∷◌, map, refl, sym, ap, ◌∙◌, pointwise_decides, same_entries_map, All-head, All-tail, PrefixLaws, listing, shown, and-first, and-second, and-join, listed_paths, EqualLaws}
 use Rattle.std.specs.List.{All}
-use Rattle.std.proofs.lemmas.List.Elements.{All-head, All-tail}
-use Rattle.prefix_trie_bits.specs.Keys.{PrefixLaws}
-use Rattle.prefix_trie_bits.specs.Model.Selections.{listing, shown}
-use Rattle.prefix_trie_bits.proofs.Model.Members.{and-first, and-second, and-join}
-use Rattle.prefix_trie_map.proofs.Listed.{listed_paths}
-use Rattle.prefix_trie.specs.Laws.Comparing.{EqualLaws}
 
 -- the keys of items are the paths of the prefixes that are shown
 unshown : {P T : Type 0} (path : P → List Bool) (back : List Bool → P) (es : List (List Bool × T)) → All (λ e. path (back e.0) ≡ e.0) es → map (λ x. (path x.0, x.1)) (shown back es) ≡ es

@@ -1,12 +1,6 @@
 -- What a list has that takes in a walk whose items are copied.
-use Rattle.std.proofs.Common.{◌≡◌, refl, List, [], ◌∷◌, ◌++◌, map, sym, ap, subst, ◌∙◌, Option, Result, Ok, Err, IfOk, All}
+use Rattle.prefix_trie.proofs.Prelude.{◌≡◌, refl, List, [], ◌∷◌, ◌++◌, map, sym, ap, subst, ◌∙◌, Option, Result, Ok, Err, IfOk, All, All-map, Yields, Drains, HoldsAlong, map_source, map_steps, Map, Mut, Called, TakesFirst}
 use Rattle.std.proofs.lemmas.List.{append-nil}
-use Rattle.std.proofs.lemmas.List.Elements.{All-map}
-use Rattle.std.specs.Iterator.{Yields, Drains, HoldsAlong}
-use Rattle.std.specs.Iterator.Adapters.{map_source, map_steps}
-use Rattle.std.specs.declared.iter.Map.{Map}
-use Rattle.std.specs.Fn.{Mut, Called}
-use Rattle.std.specs.Map.Iter.{TakesFirst}
 
 module _ {S X A F : Type 0} (steps : S → Option A → S → Type 0) (shows : A → X) (g : Mut F (A × Unit {0}) X) (each : (f : F) (x : A) (y : X) (later : F) → Called g f (x, tt) y later → y ≡ shows x) where
   -- the copies that came are of items that the walk gave

@@ -1,17 +1,7 @@
 -- What a loop leaves that joins the values of one map to those of another, and how its invariant goes on.
-use Rattle.std.proofs.Common.{◌≡◌, ℕ, Bool, true, false, cond, T, List, [], ◌∷◌, Some, refl, sym, ap, ◌∙◌}
+use Rattle.prefix_trie.proofs.Prelude.{◌≡◌, ℕ, Bool, true, false, cond, T, List, [], ◌∷◌, Some, refl, sym, ap, ◌∙◌, entries_sorted, get, get-entries, is_sorted, find, All-head, All-tail, All-same, PrefixLaws, listing_cmp, same_string, Entries, with_entry, listing, shown, get-with_entry, same_string-is, sorted-tail, JoinLaws, join_all, joined_by, with_value, listed_fit, listed_paths}
 use lib.Dec.{T as IsT}
 use Rattle.std.specs.List.{All}
-use Rattle.std.specs.FinMap.{entries_sorted, get, get-entries, is_sorted, find}
-use Rattle.std.proofs.lemmas.List.Elements.{All-head, All-tail, All-same}
-use Rattle.prefix_trie_bits.specs.Keys.{PrefixLaws}
-use Rattle.prefix_trie_bits.specs.Order.{listing_cmp, same_string}
-use Rattle.prefix_trie_bits.specs.Model.Entries.{Entries, with_entry}
-use Rattle.prefix_trie_bits.specs.Model.Selections.{listing, shown}
-use Rattle.prefix_trie_bits.proofs.Model.Members.{get-with_entry, same_string-is}
-use Rattle.prefix_trie_bits.proofs.Model.Ordered.{sorted-tail}
-use Rattle.prefix_trie.specs.Laws.Joining.{JoinLaws, join_all, joined_by, with_value}
-use Rattle.prefix_trie_map.proofs.Listed.{listed_fit, listed_paths}
 use Rattle.prefix_trie.proofs.Putting.{fit_in_turn, not_behind}
 
 module _ {P T : Type 0} (join : T → T → T) (path : P → List Bool) (back : List Bool → P) where

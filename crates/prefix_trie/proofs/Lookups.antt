@@ -1,16 +1,7 @@
 -- What lookups find, in words, and which stored key is the longest that begins a question after a change.
-use Rattle.std.proofs.Common.{◌≡◌, ◌≢◌, inl, inr, ℕ, ◌+◌, ◌<◌, ◌≤◌, Bool, true, false, List, [], length, take, Option, Some, None, is_some, refl, sym, ap, ◌∙◌, subst, arith, true≢false}
-use Rattle.std.proofs.lemmas.List.{length-take-le}
-use Rattle.std.proofs.lemmas.Bool.{cases_lt}
-use Rattle.std.specs.Option.{IfSome, MatchOption, option_map}
-use Rattle.std.specs.FinMap.{contains_key, get}
-use Rattle.prefix_trie_bits.specs.Bits.{begins}
-use Rattle.prefix_trie_bits.specs.Begins.{begins-trans, begins-linear, begins-length, take-begins}
-use Rattle.prefix_trie_bits.specs.Model.Entries.{Entries, no_entries, with_entry, without_entry}
-use Rattle.prefix_trie_bits.specs.Model.Matches.{IsLongestMatch, longest_match, shortest_match, shown_match}
-use Rattle.prefix_trie_bits.proofs.Model.Matches.{match_laws, one_of_length}
-use Rattle.prefix_trie_bits.proofs.Model.Members.{some-value, of-key}
-use Rattle.prefix_trie.specs.Laws.Lookups.{IsUncovered, LookupLaws}
+use Rattle.prefix_trie.proofs.Prelude.{◌≡◌, ◌≢◌, inl, inr, ℕ, ◌+◌, ◌<◌, ◌≤◌, Bool, true, false, List, [], length, take, Option, Some, None, is_some, refl, sym, ap, ◌∙◌, subst, arith, true≢false, length-take-le, cases_lt, IfSome, option_map, contains_key, get, begins, begins-trans, begins-linear, begins-length, take-begins, Entries, no_entries, with_entry, without_entry, IsLongestMatch, shortest_match, shown_match, match_laws, one_of_length, some-value, of-key, IsUncovered, LookupLaws}
+use Rattle.std.specs.Option.{MatchOption}
+use Rattle.prefix_trie_bits.specs.Model.Matches.{longest_match}
 use Rattle.prefix_trie.proofs.Stored.{stored_laws, set_stored, taken_stored}
 
 module _ {T : Type 0} where

@@ -1,20 +1,11 @@
 -- What callers of `and_modify(..).or_insert(..)` conclude.
-use Rattle.std.proofs.Common.{◌≡◌, Bool, cond, List, None, Some, refl, sym, ap, ◌∙◌, MutBor}
-use Rattle.std.specs.FinMap.{get}
-use Rattle.std.specs.Option.{option_map, unwrap_or}
+use Rattle.prefix_trie.proofs.Prelude.{◌≡◌, Bool, cond, List, None, Some, refl, sym, ap, ◌∙◌, MutBor, get, option_map, Entries, with_entry, get-with_entry, is-same_string, Contents, is_none-None, Entry, Occupied, Vacant, ModifiesEntry, entry_key, entry_map, entry_path, entry_value, entry_twice}
+use Rattle.std.specs.Option.{unwrap_or}
 use denote.Param.Members.{Once}
 use Rattle.std.specs.declared.cmp.PartialEq as partial
 use Rattle.std.specs.declared.fmt.Debug as debug
 use Rattle.prefix_trie_bits.specs.declared.prefix.Prefix as prefix
 use Rattle.prefix_trie_bits.specs.declared.prefix.Key as key
-use Rattle.prefix_trie_bits.specs.Model.Entries.{Entries, with_entry}
-use Rattle.prefix_trie_bits.proofs.Model.Members.{get-with_entry, is-same_string}
-use Rattle.prefix_trie_table.specs.Shape.{Contents}
-use Rattle.prefix_trie_table.proofs.Tree.Trees.{is_none-None}
-use Rattle.prefix_trie_map.specs.declared.map.entry.Entry.{Entry}
-use Rattle.prefix_trie_map.specs.declared.map.entry.Entry.TheVariants.{Occupied, Vacant}
-use Rattle.prefix_trie_map.specs.Entry.{ModifiesEntry, entry_key, entry_map, entry_path, entry_value}
-use Rattle.prefix_trie_map.proofs.Placing.{entry_twice}
 
 module _ {P T A R : Type 0} {p : prefix.Ghosts P R} {shows : debug.Ghosts P} {k : key.Ghosts R} {same : partial.Ghosts R} {writes : debug.Ghosts R} where
   module _ {F : Type 0} (h : Once F (MutBor T × Unit {0}) (Unit {0} × (MutBor T × Unit {0}))) (test : F) (f : T → T) (does : (x y : MutBor T) → h.post test (x, tt) (tt, (y, tt)) → y.now ≡ f x.now) where

@@ -1,13 +1,5 @@
 -- The path of a network, or of a pair of a number and a length, in numbers.
-use Rattle.std.proofs.Common.{◌≡◌, ℕ, ◌+◌, ◌-◌, ◌^◌, ◌/◌, ◌<◌, ◌≤◌, length, take, nat_eq, refl, sym, ap, ◌∙◌, subst, arith, eqb-true, eq-eqb, Option, Some, None}
-use Rattle.std.specs.Option.{IfSome, option_map}
-use Rattle.std.proofs.lemmas.List.{length-take-le, take_all}
-use Rattle.std.proofs.lemmas.Nat.{shr_below}
-use Rattle.prefix_trie_bits.specs.Bits.{begins, digits, number}
-use Rattle.prefix_trie_bits.specs.BitStrings.{length-digits, take-digits, number_of_digits}
-use Rattle.prefix_trie_bits.specs.Begins.{same_bool, begins-take, begins-from-take}
-use Rattle.prefix_trie.specs.Laws.Networks.{NetworkLaws}
-use Rattle.prefix_trie.specs.Laws.Numbers.{NumberLaws}
+use Rattle.prefix_trie.proofs.Prelude.{◌≡◌, ℕ, ◌+◌, ◌-◌, ◌^◌, ◌/◌, ◌<◌, ◌≤◌, length, take, nat_eq, refl, sym, ap, ◌∙◌, subst, arith, eqb-true, eq-eqb, Option, Some, None, IfSome, option_map, length-take-le, take_all, shr_below, begins, digits, number, length-digits, take-digits, number_of_digits, same_bool, begins-take, begins-from-take, NetworkLaws, NumberLaws}
 
 -- the number that the first len bits of a number of w bits write has len bits
 first_below : (w n len : ℕ) → n < 2 ^ w → len ≤ w → n / 2 ^ (w - len) < 2 ^ len

@@ -1,20 +1,7 @@
 -- A list that is read in pages, and what is behind the last item that was read of a listing.
-use Rattle.std.proofs.Common.{◌≡◌, ℕ, ◌+◌, ◌-◌, ◌<◌, ◌≤◌, Bool, List, [], ◌∷◌, ◌++◌, Some, length, take, drop, min, get_or, sym, ap, ◌∙◌, arith, suc, append_assoc, append-nil, length-append}
-use Rattle.std.specs.FinMap.{len, len-entries}
+use Rattle.prefix_trie.proofs.Prelude.{◌≡◌, ℕ, ◌+◌, ◌-◌, ◌<◌, ◌≤◌, Bool, List, [], ◌∷◌, ◌++◌, Some, length, take, drop, min, get_or, sym, ap, ◌∙◌, arith, suc, append_assoc, append-nil, length-append, len, len-entries, slice_get_within, slice_get-get_or, length-map, length-take, nil_from_length, take_all, take-append-drop, All-head, All-same, drop-cons, take-append_seam, drop_of_length-le, PrefixLaws, Entries, listing, shown, All-append_right, listed_fit, resume_laws, PageLaws}
 use Rattle.std.specs.List.{slice_get}
 use Rattle.std.specs.Option.{unwrap_or}
-use Rattle.std.proofs.lemmas.Option.{slice_get_within, slice_get-get_or}
-use Rattle.std.proofs.lemmas.List.{length-map, length-take, nil_from_length, take_all, take-append-drop}
-use Rattle.std.proofs.lemmas.List.Elements.{All-head, All-same}
-use Rattle.std.proofs.Math.Seq.{drop-cons, take-append_seam}
-use Rattle.std.proofs.Math.ListN.{drop_of_length-le}
-use Rattle.prefix_trie_bits.specs.Keys.{PrefixLaws}
-use Rattle.prefix_trie_bits.specs.Model.Entries.{Entries}
-use Rattle.prefix_trie_bits.specs.Model.Selections.{listing, shown}
-use Rattle.prefix_trie_table.proofs.Blocks.Tilings.{All-append_right}
-use Rattle.prefix_trie_map.proofs.Listed.{listed_fit}
-use Rattle.prefix_trie_map.proofs.Resumed.{resume_laws}
-use Rattle.prefix_trie.specs.Laws.Paging.{PageLaws}
 
 module _ {X : Type 0} (xs : List X) (x : X) (found : slice_get xs (length xs - 1) ≡ Some x) where
   -- a list ends with its last item

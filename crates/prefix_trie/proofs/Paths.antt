@@ -1,8 +1,5 @@
 -- The path of a prefix, of any type of prefixes.
-use Rattle.std.proofs.Common.{◌≡◌, ℕ, Bool, List, ◌∙◌, arith}
-use Rattle.std.proofs.lemmas.List.{take_all}
-use Rattle.prefix_trie_bits.specs.Keys.{PrefixLaws, path_length, path_back, fits_back}
-use Rattle.prefix_trie.specs.Laws.Paths.{PathLaws}
+use Rattle.prefix_trie.proofs.Prelude.{◌≡◌, ℕ, Bool, List, ◌∙◌, arith, take_all, PrefixLaws, path_length, path_back, fits_back, PathLaws}
 
 module _ {K P : Type 0} {w : ℕ} {IsKey : K → Type 0} {bits : K → List Bool} {key_of : List Bool → K} {repr_of : P → K} {len_of : P → ℕ} {path : P → List Bool} {IsFitting : P → Type 0} {from_parts : K → ℕ → P} {back : List Bool → P} (laws : PrefixLaws w IsKey bits key_of repr_of len_of path IsFitting from_parts back) where
   full : (p : P) → IsFitting p → len_of p ≡ w → path p ≡ bits (repr_of p)

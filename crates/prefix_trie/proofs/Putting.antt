@@ -1,18 +1,7 @@
 -- What a loop leaves that puts the entries of one map into another, and how its invariant goes on.
-use Rattle.std.proofs.Common.{◌≡◌, ℕ, Bool, true, false, cond, T, List, [], ◌∷◌, Option, Some, None, refl, sym, ap, ◌∙◌}
+use Rattle.prefix_trie.proofs.Prelude.{◌≡◌, ℕ, Bool, true, false, cond, T, List, [], ◌∷◌, Option, Some, None, refl, sym, ap, ◌∙◌, option_or, entries_sorted, get, get-entries, is_sorted, find, All-head, All-tail, All-same, PrefixLaws, listing_cmp, same_string, Entries, AreWithin, no_entries, put_all, with_entry, listing, shown, get-with_entry, same_string-is, same_entries, each-behind, not_itself, sorted-head, sorted-tail, Leads, PutLaws, listed_fit, listed_paths}
 use lib.Dec.{T as IsT}
 use Rattle.std.specs.List.{All}
-use Rattle.std.specs.Option.{option_or}
-use Rattle.std.specs.FinMap.{entries_sorted, get, get-entries, is_sorted, find}
-use Rattle.std.proofs.lemmas.List.Elements.{All-head, All-tail, All-same}
-use Rattle.prefix_trie_bits.specs.Keys.{PrefixLaws}
-use Rattle.prefix_trie_bits.specs.Order.{listing_cmp, same_string}
-use Rattle.prefix_trie_bits.specs.Model.Entries.{Entries, AreWithin, no_entries, put_all, with_entry}
-use Rattle.prefix_trie_bits.specs.Model.Selections.{listing, shown}
-use Rattle.prefix_trie_bits.proofs.Model.Members.{get-with_entry, same_string-is, same_entries}
-use Rattle.prefix_trie_bits.proofs.Model.Ordered.{each-behind, not_itself, sorted-head, sorted-tail}
-use Rattle.prefix_trie.specs.Laws.Putting.{Leads, PutLaws}
-use Rattle.prefix_trie_map.proofs.Listed.{listed_fit, listed_paths}
 use Rattle.prefix_trie.proofs.Stored.{stored_laws}
 
 -- of prefixes that fit the next one does, and so do those behind it

@@ -1,12 +1,6 @@
 -- What the counts of a short run say.
-use Rattle.std.proofs.Common.{◌≡◌, ℕ, ◌+◌, ◌/◌, ◌≤◌, true, false, Bool, List, [], ◌∷◌, length, Option, None, Some, MatchOption, refl, sym, ap, ◌∙◌, subst, true≢false}
-use Rattle.std.specs.FinMap.{len}
-use Rattle.prefix_trie_bits.specs.Model.Counted.{CountedFrom, CountedRun}
-use Rattle.prefix_trie_bits.specs.Model.Matches.{longest_match, shown_match}
-use Rattle.prefix_trie_bits.specs.Model.Nodes.{IsTidy, needed}
-use Rattle.prefix_trie_bits.specs.Model.Step.{State, Reply, Lpm, Clear, Insert, NodeCount, Match, Done, Count}
-use Rattle.prefix_trie_bits.specs.Model.Storage.{Storage}
-use Rattle.prefix_trie_bits.specs.Model.Visits.{visits, ReadsExactly}
+use Rattle.prefix_trie.proofs.Prelude.{◌≡◌, ℕ, ◌+◌, ◌/◌, ◌≤◌, true, false, Bool, List, [], ◌∷◌, length, Option, None, Some, MatchOption, refl, sym, ap, ◌∙◌, subst, true≢false, len, CountedFrom, CountedRun, shown_match, IsTidy, needed, State, Reply, Lpm, Clear, Insert, NodeCount, Match, Done, Count, Storage, visits, ReadsExactly}
+use Rattle.prefix_trie_bits.specs.Model.Matches.{longest_match}
 
 not_known : {X : Type 0} → false ≡ true → X
 not_known is = absurd (true≢false (sym is))

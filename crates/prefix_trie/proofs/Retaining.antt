@@ -1,9 +1,5 @@
 -- What callers of `retain` cite.
-use Rattle.std.proofs.Common.{Bool, List, [], ◌∷◌}
-use Rattle.prefix_trie_bits.specs.Model.Asking.{AsksInOrder, MayAskInOrder}
-use Rattle.prefix_trie_bits.specs.Model.Selections.{listing}
-use Rattle.prefix_trie_bits.specs.Model.Step.{State}
-use Rattle.prefix_trie_bits.specs.Model.Storage.{Storage, RetainsInStorage}
+use Rattle.prefix_trie.proofs.Prelude.{Bool, List, [], ◌∷◌, AsksInOrder, MayAskInOrder, listing, State, Storage, RetainsInStorage}
 pub use Rattle.prefix_trie_bits.proofs.Model.Askings.{may_ask_always}
 
 -- a test that asks an inner one

@@ -1,27 +1,11 @@
 -- What a loop that changes each value by a function of the old one has done so far.
-use Rattle.std.proofs.Common.{◌≡◌, ℕ, ◌<◌, Bool, true, false, cond, ◌||◌, ◌&&◌, List, [], ◌∷◌, length, map, Option, None, Some, is_some, is_lt, is_eq, Ordering, Less, Equal, Greater, refl, sym, ap, ◌∙◌, subst, arith, true≢false}
+use Rattle.prefix_trie.proofs.Prelude.{◌≡◌, ℕ, ◌<◌, Bool, true, false, cond, ◌||◌, ◌&&◌, List, [], ◌∷◌, length, map, Option, None, Some, is_some, is_lt, is_eq, Ordering, Less, Equal, Greater, refl, sym, ap, ◌∙◌, subst, arith, true≢false, list_any, option_map, get, contains_key-keys, entries_sorted, is_sorted, below_all, listing_cmp, same_string, Entries, with_entry, listing, and-first, and-second, or-right, get-with_entry, is-same_string, same_string-is, sorted-head, sorted-tail, t-true, true-t, Contents, bare, sorted_mapped, Course, keys_left, IsFirst, GoesOver, ComesToEnd, StartsIn, HandsBack, PassesIn, EndsIn, FirstIn, left_at_start, left_behind, none_left, keyed, AreOrdered, is_left, Rewrites, RewritesIn, OrderedIn}
 use lib.Dec.{T as IsT}
-use Rattle.std.specs.List.{list_any}
-use Rattle.std.specs.Option.{option_map}
 use Rattle.std.specs.Borrow.{MutBor}
-use Rattle.std.specs.FinMap.{get, contains_key-keys, entries_sorted, is_sorted}
-use Rattle.std.specs.FinMap.Entries.{below_all}
 use Rattle.std.specs.declared.cmp.PartialEq as partial
 use Rattle.std.specs.declared.fmt.Debug as debug
 use Rattle.prefix_trie_bits.specs.declared.prefix.Prefix as prefix
 use Rattle.prefix_trie_bits.specs.declared.prefix.Key as key
-use Rattle.prefix_trie_bits.specs.Order.{listing_cmp, same_string}
-use Rattle.prefix_trie_bits.specs.Model.Entries.{Entries, with_entry}
-use Rattle.prefix_trie_bits.specs.Model.Selections.{listing}
-use Rattle.prefix_trie_bits.proofs.Model.Members.{and-first, and-second, or-right, get-with_entry, is-same_string, same_string-is}
-use Rattle.prefix_trie_bits.proofs.Model.Ordered.{sorted-head, sorted-tail, t-true, true-t}
-use Rattle.prefix_trie_table.specs.Shape.{Contents}
-use Rattle.prefix_trie_table.proofs.Walk.KeySets.{bare, sorted_mapped}
-use Rattle.prefix_trie_map.specs.declared.map.writing.course.Course.{Course}
-use Rattle.prefix_trie_map.specs.Writing.{keys_left, IsFirst, GoesOver, ComesToEnd, StartsIn, HandsBack}
-use Rattle.prefix_trie_map.specs.WritingWalks.{PassesIn, EndsIn, FirstIn}
-use Rattle.prefix_trie_map.proofs.Writing.{left_at_start, left_behind, none_left}
-use Rattle.prefix_trie.specs.Rewriting.{keyed, AreOrdered, is_left, Rewrites, RewritesIn, OrderedIn}
 
 -- a key that comes before all of a list is not in it
 apart : (k : List Bool) (ks : List (List Bool)) → IsT (below_all listing_cmp k (map keyed ks)) → list_any (same_string k) ks ≡ false

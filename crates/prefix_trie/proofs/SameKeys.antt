@@ -1,16 +1,5 @@
 -- Sets are equal exactly if their walks give prefixes of the same numbers and lengths.
-use Rattle.std.proofs.Common.{◌≡◌, ◌≤◌, ◌&&◌, ℕ, Bool, true, List, [], ◌∷◌, length, map, take, refl, sym, ap, ◌∙◌, subst, nat_eq, eqb-true, eq-eqb}
-use Rattle.std.specs.Bool.{one_answer, Decides}
-use Rattle.std.specs.Cmp.Lexicographic.{pointwise, pointwise_decides}
-use Rattle.std.specs.FinMap.{contains_key-keys, same_entries_map}
-use Rattle.std.specs.List.{list_any}
-use Rattle.std.specs.Ordering.{on}
-use Rattle.prefix_trie_bits.specs.Keys.{PrefixLaws, path_back}
-use Rattle.prefix_trie_bits.specs.Order.{same_string}
-use Rattle.prefix_trie_bits.specs.Model.Entries.{Entries, AreWithin}
-use Rattle.prefix_trie_bits.specs.Model.Selections.{listing}
-use Rattle.prefix_trie_bits.proofs.Model.Members.{same_string-is, is-same_string, and-first, and-second, and-join, or-left, or-right}
-use Rattle.prefix_trie.specs.Sets.{same_keys, same_parts}
+use Rattle.prefix_trie.proofs.Prelude.{◌≡◌, ◌≤◌, ◌&&◌, ℕ, Bool, true, List, [], ◌∷◌, length, map, take, refl, sym, ap, ◌∙◌, subst, nat_eq, eqb-true, eq-eqb, one_answer, Decides, pointwise, pointwise_decides, contains_key-keys, same_entries_map, list_any, on, PrefixLaws, path_back, same_string, Entries, AreWithin, listing, same_string-is, is-same_string, and-first, and-second, and-join, or-left, or-right, same_keys, same_parts}
 
 -- the entries of sets with the same keys are one
 pub same_entries : (m n : Entries (Unit {0})) → Decides (same_keys m n) (m ≡ n)

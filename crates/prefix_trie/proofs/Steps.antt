@@ -1,9 +1,5 @@
 -- The steps by paths that the calls of a map say are steps by prefixes.
-use Rattle.std.proofs.Common.{ℕ, Bool, List, Option, Result, Ok, Err, inl, inr, ap}
-use Rattle.prefix_trie_bits.specs.declared.prefix.Refused.{Refused}
-use Rattle.prefix_trie_bits.specs.Model.Step.{State, Reply, Step, Insert, Remove, RemoveKeepTree, RemoveChildren, Clear, Value, Done}
-use Rattle.prefix_trie_bits.specs.Model.Storage.{Storage, StepInStorage, StepByPath}
-use Rattle.prefix_trie_map.specs.Steps.{inserted}
+use Rattle.prefix_trie.proofs.Prelude.{ℕ, Bool, List, Option, Result, Ok, Err, inl, inr, ap, Refused, State, Reply, Step, Insert, Remove, RemoveKeepTree, RemoveChildren, Clear, Value, Done, Storage, StepInStorage, StepByPath, inserted}
 
 -- a reply that shows no key, as one that shows others
 abbrev carried : {P Q T : Type 0} → Reply P T → Reply Q T

@@ -1,10 +1,5 @@
 -- What is stored after a change.
-use Rattle.std.proofs.Common.{◌≡◌, ◌≢◌, ◌⊎◌, inl, inr, Bool, true, false, cond, List, Some, None, is_some, refl, sym, ap, ◌∙◌, true≢false}
-use Rattle.std.specs.FinMap.{get, get-empty}
-use Rattle.prefix_trie_bits.specs.Order.{listing_cmp, same_string}
-use Rattle.prefix_trie_bits.specs.Model.Entries.{Entries, with_entry, without_entry}
-use Rattle.prefix_trie_bits.proofs.Model.Members.{get-with_entry, get-without_entry, is-same_string, same_string-is, same_entries}
-use Rattle.prefix_trie.specs.Laws.Stored.{StoredLaws}
+use Rattle.prefix_trie.proofs.Prelude.{◌≡◌, ◌≢◌, ◌⊎◌, inl, inr, Bool, true, false, cond, List, Some, None, is_some, refl, sym, ap, ◌∙◌, true≢false, get, get-empty, listing_cmp, same_string, Entries, with_entry, without_entry, get-with_entry, get-without_entry, is-same_string, same_string-is, same_entries, StoredLaws}
 
 -- strings that differ do not tie
 other_string : (s t : List Bool) → (s ≢ t) → same_string s t ≡ false

@@ -1,20 +1,10 @@
 -- What a map becomes whose first value is swapped on a walk.
-use Rattle.std.proofs.Common.{◌≡◌, Bool, true, List, [], ◌∷◌, map, Option, None, Some, IfNone, MatchOption, is_none, slice_get, refl, sym, ap, ap₂, ◌∙◌, true≢false, unwrap_or}
+use Rattle.prefix_trie.proofs.Prelude.{◌≡◌, Bool, true, List, [], ◌∷◌, map, Option, None, Some, IfNone, MatchOption, is_none, slice_get, refl, sym, ap, ap₂, ◌∙◌, true≢false, unwrap_or, get, get-entries, find, listing_cmp, Entries, listing, shown, found_first, Contents, with_value_at, Course, IsFirst, GoesOver, ComesToEnd, StartsIn, HandsBack, PassesIn, EndsIn, IsOverIn, FirstIn, left_at_start, left_behind}
 use Rattle.std.specs.Borrow.{MutBor}
-use Rattle.std.specs.FinMap.{get, get-entries, find}
 use Rattle.std.specs.declared.cmp.PartialEq as partial
 use Rattle.std.specs.declared.fmt.Debug as debug
 use Rattle.prefix_trie_bits.specs.declared.prefix.Prefix as prefix
 use Rattle.prefix_trie_bits.specs.declared.prefix.Key as key
-use Rattle.prefix_trie_bits.specs.Order.{listing_cmp}
-use Rattle.prefix_trie_bits.specs.Model.Entries.{Entries}
-use Rattle.prefix_trie_bits.specs.Model.Selections.{listing, shown}
-use Rattle.prefix_trie_bits.proofs.Model.Ordered.{found_first}
-use Rattle.prefix_trie_table.specs.Shape.{Contents, with_value_at}
-use Rattle.prefix_trie_map.specs.declared.map.writing.course.Course.{Course}
-use Rattle.prefix_trie_map.specs.Writing.{IsFirst, GoesOver, ComesToEnd, StartsIn, HandsBack}
-use Rattle.prefix_trie_map.specs.WritingWalks.{PassesIn, EndsIn, IsOverIn, FirstIn}
-use Rattle.prefix_trie_map.proofs.Writing.{left_at_start, left_behind}
 
 no_keys : {T : Type 0} (es : List (List Bool × T)) → map (λ e. e.0) es ≡ [] → es ≡ []
 no_keys [] is = refl

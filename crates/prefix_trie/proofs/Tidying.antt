@@ -1,9 +1,5 @@
 -- A tidy map stays tidy where a key is set and where one is taken out.
-use Rattle.std.proofs.Common.{◌≡◌, ℕ, List, Bool, sym, ap, ◌∙◌}
-use Rattle.prefix_trie_bits.specs.Model.Entries.{Entries, with_entry, without_entry}
-use Rattle.prefix_trie_bits.specs.Model.Nodes.{Nodes, needed, with_needed, nodes_without, AreNodes, IsTidy}
-use Rattle.prefix_trie_bits.specs.Laws.Nodes.{NodeLaws}
-use Rattle.prefix_trie_bits.specs.Laws.Pruning.{PruningLaws}
+use Rattle.prefix_trie.proofs.Prelude.{◌≡◌, ℕ, List, Bool, sym, ap, ◌∙◌, Entries, with_entry, without_entry, Nodes, needed, with_needed, nodes_without, AreNodes, IsTidy, NodeLaws, PruningLaws}
 
 module _ {T : Type 0} (m now : Entries T) (n nodes : Nodes) (s : List Bool) where
   pub tidy_with : NodeLaws T → (v : T) → now ≡ with_entry m s v → nodes ≡ with_needed n s → IsTidy m n → IsTidy now nodes

@@ -1,8 +1,5 @@
 -- Tests over whole tables, and what they say of each entry.
-use Rattle.std.proofs.Common.{◌≡◌, ℕ, zero, suc, ◌<◌, ◌≤◌, Bool, true, false, ◌&&◌, List, [], ◌∷◌, ◌++◌, length, map, refl, arith, inl, inr, get_or}
-use Rattle.std.specs.Bool.{beq}
-use Rattle.std.proofs.lemmas.Bool.{cases_eq}
-use Rattle.prefix_trie_bits.specs.Places.{strings}
+use Rattle.prefix_trie_bits.proofs.Prelude.{◌≡◌, ℕ, zero, suc, ◌<◌, ◌≤◌, Bool, true, false, ◌&&◌, List, [], ◌∷◌, ◌++◌, length, map, refl, arith, inl, inr, get_or, beq, cases_eq, strings}
 pub use Rattle.std.proofs.lemmas.Bool.{and_parts as both}
 
 pub same : (x y : Bool) → beq x y ≡ true → x ≡ y

@@ -1,14 +1,7 @@
 -- The longest and the shortest string of a bitmap that begins another.
-use Rattle.std.proofs.Common.{◌≡◌, ℕ, suc, ◌+◌, ◌-◌, ◌*◌, ◌/◌, ◌%◌, ◌^◌, ◌<◌, ◌≤◌, Bool, true, ◌&&◌, List, length, take, sym, ap, ap₂, ◌∙◌, subst, arith, bit_and, pow_pos, pow-suc, inl, inr}
-use Rattle.std.specs.Int.{bit_at, leading_zeros, trailing_zeros, w32}
-use Rattle.std.proofs.lemmas.Nat.{le-div, div_below, and_le_l}
-use Rattle.std.proofs.lemmas.Nat.Bits.{bit_at-zero, bit_at_above, bit_at-trailing_zeros}
+use Rattle.prefix_trie_bits.proofs.Prelude.{◌≡◌, ℕ, suc, ◌+◌, ◌-◌, ◌*◌, ◌/◌, ◌%◌, ◌^◌, ◌<◌, ◌≤◌, Bool, true, ◌&&◌, List, length, take, sym, ap, ap₂, ◌∙◌, subst, arith, bit_and, pow_pos, pow-suc, inl, inr, bit_at, leading_zeros, trailing_zeros, w32, le-div, div_below, and_le_l, bit_at-zero, bit_at_above, bit_at-trailing_zeros, cases_lt, digits, begins, length-digits, begins-take, begins-length, take-begins, has, value_bit, stands, HoldsValues, NoneBegins, IsLongest, IsShortest}
 use Rattle.std.proofs.lemmas.List.{length-take-le}
-use Rattle.std.proofs.lemmas.Bool.{cases_lt, false_from_ne_true as not-true}
-use Rattle.prefix_trie_bits.specs.Bits.{digits, begins}
-use Rattle.prefix_trie_bits.specs.BitStrings.{length-digits}
-use Rattle.prefix_trie_bits.specs.Begins.{begins-take, begins-length, take-begins}
-use Rattle.prefix_trie_bits.specs.Places.{has, value_bit, stands, HoldsValues, NoneBegins, IsLongest, IsShortest}
+use Rattle.std.proofs.lemmas.Bool.{false_from_ne_true as not-true}
 use Rattle.prefix_trie_bits.proofs.Checks.{both}
 use Rattle.prefix_trie_bits.proofs.Ranks.{bit-set, has-from}
 use Rattle.prefix_trie_bits.proofs.Bitmaps.{has-and}

@@ -1,11 +1,5 @@
 -- Picking elements by the set bits of a number.
-use Rattle.std.proofs.Common.{◌≡◌, ℕ, zero, suc, ◌+◌, ◌-◌, ◌*◌, ◌/◌, ◌%◌, ◌^◌, ◌<◌, ◌≢◌, Bool, true, false, cond, ◌&&◌, eqb, List, [], ◌∷◌, length, refl, sym, ap, ap₂, ◌∙◌, arith, get_or, pow_pos, bit_and, filter, add-zero, pow-suc, inl, inr}
-use Rattle.std.specs.Int.{bit_at}
-use Rattle.std.specs.Int.Bits.{and_self, and_zero_l}
-use Rattle.std.proofs.lemmas.Nat.{and_block, shr_split}
-use Rattle.std.proofs.lemmas.Nat.Bits.{bit_at-zero, bit_at_cat_low, bit_at_cat_high, same_from_bits_below}
-use Rattle.std.proofs.lemmas.Bool.{cases_lt}
-use Rattle.prefix_trie_bits.specs.Places.{has, pick}
+use Rattle.prefix_trie_bits.proofs.Prelude.{◌≡◌, ℕ, zero, suc, ◌+◌, ◌-◌, ◌*◌, ◌/◌, ◌%◌, ◌^◌, ◌<◌, ◌≢◌, Bool, true, false, cond, ◌&&◌, eqb, List, [], ◌∷◌, length, refl, sym, ap, ap₂, ◌∙◌, arith, get_or, pow_pos, bit_and, filter, add-zero, pow-suc, inl, inr, bit_at, and_self, and_zero_l, and_block, shr_split, bit_at-zero, bit_at_cat_low, bit_at_cat_high, same_from_bits_below, cases_lt, has, pick}
 use Rattle.prefix_trie_bits.proofs.Ranks.{has-low, has-suc, bit-set, bit-clear, has-from, mod-suc, low}
 
 module _ {X : Type 0} where

@@ -1,11 +1,5 @@
 -- How many set bits stand below a bit.
-use Rattle.std.proofs.Common.{◌≡◌, ℕ, zero, suc, ◌+◌, ◌-◌, ◌*◌, ◌/◌, ◌%◌, ◌^◌, ◌<◌, ◌≤◌, true, false, cond, eqb, refl, sym, ap, ap₂, ◌∙◌, subst, arith, inl, inr, one-add, pow_pos, eqb-true, bit_and, mod-eq_of_lt, bit_or}
-use Rattle.std.specs.Int.{bit_at, bit_not, w32}
-use Rattle.std.specs.Int.RustNames.{count_ones}
-use Rattle.std.proofs.lemmas.Nat.{ones_cat, ones_le_self, zero_from_ones, and_le_l, mod-pow-add, mod_below, and_mask, one_shl, or_lt, pow_below}
-use Rattle.std.proofs.lemmas.Nat.Bits.{bit_at-lt, bit_at-suc, bit_at_set_same, bit_at_set_other, bit_at_clear_same, bit_at_clear_other, bit_at_above}
-use Rattle.std.proofs.lemmas.Bool.{cases_lt}
-use Rattle.prefix_trie_bits.specs.Places.{has, ones_below, Sets}
+use Rattle.prefix_trie_bits.proofs.Prelude.{◌≡◌, ℕ, zero, suc, ◌+◌, ◌-◌, ◌*◌, ◌/◌, ◌%◌, ◌^◌, ◌<◌, ◌≤◌, true, false, cond, eqb, refl, sym, ap, ap₂, ◌∙◌, subst, arith, inl, inr, one-add, pow_pos, eqb-true, bit_and, mod-eq_of_lt, bit_or, bit_at, bit_not, w32, count_ones, ones_cat, ones_le_self, zero_from_ones, and_le_l, mod-pow-add, mod_below, and_mask, one_shl, or_lt, pow_below, bit_at-lt, bit_at-suc, bit_at_set_same, bit_at_set_other, bit_at_clear_same, bit_at_clear_other, bit_at_above, cases_lt, has, ones_below, Sets}
 
 pub bit-set : (m k : ℕ) → has m k ≡ true → bit_at m k ≡ 1
 bit-set m k h = eqb-true (bit_at m k) 1 h

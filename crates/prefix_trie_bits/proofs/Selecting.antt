@@ -1,7 +1,5 @@
 -- What two masks leave of a node's places, and what a place says of its string.
-use Rattle.std.proofs.Common.{◌≡◌, ℕ, Bool, true, false, cond, nat_lt, ◌&&◌, List, ◌∷◌, length, filter, refl, ap₂, ◌∙◌, bit_and}
-use Rattle.prefix_trie_bits.specs.Bits.{number}
-use Rattle.prefix_trie_bits.specs.Places.{has, value_bit, is_in, HoldsPlaces}
+use Rattle.prefix_trie_bits.proofs.Prelude.{◌≡◌, ℕ, Bool, true, false, cond, nat_lt, ◌&&◌, List, ◌∷◌, length, filter, refl, ap₂, ◌∙◌, bit_and, number, has, value_bit, is_in, HoldsPlaces}
 use Rattle.prefix_trie_bits.proofs.Bitmaps.{has-and}
 
 pub is_in-and : (v c vm cm : ℕ) (s : List Bool) → is_in (bit_and v vm) (bit_and c cm) s ≡ (is_in v c s && is_in vm cm s)

@@ -1,14 +1,6 @@
 -- Value bits of strings, and the strings of value bits.
-use Rattle.std.proofs.Common.{◌≡◌, ℕ, suc, ◌+◌, ◌-◌, ◌*◌, ◌%◌, ◌^◌, ◌<◌, ◌≤◌, Bool, List, ◌++◌, length, take, drop, sym, ap, ap₂, ◌∙◌, subst, arith, inl, inr, pow_pos, pow-suc, min, mod-eq_of_lt}
-use Rattle.std.specs.Int.{leading_zeros, w32}
-use Rattle.std.proofs.lemmas.Nat.{leading_top, pow_below, one_shl}
-use Rattle.std.proofs.lemmas.Bool.{cases_lt, cases_eq}
-use Rattle.std.proofs.lemmas.List.{length-drop, take_all, take-take, length-take-le, length-append}
-use Rattle.prefix_trie_bits.specs.Bits.{number, digits, begins, zeros}
-use Rattle.prefix_trie_bits.specs.BitStrings.{same-from-number, number-lt, number-digits, length-digits, digits-number, bits-number, number-below}
-use Rattle.prefix_trie_bits.specs.Begins.{same_bool, begins-take, begins-from-take, begins-trans, take-begins}
-use Rattle.prefix_trie_bits.specs.Windows.{window-inside, window-of-front, length-window}
-use Rattle.prefix_trie_bits.specs.Places.{value_bit}
+use Rattle.prefix_trie_bits.proofs.Prelude.{◌≡◌, ℕ, suc, ◌+◌, ◌-◌, ◌*◌, ◌%◌, ◌^◌, ◌<◌, ◌≤◌, Bool, List, ◌++◌, length, take, drop, sym, ap, ap₂, ◌∙◌, subst, arith, inl, inr, pow_pos, pow-suc, min, mod-eq_of_lt, leading_zeros, w32, leading_top, pow_below, one_shl, cases_lt, cases_eq, take_all, take-take, number, digits, begins, zeros, same-from-number, number-lt, number-digits, length-digits, digits-number, bits-number, number-below, same_bool, begins-take, begins-from-take, begins-trans, take-begins, window-inside, window-of-front, length-window, value_bit}
+use Rattle.std.proofs.lemmas.List.{length-drop, length-take-le, length-append}
 
 pub pow-le : (a b : ℕ) → a ≤ b → 2 ^ a ≤ 2 ^ b
 pow-le a b l = elim (cases_eq a b) [

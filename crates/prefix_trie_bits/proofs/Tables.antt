@@ -1,10 +1,5 @@
 -- Each entry of the tables, by computing: a test over the whole table, and what it says of an entry.
-use Rattle.std.proofs.Common.{◌≡◌, ℕ, zero, suc, ◌+◌, ◌*◌, ◌/◌, ◌%◌, ◌<◌, ◌≤◌, Bool, true, ◌||◌, ◌&&◌, not, nat_eq, nat_lt, ltb-true, List, [], ◌∷◌, length, take, refl, subst, ◌∙◌, arith, get_or}
-use Rattle.std.specs.Bool.{beq}
-use Rattle.prefix_trie_bits.specs.Bits.{number, digits, begins}
-use Rattle.prefix_trie_bits.specs.Places.{has, value_bit, strings, is_in, is_before, HoldsValues, HoldsChildren, HoldsPlaces, HoldsPositions}
-use Rattle.prefix_trie_bits.specs.declared.node.masks.TheConstants.{MATCHES, VALUES_COVERED, CHILDREN_COVERED}
-use Rattle.prefix_trie_bits.specs.declared.node.order.TheConstants.{FROM_VALUE, BEHIND_CHILD, NOT_BELOW}
+use Rattle.prefix_trie_bits.proofs.Prelude.{◌≡◌, ℕ, zero, suc, ◌+◌, ◌*◌, ◌/◌, ◌%◌, ◌<◌, ◌≤◌, Bool, true, ◌||◌, ◌&&◌, not, nat_eq, nat_lt, ltb-true, List, [], ◌∷◌, length, take, refl, subst, ◌∙◌, arith, get_or, beq, number, digits, begins, has, value_bit, strings, is_in, is_before, HoldsValues, HoldsChildren, HoldsPlaces, HoldsPositions, MATCHES, VALUES_COVERED, CHILDREN_COVERED, FROM_VALUE, BEHIND_CHILD, NOT_BELOW}
 use Rattle.prefix_trie_bits.proofs.Checks.{below, each, at_below, at_string, both, same}
 use Rattle.prefix_trie_bits.proofs.Ranks.{has-low, has-suc}
 

@@ -1,16 +1,5 @@
 -- What a walk over the outermost entries adds up to.
-use Rattle.std.proofs.Common.{◌≡◌, ℕ, ◌+◌, ◌-◌, ◌^◌, ◌<◌, ◌≤◌, Bool, not, List, [], length, take, Some, None, refl, sym, ap, ◌∙◌, subst, arith, pow_pos}
-use Rattle.std.proofs.lemmas.List.{length-take-le}
-use Rattle.std.proofs.lemmas.List.Filters.{length-filter_both}
-use Rattle.std.specs.Option.{option_map}
-use Rattle.prefix_trie_bits.specs.Bits.{number, zeros, begins}
-use Rattle.prefix_trie_bits.specs.BitStrings.{zero_bits, number_of_digits, number-lt}
-use Rattle.prefix_trie_bits.specs.Keys.{KeyLaws}
-use Rattle.prefix_trie_bits.specs.Model.Addresses.{address_answer}
-use Rattle.prefix_trie_bits.specs.Model.Entries.{Entries}
-use Rattle.prefix_trie_bits.specs.Model.Selections.{listing}
-use Rattle.prefix_trie_bits.proofs.Model.Outermost.{IsCounted, counted-start, counted-next, counted-end, counted-all, answer-number}
-use Rattle.prefix_trie_table.specs.Walking.Items.{GivesOutermost}
+use Rattle.prefix_trie_map.proofs.Prelude.{◌≡◌, ℕ, ◌+◌, ◌-◌, ◌^◌, ◌<◌, ◌≤◌, Bool, not, List, [], length, take, Some, None, refl, sym, ap, ◌∙◌, subst, arith, pow_pos, length-take-le, length-filter_both, option_map, number, zeros, begins, zero_bits, number_of_digits, number-lt, KeyLaws, address_answer, Entries, listing, IsCounted, counted-start, counted-next, counted-end, counted-all, answer-number, GivesOutermost}
 
 -- a key's number, and the power that stands for an entry
 pub sum-with-power : (n p w width len : ℕ) → p ≡ 2 ^ (width - len) → width ≡ w → n + p ≡ n + 2 ^ (w - len)

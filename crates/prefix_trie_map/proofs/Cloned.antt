@@ -1,8 +1,5 @@
 -- Walks whose pairs are clones.
-use Rattle.std.proofs.Common.{◌≡◌, Bool, List, [], ◌∷◌, map, refl, ap, ap₂}
-use Rattle.std.specs.List.{AllZip}
-use Rattle.prefix_trie_bits.specs.Model.Selections.{shown}
-use Rattle.prefix_trie_table.specs.Copies.{IsPairCloned}
+use Rattle.prefix_trie_map.proofs.Prelude.{◌≡◌, Bool, List, [], ◌∷◌, map, refl, ap, ap₂, AllZip, shown, IsPairCloned}
 
 module _ {T : Type 0} (C : T → T → Type 0) where
   -- as users see them

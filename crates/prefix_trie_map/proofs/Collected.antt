@@ -1,16 +1,5 @@
 -- Items that are inserted in turn.
-use Rattle.std.proofs.Common.{◌≡◌, ℕ, ◌+◌, ◌≤◌, Bool, List, [], ◌∷◌, ◌++◌, length, refl, sym, ap, ◌∙◌, inl, inr, arith, length-append}
-use Rattle.prefix_trie_bits.specs.Model.Entries.{Entries, no_entries, put_all, with_entry}
-use Rattle.prefix_trie_bits.specs.Model.Nodes.{IsTidy, needed, root_alone, with_needed}
-use Rattle.prefix_trie_bits.specs.Model.Room.{MayPassLimit}
-use Rattle.prefix_trie_bits.specs.Model.Step.{Insert, Reply}
-use Rattle.prefix_trie_bits.specs.Model.Storage.{StepByPath}
-use Rattle.prefix_trie_bits.proofs.Model.NodeSets.{needed_insert, tidy-no_entries}
-use Rattle.prefix_trie_bits.proofs.Model.Storage.Slots.{slot_laws}
-use Rattle.prefix_trie_table.specs.Shape.{Contents}
-use Rattle.prefix_trie_map.specs.Collected.{Puts, ManyMayPassLimit}
-use Rattle.prefix_trie_map.specs.Steps.{stored}
-use Rattle.prefix_trie_map.specs.Whole.{IsWhole}
+use Rattle.prefix_trie_map.proofs.Prelude.{◌≡◌, ℕ, ◌+◌, ◌≤◌, Bool, List, [], ◌∷◌, ◌++◌, length, refl, sym, ap, ◌∙◌, inl, inr, arith, length-append, Entries, no_entries, put_all, with_entry, IsTidy, needed, root_alone, with_needed, MayPassLimit, Insert, Reply, StepByPath, needed_insert, tidy-no_entries, slot_laws, Contents, Puts, ManyMayPassLimit, stored, IsWhole}
 
 one_more : {X : Type 0} (xs : List X) (x : X) → length (xs ++ x ∷ []) ≡ length xs + 1
 one_more xs x = length-append xs (x ∷ [])

@@ -1,15 +1,5 @@
 -- The copy of a map.
-use Rattle.std.proofs.Common.{◌≡◌, ◌↔◌, ℕ, true, List, Bool, sym, ◌∙◌, subst}
-use Rattle.std.specs.FinMap.{get, contains_key}
-use Rattle.prefix_trie_bits.specs.Model.Entries.{Entries}
-use Rattle.prefix_trie_bits.specs.Model.Nodes.{Nodes, AreNodes, IsTidy, needed}
-use Rattle.prefix_trie_bits.specs.Model.Step.{State}
-use Rattle.prefix_trie_bits.specs.Laws.Steps.{IsMap}
-use Rattle.prefix_trie_bits.proofs.Model.Members.{same_nodes}
-use Rattle.prefix_trie_bits.proofs.Model.Pruning.{needed_fewer}
-use Rattle.prefix_trie_table.specs.Copies.{AreCloned}
-use Rattle.prefix_trie_table.proofs.Tree.Copying.{cloned_there}
-use Rattle.prefix_trie_map.specs.Copied.{CopyLaws}
+use Rattle.prefix_trie_map.proofs.Prelude.{◌≡◌, ◌↔◌, ℕ, true, List, Bool, sym, ◌∙◌, subst, get, contains_key, Entries, Nodes, AreNodes, IsTidy, needed, State, IsMap, same_nodes, needed_fewer, AreCloned, cloned_there, CopyLaws}
 
 -- the copy of a map, with the same keys and nodes, is a map
 pub IsMap-copied : {T : Type 0} (C : T → T → Type 0) (width : ℕ) (s copy : State T) → AreCloned C s.entries copy.entries → copy.nodes ≡ s.nodes →

@@ -1,8 +1,5 @@
 -- The first and the last of the items that cover a question.
-use Rattle.std.proofs.Common.{◌≡◌, ◌≢◌, ◌↔◌, Bool, true, List, [], ◌∷◌, is_some, refl}
-use Rattle.prefix_trie_bits.specs.Model.Matches.{covers, first_item, last_item, shown_match}
-use Rattle.prefix_trie_bits.specs.Model.Selections.{shown}
-use Rattle.prefix_trie_map.specs.Covers.{CoverLaws}
+use Rattle.prefix_trie_map.proofs.Prelude.{◌≡◌, ◌≢◌, ◌↔◌, Bool, true, List, [], ◌∷◌, is_some, refl, covers, first_item, last_item, shown_match, shown, CoverLaws}
 
 module _ {P T : Type 0} where
   last-shown : (back : List Bool → P) (es : List (List Bool × T)) → shown_match back (last_item es) ≡ last_item (shown back es)

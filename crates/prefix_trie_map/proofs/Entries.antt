@@ -1,24 +1,11 @@
 -- What a map becomes where an entry is filled.
 use denote.Param.Members.{Once}
-use Rattle.std.proofs.Common.{◌≡◌, Bool, cond, List, None, Some, MutBor, inl, refl, sym, ap, ◌∙◌, true≢false, subst, arith}
-use Rattle.std.specs.FinMap.{get}
+use Rattle.prefix_trie_map.proofs.Prelude.{◌≡◌, Bool, cond, List, None, Some, MutBor, inl, refl, sym, ap, ◌∙◌, true≢false, subst, arith, get, Refusal, IndexRange, with_entry, with_needed, Insert, Value, StepByPath, Contents, with_value_at, is_none-None, stored, IsWhole, VacantEntry, OccupiedEntry, Vacant, Occupied, Fills, RefusesToFill, ModifiesEntry}
 use Rattle.std.specs.declared.cmp.PartialEq as partial
 use Rattle.std.specs.declared.fmt.Debug as debug
 use Rattle.prefix_trie_bits.specs.declared.prefix.Prefix as prefix
 use Rattle.prefix_trie_bits.specs.declared.prefix.Key as key
-use Rattle.prefix_trie_bits.specs.declared.prefix.Refusal.{Refusal}
-use Rattle.prefix_trie_bits.specs.declared.prefix.Refusal.TheVariants.{IndexRange}
-use Rattle.prefix_trie_bits.specs.Model.Entries.{with_entry}
-use Rattle.prefix_trie_bits.specs.Model.Nodes.{with_needed}
-use Rattle.prefix_trie_bits.specs.Model.Step.{Insert, Value, Refused}
-use Rattle.prefix_trie_bits.specs.Model.Storage.{StepByPath}
-use Rattle.prefix_trie_table.specs.Shape.{Contents, with_value_at}
-use Rattle.prefix_trie_table.proofs.Tree.Trees.{is_none-None}
-use Rattle.prefix_trie_map.specs.Steps.{stored}
-use Rattle.prefix_trie_map.specs.Whole.{IsWhole}
-use Rattle.prefix_trie_map.specs.declared.map.entry.VacantEntry.{VacantEntry}
-use Rattle.prefix_trie_map.specs.declared.map.entry.OccupiedEntry.{OccupiedEntry}
-use Rattle.prefix_trie_map.specs.Entry.{Vacant, Occupied, Fills, RefusesToFill, ModifiesEntry}
+use Rattle.prefix_trie_bits.specs.Model.Step.{Refused}
 use Rattle.prefix_trie_map.proofs.Insertions.{with_needed-stored}
 use Rattle.prefix_trie_map.proofs.Placing.{value_not_refused, entry_twice, written_step}
 

@@ -1,9 +1,5 @@
 -- Two walks that are gone over side by side.
-use Rattle.std.proofs.Common.{◌≡◌, Bool, true, false, ◌&&◌, List, [], ◌∷◌, Option, None, Some, MatchOption, IfSome, sym, ap, ◌∙◌, subst}
-use Rattle.std.specs.Cmp.Lexicographic.{pointwise}
-use Rattle.std.specs.Iterator.{YieldsThen, ComparesItemsByEq}
-use Rattle.std.specs.List.{AllZip}
-use Rattle.std.specs.Map.Iter.{TakesFirst}
+use Rattle.prefix_trie_map.proofs.Prelude.{◌≡◌, Bool, true, false, ◌&&◌, List, [], ◌∷◌, Option, None, Some, MatchOption, IfSome, sym, ap, ◌∙◌, subst, pointwise, YieldsThen, ComparesItemsByEq, AllZip, TakesFirst}
 
 module _ {A X : Type 0} (shows : A → X) (equal : X → X → Bool) where
   -- what is answered after two steps

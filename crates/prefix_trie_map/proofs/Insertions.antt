@@ -1,17 +1,5 @@
 -- The map without entries, and what an insertion answers and leaves where it is a step of the model.
-use Rattle.std.proofs.Common.{◌≡◌, ℕ, ◌%◌, Bool, true, false, ◌&&◌, List, length, cond, Option, Result, is_some, Ok, Err, IfOk, OnOk, OnErr, refl, sym, ap, ◌∙◌, inl, inr, eqb-true, true≢false}
-use Rattle.std.specs.FinMap.{get, contains_key, get-empty}
-use Rattle.prefix_trie_bits.specs.declared.prefix.Refusal.{Refusal}
-use Rattle.prefix_trie_bits.specs.declared.prefix.Refused.{Refused}
-use Rattle.prefix_trie_bits.specs.Bits.{begins}
-use Rattle.prefix_trie_bits.specs.Order.{listing_cmp}
-use Rattle.prefix_trie_bits.specs.Laws.Steps.{IsMap}
-use Rattle.prefix_trie_bits.specs.Model.Entries.{Entries, no_entries, with_entry}
-use Rattle.prefix_trie_bits.specs.Model.Nodes.{Nodes, has_node, root_alone, is_node_depth, with_needed, AreNodes}
-use Rattle.prefix_trie_bits.specs.Model.Step.{State, Reply, Step, Insert}
-use Rattle.prefix_trie_bits.proofs.Model.Members.{or-cases, or-left, and-first, and-second, needs, same_nodes}
-use Rattle.prefix_trie_bits.proofs.Model.NodeSets.{has-with_needed, AreNodes-no_entries}
-use Rattle.prefix_trie_map.specs.Steps.{inserted}
+use Rattle.prefix_trie_map.proofs.Prelude.{◌≡◌, ℕ, ◌%◌, Bool, true, false, ◌&&◌, List, length, cond, Option, Result, is_some, Ok, Err, IfOk, OnOk, OnErr, refl, sym, ap, ◌∙◌, inl, inr, eqb-true, true≢false, get, contains_key, get-empty, Refusal, Refused, begins, listing_cmp, IsMap, Entries, no_entries, with_entry, Nodes, has_node, root_alone, is_node_depth, with_needed, AreNodes, State, Reply, Step, Insert, or-cases, or-left, and-first, and-second, needs, same_nodes, has-with_needed, AreNodes-no_entries, inserted}
 use Rattle.prefix_trie_map.proofs.Steps.{one_value}
 
 module _ {T : Type 0} where

@@ -1,17 +1,7 @@
 -- A map stays one where a value of it is written over.
-use Rattle.std.proofs.Common.{◌≡◌, ℕ, Bool, true, false, List, Option, None, Some, if◌then◌else◌, is_some, MatchOption, IfSome, refl, sym, ap, ◌∙◌, subst, inl, inr}
+use Rattle.prefix_trie_map.proofs.Prelude.{◌≡◌, ℕ, Bool, true, false, List, Option, None, Some, if◌then◌else◌, is_some, MatchOption, IfSome, refl, sym, ap, ◌∙◌, subst, inl, inr, get, contains_key, option_map, option_copied_mut, ghost_name_of, IsMap, longest_match, shown_match, match_laws, AreNodes-stored, key_cases, Contents, with_value_at, with_stored_at, with_match_at, with_longest_at, lent_beside, state, lent_item_mut}
 use borrow.Follows.Closed.{read_of}
 use Rattle.std.specs.Borrow.{MutBor}
-use Rattle.std.specs.FinMap.{get, contains_key}
-use Rattle.std.specs.Option.{option_map, option_copied_mut, ghost_name_of}
-use Rattle.prefix_trie_bits.specs.Laws.Steps.{IsMap}
-use Rattle.prefix_trie_bits.specs.Model.Matches.{longest_match, shown_match}
-use Rattle.prefix_trie_bits.proofs.Model.Matches.{match_laws}
-use Rattle.prefix_trie_bits.proofs.Model.NodeSets.{AreNodes-stored, key_cases}
-use Rattle.prefix_trie_table.specs.Shape.{Contents, with_value_at, with_stored_at, with_match_at, with_longest_at}
-use Rattle.prefix_trie_map.specs.Lending.{lent_beside}
-use Rattle.prefix_trie_map.specs.Steps.{state}
-use Rattle.prefix_trie_map.specs.Walks.{lent_item_mut}
 
 module _ {T : Type 0} (width : ℕ) (m : Contents T) (good : IsMap width (state m)) where
   -- another value at a stored key

@@ -1,3 +1,4 @@
+pub mod Prelude
 pub mod Bulk
 pub mod Covers
 pub mod Insertions

@@ -1,16 +1,5 @@
 -- The prefixes that a map lists fit.
-use Rattle.std.proofs.Common.{◌≡◌, ℕ, Bool, true, List, [], ◌∷◌, is_some, ap}
-use Rattle.std.specs.List.{All, Contains}
-use Rattle.std.specs.FinMap.{contains_key}
-use Rattle.std.proofs.lemmas.List.Elements.{All-head, All-tail, All-contains_itself, All-weaker, All-map, All-filter}
-use Rattle.prefix_trie_bits.specs.Bits.{begins}
-use Rattle.prefix_trie_bits.specs.Keys.{PrefixLaws, fits_back, path_back}
-use Rattle.prefix_trie_bits.specs.Model.Asking.{MayAskInOrder}
-use Rattle.prefix_trie_bits.specs.Model.Entries.{Entries, AreWithin}
-use Rattle.prefix_trie_bits.specs.Model.Matches.{covers}
-use Rattle.prefix_trie_bits.specs.Model.Selections.{listing, shown}
-use Rattle.prefix_trie_bits.proofs.Model.Listings.{listing_laws}
-use Rattle.prefix_trie_map.specs.Listed.{ListedLaws}
+use Rattle.prefix_trie_map.proofs.Prelude.{◌≡◌, ℕ, Bool, true, List, [], ◌∷◌, is_some, ap, All, Contains, contains_key, All-head, All-tail, All-contains_itself, All-weaker, All-map, All-filter, begins, PrefixLaws, fits_back, path_back, MayAskInOrder, Entries, AreWithin, covers, listing, shown, listing_laws, ListedLaws}
 
 module _ {T : Type 0} where
   -- what holds of each stored key holds of each listed pair's

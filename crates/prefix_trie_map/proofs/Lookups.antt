@@ -1,15 +1,5 @@
 -- What a match of the table is to users, by the prefix rebuilt from it, and what a lookup reads.
-use Rattle.std.proofs.Common.{◌≡◌, ℕ, ◌+◌, ◌≤◌, Bool, List, take, Option, Some, None, Bor, MatchOption, sym, ap, ◌∙◌, subst, arith}
-use Rattle.std.specs.Option.{option_map}
-use Rattle.std.proofs.lemmas.List.{take-take}
-use Rattle.prefix_trie_bits.specs.Laws.Steps.{IsMap}
-use Rattle.prefix_trie_bits.specs.Model.Entries.{Entries}
-use Rattle.prefix_trie_bits.specs.Model.Matches.{shown_match}
-use Rattle.prefix_trie_bits.specs.Model.Visits.{visits, visits_to_match, ReadsWay, ReadsToMatch}
-use Rattle.prefix_trie_bits.proofs.Model.Visits.{visits-bound, visit_laws}
-use Rattle.prefix_trie_table.specs.Shape.{Contents}
-use Rattle.prefix_trie_map.specs.Steps.{state}
-use Rattle.prefix_trie_map.specs.Walks.{lent_item}
+use Rattle.prefix_trie_map.proofs.Prelude.{◌≡◌, ℕ, ◌+◌, ◌≤◌, Bool, List, take, Option, Some, None, Bor, MatchOption, sym, ap, ◌∙◌, subst, arith, option_map, take-take, IsMap, Entries, shown_match, visits, visits_to_match, ReadsWay, ReadsToMatch, visits-bound, visit_laws, Contents, state, lent_item}
 
 module _ {T : Type 0} where
   -- what the table finds of a match m of the first len bits

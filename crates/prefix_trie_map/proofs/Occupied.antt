@@ -1,16 +1,9 @@
 -- An occupied entry, once a value is written at its key.
-use Rattle.std.proofs.Common.{◌≡◌, Bool, true, List, Some, sym, subst}
-use Rattle.std.specs.Coded.{Coded-set, coded_bool}
-use Rattle.std.specs.FinMap.{contains_key}
+use Rattle.prefix_trie_map.proofs.Prelude.{◌≡◌, Bool, true, List, Some, sym, subst, Coded-set, coded_bool, contains_key, with_entry, seat_of, is_seat-prop, with_value_at, OccupiedEntry, stays_stored, with_value_in}
 use Rattle.std.specs.declared.cmp.PartialEq as partial
 use Rattle.std.specs.declared.fmt.Debug as debug
 use Rattle.prefix_trie_bits.specs.declared.prefix.Prefix as prefix
 use Rattle.prefix_trie_bits.specs.declared.prefix.Key as key
-use Rattle.prefix_trie_bits.specs.Model.Entries.{with_entry}
-use Rattle.prefix_trie_table.specs.Locations.{seat_of, is_seat-prop}
-use Rattle.prefix_trie_table.specs.Shape.{with_value_at}
-use Rattle.prefix_trie_map.specs.declared.map.entry.OccupiedEntry.{OccupiedEntry}
-use Rattle.prefix_trie_map.specs.Entry.{stays_stored, with_value_in}
 
 module _ {P T A R : Type 0} {p : prefix.Ghosts P R} {shows : debug.Ghosts P} {k : key.Ghosts R} {same : partial.Ghosts R} {writes : debug.Ghosts R}
     (o : OccupiedEntry P T A R p shows k same writes) where

@@ -1,22 +1,6 @@
 -- That a new key is placed, or refused its blocks, is a step of the model.
-use Rattle.std.proofs.Common.{◌≡◌, ℕ, ◌+◌, ◌*◌, ◌≤◌, Bool, true, false, cond, List, Option, None, Some, inl, inr, refl, sym, ap, ◌∙◌, true≢false, subst, Result, Ok, Err, IfErr, OnOk, OnErr, MatchResult}
-use Rattle.std.specs.FinMap.{get, contains_key, len}
-use Rattle.prefix_trie_bits.specs.declared.prefix.Refusal.{Refusal}
-use Rattle.prefix_trie_bits.specs.declared.prefix.Refused.{Refused}
-use Rattle.prefix_trie_bits.specs.declared.prefix.Refusal.TheVariants.{IndexRange}
-use Rattle.prefix_trie_bits.specs.Model.Entries.{with_entry}
-use Rattle.prefix_trie_bits.specs.Model.Nodes.{with_needed, AreNodes}
-use Rattle.prefix_trie_bits.specs.Model.Room.{MayPassLimit, LeavesRoom}
-use Rattle.prefix_trie_bits.specs.Model.Step.{Reply, Step, Insert, Value}
-use Rattle.prefix_trie_bits.specs.Model.Storage.{ReadiesInStorage, InsertsInStorage, RefusesInStorage, StepByPath}
-use Rattle.prefix_trie_bits.proofs.Model.Members.{get-with_entry, is-same_string, same_entries}
-use Rattle.prefix_trie_bits.specs.Order.{same_string}
-use Rattle.prefix_trie_bits.specs.Model.Entries.{Entries}
-use Rattle.prefix_trie_table.specs.Shape.{Contents, with_value_at}
-use Rattle.prefix_trie_table.proofs.Tree.Trees.{is_none-None}
-use Rattle.prefix_trie_map.specs.Steps.{state, storage, stored, placed}
+use Rattle.prefix_trie_map.proofs.Prelude.{◌≡◌, ℕ, ◌+◌, ◌*◌, ◌≤◌, Bool, true, false, cond, List, Option, None, Some, inl, inr, refl, sym, ap, ◌∙◌, true≢false, subst, Result, Ok, Err, IfErr, OnOk, OnErr, MatchResult, get, contains_key, len, Refusal, Refused, IndexRange, with_entry, with_needed, AreNodes, MayPassLimit, LeavesRoom, Reply, Step, Insert, Value, ReadiesInStorage, InsertsInStorage, RefusesInStorage, StepByPath, get-with_entry, is-same_string, same_entries, same_string, Entries, Contents, with_value_at, is_none-None, state, storage, stored, placed, readied_inserts}
 use Rattle.prefix_trie_map.proofs.Insertions.{inserts_are}
-use Rattle.prefix_trie_bits.proofs.Model.Storage.Readied.{readied_inserts}
 
 module _ {T : Type 0} where
   pub value_not_refused : (x : Option T) (c : Refusal) → ◌≡◌ {A = Reply (List Bool) T} (Value x) (Reply.Refused c) → ⊥

@@ -1,7 +1,5 @@
 -- Which refusals there are.
-use Rattle.std.proofs.Common.{◌≡◌, ◌↔◌, ℕ, suc, Result, Ok, Err, IfErr, refl, arith}
-use Rattle.prefix_trie_bits.specs.declared.prefix.Refusal.{Refusal}
-use Rattle.prefix_trie_bits.specs.declared.prefix.Refusal.TheVariants.{Memory, IndexRange}
+use Rattle.prefix_trie_map.proofs.Prelude.{◌≡◌, ◌↔◌, ℕ, suc, Result, Ok, Err, IfErr, refl, arith, Refusal, Memory, IndexRange}
 
 -- where a limit of some slots is no reason, memory is
 pub only_memory : (cause : Refusal) (limit : ℕ) → (cause ≡ IndexRange → suc limit ≡ 0) → cause ≡ Memory

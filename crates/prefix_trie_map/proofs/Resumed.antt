@@ -1,16 +1,5 @@
 -- A walk of a map is resumed behind the last item that was read.
-use Rattle.std.proofs.Common.{◌≡◌, ℕ, Bool, true, false, cond, List, [], ◌∷◌, ◌++◌, filter, is_lt, is_le, Less, Equal, Greater, refl, sym, ap, ◌∙◌, subst}
-use Rattle.std.proofs.lemmas.Bool.{false≢true}
-use Rattle.std.specs.List.{All}
-use Rattle.std.proofs.lemmas.List.Elements.{All-head, All-tail, All-filter, filter_passes}
-use Rattle.std.specs.FinMap.{retain_keys}
-use Rattle.prefix_trie_bits.specs.Keys.{PrefixLaws}
-use Rattle.prefix_trie_bits.specs.Order.{listing_cmp, listing_total, listing_same}
-use Rattle.prefix_trie_bits.specs.Model.Entries.{Entries, AreWithin}
-use Rattle.prefix_trie_bits.specs.Model.Selections.{listing, listing_from, listing_after, shown}
-use Rattle.prefix_trie_bits.proofs.Model.Listings.{listing_laws}
-use Rattle.prefix_trie_bits.proofs.Model.Ordered.{entries-retained, lt-less}
-use Rattle.prefix_trie_map.specs.Resumed.{ResumeLaws}
+use Rattle.prefix_trie_map.proofs.Prelude.{◌≡◌, ℕ, Bool, true, false, cond, List, [], ◌∷◌, ◌++◌, filter, is_lt, is_le, Less, Equal, Greater, refl, sym, ap, ◌∙◌, subst, false≢true, All, All-head, All-tail, All-filter, filter_passes, retain_keys, PrefixLaws, listing_cmp, listing_total, listing_same, Entries, AreWithin, listing, listing_from, listing_after, shown, listing_laws, entries-retained, lt-less, ResumeLaws}
 use Rattle.prefix_trie_map.proofs.Listed.{listed_paths}
 
 module _ {X : Type 0} where

@@ -1,10 +1,5 @@
 -- What is left of a map once a test was asked.
-use Rattle.std.proofs.Common.{◌≡◌, ℕ, sym, subst}
-use Rattle.prefix_trie_bits.specs.Laws.Steps.{IsMap}
-use Rattle.prefix_trie_bits.specs.Model.Entries.{AreWithin}
-use Rattle.prefix_trie_bits.specs.Model.Nodes.{AreNodes, needed}
-use Rattle.prefix_trie_bits.specs.Model.Step.{State}
-use Rattle.prefix_trie_bits.proofs.Model.NodeSets.{AreNodes-needed}
+use Rattle.prefix_trie_map.proofs.Prelude.{◌≡◌, ℕ, sym, subst, IsMap, AreWithin, AreNodes, needed, State, AreNodes-needed}
 
 -- entries within the width with the nodes that they need are those of a map
 pub IsMap-tidied : {T : Type 0} (width : ℕ) (s : State T) → AreWithin width s.entries → s.nodes ≡ needed s.entries → IsMap width s

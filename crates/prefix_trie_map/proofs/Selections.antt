@@ -1,10 +1,5 @@
 -- A selection of a listing is no longer than the map.
-use Rattle.std.proofs.Common.{◌≤◌, Bool, true, false, cond, List, length, filter, arith}
-use Rattle.std.proofs.lemmas.List.{length-map}
-use Rattle.std.proofs.lemmas.List.Sums.{length-filter, count_by-le-length}
-use Rattle.std.specs.FinMap.{len, len-entries}
-use Rattle.prefix_trie_bits.specs.Model.Entries.{Entries}
-use Rattle.prefix_trie_bits.specs.Model.Selections.{listing, listing_from, listing_after, shown}
+use Rattle.prefix_trie_map.proofs.Prelude.{◌≤◌, Bool, true, false, cond, List, length, filter, arith, length-map, length-filter, count_by-le-length, len, len-entries, Entries, listing, listing_from, listing_after, shown}
 
 module _ {P T : Type 0} (back : List Bool → P) (m : Entries T) where
   pub few_shown : (p : List Bool × T → Bool) → length (shown back (filter p (listing m))) ≤ len m

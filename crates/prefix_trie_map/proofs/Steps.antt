@@ -1,11 +1,5 @@
 -- What holds of the table by a key's bits holds of the map by the prefix's path; and steps leave maps.
-use Rattle.std.proofs.Common.{◌≡◌, ◌≤◌, ℕ, Bool, List, length, Option, subst}
-use Rattle.prefix_trie_bits.specs.Laws.Steps.{IsMap}
-use Rattle.prefix_trie_bits.specs.Model.Step.{State, Call, CallFits, Reply, Value}
-use Rattle.prefix_trie_bits.specs.Model.Storage.{Storage, StepByPath}
-use Rattle.prefix_trie_bits.proofs.Model.Steps.{stays_map}
-use Rattle.prefix_trie_table.specs.Shape.{Contents}
-use Rattle.prefix_trie_map.specs.Steps.{state, stored}
+use Rattle.prefix_trie_map.proofs.Prelude.{◌≡◌, ◌≤◌, ℕ, Bool, List, length, Option, subst, IsMap, State, Call, CallFits, Reply, Value, Storage, StepByPath, stays_map, Contents, state, stored}
 
 module _ {T : Type 0} where
   -- what holds of the table, by the key's bits, holds of the map, by the prefix's path

@@ -1,21 +1,11 @@
 -- What a step of a writing walk says of its first entry, that a walk that may have no map steps as what it goes over does, and which keys
 -- are to come of a walk.
-use Rattle.std.proofs.Common.{◌≡◌, Bool, true, List, [], ◌∷◌, map, Option, None, Some, MatchOption, IfSome, IfNone, refl, sym, ap, ◌∙◌, subst}
+use Rattle.prefix_trie_map.proofs.Prelude.{◌≡◌, Bool, true, List, [], ◌∷◌, map, Option, None, Some, MatchOption, IfSome, IfNone, refl, sym, ap, ◌∙◌, subst, contains_key, Contents, with_value_at, IsTrailIn, IsTrailIn-prop, GivesKey, keys_to_come, Trail, pending_again, Course, Stop, keys_left, as_walk, key_at, StopsAt, HasValueAt, with_written, IsFirst, GoesOver, ComesToEnd, StartsOver, lent_beside, EndsIn, StepsIn}
 use Rattle.std.specs.Borrow.{MutBor}
-use Rattle.std.specs.FinMap.{contains_key}
 use Rattle.std.specs.declared.cmp.PartialEq as partial
 use Rattle.std.specs.declared.fmt.Debug as debug
 use Rattle.prefix_trie_bits.specs.declared.prefix.Prefix as prefix
 use Rattle.prefix_trie_bits.specs.declared.prefix.Key as key
-use Rattle.prefix_trie_table.specs.Shape.{Contents, with_value_at}
-use Rattle.prefix_trie_table.specs.Walking.Trails.{IsTrailIn, IsTrailIn-prop, GivesKey, keys_to_come}
-use Rattle.prefix_trie_table.specs.declared.table.trail.Trail.{Trail}
-use Rattle.prefix_trie_table.proofs.Walk.KeySets.{pending_again}
-use Rattle.prefix_trie_map.specs.declared.map.writing.course.Course.{Course}
-use Rattle.prefix_trie_map.specs.declared.map.writing.course.Stop.{Stop}
-use Rattle.prefix_trie_map.specs.Writing.{keys_left, as_walk, key_at, StopsAt, HasValueAt, with_written, IsFirst, GoesOver, ComesToEnd, StartsOver}
-use Rattle.prefix_trie_map.specs.Lending.{lent_beside}
-use Rattle.prefix_trie_map.specs.WritingWalks.{EndsIn, StepsIn}
 
 module _ {P T A R : Type 0} {p : prefix.Ghosts P R} {shows : debug.Ghosts P} {k : key.Ghosts R} {same : partial.Ghosts R} {writes : debug.Ghosts R}
     (c : Course P T A R p shows k same writes) (trail : Trail R) (stands : IsTrailIn k.bits k.bit_width c.map.now.build trail) (stop : Stop R)

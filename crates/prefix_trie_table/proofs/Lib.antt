@@ -1,3 +1,4 @@
+pub mod Prelude
 pub mod Strings
 pub mod Blocks
 pub mod Tree

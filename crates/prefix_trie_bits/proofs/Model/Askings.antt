@@ -1,10 +1,7 @@
 -- Asking a test at each entry in turn: one turn of a loop, its end, and what is kept.
-use Rattle.std.proofs.Common.{◌≡◌, ℕ, ◌+◌, ◌<◌, Bool, true, false, List, [], ◌∷◌, ◌++◌, length, take, get_or, ap, sym, ◌∙◌, subst, filter, cond, is_lt, ◌&&◌}
+use Rattle.prefix_trie_bits.proofs.Prelude.{◌≡◌, ℕ, ◌+◌, ◌<◌, Bool, true, false, List, [], ◌∷◌, ◌++◌, length, take, get_or, ap, sym, ◌∙◌, subst, filter, cond, is_lt, ◌&&◌, take_more, below_all, listing_cmp, AsksInOrder, MayAskInOrder}
 use lib.Dec.{T as IsT}
-use Rattle.std.proofs.lemmas.List.{take_more, append_assoc}
-use Rattle.std.specs.FinMap.Entries.{below_all}
-use Rattle.prefix_trie_bits.specs.Order.{listing_cmp}
-use Rattle.prefix_trie_bits.specs.Model.Asking.{AsksInOrder, MayAskInOrder}
+use Rattle.std.proofs.lemmas.List.{append_assoc}
 use Rattle.prefix_trie_bits.proofs.Model.Members.{and-first, and-second, and-join}
 use Rattle.prefix_trie_bits.proofs.Model.Ordered.{t-true, true-t}
 

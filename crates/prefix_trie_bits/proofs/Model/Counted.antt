@@ -1,14 +1,6 @@
 -- Runs with their counts.
-use Rattle.std.proofs.Common.{◌≡◌, ◌≢◌, ◌<◌, ◌≤◌, map, take, get_or, ℕ, ◌+◌, Bool, true, false, List, [], ◌∷◌, ◌++◌, length, Option, None, Some, MatchOption, refl, sym, ap, ◌∙◌, subst, true≢false}
-use Rattle.std.proofs.lemmas.List.{take_more, map-append}
-use Rattle.std.proofs.lemmas.List.Elements.{All-head, All-tail, All-nil, All-cons}
+use Rattle.prefix_trie_bits.proofs.Prelude.{◌≡◌, ◌≢◌, ◌<◌, ◌≤◌, map, take, get_or, ℕ, ◌+◌, Bool, true, false, List, [], ◌∷◌, ◌++◌, length, Option, None, Some, MatchOption, refl, sym, ap, ◌∙◌, subst, true≢false, take_more, map-append, All-head, All-tail, All-nil, All-cons, State, Call, Insert, Get, Lpm, Spm, Remove, RemoveKeepTree, RemoveChildren, RetainAtLeast, Clear, ListFrom, Children, Cover, CallFits, Reply, Step, Runs, Storage, RunInStorage, tidy_after, tidy_after_all, TidyIf, CountsReads, CountedStep, CountedFrom, ReadsExactly, CountedLaws, IsMap}
 use Rattle.std.specs.List.{All}
-use Rattle.prefix_trie_bits.specs.Model.Step.{State, Call, Insert, Get, Lpm, Spm, Remove, RemoveKeepTree, RemoveChildren, RetainAtLeast, Clear, ListFrom, Children, Cover, CallFits, Reply, Step, Runs}
-use Rattle.prefix_trie_bits.specs.Model.Storage.{Storage, RunInStorage}
-use Rattle.prefix_trie_bits.specs.Model.Counted.{tidy_after, tidy_after_all, TidyIf, CountsReads, CountedStep, CountedFrom}
-use Rattle.prefix_trie_bits.specs.Model.Visits.{ReadsExactly}
-use Rattle.prefix_trie_bits.specs.Laws.Counted.{CountedLaws}
-use Rattle.prefix_trie_bits.specs.Laws.Steps.{IsMap}
 use Rattle.prefix_trie_bits.proofs.Model.Runs.{runs_join}
 use Rattle.prefix_trie_bits.proofs.Model.Steps.{stays_map, step_laws}
 

@@ -1,10 +1,5 @@
 -- A step is determined up to refusal, and each call has one.
-use Rattle.std.proofs.Common.{◌≡◌, ◌↔◌, ℕ, Bool, true, false, not, cond, List, refl, sym, ap, ◌∙◌, inl, inr, true≢false}
-use Rattle.std.specs.FinMap.{get, contains_key}
-use Rattle.prefix_trie_bits.specs.Model.Entries.{with_entry}
-use Rattle.prefix_trie_bits.specs.Model.Nodes.{with_needed}
-use Rattle.prefix_trie_bits.specs.Model.Step.{State, Call, Insert, ListAll, ListFrom, Children, Cover, Reply, Value, Items, Refused, Refusal, Memory, IndexRange, Lists, Step}
-use Rattle.prefix_trie_bits.specs.Laws.Determined.{is_memory, is_refusal, may_refuse, DeterminedLaws}
+use Rattle.prefix_trie_bits.proofs.Prelude.{◌≡◌, ◌↔◌, ℕ, Bool, true, false, not, cond, List, refl, sym, ap, ◌∙◌, inl, inr, true≢false, get, contains_key, with_entry, with_needed, State, Call, Insert, ListAll, ListFrom, Children, Cover, Reply, Value, Items, Refused, Refusal, Memory, IndexRange, Lists, Step, is_memory, is_refusal, may_refuse, DeterminedLaws}
 use Rattle.prefix_trie_bits.proofs.Model.Members.{from-not, not-true}
 
 memory-is : (cause : Refusal) → is_memory cause ≡ true → cause ≡ Memory

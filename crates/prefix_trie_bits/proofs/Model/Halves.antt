@@ -1,10 +1,5 @@
 -- Counting the strings that some string of a list begins, half by half.
-use Rattle.std.proofs.Common.{◌≡◌, ◌≤◌, subst, ℕ, suc, zero, ◌+◌, ◌^◌, Bool, true, false, cond, ◌&&◌, ◌||◌, List, [], ◌∷◌, length, map, filter, refl, sym, ap, ap₂, ◌∙◌, arith, true≢false, length-append}
-use Rattle.std.proofs.lemmas.List.Elements.{filter-append}
-use Rattle.std.specs.List.{list_any}
-use Rattle.prefix_trie_bits.specs.Bits.{begins, same_bit}
-use Rattle.prefix_trie_bits.specs.Model.Nodes.{is_root}
-use Rattle.prefix_trie_bits.specs.Model.Addresses.{full_strings, covered}
+use Rattle.prefix_trie_bits.proofs.Prelude.{◌≡◌, ◌≤◌, subst, ℕ, suc, zero, ◌+◌, ◌^◌, Bool, true, false, cond, ◌&&◌, ◌||◌, List, [], ◌∷◌, length, map, filter, refl, sym, ap, ap₂, ◌∙◌, arith, true≢false, length-append, filter-append, list_any, begins, same_bit, is_root, full_strings, covered}
 
 -- what is left of the strings after their first bit, where it is b; the empty string stays
 abbrev pub tails : Bool → List (List Bool) → List (List Bool)

@@ -1,19 +1,6 @@
 -- What is handed out and what is left are together what there was.
-use Rattle.std.proofs.Common.{◌≡◌, ℕ, ◌+◌, Bool, true, false, cond, not, List, [], ◌∷◌, length, Option, None, Some, is_some, refl, sym, ap, ap₂, ◌∙◌, subst}
+use Rattle.prefix_trie_bits.proofs.Prelude.{◌≡◌, ℕ, ◌+◌, Bool, true, false, cond, not, List, [], ◌∷◌, length, Option, None, Some, is_some, refl, sym, ap, ap₂, ◌∙◌, subst, false≢true, length-filter_both, Contains-append_left, Contains-append_right, Contains-push, get, len, find, entries, len-entries, get-entries, entries_sorted, contains_key, begins, listing_cmp, same_string, Entries, with_entry, without_below, part_below, put_all, AreWithin, HandsOut, AreNodes, needed, listing, State, Splits, HandingLaws, IsMap}
 use Rattle.std.specs.List.{Contains}
-use Rattle.std.proofs.lemmas.Bool.{false≢true}
-use Rattle.std.proofs.lemmas.List.Filters.{length-filter_both}
-use Rattle.std.proofs.lemmas.List.Elements.{Contains-append_left, Contains-append_right, Contains-push}
-use Rattle.std.specs.FinMap.{get, len, find, entries, len-entries, get-entries, entries_sorted, contains_key}
-use Rattle.prefix_trie_bits.specs.Bits.{begins}
-use Rattle.prefix_trie_bits.specs.Order.{listing_cmp, same_string}
-use Rattle.prefix_trie_bits.specs.Model.Entries.{Entries, with_entry, without_below, part_below, put_all, AreWithin}
-use Rattle.prefix_trie_bits.specs.Model.HandsOut.{HandsOut}
-use Rattle.prefix_trie_bits.specs.Model.Nodes.{AreNodes, needed}
-use Rattle.prefix_trie_bits.specs.Model.Selections.{listing}
-use Rattle.prefix_trie_bits.specs.Model.Step.{State}
-use Rattle.prefix_trie_bits.specs.Laws.HandsOut.{Splits, HandingLaws}
-use Rattle.prefix_trie_bits.specs.Laws.Steps.{IsMap}
 use Rattle.prefix_trie_bits.proofs.Model.Members.{and-second, has-retained, same_entries, same_string-is, get-with_entry, get-without_below, get-part_below}
 use Rattle.prefix_trie_bits.proofs.Model.NodeSets.{AreNodes-needed}
 use Rattle.prefix_trie_bits.proofs.Model.Ordered.{entries-retained, find-from_Contains}

@@ -1,8 +1,5 @@
 -- Where a question's own node stands.
-use Rattle.std.proofs.Common.{◌≡◌, ◌+◌, ◌*◌, ◌/◌, ◌%◌, ◌<◌, ◌≤◌, Bool, true, List, length, sym, ◌∙◌, arith, length-take-le}
-use Rattle.prefix_trie_bits.specs.Bits.{begins}
-use Rattle.prefix_trie_bits.specs.Begins.{take-begins, begins-linear, begins-length, begins-same-length}
-use Rattle.prefix_trie_bits.specs.Model.Nodes.{home}
+use Rattle.prefix_trie_bits.proofs.Prelude.{◌≡◌, ◌+◌, ◌*◌, ◌/◌, ◌%◌, ◌<◌, ◌≤◌, Bool, true, List, length, sym, ◌∙◌, arith, length-take-le, begins, take-begins, begins-linear, begins-length, begins-same-length, home}
 
 pub home-begins : (q : List Bool) → begins (home q) q ≡ true
 home-begins q = take-begins (5 * (length q / 5)) q

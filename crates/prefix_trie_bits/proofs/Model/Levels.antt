@@ -1,14 +1,5 @@
 -- The nodes on the way to a question, by level, and a node that is missing.
-use Rattle.std.proofs.Common.{◌≡◌, ℕ, zero, suc, ◌+◌, ◌*◌, ◌/◌, ◌%◌, ◌<◌, ◌≤◌, ◌==◌, ◌⊎◌, inl, inr, Bool, true, false, cond, ◌&&◌, List, [], ◌∷◌, length, take, filter, nat_lt, refl, sym, ap, ◌∙◌, subst, arith, true≢false, length-take-le}
-use Rattle.std.proofs.lemmas.Bool.{cases_Bool, cases_eq}
-use Rattle.std.specs.List.{list_any}
-use Rattle.std.specs.FinMap.{contains_key-keys, keys}
-use Rattle.prefix_trie_bits.specs.Begins.{take-begins, begins-linear}
-use Rattle.prefix_trie_bits.specs.Bits.{begins}
-use Rattle.prefix_trie_bits.specs.Order.{same_string}
-use Rattle.prefix_trie_bits.specs.Model.Blocks.{child_count, own_entries}
-use Rattle.prefix_trie_bits.specs.Model.Entries.{Entries}
-use Rattle.prefix_trie_bits.specs.Model.Nodes.{Nodes, has_node, AreNodes}
+use Rattle.prefix_trie_bits.proofs.Prelude.{◌≡◌, ℕ, zero, suc, ◌+◌, ◌*◌, ◌/◌, ◌%◌, ◌<◌, ◌≤◌, ◌==◌, ◌⊎◌, inl, inr, Bool, true, false, cond, ◌&&◌, List, [], ◌∷◌, length, take, filter, nat_lt, refl, sym, ap, ◌∙◌, subst, arith, true≢false, length-take-le, cases_Bool, cases_eq, list_any, contains_key-keys, keys, take-begins, begins-linear, begins, same_string, child_count, own_entries, Entries, Nodes, has_node, AreNodes}
 use Rattle.prefix_trie_bits.proofs.Model.Members.{or-left, or-right, is-same_string, needs}
 
 -- of the nodes on a way all stand, or those down to a level and none below it

@@ -1,16 +1,7 @@
 -- The listing and its selections.
-use Rattle.std.proofs.Common.{◌≡◌, ◌≢◌, ◌↔◌, ◌⊎◌, Bool, true, false, cond, not, ◌&&◌, T, List, [], ◌∷◌, ◌++◌, filter, is_lt, is_le, Ordering, Less, Equal, Greater, refl, sym, ap, ◌∙◌, subst, Some, inl, inr, true≢false}
+use Rattle.prefix_trie_bits.proofs.Prelude.{◌≡◌, ◌≢◌, ◌↔◌, ◌⊎◌, Bool, true, false, cond, not, ◌&&◌, T, List, [], ◌∷◌, ◌++◌, filter, is_lt, is_le, Ordering, Less, Equal, Greater, refl, sym, ap, ◌∙◌, subst, Some, inl, inr, true≢false, ordering_reverse, entries_sorted, get, get-entries, is_sorted, below_all, begins, listing_cmp, listing_total, listing_same, listing-refl, listing-common, IsBefore, Entries, listing, listing_from, listing_after, is_root, ListingLaws}
 use lib.Dec.{T as IsT}
-use Rattle.std.specs.Ordering.{ordering_reverse}
 use Rattle.std.specs.List.{Contains}
-use Rattle.std.specs.FinMap.{entries_sorted, get, get-entries, is_sorted}
-use Rattle.std.specs.FinMap.Entries.{below_all}
-use Rattle.prefix_trie_bits.specs.Bits.{begins}
-use Rattle.prefix_trie_bits.specs.Order.{listing_cmp, listing_total, listing_same, listing-refl, listing-common, IsBefore}
-use Rattle.prefix_trie_bits.specs.Model.Entries.{Entries}
-use Rattle.prefix_trie_bits.specs.Model.Selections.{listing, listing_from, listing_after}
-use Rattle.prefix_trie_bits.specs.Model.Nodes.{is_root}
-use Rattle.prefix_trie_bits.specs.Laws.Listings.{ListingLaws}
 use Rattle.prefix_trie_bits.proofs.Model.Members.{and-first, and-second}
 use Rattle.prefix_trie_bits.proofs.Model.Ordered.{t-true, true-t, lt-less, sorted-tail, sorted-head, sorted-neighbours, Contains-from_find, find-from_Contains, entries-retained}
 use Rattle.prefix_trie_bits.proofs.Model.NodeListings.{listing_by_places}

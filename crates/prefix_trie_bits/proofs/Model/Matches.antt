@@ -1,17 +1,7 @@
 -- The covers of a question, the first and the last of them.
-use Rattle.std.proofs.Common.{◌≡◌, ◌⊎◌, ◌≤◌, ◌<◌, Bool, true, false, cond, T, List, [], ◌∷◌, ◌++◌, length, is_some, Less, Option, Some, None, refl, sym, ap, ◌∙◌, subst, arith, inl, inr, true≢false}
+use Rattle.prefix_trie_bits.proofs.Prelude.{◌≡◌, ◌⊎◌, ◌≤◌, ◌<◌, Bool, true, false, cond, T, List, [], ◌∷◌, ◌++◌, length, is_some, Less, Option, Some, None, refl, sym, ap, ◌∙◌, subst, arith, inl, inr, true≢false, Contains-append_left, Contains-append_right, Contains-push, list_any, same_Some, entries, entries_sorted, get, contains_key, keys, get-entries, is_sorted, find, is_sorted-where_key, find-where_key, begins, begins-linear, begins-same-length, same_bool, listing_cmp, listing_same, same_string, Entries, first_item, last_item, covers, IsMatch, IsLongestMatch, IsShortestMatch, longest_match, shortest_match, MatchLaws}
 use lib.Dec.{T as IsT}
-use Rattle.std.proofs.lemmas.List.Elements.{Contains-append_left, Contains-append_right, Contains-push}
-use Rattle.std.specs.List.{list_any, Contains}
-use Rattle.std.proofs.lemmas.Option.{same_Some}
-use Rattle.std.specs.FinMap.{entries, entries_sorted, get, contains_key, keys, get-entries, is_sorted, find}
-use Rattle.std.specs.FinMap.Entries.{is_sorted-where_key, find-where_key}
-use Rattle.prefix_trie_bits.specs.Bits.{begins}
-use Rattle.prefix_trie_bits.specs.Begins.{begins-linear, begins-same-length, same_bool}
-use Rattle.prefix_trie_bits.specs.Order.{listing_cmp, listing_same, same_string}
-use Rattle.prefix_trie_bits.specs.Model.Entries.{Entries}
-use Rattle.prefix_trie_bits.specs.Model.Matches.{first_item, last_item, covers, IsMatch, IsLongestMatch, IsShortestMatch, longest_match, shortest_match}
-use Rattle.prefix_trie_bits.specs.Laws.Matches.{MatchLaws}
+use Rattle.std.specs.List.{Contains}
 use Rattle.prefix_trie_bits.proofs.Model.Members.{some-key, some-value, of-key, same_string-is}
 use Rattle.prefix_trie_bits.proofs.Model.Ordered.{each-behind, sorted-tail, sorted-head, sorted-neighbours, shorter-first, found_first, found_later, Contains-from_find, find-from_Contains}
 

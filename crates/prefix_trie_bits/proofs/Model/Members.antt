@@ -1,16 +1,6 @@
 -- What an entry map or a set of nodes of a shape has, and when two of them are one.
-use Rattle.std.proofs.Common.{◌≡◌, ◌⊎◌, ◌%◌, Bool, true, false, cond, not, ◌&&◌, ◌||◌, List, [], ◌∷◌, ◌++◌, length, map, filter, flat_map, is_some, is_eq, Option, Some, None, refl, sym, ap, ◌∙◌, subst, inl, inr, true≢false, eqb-true, eq-eqb, ℕ, nat_le}
-use Rattle.std.specs.Cmp.{Equal-is}
-use Rattle.std.specs.List.{list_any, list_all}
-use Rattle.std.specs.FinMap.{FinMap, empty, get, contains_key, insert, remove, retain_keys, keys, get-empty, get-insert, get-remove, get-retain_keys, contains_key-keys, same_map}
-use Rattle.prefix_trie_bits.specs.Bits.{begins, same_bit}
-use Rattle.prefix_trie_bits.specs.Order.{listing_cmp, listing_total, listing_same, listing-refl, same_string}
-use Rattle.prefix_trie_bits.specs.Begins.{same_bool}
-use Rattle.prefix_trie_bits.specs.Model.Entries.{Entries, with_entry, without_entry, without_below, part_below, part_at_least}
-use Rattle.prefix_trie_bits.specs.Model.Nodes.{Nodes, has_node, root_alone, with_nodes, beginnings, is_node_depth, nodes_above, needed}
-use Rattle.std.proofs.lemmas.Bool.{and_parts}
+use Rattle.prefix_trie_bits.proofs.Prelude.{◌≡◌, ◌⊎◌, ◌%◌, Bool, true, false, cond, not, ◌&&◌, ◌||◌, List, [], ◌∷◌, ◌++◌, length, map, filter, flat_map, is_some, is_eq, Option, Some, None, refl, sym, ap, ◌∙◌, subst, inl, inr, true≢false, eqb-true, eq-eqb, ℕ, nat_le, Equal-is, list_any, list_all, FinMap, empty, get, contains_key, insert, remove, retain_keys, keys, get-empty, get-insert, get-remove, get-retain_keys, contains_key-keys, same_map, begins, same_bit, listing_cmp, listing_total, listing_same, listing-refl, same_string, same_bool, Entries, with_entry, without_entry, without_below, part_below, part_at_least, Nodes, has_node, root_alone, with_nodes, beginnings, is_node_depth, nodes_above, needed, and_parts, or-false, or_assoc, and-false, and-or_distrib_left}
 pub use Rattle.std.proofs.lemmas.Bool.{or_cases as or-cases, or_left as or-left, or_right as or-right, and_from as and-join, not_from_false as not-true, not-true as from-not}
-use Rattle.std.proofs.Math.Bool.{or-false, or_assoc, and-false, and-or_distrib_left}
 
 pub and-first : (a b : Bool) → (a && b) ≡ true → a ≡ true
 and-first a b e = (and_parts a b e).0

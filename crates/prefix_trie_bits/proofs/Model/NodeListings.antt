@@ -1,18 +1,6 @@
 -- What a listing has below a node is what it has at the node's places, one after another.
-use Rattle.std.proofs.Common.{◌≡◌, ℕ, zero, suc, ◌<◌, ◌≤◌, Bool, true, false, cond, ◌&&◌, ◌||◌, nat_lt, ltb-true, List, [], ◌∷◌, ◌++◌, length, map, filter, flat_map, is_lt, is_some, Less, Option, Some, None, refl, sym, ap, ap₂, ◌∙◌, arith, append-nil, append_assoc, length-append}
+use Rattle.prefix_trie_bits.proofs.Prelude.{◌≡◌, ℕ, zero, suc, ◌<◌, ◌≤◌, Bool, true, false, cond, ◌&&◌, ◌||◌, nat_lt, ltb-true, List, [], ◌∷◌, ◌++◌, length, map, filter, flat_map, is_lt, is_some, Less, Option, Some, None, refl, sym, ap, ap₂, ◌∙◌, arith, append-nil, append_assoc, length-append, lt-ltb, le-ltb, flat_map-append, flat_map-map, entries, entries_sorted, get, contains_key, get-empty, get-entries, find, is_sorted, below_all, begins, same_bool, begins-append, begins-length, begins-trans, listing_cmp, listing-extension, same_string, strings, is_in, places, Entries, part_below, no_entries, listing, listing_below, pair_of, listing_at_place, listing_at_places}
 use lib.Dec.{T as IsT}
-use Rattle.std.proofs.lemmas.Bool.{lt-ltb, le-ltb}
-use Rattle.std.proofs.lemmas.Grind.{flat_map-append}
-use Rattle.std.proofs.lemmas.List.Folds.{flat_map-map}
-use Rattle.std.specs.FinMap.{entries, entries_sorted, get, contains_key, get-empty, get-entries, find, is_sorted}
-use Rattle.std.specs.FinMap.Entries.{below_all}
-use Rattle.prefix_trie_bits.specs.Bits.{begins}
-use Rattle.prefix_trie_bits.specs.Begins.{same_bool, begins-append, begins-length, begins-trans}
-use Rattle.prefix_trie_bits.specs.Order.{listing_cmp, listing-extension, same_string}
-use Rattle.prefix_trie_bits.specs.Places.{strings, is_in, places}
-use Rattle.prefix_trie_bits.specs.Model.Entries.{Entries, part_below, no_entries}
-use Rattle.prefix_trie_bits.specs.Model.Selections.{listing, listing_below}
-use Rattle.prefix_trie_bits.specs.Model.NodeListings.{pair_of, listing_at_place, listing_at_places}
 use Rattle.prefix_trie_bits.proofs.Checks.{both, each}
 use Rattle.prefix_trie_bits.proofs.Listing.{strings-short}
 use Rattle.prefix_trie_bits.proofs.Model.Members.{and-first, and-second, same_string-is, get-part_below, same_entries}

@@ -1,14 +1,6 @@
 -- Lists of entries in listing order, and what each operation makes of the listing.
-use Rattle.std.proofs.Common.{◌≡◌, ◌≤◌, ◌<◌, Bool, true, false, cond, not, ◌&&◌, nat_lt, T, List, [], ◌∷◌, ◌++◌, length, filter, is_lt, Ordering, Less, Equal, Some, None, is_some, refl, sym, ap, ◌∙◌, subst, arith, true≢false, inl, inr, unwrap_or}
-use Rattle.std.proofs.lemmas.List.Elements.{Contains-append_left, Contains-append_right, Contains-append_cases, Contains-push, Contains-push_cases}
-use Rattle.std.proofs.lemmas.Bool.Decides.{nat_tests}
+use Rattle.prefix_trie_bits.proofs.Prelude.{◌≡◌, ◌≤◌, ◌<◌, Bool, true, false, cond, not, ◌&&◌, nat_lt, T, List, [], ◌∷◌, ◌++◌, length, filter, is_lt, Ordering, Less, Equal, Some, None, is_some, refl, sym, ap, ◌∙◌, subst, arith, true≢false, inl, inr, unwrap_or, Contains-append_left, Contains-append_right, Contains-append_cases, Contains-push, Contains-push_cases, nat_tests, ordering_reverse, FinMap, entries, entries_sorted, empty, get, remove, retain_keys, from_sorted, len-entries, len-empty, entries-from_sorted, get-from_sorted, get-retain_keys, get-remove, get-entries, same_map, find, is_sorted, below_all, where_key, is_sorted-where_key, find-where_key, begins, begins-linear, begins-same-length, listing_cmp, listing_total, listing_same, listing-refl, listing-extension, same_string}
 use Rattle.std.specs.List.{Contains}
-use Rattle.std.specs.Ordering.{ordering_reverse}
-use Rattle.std.specs.FinMap.{FinMap, entries, entries_sorted, empty, get, remove, retain_keys, from_sorted, len-entries, len-empty, entries-from_sorted, get-from_sorted, get-retain_keys, get-remove, get-entries, same_map, find, is_sorted}
-use Rattle.std.specs.FinMap.Entries.{below_all, where_key, is_sorted-where_key, find-where_key}
-use Rattle.prefix_trie_bits.specs.Bits.{begins}
-use Rattle.prefix_trie_bits.specs.Begins.{begins-linear, begins-same-length}
-use Rattle.prefix_trie_bits.specs.Order.{listing_cmp, listing_total, listing_same, listing-refl, listing-extension, same_string}
 use Rattle.prefix_trie_bits.proofs.Model.Members.{and-first, and-second, same_string-is, is-same_string, turned}
 
 pub t-true : (b : Bool) → T b → b ≡ true

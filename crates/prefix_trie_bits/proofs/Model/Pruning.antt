@@ -1,14 +1,5 @@
 -- What removals leave of the nodes.
-use Rattle.std.proofs.Common.{◌≡◌, ◌≢◌, ℕ, ◌%◌, ◌≤◌, Bool, true, false, cond, not, ◌&&◌, ◌||◌, nat_lt, List, [], ◌∷◌, length, refl, sym, ◌∙◌, subst, arith, inl, inr, true≢false}
-use Rattle.std.specs.List.{list_any, list_all}
-use Rattle.std.specs.FinMap.{contains_key, keys, retain_keys}
-use Rattle.std.proofs.lemmas.Bool.Decides.{nat_tests}
-use Rattle.prefix_trie_bits.specs.Bits.{begins}
-use Rattle.prefix_trie_bits.specs.Begins.{begins-trans, begins-refl, begins-linear, begins-antisymm, begins-length}
-use Rattle.prefix_trie_bits.specs.Order.{same_string}
-use Rattle.prefix_trie_bits.specs.Model.Entries.{Entries, without_entry, without_below}
-use Rattle.prefix_trie_bits.specs.Model.Nodes.{Nodes, has_node, home, needed, AreNodes, IsTidy, is_root, is_pruned, pruned, nodes_not_below, nodes_without, nodes_without_below}
-use Rattle.prefix_trie_bits.specs.Laws.Pruning.{IsTakenOut, IsPruning, PruningLaws}
+use Rattle.prefix_trie_bits.proofs.Prelude.{◌≡◌, ◌≢◌, ℕ, ◌%◌, ◌≤◌, Bool, true, false, cond, not, ◌&&◌, ◌||◌, nat_lt, List, [], ◌∷◌, length, refl, sym, ◌∙◌, subst, arith, inl, inr, true≢false, list_any, list_all, contains_key, keys, retain_keys, nat_tests, begins, begins-trans, begins-refl, begins-linear, begins-antisymm, begins-length, same_string, Entries, without_entry, without_below, Nodes, has_node, home, needed, AreNodes, IsTidy, is_root, is_pruned, pruned, nodes_not_below, nodes_without, nodes_without_below, IsTakenOut, IsPruning, PruningLaws}
 use Rattle.prefix_trie_bits.proofs.Model.Members.{or-right, and-first, and-second, and-join, not-true, from-not, same_string-is, is-same_string, some-key, of-key, each-key, all-keys, has-retained, has-removed, needs, needs_root, needed_for, same_nodes}
 use Rattle.prefix_trie_bits.proofs.Model.Homes.{home-begins, home-depth, home-longest}
 pub use Rattle.std.proofs.lemmas.Bool.{false_from_ne_true as not-so}

@@ -1,13 +1,6 @@
 -- What a test of lengths keeps of a map's entries: asking it is keeping by length.
-use Rattle.std.proofs.Common.{◌≡◌, ◌≤◌, ℕ, Bool, true, false, List, length, filter, cond, nat_le, is_some, Option, Some, None, ap, sym, ◌∙◌, refl, subst}
-use Rattle.std.specs.FinMap.{get, find, retain_keys, get-entries, get-retain_keys}
-use Rattle.prefix_trie_bits.specs.Order.{listing_cmp, listing_same}
+use Rattle.prefix_trie_bits.proofs.Prelude.{◌≡◌, ◌≤◌, ℕ, Bool, true, false, List, length, filter, cond, nat_le, is_some, Option, Some, None, ap, sym, ◌∙◌, refl, subst, get, find, retain_keys, get-entries, get-retain_keys, listing_cmp, listing_same, Entries, AreWithin, part_at_least, needed, listing, State, RetainAtLeast, Reply, Done, Refused, Storage, StepInStorage, RetainsInStorage}
 use Rattle.prefix_trie_bits.specs.declared.prefix.Refusal.{Refusal}
-use Rattle.prefix_trie_bits.specs.Model.Entries.{Entries, AreWithin, part_at_least}
-use Rattle.prefix_trie_bits.specs.Model.Nodes.{needed}
-use Rattle.prefix_trie_bits.specs.Model.Selections.{listing}
-use Rattle.prefix_trie_bits.specs.Model.Step.{State, RetainAtLeast, Reply, Done, Refused}
-use Rattle.prefix_trie_bits.specs.Model.Storage.{Storage, StepInStorage, RetainsInStorage}
 use Rattle.prefix_trie_bits.proofs.Model.Askings.{keeps_filter}
 use Rattle.prefix_trie_bits.proofs.Model.Members.{get-part_at_least, same_entries}
 use Rattle.prefix_trie_bits.proofs.Model.Ordered.{entries-retained}

@@ -1,7 +1,5 @@
 -- Runs of steps of whichever kind, joined; and the run that one with its storage is.
-use Rattle.std.proofs.Common.{ℕ, Bool, List, [], ◌∷◌, ◌++◌, sym, ap, subst}
-use Rattle.prefix_trie_bits.specs.Model.Step.{State, Call, Reply, Runs, Run}
-use Rattle.prefix_trie_bits.specs.Model.Storage.{Storage, RunInStorage}
+use Rattle.prefix_trie_bits.proofs.Prelude.{ℕ, Bool, List, [], ◌∷◌, ◌++◌, sym, ap, subst, State, Call, Reply, Runs, Run, Storage, RunInStorage}
 
 module _ {S C R : Type 0} (OneStep : S → C → R → S → Type 0) where
   pub runs_join : (s t u : S) (calls more : List C) (replies rest : List R) → Runs OneStep s calls replies t → Runs OneStep t more rest u → Runs OneStep s (calls ++ more) (replies ++ rest) u

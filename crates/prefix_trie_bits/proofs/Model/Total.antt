@@ -1,18 +1,5 @@
 -- From every map, however it is stored, each fitting call has a step.
-use Rattle.std.proofs.Common.{◌≡◌, ℕ, ◌+◌, ◌<◌, ◌≤◌, ◌⊎◌, inl, inr, Bool, true, false, cond, List, [], ◌∷◌, length, All, refl, sym, ap, ◌∙◌, subst, arith, true≢false}
-use Rattle.std.proofs.lemmas.Bool.{cases_Bool, cases_eq, cases_lt}
-use Rattle.std.proofs.lemmas.List.Elements.{All-head, All-tail}
-use Rattle.std.specs.FinMap.{get, contains_key, len, empty_of_len}
-use Rattle.prefix_trie_bits.specs.Model.Blocks.{no_layout}
-use Rattle.prefix_trie_bits.specs.Model.Entries.{with_entry, without_entry, without_below, part_at_least, no_entries}
-use Rattle.prefix_trie_bits.specs.Model.Insertion.{node_slots_lacking, cell_slots_lacking}
-use Rattle.prefix_trie_bits.specs.Model.Nodes.{has_node, with_needed, needed, root_alone, nodes_without, nodes_without_below}
-use Rattle.prefix_trie_bits.specs.Model.Room.{LeavesRoom, MayPassLimit}
-use Rattle.prefix_trie_bits.specs.Model.Step.{State, Call, Insert, Remove, RemoveKeepTree, RemoveChildren, RetainAtLeast, Clear, ListAll, ListFrom, Children, Cover, CallFits, Reply, Value, Done, Refused, Refusal, IndexRange, Step}
-use Rattle.prefix_trie_bits.specs.Model.Storage.{Storage, cleared, HaveBlocks, LeavesStorage, InsertsInStorage, RefusesInStorage, StepInStorage, RunInStorage}
-use Rattle.prefix_trie_bits.specs.Laws.Determined.{is_memory, is_refusal, may_refuse}
-use Rattle.prefix_trie_bits.specs.Laws.Steps.{IsMap}
-use Rattle.prefix_trie_bits.specs.Laws.Total.{IsStoredMap, GivesCause, TotalLaws}
+use Rattle.prefix_trie_bits.proofs.Prelude.{◌≡◌, ℕ, ◌+◌, ◌<◌, ◌≤◌, ◌⊎◌, inl, inr, Bool, true, false, cond, List, [], ◌∷◌, length, All, refl, sym, ap, ◌∙◌, subst, arith, true≢false, cases_Bool, cases_eq, cases_lt, All-head, All-tail, get, contains_key, len, empty_of_len, no_layout, with_entry, without_entry, without_below, part_at_least, no_entries, node_slots_lacking, cell_slots_lacking, has_node, with_needed, needed, root_alone, nodes_without, nodes_without_below, LeavesRoom, MayPassLimit, State, Call, Insert, Remove, RemoveKeepTree, RemoveChildren, RetainAtLeast, Clear, ListAll, ListFrom, Children, Cover, CallFits, Reply, Value, Done, Refused, Refusal, IndexRange, Step, Storage, cleared, HaveBlocks, LeavesStorage, InsertsInStorage, RefusesInStorage, StepInStorage, RunInStorage, is_memory, is_refusal, may_refuse, IsMap, IsStoredMap, GivesCause, TotalLaws, nil_from_length}
 use Rattle.prefix_trie_bits.proofs.Model.Determined.{cause_of, no_refusal, refused, set}
 use Rattle.prefix_trie_bits.proofs.Model.Storage.Gained.{gained, gained_inserts}
 use Rattle.prefix_trie_bits.proofs.Model.Storage.Lessened.{new_have, many_left, value_left, one_left}
@@ -23,7 +10,6 @@ use Rattle.prefix_trie_bits.proofs.Model.Storage.Slots.{nodes_most, cells_most}
 use Rattle.prefix_trie_bits.proofs.Model.Storage.Staying.{one_gone, longer_left, outside_left, emptied_have, stays_stored}
 use Rattle.prefix_trie_bits.proofs.Model.Steps.{stays_map}
 use Rattle.prefix_trie_bits.proofs.Model.Storage.Supplied.{supplied, stored_have}
-use Rattle.std.proofs.lemmas.List.{nil_from_length}
 
 -- a map has a node, the root's
 some_node : {T : Type 0} (width : ℕ) (s : State T) → IsMap width s → 1 ≤ len s.nodes

@@ -1,20 +1,6 @@
 -- How many beginnings of a question a set of nodes has.
-use Rattle.std.proofs.Common.{◌≡◌, ℕ, zero, suc, ◌+◌, ◌*◌, ◌/◌, ◌%◌, ◌≤◌, ◌<◌, Bool, true, false, cond, ◌&&◌, ◌||◌, nat_le, List, [], ◌∷◌, length, filter, Some, None, refl, sym, ap, ◌∙◌, subst, arith, true≢false, Option, take, is_some, length-take-le, ◌⊎◌, inl, inr, leb-true, le-leb}
-use Rattle.std.specs.FinMap.{contains_key, keys, retain_keys, empty, len, len-insert, len-empty}
-use Rattle.std.specs.List.{list_any}
-use Rattle.prefix_trie_bits.specs.Begins.{take-begins, begins-take, begins-linear, begins-trans, same_bool, begins-length}
-use Rattle.prefix_trie_bits.specs.Order.{listing_cmp, listing_total, same_string}
-use Rattle.prefix_trie_bits.specs.Bits.{begins}
-use Rattle.prefix_trie_bits.specs.Model.Nodes.{home, Nodes, has_node, with_nodes, AreNodes}
-use Rattle.prefix_trie_bits.specs.Model.Entries.{Entries}
-use Rattle.prefix_trie_bits.specs.Model.Matches.{shortest_match}
-use Rattle.prefix_trie_bits.specs.Model.Visits.{visits, visits_of_match, visits_to_match}
-use Rattle.prefix_trie_bits.specs.Laws.Visits.{VisitLaws}
+use Rattle.prefix_trie_bits.proofs.Prelude.{◌≡◌, ℕ, zero, suc, ◌+◌, ◌*◌, ◌/◌, ◌%◌, ◌≤◌, ◌<◌, Bool, true, false, cond, ◌&&◌, ◌||◌, nat_le, List, [], ◌∷◌, length, filter, Some, None, refl, sym, ap, ◌∙◌, subst, arith, true≢false, Option, take, is_some, length-take-le, ◌⊎◌, inl, inr, leb-true, le-leb, contains_key, keys, retain_keys, empty, len, len-insert, len-empty, list_any, take-begins, begins-take, begins-linear, begins-trans, same_bool, begins-length, listing_cmp, listing_total, same_string, begins, home, Nodes, has_node, with_nodes, AreNodes, Entries, shortest_match, visits, visits_of_match, visits_to_match, VisitLaws, cases_lt, cases_eq, or-false, filter_agree, length-filter, sum_by-le-sum_by}
 use Rattle.prefix_trie_bits.proofs.Model.Levels.{at_level, depth_of}
-use Rattle.std.proofs.lemmas.Bool.{cases_lt, cases_eq}
-use Rattle.std.proofs.Math.Bool.{or-false}
-use Rattle.std.proofs.lemmas.List.Elements.{filter_agree}
-use Rattle.std.proofs.lemmas.List.Sums.{length-filter, sum_by-le-sum_by}
 use Rattle.prefix_trie_bits.proofs.Model.Homes.{home-depth, home-begins}
 use Rattle.prefix_trie_bits.proofs.Model.Matches.{match_laws}
 use Rattle.prefix_trie_bits.proofs.Model.Members.{same_string-is, needs, and-join, and-first, and-second, or-left, or-right, or-cases, is-same_string, of-key, same_nodes, has-retained, has-with_nodes, has-empty}

@@ -1,18 +1,9 @@
 -- Numbers of blocks by size, where the sizes of the tiers go up.
-use Rattle.std.proofs.Common.{◌≡◌, ◌≢◌, ℕ, zero, suc, ◌+◌, ◌-◌, ◌*◌, ◌<◌, ◌≤◌, ◌==◌, inl, inr, true, false, cond, nat_lt, nat_le, List, [], ◌∷◌, length, set, map, Option, None, Some, refl, sym, ap, ap₂, ◌∙◌, subst, arith, eqb-true, eq-eqb}
-use Rattle.std.proofs.Math.Nat.{mul-add, mul-le-mul_left}
-use Rattle.std.proofs.lemmas.Bool.{cases_eq, cases_lt, false_from_ne_true, lt-ltb, le-ltb}
-use Rattle.std.proofs.lemmas.Bool.Decides.{nat_tests}
-use Rattle.std.proofs.lemmas.Option.{same_Some}
-use Rattle.std.proofs.lemmas.List.{length-map, length-set, get_or_default, get_or-set_same}
-use Rattle.std.specs.Prelude.{Contains, find}
-use Rattle.prefix_trie_bits.specs.Model.Blocks.{free_of, smallest_size}
-use Rattle.prefix_trie_bits.specs.Model.Insertion.{lacking_of, lacking_slots}
-use Rattle.prefix_trie_bits.proofs.Model.Storage.Readied.{goes_up, above, both, free_here, free_later}
-use Rattle.prefix_trie_bits.proofs.Model.Storage.Shrinking.{in_cases, first_in, later_in, IsSmallest, smallest_of}
-use Rattle.prefix_trie_bits.proofs.Model.Storage.Slots.{how_many}
-use Rattle.prefix_trie_table.specs.Cells.{HasSizes, node_sizes, cell_sizes}
-use Rattle.prefix_trie_table.specs.Store.{Tier, tier_at, tier_sizes, size_in, free_in, made_in, size_if_any, list_need, many_of, slots_of}
+use Rattle.prefix_trie_table.proofs.Prelude.{◌≡◌, ◌≢◌, ℕ, zero, suc, ◌+◌, ◌-◌, ◌*◌, ◌<◌, ◌≤◌, ◌==◌, inl, inr, true, false, cond, nat_lt, nat_le, List, [], ◌∷◌, length, set, map, Option, None, Some, refl, sym, ap, ap₂, ◌∙◌, subst, arith, eqb-true, eq-eqb, mul-add, mul-le-mul_left, cases_eq, cases_lt, false_from_ne_true, le-ltb, nat_tests, same_Some, length-map, get_or_default, Contains, free_of, smallest_size, lacking_of, lacking_slots, goes_up, above, free_here, free_later, in_cases, first_in, later_in, IsSmallest, smallest_of, how_many, HasSizes, node_sizes, cell_sizes, Tier, tier_at, tier_sizes, size_in, free_in, made_in, size_if_any, list_need, many_of, slots_of}
+use Rattle.std.proofs.lemmas.Bool.{lt-ltb}
+use Rattle.std.proofs.lemmas.List.{length-set, get_or-set_same}
+use Rattle.std.specs.Prelude.{find}
+use Rattle.prefix_trie_bits.proofs.Model.Storage.Readied.{both}
 
 -- a tier's size is as the list of sizes says
 pub size_at : (ts : List Tier) (k : ℕ) → (tier_at ts k).size ≡ size_in (tier_sizes ts) k

@@ -1,20 +1,5 @@
 -- Each node's children, and each node's values, stand in a block of one of the sizes that holds them.
-use Rattle.std.proofs.Common.{◌≡◌, ℕ, zero, suc, ◌<◌, inl, inr, Bool, true, cond, ◌&&◌, List, length, map, flat_map, Option, None, Some, is_some, refl, sym, ap, ◌∙◌, subst, arith}
-use Rattle.std.proofs.lemmas.Bool.{cases_Bool}
-use Rattle.std.proofs.lemmas.List.{get_or_default}
-use Rattle.std.specs.FinMap.{get}
-use Rattle.prefix_trie_bits.specs.Model.Blocks.{Sizes, HasBlock, NodesHaveBlocks, child_block_sizes, value_block_sizes, child_count, own_entries}
-use Rattle.prefix_trie_bits.specs.Model.Nodes.{Nodes, has_node, is_node_depth}
-use Rattle.prefix_trie_bits.specs.Model.Step.{State}
-use Rattle.prefix_trie_bits.proofs.Model.Members.{and-first}
-use Rattle.prefix_trie_table.specs.declared.allocator.node.Node.{Node}
-use Rattle.prefix_trie_table.specs.Bitmaps.{rank, bits}
-use Rattle.prefix_trie_table.specs.Cells.{blank_node, node_sizes, cell_sizes}
-use Rattle.prefix_trie_table.specs.Digits.{path_of}
-use Rattle.prefix_trie_table.specs.Forest.{Holds, read, own_count, without, value_blocks}
-use Rattle.prefix_trie_table.specs.Layouts.{AreSizesBy, Sized, own_children, child_block_size, value_block_size}
-use Rattle.prefix_trie_table.specs.Shape.{IsShapeOf}
-use Rattle.prefix_trie_table.specs.Store.{Store, HasList, size_in, tier_sizes, size_if_any}
+use Rattle.prefix_trie_table.proofs.Prelude.{◌≡◌, ℕ, zero, suc, ◌<◌, inl, inr, Bool, true, cond, ◌&&◌, List, length, map, flat_map, Option, None, Some, is_some, refl, sym, ap, ◌∙◌, subst, arith, cases_Bool, get_or_default, get, Sizes, HasBlock, NodesHaveBlocks, child_block_sizes, value_block_sizes, child_count, own_entries, Nodes, has_node, is_node_depth, State, and-first, Node, rank, bits, blank_node, node_sizes, cell_sizes, path_of, Holds, read, own_count, without, value_blocks, AreSizesBy, Sized, own_children, child_block_size, value_block_size, IsShapeOf, Store, HasList, size_in, tier_sizes, size_if_any}
 use Rattle.prefix_trie_table.proofs.Insertion.Adding.{children_list}
 use Rattle.prefix_trie_table.proofs.Strings.BitLists.{rank-all}
 use Rattle.prefix_trie_table.proofs.Removal.Items.{held_fits}

@@ -1,13 +1,5 @@
 -- Blocks in use and free are those that stand in the array, of each size, and none is lost.
-use Rattle.std.proofs.Common.{◌≡◌, ℕ, ◌+◌, ◌<◌, List, Option, length, refl, sym, ap, ◌∙◌, subst, arith}
-use Rattle.std.specs.Prelude.{Contains}
-use Rattle.std.proofs.lemmas.List.{get_or_default}
-use Rattle.prefix_trie_bits.specs.Model.Blocks.{Sizes, used_of, free_of, MakesBlocks, MakesAtMost, KeepsBlocks}
-use Rattle.prefix_trie_table.specs.declared.allocator.node.Node.{Node}
-use Rattle.prefix_trie_table.specs.Cells.{HasSizes, node_sizes, cell_sizes}
-use Rattle.prefix_trie_table.specs.Forest.{SomeTable}
-use Rattle.prefix_trie_table.specs.Layouts.{Sized}
-use Rattle.prefix_trie_table.specs.Store.{Store, KeepsMade, tier_at, tier_sizes, size_in, free_counts, free_in, made_in}
+use Rattle.prefix_trie_table.proofs.Prelude.{◌≡◌, ℕ, ◌+◌, ◌<◌, List, Option, length, refl, sym, ap, ◌∙◌, subst, arith, Contains, get_or_default, Sizes, used_of, free_of, MakesBlocks, MakesAtMost, KeepsBlocks, Node, HasSizes, node_sizes, cell_sizes, SomeTable, Sized, Store, KeepsMade, tier_at, tier_sizes, size_in, free_counts, free_in, made_in}
 use Rattle.prefix_trie_table.proofs.Blocks.BySize.{tiers_long, free_at, made_at, node_sized, cell_sized}
 use Rattle.prefix_trie_table.proofs.Blocks.Sizing.{layout_of}
 use Rattle.prefix_trie_table.proofs.Counts.BlockCounts.{nodes_made, cells_made}

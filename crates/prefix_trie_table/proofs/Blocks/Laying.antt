@@ -1,14 +1,5 @@
 -- A list laid whole in a block that held none.
-use Rattle.std.proofs.Common.{◌≡◌, ℕ, zero, suc, ◌+◌, ◌-◌, ◌<◌, ◌≤◌, true, List, [], ◌∷◌, ◌++◌, length, take, drop, replicate, Option, None, Some, take-append-drop, refl, sym, ap, ◌∙◌, subst, arith}
-use Rattle.std.specs.Prelude.{Contains}
-use Rattle.prefix_trie_bits.specs.Model.Blocks.{smallest_size}
-use Rattle.prefix_trie_bits.specs.Model.HandsOut.{packed_slots}
-use Rattle.prefix_trie_bits.proofs.Model.Storage.Readied.{goes_up}
-use Rattle.std.proofs.lemmas.List.{length-replicate, drop-replicate, replicate-append-replicate}
-use Rattle.prefix_trie_table.specs.declared.allocator.blocks.BlockRef.{BlockRef}
-use Rattle.prefix_trie_table.specs.Runs.{run, put_run}
-use Rattle.prefix_trie_table.specs.Store.{Store, Tier, UsedBlock, Sound, Turnover, block, filled, tier_at, tier_sizes, free_in, many_of, none_of}
-use Rattle.prefix_trie_table.specs.HandingOut.Laying.{NoneFree, LaysList}
+use Rattle.prefix_trie_table.proofs.Prelude.{◌≡◌, ℕ, zero, suc, ◌+◌, ◌-◌, ◌<◌, ◌≤◌, true, List, [], ◌∷◌, ◌++◌, length, take, drop, replicate, Option, None, Some, take-append-drop, refl, sym, ap, ◌∙◌, subst, arith, Contains, smallest_size, packed_slots, goes_up, length-replicate, drop-replicate, replicate-append-replicate, BlockRef, run, put_run, Store, Tier, UsedBlock, Sound, Turnover, block, filled, tier_at, tier_sizes, free_in, many_of, none_of, NoneFree, LaysList}
 use Rattle.prefix_trie_table.proofs.Blocks.BySize.{size_at, smallest_holds, many-le, slots_of-le, slots_of-none, slots_of-many}
 use Rattle.prefix_trie_table.proofs.Blocks.RunLemmas.{length-put_run, get_or-put_run_out, put_run_part, put_run_self}
 use Rattle.prefix_trie_table.proofs.Blocks.Soundness.{Sound-written, block_inside, block_slots}

@@ -1,13 +1,5 @@
 -- A list that loses an item: its block steps down, and the one that it enters is made where none of it is free.
-use Rattle.std.proofs.Common.{◌≡◌, ◌≢◌, ℕ, ◌-◌, ◌<◌, ◌≤◌, ◌↔◌, inl, inr, List, length, Option, None, Some, IsSome, is_some, refl, sym, ap, ◌∙◌, subst, arith}
-use Rattle.std.proofs.lemmas.Bool.{false≢true, cases_eq, cases_lt}
-use Rattle.std.proofs.lemmas.Option.{same_Some}
-use Rattle.std.specs.Prelude.{option_map}
-use Rattle.prefix_trie_bits.specs.Model.Blocks.{StepsDown, free_of, made_of, smallest_size}
-use Rattle.prefix_trie_table.specs.declared.allocator.blocks.BlockRef.{BlockRef}
-use Rattle.prefix_trie_table.specs.Cells.{HasSizes}
-use Rattle.prefix_trie_table.specs.Losing.{LosesOne}
-use Rattle.prefix_trie_table.specs.Store.{Tier, Store, tier_sizes, size_in, size_if_any, list_size, free_counts, free_in, many_of}
+use Rattle.prefix_trie_table.proofs.Prelude.{◌≡◌, ◌≢◌, ℕ, ◌-◌, ◌<◌, ◌≤◌, ◌↔◌, inl, inr, List, length, Option, None, Some, IsSome, is_some, refl, sym, ap, ◌∙◌, subst, arith, false≢true, cases_eq, cases_lt, same_Some, option_map, StepsDown, free_of, made_of, smallest_size, BlockRef, HasSizes, LosesOne, Tier, Store, tier_sizes, size_in, size_if_any, list_size, free_counts, free_in, many_of}
 use Rattle.prefix_trie_table.proofs.Blocks.BySize.{sizes_up, sizes_rise, tiers_long, smallest_there, size_some, many_here, many_other}
 
 -- no block is made where none is left, or the list stays

@@ -1,14 +1,5 @@
 -- Which blocks `prepare` makes.
-use Rattle.std.proofs.Common.{◌≡◌, ◌≢◌, ℕ, zero, suc, ◌+◌, ◌-◌, ◌<◌, ◌≤◌, ◌↔◌, inl, inr, true, List, length, replicate, Option, None, Some, Result, Ok, Err, OnOk, OnErr, IfErr, refl, sym, ap, ◌∙◌, arith}
-use Rattle.std.proofs.lemmas.Bool.{cases_eq, cases_lt}
-use Rattle.std.proofs.lemmas.List.{length-map}
-use Rattle.std.specs.Prelude.{Contains}
-use Rattle.prefix_trie_bits.specs.declared.prefix.Refusal.{Refusal}
-use Rattle.prefix_trie_bits.specs.declared.prefix.Refusal.TheVariants.{Memory, IndexRange}
-use Rattle.prefix_trie_bits.specs.Model.Blocks.{one_of}
-use Rattle.prefix_trie_bits.proofs.Model.Storage.Readied.{goes_up, above}
-use Rattle.prefix_trie_bits.proofs.Model.Storage.Slots.{how_many, how_many-more}
-use Rattle.prefix_trie_table.specs.Store.{Store, Turnover, Obtains, tier_sizes, free_in, free_counts, many_of, none_of, slots_of, needs, lacking_in, slots_lacking}
+use Rattle.prefix_trie_table.proofs.Prelude.{◌≡◌, ◌≢◌, ℕ, zero, suc, ◌+◌, ◌-◌, ◌<◌, ◌≤◌, ◌↔◌, inl, inr, true, List, length, replicate, Option, None, Some, Result, Ok, Err, OnOk, OnErr, IfErr, refl, sym, ap, ◌∙◌, arith, cases_eq, cases_lt, length-map, Contains, Refusal, Memory, IndexRange, one_of, goes_up, above, how_many, how_many-more, Store, Turnover, Obtains, tier_sizes, free_in, free_counts, many_of, none_of, slots_of, needs, lacking_in, slots_lacking}
 use Rattle.prefix_trie_table.proofs.Blocks.BySize.{many_here, many_other, many-none, many-sub, many-add, many-le, slots_lack, slots_of-le, slots_of-add, slots_of-many}
 use Rattle.prefix_trie_table.proofs.Blocks.Turnovers.{Turnover-same, Turnover-as, Turnover-then}
 

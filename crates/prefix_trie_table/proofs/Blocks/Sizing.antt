@@ -1,25 +1,8 @@
 -- The sizes of the blocks of the nodes in an array, by the strings of the nodes.
-use Rattle.std.proofs.Common.{◌≡◌, ℕ, ◌+◌, inl, inr, Bool, true, false, cond, sum_by, arith, ◌&&◌, ◌||◌, List, [], ◌∷◌, map, length, Option, None, Some, is_some, refl, sym, ap, ◌∙◌, subst, ap₂}
-use Rattle.std.proofs.lemmas.Bool.{cases_Bool}
-use Rattle.std.specs.Option.{option_or}
-use Rattle.std.specs.List.{list_any}
-use Rattle.std.specs.FinMap.{get, empty, insert, get-insert, get-empty, entries, values, contains_key}
-use Rattle.std.proofs.lemmas.List.Sums.{sum_by-cons}
-use Rattle.prefix_trie_bits.proofs.Model.Ordered.{entries-empty}
-use Rattle.prefix_trie_bits.specs.Order.{listing_total, same_string}
-use Rattle.prefix_trie_bits.specs.Model.Blocks.{Sizes, Layout, no_layout}
-use Rattle.prefix_trie_bits.specs.Model.Nodes.{is_node_depth}
-use Rattle.prefix_trie_bits.specs.Model.Storage.{Storage}
-use Rattle.prefix_trie_bits.proofs.Model.Members.{same_string-is}
-use Rattle.prefix_trie_table.specs.declared.allocator.node.Node.{Node}
-use Rattle.prefix_trie_table.specs.Digits.{path_of}
-use Rattle.prefix_trie_table.specs.Cells.{node_sizes, cell_sizes}
-use Rattle.prefix_trie_table.specs.Store.{Store, Tier, no_blocks, size_in, size_if_any, free_counts}
-use Rattle.prefix_trie_table.specs.Forest.{NodesHold, Holds, SomeTable}
-use Rattle.prefix_trie_table.specs.Settling.{of_any}
+use Rattle.prefix_trie_table.proofs.Prelude.{◌≡◌, ℕ, ◌+◌, Bool, true, false, cond, sum_by, arith, ◌&&◌, ◌||◌, List, [], ◌∷◌, map, length, Option, None, Some, is_some, refl, sym, ap, ◌∙◌, subst, ap₂, option_or, list_any, get, empty, get-insert, get-empty, entries, values, contains_key, sum_by-cons, entries-empty, listing_total, same_string, Sizes, Layout, no_layout, is_node_depth, Storage, same_string-is, Node, path_of, node_sizes, cell_sizes, Store, Tier, no_blocks, size_in, size_if_any, free_counts, NodesHold, Holds, SomeTable, of_any, AreSizesBy, Sized, Sized-prop, child_block_size, value_block_size}
+use Rattle.std.specs.FinMap.{insert}
 use Rattle.prefix_trie_table.proofs.Strings.Filling.{sum-fresh}
 use Rattle.prefix_trie_table.proofs.Blocks.SlotSums.{sum_by-mapped}
-use Rattle.prefix_trie_table.specs.Layouts.{AreSizesBy, Sized, Sized-prop, child_block_size, value_block_size}
 use Rattle.prefix_trie_table.proofs.Strings.PathStrings.{string_at, string_path, AreSteps, AreOnce, first_steps, other_steps, other_once, fresh_string, paths_steps, listed_at}
 use Rattle.prefix_trie_table.proofs.Strings.BitLists.{rank-zero-all}
 use Rattle.prefix_trie_table.proofs.Tree.Shapes.{root_reading, no_values, root_here}

@@ -1,12 +1,6 @@
 -- A sum over the slots of an array is one over what stands before its blocks and what the blocks in use hold.
-use Rattle.std.proofs.Common.{◌≡◌, ℕ, ◌+◌, ◌-◌, ◌*◌, List, [], ◌∷◌, length, take, drop, map, flat_map, replicate, sum_by, All, refl, sym, ap, ap₂, ◌∙◌, arith, drop-drop}
-use Rattle.std.proofs.lemmas.List.{drop_all}
-use Rattle.std.proofs.lemmas.List.Elements.{All-head, All-tail}
-use Rattle.std.proofs.lemmas.List.Folds.{sum_by-replicate}
-use Rattle.std.proofs.lemmas.List.Sums.{sum_by-cons, sum_by-append, sum_by-take-drop}
-use Rattle.prefix_trie_bits.specs.Model.Blocks.{Tiles, Block as Extent}
-use Rattle.prefix_trie_table.specs.Runs.{run}
-use Rattle.prefix_trie_table.specs.Store.{Store, UsedBlock, Sound, HoldsItems, IsVacant, tier_sizes, extent, free_extents, filled}
+use Rattle.prefix_trie_table.proofs.Prelude.{◌≡◌, ℕ, ◌+◌, ◌-◌, ◌*◌, List, [], ◌∷◌, length, take, drop, map, flat_map, replicate, sum_by, All, refl, sym, ap, ap₂, ◌∙◌, arith, drop-drop, drop_all, All-head, All-tail, sum_by-replicate, sum_by-cons, sum_by-append, sum_by-take-drop, Tiles, run, Store, UsedBlock, Sound, HoldsItems, IsVacant, tier_sizes, extent, free_extents, filled}
+use Rattle.prefix_trie_bits.specs.Model.Blocks.{Block as Extent}
 use Rattle.prefix_trie_table.proofs.Blocks.Tilings.{blocks_sum}
 
 -- a sum over lists joined end to end

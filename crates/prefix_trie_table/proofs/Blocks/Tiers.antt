@@ -1,13 +1,6 @@
 -- The sizes of the two arrays: kept where a tier changes otherwise, and in one table by count.
-use Rattle.std.proofs.Common.{◌≡◌, ℕ, zero, suc, ◌+◌, ◌*◌, ◌<◌, ◌≤◌, inl, inr, ⊎_elim, Bool, true, ◌&&◌, nat_lt, List, [], ◌∷◌, length, Option, None, Some, IsSome, get_or, set, map, sum_by, nat_eq, eqb-true, ltb-true, refl, sym, ap, ◌∙◌, subst, arith}
-use Rattle.std.proofs.lemmas.List.{length-map, get_or_default}
-use Rattle.std.proofs.lemmas.List.Sums.{sum_by-set, get_or-le-sum_by}
-use Rattle.std.proofs.lemmas.Bool.{and_parts}
-use Rattle.prefix_trie_bits.specs.Model.Blocks.{smallest_size}
-use Rattle.prefix_trie_bits.proofs.Checks.{below, at_below}
-use Rattle.prefix_trie_table.specs.Store.{Tier, tier_at, tier_sizes, size_in, slots_made, no_blocks}
-use Rattle.prefix_trie_table.specs.Cells.{cell_sizes, node_sizes, HasSizes}
-use Rattle.prefix_trie_table.specs.declared.allocator.blocks.tiers.TheConstants.{TIERS}
+use Rattle.prefix_trie_table.proofs.Prelude.{◌≡◌, ℕ, zero, suc, ◌+◌, ◌*◌, ◌<◌, ◌≤◌, inl, inr, ⊎_elim, Bool, true, ◌&&◌, nat_lt, List, [], ◌∷◌, length, Option, None, Some, IsSome, get_or, set, map, sum_by, nat_eq, eqb-true, ltb-true, refl, sym, ap, ◌∙◌, subst, arith, length-map, get_or_default, sum_by-set, get_or-le-sum_by, and_parts, smallest_size, at_below, Tier, tier_at, tier_sizes, size_in, slots_made, no_blocks, cell_sizes, node_sizes, HasSizes, TIERS}
+use Rattle.prefix_trie_bits.proofs.Checks.{below}
 use Rattle.prefix_trie_table.proofs.Blocks.SevenTiers.{at_seven}
 use Rattle.prefix_trie_table.proofs.Blocks.BySize.{size_at, sizes_set, tiers_long, smallest_holds}
 

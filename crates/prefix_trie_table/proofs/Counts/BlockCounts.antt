@@ -1,19 +1,5 @@
 -- How many blocks of each size are in use and free.
-use Rattle.std.proofs.Common.{◌≡◌, ℕ, suc, ◌+◌, ◌-◌, ◌*◌, ◌<◌, ◌≤◌, cond, ◌==◌, List, [], ◌∷◌, length, map, flat_map, count_by, sum_by, All, Option, None, Some, refl, sym, ap, ap₂, ◌∙◌, arith, eqb-true, eq-eqb}
-use Rattle.std.specs.Prelude.{position}
-use Rattle.std.specs.FinMap.{values}
-use Rattle.std.proofs.lemmas.List.Elements.{All-head}
-use Rattle.std.proofs.lemmas.List.Sums.{sum_by-cons, sum_by-append}
-use Rattle.prefix_trie_bits.specs.Begins.{same_bool}
-use Rattle.prefix_trie_bits.specs.Model.Blocks.{Sizes, used_of}
-use Rattle.prefix_trie_table.specs.declared.allocator.node.Node.{Node}
-use Rattle.prefix_trie_table.specs.BlockCounts.{tier_count, block_counts, slots_counted}
-use Rattle.prefix_trie_table.specs.Bitmaps.{bits}
-use Rattle.prefix_trie_table.specs.Cells.{node_sizes, cell_sizes}
-use Rattle.prefix_trie_table.specs.Store.{Tier, UsedBlock, Sound, Store, IsOfTier, tier_at, tier_sizes, slots_made, held, size_in, size_if_any, free_counts}
-use Rattle.prefix_trie_table.specs.Forest.{NodesHold, CellsHold, child_items, child_blocks, child_blocks_of, value_blocks, value_blocks_of}
-use Rattle.prefix_trie_table.specs.Settling.{of_any}
-use Rattle.prefix_trie_table.specs.Layouts.{Sized, child_block_size, value_block_size}
+use Rattle.prefix_trie_table.proofs.Prelude.{◌≡◌, ℕ, suc, ◌+◌, ◌-◌, ◌*◌, ◌<◌, ◌≤◌, cond, ◌==◌, List, [], ◌∷◌, length, map, flat_map, count_by, sum_by, All, Option, None, Some, refl, sym, ap, ap₂, ◌∙◌, arith, eqb-true, eq-eqb, position, values, All-head, sum_by-cons, sum_by-append, same_bool, Sizes, used_of, Node, tier_count, block_counts, slots_counted, bits, node_sizes, cell_sizes, Tier, UsedBlock, Sound, Store, IsOfTier, tier_at, tier_sizes, slots_made, held, size_in, size_if_any, free_counts, NodesHold, CellsHold, child_items, child_blocks, child_blocks_of, value_blocks, value_blocks_of, of_any, Sized, child_block_size, value_block_size}
 use Rattle.prefix_trie_table.proofs.Strings.Plain.{some_same}
 use Rattle.prefix_trie_table.proofs.Blocks.SevenTiers.{at_seven}
 use Rattle.prefix_trie_table.proofs.Blocks.BySize.{tiers_long}

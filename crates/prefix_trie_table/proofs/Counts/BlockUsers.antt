@@ -1,21 +1,6 @@
 -- The blocks in use are as many as the nodes with children, and as those with values of their own.
-use Rattle.std.proofs.Common.{◌≡◌, ◌≢◌, ℕ, zero, suc, ◌+◌, ◌-◌, ◌%◌, ◌<◌, Bool, true, false, cond, ◌==◌, ◌&&◌, ◌||◌, List, [], ◌∷◌, length, map, filter, flat_map, count_by, sum_by, nat_lt, All, Option, None, Some, is_some, refl, sym, ap, ap₂, ◌∙◌, arith, eq-eqb, lt-ltb}
-use Rattle.std.specs.List.{list_any}
-use Rattle.std.proofs.lemmas.Bool.Decides.{nat_tests}
-use Rattle.std.proofs.lemmas.List.Elements.{All-head, All-tail}
-use Rattle.std.proofs.lemmas.List.Concat.{length-flat_map}
-use Rattle.std.proofs.lemmas.List.Sums.{sum_by-cons, length-filter}
-use Rattle.std.specs.FinMap.{entries, keys, get}
-use Rattle.prefix_trie_bits.specs.Model.Entries.{Entries}
-use Rattle.prefix_trie_bits.specs.Model.Nodes.{Nodes, has_node, is_node_depth, is_parent, is_holder, parents, holders}
-use Rattle.prefix_trie_bits.proofs.Model.Ordered.{entries-empty}
-use Rattle.prefix_trie_table.specs.declared.allocator.node.Node.{Node}
-use Rattle.prefix_trie_table.specs.BlockCounts.{tier_count, used_blocks}
-use Rattle.prefix_trie_table.specs.Bitmaps.{bits}
-use Rattle.prefix_trie_table.specs.Cells.{blank_node, node_sizes, cell_sizes}
-use Rattle.prefix_trie_table.specs.Digits.{path_of, bit_of}
-use Rattle.prefix_trie_table.specs.Store.{Tier, UsedBlock, Sound, Store, IsOfTier, tier_at, held}
-use Rattle.prefix_trie_table.specs.Forest.{NodesHold, CellsHold, times, has_child, has_value, child_items, child_blocks, child_blocks_of, value_blocks, value_blocks_of, size_in, node_or_blank}
+use Rattle.prefix_trie_table.proofs.Prelude.{◌≡◌, ◌≢◌, ℕ, zero, suc, ◌+◌, ◌-◌, ◌%◌, ◌<◌, Bool, true, false, cond, ◌==◌, ◌&&◌, ◌||◌, List, [], ◌∷◌, length, map, filter, flat_map, count_by, sum_by, nat_lt, All, Option, None, Some, is_some, refl, sym, ap, ap₂, ◌∙◌, arith, eq-eqb, lt-ltb, list_any, nat_tests, All-head, All-tail, length-flat_map, sum_by-cons, length-filter, entries, keys, get, Entries, Nodes, has_node, is_node_depth, is_parent, is_holder, parents, holders, entries-empty, Node, tier_count, used_blocks, bits, blank_node, node_sizes, cell_sizes, path_of, bit_of, Tier, UsedBlock, Sound, Store, IsOfTier, tier_at, held, NodesHold, CellsHold, times, has_child, has_value, child_items, child_blocks, child_blocks_of, value_blocks, value_blocks_of, node_or_blank}
+use Rattle.prefix_trie_table.specs.Forest.{size_in}
 use Rattle.prefix_trie_table.proofs.Counts.OwnCounts.{children_counted, values_counted}
 use Rattle.prefix_trie_table.proofs.Strings.PathSums.{sum_same}
 use Rattle.prefix_trie_table.proofs.Strings.BitLists.{rank-all}

@@ -1,18 +1,6 @@
 -- How many nodes the way down meets, and how many entries a table can have.
-use Rattle.std.proofs.Common.{◌≡◌, ℕ, ◌+◌, ◌*◌, ◌/◌, ◌%◌, ◌<◌, ◌≤◌, ◌⊎◌, inl, inr, Bool, true, false, ◌&&◌, List, length, take, Option, is_some, sym, ap₂, ◌∙◌, arith, nat_lt, eqb-true, eq-eqb, ltb-true}
-use Rattle.std.proofs.lemmas.Bool.{cases_Bool}
-use Rattle.std.proofs.lemmas.Bool.Decides.{nat_tests}
+use Rattle.prefix_trie_table.proofs.Prelude.{◌≡◌, ℕ, ◌+◌, ◌*◌, ◌/◌, ◌%◌, ◌<◌, ◌≤◌, ◌⊎◌, inl, inr, Bool, true, false, ◌&&◌, List, length, take, Option, is_some, sym, ap₂, ◌∙◌, arith, nat_lt, eqb-true, eq-eqb, ltb-true, cases_Bool, nat_tests, begins, Nodes, has_node, is_node_depth, visits, and-first, and-second, and-join, visits-exact, Node, node_sizes, path_of, Store, NodesHold, IsEnd}
 use Rattle.std.proofs.lemmas.List.{length-take-le}
-use Rattle.prefix_trie_bits.specs.Bits.{begins}
-use Rattle.prefix_trie_bits.specs.Model.Nodes.{Nodes, has_node, is_node_depth}
-use Rattle.prefix_trie_bits.specs.Model.Visits.{visits}
-use Rattle.prefix_trie_bits.proofs.Model.Members.{and-first, and-second, and-join}
-use Rattle.prefix_trie_bits.proofs.Model.Visits.{visits-exact}
-use Rattle.prefix_trie_table.specs.declared.allocator.node.Node.{Node}
-use Rattle.prefix_trie_table.specs.Cells.{node_sizes}
-use Rattle.prefix_trie_table.specs.Digits.{path_of}
-use Rattle.prefix_trie_table.specs.Store.{Store}
-use Rattle.prefix_trie_table.specs.Forest.{NodesHold, IsEnd}
 use Rattle.prefix_trie_table.proofs.Strings.Plain.{fifths, whole_levels}
 use Rattle.prefix_trie_table.proofs.Strings.Digits.{path-length, path-take}
 use Rattle.prefix_trie_table.proofs.Strings.Keys.{begins-way}

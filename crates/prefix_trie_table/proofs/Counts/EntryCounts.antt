@@ -1,14 +1,6 @@
 -- How many entries the nodes have: what a change of one node does to it, and that the cells bound it.
-use Rattle.std.proofs.Common.{◌≡◌, ◌≢◌, ℕ, ◌+◌, ◌-◌, ◌<◌, ◌≤◌, ◌⊎◌, inl, inr, List, [], ◌∷◌, ◌++◌, length, length-append, length-take, take, drop, map, flat_map, replicate, sum_by, All, Option, None, Some, refl, sym, ap, ap₂, ◌∙◌, subst, arith}
-use Rattle.std.proofs.lemmas.List.Elements.{All-head, All-tail}
-use Rattle.std.proofs.lemmas.List.Sums.{sum_by-cons}
-use Rattle.prefix_trie_bits.specs.Model.Blocks.{Tiles, Block as Extent}
-use Rattle.prefix_trie_table.specs.declared.allocator.node.Node.{Node}
-use Rattle.prefix_trie_table.specs.Bitmaps.{bits, rank}
-use Rattle.prefix_trie_table.specs.Cells.{blank_node, cell_sizes}
-use Rattle.prefix_trie_table.specs.Runs.{run}
-use Rattle.prefix_trie_table.specs.Store.{Store, UsedBlock, Sound, HoldsItems, tier_sizes, extent, free_extents, filled, held, size_in}
-use Rattle.prefix_trie_table.specs.Forest.{times, without, own_count, entry_count, CellsHold, with_node, with_child, value_blocks, value_blocks_of}
+use Rattle.prefix_trie_table.proofs.Prelude.{◌≡◌, ◌≢◌, ℕ, ◌+◌, ◌-◌, ◌<◌, ◌≤◌, ◌⊎◌, inl, inr, List, [], ◌∷◌, ◌++◌, length, length-append, length-take, take, drop, map, flat_map, replicate, sum_by, All, Option, None, Some, refl, sym, ap, ap₂, ◌∙◌, subst, arith, All-head, All-tail, sum_by-cons, Tiles, Node, bits, rank, blank_node, cell_sizes, run, Store, UsedBlock, Sound, HoldsItems, tier_sizes, extent, free_extents, filled, held, size_in, times, without, own_count, entry_count, CellsHold, with_node, with_child, value_blocks, value_blocks_of}
+use Rattle.prefix_trie_bits.specs.Model.Blocks.{Block as Extent}
 use Rattle.prefix_trie_table.proofs.Blocks.Tilings.{blocks_sum}
 use Rattle.prefix_trie_table.proofs.Strings.BitLists.{rank-all, rank-zero-all}
 use Rattle.prefix_trie_table.proofs.Strings.PathSums.{sum_out, sum_same}

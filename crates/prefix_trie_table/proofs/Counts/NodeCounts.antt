@@ -1,15 +1,5 @@
 -- The nodes of a table are the root and the children that all slots name.
-use Rattle.std.proofs.Common.{◌≡◌, ℕ, ◌+◌, ◌^◌, ◌<◌, ◌≤◌, List, [], ◌∷◌, length, take, flat_map, sum_by, All, Option, None, Some, refl, sym, ap, ◌∙◌, arith}
-use Rattle.std.proofs.lemmas.List.Elements.{All-nil, All-cons}
-use Rattle.std.proofs.lemmas.List.Concat.{length-flat_map}
-use Rattle.std.proofs.lemmas.List.Sums.{sum_by-cons, sum_by_more, sum_by_more_le, sum_by-le}
-use Rattle.std.proofs.lemmas.List.Sorted.{sum_by-IsPermutation, length_permutation}
-use Rattle.prefix_trie_bits.specs.Places.{ones_below}
-use Rattle.prefix_trie_table.specs.declared.allocator.node.Node.{Node}
-use Rattle.prefix_trie_table.specs.Bitmaps.{bits, rank}
-use Rattle.prefix_trie_table.specs.Cells.{blank_node, node_at}
-use Rattle.prefix_trie_table.specs.Store.{Store, held, size_in}
-use Rattle.prefix_trie_table.specs.Forest.{node_or_blank, child_items, child_blocks, child_blocks_of, NodesHold}
+use Rattle.prefix_trie_table.proofs.Prelude.{◌≡◌, ℕ, ◌+◌, ◌^◌, ◌<◌, ◌≤◌, List, [], ◌∷◌, length, take, flat_map, sum_by, All, Option, None, Some, refl, sym, ap, ◌∙◌, arith, All-nil, All-cons, length-flat_map, sum_by-cons, sum_by_more, sum_by_more_le, sum_by-le, sum_by-IsPermutation, length_permutation, ones_below, Node, bits, rank, blank_node, node_at, Store, held, size_in, node_or_blank, child_items, child_blocks, child_blocks_of, NodesHold}
 use Rattle.prefix_trie_table.proofs.Strings.Bits.{rank-ones}
 use Rattle.prefix_trie_table.proofs.Strings.BitLists.{rank-all, rank-le, rank-zero-all}
 use Rattle.prefix_trie_table.proofs.Blocks.Soundness.{first_place}

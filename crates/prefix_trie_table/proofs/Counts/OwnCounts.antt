@@ -1,24 +1,7 @@
 -- A node has as many children, and as many values of its own, as bits are set in its bitmaps.
-use Rattle.std.proofs.Common.{◌≡◌, ℕ, zero, suc, ◌+◌, ◌-◌, ◌*◌, ◌/◌, ◌%◌, ◌<◌, ◌≤◌, inl, inr, Bool, true, false, cond, ◌&&◌, nat_lt, ◌==◌, T, List, [], ◌∷◌, ◌++◌, length, length-append, length-drop, drop, map, filter, Option, None, Some, is_some, refl, sym, ap, ap₂, ◌∙◌, subst, arith, eqb-true, eq-eqb, ltb-true, ◌^◌}
-use Rattle.std.proofs.lemmas.List.{drop_at}
-use Rattle.std.proofs.lemmas.Bool.{false≢true, cases_Bool, cases_lt, cases_eq, false_from_ne_true, lt-ltb}
-use Rattle.std.specs.FinMap.{FinMap, empty, get, insert, remove, contains_key, keys, len, entries, entries_sorted, retain_keys, find, is_sorted, get-entries, len-empty, len-insert, len-remove, get-retain_keys, empty_of_len}
-use Rattle.prefix_trie_bits.specs.Bits.{begins, number, digits}
-use Rattle.prefix_trie_bits.specs.BitStrings.{digits-number, length-digits, number-lt, number-bits}
-use Rattle.prefix_trie_bits.specs.Begins.{same_bool, begins-append, begins-rest}
-use Rattle.prefix_trie_bits.specs.Order.{listing_cmp, listing_total, listing_same, same_string}
-use Rattle.prefix_trie_bits.specs.Places.{value_bit}
-use Rattle.prefix_trie_bits.specs.Model.Blocks.{child_count, own_entries}
-use Rattle.prefix_trie_bits.specs.Model.Entries.{Entries}
-use Rattle.prefix_trie_bits.specs.Model.Nodes.{Nodes, has_node, is_node_depth}
-use Rattle.prefix_trie_bits.proofs.Model.Members.{same_members, same_string-is, is-same_string, has-empty, has-inserted, get-without_entry, and-first, and-second, and-join, or-cases, or-left, or-right}
-use Rattle.prefix_trie_bits.proofs.Model.Ordered.{entries-retained, sorted-tail, sorted-head, each-behind, not_itself}
-use Rattle.prefix_trie_bits.proofs.Strings.{value_bit-injective}
-use Rattle.prefix_trie_table.specs.declared.allocator.node.Node.{Node}
-use Rattle.prefix_trie_table.specs.Bitmaps.{has_bit, rank}
-use Rattle.prefix_trie_table.specs.Digits.{path_of, bit_of}
-use Rattle.prefix_trie_table.specs.Store.{Store}
-use Rattle.prefix_trie_table.specs.Forest.{NodesHold, CellsHold, has_child, has_value}
+use Rattle.prefix_trie_table.proofs.Prelude.{◌≡◌, ℕ, zero, suc, ◌+◌, ◌-◌, ◌*◌, ◌/◌, ◌%◌, ◌<◌, ◌≤◌, inl, inr, Bool, true, false, cond, ◌&&◌, nat_lt, ◌==◌, T, List, [], ◌∷◌, ◌++◌, length, length-append, length-drop, drop, map, filter, Option, None, Some, is_some, refl, sym, ap, ap₂, ◌∙◌, subst, arith, eqb-true, eq-eqb, ltb-true, ◌^◌, drop_at, false≢true, cases_Bool, cases_lt, cases_eq, false_from_ne_true, FinMap, empty, get, contains_key, keys, len, entries, entries_sorted, retain_keys, find, is_sorted, get-entries, len-empty, len-insert, len-remove, get-retain_keys, empty_of_len, begins, number, digits, digits-number, length-digits, number-lt, number-bits, same_bool, begins-append, begins-rest, listing_cmp, listing_total, listing_same, same_string, value_bit, child_count, own_entries, Entries, Nodes, has_node, is_node_depth, same_members, same_string-is, is-same_string, has-empty, has-inserted, get-without_entry, and-first, and-second, and-join, or-cases, or-left, or-right, entries-retained, sorted-tail, sorted-head, each-behind, not_itself, value_bit-injective, Node, has_bit, rank, path_of, bit_of, Store, NodesHold, CellsHold, has_child, has_value}
+use Rattle.std.proofs.lemmas.Bool.{lt-ltb}
+use Rattle.std.specs.FinMap.{insert, remove}
 use Rattle.prefix_trie_table.proofs.Strings.Plain.{five_times}
 use Rattle.prefix_trie_table.proofs.Strings.Bits.{has_bit-below}
 use Rattle.prefix_trie_table.proofs.Strings.BitLists.{rank-zero, rank-more}

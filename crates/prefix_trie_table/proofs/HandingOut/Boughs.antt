@@ -1,28 +1,10 @@
 -- A node that is laid with all below it: its beginning, each child in turn, and its end.
-use Rattle.std.proofs.Common.{◌≡◌, ◌≢◌, ℕ, zero, suc, ◌+◌, ◌<◌, ◌≤◌, inl, inr, ⊎_elim, Bool, true, false, ◌&&◌, List, [], ◌∷◌, drop, ◌++◌, length, map, flat_map, replicate, Option, None, Some, is_some, refl, sym, ap, ap₂, ◌∙◌, subst, arith, append_assoc, append-nil}
-use Rattle.std.proofs.lemmas.Bool.{false≢true}
-use Rattle.std.proofs.lemmas.List.{length-map, length-replicate}
-use Rattle.std.proofs.lemmas.List.Concat.{flat_map-append}
-use Rattle.prefix_trie_bits.specs.Model.HandsOut.{packed_block}
-use Rattle.prefix_trie_table.specs.declared.allocator.node.Node.{Node}
-use Rattle.prefix_trie_table.specs.declared.allocator.blocks.BlockRef.{BlockRef}
-use Rattle.prefix_trie_table.specs.Bitmaps.{has_bit, bits, rank}
-use Rattle.prefix_trie_table.specs.Cells.{blank_node, node_sizes, cell_sizes}
-use Rattle.prefix_trie_table.specs.Forest.{one_if, times, has_child, has_value, node_or_blank, child_items, child_blocks, value_blocks_of}
-use Rattle.prefix_trie_table.specs.HandingOut.Laid.{in_part, in_child, SomeValue, child_slots, value_slots, sum_to, slots_below, slots_at_child, IsPackedNode, no_value, IsLaid, IsBough, NothingLaid}
-use Rattle.prefix_trie_table.specs.HandingOut.Laying.{LaysList, Lays}
-use Rattle.prefix_trie_table.specs.Digits.{path_of, bit_of}
-use Rattle.prefix_trie_bits.specs.Bits.{begins, number}
-use Rattle.prefix_trie_bits.specs.BitStrings.{number-lt}
-use Rattle.prefix_trie_bits.specs.Places.{value_bit}
+use Rattle.prefix_trie_table.proofs.Prelude.{◌≡◌, ◌≢◌, ℕ, zero, suc, ◌+◌, ◌<◌, ◌≤◌, inl, inr, ⊎_elim, Bool, true, false, ◌&&◌, List, [], ◌∷◌, drop, ◌++◌, length, map, flat_map, replicate, Option, None, Some, is_some, refl, sym, ap, ap₂, ◌∙◌, subst, arith, append_assoc, append-nil, false≢true, length-map, length-replicate, flat_map-append, packed_block, Node, BlockRef, has_bit, bits, rank, blank_node, node_sizes, cell_sizes, one_if, times, has_child, has_value, node_or_blank, child_items, child_blocks, value_blocks_of, in_part, in_child, SomeValue, child_slots, value_slots, sum_to, slots_below, slots_at_child, IsPackedNode, no_value, IsLaid, IsBough, NothingLaid, LaysList, Lays, path_of, bit_of, begins, number, number-lt, value_bit, IsBare, IsStocked, Store, UsedBlock, Sound, held, size_in, tier_sizes, size_if_any, smallest_size}
 use Rattle.prefix_trie_table.proofs.HandingOut.Ground.{Lays-none, Lays-then, Lays-list}
 use Rattle.prefix_trie_table.proofs.HandingOut.Space.{sum_to_next, slots_split}
-use Rattle.prefix_trie_table.specs.Removals.{IsBare, IsStocked}
-use Rattle.prefix_trie_table.specs.Store.{Store, UsedBlock, Sound, held, size_in, tier_sizes, size_if_any}
 use Rattle.prefix_trie_table.proofs.Blocks.Soundness.{Sound-permuted}
 use Rattle.prefix_trie_table.proofs.HandingOut.Grafting.{grafted, graft_here, graft_other, graft_hangs, twig_blocks, cells_of, twig_cells, rest_same, none_below, no_rest}
 use Rattle.prefix_trie_table.proofs.HandingOut.Pushed.{map-pushed, map-nothing}
-use Rattle.prefix_trie_bits.specs.Model.Blocks.{smallest_size}
 use Rattle.prefix_trie_table.proofs.Strings.Bare.{no_bit, some_bit}
 use Rattle.prefix_trie_table.proofs.Strings.Bits.{has_bit-zero}
 use Rattle.prefix_trie_table.proofs.Strings.BitLists.{rank-all}

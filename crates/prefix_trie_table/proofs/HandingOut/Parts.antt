@@ -1,20 +1,6 @@
 -- What a bit string begins of a node and below each of its children, by masks.
-use Rattle.std.proofs.Common.{lit<, ◌≡◌, ℕ, ◌+◌, ◌-◌, ◌^◌, ◌<◌, ◌≤◌, inl, inr, Bool, true, false, ◌&&◌, List, [], ◌∷◌, ◌++◌, length, take, drop, take_all, length-drop, Some, refl, sym, ap, ap₂, ◌∙◌, subst, arith, bit_and, nat_lt}
-use Rattle.std.proofs.lemmas.Bool.{cases_Bool, cases_lt, le-ltb}
-use Rattle.std.proofs.lemmas.List.{drop-take, take-take, length-take-le}
-use Rattle.prefix_trie_bits.specs.Begins.{begins-refl, begins-longer, begins-same-length}
-use Rattle.prefix_trie_bits.specs.Bits.{begins, number, same_bit}
-use Rattle.prefix_trie_bits.specs.BitStrings.{same-from-number, number-lt}
-use Rattle.prefix_trie_bits.specs.Places.{HoldsValues, HoldsChildren, Sets, has, value_bit}
-use Rattle.prefix_trie_bits.proofs.Bitmaps.{has-and}
-use Rattle.prefix_trie_bits.proofs.Model.Members.{and-first, and-second}
-use Rattle.prefix_trie_bits.proofs.Strings.{value_bit-small}
-use Rattle.prefix_trie_table.specs.declared.allocator.node.Node.{Node}
-use Rattle.prefix_trie_table.specs.Bitmaps.{has_bit}
-use Rattle.prefix_trie_table.specs.Cells.{node_at}
-use Rattle.prefix_trie_table.specs.Digits.{path_of, bit_of}
-use Rattle.prefix_trie_table.specs.Forest.{child_slot, child, read_from, has_value}
-use Rattle.prefix_trie_table.specs.HandingOut.Laid.{in_part, in_child}
+use Rattle.prefix_trie_table.proofs.Prelude.{lit<, ◌≡◌, ℕ, ◌+◌, ◌-◌, ◌^◌, ◌<◌, ◌≤◌, inl, inr, Bool, true, false, ◌&&◌, List, [], ◌∷◌, ◌++◌, length, take, drop, take_all, length-drop, Some, refl, sym, ap, ap₂, ◌∙◌, subst, arith, bit_and, nat_lt, cases_Bool, cases_lt, le-ltb, drop-take, take-take, begins-refl, begins-longer, begins-same-length, begins, number, same_bit, same-from-number, number-lt, HoldsValues, HoldsChildren, Sets, has, value_bit, has-and, and-first, and-second, value_bit-small, Node, has_bit, node_at, path_of, bit_of, child_slot, child, read_from, has_value, in_part, in_child}
+use Rattle.std.proofs.lemmas.List.{length-take-le}
 use Rattle.prefix_trie_table.proofs.HandingOut.Sources.{read_nothing}
 use Rattle.prefix_trie_table.proofs.Strings.Bits.{has_bit-is, has_bit-past, has_bit-zero}
 use Rattle.prefix_trie_table.proofs.Strings.Plain.{no_or_yes}

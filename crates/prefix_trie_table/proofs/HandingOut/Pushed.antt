@@ -1,7 +1,5 @@
 -- Lists of bits with one more behind all others.
-use Rattle.std.proofs.Common.{◌≡◌, ◌≢◌, ℕ, zero, suc, ◌+◌, ◌-◌, ◌<◌, ◌≤◌, true, false, cond, List, [], ◌∷◌, ◌++◌, length, map, replicate, insert, Option, None, refl, sym, ap, ◌∙◌, arith}
-use Rattle.std.proofs.lemmas.List.Edits.{insert_end}
-use Rattle.prefix_trie_table.specs.Bitmaps.{has_bit, bits, rank}
+use Rattle.prefix_trie_table.proofs.Prelude.{◌≡◌, ◌≢◌, ℕ, zero, suc, ◌+◌, ◌-◌, ◌<◌, ◌≤◌, true, false, cond, List, [], ◌∷◌, ◌++◌, length, map, replicate, insert, Option, None, refl, sym, ap, ◌∙◌, arith, insert_end, has_bit, bits, rank}
 use Rattle.prefix_trie_table.proofs.Strings.BitLists.{map_insert, rank-all, rank-more}
 
 -- no bit is set behind i

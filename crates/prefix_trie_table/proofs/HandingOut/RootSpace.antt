@@ -1,21 +1,6 @@
 -- A second table never needs more slots than the first has.
-use Rattle.std.proofs.Common.{◌≡◌, ℕ, zero, suc, ◌+◌, ◌≤◌, true, List, [], ◌∷◌, length, map, flat_map, sum_by, Option, None, Some, refl, sym, ap, ◌∙◌, arith}
-use Rattle.std.proofs.lemmas.List.Sums.{sum_by-le-sum_by}
-use Rattle.prefix_trie_bits.specs.Model.Blocks.{HasBlock}
-use Rattle.prefix_trie_bits.specs.Model.HandsOut.{packed_slots}
-use Rattle.prefix_trie_bits.specs.Model.Step.{State}
-use Rattle.prefix_trie_bits.proofs.Model.Storage.Readied.{goes_up}
-use Rattle.prefix_trie_bits.proofs.Model.Storage.Shrinking.{smallest_of}
-use Rattle.prefix_trie_table.specs.declared.allocator.node.Node.{Node}
-use Rattle.prefix_trie_table.specs.Bitmaps.{rank, bits}
-use Rattle.prefix_trie_table.specs.Cells.{blank_node, node_at, node_sizes, cell_sizes}
-use Rattle.prefix_trie_table.specs.Forest.{own_count, child_items, child_blocks, child_blocks_of, value_blocks, value_blocks_of}
-use Rattle.prefix_trie_table.specs.HandingOut.Laying.{CanLay}
-use Rattle.prefix_trie_table.specs.HandingOut.Laid.{child_slots, value_slots, slots_below}
-use Rattle.prefix_trie_table.specs.Layouts.{own_children}
+use Rattle.prefix_trie_table.proofs.Prelude.{◌≡◌, ℕ, zero, suc, ◌+◌, ◌≤◌, true, List, [], ◌∷◌, length, map, flat_map, sum_by, Option, None, Some, refl, sym, ap, ◌∙◌, arith, sum_by-le-sum_by, HasBlock, packed_slots, State, goes_up, smallest_of, Node, rank, bits, blank_node, node_at, node_sizes, cell_sizes, own_count, child_items, child_blocks, child_blocks_of, value_blocks, value_blocks_of, CanLay, child_slots, value_slots, slots_below, own_children, Store, UsedBlock, Sound, extent, free_extents, held, size_in, tier_sizes, size_if_any, IsTrie}
 use Rattle.prefix_trie_table.specs.OwnBlocks.{child_block_size, value_block_size}
-use Rattle.prefix_trie_table.specs.Store.{Store, UsedBlock, Sound, extent, free_extents, held, size_in, tier_sizes, size_if_any}
-use Rattle.prefix_trie_table.specs.Tables.{IsTrie}
 use Rattle.prefix_trie_table.proofs.Blocks.Housed.{children_housed, values_housed}
 use Rattle.prefix_trie_table.proofs.Blocks.SlotSums.{sum_by-flat_map, sum_by-mapped}
 use Rattle.prefix_trie_table.proofs.Blocks.Tilings.{blocks_sum}

@@ -1,18 +1,5 @@
 -- The second table before its values come, from what was laid in new arrays.
-use Rattle.std.proofs.Common.{◌≡◌, ℕ, ◌/◌, ◌<◌, ◌≤◌, ◌==◌, Bool, true, false, cond, List, [], ◌∷◌, length, map, flat_map, slice_set, Option, None, Some, is_some, refl, sym, ap, ◌∙◌, subst, arith, append-nil, eq-eqb, get_or-set_same, length-set}
-use Rattle.std.proofs.lemmas.Bool.{false≢true}
-use Rattle.prefix_trie_bits.specs.Model.HandsOut.{packed_block}
-use Rattle.prefix_trie_bits.specs.Model.Nodes.{has_node, is_node_depth}
-use Rattle.prefix_trie_bits.specs.Model.Step.{State}
-use Rattle.prefix_trie_table.specs.declared.allocator.node.Node.{Node}
-use Rattle.prefix_trie_table.specs.Cells.{blank_node, node_at, node_sizes, cell_sizes}
-use Rattle.prefix_trie_table.specs.Digits.{path_of, bit_of}
-use Rattle.prefix_trie_table.specs.Forest.{one_if, Holds, NodesHold, node_or_blank, child_blocks, value_blocks}
-use Rattle.prefix_trie_table.specs.HandingOut.Laid.{IsLaid, IsPackedNode, IsPart, IsSource, NothingLaid, SomeValue, no_value}
-use Rattle.prefix_trie_table.specs.HandingOut.Laying.{Lays}
-use Rattle.prefix_trie_table.specs.HandingOut.Skeleton.{IsSecond}
-use Rattle.prefix_trie_table.specs.Store.{Store, UsedBlock, Sound, free_in, no_blocks, size_in, tier_sizes, size_if_any}
-use Rattle.prefix_trie_table.specs.Tables.{IsTrie}
+use Rattle.prefix_trie_table.proofs.Prelude.{◌≡◌, ℕ, ◌/◌, ◌<◌, ◌≤◌, ◌==◌, Bool, true, false, cond, List, [], ◌∷◌, length, map, flat_map, slice_set, Option, None, Some, is_some, refl, sym, ap, ◌∙◌, subst, arith, append-nil, eq-eqb, get_or-set_same, length-set, false≢true, packed_block, has_node, is_node_depth, State, Node, blank_node, node_at, node_sizes, cell_sizes, path_of, bit_of, one_if, Holds, NodesHold, node_or_blank, child_blocks, value_blocks, IsLaid, IsPackedNode, IsPart, IsSource, NothingLaid, SomeValue, no_value, Lays, IsSecond, Store, UsedBlock, Sound, free_in, no_blocks, size_in, tier_sizes, size_if_any, IsTrie}
 use Rattle.prefix_trie_table.proofs.Strings.BitLists.{rank-zero-all}
 use Rattle.prefix_trie_table.proofs.Strings.Digits.{path-length}
 use Rattle.prefix_trie_table.proofs.Strings.Paths.{same_path-not}

@@ -1,11 +1,5 @@
 -- A node that is read, and its children.
-use Rattle.std.proofs.Common.{◌≡◌, ℕ, ◌+◌, ◌<◌, true, List, [], ◌∷◌, ◌++◌, length, None, Some, is_some, refl, sym, ap, ◌∙◌, arith, append_assoc, append-nil}
-use Rattle.prefix_trie_table.specs.declared.allocator.node.Node.{Node}
-use Rattle.prefix_trie_table.specs.Bitmaps.{has_bit}
-use Rattle.prefix_trie_table.specs.Cells.{node_at, node_sizes}
-use Rattle.prefix_trie_table.specs.Forest.{child_slot, read_from, has_child, has_value}
-use Rattle.prefix_trie_table.specs.HandingOut.Laid.{IsSource}
-use Rattle.prefix_trie_table.specs.Store.{Store}
+use Rattle.prefix_trie_table.proofs.Prelude.{◌≡◌, ℕ, ◌+◌, ◌<◌, true, List, [], ◌∷◌, ◌++◌, length, None, Some, is_some, refl, sym, ap, ◌∙◌, arith, append_assoc, append-nil, Node, has_bit, node_at, node_sizes, child_slot, read_from, has_child, has_value, IsSource, Store}
 use Rattle.prefix_trie_table.proofs.Tree.Trees.{child_stands, is_some-Some}
 
 -- no step leads anywhere from nowhere

@@ -1,21 +1,6 @@
 -- How many slots a node needs at most, with all below it.
-use Rattle.std.proofs.Common.{◌≡◌, ◌≢◌, ℕ, zero, suc, ◌+◌, ◌-◌, ◌<◌, ◌≤◌, inl, inr, Bool, true, false, cond, List, [], ◌∷◌, length, None, Some, refl, sym, ap, ◌∙◌, subst, arith}
+use Rattle.prefix_trie_table.proofs.Prelude.{◌≡◌, ◌≢◌, ℕ, zero, suc, ◌+◌, ◌-◌, ◌<◌, ◌≤◌, inl, inr, Bool, true, false, cond, List, [], ◌∷◌, length, None, Some, refl, sym, ap, ◌∙◌, subst, arith, cases_lt, false≢true, get_or_default, Memory, IndexRange, the_data, smallest_size, packed_slots, goes_up, smallest_of, Node, has_bit, rank, node_at, node_sizes, cell_sizes, child_slot, child_slots, value_slots, sum_to, slots_below, slots_at_child, Store, size_in, tier_sizes, BlockRef, LaysList}
 use Rattle.std.specs.List.{Contains}
-use Rattle.std.proofs.lemmas.Bool.{cases_lt, false≢true}
-use Rattle.std.proofs.lemmas.List.{get_or_default}
-use Rattle.prefix_trie_bits.specs.declared.prefix.Refusal.TheVariants.{Memory, IndexRange, the_data}
-use Rattle.prefix_trie_bits.specs.Model.Blocks.{smallest_size}
-use Rattle.prefix_trie_bits.specs.Model.HandsOut.{packed_slots}
-use Rattle.prefix_trie_bits.proofs.Model.Storage.Readied.{goes_up}
-use Rattle.prefix_trie_bits.proofs.Model.Storage.Shrinking.{smallest_of}
-use Rattle.prefix_trie_table.specs.declared.allocator.node.Node.{Node}
-use Rattle.prefix_trie_table.specs.Bitmaps.{has_bit, rank}
-use Rattle.prefix_trie_table.specs.Cells.{node_at, node_sizes, cell_sizes}
-use Rattle.prefix_trie_table.specs.Forest.{child_slot}
-use Rattle.prefix_trie_table.specs.HandingOut.Laid.{child_slots, value_slots, sum_to, slots_below, slots_at_child}
-use Rattle.prefix_trie_table.specs.Store.{Store, size_in, tier_sizes}
-use Rattle.prefix_trie_table.specs.declared.allocator.blocks.BlockRef.{BlockRef}
-use Rattle.prefix_trie_table.specs.HandingOut.Laying.{LaysList}
 use Rattle.prefix_trie_table.proofs.Blocks.BySize.{tiers_long}
 use Rattle.prefix_trie_table.proofs.Strings.BitLists.{rank-lacks, rank-le, rank-more, rank-zero}
 use Rattle.prefix_trie_table.proofs.Strings.Plain.{no_or_yes}

@@ -1,14 +1,5 @@
 -- What a node has and all nodes below it, as a sum over paths.
-use Rattle.std.proofs.Common.{◌≡◌, ◌≢◌, ℕ, zero, suc, ◌+◌, ◌<◌, ◌≤◌, inl, inr, Bool, true, false, cond, List, [], ◌∷◌, ◌++◌, length, sum_by, Option, None, Some, is_some, refl, sym, ap, ◌∙◌, subst, arith, append_assoc, append-nil}
-use Rattle.std.proofs.lemmas.Bool.{cases_Bool, false≢true}
-use Rattle.std.proofs.lemmas.List.{append_cancel_left, take_at}
-use Rattle.std.proofs.lemmas.List.Sums.{sum_by-cons, sum_by-le-sum_by}
-use Rattle.prefix_trie_table.specs.declared.allocator.node.Node.{Node}
-use Rattle.prefix_trie_table.specs.Bitmaps.{has_bit}
-use Rattle.prefix_trie_table.specs.Cells.{node_at, node_sizes}
-use Rattle.prefix_trie_table.specs.Forest.{child_slot, has_child, is_start, one_if, same_path, times, NodesHold}
-use Rattle.prefix_trie_table.specs.HandingOut.Laid.{sum_to, slots_below}
-use Rattle.prefix_trie_table.specs.Store.{Store}
+use Rattle.prefix_trie_table.proofs.Prelude.{◌≡◌, ◌≢◌, ℕ, zero, suc, ◌+◌, ◌<◌, ◌≤◌, inl, inr, Bool, true, false, cond, List, [], ◌∷◌, ◌++◌, length, sum_by, Option, None, Some, is_some, refl, sym, ap, ◌∙◌, subst, arith, append_assoc, append-nil, cases_Bool, false≢true, append_cancel_left, take_at, sum_by-cons, sum_by-le-sum_by, Node, has_bit, node_at, node_sizes, child_slot, has_child, is_start, one_if, same_path, times, NodesHold, sum_to, slots_below, Store}
 use Rattle.prefix_trie_table.proofs.HandingOut.Space.{sum_to_none}
 use Rattle.prefix_trie_table.proofs.Strings.Paths.{same_path-itself, same_path-true}
 use Rattle.prefix_trie_table.proofs.Strings.PathSums.{sum_out}

@@ -1,17 +1,7 @@
 -- What the calls that add leave of a table.
-use Rattle.std.proofs.Common.{◌≡◌, ◌≢◌, ℕ, ◌+◌, ◌<◌, ◌⊎◌, inl, inr, Bool, true, false, ◌||◌, nat_eq, List, [], ◌∷◌, ◌++◌, length, get_or, set, insert, map, flat_map, Option, None, Some, is_some, refl, sym, ap, ap₂, ◌∙◌, subst, arith}
-use Rattle.std.proofs.lemmas.List.{length-map}
-use Rattle.prefix_trie_bits.specs.Places.{Sets}
-use Rattle.prefix_trie_table.specs.declared.allocator.node.Node.{Node}
-use Rattle.prefix_trie_table.specs.Bitmaps.{has_bit, bits, rank}
-use Rattle.prefix_trie_table.specs.Store.{Store, Tier, UsedBlock, Sound, block, held, HasList, Keeps, tier_at, tier_sizes, size_in, list_size, list_need, size_if_any}
-use Rattle.std.proofs.lemmas.Bool.{false≢true}
-use Rattle.prefix_trie_bits.specs.Model.Insertion.{block_needed}
-use Rattle.std.specs.Option.{option_or}
-use Rattle.prefix_trie_table.specs.OwnBlocks.{child_block_size, value_block_size, child_need, value_need}
+use Rattle.prefix_trie_table.proofs.Prelude.{◌≡◌, ◌≢◌, ℕ, ◌+◌, ◌<◌, ◌⊎◌, inl, inr, Bool, true, false, ◌||◌, nat_eq, List, [], ◌∷◌, ◌++◌, length, get_or, set, insert, map, flat_map, Option, None, Some, is_some, refl, sym, ap, ap₂, ◌∙◌, subst, arith, length-map, Sets, Node, has_bit, bits, rank, Store, Tier, UsedBlock, Sound, block, held, HasList, Keeps, tier_at, tier_sizes, size_in, list_size, list_need, size_if_any, false≢true, block_needed, option_or, child_need, value_need, without, child_items, child_blocks, IsSlot, at_child, NodesHold, with_child, SomeTable, SomeNodes, IsNodeAt, ChildAdded, ValueSet, CellsHold, value_blocks, with_node, with_value, has_value, own_count, one_if, blank_node, node_at, node_sizes, cell_sizes}
+use Rattle.prefix_trie_table.specs.OwnBlocks.{child_block_size, value_block_size}
 use Rattle.prefix_trie_table.proofs.Tree.Invariant.{some_nodes}
-use Rattle.prefix_trie_table.specs.Forest.{without, child_items, child_blocks, IsSlot, at_child, NodesHold, with_child, SomeTable, SomeNodes, IsNodeAt, ChildAdded, ValueSet, CellsHold, value_blocks, with_node, with_value, has_value, own_count, one_if}
-use Rattle.prefix_trie_table.specs.Cells.{blank_node, node_at, node_sizes, cell_sizes}
 use Rattle.prefix_trie_table.proofs.Blocks.Soundness.{tier_of_block}
 use Rattle.prefix_trie_table.proofs.Blocks.BySize.{size_at}
 use Rattle.prefix_trie_table.proofs.Strings.Bits.{has_bit-sets}

@@ -1,16 +1,6 @@
 -- What an insertion asks of the two arrays, and which blocks it makes.
-use Rattle.std.proofs.Common.{◌≡◌, ℕ, ◌+◌, ◌-◌, ◌*◌, ◌/◌, ◌<◌, ◌≤◌, inl, inr, nat_lt, if◌then◌else◌, List, [], Bool, take, Option, None, Some, Result, Ok, Err, OnOk, ap, ◌∙◌, arith}
-use Rattle.std.proofs.lemmas.Bool.{lt-ltb, le-ltb}
-use Rattle.prefix_trie_table.specs.declared.allocator.node.Node.{Node}
-use Rattle.prefix_trie_table.specs.Cells.{node_sizes, cell_sizes, HasSizes}
-use Rattle.prefix_trie_table.specs.OwnBlocks.{child_need, value_need}
-use Rattle.prefix_trie_table.specs.Store.{Store, Keeps, MakesNone, Obtains, AreFree, tier_sizes, size_in, size_if_any, list_need, needs, lacking_in, slots_lacking}
-use Rattle.prefix_trie_bits.specs.Model.Insertion.{block_needed}
-use Rattle.prefix_trie_table.specs.Bitmaps.{rank}
-use Rattle.prefix_trie_table.specs.Asked.{nodes_needed, cells_needed, Made, Makes, ObtainsBoth, AtDeepest}
-use Rattle.prefix_trie_table.specs.Digits.{path_of}
-use Rattle.prefix_trie_table.specs.Forest.{NodesHold}
-use Rattle.prefix_trie_table.specs.Tables.{IsReached}
+use Rattle.prefix_trie_table.proofs.Prelude.{◌≡◌, ℕ, ◌+◌, ◌-◌, ◌*◌, ◌/◌, ◌<◌, ◌≤◌, inl, inr, nat_lt, if◌then◌else◌, List, [], Bool, take, Option, None, Some, Result, Ok, Err, OnOk, ap, ◌∙◌, arith, le-ltb, Node, node_sizes, cell_sizes, HasSizes, child_need, value_need, Store, Keeps, MakesNone, Obtains, AreFree, tier_sizes, size_in, size_if_any, list_need, needs, lacking_in, slots_lacking, block_needed, rank, nodes_needed, cells_needed, Made, Makes, ObtainsBoth, AtDeepest, path_of, NodesHold, IsReached}
+use Rattle.std.proofs.lemmas.Bool.{lt-ltb}
 use Rattle.prefix_trie_table.proofs.Lookup.Going.{deepest_is}
 use Rattle.prefix_trie_table.proofs.Lookup.Finding.{reached_end}
 use Rattle.prefix_trie_table.proofs.Blocks.BySize.{sizes_up, slots_of-le, slots_of-none}

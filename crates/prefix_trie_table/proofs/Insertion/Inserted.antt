@@ -1,19 +1,5 @@
 -- What an insertion leaves of how a table is stored, in the model's words.
-use Rattle.std.proofs.Common.{◌≡◌, ℕ, ◌+◌, ◌<◌, ◌≤◌, inl, inr, List, Bool, length, Option, Result, Ok, Err, MatchResult, sym, ap, subst, arith}
-use Rattle.std.specs.Prelude.{filter_map, option_to_list}
-use Rattle.prefix_trie_bits.specs.declared.prefix.Refusal.{Refusal}
-use Rattle.prefix_trie_bits.specs.declared.prefix.Refusal.TheVariants.{Memory, IndexRange}
-use Rattle.prefix_trie_bits.specs.Model.Blocks.{Sizes, used_of, free_of, child_block_sizes, value_block_sizes, MakesBlocks, MakesAtMost, child_block_count, value_block_count}
-use Rattle.prefix_trie_bits.specs.Model.Insertion.{lacking_of, lacking_slots, node_slots_lacking, cell_slots_lacking, child_blocks_needed, value_blocks_needed, child_blocks_lacking, value_blocks_lacking, TakesBlocks, child_block_needed, value_block_needed}
-use Rattle.prefix_trie_bits.specs.Model.Nodes.{nodes_above, home}
-use Rattle.prefix_trie_bits.specs.Model.Step.{State}
-use Rattle.prefix_trie_bits.specs.Model.Storage.{Storage, ReadiesInStorage, InsertsInStorage, RefusesInStorage}
-use Rattle.prefix_trie_table.specs.declared.allocator.node.Node.{Node}
-use Rattle.prefix_trie_table.specs.Asked.{Made, MadeAtMost, ObtainsBoth}
-use Rattle.prefix_trie_table.specs.Cells.{node_sizes, cell_sizes}
-use Rattle.prefix_trie_table.specs.Layouts.{Sized}
-use Rattle.prefix_trie_table.specs.Store.{Store, tier_sizes, free_counts, lacking_in, slots_lacking}
-use Rattle.prefix_trie_table.specs.Tables.{IsTable}
+use Rattle.prefix_trie_table.proofs.Prelude.{◌≡◌, ℕ, ◌+◌, ◌<◌, ◌≤◌, inl, inr, List, Bool, length, Option, Result, Ok, Err, MatchResult, sym, ap, subst, arith, filter_map, option_to_list, Refusal, Memory, IndexRange, Sizes, used_of, free_of, child_block_sizes, value_block_sizes, MakesBlocks, MakesAtMost, child_block_count, value_block_count, lacking_of, lacking_slots, node_slots_lacking, cell_slots_lacking, child_blocks_needed, value_blocks_needed, child_blocks_lacking, value_blocks_lacking, TakesBlocks, child_block_needed, value_block_needed, nodes_above, home, State, Storage, ReadiesInStorage, InsertsInStorage, RefusesInStorage, Node, Made, MadeAtMost, ObtainsBoth, node_sizes, cell_sizes, Sized, Store, tier_sizes, free_counts, lacking_in, slots_lacking, IsTable}
 use Rattle.prefix_trie_table.proofs.Tree.Invariant.{some_table}
 use Rattle.prefix_trie_table.proofs.Blocks.KeptBlocks.{IsCut, blocks_made, blocks_at_most, nodes_cut, cells_cut}
 use Rattle.prefix_trie_table.proofs.Blocks.Sizing.{layout_of, storage_of}

@@ -1,21 +1,5 @@
 -- What a call leaves that adds a missing value where its way ends, in the words for an insertion.
-use Rattle.std.proofs.Common.{◌≡◌, ℕ, ◌+◌, false, Bool, List, take, Option, None, Some, Result, Ok, Err, MatchResult, IfErr, sym, ◌∙◌, true≢false, arith}
-use Rattle.std.specs.FinMap.{get, contains_key}
-use Rattle.prefix_trie_bits.specs.declared.prefix.Refused.{Refused}
-use Rattle.prefix_trie_bits.specs.declared.prefix.Refusal.TheVariants.{Memory, IndexRange}
-use Rattle.prefix_trie_bits.specs.Model.Step.{Insert}
-use Rattle.prefix_trie_bits.specs.Model.Storage.{InsertsInStorage, RefusesInStorage, StepByPath}
-use Rattle.prefix_trie_table.specs.declared.allocator.node.Node.{Node}
-use Rattle.prefix_trie_table.specs.declared.table.seat.Seat.{Seat}
-use Rattle.prefix_trie_table.specs.declared.table.seat.WayEnd.{WayEnd}
-use Rattle.prefix_trie_table.specs.Asked.{ObtainsBoth, nodes_needed, cells_needed}
-use Rattle.prefix_trie_table.specs.Digits.{path_of, bit_of}
-use Rattle.prefix_trie_table.specs.Forest.{Holds, EntryAdded}
-use Rattle.prefix_trie_table.specs.Layouts.{Sized}
-use Rattle.prefix_trie_table.specs.Shape.{Shaped}
-use Rattle.prefix_trie_table.specs.Steps.{inserted, placed}
-use Rattle.prefix_trie_table.specs.Store.{Store}
-use Rattle.prefix_trie_table.specs.Tables.{IsReached, IsTable, ForHeld, GrowsBoth, MayPass}
+use Rattle.prefix_trie_table.proofs.Prelude.{◌≡◌, ℕ, ◌+◌, false, Bool, List, take, Option, None, Some, Result, Ok, Err, MatchResult, IfErr, sym, ◌∙◌, true≢false, arith, get, contains_key, Refused, Memory, IndexRange, Insert, InsertsInStorage, RefusesInStorage, StepByPath, Node, Seat, WayEnd, ObtainsBoth, nodes_needed, cells_needed, path_of, bit_of, Holds, EntryAdded, Sized, Shaped, inserted, placed, Store, IsReached, IsTable, ForHeld, GrowsBoth, MayPass}
 use Rattle.prefix_trie_table.proofs.Insertion.Asks.{at_end}
 use Rattle.prefix_trie_table.proofs.Insertion.Foreseen.{obtained}
 use Rattle.prefix_trie_table.proofs.Insertion.Inserted.{inserted_in}

@@ -1,27 +1,8 @@
 -- The sizes of the blocks that an insertion leaves.
-use Rattle.std.proofs.Common.{◌≡◌, ℕ, ◌+◌, ◌*◌, ◌/◌, ◌%◌, ◌<◌, ◌≤◌, inl, inr, Bool, true, false, cond, not, nat_lt, ◌&&◌, List, length, take, Option, None, Some, is_some, Result, Ok, Err, MatchResult, refl, sym, ap, ap₂, ◌∙◌, arith, eqb-true, eq-eqb}
-use Rattle.std.proofs.lemmas.Bool.{false≢true, cases_Bool, cases_lt, lt-ltb, le-ltb, false_from_ne_true}
+use Rattle.prefix_trie_table.proofs.Prelude.{◌≡◌, ℕ, ◌+◌, ◌*◌, ◌/◌, ◌%◌, ◌<◌, ◌≤◌, inl, inr, Bool, true, false, cond, not, nat_lt, ◌&&◌, List, length, take, Option, None, Some, is_some, Result, Ok, Err, MatchResult, refl, sym, ap, ap₂, ◌∙◌, arith, eqb-true, eq-eqb, false≢true, cases_Bool, cases_lt, le-ltb, false_from_ne_true, get, contains_key, option_or, begins, same_bool, same_string, child_block_sizes, value_block_sizes, child_count, own_entries, block_needed, gains_child, child_block_needed, value_block_needed, TakesBlocks, has_node, is_node_depth, home, State, home-depth, home-length, same_string-is, is-same_string, same_entries, Node, node_sizes, path_of, bit_of, read, same_path, is_start, gains, Holds, EntryAdded, Sized, child_need, value_need, IsShapeOf, Shaped, Store, IsTable, ForHeld}
+use Rattle.std.proofs.lemmas.Bool.{lt-ltb}
 use Rattle.std.proofs.lemmas.List.{take_all}
-use Rattle.std.specs.FinMap.{get, contains_key}
-use Rattle.std.specs.Option.{option_or}
-use Rattle.prefix_trie_bits.specs.Bits.{begins}
-use Rattle.prefix_trie_bits.specs.Begins.{same_bool}
-use Rattle.prefix_trie_bits.specs.Order.{same_string}
-use Rattle.prefix_trie_bits.specs.Model.Blocks.{child_block_sizes, value_block_sizes, child_count, own_entries}
-use Rattle.prefix_trie_bits.specs.Model.Insertion.{block_needed, gains_child, child_block_needed, value_block_needed, TakesBlocks}
-use Rattle.prefix_trie_bits.specs.Model.Nodes.{has_node, is_node_depth, home}
-use Rattle.prefix_trie_bits.specs.Model.Step.{State}
-use Rattle.prefix_trie_bits.proofs.Model.Homes.{home-depth, home-length}
-use Rattle.prefix_trie_bits.proofs.Model.Members.{same_string-is, is-same_string, same_entries}
-use Rattle.prefix_trie_table.specs.declared.allocator.node.Node.{Node}
-use Rattle.prefix_trie_table.specs.Cells.{node_sizes}
-use Rattle.prefix_trie_table.specs.Digits.{path_of, bit_of}
-use Rattle.prefix_trie_table.specs.Forest.{read, same_path, is_start, gains, Holds, EntryAdded}
-use Rattle.prefix_trie_table.specs.Layouts.{Sized}
-use Rattle.prefix_trie_table.specs.OwnBlocks.{child_block_size, value_block_size, child_need, value_need}
-use Rattle.prefix_trie_table.specs.Shape.{IsShapeOf, Shaped}
-use Rattle.prefix_trie_table.specs.Store.{Store}
-use Rattle.prefix_trie_table.specs.Tables.{IsTable, ForHeld}
+use Rattle.prefix_trie_table.specs.OwnBlocks.{child_block_size, value_block_size}
 use Rattle.prefix_trie_table.proofs.Strings.Plain.{five_times}
 use Rattle.prefix_trie_table.proofs.Tree.Invariant.{some_table}
 use Rattle.prefix_trie_table.proofs.Strings.Digits.{path-length, path-take}

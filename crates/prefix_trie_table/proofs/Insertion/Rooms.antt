@@ -1,11 +1,5 @@
 -- By how much the arrays grow.
-use Rattle.std.proofs.Common.{◌≡◌, ℕ, ◌+◌, ◌-◌, ◌/◌, ◌≤◌, List, Option, None, Result, Ok, Err, refl, sym, ap, ◌∙◌, subst, arith, lit≤}
-use Rattle.prefix_trie_bits.specs.Model.Blocks.{child_block_sizes, value_block_sizes}
-use Rattle.prefix_trie_bits.specs.Model.Insertion.{block_needed, lacking_slots}
-use Rattle.prefix_trie_bits.proofs.Model.Storage.Slots.{slots_most, total_most, needed_most}
-use Rattle.prefix_trie_table.specs.Cells.{node_sizes, cell_sizes, HasSizes}
-use Rattle.prefix_trie_table.specs.Store.{Store, Turnover, Obtains, MakesNone, SameRoom, KeepsMade, tier_sizes, free_counts, needs, lacking_in, slots_lacking}
-use Rattle.prefix_trie_table.specs.Tables.{Grows}
+use Rattle.prefix_trie_table.proofs.Prelude.{◌≡◌, ℕ, ◌+◌, ◌-◌, ◌/◌, ◌≤◌, List, Option, None, Result, Ok, Err, refl, sym, ap, ◌∙◌, subst, arith, lit≤, child_block_sizes, value_block_sizes, block_needed, lacking_slots, slots_most, total_most, needed_most, node_sizes, cell_sizes, HasSizes, Store, Turnover, Obtains, MakesNone, SameRoom, KeepsMade, tier_sizes, free_counts, needs, lacking_in, slots_lacking, Grows}
 use Rattle.prefix_trie_table.proofs.Blocks.BySize.{sizes_up, slots_of-le}
 use Rattle.prefix_trie_table.proofs.Blocks.Preparing.{slots_lacking-are}
 use Rattle.prefix_trie_table.proofs.Blocks.Turnovers.{made_turned, made_kept, made_same, made_then}

@@ -1,14 +1,6 @@
 -- The value at the end of a way that an insertion added.
-use Rattle.std.proofs.Common.{◌≡◌, ◌*◌, ◌/◌, ◌≤◌, ℕ, Bool, List, length, take, drop, Option, Some, sym, ap, ◌∙◌, subst, arith}
+use Rattle.prefix_trie_table.proofs.Prelude.{◌≡◌, ◌*◌, ◌/◌, ◌≤◌, ℕ, Bool, List, length, take, drop, Option, Some, sym, ap, ◌∙◌, subst, arith, value_bit, Node, Seat, node_at, node_sizes, cell_sizes, path_of, bit_of, Store, IsSlot, NodesHold, CellsHold, Walked, EntryAdded, ValueSet, seat_in, seat_of}
 use Rattle.std.proofs.lemmas.List.{take_all}
-use Rattle.prefix_trie_bits.specs.Places.{value_bit}
-use Rattle.prefix_trie_table.specs.declared.allocator.node.Node.{Node}
-use Rattle.prefix_trie_table.specs.declared.table.seat.Seat.{Seat}
-use Rattle.prefix_trie_table.specs.Cells.{node_at, node_sizes, cell_sizes}
-use Rattle.prefix_trie_table.specs.Digits.{path_of, bit_of}
-use Rattle.prefix_trie_table.specs.Store.{Store}
-use Rattle.prefix_trie_table.specs.Forest.{IsSlot, NodesHold, CellsHold, Walked, EntryAdded, ValueSet}
-use Rattle.prefix_trie_table.specs.Locations.{seat_in, seat_of}
 use Rattle.prefix_trie_table.proofs.Lookup.Going.{bit-read-last, steps-all}
 use Rattle.prefix_trie_table.proofs.Lookup.Locating.{entered_seat}
 use Rattle.prefix_trie_table.proofs.Tree.Growing.{entry_added}

@@ -1,23 +1,7 @@
 -- Questions that go down side by side.
-use Rattle.std.proofs.Common.{◌≡◌, ℕ, ◌+◌, ◌*◌, ◌<◌, ◌≤◌, ◌⊎◌, inl, inr, Bool, List, [], ◌∷◌, ◌++◌, Option, None, Some, IfSome, MatchOption, Contains, option_map, map, take, drop, length, length-drop, get_or, set, sum_by, refl, sym, ap, ◌∙◌, subst, arith}
-use Rattle.std.specs.Option.{option_or}
-use Rattle.std.proofs.Math.Nat.{add-mul, one-mul}
-use Rattle.std.proofs.lemmas.Bool.{cases_eq}
-use Rattle.std.proofs.lemmas.List.{length-map, append_assoc, map-append, length_push, length-take-le, take_more, take_more_set, drop-drop, get_or_default, get_or-map, get_or-drop, get_or-take, get_or-set_same, get_or-set_other}
-use Rattle.std.proofs.lemmas.List.Elements.{All-nil, All-push, Contains-append_cases, Contains-append_left, Contains-append_right, Contains-push_cases}
-use Rattle.std.proofs.lemmas.List.Sums.{sum_by_push}
-use Rattle.prefix_trie_table.specs.declared.allocator.node.Node.{Node}
-use Rattle.prefix_trie_table.specs.declared.allocator.node.NodeSlot.{NodeSlot}
-use Rattle.prefix_trie_table.specs.declared.table.bulk.Found.{Found}
-use Rattle.prefix_trie_table.specs.declared.table.bulk.Way.{Way}
-use Rattle.prefix_trie_table.specs.declared.table.matching.Match.{Match}
-use Rattle.prefix_trie_table.specs.Bulk.{AreAnswered, AreRead, GoOn, HasFound, IsWay, asked, asks, cost_of, found_of, question_of, questions_of, slot_of}
-use Rattle.prefix_trie_table.specs.Cells.{node_at}
-use Rattle.prefix_trie_table.specs.Digits.{path_of}
-use Rattle.prefix_trie_table.specs.Forest.{IsEnd, SomeNodes}
-use Rattle.prefix_trie_table.specs.Matching.{IsOnWay, LongestHeld}
-use Rattle.prefix_trie_table.specs.Store.{Store}
-use Rattle.prefix_trie_table.specs.Tables.{IsReached}
+use Rattle.prefix_trie_table.proofs.Prelude.{◌≡◌, ℕ, ◌+◌, ◌*◌, ◌<◌, ◌≤◌, ◌⊎◌, inl, inr, Bool, List, [], ◌∷◌, ◌++◌, Option, None, Some, IfSome, MatchOption, Contains, option_map, map, take, drop, length, length-drop, get_or, set, sum_by, refl, sym, ap, ◌∙◌, subst, arith, option_or, add-mul, one-mul, cases_eq, length-map, map-append, length_push, take_more, take_more_set, get_or_default, get_or-map, get_or-drop, get_or-take, get_or-set_other, All-nil, All-push, Contains-append_cases, Contains-append_left, Contains-append_right, Contains-push_cases, sum_by_push, Node, NodeSlot, Found, Way, Match, AreAnswered, AreRead, GoOn, HasFound, asked, asks, cost_of, found_of, question_of, questions_of, slot_of, node_at, path_of, IsEnd, SomeNodes, IsOnWay, LongestHeld, Store, IsReached}
+use Rattle.std.proofs.lemmas.List.{append_assoc, length-take-le, drop-drop, get_or-set_same}
+use Rattle.prefix_trie_table.specs.Bulk.{IsWay}
 use Rattle.prefix_trie_table.proofs.Lookup.Finding.{reached_end}
 use Rattle.prefix_trie_table.proofs.Lookup.Matching.{none_past, longest_none, longest_now}
 

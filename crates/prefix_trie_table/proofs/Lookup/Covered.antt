@@ -1,28 +1,8 @@
 -- The entries that a walk over the beginnings of a bit string has still to give.
-use Rattle.std.proofs.Common.{◌≡◌, ◌⊎◌, ℕ, ◌+◌, ◌-◌, ◌*◌, ◌<◌, ◌≤◌, Bool, true, false, cond, ◌&&◌, ◌||◌, nat_le, List, [], ◌∷◌, length, length-drop, filter, take, drop, Option, None, Some, is_some, refl, sym, ap, ◌∙◌, subst, add-sub_of_le, arith, inl, inr}
+use Rattle.prefix_trie_table.proofs.Prelude.{◌≡◌, ◌⊎◌, ℕ, ◌+◌, ◌-◌, ◌*◌, ◌<◌, ◌≤◌, Bool, true, false, cond, ◌&&◌, ◌||◌, nat_le, List, [], ◌∷◌, length, length-drop, filter, take, drop, Option, None, Some, is_some, refl, sym, ap, ◌∙◌, subst, add-sub_of_le, arith, inl, inr, le-leb, lt-leb, cases_lt, false≢true, drop-take, take-take, Contains-append_left, Contains-append_right, Contains-push, Contains-push_cases, Contains-append_cases, entries, entries_sorted, is_sorted, is_sorted-where_key, begins, begins-take, begins-length, take-begins, listing_cmp, has, value_bit, Entries, covers, IsMatch, State, IsMatch-from_covers, covers-from_IsMatch, each-behind, find-from_Contains, sorted-head, sorted-tail, shorter-first, Node, Match, Store, SomeTable, holds_value, IsHeld, NoneHeld, cell_slot, IsShapeOf, same_shape, IsCovering, GoesOn, is_ahead, still_covering}
 use lib.Dec.{T as IsT}
-use Rattle.std.proofs.lemmas.Bool.{le-leb, lt-leb, cases_lt, false≢true}
-use Rattle.std.proofs.lemmas.List.{length-take-le, drop-take, take-take}
-use Rattle.std.proofs.lemmas.List.Elements.{Contains-append_left, Contains-append_right, Contains-push, Contains-push_cases, Contains-append_cases}
+use Rattle.std.proofs.lemmas.List.{length-take-le}
 use Rattle.std.specs.List.{Contains}
-use Rattle.std.specs.FinMap.{entries, entries_sorted, is_sorted}
-use Rattle.std.specs.FinMap.Entries.{is_sorted-where_key}
-use Rattle.prefix_trie_bits.specs.Bits.{begins}
-use Rattle.prefix_trie_bits.specs.Begins.{begins-take, begins-length, take-begins}
-use Rattle.prefix_trie_bits.specs.Order.{listing_cmp}
-use Rattle.prefix_trie_bits.specs.Places.{has, value_bit}
-use Rattle.prefix_trie_bits.specs.Model.Entries.{Entries}
-use Rattle.prefix_trie_bits.specs.Model.Matches.{covers, IsMatch}
-use Rattle.prefix_trie_bits.specs.Model.Step.{State}
-use Rattle.prefix_trie_bits.proofs.Model.Matches.{IsMatch-from_covers, covers-from_IsMatch}
-use Rattle.prefix_trie_bits.proofs.Model.Ordered.{each-behind, find-from_Contains, sorted-head, sorted-tail, shorter-first}
-use Rattle.prefix_trie_table.specs.declared.allocator.node.Node.{Node}
-use Rattle.prefix_trie_table.specs.declared.table.matching.Match.{Match}
-use Rattle.prefix_trie_table.specs.Store.{Store}
-use Rattle.prefix_trie_table.specs.Forest.{SomeTable}
-use Rattle.prefix_trie_table.specs.Matching.{holds_value, IsHeld, NoneHeld, cell_slot}
-use Rattle.prefix_trie_table.specs.Shape.{IsShapeOf, same_shape}
-use Rattle.prefix_trie_table.specs.Walking.Covers.{IsCovering, GoesOn, is_ahead, still_covering}
 use Rattle.prefix_trie_table.proofs.Lookup.Matching.{held_is, on_way_is}
 use Rattle.prefix_trie_table.proofs.Lookup.Matched.{match_held, cell_of, cell_inside, is_match, cell_some}
 

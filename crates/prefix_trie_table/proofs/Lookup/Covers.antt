@@ -1,27 +1,6 @@
 -- What a walk over the beginnings of a bit string has still to give.
-use Rattle.std.proofs.Common.{◌≡◌, ℕ, ◌+◌, ◌-◌, ◌*◌, ◌^◌, ◌<◌, ◌≤◌, Bool, true, false, ◌&&◌, nat_le, List, length, take, drop, Option, None, Some, refl, sym, ap, ◌∙◌, subst, arith, inl, inr, leb-true, length-drop, bit_and}
-use Rattle.std.specs.Int.{bit_at}
-use Rattle.std.proofs.lemmas.Bool.{le-leb, lt-leb, cases_lt, false≢true}
-use Rattle.std.proofs.lemmas.Nat.{and_le_r}
-use Rattle.std.proofs.lemmas.Nat.Bits.{bit_at_above}
+use Rattle.prefix_trie_table.proofs.Prelude.{◌≡◌, ℕ, ◌+◌, ◌-◌, ◌*◌, ◌^◌, ◌<◌, ◌≤◌, Bool, true, false, ◌&&◌, nat_le, List, length, take, drop, Option, None, Some, refl, sym, ap, ◌∙◌, subst, arith, inl, inr, leb-true, length-drop, bit_and, bit_at, le-leb, lt-leb, cases_lt, false≢true, and_le_r, bit_at_above, begins, digits, length-digits, same_bool, begins-take, begins-length, take-begins, has, value_bit, stands, Sets, HoldsValues, both, bit-set, has-zero, has-and, value_bit-longer, one_of_length, Node, Match, Store, node_sizes, NodesHold, IsReached, NoneHeld, IsOnWay, AreLeft, TakesMatch, TakesShortest, NextHeld, IsCovering, GoesOn, IsCover}
 use Rattle.std.proofs.lemmas.List.{length-take-le}
-use Rattle.prefix_trie_bits.specs.Bits.{begins, digits}
-use Rattle.prefix_trie_bits.specs.BitStrings.{length-digits}
-use Rattle.prefix_trie_bits.specs.Begins.{same_bool, begins-take, begins-length, take-begins}
-use Rattle.prefix_trie_bits.specs.Places.{has, value_bit, stands, Sets, HoldsValues}
-use Rattle.prefix_trie_bits.proofs.Checks.{both}
-use Rattle.prefix_trie_bits.proofs.Ranks.{bit-set}
-use Rattle.prefix_trie_bits.proofs.Bitmaps.{has-zero, has-and}
-use Rattle.prefix_trie_bits.proofs.Strings.{value_bit-longer}
-use Rattle.prefix_trie_bits.proofs.Model.Matches.{one_of_length}
-use Rattle.prefix_trie_table.specs.declared.allocator.node.Node.{Node}
-use Rattle.prefix_trie_table.specs.declared.table.matching.Match.{Match}
-use Rattle.prefix_trie_table.specs.Store.{Store}
-use Rattle.prefix_trie_table.specs.Cells.{node_sizes}
-use Rattle.prefix_trie_table.specs.Forest.{NodesHold}
-use Rattle.prefix_trie_table.specs.Tables.{IsReached}
-use Rattle.prefix_trie_table.specs.Matching.{NoneHeld, IsOnWay}
-use Rattle.prefix_trie_table.specs.Walking.Covers.{AreLeft, TakesMatch, TakesShortest, NextHeld, IsCovering, GoesOn, IsCover}
 use Rattle.prefix_trie_table.proofs.Strings.Plain.{no_or_yes}
 use Rattle.prefix_trie_table.proofs.Lookup.Finding.{reached_end}
 use Rattle.prefix_trie_table.proofs.Lookup.Matching.{held_is, held_here, none_join, none_past, on_way_is, steps-within}

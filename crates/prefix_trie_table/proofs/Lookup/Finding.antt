@@ -1,16 +1,6 @@
 -- What stands, or does not, at the end of the way down.
-use Rattle.std.proofs.Common.{◌≡◌, ◌≢◌, ℕ, ◌+◌, ◌*◌, ◌<◌, ◌≤◌, inl, inr, ⊎_elim, Bool, true, false, ◌||◌, List, [], ◌∷◌, ◌++◌, length, take, drop, Option, None, Some, is_some, refl, sym, ap, ◌∙◌, arith, nat_le, leb-true}
-use Rattle.std.proofs.lemmas.Bool.Decides.{nat_tests}
-use Rattle.std.proofs.lemmas.Bool.{false≢true, cases_Bool}
+use Rattle.prefix_trie_table.proofs.Prelude.{◌≡◌, ◌≢◌, ℕ, ◌+◌, ◌*◌, ◌<◌, ◌≤◌, inl, inr, ⊎_elim, Bool, true, false, ◌||◌, List, [], ◌∷◌, ◌++◌, length, take, drop, Option, None, Some, is_some, refl, sym, ap, ◌∙◌, arith, nat_le, leb-true, nat_tests, false≢true, cases_Bool, has, value_bit, Node, has_bit, node_sizes, path_of, bit_of, Store, same_path, is_start, NodesHold, Holds, IsEnd, has_value, IsReached}
 use Rattle.std.proofs.lemmas.List.{take_all}
-use Rattle.prefix_trie_bits.specs.Places.{has, value_bit}
-use Rattle.prefix_trie_table.specs.declared.allocator.node.Node.{Node}
-use Rattle.prefix_trie_table.specs.Bitmaps.{has_bit}
-use Rattle.prefix_trie_table.specs.Cells.{node_sizes}
-use Rattle.prefix_trie_table.specs.Digits.{path_of, bit_of}
-use Rattle.prefix_trie_table.specs.Store.{Store}
-use Rattle.prefix_trie_table.specs.Forest.{same_path, is_start, NodesHold, Holds, IsEnd, has_value}
-use Rattle.prefix_trie_table.specs.Tables.{IsReached}
 use Rattle.prefix_trie_table.proofs.Strings.Plain.{needs_node}
 use Rattle.prefix_trie_table.proofs.Strings.Bits.{has_bit-is}
 use Rattle.prefix_trie_table.proofs.Strings.Paths.{same_path-not, snoc_ind}

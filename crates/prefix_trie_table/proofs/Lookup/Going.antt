@@ -1,17 +1,6 @@
 -- The way down a bit string, as the code follows it on a key.
-use Rattle.std.proofs.Common.{◌≡◌, ◌≢◌, ℕ, ◌+◌, ◌*◌, ◌/◌, ◌<◌, ◌≤◌, Bool, true, false, List, [], ◌∷◌, ◌++◌, length, get_or, take, drop, Option, Some, is_some, refl, sym, ap, ◌∙◌, subst, arith}
-use Rattle.std.proofs.lemmas.List.{length-take-le, take_more}
-use Rattle.prefix_trie_bits.specs.Bits.{number, zeros}
-use Rattle.prefix_trie_bits.specs.Windows.{window-of-front, IsRest, rest_whole, rest_behind, rest_front}
-use Rattle.prefix_trie_bits.specs.Places.{has, ones_below, value_bit}
-use Rattle.prefix_trie_table.specs.declared.allocator.node.Node.{Node}
-use Rattle.prefix_trie_table.specs.Bitmaps.{has_bit, rank}
-use Rattle.prefix_trie_table.specs.Cells.{node_at, node_sizes}
-use Rattle.prefix_trie_table.specs.Digits.{path_of, bit_of}
-use Rattle.prefix_trie_table.specs.Matching.{IsOnWay}
-use Rattle.prefix_trie_table.specs.Store.{Store}
-use Rattle.prefix_trie_table.specs.declared.table.lookup.Reached.{Reached}
-use Rattle.prefix_trie_table.specs.Forest.{IsSlot, at_root, at_child, child_slot, NodesHold, Deepest, IsEnd, has_child, node_or_blank}
+use Rattle.prefix_trie_table.proofs.Prelude.{◌≡◌, ◌≢◌, ℕ, ◌+◌, ◌*◌, ◌/◌, ◌<◌, ◌≤◌, Bool, true, false, List, [], ◌∷◌, ◌++◌, length, get_or, take, drop, Option, Some, is_some, refl, sym, ap, ◌∙◌, subst, arith, take_more, number, zeros, window-of-front, IsRest, rest_whole, rest_behind, rest_front, has, ones_below, value_bit, Node, has_bit, rank, node_at, node_sizes, path_of, bit_of, IsOnWay, Store, Reached, IsSlot, at_root, at_child, child_slot, NodesHold, Deepest, IsEnd, has_child, node_or_blank}
+use Rattle.std.proofs.lemmas.List.{length-take-le}
 use Rattle.prefix_trie_table.proofs.Strings.Bits.{has_bit-is, rank-ones}
 use Rattle.prefix_trie_table.proofs.Strings.Digits.{path-length, step-is, rest-is}
 use Rattle.prefix_trie_table.proofs.Tree.Trees.{slot_holds, is_some-Some}

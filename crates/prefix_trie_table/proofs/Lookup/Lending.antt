@@ -1,28 +1,7 @@
 -- What a table is after a value of it was written over where it stands.
-use Rattle.std.proofs.Common.{◌≡◌, ℕ, ◌+◌, ◌<◌, ◌≤◌, Bool, true, cond, if◌then◌else◌, List, length, take, get_or, Option, None, Some, IfSome, MatchOption, is_some, refl, sym, ap, ap₂, ◌∙◌, subst, arith, inr}
-use Rattle.std.proofs.lemmas.Bool.{false≢true}
+use Rattle.prefix_trie_table.proofs.Prelude.{◌≡◌, ℕ, ◌+◌, ◌<◌, ◌≤◌, Bool, true, cond, if◌then◌else◌, List, length, take, get_or, Option, None, Some, IfSome, MatchOption, is_some, refl, sym, ap, ap₂, ◌∙◌, subst, arith, inr, false≢true, MutBor, option_copied_mut, ghost_name_of, get, get-insert, len-insert, contains_key, len, listing_total, with_entry, longest_match, State, Node, Seat, Match, has_bit, rank, node_sizes, cell_sizes, path_of, bit_of, Store, Holds, SomeTable, CellsHold, with_node, with_value, has_value, IsHeld, NoneHeld, LongestHeld, SeatAt, match_seat, cell_slot, with_slot, with_cell, HasValue, IsSeat, SeatOf, Sized, Sized-prop, Contents, with_value_at, with_stored_at, with_match_at, with_longest_at, IsShapeOf, Shaped, same_shape, IsTable}
 use Rattle.std.proofs.lemmas.List.{length-set, length-take-le}
 use borrow.Follows.Closed.{read_of}
-use Rattle.std.specs.Borrow.{MutBor}
-use Rattle.std.specs.Option.{option_copied_mut, ghost_name_of}
-use Rattle.std.specs.FinMap.{get, get-insert, len-insert, contains_key, len}
-use Rattle.prefix_trie_bits.specs.Order.{listing_total}
-use Rattle.prefix_trie_bits.specs.Model.Entries.{with_entry}
-use Rattle.prefix_trie_bits.specs.Model.Matches.{longest_match}
-use Rattle.prefix_trie_bits.specs.Model.Step.{State}
-use Rattle.prefix_trie_table.specs.declared.allocator.node.Node.{Node}
-use Rattle.prefix_trie_table.specs.declared.table.seat.Seat.{Seat}
-use Rattle.prefix_trie_table.specs.declared.table.matching.Match.{Match}
-use Rattle.prefix_trie_table.specs.Bitmaps.{has_bit, rank}
-use Rattle.prefix_trie_table.specs.Cells.{node_sizes, cell_sizes}
-use Rattle.prefix_trie_table.specs.Digits.{path_of, bit_of}
-use Rattle.prefix_trie_table.specs.Store.{Store}
-use Rattle.prefix_trie_table.specs.Forest.{Holds, SomeTable, CellsHold, with_node, with_value, has_value}
-use Rattle.prefix_trie_table.specs.Matching.{IsHeld, NoneHeld, LongestHeld, SeatAt, match_seat, cell_slot}
-use Rattle.prefix_trie_table.specs.Slots.{with_slot, with_cell, HasValue, IsSeat, SeatOf}
-use Rattle.prefix_trie_table.specs.Layouts.{Sized, Sized-prop}
-use Rattle.prefix_trie_table.specs.Shape.{Contents, with_value_at, with_stored_at, with_match_at, with_longest_at, IsShapeOf, Shaped, same_shape}
-use Rattle.prefix_trie_table.specs.Tables.{IsTable}
 use Rattle.prefix_trie_table.proofs.Tree.Invariant.{some_table}
 use Rattle.prefix_trie_table.proofs.Strings.Keys.{same_key}
 use Rattle.prefix_trie_table.proofs.Insertion.Adding.{with_same}

@@ -1,18 +1,5 @@
 -- What contracts see of a place.
-use Rattle.std.proofs.Common.{◌≡◌, ℕ, ◌+◌, ◌<◌, true, Bool, List, length, get_or, take, Option, None, Some, is_some, sym, ap, ◌∙◌}
-use Rattle.std.proofs.lemmas.List.{get_or_default}
-use Rattle.std.specs.FinMap.{get, contains_key}
-use Rattle.prefix_trie_table.specs.declared.allocator.node.Node.{Node}
-use Rattle.prefix_trie_table.specs.declared.table.seat.Seat.{Seat}
-use Rattle.prefix_trie_table.specs.declared.table.seat.Location.{Location}
-use Rattle.prefix_trie_table.specs.declared.table.seat.Location.TheVariants.{Stored, Missing}
-use Rattle.prefix_trie_table.specs.Digits.{path_of, bit_of}
-use Rattle.prefix_trie_table.specs.Layouts.{Sized}
-use Rattle.prefix_trie_table.specs.Locations.{seat_of, Locates, IsLocation}
-use Rattle.prefix_trie_table.specs.Shape.{Shaped}
-use Rattle.prefix_trie_table.specs.Slots.{IsSeat}
-use Rattle.prefix_trie_table.specs.Store.{Store}
-use Rattle.prefix_trie_table.specs.Tables.{IsTable}
+use Rattle.prefix_trie_table.proofs.Prelude.{◌≡◌, ℕ, ◌+◌, ◌<◌, true, Bool, List, length, get_or, take, Option, None, Some, is_some, sym, ap, ◌∙◌, get_or_default, get, contains_key, Node, Seat, Location, Stored, Missing, path_of, bit_of, Sized, seat_of, Locates, IsLocation, Shaped, IsSeat, Store, IsTable}
 use Rattle.prefix_trie_table.proofs.Tree.Invariant.{some_table}
 use Rattle.prefix_trie_table.proofs.Lookup.Lending.{seen_of, cell_there, value_there, stored_is}
 use Rattle.prefix_trie_table.proofs.Lookup.Locating.{seat_if, is_seat}

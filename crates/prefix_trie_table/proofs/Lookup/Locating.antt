@@ -1,20 +1,6 @@
 -- Where the value of a bit string stands, by the nodes in their array.
-use Rattle.std.proofs.Common.{◌≡◌, ℕ, ◌+◌, ◌*◌, ◌<◌, ◌≤◌, Bool, true, false, cond, ◌||◌, nat_eq, List, ◌++◌, length, set, take, drop, Option, None, Some, is_some, refl, sym, ap, ap₂, ◌∙◌, arith}
-use Rattle.std.proofs.lemmas.Bool.{false≢true}
+use Rattle.prefix_trie_table.proofs.Prelude.{◌≡◌, ℕ, ◌+◌, ◌*◌, ◌<◌, ◌≤◌, Bool, true, false, cond, ◌||◌, nat_eq, List, ◌++◌, length, set, take, drop, Option, None, Some, is_some, refl, sym, ap, ap₂, ◌∙◌, arith, false≢true, has, value_bit, Sets, value_bit-small, Node, Reached, Seat, has_bit, rank, blank_node, node_at, node_sizes, cell_sizes, path_of, bit_of, read, SomeTable, IsNodeAt, IsSlot, at_root, at_child, NodesHold, CellsHold, ValueSet, with_node, has_value, EndsAt, value_seat, seat_in, seat_of, IsSeat, Store, IsReached}
 use Rattle.std.proofs.lemmas.List.{get_or-set_same}
-use Rattle.prefix_trie_bits.specs.Places.{has, value_bit, Sets}
-use Rattle.prefix_trie_bits.proofs.Strings.{value_bit-small}
-use Rattle.prefix_trie_table.specs.declared.allocator.node.Node.{Node}
-use Rattle.prefix_trie_table.specs.declared.table.lookup.Reached.{Reached}
-use Rattle.prefix_trie_table.specs.declared.table.seat.Seat.{Seat}
-use Rattle.prefix_trie_table.specs.Bitmaps.{has_bit, rank}
-use Rattle.prefix_trie_table.specs.Cells.{blank_node, node_at, node_sizes, cell_sizes}
-use Rattle.prefix_trie_table.specs.Digits.{path_of, bit_of}
-use Rattle.prefix_trie_table.specs.Forest.{read, SomeTable, IsNodeAt, IsSlot, at_root, at_child, NodesHold, CellsHold, ValueSet, with_node, has_value}
-use Rattle.prefix_trie_table.specs.Locations.{EndsAt, value_seat, seat_in, seat_of}
-use Rattle.prefix_trie_table.specs.Slots.{IsSeat}
-use Rattle.prefix_trie_table.specs.Store.{Store}
-use Rattle.prefix_trie_table.specs.Tables.{IsReached}
 use Rattle.prefix_trie_table.proofs.Strings.Bits.{has_bit-is, has_bit-sets}
 use Rattle.prefix_trie_table.proofs.Strings.BitLists.{rank-same}
 use Rattle.prefix_trie_table.proofs.Tree.Children.{same_number, other_number, with_here, with_other}

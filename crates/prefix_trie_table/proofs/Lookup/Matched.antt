@@ -1,26 +1,6 @@
 -- The longest and the shortest match of a table's entries, from the beginnings of a bit string that have values.
-use Rattle.std.proofs.Common.{◌≡◌, ℕ, ◌+◌, ◌/◌, ◌<◌, ◌≤◌, Bool, true, ◌&&◌, nat_le, List, length, get_or, take, Option, None, Some, is_some, MatchOption, refl, sym, ap, ◌∙◌, arith, inl, inr, true≢false}
-use Rattle.std.proofs.lemmas.Bool.{false≢true, cases_lt}
+use Rattle.prefix_trie_table.proofs.Prelude.{◌≡◌, ℕ, ◌+◌, ◌/◌, ◌<◌, ◌≤◌, Bool, true, ◌&&◌, nat_le, List, length, get_or, take, Option, None, Some, is_some, MatchOption, refl, sym, ap, ◌∙◌, arith, inl, inr, true≢false, false≢true, cases_lt, filter_agree, get, contains_key, keys, begins, begins-take, begins-length, take-begins, IsMatch, longest_match, shortest_match, State, visits, visits_of_match, visits_to_match, match_laws, some-value, begins-within, Node, Match, has_bit, node_sizes, cell_sizes, path_of, bit_of, Store, SomeTable, SomeNodes, IsEnd, has_value, holds_value, LackLastBit, IsHeld, NoneHeld, cell_slot, IsShapeOf}
 use Rattle.std.proofs.lemmas.List.{length-take-le, take_all}
-use Rattle.std.proofs.lemmas.List.Elements.{filter_agree}
-use Rattle.std.specs.FinMap.{get, contains_key, keys}
-use Rattle.prefix_trie_bits.specs.Bits.{begins}
-use Rattle.prefix_trie_bits.specs.Begins.{begins-take, begins-length, take-begins}
-use Rattle.prefix_trie_bits.specs.Model.Matches.{IsMatch, longest_match, shortest_match}
-use Rattle.prefix_trie_bits.specs.Model.Step.{State}
-use Rattle.prefix_trie_bits.specs.Model.Visits.{visits, visits_of_match, visits_to_match}
-use Rattle.prefix_trie_bits.proofs.Model.Matches.{match_laws}
-use Rattle.prefix_trie_bits.proofs.Model.Members.{some-value}
-use Rattle.prefix_trie_bits.proofs.Model.Visits.{begins-within}
-use Rattle.prefix_trie_table.specs.declared.allocator.node.Node.{Node}
-use Rattle.prefix_trie_table.specs.declared.table.matching.Match.{Match}
-use Rattle.prefix_trie_table.specs.Bitmaps.{has_bit}
-use Rattle.prefix_trie_table.specs.Cells.{node_sizes, cell_sizes}
-use Rattle.prefix_trie_table.specs.Digits.{path_of, bit_of}
-use Rattle.prefix_trie_table.specs.Store.{Store}
-use Rattle.prefix_trie_table.specs.Forest.{SomeTable, SomeNodes, IsEnd, has_value}
-use Rattle.prefix_trie_table.specs.Matching.{holds_value, LackLastBit, IsHeld, NoneHeld, cell_slot}
-use Rattle.prefix_trie_table.specs.Shape.{IsShapeOf}
 use Rattle.prefix_trie_table.proofs.Strings.Plain.{no_or_yes}
 use Rattle.prefix_trie_table.proofs.Tree.Invariant.{some_nodes}
 use Rattle.prefix_trie_table.proofs.Strings.Digits.{path-length}

@@ -1,25 +1,7 @@
 -- Questions that go down side by side: before the first round, from one to the next, and after the last.
-use Rattle.std.proofs.Common.{◌≡◌, ℕ, zero, suc, ◌+◌, ◌*◌, ◌<◌, ◌≤◌, inl, inr, Bool, List, [], ◌∷◌, Option, None, Some, is_some, Contains, All, map, take, length, get_or, sum, sum_by, refl, sym, ap, ap₂, ◌∙◌, subst, arith}
-use Rattle.std.proofs.Math.Nat.{mul-zero, mul-add, mul-one, zero-mul}
-use Rattle.std.proofs.lemmas.Bool.{false≢true}
-use Rattle.std.proofs.lemmas.List.{append-nil, length-map, length-take-le, take_more, get_or_default, get_or-map, get_or-take}
-use Rattle.std.proofs.lemmas.List.Elements.{All-map}
-use Rattle.std.proofs.lemmas.Simd.{map-map}
-use Rattle.std.proofs.lemmas.List.Sums.{sum_by_push, sum-map}
-use Rattle.prefix_trie_table.specs.declared.allocator.node.Node.{Node}
-use Rattle.prefix_trie_table.specs.declared.table.bulk.Found.{Found}
-use Rattle.prefix_trie_table.specs.declared.table.bulk.Way.{Way}
-use Rattle.prefix_trie_table.specs.declared.table.matching.Match.{Match}
-use Rattle.prefix_trie_table.specs.Bulk.{AreAnswered, AreAnswers, AreCosts, AreRead, CanAsk, EachOf, GoOn, IsAhead, IsAnswer, IsLongestFound, IsNew, IsWay, asked, asks, cost_of, found_of, new_way, question_of, questions_of, slot_of}
-use Rattle.prefix_trie_table.specs.Cells.{node_sizes}
-use Rattle.prefix_trie_table.specs.Digits.{path_of}
-use Rattle.prefix_trie_table.specs.Forest.{IsEnd, NodesHold, SomeNodes, SomeTable, read}
-use Rattle.prefix_trie_table.specs.Matching.{IsHeld, NoneHeld}
-use Rattle.prefix_trie_table.specs.Shape.{IsShapeOf}
-use Rattle.prefix_trie_table.specs.Store.{Store}
-use Rattle.prefix_trie_bits.specs.Model.Nodes.{Nodes}
-use Rattle.prefix_trie_bits.specs.Model.Step.{State}
-use Rattle.prefix_trie_bits.specs.Model.Visits.{visits}
+use Rattle.prefix_trie_table.proofs.Prelude.{◌≡◌, ℕ, zero, suc, ◌+◌, ◌*◌, ◌<◌, ◌≤◌, inl, inr, Bool, List, [], ◌∷◌, Option, None, Some, is_some, Contains, All, map, take, length, get_or, sum, sum_by, refl, sym, ap, ap₂, ◌∙◌, subst, arith, mul-zero, mul-add, mul-one, zero-mul, false≢true, length-map, take_more, get_or_default, get_or-map, get_or-take, All-map, map-map, sum_by_push, sum-map, Node, Found, Way, Match, AreAnswered, AreAnswers, AreCosts, AreRead, CanAsk, EachOf, GoOn, IsAhead, IsAnswer, IsLongestFound, IsNew, asked, asks, cost_of, found_of, new_way, question_of, questions_of, slot_of, node_sizes, path_of, IsEnd, NodesHold, SomeNodes, SomeTable, read, IsHeld, NoneHeld, IsShapeOf, Store, Nodes, State, visits}
+use Rattle.std.proofs.lemmas.List.{append-nil, length-take-le}
+use Rattle.prefix_trie_table.specs.Bulk.{IsWay}
 use Rattle.prefix_trie_table.proofs.Counts.Counted.{visits_counted}
 use Rattle.prefix_trie_table.proofs.Tree.Shapes.{shape_nodes}
 use Rattle.prefix_trie_table.proofs.Tree.Trees.{reads}

@@ -1,17 +1,7 @@
 -- The next value comes to a second table.
-use Rattle.std.proofs.Common.{◌≡◌, ℕ, ◌+◌, ◌<◌, List, [], ◌∷◌, length, take, set, Bool, Option, None, Some, refl, sym, ap, ◌∙◌, subst, arith}
+use Rattle.prefix_trie_table.proofs.Prelude.{◌≡◌, ℕ, ◌+◌, ◌<◌, List, [], ◌∷◌, length, take, set, Bool, Option, None, Some, refl, sym, ap, ◌∙◌, subst, arith, len, State, Node, Spot, Seat, seat_of, filled_with, Awaits, HasCome, with_cell, Store, IsTrie, Tree, IsStack, pending, GivesSeat}
 use Rattle.std.proofs.lemmas.List.{length-set}
-use Rattle.std.specs.FinMap.{len}
-use Rattle.prefix_trie_bits.specs.Model.Step.{State}
-use Rattle.prefix_trie_table.specs.declared.allocator.node.Node.{Node}
-use Rattle.prefix_trie_table.specs.declared.table.spot.Spot.{Spot}
-use Rattle.prefix_trie_table.specs.declared.table.seat.Seat.{Seat}
-use Rattle.prefix_trie_table.specs.Locations.{seat_of}
-use Rattle.prefix_trie_table.specs.HandingOut.Moving.{filled_with, Awaits, HasCome}
-use Rattle.prefix_trie_table.specs.Slots.{with_cell}
-use Rattle.prefix_trie_table.specs.Store.{Store}
-use Rattle.prefix_trie_table.specs.Tables.{IsTrie}
-use Rattle.prefix_trie_table.specs.Walking.Walks.{Tree, IsStack, pending, slot_of, GivesSeat}
+use Rattle.prefix_trie_table.specs.Walking.Walks.{slot_of}
 
 module _ {T : Type 0} where
   long_cell : (w : Store (Option T)) (o : Option Seat) (x : T) → length (with_cell w o x).slots ≡ length w.slots

@@ -1,27 +1,10 @@
 -- The nodes of a table have as many values as it has entries.
-use Rattle.std.proofs.Common.{append-nil, ◌≡◌, ℕ, ◌+◌, ◌-◌, ◌/◌, ◌%◌, ◌<◌, ◌≤◌, Bool, true, false, cond, ◌&&◌, nat_lt, List, [], ◌∷◌, length, length-drop, drop, filter, sum_by, Option, None, Some, is_some, refl, sym, ap, ◌∙◌, arith, ltb-true, eq-eqb}
-use Rattle.std.proofs.lemmas.Bool.{false≢true, lt-ltb}
-use Rattle.std.proofs.lemmas.List.{length-map}
-use Rattle.std.proofs.lemmas.List.Elements.{All-head, All-tail, All-map, All-weaker, All-contains_itself}
-use Rattle.std.proofs.lemmas.List.Sums.{sum_by-cons}
+use Rattle.prefix_trie_table.proofs.Prelude.{append-nil, ◌≡◌, ℕ, ◌+◌, ◌-◌, ◌/◌, ◌%◌, ◌<◌, ◌≤◌, Bool, true, false, cond, ◌&&◌, nat_lt, List, [], ◌∷◌, length, length-drop, drop, filter, sum_by, Option, None, Some, is_some, refl, sym, ap, ◌∙◌, arith, ltb-true, eq-eqb, false≢true, length-map, All-head, All-tail, All-map, All-weaker, All-contains_itself, sum_by-cons, contains_key, keys, len, len-entries, entries, entries_sorted, get-entries, begins, same_bool, begins-rest, own_entries, Entries, and-first, and-second, and-join, find-from_Contains, Node, node_sizes, path_of, bit_of, same_path, one_if, times, is_start, has_value, own_count, entry_count, Holds, Store, IsShapeOf, State}
+use Rattle.std.proofs.lemmas.Bool.{lt-ltb}
 use Rattle.std.specs.List.{All, Contains}
-use Rattle.std.specs.FinMap.{contains_key, keys, len, len-entries, entries, entries_sorted, get-entries}
-use Rattle.prefix_trie_bits.specs.Bits.{begins}
-use Rattle.prefix_trie_bits.specs.Begins.{same_bool, begins-rest}
-use Rattle.prefix_trie_bits.specs.Model.Blocks.{own_entries}
-use Rattle.prefix_trie_bits.specs.Model.Entries.{Entries}
-use Rattle.prefix_trie_bits.proofs.Model.Members.{and-first, and-second, and-join}
-use Rattle.prefix_trie_bits.proofs.Model.Ordered.{find-from_Contains}
-use Rattle.prefix_trie_table.specs.declared.allocator.node.Node.{Node}
-use Rattle.prefix_trie_table.specs.Cells.{node_sizes}
-use Rattle.prefix_trie_table.specs.Digits.{path_of, bit_of}
-use Rattle.prefix_trie_table.specs.Forest.{same_path, one_if, times, is_start, has_value, own_count, entry_count, Holds}
-use Rattle.prefix_trie_table.specs.Store.{Store}
 use Rattle.prefix_trie_table.proofs.Counts.EntryCounts.{count_sum}
 use Rattle.prefix_trie_table.proofs.Removal.Stepped.{own_is}
 use Rattle.prefix_trie_table.proofs.Tree.Shapes.{shape_entries}
-use Rattle.prefix_trie_table.specs.Shape.{IsShapeOf}
-use Rattle.prefix_trie_bits.specs.Model.Step.{State}
 use Rattle.prefix_trie_table.proofs.Strings.Digits.{path-length}
 use Rattle.prefix_trie_table.proofs.Strings.Keys.{begins-way}
 use Rattle.prefix_trie_table.proofs.Strings.Paths.{same_path-equal, same_path-true}

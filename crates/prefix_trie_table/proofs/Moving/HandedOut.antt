@@ -1,23 +1,5 @@
 -- A table split along a bit string, as contracts see both parts.
-use Rattle.std.proofs.Common.{◌≡◌, ℕ, ◌+◌, ◌-◌, ◌<◌, ◌≤◌, Bool, List, Option, refl, sym, ap, ◌∙◌, subst, arith}
-use Rattle.std.specs.FinMap.{len}
-use Rattle.prefix_trie_bits.specs.declared.prefix.Refusal.TheVariants.{IndexRange}
-use Rattle.prefix_trie_bits.specs.Model.Blocks.{no_layout}
-use Rattle.prefix_trie_bits.specs.Model.Entries.{without_below, part_below}
-use Rattle.prefix_trie_bits.specs.Model.HandsOut.{IsPacked, HandsOutInStorage}
-use Rattle.prefix_trie_bits.specs.Model.Nodes.{needed, nodes_without_below}
-use Rattle.prefix_trie_bits.specs.Model.Step.{State, Reply, RemoveChildren, Clear, Done}
-use Rattle.prefix_trie_bits.specs.Model.Storage.{Storage, StepByPath}
-use Rattle.prefix_trie_bits.proofs.Model.HandsOut.{handing_laws}
-use Rattle.prefix_trie_table.specs.declared.allocator.node.Node.{Node}
-use Rattle.prefix_trie_table.specs.Cells.{node_sizes}
-use Rattle.prefix_trie_table.specs.Forest.{read}
-use Rattle.prefix_trie_table.specs.HandingOut.Laying.{NoneFree}
-use Rattle.prefix_trie_table.specs.Layouts.{Sized}
-use Rattle.prefix_trie_table.specs.Shape.{Shaped, same_shape}
-use Rattle.prefix_trie_table.specs.HandingOut.Skeleton.{IsSecond}
-use Rattle.prefix_trie_table.specs.Store.{Store, free_in}
-use Rattle.prefix_trie_table.specs.Tables.{IsTable, IsTrie}
+use Rattle.prefix_trie_table.proofs.Prelude.{◌≡◌, ℕ, ◌+◌, ◌-◌, ◌<◌, ◌≤◌, Bool, List, Option, refl, sym, ap, ◌∙◌, subst, arith, len, IndexRange, no_layout, without_below, part_below, IsPacked, HandsOutInStorage, needed, nodes_without_below, State, Reply, RemoveChildren, Clear, Done, Storage, StepByPath, handing_laws, Node, node_sizes, read, NoneFree, Sized, Shaped, same_shape, IsSecond, Store, free_in, IsTable, IsTrie}
 use Rattle.prefix_trie_table.proofs.Blocks.Sizing.{storage_of}
 use Rattle.prefix_trie_table.proofs.Moving.Packed.{is_packed}
 use Rattle.prefix_trie_table.proofs.Tree.Invariant.{some_table}

@@ -1,21 +1,5 @@
 -- All values that a bit string begins, moved into a second table one after another.
-use Rattle.std.proofs.Common.{◌≡◌, ℕ, Bool, true, false, cond, List, [], ◌∷◌, Option, None, refl, sym, ap, ◌∙◌, subst}
-use Rattle.std.specs.FinMap.{get, len, entries}
-use Rattle.prefix_trie_bits.specs.Bits.{begins}
-use Rattle.prefix_trie_bits.specs.Model.Asking.{MayAskInOrder}
-use Rattle.prefix_trie_bits.specs.Model.Entries.{Entries, part_below}
-use Rattle.prefix_trie_bits.specs.Model.Selections.{listing, listing_below}
-use Rattle.prefix_trie_bits.specs.Model.Step.{State}
-use Rattle.prefix_trie_bits.proofs.Model.Members.{same_entries, get-part_below}
-use Rattle.prefix_trie_bits.proofs.Model.Ordered.{entries-retained}
-use Rattle.prefix_trie_table.specs.declared.allocator.node.Node.{Node}
-use Rattle.prefix_trie_table.specs.declared.table.spot.Spot.{Spot}
-use Rattle.prefix_trie_table.specs.HandingOut.Moving.{filled_with, handed, Awaits, AwaitsNext, HasCome}
-use Rattle.prefix_trie_table.specs.Retaining.{AsksUpTo}
-use Rattle.prefix_trie_table.specs.HandingOut.Skeleton.{IsSecond}
-use Rattle.prefix_trie_table.specs.Store.{Store}
-use Rattle.prefix_trie_table.specs.Tables.{IsTrie}
-use Rattle.prefix_trie_table.specs.Walking.Walks.{Tree, IsStack, pending}
+use Rattle.prefix_trie_table.proofs.Prelude.{◌≡◌, ℕ, Bool, true, false, cond, List, [], ◌∷◌, Option, None, refl, sym, ap, ◌∙◌, subst, get, len, entries, begins, MayAskInOrder, Entries, part_below, listing, listing_below, State, same_entries, get-part_below, entries-retained, Node, Spot, filled_with, handed, Awaits, AwaitsNext, HasCome, AsksUpTo, IsSecond, Store, IsTrie, Tree, IsStack, pending}
 use Rattle.prefix_trie_table.proofs.Moving.Second.{second_trie}
 
 module _ {T : Type 0} (m : Entries T) (q : List Bool) where

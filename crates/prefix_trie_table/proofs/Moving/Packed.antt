@@ -1,23 +1,7 @@
 -- Where each block is the smallest that holds its list and none is free, slots are numbers of the entries and the nodes.
-use Rattle.std.proofs.Common.{◌≡◌, ℕ, zero, suc, ◌+◌, ◌<◌, Bool, true, ◌&&◌, List, [], ◌∷◌, ◌++◌, length, map, flat_map, replicate, sum_by, Option, None, Some, is_some, refl, sym, ap, ap₂, ◌∙◌, arith, eq-eqb, ◌%◌}
-use Rattle.std.proofs.lemmas.List.{length-map, nil_from_length}
-use Rattle.std.specs.FinMap.{get, entries, keys}
-use Rattle.prefix_trie_bits.specs.Model.Blocks.{Sizes, child_block_sizes, value_block_sizes, child_count, own_entries}
-use Rattle.prefix_trie_bits.specs.Model.HandsOut.{packed_block, packed_slots, packed_node_slots, packed_cell_slots, IsPacked}
-use Rattle.prefix_trie_bits.specs.Model.Nodes.{Nodes, has_node, is_node_depth}
-use Rattle.prefix_trie_bits.specs.Model.Step.{State}
-use Rattle.prefix_trie_bits.proofs.Model.Members.{and-first}
-use Rattle.prefix_trie_table.specs.declared.allocator.node.Node.{Node}
-use Rattle.prefix_trie_table.specs.Bitmaps.{rank, bits}
-use Rattle.prefix_trie_table.specs.Cells.{blank_node, node_sizes, cell_sizes, HasSizes}
+use Rattle.prefix_trie_table.proofs.Prelude.{◌≡◌, ℕ, zero, suc, ◌+◌, ◌<◌, Bool, true, ◌&&◌, List, [], ◌∷◌, ◌++◌, length, map, flat_map, replicate, sum_by, Option, None, Some, is_some, refl, sym, ap, ap₂, ◌∙◌, arith, eq-eqb, ◌%◌, length-map, nil_from_length, get, entries, keys, Sizes, child_block_sizes, value_block_sizes, child_count, own_entries, packed_block, packed_slots, packed_node_slots, packed_cell_slots, IsPacked, Nodes, has_node, is_node_depth, State, and-first, Node, rank, bits, blank_node, node_sizes, cell_sizes, HasSizes, path_of, read, times, own_count, child_items, child_blocks, child_blocks_of, value_blocks, value_blocks_of, Holds, NodesHold, IsPackedNode, NoneFree, AreSizesBy, Sized, own_children, child_block_size, value_block_size, IsShapeOf, Store, Tier, UsedBlock, Sound, of_size, free_extents, tier_at, tier_sizes, size_in, size_if_any, free_counts}
 use Rattle.prefix_trie_table.proofs.Blocks.BySize.{free_at, node_sized, cell_sized}
-use Rattle.prefix_trie_table.specs.Digits.{path_of}
-use Rattle.prefix_trie_table.specs.Forest.{read, times, own_count, held, size_in, child_items, child_blocks, child_blocks_of, value_blocks, value_blocks_of, Holds, NodesHold}
-use Rattle.prefix_trie_table.specs.HandingOut.Laid.{IsPackedNode}
-use Rattle.prefix_trie_table.specs.HandingOut.Laying.{NoneFree}
-use Rattle.prefix_trie_table.specs.Layouts.{AreSizesBy, Sized, own_children, child_block_size, value_block_size}
-use Rattle.prefix_trie_table.specs.Shape.{IsShapeOf}
-use Rattle.prefix_trie_table.specs.Store.{Store, Tier, UsedBlock, Sound, of_size, free_extents, tier_at, tier_sizes, size_in, size_if_any, free_counts}
+use Rattle.prefix_trie_table.specs.Forest.{held, size_in}
 use Rattle.prefix_trie_table.proofs.Blocks.Housed.{child_blocks_housed, value_blocks_housed}
 use Rattle.prefix_trie_table.proofs.Blocks.Sizing.{storage_of}
 use Rattle.prefix_trie_table.proofs.Blocks.SlotSums.{sum_by-mapped}

@@ -1,17 +1,6 @@
 -- Values put into the vacant cells of blocks that are laid.
-use Rattle.std.proofs.Common.{◌≡◌, ℕ, Bool, true, cond, List, [], ◌∷◌, set, flat_map, Option, None, Some, refl, sym, ap, ◌∙◌, subst}
-use Rattle.std.proofs.lemmas.Bool.{false≢true}
-use Rattle.std.proofs.lemmas.List.Elements.{All-head, All-tail}
+use Rattle.prefix_trie_table.proofs.Prelude.{◌≡◌, ℕ, Bool, true, cond, List, [], ◌∷◌, set, flat_map, Option, None, Some, refl, sym, ap, ◌∙◌, subst, false≢true, All-head, All-tail, Node, Seat, node_sizes, cell_sizes, path_of, bit_of, has_value, with_value, NodesHold, value_blocks, value_seat, seat_in, seat_of, filled_with, with_cell, Store, Sound}
 use Rattle.std.specs.List.{All}
-use Rattle.prefix_trie_table.specs.declared.allocator.node.Node.{Node}
-use Rattle.prefix_trie_table.specs.declared.table.seat.Seat.{Seat}
-use Rattle.prefix_trie_table.specs.Cells.{node_sizes, cell_sizes}
-use Rattle.prefix_trie_table.specs.Digits.{path_of, bit_of}
-use Rattle.prefix_trie_table.specs.Forest.{has_value, with_value, NodesHold, value_blocks}
-use Rattle.prefix_trie_table.specs.Locations.{value_seat, seat_in, seat_of}
-use Rattle.prefix_trie_table.specs.HandingOut.Moving.{filled_with}
-use Rattle.prefix_trie_table.specs.Slots.{with_cell}
-use Rattle.prefix_trie_table.specs.Store.{Store, Sound}
 use Rattle.prefix_trie_table.proofs.Lookup.Locating.{seat_reads}
 use Rattle.prefix_trie_table.proofs.Tree.Values.{value_put}
 

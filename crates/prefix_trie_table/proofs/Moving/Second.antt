@@ -1,29 +1,7 @@
 -- A second table whose blocks are laid is a table once all values have come.
-use Rattle.std.proofs.Common.{◌≡◌, ℕ, ◌/◌, ◌%◌, ◌<◌, inl, inr, Bool, true, false, cond, ◌&&◌, List, [], ◌∷◌, ◌++◌, length, Option, None, Some, is_some, refl, sym, ap, ap₂, ◌∙◌, subst, arith, eqb-true, eq-eqb}
-use Rattle.std.proofs.lemmas.Bool.{false≢true, cases_Bool}
-use Rattle.std.proofs.lemmas.List.{take_at}
-use Rattle.std.proofs.lemmas.List.Elements.{All-weaker, All-contains_itself}
+use Rattle.prefix_trie_table.proofs.Prelude.{◌≡◌, ℕ, ◌/◌, ◌%◌, ◌<◌, inl, inr, Bool, true, false, cond, ◌&&◌, List, [], ◌∷◌, ◌++◌, length, Option, None, Some, is_some, refl, sym, ap, ap₂, ◌∙◌, subst, arith, eqb-true, eq-eqb, false≢true, cases_Bool, take_at, All-weaker, All-contains_itself, get, contains_key, len, entries, entries_sorted, get-entries, begins, same_bool, value_bit, AreWithin, part_below, has_node, is_node_depth, needed, State, and-first, and-second, and-join, get-part_below, needed_for, needs_root, AreNodes-needed, find-from_Contains, Node, node_sizes, path_of, bit_of, read, times, one_if, is_start, has_value, NodesHold, Holds, no_value, filled_with, handed, IsShapeOf, IsSkeleton, IsSecond, Store, tier_sizes, IsTrie}
 use Rattle.std.specs.List.{All, Contains}
-use Rattle.std.specs.FinMap.{get, contains_key, len, entries, entries_sorted, get-entries}
-use Rattle.prefix_trie_bits.specs.Bits.{begins}
-use Rattle.prefix_trie_bits.specs.Begins.{same_bool}
-use Rattle.prefix_trie_bits.specs.Places.{value_bit}
-use Rattle.prefix_trie_bits.specs.Model.Entries.{AreWithin, part_below}
-use Rattle.prefix_trie_bits.specs.Model.Nodes.{has_node, is_node_depth, needed}
-use Rattle.prefix_trie_bits.specs.Model.Step.{State}
-use Rattle.prefix_trie_bits.proofs.Model.Members.{and-first, and-second, and-join, get-part_below, needed_for, needs, needs_root}
-use Rattle.prefix_trie_bits.proofs.Model.NodeSets.{AreNodes-needed}
-use Rattle.prefix_trie_bits.proofs.Model.Ordered.{find-from_Contains}
-use Rattle.prefix_trie_table.specs.declared.allocator.node.Node.{Node}
-use Rattle.prefix_trie_table.specs.Cells.{node_sizes}
-use Rattle.prefix_trie_table.specs.Digits.{path_of, bit_of}
-use Rattle.prefix_trie_table.specs.Forest.{read, times, one_if, is_start, has_value, NodesHold, Holds}
-use Rattle.prefix_trie_table.specs.HandingOut.Laid.{no_value}
-use Rattle.prefix_trie_table.specs.HandingOut.Moving.{filled_with, handed}
-use Rattle.prefix_trie_table.specs.Shape.{IsShapeOf}
-use Rattle.prefix_trie_table.specs.HandingOut.Skeleton.{IsSkeleton, IsSecond}
-use Rattle.prefix_trie_table.specs.Store.{Store, tier_sizes}
-use Rattle.prefix_trie_table.specs.Tables.{IsTrie}
+use Rattle.prefix_trie_bits.proofs.Model.Members.{needs}
 use Rattle.prefix_trie_table.proofs.Lookup.Finding.{prefix_some}
 use Rattle.prefix_trie_table.proofs.Moving.Coming.{long_cells}
 use Rattle.prefix_trie_table.proofs.Moving.Counting.{values_all}

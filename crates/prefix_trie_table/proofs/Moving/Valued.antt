@@ -1,19 +1,7 @@
 -- The values of a second table once all have come, by string.
-use Rattle.std.proofs.Common.{◌≡◌, ℕ, Bool, true, false, cond, T as IsT, List, [], ◌∷◌, ◌++◌, Option, None, Some, refl, sym, ap, ap₂, ◌∙◌}
-use Rattle.std.proofs.lemmas.Bool.{false≢true}
-use Rattle.std.proofs.lemmas.List.Elements.{All-head, All-tail}
+use Rattle.prefix_trie_table.proofs.Prelude.{◌≡◌, ℕ, Bool, true, false, cond, List, [], ◌∷◌, ◌++◌, Option, None, Some, refl, sym, ap, ap₂, ◌∙◌, false≢true, All-head, All-tail, get, entries, entries_sorted, get-entries, is_sorted, find, listing_cmp, same_string, Entries, same_string-is, sorted-head, sorted-tail, each-behind, not_itself, Node, node_sizes, path_of, bit_of, same_path, has_value, with_value, NodesHold, no_value, Store}
+use Rattle.std.proofs.Common.{T as IsT}
 use Rattle.std.specs.List.{All}
-use Rattle.std.specs.FinMap.{get, entries, entries_sorted, get-entries, is_sorted, find}
-use Rattle.prefix_trie_bits.specs.Order.{listing_cmp, same_string}
-use Rattle.prefix_trie_bits.specs.Model.Entries.{Entries}
-use Rattle.prefix_trie_bits.proofs.Model.Members.{same_string-is}
-use Rattle.prefix_trie_bits.proofs.Model.Ordered.{sorted-head, sorted-tail, each-behind, not_itself}
-use Rattle.prefix_trie_table.specs.declared.allocator.node.Node.{Node}
-use Rattle.prefix_trie_table.specs.Cells.{node_sizes}
-use Rattle.prefix_trie_table.specs.Digits.{path_of, bit_of}
-use Rattle.prefix_trie_table.specs.Forest.{same_path, has_value, with_value, NodesHold}
-use Rattle.prefix_trie_table.specs.HandingOut.Laid.{no_value}
-use Rattle.prefix_trie_table.specs.Store.{Store}
 use Rattle.prefix_trie_table.proofs.Moving.Putting.{with_values, HasPlace}
 use Rattle.prefix_trie_table.proofs.Strings.Keys.{same_key}
 use Rattle.prefix_trie_table.proofs.Strings.Paths.{same_path-true, snoc_inj}

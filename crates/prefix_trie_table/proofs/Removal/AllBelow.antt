@@ -1,32 +1,7 @@
 -- What is left of a table where a test said no at each entry below a bit string.
-use Rattle.std.proofs.Common.{◌≡◌, ◌↔◌, ℕ, ◌+◌, ◌*◌, ◌/◌, ◌<◌, ◌≤◌, Bool, true, false, cond, not, ◌&&◌, ◌||◌, ◌==◌, nat_lt, List, [], ◌∷◌, ◌++◌, length, take, drop, Option, None, Some, is_some, refl, sym, ap, ap₂, ◌∙◌, subst, arith, inl, inr, bit_and, append-nil, append_assoc, length-append, length-drop}
+use Rattle.prefix_trie_table.proofs.Prelude.{◌≡◌, ◌↔◌, ℕ, ◌+◌, ◌*◌, ◌/◌, ◌<◌, ◌≤◌, Bool, true, false, cond, not, ◌&&◌, ◌||◌, ◌==◌, nat_lt, List, [], ◌∷◌, ◌++◌, length, take, drop, Option, None, Some, is_some, refl, sym, ap, ap₂, ◌∙◌, subst, arith, inl, inr, bit_and, append-nil, append_assoc, length-append, length-drop, false≢true, cases_Bool, cases_lt, le-ltb, append_cancel_left, All-weaker, All-contains_itself, list_any_at, get, find, get-entries, begins, number, digits, digits-number, begins-refl, begins-length, begins-linear, begins-longer, begins-rest, begins-from-rest, begins-same-length, begins-trans, listing_cmp, same_string, HoldsValues, HoldsChildren, is_in, AsksInOrder, Entries, part_below, without_entry, without_below, Nodes, has_node, home, is_node_depth, pruned, nodes_not_below, nodes_without, nodes_without_below, pair_of, listing_at_place, listing_at_places, listing_below, State, is_in-and, home-begins, home-depth, home-length, or-cases, and-join, and-second, same_string-is, is-same_string, has-retained, get-part_below, get-without_entry, get-without_below, same_entries, same_members, entries-retained, Node, path_of, read, below, Store, is_at, is_at_some, is_under, is_under_some, Retains, IsTrie}
 use Rattle.std.specs.List.{All, Contains}
-use Rattle.std.proofs.lemmas.Bool.{false≢true, cases_Bool, cases_lt, lt-ltb, le-ltb}
-use Rattle.std.proofs.lemmas.List.{append_cancel_left}
-use Rattle.std.proofs.lemmas.List.Elements.{All-weaker, All-contains_itself}
-use Rattle.std.proofs.lemmas.List.Folds.{list_any_at}
-use Rattle.std.specs.FinMap.{get, find, get-entries}
-use Rattle.prefix_trie_bits.specs.Bits.{begins, number, digits}
-use Rattle.prefix_trie_bits.specs.BitStrings.{digits-number}
-use Rattle.prefix_trie_bits.specs.Begins.{begins-refl, begins-length, begins-linear, begins-longer, begins-rest, begins-from-rest, begins-same-length, begins-trans}
-use Rattle.prefix_trie_bits.specs.Order.{listing_cmp, same_string}
-use Rattle.prefix_trie_bits.specs.Places.{HoldsValues, HoldsChildren, is_in}
-use Rattle.prefix_trie_bits.specs.Model.Asking.{AsksInOrder}
-use Rattle.prefix_trie_bits.specs.Model.Entries.{Entries, part_below, without_entry, without_below}
-use Rattle.prefix_trie_bits.specs.Model.Nodes.{Nodes, has_node, home, is_node_depth, pruned, nodes_not_below, nodes_without, nodes_without_below}
-use Rattle.prefix_trie_bits.specs.Model.NodeListings.{pair_of, listing_at_place, listing_at_places}
-use Rattle.prefix_trie_bits.specs.Model.Selections.{listing_below}
-use Rattle.prefix_trie_bits.specs.Model.Step.{State}
-use Rattle.prefix_trie_bits.proofs.Selecting.{is_in-and}
-use Rattle.prefix_trie_bits.proofs.Model.Homes.{home-begins, home-depth, home-length}
-use Rattle.prefix_trie_bits.proofs.Model.Members.{or-cases, and-join, and-second, same_string-is, is-same_string, has-retained, get-part_below, get-without_entry, get-without_below, same_entries, same_members}
-use Rattle.prefix_trie_bits.proofs.Model.Ordered.{entries-retained}
-use Rattle.prefix_trie_table.specs.declared.allocator.node.Node.{Node}
-use Rattle.prefix_trie_table.specs.Digits.{path_of}
-use Rattle.prefix_trie_table.specs.Forest.{read, below}
-use Rattle.prefix_trie_table.specs.Store.{Store}
-use Rattle.prefix_trie_table.specs.Retaining.{is_at, is_at_some, is_under, is_under_some, Retains}
-use Rattle.prefix_trie_table.specs.Tables.{IsTrie}
+use Rattle.std.proofs.lemmas.Bool.{lt-ltb}
 use Rattle.prefix_trie_table.proofs.Strings.Plain.{fifth_more, no_or_yes, whole_more}
 use Rattle.prefix_trie_table.proofs.Retain.Asked.{at_value, at_child, under_child, under_at_some, at_goes_on, at_some_one, five_further}
 use Rattle.prefix_trie_table.proofs.Strings.Bits.{has_bit-is}

@@ -1,16 +1,6 @@
 -- What several removals do to the size of a block.
-use Rattle.std.proofs.Common.{◌≡◌, ◌≢◌, ℕ, ◌<◌, ◌≤◌, ◌⊎◌, inl, inr, List, [], ◌∷◌, ◌++◌, Option, None, Some, refl, sym, ap, ◌∙◌, subst, arith}
-use Rattle.std.proofs.lemmas.Bool.{cases_lt}
+use Rattle.prefix_trie_table.proofs.Prelude.{◌≡◌, ◌≢◌, ℕ, ◌<◌, ◌≤◌, ◌⊎◌, inl, inr, List, [], ◌∷◌, ◌++◌, Option, None, Some, refl, sym, ap, ◌∙◌, subst, arith, cases_lt, StepsBetween, smallest_size, Node, node_sizes, cell_sizes, with_node, lacking_child, own_count, own_children, child_block_size, value_block_size, ValueTaken, ChildDropped, IsBare, PrunedTo, BlocksBetween, Stays, Store, free_counts, Grows}
 use Rattle.std.specs.List.{Contains}
-use Rattle.prefix_trie_bits.specs.Model.Blocks.{StepsBetween, smallest_size}
-use Rattle.prefix_trie_table.specs.declared.allocator.node.Node.{Node}
-use Rattle.prefix_trie_table.specs.Cells.{node_sizes, cell_sizes}
-use Rattle.prefix_trie_table.specs.Forest.{with_node, lacking_child, own_count}
-use Rattle.prefix_trie_table.specs.Layouts.{own_children, child_block_size, value_block_size}
-use Rattle.prefix_trie_table.specs.Removals.{ValueTaken, ChildDropped, IsBare, PrunedTo}
-use Rattle.prefix_trie_table.specs.Retaining.{BlocksBetween, Stays}
-use Rattle.prefix_trie_table.specs.Store.{Store, free_counts}
-use Rattle.prefix_trie_table.specs.Tables.{Grows}
 use Rattle.prefix_trie_table.proofs.Blocks.Turnovers.{made_then}
 use Rattle.prefix_trie_table.proofs.Strings.Plain.{some_same}
 use Rattle.prefix_trie_table.proofs.Tree.Children.{same_or, with_here, with_other, changed_below, changed_here, changed_other}

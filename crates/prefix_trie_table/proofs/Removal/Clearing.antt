@@ -1,9 +1,5 @@
 -- A table from which all was taken out.
-use Rattle.std.proofs.Common.{◌≡◌, ℕ, ◌<◌, List, [], ◌∷◌, length, map, Option, refl, ap, ◌∙◌}
-use Rattle.prefix_trie_table.specs.declared.allocator.node.Node.{Node}
-use Rattle.prefix_trie_table.specs.Cells.{node_sizes, cell_sizes}
-use Rattle.prefix_trie_table.specs.Store.{Store, Tier, no_blocks, tier_sizes}
-use Rattle.prefix_trie_table.specs.Forest.{SomeTable, at_root}
+use Rattle.prefix_trie_table.proofs.Prelude.{◌≡◌, ℕ, ◌<◌, List, [], ◌∷◌, length, map, Option, refl, ap, ◌∙◌, Node, node_sizes, cell_sizes, Store, Tier, no_blocks, tier_sizes, SomeTable, at_root}
 use Rattle.prefix_trie_table.proofs.Tree.Trees.{slot_holds}
 
 all_sizes : (ts : List Tier) → map (λ t. no_blocks t.size) ts ≡ map no_blocks (tier_sizes ts)

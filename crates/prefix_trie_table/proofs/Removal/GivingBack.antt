@@ -1,9 +1,6 @@
 -- What calls that take entries out give back: a node written after them, and one after the other.
-use Rattle.std.proofs.Common.{◌≡◌, ℕ, set, refl, sym, ◌∙◌, subst, arith}
+use Rattle.prefix_trie_table.proofs.Prelude.{◌≡◌, ℕ, set, refl, sym, ◌∙◌, subst, arith, Store, GivesBack, Grows}
 use Rattle.std.proofs.lemmas.List.{length-set}
-use Rattle.prefix_trie_table.specs.Store.{Store}
-use Rattle.prefix_trie_table.specs.Removals.{GivesBack}
-use Rattle.prefix_trie_table.specs.Tables.{Grows}
 
 -- a node written leaves the room and the free blocks
 pub gives_written : {S : Type 0} (v w x : Store S) (slot : ℕ) (m : S) → GivesBack v w → x ≡ record w { slots = set w.slots slot m } → GivesBack v x

@@ -1,24 +1,7 @@
 -- What the calls that take a value or a child out leave of the arrays.
-use Rattle.std.proofs.Common.{◌≡◌, ℕ, zero, suc, ◌+◌, ◌-◌, ◌<◌, ◌≤◌, true, List, [], ◌∷◌, ◌++◌, length, set, remove, map, flat_map, Option, None, Some, refl, sym, ap, ◌∙◌, subst, arith}
-use Rattle.std.specs.Prelude.{Contains}
+use Rattle.prefix_trie_table.proofs.Prelude.{◌≡◌, ℕ, zero, suc, ◌+◌, ◌-◌, ◌<◌, ◌≤◌, true, List, [], ◌∷◌, ◌++◌, length, set, remove, map, flat_map, Option, None, Some, refl, sym, ap, ◌∙◌, subst, arith, Contains, same_Some, none-some, Sets, StepsDown, LongerByOne, made_of, goes_up, has_some, sizes_to, Node, BlockRef, has_bit, bits, rank, blank_node, node_at, node_sizes, cell_sizes, Store, UsedBlock, Sound, block, held, HasList, Keeps, Turnover, tier_at, tier_sizes, size_in, size_if_any, list_size, free_counts, made_in, without, child_items, child_blocks, IsSlot, NodesHold, CellsHold, value_blocks, with_node, lacking_child, node_or_blank, LosesOne, SameChildren, SameValues, Lessens, MakesEntered, ValueTaken, ChildDropped, GivesBack, headroom_if_any, child_headroom, Grows}
 use Rattle.std.proofs.lemmas.List.{length-set}
-use Rattle.std.proofs.lemmas.Option.{same_Some, none-some}
-use Rattle.prefix_trie_bits.specs.Places.{Sets}
-use Rattle.prefix_trie_bits.specs.Model.Blocks.{StepsDown, LongerByOne, made_of}
-use Rattle.prefix_trie_bits.proofs.Model.Storage.Readied.{goes_up}
-use Rattle.prefix_trie_bits.proofs.Model.Storage.Shrinking.{has_some}
-use Rattle.prefix_trie_bits.proofs.Model.Storage.Slots.{sizes_to}
-use Rattle.prefix_trie_table.specs.declared.allocator.node.Node.{Node}
-use Rattle.prefix_trie_table.specs.declared.allocator.blocks.BlockRef.{BlockRef}
-use Rattle.prefix_trie_table.specs.Bitmaps.{has_bit, bits, rank}
-use Rattle.prefix_trie_table.specs.Cells.{blank_node, node_at, node_sizes, cell_sizes}
 use Rattle.prefix_trie_table.specs.OwnBlocks.{child_block_size, value_block_size}
-use Rattle.prefix_trie_table.specs.Store.{Store, UsedBlock, Sound, block, held, HasList, Keeps, Turnover, tier_at, tier_sizes, size_in, size_if_any, list_size, free_counts, made_in}
-use Rattle.prefix_trie_table.specs.Forest.{without, child_items, child_blocks, IsSlot, NodesHold, CellsHold, value_blocks, with_node, lacking_child, node_or_blank}
-use Rattle.prefix_trie_table.specs.Losing.{LosesOne}
-use Rattle.prefix_trie_table.specs.Removals.{SameChildren, SameValues, Lessens, MakesEntered, ValueTaken, ChildDropped, GivesBack}
-use Rattle.prefix_trie_table.specs.Settling.{headroom_if_any, child_headroom}
-use Rattle.prefix_trie_table.specs.Tables.{Grows}
 use Rattle.prefix_trie_table.proofs.Strings.Bare.{no_bit, cleared, others_stay, one_fewer}
 use Rattle.prefix_trie_table.proofs.Strings.BitLists.{rank-all}
 use Rattle.prefix_trie_table.proofs.Tree.Children.{child_removed, node_changed}

@@ -1,22 +1,8 @@
 -- A list that has lost items, by the sizes of its blocks.
-use Rattle.std.proofs.Common.{◌≡◌, ℕ, ◌+◌, ◌-◌, ◌<◌, ◌≤◌, ◌⊎◌, inl, inr, Bool, true, not, ◌||◌, nat_lt, nat_le, List, length, Option, None, Some, refl, sym, ap, ◌∙◌, subst, arith}
-use Rattle.std.specs.Prelude.{Contains}
-use Rattle.std.proofs.lemmas.Bool.{true≢false, cases_eq, cases_lt, lt-ltb, leb-true}
-use Rattle.std.proofs.lemmas.List.{get_or_default}
-use Rattle.std.proofs.lemmas.Option.{same_Some, none-some}
-use Rattle.prefix_trie_bits.proofs.Checks.{below, at_below}
-use Rattle.prefix_trie_bits.specs.Model.Blocks.{HasBlock, StepsDown, StepsBetween, LongerByOne, free_of, made_of, one_of, smallest_size}
-use Rattle.prefix_trie_bits.proofs.Model.Members.{or-cases}
-use Rattle.prefix_trie_bits.proofs.Model.Storage.Readied.{goes_up}
-use Rattle.prefix_trie_bits.proofs.Model.Storage.Shrinking.{Holds, has_cases, smallest_of}
-use Rattle.prefix_trie_bits.proofs.Model.Storage.Slots.{sizes_to, shrinks_few}
-use Rattle.prefix_trie_table.specs.declared.allocator.node.Node.{Node}
-use Rattle.prefix_trie_table.specs.Cells.{node_sizes, cell_sizes}
-use Rattle.prefix_trie_table.specs.Forest.{own_count}
-use Rattle.prefix_trie_table.specs.Layouts.{own_children, child_block_size, value_block_size}
-use Rattle.prefix_trie_table.specs.Removals.{Lessens, GivesBack}
-use Rattle.prefix_trie_table.specs.Settling.{headroom, headroom_if_any}
-use Rattle.prefix_trie_table.specs.Store.{Store, Turnover, tier_sizes, size_in, size_if_any, free_counts, many_of}
+use Rattle.prefix_trie_table.proofs.Prelude.{◌≡◌, ℕ, ◌+◌, ◌-◌, ◌<◌, ◌≤◌, ◌⊎◌, inl, inr, Bool, true, not, ◌||◌, nat_lt, nat_le, List, length, Option, None, Some, refl, sym, ap, ◌∙◌, subst, arith, Contains, cases_eq, cases_lt, get_or_default, same_Some, none-some, at_below, HasBlock, StepsDown, StepsBetween, LongerByOne, free_of, made_of, one_of, smallest_size, or-cases, goes_up, has_cases, smallest_of, sizes_to, shrinks_few, Node, node_sizes, cell_sizes, own_count, own_children, child_block_size, value_block_size, Lessens, GivesBack, headroom, headroom_if_any, Store, Turnover, tier_sizes, size_in, size_if_any, free_counts, many_of}
+use Rattle.std.proofs.lemmas.Bool.{true≢false, lt-ltb, leb-true}
+use Rattle.prefix_trie_bits.proofs.Checks.{below}
+use Rattle.prefix_trie_bits.proofs.Model.Storage.Shrinking.{Holds}
 use Rattle.prefix_trie_table.proofs.Blocks.BySize.{slots_of-same, slots_of-many, many-none}
 use Rattle.prefix_trie_table.proofs.Blocks.Losing.{none_made, same_made, one_made}
 use Rattle.prefix_trie_table.proofs.Blocks.Turnovers.{room_turned}

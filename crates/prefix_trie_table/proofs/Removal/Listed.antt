@@ -1,21 +1,6 @@
 -- The places of a node that two masks leave list what is below a bit string.
-use Rattle.std.proofs.Common.{◌≡◌, ◌↔◌, ℕ, ◌+◌, ◌<◌, ◌≤◌, Bool, true, false, ◌&&◌, List, [], ◌++◌, length, filter, Option, Some, None, is_some, refl, sym, ap, ◌∙◌, arith, bit_and, length-append}
+use Rattle.prefix_trie_table.proofs.Prelude.{◌≡◌, ◌↔◌, ℕ, ◌+◌, ◌<◌, ◌≤◌, Bool, true, false, ◌&&◌, List, [], ◌++◌, length, filter, Option, Some, None, is_some, refl, sym, ap, ◌∙◌, arith, bit_and, length-append, false≢true, begins, HoldsValues, HoldsChildren, is_in, places, home, listing_at_places, listing, listing_below, State, home-depth, home-length, listing_below_none, Node, Below, path_of, read, Store, IsTrie}
 use Rattle.std.specs.List.{Contains}
-use Rattle.std.proofs.lemmas.Bool.{false≢true}
-use Rattle.prefix_trie_bits.specs.Bits.{begins}
-use Rattle.prefix_trie_bits.specs.Places.{HoldsValues, HoldsChildren, is_in, places}
-use Rattle.prefix_trie_bits.specs.Model.Nodes.{home}
-use Rattle.prefix_trie_bits.specs.Model.NodeListings.{listing_at_places}
-use Rattle.prefix_trie_bits.specs.Model.Selections.{listing, listing_below}
-use Rattle.prefix_trie_bits.specs.Model.Step.{State}
-use Rattle.prefix_trie_bits.proofs.Model.Homes.{home-depth, home-length}
-use Rattle.prefix_trie_bits.proofs.Model.NodeListings.{listing_below_none}
-use Rattle.prefix_trie_table.specs.declared.allocator.node.Node.{Node}
-use Rattle.prefix_trie_table.specs.declared.table.cursor.Start.TheVariants.{Below}
-use Rattle.prefix_trie_table.specs.Digits.{path_of}
-use Rattle.prefix_trie_table.specs.Forest.{read}
-use Rattle.prefix_trie_table.specs.Store.{Store}
-use Rattle.prefix_trie_table.specs.Tables.{IsTrie}
 use Rattle.prefix_trie_table.proofs.Strings.Plain.{no_or_yes}
 use Rattle.prefix_trie_table.proofs.Removal.AllBelow.{below_none, home_near, home_goes_on, in_both}
 use Rattle.prefix_trie_table.proofs.Tree.Subtrees.{nothing_below, unset}

@@ -1,28 +1,6 @@
 -- What contracts see of a removal that prunes: the nodes left are those of the model.
-use Rattle.std.proofs.Common.{◌≡◌, ℕ, ◌+◌, ◌*◌, ◌/◌, ◌%◌, ◌≤◌, ◌⊎◌, inl, inr, Bool, true, false, cond, not, ◌&&◌, ◌||◌, List, [], ◌∷◌, ◌++◌, length, take, Option, None, Some, is_some, refl, sym, ap, ap₂, ◌∙◌, subst, arith, eqb-true, eq-eqb, length-append}
-use Rattle.std.proofs.lemmas.Bool.{false≢true, cases_Bool, cases_lt, true_from_ne_false, false_from_ne_true}
-use Rattle.std.proofs.lemmas.List.{nil_from_length, take_at, take_all, take-take, length-take-le}
-use Rattle.std.specs.FinMap.{contains_key, retain_keys}
-use Rattle.prefix_trie_bits.specs.Begins.{begins-trans}
-use Rattle.prefix_trie_bits.specs.Bits.{begins, digits}
-use Rattle.prefix_trie_bits.specs.BitStrings.{length-digits}
-use Rattle.prefix_trie_bits.specs.Laws.Pruning.{IsTakenOut, PruningLaws}
-use Rattle.prefix_trie_bits.specs.Model.Entries.{without_entry}
-use Rattle.prefix_trie_bits.specs.Model.Nodes.{has_node, is_node_depth, home, is_pruned, nodes_without}
-use Rattle.prefix_trie_bits.specs.Model.Step.{State}
-use Rattle.prefix_trie_bits.specs.Places.{value_bit}
-use Rattle.prefix_trie_bits.proofs.Model.Homes.{home-begins, home-depth, home-longest}
-use Rattle.prefix_trie_bits.proofs.Model.Members.{and-first, and-second, and-join}
-use Rattle.prefix_trie_bits.proofs.Model.Pruning.{pruning_laws}
-use Rattle.prefix_trie_table.specs.declared.allocator.node.Node.{Node}
-use Rattle.prefix_trie_table.specs.Bitmaps.{has_bit}
-use Rattle.prefix_trie_table.specs.Cells.{node_sizes}
-use Rattle.prefix_trie_table.specs.Digits.{path_of, bit_of}
-use Rattle.prefix_trie_table.specs.Store.{Store}
-use Rattle.prefix_trie_table.specs.Forest.{is_start, same_path, one_if, entry_count, SomeTable, Holds, has_child, has_value, with_value}
-use Rattle.prefix_trie_table.specs.Removals.{EntryTaken, Pruned, EntryRemoved}
-use Rattle.prefix_trie_table.specs.Shape.{IsShapeOf, Shaped}
-use Rattle.prefix_trie_table.specs.Tables.{IsTable, ForHeld}
+use Rattle.prefix_trie_table.proofs.Prelude.{◌≡◌, ℕ, ◌+◌, ◌*◌, ◌/◌, ◌%◌, ◌≤◌, ◌⊎◌, inl, inr, Bool, true, false, cond, not, ◌&&◌, ◌||◌, List, [], ◌∷◌, ◌++◌, length, take, Option, None, Some, is_some, refl, sym, ap, ap₂, ◌∙◌, subst, arith, eqb-true, eq-eqb, length-append, false≢true, cases_Bool, cases_lt, true_from_ne_false, false_from_ne_true, nil_from_length, take_at, take-take, contains_key, retain_keys, begins-trans, begins, digits, length-digits, IsTakenOut, PruningLaws, without_entry, has_node, is_node_depth, home, is_pruned, nodes_without, State, value_bit, home-begins, home-depth, home-longest, and-first, and-second, and-join, pruning_laws, Node, has_bit, node_sizes, path_of, bit_of, Store, is_start, same_path, one_if, entry_count, SomeTable, Holds, has_child, has_value, with_value, EntryTaken, Pruned, EntryRemoved, IsShapeOf, Shaped, IsTable, ForHeld}
+use Rattle.std.proofs.lemmas.List.{take_all, length-take-le}
 use Rattle.prefix_trie_table.proofs.Strings.Plain.{fifths}
 use Rattle.prefix_trie_table.proofs.Tree.Invariant.{some_table}
 use Rattle.prefix_trie_table.proofs.Strings.Bare.{some_bit}

@@ -1,24 +1,7 @@
 -- An entry taken out, and what contracts see of it.
-use Rattle.std.proofs.Common.{◌≡◌, ◌≢◌, ℕ, ◌+◌, ◌-◌, ◌*◌, ◌/◌, ◌<◌, ◌⊎◌, inl, inr, Bool, true, false, cond, ◌&&◌, List, [], ◌∷◌, ◌++◌, take, drop, Option, None, Some, is_some, refl, sym, ap, ap₂, ◌∙◌, subst, arith}
-use Rattle.std.proofs.lemmas.Bool.{false≢true}
+use Rattle.prefix_trie_table.proofs.Prelude.{◌≡◌, ◌≢◌, ℕ, ◌+◌, ◌-◌, ◌*◌, ◌/◌, ◌<◌, ◌⊎◌, inl, inr, Bool, true, false, cond, ◌&&◌, List, [], ◌∷◌, ◌++◌, take, drop, Option, None, Some, is_some, refl, sym, ap, ap₂, ◌∙◌, subst, arith, false≢true, get, len, len-remove, listing_total, without_entry, is_node_depth, State, get-without_entry, value_bit, Node, has_bit, rank, cell_sizes, path_of, bit_of, Store, one_if, Holds, IsSlot, at_root, at_child, child_slot, node_or_blank, own_count, has_value, with_node, with_value, SomeTable, entry_count, Lessens, SameChildren, ValueTaken, EntryTaken, MakesEntered, IsShapeOf, Shaped, same_shape, IsReached, IsTable, Grows, ForHeld}
 use Rattle.std.proofs.lemmas.List.{take_all}
-use Rattle.std.specs.FinMap.{get, len, len-remove}
-use Rattle.prefix_trie_bits.specs.Order.{listing_total}
-use Rattle.prefix_trie_bits.specs.Model.Entries.{without_entry}
-use Rattle.prefix_trie_bits.specs.Model.Nodes.{is_node_depth}
-use Rattle.prefix_trie_bits.specs.Model.Step.{State}
-use Rattle.prefix_trie_bits.proofs.Model.Members.{get-without_entry}
-use Rattle.prefix_trie_bits.specs.Places.{value_bit}
-use Rattle.prefix_trie_table.specs.declared.allocator.node.Node.{Node}
-use Rattle.prefix_trie_table.specs.Bitmaps.{has_bit, rank}
-use Rattle.prefix_trie_table.specs.Cells.{cell_sizes}
-use Rattle.prefix_trie_table.specs.Digits.{path_of, bit_of}
-use Rattle.prefix_trie_table.specs.Store.{Store}
-use Rattle.prefix_trie_table.specs.Forest.{one_if, Holds, IsSlot, at_root, at_child, child_slot, node_or_blank, own_count, has_value, with_node, with_value, SomeTable, entry_count}
-use Rattle.prefix_trie_table.specs.Removals.{Lessens, SameChildren, ValueTaken, EntryTaken, MakesEntered}
 use Rattle.prefix_trie_table.specs.OwnBlocks.{value_block_size}
-use Rattle.prefix_trie_table.specs.Shape.{IsShapeOf, Shaped, same_shape}
-use Rattle.prefix_trie_table.specs.Tables.{IsReached, IsTable, Grows, ForHeld}
 use Rattle.prefix_trie_table.proofs.Removal.Lessening.{lessens_none, values_none}
 use Rattle.prefix_trie_table.proofs.Tree.Invariant.{some_table}
 use Rattle.prefix_trie_table.proofs.Tree.Children.{same_or, with_here, with_other}

@@ -1,31 +1,7 @@
 -- What is left of a table once all that a bit string begins is taken out.
-use Rattle.std.proofs.Common.{◌≡◌, ◌↔◌, ℕ, ◌+◌, ◌*◌, ◌/◌, ◌≤◌, Bool, true, false, not, ◌||◌, List, [], ◌∷◌, ◌++◌, cond, length, take, drop, Option, None, Some, is_some, refl, sym, ap, ◌∙◌, subst, arith, inl, inr, bit_and}
-use Rattle.std.proofs.lemmas.List.{take_all, take-take, take-append-drop, length-take-le}
+use Rattle.prefix_trie_table.proofs.Prelude.{◌≡◌, ◌↔◌, ℕ, ◌+◌, ◌*◌, ◌/◌, ◌≤◌, Bool, true, false, not, ◌||◌, List, [], ◌∷◌, ◌++◌, cond, length, take, drop, Option, None, Some, is_some, refl, sym, ap, ◌∙◌, subst, arith, inl, inr, bit_and, take-take, get, get-empty, begins, same_string, HoldsValues, HoldsChildren, is_in, places, PruningLaws, MayAskInOrder, Entries, AreWithin, no_entries, without_entry, without_below, Nodes, AreNodes, has_node, home, pruned, root_alone, nodes_not_below, nodes_without, nodes_without_below, listing_at_places, listing_below, State, and-first, and-second, get-without_below, has-retained, has-root_alone, same_entries, same_nodes, same_string-is, begins-nil, pruning_laws, removed_fewer, Node, NodeSlot, node_sizes, path_of, bit_of, Store, read, Holds, NodesHold, IsSlot, EntryTaken, EntryRemoved, Pruned, IsWay, StandsAtEnd, slot_in, NodesSettle, Contents, state, Shaped, ForHeld, Grows, IsReached, IsTable, IsTrie, BlocksBetween, IsSite, Lasts, Retains, RetainsTo}
+use Rattle.std.proofs.lemmas.List.{take_all, take-append-drop, length-take-le}
 use Rattle.std.specs.List.{Contains}
-use Rattle.std.specs.FinMap.{get, get-empty}
-use Rattle.prefix_trie_bits.specs.Bits.{begins}
-use Rattle.prefix_trie_bits.specs.Order.{same_string}
-use Rattle.prefix_trie_bits.specs.Places.{HoldsValues, HoldsChildren, is_in, places}
-use Rattle.prefix_trie_bits.specs.Laws.Pruning.{PruningLaws}
-use Rattle.prefix_trie_bits.specs.Model.Asking.{MayAskInOrder}
-use Rattle.prefix_trie_bits.specs.Model.Entries.{Entries, AreWithin, no_entries, without_entry, without_below}
-use Rattle.prefix_trie_bits.specs.Model.Nodes.{Nodes, AreNodes, has_node, home, pruned, root_alone, nodes_not_below, nodes_without, nodes_without_below}
-use Rattle.prefix_trie_bits.specs.Model.NodeListings.{listing_at_places}
-use Rattle.prefix_trie_bits.specs.Model.Selections.{listing_below}
-use Rattle.prefix_trie_bits.specs.Model.Step.{State}
-use Rattle.prefix_trie_bits.proofs.Model.Members.{and-first, and-second, get-without_below, has-retained, has-root_alone, same_entries, same_nodes, same_string-is}
-use Rattle.prefix_trie_bits.proofs.Model.Pruning.{begins-nil, pruning_laws, removed_fewer}
-use Rattle.prefix_trie_table.specs.declared.allocator.node.Node.{Node}
-use Rattle.prefix_trie_table.specs.declared.allocator.node.NodeSlot.{NodeSlot}
-use Rattle.prefix_trie_table.specs.Cells.{node_sizes}
-use Rattle.prefix_trie_table.specs.Digits.{path_of, bit_of}
-use Rattle.prefix_trie_table.specs.Store.{Store}
-use Rattle.prefix_trie_table.specs.Forest.{read, Holds, NodesHold, IsSlot}
-use Rattle.prefix_trie_table.specs.Removals.{EntryTaken, EntryRemoved, Pruned, IsWay, StandsAtEnd, slot_in}
-use Rattle.prefix_trie_table.specs.Settling.{NodesSettle}
-use Rattle.prefix_trie_table.specs.Shape.{Contents, state, Shaped}
-use Rattle.prefix_trie_table.specs.Tables.{ForHeld, Grows, IsReached, IsTable, IsTrie}
-use Rattle.prefix_trie_table.specs.Retaining.{BlocksBetween, IsSite, Lasts, Retains, RetainsTo}
 use Rattle.prefix_trie_table.proofs.Tree.Invariant.{some_table}
 use Rattle.prefix_trie_table.proofs.Removal.Between.{blocks_then, pruned_between, stays_grown, stays_then}
 use Rattle.prefix_trie_table.proofs.Tree.Children.{same_or}

@@ -1,22 +1,7 @@
 -- That the calls that take values and nodes out raise nothing that the arrays may reach.
-use Rattle.std.proofs.Common.{◌≡◌, inl, inr, Bool, true, not, ℕ, ◌+◌, ◌*◌, ◌<◌, ◌≤◌, nat_lt, List, [], ◌∷◌, ◌++◌, length, set, sum_by, All, Option, None, Some, is_some, refl, sym, ap, ◌∙◌, subst, arith}
+use Rattle.prefix_trie_table.proofs.Prelude.{◌≡◌, inl, inr, Bool, true, not, ℕ, ◌+◌, ◌*◌, ◌<◌, ◌≤◌, nat_lt, List, [], ◌∷◌, ◌++◌, length, set, sum_by, All, Option, None, Some, is_some, refl, sym, ap, ◌∙◌, subst, arith, All-nil, All-cons, sum_by-filter_both, sum_by-le, sum_by-set, len, empty_of_len, get-empty, false≢true, cases_lt, listing_cmp, Nodes, has_node, State, Node, blank_node, node_at, node_sizes, cell_sizes, Store, size_in, size_if_any, without, node_or_blank, lacking_child, NodesHold, IsShapeOf, IsTable, smaller_sizes, headroom, headroom_if_any, child_headroom, value_headroom, SettlesBy, Settles, NodesSettle}
 use Rattle.std.proofs.lemmas.List.{length-set}
-use Rattle.std.proofs.lemmas.List.Elements.{All-nil, All-cons}
-use Rattle.std.proofs.lemmas.List.Filters.{sum_by-filter_both}
-use Rattle.std.proofs.lemmas.List.Sums.{sum_by-le, sum_by-set}
-use Rattle.std.specs.FinMap.{len, empty_of_len, get-empty}
-use Rattle.std.proofs.lemmas.Bool.{false≢true, cases_lt}
-use Rattle.prefix_trie_bits.specs.Order.{listing_cmp}
-use Rattle.prefix_trie_bits.specs.Model.Nodes.{Nodes, has_node}
-use Rattle.prefix_trie_bits.specs.Model.Step.{State}
-use Rattle.prefix_trie_table.specs.declared.allocator.node.Node.{Node}
-use Rattle.prefix_trie_table.specs.Cells.{blank_node, node_at, node_sizes, cell_sizes}
 use Rattle.prefix_trie_table.specs.OwnBlocks.{child_block_size, value_block_size}
-use Rattle.prefix_trie_table.specs.Store.{Store, size_in, size_if_any}
-use Rattle.prefix_trie_table.specs.Forest.{without, node_or_blank, lacking_child, NodesHold}
-use Rattle.prefix_trie_table.specs.Shape.{IsShapeOf}
-use Rattle.prefix_trie_table.specs.Tables.{IsTable}
-use Rattle.prefix_trie_table.specs.Settling.{smaller_sizes, headroom, headroom_if_any, child_headroom, value_headroom, SettlesBy, Settles, NodesSettle}
 use Rattle.prefix_trie_table.proofs.Tree.Invariant.{some_table}
 use Rattle.prefix_trie_table.proofs.Strings.BitLists.{rank-zero-all}
 use Rattle.prefix_trie_table.proofs.Tree.Trees.{listed_once}

@@ -1,24 +1,6 @@
 -- What contracts see of the sizes of blocks after a removal.
-use Rattle.std.proofs.Common.{◌≡◌, ℕ, ◌*◌, ◌%◌, ◌≤◌, inl, inr, Bool, true, cond, ◌&&◌, List, length, take, Option, None, Some, is_some, refl, sym, ap, ◌∙◌, subst, arith, eq-eqb}
-use Rattle.std.proofs.lemmas.Bool.{cases_Bool}
+use Rattle.prefix_trie_table.proofs.Prelude.{◌≡◌, ℕ, ◌*◌, ◌%◌, ◌≤◌, inl, inr, Bool, true, cond, ◌&&◌, List, length, take, Option, None, Some, is_some, refl, sym, ap, ◌∙◌, subst, arith, eq-eqb, cases_Bool, get, Sizes, StepsDown, SizesStepDown, StepsBetween, SizesStepBetween, value_block_sizes, child_block_sizes, own_entries, child_count, Nodes, has_node, is_node_depth, home, State, RemovesValueInStorage, PrunesInStorage, home-depth, and-first, same_entries, Node, node_sizes, cell_sizes, path_of, bit_of, NodesHold, Holds, SomeTable, has_child, has_value, own_count, read, with_value, AreSizesBy, Sized, own_children, child_block_size, value_block_size, EntryTaken, EntryRemoved, GrowsBy, MakesEntered, MakesFew, BlocksBetween, IsShapeOf, Shaped, Store, free_counts, IsTable, ForHeld}
 use Rattle.std.proofs.lemmas.List.{length-take-le}
-use Rattle.std.specs.FinMap.{get}
-use Rattle.prefix_trie_bits.specs.Model.Blocks.{Sizes, StepsDown, SizesStepDown, StepsBetween, SizesStepBetween, value_block_sizes, child_block_sizes, own_entries, child_count}
-use Rattle.prefix_trie_bits.specs.Model.Nodes.{Nodes, has_node, is_node_depth, home}
-use Rattle.prefix_trie_bits.specs.Model.Step.{State}
-use Rattle.prefix_trie_bits.specs.Model.Storage.{RemovesValueInStorage, PrunesInStorage}
-use Rattle.prefix_trie_bits.proofs.Model.Homes.{home-depth}
-use Rattle.prefix_trie_bits.proofs.Model.Members.{and-first, same_entries}
-use Rattle.prefix_trie_table.specs.declared.allocator.node.Node.{Node}
-use Rattle.prefix_trie_table.specs.Cells.{node_sizes, cell_sizes}
-use Rattle.prefix_trie_table.specs.Digits.{path_of, bit_of}
-use Rattle.prefix_trie_table.specs.Forest.{NodesHold, Holds, SomeTable, has_child, has_value, own_count, read, with_value}
-use Rattle.prefix_trie_table.specs.Layouts.{AreSizesBy, Sized, own_children, child_block_size, value_block_size}
-use Rattle.prefix_trie_table.specs.Removals.{EntryTaken, EntryRemoved, GrowsBy, MakesEntered, MakesFew}
-use Rattle.prefix_trie_table.specs.Retaining.{BlocksBetween}
-use Rattle.prefix_trie_table.specs.Shape.{IsShapeOf, Shaped}
-use Rattle.prefix_trie_table.specs.Store.{Store, free_counts}
-use Rattle.prefix_trie_table.specs.Tables.{IsTable, ForHeld}
 use Rattle.prefix_trie_table.proofs.Strings.Plain.{fifths}
 use Rattle.prefix_trie_table.proofs.Tree.Invariant.{some_table}
 use Rattle.prefix_trie_table.proofs.Strings.Bare.{no_bit}

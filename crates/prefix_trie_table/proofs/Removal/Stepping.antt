@@ -1,14 +1,6 @@
 -- What a removal does to the size of a block, by the tiers and counts of nodes.
-use Rattle.std.proofs.Common.{◌≡◌, ◌≢◌, ℕ, ◌<◌, ◌≤◌, ◌⊎◌, inl, inr, false, List, [], ◌∷◌, ◌++◌, length, take, Option, None, Some, is_some, refl, sym, ap, ◌∙◌, subst, arith}
-use Rattle.std.proofs.lemmas.Bool.{true≢false, false≢true, cases_Bool, cases_lt}
-use Rattle.prefix_trie_bits.specs.Model.Blocks.{HasBlock, StepsDown, LongerByOne, MakesAtMost, made_of}
-use Rattle.prefix_trie_table.specs.declared.allocator.node.Node.{Node}
-use Rattle.prefix_trie_table.specs.Bitmaps.{rank}
-use Rattle.prefix_trie_table.specs.Cells.{node_sizes, cell_sizes}
-use Rattle.prefix_trie_table.specs.Forest.{lacking_child, own_count, is_start}
-use Rattle.prefix_trie_table.specs.Layouts.{own_children, child_block_size, value_block_size}
-use Rattle.prefix_trie_table.specs.Removals.{GrowsBy, MakesFew, SameChildren, SameValues, EntryTaken, Drops, none, more, PrunedTo}
-use Rattle.prefix_trie_table.specs.Store.{Store, size_in, size_if_any, free_counts, made_in}
+use Rattle.prefix_trie_table.proofs.Prelude.{◌≡◌, ◌≢◌, ℕ, ◌<◌, ◌≤◌, ◌⊎◌, inl, inr, false, List, [], ◌∷◌, ◌++◌, length, take, Option, None, Some, is_some, refl, sym, ap, ◌∙◌, subst, arith, false≢true, cases_Bool, cases_lt, HasBlock, StepsDown, LongerByOne, MakesAtMost, made_of, Node, rank, node_sizes, cell_sizes, lacking_child, own_count, is_start, own_children, child_block_size, value_block_size, GrowsBy, MakesFew, SameChildren, SameValues, EntryTaken, Drops, none, more, PrunedTo, Store, size_in, size_if_any, free_counts, made_in}
+use Rattle.std.proofs.lemmas.Bool.{true≢false}
 use Rattle.prefix_trie_table.proofs.Tree.Children.{same_or, changed_below, changed_here, changed_other}
 use Rattle.prefix_trie_table.proofs.Removal.Lessening.{steps_same, steps_gone, values_none, children_none}
 use Rattle.prefix_trie_table.proofs.Removal.NodesLeft.{start_is}

@@ -1,12 +1,5 @@
 -- That the sizes of blocks by string say how far the arrays may grow as items are taken out.
-use Rattle.std.proofs.Common.{◌≡◌, ℕ, ◌+◌, ◌≤◌, List, length, sum_by, Option, None, Some, refl, sym, ap, ◌∙◌, arith}
-use Rattle.prefix_trie_bits.specs.Model.Blocks.{Sizes}
-use Rattle.prefix_trie_table.specs.declared.allocator.node.Node.{Node}
-use Rattle.prefix_trie_table.specs.Cells.{blank_node, node_sizes}
-use Rattle.prefix_trie_table.specs.Store.{Store}
-use Rattle.prefix_trie_table.specs.Forest.{node_or_blank, NodesHold, SomeTable}
-use Rattle.prefix_trie_table.specs.Layouts.{Sized, child_block_size, value_block_size}
-use Rattle.prefix_trie_table.specs.Settling.{headroom, headroom_if_any, headroom_of, child_headroom, value_headroom, Settles}
+use Rattle.prefix_trie_table.proofs.Prelude.{◌≡◌, ℕ, ◌+◌, ◌≤◌, List, length, sum_by, Option, None, Some, refl, sym, ap, ◌∙◌, arith, Sizes, Node, blank_node, node_sizes, Store, node_or_blank, NodesHold, SomeTable, Sized, child_block_size, value_block_size, headroom, headroom_if_any, headroom_of, child_headroom, value_headroom, Settles}
 use Rattle.prefix_trie_table.proofs.Counts.NodeCounts.{slots_by_path}
 use Rattle.prefix_trie_table.proofs.Strings.PathStrings.{paths_steps, paths_once}
 use Rattle.prefix_trie_table.proofs.Removal.Settling.{no_children, no_own_values}

@@ -1,24 +1,9 @@
 -- Asking at some places of a node and then at others is asking at all of them.
-use Rattle.std.proofs.Common.{◌≡◌, ◌+◌, ◌≤◌, take, drop, length-drop, take-append-drop, Bool, true, false, cond, ◌||◌, nat_lt, List, [], ◌∷◌, ◌++◌, length, None, is_some, refl, sym, ap, ap₂, ◌∙◌, subst, arith, inl, inr, append_assoc, length-append, Less}
-use Rattle.std.specs.List.{All, AllByRecursion}
-use Rattle.std.proofs.lemmas.List.Elements.{All-head, All-tail}
-use Rattle.std.specs.List.Sorted.{IsStrictlySortedBy}
-use Rattle.std.proofs.lemmas.Bool.{false≢true, cases_lt, lt-ltb, le-ltb}
+use Rattle.prefix_trie_table.proofs.Prelude.{◌≡◌, ◌+◌, ◌≤◌, take, drop, length-drop, take-append-drop, Bool, true, false, cond, ◌||◌, nat_lt, List, [], ◌∷◌, ◌++◌, length, None, is_some, refl, sym, ap, ap₂, ◌∙◌, subst, arith, inl, inr, append_assoc, length-append, Less, AllByRecursion, All-head, All-tail, IsStrictlySortedBy, false≢true, cases_lt, le-ltb, append_cancel_left, list_any-append, get, entries, begins, begins-append, begins-refl, begins-rest, begins-from-rest, begins-length, begins-trans, begins-linear, begins-same-length, listing_cmp, same_string, AsksInOrder, MayAskInOrder, Entries, part_below, listing_below, pair_of, listing_at_place, listing_at_places, State, or-cases, or-left, or-right, same_string-is, is-same_string, get-part_below, same_entries, entries-retained, not_itself, is_at, is_at_some, is_under, is_under_some, Needs, AsksUpTo, Retains}
+use Rattle.std.specs.List.{All}
+use Rattle.std.proofs.lemmas.Bool.{lt-ltb}
 use Rattle.std.proofs.lemmas.Grind.{flat_map-append}
-use Rattle.std.proofs.lemmas.List.{append_cancel_left, length-take-le}
-use Rattle.std.proofs.lemmas.List.Folds.{list_any-append}
-use Rattle.std.specs.FinMap.{get, entries}
-use Rattle.prefix_trie_bits.specs.Bits.{begins}
-use Rattle.prefix_trie_bits.specs.Begins.{begins-append, begins-refl, begins-rest, begins-from-rest, begins-length, begins-trans, begins-linear, begins-same-length}
-use Rattle.prefix_trie_bits.specs.Order.{listing_cmp, same_string}
-use Rattle.prefix_trie_bits.specs.Model.Asking.{AsksInOrder, MayAskInOrder}
-use Rattle.prefix_trie_bits.specs.Model.Entries.{Entries, part_below}
-use Rattle.prefix_trie_bits.specs.Model.Selections.{listing_below}
-use Rattle.prefix_trie_bits.specs.Model.NodeListings.{pair_of, listing_at_place, listing_at_places}
-use Rattle.prefix_trie_bits.specs.Model.Step.{State}
-use Rattle.prefix_trie_bits.proofs.Model.Members.{or-cases, or-left, or-right, same_string-is, is-same_string, get-part_below, same_entries}
-use Rattle.prefix_trie_bits.proofs.Model.Ordered.{entries-retained, not_itself}
-use Rattle.prefix_trie_table.specs.Retaining.{is_at, is_at_some, is_under, is_under_some, Needs, AsksUpTo, Retains}
+use Rattle.std.proofs.lemmas.List.{length-take-le}
 use Rattle.prefix_trie_table.proofs.Strings.Plain.{no_or_yes}
 
 -- ---- tests

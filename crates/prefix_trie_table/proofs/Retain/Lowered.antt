@@ -1,34 +1,8 @@
 -- Asking below a child of a node that is at hand, and the child taken out where nothing is left.
-use Rattle.std.proofs.Common.{◌≡◌, ◌↔◌, ℕ, ◌+◌, ◌-◌, ◌/◌, ◌%◌, ◌<◌, ◌≤◌, Bool, true, false, not, ◌&&◌, List, [], ◌∷◌, ◌++◌, length, take, Option, None, Some, is_some, refl, sym, ap, ◌∙◌, subst, arith, inl, inr, length-append, append-nil, eqb-true}
+use Rattle.prefix_trie_table.proofs.Prelude.{◌≡◌, ◌↔◌, ℕ, ◌+◌, ◌-◌, ◌/◌, ◌%◌, ◌<◌, ◌≤◌, Bool, true, false, not, ◌&&◌, List, [], ◌∷◌, ◌++◌, length, take, Option, None, Some, is_some, refl, sym, ap, ◌∙◌, subst, arith, inl, inr, length-append, append-nil, eqb-true, false≢true, begins, number, digits, zeros, begins-append, begins-trans, digits-number, length-digits, number-bits, take-extend, same_string, has, ones_below, is_in, places, Place, MayAskInOrder, listing_at_place, listing_at_places, listing_below, has_node, is_node_depth, State, and-second, same_string-is, is-same_string, has-removed, listing_at_child, Node, Site, has_bit, rank, node_at, node_sizes, path_of, Store, read, child_slot, Holds, SomeTable, IsSlot, at_child, NodesHold, entry_count, without, lacking_child, IsBare, IsStocked, ChildDropped, Drops, none, more, IsPlaceOf, HasPlace, IsSite, Needs, RetainsTo, Lasts, BlocksBetween, IsTrie, Grows, IsShapeOf}
 use Rattle.std.specs.List.{Contains}
-use Rattle.std.proofs.lemmas.Bool.{false≢true}
 use Rattle.std.specs.FinMap.{remove}
-use Rattle.prefix_trie_bits.specs.Bits.{begins, number, digits, zeros}
-use Rattle.prefix_trie_bits.specs.Begins.{begins-append, begins-trans}
-use Rattle.prefix_trie_bits.specs.BitStrings.{digits-number, length-digits, number-bits}
-use Rattle.prefix_trie_bits.specs.Windows.{take-extend}
-use Rattle.prefix_trie_bits.specs.Order.{same_string}
-use Rattle.prefix_trie_bits.specs.Places.{has, ones_below, is_in, places}
-use Rattle.prefix_trie_bits.specs.declared.node.Place.{Place}
 use Rattle.prefix_trie_bits.specs.declared.node.Place.TheVariants.{Child as ChildPlace}
-use Rattle.prefix_trie_bits.specs.Model.Asking.{MayAskInOrder}
-use Rattle.prefix_trie_bits.specs.Model.NodeListings.{listing_at_place, listing_at_places}
-use Rattle.prefix_trie_bits.specs.Model.Selections.{listing_below}
-use Rattle.prefix_trie_bits.specs.Model.Nodes.{has_node, is_node_depth}
-use Rattle.prefix_trie_bits.specs.Model.Step.{State}
-use Rattle.prefix_trie_bits.proofs.Model.Members.{and-second, same_string-is, is-same_string, has-removed}
-use Rattle.prefix_trie_bits.proofs.Model.NodeListings.{listing_at_child}
-use Rattle.prefix_trie_table.specs.declared.allocator.node.Node.{Node}
-use Rattle.prefix_trie_table.specs.declared.table.retain.Site.{Site}
-use Rattle.prefix_trie_table.specs.Bitmaps.{has_bit, rank}
-use Rattle.prefix_trie_table.specs.Cells.{node_at, node_sizes}
-use Rattle.prefix_trie_table.specs.Digits.{path_of}
-use Rattle.prefix_trie_table.specs.Store.{Store}
-use Rattle.prefix_trie_table.specs.Forest.{read, child_slot, Holds, SomeTable, IsSlot, at_child, NodesHold, entry_count, without, lacking_child}
-use Rattle.prefix_trie_table.specs.Removals.{IsBare, IsStocked, ChildDropped, Drops, none, more}
-use Rattle.prefix_trie_table.specs.Walking.Walks.{IsPlaceOf}
-use Rattle.prefix_trie_table.specs.Retaining.{HasPlace, IsSite, Needs, RetainsTo, Lasts, BlocksBetween}
-use Rattle.prefix_trie_table.specs.Tables.{IsTrie, Grows}
 use Rattle.prefix_trie_table.proofs.Strings.Plain.{no_or_yes}
 use Rattle.prefix_trie_table.proofs.Tree.Invariant.{some_table}
 use Rattle.prefix_trie_table.proofs.Removal.Between.{blocks_then, dropped_between, stays_grown, stays_then}
@@ -43,7 +17,6 @@ use Rattle.prefix_trie_table.proofs.Removal.Pruning.{drops_cells, drops_count}
 use Rattle.prefix_trie_table.proofs.Removal.Settling.{settles_nodes, settles_then}
 use Rattle.prefix_trie_table.proofs.Retain.Retained.{are_nodes, read_held, here_length, here_whole, here_levels, path_levels, site_stays}
 use Rattle.prefix_trie_table.proofs.Tree.Shapes.{reads_node, shape_of, shape_entries}
-use Rattle.prefix_trie_table.specs.Shape.{IsShapeOf}
 use Rattle.prefix_trie_table.proofs.Tree.Subtrees.{child_is, child_inside, child_few, child_fits, few_at, all_places, is_in-child, number-small}
 use Rattle.prefix_trie_table.proofs.Walk.Spots.{place-child}
 use Rattle.prefix_trie_table.proofs.Tree.Trees.{reads}

@@ -1,37 +1,12 @@
 -- The places of a node that is at hand, as its table has them, and one turn of asking at them.
-use Rattle.std.proofs.Common.{◌≡◌, ℕ, ◌/◌, ◌≤◌, Bool, true, false, cond, ◌&&◌, ◌==◌, List, [], ◌∷◌, ◌++◌, length, take, Option, is_some, refl, sym, ap, ap₂, ◌∙◌, subst, arith, inl, inr, append-nil, length-append, Less}
+use Rattle.prefix_trie_table.proofs.Prelude.{◌≡◌, ℕ, ◌/◌, ◌≤◌, Bool, true, false, cond, ◌&&◌, ◌==◌, List, [], ◌∷◌, ◌++◌, length, take, Option, is_some, refl, sym, ap, ap₂, ◌∙◌, subst, arith, inl, inr, append-nil, length-append, Less, IsStrictlySortedBy, false≢true, cases_lt, le-ltb, All-head, All-tail, All-weaker, All-from_recursion, list_any-append, get, begins, number, digits, digits-number, listing_cmp, has, value_bit, is_in, place_of, Child, MayAskInOrder, listing_at_place, listing_at_places, has_node, is_node_depth, State, value_bit-injective, value_bit-small, or-cases, or-left, or-right, is-same_string, not_itself, begins-refl, Node, Site, path_of, bit_of, Store, read, has_value, has_child, same_shape, IsPlaceOf, is_at, is_at_some, is_under_some, IsSite, Retains, RetainsIn, MayAskAt, Lasts, IsTrie}
 use Rattle.std.specs.List.{All}
-use Rattle.std.specs.List.Sorted.{IsStrictlySortedBy}
-use Rattle.std.proofs.lemmas.Bool.{false≢true, cases_lt, lt-ltb, le-ltb}
-use Rattle.std.proofs.lemmas.List.Elements.{All-head, All-tail, All-weaker, All-from_recursion}
-use Rattle.std.proofs.lemmas.List.Folds.{list_any-append}
-use Rattle.std.specs.FinMap.{get}
-use Rattle.prefix_trie_bits.specs.Bits.{begins, number, digits}
-use Rattle.prefix_trie_bits.specs.BitStrings.{digits-number}
-use Rattle.prefix_trie_bits.specs.Order.{listing_cmp}
-use Rattle.prefix_trie_bits.specs.Places.{has, value_bit, is_in, place_of}
-use Rattle.prefix_trie_bits.specs.declared.node.Place.TheVariants.{Value, Child}
-use Rattle.prefix_trie_bits.specs.Model.Asking.{MayAskInOrder}
-use Rattle.prefix_trie_bits.specs.Model.NodeListings.{listing_at_place, listing_at_places}
-use Rattle.prefix_trie_bits.specs.Model.Nodes.{has_node, is_node_depth}
-use Rattle.prefix_trie_bits.specs.Model.Step.{State}
-use Rattle.prefix_trie_bits.proofs.Strings.{value_bit-injective, value_bit-small}
-use Rattle.prefix_trie_bits.proofs.Model.Members.{or-cases, or-left, or-right, is-same_string}
-use Rattle.prefix_trie_bits.proofs.Model.Ordered.{not_itself}
-use Rattle.prefix_trie_bits.specs.Begins.{begins-refl}
-use Rattle.prefix_trie_table.specs.declared.allocator.node.Node.{Node}
-use Rattle.prefix_trie_table.specs.declared.table.retain.Site.{Site}
-use Rattle.prefix_trie_table.specs.Digits.{path_of, bit_of}
-use Rattle.prefix_trie_table.specs.Store.{Store}
-use Rattle.prefix_trie_table.specs.Forest.{read, has_value, has_child}
-use Rattle.prefix_trie_table.specs.Shape.{same_shape}
-use Rattle.prefix_trie_table.specs.Walking.Walks.{IsPlaceOf}
+use Rattle.std.proofs.lemmas.Bool.{lt-ltb}
+use Rattle.prefix_trie_bits.specs.declared.node.Place.TheVariants.{Value}
 use Rattle.prefix_trie_table.proofs.Strings.Plain.{no_or_yes, whole_more}
 use Rattle.prefix_trie_table.proofs.Blocks.Soundness.{All-both}
 use Rattle.prefix_trie_table.proofs.Tree.Invariant.{some_table}
 use Rattle.prefix_trie_table.proofs.Removal.Between.{blocks_still, blocks_then, stays_none, stays_then}
-use Rattle.prefix_trie_table.specs.Retaining.{is_at, is_at_some, is_under_some, IsSite, Retains, RetainsIn, MayAskAt, Lasts}
-use Rattle.prefix_trie_table.specs.Tables.{IsTrie}
 use Rattle.prefix_trie_table.proofs.Retain.Asked.{at_value, at_child, under_at_some, one_place, apart_first, asked_both, may_ask_first, may_ask_then}
 use Rattle.prefix_trie_table.proofs.Strings.Bits.{has_bit-is}
 use Rattle.prefix_trie_table.proofs.Strings.Placing.{below_node, step_below}

@@ -1,30 +1,6 @@
 -- What a table is once a test was asked at a place of a node.
-use Rattle.std.proofs.Common.{◌≡◌, ℕ, ◌+◌, ◌-◌, ◌*◌, ◌/◌, ◌%◌, ◌<◌, ◌≤◌, Bool, true, ◌==◌, List, [], ◌++◌, length, take, drop, Option, None, Some, is_some, refl, sym, ap, ap₂, ◌∙◌, subst, arith, inl, inr, eqb-true}
-use Rattle.std.specs.FinMap.{get}
-use Rattle.std.proofs.lemmas.Bool.{false≢true, true_from_ne_false}
+use Rattle.prefix_trie_table.proofs.Prelude.{◌≡◌, ℕ, ◌+◌, ◌-◌, ◌*◌, ◌/◌, ◌%◌, ◌<◌, ◌≤◌, Bool, true, ◌==◌, List, [], ◌++◌, length, take, drop, Option, None, Some, is_some, refl, sym, ap, ap₂, ◌∙◌, subst, arith, inl, inr, eqb-true, get, false≢true, true_from_ne_false, begins, begins-rest, has, value_bit, without_entry, AreNodes, has_node, is_node_depth, State, and-first, and-second, needed_for, AreNodes-without_entry, removed_fewer, value_bit-small, Node, Site, has_bit, node_at, node_sizes, cell_sizes, path_of, bit_of, Store, read, value_of, has_value, one_if, Holds, SomeTable, IsSlot, NodesHold, CellsHold, SomeNodes, IsNodeAt, with_node, ValueTaken, EntryTaken, IsShapeOf, ForHeld, Grows, IsSite, BlocksBetween, IsTrie}
 use Rattle.std.proofs.lemmas.List.{length-take-le}
-use Rattle.prefix_trie_bits.specs.Bits.{begins}
-use Rattle.prefix_trie_bits.specs.Begins.{begins-rest}
-use Rattle.prefix_trie_bits.specs.Places.{has, value_bit}
-use Rattle.prefix_trie_bits.specs.Model.Entries.{without_entry}
-use Rattle.prefix_trie_bits.specs.Model.Nodes.{AreNodes, has_node, is_node_depth}
-use Rattle.prefix_trie_bits.specs.Model.Step.{State}
-use Rattle.prefix_trie_bits.proofs.Model.Members.{and-first, and-second, needed_for}
-use Rattle.prefix_trie_bits.proofs.Model.NodeSets.{AreNodes-without_entry}
-use Rattle.prefix_trie_bits.proofs.Model.Pruning.{removed_fewer}
-use Rattle.prefix_trie_bits.proofs.Strings.{value_bit-small}
-use Rattle.prefix_trie_table.specs.declared.allocator.node.Node.{Node}
-use Rattle.prefix_trie_table.specs.declared.table.retain.Site.{Site}
-use Rattle.prefix_trie_table.specs.Bitmaps.{has_bit}
-use Rattle.prefix_trie_table.specs.Cells.{node_at, node_sizes, cell_sizes}
-use Rattle.prefix_trie_table.specs.Digits.{path_of, bit_of}
-use Rattle.prefix_trie_table.specs.Store.{Store}
-use Rattle.prefix_trie_table.specs.Forest.{read, value_of, has_value, one_if, Holds, SomeTable, IsSlot, NodesHold, CellsHold, SomeNodes, IsNodeAt, with_node}
-use Rattle.prefix_trie_table.specs.Removals.{ValueTaken, EntryTaken}
-use Rattle.prefix_trie_table.specs.Shape.{IsShapeOf}
-use Rattle.prefix_trie_table.specs.Tables.{ForHeld, Grows}
-use Rattle.prefix_trie_table.specs.Retaining.{IsSite, BlocksBetween}
-use Rattle.prefix_trie_table.specs.Tables.{IsTrie}
 use Rattle.prefix_trie_table.proofs.Strings.Plain.{both_true}
 use Rattle.prefix_trie_table.proofs.Tree.Invariant.{some_table, some_nodes}
 use Rattle.prefix_trie_table.proofs.Removal.Between.{taken_between}

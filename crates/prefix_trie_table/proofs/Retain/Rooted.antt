@@ -1,19 +1,6 @@
 -- Asking from the root on is asking at the whole listing.
-use Rattle.std.proofs.Common.{◌≡◌, ℕ, Bool, List, [], length, Option, Some, refl, sym, ap, ◌∙◌, subst, arith}
+use Rattle.prefix_trie_table.proofs.Prelude.{◌≡◌, ℕ, Bool, List, [], length, Option, Some, refl, sym, ap, ◌∙◌, subst, arith, places, MayAskInOrder, listing_at_places, listing, State, listing_of_root, Node, node_at, Store, at_root, IsPlaceOf, IsSite, RetainsTo, RetainsAll, IsTrie}
 use Rattle.std.specs.List.{Contains}
-use Rattle.prefix_trie_bits.specs.Places.{places}
-use Rattle.prefix_trie_bits.specs.Model.Asking.{MayAskInOrder}
-use Rattle.prefix_trie_bits.specs.Model.NodeListings.{listing_at_places}
-use Rattle.prefix_trie_bits.specs.Model.Selections.{listing}
-use Rattle.prefix_trie_bits.specs.Model.Step.{State}
-use Rattle.prefix_trie_bits.proofs.Model.NodeListings.{listing_of_root}
-use Rattle.prefix_trie_table.specs.declared.allocator.node.Node.{Node}
-use Rattle.prefix_trie_table.specs.Cells.{node_at}
-use Rattle.prefix_trie_table.specs.Store.{Store}
-use Rattle.prefix_trie_table.specs.Forest.{at_root}
-use Rattle.prefix_trie_table.specs.Walking.Walks.{IsPlaceOf}
-use Rattle.prefix_trie_table.specs.Retaining.{IsSite, RetainsTo, RetainsAll}
-use Rattle.prefix_trie_table.specs.Tables.{IsTrie}
 use Rattle.prefix_trie_table.proofs.Retain.AskedBelow.{asked_all, nodes_tidy}
 use Rattle.prefix_trie_table.proofs.Retain.Placed.{nothing_at, none_below_it}
 use Rattle.prefix_trie_table.proofs.Tree.Subtrees.{all_places}

@@ -1,8 +1,5 @@
 -- Bitmaps that lose a bit, and those without any.
-use Rattle.std.proofs.Common.{◌≡◌, ◌≢◌, ℕ, zero, suc, ◌+◌, ◌<◌, inl, inr, true, false, ◌||◌, length, length-append, sym, ap, ◌∙◌, arith}
-use Rattle.std.proofs.lemmas.Bool.{cases_Bool}
-use Rattle.prefix_trie_bits.specs.Places.{Sets}
-use Rattle.prefix_trie_table.specs.Bitmaps.{has_bit, if_set, bits_below, rank}
+use Rattle.prefix_trie_table.proofs.Prelude.{◌≡◌, ◌≢◌, ℕ, zero, suc, ◌+◌, ◌<◌, inl, inr, true, false, ◌||◌, length, length-append, sym, ap, ◌∙◌, arith, cases_Bool, Sets, has_bit, if_set, bits_below, rank}
 use Rattle.prefix_trie_table.proofs.Strings.Bits.{has_bit-is, has_bit-sets, has_bit-below}
 use Rattle.prefix_trie_table.proofs.Strings.BitLists.{rank-below, rank-more-one}
 use Rattle.prefix_trie_table.proofs.Tree.Children.{other_number}

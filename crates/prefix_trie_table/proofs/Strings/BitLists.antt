@@ -1,10 +1,7 @@
 -- What stands for each set bit, when one bit is set or cleared.
-use Rattle.std.proofs.Common.{◌≡◌, ◌≢◌, ℕ, zero, suc, ◌+◌, ◌-◌, ◌<◌, ◌≤◌, ⊎_elim, Bool, true, false, cond, List, [], ◌∷◌, ◌++◌, length, get_or, set, map, insert, remove, refl, sym, ap, ◌∙◌, subst, arith, append_assoc, length-append}
-use Rattle.std.proofs.lemmas.List.{map-append, length-map, append-nil, get_or_at, set_at}
-use Rattle.std.proofs.lemmas.Bool.{cases_eq}
-use Rattle.std.proofs.lemmas.List.Edits.{insert-append_right, remove-append_right, length-insert}
+use Rattle.prefix_trie_table.proofs.Prelude.{◌≡◌, ◌≢◌, ℕ, zero, suc, ◌+◌, ◌-◌, ◌<◌, ◌≤◌, ⊎_elim, Bool, true, false, cond, List, [], ◌∷◌, ◌++◌, length, get_or, set, map, insert, remove, refl, sym, ap, ◌∙◌, subst, arith, append_assoc, length-append, map-append, length-map, get_or_at, set_at, cases_eq, insert-append_right, remove-append_right, length-insert, has_bit, if_set, bits_below, bits, rank}
+use Rattle.std.proofs.lemmas.List.{append-nil}
 use Rattle.prefix_trie_table.proofs.Strings.Bits.{has_bit-zero, if_set-length}
-use Rattle.prefix_trie_table.specs.Bitmaps.{has_bit, if_set, bits_below, bits, rank}
 
 -- the set bits among the k from b on
 abbrev bits_from : ℕ → ℕ → ℕ → List ℕ

@@ -1,11 +1,6 @@
 -- Bits of a bitmap of 32 bits, and what the calls of `node` say of them.
-use Rattle.std.proofs.Common.{◌≡◌, ◌≢◌, ℕ, zero, suc, ◌+◌, ◌<◌, ◌≤◌, inl, inr, Bool, true, false, cond, ◌||◌, length, length-append, refl, sym, ap, ap₂, ◌∙◌, arith, nat_eq, ltb, eqb}
-use Rattle.std.specs.Int.{bit_at}
-use Rattle.std.proofs.lemmas.Nat.Bits.{bit_at-zero}
-use Rattle.std.proofs.lemmas.Bool.{false≢true, ltb-true, lt-ltb}
-use Rattle.std.proofs.lemmas.Bool.Decides.{eqb_tells}
-use Rattle.prefix_trie_bits.specs.Places.{has, ones_below, Sets}
-use Rattle.prefix_trie_table.specs.Bitmaps.{has_bit, if_set, bits_below, rank}
+use Rattle.prefix_trie_table.proofs.Prelude.{◌≡◌, ◌≢◌, ℕ, zero, suc, ◌+◌, ◌<◌, ◌≤◌, inl, inr, Bool, true, false, cond, ◌||◌, length, length-append, refl, sym, ap, ap₂, ◌∙◌, arith, nat_eq, ltb, eqb, bit_at, bit_at-zero, false≢true, eqb_tells, has, ones_below, Sets, has_bit, if_set, bits_below, rank}
+use Rattle.std.proofs.lemmas.Bool.{ltb-true, lt-ltb}
 
 cond_left : (a b : Bool) → cond a b false ≡ true → (a ≡ true) × (b ≡ true)
 cond_left true b e = (refl, e)

@@ -1,11 +1,6 @@
 -- What the steps and the value bit say of a bit string.
-use Rattle.std.proofs.Common.{◌≡◌, ℕ, zero, suc, ◌*◌, ◌/◌, ◌<◌, ◌≤◌, Bool, List, [], ◌∷◌, ◌++◌, length, take, drop, get_or, refl, sym, ap, ◌∙◌, subst, arith, ◌^◌, ◌%◌, length-drop}
-use Rattle.std.proofs.lemmas.List.{length-take-le, nil_from_length}
-use Rattle.prefix_trie_bits.specs.Places.{value_bit}
-use Rattle.prefix_trie_bits.specs.Bits.{number}
-use Rattle.prefix_trie_bits.specs.BitStrings.{same-from-number, number-lt}
-use Rattle.prefix_trie_bits.proofs.Strings.{value_bit-injective, value_bit-small}
-use Rattle.prefix_trie_table.specs.Digits.{path_of, rest_of, bit_of}
+use Rattle.prefix_trie_table.proofs.Prelude.{◌≡◌, ℕ, zero, suc, ◌*◌, ◌/◌, ◌<◌, ◌≤◌, Bool, List, [], ◌∷◌, ◌++◌, length, take, drop, get_or, refl, sym, ap, ◌∙◌, subst, arith, ◌^◌, ◌%◌, length-drop, nil_from_length, value_bit, number, same-from-number, number-lt, value_bit-injective, value_bit-small, path_of, rest_of, bit_of}
+use Rattle.std.proofs.lemmas.List.{length-take-le}
 
 -- induction on a string by its steps of five bits
 pub by_steps : (P : List Bool → Type 0) → ((r : List Bool) → length r ≤ 4 → P r) → ((a b c d e : Bool) (s : List Bool) → P s → P (a ∷ b ∷ c ∷ d ∷ e ∷ s)) → (s : List Bool) → P s

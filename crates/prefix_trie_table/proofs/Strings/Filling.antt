@@ -1,11 +1,6 @@
 -- What is counted over the entries of a finite map, where a key comes in.
-use Rattle.std.proofs.Common.{◌≡◌, ℕ, ◌+◌, Bool, false, cond, List, [], ◌∷◌, sum_by, None, Some, is_some, Ordering, Less, Equal, Greater, sym, ap, ◌∙◌, arith}
-use Rattle.std.proofs.lemmas.Bool.{false≢true}
-use Rattle.std.proofs.lemmas.List.Sums.{sum_by-cons}
-use Rattle.std.specs.Ordering.{is_eq}
-use Rattle.std.specs.FinMap.{FinMap, entries, insert, get, get-entries, entries-insert, find, put, contains_key}
-use Rattle.std.specs.FinMap.Entries.{by_order}
-use Rattle.prefix_trie_bits.specs.Order.{listing_cmp, listing_total}
+use Rattle.prefix_trie_table.proofs.Prelude.{◌≡◌, ℕ, ◌+◌, Bool, false, cond, List, [], ◌∷◌, sum_by, None, Some, is_some, Ordering, Less, Equal, Greater, sym, ap, ◌∙◌, arith, false≢true, sum_by-cons, is_eq, FinMap, entries, get, get-entries, entries-insert, find, put, contains_key, by_order, listing_cmp, listing_total}
+use Rattle.std.specs.FinMap.{insert}
 use Rattle.prefix_trie_table.proofs.Tree.Trees.{is_none-None}
 
 module _ {K X : Type 0} (R : K → K → Ordering) (h : K × X → ℕ) where

@@ -1,13 +1,6 @@
 -- Tests of bit strings as tests of the ways to their nodes.
-use Rattle.std.proofs.Common.{◌≡◌, ℕ, ◌*◌, ◌/◌, ◌%◌, ◌≤◌, Bool, true, List, [], ◌∷◌, ◌++◌, length, length-append, take, refl, sym, ap, ◌∙◌, subst, arith}
-use Rattle.std.proofs.lemmas.List.{take_at, drop_all, length-take-le}
-use Rattle.prefix_trie_bits.specs.Bits.{begins}
-use Rattle.prefix_trie_bits.specs.Begins.{same_bool, begins-take, begins-from-take, begins-length}
-use Rattle.prefix_trie_bits.specs.Order.{same_string}
-use Rattle.prefix_trie_bits.specs.Places.{value_bit}
-use Rattle.prefix_trie_bits.proofs.Model.Members.{same_string-is, is-same_string}
-use Rattle.prefix_trie_table.specs.Digits.{path_of, rest_of, bit_of}
-use Rattle.prefix_trie_table.specs.Forest.{same_path, is_start}
+use Rattle.prefix_trie_table.proofs.Prelude.{◌≡◌, ℕ, ◌*◌, ◌/◌, ◌%◌, ◌≤◌, Bool, true, List, [], ◌∷◌, ◌++◌, length, length-append, take, refl, sym, ap, ◌∙◌, subst, arith, take_at, drop_all, begins, same_bool, begins-take, begins-from-take, begins-length, same_string, value_bit, same_string-is, is-same_string, path_of, rest_of, bit_of, same_path, is_start}
+use Rattle.std.proofs.lemmas.List.{length-take-le}
 use Rattle.prefix_trie_table.proofs.Strings.Plain.{fifths}
 use Rattle.prefix_trie_table.proofs.Strings.Digits.{string_is, path-length, path-take, rest-is}
 use Rattle.prefix_trie_table.proofs.Strings.Paths.{same_path-true, same_path-equal, snoc_inj}

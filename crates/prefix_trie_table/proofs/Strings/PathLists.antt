@@ -1,12 +1,5 @@
 -- Lists with the same paths, and the paths of all nodes as the root's and those of all children.
-use Rattle.std.proofs.Common.{◌≡◌, ◌≢◌, ℕ, zero, suc, ◌+◌, ◌<◌, ◌≤◌, inl, inr, Bool, true, false, cond, List, [], ◌∷◌, ◌++◌, map, flat_map, Option, None, Some, is_some, IsPermutation, refl, sym, ap, ◌∙◌, subst, arith}
-use Rattle.std.proofs.lemmas.Bool.{false≢true, cases_lt, cases_eq, false_from_ne_true}
-use Rattle.std.proofs.lemmas.List.{map-append}
-use Rattle.std.proofs.lemmas.List.Sorted.{IsPermutation-refl, IsPermutation-trans, IsPermutation-sym, IsPermutation-cons}
-use Rattle.prefix_trie_table.specs.declared.allocator.node.Node.{Node}
-use Rattle.prefix_trie_table.specs.Bitmaps.{has_bit, if_set, bits_below, bits}
-use Rattle.prefix_trie_table.specs.Store.{Store}
-use Rattle.prefix_trie_table.specs.Forest.{same_path, one_if, times, without, has_child, NodesHold}
+use Rattle.prefix_trie_table.proofs.Prelude.{◌≡◌, ◌≢◌, ℕ, zero, suc, ◌+◌, ◌<◌, ◌≤◌, inl, inr, Bool, true, false, cond, List, [], ◌∷◌, ◌++◌, map, flat_map, Option, None, Some, is_some, IsPermutation, refl, sym, ap, ◌∙◌, subst, arith, false≢true, cases_lt, cases_eq, false_from_ne_true, map-append, IsPermutation-refl, IsPermutation-trans, IsPermutation-sym, IsPermutation-cons, Node, has_bit, if_set, bits_below, bits, Store, same_path, one_if, times, without, has_child, NodesHold}
 use Rattle.prefix_trie_table.proofs.Strings.Bits.{has_bit-below}
 use Rattle.prefix_trie_table.proofs.Strings.Paths.{same_path-itself, same_path-equal, same_path-not, snoc_ind, snoc_inj, snoc_not_nil, times_without, flat_map_out}
 use Rattle.prefix_trie_table.proofs.Tree.Children.{same_or}

@@ -1,9 +1,5 @@
 -- Sums over paths.
-use Rattle.std.proofs.Common.{◌≡◌, ◌≢◌, ℕ, ◌+◌, ◌<◌, List, [], ◌∷◌, ◌++◌, length, sum_by, Option, None, Some, refl, sym, ap, ap₂, ◌∙◌, arith, length-append}
-use Rattle.std.proofs.lemmas.List.Sums.{sum_by-cons}
-use Rattle.std.proofs.lemmas.List.Sorted.{sum_by-IsPermutation}
-use Rattle.prefix_trie_table.specs.declared.allocator.node.Node.{Node}
-use Rattle.prefix_trie_table.specs.Forest.{one_if, same_path, times, without, lacking_child}
+use Rattle.prefix_trie_table.proofs.Prelude.{◌≡◌, ◌≢◌, ℕ, ◌+◌, ◌<◌, List, [], ◌∷◌, ◌++◌, length, sum_by, Option, None, Some, refl, sym, ap, ap₂, ◌∙◌, arith, length-append, sum_by-cons, sum_by-IsPermutation, Node, one_if, same_path, times, without, lacking_child}
 use Rattle.prefix_trie_table.proofs.Strings.Paths.{same_path-itself}
 use Rattle.prefix_trie_table.proofs.Tree.Trees.{times_out, times_out_same}
 use Rattle.prefix_trie_table.proofs.Tree.Children.{changed_here, changed_other}

@@ -1,11 +1,5 @@
 -- Strings by the way to their node and their place in it.
-use Rattle.std.proofs.Common.{◌≡◌, ℕ, ◌+◌, ◌-◌, ◌*◌, ◌^◌, ◌%◌, ◌<◌, ◌≤◌, Bool, List, [], ◌∷◌, ◌++◌, length, ap, ◌∙◌, arith, w32}
-use Rattle.std.specs.Int.{leading_zeros}
-use Rattle.prefix_trie_bits.specs.Bits.{number, digits}
-use Rattle.prefix_trie_bits.specs.BitStrings.{length-digits, number-bits}
-use Rattle.prefix_trie_bits.specs.Places.{value_bit}
-use Rattle.prefix_trie_bits.proofs.Strings.{top_length, length-short, string-bit}
-use Rattle.prefix_trie_table.specs.Digits.{path_of, rest_of}
+use Rattle.prefix_trie_table.proofs.Prelude.{◌≡◌, ℕ, ◌+◌, ◌-◌, ◌*◌, ◌^◌, ◌%◌, ◌<◌, ◌≤◌, Bool, List, [], ◌∷◌, ◌++◌, length, ap, ◌∙◌, arith, w32, leading_zeros, number, digits, length-digits, number-bits, value_bit, top_length, length-short, string-bit, path_of, rest_of}
 use Rattle.prefix_trie_table.proofs.Strings.Digits.{short_path, five_path, path-append, rest-append}
 use Rattle.prefix_trie_table.proofs.Strings.Plain.{whole_levels}
 use Rattle.std.proofs.lemmas.List.{append-nil}

@@ -1,8 +1,5 @@
 -- Facts on plain numbers, Booleans and options.
-use Rattle.std.proofs.Common.{◌≡◌, ℕ, ◌+◌, ◌*◌, ◌/◌, ◌%◌, ◌≤◌, Bool, true, false, ◌&&◌, Option, None, Some, is_some, refl, arith}
-use Rattle.std.proofs.lemmas.Bool.{false≢true}
-use Rattle.prefix_trie_table.specs.declared.allocator.node.Node.{Node}
-use Rattle.prefix_trie_table.specs.Forest.{has_child}
+use Rattle.prefix_trie_table.proofs.Prelude.{◌≡◌, ℕ, ◌+◌, ◌*◌, ◌/◌, ◌%◌, ◌≤◌, Bool, true, false, ◌&&◌, Option, None, Some, is_some, refl, arith, false≢true, Node, has_child}
 
 pub no_or_yes : (b : Bool) → (b ≡ true → ⊥) → b ≡ false
 no_or_yes true h = absurd (h refl)

@@ -1,10 +1,6 @@
 -- The beginnings of a path.
-use Rattle.std.proofs.Common.{◌≡◌, ℕ, ◌⊎◌, inl, inr, ⊎_elim, Bool, true, false, ◌||◌, List, [], ◌∷◌, ◌++◌, take, drop, map, refl, sym, ap, ◌∙◌, subst, append_assoc, append-nil}
-use Rattle.std.proofs.lemmas.List.{map-append, take-append-drop}
-use Rattle.std.proofs.lemmas.List.Folds.{list_any-append}
-use Rattle.std.proofs.lemmas.Bool.{false≢true}
-use Rattle.std.specs.List.{list_any}
-use Rattle.prefix_trie_table.specs.Forest.{same_path, starts, is_start}
+use Rattle.prefix_trie_table.proofs.Prelude.{◌≡◌, ℕ, ◌⊎◌, inl, inr, ⊎_elim, Bool, true, false, ◌||◌, List, [], ◌∷◌, ◌++◌, take, drop, map, refl, sym, ap, ◌∙◌, subst, append_assoc, append-nil, map-append, list_any-append, false≢true, list_any, same_path, starts, is_start}
+use Rattle.std.proofs.lemmas.List.{take-append-drop}
 use Rattle.prefix_trie_table.proofs.Strings.Paths.{same_path-true, same_path-itself, snoc_ind}
 
 starts-snoc : (p : List ℕ) (c : ℕ) → starts (p ++ c ∷ []) ≡ starts p ++ (p ++ c ∷ []) ∷ []

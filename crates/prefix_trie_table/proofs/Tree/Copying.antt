@@ -1,28 +1,7 @@
 -- What contracts see of the copy of a table.
-use Rattle.std.proofs.Common.{◌≡◌, ℕ, ◌+◌, Bool, true, false, cond, List, [], ◌∷◌, length, get_or, map, flat_map, Option, None, Some, is_some, ◌<◌, ◌≤◌, ◌⊎◌, inl, inr, refl, sym, ap, ap₂, ◌∙◌, subst, arith}
+use Rattle.prefix_trie_table.proofs.Prelude.{◌≡◌, ℕ, ◌+◌, Bool, true, false, cond, List, [], ◌∷◌, length, get_or, map, flat_map, Option, None, Some, is_some, ◌<◌, ◌≤◌, ◌⊎◌, inl, inr, refl, sym, ap, ap₂, ◌∙◌, subst, arith, eq_by_cmp, AllZip, get, len, entries, entries_sorted, from_sorted, entries-from_sorted, get-from_sorted, get-entries, len-entries, is_sorted, find, length-map, get_or_past, AllZip-get_or, length_all_zip, false≢true, cases_lt, listing_cmp, Layout, Entries, State, same_entries, same_string-is, Node, has_bit, rank, cell_sizes, IsCloned, AreCloned, path_of, bit_of, Sized, Sized-prop, Store, Tier, free_counts, Sound, SomeTable, CellsHold, read, value_in, value_of, value_blocks, IsShapeOf, Shaped, same_shape, IsTable}
 use lib.Dec.{T as IsT}
 use Rattle.std.specs.Option.{unwrap_or}
-use Rattle.std.specs.Ordering.{eq_by_cmp}
-use Rattle.std.specs.List.{AllZip}
-use Rattle.std.specs.FinMap.{get, len, entries, entries_sorted, from_sorted, entries-from_sorted, get-from_sorted, get-entries, len-entries, is_sorted, find}
-use Rattle.std.proofs.lemmas.List.{length-map, get_or_past}
-use Rattle.std.proofs.lemmas.List.Elements.{AllZip-get_or, length_all_zip}
-use Rattle.std.proofs.lemmas.Bool.{false≢true, cases_lt}
-use Rattle.prefix_trie_bits.specs.Order.{listing_cmp}
-use Rattle.prefix_trie_bits.specs.Model.Blocks.{Layout}
-use Rattle.prefix_trie_bits.specs.Model.Entries.{Entries}
-use Rattle.prefix_trie_bits.specs.Model.Step.{State}
-use Rattle.prefix_trie_bits.proofs.Model.Members.{same_entries, same_string-is}
-use Rattle.prefix_trie_table.specs.declared.allocator.node.Node.{Node}
-use Rattle.prefix_trie_table.specs.Bitmaps.{has_bit, rank}
-use Rattle.prefix_trie_table.specs.Cells.{cell_sizes}
-use Rattle.prefix_trie_table.specs.Copies.{IsCloned, AreCloned}
-use Rattle.prefix_trie_table.specs.Digits.{path_of, bit_of}
-use Rattle.prefix_trie_table.specs.Layouts.{Sized, Sized-prop}
-use Rattle.prefix_trie_table.specs.Store.{Store, Tier, free_counts, Sound}
-use Rattle.prefix_trie_table.specs.Forest.{SomeTable, CellsHold, read, value_in, value_of, value_blocks}
-use Rattle.prefix_trie_table.specs.Shape.{IsShapeOf, Shaped, same_shape}
-use Rattle.prefix_trie_table.specs.Tables.{IsTable}
 use Rattle.prefix_trie_table.proofs.Tree.Invariant.{some_table}
 use Rattle.prefix_trie_table.proofs.Walk.KeySets.{sorted_mapped}
 use Rattle.prefix_trie_table.proofs.Blocks.Copies.{paths_read, Sound-read}

@@ -1,18 +1,8 @@
 -- A path grows digit by digit.
-use Rattle.std.proofs.Common.{◌≡◌, ◌≢◌, ℕ, ◌+◌, ◌<◌, ◌≤◌, ◌⊎◌, inl, inr, ⊎_elim, Bool, true, false, cond, not, nat_lt, ◌&&◌, ◌||◌, List, [], ◌∷◌, ◌++◌, length, get_or, take, Option, None, Some, is_some, refl, sym, ap, ap₂, ◌∙◌, subst, arith, length-take-le}
-use Rattle.std.proofs.lemmas.List.{take_more, take_all, take_at, take-take}
-use Rattle.std.proofs.lemmas.Bool.{false≢true, cases_lt, cases_eq, lt-ltb, le-ltb}
-use Rattle.std.specs.Option.{option_or}
-use Rattle.prefix_trie_bits.specs.Model.Blocks.{child_block_sizes, value_block_sizes}
-use Rattle.prefix_trie_bits.specs.Model.Insertion.{block_needed}
-use Rattle.prefix_trie_table.specs.OwnBlocks.{child_block_size, value_block_size, child_need, value_need}
-use Rattle.prefix_trie_table.specs.declared.allocator.node.Node.{Node}
-use Rattle.prefix_trie_table.specs.Bitmaps.{has_bit, rank}
-use Rattle.prefix_trie_bits.specs.Model.Blocks.{one_of}
-use Rattle.prefix_trie_bits.proofs.Model.Storage.Slots.{how_many}
-use Rattle.prefix_trie_table.specs.Store.{Tier, Store, AreFree, free_in, size_in, size_if_any, many_of, needs}
-use Rattle.prefix_trie_table.specs.Forest.{same_path, is_start, gains, size_gained, one_if, IsSlot, NodesHold, CellsHold, Holds, Walked, EntryAdded, Deepest, ChildAdded, ValueSet, with_child, with_node, has_child}
-use Rattle.prefix_trie_table.specs.Cells.{blank_node, node_at, node_sizes, cell_sizes}
+use Rattle.prefix_trie_table.proofs.Prelude.{◌≡◌, ◌≢◌, ℕ, ◌+◌, ◌<◌, ◌≤◌, ◌⊎◌, inl, inr, ⊎_elim, Bool, true, false, cond, not, nat_lt, ◌&&◌, ◌||◌, List, [], ◌∷◌, ◌++◌, length, get_or, take, Option, None, Some, is_some, refl, sym, ap, ap₂, ◌∙◌, subst, arith, length-take-le, take_more, take_at, take-take, false≢true, cases_lt, cases_eq, le-ltb, option_or, child_block_sizes, value_block_sizes, block_needed, child_need, value_need, Node, has_bit, rank, one_of, how_many, Tier, Store, AreFree, free_in, size_in, size_if_any, many_of, needs, same_path, is_start, gains, size_gained, one_if, IsSlot, NodesHold, CellsHold, Holds, Walked, EntryAdded, Deepest, ChildAdded, ValueSet, with_child, with_node, has_child, blank_node, node_at, node_sizes, cell_sizes}
+use Rattle.std.proofs.lemmas.List.{take_all}
+use Rattle.std.proofs.lemmas.Bool.{lt-ltb}
+use Rattle.prefix_trie_table.specs.OwnBlocks.{child_block_size, value_block_size}
 use Rattle.prefix_trie_table.proofs.Strings.Paths.{same_path-equal, same_path-not}
 use Rattle.prefix_trie_table.proofs.Strings.Starts.{is_start-snoc, is_start_take, is_start-is}
 use Rattle.prefix_trie_table.proofs.Lookup.Finding.{prefix_some}

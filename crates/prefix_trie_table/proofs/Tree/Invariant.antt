@@ -1,16 +1,5 @@
 -- The table's invariant, and the parts of it that calls on its fields ask for.
-use Rattle.std.proofs.Common.{◌≡◌, ℕ, List, Option, sym, subst}
-use Rattle.std.specs.FinMap.{len}
-use Rattle.prefix_trie_bits.specs.Model.Entries.{AreWithin}
-use Rattle.prefix_trie_bits.specs.Model.Nodes.{AreNodes}
-use Rattle.prefix_trie_bits.specs.Model.Blocks.{Layout}
-use Rattle.prefix_trie_bits.specs.Model.Room.{Room}
-use Rattle.prefix_trie_bits.specs.Model.Step.{State}
-use Rattle.prefix_trie_table.specs.declared.allocator.node.Node.{Node}
-use Rattle.prefix_trie_table.specs.Store.{Store}
-use Rattle.prefix_trie_table.specs.Forest.{SomeTable, SomeNodes, IsNodeAt, Deepest, entry_count}
-use Rattle.prefix_trie_table.specs.Shape.{Contents, Shaped}
-use Rattle.prefix_trie_table.specs.Tables.{IsTable, IsTrie}
+use Rattle.prefix_trie_table.proofs.Prelude.{◌≡◌, ℕ, List, Option, sym, subst, len, AreWithin, AreNodes, Layout, Room, State, Node, Store, SomeTable, SomeNodes, IsNodeAt, Deepest, entry_count, Contents, Shaped, IsTable, IsTrie}
 
 -- the deepest node of a way stands at its slot
 abbrev pub deepest_there : {nodes : List ℕ → Option Node} {path : List ℕ} {depth slot : ℕ} {v : Store Node} → Deepest nodes path depth slot v → IsNodeAt nodes slot

@@ -1,19 +1,6 @@
 -- What a call leaves of a table that makes free blocks alone.
-use Rattle.std.proofs.Common.{◌≡◌, ℕ, ◌+◌, ◌≤◌, false, Bool, List, length, take, Option, Result, MatchResult, sym, ap, ◌∙◌, subst}
-use Rattle.std.specs.FinMap.{contains_key, len as number_of}
-use Rattle.prefix_trie_bits.specs.declared.prefix.Refusal.{Refusal}
-use Rattle.prefix_trie_bits.specs.declared.prefix.Refusal.TheVariants.{Memory, IndexRange}
-use Rattle.prefix_trie_bits.specs.Model.Step.{State}
-use Rattle.prefix_trie_bits.specs.Model.Storage.{ReadiesInStorage, RefusesInStorage}
-use Rattle.prefix_trie_table.specs.declared.allocator.node.Node.{Node}
-use Rattle.prefix_trie_table.specs.declared.table.seat.WayEnd.{WayEnd}
-use Rattle.prefix_trie_table.specs.Asked.{ObtainsBoth, nodes_needed, cells_needed}
-use Rattle.prefix_trie_table.specs.Forest.{Holds}
-use Rattle.prefix_trie_table.specs.Layouts.{Sized}
-use Rattle.prefix_trie_table.specs.Locations.{EndsAt, seat_of, IsWayEnd}
-use Rattle.prefix_trie_table.specs.Shape.{Shaped, same_shape}
-use Rattle.prefix_trie_table.specs.Store.{Store}
-use Rattle.prefix_trie_table.specs.Tables.{IsReached, IsTable, ForHeld, Grows}
+use Rattle.prefix_trie_table.proofs.Prelude.{◌≡◌, ℕ, ◌+◌, ◌≤◌, false, Bool, List, length, take, Option, Result, MatchResult, sym, ap, ◌∙◌, subst, contains_key, Refusal, Memory, IndexRange, State, ReadiesInStorage, RefusesInStorage, Node, WayEnd, ObtainsBoth, nodes_needed, cells_needed, Holds, Sized, EndsAt, seat_of, IsWayEnd, Shaped, same_shape, Store, IsReached, IsTable, ForHeld, Grows}
+use Rattle.std.specs.FinMap.{len as number_of}
 use Rattle.prefix_trie_table.proofs.Insertion.Asks.{at_end}
 use Rattle.prefix_trie_table.proofs.Insertion.Foreseen.{obtained}
 use Rattle.prefix_trie_table.proofs.Insertion.Inserted.{readied_in}

@@ -1,22 +1,6 @@
 -- What contracts see of a table, before and after an insertion.
-use Rattle.std.proofs.Common.{◌≡◌, ℕ, ◌+◌, ◌<◌, ◌%◌, Bool, true, false, cond, ◌&&◌, ◌||◌, List, [], ◌∷◌, ◌++◌, length, get_or, map, Option, None, Some, is_some, Result, Ok, Err, MatchResult, IfOk, refl, sym, ap, ap₂, ◌∙◌, subst, arith, inl, inr, eqb-true}
-use Rattle.std.proofs.lemmas.Bool.{false≢true, cases_Bool, cases_lt, and_parts}
-use Rattle.std.specs.FinMap.{get, get-insert, get-empty, len-insert, len-empty, contains_key, len}
-use Rattle.prefix_trie_bits.specs.Bits.{begins}
-use Rattle.prefix_trie_bits.specs.Begins.{same_bool}
-use Rattle.prefix_trie_bits.specs.Order.{listing_total, same_string}
-use Rattle.prefix_trie_bits.specs.Model.Entries.{no_entries, with_entry}
-use Rattle.prefix_trie_bits.specs.Model.Nodes.{has_node, is_node_depth, nodes_above, root_alone, with_needed}
-use Rattle.prefix_trie_bits.specs.Model.Step.{State}
-use Rattle.prefix_trie_bits.proofs.Model.Members.{has-with_nodes, any-node_above, has-root_alone, same_string-is, is-same_string}
-use Rattle.prefix_trie_table.specs.declared.allocator.node.Node.{Node}
-use Rattle.prefix_trie_table.specs.Bitmaps.{has_bit, rank}
-use Rattle.prefix_trie_table.specs.Cells.{blank_node, node_at, node_sizes, cell_sizes}
-use Rattle.prefix_trie_table.specs.Digits.{path_of, bit_of}
-use Rattle.prefix_trie_table.specs.Store.{Store, Sound, no_blocks, tier_sizes}
-use Rattle.prefix_trie_table.specs.Forest.{read, value_in, value_of, same_path, one_if, is_start, Holds, EntryAdded, value_blocks_of, held, size_in, has_child, has_value, with_value, entry_count, SomeTable}
-use Rattle.prefix_trie_table.specs.Shape.{IsShapeOf, Shaped, same_shape}
-use Rattle.prefix_trie_table.specs.Tables.{IsTable, Grows}
+use Rattle.prefix_trie_table.proofs.Prelude.{◌≡◌, ℕ, ◌+◌, ◌<◌, ◌%◌, Bool, true, false, cond, ◌&&◌, ◌||◌, List, [], ◌∷◌, ◌++◌, length, get_or, map, Option, None, Some, is_some, Result, Ok, Err, MatchResult, IfOk, refl, sym, ap, ap₂, ◌∙◌, subst, arith, inl, inr, eqb-true, false≢true, cases_Bool, cases_lt, and_parts, get, get-insert, get-empty, len-insert, len-empty, contains_key, len, begins, same_bool, listing_total, same_string, no_entries, with_entry, has_node, is_node_depth, nodes_above, root_alone, with_needed, State, has-with_nodes, any-node_above, has-root_alone, same_string-is, is-same_string, Node, has_bit, rank, blank_node, node_at, node_sizes, cell_sizes, path_of, bit_of, Store, Sound, no_blocks, tier_sizes, read, value_in, value_of, same_path, one_if, is_start, Holds, EntryAdded, value_blocks_of, has_child, has_value, with_value, entry_count, SomeTable, IsShapeOf, Shaped, same_shape, IsTable, Grows}
+use Rattle.prefix_trie_table.specs.Forest.{held, size_in}
 use Rattle.prefix_trie_table.proofs.Tree.Invariant.{some_table}
 use Rattle.prefix_trie_table.proofs.Strings.Bits.{has_bit-zero}
 use Rattle.prefix_trie_table.proofs.Strings.BitLists.{rank-zero-all}

@@ -1,26 +1,5 @@
 -- A call that changes a table is a step of the model.
-use Rattle.std.proofs.Common.{◌≡◌, ℕ, ◌+◌, ◌<◌, ◌≤◌, inl, inr, Bool, true, false, cond, ◌&&◌, List, [], ◌∷◌, length, Option, Result, Ok, Err, IfErr, MatchResult, IsOk, IsTrue, is_some, refl, sym, ap, ◌∙◌, true≢false, subst, arith}
-use Rattle.std.specs.FinMap.{get, contains_key, len}
-use Rattle.prefix_trie_bits.specs.declared.prefix.Refused.{Refused}
-use Rattle.prefix_trie_bits.specs.declared.prefix.Refusal.{Refusal}
-use Rattle.prefix_trie_bits.specs.declared.prefix.Refusal.TheVariants.{IndexRange}
-use Rattle.prefix_trie_bits.specs.Model.Asking.{AsksInOrder}
-use Rattle.prefix_trie_bits.specs.Model.Entries.{no_entries, without_entry, without_below}
-use Rattle.prefix_trie_bits.specs.Model.Nodes.{has_node, is_node_depth, root_alone, with_needed, nodes_without, nodes_without_below, needed, AreNodes}
-use Rattle.prefix_trie_bits.specs.Model.Room.{MayPassLimit, LeavesRoom}
-use Rattle.prefix_trie_bits.specs.Model.Selections.{listing}
-use Rattle.prefix_trie_bits.specs.Model.Step.{State, Reply, Step, Insert, Remove, RemoveKeepTree, RemoveChildren, Clear, Done, Value}
-use Rattle.prefix_trie_bits.specs.Model.Storage.{Storage, cleared, InsertsInStorage, RefusesInStorage, RemovesValueInStorage, PrunesInStorage, RemovesManyInStorage, LeavesStorage, StepByPath, RetainsInStorage}
-use Rattle.prefix_trie_bits.proofs.Model.Members.{same_nodes}
-use Rattle.prefix_trie_table.specs.declared.allocator.node.Node.{Node}
-use Rattle.prefix_trie_table.specs.Digits.{path_of}
-use Rattle.prefix_trie_table.specs.Forest.{read}
-use Rattle.prefix_trie_table.specs.Layouts.{Sized}
-use Rattle.prefix_trie_table.specs.Retaining.{Lasts}
-use Rattle.prefix_trie_table.specs.Shape.{Shaped}
-use Rattle.prefix_trie_table.specs.Steps.{inserted, SettlesInStorage}
-use Rattle.prefix_trie_table.specs.Store.{Store, SameRoom, free_counts}
-use Rattle.prefix_trie_table.specs.Tables.{IsTable, Grows, MayPass}
+use Rattle.prefix_trie_table.proofs.Prelude.{◌≡◌, ℕ, ◌+◌, ◌<◌, ◌≤◌, inl, inr, Bool, true, false, cond, ◌&&◌, List, [], ◌∷◌, length, Option, Result, Ok, Err, IfErr, MatchResult, IsOk, IsTrue, is_some, refl, sym, ap, ◌∙◌, true≢false, subst, arith, get, contains_key, len, Refused, Refusal, IndexRange, AsksInOrder, no_entries, without_entry, without_below, has_node, is_node_depth, root_alone, with_needed, nodes_without, nodes_without_below, needed, AreNodes, MayPassLimit, LeavesRoom, listing, State, Reply, Step, Insert, Remove, RemoveKeepTree, RemoveChildren, Clear, Done, Value, Storage, cleared, InsertsInStorage, RefusesInStorage, RemovesValueInStorage, PrunesInStorage, RemovesManyInStorage, LeavesStorage, StepByPath, RetainsInStorage, same_nodes, Node, path_of, read, Sized, Lasts, Shaped, inserted, SettlesInStorage, Store, SameRoom, free_counts, IsTable, Grows, MayPass}
 use Rattle.prefix_trie_table.proofs.Tree.Invariant.{some_table}
 use Rattle.prefix_trie_table.proofs.Blocks.KeptBlocks.{kept_blocks}
 use Rattle.prefix_trie_table.proofs.Removal.PartTaken.{all_gone, root_left}

@@ -1,24 +1,6 @@
 -- What a table has at the places of a node and below them.
-use Rattle.std.proofs.Common.{◌≡◌, ℕ, ◌+◌, ◌%◌, ◌^◌, ◌<◌, ◌≤◌, Bool, true, false, cond, List, [], ◌∷◌, ◌++◌, length, drop, get_or, Option, None, Some, is_some, refl, sym, ap, ap₂, ◌∙◌, subst, arith, inl, inr, append-nil, length-append, ◌==◌}
-use Rattle.std.proofs.lemmas.Bool.{false≢true, cases_lt, lt-ltb, le-ltb}
-use Rattle.std.specs.FinMap.{get}
-use Rattle.prefix_trie_bits.specs.Bits.{number, begins}
-use Rattle.prefix_trie_bits.specs.Begins.{begins-rest}
-use Rattle.prefix_trie_bits.specs.BitStrings.{number-lt}
-use Rattle.prefix_trie_bits.specs.Places.{has, value_bit, is_in, places}
-use Rattle.prefix_trie_bits.specs.Model.Nodes.{has_node, is_node_depth}
-use Rattle.prefix_trie_bits.specs.Model.Selections.{listing_below}
-use Rattle.prefix_trie_bits.specs.Model.NodeListings.{listing_at_place, listing_at_places}
-use Rattle.prefix_trie_bits.proofs.Strings.{value_bit-small}
-use Rattle.prefix_trie_bits.proofs.Model.NodeListings.{listing_by_node_places, listing_at_value, listing_at_no_value, listing_at_child, listing_below_none}
-use Rattle.prefix_trie_table.specs.declared.allocator.node.Node.{Node}
-use Rattle.prefix_trie_table.specs.Bitmaps.{has_bit, rank}
-use Rattle.prefix_trie_table.specs.Cells.{node_at, node_sizes, cell_sizes}
-use Rattle.prefix_trie_table.specs.Digits.{path_of, bit_of}
-use Rattle.prefix_trie_table.specs.Store.{Store}
-use Rattle.prefix_trie_table.specs.Forest.{read, read_from, below, child, child_slot, has_value, value_of, at_root}
-use Rattle.prefix_trie_table.specs.Walking.Walks.{Tree}
-use Rattle.prefix_trie_table.specs.Tables.{IsTrie}
+use Rattle.prefix_trie_table.proofs.Prelude.{◌≡◌, ℕ, ◌+◌, ◌%◌, ◌^◌, ◌<◌, ◌≤◌, Bool, true, false, cond, List, [], ◌∷◌, ◌++◌, length, drop, get_or, Option, None, Some, is_some, refl, sym, ap, ap₂, ◌∙◌, subst, arith, inl, inr, append-nil, length-append, ◌==◌, false≢true, cases_lt, le-ltb, get, number, begins, begins-rest, number-lt, has, value_bit, is_in, places, has_node, is_node_depth, listing_below, listing_at_place, listing_at_places, value_bit-small, listing_by_node_places, listing_at_value, listing_at_no_value, listing_at_child, listing_below_none, Node, has_bit, rank, node_at, node_sizes, cell_sizes, path_of, bit_of, Store, read, read_from, below, child, child_slot, has_value, value_of, at_root, Tree, IsTrie}
+use Rattle.std.proofs.lemmas.Bool.{lt-ltb}
 use Rattle.prefix_trie_table.proofs.Strings.Plain.{both_true, no_or_yes}
 use Rattle.prefix_trie_table.proofs.Tree.Invariant.{some_table}
 use Rattle.prefix_trie_table.proofs.Strings.Bits.{has_bit-is}

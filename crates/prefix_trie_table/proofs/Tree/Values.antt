@@ -1,12 +1,7 @@
 -- The cells read by paths, and what changes of nodes and of values leave.
-use Rattle.std.proofs.Common.{◌≡◌, ◌≢◌, ℕ, ◌+◌, ◌<◌, ◌≤◌, ◌⊎◌, inl, inr, true, false, cond, List, [], ◌∷◌, ◌++◌, length, get_or, set, insert, remove, map, flat_map, Option, None, Some, is_some, refl, sym, ap, ◌∙◌, subst, arith}
+use Rattle.prefix_trie_table.proofs.Prelude.{◌≡◌, ◌≢◌, ℕ, ◌+◌, ◌<◌, ◌≤◌, ◌⊎◌, inl, inr, true, false, cond, List, [], ◌∷◌, ◌++◌, length, get_or, set, insert, remove, map, flat_map, Option, None, Some, is_some, refl, sym, ap, ◌∙◌, subst, arith, length-insert, Node, has_bit, bits, rank, Store, UsedBlock, Sound, block, one_if, times, without, has_value, has_child, NodesHold, CellsHold, value_blocks, value_blocks_of, with_child, lacking_child, with_node, with_value, blank_node}
 use Rattle.std.proofs.lemmas.List.{length-set}
-use Rattle.std.proofs.lemmas.List.Edits.{length-insert}
-use Rattle.prefix_trie_table.specs.declared.allocator.node.Node.{Node}
-use Rattle.prefix_trie_table.specs.Bitmaps.{has_bit, bits, rank}
-use Rattle.prefix_trie_table.specs.Store.{Store, UsedBlock, Sound, block}
-use Rattle.prefix_trie_table.specs.Forest.{one_if, times, without, held, size_in, has_value, has_child, NodesHold, CellsHold, value_blocks, value_blocks_of, tier_sizes, with_child, lacking_child, with_node, with_value}
-use Rattle.prefix_trie_table.specs.Cells.{blank_node}
+use Rattle.prefix_trie_table.specs.Forest.{held, size_in, tier_sizes}
 use Rattle.prefix_trie_table.proofs.Blocks.Soundness.{Sound-set, slot_of_block, block_inside, fits_block}
 use Rattle.prefix_trie_table.proofs.Strings.Bits.{has_bit-below, has_bit-zero}
 use Rattle.prefix_trie_table.proofs.Strings.BitLists.{map_get, map_set, map_same, map_insert, map_remove}

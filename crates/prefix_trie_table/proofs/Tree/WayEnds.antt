@@ -1,17 +1,6 @@
 -- Where nodes stand by their paths, and the end of a way.
-use Rattle.std.proofs.Common.{◌≡◌, ℕ, ◌+◌, ◌*◌, ◌/◌, ◌≤◌, Bool, true, List, [], ◌∷◌, ◌++◌, length, get_or, take, Option, Some, is_some, refl, sym, ap, ◌∙◌, subst, arith}
-use Rattle.prefix_trie_table.specs.declared.allocator.node.Node.{Node}
-use Rattle.prefix_trie_table.specs.declared.table.seat.Seat.{Seat}
-use Rattle.prefix_trie_table.specs.declared.table.seat.WayEnd.{WayEnd}
-use Rattle.prefix_trie_table.specs.Bitmaps.{rank}
-use Rattle.prefix_trie_table.specs.Cells.{node_at, node_sizes}
-use Rattle.prefix_trie_table.specs.Digits.{path_of}
-use Rattle.prefix_trie_table.specs.Forest.{child_slot, IsSlot, at_root, at_child, NodesHold, Holds, Deepest, EntryAdded, has_child, node_or_blank}
-use Rattle.prefix_trie_table.specs.Locations.{slot_from, IsWayEnd}
-use Rattle.prefix_trie_table.specs.Slots.{IsSeat, with_slot}
-use Rattle.prefix_trie_table.specs.Store.{Store}
-use Rattle.prefix_trie_table.specs.Tables.{IsReached}
-use Rattle.std.proofs.lemmas.List.{take_all, take_more, length-take-le}
+use Rattle.prefix_trie_table.proofs.Prelude.{◌≡◌, ℕ, ◌+◌, ◌*◌, ◌/◌, ◌≤◌, Bool, true, List, [], ◌∷◌, ◌++◌, length, get_or, take, Option, Some, is_some, refl, sym, ap, ◌∙◌, subst, arith, Node, Seat, WayEnd, rank, node_at, node_sizes, path_of, child_slot, IsSlot, at_root, at_child, NodesHold, Holds, Deepest, EntryAdded, has_child, node_or_blank, slot_from, IsWayEnd, IsSeat, with_slot, Store, IsReached, take_more}
+use Rattle.std.proofs.lemmas.List.{take_all, length-take-le}
 use Rattle.prefix_trie_table.proofs.Insertion.Adding.{values_replaced}
 use Rattle.prefix_trie_table.proofs.Strings.Digits.{path-length}
 use Rattle.prefix_trie_table.proofs.Strings.Plain.{needs_node}

@@ -1,12 +1,5 @@
 -- The slots of the nodes on a way.
-use Rattle.std.proofs.Common.{◌≡◌, ℕ, ◌+◌, inl, inr, List, [], ◌∷◌, ◌++◌, length, get_or, take, Option, sym, ap, ◌∙◌, subst, arith}
-use Rattle.std.proofs.Math.Seq.{get_or-append_seam}
-use Rattle.std.proofs.lemmas.List.{get_or_append_left}
-use Rattle.std.proofs.lemmas.Bool.{cases_lt}
-use Rattle.prefix_trie_table.specs.declared.allocator.node.Node.{Node}
-use Rattle.prefix_trie_table.specs.declared.allocator.node.NodeSlot.{NodeSlot}
-use Rattle.prefix_trie_table.specs.Forest.{IsSlot}
-use Rattle.prefix_trie_table.specs.Removals.{slot_in, IsWay}
+use Rattle.prefix_trie_table.proofs.Prelude.{◌≡◌, ℕ, ◌+◌, inl, inr, List, [], ◌∷◌, ◌++◌, length, get_or, take, Option, sym, ap, ◌∙◌, subst, arith, get_or-append_seam, get_or_append_left, cases_lt, Node, NodeSlot, IsSlot, slot_in, IsWay}
 
 -- no node is above the root
 pub way_first : (reading : List ℕ → Option Node) (path : List ℕ) (way : List NodeSlot) → IsWay reading path way 0

@@ -1,33 +1,8 @@
 -- The stack of a walk that starts at a bit string.
-use Rattle.std.proofs.Common.{◌≡◌, ◌≢◌, ℕ, ◌+◌, ◌*◌, ◌^◌, ◌%◌, ◌<◌, ◌≤◌, Bool, true, false, not, ◌&&◌, List, [], ◌∷◌, ◌++◌, length, take, drop, filter, Some, inl, inr, refl, sym, ap, ap₂, ◌∙◌, subst, arith, length-append, length-drop, bit_and, append-nil, append_assoc, Ordering, Less, Equal, Greater}
-use Rattle.std.proofs.Math.Seq.{take-add}
+use Rattle.prefix_trie_table.proofs.Prelude.{◌≡◌, ◌≢◌, ℕ, ◌+◌, ◌*◌, ◌^◌, ◌%◌, ◌<◌, ◌≤◌, Bool, true, false, not, ◌&&◌, List, [], ◌∷◌, ◌++◌, length, take, drop, filter, Some, inl, inr, refl, sym, ap, ap₂, ◌∙◌, subst, arith, length-append, length-drop, bit_and, append-nil, append_assoc, Ordering, Less, Equal, Greater, take-add, All-nil, All-push, All-weaker, filter_passes, ordering_reverse, cases_lt, false≢true, eqb_tells, take-take, number, listing_cmp, listing_total, listing_same, listing-refl, has, value_bit, is_in, is_before, places, strings, HoldsPlaces, Sets, to_come, listing_at_places, listing_below, is_in-and, value_bit-injective, and-first, and-second, listing_at_child, Node, Spot, Start, At, After, Below, node_at, selected, behind, kept, places_in, path_of, read, child_slot, Store, IsTrie, Tree, IsSpot, IsTrail, IsStack, IsPlaceOf, IsOther, IsPassed, ArePassed, still, pending}
 use Rattle.std.specs.List.{All}
-use Rattle.std.proofs.lemmas.List.Elements.{All-nil, All-push, All-weaker, filter_passes}
-use Rattle.std.specs.Ordering.{is_lt, ordering_reverse}
-use Rattle.std.proofs.lemmas.Bool.{cases_lt, false≢true}
-use Rattle.std.proofs.lemmas.Bool.Decides.{eqb_tells}
-use Rattle.std.proofs.lemmas.List.{length-take-le, take-take, take-append-drop}
-use Rattle.prefix_trie_bits.specs.Bits.{number}
-use Rattle.prefix_trie_bits.specs.Order.{listing_cmp, listing_total, listing_same, listing-refl}
-use Rattle.prefix_trie_bits.specs.Places.{has, value_bit, is_in, is_before, places, strings, HoldsPlaces, Sets}
-use Rattle.prefix_trie_bits.specs.Walks.{to_come}
-use Rattle.prefix_trie_bits.specs.Model.NodeListings.{listing_at_places}
-use Rattle.prefix_trie_bits.specs.Model.Selections.{listing_below}
-use Rattle.prefix_trie_bits.proofs.Selecting.{is_in-and}
-use Rattle.prefix_trie_bits.proofs.Strings.{value_bit-injective}
-use Rattle.prefix_trie_bits.proofs.Model.Members.{and-first, and-second}
-use Rattle.prefix_trie_bits.proofs.Model.NodeListings.{listing_at_child}
-use Rattle.prefix_trie_table.specs.declared.allocator.node.Node.{Node}
-use Rattle.prefix_trie_table.specs.declared.table.spot.Spot.{Spot}
-use Rattle.prefix_trie_table.specs.declared.table.cursor.Start.{Start}
-use Rattle.prefix_trie_table.specs.declared.table.cursor.Start.TheVariants.{At, After, Below}
-use Rattle.prefix_trie_table.specs.Cells.{node_at}
-use Rattle.prefix_trie_table.specs.Walking.Cursors.{selected, behind, kept, places_in}
-use Rattle.prefix_trie_table.specs.Digits.{path_of}
-use Rattle.prefix_trie_table.specs.Forest.{read, child_slot}
-use Rattle.prefix_trie_table.specs.Store.{Store}
-use Rattle.prefix_trie_table.specs.Tables.{IsTrie}
-use Rattle.prefix_trie_table.specs.Walking.Walks.{Tree, IsSpot, IsTrail, IsStack, IsPlaceOf, IsOther, IsPassed, ArePassed, still, pending}
+use Rattle.std.specs.Ordering.{is_lt}
+use Rattle.std.proofs.lemmas.List.{length-take-le, take-append-drop}
 use Rattle.prefix_trie_table.proofs.Walk.Stacks.{passed-above, pending-push, trail-push, restart}
 use Rattle.prefix_trie_table.proofs.Walk.Selected.{wanted_below, wanted_at_root, wanted_passed, wanted_ended, wanted_none, at_some_places}
 use Rattle.prefix_trie_table.proofs.Tree.Subtrees.{is_in-value, is_in-child, child_is, child_inside, unset}

@@ -1,22 +1,6 @@
 -- The strings of entries as a set, and what is still to come of them.
-use Rattle.std.proofs.Common.{◌≡◌, Bool, true, false, cond, ◌&&◌, ◌||◌, nat_lt, List, [], ◌∷◌, ◌++◌, length, take, map, filter, Option, None, Some, is_some, is_lt, refl, sym, ap, ap₂, ◌∙◌, subst}
+use Rattle.prefix_trie_table.proofs.Prelude.{◌≡◌, Bool, true, false, cond, ◌&&◌, ◌||◌, nat_lt, List, [], ◌∷◌, ◌++◌, length, take, map, filter, Option, None, Some, is_some, is_lt, refl, sym, ap, ap₂, ◌∙◌, subst, false≢true, map-append, map-map, eq_by_cmp, list_any, get, contains_key, entries, entries_sorted, from_sorted, entries-from_sorted, contains_key-keys, is_sorted, below_all, begins, listing_cmp, same_string, Entries, with_entry, Nodes, has_node, pair_of, listing_at_place, listing_at_places, to_come, same_members, same_string-is, has-inserted, Spot, still, pending}
 use lib.Dec.{T as IsT}
-use Rattle.std.proofs.lemmas.Bool.{false≢true}
-use Rattle.std.proofs.lemmas.List.{map-append}
-use Rattle.std.proofs.lemmas.Simd.{map-map}
-use Rattle.std.specs.Ordering.{eq_by_cmp}
-use Rattle.std.specs.List.{list_any}
-use Rattle.std.specs.FinMap.{get, contains_key, entries, entries_sorted, from_sorted, entries-from_sorted, contains_key-keys, is_sorted}
-use Rattle.std.specs.FinMap.Entries.{below_all}
-use Rattle.prefix_trie_bits.specs.Bits.{begins}
-use Rattle.prefix_trie_bits.specs.Order.{listing_cmp, same_string}
-use Rattle.prefix_trie_bits.specs.Model.Entries.{Entries, with_entry}
-use Rattle.prefix_trie_bits.specs.Model.Nodes.{Nodes, has_node}
-use Rattle.prefix_trie_bits.specs.Model.NodeListings.{pair_of, listing_at_place, listing_at_places}
-use Rattle.prefix_trie_bits.specs.Walks.{to_come}
-use Rattle.prefix_trie_bits.proofs.Model.Members.{same_members, same_string-is, has-inserted}
-use Rattle.prefix_trie_table.specs.declared.table.spot.Spot.{Spot}
-use Rattle.prefix_trie_table.specs.Walking.Walks.{still, pending}
 
 -- pairs that keep their keys keep their order
 module _ {X Y : Type 0} (f : List Bool × X → List Bool × Y) (keeps : (e : List Bool × X) → (f e).0 ≡ e.0) where

@@ -1,15 +1,6 @@
 -- The values of two strings stand in two cells.
-use Rattle.std.proofs.Common.{◌≡◌, ◌≢◌, ℕ, ◌+◌, ◌<◌, ◌⊎◌, inl, inr, Bool, true, List, [], ◌∷◌, ◌++◌, length, get_or, map, flat_map, Option, None, Some, sym, ap, ◌∙◌, subst, arith}
-use Rattle.std.proofs.lemmas.List.Elements.{All-head}
-use Rattle.std.proofs.lemmas.List.Sorted.{IsPermutation-cons}
-use Rattle.prefix_trie_table.specs.declared.allocator.node.Node.{Node}
-use Rattle.prefix_trie_table.specs.declared.table.seat.Seat.{Seat}
-use Rattle.prefix_trie_table.specs.Bitmaps.{has_bit, bits, rank}
-use Rattle.prefix_trie_table.specs.Cells.{node_sizes, cell_sizes}
-use Rattle.prefix_trie_table.specs.Digits.{path_of, bit_of}
-use Rattle.prefix_trie_table.specs.Store.{Store, UsedBlock, Sound, block, extent, free_extents, tier_sizes}
-use Rattle.prefix_trie_table.specs.Forest.{SomeTable, size_in, times, without, value_blocks, value_blocks_of}
-use Rattle.prefix_trie_table.specs.Slots.{IsSeat}
+use Rattle.prefix_trie_table.proofs.Prelude.{◌≡◌, ◌≢◌, ℕ, ◌+◌, ◌<◌, ◌⊎◌, inl, inr, Bool, true, List, [], ◌∷◌, ◌++◌, length, get_or, map, flat_map, Option, None, Some, sym, ap, ◌∙◌, subst, arith, All-head, IsPermutation-cons, Node, Seat, has_bit, bits, rank, node_sizes, cell_sizes, path_of, bit_of, Store, UsedBlock, Sound, block, extent, free_extents, tier_sizes, SomeTable, times, without, value_blocks, value_blocks_of, IsSeat}
+use Rattle.prefix_trie_table.specs.Forest.{size_in}
 use Rattle.prefix_trie_table.proofs.Strings.Bits.{has_bit-below}
 use Rattle.prefix_trie_table.proofs.Strings.BitLists.{map_get}
 use Rattle.prefix_trie_table.proofs.Tree.Children.{same_or}

@@ -1,25 +1,6 @@
 -- What a walk from a bit string gives, node by node on the string's way.
-use Rattle.std.proofs.Common.{◌≡◌, ℕ, zero, suc, ◌<◌, ◌≤◌, Bool, true, false, not, cond, ◌&&◌, ◌||◌, nat_lt, ltb-true, List, [], ◌∷◌, ◌++◌, length, take, drop, filter, is_lt, is_le, Ordering, Less, Equal, Greater, Option, Some, None, inl, inr, refl, sym, ap, ap₂, ◌∙◌, subst, arith}
-use Rattle.std.proofs.lemmas.Bool.{cases_lt, false≢true}
-use Rattle.std.specs.Ordering.{ordering_reverse}
-use Rattle.std.proofs.lemmas.List.{take-append-drop, take-take, take_all, take_at, drop_at, append_assoc}
-use Rattle.std.proofs.lemmas.List.Elements.{filter-append, filter_agree}
-use Rattle.std.specs.FinMap.{get, entries, entries_sorted}
-use Rattle.prefix_trie_bits.specs.Bits.{begins}
-use Rattle.prefix_trie_bits.specs.Begins.{same_bool, begins-from-take, take-begins, begins-rest, begins-take, begins-trans, begins-append}
-use Rattle.prefix_trie_bits.specs.Order.{listing_cmp, listing_total, listing-refl, listing-common, listing-apart}
-use Rattle.prefix_trie_bits.specs.Places.{strings, is_before}
-use Rattle.prefix_trie_bits.specs.Model.Entries.{Entries}
-use Rattle.prefix_trie_bits.specs.Model.Selections.{listing, listing_below}
-use Rattle.prefix_trie_bits.specs.Model.NodeListings.{pair_of, listing_at_place, listing_at_places}
-use Rattle.prefix_trie_bits.proofs.Checks.{both, each}
-use Rattle.prefix_trie_bits.proofs.Listing.{strings-short}
-use Rattle.prefix_trie_bits.proofs.Model.Members.{and-first, and-second}
-use Rattle.prefix_trie_bits.proofs.Model.Ordered.{lt-less}
-use Rattle.prefix_trie_bits.proofs.Model.NodeListings.{two-tests, listing_by_places, listing_at_inner, listing_at_child}
-use Rattle.prefix_trie_table.specs.declared.table.cursor.Start.{Start}
-use Rattle.prefix_trie_table.specs.declared.table.cursor.Start.TheVariants.{At, After, Below}
-use Rattle.prefix_trie_table.specs.Walking.Cursors.{selected, behind, kept}
+use Rattle.prefix_trie_table.proofs.Prelude.{◌≡◌, ℕ, zero, suc, ◌<◌, ◌≤◌, Bool, true, false, not, cond, ◌&&◌, ◌||◌, nat_lt, ltb-true, List, [], ◌∷◌, ◌++◌, length, take, drop, filter, is_lt, is_le, Ordering, Less, Equal, Greater, Option, Some, None, inl, inr, refl, sym, ap, ap₂, ◌∙◌, subst, arith, cases_lt, false≢true, ordering_reverse, take-take, take_at, drop_at, filter-append, filter_agree, get, entries, entries_sorted, begins, same_bool, begins-from-take, take-begins, begins-rest, begins-take, begins-trans, begins-append, listing_cmp, listing_total, listing-refl, listing-common, listing-apart, strings, is_before, Entries, listing, listing_below, pair_of, listing_at_place, listing_at_places, both, each, strings-short, and-first, and-second, lt-less, two-tests, listing_by_places, listing_at_inner, listing_at_child, Start, At, After, Below, selected, behind, kept}
+use Rattle.std.proofs.lemmas.List.{take-append-drop, take_all, append_assoc}
 use Rattle.prefix_trie_table.proofs.Strings.Plain.{no_or_yes}
 
 -- whether a walk from q gives what k has

@@ -1,22 +1,9 @@
 -- What a walk drops that skips what a key begins.
-use Rattle.std.proofs.Common.{◌≡◌, ℕ, ◌+◌, ◌*◌, ◌≤◌, Bool, true, false, not, cond, ◌&&◌, nat_lt, List, [], ◌∷◌, ◌++◌, length, take, drop, filter, Some, refl, sym, ap, ap₂, ◌∙◌, subst, arith, length-append, length-drop}
-use Rattle.std.proofs.Math.Seq.{take-add}
+use Rattle.prefix_trie_table.proofs.Prelude.{◌≡◌, ℕ, ◌+◌, ◌*◌, ◌≤◌, Bool, true, false, not, cond, ◌&&◌, nat_lt, List, [], ◌∷◌, ◌++◌, length, take, drop, filter, Some, refl, sym, ap, ap₂, ◌∙◌, subst, arith, length-append, length-drop, take-add, take-take, filter-append, All-head, All-tail, All-weaker, All-filter, begins, same_bool, begins-length, begins-linear, begins-trans, begins-same-length, begins-from-rest, take-begins, to_come, Entries, listing_at_places, each, Node, Spot, path_of, read, Store, IsSpot, IsPlaceOf, IsTrail, IsStack, IsOther, IsPassed, ArePassed, EndsLast, SkipsLast, start, still, pending}
 use Rattle.std.specs.List.{All}
 use Rattle.std.proofs.lemmas.Bool.{lt-ltb}
-use Rattle.std.proofs.lemmas.List.{take-take, take-append-drop, length-take-le}
-use Rattle.std.proofs.lemmas.List.Elements.{filter-append, All-head, All-tail, All-weaker, All-filter}
-use Rattle.prefix_trie_bits.specs.Bits.{begins}
-use Rattle.prefix_trie_bits.specs.Begins.{same_bool, begins-length, begins-linear, begins-trans, begins-same-length, begins-from-rest, take-begins}
-use Rattle.prefix_trie_bits.specs.Walks.{to_come}
-use Rattle.prefix_trie_bits.specs.Model.Entries.{Entries}
-use Rattle.prefix_trie_bits.specs.Model.NodeListings.{listing_at_places}
-use Rattle.prefix_trie_bits.proofs.Checks.{each}
-use Rattle.prefix_trie_table.specs.declared.allocator.node.Node.{Node}
-use Rattle.prefix_trie_table.specs.declared.table.spot.Spot.{Spot}
-use Rattle.prefix_trie_table.specs.Digits.{path_of}
-use Rattle.prefix_trie_table.specs.Forest.{read}
-use Rattle.prefix_trie_table.specs.Store.{Store}
-use Rattle.prefix_trie_table.specs.Walking.Walks.{IsSpot, IsPlaceOf, IsTrail, IsStack, IsOther, IsPassed, ArePassed, EndsAt, EndsLast, SkipsLast, start, still, pending}
+use Rattle.std.proofs.lemmas.List.{take-append-drop, length-take-le}
+use Rattle.prefix_trie_table.specs.Walking.Walks.{EndsAt}
 use Rattle.prefix_trie_table.proofs.Walk.Cursors.{short_rest}
 use Rattle.prefix_trie_table.proofs.Walk.Stacks.{passed-below, passed-above, spot_as, pending-popped, stack-room, stack-put, trail-at}
 use Rattle.prefix_trie_table.proofs.Strings.Paths.{snoc_inj}

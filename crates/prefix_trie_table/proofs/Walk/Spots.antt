@@ -1,37 +1,10 @@
 -- What the next place of a spot gives.
-use Rattle.std.proofs.Common.{◌≡◌, ℕ, suc, ◌+◌, ◌-◌, ◌*◌, ◌^◌, ◌%◌, ◌<◌, ◌≤◌, Bool, true, false, not, cond, List, [], ◌∷◌, ◌++◌, length, take, drop, filter, get_or, None, Some, refl, sym, ap, ap₂, ◌∙◌, subst, arith, inl, inr, length-append, append_assoc}
+use Rattle.prefix_trie_table.proofs.Prelude.{◌≡◌, ℕ, suc, ◌+◌, ◌-◌, ◌*◌, ◌^◌, ◌%◌, ◌<◌, ◌≤◌, Bool, true, false, not, cond, List, ◌∷◌, ◌++◌, length, take, drop, get_or, None, Some, refl, sym, ap, ap₂, ◌∙◌, subst, arith, inl, inr, length-append, append_assoc, IsStrictlySortedBy, add-mul, one-mul, pow_pos, shl_below, length-filter_both, cases_lt, le-ltb, take-append-le, take-take, take_at, drop_at, All-head, All-tail, number, digits, zeros, length-digits, digits-number, listing_cmp, take-extend, has, value_bit, is_in, places, place_of, strings, to_come, Places, listing_below, listing_at_place, listing_at_places, count-strings, value_bit-small, listing_at_child, Node, Seat, Spot, has_bit, node_at, path_of, seat_of, value_seat, Store, read, child_slot, Tree, IsSpot, IsPlaceOf, IsOther, IsPassed, still, GivesSeat, weight, IsTrie}
 use Rattle.std.specs.List.{All}
-use Rattle.std.specs.List.Sorted.{IsStrictlySortedBy}
-use Rattle.std.proofs.Math.Nat.{add-mul, one-mul}
-use Rattle.std.proofs.lemmas.Nat.{pow_pos, shl_below}
-use Rattle.std.proofs.lemmas.List.Filters.{length-filter_both}
-use Rattle.std.proofs.lemmas.Bool.{cases_lt, lt-ltb, le-ltb}
-use Rattle.std.proofs.lemmas.List.{length-take-le, take-append-le, take-take, take_at, drop_at}
-use Rattle.std.proofs.lemmas.List.Elements.{All-head, All-tail}
-use Rattle.prefix_trie_bits.specs.Bits.{number, digits, zeros}
-use Rattle.prefix_trie_bits.specs.BitStrings.{length-digits, digits-number}
-use Rattle.prefix_trie_bits.specs.Order.{listing_cmp}
-use Rattle.prefix_trie_bits.specs.Windows.{take-extend}
-use Rattle.prefix_trie_bits.specs.Places.{has, value_bit, is_in, places, place_of, strings}
-use Rattle.prefix_trie_bits.specs.Walks.{to_come}
+use Rattle.std.proofs.lemmas.Bool.{lt-ltb}
+use Rattle.std.proofs.lemmas.List.{length-take-le}
 use Rattle.prefix_trie_bits.specs.declared.node.Place.TheVariants.{Value, Child as ChildPlace}
-use Rattle.prefix_trie_bits.specs.declared.node.Places.{Places}
-use Rattle.prefix_trie_bits.specs.Model.Selections.{listing_below}
-use Rattle.prefix_trie_bits.specs.Model.NodeListings.{listing_at_place, listing_at_places}
-use Rattle.prefix_trie_bits.proofs.Listing.{count-strings}
-use Rattle.prefix_trie_bits.proofs.Strings.{value_bit-small}
-use Rattle.prefix_trie_bits.proofs.Model.NodeListings.{listing_at_child}
-use Rattle.prefix_trie_table.specs.declared.allocator.node.Node.{Node}
-use Rattle.prefix_trie_table.specs.declared.table.seat.Seat.{Seat}
-use Rattle.prefix_trie_table.specs.declared.table.spot.Spot.{Spot}
-use Rattle.prefix_trie_table.specs.Bitmaps.{has_bit}
-use Rattle.prefix_trie_table.specs.Cells.{node_at}
-use Rattle.prefix_trie_table.specs.Digits.{path_of}
-use Rattle.prefix_trie_table.specs.Locations.{seat_of, value_seat}
-use Rattle.prefix_trie_table.specs.Store.{Store}
-use Rattle.prefix_trie_table.specs.Forest.{read, child_slot}
-use Rattle.prefix_trie_table.specs.Walking.Walks.{Tree, IsSpot, IsPlaceOf, IsOther, IsPassed, still, GivesSeat, weight, slot_of}
-use Rattle.prefix_trie_table.specs.Tables.{IsTrie}
+use Rattle.prefix_trie_table.specs.Walking.Walks.{slot_of}
 use Rattle.prefix_trie_table.proofs.Walk.Stacks.{others_after, spot_as}
 use Rattle.prefix_trie_table.proofs.Strings.Plain.{whole_levels}
 use Rattle.prefix_trie_table.proofs.Lookup.Locating.{seat_below}

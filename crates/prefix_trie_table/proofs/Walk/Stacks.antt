@@ -1,19 +1,6 @@
 -- A stack of spots, read from its end.
-use Rattle.std.proofs.Common.{◌≡◌, ℕ, ◌+◌, ◌*◌, ◌<◌, ◌≤◌, Bool, List, [], ◌∷◌, ◌++◌, length, sum_by, take, Some, refl, ap, sym, ◌∙◌, subst, arith, append_assoc, append-nil, length-append, drop, get_or, Less}
-use Rattle.std.specs.List.{All, AllByRecursion}
-use Rattle.std.proofs.lemmas.List.{take-take, drop-take, get_or_append_left}
-use Rattle.std.proofs.lemmas.List.Sums.{sum_by_push}
-use Rattle.prefix_trie_bits.specs.Walks.{to_come}
-use Rattle.prefix_trie_bits.specs.Model.Entries.{Entries}
-use Rattle.prefix_trie_bits.specs.Model.NodeListings.{listing_at_places}
-use Rattle.prefix_trie_table.specs.declared.table.spot.Spot.{Spot}
-use Rattle.prefix_trie_table.specs.Digits.{path_of}
-use Rattle.prefix_trie_table.specs.Forest.{read}
-use Rattle.prefix_trie_table.specs.Store.{Store}
-use Rattle.prefix_trie_table.specs.declared.allocator.node.Node.{Node}
-use Rattle.prefix_trie_table.specs.Walking.Walks.{IsSpot, IsPlaceOf, IsTrail, IsStack, start, still, pending, weight, IsOther, IsPassed, ArePassed}
-use Rattle.std.proofs.lemmas.List.Elements.{All-nil, All-cons, All-head, All-tail, All-push}
-use Rattle.prefix_trie_bits.specs.Order.{listing_cmp, listing-refl}
+use Rattle.prefix_trie_table.proofs.Prelude.{◌≡◌, ℕ, ◌+◌, ◌*◌, ◌<◌, ◌≤◌, Bool, List, [], ◌∷◌, ◌++◌, length, sum_by, take, Some, refl, ap, sym, ◌∙◌, subst, arith, append_assoc, append-nil, length-append, drop, get_or, Less, AllByRecursion, take-take, drop-take, get_or_append_left, sum_by_push, to_come, Entries, listing_at_places, Spot, path_of, read, Store, Node, IsSpot, IsPlaceOf, IsTrail, IsStack, start, still, pending, weight, IsOther, IsPassed, ArePassed, All-nil, All-cons, All-head, All-tail, All-push, listing_cmp, listing-refl}
+use Rattle.std.specs.List.{All}
 
 -- a spot of as many levels as another
 pub spot_as : {K : Type 0} {IsKey IsOther : K → Type 0} {bits : K → List Bool} {width : ℕ} {v w : Store Node} {key other : K} {p q : Spot} → IsSpot IsKey bits width v key p →

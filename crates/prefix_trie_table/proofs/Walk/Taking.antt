@@ -1,38 +1,14 @@
 -- A walk that takes values out of their cells.
-use Rattle.std.proofs.Common.{◌≡◌, ◌≢◌, ℕ, ◌+◌, ◌<◌, Bool, true, false, cond, ◌&&◌, List, [], ◌∷◌, ◌++◌, length, take, get_or, set, map, Option, None, Some, is_some, is_lt, refl, sym, ap, ◌∙◌, subst, arith}
+use Rattle.prefix_trie_table.proofs.Prelude.{◌≡◌, ◌≢◌, ℕ, ◌+◌, ◌<◌, Bool, true, false, cond, ◌&&◌, List, [], ◌∷◌, ◌++◌, length, take, get_or, set, map, Option, None, Some, is_some, is_lt, refl, sym, ap, ◌∙◌, subst, arith, AllZip, get, len, entries, entries_sorted, get-entries, is_sorted, below_all, is_sorted-where_key, false≢true, get_or-set_other, get_or_default, All-head, All-tail, All-filter, All-weaker, All-contains_itself, length_all_zip, same_from_all_zip, begins, listing_cmp, pair_of, listing_below, State, and-first, and-second, t-true, true-t, lt-less, not_itself, sorted-head, sorted-tail, find-from_Contains, Node, Seat, Spot, has_bit, rank, path_of, bit_of, Store, read, value_in, value_of, GivesFilled, value_seat, seat_in, seat_of, IsShapeOf, same_shape, IsTrie, Seated, cell_of, pairs_in, AreHeld, IsApart, AreApart, IsTaking, Seated-prop, Tree, IsStack, pending, GivesSeat, IsCloned, IsPairCloned}
 use lib.Dec.{T as IsT}
-use Rattle.std.specs.List.{All, Contains, AllZip}
-use Rattle.std.specs.FinMap.{get, len, entries, entries_sorted, get-entries, is_sorted}
-use Rattle.std.specs.FinMap.Entries.{below_all, is_sorted-where_key}
-use Rattle.std.proofs.lemmas.Bool.{false≢true}
-use Rattle.std.proofs.lemmas.List.{length-set, get_or-set_other, get_or_default}
-use Rattle.std.proofs.lemmas.List.Elements.{All-head, All-tail, All-filter, All-weaker, All-contains_itself, length_all_zip, same_from_all_zip}
-use Rattle.prefix_trie_bits.specs.Bits.{begins}
-use Rattle.prefix_trie_bits.specs.Order.{listing_cmp}
-use Rattle.prefix_trie_bits.specs.Model.NodeListings.{pair_of}
-use Rattle.prefix_trie_bits.specs.Model.Selections.{listing_below}
-use Rattle.prefix_trie_bits.specs.Model.Step.{State}
-use Rattle.prefix_trie_bits.proofs.Model.Members.{and-first, and-second}
-use Rattle.prefix_trie_bits.proofs.Model.Ordered.{t-true, true-t, lt-less, not_itself, sorted-head, sorted-tail, find-from_Contains}
-use Rattle.prefix_trie_table.specs.declared.allocator.node.Node.{Node}
-use Rattle.prefix_trie_table.specs.declared.table.seat.Seat.{Seat}
-use Rattle.prefix_trie_table.specs.declared.table.spot.Spot.{Spot}
-use Rattle.prefix_trie_table.specs.Bitmaps.{has_bit, rank}
-use Rattle.prefix_trie_table.specs.Digits.{path_of, bit_of}
-use Rattle.prefix_trie_table.specs.Store.{Store}
-use Rattle.prefix_trie_table.specs.Forest.{read, value_in, value_of}
-use Rattle.prefix_trie_table.specs.Walking.Items.{GivesFilled}
-use Rattle.prefix_trie_table.specs.Locations.{value_seat, seat_in, seat_of}
-use Rattle.prefix_trie_table.specs.Shape.{IsShapeOf, same_shape}
-use Rattle.prefix_trie_table.specs.Tables.{IsTrie}
-use Rattle.prefix_trie_table.specs.Walking.Taking.{Seated, cell_of, pairs_in, AreHeld, IsApart, AreApart, IsTaking, Seated-prop}
-use Rattle.prefix_trie_table.specs.Walking.Walks.{Tree, IsStack, pending, slot_of, GivesSeat}
+use Rattle.std.specs.List.{All, Contains}
+use Rattle.std.proofs.lemmas.List.{length-set}
+use Rattle.prefix_trie_table.specs.Walking.Walks.{slot_of}
 use Rattle.prefix_trie_table.proofs.Tree.Invariant.{some_table}
 use Rattle.prefix_trie_table.proofs.Walk.KeySets.{bare, strings_of, has-strings_of, pending_bare}
 use Rattle.prefix_trie_table.proofs.Lookup.Located.{stored_if}
 use Rattle.prefix_trie_table.proofs.Lookup.Locating.{is_seat}
 use Rattle.prefix_trie_table.proofs.Walk.Seats.{seats_differ}
-use Rattle.prefix_trie_table.specs.Copies.{IsCloned, IsPairCloned}
 use Rattle.prefix_trie_table.proofs.Tree.Copying.{clones_at, cloned_there, cells_cloned}
 
 -- ---- cells and seats

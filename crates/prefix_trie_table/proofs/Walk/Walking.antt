@@ -1,32 +1,10 @@
 -- What the arrays and the spots of a walk say of what is still to come.
-use Rattle.std.proofs.Common.{◌≡◌, ℕ, ◌%◌, Bool, List, [], ◌∷◌, length, take, arith, Option, None, Some, refl, sym, ap, ◌∙◌, subst, ◌+◌, map, is_some, true, MatchOption, IfSome}
+use Rattle.prefix_trie_table.proofs.Prelude.{◌≡◌, ℕ, ◌%◌, Bool, List, [], ◌∷◌, length, take, arith, Option, None, Some, refl, sym, ap, ◌∙◌, subst, ◌+◌, map, is_some, true, MatchOption, IfSome, All-nil, slice_index_or, Bor, places, to_come, listing, listing_below, listing_at_places, State, listing_of_root, Node, Store, node_at, path_of, read, Shaped, IsShapeOf, same_shape, Seat, Spot, GivesFilled, Tree, IsSpot, IsPlaceOf, IsStack, IsPassed, ArePassed, still, pending, GivesSeat, ShapeOf, rest_of_walk, IsWalk, IsTrail, start, IsTrie, IsTable, len, contains_key, seat_of, GivesKey}
 use Rattle.std.specs.List.{All}
-use Rattle.std.proofs.lemmas.List.Elements.{All-nil}
-use Rattle.std.specs.Prelude.{slice_index_or}
-use Rattle.std.specs.Borrow.{Bor}
-use Rattle.prefix_trie_bits.specs.Places.{places}
-use Rattle.prefix_trie_bits.specs.Walks.{to_come}
-use Rattle.prefix_trie_bits.specs.Model.Selections.{listing, listing_below}
-use Rattle.prefix_trie_bits.specs.Model.NodeListings.{listing_at_places}
-use Rattle.prefix_trie_bits.specs.Model.Step.{State}
-use Rattle.prefix_trie_bits.proofs.Model.NodeListings.{listing_of_root}
-use Rattle.prefix_trie_table.specs.declared.allocator.node.Node.{Node}
-use Rattle.prefix_trie_table.specs.Store.{Store}
-use Rattle.prefix_trie_table.specs.Cells.{node_at}
-use Rattle.prefix_trie_table.specs.Digits.{path_of}
-use Rattle.prefix_trie_table.specs.Forest.{read}
-use Rattle.prefix_trie_table.specs.Shape.{Shaped, IsShapeOf, same_shape}
-use Rattle.prefix_trie_table.specs.declared.table.seat.Seat.{Seat}
-use Rattle.prefix_trie_table.specs.declared.table.spot.Spot.{Spot}
-use Rattle.prefix_trie_table.specs.Walking.Items.{GivesFilled}
-use Rattle.prefix_trie_table.specs.Walking.Walks.{Tree, IsSpot, IsPlaceOf, IsStack, IsPassed, ArePassed, still, pending, slot_of, GivesSeat, ShapeOf, rest_of_walk, IsWalk, IsTrail, start}
-use Rattle.prefix_trie_table.specs.Tables.{IsTrie, IsTable}
-use Rattle.std.specs.FinMap.{len, contains_key}
+use Rattle.prefix_trie_table.specs.Walking.Walks.{slot_of}
 use Rattle.prefix_trie_table.proofs.Walk.Stacks.{passed-above, spot_as}
 use Rattle.prefix_trie_table.proofs.Tree.Trees.{read-nil}
 use Rattle.prefix_trie_table.proofs.Tree.Subtrees.{all_places}
-use Rattle.prefix_trie_table.specs.Locations.{seat_of}
-use Rattle.prefix_trie_table.specs.Walking.Trails.{GivesKey}
 use Rattle.prefix_trie_table.proofs.Lookup.Located.{stored_if}
 
 -- the table whose values are these

@@ -1,4 +1,4 @@
-use Rattle.prefix_trie_bits.specs.Keys.{narrow_width}
+use Rattle.prefix_trie.proofs.Prelude.{narrow_width}
 use Rattle.prefix_trie.proofs.Networks.{number_laws}
 use Rattle.prefix_trie.proofs.laws.narrow_laws.Goals as goal
 

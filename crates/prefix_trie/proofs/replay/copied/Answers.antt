@@ -1,6 +1,4 @@
-use Rattle.std.proofs.Common.{ap, ◌∙◌}
-use Rattle.std.specs.Iterator.Adapters.{map_source}
-use Rattle.prefix_trie_map.specs.Walks.{lent_item}
+use Rattle.prefix_trie.proofs.Prelude.{ap, ◌∙◌, map_source, lent_item}
 use Rattle.prefix_trie.proofs.Copies.{takes_copies}
 use Rattle.prefix_trie.proofs.replay.copied.Goals as goal
 

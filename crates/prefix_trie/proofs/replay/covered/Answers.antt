@@ -1,4 +1,4 @@
-use Rattle.prefix_trie_map.specs.Walks.{lent_item}
+use Rattle.prefix_trie.proofs.Prelude.{lent_item}
 use Rattle.prefix_trie.proofs.Copies.{has_walk}
 use Rattle.prefix_trie.proofs.replay.covered.Goals as goal
 

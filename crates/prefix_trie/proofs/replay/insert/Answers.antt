@@ -1,4 +1,4 @@
-use Rattle.std.proofs.Common.{rules}
+use Rattle.prefix_trie.proofs.Prelude.{rules}
 use Rattle.prefix_trie.proofs.replay.insert.Goals as goal
 
 pub returns-in-Ok : goal.returns-in-Ok

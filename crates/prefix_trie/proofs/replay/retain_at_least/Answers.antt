@@ -1,7 +1,4 @@
-use Rattle.std.proofs.Common.{rules, of_calls}
-use Rattle.prefix_trie_bits.specs.Keys.{len_back}
-use Rattle.prefix_trie_bits.proofs.Model.Askings.{may_ask_always}
-use Rattle.prefix_trie_bits.proofs.Model.Retained.{at_least_step}
+use Rattle.prefix_trie.proofs.Prelude.{rules, of_calls, len_back, may_ask_always, at_least_step}
 use Rattle.prefix_trie.proofs.replay.retain_at_least.Goals as goal
 
 pub retain-requires : goal.retain-requires

@@ -1,6 +1,4 @@
-use Rattle.std.proofs.Common.{false, true≢false, sym}
-use Rattle.prefix_trie_bits.proofs.Model.Counted.{counted_laws}
-use Rattle.prefix_trie_bits.proofs.Model.Runs.{run_of_stored}
+use Rattle.prefix_trie.proofs.Prelude.{false, true≢false, sym, counted_laws, run_of_stored}
 use Rattle.prefix_trie.proofs.replay.run.Goals as goal
 
 pub returns-clause-run : goal.returns-clause-run

@@ -1,10 +1,4 @@
-use Rattle.std.proofs.Common.{rules, List, [], subst, arith}
-use Rattle.std.proofs.lemmas.List.{take_all}
-use Rattle.prefix_trie_bits.specs.Keys.{path_within}
-use Rattle.prefix_trie_bits.proofs.Model.Counted.{step_pushed, run_counted, StepsSoFar, all_fit_more}
-use Rattle.prefix_trie_map.specs.Steps.{stored}
-use Rattle.prefix_trie.specs.Replay.{call_of, reply_of, calls_of, replies_of}
-use Rattle.prefix_trie.specs.declared.replay.Call.{Call}
+use Rattle.prefix_trie.proofs.Prelude.{rules, List, [], subst, arith, take_all, path_within, step_pushed, run_counted, StepsSoFar, all_fit_more, stored, call_of, reply_of, calls_of, replies_of, Call}
 use Rattle.prefix_trie.proofs.replay.run_counted.Goals as goal
 
 pub loop-call-init : goal.loop-call-init

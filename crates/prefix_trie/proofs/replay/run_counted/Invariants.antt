@@ -1,7 +1,4 @@
-use Rattle.std.proofs.Common.{◌≡◌, ◌≤◌, length, take, vec_len, vec_capacity}
-use Rattle.prefix_trie_bits.proofs.Model.Counted.{StepsSoFar}
-use Rattle.prefix_trie_map.specs.Steps.{stored}
-use Rattle.prefix_trie.specs.Replay.{calls_of, replies_of}
+use Rattle.prefix_trie.proofs.Prelude.{◌≡◌, ◌≤◌, length, take, vec_len, vec_capacity, StepsSoFar, stored, calls_of, replies_of}
 use Rattle.prefix_trie.proofs.replay.run_counted.Given as goal
 
 -- the calls so far, each with its reply and the number of nodes that it read, are steps from the map as it was, and there is room

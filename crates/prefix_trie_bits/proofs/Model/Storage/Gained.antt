@@ -1,15 +1,5 @@
 -- What the insertion of a new key may leave of the storage: each node that needs a block takes it, and those that lack are made.
-use Rattle.std.proofs.Common.{◌≡◌, ℕ, ◌+◌, ◌≤◌, Bool, true, false, cond, not, ◌&&◌, ◌||◌, nat_lt, List, [], ◌∷◌, length, take, Option, None, Some, refl, sym, ap, ◌∙◌, subst, arith}
-use Rattle.std.specs.Prelude.{filter_map, option_to_list}
-use Rattle.std.specs.Option.{option_or}
-use Rattle.std.specs.List.{list_any, cons_option}
-use Rattle.std.specs.FinMap.{get}
-use Rattle.prefix_trie_bits.specs.Order.{same_string}
-use Rattle.prefix_trie_bits.specs.Model.Blocks.{Sizes, child_block_sizes, value_block_sizes, free_of, used_of, one_of}
-use Rattle.prefix_trie_bits.specs.Model.Insertion.{gains_child, child_block_needed, value_block_needed, child_blocks_needed, value_blocks_needed, child_blocks_lacking, value_blocks_lacking, node_slots_lacking, cell_slots_lacking, lacking_of, TakesBlocks}
-use Rattle.prefix_trie_bits.specs.Model.Nodes.{has_node, home, nodes_above}
-use Rattle.prefix_trie_bits.specs.Model.Step.{State}
-use Rattle.prefix_trie_bits.specs.Model.Storage.{Storage, InsertsInStorage}
+use Rattle.prefix_trie_bits.proofs.Prelude.{◌≡◌, ℕ, ◌+◌, ◌≤◌, Bool, true, false, cond, not, ◌&&◌, ◌||◌, nat_lt, List, [], ◌∷◌, length, take, Option, None, Some, refl, sym, ap, ◌∙◌, subst, arith, filter_map, option_to_list, option_or, list_any, cons_option, get, same_string, Sizes, child_block_sizes, value_block_sizes, free_of, used_of, one_of, gains_child, child_block_needed, value_block_needed, child_blocks_needed, value_blocks_needed, child_blocks_lacking, value_blocks_lacking, node_slots_lacking, cell_slots_lacking, lacking_of, TakesBlocks, has_node, home, nodes_above, State, Storage, InsertsInStorage}
 use Rattle.prefix_trie_bits.proofs.Model.Members.{same_string-is, any-node_above}
 use Rattle.prefix_trie_bits.proofs.Model.Storage.Shrinking.{rest_free, as_many, with_taken, with_taken_at, with_taken_used}
 use Rattle.prefix_trie_bits.proofs.Model.Storage.Slots.{how_many, how_many-more}

@@ -1,11 +1,5 @@
 -- What an insertion finds and leaves where the blocks that it lacks were made before it.
-use Rattle.std.proofs.Common.{◌≡◌, ℕ, zero, suc, ◌+◌, ◌-◌, ◌*◌, ◌<◌, Bool, true, cond, ◌&&◌, ◌==◌, List, [], ◌∷◌, length, nat_lt, refl, sym, ap, ◌∙◌, subst, arith, eq-eqb, eqb-true, ltb-true}
-use Rattle.std.proofs.lemmas.Bool.{false_from_ne_true}
-use Rattle.std.specs.Prelude.{Contains, filter}
-use Rattle.prefix_trie_bits.specs.Model.Blocks.{Sizes, free_of, used_of, child_block_sizes, value_block_sizes, child_block_count, value_block_count}
-use Rattle.prefix_trie_bits.specs.Model.Insertion.{lacking_of, lacking_slots, TakesBlocks, child_block_needed, value_block_needed, child_blocks_needed, value_blocks_needed, child_blocks_lacking, value_blocks_lacking, node_slots_lacking, cell_slots_lacking}
-use Rattle.prefix_trie_bits.specs.Model.Step.{State, Refusal}
-use Rattle.prefix_trie_bits.specs.Model.Storage.{Storage, InsertsInStorage, ReadiesInStorage, RefusesInStorage}
+use Rattle.prefix_trie_bits.proofs.Prelude.{◌≡◌, ℕ, zero, suc, ◌+◌, ◌-◌, ◌*◌, ◌<◌, Bool, true, cond, ◌&&◌, ◌==◌, List, [], ◌∷◌, length, nat_lt, refl, sym, ap, ◌∙◌, subst, arith, eq-eqb, eqb-true, ltb-true, false_from_ne_true, Contains, filter, Sizes, free_of, used_of, child_block_sizes, value_block_sizes, child_block_count, value_block_count, lacking_of, lacking_slots, TakesBlocks, child_block_needed, value_block_needed, child_blocks_needed, value_blocks_needed, child_blocks_lacking, value_blocks_lacking, node_slots_lacking, cell_slots_lacking, State, Refusal, Storage, InsertsInStorage, ReadiesInStorage, RefusesInStorage}
 pub use Rattle.std.proofs.lemmas.Bool.{and_parts as both}
 
 -- whether the numbers go up, from s on

@@ -1,18 +1,6 @@
 -- Where an insertion lacks a block, it may be refused and leave all as it was.
-use Rattle.std.proofs.Common.{◌≡◌, ℕ, ◌+◌, ◌-◌, ◌*◌, ◌<◌, ◌≤◌, ◌==◌, inl, inr, Bool, true, false, cond, nat_lt, nat_le, List, [], ◌∷◌, Option, None, Some, refl, sym, ap, subst, arith, ltb-true, eqb-true}
-use Rattle.std.proofs.lemmas.Bool.{cases_eq, false_from_ne_true}
-use Rattle.std.proofs.lemmas.Option.{none-some, same_Some}
-use Rattle.std.proofs.Math.Nat.{mul-le-mul_left}
-use Rattle.std.specs.Prelude.{Contains, filter_map, find}
-use Rattle.std.specs.List.{cons_option}
-use Rattle.std.specs.FinMap.{get}
-use Rattle.prefix_trie_bits.specs.Order.{same_string}
-use Rattle.prefix_trie_bits.specs.Model.Blocks.{free_of, smallest_size, child_block_sizes, value_block_sizes, child_count, own_entries}
-use Rattle.prefix_trie_bits.specs.Model.Insertion.{block_needed, gains_child, child_block_needed, value_block_needed, child_blocks_needed, value_blocks_needed, child_blocks_lacking, value_blocks_lacking, node_slots_lacking, cell_slots_lacking, lacking_of, lacking_slots}
-use Rattle.prefix_trie_bits.specs.Model.Nodes.{home, nodes_above}
-use Rattle.prefix_trie_bits.specs.Model.Step.{State, Refusal, Memory, IndexRange}
-use Rattle.prefix_trie_bits.specs.Model.Storage.{Storage, RefusesInStorage}
-use Rattle.prefix_trie_bits.specs.Laws.Total.{GivesCause}
+use Rattle.prefix_trie_bits.proofs.Prelude.{◌≡◌, ℕ, ◌+◌, ◌-◌, ◌*◌, ◌<◌, ◌≤◌, ◌==◌, inl, inr, Bool, true, false, cond, nat_lt, nat_le, List, [], ◌∷◌, Option, None, Some, refl, sym, ap, subst, arith, ltb-true, eqb-true, cases_eq, false_from_ne_true, none-some, same_Some, mul-le-mul_left, Contains, filter_map, cons_option, get, same_string, free_of, smallest_size, child_block_sizes, value_block_sizes, child_count, own_entries, block_needed, gains_child, child_block_needed, value_block_needed, child_blocks_needed, value_blocks_needed, child_blocks_lacking, value_blocks_lacking, node_slots_lacking, cell_slots_lacking, lacking_of, lacking_slots, home, nodes_above, State, Refusal, Memory, IndexRange, Storage, RefusesInStorage, GivesCause}
+use Rattle.std.specs.Prelude.{find}
 use Rattle.prefix_trie_bits.proofs.Model.Storage.Gained.{one_list}
 use Rattle.prefix_trie_bits.proofs.Model.Storage.Readied.{goes_up, both, above, free_none, free_here, free_later}
 use Rattle.prefix_trie_bits.proofs.Model.Storage.Shrinking.{later_in, first_in, in_cases}

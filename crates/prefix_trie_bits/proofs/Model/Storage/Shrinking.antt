@@ -1,14 +1,6 @@
 -- The blocks that a removal may leave: the old ones where items are left, and at one node the smaller one, if such a block is free.
-use Rattle.std.proofs.Common.{◌≡◌, ℕ, zero, suc, ◌+◌, ◌-◌, ◌<◌, ◌≤◌, ◌==◌, ◌⊎◌, inl, inr, Bool, true, false, cond, ◌&&◌, nat_lt, nat_le, List, [], ◌∷◌, map, Option, None, Some, refl, sym, ap, ◌∙◌, subst, arith, eqb-true, eq-eqb, ltb-true, true≢false}
-use Rattle.std.proofs.lemmas.Bool.{cases_Bool, cases_lt, cases_eq, lt-ltb, le-ltb}
-use Rattle.std.proofs.lemmas.Bool.Decides.{nat_tests}
-use Rattle.std.proofs.lemmas.Option.{none-some, same_Some}
-use Rattle.std.specs.Prelude.{Contains, find}
-use Rattle.std.specs.Option.{option_or}
-use Rattle.std.specs.FinMap.{get, insert, retain_keys, get-insert}
-use Rattle.prefix_trie_bits.specs.Order.{listing_total, same_string}
-use Rattle.prefix_trie_bits.specs.Model.Blocks.{Sizes, StepsDown, StepsBetween, SizesStepDown, SizesStepBetween, HasBlock, NodesHaveBlocks, free_of, used_of, one_of, made_of, smallest_size}
-use Rattle.prefix_trie_bits.specs.Model.Nodes.{Nodes, has_node}
+use Rattle.prefix_trie_bits.proofs.Prelude.{◌≡◌, ℕ, zero, suc, ◌+◌, ◌-◌, ◌<◌, ◌≤◌, ◌==◌, ◌⊎◌, inl, inr, Bool, true, false, cond, ◌&&◌, nat_lt, nat_le, List, [], ◌∷◌, map, Option, None, Some, refl, sym, ap, ◌∙◌, subst, arith, eqb-true, eq-eqb, ltb-true, true≢false, cases_Bool, cases_lt, cases_eq, lt-ltb, le-ltb, nat_tests, none-some, same_Some, Contains, option_or, get, insert, retain_keys, get-insert, listing_total, same_string, Sizes, StepsDown, StepsBetween, SizesStepDown, SizesStepBetween, HasBlock, NodesHaveBlocks, free_of, used_of, one_of, made_of, smallest_size, Nodes, has_node}
+use Rattle.std.specs.Prelude.{find}
 use Rattle.prefix_trie_bits.proofs.Model.Storage.Counting.{get-kept, used-kept, used-taken}
 use Rattle.prefix_trie_bits.proofs.Model.Members.{same_string-is}
 use Rattle.prefix_trie_bits.proofs.Model.Storage.Readied.{goes_up, above, both}

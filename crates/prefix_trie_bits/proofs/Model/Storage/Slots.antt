@@ -1,23 +1,9 @@
 -- How many slots the calls for one key make, at most.
-use Rattle.std.proofs.Common.{◌≡◌, ◌≢◌, ℕ, zero, suc, ◌+◌, ◌-◌, ◌/◌, ◌<◌, ◌≤◌, ◌==◌, ◌⊎◌, inl, inr, Bool, true, false, cond, ◌&&◌, nat_lt, nat_le, List, [], ◌∷◌, ◌++◌, length, filter, replicate, Option, None, Some, All, refl, sym, ap, ◌∙◌, subst, arith, lit≤, append-nil, eqb-true, eq-eqb, ltb-true}
-use Rattle.std.proofs.lemmas.Bool.{cases_eq, cases_Bool, cases_lt}
-use Rattle.std.proofs.lemmas.Bool.Decides.{nat_tests}
-use Rattle.std.proofs.lemmas.List.Elements.{All-nil, All-cons, All-head, All-tail, All-contains}
-use Rattle.std.proofs.Math.Nat.{mul-add, mul-le-mul_left}
-use Rattle.std.specs.Prelude.{option_to_list, find}
-use Rattle.std.specs.FinMap.{get, contains_key}
-use Rattle.prefix_trie_bits.specs.Order.{same_string}
-use Rattle.prefix_trie_bits.specs.Laws.Slots.{MakesSlots, SlotLaws}
-use Rattle.prefix_trie_bits.specs.Laws.Steps.{IsMap}
-use Rattle.prefix_trie_bits.specs.Model.Blocks.{Layout, child_block_sizes, value_block_sizes, smallest_size, child_count, own_entries, Sizes, StepsDown, SizesStepDown, LongerByOne, HasBlock, NodesHaveBlocks}
-use Rattle.prefix_trie_bits.specs.Model.Insertion.{block_needed, lacking_slots, child_blocks_needed, value_block_needed, node_slots_lacking, cell_slots_lacking}
-use Rattle.prefix_trie_bits.specs.Model.Nodes.{Nodes, has_node, home, AreNodes}
-use Rattle.prefix_trie_bits.specs.Model.Step.{State, Insert, Remove, RemoveKeepTree, Reply}
-use Rattle.prefix_trie_bits.specs.Model.Storage.{Storage, HaveBlocks, RemovesValueInStorage, StepInStorage}
+use Rattle.prefix_trie_bits.proofs.Prelude.{◌≡◌, ◌≢◌, ℕ, zero, suc, ◌+◌, ◌-◌, ◌/◌, ◌<◌, ◌≤◌, ◌==◌, ◌⊎◌, inl, inr, Bool, true, false, cond, ◌&&◌, nat_lt, nat_le, List, [], ◌∷◌, ◌++◌, length, filter, replicate, Option, None, Some, All, refl, sym, ap, ◌∙◌, subst, arith, lit≤, append-nil, eqb-true, eq-eqb, ltb-true, cases_eq, cases_Bool, cases_lt, nat_tests, All-nil, All-cons, All-head, All-tail, All-contains, mul-add, mul-le-mul_left, option_to_list, get, contains_key, same_string, MakesSlots, SlotLaws, IsMap, Layout, child_block_sizes, value_block_sizes, smallest_size, child_count, own_entries, Sizes, StepsDown, SizesStepDown, LongerByOne, HasBlock, NodesHaveBlocks, block_needed, lacking_slots, child_blocks_needed, value_block_needed, node_slots_lacking, cell_slots_lacking, Nodes, has_node, home, AreNodes, State, Insert, Remove, RemoveKeepTree, Reply, Storage, HaveBlocks, RemovesValueInStorage, StepInStorage, same_Some}
+use Rattle.std.specs.Prelude.{find}
 use Rattle.prefix_trie_bits.proofs.Model.Members.{and-first, and-second}
 use Rattle.prefix_trie_bits.proofs.Model.Levels.{at_level, closed, no_children_at, split_at}
 use Rattle.prefix_trie_bits.proofs.Model.Storage.Ways.{none_needed, blocks_needed}
-use Rattle.std.proofs.lemmas.Option.{same_Some}
 
 -- ---- the slots of needed blocks are no more than these have
 

@@ -1,18 +1,5 @@
 -- A step leads from a map, however it is stored, to such a map again.
-use Rattle.std.proofs.Common.{◌≡◌, ℕ, ◌<◌, ◌≤◌, inl, inr, Bool, true, false, cond, not, ◌&&◌, nat_le, List, [], length, Option, None, refl, sym, ap, ◌∙◌, subst, arith, true≢false}
-use Rattle.std.proofs.lemmas.Bool.{cases_Bool, cases_eq}
-use Rattle.std.proofs.lemmas.List.{nil_from_length}
-use Rattle.std.specs.FinMap.{get, contains_key}
-use Rattle.prefix_trie_bits.specs.Bits.{begins}
-use Rattle.prefix_trie_bits.specs.Order.{same_string}
-use Rattle.prefix_trie_bits.specs.Model.Blocks.{Sizes, no_layout, StepsDown, SizesStepDown, StepsBetween, SizesStepBetween, HasBlock, NodesHaveBlocks, child_block_sizes, value_block_sizes, child_count, own_entries}
-use Rattle.prefix_trie_bits.specs.Model.Entries.{Entries, with_entry, without_entry, without_below, part_at_least, no_entries}
-use Rattle.prefix_trie_bits.specs.Model.Nodes.{Nodes, has_node, root_alone, with_needed, pruned, nodes_not_below, nodes_without_below}
-use Rattle.prefix_trie_bits.specs.Model.Step.{State, Call, Insert, Remove, RemoveKeepTree, RemoveChildren, RetainAtLeast, Clear, CallFits, Reply, Step}
-use Rattle.prefix_trie_bits.specs.Model.Storage.{Storage, cleared, HaveBlocks, RemovesManyInStorage, StepInStorage}
-use Rattle.prefix_trie_bits.specs.Laws.Steps.{IsMap}
-use Rattle.prefix_trie_bits.specs.Laws.Storage.{may_change}
-use Rattle.prefix_trie_bits.specs.Laws.Total.{IsStoredMap}
+use Rattle.prefix_trie_bits.proofs.Prelude.{◌≡◌, ℕ, ◌<◌, ◌≤◌, inl, inr, Bool, true, false, cond, not, ◌&&◌, nat_le, List, [], length, Option, None, refl, sym, ap, ◌∙◌, subst, arith, true≢false, cases_Bool, cases_eq, nil_from_length, get, contains_key, begins, same_string, Sizes, no_layout, StepsDown, SizesStepDown, StepsBetween, SizesStepBetween, HasBlock, NodesHaveBlocks, child_block_sizes, value_block_sizes, child_count, own_entries, Entries, with_entry, without_entry, without_below, part_at_least, no_entries, Nodes, has_node, root_alone, with_needed, pruned, nodes_not_below, nodes_without_below, State, Call, Insert, Remove, RemoveKeepTree, RemoveChildren, RetainAtLeast, Clear, CallFits, Reply, Step, Storage, cleared, HaveBlocks, RemovesManyInStorage, StepInStorage, IsMap, may_change, IsStoredMap}
 use Rattle.prefix_trie_bits.proofs.Model.Storage.Lessened.{IsLeft, removed_is, bare_have, new_have, entries_bare, children_bare}
 use Rattle.prefix_trie_bits.proofs.Model.Members.{has-retained}
 use Rattle.prefix_trie_bits.proofs.Model.Pruning.{begins-nil, needed_fewer, near_is, pruning_laws, remove_law, remove_children_law}

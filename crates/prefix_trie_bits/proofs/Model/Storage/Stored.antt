@@ -1,14 +1,5 @@
 -- What a step leaves of the storage, as far as one storage alone can be left.
-use Rattle.std.proofs.Common.{◌≡◌, ℕ, Bool, true, false, List, [], ◌∷◌, length, Option, refl, sym, ap, ◌∙◌, subst, true≢false}
-use Rattle.std.specs.FinMap.{contains_key}
-use Rattle.prefix_trie_bits.specs.Model.Blocks.{Sizes}
-use Rattle.prefix_trie_bits.specs.Model.Room.{Room}
-use Rattle.prefix_trie_bits.specs.Model.Insertion.{TakesBlocks}
-use Rattle.prefix_trie_bits.specs.Model.Nodes.{is_root}
-use Rattle.prefix_trie_bits.specs.Model.Step.{State, Call, Insert, Remove, RemoveKeepTree, RemoveChildren, RetainAtLeast, Clear, Reply, Refused, Refusal}
-use Rattle.prefix_trie_bits.specs.Model.Storage.{Storage, InsertsInStorage, StepInStorage}
-use Rattle.prefix_trie_bits.specs.Laws.Determined.{is_refusal}
-use Rattle.prefix_trie_bits.specs.Laws.Storage.{asks_length, may_change, UseAlike, LeavesFixed, StorageLaws}
+use Rattle.prefix_trie_bits.proofs.Prelude.{◌≡◌, ℕ, Bool, true, false, List, [], ◌∷◌, length, Option, refl, sym, ap, ◌∙◌, subst, true≢false, contains_key, Sizes, Room, TakesBlocks, is_root, State, Call, Insert, Remove, RemoveKeepTree, RemoveChildren, RetainAtLeast, Clear, Reply, Refused, Refusal, Storage, InsertsInStorage, StepInStorage, is_refusal, asks_length, may_change, UseAlike, LeavesFixed, StorageLaws}
 use Rattle.prefix_trie_bits.proofs.Model.Determined.{no_refusal, set}
 use Rattle.prefix_trie_bits.proofs.Model.Members.{same_entries}
 use Rattle.prefix_trie_bits.proofs.Model.Storage.Readied.{readied_not_refused, readied_inserts}

@@ -1,21 +1,5 @@
 -- After an insertion each node has its blocks again.
-use Rattle.std.proofs.Common.{◌≡◌, ℕ, ◌+◌, ◌%◌, ◌<◌, ◌≤◌, ◌==◌, inl, inr, Bool, true, false, cond, not, ◌&&◌, ◌||◌, nat_lt, List, length, take, drop, filter, Option, None, Some, refl, sym, ap, ◌∙◌, subst, arith, eqb-true, eq-eqb, ltb-true, true≢false, length-take-le, length-drop}
-use Rattle.std.proofs.lemmas.Bool.{cases_Bool, lt-ltb}
-use Rattle.std.specs.Prelude.{Contains}
-use Rattle.std.specs.Option.{option_or}
-use Rattle.std.specs.List.{list_any}
-use Rattle.std.specs.FinMap.{get, insert, retain_keys, contains_key, len}
-use Rattle.prefix_trie_bits.specs.Begins.{same_bool, begins-length, begins-linear, begins-take, begins-trans, take-begins}
-use Rattle.prefix_trie_bits.specs.Bits.{begins}
-use Rattle.prefix_trie_bits.specs.Order.{same_string}
-use Rattle.prefix_trie_bits.specs.Places.{strings}
-use Rattle.prefix_trie_bits.specs.Laws.Steps.{IsMap}
-use Rattle.prefix_trie_bits.specs.Model.Blocks.{Sizes, child_block_sizes, value_block_sizes, child_count, own_entries, smallest_size, HasBlock, NodesHaveBlocks}
-use Rattle.prefix_trie_bits.specs.Model.Entries.{Entries, with_entry}
-use Rattle.prefix_trie_bits.specs.Model.Insertion.{block_needed, gains_child, TakesBlocks}
-use Rattle.prefix_trie_bits.specs.Model.Nodes.{Nodes, has_node, home, is_node_depth, with_needed}
-use Rattle.prefix_trie_bits.specs.Model.Step.{State}
-use Rattle.prefix_trie_bits.specs.Model.Storage.{Storage, HaveBlocks, InsertsInStorage}
+use Rattle.prefix_trie_bits.proofs.Prelude.{◌≡◌, ℕ, ◌+◌, ◌%◌, ◌<◌, ◌≤◌, ◌==◌, inl, inr, Bool, true, false, cond, not, ◌&&◌, ◌||◌, nat_lt, List, length, take, drop, filter, Option, None, Some, refl, sym, ap, ◌∙◌, subst, arith, eqb-true, eq-eqb, ltb-true, true≢false, length-take-le, length-drop, cases_Bool, lt-ltb, Contains, option_or, list_any, get, insert, retain_keys, contains_key, len, same_bool, begins-length, begins-linear, begins-take, begins-trans, take-begins, begins, same_string, strings, IsMap, Sizes, child_block_sizes, value_block_sizes, child_count, own_entries, smallest_size, HasBlock, NodesHaveBlocks, Entries, with_entry, block_needed, gains_child, TakesBlocks, Nodes, has_node, home, is_node_depth, with_needed, State, Storage, HaveBlocks, InsertsInStorage, and-true, and_assoc, or_comm}
 use Rattle.prefix_trie_bits.proofs.Checks.{each, at_string}
 use Rattle.prefix_trie_bits.proofs.Model.Storage.Counting.{passing-len, passing-inserted, few_behind}
 use Rattle.prefix_trie_bits.proofs.Model.Homes.{home-begins, home-length, home-depth, own_home}
@@ -24,7 +8,6 @@ use Rattle.prefix_trie_bits.proofs.Model.Members.{or-right, and-first, and-secon
 use Rattle.prefix_trie_bits.proofs.Model.NodeSets.{has-with_needed}
 use Rattle.prefix_trie_bits.proofs.Model.Storage.Readied.{goes_up}
 use Rattle.prefix_trie_bits.proofs.Model.Storage.Shrinking.{has_none, has_some, has_cases, smallest_of}
-use Rattle.std.proofs.Math.Bool.{and-true, and_assoc, or_comm}
 
 -- ---- one more item
 

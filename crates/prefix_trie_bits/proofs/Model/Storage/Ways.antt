@@ -1,15 +1,6 @@
 -- The blocks that an insertion needs at the nodes on its way.
-use Rattle.std.proofs.Common.{◌≡◌, ℕ, zero, suc, ◌+◌, ◌-◌, ◌*◌, ◌/◌, ◌%◌, ◌<◌, ◌≤◌, ◌==◌, Bool, true, false, cond, not, ◌&&◌, nat_lt, List, [], ◌∷◌, ◌++◌, length, take, map, filter, replicate, Option, None, Some, refl, sym, ap, ap₂, ◌∙◌, arith, eq-eqb, length-take-le}
-use Rattle.std.proofs.lemmas.Bool.{lt-ltb, le-ltb}
-use Rattle.std.specs.Prelude.{filter_map, option_to_list}
-use Rattle.std.specs.List.{cons_option}
-use Rattle.std.specs.FinMap.{get}
-use Rattle.prefix_trie_bits.specs.Begins.{take-begins}
-use Rattle.prefix_trie_bits.specs.Model.Nodes.{Nodes, has_node, is_node_depth, beginnings, nodes_above, home}
-use Rattle.prefix_trie_bits.specs.Model.Blocks.{Sizes, child_block_sizes, child_count}
-use Rattle.prefix_trie_bits.specs.Model.Insertion.{block_needed, gains_child, child_block_needed}
+use Rattle.prefix_trie_bits.proofs.Prelude.{◌≡◌, ℕ, zero, suc, ◌+◌, ◌-◌, ◌*◌, ◌/◌, ◌%◌, ◌<◌, ◌≤◌, ◌==◌, Bool, true, false, cond, not, ◌&&◌, nat_lt, List, [], ◌∷◌, ◌++◌, length, take, map, filter, replicate, Option, None, Some, refl, sym, ap, ap₂, ◌∙◌, arith, eq-eqb, length-take-le, lt-ltb, le-ltb, filter_map, option_to_list, cons_option, get, take-begins, Nodes, has_node, is_node_depth, beginnings, nodes_above, home, Sizes, child_block_sizes, child_count, block_needed, gains_child, child_block_needed, and-false}
 use Rattle.prefix_trie_bits.proofs.Model.Homes.{home-length}
-use Rattle.std.proofs.Math.Bool.{and-false}
 use Rattle.prefix_trie_bits.proofs.Model.Levels.{five_times, depth_of}
 
 five_next : (k l : ℕ) → k ≡ suc (suc (suc (suc (suc l)))) / 5 → k ≡ suc (l / 5)

@@ -1,12 +1,5 @@
 -- The worked facts on blocks, growth and room.
-use Rattle.std.proofs.Common.{◌≡◌, ◌⊎◌, ℕ, zero, suc, ◌+◌, ◌<◌, ◌≤◌, ◌==◌, true, false, List, [], ◌∷◌, ◌++◌, length, Option, Some, None, is_some, refl, sym, ap, ◌∙◌, subst, inl, inr, true≢false, eq-eqb, arith, lit<, lit≤, slice_index_or}
-use Rattle.std.specs.Prelude.{Contains, sum_by}
-use Rattle.std.specs.List.{list_any}
-use Rattle.std.proofs.lemmas.List.Sums.{sum_by-cons}
-use Rattle.std.proofs.lemmas.List.Sorted.{sum_by-IsPermutation}
-use Rattle.prefix_trie_bits.specs.Model.Blocks.{Block, value_block_sizes, child_block_sizes, free_of, HasBlock, StepsBetween, LongerByOne, Tiles, AreBlocksOf}
-use Rattle.prefix_trie_bits.specs.Model.Room.{MayPassLimit}
-use Rattle.prefix_trie_bits.specs.Facts.Blocks.{none_free, six_free, room_of, at_slot, BlocksHold}
+use Rattle.prefix_trie_bits.proofs.Prelude.{◌≡◌, ◌⊎◌, ℕ, zero, suc, ◌+◌, ◌<◌, ◌≤◌, ◌==◌, true, false, List, [], ◌∷◌, ◌++◌, length, Option, Some, None, is_some, refl, sym, ap, ◌∙◌, subst, inl, inr, true≢false, eq-eqb, arith, lit<, lit≤, slice_index_or, Contains, sum_by, list_any, sum_by-cons, sum_by-IsPermutation, Block, value_block_sizes, child_block_sizes, free_of, HasBlock, StepsBetween, LongerByOne, Tiles, AreBlocksOf, MayPassLimit, none_free, six_free, room_of, at_slot, BlocksHold}
 use Rattle.prefix_trie_bits.proofs.Model.Members.{or-left, or-right}
 pub use Rattle.std.proofs.lemmas.Option.{same_Some as some_is}
 

@@ -1,21 +1,5 @@
 -- The worked examples of what replies do not show.
-use Rattle.std.proofs.Common.{◌≡◌, ℕ, ◌+◌, ◌==◌, ◌&&◌, Bool, true, false, not, cond, List, [], ◌∷◌, map, filter, length, nat_lt, nat_le, is_lt, is_some, sum_by, Option, Some, None, refl, ap, ap₂, ◌∙◌, lit<}
-use Rattle.std.specs.List.{list_any}
-use Rattle.std.specs.FinMap.{entries, len-entries, entries-insert, find, put}
-use Rattle.prefix_trie_bits.specs.Bits.{digits, number, begins}
-use Rattle.prefix_trie_bits.specs.Order.{listing_cmp, listing_total}
-use Rattle.prefix_trie_bits.specs.Model.Entries.{Entries, with_entry, part_below, without_below}
-use Rattle.prefix_trie_bits.specs.Model.Selections.{listing_after, shown}
-use Rattle.prefix_trie_bits.specs.Model.Matches.{first_item}
-use Rattle.prefix_trie_bits.specs.Model.Nodes.{Nodes, home, needed, nodes_without_below}
-use Rattle.prefix_trie_bits.specs.Model.Blocks.{child_block_sizes, value_block_sizes}
-use Rattle.prefix_trie_bits.specs.Model.HandsOut.{packed_slots}
-use Rattle.prefix_trie_bits.specs.Model.Visits.{visits_of_match, visits_to_match}
-use Rattle.prefix_trie_bits.specs.Model.WritingWalk.{WritingWalk, walk_over}
-use Rattle.prefix_trie_bits.specs.Model.Step.{State}
-use Rattle.prefix_trie_bits.specs.Rows.Examples.{path_at, back_at}
-use Rattle.prefix_trie_bits.specs.Facts.{FactsHold}
-use Rattle.prefix_trie_bits.specs.Facts.Blocks.{at_slot}
+use Rattle.prefix_trie_bits.proofs.Prelude.{◌≡◌, ℕ, ◌+◌, ◌==◌, ◌&&◌, Bool, true, false, not, cond, List, [], ◌∷◌, map, filter, length, nat_lt, nat_le, is_lt, is_some, sum_by, Option, Some, None, refl, ap, ap₂, ◌∙◌, lit<, list_any, entries, len-entries, entries-insert, find, put, digits, number, begins, listing_cmp, listing_total, Entries, with_entry, part_below, without_below, listing_after, shown, first_item, Nodes, home, needed, nodes_without_below, child_block_sizes, value_block_sizes, packed_slots, visits_of_match, visits_to_match, WritingWalk, walk_over, State, path_at, back_at, FactsHold, at_slot}
 use Rattle.prefix_trie_bits.proofs.Model.Worked.Plain.{keys_of, Shows, Marks, needed-is, needed_marks, pruned_marks, marks_not_below, nodes_without_below-is}
 use Rattle.prefix_trie_bits.proofs.Model.Ordered.{entries-retained}
 use Rattle.prefix_trie_bits.proofs.Model.Worked.Played.{leads}

@@ -1,20 +1,6 @@
 -- The worked facts on what an insertion needs and lacks.
-use Rattle.std.proofs.Common.{◌≡◌, ◌⊎◌, ℕ, ◌+◌, ◌-◌, ◌<◌, ◌≤◌, ◌==◌, ◌&&◌, Bool, not, cond, List, [], ◌∷◌, map, take, filter, filter_map, length, nat_lt, is_some, Option, None, refl, sym, ap, ap₂, ◌∙◌, inl, inr, arith, eqb-true, lit<, lit≤}
-use Rattle.std.proofs.lemmas.Bool.{cases_Bool}
-use Rattle.std.specs.Prelude.{option_to_list}
+use Rattle.prefix_trie_bits.proofs.Prelude.{◌≡◌, ◌⊎◌, ℕ, ◌+◌, ◌-◌, ◌<◌, ◌≤◌, ◌==◌, ◌&&◌, Bool, not, cond, List, [], ◌∷◌, map, take, filter, filter_map, length, nat_lt, is_some, Option, None, refl, sym, ap, ap₂, ◌∙◌, inl, inr, arith, eqb-true, lit<, lit≤, cases_Bool, option_to_list, entries, entries-from_sorted, get-entries, find, is_sorted, digits, number, begins, listing_cmp, same_string, Entries, Nodes, is_node_depth, nodes_above, home, Sizes, Layout, value_block_sizes, child_block_sizes, free_of, no_layout, own_entries, child_count, block_needed, gains_child, child_block_needed, value_block_needed, child_blocks_needed, value_blocks_needed, lacking_of, lacking_slots, node_slots_lacking, cell_slots_lacking, LacksWithinLimit, Room, State, path_at, full_pairs, none_free, room_of, Blocks, by_path, sizes_at, layout_at, with_one, ones_free, lacking, far_children, far_layout, three_slots, InsertionsHold}
 use lib.Dec.{T as IsT}
-use Rattle.std.specs.FinMap.{entries, entries-from_sorted, get-entries, find, is_sorted}
-use Rattle.prefix_trie_bits.specs.Bits.{digits, number, begins}
-use Rattle.prefix_trie_bits.specs.Order.{listing_cmp, same_string}
-use Rattle.prefix_trie_bits.specs.Model.Entries.{Entries}
-use Rattle.prefix_trie_bits.specs.Model.Nodes.{Nodes, is_node_depth, nodes_above, home}
-use Rattle.prefix_trie_bits.specs.Model.Blocks.{Sizes, Layout, value_block_sizes, child_block_sizes, free_of, no_layout, own_entries, child_count}
-use Rattle.prefix_trie_bits.specs.Model.Insertion.{block_needed, gains_child, child_block_needed, value_block_needed, child_blocks_needed, value_blocks_needed, lacking_of, lacking_slots, node_slots_lacking, cell_slots_lacking, LacksWithinLimit}
-use Rattle.prefix_trie_bits.specs.Model.Room.{Room}
-use Rattle.prefix_trie_bits.specs.Model.Step.{State}
-use Rattle.prefix_trie_bits.specs.Rows.Examples.{path_at, full_pairs}
-use Rattle.prefix_trie_bits.specs.Facts.Blocks.{none_free, room_of}
-use Rattle.prefix_trie_bits.specs.Facts.Insertions.{Blocks, by_path, sizes_at, layout_at, with_one, ones_free, lacking, far_children, far_layout, three_slots, InsertionsHold}
 use Rattle.prefix_trie_bits.proofs.Model.Worked.Plain.{Shows, Marks}
 use Rattle.prefix_trie_bits.proofs.Model.Ordered.{entries-empty}
 use Rattle.prefix_trie_bits.proofs.Model.Worked.Played.{leads}

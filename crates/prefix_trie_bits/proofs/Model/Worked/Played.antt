@@ -1,7 +1,5 @@
 -- A worked row holds where the plain model answers as it says.
-use Rattle.std.proofs.Common.{◌≡◌, ℕ, Bool, List, [], ◌∷◌, map, Option, Some, None, refl, ap, subst}
-use Rattle.prefix_trie_bits.specs.Model.Step.{State, Call, Reply, Refused, Refusal, Run}
-use Rattle.prefix_trie_bits.specs.Rows.Examples.{path_at, back_at, new_map, Row, calls, replies, Gives, LeadsTo}
+use Rattle.prefix_trie_bits.proofs.Prelude.{◌≡◌, ℕ, Bool, List, [], ◌∷◌, map, Option, Some, None, refl, ap, subst, State, Call, Reply, Refused, Refusal, Run, path_at, back_at, new_map, Row, calls, replies, Gives, LeadsTo}
 use Rattle.prefix_trie_bits.proofs.Model.Worked.Plain.{from_new, Shows, Marks, root_mark, calls_of, play_all}
 
 -- why a call is refused, if it is

@@ -1,12 +1,5 @@
 -- The worked rows, by the plain model.
-use Rattle.std.proofs.Common.{refl}
-use Rattle.prefix_trie_bits.specs.Bits.{digits, number, begins}
-use Rattle.prefix_trie_bits.specs.Rows.Lookups.{LookupsHold}
-use Rattle.prefix_trie_bits.specs.Rows.Walks.{WalksHold}
-use Rattle.prefix_trie_bits.specs.Rows.Removals.{RemovalsHold}
-use Rattle.prefix_trie_bits.specs.Rows.Limits.{LimitsHold}
-use Rattle.prefix_trie_bits.specs.Rows.Widths.{WidthsHold}
-use Rattle.prefix_trie_bits.specs.Rows.Addresses.{AddressesHold}
+use Rattle.prefix_trie_bits.proofs.Prelude.{refl, digits, number, begins, LookupsHold, WalksHold, RemovalsHold, LimitsHold, WidthsHold, AddressesHold}
 use Rattle.prefix_trie_bits.proofs.Model.Halves.{halves}
 use Rattle.prefix_trie_bits.proofs.Model.Worked.Played.{gives}
 

@@ -1,19 +1,5 @@
 -- The worked facts on storages that no step leaves.
-use Rattle.std.proofs.Common.{◌≡◌, ℕ, zero, suc, ◌+◌, ◌<◌, ◌≤◌, ◌==◌, Bool, false, List, [], ◌∷◌, map, length, get_or, is_some, Option, Some, None, refl, sym, ap, ap₂, ◌∙◌, subst, inl, inr, arith, lit<, lit≤, slice_index_or}
-use Rattle.std.specs.Prelude.{Contains, count_by}
-use Rattle.std.specs.Option.{option_or}
-use Rattle.std.specs.FinMap.{entries, get, contains_key, values, entries-from_sorted, get-from_sorted, find}
-use Rattle.prefix_trie_bits.specs.Bits.{digits, number, begins}
-use Rattle.prefix_trie_bits.specs.Order.{listing_cmp}
-use Rattle.prefix_trie_bits.specs.Model.Nodes.{has_node}
-use Rattle.prefix_trie_bits.specs.Model.Blocks.{value_block_sizes, child_block_sizes, free_of, own_entries, used_of, HasBlock, LongerByOne, LosesNoBlock}
-use Rattle.prefix_trie_bits.specs.Model.Insertion.{value_block_needed, lacking_of, value_blocks_lacking}
-use Rattle.prefix_trie_bits.specs.Model.Step.{State, Call, Remove, RemoveKeepTree, RetainAtLeast, Reply, Memory, IndexRange, Step}
-use Rattle.prefix_trie_bits.specs.Laws.Determined.{is_refusal}
-use Rattle.prefix_trie_bits.specs.Rows.Examples.{path_at, back_at, sets}
-use Rattle.prefix_trie_bits.specs.Facts.Blocks.{none_free}
-use Rattle.prefix_trie_bits.specs.Facts.Insertions.{Blocks, sizes_at, three_slots}
-use Rattle.prefix_trie_bits.specs.Facts.Steps.{two_free, four_free, root_child, root_value, child_value, Takes, KeepsFacts, FilledFacts, StepsHold}
+use Rattle.prefix_trie_bits.proofs.Prelude.{◌≡◌, ℕ, zero, suc, ◌+◌, ◌<◌, ◌≤◌, ◌==◌, Bool, false, List, [], ◌∷◌, map, length, get_or, is_some, Option, Some, None, refl, sym, ap, ap₂, ◌∙◌, subst, inl, inr, arith, lit<, lit≤, slice_index_or, Contains, count_by, option_or, entries, get, contains_key, values, entries-from_sorted, get-from_sorted, find, digits, number, begins, listing_cmp, has_node, value_block_sizes, child_block_sizes, free_of, own_entries, used_of, HasBlock, LongerByOne, LosesNoBlock, value_block_needed, lacking_of, value_blocks_lacking, State, Call, Remove, RemoveKeepTree, RetainAtLeast, Reply, Memory, IndexRange, Step, is_refusal, path_at, back_at, sets, none_free, Blocks, sizes_at, three_slots, two_free, four_free, root_child, root_value, child_value, Takes, KeepsFacts, FilledFacts, StepsHold}
 use Rattle.prefix_trie_bits.proofs.Model.Worked.Plain.{Shows, Marks, play, step_at, has-is}
 use Rattle.prefix_trie_bits.proofs.Model.Worked.Played.{last_entries, last_marks, leads}
 use Rattle.prefix_trie_bits.proofs.Model.Worked.Examples.{said, own_in, children_in}

@@ -1,6 +1,4 @@
-use Rattle.std.proofs.Common.{◌≡◌, ◌+◌, ◌-◌, ◌*◌, ◌/◌, ◌%◌, ◌^◌, sym, ap, ap₂, ◌∙◌, arith, mod-eq_of_lt}
-use Rattle.prefix_trie_bits.specs.BitStrings.{number-window}
-use Rattle.std.proofs.lemmas.Nat.{one_shl}
+use Rattle.prefix_trie_bits.proofs.Prelude.{◌≡◌, ◌+◌, ◌-◌, ◌*◌, ◌/◌, ◌%◌, ◌^◌, sym, ap, ap₂, ◌∙◌, arith, mod-eq_of_lt, number-window, one_shl}
 use Rattle.prefix_trie_bits.proofs.digits.short_window_of.Goals as goal
 
 pub returns : goal.returns

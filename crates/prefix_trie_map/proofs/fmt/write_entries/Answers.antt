@@ -1,6 +1,4 @@
-use Rattle.std.proofs.Common.{◌∷◌, sym}
-use Rattle.std.proofs.lemmas.List.Elements.{All-head, All-tail, All-same}
-use Rattle.prefix_trie_bits.specs.Model.Selections.{listing, shown}
+use Rattle.prefix_trie_map.proofs.Prelude.{◌∷◌, sym, All-head, All-tail, All-same, listing, shown}
 use Rattle.prefix_trie_map.proofs.Listed.{listed_fit}
 use Rattle.prefix_trie_map.proofs.fmt.write_entries.Goals as goal
 

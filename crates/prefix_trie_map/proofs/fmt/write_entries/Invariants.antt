@@ -1,4 +1,4 @@
-use Rattle.std.specs.List.{All}
+use Rattle.prefix_trie_map.proofs.Prelude.{All}
 use Rattle.prefix_trie_map.proofs.fmt.write_entries.Given as goal
 
 abbrev pub invariant-loop-prefix : goal.invariant-loop-prefix

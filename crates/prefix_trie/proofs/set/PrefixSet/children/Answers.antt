@@ -1,8 +1,4 @@
-use Rattle.std.proofs.Common.{◌∙◌, map, ap}
-use Rattle.std.proofs.lemmas.Simd.{map-map}
-use Rattle.prefix_trie_bits.specs.Model.Selections.{listing_below}
-use Rattle.prefix_trie_table.specs.Shape.{Contents}
-use Rattle.prefix_trie_map.proofs.Runs.{gives_in_order}
+use Rattle.prefix_trie.proofs.Prelude.{◌∙◌, map, ap, map-map, listing_below, Contents, gives_in_order}
 use Rattle.prefix_trie.proofs.set.PrefixSet.children.Goals as goal
 
 pub returns-clause-items : goal.returns-clause-items

@@ -1,10 +1,4 @@
-use Rattle.std.proofs.Common.{rules, of_calls, ◌∙◌, ◌+◌, ◌-◌, ◌*◌, ◌^◌, ◌<◌, All, length, sym, ap, subst}
-use Rattle.std.proofs.lemmas.List.{length-map}
-use Rattle.std.proofs.lemmas.Result.{err_from_is_err_and}
-use Rattle.std.specs.Iterator.{HoldsAlong, Yields, Drains}
-use Rattle.std.specs.Iterator.Adapters.{map_source}
-use Rattle.prefix_trie_bits.specs.Model.Entries.{no_entries, put_all}
-use Rattle.prefix_trie.specs.Sets.{as_item}
+use Rattle.prefix_trie.proofs.Prelude.{rules, of_calls, ◌∙◌, ◌+◌, ◌-◌, ◌*◌, ◌^◌, ◌<◌, All, length, sym, ap, subst, length-map, err_from_is_err_and, HoldsAlong, Yields, Drains, map_source, no_entries, put_all, as_item}
 use Rattle.prefix_trie.proofs.Copies.{come_copied, all_copied, copies_hold}
 use Rattle.prefix_trie.proofs.set.PrefixSet.from_iter.Goals as goal
 

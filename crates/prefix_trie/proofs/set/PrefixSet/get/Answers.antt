@@ -1,4 +1,4 @@
-use Rattle.std.proofs.Common.{rules}
+use Rattle.prefix_trie.proofs.Prelude.{rules}
 use Rattle.prefix_trie.proofs.set.PrefixSet.get.Goals as goal
 
 pub returns-in-Some : goal.returns-in-Some

@@ -1,8 +1,4 @@
-use Rattle.std.proofs.Common.{◌∙◌, map, cond, ap}
-use Rattle.std.proofs.lemmas.Simd.{map-map}
-use Rattle.prefix_trie_bits.specs.Model.Selections.{listing_from, listing_after}
-use Rattle.prefix_trie_table.specs.Shape.{Contents}
-use Rattle.prefix_trie_map.proofs.Runs.{gives_in_order}
+use Rattle.prefix_trie.proofs.Prelude.{◌∙◌, map, cond, ap, map-map, listing_from, listing_after, Contents, gives_in_order}
 use Rattle.prefix_trie.proofs.set.PrefixSet.iter_from.Goals as goal
 
 pub returns-clause-items : goal.returns-clause-items

@@ -1,4 +1,4 @@
-use Rattle.std.proofs.Common.{rules}
+use Rattle.prefix_trie.proofs.Prelude.{rules}
 use Rattle.prefix_trie.proofs.set.PrefixSet.remove_keep_tree.Goals as goal
 
 pub returns-clause-was_in : goal.returns-clause-was_in

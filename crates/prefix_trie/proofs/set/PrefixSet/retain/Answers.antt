@@ -1,10 +1,4 @@
-use Rattle.std.proofs.Common.{rules, of_calls, sym, subst}
-use Rattle.prefix_trie_bits.specs.Model.Asking.{MayAskInOrder}
-use Rattle.prefix_trie_bits.specs.Model.Selections.{listing}
-use Rattle.prefix_trie_bits.specs.Model.Storage.{RetainsInStorage}
-use Rattle.prefix_trie_table.specs.Shape.{Contents}
-use Rattle.prefix_trie_map.specs.Steps.{stored}
-use Rattle.prefix_trie.specs.Sets.{AsksKeyAt, TakesKeyAt}
+use Rattle.prefix_trie.proofs.Prelude.{rules, of_calls, sym, subst, MayAskInOrder, listing, RetainsInStorage, Contents, stored, AsksKeyAt, TakesKeyAt}
 use Rattle.prefix_trie.proofs.Retaining.{retained_through, may_ask_through}
 use Rattle.prefix_trie.proofs.set.PrefixSet.retain.Goals as goal
 

@@ -1,6 +1,4 @@
-use Rattle.std.proofs.Common.{◌≡◌}
-use Rattle.std.specs.Cmp.Lexicographic.{pointwise}
-use Rattle.prefix_trie.specs.Sets.{same_parts}
+use Rattle.prefix_trie.proofs.Prelude.{◌≡◌, pointwise, same_parts}
 use Rattle.prefix_trie.proofs.set.shown.give_alike.Given as goal
 
 -- the walks compare as what is left of them does

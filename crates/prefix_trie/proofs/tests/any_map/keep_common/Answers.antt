@@ -1,10 +1,4 @@
-use Rattle.std.proofs.Common.{rules, ap, sym, ◌≡◌, ◌∙◌, subst, of_calls}
-use Rattle.std.specs.FinMap.{contains_key}
-use Rattle.std.proofs.lemmas.List.Elements.{All-weaker}
-use Rattle.prefix_trie_bits.specs.Keys.{fits_back}
-use Rattle.prefix_trie_bits.specs.Model.Selections.{listing}
-use Rattle.prefix_trie_bits.proofs.Model.Askings.{keeps_filter}
-use Rattle.prefix_trie_map.proofs.Listed.{may_ask_stored, listed_paths}
+use Rattle.prefix_trie.proofs.Prelude.{rules, ap, sym, ◌≡◌, ◌∙◌, subst, of_calls, contains_key, All-weaker, fits_back, listing, keeps_filter, may_ask_stored, listed_paths}
 use Rattle.prefix_trie.proofs.AnyMap.{filter_where}
 use Rattle.prefix_trie.proofs.tests.any_map.keep_common.Goals as goal
 

@@ -1,8 +1,4 @@
-use Rattle.std.proofs.Common.{ap, ◌∙◌}
-use Rattle.std.specs.FinMap.{len}
-use Rattle.prefix_trie_bits.specs.Keys.{path_within}
-use Rattle.prefix_trie_bits.specs.Model.Nodes.{IsTidy}
-use Rattle.prefix_trie_map.specs.Steps.{state, inserted}
+use Rattle.prefix_trie.proofs.Prelude.{ap, ◌∙◌, len, path_within, IsTidy, state, inserted}
 use Rattle.prefix_trie.proofs.AnyMap.{tidy_again}
 use Rattle.prefix_trie.proofs.tests.any_map.set_and_remove.Given as given
 use Rattle.prefix_trie.proofs.tests.any_map.set_and_remove.Goals as goal

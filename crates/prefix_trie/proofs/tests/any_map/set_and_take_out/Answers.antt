@@ -1,6 +1,4 @@
-use Rattle.std.proofs.Common.{◌≡◌}
-use Rattle.prefix_trie_bits.specs.Keys.{path_within}
-use Rattle.prefix_trie_map.specs.Steps.{state}
+use Rattle.prefix_trie.proofs.Prelude.{◌≡◌, path_within, state}
 use Rattle.prefix_trie.proofs.AnyMap.{as_before}
 use Rattle.prefix_trie.proofs.tests.any_map.set_and_take_out.Given as given
 use Rattle.prefix_trie.proofs.tests.any_map.set_and_take_out.Goals as goal

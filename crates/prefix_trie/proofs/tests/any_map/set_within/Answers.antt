@@ -1,6 +1,4 @@
-use Rattle.std.proofs.Common.{arith}
-use Rattle.prefix_trie_bits.specs.Keys.{path_within}
-use Rattle.prefix_trie_map.specs.Steps.{stored, inserted}
+use Rattle.prefix_trie.proofs.Prelude.{arith, path_within, stored, inserted}
 use Rattle.prefix_trie.proofs.Callers.{insert_step}
 use Rattle.prefix_trie.proofs.tests.any_map.set_within.Goals as goal
 

@@ -1,6 +1,4 @@
-use Rattle.std.proofs.Common.{sym, ap, ◌∙◌}
-use Rattle.prefix_trie_bits.specs.Model.Nodes.{needed}
-use Rattle.prefix_trie_bits.proofs.Model.NodeSets.{tidy-no_entries}
+use Rattle.prefix_trie.proofs.Prelude.{sym, ap, ◌∙◌, needed, tidy-no_entries}
 use Rattle.prefix_trie.proofs.tests.any_map.use_emptied.Goals as goal
 
 pub set_and_remove-requires-clause-tidy : goal.set_and_remove-requires-clause-tidy

@@ -1,4 +1,4 @@
-use Rattle.std.proofs.Common.{◌^◌, ◌<◌, ◌≤◌, All}
+use Rattle.prefix_trie.proofs.Prelude.{◌^◌, ◌<◌, ◌≤◌, All}
 use Rattle.prefix_trie.proofs.tests.bulk.ask_in_turn.Given as goal
 
 abbrev pub invariant-loop-place : goal.invariant-loop-place

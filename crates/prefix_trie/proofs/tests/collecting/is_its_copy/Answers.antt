@@ -1,8 +1,4 @@
-use Rattle.std.proofs.Common.{ℕ, ◌&&◌, nat_eq, List, Bool, ap, ◌∙◌}
-use Rattle.std.specs.Cmp.{and_equiv, on_equiv, nat_eq_equiv}
-use Rattle.std.specs.Cmp.Lexicographic.{pointwise, lists_equiv}
-use Rattle.prefix_trie_bits.specs.Model.Selections.{listing, shown}
-use Rattle.prefix_trie_table.specs.Shape.{Contents}
+use Rattle.prefix_trie.proofs.Prelude.{ℕ, ◌&&◌, nat_eq, List, Bool, ap, ◌∙◌, and_equiv, on_equiv, nat_eq_equiv, pointwise, lists_equiv, listing, shown, Contents}
 use Rattle.prefix_trie.proofs.tests.collecting.is_its_copy.Goals as goal
 
 pub returns : goal.returns

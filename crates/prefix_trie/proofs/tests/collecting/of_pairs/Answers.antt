@@ -1,9 +1,4 @@
-use Rattle.std.proofs.Common.{ap, ◌∙◌}
-use Rattle.std.proofs.IntoIterSteps.{All-taken}
-use Rattle.std.proofs.lemmas.List.Elements.{All-same}
-use Rattle.std.proofs.lemmas.Result.{IfOk-weaker}
-use Rattle.std.specs.Vec.Iter.{into_iter_items, into_iter_steps}
-use Rattle.prefix_trie_bits.specs.Model.Entries.{no_entries, put_all}
+use Rattle.prefix_trie.proofs.Prelude.{ap, ◌∙◌, All-taken, All-same, IfOk-weaker, into_iter_items, into_iter_steps, no_entries, put_all}
 use Rattle.prefix_trie.proofs.Collecting.{all_along}
 use Rattle.prefix_trie.proofs.tests.collecting.of_pairs.Goals as goal
 

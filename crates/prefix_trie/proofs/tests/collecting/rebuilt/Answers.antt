@@ -1,10 +1,4 @@
-use Rattle.std.proofs.Common.{ap, ◌∙◌}
-use Rattle.std.proofs.lemmas.List.Elements.{All-same}
-use Rattle.std.proofs.lemmas.Result.{IfOk-weaker}
-use Rattle.std.specs.Map.Iter.{TakesFirst}
-use Rattle.prefix_trie_bits.specs.Model.Entries.{no_entries, put_all}
-use Rattle.prefix_trie_bits.specs.Model.Selections.{listing, shown}
-use Rattle.prefix_trie_map.proofs.Listed.{listed_fit}
+use Rattle.prefix_trie.proofs.Prelude.{ap, ◌∙◌, All-same, IfOk-weaker, TakesFirst, no_entries, put_all, listing, shown, listed_fit}
 use Rattle.prefix_trie.proofs.Collecting.{all_along, all_given}
 use Rattle.prefix_trie.proofs.tests.collecting.rebuilt.Goals as goal
 

@@ -1,4 +1,4 @@
-use Rattle.std.proofs.Common.{rules}
+use Rattle.prefix_trie.proofs.Prelude.{rules}
 use Rattle.prefix_trie.proofs.Putting.{next_fits, leads_on, all_lead}
 use Rattle.prefix_trie.proofs.tests.entry_callers.fill_from.Goals as goal
 

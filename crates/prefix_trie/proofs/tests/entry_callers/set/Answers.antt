@@ -1,14 +1,8 @@
-use Rattle.std.proofs.Common.{rules, ◌≡◌, Option, Ok, Err, Result, IfOk, IfErr, None, subst}
-use Rattle.std.specs.FinMap.{len}
+use Rattle.prefix_trie.proofs.Prelude.{rules, ◌≡◌, Option, Ok, Err, Result, IfOk, IfErr, None, subst, len, Refused, LeavesRoom, Contents, Entry, Fills, RefusesToFill, entry_map, entry_value}
 use Rattle.std.specs.declared.cmp.PartialEq as partial
 use Rattle.std.specs.declared.fmt.Debug as debug
 use Rattle.prefix_trie_bits.specs.declared.prefix.Prefix as prefix
 use Rattle.prefix_trie_bits.specs.declared.prefix.Key as key
-use Rattle.prefix_trie_bits.specs.declared.prefix.Refused.{Refused}
-use Rattle.prefix_trie_bits.specs.Model.Room.{LeavesRoom}
-use Rattle.prefix_trie_table.specs.Shape.{Contents}
-use Rattle.prefix_trie_map.specs.declared.map.entry.Entry.{Entry}
-use Rattle.prefix_trie_map.specs.Entry.{Fills, RefusesToFill, entry_map, entry_value}
 use Rattle.prefix_trie.proofs.tests.entry_callers.set.Goals as goal
 
 module _ {P T A R : Type 0} {p : prefix.Ghosts P R} {shows : debug.Ghosts P} {k : key.Ghosts R} {same : partial.Ghosts R} {writes : debug.Ghosts R} where

@@ -1,5 +1,4 @@
-use Rattle.std.proofs.lemmas.List.Elements.{All-same}
-use Rattle.std.specs.Vec.Iter.{into_iter_items, into_iter_steps}
+use Rattle.prefix_trie.proofs.Prelude.{All-same, into_iter_items, into_iter_steps}
 use Rattle.prefix_trie.proofs.Collecting.{all_along}
 use Rattle.prefix_trie.proofs.tests.sets.of_prefixes.Goals as goal
 

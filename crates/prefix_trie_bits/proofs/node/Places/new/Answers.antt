@@ -1,6 +1,4 @@
-use Rattle.std.proofs.Common.{◌≡◌, ◌<◌, ◌≤◌, ◌↔◌, true, length, sym, subst, arith}
-use Rattle.std.specs.Prelude.{Contains}
-use Rattle.prefix_trie_bits.specs.Places.{is_in}
+use Rattle.prefix_trie_bits.proofs.Prelude.{◌≡◌, ◌<◌, ◌≤◌, ◌↔◌, true, length, sym, subst, arith, Contains, is_in}
 use Rattle.prefix_trie_bits.proofs.Listing.{low_positive, moved_fits, still_even, moved_bits, all_moved, listing_places}
 use Rattle.prefix_trie_bits.proofs.Ordered.{in_places, walk_sorted}
 use Rattle.prefix_trie_bits.proofs.node.Places.new.Goals as goal

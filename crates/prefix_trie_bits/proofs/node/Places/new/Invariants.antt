@@ -1,5 +1,4 @@
-use Rattle.std.proofs.Common.{◌≡◌, ℕ, ◌^◌, ◌<◌, ◌||◌, false}
-use Rattle.prefix_trie_bits.specs.Places.{has}
+use Rattle.prefix_trie_bits.proofs.Prelude.{◌≡◌, ℕ, ◌^◌, ◌<◌, ◌||◌, false, has}
 use Rattle.prefix_trie_bits.proofs.Listing.{heap_at, heap}
 use Rattle.prefix_trie_bits.proofs.node.Places.new.Given as goal
 

@@ -1,5 +1,4 @@
-use Rattle.std.proofs.Common.{ap, ◌∙◌}
-use Rattle.prefix_trie_bits.specs.Places.{strings, pick}
+use Rattle.prefix_trie_bits.proofs.Prelude.{ap, ◌∙◌, strings, pick}
 use Rattle.prefix_trie_bits.proofs.Picks.{pick-none}
 use Rattle.prefix_trie_bits.proofs.Listing.{first_below, takes_first}
 use Rattle.prefix_trie_bits.proofs.Ordered.{walk_sorted}

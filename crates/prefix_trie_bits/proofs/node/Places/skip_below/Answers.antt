@@ -1,6 +1,4 @@
-use Rattle.std.proofs.Common.{ap, ◌&&◌, ◌∙◌, [], not}
-use Rattle.prefix_trie_bits.specs.Bits.{begins}
-use Rattle.prefix_trie_bits.specs.Places.{has, strings}
+use Rattle.prefix_trie_bits.proofs.Prelude.{ap, ◌&&◌, ◌∙◌, [], not, begins, has, strings}
 use Rattle.prefix_trie_bits.proofs.Bitmaps.{has-and}
 use Rattle.prefix_trie_bits.proofs.Picks.{pick-both}
 use Rattle.prefix_trie_bits.proofs.node.Places.skip_below.Goals as goal

@@ -1,4 +1,4 @@
-use Rattle.prefix_trie_bits.specs.Places.{strings}
+use Rattle.prefix_trie_bits.proofs.Prelude.{strings}
 use Rattle.prefix_trie_bits.proofs.Picks.{pick-none}
 use Rattle.prefix_trie_bits.proofs.node.PlacesDefault.default.Goals as goal
 

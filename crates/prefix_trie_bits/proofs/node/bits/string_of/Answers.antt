@@ -1,5 +1,4 @@
-use Rattle.std.proofs.Common.{◌+◌, ◌-◌, arith}
-use Rattle.std.specs.Int.{leading_zeros, w32}
+use Rattle.prefix_trie_bits.proofs.Prelude.{◌+◌, ◌-◌, arith, leading_zeros, w32}
 use Rattle.prefix_trie_bits.proofs.Strings.{top_length, length-short, rest-sub, rest-fits, string-bit, string-only}
 use Rattle.prefix_trie_bits.proofs.node.bits.string_of.Goals as goal
 

@@ -1,4 +1,4 @@
-use Rattle.std.proofs.Common.{◌≡◌, length, arith}
+use Rattle.prefix_trie_bits.proofs.Prelude.{◌≡◌, length, arith}
 use Rattle.prefix_trie_bits.proofs.Strings.{value_bit_from_window, value_bit_window_small}
 use Rattle.prefix_trie_bits.proofs.node.bits.value_bit_of.Goals as goal
 

@@ -1,5 +1,4 @@
-use Rattle.std.proofs.Common.{◌≡◌, ◌∙◌, ap, length, arith}
-use Rattle.prefix_trie_bits.specs.Bits.{begins}
+use Rattle.prefix_trie_bits.proofs.Prelude.{◌≡◌, ◌∙◌, ap, length, arith, begins}
 use Rattle.prefix_trie_bits.proofs.Strings.{four-of-short}
 use Rattle.prefix_trie_bits.proofs.node.masks.child_cover_mask.Goals as goal
 

@@ -1,5 +1,4 @@
-use Rattle.std.proofs.Common.{◌∙◌, ap, take, drop}
-use Rattle.prefix_trie_bits.specs.Bits.{begins}
+use Rattle.prefix_trie_bits.proofs.Prelude.{◌∙◌, ap, take, drop, begins}
 use Rattle.prefix_trie_bits.proofs.Strings.{begins-four}
 use Rattle.prefix_trie_bits.proofs.node.masks.match_mask.Goals as goal
 

@@ -1,4 +1,4 @@
-use Rattle.std.proofs.Common.{take, drop}
+use Rattle.prefix_trie_bits.proofs.Prelude.{take, drop}
 use Rattle.prefix_trie_bits.proofs.Matches.{none_begins, shortest_found}
 use Rattle.prefix_trie_bits.proofs.node.masks.shortest_match.Goals as goal
 

@@ -1,4 +1,4 @@
-use Rattle.std.proofs.Common.{◌≡◌, length, arith}
+use Rattle.prefix_trie_bits.proofs.Prelude.{◌≡◌, length, arith}
 use Rattle.prefix_trie_bits.proofs.Strings.{pos-below, level-string}
 use Rattle.prefix_trie_bits.proofs.node.masks.table_place.Goals as goal
 

@@ -1,6 +1,4 @@
-use Rattle.std.proofs.Common.{◌≡◌, ◌+◌, ◌≤◌, length, arith}
-use Rattle.prefix_trie_bits.specs.Bits.{zeros}
-use Rattle.prefix_trie_bits.specs.Windows.{window_small, window_joined}
+use Rattle.prefix_trie_bits.proofs.Prelude.{◌≡◌, ◌+◌, ◌≤◌, length, arith, zeros, window_small, window_joined}
 use Rattle.prefix_trie_bits.proofs.prefix.Key.behind.Goals as goal
 use Rattle.prefix_trie_bits.proofs.prefix.Key.behind.Goals.{After-window}
 use Rattle.prefix_trie_bits.proofs.prefix.Key.behind.Given.{Over}

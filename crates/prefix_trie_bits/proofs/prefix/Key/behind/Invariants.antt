@@ -1,5 +1,4 @@
-use Rattle.std.proofs.Common.{◌≡◌, ◌+◌, ◌-◌, ◌≤◌, ◌++◌, take, drop}
-use Rattle.prefix_trie_bits.specs.Bits.{zeros}
+use Rattle.prefix_trie_bits.proofs.Prelude.{◌≡◌, ◌+◌, ◌-◌, ◌≤◌, ◌++◌, take, drop, zeros}
 use Rattle.prefix_trie_bits.proofs.prefix.Key.behind.Given as goal
 
 -- the bits behind the first n, as many as were read so far

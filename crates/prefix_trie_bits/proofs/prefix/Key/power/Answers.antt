@@ -1,4 +1,4 @@
-use Rattle.prefix_trie_bits.specs.BitStrings.{number-power}
+use Rattle.prefix_trie_bits.proofs.Prelude.{number-power}
 use Rattle.prefix_trie_bits.proofs.prefix.Key.power.Goals as goal
 
 pub returns-clause-value : goal.returns-clause-value

@@ -1,7 +1,4 @@
-use Rattle.std.proofs.Common.{rules, ◌<◌, ◌^◌, length, ap, arith}
-use Rattle.prefix_trie_bits.specs.Bits.{begins}
-use Rattle.std.specs.FinMap.{len}
-use Rattle.prefix_trie_map.specs.Walks.{lent_item}
+use Rattle.prefix_trie_map.proofs.Prelude.{rules, ◌<◌, ◌^◌, length, ap, arith, begins, len, lent_item}
 use Rattle.prefix_trie_map.proofs.Runs.{shows_in_order}
 use Rattle.prefix_trie_map.proofs.Selections.{few_shown}
 use Rattle.prefix_trie_map.proofs.map.PrefixMap.children.Goals as goal

@@ -1,8 +1,4 @@
-use Rattle.std.proofs.Common.{ap, subst}
-use Rattle.prefix_trie_bits.specs.Model.Step.{State, Clear, Done}
-use Rattle.prefix_trie_bits.specs.Model.Storage.{StepByPath}
-use Rattle.prefix_trie_table.specs.Shape.{Contents}
-use Rattle.prefix_trie_map.specs.Steps.{stored}
+use Rattle.prefix_trie_map.proofs.Prelude.{ap, subst, State, Clear, Done, StepByPath, Contents, stored}
 use Rattle.prefix_trie_map.proofs.Steps.{stays}
 use Rattle.prefix_trie_map.proofs.map.PrefixMap.clear.Goals as goal
 

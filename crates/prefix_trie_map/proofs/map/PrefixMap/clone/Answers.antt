@@ -1,4 +1,4 @@
-use Rattle.prefix_trie_map.specs.Steps.{state}
+use Rattle.prefix_trie_map.proofs.Prelude.{state}
 use Rattle.prefix_trie_map.proofs.Copying.{IsMap-copied}
 use Rattle.prefix_trie_map.proofs.map.PrefixMap.clone.Goals as goal
 

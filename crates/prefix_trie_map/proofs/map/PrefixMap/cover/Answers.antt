@@ -1,8 +1,4 @@
-use Rattle.std.proofs.Common.{rules, length, ap, ◌∙◌, arith}
-use Rattle.std.proofs.lemmas.List.{length-map}
-use Rattle.prefix_trie_bits.specs.Model.Matches.{covers}
-use Rattle.prefix_trie_table.proofs.Lookup.Covered.{covers_few}
-use Rattle.prefix_trie_map.specs.Walks.{lent_item}
+use Rattle.prefix_trie_map.proofs.Prelude.{rules, length, ap, ◌∙◌, arith, length-map, covers, covers_few, lent_item}
 use Rattle.prefix_trie_map.proofs.Runs.{shows_in_order}
 use Rattle.prefix_trie_map.proofs.map.PrefixMap.cover.Goals as goal
 

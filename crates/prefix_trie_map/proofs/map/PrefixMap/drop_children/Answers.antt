@@ -1,7 +1,4 @@
-use Rattle.std.proofs.Common.{ap}
-use Rattle.prefix_trie_bits.specs.Model.Step.{State, RemoveChildren, Done}
-use Rattle.prefix_trie_bits.specs.Model.Storage.{StepByPath}
-use Rattle.prefix_trie_map.specs.Steps.{stored}
+use Rattle.prefix_trie_map.proofs.Prelude.{ap, State, RemoveChildren, Done, StepByPath, stored}
 use Rattle.prefix_trie_map.proofs.Steps.{by_key, stays}
 use Rattle.prefix_trie_map.proofs.map.PrefixMap.drop_children.Goals as goal
 

@@ -1,4 +1,4 @@
-use Rattle.std.proofs.Common.{rules}
+use Rattle.prefix_trie_map.proofs.Prelude.{rules}
 use Rattle.prefix_trie_map.proofs.map.PrefixMap.entry.Goals as goal
 
 pub returns-in-Stored-clause-key : goal.returns-in-Stored-clause-key

@@ -1,5 +1,4 @@
-use Rattle.std.proofs.Common.{◌∙◌, ap}
-use Rattle.prefix_trie_bits.specs.Model.Entries.{put_all}
+use Rattle.prefix_trie_map.proofs.Prelude.{◌∙◌, ap, put_all}
 use Rattle.prefix_trie_map.proofs.Collected.{tidy_of}
 use Rattle.prefix_trie_map.proofs.map.PrefixMap.from_iter.Goals as goal
 

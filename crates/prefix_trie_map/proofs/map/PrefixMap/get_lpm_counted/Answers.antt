@@ -1,6 +1,4 @@
-use Rattle.std.proofs.Common.{ap}
-use Rattle.prefix_trie_bits.specs.Model.Matches.{longest_match}
-use Rattle.prefix_trie_table.specs.Shape.{Contents}
+use Rattle.prefix_trie_map.proofs.Prelude.{ap, longest_match, Contents}
 use Rattle.prefix_trie_map.proofs.Lookups.{shows_match, reads_way}
 use Rattle.prefix_trie_map.proofs.map.PrefixMap.get_lpm_counted.Goals as goal
 

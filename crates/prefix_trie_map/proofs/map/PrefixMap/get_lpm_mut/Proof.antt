@@ -4,13 +4,8 @@ use Rattle.prefix_trie_map.proofs.Loans.{◌$◌, ◌∵◌, !, qed, done, move,
 use Rattle.prefix_trie_map.proofs.Loans.{pass_all, free_all, look_at, get, through, sets, lands_as, param, copied, bounded, Laws, param_laws, yes, no, RattleType, MutRef, ShrRef, mut_vals, mut_Tells, shr_vals, shr_Tells}
 use Rattle.prefix_trie_map.proofs.Loans.{plain, mut_ref_to, shr_ref_to, nothing, heard, peeks, shows, Tuple, tuple_laws, calls_at, Lasts, lasts, triple_of, framed, Stays, stay_dropped, walk_of, ends_at, Goes-dropped}
 use Rattle.prefix_trie_map.proofs.Loans.{Goes-spent_ref, option_laws, Lent, lent_laws}
-use Rattle.std.proofs.Common.{subst}
+use Rattle.prefix_trie_map.proofs.Prelude.{subst, longest_match, shown_match, lends_longest_if, lent_beside, ReadsWay, lent_item_mut, option_map}
 use Rattle.std.specs.contracts.option.Option as option
-use Rattle.prefix_trie_bits.specs.Model.Matches.{longest_match, shown_match}
-use Rattle.prefix_trie_map.specs.Lending.{lends_longest_if, lent_beside}
-use Rattle.prefix_trie_bits.specs.Model.Visits.{ReadsWay}
-use Rattle.prefix_trie_map.specs.Walks.{lent_item_mut}
-use Rattle.std.specs.Option.{option_map}
 use Rattle.prefix_trie_map.specs.contracts.map.PrefixMap as map
 use Rattle.prefix_trie_map.specs.contracts.map.visits.Visits as visits
 use Rattle.prefix_trie_map.proofs.map.visits.Visits.TheLaws.{the_row_laws as visits_laws}

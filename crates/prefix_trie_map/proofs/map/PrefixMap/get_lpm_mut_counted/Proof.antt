@@ -5,19 +5,14 @@ use Rattle.prefix_trie_map.proofs.Loans.{fjoin, pick, await, rewrite, suffices, 
 use Rattle.prefix_trie_map.proofs.Loans.{lands_as, take_at, give_at, param, copied, bounded, Laws, param_laws, yes, no, lone, RattleType, MutRef, ShrRef, mut_vals, mut_Tells, shr_vals, shr_Tells, plain, mut_ref_to}
 use Rattle.prefix_trie_map.proofs.Loans.{shr_ref_to, nothing, heard, peeks, shows, Tuple, tuple_laws, calls_at, Lasts, lasts, triple_of, framed, Stays, stay_dropped, walk_of, ends_at, Goes-dropped, Goes-spent_ref}
 use Rattle.prefix_trie_map.proofs.Loans.{option_laws, Lent, lent_laws, KeptWithin, lends_within, back_within, pair_of, pair_val}
-use Rattle.std.proofs.Common.{take, w32, lit<, MatchOption}
+use Rattle.prefix_trie_map.proofs.Prelude.{take, w32, lit<, MatchOption, longest_match, shown_match, lends_longest_if, lent_beside, ReadsWay, lent_item_mut, option_map}
 use mir.Val.{vint}
 use denote.Builtin.{u32}
 use denote.Plain.{uint_Lawful, uint_Makes}
 use denote.Ref.{shr_copy}
 use denote.Steps.{owned}
 use Rattle.std.specs.contracts.option.Option as option
-use Rattle.prefix_trie_bits.specs.Model.Matches.{longest_match, shown_match}
 use Rattle.prefix_trie_bits.specs.Model.Visits.{visits as nodes_read}
-use Rattle.prefix_trie_map.specs.Lending.{lends_longest_if, lent_beside}
-use Rattle.prefix_trie_bits.specs.Model.Visits.{ReadsWay}
-use Rattle.prefix_trie_map.specs.Walks.{lent_item_mut}
-use Rattle.std.specs.Option.{option_map}
 use Rattle.prefix_trie_map.specs.contracts.map.PrefixMap as map
 use Rattle.prefix_trie_map.specs.contracts.map.visits.Visits as visits
 use Rattle.prefix_trie_map.proofs.map.visits.Visits.TheLaws.{the_row_laws as visits_laws}

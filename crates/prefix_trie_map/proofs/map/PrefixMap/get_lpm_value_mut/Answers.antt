@@ -1,5 +1,4 @@
-use Rattle.std.proofs.Common.{take, refl}
-use Rattle.prefix_trie_bits.specs.Model.Matches.{longest_match}
+use Rattle.prefix_trie_map.proofs.Prelude.{take, refl, longest_match}
 use Rattle.prefix_trie_map.proofs.Lending.{lent_value}
 use Rattle.prefix_trie_map.proofs.map.PrefixMap.get_lpm_value_mut.Goals as goal
 

@@ -6,11 +6,9 @@ use Rattle.prefix_trie_map.proofs.Loans.{Laws, yes, no, lone, RattleType, MutRef
 use Rattle.prefix_trie_map.proofs.Loans.{calls_at, lasts, triple_of, framed, Stays, stay_dropped, walk_of, ends_at, Goes-dropped, Goes-spent_ref, option_laws, Lent, lent_laws, KeptWithin, lends_within, back_within}
 use Rattle.prefix_trie_map.proofs.Loans.{pair_of, pair_val}
 use Rattle.std.specs.contracts.option.Option as option
+use Rattle.prefix_trie_map.proofs.Prelude.{option_copied_mut, lends_entry_if, ReadsWay}
 use Rattle.std.specs.FinMap.{get as lookup}
-use Rattle.std.specs.Option.{option_copied_mut}
 use Rattle.prefix_trie_bits.specs.Model.Visits.{visits as nodes_read}
-use Rattle.prefix_trie_map.specs.Lending.{lends_entry_if}
-use Rattle.prefix_trie_bits.specs.Model.Visits.{ReadsWay}
 use Rattle.prefix_trie_map.specs.contracts.map.PrefixMap as map
 use Rattle.prefix_trie_map.specs.contracts.map.visits.Visits as visits
 use Rattle.prefix_trie_map.specs.contracts.map.PrefixMap.get_mut_counted as f

@@ -1,6 +1,4 @@
-use Rattle.prefix_trie_bits.specs.Model.Step.{Insert}
-use Rattle.prefix_trie_bits.specs.Model.Storage.{StepByPath}
-use Rattle.prefix_trie_map.specs.Steps.{state, stored, inserted}
+use Rattle.prefix_trie_map.proofs.Prelude.{Insert, StepByPath, state, stored, inserted}
 use Rattle.prefix_trie_map.proofs.Insertions.{Inserts, inserts_are}
 use Rattle.prefix_trie_map.proofs.Steps.{by_key, is_map, stays}
 use Rattle.prefix_trie_map.proofs.map.PrefixMap.insert.Given as given

@@ -1,6 +1,4 @@
-use Rattle.std.proofs.Common.{rules, ◌<◌, ◌^◌, length, ap, arith}
-use Rattle.std.specs.FinMap.{len}
-use Rattle.prefix_trie_bits.specs.Bits.{begins}
+use Rattle.prefix_trie_map.proofs.Prelude.{rules, ◌<◌, ◌^◌, length, ap, arith, len, begins}
 use Rattle.prefix_trie_map.proofs.Runs.{gives_in_order}
 use Rattle.prefix_trie_map.proofs.Selections.{few_shown}
 use Rattle.prefix_trie_map.proofs.map.PrefixMap.into_children.Goals as goal

@@ -1,6 +1,4 @@
-use Rattle.std.proofs.Common.{◌≡◌, sym, ap, ◌∙◌, eqb-true, eq-eqb}
-use Rattle.std.specs.FinMap.{len, empty_of_len, len-empty}
-use Rattle.prefix_trie_bits.specs.Order.{listing_cmp}
+use Rattle.prefix_trie_map.proofs.Prelude.{◌≡◌, sym, ap, ◌∙◌, eqb-true, eq-eqb, len, empty_of_len, len-empty, listing_cmp}
 use Rattle.prefix_trie_map.proofs.map.PrefixMap.is_empty.Goals as goal
 
 pub returns-clause-none : goal.returns-clause-none

@@ -1,8 +1,4 @@
-use Rattle.std.proofs.Common.{rules, length, sym, ap, ◌∙◌}
-use Rattle.std.proofs.lemmas.List.{length-map}
-use Rattle.std.specs.FinMap.{len-entries}
-use Rattle.prefix_trie_bits.specs.Model.Selections.{listing}
-use Rattle.prefix_trie_map.specs.Walks.{lent_item}
+use Rattle.prefix_trie_map.proofs.Prelude.{rules, length, sym, ap, ◌∙◌, length-map, len-entries, listing, lent_item}
 use Rattle.prefix_trie_map.proofs.Runs.{shows_in_order}
 use Rattle.prefix_trie_map.proofs.map.PrefixMap.iter.Goals as goal
 

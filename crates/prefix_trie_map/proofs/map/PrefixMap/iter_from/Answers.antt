@@ -1,6 +1,4 @@
-use Rattle.std.proofs.Common.{rules, ◌<◌, ◌^◌, length, ap, arith}
-use Rattle.std.specs.FinMap.{len}
-use Rattle.prefix_trie_map.specs.Walks.{lent_item}
+use Rattle.prefix_trie_map.proofs.Prelude.{rules, ◌<◌, ◌^◌, length, ap, arith, len, lent_item}
 use Rattle.prefix_trie_map.proofs.Runs.{shows_in_order}
 use Rattle.prefix_trie_map.proofs.Selections.{few_from}
 use Rattle.prefix_trie_map.proofs.map.PrefixMap.iter_from.Goals as goal

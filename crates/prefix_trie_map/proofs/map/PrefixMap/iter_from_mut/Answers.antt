@@ -1,7 +1,4 @@
-use Rattle.std.proofs.Common.{rules, ◌≡◌, cond, sym, ap, subst, ◌∙◌}
-use Rattle.prefix_trie_bits.specs.Model.Selections.{listing_from, listing_after}
-use Rattle.prefix_trie_table.specs.Walking.Cursors.{selected}
-use Rattle.prefix_trie_map.specs.Writing.{StartsIn}
+use Rattle.prefix_trie_map.proofs.Prelude.{rules, ◌≡◌, cond, sym, ap, subst, ◌∙◌, listing_from, listing_after, selected, StartsIn}
 use Rattle.prefix_trie_map.proofs.map.PrefixMap.iter_from_mut.Goals as goal
 use Rattle.prefix_trie_map.proofs.map.PrefixMap.iter_from_mut.Goals.{then-inclusive, else-inclusive}
 

@@ -1,6 +1,4 @@
-use Rattle.std.proofs.Common.{subst}
-use Rattle.prefix_trie_bits.proofs.Model.NodeListings.{listing_of_root}
-use Rattle.prefix_trie_map.specs.Writing.{StartsIn}
+use Rattle.prefix_trie_map.proofs.Prelude.{subst, listing_of_root, StartsIn}
 use Rattle.prefix_trie_map.proofs.map.PrefixMap.iter_mut.Goals as goal
 
 pub returns-clause-starts : goal.returns-clause-starts

@@ -1,6 +1,4 @@
-use Rattle.std.proofs.Common.{rules, subst}
-use Rattle.prefix_trie_table.specs.Shape.{Contents}
-use Rattle.prefix_trie_map.specs.Whole.{IsWhole}
+use Rattle.prefix_trie_map.proofs.Prelude.{rules, subst, Contents, IsWhole}
 use Rattle.prefix_trie_map.proofs.map.PrefixMap.len.Goals as goal
 
 pub returns-clause-whole : goal.returns-clause-whole

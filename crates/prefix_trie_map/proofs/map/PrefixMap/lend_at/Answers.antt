@@ -1,4 +1,4 @@
-use Rattle.std.proofs.Common.{is_some, ap}
+use Rattle.prefix_trie_map.proofs.Prelude.{is_some, ap}
 use Rattle.prefix_trie_map.proofs.Lending.{set_again}
 use Rattle.prefix_trie_map.proofs.map.PrefixMap.lend_at.Goals as goal
 

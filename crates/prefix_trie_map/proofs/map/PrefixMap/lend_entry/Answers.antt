@@ -1,10 +1,5 @@
 use borrow.Follows.Closed.{read_of}
-use Rattle.std.proofs.Common.{rules, ◌≡◌, ◌+◌, take, ap, ◌∙◌, subst, arith}
-use Rattle.std.specs.FinMap.{get}
-use Rattle.std.specs.Option.{ghost_name_of}
-use Rattle.prefix_trie_bits.specs.Model.Visits.{visits}
-use Rattle.prefix_trie_bits.proofs.Model.Visits.{visits-bound}
-use Rattle.prefix_trie_table.specs.Shape.{with_value_at, with_stored_at}
+use Rattle.prefix_trie_map.proofs.Prelude.{rules, ◌≡◌, ◌+◌, take, ap, ◌∙◌, subst, arith, get, ghost_name_of, visits, visits-bound, with_value_at, with_stored_at}
 use Rattle.prefix_trie_map.proofs.Steps.{is_map}
 use Rattle.prefix_trie_map.proofs.Lending.{IsMap-with_stored_at, stored_lent}
 use Rattle.prefix_trie_map.proofs.map.PrefixMap.lend_entry.Goals as goal

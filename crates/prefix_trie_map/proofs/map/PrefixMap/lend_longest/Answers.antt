@@ -1,11 +1,5 @@
 use borrow.Follows.Closed.{read_of}
-use Rattle.std.proofs.Common.{rules, ◌≡◌, ◌+◌, ◌≤◌, List, Bool, Some, None, take, MatchOption, IfSome, refl, subst, arith}
-use Rattle.std.specs.Option.{ghost_name_of}
-use Rattle.prefix_trie_bits.specs.Model.Entries.{Entries}
-use Rattle.prefix_trie_bits.specs.Model.Matches.{longest_match}
-use Rattle.prefix_trie_bits.specs.Model.Visits.{visits}
-use Rattle.prefix_trie_bits.proofs.Model.Visits.{visits-bound}
-use Rattle.prefix_trie_table.specs.Shape.{with_longest_at}
+use Rattle.prefix_trie_map.proofs.Prelude.{rules, ◌≡◌, ◌+◌, ◌≤◌, List, Bool, Some, None, take, MatchOption, IfSome, refl, subst, arith, ghost_name_of, Entries, longest_match, visits, visits-bound, with_longest_at}
 use Rattle.prefix_trie_map.proofs.Steps.{is_map}
 use Rattle.prefix_trie_map.proofs.Lending.{IsMap-with_longest_at, match_parts}
 use Rattle.prefix_trie_map.proofs.map.PrefixMap.lend_longest.Goals as goal

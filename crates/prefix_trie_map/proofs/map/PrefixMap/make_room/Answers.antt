@@ -1,11 +1,4 @@
-use Rattle.std.proofs.Common.{◌≡◌, Bool, List, IfErr, MatchResult, take, sym, subst}
-use Rattle.std.specs.FinMap.{len}
-use Rattle.prefix_trie_bits.specs.declared.prefix.Refusal.TheVariants.{IndexRange}
-use Rattle.prefix_trie_bits.specs.Model.Room.{MayPassLimit, LeavesRoom}
-use Rattle.prefix_trie_bits.specs.Model.Storage.{ReadiesInStorage, RefusesInStorage}
-use Rattle.prefix_trie_table.specs.Locations.{IsWayEnd}
-use Rattle.prefix_trie_table.specs.Shape.{Contents}
-use Rattle.prefix_trie_map.specs.Steps.{state, storage}
+use Rattle.prefix_trie_map.proofs.Prelude.{◌≡◌, Bool, List, IfErr, MatchResult, take, sym, subst, len, IndexRange, MayPassLimit, LeavesRoom, ReadiesInStorage, RefusesInStorage, IsWayEnd, Contents, state, storage}
 use Rattle.prefix_trie_map.proofs.Placing.{room_refused, room_readied}
 use Rattle.prefix_trie_map.proofs.Steps.{by_key}
 use Rattle.prefix_trie_map.proofs.map.PrefixMap.make_room.Given as given

@@ -1,4 +1,4 @@
-use Rattle.std.proofs.Common.{rules}
+use Rattle.prefix_trie_map.proofs.Prelude.{rules}
 use Rattle.prefix_trie_map.proofs.map.PrefixMap.node_blocks.Goals as goal
 
 pub returns-clause-counts : goal.returns-clause-counts

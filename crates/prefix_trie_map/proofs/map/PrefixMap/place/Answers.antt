@@ -1,9 +1,4 @@
-use Rattle.std.proofs.Common.{◌≡◌, Some, IfOk, sym, subst}
-use Rattle.prefix_trie_bits.specs.Model.Step.{Insert}
-use Rattle.prefix_trie_bits.specs.Model.Storage.{StepByPath}
-use Rattle.prefix_trie_table.specs.Locations.{seat_of, IsWayEnd}
-use Rattle.prefix_trie_table.specs.Shape.{Contents}
-use Rattle.prefix_trie_map.specs.Steps.{stored, placed}
+use Rattle.prefix_trie_map.proofs.Prelude.{◌≡◌, Some, IfOk, sym, subst, Insert, StepByPath, seat_of, IsWayEnd, Contents, stored, placed}
 use Rattle.prefix_trie_map.proofs.Placing.{Places, places}
 use Rattle.prefix_trie_map.proofs.Steps.{by_key, is_map, stays}
 use Rattle.prefix_trie_map.proofs.map.PrefixMap.place.Given as given

@@ -1,7 +1,4 @@
-use Rattle.std.proofs.lemmas.Result.{err_from_is_err_and}
-use Rattle.prefix_trie_bits.specs.Model.HandsOut.{HandsOutInStorage}
-use Rattle.prefix_trie_bits.proofs.Model.HandsOut.{handing_laws}
-use Rattle.prefix_trie_map.specs.Steps.{state, stored}
+use Rattle.prefix_trie_map.proofs.Prelude.{err_from_is_err_and, HandsOutInStorage, handing_laws, state, stored}
 use Rattle.prefix_trie_map.proofs.Steps.{by_key}
 use Rattle.prefix_trie_map.proofs.map.PrefixMap.remove_children.Goals as goal
 

@@ -1,7 +1,4 @@
-use Rattle.std.proofs.Common.{ap}
-use Rattle.prefix_trie_bits.specs.Model.Step.{State, RemoveKeepTree, Value}
-use Rattle.prefix_trie_bits.specs.Model.Storage.{StepByPath}
-use Rattle.prefix_trie_map.specs.Steps.{stored}
+use Rattle.prefix_trie_map.proofs.Prelude.{ap, State, RemoveKeepTree, Value, StepByPath, stored}
 use Rattle.prefix_trie_map.proofs.Steps.{by_key, one_value, stays}
 use Rattle.prefix_trie_map.proofs.map.PrefixMap.remove_keep_tree.Goals as goal
 

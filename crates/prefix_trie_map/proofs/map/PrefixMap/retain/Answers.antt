@@ -1,9 +1,5 @@
-use Rattle.std.proofs.Common.{subst}
-use Rattle.prefix_trie_bits.specs.Model.Storage.{RetainsInStorage}
-use Rattle.prefix_trie_table.specs.Shape.{Contents}
+use Rattle.prefix_trie_map.proofs.Prelude.{subst, RetainsInStorage, Contents, AsksAt, state, stored}
 use Rattle.prefix_trie_map.proofs.Retained.{IsMap-tidied}
-use Rattle.prefix_trie_map.specs.Asking.{AsksAt}
-use Rattle.prefix_trie_map.specs.Steps.{state, stored}
 use Rattle.prefix_trie_map.proofs.map.PrefixMap.retain.Goals as goal
 
 pub retain-requires-clause-within : goal.retain-requires-clause-within

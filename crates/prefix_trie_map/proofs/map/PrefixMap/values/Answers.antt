@@ -1,4 +1,4 @@
-use Rattle.std.specs.Map.Iter.{deref}
+use Rattle.prefix_trie_map.proofs.Prelude.{deref}
 use Rattle.prefix_trie_map.proofs.Runs.{parts_are, parts_count, shows_in_order}
 use Rattle.prefix_trie_map.proofs.map.PrefixMap.values.Goals as goal
 

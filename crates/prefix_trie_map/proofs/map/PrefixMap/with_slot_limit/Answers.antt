@@ -1,6 +1,4 @@
-use Rattle.std.proofs.Common.{rules, sym, subst}
-use Rattle.prefix_trie_bits.specs.Model.Entries.{no_entries}
-use Rattle.prefix_trie_bits.specs.Laws.Steps.{IsMap}
+use Rattle.prefix_trie_map.proofs.Prelude.{rules, sym, subst, no_entries, IsMap}
 use Rattle.prefix_trie_map.proofs.Insertions.{IsMap-empty}
 use Rattle.prefix_trie_map.proofs.map.PrefixMap.with_slot_limit.Goals as goal
 

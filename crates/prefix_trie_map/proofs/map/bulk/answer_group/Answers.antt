@@ -1,7 +1,4 @@
-use Rattle.std.proofs.Common.{◌+◌, ◌<◌, None, length, get_or, sym, ap₂, subst, arith}
-use Rattle.std.proofs.lemmas.List.{get_or_default}
-use Rattle.prefix_trie_table.specs.Bulk.{IsAnswer}
-use Rattle.prefix_trie_map.specs.Bulk.{right_for}
+use Rattle.prefix_trie_map.proofs.Prelude.{◌+◌, ◌<◌, None, length, get_or, sym, ap₂, subst, arith, get_or_default, IsAnswer, right_for}
 use Rattle.prefix_trie_map.proofs.Bulk.{answered_more, right_match}
 use Rattle.prefix_trie_map.proofs.map.bulk.answer_group.Goals as goal
 

@@ -1,5 +1,4 @@
-use Rattle.std.proofs.Common.{◌+◌}
-use Rattle.prefix_trie_map.specs.Bulk.{AreAnswered, right_for}
+use Rattle.prefix_trie_map.proofs.Prelude.{◌+◌, AreAnswered, right_for}
 use Rattle.prefix_trie_map.proofs.map.bulk.answer_group.Given as goal
 
 abbrev pub invariant-loop-i : goal.invariant-loop-i

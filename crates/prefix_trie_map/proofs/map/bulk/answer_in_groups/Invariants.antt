@@ -1,5 +1,4 @@
-use Rattle.std.proofs.Common.{◌≡◌, ◌+◌, ◌-◌, ◌≤◌, length, take}
-use Rattle.prefix_trie_map.specs.Bulk.{AreAnswered, right_for, visits_of_all}
+use Rattle.prefix_trie_map.proofs.Prelude.{◌≡◌, ◌+◌, ◌-◌, ◌≤◌, length, take, AreAnswered, right_for, visits_of_all}
 use Rattle.prefix_trie_map.proofs.map.bulk.answer_in_groups.Given as goal
 
 abbrev pub invariant-groups : goal.invariant-groups

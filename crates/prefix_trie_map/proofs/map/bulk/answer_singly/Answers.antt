@@ -1,5 +1,4 @@
-use Rattle.std.proofs.Common.{◌<◌, length, arith}
-use Rattle.prefix_trie_map.specs.Bulk.{right_for}
+use Rattle.prefix_trie_map.proofs.Prelude.{◌<◌, length, arith, right_for}
 use Rattle.prefix_trie_map.proofs.Bulk.{answered_more, reads_one, right_match}
 use Rattle.prefix_trie_map.proofs.map.bulk.answer_singly.Goals as goal
 

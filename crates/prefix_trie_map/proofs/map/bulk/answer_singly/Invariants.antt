@@ -1,5 +1,4 @@
-use Rattle.std.proofs.Common.{◌≡◌, ◌+◌, take}
-use Rattle.prefix_trie_map.specs.Bulk.{AreAnswered, right_for, visits_of_all}
+use Rattle.prefix_trie_map.proofs.Prelude.{◌≡◌, ◌+◌, take, AreAnswered, right_for, visits_of_all}
 use Rattle.prefix_trie_map.proofs.map.bulk.answer_singly.Given as goal
 
 abbrev pub invariant-loop-i : goal.invariant-loop-i

@@ -1,5 +1,4 @@
-use Rattle.std.proofs.Common.{arith}
-use Rattle.std.proofs.lemmas.List.{length-take-le}
+use Rattle.prefix_trie_map.proofs.Prelude.{arith, length-take-le}
 use Rattle.prefix_trie_map.proofs.Bulk.{found_more, reads_more}
 use Rattle.prefix_trie_map.proofs.map.bulk.find_group.Goals as goal
 

@@ -1,7 +1,4 @@
-use Rattle.std.proofs.Common.{Some, [], ◌∷◌, ◌++◌, refl}
-use Rattle.std.proofs.iter.Next.{Yields-more}
-use Rattle.std.proofs.lemmas.List.Elements.{All-pop}
-use Rattle.std.proofs.lemmas.Result.{err_from_is_err_and}
+use Rattle.prefix_trie_map.proofs.Prelude.{Some, [], ◌∷◌, ◌++◌, refl, Yields-more, All-pop, err_from_is_err_and}
 use Rattle.prefix_trie_map.proofs.Collected.{puts_more, may_pass}
 use Rattle.prefix_trie_map.proofs.map.collecting.fill.Goals as goal
 

@@ -1,4 +1,4 @@
-use Rattle.prefix_trie_map.specs.Collected.{Puts}
+use Rattle.prefix_trie_map.proofs.Prelude.{Puts}
 use Rattle.prefix_trie_map.proofs.map.collecting.fill.Given as goal
 
 abbrev pub invariant-loop-prefix : goal.invariant-loop-prefix

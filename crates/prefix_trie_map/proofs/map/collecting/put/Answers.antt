@@ -1,6 +1,4 @@
-use Rattle.std.proofs.Common.{arith}
-use Rattle.prefix_trie_bits.specs.Keys.{path_within}
-use Rattle.prefix_trie_map.specs.Steps.{inserted}
+use Rattle.prefix_trie_map.proofs.Prelude.{arith, path_within, inserted}
 use Rattle.prefix_trie_map.proofs.Collected.{puts_one}
 use Rattle.prefix_trie_map.proofs.map.collecting.put.Goals as goal
 

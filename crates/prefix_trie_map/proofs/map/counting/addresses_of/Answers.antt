@@ -1,6 +1,4 @@
-use Rattle.std.proofs.Common.{◌≡◌, ◌^◌, ◌≤◌, None, ap, ◌∙◌, subst, rules}
-use Rattle.std.specs.Option.{option_map}
-use Rattle.prefix_trie_bits.specs.Bits.{number}
+use Rattle.prefix_trie_map.proofs.Prelude.{◌≡◌, ◌^◌, ◌≤◌, None, ap, ◌∙◌, subst, rules, option_map, number}
 use Rattle.prefix_trie_map.proofs.Addresses.{adds-none, adds-more, adds-on, adds-past, adds-root, adds-up, sum-with-power}
 use Rattle.prefix_trie_map.proofs.map.counting.addresses_of.Goals as goal
 

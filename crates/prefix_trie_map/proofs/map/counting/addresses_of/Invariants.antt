@@ -1,8 +1,4 @@
-use Rattle.std.proofs.Common.{◌≡◌, length}
-use Rattle.prefix_trie_bits.specs.Bits.{number}
-use Rattle.prefix_trie_bits.specs.Model.Entries.{Entries}
-use Rattle.prefix_trie_bits.specs.Model.Selections.{listing}
-use Rattle.prefix_trie_bits.proofs.Model.Outermost.{IsCounted}
+use Rattle.prefix_trie_map.proofs.Prelude.{◌≡◌, length, number, Entries, listing, IsCounted}
 use Rattle.prefix_trie_map.proofs.map.counting.addresses_of.Given as goal
 
 abbrev pub invariant-loop-len : goal.invariant-loop-len

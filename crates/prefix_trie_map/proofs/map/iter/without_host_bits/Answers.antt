@@ -1,7 +1,4 @@
-use Rattle.std.proofs.Common.{rules, ◌≡◌, ◌-◌, ◌++◌, length, take, sym, ap, ◌∙◌, subst, arith}
-use Rattle.std.proofs.lemmas.List.{length-take-le}
-use Rattle.prefix_trie_bits.specs.Bits.{zeros}
-use Rattle.prefix_trie_bits.specs.Keys.{back_from_bits}
+use Rattle.prefix_trie_map.proofs.Prelude.{rules, ◌≡◌, ◌-◌, ◌++◌, length, take, sym, ap, ◌∙◌, subst, arith, length-take-le, zeros, back_from_bits}
 use Rattle.prefix_trie_map.proofs.map.iter.without_host_bits.Goals as goal
 
 pub returns : goal.returns

@@ -1,4 +1,4 @@
-use Rattle.prefix_trie_bits.specs.Keys.{path_within}
+use Rattle.prefix_trie_map.proofs.Prelude.{path_within}
 use Rattle.prefix_trie_map.proofs.map.parts.parts.Goals as goal
 
 pub returns-clause-short : goal.returns-clause-short

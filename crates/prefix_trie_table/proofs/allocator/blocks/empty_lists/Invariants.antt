@@ -1,5 +1,4 @@
-use Rattle.std.proofs.Common.{◌≡◌, map, take}
-use Rattle.prefix_trie_table.specs.Store.{no_blocks}
+use Rattle.prefix_trie_table.proofs.Prelude.{◌≡◌, map, take, no_blocks}
 use Rattle.prefix_trie_table.proofs.allocator.blocks.empty_lists.Given as goal
 
 abbrev pub invariant-loop-size : goal.invariant-loop-size

@@ -1,5 +1,4 @@
-use Rattle.std.proofs.Common.{sym, subst}
-use Rattle.prefix_trie_table.specs.Cells.{HasSizes}
+use Rattle.prefix_trie_table.proofs.Prelude.{sym, subst, HasSizes}
 use Rattle.prefix_trie_table.proofs.Blocks.Tiers.{node_tiers}
 use Rattle.prefix_trie_table.proofs.allocator.blocks.node_array.Goals as goal
 

@@ -1,6 +1,4 @@
-use Rattle.std.proofs.Common.{set, sym, ap, ◌∙◌}
-use Rattle.std.proofs.lemmas.List.Edits.{map_over_more}
-use Rattle.prefix_trie_table.specs.Store.{Tier, no_blocks}
+use Rattle.prefix_trie_table.proofs.Prelude.{set, sym, ap, ◌∙◌, map_over_more, Tier, no_blocks}
 use Rattle.prefix_trie_table.proofs.allocator.free_list.clear_all.Goals as goal
 
 pub loop-list-preserved : goal.loop-list-preserved

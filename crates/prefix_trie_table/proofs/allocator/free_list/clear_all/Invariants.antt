@@ -1,5 +1,4 @@
-use Rattle.std.proofs.Common.{◌≡◌, ◌++◌, map, take, drop}
-use Rattle.prefix_trie_table.specs.Store.{no_blocks}
+use Rattle.prefix_trie_table.proofs.Prelude.{◌≡◌, ◌++◌, map, take, drop, no_blocks}
 use Rattle.prefix_trie_table.proofs.allocator.free_list.clear_all.Given as goal
 
 abbrev pub invariant-loop-list : goal.invariant-loop-list

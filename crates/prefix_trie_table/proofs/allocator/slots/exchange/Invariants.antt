@@ -1,5 +1,4 @@
-use Rattle.std.proofs.Common.{◌≡◌, vec_len}
-use Rattle.prefix_trie_table.specs.Runs.{swap_runs}
+use Rattle.prefix_trie_table.proofs.Prelude.{◌≡◌, vec_len, swap_runs}
 use Rattle.prefix_trie_table.proofs.allocator.slots.exchange.Given as goal
 
 abbrev pub invariant-loop-i : goal.invariant-loop-i

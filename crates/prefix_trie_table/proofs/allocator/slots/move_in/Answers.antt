@@ -1,5 +1,4 @@
-use Rattle.std.proofs.Common.{◌+◌, ◌-◌, ◌<◌, ◌≤◌, ⊎_elim, set, ap, ◌∙◌, arith}
-use Rattle.prefix_trie_table.specs.Runs.{swap_runs}
+use Rattle.prefix_trie_table.proofs.Prelude.{◌+◌, ◌-◌, ◌<◌, ◌≤◌, ⊎_elim, set, ap, ◌∙◌, arith, swap_runs}
 use Rattle.prefix_trie_table.proofs.Blocks.RunLemmas.{moved_in}
 use Rattle.prefix_trie_table.proofs.allocator.slots.move_in.Goals as goal
 

@@ -1,4 +1,4 @@
-use Rattle.std.proofs.Common.{◌≡◌, ◌+◌, ◌++◌, replicate, vec_len, vec_capacity}
+use Rattle.prefix_trie_table.proofs.Prelude.{◌≡◌, ◌+◌, ◌++◌, replicate, vec_len, vec_capacity}
 use Rattle.prefix_trie_table.proofs.allocator.slots.push_vacant.Given as goal
 
 abbrev pub invariant-loop-i : goal.invariant-loop-i

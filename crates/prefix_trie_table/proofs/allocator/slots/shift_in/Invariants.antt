@@ -1,4 +1,4 @@
-use Rattle.std.proofs.Common.{◌≡◌, ◌≤◌, insert, remove, vec_len, get_or}
+use Rattle.prefix_trie_table.proofs.Prelude.{◌≡◌, ◌≤◌, insert, remove, vec_len, get_or}
 use Rattle.prefix_trie_table.proofs.allocator.slots.shift_in.Given as goal
 
 abbrev pub invariant-loop-i : goal.invariant-loop-i

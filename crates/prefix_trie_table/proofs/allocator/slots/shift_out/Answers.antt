@@ -1,4 +1,4 @@
-use Rattle.std.proofs.Common.{◌≡◌, ◌∙◌, rules}
+use Rattle.prefix_trie_table.proofs.Prelude.{◌≡◌, ◌∙◌, rules}
 use Rattle.prefix_trie_table.proofs.Blocks.Shifts.{shifted_out_vec}
 use Rattle.prefix_trie_table.proofs.allocator.slots.shift_out.Goals as goal
 

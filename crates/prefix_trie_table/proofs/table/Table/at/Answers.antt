@@ -1,7 +1,4 @@
-use Rattle.std.proofs.Common.{is_some, take, sym, ap, ◌∙◌}
-use Rattle.std.proofs.lemmas.Bool.{false≢true}
-use Rattle.std.specs.FinMap.{get}
-use Rattle.prefix_trie_table.specs.Shape.{Contents}
+use Rattle.prefix_trie_table.proofs.Prelude.{is_some, take, sym, ap, ◌∙◌, false≢true, get, Contents}
 use Rattle.prefix_trie_table.proofs.Lookup.Located.{found_inside, found_value, found_some}
 use Rattle.prefix_trie_table.proofs.table.Table.at.Goals as goal
 

@@ -1,6 +1,4 @@
-use Rattle.std.proofs.Common.{Some, take, refl, sym, ap, ◌∙◌}
-use Rattle.std.specs.FinMap.{get}
-use Rattle.prefix_trie_table.specs.Shape.{Contents, with_value_at}
+use Rattle.prefix_trie_table.proofs.Prelude.{Some, take, refl, sym, ap, ◌∙◌, get, Contents, with_value_at}
 use Rattle.prefix_trie_table.proofs.Tree.Invariant.{some_table}
 use Rattle.prefix_trie_table.proofs.Lookup.Lending.{cell_there, seat_has, left_shape, table_left, stored_is, written_seen}
 use Rattle.prefix_trie_table.proofs.Lookup.Located.{seat_found}

@@ -1,14 +1,6 @@
-use Rattle.std.proofs.Common.{ℕ, [], ◌∷◌, Option, length, ap, sym, subst, arith}
-use Rattle.prefix_trie_bits.specs.Model.Step.{Clear, Done}
-use Rattle.prefix_trie_bits.specs.Model.Storage.{StepByPath}
-use Rattle.prefix_trie_table.specs.Shape.{Contents}
-use Rattle.prefix_trie_table.specs.Steps.{stored}
-use Rattle.prefix_trie_table.specs.Tables.{IsTable}
+use Rattle.prefix_trie_table.proofs.Prelude.{ℕ, [], ◌∷◌, Option, length, ap, sym, subst, arith, Clear, Done, StepByPath, Contents, stored, IsTable, Node, node_sizes, Store}
 use Rattle.prefix_trie_table.proofs.Tree.Invariant.{some_table}
 use Rattle.prefix_trie_table.proofs.Removal.Clearing.{under_limit, root_slot}
-use Rattle.prefix_trie_table.specs.declared.allocator.node.Node.{Node}
-use Rattle.prefix_trie_table.specs.Cells.{node_sizes}
-use Rattle.prefix_trie_table.specs.Store.{Store}
 use Rattle.prefix_trie_table.proofs.Tree.Shapes.{root_shape, root_reading, new_holds, new_shape, new_only, new_table}
 use Rattle.prefix_trie_table.proofs.Blocks.Sizing.{sizes_of, root_layout, storage_of}
 use Rattle.prefix_trie_table.proofs.Tree.Stated.{clears_step}

@@ -1,4 +1,4 @@
-use Rattle.std.proofs.Common.{refl}
+use Rattle.prefix_trie_table.proofs.Prelude.{refl}
 use Rattle.prefix_trie_table.proofs.Tree.Copying.{option_pairs, copied_shape, copied_table, copied_entries, copied_nodes, copied_room, copied_sizes, copied_layout, copied_same}
 use Rattle.prefix_trie_table.proofs.table.Table.clone.Goals as goal
 

@@ -1,8 +1,4 @@
-use Rattle.std.proofs.Common.{◌+◌, ◌*◌, ◌≤◌, length, take, ap, ◌∙◌, arith}
-use Rattle.prefix_trie_bits.specs.Model.Matches.{covers}
-use Rattle.prefix_trie_bits.specs.Model.Step.{State}
-use Rattle.prefix_trie_table.specs.Walking.Covers.{IsCovering}
-use Rattle.prefix_trie_table.specs.Shape.{Contents, same_shape}
+use Rattle.prefix_trie_table.proofs.Prelude.{◌+◌, ◌*◌, ◌≤◌, length, take, ap, ◌∙◌, arith, covers, State, IsCovering, Contents, same_shape}
 use Rattle.prefix_trie_table.proofs.Tree.Invariant.{some_table}
 use Rattle.prefix_trie_table.proofs.Lookup.Covers.{at_root}
 use Rattle.prefix_trie_table.proofs.Lookup.Covered.{all_ahead}

@@ -1,11 +1,4 @@
-use Rattle.std.proofs.Common.{◌≡◌, ℕ, length, take, refl, sym, ◌∙◌, subst, arith, length-take-le}
-use Rattle.prefix_trie_bits.specs.Model.Entries.{without_below}
-use Rattle.prefix_trie_bits.specs.Model.Nodes.{nodes_without_below}
-use Rattle.prefix_trie_bits.specs.Model.Step.{State, RemoveChildren, Done}
-use Rattle.prefix_trie_bits.specs.Model.Storage.{StepByPath}
-use Rattle.prefix_trie_table.specs.Shape.{Contents, storage, same_shape}
-use Rattle.prefix_trie_table.specs.Steps.{stored, SettlesInStorage}
-use Rattle.prefix_trie_table.specs.Tables.{IsTable, IsTrie}
+use Rattle.prefix_trie_table.proofs.Prelude.{◌≡◌, ℕ, length, take, refl, sym, ◌∙◌, subst, arith, length-take-le, without_below, nodes_without_below, State, RemoveChildren, Done, StepByPath, Contents, storage, same_shape, stored, SettlesInStorage, IsTable, IsTrie}
 use Rattle.prefix_trie_table.proofs.Tree.Invariant.{some_table}
 use Rattle.prefix_trie_table.proofs.Removal.PartTaken.{may_ask_all, seen_trie}
 use Rattle.prefix_trie_table.proofs.Blocks.Sizing.{table_sizes, storage_of}

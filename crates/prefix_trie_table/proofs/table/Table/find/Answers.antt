@@ -1,6 +1,4 @@
-use Rattle.std.proofs.Common.{◌+◌, take, ap, sym, ◌∙◌}
-use Rattle.std.specs.FinMap.{get}
-use Rattle.prefix_trie_bits.specs.Model.Visits.{visits}
+use Rattle.prefix_trie_table.proofs.Prelude.{◌+◌, take, ap, sym, ◌∙◌, get, visits}
 use Rattle.prefix_trie_table.proofs.Tree.Invariant.{some_table}
 use Rattle.prefix_trie_table.proofs.Lookup.Matched.{met_on_way}
 use Rattle.prefix_trie_table.proofs.Tree.Shapes.{shape_entries}

@@ -1,7 +1,4 @@
-use Rattle.std.proofs.Common.{◌≡◌, ◌+◌, ◌≤◌, take, None, Some, MatchOption, ap, ◌∙◌, subst}
-use Rattle.prefix_trie_bits.specs.Model.Matches.{longest_match}
-use Rattle.prefix_trie_bits.specs.Model.Visits.{visits}
-use Rattle.prefix_trie_table.specs.Shape.{Contents}
+use Rattle.prefix_trie_table.proofs.Prelude.{◌≡◌, ◌+◌, ◌≤◌, take, None, Some, MatchOption, ap, ◌∙◌, subst, longest_match, visits, Contents}
 use Rattle.prefix_trie_table.proofs.Tree.Invariant.{some_table}
 use Rattle.prefix_trie_table.proofs.Lookup.Going.{key_long}
 use Rattle.prefix_trie_table.proofs.Lookup.Matched.{has_nodes, cell_inside, longest_none, longest_handed, met_is}

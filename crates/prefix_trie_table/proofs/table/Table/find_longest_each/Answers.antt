@@ -1,8 +1,4 @@
-use Rattle.std.proofs.Common.{◌≡◌, ◌+◌, map, sum_by, ap, ◌∙◌, subst}
-use Rattle.std.proofs.lemmas.List.{length-map}
-use Rattle.prefix_trie_bits.specs.Model.Visits.{visits}
-use Rattle.prefix_trie_table.specs.Bulk.{AreAnswers, asked, asks, questions_of}
-use Rattle.prefix_trie_table.specs.Shape.{Contents}
+use Rattle.prefix_trie_table.proofs.Prelude.{◌≡◌, ◌+◌, map, sum_by, ap, ◌∙◌, subst, length-map, visits, AreAnswers, asked, asks, questions_of, Contents}
 use Rattle.prefix_trie_table.proofs.Lookup.Matched.{has_nodes}
 use Rattle.prefix_trie_table.proofs.Lookup.Rounds.{are_answers, costs_are, costs_sum}
 use Rattle.prefix_trie_table.proofs.Tree.Invariant.{some_table}

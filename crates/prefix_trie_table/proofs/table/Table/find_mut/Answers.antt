@@ -1,4 +1,4 @@
-use Rattle.std.proofs.Common.{take}
+use Rattle.prefix_trie_table.proofs.Prelude.{take}
 use Rattle.prefix_trie_table.proofs.Tree.Invariant.{some_table}
 use Rattle.prefix_trie_table.proofs.Lookup.Matched.{met_on_way}
 use Rattle.prefix_trie_table.proofs.Lookup.Lending.{seat_of, can_lend, left_shape, table_left, table_kept, value_lent, lender_left, stored_written}

@@ -1,10 +1,4 @@
-use Rattle.std.proofs.Common.{◌≡◌, ℕ, is_some, take, sym, ap, ◌∙◌, subst}
-use Rattle.prefix_trie_bits.specs.Model.Step.{Insert}
-use Rattle.prefix_trie_bits.specs.Model.Storage.{StepByPath}
-use Rattle.prefix_trie_bits.specs.declared.prefix.Refusal.TheVariants.{Memory, IndexRange}
-use Rattle.prefix_trie_bits.specs.declared.prefix.Refused.{Refused}
-use Rattle.prefix_trie_table.specs.Shape.{Contents}
-use Rattle.prefix_trie_table.specs.Steps.{stored, inserted}
+use Rattle.prefix_trie_table.proofs.Prelude.{◌≡◌, ℕ, is_some, take, sym, ap, ◌∙◌, subst, Insert, StepByPath, Memory, IndexRange, Refused, Contents, stored, inserted}
 use Rattle.prefix_trie_table.proofs.Tree.Invariant.{some_table, some_counted}
 use Rattle.prefix_trie_table.proofs.Blocks.Sizing.{table_sizes, storage_of}
 use Rattle.prefix_trie_table.proofs.Insertion.Foreseen.{obtained}

@@ -1,5 +1,4 @@
-use Rattle.std.proofs.Common.{◌∙◌}
-use Rattle.prefix_trie_bits.proofs.Model.NodeListings.{listing_of_root}
+use Rattle.prefix_trie_table.proofs.Prelude.{◌∙◌, listing_of_root}
 use Rattle.prefix_trie_table.proofs.table.Table.into_walk.Goals as goal
 
 pub returns : goal.returns

@@ -1,6 +1,4 @@
-use Rattle.std.proofs.Common.{◌≤◌, ◌<◌, ◌^◌, subst, arith}
-use Rattle.prefix_trie_bits.specs.Model.Storage.{HaveBlocks}
-use Rattle.prefix_trie_table.specs.Shape.{Contents, state}
+use Rattle.prefix_trie_table.proofs.Prelude.{◌≤◌, ◌<◌, ◌^◌, subst, arith, HaveBlocks, Contents, state}
 use Rattle.prefix_trie_table.proofs.Tree.Invariant.{some_table}
 use Rattle.prefix_trie_table.proofs.Blocks.Housed.{child_blocks_housed, value_blocks_housed}
 use Rattle.prefix_trie_table.proofs.table.Table.len.Goals as goal

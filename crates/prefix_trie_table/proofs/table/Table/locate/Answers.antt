@@ -1,7 +1,4 @@
-use Rattle.std.proofs.Common.{◌+◌, take, ap, ◌∙◌, subst}
-use Rattle.prefix_trie_bits.specs.Model.Visits.{visits}
-use Rattle.prefix_trie_table.specs.Locations.{IsLocation}
-use Rattle.prefix_trie_table.specs.Shape.{Contents}
+use Rattle.prefix_trie_table.proofs.Prelude.{◌+◌, take, ap, ◌∙◌, subst, visits, IsLocation, Contents}
 use Rattle.prefix_trie_table.proofs.Tree.Invariant.{some_table}
 use Rattle.prefix_trie_table.proofs.Lookup.Matched.{met_on_way}
 use Rattle.prefix_trie_table.proofs.Lookup.Located.{located}

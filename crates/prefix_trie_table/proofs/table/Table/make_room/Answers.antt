@@ -1,9 +1,5 @@
-use Rattle.std.proofs.Common.{◌≤◌, MatchResult, length, take, ap, ◌∙◌, subst, arith}
-use Rattle.std.specs.FinMap.{contains_key, len as number_of}
-use Rattle.prefix_trie_bits.specs.Model.Room.{LeavesRoom}
-use Rattle.prefix_trie_bits.specs.Model.Step.{State}
-use Rattle.prefix_trie_bits.specs.Model.Storage.{ReadiesInStorage, RefusesInStorage}
-use Rattle.prefix_trie_table.specs.Shape.{Contents, state, storage}
+use Rattle.prefix_trie_table.proofs.Prelude.{◌≤◌, MatchResult, length, take, ap, ◌∙◌, subst, arith, contains_key, LeavesRoom, State, ReadiesInStorage, RefusesInStorage, Contents, state, storage}
+use Rattle.std.specs.FinMap.{len as number_of}
 use Rattle.prefix_trie_table.proofs.Tree.Invariant.{some_table}
 use Rattle.prefix_trie_table.proofs.Tree.Kept.{ends_at, end_reached, kept_shape, kept_same, kept_table, kept_end, kept_readies}
 use Rattle.prefix_trie_table.proofs.Blocks.Sizing.{table_sizes, storage_of}

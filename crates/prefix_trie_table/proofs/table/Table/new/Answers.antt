@@ -1,9 +1,4 @@
-use Rattle.std.proofs.Common.{[], ◌∷◌, Option, ap}
-use Rattle.std.proofs.lemmas.Bool.{false≢true}
-use Rattle.prefix_trie_bits.specs.Model.Step.{State}
-use Rattle.prefix_trie_table.specs.declared.allocator.node.Node.{Node}
-use Rattle.prefix_trie_table.specs.Cells.{node_sizes}
-use Rattle.prefix_trie_table.specs.Store.{Store}
+use Rattle.prefix_trie_table.proofs.Prelude.{[], ◌∷◌, Option, ap, false≢true, State, Node, node_sizes, Store}
 use Rattle.prefix_trie_table.proofs.Tree.Shapes.{root_shape, root_reading, some_limit, new_holds, new_shape, new_only, new_table}
 use Rattle.prefix_trie_table.proofs.Blocks.Sizing.{sizes_of, root_layout}
 use Rattle.prefix_trie_table.proofs.table.Table.new.Goals as goal

@@ -1,8 +1,4 @@
-use Rattle.std.proofs.Common.{◌+◌, length, ap, ap₂, sym, ◌∙◌, subst}
-use Rattle.prefix_trie_bits.specs.Model.Blocks.{child_block_sizes, child_count, NodesHaveBlocks}
-use Rattle.prefix_trie_bits.specs.Model.Nodes.{parents}
-use Rattle.prefix_trie_table.specs.BlockCounts.{block_counts, slots_counted, used_blocks}
-use Rattle.prefix_trie_table.specs.Shape.{Contents}
+use Rattle.prefix_trie_table.proofs.Prelude.{◌+◌, length, ap, ap₂, sym, ◌∙◌, subst, child_block_sizes, child_count, NodesHaveBlocks, parents, block_counts, slots_counted, used_blocks, Contents}
 use Rattle.prefix_trie_table.proofs.Tree.Invariant.{some_table}
 use Rattle.prefix_trie_table.proofs.Counts.BlockCounts.{node_counts, slots_are, free_within}
 use Rattle.prefix_trie_table.proofs.Counts.BlockUsers.{parents_used}

@@ -1,5 +1,4 @@
-use Rattle.std.proofs.Common.{ap, sym, ◌∙◌}
-use Rattle.std.specs.FinMap.{len}
+use Rattle.prefix_trie_table.proofs.Prelude.{ap, sym, ◌∙◌, len}
 use Rattle.prefix_trie_table.proofs.Tree.Invariant.{some_table}
 use Rattle.prefix_trie_table.proofs.Strings.PathStrings.{paths_counted}
 use Rattle.prefix_trie_table.proofs.Tree.Shapes.{shape_nodes}

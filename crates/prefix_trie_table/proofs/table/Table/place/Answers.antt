@@ -1,9 +1,4 @@
-use Rattle.std.proofs.Common.{◌≤◌, ℕ, length, take, ap, ◌∙◌, subst, arith}
-use Rattle.std.specs.FinMap.{contains_key}
-use Rattle.prefix_trie_bits.specs.Model.Step.{Insert}
-use Rattle.prefix_trie_bits.specs.Model.Storage.{StepByPath}
-use Rattle.prefix_trie_table.specs.Shape.{Contents}
-use Rattle.prefix_trie_table.specs.Steps.{stored, placed}
+use Rattle.prefix_trie_table.proofs.Prelude.{◌≤◌, ℕ, length, take, ap, ◌∙◌, subst, arith, contains_key, Insert, StepByPath, Contents, stored, placed}
 use Rattle.prefix_trie_table.proofs.Tree.Invariant.{some_table, some_counted}
 use Rattle.prefix_trie_table.proofs.Tree.Kept.{ends_at, end_reached}
 use Rattle.prefix_trie_table.proofs.Insertion.Placements.{inserting, placed_leaves, placed_counts, placed_step}

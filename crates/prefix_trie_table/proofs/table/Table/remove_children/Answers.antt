@@ -1,14 +1,4 @@
-use Rattle.std.proofs.Common.{◌≡◌, ◌<◌, ℕ, length, take, refl, sym, ap, ap₂, ◌∙◌, subst, arith, length-take-le}
-use Rattle.prefix_trie_bits.specs.Model.Entries.{part_below}
-use Rattle.prefix_trie_bits.specs.Model.HandsOut.{IsPacked}
-use Rattle.prefix_trie_bits.specs.Model.Nodes.{needed}
-use Rattle.prefix_trie_bits.specs.Model.Step.{State, RemoveChildren, Done}
-use Rattle.prefix_trie_bits.specs.Model.Storage.{StepByPath}
-use Rattle.prefix_trie_table.specs.Layouts.{Sized-prop}
-use Rattle.prefix_trie_table.specs.Shape.{Contents, Shaped-prop, storage}
-use Rattle.prefix_trie_table.specs.Steps.{stored, SettlesInStorage}
-use Rattle.prefix_trie_table.specs.Store.{Store}
-use Rattle.prefix_trie_table.specs.Tables.{IsTable}
+use Rattle.prefix_trie_table.proofs.Prelude.{◌≡◌, ◌<◌, ℕ, length, take, refl, sym, ap, ap₂, ◌∙◌, subst, arith, length-take-le, part_below, IsPacked, needed, State, RemoveChildren, Done, StepByPath, Sized-prop, Contents, Shaped-prop, storage, stored, SettlesInStorage, Store, IsTable}
 use Rattle.prefix_trie_table.proofs.Blocks.Sizing.{table_sizes, storage_of}
 use Rattle.prefix_trie_table.proofs.Removal.Clearing.{root_slot}
 use Rattle.prefix_trie_table.proofs.Moving.HandedOut.{rest_counted, shape_seen, table_seen, clear_behind, handed_out, second_packed}

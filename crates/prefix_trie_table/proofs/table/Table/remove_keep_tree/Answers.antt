@@ -1,8 +1,4 @@
-use Rattle.std.proofs.Common.{ℕ, take, Option, subst}
-use Rattle.prefix_trie_bits.specs.Model.Step.{RemoveKeepTree, Value}
-use Rattle.prefix_trie_bits.specs.Model.Storage.{StepByPath}
-use Rattle.prefix_trie_table.specs.Shape.{Contents}
-use Rattle.prefix_trie_table.specs.Steps.{stored}
+use Rattle.prefix_trie_table.proofs.Prelude.{ℕ, take, Option, subst, RemoveKeepTree, Value, StepByPath, Contents, stored}
 use Rattle.prefix_trie_table.proofs.Tree.Invariant.{some_table, some_counted}
 use Rattle.prefix_trie_table.proofs.Removal.OneEntry.{kept_without}
 use Rattle.prefix_trie_table.proofs.Insertion.Rooms.{Grows-none}

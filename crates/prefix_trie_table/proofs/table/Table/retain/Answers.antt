@@ -1,13 +1,4 @@
-use Rattle.std.proofs.Common.{◌≡◌, refl, sym, subst}
-use Rattle.prefix_trie_bits.specs.Model.Asking.{MayAskInOrder}
-use Rattle.prefix_trie_bits.specs.Model.Entries.{AreWithin}
-use Rattle.prefix_trie_bits.specs.Model.Selections.{listing}
-use Rattle.prefix_trie_bits.specs.Model.Step.{State}
-use Rattle.prefix_trie_bits.specs.Model.Storage.{RetainsInStorage}
-use Rattle.prefix_trie_table.specs.Retaining.{RetainsAll}
-use Rattle.prefix_trie_table.specs.Shape.{Contents, storage, same_shape}
-use Rattle.prefix_trie_table.specs.Steps.{stored, SettlesInStorage}
-use Rattle.prefix_trie_table.specs.Tables.{IsTable}
+use Rattle.prefix_trie_table.proofs.Prelude.{◌≡◌, refl, sym, subst, MayAskInOrder, AreWithin, listing, State, RetainsInStorage, RetainsAll, Contents, storage, same_shape, stored, SettlesInStorage, IsTable}
 use Rattle.prefix_trie_table.proofs.Tree.Invariant.{some_table}
 use Rattle.prefix_trie_table.proofs.Removal.PartTaken.{seen_trie}
 use Rattle.prefix_trie_table.proofs.Blocks.Sizing.{table_sizes, storage_of}

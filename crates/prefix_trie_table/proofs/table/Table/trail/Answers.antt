@@ -1,9 +1,4 @@
-use Rattle.std.proofs.Common.{◌∙◌, map, take, ap, sym}
-use Rattle.std.specs.Prelude.{⊤}
-use Rattle.prefix_trie_table.specs.Walking.Cursors.{selected}
-use Rattle.prefix_trie_table.specs.Shape.{Contents}
-use Rattle.prefix_trie_table.specs.Walking.Trails.{array_of, keys_to_come}
-use Rattle.prefix_trie_table.specs.Walking.Walks.{Tree}
+use Rattle.prefix_trie_table.proofs.Prelude.{◌∙◌, map, take, ap, sym, ⊤, selected, Contents, array_of, keys_to_come, Tree}
 use Rattle.prefix_trie_table.proofs.Tree.Invariant.{trie_of}
 use Rattle.prefix_trie_table.proofs.Walk.Walking.{stack_in}
 use Rattle.prefix_trie_table.proofs.table.Table.trail.Goals as goal

@@ -1,8 +1,4 @@
-use Rattle.std.proofs.Common.{◌≡◌, ◌+◌, ◌≤◌, ◌<◌, get_or, take, length, None, Some, MatchOption, sym, subst}
-use Rattle.prefix_trie_bits.specs.Model.Matches.{longest_match}
-use Rattle.prefix_trie_table.specs.declared.table.bulk.Found.{Found}
-use Rattle.prefix_trie_table.specs.Bulk.{IsAnswer, IsLongestFound, asked}
-use Rattle.prefix_trie_table.specs.Shape.{Contents}
+use Rattle.prefix_trie_table.proofs.Prelude.{◌≡◌, ◌+◌, ◌≤◌, ◌<◌, get_or, take, length, None, Some, MatchOption, sym, subst, longest_match, Found, IsAnswer, IsLongestFound, asked, Contents}
 use Rattle.prefix_trie_table.proofs.Lookup.Going.{key_long}
 use Rattle.prefix_trie_table.proofs.Lookup.Matched.{cell_inside, longest_none, longest_handed}
 use Rattle.prefix_trie_table.proofs.Lookup.Rounds.{answer_is, found_some, found_none}

@@ -1,6 +1,4 @@
-use Rattle.std.proofs.Common.{take, ◌∙◌, ap}
-use Rattle.prefix_trie_bits.specs.Model.Selections.{listing_below}
-use Rattle.prefix_trie_table.specs.Shape.{Contents}
+use Rattle.prefix_trie_table.proofs.Prelude.{take, ◌∙◌, ap, listing_below, Contents}
 use Rattle.prefix_trie_table.proofs.Tree.Invariant.{sized_trie}
 use Rattle.prefix_trie_table.proofs.table.Table.walk_below.Goals as goal
 

@@ -1,7 +1,4 @@
-use Rattle.std.proofs.Common.{cond, take, ◌∙◌, sym, ap}
-use Rattle.prefix_trie_bits.specs.Model.Selections.{listing_from, listing_after}
-use Rattle.prefix_trie_table.specs.Walking.Cursors.{selected}
-use Rattle.prefix_trie_table.specs.Shape.{Contents}
+use Rattle.prefix_trie_table.proofs.Prelude.{cond, take, ◌∙◌, sym, ap, listing_from, listing_after, selected, Contents}
 use Rattle.prefix_trie_table.proofs.Tree.Invariant.{sized_trie}
 use Rattle.prefix_trie_table.proofs.table.Table.walk_from.Goals as goal
 use Rattle.prefix_trie_table.proofs.table.Table.walk_from.Goals.{then-inclusive, else-inclusive}

@@ -1,6 +1,5 @@
-use Rattle.std.proofs.Common.{◌≡◌, ◌+◌, ◌*◌, ◌≤◌, length, map, take, sum, sum_by, refl, ap, ◌∙◌, subst, arith, inl}
-use Rattle.std.proofs.lemmas.List.{length-map, length-take-le, take_all}
-use Rattle.prefix_trie_table.specs.Bulk.{AreAnswered, asks, cost_of, question_of, questions_of}
+use Rattle.prefix_trie_table.proofs.Prelude.{◌≡◌, ◌+◌, ◌*◌, ◌≤◌, length, map, take, sum, sum_by, refl, ap, ◌∙◌, subst, arith, inl, length-map, AreAnswered, asks, cost_of, question_of, questions_of}
+use Rattle.std.proofs.lemmas.List.{length-take-le, take_all}
 use Rattle.prefix_trie_table.proofs.Lookup.Rounds.{new_ways, new_under_way, new_costs, ahead_inside, level_fits, are_read, answered_next, counted_next, sums_first, sums_last}
 use Rattle.prefix_trie_table.proofs.table.bulk.answer_each.Goals as goal
 

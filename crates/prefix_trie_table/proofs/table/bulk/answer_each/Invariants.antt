@@ -1,5 +1,5 @@
-use Rattle.std.proofs.Common.{◌≡◌, ◌+◌, ◌-◌, ◌*◌, ◌≤◌, All, List, ℕ, length, map, take, sum, sum_by}
-use Rattle.prefix_trie_table.specs.Bulk.{AreAnswered, AreCosts, IsWay, cost_of, question_of, questions_of}
+use Rattle.prefix_trie_table.proofs.Prelude.{◌≡◌, ◌+◌, ◌-◌, ◌*◌, ◌≤◌, All, List, ℕ, length, map, take, sum, sum_by, AreAnswered, AreCosts, cost_of, question_of, questions_of}
+use Rattle.prefix_trie_table.specs.Bulk.{IsWay}
 use Rattle.prefix_trie_table.proofs.table.bulk.answer_each.Given as goal
 
 abbrev pub invariant-round : goal.invariant-round

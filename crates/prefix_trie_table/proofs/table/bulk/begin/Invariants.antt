@@ -1,4 +1,4 @@
-use Rattle.prefix_trie_table.specs.Bulk.{EachOf, IsNew}
+use Rattle.prefix_trie_table.proofs.Prelude.{EachOf, IsNew}
 use Rattle.prefix_trie_table.proofs.table.bulk.begin.Given as goal
 
 abbrev pub invariant-loop-j : goal.invariant-loop-j

@@ -1,6 +1,4 @@
-use Rattle.std.proofs.Common.{take}
-use Rattle.prefix_trie_table.specs.Bulk.{slot_of}
-use Rattle.prefix_trie_table.specs.Digits.{path_of}
+use Rattle.prefix_trie_table.proofs.Prelude.{take, slot_of, path_of}
 use Rattle.prefix_trie_table.proofs.Lookup.Bulk.{match_few, found_now}
 use Rattle.prefix_trie_table.proofs.Lookup.Matching.{on_way_is}
 use Rattle.prefix_trie_table.proofs.table.bulk.look.Goals as goal

@@ -1,11 +1,4 @@
-use Rattle.std.proofs.Common.{◌≡◌, ◌+◌, ◌<◌, MatchOption, get_or, length, take, drop, refl, sym, ap, ◌∙◌, subst, arith}
-use Rattle.std.proofs.lemmas.List.{drop-set-lt, length-map}
-use Rattle.prefix_trie_table.specs.declared.allocator.node.Node.{Node}
-use Rattle.prefix_trie_table.specs.declared.table.bulk.Way.{Way}
-use Rattle.prefix_trie_table.specs.Bulk.{CanAsk, GoOn, asks, new_way, questions_of, slot_of}
-use Rattle.prefix_trie_table.specs.Cells.{blank_node, node_at}
-use Rattle.prefix_trie_table.specs.Matching.{IsOnWay}
-use Rattle.prefix_trie_table.specs.Tables.{IsReached}
+use Rattle.prefix_trie_table.proofs.Prelude.{◌≡◌, ◌+◌, ◌<◌, MatchOption, get_or, length, take, drop, refl, sym, ap, ◌∙◌, subst, arith, drop-set-lt, length-map, Node, Way, CanAsk, GoOn, asks, new_way, questions_of, slot_of, blank_node, node_at, IsOnWay, IsReached}
 use Rattle.prefix_trie_table.proofs.Lookup.Bulk.{way_is, way_inside, way_best, way_next, read_on, rest_more, round_on, round_end, question_at, go_on_none, found_end}
 use Rattle.prefix_trie_table.proofs.Lookup.Finding.{reached_end}
 use Rattle.prefix_trie_table.proofs.table.bulk.look_at_each.Goals as goal

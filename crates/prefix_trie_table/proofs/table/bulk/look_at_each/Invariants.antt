@@ -1,7 +1,4 @@
-use Rattle.std.proofs.Common.{◌≡◌, ◌≤◌, take, drop}
-use Rattle.prefix_trie_table.specs.declared.allocator.node.Node.{Node}
-use Rattle.prefix_trie_table.specs.Bulk.{AreRead, GoOn, questions_of}
-use Rattle.prefix_trie_table.specs.Store.{Store}
+use Rattle.prefix_trie_table.proofs.Prelude.{◌≡◌, ◌≤◌, take, drop, Node, AreRead, GoOn, questions_of, Store}
 use Rattle.prefix_trie_table.proofs.table.bulk.look_at_each.Given as goal
 
 abbrev pub invariant-loop-j : goal.invariant-loop-j

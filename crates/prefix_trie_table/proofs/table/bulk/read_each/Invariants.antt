@@ -1,5 +1,4 @@
-use Rattle.std.proofs.Common.{◌≡◌, ◌+◌}
-use Rattle.prefix_trie_table.specs.Bulk.{EachOf, IsAhead}
+use Rattle.prefix_trie_table.proofs.Prelude.{◌≡◌, ◌+◌, EachOf, IsAhead}
 use Rattle.prefix_trie_table.proofs.table.bulk.read_each.Given as goal
 
 abbrev pub invariant-loop-j : goal.invariant-loop-j

@@ -1,15 +1,5 @@
-use Rattle.std.proofs.Common.{◌*◌, ◌/◌, ◌≤◌, length, take, drop, sym, ap, ◌∙◌, subst}
+use Rattle.prefix_trie_table.proofs.Prelude.{◌*◌, ◌/◌, ◌≤◌, length, take, drop, sym, ap, ◌∙◌, subst, All-weaker, All-contains_itself, is_in, to_come, and-first, is_in-and, MayAskInOrder, AsksUpTo, path_of, read, IsPlaceOf}
 use Rattle.std.specs.List.{Contains}
-use Rattle.std.proofs.lemmas.List.Elements.{All-weaker, All-contains_itself}
-use Rattle.prefix_trie_bits.specs.Places.{is_in}
-use Rattle.prefix_trie_bits.specs.Walks.{to_come}
-use Rattle.prefix_trie_bits.proofs.Model.Members.{and-first}
-use Rattle.prefix_trie_bits.proofs.Selecting.{is_in-and}
-use Rattle.prefix_trie_bits.specs.Model.Asking.{MayAskInOrder}
-use Rattle.prefix_trie_table.specs.Retaining.{AsksUpTo}
-use Rattle.prefix_trie_table.specs.Digits.{path_of}
-use Rattle.prefix_trie_table.specs.Forest.{read}
-use Rattle.prefix_trie_table.specs.Walking.Walks.{IsPlaceOf}
 use Rattle.prefix_trie_table.proofs.Removal.AllBelow.{covers_below}
 use Rattle.prefix_trie_table.proofs.Removal.PartTaken.{home_is, home_rest, home_steps, reached_site, part_emptied, part_listed}
 use Rattle.prefix_trie_table.proofs.table.children.empty_part.Goals as goal

@@ -1,8 +1,4 @@
-use Rattle.std.proofs.Common.{◌/◌, ◌≤◌, List, length, take, refl, sym, subst, arith}
-use Rattle.prefix_trie_table.specs.declared.allocator.node.NodeSlot.{NodeSlot}
-use Rattle.prefix_trie_table.specs.Digits.{path_of}
-use Rattle.prefix_trie_table.specs.Removals.{IsWay}
-use Rattle.prefix_trie_table.specs.Retaining.{AsksUpTo}
+use Rattle.prefix_trie_table.proofs.Prelude.{◌/◌, ◌≤◌, List, length, take, refl, sym, subst, arith, NodeSlot, path_of, IsWay, AsksUpTo}
 use Rattle.prefix_trie_table.proofs.Removal.PartTaken.{end_left, part_taken, part_lasts, part_missing, part_unlisted}
 use Rattle.prefix_trie_table.proofs.table.children.remove_part.Goals as goal
 

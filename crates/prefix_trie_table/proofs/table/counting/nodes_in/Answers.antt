@@ -1,4 +1,4 @@
-use Rattle.std.proofs.Common.{◌+◌, ◌≤◌, length, sum_by, ap, sym, ◌∙◌, arith}
+use Rattle.prefix_trie_table.proofs.Prelude.{◌+◌, ◌≤◌, length, sum_by, ap, sym, ◌∙◌, arith}
 use Rattle.std.proofs.lemmas.List.{take_all}
 use Rattle.prefix_trie_table.proofs.Counts.NodeCounts.{child_count, nodes_counted, children_more, children_few}
 use Rattle.prefix_trie_table.proofs.table.counting.nodes_in.Goals as goal

@@ -1,4 +1,4 @@
-use Rattle.std.proofs.Common.{◌≡◌, ◌+◌, take, sum_by}
+use Rattle.prefix_trie_table.proofs.Prelude.{◌≡◌, ◌+◌, take, sum_by}
 use Rattle.prefix_trie_table.proofs.Counts.NodeCounts.{child_count}
 use Rattle.prefix_trie_table.proofs.table.counting.nodes_in.Given as goal
 

@@ -1,4 +1,4 @@
-use Rattle.std.proofs.Common.{take}
+use Rattle.prefix_trie_table.proofs.Prelude.{take}
 use Rattle.prefix_trie_table.proofs.Lookup.Covers.{all_left}
 use Rattle.prefix_trie_table.proofs.table.cover.matches_in.Goals as goal
 

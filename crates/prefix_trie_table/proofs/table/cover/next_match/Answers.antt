@@ -1,4 +1,4 @@
-use Rattle.std.proofs.Common.{arith}
+use Rattle.prefix_trie_table.proofs.Prelude.{arith}
 use Rattle.prefix_trie_table.proofs.Lookup.Covers.{gone_nowhere, gone_on, gone_past, gone_down}
 use Rattle.prefix_trie_table.proofs.table.cover.next_match.Goals as goal
 

@@ -1,5 +1,4 @@
-use Rattle.std.proofs.Common.{ℕ, ◌+◌, ◌*◌, ◌-◌}
-use Rattle.prefix_trie_table.specs.Walking.Covers.{IsCovering}
+use Rattle.prefix_trie_table.proofs.Prelude.{ℕ, ◌+◌, ◌*◌, ◌-◌, IsCovering}
 use Rattle.prefix_trie_table.proofs.Lookup.Covers.{GoneTo}
 use Rattle.prefix_trie_table.proofs.table.cover.next_match.Given as goal
 

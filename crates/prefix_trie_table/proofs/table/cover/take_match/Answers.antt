@@ -1,7 +1,5 @@
-use Rattle.std.proofs.Common.{◌≡◌, ◌^◌, ◌<◌, ℕ, arith}
-use Rattle.std.specs.Int.{bit_at, trailing_zeros, w32}
-use Rattle.std.proofs.lemmas.Nat.Bits.{bit_at-trailing_zeros}
-use Rattle.prefix_trie_bits.proofs.Ranks.{has-from}
+use Rattle.prefix_trie_table.proofs.Prelude.{◌≡◌, ◌^◌, ◌<◌, ℕ, arith, bit_at, trailing_zeros, bit_at-trailing_zeros, has-from}
+use Rattle.std.specs.Int.{w32}
 use Rattle.prefix_trie_table.proofs.Lookup.Covers.{takes_none, takes_some, match-small}
 use Rattle.prefix_trie_table.proofs.table.cover.take_match.Goals as goal
 

@@ -1,6 +1,4 @@
-use Rattle.std.proofs.Common.{drop, take, subst, ap, ◌∙◌, sym}
-use Rattle.prefix_trie_bits.specs.Places.{has, HoldsPlaces, Sets}
-use Rattle.prefix_trie_table.specs.Walking.Cursors.{kept}
+use Rattle.prefix_trie_table.proofs.Prelude.{drop, take, subst, ap, ◌∙◌, sym, has, HoldsPlaces, Sets, kept}
 use Rattle.prefix_trie_table.proofs.Walk.Cursors.{own_bit, masks_after, short_rest}
 use Rattle.prefix_trie_table.proofs.table.cursor.places_kept.Goals as goal
 

@@ -1,9 +1,5 @@
-use Rattle.std.proofs.Common.{◌∙◌, arith}
+use Rattle.prefix_trie_table.proofs.Prelude.{◌∙◌, arith, and_le_l, All-weaker, All-contains_itself, to_come, IsPlaceOf}
 use Rattle.std.specs.List.{Contains}
-use Rattle.std.proofs.lemmas.Nat.{and_le_l}
-use Rattle.std.proofs.lemmas.List.Elements.{All-weaker, All-contains_itself}
-use Rattle.prefix_trie_bits.specs.Walks.{to_come}
-use Rattle.prefix_trie_table.specs.Walking.Walks.{IsPlaceOf}
 use Rattle.prefix_trie_table.proofs.Walk.Cursors.{masked, in_first}
 use Rattle.prefix_trie_table.proofs.Lookup.Matching.{clear-small}
 use Rattle.prefix_trie_table.proofs.table.cursor.spot_in.Goals as goal

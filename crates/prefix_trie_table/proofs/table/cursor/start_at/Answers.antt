@@ -1,5 +1,4 @@
-use Rattle.std.proofs.Common.{◌∙◌, sym, take, arith}
-use Rattle.prefix_trie_table.specs.Digits.{path_of}
+use Rattle.prefix_trie_table.proofs.Prelude.{◌∙◌, sym, take, arith, path_of}
 use Rattle.prefix_trie_table.proofs.Tree.Subtrees.{root_inside, few_at}
 use Rattle.prefix_trie_table.proofs.Walk.Cursors.{laid_root, stack_pushed, passed_pushed, rest_missing, next_inside, laid_next, rest_ended}
 use Rattle.prefix_trie_table.proofs.table.cursor.start_at.Goals as goal

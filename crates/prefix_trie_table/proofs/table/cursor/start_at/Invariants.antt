@@ -1,4 +1,4 @@
-use Rattle.std.proofs.Common.{◌+◌, ◌-◌}
+use Rattle.prefix_trie_table.proofs.Prelude.{◌+◌, ◌-◌}
 use Rattle.prefix_trie_table.proofs.Walk.Cursors.{IsLaid}
 use Rattle.prefix_trie_table.proofs.table.cursor.start_at.Given as goal
 

@@ -1,9 +1,5 @@
-use Rattle.std.proofs.Common.{◌∙◌, ap, take}
+use Rattle.prefix_trie_table.proofs.Prelude.{◌∙◌, ap, take, State, selected, same_shape, Tree}
 use Rattle.std.specs.FinMap.{len as size}
-use Rattle.prefix_trie_bits.specs.Model.Step.{State}
-use Rattle.prefix_trie_table.specs.Walking.Cursors.{selected}
-use Rattle.prefix_trie_table.specs.Shape.{same_shape}
-use Rattle.prefix_trie_table.specs.Walking.Walks.{Tree}
 use Rattle.prefix_trie_table.proofs.table.cursor.walk_at.Goals as goal
 
 pub start_at-stack-requires-clause-tree : goal.start_at-stack-requires-clause-tree

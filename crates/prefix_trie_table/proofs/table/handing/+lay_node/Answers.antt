@@ -1,10 +1,4 @@
-use Rattle.std.proofs.Common.{rules, ℕ, None, replicate, sym, ap, subst, ◌∙◌, arith, ◌≡◌, ◌+◌, ◌-◌, List, [], length, drop, take, bit_and}
-use Rattle.prefix_trie_bits.specs.declared.prefix.Refusal.TheVariants.{Memory}
-use Rattle.prefix_trie_table.specs.Cells.{node_at, blank_node, node_sizes, cell_sizes}
-use Rattle.prefix_trie_table.specs.declared.allocator.node.Node.{Node}
-use Rattle.prefix_trie_table.specs.HandingOut.Laid.{child_slots, value_slots, sum_to, slots_at_child, slots_below, IsBough, IsLaid, NothingLaid, LaysNode}
-use Rattle.prefix_trie_table.specs.HandingOut.Laying.{LaysList, Lays}
-use Rattle.prefix_trie_table.specs.Store.{tier_sizes}
+use Rattle.prefix_trie_table.proofs.Prelude.{rules, ℕ, None, replicate, sym, ap, subst, ◌∙◌, arith, ◌≡◌, ◌+◌, ◌-◌, List, [], length, drop, take, bit_and, Memory, node_at, blank_node, node_sizes, cell_sizes, Node, child_slots, value_slots, sum_to, slots_at_child, slots_below, IsBough, IsLaid, NothingLaid, LaysNode, LaysList, Lays, tier_sizes}
 use Rattle.prefix_trie_table.proofs.HandingOut.Boughs.{first, bough_start, bough_few, bough_clear, bough_passed, bough_grafted, bough_closed, bough_bare}
 use Rattle.prefix_trie_table.proofs.HandingOut.Ground.{Lays-none, can_lay_then}
 use Rattle.prefix_trie_table.proofs.HandingOut.Parts.{kept, own_values, left_out, below_it}

@@ -1,5 +1,4 @@
-use Rattle.std.proofs.Common.{drop, take}
-use Rattle.prefix_trie_table.specs.HandingOut.Laid.{IsBough}
+use Rattle.prefix_trie_table.proofs.Prelude.{drop, take, IsBough}
 use Rattle.prefix_trie_table.proofs.table.handing.+lay_node.Given as goal
 
 abbrev pub decreases-lay_node : goal.decreases-lay_node

@@ -1,10 +1,4 @@
-use Rattle.std.proofs.Common.{refl, ◌∙◌, ◌<◌, sym, ap, subst, length, arith, ◌/◌, take}
-use Rattle.std.proofs.lemmas.Result.{err_from_is_err_and}
-use Rattle.prefix_trie_table.specs.Cells.{node_at}
-use Rattle.prefix_trie_table.specs.HandingOut.Laid.{LaysNode}
-use Rattle.prefix_trie_table.specs.declared.allocator.node.Node.{Node}
-use Rattle.prefix_trie_table.specs.Store.{Store, tier_sizes}
-use Rattle.prefix_trie_table.specs.HandingOut.Skeleton.{IsSecond}
+use Rattle.prefix_trie_table.proofs.Prelude.{refl, ◌∙◌, ◌<◌, sym, ap, subst, length, arith, ◌/◌, take, err_from_is_err_and, node_at, LaysNode, Node, Store, tier_sizes, IsSecond}
 use Rattle.prefix_trie_table.proofs.HandingOut.RootSpace.{root_nodes, root_cells}
 use Rattle.prefix_trie_table.proofs.HandingOut.Space.{for_memory}
 use Rattle.prefix_trie_table.proofs.HandingOut.Second.{root_source, second_laid, second_bare}

@@ -1,7 +1,6 @@
-use Rattle.std.proofs.Common.{◌≤◌, ◌+◌, length, drop, take, sym, ap, ◌∙◌, arith}
-use Rattle.std.proofs.lemmas.List.{drop-drop, drop_all, length-take-le}
+use Rattle.prefix_trie_table.proofs.Prelude.{◌≤◌, ◌+◌, length, drop, take, sym, ap, ◌∙◌, arith, drop_all, number}
+use Rattle.std.proofs.lemmas.List.{drop-drop, length-take-le}
 use Rattle.prefix_trie_table.proofs.HandingOut.Parts.{masks_own, masks_way, masks_step, five_next, left_long}
-use Rattle.prefix_trie_bits.specs.Bits.{number}
 use Rattle.prefix_trie_table.proofs.table.handing.masks.Goals as goal
 
 pub returns-then-len-depth-clause-children : goal.returns-then-len-depth-clause-children

@@ -1,12 +1,4 @@
-use Rattle.std.proofs.Common.{◌≡◌, ◌+◌, ◌<◌, ◌≤◌, Some, ap, sym, ◌∙◌, refl, subst, arith}
-use Rattle.std.specs.Option.{option_or}
-use Rattle.prefix_trie_bits.specs.Model.Blocks.{one_of}
-use Rattle.prefix_trie_bits.specs.Model.Insertion.{block_needed}
-use Rattle.prefix_trie_table.specs.declared.allocator.node.Node.{Node}
-use Rattle.prefix_trie_table.specs.Bitmaps.{rank}
-use Rattle.prefix_trie_table.specs.Cells.{blank_node, node_sizes}
-use Rattle.prefix_trie_table.specs.OwnBlocks.{child_need}
-use Rattle.prefix_trie_table.specs.Store.{Store, AreFree, free_in, size_in, size_if_any, list_size, list_need, needs}
+use Rattle.prefix_trie_table.proofs.Prelude.{◌≡◌, ◌+◌, ◌<◌, ◌≤◌, Some, ap, sym, ◌∙◌, refl, subst, arith, option_or, one_of, block_needed, Node, rank, blank_node, node_sizes, child_need, Store, AreFree, free_in, size_in, size_if_any, list_size, list_need, needs}
 use Rattle.prefix_trie_table.proofs.Strings.Bits.{has_bit-is, rank-ones}
 use Rattle.prefix_trie_table.proofs.Strings.BitLists.{rank-within, rank-lacks}
 use Rattle.prefix_trie_table.proofs.Insertion.Adding.{at_is, has_list, tier_small, added}

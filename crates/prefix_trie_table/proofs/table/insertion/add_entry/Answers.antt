@@ -1,14 +1,7 @@
-use Rattle.std.proofs.Common.{◌≡◌, ◌+◌, ◌-◌, ◌/◌, ◌<◌, Some, take, length, false, sym, ap, ◌∙◌, subst, arith}
-use Rattle.prefix_trie_table.specs.declared.allocator.node.Node.{Node}
-use Rattle.prefix_trie_table.specs.Bitmaps.{has_bit}
-use Rattle.prefix_trie_table.specs.Cells.{node_at}
-use Rattle.prefix_trie_table.specs.Digits.{path_of}
+use Rattle.prefix_trie_table.proofs.Prelude.{◌≡◌, ◌+◌, ◌-◌, ◌/◌, ◌<◌, Some, take, length, false, sym, ap, ◌∙◌, subst, arith, Node, has_bit, node_at, path_of, one_of, child_need, AreFree, needs}
 use Rattle.prefix_trie_table.proofs.Tree.Invariant.{deepest_there}
 use Rattle.prefix_trie_table.proofs.Lookup.Locating.{end_there, missing_bit}
 use Rattle.prefix_trie_table.proofs.Strings.Bits.{has_bit-zero}
-use Rattle.prefix_trie_bits.specs.Model.Blocks.{one_of}
-use Rattle.prefix_trie_table.specs.OwnBlocks.{child_need}
-use Rattle.prefix_trie_table.specs.Store.{AreFree, needs}
 use Rattle.prefix_trie_table.proofs.Blocks.BySize.{many_here}
 use Rattle.prefix_trie_table.proofs.Insertion.Asks.{nodes_below, cells_here, cells_below}
 use Rattle.prefix_trie_table.proofs.Lookup.Going.{step-read, level_inside, level_last, level_more, bit-read-last, steps-all}

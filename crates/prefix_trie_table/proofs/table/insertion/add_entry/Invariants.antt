@@ -1,9 +1,4 @@
-use Rattle.std.proofs.Common.{◌≡◌, ◌+◌, ◌-◌, ◌/◌, ◌≤◌, ◌<◌, ℕ, List, Option, take}
-use Rattle.prefix_trie_table.specs.declared.allocator.node.Node.{Node}
-use Rattle.prefix_trie_table.specs.Cells.{blank_node, node_at}
-use Rattle.prefix_trie_table.specs.Digits.{path_of}
-use Rattle.prefix_trie_table.specs.Store.{MakesNone, free_in}
-use Rattle.prefix_trie_table.specs.Forest.{Holds, Deepest, Walked}
+use Rattle.prefix_trie_table.proofs.Prelude.{◌≡◌, ◌+◌, ◌-◌, ◌/◌, ◌≤◌, ◌<◌, ℕ, List, Option, take, Node, blank_node, node_at, path_of, MakesNone, free_in, Holds, Deepest, Walked}
 use Rattle.prefix_trie_table.proofs.table.insertion.add_entry.Given as goal
 
 abbrev pub invariant-loop-level : goal.invariant-loop-level

@@ -1,9 +1,4 @@
-use Rattle.std.proofs.Common.{◌≡◌, ◌+◌, ◌<◌, None, Some, ap, sym, ◌∙◌, refl, subst, arith}
-use Rattle.std.specs.Option.{option_or}
-use Rattle.prefix_trie_bits.specs.Model.Insertion.{block_needed}
-use Rattle.prefix_trie_table.specs.Bitmaps.{rank}
-use Rattle.prefix_trie_table.specs.Cells.{cell_sizes}
-use Rattle.prefix_trie_table.specs.Store.{AreFree, size_in, size_if_any, list_size, list_need, needs}
+use Rattle.prefix_trie_table.proofs.Prelude.{◌≡◌, ◌+◌, ◌<◌, None, Some, ap, sym, ◌∙◌, refl, subst, arith, option_or, block_needed, rank, cell_sizes, AreFree, size_in, size_if_any, list_size, list_need, needs}
 use Rattle.prefix_trie_table.proofs.Strings.Bits.{has_bit-is, rank-ones}
 use Rattle.prefix_trie_table.proofs.Strings.BitLists.{rank-within}
 use Rattle.prefix_trie_table.proofs.Insertion.Adding.{at_is, at_values, has_values, tier_small, values_added}

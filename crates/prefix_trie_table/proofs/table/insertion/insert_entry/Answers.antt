@@ -1,9 +1,4 @@
-use Rattle.std.proofs.Common.{◌+◌, None, is_some, take, refl, sym, ap, ◌∙◌}
-use Rattle.std.proofs.lemmas.Bool.{false≢true}
-use Rattle.std.proofs.lemmas.List.{get_or_default}
-use Rattle.std.proofs.lemmas.Result.{err_from_is_err_and}
-use Rattle.prefix_trie_table.specs.Digits.{path_of, bit_of}
-use Rattle.prefix_trie_table.specs.Forest.{SomeTable, one_if}
+use Rattle.prefix_trie_table.proofs.Prelude.{◌+◌, None, is_some, take, refl, sym, ap, ◌∙◌, false≢true, get_or_default, err_from_is_err_and, path_of, bit_of, SomeTable, one_if}
 use Rattle.prefix_trie_table.proofs.Lookup.Lending.{cell_there, value_there}
 use Rattle.prefix_trie_table.proofs.Insertion.Asks.{at_end}
 use Rattle.prefix_trie_table.proofs.Insertion.Rooms.{Grows-same}

@@ -1,6 +1,4 @@
-use Rattle.std.proofs.Common.{◌≡◌, is_some, take, refl, ap, arith}
-use Rattle.prefix_trie_table.specs.Digits.{path_of, bit_of}
-use Rattle.prefix_trie_table.specs.Forest.{one_if}
+use Rattle.prefix_trie_table.proofs.Prelude.{◌≡◌, is_some, take, refl, ap, arith, path_of, bit_of, one_if}
 use Rattle.prefix_trie_table.proofs.Insertion.Asks.{Made-then}
 use Rattle.prefix_trie_table.proofs.Counts.EntryCounts.{entries_bound}
 use Rattle.prefix_trie_table.proofs.Lookup.Locating.{missing_value, ends_still}

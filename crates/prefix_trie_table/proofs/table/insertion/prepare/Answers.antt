@@ -1,16 +1,5 @@
-use Rattle.std.proofs.Common.{◌≡◌, ℕ, ◌+◌, ◌-◌, ◌/◌, Option, None, Some, inl, inr, [], Result, Err, refl, sym, ap, ◌∙◌, subst, arith}
-use Rattle.std.proofs.lemmas.Result.{on_ok_weaker, err_from_is_err_and, IfErr-weaker}
-use Rattle.prefix_trie_bits.specs.declared.prefix.Refusal.{Refusal}
-use Rattle.prefix_trie_bits.specs.declared.prefix.Refusal.TheVariants.{Memory, IndexRange}
-use Rattle.prefix_trie_table.specs.declared.allocator.node.Node.{Node}
-use Rattle.prefix_trie_table.specs.Asked.{nodes_needed, cells_needed, ObtainsBoth}
-use Rattle.prefix_trie_table.specs.Bitmaps.{rank}
-use Rattle.prefix_trie_bits.specs.Model.Blocks.{value_block_sizes}
-use Rattle.prefix_trie_bits.specs.Model.Insertion.{block_needed}
-use Rattle.prefix_trie_table.specs.Cells.{blank_node, cell_sizes}
-use Rattle.prefix_trie_table.specs.OwnBlocks.{child_block_size, value_block_size, child_need, value_need}
-use Rattle.prefix_trie_table.specs.Store.{Store, Obtains, AreFree, tier_sizes, needs}
-use Rattle.prefix_trie_table.specs.Tables.{GrowsBoth, MayPass}
+use Rattle.prefix_trie_table.proofs.Prelude.{◌≡◌, ℕ, ◌+◌, ◌-◌, ◌/◌, Option, None, Some, inl, inr, [], Result, Err, refl, sym, ap, ◌∙◌, subst, arith, on_ok_weaker, err_from_is_err_and, IfErr-weaker, Refusal, Memory, IndexRange, Node, nodes_needed, cells_needed, ObtainsBoth, rank, value_block_sizes, block_needed, blank_node, cell_sizes, child_need, value_need, Store, Obtains, AreFree, tier_sizes, needs, GrowsBoth, MayPass}
+use Rattle.prefix_trie_table.specs.OwnBlocks.{child_block_size, value_block_size}
 use Rattle.prefix_trie_table.proofs.Strings.Bits.{rank-ones}
 use Rattle.prefix_trie_table.proofs.Blocks.BySize.{node_sized, cell_sized}
 use Rattle.prefix_trie_table.proofs.Blocks.Turnovers.{free_obtained}

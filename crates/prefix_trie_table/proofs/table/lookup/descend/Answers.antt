@@ -1,4 +1,4 @@
-use Rattle.std.proofs.Common.{arith}
+use Rattle.prefix_trie_table.proofs.Prelude.{arith}
 use Rattle.prefix_trie_table.proofs.Lookup.Going.{followed_root, followed_next}
 use Rattle.prefix_trie_table.proofs.table.lookup.descend.Goals as goal
 

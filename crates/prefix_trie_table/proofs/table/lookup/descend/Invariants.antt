@@ -1,4 +1,4 @@
-use Rattle.std.proofs.Common.{◌+◌, ◌*◌, ◌-◌}
+use Rattle.prefix_trie_table.proofs.Prelude.{◌+◌, ◌*◌, ◌-◌}
 use Rattle.prefix_trie_table.proofs.Lookup.Going.{IsFollowed}
 use Rattle.prefix_trie_table.proofs.table.lookup.descend.Given as goal
 

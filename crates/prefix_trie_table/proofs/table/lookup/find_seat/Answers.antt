@@ -1,4 +1,4 @@
-use Rattle.std.proofs.Common.{take}
+use Rattle.prefix_trie_table.proofs.Prelude.{take}
 use Rattle.prefix_trie_table.proofs.Lookup.Locating.{is_seat, no_value_seat}
 use Rattle.prefix_trie_table.proofs.table.lookup.find_seat.Goals as goal
 

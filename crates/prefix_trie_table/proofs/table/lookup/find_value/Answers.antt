@@ -1,6 +1,4 @@
-use Rattle.std.proofs.Common.{◌+◌, None, take, sym, ◌∙◌}
-use Rattle.std.proofs.lemmas.List.{get_or_default}
-use Rattle.prefix_trie_table.specs.Forest.{SomeTable}
+use Rattle.prefix_trie_table.proofs.Prelude.{◌+◌, None, take, sym, ◌∙◌, get_or_default, SomeTable}
 use Rattle.prefix_trie_table.proofs.Lookup.Lending.{cell_there}
 use Rattle.prefix_trie_table.proofs.table.lookup.find_value.Goals as goal
 

@@ -1,6 +1,4 @@
-use Rattle.std.proofs.Common.{ap, sym, ◌∙◌, arith}
-use Rattle.prefix_trie_bits.specs.Places.{value_bit}
-use Rattle.prefix_trie_bits.specs.Windows.{rest_string}
+use Rattle.prefix_trie_table.proofs.Prelude.{ap, sym, ◌∙◌, arith, value_bit, rest_string}
 use Rattle.prefix_trie_table.proofs.Lookup.Finding.{met_end}
 use Rattle.prefix_trie_table.proofs.Lookup.Locating.{located_below, located_none, located_here}
 use Rattle.prefix_trie_table.proofs.table.lookup.locate_in.Goals as goal

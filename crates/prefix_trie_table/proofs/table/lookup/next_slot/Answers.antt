@@ -1,4 +1,4 @@
-use Rattle.std.proofs.Common.{refl, sym, ◌∙◌, arith}
+use Rattle.prefix_trie_table.proofs.Prelude.{refl, sym, ◌∙◌, arith}
 use Rattle.prefix_trie_table.proofs.Lookup.Going.{next_bit, next_deep}
 use Rattle.prefix_trie_table.proofs.table.lookup.next_slot.Goals as goal
 

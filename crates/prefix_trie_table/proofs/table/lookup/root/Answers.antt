@@ -1,5 +1,4 @@
-use Rattle.std.proofs.Common.{[], take, arith}
-use Rattle.prefix_trie_table.specs.Digits.{path_of}
+use Rattle.prefix_trie_table.proofs.Prelude.{[], take, arith, path_of}
 use Rattle.prefix_trie_table.proofs.Lookup.Going.{deepest_root, deepest_in}
 use Rattle.prefix_trie_table.proofs.table.lookup.root.Goals as goal
 

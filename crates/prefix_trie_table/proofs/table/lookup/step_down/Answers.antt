@@ -1,5 +1,4 @@
-use Rattle.std.proofs.Common.{◌+◌, take, refl}
-use Rattle.prefix_trie_table.specs.Digits.{path_of}
+use Rattle.prefix_trie_table.proofs.Prelude.{◌+◌, take, refl, path_of}
 use Rattle.prefix_trie_table.proofs.Lookup.Going.{deepest_in}
 use Rattle.prefix_trie_table.proofs.table.lookup.step_down.Goals as goal
 

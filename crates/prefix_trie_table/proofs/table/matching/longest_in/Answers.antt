@@ -1,6 +1,4 @@
-use Rattle.std.proofs.Common.{take, sym, subst, arith}
-use Rattle.prefix_trie_bits.specs.Places.{IsLongest, NoneBegins}
-use Rattle.prefix_trie_bits.specs.Windows.{rest_string}
+use Rattle.prefix_trie_table.proofs.Prelude.{take, sym, subst, arith, IsLongest, NoneBegins, rest_string}
 use Rattle.prefix_trie_table.proofs.Lookup.Matching.{clear-small, steps-within, none_here, longest_here, longest-small}
 use Rattle.prefix_trie_table.proofs.table.matching.longest_in.Goals as goal
 

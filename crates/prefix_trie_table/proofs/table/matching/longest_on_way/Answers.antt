@@ -1,6 +1,4 @@
-use Rattle.std.proofs.Common.{◌≡◌, ◌+◌, ◌*◌, take, ◌∙◌, subst, arith}
-use Rattle.prefix_trie_table.specs.Matching.{LongestHeld}
-use Rattle.prefix_trie_table.specs.Digits.{path_of}
+use Rattle.prefix_trie_table.proofs.Prelude.{◌≡◌, ◌+◌, ◌*◌, take, ◌∙◌, subst, arith, LongestHeld, path_of}
 use Rattle.prefix_trie_table.proofs.Lookup.Finding.{reached_end, met_end}
 use Rattle.prefix_trie_table.proofs.Lookup.Going.{followed_root, followed_next}
 use Rattle.prefix_trie_table.proofs.Lookup.Matching.{on_way_is, none_past, longest_none, longest_now}

@@ -1,8 +1,4 @@
-use Rattle.std.proofs.Common.{ℕ, ◌+◌, ◌*◌, ◌-◌, List, Option, take}
-use Rattle.prefix_trie_table.specs.declared.allocator.node.Node.{Node}
-use Rattle.prefix_trie_table.specs.Cells.{node_sizes}
-use Rattle.prefix_trie_table.specs.Forest.{NodesHold}
-use Rattle.prefix_trie_table.specs.Matching.{LongestHeld}
+use Rattle.prefix_trie_table.proofs.Prelude.{ℕ, ◌+◌, ◌*◌, ◌-◌, List, Option, take, Node, node_sizes, NodesHold, LongestHeld}
 use Rattle.prefix_trie_table.proofs.Lookup.Going.{IsFollowed}
 use Rattle.prefix_trie_table.proofs.table.matching.longest_on_way.Given as goal
 

@@ -1,6 +1,4 @@
-use Rattle.std.proofs.Common.{take, sym, subst, arith}
-use Rattle.prefix_trie_bits.specs.Places.{IsShortest, NoneBegins}
-use Rattle.prefix_trie_bits.specs.Windows.{rest_string}
+use Rattle.prefix_trie_table.proofs.Prelude.{take, sym, subst, arith, IsShortest, NoneBegins, rest_string}
 use Rattle.prefix_trie_table.proofs.Lookup.Matching.{clear-small, steps-within, none_here, shortest_here, shortest-small}
 use Rattle.prefix_trie_table.proofs.table.matching.shortest_in.Goals as goal
 

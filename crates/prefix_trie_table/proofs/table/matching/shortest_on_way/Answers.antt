@@ -1,6 +1,4 @@
-use Rattle.std.proofs.Common.{◌≡◌, ◌+◌, ◌*◌, take, Some, ◌∙◌, subst, arith}
-use Rattle.prefix_trie_table.specs.Matching.{NoneHeld}
-use Rattle.prefix_trie_table.specs.Digits.{path_of}
+use Rattle.prefix_trie_table.proofs.Prelude.{◌≡◌, ◌+◌, ◌*◌, take, Some, ◌∙◌, subst, arith, NoneHeld, path_of}
 use Rattle.prefix_trie_table.proofs.Lookup.Finding.{reached_end, met_end}
 use Rattle.prefix_trie_table.proofs.Lookup.Going.{followed_root, followed_next}
 use Rattle.prefix_trie_table.proofs.Lookup.Matching.{on_way_is, none_past, none_join, shortest_behind}

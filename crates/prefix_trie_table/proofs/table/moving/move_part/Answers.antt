@@ -1,10 +1,4 @@
-use Rattle.std.proofs.Common.{[], take}
-use Rattle.std.specs.FinMap.{len, entries}
-use Rattle.prefix_trie_bits.specs.Model.Entries.{part_below}
-use Rattle.prefix_trie_bits.specs.Model.Step.{State}
-use Rattle.prefix_trie_table.specs.declared.table.moving.Seats.{Seats}
-use Rattle.prefix_trie_table.specs.HandingOut.Moving.{filled_with, handed}
-use Rattle.prefix_trie_table.specs.Tables.{IsTrie}
+use Rattle.prefix_trie_table.proofs.Prelude.{[], take, len, entries, part_below, State, Seats, filled_with, handed, IsTrie}
 use Rattle.prefix_trie_table.proofs.Moving.Second.{second_trie}
 use Rattle.prefix_trie_table.proofs.Moving.Moved.{Fills, may_move, all_moved}
 use Rattle.prefix_trie_table.proofs.table.moving.move_part.Given as given

@@ -1,5 +1,4 @@
-use Rattle.std.proofs.Common.{[], ◌∷◌, take, ◌∙◌}
-use Rattle.prefix_trie_table.specs.Cells.{blank_node, node_sizes, cell_sizes}
+use Rattle.prefix_trie_table.proofs.Prelude.{[], ◌∷◌, take, ◌∙◌, blank_node, node_sizes, cell_sizes}
 use Rattle.prefix_trie_table.proofs.Removal.Clearing.{cleared_tiers, root_slot}
 use Rattle.prefix_trie_table.proofs.table.removal.clear_entries.Goals as goal
 

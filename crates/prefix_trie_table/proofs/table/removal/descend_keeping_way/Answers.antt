@@ -1,9 +1,4 @@
-use Rattle.std.proofs.Common.{◌≡◌, ℕ, ◌+◌, ◌*◌, ◌/◌, ◌≤◌, Bool, List, [], length, take, drop, sym, ap, ◌∙◌, subst, arith}
-use Rattle.prefix_trie_bits.specs.Bits.{number}
-use Rattle.prefix_trie_bits.specs.Windows.{IsRest, rest_whole, rest_front, rest_behind}
-use Rattle.prefix_trie_table.specs.declared.allocator.node.NodeSlot.{NodeSlot}
-use Rattle.prefix_trie_table.specs.Digits.{path_of}
-use Rattle.prefix_trie_table.specs.Removals.{IsWay}
+use Rattle.prefix_trie_table.proofs.Prelude.{◌≡◌, ℕ, ◌+◌, ◌*◌, ◌/◌, ◌≤◌, Bool, List, [], length, take, drop, sym, ap, ◌∙◌, subst, arith, number, IsRest, rest_whole, rest_front, rest_behind, NodeSlot, path_of, IsWay}
 use Rattle.prefix_trie_table.proofs.Lookup.Finding.{reached_none}
 use Rattle.prefix_trie_table.proofs.Lookup.Going.{IsDown, deepest_root, deepest_in, down_bit, down_more, level_inside}
 use Rattle.prefix_trie_table.proofs.Tree.Ways.{way_first, way_more}

@@ -1,10 +1,4 @@
-use Rattle.std.proofs.Common.{◌≡◌, ℕ, ◌+◌, ◌*◌, ◌/◌, ◌≤◌, Bool, List, Option, take, length}
-use Rattle.prefix_trie_bits.specs.Windows.{IsRest}
-use Rattle.prefix_trie_table.specs.declared.allocator.node.Node.{Node}
-use Rattle.prefix_trie_table.specs.Cells.{node_sizes}
-use Rattle.prefix_trie_table.specs.Digits.{path_of}
-use Rattle.prefix_trie_table.specs.Forest.{NodesHold}
-use Rattle.prefix_trie_table.specs.Removals.{IsWay}
+use Rattle.prefix_trie_table.proofs.Prelude.{◌≡◌, ℕ, ◌+◌, ◌*◌, ◌/◌, ◌≤◌, Bool, List, Option, take, length, IsRest, Node, node_sizes, path_of, NodesHold, IsWay}
 use Rattle.prefix_trie_table.proofs.Lookup.Going.{IsDown}
 use Rattle.prefix_trie_table.proofs.table.removal.descend_keeping_way.Given as goal
 

@@ -1,5 +1,4 @@
-use Rattle.std.proofs.Common.{◌≡◌, ◌+◌, ◌<◌, ◌⊎◌, inl, inr, ℕ, nat_eq, false, arith, eqb-true}
-use Rattle.std.proofs.lemmas.Bool.Decides.{nat_tests}
+use Rattle.prefix_trie_table.proofs.Prelude.{◌≡◌, ◌+◌, ◌<◌, ◌⊎◌, inl, inr, ℕ, nat_eq, false, arith, eqb-true, nat_tests}
 use Rattle.prefix_trie_table.proofs.Strings.Bits.{rank-ones}
 use Rattle.prefix_trie_table.proofs.Strings.BitLists.{rank-le}
 use Rattle.prefix_trie_table.proofs.table.removal.is_bare.Goals as goal

@@ -1,8 +1,4 @@
-use Rattle.std.proofs.Common.{◌≡◌, ◌+◌, ◌-◌, ◌/◌, ◌<◌, ◌≤◌, inl, inr, length, take, true, sym, refl, subst, arith}
-use Rattle.prefix_trie_table.specs.Bitmaps.{has_bit}
-use Rattle.prefix_trie_table.specs.Cells.{node_at}
-use Rattle.prefix_trie_table.specs.Digits.{path_of}
-use Rattle.prefix_trie_table.specs.Removals.{IsWay, IsBare, GivesBack, slot_in}
+use Rattle.prefix_trie_table.proofs.Prelude.{◌≡◌, ◌+◌, ◌-◌, ◌/◌, ◌<◌, ◌≤◌, inl, inr, length, take, true, sym, refl, subst, arith, has_bit, node_at, path_of, IsWay, IsBare, GivesBack, slot_in}
 use Rattle.prefix_trie_table.proofs.Lookup.Going.{steps-all, step-read, level_inside}
 use Rattle.prefix_trie_table.proofs.Removal.Pruning.{Pruning, pruning_first, pruning_more, parent_is, parent_slot, parent_bit}
 use Rattle.prefix_trie_table.proofs.Removal.GivingBack.{gives_same, gives_then}

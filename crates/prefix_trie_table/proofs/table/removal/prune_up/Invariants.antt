@@ -1,11 +1,4 @@
-use Rattle.std.proofs.Common.{◌≡◌, ℕ, ◌/◌, ◌≤◌, List, Option, Some, take}
-use Rattle.prefix_trie_table.specs.declared.allocator.node.Node.{Node}
-use Rattle.prefix_trie_table.specs.Bitmaps.{rank}
-use Rattle.prefix_trie_table.specs.Cells.{node_sizes}
-use Rattle.prefix_trie_table.specs.Digits.{path_of}
-use Rattle.prefix_trie_table.specs.Forest.{NodesHold}
-use Rattle.prefix_trie_table.specs.Removals.{IsWay, GivesBack}
-use Rattle.prefix_trie_table.specs.Tables.{Grows}
+use Rattle.prefix_trie_table.proofs.Prelude.{◌≡◌, ℕ, ◌/◌, ◌≤◌, List, Option, Some, take, Node, rank, node_sizes, path_of, NodesHold, IsWay, GivesBack, Grows}
 use Rattle.prefix_trie_table.proofs.Removal.Pruning.{Pruning}
 use Rattle.prefix_trie_table.proofs.table.removal.prune_up.Given as goal
 

@@ -1,7 +1,4 @@
-use Rattle.std.proofs.Common.{◌/◌, ◌≤◌, inl, inr, List, length, take, is_some, refl, sym, ap, subst}
-use Rattle.prefix_trie_table.specs.declared.allocator.node.NodeSlot.{NodeSlot}
-use Rattle.prefix_trie_table.specs.Digits.{path_of}
-use Rattle.prefix_trie_table.specs.Removals.{IsWay}
+use Rattle.prefix_trie_table.proofs.Prelude.{◌/◌, ◌≤◌, inl, inr, List, length, take, is_some, refl, sym, ap, subst, NodeSlot, path_of, IsWay}
 use Rattle.prefix_trie_table.proofs.Removal.OneEntry.{nothing_taken, no_value}
 use Rattle.prefix_trie_table.proofs.Lookup.Finding.{reached_own}
 use Rattle.prefix_trie_table.proofs.Lookup.Going.{level_last, steps-all}

@@ -1,4 +1,4 @@
-use Rattle.std.proofs.Common.{sym}
+use Rattle.prefix_trie_table.proofs.Prelude.{sym}
 use Rattle.prefix_trie_table.proofs.Removal.OneEntry.{nothing_taken}
 use Rattle.prefix_trie_table.proofs.Lookup.Finding.{no_value_below}
 use Rattle.prefix_trie_table.proofs.table.removal.remove_value.Goals as goal

@@ -1,7 +1,5 @@
-use Rattle.std.proofs.Common.{◌≡◌, true, is_some, take, sym, ap, ◌∙◌, arith}
+use Rattle.prefix_trie_table.proofs.Prelude.{◌≡◌, true, is_some, take, sym, ap, ◌∙◌, arith, path_of, bit_of, one_if}
 use Rattle.prefix_trie_table.specs.Bitmaps.{has_bit as is_set}
-use Rattle.prefix_trie_table.specs.Digits.{path_of, bit_of}
-use Rattle.prefix_trie_table.specs.Forest.{one_if}
 use Rattle.prefix_trie_table.proofs.Tree.Invariant.{deepest_there}
 use Rattle.prefix_trie_table.proofs.Strings.Bits.{has_bit-is}
 use Rattle.prefix_trie_table.proofs.Removal.OneEntry.{none_there, none_taken, some_there, value_there, entry_taken}

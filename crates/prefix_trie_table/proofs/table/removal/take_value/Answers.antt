@@ -1,6 +1,4 @@
-use Rattle.std.proofs.Common.{◌≡◌, ◌<◌, ◌+◌, Some, None, get_or, map, sym, ap, ◌∙◌, refl, arith}
-use Rattle.prefix_trie_table.specs.Bitmaps.{rank, bits}
-use Rattle.prefix_trie_table.specs.Cells.{node_sizes, cell_sizes}
+use Rattle.prefix_trie_table.proofs.Prelude.{◌≡◌, ◌<◌, ◌+◌, Some, None, get_or, map, sym, ap, ◌∙◌, refl, arith, rank, bits, node_sizes, cell_sizes}
 use Rattle.prefix_trie_table.proofs.Strings.Bare.{one_fewer}
 use Rattle.prefix_trie_table.proofs.Strings.Bits.{has_bit-is, rank-ones}
 use Rattle.prefix_trie_table.proofs.Strings.BitLists.{rank-below, rank-all, map_get}

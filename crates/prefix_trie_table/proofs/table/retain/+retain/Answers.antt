@@ -1,15 +1,5 @@
-use Rattle.std.proofs.Common.{◌≡◌, ◌/◌, [], ◌∷◌, ◌++◌, length, take, refl, sym, ap, ◌∙◌, subst, arith, append-nil, append_assoc}
-use Rattle.std.proofs.lemmas.Bool.{false≢true}
-use Rattle.prefix_trie_bits.specs.Walks.{to_come}
-use Rattle.prefix_trie_bits.specs.Model.Asking.{MayAskInOrder}
-use Rattle.prefix_trie_bits.specs.Model.NodeListings.{listing_at_places}
-use Rattle.prefix_trie_bits.specs.Model.Step.{State}
-use Rattle.prefix_trie_table.specs.Retaining.{RetainsTo}
-use Rattle.prefix_trie_table.specs.Tables.{IsTrie}
+use Rattle.prefix_trie_table.proofs.Prelude.{◌≡◌, ◌/◌, [], ◌∷◌, ◌++◌, length, take, refl, sym, ap, ◌∙◌, subst, arith, append-nil, append_assoc, false≢true, to_come, MayAskInOrder, listing_at_places, State, RetainsTo, IsTrie, All-weaker, All-contains_itself, has_bit, IsPlaceOf}
 use Rattle.std.specs.List.{Contains}
-use Rattle.std.proofs.lemmas.List.Elements.{All-weaker, All-contains_itself}
-use Rattle.prefix_trie_table.specs.Bitmaps.{has_bit}
-use Rattle.prefix_trie_table.specs.Walking.Walks.{IsPlaceOf}
 use Rattle.prefix_trie_table.proofs.Retain.Asked.{none_asked}
 use Rattle.prefix_trie_table.proofs.Retain.Lowered.{child_there, lower_inside, lower_few, lower_fits, lower_site, may_ask_lower, still_site, still_lasts, child_stays, child_goes, site3, lasts3}
 use Rattle.prefix_trie_table.proofs.Lookup.Matching.{clear-small}

@@ -1,7 +1,4 @@
-use Rattle.std.proofs.Common.{◌≡◌, ◌+◌, ◌-◌, ◌*◌, ◌/◌, ◌++◌, List, Bool, true, All, take, length}
-use Rattle.prefix_trie_bits.specs.Walks.{to_come}
-use Rattle.prefix_trie_table.specs.Walking.Walks.{IsPlaceOf}
-use Rattle.prefix_trie_table.specs.Retaining.{is_at_some, IsSite, Lasts, RetainsIn}
+use Rattle.prefix_trie_table.proofs.Prelude.{◌≡◌, ◌+◌, ◌-◌, ◌*◌, ◌/◌, ◌++◌, List, Bool, true, All, take, length, to_come, IsPlaceOf, is_at_some, IsSite, Lasts, RetainsIn}
 use Rattle.prefix_trie_table.proofs.table.retain.+retain.Given as goal
 
 abbrev pub decreases-retain_place : goal.decreases-retain_place

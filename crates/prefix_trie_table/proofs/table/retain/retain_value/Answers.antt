@@ -1,8 +1,4 @@
-use Rattle.std.proofs.Common.{◌≡◌, ◌-◌, ◌+◌, [], ◌∷◌, take, true, false, Some, unwrap_or, is_some, refl, sym, ap, ◌∙◌, subst, arith}
-use Rattle.std.specs.Option.{option_copied}
-use Rattle.std.proofs.lemmas.Bool.{false≢true}
-use Rattle.prefix_trie_bits.specs.Bits.{digits}
-use Rattle.prefix_trie_table.specs.Retaining.{RetainsTo}
+use Rattle.prefix_trie_table.proofs.Prelude.{◌≡◌, ◌-◌, ◌+◌, [], ◌∷◌, take, true, false, Some, unwrap_or, is_some, refl, sym, ap, ◌∙◌, subst, arith, option_copied, false≢true, digits, RetainsTo}
 use Rattle.prefix_trie_table.proofs.Strings.Bits.{has_bit-is}
 use Rattle.prefix_trie_table.proofs.Retain.Retained.{site_holds, site_values}
 use Rattle.prefix_trie_table.proofs.Insertion.Rooms.{Grows-none}

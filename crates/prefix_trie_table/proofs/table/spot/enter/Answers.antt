@@ -1,9 +1,5 @@
-use Rattle.std.proofs.Common.{ap, ◌∙◌, arith}
+use Rattle.prefix_trie_table.proofs.Prelude.{ap, ◌∙◌, arith, All-weaker, All-contains_itself, to_come, has_bit, IsPlaceOf}
 use Rattle.std.specs.List.{Contains}
-use Rattle.std.proofs.lemmas.List.Elements.{All-weaker, All-contains_itself}
-use Rattle.prefix_trie_bits.specs.Walks.{to_come}
-use Rattle.prefix_trie_table.specs.Bitmaps.{has_bit}
-use Rattle.prefix_trie_table.specs.Walking.Walks.{IsPlaceOf}
 use Rattle.prefix_trie_table.proofs.Lookup.Matching.{clear-small}
 use Rattle.prefix_trie_table.proofs.table.spot.enter.Goals as goal
 

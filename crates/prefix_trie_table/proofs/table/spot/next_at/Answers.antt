@@ -1,8 +1,5 @@
-use Rattle.std.proofs.Common.{◌≡◌, ◌+◌, ◌-◌, length, refl, sym, ap, ◌∙◌, arith}
-use Rattle.prefix_trie_bits.specs.Bits.{digits, zeros}
-use Rattle.prefix_trie_bits.specs.BitStrings.{length-digits}
+use Rattle.prefix_trie_table.proofs.Prelude.{◌≡◌, ◌+◌, ◌-◌, length, refl, sym, ap, ◌∙◌, arith, digits, zeros, length-digits, value_seat}
 use Rattle.prefix_trie_table.proofs.Walk.Spots.{same_way, child_passed, place-value, place-child, place-small, place-child-small, goes_on, lighter, value_room, gives_value, value_seated, child_room, child_here, child_spot, child_still, child_lighter}
-use Rattle.prefix_trie_table.specs.Locations.{value_seat}
 use Rattle.prefix_trie_table.proofs.table.spot.next_at.Goals as goal
 
 pub string_of-n-requires : goal.string_of-n-requires

@@ -1,7 +1,4 @@
-use Rattle.std.proofs.Common.{◌≡◌, ◌-◌, ◌<◌, ◌∙◌, List, [], ◌∷◌, ◌++◌, length, sum_by, take, sym, ap, ap₂, subst, arith, length-append}
-use Rattle.std.proofs.Math.Seq.{take-append_seam}
-use Rattle.prefix_trie_table.specs.declared.table.spot.Spot.{Spot}
-use Rattle.prefix_trie_table.specs.Walking.Walks.{ArePassed, IsStack, pending, weight}
+use Rattle.prefix_trie_table.proofs.Prelude.{◌≡◌, ◌-◌, ◌<◌, ◌∙◌, List, [], ◌∷◌, ◌++◌, length, sum_by, take, sym, ap, ap₂, subst, arith, length-append, take-append_seam, Spot, ArePassed, IsStack, pending, weight}
 use Rattle.prefix_trie_table.proofs.Walk.Stacks.{passed-below, passed-above, passed-popped, passed-child, trail-at, stack-popped, stack-put, stack-child_way, pending-entry, pending-child_way, pending-done, weight-deeper, weight-popped}
 use Rattle.prefix_trie_table.proofs.table.walk.advance.Goals as goal
 

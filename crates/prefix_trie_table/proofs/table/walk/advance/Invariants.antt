@@ -1,6 +1,4 @@
-use Rattle.std.proofs.Common.{◌≡◌, sum_by}
-use Rattle.prefix_trie_table.specs.Walking.Walks.{Tree, ArePassed, IsStack, pending, weight}
-use Rattle.prefix_trie_table.specs.Tables.{IsTrie}
+use Rattle.prefix_trie_table.proofs.Prelude.{◌≡◌, sum_by, Tree, ArePassed, IsStack, pending, weight, IsTrie}
 use Rattle.prefix_trie_table.proofs.table.walk.advance.Given as goal
 
 abbrev pub invariant-loop-spot : goal.invariant-loop-spot

@@ -1,6 +1,4 @@
-use Rattle.std.proofs.Common.{◌+◌, ◌<◌, ◌≤◌, ◌∙◌, [], ◌∷◌, sym, ap, subst, length, length-append, arith}
-use Rattle.std.proofs.lemmas.Bool.{false≢true}
-use Rattle.prefix_trie_table.specs.declared.table.spot.Spot.{Spot}
+use Rattle.prefix_trie_table.proofs.Prelude.{◌+◌, ◌<◌, ◌≤◌, ◌∙◌, [], ◌∷◌, sym, ap, subst, length, length-append, arith, false≢true, Spot}
 use Rattle.prefix_trie_table.proofs.Strings.Paths.{snoc_inj}
 use Rattle.prefix_trie_table.proofs.table.walk.skip_at_last.Goals as goal
 

@@ -1,5 +1,4 @@
-use Rattle.std.proofs.Common.{◌∙◌, [], ◌∷◌, ◌++◌, ap}
-use Rattle.prefix_trie_table.specs.Cells.{node_at}
+use Rattle.prefix_trie_table.proofs.Prelude.{◌∙◌, [], ◌∷◌, ◌++◌, ap, node_at}
 use Rattle.prefix_trie_table.proofs.Tree.Trees.{read-nil}
 use Rattle.prefix_trie_table.proofs.Tree.Subtrees.{root_inside, few_at}
 use Rattle.prefix_trie_table.proofs.Walk.Walking.{root_walk, root_rest}

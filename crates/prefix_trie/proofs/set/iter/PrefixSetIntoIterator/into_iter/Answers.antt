@@ -1,9 +1,4 @@
-use Rattle.std.proofs.Common.{◌≡◌, ◌<◌, ◌^◌, map, length, subst}
-use Rattle.std.specs.FinMap.{len}
-use Rattle.std.specs.Map.Iter.{GivesInOrder}
-use Rattle.prefix_trie_bits.specs.Model.Selections.{listing}
-use Rattle.prefix_trie_table.specs.Shape.{Contents}
-use Rattle.prefix_trie_map.specs.Whole.{IsWhole}
+use Rattle.prefix_trie.proofs.Prelude.{◌≡◌, ◌<◌, ◌^◌, map, length, subst, len, GivesInOrder, listing, Contents, IsWhole}
 use Rattle.prefix_trie.proofs.set.iter.PrefixSetIntoIterator.into_iter.Goals as goal
 
 pub returns : goal.returns

@@ -1,6 +1,4 @@
-use Rattle.std.proofs.Common.{◌≡◌, ◌∙◌, sym}
-use Rattle.std.specs.Cmp.Lexicographic.{pointwise}
-use Rattle.prefix_trie.specs.Sets.{same_keys, same_parts}
+use Rattle.prefix_trie.proofs.Prelude.{◌≡◌, ◌∙◌, sym, pointwise, same_keys, same_parts}
 use Rattle.prefix_trie.proofs.SameKeys.{walks_alike, same_entries}
 use Rattle.prefix_trie.proofs.set.shown.PrefixSetPartialEq.eq.Given as given
 use Rattle.prefix_trie.proofs.set.shown.PrefixSetPartialEq.eq.Goals as goal

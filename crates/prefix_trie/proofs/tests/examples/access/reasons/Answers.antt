@@ -1,6 +1,5 @@
-use Rattle.std.proofs.Common.{rules, ◌≡◌, List, Bool, map, subst}
+use Rattle.prefix_trie.proofs.Prelude.{rules, ◌≡◌, List, Bool, map, subst, covers, ipv4_back}
 use Rattle.std.specs.Result.{IfOk}
-use Rattle.prefix_trie.specs.Words.{covers, ipv4_back}
 use Rattle.prefix_trie.proofs.tests.examples.access.reasons.Goals as goal
 
 pub returns : goal.returns

@@ -1,4 +1,4 @@
-use Rattle.std.proofs.Common.{◌≡◌, ◌^◌, ◌<◌, ◌≤◌, All, map, take}
+use Rattle.prefix_trie.proofs.Prelude.{◌≡◌, ◌^◌, ◌<◌, ◌≤◌, All, map, take}
 use Rattle.prefix_trie.proofs.tests.examples.batch.as_prefixes.Given as goal
 
 abbrev pub invariant-loop-i : goal.invariant-loop-i

@@ -1,4 +1,4 @@
-use Rattle.std.proofs.Common.{◌≡◌, map, option_copied, take}
+use Rattle.prefix_trie.proofs.Prelude.{◌≡◌, map, option_copied, take}
 use Rattle.prefix_trie.proofs.tests.examples.batch.copy_values.Given as goal
 
 abbrev pub invariant-loop-i : goal.invariant-loop-i

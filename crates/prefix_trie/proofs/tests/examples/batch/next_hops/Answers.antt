@@ -1,5 +1,4 @@
-use Rattle.std.proofs.Common.{◌∙◌, ap, map, option_copied, length}
-use Rattle.std.proofs.lemmas.List.{take_at, length-take-le}
+use Rattle.prefix_trie.proofs.Prelude.{◌∙◌, ap, map, option_copied, length, take_at, length-take-le}
 use Rattle.prefix_trie.proofs.Batches.{hops_of}
 use Rattle.prefix_trie.proofs.tests.examples.batch.next_hops.Goals as goal
 

@@ -1,4 +1,4 @@
-use Rattle.std.proofs.Common.{rules, ◌+◌, ◌%◌, ◌^◌}
+use Rattle.prefix_trie.proofs.Prelude.{rules, ◌+◌, ◌%◌, ◌^◌}
 use Rattle.prefix_trie.proofs.tests.examples.counter.add_all.Goals as goal
 
 pub loop-prefix-init : goal.loop-prefix-init

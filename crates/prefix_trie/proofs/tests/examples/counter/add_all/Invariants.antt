@@ -1,5 +1,5 @@
-use Rattle.std.proofs.Common.{◌+◌, ◌%◌, ◌^◌}
-use Rattle.prefix_trie.specs.Words.{join_all, listing, shown, Joins}
+use Rattle.prefix_trie.proofs.Prelude.{◌+◌, ◌%◌, ◌^◌, Joins}
+use Rattle.prefix_trie.specs.Words.{join_all, listing, shown}
 use Rattle.prefix_trie.proofs.tests.examples.counter.add_all.Given as goal
 
 abbrev pub invariant-loop-prefix : goal.invariant-loop-prefix

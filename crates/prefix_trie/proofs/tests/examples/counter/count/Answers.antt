@@ -1,4 +1,4 @@
-use Rattle.std.proofs.Common.{rules, ◌+◌, ◌%◌, ◌^◌}
+use Rattle.prefix_trie.proofs.Prelude.{rules, ◌+◌, ◌%◌, ◌^◌}
 use Rattle.prefix_trie.proofs.Callers.{modified_or_put}
 use Rattle.prefix_trie.proofs.tests.examples.counter.count.Goals as goal
 

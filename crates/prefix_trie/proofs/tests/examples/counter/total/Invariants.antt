@@ -1,5 +1,4 @@
-use Rattle.std.proofs.Common.{◌≡◌, ◌+◌, ◌%◌, ◌^◌, map}
-use Rattle.std.specs.List.{sum}
+use Rattle.prefix_trie.proofs.Prelude.{◌≡◌, ◌+◌, ◌%◌, ◌^◌, map, sum}
 use Rattle.prefix_trie.specs.Words.{listing}
 use Rattle.prefix_trie.proofs.tests.examples.counter.total.Given as goal
 

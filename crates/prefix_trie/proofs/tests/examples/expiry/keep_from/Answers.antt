@@ -1,4 +1,4 @@
-use Rattle.std.proofs.Common.{rules, nat_le, of_calls}
+use Rattle.prefix_trie.proofs.Prelude.{rules, nat_le, of_calls}
 use Rattle.prefix_trie.proofs.Callers.{may_ask_always, keeps_filter}
 use Rattle.prefix_trie.proofs.tests.examples.expiry.keep_from.Goals as goal
 

@@ -1,6 +1,6 @@
-use Rattle.std.proofs.Common.{rules, ◌≡◌, ℕ, List, Bool, Option, sym, subst}
-use Rattle.std.specs.Option.{MatchOption, option_map}
-use Rattle.prefix_trie.specs.Words.{ipv4_address, longest_match, IsLongestMatch, IsUncovered}
+use Rattle.prefix_trie.proofs.Prelude.{rules, ◌≡◌, ℕ, List, Bool, Option, sym, subst, option_map, ipv4_address, longest_match}
+use Rattle.std.specs.Option.{MatchOption}
+use Rattle.prefix_trie.specs.Words.{IsLongestMatch, IsUncovered}
 use Rattle.prefix_trie.proofs.tests.examples.forwarding.next_hop.Goals as goal
 
 pub returns : goal.returns

@@ -1,4 +1,4 @@
-use Rattle.std.proofs.Common.{sym, ◌∙◌}
+use Rattle.prefix_trie.proofs.Prelude.{sym, ◌∙◌}
 use Rattle.prefix_trie.proofs.tests.examples.inventory.addresses.Goals as goal
 
 pub returns : goal.returns

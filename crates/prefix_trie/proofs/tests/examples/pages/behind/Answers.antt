@@ -1,4 +1,4 @@
-use Rattle.std.proofs.Common.{rules, ◌++◌, sym, ap, ◌∙◌}
+use Rattle.prefix_trie.proofs.Prelude.{rules, ◌++◌, sym, ap, ◌∙◌}
 use Rattle.prefix_trie.proofs.tests.examples.pages.behind.Goals as goal
 
 pub iter_from-requires : goal.iter_from-requires

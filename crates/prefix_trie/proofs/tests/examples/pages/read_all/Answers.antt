@@ -1,4 +1,4 @@
-use Rattle.std.proofs.Common.{rules, ◌++◌, sym, ap}
+use Rattle.prefix_trie.proofs.Prelude.{rules, ◌++◌, sym, ap}
 use Rattle.prefix_trie.specs.Words.{listing, shown}
 use Rattle.prefix_trie.proofs.Callers.{all_read, page_begins, page_goes_on}
 use Rattle.prefix_trie.proofs.tests.examples.pages.read_all.Goals as goal

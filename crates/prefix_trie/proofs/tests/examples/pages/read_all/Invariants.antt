@@ -1,5 +1,4 @@
-use Rattle.std.proofs.Common.{◌≡◌, ℕ, ◌++◌, ◌-◌, List, length}
-use Rattle.std.specs.FinMap.{len}
+use Rattle.prefix_trie.proofs.Prelude.{◌≡◌, ℕ, ◌++◌, ◌-◌, List, length, len}
 use Rattle.prefix_trie.specs.Words.{listing, shown}
 use Rattle.prefix_trie.proofs.tests.examples.pages.read_all.Given as goal
 

@@ -1,4 +1,4 @@
-use Rattle.std.proofs.Common.{rules, ◌+◌, ◌++◌, length, ap, ◌∙◌, arith}
+use Rattle.prefix_trie.proofs.Prelude.{rules, ◌+◌, ◌++◌, length, ap, ◌∙◌, arith}
 use Rattle.prefix_trie.proofs.Callers.{read_more, read_so_far, read_to_end}
 use Rattle.prefix_trie.proofs.tests.examples.pages.read_page.Goals as goal
 

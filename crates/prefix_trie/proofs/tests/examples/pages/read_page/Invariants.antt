@@ -1,4 +1,4 @@
-use Rattle.std.proofs.Common.{◌≡◌, ◌+◌, ◌++◌, length}
+use Rattle.prefix_trie.proofs.Prelude.{◌≡◌, ◌+◌, ◌++◌, length}
 use Rattle.prefix_trie.specs.Words.{listing, shown}
 use Rattle.prefix_trie.proofs.tests.examples.pages.read_page.Given as goal
 

@@ -1,4 +1,4 @@
-use Rattle.std.proofs.Common.{All}
+use Rattle.prefix_trie.proofs.Prelude.{All}
 use Rattle.prefix_trie.specs.Words.{IsTidy}
 use Rattle.prefix_trie.proofs.tests.examples.pruning.prune.Given as goal
 

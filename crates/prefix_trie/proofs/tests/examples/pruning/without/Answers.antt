@@ -1,4 +1,4 @@
-use Rattle.std.proofs.Common.{rules}
+use Rattle.prefix_trie.proofs.Prelude.{rules}
 use Rattle.prefix_trie.proofs.Callers.{fit_in_turn, tidy_with}
 use Rattle.prefix_trie.proofs.tests.examples.pruning.without.Goals as goal
 

@@ -1,6 +1,5 @@
-use Rattle.std.proofs.Common.{rules, ◌<◌, ◌≤◌, ◌^◌, ℕ, List, Bool, length, take, sym, ◌∙◌, subst, eq-eqb}
-use Rattle.std.specs.Option.{IfSome}
-use Rattle.prefix_trie.specs.Words.{digits, longest_match, narrow_width}
+use Rattle.prefix_trie.proofs.Prelude.{rules, ◌<◌, ◌≤◌, ◌^◌, ℕ, List, Bool, length, take, sym, ◌∙◌, subst, eq-eqb, IfSome, longest_match}
+use Rattle.prefix_trie.specs.Words.{digits, narrow_width}
 use Rattle.prefix_trie.proofs.tests.examples.ranges.assign.Goals as goal
 
 pub returns-clause-owned : goal.returns-clause-owned

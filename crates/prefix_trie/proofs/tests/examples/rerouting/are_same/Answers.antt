@@ -1,4 +1,4 @@
-use Rattle.std.proofs.Common.{sym, ◌∙◌}
+use Rattle.prefix_trie.proofs.Prelude.{sym, ◌∙◌}
 use Rattle.prefix_trie.proofs.Callers.{networks_same, numbers_same}
 use Rattle.prefix_trie.proofs.tests.examples.rerouting.are_same.Goals as goal
 

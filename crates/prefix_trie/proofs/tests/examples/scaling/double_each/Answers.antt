@@ -1,4 +1,4 @@
-use Rattle.std.proofs.Common.{rules, ◌*◌, ◌%◌, ◌^◌}
+use Rattle.prefix_trie.proofs.Prelude.{rules, ◌*◌, ◌%◌, ◌^◌}
 use Rattle.prefix_trie.proofs.Callers.{starts_ordered, rewritten}
 use Rattle.prefix_trie.proofs.tests.examples.scaling.double_each.Goals as goal
 

@@ -1,4 +1,4 @@
-use Rattle.std.proofs.Common.{◌*◌, ◌%◌, ◌^◌}
+use Rattle.prefix_trie.proofs.Prelude.{◌*◌, ◌%◌, ◌^◌}
 use Rattle.prefix_trie.proofs.Callers.{goes_on_rewriting, ends_rewriting}
 use Rattle.prefix_trie.proofs.tests.examples.scaling.double_entries.Goals as goal
 

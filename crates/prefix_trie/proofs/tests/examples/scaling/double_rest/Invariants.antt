@@ -1,4 +1,4 @@
-use Rattle.std.proofs.Common.{◌*◌, ◌%◌, ◌^◌}
+use Rattle.prefix_trie.proofs.Prelude.{◌*◌, ◌%◌, ◌^◌}
 use Rattle.prefix_trie.proofs.Callers.{HasRewrittenIn, left_in}
 use Rattle.prefix_trie.proofs.tests.examples.scaling.double_rest.Given as goal
 

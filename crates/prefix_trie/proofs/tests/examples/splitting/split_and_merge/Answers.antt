@@ -1,4 +1,4 @@
-use Rattle.std.proofs.Common.{◌∙◌}
+use Rattle.prefix_trie.proofs.Prelude.{◌∙◌}
 use Rattle.prefix_trie.proofs.tests.examples.splitting.split_and_merge.Goals as goal
 
 pub loop-key-init : goal.loop-key-init

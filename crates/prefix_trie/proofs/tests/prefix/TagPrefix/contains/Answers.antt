@@ -1,7 +1,4 @@
-use Rattle.std.proofs.Common.{◌≡◌, ◌-◌, ◌++◌, ◌≤◌, eqb, refl, length, take, ap, ap₂, sym, ◌∙◌, arith, eqb-true, eq-eqb}
-use Rattle.prefix_trie_bits.specs.Bits.{digits, zeros, begins, number}
-use Rattle.prefix_trie_bits.specs.BitStrings.{number-bits, bits-length}
-use Rattle.prefix_trie_bits.specs.Begins.{same_bool, begins-longer, begins-from-masked, masked-from-begins, length-first, leb-past}
+use Rattle.prefix_trie.proofs.Prelude.{◌≡◌, ◌-◌, ◌++◌, ◌≤◌, eqb, refl, length, take, ap, ap₂, sym, ◌∙◌, arith, eqb-true, eq-eqb, digits, zeros, begins, number, number-bits, bits-length, same_bool, begins-longer, begins-from-masked, masked-from-begins, length-first, leb-past}
 use Rattle.prefix_trie.proofs.tests.prefix.TagPrefix.contains.Goals as goal
 
 pub returns-then-self-other : goal.returns-then-self-other

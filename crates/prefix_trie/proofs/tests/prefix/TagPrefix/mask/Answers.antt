@@ -1,7 +1,4 @@
-use Rattle.std.proofs.Common.{ℕ, ◌≡◌, ◌-◌, ◌*◌, ◌%◌, ◌^◌, ◌<◌, ◌≤◌, ◌++◌, take, bit_and, sub-le, ap, ◌∙◌}
-use Rattle.std.proofs.lemmas.Nat.Bits.{ones_shl, and_high_mask}
-use Rattle.prefix_trie_bits.specs.Bits.{digits, zeros}
-use Rattle.prefix_trie_bits.specs.BitStrings.{digits-keep, kept_of_none}
+use Rattle.prefix_trie.proofs.Prelude.{ℕ, ◌≡◌, ◌-◌, ◌*◌, ◌%◌, ◌^◌, ◌<◌, ◌≤◌, ◌++◌, take, bit_and, sub-le, ap, ◌∙◌, ones_shl, and_high_mask, digits, zeros, digits-keep, kept_of_none}
 use Rattle.prefix_trie.proofs.tests.prefix.TagPrefix.mask.Goals as goal
 
 -- what `value & (ones << (w - k))` computes

@@ -7,7 +7,7 @@ use Rattle.prefix_trie.proofs.Allocators.{walk_Meets, ‵, raw, ◌⊛◌, some,
 use Rattle.prefix_trie.proofs.Allocators.{feq_l, check, show, updating, at_once, alloc_all, pass_all, free_all, look_at, get, through, sets, lands_as, env, block_ptr, usize, RefOf, bool, calls_at, Al, α, seen}
 use Rattle.prefix_trie.proofs.Allocators.{Answer, answer_val, Answer-typed, Answer-Ok, Answer-err, takes_key, Takes, at_takes, Answered, Takes-goes, Takes-gives, answers}
 use types.Part.{agg}
-use Rattle.std.proofs.VecSteps.Shapes.{after}
+use Rattle.prefix_trie.proofs.Prelude.{after}
 use denote.Memory.{hidden_shr}
 use Rattle.prefix_trie.proofs.tests.refusing.refuses.Symbol as c_sym
 use Rattle.prefix_trie.proofs.tests.refusing.refuses.Met as c_met

@@ -1,4 +1,4 @@
-use Rattle.std.proofs.lemmas.Result.{IfOk-weaker}
+use Rattle.prefix_trie.proofs.Prelude.{IfOk-weaker}
 use Rattle.prefix_trie.proofs.Ran.{matched}
 use Rattle.prefix_trie.proofs.tests.runs.callers.longest_of.Goals as goal
 

@@ -1,6 +1,4 @@
-use Rattle.std.proofs.Common.{ℕ, ap, sym, ◌∙◌}
-use Rattle.prefix_trie_bits.specs.Model.Nodes.{needed}
-use Rattle.prefix_trie_bits.proofs.Model.NodeSets.{tidy-no_entries}
+use Rattle.prefix_trie.proofs.Prelude.{ℕ, ap, sym, ◌∙◌, needed, tidy-no_entries}
 use Rattle.prefix_trie.proofs.Ran.{nodes_of_tidy}
 use Rattle.prefix_trie.proofs.tests.runs.callers.nodes_of_new.Goals as goal
 

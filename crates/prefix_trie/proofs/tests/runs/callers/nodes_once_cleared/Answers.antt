@@ -1,4 +1,4 @@
-use Rattle.std.proofs.lemmas.Result.{IfOk-weaker}
+use Rattle.prefix_trie.proofs.Prelude.{IfOk-weaker}
 use Rattle.prefix_trie.proofs.Ran.{nodes_cleared}
 use Rattle.prefix_trie.proofs.tests.runs.callers.nodes_once_cleared.Goals as goal
 

@@ -1,6 +1,4 @@
-use Rattle.std.proofs.Common.{All, sym, subst}
-use Rattle.std.proofs.lemmas.List.Elements.{All-push}
-use Rattle.prefix_trie.specs.Replay.{IsFittingCall}
+use Rattle.prefix_trie.proofs.Prelude.{All, sym, subst, All-push, IsFittingCall}
 use Rattle.prefix_trie.proofs.tests.runs.mixed.calls_of.Goals as goal
 
 pub loop-draw-preserved : goal.loop-draw-preserved

@@ -1,5 +1,4 @@
-use Rattle.std.proofs.Common.{All}
-use Rattle.prefix_trie.specs.Replay.{IsFittingCall}
+use Rattle.prefix_trie.proofs.Prelude.{All, IsFittingCall}
 use Rattle.prefix_trie.proofs.tests.runs.mixed.calls_of.Given as goal
 
 abbrev pub invariant-loop-draw : goal.invariant-loop-draw

@@ -1,7 +1,5 @@
-use Rattle.std.proofs.Common.{◌≡◌, nat_le}
-use Rattle.std.specs.List.{list_all}
+use Rattle.prefix_trie.proofs.Prelude.{◌≡◌, nat_le, list_all, shown}
 use Rattle.prefix_trie_bits.specs.Model.Matches.{covers}
-use Rattle.prefix_trie_bits.specs.Model.Selections.{shown}
 use Rattle.prefix_trie.proofs.tests.walks.cover.none_below.Given as goal
 
 abbrev pub invariant-loop-value : goal.invariant-loop-value

@@ -1,5 +1,4 @@
-use Rattle.std.proofs.Common.{rules, of_calls}
-use Rattle.prefix_trie_bits.proofs.Model.Askings.{may_ask_always}
+use Rattle.prefix_trie.proofs.Prelude.{rules, of_calls, may_ask_always}
 use Rattle.prefix_trie.proofs.tests.walks.early.keep_each_second_key.Goals as goal
 
 pub retain-requires : goal.retain-requires

@@ -1,6 +1,4 @@
-use Rattle.std.proofs.Common.{◌≡◌, nat_le}
-use Rattle.std.specs.List.{list_all}
-use Rattle.prefix_trie_bits.specs.Model.Selections.{listing, shown}
+use Rattle.prefix_trie.proofs.Prelude.{◌≡◌, nat_le, list_all, listing, shown}
 use Rattle.prefix_trie.proofs.tests.walks.iter.none_below.Given as goal
 
 abbrev pub invariant-loop-value : goal.invariant-loop-value

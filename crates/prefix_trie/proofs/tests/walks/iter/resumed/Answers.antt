@@ -1,8 +1,4 @@
-use Rattle.std.proofs.Common.{◌≡◌, ◌++◌, ◌∷◌, sym, ap, ◌∙◌}
-use Rattle.std.proofs.lemmas.List.Elements.{All-head, All-same}
-use Rattle.prefix_trie_bits.specs.Model.Selections.{listing, shown}
-use Rattle.prefix_trie_table.proofs.Blocks.Tilings.{All-append_right}
-use Rattle.prefix_trie_map.proofs.Listed.{listed_fit}
+use Rattle.prefix_trie.proofs.Prelude.{◌≡◌, ◌++◌, ◌∷◌, sym, ap, ◌∙◌, All-head, All-same, listing, shown, All-append_right, listed_fit}
 use Rattle.prefix_trie.proofs.tests.walks.iter.resumed.Goals as goal
 
 pub iter_from-requires : goal.iter_from-requires

@@ -1,7 +1,4 @@
-use Rattle.std.proofs.Common.{cond, Some, refl, ap, ◌∙◌}
-use Rattle.std.specs.FinMap.{get, get-insert}
-use Rattle.prefix_trie_bits.specs.Order.{listing_total}
-use Rattle.prefix_trie_bits.proofs.Model.Members.{is-same_string}
+use Rattle.prefix_trie.proofs.Prelude.{cond, Some, refl, ap, ◌∙◌, get, get-insert, listing_total, is-same_string}
 use Rattle.prefix_trie.proofs.tests.walks.lending.write.Goals as goal
 
 pub returns-in-Some-clause-there : goal.returns-in-Some-clause-there

@@ -1,6 +1,4 @@
-use Rattle.prefix_trie_bits.specs.Model.Entries.{put_all}
-use Rattle.prefix_trie_bits.specs.Model.Selections.{listing, shown}
-use Rattle.prefix_trie.specs.Laws.Putting.{Leads}
+use Rattle.prefix_trie.proofs.Prelude.{put_all, listing, shown, Leads}
 use Rattle.prefix_trie.proofs.tests.walks.taking.pour.Given as goal
 
 abbrev pub invariant-loop-prefix : goal.invariant-loop-prefix

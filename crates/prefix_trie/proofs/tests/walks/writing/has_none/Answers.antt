@@ -1,4 +1,4 @@
-use Rattle.std.proofs.Common.{rules}
+use Rattle.prefix_trie.proofs.Prelude.{rules}
 use Rattle.prefix_trie.proofs.Swapping.{over_at_start}
 use Rattle.prefix_trie.proofs.tests.walks.writing.has_none.Goals as goal
 

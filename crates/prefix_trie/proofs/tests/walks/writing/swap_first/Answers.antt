@@ -1,4 +1,4 @@
-use Rattle.std.proofs.Common.{rules}
+use Rattle.prefix_trie.proofs.Prelude.{rules}
 use Rattle.prefix_trie.proofs.Swapping.{swaps_first}
 use Rattle.prefix_trie.proofs.tests.walks.writing.swap_first.Goals as goal
 

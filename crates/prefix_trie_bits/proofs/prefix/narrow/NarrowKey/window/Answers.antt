@@ -1,4 +1,4 @@
-use Rattle.std.proofs.Common.{rules}
+use Rattle.prefix_trie_bits.proofs.Prelude.{rules}
 use Rattle.prefix_trie_bits.proofs.prefix.narrow.NarrowKey.window.Goals as goal
 
 pub returns : goal.returns

@@ -1,7 +1,4 @@
-use Rattle.std.proofs.Common.{le_of_eq}
-use Rattle.std.proofs.lemmas.List.{take_all}
-use Rattle.prefix_trie_bits.specs.Bits.{digits}
-use Rattle.prefix_trie_bits.specs.BitStrings.{length-digits}
+use Rattle.prefix_trie_bits.proofs.Prelude.{le_of_eq, take_all, digits, length-digits}
 use Rattle.prefix_trie_bits.proofs.prefix.networks.Ipv6Prefix.host.Goals as goal
 
 pub returns-clause-path : goal.returns-clause-path

@@ -1,4 +1,4 @@
-use Rattle.std.proofs.Common.{rules}
+use Rattle.prefix_trie_map.proofs.Prelude.{rules}
 use Rattle.prefix_trie_map.proofs.map.entry.Entry.get.Goals as goal
 
 pub returns-in-Occupied : goal.returns-in-Occupied

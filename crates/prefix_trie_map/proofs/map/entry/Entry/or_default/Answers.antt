@@ -1,5 +1,4 @@
-use Rattle.std.proofs.Common.{refl, sym, subst}
-use Rattle.std.specs.Option.{UnwrapsOrElse}
+use Rattle.prefix_trie_map.proofs.Prelude.{refl, sym, subst, UnwrapsOrElse}
 use Rattle.prefix_trie_map.proofs.Entries.{Fills-stored}
 use Rattle.prefix_trie_map.proofs.map.entry.Entry.or_default.Goals as goal
 

@@ -1,5 +1,4 @@
-use Rattle.std.proofs.Common.{refl, sym, ap}
-use Rattle.std.specs.Option.{unwrap_or}
+use Rattle.prefix_trie_map.proofs.Prelude.{refl, sym, ap, unwrap_or}
 use Rattle.prefix_trie_map.proofs.Entries.{Fills-stored}
 use Rattle.prefix_trie_map.proofs.map.entry.Entry.or_insert.Goals as goal
 

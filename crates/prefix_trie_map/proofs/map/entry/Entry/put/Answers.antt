@@ -1,5 +1,4 @@
-use Rattle.std.proofs.Common.{◌≡◌, IfOk, sym, subst, refl}
-use Rattle.prefix_trie_map.specs.Entry.{Occupied, Fills, entry_value}
+use Rattle.prefix_trie_map.proofs.Prelude.{◌≡◌, IfOk, sym, subst, refl, Occupied, Fills, entry_value}
 use Rattle.prefix_trie_map.proofs.Entries.{Fills-stored}
 use Rattle.prefix_trie_map.proofs.map.entry.Entry.put.Goals as goal
 

@@ -1,5 +1,4 @@
-use Rattle.std.proofs.Common.{ap, sym, ◌∙◌, subst}
-use Rattle.prefix_trie_bits.specs.Keys.{fits_back, path_back}
+use Rattle.prefix_trie_map.proofs.Prelude.{ap, sym, ◌∙◌, subst, fits_back, path_back}
 use Rattle.prefix_trie_map.proofs.map.entry.Fitting.without_host_bits.Goals as goal
 
 pub new-requires : goal.new-requires

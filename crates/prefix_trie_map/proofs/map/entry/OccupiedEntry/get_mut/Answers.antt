@@ -1,5 +1,4 @@
-use Rattle.std.proofs.Common.{refl, sym, ap, ◌∙◌}
-use Rattle.std.specs.FinMap.{get}
+use Rattle.prefix_trie_map.proofs.Prelude.{refl, sym, ap, ◌∙◌, get}
 use Rattle.prefix_trie_map.proofs.Occupied.{stays_at, occupied_written}
 use Rattle.prefix_trie_map.proofs.map.entry.OccupiedEntry.get_mut.Goals as goal
 

@@ -1,7 +1,4 @@
-use Rattle.std.proofs.Common.{refl, sym, ap, ◌∙◌}
-use Rattle.std.specs.FinMap.{get}
-use Rattle.prefix_trie_table.specs.Locations.{seat_of}
-use Rattle.prefix_trie_table.specs.Shape.{with_value_at}
+use Rattle.prefix_trie_map.proofs.Prelude.{refl, sym, ap, ◌∙◌, get, seat_of, with_value_at}
 use Rattle.prefix_trie_map.proofs.map.entry.OccupiedEntry.into_mut.Goals as goal
 
 pub lend_at-requires-clause-seat : goal.lend_at-requires-clause-seat

@@ -1,4 +1,4 @@
-use Rattle.std.proofs.Common.{rules, refl}
+use Rattle.prefix_trie_map.proofs.Prelude.{rules, refl}
 use Rattle.prefix_trie_map.proofs.map.entry.VacantEntry.default.Goals as goal
 
 pub returns : goal.returns

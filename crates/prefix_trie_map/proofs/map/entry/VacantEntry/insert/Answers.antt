@@ -1,6 +1,4 @@
-use Rattle.std.proofs.Common.{refl, sym, ap, ◌∙◌}
-use Rattle.std.specs.FinMap.{get}
-use Rattle.prefix_trie_table.specs.Locations.{seat_of}
+use Rattle.prefix_trie_map.proofs.Prelude.{refl, sym, ap, ◌∙◌, get, seat_of}
 use Rattle.prefix_trie_map.proofs.Entries.{Fills-lent}
 use Rattle.prefix_trie_map.proofs.Placing.{entry_only}
 use Rattle.prefix_trie_map.proofs.map.entry.VacantEntry.insert.Goals as goal

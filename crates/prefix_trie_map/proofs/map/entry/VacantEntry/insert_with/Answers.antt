@@ -1,12 +1,4 @@
-use Rattle.std.proofs.Common.{refl, sym, ap, ◌∙◌, subst}
-use Rattle.std.proofs.lemmas.Bool.{false≢true}
-use Rattle.std.specs.FinMap.{get, contains_key}
-use Rattle.prefix_trie_bits.specs.Model.Entries.{with_entry}
-use Rattle.prefix_trie_bits.specs.Model.Insertion.{node_slots_lacking, cell_slots_lacking}
-use Rattle.prefix_trie_bits.specs.Model.Nodes.{with_needed}
-use Rattle.prefix_trie_bits.specs.Model.Storage.{ReadiesInStorage}
-use Rattle.prefix_trie_bits.proofs.Model.Storage.Readied.{no_node_slots_lack, no_cell_slots_lack}
-use Rattle.prefix_trie_map.specs.Steps.{state, storage}
+use Rattle.prefix_trie_map.proofs.Prelude.{refl, sym, ap, ◌∙◌, subst, false≢true, get, contains_key, with_entry, node_slots_lacking, cell_slots_lacking, with_needed, ReadiesInStorage, no_node_slots_lack, no_cell_slots_lack, state, storage}
 use Rattle.prefix_trie_map.proofs.Entries.{Fills-lent, Refuses-handed}
 use Rattle.prefix_trie_map.proofs.Placing.{entry_only, readied_step}
 use Rattle.prefix_trie_map.proofs.map.entry.VacantEntry.insert_with.Goals as goal

@@ -1,7 +1,5 @@
-use Rattle.std.proofs.Common.{◌∙◌, ◌&&◌, Bool}
-use Rattle.std.specs.Cmp.Lexicographic.{pointwise}
+use Rattle.prefix_trie_map.proofs.Prelude.{◌∙◌, ◌&&◌, Bool, pointwise, lent_item}
 use Rattle.prefix_trie_map.proofs.Equality.{eq_is}
-use Rattle.prefix_trie_map.specs.Walks.{lent_item}
 use Rattle.prefix_trie_map.proofs.map.equality.PrefixMapPartialEq.eq.Goals as goal
 
 pub returns : goal.returns

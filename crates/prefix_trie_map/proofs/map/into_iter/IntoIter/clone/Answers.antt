@@ -1,5 +1,4 @@
-use Rattle.std.proofs.Common.{◌∙◌, ap}
-use Rattle.prefix_trie_bits.specs.Model.Selections.{shown}
+use Rattle.prefix_trie_map.proofs.Prelude.{◌∙◌, ap, shown}
 use Rattle.prefix_trie_map.proofs.Cloned.{shown_cloned}
 use Rattle.prefix_trie_map.proofs.map.into_iter.IntoIter.clone.Goals as goal
 

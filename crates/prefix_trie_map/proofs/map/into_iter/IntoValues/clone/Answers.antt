@@ -1,4 +1,4 @@
-use Rattle.std.proofs.Common.{◌∙◌, map, ap}
+use Rattle.prefix_trie_map.proofs.Prelude.{◌∙◌, map, ap}
 use Rattle.prefix_trie_map.proofs.Cloned.{values_cloned}
 use Rattle.prefix_trie_map.proofs.map.into_iter.IntoValues.clone.Goals as goal
 

@@ -1,4 +1,4 @@
-use Rattle.std.proofs.Common.{◌∙◌}
+use Rattle.prefix_trie_map.proofs.Prelude.{◌∙◌}
 use Rattle.prefix_trie_map.proofs.Cloned.{keys_cloned}
 use Rattle.prefix_trie_map.proofs.map.into_iter.KeysOf+IntoIter+P+T+A.clone.Goals as goal
 

@@ -1,9 +1,4 @@
-use Rattle.std.proofs.Common.{rules, ◌≡◌, ◌<◌, ◌^◌, ◌∙◌, length, sym, ap}
-use Rattle.std.proofs.lemmas.List.{length-map}
-use Rattle.std.specs.FinMap.{len, len-entries}
-use Rattle.prefix_trie_bits.specs.Model.Selections.{listing, shown}
-use Rattle.prefix_trie_table.specs.Shape.{Contents}
-use Rattle.prefix_trie_map.specs.Whole.{IsWhole}
+use Rattle.prefix_trie_map.proofs.Prelude.{rules, ◌≡◌, ◌<◌, ◌^◌, ◌∙◌, length, sym, ap, length-map, len, len-entries, listing, shown, Contents, IsWhole}
 use Rattle.prefix_trie_map.proofs.Runs.{gives_in_order}
 use Rattle.prefix_trie_map.proofs.map.into_iter.PrefixMapIntoIterator.into_iter.Goals as goal
 

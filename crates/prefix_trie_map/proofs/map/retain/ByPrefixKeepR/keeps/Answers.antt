@@ -1,5 +1,4 @@
-use Rattle.std.proofs.Common.{Bool, take, refl, subst}
-use Rattle.prefix_trie_map.specs.Asking.{AsksAt}
+use Rattle.prefix_trie_map.proofs.Prelude.{Bool, take, refl, subst, AsksAt}
 use Rattle.prefix_trie_map.proofs.map.retain.ByPrefixKeepR.keeps.Goals as goal
 
 pub returns : goal.returns

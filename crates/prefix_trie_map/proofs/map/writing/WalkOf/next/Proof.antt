@@ -4,15 +4,13 @@ use Rattle.prefix_trie_map.proofs.Loans.{flft, ◌⊑◌, fact, fact_i, tables, 
 use Rattle.prefix_trie_map.proofs.Loans.{frame, agg, enter, of_opd, lit, addr, from, stop, no_more, and_then, returns, alloc_all, pass_all, free_all, look_at, get, through, sets, lands_as, take_at, give_at, param}
 use Rattle.prefix_trie_map.proofs.Loans.{bounded, Laws, param_laws, no, lone, RattleType, MutRef, mut_vals, mut_Tells, plain, mut_ref_to, nothing, heard, peeks, shows, Tuple, tuple_laws, calls_at, Lasts, lasts}
 use Rattle.prefix_trie_map.proofs.Loans.{triple_of, framed, Stays, stay_dropped, walk_of, ends_at, Goes-spent_ref, option_laws, Lent, lent_laws, KeptWithin, lends_within, back_within}
-use Rattle.std.proofs.RcSteps.{none_of}
+use Rattle.prefix_trie_map.proofs.Prelude.{none_of, lent_beside, FirstIn, IsOverIn, lends_next}
 use mir.Val.{vnil}
 use base.Share as half
 use base.Fml.{Share}
 use contract.BorrowLft.{meet_⊑_right}
 use types.Match.{live}
 use Rattle.std.specs.contracts.option.Option as option
-use Rattle.prefix_trie_map.specs.Lending.{lent_beside}
-use Rattle.prefix_trie_map.specs.WritingWalks.{FirstIn, IsOverIn, lends_next}
 use Rattle.prefix_trie_map.proofs.Writing.{HasFirst, prefix_there, first_beside, none_beside}
 use Rattle.prefix_trie_map.specs.contracts.map.writing.WalkOf as walk
 use Rattle.prefix_trie_map.specs.contracts.map.writing.WalkOf.next as f

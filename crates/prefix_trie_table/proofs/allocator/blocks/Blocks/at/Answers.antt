@@ -1,4 +1,4 @@
-use Rattle.std.proofs.Common.{◌+◌, get_or, sym, ap, ◌∙◌}
+use Rattle.prefix_trie_table.proofs.Prelude.{◌+◌, get_or, sym, ap, ◌∙◌}
 use Rattle.prefix_trie_table.proofs.Blocks.Soundness.{slot_of_block}
 use Rattle.prefix_trie_table.proofs.allocator.blocks.Blocks.at.Goals as goal
 

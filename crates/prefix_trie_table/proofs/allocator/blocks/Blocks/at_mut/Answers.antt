@@ -1,6 +1,4 @@
-use Rattle.std.proofs.Common.{◌∷◌, ◌+◌, set, refl, subst}
-use Rattle.prefix_trie_table.specs.Store.{Sound}
-use Rattle.prefix_trie_table.specs.Slots.{with_slot}
+use Rattle.prefix_trie_table.proofs.Prelude.{◌∷◌, ◌+◌, set, refl, subst, Sound, with_slot}
 use Rattle.prefix_trie_table.proofs.Blocks.Soundness.{Sound-set}
 use Rattle.prefix_trie_table.proofs.allocator.blocks.Blocks.at_mut.Goals as goal
 

@@ -1,5 +1,4 @@
-use Rattle.std.proofs.Common.{[], ◌∷◌, map, ap, ◌∙◌}
-use Rattle.prefix_trie_table.specs.BlockCounts.{tier_count}
+use Rattle.prefix_trie_table.proofs.Prelude.{[], ◌∷◌, map, ap, ◌∙◌, tier_count}
 use Rattle.prefix_trie_table.proofs.Counts.BlockCounts.{seven_tiers}
 use Rattle.prefix_trie_table.proofs.allocator.blocks.Blocks.counts.Goals as goal
 

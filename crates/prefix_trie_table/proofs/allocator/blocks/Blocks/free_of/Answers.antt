@@ -1,6 +1,4 @@
-use Rattle.std.proofs.Common.{◌<◌, length, sym, ap, ◌∙◌}
-use Rattle.std.proofs.lemmas.List.{get_or_default}
-use Rattle.prefix_trie_table.specs.Store.{Tier}
+use Rattle.prefix_trie_table.proofs.Prelude.{◌<◌, length, sym, ap, ◌∙◌, get_or_default, Tier}
 use Rattle.prefix_trie_table.proofs.Blocks.BySize.{free_at}
 use Rattle.prefix_trie_table.proofs.allocator.blocks.Blocks.free_of.Goals as goal
 

@@ -1,9 +1,4 @@
-use Rattle.std.proofs.Common.{◌≡◌, ◌+◌, ◌<◌, ◌++◌, [], length, None, Some, refl, sym, ap, ◌∙◌, arith, subst}
-use Rattle.std.specs.Option.{option_or}
-use Rattle.std.proofs.lemmas.List.{nil_from_length}
-use Rattle.std.proofs.lemmas.Option.{none-some}
-use Rattle.prefix_trie_bits.specs.Model.Blocks.{one_of}
-use Rattle.prefix_trie_table.specs.Store.{Sound, Turnover, tier_at, tier_sizes, size_in, free_in, size_if_any, none_of, list_size, list_need, block, held}
+use Rattle.prefix_trie_table.proofs.Prelude.{◌≡◌, ◌+◌, ◌<◌, ◌++◌, [], length, None, Some, refl, sym, ap, ◌∙◌, arith, subst, option_or, nil_from_length, none-some, one_of, Sound, Turnover, tier_at, tier_sizes, size_in, free_in, size_if_any, none_of, list_size, list_need, block, held}
 use Rattle.prefix_trie_table.proofs.Blocks.BySize.{size_at, size_some, need_first, first_size, many_here}
 use Rattle.prefix_trie_table.proofs.Blocks.Preparing.{how_many-needs}
 use Rattle.prefix_trie_table.proofs.Blocks.Soundness.{block_inside, list_block}

@@ -1,8 +1,4 @@
-use Rattle.std.proofs.Common.{◌≡◌, ℕ, ◌+◌, ◌<◌, ◌∷◌, insert, Some, refl, sym, ap, ◌∙◌, arith, subst}
-use Rattle.std.specs.Option.{option_or}
-use Rattle.std.proofs.lemmas.Option.{none-some}
-use Rattle.prefix_trie_bits.specs.Model.Blocks.{one_of}
-use Rattle.prefix_trie_table.specs.Store.{Sound, Turnover, tier_at, tier_sizes, size_in, none_of, list_size, list_need, block}
+use Rattle.prefix_trie_table.proofs.Prelude.{◌≡◌, ℕ, ◌+◌, ◌<◌, ◌∷◌, insert, Some, refl, sym, ap, ◌∙◌, arith, subst, option_or, none-some, one_of, Sound, Turnover, tier_at, tier_sizes, size_in, none_of, list_size, list_need, block}
 use Rattle.prefix_trie_table.proofs.Blocks.BySize.{size_at, size_some, need_none, need_full, smallest_holds, many_here}
 use Rattle.prefix_trie_table.proofs.Blocks.Soundness.{block_inside, tier_of_block}
 use Rattle.prefix_trie_table.proofs.Blocks.Preparing.{how_many-needs}

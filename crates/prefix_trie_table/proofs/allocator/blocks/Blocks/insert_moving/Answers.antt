@@ -1,7 +1,4 @@
-use Rattle.std.proofs.Common.{◌≡◌, ◌<◌, ◌∷◌, [], insert, None, Some, ap, ◌∙◌, subst, refl, arith}
-use Rattle.std.proofs.lemmas.List.Edits.{length-insert}
-use Rattle.prefix_trie_table.specs.Runs.{run}
-use Rattle.prefix_trie_table.specs.Store.{Turnover, tier_at, tier_sizes, size_in, none_of, block}
+use Rattle.prefix_trie_table.proofs.Prelude.{◌≡◌, ◌<◌, ◌∷◌, [], insert, None, Some, ap, ◌∙◌, subst, refl, arith, length-insert, run, Turnover, tier_at, tier_sizes, size_in, none_of, block}
 use Rattle.prefix_trie_table.proofs.Blocks.BySize.{size_at}
 use Rattle.prefix_trie_table.proofs.Blocks.Soundness.{Sound-exchanged, has_place}
 use Rattle.prefix_trie_table.proofs.Blocks.RunLemmas.{length-run}

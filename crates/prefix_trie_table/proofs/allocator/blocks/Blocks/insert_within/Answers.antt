@@ -1,4 +1,4 @@
-use Rattle.std.proofs.Common.{◌≡◌, ◌+◌, insert, remove, sym, ap, ◌∙◌}
+use Rattle.prefix_trie_table.proofs.Prelude.{◌≡◌, ◌+◌, insert, remove, sym, ap, ◌∙◌}
 use Rattle.prefix_trie_table.proofs.Blocks.Soundness.{Sound-inserted}
 use Rattle.prefix_trie_table.proofs.allocator.blocks.Blocks.insert_within.Goals as goal
 

@@ -1,4 +1,4 @@
-use Rattle.std.proofs.Common.{Some, sym, ap, ◌∙◌, arith}
+use Rattle.prefix_trie_table.proofs.Prelude.{Some, sym, ap, ◌∙◌, arith}
 use Rattle.prefix_trie_table.proofs.Blocks.BySize.{first_size, need_first, need_none, need_full}
 use Rattle.prefix_trie_table.proofs.allocator.blocks.Blocks.lacking.Goals as goal
 

@@ -1,4 +1,4 @@
-use Rattle.std.proofs.Common.{◌≤◌, ◌+◌, length, arith}
+use Rattle.prefix_trie_table.proofs.Prelude.{◌≤◌, ◌+◌, length, arith}
 use Rattle.prefix_trie_table.proofs.Blocks.Laying.{run_inside, items_laid}
 use Rattle.prefix_trie_table.proofs.allocator.blocks.Blocks.lay.Goals as goal
 

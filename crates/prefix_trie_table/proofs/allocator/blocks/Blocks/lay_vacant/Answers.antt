@@ -1,10 +1,4 @@
-use Rattle.std.proofs.Common.{◌≡◌, ℕ, ◌+◌, ◌-◌, ◌<◌, ◌≤◌, ◌++◌, [], ◌∷◌, length, replicate, None, Some, refl, sym, ap, ◌∙◌, subst, arith, rules}
-use Rattle.std.specs.Prelude.{Contains}
-use Rattle.std.proofs.lemmas.List.{length-replicate}
-use Rattle.prefix_trie_bits.specs.declared.prefix.Refusal.TheVariants.{IndexRange}
-use Rattle.prefix_trie_bits.specs.Model.Blocks.{smallest_size}
-use Rattle.prefix_trie_bits.specs.Model.HandsOut.{packed_slots}
-use Rattle.prefix_trie_table.specs.Store.{Sound, Turnover, block, tier_at, tier_sizes, size_in, free_in, many_of, none_of}
+use Rattle.prefix_trie_table.proofs.Prelude.{◌≡◌, ℕ, ◌+◌, ◌-◌, ◌<◌, ◌≤◌, ◌++◌, [], ◌∷◌, length, replicate, None, Some, refl, sym, ap, ◌∙◌, subst, arith, rules, Contains, length-replicate, IndexRange, smallest_size, packed_slots, Sound, Turnover, block, tier_at, tier_sizes, size_in, free_in, many_of, none_of}
 use Rattle.prefix_trie_table.proofs.Blocks.BySize.{size_at, sizes_up, size_among, tiers_long, smallest_holds, many-none}
 use Rattle.prefix_trie_table.proofs.Blocks.Laying.{Sound-vacant, laid_none_free, laid_longer, packed_size}
 use Rattle.prefix_trie_table.proofs.Blocks.Turnovers.{Keeps-then, size_kept, room_turned}

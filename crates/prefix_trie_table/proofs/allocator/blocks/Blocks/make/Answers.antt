@@ -1,6 +1,4 @@
-use Rattle.std.proofs.Common.{◌≡◌, ◌+◌, ◌<◌, ◌∷◌, [], ◌++◌, length, replicate, length-append, get_or, sym, ap, ◌∙◌, arith, rules}
-use Rattle.std.proofs.lemmas.List.{length-replicate, get_or_default, get_or_append_left}
-use Rattle.prefix_trie_table.specs.Store.{Tier, tier_at, tier_sizes, size_in}
+use Rattle.prefix_trie_table.proofs.Prelude.{◌≡◌, ◌+◌, ◌<◌, ◌∷◌, [], ◌++◌, length, replicate, length-append, get_or, sym, ap, ◌∙◌, arith, rules, length-replicate, get_or_default, get_or_append_left, Tier, tier_at, tier_sizes, size_in}
 use Rattle.prefix_trie_table.proofs.Blocks.BySize.{size_at, sizes_up}
 use Rattle.prefix_trie_table.proofs.Blocks.Turnovers.{Turnover-grown}
 use Rattle.prefix_trie_table.proofs.Blocks.Soundness.{made_fits, Sound-grown_as}

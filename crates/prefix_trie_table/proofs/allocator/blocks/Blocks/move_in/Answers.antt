@@ -1,7 +1,4 @@
-use Rattle.std.proofs.Common.{◌≡◌, ◌+◌, ◌∷◌, inl, inr, replicate, insert, sym, ap, ◌∙◌, arith}
-use Rattle.std.proofs.lemmas.Bool.{cases_lt}
-use Rattle.std.proofs.lemmas.List.Edits.{length-insert}
-use Rattle.prefix_trie_table.specs.Runs.{run, put_run}
+use Rattle.prefix_trie_table.proofs.Prelude.{◌≡◌, ◌+◌, ◌∷◌, inl, inr, replicate, insert, sym, ap, ◌∙◌, arith, cases_lt, length-insert, run, put_run}
 use Rattle.prefix_trie_table.proofs.Blocks.Soundness.{Sound-exchanged, block_inside, fits_block}
 use Rattle.prefix_trie_table.proofs.Blocks.Moving.{Sound-put_over, two_apart, run_items, run_none}
 use Rattle.prefix_trie_table.proofs.allocator.blocks.Blocks.move_in.Goals as goal

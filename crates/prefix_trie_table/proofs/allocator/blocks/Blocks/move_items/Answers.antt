@@ -1,5 +1,4 @@
-use Rattle.std.proofs.Common.{◌≡◌, sym, ap, ◌∙◌}
-use Rattle.prefix_trie_table.specs.Runs.{swap_runs}
+use Rattle.prefix_trie_table.proofs.Prelude.{◌≡◌, sym, ap, ◌∙◌, swap_runs}
 use Rattle.prefix_trie_table.proofs.Blocks.Moving.{Sound-moved}
 use Rattle.prefix_trie_table.proofs.allocator.blocks.Blocks.move_items.Goals as goal
 

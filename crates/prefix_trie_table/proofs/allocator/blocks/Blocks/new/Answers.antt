@@ -1,5 +1,4 @@
-use Rattle.std.proofs.Common.{◌≡◌, arith, ◌∙◌}
-use Rattle.prefix_trie_table.specs.Store.{slots_made}
+use Rattle.prefix_trie_table.proofs.Prelude.{◌≡◌, arith, ◌∙◌, slots_made}
 use Rattle.prefix_trie_table.proofs.Blocks.Soundness.{no_slots_made, Sound-new}
 use Rattle.prefix_trie_table.proofs.allocator.blocks.Blocks.new.Goals as goal
 

@@ -1,5 +1,4 @@
-use Rattle.std.proofs.Common.{◌≡◌, ℕ, ◌+◌, ◌-◌, None, refl, sym, ap, ◌∙◌, subst, arith, rules}
-use Rattle.prefix_trie_table.specs.Store.{Turnover, tier_sizes, size_in, free_in, many_of, none_of}
+use Rattle.prefix_trie_table.proofs.Prelude.{◌≡◌, ℕ, ◌+◌, ◌-◌, None, refl, sym, ap, ◌∙◌, subst, arith, rules, Turnover, tier_sizes, size_in, free_in, many_of, none_of}
 use Rattle.prefix_trie_table.proofs.Blocks.BySize.{tiers_long, many-add, many-none}
 use Rattle.prefix_trie_table.proofs.Blocks.Turnovers.{Turnover-as, Turnover-then, Turnover-same}
 use Rattle.prefix_trie_table.proofs.allocator.blocks.Blocks.obtain.Goals as goal

@@ -1,5 +1,4 @@
-use Rattle.std.proofs.Common.{◌≡◌, ℕ, ◌-◌, ◌≤◌, List, None}
-use Rattle.prefix_trie_table.specs.Store.{UsedBlock, Sound, Turnover, SameSlots, tier_sizes, size_in, free_in, many_of}
+use Rattle.prefix_trie_table.proofs.Prelude.{◌≡◌, ℕ, ◌-◌, ◌≤◌, List, None, UsedBlock, Sound, Turnover, SameSlots, tier_sizes, size_in, free_in, many_of}
 use Rattle.prefix_trie_table.proofs.allocator.blocks.Blocks.obtain.Given as goal
 
 abbrev pub invariant-loop-i : goal.invariant-loop-i

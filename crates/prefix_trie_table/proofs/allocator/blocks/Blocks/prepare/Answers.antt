@@ -1,9 +1,4 @@
-use Rattle.std.proofs.Common.{◌≡◌, ℕ, ◌+◌, ◌-◌, ◌<◌, ◌≤◌, ◌↔◌, Option, None, Some, OnOk, OnErr, IfErr, length, refl, sym, ap, ◌∙◌, subst, arith}
-use Rattle.std.specs.Prelude.{option_map, Contains}
-use Rattle.std.proofs.lemmas.Result.{err_from_is_err_and}
-use Rattle.prefix_trie_bits.specs.declared.prefix.Refusal.TheVariants.{IndexRange}
-use Rattle.prefix_trie_bits.specs.Model.Blocks.{one_of}
-use Rattle.prefix_trie_table.specs.Store.{Store, Turnover, free_in, many_of, needs, list_need, tier_sizes, size_in}
+use Rattle.prefix_trie_table.proofs.Prelude.{◌≡◌, ℕ, ◌+◌, ◌-◌, ◌<◌, ◌≤◌, ◌↔◌, Option, None, Some, OnOk, OnErr, IfErr, length, refl, sym, ap, ◌∙◌, subst, arith, option_map, Contains, err_from_is_err_and, IndexRange, one_of, Store, Turnover, free_in, many_of, needs, list_need, tier_sizes, size_in}
 use Rattle.prefix_trie_table.proofs.Blocks.BySize.{sizes_up, size_among, tiers_long, first_size, sizes_rise, many_here}
 use Rattle.prefix_trie_table.proofs.Blocks.Preparing.{LastWay, way_same, way_own, way_first, way_second, how_many-needs, obtained, obtained_part}
 use Rattle.prefix_trie_table.proofs.allocator.blocks.Blocks.prepare.Given as given

@@ -1,4 +1,4 @@
-use Rattle.std.proofs.Common.{◌≡◌, ◌+◌, set, sym, ap, ◌∙◌}
+use Rattle.prefix_trie_table.proofs.Prelude.{◌≡◌, ◌+◌, set, sym, ap, ◌∙◌}
 use Rattle.prefix_trie_table.proofs.Blocks.Soundness.{Sound-set, Sound-set_before}
 use Rattle.prefix_trie_table.proofs.allocator.blocks.Blocks.put.Goals as goal
 

@@ -1,8 +1,4 @@
-use Rattle.std.proofs.Common.{◌≡◌, ◌<◌, ◌∷◌, List, Option, Some, MatchOption, is_some, remove, refl, sym, ap, ◌∙◌, subst, arith}
-use Rattle.std.proofs.lemmas.Bool.{false≢true}
-use Rattle.std.proofs.lemmas.List.Edits.{length-remove}
-use Rattle.prefix_trie_table.specs.declared.allocator.blocks.BlockRef.{BlockRef}
-use Rattle.prefix_trie_table.specs.Store.{Store, UsedBlock, Sound, tier_at, tier_sizes, block}
+use Rattle.prefix_trie_table.proofs.Prelude.{◌≡◌, ◌<◌, ◌∷◌, List, Option, Some, MatchOption, is_some, remove, refl, sym, ap, ◌∙◌, subst, arith, false≢true, length-remove, BlockRef, Store, UsedBlock, Sound, tier_at, tier_sizes, block}
 use Rattle.prefix_trie_table.proofs.Blocks.BySize.{first_size, tiers_long}
 use Rattle.prefix_trie_table.proofs.Blocks.Losing.{left_some, none_left, left_none}
 use Rattle.prefix_trie_table.proofs.Blocks.Soundness.{list_block, block_list, no_list, tier_of_block}

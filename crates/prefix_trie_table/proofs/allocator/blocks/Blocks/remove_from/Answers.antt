@@ -1,10 +1,4 @@
-use Rattle.std.proofs.Common.{◌≡◌, ℕ, ◌+◌, ◌-◌, ◌<◌, ◌≤◌, ◌∷◌, [], List, None, Some, IsSome, IfNone, MatchOption, is_some, length, insert, remove, refl, sym, ap, ◌∙◌, subst, arith}
-use Rattle.std.proofs.lemmas.Bool.{false≢true}
-use Rattle.std.proofs.lemmas.Option.{same_Some}
-use Rattle.std.proofs.lemmas.List.{nil_from_length}
-use Rattle.std.proofs.lemmas.List.Edits.{length-remove}
-use Rattle.prefix_trie_bits.specs.Model.Blocks.{smallest_size}
-use Rattle.prefix_trie_table.specs.Store.{Store, Tier, UsedBlock, Sound, Turnover, tier_at, tier_sizes, size_in, free_in, free_counts, many_of, none_of, block}
+use Rattle.prefix_trie_table.proofs.Prelude.{◌≡◌, ℕ, ◌+◌, ◌-◌, ◌<◌, ◌≤◌, ◌∷◌, [], List, None, Some, IsSome, IfNone, MatchOption, is_some, length, insert, remove, refl, sym, ap, ◌∙◌, subst, arith, false≢true, same_Some, nil_from_length, length-remove, smallest_size, Store, Tier, UsedBlock, Sound, Turnover, tier_at, tier_sizes, size_in, free_in, free_counts, many_of, none_of, block}
 use Rattle.prefix_trie_table.proofs.Blocks.BySize.{size_at, sizes_up, sizes_rise, tiers_long, smallest_holds, smallest_there}
 use Rattle.prefix_trie_table.proofs.Blocks.Losing.{none_made, same_made, one_made, steps_gone, steps_moved, steps_stayed, smallest_low}
 use Rattle.prefix_trie_table.proofs.Blocks.Soundness.{block_inside, fits_block, has_place, tier_of_block}

@@ -1,4 +1,4 @@
-use Rattle.std.proofs.Common.{◌≡◌, ◌+◌, ◌-◌, get_or, insert, remove, arith, sym, ap, ◌∙◌}
+use Rattle.prefix_trie_table.proofs.Prelude.{◌≡◌, ◌+◌, ◌-◌, get_or, insert, remove, arith, sym, ap, ◌∙◌}
 use Rattle.prefix_trie_table.proofs.Blocks.Soundness.{Sound-removed, slot_of_block}
 use Rattle.prefix_trie_table.proofs.allocator.blocks.Blocks.remove_within.Goals as goal
 

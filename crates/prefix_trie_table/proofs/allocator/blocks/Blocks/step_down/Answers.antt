@@ -1,5 +1,4 @@
-use Rattle.std.proofs.Common.{ℕ, ◌+◌, ◌-◌, ◌<◌, ◌≤◌, ◌∷◌, [], None, Some, refl, ◌∙◌, subst, arith, rules}
-use Rattle.prefix_trie_table.specs.Store.{Sound, Turnover, tier_at, tier_sizes, size_in, free_in, many_of, none_of, block}
+use Rattle.prefix_trie_table.proofs.Prelude.{ℕ, ◌+◌, ◌-◌, ◌<◌, ◌≤◌, ◌∷◌, [], None, Some, refl, ◌∙◌, subst, arith, rules, Sound, Turnover, tier_at, tier_sizes, size_in, free_in, many_of, none_of, block}
 use Rattle.prefix_trie_table.proofs.Blocks.BySize.{size_at, many-none}
 use Rattle.prefix_trie_table.proofs.Blocks.Soundness.{Sound-exchanged, has_place}
 use Rattle.prefix_trie_table.proofs.Blocks.Moving.{runs_within, moved_turned}

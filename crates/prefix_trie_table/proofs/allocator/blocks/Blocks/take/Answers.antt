@@ -1,6 +1,4 @@
-use Rattle.std.proofs.Common.{◌≡◌, ◌<◌, [], ◌∷◌, ◌++◌, length, length-append, sym, ap, ◌∙◌, arith}
-use Rattle.std.proofs.lemmas.List.{get_or_default}
-use Rattle.prefix_trie_table.specs.Store.{Tier, tier_at, tier_sizes, size_in, free_in}
+use Rattle.prefix_trie_table.proofs.Prelude.{◌≡◌, ◌<◌, [], ◌∷◌, ◌++◌, length, length-append, sym, ap, ◌∙◌, arith, get_or_default, Tier, tier_at, tier_sizes, size_in, free_in}
 use Rattle.prefix_trie_table.proofs.Blocks.BySize.{size_at, sizes_up, free_at}
 use Rattle.prefix_trie_table.proofs.Blocks.Turnovers.{Turnover-taken}
 use Rattle.prefix_trie_table.proofs.Blocks.Soundness.{Sound-taken}

@@ -1,4 +1,4 @@
-use Rattle.std.proofs.Common.{◌+◌, ap, sym, ◌∙◌, arith}
+use Rattle.prefix_trie_table.proofs.Prelude.{◌+◌, ap, sym, ◌∙◌, arith}
 use Rattle.prefix_trie_table.proofs.Strings.Bits.{rank-ones}
 use Rattle.prefix_trie_table.proofs.allocator.node.Node.child_slot.Goals as goal
 

@@ -1,4 +1,4 @@
-use Rattle.std.proofs.Common.{sym, ◌∙◌, arith}
+use Rattle.prefix_trie_table.proofs.Prelude.{sym, ◌∙◌, arith}
 use Rattle.prefix_trie_table.proofs.Strings.Bits.{rank-ones}
 use Rattle.prefix_trie_table.proofs.allocator.node.Node.value_seat.Goals as goal
 

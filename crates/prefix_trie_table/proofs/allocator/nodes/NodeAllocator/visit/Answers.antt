@@ -1,4 +1,4 @@
-use Rattle.std.proofs.Common.{rules}
+use Rattle.prefix_trie_table.proofs.Prelude.{rules}
 use Rattle.prefix_trie_table.proofs.allocator.nodes.NodeAllocator.visit.Goals as goal
 
 pub returns-clause-one_more : goal.returns-clause-one_more

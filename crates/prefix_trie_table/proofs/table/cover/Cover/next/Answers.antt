@@ -1,6 +1,4 @@
-use Rattle.std.proofs.Common.{◌∷◌, take, is_some, ap, sym, ◌∙◌, arith}
-use Rattle.std.proofs.lemmas.Bool.{false≢true}
-use Rattle.prefix_trie_table.specs.Walking.Covers.{still_covering}
+use Rattle.prefix_trie_table.proofs.Prelude.{◌∷◌, take, is_some, ap, sym, ◌∙◌, arith, false≢true, still_covering}
 use Rattle.prefix_trie_table.proofs.Lookup.Covers.{cover_on}
 use Rattle.prefix_trie_table.proofs.Lookup.Covered.{gives_none, gives_next, match_there, match_short}
 use Rattle.prefix_trie_table.proofs.Lookup.Matched.{has_nodes}

@@ -1,4 +1,4 @@
-use Rattle.std.proofs.Common.{arith}
+use Rattle.prefix_trie_table.proofs.Prelude.{arith}
 use Rattle.prefix_trie_table.proofs.table.matching.Match.seat.Goals as goal
 
 pub value_seat-requires : goal.value_seat-requires

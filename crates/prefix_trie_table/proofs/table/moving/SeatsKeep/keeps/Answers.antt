@@ -1,4 +1,4 @@
-use Rattle.std.proofs.lemmas.Bool.{false≢true}
+use Rattle.prefix_trie_table.proofs.Prelude.{false≢true}
 use Rattle.prefix_trie_table.proofs.table.moving.SeatsKeep.keeps.Goals as goal
 
 pub returns-clause-yes : goal.returns-clause-yes

@@ -1,6 +1,4 @@
-use Rattle.std.proofs.Common.{◌≡◌, Bool, false, List, refl, take, subst, sym}
-use Rattle.prefix_trie_table.specs.declared.table.moving.Seats.{Seats}
-use Rattle.prefix_trie_table.specs.HandingOut.Moving.{AwaitsNext, HasCome}
+use Rattle.prefix_trie_table.proofs.Prelude.{◌≡◌, Bool, false, List, refl, take, subst, sym, Seats, AwaitsNext, HasCome}
 use Rattle.prefix_trie_table.proofs.Moving.Coming.{whole_tree, some_comes, seat_inside, has_come}
 use Rattle.prefix_trie_table.proofs.table.moving.SeatsKeep.taken.Given as given
 use Rattle.prefix_trie_table.proofs.table.moving.SeatsKeep.taken.Goals as goal

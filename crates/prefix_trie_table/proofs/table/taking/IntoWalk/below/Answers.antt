@@ -1,6 +1,5 @@
-use Rattle.std.proofs.Common.{take}
+use Rattle.prefix_trie_table.proofs.Prelude.{take, Tree}
 use Rattle.std.specs.FinMap.{len as size}
-use Rattle.prefix_trie_table.specs.Walking.Walks.{Tree}
 use Rattle.prefix_trie_table.proofs.Walk.Taking.{seated, walk_below, below_given}
 use Rattle.prefix_trie_table.proofs.table.taking.IntoWalk.below.Goals as goal
 

@@ -1,5 +1,4 @@
-use Rattle.std.proofs.Common.{refl, ◌∙◌}
-use Rattle.std.specs.List.{each_same}
+use Rattle.prefix_trie_table.proofs.Prelude.{refl, ◌∙◌, each_same}
 use Rattle.prefix_trie_table.proofs.Tree.Copying.{option_pairs}
 use Rattle.prefix_trie_table.proofs.Walk.Taking.{copied_seats, copied_walk, pairs_same}
 use Rattle.prefix_trie_table.proofs.table.taking.IntoWalk.clone.Goals as goal

@@ -1,5 +1,4 @@
-use Rattle.std.proofs.Common.{◌∙◌, sym, ap, is_some}
-use Rattle.std.proofs.lemmas.Bool.{false≢true}
+use Rattle.prefix_trie_table.proofs.Prelude.{◌∙◌, sym, ap, is_some, false≢true}
 use Rattle.prefix_trie_table.proofs.Walk.Taking.{none_given, walk_ended, taken_there, walk_goes_on, gives_taken}
 use Rattle.prefix_trie_table.proofs.table.taking.IntoWalk.next.Goals as goal
 

@@ -1,5 +1,4 @@
-use Rattle.std.proofs.Common.{◌∙◌}
-use Rattle.std.specs.List.{each_same}
+use Rattle.prefix_trie_table.proofs.Prelude.{◌∙◌, each_same}
 use Rattle.prefix_trie_table.proofs.Walk.Walking.{same_rest, same_walk}
 use Rattle.prefix_trie_table.proofs.table.walk.Walk.clone.Goals as goal
 

@@ -1,4 +1,4 @@
-use Rattle.std.proofs.Common.{◌∙◌, sym}
+use Rattle.prefix_trie_table.proofs.Prelude.{◌∙◌, sym}
 use Rattle.prefix_trie_table.proofs.Walk.Walking.{tree_of, rest_at, gives_read}
 use Rattle.prefix_trie_table.proofs.table.walk.Walk.next.Goals as goal
 

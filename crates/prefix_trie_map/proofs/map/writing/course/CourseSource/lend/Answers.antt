@@ -1,4 +1,4 @@
-use Rattle.std.proofs.Common.{refl}
+use Rattle.prefix_trie_map.proofs.Prelude.{refl}
 use Rattle.prefix_trie_map.proofs.Writing.{written_there}
 use Rattle.prefix_trie_map.proofs.map.writing.course.CourseSource.lend.Goals as goal
 
