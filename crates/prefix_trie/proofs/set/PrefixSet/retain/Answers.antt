@@ -1,4 +1,4 @@
-use Rattle.prefix_trie.proofs.Prelude.{rules, of_calls, sym, subst, MayAskInOrder, listing, RetainsInStorage, Contents, stored, AsksKeyAt, TakesKeyAt}
+use Rattle.prefix_trie.proofs.Prelude.{of_calls, sym, subst, MayAskInOrder, listing, RetainsInStorage, Contents, stored, AsksKeyAt, TakesKeyAt}
 use Rattle.prefix_trie.proofs.Retaining.{retained_through, may_ask_through}
 use Rattle.prefix_trie.proofs.set.PrefixSet.retain.Goals as goal
 
