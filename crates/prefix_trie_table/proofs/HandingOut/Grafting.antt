@@ -1,5 +1,6 @@
 -- A subtree that hangs from nothing yet is hung below a node, with its blocks.
-use Rattle.prefix_trie_table.proofs.Prelude.{◌≡◌, ◌≢◌, ℕ, ◌+◌, ◌<◌, inl, inr, true, false, cond, nat_eq, List, [], ◌∷◌, ◌++◌, length, map, flat_map, Option, None, Some, is_some, refl, sym, ap, ap₂, ◌∙◌, arith, cases_Bool, Node, has_bit, node_sizes, cell_sizes, same_path, one_if, times, has_child, node_or_blank, child_blocks_of, child_blocks, value_blocks_of, value_blocks, Hangs, no_value, UsedBlock, held, size_in}
+use Rattle.prefix_trie_table.proofs.Prelude.{◌≡◌, ◌≢◌, ℕ, ◌+◌, ◌<◌, inl, inr, true, false, cond, nat_eq, List, [], ◌∷◌, ◌++◌, length, map, flat_map, Option, None, Some, is_some, refl, sym, ap, ap₂, ◌∙◌, arith, Node, has_bit, node_sizes, cell_sizes, same_path, one_if, times, has_child, node_or_blank, child_blocks_of, child_blocks, value_blocks_of, value_blocks, Hangs, no_value, UsedBlock, held, size_in}
+use Rattle.prefix_trie_table.proofs.Strings.PathStrings.{from-one}
 use Rattle.prefix_trie_table.proofs.Strings.BitLists.{map_same}
 use Rattle.prefix_trie_table.proofs.Strings.Paths.{same_path-itself, same_path-equal, same_path-not, snoc_ind, flat_map_same}
 use Rattle.prefix_trie_table.proofs.Strings.PathLists.{times-append}
@@ -140,13 +141,7 @@ module _ (n : Node) (sub : List ℕ → Option Node) (rest : List (List ℕ)) (h
       omega (arith, own, was)
 
   stands_there : (c : ℕ) (p : List ℕ) → 0 < times (c ∷ p) rest → is_some (sub (c ∷ p)) ≡ true
-  stands_there c p there = elim (cases_Bool (is_some (sub (c ∷ p)))) as (λ _. is_some (sub (c ∷ p)) ≡ true) [
-    | inl here ↦ here
-    | inr lacks ↦
-        let was = h.listed (c ∷ p) in
-        let none : one_if (is_some (sub (c ∷ p))) ≡ 0 = ap one_if lacks in
-        absurd (omega (arith, was, none, there))
-  ]
+  stands_there c p there = from-one (is_some (sub (c ∷ p))) (times (c ∷ p) ([] ∷ rest)) (h.listed (c ∷ p)) (omega (arith, there))
 
   -- what is the same at each path behind the first
   pub rest_same : {Y : Type 0} (f g : List ℕ → List Y) → ((c : ℕ) (p : List ℕ) → is_some (sub (c ∷ p)) ≡ true → g (c ∷ p) ≡ f (c ∷ p)) →

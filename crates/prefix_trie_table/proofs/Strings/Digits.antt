@@ -19,12 +19,9 @@ short_path (a ∷ b ∷ []) h = (refl, refl)
 short_path (a ∷ []) h = (refl, refl)
 short_path [] h = (refl, refl)
 
-more : (n l : ℕ) → n ≡ l / 5 → suc n ≡ suc (suc (suc (suc (suc l)))) / 5
-more n l e = omega arith
-
 -- a way has a step for each five bits
 pub path-length : (s : List Bool) → length (path_of s) ≡ length s / 5
-path-length = by_steps (λ s. length (path_of s) ≡ length s / 5) (λ r h. let e = ap (λ p. length p) (short_path r h).0 in omega (arith, h, e)) (λ a b c d e s. more (length (path_of s)) (length s))
+path-length = by_steps (λ s. length (path_of s) ≡ length s / 5) (λ r h. let e = ap (λ p. length p) (short_path r h).0 in omega (arith, h, e)) (λ a b c d e s ih. omega (arith, ih))
 
 five_more : (n : ℕ) → 5 * suc n ≡ suc (suc (suc (suc (suc (5 * n)))))
 five_more n = omega arith

@@ -10,14 +10,10 @@ abbrev pub string_at : List ℕ → List Bool
 string_at [] = []
 string_at (c ∷ path) = digits 5 c ++ string_at path
 
-five-more : (l k : ℕ) → k % 5 ≡ 0 → l ≡ 5 + k → l % 5 ≡ 0
-five-more l k e f = omega (arith, e, f)
-
 -- it is as long as a node's
 pub string_depth : (path : List ℕ) → length (string_at path) % 5 ≡ 0
 string_depth [] = refl
-string_depth (c ∷ path) =
-    five-more _ _ (string_depth path) (length-append (digits 5 c) (string_at path) ∙ ap (λ n. n + length (string_at path)) (length-digits 5 c))
+string_depth (c ∷ path) = omega (arith, string_depth path, length-append (digits 5 c) (string_at path), length-digits 5 c)
 
 path_more : (c : ℕ) (s : List Bool) → path_of (digits 5 c ++ s) ≡ number (digits 5 c) ∷ path_of s
 unfolding digits
@@ -115,7 +111,7 @@ one-at-most : (b : Bool) (t : ℕ) → t ≡ one_if b → t ≤ 1
 one-at-most true t e = omega (arith, e)
 one-at-most false t e = omega (arith, e)
 
-from-one : (b : Bool) (t : ℕ) → t ≡ one_if b → 0 < t → b ≡ true
+pub from-one : (b : Bool) (t : ℕ) → t ≡ one_if b → 0 < t → b ≡ true
 from-one true t e h = refl
 from-one false t e h = absurd (omega (arith, e, h))
 
