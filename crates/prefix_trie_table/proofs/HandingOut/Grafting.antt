@@ -34,15 +34,13 @@ pub times-front_other : (c d : ℕ) (p : List ℕ) (paths : List (List ℕ)) →
 times-front_other c d p [] ne = refl
 times-front_other c d p (x ∷ paths) ne =
     let first : one_if (same_path (d ∷ p) (c ∷ x)) ≡ 0 = ap one_if (same_path-not (d ∷ p) (c ∷ x) (λ e. ne (ap (head-of 0) e))) in
-    let rest = times-front_other c d p paths ne in
-    omega (arith, first, rest)
+    omega (arith, first, times-front_other c d p paths ne)
 
 pub times-front_nil : (c : ℕ) (paths : List (List ℕ)) → times [] (map (λ q. c ∷ q) paths) ≡ 0
 times-front_nil c [] = refl
 times-front_nil c (x ∷ paths) =
     let first : one_if (same_path [] (c ∷ x)) ≡ 0 = ap one_if (same_path-not [] (c ∷ x) (λ e. not_nil c x (sym e))) in
-    let rest = times-front_nil c paths in
-    omega (arith, first, rest)
+    omega (arith, first, times-front_nil c paths)
 
 -- ---- the subtree twig, hung as the child c
 
@@ -74,9 +72,7 @@ module _ (n m top : Node) (c : ℕ) (sub twig : List ℕ → Option Node) (rest 
   listed [] =
       let own : one_if (same_path [] []) ≡ 1 = ap one_if (same_path-itself []) in
       let was : one_if (same_path [] []) + times [] rest ≡ 1 = h.listed [] ∙ ap (λ o. one_if (is_some o)) h.top in
-      let both = times-append [] (map (λ p. c ∷ p) paths) rest in
-      let none = times-front_nil c paths in
-      omega (arith, own, was, both, none)
+      omega (arith, own, was, times-append [] (map (λ p. c ∷ p) paths) rest, times-front_nil c paths)
   listed (d ∷ p) =
       let away : one_if (same_path (d ∷ p) []) ≡ 0 = ap one_if (same_path-not (d ∷ p) [] (not_nil d p)) in
       let was = h.listed (d ∷ p) in
@@ -85,13 +81,11 @@ module _ (n m top : Node) (c : ℕ) (sub twig : List ℕ → Option Node) (rest 
         | inl same ↦
             let none : one_if (is_some (sub (d ∷ p))) ≡ 0 = ap (λ i. one_if (is_some (sub (i ∷ p)))) same ∙ ap (λ o. one_if (is_some o)) (gone p) in
             let there : times (d ∷ p) (map (λ x. c ∷ x) paths) ≡ times p paths = ap (λ i. times (i ∷ p) (map (λ x. c ∷ x) paths)) same ∙ times-front c p paths in
-            let is = k.listed p in
             let now : one_if (is_some (grafted m c twig sub (d ∷ p))) ≡ one_if (is_some (twig p)) = ap (λ o. one_if (is_some o)) (graft_here m c sub twig d p same) in
-            omega (arith, away, was, both, none, there, is, now)
+            omega (arith, away, was, both, none, there, k.listed p, now)
         | inr ne ↦
-            let none = times-front_other c d p paths ne in
             let now : one_if (is_some (grafted m c twig sub (d ∷ p))) ≡ one_if (is_some (sub (d ∷ p))) = ap (λ o. one_if (is_some o)) (graft_other m c sub twig d p ne) in
-            omega (arith, away, was, both, none, now)
+            omega (arith, away, was, both, times-front_other c d p paths ne, now)
       ]
 
   pub graft_hangs : Hangs m (grafted m c twig sub) ([] ∷ (map (λ p. c ∷ p) paths ++ rest))
@@ -172,6 +166,5 @@ module _ (n : Node) (sub : List ℕ → Option Node) (rest : List (List ℕ)) (h
       none : (q : List ℕ) → times q rest ≡ 0
       none [] = not_first
       none (c ∷ p) =
-          let was = h.listed (c ∷ p) in
           let gone : one_if (is_some (sub (c ∷ p))) ≡ 0 = ap (λ o. one_if (is_some o)) (none_below c (bare c) p) in
-          omega (arith, was, gone)
+          omega (arith, h.listed (c ∷ p), gone)

@@ -84,7 +84,7 @@ five_path = by_steps (λ r. length r ≡ 5 → path_of r ≡ number r ∷ []) (�
     (λ a b c d e s ih five. subst (λ t. path_of (a ∷ b ∷ c ∷ d ∷ e ∷ t) ≡ number (a ∷ b ∷ c ∷ d ∷ e ∷ t) ∷ []) (sym (nil_from_length s (omega (arith, five)))) refl)
 
 -- behind a node's string the way goes on, and the rest is that of what follows
-ways-append : (s t : List Bool) → length s % 5 ≡ 0 → (path_of (s ++ t) ≡ path_of s ++ path_of t) × (rest_of (s ++ t) ≡ rest_of t)
+pub ways-append : (s t : List Bool) → length s % 5 ≡ 0 → (path_of (s ++ t) ≡ path_of s ++ path_of t) × (rest_of (s ++ t) ≡ rest_of t)
 ways-append s t = by_steps (λ s. length s % 5 ≡ 0 → (path_of (s ++ t) ≡ path_of s ++ path_of t) × (rest_of (s ++ t) ≡ rest_of t))
     (λ r h whole. subst (λ x. (path_of (x ++ t) ≡ path_of x ++ path_of t) × (rest_of (x ++ t) ≡ rest_of t)) (sym (nil_from_length r (omega (arith, h, whole)))) (refl, refl))
     (λ a b c d e s ih whole. let more = ih (less (length s) whole) in (ap (λ p. number (a ∷ b ∷ c ∷ d ∷ e ∷ []) ∷ p) more.0, more.1)) s
@@ -94,6 +94,3 @@ ways-append s t = by_steps (λ s. length s % 5 ≡ 0 → (path_of (s ++ t) ≡ p
 
 pub path-append : (s t : List Bool) → length s % 5 ≡ 0 → path_of (s ++ t) ≡ path_of s ++ path_of t
 path-append s t h = (ways-append s t h).0
-
-pub rest-append : (s t : List Bool) → length s % 5 ≡ 0 → rest_of (s ++ t) ≡ rest_of t
-rest-append s t h = (ways-append s t h).1
