@@ -82,7 +82,6 @@ module _ {S : Type 0} (vacant : S) where
         whole ys a = ap (λ n. take a ys ++ drop n ys) (let e : a + 0 ≡ a = omega arith in e) ∙ take-append-drop a ys
     items_laid (x ∷ xs) laid =
         let some : 0 < length (x ∷ xs) = omega arith in
-        let few = few_laid (x ∷ xs) some laid in
         let l = length-replicate (length (x ∷ xs)) vacant in
         let inside = run_inside (x ∷ xs) laid in
         let behind = (block_inside vacant _ _ u (block_laid (x ∷ xs) some laid live s)).after in
@@ -91,7 +90,7 @@ module _ {S : Type 0} (vacant : S) where
           size = λ h. ap (smallest_size (tier_sizes v.tiers)) (sym l) ∙ laid.size (omega (arith, l, h));
           none = λ z. absurd (omega (arith, z, some));
           sound = λ live2 s2.
-              Sound-laid at.tier at.start (tier_at v.tiers at.tier).size (x ∷ xs) live2 u few (block_laid (x ∷ xs) some laid live2 s2);
+              Sound-laid at.tier at.start (tier_at v.tiers at.tier).size (x ∷ xs) live2 u (few_laid (x ∷ xs) some laid) (block_laid (x ∷ xs) some laid live2 s2);
           keeps =
               Keeps-then v u (record u { slots = put_run u.slots at.start (x ∷ xs) }) laid.keeps
               (Turnover-written u (record u { slots = put_run u.slots at.start (x ∷ xs) }) (put_run u.slots at.start (x ∷ xs)) refl

@@ -29,8 +29,7 @@ packed_within sizes up zero k start items e has = omega arith
 packed_within sizes up (suc n) k start [] e has = absurd (omega (arith, e))
 packed_within sizes up (suc n) k start (x ∷ items) e has =
     let least = smallest_of 0 sizes up (suc n) has.0 has.2 has.3 in
-    let size : size_in sizes k ≡ has.0 = same_Some (size_in sizes k) has.0 has.1 in
-    let less = least.least in omega (arith, size, slots_found sizes n least.size least.found, less)
+    let less = least.least in omega (arith, same_Some (size_in sizes k) has.0 has.1, slots_found sizes n least.size least.found, less)
 
 module _ {T : Type 0} (width count : ℕ) (v : Store Node) (w : Store (Option T)) (s : State T) (trie : IsTrie width count v w s) where
   abbrev reading : List ℕ → Option Node

@@ -74,8 +74,7 @@ rank_fewer a b (suc n) within =
     let e : n + 1 ≡ suc n = omega arith in
     let up : rank a (suc n) ≡ rank a n + cond (has_bit a n) 1 0 = ap (rank a) (sym e) ∙ rank-more a n in
     let over : rank b (suc n) ≡ rank b n + cond (has_bit b n) 1 0 = ap (rank b) (sym e) ∙ rank-more b n in
-    let one : cond (has_bit a n) 1 0 ≤ cond (has_bit b n) 1 0 = bit_less (has_bit a n) (has_bit b n) (within n) in
-    omega (arith, up, over, rank_fewer a b n within, one)
+    omega (arith, up, over, rank_fewer a b n within, bit_less (has_bit a n) (has_bit b n) (within n))
   where
     bit_less : (x y : Bool) → (x ≡ true → y ≡ true) → cond x 1 0 ≤ cond y 1 0
     bit_less true true h = omega arith

@@ -21,8 +21,7 @@ use Rattle.prefix_trie_table.proofs.Tree.Shapes.{reads_node, shape_entries, shap
 pub string_placed : (reading : List ℕ → Option Node) (paths : List (List ℕ)) (v : Store Node) → NodesHold node_sizes reading paths v → (p : List ℕ) (b : ℕ) → b < 31 →
     has_value (reading p) b ≡ true → (s : List Bool) × (path_of s ≡ p) × (bit_of s ≡ b)
 string_placed reading paths v hold p b small set =
-    let some = some_node (reading p) b set in
-    let steps = paths_steps node_sizes reading paths v hold p (let e = hold.listed p ∙ ap one_if some in omega (arith, e)) in
+    let steps = paths_steps node_sizes reading paths v hold p (let e = hold.listed p ∙ ap one_if (some_node (reading p) b set) in omega (arith, e)) in
     let r = string_of b small in
     let at = below_node (length (string_at p) / 5) (string_at p) r.0 (five_times (length (string_at p)) (length (string_at p) / 5) (string_depth p) refl) r.1 in
     (string_at p ++ r.0, at.0 ∙ string_path p steps, ap value_bit at.1 ∙ r.2)
