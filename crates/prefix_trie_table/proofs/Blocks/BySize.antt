@@ -119,9 +119,8 @@ slots_of-add (size ∷ sizes) m n = (let rest = slots_of-add sizes m n in omega 
 pub slots_of-none : (sizes : List ℕ) (n : ℕ → ℕ) → ((size : ℕ) → n size ≡ 0) → slots_of sizes n ≡ 0
 slots_of-none [] n e = refl
 slots_of-none (size ∷ sizes) n e =
-    let rest = slots_of-none sizes n e in
     let here : size * n size ≡ size * 0 = ap (λ x. size * x) (e size) in
-    omega (arith, rest, here)
+    omega (arith, slots_of-none sizes n e, here)
 
 pub slots_of-many : (below : ℕ) (sizes : List ℕ) → goes_up below sizes ≡ true → (s m : ℕ) → Contains sizes s → slots_of sizes (many_of s m) ≡ s * m
 slots_of-many below [] up s m at = absurd (let i = at.1 in omega arith)
@@ -131,14 +130,11 @@ slots_of-many below (size ∷ sizes) up s m at =
       | inl here ↦
           let rest : slots_of sizes (many_of s m) ≡ slots_of sizes (many_of s 0) = slots_of-same sizes (many_of s m) (many_of s 0)
           (λ x there. let less = above size sizes later x there in many_other s m x (λ e. omega (arith, less, e, here)) ∙ sym (many_other s 0 x (λ e. omega (arith, less, e, here)))) in
-          let none = slots_of-none sizes (many_of s 0) (λ x. many-none s 0 x refl) in
           let one : size * many_of s m size ≡ s * m = ap₂ (λ a b. a * b) here (ap (many_of s m) here ∙ many_here s m) in
-          omega (arith, rest, none, one)
+          omega (arith, rest, slots_of-none sizes (many_of s 0) (λ x. many-none s 0 x refl), one)
       | inr there ↦
-          let less = above size sizes later s there in
-          let none : size * many_of s m size ≡ size * 0 = ap (λ x. size * x) (many_other s m size (λ e. omega (arith, less, e))) in
-          let rest = slots_of-many size sizes later s m there in
-          omega (arith, none, rest)
+          let none : size * many_of s m size ≡ size * 0 = ap (λ x. size * x) (many_other s m size (λ e. omega (arith, above size sizes later s there, e))) in
+          omega (arith, none, slots_of-many size sizes later s m there)
     ]
 
 -- the slots of the lacking blocks, size by size

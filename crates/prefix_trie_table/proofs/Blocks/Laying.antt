@@ -1,5 +1,5 @@
 -- A list laid whole in a block that held none.
-use Rattle.prefix_trie_table.proofs.Prelude.{◌≡◌, ℕ, zero, suc, ◌+◌, ◌-◌, ◌<◌, ◌≤◌, true, List, [], ◌∷◌, ◌++◌, length, take, drop, replicate, Option, None, Some, take-append-drop, refl, sym, ap, ◌∙◌, subst, arith, Contains, smallest_size, packed_slots, goes_up, length-replicate, drop-replicate, replicate-append-replicate, BlockRef, run, put_run, Store, Tier, UsedBlock, Sound, Turnover, block, filled, tier_at, tier_sizes, free_in, many_of, none_of, NoneFree, LaysList}
+use Rattle.prefix_trie_table.proofs.Prelude.{◌≡◌, ℕ, zero, suc, ◌+◌, ◌-◌, ◌<◌, ◌≤◌, true, List, [], ◌∷◌, ◌++◌, length, take, drop, replicate, None, Some, take-append-drop, refl, sym, ap, ◌∙◌, subst, arith, Contains, smallest_size, packed_slots, goes_up, length-replicate, drop-replicate, replicate-append-replicate, BlockRef, run, put_run, Store, Tier, UsedBlock, Sound, Turnover, block, filled, tier_at, tier_sizes, free_in, many_of, none_of, NoneFree, LaysList}
 use Rattle.prefix_trie_table.proofs.Blocks.BySize.{size_at, smallest_holds, many-le, slots_of-le, slots_of-none, slots_of-many}
 use Rattle.prefix_trie_table.proofs.Blocks.RunLemmas.{length-put_run, get_or-put_run_out, put_run_part, put_run_self}
 use Rattle.prefix_trie_table.proofs.Blocks.Soundness.{Sound-written, block_inside, block_slots}
@@ -42,20 +42,14 @@ module _ {S : Type 0} (vacant : S) where
   module _ (v u w : Store S) (size : ℕ) (made : Turnover v u (many_of size (1 - free_in v.tiers size)) None None) (took : Turnover u w none_of None (Some size)) where
     pub laid_none_free : NoneFree v → NoneFree w
     laid_none_free none n =
-        let one = made.free_is n in
-        let two = took.free_is n in
         let all : many_of size (1 - free_in v.tiers size) n ≡ many_of size 1 n = ap (λ f. many_of size (1 - f) n) (none size) in
-        omega (arith, one, two, all, none n)
+        omega (arith, made.free_is n, took.free_is n, all, none n)
 
     -- at most a block is made
     pub laid_longer : goes_up 0 (tier_sizes v.tiers) ≡ true → Contains (tier_sizes v.tiers) size → length w.slots ≤ length v.slots + size
     laid_longer up among =
-        let a = made.longer in
-        let b = took.longer in
-        let none = slots_of-none (tier_sizes u.tiers) none_of (λ n. refl) in
         let less = slots_of-le (tier_sizes v.tiers) (many_of size (1 - free_in v.tiers size)) (many_of size 1) (λ n. many-le size (1 - free_in v.tiers size) 1 n (omega arith)) in
-        let one = slots_of-many 0 (tier_sizes v.tiers) up size 1 among in
-        omega (arith, a, b, none, less, one)
+        omega (arith, made.longer, took.longer, slots_of-none (tier_sizes u.tiers) none_of (λ n. refl), less, slots_of-many 0 (tier_sizes v.tiers) up size 1 among)
 
   -- items written where so many vacant ones were laid
   module _ (v u : Store S) (at : BlockRef) (live : List (UsedBlock S)) (s : Sound vacant live v) where
@@ -78,8 +72,7 @@ module _ {S : Type 0} (vacant : S) where
     run_inside (x ∷ xs) laid =
         let some : 0 < length (x ∷ xs) = omega arith in
         let b = block_inside vacant _ _ u (block_laid (x ∷ xs) some laid live s) in
-        let few = few_laid (x ∷ xs) some laid in
-        (let i = b.before in omega (arith, i, few))
+        (let i = b.before in omega (arith, i, few_laid (x ∷ xs) some laid))
 
     pub items_laid : (items : List S) → LaysList vacant v u (replicate (length items) vacant) at →
         LaysList vacant v (record u { slots = put_run u.slots at.start items }) items at
@@ -89,7 +82,6 @@ module _ {S : Type 0} (vacant : S) where
         whole ys a = ap (λ n. take a ys ++ drop n ys) (let e : a + 0 ≡ a = omega arith in e) ∙ take-append-drop a ys
     items_laid (x ∷ xs) laid =
         let some : 0 < length (x ∷ xs) = omega arith in
-        let few = few_laid (x ∷ xs) some laid in
         let l = length-replicate (length (x ∷ xs)) vacant in
         let inside = run_inside (x ∷ xs) laid in
         let behind = (block_inside vacant _ _ u (block_laid (x ∷ xs) some laid live s)).after in
@@ -98,7 +90,7 @@ module _ {S : Type 0} (vacant : S) where
           size = λ h. ap (smallest_size (tier_sizes v.tiers)) (sym l) ∙ laid.size (omega (arith, l, h));
           none = λ z. absurd (omega (arith, z, some));
           sound = λ live2 s2.
-              Sound-laid at.tier at.start (tier_at v.tiers at.tier).size (x ∷ xs) live2 u few (block_laid (x ∷ xs) some laid live2 s2);
+              Sound-laid at.tier at.start (tier_at v.tiers at.tier).size (x ∷ xs) live2 u (few_laid (x ∷ xs) some laid) (block_laid (x ∷ xs) some laid live2 s2);
           keeps =
               Keeps-then v u (record u { slots = put_run u.slots at.start (x ∷ xs) }) laid.keeps
               (Turnover-written u (record u { slots = put_run u.slots at.start (x ∷ xs) }) (put_run u.slots at.start (x ∷ xs)) refl
@@ -108,12 +100,9 @@ module _ {S : Type 0} (vacant : S) where
         }
 
 -- the smallest block for so many items has their slots
+pub slots_found : (sizes : List ℕ) (n size : ℕ) → smallest_size sizes (suc n) ≡ Some size → packed_slots sizes (suc n) ≡ size
+slots_found sizes n size e = ap (λ o. elim o as (λ _. ℕ) [ None ↦ 0 | Some m ↦ m ]) e
+
 pub packed_size : (ts : List Tier) (count size : ℕ) → smallest_size (tier_sizes ts) count ≡ Some size → 0 < count → packed_slots (tier_sizes ts) count ≡ size
 packed_size ts zero size found some = absurd (omega (arith, some))
-packed_size ts (suc n) size found some = ap slots_in found
-  where
-    slots_in : Option ℕ → ℕ
-    slots_in o = elim o as (λ _. ℕ) [
-      | None ↦ 0
-      | Some size ↦ size
-    ]
+packed_size ts (suc n) size found some = slots_found (tier_sizes ts) n size found

@@ -57,11 +57,8 @@ module _ (ts : List Tier) (k count : ℕ) (some : 0 < count) where
     | inr low ↦ low
     | inl high ↦ absurd (
         let r = smallest_there ts (count - 1) k has inside (omega (arith, fits)) in
-        let is = same_Some (size_in (tier_sizes ts) to) r.size (sym found ∙ r.found) in
-        let l = tiers_long ts (tier_sizes ts) refl in
-        let up = sizes_rise 0 (tier_sizes ts) (sizes_up ts has) k to high (omega (arith, l, within)) in
-        let least = r.least in
-        omega (arith, is, up, least))
+        let up = sizes_rise 0 (tier_sizes ts) (sizes_up ts has) k to high (omega (arith, tiers_long ts (tier_sizes ts) refl, within)) in
+        omega (arith, same_Some (size_in (tier_sizes ts) to) r.size (sym found ∙ r.found), up, r.least))
   ]
 
 -- ---- the list afterwards

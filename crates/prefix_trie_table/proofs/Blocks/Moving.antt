@@ -78,8 +78,7 @@ module _ {S : Type 0} (vacant : S) (a b : UsedBlock S) (live : List (UsedBlock S
   moved_turned w e =
       let s = Sound-exchanged vacant b a live v sound in
       let apart = All-head (Disjoint (extent a)) (extent b) (map extent live ++ free_extents v.tiers) (others vacant a (b ∷ live) v s) in
-      let fits = fits_block vacant a (b ∷ live) v s in
       Turnover-written v w (swap_runs v.slots a.start b.start count) e (length-swap_runs v.slots a.start b.start count)
       (λ i d h. (exchanged v.slots a.start b.start count d runs_within.0 runs_within.1
-      (λ q. let p = apart (omega (arith, q, fits, is_count)) in omega (arith, p, room))).elsewhere i
+      (λ q. let p = apart (omega (arith, q, fits_block vacant a (b ∷ live) v s, is_count)) in omega (arith, p, room))).elsewhere i
       (λ _. omega (arith, h, (block_inside vacant a (b ∷ live) v s).after)) (λ _. omega (arith, h, (block_inside vacant b (a ∷ live) v sound).after)))

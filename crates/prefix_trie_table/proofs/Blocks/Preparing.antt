@@ -6,9 +6,8 @@ use Rattle.prefix_trie_table.proofs.Blocks.Turnovers.{Turnover-same, Turnover-as
 how_many-ones : (n size : ℕ) → how_many size (replicate n 1) ≡ many_of 1 n size
 how_many-ones zero size = sym (many-none 1 0 size refl)
 how_many-ones (suc n) size =
-    let a = many-add 1 1 n size in
     let e : many_of 1 (1 + n) size ≡ many_of 1 (suc n) size = ap (λ k. many_of 1 k size) (let f : 1 + n ≡ suc n = omega arith in f) in
-    omega (arith, how_many-more size 1 (replicate n 1), how_many-ones n size, a, e)
+    omega (arith, how_many-more size 1 (replicate n 1), how_many-ones n size, many-add 1 1 n size, e)
 
 -- how many of what a list needs, and so many others, have a size
 pub how_many-needs : (o : Option ℕ) (lists size : ℕ) → how_many size (needs o lists) ≡ one_of o size + many_of 1 lists size
@@ -90,12 +89,9 @@ module _ {S : Type 0} where
         let most = slots_of-le (tier_sizes v.tiers) (λ size. sum size + many_of s 1 size) (lacking_in v needed) few in
         let parts = slots_of-add (tier_sizes v.tiers) sum (many_of s 1) in
         let one = slots_of-many 0 (tier_sizes v.tiers) up s 1 among in
-        let some = above 0 (tier_sizes v.tiers) up s among in
-        let limit = turned.keeps.limit_is in
-        let long = turned.longer in
         record {
           made = (sum, λ size. (let f = few size in omega (arith, f)), turned);
-          range = λ is. (let h = range.0 is in omega (arith, h, slots, most, parts, one, limit, long));
+          range = λ is. (let h = range.0 is in omega (arith, h, slots, most, parts, one, turned.keeps.limit_is, turned.longer));
           memory = λ is. (
             s,
             (let f = few s in let h = many_here s 1 in let free = turned.free_is s in omega (arith, f, h, free)),
@@ -104,7 +100,7 @@ module _ {S : Type 0} where
               | inr room ↦ room
             ],
           );
-          lacks = omega (arith, slots, most, parts, one, some);
+          lacks = omega (arith, slots, most, parts, one, above 0 (tier_sizes v.tiers) up s among);
         }
       where
         other : (e : Refusal) → e ≡ Memory → e ≡ IndexRange → ⊥

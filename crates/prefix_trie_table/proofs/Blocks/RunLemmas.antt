@@ -1,6 +1,6 @@
 -- A write to one run of a list leaves each run that is apart from it.
 use Rattle.prefix_trie_table.proofs.Prelude.{set, ◌≡◌, ◌≢◌, ℕ, zero, suc, ◌+◌, ◌-◌, ◌<◌, ◌≤◌, ◌⊎◌, inl, inr, ⊎_elim, List, ◌++◌, length, get_or, take, drop, insert, remove, swap, refl, sym, ap, ◌∙◌, subst, arith, append_assoc, length-append, length-take, length-drop, take-append-drop, drop-drop, replicate, take_at, drop_at, take-append-le, drop-append-le, set-append_left, set-append_right, drop-set-lt, get_or-take, get_or-drop, ext_get_or, length-replicate, get_or-set_other, insert-append_left, insert-append_right, remove-append_left, remove-append_right, length-insert, length-remove, length-swap, Swapped, swapped_from_swap, get_or-insert_below, get_or-insert_at, get_or-insert_above, cases_lt, cases_eq, drop-append-drop, run, put_run, swap_runs}
-use Rattle.std.proofs.lemmas.List.{length-take-le, length-set, take_all, get_or-set_same}
+use Rattle.std.proofs.lemmas.List.{get_or-replicate, length-take-le, length-set, take_all, get_or-set_same}
 
 -- the m places from a on and the n from b on have none in common
 abbrev pub Apart : ℕ → ℕ → ℕ → ℕ → Type 0
@@ -159,11 +159,6 @@ module _ {X : Type 0} where
 
 -- ---- the items of a run that are moved to an unused run, with one put among them: first those before it, then those behind it
 
-all_vacant : {X : Type 0} (x : X) (n j : ℕ) → get_or (replicate n x) j x ≡ x
-all_vacant x zero j = refl
-all_vacant x (suc n) zero = refl
-all_vacant x (suc n) (suc j) = all_vacant x n j
-
 module _ {X : Type 0} (vacant x : X) (xs : List X) (a b n i : ℕ) (from_within : a + n ≤ length xs) (to_within : b + n < length xs)
     (apart : b < a + n → b + n < a) (place : i ≤ n) (empty : run xs b (n + 1) ≡ replicate (n + 1) vacant) where
   -- what is left at last
@@ -171,7 +166,7 @@ module _ {X : Type 0} (vacant x : X) (xs : List X) (a b n i : ℕ) (from_within 
   both_parts = swap_runs (set (swap_runs xs a b i) (b + i) x) (a + i) (b + i + 1) (n - i)
 
   none : (j : ℕ) → j ≤ n → get_or xs (b + j) vacant ≡ vacant
-  none j h = sym (get_or-run xs b (n + 1) j vacant (omega arith)) ∙ ap (λ zs. get_or zs j vacant) empty ∙ all_vacant vacant (n + 1) j
+  none j h = sym (get_or-run xs b (n + 1) j vacant (omega arith)) ∙ ap (λ zs. get_or zs j vacant) empty ∙ get_or-replicate (n + 1) j vacant vacant (omega arith)
 
   item : (j : ℕ) → j < n → get_or xs (a + j) vacant ≡ get_or (run xs a n) j vacant
   item j h = sym (get_or-run xs a n j vacant h)
@@ -238,7 +233,7 @@ module _ {X : Type 0} (vacant x : X) (xs : List X) (a b n i : ℕ) (from_within 
       let out_b : (k : ℕ) → (k < b + (n + 1) → k < b) → get_or (put_run ys b (insert (run xs a n) i x)) k vacant ≡ get_or ys k vacant = λ k o. get_or-put_run_out ys b (insert (run xs a n) i x) k vacant (omega (arith, to_within)) (λ h. o (omega arith)) in
       same_zones both_parts (put_run ys b (insert (run xs a n) i x)) vacant a n b (n + 1)
       (length-swap_runs (set (swap_runs xs a b i) (b + i) x) (a + i) (b + i + 1) (n - i) ∙ long_item ∙ sym (length-put_run ys b (insert (run xs a n) i x) (omega (arith, to_within)) ∙ ni))
-      (λ j q. left j q ∙ sym (out_b (a + j) (λ h. grind (arith, apart)) ∙ get_or-put_run_in xs a (replicate n vacant) j vacant (omega (arith, from_within)) (omega arith) ∙ all_vacant vacant n j))
+      (λ j q. left j q ∙ sym (out_b (a + j) (λ h. grind (arith, apart)) ∙ get_or-put_run_in xs a (replicate n vacant) j vacant (omega (arith, from_within)) (omega arith) ∙ get_or-replicate n j vacant vacant q))
       (λ j q. moved j q ∙ sym (get_or-put_run_in ys b (insert (run xs a n) i x) j vacant (omega (arith, to_within)) (omega arith)))
       (λ m oa ob. two.elsewhere m (λ h. grind (arith, place)) (λ h. grind (arith, place)) ∙ wrote m (λ e. grind (arith, place)) ∙ one.elsewhere m (λ h. grind (arith, place)) (λ h. grind (arith, place))
       ∙ sym (out_b m ob ∙ get_or-put_run_out xs a (replicate n vacant) m vacant (omega (arith, from_within)) (λ h. oa (omega arith))))

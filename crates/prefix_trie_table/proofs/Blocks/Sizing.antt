@@ -123,19 +123,13 @@ same_layout nodes later ts ts2 us us2 x y same tiers cells =
 root_sizes : (size : Option Node → Option ℕ) → size (root_reading []) ≡ None → sizes_at (λ p. size (root_reading p)) ([] ∷ []) ≡ empty
 root_sizes size none = ap (λ o. with_size empty [] o) none
 
-root_none : child_block_size (root_reading []) ≡ None
-root_none = ap child_block_size root_here ∙ ap (λ n. size_if_any n (size_in node_sizes 0)) rank-zero-all
-
-root_none_value : value_block_size (root_reading []) ≡ None
-root_none_value = ap value_block_size root_here ∙ ap (λ n. size_if_any n (size_in cell_sizes 0)) rank-zero-all
-
 -- nor has a table with it alone, and no block is made
 pub root_layout : {T : Type 0} (v : Store Node) (w : Store (Option T)) → Holds root_reading no_values ([] ∷ []) v w → v.tiers ≡ map no_blocks node_sizes →
     w.tiers ≡ map no_blocks cell_sizes → (x : Sized v.slots) → layout_of v.slots v.tiers w.tiers x ≡ no_layout
 root_layout v w holds tiers cell_tiers x =
     let only = sizes_only node_sizes root_reading ([] ∷ []) v holds.hold x in
-    let children : x.0 ≡ empty = only.0 ∙ root_sizes child_block_size root_none in
-    let values : x.1.0 ≡ empty = only.1 ∙ root_sizes value_block_size root_none_value in
+    let children : x.0 ≡ empty = only.0 ∙ root_sizes child_block_size (ap child_block_size root_here ∙ ap (λ n. size_if_any n (size_in node_sizes 0)) rank-zero-all) in
+    let values : x.1.0 ≡ empty = only.1 ∙ root_sizes value_block_size (ap value_block_size root_here ∙ ap (λ n. size_if_any n (size_in cell_sizes 0)) rank-zero-all) in
     λ i. record {
       child_blocks = children i;
       value_blocks = values i;

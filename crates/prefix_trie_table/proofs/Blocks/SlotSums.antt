@@ -29,10 +29,9 @@ module _ {S : Type 0} (f : S → ℕ) where
   tiled : (slots : List S) (sizes : List ℕ) (first : ℕ) (es : List Extent) → Tiles sizes first es (length slots) → sum_by f (drop first slots) ≡ sum_by (extent_sum slots) es
   tiled slots sizes first [] t = ap (sum_by f) (drop_all first slots (omega (arith, t)))
   tiled slots sizes first (e ∷ es) t =
-      let rest : sum_by f (drop (first + e.size) slots) ≡ sum_by (extent_sum slots) es = tiled slots sizes (first + e.size) es t.2 in
       let here : sum_by f (take e.size (drop first slots)) ≡ extent_sum slots e = ap (λ a. sum_by f (run slots a e.size)) (sym t.1) in
       let later : sum_by f (drop e.size (drop first slots)) ≡ sum_by f (drop (first + e.size) slots) = ap (sum_by f) (drop-drop e.size first slots) in
-      omega (arith, sum_by-cons (extent_sum slots) e es, rest, here, later, sum_by-take-drop f (drop first slots) e.size)
+      omega (arith, sum_by-cons (extent_sum slots) e es, tiled slots sizes (first + e.size) es t.2, here, later, sum_by-take-drop f (drop first slots) e.size)
 
   module _ (vacant : S) (none : f vacant ≡ 0) where
     vacant_sum : (n : ℕ) → sum_by f (replicate n vacant) ≡ 0

@@ -202,10 +202,9 @@ module _ {S : Type 0} where
 pub made_fits : (ts : List Tier) (k : ℕ) (old new : Tier) (starts : List ℕ) (first len : ℕ) → k < length ts → old ≡ get_or ts k old → new ≡ record { size = old.size; made = old.made + 1; starts = starts } → first + slots_made ts ≡ len → first + slots_made (set ts k new) ≡ len + old.size
 made_fits ts k old new starts first len inside read new_is total =
     let f : Tier → ℕ = λ t. t.size * t.made in
-    let changed : sum_by f (set ts k new) + f (get_or ts k old) ≡ sum_by f ts + f new = sum_by-set f ts k new old inside in
     let had : f (get_or ts k old) ≡ old.size * old.made = ap f (sym read) in
     let has : f new ≡ old.size * (old.made + 1) = ap f new_is in
-    omega (arith, changed, had, has)
+    omega (arith, sum_by-set f ts k new old inside, had, has)
 
 module _ {S : Type 0} where
   -- `Sound-grown`, as the calls say what they wrote

@@ -1,5 +1,5 @@
 -- The sizes of the two arrays: kept where a tier changes otherwise, and in one table by count.
-use Rattle.prefix_trie_table.proofs.Prelude.{◌≡◌, ℕ, zero, suc, ◌+◌, ◌*◌, ◌<◌, ◌≤◌, inl, inr, ⊎_elim, Bool, true, ◌&&◌, nat_lt, List, [], ◌∷◌, length, Option, None, Some, IsSome, get_or, set, map, sum_by, nat_eq, eqb-true, ltb-true, refl, sym, ap, ◌∙◌, subst, arith, length-map, get_or_default, sum_by-set, get_or-le-sum_by, and_parts, smallest_size, at_below, Tier, tier_at, tier_sizes, size_in, slots_made, no_blocks, cell_sizes, node_sizes, HasSizes, TIERS}
+use Rattle.prefix_trie_table.proofs.Prelude.{◌≡◌, ℕ, zero, suc, ◌+◌, ◌*◌, ◌<◌, ◌≤◌, inl, inr, ⊎_elim, Bool, true, ◌&&◌, nat_lt, List, [], ◌∷◌, length, Option, None, Some, IsSome, get_or, set, map, nat_eq, eqb-true, ltb-true, refl, sym, ap, ◌∙◌, subst, arith, length-map, get_or_default, sum_by-set, get_or-le-sum_by, and_parts, smallest_size, at_below, Tier, tier_at, tier_sizes, size_in, slots_made, no_blocks, cell_sizes, node_sizes, HasSizes, TIERS}
 use Rattle.prefix_trie_bits.proofs.Checks.{below}
 use Rattle.prefix_trie_table.proofs.Blocks.SevenTiers.{at_seven}
 use Rattle.prefix_trie_table.proofs.Blocks.BySize.{size_at, sizes_set, tiers_long, smallest_holds}
@@ -14,10 +14,9 @@ pub tier_turned : (ts : List Tier) (k first len : ℕ) (t old : Tier) → k < le
     first + slots_made ts ≡ len → HasSizes ts → (first + slots_made (set ts k t) ≡ len) × HasSizes (set ts k t)
 tier_turned ts k first len t old inside read size made total has =
     let f : Tier → ℕ = λ u. u.size * u.made in
-    let changed : sum_by f (set ts k t) + f (get_or ts k old) ≡ sum_by f ts + f t = sum_by-set f ts k t old inside in
     let same : f t ≡ f (get_or ts k old) = ap (λ n. n * t.made) size ∙ ap (λ n. old.size * n) made ∙ ap f read in
     let at_k : tier_at ts k ≡ old = get_or_default ts k _ old inside ∙ sym read in
-    (omega (arith, changed, same, total), sizes_kept ts k t has (size ∙ ap (λ (u : Tier). u.size) (sym at_k)))
+    (omega (arith, sum_by-set f ts k t old inside, same, total), sizes_kept ts k t has (size ∙ ap (λ (u : Tier). u.size) (sym at_k)))
 
 -- no block of any of them
 pub none_sizes : (ts : List Tier) → tier_sizes (map (λ t. no_blocks t.size) ts) ≡ tier_sizes ts

@@ -155,10 +155,8 @@ module _ {S : Type 0} where
   pub free_entered : (v w : Store S) (need own after : Option ℕ) → after ≡ option_or need own → Turnover v w none_of own after → (size : ℕ) →
       free_in v.tiers size ≤ free_in w.tiers size + one_of need size
   free_entered v w need own after e t size =
-      let f = t.free_is size in
       let o : one_of after size ≡ one_of (option_or need own) size = ap (λ x. one_of x size) e in
-      let more = either need own in
-      omega (arith, f, o, more)
+      omega (arith, t.free_is size, o, either need own)
     where
       either : (need own : Option ℕ) → one_of (option_or need own) size ≤ one_of need size + one_of own size
       either None own = omega arith

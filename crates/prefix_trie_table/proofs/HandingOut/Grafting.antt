@@ -1,5 +1,6 @@
 -- A subtree that hangs from nothing yet is hung below a node, with its blocks.
-use Rattle.prefix_trie_table.proofs.Prelude.{◌≡◌, ◌≢◌, ℕ, ◌+◌, ◌<◌, inl, inr, true, false, cond, nat_eq, List, [], ◌∷◌, ◌++◌, length, map, flat_map, Option, None, Some, is_some, refl, sym, ap, ap₂, ◌∙◌, arith, cases_Bool, Node, has_bit, node_sizes, cell_sizes, same_path, one_if, times, has_child, node_or_blank, child_blocks_of, child_blocks, value_blocks_of, value_blocks, Hangs, no_value, UsedBlock, held, size_in}
+use Rattle.prefix_trie_table.proofs.Prelude.{◌≡◌, ◌≢◌, ℕ, ◌+◌, ◌<◌, inl, inr, true, false, cond, nat_eq, List, [], ◌∷◌, ◌++◌, length, map, flat_map, Option, None, Some, is_some, refl, sym, ap, ap₂, ◌∙◌, arith, Node, has_bit, node_sizes, cell_sizes, same_path, one_if, times, has_child, node_or_blank, child_blocks_of, child_blocks, value_blocks_of, value_blocks, Hangs, no_value, UsedBlock, held, size_in}
+use Rattle.prefix_trie_table.proofs.Strings.PathStrings.{from-one}
 use Rattle.prefix_trie_table.proofs.Strings.BitLists.{map_same}
 use Rattle.prefix_trie_table.proofs.Strings.Paths.{same_path-itself, same_path-equal, same_path-not, snoc_ind, flat_map_same}
 use Rattle.prefix_trie_table.proofs.Strings.PathLists.{times-append}
@@ -33,15 +34,13 @@ pub times-front_other : (c d : ℕ) (p : List ℕ) (paths : List (List ℕ)) →
 times-front_other c d p [] ne = refl
 times-front_other c d p (x ∷ paths) ne =
     let first : one_if (same_path (d ∷ p) (c ∷ x)) ≡ 0 = ap one_if (same_path-not (d ∷ p) (c ∷ x) (λ e. ne (ap (head-of 0) e))) in
-    let rest = times-front_other c d p paths ne in
-    omega (arith, first, rest)
+    omega (arith, first, times-front_other c d p paths ne)
 
 pub times-front_nil : (c : ℕ) (paths : List (List ℕ)) → times [] (map (λ q. c ∷ q) paths) ≡ 0
 times-front_nil c [] = refl
 times-front_nil c (x ∷ paths) =
     let first : one_if (same_path [] (c ∷ x)) ≡ 0 = ap one_if (same_path-not [] (c ∷ x) (λ e. not_nil c x (sym e))) in
-    let rest = times-front_nil c paths in
-    omega (arith, first, rest)
+    omega (arith, first, times-front_nil c paths)
 
 -- ---- the subtree twig, hung as the child c
 
@@ -73,9 +72,7 @@ module _ (n m top : Node) (c : ℕ) (sub twig : List ℕ → Option Node) (rest 
   listed [] =
       let own : one_if (same_path [] []) ≡ 1 = ap one_if (same_path-itself []) in
       let was : one_if (same_path [] []) + times [] rest ≡ 1 = h.listed [] ∙ ap (λ o. one_if (is_some o)) h.top in
-      let both = times-append [] (map (λ p. c ∷ p) paths) rest in
-      let none = times-front_nil c paths in
-      omega (arith, own, was, both, none)
+      omega (arith, own, was, times-append [] (map (λ p. c ∷ p) paths) rest, times-front_nil c paths)
   listed (d ∷ p) =
       let away : one_if (same_path (d ∷ p) []) ≡ 0 = ap one_if (same_path-not (d ∷ p) [] (not_nil d p)) in
       let was = h.listed (d ∷ p) in
@@ -84,13 +81,11 @@ module _ (n m top : Node) (c : ℕ) (sub twig : List ℕ → Option Node) (rest 
         | inl same ↦
             let none : one_if (is_some (sub (d ∷ p))) ≡ 0 = ap (λ i. one_if (is_some (sub (i ∷ p)))) same ∙ ap (λ o. one_if (is_some o)) (gone p) in
             let there : times (d ∷ p) (map (λ x. c ∷ x) paths) ≡ times p paths = ap (λ i. times (i ∷ p) (map (λ x. c ∷ x) paths)) same ∙ times-front c p paths in
-            let is = k.listed p in
             let now : one_if (is_some (grafted m c twig sub (d ∷ p))) ≡ one_if (is_some (twig p)) = ap (λ o. one_if (is_some o)) (graft_here m c sub twig d p same) in
-            omega (arith, away, was, both, none, there, is, now)
+            omega (arith, away, was, both, none, there, k.listed p, now)
         | inr ne ↦
-            let none = times-front_other c d p paths ne in
             let now : one_if (is_some (grafted m c twig sub (d ∷ p))) ≡ one_if (is_some (sub (d ∷ p))) = ap (λ o. one_if (is_some o)) (graft_other m c sub twig d p ne) in
-            omega (arith, away, was, both, none, now)
+            omega (arith, away, was, both, times-front_other c d p paths ne, now)
       ]
 
   pub graft_hangs : Hangs m (grafted m c twig sub) ([] ∷ (map (λ p. c ∷ p) paths ++ rest))
@@ -140,13 +135,7 @@ module _ (n : Node) (sub : List ℕ → Option Node) (rest : List (List ℕ)) (h
       omega (arith, own, was)
 
   stands_there : (c : ℕ) (p : List ℕ) → 0 < times (c ∷ p) rest → is_some (sub (c ∷ p)) ≡ true
-  stands_there c p there = elim (cases_Bool (is_some (sub (c ∷ p)))) as (λ _. is_some (sub (c ∷ p)) ≡ true) [
-    | inl here ↦ here
-    | inr lacks ↦
-        let was = h.listed (c ∷ p) in
-        let none : one_if (is_some (sub (c ∷ p))) ≡ 0 = ap one_if lacks in
-        absurd (omega (arith, was, none, there))
-  ]
+  stands_there c p there = from-one (is_some (sub (c ∷ p))) (times (c ∷ p) ([] ∷ rest)) (h.listed (c ∷ p)) (omega (arith, there))
 
   -- what is the same at each path behind the first
   pub rest_same : {Y : Type 0} (f g : List ℕ → List Y) → ((c : ℕ) (p : List ℕ) → is_some (sub (c ∷ p)) ≡ true → g (c ∷ p) ≡ f (c ∷ p)) →
@@ -177,6 +166,5 @@ module _ (n : Node) (sub : List ℕ → Option Node) (rest : List (List ℕ)) (h
       none : (q : List ℕ) → times q rest ≡ 0
       none [] = not_first
       none (c ∷ p) =
-          let was = h.listed (c ∷ p) in
           let gone : one_if (is_some (sub (c ∷ p))) ≡ 0 = ap (λ o. one_if (is_some o)) (none_below c (bare c) p) in
-          omega (arith, was, gone)
+          omega (arith, h.listed (c ∷ p), gone)

@@ -1,7 +1,8 @@
 -- What a bit string begins of a node and below each of its children, by masks.
-use Rattle.prefix_trie_table.proofs.Prelude.{lit<, ◌≡◌, ℕ, ◌+◌, ◌-◌, ◌^◌, ◌<◌, ◌≤◌, inl, inr, Bool, true, false, ◌&&◌, List, [], ◌∷◌, ◌++◌, length, take, drop, take_all, length-drop, Some, refl, sym, ap, ap₂, ◌∙◌, subst, arith, bit_and, nat_lt, cases_Bool, cases_lt, le-ltb, drop-take, take-take, begins-refl, begins-longer, begins-same-length, begins, number, same_bit, same-from-number, number-lt, HoldsValues, HoldsChildren, Sets, has, value_bit, has-and, and-first, and-second, value_bit-small, Node, has_bit, node_at, path_of, bit_of, child_slot, child, read_from, has_value, in_part, in_child}
+use Rattle.prefix_trie_table.proofs.Prelude.{lit<, ◌≡◌, ℕ, ◌+◌, ◌-◌, ◌<◌, ◌≤◌, inl, inr, Bool, true, false, ◌&&◌, List, [], ◌∷◌, ◌++◌, length, take, drop, take_all, length-drop, Some, refl, sym, ap, ap₂, ◌∙◌, subst, arith, bit_and, nat_lt, cases_Bool, cases_lt, le-ltb, drop-take, take-take, begins-refl, begins-longer, begins-same-length, begins, number, same_bit, same-from-number, HoldsValues, HoldsChildren, Sets, has, value_bit, has-and, and-first, and-second, value_bit-small, Node, has_bit, node_at, path_of, bit_of, child_slot, child, read_from, has_value, in_part, in_child}
+use Rattle.std.proofs.Math.Bool.{and_comm, and_assoc, and-false}
 use Rattle.std.proofs.lemmas.List.{length-take-le}
-use Rattle.prefix_trie_table.proofs.HandingOut.Sources.{read_nothing}
+use Rattle.prefix_trie_table.proofs.Tree.Subtrees.{number-small, read_from-none}
 use Rattle.prefix_trie_table.proofs.Strings.Bits.{has_bit-is, has_bit-past, has_bit-zero}
 use Rattle.prefix_trie_table.proofs.Strings.Plain.{no_or_yes}
 use Rattle.prefix_trie_table.proofs.Tree.Children.{number_or}
@@ -32,37 +33,20 @@ own_values n t mask holds s few =
     let small : value_bit s < 32 = (let h = value_bit-small s few in omega (arith, h)) in
     has_bit-and n.value_bitmap mask (value_bit s)
     ∙ ap (λ x. has_bit n.value_bitmap (value_bit s) && x) (has_bit-is mask (value_bit s) small ∙ holds.bits s few)
-    ∙ swapped (has_bit n.value_bitmap (value_bit s)) (begins t s)
-  where
-    swapped : (a b : Bool) → (a && b) ≡ (b && a)
-    swapped true true = refl
-    swapped true false = refl
-    swapped false true = refl
-    swapped false false = refl
+    ∙ and_comm (has_bit n.value_bitmap (value_bit s)) (begins t s)
 
 -- ---- its children
-
-both : (a b c : Bool) → (a && (b && c)) ≡ ((a && b) && c)
-both true b c = refl
-both false b c = refl
-
-and_false : (a : Bool) → (a && false) ≡ false
-and_false true = refl
-and_false false = refl
 
 begins_split : (t u s : List Bool) → begins t (u ++ s) ≡ (begins (take (length u) t) u && begins (drop (length u) t) s)
 unfolding begins
 begins_split t [] s = refl
 begins_split [] (a ∷ u) s = refl
-begins_split (x ∷ t) (a ∷ u) s = ap (λ b. same_bit x a && b) (begins_split t u s) ∙ both (same_bit x a) (begins (take (length u) t) u) (begins (drop (length u) t) s)
-
-small_five : (u : List Bool) → length u ≡ 5 → number u < 32
-small_five u long = subst (λ k. number u < 2 ^ k) long (number-lt u)
+begins_split (x ∷ t) (a ∷ u) s = ap (λ b. same_bit x a && b) (begins_split t u s) ∙ sym (and_assoc (same_bit x a) (begins (take (length u) t) u) (begins (drop (length u) t) s))
 
 module _ (array : List Node) (n : Node) (t : List Bool) (mask : ℕ) (holds : HoldsChildren mask (begins (take 5 t))) (c : ℕ) (u s : List Bool)
     (long : length u ≡ 5) (is_child : number u ≡ c) where
   marked : begins (take 5 t) u ≡ has_bit mask c
-  marked = sym (ap (has_bit mask) (sym is_child) ∙ has_bit-is mask (number u) (small_five u long) ∙ holds u long)
+  marked = sym (ap (has_bit mask) (sym is_child) ∙ has_bit-is mask (number u) (number-small u long) ∙ holds u long)
 
   split : begins t (u ++ s) ≡ (has_bit mask c && begins (drop 5 t) s)
   split =
@@ -77,7 +61,7 @@ module _ (array : List Node) (n : Node) (t : List Bool) (mask : ℕ) (holds : Ho
         ap (λ x. x && has_value (read_from array (Some n) (number u ∷ path_of s)) (bit_of s)) (split ∙ ap (λ x. x && begins (drop 5 t) s) off)
     | inr missing ↦
         ap (λ o. begins t (u ++ s) && has_value (read_from array o (path_of s)) (bit_of s)) (ap (child array n) is_child ∙ child-missing array n c missing)
-        ∙ ap (λ o. begins t (u ++ s) && has_value o (bit_of s)) (read_nothing array (path_of s)) ∙ and_false (begins t (u ++ s))
+        ∙ ap (λ o. begins t (u ++ s) && has_value o (bit_of s)) (read_from-none array (path_of s)) ∙ and-false (begins t (u ++ s))
   ]
 
   -- what is below one that is not
@@ -110,7 +94,7 @@ masks_step t c mask long is sets u five = elim (number_or (number u) c) as (λ _
       let same : t ≡ u = same-from-number t u (long ∙ sym five) (sym is ∙ sym e) in
       ap (has mask) e ∙ sets.present ∙ sym (ap (begins t) (sym same) ∙ begins-refl t)
   | inr ne ↦
-      sets.others (number u) ne ∙ clear_has (number u) (small_five u five)
+      sets.others (number u) ne ∙ clear_has (number u) (number-small u five)
       ∙ sym (no_or_yes (begins t u) (λ b. ne (sym (ap number (begins-same-length t u b (long ∙ sym five))) ∙ sym is)))
 ]
 

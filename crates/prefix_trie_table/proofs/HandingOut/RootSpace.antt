@@ -1,11 +1,11 @@
 -- A second table never needs more slots than the first has.
-use Rattle.prefix_trie_table.proofs.Prelude.{◌≡◌, ℕ, zero, suc, ◌+◌, ◌≤◌, true, List, [], ◌∷◌, length, map, flat_map, sum_by, Option, None, Some, refl, sym, ap, ◌∙◌, arith, sum_by-le-sum_by, HasBlock, packed_slots, State, goes_up, smallest_of, Node, rank, bits, blank_node, node_at, node_sizes, cell_sizes, own_count, child_items, child_blocks, child_blocks_of, value_blocks, value_blocks_of, CanLay, child_slots, value_slots, slots_below, own_children, Store, UsedBlock, Sound, extent, free_extents, held, size_in, tier_sizes, size_if_any, IsTrie}
+use Rattle.prefix_trie_table.proofs.Prelude.{same_Some, ◌≡◌, ℕ, zero, suc, ◌+◌, ◌≤◌, true, List, [], ◌∷◌, length, map, flat_map, sum_by, Option, None, Some, refl, sym, ap, ◌∙◌, arith, sum_by-le-sum_by, HasBlock, packed_slots, State, goes_up, smallest_of, Node, rank, bits, blank_node, node_at, node_sizes, cell_sizes, own_count, child_items, child_blocks, child_blocks_of, value_blocks, value_blocks_of, CanLay, child_slots, value_slots, slots_below, own_children, Store, UsedBlock, Sound, extent, free_extents, held, size_in, tier_sizes, size_if_any, IsTrie}
 use Rattle.prefix_trie_table.specs.OwnBlocks.{child_block_size, value_block_size}
 use Rattle.prefix_trie_table.proofs.Blocks.Housed.{children_housed, values_housed}
 use Rattle.prefix_trie_table.proofs.Blocks.SlotSums.{sum_by-flat_map, sum_by-mapped}
 use Rattle.prefix_trie_table.proofs.Blocks.Tilings.{blocks_sum}
 use Rattle.prefix_trie_table.proofs.Counts.EntryCounts.{size_of_extent, tiling-sum}
-use Rattle.prefix_trie_table.proofs.HandingOut.Space.{slots_found}
+use Rattle.prefix_trie_table.proofs.Blocks.Laying.{slots_found}
 use Rattle.prefix_trie_table.proofs.HandingOut.WholeTree.{own_of, whole_tree}
 use Rattle.prefix_trie_table.proofs.Strings.BitLists.{rank-all}
 use Rattle.prefix_trie_table.proofs.Tree.Invariant.{some_table}
@@ -29,12 +29,7 @@ packed_within sizes up zero k start items e has = omega arith
 packed_within sizes up (suc n) k start [] e has = absurd (omega (arith, e))
 packed_within sizes up (suc n) k start (x ∷ items) e has =
     let least = smallest_of 0 sizes up (suc n) has.0 has.2 has.3 in
-    let size : has.0 ≡ size_in sizes k = some_size (size_in sizes k) has.0 has.1 in
-    let packed = slots_found sizes n least.size least.found in
-    let less = least.least in omega (arith, size, packed, less)
-  where
-    some_size : (a b : ℕ) → Some a ≡ Some b → b ≡ a
-    some_size a b same = cc
+    let less = least.least in omega (arith, same_Some (size_in sizes k) has.0 has.1, slots_found sizes n least.size least.found, less)
 
 module _ {T : Type 0} (width count : ℕ) (v : Store Node) (w : Store (Option T)) (s : State T) (trie : IsTrie width count v w s) where
   abbrev reading : List ℕ → Option Node

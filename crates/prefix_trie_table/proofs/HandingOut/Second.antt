@@ -22,9 +22,8 @@ module _ {T : Type 0} (width count : ℕ) (v : Store Node) (w : Store (Option T)
       shape_nodes trie.table.reading trie.table.values trie.table.paths v w (some_table trie.table).holds s trie.shaped (string_at q)
       ∙ both_true (is_node_depth (string_at q)) (is_some (trie.table.reading (path_of (string_at q)))) depth
       (ap (λ p. is_some (trie.table.reading p)) path ∙ there) in
-      let long = trie.nodes.within (string_at q) stands in
       let steps : length q ≡ length (string_at q) / 5 = ap length (sym path) ∙ path-length (string_at q) in
-      omega (arith, long, steps)
+      omega (arith, trie.nodes.within (string_at q) stands, steps)
 
   -- so it is a source
   pub root_source : (n : Node) → n ≡ node_at v.slots 0 → (levels : ℕ) → levels ≡ width / 5 → IsSource v n levels

@@ -1,11 +1,6 @@
 -- A node that is read, and its children.
-use Rattle.prefix_trie_table.proofs.Prelude.{◌≡◌, ℕ, ◌+◌, ◌<◌, true, List, [], ◌∷◌, ◌++◌, length, None, Some, is_some, refl, sym, ap, ◌∙◌, arith, append_assoc, append-nil, Node, has_bit, node_at, node_sizes, child_slot, read_from, has_child, has_value, IsSource, Store}
+use Rattle.prefix_trie_table.proofs.Prelude.{◌≡◌, ℕ, ◌+◌, ◌<◌, true, [], ◌∷◌, ◌++◌, length, Some, is_some, sym, ap, ◌∙◌, arith, append_assoc, append-nil, Node, has_bit, node_at, node_sizes, child_slot, has_child, has_value, IsSource, Store}
 use Rattle.prefix_trie_table.proofs.Tree.Trees.{child_stands, is_some-Some}
-
--- no step leads anywhere from nowhere
-pub read_nothing : (nodes : List Node) (p : List ℕ) → read_from nodes None p ≡ None
-read_nothing nodes [] = refl
-read_nothing nodes (c ∷ p) = read_nothing nodes p
 
 -- a child of a source
 module _ (v : Store Node) (n : Node) (levels : ℕ) (s : IsSource v n levels) (c : ℕ) (there : has_bit n.child_bitmap c ≡ true) where

@@ -1,7 +1,8 @@
 -- How many slots a node needs at most, with all below it.
-use Rattle.prefix_trie_table.proofs.Prelude.{◌≡◌, ◌≢◌, ℕ, zero, suc, ◌+◌, ◌-◌, ◌<◌, ◌≤◌, inl, inr, Bool, true, false, cond, List, [], ◌∷◌, length, None, Some, refl, sym, ap, ◌∙◌, subst, arith, cases_lt, false≢true, get_or_default, Memory, IndexRange, the_data, smallest_size, packed_slots, goes_up, smallest_of, Node, has_bit, rank, node_at, node_sizes, cell_sizes, child_slot, child_slots, value_slots, sum_to, slots_below, slots_at_child, Store, size_in, tier_sizes, BlockRef, LaysList}
+use Rattle.prefix_trie_table.proofs.Prelude.{◌≡◌, ◌≢◌, ℕ, zero, suc, ◌+◌, ◌-◌, ◌<◌, ◌≤◌, inl, inr, Bool, true, false, cond, List, [], ◌∷◌, length, refl, sym, ap, ◌∙◌, subst, arith, cases_lt, false≢true, get_or_default, Memory, IndexRange, the_data, packed_slots, goes_up, smallest_of, Node, has_bit, rank, node_at, node_sizes, cell_sizes, child_slot, child_slots, value_slots, sum_to, slots_below, slots_at_child, Store, size_in, tier_sizes, BlockRef, LaysList}
 use Rattle.std.specs.List.{Contains}
 use Rattle.prefix_trie_table.proofs.Blocks.BySize.{tiers_long}
+use Rattle.prefix_trie_table.proofs.Blocks.Laying.{slots_found}
 use Rattle.prefix_trie_table.proofs.Strings.BitLists.{rank-lacks, rank-le, rank-more, rank-zero}
 use Rattle.prefix_trie_table.proofs.Strings.Plain.{no_or_yes}
 
@@ -73,19 +74,13 @@ rank_fewer a b (suc n) within =
     let e : n + 1 ≡ suc n = omega arith in
     let up : rank a (suc n) ≡ rank a n + cond (has_bit a n) 1 0 = ap (rank a) (sym e) ∙ rank-more a n in
     let over : rank b (suc n) ≡ rank b n + cond (has_bit b n) 1 0 = ap (rank b) (sym e) ∙ rank-more b n in
-    let ih = rank_fewer a b n within in
-    let one : cond (has_bit a n) 1 0 ≤ cond (has_bit b n) 1 0 = bit_less (has_bit a n) (has_bit b n) (within n) in
-    omega (arith, up, over, ih, one)
+    omega (arith, up, over, rank_fewer a b n within, bit_less (has_bit a n) (has_bit b n) (within n))
   where
     bit_less : (x y : Bool) → (x ≡ true → y ≡ true) → cond x 1 0 ≤ cond y 1 0
     bit_less true true h = omega arith
     bit_less true false h = absurd (false≢true (h refl))
     bit_less false true h = omega arith
     bit_less false false h = omega arith
-
--- the slots of the block that is found
-pub slots_found : (sizes : List ℕ) (n size : ℕ) → smallest_size sizes (suc n) ≡ Some size → packed_slots sizes (suc n) ≡ size
-slots_found sizes n size e = ap (λ o. elim o as (λ _. ℕ) [ None ↦ 0 | Some m ↦ m ]) e
 
 module _ (sizes : List ℕ) (up : goes_up 0 sizes ≡ true) (o : ℕ) (among : Contains sizes o) where
   -- no larger block is needed for fewer items
@@ -95,9 +90,7 @@ module _ (sizes : List ℕ) (up : goes_up 0 sizes ≡ true) (o : ℕ) (among : C
   packed_fewer (suc a) (suc b) less few =
       let of_b = smallest_of 0 sizes up (suc b) o among few in
       let of_a = smallest_of 0 sizes up (suc a) of_b.size of_b.among (let h = of_b.holds in omega (arith, h, less)) in
-      let first = slots_found sizes a of_a.size of_a.found in
-      let second = slots_found sizes b of_b.size of_b.found in
-      let least = of_a.least in omega (arith, first, second, least)
+      let least = of_a.least in omega (arith, slots_found sizes a of_a.size of_a.found, slots_found sizes b of_b.size of_b.found, least)
 
   -- nor for some of the places in a bitmap
   packed_some : (ns : List ℕ) (some all count : ℕ) → ns ≡ sizes → count ≤ rank some 32 → ((i : ℕ) → has_bit some i ≡ true → has_bit all i ≡ true) → rank all 32 ≤ o →

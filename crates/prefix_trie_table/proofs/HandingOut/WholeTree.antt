@@ -120,9 +120,8 @@ module _ (own : Node → ℕ) (reading : List ℕ → Option Node) (paths : List
   own_counted : (p : List ℕ) (n : Node) → reading p ≡ Some n → own n + sum_to (λ c. sum_by (under_child own_at p c) paths) 32 ≤ all_under p
   own_counted p n is =
       let there : times p paths ≡ 1 = hold.listed p ∙ ap (λ o. one_if (is_some o)) is in
-      let out = sum_out (at_path own_at p) p paths (omega (arith, there)) in
       let here : at_path own_at p p ≡ own n = ap (λ b. cond b (own_at p) 0) (same_path-itself p) ∙ ap own_of is in
-      let all = all_paths own_at p paths in omega (arith, out, here, all)
+      let all = all_paths own_at p paths in omega (arith, sum_out (at_path own_at p) p paths (omega (arith, there)), here, all)
 
   abbrev at_child : ℕ → Node → ℕ → ℕ
   at_child levels n c = cond (has_bit n.child_bitmap c) (slots_below own v.slots levels (node_at v.slots (child_slot n c))) 0
@@ -142,15 +141,12 @@ module _ (own : Node → ℕ) (reading : List ℕ → Option Node) (paths : List
   within_paths : (levels : ℕ) (p : List ℕ) (n : Node) → reading p ≡ Some n → slots_below own v.slots levels n ≤ all_under p
   within_paths zero p n is = let c = own_counted p n is in omega (arith, c)
   within_paths (suc levels) p n is =
-      let counted = own_counted p n is in
-      let below = sum_to_less (at_child levels n) (λ c. all_under (p ++ c ∷ [])) 32 (child_within levels p n is (within_paths levels)) in
-      omega (arith, counted, below)
+      omega (arith, own_counted p n is, sum_to_less (at_child levels n) (λ c. all_under (p ++ c ∷ [])) 32 (child_within levels p n is (within_paths levels)))
 
   -- all that the root has below it is what all nodes have
   pub whole_tree : (levels : ℕ) (n : Node) → reading [] ≡ Some n → slots_below own v.slots levels n ≤ sum_by own_at paths
   whole_tree levels n is =
-      let most = sum_by-le-sum_by (under_path own_at []) own_at paths (λ x. part (is_start [] x) (own_at x)) in
-      let all = within_paths levels [] n is in omega (arith, most, all)
+      let all = within_paths levels [] n is in omega (arith, sum_by-le-sum_by (under_path own_at []) own_at paths (λ x. part (is_start [] x) (own_at x)), all)
     where
       part : (b : Bool) (k : ℕ) → cond b k 0 ≤ k
       part true k = omega arith

@@ -13,9 +13,6 @@ module _ {T : Type 0} where
   long_cells nodes [] w = refl
   long_cells nodes (e ∷ es) w = long_cells nodes es (with_cell w (seat_of nodes e.0) e.1) ∙ long_cell w (seat_of nodes e.0) e.1
 
-  none_left : (e : List Bool × T) (es : List (List Bool × T)) → [] ≡ e ∷ es → ⊥
-  none_left e es h = cc
-
   same_first : (e f : List Bool × T) (es fs : List (List Bool × T)) → e ∷ es ≡ f ∷ fs → (e.0 ≡ f.0) × (es ≡ fs)
   same_first e f es fs h = (cc, cc)
 
@@ -27,7 +24,7 @@ module _ {T : Type 0} where
 
       -- a value is to come
       pub some_comes : pending bits shape.entries way ps ≡ [] → ⊥
-      some_comes none = none_left (q, x) later (sym none ∙ at.come)
+      some_comes none = let e : [] ≡ (q, x) ∷ later = sym none ∙ at.come in cc
 
       -- its seat is in the array
       pub seat_inside : (next : K) (qs : List Spot) (key : K) (size : ℕ) (seat : Seat) →

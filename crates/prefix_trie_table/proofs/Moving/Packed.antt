@@ -1,5 +1,5 @@
 -- Where each block is the smallest that holds its list and none is free, slots are numbers of the entries and the nodes.
-use Rattle.prefix_trie_table.proofs.Prelude.{◌≡◌, ℕ, zero, suc, ◌+◌, ◌<◌, Bool, true, ◌&&◌, List, [], ◌∷◌, ◌++◌, length, map, flat_map, replicate, sum_by, Option, None, Some, is_some, refl, sym, ap, ap₂, ◌∙◌, arith, eq-eqb, ◌%◌, length-map, nil_from_length, get, entries, keys, Sizes, child_block_sizes, value_block_sizes, child_count, own_entries, packed_block, packed_slots, packed_node_slots, packed_cell_slots, IsPacked, Nodes, has_node, is_node_depth, State, and-first, Node, rank, bits, blank_node, node_sizes, cell_sizes, HasSizes, path_of, read, times, own_count, child_items, child_blocks, child_blocks_of, value_blocks, value_blocks_of, Holds, NodesHold, IsPackedNode, NoneFree, AreSizesBy, Sized, own_children, child_block_size, value_block_size, IsShapeOf, Store, Tier, UsedBlock, Sound, of_size, free_extents, tier_at, tier_sizes, size_in, size_if_any, free_counts}
+use Rattle.prefix_trie_table.proofs.Prelude.{◌≡◌, ℕ, zero, suc, ◌+◌, ◌<◌, Bool, true, ◌&&◌, List, [], ◌∷◌, ◌++◌, length, map, flat_map, replicate, sum_by, Option, None, Some, is_some, refl, sym, ap, ap₂, ◌∙◌, arith, eq-eqb, ◌%◌, length-map, nil_from_length, get, entries, keys, Sizes, child_block_sizes, value_block_sizes, child_count, own_entries, packed_block, packed_slots, packed_cell_slots, IsPacked, Nodes, has_node, is_node_depth, State, and-first, Node, rank, bits, blank_node, node_sizes, cell_sizes, HasSizes, path_of, read, own_count, child_items, child_blocks, child_blocks_of, value_blocks, value_blocks_of, Holds, NodesHold, IsPackedNode, NoneFree, AreSizesBy, Sized, own_children, child_block_size, value_block_size, IsShapeOf, Store, Tier, UsedBlock, Sound, of_size, free_extents, tier_at, tier_sizes, size_in, size_if_any, free_counts}
 use Rattle.prefix_trie_table.proofs.Blocks.BySize.{free_at, node_sized, cell_sized}
 use Rattle.prefix_trie_table.specs.Forest.{held, size_in}
 use Rattle.prefix_trie_table.proofs.Blocks.Housed.{child_blocks_housed, value_blocks_housed}
@@ -76,70 +76,40 @@ module _ {T : Type 0} (reading : List ℕ → Option Node) (values : List ℕ �
   are : (p : List Bool) → has_node s.nodes p ≡ (is_node_depth p && is_some (reading (path_of p)))
   are = shape_nodes reading values paths v w holds s is
 
-  children_packed : (x : List ℕ) → child_block_size (reading x) ≡ packed_block child_block_sizes (own_children (reading x))
-  children_packed x = by (reading x) refl
-    where
-      by : (o : Option Node) → reading x ≡ o → child_block_size o ≡ packed_block child_block_sizes (own_children o)
-      by None e = refl
-      by (Some n) e = (packed x n e).children
-
-  values_packed : (x : List ℕ) → value_block_size (reading x) ≡ packed_block value_block_sizes (own_count (reading x))
-  values_packed x = by (reading x) refl
-    where
-      by : (o : Option Node) → reading x ≡ o → value_block_size o ≡ packed_block value_block_sizes (own_count o)
-      by None e = refl
-      by (Some n) e = (packed x n e).values
+  packed_sizes : (o : Option Node) → ((n : Node) → o ≡ Some n → IsPackedNode n) →
+      (child_block_size o ≡ packed_block child_block_sizes (own_children o)) × (value_block_size o ≡ packed_block value_block_sizes (own_count o))
+  packed_sizes None each = (refl, refl)
+  packed_sizes (Some n) each = ((each n refl).children, (each n refl).values)
 
   -- the slots of one node's blocks
   child_slots : (p : List ℕ) → sum_by block_size (child_blocks node_sizes reading p) ≡ packed_slots child_block_sizes (own_children (reading p))
-  child_slots p = by (reading p) refl
+  child_slots p = by (reading p) (packed_sizes (reading p) (packed p)).0
     where
-      by : (o : Option Node) → reading p ≡ o → sum_by block_size (child_blocks_of node_sizes reading p o) ≡ packed_slots child_block_sizes (own_children o)
+      by : (o : Option Node) → child_block_size o ≡ packed_block child_block_sizes (own_children o) → sum_by block_size (child_blocks_of node_sizes reading p o) ≡ packed_slots child_block_sizes (own_children o)
       by None e = refl
       by (Some n) e =
           held_slots child_block_sizes n.child_tier n.child_block (size_in node_sizes n.child_tier) (child_items reading p n.child_bitmap) (rank n.child_bitmap 32)
-          (rank-all _ n.child_bitmap) (packed p n e).children
+          (rank-all _ n.child_bitmap) e
 
   cell_slots : (p : List ℕ) → sum_by block_size (value_blocks cell_sizes reading values p) ≡ packed_slots value_block_sizes (own_count (reading p))
-  cell_slots p = by (reading p) refl
+  cell_slots p = by (reading p) (packed_sizes (reading p) (packed p)).1
     where
-      by : (o : Option Node) → reading p ≡ o → sum_by block_size (value_blocks_of cell_sizes values p o) ≡ packed_slots value_block_sizes (own_count o)
+      by : (o : Option Node) → value_block_size o ≡ packed_block value_block_sizes (own_count o) → sum_by block_size (value_blocks_of cell_sizes values p o) ≡ packed_slots value_block_sizes (own_count o)
       by None e = refl
       by (Some n) e =
           held_slots value_block_sizes n.value_tier n.value_block (size_in cell_sizes n.value_tier) (map (values p) (bits n.value_bitmap)) (rank n.value_bitmap 32)
-          (rank-all (values p) n.value_bitmap) (packed p n e).values
+          (rank-all (values p) n.value_bitmap) e
 
-  module _ (p : List ℕ) (listed : 0 < times p paths) where
-    own_path : path_of (string_at p) ≡ p
-    own_path = string_path p (paths_steps node_sizes reading paths v holds.hold p listed)
-
-    deep : is_node_depth (string_at p) ≡ true
-    deep = eq-eqb (length (string_at p) % 5) 0 (string_depth p)
-
-    child_slots_at : packed_slots child_block_sizes (child_count s.nodes (string_at p)) ≡ sum_by block_size (child_blocks node_sizes reading p)
-    child_slots_at =
-        ap (packed_slots child_block_sizes) (children_is reading values paths v w holds s is (string_at p) deep ∙ ap (λ x. own_children (reading x)) own_path)
-        ∙ sym (child_slots p)
-
-    cell_slots_at : packed_slots value_block_sizes (own_entries s.entries (string_at p)) ≡ sum_by block_size (value_blocks cell_sizes reading values p)
-    cell_slots_at =
-        ap (packed_slots value_block_sizes) (own_is reading values paths v w holds s is (string_at p) deep ∙ ap (λ x. own_count (reading x)) own_path)
-        ∙ sym (cell_slots p)
-
-  nodes_long : length v.slots ≡ packed_node_slots s.nodes
-  nodes_long =
-      all_slots blank_node (child_blocks node_sizes reading) paths v holds.hold.sound (node_sized v.tiers holds.hold.sizes_are) no_node
-      ∙ ap₂ (λ a b. a + b) holds.hold.first_is
-      (sym (by_paths reading paths v holds.hold s.nodes are (λ p. packed_slots child_block_sizes (child_count s.nodes p))
-      ∙ sum_same (λ p. sum_by block_size (child_blocks node_sizes reading p)) (λ p. packed_slots child_block_sizes (child_count s.nodes (string_at p))) paths child_slots_at))
-
-  cells_long : length w.slots ≡ packed_cell_slots s.entries s.nodes
-  cells_long =
-      all_slots None (value_blocks cell_sizes reading values) paths w holds.cells.sound (cell_sized w.tiers holds.cells.sizes_are) no_cell
-      ∙ ap₂ (λ a b. a + b) first
-      (sym (by_paths reading paths v holds.hold s.nodes are (λ p. packed_slots value_block_sizes (own_entries s.entries p))
-      ∙ sum_same (λ p. sum_by block_size (value_blocks cell_sizes reading values p)) (λ p. packed_slots value_block_sizes (own_entries s.entries (string_at p))) paths cell_slots_at))
-      ∙ (let e : 0 + packed_cell_slots s.entries s.nodes ≡ packed_cell_slots s.entries s.nodes = omega arith in e)
+  -- and of those of all
+  all_long : {S : Type 0} (vacant : S) (f : List ℕ → List (UsedBlock S)) (u : Store S) → Sound vacant (flat_map f paths) u → HasSizes u.tiers → NoneFree u →
+      (sizes : List ℕ) (count : Option Node → ℕ) (number : List Bool → ℕ) → ((p : List Bool) → is_node_depth p ≡ true → number p ≡ count (reading (path_of p))) →
+      ((p : List ℕ) → sum_by block_size (f p) ≡ packed_slots sizes (count (reading p))) → length u.slots ≡ u.first + sum_by (λ p. packed_slots sizes (number p)) (keys s.nodes)
+  all_long vacant f u sound has none sizes count number is_count each =
+      all_slots vacant f paths u sound has none
+      ∙ ap (λ n. u.first + n) (sym (by_paths reading paths v holds.hold s.nodes are (λ p. packed_slots sizes (number p))
+      ∙ sum_same (λ p. sum_by block_size (f p)) (λ p. packed_slots sizes (number (string_at p))) paths
+      (λ p listed. ap (packed_slots sizes) (is_count (string_at p) (eq-eqb (length (string_at p) % 5) 0 (string_depth p))
+      ∙ ap (λ x. count (reading x)) (string_path p (paths_steps node_sizes reading paths v holds.hold p listed))) ∙ sym (each p))))
 
   seven : (ts : List Tier) (sizes : List ℕ) → tier_sizes ts ≡ sizes → length ts ≡ length sizes
   seven ts sizes e = sym (length-map ts (λ t. t.size)) ∙ ap (λ xs. length xs) e
@@ -147,17 +117,23 @@ module _ {T : Type 0} (reading : List ℕ → Option Node) (values : List ℕ �
   pub is_packed : (z : Sized v.slots) → IsPacked s (storage_of v w z)
   is_packed z = record {
     child_blocks = record {
-      at_nodes = at_each child_block_size own_children child_block_sizes reading children_packed v.slots (reads_node reading values paths v w holds) s.nodes are
+      at_nodes = at_each child_block_size own_children child_block_sizes reading (λ x. (packed_sizes (reading x) (packed x)).0) v.slots (reads_node reading values paths v w holds) s.nodes are
           (child_count s.nodes) (children_is reading values paths v w holds s is) z.0 z.1.1.0;
       elsewhere = (child_blocks_housed reading values paths v w holds s is z).elsewhere;
     };
     value_blocks = record {
-      at_nodes = at_each value_block_size own_count value_block_sizes reading values_packed v.slots (reads_node reading values paths v w holds) s.nodes are
+      at_nodes = at_each value_block_size own_count value_block_sizes reading (λ x. (packed_sizes (reading x) (packed x)).1) v.slots (reads_node reading values paths v w holds) s.nodes are
           (own_entries s.entries) (own_is reading values paths v w holds s is) z.1.0 z.1.1.1;
       elsewhere = (value_blocks_housed reading values paths v w holds s is z).elsewhere;
     };
     no_child_block_free = no_counts v.tiers (none_at v (node_sized v.tiers holds.hold.sizes_are) no_node) 7 (seven v.tiers node_sizes holds.hold.sizes_are);
     no_value_block_free = no_counts w.tiers (none_at w (cell_sized w.tiers holds.cells.sizes_are) no_cell) 7 (seven w.tiers cell_sizes holds.cells.sizes_are);
-    node_slots = nodes_long;
-    cell_slots = cells_long;
+    node_slots =
+        all_long blank_node (child_blocks node_sizes reading) v holds.hold.sound (node_sized v.tiers holds.hold.sizes_are) no_node child_block_sizes own_children
+        (child_count s.nodes) (children_is reading values paths v w holds s is) child_slots
+        ∙ ap (λ n. n + sum_by (λ p. packed_slots child_block_sizes (child_count s.nodes p)) (keys s.nodes)) holds.hold.first_is;
+    cell_slots =
+        all_long None (value_blocks cell_sizes reading values) w holds.cells.sound (cell_sized w.tiers holds.cells.sizes_are) no_cell value_block_sizes own_count
+        (own_entries s.entries) (own_is reading values paths v w holds s is) cell_slots
+        ∙ ap (λ n. n + packed_cell_slots s.entries s.nodes) first ∙ (let e : 0 + packed_cell_slots s.entries s.nodes ≡ packed_cell_slots s.entries s.nodes = omega arith in e);
   }

@@ -1,5 +1,5 @@
 -- A second table whose blocks are laid is a table once all values have come.
-use Rattle.prefix_trie_table.proofs.Prelude.{◌≡◌, ℕ, ◌/◌, ◌%◌, ◌<◌, inl, inr, Bool, true, false, cond, ◌&&◌, List, [], ◌∷◌, ◌++◌, length, Option, None, Some, is_some, refl, sym, ap, ap₂, ◌∙◌, subst, arith, eqb-true, eq-eqb, false≢true, cases_Bool, take_at, All-weaker, All-contains_itself, get, contains_key, len, entries, entries_sorted, get-entries, begins, same_bool, value_bit, AreWithin, part_below, has_node, is_node_depth, needed, State, and-first, and-second, and-join, get-part_below, needed_for, needs_root, AreNodes-needed, find-from_Contains, Node, node_sizes, path_of, bit_of, read, times, one_if, is_start, has_value, NodesHold, Holds, no_value, filled_with, handed, IsShapeOf, IsSkeleton, IsSecond, Store, tier_sizes, IsTrie}
+use Rattle.prefix_trie_table.proofs.Prelude.{◌≡◌, ℕ, ◌/◌, ◌%◌, ◌<◌, inl, inr, Bool, true, false, cond, ◌&&◌, List, [], ◌∷◌, ◌++◌, length, Option, None, is_some, refl, sym, ap, ap₂, ◌∙◌, subst, arith, eqb-true, eq-eqb, false≢true, cases_Bool, take_at, All-weaker, All-contains_itself, get, contains_key, len, entries, entries_sorted, get-entries, begins, same_bool, value_bit, AreWithin, part_below, has_node, is_node_depth, needed, State, and-first, and-second, and-join, get-part_below, needed_for, needs_root, AreNodes-needed, find-from_Contains, Node, node_sizes, path_of, bit_of, read, one_if, is_start, has_value, NodesHold, Holds, no_value, filled_with, handed, IsShapeOf, IsSkeleton, IsSecond, Store, tier_sizes, IsTrie}
 use Rattle.std.specs.List.{All, Contains}
 use Rattle.prefix_trie_bits.proofs.Model.Members.{needs}
 use Rattle.prefix_trie_table.proofs.Lookup.Finding.{prefix_some}
@@ -10,31 +10,21 @@ use Rattle.prefix_trie_table.proofs.Moving.Valued.{entry_values, entry_there, no
 use Rattle.prefix_trie_table.proofs.Strings.Keys.{same_way, begins-way}
 use Rattle.prefix_trie_table.proofs.Strings.PathStrings.{string_at, string_depth, string_path, paths_steps}
 use Rattle.prefix_trie_table.proofs.Strings.Placing.{below_node, string_at as string_of}
-use Rattle.prefix_trie_table.proofs.Strings.Plain.{five_times}
+use Rattle.prefix_trie_table.proofs.Strings.Plain.{five_times, some_node}
 use Rattle.prefix_trie_table.proofs.Strings.Starts.{is_start_take}
 use Rattle.prefix_trie_table.proofs.Tree.Invariant.{some_table}
 use Rattle.prefix_trie_table.proofs.Tree.Shapes.{reads_node, shape_entries, shape_of}
 
 -- ---- the string of a place
 
--- a node with a value stands
-some_node : (o : Option Node) (b : ℕ) → has_value o b ≡ true → is_some o ≡ true
-some_node None b h = absurd (false≢true h)
-some_node (Some n) b h = refl
-
 -- a value's place is that of a string
 pub string_placed : (reading : List ℕ → Option Node) (paths : List (List ℕ)) (v : Store Node) → NodesHold node_sizes reading paths v → (p : List ℕ) (b : ℕ) → b < 31 →
     has_value (reading p) b ≡ true → (s : List Bool) × (path_of s ≡ p) × (bit_of s ≡ b)
 string_placed reading paths v hold p b small set =
-    let some = some_node (reading p) b set in
-    let steps = paths_steps node_sizes reading paths v hold p (listed (is_some (reading p)) (hold.listed p) some) in
+    let steps = paths_steps node_sizes reading paths v hold p (let e = hold.listed p ∙ ap one_if (some_node (reading p) b set) in omega (arith, e)) in
     let r = string_of b small in
     let at = below_node (length (string_at p) / 5) (string_at p) r.0 (five_times (length (string_at p)) (length (string_at p) / 5) (string_depth p) refl) r.1 in
     (string_at p ++ r.0, at.0 ∙ string_path p steps, ap value_bit at.1 ∙ r.2)
-  where
-    listed : (c : Bool) → times p paths ≡ one_if c → c ≡ true → 0 < times p paths
-    listed true e h = omega (arith, e)
-    listed false e h = absurd (false≢true h)
 
 -- ---- the second table
 

@@ -184,11 +184,10 @@ rank-lacks bitmap (suc n) b h lacks =
 
 pub rank-below : (bitmap b : ℕ) → b < 32 → has_bit bitmap b ≡ true → rank bitmap b < rank bitmap 32
 rank-below bitmap b h set =
-    let more = rank-more bitmap b in
     let one : ◌≡◌ {A = ℕ} (cond (has_bit bitmap b) 1 0) 1 = ap (λ s. cond s 1 0) set in
     let e : 32 ≡ b + 1 + (31 - b) = omega arith in
     let up : rank bitmap (b + 1) ≤ rank bitmap 32 = subst (λ n. rank bitmap (b + 1) ≤ rank bitmap n) (sym e) (rank-mono bitmap (b + 1) (31 - b)) in
-    omega (arith, more, one, up)
+    omega (arith, rank-more bitmap b, one, up)
 
 -- no bit is set
 pub bits_below-none : (bitmap n : ℕ) → ((i : ℕ) → has_bit bitmap i ≡ false) → bits_below bitmap n ≡ []

@@ -19,12 +19,9 @@ short_path (a ∷ b ∷ []) h = (refl, refl)
 short_path (a ∷ []) h = (refl, refl)
 short_path [] h = (refl, refl)
 
-more : (n l : ℕ) → n ≡ l / 5 → suc n ≡ suc (suc (suc (suc (suc l)))) / 5
-more n l e = omega arith
-
 -- a way has a step for each five bits
 pub path-length : (s : List Bool) → length (path_of s) ≡ length s / 5
-path-length = by_steps (λ s. length (path_of s) ≡ length s / 5) (λ r h. let e = ap (λ p. length p) (short_path r h).0 in omega (arith, h, e)) (λ a b c d e s. more (length (path_of s)) (length s))
+path-length = by_steps (λ s. length (path_of s) ≡ length s / 5) (λ r h. let e = ap (λ p. length p) (short_path r h).0 in omega (arith, h, e)) (λ a b c d e s ih. omega (arith, ih))
 
 five_more : (n : ℕ) → 5 * suc n ≡ suc (suc (suc (suc (suc (5 * n)))))
 five_more n = omega arith
@@ -87,7 +84,7 @@ five_path = by_steps (λ r. length r ≡ 5 → path_of r ≡ number r ∷ []) (�
     (λ a b c d e s ih five. subst (λ t. path_of (a ∷ b ∷ c ∷ d ∷ e ∷ t) ≡ number (a ∷ b ∷ c ∷ d ∷ e ∷ t) ∷ []) (sym (nil_from_length s (omega (arith, five)))) refl)
 
 -- behind a node's string the way goes on, and the rest is that of what follows
-ways-append : (s t : List Bool) → length s % 5 ≡ 0 → (path_of (s ++ t) ≡ path_of s ++ path_of t) × (rest_of (s ++ t) ≡ rest_of t)
+pub ways-append : (s t : List Bool) → length s % 5 ≡ 0 → (path_of (s ++ t) ≡ path_of s ++ path_of t) × (rest_of (s ++ t) ≡ rest_of t)
 ways-append s t = by_steps (λ s. length s % 5 ≡ 0 → (path_of (s ++ t) ≡ path_of s ++ path_of t) × (rest_of (s ++ t) ≡ rest_of t))
     (λ r h whole. subst (λ x. (path_of (x ++ t) ≡ path_of x ++ path_of t) × (rest_of (x ++ t) ≡ rest_of t)) (sym (nil_from_length r (omega (arith, h, whole)))) (refl, refl))
     (λ a b c d e s ih whole. let more = ih (less (length s) whole) in (ap (λ p. number (a ∷ b ∷ c ∷ d ∷ e ∷ []) ∷ p) more.0, more.1)) s
@@ -97,6 +94,3 @@ ways-append s t = by_steps (λ s. length s % 5 ≡ 0 → (path_of (s ++ t) ≡ p
 
 pub path-append : (s t : List Bool) → length s % 5 ≡ 0 → path_of (s ++ t) ≡ path_of s ++ path_of t
 path-append s t h = (ways-append s t h).0
-
-pub rest-append : (s t : List Bool) → length s % 5 ≡ 0 → rest_of (s ++ t) ≡ rest_of t
-rest-append s t h = (ways-append s t h).1

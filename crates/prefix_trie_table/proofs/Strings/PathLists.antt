@@ -33,9 +33,12 @@ abbrev pub step : List ℕ → ℕ → List ℕ
 step p c = p ++ c ∷ []
 
 -- the paths of a node's children
+abbrev child_bits : Option Node → List ℕ
+child_bits None = []
+child_bits (Some n) = bits n.child_bitmap
+
 abbrev pub children_of : List ℕ → Option Node → List (List ℕ)
-children_of p None = []
-children_of p (Some n) = map (step p) (bits n.child_bitmap)
+children_of p o = map (step p) (child_bits o)
 
 step_once : (p : List ℕ) (c : ℕ) (s : Bool) (d : ℕ) → d ≢ c → times (step p c) (map (step p) (if_set s d)) ≡ 0
 step_once p c true d ne = let e : one_if (same_path (step p c) (step p d)) ≡ 0 = ap one_if (same_path-not _ _ (λ f. ne (sym (snoc_inj p p c d f).1))) in omega arith
@@ -84,18 +87,10 @@ child_once p c (Some n) = elim (cases_lt c 32) as (λ _. times (step p c) (map (
   | inr past ↦ none_below p c n.child_bitmap 32 past ∙ sym (ap one_if (false_from_ne_true (has_bit n.child_bitmap c) (λ h. let b = has_bit-below n.child_bitmap c h in omega arith)))
 ]
 
-child_other : (p x : List ℕ) (c : ℕ) (o : Option Node) → p ≢ x → times (step p c) (children_of x o) ≡ 0
-child_other p x c None ne = refl
-child_other p x c (Some n) ne = other_below p x c (bits n.child_bitmap) ne
-
 nil_below : (x : List ℕ) (ds : List ℕ) → times [] (map (step x) ds) ≡ 0
 nil_below x [] = refl
 nil_below x (d ∷ ds) =
     let e : one_if (same_path [] (step x d)) ≡ 0 = ap one_if (same_path-not _ _ (λ f. snoc_not_nil x d (sym f))) in omega (arith, nil_below x ds)
-
-child_not_nil : (x : List ℕ) (o : Option Node) → times [] (children_of x o) ≡ 0
-child_not_nil x None = refl
-child_not_nil x (Some n) = nil_below x (bits n.child_bitmap)
 
 module _ (nodes : List ℕ → Option Node) where
   -- the paths of all children of the nodes at these paths
@@ -104,7 +99,7 @@ module _ (nodes : List ℕ → Option Node) where
 
   children_nil : (paths : List (List ℕ)) → times [] (children paths) ≡ 0
   children_nil [] = refl
-  children_nil (x ∷ paths) = omega (arith, times-append [] (children_of x (nodes x)) (children paths), child_not_nil x (nodes x), children_nil paths)
+  children_nil (x ∷ paths) = omega (arith, times-append [] (children_of x (nodes x)) (children paths), nil_below x (child_bits (nodes x)), children_nil paths)
 
   -- a child stands there as often as its parent is listed
   children_step : (p : List ℕ) (c : ℕ) (b : Bool) → has_child (nodes p) c ≡ b → (paths : List (List ℕ)) →
@@ -116,13 +111,13 @@ module _ (nodes : List ℕ → Option Node) where
         let here = ap (λ y. times (step p c) (children_of y (nodes y))) (sym same) ∙ child_once p c (nodes p) ∙ ap one_if e in
         omega (arith, times-append (step p c) (children_of x (nodes x)) (children paths), here, children_step p c true e paths, ap one_if (same_path-equal p x same))
     | inr other ↦
-        let here = child_other p x c (nodes x) other in
+        let here = other_below p x c (child_bits (nodes x)) other in
         omega (arith, times-append (step p c) (children_of x (nodes x)) (children paths), here, children_step p c true e paths, ap one_if (same_path-not p x other))
   ]
   children_step p c false e (x ∷ paths) =
       let here : times (step p c) (children_of x (nodes x)) ≡ 0 = elim (same_or p x) as (λ _. times (step p c) (children_of x (nodes x)) ≡ 0) [
         | inl same ↦ ap (λ y. times (step p c) (children_of y (nodes y))) (sym same) ∙ child_once p c (nodes p) ∙ ap one_if e
-        | inr other ↦ child_other p x c (nodes x) other
+        | inr other ↦ other_below p x c (child_bits (nodes x)) other
       ] in
       omega (arith, times-append (step p c) (children_of x (nodes x)) (children paths), here, children_step p c false e paths)
 

@@ -1,5 +1,6 @@
 -- The string at which the node of a path stands, and that there are as many nodes as paths.
 use Rattle.prefix_trie_table.proofs.Prelude.{◌≡◌, ℕ, suc, ◌+◌, ◌%◌, ◌^◌, ◌<◌, ◌≤◌, inl, inr, Bool, true, false, cond, ◌&&◌, ◌||◌, List, [], ◌∷◌, ◌++◌, length, length-append, map, Option, None, Some, is_some, refl, sym, ap, ap₂, ◌∙◌, subst, arith, eqb-true, eq-eqb, false≢true, cases_Bool, false_from_ne_true, All-nil, All-push, All-head, All-tail, All, list_any, empty, len, contains_key, len-empty, len-insert, number, digits, length-digits, number-digits, same_bool, listing_cmp, listing_total, same_string, Nodes, has_node, with_nodes, is_node_depth, or-cases, or-left, or-right, and-first, and-second, and-join, same_string-is, is-same_string, has-empty, has-with_nodes, same_members, Node, path_of, Store, same_path, one_if, times, has_child, NodesHold}
+use Rattle.std.proofs.Math.Bool.{or-false}
 use Rattle.prefix_trie_table.proofs.Strings.Plain.{needs_node}
 use Rattle.prefix_trie_table.proofs.Strings.Bits.{has_bit-below}
 use Rattle.prefix_trie_table.proofs.Strings.Keys.{same_way}
@@ -10,14 +11,10 @@ abbrev pub string_at : List ℕ → List Bool
 string_at [] = []
 string_at (c ∷ path) = digits 5 c ++ string_at path
 
-five-more : (l k : ℕ) → k % 5 ≡ 0 → l ≡ 5 + k → l % 5 ≡ 0
-five-more l k e f = omega (arith, e, f)
-
 -- it is as long as a node's
 pub string_depth : (path : List ℕ) → length (string_at path) % 5 ≡ 0
 string_depth [] = refl
-string_depth (c ∷ path) =
-    five-more _ _ (string_depth path) (length-append (digits 5 c) (string_at path) ∙ ap (λ n. n + length (string_at path)) (length-digits 5 c))
+string_depth (c ∷ path) = omega (arith, string_depth path, length-append (digits 5 c) (string_at path), length-digits 5 c)
 
 path_more : (c : ℕ) (s : List Bool) → path_of (digits 5 c ++ s) ≡ number (digits 5 c) ∷ path_of s
 unfolding digits
@@ -61,11 +58,7 @@ nodes_at paths = with_nodes empty (map string_at paths)
 
 has-nodes_at : (paths : List (List ℕ)) (s : List Bool) → has_node (nodes_at paths) s ≡ list_any (same_string s) (map string_at paths)
 has-nodes_at paths s = has-with_nodes empty (map string_at paths) s ∙ ap (λ b. list_any (same_string s) (map string_at paths) || b) (has-empty s)
-    ∙ nothing (list_any (same_string s) (map string_at paths))
-  where
-    nothing : (b : Bool) → (b || false) ≡ b
-    nothing true = refl
-    nothing false = refl
+    ∙ or-false (list_any (same_string s) (map string_at paths))
 
 -- each of these paths leads to a string
 abbrev pub AreSteps : List (List ℕ) → Type 0
@@ -115,7 +108,7 @@ one-at-most : (b : Bool) (t : ℕ) → t ≡ one_if b → t ≤ 1
 one-at-most true t e = omega (arith, e)
 one-at-most false t e = omega (arith, e)
 
-from-one : (b : Bool) (t : ℕ) → t ≡ one_if b → 0 < t → b ≡ true
+pub from-one : (b : Bool) (t : ℕ) → t ≡ one_if b → 0 < t → b ≡ true
 from-one true t e h = refl
 from-one false t e h = absurd (omega (arith, e, h))
 

@@ -34,10 +34,8 @@ sum_lacking g nodes paths p c n m leaf is below once leaf_once =
     (λ q some. ap g (changed_other nodes p m c None q
     (λ e. gone q p (without p (without (p ++ c ∷ []) paths)) e (times_out_same p (without (p ++ c ∷ []) paths) left) some)
     (λ e. gone q (p ++ c ∷ []) (without p (without (p ++ c ∷ []) paths)) e none some))) in
-    let was = ap g is in
-    let fell = ap g below in
     let now : g (lacking_child nodes p m c p) ≡ g (Some m) = ap g (changed_here nodes p m c None p refl) in
-    omega (arith, out_leaf, out_before, out_after, rest, was, fell, now)
+    omega (arith, out_leaf, out_before, out_after, rest, ap g is, ap g below, now)
   where
     gone : (q r : List ℕ) (ps : List (List ℕ)) → q ≡ r → times r ps ≡ 0 → 0 < times q ps → ⊥
     gone q r ps e z h = (let y : times q ps ≡ 0 = ap (λ x. times x ps) e ∙ z in omega arith)

@@ -1,6 +1,6 @@
 -- Strings by the way to their node and their place in it.
 use Rattle.prefix_trie_table.proofs.Prelude.{◌≡◌, ℕ, ◌+◌, ◌-◌, ◌*◌, ◌^◌, ◌%◌, ◌<◌, ◌≤◌, Bool, List, [], ◌∷◌, ◌++◌, length, ap, ◌∙◌, arith, w32, leading_zeros, number, digits, length-digits, number-bits, value_bit, top_length, length-short, string-bit, path_of, rest_of}
-use Rattle.prefix_trie_table.proofs.Strings.Digits.{short_path, five_path, path-append, rest-append}
+use Rattle.prefix_trie_table.proofs.Strings.Digits.{short_path, five_path, path-append, ways-append}
 use Rattle.prefix_trie_table.proofs.Strings.Plain.{whole_levels}
 use Rattle.std.proofs.lemmas.List.{append-nil}
 
@@ -9,7 +9,7 @@ pub below_node : (k : ℕ) (s r : List Bool) → length s ≡ 5 * k → length r
 below_node k s r long h =
     let whole = whole_levels (length s) k long in (
       path-append s r whole ∙ ap (λ p. path_of s ++ p) (short_path r h).0 ∙ append-nil (path_of s),
-      rest-append s r whole ∙ (short_path r h).1,
+      (ways-append s r whole).1 ∙ (short_path r h).1,
     )
 
 -- five bits more are a step more

@@ -1,5 +1,5 @@
 -- Facts on plain numbers, Booleans and options.
-use Rattle.prefix_trie_table.proofs.Prelude.{◌≡◌, ℕ, ◌+◌, ◌*◌, ◌/◌, ◌%◌, ◌≤◌, Bool, true, false, ◌&&◌, Option, None, Some, is_some, refl, arith, false≢true, Node, has_child}
+use Rattle.prefix_trie_table.proofs.Prelude.{◌≡◌, ℕ, ◌+◌, ◌*◌, ◌/◌, ◌%◌, ◌≤◌, Bool, true, false, ◌&&◌, Option, None, Some, is_some, refl, arith, false≢true, Node, has_child, has_value}
 
 pub no_or_yes : (b : Bool) → (b ≡ true → ⊥) → b ≡ false
 no_or_yes true h = absurd (h refl)
@@ -32,3 +32,8 @@ fifths l k n h e = omega (arith, h, e)
 pub needs_node : (o : Option Node) (c : ℕ) → has_child o c ≡ true → is_some o ≡ true
 needs_node None c h = absurd (false≢true h)
 needs_node (Some n) c h = refl
+
+-- and so is one that has a value
+pub some_node : (o : Option Node) (b : ℕ) → has_value o b ≡ true → is_some o ≡ true
+some_node None b h = absurd (false≢true h)
+some_node (Some n) b h = refl

@@ -1,5 +1,6 @@
 -- The beginnings of a path.
 use Rattle.prefix_trie_table.proofs.Prelude.{◌≡◌, ℕ, ◌⊎◌, inl, inr, ⊎_elim, Bool, true, false, ◌||◌, List, [], ◌∷◌, ◌++◌, take, drop, map, refl, sym, ap, ◌∙◌, subst, append_assoc, append-nil, map-append, list_any-append, false≢true, list_any, same_path, starts, is_start}
+use Rattle.std.proofs.Math.Bool.{or-true}
 use Rattle.std.proofs.lemmas.List.{take-append-drop}
 use Rattle.prefix_trie_table.proofs.Strings.Paths.{same_path-true, same_path-itself, snoc_ind}
 
@@ -16,14 +17,10 @@ is_start_append (c ∷ r) q p h =
     ap (is_start q) (sym (append_assoc p (c ∷ []) r))
     ∙ is_start_append r q (p ++ c ∷ []) (is_start-snoc q p c ∙ ap (λ b. b || (same_path q (p ++ c ∷ []) || false)) h)
 
-or_last : (a : Bool) → (a || (true || false)) ≡ true
-or_last true = refl
-or_last false = refl
-
 is_start_self : (q : List ℕ) → is_start q q ≡ true
 is_start_self = snoc_ind (λ q. is_start q q ≡ true) (ap (λ b. b || false) (same_path-itself []))
     (λ p c ih. is_start-snoc (p ++ c ∷ []) p c ∙ ap (λ s. is_start (p ++ c ∷ []) p || (s || false)) (same_path-itself (p ++ c ∷ []))
-    ∙ or_last (is_start (p ++ c ∷ []) p))
+    ∙ or-true (is_start (p ++ c ∷ []) p))
 
 pub is_start_take : (k : ℕ) (p : List ℕ) → is_start (take k p) p ≡ true
 is_start_take k p = subst (λ q. is_start (take k p) q ≡ true) (take-append-drop k p)

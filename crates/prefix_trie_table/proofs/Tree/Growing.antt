@@ -262,10 +262,7 @@ module _ {T : Type 0} (reading : List ℕ → Option Node) (values : List ℕ �
     holds = record { hold = set_there.hold; cells = set_there.cells };
     grown = λ q. stays q (same_or q path) ∙ a.grown q ∙ ap (λ p. is_some (reading q) || is_start q p) whole;
     counted =
-        let more = count_with_node a.later path set_there.node a.paths (a.holds.hold.listed path ∙ ap (λ o. one_if (is_some o)) end_is) in
-        let one = set_there.counted in
-        let old = a.counted in
-        omega (arith, more, one, old);
+        omega (arith, count_with_node a.later path set_there.node a.paths (a.holds.hold.listed path ∙ ap (λ o. one_if (is_some o)) end_is), set_there.counted, a.counted);
     children = λ q. child_stays q (same_or q path) ∙ a.children q ∙ ap (λ d. size_gained reading path d q) all;
     sized = λ none q. value_grows none q (same_or q path);
   }
@@ -273,18 +270,12 @@ module _ {T : Type 0} (reading : List ℕ → Option Node) (values : List ℕ �
 -- what is left free once one list took its block
 pub free_next : (ts us : List Tier) (o : Option ℕ) (lists : ℕ) → AreFree ts (needs o lists) → ((size : ℕ) → free_in ts size ≤ free_in us size + one_of o size) → lists ≤ free_in us 1
 free_next ts us o lists free left =
-    let a = free 1 in
-    let b = left 1 in
-    let c = how_many-needs o lists 1 in
-    let d = many_here 1 lists in omega (arith, a, b, c, d)
+    let d = many_here 1 lists in omega (arith, free 1, left 1, how_many-needs o lists 1, d)
 
 -- the block of a list's own is free where more are
 pub free_own : (ts : List Tier) (o : Option ℕ) (lists : ℕ) → AreFree ts (needs o lists) → AreFree ts (needs o 0)
 free_own ts o lists free = λ size.
-    let a = free size in
-    let b = how_many-needs o lists size in
-    let c = how_many-needs o 0 size in
-    let d = many-le 1 0 lists size (omega arith) in omega (arith, a, b, c, d)
+    let d = many-le 1 0 lists size (omega arith) in omega (arith, free size, how_many-needs o lists size, how_many-needs o 0 size, d)
 
 -- what a blank node needs
 pub blank_child : (n : Node) → n ≡ blank_node → child_need (Some n) ≡ Some 1

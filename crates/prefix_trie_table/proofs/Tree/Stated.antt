@@ -51,15 +51,13 @@ module _ {T : Type 0} (v v2 : Store Node) (w w2 : Store (Option T)) (count count
 
   one_longer : Grows v v2 24 → Grows w w2 24 → LeavesRoom (len s.0.nodes) (storage_of v w z).room (storage_of v2 w2 z2).room
   one_longer nodes cells =
-      let n = nodes.at_most in
-      let c = cells.at_most in
-      few_slots nodes.limit_is (omega (arith, n)) (omega (arith, c))
+      few_slots nodes.limit_is (omega (arith, nodes.at_most)) (omega (arith, cells.at_most))
 
   pub longer_room : Grows v v2 56 → Grows w w2 31 → LeavesRoom (len s.0.nodes) (storage_of v w z).room (storage_of v2 w2 z2).room
   longer_room nodes cells = (let c = cells.at_most in few_slots nodes.limit_is nodes.at_most (omega (arith, c)))
 
-  value_given : (x : Option T) → ◌≡◌ {A = Reply (List Bool) T} (Value x) (Reply.Refused IndexRange) → ⊥
-  value_given x e = cc
+  no_refusal : (o : Option T) (c : Refusal) → ◌≡◌ {A = Reply (List Bool) T} (Value o) (Reply.Refused c) → ⊥
+  no_refusal o c e = cc
 
   done : ◌≡◌ {A = Reply (List Bool) T} Done (Reply.Refused IndexRange) → ⊥
   done e = cc
@@ -73,7 +71,7 @@ module _ {T : Type 0} (v v2 : Store Node) (w w2 : Store (Option T)) (count count
     removes_step only removes prunes nodes cells width = record {
       step = (ap Value is_value, only);
       room = one_longer nodes cells;
-      index_range = λ e. absurd (value_given value e);
+      index_range = λ e. absurd (no_refusal value IndexRange e);
       storage = (removes, prunes);
     }
 
@@ -83,7 +81,7 @@ module _ {T : Type 0} (v v2 : Store Node) (w w2 : Store (Option T)) (count count
     takes_step only removes children tiers nodes long cells width = record {
       step = (ap Value is_value, only);
       room = one_longer nodes cells;
-      index_range = λ e. absurd (value_given value e);
+      index_range = λ e. absurd (no_refusal value IndexRange e);
       storage = (removes, long, children, ap free_counts tiers);
     }
 
@@ -144,11 +142,9 @@ module _ {T : Type 0} (v v2 : Store Node) (w w2 : Store (Option T)) (count count
       (width : ℕ) → StepByPath width before Clear Done after
   clears_step only emptied width =
       let limit = ap (λ (x : Storage). x.room.limit) emptied in
-      let nodes = ap (λ (x : Storage). x.room.node_slots) emptied in
-      let cells = ap (λ (x : Storage). x.room.cell_slots) emptied in
       record {
         step = (refl, only);
-        room = few_slots limit (omega (arith, nodes)) (omega (arith, cells));
+        room = few_slots limit (omega (arith, ap (λ (x : Storage). x.room.node_slots) emptied)) (omega (arith, ap (λ (x : Storage). x.room.cell_slots) emptied));
         index_range = λ e. absurd (done e);
         storage = emptied;
       }
@@ -185,9 +181,6 @@ module _ {T : Type 0} (v v2 : Store Node) (w w2 : Store (Option T)) (count count
 
     same_cause : (c d : Refusal) → ◌≡◌ {A = Reply (List Bool) T} (Reply.Refused c) (Reply.Refused d) → c ≡ d
     same_cause c d e = cc
-
-    no_refusal : (o : Option T) (c : Refusal) → ◌≡◌ {A = Reply (List Bool) T} (Value o) (Reply.Refused c) → ⊥
-    no_refusal o c e = cc
 
     model_step : (width : ℕ) (r : Result (Option T) (Refused T)) → Inserts r → Step (λ p. p) (λ p. p) width s.0 (Insert q x) (inserted r) s2.0
     model_step width (Ok old) h =

@@ -10,9 +10,10 @@ use Rattle.prefix_trie_table.proofs.Tree.Shapes.{reads_node, shape_entries}
 use Rattle.prefix_trie_table.proofs.Lookup.Matched.{has_nodes}
 use Rattle.prefix_trie_table.proofs.Strings.Digits.{short_path, five_path}
 pub use Rattle.prefix_trie_table.proofs.Strings.Digits.{path-append}
-use Rattle.prefix_trie_table.proofs.Strings.Digits.{rest-append}
+use Rattle.prefix_trie_table.proofs.Strings.Digits.{ways-append}
 
-read_from-none : (nodes : List Node) (p : List ℕ) → read_from nodes None p ≡ None
+-- no step leads anywhere from nowhere
+pub read_from-none : (nodes : List Node) (p : List ℕ) → read_from nodes None p ≡ None
 read_from-none nodes [] = refl
 read_from-none nodes (c ∷ p) = read_from-none nodes p
 
@@ -75,7 +76,7 @@ module _ {T : Type 0} (width : ℕ) (v : Store Node) (t : Tree T) (tree : IsTrie
           shape_entries tree.table.reading tree.table.values tree.table.paths v t.cells (some_table tree.table).holds t.shape tree.shaped (q ++ s)
           ∙ ap₂ tree.table.values
           (path-append q s whole ∙ ap (λ p. path_of q ++ p) (short_path s short).0 ∙ append-nil (path_of q))
-          (ap value_bit (rest-append q s whole ∙ (short_path s short).1))
+          (ap value_bit ((ways-append q s whole).1 ∙ (short_path s short).1))
 
       has_value_is : is_some (tree.table.values (path_of q) (value_bit s)) ≡ has n.value_bitmap (value_bit s)
       has_value_is =

@@ -25,9 +25,8 @@ returns-in_err-own-clause-memory g t c =
     (c.count.ensures ∙ sym (rank-ones values 32 (omega arith))) (kept c.args.node.value_bitmap c.masks-values.result.0)
     (own_within c.args.from.now c.args.node c.args.levels c.requires.source) in
     let split = slots_split value_slots c.args.from.now.slots c.args.levels c.args.node in
-    let space = c.requires.cells.space in
     let memory : c.in_err-own.field-0.0 ≡ Memory =
-    for_memory c.in_err-own.field-0.0 (λ is. let past = c.in_err-own.ensures.range is in absurd (omega (arith, past, packed, split, space))) in
+    for_memory c.in_err-own.field-0.0 (λ is. let past = c.in_err-own.ensures.range is in absurd (omega (arith, past, packed, split, c.requires.cells.space))) in
     search (rules, memory)
 
 pub loop-child-init : goal.loop-child-init
@@ -37,7 +36,6 @@ loop-child-init g t c =
     let counted = c.count.ensures ∙ sym (rank-ones values 32 (omega arith)) in
     let packed = values_packed c.args.node (tier_sizes c.args.cells.now.tiers) values c.count.result c.requires.cells.sizes_are counted
     (kept c.args.node.value_bitmap c.masks-values.result.0) (own_within c.args.from.now c.args.node c.args.levels c.requires.source) in
-    let long = c.in_ok-own.ensures.longer in
     subst (λ xs. IsBough c.args.from.now.slots c.args.levels c.args.node part c.args.nodes.now c.args.cells.now 0 (first values c.in_ok-own.own) xs c.args.nodes.now c.lay_vacant.new.self)
     (sym c.new-below.ensures)
     (bough_start values c.in_ok-own.own c.lay_vacant.new.self
@@ -45,7 +43,7 @@ loop-child-init g t c =
     (λ b set. own_within c.args.from.now c.args.node c.args.levels c.requires.source b (kept c.args.node.value_bitmap c.masks-values.result.0 b set))
     c.requires.cells.sizes_are
     (subst (λ n. LaysList None c.args.cells.now c.lay_vacant.new.self (replicate n None) c.in_ok-own.own) counted c.in_ok-own.ensures.laid)
-    (omega (arith, long, packed)))
+    (omega (arith, c.in_ok-own.ensures.longer, packed)))
 
 -- a child that is left out
 pub loop-child-preserved-then-not-has_bit : goal.loop-child-preserved-then-not-has_bit
@@ -105,9 +103,7 @@ loop-child-preserved-in_default g t c =
 pub push-requires : goal.push-requires
 push-requires g t c =
     let clear = bough_clear c.loop-child.invariant c.loop-child.child (omega arith) in
-    let few = bough_few c.loop-child.invariant in
-    let lacks = rank-lacks c.loop-child.laid.child_bitmap 32 c.loop-child.child c.loop-child-test.true clear in
-    (omega arith, omega (arith, few, lacks))
+    (omega arith, omega (arith, bough_few c.loop-child.invariant, rank-lacks c.loop-child.laid.child_bitmap 32 c.loop-child.child c.loop-child-test.true clear))
 
 pub with_bit-requires-clause-clear : goal.with_bit-requires-clause-clear
 with_bit-requires-clause-clear g t c =
@@ -155,17 +151,14 @@ lay-requires-clause-fits g t c =
 pub returns-in_err-list-clause-memory : goal.returns-in_err-list-clause-memory
 returns-in_err-list-clause-memory g t c =
     let all : c.loop-child.child ≡ 32 = (let h = c.loop-child-test.false in let e = c.loop-child.auto.child-end in omega (arith, h, e)) in
-    let few = bough_few c.loop-child.invariant in
     let same = ap (λ (xs : List Node). length xs) c.deref.ensures.0 in
     let packed = children_packed c.args.node (tier_sizes c.loop-child.nodes.tiers) c.loop-child.laid.child_bitmap (length c.deref.result.now)
-    (c.loop-child.invariant.nodes.keeps.sizes ∙ c.requires.nodes.sizes_are) (omega (arith, same, few)) c.loop-child.invariant.kept in
-    let split = slots_split child_slots c.args.from.now.slots c.args.levels c.args.node in
+    (c.loop-child.invariant.nodes.keeps.sizes ∙ c.requires.nodes.sizes_are) (omega (arith, same, bough_few c.loop-child.invariant)) c.loop-child.invariant.kept in
     let sums = ap (sum_to (slots_at_child child_slots c.args.from.now.slots c.args.levels c.args.node)) all in
     let left = can_lay_then blank_node c.args.nodes.now c.loop-child.nodes node_sizes _ _ (child_slots c.args.node) _ c.requires.nodes c.loop-child.invariant.nodes
-    (omega (arith, split, sums)) in
-    let space = left.space in
+    (omega (arith, slots_split child_slots c.args.from.now.slots c.args.levels c.args.node, sums)) in
     let memory : c.in_err-list.field-0.0 ≡ Memory =
-    for_memory c.in_err-list.field-0.0 (λ is. let past = c.in_err-list.ensures.range is in absurd (omega (arith, past, packed, space))) in
+    for_memory c.in_err-list.field-0.0 (λ is. let past = c.in_err-list.ensures.range is in absurd (omega (arith, past, packed, left.space))) in
     search (rules, memory)
 
 pub overflow_cast-laid-2 : goal.overflow_cast-laid-2
@@ -177,11 +170,9 @@ overflow_cast-laid-2 g t c =
 pub returns-clause-laid : goal.returns-clause-laid
 returns-clause-laid g t c =
     let all : c.loop-child.child ≡ 32 = (let h = c.loop-child-test.false in let e = c.loop-child.auto.child-end in omega (arith, h, e)) in
-    let few = bough_few c.loop-child.invariant in
-    let same = ap (λ (xs : List Node). length xs) c.deref.ensures.0 in
     let are = c.loop-child.invariant.nodes.keeps.sizes ∙ c.requires.nodes.sizes_are in
     let packed = children_packed c.args.node (tier_sizes c.loop-child.nodes.tiers) c.loop-child.laid.child_bitmap (length c.deref.result.now) are
-    (omega (arith, same, few)) c.loop-child.invariant.kept in
+    (omega (arith, ap (λ (xs : List Node). length xs) c.deref.ensures.0, bough_few c.loop-child.invariant)) c.loop-child.invariant.kept in
     let long = c.in_ok-list.ensures.longer in
     bough_closed c.loop-child.invariant all c.lay.new.self c.in_ok-list.list are
     (subst (λ xs. LaysList blank_node c.loop-child.nodes c.lay.new.self xs c.in_ok-list.list) c.deref.ensures.0 c.in_ok-list.ensures.laid) (omega (arith, long, packed))

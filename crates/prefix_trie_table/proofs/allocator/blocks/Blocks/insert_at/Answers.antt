@@ -14,9 +14,8 @@ take-new-requires-clause-ready g c =
     let ts = c.args.self.now.tiers in
     let first = first_size ts c.requires.sizes in
     let need : list_need ts c.args.k c.args.count ≡ Some 1 = need_first ts c.args.k c.args.count c.if-count-eq0.true ∙ first.0 in
-    let free = c.requires.ready.1 1 in
     let one : one_of (list_need ts c.args.k c.args.count) 1 ≡ 1 = ap (λ o. one_of o 1) need ∙ many_here 1 1 in
-    subst (λ n. 0 < free_in ts n) (sym first.1) (omega (arith, free, how_many-needs (list_need ts c.args.k c.args.count) 0 1, one))
+    subst (λ n. 0 < free_in ts n) (sym first.1) (omega (arith, c.requires.ready.1 1, how_many-needs (list_need ts c.args.k c.args.count) 0 1, one))
 
 -- ---- a list that takes its first item
 

@@ -57,9 +57,8 @@ insert_moving-start-requires-clause-ready g c =
     let ts = c.args.self.now.tiers in
     let size : ℕ = size_in (tier_sizes c.args.self.now.tiers) c.tier_holding-tier.result in
     let need : list_need ts c.args.k c.args.count ≡ Some size = need_full ts c.args.k c.args.count c.requires.some (omega (arith, c.if-count-size_of.false, c.size_of.ensures)) ∙ c.tier_holding-tier.ensures.size in
-    let free = c.requires.ready.1 size in
     let one : one_of (list_need ts c.args.k c.args.count) size ≡ 1 = ap (λ o. one_of o size) need ∙ many_here size 1 in
-    omega (arith, free, how_many-needs (list_need ts c.args.k c.args.count) 0 size, one)
+    omega (arith, c.requires.ready.1 size, how_many-needs (list_need ts c.args.k c.args.count) 0 size, one)
 
 pub insert_moving-start-requires-clause-holds : goal.insert_moving-start-requires-clause-holds
 insert_moving-start-requires-clause-holds g c =

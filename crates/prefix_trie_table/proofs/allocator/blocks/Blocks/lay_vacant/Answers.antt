@@ -41,9 +41,8 @@ returns-clause-longer g c =
     let made : Turnover v u (many_of size (1 - free_in v.tiers size)) None None = search rules in
     let took = subst (λ ns. Turnover u w none_of None (Some (size_in ns k))) made.keeps.sizes c.take-start.ensures.turnover in
     let among : Contains (tier_sizes v.tiers) size = size_among (tier_sizes v.tiers) k (let l = tiers_long v.tiers (tier_sizes v.tiers) refl in let i = c.tier_holding-tier.ensures.within in omega (arith, l, i)) in
-    let longer = laid_longer g.S.Slot.vacant v u w size made took (sizes_up v.tiers c.tier_holding-tier.ensures.sizes) among in
     let packed = packed_size v.tiers c.args.count size c.tier_holding-tier.ensures.size (let some = c.if-count-eq0.false in omega (arith, some)) in
-    omega (arith, longer, packed)
+    omega (arith, laid_longer g.S.Slot.vacant v u w size made took (sizes_up v.tiers c.tier_holding-tier.ensures.sizes) among, packed)
 
 pub returns-in_err-obtain-clause-range : goal.returns-in_err-obtain-clause-range
 returns-in_err-obtain-clause-range g c =
@@ -52,9 +51,8 @@ returns-in_err-obtain-clause-range g c =
     let made = c.in_err-obtain.ensures.err in
     let full : c.in_err-obtain.field-0.0 ≡ IndexRange → v.limit < length v.slots + packed_slots (tier_sizes v.tiers) c.args.count =
     λ is.
-    let past = c.in_err-obtain.ensures.range.0 is in
     let packed = packed_size v.tiers c.args.count size c.tier_holding-tier.ensures.size (let some = c.if-count-eq0.false in omega (arith, some)) in
     let room = room_turned v c.obtain.new.self _ None None (λ n. many-none size made.0 n (let h = made.1 in omega (arith, h))) made.2 in
     let l = room.0 in let m = room.2 in
-    omega (arith, past, packed, l, m) in
+    omega (arith, c.in_err-obtain.ensures.range.0 is, packed, l, m) in
     search (rules, full)

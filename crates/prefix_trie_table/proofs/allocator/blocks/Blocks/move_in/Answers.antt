@@ -13,7 +13,6 @@ move_in-requires g c =
     let wa = block_inside g.S.Slot.vacant a (b ∷ q.2) _ s in
     let wb = block_inside g.S.Slot.vacant b (a ∷ q.2) _ (Sound-exchanged g.S.Slot.vacant a b q.2 _ s) in
     let fits = fits_block g.S.Slot.vacant a (b ∷ q.2) _ s in
-    let empty = run_none g.S.Slot.vacant a b q.2 _ q.7 s (c.args.count + 1) (omega (arith, q.8)) in
     record {
       from_within = omega (arith, wa.before, fits, q.4, q.6, v.slots.ok.0);
       to_within = omega (arith, wb.before, q.5, q.8, v.slots.ok.0);
@@ -21,7 +20,7 @@ move_in-requires g c =
         | inl h ↦ inr (let apart = two_apart g.S.Slot.vacant a b q.2 _ q.7 s in omega (arith, apart, h, fits, q.4, q.5, q.6, q.8))
         | inr h ↦ inl h
       ];
-      unused = ap (λ n. run v.slots.items n (c.args.count + 1)) (sym q.5) ∙ empty;
+      unused = ap (λ n. run v.slots.items n (c.args.count + 1)) (sym q.5) ∙ (run_none g.S.Slot.vacant a b q.2 _ q.7 s (c.args.count + 1) (omega (arith, q.8)));
       place = c.requires.place;
     }
 

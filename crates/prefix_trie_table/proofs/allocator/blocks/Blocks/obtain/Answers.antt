@@ -18,9 +18,8 @@ loop-i-init g c =
 
 pub make-requires : goal.make-requires
 make-requires g c =
-    let a = tiers_long c.loop-i.self.tiers (tier_sizes c.args.self.now.tiers) c.loop-i.invariant.made.keeps.sizes in
     let b = tiers_long c.args.self.now.tiers (tier_sizes c.args.self.now.tiers) refl in
-    omega (arith, a, b, c.requires)
+    omega (arith, tiers_long c.loop-i.self.tiers (tier_sizes c.args.self.now.tiers) c.loop-i.invariant.made.keeps.sizes, b, c.requires)
 
 pub loop-i-preserved : goal.loop-i-preserved
 loop-i-preserved g c =

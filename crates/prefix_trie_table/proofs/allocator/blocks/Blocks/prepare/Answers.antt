@@ -85,7 +85,5 @@ returns-in_err-obtain-clause-unchanged g c = λ free.
     let v = c.args.self.now in
     let s : ℕ = size_in (tier_sizes v.tiers) c.in-Some.tier in
     let some = c.in_err-obtain.ensures.err in
-    let f = free s in
-    let h = how_many-needs (list_need v.tiers c.args.k c.args.count) c.args.lists s in
     let o : one_of (list_need v.tiers c.args.k c.args.count) s ≡ 1 = ap (λ o. one_of o s) (need_is g c) ∙ many_here s 1 in
-    absurd (omega (arith, f, h, o, some.1))
+    absurd (omega (arith, free s, how_many-needs (list_need v.tiers c.args.k c.args.count) c.args.lists s, o, some.1))

@@ -39,10 +39,8 @@ returns-in-Some-clause-tier g c =
     let u = c.requires.holds in
     let all = c.remove_from-value.ensures.sound u.size u.items u.live (list_block g.S.Slot.vacant c.args.k c.args.start u.size u.items u.live _ (omega (arith, u.is_count, c.requires.place)) u.sound) u.is_count in
     let one = rest g.S.Slot.vacant c.args.self.now c.remove_from-value.new.self (remove u.items c.args.place) u.live c.remove_from-value.result.1 c.in-Some.place c.in-Some.is all in
-    let within = (tier_of_block g.S.Slot.vacant _ _ _ one).within in
-    let l = tiers_long c.args.self.now.tiers (tier_sizes c.args.self.now.tiers) refl in
     let m = tiers_long c.remove_from-value.new.self.tiers (tier_sizes c.args.self.now.tiers) c.remove_from-value.ensures.loses.turnover.keeps.sizes in
-    omega (arith, within, l, m)
+    omega (arith, (tier_of_block g.S.Slot.vacant _ _ _ one).within, tiers_long c.args.self.now.tiers (tier_sizes c.args.self.now.tiers) refl, m)
 
 -- ---- none is left
 
