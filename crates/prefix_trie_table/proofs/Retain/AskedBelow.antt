@@ -1,9 +1,9 @@
 -- Asking at one value, at all places of a node, and below a child.
-use Rattle.prefix_trie_table.proofs.Prelude.{◌≡◌, ℕ, ◌+◌, ◌%◌, ◌≤◌, Bool, true, false, cond, ◌||◌, nat_lt, List, [], ◌∷◌, ◌++◌, length, take, drop, get_or, None, Some, refl, sym, ap, ◌∙◌, subst, arith, inl, inr, append-nil, false≢true, cases_Bool, true_from_ne_false, Contains-get_or, list_any_at, get, begins, begins-refl, begins-append, begins-length, begins-trans, begins-same-length, same_string, is_in, places, AsksInOrder, MayAskInOrder, Entries, without_entry, listing, listing_below, listing_at_place, listing_at_places, Nodes, AreNodes, has_node, needed, State, get-without_entry, same_string-is, is-same_string, same_nodes, needs_root, listing_by_node_places, listing_at_value, listing_at_no_value, listing_at_child, listing_of_root, is_at, is_at_some, is_under, is_under_some, Needs, AsksUpTo, Retains}
+use Rattle.prefix_trie_table.proofs.Prelude.{◌≡◌, ℕ, ◌+◌, ◌%◌, ◌≤◌, Bool, true, false, cond, ◌||◌, nat_lt, List, [], ◌∷◌, ◌++◌, length, take, drop, get_or, None, Some, refl, sym, ap, ◌∙◌, subst, arith, inl, inr, append-nil, false≢true, cases_Bool, true_from_ne_false, Contains-get_or, list_any_at, get, begins, begins-refl, begins-append, begins-length, begins-trans, begins-same-length, same_string, is_in, places, AsksInOrder, MayAskInOrder, Entries, without_entry, listing, listing_below, listing_at_place, listing_at_places, Nodes, AreNodes, has_node, needed, State, get-without_entry, same_string-is, is-same_string, same_nodes, needs_root, listing_by_node_places, listing_at_value, listing_at_no_value, listing_at_child, listing_of_root, is_at, is_at_some, is_under, is_under_some, Needs, AsksUpTo, Retains, or_parts}
 use Rattle.std.specs.List.{All, Contains}
 use Rattle.prefix_trie_bits.proofs.Model.Members.{needs}
 use Rattle.prefix_trie_table.proofs.Strings.Plain.{fifth_more, no_or_yes}
-use Rattle.prefix_trie_table.proofs.Retain.Asked.{or-first, at_value, at_child, under_value, under_child, at_begins, one_place, place_same, at_some_one, five_further}
+use Rattle.prefix_trie_table.proofs.Retain.Asked.{at_value, at_child, under_value, under_child, at_begins, one_place, place_same, at_some_one, five_further}
 
 -- ---- a value
 
@@ -43,7 +43,7 @@ module _ {F T : Type 0} (asks : F → List Bool → T → Bool → F → Type 0)
         (get-without_entry x.entries (s ++ t) (s ++ t) ∙ ap (λ b. cond b None (get x.entries (s ++ t))) (is-same_string (s ++ t) (s ++ t) refl));
     others = λ q off.
         get-without_entry x.entries (s ++ t) q
-        ∙ ap (λ b. cond b None (get x.entries q)) (sym (at_value s t q short) ∙ or-first (is_at s t q) false off);
+        ∙ ap (λ b. cond b None (get x.entries q)) (sym (at_value s t q short) ∙ (or_parts (is_at s t q) false off).0);
     fewer = λ q there. there;
     off = λ q off. refl;
     needed = λ q under there. absurd (false≢true (sym (ap (λ b. b || false) (under_value s t q short)) ∙ under));
@@ -135,10 +135,10 @@ module _ {F T : Type 0} (asks : F → List Bool → T → Bool → F → Type 0)
       up_to = subst (λ es. AsksUpTo asks f es g) (below_before ∙ sym (place_is x.entries)) retains.up_to;
       may_ask = λ rest may. retains.may_ask rest (subst (λ es. MayAskInOrder asks accepts f (es ++ rest)) (place_is x.entries ∙ sym below_before) may);
       stays = place_is y.entries ∙ sym below_after ∙ retains.stays;
-      others = λ q off. off_entries q (begins_is q ∙ sym (at_child s t q five) ∙ or-first (is_at s t q) false off);
+      others = λ q off. off_entries q (begins_is q ∙ sym (at_child s t q five) ∙ (or_parts (is_at s t q) false off).0);
       fewer = λ q there. retains.fewer q (fewer q there);
       off = λ q off.
-          let off_it : begins c q ≡ false = begins_is q ∙ sym (under_child s t q five) ∙ or-first (is_under s t q) false off in
+          let off_it : begins c q ≡ false = begins_is q ∙ sym (under_child s t q five) ∙ (or_parts (is_under s t q) false off).0 in
           stays q (λ e. false≢true (sym off_it ∙ ap (begins c) e ∙ begins-refl c)) ∙ off_nodes q off_it;
       needed = λ q under there.
           let below_it : begins c q ≡ true = begins_is q ∙ sym (under_child s t q five) ∙ or-left-only (is_under s t q) under in
