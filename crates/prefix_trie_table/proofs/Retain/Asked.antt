@@ -6,6 +6,11 @@ use Rattle.std.proofs.lemmas.Grind.{flat_map-append}
 use Rattle.std.proofs.lemmas.List.{length-take-le}
 use Rattle.prefix_trie_table.proofs.Strings.Plain.{no_or_yes}
 
+-- one of one is that one
+pub only_one : (b : Bool) → (b || false) ≡ true → b ≡ true
+only_one true h = refl
+only_one false h = h
+
 -- ---- which strings are at a place
 
 pub at_value : (s t q : List Bool) → length t ≤ 4 → is_at s t q ≡ same_string q (s ++ t)

@@ -3,7 +3,7 @@ use Rattle.prefix_trie_table.proofs.Prelude.{◌≡◌, ℕ, ◌+◌, ◌%◌, �
 use Rattle.std.specs.List.{All, Contains}
 use Rattle.prefix_trie_bits.proofs.Model.Members.{needs}
 use Rattle.prefix_trie_table.proofs.Strings.Plain.{fifth_more, no_or_yes}
-use Rattle.prefix_trie_table.proofs.Retain.Asked.{at_value, at_child, under_value, under_child, under_at_some, at_begins, one_place, place_same, at_some_one, five_further}
+use Rattle.prefix_trie_table.proofs.Retain.Asked.{only_one, at_value, at_child, under_value, under_child, under_at_some, at_begins, one_place, place_same, at_some_one, five_further}
 
 -- ---- a value
 
@@ -133,7 +133,7 @@ module _ {F T : Type 0} (asks : F → List Bool → T → Bool → F → Type 0)
           let off_it : begins c q ≡ false = begins_is q ∙ sym (under_child s t q five) ∙ (or_parts (is_under s t q) false off).0 in
           stays q (λ e. false≢true (sym off_it ∙ ap (begins c) e ∙ begins-refl c)) ∙ off_nodes q off_it;
       needed = λ q under there.
-          let below_it : begins c q ≡ true = begins_is q ∙ sym (under_child s t q five) ∙ or-left-only (is_under s t q) under in
+          let below_it : begins c q ≡ true = begins_is q ∙ sym (under_child s t q five) ∙ only_one (is_under s t q) under in
           elim (cases_Bool (same_string q c)) as (λ _. Needs y.entries q) [
             | inl same ↦
                 let e : q ≡ c = same_string-is q c same in
@@ -141,10 +141,6 @@ module _ {F T : Type 0} (asks : F → List Bool → T → Bool → F → Type 0)
             | inr other ↦ needed_below q below_it (λ e. false≢true (sym other ∙ is-same_string q c e)) (fewer q there)
           ];
     }
-      where
-        or-left-only : (b : Bool) → (b || false) ≡ true → b ≡ true
-        or-left-only true h = refl
-        or-left-only false h = h
 
   -- where the node is the root, it is asking at the whole listing
   module _ (root : c ≡ []) where
