@@ -2,7 +2,7 @@
 pub use Rattle.std.proofs.Common.{All, Bool, Contains, Equal, Err, Greater, IfErr, IfNone, IfOk, IfSome, IsOk, IsPermutation, IsSome, IsTrue, Less, List, MatchOption, MatchResult, None, Ok, OnErr, OnOk, Option, Ordering, Result, Some, T, [], add-sub_of_le, ap, append-nil, append_assoc, ap₂, arith, bit_and, cond, count_by, drop, drop-drop, eq-eqb, eqb, eqb-true, false, filter, flat_map, get_or, get_or-set_same, if◌then◌else◌, inl, inr, insert, is_le, is_lt, is_some, leb, leb-true, length, length-append, length-drop, length-set, length-take, length-take-le, lit<, lit≤, lt-ltb, ltb, ltb-true, map, nat_eq, nat_le, nat_lt, not, option_map, refl, remove, replicate, rules, set, slice_set, subst, suc, sum, sum_by, swap, sym, take, take-append-drop, take_all, true, true≢false, unwrap_or, vec_capacity, vec_len, w32, zero, ℕ, ⊎_elim, ◌%◌, ◌&&◌, ◌*◌, ◌++◌, ◌+◌, ◌-◌, ◌/◌, ◌<◌, ◌==◌, ◌^◌, ◌||◌, ◌↔◌, ◌∙◌, ◌∷◌, ◌≡◌, ◌≢◌, ◌≤◌, ◌⊎◌}
 pub use Rattle.std.proofs.Math.Nat.{add-mul, mul-add, mul-le-mul_left, mul-one, mul-zero, one-mul, zero-mul}
 pub use Rattle.std.proofs.Math.Seq.{get_or-append_seam, take-add, take-append_seam}
-pub use Rattle.std.proofs.lemmas.Bool.{and_parts, cases_Bool, cases_eq, cases_lt, false_from_ne_true, false≢true, le-leb, le-ltb, lt-leb, true_from_ne_false}
+pub use Rattle.std.proofs.lemmas.Bool.{and_parts, cases_Bool, cases_eq, cases_lt, false_from_ne_true, false≢true, le-leb, le-ltb, lt-leb, or_parts, true_from_ne_false}
 pub use Rattle.std.proofs.lemmas.Bool.Decides.{eqb_tells, nat_tests}
 pub use Rattle.std.proofs.lemmas.Cmp.{nat_list_cmp_total, tied_itself}
 pub use Rattle.std.proofs.lemmas.List.{append_cancel_left, drop-append-le, drop-replicate, drop-set-lt, drop-take, drop_all, drop_at, drop_more, ext_get_or, get_or-append-add, get_or-drop, get_or-map, get_or-replicate, get_or-set_other, get_or-take, get_or_append_left, get_or_at, get_or_default, get_or_past, length-map, length-replicate, length_push, map-append, nil_from_length, replicate-append-replicate, set-append_left, set-append_right, set-get_or, set-set, set_at, take-append-le, take-replicate, take-take, take_at, take_more, take_more_set}
@@ -102,7 +102,7 @@ unfoldable pub use Rattle.prefix_trie_table.specs.Locations.{seat_of}
 pub use Rattle.prefix_trie_table.specs.Losing.{LosesOne}
 pub use Rattle.prefix_trie_table.specs.Matching.{IsHeld, IsOnWay, LackLastBit, LongestHeld, NoneHeld, SeatAt, ShortestHeld, cell_slot, holds_value, match_seat}
 pub use Rattle.prefix_trie_table.specs.OwnBlocks.{child_need, value_need}
-pub use Rattle.prefix_trie_table.specs.Removals.{ChildDropped, Drops, EntryRemoved, EntryTaken, GivesBack, GrowsBy, IsBare, IsStocked, IsWay, Lessens, MakesEntered, MakesFew, Pruned, PrunedTo, SameChildren, SameValues, StandsAtEnd, ValueTaken, more, none, slot_in}
+pub use Rattle.prefix_trie_table.specs.Removals.{ChildDropped, Drops, EntryRemoved, EntryTaken, GivesBack, GrowsBy, IsBare, IsStocked, IsWay, Lessens, MakesEntered, MakesFew, Pruned, PrunedTo, SameBlock, SameChildren, SameValues, StandsAtEnd, ValueTaken, more, none, slot_in}
 pub use Rattle.prefix_trie_table.specs.Retaining.{AsksUpTo, BlocksBetween, HasPlace, IsSite, Lasts, MayAskAt, Needs, Retains, RetainsAll, RetainsIn, RetainsTo, Stays, is_at, is_at_some, is_under, is_under_some}
 pub use Rattle.prefix_trie_table.specs.Runs.{put_run, run, swap_runs}
 pub use Rattle.prefix_trie_table.specs.Settling.{NodesSettle, Settles, SettlesBy, child_headroom, headroom_if_any, headroom_of, of_any, smaller_sizes, value_headroom}

@@ -4,7 +4,7 @@ use Rattle.prefix_trie_table.specs.declared.allocator.node.Node.{Node}
 use Rattle.prefix_trie_table.specs.declared.allocator.node.NodeSlot.{NodeSlot}
 use Rattle.prefix_trie_table.specs.Bitmaps.{rank}
 use Rattle.prefix_trie_table.specs.Cells.{node_sizes, cell_sizes}
-use Rattle.prefix_trie_table.specs.Store.{Store, SameRoom, SameMade, tier_sizes, free_in, made_in, free_counts}
+use Rattle.prefix_trie_table.specs.Store.{Store, SameRoom, MakesNone, tier_sizes, free_in, made_in, free_counts}
 use Rattle.prefix_trie_bits.specs.Model.Blocks.{HasBlock, StepsDown, LongerByOne, MakesBlocks, MakesAtMost, made_of}
 use Rattle.prefix_trie_table.specs.Layouts.{own_children, child_block_size, value_block_size}
 use Rattle.prefix_trie_table.specs.Settling.{NodesSettle}
@@ -36,6 +36,10 @@ pub record SameChildren (n m : Node) : Type 0 where
   pub block : m.child_block ≡ n.child_block
   pub tier : m.child_tier ≡ n.child_tier
 
+-- as many items in a block of the same size
+abbrev pub SameBlock : (Option Node → ℕ) → (Option Node → Option ℕ) → Option Node → Option Node → Type 0
+SameBlock count size n m = (count m ≡ count n) × (size m ≡ size n)
+
 -- two nodes have the same values in the same block
 pub record SameValues (n m : Node) : Type 0 where
   pub bitmap : m.value_bitmap ≡ n.value_bitmap
@@ -63,7 +67,7 @@ module _ {T : Type 0} where
     pub stands : (q : List ℕ) (slot : ℕ) → IsSlot reading q slot → IsSlot later q slot
     pub counted : entry_count later paths + one_if (is_some (values path b)) ≡ entry_count reading paths
     pub kept : is_some (values path b) ≡ false → later path ≡ reading path
-    pub children : (n m : Node) → reading path ≡ Some n → later path ≡ Some m → SameChildren n m
+    pub children : SameBlock own_children child_block_size (reading path) (later path)
     pub lessens : Lessens MakesEntered cell_sizes before after (own_count (reading path)) (own_count (later path)) (value_block_size (reading path)) (value_block_size (later path))
 
 -- a node without values and children
@@ -82,10 +86,9 @@ pub record SameBlocks {S : Type 0} (v w : Store S) : Type 0 where
 
 -- no block was made, taken or lost, so those free before are free
 pub record GivesBack {S : Type 0} (v w : Store S) : Type 0 where
-  pub room : SameRoom v w
+  pub none : MakesNone v w
   pub sizes : tier_sizes w.tiers ≡ tier_sizes v.tiers
   pub free : (size : ℕ) → free_in v.tiers size ≤ free_in w.tiers size
-  pub made : SameMade v w
 
 -- the slot of the k-th node on a way
 abbrev pub slot_in : List NodeSlot → ℕ → ℕ
@@ -134,12 +137,12 @@ pub record Pruned (reading : List ℕ → Option Node) (paths : List (List ℕ))
   pub to : PrunedTo reading paths path level node before after
   pub stops : (level ≡ 0) ⊎ IsStocked node
 
--- a node stands at the end of the way to a path, and these are the slots of the nodes above it
-pub record StandsAtEnd (path : List ℕ) (way : List NodeSlot) (node : Node) (v : Store Node) : Type 0 where
+-- a node stands at the end of the way to a path, and these are the slots of the nodes above it, which are so many
+pub record StandsAtEnd (path : List ℕ) (way : List NodeSlot) (level : ℕ) (node : Node) (v : Store Node) : Type 0 where
   pub reading : List ℕ → Option Node
   pub paths : List (List ℕ)
   pub hold : NodesHold node_sizes reading paths v
-  pub slots : IsWay reading path way (length path)
+  pub slots : IsWay reading path way level
   pub is : reading path ≡ Some node
 
 -- the value at bit b of the node with a path was taken, where there was one, and the way to that node was pruned; where the

@@ -9,7 +9,7 @@ use Rattle.prefix_trie_table.proofs.Strings.Placing.{step_below}
 use Rattle.prefix_trie_table.proofs.Tree.Subtrees.{nothing_below, unset, is_in-value, is_in-child, number-small}
 use Rattle.prefix_trie_table.proofs.Tree.Trees.{read-snoc, child-missing}
 
-and-false : (b : Bool) → (b && false) ≡ false
+pub and-false : (b : Bool) → (b && false) ≡ false
 and-false true = refl
 and-false false = refl
 

@@ -1,14 +1,15 @@
 -- What calls that take entries out give back: a node written after them, and one after the other.
 use Rattle.prefix_trie_table.proofs.Prelude.{◌≡◌, ℕ, set, refl, sym, ◌∙◌, subst, arith, Store, GivesBack, Grows}
 use Rattle.std.proofs.lemmas.List.{length-set}
+use Rattle.prefix_trie_table.proofs.Blocks.Turnovers.{none_written, none_same}
+use Rattle.prefix_trie_table.proofs.Insertion.Rooms.{none_then}
 
 -- a node written leaves the room and the free blocks
 pub gives_written : {S : Type 0} (v w x : Store S) (slot : ℕ) (m : S) → GivesBack v w → x ≡ record w { slots = set w.slots slot m } → GivesBack v x
 gives_written v w x slot m back e = subst (λ y. GivesBack v y) (sym e) (record {
-  room = (length-set w.slots slot m ∙ back.room.0, back.room.1, back.room.2);
+  none = none_written v w _ slot m back.none refl;
   sizes = back.sizes;
   free = back.free;
-  made = back.made;
 })
 
 pub grows_written : {S : Type 0} (v w x : Store S) (slot : ℕ) (m : S) (most : ℕ) → Grows v w most → x ≡ record w { slots = set w.slots slot m } → Grows v x most
@@ -23,12 +24,11 @@ grows_written v w x slot m most grows e = subst (λ y. Grows v y most) (sym e) (
 
 -- what is given back, and then more
 pub gives_same : {S : Type 0} (v : Store S) → GivesBack v v
-gives_same v = record { room = (refl, refl, refl); sizes = refl; free = λ j. omega arith; made = λ j. refl }
+gives_same v = record { none = none_same v; sizes = refl; free = λ j. omega arith }
 
 pub gives_then : {S : Type 0} (v w x : Store S) → GivesBack v w → GivesBack w x → GivesBack v x
 gives_then v w x a b = record {
-  room = (b.room.0 ∙ a.room.0, b.room.1 ∙ a.room.1, b.room.2 ∙ a.room.2);
+  none = none_then v w x a.none b.none;
   sizes = b.sizes ∙ a.sizes;
   free = λ j. (let f = a.free j in let h = b.free j in omega arith);
-  made = λ j. b.made j ∙ a.made j;
 }

@@ -1,5 +1,5 @@
 -- A list that has lost items, by the sizes of its blocks.
-use Rattle.prefix_trie_table.proofs.Prelude.{◌≡◌, ℕ, ◌+◌, ◌-◌, ◌<◌, ◌≤◌, ◌⊎◌, inl, inr, Bool, true, not, ◌||◌, nat_lt, nat_le, List, length, Option, None, Some, refl, sym, ap, ◌∙◌, subst, arith, Contains, cases_eq, cases_lt, get_or_default, same_Some, none-some, at_below, HasBlock, StepsDown, StepsBetween, LongerByOne, free_of, made_of, one_of, smallest_size, or-cases, goes_up, has_cases, smallest_of, sizes_to, shrinks_few, Node, node_sizes, cell_sizes, own_count, own_children, child_block_size, value_block_size, Lessens, GivesBack, headroom, headroom_if_any, Store, Turnover, tier_sizes, size_in, size_if_any, free_counts, many_of}
+use Rattle.prefix_trie_table.proofs.Prelude.{◌≡◌, ℕ, ◌+◌, ◌-◌, ◌<◌, ◌≤◌, ◌⊎◌, inl, inr, Bool, true, not, ◌||◌, nat_lt, nat_le, List, length, Option, None, Some, refl, sym, ap, ◌∙◌, subst, arith, Contains, cases_eq, cases_lt, get_or_default, same_Some, none-some, at_below, HasBlock, StepsDown, StepsBetween, LongerByOne, free_of, made_of, one_of, smallest_size, or-cases, goes_up, has_cases, smallest_of, sizes_to, shrinks_few, Node, node_sizes, cell_sizes, own_count, own_children, child_block_size, value_block_size, Lessens, GivesBack, headroom, headroom_if_any, Store, Turnover, tier_sizes, size_in, size_if_any, free_counts, many_of, SameBlock, SameChildren, rank}
 use Rattle.std.proofs.lemmas.Bool.{true≢false, lt-ltb, leb-true}
 use Rattle.prefix_trie_bits.proofs.Checks.{below}
 use Rattle.prefix_trie_bits.proofs.Model.Storage.Shrinking.{Holds}
@@ -63,6 +63,10 @@ values_none (Some n) e = ap (λ c. size_if_any c (size_in cell_sizes n.value_tie
 pub children_none : (o : Option Node) → own_children o ≡ 0 → child_block_size o ≡ None
 children_none None e = refl
 children_none (Some n) e = ap (λ c. size_if_any c (size_in node_sizes n.child_tier)) e
+
+-- nodes with the same children have as many, in a block of the same size
+pub same_children : (n m : Node) → SameChildren n m → SameBlock own_children child_block_size (Some n) (Some m)
+same_children n m s = (ap (λ b. rank b 32) s.bitmap, λ i. size_if_any (rank (s.bitmap i) 32) (size_in node_sizes (s.tier i)))
 
 -- nothing is taken
 pub lessens_none : {S : Type 0} (Makes : List ℕ → Store S → Store S → Option ℕ → Option ℕ → Type 0) (sizes : List ℕ) (v w : Store S) (count : ℕ) (block : Option ℕ) → (count ≡ 0 → block ≡ None) →
@@ -187,8 +191,7 @@ pub gives_back : {S : Type 0} (v w : Store S) (o : ℕ) (new : Option ℕ) → n
 gives_back v w o new gone turned =
     let none = λ (size : ℕ). ap (λ n. made_of (tier_sizes v.tiers) (free_counts v.tiers) (Some o) n size) gone ∙ none_made (tier_sizes v.tiers) (free_counts v.tiers) (Some o) size in
     record {
-      room = room_turned v w _ _ _ none turned;
+      none = record { room = room_turned v w _ _ _ none turned; made = λ size. (let m = turned.made_is size in let z = none size in omega (arith, m, z)) };
       sizes = turned.keeps.sizes;
       free = λ size. (let f = turned.free_is size in let z = none size in let n : one_of new size ≡ 0 = ap (λ x. one_of x size) gone in omega (arith, f, z, n));
-      made = λ size. (let m = turned.made_is size in let z = none size in omega (arith, m, z));
     }

@@ -1,8 +1,8 @@
 -- An entry taken out, and what contracts see of it.
-use Rattle.prefix_trie_table.proofs.Prelude.{◌≡◌, ◌≢◌, ℕ, ◌+◌, ◌-◌, ◌*◌, ◌/◌, ◌<◌, ◌⊎◌, inl, inr, Bool, true, false, cond, ◌&&◌, List, [], ◌∷◌, ◌++◌, take, drop, Option, None, Some, is_some, refl, sym, ap, ap₂, ◌∙◌, subst, arith, false≢true, get, len, len-remove, listing_total, without_entry, is_node_depth, State, get-without_entry, value_bit, Node, has_bit, rank, cell_sizes, path_of, bit_of, Store, one_if, Holds, IsSlot, at_root, at_child, child_slot, node_or_blank, own_count, has_value, with_node, with_value, SomeTable, entry_count, Lessens, SameChildren, ValueTaken, EntryTaken, MakesEntered, IsShapeOf, Shaped, same_shape, IsReached, IsTable, Grows, ForHeld}
+use Rattle.prefix_trie_table.proofs.Prelude.{◌≡◌, ◌≢◌, ℕ, ◌+◌, ◌-◌, ◌*◌, ◌/◌, ◌<◌, ◌⊎◌, inl, inr, Bool, true, false, cond, ◌&&◌, List, [], ◌∷◌, ◌++◌, take, drop, Option, None, Some, is_some, refl, sym, ap, ap₂, ◌∙◌, subst, arith, false≢true, get, len, len-remove, listing_total, without_entry, is_node_depth, State, get-without_entry, value_bit, Node, has_bit, rank, cell_sizes, path_of, bit_of, Store, one_if, Holds, IsSlot, at_root, at_child, child_slot, node_or_blank, own_count, has_value, with_node, with_value, SomeTable, entry_count, Lessens, ValueTaken, EntryTaken, MakesEntered, IsShapeOf, Shaped, same_shape, IsReached, IsTable, Grows, ForHeld, own_children, child_block_size}
 use Rattle.std.proofs.lemmas.List.{take_all}
 use Rattle.prefix_trie_table.specs.OwnBlocks.{value_block_size}
-use Rattle.prefix_trie_table.proofs.Removal.Lessening.{lessens_none, values_none}
+use Rattle.prefix_trie_table.proofs.Removal.Lessening.{lessens_none, values_none, same_children}
 use Rattle.prefix_trie_table.proofs.Tree.Invariant.{some_table}
 use Rattle.prefix_trie_table.proofs.Tree.Children.{same_or, with_here, with_other}
 use Rattle.prefix_trie_table.proofs.Counts.EntryCounts.{count_with_node}
@@ -29,13 +29,6 @@ slots_same reading p n m q s (at_child r d k parent bit) is bits block = go (sam
         (at_child r d m (with_here reading p m r e) (ap (λ b. has_bit b d) bits ∙ ap (λ (x : Node). has_bit x.child_bitmap d) (sym (same e)) ∙ bit))
     go (inr ne) = at_child r d k (with_other reading p m r ne ∙ parent) bit
 
-same_children : (n m : Node) → n ≡ m → SameChildren n m
-same_children n m e = record {
-  bitmap = ap (λ (x : Node). x.child_bitmap) (sym e);
-  block = ap (λ (x : Node). x.child_block) (sym e);
-  tier = ap (λ (x : Node). x.child_tier) (sym e);
-}
-
 module _ {T : Type 0} (reading : List ℕ → Option Node) (values : List ℕ → ℕ → Option T) (paths : List (List ℕ)) (v : Store Node) (w : Store (Option T))
     (holds : Holds reading values paths v w) where
   -- nothing is there, so nothing changes
@@ -48,7 +41,7 @@ module _ {T : Type 0} (reading : List ℕ → Option Node) (values : List ℕ �
     stands = λ q slot at. at;
     counted = (let z : one_if (is_some (values path b)) ≡ 0 = ap (λ o. one_if (is_some o)) none in omega arith);
     kept = λ none. refl;
-    children = λ n m a c. same_children n m (ap node_or_blank (sym a ∙ c));
+    children = (refl, refl);
     lessens = lessens_none MakesEntered cell_sizes w w (own_count (reading path)) (value_block_size (reading path)) (values_none (reading path)) refl
         (λ size there. omega arith);
   }
@@ -80,10 +73,10 @@ module _ {T : Type 0} (reading : List ℕ → Option Node) (values : List ℕ �
           let one : one_if (is_some (values path b)) ≡ 1 = ap one_if there in
           let f = a.fewer in omega arith);
       kept = λ none. absurd (false≢true (sym none ∙ there));
-      children = λ n2 m2 e f.
-          let first : n ≡ n2 = ap node_or_blank (sym is ∙ e) in
-          let last : m ≡ m2 = ap node_or_blank (sym (with_here reading path m path refl) ∙ f) in
-          subst (λ y. SameChildren y m2) first (subst (λ y. SameChildren n y) last a.children);
+      children =
+          (let s = same_children n m a.children in
+          let now = with_here reading path m path refl in
+          (ap own_children now ∙ s.0 ∙ sym (ap own_children is), ap child_block_size now ∙ s.1 ∙ sym (ap child_block_size is)));
       lessens = subst (λ o. Lessens MakesEntered cell_sizes w w2 (own_count o) (own_count (with_node reading path m path)) (value_block_size o) (value_block_size (with_node reading path m path))) (sym is)
           (subst (λ o. Lessens MakesEntered cell_sizes w w2 (own_count (Some n)) (own_count o) (value_block_size (Some n)) (value_block_size o)) (sym (with_here reading path m path refl)) a.lessens);
     },

@@ -170,14 +170,14 @@ module _ {T : Type 0} (width : ℕ) (b : List Bool) (len : ℕ) (within : len �
       lasts.above p (omega (arith, m, less, low)))
       (found (read v.slots) t.paths (read_held t.reading t.values t.paths v w t.holds).hold k low)
 
-  pub end_left : StandsAtEnd (path_of (take len b)) way n v2
+  pub end_left : StandsAtEnd (path_of (take len b)) way (len / 5) n v2
   end_left =
       let t = some_table emptied.table in
       record {
         reading = read v2.slots;
         paths = t.paths;
         hold = (read_held t.reading t.values t.paths v2 w2 t.holds).hold;
-        slots = λ k low. way_left k (let l = steps-all b len within in omega (arith, l, low));
+        slots = way_left;
         is = is;
       }
 

@@ -74,12 +74,12 @@ module _ (u v w : Store Node) (are : tier_sizes v.tiers ≡ node_sizes) (back : 
     };
     grows = record {
       longer = elim l.grows.longer as (λ _. LongerByOne node_sizes (free_counts u.tiers) old new (length u.slots) (length w.slots)) [
-        | inl same ↦ inl (same ∙ back.room.0)
-        | inr (size, is, other, empty, long) ↦ inr (size, is, other, (let f = more_free size in omega (arith, f, empty)), long ∙ ap (λ n. n + size) back.room.0)
+        | inl same ↦ inl (same ∙ back.none.room.0)
+        | inr (size, is, other, empty, long) ↦ inr (size, is, other, (let f = more_free size in omega (arith, f, empty)), long ∙ ap (λ n. n + size) back.none.room.0)
       ];
       made = λ size there.
           let m = l.grows.made size there in
-          let b = back.made size in
+          let b = back.none.made size in
           let f = more_free size in
           (omega (arith, m, b), omega (arith, m, b, f));
     };

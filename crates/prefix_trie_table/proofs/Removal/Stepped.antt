@@ -1,5 +1,5 @@
 -- What contracts see of the sizes of blocks after a removal.
-use Rattle.prefix_trie_table.proofs.Prelude.{◌≡◌, ℕ, ◌*◌, ◌%◌, ◌≤◌, inl, inr, Bool, true, cond, ◌&&◌, List, length, take, Option, None, Some, is_some, refl, sym, ap, ◌∙◌, subst, arith, eq-eqb, cases_Bool, get, Sizes, StepsDown, SizesStepDown, StepsBetween, SizesStepBetween, value_block_sizes, child_block_sizes, own_entries, child_count, Nodes, has_node, is_node_depth, home, State, RemovesValueInStorage, PrunesInStorage, home-depth, and-first, same_entries, Node, node_sizes, cell_sizes, path_of, bit_of, NodesHold, Holds, SomeTable, has_child, has_value, own_count, read, with_value, AreSizesBy, Sized, own_children, child_block_size, value_block_size, EntryTaken, EntryRemoved, GrowsBy, MakesEntered, MakesFew, BlocksBetween, IsShapeOf, Shaped, Store, free_counts, IsTable, ForHeld}
+use Rattle.prefix_trie_table.proofs.Prelude.{◌≡◌, ℕ, ◌*◌, ◌%◌, ◌≤◌, inl, inr, Bool, true, false, cond, ◌&&◌, List, length, take, Option, None, Some, is_some, refl, sym, ap, ◌∙◌, subst, arith, eq-eqb, cases_Bool, get, Sizes, StepsDown, SizesStepDown, StepsBetween, SizesStepBetween, value_block_sizes, child_block_sizes, own_entries, child_count, Nodes, has_node, is_node_depth, home, State, RemovesValueInStorage, PrunesInStorage, home-depth, and-first, same_entries, Node, node_sizes, cell_sizes, path_of, bit_of, NodesHold, Holds, SomeTable, has_bit, rank, has_child, has_value, own_count, read, with_value, AreSizesBy, Sized, own_children, child_block_size, value_block_size, EntryTaken, EntryRemoved, GrowsBy, MakesEntered, MakesFew, BlocksBetween, IsShapeOf, Shaped, Store, free_counts, IsTable, ForHeld}
 use Rattle.std.proofs.lemmas.List.{length-take-le}
 use Rattle.prefix_trie_table.proofs.Strings.Plain.{fifths}
 use Rattle.prefix_trie_table.proofs.Tree.Invariant.{some_table}
@@ -26,79 +26,88 @@ size_there : (size : Option Node → Option ℕ) (reading : List ℕ → Option 
 size_there size reading paths v hold m m_are p x depth path =
     size_read size v.slots reading m m_are (reads node_sizes reading paths v hold) p depth ∙ ap (λ q. size (reading q)) path
 
--- the sizes by the strings of nodes step down where those by paths do
-module _ (size : Option Node → Option ℕ) (count : Option Node → ℕ) (sizes free : List ℕ) (reading later : List ℕ → Option Node)
-    (step : (x : List ℕ) → StepsDown sizes free (count (reading x)) (count (later x)) (size (reading x)) (size (later x)))
-    (gone : (x : List ℕ) → reading x ≡ None → later x ≡ None) (none : size None ≡ None) (v v2 : List Node)
-    (reads_old : (x : List ℕ) → read v x ≡ reading x) (reads_new : (x : List ℕ) → read v2 x ≡ later x)
-    (n : Nodes) (are : (p : List Bool) → has_node n p ≡ (is_node_depth p && is_some (reading (path_of p)))) (before after : List Bool → ℕ)
-    (had : (p : List Bool) → is_node_depth p ≡ true → before p ≡ count (reading (path_of p)))
-    (has : (p : List Bool) → is_node_depth p ≡ true → after p ≡ count (later (path_of p)))
-    (old new : Sizes) (old_are : AreSizesBy size v old) (new_are : AreSizesBy size v2 new) where
-  pub sizes_step_down : SizesStepDown sizes free n before after old new
-  sizes_step_down = record {
-    at_nodes = λ p there.
-        let depth = and-first (is_node_depth p) (is_some (reading (path_of p))) (sym (are p) ∙ there) in
-        steps_read (StepsDown sizes free) (had p depth) (has p depth) (size_read size v reading old old_are reads_old p depth)
-        (size_read size v2 later new new_are reads_new p depth) (step (path_of p));
-    elsewhere = λ p lacks. elim (cases_Bool (is_node_depth p)) as (λ _. get new p ≡ None) [
-      | inl depth ↦
-          size_read size v2 later new new_are reads_new p depth
-          ∙ ap size (gone (path_of p) (is_none-None (reading (path_of p)) (sym (ap (λ b. b && is_some (reading (path_of p))) depth) ∙ sym (are p) ∙ lacks)))
-          ∙ none
-      | inr other ↦ new_are p ∙ ap (λ b. cond b (size (read v2 (path_of p))) None) other
-    ];
-  }
+-- the sizes of blocks by the strings of nodes are related so, and no others are there
+abbrev StepsAt : (ℕ → ℕ → Option ℕ → Option ℕ → Type 0) → Nodes → (List Bool → ℕ) → (List Bool → ℕ) → Sizes → Sizes → Type 0
+StepsAt R n before after old new =
+    ((p : List Bool) → has_node n p ≡ true → R (before p) (after p) (get old p) (get new p)) × ((p : List Bool) → has_node n p ≡ false → get new p ≡ None)
+
+-- it is so where those by paths are
+sizes_step : (size : Option Node → Option ℕ) (count : Option Node → ℕ) (R : ℕ → ℕ → Option ℕ → Option ℕ → Type 0) (reading later : List ℕ → Option Node) →
+    ((x : List ℕ) → R (count (reading x)) (count (later x)) (size (reading x)) (size (later x))) → ((x : List ℕ) → reading x ≡ None → size (later x) ≡ None) →
+    (v v2 : List Node) → ((x : List ℕ) → read v x ≡ reading x) → ((x : List ℕ) → read v2 x ≡ later x) →
+    (n : Nodes) → ((p : List Bool) → has_node n p ≡ (is_node_depth p && is_some (reading (path_of p)))) → (before after : List Bool → ℕ) →
+    ((p : List Bool) → is_node_depth p ≡ true → before p ≡ count (reading (path_of p))) →
+    ((p : List Bool) → is_node_depth p ≡ true → after p ≡ count (later (path_of p))) →
+    (old new : Sizes) → AreSizesBy size v old → AreSizesBy size v2 new → StepsAt R n before after old new
+sizes_step size count R reading later step gone v v2 reads_old reads_new n are before after had has old new old_are new_are = (
+  λ p there.
+      let depth = and-first (is_node_depth p) (is_some (reading (path_of p))) (sym (are p) ∙ there) in
+      steps_read R (had p depth) (has p depth) (size_read size v reading old old_are reads_old p depth)
+      (size_read size v2 later new new_are reads_new p depth) (step (path_of p)),
+  λ p lacks. elim (cases_Bool (is_node_depth p)) as (λ _. get new p ≡ None) [
+    | inl depth ↦
+        size_read size v2 later new new_are reads_new p depth
+        ∙ gone (path_of p) (is_none-None (reading (path_of p)) (sym (ap (λ b. b && is_some (reading (path_of p))) depth) ∙ sym (are p) ∙ lacks))
+    | inr other ↦ new_are p ∙ ap (λ b. cond b (size (read v2 (path_of p))) None) other
+  ],
+)
+
+-- a number that is the rank of each bitmap with the bits of a node is that of the node's own
+by_bits : (own : Node → ℕ) (has : Option Node → ℕ → Bool) (count : Option Node → ℕ) → ((b : ℕ) → has None b ≡ false) → count None ≡ 0 →
+    ((n : Node) (b : ℕ) → has (Some n) b ≡ has_bit (own n) b) → ((n : Node) → count (Some n) ≡ rank (own n) 32) → (o : Option Node) (number : ℕ) →
+    ((bitmap : ℕ) → ((b : ℕ) → has o b ≡ has_bit bitmap b) → number ≡ rank bitmap 32) → number ≡ count o
+by_bits own has count no_bits nothing bits_are counts None number is = is 0 (λ b. no_bits b ∙ sym (no_bit 0 b rank-zero-all)) ∙ rank-zero-all ∙ sym nothing
+by_bits own has count no_bits nothing bits_are counts (Some n) number is = is (own n) (bits_are n) ∙ sym (counts n)
 
 -- the counts of the model are those of the nodes
 module _ {T : Type 0} (reading : List ℕ → Option Node) (values : List ℕ → ℕ → Option T) (paths : List (List ℕ)) (v : Store Node)
     (w : Store (Option T)) (holds : Holds reading values paths v w) (s : State T) (is : IsShapeOf v.slots w.slots s) where
   pub own_is : (p : List Bool) → is_node_depth p ≡ true → own_entries s.entries p ≡ own_count (reading (path_of p))
-  own_is p depth = by (reading (path_of p)) refl
-    where
-      by : (o : Option Node) → reading (path_of p) ≡ o → own_entries s.entries p ≡ own_count (reading (path_of p))
-      by None e =
-          values_counted node_sizes reading paths v holds.hold p depth values w cell_sizes holds.cells s.entries
-          (shape_entries reading values paths v w holds s is) 0 (λ b. ap (λ o. has_value o b) e ∙ sym (no_bit 0 b rank-zero-all))
-          ∙ rank-zero-all ∙ sym (ap own_count e)
-      by (Some n) e =
-          values_counted node_sizes reading paths v holds.hold p depth values w cell_sizes holds.cells s.entries
-          (shape_entries reading values paths v w holds s is) n.value_bitmap (λ b. ap (λ o. has_value o b) e) ∙ sym (ap own_count e)
+  own_is p depth =
+      by_bits (λ n. n.value_bitmap) has_value own_count (λ b. refl) refl (λ n b. refl) (λ n. refl) (reading (path_of p)) (own_entries s.entries p)
+      (values_counted node_sizes reading paths v holds.hold p depth values w cell_sizes holds.cells s.entries (shape_entries reading values paths v w holds s is))
 
   pub children_is : (p : List Bool) → is_node_depth p ≡ true → child_count s.nodes p ≡ own_children (reading (path_of p))
-  children_is p depth = by (reading (path_of p)) refl
-    where
-      by : (o : Option Node) → reading (path_of p) ≡ o → child_count s.nodes p ≡ own_children (reading (path_of p))
-      by None e =
-          children_counted node_sizes reading paths v holds.hold p depth s.nodes (shape_nodes reading values paths v w holds s is) 0
-          (λ c. ap (λ o. has_child o c) e ∙ sym (no_bit 0 c rank-zero-all)) ∙ rank-zero-all ∙ sym (ap own_children e)
-      by (Some n) e =
-          children_counted node_sizes reading paths v holds.hold p depth s.nodes (shape_nodes reading values paths v w holds s is) n.child_bitmap
-          (λ c. ap (λ o. has_child o c) e) ∙ sym (ap own_children e)
+  children_is p depth =
+      by_bits (λ n. n.child_bitmap) has_child own_children (λ c. refl) refl (λ n c. refl) (λ n. refl) (reading (path_of p)) (child_count s.nodes p)
+      (children_counted node_sizes reading paths v holds.hold p depth s.nodes (shape_nodes reading values paths v w holds s is))
+
+-- of two tables with sizes of blocks
+module _ {T : Type 0} {v v2 : Store Node} {w w2 : Store (Option T)} (t : SomeTable v w) (t2 : SomeTable v2 w2) (s : Shaped v.slots w.slots)
+    (s2 : Shaped v2.slots w2.slots) (z : Sized v.slots) (z2 : Sized v2.slots) (R : ℕ → ℕ → Option ℕ → Option ℕ → Type 0) where
+  values_step : ((x : List ℕ) → R (own_count (t.reading x)) (own_count (t2.reading x)) (value_block_size (t.reading x)) (value_block_size (t2.reading x))) →
+      ((x : List ℕ) → t.reading x ≡ None → value_block_size (t2.reading x) ≡ None) →
+      StepsAt R s.0.nodes (own_entries s.0.entries) (own_entries s2.0.entries) z.1.0 z2.1.0
+  values_step step gone =
+      sizes_step value_block_size own_count R t.reading t2.reading step gone v.slots v2.slots (reads node_sizes t.reading t.paths v t.holds.hold)
+      (reads node_sizes t2.reading t2.paths v2 t2.holds.hold) s.0.nodes (shape_nodes t.reading t.values t.paths v w t.holds s.0 s.1) _ _
+      (own_is t.reading t.values t.paths v w t.holds s.0 s.1) (own_is t2.reading t2.values t2.paths v2 w2 t2.holds s2.0 s2.1) z.1.0 z2.1.0 z.1.1.1 z2.1.1.1
+
+  children_step : ((x : List ℕ) → R (own_children (t.reading x)) (own_children (t2.reading x)) (child_block_size (t.reading x)) (child_block_size (t2.reading x))) →
+      ((x : List ℕ) → t.reading x ≡ None → child_block_size (t2.reading x) ≡ None) →
+      StepsAt R s.0.nodes (child_count s.0.nodes) (child_count s2.0.nodes) z.0 z2.0
+  children_step step gone =
+      sizes_step child_block_size own_children R t.reading t2.reading step gone v.slots v2.slots (reads node_sizes t.reading t.paths v t.holds.hold)
+      (reads node_sizes t2.reading t2.paths v2 t2.holds.hold) s.0.nodes (shape_nodes t.reading t.values t.paths v w t.holds s.0 s.1) _ _
+      (children_is t.reading t.values t.paths v w t.holds s.0 s.1) (children_is t2.reading t2.values t2.paths v2 w2 t2.holds s2.0 s2.1) z.0 z2.0 z.1.1.0 z2.1.1.0
 
 -- what a removal at a path leaves, by path
 record Left {T : Type 0} (reading : List ℕ → Option Node) (path : List ℕ) (v : Store Node) (w : Store (Option T)) (v2 : Store Node) (w2 : Store (Option T)) : Type 0 where
-  pub later : List ℕ → Option Node
-  pub found : List ℕ → ℕ → Option T
-  pub paths : List (List ℕ)
-  pub holds : Holds later found paths v2 w2
-  pub gone : (x : List ℕ) → reading x ≡ None → later x ≡ None
-  pub values : (x : List ℕ) → ValuesStep (free_counts w.tiers) (reading x) (later x)
-  pub children : (x : List ℕ) → ChildrenStep (free_counts v.tiers) (reading x) (later x)
-  pub of_cells : GrowsBy MakesEntered cell_sizes w w2 (value_block_size (reading path)) (value_block_size (later path))
+  pub now : SomeTable v2 w2
+  pub gone : (x : List ℕ) → reading x ≡ None → now.reading x ≡ None
+  pub values : (x : List ℕ) → ValuesStep (free_counts w.tiers) (reading x) (now.reading x)
+  pub children : (x : List ℕ) → ChildrenStep (free_counts v.tiers) (reading x) (now.reading x)
+  pub of_cells : GrowsBy MakesEntered cell_sizes w w2 (value_block_size (reading path)) (value_block_size (now.reading path))
   pub stop : ℕ
   pub stop_within : stop ≤ length path
-  pub of_nodes : GrowsBy MakesFew node_sizes v v2 (child_block_size (reading (take stop path))) (child_block_size (later (take stop path)))
+  pub of_nodes : GrowsBy MakesFew node_sizes v v2 (child_block_size (reading (take stop path))) (child_block_size (now.reading (take stop path)))
 
 module _ {T : Type 0} (reading : List ℕ → Option Node) (values : List ℕ → ℕ → Option T) (paths : List (List ℕ)) (v : Store Node)
     (w : Store (Option T)) (holds : Holds reading values paths v w) (key : List Bool) (v2 : Store Node) (w2 : Store (Option T)) where
   left_taken : EntryTaken reading paths values (path_of key) (bit_of key) v2 w w2 → length v2.slots ≡ length v.slots → v2.tiers ≡ v.tiers →
       Left reading (path_of key) v w v2 w2
   left_taken t long tiers = record {
-    later = t.later;
-    found = with_value values (path_of key) (bit_of key) None;
-    paths = paths;
-    holds = t.holds;
+    now = record { reading = t.later; values = with_value values (path_of key) (bit_of key) None; paths = paths; holds = t.holds };
     gone = taken_gone reading paths values (path_of key) (bit_of key) v2 w w2 t;
     values = taken_values reading paths values (path_of key) (bit_of key) v2 w w2 t;
     children = λ x. children_kept (free_counts v.tiers) (reading x) (t.later x)
@@ -113,10 +122,7 @@ module _ {T : Type 0} (reading : List ℕ → Option Node) (values : List ℕ �
       Left reading (path_of key) v w v2 w2
   left_removed s is (inl (missing, same, t)) = left_taken t (ap (λ (x : Store Node). length x.slots) same) (ap (λ (x : Store Node). x.tiers) same)
   left_removed s is (inr (u, there, t, p, blocks)) = record {
-    later = p.to.later;
-    found = with_value values (path_of key) (bit_of key) None;
-    paths = p.to.left;
-    holds = pruned_holds key reading values paths v w holds s is there u v2 w2 t p;
+    now = record { reading = p.to.later; values = with_value values (path_of key) (bit_of key) None; paths = p.to.left; holds = pruned_holds key reading values paths v w holds s is there u v2 w2 t p };
     gone = λ x e. drops_gone t.later paths p.to.later p.to.left p.to.drops x
         (taken_gone reading paths values (path_of key) (bit_of key) u w w2 t x e);
     values = λ x.
@@ -147,20 +153,14 @@ module _ {T : Type 0} (key : List Bool) (v v2 : Store Node) (w w2 : Store (Optio
   values_left : Left is.reading (path_of key) v w v2 w2 →
       SizesStepDown value_block_sizes (free_counts w.tiers) s.0.nodes (own_entries s.0.entries) (own_entries s2.0.entries) z.1.0 z2.1.0
   values_left l =
-      let t = some_table is in
-      sizes_step_down value_block_size own_count cell_sizes (free_counts w.tiers) t.reading l.later l.values l.gone refl v.slots v2.slots
-      (reads node_sizes t.reading t.paths v t.holds.hold) (reads node_sizes l.later l.paths v2 l.holds.hold) s.0.nodes
-      (shape_nodes t.reading t.values t.paths v w t.holds s.0 s.1) (own_entries s.0.entries) (own_entries s2.0.entries)
-      (own_is t.reading t.values t.paths v w t.holds s.0 s.1) (own_is l.later l.found l.paths v2 w2 l.holds s2.0 s2.1) z.1.0 z2.1.0 z.1.1.1 z2.1.1.1
+      let h = values_step (some_table is) l.now s s2 z z2 (StepsDown cell_sizes (free_counts w.tiers)) l.values (λ x e. ap value_block_size (l.gone x e)) in
+      record { at_nodes = h.0; elsewhere = h.1 }
 
   children_left : Left is.reading (path_of key) v w v2 w2 →
       SizesStepDown child_block_sizes (free_counts v.tiers) s.0.nodes (child_count s.0.nodes) (child_count s2.0.nodes) z.0 z2.0
   children_left l =
-      let t = some_table is in
-      sizes_step_down child_block_size own_children node_sizes (free_counts v.tiers) t.reading l.later l.children l.gone refl v.slots v2.slots
-      (reads node_sizes t.reading t.paths v t.holds.hold) (reads node_sizes l.later l.paths v2 l.holds.hold) s.0.nodes
-      (shape_nodes t.reading t.values t.paths v w t.holds s.0 s.1) (child_count s.0.nodes) (child_count s2.0.nodes)
-      (children_is t.reading t.values t.paths v w t.holds s.0 s.1) (children_is l.later l.found l.paths v2 w2 l.holds s2.0 s2.1) z.0 z2.0 z.1.1.0 z2.1.1.0
+      let h = children_step (some_table is) l.now s s2 z z2 (StepsDown node_sizes (free_counts v.tiers)) l.children (λ x e. ap child_block_size (l.gone x e)) in
+      record { at_nodes = h.0; elsewhere = h.1 }
 
   cells_grow : Left is.reading (path_of key) v w v2 w2 →
       GrowsBy MakesEntered value_block_sizes w w2 (get z.1.0 (home key)) (get z2.1.0 (home key))
@@ -169,7 +169,7 @@ module _ {T : Type 0} (key : List Bool) (v v2 : Store Node) (w w2 : Store (Optio
       let depth : is_node_depth (home key) ≡ true = eq-eqb (length (home key) % 5) 0 (home-depth key) in
       steps_read {c = 0} {d = 0} (λ _ _ o n. GrowsBy MakesEntered value_block_sizes w w2 o n) refl refl
       (size_there value_block_size t.reading t.paths v t.holds.hold z.1.0 z.1.1.1 (home key) (path_of key) depth (home_path key))
-      (size_there value_block_size l.later l.paths v2 l.holds.hold z2.1.0 z2.1.1.1 (home key) (path_of key) depth (home_path key)) l.of_cells
+      (size_there value_block_size l.now.reading l.now.paths v2 l.now.holds.hold z2.1.0 z2.1.1.1 (home key) (path_of key) depth (home_path key)) l.of_cells
 
   nodes_grow : Left is.reading (path_of key) v w v2 w2 →
       (p : List Bool) × GrowsBy MakesFew child_block_sizes v v2 (get z.0 p) (get z2.0 p)
@@ -183,7 +183,7 @@ module _ {T : Type 0} (key : List Bool) (v v2 : Store Node) (w w2 : Store (Optio
         p,
         steps_read {c = 0} {d = 0} (λ _ _ o n. GrowsBy MakesFew child_block_sizes v v2 o n) refl refl
             (size_there child_block_size t.reading t.paths v t.holds.hold z.0 z.1.1.0 (take (5 * l.stop) key) (take l.stop (path_of key)) depth path)
-            (size_there child_block_size l.later l.paths v2 l.holds.hold z2.0 z2.1.1.0 (take (5 * l.stop) key) (take l.stop (path_of key)) depth path) l.of_nodes,
+            (size_there child_block_size l.now.reading l.now.paths v2 l.now.holds.hold z2.0 z2.1.1.0 (take (5 * l.stop) key) (take l.stop (path_of key)) depth path) l.of_nodes,
       )
     where
       whole : (k n : ℕ) → n ≡ 5 * k → n % 5 ≡ 0
@@ -247,43 +247,23 @@ module _ {T : Type 0} (key : List Bool) (v v2 : Store Node) (w w2 : Store (Optio
 
 -- ---- where several values are taken
 
-module _ (size : Option Node → Option ℕ) (count : Option Node → ℕ) (sizes : List ℕ) (nothing : count None ≡ 0) (v v2 : List Node)
-    (step : (x : List ℕ) → StepsBetween sizes (count (read v x)) (count (read v2 x)) (size (read v x)) (size (read v2 x)))
-    (n : Nodes) (are : (p : List Bool) → has_node n p ≡ (is_node_depth p && is_some (read v (path_of p)))) (before after : List Bool → ℕ)
-    (had : (p : List Bool) → is_node_depth p ≡ true → before p ≡ count (read v (path_of p)))
-    (has : (p : List Bool) → is_node_depth p ≡ true → after p ≡ count (read v2 (path_of p)))
-    (old new : Sizes) (old_are : AreSizesBy size v old) (new_are : AreSizesBy size v2 new) where
-  -- the sizes by the strings of nodes step down where those by paths do
-  sizes_step_between : SizesStepBetween sizes n before after old new
-  sizes_step_between = record {
-    at_nodes = λ p there.
-        let depth = and-first (is_node_depth p) (is_some (read v (path_of p))) (sym (are p) ∙ there) in
-        steps_read (StepsBetween sizes) (had p depth) (has p depth) (size_read size v (read v) old old_are (λ x. refl) p depth)
-        (size_read size v2 (read v2) new new_are (λ x. refl) p depth) (step (path_of p));
-    elsewhere = λ p lacks. elim (cases_Bool (is_node_depth p)) as (λ _. get new p ≡ None) [
-      | inl depth ↦
-          let missing : read v (path_of p) ≡ None = is_none-None (read v (path_of p)) (sym (ap (λ b. b && is_some (read v (path_of p))) depth) ∙ sym (are p) ∙ lacks) in
-          let zero_before : count (read v (path_of p)) ≡ 0 = ap count missing ∙ nothing in
-          let fewer = (step (path_of p)).fewer in
-          size_read size v2 (read v2) new new_are (λ x. refl) p depth ∙ (step (path_of p)).none (omega (arith, fewer, zero_before))
-      | inr other ↦ new_are p ∙ ap (λ b. cond b (size (read v2 (path_of p))) None) other
-    ];
-  }
-
 module _ {T : Type 0} (v v2 : Store Node) (w w2 : Store (Option T)) (s : Shaped v.slots w.slots) (z : Sized v.slots) (t : SomeTable v w)
-    (s2 : Shaped v2.slots w2.slots) (z2 : Sized v2.slots) (t2 : SomeTable v2 w2) where
-  pub retained_values : ((x : List ℕ) → BlocksBetween (read v.slots x) (read v2.slots x)) →
-      SizesStepBetween value_block_sizes s.0.nodes (own_entries s.0.entries) (own_entries s2.0.entries) z.1.0 z2.1.0
-  retained_values steps =
-      sizes_step_between value_block_size own_count cell_sizes refl v.slots v2.slots (λ x. (steps x).values) s.0.nodes s.1.0 (own_entries s.0.entries) (own_entries s2.0.entries)
-      (λ p depth. own_is t.reading t.values t.paths v w t.holds s.0 s.1 p depth ∙ ap own_count (sym (reads node_sizes t.reading t.paths v t.holds.hold (path_of p))))
-      (λ p depth. own_is t2.reading t2.values t2.paths v2 w2 t2.holds s2.0 s2.1 p depth ∙ ap own_count (sym (reads node_sizes t2.reading t2.paths v2 t2.holds.hold (path_of p))))
-      z.1.0 z2.1.0 z.1.1.1 z2.1.1.1
+    (s2 : Shaped v2.slots w2.slots) (z2 : Sized v2.slots) (t2 : SomeTable v2 w2) (steps : (x : List ℕ) → BlocksBetween (read v.slots x) (read v2.slots x)) where
+  by_path : (x : List ℕ) → BlocksBetween (t.reading x) (t2.reading x)
+  by_path x =
+      subst (λ o. BlocksBetween o (t2.reading x)) (reads node_sizes t.reading t.paths v t.holds.hold x)
+      (subst (BlocksBetween (read v.slots x)) (reads node_sizes t2.reading t2.paths v2 t2.holds.hold x) (steps x))
 
-  pub retained_children : ((x : List ℕ) → BlocksBetween (read v.slots x) (read v2.slots x)) →
-      SizesStepBetween child_block_sizes s.0.nodes (child_count s.0.nodes) (child_count s2.0.nodes) z.0 z2.0
-  retained_children steps =
-      sizes_step_between child_block_size own_children node_sizes refl v.slots v2.slots (λ x. (steps x).children) s.0.nodes s.1.0 (child_count s.0.nodes) (child_count s2.0.nodes)
-      (λ p depth. children_is t.reading t.values t.paths v w t.holds s.0 s.1 p depth ∙ ap own_children (sym (reads node_sizes t.reading t.paths v t.holds.hold (path_of p))))
-      (λ p depth. children_is t2.reading t2.values t2.paths v2 w2 t2.holds s2.0 s2.1 p depth ∙ ap own_children (sym (reads node_sizes t2.reading t2.paths v2 t2.holds.hold (path_of p))))
-      z.0 z2.0 z.1.1.0 z2.1.1.0
+  -- a list that is empty has no block later
+  none_later : (sizes : List ℕ) (count later : ℕ) (old new : Option ℕ) → StepsBetween sizes count later old new → count ≡ 0 → new ≡ None
+  none_later sizes count later old new step zero = (let fewer = step.fewer in step.none (omega (arith, fewer, zero)))
+
+  pub retained_values : SizesStepBetween value_block_sizes s.0.nodes (own_entries s.0.entries) (own_entries s2.0.entries) z.1.0 z2.1.0
+  retained_values =
+      let h = values_step t t2 s s2 z z2 (StepsBetween cell_sizes) (λ x. (by_path x).values) (λ x e. none_later cell_sizes _ _ _ _ (by_path x).values (ap own_count e)) in
+      record { at_nodes = h.0; elsewhere = h.1 }
+
+  pub retained_children : SizesStepBetween child_block_sizes s.0.nodes (child_count s.0.nodes) (child_count s2.0.nodes) z.0 z2.0
+  retained_children =
+      let h = children_step t t2 s s2 z z2 (StepsBetween node_sizes) (λ x. (by_path x).children) (λ x e. none_later node_sizes _ _ _ _ (by_path x).children (ap own_children e)) in
+      record { at_nodes = h.0; elsewhere = h.1 }

@@ -1,9 +1,10 @@
 -- What a removal does to the size of a block, by the tiers and counts of nodes.
-use Rattle.prefix_trie_table.proofs.Prelude.{◌≡◌, ◌≢◌, ℕ, ◌<◌, ◌≤◌, ◌⊎◌, inl, inr, false, List, [], ◌∷◌, ◌++◌, length, take, Option, None, Some, is_some, refl, sym, ap, ◌∙◌, subst, arith, false≢true, cases_Bool, cases_lt, HasBlock, StepsDown, LongerByOne, MakesAtMost, made_of, Node, rank, node_sizes, cell_sizes, lacking_child, own_count, is_start, own_children, child_block_size, value_block_size, GrowsBy, MakesFew, SameChildren, SameValues, EntryTaken, Drops, none, more, PrunedTo, Store, size_in, size_if_any, free_counts, made_in}
+use Rattle.prefix_trie_table.proofs.Prelude.{◌≡◌, ◌≢◌, ℕ, ◌<◌, ◌≤◌, ◌⊎◌, inl, inr, List, [], ◌∷◌, ◌++◌, length, take, Option, None, Some, is_some, refl, sym, ap, ◌∙◌, subst, arith, cases_Bool, cases_lt, HasBlock, StepsDown, LongerByOne, MakesAtMost, made_of, Node, rank, node_sizes, cell_sizes, lacking_child, own_count, is_start, own_children, child_block_size, value_block_size, GrowsBy, MakesFew, SameValues, EntryTaken, Drops, none, more, PrunedTo, Store, size_in, size_if_any, free_counts, made_in, SameBlock}
 use Rattle.std.proofs.lemmas.Bool.{true≢false}
 use Rattle.prefix_trie_table.proofs.Tree.Children.{same_or, changed_below, changed_here, changed_other}
 use Rattle.prefix_trie_table.proofs.Removal.Lessening.{steps_same, steps_gone, values_none, children_none}
 use Rattle.prefix_trie_table.proofs.Removal.NodesLeft.{start_is}
+use Rattle.prefix_trie_table.proofs.Tree.Trees.{is_none-None}
 
 -- ---- by nodes
 
@@ -14,15 +15,8 @@ ValuesStep free n m = StepsDown cell_sizes free (own_count n) (own_count m) (val
 abbrev pub ChildrenStep : List ℕ → Option Node → Option Node → Type 0
 ChildrenStep free n m = StepsDown node_sizes free (own_children n) (own_children m) (child_block_size n) (child_block_size m)
 
--- as many items in a block of the same size
-abbrev pub SameBlock : (Option Node → ℕ) → (Option Node → Option ℕ) → Option Node → Option Node → Type 0
-SameBlock count size n m = (count m ≡ count n) × (size m ≡ size n)
-
 pub same_values : (n m : Node) → SameValues n m → SameBlock own_count value_block_size (Some n) (Some m)
 same_values n m s = (ap (λ b. rank b 32) s.bitmap, λ i. size_if_any (rank (s.bitmap i) 32) (size_in cell_sizes (s.tier i)))
-
-pub same_children : (n m : Node) → SameChildren n m → SameBlock own_children child_block_size (Some n) (Some m)
-same_children n m s = (ap (λ b. rank b 32) s.bitmap, λ i. size_if_any (rank (s.bitmap i) 32) (size_in node_sizes (s.tier i)))
 
 pub same_node : (count : Option Node → ℕ) (size : Option Node → Option ℕ) (n m : Option Node) → m ≡ n → SameBlock count size n m
 same_node count size n m e = (ap count e, ap size e)
@@ -60,11 +54,7 @@ module _ {T : Type 0} (reading : List ℕ → Option Node) (paths : List (List �
     (v : Store Node) (w w2 : Store (Option T)) (t : EntryTaken reading paths values path b v w w2) where
   -- a node that is missing stays so
   pub taken_gone : (x : List ℕ) → reading x ≡ None → t.later x ≡ None
-  taken_gone x e = none_of (t.later x) (t.same x ∙ ap is_some e)
-    where
-      none_of : (o : Option Node) → is_some o ≡ false → o ≡ None
-      none_of None h = refl
-      none_of (Some n) h = absurd (true≢false h)
+  taken_gone x e = is_none-None (t.later x) (t.same x ∙ ap is_some e)
 
   -- the block of its node's values steps down, and each other is as it was
   pub taken_values : (x : List ℕ) → ValuesStep (free_counts w.tiers) (reading x) (t.later x)
@@ -76,17 +66,9 @@ module _ {T : Type 0} (reading : List ℕ → Option Node) (paths : List (List �
   -- all blocks of children are as they were
   pub taken_children : (x : List ℕ) → SameBlock own_children child_block_size (reading x) (t.later x)
   taken_children x = elim (same_or x path) as (λ _. SameBlock own_children child_block_size (reading x) (t.later x)) [
-    | inl e ↦ subst (λ y. SameBlock own_children child_block_size (reading y) (t.later y)) (sym e)
-        (both (reading path) (t.later path) refl refl (t.same path))
+    | inl e ↦ subst (λ y. SameBlock own_children child_block_size (reading y) (t.later y)) (sym e) t.children
     | inr ne ↦ same_node own_children child_block_size (reading x) (t.later x) (t.others x ne)
   ]
-    where
-      both : (n m : Option Node) → reading path ≡ n → t.later path ≡ m → is_some (t.later path) ≡ is_some (reading path) →
-          SameBlock own_children child_block_size n m
-      both None None was is same = (refl, refl)
-      both None (Some m) was is same = absurd (true≢false (ap is_some (sym is) ∙ same ∙ ap is_some was))
-      both (Some n) None was is same = absurd (false≢true (ap is_some (sym is) ∙ same ∙ ap is_some was))
-      both (Some n) (Some m) was is same = same_children n m (t.children n m was is)
 
 -- ---- by path, where a way was pruned
 
@@ -98,11 +80,8 @@ drops_gone reading paths later left (more f ps v p c n m leaf drops hold is belo
     let gone : f x ≡ None = drops_gone reading paths f ps drops x e in
     elim (same_or x (p ++ c ∷ [])) as (λ _. lacking_child f p m c x ≡ None) [
       | inl at ↦ changed_below f p m c None x at
-      | inr ne ↦ changed_other f p m c None x (λ at. clash (sym is ∙ ap f (sym at) ∙ gone)) ne ∙ gone
+      | inr ne ↦ changed_other f p m c None x (λ at. true≢false (ap is_some (sym is ∙ ap f (sym at) ∙ gone))) ne ∙ gone
     ]
-  where
-    clash : ◌≡◌ {A = Option Node} (Some n) None → ⊥
-    clash e = true≢false (ap is_some e)
 
 -- all blocks of values are as they were
 pub drops_values : (reading : List ℕ → Option Node) (paths : List (List ℕ)) (later : List ℕ → Option Node) (left : List (List ℕ)) →

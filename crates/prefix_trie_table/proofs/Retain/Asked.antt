@@ -1,20 +1,15 @@
 -- Asking at some places of a node and then at others is asking at all of them.
-use Rattle.prefix_trie_table.proofs.Prelude.{◌≡◌, ◌+◌, ◌≤◌, take, drop, length-drop, take-append-drop, Bool, true, false, cond, ◌||◌, nat_lt, List, [], ◌∷◌, ◌++◌, length, None, is_some, refl, sym, ap, ap₂, ◌∙◌, subst, arith, inl, inr, append_assoc, length-append, Less, AllByRecursion, All-head, All-tail, IsStrictlySortedBy, false≢true, cases_lt, le-ltb, append_cancel_left, list_any-append, get, entries, begins, begins-append, begins-refl, begins-rest, begins-from-rest, begins-length, begins-trans, begins-linear, begins-same-length, listing_cmp, same_string, AsksInOrder, MayAskInOrder, Entries, part_below, listing_below, pair_of, listing_at_place, listing_at_places, State, or-cases, or-left, or-right, same_string-is, is-same_string, get-part_below, same_entries, entries-retained, not_itself, is_at, is_at_some, is_under, is_under_some, Needs, AsksUpTo, Retains}
+use Rattle.prefix_trie_table.proofs.Prelude.{◌≡◌, ◌+◌, ◌≤◌, take, drop, length-drop, take-append-drop, Bool, true, false, cond, ◌||◌, nat_lt, List, [], ◌∷◌, ◌++◌, length, None, is_some, refl, sym, ap, ap₂, ◌∙◌, subst, arith, inl, inr, append_assoc, length-append, Less, AllByRecursion, All-head, All-tail, IsStrictlySortedBy, false≢true, cases_lt, le-ltb, append_cancel_left, list_any-append, get, entries, begins, begins-append, begins-refl, begins-rest, begins-from-rest, begins-length, begins-trans, begins-linear, begins-same-length, listing_cmp, same_string, AsksInOrder, MayAskInOrder, Entries, part_below, listing_below, pair_of, listing_at_place, listing_at_places, State, or-cases, or-left, or-right, same_string-is, is-same_string, get-part_below, same_entries, entries-retained, not_itself, is_at, is_at_some, is_under, is_under_some, Needs, AsksUpTo, Retains, or_parts}
 use Rattle.std.specs.List.{All}
 use Rattle.std.proofs.lemmas.Bool.{lt-ltb}
 use Rattle.std.proofs.lemmas.Grind.{flat_map-append}
 use Rattle.std.proofs.lemmas.List.{length-take-le}
 use Rattle.prefix_trie_table.proofs.Strings.Plain.{no_or_yes}
 
--- ---- tests
-
-pub or-first : (a b : Bool) → (a || b) ≡ false → a ≡ false
-or-first true b h = absurd (false≢true (sym h))
-or-first false b h = refl
-
-pub or-second : (a b : Bool) → (a || b) ≡ false → b ≡ false
-or-second true b h = absurd (false≢true (sym h))
-or-second false b h = h
+-- one of one is that one
+pub only_one : (b : Bool) → (b || false) ≡ true → b ≡ true
+only_one true h = refl
+only_one false h = h
 
 -- ---- which strings are at a place
 
@@ -230,11 +225,11 @@ module _ {F T : Type 0} (asks : F → List Bool → T → Bool → F → Type 0)
       stays = both_places z.entries ∙ ap₂ (λ a b. a ++ b) (first_same ∙ first.stays) second.stays;
       others = λ q off.
           let none : (is_at_some s ts q || is_at_some s us q) ≡ false = sym (either q) ∙ off in
-          second.others q (or-second (is_at_some s ts q) (is_at_some s us q) none) ∙ first.others q (or-first (is_at_some s ts q) (is_at_some s us q) none);
+          second.others q (or_parts (is_at_some s ts q) (is_at_some s us q) none).1 ∙ first.others q (or_parts (is_at_some s ts q) (is_at_some s us q) none).0;
       fewer = λ q there. first.fewer q (second.fewer q there);
       off = λ q off.
           let none : (is_under_some s ts q || is_under_some s us q) ≡ false = sym (either_under q) ∙ off in
-          second.off q (or-second (is_under_some s ts q) (is_under_some s us q) none) ∙ first.off q (or-first (is_under_some s ts q) (is_under_some s us q) none);
+          second.off q (or_parts (is_under_some s ts q) (is_under_some s us q) none).1 ∙ first.off q (or_parts (is_under_some s ts q) (is_under_some s us q) none).0;
       needed = λ q under there.
           elim (or-cases (is_under_some s ts q) (is_under_some s us q) (sym (either_under q) ∙ under)) as (λ _. Needs z.entries q) [
             | inl one ↦ needs_later q one (first.needed q one (second.fewer q there))

@@ -1,9 +1,9 @@
 -- Asking at one value, at all places of a node, and below a child.
-use Rattle.prefix_trie_table.proofs.Prelude.{◌≡◌, ℕ, ◌+◌, ◌%◌, ◌≤◌, Bool, true, false, cond, ◌||◌, nat_lt, List, [], ◌∷◌, ◌++◌, length, take, drop, get_or, None, Some, refl, sym, ap, ◌∙◌, subst, arith, inl, inr, append-nil, false≢true, cases_Bool, true_from_ne_false, Contains-get_or, list_any_at, get, begins, begins-refl, begins-append, begins-length, begins-trans, begins-same-length, same_string, is_in, places, AsksInOrder, MayAskInOrder, Entries, without_entry, listing, listing_below, listing_at_place, listing_at_places, Nodes, AreNodes, has_node, needed, State, get-without_entry, same_string-is, is-same_string, same_nodes, needs_root, listing_by_node_places, listing_at_value, listing_at_no_value, listing_at_child, listing_of_root, is_at, is_at_some, is_under, is_under_some, Needs, AsksUpTo, Retains}
+use Rattle.prefix_trie_table.proofs.Prelude.{◌≡◌, ℕ, ◌+◌, ◌%◌, ◌≤◌, Bool, true, false, cond, ◌||◌, List, [], ◌∷◌, ◌++◌, length, take, drop, get_or, None, Some, refl, sym, ap, ◌∙◌, subst, arith, inl, inr, append-nil, false≢true, cases_Bool, true_from_ne_false, Contains-get_or, list_any_at, get, begins, begins-refl, begins-append, begins-length, begins-same-length, same_string, is_in, places, AsksInOrder, MayAskInOrder, Entries, without_entry, listing, listing_below, listing_at_place, listing_at_places, Nodes, AreNodes, has_node, needed, State, get-without_entry, same_string-is, is-same_string, same_nodes, needs_root, listing_by_node_places, listing_at_value, listing_at_no_value, listing_at_child, listing_of_root, is_at, is_at_some, is_under, is_under_some, Needs, AsksUpTo, Retains, or_parts}
 use Rattle.std.specs.List.{All, Contains}
 use Rattle.prefix_trie_bits.proofs.Model.Members.{needs}
 use Rattle.prefix_trie_table.proofs.Strings.Plain.{fifth_more, no_or_yes}
-use Rattle.prefix_trie_table.proofs.Retain.Asked.{or-first, at_value, at_child, under_value, under_child, at_begins, one_place, place_same, at_some_one, five_further}
+use Rattle.prefix_trie_table.proofs.Retain.Asked.{only_one, at_value, at_child, under_value, under_child, under_at_some, at_begins, one_place, place_same, at_some_one, five_further}
 
 -- ---- a value
 
@@ -43,7 +43,7 @@ module _ {F T : Type 0} (asks : F → List Bool → T → Bool → F → Type 0)
         (get-without_entry x.entries (s ++ t) (s ++ t) ∙ ap (λ b. cond b None (get x.entries (s ++ t))) (is-same_string (s ++ t) (s ++ t) refl));
     others = λ q off.
         get-without_entry x.entries (s ++ t) q
-        ∙ ap (λ b. cond b None (get x.entries q)) (sym (at_value s t q short) ∙ or-first (is_at s t q) false off);
+        ∙ ap (λ b. cond b None (get x.entries q)) (sym (at_value s t q short) ∙ (or_parts (is_at s t q) false off).0);
     fewer = λ q there. there;
     off = λ q off. refl;
     needed = λ q under there. absurd (false≢true (sym (ap (λ b. b || false) (under_value s t q short)) ∙ under));
@@ -77,24 +77,16 @@ module _ {F T : Type 0} (asks : F → List Bool → T → Bool → F → Type 0)
       ∙ listing_by_node_places y.entries c values children
       (λ u short clear. place_same y.entries x.entries c u (λ k at. at_other u k short clear at) ∙ unset u short clear)
 
-  off_entries : (q : List Bool) → begins c q ≡ false → get y.entries q ≡ get x.entries q
-  off_entries q off = retains.others q (no_or_yes (is_at_some c ts q) (λ some.
+  off_at : (q : List Bool) → begins c q ≡ false → is_at_some c ts q ≡ true → ⊥
+  off_at q off some =
       let one = at_some_one (λ u. (length u ≤ 5) × (is_in values children u ≡ true)) c ts q each_place some in
-      false≢true (sym off ∙ at_begins c one.0 q one.2)))
+      false≢true (sym off ∙ at_begins c one.0 q one.2)
 
-  under_begins : (us : List (List Bool)) (q : List Bool) → is_under_some c us q ≡ true → begins c q ≡ true
-  under_begins [] q h = absurd (false≢true h)
-  under_begins (u ∷ us) q h = elim (cases_Bool (is_under c u q)) as (λ _. begins c q ≡ true) [
-    | inl here ↦ go (nat_lt (length u) 5) here
-    | inr miss ↦ under_begins us q (sym (ap (λ b. b || is_under_some c us q) miss) ∙ h)
-  ]
-    where
-      go : (b : Bool) → cond b false (begins (c ++ u) q) ≡ true → begins c q ≡ true
-      go true e = absurd (false≢true e)
-      go false e = begins-trans c (c ++ u) q (begins-append c u) e
+  off_entries : (q : List Bool) → begins c q ≡ false → get y.entries q ≡ get x.entries q
+  off_entries q off = retains.others q (no_or_yes (is_at_some c ts q) (off_at q off))
 
   off_nodes : (q : List Bool) → begins c q ≡ false → has_node y.nodes q ≡ has_node x.nodes q
-  off_nodes q off = retains.off q (no_or_yes (is_under_some c ts q) (λ some. false≢true (sym off ∙ under_begins ts q some)))
+  off_nodes q off = retains.off q (no_or_yes (is_under_some c ts q) (λ some. off_at q off (under_at_some c ts q q some (begins-refl q))))
 
   -- each node below is needed
   pub needed_below : (q : List Bool) → begins c q ≡ true → (q ≡ c → ⊥) → has_node y.nodes q ≡ true → Needs y.entries q
@@ -135,13 +127,13 @@ module _ {F T : Type 0} (asks : F → List Bool → T → Bool → F → Type 0)
       up_to = subst (λ es. AsksUpTo asks f es g) (below_before ∙ sym (place_is x.entries)) retains.up_to;
       may_ask = λ rest may. retains.may_ask rest (subst (λ es. MayAskInOrder asks accepts f (es ++ rest)) (place_is x.entries ∙ sym below_before) may);
       stays = place_is y.entries ∙ sym below_after ∙ retains.stays;
-      others = λ q off. off_entries q (begins_is q ∙ sym (at_child s t q five) ∙ or-first (is_at s t q) false off);
+      others = λ q off. off_entries q (begins_is q ∙ sym (at_child s t q five) ∙ (or_parts (is_at s t q) false off).0);
       fewer = λ q there. retains.fewer q (fewer q there);
       off = λ q off.
-          let off_it : begins c q ≡ false = begins_is q ∙ sym (under_child s t q five) ∙ or-first (is_under s t q) false off in
+          let off_it : begins c q ≡ false = begins_is q ∙ sym (under_child s t q five) ∙ (or_parts (is_under s t q) false off).0 in
           stays q (λ e. false≢true (sym off_it ∙ ap (begins c) e ∙ begins-refl c)) ∙ off_nodes q off_it;
       needed = λ q under there.
-          let below_it : begins c q ≡ true = begins_is q ∙ sym (under_child s t q five) ∙ or-left-only (is_under s t q) under in
+          let below_it : begins c q ≡ true = begins_is q ∙ sym (under_child s t q five) ∙ only_one (is_under s t q) under in
           elim (cases_Bool (same_string q c)) as (λ _. Needs y.entries q) [
             | inl same ↦
                 let e : q ≡ c = same_string-is q c same in
@@ -149,10 +141,6 @@ module _ {F T : Type 0} (asks : F → List Bool → T → Bool → F → Type 0)
             | inr other ↦ needed_below q below_it (λ e. false≢true (sym other ∙ is-same_string q c e)) (fewer q there)
           ];
     }
-      where
-        or-left-only : (b : Bool) → (b || false) ≡ true → b ≡ true
-        or-left-only true h = refl
-        or-left-only false h = h
 
   -- where the node is the root, it is asking at the whole listing
   module _ (root : c ≡ []) where

@@ -20,6 +20,7 @@ use Rattle.prefix_trie_table.proofs.Tree.Shapes.{reads_node, shape_of, shape_ent
 use Rattle.prefix_trie_table.proofs.Tree.Subtrees.{child_is, child_inside, child_few, child_fits, few_at, all_places, is_in-child, number-small}
 use Rattle.prefix_trie_table.proofs.Walk.Spots.{place-child}
 use Rattle.prefix_trie_table.proofs.Tree.Trees.{reads}
+use Rattle.prefix_trie_table.proofs.Removal.AllBelow.{and-false}
 
 longer_not : (s u : List Bool) → length u ≡ 5 → s ++ u ≡ s → ⊥
 longer_not s u five e = absurd (omega (arith, ap length e, length-append s u, five))
@@ -34,14 +35,11 @@ module _ {K T : Type 0} (IsKey : K → Type 0) (bits : K → List Bool) (width :
   abbrev t : List Bool
   t = held.string
 
-  kid : (length t ≡ 5) × (c ≡ number t)
-  kid = place-child t c held.short (sym child ∙ held.is)
-
   five : length t ≡ 5
-  five = kid.0
+  five = (place-child t c held.short (sym child ∙ held.is)).0
 
   c_is : c ≡ number t
-  c_is = kid.1
+  c_is = (place-child t c held.short (sym child ∙ held.is)).1
 
   set : has n.child_bitmap c ≡ true
   set = ap (has n.child_bitmap) c_is ∙ sym (is_in-child n.value_bitmap n.child_bitmap t five) ∙ held.set
@@ -86,33 +84,27 @@ module _ {K T : Type 0} (IsKey : K → Type 0) (bits : K → List Bool) (width :
     abbrev b : Site K
     b = record { slot = record { start = n.child_block; place = place }; key = key; depth = p.depth + 5 }
 
-    depth_is : b.depth ≡ p.depth + 5
-    depth_is = refl
-
-    slot_is : b.slot.start + b.slot.place ≡ n.child_block + place
-    slot_is = refl
-
     long_b : length (bits b.key) ≡ width
     long_b = bits_length key is_key
 
     pub lower_string : take b.depth (bits b.key) ≡ take p.depth (bits p.key) ++ t
     lower_string =
-        ap (λ d. take d (bits b.key)) depth_is ∙ take-extend (bits p.key) (bits b.key) width p.depth 5 c long lower_fits extended
+        take-extend (bits p.key) (bits b.key) width p.depth 5 c long lower_fits extended
         ∙ ap (λ u. take p.depth (bits p.key) ++ u) ((λ i. digits (sym five i) (c_is i)) ∙ digits-number t)
 
     pub lower_site : IsSite IsKey bits width v b lower
     lower_site = record {
       key = is_key;
       level = at.level + 1;
-      depth_is = (let d = at.depth_is in omega (arith, d, depth_is));
-      within = (let f = lower_fits in omega (arith, f, depth_is));
+      depth_is = (let d = at.depth_is in omega (arith, d));
+      within = lower_fits;
       stands =
           ap (λ u. read v.slots (path_of u)) lower_string
           ∙ child_is width v (record { count = count; cells = w; shape = s }) trie (take p.depth (bits p.key)) n whole at.stands t five set_there
           ∙ ap (λ k. Some (node_at v.slots k)) slot_same ∙ ap Some (sym lower_is);
       slot_is =
           subst (λ k. IsSlot (read v.slots) (path_of (take b.depth (bits b.key))) k)
-          (ap (λ k. n.child_block + k) (rank-ones n.child_bitmap c (let h = child_small in omega (arith, h)) ∙ sym place_is) ∙ sym slot_is)
+          (ap (λ k. n.child_block + k) (rank-ones n.child_bitmap c (let h = child_small in omega (arith, h)) ∙ sym place_is))
           (subst (λ q. IsSlot (read v.slots) q (child_slot n c)) (sym (ap path_of lower_string ∙ way))
           (at_child (path_of (take p.depth (bits p.key))) c n at.stands child_there));
     }
@@ -133,15 +125,14 @@ module _ {K T : Type 0} (IsKey : K → Type 0) (bits : K → List Bool) (width :
         (all : ts ≡ places lower.value_bitmap lower.child_bitmap) (each : (u : List Bool) → Contains ts u ↔ IsPlaceOf lower u)
         (f g : F) (count2 : ℕ) (v2 : Store Node) (w2 : Store (Option T)) (to : RetainsTo asks accepts width (take b.depth (bits b.key)) ts f s g count2 v2 w2)
         (left : Node) (later : IsSite IsKey bits width v2 b left) (lasts : Lasts (b.depth / 5) v v2 w w2) where
+      deeper : p.depth / 5 < b.depth / 5
+      deeper = let d = at.depth_is in omega (arith, d)
+
       -- the node at hand did not change
       pub still_site : IsSite IsKey bits width v2 p n
       still_site =
-          let deeper : p.depth / 5 < b.depth / 5 = (let d = at.depth_is in omega (arith, d, depth_is)) in
           site_stays IsKey bits width v p n at long v2 n (λ q less. lasts.above q (omega (arith, less, deeper)))
           (lasts.above (path_of (take p.depth (bits p.key))) (omega (arith, path_levels IsKey bits width v p n at long, deeper)) ∙ at.stands)
-
-      deeper : p.depth / 5 < b.depth / 5
-      deeper = let d = at.depth_is in omega (arith, d, depth_is)
 
       -- no array is shorter, and the nodes above are as they were
       pub still_lasts : Lasts (p.depth / 5) v v2 w w2
@@ -253,10 +244,6 @@ module _ {K T : Type 0} (IsKey : K → Type 0) (bits : K → List Bool) (width :
         nodes3 : (q : List Bool) → has_node (remove to.after.nodes (take b.depth (bits b.key))) q ≡ (is_node_depth q && is_some (lacking_child (read v2.slots) here m c (path_of q)))
         nodes3 q = removed_is q ∙ by (same_string q (take b.depth (bits b.key))) refl
           where
-            never : (a : Bool) → false ≡ (a && false)
-            never true = refl
-            never false = refl
-
             other : (a : Bool) → is_node_depth q ≡ a → same_string q (take b.depth (bits b.key)) ≡ false →
                 (a && is_some (read v2.slots (path_of q))) ≡ (a && is_some (lacking_child (read v2.slots) here m c (path_of q)))
             other false deep e = refl
@@ -266,7 +253,7 @@ module _ {K T : Type 0} (IsKey : K → Type 0) (bits : K → List Bool) (width :
             by : (a : Bool) → same_string q (take b.depth (bits b.key)) ≡ a →
                 (not a && has_node to.after.nodes q) ≡ (is_node_depth q && is_some (lacking_child (read v2.slots) here m c (path_of q)))
             by true e =
-                never (is_node_depth q)
+                sym (and-false (is_node_depth q))
                 ∙ ap (λ o. is_node_depth q && is_some o)
                 (sym (changed_below (read v2.slots) here m c None (path_of q) (ap path_of (same_string-is q (take b.depth (bits b.key)) e) ∙ way_b)))
             by false e = to.trie.shaped.0 q ∙ other (is_node_depth q) refl e

@@ -7,7 +7,7 @@ use Rattle.prefix_trie_table.proofs.Strings.Plain.{no_or_yes, whole_more}
 use Rattle.prefix_trie_table.proofs.Blocks.Soundness.{All-both}
 use Rattle.prefix_trie_table.proofs.Tree.Invariant.{some_table}
 use Rattle.prefix_trie_table.proofs.Removal.Between.{blocks_still, blocks_then, stays_none, stays_then}
-use Rattle.prefix_trie_table.proofs.Retain.Asked.{at_value, at_child, under_at_some, one_place, apart_first, asked_both, may_ask_first, may_ask_then}
+use Rattle.prefix_trie_table.proofs.Retain.Asked.{only_one, at_value, at_child, under_at_some, one_place, apart_first, asked_both, may_ask_first, may_ask_then}
 use Rattle.prefix_trie_table.proofs.Strings.Bits.{has_bit-is}
 use Rattle.prefix_trie_table.proofs.Strings.Placing.{below_node, step_below}
 use Rattle.prefix_trie_table.proofs.Removal.Settling.{settles_none, settles_then}
@@ -79,10 +79,7 @@ module _ {K T F : Type 0} (IsKey : K → Type 0) (bits : K → List Bool) (width
     (trie2 : IsTrie width count2 v2 w2 s2) (f g : F) (u : List Bool) (few : length u ≤ 5) (retains : Retains asks accepts (take p.depth (bits p.key)) (u ∷ []) f s g s2) where
   not_there : (t q : List Bool) → length t ≤ 5 → (t ≡ u → ⊥) → is_at (take p.depth (bits p.key)) t q ≡ true → is_at_some (take p.depth (bits p.key)) (u ∷ []) q ≡ false
   not_there t q short ne here = no_or_yes (is_at_some (take p.depth (bits p.key)) (u ∷ []) q) (λ e.
-      elim (or-cases (is_at (take p.depth (bits p.key)) u q) false e) as (λ _. ⊥) [
-        | inl same ↦ ne (one_place (take p.depth (bits p.key)) t u q short few here same)
-        | inr never ↦ false≢true never
-      ])
+      ne (one_place (take p.depth (bits p.key)) t u q short few here (only_one (is_at (take p.depth (bits p.key)) u q) e)))
 
   not_under : (t q : List Bool) → length t ≤ 5 → (t ≡ u → ⊥) → is_at (take p.depth (bits p.key)) t q ≡ true → is_under_some (take p.depth (bits p.key)) (u ∷ []) q ≡ false
   not_under t q short ne here = no_or_yes (is_under_some (take p.depth (bits p.key)) (u ∷ []) q) (λ e.
@@ -122,10 +119,7 @@ pub apart_more : (s u : List Bool) (before rest : List (List Bool)) → length u
 apart_more s u before rest short all sorted apart q done coming =
     elim (or-cases (is_at_some s before q) (is_at_some s (u ∷ []) q) (sym (list_any-append (λ t. is_at s t q) before (u ∷ [])) ∙ done)) as (λ _. ⊥) [
       | inl earlier ↦ apart q earlier (or-right (is_at s u q) (is_at_some s rest q) coming)
-      | inr now ↦ elim (or-cases (is_at s u q) false now) as (λ _. ⊥) [
-        | inl here ↦ apart_first s u rest q short all sorted here coming
-        | inr never ↦ false≢true never
-      ]
+      | inr now ↦ apart_first s u rest q short all sorted (only_one (is_at s u q) now) coming
     ]
 
 pub not_in_rest : (u : List Bool) (rest : List (List Bool)) → IsStrictlySortedBy listing_cmp (u ∷ rest) → All (λ t. t ≡ u → ⊥) rest
@@ -151,10 +145,8 @@ module _ {K T F : Type 0} (IsKey : K → Type 0) (bits : K → List Bool) (width
   apart_now = subst (λ (us : List (List Bool)). (q : List Bool) → is_at_some (take p.depth (bits p.key)) before q ≡ true → is_at_some (take p.depth (bits p.key)) us q ≡ true → ⊥) first apart
 
   apart_this : (q : List Bool) → is_at_some (take p.depth (bits p.key)) before q ≡ true → is_at_some (take p.depth (bits p.key)) (u ∷ []) q ≡ true → ⊥
-  apart_this q earlier now = apart_now q earlier (elim (or-cases (is_at (take p.depth (bits p.key)) u q) false now) as (λ _. is_at_some (take p.depth (bits p.key)) (u ∷ rest) q ≡ true) [
-    | inl here ↦ or-left (is_at (take p.depth (bits p.key)) u q) (is_at_some (take p.depth (bits p.key)) rest q) here
-    | inr never ↦ absurd (false≢true never)
-  ])
+  apart_this q earlier now =
+      apart_now q earlier (or-left (is_at (take p.depth (bits p.key)) u q) (is_at_some (take p.depth (bits p.key)) rest q) (only_one (is_at (take p.depth (bits p.key)) u q) now))
 
   pub apart_next : (q : List Bool) → is_at_some (take p.depth (bits p.key)) (before ++ u ∷ []) q ≡ true → is_at_some (take p.depth (bits p.key)) rest q ≡ true → ⊥
   apart_next =

@@ -263,7 +263,8 @@ pub fn prune_up<K: Key, A: Allocator, V: Tick>(
     requires key { K.IsKey key }
     requires within { len ≤ K.bit_width }
     requires long { length way.now ≡ len / 5 }
-    requires stands { StandsAtEnd (path_of (take len (K.bits key))) way.now node nodes.old }
+    requires stands { StandsAtEnd (path_of (take len (K.bits key))) way.now (len / 5) node
+        nodes.old }
     ensures room { Grows nodes.old nodes.new 24 }
     ensures settles { NodesSettle nodes.old nodes.new }
     ensures pruned { (reading : List ℕ → Option Node) (paths : List (List ℕ))

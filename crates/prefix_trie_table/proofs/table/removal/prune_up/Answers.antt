@@ -1,4 +1,4 @@
-use Rattle.prefix_trie_table.proofs.Prelude.{◌≡◌, ◌+◌, ◌-◌, ◌/◌, ◌<◌, ◌≤◌, inl, inr, length, take, true, sym, refl, subst, arith, has_bit, node_at, path_of, IsWay, IsBare, GivesBack, slot_in}
+use Rattle.prefix_trie_table.proofs.Prelude.{◌≡◌, ◌+◌, ◌-◌, ◌/◌, ◌<◌, ◌≤◌, inl, inr, length, take, true, sym, refl, subst, arith, has_bit, node_at, path_of, IsBare, GivesBack, slot_in}
 use Rattle.prefix_trie_table.proofs.Lookup.Going.{steps-all, step-read, level_inside}
 use Rattle.prefix_trie_table.proofs.Removal.Pruning.{Pruning, pruning_first, pruning_more, parent_is, parent_slot, parent_bit}
 use Rattle.prefix_trie_table.proofs.Removal.GivingBack.{gives_same, gives_then}
@@ -25,10 +25,9 @@ drop_child-node-requires g c =
     let path = path_of (take c.args.len b) in
     let long : c.args.len ≤ length b = omega (arith, g.met.K.Key.key_laws.bits_length c.args.key c.requires.key, c.requires.within) in
     let s = c.requires.stands in
-    let slots = subst (λ n. IsWay s.reading path c.args.way.now n) (steps-all b c.args.len long) s.slots in
     let up : c.loop-level.level ≡ c.loop-level.level - 1 + 1 = omega (arith, c.loop-level-test.true) in
     let p = subst (λ n. Pruning s.reading s.paths path c.args.way.now n c.loop-level.node c.args.nodes.now c.loop-level.nodes) up
-    (c.loop-level.invariant.pruned s.reading s.paths s.hold slots s.is) in
+    (c.loop-level.invariant.pruned s.reading s.paths s.hold s.slots s.is) in
     let below : c.loop-level.level - 1 < c.args.len / 5 = omega (arith, c.loop-level.invariant.within, c.loop-level-test.true) in
     let digit = step-read b c.args.len (c.loop-level.level - 1) long c.child_bit_of.result (level_inside (c.loop-level.level - 1) c.args.len below)
     c.child_bit_of.ensures.value in
@@ -64,7 +63,7 @@ loop-level-preserved g c =
           (subst (λ n. Pruning reading paths path c.args.way.now n c.loop-level.node c.args.nodes.now c.loop-level.nodes) up
           (c.loop-level.invariant.pruned reading paths hold slots is)) c.child_bit_of.result c.drop_child-node.result c.drop_child-node.new.nodes
           (sym digit) bare back c.drop_child-node.ensures.dropped;
-      room = Grows-after _ _ _ 24 back.room (made_kept c.args.nodes.now c.loop-level.nodes back.made) c.drop_child-node.ensures.room;
+      room = Grows-after _ _ _ 24 back.none.room (made_kept c.args.nodes.now c.loop-level.nodes back.none.made) c.drop_child-node.ensures.room;
       last = λ none. gives_then _ _ _ back (c.drop_child-node.ensures.last none);
       within = omega (arith, below);
     }
@@ -81,16 +80,8 @@ returns-after-loop-level-clause-pruned g c = λ reading paths hold slots is.
 
 pub returns-else-is_bare-clause-settles : goal.returns-else-is_bare-clause-settles
 returns-else-is_bare-clause-settles g c =
-    let b = g.K.Key.bits c.args.key in
-    let long : c.args.len ≤ length b = omega (arith, g.met.K.Key.key_laws.bits_length c.args.key c.requires.key, c.requires.within) in
-    let s = c.requires.stands in
-    let slots = subst (λ n. IsWay s.reading (path_of (take c.args.len b)) c.args.way.now n) (steps-all b c.args.len long) s.slots in
-    (c.loop-level.invariant.pruned s.reading s.paths s.hold slots s.is).to.settles
+    (let s = c.requires.stands in (c.loop-level.invariant.pruned s.reading s.paths s.hold s.slots s.is).to.settles)
 
 pub returns-after-loop-level-clause-settles : goal.returns-after-loop-level-clause-settles
 returns-after-loop-level-clause-settles g c =
-    let b = g.K.Key.bits c.args.key in
-    let long : c.args.len ≤ length b = omega (arith, g.met.K.Key.key_laws.bits_length c.args.key c.requires.key, c.requires.within) in
-    let s = c.requires.stands in
-    let slots = subst (λ n. IsWay s.reading (path_of (take c.args.len b)) c.args.way.now n) (steps-all b c.args.len long) s.slots in
-    (c.loop-level.invariant.pruned s.reading s.paths s.hold slots s.is).to.settles
+    (let s = c.requires.stands in (c.loop-level.invariant.pruned s.reading s.paths s.hold s.slots s.is).to.settles)

@@ -1,7 +1,7 @@
-use Rattle.prefix_trie_table.proofs.Prelude.{◌/◌, ◌≤◌, inl, inr, List, length, take, is_some, refl, sym, ap, subst, NodeSlot, path_of, IsWay}
+use Rattle.prefix_trie_table.proofs.Prelude.{◌/◌, inl, inr, List, take, is_some, refl, sym, ap, subst, NodeSlot, path_of, IsWay}
 use Rattle.prefix_trie_table.proofs.Removal.OneEntry.{nothing_taken, no_value}
 use Rattle.prefix_trie_table.proofs.Lookup.Finding.{reached_own}
-use Rattle.prefix_trie_table.proofs.Lookup.Going.{level_last, steps-all}
+use Rattle.prefix_trie_table.proofs.Lookup.Going.{level_last}
 use Rattle.prefix_trie_table.proofs.table.removal.remove_entry.Goals as goal
 
 pub returns-in_default-clause-removed : goal.returns-in_default-clause-removed
@@ -14,15 +14,13 @@ prune_up-requires-clause-stands g c =
     let b = g.K.Key.bits c.args.key in
     let path = path_of (take c.args.len b) in
     let t = c.requires.table.0 in
-    let long : c.args.len ≤ length b = c.in-Some.ensures.found.0.long in
     let taken = c.take_entry-value.ensures.taken t.reading t.paths t.values t.holds in
     record {
       reading = taken.0.later;
       paths = t.paths;
       hold = taken.0.holds.hold;
-      slots = subst (λ n. IsWay taken.0.later path c.deref.result.now n) (sym (steps-all b c.args.len long))
-          (subst (λ (xs : List NodeSlot). IsWay taken.0.later path xs (c.args.len / 5)) (sym c.deref.ensures.0)
-          (λ k h. taken.0.stands _ _ (c.in-Some.ensures.found.2 t.reading t.paths t.holds.hold k h)));
+      slots = subst (λ (xs : List NodeSlot). IsWay taken.0.later path xs (c.args.len / 5)) (sym c.deref.ensures.0)
+          (λ k h. taken.0.stands _ _ (c.in-Some.ensures.found.2 t.reading t.paths t.holds.hold k h));
       is = taken.1;
     }
 

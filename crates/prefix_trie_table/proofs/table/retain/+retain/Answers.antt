@@ -1,4 +1,4 @@
-use Rattle.prefix_trie_table.proofs.Prelude.{◌≡◌, ◌/◌, [], ◌∷◌, ◌++◌, length, take, refl, sym, ap, ◌∙◌, subst, arith, append-nil, append_assoc, false≢true, to_come, MayAskInOrder, listing_at_places, State, RetainsTo, IsTrie, All-weaker, All-contains_itself, has_bit, IsPlaceOf}
+use Rattle.prefix_trie_table.proofs.Prelude.{◌≡◌, ◌/◌, [], ◌∷◌, ◌++◌, length, take, refl, sym, ap, ◌∙◌, subst, arith, append-nil, append_assoc, false≢true, to_come, MayAskInOrder, listing_at_places, State, RetainsTo, IsTrie, All-weaker, All-contains_itself, has_bit, IsPlaceOf, All, HasPlace}
 use Rattle.std.specs.List.{Contains}
 use Rattle.prefix_trie_table.proofs.Retain.Asked.{none_asked}
 use Rattle.prefix_trie_table.proofs.Retain.Lowered.{child_there, lower_inside, lower_few, lower_fits, lower_site, may_ask_lower, still_site, still_lasts, child_stays, child_goes, site3, lasts3}
@@ -39,37 +39,12 @@ retain_place-new-places-requires g t c =
 pub retain_place-retain_places-left-requires : goal.retain_place-retain_places-left-requires
 retain_place-retain_places-left-requires g t c κs within =
     let place = c.requires.place in
-    let fits = lower_fits g.K.Key.IsKey g.K.Key.bits g.K.Key.bit_width g.met.K.Key.key_laws.bits_length c.args.nodes.now c.args.site c.args.node c.requires.site c.args.entries.now c.args.cells.now c.requires.trie.0 c.requires.trie.1 c.requires.place c.in-Child.child c.in-Child.is c.rank.result c.rank.ensures in (
-      omega (arith, fits),
-      (
-        within.0,
-        (
-          within.1.0,
-          (
-            within.1.1.0,
-            (
-              within.1.1.1.0,
-              (
-                within.1.1.1.1,
-                (
-                  c.requires.trie,
-                  (
-                    lower_site g.K.Key.IsKey g.K.Key.bits g.K.Key.bit_width g.met.K.Key.key_laws.bits_length c.args.nodes.now c.args.site c.args.node c.requires.site c.args.entries.now c.args.cells.now c.requires.trie.0 c.requires.trie.1 c.requires.place c.in-Child.child c.in-Child.is c.rank.result c.rank.ensures c.extend.result c.extend.ensures.key c.extend.ensures.value c.visit-lower.result c.visit-lower.ensures.node,
-                    (
-                      All-weaker (Contains (to_come c.new-places.result)) (IsPlaceOf c.visit-lower.result) (λ u m. (c.new-places.ensures.each u).0 m) (to_come c.new-places.result)
-                          (All-contains_itself (to_come c.new-places.result)),
-                      λ x h.
-                          may_ask_lower g.K.Key.IsKey g.K.Key.bits g.K.Key.bit_width g.met.K.Key.key_laws.bits_length c.args.nodes.now c.args.site c.args.node c.requires.site c.args.entries.now c.args.cells.now x h c.requires.place c.in-Child.child c.in-Child.is c.rank.result c.rank.ensures c.extend.result c.extend.ensures.key c.extend.ensures.value c.visit-lower.result c.visit-lower.ensures.node g.F.Keep.asks g.F.Keep.accepts c.args.keep.now (to_come c.new-places.result) c.new-places.ensures.places
-                          (c.requires.may_ask place.string place.short place.is x h),
-                    ),
-                  ),
-                ),
-              ),
-            ),
-          ),
-        ),
-      ),
-    )
+    let fits = lower_fits g.K.Key.IsKey g.K.Key.bits g.K.Key.bit_width g.met.K.Key.key_laws.bits_length c.args.nodes.now c.args.site c.args.node c.requires.site c.args.entries.now c.args.cells.now c.requires.trie.0 c.requires.trie.1 c.requires.place c.in-Child.child c.in-Child.is c.rank.result c.rank.ensures in
+    let site = lower_site g.K.Key.IsKey g.K.Key.bits g.K.Key.bit_width g.met.K.Key.key_laws.bits_length c.args.nodes.now c.args.site c.args.node c.requires.site c.args.entries.now c.args.cells.now c.requires.trie.0 c.requires.trie.1 c.requires.place c.in-Child.child c.in-Child.is c.rank.result c.rank.ensures c.extend.result c.extend.ensures.key c.extend.ensures.value c.visit-lower.result c.visit-lower.ensures.node in
+    let each : All (IsPlaceOf c.visit-lower.result) (to_come c.new-places.result) = All-weaker (Contains (to_come c.new-places.result)) (IsPlaceOf c.visit-lower.result) (λ u m. (c.new-places.ensures.each u).0 m) (to_come c.new-places.result) (All-contains_itself (to_come c.new-places.result)) in
+    let may = λ (x : State g.row.T.Denot) (h : IsTrie g.K.Key.bit_width c.args.entries.now c.args.nodes.now c.args.cells.now x).
+    may_ask_lower g.K.Key.IsKey g.K.Key.bits g.K.Key.bit_width g.met.K.Key.key_laws.bits_length c.args.nodes.now c.args.site c.args.node c.requires.site c.args.entries.now c.args.cells.now x h c.requires.place c.in-Child.child c.in-Child.is c.rank.result c.rank.ensures c.extend.result c.extend.ensures.key c.extend.ensures.value c.visit-lower.result c.visit-lower.ensures.node g.F.Keep.asks g.F.Keep.accepts c.args.keep.now (to_come c.new-places.result) c.new-places.ensures.places (c.requires.may_ask place.string place.short place.is x h) in
+    (omega (arith, fits), (within.0, (within.1.0, (within.1.1.0, (within.1.1.1.0, (within.1.1.1.1, (c.requires.trie, (site, (each, may)))))))))
 
 pub retain_place-drop_child-requires : goal.retain_place-drop_child-requires
 retain_place-drop_child-requires g t c =
@@ -137,34 +112,10 @@ retain_places-retain_place-node-requires g t c κs within =
     let one = inv.done c.requires.trie.0 c.requires.trie.1 in
     let here = this_place g.K.Key.IsKey g.K.Key.bits g.K.Key.bit_width g.F.Keep.asks g.F.Keep.accepts c.args.site long (to_come c.loop-place.places) inv.before taken.string (to_come c.next_place.new.self) taken.first taken.short c.in-Some.ensures.sorted inv.apart c.loop-place.node inv.each c.args.keep.now c.loop-place.keep c.args.entries.now c.loop-place.entries c.args.nodes.now c.loop-place.nodes c.args.cells.now c.loop-place.cells inv.done in
     let may = λ (x : State g.row.T.Denot) (is : IsTrie g.K.Key.bit_width c.args.entries.now c.args.nodes.now c.args.cells.now x).
-    subst (λ us. MayAskInOrder g.F.Keep.asks g.F.Keep.accepts c.args.keep.now (listing_at_places x.entries (take c.args.site.depth (g.K.Key.bits c.args.site.key)) us)) inv.all (c.requires.may_ask x is) in (
-      omega arith,
-      (
-        within.0,
-        (
-          within.1.0,
-          (
-            within.1.1.0,
-            (
-              within.1.1.1.0,
-              (
-                within.1.1.1.1,
-                (
-                  (one.after, one.trie),
-                  (
-                    inv.site,
-                    (
-                      record { string = taken.string; short = taken.short; is = taken.place; set = here.1 },
-                      λ u few is. may_ask_this g.K.Key.IsKey g.K.Key.bits g.K.Key.bit_width g.F.Keep.asks g.F.Keep.accepts c.args.site long (to_come c.loop-place.places) inv.before taken.string (to_come c.next_place.new.self) taken.first taken.short c.in-Some.ensures.sorted inv.apart c.loop-place.node inv.each c.args.keep.now c.loop-place.keep c.args.entries.now c.loop-place.entries c.args.nodes.now c.loop-place.nodes c.args.cells.now c.loop-place.cells inv.done c.requires.trie.0 c.requires.trie.1 may u few (sym taken.place ∙ is),
-                    ),
-                  ),
-                ),
-              ),
-            ),
-          ),
-        ),
-      ),
-    )
+    subst (λ us. MayAskInOrder g.F.Keep.asks g.F.Keep.accepts c.args.keep.now (listing_at_places x.entries (take c.args.site.depth (g.K.Key.bits c.args.site.key)) us)) inv.all (c.requires.may_ask x is) in
+    let ask = may_ask_this g.K.Key.IsKey g.K.Key.bits g.K.Key.bit_width g.F.Keep.asks g.F.Keep.accepts c.args.site long (to_come c.loop-place.places) inv.before taken.string (to_come c.next_place.new.self) taken.first taken.short c.in-Some.ensures.sorted inv.apart c.loop-place.node inv.each c.args.keep.now c.loop-place.keep c.args.entries.now c.loop-place.entries c.args.nodes.now c.loop-place.nodes c.args.cells.now c.loop-place.cells inv.done c.requires.trie.0 c.requires.trie.1 may in
+    let place : HasPlace c.loop-place.node c.in-Some.place = record { string = taken.string; short = taken.short; is = taken.place; set = here.1 } in
+    (omega arith, (within.0, (within.1.0, (within.1.1.0, (within.1.1.1.0, (within.1.1.1.1, ((one.after, one.trie), (inv.site, (place, λ u few is. ask u few (sym taken.place ∙ is))))))))))
 
 pub retain_places-loop-place-smaller : goal.retain_places-loop-place-smaller
 retain_places-loop-place-smaller g t c =
