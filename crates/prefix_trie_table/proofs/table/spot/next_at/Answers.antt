@@ -63,17 +63,11 @@ extend-below-requires-clause-fits g c =
     let taken = c.in-Some.ensures.place in
     place-child-small taken.string c.in-Child.child taken.short (sym c.in-Child.is ∙ taken.place)
 
-pub enter-requires-clause-stands : goal.enter-requires-clause-stands
-enter-requires-clause-stands g c =
+pub enter-requires : goal.enter-requires
+enter-requires g c =
     let taken = c.in-Some.ensures.place in
     let is = place-child taken.string c.in-Child.child taken.short (sym c.in-Child.is ∙ taken.place) in
-    (child_here _ _ _ _ _ _ c.requires.spot (g.met.K.Key.key_laws.bits_length c.args.key c.requires.spot.is_key) taken.string c.next_place.new.self taken.first c.requires.tree.0 c.requires.tree.1 is.0 c.in-Child.child _ is.1 c.child_slot-at.ensures).0
-
-pub enter-requires-clause-few : goal.enter-requires-clause-few
-enter-requires-clause-few g c =
-    let taken = c.in-Some.ensures.place in
-    let is = place-child taken.string c.in-Child.child taken.short (sym c.in-Child.is ∙ taken.place) in
-    (child_here _ _ _ _ _ _ c.requires.spot (g.met.K.Key.key_laws.bits_length c.args.key c.requires.spot.is_key) taken.string c.next_place.new.self taken.first c.requires.tree.0 c.requires.tree.1 is.0 c.in-Child.child _ is.1 c.child_slot-at.ensures).1
+    let h = child_here _ _ _ _ _ _ c.requires.spot (g.met.K.Key.key_laws.bits_length c.args.key c.requires.spot.is_key) taken.string c.next_place.new.self taken.first c.requires.tree.0 c.requires.tree.1 is.0 c.in-Child.child _ is.1 c.child_slot-at.ensures in record { stands = h.0; few = h.1 }
 
 pub returns-in-Child-clause-step : goal.returns-in-Child-clause-step
 returns-in-Child-clause-step g c =
