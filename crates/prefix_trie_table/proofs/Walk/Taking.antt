@@ -117,11 +117,8 @@ module _ {K T : Type 0} (IsKey : K → Type 0) (bits : K → List Bool) (width :
       apart : IsApart q (pending bits s.0 next qs) × AreApart (pending bits s.0 next qs)
       apart = subst AreApart come at.apart
 
-      pub taken_inside : slot_of seat < length w.slots
-      taken_inside = let x = h.stands in omega (arith, x, at.long)
-
       taken_cell : (x : Option T) → x ≡ get_or w.slots (slot_of seat) x → cell_of v.slots w.slots q ≡ x
-      taken_cell x read = cell_at v.slots w.slots q ∙ ap (in_seat w.slots) found ∙ get_or_default w.slots (slot_of seat) None x taken_inside ∙ sym read
+      taken_cell x read = cell_at v.slots w.slots q ∙ ap (in_seat w.slots) found ∙ get_or_default w.slots (slot_of seat) None x (let y = h.stands in omega (arith, y, at.long)) ∙ sym read
 
       -- it is there
       pub taken_there : (x : Option T) → x ≡ get_or w.slots (slot_of seat) x → is_some x ≡ true
@@ -174,12 +171,6 @@ module _ {K T : Type 0} (IsKey : K → Type 0) (bits : K → List Bool) (width :
     abbrev IsStored : List Bool × T → Type 0
     IsStored e = get s.entries e.0 ≡ Some e.1
 
-    all_stored : All IsStored (entries s.entries)
-    all_stored =
-        All-weaker (Contains (entries s.entries)) IsStored
-        (λ e h. get-entries s.entries e.0 ∙ find-from_Contains (entries s.entries) e (entries_sorted s.entries) h) (entries s.entries)
-        (All-contains_itself (entries s.entries))
-
     cell_stored : (e : List Bool × T) → IsStored e → cell_of v.slots w.slots e.0 ≡ Some e.1
     cell_stored e h = sym (trie.shaped.1 e.0) ∙ h
 
@@ -198,7 +189,10 @@ module _ {K T : Type 0} (IsKey : K → Type 0) (bits : K → List Bool) (width :
       below_come = strings_come whole trie keys key ps ∙ ap (λ es. map bare es) rest
 
       below_stored : All IsStored (listing_below s.entries q)
-      below_stored = All-filter (λ e. begins q e.0) IsStored (entries s.entries) all_stored
+      below_stored = All-filter (λ e. begins q e.0) IsStored (entries s.entries)
+          (All-weaker (Contains (entries s.entries)) IsStored
+          (λ e h. get-entries s.entries e.0 ∙ find-from_Contains (entries s.entries) e (entries_sorted s.entries) h) (entries s.entries)
+          (All-contains_itself (entries s.entries)))
 
       pub walk_below : IsStack IsKey bits width v key ps → IsTaking IsKey bits width v w keys.0 key ps
       walk_below stack = record {
