@@ -1,4 +1,4 @@
-use Rattle.prefix_trie_table.proofs.Prelude.{◌≡◌, ◌+◌, arith, length, ap, ap₂, sym, ◌∙◌, subst, value_block_sizes, own_entries, NodesHaveBlocks, holders, block_counts, slots_counted, used_blocks, Contents}
+use Rattle.prefix_trie_table.proofs.Prelude.{◌≡◌, ◌+◌, arith, ap, ap₂, sym, ◌∙◌, value_block_sizes, block_counts, slots_counted, used_blocks, Contents}
 use Rattle.prefix_trie_table.proofs.Tree.Invariant.{some_table}
 use Rattle.prefix_trie_table.proofs.Counts.BlockCounts.{seven_cells, cell_counts, slots_are, free_within}
 use Rattle.prefix_trie_table.proofs.Counts.BlockUsers.{holders_used}

@@ -1,8 +1,8 @@
-use Rattle.prefix_trie_table.proofs.Prelude.{ℕ, [], ◌∷◌, Option, length, ap, sym, subst, arith, Clear, Done, StepByPath, Contents, stored, IsTable, Node, node_sizes, Store}
+use Rattle.prefix_trie_table.proofs.Prelude.{[], ◌∷◌, Option, length, ap, sym, subst, arith, IsTable, Node, node_sizes, Store}
 use Rattle.prefix_trie_table.proofs.Tree.Invariant.{some_table}
 use Rattle.prefix_trie_table.proofs.Removal.Clearing.{under_limit, root_slot}
 use Rattle.prefix_trie_table.proofs.Tree.Shapes.{root_shape, root_reading, new_holds, new_shape, new_only, new_table}
-use Rattle.prefix_trie_table.proofs.Blocks.Sizing.{sizes_of, root_layout, storage_of}
+use Rattle.prefix_trie_table.proofs.Blocks.Sizing.{sizes_of, root_layout}
 use Rattle.prefix_trie_table.proofs.Tree.Stated.{clears_step}
 use Rattle.prefix_trie_table.proofs.table.Table.clear.Goals as goal
 

@@ -1,4 +1,4 @@
-use Rattle.prefix_trie_table.proofs.Prelude.{◌≡◌, ℕ, length, take, refl, sym, ◌∙◌, subst, arith, length-take-le, without_below, nodes_without_below, State, RemoveChildren, Done, StepByPath, Contents, storage, same_shape, stored, SettlesInStorage, IsTable, IsTrie}
+use Rattle.prefix_trie_table.proofs.Prelude.{◌≡◌, length, take, refl, ◌∙◌, arith, length-take-le, stored}
 use Rattle.prefix_trie_table.proofs.Tree.Invariant.{some_table}
 use Rattle.prefix_trie_table.proofs.Removal.PartTaken.{may_ask_all, seen_trie}
 use Rattle.prefix_trie_table.proofs.Blocks.Sizing.{table_sizes}

@@ -1,4 +1,4 @@
-use Rattle.prefix_trie_table.proofs.Prelude.{◌+◌, take, ap, sym, ◌∙◌, get, visits}
+use Rattle.prefix_trie_table.proofs.Prelude.{take, sym, ◌∙◌}
 use Rattle.prefix_trie_table.proofs.Tree.Invariant.{some_table}
 use Rattle.prefix_trie_table.proofs.Lookup.Matched.{met_on_way}
 use Rattle.prefix_trie_table.proofs.Tree.Shapes.{shape_entries}

@@ -1,4 +1,3 @@
-use Rattle.prefix_trie_table.proofs.Prelude.{◌≡◌, ◌+◌, ◌≤◌, take, None, Some, MatchOption, ap, ◌∙◌, subst, longest_match, visits, Contents}
 use Rattle.prefix_trie_table.proofs.Tree.Invariant.{some_table}
 use Rattle.prefix_trie_table.proofs.Lookup.Going.{key_long}
 use Rattle.prefix_trie_table.proofs.Lookup.Matched.{has_nodes, cell_inside, longest_none, longest_handed, met_is}

@@ -1,4 +1,4 @@
-use Rattle.prefix_trie_table.proofs.Prelude.{◌≡◌, ◌+◌, ◌≤◌, take, None, Some, MatchOption, ap, sym, ◌∙◌, subst, shortest_match, visits_to_match, Contents}
+use Rattle.prefix_trie_table.proofs.Prelude.{◌+◌, ap, sym, ◌∙◌}
 use Rattle.prefix_trie_table.proofs.Tree.Invariant.{some_table}
 use Rattle.prefix_trie_table.proofs.Lookup.Going.{key_long}
 use Rattle.prefix_trie_table.proofs.Lookup.Matched.{has_nodes, cell_inside, shortest_none, shortest_handed, met_none, met_shortest}

@@ -1,6 +1,6 @@
-use Rattle.prefix_trie_table.proofs.Prelude.{◌≡◌, ℕ, is_some, take, sym, ap, ◌∙◌, subst, Insert, StepByPath, Memory, IndexRange, Refused, Contents, stored, inserted}
+use Rattle.prefix_trie_table.proofs.Prelude.{◌≡◌, is_some, take, sym, ap, ◌∙◌, Memory, IndexRange, Refused}
 use Rattle.prefix_trie_table.proofs.Tree.Invariant.{some_table, some_counted}
-use Rattle.prefix_trie_table.proofs.Blocks.Sizing.{table_sizes, storage_of}
+use Rattle.prefix_trie_table.proofs.Blocks.Sizing.{table_sizes}
 use Rattle.prefix_trie_table.proofs.Insertion.Foreseen.{obtained}
 use Rattle.prefix_trie_table.proofs.Insertion.Inserted.{inserted_in}
 use Rattle.prefix_trie_table.proofs.Insertion.Resized.{sizes_left}

@@ -1,4 +1,4 @@
-use Rattle.prefix_trie_table.proofs.Prelude.{◌+◌, take, ap, ◌∙◌, subst, visits, IsLocation, Contents}
+use Rattle.prefix_trie_table.proofs.Prelude.{take}
 use Rattle.prefix_trie_table.proofs.Tree.Invariant.{some_table}
 use Rattle.prefix_trie_table.proofs.Lookup.Matched.{met_on_way}
 use Rattle.prefix_trie_table.proofs.Lookup.Located.{located}

@@ -1,9 +1,8 @@
-use Rattle.prefix_trie_table.proofs.Prelude.{rules, ◌≤◌, MatchResult, length, take, ap, ◌∙◌, subst, arith, contains_key, LeavesRoom, State, ReadiesInStorage, RefusesInStorage, Contents, state, storage}
-use Rattle.std.specs.FinMap.{len as number_of}
+use Rattle.prefix_trie_table.proofs.Prelude.{rules, ap, State, Contents}
 use Rattle.prefix_trie_table.proofs.Tree.Invariant.{some_table}
 use Rattle.prefix_trie_table.proofs.Lookup.Going.{key_long}
 use Rattle.prefix_trie_table.proofs.Tree.Kept.{ends_at, end_reached, kept_shape, kept_same, kept_table, kept_end, kept_readies}
-use Rattle.prefix_trie_table.proofs.Blocks.Sizing.{table_sizes, storage_of}
+use Rattle.prefix_trie_table.proofs.Blocks.Sizing.{table_sizes}
 use Rattle.prefix_trie_table.proofs.Tree.Stated.{longer_room}
 use Rattle.prefix_trie_table.proofs.table.Table.make_room.Goals as goal
 

@@ -1,4 +1,4 @@
-use Rattle.prefix_trie_table.proofs.Prelude.{◌+◌, length, ap, ap₂, sym, ◌∙◌, subst, child_block_sizes, child_count, NodesHaveBlocks, parents, block_counts, slots_counted, used_blocks, Contents}
+use Rattle.prefix_trie_table.proofs.Prelude.{◌+◌, ap, ap₂, sym, ◌∙◌, child_block_sizes, block_counts, slots_counted, used_blocks, Contents}
 use Rattle.prefix_trie_table.proofs.Tree.Invariant.{some_table}
 use Rattle.prefix_trie_table.proofs.Counts.BlockCounts.{node_counts, slots_are, free_within}
 use Rattle.prefix_trie_table.proofs.Counts.BlockUsers.{parents_used}

@@ -1,10 +1,10 @@
-use Rattle.prefix_trie_table.proofs.Prelude.{◌≤◌, ℕ, length, take, ap, ◌∙◌, subst, arith, contains_key, Insert, StepByPath, Contents, stored, placed}
+use Rattle.prefix_trie_table.proofs.Prelude.{take, ap, Contents}
 use Rattle.prefix_trie_table.proofs.Tree.Invariant.{some_table, some_counted}
 use Rattle.prefix_trie_table.proofs.Lookup.Going.{key_long}
 use Rattle.prefix_trie_table.proofs.Tree.Kept.{ends_at, end_reached}
 use Rattle.prefix_trie_table.proofs.Insertion.Placements.{inserting, placed_leaves, placed_counts, placed_step}
 use Rattle.prefix_trie_table.proofs.Tree.Shapes.{left_shape, table_left}
-use Rattle.prefix_trie_table.proofs.Blocks.Sizing.{table_sizes, storage_of}
+use Rattle.prefix_trie_table.proofs.Blocks.Sizing.{table_sizes}
 use Rattle.prefix_trie_table.proofs.table.Table.place.Goals as goal
 
 pub place_entry-requires-clause-table : goal.place_entry-requires-clause-table

@@ -1,7 +1,7 @@
-use Rattle.prefix_trie_table.proofs.Prelude.{ℕ, take, Option, subst, Remove, Value, StepByPath, Contents, stored}
+use Rattle.prefix_trie_table.proofs.Prelude.{take}
 use Rattle.prefix_trie_table.proofs.Tree.Invariant.{some_table, some_counted}
 use Rattle.prefix_trie_table.proofs.Removal.NodesLeft.{removed_without}
-use Rattle.prefix_trie_table.proofs.Blocks.Sizing.{table_sizes, storage_of}
+use Rattle.prefix_trie_table.proofs.Blocks.Sizing.{table_sizes}
 use Rattle.prefix_trie_table.proofs.Tree.Stated.{removes_step}
 use Rattle.prefix_trie_table.proofs.Removal.Stepped.{removed_in, pruned_in}
 use Rattle.prefix_trie_table.proofs.table.Table.remove.Goals as goal

@@ -1,4 +1,4 @@
-use Rattle.prefix_trie_table.proofs.Prelude.{◌≡◌, ◌<◌, ℕ, length, take, refl, sym, ap, ap₂, ◌∙◌, subst, arith, length-take-le, part_below, IsPacked, needed, State, RemoveChildren, Done, StepByPath, Sized-prop, Contents, Shaped-prop, storage, stored, SettlesInStorage, Store, IsTable}
+use Rattle.prefix_trie_table.proofs.Prelude.{◌≡◌, ℕ, length, take, refl, ap, ap₂, ◌∙◌, subst, arith, length-take-le, RemoveChildren, Done, StepByPath, Sized-prop, Contents, Shaped-prop, stored, Store, IsTable}
 use Rattle.prefix_trie_table.proofs.Blocks.Sizing.{table_sizes, storage_of}
 use Rattle.prefix_trie_table.proofs.Removal.Clearing.{root_slot}
 use Rattle.prefix_trie_table.proofs.Moving.HandedOut.{rest_counted, shape_seen, table_seen, clear_behind, handed_out, second_packed}

@@ -1,8 +1,8 @@
-use Rattle.prefix_trie_table.proofs.Prelude.{ℕ, take, Option, subst, RemoveKeepTree, Value, StepByPath, Contents, stored}
+use Rattle.prefix_trie_table.proofs.Prelude.{take}
 use Rattle.prefix_trie_table.proofs.Tree.Invariant.{some_table, some_counted}
 use Rattle.prefix_trie_table.proofs.Removal.OneEntry.{kept_without}
 use Rattle.prefix_trie_table.proofs.Insertion.Rooms.{Grows-none}
-use Rattle.prefix_trie_table.proofs.Blocks.Sizing.{table_sizes, storage_of}
+use Rattle.prefix_trie_table.proofs.Blocks.Sizing.{table_sizes}
 use Rattle.prefix_trie_table.proofs.Tree.Stated.{takes_step}
 use Rattle.prefix_trie_table.proofs.Removal.Stepped.{kept_in, kept_children}
 use Rattle.prefix_trie_table.proofs.table.Table.remove_keep_tree.Goals as goal

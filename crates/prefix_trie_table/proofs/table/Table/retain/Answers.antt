@@ -1,4 +1,4 @@
-use Rattle.prefix_trie_table.proofs.Prelude.{◌≡◌, refl, sym, subst, MayAskInOrder, AreWithin, listing, State, RetainsInStorage, RetainsAll, Contents, storage, same_shape, stored, SettlesInStorage, IsTable}
+use Rattle.prefix_trie_table.proofs.Prelude.{◌≡◌, refl, sym, subst, MayAskInOrder, AreWithin, listing, State, Contents, same_shape}
 use Rattle.prefix_trie_table.proofs.Tree.Invariant.{some_table}
 use Rattle.prefix_trie_table.proofs.Removal.PartTaken.{seen_trie}
 use Rattle.prefix_trie_table.proofs.Blocks.Sizing.{table_sizes}

@@ -1,4 +1,4 @@
-use Rattle.prefix_trie_table.proofs.Prelude.{◌≡◌, ◌+◌, ◌≤◌, ◌<◌, get_or, take, length, None, Some, MatchOption, sym, subst, longest_match, Found, IsAnswer, IsLongestFound, asked, Contents}
+use Rattle.prefix_trie_table.proofs.Prelude.{◌+◌, asked}
 use Rattle.prefix_trie_table.proofs.Lookup.Going.{key_long}
 use Rattle.prefix_trie_table.proofs.Lookup.Matched.{cell_inside, longest_none, longest_handed}
 use Rattle.prefix_trie_table.proofs.Lookup.Rounds.{answer_is, found_some, found_none}
