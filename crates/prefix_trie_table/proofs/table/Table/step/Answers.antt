@@ -1,4 +1,4 @@
-use Rattle.prefix_trie_table.proofs.Prelude.{◌≡◌, [], sym, ap, subst, IfSome, MatchOption, take, true, ⊤, contains_key, Contents, array_of, keys_to_come, GivesKey, Tree, pending}
+use Rattle.prefix_trie_table.proofs.Prelude.{sym, ap, ⊤, Contents, array_of, Tree, pending}
 use Rattle.prefix_trie_table.proofs.Tree.Invariant.{trie_of}
 use Rattle.prefix_trie_table.proofs.Walk.Walking.{stack_in, step_gives, seated_stored}
 use Rattle.prefix_trie_table.proofs.table.Table.step.Goals as goal

@@ -1,4 +1,4 @@
-use Rattle.prefix_trie_table.proofs.Prelude.{◌∙◌, map, take, ap, sym, ⊤, selected, Contents, array_of, keys_to_come, Tree}
+use Rattle.prefix_trie_table.proofs.Prelude.{map, ap, ⊤, Contents, array_of, Tree}
 use Rattle.prefix_trie_table.proofs.Tree.Invariant.{trie_of}
 use Rattle.prefix_trie_table.proofs.Walk.Walking.{stack_in}
 use Rattle.prefix_trie_table.proofs.table.Table.trail.Goals as goal
