@@ -1,5 +1,5 @@
 -- The sizes of the blocks that an insertion leaves.
-use Rattle.prefix_trie_table.proofs.Prelude.{◌≡◌, ℕ, ◌+◌, ◌*◌, ◌/◌, ◌%◌, ◌<◌, ◌≤◌, inl, inr, Bool, true, false, cond, not, nat_lt, ◌&&◌, List, length, take, Option, None, Some, is_some, Result, Ok, Err, MatchResult, refl, sym, ap, ap₂, ◌∙◌, arith, eqb-true, eq-eqb, false≢true, cases_Bool, cases_lt, le-ltb, false_from_ne_true, get, contains_key, option_or, begins, same_bool, same_string, child_block_sizes, value_block_sizes, child_count, own_entries, block_needed, gains_child, child_block_needed, value_block_needed, TakesBlocks, has_node, is_node_depth, home, State, home-depth, home-length, same_string-is, is-same_string, same_entries, Node, node_sizes, path_of, bit_of, read, same_path, is_start, gains, Holds, EntryAdded, Sized, child_need, value_need, IsShapeOf, Shaped, Store, IsTable, ForHeld}
+use Rattle.prefix_trie_table.proofs.Prelude.{◌≡◌, ℕ, ◌+◌, ◌*◌, ◌/◌, ◌%◌, ◌≤◌, inl, inr, Bool, true, false, cond, not, nat_lt, ◌&&◌, List, length, take, Option, None, Some, is_some, Result, Ok, Err, MatchResult, refl, sym, ap, ap₂, ◌∙◌, arith, eqb-true, eq-eqb, false≢true, cases_Bool, cases_lt, le-ltb, false_from_ne_true, get, contains_key, option_or, begins, same_bool, same_string, child_block_sizes, value_block_sizes, child_count, own_entries, block_needed, gains_child, child_block_needed, value_block_needed, TakesBlocks, has_node, is_node_depth, home, State, home-depth, home-length, same_string-is, is-same_string, same_entries, Node, node_sizes, path_of, bit_of, read, same_path, is_start, gains, Holds, EntryAdded, Sized, child_need, value_need, IsShapeOf, Shaped, Store, IsTable, ForHeld}
 use Rattle.std.proofs.lemmas.Bool.{lt-ltb}
 use Rattle.std.proofs.lemmas.List.{take_all}
 use Rattle.prefix_trie_table.specs.OwnBlocks.{child_block_size, value_block_size}
@@ -11,15 +11,6 @@ use Rattle.prefix_trie_table.proofs.Strings.Keys.{same_way, begins-way}
 use Rattle.prefix_trie_table.proofs.Strings.Paths.{same_path-true, same_path-equal}
 use Rattle.prefix_trie_table.proofs.Tree.Shapes.{shape_entries}
 use Rattle.prefix_trie_table.proofs.Tree.Trees.{reads, is_none-None}
-
-below_fives : (i k l h : ℕ) → l ≡ 5 * i → h ≡ 5 * k → i < k → l < h
-below_fives i k l h e f less = omega (arith, e, f, less)
-
-above_fives : (i k l h : ℕ) → l ≡ 5 * i → h ≡ 5 * k → k ≤ i → h ≤ l
-above_fives i k l h e f more = omega (arith, e, f, more)
-
-next_five : (i l : ℕ) → l ≡ 5 * i → l + 5 ≡ 5 * (i + 1)
-next_five i l e = omega (arith, e)
 
 module _ {T : Type 0} (reading : List ℕ → Option Node) (values : List ℕ → ℕ → Option T) (paths : List (List ℕ)) (v : Store Node) (w : Store (Option T))
     (holds : Holds reading values paths v w) (s : State T) (is : IsShapeOf v.slots w.slots s) (sized : Sized v.slots) where
@@ -54,13 +45,13 @@ module _ {T : Type 0} (reading : List ℕ → Option Node) (values : List ℕ �
         (λ _. (nat_lt (length p) (length (home q)) && not (has_node s.nodes (take (length p + 5) q)))
         ≡ (nat_lt (length (path_of p)) (length (path_of q)) && not (is_some (reading (take (length (path_of p) + 1) (path_of q)))))) [
           | inl less ↦
-              ap₂ (λ a b. a && not b) (lt-ltb (length p) (length (home q)) (below_fives (length (path_of p)) (length (path_of q)) (length p) (length (home q)) five (home_five q) less))
-              (ap (λ n. has_node s.nodes (take n q)) (next_five (length (path_of p)) (length p) five)
+              ap₂ (λ a b. a && not b) (lt-ltb (length p) (length (home q)) (omega (arith, five, home_five q, less)))
+              (ap (λ n. has_node s.nodes (take n q)) (let next : length p + 5 ≡ 5 * (length (path_of p) + 1) = omega (arith, five) in next)
               ∙ node_is reading values paths v w holds s is sized q (length (path_of p) + 1) (let e = path-length q in omega arith))
               ∙ ap (λ b. b && not (is_some (reading (take (length (path_of p) + 1) (path_of q))))) (sym (lt-ltb (length (path_of p)) (length (path_of q)) less))
           | inr more ↦
               ap (λ b. b && not (has_node s.nodes (take (length p + 5) q)))
-              (le-ltb (length p) (length (home q)) (above_fives (length (path_of p)) (length (path_of q)) (length p) (length (home q)) five (home_five q) more))
+              (le-ltb (length p) (length (home q)) (omega (arith, five, home_five q, more)))
               ∙ ap (λ b. b && not (is_some (reading (take (length (path_of p) + 1) (path_of q))))) (sym (le-ltb (length (path_of p)) (length (path_of q)) more))
         ])
 

@@ -131,14 +131,11 @@ module _ {K : Type 0} (bits : K → List Bool) (v : Store Node) (questions : Lis
           let at : j + 0 ≡ j = omega arith in
           ap (λ i. get_or now i d) (sym at) ∙ sym (get_or-drop j now 0 d) ∙ ap (λ l. get_or l 0 d) same ∙ get_or-drop j ways 0 d ∙ ap (λ i. get_or ways i d) at
 
-      taken_at : (d : Way) → get_or (take count ways) j d ≡ get_or now j d
-      taken_at d = get_or-take count ways j d inside ∙ sym (now_at d)
-
       inside_taken : j < length (take count ways)
       inside_taken = omega (arith, inside, length-take-le count ways long)
 
       pub way_is : (d : Way) → IsWay bits v questions level (get_or now j d)
-      way_is d = subst (IsWay bits v questions level) (taken_at d) (given.ways_are j d inside_taken)
+      way_is d = subst (IsWay bits v questions level) (get_or-take count ways j d inside ∙ sym (now_at d)) (given.ways_are j d inside_taken)
 
       node_is : (d : Way) (n : Node) → n ≡ get_or read j n → n ≡ node_at v.slots (slot_of (get_or now j d))
       node_is d n is =

@@ -66,9 +66,6 @@ module _ (level : ℕ) (node : Node) (matches first : ℕ) (q : List Bool) (deep
     own : (begins (digits n x) (drop (5 * level) q) ≡ true) × (nat_le first (5 * level + length (digits n x)) ≡ true) × (has node.value_bitmap (value_bit (digits n x)) ≡ true)
     own = each-of _ _ _ (sym (left.bits (digits n x) (omega (arith, own_length))) ∙ ap (has matches) bit_is ∙ set)
 
-    own_take : take n (drop (5 * level) q) ≡ digits n x
-    own_take = ap (λ k. take k (drop (5 * level) q)) (sym own_length) ∙ begins-take (digits n x) (drop (5 * level) q) own.0
-
     own_within : n ≤ length (drop (5 * level) q)
     own_within = omega (arith, begins-length (digits n x) (drop (5 * level) q) own.0, own_length)
 
@@ -113,7 +110,7 @@ module _ (level : ℕ) (node : Node) (matches first : ℕ) (q : List Bool) (deep
       next = λ reading is. (
         own_first,
         refl,
-        held_here q level deep reading node is n t short own_within (sym bit_is ∙ ap value_bit (sym own_take)) (ap (has node.value_bitmap) (sym bit_is) ∙ own.2),
+        held_here q level deep reading node is n t short own_within (sym bit_is ∙ ap value_bit (sym (ap (λ k. take k (drop (5 * level) q)) (sym own_length) ∙ begins-take (digits n x) (drop (5 * level) q) own.0))) (ap (has node.value_bitmap) (sym bit_is) ∙ own.2),
         λ i from last within. held_is q level i (omega arith) within (omega arith) reading node is
             ∙ no_or_yes _ (λ st. none_shorter (take (i - 5 * level) (drop (5 * level) q)) (omega (arith, length-take-le (i - 5 * level) (drop (5 * level) q) (omega (arith, rest-long)))) (match-of i from (omega arith) within st)),
       );
@@ -148,11 +145,8 @@ gone_nowhere b len first level node slot matches v at = record { to = first; sta
 
 module _ (b : List Bool) (len first level : ℕ) (node : Node) (slot matches : ℕ) (v : Store Node) (gone : GoneTo b len first level node slot matches v)
     (new : ℕ) (o : Option Match) (takes : TakesShortest level node matches new o) where
-  deep_in : 5 * level ≤ length (take len b)
-  deep_in = steps-within b len level gone.stands.on_way.long gone.stands.on_way.whole
-
   taken : TakesMatch level node new gone.to (take len b) o
-  taken = takes (take len b) gone.to deep_in gone.stands.low gone.stands.high gone.stands.left
+  taken = takes (take len b) gone.to (steps-within b len level gone.stands.on_way.long gone.stands.on_way.whole) gone.stands.low gone.stands.high gone.stands.left
 
   -- the walk stands where it stood, with the matches that are left
   stays : IsCovering b len level node slot new taken.later v

@@ -11,19 +11,13 @@ key_long n len width e h = omega (arith, e, h)
 
 -- ---- the steps and the value bit of the first len bits of a key
 
-fifth-more : (level len n : ℕ) → n ≡ len / 5 → 5 * level + 5 ≤ len → level < n
-fifth-more level len n e h = omega (arith, e, h)
-
-fifth-last : (level len n : ℕ) → n ≡ len / 5 → 5 * level ≤ len → len < 5 * level + 5 → n ≡ level
-fifth-last level len n e h k = omega (arith, e, h, k)
-
 module _ (b : List Bool) (len level : ℕ) (within : len ≤ length b) where
   steps-length : length (path_of (take len b)) ≡ len / 5
   steps-length = path-length (take len b) ∙ ap (λ n. n / 5) (length-take-le len b within)
 
   -- a whole step more is one of the way
   pub step-inside : 5 * level + 5 ≤ len → level < length (path_of (take len b))
-  step-inside h = fifth-more level len (length (path_of (take len b))) steps-length h
+  step-inside h = omega (arith, steps-length, h)
 
   -- the child bit that the code reads is the next step
   pub step-read : (x : ℕ) → 5 * level + 5 ≤ len → x ≡ number (take 5 (drop (5 * level) b)) → get_or (path_of (take len b)) level 0 ≡ x
@@ -32,7 +26,7 @@ module _ (b : List Bool) (len level : ℕ) (within : len ≤ length b) where
 
   -- where no whole step is left, the way is at its end
   pub steps-end : 5 * level ≤ len → len < 5 * level + 5 → length (path_of (take len b)) ≡ level
-  steps-end h k = fifth-last level len (length (path_of (take len b))) steps-length h k
+  steps-end h k = omega (arith, steps-length, h, k)
 
   -- the value bit that the code reads is the string's own
   pub bit-read : (x : ℕ) → 5 * level ≤ len → len < 5 * level + 5 → x ≡ value_bit (drop (5 * level) (take len b)) → bit_of (take len b) ≡ x
@@ -169,14 +163,8 @@ level_inside level len h = omega (arith, h)
 pub level_last : (level len : ℕ) → level ≡ len / 5 → len < 5 * level + 5
 level_last level len e = omega (arith, e)
 
-pub level_whole : (level len : ℕ) → level ≡ len / 5 → 5 * level ≤ len
-level_whole level len e = omega (arith, e)
-
-pub level_within : (level len : ℕ) → 5 * level ≤ len → level ≤ len / 5
-level_within level len h = omega (arith, h)
-
 pub level_more : (level len : ℕ) → 5 * level ≤ len → level ≢ len / 5 → 5 * level + 5 ≤ len
-level_more level len h other = level_inside level len (let w = level_within level len h in omega (arith, w, other))
+level_more level len h other = omega (arith, h, other)
 
 pub level_past : (level len : ℕ) → len < 5 * level + 5 → 5 * level ≤ len → level ≡ len / 5
 level_past level len h k = omega (arith, h, k)
@@ -184,7 +172,7 @@ level_past level len h k = omega (arith, h, k)
 -- the value bit that the code reads at the depth of the last whole step
 pub bit-read-last : (b : List Bool) (len : ℕ) → len ≤ length b → (x : ℕ) → x ≡ value_bit (drop (len / 5 * 5) (take len b)) → bit_of (take len b) ≡ x
 bit-read-last b len within x e =
-    bit-read b len (len / 5) within x (level_whole (len / 5) len refl) (level_last (len / 5) len refl)
+    bit-read b len (len / 5) within x (omega arith) (level_last (len / 5) len refl)
     (e ∙ ap (λ d. value_bit (drop d (take len b))) (turn (len / 5)))
   where
     turn : (n : ℕ) → n * 5 ≡ 5 * n

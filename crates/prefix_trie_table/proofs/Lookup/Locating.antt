@@ -22,9 +22,6 @@ seat_some (Some n) b = either (has_bit n.value_bitmap b)
     either true = refl
     either false = refl
 
-seat_none : (o : Option Node) (b : ℕ) → has_value o b ≡ false → seat_in o b ≡ None
-seat_none o b e = is_none-None (seat_in o b) (seat_some o b ∙ e)
-
 -- the seat of a value that is there
 pub seat_there : (n : Node) (b : ℕ) → has_bit n.value_bitmap b ≡ true → seat_in (Some n) b ≡ Some (value_seat n b)
 seat_there n b e = ap (λ t. cond t (Some (value_seat n b)) None) e
@@ -64,7 +61,7 @@ module _ (v : Store Node) (reading : List ℕ → Option Node) (paths : List (Li
 
   -- and none where there is no value
   pub no_seat : has_value (reading (path_of q)) (bit_of q) ≡ false → seat_of v.slots q ≡ None
-  no_seat e = seat_reads ∙ seat_none (reading (path_of q)) (bit_of q) e
+  no_seat e = seat_reads ∙ is_none-None (seat_in (reading (path_of q)) (bit_of q)) (seat_some (reading (path_of q)) (bit_of q) ∙ e)
 
   -- so no value stands there
   pub missing_value : {T : Type 0} (values : List ℕ → ℕ → Option T) (w : Store (Option T)) → CellsHold cell_sizes reading values paths w →

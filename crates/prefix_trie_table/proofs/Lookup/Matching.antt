@@ -39,13 +39,10 @@ module _ (q : List Bool) (level i : ℕ) (from : 5 * level ≤ i) (within : i �
     own_bit =
         ap value_bit (rest-is (take i q) ∙ ap (λ n. drop (5 * n) (take i q)) own_steps ∙ ap (λ n. drop (5 * level) (take n q)) (sym (add-sub_of_le from)) ∙ drop-take (5 * level) (i - 5 * level) q)
 
-    own_small : value_bit (take (i - 5 * level) (drop (5 * level) q)) < 31
-    own_small = bit-small (i - 5 * level) _ (drop (5 * level) q) (omega arith) (omega (arith, length-drop (5 * level) q)) refl
-
     -- whether it has a value
     pub held_is : (reading : List ℕ → Option Node) (node : Node) → reading (take level (path_of q)) ≡ Some node → holds_value reading q i ≡ stands node.value_bitmap (drop (5 * level) q) (i - 5 * level)
     held_is reading node e =
-        ap₂ (λ o b. has_value o b) (ap reading own_way ∙ e) own_bit ∙ has_bit-is node.value_bitmap (value_bit (take (i - 5 * level) (drop (5 * level) q))) (omega (arith, own_small))
+        ap₂ (λ o b. has_value o b) (ap reading own_way ∙ e) own_bit ∙ has_bit-is node.value_bitmap (value_bit (take (i - 5 * level) (drop (5 * level) q))) (omega (arith, bit-small (i - 5 * level) _ (drop (5 * level) q) (omega arith) (omega (arith, length-drop (5 * level) q)) refl))
 
 pub none_join : (reading : List ℕ → Option Node) (q : List Bool) (a b c : ℕ) → NoneHeld reading q a b → NoneHeld reading q b c → NoneHeld reading q a c
 none_join reading q a b c low high i from to within = elim (cases_lt i b) [

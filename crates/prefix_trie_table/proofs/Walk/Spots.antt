@@ -52,9 +52,6 @@ place-child-small s b h e =
 
 -- ---- a spot
 
-whole-more : (u s : List Bool) → length u % 5 ≡ 0 → length s ≡ 5 → length (u ++ s) % 5 ≡ 0
-whole-more u s h five = omega (arith, h, five, length-append u s)
-
 module _ {K : Type 0} (IsKey : K → Type 0) (bits : K → List Bool) (width : ℕ) (v : Store Node) (way : K) (p : Spot) (at : IsSpot IsKey bits width v way p)
     (long : length (bits way) ≡ width) where
   pub string-length : length (take p.depth (bits way)) ≡ p.depth
@@ -204,7 +201,7 @@ module _ {K : Type 0} (IsKey : K → Type 0) (bits : K → List Bool) (width : �
             }
 
             child_whole : length (take c.depth (bits below)) % 5 ≡ 0
-            child_whole = ap (λ u. length u % 5) child_string ∙ whole-more (take p.depth (bits way)) s whole five
+            child_whole = ap (λ u. length u % 5) child_string ∙ omega (arith, whole, five, length-append (take p.depth (bits way)) s)
 
             pub child_still : still bits t.shape.entries way p ≡ still bits t.shape.entries below c ++ still bits t.shape.entries way after
             child_still =

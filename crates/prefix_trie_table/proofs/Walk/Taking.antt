@@ -1,5 +1,5 @@
 -- A walk that takes values out of their cells.
-use Rattle.prefix_trie_table.proofs.Prelude.{◌≡◌, ◌≢◌, ℕ, ◌+◌, ◌<◌, Bool, true, false, cond, ◌&&◌, List, [], ◌∷◌, ◌++◌, length, take, get_or, set, map, Option, None, Some, is_some, is_lt, refl, sym, ap, ◌∙◌, subst, arith, AllZip, get, len, entries, entries_sorted, get-entries, is_sorted, below_all, is_sorted-where_key, false≢true, get_or-set_other, get_or_default, All-head, All-tail, All-filter, All-weaker, All-contains_itself, length_all_zip, same_from_all_zip, begins, listing_cmp, pair_of, listing_below, State, and-first, and-second, t-true, true-t, lt-less, not_itself, sorted-head, sorted-tail, find-from_Contains, Node, Seat, Spot, has_bit, rank, path_of, bit_of, Store, read, value_in, value_of, GivesFilled, value_seat, seat_in, seat_of, IsShapeOf, same_shape, IsTrie, Seated, cell_of, pairs_in, AreHeld, IsApart, AreApart, IsTaking, Seated-prop, Tree, IsStack, pending, GivesSeat, IsCloned, IsPairCloned}
+use Rattle.prefix_trie_table.proofs.Prelude.{◌≡◌, ◌≢◌, ℕ, ◌+◌, Bool, true, false, cond, ◌&&◌, List, [], ◌∷◌, ◌++◌, length, take, get_or, set, map, Option, None, Some, is_some, is_lt, refl, sym, ap, ◌∙◌, subst, arith, AllZip, get, len, entries, entries_sorted, get-entries, is_sorted, below_all, is_sorted-where_key, false≢true, get_or-set_other, get_or_default, All-head, All-tail, All-filter, All-weaker, All-contains_itself, length_all_zip, same_from_all_zip, begins, listing_cmp, pair_of, listing_below, State, and-first, and-second, t-true, true-t, lt-less, not_itself, sorted-head, sorted-tail, find-from_Contains, Node, Seat, Spot, has_bit, rank, path_of, bit_of, Store, read, value_in, value_of, GivesFilled, value_seat, seat_in, seat_of, IsShapeOf, same_shape, IsTrie, Seated, cell_of, pairs_in, AreHeld, IsApart, AreApart, IsTaking, Seated-prop, Tree, IsStack, pending, GivesSeat, IsCloned, IsPairCloned}
 use lib.Dec.{T as IsT}
 use Rattle.std.specs.List.{All, Contains}
 use Rattle.std.proofs.lemmas.List.{length-set}
@@ -117,11 +117,8 @@ module _ {K T : Type 0} (IsKey : K → Type 0) (bits : K → List Bool) (width :
       apart : IsApart q (pending bits s.0 next qs) × AreApart (pending bits s.0 next qs)
       apart = subst AreApart come at.apart
 
-      pub taken_inside : slot_of seat < length w.slots
-      taken_inside = let x = h.stands in omega (arith, x, at.long)
-
       taken_cell : (x : Option T) → x ≡ get_or w.slots (slot_of seat) x → cell_of v.slots w.slots q ≡ x
-      taken_cell x read = cell_at v.slots w.slots q ∙ ap (in_seat w.slots) found ∙ get_or_default w.slots (slot_of seat) None x taken_inside ∙ sym read
+      taken_cell x read = cell_at v.slots w.slots q ∙ ap (in_seat w.slots) found ∙ get_or_default w.slots (slot_of seat) None x (let y = h.stands in omega (arith, y, at.long)) ∙ sym read
 
       -- it is there
       pub taken_there : (x : Option T) → x ≡ get_or w.slots (slot_of seat) x → is_some x ≡ true
@@ -174,12 +171,6 @@ module _ {K T : Type 0} (IsKey : K → Type 0) (bits : K → List Bool) (width :
     abbrev IsStored : List Bool × T → Type 0
     IsStored e = get s.entries e.0 ≡ Some e.1
 
-    all_stored : All IsStored (entries s.entries)
-    all_stored =
-        All-weaker (Contains (entries s.entries)) IsStored
-        (λ e h. get-entries s.entries e.0 ∙ find-from_Contains (entries s.entries) e (entries_sorted s.entries) h) (entries s.entries)
-        (All-contains_itself (entries s.entries))
-
     cell_stored : (e : List Bool × T) → IsStored e → cell_of v.slots w.slots e.0 ≡ Some e.1
     cell_stored e h = sym (trie.shaped.1 e.0) ∙ h
 
@@ -198,7 +189,10 @@ module _ {K T : Type 0} (IsKey : K → Type 0) (bits : K → List Bool) (width :
       below_come = strings_come whole trie keys key ps ∙ ap (λ es. map bare es) rest
 
       below_stored : All IsStored (listing_below s.entries q)
-      below_stored = All-filter (λ e. begins q e.0) IsStored (entries s.entries) all_stored
+      below_stored = All-filter (λ e. begins q e.0) IsStored (entries s.entries)
+          (All-weaker (Contains (entries s.entries)) IsStored
+          (λ e h. get-entries s.entries e.0 ∙ find-from_Contains (entries s.entries) e (entries_sorted s.entries) h) (entries s.entries)
+          (All-contains_itself (entries s.entries)))
 
       pub walk_below : IsStack IsKey bits width v key ps → IsTaking IsKey bits width v w keys.0 key ps
       walk_below stack = record {

@@ -1,30 +1,24 @@
-use Rattle.prefix_trie_table.proofs.Prelude.{ℕ, [], ◌∷◌, Option, length, ap, sym, subst, arith, Clear, Done, StepByPath, Contents, stored, IsTable, Node, node_sizes, Store}
+use Rattle.prefix_trie_table.proofs.Prelude.{[], ◌∷◌, Option, length, ap, sym, subst, arith, IsTable, Node, node_sizes, Store}
 use Rattle.prefix_trie_table.proofs.Tree.Invariant.{some_table}
 use Rattle.prefix_trie_table.proofs.Removal.Clearing.{under_limit, root_slot}
 use Rattle.prefix_trie_table.proofs.Tree.Shapes.{root_shape, root_reading, new_holds, new_shape, new_only, new_table}
-use Rattle.prefix_trie_table.proofs.Blocks.Sizing.{sizes_of, root_layout, storage_of}
+use Rattle.prefix_trie_table.proofs.Blocks.Sizing.{sizes_of, root_layout}
 use Rattle.prefix_trie_table.proofs.Tree.Stated.{clears_step}
 use Rattle.prefix_trie_table.proofs.table.Table.clear.Goals as goal
 
 pub invariant_of-self-inside : goal.invariant_of-self-inside
-invariant_of-self-inside g c = (
-  (
-    root_shape,
-    new_shape c.clear_entries.new.nodes c.clear_entries.new.cells c.self.inside.nodes.limit c.clear_entries.ensures.nodes
-        c.clear_entries.ensures.nodes_sound (under_limit _ _ _ c.clear_entries.ensures.cells c.self.invariant.one_limit) c.clear_entries.ensures.cells_sound,
-  ),
-  (
-    sizes_of node_sizes root_reading ([] ∷ []) c.clear_entries.new.nodes (new_holds c.clear_entries.new.nodes c.clear_entries.new.cells c.self.inside.nodes.limit c.clear_entries.ensures.nodes
-        c.clear_entries.ensures.nodes_sound (under_limit _ _ _ c.clear_entries.ensures.cells c.self.invariant.one_limit) c.clear_entries.ensures.cells_sound).hold,
-    tt,
-  ),
-)
+invariant_of-self-inside g c =
+    let e = c.clear_entries.ensures in
+    let cells = under_limit _ _ _ e.cells c.self.invariant.one_limit in (
+      (root_shape, new_shape _ _ _ e.nodes e.nodes_sound cells e.cells_sound),
+      (sizes_of node_sizes root_reading ([] ∷ []) _ (new_holds _ _ _ e.nodes e.nodes_sound cells e.cells_sound).hold, tt),
+    )
 
 pub invariant_of-self : goal.invariant_of-self
 invariant_of-self g c =
-    subst (λ n. IsTable c.clear_entries.new.nodes c.clear_entries.new.cells n c.self-1.given.0.0) (sym c.clear_entries.ensures.none)
-    (new_table c.clear_entries.new.nodes c.clear_entries.new.cells c.self.inside.nodes.limit c.clear_entries.ensures.nodes
-    c.clear_entries.ensures.nodes_sound (under_limit _ _ _ c.clear_entries.ensures.cells c.self.invariant.one_limit) c.clear_entries.ensures.cells_sound
+    let e = c.clear_entries.ensures in
+    subst (λ n. IsTable c.clear_entries.new.nodes c.clear_entries.new.cells n c.self-1.given.0.0) (sym e.none)
+    (new_table _ _ _ e.nodes e.nodes_sound (under_limit _ _ _ e.cells c.self.invariant.one_limit) e.cells_sound
     (let r = root_slot c.self.inside.nodes c.self.inside.cells (some_table c.self.invariant) in let h = c.self.invariant.nodes_within in omega (arith, r, h)) c.self-1.given.0)
 
 pub returns : goal.returns
@@ -36,14 +30,13 @@ returns g c =
     let e = c.clear_entries.ensures in
     let is = c.self.invariant in
     let cells = under_limit _ _ _ e.cells is.one_limit in
-    let layout = root_layout v2 w2 (new_holds v2 w2 c.self.inside.nodes.limit e.nodes e.nodes_sound cells e.cells_sound)
+    let layout = root_layout v2 w2 (new_holds v2 w2 _ e.nodes e.nodes_sound cells e.cells_sound)
     (ap (λ (x : Store Node). x.tiers) e.nodes) (ap (λ (x : Store (Option g.row.T.Denot)). x.tiers) e.cells) z2 in
-    record {
-      step = subst (λ (m : Contents g.row.T.Denot). (width : ℕ) → StepByPath width (stored m) Clear Done (s2.0, storage_of v2 w2 z2)) c.self.view_is
-          (clears_step c.self.inside.nodes v2 c.self.inside.cells w2 _ _ c.self.inside.shape is c.self.inside.sizes s2 (invariant_of-self g c) z2
-          (new_only v2 w2 c.self.inside.nodes.limit e.nodes e.nodes_sound cells e.cells_sound s2)
+    rw (← c.self.view_is) (record {
+      step = clears_step c.self.inside.nodes v2 c.self.inside.cells w2 _ _ c.self.inside.shape is c.self.inside.sizes s2 (invariant_of-self g c) z2
+          (new_only v2 w2 _ e.nodes e.nodes_sound cells e.cells_sound s2)
           (λ i. record {
             room = record { limit = (e.nodes i).limit; node_slots = length (e.nodes i).slots; cell_slots = length (e.cells i).slots };
             layout = layout i;
-          }));
-    }
+          });
+    })

@@ -1,4 +1,3 @@
-use Rattle.prefix_trie_table.proofs.Prelude.{◌≡◌, ◌+◌, ◌≤◌, take, None, Some, MatchOption, ap, ◌∙◌, subst, longest_match, visits, Contents}
 use Rattle.prefix_trie_table.proofs.Tree.Invariant.{some_table}
 use Rattle.prefix_trie_table.proofs.Lookup.Going.{key_long}
 use Rattle.prefix_trie_table.proofs.Lookup.Matched.{has_nodes, cell_inside, longest_none, longest_handed, met_is}
@@ -7,36 +6,31 @@ use Rattle.prefix_trie_table.proofs.table.Table.find_longest.Goals as goal
 pub longest_on_way-requires-clause-sound : goal.longest_on_way-requires-clause-sound
 longest_on_way-requires-clause-sound g c = has_nodes _ _ (some_table c.self.invariant)
 
-pub returns-in_default-clause-value : goal.returns-in_default-clause-value
-returns-in_default-clause-value g c =
+pub returns-in_default : goal.returns-in_default
+returns-in_default g c =
     let t = some_table c.self.invariant in
-    subst (λ (s : Contents g.row.T.Denot). longest_match s.entries (take c.args.len (g.K.Key.bits c.args.key)) ≡ None) c.self.view_is
-    (longest_none _ _ t _ c.self.inside.shape.1 (g.K.Key.bits c.args.key) c.args.len (key_long _ _ _ (g.met.K.Key.key_laws.bits_length c.args.key c.requires.key) c.requires.within) (c.in_default.ensures.found t.reading t.paths t.holds.hold))
+    let b = g.K.Key.bits c.args.key in
+    let long = key_long _ _ _ (g.met.K.Key.key_laws.bits_length c.args.key c.requires.key) c.requires.within in
+    rw (← c.self.view_is) (record {
+      value = longest_none _ _ t _ c.self.inside.shape.1 b c.args.len long (c.in_default.ensures.found t.reading t.paths t.holds.hold);
+      visits = met_is _ _ t _ c.self.inside.shape.1 b c.args.len long _ _ (c.in_default.ensures.visits t.reading t.paths t.holds.hold);
+    })
 
-pub returns-in_default-clause-visits : goal.returns-in_default-clause-visits
-returns-in_default-clause-visits g c =
+pub value_of_match-requires : goal.value_of_match-requires
+value_of_match-requires g c =
     let t = some_table c.self.invariant in
-    met_is _ _ t _ c.self.inside.shape.1 (g.K.Key.bits c.args.key) c.args.len (key_long _ _ _ (g.met.K.Key.key_laws.bits_length c.args.key c.requires.key) c.requires.within) _ _ (c.in_default.ensures.visits t.reading t.paths t.holds.hold)
-    ∙ ap (λ s. g.V.Tick.count c.args.counter.now + visits s.nodes (take c.args.len (g.K.Key.bits c.args.key))) c.self.view_is
+    let b = g.K.Key.bits c.args.key in
+    let long = key_long _ _ _ (g.met.K.Key.key_laws.bits_length c.args.key c.requires.key) c.requires.within in
+    let held = (c.in-Some.ensures.found t.reading t.paths t.holds.hold).0 in
+    record { bit = held.small; stands = cell_inside _ _ t _ c.self.inside.shape.1 b c.args.len long c.in-Some.found held }
 
-pub value_of_match-requires-clause-bit : goal.value_of_match-requires-clause-bit
-value_of_match-requires-clause-bit g c =
-    let t = some_table c.self.invariant in (c.in-Some.ensures.found t.reading t.paths t.holds.hold).0.small
-
-pub value_of_match-requires-clause-stands : goal.value_of_match-requires-clause-stands
-value_of_match-requires-clause-stands g c =
+pub returns : goal.returns
+returns g c =
     let t = some_table c.self.invariant in
-    cell_inside _ _ t _ c.self.inside.shape.1 (g.K.Key.bits c.args.key) c.args.len (key_long _ _ _ (g.met.K.Key.key_laws.bits_length c.args.key c.requires.key) c.requires.within) c.in-Some.found (c.in-Some.ensures.found t.reading t.paths t.holds.hold).0
-
-pub returns-clause-value : goal.returns-clause-value
-returns-clause-value g c =
-    let t = some_table c.self.invariant in
+    let b = g.K.Key.bits c.args.key in
+    let long = key_long _ _ _ (g.met.K.Key.key_laws.bits_length c.args.key c.requires.key) c.requires.within in
     let found = c.in-Some.ensures.found t.reading t.paths t.holds.hold in
-    subst (λ (s : Contents g.row.T.Denot). MatchOption c.value_of_match.result (longest_match s.entries (take c.args.len (g.K.Key.bits c.args.key)) ≡ None) (λ f. (f.0 ≤ c.args.len) × (longest_match s.entries (take c.args.len (g.K.Key.bits c.args.key)) ≡ Some (take f.0 (take c.args.len (g.K.Key.bits c.args.key)), f.1.now)))) c.self.view_is
-    (longest_handed _ _ t _ c.self.inside.shape.1 (g.K.Key.bits c.args.key) c.args.len (key_long _ _ _ (g.met.K.Key.key_laws.bits_length c.args.key c.requires.key) c.requires.within) c.in-Some.found found.0 (λ x. x.now) found.1 c.value_of_match.result c.value_of_match.ensures)
-
-pub returns-clause-visits : goal.returns-clause-visits
-returns-clause-visits g c =
-    let t = some_table c.self.invariant in
-    met_is _ _ t _ c.self.inside.shape.1 (g.K.Key.bits c.args.key) c.args.len (key_long _ _ _ (g.met.K.Key.key_laws.bits_length c.args.key c.requires.key) c.requires.within) _ _ (c.in-Some.ensures.visits t.reading t.paths t.holds.hold)
-    ∙ ap (λ s. g.V.Tick.count c.args.counter.now + visits s.nodes (take c.args.len (g.K.Key.bits c.args.key))) c.self.view_is
+    rw (← c.self.view_is) (record {
+      value = longest_handed _ _ t _ c.self.inside.shape.1 b c.args.len long c.in-Some.found found.0 (λ x. x.now) found.1 c.value_of_match.result c.value_of_match.ensures;
+      visits = met_is _ _ t _ c.self.inside.shape.1 b c.args.len long _ _ (c.in-Some.ensures.visits t.reading t.paths t.holds.hold);
+    })

@@ -1,6 +1,6 @@
-use Rattle.prefix_trie_table.proofs.Prelude.{◌≡◌, ℕ, is_some, take, sym, ap, ◌∙◌, subst, Insert, StepByPath, Memory, IndexRange, Refused, Contents, stored, inserted}
+use Rattle.prefix_trie_table.proofs.Prelude.{◌≡◌, is_some, take, sym, ap, ◌∙◌, Memory, IndexRange, Refused}
 use Rattle.prefix_trie_table.proofs.Tree.Invariant.{some_table, some_counted}
-use Rattle.prefix_trie_table.proofs.Blocks.Sizing.{table_sizes, storage_of}
+use Rattle.prefix_trie_table.proofs.Blocks.Sizing.{table_sizes}
 use Rattle.prefix_trie_table.proofs.Insertion.Foreseen.{obtained}
 use Rattle.prefix_trie_table.proofs.Insertion.Inserted.{inserted_in}
 use Rattle.prefix_trie_table.proofs.Insertion.Resized.{sizes_left}
@@ -13,49 +13,34 @@ insert_entry-requires-clause-table g c = some_counted c.self.invariant
 
 pub invariant_of-self-inside : goal.invariant_of-self-inside
 invariant_of-self-inside g c =
-    let q = take c.args.len (g.K.Key.bits c.args.key) in
-    let shape = left_shape q c.args.value c.self.inside.nodes c.insert_entry.new.nodes c.self.inside.cells c.insert_entry.new.cells c.self.inside.count
-    c.insert_entry.new.entries c.self.inside.shape c.self.invariant c.insert_entry.result c.insert_entry.ensures.inserted in (
-      shape,
-      (
-        table_sizes _ _ (some_table (table_left q c.args.value c.self.inside.nodes c.insert_entry.new.nodes c.self.inside.cells c.insert_entry.new.cells
-            c.self.inside.count c.insert_entry.new.entries c.self.inside.shape c.self.invariant c.insert_entry.result c.insert_entry.ensures.inserted
-            c.insert_entry.ensures.counted c.insert_entry.ensures.grows.nodes c.insert_entry.ensures.grows.cells shape)),
-        tt,
-      ),
-    )
+    let e = c.insert_entry.ensures in
+    let shape = left_shape _ _ _ _ _ _ _ c.insert_entry.new.entries c.self.inside.shape c.self.invariant c.insert_entry.result e.inserted in
+    (shape, (table_sizes _ _ (some_table (table_left _ _ _ _ _ _ _ _ c.self.inside.shape c.self.invariant c.insert_entry.result e.inserted e.counted e.grows.nodes e.grows.cells shape)), tt))
 
 pub invariant_of-self : goal.invariant_of-self
 invariant_of-self g c =
-    let q = take c.args.len (g.K.Key.bits c.args.key) in
-    table_left q c.args.value c.self.inside.nodes c.insert_entry.new.nodes c.self.inside.cells c.insert_entry.new.cells c.self.inside.count
-    c.insert_entry.new.entries c.self.inside.shape c.self.invariant c.insert_entry.result c.insert_entry.ensures.inserted
-    c.insert_entry.ensures.counted c.insert_entry.ensures.grows.nodes c.insert_entry.ensures.grows.cells c.self-1.given.0
+    let e = c.insert_entry.ensures in
+    table_left _ _ _ _ _ _ _ _ c.self.inside.shape c.self.invariant c.insert_entry.result e.inserted e.counted e.grows.nodes e.grows.cells c.self-1.given.0
 
 pub returns-clause-step : goal.returns-clause-step
 returns-clause-step g c =
     let q = take c.args.len (g.K.Key.bits c.args.key) in
-    let v = c.self.inside.nodes in
+    let i = c.self.inside in
     let v2 = c.insert_entry.new.nodes in
-    let w = c.self.inside.cells in
     let w2 = c.insert_entry.new.cells in
-    let s = c.self.inside.shape in
-    let s2 = c.self-1.given.0 in
-    let z = c.self.inside.sizes in
     let z2 = c.self-1.given.1.0 in
     let e = c.insert_entry.ensures in
     let is = c.self.invariant in
     let left = invariant_of-self g c in
     let t = some_table is in
     let r = c.insert_entry.result in
-    subst (λ (m : Contents g.row.T.Denot). (width : ℕ) → StepByPath width (stored m) (Insert q c.args.value) (inserted r) (s2.0, storage_of v2 w2 z2)) c.self.view_is
-    (inserts_step v v2 w w2 _ _ s is z s2 left z2 q c.args.value r (record {
+    rw (← c.self.view_is) (inserts_step i.nodes v2 i.cells w2 _ _ i.shape is i.sizes c.self-1.given.0 left z2 q c.args.value r (record {
       leaves = e.inserted;
       stays = λ there. e.stored t.reading t.paths t.values t.holds
-          (ap (λ o. is_some o) (sym (shape_entries t.reading t.values t.paths v w t.holds s.0 s.1 q)) ∙ there);
-      takes = λ new. inserted_in v v2 w w2 _ _ _ _ is left z z2 q (λ (e : Refused g.row.T.Denot). e.cause) r
-          (obtained (λ refused. refused.cause ≡ IndexRange) (λ refused. refused.cause ≡ Memory) (g.K.Key.bits c.args.key) c.args.len v v2
-          w w2 c.self.inside.count s is z r e.asked new)
-          (sizes_left q c.args.value v v2 w w2 c.self.inside.count s is z z2 new r e.inserted);
+          (ap (λ o. is_some o) (sym (shape_entries t.reading t.values t.paths i.nodes i.cells t.holds i.shape.0 i.shape.1 q)) ∙ there);
+      takes = λ new. inserted_in i.nodes v2 i.cells w2 _ _ _ _ is left i.sizes z2 q (λ (e : Refused g.row.T.Denot). e.cause) r
+          (obtained (λ refused. refused.cause ≡ IndexRange) (λ refused. refused.cause ≡ Memory) (g.K.Key.bits c.args.key) c.args.len i.nodes v2
+          i.cells w2 i.count i.shape is i.sizes r e.asked new)
+          (sizes_left q c.args.value i.nodes v2 i.cells w2 i.count i.shape is i.sizes z2 new r e.inserted);
       range = e.grows.range;
     }) e.grows.nodes e.grows.cells)

@@ -4,8 +4,7 @@ use Rattle.prefix_trie_table.proofs.table.Table.into_walk_below.Goals as goal
 
 pub below-requires-clause-tree : goal.below-requires-clause-tree
 below-requires-clause-tree g c =
-    let i = c.self.inside in
-    sized_trie g.K.Key.bit_width i.count i.nodes i.cells i.shape c.self.invariant c.args.self c.self.view_is c.requires.within c.requires.nodes
+    sized_trie _ _ _ _ c.self.inside.shape c.self.invariant _ c.self.view_is c.requires.within c.requires.nodes
 
 pub returns : goal.returns
 returns g c =

@@ -1,4 +1,4 @@
-use Rattle.prefix_trie_table.proofs.Prelude.{◌≡◌, ◌<◌, ℕ, length, take, refl, sym, ap, ap₂, ◌∙◌, subst, arith, length-take-le, part_below, IsPacked, needed, State, RemoveChildren, Done, StepByPath, Sized-prop, Contents, Shaped-prop, storage, stored, SettlesInStorage, Store, IsTable}
+use Rattle.prefix_trie_table.proofs.Prelude.{◌≡◌, ℕ, length, take, refl, ap, ap₂, ◌∙◌, subst, arith, length-take-le, RemoveChildren, Done, StepByPath, Sized-prop, Contents, Shaped-prop, stored, Store, IsTable}
 use Rattle.prefix_trie_table.proofs.Blocks.Sizing.{table_sizes, storage_of}
 use Rattle.prefix_trie_table.proofs.Removal.Clearing.{root_slot}
 use Rattle.prefix_trie_table.proofs.Moving.HandedOut.{rest_counted, shape_seen, table_seen, clear_behind, handed_out, second_packed}
@@ -25,37 +25,32 @@ move_part-nodes-requires-clause-trie g c =
 
 pub invariant_of-self-inside-2 : goal.invariant_of-self-inside-2
 invariant_of-self-inside-2 g c =
-    let trie = seen_trie c.self.inside.shape c.self.invariant c.self.view_is refl c.requires.within c.requires.nodes in
-    let left = c.move_part-nodes.ensures.removed c.self.inside.shape.0 trie in
+    let left = c.move_part-nodes.ensures.removed _ (seen_trie c.self.inside.shape c.self.invariant c.self.view_is refl c.requires.within c.requires.nodes) in
     ((_, left.shaped), (table_sizes _ _ (some_table left.table), tt))
 
 pub overflow_sub-second : goal.overflow_sub-second
 overflow_sub-second g c =
-    let trie = seen_trie c.self.inside.shape c.self.invariant c.self.view_is refl c.requires.within c.requires.nodes in
-    let left = c.move_part-nodes.ensures.removed c.self.inside.shape.0 trie in
+    let left = c.move_part-nodes.ensures.removed _ (seen_trie c.self.inside.shape c.self.invariant c.self.view_is refl c.requires.within c.requires.nodes) in
     (rest_counted g.K.Key.bit_width _ c.self.inside.count _ _ c.self.inside.shape.0 (take c.args.len (g.K.Key.bits c.args.key)) left c.self.invariant.sized).0
 
 pub invariant_of-self : goal.invariant_of-self
 invariant_of-self g c =
-    let trie = seen_trie c.self.inside.shape c.self.invariant c.self.view_is refl c.requires.within c.requires.nodes in
-    table_seen (c.move_part-nodes.ensures.removed c.self.inside.shape.0 trie) c.self-2-1.given.0
+    table_seen (c.move_part-nodes.ensures.removed _ (seen_trie c.self.inside.shape c.self.invariant c.self.view_is refl c.requires.within c.requires.nodes)) c.self-2-1.given.0
 
 pub invariant_of-self-else-len-eq0 : goal.invariant_of-self-else-len-eq0
 invariant_of-self-else-len-eq0 g c =
-    let trie = seen_trie c.self.inside.shape c.self.invariant c.self.view_is refl c.requires.within c.requires.nodes in
-    table_seen (c.move_part-nodes.ensures.removed c.self.inside.shape.0 trie) c.self-2-1.given.0
+    table_seen (c.move_part-nodes.ensures.removed _ (seen_trie c.self.inside.shape c.self.invariant c.self.view_is refl c.requires.within c.requires.nodes)) c.self-2-1.given.0
 
 pub invariant_of-second-inside : goal.invariant_of-second-inside
 invariant_of-second-inside g c =
-    let trie = seen_trie c.self.inside.shape c.self.invariant c.self.view_is refl c.requires.within c.requires.nodes in
-    let handed = c.move_part-nodes.ensures.moved c.self.inside.shape.0 trie in
+    let handed = c.move_part-nodes.ensures.moved _ (seen_trie c.self.inside.shape c.self.invariant c.self.view_is refl c.requires.within c.requires.nodes) in
     ((_, handed.shaped), (table_sizes _ _ (some_table handed.table), tt))
 
 pub invariant_of-second : goal.invariant_of-second
 invariant_of-second g c =
     let trie = seen_trie c.self.inside.shape c.self.invariant c.self.view_is refl c.requires.within c.requires.nodes in
-    let left = c.move_part-nodes.ensures.removed c.self.inside.shape.0 trie in
-    let handed = c.move_part-nodes.ensures.moved c.self.inside.shape.0 trie in
+    let left = c.move_part-nodes.ensures.removed _ trie in
+    let handed = c.move_part-nodes.ensures.moved _ trie in
     subst (λ n. IsTable c.move_part-nodes.result.0 c.move_part-nodes.result.1 n c.second-1.given.0.0)
     (rest_counted g.K.Key.bit_width _ c.self.inside.count _ _ c.self.inside.shape.0 (take c.args.len (g.K.Key.bits c.args.key)) left c.self.invariant.sized).1
     (table_seen handed c.second-1.given.0)
@@ -74,23 +69,17 @@ returns-clause-handed g c =
     let long : length q ≡ c.args.len = length-take-le c.args.len (g.K.Key.bits c.args.key) (omega (arith, g.met.K.Key.key_laws.bits_length c.args.key c.requires.key, c.requires.long)) in
     let step : (width : ℕ) → StepByPath width (stored now) (RemoveChildren q) Done (stored c.if-len-eq0.self) = elim c.if-len-eq0.branch [
       | then-len-eq0 w ↦
-          subst (λ (m : Contents g.row.T.Denot). (width : ℕ) → StepByPath width (stored now) (RemoveChildren q) Done (stored m)) (sym w.self-is)
-          (all_step g.K.Key.bit_width (stored now) (stored w.clear.new.self) q (long ∙ w.if-len-eq0.true) c.requires.nodes
+          rw w.self-is (all_step g.K.Key.bit_width (stored now) (stored w.clear.new.self) q (long ∙ w.if-len-eq0.true) c.requires.nodes
           (clear_behind (stored now) (c.self-2-1.given.0.0, storage_of new.nodes new.cells c.self-2-1.given.1.0) (stored w.clear.new.self)
           (lasts.nodes.limit ∙ ap (λ (m : Contents g.row.T.Denot). m.room.limit) c.self.view_is)
-          (subst (λ (m : Contents g.row.T.Denot). 0 < m.room.node_slots) c.self.view_is (root_slot c.self.inside.nodes c.self.inside.cells (some_table c.self.invariant)))
-          w.clear.ensures.step))
+          (rw (← c.self.view_is) (root_slot c.self.inside.nodes c.self.inside.cells (some_table c.self.invariant))) w.clear.ensures.step))
       | else-len-eq0 w ↦
-          subst (λ (m : Contents g.row.T.Denot). (width : ℕ) → StepByPath width (stored now) (RemoveChildren q) Done (stored m)) (sym w.self-is)
-          (subst (λ (m : Contents g.row.T.Denot). (width : ℕ) → StepByPath width (stored m) (RemoveChildren q) Done (c.self-2-1.given.0.0, storage_of new.nodes new.cells c.self-2-1.given.1.0)) c.self.view_is
-          (part_step i.nodes new.nodes i.cells new.cells _ _ i.shape c.self.invariant i.sizes c.self-2-1.given.0 (table_seen left c.self-2-1.given.0) c.self-2-1.given.1.0
-          lasts q (omega (arith, long, w.if-len-eq0.false)) (shape_seen left c.self-2-1.given.0)))
+          rw w.self-is (rw (← c.self.view_is) (part_step i.nodes new.nodes i.cells new.cells _ _ i.shape c.self.invariant i.sizes c.self-2-1.given.0
+          (table_seen left c.self-2-1.given.0) c.self-2-1.given.1.0 lasts q (omega (arith, long, w.if-len-eq0.false)) (shape_seen left c.self-2-1.given.0)))
     ] in
     handed_out (stored now) (c.second-1.given.0.0, storage_of two.0 two.1 c.second-1.given.1.0) (stored c.if-len-eq0.self) q step
-    (subst (λ (m : Contents g.row.T.Denot). c.second-1.given.0.0 ≡ record { entries = part_below m.entries q; nodes = needed (part_below m.entries q) }) c.self.view_is
-    (shape_seen handed c.second-1.given.0))
-    (subst (λ (x : State g.row.T.Denot). IsPacked x (storage_of two.0 two.1 c.second-1.given.1.0)) (sym (shape_seen handed c.second-1.given.0))
-    (second_packed g.K.Key.bit_width _ q i.nodes c.in_ok-laid.laid two.0 c.in_ok-laid.vacant two.1 c.in_ok-laid.ensures.laid _ handed
+    (rw (← c.self.view_is) (shape_seen handed c.second-1.given.0))
+    (rw (shape_seen handed c.second-1.given.0) (second_packed g.K.Key.bit_width _ q i.nodes c.in_ok-laid.laid two.0 c.in_ok-laid.vacant two.1 c.in_ok-laid.ensures.laid _ handed
     c.move_part-nodes.ensures.nodes c.move_part-nodes.ensures.cells c.second-1.given.1.0))
     (ap (λ (x : Store _). x.limit) c.move_part-nodes.ensures.nodes ∙ c.in_ok-laid.ensures.laid.node_limit ∙ ap (λ (m : Contents g.row.T.Denot). m.room.limit) c.self.view_is)
     handed.table.nodes_within
@@ -103,13 +92,10 @@ pub returns-clause-settles : goal.returns-clause-settles
 returns-clause-settles g c = λ some.
     let i = c.self.inside in
     let new = c.move_part-nodes.new in
-    let trie = seen_trie i.shape c.self.invariant c.self.view_is refl c.requires.within c.requires.nodes in
-    let left = c.move_part-nodes.ensures.removed i.shape.0 trie in
+    let left = c.move_part-nodes.ensures.removed _ (seen_trie i.shape c.self.invariant c.self.view_is refl c.requires.within c.requires.nodes) in
     elim c.if-len-eq0.branch [
       | then-len-eq0 w ↦ absurd (omega (arith, some, w.if-len-eq0.true))
       | else-len-eq0 w ↦
-          subst (λ (m : Contents g.row.T.Denot). SettlesInStorage (storage c.args.self.now) (storage m)) (sym w.self-is)
-          (subst (λ (m : Contents g.row.T.Denot). SettlesInStorage (storage m) (storage_of new.nodes new.cells c.self-2-1.given.1.0)) c.self.view_is
-          (settles_in i.nodes new.nodes i.cells new.cells _ _ i.shape c.self.invariant i.sizes c.self-2-1.given.0 (table_seen left c.self-2-1.given.0) c.self-2-1.given.1.0
-          c.move_part-nodes.ensures.lasts))
+          rw w.self-is (rw (← c.self.view_is) (settles_in i.nodes new.nodes i.cells new.cells _ _ i.shape c.self.invariant i.sizes c.self-2-1.given.0
+          (table_seen left c.self-2-1.given.0) c.self-2-1.given.1.0 c.move_part-nodes.ensures.lasts))
     ]

@@ -1,4 +1,4 @@
-use Rattle.prefix_trie_table.proofs.Prelude.{◌≡◌, [], sym, ap, subst, IfSome, MatchOption, take, true, ⊤, contains_key, Contents, array_of, keys_to_come, GivesKey, Tree, pending}
+use Rattle.prefix_trie_table.proofs.Prelude.{sym, ap, ⊤, Contents, array_of, Tree, pending}
 use Rattle.prefix_trie_table.proofs.Tree.Invariant.{trie_of}
 use Rattle.prefix_trie_table.proofs.Walk.Walking.{stack_in, step_gives, seated_stored}
 use Rattle.prefix_trie_table.proofs.table.Table.step.Goals as goal
@@ -16,26 +16,16 @@ advance-requires g c =
           (sym (ap (λ (s : Contents g.row.T.Denot). s.build) c.self.view_is)) trail.key c.is_key.ensures.key trail.stack.items c.requires.stands;
     }
 
-pub returns-clause-stands : goal.returns-clause-stands
-returns-clause-stands g c =
-    stack_in g.K.Key.bits g.K.Key.bit_width g.K.Key.IsKey (λ _. ⊤) c.self.inside.nodes (array_of c.args.self.now.build)
-    (ap (λ (s : Contents g.row.T.Denot). s.build) c.self.view_is) c.advance.new.key tt c.advance.new.stack.items c.advance.ensures.stack
-
-pub returns-clause-key : goal.returns-clause-key
-returns-clause-key g c =
+pub returns : goal.returns
+returns g c =
     let i = c.self.inside in
     let trail = c.args.trail.now in
     let t : Tree g.row.T.Denot = record { count = i.count; cells = i.cells; shape = i.shape.0 } in
     let tree = trie_of g.K.Key.bit_width i.count i.nodes i.cells i.shape c.self.invariant c.args.self.now c.self.view_is c.requires.within c.requires.nodes in
-    let given = step_gives g.K.Key.IsKey g.K.Key.bits g.K.Key.bit_width t i.nodes.slots (pending g.K.Key.bits i.shape.0.entries trail.key trail.stack.items)
-    (pending g.K.Key.bits i.shape.0.entries c.advance.new.key c.advance.new.stack.items) c.advance.result (c.advance.ensures.entry t tree) c.advance.ensures.seat in
-    subst (λ (s : Contents g.row.T.Denot). MatchOption c.advance.result
-    ((keys_to_come g.K.Key.bits s.entries trail ≡ []) × (keys_to_come g.K.Key.bits s.entries (record { key = c.advance.new.key; stack = c.advance.new.stack }) ≡ []))
-    (λ r. GivesKey g.K.Key.IsKey g.K.Key.bits g.K.Key.bit_width s.build r.0 r.1 r.2 (keys_to_come g.K.Key.bits s.entries trail) (keys_to_come g.K.Key.bits s.entries (record { key = c.advance.new.key; stack = c.advance.new.stack }))))
-    c.self.view_is given
-
-pub returns-clause-stored : goal.returns-clause-stored
-returns-clause-stored g c =
-    let i = c.self.inside in
-    subst (λ (s : Contents g.row.T.Denot). IfSome c.advance.result (λ r. contains_key s.entries (take r.1 (g.K.Key.bits r.0)) ≡ true)) c.self.view_is
-    (seated_stored g.K.Key.bits i.nodes i.cells i.count i.shape c.self.invariant c.advance.result c.advance.ensures.seat)
+    record {
+      stands = stack_in g.K.Key.bits g.K.Key.bit_width g.K.Key.IsKey (λ _. ⊤) i.nodes (array_of c.args.self.now.build) (ap (λ (s : Contents g.row.T.Denot). s.build) c.self.view_is)
+          c.advance.new.key tt c.advance.new.stack.items c.advance.ensures.stack;
+      key = rw (← c.self.view_is) (step_gives g.K.Key.IsKey g.K.Key.bits g.K.Key.bit_width t i.nodes.slots (pending g.K.Key.bits i.shape.0.entries trail.key trail.stack.items)
+          (pending g.K.Key.bits i.shape.0.entries c.advance.new.key c.advance.new.stack.items) c.advance.result (c.advance.ensures.entry t tree) c.advance.ensures.seat);
+      stored = rw (← c.self.view_is) (seated_stored g.K.Key.bits i.nodes i.cells i.count i.shape c.self.invariant c.advance.result c.advance.ensures.seat);
+    }

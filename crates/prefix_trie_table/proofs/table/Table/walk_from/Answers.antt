@@ -5,8 +5,7 @@ use Rattle.prefix_trie_table.proofs.table.Table.walk_from.Goals.{then-inclusive,
 
 pub walk_at-requires-clause-tree : goal.walk_at-requires-clause-tree
 walk_at-requires-clause-tree g c =
-    let i = c.self.inside in
-    sized_trie g.K.Key.bit_width i.count i.nodes i.cells i.shape c.self.invariant c.args.self.now c.self.view_is c.requires.within c.requires.nodes
+    sized_trie _ _ _ _ c.self.inside.shape c.self.invariant _ c.self.view_is c.requires.within c.requires.nodes
 
 pub returns : goal.returns
 returns g c =

@@ -14,18 +14,18 @@ spot_in-requires g c = record {
   few = few_at g.K.Key.bit_width c.args.nodes.now c.requires.tree.0 c.requires.tree.1 (path_of (take c.loop-depth.depth (g.K.Key.bits c.args.key))) c.loop-depth.node c.loop-depth.invariant.stands;
 }
 
-pub returns-then-not-has_bit-clause-stack : goal.returns-then-not-has_bit-clause-stack
-returns-then-not-has_bit-clause-stack g c =
-    stack_pushed _ _ _ _ _ _ _ c.requires.key (g.met.K.Key.key_laws.bits_length c.args.key c.requires.key) c.requires.within _ _ _ c.loop-depth.invariant c.spot_in.result c.spot_in.ensures.node c.spot_in.ensures.depth c.spot_in.ensures.each c.push.new.self.items c.push.ensures.items
-
-pub returns-then-not-has_bit-clause-passed : goal.returns-then-not-has_bit-clause-passed
-returns-then-not-has_bit-clause-passed g c =
-    passed_pushed _ _ _ _ _ _ _ c.requires.key (g.met.K.Key.key_laws.bits_length c.args.key c.requires.key) c.requires.within _ _ _ c.loop-depth.invariant c.spot_in.result c.spot_in.ensures.node c.spot_in.ensures.depth c.spot_in.ensures.each c.push.new.self.items c.push.ensures.items
-
-pub returns-then-not-has_bit-clause-rest : goal.returns-then-not-has_bit-clause-rest
-returns-then-not-has_bit-clause-rest g c =
-    rest_missing _ _ _ _ _ _ _ c.requires.key (g.met.K.Key.key_laws.bits_length c.args.key c.requires.key) c.requires.within _ _ _ c.loop-depth.invariant c.spot_in.result c.spot_in.ensures.node c.spot_in.ensures.depth c.spot_in.ensures.each c.push.new.self.items c.push.ensures.items
-    c.loop-depth-test.true c.places_behind.result.0 c.places_behind.result.1 c.spot_in.ensures.places c.child_bit_of-child.result c.child_bit_of-child.ensures.value c.places_behind.ensures (sym c.has_bit.ensures ∙ c.if-not-has_bit.true)
+pub returns-then-not-has_bit : goal.returns-then-not-has_bit
+returns-then-not-has_bit g c =
+    let laws = g.met.K.Key.key_laws.bits_length c.args.key c.requires.key in
+    let at = c.loop-depth.invariant in
+    let s = c.spot_in.ensures in
+    let all = c.push.ensures.items in
+    record {
+      stack = stack_pushed _ _ _ _ _ _ _ c.requires.key laws c.requires.within _ _ _ at c.spot_in.result s.node s.depth s.each _ all;
+      passed = passed_pushed _ _ _ _ _ _ _ c.requires.key laws c.requires.within _ _ _ at c.spot_in.result s.node s.depth s.each _ all;
+      rest = rest_missing _ _ _ _ _ _ _ c.requires.key laws c.requires.within _ _ _ at c.spot_in.result s.node s.depth s.each _ all c.loop-depth-test.true c.places_behind.result.0 c.places_behind.result.1 s.places
+          c.child_bit_of-child.result c.child_bit_of-child.ensures.value c.places_behind.ensures (sym c.has_bit.ensures ∙ c.if-not-has_bit.true);
+    }
 
 pub visit-node-requires-in-loop-depth : goal.visit-node-requires-in-loop-depth
 visit-node-requires-in-loop-depth g c =
@@ -43,15 +43,15 @@ spot_in-requires-2 g c = record {
   few = few_at g.K.Key.bit_width c.args.nodes.now c.requires.tree.0 c.requires.tree.1 (path_of (take c.loop-depth.depth (g.K.Key.bits c.args.key))) c.loop-depth.node c.loop-depth.invariant.stands;
 }
 
-pub returns-clause-stack : goal.returns-clause-stack
-returns-clause-stack g c =
-    stack_pushed _ _ _ _ _ _ _ c.requires.key (g.met.K.Key.key_laws.bits_length c.args.key c.requires.key) c.requires.within _ _ _ c.loop-depth.invariant c.spot_in-2.result c.spot_in-2.ensures.node c.spot_in-2.ensures.depth c.spot_in-2.ensures.each c.push-2.new.self.items c.push-2.ensures.items
-
-pub returns-clause-passed : goal.returns-clause-passed
-returns-clause-passed g c =
-    passed_pushed _ _ _ _ _ _ _ c.requires.key (g.met.K.Key.key_laws.bits_length c.args.key c.requires.key) c.requires.within _ _ _ c.loop-depth.invariant c.spot_in-2.result c.spot_in-2.ensures.node c.spot_in-2.ensures.depth c.spot_in-2.ensures.each c.push-2.new.self.items c.push-2.ensures.items
-
-pub returns-clause-rest : goal.returns-clause-rest
-returns-clause-rest g c =
-    rest_ended _ _ _ _ _ _ _ c.requires.key (g.met.K.Key.key_laws.bits_length c.args.key c.requires.key) c.requires.within _ _ _ c.loop-depth.invariant c.spot_in-2.result c.spot_in-2.ensures.node c.spot_in-2.ensures.depth c.spot_in-2.ensures.each c.push-2.new.self.items c.push-2.ensures.items
-    (omega (arith, c.loop-depth-test.false)) c.places_kept.result.0 c.places_kept.result.1 c.spot_in-2.ensures.places c.places_kept.ensures
+pub returns : goal.returns
+returns g c =
+    let laws = g.met.K.Key.key_laws.bits_length c.args.key c.requires.key in
+    let at = c.loop-depth.invariant in
+    let s = c.spot_in-2.ensures in
+    let all = c.push-2.ensures.items in
+    record {
+      stack = stack_pushed _ _ _ _ _ _ _ c.requires.key laws c.requires.within _ _ _ at c.spot_in-2.result s.node s.depth s.each _ all;
+      passed = passed_pushed _ _ _ _ _ _ _ c.requires.key laws c.requires.within _ _ _ at c.spot_in-2.result s.node s.depth s.each _ all;
+      rest = rest_ended _ _ _ _ _ _ _ c.requires.key laws c.requires.within _ _ _ at c.spot_in-2.result s.node s.depth s.each _ all (omega (arith, c.loop-depth-test.false))
+          c.places_kept.result.0 c.places_kept.result.1 s.places c.places_kept.ensures;
+    }

@@ -22,21 +22,20 @@ step_down-requires-clause-sound g c = c.requires.sound.0
 pub step_down-requires-clause-on_way : goal.step_down-requires-clause-on_way
 step_down-requires-clause-on_way g c = (g.K.Key.bits c.args.key, c.way.invariant.way.on_way, c.way.invariant.way.behind)
 
-pub returns-in_default-clause-found : goal.returns-in_default-clause-found
-returns-in_default-clause-found g c = λ reading paths hold.
+pub returns-in_default : goal.returns-in_default
+returns-in_default g c =
     let b = g.K.Key.bits c.args.key in
     let q = take c.args.len b in
     let at = c.way.invariant in
     let level = c.way.here.level in
-    let found = longest_now b c.args.len level _ c.way.here.node c.args.nodes.now at.way.on_way reading paths hold c.way.best c.longest_in.result c.or-best.result (at.best reading paths hold) (λ nodes. c.longest_in.ensures b nodes at.way.on_way.long at.way.behind) c.or-best.ensures in
-    let end = reached_end b c.args.len level _ c.way.here.node c.args.nodes.now (c.in_default.ensures.step b at.way.on_way at.way.behind) reading paths hold in
-    longest_none reading q 0 (5 * level + 5) (c.args.len + 1) c.or-best.result found (none_past reading paths c.args.nodes.now q level (c.args.len + 1) hold end)
-
-pub returns-in_default-clause-visits : goal.returns-in_default-clause-visits
-returns-in_default-clause-visits g c =
-    let at = c.way.invariant in
-    met_end _ c.args.len c.way.here.level _ c.way.here.node c.args.nodes.now (c.in_default.ensures.step (g.K.Key.bits c.args.key) at.way.on_way at.way.behind) _ _
-    (c.in_default.ensures.visits ∙ at.way.counted)
+    let last = c.in_default.ensures.step b at.way.on_way at.way.behind in
+    record {
+      found = λ reading paths hold.
+          let found = longest_now b c.args.len level _ c.way.here.node c.args.nodes.now at.way.on_way reading paths hold c.way.best c.longest_in.result c.or-best.result (at.best reading paths hold) (λ nodes. c.longest_in.ensures b nodes at.way.on_way.long at.way.behind) c.or-best.ensures in
+          let end = reached_end b c.args.len level _ c.way.here.node c.args.nodes.now last reading paths hold in
+          longest_none reading q 0 (5 * level + 5) (c.args.len + 1) c.or-best.result found (none_past reading paths c.args.nodes.now q level (c.args.len + 1) hold end);
+      visits = met_end _ c.args.len level _ c.way.here.node c.args.nodes.now last _ _ (c.in_default.ensures.visits ∙ at.way.counted);
+    }
 
 pub behind-rest-requires : goal.behind-rest-requires
 behind-rest-requires g c =

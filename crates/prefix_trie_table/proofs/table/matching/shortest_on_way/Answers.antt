@@ -30,22 +30,21 @@ returns-in-Some-clause-found g c = λ reading paths hold.
     let is = on_way_is b c.args.len level _ c.way.here.node c.args.nodes.now at.way.on_way reading paths hold in
     shortest_behind reading (take c.args.len b) 0 (5 * level) (5 * level + 5) (at.none reading paths hold) (Some c.in-Some.found) (c.in-Some.ensures.found b reading at.way.on_way.long at.way.behind is)
 
-pub returns-in_default-step_down-clause-found : goal.returns-in_default-step_down-clause-found
-returns-in_default-step_down-clause-found g c = λ reading paths hold.
+pub returns-in_default-step_down : goal.returns-in_default-step_down
+returns-in_default-step_down g c =
     let b = g.K.Key.bits c.args.key in
     let q = take c.args.len b in
     let at = c.way.invariant in
     let level = c.way.here.level in
-    let is = on_way_is b c.args.len level _ c.way.here.node c.args.nodes.now at.way.on_way reading paths hold in
-    let end = reached_end b c.args.len level _ c.way.here.node c.args.nodes.now (c.in_default-step_down.ensures.step b at.way.on_way at.way.behind) reading paths hold in
-    none_join reading q 0 (5 * level) (c.args.len + 1) (at.none reading paths hold)
-    (none_join reading q (5 * level) (5 * level + 5) (c.args.len + 1) (c.in_default.ensures.found b reading at.way.on_way.long at.way.behind is) (none_past reading paths c.args.nodes.now q level (c.args.len + 1) hold end))
-
-pub returns-in_default-step_down-clause-visits : goal.returns-in_default-step_down-clause-visits
-returns-in_default-step_down-clause-visits g c =
-    let at = c.way.invariant in
-    met_end _ c.args.len c.way.here.level _ c.way.here.node c.args.nodes.now (c.in_default-step_down.ensures.step (g.K.Key.bits c.args.key) at.way.on_way at.way.behind) _ _
-    (c.in_default-step_down.ensures.visits ∙ at.way.counted)
+    let last = c.in_default-step_down.ensures.step b at.way.on_way at.way.behind in
+    record {
+      found = λ reading paths hold.
+          let is = on_way_is b c.args.len level _ c.way.here.node c.args.nodes.now at.way.on_way reading paths hold in
+          let end = reached_end b c.args.len level _ c.way.here.node c.args.nodes.now last reading paths hold in
+          none_join reading q 0 (5 * level) (c.args.len + 1) (at.none reading paths hold)
+          (none_join reading q (5 * level) (5 * level + 5) (c.args.len + 1) (c.in_default.ensures.found b reading at.way.on_way.long at.way.behind is) (none_past reading paths c.args.nodes.now q level (c.args.len + 1) hold end));
+      visits = met_end _ c.args.len level _ c.way.here.node c.args.nodes.now last _ _ (c.in_default-step_down.ensures.visits ∙ at.way.counted);
+    }
 
 pub behind-rest-requires : goal.behind-rest-requires
 behind-rest-requires g c =

@@ -20,31 +20,25 @@ extend-requires-clause-within g c =
     let n_is : length taken.string ≡ c.string_of-n.result.0 = ap length (c.string_of-n.ensures.only taken.string (sym is.1)) ∙ length-digits c.string_of-n.result.0 c.string_of-n.result.1 in
     omega (arith, room, n_is)
 
-pub returns-in-Value-clause-step : goal.returns-in-Value-clause-step
-returns-in-Value-clause-step g c =
-    λ t tree.
-    let taken = c.in-Some.ensures.place in
-    let is = place-value taken.string c.in-Value.bit taken.short (sym c.in-Value.is ∙ taken.place) in (
-      gives_value _ _ _ _ _ _ c.requires.spot (g.met.K.Key.key_laws.bits_length c.args.key c.requires.spot.is_key) taken.string c.next_place.new.self taken.first t tree is.0 c.extend.result c.extend.ensures.key c.string_of-n.result.0 c.string_of-n.result.1 (c.string_of-n.ensures.only taken.string (sym is.1)) c.extend.ensures.value _ (c.value_seat.ensures ∙ ap (value_seat c.args.spot.now.node) is.1),
-      lighter _ _ _ _ _ _ c.requires.spot (g.met.K.Key.key_laws.bits_length c.args.key c.requires.spot.is_key) taken.string c.next_place.new.self taken.first,
-      goes_on _ _ _ _ _ _ c.requires.spot (g.met.K.Key.key_laws.bits_length c.args.key c.requires.spot.is_key) taken.string c.next_place.new.self taken.first,
-      refl,
-    )
-
-pub returns-in-Value-clause-seat : goal.returns-in-Value-clause-seat
-returns-in-Value-clause-seat g c =
+pub returns-in-Value : goal.returns-in-Value
+returns-in-Value g c =
     let taken = c.in-Some.ensures.place in
     let is = place-value taken.string c.in-Value.bit taken.short (sym c.in-Value.is ∙ taken.place) in
-    value_seated _ _ _ _ _ _ c.requires.spot (g.met.K.Key.key_laws.bits_length c.args.key c.requires.spot.is_key) taken.string c.next_place.new.self taken.first c.requires.tree.0 c.requires.tree.1 is.0 c.extend.result c.extend.ensures.key c.string_of-n.result.0 c.string_of-n.result.1 (c.string_of-n.ensures.only taken.string (sym is.1)) c.extend.ensures.value _ (c.value_seat.ensures ∙ ap (value_seat c.args.spot.now.node) is.1)
-
-pub returns-in-Value-clause-way : goal.returns-in-Value-clause-way
-returns-in-Value-clause-way g c =
     let short = c.string_of-n.ensures.short in
     record {
-      whole = omega arith;
-      last = omega (arith, short);
-      same_way = same_way _ _ _ _ _ _ c.requires.spot (g.met.K.Key.key_laws.bits_length c.args.key c.requires.spot.is_key) c.extend.result
-          (digits c.string_of-n.result.0 c.string_of-n.result.1) (zeros (g.K.Key.bit_width - (c.args.spot.now.depth + c.string_of-n.result.0))) c.extend.ensures.value;
+      step = λ t tree. (
+        gives_value _ _ _ _ _ _ c.requires.spot (g.met.K.Key.key_laws.bits_length c.args.key c.requires.spot.is_key) taken.string c.next_place.new.self taken.first t tree is.0 c.extend.result c.extend.ensures.key c.string_of-n.result.0 c.string_of-n.result.1 (c.string_of-n.ensures.only taken.string (sym is.1)) c.extend.ensures.value _ (c.value_seat.ensures ∙ ap (value_seat c.args.spot.now.node) is.1),
+        lighter _ _ _ _ _ _ c.requires.spot (g.met.K.Key.key_laws.bits_length c.args.key c.requires.spot.is_key) taken.string c.next_place.new.self taken.first,
+        goes_on _ _ _ _ _ _ c.requires.spot (g.met.K.Key.key_laws.bits_length c.args.key c.requires.spot.is_key) taken.string c.next_place.new.self taken.first,
+        refl,
+      );
+      seat = value_seated _ _ _ _ _ _ c.requires.spot (g.met.K.Key.key_laws.bits_length c.args.key c.requires.spot.is_key) taken.string c.next_place.new.self taken.first c.requires.tree.0 c.requires.tree.1 is.0 c.extend.result c.extend.ensures.key c.string_of-n.result.0 c.string_of-n.result.1 (c.string_of-n.ensures.only taken.string (sym is.1)) c.extend.ensures.value _ (c.value_seat.ensures ∙ ap (value_seat c.args.spot.now.node) is.1);
+      way = record {
+        whole = omega arith;
+        last = omega (arith, short);
+        same_way = same_way _ _ _ _ _ _ c.requires.spot (g.met.K.Key.key_laws.bits_length c.args.key c.requires.spot.is_key) c.extend.result
+            (digits c.string_of-n.result.0 c.string_of-n.result.1) (zeros (g.K.Key.bit_width - (c.args.spot.now.depth + c.string_of-n.result.0))) c.extend.ensures.value;
+      };
     }
 
 pub child_slot-at-requires : goal.child_slot-at-requires
@@ -63,17 +57,11 @@ extend-below-requires-clause-fits g c =
     let taken = c.in-Some.ensures.place in
     place-child-small taken.string c.in-Child.child taken.short (sym c.in-Child.is ∙ taken.place)
 
-pub enter-requires-clause-stands : goal.enter-requires-clause-stands
-enter-requires-clause-stands g c =
+pub enter-requires : goal.enter-requires
+enter-requires g c =
     let taken = c.in-Some.ensures.place in
     let is = place-child taken.string c.in-Child.child taken.short (sym c.in-Child.is ∙ taken.place) in
-    (child_here _ _ _ _ _ _ c.requires.spot (g.met.K.Key.key_laws.bits_length c.args.key c.requires.spot.is_key) taken.string c.next_place.new.self taken.first c.requires.tree.0 c.requires.tree.1 is.0 c.in-Child.child _ is.1 c.child_slot-at.ensures).0
-
-pub enter-requires-clause-few : goal.enter-requires-clause-few
-enter-requires-clause-few g c =
-    let taken = c.in-Some.ensures.place in
-    let is = place-child taken.string c.in-Child.child taken.short (sym c.in-Child.is ∙ taken.place) in
-    (child_here _ _ _ _ _ _ c.requires.spot (g.met.K.Key.key_laws.bits_length c.args.key c.requires.spot.is_key) taken.string c.next_place.new.self taken.first c.requires.tree.0 c.requires.tree.1 is.0 c.in-Child.child _ is.1 c.child_slot-at.ensures).1
+    let h = child_here _ _ _ _ _ _ c.requires.spot (g.met.K.Key.key_laws.bits_length c.args.key c.requires.spot.is_key) taken.string c.next_place.new.self taken.first c.requires.tree.0 c.requires.tree.1 is.0 c.in-Child.child _ is.1 c.child_slot-at.ensures in record { stands = h.0; few = h.1 }
 
 pub returns-in-Child-clause-step : goal.returns-in-Child-clause-step
 returns-in-Child-clause-step g c =

@@ -19,19 +19,10 @@ invariant_of-result-2 g c =
     i.nodes c.in_ok-nodes.nodes i.cells c.in_ok-cells.cells i.seats i.key i.stack.items c.in-Ok.stack.items c.self.invariant
     c.in_ok-nodes.ensures.same c.in_ok-cells.ensures.slots (each_same i.stack.items c.in-Ok.stack.items c.in-Ok.ensures.cases) c.result-2-1.given.0).0
 
-pub returns-clause-pairs : goal.returns-clause-pairs
-returns-clause-pairs g c =
+pub returns : goal.returns
+returns g c =
     let i = c.self.inside in
-    rw (← c.self.view_is)
-    (copied_walk g.K.Key.IsKey g.K.Key.bits g.K.Key.bit_width g.T.Clone.is_clone _ (option_pairs _ (λ _. refl) (λ _ h. absurd h) (λ _ h. h) (λ _ _ h. h))
+    let pairs = (copied_walk g.K.Key.IsKey g.K.Key.bits g.K.Key.bit_width g.T.Clone.is_clone _ (option_pairs _ (λ _. refl) (λ _ h. absurd h) (λ _ h. h) (λ _ _ h. h))
     i.nodes c.in_ok-nodes.nodes i.cells c.in_ok-cells.cells i.seats i.key i.stack.items c.in-Ok.stack.items c.self.invariant
-    c.in_ok-nodes.ensures.same c.in_ok-cells.ensures.slots (each_same i.stack.items c.in-Ok.stack.items c.in-Ok.ensures.cases) c.result-2-1.given.0).1
-
-pub returns-clause-same : goal.returns-clause-same
-returns-clause-same g c = λ law.
-    let i = c.self.inside in
-    pairs_same g.T.Clone.is_clone law _ _
-    (copied_walk g.K.Key.IsKey g.K.Key.bits g.K.Key.bit_width g.T.Clone.is_clone _ (option_pairs _ (λ _. refl) (λ _ h. absurd h) (λ _ h. h) (λ _ _ h. h))
-    i.nodes c.in_ok-nodes.nodes i.cells c.in_ok-cells.cells i.seats i.key i.stack.items c.in-Ok.stack.items c.self.invariant
-    c.in_ok-nodes.ensures.same c.in_ok-cells.ensures.slots (each_same i.stack.items c.in-Ok.stack.items c.in-Ok.ensures.cases) c.result-2-1.given.0).1
-    ∙ c.self.view_is
+    c.in_ok-nodes.ensures.same c.in_ok-cells.ensures.slots (each_same i.stack.items c.in-Ok.stack.items c.in-Ok.ensures.cases) c.result-2-1.given.0).1 in
+    record { pairs = rw (← c.self.view_is) pairs; same = λ law. pairs_same g.T.Clone.is_clone law _ _ pairs ∙ c.self.view_is }

@@ -23,15 +23,10 @@ returns-in_default-advance g c =
     let h = c.in_default-advance.ensures.entry (tree_of c.in-Some.cells.now r.state) r.tree in
     (sym c.self.view_is ∙ r.rest ∙ h.0, r.later_rest _ c.advance.new.key c.advance.new.stack.items ∙ h.1)
 
-pub value_at-requires-clause-stands : goal.value_at-requires-clause-stands
-value_at-requires-clause-stands g c =
+pub value_at-requires : goal.value_at-requires
+value_at-requires g c =
     let r = rest_at g.K.Key.IsKey g.K.Key.bits g.K.Key.bit_width c.self.inside.arrays (c.in-Some.nodes, c.in-Some.cells) c.in-Some.is c.self.inside.shape c.self.inside.key c.self.inside.stack.items c.self.invariant in
-    (c.in-Some-advance.ensures.entry (tree_of c.in-Some.cells.now r.state) r.tree).stands
-
-pub value_at-requires-clause-set : goal.value_at-requires-clause-set
-value_at-requires-clause-set g c =
-    let r = rest_at g.K.Key.IsKey g.K.Key.bits g.K.Key.bit_width c.self.inside.arrays (c.in-Some.nodes, c.in-Some.cells) c.in-Some.is c.self.inside.shape c.self.inside.key c.self.inside.stack.items c.self.invariant in
-    let h = c.in-Some-advance.ensures.entry (tree_of c.in-Some.cells.now r.state) r.tree in (h.value, h.reads)
+    let h = c.in-Some-advance.ensures.entry (tree_of c.in-Some.cells.now r.state) r.tree in record { stands = h.stands; set = (h.value, h.reads) }
 
 pub returns : goal.returns
 returns g c =

@@ -19,19 +19,16 @@ returns-in_default-advance g c =
     let h = c.in_default-advance.ensures.entry (tree_of c.in-Some.field-0-1.now r.state) r.tree in
     (sym c.self.view_is ∙ r.rest ∙ h.0, r.later_rest _ c.advance.new.key c.advance.new.stack.items ∙ h.1)
 
-pub skip_at_last-requires-clause-key : goal.skip_at_last-requires-clause-key
-skip_at_last-requires-clause-key g c =
+pub skip_at_last-requires : goal.skip_at_last-requires
+skip_at_last-requires g c =
     let r = rest_at g.K.Key.IsKey g.K.Key.bits g.K.Key.bit_width c.self.inside.arrays (c.in-Some.nodes, c.in-Some.field-0-1) c.in-Some.is c.self.inside.shape c.self.inside.key c.self.inside.stack.items c.self.invariant in
-    (c.in-Some-advance.ensures.entry (tree_of c.in-Some.field-0-1.now r.state) r.tree).gives.is_key
-
-pub skip_at_last-requires-clause-within : goal.skip_at_last-requires-clause-within
-skip_at_last-requires-clause-within g c =
-    let r = rest_at g.K.Key.IsKey g.K.Key.bits g.K.Key.bit_width c.self.inside.arrays (c.in-Some.nodes, c.in-Some.field-0-1) c.in-Some.is c.self.inside.shape c.self.inside.key c.self.inside.stack.items c.self.invariant in
-    (c.in-Some-advance.ensures.entry (tree_of c.in-Some.field-0-1.now r.state) r.tree).gives.short
-
-pub skip_at_last-requires-clause-room : goal.skip_at_last-requires-clause-room
-skip_at_last-requires-clause-room g c =
-    few_spots g.K.Key.IsKey g.K.Key.bits g.K.Key.bit_width c.in-Some.nodes.now c.advance.new.key c.advance.new.stack.items g.met.K.Key.key_laws.at_most_128 c.advance.ensures.stack _ _ c.in-Some-advance.ensures.last
+    let h = (c.in-Some-advance.ensures.entry (tree_of c.in-Some.field-0-1.now r.state) r.tree).gives in
+    record {
+      key = h.is_key;
+      within = h.short;
+      last = (_, c.in-Some-advance.ensures.last);
+      room = few_spots g.K.Key.IsKey g.K.Key.bits g.K.Key.bit_width c.in-Some.nodes.now c.advance.new.key c.advance.new.stack.items g.met.K.Key.key_laws.at_most_128 c.advance.ensures.stack _ _ c.in-Some-advance.ensures.last;
+    }
 
 pub invariant_of-self-2 : goal.invariant_of-self-2
 invariant_of-self-2 g c =
