@@ -1,5 +1,6 @@
 -- The words that proofs of this crate name: of std, of the crates below, and of its own definitions.
 pub use Rattle.std.proofs.Common.{All, Bool, Contains, Equal, Err, Greater, IfErr, IfNone, IfOk, IfSome, IsOk, IsPermutation, IsSome, IsTrue, Less, List, MatchOption, MatchResult, None, Ok, OnErr, OnOk, Option, Ordering, Result, Some, T, [], add-sub_of_le, ap, append-nil, append_assoc, ap₂, arith, bit_and, cond, count_by, drop, drop-drop, eq-eqb, eqb, eqb-true, false, filter, flat_map, get_or, get_or-set_same, if◌then◌else◌, inl, inr, insert, is_le, is_lt, is_some, leb, leb-true, length, length-append, length-drop, length-set, length-take, length-take-le, lit<, lit≤, lt-ltb, ltb, ltb-true, map, nat_eq, nat_le, nat_lt, not, option_map, refl, remove, replicate, rules, set, slice_set, subst, suc, sum, sum_by, swap, sym, take, take-append-drop, take_all, true, true≢false, unwrap_or, vec_capacity, vec_len, w32, zero, ℕ, ⊎_elim, ◌%◌, ◌&&◌, ◌*◌, ◌++◌, ◌+◌, ◌-◌, ◌/◌, ◌<◌, ◌==◌, ◌^◌, ◌||◌, ◌↔◌, ◌∙◌, ◌∷◌, ◌≡◌, ◌≢◌, ◌≤◌, ◌⊎◌}
+pub use Rattle.std.proofs.Math.Bool.{and-false, and_assoc, and_comm, or-false, or-true}
 pub use Rattle.std.proofs.Math.Nat.{add-mul, mul-add, mul-le-mul_left, mul-one, mul-zero, one-mul, zero-mul}
 pub use Rattle.std.proofs.Math.Seq.{get_or-append_seam, take-add, take-append_seam}
 pub use Rattle.std.proofs.lemmas.Bool.{and_parts, cases_Bool, cases_eq, cases_lt, false_from_ne_true, false≢true, le-leb, le-ltb, lt-leb, or_parts, true_from_ne_false}
@@ -36,7 +37,7 @@ pub use Rattle.prefix_trie_bits.proofs.Checks.{at_below, both}
 unfoldable pub use Rattle.prefix_trie_bits.proofs.Checks.{each}
 pub use Rattle.prefix_trie_bits.proofs.Listing.{count-strings, strings-short}
 pub use Rattle.prefix_trie_bits.proofs.Model.HandsOut.{handing_laws}
-pub use Rattle.prefix_trie_bits.proofs.Model.Homes.{home-begins, home-depth, home-length, home-longest}
+pub use Rattle.prefix_trie_bits.proofs.Model.Homes.{home-begins, home-depth, home-length, home-longest, own_home}
 pub use Rattle.prefix_trie_bits.proofs.Model.Matches.{IsMatch-from_covers, covers-from_IsMatch, match_laws, one_of_length}
 pub use Rattle.prefix_trie_bits.proofs.Model.Members.{and-first, and-join, and-second, any-node_above, get-part_below, get-without_below, get-without_entry, has-empty, has-inserted, has-removed, has-retained, has-root_alone, has-with_nodes, is-same_string, needed_for, needs_root, or-cases, or-left, or-right, same_entries, same_members, same_nodes, same_string-is, some-value}
 pub use Rattle.prefix_trie_bits.proofs.Model.NodeListings.{listing_at_child, listing_at_inner, listing_at_no_value, listing_at_value, listing_below_none, listing_by_node_places, listing_by_places, listing_of_root, two-tests}
@@ -59,14 +60,14 @@ pub use Rattle.prefix_trie_bits.specs.Laws.Pruning.{IsTakenOut, PruningLaws}
 pub use Rattle.prefix_trie_bits.specs.Model.Asking.{AsksInOrder, MayAskInOrder}
 pub use Rattle.prefix_trie_bits.specs.Model.Blocks.{AreBlocksOf, HasBlock, KeepsBlocks, Layout, LongerByOne, MakesAtMost, MakesBlocks, NodesHaveBlocks, Sizes, SizesStepBetween, SizesStepDown, StepsBetween, StepsDown, Tiles, child_block_count, child_block_sizes, child_count, free_of, made_of, no_layout, one_of, own_entries, smallest_size, used_of, value_block_count, value_block_sizes}
 pub use Rattle.prefix_trie_bits.specs.Model.Entries.{AreWithin, Entries, no_entries, part_below, with_entry, without_below, without_entry}
-pub use Rattle.prefix_trie_bits.specs.Model.HandsOut.{HandsOutInStorage, IsPacked, packed_block, packed_cell_slots, packed_node_slots, packed_slots}
+pub use Rattle.prefix_trie_bits.specs.Model.HandsOut.{HandsOutInStorage, IsPacked, packed_block, packed_cell_slots, packed_slots}
 pub use Rattle.prefix_trie_bits.specs.Model.Insertion.{TakesBlocks, block_needed, cell_slots_lacking, child_block_needed, child_blocks_lacking, child_blocks_needed, gains_child, lacking_of, lacking_slots, node_slots_lacking, value_block_needed, value_blocks_lacking, value_blocks_needed}
 pub use Rattle.prefix_trie_bits.specs.Model.Matches.{IsMatch, covers, longest_match, shortest_match}
 pub use Rattle.prefix_trie_bits.specs.Model.NodeListings.{listing_at_place, listing_at_places, pair_of}
 pub use Rattle.prefix_trie_bits.specs.Model.Nodes.{AreNodes, Nodes, has_node, holders, home, is_holder, is_node_depth, is_parent, is_pruned, needed, nodes_above, nodes_not_below, nodes_without, nodes_without_below, parents, pruned, root_alone, with_needed, with_nodes}
 pub use Rattle.prefix_trie_bits.specs.Model.Room.{LeavesRoom, MayPassLimit, Room}
 pub use Rattle.prefix_trie_bits.specs.Model.Selections.{listing, listing_after, listing_below, listing_from}
-pub use Rattle.prefix_trie_bits.specs.Model.Step.{Clear, Done, Insert, Remove, RemoveChildren, RemoveKeepTree, Reply, State, Step, Value}
+pub use Rattle.prefix_trie_bits.specs.Model.Step.{Clear, Done, Insert, Remove, RemoveChildren, RemoveKeepTree, Reply, State, Step}
 pub use Rattle.prefix_trie_bits.specs.Model.Storage.{HaveBlocks, InsertsInStorage, LeavesStorage, PrunesInStorage, ReadiesInStorage, RefusesInStorage, RemovesManyInStorage, RemovesValueInStorage, RetainsInStorage, StepByPath, Storage, cleared}
 pub use Rattle.prefix_trie_bits.specs.Model.Visits.{visits, visits_of_match, visits_to_match}
 pub use Rattle.prefix_trie_bits.specs.Order.{listing-apart, listing-common, listing-refl, listing_cmp, listing_same, listing_total, same_string}
@@ -75,7 +76,7 @@ unfoldable pub use Rattle.prefix_trie_bits.specs.Places.{ones_below}
 pub use Rattle.prefix_trie_bits.specs.Walks.{to_come}
 pub use Rattle.prefix_trie_bits.specs.Windows.{IsRest, rest_behind, rest_front, rest_string, rest_whole, take-extend, window-of-front}
 pub use Rattle.prefix_trie_bits.specs.declared.node.Place.{Place}
-pub use Rattle.prefix_trie_bits.specs.declared.node.Place.TheVariants.{Child}
+pub use Rattle.prefix_trie_bits.specs.declared.node.Place.TheVariants.{Child, Value}
 pub use Rattle.prefix_trie_bits.specs.declared.node.Places.{Places}
 pub use Rattle.prefix_trie_bits.specs.declared.prefix.Refusal.{Refusal}
 pub use Rattle.prefix_trie_bits.specs.declared.prefix.Refusal.TheVariants.{IndexRange, Memory, the_data}
@@ -107,7 +108,7 @@ pub use Rattle.prefix_trie_table.specs.Retaining.{AsksUpTo, BlocksBetween, HasPl
 pub use Rattle.prefix_trie_table.specs.Runs.{put_run, run, swap_runs}
 pub use Rattle.prefix_trie_table.specs.Settling.{NodesSettle, Settles, SettlesBy, child_headroom, headroom_if_any, headroom_of, of_any, smaller_sizes, value_headroom}
 unfoldable pub use Rattle.prefix_trie_table.specs.Settling.{headroom}
-pub use Rattle.prefix_trie_table.specs.Shape.{Contents, IsShapeOf, Shaped, Shaped-prop, same_shape, state, storage, with_longest_at, with_match_at, with_stored_at, with_value_at}
+pub use Rattle.prefix_trie_table.specs.Shape.{Contents, IsShapeOf, Shaped, Shaped-prop, same_shape, state, with_longest_at, with_match_at, with_stored_at, with_value_at}
 pub use Rattle.prefix_trie_table.specs.Slots.{HasValue, IsSeat, SeatOf, with_cell, with_slot}
 pub use Rattle.prefix_trie_table.specs.Steps.{SettlesInStorage, inserted, placed, stored}
 pub use Rattle.prefix_trie_table.specs.Store.{AreFree, HasList, HoldsItems, IsOfTier, IsVacant, Keeps, KeepsMade, MakesNone, Obtains, SameMade, SameRoom, SameSlots, Sound, Store, Tier, Turnover, UsedBlock, block, extent, filled, free_counts, free_extents, free_in, held, lacking_in, list_need, list_size, made_in, many_of, needs, no_blocks, none_of, of_size, size_if_any, size_in, slots_lacking, slots_made, slots_of, tier_at, tier_sizes, with_tier}
@@ -116,7 +117,7 @@ pub use Rattle.prefix_trie_table.specs.Walking.Covers.{AreLeft, GoesOn, IsCover,
 pub use Rattle.prefix_trie_table.specs.Walking.Cursors.{behind, kept, places_in, selected}
 pub use Rattle.prefix_trie_table.specs.Walking.Items.{GivesFilled}
 pub use Rattle.prefix_trie_table.specs.Walking.Taking.{AreApart, AreHeld, IsApart, IsTaking, Seated, Seated-prop, cell_of, pairs_in}
-pub use Rattle.prefix_trie_table.specs.Walking.Trails.{GivesKey, array_of, keys_to_come}
+pub use Rattle.prefix_trie_table.specs.Walking.Trails.{GivesKey, array_of}
 pub use Rattle.prefix_trie_table.specs.Walking.Walks.{ArePassed, EndsLast, GivesSeat, IsOther, IsPassed, IsPlaceOf, IsSpot, IsStack, IsTrail, IsWalk, ShapeOf, SkipsLast, Tree, pending, rest_of_walk, start, still, weight}
 pub use Rattle.prefix_trie_table.specs.declared.allocator.blocks.BlockRef.{BlockRef}
 pub use Rattle.prefix_trie_table.specs.declared.allocator.blocks.tiers.TheConstants.{TIERS}

@@ -1,6 +1,6 @@
 -- A write to one run of a list leaves each run that is apart from it.
-use Rattle.prefix_trie_table.proofs.Prelude.{set, ◌≡◌, ◌≢◌, ℕ, zero, suc, ◌+◌, ◌-◌, ◌<◌, ◌≤◌, ◌⊎◌, inl, inr, ⊎_elim, List, ◌++◌, length, get_or, take, drop, insert, remove, swap, refl, sym, ap, ◌∙◌, subst, arith, append_assoc, length-append, length-take, length-drop, take-append-drop, drop-drop, replicate, take_at, drop_at, take-append-le, drop-append-le, set-append_left, set-append_right, drop-set-lt, get_or-take, get_or-drop, ext_get_or, length-replicate, get_or-set_other, insert-append_left, insert-append_right, remove-append_left, remove-append_right, length-insert, length-remove, length-swap, Swapped, swapped_from_swap, get_or-insert_below, get_or-insert_at, get_or-insert_above, cases_lt, cases_eq, drop-append-drop, run, put_run, swap_runs}
-use Rattle.std.proofs.lemmas.List.{get_or-replicate, length-take-le, length-set, take_all, get_or-set_same}
+use Rattle.prefix_trie_table.proofs.Prelude.{set, ◌≡◌, ◌≢◌, ℕ, zero, suc, ◌+◌, ◌-◌, ◌<◌, ◌≤◌, ◌⊎◌, inl, inr, ⊎_elim, List, ◌++◌, length, get_or, take, drop, insert, remove, swap, refl, sym, ap, ◌∙◌, subst, arith, append_assoc, length-append, length-take, length-drop, take-append-drop, drop-drop, replicate, take_at, drop_at, take-append-le, drop-append-le, set-append_left, set-append_right, drop-set-lt, get_or-take, get_or-drop, ext_get_or, length-replicate, get_or-set_other, insert-append_left, insert-append_right, remove-append_left, remove-append_right, length-insert, length-remove, length-swap, Swapped, swapped_from_swap, get_or-insert_below, get_or-insert_at, get_or-insert_above, cases_lt, cases_eq, drop-append-drop, run, put_run, swap_runs, get_or-replicate}
+use Rattle.std.proofs.lemmas.List.{length-take-le, length-set, take_all, get_or-set_same}
 
 -- the m places from a on and the n from b on have none in common
 abbrev pub Apart : ℕ → ℕ → ℕ → ℕ → Type 0

@@ -1,8 +1,6 @@
 -- The nodes of a table have as many values as it has entries.
-use Rattle.prefix_trie_table.proofs.Prelude.{◌≡◌, ℕ, ◌+◌, ◌/◌, ◌%◌, ◌<◌, Bool, true, false, cond, ◌&&◌, nat_lt, List, [], ◌∷◌, length, filter, sum_by, Option, is_some, refl, sym, ap, ◌∙◌, arith, ltb-true, eq-eqb, length-map, All-head, All-tail, All-map, All-weaker, All-contains_itself, sum_by-cons, contains_key, keys, len, len-entries, entries, entries_sorted, get-entries, begins, same_bool, Entries, and-first, and-second, and-join, find-from_Contains, Node, node_sizes, path_of, bit_of, same_path, one_if, times, own_count, entry_count, Holds, Store, IsShapeOf, State}
+use Rattle.prefix_trie_table.proofs.Prelude.{◌≡◌, ℕ, ◌+◌, ◌/◌, ◌%◌, ◌<◌, Bool, true, false, cond, ◌&&◌, nat_lt, List, [], ◌∷◌, length, filter, sum_by, Option, is_some, refl, sym, ap, ◌∙◌, arith, ltb-true, eq-eqb, length-map, All-head, All-tail, All-map, All-weaker, All-contains_itself, sum_by-cons, contains_key, keys, len, len-entries, entries, entries_sorted, get-entries, begins, same_bool, Entries, and-first, and-second, and-join, find-from_Contains, Node, node_sizes, path_of, bit_of, same_path, one_if, times, own_count, entry_count, Holds, Store, IsShapeOf, State, own_home, home-begins, home-depth, home-length, home}
 use Rattle.std.proofs.lemmas.Bool.{lt-ltb}
-use Rattle.prefix_trie_bits.proofs.Model.Homes.{own_home, home-begins, home-depth, home-length}
-use Rattle.prefix_trie_bits.specs.Model.Nodes.{home}
 use Rattle.std.proofs.lemmas.List.{take_all}
 use Rattle.std.specs.List.{All, Contains}
 use Rattle.prefix_trie_table.proofs.Counts.EntryCounts.{count_sum}

@@ -1,8 +1,7 @@
 -- The places of a node that is at hand, as its table has them, and one turn of asking at them.
-use Rattle.prefix_trie_table.proofs.Prelude.{◌≡◌, ℕ, ◌/◌, ◌≤◌, Bool, true, false, cond, ◌&&◌, ◌==◌, List, [], ◌∷◌, ◌++◌, length, take, Option, is_some, refl, sym, ap, ap₂, ◌∙◌, subst, arith, inl, inr, append-nil, length-append, Less, IsStrictlySortedBy, false≢true, cases_lt, le-ltb, All-head, All-tail, All-weaker, All-from_recursion, list_any-append, get, begins, number, digits, digits-number, listing_cmp, has, value_bit, is_in, place_of, Child, MayAskInOrder, listing_at_place, listing_at_places, has_node, is_node_depth, State, value_bit-injective, value_bit-small, or-cases, or-left, or-right, is-same_string, not_itself, begins-refl, Node, Site, path_of, bit_of, Store, read, has_value, has_child, same_shape, IsPlaceOf, is_at, is_at_some, is_under_some, IsSite, Retains, RetainsIn, MayAskAt, Lasts, IsTrie}
+use Rattle.prefix_trie_table.proofs.Prelude.{◌≡◌, ℕ, ◌/◌, ◌≤◌, Bool, true, false, cond, ◌&&◌, ◌==◌, List, [], ◌∷◌, ◌++◌, length, take, Option, is_some, refl, sym, ap, ap₂, ◌∙◌, subst, arith, inl, inr, append-nil, length-append, Less, IsStrictlySortedBy, false≢true, cases_lt, le-ltb, All-head, All-tail, All-weaker, All-from_recursion, list_any-append, get, begins, number, digits, digits-number, listing_cmp, has, value_bit, is_in, place_of, Child, MayAskInOrder, listing_at_place, listing_at_places, has_node, is_node_depth, State, value_bit-injective, value_bit-small, or-cases, or-left, or-right, is-same_string, not_itself, begins-refl, Node, Site, path_of, bit_of, Store, read, has_value, has_child, same_shape, IsPlaceOf, is_at, is_at_some, is_under_some, IsSite, Retains, RetainsIn, MayAskAt, Lasts, IsTrie, Value}
 use Rattle.std.specs.List.{All}
 use Rattle.std.proofs.lemmas.Bool.{lt-ltb}
-use Rattle.prefix_trie_bits.specs.declared.node.Place.TheVariants.{Value}
 use Rattle.prefix_trie_table.proofs.Strings.Plain.{no_or_yes, whole_more}
 use Rattle.prefix_trie_table.proofs.Blocks.Soundness.{All-both}
 use Rattle.prefix_trie_table.proofs.Tree.Invariant.{some_table}

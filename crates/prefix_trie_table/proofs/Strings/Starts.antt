@@ -1,6 +1,5 @@
 -- The beginnings of a path.
-use Rattle.prefix_trie_table.proofs.Prelude.{◌≡◌, ℕ, ◌⊎◌, inl, inr, ⊎_elim, Bool, true, false, ◌||◌, List, [], ◌∷◌, ◌++◌, take, drop, map, refl, sym, ap, ◌∙◌, subst, append_assoc, append-nil, map-append, list_any-append, false≢true, list_any, same_path, starts, is_start}
-use Rattle.std.proofs.Math.Bool.{or-true}
+use Rattle.prefix_trie_table.proofs.Prelude.{◌≡◌, ℕ, ◌⊎◌, inl, inr, ⊎_elim, Bool, true, false, ◌||◌, List, [], ◌∷◌, ◌++◌, take, drop, map, refl, sym, ap, ◌∙◌, subst, append_assoc, append-nil, map-append, list_any-append, false≢true, list_any, same_path, starts, is_start, or-true}
 use Rattle.std.proofs.lemmas.List.{take-append-drop}
 use Rattle.prefix_trie_table.proofs.Strings.Paths.{same_path-true, same_path-itself, snoc_ind}
 

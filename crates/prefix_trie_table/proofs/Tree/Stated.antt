@@ -1,5 +1,6 @@
 -- A call that changes a table is a step of the model.
-use Rattle.prefix_trie_table.proofs.Prelude.{◌≡◌, ℕ, ◌+◌, ◌<◌, ◌≤◌, inl, inr, Bool, true, false, cond, ◌&&◌, List, [], ◌∷◌, length, Option, Result, Ok, Err, IfErr, MatchResult, IsOk, IsTrue, is_some, refl, sym, ap, ◌∙◌, true≢false, subst, arith, get, contains_key, len, Refused, Refusal, IndexRange, AsksInOrder, no_entries, without_entry, without_below, has_node, is_node_depth, root_alone, with_needed, nodes_without, nodes_without_below, needed, AreNodes, MayPassLimit, LeavesRoom, listing, State, Reply, Step, Insert, Remove, RemoveKeepTree, RemoveChildren, Clear, Done, Value, Storage, cleared, InsertsInStorage, RefusesInStorage, RemovesValueInStorage, PrunesInStorage, RemovesManyInStorage, LeavesStorage, StepByPath, RetainsInStorage, same_nodes, Node, path_of, read, Sized, Lasts, Shaped, inserted, SettlesInStorage, Store, SameRoom, free_counts, IsTable, Grows, MayPass}
+use Rattle.prefix_trie_table.proofs.Prelude.{◌≡◌, ℕ, ◌+◌, ◌<◌, ◌≤◌, inl, inr, Bool, true, false, cond, ◌&&◌, List, [], ◌∷◌, length, Option, Result, Ok, Err, IfErr, MatchResult, IsOk, IsTrue, is_some, refl, sym, ap, ◌∙◌, true≢false, subst, arith, get, contains_key, len, Refused, Refusal, IndexRange, AsksInOrder, no_entries, without_entry, without_below, has_node, is_node_depth, root_alone, with_needed, nodes_without, nodes_without_below, needed, AreNodes, MayPassLimit, LeavesRoom, listing, State, Reply, Step, Insert, Remove, RemoveKeepTree, RemoveChildren, Clear, Done, Storage, cleared, InsertsInStorage, RefusesInStorage, RemovesValueInStorage, PrunesInStorage, RemovesManyInStorage, LeavesStorage, StepByPath, RetainsInStorage, same_nodes, Node, path_of, read, Sized, Lasts, Shaped, inserted, SettlesInStorage, Store, SameRoom, free_counts, IsTable, Grows, MayPass}
+use Rattle.prefix_trie_bits.specs.Model.Step.{Value}
 use Rattle.prefix_trie_table.proofs.Tree.Invariant.{some_table}
 use Rattle.prefix_trie_table.proofs.Blocks.KeptBlocks.{kept_blocks}
 use Rattle.prefix_trie_table.proofs.Removal.PartTaken.{all_gone, root_left}
