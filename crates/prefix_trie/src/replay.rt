@@ -263,7 +263,7 @@ fn clear<P: Prefix, A: Allocator>(map: &mut PrefixMap<P, u64, A>) -> Reply<P, A>
 }
 
 /// Keeps the entries whose prefixes have at least this length.
-fn retain_at_least<P: Prefix, A: Allocator>(
+pub(crate) fn retain_at_least<P: Prefix, A: Allocator>(
     map: &mut PrefixMap<P, u64, A>,
     least: u8,
 ) -> Reply<P, A>

@@ -1,6 +1,7 @@
 //! Copies of a map and a set, and of the walks that take them apart, with each request for memory refused in turn: each value is cloned
 //! once.
 use crate::map::{IntoIter, IntoKeys, IntoValues};
+use crate::tests::cases::keys::put;
 use crate::tests::refusing::Refusing;
 use crate::tests::stored::stores;
 use crate::{PrefixMap, PrefixSet, Refusal};
@@ -248,9 +249,9 @@ fn copies_of_values_left(heap: &Heap) -> Option<u64> {
 fn keys(heap: &Heap) -> Option<PrefixSet<Key, &Heap>> {
     heap.refuse(0, 0);
     let mut set = PrefixSet::new(heap).ok()?;
-    let is_filled = (set.insert((0x0a01_0000, 8)) == Ok(true))
-        & (set.insert((0x0a01_0000, 9)) == Ok(true))
-        & (set.insert((0x0a01_0000, 24)) == Ok(true));
+    let is_filled = (put(&mut set, (0x0a01_0000, 8)) == Ok(true))
+        & (put(&mut set, (0x0a01_0000, 9)) == Ok(true))
+        & (put(&mut set, (0x0a01_0000, 24)) == Ok(true));
     heap.refuse(0, u64::MAX);
     if is_filled { Some(set) } else { None }
 }

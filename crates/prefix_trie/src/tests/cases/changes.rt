@@ -1,4 +1,5 @@
 //! Cases that change a map.
+use crate::replay::retain_at_least;
 use crate::tests::cases::lists::{entries_of, gives};
 use crate::tests::cases::questions::{has_sums, is_same, pair_in, pair_of, value_in};
 use crate::tests::cases::{Entry, Pair, prefix_of};
@@ -81,6 +82,15 @@ fn is_answered<P: Prefix + Copy, A: Allocator>(
     (answer == *wanted) & (answer.is_ok() | is_as(map, old))
 }
 
+/// Inserts a value. It has no clause: those of `insert` would be checked again at each call.
+fn put_in<P: Prefix, A: Allocator>(
+    map: &mut PrefixMap<P, u64, A>,
+    at: Pair<P::R>,
+    value: u64,
+) -> Answer {
+    map.insert(prefix_of(at), value)
+}
+
 /// Makes an insertion into a map of old entries and nodes, as `inserts` does.
 fn inserts_into<P: Prefix + Copy, A: Allocator>(
     heap: &Refusing<Global>,
@@ -90,13 +100,13 @@ fn inserts_into<P: Prefix + Copy, A: Allocator>(
     wanted: &Answer,
 ) -> bool {
     let left = heap.left();
-    let answer = map.insert(prefix_of(added.0), added.1);
+    let answer = put_in(map, added.0, added.1);
     if heap.left() == left {
         return is_answered(map, old, answer, wanted);
     }
     let is_refused = is_answered(map, old, answer, &answer_of(Err(Refusal::Memory), added.1));
     heap.refuse(0, 0);
-    let again = map.insert(prefix_of(added.0), added.1);
+    let again = put_in(map, added.0, added.1);
     is_refused & is_answered(map, old, again, wanted)
 }
 
@@ -112,7 +122,7 @@ pub fn inserts<P: Prefix + Copy, A: Allocator>(
 ) -> bool {
     let wanted = answer_of(wanted, value);
     if heap.left() == 0 {
-        return map.insert(prefix_of(at), value) == wanted;
+        return put_in(map, at, value) == wanted;
     }
     let nodes = map.node_count();
     match entries_of(heap.inner(), map) {
@@ -157,7 +167,7 @@ pub fn retains_long<P: Prefix + Copy, A: Allocator>(
     map: &mut PrefixMap<P, u64, A>,
     len: u8,
 ) -> bool {
-    map.retain(move |prefix, _| len <= prefix.prefix_len());
+    retain_at_least(map, len);
     true
 }
 

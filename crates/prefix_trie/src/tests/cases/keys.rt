@@ -73,6 +73,21 @@ fn is_as<P: Prefix + Copy + PartialEq, A: Allocator>(
     gives_keys(set.iter(), old.0) & (set.len() == old.0.len()) & (set.node_count() == old.1)
 }
 
+/// Inserts a prefix. It has no clause: those of `insert` would be checked again at each call.
+pub fn put<P: Prefix, A: Allocator>(set: &mut PrefixSet<P, A>, prefix: P) -> Result<bool, Refusal>
+    requires { P.IsFitting prefix }
+{
+    set.insert(prefix)
+}
+
+/// All keys.
+fn keys_of<P: Prefix + Copy, A: Allocator>(
+    alloc: Global,
+    set: &PrefixSet<P, A>,
+) -> Result<Vec<P, Global>, AllocError> {
+    set.iter().collect(alloc)
+}
+
 /// Makes an insertion into a set of old keys and nodes, as `inserts` does.
 fn inserts_into<P: Prefix + Copy + PartialEq, A: Allocator>(
     heap: &Refusing<Global>,
@@ -82,13 +97,13 @@ fn inserts_into<P: Prefix + Copy + PartialEq, A: Allocator>(
     wanted: Result<bool, Refusal>,
 ) -> bool {
     let left = heap.left();
-    let answer = set.insert(prefix_of(at));
+    let answer = put(set, prefix_of(at));
     let is_unchanged = answer.is_ok() || is_as(set, old);
     if heap.left() == left {
         return is_unchanged & (answer == wanted);
     }
     heap.refuse(0, 0);
-    let again = set.insert(prefix_of(at));
+    let again = put(set, prefix_of(at));
     is_unchanged & (answer == Err(Refusal::Memory)) & (again == wanted)
 }
 
@@ -102,11 +117,10 @@ fn inserts<P: Prefix + Copy + PartialEq, A: Allocator>(
     wanted: Result<bool, Refusal>,
 ) -> bool {
     if heap.left() == 0 {
-        return set.insert(prefix_of(at)) == wanted;
+        return put(set, prefix_of(at)) == wanted;
     }
     let nodes = set.node_count();
-    let keys: Result<Vec<P, Global>, AllocError> = set.iter().collect(heap.inner());
-    match keys {
+    match keys_of(heap.inner(), set) {
         Ok(keys) => inserts_into(heap, set, (&keys, nodes), at, wanted),
         Err(AllocError) => false,
     }

@@ -4,7 +4,7 @@ use crate::tests::cases::changes::{
     empties, inserts, removes, removes_children, writes, writes_longest,
 };
 use crate::tests::cases::filling::{Fill, changes, fills, takes_out};
-use crate::tests::cases::keys::gives_same as gives_same_keys;
+use crate::tests::cases::keys::{gives_same as gives_same_keys, put};
 use crate::tests::cases::lists::{covers, entries_of, gives_same};
 use crate::tests::cases::questions::{finds, has_len};
 use crate::tests::cases::{Entry, Pair, prefix_of};
@@ -87,6 +87,22 @@ fn are_filled<P: Prefix + Copy, A: Allocator>(
     true
 }
 
+/// Whether walks from two prefixes on give the same.
+fn are_listed_from<P: Prefix + Copy, A: Allocator>(
+    map: &PrefixMap<P, u64, A>,
+    one: &P,
+    other: &P,
+    inclusive: bool,
+) -> bool
+    requires one { P.IsFitting one.now }
+    requires other { P.IsFitting other.now }
+{
+    gives_same(
+        map.iter_from(one, inclusive),
+        map.iter_from(other, inclusive),
+    )
+}
+
 /// Whether walks from and below two prefixes give the same.
 fn are_listed<P: Prefix + Copy, A: Allocator>(
     map: &PrefixMap<P, u64, A>,
@@ -96,8 +112,8 @@ fn are_listed<P: Prefix + Copy, A: Allocator>(
     requires one { P.IsFitting one.now }
     requires other { P.IsFitting other.now }
 {
-    gives_same(map.iter_from(one, true), map.iter_from(other, true))
-        & gives_same(map.iter_from(one, false), map.iter_from(other, false))
+    are_listed_from(map, one, other, true)
+        & are_listed_from(map, one, other, false)
         & gives_same(map.children(one), map.children(other))
 }
 
@@ -286,6 +302,22 @@ fn is_found<P: Prefix + Copy + PartialEq, A: Allocator>(
         & (set.get_spm(at) == Some(clean))
 }
 
+/// Whether the walks of a set from two prefixes on give the same.
+fn are_walked_from<P: Prefix + PartialEq, A: Allocator>(
+    set: &PrefixSet<P, A>,
+    one: &P,
+    other: &P,
+    inclusive: bool,
+) -> bool
+    requires one { P.IsFitting one.now }
+    requires other { P.IsFitting other.now }
+{
+    gives_same_keys(
+        set.iter_from(one, inclusive),
+        set.iter_from(other, inclusive),
+    )
+}
+
 /// Whether the walks of a set give the same for two prefixes.
 fn are_walked_in_set<P: Prefix + PartialEq, A: Allocator>(
     set: &PrefixSet<P, A>,
@@ -295,8 +327,8 @@ fn are_walked_in_set<P: Prefix + PartialEq, A: Allocator>(
     requires one { P.IsFitting one.now }
     requires other { P.IsFitting other.now }
 {
-    gives_same_keys(set.iter_from(one, true), set.iter_from(other, true))
-        & gives_same_keys(set.iter_from(one, false), set.iter_from(other, false))
+    are_walked_from(set, one, other, true)
+        & are_walked_from(set, one, other, false)
         & gives_same_keys(set.children(one), set.children(other))
         & set.cover(one).eq(set.cover(other))
 }
@@ -311,14 +343,14 @@ fn are_keys<P: Prefix + Copy + PartialEq, A: Allocator>(
     requires one { P.IsFitting one }
     requires other { P.IsFitting other }
 {
-    (set.insert(one) == Ok(true))
-        & (set.insert(other) == Ok(false))
+    (put(set, one) == Ok(true))
+        & (put(set, other) == Ok(false))
         & is_found(set, &one, clean)
         & is_found(set, &other, clean)
         & set.remove(&other)
-        & (set.insert(one) == Ok(true))
+        & (put(set, one) == Ok(true))
         & set.remove_keep_tree(&other)
-        & (set.insert(one) == Ok(true))
+        & (put(set, one) == Ok(true))
         & has_no_children(set, &other)
 }
 
@@ -358,7 +390,7 @@ fn are_walked_together<P: Prefix + Copy + PartialEq, A: Allocator>(
         let clean = prefix_of(clean::<P>(ones, len));
         let host: P = prefix_of((ones, len));
         let is_alike = !is_end(len, width)
-            || (set.insert(host) == Ok(true)) & are_walked_in_set(set, &clean, &host);
+            || (put(set, host) == Ok(true)) & are_walked_in_set(set, &clean, &host);
         if !is_alike {
             return false;
         }

@@ -2,7 +2,7 @@
 ghost use Rattle.std.specs.Iterator.{IsFinite};
 
 use crate::map::{IterMut, ValuesMut};
-use crate::tests::cases::keys::gives_keys;
+use crate::tests::cases::keys::{gives_keys, put};
 use crate::tests::drops::{Counted, let_go};
 use crate::tests::stored::{has_keys, stores};
 use crate::tests::walks::taking::three;
@@ -138,9 +138,7 @@ fn is_kept<A: Allocator>(map: &mut PrefixMap<Key, u64, A>) -> bool {
 
 /// The same of a set, whose walks are dropped early before.
 fn is_kept_in_set<A: Allocator>(set: &mut PrefixSet<Key, A>) -> bool {
-    let is_filled = set.insert((0, 0)).is_ok()
-        & set.insert((0, 1)).is_ok()
-        & set.insert((0, 8)).is_ok();
+    let is_filled = put(set, (0, 0)).is_ok() & put(set, (0, 1)).is_ok() & put(set, (0, 8)).is_ok();
     let is_given = are_keys_read(set, 0) & are_keys_read(set, 1) & are_keys_read(set, 2);
     keep_each_second_key(set);
     is_filled & is_given & gives_keys(set.iter(), &[(0, 0), (0, 8)])
