@@ -107,7 +107,7 @@ pub fn holds<P: Prefix + Copy + PartialEq, A: Allocator + Copy>(
     is_held(heap, alloc, map, other, case) & has_sums(map)
 }
 
-/// Whether the call of a case answers as it should.
+/// Whether the call of a case answers as it should: here those that change the map as a whole.
 fn is_held<P: Prefix + Copy + PartialEq, A: Allocator + Copy>(
     heap: &Refusing<Global>,
     alloc: A,
@@ -117,6 +117,22 @@ fn is_held<P: Prefix + Copy + PartialEq, A: Allocator + Copy>(
 ) -> bool {
     match case {
         Case::Makes(limit) => makes(heap, alloc, map, *limit),
+        Case::RetainsFrom(least) => retains_from(map, *least),
+        Case::RetainsLong(len) => retains_long(map, *len),
+        Case::Clears => clears(map),
+        Case::Copies => copies(heap, map, other),
+        Case::Turns => turns(map, other),
+        _ => is_set(heap, map, case) & answers(heap, map, other, case),
+    }
+}
+
+/// The same of those that change it at a prefix. One that does not changes nothing here.
+fn is_set<P: Prefix + Copy, A: Allocator>(
+    heap: &Refusing<Global>,
+    map: &mut PrefixMap<P, u64, A>,
+    case: &Case<P::R>,
+) -> bool {
+    match case {
         Case::Inserts(at, value, before) => inserts(heap, map, *at, *value, Ok(*before)),
         Case::PassesLimit(at, value) => {
             inserts(heap, map, *at, *value, Err(Refusal::IndexRange))
@@ -124,18 +140,24 @@ fn is_held<P: Prefix + Copy + PartialEq, A: Allocator + Copy>(
         Case::Removes(at, before) => removes(map, *at, *before),
         Case::Empties(at, before) => empties(map, *at, *before),
         Case::RemovesChildren(at) => removes_children(map, *at),
-        Case::RetainsFrom(least) => retains_from(map, *least),
-        Case::RetainsLong(len) => retains_long(map, *len),
-        Case::Clears => clears(map),
-        Case::Copies => copies(heap, map, other),
-        Case::Turns => turns(map, other),
         Case::Writes(at, value, before) => writes(map, *at, *value, *before),
         Case::WritesLongest(at, value, before) => writes_longest(map, *at, *value, *before),
+        _ => is_filled(heap, map, case),
+    }
+}
+
+/// The same of those that change it by an entry.
+fn is_filled<P: Prefix + Copy, A: Allocator>(
+    heap: &Refusing<Global>,
+    map: &mut PrefixMap<P, u64, A>,
+    case: &Case<P::R>,
+) -> bool {
+    match case {
         Case::Fills(fill, at, value) => fills(heap, map, *fill, *at, *value),
         Case::LeavesVacant(at) => is_vacant(map, *at),
         Case::TakesOut(at, before) => takes_out(map, *at, *before),
         Case::ChangesEntry(at, value, before) => changes(map, *at, *value, *before),
-        _ => answers(heap, map, other, case),
+        _ => true,
     }
 }
 

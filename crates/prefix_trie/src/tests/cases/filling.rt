@@ -38,13 +38,21 @@ fn made(answer: Result<&mut u64, Refusal>, value: u64, calls: u64) -> Filled {
     }
 }
 
+/// The entry of a prefix. It has no clause: those of `entry` would be checked again at each call.
+fn entry_at<P: Prefix, A: Allocator>(
+    map: &mut PrefixMap<P, u64, A>,
+    at: Pair<P::R>,
+) -> Entry<'_, P, u64, A> {
+    map.entry(prefix_of(at))
+}
+
 /// The value that `put` handed in, where the entry was vacant, or a refusal that hands it back.
 fn put<P: Prefix, A: Allocator>(
     map: &mut PrefixMap<P, u64, A>,
     at: Pair<P::R>,
     value: u64,
 ) -> Filled {
-    match map.entry(prefix_of(at)).put(value).answer() {
+    match entry_at(map, at).put(value).answer() {
         Ok(before) => (Ok(before.unwrap_or(value)), 0),
         Err(refused) => (Err((refused.cause, refused.value)), 0),
     }
@@ -56,7 +64,7 @@ fn or_insert_with<P: Prefix, A: Allocator>(
     value: u64,
 ) -> Filled {
     let mut calls = 0_u64;
-    let answer = map.entry(prefix_of(at)).or_insert_with(|| {
+    let answer = entry_at(map, at).or_insert_with(|| {
         calls = calls.saturating_add(1);
         value
     });
@@ -68,7 +76,7 @@ fn insert_with<P: Prefix, A: Allocator>(
     at: Pair<P::R>,
     value: u64,
 ) -> Filled {
-    match map.entry(prefix_of(at)) {
+    match entry_at(map, at) {
         Entry::Vacant(entry) => {
             let mut calls = 0_u64;
             let answer = entry.insert_with(|| {
@@ -87,7 +95,7 @@ fn filled_vacant<P: Prefix, A: Allocator>(
     at: Pair<P::R>,
     value: u64,
 ) -> Filled {
-    match (map.entry(prefix_of(at)), fill) {
+    match (entry_at(map, at), fill) {
         (Entry::Vacant(entry), Fill::Insert) => handed(entry.insert(value)),
         (Entry::Vacant(entry), _) => made(entry.default(), value, 0),
         (Entry::Occupied(_), _) => (Ok(value), 9),
@@ -102,9 +110,9 @@ fn filled<P: Prefix, A: Allocator>(
 ) -> Filled {
     match fill {
         Fill::Put => put(map, at, value),
-        Fill::OrInsert => handed(map.entry(prefix_of(at)).or_insert(value)),
+        Fill::OrInsert => handed(entry_at(map, at).or_insert(value)),
         Fill::OrInsertWith => or_insert_with(map, at, value),
-        Fill::OrDefault => made(map.entry(prefix_of(at)).or_default(), value, 0),
+        Fill::OrDefault => made(entry_at(map, at).or_default(), value, 0),
         Fill::InsertWith => insert_with(map, at, value),
         _ => filled_vacant(map, fill, at, value),
     }
@@ -160,7 +168,7 @@ fn seen<P: Prefix, A: Allocator>(
     map: &mut PrefixMap<P, u64, A>,
     at: Pair<P::R>,
 ) -> (Pair<P::R>, Option<u64>) {
-    let entry = map.entry(prefix_of(at));
+    let entry = entry_at(map, at);
     let key = entry.key();
     ((key.repr(), key.prefix_len()), entry.get().copied())
 }
@@ -168,7 +176,7 @@ fn seen<P: Prefix, A: Allocator>(
 /// Whether an entry has its prefix as it was handed in, and no value. It is let go.
 pub fn is_vacant<P: Prefix, A: Allocator>(map: &mut PrefixMap<P, u64, A>, at: Pair<P::R>) -> bool {
     let is_empty = seen(map, at) == (at, None);
-    match map.entry(prefix_of(at)) {
+    match entry_at(map, at) {
         Entry::Vacant(entry) => is_empty & (entry.key().prefix_len() == at.1),
         Entry::Occupied(_) => false,
     }
@@ -180,7 +188,7 @@ pub fn takes_out<P: Prefix, A: Allocator>(
     at: Pair<P::R>,
     before: u64,
 ) -> bool {
-    match map.entry(prefix_of(at)) {
+    match entry_at(map, at) {
         Entry::Occupied(entry) => entry.remove() == before,
         Entry::Vacant(_) => false,
     }
@@ -208,7 +216,7 @@ pub fn changes<P: Prefix, A: Allocator>(
 /// Adds one by `and_modify`, which finds the entry filled.
 fn adds_one<P: Prefix, A: Allocator>(map: &mut PrefixMap<P, u64, A>, at: Pair<P::R>) -> Filled {
     handed(
-        map.entry(prefix_of(at))
+        entry_at(map, at)
             .and_modify(|n| *n = n.saturating_add(1))
             .or_insert(0),
     )
@@ -218,7 +226,7 @@ fn adds_one<P: Prefix, A: Allocator>(map: &mut PrefixMap<P, u64, A>, at: Pair<P:
 fn reads<P: Prefix, A: Allocator>(map: &mut PrefixMap<P, u64, A>, at: Pair<P::R>) -> Option<u64> {
     let prefix: P = prefix_of(at);
     let first = seen(map, at);
-    match map.entry(prefix_of(at)) {
+    match entry_at(map, at) {
         Entry::Occupied(entry) => {
             let value = *entry.get();
             let is_same = (first == ((prefix.mask(), at.1), Some(value)))
@@ -236,7 +244,7 @@ fn sets<P: Prefix, A: Allocator>(
     at: Pair<P::R>,
     value: u64,
 ) -> Option<u64> {
-    match map.entry(prefix_of(at)) {
+    match entry_at(map, at) {
         Entry::Occupied(entry) => Some(entry.insert(value)),
         Entry::Vacant(_) => None,
     }
@@ -247,7 +255,7 @@ fn lent_by_entry<P: Prefix, A: Allocator>(
     map: &mut PrefixMap<P, u64, A>,
     at: Pair<P::R>,
 ) -> Option<u64> {
-    let mut entry = map.entry(prefix_of(at));
+    let mut entry = entry_at(map, at);
     match entry.get_mut() {
         Some(value) => Some(*value),
         None => None,
@@ -260,7 +268,7 @@ fn writes_in<P: Prefix, A: Allocator>(
     at: Pair<P::R>,
 ) -> Option<u64> {
     let first = lent_by_entry(map, at);
-    match map.entry(prefix_of(at)) {
+    match entry_at(map, at) {
         Entry::Occupied(mut entry) => {
             let is_same = first == Some(*entry.get_mut());
             is_same.then_some(*entry.into_mut())

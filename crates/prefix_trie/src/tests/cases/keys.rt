@@ -229,6 +229,10 @@ pub fn retains_long<P: Prefix, A: Allocator>(set: &mut PrefixSet<P, A>, len: u8)
     true
 }
 
+fn empties<P: Prefix, A: Allocator>(set: &mut PrefixSet<P, A>, at: Pair<P::R>) -> bool {
+    set.remove_keep_tree(&prefix_of(at))
+}
+
 fn removes_children<P: Prefix, A: Allocator>(set: &mut PrefixSet<P, A>, at: Pair<P::R>) -> bool {
     set.drop_children(&prefix_of(at));
     true
@@ -261,7 +265,7 @@ pub fn holds<P: Prefix + Copy + PartialEq, A: Allocator + Copy>(
         & (set.len() <= set.cell_slots())
 }
 
-/// Whether the call of a case answers as it should.
+/// Whether the call of a case answers as it should: here those that change the set as a whole.
 fn is_held<P: Prefix + Copy + PartialEq, A: Allocator + Copy>(
     heap: &Refusing<Global>,
     alloc: A,
@@ -271,19 +275,30 @@ fn is_held<P: Prefix + Copy + PartialEq, A: Allocator + Copy>(
 ) -> bool {
     match case {
         Case::Makes(limit) => makes(heap, alloc, set, *limit),
+        Case::RetainsLong(len) => retains_long(set, *len),
+        Case::Clears => clears(set),
+        Case::Copies => copies(heap, set, other),
+        Case::Turns => turns(set, other),
+        _ => is_set(heap, set, case) & answers(heap, set, other, case),
+    }
+}
+
+/// The same of those that change it at a prefix. One that does not changes nothing here.
+fn is_set<P: Prefix + Copy + PartialEq, A: Allocator>(
+    heap: &Refusing<Global>,
+    set: &mut PrefixSet<P, A>,
+    case: &Case<P::R>,
+) -> bool {
+    match case {
         Case::Inserts(at, _, before) => inserts(heap, set, *at, Ok(before.is_none())),
         Case::Fills(_, at, _) => inserts(heap, set, *at, Ok(true)),
         Case::ChangesEntry(at, _, _) => inserts(heap, set, *at, Ok(false)),
         Case::PassesLimit(at, _) => inserts(heap, set, *at, Err(Refusal::IndexRange)),
         Case::Removes(at, before) => set.remove(&prefix_of(*at)) == before.is_some(),
-        Case::Empties(at, before) => set.remove_keep_tree(&prefix_of(*at)) == before.is_some(),
-        Case::TakesOut(at, _) => set.remove_keep_tree(&prefix_of(*at)),
+        Case::Empties(at, before) => empties(set, *at) == before.is_some(),
+        Case::TakesOut(at, _) => empties(set, *at),
         Case::RemovesChildren(at) => removes_children(set, *at),
-        Case::RetainsLong(len) => retains_long(set, *len),
-        Case::Clears => clears(set),
-        Case::Copies => copies(heap, set, other),
-        Case::Turns => turns(set, other),
-        _ => answers(heap, set, other, case),
+        _ => true,
     }
 }
 
