@@ -208,7 +208,7 @@ fn covers<P: Prefix + Copy, A: Allocator>(
 }
 
 /// Whether all lookups of a prefix answer so.
-fn finds<P: Prefix + Copy, A: Allocator>(
+pub fn finds<P: Prefix + Copy, A: Allocator>(
     set: &PrefixSet<P, A>,
     at: Pair<P::R>,
     exact: Option<Pair<P::R>>,

@@ -1,6 +1,7 @@
 //! Mixed calls of a set, each answer compared with that of a map that is driven by the same list.
 ghost use Rattle.std.specs.Prelude.{◌≤◌};
 
+use crate::tests::cases::questions::{pair_in, shown};
 use crate::tests::cases::{changes, keys};
 use crate::tests::on_new::on_new;
 use crate::tests::runs::mixed::{Key, drawn_call};
@@ -14,30 +15,32 @@ type Map = PrefixMap<Key, u64, Global>;
 
 type Set = PrefixSet<Key, Global>;
 
-/// Whether a lookup answers alike.
-fn finds_alike(map: &Map, set: &Set, which: u64, asked: Key) -> bool
+/// Whether all lookups of a prefix answer alike.
+fn finds_alike(map: &Map, set: &Set, asked: Key) -> bool
     requires { asked.1 ≤ 8 }
 {
-    match which {
-        0 => set.contains(&asked) == map.contains_key(&asked),
-        1 => set.get_lpm(&asked) == map.get_lpm_prefix(&asked),
-        2 => set.get_spm(&asked) == map.get_spm_prefix(&asked),
-        3 => set.get(&asked).is_some() == map.contains_key(&asked),
-        _ => set.is_covered(&asked) == map.is_covered(&asked),
-    }
+    let exact = pair_in(shown(map.get_key_value(&asked)));
+    let longest = map.get_lpm_prefix(&asked);
+    keys::finds(set, asked, exact, longest, map.get_spm_prefix(&asked))
 }
 
-/// Whether a question for a number or a list is answered alike.
-fn tells_alike(map: &Map, set: &Set, which: u64, asked: Key) -> bool
+/// Whether both count alike.
+fn counts_alike(map: &Map, set: &Set) -> bool {
+    (set.len() == map.len())
+        & (set.node_count() == map.node_count())
+        & (set.address_count() == map.address_count())
+}
+
+/// Whether both list the same keys.
+fn lists_alike(map: &Map, set: &Set) -> bool {
+    set.iter().eq(map.keys())
+}
+
+/// Whether both list the same keys around a prefix.
+fn covers_alike(map: &Map, set: &Set, asked: Key) -> bool
     requires { asked.1 ≤ 8 }
 {
-    match which {
-        5 => set.len() == map.len(),
-        6 => set.node_count() == map.node_count(),
-        7 => set.address_count() == map.address_count(),
-        8 => set.iter().eq(map.keys()),
-        _ => set.cover(&asked).eq(map.cover_keys(&asked)),
-    }
+    set.cover(&asked).eq(map.cover_keys(&asked))
 }
 
 /// Whether a removal answers alike.
@@ -82,8 +85,10 @@ fn answers_alike(map: &Map, set: &Set, which: u64, asked: Key) -> bool
     requires { asked.1 ≤ 8 }
 {
     match which {
-        0..5 => finds_alike(map, set, which, asked),
-        _ => tells_alike(map, set, which, asked),
+        0..5 => finds_alike(map, set, asked),
+        5..8 => counts_alike(map, set),
+        8 => lists_alike(map, set),
+        _ => covers_alike(map, set, asked),
     }
 }
 
@@ -109,7 +114,7 @@ fn answer_alike(map: &mut Map, set: &mut Set) -> bool {
             return false;
         }
     }
-    set.iter().eq(map.keys())
+    lists_alike(map, set)
 }
 
 /// Whether all calls are answered alike by a map and a new set.
