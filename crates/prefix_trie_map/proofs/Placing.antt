@@ -1,5 +1,5 @@
 -- That a new key is placed, or refused its blocks, is a step of the model.
-use Rattle.prefix_trie_map.proofs.Prelude.{◌≡◌, ℕ, ◌+◌, ◌*◌, ◌≤◌, Bool, true, false, cond, List, Option, None, Some, inl, inr, refl, sym, ap, ◌∙◌, true≢false, subst, Result, Ok, Err, IfErr, OnOk, OnErr, MatchResult, get, contains_key, len, Refusal, Refused, IndexRange, with_entry, with_needed, AreNodes, MayPassLimit, LeavesRoom, Reply, Step, Insert, Value, ReadiesInStorage, InsertsInStorage, RefusesInStorage, StepByPath, get-with_entry, is-same_string, same_entries, same_string, Entries, Contents, with_value_at, is_none-None, state, storage, stored, placed, readied_inserts}
+use Rattle.prefix_trie_map.proofs.Prelude.{◌≡◌, ℕ, ◌+◌, ◌*◌, ◌≤◌, Bool, true, false, cond, List, Option, None, Some, inl, inr, refl, sym, ap, ◌∙◌, true≢false, subst, Result, Ok, Err, IfErr, OnOk, MatchResult, get, contains_key, len, Refusal, Refused, IndexRange, with_entry, with_needed, AreNodes, MayPassLimit, LeavesRoom, Reply, Step, Insert, Value, ReadiesInStorage, InsertsInStorage, RefusesInStorage, StepByPath, get-with_entry, is-same_string, same_entries, same_string, Entries, Contents, with_value_at, is_none-None, state, storage, stored, placed, readied_inserts}
 use Rattle.prefix_trie_map.proofs.Insertions.{inserts_are}
 
 module _ {T : Type 0} where
@@ -48,7 +48,7 @@ module _ {T : Type 0} (width : ℕ) (old new : Contents T) (q : List Bool) (v : 
   pub record Places {X : Type 0} (r : Result X (Refused T)) : Type 0 where
     pub entries : OnOk r (new.entries ≡ with_entry old.entries q v)
     pub nodes : OnOk r (new.nodes ≡ with_needed old.nodes q)
-    pub unchanged : OnErr r ((new.entries ≡ old.entries) × (new.nodes ≡ old.nodes))
+    pub unchanged : IfErr r (λ e. (e.value ≡ v) × (new.entries ≡ old.entries) × (new.nodes ≡ old.nodes))
     pub step : OnOk r (StepByPath width (stored old) (Insert q v) (Value None) (stored new))
     pub refuses : IfErr r (λ e. (other : T) → StepByPath width (stored old) (Insert q other) (Reply.Refused e.cause) (stored new))
 
@@ -58,22 +58,24 @@ module _ {T : Type 0} (width : ℕ) (old new : Contents T) (q : List Bool) (v : 
   other_refused cause (inl (e, left)) other = absurd (value_not_refused _ cause (sym e))
   other_refused cause (inr refused) other = inr refused
 
-  pub places : {X : Type 0} (r : Result X (Refused T)) → AreNodes width old.entries old.nodes → StepByPath width (stored old) (Insert q v) (placed r) (stored new) → Places r
-  places (Ok x) good h =
+  pub places : {X : Type 0} (r : Result X (Refused T)) → AreNodes width old.entries old.nodes → StepByPath width (stored old) (Insert q v) (placed r) (stored new) → IfErr r (λ e. e.value ≡ v) → Places r
+  places (Ok x) good h back =
       let left = inserts_are (state old) (state new) q v good (Ok None) h.step in
       record { entries = left.entries; nodes = left.nodes; unchanged = tt; step = h; refuses = tt }
-  places (Err e) good h = record {
-    entries = tt;
-    nodes = tt;
-    unchanged = (inserts_are (state old) (state new) q v good (Err e) h.step).unchanged;
-    step = tt;
-    refuses = λ other. record {
-      step = other_refused e.cause h.step other;
-      room = h.room;
-      index_range = h.index_range;
-      storage = h.storage;
-    };
-  }
+  places (Err e) good h back =
+      let same = (inserts_are (state old) (state new) q v good (Err e) h.step).unchanged in
+      record {
+        entries = tt;
+        nodes = tt;
+        unchanged = (back, same.0, same.1);
+        step = tt;
+        refuses = λ other. record {
+          step = other_refused e.cause h.step other;
+          room = h.room;
+          index_range = h.index_range;
+          storage = h.storage;
+        };
+      }
 
 -- the same of making its blocks alone
 

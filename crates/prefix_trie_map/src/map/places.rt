@@ -1,5 +1,5 @@
 //! What entries do where a key stands, or where its way ends, without going down again.
-ghost use Rattle.std.specs.Prelude.{◌≡◌, ◌≤◌, take, [], false, true, None, Some, IfSome, MatchOption, OnOk, OnErr, IfOk, IfErr};
+ghost use Rattle.std.specs.Prelude.{◌≡◌, ◌≤◌, take, [], false, true, None, Some, IfSome, MatchOption, OnOk, IfOk, IfErr};
 ghost use Rattle.std.specs.Borrow.{sem};
 ghost use Rattle.std.specs.FinMap.{get, contains_key, len};
 ghost use Rattle.prefix_trie_bits.specs.Model.Entries.{with_entry, without_entry};
@@ -99,8 +99,7 @@ impl<P: Prefix, T: Drop, A: Allocator> PrefixMap<P, T, A> {
         ensures seat { IfOk result (λ seat. seat_of self.new.build (P.path prefix.now) ≡ Some seat) }
         ensures entries { OnOk result (self.new.entries ≡ with_entry self.old.entries (P.path prefix.now) value) }
         ensures nodes { OnOk result (self.new.nodes ≡ with_needed self.old.nodes (P.path prefix.now)) }
-        ensures unchanged { OnErr result ((self.new.entries ≡ self.old.entries) × (self.new.nodes ≡ self.old.nodes)) }
-        ensures returned { IfErr result (λ refused. refused.value ≡ value) }
+        ensures unchanged { IfErr result (λ refused. (refused.value ≡ value) × (self.new.entries ≡ self.old.entries) × (self.new.nodes ≡ self.old.nodes)) }
         ensures step { OnOk result (StepByPath P.R.bit_width (stored self.old) (Insert (P.path prefix.now) value) (Value None) (stored self.new)) }
         ensures refuses { IfErr result (λ refused. (other : T) → StepByPath P.R.bit_width (stored self.old) (Insert (P.path prefix.now) other) (Refuses refused.cause) (stored self.new)) }
     {
