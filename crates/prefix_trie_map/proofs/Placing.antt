@@ -52,29 +52,18 @@ module _ {T : Type 0} (width : ℕ) (old new : Contents T) (q : List Bool) (v : 
     pub step : OnOk r (StepByPath width (stored old) (Insert q v) (Value None) (stored new))
     pub refuses : IfErr r (λ e. (other : T) → StepByPath width (stored old) (Insert q other) (Reply.Refused e.cause) (stored new))
 
-  -- a refusal does not hang on the value
-  other_refused : (cause : Refusal) → Step (λ k. k) (λ k. k) width (state old) (Insert q v) (Reply.Refused cause) (state new) → (other : T) →
-      Step (λ k. k) (λ k. k) width (state old) (Insert q other) (Reply.Refused cause) (state new)
-  other_refused cause (inl (e, left)) other = absurd (value_not_refused _ cause (sym e))
-  other_refused cause (inr refused) other = inr refused
-
-  pub places : {X : Type 0} (r : Result X (Refused T)) → AreNodes width old.entries old.nodes → StepByPath width (stored old) (Insert q v) (placed r) (stored new) → IfErr r (λ e. e.value ≡ v) → Places r
-  places (Ok x) good h back =
+  pub places : {X : Type 0} (r : Result X (Refused T)) → contains_key old.entries q ≡ false → AreNodes width old.entries old.nodes → StepByPath width (stored old) (Insert q v) (placed r) (stored new) → IfErr r (λ e. e.value ≡ v) → Places r
+  places (Ok x) absent good h back =
       let left = inserts_are (state old) (state new) q v good (Ok None) h.step in
       record { entries = left.entries; nodes = left.nodes; unchanged = tt; step = h; refuses = tt }
-  places (Err e) good h back =
+  places (Err e) absent good h back =
       let same = (inserts_are (state old) (state new) q v good (Err e) h.step).unchanged in
       record {
         entries = tt;
         nodes = tt;
         unchanged = (back, same.0, same.1);
         step = tt;
-        refuses = λ other. record {
-          step = other_refused e.cause h.step other;
-          room = h.room;
-          index_range = h.index_range;
-          storage = h.storage;
-        };
+        refuses = refused_step width old new q absent h.room e.cause same.0 same.1 (h.storage.2 e.cause refl) (λ i. h.index_range (ap Reply.Refused i));
       }
 
 -- the same of making its blocks alone

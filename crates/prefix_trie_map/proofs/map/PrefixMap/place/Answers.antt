@@ -18,7 +18,7 @@ step g c =
 left : (g : given.Over) (c : goal.After-place g) → Places g.P.R.Key.bit_width c.args.self.now c.place.new.self (g.P.Prefix.path c.args.prefix.now) c.args.value c.place.result
 left g c =
     places g.P.R.Key.bit_width c.args.self.now c.place.new.self (g.P.Prefix.path c.args.prefix.now) c.args.value c.place.result
-    (is_map c.self.view_is c.self.invariant).are_nodes (step g c) c.place.ensures.returned
+    c.requires.absent (is_map c.self.view_is c.self.invariant).are_nodes (step g c) c.place.ensures.returned
 
 pub invariant_of-self : goal.invariant_of-self
 invariant_of-self g c = stays c.self.view_is c.self.invariant c.parts-key.ensures.short (step g c)
