@@ -2,6 +2,7 @@
 //! groups; and a burst of packets.
 ghost use Rattle.std.specs.Prelude.{◌≡◌, ◌^◌, ◌<◌, ◌≤◌, All, length};
 
+use crate::tests::cases::changes::put_in;
 use crate::tests::cases::questions::{shown, value_in};
 use crate::tests::cases::{Entry, Pair};
 use crate::tests::examples::batch::next_hops;
@@ -113,10 +114,7 @@ fn gives_all<A: Allocator>(map: &Map<A>) -> bool {
 /// Stores hosts, none of which is in a case.
 fn stores_hosts<A: Allocator>(map: &mut Map<A>) -> bool {
     for number in 0..HOSTS {
-        if map
-            .insert(((0x8000 | u128::from(number)) << 112, 128), number)
-            .is_err()
-        {
+        if put_in(map, ((0x8000 | u128::from(number)) << 112, 128), number) != Ok(None) {
             return false;
         }
     }

@@ -6,13 +6,13 @@ pub mod lists;
 pub mod questions;
 
 use crate::tests::cases::changes::{
-    clears, copies, empties, inserts, makes, removes, removes_children, retains_from, retains_long,
+    clears, copies, drops_children, empties, inserts, makes, removes, retains_from, retains_long,
     turns, writes, writes_longest,
 };
 use crate::tests::cases::filling::{Fill, changes, fills, is_vacant, takes_out};
 use crate::tests::cases::lists::{covers, lists};
 use crate::tests::cases::questions::{
-    finds, has_cells, has_len, has_nodes, has_slots, has_sums, is_same, was_refused,
+    finds, finds_in_bulk, has_cells, has_len, has_nodes, has_slots, has_sums, is_same, was_refused,
 };
 use crate::tests::refusing::Refusing;
 use crate::{Key, Prefix, PrefixMap, Refusal};
@@ -38,7 +38,7 @@ pub enum Case<K: 'static> {
     /// `remove_keep_tree` answers so.
     Empties(Pair<K>, Option<u64>),
     /// `drop_children` is made.
-    RemovesChildren(Pair<K>),
+    DropsChildren(Pair<K>),
     /// `retain` keeps the values from this one on.
     RetainsFrom(u64),
     /// `retain` keeps the prefixes of at least so many bits.
@@ -139,7 +139,7 @@ fn is_set<P: Prefix + Copy, A: Allocator>(
         }
         Case::Removes(at, before) => removes(map, *at, *before),
         Case::Empties(at, before) => empties(map, *at, *before),
-        Case::RemovesChildren(at) => removes_children(map, *at),
+        Case::DropsChildren(at) => drops_children(map, *at),
         Case::Writes(at, value, before) => writes(map, *at, *value, *before),
         Case::WritesLongest(at, value, before) => writes_longest(map, *at, *value, *before),
         _ => is_filled(heap, map, case),
@@ -173,6 +173,7 @@ fn answers<P: Prefix + Copy + PartialEq, A: Allocator>(
         Case::Same => is_same(map, other),
         Case::Finds(at, exact, longest, shortest) => {
             finds(map, *at, *exact, *longest, *shortest)
+                & (finds_in_bulk(heap.inner(), map, *at, *longest) == Ok(true))
         }
         Case::Lists(entries) => lists(map, entries),
         Case::Covers(at, entries) => covers(map, *at, entries),

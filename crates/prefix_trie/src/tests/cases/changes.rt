@@ -83,7 +83,7 @@ fn is_answered<P: Prefix + Copy, A: Allocator>(
 }
 
 /// Inserts a value. It has no clause: those of `insert` would be checked again at each call.
-fn put_in<P: Prefix, A: Allocator>(
+pub fn put_in<P: Prefix, A: Allocator>(
     map: &mut PrefixMap<P, u64, A>,
     at: Pair<P::R>,
     value: u64,
@@ -147,7 +147,7 @@ pub fn empties<P: Prefix + Copy, A: Allocator>(
     map.remove_keep_tree(&prefix_of(at)) == before
 }
 
-pub fn removes_children<P: Prefix + Copy, A: Allocator>(
+pub fn drops_children<P: Prefix + Copy, A: Allocator>(
     map: &mut PrefixMap<P, u64, A>,
     at: Pair<P::R>,
 ) -> bool {

@@ -233,7 +233,7 @@ fn empties<P: Prefix, A: Allocator>(set: &mut PrefixSet<P, A>, at: Pair<P::R>) -
     set.remove_keep_tree(&prefix_of(at))
 }
 
-fn removes_children<P: Prefix, A: Allocator>(set: &mut PrefixSet<P, A>, at: Pair<P::R>) -> bool {
+fn drops_children<P: Prefix, A: Allocator>(set: &mut PrefixSet<P, A>, at: Pair<P::R>) -> bool {
     set.drop_children(&prefix_of(at));
     true
 }
@@ -297,7 +297,7 @@ fn is_set<P: Prefix + Copy + PartialEq, A: Allocator>(
         Case::Removes(at, before) => set.remove(&prefix_of(*at)) == before.is_some(),
         Case::Empties(at, before) => empties(set, *at) == before.is_some(),
         Case::TakesOut(at, _) => empties(set, *at),
-        Case::RemovesChildren(at) => removes_children(set, *at),
+        Case::DropsChildren(at) => drops_children(set, *at),
         _ => true,
     }
 }

@@ -1,9 +1,11 @@
 //! Cases that ask a map for a prefix, and for its counts.
+ghost use Rattle.std.specs.Prelude.{◌≡◌, All, length};
+
 use crate::tests::cases::lists::gives_same;
 use crate::tests::cases::{Entry, Pair, prefix_of};
 use crate::tests::refusing::Refusing;
 use crate::{BlockCount, Prefix, PrefixMap};
-use std::alloc::{Allocator, Global};
+use std::alloc::{AllocError, Allocator, Global};
 
 /// Whether a request was refused, where one was to be or all; or none was to be.
 pub fn was_refused(heap: &Refusing<Global>) -> bool {
@@ -101,6 +103,64 @@ fn has_longest<P: Prefix + Copy, A: Allocator>(
         & is_found(map.get_lpm_counted(prefix).0, longest)
         & is_found_pair(map.get_lpm_prefix(prefix), pair_in(longest))
         & is_found_pair(map.get_lpm_prefix_counted(prefix).0, pair_in(longest))
+        & is_found_value(map.get_lpm_value(prefix), value_in(longest))
+}
+
+/// Whether those of many longest matches do, asked for one prefix.
+fn has_longest_in_bulk<P: Prefix + Copy, A: Allocator>(
+    alloc: Global,
+    map: &PrefixMap<P, u64, A>,
+    asked: &[P],
+    longest: Option<Entry<P::R>>,
+) -> Result<bool, AllocError>
+    requires fit { All P.IsFitting asked.now }
+    requires one { length asked.now ≡ 1 }
+{
+    let mut found = Vec::new(alloc);
+    found.push(None)?;
+    let mut counted = Vec::new(alloc);
+    counted.push(None)?;
+    map.get_lpm_bulk(asked, &mut found);
+    map.get_lpm_bulk_counted(asked, &mut counted);
+    Ok(
+        is_found(found.first().copied().flatten(), longest)
+            & is_found(counted.first().copied().flatten(), longest),
+    )
+}
+
+/// Whether those of their values do.
+fn has_value_in_bulk<P: Prefix + Copy, A: Allocator>(
+    alloc: Global,
+    map: &PrefixMap<P, u64, A>,
+    asked: &[P],
+    value: Option<u64>,
+) -> Result<bool, AllocError>
+    requires fit { All P.IsFitting asked.now }
+    requires one { length asked.now ≡ 1 }
+{
+    let mut found = Vec::new(alloc);
+    found.push(None)?;
+    let mut counted = Vec::new(alloc);
+    counted.push(None)?;
+    map.get_lpm_value_bulk(asked, &mut found);
+    map.get_lpm_value_bulk_counted(asked, &mut counted);
+    Ok(
+        is_found_value(found.first().copied().flatten(), value)
+            & is_found_value(counted.first().copied().flatten(), value),
+    )
+}
+
+/// Whether the lookups of many longest matches answer so for this prefix alone. What they are handed stands in memory of its own.
+pub fn finds_in_bulk<P: Prefix + Copy, A: Allocator>(
+    alloc: Global,
+    map: &PrefixMap<P, u64, A>,
+    at: Pair<P::R>,
+    longest: Option<Entry<P::R>>,
+) -> Result<bool, AllocError> {
+    let mut asked = Vec::new(alloc);
+    asked.push(prefix_of(at))?;
+    let has_entry = has_longest_in_bulk(alloc, map, &asked, longest)?;
+    Ok(has_entry & has_value_in_bulk(alloc, map, &asked, value_in(longest))?)
 }
 
 /// Whether the lookups of the shortest match answer so.

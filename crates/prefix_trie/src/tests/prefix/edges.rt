@@ -1,15 +1,18 @@
 //! The ends of each width: to every call a prefix with all host bits set and one with none are the same.
+
+mod sets;
+
+use self::sets::are_alike_in_set;
 use crate::map::IterMut;
 use crate::tests::cases::changes::{
-    empties, inserts, removes, removes_children, writes, writes_longest,
+    drops_children, empties, inserts, removes, writes, writes_longest,
 };
 use crate::tests::cases::filling::{Fill, changes, fills, takes_out};
-use crate::tests::cases::keys::{gives_same as gives_same_keys, put};
 use crate::tests::cases::lists::{covers, entries_of, gives_same};
-use crate::tests::cases::questions::{finds, has_len};
+use crate::tests::cases::questions::{finds, finds_in_bulk, has_len, shown};
 use crate::tests::cases::{Entry, Pair, prefix_of};
 use crate::tests::refusing::Refusing;
-use crate::{Key, Narrow, Prefix, PrefixMap, PrefixSet, Refusal};
+use crate::{Key, Narrow, Prefix, PrefixMap, Refusal};
 use std::alloc::{AllocError, Allocator, Global};
 
 /// The calls that fill an entry, and the values that they set.
@@ -27,12 +30,12 @@ const FILLS: [(Fill, u64); 7] = [
 const MANY: u32 = 10;
 
 /// Whether a length is one of the first and the last of a width, or by the end of the first node.
-fn is_end(len: u8, width: u8) -> bool {
+pub fn is_end(len: u8, width: u8) -> bool {
     len < 2 || len == 4 || len == 5 || width.saturating_sub(len) < 2
 }
 
 /// The pair of this length without host bits, whose bits else are those of a number.
-fn clean<P: Prefix>(ones: P::R, len: u8) -> Pair<P::R> {
+pub fn clean<P: Prefix>(ones: P::R, len: u8) -> Pair<P::R> {
     let prefix: P = prefix_of((ones, len));
     (prefix.mask(), len)
 }
@@ -51,6 +54,8 @@ fn are_found<P: Prefix + Copy, A: Allocator>(
         & inserts(heap, map, at, 2, Ok(Some(1)))
         & finds(map, at, stored, stored, stored)
         & finds(map, other, stored, stored, stored)
+        & (finds_in_bulk(heap.inner(), map, at, stored) == Ok(true))
+        & (finds_in_bulk(heap.inner(), map, other, stored) == Ok(true))
 }
 
 /// Whether what was put at one pair is changed at the other, and taken out.
@@ -68,8 +73,36 @@ fn are_changed<P: Prefix + Copy, A: Allocator>(
         & inserts(heap, map, other, 1, Ok(None))
         & empties(map, at, Some(1))
         & inserts(heap, map, other, 1, Ok(None))
-        & removes_children(map, at)
+        & drops_children(map, at)
         & has_len(map, 0)
+}
+
+/// What a map hands out, as what a pair contains. It has no clause: those of the call would be checked again where it is read.
+fn part_of<P: Prefix, A: Allocator + Clone>(
+    map: &mut PrefixMap<P, u64, A>,
+    at: Pair<P::R>,
+) -> Option<PrefixMap<P, u64, A>> {
+    map.remove_children(&prefix_of(at)).ok()
+}
+
+/// Whether a map has this entry alone.
+fn is_alone<P: Prefix + Copy, A: Allocator>(
+    map: &PrefixMap<P, u64, A>,
+    entry: Entry<P::R>,
+) -> bool {
+    has_len(map, 1) & (shown(map.iter().next()) == Some(entry))
+}
+
+/// Whether a map hands out this entry alone, and nothing is left.
+fn hands_out<P: Prefix + Copy, A: Allocator + Clone>(
+    map: &mut PrefixMap<P, u64, A>,
+    at: Pair<P::R>,
+    entry: Entry<P::R>,
+) -> bool {
+    match part_of(map, at) {
+        Some(part) => map.is_empty() & is_alone(&part, entry),
+        None => false,
+    }
 }
 
 /// Whether what each call of an entry put at one pair is taken out at the other.
@@ -220,7 +253,7 @@ fn are_walked<P: Prefix + Copy, A: Allocator + Clone>(
 }
 
 /// Whether all calls do, at a length where nothing else is stored.
-fn are_alike_alone<P: Prefix + Copy, A: Allocator>(
+fn are_alike_alone<P: Prefix + Copy, A: Allocator + Clone>(
     heap: &Refusing<Global>,
     map: &mut PrefixMap<P, u64, A>,
     at: Pair<P::R>,
@@ -230,10 +263,12 @@ fn are_alike_alone<P: Prefix + Copy, A: Allocator>(
     are_found(heap, map, at, other, clean)
         & are_changed(heap, map, at, other, clean)
         & are_filled(heap, map, at, other)
+        & inserts(heap, map, other, 1, Ok(None))
+        & hands_out(map, at, (clean, 1))
 }
 
 /// The same at each length, of a map without entries.
-fn are_alike_in_turn<P: Prefix + Copy, A: Allocator>(
+fn are_alike_in_turn<P: Prefix + Copy, A: Allocator + Clone>(
     heap: &Refusing<Global>,
     map: &mut PrefixMap<P, u64, A>,
     ones: P::R,
@@ -287,117 +322,6 @@ fn are_alike_together<P: Prefix + Copy, A: Allocator + Clone>(
     true
 }
 
-/// Whether a set finds the third prefix where it is asked for one of the same path.
-fn is_found<P: Prefix + Copy + PartialEq, A: Allocator>(
-    set: &PrefixSet<P, A>,
-    at: &P,
-    clean: P,
-) -> bool
-    requires { P.IsFitting at.now }
-{
-    set.contains(at)
-        & set.is_covered(at)
-        & (set.get(at) == Some(clean))
-        & (set.get_lpm(at) == Some(clean))
-        & (set.get_spm(at) == Some(clean))
-}
-
-/// Whether the walks of a set from two prefixes on give the same.
-fn are_walked_from<P: Prefix + PartialEq, A: Allocator>(
-    set: &PrefixSet<P, A>,
-    one: &P,
-    other: &P,
-    inclusive: bool,
-) -> bool
-    requires one { P.IsFitting one.now }
-    requires other { P.IsFitting other.now }
-{
-    gives_same_keys(
-        set.iter_from(one, inclusive),
-        set.iter_from(other, inclusive),
-    )
-}
-
-/// Whether the walks of a set give the same for two prefixes.
-fn are_walked_in_set<P: Prefix + PartialEq, A: Allocator>(
-    set: &PrefixSet<P, A>,
-    one: &P,
-    other: &P,
-) -> bool
-    requires one { P.IsFitting one.now }
-    requires other { P.IsFitting other.now }
-{
-    are_walked_from(set, one, other, true)
-        & are_walked_from(set, one, other, false)
-        & gives_same_keys(set.children(one), set.children(other))
-        & set.cover(one).eq(set.cover(other))
-}
-
-/// Whether all calls of a set without entries take two prefixes for a third, which has no host bits.
-fn are_keys<P: Prefix + Copy + PartialEq, A: Allocator>(
-    set: &mut PrefixSet<P, A>,
-    one: P,
-    other: P,
-    clean: P,
-) -> bool
-    requires one { P.IsFitting one }
-    requires other { P.IsFitting other }
-{
-    (put(set, one) == Ok(true))
-        & (put(set, other) == Ok(false))
-        & is_found(set, &one, clean)
-        & is_found(set, &other, clean)
-        & set.remove(&other)
-        & (put(set, one) == Ok(true))
-        & set.remove_keep_tree(&other)
-        & (put(set, one) == Ok(true))
-        & has_no_children(set, &other)
-}
-
-/// Whether nothing is left in a set without what a prefix contains.
-fn has_no_children<P: Prefix, A: Allocator>(set: &mut PrefixSet<P, A>, prefix: &P) -> bool
-    requires { P.IsFitting prefix.now }
-{
-    set.drop_children(prefix);
-    set.is_empty()
-}
-
-/// Whether all calls of a set take both prefixes of each length for one, where nothing else is stored.
-fn are_keys_in_turn<P: Prefix + Copy + PartialEq, A: Allocator>(
-    set: &mut PrefixSet<P, A>,
-    ones: P::R,
-) -> bool {
-    let width = P::num_bits().min(128) as u8;
-    for len in 0..width.saturating_add(1) {
-        let clean = prefix_of(clean::<P>(ones, len));
-        let host: P = prefix_of((ones, len));
-        let is_alike = !is_end(len, width)
-            || are_keys(set, clean, host, clean) & are_keys(set, host, clean, clean);
-        if !is_alike {
-            return false;
-        }
-    }
-    true
-}
-
-/// Stores all lengths with host bits, and answers whether the walks of a set then take both prefixes of each for one.
-fn are_walked_together<P: Prefix + Copy + PartialEq, A: Allocator>(
-    set: &mut PrefixSet<P, A>,
-    ones: P::R,
-) -> bool {
-    let width = P::num_bits().min(128) as u8;
-    for len in 0..width.saturating_add(1) {
-        let clean = prefix_of(clean::<P>(ones, len));
-        let host: P = prefix_of((ones, len));
-        let is_alike = !is_end(len, width)
-            || (put(set, host) == Ok(true)) & are_walked_in_set(set, &clean, &host);
-        if !is_alike {
-            return false;
-        }
-    }
-    true
-}
-
 /// Whether a new map takes both prefixes of each length for one, in all calls; the bits are those of a number.
 fn are_alike_in_map<P: Prefix + Copy + PartialEq>(
     heap: &Refusing<Global>,
@@ -409,15 +333,6 @@ fn are_alike_in_map<P: Prefix + Copy + PartialEq>(
             & stores_ends(heap, &mut map, ones)
             & are_alike_together(&mut map, ones),
     )
-}
-
-/// The same of a new set.
-fn are_alike_in_set<P: Prefix + Copy + PartialEq>(
-    heap: &Refusing<Global>,
-    ones: P::R,
-) -> Result<bool, Refusal> {
-    let mut set = PrefixSet::<P, Global>::new(heap.inner())?;
-    Ok(are_keys_in_turn(&mut set, ones) & are_walked_together(&mut set, ones))
 }
 
 /// The same of both, for prefixes that are pairs.

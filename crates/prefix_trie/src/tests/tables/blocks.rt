@@ -1,7 +1,7 @@
 //! Free blocks: what takes them with every request for memory refused, and a removal that makes one.
 use crate::tests::cases::Case::{
-    self, Addresses, CellBlocks, Clears, Covers, Empties, Finds, Inserts, LeavesVacant, Len, Lists,
-    Makes, NodeBlocks, Nodes, Removes, RemovesChildren, Slots, Writes, WritesLongest,
+    self, Addresses, CellBlocks, Clears, Covers, DropsChildren, Empties, Finds, Inserts,
+    LeavesVacant, Len, Lists, Makes, NodeBlocks, Nodes, Removes, Slots, Writes, WritesLongest,
 };
 use crate::tests::cases::Entry;
 use crate::tests::refusing::Refusing;
@@ -222,7 +222,7 @@ pub const AMONG_FREE: [Table<'static, u32>; 2] = [
             CellBlocks(2, 1, 0),
             Lists(&FIVE),
             Covers((0x0a01_0101, 32), &FIVE),
-            RemovesChildren((0x0a00_0000, 8)),
+            DropsChildren((0x0a00_0000, 8)),
             Len(2),
             Clears,
             Slots(1, 0),

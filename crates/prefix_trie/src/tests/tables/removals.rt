@@ -1,7 +1,7 @@
 //! Taking entries out of a map, with each request for memory refused in turn, and with every one refused.
 use crate::Ipv4Prefix;
 use crate::tests::cases::Case::{
-    self, Empties, Finds, Inserts, Len, Lists, Nodes, Removes, RemovesChildren, RetainsFrom,
+    self, DropsChildren, Empties, Finds, Inserts, Len, Lists, Nodes, Removes, RetainsFrom,
     RetainsLong,
 };
 use crate::tests::cases::Pair;
@@ -179,7 +179,7 @@ fn taking(at: Pair<u32>, item: u32, by: By) -> Case<u32> {
     match by {
         By::Remove => Removes(at, Some(value)),
         By::KeepTree => Empties(at, Some(value)),
-        By::Children => RemovesChildren((at.0, at.1.saturating_sub(2))),
+        By::Children => DropsChildren((at.0, at.1.saturating_sub(2))),
         By::Retain => RetainsFrom(value.saturating_add(1)),
     }
 }
