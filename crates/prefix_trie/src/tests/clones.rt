@@ -3,7 +3,7 @@
 use crate::map::{IntoIter, IntoKeys, IntoValues};
 use crate::tests::cases::keys::put;
 use crate::tests::refusing::Refusing;
-use crate::tests::stored::stores;
+use crate::tests::stored::{self, stores};
 use crate::{PrefixMap, PrefixSet, Refusal};
 use std::alloc::{AllocError, Allocator, Global};
 
@@ -23,7 +23,7 @@ type Numbers<A> = PrefixMap<Key, u16, A>;
 /// Stores a name of so many bits.
 fn put_name<A: Allocator>(alloc: A, names: &mut Names<A>, len: u8, text: &str) -> bool {
     match String::from_str(alloc, text) {
-        Ok(name) => names.insert((0x0a01_0000, len.min(32)), name).is_ok(),
+        Ok(name) => stored::put(names, (0x0a01_0000, len.min(32)), name).is_ok(),
         Err(AllocError) => false,
     }
 }
@@ -135,10 +135,10 @@ impl<A: Allocator + Clone> Named for IntoValues<Key, String<A>, A> {
 }
 
 /// A new map of three names, with every request refused from then on.
-fn filled(heap: &Heap) -> Option<Names<&Heap>> {
+fn filled<A: Allocator + Copy>(heap: &Heap, alloc: A) -> Option<Names<A>> {
     heap.refuse(0, 0);
-    let mut names = PrefixMap::new(heap).ok()?;
-    let is_filled = put_names(heap, &mut names);
+    let mut names = PrefixMap::new(alloc).ok()?;
+    let is_filled = put_names(alloc, &mut names);
     heap.refuse(0, u64::MAX);
     if is_filled { Some(names) } else { None }
 }
@@ -211,61 +211,80 @@ fn is_entry<A: Allocator>(entry: Option<(Key, String<A>)>, len: u8, text: &str) 
     }
 }
 
-fn copies_of_map(heap: &Heap) -> Option<u64> {
-    refused_in_turn(heap, filled(heap)?, true)
+/// What a map is turned into by value.
+trait Taken<M>: Named {
+    fn of(map: M) -> Self;
 }
 
-fn copies_of_part(heap: &Heap) -> Option<u64> {
-    let part = filled(heap)?.into_children(&(0x0a01_0000, 9));
-    refused_in_turn(heap, part, false)
+impl<A: Allocator + Clone> Taken<Names<A>> for Names<A> {
+    fn of(map: Names<A>) -> Self {
+        map
+    }
 }
 
-fn copies_of_items(heap: &Heap) -> Option<u64> {
-    refused_in_turn(heap, filled(heap)?.into_iter(), true)
+impl<A: Allocator + Clone> Taken<Names<A>> for IntoIter<Key, String<A>, A> {
+    fn of(map: Names<A>) -> Self {
+        map.into_iter()
+    }
 }
 
-fn copies_of_keys(heap: &Heap) -> Option<u64> {
-    refused_in_turn(heap, filled(heap)?.into_keys(), true)
+impl<A: Allocator + Clone> Taken<Names<A>> for IntoKeys<Key, String<A>, A> {
+    fn of(map: Names<A>) -> Self {
+        map.into_keys()
+    }
 }
 
-fn copies_of_values(heap: &Heap) -> Option<u64> {
-    refused_in_turn(heap, filled(heap)?.into_values(), true)
+impl<A: Allocator + Clone> Taken<Names<A>> for IntoValues<Key, String<A>, A> {
+    fn of(map: Names<A>) -> Self {
+        map.into_values()
+    }
 }
 
-/// Of walks that have given the first of three.
-fn copies_of_items_left(heap: &Heap) -> Option<u64> {
-    rest_refused_in_turn(heap, filled(heap)?.into_iter())
+/// Whether copies of what a map is turned into are refused as `refused_in_turn` says.
+fn copies<M: Drop, W: Taken<M>>(heap: &Heap, map: Option<M>) -> Option<u64> {
+    refused_in_turn(heap, W::of(map?), true)
 }
 
-fn copies_of_keys_left(heap: &Heap) -> Option<u64> {
-    rest_refused_in_turn(heap, filled(heap)?.into_keys())
+/// The same of a walk that has given the first of three.
+fn copies_left<M: Drop, W: Taken<M>>(heap: &Heap, map: Option<M>) -> Option<u64> {
+    rest_refused_in_turn(heap, W::of(map?))
 }
 
-fn copies_of_values_left(heap: &Heap) -> Option<u64> {
-    rest_refused_in_turn(heap, filled(heap)?.into_values())
+/// The part of a map behind its first name.
+fn part_of<A: Allocator>(names: Names<A>) -> IntoIter<Key, String<A>, A> {
+    names.into_children(&(0x0a01_0000, 9))
+}
+
+fn copies_of_part<A: Allocator + Clone>(heap: &Heap, names: Option<Names<A>>) -> Option<u64> {
+    refused_in_turn(heap, part_of(names?), false)
+}
+
+/// Stores the three keys.
+fn put_keys<A: Allocator>(set: &mut PrefixSet<Key, A>) -> bool {
+    (put(set, (0x0a01_0000, 8)) == Ok(true))
+        & (put(set, (0x0a01_0000, 9)) == Ok(true))
+        & (put(set, (0x0a01_0000, 24)) == Ok(true))
 }
 
 /// A new set of the three keys, with every request refused from then on.
-fn keys(heap: &Heap) -> Option<PrefixSet<Key, &Heap>> {
+fn keys<A: Allocator + Copy>(heap: &Heap, alloc: A) -> Option<PrefixSet<Key, A>> {
     heap.refuse(0, 0);
-    let mut set = PrefixSet::new(heap).ok()?;
-    let is_filled = (put(&mut set, (0x0a01_0000, 8)) == Ok(true))
-        & (put(&mut set, (0x0a01_0000, 9)) == Ok(true))
-        & (put(&mut set, (0x0a01_0000, 24)) == Ok(true));
+    let mut set = PrefixSet::new(alloc).ok()?;
+    let is_filled = put_keys(&mut set);
     heap.refuse(0, u64::MAX);
     if is_filled { Some(set) } else { None }
 }
 
-fn copies_of_set(heap: &Heap) -> Option<u64> {
-    refused_in_turn(heap, keys(heap)?, true)
+impl<A: Allocator + Clone> Taken<PrefixSet<Key, A>> for PrefixSet<Key, A> {
+    fn of(map: PrefixSet<Key, A>) -> Self {
+        map
+    }
 }
 
-fn copies_of_set_walk(heap: &Heap) -> Option<u64> {
-    refused_in_turn(heap, keys(heap)?.into_iter(), true)
-}
-
-fn copies_of_set_walk_left(heap: &Heap) -> Option<u64> {
-    rest_refused_in_turn(heap, keys(heap)?.into_iter())
+impl<A: Allocator + Clone> Taken<PrefixSet<Key, A>> for IntoKeys<Key, (), A> {
+    fn of(map: PrefixSet<Key, A>) -> Self {
+        map.into_iter()
+    }
 }
 
 /// Three numbers at the same keys.
@@ -292,33 +311,37 @@ fn requests_for_numbers(heap: &Heap) -> Result<Option<u64>, Refusal> {
 
 /// Whether the copy of a map of names, and that of each walk which takes it apart, makes three requests more than that of numbers, and
 /// two more where the first name was given.
-fn are_requests(heap: &Heap, numbers: Result<Option<u64>, Refusal>) -> bool {
+fn are_requests<A: Allocator + Copy>(
+    heap: &Heap,
+    alloc: A,
+    numbers: Result<Option<u64>, Refusal>,
+) -> bool {
     let Ok(Some(numbers)) = numbers else {
         return false;
     };
     let of_three = Some(numbers.wrapping_add(3));
     let of_two = Some(numbers.wrapping_add(2));
-    (copies_of_map(heap) == of_three)
-        & (copies_of_part(heap) == of_three)
-        & (copies_of_items(heap) == of_three)
-        & (copies_of_keys(heap) == of_three)
-        & (copies_of_values(heap) == of_three)
-        & (copies_of_items_left(heap) == of_two)
-        & (copies_of_keys_left(heap) == of_two)
-        & (copies_of_values_left(heap) == of_two)
+    (copies::<_, Names<A>>(heap, filled(heap, alloc)) == of_three)
+        & (copies_of_part(heap, filled(heap, alloc)) == of_three)
+        & (copies::<_, IntoIter<Key, String<A>, A>>(heap, filled(heap, alloc)) == of_three)
+        & (copies::<_, IntoKeys<Key, String<A>, A>>(heap, filled(heap, alloc)) == of_three)
+        & (copies::<_, IntoValues<Key, String<A>, A>>(heap, filled(heap, alloc)) == of_three)
+        & (copies_left::<_, IntoIter<Key, String<A>, A>>(heap, filled(heap, alloc)) == of_two)
+        & (copies_left::<_, IntoKeys<Key, String<A>, A>>(heap, filled(heap, alloc)) == of_two)
+        & (copies_left::<_, IntoValues<Key, String<A>, A>>(heap, filled(heap, alloc)) == of_two)
 }
 
 /// Whether the copy of a set, and that of the walk that takes it apart, makes as many requests as the other, and some.
-fn are_alike(heap: &Heap) -> bool {
-    let requests = copies_of_set(heap);
+fn are_alike<A: Allocator + Copy>(heap: &Heap, alloc: A) -> bool {
+    let requests = copies::<_, PrefixSet<Key, A>>(heap, keys(heap, alloc));
     (requests.unwrap_or(0) > 0)
-        & (copies_of_set_walk(heap) == requests)
-        & (copies_of_set_walk_left(heap) == requests)
+        & (copies::<_, IntoKeys<Key, (), A>>(heap, keys(heap, alloc)) == requests)
+        & (copies_left::<_, IntoKeys<Key, (), A>>(heap, keys(heap, alloc)) == requests)
 }
 
 #[test]
 fn each_request_of_a_copy_refused(rt: HostRuntime) {
     let heap = Refusing::new(rt.alloc());
-    assert!(rt; are_requests(&heap, requests_for_numbers(&heap)));
-    assert!(rt; are_alike(&heap));
+    assert!(rt; are_requests(&heap, &heap, requests_for_numbers(&heap)));
+    assert!(rt; are_alike(&heap, &heap));
 }

@@ -1,9 +1,9 @@
 //! Maps and sets that are split: what refused requests for memory leave, and what is dropped when.
-use crate::tests::cases::prefix_of;
+use crate::tests::cases::{keys, prefix_of};
 use crate::tests::drops::let_go;
 use crate::tests::examples::splitting::split_and_merge;
 use crate::tests::refusing::Refusing;
-use crate::tests::stored::is_new;
+use crate::tests::stored::{is_new, put};
 use crate::{Ipv4Prefix, Prefix, PrefixMap, PrefixSet, Refusal};
 use std::alloc::{Allocator, Global};
 use std::cell::Cell;
@@ -43,7 +43,7 @@ fn put_six<'a, A: Allocator>(map: &mut Map<'a, A>, drops: &'a Cell<u64>) -> bool
     let mut number = 0_u64;
     for pair in &NETWORKS {
         number = number.wrapping_add(1);
-        if !is_new(map.insert(prefix_of(*pair), Numbered { number, drops })) {
+        if !is_new(put(map, prefix_of(*pair), Numbered { number, drops })) {
             return false;
         }
     }
@@ -147,7 +147,7 @@ const HOSTS: [(u32, u8); 4] = [
 /// Puts them into a set.
 fn put_hosts<A: Allocator>(set: &mut PrefixSet<(u32, u8), A>) -> bool {
     for host in &HOSTS {
-        if !host.fits() || set.insert(*host) != Ok(true) {
+        if !host.fits() || keys::put(set, *host) != Ok(true) {
             return false;
         }
     }

@@ -8,7 +8,7 @@ use crate::replay::{Call, Reply, run};
 use crate::tests::cases::questions::has_sums;
 use crate::tests::on_new::on_new;
 use crate::tests::refusing::Refusing;
-use crate::tests::stored::stores;
+use crate::tests::stored::{put, stores};
 use crate::{PrefixMap, Refusal};
 use std::alloc::{AllocError, Allocator, Global};
 
@@ -230,7 +230,7 @@ fn numbered(number: u32) -> (Key, u64) {
 fn stores_all(map: &mut Map<Global>) -> bool {
     for step in 0..LONG {
         let number = step * 389 % LONG;
-        if map.insert((number << 16, 16), u64::from(number)) != Ok(None) {
+        if put(map, (number << 16, 16), u64::from(number)) != Ok(None) {
             return false;
         }
     }

@@ -10,13 +10,24 @@ pub fn is_new<T: Drop>(answer: Result<Option<T>, Refused<T>>) -> bool {
     }
 }
 
+/// Inserts a value. It has no `ensures`: those of `insert` would be checked again at each call.
+pub fn put<P: Prefix, T: Drop, A: Allocator>(
+    map: &mut PrefixMap<P, T, A>,
+    prefix: P,
+    value: T,
+) -> Result<Option<T>, Refused<T>>
+    requires { P.IsFitting prefix }
+{
+    map.insert(prefix, value)
+}
+
 /// Stores entries in turn. Answers whether each prefix fits and is new.
 pub fn stores<P: Prefix + Copy, T: Copy + Drop, A: Allocator>(
     map: &mut PrefixMap<P, T, A>,
     entries: &[(P, T)],
 ) -> bool {
     for (prefix, value) in entries {
-        if !prefix.fits() || !is_new(map.insert(*prefix, *value)) {
+        if !prefix.fits() || !is_new(put(map, *prefix, *value)) {
             return false;
         }
     }

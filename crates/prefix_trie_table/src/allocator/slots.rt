@@ -44,7 +44,7 @@ pub(super) fn make_room<S, A: Allocator>(
     grow(items, count)
 }
 
-// An array with room for so many items or more grows by a quarter, a shorter one to twice its room: then the less of a long one
+// An array with room for so many items or more grows by a half, a shorter one to twice its room: then the less of a long one
 // stands empty, and a short one is seldom moved.
 const LONG: usize = 262_144;
 
@@ -63,7 +63,7 @@ fn grow<S, A: Allocator>(items: &mut Vec<S, A>, count: usize) -> Result<(), Allo
     if room < LONG {
         return items.reserve(count);
     }
-    let longer = room + room / 4;
+    let longer = room + room / 2;
     items.reserve_exact(count.max(longer - items.len()))
 }
 

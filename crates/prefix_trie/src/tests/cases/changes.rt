@@ -5,6 +5,7 @@ use crate::tests::cases::questions::{has_sums, is_same, pair_in, pair_of, value_
 use crate::tests::cases::{Entry, Pair, prefix_of};
 use crate::tests::examples::expiry::keep_from;
 use crate::tests::refusing::Refusing;
+use crate::tests::stored::put;
 use crate::{Prefix, PrefixMap, Refusal, Refused};
 use std::alloc::{AllocError, Allocator, Global};
 use std::mem;
@@ -23,14 +24,11 @@ fn made<P: Prefix + Copy, A: Allocator + Copy>(
     }
 }
 
-/// Puts a new map in place of one, and answers whether it is there.
-fn replaces<P: Prefix + Copy, A: Allocator>(
-    map: &mut PrefixMap<P, u64, A>,
-    answer: Result<PrefixMap<P, u64, A>, Refusal>,
-) -> bool {
-    match answer {
+/// Puts what was made, if it was, in place of another, and answers whether it is there.
+pub fn replaces<V: Drop, E: Drop>(place: &mut V, made: Result<V, E>) -> bool {
+    match made {
         Ok(new) => {
-            *map = new;
+            *place = new;
             true
         }
         Err(_) => false,
@@ -82,13 +80,13 @@ fn is_answered<P: Prefix + Copy, A: Allocator>(
     (answer == *wanted) & (answer.is_ok() | is_as(map, old))
 }
 
-/// Inserts a value. It has no clause: those of `insert` would be checked again at each call.
+/// Inserts a value at a pair.
 pub fn put_in<P: Prefix, A: Allocator>(
     map: &mut PrefixMap<P, u64, A>,
     at: Pair<P::R>,
     value: u64,
 ) -> Answer {
-    map.insert(prefix_of(at), value)
+    put(map, prefix_of(at), value)
 }
 
 /// Makes an insertion into a map of old entries and nodes, as `inserts` does.
@@ -176,21 +174,6 @@ pub fn clears<P: Prefix + Copy, A: Allocator>(map: &mut PrefixMap<P, u64, A>) ->
     map.is_empty()
 }
 
-/// Puts a copy in place of a map, and answers whether it is the same as its source.
-fn replaces_same<P: Prefix + Copy + PartialEq, A: Allocator>(
-    map: &PrefixMap<P, u64, A>,
-    other: &mut PrefixMap<P, u64, A>,
-    answer: Result<PrefixMap<P, u64, A>, AllocError>,
-) -> bool {
-    match answer {
-        Ok(copy) => {
-            *other = copy;
-            is_same(map, other)
-        }
-        Err(AllocError) => false,
-    }
-}
-
 /// Puts a copy of a map in place of the other. Answers whether it was refused where a request was, and only there.
 pub fn copies<P: Prefix + Copy + PartialEq, A: Allocator + Copy>(
     heap: &Refusing<Global>,
@@ -200,10 +183,10 @@ pub fn copies<P: Prefix + Copy + PartialEq, A: Allocator + Copy>(
     let left = heap.left();
     let answer = map.clone();
     if heap.left() == left {
-        return replaces_same(map, other, answer);
+        return replaces(other, answer) & is_same(map, other);
     }
     heap.refuse(0, 0);
-    answer.is_err() & replaces_same(map, other, map.clone())
+    answer.is_err() & replaces(other, map.clone()) & is_same(map, other)
 }
 
 pub fn turns<P: Prefix + Copy, A: Allocator>(

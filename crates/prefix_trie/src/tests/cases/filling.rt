@@ -164,13 +164,17 @@ pub fn fills<P: Prefix + Copy, A: Allocator>(
 }
 
 /// The prefix of an entry as a pair, and its value.
+fn shown<P: Prefix, A: Allocator>(entry: &Entry<'_, P, u64, A>) -> (Pair<P::R>, Option<u64>) {
+    let key = entry.key();
+    ((key.repr(), key.prefix_len()), entry.get().copied())
+}
+
+/// The same of the entry of a pair.
 fn seen<P: Prefix, A: Allocator>(
     map: &mut PrefixMap<P, u64, A>,
     at: Pair<P::R>,
 ) -> (Pair<P::R>, Option<u64>) {
-    let entry = entry_at(map, at);
-    let key = entry.key();
-    ((key.repr(), key.prefix_len()), entry.get().copied())
+    shown(&entry_at(map, at))
 }
 
 /// Whether an entry has its prefix as it was handed in, and no value. It is let go.

@@ -1,5 +1,6 @@
 //! Cases, as calls of a set: of an entry the key counts.
 use crate::set::Iter;
+use crate::tests::cases::changes::replaces;
 use crate::tests::cases::lists::below;
 use crate::tests::cases::questions::{found_pair, pair_in, was_refused};
 use crate::tests::cases::{Case, Entry, Pair, prefix_of};
@@ -16,20 +17,6 @@ fn made<P: Prefix + Copy, A: Allocator + Copy>(
     match limit {
         Some(slots) => PrefixSet::with_slot_limit(alloc, slots),
         None => PrefixSet::new(alloc),
-    }
-}
-
-/// Puts a new set in place of one, and answers whether it is there.
-fn replaces<P: Prefix + Copy, A: Allocator, E: Drop>(
-    set: &mut PrefixSet<P, A>,
-    answer: Result<PrefixSet<P, A>, E>,
-) -> bool {
-    match answer {
-        Ok(new) => {
-            *set = new;
-            true
-        }
-        Err(_) => false,
     }
 }
 

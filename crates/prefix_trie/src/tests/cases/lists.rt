@@ -50,7 +50,9 @@ fn are_parts<P: Prefix + Copy>(
     value: Option<&u64>,
     entry: &Entry<P::R>,
 ) -> bool {
-    (shown(item), found_pair(key), value.copied()) == (Some(*entry), Some(entry.0), Some(entry.1))
+    (shown(item) == Some(*entry))
+        & (found_pair(key) == Some(entry.0))
+        & (value.copied() == Some(entry.1))
 }
 
 /// Whether three walks give these entries, their prefixes and their values.

@@ -7,7 +7,7 @@ ghost use Rattle.prefix_trie_bits.specs.Model.Matches.{longest_match, shown_matc
 ghost use Rattle.prefix_trie_table.specs.Shape.{with_value_at, with_longest_at};
 
 use crate::tests::on_new::on_new;
-use crate::tests::stored::{has_values, stores};
+use crate::tests::stored::{has_values, put, stores};
 use crate::{Ipv6Prefix, Prefix, PrefixMap, Refusal};
 use std::alloc::{AllocError, Allocator, Global};
 
@@ -105,7 +105,7 @@ fn has(map: &Texts, text: &str) -> bool {
 
 /// Sets the text of the site, and answers whether it had this one before.
 fn replaces(map: &mut Texts, text: String<Global>, expected: Option<&str>) -> bool {
-    match map.insert(Ipv6Prefix::from_repr_len(SITE, 32), text) {
+    match put(map, Ipv6Prefix::from_repr_len(SITE, 32), text) {
         Ok(before) => before.as_deref() == expected,
         Err(_) => false,
     }

@@ -7,7 +7,7 @@ use crate::map::{IntoIter, IntoKeys, IntoValues};
 use crate::tests::clones::Copied;
 use crate::tests::drops::{Counted, let_go};
 use crate::tests::refusing::Refusing;
-use crate::tests::stored::is_new;
+use crate::tests::stored::{self, is_new};
 use crate::{Prefix, PrefixMap, Refused};
 use std::alloc::{Allocator, Global};
 use std::cell::Cell;
@@ -36,7 +36,7 @@ fn put_three<'a, A: Allocator>(
     drops: &'a Cell<u64>,
 ) -> bool {
     for key in &KEYS {
-        if !key.fits() || !is_new(map.insert(*key, Counted { drops })) {
+        if !key.fits() || !is_new(stored::put(map, *key, Counted { drops })) {
             return false;
         }
     }
@@ -147,7 +147,7 @@ fn put<'a, A: Allocator>(
     key: (u8, u8),
     drops: &'a Cell<u64>,
 ) -> bool {
-    key.fits() && map.insert(key, Counted { drops }).is_ok()
+    key.fits() && stored::put(map, key, Counted { drops }).is_ok()
 }
 
 /// How many are dropped once three are stored and one of them is replaced, one is taken out, and all are cleared.
@@ -178,7 +178,7 @@ fn drops_of_map(alloc: Global) -> Option<([u64; 4], u64)> {
 fn drops_of_refused(alloc: Global) -> Option<[u64; 3]> {
     let drops = Cell::new(0);
     let mut map = PrefixMap::with_slot_limit(alloc, 1).ok()?;
-    let answer = map.insert((0_u8, 8_u8), Counted { drops: &drops });
+    let answer = stored::put(&mut map, (0_u8, 8_u8), Counted { drops: &drops });
     let first = drops.get();
     let is_refused = answer.is_err();
     let_go(answer);
@@ -207,7 +207,7 @@ fn put_name<'a>(
         return false;
     };
     let counted = Counted { drops };
-    key.fits() && is_new(names.insert(key, Named { name, counted }))
+    key.fits() && is_new(stored::put(names, key, Named { name, counted }))
 }
 
 /// Whether a copy is refused. It is let go.
