@@ -1,22 +1,14 @@
-//! Cases: calls of a map, each beside what it should answer.
+//! Cases: calls of a map or a set, each beside what it should answer.
 pub mod changes;
 pub mod filling;
 pub mod keys;
 pub mod lists;
+pub mod maps;
 pub mod questions;
+pub mod tried;
 
-use crate::tests::cases::changes::{
-    clears, copies, drops_children, empties, inserts, makes, removes, retains_from, retains_long,
-    turns, writes, writes_longest,
-};
-use crate::tests::cases::filling::{Fill, changes, fills, is_vacant, takes_out};
-use crate::tests::cases::lists::{covers, lists};
-use crate::tests::cases::questions::{
-    finds, finds_in_bulk, has_cells, has_len, has_nodes, has_slots, has_sums, is_same, was_refused,
-};
-use crate::tests::refusing::Refusing;
-use crate::{Key, Prefix, PrefixMap, Refusal};
-use std::alloc::{Allocator, Global};
+use crate::tests::cases::filling::Fill;
+use crate::{Key, Prefix};
 
 /// A number and a length, which make a prefix.
 pub type Pair<K> = (K, u8);
@@ -26,7 +18,7 @@ pub type Entry<K> = (Pair<K>, u64);
 
 /// A call beside what it should answer. Prefixes stand as pairs, so one table serves all types that have these numbers.
 #[derive(Drop)]
-pub enum Case<K: 'static> {
+pub enum Case<'a, K: 'a> {
     /// A new map is made in place of this one, under a limit of slots or none.
     Makes(Option<u32>),
     /// `insert` sets this value, and answers the one that was there.
@@ -66,9 +58,11 @@ pub enum Case<K: 'static> {
     /// All lookups of a prefix: the entry of exactly it, its longest match and its shortest.
     Finds(Pair<K>, Option<Entry<K>>, Option<Entry<K>>, Option<Entry<K>>),
     /// All walks give these entries.
-    Lists(&'static [Entry<K>]),
+    Lists(&'a [Entry<K>]),
+    /// The walks from a prefix on, behind it and below it give these, of which the first is its own.
+    ListsFrom(Pair<K>, &'a [Entry<K>]),
     /// The walks around a prefix give these.
-    Covers(Pair<K>, &'static [Entry<K>]),
+    Covers(Pair<K>, &'a [Entry<K>]),
     /// So many entries.
     Len(usize),
     /// So many addresses.
@@ -90,99 +84,4 @@ pub fn prefix_of<P: Prefix>(pair: Pair<P::R>) -> P
     let (repr, len) = pair;
     let _ = repr.is_key();
     P::from_repr_len(repr, u32::from(len).min(P::num_bits()) as u8)
-}
-
-/// Whether a case holds of a map, beside which a second one stands.
-///
-/// Where a request is refused, the call that made it is refused with `Memory`, changes nothing and is made once more, with none
-/// refused from then on; but a removal does all that it should. Both arrays are as long as their blocks after each call. Which
-/// blocks these are is asked only where none was refused, since a removal may then take fewer.
-pub fn holds<P: Prefix + Copy + PartialEq, A: Allocator + Copy>(
-    heap: &Refusing<Global>,
-    alloc: A,
-    map: &mut PrefixMap<P, u64, A>,
-    other: &mut PrefixMap<P, u64, A>,
-    case: &Case<P::R>,
-) -> bool {
-    is_held(heap, alloc, map, other, case) & has_sums(map)
-}
-
-/// Whether the call of a case answers as it should: here those that change the map as a whole.
-fn is_held<P: Prefix + Copy + PartialEq, A: Allocator + Copy>(
-    heap: &Refusing<Global>,
-    alloc: A,
-    map: &mut PrefixMap<P, u64, A>,
-    other: &mut PrefixMap<P, u64, A>,
-    case: &Case<P::R>,
-) -> bool {
-    match case {
-        Case::Makes(limit) => makes(heap, alloc, map, *limit),
-        Case::RetainsFrom(least) => retains_from(map, *least),
-        Case::RetainsLong(len) => retains_long(map, *len),
-        Case::Clears => clears(map),
-        Case::Copies => copies(heap, map, other),
-        Case::Turns => turns(map, other),
-        _ => is_set(heap, map, case) & answers(heap, map, other, case),
-    }
-}
-
-/// The same of those that change it at a prefix. One that does not changes nothing here.
-fn is_set<P: Prefix + Copy, A: Allocator>(
-    heap: &Refusing<Global>,
-    map: &mut PrefixMap<P, u64, A>,
-    case: &Case<P::R>,
-) -> bool {
-    match case {
-        Case::Inserts(at, value, before) => inserts(heap, map, *at, *value, Ok(*before)),
-        Case::PassesLimit(at, value) => {
-            inserts(heap, map, *at, *value, Err(Refusal::IndexRange))
-        }
-        Case::Removes(at, before) => removes(map, *at, *before),
-        Case::Empties(at, before) => empties(map, *at, *before),
-        Case::DropsChildren(at) => drops_children(map, *at),
-        Case::Writes(at, value, before) => writes(map, *at, *value, *before),
-        Case::WritesLongest(at, value, before) => writes_longest(map, *at, *value, *before),
-        _ => is_filled(heap, map, case),
-    }
-}
-
-/// The same of those that change it by an entry.
-fn is_filled<P: Prefix + Copy, A: Allocator>(
-    heap: &Refusing<Global>,
-    map: &mut PrefixMap<P, u64, A>,
-    case: &Case<P::R>,
-) -> bool {
-    match case {
-        Case::Fills(fill, at, value) => fills(heap, map, *fill, *at, *value),
-        Case::LeavesVacant(at) => is_vacant(map, *at),
-        Case::TakesOut(at, before) => takes_out(map, *at, *before),
-        Case::ChangesEntry(at, value, before) => changes(map, *at, *value, *before),
-        _ => true,
-    }
-}
-
-/// Whether a map answers as a case asks, beside the second one; a case that changes it asks nothing.
-fn answers<P: Prefix + Copy + PartialEq, A: Allocator>(
-    heap: &Refusing<Global>,
-    map: &PrefixMap<P, u64, A>,
-    other: &PrefixMap<P, u64, A>,
-    case: &Case<P::R>,
-) -> bool {
-    let is_unasked = was_refused(heap);
-    match case {
-        Case::Same => is_same(map, other),
-        Case::Finds(at, exact, longest, shortest) => {
-            finds(map, *at, *exact, *longest, *shortest)
-                & (finds_in_bulk(heap.inner(), map, *at, *longest) == Ok(true))
-        }
-        Case::Lists(entries) => lists(map, entries),
-        Case::Covers(at, entries) => covers(map, *at, entries),
-        Case::Len(len) => has_len(map, *len),
-        Case::Addresses(count) => map.address_count() == *count,
-        Case::Nodes(nodes) => map.node_count() == *nodes,
-        Case::Slots(nodes, cells) => is_unasked | has_slots(map, *nodes, *cells),
-        Case::NodeBlocks(size, used, free) => is_unasked | has_nodes(map, *size, *used, *free),
-        Case::CellBlocks(size, used, free) => is_unasked | has_cells(map, *size, *used, *free),
-        _ => true,
-    }
 }

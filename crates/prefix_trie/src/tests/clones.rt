@@ -2,9 +2,10 @@
 //! once.
 use crate::map::{IntoIter, IntoKeys, IntoValues};
 use crate::tests::cases::keys::put;
+use crate::tests::cases::prefix_of;
 use crate::tests::refusing::Refusing;
-use crate::tests::stored::{self, stores};
-use crate::{PrefixMap, PrefixSet, Refusal};
+use crate::tests::stored::{self, is_new, stores};
+use crate::{Prefix, PrefixMap, PrefixSet, Refusal};
 use std::alloc::{AllocError, Allocator, Global};
 
 /// More requests than one copy makes.
@@ -20,19 +21,33 @@ type Names<A> = PrefixMap<Key, String<A>, A>;
 /// Numbers, which ask for none.
 type Numbers<A> = PrefixMap<Key, u16, A>;
 
-/// Stores a name of so many bits.
-fn put_name<A: Allocator>(alloc: A, names: &mut Names<A>, len: u8, text: &str) -> bool {
-    match String::from_str(alloc, text) {
-        Ok(name) => stored::put(names, (0x0a01_0000, len.min(32)), name).is_ok(),
-        Err(AllocError) => false,
-    }
+/// Three keys, and one that is not stored.
+const KEYS: [Key; 4] = [
+    (0x0a00_0000, 8),
+    (0x0a00_0000, 9),
+    (0x0a01_0000, 24),
+    (0, 0),
+];
+
+/// The names at the keys.
+const NAMES: [&str; 3] = ["outer", "next", "inner"];
+
+/// The key at a place.
+fn key_at(place: usize) -> Key
+    ensures { ⟦<Key as Prefix>⟧.IsFitting result }
+{
+    prefix_of(KEYS[place % 4])
 }
 
-/// Stores three names.
-fn put_names<A: Allocator + Copy>(alloc: A, names: &mut Names<A>) -> bool {
-    put_name(alloc, names, 8, "outer")
-        & put_name(alloc, names, 9, "next")
-        & put_name(alloc, names, 24, "inner")
+/// Stores the three names.
+fn put_names<A: Allocator + Copy>(alloc: A, names: &mut Names<A>) -> Result<bool, AllocError> {
+    for (place, text) in NAMES.iter().enumerate() {
+        let name = String::from_str(alloc, text)?;
+        if !is_new(stored::put(names, key_at(place), name)) {
+            return Ok(false);
+        }
+    }
+    Ok(true)
 }
 
 /// What has a copy, which may be refused.
@@ -41,96 +56,83 @@ pub trait Copied: Drop {
     fn copy(&self) -> Result<Self, AllocError>;
 }
 
-impl<T: Clone, A: Allocator + Clone> Copied for PrefixMap<Key, T, A> {
+impl<P: Prefix, T: Clone, A: Allocator + Clone> Copied for PrefixMap<P, T, A> {
     fn copy(&self) -> Result<Self, AllocError> {
         self.clone()
     }
 }
 
-impl<A: Allocator + Clone> Copied for PrefixSet<Key, A> {
+impl<P: Prefix, A: Allocator + Clone> Copied for PrefixSet<P, A> {
     fn copy(&self) -> Result<Self, AllocError> {
         self.clone()
     }
 }
 
-impl<T: Clone, A: Allocator + Clone> Copied for IntoIter<Key, T, A> {
+impl<P: Prefix, T: Clone, A: Allocator + Clone> Copied for IntoIter<P, T, A> {
     fn copy(&self) -> Result<Self, AllocError> {
         self.clone()
     }
 }
 
-impl<T: Clone, A: Allocator + Clone> Copied for IntoKeys<Key, T, A> {
+impl<P: Prefix, T: Clone, A: Allocator + Clone> Copied for IntoKeys<P, T, A> {
     fn copy(&self) -> Result<Self, AllocError> {
         self.clone()
     }
 }
 
-impl<T: Clone, A: Allocator + Clone> Copied for IntoValues<Key, T, A> {
+impl<P: Prefix, T: Clone, A: Allocator + Clone> Copied for IntoValues<P, T, A> {
     fn copy(&self) -> Result<Self, AllocError> {
         self.clone()
     }
 }
 
-/// What has three names, or their keys.
+/// What has three names, or their keys, which a walk gives in turn.
 trait Named: Copied {
-    /// Whether it gives the first, which a walk has no more then.
-    fn gives_first(&mut self) -> bool;
-
-    /// Whether it gives the two others, and a walk no more.
-    fn gives_rest(&mut self) -> bool;
+    /// Whether it has or gives the one at a place, and at the fourth none.
+    fn gives(&mut self, place: usize) -> bool;
 }
 
 impl<A: Allocator + Clone> Named for Names<A> {
-    fn gives_first(&mut self) -> bool {
-        is_stored(self, 8, "outer")
-    }
-
-    fn gives_rest(&mut self) -> bool {
-        is_stored(self, 9, "next") & is_stored(self, 24, "inner") & (self.len() == 3)
+    fn gives(&mut self, place: usize) -> bool {
+        is_name(self.get(&key_at(place)), place) & (self.len() == 3)
     }
 }
 
 impl<A: Allocator + Clone> Named for PrefixSet<Key, A> {
-    fn gives_first(&mut self) -> bool {
-        self.contains(&(0x0a01_0000, 8))
-    }
-
-    fn gives_rest(&mut self) -> bool {
-        self.contains(&(0x0a01_0000, 9)) & self.contains(&(0x0a01_0000, 24)) & (self.len() == 3)
+    fn gives(&mut self, place: usize) -> bool {
+        (self.contains(&key_at(place)) == (place < 3)) & (self.len() == 3)
     }
 }
 
 impl<A: Allocator + Clone> Named for IntoIter<Key, String<A>, A> {
-    fn gives_first(&mut self) -> bool {
-        is_entry(self.next(), 8, "outer")
-    }
-
-    fn gives_rest(&mut self) -> bool {
-        is_entry(self.next(), 9, "next")
-            & is_entry(self.next(), 24, "inner")
-            & self.next().is_none()
+    fn gives(&mut self, place: usize) -> bool {
+        match self.next() {
+            Some((key, name)) => (key == key_at(place)) & is_name(Some(&name), place),
+            None => place == 3,
+        }
     }
 }
 
 impl<T: Clone, A: Allocator + Clone> Named for IntoKeys<Key, T, A> {
-    fn gives_first(&mut self) -> bool {
-        self.next() == Some((0x0a00_0000, 8))
-    }
-
-    fn gives_rest(&mut self) -> bool {
-        (self.next() == Some((0x0a00_0000, 9)))
-            & (self.next() == Some((0x0a01_0000, 24)))
-            & self.next().is_none()
+    fn gives(&mut self, place: usize) -> bool {
+        match self.next() {
+            Some(key) => (key == key_at(place)) & (place < 3),
+            None => place == 3,
+        }
     }
 }
 
 impl<A: Allocator + Clone> Named for IntoValues<Key, String<A>, A> {
-    fn gives_first(&mut self) -> bool {
-        is_name(self.next(), "outer")
+    fn gives(&mut self, place: usize) -> bool {
+        is_name(self.next().as_ref(), place)
     }
+}
 
-    fn gives_rest(&mut self) -> bool {
-        is_name(self.next(), "next") & is_name(self.next(), "inner") & self.next().is_none()
+/// Whether a name is that at a place, where there is one.
+fn is_name<A: Allocator>(name: Option<&String<A>>, place: usize) -> bool {
+    match name {
+        Some(name) => NAMES.get(place) == Some(&name.as_str()),
+        None => place == 3,
     }
 }
 
@@ -138,14 +140,19 @@ impl<A: Allocator + Clone> Named for IntoValues<Key, String<A>, A> {
 fn filled<A: Allocator + Copy>(heap: &Heap, alloc: A) -> Option<Names<A>> {
     heap.refuse(0, 0);
     let mut names = PrefixMap::new(alloc).ok()?;
-    let is_filled = put_names(alloc, &mut names);
+    let is_filled = put_names(alloc, &mut names) == Ok(true);
     heap.refuse(0, u64::MAX);
     if is_filled { Some(names) } else { None }
 }
 
-/// Whether it gives all names, or those behind the first.
-fn gives<W: Named>(named: &mut W, is_whole: bool) -> bool {
-    (!is_whole || named.gives_first()) & named.gives_rest()
+/// Whether it gives all from a place on.
+fn gives_from<W: Named>(named: &mut W, first: usize) -> bool {
+    for place in first..4_usize {
+        if !named.gives(place) {
+            return false;
+        }
+    }
+    true
 }
 
 /// Whether a copy is refused exactly where a request is, with all refused once so many were passed on.
@@ -155,9 +162,9 @@ fn is_refused_from<W: Named>(heap: &Heap, named: &W, passed: u64) -> bool {
 }
 
 /// Copies what was made with every request refused, with another request refused each time: it alone, and with all behind it. Answers
-/// how many were, if each copy was refused exactly where one was, and at last both the copy and what was copied give their names with
-/// every request refused, of which none comes.
-fn refused_in_turn<W: Named>(heap: &Heap, named: W, is_whole: bool) -> Option<u64> {
+/// how many were, if each copy was refused exactly where one was, and at last both the copy and what was copied give their names from a
+/// place on with every request refused, of which none comes.
+fn refused_in_turn<W: Named>(heap: &Heap, named: W, first: usize) -> Option<u64> {
     let mut named = named;
     let is_unasked = heap.left() == u64::MAX;
     for passed in 0..MANY {
@@ -170,8 +177,8 @@ fn refused_in_turn<W: Named>(heap: &Heap, named: W, is_whole: bool) -> Option<u6
         if let Ok(copy) = answer {
             let mut copy = copy;
             heap.refuse(0, u64::MAX);
-            let give_all = gives(&mut copy, is_whole)
-                & gives(&mut named, is_whole)
+            let give_all = gives_from(&mut copy, first)
+                & gives_from(&mut named, first)
                 & (heap.left() == u64::MAX);
             return (is_unasked & give_all).then_some(passed);
         }
@@ -179,91 +186,49 @@ fn refused_in_turn<W: Named>(heap: &Heap, named: W, is_whole: bool) -> Option<u6
     None
 }
 
-/// The same of a walk that has given the first.
-fn rest_refused_in_turn<W: Named>(heap: &Heap, named: W) -> Option<u64> {
-    let mut named = named;
-    let is_given = named.gives_first();
-    let requests = refused_in_turn(heap, named, false)?;
-    is_given.then_some(requests)
-}
-
-/// Whether a name is this one.
-fn is_name<A: Allocator>(name: Option<String<A>>, text: &str) -> bool {
-    match name {
-        Some(name) => name.as_str() == text,
-        None => false,
-    }
-}
-
-/// Whether the name of so many bits is this one.
-fn is_stored<A: Allocator>(names: &Names<A>, len: u8, text: &str) -> bool {
-    match names.get(&(0x0a01_0000, len.min(32))) {
-        Some(name) => name.as_str() == text,
-        None => false,
-    }
-}
-
-/// Whether an entry has this length and this name.
-fn is_entry<A: Allocator>(entry: Option<(Key, String<A>)>, len: u8, text: &str) -> bool {
-    match entry {
-        Some((prefix, name)) => (prefix.1 == len) & is_name(Some(name), text),
-        None => false,
-    }
-}
-
-/// What a map is turned into by value.
-trait Taken<M>: Named {
-    fn of(map: M) -> Self;
-}
-
-impl<A: Allocator + Clone> Taken<Names<A>> for Names<A> {
-    fn of(map: Names<A>) -> Self {
-        map
-    }
-}
-
-impl<A: Allocator + Clone> Taken<Names<A>> for IntoIter<Key, String<A>, A> {
-    fn of(map: Names<A>) -> Self {
-        map.into_iter()
-    }
-}
-
-impl<A: Allocator + Clone> Taken<Names<A>> for IntoKeys<Key, String<A>, A> {
-    fn of(map: Names<A>) -> Self {
-        map.into_keys()
-    }
-}
-
-impl<A: Allocator + Clone> Taken<Names<A>> for IntoValues<Key, String<A>, A> {
-    fn of(map: Names<A>) -> Self {
-        map.into_values()
-    }
-}
-
-/// Whether copies of what a map is turned into are refused as `refused_in_turn` says.
-fn copies<M: Drop, W: Taken<M>>(heap: &Heap, map: Option<M>) -> Option<u64> {
-    refused_in_turn(heap, W::of(map?), true)
+/// The same of what has all three.
+fn copies<W: Named>(heap: &Heap, named: Option<W>) -> Option<u64> {
+    refused_in_turn(heap, named?, 0)
 }
 
 /// The same of a walk that has given the first of three.
-fn copies_left<M: Drop, W: Taken<M>>(heap: &Heap, map: Option<M>) -> Option<u64> {
-    rest_refused_in_turn(heap, W::of(map?))
+fn copies_left<W: Named>(heap: &Heap, named: Option<W>) -> Option<u64> {
+    let mut named = named?;
+    let is_given = named.gives(0);
+    let requests = refused_in_turn(heap, named, 1)?;
+    is_given.then_some(requests)
+}
+
+fn items_of<A: Allocator>(names: Option<Names<A>>) -> Option<IntoIter<Key, String<A>, A>> {
+    Some(names?.into_iter())
+}
+
+fn keys_of<A: Allocator>(names: Option<Names<A>>) -> Option<IntoKeys<Key, String<A>, A>> {
+    Some(names?.into_keys())
+}
+
+fn values_of<A: Allocator>(names: Option<Names<A>>) -> Option<IntoValues<Key, String<A>, A>> {
+    Some(names?.into_values())
 }
 
 /// The part of a map behind its first name.
-fn part_of<A: Allocator>(names: Names<A>) -> IntoIter<Key, String<A>, A> {
-    names.into_children(&(0x0a01_0000, 9))
+fn part_of<A: Allocator>(names: Option<Names<A>>) -> Option<IntoIter<Key, String<A>, A>> {
+    Some(names?.into_children(&key_at(1)))
 }
 
-fn copies_of_part<A: Allocator + Clone>(heap: &Heap, names: Option<Names<A>>) -> Option<u64> {
-    refused_in_turn(heap, part_of(names?), false)
+/// The same of a part, which has all but the first.
+fn refused_part<W: Named>(heap: &Heap, named: Option<W>) -> Option<u64> {
+    refused_in_turn(heap, named?, 1)
 }
 
 /// Stores the three keys.
 fn put_keys<A: Allocator>(set: &mut PrefixSet<Key, A>) -> bool {
-    (put(set, (0x0a01_0000, 8)) == Ok(true))
-        & (put(set, (0x0a01_0000, 9)) == Ok(true))
-        & (put(set, (0x0a01_0000, 24)) == Ok(true))
+    for place in 0..3_usize {
+        if put(set, key_at(place)) != Ok(true) {
+            return false;
+        }
+    }
+    true
 }
 
 /// A new set of the three keys, with every request refused from then on.
@@ -275,22 +240,14 @@ fn keys<A: Allocator + Copy>(heap: &Heap, alloc: A) -> Option<PrefixSet<Key, A>>
     if is_filled { Some(set) } else { None }
 }
 
-impl<A: Allocator + Clone> Taken<PrefixSet<Key, A>> for PrefixSet<Key, A> {
-    fn of(map: PrefixSet<Key, A>) -> Self {
-        map
-    }
-}
-
-impl<A: Allocator + Clone> Taken<PrefixSet<Key, A>> for IntoKeys<Key, (), A> {
-    fn of(map: PrefixSet<Key, A>) -> Self {
-        map.into_iter()
-    }
+fn keys_of_set<A: Allocator>(set: Option<PrefixSet<Key, A>>) -> Option<IntoKeys<Key, (), A>> {
+    Some(set?.into_iter())
 }
 
 /// Three numbers at the same keys.
 const NUMBERS: [(Key, u16); 3] = [
-    ((0x0a01_0000, 8), 1),
-    ((0x0a01_0000, 9), 2),
+    ((0x0a00_0000, 8), 1),
+    ((0x0a00_0000, 9), 2),
     ((0x0a01_0000, 24), 3),
 ];
 
@@ -304,9 +261,12 @@ fn requests_of<A: Allocator + Clone>(numbers: &mut Numbers<A>, heap: &Heap) -> O
 }
 
 /// The same of a new map.
-fn requests_for_numbers(heap: &Heap) -> Result<Option<u64>, Refusal> {
-    let mut numbers = PrefixMap::new(heap)?;
-    Ok(requests_of::<&Heap>(&mut numbers, heap))
+fn requests_for_numbers<A: Allocator + Clone>(
+    heap: &Heap,
+    alloc: A,
+) -> Result<Option<u64>, Refusal> {
+    let mut numbers = PrefixMap::new(alloc)?;
+    Ok(requests_of::<A>(&mut numbers, heap))
 }
 
 /// Whether the copy of a map of names, and that of each walk which takes it apart, makes three requests more than that of numbers, and
@@ -321,27 +281,27 @@ fn are_requests<A: Allocator + Copy>(
     };
     let of_three = Some(numbers.wrapping_add(3));
     let of_two = Some(numbers.wrapping_add(2));
-    (copies::<_, Names<A>>(heap, filled(heap, alloc)) == of_three)
-        & (copies_of_part(heap, filled(heap, alloc)) == of_three)
-        & (copies::<_, IntoIter<Key, String<A>, A>>(heap, filled(heap, alloc)) == of_three)
-        & (copies::<_, IntoKeys<Key, String<A>, A>>(heap, filled(heap, alloc)) == of_three)
-        & (copies::<_, IntoValues<Key, String<A>, A>>(heap, filled(heap, alloc)) == of_three)
-        & (copies_left::<_, IntoIter<Key, String<A>, A>>(heap, filled(heap, alloc)) == of_two)
-        & (copies_left::<_, IntoKeys<Key, String<A>, A>>(heap, filled(heap, alloc)) == of_two)
-        & (copies_left::<_, IntoValues<Key, String<A>, A>>(heap, filled(heap, alloc)) == of_two)
+    (copies(heap, filled(heap, alloc)) == of_three)
+        & (refused_part(heap, part_of(filled(heap, alloc))) == of_three)
+        & (copies(heap, items_of(filled(heap, alloc))) == of_three)
+        & (copies(heap, keys_of(filled(heap, alloc))) == of_three)
+        & (copies(heap, values_of(filled(heap, alloc))) == of_three)
+        & (copies_left(heap, items_of(filled(heap, alloc))) == of_two)
+        & (copies_left(heap, keys_of(filled(heap, alloc))) == of_two)
+        & (copies_left(heap, values_of(filled(heap, alloc))) == of_two)
 }
 
 /// Whether the copy of a set, and that of the walk that takes it apart, makes as many requests as the other, and some.
 fn are_alike<A: Allocator + Copy>(heap: &Heap, alloc: A) -> bool {
-    let requests = copies::<_, PrefixSet<Key, A>>(heap, keys(heap, alloc));
+    let requests = copies(heap, keys(heap, alloc));
     (requests.unwrap_or(0) > 0)
-        & (copies::<_, IntoKeys<Key, (), A>>(heap, keys(heap, alloc)) == requests)
-        & (copies_left::<_, IntoKeys<Key, (), A>>(heap, keys(heap, alloc)) == requests)
+        & (copies(heap, keys_of_set(keys(heap, alloc))) == requests)
+        & (copies_left(heap, keys_of_set(keys(heap, alloc))) == requests)
 }
 
 #[test]
 fn each_request_of_a_copy_refused(rt: HostRuntime) {
     let heap = Refusing::new(rt.alloc());
-    assert!(rt; are_requests(&heap, &heap, requests_for_numbers(&heap)));
+    assert!(rt; are_requests(&heap, &heap, requests_for_numbers(&heap, &heap)));
     assert!(rt; are_alike(&heap, &heap));
 }

@@ -9,10 +9,9 @@ ghost use Rattle.prefix_trie_table.specs.Shape.{with_value_at};
 
 use crate::map::Entry;
 use crate::tests::examples::counter::count;
-use crate::tests::on_new::on_two_new;
 use crate::tests::stored::{has_values, stores};
 use crate::{Prefix, PrefixMap, Refusal, Refused};
-use std::alloc::{Allocator, Global};
+use std::alloc::Allocator;
 
 // Stores nine, whether the prefix is new or not.
 fn store_nine<P: Prefix, A: Allocator>(
@@ -191,9 +190,9 @@ fn takes_one_out<A: Allocator>(map: &mut PrefixMap<(u8, u8), u64, A>) -> bool {
 }
 
 /// Both in turn, of a new map.
-fn counts_anew(alloc: Global) -> Result<bool, Refusal> {
+fn counts_anew<A: Allocator + Clone>(alloc: A) -> Result<bool, Refusal> {
     let mut map = PrefixMap::new(alloc)?;
-    Ok(counts::<Global>(&mut map) & takes_one_out::<Global>(&mut map))
+    Ok(counts::<A>(&mut map) & takes_one_out::<A>(&mut map))
 }
 
 #[test]
@@ -201,24 +200,24 @@ fn entries_are_counted(rt: HostRuntime) {
     assert!(rt; counts_anew(rt.alloc()) == Ok(true));
 }
 
-type Numbers = PrefixMap<(u16, u8), u64, Global>;
+type Numbers<A> = PrefixMap<(u16, u8), u64, A>;
 
 /// Whether a stored number of one map takes the place of that in another.
-fn is_put(from: &mut Numbers, to: &mut Numbers, _alloc: Global) -> bool {
+fn is_put<A: Allocator>(from: &mut Numbers<A>, to: &mut Numbers<A>) -> bool {
     stores(from, &[((0x0a00, 8), 9)])
         & stores(to, &[((0x0a00, 8), 1)])
         & fill_from(to, from).is_ok()
         & has_values(to, &[9])
 }
 
+/// The same of new maps.
+fn is_put_anew<A: Allocator + Copy>(alloc: A) -> Result<bool, Refusal> {
+    let mut from = PrefixMap::new(alloc)?;
+    let mut to = PrefixMap::new(alloc)?;
+    Ok(is_put::<A>(&mut from, &mut to))
+}
+
 #[test]
 fn entries_of_another_map_are_put(rt: HostRuntime) {
-    assert!(rt;
-        on_two_new(
-            PrefixMap::new(rt.alloc()),
-            PrefixMap::new(rt.alloc()),
-            rt.alloc(),
-            is_put
-        ) == Ok(true)
-    );
+    assert!(rt; is_put_anew(rt.alloc()) == Ok(true));
 }

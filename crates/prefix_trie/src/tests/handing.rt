@@ -51,9 +51,13 @@ fn put_six<'a, A: Allocator>(map: &mut Map<'a, A>, drops: &'a Cell<u64>) -> bool
 }
 
 /// A map of them.
-fn six<'a>(heap: &'a Heap, drops: &'a Cell<u64>) -> Option<Map<'a, &'a Heap>> {
+fn six<'a, A: Allocator + Clone>(
+    heap: &Heap,
+    alloc: A,
+    drops: &'a Cell<u64>,
+) -> Option<Map<'a, A>> {
     heap.refuse(0, 0);
-    let mut map = PrefixMap::new(heap).ok()?;
+    let mut map = PrefixMap::new(alloc).ok()?;
     let is_filled = put_six(&mut map, drops);
     if is_filled { Some(map) } else { None }
 }
@@ -106,11 +110,16 @@ fn is_split<A: Allocator + Clone>(map: &mut Map<'_, A>, drops: &Cell<u64>) -> Op
 
 /// Splits a new map, with so many requests passed on and so many behind them refused. Answers whether one was, if the split is granted
 /// where none was.
-fn is_split_anew(heap: &Heap, passed: u64, refused: u64) -> Option<bool> {
+fn is_split_anew<A: Allocator + Clone>(
+    heap: &Heap,
+    alloc: A,
+    passed: u64,
+    refused: u64,
+) -> Option<bool> {
     let drops = Cell::new(0);
-    let mut map = six(heap, &drops)?;
+    let mut map = six(heap, alloc, &drops)?;
     heap.refuse(passed, refused);
-    let is_granted = is_split::<&Heap>(&mut map, &drops)?;
+    let is_granted = is_split::<A>(&mut map, &drops)?;
     let is_refused = heap.left() != refused;
     let is_stored_alike = map.cell_slots() == 15;
     let_go(map);
@@ -120,9 +129,9 @@ fn is_split_anew(heap: &Heap, passed: u64, refused: u64) -> Option<bool> {
 
 /// Splits new maps, with another request refused each time, and as many behind it as are to be refused. Answers how many were, until at
 /// last none is.
-fn refused_in_turn(heap: &Heap, refused: u64) -> Option<u64> {
+fn refused_in_turn<A: Allocator + Copy>(heap: &Heap, alloc: A, refused: u64) -> Option<u64> {
     for passed in 0..MANY {
-        if !is_split_anew(heap, passed, refused)? {
+        if !is_split_anew(heap, alloc, passed, refused)? {
             return Some(passed);
         }
     }
@@ -132,8 +141,8 @@ fn refused_in_turn(heap: &Heap, refused: u64) -> Option<u64> {
 #[test]
 fn a_split_is_whole_or_refused(rt: HostRuntime) {
     let heap = Refusing::new(rt.alloc());
-    assert!(rt; refused_in_turn(&heap, 1) > Some(0));
-    assert!(rt; refused_in_turn(&heap, u64::MAX) > Some(0));
+    assert!(rt; refused_in_turn(&heap, &heap, 1) > Some(0));
+    assert!(rt; refused_in_turn(&heap, &heap, u64::MAX) > Some(0));
 }
 
 /// Hosts of one network.
@@ -182,10 +191,10 @@ fn hands_out_hosts<A: Allocator + Clone>(heap: &Heap, set: &mut PrefixSet<(u32, 
 }
 
 /// The same of a new set.
-fn hands_out_hosts_anew(heap: &Heap) -> Result<bool, Refusal> {
+fn hands_out_hosts_anew<A: Allocator + Clone>(heap: &Heap, alloc: A) -> Result<bool, Refusal> {
     heap.refuse(0, 0);
-    let mut set = PrefixSet::new(heap)?;
-    Ok(hands_out_hosts::<&Heap>(heap, &mut set))
+    let mut set = PrefixSet::new(alloc)?;
+    Ok(hands_out_hosts::<A>(heap, &mut set))
 }
 
 /// Whether a map of the six is split and merged again.
@@ -195,16 +204,16 @@ fn is_merged_again<A: Allocator + Clone>(map: &mut Map<'_, A>) -> bool {
 }
 
 /// The same of a new map.
-fn is_merged_again_anew(heap: &Heap) -> Option<bool> {
+fn is_merged_again_anew<A: Allocator + Clone>(heap: &Heap, alloc: A) -> Option<bool> {
     let drops = Cell::new(0);
-    let mut map = six(heap, &drops)?;
-    Some(is_merged_again::<&Heap>(&mut map))
+    let mut map = six(heap, alloc, &drops)?;
+    Some(is_merged_again::<A>(&mut map))
 }
 
 // A body that always answers that there is no memory fails it: handing_out_always_out_of_memory.
 #[test]
 fn with_memory_a_split_is_granted(rt: HostRuntime) {
     let heap = Refusing::new(rt.alloc());
-    assert!(rt; hands_out_hosts_anew(&heap) == Ok(true));
-    assert!(rt; is_merged_again_anew(&heap) == Some(true));
+    assert!(rt; hands_out_hosts_anew(&heap, &heap) == Ok(true));
+    assert!(rt; is_merged_again_anew(&heap, &heap) == Some(true));
 }

@@ -3,7 +3,7 @@
 use crate::tests::examples::expiry::keep_from;
 use crate::tests::stored::{has_keys, stores};
 use crate::{PrefixMap, Refusal};
-use std::alloc::{Allocator, Global};
+use std::alloc::Allocator;
 
 /// Four numbers, of which two are below three.
 const FOUR: [((u8, u8), u64); 4] = [
@@ -21,9 +21,9 @@ fn keeps_two<A: Allocator>(map: &mut PrefixMap<(u8, u8), u64, A>) -> bool {
 }
 
 /// The same of a new map.
-fn keeps_two_anew(alloc: Global) -> Result<bool, Refusal> {
+fn keeps_two_anew<A: Allocator + Clone>(alloc: A) -> Result<bool, Refusal> {
     let mut map = PrefixMap::new(alloc)?;
-    Ok(keeps_two::<Global>(&mut map))
+    Ok(keeps_two::<A>(&mut map))
 }
 
 #[test]

@@ -129,18 +129,26 @@ fn run_refused<A: Allocator + Clone>(
 }
 
 /// The same of a new map.
-fn run_once(heap: &Refusing<Global>, requests: (u64, u64)) -> Result<Option<usize>, Refusal> {
+fn run_once<A: Allocator + Copy>(
+    heap: &Refusing<Global>,
+    alloc: A,
+    requests: (u64, u64),
+) -> Result<Option<usize>, Refusal> {
     heap.refuse(0, 0);
-    let mut map = PrefixMap::new(heap)?;
-    Ok(run_refused::<&Refusing<Global>>(heap, heap, &mut map, requests))
+    let mut map = PrefixMap::new(alloc)?;
+    Ok(run_refused::<A>(heap, alloc, &mut map, requests))
 }
 
 /// Whether the requests refused in turn, so many each time, are that for the replies, which comes first, one or more of each list and of
 /// the insertion, and none.
-fn are_refused_in_turn(heap: &Refusing<Global>, refused: u64) -> Result<bool, Refusal> {
+fn are_refused_in_turn<A: Allocator + Copy>(
+    heap: &Refusing<Global>,
+    alloc: A,
+    refused: u64,
+) -> Result<bool, Refusal> {
     let mut last = 0;
     for passed in 0..MANY {
-        let Some(part) = run_once(heap, (passed, refused))? else {
+        let Some(part) = run_once(heap, alloc, (passed, refused))? else {
             return Ok(false);
         };
         if heap.left() == refused {
@@ -157,8 +165,8 @@ fn are_refused_in_turn(heap: &Refusing<Global>, refused: u64) -> Result<bool, Re
 #[test]
 fn each_request_of_a_run_refused(rt: HostRuntime) {
     let heap = Refusing::new(rt.alloc());
-    assert!(rt; are_refused_in_turn(&heap, 1) == Ok(true));
-    assert!(rt; are_refused_in_turn(&heap, u64::MAX) == Ok(true));
+    assert!(rt; are_refused_in_turn(&heap, &heap, 1) == Ok(true));
+    assert!(rt; are_refused_in_turn(&heap, &heap, u64::MAX) == Ok(true));
 }
 
 /// How many nodes there are once a key of 24 bits is stored, is taken out alone, and with its nodes; once keys of 8, 16 and 7 bits are

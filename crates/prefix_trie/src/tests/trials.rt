@@ -1,14 +1,15 @@
 //! Tables of cases, run on maps and on sets: with each request for memory refused in turn, or with every one refused.
-use crate::tests::cases::{self, Case, keys};
+use crate::tests::cases::Case;
+use crate::tests::cases::tried::{Tried, first_wrong};
 use crate::tests::refusing::Refusing;
-use crate::{Ipv4Prefix, Prefix, PrefixMap, PrefixSet, Refusal};
+use crate::{Ipv4Prefix, Key, Prefix, PrefixMap, PrefixSet, Refusal};
 use std::alloc::{Allocator, Global};
 
 /// More requests than one table makes.
 const MANY: u64 = 1_000;
 
 /// Cases in two parts, the first with ample memory.
-pub type Table<'a, K> = (&'a [Case<K>], &'a [Case<K>]);
+pub type Table<'a, K> = (&'a [Case<'a, K>], &'a [Case<'a, K>]);
 
 /// Which requests of a table's second part are refused.
 #[derive(Clone, Copy)]
@@ -40,77 +41,8 @@ impl From<Refusal> for Wrong {
     }
 }
 
-/// What tables are run on: maps and sets.
-trait Tried<K: 'static, A: Allocator + Copy>: Drop {
-    /// A new one.
-    fn anew(alloc: A) -> Result<Self, Refusal>;
-
-    /// Whether a case holds of it, beside another.
-    fn holds(
-        &mut self,
-        other: &mut Self,
-        heap: &Refusing<Global>,
-        alloc: A,
-        case: &Case<K>,
-    ) -> bool;
-}
-
-impl<P: Prefix + Copy + PartialEq, A: Allocator + Copy> Tried<P::R, A> for PrefixMap<P, u64, A>
-where
-    P::R: 'static,
-{
-    fn anew(alloc: A) -> Result<Self, Refusal> {
-        PrefixMap::new(alloc)
-    }
-
-    fn holds(
-        &mut self,
-        other: &mut Self,
-        heap: &Refusing<Global>,
-        alloc: A,
-        case: &Case<P::R>,
-    ) -> bool {
-        cases::holds(heap, alloc, self, other, case)
-    }
-}
-
-impl<P: Prefix + Copy + PartialEq, A: Allocator + Copy> Tried<P::R, A> for PrefixSet<P, A>
-where
-    P::R: 'static,
-{
-    fn anew(alloc: A) -> Result<Self, Refusal> {
-        PrefixSet::new(alloc)
-    }
-
-    fn holds(
-        &mut self,
-        other: &mut Self,
-        heap: &Refusing<Global>,
-        alloc: A,
-        case: &Case<P::R>,
-    ) -> bool {
-        keys::holds(heap, alloc, self, other, case)
-    }
-}
-
-/// The first case that does not hold.
-fn first_wrong<K: 'static, A: Allocator + Copy, M: Tried<K, A>>(
-    heap: &Refusing<Global>,
-    alloc: A,
-    tried: &mut M,
-    other: &mut M,
-    cases: &[Case<K>],
-) -> Option<usize> {
-    for (index, case) in cases.iter().enumerate() {
-        if !tried.holds(other, heap, alloc, case) {
-            return Some(index);
-        }
-    }
-    None
-}
-
 /// Runs both parts of a table, the first with ample memory.
-fn plays<K: 'static, A: Allocator + Copy, M: Tried<K, A>>(
+fn plays<K: Key, A: Allocator + Copy, M: Tried<K, A>>(
     heap: &Refusing<Global>,
     alloc: A,
     tried: &mut M,
@@ -130,31 +62,31 @@ fn plays<K: 'static, A: Allocator + Copy, M: Tried<K, A>>(
 }
 
 /// The same of one, and of a new one beside it.
-fn plays_beside<K: 'static, A: Allocator + Copy, M: Tried<K, A>>(
+fn plays_beside<K: Key, A: Allocator + Copy, M: Tried<K, A>>(
     heap: &Refusing<Global>,
     alloc: A,
     tried: &mut M,
     table: &Table<'_, K>,
     requests: (u64, u64),
 ) -> Result<(), Wrong> {
-    let mut other = M::anew(alloc)?;
+    let mut other = M::made(alloc, None)?;
     plays::<K, A, M>(heap, alloc, tried, &mut other, table, requests)
 }
 
 /// The same of two new ones.
-fn plays_anew<K: 'static, A: Allocator + Copy, M: Tried<K, A>>(
+fn plays_anew<K: Key, A: Allocator + Copy, M: Tried<K, A>>(
     heap: &Refusing<Global>,
     alloc: A,
     table: &Table<'_, K>,
     requests: (u64, u64),
 ) -> Result<(), Wrong> {
     heap.refuse(0, 0);
-    let mut tried = M::anew(alloc)?;
+    let mut tried = M::made(alloc, None)?;
     plays_beside::<K, A, M>(heap, alloc, &mut tried, table, requests)
 }
 
 /// Runs a table time and again, with so many requests of its second part refused from another one on each time, and at last with none.
-fn in_turn<K: 'static, A: Allocator + Copy, M: Tried<K, A>>(
+fn in_turn<K: Key, A: Allocator + Copy, M: Tried<K, A>>(
     heap: &Refusing<Global>,
     alloc: A,
     table: &Table<'_, K>,
@@ -174,7 +106,7 @@ fn in_turn<K: 'static, A: Allocator + Copy, M: Tried<K, A>>(
 }
 
 /// Runs a table with each request of its second part refused in turn: it alone, and with all behind it.
-fn both_in_turn<K: 'static, A: Allocator + Copy, M: Tried<K, A>>(
+fn both_in_turn<K: Key, A: Allocator + Copy, M: Tried<K, A>>(
     heap: &Refusing<Global>,
     alloc: A,
     table: &Table<'_, K>,
@@ -184,7 +116,7 @@ fn both_in_turn<K: 'static, A: Allocator + Copy, M: Tried<K, A>>(
 }
 
 /// Runs a table with every request of its second part refused, where none comes. Those of the first are refused in turn before.
-fn starved<K: 'static, A: Allocator + Copy, M: Tried<K, A>>(
+fn starved<K: Key, A: Allocator + Copy, M: Tried<K, A>>(
     heap: &Refusing<Global>,
     alloc: A,
     table: &Table<'_, K>,
@@ -199,7 +131,7 @@ fn starved<K: 'static, A: Allocator + Copy, M: Tried<K, A>>(
 }
 
 /// Runs a table with requests refused so.
-fn runs<K: 'static, A: Allocator + Copy, M: Tried<K, A>>(
+fn runs<K: Key, A: Allocator + Copy, M: Tried<K, A>>(
     heap: &Refusing<Global>,
     alloc: A,
     table: &Table<'_, K>,
@@ -218,10 +150,7 @@ fn runs_on_maps<P: Prefix + Copy + PartialEq, A: Allocator + Copy>(
     alloc: A,
     table: &Table<'_, P::R>,
     how: How,
-) -> Result<(), Wrong>
-where
-    P::R: 'static,
-{
+) -> Result<(), Wrong> {
     runs::<P::R, A, PrefixMap<P, u64, A>>(heap, alloc, table, how)
 }
 
@@ -231,10 +160,7 @@ fn runs_on_sets<P: Prefix + Copy + PartialEq, A: Allocator + Copy>(
     alloc: A,
     table: &Table<'_, P::R>,
     how: How,
-) -> Result<(), Wrong>
-where
-    P::R: 'static,
-{
+) -> Result<(), Wrong> {
     runs::<P::R, A, PrefixSet<P, A>>(heap, alloc, table, how)
 }
 
@@ -243,10 +169,7 @@ pub fn on_maps<P: Prefix + Copy + PartialEq>(
     heap: &Refusing<Global>,
     table: &Table<'_, P::R>,
     how: How,
-) -> Result<(), Wrong>
-where
-    P::R: 'static,
-{
+) -> Result<(), Wrong> {
     runs_on_maps::<P, &Refusing<Global>>(heap, heap, table, how)
 }
 
@@ -255,10 +178,7 @@ pub fn on_both<P: Prefix + Copy + PartialEq>(
     heap: &Refusing<Global>,
     table: &Table<'_, P::R>,
     how: How,
-) -> Result<(), Wrong>
-where
-    P::R: 'static,
-{
+) -> Result<(), Wrong> {
     on_maps::<P>(heap, table, how)?;
     runs_on_sets::<P, &Refusing<Global>>(heap, heap, table, how)
 }

@@ -1,15 +1,15 @@
 //! Cases of entries: what fills one, changes one and takes one out.
 use crate::map::Entry;
-use crate::tests::cases::changes::is_as;
-use crate::tests::cases::lists::entries_of;
-use crate::tests::cases::{Entry as Stored, Pair, prefix_of};
-use crate::tests::refusing::Refusing;
+use crate::tests::cases::changes::put_in;
+use crate::tests::cases::tried::Answer;
+use crate::tests::cases::{Pair, prefix_of};
 use crate::{Prefix, PrefixMap, Refusal, Refused};
-use std::alloc::{AllocError, Allocator, Global};
+use std::alloc::Allocator;
 
-/// The calls that fill an entry: of `Entry`, and of `VacantEntry`.
+/// The calls that store a value: of a map, of `Entry`, and of `VacantEntry`.
 #[derive(Clone, Copy)]
 pub enum Fill {
+    Map,
     Put,
     OrInsert,
     OrInsertWith,
@@ -19,26 +19,37 @@ pub enum Fill {
     Default,
 }
 
-/// The value that is lent, or why the call was refused and the value that was handed in; and how often the closure was called.
-type Filled = (Result<u64, (Refusal, u64)>, u64);
+/// An answer that no table has.
+const WRONG: Answer = Ok(Some(u64::MAX));
+
+/// What a lent value tells of the one that was there: none if it is the one that was handed in.
+fn before(lent: u64, value: u64) -> Option<u64> {
+    (lent != value).then_some(lent)
+}
 
 /// A lent value, or a refusal that hands the value back.
-fn handed(answer: Result<&mut u64, Refused<u64>>) -> Filled {
+fn handed(answer: Result<&mut u64, Refused<u64>>, value: u64) -> Answer {
     match answer {
-        Ok(value) => (Ok(*value), 0),
-        Err(refused) => (Err((refused.cause, refused.value)), 0),
+        Ok(lent) => Ok(before(*lent, value)),
+        Err(refused) => Err(refused),
     }
 }
 
-/// A lent value that was made so often, or a refusal.
-fn made(answer: Result<&mut u64, Refusal>, value: u64, calls: u64) -> Filled {
+/// A lent value that was made by the call, or a refusal.
+fn made(answer: Result<&mut u64, Refusal>, value: u64) -> Answer {
     match answer {
-        Ok(value) => (Ok(*value), calls),
-        Err(cause) => (Err((cause, value)), calls),
+        Ok(lent) => Ok(before(*lent, value)),
+        Err(cause) => Err(Refused { cause, value }),
     }
 }
 
-/// The entry of a prefix. It has no clause: those of `entry` would be checked again at each call.
+/// The answer of a call whose closure was called so often, which is right once where the value is stored, and else never.
+fn called(answer: Answer, calls: u64) -> Answer {
+    let wanted = u64::from(answer == Ok(None));
+    if calls == wanted { answer } else { WRONG }
+}
+
+/// The entry of a prefix. It has no `ensures`: those of `entry` would be checked again at each call.
 fn entry_at<P: Prefix, A: Allocator>(
     map: &mut PrefixMap<P, u64, A>,
     at: Pair<P::R>,
@@ -46,36 +57,24 @@ fn entry_at<P: Prefix, A: Allocator>(
     map.entry(prefix_of(at))
 }
 
-/// The value that `put` handed in, where the entry was vacant, or a refusal that hands it back.
-fn put<P: Prefix, A: Allocator>(
-    map: &mut PrefixMap<P, u64, A>,
-    at: Pair<P::R>,
-    value: u64,
-) -> Filled {
-    match entry_at(map, at).put(value).answer() {
-        Ok(before) => (Ok(before.unwrap_or(value)), 0),
-        Err(refused) => (Err((refused.cause, refused.value)), 0),
-    }
-}
-
 fn or_insert_with<P: Prefix, A: Allocator>(
     map: &mut PrefixMap<P, u64, A>,
     at: Pair<P::R>,
     value: u64,
-) -> Filled {
+) -> Answer {
     let mut calls = 0_u64;
     let answer = entry_at(map, at).or_insert_with(|| {
         calls = calls.saturating_add(1);
         value
     });
-    made(answer, value, calls)
+    called(made(answer, value), calls)
 }
 
 fn insert_with<P: Prefix, A: Allocator>(
     map: &mut PrefixMap<P, u64, A>,
     at: Pair<P::R>,
     value: u64,
-) -> Filled {
+) -> Answer {
     match entry_at(map, at) {
         Entry::Vacant(entry) => {
             let mut calls = 0_u64;
@@ -83,83 +82,41 @@ fn insert_with<P: Prefix, A: Allocator>(
                 calls = calls.saturating_add(1);
                 value
             });
-            made(answer, value, calls)
+            called(made(answer, value), calls)
         }
-        Entry::Occupied(_) => (Ok(value), 9),
+        Entry::Occupied(_) => WRONG,
     }
 }
 
+/// The calls of a vacant entry that take no closure.
 fn filled_vacant<P: Prefix, A: Allocator>(
     map: &mut PrefixMap<P, u64, A>,
     fill: Fill,
     at: Pair<P::R>,
     value: u64,
-) -> Filled {
+) -> Answer {
     match (entry_at(map, at), fill) {
-        (Entry::Vacant(entry), Fill::Insert) => handed(entry.insert(value)),
-        (Entry::Vacant(entry), _) => made(entry.default(), value, 0),
-        (Entry::Occupied(_), _) => (Ok(value), 9),
+        (Entry::Vacant(entry), Fill::Insert) => handed(entry.insert(value), value),
+        (Entry::Vacant(entry), _) => made(entry.default(), value),
+        (Entry::Occupied(_), _) => WRONG,
     }
 }
 
-fn filled<P: Prefix, A: Allocator>(
+/// Stores a value by a call.
+pub fn filled<P: Prefix, A: Allocator>(
     map: &mut PrefixMap<P, u64, A>,
     fill: Fill,
     at: Pair<P::R>,
     value: u64,
-) -> Filled {
+) -> Answer {
     match fill {
-        Fill::Put => put(map, at, value),
-        Fill::OrInsert => handed(entry_at(map, at).or_insert(value)),
+        Fill::Map => put_in(map, at, value),
+        Fill::Put => entry_at(map, at).put(value).answer(),
+        Fill::OrInsert => handed(entry_at(map, at).or_insert(value), value),
         Fill::OrInsertWith => or_insert_with(map, at, value),
-        Fill::OrDefault => made(entry_at(map, at).or_default(), value, 0),
+        Fill::OrDefault => made(entry_at(map, at).or_default(), value),
         Fill::InsertWith => insert_with(map, at, value),
         _ => filled_vacant(map, fill, at, value),
-    }
-}
-
-/// How often a call asks its closure for the value.
-fn calls_of(fill: Fill) -> u64 {
-    match fill {
-        Fill::OrInsertWith | Fill::InsertWith => 1,
-        _ => 0,
-    }
-}
-
-/// Fills a vacant entry of a map of old entries and nodes, as `fills` does.
-fn fills_in<P: Prefix + Copy, A: Allocator>(
-    heap: &Refusing<Global>,
-    map: &mut PrefixMap<P, u64, A>,
-    old: (&[Stored<P::R>], usize),
-    fill: Fill,
-    added: Stored<P::R>,
-) -> bool {
-    let (at, value) = added;
-    let left = heap.left();
-    let answer = filled(map, fill, at, value);
-    if heap.left() == left {
-        return answer == (Ok(value), calls_of(fill));
-    }
-    let is_unchanged = is_as(map, old);
-    heap.refuse(0, 0);
-    is_unchanged
-        & (answer == (Err((Refusal::Memory, value)), 0))
-        & (filled(map, fill, at, value) == (Ok(value), calls_of(fill)))
-}
-
-/// Fills a vacant entry, and once more where a request was refused: then no closure was called, the value came back, and the map
-/// has the entries and the nodes that it had.
-pub fn fills<P: Prefix + Copy, A: Allocator>(
-    heap: &Refusing<Global>,
-    map: &mut PrefixMap<P, u64, A>,
-    fill: Fill,
-    at: Pair<P::R>,
-    value: u64,
-) -> bool {
-    let nodes = map.node_count();
-    match entries_of(heap.inner(), map) {
-        Ok(old) => fills_in(heap, map, (&old, nodes), fill, (at, value)),
-        Err(AllocError) => false,
     }
 }
 
@@ -208,22 +165,19 @@ pub fn changes<P: Prefix, A: Allocator>(
 ) -> bool {
     let more = before.saturating_add(1);
     (reads(map, at) == Some(before))
-        & (adds_one(map, at) == (Ok(more), 0))
-        & (put(map, at, before) == (Ok(more), 0))
-        & (filled(map, Fill::OrInsert, at, value) == (Ok(before), 0))
-        & (filled(map, Fill::OrInsertWith, at, value) == (Ok(before), 0))
-        & (filled(map, Fill::OrDefault, at, value) == (Ok(before), 0))
+        & (adds_one(map, at) == Ok(Some(more)))
+        & (filled(map, Fill::Put, at, before) == Ok(Some(more)))
+        & (filled(map, Fill::OrInsert, at, value) == Ok(Some(before)))
+        & (filled(map, Fill::OrInsertWith, at, value) == Ok(Some(before)))
+        & (filled(map, Fill::OrDefault, at, value) == Ok(Some(before)))
         & (sets(map, at, value) == Some(before))
         & (writes_in(map, at) == Some(value))
 }
 
 /// Adds one by `and_modify`, which finds the entry filled.
-fn adds_one<P: Prefix, A: Allocator>(map: &mut PrefixMap<P, u64, A>, at: Pair<P::R>) -> Filled {
-    handed(
-        entry_at(map, at)
-            .and_modify(|n| *n = n.saturating_add(1))
-            .or_insert(0),
-    )
+fn adds_one<P: Prefix, A: Allocator>(map: &mut PrefixMap<P, u64, A>, at: Pair<P::R>) -> Answer {
+    let entry = entry_at(map, at).and_modify(|n| *n = n.saturating_add(1));
+    handed(entry.or_insert(0), 0)
 }
 
 /// Reads a stored value by each call of its entry that reads, if it has its prefix without host bits. The entry is released.

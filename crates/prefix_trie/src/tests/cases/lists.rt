@@ -1,5 +1,5 @@
 //! Cases that ask for all entries of a map, and for those around a prefix.
-use crate::map::{Iter, Keys, Values};
+use crate::map::{Iter, IterMut, Keys, Values};
 use crate::tests::cases::questions::{found_pair, pair_in, pair_of, shown, value_in};
 use crate::tests::cases::{Entry, Pair, prefix_of};
 use crate::{Key, Prefix, PrefixMap};
@@ -71,7 +71,7 @@ fn give_all<P: Prefix + Copy, A: Allocator>(
 }
 
 /// Whether three walks are at these entries, and clones of them give the same behind the first as they do.
-fn give_twice<P: Prefix + Copy, A: Allocator>(
+pub fn gives_twice<P: Prefix + Copy, A: Allocator>(
     mut items: Iter<'_, P, u64, A>,
     mut keys: Keys<'_, P, u64, A>,
     mut values: Values<'_, P, u64, A>,
@@ -89,8 +89,8 @@ fn give_twice<P: Prefix + Copy, A: Allocator>(
         & give_all(items, keys, values, rest)
 }
 
-/// The first bits of a number.
-fn kept<K: Key>(number: K, len: u8) -> K {
+/// The first bits of a number, with all others cleared.
+pub fn kept<K: Key>(number: K, len: u8) -> K {
     let _ = number.is_key();
     number.keep(u32::from(len).min(K::width()))
 }
@@ -109,7 +109,7 @@ pub fn below<K: Key>(entries: &[Entry<K>]) -> &[Entry<K>] {
 }
 
 /// Whether the walks from a prefix on, behind it and below it give these entries, which begin with its own.
-fn gives_from<P: Prefix + Copy, A: Allocator>(
+pub fn gives_from<P: Prefix + Copy, A: Allocator>(
     map: &PrefixMap<P, u64, A>,
     at: Pair<P::R>,
     entries: &[Entry<P::R>],
@@ -123,28 +123,57 @@ fn gives_from<P: Prefix + Copy, A: Allocator>(
         & gives(map.children(&prefix), below(entries))
 }
 
-/// The same of each entry.
-fn gives_from_each<P: Prefix + Copy, A: Allocator>(
-    map: &PrefixMap<P, u64, A>,
+/// Whether a walk that lends values lends those of these entries.
+fn lends<'b, 'm, P: Prefix, A: Allocator>(
+    walk: &'b mut IterMut<'m, P, u64, A>,
     entries: &[Entry<P::R>],
 ) -> bool {
-    for (index, entry) in entries.iter().enumerate() {
-        if !gives_from(map, entry.0, entries.get(index..).unwrap_or(&[])) {
+    for (_, value) in entries {
+        let Some(lent) = walk.next_value() else {
+            return false;
+        };
+        if *lent != *value {
             return false;
         }
     }
-    true
+    walk.next_value().is_none()
 }
 
-/// Whether there are these entries, and all walks give them.
-pub fn lists<P: Prefix + Copy, A: Allocator>(
-    map: &PrefixMap<P, u64, A>,
+/// Whether the walk that lends values from a prefix on, or behind it, lends those.
+fn lends_on<P: Prefix, A: Allocator>(
+    map: &mut PrefixMap<P, u64, A>,
+    prefix: &P,
+    inclusive: bool,
+    entries: &[Entry<P::R>],
+) -> bool
+    requires { P.IsFitting prefix.now }
+{
+    let mut walk = map.iter_from_mut(prefix, inclusive);
+    lends(&mut walk, entries)
+}
+
+/// Whether the one below it does.
+fn lends_below<P: Prefix, A: Allocator>(
+    map: &mut PrefixMap<P, u64, A>,
+    prefix: &P,
+    entries: &[Entry<P::R>],
+) -> bool
+    requires { P.IsFitting prefix.now }
+{
+    let mut walk = map.children_mut(prefix);
+    lends(&mut walk, entries)
+}
+
+/// Whether the walks that lend values from a prefix on, behind it and below it lend those of these entries, which begin with its own.
+pub fn lends_from<P: Prefix, A: Allocator>(
+    map: &mut PrefixMap<P, u64, A>,
+    at: Pair<P::R>,
     entries: &[Entry<P::R>],
 ) -> bool {
-    (map.len() == entries.len())
-        & gives(map.into_iter(), entries)
-        & give_twice(map.iter(), map.keys(), map.values(), entries)
-        & gives_from_each(map, entries)
+    let prefix = prefix_of(at);
+    lends_on(map, &prefix, true, entries)
+        & lends_on(map, &prefix, false, entries.get(1..).unwrap_or(&[]))
+        & lends_below(map, &prefix, below(entries))
 }
 
 /// Whether the walks around a prefix give these entries.

@@ -1,7 +1,6 @@
 //! Cases that ask a map for a prefix, and for its counts.
 ghost use Rattle.std.specs.Prelude.{◌≡◌, All, length};
 
-use crate::tests::cases::lists::gives_same;
 use crate::tests::cases::{Entry, Pair, prefix_of};
 use crate::tests::refusing::Refusing;
 use crate::{BlockCount, Prefix, PrefixMap};
@@ -118,14 +117,11 @@ fn has_longest_in_bulk<P: Prefix + Copy, A: Allocator>(
 {
     let mut found = Vec::new(alloc);
     found.push(None)?;
-    let mut counted = Vec::new(alloc);
-    counted.push(None)?;
     map.get_lpm_bulk(asked, &mut found);
-    map.get_lpm_bulk_counted(asked, &mut counted);
-    Ok(
-        is_found(found.first().copied().flatten(), longest)
-            & is_found(counted.first().copied().flatten(), longest),
-    )
+    let first = shown(found.first().copied().flatten());
+    found[0] = None;
+    map.get_lpm_bulk_counted(asked, &mut found);
+    Ok((first == longest) & is_found(found.first().copied().flatten(), longest))
 }
 
 /// Whether those of their values do.
@@ -140,25 +136,24 @@ fn has_value_in_bulk<P: Prefix + Copy, A: Allocator>(
 {
     let mut found = Vec::new(alloc);
     found.push(None)?;
-    let mut counted = Vec::new(alloc);
-    counted.push(None)?;
     map.get_lpm_value_bulk(asked, &mut found);
-    map.get_lpm_value_bulk_counted(asked, &mut counted);
-    Ok(
-        is_found_value(found.first().copied().flatten(), value)
-            & is_found_value(counted.first().copied().flatten(), value),
-    )
+    let first = found.first().copied().flatten().copied();
+    found[0] = None;
+    map.get_lpm_value_bulk_counted(asked, &mut found);
+    Ok((first == value) & is_found_value(found.first().copied().flatten(), value))
 }
 
 /// Whether the lookups of many longest matches answer so for this prefix alone. What they are handed stands in memory of its own.
-pub fn finds_in_bulk<P: Prefix + Copy, A: Allocator>(
+fn has_in_bulk<P: Prefix + Copy, A: Allocator>(
     alloc: Global,
     map: &PrefixMap<P, u64, A>,
-    at: Pair<P::R>,
+    prefix: P,
     longest: Option<Entry<P::R>>,
-) -> Result<bool, AllocError> {
+) -> Result<bool, AllocError>
+    requires { P.IsFitting prefix }
+{
     let mut asked = Vec::new(alloc);
-    asked.push(prefix_of(at))?;
+    asked.push(prefix)?;
     let has_entry = has_longest_in_bulk(alloc, map, &asked, longest)?;
     Ok(has_entry & has_value_in_bulk(alloc, map, &asked, value_in(longest))?)
 }
@@ -192,6 +187,7 @@ fn has_shortest_prefix<P: Prefix + Copy, A: Allocator>(
 
 /// Whether all lookups of a prefix answer so.
 pub fn finds<P: Prefix + Copy, A: Allocator>(
+    alloc: Global,
     map: &PrefixMap<P, u64, A>,
     at: Pair<P::R>,
     exact: Option<Entry<P::R>>,
@@ -201,19 +197,8 @@ pub fn finds<P: Prefix + Copy, A: Allocator>(
     let prefix = prefix_of(at);
     has(map, &prefix, exact)
         & has_longest(map, &prefix, longest)
+        & (has_in_bulk(alloc, map, prefix, longest) == Ok(true))
         & has_shortest(map, &prefix, shortest)
-}
-
-pub fn has_len<P: Prefix + Copy, A: Allocator>(map: &PrefixMap<P, u64, A>, len: usize) -> bool {
-    (map.len(), map.is_empty()) == (len, len == 0)
-}
-
-pub fn has_slots<P: Prefix + Copy, A: Allocator>(
-    map: &PrefixMap<P, u64, A>,
-    nodes: usize,
-    cells: usize,
-) -> bool {
-    (map.node_slots(), map.cell_slots()) == (nodes, cells)
 }
 
 /// How many slots blocks have.
@@ -242,7 +227,7 @@ fn has_blocks(counts: &[BlockCount], wanted: BlockCount) -> bool {
     false
 }
 
-pub fn has_nodes<P: Prefix + Copy, A: Allocator>(
+pub fn has_nodes<P: Prefix, A: Allocator>(
     map: &PrefixMap<P, u64, A>,
     size: usize,
     used: usize,
@@ -251,23 +236,11 @@ pub fn has_nodes<P: Prefix + Copy, A: Allocator>(
     has_blocks(&map.node_blocks(), BlockCount { size, used, free })
 }
 
-pub fn has_cells<P: Prefix + Copy, A: Allocator>(
+pub fn has_cells<P: Prefix, A: Allocator>(
     map: &PrefixMap<P, u64, A>,
     size: usize,
     used: usize,
     free: usize,
 ) -> bool {
     has_blocks(&map.cell_blocks(), BlockCount { size, used, free })
-}
-
-/// Whether two maps have the same entries, nodes and blocks.
-pub fn is_same<P: Prefix + Copy + PartialEq, A: Allocator>(
-    map: &PrefixMap<P, u64, A>,
-    copy: &PrefixMap<P, u64, A>,
-) -> bool {
-    (*map == *copy)
-        & gives_same(map.iter(), copy.iter())
-        & (map.node_count() == copy.node_count())
-        & (map.node_blocks() == copy.node_blocks())
-        & (map.cell_blocks() == copy.cell_blocks())
 }

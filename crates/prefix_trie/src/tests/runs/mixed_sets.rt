@@ -1,129 +1,150 @@
-//! Mixed calls of a set, each answer compared with that of a map that is driven by the same list.
+//! Mixed calls of a map, each of which a set has to answer alike.
 ghost use Rattle.std.specs.Prelude.{◌≤◌};
 
-use crate::tests::cases::questions::{pair_in, shown};
-use crate::tests::cases::{changes, keys};
-use crate::tests::on_new::on_new;
+use crate::replay::retain_at_least;
+use crate::tests::cases::Case::{
+    self, Addresses, Clears, Covers, DropsChildren, Empties, Finds, Inserts, Len, Lists, Nodes,
+    Removes, RetainsLong,
+};
+use crate::tests::cases::lists::entries_of;
+use crate::tests::cases::questions::shown;
+use crate::tests::cases::tried::holds_alone;
+use crate::tests::refusing::Refusing;
 use crate::tests::runs::mixed::{Key, drawn_call};
+use crate::tests::stored::put;
 use crate::{PrefixMap, PrefixSet, Refusal};
-use std::alloc::Global;
+use std::alloc::{AllocError, Allocator, Global};
 
 /// How many calls are made.
 const CALLS: u64 = 20_000;
 
-type Map = PrefixMap<Key, u64, Global>;
+type Map<A> = PrefixMap<Key, u64, A>;
 
-type Set = PrefixSet<Key, Global>;
+type Set<A> = PrefixSet<Key, A>;
 
-/// Whether all lookups of a prefix answer alike.
-fn finds_alike(map: &Map, set: &Set, asked: Key) -> bool
+/// Makes a call that stores, or takes out all or what is short. Answers it beside its answer.
+fn changed<A: Allocator>(map: &mut Map<A>, a: u64, asked: Key) -> Case<'static, u8>
     requires { asked.1 ≤ 8 }
 {
-    let exact = pair_in(shown(map.get_key_value(&asked)));
-    let longest = map.get_lpm_prefix(&asked);
-    keys::finds(set, asked, exact, longest, map.get_spm_prefix(&asked))
+    match a {
+        600 => {
+            map.clear();
+            Clears
+        }
+        601 => {
+            retain_at_least(map, asked.1);
+            RetainsLong(asked.1)
+        }
+        _ => Inserts(asked, a, put(map, asked, a).unwrap_or(None)),
+    }
 }
 
-/// Whether both count alike.
-fn counts_alike(map: &Map, set: &Set) -> bool {
-    (set.len() == map.len())
-        & (set.node_count() == map.node_count())
-        & (set.address_count() == map.address_count())
-}
-
-/// Whether both list the same keys.
-fn lists_alike(map: &Map, set: &Set) -> bool {
-    set.iter().eq(map.keys())
-}
-
-/// Whether both list the same keys around a prefix.
-fn covers_alike(map: &Map, set: &Set, asked: Key) -> bool
-    requires { asked.1 ≤ 8 }
-{
-    set.cover(&asked).eq(map.cover_keys(&asked))
-}
-
-/// Whether a removal answers alike.
-fn removes_alike(map: &mut Map, set: &mut Set, which: u64, asked: Key) -> bool
+/// The same of a removal.
+fn removed<A: Allocator>(map: &mut Map<A>, which: u64, asked: Key) -> Case<'static, u8>
     requires { asked.1 ≤ 8 }
 {
     match which {
-        10 => set.remove(&asked) == map.remove(&asked).is_some(),
-        11 => set.remove_keep_tree(&asked) == map.remove_keep_tree(&asked).is_some(),
+        10 => Removes(asked, map.remove(&asked)),
+        11 => Empties(asked, map.remove_keep_tree(&asked)),
         _ => {
             map.drop_children(&asked);
-            set.drop_children(&asked);
-            set.len() == map.len()
+            DropsChildren(asked)
         }
     }
 }
 
-/// Whether an insertion answers alike.
-fn inserts_alike(map: &mut Map, set: &mut Set, asked: Key, value: u64) -> bool
-    requires { asked.1 ≤ 8 }
-{
-    match map.insert(asked, value) {
-        Ok(before) => set.insert(asked) == Ok(before.is_none()),
-        Err(_) => false,
-    }
-}
-
-/// Takes all keys out of both, or those of fewer bits. Answers whether as many are left.
-fn clears_alike(map: &mut Map, set: &mut Set, is_all: bool, len: u8) -> bool {
-    if is_all {
-        map.clear();
-        set.clear();
-    } else {
-        changes::retains_long(map, len);
-        keys::retains_long(set, len);
-    }
-    set.len() == map.len()
-}
-
-/// Whether a question answers alike.
-fn answers_alike(map: &Map, set: &Set, which: u64, asked: Key) -> bool
+/// The same of a question.
+fn answered<A: Allocator>(map: &Map<A>, which: u64, asked: Key) -> Case<'static, u8>
     requires { asked.1 ≤ 8 }
 {
     match which {
-        0..5 => finds_alike(map, set, asked),
-        5..8 => counts_alike(map, set),
-        8 => lists_alike(map, set),
-        _ => covers_alike(map, set, asked),
+        5 => Len(map.len()),
+        6 => Nodes(map.node_count()),
+        7 => Addresses(map.address_count()),
+        _ => Finds(
+            asked,
+            shown(map.get_key_value(&asked)),
+            shown(map.get_lpm(&asked)),
+            shown(map.get_spm(&asked)),
+        ),
     }
 }
 
-/// Whether one call is answered alike.
-fn agrees(map: &mut Map, set: &mut Set, a: u64, asked: Key) -> bool
+/// Whether a set lists the keys of a map.
+fn lists_alike<A: Allocator + Copy>(
+    heap: &Refusing<Global>,
+    map: &Map<A>,
+    set: &mut Set<A>,
+) -> Result<bool, AllocError> {
+    let entries = entries_of(heap.inner(), map)?;
+    Ok(holds_alone::<u8, A, Set<A>>(heap, set, &Lists(&entries)))
+}
+
+/// Whether it lists those around a prefix.
+fn covers_alike<A: Allocator + Copy>(
+    heap: &Refusing<Global>,
+    map: &Map<A>,
+    set: &mut Set<A>,
+    asked: Key,
+) -> Result<bool, AllocError>
+    requires { asked.1 ≤ 8 }
+{
+    let mut entries = Vec::new(heap.inner());
+    for (prefix, value) in map.cover(&asked) {
+        entries.push((prefix, *value))?;
+    }
+    Ok(holds_alone::<u8, A, Set<A>>(heap, set, &Covers(asked, &entries)))
+}
+
+/// Makes one call on a map. Answers whether a set answers it alike.
+fn agrees<A: Allocator + Copy>(
+    heap: &Refusing<Global>,
+    map: &mut Map<A>,
+    set: &mut Set<A>,
+    a: u64,
+    asked: Key,
+) -> Result<bool, AllocError>
     requires { asked.1 ≤ 8 }
 {
     let which = a.wrapping_sub(602) % 13;
-    match a {
-        0..600 => inserts_alike(map, set, asked, a),
-        600..602 => clears_alike(map, set, a == 600, asked.1),
-        _ if which < 10 => answers_alike(map, set, which, asked),
-        _ => removes_alike(map, set, which, asked),
-    }
+    let case = match a {
+        0..602 => changed(map, a, asked),
+        _ if which == 8 => return lists_alike(heap, map, set),
+        _ if which == 9 => return covers_alike(heap, map, set, asked),
+        _ if 9 < which => removed(map, which, asked),
+        _ => answered(map, which, asked),
+    };
+    Ok(holds_alone::<u8, A, Set<A>>(heap, set, &case))
 }
 
 /// Makes all calls. Answers whether each was answered alike, and both have the same keys at the end.
-fn answer_alike(map: &mut Map, set: &mut Set) -> bool {
+fn answer_alike<A: Allocator + Copy>(
+    heap: &Refusing<Global>,
+    map: &mut Map<A>,
+    set: &mut Set<A>,
+) -> Result<bool, AllocError> {
     let mut x = 1;
     for _index in 0..CALLS {
         let (a, asked) = drawn_call(&mut x);
-        if !agrees(map, set, a, asked) {
-            return false;
+        if !agrees(heap, map, set, a, asked)? {
+            return Ok(false);
         }
     }
-    lists_alike(map, set)
+    lists_alike(heap, map, set)
 }
 
-/// Whether all calls are answered alike by a map and a new set.
-fn is_alike(map: &mut Map, alloc: Global) -> Result<bool, Refusal> {
+/// The same of a new map and a new set.
+fn answer_alike_anew<A: Allocator + Copy>(
+    heap: &Refusing<Global>,
+    alloc: A,
+) -> Result<bool, Refusal> {
+    let mut map = PrefixMap::new(alloc)?;
     let mut set = PrefixSet::new(alloc)?;
-    Ok(answer_alike(map, &mut set))
+    Ok(answer_alike(heap, &mut map, &mut set) == Ok(true))
 }
 
 #[test]
 fn mixed_calls_of_a_set_as_of_a_map(rt: HostRuntime) {
-    assert!(rt; on_new(PrefixMap::new(rt.alloc()), rt.alloc(), is_alike) == Ok(Ok(true)));
+    let heap = Refusing::new(rt.alloc());
+    assert!(rt; answer_alike_anew(&heap, rt.alloc()) == Ok(true));
 }

@@ -145,7 +145,7 @@ const FIVE: [Entry<u32>; 5] = [
 ];
 
 /// The root's two values come last: so a block of one is free.
-const PUT_FIVE: [Case<u32>; 5] = [
+const PUT_FIVE: [Case<'static, u32>; 5] = [
     Inserts((0x0a00_0000, 8), 8, None),
     Inserts((0x0a01_0100, 24), 24, None),
     Inserts((0x0a01_0101, 32), 32, None),

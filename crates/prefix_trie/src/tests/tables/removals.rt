@@ -49,7 +49,7 @@ pub const OFF_THE_WAY: [Table<'static, u32>; 1] = [(
     ],
 )];
 
-type Cases = Vec<Case<u32>, Global>;
+type Cases = Vec<Case<'static, u32>, Global>;
 
 /// A network of 15 bits.
 fn numbered(number: u32) -> Pair<u32> {
@@ -174,7 +174,7 @@ fn puts_groups(alloc: Global, groups: Groups) -> Result<Cases, AllocError> {
 
 /// Takes a network of this value out; by a prefix that is shorter by two bits also those beside it, and by a test those of the
 /// other groups.
-fn taking(at: Pair<u32>, item: u32, by: By) -> Case<u32> {
+fn taking(at: Pair<u32>, item: u32, by: By) -> Case<'static, u32> {
     let value = u64::from(item);
     match by {
         By::Remove => Removes(at, Some(value)),

@@ -7,10 +7,10 @@ use crate::tests::drops::{Counted, let_go};
 use crate::tests::stored::{has_keys, stores};
 use crate::tests::walks::taking::three;
 use crate::{PrefixMap, PrefixSet, Refusal};
-use std::alloc::{Allocator, Global};
+use std::alloc::Allocator;
 use std::cell::Cell;
 
-type Key = (u32, u8);
+type Key = (u8, u8);
 
 /// Whether a walk gives so many, and is dropped then.
 fn gives<I: Iterator + Drop>(walk: I, count: usize) -> bool
@@ -93,7 +93,7 @@ fn drops_of_lending<'a, A: Allocator>(
 }
 
 /// How many are dropped by walks over a new map that are dropped so early, and by letting it go. None where one gives another number.
-fn drops_of_early(alloc: Global, count: u8) -> Option<(u64, [u64; 4], u64)> {
+fn drops_of_early<A: Allocator + Clone>(alloc: A, count: u8) -> Option<(u64, [u64; 4], u64)> {
     let drops = Cell::new(0);
     let mut map = three(alloc, &drops)?;
     let is_given = are_read(&map, usize::from(count)) & are_covered(&map, usize::from(count));
@@ -145,15 +145,15 @@ fn is_kept_in_set<A: Allocator>(set: &mut PrefixSet<Key, A>) -> bool {
 }
 
 /// The same of a new map.
-fn is_kept_anew(alloc: Global) -> Result<bool, Refusal> {
+fn is_kept_anew<A: Allocator + Clone>(alloc: A) -> Result<bool, Refusal> {
     let mut map = PrefixMap::new(alloc)?;
-    Ok(is_kept::<Global>(&mut map))
+    Ok(is_kept::<A>(&mut map))
 }
 
 /// And of a new set, which is given up with its second key.
-fn is_kept_in_new_set(alloc: Global) -> Result<bool, Refusal> {
+fn is_kept_in_new_set<A: Allocator + Clone>(alloc: A) -> Result<bool, Refusal> {
     let mut set = PrefixSet::new(alloc)?;
-    let is_kept = is_kept_in_set::<Global>(&mut set);
+    let is_kept = is_kept_in_set::<A>(&mut set);
     Ok(is_kept & (set.into_iter().take(1).count() == 1))
 }
 

@@ -80,9 +80,9 @@ fn is_rewritten<A: Allocator>(map: &mut PrefixMap<(u64, u8), u8, A>) -> bool {
 }
 
 /// The same of a new map.
-fn is_rewritten_anew(alloc: Global) -> Result<bool, Refusal> {
+fn is_rewritten_anew<A: Allocator + Clone>(alloc: A) -> Result<bool, Refusal> {
     let mut map = PrefixMap::new(alloc)?;
-    Ok(is_rewritten::<Global>(&mut map))
+    Ok(is_rewritten::<A>(&mut map))
 }
 
 #[test]

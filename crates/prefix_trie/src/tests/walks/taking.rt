@@ -25,16 +25,15 @@ fn pour<P: Prefix, T: Drop, A: Allocator>(
     Ok(())
 }
 
-pub type Counting<'a> = PrefixMap<(u32, u8), Counted<'a>, Global>;
+type Key = (u8, u8);
+
+type Counting<'a, A> = PrefixMap<Key, Counted<'a>, A>;
 
 /// The keys of three that count.
-const KEYS: [(u32, u8); 3] = [(0, 0), (0, 1), (0x8000_0000, 1)];
+const KEYS: [Key; 3] = [(0, 0), (0, 1), (0, 8)];
 
 /// Stores them. Answers whether each is new.
-fn put_three<'a, A: Allocator>(
-    map: &mut PrefixMap<(u32, u8), Counted<'a>, A>,
-    drops: &'a Cell<u64>,
-) -> bool {
+fn put_three<'a, A: Allocator>(map: &mut Counting<'a, A>, drops: &'a Cell<u64>) -> bool {
     for key in &KEYS {
         if !key.fits() || !is_new(stored::put(map, *key, Counted { drops })) {
             return false;
@@ -44,7 +43,7 @@ fn put_three<'a, A: Allocator>(
 }
 
 /// A map of them.
-pub fn three<'a>(alloc: Global, drops: &'a Cell<u64>) -> Option<Counting<'a>> {
+pub fn three<'a, A: Allocator + Clone>(alloc: A, drops: &'a Cell<u64>) -> Option<Counting<'a, A>> {
     let mut map = PrefixMap::new(alloc).ok()?;
     let is_filled = put_three(&mut map, drops);
     if is_filled { Some(map) } else { None }
@@ -56,19 +55,19 @@ trait Taking: Copied {
     fn lets_next_go(&mut self);
 }
 
-impl<T: Clone, A: Allocator + Clone> Taking for IntoIter<(u32, u8), T, A> {
+impl<T: Clone, A: Allocator + Clone> Taking for IntoIter<Key, T, A> {
     fn lets_next_go(&mut self) {
         let_go(self.next());
     }
 }
 
-impl<T: Clone, A: Allocator + Clone> Taking for IntoKeys<(u32, u8), T, A> {
+impl<T: Clone, A: Allocator + Clone> Taking for IntoKeys<Key, T, A> {
     fn lets_next_go(&mut self) {
         let_go(self.next());
     }
 }
 
-impl<T: Clone, A: Allocator + Clone> Taking for IntoValues<(u32, u8), T, A> {
+impl<T: Clone, A: Allocator + Clone> Taking for IntoValues<Key, T, A> {
     fn lets_next_go(&mut self) {
         let_go(self.next());
     }
@@ -86,7 +85,7 @@ fn drops_of<W: Taking>(walk: W, taken: u64, drops: &Cell<u64>) -> (u64, u64) {
 }
 
 /// The same of each walk.
-fn dropped(alloc: Global, taken: u64) -> Option<[(u64, u64); 4]> {
+fn dropped<A: Allocator + Copy>(alloc: A, taken: u64) -> Option<[(u64, u64); 4]> {
     let drops = Cell::new(0);
     let items = drops_of(three(alloc, &drops)?.into_iter(), taken, &drops);
     let part = three(alloc, &drops)?.into_children(&(0, 1));
@@ -101,8 +100,8 @@ fn what_is_not_taken_is_dropped_with_the_walk(rt: HostRuntime) {
     let alloc = rt.alloc();
     assert!(rt; dropped(alloc, 0) == Some([(0, 3), (0, 3), (0, 3), (0, 3)]));
     assert!(rt; dropped(alloc, 1) == Some([(1, 3), (1, 3), (1, 3), (1, 3)]));
-    assert!(rt; dropped(alloc, 2) == Some([(2, 3), (1, 3), (2, 3), (2, 3)]));
-    assert!(rt; dropped(alloc, 4) == Some([(3, 3), (1, 3), (3, 3), (3, 3)]));
+    assert!(rt; dropped(alloc, 2) == Some([(2, 3), (2, 3), (2, 3), (2, 3)]));
+    assert!(rt; dropped(alloc, 4) == Some([(3, 3), (2, 3), (3, 3), (3, 3)]));
 }
 
 /// How many are dropped once a walk gave an item, was copied, and gave all the rest, once its copy gave all, and once both were dropped.
@@ -124,7 +123,7 @@ fn drops_of_copy<W: Taking>(walk: W, drops: &Cell<u64>) -> Option<(u64, u64, u64
 }
 
 /// The same of each walk.
-fn dropped_with_copy(alloc: Global) -> Option<[(u64, u64, u64); 4]> {
+fn dropped_with_copy<A: Allocator + Copy>(alloc: A) -> Option<[(u64, u64, u64); 4]> {
     let drops = Cell::new(0);
     let items = drops_of_copy(three(alloc, &drops)?.into_iter(), &drops)?;
     let part = three(alloc, &drops)?.into_children(&(0, 1));
@@ -137,27 +136,18 @@ fn dropped_with_copy(alloc: Global) -> Option<[(u64, u64, u64); 4]> {
 #[test]
 fn what_a_copy_has_is_dropped_too(rt: HostRuntime) {
     assert!(rt;
-        dropped_with_copy(rt.alloc()) == Some([(3, 5, 5), (1, 1, 5), (3, 5, 5), (3, 5, 5)])
+        dropped_with_copy(rt.alloc()) == Some([(3, 5, 5), (2, 3, 5), (3, 5, 5), (3, 5, 5)])
     );
-}
-
-/// Puts a value that counts at a key. Answers whether it was granted, what was there before having been let go.
-fn put<'a, A: Allocator>(
-    map: &mut PrefixMap<(u8, u8), Counted<'a>, A>,
-    key: (u8, u8),
-    drops: &'a Cell<u64>,
-) -> bool {
-    key.fits() && stored::put(map, key, Counted { drops }).is_ok()
 }
 
 /// How many are dropped once three are stored and one of them is replaced, one is taken out, and all are cleared.
 fn drops_of_calls<'a, A: Allocator>(
-    map: &mut PrefixMap<(u8, u8), Counted<'a>, A>,
+    map: &mut Counting<'a, A>,
     drops: &'a Cell<u64>,
 ) -> Option<[u64; 4]> {
-    let are_put = put(map, (0, 0), drops) & put(map, (0, 1), drops) & put(map, (0, 8), drops);
+    let are_put = put_three(map, drops);
     let first = drops.get();
-    let is_replaced = put(map, (0, 1), drops);
+    let is_replaced = stored::put(map, (0, 1), Counted { drops }).is_ok();
     let second = drops.get();
     let_go(map.remove_keep_tree(&(0, 0)));
     let third = drops.get();
@@ -166,19 +156,19 @@ fn drops_of_calls<'a, A: Allocator>(
 }
 
 /// The same of a new map, and how many are dropped once it is let go.
-fn drops_of_map(alloc: Global) -> Option<([u64; 4], u64)> {
+fn drops_of_map<A: Allocator + Clone>(alloc: A) -> Option<([u64; 4], u64)> {
     let drops = Cell::new(0);
     let mut map = PrefixMap::new(alloc).ok()?;
-    let during = drops_of_calls::<Global>(&mut map, &drops)?;
+    let during = drops_of_calls::<A>(&mut map, &drops)?;
     let_go(map);
     Some((during, drops.get()))
 }
 
 /// How many are dropped by an insertion that is refused, by letting its value go, and by letting the map go.
-fn drops_of_refused(alloc: Global) -> Option<[u64; 3]> {
+fn drops_of_refused<A: Allocator + Clone>(alloc: A) -> Option<[u64; 3]> {
     let drops = Cell::new(0);
     let mut map = PrefixMap::with_slot_limit(alloc, 1).ok()?;
-    let answer = stored::put(&mut map, (0_u8, 8_u8), Counted { drops: &drops });
+    let answer = stored::put(&mut map, KEYS[2], Counted { drops: &drops });
     let first = drops.get();
     let is_refused = answer.is_err();
     let_go(answer);
@@ -189,21 +179,21 @@ fn drops_of_refused(alloc: Global) -> Option<[u64; 3]> {
 
 /// A name beside a count of its drops: its copy asks for memory once.
 #[derive(Clone, Drop)]
-struct Named<'a> {
-    name: String<&'a Refusing<Global>>,
+struct Named<'a, A: Allocator> {
+    name: String<A>,
     counted: Counted<'a>,
 }
 
-type Names<'a> = PrefixMap<(u32, u8), Named<'a>, &'a Refusing<Global>>;
+type Names<'a, A> = PrefixMap<Key, Named<'a, A>, A>;
 
 /// Stores a name.
-fn put_name<'a>(
-    heap: &'a Refusing<Global>,
-    names: &mut Names<'a>,
-    key: (u32, u8),
+fn put_name<'a, A: Allocator>(
+    alloc: A,
+    names: &mut Names<'a, A>,
+    key: Key,
     drops: &'a Cell<u64>,
 ) -> bool {
-    let Ok(name) = String::from_str(heap, "name") else {
+    let Ok(name) = String::from_str(alloc, "name") else {
         return false;
     };
     let counted = Counted { drops };
@@ -211,7 +201,7 @@ fn put_name<'a>(
 }
 
 /// Whether a copy is refused. It is let go.
-fn is_copy_refused(names: &Names<'_>) -> bool {
+fn is_copy_refused<A: Allocator + Clone>(names: &Names<'_, A>) -> bool {
     let copy = names.clone();
     let is_refused = copy.is_err();
     let_go(copy);
@@ -219,9 +209,9 @@ fn is_copy_refused(names: &Names<'_>) -> bool {
 }
 
 /// How many are dropped by a copy whose request is refused that comes after so many; none where it is granted.
-fn drops_of_refused_copy<'a>(
-    heap: &'a Refusing<Global>,
-    names: &Names<'a>,
+fn drops_of_refused_copy<A: Allocator + Clone>(
+    heap: &Refusing<Global>,
+    names: &Names<'_, A>,
     passed: u64,
     drops: &Cell<u64>,
 ) -> Option<u64> {
@@ -231,33 +221,57 @@ fn drops_of_refused_copy<'a>(
     is_refused.then_some(dropped)
 }
 
-/// How many are dropped by the copies of three whose last three requests are refused in turn: those that were copied by then.
-fn drops_of_refused_copies(heap: &Refusing<Global>) -> Option<[Option<u64>; 4]> {
-    let drops = Cell::new(0);
-    let mut names = PrefixMap::new(heap).ok()?;
-    let are_put = put_name(heap, &mut names, KEYS[0], &drops)
-        & put_name(heap, &mut names, KEYS[1], &drops)
-        & put_name(heap, &mut names, KEYS[2], &drops);
-    let first = requests_of_copy(heap, &names).wrapping_sub(3);
-    let _ = drops.replace(0);
-    let counts = [
-        drops_of_refused_copy(heap, &names, first, &drops),
-        drops_of_refused_copy(heap, &names, first.wrapping_add(1), &drops),
-        drops_of_refused_copy(heap, &names, first.wrapping_add(2), &drops),
-        drops_of_refused_copy(heap, &names, first.wrapping_add(3), &drops),
-    ];
-    are_put.then_some(counts)
+/// Stores a name at each of the three keys.
+fn put_names<'a, A: Allocator + Copy>(
+    alloc: A,
+    names: &mut Names<'a, A>,
+    drops: &'a Cell<u64>,
+) -> bool {
+    for key in &KEYS {
+        if !put_name(alloc, names, *key, drops) {
+            return false;
+        }
+    }
+    true
 }
 
 /// How many requests a copy makes.
-fn requests_of_copy(heap: &Refusing<Global>, names: &Names<'_>) -> u64 {
+fn requests_of_copy<A: Allocator + Clone>(heap: &Refusing<Global>, names: &Names<'_, A>) -> u64 {
     heap.refuse(u64::MAX, 0);
     let _ = is_copy_refused(names);
     u64::MAX.wrapping_sub(heap.to_pass())
 }
 
+/// How many are dropped by copies whose last three requests are refused in turn, and by one of which none is.
+fn drops_of_copies<A: Allocator + Clone>(
+    heap: &Refusing<Global>,
+    names: &Names<'_, A>,
+    drops: &Cell<u64>,
+) -> [Option<u64>; 4] {
+    let first = requests_of_copy(heap, names).wrapping_sub(3);
+    let _ = drops.replace(0);
+    [
+        drops_of_refused_copy(heap, names, first, drops),
+        drops_of_refused_copy(heap, names, first.wrapping_add(1), drops),
+        drops_of_refused_copy(heap, names, first.wrapping_add(2), drops),
+        drops_of_refused_copy(heap, names, first.wrapping_add(3), drops),
+    ]
+}
+
+/// The same of copies of three: those are dropped that were copied by then.
+fn drops_of_refused_copies<A: Allocator + Copy>(
+    heap: &Refusing<Global>,
+    alloc: A,
+) -> Option<[Option<u64>; 4]> {
+    let drops = Cell::new(0);
+    let mut names = PrefixMap::new(alloc).ok()?;
+    let are_put = put_names(alloc, &mut names, &drops);
+    let counts = drops_of_copies(heap, &names, &drops);
+    are_put.then_some(counts)
+}
+
 /// How many are dropped with a map that is let go.
-fn drops_of_whole(alloc: Global) -> Option<(u64, u64)> {
+fn drops_of_whole<A: Allocator + Clone>(alloc: A) -> Option<(u64, u64)> {
     let drops = Cell::new(0);
     let map = three(alloc, &drops)?;
     let before = drops.get();
@@ -272,5 +286,5 @@ fn each_value_is_dropped_once(rt: HostRuntime) {
     assert!(rt; drops_of_refused(alloc) == Some([0, 1, 1]));
     assert!(rt; drops_of_whole(alloc) == Some((0, 3)));
     let heap = Refusing::new(alloc);
-    assert!(rt; drops_of_refused_copies(&heap) == Some([Some(0), Some(1), Some(2), None]));
+    assert!(rt; drops_of_refused_copies(&heap, &heap) == Some([Some(0), Some(1), Some(2), None]));
 }

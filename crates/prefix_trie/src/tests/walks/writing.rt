@@ -151,13 +151,16 @@ fn are_written<A: Allocator>(map: &mut Numbers<A>, heap: &Refusing<Global>) -> b
 }
 
 /// The same of a new map.
-fn are_written_anew(heap: &Refusing<Global>) -> Result<bool, Refusal> {
-    let mut map = PrefixMap::new(heap)?;
-    Ok(are_written::<&Refusing<Global>>(&mut map, heap))
+fn are_written_anew<A: Allocator + Clone>(
+    heap: &Refusing<Global>,
+    alloc: A,
+) -> Result<bool, Refusal> {
+    let mut map = PrefixMap::new(alloc)?;
+    Ok(are_written::<A>(&mut map, heap))
 }
 
 #[test]
 fn values_are_written_on_the_way(rt: HostRuntime) {
     let heap = Refusing::new(rt.alloc());
-    assert!(rt; are_written_anew(&heap) == Ok(true));
+    assert!(rt; are_written_anew(&heap, &heap) == Ok(true));
 }
