@@ -1,7 +1,7 @@
 //! The ends of each width: to every call a prefix with all host bits set and one with none are the same.
 use crate::tests::cases::Case::{
-    self, ChangesEntry, Covers, DropsChildren, Empties, Fills, Finds, Inserts, Len, Lists,
-    ListsFrom, Removes, TakesOut, Writes, WritesLongest,
+    ChangesEntry, Covers, DropsChildren, Empties, Fills, Finds, Inserts, Len, ListsFrom, Removes,
+    TakesOut, Writes, WritesLongest,
 };
 use crate::tests::cases::filling::Fill;
 use crate::tests::cases::lists::kept;
@@ -28,26 +28,40 @@ fn is_end(len: u8, width: u8) -> bool {
     matches!(len, 0 | 1 | 4 | 5) || width.saturating_sub(len) < 2
 }
 
-/// Calls at a pair and at another one of the same path, where no other is stored; the third has no host bits.
-fn alone<'a, K: Key + 'a>(at: Pair<K>, other: Pair<K>, clean: Pair<K>) -> [Case<'a, K>; 15] {
+/// Whether insertions and lookups take two pairs for the third, where no other is stored.
+fn are_found<K: Key, A: Allocator + Copy, M: Tried<K, A>>(
+    heap: &Refusing<Global>,
+    tried: &mut M,
+    at: Pair<K>,
+    other: Pair<K>,
+    clean: Pair<K>,
+) -> bool {
     let stored = Some((clean, 2));
-    [
-        Finds(at, None, None, None),
-        Inserts(other, 1, None),
-        Inserts(at, 2, Some(1)),
-        Finds(at, stored, stored, stored),
-        Finds(other, stored, stored, stored),
-        Writes(at, 3, Some(2)),
-        WritesLongest(at, 4, Some((clean, 3))),
-        ChangesEntry(at, 5, 4),
-        Removes(at, Some(5)),
-        Inserts(other, 1, None),
-        Empties(at, Some(1)),
-        Inserts(other, 1, None),
-        DropsChildren(at),
-        Len(0),
-        Inserts(other, 1, None),
-    ]
+    holds_alone::<K, A, M>(heap, tried, &Finds(at, None, None, None))
+        & holds_alone::<K, A, M>(heap, tried, &Inserts(other, 1, None))
+        & holds_alone::<K, A, M>(heap, tried, &Inserts(at, 2, Some(1)))
+        & holds_alone::<K, A, M>(heap, tried, &Finds(at, stored, stored, stored))
+        & holds_alone::<K, A, M>(heap, tried, &Finds(other, stored, stored, stored))
+}
+
+/// Whether what was put at one pair is changed at the other, and taken out.
+fn are_changed<K: Key, A: Allocator + Copy, M: Tried<K, A>>(
+    heap: &Refusing<Global>,
+    tried: &mut M,
+    at: Pair<K>,
+    other: Pair<K>,
+    clean: Pair<K>,
+) -> bool {
+    holds_alone::<K, A, M>(heap, tried, &Writes(at, 3, Some(2)))
+        & holds_alone::<K, A, M>(heap, tried, &WritesLongest(at, 4, Some((clean, 3))))
+        & holds_alone::<K, A, M>(heap, tried, &ChangesEntry(at, 5, 4))
+        & holds_alone::<K, A, M>(heap, tried, &Removes(at, Some(5)))
+        & holds_alone::<K, A, M>(heap, tried, &Inserts(other, 1, None))
+        & holds_alone::<K, A, M>(heap, tried, &Empties(at, Some(1)))
+        & holds_alone::<K, A, M>(heap, tried, &Inserts(other, 1, None))
+        & holds_alone::<K, A, M>(heap, tried, &DropsChildren(at))
+        & holds_alone::<K, A, M>(heap, tried, &Len(0))
+        & holds_alone::<K, A, M>(heap, tried, &Inserts(other, 1, None))
 }
 
 /// Whether what was handed out has one entry alone, and nothing is left.
@@ -57,8 +71,10 @@ fn is_part<K: Key, A: Allocator + Copy, M: Tried<K, A>>(
     part: &mut M,
     entry: Entry<K>,
 ) -> bool {
+    let stored = Some(entry);
     holds_alone::<K, A, M>(heap, tried, &Len(0))
-        & holds_alone::<K, A, M>(heap, part, &Lists(&[entry]))
+        & holds_alone::<K, A, M>(heap, part, &Len(1))
+        & holds_alone::<K, A, M>(heap, part, &Finds(entry.0, stored, stored, stored))
 }
 
 /// Whether that is so of what is handed out at a pair.
@@ -101,12 +117,9 @@ fn are_alike_alone<K: Key, A: Allocator + Copy, M: Tried<K, A>>(
     other: Pair<K>,
     clean: Pair<K>,
 ) -> bool {
-    for case in &alone(at, other, clean) {
-        if !holds_alone::<K, A, M>(heap, tried, case) {
-            return false;
-        }
-    }
-    hands_out::<K, A, M>(heap, tried, at, (clean, 1))
+    are_found::<K, A, M>(heap, tried, at, other, clean)
+        & are_changed::<K, A, M>(heap, tried, at, other, clean)
+        & hands_out::<K, A, M>(heap, tried, at, (clean, 1))
         & are_filled::<K, A, M>(heap, tried, at, other)
 }
 
