@@ -21,3 +21,7 @@ pub mod Writing
 pub mod Collected
 pub mod Equality
 pub mod Addresses
+pub mod Retaining
+pub mod Copies
+pub mod ByPrefix
+pub mod SameKeys

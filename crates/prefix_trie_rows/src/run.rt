@@ -1,6 +1,6 @@
 //! Lists of calls that are run in one, each beside its reply.
 ghost use Rattle.std.specs.Prelude.{All, IfSome, IfOk};
-ghost use Rattle.prefix_trie.specs.Replay.{IsFittingCall};
+ghost use Rattle.prefix_trie.specs.Words.{IsFittingCall};
 
 use crate::table::{Entry, Map, Number, Pair, Written, fitting, is, is_number};
 use prefix_trie::replay::{Call, Reply, run};

@@ -1,9 +1,14 @@
-//! A caller of `retain` at a concrete type.
+//! Callers of `retain`, at any type of prefixes and at a concrete one.
 
 use crate::tests::examples::expiry::keep_from;
 use crate::tests::stored::{has_keys, stores};
-use crate::{PrefixMap, Refusal};
+use crate::{Prefix, PrefixMap, Refusal};
 use std::alloc::Allocator;
+
+/// Keeps the entries whose keys have at least so many bits.
+pub fn retain_long<P: Prefix, A: Allocator>(map: &mut PrefixMap<P, u64, A>, len: u8) {
+    map.retain(move |prefix, _| len <= prefix.prefix_len());
+}
 
 /// Four numbers, of which two are below three.
 const FOUR: [((u8, u8), u64); 4] = [

@@ -1,5 +1,4 @@
 //! Cases, as calls of a map.
-use crate::replay::retain_at_least;
 use crate::tests::cases::changes::{writes, writes_longest};
 use crate::tests::cases::filling::{Fill, changes, filled, is_vacant, takes_out};
 use crate::tests::cases::lists::{
@@ -10,6 +9,7 @@ use crate::tests::cases::tried::{Answer, State, Tried};
 use crate::tests::cases::{Case, Pair, prefix_of};
 use crate::tests::examples::expiry::keep_from;
 use crate::tests::refusing::Refusing;
+use crate::tests::retain::retain_long;
 use crate::{Prefix, PrefixMap, Refusal};
 use std::alloc::{AllocError, Allocator, Global};
 
@@ -73,7 +73,7 @@ impl<P: Prefix + Copy + PartialEq, A: Allocator + Copy> Tried<P::R, A> for Prefi
                 true
             }
             Case::RetainsLong(len) => {
-                retain_at_least(self, *len);
+                retain_long(self, *len);
                 true
             }
             Case::Clears => {

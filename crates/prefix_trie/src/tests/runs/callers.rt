@@ -4,7 +4,7 @@ ghost use Rattle.std.specs.FinMap.{len};
 ghost use Rattle.prefix_trie_bits.specs.Model.Matches.{longest_match, shown_match};
 ghost use Rattle.prefix_trie_bits.specs.Model.Nodes.{needed};
 ghost use Rattle.prefix_trie_map.specs.Steps.{state};
-ghost use Rattle.prefix_trie.specs.Replay.{replies_of};
+ghost use Rattle.prefix_trie_map.specs.Replay.{replies_of};
 ghost use Rattle.prefix_trie_bits.specs.Model.Step.{Match, Done, Count, Reply as Answer};
 
 use crate::replay::{Call, Reads, Reply, run, run_counted};

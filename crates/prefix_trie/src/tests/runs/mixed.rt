@@ -1,6 +1,6 @@
 //! A long run: calls of all sixteen kinds, and their replies beside those of a plain sorted list.
 ghost use Rattle.std.specs.Prelude.{◌≤◌, All, IfOk};
-ghost use Rattle.prefix_trie.specs.Replay.{IsFittingCall};
+ghost use Rattle.prefix_trie_map.specs.Replay.{IsFittingCall};
 
 use crate::replay::{Call, Reply, run};
 use crate::tests::cases::questions::has_sums;

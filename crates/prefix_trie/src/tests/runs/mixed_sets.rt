@@ -1,7 +1,6 @@
 //! Mixed calls of a map, each of which a set has to answer alike.
 ghost use Rattle.std.specs.Prelude.{◌≤◌};
 
-use crate::replay::retain_at_least;
 use crate::tests::cases::Case::{
     self, Addresses, Clears, Covers, DropsChildren, Empties, Finds, Inserts, Len, Lists, Nodes,
     Removes, RetainsLong,
@@ -10,6 +9,7 @@ use crate::tests::cases::lists::entries_of;
 use crate::tests::cases::questions::shown;
 use crate::tests::cases::tried::holds_alone;
 use crate::tests::refusing::Refusing;
+use crate::tests::retain::retain_long;
 use crate::tests::runs::mixed::{Key, drawn_call};
 use crate::tests::stored::put;
 use crate::{PrefixMap, PrefixSet, Refusal};
@@ -32,7 +32,7 @@ fn changed<A: Allocator>(map: &mut Map<A>, a: u64, asked: Key) -> Case<'static, 
             Clears
         }
         601 => {
-            retain_at_least(map, asked.1);
+            retain_long(map, asked.1);
             RetainsLong(asked.1)
         }
         _ => Inserts(asked, a, put(map, asked, a).unwrap_or(None)),

@@ -1,6 +1,6 @@
 use Rattle.std.proofs.Common.{All, sym, subst}
 use Rattle.std.proofs.lemmas.List.Elements.{All-push}
-use Rattle.prefix_trie.specs.Replay.{IsFittingCall}
+use Rattle.prefix_trie.specs.Words.{IsFittingCall}
 use Rattle.prefix_trie_rows.proofs.run.calls_of.Goals as goal
 
 pub loop-turn-preserved : goal.loop-turn-preserved

@@ -1,5 +1,5 @@
 use Rattle.std.proofs.Common.{All}
-use Rattle.prefix_trie.specs.Replay.{IsFittingCall}
+use Rattle.prefix_trie.specs.Words.{IsFittingCall}
 use Rattle.prefix_trie_rows.proofs.run.calls_of.Given as goal
 
 abbrev pub invariant-loop-turn : goal.invariant-loop-turn

@@ -1,5 +1,5 @@
 use Rattle.std.proofs.Common.{All, IfSome, sym, subst}
-use Rattle.prefix_trie.specs.Replay.{IsFittingCall}
+use Rattle.prefix_trie.specs.Words.{IsFittingCall}
 use Rattle.prefix_trie_rows.proofs.run.reply_in_order.Goals as goal
 
 pub run-requires : goal.run-requires

@@ -1,5 +1,5 @@
 use Rattle.std.proofs.Common.{rules, of_calls}
-use Rattle.prefix_trie.proofs.Retaining.{may_ask_always}
+use Rattle.prefix_trie.proofs.Callers.{may_ask_always}
 use Rattle.prefix_trie_rows.proofs.table.retains.Goals as goal
 
 pub retain-requires : goal.retain-requires

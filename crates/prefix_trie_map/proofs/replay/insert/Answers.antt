@@ -1,0 +1,8 @@
+use Rattle.prefix_trie_map.proofs.Prelude.{rules}
+use Rattle.prefix_trie_map.proofs.replay.insert.Goals as goal
+
+pub returns-in-Ok : goal.returns-in-Ok
+returns-in-Ok g c = search rules
+
+pub returns-in-Err : goal.returns-in-Err
+returns-in-Err g c = search rules

@@ -1,0 +1,79 @@
+//! Lookups: of exactly a prefix, and of the longest and the shortest stored prefix that contains one.
+ghost use Rattle.std.specs.Prelude.{◌≡◌};
+ghost use Rattle.std.specs.Option.{option_map, is_some};
+ghost use Rattle.std.specs.FinMap.{get, contains_key};
+ghost use Rattle.prefix_trie_bits.specs.Model.Matches.{longest_match, shortest_match};
+
+use crate::set::PrefixSet;
+use prefix_trie_bits::prefix::Prefix;
+use std::alloc::Allocator;
+
+impl<P: Prefix, A: Allocator> PrefixSet<P, A> {
+    /// Whether exactly this prefix is in the set.
+    ///
+    /// ```text
+    /// 10.1.0.0/16 is stored
+    /// set.contains(&10.1.0.0/16)    true
+    /// set.contains(&10.1.2.3/16)    true, since host bits do not count
+    /// set.contains(&10.1.0.0/17)    false
+    /// ```
+    #[inline]
+    pub fn contains(&self, prefix: &P) -> bool
+        requires { P.IsFitting prefix.now }
+        ensures { result ≡ contains_key self.now.entries (P.path prefix.now) }
+    {
+        self.map.contains_key(prefix)
+    }
+
+    /// Whether a stored prefix contains this one. A stored prefix contains itself. So it is true where `get_lpm` gives one.
+    #[inline]
+    pub fn is_covered(&self, prefix: &P) -> bool
+        requires { P.IsFitting prefix.now }
+        ensures { result ≡ is_some (shortest_match self.now.entries (P.path prefix.now)) }
+    {
+        self.map.is_covered(prefix)
+    }
+
+    /// This prefix without its host bits, if exactly it is in the set.
+    ///
+    /// ```text
+    /// 10.1.0.0/16 is stored
+    /// set.get(&10.1.2.3/16)   Some(10.1.0.0/16)
+    /// ```
+    #[inline]
+    pub fn get(&self, prefix: &P) -> Option<P>
+        requires { P.IsFitting prefix.now }
+        ensures { result ≡ option_map (λ _. P.back (P.path prefix.now)) (get self.now.entries (P.path prefix.now)) }
+    {
+        match self.map.get_key_value(prefix) {
+            Some((stored, _)) => Some(stored),
+            None => None,
+        }
+    }
+
+    /// The longest stored prefix that contains this one, without its host bits. A stored prefix contains itself.
+    ///
+    /// ```text
+    /// 10.0.0.0/8 and 10.1.0.0/16 are stored
+    /// set.get_lpm(&10.1.2.3/32)   Some(10.1.0.0/16), and get_spm gives Some(10.0.0.0/8)
+    /// set.get_lpm(&10.2.0.0/16)   Some(10.0.0.0/8), as get_spm
+    /// set.get_lpm(&11.0.0.0/8)    None, as get_spm
+    /// ```
+    #[inline]
+    pub fn get_lpm(&self, prefix: &P) -> Option<P>
+        requires { P.IsFitting prefix.now }
+        ensures { result ≡ option_map (λ found. P.back found.0) (longest_match self.now.entries (P.path prefix.now)) }
+    {
+        self.map.get_lpm_prefix(prefix)
+    }
+
+    /// The shortest stored prefix that contains this one, without its host bits. A stored prefix contains itself. `get_lpm` has
+    /// an example of both.
+    #[inline]
+    pub fn get_spm(&self, prefix: &P) -> Option<P>
+        requires { P.IsFitting prefix.now }
+        ensures { result ≡ option_map (λ found. P.back found.0) (shortest_match self.now.entries (P.path prefix.now)) }
+    {
+        self.map.get_spm_prefix(prefix)
+    }
+}
