@@ -4,8 +4,8 @@ use crate::map::{IntoIter, IntoKeys, IntoValues};
 use crate::tests::cases::keys::put;
 use crate::tests::cases::prefix_of;
 use crate::tests::refusing::Refusing;
-use crate::tests::stored::{self, is_new, stores};
-use crate::{Prefix, PrefixMap, PrefixSet, Refusal};
+use crate::tests::stored::{self, is_new};
+use crate::{Prefix, PrefixMap, PrefixSet};
 use std::alloc::{AllocError, Allocator, Global};
 
 /// More requests than one copy makes.
@@ -17,9 +17,6 @@ type Key = (u32, u8);
 
 /// Names, each of which asks for memory once when it is cloned.
 type Names<A> = PrefixMap<Key, String<A>, A>;
-
-/// Numbers, which ask for none.
-type Numbers<A> = PrefixMap<Key, u16, A>;
 
 /// Three keys, and one that is not stored.
 const KEYS: [Key; 4] = [
@@ -164,8 +161,8 @@ fn is_refused_from<W: Named>(heap: &Heap, named: &W, passed: u64) -> bool {
 /// Copies what was made with every request refused, with another request refused each time: it alone, and with all behind it. Answers
 /// how many were, if each copy was refused exactly where one was, and at last both the copy and what was copied give their names from a
 /// place on with every request refused, of which none comes.
-fn refused_in_turn<W: Named>(heap: &Heap, named: W, first: usize) -> Option<u64> {
-    let mut named = named;
+fn copies<W: Named>(heap: &Heap, named: Option<W>, first: usize) -> Option<u64> {
+    let mut named = named?;
     let is_unasked = heap.left() == u64::MAX;
     for passed in 0..MANY {
         let is_refused = is_refused_from(heap, &named, passed);
@@ -186,16 +183,11 @@ fn refused_in_turn<W: Named>(heap: &Heap, named: W, first: usize) -> Option<u64>
     None
 }
 
-/// The same of what has all three.
-fn copies<W: Named>(heap: &Heap, named: Option<W>) -> Option<u64> {
-    refused_in_turn(heap, named?, 0)
-}
-
 /// The same of a walk that has given the first of three.
 fn copies_left<W: Named>(heap: &Heap, named: Option<W>) -> Option<u64> {
     let mut named = named?;
     let is_given = named.gives(0);
-    let requests = refused_in_turn(heap, named, 1)?;
+    let requests = copies(heap, Some(named), 1)?;
     is_given.then_some(requests)
 }
 
@@ -214,11 +206,6 @@ fn values_of<A: Allocator>(names: Option<Names<A>>) -> Option<IntoValues<Key, St
 /// The part of a map behind its first name.
 fn part_of<A: Allocator>(names: Option<Names<A>>) -> Option<IntoIter<Key, String<A>, A>> {
     Some(names?.into_children(&key_at(1)))
-}
-
-/// The same of a part, which has all but the first.
-fn refused_part<W: Named>(heap: &Heap, named: Option<W>) -> Option<u64> {
-    refused_in_turn(heap, named?, 1)
 }
 
 /// Stores the three keys.
@@ -244,64 +231,32 @@ fn keys_of_set<A: Allocator>(set: Option<PrefixSet<Key, A>>) -> Option<IntoKeys<
     Some(set?.into_iter())
 }
 
-/// Three numbers at the same keys.
-const NUMBERS: [(Key, u16); 3] = [
-    ((0x0a00_0000, 8), 1),
-    ((0x0a00_0000, 9), 2),
-    ((0x0a01_0000, 24), 3),
-];
-
-/// How many requests the copy of three numbers makes, which are stored first.
-fn requests_of<A: Allocator + Clone>(numbers: &mut Numbers<A>, heap: &Heap) -> Option<u64> {
-    let is_filled = stores(numbers, &NUMBERS);
-    heap.refuse(MANY, 0);
-    let is_copied = numbers.clone().is_ok();
-    let requests = MANY.wrapping_sub(heap.to_pass());
-    (is_filled & is_copied).then_some(requests)
-}
-
-/// The same of a new map.
-fn requests_for_numbers<A: Allocator + Clone>(
-    heap: &Heap,
-    alloc: A,
-) -> Result<Option<u64>, Refusal> {
-    let mut numbers = PrefixMap::new(alloc)?;
-    Ok(requests_of::<A>(&mut numbers, heap))
-}
-
-/// Whether the copy of a map of names, and that of each walk which takes it apart, makes three requests more than that of numbers, and
-/// two more where the first name was given.
-fn are_requests<A: Allocator + Copy>(
-    heap: &Heap,
-    alloc: A,
-    numbers: Result<Option<u64>, Refusal>,
-) -> bool {
-    let Ok(Some(numbers)) = numbers else {
-        return false;
-    };
-    let of_three = Some(numbers.wrapping_add(3));
-    let of_two = Some(numbers.wrapping_add(2));
-    (copies(heap, filled(heap, alloc)) == of_three)
-        & (refused_part(heap, part_of(filled(heap, alloc))) == of_three)
-        & (copies(heap, items_of(filled(heap, alloc))) == of_three)
-        & (copies(heap, keys_of(filled(heap, alloc))) == of_three)
-        & (copies(heap, values_of(filled(heap, alloc))) == of_three)
-        & (copies_left(heap, items_of(filled(heap, alloc))) == of_two)
+/// Whether the copy of a map of names, and that of each walk which takes it apart, make as many requests, and one less where the first
+/// name was given.
+fn are_requests<A: Allocator + Copy>(heap: &Heap, alloc: A) -> bool {
+    let of_two = copies_left(heap, items_of(filled(heap, alloc)));
+    let of_three = Some(of_two.unwrap_or(0).wrapping_add(1));
+    (of_two.unwrap_or(0) > 2)
+        & (copies(heap, filled(heap, alloc), 0) == of_three)
+        & (copies(heap, part_of(filled(heap, alloc)), 1) == of_three)
+        & (copies(heap, items_of(filled(heap, alloc)), 0) == of_three)
+        & (copies(heap, keys_of(filled(heap, alloc)), 0) == of_three)
+        & (copies(heap, values_of(filled(heap, alloc)), 0) == of_three)
         & (copies_left(heap, keys_of(filled(heap, alloc))) == of_two)
         & (copies_left(heap, values_of(filled(heap, alloc))) == of_two)
 }
 
 /// Whether the copy of a set, and that of the walk that takes it apart, makes as many requests as the other, and some.
 fn are_alike<A: Allocator + Copy>(heap: &Heap, alloc: A) -> bool {
-    let requests = copies(heap, keys(heap, alloc));
+    let requests = copies(heap, keys(heap, alloc), 0);
     (requests.unwrap_or(0) > 0)
-        & (copies(heap, keys_of_set(keys(heap, alloc))) == requests)
+        & (copies(heap, keys_of_set(keys(heap, alloc)), 0) == requests)
         & (copies_left(heap, keys_of_set(keys(heap, alloc))) == requests)
 }
 
 #[test]
 fn each_request_of_a_copy_refused(rt: HostRuntime) {
     let heap = Refusing::new(rt.alloc());
-    assert!(rt; are_requests(&heap, &heap, requests_for_numbers(&heap, &heap)));
+    assert!(rt; are_requests(&heap, &heap));
     assert!(rt; are_alike(&heap, &heap));
 }

@@ -10,8 +10,6 @@ const MANY: u64 = 100;
 
 type Heap = Refusing<Global>;
 
-type Key = (u32, u8);
-
 // The set of the prefixes of a vector.
 fn of_prefixes<P: Prefix, A: Allocator + Clone>(
     alloc: A,
@@ -22,21 +20,13 @@ fn of_prefixes<P: Prefix, A: Allocator + Clone>(
     PrefixSet::from_iter(alloc, prefixes)
 }
 
-/// How many prefixes a set has, None where it was refused for want of memory.
-fn len_of<A: Allocator>(made: Result<PrefixSet<Key, A>, Refusal>) -> Option<usize> {
-    match made {
-        Ok(set) => Some(set.len()),
-        Err(Refusal::Memory) => None,
-        Err(_) => Some(0),
-    }
-}
-
-/// The same of the set of two hosts and a network.
-fn collected(heap: &Heap) -> Option<usize> {
-    match vec![in heap.inner(); (0_u32, 32_u8), (0, 8), (0x8000_0000, 32)] {
-        Ok(keys) => len_of(of_prefixes(heap, keys)),
-        Err(_) => None,
-    }
+/// How many prefixes the set of two hosts and a network has.
+fn collected(heap: &Heap) -> Result<usize, Refusal> {
+    let Ok(keys) = vec![in heap.inner(); (0_u32, 32_u8), (0, 8), (0x8000_0000, 32)] else {
+        return Err(Refusal::Memory);
+    };
+    let set = of_prefixes(heap, keys)?;
+    Ok(set.len())
 }
 
 /// Collects them with so many requests refused from another one on each time. Answers whether some were, each time with a refusal, and
@@ -46,9 +36,9 @@ fn is_refused_in_turn(heap: &Heap, refused: u64) -> bool {
         heap.refuse(passed, refused);
         let answer = collected(heap);
         if heap.left() == refused {
-            return 0 < passed && answer == Some(3);
+            return 0 < passed && answer == Ok(3);
         }
-        if answer.is_some() {
+        if answer != Err(Refusal::Memory) {
             return false;
         }
     }

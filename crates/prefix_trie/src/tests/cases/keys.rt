@@ -149,7 +149,7 @@ impl<P: Prefix + Copy + PartialEq, A: Allocator + Copy> Tried<P::R, A> for Prefi
         (self.node_count() <= self.node_slots()) & (self.len() <= self.cell_slots())
     }
 
-    fn is_changed(&mut self, case: &Case<'_, P::R>) -> bool {
+    fn changes_as(&mut self, case: &Case<'_, P::R>) -> bool {
         match case {
             Case::Removes(at, before) => self.remove(&prefix_of(*at)) == before.is_some(),
             Case::Empties(at, before) => self.remove_keep_tree(&prefix_of(*at)) == before.is_some(),
@@ -171,7 +171,7 @@ impl<P: Prefix + Copy + PartialEq, A: Allocator + Copy> Tried<P::R, A> for Prefi
         }
     }
 
-    fn answers(&self, heap: &Refusing<Global>, case: &Case<'_, P::R>) -> bool {
+    fn answers_as(&self, heap: &Refusing<Global>, case: &Case<'_, P::R>) -> bool {
         match case {
             Case::Finds(at, exact, longest, shortest) => {
                 let found = (pair_in(*exact), pair_in(*longest), pair_in(*shortest));

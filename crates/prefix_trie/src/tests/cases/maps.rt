@@ -60,7 +60,7 @@ impl<P: Prefix + Copy + PartialEq, A: Allocator + Copy> Tried<P::R, A> for Prefi
         has_sums(self)
     }
 
-    fn is_changed(&mut self, case: &Case<'_, P::R>) -> bool {
+    fn changes_as(&mut self, case: &Case<'_, P::R>) -> bool {
         match case {
             Case::Removes(at, before) => self.remove(&prefix_of(*at)) == *before,
             Case::Empties(at, before) => self.remove_keep_tree(&prefix_of(*at)) == *before,
@@ -84,7 +84,7 @@ impl<P: Prefix + Copy + PartialEq, A: Allocator + Copy> Tried<P::R, A> for Prefi
         }
     }
 
-    fn answers(&self, heap: &Refusing<Global>, case: &Case<'_, P::R>) -> bool {
+    fn answers_as(&self, heap: &Refusing<Global>, case: &Case<'_, P::R>) -> bool {
         match case {
             Case::Finds(at, exact, longest, shortest) => {
                 finds(heap.inner(), self, *at, *exact, *longest, *shortest)

@@ -43,12 +43,11 @@ pub trait Tried<K: Key, A: Allocator + Copy>: Drop {
     /// Whether its arrays have room for what it has, as its blocks are.
     fn has_sums(&self) -> bool;
 
-    /// Makes the call of a case that is of one alone and cannot be refused, and answers whether it is answered so. A question changes
-    /// nothing here.
-    fn is_changed(&mut self, case: &Case<'_, K>) -> bool;
+    /// Makes the call of a case that is of one alone and cannot be refused, and compares its answer. A question changes nothing here.
+    fn changes_as(&mut self, case: &Case<'_, K>) -> bool;
 
-    /// Whether a question is answered as a case says.
-    fn answers(&self, heap: &Refusing<Global>, case: &Case<'_, K>) -> bool;
+    /// Asks the question of a case, and compares its answer.
+    fn answers_as(&self, heap: &Refusing<Global>, case: &Case<'_, K>) -> bool;
 }
 
 /// Puts what was made, if it was, in place of another, and answers whether it is there.
@@ -172,23 +171,23 @@ fn lists<K: Key, A: Allocator + Copy, M: Tried<K, A>>(
 ) -> bool {
     for (index, entry) in entries.iter().enumerate() {
         let case = Case::ListsFrom(entry.0, entries.get(index..).unwrap_or(&[]));
-        if !is_right::<K, A, M>(heap, tried, &case) {
+        if !answers_so::<K, A, M>(heap, tried, &case) {
             return false;
         }
     }
-    is_right::<K, A, M>(heap, tried, &Case::Lists(entries))
+    answers_so::<K, A, M>(heap, tried, &Case::Lists(entries))
 }
 
-/// Whether that of one that is no insertion is.
-fn is_right<K: Key, A: Allocator + Copy, M: Tried<K, A>>(
+/// Makes the call of a case that is no insertion, and compares its answer.
+fn answers_so<K: Key, A: Allocator + Copy, M: Tried<K, A>>(
     heap: &Refusing<Global>,
     tried: &mut M,
     case: &Case<'_, K>,
 ) -> bool {
-    tried.is_changed(case) & tried.answers(heap, case)
+    tried.changes_as(case) & tried.answers_as(heap, case)
 }
 
-/// Whether a case holds, and the arrays have the room that they should.
+/// Makes the call of a case, and compares its answer. Whether it is as said, and the arrays have the room that they should.
 pub fn holds<K: Key, A: Allocator + Copy, M: Tried<K, A>>(
     heap: &Refusing<Global>,
     alloc: A,
@@ -205,7 +204,7 @@ pub fn holds<K: Key, A: Allocator + Copy, M: Tried<K, A>>(
             true
         }
         Case::Lists(entries) => lists::<K, A, M>(heap, tried, entries),
-        _ => is_stored::<K, A, M>(heap, tried, case),
+        _ => holds_in::<K, A, M>(heap, tried, case),
     };
     is_held & tried.has_sums()
 }
@@ -216,11 +215,11 @@ pub fn holds_alone<K: Key, A: Allocator + Copy, M: Tried<K, A>>(
     tried: &mut M,
     case: &Case<'_, K>,
 ) -> bool {
-    is_stored::<K, A, M>(heap, tried, case) & tried.has_sums()
+    holds_in::<K, A, M>(heap, tried, case) & tried.has_sums()
 }
 
-/// Whether the call of such a case, which may be an insertion, is answered so.
-fn is_stored<K: Key, A: Allocator + Copy, M: Tried<K, A>>(
+/// The same without the arrays.
+fn holds_in<K: Key, A: Allocator + Copy, M: Tried<K, A>>(
     heap: &Refusing<Global>,
     tried: &mut M,
     case: &Case<'_, K>,
@@ -236,7 +235,7 @@ fn is_stored<K: Key, A: Allocator + Copy, M: Tried<K, A>>(
         Case::Fills(call, at, value) => {
             stores::<K, A, M>(heap, tried, *call, &(*at, *value), Ok(None))
         }
-        _ => is_right::<K, A, M>(heap, tried, case),
+        _ => answers_so::<K, A, M>(heap, tried, case),
     }
 }
 

@@ -21,6 +21,7 @@ fn double_rest<'b, 'a, P: Prefix, A: Allocator>(walk: &'b mut ValuesMut<'a, P, u
 /// Doubles all values of a map, modulo 2^64.
 pub fn double_all<P: Prefix, A: Allocator>(map: &mut PrefixMap<P, u64, A>)
     ensures entries { (s : List Bool) → get map.new.entries s ≡ option_map (λ v. (v * 2) % 2 ^ 64) (get map.old.entries s) }
+    ensures others { map.new ≡ record map.old { entries = map.new.entries } }
 {
     let mut walk = map.values_mut();
     double_rest(&mut walk);

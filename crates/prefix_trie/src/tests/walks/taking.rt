@@ -29,6 +29,9 @@ type Key = (u8, u8);
 
 type Counting<'a, A> = PrefixMap<Key, Counted<'a>, A>;
 
+/// More requests than one copy makes.
+const MANY: u64 = 100;
+
 /// The keys of three that count.
 const KEYS: [Key; 3] = [(0, 0), (0, 1), (0, 8)];
 
@@ -73,71 +76,49 @@ impl<T: Clone, A: Allocator + Clone> Taking for IntoValues<Key, T, A> {
     }
 }
 
-/// How many are dropped once a walk gave so many items, and once it was dropped too.
-fn drops_of<W: Taking>(walk: W, taken: u64, drops: &Cell<u64>) -> (u64, u64) {
-    let mut walk = walk;
-    for _ in 0..taken {
+/// Takes so many items.
+fn take<W: Taking>(walk: &mut W, count: u64) {
+    for _ in 0..count {
         walk.lets_next_go();
     }
-    let before = drops.get();
-    let_go(walk);
-    (before, drops.replace(0))
 }
 
-/// The same of each walk.
-fn dropped<A: Allocator + Copy>(alloc: A, taken: u64) -> Option<[(u64, u64); 4]> {
-    let drops = Cell::new(0);
-    let items = drops_of(three(alloc, &drops)?.into_iter(), taken, &drops);
-    let part = three(alloc, &drops)?.into_children(&(0, 1));
-    let part = drops_of(part, taken, &drops);
-    let keys = drops_of(three(alloc, &drops)?.into_keys(), taken, &drops);
-    let values = drops_of(three(alloc, &drops)?.into_values(), taken, &drops);
-    Some([items, part, keys, values])
-}
-
-#[test]
-fn what_is_not_taken_is_dropped_with_the_walk(rt: HostRuntime) {
-    let alloc = rt.alloc();
-    assert!(rt; dropped(alloc, 0) == Some([(0, 3), (0, 3), (0, 3), (0, 3)]));
-    assert!(rt; dropped(alloc, 1) == Some([(1, 3), (1, 3), (1, 3), (1, 3)]));
-    assert!(rt; dropped(alloc, 2) == Some([(2, 3), (2, 3), (2, 3), (2, 3)]));
-    assert!(rt; dropped(alloc, 4) == Some([(3, 3), (2, 3), (3, 3), (3, 3)]));
-}
-
-/// How many are dropped once a walk gave an item, was copied, and gave all the rest, once its copy gave all, and once both were dropped.
-fn drops_of_copy<W: Taking>(walk: W, drops: &Cell<u64>) -> Option<(u64, u64, u64)> {
+/// How many are dropped once a walk gave so many items, once its copy gave all that are left and was dropped, and once the walk was.
+fn drops_of<W: Taking>(walk: W, taken: u64, drops: &Cell<u64>) -> Option<(u64, u64, u64)> {
     let mut walk = walk;
-    walk.lets_next_go();
-    let mut copy = walk.copy().ok()?;
-    for _ in 0..3 {
-        walk.lets_next_go();
-    }
+    take(&mut walk, taken);
     let first = drops.get();
-    for _ in 0..3 {
-        copy.lets_next_go();
-    }
+    let mut copy = walk.copy().ok()?;
+    take(&mut copy, 4);
+    let_go(copy);
     let second = drops.get();
     let_go(walk);
-    let_go(copy);
     Some((first, second, drops.replace(0)))
 }
 
 /// The same of each walk.
-fn dropped_with_copy<A: Allocator + Copy>(alloc: A) -> Option<[(u64, u64, u64); 4]> {
+fn dropped<A: Allocator + Copy>(alloc: A, taken: u64) -> Option<[(u64, u64, u64); 4]> {
     let drops = Cell::new(0);
-    let items = drops_of_copy(three(alloc, &drops)?.into_iter(), &drops)?;
+    let items = drops_of(three(alloc, &drops)?.into_iter(), taken, &drops)?;
     let part = three(alloc, &drops)?.into_children(&(0, 1));
-    let part = drops_of_copy(part, &drops)?;
-    let keys = drops_of_copy(three(alloc, &drops)?.into_keys(), &drops)?;
-    let values = drops_of_copy(three(alloc, &drops)?.into_values(), &drops)?;
+    let part = drops_of(part, taken, &drops)?;
+    let keys = drops_of(three(alloc, &drops)?.into_keys(), taken, &drops)?;
+    let values = drops_of(three(alloc, &drops)?.into_values(), taken, &drops)?;
     Some([items, part, keys, values])
 }
 
+// The part has two items, and the value above them beside.
 #[test]
-fn what_a_copy_has_is_dropped_too(rt: HostRuntime) {
-    assert!(rt;
-        dropped_with_copy(rt.alloc()) == Some([(3, 5, 5), (2, 3, 5), (3, 5, 5), (3, 5, 5)])
-    );
+fn what_is_not_taken_is_dropped_with_the_walk(rt: HostRuntime) {
+    let alloc = rt.alloc();
+    let none = (0, 3, 6);
+    assert!(rt; dropped(alloc, 0) == Some([none, none, none, none]));
+    let one = (1, 3, 5);
+    assert!(rt; dropped(alloc, 1) == Some([one, (1, 3, 5), one, one]));
+    let two = (2, 3, 4);
+    assert!(rt; dropped(alloc, 2) == Some([two, (2, 3, 4), two, two]));
+    let all = (3, 3, 3);
+    assert!(rt; dropped(alloc, 4) == Some([all, (2, 3, 4), all, all]));
 }
 
 /// How many are dropped once three are stored and one of them is replaced, one is taken out, and all are cleared.
@@ -200,27 +181,6 @@ fn put_name<'a, A: Allocator>(
     key.fits() && is_new(stored::put(names, key, Named { name, counted }))
 }
 
-/// Whether a copy is refused. It is let go.
-fn is_copy_refused<A: Allocator + Clone>(names: &Names<'_, A>) -> bool {
-    let copy = names.clone();
-    let is_refused = copy.is_err();
-    let_go(copy);
-    is_refused
-}
-
-/// How many are dropped by a copy whose request is refused that comes after so many; none where it is granted.
-fn drops_of_refused_copy<A: Allocator + Clone>(
-    heap: &Refusing<Global>,
-    names: &Names<'_, A>,
-    passed: u64,
-    drops: &Cell<u64>,
-) -> Option<u64> {
-    heap.refuse(passed, 1);
-    let is_refused = is_copy_refused(names) & (heap.left() == 0);
-    let dropped = drops.replace(0);
-    is_refused.then_some(dropped)
-}
-
 /// Stores a name at each of the three keys.
 fn put_names<'a, A: Allocator + Copy>(
     alloc: A,
@@ -235,34 +195,38 @@ fn put_names<'a, A: Allocator + Copy>(
     true
 }
 
-/// How many requests a copy makes.
-fn requests_of_copy<A: Allocator + Clone>(heap: &Refusing<Global>, names: &Names<'_, A>) -> u64 {
-    heap.refuse(u64::MAX, 0);
-    let _ = is_copy_refused(names);
-    u64::MAX.wrapping_sub(heap.to_pass())
+/// Whether a copy is refused. It is let go.
+fn is_copy_refused<A: Allocator + Clone>(names: &Names<'_, A>) -> bool {
+    let copy = names.clone();
+    let is_refused = copy.is_err();
+    let_go(copy);
+    is_refused
 }
 
-/// How many are dropped by copies whose last three requests are refused in turn, and by one of which none is.
+/// How many are dropped by copies with another request refused each time, one alone, and by the first that is granted.
 fn drops_of_copies<A: Allocator + Clone>(
     heap: &Refusing<Global>,
     names: &Names<'_, A>,
     drops: &Cell<u64>,
-) -> [Option<u64>; 4] {
-    let first = requests_of_copy(heap, names).wrapping_sub(3);
-    let _ = drops.replace(0);
-    [
-        drops_of_refused_copy(heap, names, first, drops),
-        drops_of_refused_copy(heap, names, first.wrapping_add(1), drops),
-        drops_of_refused_copy(heap, names, first.wrapping_add(2), drops),
-        drops_of_refused_copy(heap, names, first.wrapping_add(3), drops),
-    ]
+) -> (u64, u64) {
+    let mut by_refused = 0_u64;
+    for passed in 0..MANY {
+        heap.refuse(passed, 1);
+        let is_refused = is_copy_refused(names);
+        let dropped = drops.replace(0);
+        if !is_refused {
+            return (by_refused, dropped);
+        }
+        by_refused = by_refused.wrapping_add(dropped);
+    }
+    (by_refused, 0)
 }
 
-/// The same of copies of three: those are dropped that were copied by then.
-fn drops_of_refused_copies<A: Allocator + Copy>(
+/// The same of copies of three. Those are dropped that were copied by then: none, one and two, where a name's own request is refused.
+fn drops_of_copies_of_three<A: Allocator + Copy>(
     heap: &Refusing<Global>,
     alloc: A,
-) -> Option<[Option<u64>; 4]> {
+) -> Option<(u64, u64)> {
     let drops = Cell::new(0);
     let mut names = PrefixMap::new(alloc).ok()?;
     let are_put = put_names(alloc, &mut names, &drops);
@@ -270,21 +234,11 @@ fn drops_of_refused_copies<A: Allocator + Copy>(
     are_put.then_some(counts)
 }
 
-/// How many are dropped with a map that is let go.
-fn drops_of_whole<A: Allocator + Clone>(alloc: A) -> Option<(u64, u64)> {
-    let drops = Cell::new(0);
-    let map = three(alloc, &drops)?;
-    let before = drops.get();
-    let_go(map);
-    Some((before, drops.get()))
-}
-
 #[test]
 fn each_value_is_dropped_once(rt: HostRuntime) {
     let alloc = rt.alloc();
     assert!(rt; drops_of_map(alloc) == Some(([0, 1, 2, 4], 4)));
     assert!(rt; drops_of_refused(alloc) == Some([0, 1, 1]));
-    assert!(rt; drops_of_whole(alloc) == Some((0, 3)));
     let heap = Refusing::new(alloc);
-    assert!(rt; drops_of_refused_copies(&heap, &heap) == Some([Some(0), Some(1), Some(2), None]));
+    assert!(rt; drops_of_copies_of_three(&heap, &heap) == Some((3, 3)));
 }

@@ -1,43 +1,17 @@
 //! Callers of walks that lend values for writing, and what they know of the map afterwards.
 ghost use Rattle.std.specs.Prelude.{◌≡◌, List, Bool, [], ◌∷◌, IsTrue, MatchOption, slice_get};
-ghost use Rattle.std.specs.FinMap.{get};
-ghost use Rattle.std.specs.Option.{option_map};
 ghost use Rattle.prefix_trie_bits.specs.Model.Selections.{listing, shown};
 ghost use Rattle.prefix_trie_table.specs.Shape.{with_value_at};
 ghost use Rattle.prefix_trie_map.specs.Writing.{ComesToEnd, GoesOver, IsFirst};
 ghost use Rattle.prefix_trie_map.specs.WritingWalks.{EndsIn, FirstIn, PassesIn};
-ghost use Rattle.prefix_trie.specs.Rewriting.{OrderedIn, RewritesIn};
 
-use crate::map::{IterMut, ValuesMut};
+use crate::map::IterMut;
 use crate::tests::examples::scaling::double_all;
 use crate::tests::refusing::Refusing;
 use crate::tests::stored::{has_values, stores};
 use crate::{Prefix, PrefixMap, Refusal};
 use std::alloc::{Allocator, Global};
 use std::mem;
-
-// Sets the values that are still to come.
-fn set_rest<'b, 'a, P: Prefix, T: Copy, A: Allocator>(
-    walk: &'b mut ValuesMut<'a, P, T, A>,
-    value: T,
-)
-    requires { OrderedIn walk.old.walk.course }
-    ensures { RewritesIn (λ _. value) walk.old.walk.course walk.new.walk.course }
-{
-    while let Some(place) = walk.next() {
-        *place = value;
-    }
-}
-
-// Sets all values of a map.
-fn set_all<P: Prefix, T: Copy, A: Allocator>(map: &mut PrefixMap<P, T, A>, value: T)
-    ensures entries { (q : List Bool) → get map.new.entries q ≡ option_map (λ _. value) (get map.old.entries q) }
-    ensures others { map.new ≡ record map.old { entries = map.new.entries } }
-{
-    let mut walk = map.values_mut();
-    set_rest(&mut walk, value);
-    if let Some(_map) = walk.into_map() {}
-}
 
 // Swaps the next value for another, and answers its prefix and what was there.
 fn swap_next<'b, 'a, P: Prefix, T: Drop, A: Allocator>(
@@ -146,8 +120,7 @@ fn are_written<A: Allocator>(map: &mut Numbers<A>, heap: &Refusing<Global>) -> b
         has_values(map, &[10, 22, 31]),
         are_empty(map),
     ];
-    set_all(map, 7);
-    (answers == [true; 9]) & has_values(map, &[7, 7, 7]) & (heap.left() == u64::MAX)
+    (answers == [true; 9]) & (heap.left() == u64::MAX)
 }
 
 /// The same of a new map.

@@ -5,7 +5,7 @@ use Rattle.prefix_trie.proofs.tests.examples.scaling.double_all.Goals as goal
 pub double_rest-requires : goal.double_rest-requires
 double_rest-requires g c = starts_ordered _ _ c.values_mut-walk.ensures.starts
 
-pub returns-in-Some : goal.returns-in-Some
-returns-in-Some g c =
+pub returns-in-Some-clause-entries : goal.returns-in-Some-clause-entries
+returns-in-Some-clause-entries g c =
     let done = rewritten (λ v. (v * 2) % 2 ^ 64) _ _ _ _ c.values_mut-walk.ensures.starts c.double_rest.ensures (rw c.in-Some.is at c.into_map.ensures) in
     search rules
