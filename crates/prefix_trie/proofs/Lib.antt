@@ -1,5 +1,6 @@
 pub mod Prelude
 pub mod Allocators
+pub mod Always
 pub mod AnyMap
 pub mod Batches
 pub mod Putting

@@ -21,7 +21,7 @@ pub use Rattle.std.specs.List.{list_all, list_any, sum}
 pub use Rattle.std.specs.Map.Iter.{TakesFirst}
 pub use Rattle.std.specs.Option.{IfSome, option_map, option_or}
 pub use Rattle.std.specs.Vec.Iter.{into_iter_items, into_iter_steps}
-pub use Rattle.prefix_trie_bits.proofs.Model.Askings.{keeps_filter, may_ask_always}
+pub use Rattle.prefix_trie_bits.proofs.Model.Askings.{keeps_filter}
 pub use Rattle.prefix_trie_bits.proofs.Model.Matches.{match_laws, one_of_length}
 pub use Rattle.prefix_trie_bits.proofs.Model.Members.{and-first, and-join, and-second, get-with_entry, get-without_entry, is-same_string, of-key, or-right, same_entries, same_string-is, some-value}
 pub use Rattle.prefix_trie_bits.proofs.Model.NodeSets.{tidy-no_entries}

@@ -1,10 +1,10 @@
 //! Copies of a map and a set, and of the walks that take them apart, with each request for memory refused in turn: each value is cloned
 //! once.
 use crate::map::{IntoIter, IntoKeys, IntoValues};
-use crate::tests::cases::keys::put;
+use crate::tests::cases::keys::adds_key;
 use crate::tests::cases::prefix_of;
 use crate::tests::refusing::Refusing;
-use crate::tests::stored::{self, is_new};
+use crate::tests::stored::adds;
 use crate::{Prefix, PrefixMap, PrefixSet};
 use std::alloc::{AllocError, Allocator, Global};
 
@@ -40,7 +40,7 @@ fn key_at(place: usize) -> Key
 fn put_names<A: Allocator + Copy>(alloc: A, names: &mut Names<A>) -> Result<bool, AllocError> {
     for (place, text) in NAMES.iter().enumerate() {
         let name = String::from_str(alloc, text)?;
-        if !is_new(stored::put(names, key_at(place), name)) {
+        if !adds(names, key_at(place), name) {
             return Ok(false);
         }
     }
@@ -211,7 +211,7 @@ fn part_of<A: Allocator>(names: Option<Names<A>>) -> Option<IntoIter<Key, String
 /// Stores the three keys.
 fn put_keys<A: Allocator>(set: &mut PrefixSet<Key, A>) -> bool {
     for place in 0..3_usize {
-        if put(set, key_at(place)) != Ok(true) {
+        if !adds_key(set, key_at(place)) {
             return false;
         }
     }

@@ -1,10 +1,11 @@
 //! Maps and sets that are split: what refused requests for memory leave, and what is dropped when.
-use crate::tests::cases::{keys, prefix_of};
+use crate::tests::cases::keys::adds_key;
+use crate::tests::cases::prefix_of;
 use crate::tests::drops::let_go;
 use crate::tests::examples::splitting::split_and_merge;
 use crate::tests::refusing::Refusing;
-use crate::tests::stored::{is_new, put};
-use crate::{Ipv4Prefix, Prefix, PrefixMap, PrefixSet, Refusal};
+use crate::tests::stored::adds;
+use crate::{Ipv4Prefix, PrefixMap, PrefixSet, Refusal};
 use std::alloc::{Allocator, Global};
 use std::cell::Cell;
 
@@ -43,7 +44,7 @@ fn put_six<'a, A: Allocator>(map: &mut Map<'a, A>, drops: &'a Cell<u64>) -> bool
     let mut number = 0_u64;
     for pair in &NETWORKS {
         number = number.wrapping_add(1);
-        if !is_new(put(map, prefix_of(*pair), Numbered { number, drops })) {
+        if !adds(map, prefix_of(*pair), Numbered { number, drops }) {
             return false;
         }
     }
@@ -156,7 +157,7 @@ const HOSTS: [(u32, u8); 4] = [
 /// Puts them into a set.
 fn put_hosts<A: Allocator>(set: &mut PrefixSet<(u32, u8), A>) -> bool {
     for host in &HOSTS {
-        if !host.fits() || keys::put(set, *host) != Ok(true) {
+        if !adds_key(set, *host) {
             return false;
         }
     }

@@ -1,13 +1,38 @@
-//! Callers of `retain`, at any type of prefixes and at a concrete one.
+//! Callers of `retain`: with any test that may always be asked, and at concrete types.
 
 use crate::tests::examples::expiry::keep_from;
 use crate::tests::stored::{has_keys, stores};
-use crate::{Prefix, PrefixMap, Refusal};
+use crate::{Prefix, PrefixMap, PrefixSet, Refusal};
 use std::alloc::Allocator;
+
+/// Keeps the entries at which a test answers true. It has no `ensures`, which each caller would have to read.
+pub fn keep_where<P: Prefix, A: Allocator, F: FnMut(&P, &u64) -> bool + Drop>(
+    map: &mut PrefixMap<P, u64, A>,
+    test: F,
+)
+    requires { F.IsAlwaysCallable test }
+{
+    map.retain(test);
+}
+
+/// The same of a set.
+pub fn keep_keys_where<P: Prefix, A: Allocator, F: FnMut(&P) -> bool + Drop>(
+    set: &mut PrefixSet<P, A>,
+    test: F,
+)
+    requires { F.IsAlwaysCallable test }
+{
+    set.retain(test);
+}
 
 /// Keeps the entries whose keys have at least so many bits.
 pub fn retain_long<P: Prefix, A: Allocator>(map: &mut PrefixMap<P, u64, A>, len: u8) {
-    map.retain(move |prefix, _| len <= prefix.prefix_len());
+    keep_where(map, move |prefix, _| len <= prefix.prefix_len());
+}
+
+/// The same of a set.
+pub fn retain_long_keys<P: Prefix, A: Allocator>(set: &mut PrefixSet<P, A>, len: u8) {
+    keep_keys_where(set, move |prefix| len <= prefix.prefix_len());
 }
 
 /// Four numbers, of which two are below three.

@@ -3,7 +3,7 @@ use crate::{Prefix, PrefixMap, Refused};
 use std::alloc::Allocator;
 
 /// Whether an insertion was of a new key.
-pub fn is_new<T: Drop>(answer: Result<Option<T>, Refused<T>>) -> bool {
+fn is_new<T: Drop>(answer: Result<Option<T>, Refused<T>>) -> bool {
     match answer {
         Ok(None) => true,
         _ => false,
@@ -21,13 +21,22 @@ pub fn put<P: Prefix, T: Drop, A: Allocator>(
     map.insert(prefix, value)
 }
 
+/// Stores a value. Answers whether its prefix fits and is new.
+pub fn adds<P: Prefix, T: Drop, A: Allocator>(
+    map: &mut PrefixMap<P, T, A>,
+    prefix: P,
+    value: T,
+) -> bool {
+    prefix.fits() && is_new(put(map, prefix, value))
+}
+
 /// Stores entries in turn. Answers whether each prefix fits and is new.
 pub fn stores<P: Prefix + Copy, T: Copy + Drop, A: Allocator>(
     map: &mut PrefixMap<P, T, A>,
     entries: &[(P, T)],
 ) -> bool {
     for (prefix, value) in entries {
-        if !prefix.fits() || !is_new(put(map, *prefix, *value)) {
+        if !adds(map, *prefix, *value) {
             return false;
         }
     }

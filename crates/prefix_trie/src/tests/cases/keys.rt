@@ -3,10 +3,11 @@ use crate::map::CoverKeys;
 use crate::set::Iter;
 use crate::tests::cases::filling::Fill;
 use crate::tests::cases::lists::below;
-use crate::tests::cases::questions::{found_pair, pair_in, pair_of, was_refused};
+use crate::tests::cases::questions::{found_pair, is_found_pair, pair_in, pair_of, was_refused};
 use crate::tests::cases::tried::{Answer, State, Tried};
 use crate::tests::cases::{Case, Entry, Pair, prefix_of};
 use crate::tests::refusing::Refusing;
+use crate::tests::retain::retain_long_keys;
 use crate::{Prefix, PrefixSet, Refusal, Refused};
 use std::alloc::{AllocError, Allocator, Global};
 
@@ -23,6 +24,11 @@ pub fn put<P: Prefix, A: Allocator>(set: &mut PrefixSet<P, A>, prefix: P) -> Res
     requires { P.IsFitting prefix }
 {
     set.insert(prefix)
+}
+
+/// Inserts a prefix. Answers whether it fits and is new.
+pub fn adds_key<P: Prefix, A: Allocator>(set: &mut PrefixSet<P, A>, prefix: P) -> bool {
+    prefix.fits() && put(set, prefix) == Ok(true)
 }
 
 /// All keys, as entries.
@@ -87,16 +93,11 @@ fn finds<P: Prefix + Copy, A: Allocator>(
     shortest: Option<Pair<P::R>>,
 ) -> bool {
     let prefix = prefix_of(at);
-    (found_pair(set.get(&prefix)) == exact)
+    is_found_pair(set.get(&prefix), exact)
         & (set.contains(&prefix) == exact.is_some())
-        & (found_pair(set.get_lpm(&prefix)) == longest)
-        & (found_pair(set.get_spm(&prefix)) == shortest)
+        & is_found_pair(set.get_lpm(&prefix), longest)
+        & is_found_pair(set.get_spm(&prefix), shortest)
         & (set.is_covered(&prefix) == shortest.is_some())
-}
-
-/// Keeps the keys of at least so many bits.
-fn retains_long<P: Prefix, A: Allocator>(set: &mut PrefixSet<P, A>, len: u8) {
-    set.retain(move |prefix| len <= prefix.prefix_len());
 }
 
 impl<P: Prefix + Copy + PartialEq, A: Allocator + Copy> Tried<P::R, A> for PrefixSet<P, A> {
@@ -160,7 +161,7 @@ impl<P: Prefix + Copy + PartialEq, A: Allocator + Copy> Tried<P::R, A> for Prefi
                 true
             }
             Case::RetainsLong(len) => {
-                retains_long(self, *len);
+                retain_long_keys(self, *len);
                 true
             }
             Case::Clears => {

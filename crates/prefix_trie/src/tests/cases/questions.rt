@@ -54,7 +54,7 @@ fn is_found<P: Prefix + Copy>(found: Option<(P, &u64)>, wanted: Option<Entry<P::
 }
 
 /// Whether the prefix of this pair was found.
-fn is_found_pair<P: Prefix + Copy>(found: Option<P>, wanted: Option<Pair<P::R>>) -> bool {
+pub fn is_found_pair<P: Prefix + Copy>(found: Option<P>, wanted: Option<Pair<P::R>>) -> bool {
     found_pair(found) == wanted
 }
 
@@ -106,41 +106,39 @@ fn has_longest<P: Prefix + Copy, A: Allocator>(
 }
 
 /// Whether those of many longest matches do, asked for one prefix.
-fn has_longest_in_bulk<P: Prefix + Copy, A: Allocator>(
-    alloc: Global,
-    map: &PrefixMap<P, u64, A>,
+fn has_longest_in_bulk<'a, P: Prefix + Copy, A: Allocator>(
+    map: &'a PrefixMap<P, u64, A>,
     asked: &[P],
+    found: &mut [Option<(P, &'a u64)>],
     longest: Option<Entry<P::R>>,
-) -> Result<bool, AllocError>
+) -> bool
     requires fit { All P.IsFitting asked.now }
     requires one { length asked.now ≡ 1 }
+    requires same_length { length found.old ≡ 1 }
 {
-    let mut found = Vec::new(alloc);
-    found.push(None)?;
-    map.get_lpm_bulk(asked, &mut found);
-    let first = shown(found.first().copied().flatten());
+    map.get_lpm_bulk(asked, found);
+    let is_first = is_found(found.first().copied().flatten(), longest);
     found[0] = None;
-    map.get_lpm_bulk_counted(asked, &mut found);
-    Ok((first == longest) & is_found(found.first().copied().flatten(), longest))
+    map.get_lpm_bulk_counted(asked, found);
+    is_first & is_found(found.first().copied().flatten(), longest)
 }
 
 /// Whether those of their values do.
-fn has_value_in_bulk<P: Prefix + Copy, A: Allocator>(
-    alloc: Global,
-    map: &PrefixMap<P, u64, A>,
+fn has_value_in_bulk<'a, P: Prefix + Copy, A: Allocator>(
+    map: &'a PrefixMap<P, u64, A>,
     asked: &[P],
+    found: &mut [Option<&'a u64>],
     value: Option<u64>,
-) -> Result<bool, AllocError>
+) -> bool
     requires fit { All P.IsFitting asked.now }
     requires one { length asked.now ≡ 1 }
+    requires same_length { length found.old ≡ 1 }
 {
-    let mut found = Vec::new(alloc);
-    found.push(None)?;
-    map.get_lpm_value_bulk(asked, &mut found);
-    let first = found.first().copied().flatten().copied();
+    map.get_lpm_value_bulk(asked, found);
+    let is_first = is_found_value(found[0], value);
     found[0] = None;
-    map.get_lpm_value_bulk_counted(asked, &mut found);
-    Ok((first == value) & is_found_value(found.first().copied().flatten(), value))
+    map.get_lpm_value_bulk_counted(asked, found);
+    is_first & is_found_value(found[0], value)
 }
 
 /// Whether the lookups of many longest matches answer so for this prefix alone. What they are handed stands in memory of its own.
@@ -154,8 +152,12 @@ fn has_in_bulk<P: Prefix + Copy, A: Allocator>(
 {
     let mut asked = Vec::new(alloc);
     asked.push(prefix)?;
-    let has_entry = has_longest_in_bulk(alloc, map, &asked, longest)?;
-    Ok(has_entry & has_value_in_bulk(alloc, map, &asked, value_in(longest))?)
+    let mut found = Vec::new(alloc);
+    found.push(None)?;
+    let mut values = Vec::new(alloc);
+    values.push(None)?;
+    let has_entry = has_longest_in_bulk(map, &asked, &mut found, longest);
+    Ok(has_entry & has_value_in_bulk(map, &asked, &mut values, value_in(longest)))
 }
 
 /// Whether the lookups of the shortest match answer so.

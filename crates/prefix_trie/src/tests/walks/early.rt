@@ -2,8 +2,9 @@
 ghost use Rattle.std.specs.Iterator.{IsFinite};
 
 use crate::map::{IterMut, ValuesMut};
-use crate::tests::cases::keys::{gives_keys, put};
+use crate::tests::cases::keys::{adds_key, gives_keys};
 use crate::tests::drops::{Counted, let_go};
+use crate::tests::retain::{keep_keys_where, keep_where};
 use crate::tests::stored::{has_keys, stores};
 use crate::tests::walks::taking::three;
 use crate::{PrefixMap, PrefixSet, Refusal};
@@ -114,7 +115,7 @@ fn walks_dropped_early(rt: HostRuntime) {
 /// Keeps the first key of a map, the third and so on.
 fn keep_each_second<A: Allocator>(map: &mut PrefixMap<Key, u64, A>) {
     let mut is_kept = false;
-    map.retain(|_, _| {
+    keep_where(map, |_, _| {
         is_kept = !is_kept;
         is_kept
     });
@@ -123,7 +124,7 @@ fn keep_each_second<A: Allocator>(map: &mut PrefixMap<Key, u64, A>) {
 /// The same of a set.
 fn keep_each_second_key<A: Allocator>(set: &mut PrefixSet<Key, A>) {
     let mut is_kept = false;
-    set.retain(|_| {
+    keep_keys_where(set, |_| {
         is_kept = !is_kept;
         is_kept
     });
@@ -138,7 +139,7 @@ fn is_kept<A: Allocator>(map: &mut PrefixMap<Key, u64, A>) -> bool {
 
 /// The same of a set, whose walks are dropped early before.
 fn is_kept_in_set<A: Allocator>(set: &mut PrefixSet<Key, A>) -> bool {
-    let is_filled = put(set, (0, 0)).is_ok() & put(set, (0, 1)).is_ok() & put(set, (0, 8)).is_ok();
+    let is_filled = adds_key(set, (0, 0)) & adds_key(set, (0, 1)) & adds_key(set, (0, 8));
     let is_given = are_keys_read(set, 0) & are_keys_read(set, 1) & are_keys_read(set, 2);
     keep_each_second_key(set);
     is_filled & is_given & gives_keys(set.iter(), &[(0, 0), (0, 8)])

@@ -7,7 +7,7 @@ use crate::map::{IntoIter, IntoKeys, IntoValues};
 use crate::tests::clones::Copied;
 use crate::tests::drops::{Counted, let_go};
 use crate::tests::refusing::Refusing;
-use crate::tests::stored::{self, is_new};
+use crate::tests::stored::{self, adds};
 use crate::{Prefix, PrefixMap, Refused};
 use std::alloc::{Allocator, Global};
 use std::cell::Cell;
@@ -38,7 +38,7 @@ const KEYS: [Key; 3] = [(0, 0), (0, 1), (0, 8)];
 /// Stores them. Answers whether each is new.
 fn put_three<'a, A: Allocator>(map: &mut Counting<'a, A>, drops: &'a Cell<u64>) -> bool {
     for key in &KEYS {
-        if !key.fits() || !is_new(stored::put(map, *key, Counted { drops })) {
+        if !adds(map, *key, Counted { drops }) {
             return false;
         }
     }
@@ -178,7 +178,7 @@ fn put_name<'a, A: Allocator>(
         return false;
     };
     let counted = Counted { drops };
-    key.fits() && is_new(stored::put(names, key, Named { name, counted }))
+    adds(names, key, Named { name, counted })
 }
 
 /// Stores a name at each of the three keys.

@@ -1,5 +1,0 @@
-use Rattle.prefix_trie.proofs.Prelude.{rules, of_calls, may_ask_always}
-use Rattle.prefix_trie.proofs.tests.cases.keys.retains_long.Goals as goal
-
-pub retain-requires : goal.retain-requires
-retain-requires g c = may_ask_always _ _ _ _ (λ f k v p is. search (rules, of_calls))
