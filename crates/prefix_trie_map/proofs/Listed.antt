@@ -1,5 +1,5 @@
--- The prefixes that a map lists fit.
-use Rattle.prefix_trie_map.proofs.Prelude.{◌≡◌, ℕ, Bool, true, List, [], ◌∷◌, is_some, ap, All, Contains, contains_key, All-head, All-tail, All-contains_itself, All-weaker, All-map, All-filter, begins, PrefixLaws, fits_back, path_back, MayAskInOrder, Entries, AreWithin, covers, listing, shown, listing_laws, ListedLaws}
+-- What a map lists: the prefixes fit, and a selection is no longer than the map.
+use Rattle.prefix_trie_map.proofs.Prelude.{◌≡◌, ℕ, Bool, true, List, [], ◌∷◌, is_some, ap, All, Contains, contains_key, All-head, All-tail, All-contains_itself, All-weaker, All-map, All-filter, begins, PrefixLaws, fits_back, path_back, MayAskInOrder, Entries, AreWithin, covers, listing, shown, listing_laws, ListedLaws, ◌≤◌, false, cond, length, filter, arith, length-map, length-filter, count_by-le-length, len, len-entries, listing_from, listing_after}
 
 module _ {T : Type 0} where
   -- what holds of each stored key holds of each listed pair's
@@ -42,3 +42,11 @@ module _ {F T : Type 0} (asks : F → List Bool → T → Bool → F → Type 0)
       may_ask_each f (listing m)
       (All-weaker (λ e. (v : T) (f' : F) → accepts f' e.0 v) (λ e. (f' : F) → accepts f' e.0 e.1) (λ e h. h e.1) (listing m)
       (each_listed (λ k. (v : T) (f' : F) → accepts f' k v) m (λ k has v f'. always f' k v has)))
+
+module _ {P T : Type 0} (back : List Bool → P) (m : Entries T) where
+  pub few_shown : (p : List Bool × T → Bool) → length (shown back (filter p (listing m))) ≤ len m
+  few_shown p = omega (arith, length-map {B = P × T} (filter p (listing m)) (λ e. (back e.0, e.1)), length-filter p (listing m), count_by-le-length p (listing m), len-entries m)
+
+  pub few_from : (inclusive : Bool) (q : List Bool) → length (shown back (cond inclusive (listing_from m q) (listing_after m q))) ≤ len m
+  few_from true q = few_shown _
+  few_from false q = few_shown _

@@ -1,4 +1,4 @@
-use Rattle.prefix_trie_map.proofs.Copying.{copy_laws}
+use Rattle.prefix_trie_map.proofs.Clones.{copy_laws}
 use Rattle.prefix_trie_map.proofs.laws.copy_laws.Goals as goal
 
 pub returns : goal.returns

@@ -1,5 +1,5 @@
 use Rattle.prefix_trie_map.proofs.Prelude.{ap, ◌∙◌, map_source, lent_item}
-use Rattle.prefix_trie_map.proofs.Copies.{takes_copies}
+use Rattle.prefix_trie_map.proofs.WalkItems.{takes_copies}
 use Rattle.prefix_trie_map.proofs.replay.copied.Goals as goal
 
 pub returns : goal.returns

@@ -1,5 +1,5 @@
 use Rattle.prefix_trie_map.proofs.Prelude.{lent_item}
-use Rattle.prefix_trie_map.proofs.Copies.{has_walk}
+use Rattle.prefix_trie_map.proofs.WalkItems.{has_walk}
 use Rattle.prefix_trie_map.proofs.replay.listed.Goals as goal
 
 pub returns : goal.returns

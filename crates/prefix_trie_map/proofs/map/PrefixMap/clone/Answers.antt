@@ -1,5 +1,5 @@
 use Rattle.prefix_trie_map.proofs.Prelude.{state}
-use Rattle.prefix_trie_map.proofs.Copying.{IsMap-copied}
+use Rattle.prefix_trie_map.proofs.Clones.{IsMap-copied}
 use Rattle.prefix_trie_map.proofs.map.PrefixMap.clone.Goals as goal
 
 pub invariant_of-result : goal.invariant_of-result

@@ -1,6 +1,6 @@
 use Rattle.prefix_trie_map.proofs.Prelude.{rules, ◌<◌, ◌^◌, length, ap, arith, len, begins}
 use Rattle.prefix_trie_map.proofs.Runs.{gives_in_order}
-use Rattle.prefix_trie_map.proofs.Selections.{few_shown}
+use Rattle.prefix_trie_map.proofs.Listed.{few_shown}
 use Rattle.prefix_trie_map.proofs.map.PrefixMap.into_children.Goals as goal
 
 pub returns-clause-items : goal.returns-clause-items

@@ -1,6 +1,6 @@
 use Rattle.prefix_trie_map.proofs.Prelude.{rules, ◌<◌, ◌^◌, length, ap, arith, len, lent_item}
 use Rattle.prefix_trie_map.proofs.Runs.{shows_in_order}
-use Rattle.prefix_trie_map.proofs.Selections.{few_from}
+use Rattle.prefix_trie_map.proofs.Listed.{few_from}
 use Rattle.prefix_trie_map.proofs.map.PrefixMap.iter_from.Goals as goal
 
 pub returns-clause-items : goal.returns-clause-items

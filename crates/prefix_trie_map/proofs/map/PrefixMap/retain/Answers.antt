@@ -1,5 +1,5 @@
 use Rattle.prefix_trie_map.proofs.Prelude.{subst, RetainsInStorage, Contents, AsksAt, state, stored}
-use Rattle.prefix_trie_map.proofs.Retained.{IsMap-tidied}
+use Rattle.prefix_trie_map.proofs.Asking.{IsMap-tidied}
 use Rattle.prefix_trie_map.proofs.map.PrefixMap.retain.Goals as goal
 
 pub retain-requires-clause-within : goal.retain-requires-clause-within

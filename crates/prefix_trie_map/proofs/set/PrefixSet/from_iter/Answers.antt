@@ -1,5 +1,5 @@
 use Rattle.prefix_trie_map.proofs.Prelude.{rules, of_calls, ◌∙◌, ◌+◌, ◌-◌, ◌*◌, ◌^◌, ◌<◌, All, length, sym, ap, subst, length-map, err_from_is_err_and, HoldsAlong, Yields, Drains, map_source, no_entries, put_all, as_item}
-use Rattle.prefix_trie_map.proofs.Copies.{come_copied, all_copied, copies_hold}
+use Rattle.prefix_trie_map.proofs.WalkItems.{come_copied, all_copied, copies_hold}
 use Rattle.prefix_trie_map.proofs.set.PrefixSet.from_iter.Goals as goal
 
 pub from_iter-requires-clause-fit : goal.from_iter-requires-clause-fit

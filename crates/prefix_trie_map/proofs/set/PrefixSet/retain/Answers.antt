@@ -1,5 +1,5 @@
 use Rattle.prefix_trie_map.proofs.Prelude.{of_calls, sym, subst, MayAskInOrder, listing, RetainsInStorage, Contents, stored, AsksKeyAt, TakesKeyAt}
-use Rattle.prefix_trie_map.proofs.Retaining.{retained_through, may_ask_through}
+use Rattle.prefix_trie_map.proofs.Asking.{retained_through, may_ask_through}
 use Rattle.prefix_trie_map.proofs.set.PrefixSet.retain.Goals as goal
 
 pub retain-requires : goal.retain-requires

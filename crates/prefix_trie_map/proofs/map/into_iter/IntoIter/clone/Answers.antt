@@ -1,5 +1,5 @@
 use Rattle.prefix_trie_map.proofs.Prelude.{◌∙◌, ap, shown}
-use Rattle.prefix_trie_map.proofs.Cloned.{shown_cloned}
+use Rattle.prefix_trie_map.proofs.Clones.{shown_cloned}
 use Rattle.prefix_trie_map.proofs.map.into_iter.IntoIter.clone.Goals as goal
 
 pub returns-clause-items : goal.returns-clause-items

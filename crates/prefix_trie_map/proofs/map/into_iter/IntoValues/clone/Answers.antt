@@ -1,5 +1,5 @@
 use Rattle.prefix_trie_map.proofs.Prelude.{◌∙◌, map, ap}
-use Rattle.prefix_trie_map.proofs.Cloned.{values_cloned}
+use Rattle.prefix_trie_map.proofs.Clones.{values_cloned}
 use Rattle.prefix_trie_map.proofs.map.into_iter.IntoValues.clone.Goals as goal
 
 pub returns-clause-items : goal.returns-clause-items

@@ -1,5 +1,5 @@
 use Rattle.prefix_trie_map.proofs.Prelude.{◌∙◌}
-use Rattle.prefix_trie_map.proofs.Cloned.{keys_cloned}
+use Rattle.prefix_trie_map.proofs.Clones.{keys_cloned}
 use Rattle.prefix_trie_map.proofs.map.into_iter.KeysOf+IntoIter+P+T+A.clone.Goals as goal
 
 pub returns : goal.returns

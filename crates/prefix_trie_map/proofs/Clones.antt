@@ -1,5 +1,5 @@
--- The copy of a map.
-use Rattle.prefix_trie_map.proofs.Prelude.{◌≡◌, ◌↔◌, ℕ, true, List, Bool, sym, ◌∙◌, subst, get, contains_key, Entries, Nodes, AreNodes, IsTidy, needed, State, IsMap, same_nodes, needed_fewer, AreCloned, cloned_there, CopyLaws}
+-- The copy of a map, and walks whose pairs are clones.
+use Rattle.prefix_trie_map.proofs.Prelude.{◌≡◌, ◌↔◌, ℕ, true, List, Bool, sym, ◌∙◌, subst, get, contains_key, Entries, Nodes, AreNodes, IsTidy, needed, State, IsMap, same_nodes, needed_fewer, AreCloned, cloned_there, CopyLaws, [], ◌∷◌, map, refl, ap, ap₂, AllZip, shown, IsPairCloned}
 
 -- the copy of a map, with the same keys and nodes, is a map
 pub IsMap-copied : {T : Type 0} (C : T → T → Type 0) (width : ℕ) (s copy : State T) → AreCloned C s.entries copy.entries → copy.nodes ≡ s.nodes →
@@ -32,3 +32,26 @@ module _ {T : Type 0} (C : T → T → Type 0) where
 
   pub copy_laws : CopyLaws C
   copy_laws = record { same_needed = same_needed; as_tidy = as_tidy }
+
+module _ {T : Type 0} (C : T → T → Type 0) where
+  -- as users see them
+  pub shown_cloned : {P : Type 0} (back : List Bool → P) (xs ys : List (List Bool × T)) → AllZip (IsPairCloned C) xs ys →
+      AllZip (IsPairCloned C) (shown back xs) (shown back ys)
+  shown_cloned back [] [] z = tt
+  shown_cloned back [] (y ∷ ys) z = absurd z
+  shown_cloned back (x ∷ xs) [] z = absurd z
+  shown_cloned back (x ∷ xs) (y ∷ ys) z = ((ap back z.0.0, z.0.1), shown_cloned back xs ys z.1)
+
+  -- the keys are the same
+  pub keys_cloned : {P : Type 0} (xs ys : List (P × T)) → AllZip (IsPairCloned C) xs ys → map (λ e. e.0) ys ≡ map (λ e. e.0) xs
+  keys_cloned [] [] z = refl
+  keys_cloned [] (y ∷ ys) z = absurd z
+  keys_cloned (x ∷ xs) [] z = absurd z
+  keys_cloned (x ∷ xs) (y ∷ ys) z = ap₂ (λ k ks. k ∷ ks) z.0.0 (keys_cloned xs ys z.1)
+
+  -- and the values clones
+  pub values_cloned : {P : Type 0} (xs ys : List (P × T)) → AllZip (IsPairCloned C) xs ys → AllZip C (map (λ e. e.1) xs) (map (λ e. e.1) ys)
+  values_cloned [] [] z = tt
+  values_cloned [] (y ∷ ys) z = absurd z
+  values_cloned (x ∷ xs) [] z = absurd z
+  values_cloned (x ∷ xs) (y ∷ ys) z = (z.0.1, values_cloned xs ys z.1)

@@ -1,5 +1,5 @@
--- What callers of `retain` cite.
-use Rattle.prefix_trie_map.proofs.Prelude.{Bool, List, [], ◌∷◌, AsksInOrder, MayAskInOrder, listing, State, Storage, RetainsInStorage}
+-- What a test was asked, from an outer test to the inner one that it asks, and what is left of a map.
+use Rattle.prefix_trie_map.proofs.Prelude.{Bool, List, [], ◌∷◌, AsksInOrder, MayAskInOrder, listing, State, Storage, RetainsInStorage, ◌≡◌, ℕ, sym, subst, IsMap, AreWithin, AreNodes, needed, AreNodes-needed}
 pub use Rattle.prefix_trie_bits.proofs.Model.Askings.{may_ask_always}
 
 -- a test that asks an inner one
@@ -24,3 +24,10 @@ module _ {F G T : Type 0} (asks : F → List Bool → T → Bool → F → Type 
   may_ask_through accepts accepts' takes f [] h = tt
   may_ask_through accepts accepts' takes f (e ∷ es) h =
       (takes f e.0 e.1 h.0, λ b f' called. may_ask_through accepts accepts' takes f' es (h.1 b (inner f') (through f e.0 e.1 b f' called)))
+
+-- entries within the width with the nodes that they need are those of a map
+pub IsMap-tidied : {T : Type 0} (width : ℕ) (s : State T) → AreWithin width s.entries → s.nodes ≡ needed s.entries → IsMap width s
+IsMap-tidied width s within tidy = record {
+  keys_within = within;
+  are_nodes = subst (AreNodes width s.entries) (sym tidy) (AreNodes-needed width s.entries within);
+}
