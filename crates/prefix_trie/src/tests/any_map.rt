@@ -1,9 +1,8 @@
 //! What a caller learns of a map that was handed to it, whatever was done to it before.
 ghost use Rattle.std.specs.Prelude.{◌≡◌, false, filter, IfOk};
 ghost use Rattle.std.specs.FinMap.{contains_key, len};
+ghost use Rattle.prefix_trie.specs.Words.{listing, needed, IsTidy};
 ghost use Rattle.prefix_trie_bits.specs.Laws.Slots.{MakesSlots};
-ghost use Rattle.prefix_trie_bits.specs.Model.Nodes.{IsTidy, needed};
-ghost use Rattle.prefix_trie_bits.specs.Model.Selections.{listing};
 ghost use Rattle.prefix_trie_map.specs.Steps.{storage};
 
 use crate::tests::examples::expiry::keep_from;

@@ -11,9 +11,9 @@ use crate::tests::on_new::on_new;
 use crate::tests::stored::stores;
 use crate::{Ipv4Prefix, Prefix, PrefixMap};
 use prefix_trie_table::table::bulk::FEW_NODES;
-use std::alloc::{Allocator, Global};
+use std::alloc::Global;
 
-type Map<A> = PrefixMap<Pair<u128>, u64, A>;
+type Map = PrefixMap<Pair<u128>, u64, Global>;
 
 /// A network, and one within it.
 const WIDE: Entry<u128> = ((0x2001_0db8 << 96, 32), 1);
@@ -73,7 +73,7 @@ fn are_values(found: &[Option<&u64>]) -> bool {
 }
 
 /// Whether the two calls that answer entries do so for the cases in turn.
-fn gives_entries<A: Allocator>(map: &Map<A>, asked: &[Pair<u128>]) -> bool
+fn gives_entries(map: &Map, asked: &[Pair<u128>]) -> bool
     requires fit { All (λ p. (p.0 < 2 ^ 128) × (p.1 ≤ 128)) asked.now }
     requires few { length asked.now ≤ 70 }
 {
@@ -86,7 +86,7 @@ fn gives_entries<A: Allocator>(map: &Map<A>, asked: &[Pair<u128>]) -> bool
 }
 
 /// The same of the two that answer values.
-fn gives_values<A: Allocator>(map: &Map<A>, asked: &[Pair<u128>]) -> bool
+fn gives_values(map: &Map, asked: &[Pair<u128>]) -> bool
     requires fit { All (λ p. (p.0 < 2 ^ 128) × (p.1 ≤ 128)) asked.now }
     requires few { length asked.now ≤ 70 }
 {
@@ -99,7 +99,7 @@ fn gives_values<A: Allocator>(map: &Map<A>, asked: &[Pair<u128>]) -> bool
 }
 
 /// Whether a map of the two answers as many prefixes as are counted, each time.
-fn gives_all<A: Allocator>(map: &Map<A>) -> bool {
+fn gives_all(map: &Map) -> bool {
     let mut asked = [(0, 0); MOST];
     ask_in_turn(&mut asked);
     for count in &COUNTS {
@@ -112,7 +112,7 @@ fn gives_all<A: Allocator>(map: &Map<A>) -> bool {
 }
 
 /// Stores hosts, none of which is in a case.
-fn stores_hosts<A: Allocator>(map: &mut Map<A>) -> bool {
+fn stores_hosts(map: &mut Map) -> bool {
     for number in 0..HOSTS {
         if put_in(map, ((0x8000 | u128::from(number)) << 112, 128), number) != Ok(None) {
             return false;
@@ -122,7 +122,7 @@ fn stores_hosts<A: Allocator>(map: &mut Map<A>) -> bool {
 }
 
 /// Whether a new map answers so with few nodes and with many.
-fn answers(map: &mut Map<Global>, _: ()) -> bool {
+fn answers(map: &mut Map, _: ()) -> bool {
     let few = stores(map, &[WIDE, NEAR]) & (map.node_slots() <= FEW_NODES) & gives_all(map);
     let are_stored = stores_hosts(map);
     few & are_stored & (FEW_NODES < map.node_slots()) & gives_all(map)

@@ -18,6 +18,18 @@ type Key = (u32, u8);
 /// Names, each of which asks for memory once when it is cloned.
 type Names<A> = PrefixMap<Key, String<A>, A>;
 
+/// The walks that take them apart.
+type Items<A> = IntoIter<Key, String<A>, A>;
+
+type Keys<A> = IntoKeys<Key, String<A>, A>;
+
+type Values<A> = IntoValues<Key, String<A>, A>;
+
+/// The keys alone, and the walk that takes them apart.
+type Set<A> = PrefixSet<Key, A>;
+
+type SetKeys<A> = IntoKeys<Key, (), A>;
+
 /// Three keys, and one that is not stored.
 const KEYS: [Key; 4] = [
     (0x0a00_0000, 8),
@@ -133,13 +145,54 @@ fn is_name<A: Allocator>(name: Option<&String<A>>, place: usize) -> bool {
     }
 }
 
-/// A new map of three names, with every request refused from then on.
-fn filled<A: Allocator + Copy>(heap: &Heap, alloc: A) -> Option<Names<A>> {
-    heap.refuse(0, 0);
-    let mut names = PrefixMap::new(alloc).ok()?;
-    let is_filled = put_names(alloc, &mut names) == Ok(true);
-    heap.refuse(0, u64::MAX);
-    if is_filled { Some(names) } else { None }
+/// What can be made anew, with every request refused from then on.
+trait Made<A: Allocator + Copy>: Named {
+    /// One of all three, in memory of an allocator.
+    fn made(heap: &Heap, alloc: A) -> Option<Self>;
+}
+
+impl<A: Allocator + Copy> Made<A> for Names<A> {
+    fn made(heap: &Heap, alloc: A) -> Option<Names<A>> {
+        heap.refuse(0, 0);
+        let mut names = PrefixMap::new(alloc).ok()?;
+        let is_filled = put_names(alloc, &mut names) == Ok(true);
+        heap.refuse(0, u64::MAX);
+        if is_filled { Some(names) } else { None }
+    }
+}
+
+impl<A: Allocator + Copy> Made<A> for Items<A> {
+    fn made(heap: &Heap, alloc: A) -> Option<Items<A>> {
+        Some(Names::made(heap, alloc)?.into_iter())
+    }
+}
+
+impl<A: Allocator + Copy> Made<A> for Keys<A> {
+    fn made(heap: &Heap, alloc: A) -> Option<Keys<A>> {
+        Some(Names::made(heap, alloc)?.into_keys())
+    }
+}
+
+impl<A: Allocator + Copy> Made<A> for Values<A> {
+    fn made(heap: &Heap, alloc: A) -> Option<Values<A>> {
+        Some(Names::made(heap, alloc)?.into_values())
+    }
+}
+
+impl<A: Allocator + Copy> Made<A> for Set<A> {
+    fn made(heap: &Heap, alloc: A) -> Option<Set<A>> {
+        heap.refuse(0, 0);
+        let mut set = PrefixSet::new(alloc).ok()?;
+        let is_filled = put_keys(&mut set);
+        heap.refuse(0, u64::MAX);
+        if is_filled { Some(set) } else { None }
+    }
+}
+
+impl<A: Allocator + Copy> Made<A> for SetKeys<A> {
+    fn made(heap: &Heap, alloc: A) -> Option<SetKeys<A>> {
+        Some(Set::made(heap, alloc)?.into_iter())
+    }
 }
 
 /// Whether it gives all from a place on.
@@ -161,8 +214,8 @@ fn is_refused_from<W: Named>(heap: &Heap, named: &W, passed: u64) -> bool {
 /// Copies what was made with every request refused, with another request refused each time: it alone, and with all behind it. Answers
 /// how many were, if each copy was refused exactly where one was, and at last both the copy and what was copied give their names from a
 /// place on with every request refused, of which none comes.
-fn copies<W: Named>(heap: &Heap, named: Option<W>, first: usize) -> Option<u64> {
-    let mut named = named?;
+fn copies<W: Named>(heap: &Heap, named: W, first: usize) -> Option<u64> {
+    let mut named = named;
     let is_unasked = heap.left() == u64::MAX;
     for passed in 0..MANY {
         let is_refused = is_refused_from(heap, &named, passed);
@@ -183,29 +236,22 @@ fn copies<W: Named>(heap: &Heap, named: Option<W>, first: usize) -> Option<u64> 
     None
 }
 
+/// The same of one that is made anew.
+fn requests<A: Allocator + Copy, W: Made<A>>(heap: &Heap, alloc: A) -> Option<u64> {
+    copies(heap, W::made(heap, alloc)?, 0)
+}
+
+/// The same of the part of a map behind its first name.
+fn requests_of_part<A: Allocator + Copy>(heap: &Heap, alloc: A) -> Option<u64> {
+    copies(heap, Names::made(heap, alloc)?.into_children(&key_at(1)), 1)
+}
+
 /// The same of a walk that has given the first of three.
-fn copies_left<W: Named>(heap: &Heap, named: Option<W>) -> Option<u64> {
-    let mut named = named?;
+fn requests_left<A: Allocator + Copy, W: Made<A>>(heap: &Heap, alloc: A) -> Option<u64> {
+    let mut named = W::made(heap, alloc)?;
     let is_given = named.gives(0);
-    let requests = copies(heap, Some(named), 1)?;
+    let requests = copies(heap, named, 1)?;
     is_given.then_some(requests)
-}
-
-fn items_of<A: Allocator>(names: Option<Names<A>>) -> Option<IntoIter<Key, String<A>, A>> {
-    Some(names?.into_iter())
-}
-
-fn keys_of<A: Allocator>(names: Option<Names<A>>) -> Option<IntoKeys<Key, String<A>, A>> {
-    Some(names?.into_keys())
-}
-
-fn values_of<A: Allocator>(names: Option<Names<A>>) -> Option<IntoValues<Key, String<A>, A>> {
-    Some(names?.into_values())
-}
-
-/// The part of a map behind its first name.
-fn part_of<A: Allocator>(names: Option<Names<A>>) -> Option<IntoIter<Key, String<A>, A>> {
-    Some(names?.into_children(&key_at(1)))
 }
 
 /// Stores the three keys.
@@ -218,40 +264,27 @@ fn put_keys<A: Allocator>(set: &mut PrefixSet<Key, A>) -> bool {
     true
 }
 
-/// A new set of the three keys, with every request refused from then on.
-fn keys<A: Allocator + Copy>(heap: &Heap, alloc: A) -> Option<PrefixSet<Key, A>> {
-    heap.refuse(0, 0);
-    let mut set = PrefixSet::new(alloc).ok()?;
-    let is_filled = put_keys(&mut set);
-    heap.refuse(0, u64::MAX);
-    if is_filled { Some(set) } else { None }
-}
-
-fn keys_of_set<A: Allocator>(set: Option<PrefixSet<Key, A>>) -> Option<IntoKeys<Key, (), A>> {
-    Some(set?.into_iter())
-}
-
 /// Whether the copy of a map of names, and that of each walk which takes it apart, make as many requests, and one less where the first
 /// name was given.
 fn are_requests<A: Allocator + Copy>(heap: &Heap, alloc: A) -> bool {
-    let of_two = copies_left(heap, items_of(filled(heap, alloc)));
+    let of_two = requests_left::<A, Items<A>>(heap, alloc);
     let of_three = Some(of_two.unwrap_or(0).wrapping_add(1));
     (of_two.unwrap_or(0) > 2)
-        & (copies(heap, filled(heap, alloc), 0) == of_three)
-        & (copies(heap, part_of(filled(heap, alloc)), 1) == of_three)
-        & (copies(heap, items_of(filled(heap, alloc)), 0) == of_three)
-        & (copies(heap, keys_of(filled(heap, alloc)), 0) == of_three)
-        & (copies(heap, values_of(filled(heap, alloc)), 0) == of_three)
-        & (copies_left(heap, keys_of(filled(heap, alloc))) == of_two)
-        & (copies_left(heap, values_of(filled(heap, alloc))) == of_two)
+        & (requests::<A, Names<A>>(heap, alloc) == of_three)
+        & (requests_of_part(heap, alloc) == of_three)
+        & (requests::<A, Items<A>>(heap, alloc) == of_three)
+        & (requests::<A, Keys<A>>(heap, alloc) == of_three)
+        & (requests::<A, Values<A>>(heap, alloc) == of_three)
+        & (requests_left::<A, Keys<A>>(heap, alloc) == of_two)
+        & (requests_left::<A, Values<A>>(heap, alloc) == of_two)
 }
 
 /// Whether the copy of a set, and that of the walk that takes it apart, makes as many requests as the other, and some.
 fn are_alike<A: Allocator + Copy>(heap: &Heap, alloc: A) -> bool {
-    let requests = copies(heap, keys(heap, alloc), 0);
-    (requests.unwrap_or(0) > 0)
-        & (copies(heap, keys_of_set(keys(heap, alloc)), 0) == requests)
-        & (copies_left(heap, keys_of_set(keys(heap, alloc))) == requests)
+    let of_set = requests::<A, Set<A>>(heap, alloc);
+    (of_set.unwrap_or(0) > 0)
+        & (requests::<A, SetKeys<A>>(heap, alloc) == of_set)
+        & (requests_left::<A, SetKeys<A>>(heap, alloc) == of_set)
 }
 
 #[test]

@@ -1,9 +1,7 @@
 //! Maps of the items of an iterator: what a caller knows of them, and what is dropped where a request for memory is refused. And what
 //! a caller knows of equal maps.
 ghost use Rattle.std.specs.Prelude.{◌≡◌, All, IfOk, IsTrue};
-ghost use Rattle.prefix_trie_bits.specs.Model.Entries.{no_entries, put_all};
-ghost use Rattle.prefix_trie_bits.specs.Model.Nodes.{IsTidy};
-ghost use Rattle.prefix_trie_bits.specs.Model.Selections.{listing, shown};
+ghost use Rattle.prefix_trie.specs.Words.{listing, no_entries, put_all, shown, IsTidy};
 
 use crate::tests::drops::Counted;
 use crate::tests::refusing::Refusing;

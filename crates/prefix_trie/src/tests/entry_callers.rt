@@ -1,17 +1,15 @@
 //! Callers of entries, and what they know of the map afterwards.
 ghost use Rattle.std.specs.Prelude.{◌≡◌, true, ℕ, ◌+◌, ◌-◌, ◌<◌, ◌^◌, IfOk, OnOk, OnErr, None, Some, IsTrue, IsFalse, is_some};
 ghost use Rattle.std.specs.FinMap.{get, contains_key, len};
-ghost use Rattle.prefix_trie_bits.specs.Model.Entries.{with_entry, without_entry, put_all};
-ghost use Rattle.prefix_trie_bits.specs.Model.Nodes.{with_needed};
+ghost use Rattle.prefix_trie.specs.Words.{listing, put_all, shown, with_entry, with_needed, with_value_at, without_entry};
 ghost use Rattle.prefix_trie_bits.specs.Model.Room.{LeavesRoom};
-ghost use Rattle.prefix_trie_bits.specs.Model.Selections.{listing, shown};
-ghost use Rattle.prefix_trie_table.specs.Shape.{with_value_at};
 
 use crate::map::Entry;
 use crate::tests::examples::counter::count;
+use crate::tests::on_new::{on_new, on_two_new};
 use crate::tests::stored::{has_values, stores};
 use crate::{Prefix, PrefixMap, Refusal, Refused};
-use std::alloc::Allocator;
+use std::alloc::{Allocator, Global};
 
 // Stores nine, whether the prefix is new or not.
 fn store_nine<P: Prefix, A: Allocator>(
@@ -148,7 +146,7 @@ fn fill_from<P: Prefix, A: Allocator>(
 }
 
 /// Whether a value that is stored is written over.
-fn writes_stored<A: Allocator>(map: &mut PrefixMap<(u8, u8), u64, A>) -> bool {
+fn writes_stored(map: &mut PrefixMap<(u8, u8), u64, Global>) -> bool {
     if !map.contains_key(&(0xa5, 8)) {
         return false;
     }
@@ -157,20 +155,20 @@ fn writes_stored<A: Allocator>(map: &mut PrefixMap<(u8, u8), u64, A>) -> bool {
 }
 
 /// Whether the entry of a prefix that is not stored lends no value for writing.
-fn lends_none<A: Allocator>(map: &mut PrefixMap<(u8, u8), u64, A>) -> bool {
+fn lends_none(map: &mut PrefixMap<(u8, u8), u64, Global>) -> bool {
     let mut entry = map.entry((0xc0, 3));
     entry.get_mut().is_none()
 }
 
 /// Whether one more is counted where a count is stored, and none where not. Asking a vacant entry for its value changes nothing.
-fn counts_once_more<A: Allocator>(map: &mut PrefixMap<(u8, u8), u64, A>) -> bool {
+fn counts_once_more(map: &mut PrefixMap<(u8, u8), u64, Global>) -> bool {
     count_again(map, (0xa0, 3));
     count_again(map, (0xc0, 3));
     lends_none(map) & (look(map, (0xa0, 3)) == Some(4)) & look(map, (0xc0, 3)).is_none()
 }
 
 /// Whether counting and storing answer so.
-fn counts<A: Allocator>(map: &mut PrefixMap<(u8, u8), u64, A>) -> bool {
+fn counts(map: &mut PrefixMap<(u8, u8), u64, Global>) -> bool {
     count(map, (0xa5, 8)).is_ok()
         & count(map, (0xa5, 8)).is_ok()
         & writes_stored(map)
@@ -182,42 +180,35 @@ fn counts<A: Allocator>(map: &mut PrefixMap<(u8, u8), u64, A>) -> bool {
 }
 
 /// Whether one of the two that are there then is taken out.
-fn takes_one_out<A: Allocator>(map: &mut PrefixMap<(u8, u8), u64, A>) -> bool {
+fn takes_one_out(map: &mut PrefixMap<(u8, u8), u64, Global>) -> bool {
     has_values(map, &[4, 8])
         & (take_out(map, (0xa5, 8)) == Some(8))
         & take_out(map, (0xa5, 8)).is_none()
         & (map.len() == 1)
 }
 
-/// Both in turn, of a new map.
-fn counts_anew<A: Allocator + Clone>(alloc: A) -> Result<bool, Refusal> {
-    let mut map = PrefixMap::new(alloc)?;
-    Ok(counts::<A>(&mut map) & takes_one_out::<A>(&mut map))
+/// Both in turn.
+fn are_counted(map: &mut PrefixMap<(u8, u8), u64, Global>, _: ()) -> bool {
+    counts(map) & takes_one_out(map)
 }
 
 #[test]
 fn entries_are_counted(rt: HostRuntime) {
-    assert!(rt; counts_anew(rt.alloc()) == Ok(true));
+    assert!(rt; on_new(PrefixMap::new(rt.alloc()), (), are_counted) == Ok(true));
 }
 
-type Numbers<A> = PrefixMap<(u16, u8), u64, A>;
+type Numbers = PrefixMap<(u16, u8), u64, Global>;
 
 /// Whether a stored number of one map takes the place of that in another.
-fn is_put<A: Allocator>(from: &mut Numbers<A>, to: &mut Numbers<A>) -> bool {
+fn is_put(from: &mut Numbers, to: &mut Numbers, _: ()) -> bool {
     stores(from, &[((0x0a00, 8), 9)])
         & stores(to, &[((0x0a00, 8), 1)])
         & fill_from(to, from).is_ok()
         & has_values(to, &[9])
 }
 
-/// The same of new maps.
-fn is_put_anew<A: Allocator + Copy>(alloc: A) -> Result<bool, Refusal> {
-    let mut from = PrefixMap::new(alloc)?;
-    let mut to = PrefixMap::new(alloc)?;
-    Ok(is_put::<A>(&mut from, &mut to))
-}
-
 #[test]
 fn entries_of_another_map_are_put(rt: HostRuntime) {
-    assert!(rt; is_put_anew(rt.alloc()) == Ok(true));
+    let (from, to) = (PrefixMap::new(rt.alloc()), PrefixMap::new(rt.alloc()));
+    assert!(rt; on_two_new(from, to, (), is_put) == Ok(true));
 }

@@ -16,8 +16,9 @@ pub mod rerouting;
 pub mod scaling;
 pub mod splitting;
 
+use crate::tests::on_new::{on_new, on_two_new};
 use crate::tests::stored::stores;
-use crate::{Ipv4Prefix, Ipv6Prefix, Narrow, PrefixMap, PrefixSet, Refusal};
+use crate::{Ipv4Prefix, Ipv6Prefix, Narrow, PrefixMap, PrefixSet};
 use access::{may_enter, reasons};
 use cache::store;
 use copy::copied;
@@ -30,20 +31,20 @@ use pruning::without;
 use ranges::{assign, owner};
 use rerouting::{are_same, reroute};
 use scaling::double_each;
-use std::alloc::{AllocError, Allocator, Global};
+use std::alloc::{AllocError, Global};
 
-type Numbers<A> = PrefixMap<Ipv4Prefix, u32, A>;
+type Numbers = PrefixMap<Ipv4Prefix, u32, Global>;
 
-type Delegated<A> = PrefixMap<Ipv6Prefix, u32, A>;
+type Delegated = PrefixMap<Ipv6Prefix, u32, Global>;
 
-type Vlans<A> = PrefixMap<(Narrow<12>, u8), u32, A>;
+type Vlans = PrefixMap<(Narrow<12>, u8), u32, Global>;
 
 type Networks = PrefixSet<Ipv4Prefix, Global>;
 
-type Counts<A> = PrefixMap<(u8, u8), u64, A>;
+type Counts = PrefixMap<(u8, u8), u64, Global>;
 
 /// Whether two tables are the same until a route of one is changed, which changes its next hops.
-fn differs_once_rerouted<A: Allocator>(map: &Numbers<A>, copy: &mut Numbers<A>) -> bool {
+fn differs_once_rerouted(map: &Numbers, copy: &mut Numbers) -> bool {
     are_same(map, copy)
         & !reroute(copy, 0x0b00_0000, 5)
         & are_same(map, copy)
@@ -54,15 +55,15 @@ fn differs_once_rerouted<A: Allocator>(map: &Numbers<A>, copy: &mut Numbers<A>) 
 }
 
 /// The same of a map and its copy.
-fn is_copied(map: &Numbers<Global>, alloc: Global) -> bool {
+fn is_copied(map: &Numbers, alloc: Global) -> bool {
     match copied(map, alloc) {
-        Ok(mut copy) => differs_once_rerouted::<Global>(map, &mut copy),
+        Ok(mut copy) => differs_once_rerouted(map, &mut copy),
         Err(_) => false,
     }
 }
 
 /// Whether a network and one within it are a forwarding table, an inventory and a cache.
-fn stands_for_both<A: Allocator>(map: &mut Numbers<A>) -> bool {
+fn stands_for_both(map: &mut Numbers) -> bool {
     let wide = Ipv4Prefix::new(0x0a00_0000, 8).unwrap();
     let near = Ipv4Prefix::new(0x0a01_0000, 16).unwrap();
     add(map, wide, 1).is_ok()
@@ -77,24 +78,17 @@ fn stands_for_both<A: Allocator>(map: &mut Numbers<A>) -> bool {
         & (next_hop(map, 0x0a01_0203) == Some(3))
 }
 
-/// The same of a new map.
-fn stands_for_both_anew(alloc: Global) -> Result<bool, Refusal> {
-    let mut map = PrefixMap::new(alloc)?;
-    Ok(stands_for_both::<Global>(&mut map) & is_copied(&map, alloc))
+/// The same, and of its copy.
+fn stands_for_both_and_copy(map: &mut Numbers, alloc: Global) -> bool {
+    stands_for_both(map) & is_copied(map, alloc)
 }
 
 /// Whether the holder of a network is found at its addresses alone.
-fn is_held<A: Allocator>(table: &mut Delegated<A>) -> bool {
+fn is_held(table: &mut Delegated, _: ()) -> bool {
     let network = Ipv6Prefix::new(0x2001_0db8 << 96, 32).unwrap();
     record(table, network, 7).is_ok()
         & (holder(table, 0x2001_0db8 << 96 | 1) == Some(7))
         & holder(table, 1).is_none()
-}
-
-/// The same of a new map.
-fn is_held_anew(alloc: Global) -> Result<bool, Refusal> {
-    let mut table = PrefixMap::new(alloc)?;
-    Ok(is_held::<Global>(&mut table))
 }
 
 /// Whether the networks that keep an address out are this one.
@@ -117,15 +111,8 @@ fn keeps_out(allowed: &mut Networks, denied: &mut Networks, alloc: Global) -> bo
         & is_reason(denied, 0x0a01_0203, near, alloc)
 }
 
-/// The same of new sets.
-fn keeps_out_anew(alloc: Global) -> Result<bool, Refusal> {
-    let mut allowed = PrefixSet::new(alloc)?;
-    let mut denied = PrefixSet::new(alloc)?;
-    Ok(keeps_out(&mut allowed, &mut denied, alloc))
-}
-
 /// Whether numbers of 12 bits have the owners of the narrowest ranges with them.
-fn is_owned<A: Allocator>(plan: &mut Vlans<A>) -> bool {
+fn is_owned(plan: &mut Vlans, _: ()) -> bool {
     let office = Narrow::<12>::new(0x640).unwrap();
     let printers = Narrow::<12>::new(0x642).unwrap();
     let guests = Narrow::<12>::new(0x7ff).unwrap();
@@ -136,14 +123,8 @@ fn is_owned<A: Allocator>(plan: &mut Vlans<A>) -> bool {
         & owner(plan, guests).is_none()
 }
 
-/// The same of a new map.
-fn is_owned_anew(alloc: Global) -> Result<bool, Refusal> {
-    let mut plan = PrefixMap::new(alloc)?;
-    Ok(is_owned::<Global>(&mut plan))
-}
-
 /// Whether the counts of two maps are added up and doubled.
-fn adds_up<A: Allocator>(counts: &mut Counts<A>, more: &mut Counts<A>) -> bool {
+fn adds_up(counts: &mut Counts, more: &mut Counts) -> bool {
     let is_filled = stores(counts, &[((0xa0, 3), 1), ((0xa5, 8), 2)])
         & stores(more, &[((0xa5, 8), 5), ((0x80, 1), 7)])
         & add_all(counts, more).is_ok()
@@ -153,7 +134,7 @@ fn adds_up<A: Allocator>(counts: &mut Counts<A>, more: &mut Counts<A>) -> bool {
 }
 
 /// Whether pages of two have the three counts then.
-fn is_read<A: Allocator>(counts: &Counts<A>, alloc: Global) -> bool {
+fn is_read(counts: &Counts, alloc: Global) -> bool {
     match read_all(counts, 2, alloc) {
         Ok(read) => read.as_slice()
             == [((0x80, 1), 14), ((0xa0, 3), 2), ((0xa5, 8), 14)].as_slice(),
@@ -162,29 +143,26 @@ fn is_read<A: Allocator>(counts: &Counts<A>, alloc: Global) -> bool {
 }
 
 /// Whether the one of them that the other map has not is left alone, in the root.
-fn is_pruned(counts: &Counts<Global>, out: &Counts<Global>, alloc: Global) -> bool {
+fn is_pruned(counts: &Counts, out: &Counts, alloc: Global) -> bool {
     match without(counts, out, alloc) {
         Ok(map) => (map.get(&(0xa0, 3)) == Some(&2)) & (map.len() == 1) & (map.node_count() == 1),
         Err(_) => false,
     }
 }
 
-/// The same of new maps.
-fn adds_up_anew(alloc: Global) -> Result<bool, Refusal> {
-    let mut counts = PrefixMap::new(alloc)?;
-    let mut more = PrefixMap::new(alloc)?;
-    Ok(
-        adds_up::<Global>(&mut counts, &mut more)
-            & is_read::<Global>(&counts, alloc)
-            & is_pruned(&counts, &more, alloc),
-    )
+/// All three in turn.
+fn are_counts(counts: &mut Counts, more: &mut Counts, alloc: Global) -> bool {
+    adds_up(counts, more) & is_read(counts, alloc) & is_pruned(counts, more, alloc)
 }
 
 #[test]
 fn examples_run(rt: HostRuntime) {
-    assert!(rt; stands_for_both_anew(rt.alloc()) == Ok(true));
-    assert!(rt; is_held_anew(rt.alloc()) == Ok(true));
-    assert!(rt; keeps_out_anew(rt.alloc()) == Ok(true));
-    assert!(rt; is_owned_anew(rt.alloc()) == Ok(true));
-    assert!(rt; adds_up_anew(rt.alloc()) == Ok(true));
+    let alloc = rt.alloc();
+    assert!(rt; on_new(PrefixMap::new(alloc), alloc, stands_for_both_and_copy) == Ok(true));
+    assert!(rt; on_new(PrefixMap::new(alloc), (), is_held) == Ok(true));
+    let (allowed, denied) = (PrefixSet::new(alloc), PrefixSet::new(alloc));
+    assert!(rt; on_two_new(allowed, denied, alloc, keeps_out) == Ok(true));
+    assert!(rt; on_new(PrefixMap::new(alloc), (), is_owned) == Ok(true));
+    let (counts, more) = (PrefixMap::new(alloc), PrefixMap::new(alloc));
+    assert!(rt; on_two_new(counts, more, alloc, are_counts) == Ok(true));
 }

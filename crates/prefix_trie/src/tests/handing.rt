@@ -3,6 +3,7 @@ use crate::tests::cases::keys::adds_key;
 use crate::tests::cases::prefix_of;
 use crate::tests::drops::let_go;
 use crate::tests::examples::splitting::split_and_merge;
+use crate::tests::on_new::on_new;
 use crate::tests::refusing::Refusing;
 use crate::tests::stored::adds;
 use crate::{Ipv4Prefix, PrefixMap, PrefixSet, Refusal};
@@ -175,7 +176,7 @@ fn len_of<A: Allocator>(
 }
 
 /// Whether a set of the hosts hands all of them out once there is memory, and then none.
-fn hands_out_hosts<A: Allocator + Clone>(heap: &Heap, set: &mut PrefixSet<(u32, u8), A>) -> bool {
+fn hands_out_hosts<A: Allocator + Clone>(set: &mut PrefixSet<(u32, u8), A>, heap: &Heap) -> bool {
     let are_put = put_hosts(set);
     heap.refuse(0, u64::MAX);
     let refused = len_of(set.remove_children(&(7, 0)));
@@ -189,13 +190,6 @@ fn hands_out_hosts<A: Allocator + Clone>(heap: &Heap, set: &mut PrefixSet<(u32, 
         & (all == Ok(4))
         & set.is_empty()
         & (none == Ok(0))
-}
-
-/// The same of a new set.
-fn hands_out_hosts_anew<A: Allocator + Clone>(heap: &Heap, alloc: A) -> Result<bool, Refusal> {
-    heap.refuse(0, 0);
-    let mut set = PrefixSet::new(alloc)?;
-    Ok(hands_out_hosts::<A>(heap, &mut set))
 }
 
 /// Whether a map of the six is split and merged again.
@@ -215,6 +209,6 @@ fn is_merged_again_anew<A: Allocator + Clone>(heap: &Heap, alloc: A) -> Option<b
 #[test]
 fn with_memory_a_split_is_granted(rt: HostRuntime) {
     let heap = Refusing::new(rt.alloc());
-    assert!(rt; hands_out_hosts_anew(&heap, &heap) == Ok(true));
+    assert!(rt; on_new(PrefixSet::new(&heap), &heap, hands_out_hosts) == Ok(true));
     assert!(rt; is_merged_again_anew(&heap, &heap) == Some(true));
 }

@@ -15,9 +15,9 @@ pub fn on_new<V: Drop, W: Copy, R, F: FnOnce(&mut V, W) -> R + Drop>(
 }
 
 /// What is answered of two.
-pub fn on_two_new<V: Drop, W: Copy, R, F: FnOnce(&mut V, &mut V, W) -> R + Drop>(
+pub fn on_two_new<V: Drop, U: Drop, W: Copy, R, F: FnOnce(&mut V, &mut U, W) -> R + Drop>(
     made: Result<V, Refusal>,
-    other: Result<V, Refusal>,
+    other: Result<U, Refusal>,
     with: W,
     asks: F,
 ) -> Result<R, Refusal>

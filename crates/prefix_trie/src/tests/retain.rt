@@ -1,9 +1,10 @@
 //! Callers of `retain`: with any test that may always be asked, and at concrete types.
 
 use crate::tests::examples::expiry::keep_from;
+use crate::tests::on_new::on_new;
 use crate::tests::stored::{has_keys, stores};
-use crate::{Prefix, PrefixMap, PrefixSet, Refusal};
-use std::alloc::Allocator;
+use crate::{Prefix, PrefixMap, PrefixSet};
+use std::alloc::{Allocator, Global};
 
 /// Keeps the entries at which a test answers true. It has no `ensures`, which each caller would have to read.
 pub fn keep_where<P: Prefix, A: Allocator, F: FnMut(&P, &u64) -> bool + Drop>(
@@ -44,19 +45,13 @@ const FOUR: [((u8, u8), u64); 4] = [
 ];
 
 /// Whether the other two are left.
-fn keeps_two<A: Allocator>(map: &mut PrefixMap<(u8, u8), u64, A>) -> bool {
+fn keeps_two(map: &mut PrefixMap<(u8, u8), u64, Global>, _: ()) -> bool {
     let is_filled = stores(map, &FOUR);
     keep_from(map, 3);
     is_filled & (map.len() == 2) & has_keys(map, &[(0x80, 1), (0xa5, 8)])
 }
 
-/// The same of a new map.
-fn keeps_two_anew<A: Allocator + Clone>(alloc: A) -> Result<bool, Refusal> {
-    let mut map = PrefixMap::new(alloc)?;
-    Ok(keeps_two::<A>(&mut map))
-}
-
 #[test]
 fn numbers_from_three_on(rt: HostRuntime) {
-    assert!(rt; keeps_two_anew(rt.alloc()) == Ok(true));
+    assert!(rt; on_new(PrefixMap::new(rt.alloc()), (), keeps_two) == Ok(true));
 }

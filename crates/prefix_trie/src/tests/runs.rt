@@ -174,10 +174,10 @@ fn each_request_of_a_run_refused(rt: HostRuntime) {
 const NODES_LEFT: [usize; 7] = [5, 5, 1, 5, 4, 2, 1];
 
 /// Runs removals, and counts the nodes behind each.
-fn run_removals<A: Allocator + Clone>(
-    alloc: A,
-    map: &mut Map<A>,
-) -> Result<Vec<Reply<Key, A>, A>, AllocError> {
+fn run_removals(
+    alloc: Global,
+    map: &mut Map<Global>,
+) -> Result<Vec<Reply<Key, Global>>, AllocError> {
     let calls = [
         Call::Insert((0x0a01_0100, 24), 1),
         Call::NodeCount,
@@ -200,7 +200,7 @@ fn run_removals<A: Allocator + Clone>(
 }
 
 /// Whether the counts among replies are these, in turn.
-fn has_counts<A: Allocator>(replies: &[Reply<Key, A>], wanted: &[usize]) -> bool {
+fn has_counts(replies: &[Reply<Key, Global>], wanted: &[usize]) -> bool {
     let mut place = 0_usize;
     for reply in replies {
         if let Reply::Count(count) = reply {
@@ -256,7 +256,7 @@ fn has_all(list: &[(Key, u64)]) -> bool {
 }
 
 /// Whether the one reply is the list of all.
-fn lists_all<A: Allocator>(replies: &[Reply<Key, A>]) -> bool {
+fn lists_all(replies: &[Reply<Key, Global>]) -> bool {
     match replies {
         [Reply::Entries(entries)] => has_all(entries),
         _ => false,

@@ -171,15 +171,15 @@ fn lists<K: Key, A: Allocator + Copy, M: Tried<K, A>>(
 ) -> bool {
     for (index, entry) in entries.iter().enumerate() {
         let case = Case::ListsFrom(entry.0, entries.get(index..).unwrap_or(&[]));
-        if !answers_so::<K, A, M>(heap, tried, &case) {
+        if !changes_and_answers_as::<K, A, M>(heap, tried, &case) {
             return false;
         }
     }
-    answers_so::<K, A, M>(heap, tried, &Case::Lists(entries))
+    changes_and_answers_as::<K, A, M>(heap, tried, &Case::Lists(entries))
 }
 
 /// Makes the call of a case that is no insertion, and compares its answer.
-fn answers_so<K: Key, A: Allocator + Copy, M: Tried<K, A>>(
+fn changes_and_answers_as<K: Key, A: Allocator + Copy, M: Tried<K, A>>(
     heap: &Refusing<Global>,
     tried: &mut M,
     case: &Case<'_, K>,
@@ -235,7 +235,7 @@ fn holds_in<K: Key, A: Allocator + Copy, M: Tried<K, A>>(
         Case::Fills(call, at, value) => {
             stores::<K, A, M>(heap, tried, *call, &(*at, *value), Ok(None))
         }
-        _ => answers_so::<K, A, M>(heap, tried, case),
+        _ => changes_and_answers_as::<K, A, M>(heap, tried, case),
     }
 }
 

@@ -1,7 +1,7 @@
 //! The ends of each width: to every call a prefix with all host bits set and one with none are the same.
 use crate::tests::cases::Case::{
-    ChangesEntry, Covers, DropsChildren, Empties, Fills, Finds, Inserts, Len, ListsFrom, Removes,
-    TakesOut, Writes, WritesLongest,
+    self, ChangesEntry, Covers, DropsChildren, Empties, Fills, Finds, Inserts, Len, ListsFrom,
+    Removes, TakesOut, Writes, WritesLongest,
 };
 use crate::tests::cases::filling::Fill;
 use crate::tests::cases::lists::kept;
@@ -28,23 +28,29 @@ fn is_end(len: u8, width: u8) -> bool {
     matches!(len, 0 | 1 | 4 | 5) || width.saturating_sub(len) < 2
 }
 
-/// Whether insertions and lookups take two pairs for the third, where no other is stored.
-fn are_found<K: Key, A: Allocator + Copy, M: Tried<K, A>>(
-    heap: &Refusing<Global>,
-    tried: &mut M,
-    at: Pair<K>,
-    other: Pair<K>,
-    clean: Pair<K>,
-) -> bool {
+/// How many cases there are of two pairs where no other is stored.
+const STEPS: u32 = 15;
+
+/// These in turn: insertions, lookups and removals take both pairs for the third. The entry is left.
+fn case_at<'a, K: Key + 'a>(step: u32, at: Pair<K>, other: Pair<K>, clean: Pair<K>) -> Case<'a, K> {
     let stored = Some((clean, 2));
-    holds_alone::<K, A, M>(heap, tried, &Finds(at, None, None, None))
-        & holds_alone::<K, A, M>(heap, tried, &Inserts(other, 1, None))
-        & holds_alone::<K, A, M>(heap, tried, &Inserts(at, 2, Some(1)))
-        & holds_alone::<K, A, M>(heap, tried, &Finds(at, stored, stored, stored))
-        & holds_alone::<K, A, M>(heap, tried, &Finds(other, stored, stored, stored))
+    match step {
+        0 => Finds(at, None, None, None),
+        2 => Inserts(at, 2, Some(1)),
+        3 => Finds(at, stored, stored, stored),
+        4 => Finds(other, stored, stored, stored),
+        5 => Writes(at, 3, Some(2)),
+        6 => WritesLongest(at, 4, Some((clean, 3))),
+        7 => ChangesEntry(at, 5, 4),
+        8 => Removes(at, Some(5)),
+        10 => Empties(at, Some(1)),
+        12 => DropsChildren(at),
+        13 => Len(0),
+        _ => Inserts(other, 1, None),
+    }
 }
 
-/// Whether what was put at one pair is changed at the other, and taken out.
+/// Whether all of them hold.
 fn are_changed<K: Key, A: Allocator + Copy, M: Tried<K, A>>(
     heap: &Refusing<Global>,
     tried: &mut M,
@@ -52,16 +58,12 @@ fn are_changed<K: Key, A: Allocator + Copy, M: Tried<K, A>>(
     other: Pair<K>,
     clean: Pair<K>,
 ) -> bool {
-    holds_alone::<K, A, M>(heap, tried, &Writes(at, 3, Some(2)))
-        & holds_alone::<K, A, M>(heap, tried, &WritesLongest(at, 4, Some((clean, 3))))
-        & holds_alone::<K, A, M>(heap, tried, &ChangesEntry(at, 5, 4))
-        & holds_alone::<K, A, M>(heap, tried, &Removes(at, Some(5)))
-        & holds_alone::<K, A, M>(heap, tried, &Inserts(other, 1, None))
-        & holds_alone::<K, A, M>(heap, tried, &Empties(at, Some(1)))
-        & holds_alone::<K, A, M>(heap, tried, &Inserts(other, 1, None))
-        & holds_alone::<K, A, M>(heap, tried, &DropsChildren(at))
-        & holds_alone::<K, A, M>(heap, tried, &Len(0))
-        & holds_alone::<K, A, M>(heap, tried, &Inserts(other, 1, None))
+    for step in 0..STEPS {
+        if !holds_alone::<K, A, M>(heap, tried, &case_at(step, at, other, clean)) {
+            return false;
+        }
+    }
+    true
 }
 
 /// Whether what was handed out has one entry alone, and nothing is left.
@@ -117,8 +119,7 @@ fn are_alike_alone<K: Key, A: Allocator + Copy, M: Tried<K, A>>(
     other: Pair<K>,
     clean: Pair<K>,
 ) -> bool {
-    are_found::<K, A, M>(heap, tried, at, other, clean)
-        & are_changed::<K, A, M>(heap, tried, at, other, clean)
+    are_changed::<K, A, M>(heap, tried, at, other, clean)
         & hands_out::<K, A, M>(heap, tried, at, (clean, 1))
         & are_filled::<K, A, M>(heap, tried, at, other)
 }

@@ -1,13 +1,12 @@
 //! What a caller of a run learns of its replies, by its contract alone.
 ghost use Rattle.std.specs.Prelude.{◌≡◌, ◌≤◌, ◌+◌, ◌/◌, ℕ, [], ◌∷◌, Some, IfOk, OnOk, length};
 ghost use Rattle.std.specs.FinMap.{len};
-ghost use Rattle.prefix_trie_bits.specs.Model.Matches.{longest_match, shown_match};
-ghost use Rattle.prefix_trie_bits.specs.Model.Nodes.{needed};
+ghost use Rattle.prefix_trie.specs.Words.{longest_match, needed, replies_of, shown_match};
 ghost use Rattle.prefix_trie_map.specs.Steps.{state};
-ghost use Rattle.prefix_trie_map.specs.Replay.{replies_of};
 ghost use Rattle.prefix_trie_bits.specs.Model.Step.{Match, Done, Count, Reply as Answer};
 
 use crate::replay::{Call, Reads, Reply, run, run_counted};
+use crate::tests::on_new::on_new;
 use crate::{Key, Prefix, PrefixMap, Refusal};
 use std::alloc::{AllocError, Allocator, Global};
 
@@ -85,10 +84,9 @@ fn finds_one(map: &mut Numbers<Global>, alloc: Global) -> bool {
     }
 }
 
-/// Both of a new map.
-fn is_counted(alloc: Global) -> Result<bool, Refusal> {
-    let mut map = PrefixMap::new(alloc)?;
-    Ok(has_two(&mut map, alloc) & finds_one(&mut map, alloc))
+/// Both in turn.
+fn is_counted(map: &mut Numbers<Global>, alloc: Global) -> bool {
+    has_two(map, alloc) & finds_one(map, alloc)
 }
 
 /// Whether a new map that gets such a key has two nodes.
@@ -102,5 +100,5 @@ fn has_two_anew(alloc: Global) -> bool {
 #[test]
 fn runs_on_a_map(rt: HostRuntime) {
     assert!(rt; has_two_anew(rt.alloc()));
-    assert!(rt; is_counted(rt.alloc()) == Ok(true));
+    assert!(rt; on_new(PrefixMap::new(rt.alloc()), rt.alloc(), is_counted) == Ok(true));
 }

@@ -1,11 +1,12 @@
 //! A long run: calls of all sixteen kinds, and their replies beside those of a plain sorted list.
 ghost use Rattle.std.specs.Prelude.{◌≤◌, All, IfOk};
-ghost use Rattle.prefix_trie_map.specs.Replay.{IsFittingCall};
+ghost use Rattle.prefix_trie.specs.Words.{IsFittingCall};
 
 use crate::replay::{Call, Reply, run};
 use crate::tests::cases::questions::has_sums;
 use crate::tests::cases::{Pair, prefix_of};
-use crate::{Prefix, PrefixMap, Refusal};
+use crate::tests::on_new::on_new;
+use crate::{Prefix, PrefixMap};
 use std::alloc::{AllocError, Global};
 
 /// How many runs are made, and of how many calls.
@@ -295,7 +296,7 @@ fn runs_alike(
 }
 
 /// Draws and makes all runs. Answers whether all replies are those of a list.
-fn all_run_alike(alloc: Global, map: &mut Map) -> Result<bool, AllocError> {
+fn all_run_alike(map: &mut Map, alloc: Global) -> Result<bool, AllocError> {
     let mut list = Vec::new(alloc);
     let mut x = 1;
     for number in 0..RUNS {
@@ -308,13 +309,7 @@ fn all_run_alike(alloc: Global, map: &mut Map) -> Result<bool, AllocError> {
     Ok(!list.is_empty())
 }
 
-/// The same of a new map.
-fn all_run_alike_anew(alloc: Global) -> Result<bool, Refusal> {
-    let mut map = PrefixMap::new(alloc)?;
-    Ok(all_run_alike(alloc, &mut map) == Ok(true))
-}
-
 #[test]
 fn a_long_run_as_on_a_sorted_list(rt: HostRuntime) {
-    assert!(rt; all_run_alike_anew(rt.alloc()) == Ok(true));
+    assert!(rt; on_new(PrefixMap::new(rt.alloc()), rt.alloc(), all_run_alike) == Ok(Ok(true)));
 }

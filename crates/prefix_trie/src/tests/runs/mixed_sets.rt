@@ -5,25 +5,30 @@ use crate::tests::cases::Case::{
     self, Addresses, Clears, Covers, DropsChildren, Empties, Finds, Inserts, Len, Lists, Nodes,
     Removes, RetainsLong,
 };
+use crate::tests::cases::Entry;
 use crate::tests::cases::lists::entries_of;
 use crate::tests::cases::questions::shown;
 use crate::tests::cases::tried::holds_alone;
+use crate::tests::on_new::on_two_new;
 use crate::tests::refusing::Refusing;
 use crate::tests::retain::retain_long;
 use crate::tests::runs::mixed::{Key, drawn_call};
 use crate::tests::stored::put;
-use crate::{PrefixMap, PrefixSet, Refusal};
-use std::alloc::{AllocError, Allocator, Global};
+use crate::{PrefixMap, PrefixSet};
+use std::alloc::{AllocError, Global};
 
 /// How many calls are made.
 const CALLS: u64 = 20_000;
 
-type Map<A> = PrefixMap<Key, u64, A>;
+/// The number of a call that lists all entries.
+const LISTS: u64 = 610;
 
-type Set<A> = PrefixSet<Key, A>;
+type Map = PrefixMap<Key, u64, Global>;
+
+type Set = PrefixSet<Key, Global>;
 
 /// Makes a call that stores, or takes out all or what is short. Answers it beside its answer.
-fn changed<A: Allocator>(map: &mut Map<A>, a: u64, asked: Key) -> Case<'static, u8>
+fn changed(map: &mut Map, a: u64, asked: Key) -> Case<'static, u8>
     requires { asked.1 ≤ 8 }
 {
     match a {
@@ -40,7 +45,7 @@ fn changed<A: Allocator>(map: &mut Map<A>, a: u64, asked: Key) -> Case<'static, 
 }
 
 /// The same of a removal.
-fn removed<A: Allocator>(map: &mut Map<A>, which: u64, asked: Key) -> Case<'static, u8>
+fn removed(map: &mut Map, which: u64, asked: Key) -> Case<'static, u8>
     requires { asked.1 ≤ 8 }
 {
     match which {
@@ -54,7 +59,7 @@ fn removed<A: Allocator>(map: &mut Map<A>, which: u64, asked: Key) -> Case<'stat
 }
 
 /// The same of a question.
-fn answered<A: Allocator>(map: &Map<A>, which: u64, asked: Key) -> Case<'static, u8>
+fn answered(map: &Map, which: u64, asked: Key) -> Case<'static, u8>
     requires { asked.1 ≤ 8 }
 {
     match which {
@@ -70,59 +75,44 @@ fn answered<A: Allocator>(map: &Map<A>, which: u64, asked: Key) -> Case<'static,
     }
 }
 
-/// Whether a set lists the keys of a map.
-fn lists_alike<A: Allocator + Copy>(
-    heap: &Refusing<Global>,
-    map: &Map<A>,
-    set: &mut Set<A>,
-) -> Result<bool, AllocError> {
-    let entries = entries_of(heap.inner(), map)?;
-    Ok(holds_alone::<u8, A, Set<A>>(heap, set, &Lists(&entries)))
-}
-
-/// Whether it lists those around a prefix.
-fn covers_alike<A: Allocator + Copy>(
-    heap: &Refusing<Global>,
-    map: &Map<A>,
-    set: &mut Set<A>,
-    asked: Key,
-) -> Result<bool, AllocError>
+/// The entries that a call lists: all, or those around a prefix.
+fn listed(alloc: Global, map: &Map, which: u64, asked: Key) -> Result<Vec<Entry<u8>>, AllocError>
     requires { asked.1 ≤ 8 }
 {
-    let mut entries = Vec::new(heap.inner());
+    if which == 8 {
+        return entries_of(alloc, map);
+    }
+    let mut entries = Vec::new(alloc);
     for (prefix, value) in map.cover(&asked) {
         entries.push((prefix, *value))?;
     }
-    Ok(holds_alone::<u8, A, Set<A>>(heap, set, &Covers(asked, &entries)))
+    Ok(entries)
 }
 
 /// Makes one call on a map. Answers whether a set answers it alike.
-fn agrees<A: Allocator + Copy>(
+fn agrees(
     heap: &Refusing<Global>,
-    map: &mut Map<A>,
-    set: &mut Set<A>,
+    map: &mut Map,
+    set: &mut Set,
     a: u64,
     asked: Key,
 ) -> Result<bool, AllocError>
     requires { asked.1 ≤ 8 }
 {
     let which = a.wrapping_sub(602) % 13;
+    let entries = listed(heap.inner(), map, which, asked)?;
     let case = match a {
         0..602 => changed(map, a, asked),
-        _ if which == 8 => return lists_alike(heap, map, set),
-        _ if which == 9 => return covers_alike(heap, map, set, asked),
+        _ if which == 8 => Lists(&entries),
+        _ if which == 9 => Covers(asked, &entries),
         _ if 9 < which => removed(map, which, asked),
         _ => answered(map, which, asked),
     };
-    Ok(holds_alone::<u8, A, Set<A>>(heap, set, &case))
+    Ok(holds_alone::<u8, Global, Set>(heap, set, &case))
 }
 
 /// Makes all calls. Answers whether each was answered alike, and both have the same keys at the end.
-fn answer_alike<A: Allocator + Copy>(
-    heap: &Refusing<Global>,
-    map: &mut Map<A>,
-    set: &mut Set<A>,
-) -> Result<bool, AllocError> {
+fn answer_alike(map: &mut Map, set: &mut Set, heap: &Refusing<Global>) -> Result<bool, AllocError> {
     let mut x = 1;
     for _index in 0..CALLS {
         let (a, asked) = drawn_call(&mut x);
@@ -130,21 +120,12 @@ fn answer_alike<A: Allocator + Copy>(
             return Ok(false);
         }
     }
-    lists_alike(heap, map, set)
-}
-
-/// The same of a new map and a new set.
-fn answer_alike_anew<A: Allocator + Copy>(
-    heap: &Refusing<Global>,
-    alloc: A,
-) -> Result<bool, Refusal> {
-    let mut map = PrefixMap::new(alloc)?;
-    let mut set = PrefixSet::new(alloc)?;
-    Ok(answer_alike(heap, &mut map, &mut set) == Ok(true))
+    agrees(heap, map, set, LISTS, (0, 0))
 }
 
 #[test]
 fn mixed_calls_of_a_set_as_of_a_map(rt: HostRuntime) {
     let heap = Refusing::new(rt.alloc());
-    assert!(rt; answer_alike_anew(&heap, rt.alloc()) == Ok(true));
+    let (map, set) = (PrefixMap::new(rt.alloc()), PrefixSet::new(rt.alloc()));
+    assert!(rt; on_two_new(map, set, &heap, answer_alike) == Ok(Ok(true)));
 }

@@ -1,8 +1,7 @@
 //! What callers of the covering walks learn from their contracts.
-ghost use Rattle.std.specs.Prelude.{◌≡◌, map, length, nat_le, IfOk};
+ghost use Rattle.std.specs.Prelude.{◌≡◌, length, nat_le};
 ghost use Rattle.std.specs.List.{list_all};
-ghost use Rattle.prefix_trie_bits.specs.Model.Matches.{covers};
-ghost use Rattle.prefix_trie_bits.specs.Model.Selections.{shown};
+ghost use Rattle.prefix_trie.specs.Words.{covers, shown};
 
 use crate::tests::on_new::on_new;
 use crate::tests::stored::stores;
@@ -15,18 +14,6 @@ fn count<P: Prefix, T: Drop, A: Allocator>(m: &PrefixMap<P, T, A>, prefix: &P) -
     ensures { result ≡ length (covers m.now.entries (P.path prefix.now)) }
 {
     m.cover(prefix).count()
-}
-
-// Those prefixes, the shortest first.
-fn all_keys<P: Prefix, T: Drop, A: Allocator>(
-    alloc: A,
-    m: &PrefixMap<P, T, A>,
-    prefix: &P,
-) -> Result<Vec<P, A>, AllocError>
-    requires { P.IsFitting prefix.now }
-    ensures { IfOk result (λ v. v.items ≡ map (λ e. P.back e.0) (covers m.now.entries (P.path prefix.now))) }
-{
-    m.cover_keys(prefix).collect(alloc)
 }
 
 // Whether no value stored for those prefixes is below this one.
@@ -49,7 +36,8 @@ const TWO: [((u16, u8), u32); 2] = [((0x8000, 15), 1), ((0x8001, 16), 2)];
 
 /// Whether the prefixes that contain the last key come in listing order.
 fn lists_both(map: &Numbers, alloc: Global) -> bool {
-    match all_keys(alloc, map, &(0x8001, 16)) {
+    let keys: Result<Vec<(u16, u8)>, AllocError> = map.cover_keys(&(0x8001, 16)).collect(alloc);
+    match keys {
         Ok(keys) => keys.as_slice() == [(0x8000, 15), (0x8001, 16)].as_slice(),
         Err(AllocError) => false,
     }

@@ -1,30 +1,31 @@
 //! Walks that are dropped early, over values that count their drops; and tests with a state.
-ghost use Rattle.std.specs.Iterator.{IsFinite};
-
 use crate::map::{IterMut, ValuesMut};
 use crate::tests::cases::keys::{adds_key, gives_keys};
 use crate::tests::drops::{Counted, let_go};
+use crate::tests::on_new::on_new;
 use crate::tests::retain::{keep_keys_where, keep_where};
 use crate::tests::stored::{has_keys, stores};
 use crate::tests::walks::taking::three;
 use crate::{PrefixMap, PrefixSet, Refusal};
-use std::alloc::Allocator;
+use std::alloc::Global;
 use std::cell::Cell;
 
 type Key = (u8, u8);
 
 /// Whether a walk gives so many, and is dropped then.
-fn gives<I: Iterator + Drop>(walk: I, count: usize) -> bool
+fn gives<I: Iterator + Drop>(mut walk: I, count: usize) -> bool
 where
     I::Item: Drop,
-    requires can { I.can_next walk }
-    requires ends { IsFinite (I.remaining walk) }
+    requires { I.can_next walk }
 {
-    walk.take(count).count() == count
+    match count.checked_sub(1) {
+        Some(last) => walk.nth(last).is_some(),
+        None => true,
+    }
 }
 
 /// Whether each walk over a map of three keys does.
-fn are_read<T: Drop, A: Allocator>(map: &PrefixMap<Key, T, A>, count: usize) -> bool {
+fn are_read(map: &PrefixMap<Key, Counted<'_>, Global>, count: usize) -> bool {
     gives(map.iter(), count)
         & gives(map.keys(), count)
         & gives(map.values(), count)
@@ -33,14 +34,14 @@ fn are_read<T: Drop, A: Allocator>(map: &PrefixMap<Key, T, A>, count: usize) -> 
 }
 
 /// Whether each walk around the second key does.
-fn are_covered<T: Drop, A: Allocator>(map: &PrefixMap<Key, T, A>, count: usize) -> bool {
+fn are_covered(map: &PrefixMap<Key, Counted<'_>, Global>, count: usize) -> bool {
     gives(map.cover(&(0, 1)), count)
         & gives(map.cover_keys(&(0, 1)), count)
         & gives(map.cover_values(&(0, 1)), count)
 }
 
 /// Whether each walk over a set of three keys does, and around the second.
-fn are_keys_read<A: Allocator>(set: &PrefixSet<Key, A>, count: usize) -> bool {
+fn are_keys_read(set: &PrefixSet<Key, Global>, count: usize) -> bool {
     gives(set.iter(), count)
         & gives(set.iter_from(&(0, 0), true), count)
         & gives(set.children(&(0, 0)), count)
@@ -48,8 +49,8 @@ fn are_keys_read<A: Allocator>(set: &PrefixSet<Key, A>, count: usize) -> bool {
 }
 
 /// Replaces the next values of a walk.
-fn replaces<'b, 'm, 'a, A: Allocator>(
-    walk: &'b mut IterMut<'m, Key, Counted<'a>, A>,
+fn replaces<'b, 'm, 'a>(
+    walk: &'b mut IterMut<'m, Key, Counted<'a>, Global>,
     drops: &'a Cell<u64>,
     count: u64,
 ) {
@@ -61,8 +62,8 @@ fn replaces<'b, 'm, 'a, A: Allocator>(
 }
 
 /// The same of a walk of values alone.
-fn replaces_values<'b, 'm, 'a, A: Allocator>(
-    walk: &'b mut ValuesMut<'m, Key, Counted<'a>, A>,
+fn replaces_values<'b, 'm, 'a>(
+    walk: &'b mut ValuesMut<'m, Key, Counted<'a>, Global>,
     drops: &'a Cell<u64>,
     count: u64,
 ) {
@@ -74,8 +75,8 @@ fn replaces_values<'b, 'm, 'a, A: Allocator>(
 }
 
 /// How many are dropped by each walk that lends, whose first values are replaced before it is dropped.
-fn drops_of_lending<'a, A: Allocator>(
-    map: &mut PrefixMap<Key, Counted<'a>, A>,
+fn drops_of_lending<'a>(
+    map: &mut PrefixMap<Key, Counted<'a>, Global>,
     drops: &'a Cell<u64>,
     count: u64,
 ) -> [u64; 4] {
@@ -94,7 +95,7 @@ fn drops_of_lending<'a, A: Allocator>(
 }
 
 /// How many are dropped by walks over a new map that are dropped so early, and by letting it go. None where one gives another number.
-fn drops_of_early<A: Allocator + Clone>(alloc: A, count: u8) -> Option<(u64, [u64; 4], u64)> {
+fn drops_of_early(alloc: Global, count: u8) -> Option<(u64, [u64; 4], u64)> {
     let drops = Cell::new(0);
     let mut map = three(alloc, &drops)?;
     let is_given = are_read(&map, usize::from(count)) & are_covered(&map, usize::from(count));
@@ -113,7 +114,7 @@ fn walks_dropped_early(rt: HostRuntime) {
 }
 
 /// Keeps the first key of a map, the third and so on.
-fn keep_each_second<A: Allocator>(map: &mut PrefixMap<Key, u64, A>) {
+fn keep_each_second(map: &mut PrefixMap<Key, u64, Global>) {
     let mut is_kept = false;
     keep_where(map, |_, _| {
         is_kept = !is_kept;
@@ -122,7 +123,7 @@ fn keep_each_second<A: Allocator>(map: &mut PrefixMap<Key, u64, A>) {
 }
 
 /// The same of a set.
-fn keep_each_second_key<A: Allocator>(set: &mut PrefixSet<Key, A>) {
+fn keep_each_second_key(set: &mut PrefixSet<Key, Global>) {
     let mut is_kept = false;
     keep_keys_where(set, |_| {
         is_kept = !is_kept;
@@ -131,35 +132,29 @@ fn keep_each_second_key<A: Allocator>(set: &mut PrefixSet<Key, A>) {
 }
 
 /// Whether the first and the third of three keys are kept in a map.
-fn is_kept<A: Allocator>(map: &mut PrefixMap<Key, u64, A>) -> bool {
+fn is_kept(map: &mut PrefixMap<Key, u64, Global>, _: ()) -> bool {
     let is_filled = stores(map, &[((0, 0), 1), ((0, 1), 2), ((0, 8), 3)]);
     keep_each_second(map);
     is_filled & has_keys(map, &[(0, 0), (0, 8)])
 }
 
 /// The same of a set, whose walks are dropped early before.
-fn is_kept_in_set<A: Allocator>(set: &mut PrefixSet<Key, A>) -> bool {
+fn is_kept_in_set(set: &mut PrefixSet<Key, Global>) -> bool {
     let is_filled = adds_key(set, (0, 0)) & adds_key(set, (0, 1)) & adds_key(set, (0, 8));
     let is_given = are_keys_read(set, 0) & are_keys_read(set, 1) & are_keys_read(set, 2);
     keep_each_second_key(set);
     is_filled & is_given & gives_keys(set.iter(), &[(0, 0), (0, 8)])
 }
 
-/// The same of a new map.
-fn is_kept_anew<A: Allocator + Clone>(alloc: A) -> Result<bool, Refusal> {
-    let mut map = PrefixMap::new(alloc)?;
-    Ok(is_kept::<A>(&mut map))
-}
-
-/// And of a new set, which is given up with its second key.
-fn is_kept_in_new_set<A: Allocator + Clone>(alloc: A) -> Result<bool, Refusal> {
+/// The same of a new set, which is given up with its second key.
+fn is_kept_in_new_set(alloc: Global) -> Result<bool, Refusal> {
     let mut set = PrefixSet::new(alloc)?;
-    let is_kept = is_kept_in_set::<A>(&mut set);
-    Ok(is_kept & (set.into_iter().take(1).count() == 1))
+    let is_kept = is_kept_in_set(&mut set);
+    Ok(is_kept & set.into_iter().next().is_some())
 }
 
 #[test]
 fn a_test_with_a_state(rt: HostRuntime) {
-    assert!(rt; is_kept_anew(rt.alloc()) == Ok(true));
+    assert!(rt; on_new(PrefixMap::new(rt.alloc()), (), is_kept) == Ok(true));
     assert!(rt; is_kept_in_new_set(rt.alloc()) == Ok(true));
 }

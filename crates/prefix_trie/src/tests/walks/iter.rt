@@ -2,7 +2,7 @@
 ghost use Rattle.std.specs.Prelude.{◌≡◌, ◌++◌, ◌∷◌, [], List, map, nat_le, IfOk, MatchOption};
 ghost use Rattle.std.specs.FinMap.{len};
 ghost use Rattle.std.specs.List.{list_all};
-ghost use Rattle.prefix_trie_bits.specs.Model.Selections.{listing, shown};
+ghost use Rattle.prefix_trie.specs.Words.{listing, shown};
 
 use crate::map::Iter;
 use crate::tests::on_new::on_new;
@@ -79,7 +79,7 @@ fn lists_four(map: &Numbers, alloc: Global) -> bool {
 }
 
 /// Whether a walk gives these values.
-fn gives<P: Prefix, A: Allocator>(mut walk: Iter<'_, P, u32, A>, values: &[u32]) -> bool {
+fn gives(mut walk: Iter<'_, (u8, u8), u32, Global>, values: &[u32]) -> bool {
     for expected in values {
         match walk.next() {
             Some((_, value)) if value == expected => {}

@@ -1,14 +1,13 @@
 //! Callers that write through what a map lends, and what they know of the map afterwards.
 ghost use Rattle.std.specs.Prelude.{◌≡◌, List, Bool, false, IsTrue, IsFalse, None, Some};
 ghost use Rattle.std.specs.FinMap.{get};
+ghost use Rattle.prefix_trie.specs.Words.{longest_match, shown_match, with_longest_at, with_value_at};
 ghost use Rattle.prefix_trie_bits.specs.Begins.{same_bool};
 ghost use Rattle.prefix_trie_bits.specs.Order.{same_string};
-ghost use Rattle.prefix_trie_bits.specs.Model.Matches.{longest_match, shown_match};
-ghost use Rattle.prefix_trie_table.specs.Shape.{with_value_at, with_longest_at};
 
 use crate::tests::on_new::on_new;
 use crate::tests::stored::{has_values, put, stores};
-use crate::{Ipv6Prefix, Prefix, PrefixMap, Refusal};
+use crate::{Ipv6Prefix, Prefix, PrefixMap};
 use std::alloc::{AllocError, Allocator, Global};
 
 // Writes over a stored value, and says whether there was one.
@@ -70,7 +69,7 @@ fn rewrite<P: Prefix, A: Allocator>(
 const LAST_BITS: [((u64, u8), u8); 3] = [((0, 60), 1), ((5, 64), 2), ((6, 63), 3)];
 
 /// Whether the value of the longest match is written over, twice, and that of no match is not.
-fn is_rewritten<A: Allocator>(map: &mut PrefixMap<(u64, u8), u8, A>) -> bool {
+fn is_rewritten(map: &mut PrefixMap<(u64, u8), u8, Global>, _: ()) -> bool {
     stores(map, &LAST_BITS)
         & (rewrite(map, &(7, 64), 8) == Some(((6, 63), 3)))
         & (rewrite(map, &(7, 64), 9) == Some(((6, 63), 8)))
@@ -79,15 +78,9 @@ fn is_rewritten<A: Allocator>(map: &mut PrefixMap<(u64, u8), u8, A>) -> bool {
         & has_values(map, &[7, 2, 9])
 }
 
-/// The same of a new map.
-fn is_rewritten_anew<A: Allocator + Clone>(alloc: A) -> Result<bool, Refusal> {
-    let mut map = PrefixMap::new(alloc)?;
-    Ok(is_rewritten::<A>(&mut map))
-}
-
 #[test]
 fn the_longest_match_is_written(rt: HostRuntime) {
-    assert!(rt; is_rewritten_anew(rt.alloc()) == Ok(true));
+    assert!(rt; on_new(PrefixMap::new(rt.alloc()), (), is_rewritten) == Ok(true));
 }
 
 type Texts = PrefixMap<Ipv6Prefix, String<Global>, Global>;

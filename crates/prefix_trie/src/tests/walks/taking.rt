@@ -1,7 +1,6 @@
 //! Walks that take a map apart: what a caller knows of them, and what is dropped when.
 ghost use Rattle.std.specs.Prelude.{◌≡◌, OnOk};
-ghost use Rattle.prefix_trie_bits.specs.Model.Entries.{put_all};
-ghost use Rattle.prefix_trie_bits.specs.Model.Selections.{listing, shown};
+ghost use Rattle.prefix_trie.specs.Words.{listing, put_all, shown};
 
 use crate::map::{IntoIter, IntoKeys, IntoValues};
 use crate::tests::clones::Copied;
@@ -27,7 +26,7 @@ fn pour<P: Prefix, T: Drop, A: Allocator>(
 
 type Key = (u8, u8);
 
-type Counting<'a, A> = PrefixMap<Key, Counted<'a>, A>;
+type Counting<'a> = PrefixMap<Key, Counted<'a>, Global>;
 
 /// More requests than one copy makes.
 const MANY: u64 = 100;
@@ -36,7 +35,7 @@ const MANY: u64 = 100;
 const KEYS: [Key; 3] = [(0, 0), (0, 1), (0, 8)];
 
 /// Stores them. Answers whether each is new.
-fn put_three<'a, A: Allocator>(map: &mut Counting<'a, A>, drops: &'a Cell<u64>) -> bool {
+fn put_three<'a>(map: &mut Counting<'a>, drops: &'a Cell<u64>) -> bool {
     for key in &KEYS {
         if !adds(map, *key, Counted { drops }) {
             return false;
@@ -46,7 +45,7 @@ fn put_three<'a, A: Allocator>(map: &mut Counting<'a, A>, drops: &'a Cell<u64>) 
 }
 
 /// A map of them.
-pub fn three<'a, A: Allocator + Clone>(alloc: A, drops: &'a Cell<u64>) -> Option<Counting<'a, A>> {
+pub fn three<'a>(alloc: Global, drops: &'a Cell<u64>) -> Option<Counting<'a>> {
     let mut map = PrefixMap::new(alloc).ok()?;
     let is_filled = put_three(&mut map, drops);
     if is_filled { Some(map) } else { None }
@@ -58,19 +57,19 @@ trait Taking: Copied {
     fn lets_next_go(&mut self);
 }
 
-impl<T: Clone, A: Allocator + Clone> Taking for IntoIter<Key, T, A> {
+impl Taking for IntoIter<Key, Counted<'_>, Global> {
     fn lets_next_go(&mut self) {
         let_go(self.next());
     }
 }
 
-impl<T: Clone, A: Allocator + Clone> Taking for IntoKeys<Key, T, A> {
+impl Taking for IntoKeys<Key, Counted<'_>, Global> {
     fn lets_next_go(&mut self) {
         let_go(self.next());
     }
 }
 
-impl<T: Clone, A: Allocator + Clone> Taking for IntoValues<Key, T, A> {
+impl Taking for IntoValues<Key, Counted<'_>, Global> {
     fn lets_next_go(&mut self) {
         let_go(self.next());
     }
@@ -97,7 +96,7 @@ fn drops_of<W: Taking>(walk: W, taken: u64, drops: &Cell<u64>) -> Option<(u64, u
 }
 
 /// The same of each walk.
-fn dropped<A: Allocator + Copy>(alloc: A, taken: u64) -> Option<[(u64, u64, u64); 4]> {
+fn dropped(alloc: Global, taken: u64) -> Option<[(u64, u64, u64); 4]> {
     let drops = Cell::new(0);
     let items = drops_of(three(alloc, &drops)?.into_iter(), taken, &drops)?;
     let part = three(alloc, &drops)?.into_children(&(0, 1));
@@ -122,10 +121,7 @@ fn what_is_not_taken_is_dropped_with_the_walk(rt: HostRuntime) {
 }
 
 /// How many are dropped once three are stored and one of them is replaced, one is taken out, and all are cleared.
-fn drops_of_calls<'a, A: Allocator>(
-    map: &mut Counting<'a, A>,
-    drops: &'a Cell<u64>,
-) -> Option<[u64; 4]> {
+fn drops_of_calls<'a>(map: &mut Counting<'a>, drops: &'a Cell<u64>) -> Option<[u64; 4]> {
     let are_put = put_three(map, drops);
     let first = drops.get();
     let is_replaced = stored::put(map, (0, 1), Counted { drops }).is_ok();
@@ -137,16 +133,16 @@ fn drops_of_calls<'a, A: Allocator>(
 }
 
 /// The same of a new map, and how many are dropped once it is let go.
-fn drops_of_map<A: Allocator + Clone>(alloc: A) -> Option<([u64; 4], u64)> {
+fn drops_of_map(alloc: Global) -> Option<([u64; 4], u64)> {
     let drops = Cell::new(0);
     let mut map = PrefixMap::new(alloc).ok()?;
-    let during = drops_of_calls::<A>(&mut map, &drops)?;
+    let during = drops_of_calls(&mut map, &drops)?;
     let_go(map);
     Some((during, drops.get()))
 }
 
 /// How many are dropped by an insertion that is refused, by letting its value go, and by letting the map go.
-fn drops_of_refused<A: Allocator + Clone>(alloc: A) -> Option<[u64; 3]> {
+fn drops_of_refused(alloc: Global) -> Option<[u64; 3]> {
     let drops = Cell::new(0);
     let mut map = PrefixMap::with_slot_limit(alloc, 1).ok()?;
     let answer = stored::put(&mut map, KEYS[2], Counted { drops: &drops });

@@ -1,15 +1,15 @@
 //! Callers of walks that lend values for writing, and what they know of the map afterwards.
 ghost use Rattle.std.specs.Prelude.{◌≡◌, List, Bool, [], ◌∷◌, IsTrue, MatchOption, slice_get};
-ghost use Rattle.prefix_trie_bits.specs.Model.Selections.{listing, shown};
-ghost use Rattle.prefix_trie_table.specs.Shape.{with_value_at};
+ghost use Rattle.prefix_trie.specs.Words.{listing, shown, with_value_at};
 ghost use Rattle.prefix_trie_map.specs.Writing.{ComesToEnd, GoesOver, IsFirst};
 ghost use Rattle.prefix_trie_map.specs.WritingWalks.{EndsIn, FirstIn, PassesIn};
 
 use crate::map::IterMut;
 use crate::tests::examples::scaling::double_all;
+use crate::tests::on_new::on_new;
 use crate::tests::refusing::Refusing;
 use crate::tests::stored::{has_values, stores};
-use crate::{Prefix, PrefixMap, Refusal};
+use crate::{Prefix, PrefixMap};
 use std::alloc::{Allocator, Global};
 use std::mem;
 
@@ -123,17 +123,8 @@ fn are_written<A: Allocator>(map: &mut Numbers<A>, heap: &Refusing<Global>) -> b
     (answers == [true; 9]) & (heap.left() == u64::MAX)
 }
 
-/// The same of a new map.
-fn are_written_anew<A: Allocator + Clone>(
-    heap: &Refusing<Global>,
-    alloc: A,
-) -> Result<bool, Refusal> {
-    let mut map = PrefixMap::new(alloc)?;
-    Ok(are_written::<A>(&mut map, heap))
-}
-
 #[test]
 fn values_are_written_on_the_way(rt: HostRuntime) {
     let heap = Refusing::new(rt.alloc());
-    assert!(rt; are_written_anew(&heap, &heap) == Ok(true));
+    assert!(rt; on_new(PrefixMap::new(&heap), &heap, are_written) == Ok(true));
 }
