@@ -3,16 +3,9 @@ use Rattle.prefix_trie.proofs.Prelude.{Bool, List, [], ◌∷◌, refl}
 use Rattle.std.specs.Borrow.{Bor}
 use Rattle.std.specs.Fn.{Mut, always_mut}
 use Rattle.prefix_trie_bits.specs.Model.Asking.{MayAskInOrder}
-use Rattle.prefix_trie_map.specs.Asking.{AsksAt, TakesAt}
 use Rattle.prefix_trie_map.specs.Sets.{AsksKeyAt, TakesKeyAt}
 use denote.Param.Always.{mut_next}
-
-pub may_ask_of_map : {F P T : Type 0} (g : Mut F (Bor P × (Bor T × Unit {0})) Bool) (back : List Bool → P) (f : F) (es : List (List Bool × T)) → always_mut g f → MayAskInOrder (AsksAt g back) (TakesAt g back) f es
-may_ask_of_map g back f [] h = tt
-may_ask_of_map g back f (e ∷ es) h = (
-  λ p q is eq. (h.at ((p, (q, tt)) ∷ [])).0,
-  λ b f' asked. may_ask_of_map g back f' es (mut_next g f (asked.prefix, (asked.value, tt)) b f' f' asked.called refl h),
-)
+pub use Rattle.prefix_trie_map.proofs.Asking.{may_ask_of_map}
 
 pub may_ask_of_set : {F P : Type 0} (g : Mut F (Bor P × Unit {0}) Bool) (back : List Bool → P) (f : F) (es : List (List Bool × Unit {0})) → always_mut g f → MayAskInOrder (AsksKeyAt g back) (TakesKeyAt g back) f es
 may_ask_of_set g back f [] h = tt

@@ -22,7 +22,6 @@ pub use Rattle.std.specs.Map.Iter.{GivesInOrder, ShowsInOrder, TakesFirst, deref
 pub use Rattle.std.specs.Option.{UnwrapsOrElse, ghost_name_of, option_copied_mut, option_map, unwrap_or}
 pub use Rattle.std.specs.Ordering.{on}
 pub use Rattle.std.specs.declared.iter.Map.{Map}
-pub use Rattle.prefix_trie_bits.proofs.Model.Askings.{may_ask_always}
 pub use Rattle.prefix_trie_bits.proofs.Model.Counted.{StepsSoFar, all_fit_more, counted_laws, run_counted, step_pushed}
 pub use Rattle.prefix_trie_bits.proofs.Model.HandsOut.{handing_laws}
 pub use Rattle.prefix_trie_bits.proofs.Model.Listings.{listing_laws}
@@ -73,7 +72,7 @@ pub use Rattle.prefix_trie_table.specs.Walking.Trails.{GivesKey, IsTrailIn, IsTr
 pub use Rattle.prefix_trie_table.specs.declared.allocator.node.Node.{Node}
 pub use Rattle.prefix_trie_table.specs.declared.table.bulk.Found.{Found}
 pub use Rattle.prefix_trie_table.specs.declared.table.trail.Trail.{Trail}
-pub use Rattle.prefix_trie_map.specs.Asking.{AsksAt}
+pub use Rattle.prefix_trie_map.specs.Asking.{AsksAt, TakesAt}
 pub use Rattle.prefix_trie_map.specs.Bulk.{AreAnswered, AreFound, ReadsMore, right_for, visits_of_all}
 pub use Rattle.prefix_trie_map.specs.Collected.{ManyMayPassLimit, Puts}
 pub use Rattle.prefix_trie_map.specs.Copied.{CopyLaws}

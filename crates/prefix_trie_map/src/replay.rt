@@ -8,10 +8,12 @@ ghost use Rattle.prefix_trie_bits.specs.Model.Counted.{CountedStep, CountedRun, 
 ghost use Rattle.prefix_trie_bits.specs.Model.Matches.{covers, longest_match, shortest_match, shown_match};
 ghost use Rattle.prefix_trie_bits.specs.Model.Selections.{listing, listing_from, listing_after, listing_below, shown};
 ghost use Rattle.prefix_trie_bits.specs.Model.Step.{Run, Insert, Get, Lpm, Spm, Remove, RemoveKeepTree, RemoveChildren, RetainAtLeast, Clear, Value, Match, Done, Count, Addresses, Items, Refused};
-ghost use Rattle.prefix_trie_bits.specs.Model.Storage.{StepInStorage, RunInStorage};
+ghost use Rattle.prefix_trie_bits.specs.Model.Storage.{StepInStorage, RunInStorage, RetainsInStorage};
 ghost use Rattle.prefix_trie_bits.specs.declared.prefix.Refusal.TheVariants.{Memory};
+ghost use Rattle.prefix_trie_map.specs.Asking.{AsksAt};
 ghost use Rattle.prefix_trie_map.specs.Steps.{state, stored};
 ghost use Rattle.prefix_trie_map.specs.Walks.{lent_item};
+ghost use Rattle.prefix_trie_map.specs.Whole.{IsWhole};
 ghost use Rattle.prefix_trie_map.specs.Replay.{IsFittingCall, call_of, calls_of, reply_of, replies_of};
 
 mod reads;
@@ -271,8 +273,20 @@ fn retain_at_least<P: Prefix, A: Allocator>(
     ensures { StepInStorage P.path P.back P.R.bit_width
         (stored map.old) (RetainAtLeast least) (reply_of P.R.bits result) (stored map.new) }
 {
-    map.retain(|prefix, _| least <= prefix.prefix_len());
+    keep_where(map, |prefix, _| least <= prefix.prefix_len());
     Reply::Done
+}
+
+// Keeps the entries at which a test says yes that may always be called.
+fn keep_where<P: Prefix, A: Allocator, F: FnMut(&P, &u64) -> bool + Drop>(
+    map: &mut PrefixMap<P, u64, A>,
+    test: F,
+)
+    requires { F.IsAlwaysCallable test }
+    ensures whole { IsWhole P.R.bit_width map.old }
+    ensures step { RetainsInStorage (AsksAt F.FnMut P.back) test (stored map.old) (stored map.new) }
+{
+    map.retain(test);
 }
 
 /// The number of entries.

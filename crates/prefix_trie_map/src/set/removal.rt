@@ -1,5 +1,5 @@
 //! Taking keys out.
-ghost use Rattle.std.specs.Prelude.{◌≡◌};
+ghost use Rattle.std.specs.Prelude.{◌≡◌, false};
 ghost use Rattle.std.specs.FinMap.{contains_key};
 ghost use Rattle.prefix_trie_bits.specs.Model.Asking.{AsksInOrder, MayAskInOrder};
 ghost use Rattle.prefix_trie_bits.specs.Model.Entries.{no_entries, without_entry, without_below};
@@ -11,9 +11,42 @@ ghost use Rattle.prefix_trie_map.specs.Steps.{stored};
 ghost use Rattle.prefix_trie_map.specs.Whole.{IsWhole};
 ghost use Rattle.prefix_trie_map.specs.Sets.{taken_out, AsksKeyAt, TakesKeyAt};
 
+use crate::map::rebuilt;
 use crate::set::PrefixSet;
 use prefix_trie_bits::prefix::Prefix;
+use prefix_trie_table::allocator::nodes::Tick;
+use prefix_trie_table::table::retain::Keep;
 use std::alloc::Allocator;
+use std::marker::{Model, PhantomData};
+
+/// A test of prefixes, as one of keys and units.
+#[derive(Drop)]
+struct ByKey<P, F> {
+    test: F,
+    marker: PhantomData<P>,
+}
+
+// Clauses see the test alone.
+impl<P, F> Model for ByKey<P, F> {
+    ghost Value = { F };
+
+    ghost view = { λ a. a.test };
+}
+
+impl<P: Prefix, V: Tick, F: FnMut(&P) -> bool + Drop> Keep<P::R, (), V> for ByKey<P, F> {
+    ghost accepts = { TakesKeyAt F.FnMut P.back };
+
+    ghost asks = { AsksKeyAt F.FnMut P.back };
+
+    ghost refuses = { λ f k v f'. AsksKeyAt F.FnMut P.back f k v false f' };
+
+    fn keeps(&mut self, key: P::R, len: u32, _value: &()) -> bool {
+        let prefix = rebuilt::<P>(key, len);
+        (self.test)(&prefix)
+    }
+
+    fn taken(&mut self, _key: P::R, _len: u32, _value: (), _counter: &mut V) {}
+}
 
 impl<P: Prefix, A: Allocator> PrefixSet<P, A> {
     /// Takes a prefix out, and answers whether it was in the set. Then the nodes that have nothing left go, from the prefix's
@@ -109,7 +142,7 @@ impl<P: Prefix, A: Allocator> PrefixSet<P, A> {
     /// set.retain(|prefix| prefix.prefix_len() < 20)
     /// set.iter()                                       gives 10.0.0.0/8 and 10.1.0.0/16
     /// ```
-    pub fn retain<F: FnMut(&P) -> bool>(&mut self, mut test: F)
+    pub fn retain<F: FnMut(&P) -> bool>(&mut self, test: F)
         requires { MayAskInOrder (AsksKeyAt F.FnMut P.back) (TakesKeyAt F.FnMut P.back) test (listing self.old.entries) }
         ensures whole { IsWhole P.R.bit_width self.old }
         ensures kept { AsksInOrder (AsksKeyAt F.FnMut P.back) test (listing self.old.entries) (listing self.new.entries) }
@@ -118,10 +151,9 @@ impl<P: Prefix, A: Allocator> PrefixSet<P, A> {
         // It is a step of the model, of the storage too: that of a map of units.
         ensures step { RetainsInStorage (AsksKeyAt F.FnMut P.back) test (stored self.old) (stored self.new) }
     {
-        self.map.retain(
-            move |prefix, _|
-                requires { F.pre test prefix }
-            { test(prefix) },
-        );
+        self.map.retain_by(ByKey::<P, F> {
+            test,
+            marker: PhantomData,
+        });
     }
 }

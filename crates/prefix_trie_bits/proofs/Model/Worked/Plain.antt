@@ -1,5 +1,5 @@
 -- A plain, slow model that computes: the entries and the nodes as sorted lists. Each of its steps is a step of the definitions.
-use Rattle.prefix_trie_bits.proofs.Prelude.{◌≡◌, ℕ, ◌^◌, ◌==◌, Bool, true, false, cond, not, ◌&&◌, ◌||◌, List, [], ◌∷◌, length, map, filter, flat_map, nat_le, Option, Some, None, is_some, is_lt, is_le, refl, sym, ap, ap₂, ◌∙◌, subst, inl, inr, list_any, list_all, FinMap, entries, contains_key, retain_keys, keys, empty, get-entries, len-entries, entries-insert, find, put, begins, listing_cmp, listing_total, same_string, Entries, no_entries, with_entry, without_entry, without_below, part_at_least, shown, first_item, last_item, shown_match, Nodes, has_node, is_root, root_alone, with_nodes, nodes_above, home, needed, is_pruned, pruned, nodes_not_below, nodes_without, nodes_without_below, State, Call, Insert, Get, Lpm, Spm, Remove, RemoveKeepTree, RemoveChildren, RetainAtLeast, Clear, Len, NodeCount, AddressCount, ListAll, ListFrom, Children, Cover, Reply, Value, Match, Done, Count, Addresses, Items, Refused, Refusal, Step, Run}
+use Rattle.prefix_trie_bits.proofs.Prelude.{◌≡◌, true≢false, ℕ, ◌^◌, ◌==◌, Bool, true, false, cond, not, ◌&&◌, ◌||◌, List, [], ◌∷◌, length, map, filter, flat_map, nat_le, Option, Some, None, is_some, is_lt, is_le, refl, sym, ap, ap₂, ◌∙◌, subst, inl, inr, list_any, list_all, FinMap, entries, contains_key, retain_keys, keys, empty, get-entries, len-entries, entries-insert, find, put, begins, listing_cmp, listing_total, same_string, Entries, no_entries, with_entry, without_entry, without_below, part_at_least, shown, first_item, last_item, shown_match, Nodes, has_node, is_root, root_alone, with_nodes, nodes_above, home, needed, is_pruned, pruned, nodes_not_below, nodes_without, nodes_without_below, State, Call, Insert, Get, Lpm, Spm, Remove, RemoveKeepTree, RemoveChildren, RetainAtLeast, Clear, Len, NodeCount, AddressCount, ListAll, ListFrom, Children, Cover, Reply, Value, Match, Done, Count, Addresses, Items, Refused, Refusal, Step, Run}
 use Rattle.prefix_trie_bits.proofs.Model.Ordered.{entries-retained, entries-removed, entries-empty}
 use Rattle.prefix_trie_bits.proofs.Model.Halves.{halves, covered-halves}
 
@@ -49,7 +49,7 @@ module _ {P T : Type 0} (path : P → List Bool) (back : List Bool → P) (width
       elim (is_some (find listing_cmp (path q) es)) as (λ _. Played P T) [
         | true ↦ answered (Value (find listing_cmp (path q) es)) (put listing_cmp (path q) v es) ns
         | false ↦ elim fate as (λ _. Played P T) [
-          | None ↦ answered (Value (find listing_cmp (path q) es)) (put listing_cmp (path q) v es) (marked ns (nodes_above (path q)))
+          | None ↦ answered (Value None) (put listing_cmp (path q) v es) (marked ns (nodes_above (path q)))
           | Some cause ↦ answered (Refused cause) es ns
         ]
       ]
@@ -83,6 +83,10 @@ module _ {P T : Type 0} (path : P → List Bool) (back : List Bool → P) (width
 
   abbrev pub calls_of : List (Call P T × Option Refusal) → List (Call P T)
   calls_of cs = map (λ c. c.0) cs
+
+none-of : {X : Type 0} (o : Option X) → is_some o ≡ false → o ≡ None
+none-of None e = refl
+none-of (Some x) e = absurd (true≢false e)
 
 marked-is : (n : Nodes) (ss : List (List Bool)) → entries (with_nodes n ss) ≡ marked (entries n) ss
 marked-is n [] = refl
@@ -134,7 +138,7 @@ module _ {P T : Type 0} (path : P → List Bool) (back : List Bool → P) (width
       elim (is_some (find listing_cmp (path q) es)) as (λ b. is_some (find listing_cmp (path q) es) ≡ b → Steps s (Insert q v) (elim b as (λ _. Played P T) [
         | true ↦ answered path back width (Value (find listing_cmp (path q) es)) (put listing_cmp (path q) v es) (entries s.nodes)
         | false ↦ elim fate as (λ _. Played P T) [
-          | None ↦ answered path back width (Value (find listing_cmp (path q) es)) (put listing_cmp (path q) v es) (marked (entries s.nodes) (nodes_above (path q)))
+          | None ↦ answered path back width (Value None) (put listing_cmp (path q) v es) (marked (entries s.nodes) (nodes_above (path q)))
           | Some cause ↦ answered path back width (Refused cause) es (entries s.nodes)
         ]
       ])) [
@@ -144,12 +148,12 @@ module _ {P T : Type 0} (path : P → List Bool) (back : List Bool → P) (width
           shows = record { of_entries = put_is; of_nodes = refl };
         }
         | false ↦ λ e. elim fate as (λ f. Steps s (Insert q v) (elim f as (λ _. Played P T) [
-          | None ↦ answered path back width (Value (find listing_cmp (path q) es)) (put listing_cmp (path q) v es) (marked (entries s.nodes) (nodes_above (path q)))
+          | None ↦ answered path back width (Value None) (put listing_cmp (path q) v es) (marked (entries s.nodes) (nodes_above (path q)))
           | Some cause ↦ answered path back width (Refused cause) es (entries s.nodes)
         ])) [
           | None ↦ record {
             next = record { entries = with_entry s.entries (path q) v; nodes = with_nodes s.nodes (nodes_above (path q)) };
-            step = inl (ap Value (sym value), λ i. record { entries = with_entry s.entries (path q) v; nodes = cond (sym (has-is s.entries (path q) ∙ e) i) s.nodes (with_nodes s.nodes (nodes_above (path q))) });
+            step = inl (ap Value (sym (value ∙ none-of (find listing_cmp (path q) es) e)), λ i. record { entries = with_entry s.entries (path q) v; nodes = cond (sym (has-is s.entries (path q) ∙ e) i) s.nodes (with_nodes s.nodes (nodes_above (path q))) });
             shows = record { of_entries = put_is; of_nodes = marked-is s.nodes (nodes_above (path q)) };
           }
           | Some cause ↦ record {

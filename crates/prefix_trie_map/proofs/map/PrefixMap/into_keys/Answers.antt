@@ -1,8 +1,13 @@
-use Rattle.prefix_trie_map.proofs.Runs.{parts_are, gives_in_order}
+use Rattle.prefix_trie_map.proofs.Runs.{parts_are, parts_count, gives_in_order}
 use Rattle.prefix_trie_map.proofs.map.PrefixMap.into_keys.Goals as goal
 
-pub returns-clause-items : goal.returns-clause-items
-returns-clause-items g c = parts_are (λ e. e.0) c.new.ensures _ _ c.into_iter.ensures.into_iter_gives.0
-
-pub returns-clause-runs : goal.returns-clause-runs
-returns-clause-runs g c = gives_in_order
+pub returns : goal.returns
+returns g c =
+    let given = c.into_iter.ensures.into_iter_gives in
+    record {
+      items = parts_are (λ e. e.0) c.new.ensures _ _ given.0;
+      counted = parts_count (λ e. e.0) _ c.new.ensures given.1;
+      fits = given.2;
+      runs = gives_in_order;
+      whole = given.4;
+    }

@@ -1,0 +1,14 @@
+use Rattle.prefix_trie_map.proofs.Prelude.{subst, RetainsInStorage, Contents, state, stored}
+use Rattle.prefix_trie_map.proofs.Asking.{IsMap-tidied}
+use Rattle.prefix_trie_map.proofs.map.PrefixMap.retain_by.Goals as goal
+
+pub retain-requires-clause-within : goal.retain-requires-clause-within
+retain-requires-clause-within g c = c.self.invariant.keys_within
+
+pub returns-clause-step : goal.returns-clause-step
+returns-clause-step g c =
+    subst (λ (m : Contents g.row.T.Denot). RetainsInStorage g.K.Keep.asks c.args.keep (stored m) (stored c.retain.new.self)) c.self.view_is
+    c.retain.ensures.step
+
+pub invariant_of-self : goal.invariant_of-self
+invariant_of-self g c = IsMap-tidied g.P.R.Key.bit_width (state c.retain.new.self) c.retain.ensures.fits (returns-clause-step g c).nodes
