@@ -1,5 +1,5 @@
 -- Many lookups in one call: what a group of them reads and finds, and one answer more.
-use Rattle.prefix_trie_map.proofs.Prelude.{◌≡◌, ℕ, ◌+◌, ◌-◌, ◌<◌, ◌≤◌, Bool, List, [], ◌∷◌, ◌++◌, Option, Bor, map, set, take, drop, length, get_or, sum_by, slice_range, sym, ap, ap₂, ◌∙◌, subst, arith, add-sub_of_le, length-drop, option_map, drop-take, get_or_append_left, get_or-drop, get_or-map, get_or-take, length-map, length-take-le, map-append, take_more, take_more_set, take-take, sum_by-take-drop, sum_by_push, Entries, longest_match, Nodes, visits, Node, Found, AreAnswers, asks, questions_of, AreAnswered, AreFound, ReadsMore, visits_of_all}
+use Rattle.prefix_trie_map.proofs.Prelude.{◌≡◌, ℕ, ◌+◌, ◌-◌, ◌<◌, ◌≤◌, Bool, List, [], ◌∷◌, ◌++◌, Option, None, Some, Bor, refl, map, set, take, drop, length, get_or, sum_by, slice_range, sym, ap, ap₂, ◌∙◌, subst, arith, add-sub_of_le, length-drop, option_map, drop-take, get_or_append_left, get_or-drop, get_or-map, get_or-take, length-map, length-take-le, map-append, take_more, take_more_set, take-take, sum_by-take-drop, sum_by_push, Entries, longest_match, Nodes, visits, Node, Found, AreAnswers, asks, questions_of, AreAnswered, AreFound, ReadsMore, visits_of_all}
 use Rattle.prefix_trie_map.proofs.Lookups.{Finds, by_bits}
 
 -- a group's reads
@@ -50,3 +50,8 @@ pub right_match : {T Y : Type 0} (entries : Entries T) (right : Option (List Boo
     → shown ≡ right (longest_match entries path)
 right_match entries right bits len path key found finds shown is =
     is ∙ ap right (by_bits bits len (longest_match entries (take len bits)) found finds) ∙ ap (λ s. right (longest_match entries s)) key
+
+-- the value of a match, with and without its key
+pub values_found : {X Y V : Type 0} (key : X → Y) (found : Option (X × Bor V)) → option_map (λ (e : Y × V). e.1) (option_map (λ (f : X × Bor V). (key f.0, f.1.now)) found) ≡ option_map (λ (f : X × Bor V). f.1.now) found
+values_found key None = refl
+values_found key (Some f) = refl

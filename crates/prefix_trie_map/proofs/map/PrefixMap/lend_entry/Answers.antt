@@ -1,5 +1,5 @@
 use borrow.Follows.Closed.{read_of}
-use Rattle.prefix_trie_map.proofs.Prelude.{rules, ◌≡◌, ◌+◌, take, ap, ◌∙◌, subst, arith, get, ghost_name_of, visits, visits-bound, with_value_at, with_stored_at}
+use Rattle.prefix_trie_map.proofs.Prelude.{◌≡◌, ◌+◌, take, ap, ◌∙◌, subst, arith, get, ghost_name_of, visits, visits-bound, with_value_at, with_stored_at}
 use Rattle.prefix_trie_map.proofs.Steps.{is_map}
 use Rattle.prefix_trie_map.proofs.Lending.{IsMap-with_stored_at, stored_lent}
 use Rattle.prefix_trie_map.proofs.map.PrefixMap.lend_entry.Goals as goal
@@ -18,7 +18,7 @@ returns g c =
     let name = ghost_name_of c.find_mut.result in
     let key : q ≡ path = c.parts-key.ensures.path in
     let same : m ≡ c.args.self.now = c.self.view_is in
-    let counted : c.find_mut.new.counter ≡ c.args.counter.now + visits c.args.self.now.nodes path = search rules in (
+    let counted = c.find_mut.ensures.visits ∙ ap (λ s. c.args.counter.now + visits m.nodes s) key ∙ ap (λ n. c.args.counter.now + visits n.nodes path) same in (
       subst (λ n. read_of name (with_stored_at m q) m ≡ read_of name (with_value_at n path) n) same
           (subst (λ s. read_of name (with_stored_at m q) m ≡ read_of name (with_value_at m s) m) key
           (stored_lent m q c.find_mut.result c.find_mut.ensures.value)),

@@ -1,5 +1,5 @@
 use borrow.Follows.Closed.{read_of}
-use Rattle.prefix_trie_map.proofs.Prelude.{rules, ◌≡◌, ◌+◌, ◌≤◌, List, Bool, Some, None, take, MatchOption, IfSome, refl, subst, arith, ghost_name_of, Entries, longest_match, visits, visits-bound, with_longest_at}
+use Rattle.prefix_trie_map.proofs.Prelude.{◌≡◌, ◌+◌, ◌≤◌, List, Bool, Some, None, take, MatchOption, IfSome, refl, ap, ◌∙◌, subst, arith, ghost_name_of, Entries, longest_match, visits, visits-bound, with_longest_at}
 use Rattle.prefix_trie_map.proofs.Steps.{is_map}
 use Rattle.prefix_trie_map.proofs.Lending.{IsMap-with_longest_at, match_parts}
 use Rattle.prefix_trie_map.proofs.map.PrefixMap.lend_longest.Goals as goal
@@ -22,7 +22,7 @@ returns g c =
     let Found : Entries g.row.T.Denot → List Bool → Type 0 = λ n s. MatchOption c.find_longest_mut.result
     (longest_match n s ≡ None) (λ value. longest_match n s ≡ Some (take handed s, value.now)) in
     let found = match_parts (handed ≤ c.parts-key.result.1) (longest_match m.entries q) (take handed q) c.find_longest_mut.result c.find_longest_mut.ensures.value in
-    let counted : c.find_longest_mut.new.counter ≡ c.args.counter.now + visits c.args.self.now.nodes path = search rules in (
+    let counted = c.find_longest_mut.ensures.visits ∙ ap (λ s. c.args.counter.now + visits m.nodes s) key ∙ ap (λ n. c.args.counter.now + visits n.nodes path) same in (
       subst (λ n. read_of name (with_longest_at m q) m ≡ read_of name (with_longest_at n path) n) same
           (subst (λ s. read_of name (with_longest_at m q) m ≡ read_of name (with_longest_at m s) m) key refl),
       record {

@@ -1,4 +1,4 @@
-use Rattle.prefix_trie_map.proofs.Prelude.{rules, sym, subst, no_entries, IsMap}
+use Rattle.prefix_trie_map.proofs.Prelude.{sym, subst, no_entries, IsMap}
 use Rattle.prefix_trie_map.proofs.Insertions.{IsMap-empty}
 use Rattle.prefix_trie_map.proofs.map.PrefixMap.with_slot_limit.Goals as goal
 
@@ -9,11 +9,7 @@ invariant_of-result g c =
     subst (λ m. IsMap width (record { entries = m; nodes = c.in_ok-new.field-0.nodes })) (sym made.entries)
     (subst (λ n. IsMap width (record { entries = no_entries {T = g.row.T.Denot}; nodes = n })) (sym made.nodes) (IsMap-empty width))
 
-pub returns-in_err-new-clause-range : goal.returns-in_err-new-clause-range
-returns-in_err-new-clause-range g c = search rules
-
-pub returns-clause-room : goal.returns-clause-room
-returns-clause-room g c = search rules
-
-pub returns-clause-none : goal.returns-clause-none
-returns-clause-none g c = search rules
+pub returns : goal.returns
+returns g c =
+    let made = c.in_ok-new.ensures in
+    record { entries = made.entries; nodes = made.nodes; room = made.room; layout = made.layout; range = tt; none = made.none }

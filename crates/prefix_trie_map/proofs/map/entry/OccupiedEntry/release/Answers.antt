@@ -1,0 +1,5 @@
+use Rattle.prefix_trie_map.proofs.Prelude.{refl}
+use Rattle.prefix_trie_map.proofs.map.entry.OccupiedEntry.release.Goals as goal
+
+pub returns : goal.returns
+returns g c = refl
