@@ -1,5 +1,5 @@
 -- The steps by paths that the calls of a map say are steps by prefixes.
-use Rattle.prefix_trie_map.proofs.Prelude.{ℕ, Bool, List, Option, Result, Ok, Err, inl, inr, ap, Refused, State, Reply, Step, Insert, Remove, RemoveKeepTree, RemoveChildren, Clear, Value, Done, Storage, StepInStorage, StepByPath, inserted}
+use Rattle.prefix_trie_map.proofs.Prelude.{◌≡◌, ℕ, Bool, List, Option, Result, Ok, Err, inl, inr, ap, subst, Refused, State, Reply, Step, Insert, Remove, RemoveKeepTree, RemoveChildren, Clear, Value, Done, Storage, StepInStorage, StepByPath, inserted}
 
 -- a reply that shows no key, as one that shows others
 abbrev carried : {P Q T : Type 0} → Reply P T → Reply Q T
@@ -25,6 +25,13 @@ module _ {P T : Type 0} (path : P → List Bool) (back : List Bool → P) (width
     index_range = λ e. h.index_range (ap carried e);
     storage = (h.storage.0, λ old new e. h.storage.1 old new (ap carried e), λ cause e. h.storage.2 cause (ap carried e));
   }
+
+  -- the same of another prefix with the path, once the answer is known
+  pub insert_step_as : (q p : P) (v : T) (r answer : Result (Option T) (Refused T)) → path p ≡ path q → r ≡ answer
+      → StepByPath width s (Insert (path p) v) (inserted r) t → StepInStorage path back width s (Insert q v) (inserted answer) t
+  insert_step_as q p v r answer same is step =
+      subst (λ x. StepInStorage path back width s (Insert q v) (inserted x) t) is
+      (insert_step q v r (subst (λ k. StepByPath width s (Insert k v) (inserted r) t) same step))
 
   pub remove_step : (q : P) (o : Option T) → StepByPath width s (Remove (path q)) (Value o) t → StepInStorage path back width s (Remove q) (Value o) t
   remove_step q o h = record { step = (ap carried h.step.0, h.step.1); room = h.room; index_range = λ e. h.index_range (ap carried e); storage = h.storage }
