@@ -1,5 +1,5 @@
 -- Many lookups in one call: what a group of them reads and finds, and one answer more.
-use Rattle.prefix_trie_map.proofs.Prelude.{◌≡◌, ℕ, ◌+◌, ◌-◌, ◌<◌, ◌≤◌, Bool, List, [], ◌∷◌, ◌++◌, Option, None, Some, Bor, refl, map, set, take, drop, length, get_or, sum_by, slice_range, sym, ap, ap₂, ◌∙◌, subst, arith, add-sub_of_le, length-drop, option_map, drop-take, get_or_append_left, get_or-drop, get_or-map, get_or-take, length-map, length-take-le, map-append, take_more, take_more_set, take-take, sum_by-take-drop, sum_by_push, Entries, longest_match, Nodes, visits, Node, Found, AreAnswers, asks, questions_of, AreAnswered, AreFound, ReadsMore, visits_of_all}
+use Rattle.prefix_trie_map.proofs.Prelude.{◌≡◌, ℕ, ◌+◌, ◌-◌, ◌<◌, ◌≤◌, Bool, List, [], ◌∷◌, ◌++◌, Option, None, Some, Bor, refl, map, set, take, drop, length, get_or, sum_by, slice_range, sym, ap, ap₂, ◌∙◌, subst, arith, add-sub_of_le, length-drop, option_map, drop-take, get_or_append_left, get_or-drop, get_or-map, get_or-take, length-map, length-take-le, map-append, take_more, take_more_set, take-take, sum_by-take-drop, sum_by_push, Entries, longest_match, Nodes, visits, Node, Found, AreAnswers, asks, questions_of, AreAnswered, AreFound, ReadsMore, visits_of_all, take_all}
 use Rattle.prefix_trie_map.proofs.Lookups.{Finds, by_bits}
 
 -- a group's reads
@@ -55,3 +55,13 @@ right_match entries right bits len path key found finds shown is =
 pub values_found : {X Y V : Type 0} (key : X → Y) (found : Option (X × Bor V)) → option_map (λ (e : Y × V). e.1) (option_map (λ (f : X × Bor V). (key f.0, f.1.now)) found) ≡ option_map (λ (f : X × Bor V). f.1.now) found
 values_found key None = refl
 values_found key (Some f) = refl
+
+-- the answers to all
+pub answered_all : {P X Y : Type 0} (shows : X → Y) (answer : P → Y) (prefixes : List P) (out : List X) (n : ℕ) → AreAnswered shows answer prefixes out n → length prefixes ≤ n → length out ≤ n
+    → map shows out ≡ map answer prefixes
+answered_all shows answer prefixes out n so_far all room = sym (ap (map shows) (take_all n out room)) ∙ so_far ∙ ap (map answer) (take_all n prefixes all)
+
+-- the reads of all
+pub read_all : {P : Type 0} (path : P → List Bool) (nodes : Nodes) (prefixes : List P) (n start now : ℕ) → now ≡ start + visits_of_all path nodes (take n prefixes) → length prefixes ≤ n
+    → now ≡ start + visits_of_all path nodes prefixes
+read_all path nodes prefixes n start now read all = read ∙ ap (λ ps. start + visits_of_all path nodes ps) (take_all n prefixes all)

@@ -1,5 +1,7 @@
 -- Items that are inserted in turn.
-use Rattle.prefix_trie_map.proofs.Prelude.{◌≡◌, ℕ, ◌+◌, ◌≤◌, Bool, List, [], ◌∷◌, ◌++◌, length, refl, sym, ap, ◌∙◌, inl, inr, arith, length-append, Entries, no_entries, put_all, with_entry, IsTidy, needed, root_alone, with_needed, MayPassLimit, Insert, Reply, StepByPath, needed_insert, tidy-no_entries, slot_laws, Contents, Puts, ManyMayPassLimit, stored, IsWhole}
+use Rattle.prefix_trie_bits.specs.Model.Insertion.{LacksWithinLimit}
+use Rattle.prefix_trie_bits.specs.Model.Room.{Room}
+use Rattle.prefix_trie_map.proofs.Prelude.{◌≡◌, ℕ, ◌+◌, ◌-◌, ◌*◌, ◌^◌, ◌<◌, ◌≤◌, Bool, List, [], ◌∷◌, ◌++◌, length, refl, sym, ap, ◌∙◌, inl, inr, arith, subst, length-append, Refusal, Memory, Entries, no_entries, put_all, with_entry, IsTidy, needed, root_alone, with_needed, MayPassLimit, Insert, Reply, StepByPath, needed_insert, tidy-no_entries, slot_laws, Contents, Puts, ManyMayPassLimit, stored, IsWhole}
 
 one_more : {X : Type 0} (xs : List X) (x : X) → length (xs ++ x ∷ []) ≡ length xs + 1
 one_more xs x = length-append xs (x ∷ [])
@@ -24,6 +26,14 @@ module _ {P T : Type 0} (path : P → List Bool) where
         cell_slots = slots.cell_slots;
       }
 
+  -- one that was refused for want of memory
+  pub refused_one : {width : ℕ} (before after : Contents T) (prefix : P) (value : T) (cause : Refusal) → (after.entries ≡ before.entries) × (after.nodes ≡ before.nodes)
+      → StepByPath width (stored before) (Insert (path prefix) value) (Reply.Refused cause) (stored after)
+      → cause ≡ Memory → LacksWithinLimit after.entries after.nodes after.room after.layout (path prefix)
+  refused_one before after prefix value cause same step memory =
+      subst (λ m. LacksWithinLimit m after.nodes after.room after.layout (path prefix)) (sym same.0)
+      (subst (λ n. LacksWithinLimit before.entries n after.room after.layout (path prefix)) (sym same.1) ((step.storage.2 cause refl).memory memory))
+
   -- one more
   pub puts_more : (first then last : Contents T) (xs : List (P × T)) (x : P × T) → Puts path first xs then → Puts path then (x ∷ []) last → Puts path first (xs ++ x ∷ []) last
   puts_more first then last xs x before one = record {
@@ -42,3 +52,8 @@ module _ {P T : Type 0} (path : P → List Bool) where
   -- from a new map on
   pub tidy_of : (fresh last : Contents T) (xs : List (P × T)) → fresh.entries ≡ no_entries → fresh.nodes ≡ root_alone → Puts path fresh xs last → IsTidy last.entries last.nodes
   tidy_of fresh last xs entries nodes puts = puts.tidy (nodes ∙ tidy-no_entries T ∙ ap needed (sym entries))
+
+-- as many as pass the limit of a new map
+pub many_pass : (room : Room) (count : ℕ) → room ≡ record { limit = 2 ^ 32 - 1; node_slots = 1; cell_slots = 0 } → ManyMayPassLimit room count → 2 ^ 32 - 1 < 1 + 56 * count
+many_pass room count new (inl k) = omega (arith, ap (λ (r : Room). r.limit) new, ap (λ (r : Room). r.node_slots) new, k)
+many_pass room count new (inr k) = omega (arith, ap (λ (r : Room). r.limit) new, ap (λ (r : Room). r.cell_slots) new, k)

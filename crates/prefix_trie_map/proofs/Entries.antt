@@ -35,6 +35,16 @@ module _ {P T A R : Type 0} {p : prefix.Ghosts P R} {shows : debug.Ghosts P} {k 
         (subst (λ y. new.nodes ≡ with_needed e.map.now.nodes (p.path y)) is nodes)
         (subst (λ y. StepByPath k.bit_width (stored e.map.now) (Insert (p.path y) v) (Value None) (stored new)) is step))
 
+    -- the same with the value that it was placed with
+    pub Fills-handed : (key : P) (v : T) → key ≡ e.key → new.entries ≡ with_entry e.map.now.entries (p.path key) v → new.nodes ≡ with_needed e.map.now.nodes (p.path key)
+        → StepByPath k.bit_width (stored e.map.now) (Insert (p.path key) v) (Value None) (stored new) → Fills (Vacant e) new v
+    Fills-handed key v is entries nodes step = record {
+      entries = subst (λ y. new.entries ≡ with_entry e.map.now.entries (p.path y) v) is entries;
+      nodes = subst (λ y. new.nodes ≡ with_needed e.map.now.nodes (p.path y)) is nodes;
+      step = subst (λ x. StepByPath k.bit_width (stored e.map.now) (Insert (p.path e.key) v) (Value x) (stored new)) (sym (is_none-None (get e.map.now.entries (p.path e.key)) e.absent))
+          (subst (λ y. StepByPath k.bit_width (stored e.map.now) (Insert (p.path y) v) (Value None) (stored new)) is step);
+    }
+
     -- and where it was refused
     pub Refuses-handed : (key : P) (cause : Refusal) → key ≡ e.key → new.entries ≡ e.map.now.entries → new.nodes ≡ e.map.now.nodes
         → ((v : T) → StepByPath k.bit_width (stored e.map.now) (Insert (p.path key) v) (Refused cause) (stored new))

@@ -11,3 +11,7 @@ pub refused_for_memory : {X : Type 0} (answer : Result X Refusal) (limit : ℕ) 
     IfErr answer (λ cause. cause ≡ Memory)
 refused_for_memory (Ok x) limit h = tt
 refused_for_memory (Err cause) limit h = only_memory cause limit h.0
+
+-- memory is not an index out of range
+pub memory_alone : (cause : Refusal) → cause ≡ Memory → cause ≡ IndexRange → ⊥
+memory_alone cause is range = cc

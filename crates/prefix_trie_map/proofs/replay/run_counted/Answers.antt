@@ -1,13 +1,20 @@
-use Rattle.prefix_trie_map.proofs.Prelude.{rules, List, [], subst, arith, take_all, path_within, step_pushed, run_counted, StepsSoFar, all_fit_more, stored, call_of, reply_of, calls_of, replies_of}
+use Rattle.prefix_trie_map.proofs.Prelude.{List, [], refl, sym, ap, subst, err_from_is_err_and, arith, take_all, path_within, step_pushed, run_counted, StepsSoFar, all_fit_more, stored, call_of, reply_of, calls_of, replies_of}
+use Rattle.prefix_trie_map.specs.Replay.{IsFittingCall}
 use Rattle.prefix_trie_map.specs.declared.replay.Call.{Call}
 use Rattle.prefix_trie_map.proofs.replay.run_counted.Goals as goal
 
 pub loop-call-init : goal.loop-call-init
 loop-call-init g c = record {
-  each = search rules;
-  room = search rules;
-  run = ([], search rules, search rules, search rules);
+  each = c.in_ok-replies.ensures.len;
+  room = c.in_ok-replies.ensures.capacity;
+  run = ([], sym (ap (replies_of g.P.R.Key.bits) c.in_ok-replies.ensures.items), sym c.new-reads.ensures, (refl, refl));
 }
+
+pub answer-reply-requires : goal.answer-reply-requires
+answer-reply-requires g c = subst (IsFittingCall g.P.Prefix.IsFitting) (sym c.call-item.is) (c.requires c.loop-call.call-index c.call-item.result c.loop-call-test.true)
+
+pub push_reserved-requires : goal.push_reserved-requires
+push_reserved-requires g c = omega (arith, c.loop-call.invariant.each, c.loop-call.invariant.room, c.loop-call-test.true)
 
 pub loop-call-preserved : goal.loop-call-preserved
 loop-call-preserved g c =
@@ -28,7 +35,10 @@ returns-clause-counted g c = λ tidy is_tidy.
     (take_all c.loop-call.call-index c.args.calls.now (omega (arith, c.loop-call-test.false))) c.loop-call.invariant.run)
 
 pub returns-in_err-clone-clause-none_carried_out : goal.returns-in_err-clone-clause-none_carried_out
-returns-in_err-clone-clause-none_carried_out g c = search rules
+returns-in_err-clone-clause-none_carried_out g c = let p = err_from_is_err_and c.from_residual.result c.from_residual.ensures.1 in rw p.1 refl
 
 pub returns-in_err-replies-clause-none_carried_out : goal.returns-in_err-replies-clause-none_carried_out
-returns-in_err-replies-clause-none_carried_out g c = search rules
+returns-in_err-replies-clause-none_carried_out g c = let p = err_from_is_err_and c.from_residual-in_err-replies.result c.from_residual-in_err-replies.ensures.1 in rw p.1 refl
+
+pub returns-clause-one_each : goal.returns-clause-one_each
+returns-clause-one_each g c = omega (arith, c.loop-call.invariant.each, c.loop-call-test.false, c.loop-call.auto.call-index-end)

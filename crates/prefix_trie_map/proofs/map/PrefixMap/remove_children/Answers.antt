@@ -1,6 +1,12 @@
-use Rattle.prefix_trie_map.proofs.Prelude.{err_from_is_err_and, HandsOutInStorage, handing_laws, state, stored}
+use Rattle.prefix_trie_map.proofs.Prelude.{sym, subst, err_from_is_err_and, IsMap, State, Storage, HandsOutInStorage, handing_laws, state, stored}
 use Rattle.prefix_trie_map.proofs.Steps.{by_key}
 use Rattle.prefix_trie_map.proofs.map.PrefixMap.remove_children.Goals as goal
+
+pub parts-key-requires : goal.parts-key-requires
+parts-key-requires g c = c.requires
+
+pub remove_children-requires : goal.remove_children-requires
+remove_children-requires g c = record { key = c.parts-key.ensures.key; long = c.parts-key.ensures.within; within = c.self.invariant.keys_within; nodes = c.self.invariant.are_nodes }
 
 pub invariant_of-result : goal.invariant_of-result
 invariant_of-result g c =
@@ -32,3 +38,10 @@ returns-clause-nodes g c = (returns-clause-step g c).hands_out.left_nodes
 pub returns-in_err-table-clause-only_memory : goal.returns-in_err-table-clause-only_memory
 returns-in_err-table-clause-only_memory g c =
     let p = err_from_is_err_and c.from_residual.result c.from_residual.ensures.1 in rw (p.1, p.2) c.in_err-table.ensures.memory
+
+pub returns-in_err-table-clause-unchanged : goal.returns-in_err-table-clause-unchanged
+returns-in_err-table-clause-unchanged g c =
+    let p = err_from_is_err_and c.from_residual.result c.from_residual.ensures.1 in rw (p.1, ← c.self.view_is) c.in_err-table.ensures.kept
+
+pub invariant_of-self : goal.invariant_of-self
+invariant_of-self g c = subst (λ (s : State g.row.T.Denot × Storage). IsMap g.P.R.Key.bit_width s.0) (sym c.in_err-table.ensures.kept) c.self.invariant

@@ -1,5 +1,6 @@
-use Rattle.prefix_trie_map.proofs.Prelude.{◌<◌, length, arith, right_for}
-use Rattle.prefix_trie_map.proofs.Bulk.{answered_more, reads_one, right_match}
+use Rattle.prefix_trie_map.proofs.Prelude.{◌<◌, length, refl, sym, subst, arith, right_for}
+use Rattle.prefix_trie_map.proofs.Bulk.{answered_all, answered_more, read_all, reads_one, right_match}
+use Rattle.prefix_trie_map.proofs.Lookups.{match_within}
 use Rattle.prefix_trie_map.proofs.map.bulk.answer_singly.Goals as goal
 
 pub loop-i-preserved : goal.loop-i-preserved
@@ -15,4 +16,35 @@ loop-i-preserved g c =
           (right_match entries g.X.Answer.right (g.P.R.Key.bits c.parts-key.result.0) c.parts-key.result.1 (g.P.Prefix.path p) c.parts-key.ensures.path
           c.find_longest.result c.find_longest.ensures.value _ c.of_match.ensures);
       read = reads_one g.P.Prefix.path c.args.table.now.nodes ps i inside p c.index-prefixes-i.is _ c.parts-key.ensures.path c.args.visits.now c.loop-i.visits _ c.loop-i.invariant.read c.find_longest.ensures.visits;
+    }
+
+pub loop-i-init : goal.loop-i-init
+loop-i-init g c = record { answered = refl; read = omega arith }
+
+pub bounds-prefixes-i : goal.bounds-prefixes-i
+bounds-prefixes-i g c = c.loop-i-test.true
+
+pub bounds-out-i : goal.bounds-out-i
+bounds-out-i g c = omega (arith, c.loop-i-test.true, c.requires.same_length, c.loop-i.auto.out)
+
+pub parts-key-requires : goal.parts-key-requires
+parts-key-requires g c = subst g.P.Prefix.IsFitting (sym c.index-prefixes-i.is) (c.requires.fit c.loop-i.i c.index-prefixes-i.result c.loop-i-test.true)
+
+pub find_longest-requires : goal.find_longest-requires
+find_longest-requires g c = record { key = c.parts-key.ensures.key; within = c.parts-key.ensures.within }
+
+pub of_match-requires : goal.of_match-requires
+of_match-requires g c = λ k.
+    let asked = c.parts-key.ensures in
+    ((refl, tt), (asked.key, match_within g.P.R.Key.bit_width (g.P.R.Key.bits c.parts-key.result.0) c.parts-key.result.1 _ c.find_longest.result c.find_longest.ensures.value asked.within))
+
+pub returns : goal.returns
+returns g c =
+    let out = c.loop-i.out in
+    let ps = c.args.prefixes.now in
+    let all = c.loop-i-test.false in
+    record {
+      answers = answered_all g.X.Answer.shows (right_for g.X.Answer.right g.P.Prefix.path c.args.table.now.entries) ps out c.loop-i.i c.loop-i.invariant.answered all
+          (omega (arith, all, c.requires.same_length, c.loop-i.auto.out));
+      visits = read_all g.P.Prefix.path c.args.table.now.nodes ps c.loop-i.i c.args.visits.now c.loop-i.visits c.loop-i.invariant.read all;
     }

@@ -1,7 +1,23 @@
-use Rattle.prefix_trie_map.proofs.Prelude.{refl, sym, ap, ◌∙◌, get, seat_of}
-use Rattle.prefix_trie_map.proofs.Entries.{Fills-lent}
+use Rattle.prefix_trie_map.proofs.Prelude.{refl, sym, ap, ◌∙◌, subst, false≢true, err_from_is_err_and, get, contains_key, IsWayEnd, seat_of}
+use Rattle.prefix_trie_map.proofs.Entries.{Fills-lent, Refuses-handed}
 use Rattle.prefix_trie_map.proofs.Placing.{entry_only}
 use Rattle.prefix_trie_map.proofs.map.entry.VacantEntry.insert.Goals as goal
+
+pub place-requires : goal.place-requires
+place-requires g c =
+    let is = c.prefix.ensures.value in
+    let e = c.args.self in
+    record {
+      fits = c.prefix.ensures.fits;
+      absent = ap (λ k. contains_key e.map.now.entries (g.P.Prefix.path k)) is ∙ e.absent;
+      end = subst (λ k. IsWayEnd e.map.now.build (g.P.Prefix.path k) e.end) (sym is) e.ends;
+    }
+
+pub lend_at-requires-clause-key : goal.lend_at-requires-clause-key
+lend_at-requires-clause-key g c = c.parts-number.ensures.key
+
+pub lend_at-requires-clause-within : goal.lend_at-requires-clause-within
+lend_at-requires-clause-within g c = c.parts-number.ensures.within
 
 pub lend_at-requires-clause-seat : goal.lend_at-requires-clause-seat
 lend_at-requires-clause-seat g c = ap (seat_of c.place.new.self.build) (c.parts-number.ensures.path ∙ sym (ap g.P.Prefix.path c.prefix.ensures.value)) ∙ c.in_ok-seat.ensures.seat
@@ -14,4 +30,13 @@ returns g c =
     let found = ap (get c.place.new.self.entries) (ap g.P.Prefix.path is ∙ sym at) ∙ c.lend_at.ensures.value in (
       (refl, (λ w _. Fills-lent c.args.self c.place.new.self c.prefix.result.now _ c.args.value w is at placed.entries placed.nodes placed.step), tt),
       record { writes_back = tt; value = entry_only _ _ _ _ _ placed.entries found; returned = tt },
+    )
+
+pub returns-in_err-seat : goal.returns-in_err-seat
+returns-in_err-seat g c =
+    let p = err_from_is_err_and c.from_residual.result c.from_residual.ensures.1 in
+    let e = c.in_err-seat.ensures in
+    rw (p.1, p.2) (
+      (refl, (λ w r. absurd (false≢true r)), Refuses-handed c.args.self c.place.new.self c.prefix.result.now _ c.prefix.ensures.value e.unchanged.1 e.unchanged.2 e.refuses),
+      record { writes_back = tt; value = tt; returned = e.unchanged.0 },
     )
