@@ -16,15 +16,15 @@ was_there (Some u) true h = absurd (true≢false h)
 
 pub returns-clause-is_new : goal.returns-clause-is_new
 returns-clause-is_new g c = elim c.match-insert.branch [
-    in-Ok w ↦ rw (w.result-is, ← c.self.view_is) (other_way _ _ w.is_none.ensures ∙ ap (λ before. not (is_some before)) w.in-Ok.ensures.before)
+  | in-Ok w ↦ rw (w.result-is, ← c.self.view_is) (other_way _ _ w.is_none.ensures ∙ ap (λ before. not (is_some before)) w.in-Ok.ensures.before)
   | in-Err w ↦ rw w.result-is tt
 ]
 
 pub returns-clause-step : goal.returns-clause-step
 returns-clause-step g c = elim c.match-insert.branch [
-    in-Ok w ↦ rw (w.result-is, ← c.self.view_is) (
+  | in-Ok w ↦ rw (w.result-is, ← c.self.view_is) (
       subst (λ r. StepByPath g.P.R.Key.bit_width (stored c.self.inside.map) (Insert (g.P.Prefix.path c.args.prefix) tt) r (stored c.insert.new.self)) (was_there w.in-Ok.before w.is_none.result w.is_none.ensures)
       w.in-Ok.ensures.step
-    )
+      )
   | in-Err w ↦ rw (w.result-is, ← c.self.view_is) w.in-Err.ensures.step
 ]
