@@ -8,6 +8,7 @@ pub mod Soundness
 pub mod Moving
 pub mod Tiers
 pub mod Turnovers
+pub mod Told
 pub mod Laying
 pub mod Losing
 pub mod Preparing

@@ -6,7 +6,7 @@ use Rattle.prefix_trie_table.proofs.Insertion.Adding.{at_is, has_list}
 use Rattle.prefix_trie_table.proofs.Removal.Items.{Lost, lost_one, children_dropped}
 use Rattle.prefix_trie_table.proofs.Removal.GivingBack.{gives_written, grows_written}
 use Rattle.prefix_trie_table.proofs.Removal.Lessening.{node_rooms}
-use Rattle.prefix_trie_table.proofs.Blocks.BySize.{node_sized}
+use Rattle.prefix_trie_table.proofs.Blocks.BySize.{node_sized, tiers_long}
 use Rattle.prefix_trie_table.proofs.table.removal.drop_child.Given as given
 use Rattle.prefix_trie_table.proofs.table.removal.drop_child.Goals as goal
 
@@ -37,6 +37,18 @@ pub without_bit-requires-clause-set : goal.without_bit-requires-clause-set
 without_bit-requires-clause-set g c =
     sym (has_bit-is c.visit-node.result.child_bitmap c.args.child c.requires.child)
     ∙ ap (λ (n : Node). has_bit n.child_bitmap c.args.child) c.visit-node.ensures.node ∙ c.requires.there
+
+pub without_bit-requires-clause-bit : goal.without_bit-requires-clause-bit
+without_bit-requires-clause-bit g c = c.requires.child
+
+pub rank-requires : goal.rank-requires
+rank-requires g c = c.requires.child
+
+pub put-requires : goal.put-requires
+put-requires g c = omega (arith, (at_is c.args.nodes.now (c.args.at.start + c.args.at.place) c.requires.stands).1, c.remove_at-rest.ensures.loses.turnover.keeps.longer)
+
+pub overflow_cast-left : goal.overflow_cast-left
+overflow_cast-left g c = omega (arith, c.remove_at-rest.ensures.tier, tiers_long c.args.nodes.now.tiers node_sizes c.requires.stands.0.hold.sizes_are)
 
 -- what the list of children is like without the child
 lost : (g : given.Over) (c : goal.After-put g) → Lost blank_node node_sizes c.args.nodes.now c.remove_at-rest.new.self c.visit-node.result.child_tier

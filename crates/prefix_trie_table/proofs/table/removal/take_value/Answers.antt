@@ -1,4 +1,5 @@
-use Rattle.prefix_trie_table.proofs.Prelude.{◌≡◌, ◌<◌, ◌+◌, Some, None, get_or, map, sym, ap, ◌∙◌, refl, arith, rank, bits, node_sizes, cell_sizes}
+use Rattle.prefix_trie_table.proofs.Prelude.{◌≡◌, ◌<◌, ◌+◌, Some, None, get_or, map, sym, ap, ◌∙◌, subst, refl, arith, length-set, rank, bits, node_sizes, cell_sizes}
+use Rattle.prefix_trie_table.specs.Removals.{SameBlocks}
 use Rattle.prefix_trie_table.proofs.Strings.Bare.{one_fewer}
 use Rattle.prefix_trie_table.proofs.Strings.Bits.{has_bit-is, rank-ones}
 use Rattle.prefix_trie_table.proofs.Strings.BitLists.{rank-below, rank-all, map_get}
@@ -8,7 +9,7 @@ use Rattle.prefix_trie_table.proofs.Tree.Values.{values_first}
 use Rattle.prefix_trie_table.proofs.Removal.Items.{Lost, lost_one, values_taken}
 use Rattle.prefix_trie_table.proofs.Removal.Settling.{value_settles}
 use Rattle.prefix_trie_table.proofs.Removal.Lessening.{cell_rooms}
-use Rattle.prefix_trie_table.proofs.Blocks.BySize.{cell_sized}
+use Rattle.prefix_trie_table.proofs.Blocks.BySize.{cell_sized, tiers_long}
 use Rattle.prefix_trie_table.proofs.table.removal.take_value.Given as given
 use Rattle.prefix_trie_table.proofs.table.removal.take_value.Goals as goal
 
@@ -34,6 +35,19 @@ remove_at-value-requires-clause-place g c =
 pub without_bit-requires-clause-set : goal.without_bit-requires-clause-set
 without_bit-requires-clause-set g c = sym (has_bit-is c.args.node.value_bitmap c.args.bit (omega (arith, c.requires.bit))) ∙ c.requires.there
 
+pub without_bit-requires-clause-bit : goal.without_bit-requires-clause-bit
+without_bit-requires-clause-bit g c = omega (arith, c.requires.bit)
+
+pub rank-requires : goal.rank-requires
+rank-requires g c = omega (arith, c.requires.bit)
+
+pub put-requires : goal.put-requires
+put-requires g c =
+    (at_is c.args.nodes.now (c.args.at.start + c.args.at.place) (at_values c.args.nodes.now c.args.cells.now (c.args.at.start + c.args.at.place) c.requires.stands)).1
+
+pub overflow_cast-left : goal.overflow_cast-left
+overflow_cast-left g c = omega (arith, c.remove_at-value.ensures.tier, tiers_long c.args.cells.now.tiers cell_sizes c.requires.stands.0.holds.cells.sizes_are)
+
 -- what the list of values is like without the value
 lost : (g : given.Over) (c : goal.After-put g) → Lost None cell_sizes c.args.cells.now c.remove_at-value.new.self c.args.node.value_tier
     c.args.node.value_block (rank c.args.node.value_bitmap 32) (rank c.args.node.value_bitmap c.args.bit)
@@ -48,6 +62,11 @@ lost g c =
     c.remove_at-value.result.1 31 c.requires.stands.0.holds.cells.sizes_are refl cell_rooms list
     (let h = rank-below c.args.node.value_bitmap c.args.bit bit c.requires.there in omega (arith, h, same)) left.tier left.loses left.sound _ _ same
     (c.rank.ensures ∙ sym (rank-ones c.args.node.value_bitmap c.args.bit (omega (arith, bit))))
+
+pub returns-clause-node_blocks : goal.returns-clause-node_blocks
+returns-clause-node_blocks g c =
+    subst (λ w. SameBlocks c.args.nodes.now w) (sym c.put.ensures.slots)
+    (record { room = (length-set c.args.nodes.now.slots _ _, refl, refl); tiers = refl })
 
 pub returns-clause-cell_room : goal.returns-clause-cell_room
 returns-clause-cell_room g c = (lost g c).grows

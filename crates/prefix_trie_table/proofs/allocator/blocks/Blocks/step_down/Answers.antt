@@ -1,7 +1,8 @@
-use Rattle.prefix_trie_table.proofs.Prelude.{ℕ, ◌+◌, ◌-◌, ◌<◌, ◌≤◌, ◌∷◌, [], None, Some, refl, ◌∙◌, subst, arith, rules, Sound, Turnover, tier_at, tier_sizes, size_in, free_in, many_of, none_of, block}
-use Rattle.prefix_trie_table.proofs.Blocks.BySize.{size_at, many-none}
+use Rattle.prefix_trie_table.proofs.Prelude.{ℕ, ◌+◌, ◌-◌, ◌<◌, ◌≤◌, ◌∷◌, [], None, Some, refl, sym, ap, ◌∙◌, subst, arith, Sound, Turnover, tier_at, tier_sizes, size_in, free_in, many_of, none_of, block}
+use Rattle.prefix_trie_table.proofs.Blocks.BySize.{size_at, tiers_long, many_here, many-none}
 use Rattle.prefix_trie_table.proofs.Blocks.Soundness.{Sound-exchanged, has_place}
 use Rattle.prefix_trie_table.proofs.Blocks.Moving.{runs_within, moved_turned}
+use Rattle.prefix_trie_table.proofs.Blocks.Told.{told_ok, told_err}
 use Rattle.prefix_trie_table.proofs.Blocks.Turnovers.{size_kept, Turnover-as, Turnover-then, Turnover-moved}
 use Rattle.prefix_trie_table.proofs.allocator.blocks.Blocks.step_down.Given as given
 use Rattle.prefix_trie_table.proofs.allocator.blocks.Blocks.step_down.Goals as goal
@@ -12,14 +13,35 @@ pub returns-then-is_err-clause-kept : goal.returns-then-is_err-clause-kept
 returns-then-is_err-clause-kept g c =
     let v = c.args.self.now in
     let size : ℕ = size_in (tier_sizes c.args.self.now.tiers) c.args.to in
-    let some : (m : ℕ) × (free_in v.tiers size + m < 1) × Turnover v c.obtain.new.self (many_of size m) None None = search rules in
+    let some : (m : ℕ) × (free_in v.tiers size + m < 1) × Turnover v c.obtain.new.self (many_of size m) None None = told_err c.obtain.result c.if-is_err.ensures.value c.obtain.ensures.err in
     Turnover-as v c.obtain.new.self _ none_of None None (λ n. many-none size some.0 n (let h = some.1 in omega (arith, h))) some.2
+
+pub returns-then-is_err-clause-taken : goal.returns-then-is_err-clause-taken
+returns-then-is_err-clause-taken g c = λ free.
+    let v = c.args.self.now in
+    let size : ℕ = size_in (tier_sizes c.args.self.now.tiers) c.args.to in
+    let some : (m : ℕ) × (free_in v.tiers size + m < 1) × Turnover v c.obtain.new.self (many_of size m) None None = told_err c.obtain.result c.if-is_err.ensures.value c.obtain.ensures.err in
+    absurd (omega (arith, free, some.1))
 
 pub returns-then-is_err-clause-sound : goal.returns-then-is_err-clause-sound
 returns-then-is_err-clause-sound g c = λ n xs live sound count.
     c.obtain.ensures.sound (block c.args.k c.args.start n xs ∷ live) sound
 
 -- ---- moved
+
+pub obtain-requires : goal.obtain-requires
+obtain-requires g c = c.requires.within
+
+pub take-new-requires : goal.take-new-requires
+take-new-requires g c =
+    let v = c.args.self.now in
+    let w = c.obtain.new.self in
+    let size : ℕ = size_in (tier_sizes c.args.self.now.tiers) c.args.to in
+    let made : Turnover v w (many_of size (1 - free_in v.tiers size)) None None = told_ok c.obtain.result c.if-is_err.ensures.value c.obtain.ensures.made in
+    record {
+      within = omega (arith, tiers_long w.tiers (tier_sizes v.tiers) made.keeps.sizes, tiers_long v.tiers (tier_sizes v.tiers) refl, c.requires.within);
+      ready = subst (λ n. 0 < free_in w.tiers n) (sym (ap (λ ns. size_in ns c.args.to) made.keeps.sizes)) (omega (arith, made.free_is size, many_here size (1 - free_in v.tiers size)));
+    }
 
 pub move_items-requires : goal.move_items-requires
 move_items-requires g c =
@@ -29,7 +51,7 @@ move_items-requires g c =
     let a = block c.args.k c.args.start u.size u.items in
     let b = block c.args.to c.take-new.result (tier_at c.obtain.new.self.tiers c.args.to).size [] in
     let size : ℕ = size_in (tier_sizes c.args.self.now.tiers) c.args.to in
-    let made : Turnover v w (many_of size (1 - free_in v.tiers size)) None None = search rules in
+    let made : Turnover v w (many_of size (1 - free_in v.tiers size)) None None = told_ok c.obtain.result c.if-is_err.ensures.value c.obtain.ensures.made in
     let room : c.args.count ≤ (tier_at c.obtain.new.self.tiers c.args.to).size = omega (arith, c.requires.holds, size_kept v w c.args.to made.keeps.sizes, size_at v.tiers c.args.to) in
     let within = runs_within g.S.Slot.vacant a b u.live _ c.args.count (c.take-new.ensures.sound (a ∷ u.live) (c.obtain.ensures.sound (a ∷ u.live) u.sound)) u.is_count room in
     record { from_within = within.0; to_within = within.1 }
@@ -42,7 +64,7 @@ give_back-requires g c =
     let a = block c.args.k c.args.start u.size u.items in
     let b = block c.args.to c.take-new.result (tier_at c.obtain.new.self.tiers c.args.to).size [] in
     let size : ℕ = size_in (tier_sizes c.args.self.now.tiers) c.args.to in
-    let made : Turnover v w (many_of size (1 - free_in v.tiers size)) None None = search rules in
+    let made : Turnover v w (many_of size (1 - free_in v.tiers size)) None None = told_ok c.obtain.result c.if-is_err.ensures.value c.obtain.ensures.made in
     let room : c.args.count ≤ (tier_at c.obtain.new.self.tiers c.args.to).size = omega (arith, c.requires.holds, size_kept v w c.args.to made.keeps.sizes, size_at v.tiers c.args.to) in
     let s = Sound-exchanged g.S.Slot.vacant b a u.live _ (c.take-new.ensures.sound (a ∷ u.live) (c.obtain.ensures.sound (a ∷ u.live) u.sound)) in
     let place = has_place g.S.Slot.vacant _ _ _ (c.move_items.ensures.sound a b u.live s refl refl u.is_count refl room) in
@@ -51,7 +73,7 @@ give_back-requires g c =
 -- the block was obtained, and has room
 obtained : (g : given.Over) (c : goal.After-give_back g) → Turnover c.args.self.now c.obtain.new.self (many_of (size_in (tier_sizes c.args.self.now.tiers) c.args.to)
     (1 - free_in c.args.self.now.tiers (size_in (tier_sizes c.args.self.now.tiers) c.args.to))) None None
-obtained g c = search rules
+obtained g c = told_ok c.obtain.result c.if-is_err.ensures.value c.obtain.ensures.made
 
 room : (g : given.Over) (c : goal.After-give_back g) → c.args.count ≤ (tier_at c.obtain.new.self.tiers c.args.to).size
 room g c = omega (arith, c.requires.holds, size_kept c.args.self.now c.obtain.new.self c.args.to (obtained g c).keeps.sizes, size_at c.args.self.now.tiers c.args.to)
