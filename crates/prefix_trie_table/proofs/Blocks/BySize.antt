@@ -64,8 +64,7 @@ module _ (f : Tier → ℕ) where
     | inl e ↦
         let was : number ts t.size ≡ f (tier_at ts k) = ap (number ts) same ∙ number_here 0 ts k up inside in
         let at = get_or-set_same ts k t (record { size = 0; made = 0; starts = [] }) inside in
-        let now : number (set ts k t) t.size ≡ f t =
-        ap (number (set ts k t)) (ap (λ (u : Tier). u.size) (sym at)) ∙ number_here 0 (set ts k t) k (ap (goes_up 0) (sizes_set ts k t same) ∙ up)
+        let now : number (set ts k t) t.size ≡ f t = ap (number (set ts k t)) (ap (λ (u : Tier). u.size) (sym at)) ∙ number_here 0 (set ts k t) k (ap (goes_up 0) (sizes_set ts k t same) ∙ up)
         (let l = length-set ts k t in omega (arith, l, inside)) ∙ ap f at in
         subst (λ s. P s (number ts s) (number (set ts k t) s)) e (subst (λ n. P t.size (number ts t.size) n) (sym now) (subst (λ n. P t.size n (f t)) (sym was) here))
     | inr ne ↦ subst (P size (number ts size)) (sym (number_other ts k t size same ne)) (other size (number ts size) ne)

@@ -79,11 +79,9 @@ module _ {T : Type 0} (v : Store (Option T)) (ys : List (Option T)) (long : leng
       let m : ℕ = b.size - length b.items in
       let n = length-append b.items (replicate m None) in
       let fits : c + m ≡ b.size = (let l = length-run v.slots b.start b.size inside.before in let same = ap (λ zs. length zs) h in let none : Option T = None in omega (arith, length-replicate m none)) in
-      let rest : run v.slots (b.start + c) m ≡ replicate m None =
-      ap (take m) (sym (drop-drop c b.start v.slots)) ∙ sym (drop-take c m (drop b.start v.slots)) ∙ ap (λ k. drop c (run v.slots b.start k)) fits ∙ ap (drop c) h
+      let rest : run v.slots (b.start + c) m ≡ replicate m None = ap (take m) (sym (drop-drop c b.start v.slots)) ∙ sym (drop-take c m (drop b.start v.slots)) ∙ ap (λ k. drop c (run v.slots b.start k)) fits ∙ ap (drop c) h
       ∙ drop_at b.items (replicate m None) c refl in
-      let front : run ys b.start c ≡ read_items ys b.start c =
-      fill_by_all (λ i. get_or ys (b.start + i) None) (run ys b.start c) c None (length-run ys b.start c (omega (arith, inside.before))) (λ k less. get_or-run ys b.start c k None less) in
+      let front : run ys b.start c ≡ read_items ys b.start c = fill_by_all (λ i. get_or ys (b.start + i) None) (run ys b.start c) c None (length-run ys b.start c (omega (arith, inside.before))) (λ k less. get_or-run ys b.start c k None less) in
       let back = vacant_stays first (of_size m (b.start + c)) (record { after = omega (arith, inside.after); before = omega (arith, inside.before) }) rest in
       ap (run ys b.start) (sym fits) ∙ take-add c m (drop b.start ys) ∙ (λ i. front i ++ (ap (take m) (drop-drop c b.start ys) ∙ back) i)
       ∙ ap (λ k. read_items ys b.start c ++ replicate (b.size - k) None) (sym (length-map-range_with_len (λ i. get_or ys (b.start + i) None) 0 c))

@@ -17,8 +17,7 @@ module _ {S : Type 0} (vacant : S) where
   pub Sound-vacant : (k start size count : ℕ) (live : List (UsedBlock S)) (v : Store S) → count ≤ size → Sound vacant (block k start size [] ∷ live) v →
       Sound vacant (block k start size (replicate count vacant) ∷ live) v
   Sound-vacant k start size count live v few s =
-      let same : put_run v.slots start (filled vacant size (replicate count vacant)) ≡ v.slots =
-      ap (put_run v.slots start) (filled_vacant size count few ∙ sym (block_slots vacant (block k start size []) live v s))
+      let same : put_run v.slots start (filled vacant size (replicate count vacant)) ≡ v.slots = ap (put_run v.slots start) (filled_vacant size count few ∙ sym (block_slots vacant (block k start size []) live v s))
       ∙ put_run_self v.slots start size (block_inside vacant (block k start size []) live v s).before in
       subst (λ xs. Sound vacant (block k start size (replicate count vacant) ∷ live) (record v { slots = xs })) same
       (Sound-written vacant (block k start size []) live v (replicate count vacant) (let l = length-replicate count vacant in omega (arith, l, few)) s)
@@ -30,12 +29,10 @@ module _ {S : Type 0} (vacant : S) where
   Sound-laid k start size items live v few s =
       let b = block k start size (replicate (length items) vacant) in
       let inside = block_inside vacant b live v s in
-      let rest : drop (length items) (run v.slots start size) ≡ replicate (size - length items) vacant =
-      ap (drop (length items)) (block_slots vacant b live v s ∙ filled_vacant size (length items) few)
+      let rest : drop (length items) (run v.slots start size) ≡ replicate (size - length items) vacant = ap (drop (length items)) (block_slots vacant b live v s ∙ filled_vacant size (length items) few)
       ∙ drop-replicate (length items) (size - 0) vacant
       ∙ ap (λ n. replicate n vacant) (let e : size - 0 - length items ≡ size - length items = omega arith in e) in
-      let slots : put_run v.slots start items ≡ put_run v.slots start (filled vacant size items) =
-      put_run_part v.slots start size items (let i = inside.before in omega (arith, i)) few ∙ ap (λ ys. put_run v.slots start (items ++ ys)) rest in
+      let slots : put_run v.slots start items ≡ put_run v.slots start (filled vacant size items) = put_run_part v.slots start size items (let i = inside.before in omega (arith, i)) few ∙ ap (λ ys. put_run v.slots start (items ++ ys)) rest in
       subst (λ ys. Sound vacant (block k start size items ∷ live) (record v { slots = ys })) (sym slots) (Sound-written vacant b live v items few s)
 
   -- what a block that was made, if none was free, and then taken leaves

@@ -59,8 +59,7 @@ module _ (sizes : List ℕ) (nodes : List ℕ → Option Node) (paths : List (Li
   nodes_counted =
       let same = listed_below nodes sizes paths v hold in
       let all = slots_by_path child_count rank-zero-all sizes nodes paths v hold in
-      let number : length (children nodes paths) ≡ sum_by (weight child_count rank-zero-all sizes nodes) paths =
-      length-flat_map (λ p. children_of p (nodes p)) paths
+      let number : length (children nodes paths) ≡ sum_by (weight child_count rank-zero-all sizes nodes) paths = length-flat_map (λ p. children_of p (nodes p)) paths
       ∙ sum_by-same (weight child_count rank-zero-all sizes nodes) (λ p. length (children_of p (nodes p))) paths (λ p. own_number p (nodes p)) in
       omega (arith, length_permutation paths ([] ∷ children nodes paths) same, number, all)
 

@@ -174,8 +174,7 @@ module _ (sizes : List ℕ) (nodes : List ℕ → Option Node) (paths : List (Li
             (eqb-true (length s) (length p + 5) (and-second (begins p s) (length s == length p + 5) test)) in
             let c : ℕ = number (drop (length p) s) in
             let small : number (drop (length p) s) < 32 = subst (λ k. number (drop (length p) s) < 2 ^ k) r.1 (number-lt (drop (length p) s)) in
-            let same : s ≡ p ++ digits 5 (number (drop (length p) s)) =
-            r.0 ∙ ap (λ t. p ++ t) (sym (digits-number (drop (length p) s)) ∙ ap (λ k. digits k (number (drop (length p) s))) r.1) in
+            let same : s ≡ p ++ digits 5 (number (drop (length p) s)) = r.0 ∙ ap (λ t. p ++ t) (sym (digits-number (drop (length p) s)) ∙ ap (λ k. digits k (number (drop (length p) s))) r.1) in
             let path : path_of s ≡ path_of p ++ number (drop (length p) s) ∷ [] = ap path_of same ∙ step_below (length p / 5) p c long small in (
               c,
               sym (bits_are c) ∙ sym (hold.linked (path_of p) c) ∙ ap (λ q. is_some (nodes q)) (sym path)
@@ -216,8 +215,7 @@ module _ (sizes : List ℕ) (nodes : List ℕ → Option Node) (paths : List (Li
             let few : length (drop (length p) s) ≤ 4 = omega (arith, length-drop (length p) s) in
             let at = below_node (length p / 5) p (drop (length p) s) long few in
             let b : ℕ = value_bit (drop (length p) s) in
-            let set : has_bit bitmap (value_bit (drop (length p) s)) ≡ true =
-            sym (bits_are (value_bit (drop (length p) s))) ∙ sym (cells.set_where (path_of p) (value_bit (drop (length p) s)))
+            let set : has_bit bitmap (value_bit (drop (length p) s)) ≡ true = sym (bits_are (value_bit (drop (length p) s))) ∙ sym (cells.set_where (path_of p) (value_bit (drop (length p) s)))
             ∙ ap₂ (λ q i. is_some (values q i)) (sym (ap path_of rest ∙ at.0)) (sym (ap bit_of rest ∙ ap value_bit at.1))
             ∙ ap is_some (sym (are s)) ∙ has in (
               b,

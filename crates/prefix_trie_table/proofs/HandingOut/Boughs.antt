@@ -191,8 +191,7 @@ module _ {T : Type 0} {array : List Node} {levels : ℕ} {n : Node} {t : List Bo
       turned : (live : List (UsedBlock (Option T))) → Sound None (twigs ++ ((own ++ mine) ++ live)) w3 →
           Sound None (flat_map (cells_of new) ([] ∷ (map (λ p. i ∷ p) l.paths ++ b.rest)) ++ live) w3
       turned live s =
-          let back : own ++ (twigs ++ (mine ++ live)) ≡ (own ++ (twigs ++ mine)) ++ live =
-          ap (λ bs. own ++ bs) (sym (append_assoc twigs mine live)) ∙ sym (append_assoc own (twigs ++ mine) live) in
+          let back : own ++ (twigs ++ (mine ++ live)) ≡ (own ++ (twigs ++ mine)) ++ live = ap (λ bs. own ++ bs) (sym (append_assoc twigs mine live)) ∙ sym (append_assoc own (twigs ++ mine) live) in
           subst (λ bs. Sound None bs w3) (back ∙ ap (λ bs. bs ++ live) (sym cell_blocks))
           (Sound-permuted None (twigs ++ (own ++ (mine ++ live))) (own ++ (twigs ++ (mine ++ live))) w3 (swap_fronts twigs own (mine ++ live))
           (subst (λ bs. Sound None (twigs ++ bs) w3) (append_assoc own mine live) s))

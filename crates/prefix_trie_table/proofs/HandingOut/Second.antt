@@ -18,8 +18,7 @@ module _ {T : Type 0} (width count : ℕ) (v : Store Node) (w : Store (Option T)
       (paths_steps node_sizes trie.table.reading trie.table.paths v trie.table.nodes q
       (let e = trie.table.nodes.listed q ∙ ap one_if there in omega (arith, e))) in
       let depth : is_node_depth (string_at q) ≡ true = eq-eqb _ 0 (string_depth q) in
-      let stands : has_node s.nodes (string_at q) ≡ true =
-      shape_nodes trie.table.reading trie.table.values trie.table.paths v w (some_table trie.table).holds s trie.shaped (string_at q)
+      let stands : has_node s.nodes (string_at q) ≡ true = shape_nodes trie.table.reading trie.table.values trie.table.paths v w (some_table trie.table).holds s trie.shaped (string_at q)
       ∙ both_true (is_node_depth (string_at q)) (is_some (trie.table.reading (path_of (string_at q)))) depth
       (ap (λ p. is_some (trie.table.reading p)) path ∙ there) in
       let steps : length q ≡ length (string_at q) / 5 = ap length (sym path) ∙ path-length (string_at q) in

@@ -130,8 +130,7 @@ module _ (own : Node → ℕ) (reading : List ℕ → Option Node) (paths : List
       ((q : List ℕ) (m : Node) → reading q ≡ Some m → slots_below own v.slots levels m ≤ all_under q) → (c : ℕ) → at_child levels n c ≤ all_under (p ++ c ∷ [])
   child_within levels p n is ih c = elim (cases_Bool (has_bit n.child_bitmap c)) as (λ _. at_child levels n c ≤ all_under (p ++ c ∷ [])) [
     | inl set ↦
-        let child_is : reading (p ++ c ∷ []) ≡ Some (node_at v.slots (child_slot n c)) =
-        is_some-Some (reading (p ++ c ∷ [])) (hold.linked p c ∙ ap (λ o. has_child o c) is ∙ set)
+        let child_is : reading (p ++ c ∷ []) ≡ Some (node_at v.slots (child_slot n c)) = is_some-Some (reading (p ++ c ∷ [])) (hold.linked p c ∙ ap (λ o. has_child o c) is ∙ set)
         ∙ ap Some (sym (child_stands node_sizes reading paths v hold p n c is set).1) in
         subst (λ b. cond b (slots_below own v.slots levels (node_at v.slots (child_slot n c))) 0 ≤ all_under (p ++ c ∷ [])) (sym set)
         (ih (p ++ c ∷ []) (node_at v.slots (child_slot n c)) child_is)

@@ -97,8 +97,7 @@ added v u w slot place c tier start bitmap k m read sets m_is keeps put entered 
     let grown = child_added node_sizes reading paths v hold p slot k m c u stands here digit missing more (keeps.first_is ∙ hold.first_is)
     (keeps.sizes ∙ hold.sizes_are) (keeps.before 0 blank_node (let f = hold.first_is in omega arith)) sound in
     let bit : has_bit m.child_bitmap c ≡ true = more c ∙ ap (λ b. b || has_bit k.child_bitmap c) (same_number c) in
-    let rank_is : rank m.child_bitmap c ≡ rank k.child_bitmap c =
-    rank-same k.child_bitmap m.child_bitmap c (λ i h. more i ∙ ap (λ b. b || has_bit k.child_bitmap i) (other_number i c (λ e. omega arith))) in
+    let rank_is : rank m.child_bitmap c ≡ rank k.child_bitmap c = rank-same k.child_bitmap m.child_bitmap c (λ i h. more i ∙ ap (λ b. b || has_bit k.child_bitmap i) (other_number i c (λ e. omega arith))) in
     record {
       node = m;
       hold = subst (λ x. NodesHold node_sizes (with_child reading p m c) ((p ++ c ∷ []) ∷ paths) x) (sym w_is) grown;

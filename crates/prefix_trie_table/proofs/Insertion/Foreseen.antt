@@ -135,8 +135,7 @@ module _ {T X E : Type 0} (for_limit for_memory : E → Type 0) (b : List Bool) 
       (child_blocks_needed s.0.nodes (layout_of v.slots v.tiers w.tiers sized) (take len b)) (value_blocks_needed s.0.entries (layout_of v.slots v.tiers w.tiers sized) (take len b))
   obtained asked new =
       let t = some_table is in
-      let none : own_value t.values b len ≡ None =
-      sym (shape_entries t.reading t.values t.paths v w t.holds s.0 s.1 (take len b)) ∙ is_none-None (get s.0.entries (take len b)) new in
+      let none : own_value t.values b len ≡ None = sym (shape_entries t.reading t.values t.paths v w t.holds s.0 s.1 (take len b)) ∙ is_none-None (get s.0.entries (take len b)) new in
       let a = asked t.reading t.paths t.values t.holds none in
       let long : length (take len b) ≡ len = length-take-le len b a.long in
       let nodes = children_needed t.reading t.values t.paths v w t.holds s.0 s.1 sized (take len b) a.node a.level a.end a.is ∙ ap (nodes_needed a.node a.level) long in

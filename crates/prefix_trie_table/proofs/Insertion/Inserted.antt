@@ -68,10 +68,8 @@ module _ {T : Type 0} (v v2 : Store Node) (w w2 : Store (Option T)) (count count
         let b = nodes_cut v2 w2 (some_table left) later in
         let c = cells_cut v w (some_table is) sized in
         let d = cells_cut v2 w2 (some_table left) later in
-        let nodes_slots : slots_lacking v (child_blocks_needed s.nodes (layout_of v.slots v.tiers w.tiers sized) q) ≡ node_slots_lacking s.nodes (layout_of v.slots v.tiers w.tiers sized) q =
-        slots node_sizes v v2 sized.0 later.0 node_are a b _ in
-        let cells_slots : slots_lacking w (value_blocks_needed s.entries (layout_of v.slots v.tiers w.tiers sized) q) ≡ cell_slots_lacking s.entries (layout_of v.slots v.tiers w.tiers sized) q =
-        slots cell_sizes w w2 sized.1.0 later.1.0 cell_are c d _ in
+        let nodes_slots : slots_lacking v (child_blocks_needed s.nodes (layout_of v.slots v.tiers w.tiers sized) q) ≡ node_slots_lacking s.nodes (layout_of v.slots v.tiers w.tiers sized) q = slots node_sizes v v2 sized.0 later.0 node_are a b _ in
+        let cells_slots : slots_lacking w (value_blocks_needed s.entries (layout_of v.slots v.tiers w.tiers sized) q) ≡ cell_slots_lacking s.entries (layout_of v.slots v.tiers w.tiers sized) q = slots cell_sizes w w2 sized.1.0 later.1.0 cell_are c d _ in
         record {
           lacks = (let l = o.lacks in omega (arith, l, nodes_slots, cells_slots));
           range = λ for_limit. elim (o.range for_limit) [

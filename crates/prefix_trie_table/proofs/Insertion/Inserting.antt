@@ -34,8 +34,7 @@ cells_prepared reading values paths w x cells keeps sound = record {
 -- the tier of a list that has items
 pub list_tier : {S : Type 0} (vacant : S) (v : Store S) (k start count : ℕ) → HasList vacant v k start count → 0 < count → k < length v.tiers
 list_tier {S} vacant v k start count h some =
-    let s : Sound vacant (block k start h.size h.items ∷ h.live) v =
-    subst (λ bs. Sound vacant (bs ++ h.live) v) (held_some k start h.size h.items (let e = h.is_count in omega arith)) h.sound in
+    let s : Sound vacant (block k start h.size h.items ∷ h.live) v = subst (λ bs. Sound vacant (bs ++ h.live) v) (held_some k start h.size h.items (let e = h.is_count in omega arith)) h.sound in
     (tier_of_block vacant (block k start h.size h.items) h.live v s).within
 
 -- some block holds one child more

@@ -127,8 +127,7 @@ module _ {T E : Type 0} (q : List Bool) (x : T) (v v2 : Store Node) (w w2 : Stor
       × MatchResult r (λ _. TakesBlocks (value_block_needed s.0.entries sized.1.0 q) sized.1.0 later.1.0) (λ _. later.1.0 ≡ sized.1.0)
   sizes_left (Ok before) left =
       let t = some_table is in
-      let none : t.values (path_of q) (bit_of q) ≡ None =
-      sym (shape_entries t.reading t.values t.paths v w t.holds s.0 s.1 q) ∙ is_none-None (get s.0.entries q) new in
+      let none : t.values (path_of q) (bit_of q) ≡ None = sym (shape_entries t.reading t.values t.paths v w t.holds s.0 s.1 q) ∙ is_none-None (get s.0.entries q) new in
       let a = (left t.reading t.paths t.values t.holds).1 in (
         children_taken t.reading t.values t.paths v w t.holds s.0 s.1 sized v2 w2 later q (Some x) a,
         values_taken t.reading t.values t.paths v w t.holds s.0 s.1 sized v2 w2 later q (Some x) a none,

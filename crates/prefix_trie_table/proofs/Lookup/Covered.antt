@@ -85,8 +85,7 @@ module _ {T : Type 0} where
     few least (x ∷ es) sorted begin from small =
         let own : least ≤ length x.0 = from x (first_in x es) in
         let short : length x.0 ≤ length q = begins-length x.0 q (begin x (first_in x es)) in
-        let rest : length es + (length x.0 + 1) ≤ length q + 1 =
-        few (length x.0 + 1) es (sorted-tail x es sorted) (λ e has. begin e (later_in x es e has))
+        let rest : length es + (length x.0 + 1) ≤ length q + 1 = few (length x.0 + 1) es (sorted-tail x es sorted) (λ e has. begin e (later_in x es e has))
         (λ e has. let l : length x.0 < length e.0 = head_shorter x es sorted begin e has in omega arith) (omega arith) in
         omega arith
 
@@ -147,13 +146,11 @@ module _ {T : Type 0} where
           let i = length e.0 in
           let rest = drop (5 * level) asked in
           let below = drop (5 * level) e.0 in
-          let below_is : drop (5 * level) e.0 ≡ take (i - 5 * level) rest =
-          ap (drop (5 * level)) (sym (begins-take e.0 asked (cover_match e there).begins_it)) ∙ ap (λ n. drop (5 * level) (take n asked)) (sym (add-sub_of_le from))
+          let below_is : drop (5 * level) e.0 ≡ take (i - 5 * level) rest = ap (drop (5 * level)) (sym (begins-take e.0 asked (cover_match e there).begins_it)) ∙ ap (λ n. drop (5 * level) (take n asked)) (sym (add-sub_of_le from))
           ∙ drop-take (5 * level) (i - 5 * level) asked in
           let below_long : length (drop (5 * level) e.0) ≡ i - 5 * level = length-drop (5 * level) e.0 in
           let whole : 5 * level + length (drop (5 * level) e.0) ≡ i = omega (arith, below_long, from) in
-          let stored : has node.value_bitmap (value_bit (drop (5 * level) e.0)) ≡ true =
-          ap (λ k. has node.value_bitmap (value_bit k)) below_is
+          let stored : has node.value_bitmap (value_bit (drop (5 * level) e.0)) ≡ true = ap (λ k. has node.value_bitmap (value_bit k)) below_is
           ∙ sym (held_is asked level i from (cover_within e there) last t.reading node (on_way_is b len level slot node v at.on_way t.reading t.paths t.holds.hold)) ∙ cover_holds e there in
           at.left.bits below (omega (arith, below_long, last))
           ∙ middle (begins below rest) (nat_le first (5 * level + length below)) (has node.value_bitmap (value_bit below)) (ap (λ k. begins k rest) below_is ∙ take-begins (i - 5 * level) rest) stored

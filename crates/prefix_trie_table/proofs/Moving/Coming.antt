@@ -41,8 +41,7 @@ module _ {T : Type 0} where
           let h = gives (whole_tree shape later at) at.trie in
           let same = same_first (q, x) (take size (bits key), h.value) later (pending bits shape.entries next qs) (sym at.come ∙ h.gives.first) in
           let here : seat_of v.slots q ≡ Some seat = ap (seat_of v.slots) same.0 ∙ found in
-          let filled : filled_with v.slots ((q, x) ∷ later) w ≡ filled_with v.slots later w2 =
-          ap (λ o. filled_with v.slots later (with_cell w o x)) here ∙ sym (ap (filled_with v.slots later) put) in
+          let filled : filled_with v.slots ((q, x) ∷ later) w ≡ filled_with v.slots later w2 = ap (λ o. filled_with v.slots later (with_cell w o x)) here ∙ sym (ap (filled_with v.slots later) put) in
           record {
             trie = subst (λ (y : Store (Option T)). IsTrie width (len shape.entries) v y shape) filled at.trie;
             stack = stack;

@@ -19,8 +19,7 @@ module _ {T : Type 0} (v : Store Node) (reading : List ℕ → Option Node) (pat
             InBlocks (with_value values (path_of s) (bit_of s) (Some x)) (with_cell w (seat_of v.slots s) x)
         at None e set = absurd (false≢true set)
         at (Some n) e set =
-            let seat : seat_of v.slots s ≡ Some (value_seat n (bit_of s)) =
-            seat_reads v reading paths hold s ∙ ap (λ o. seat_in o (bit_of s)) e ∙ ap (λ t. cond t (Some (value_seat n (bit_of s))) None) set in
+            let seat : seat_of v.slots s ≡ Some (value_seat n (bit_of s)) = seat_reads v reading paths hold s ∙ ap (λ o. seat_in o (bit_of s)) e ∙ ap (λ t. cond t (Some (value_seat n (bit_of s))) None) set in
             subst (λ o. InBlocks (with_value values (path_of s) (bit_of s) (Some x)) (with_cell w o x)) (sym seat)
             (value_put cell_sizes node_sizes reading paths v hold values w sound (path_of s) n (bit_of s) (Some x) reading e set e (λ q ne. refl))
 

@@ -19,8 +19,7 @@ use Rattle.prefix_trie_table.proofs.Tree.Values.{values_first, value_removed}
 pub held_fits : {S : Type 0} (vacant : S) (v : Store S) (k start count : ℕ) (sizes : List ℕ) → tier_sizes v.tiers ≡ sizes → length sizes ≡ 7 → HasList vacant v k start count →
     0 < count → (k < 7) × (count ≤ size_in sizes k)
 held_fits vacant v k start count sizes sizes_are seven list some =
-    let s : Sound vacant (block k start list.size list.items ∷ list.live) v =
-    subst (λ bs. Sound vacant (bs ++ list.live) v) (held_some k start list.size list.items (let e = list.is_count in omega arith)) list.sound in
+    let s : Sound vacant (block k start list.size list.items ∷ list.live) v = subst (λ bs. Sound vacant (bs ++ list.live) v) (held_some k start list.size list.items (let e = list.is_count in omega arith)) list.sound in
     let of = tier_of_block vacant (block k start list.size list.items) list.live v s in
     let fits : length list.items ≤ list.size = fits_block vacant (block k start list.size list.items) list.live v s in
     let tiers : length v.tiers ≡ 7 = tiers_long v.tiers sizes sizes_are ∙ seven in

@@ -100,8 +100,7 @@ room_step sizes all seven n o (j, j_inside, j_is) (t, t_inside, t_is) less =
     let n_is : size_in sizes j ≡ n = get_or_default sizes j 0 n j_inside ∙ j_is in
     let o_is : size_in sizes t ≡ o = get_or_default sizes t 0 o t_inside ∙ t_is in
     let test = at_below (test_room sizes t) 7 (at_below (λ t. below (test_room sizes t) 7) 7 all t (omega (arith, t_inside, seven))) j (omega (arith, j_inside, seven)) in
-    let step : headroom (size_in sizes j) + size_in sizes j ≤ headroom (size_in sizes t) =
-    elim (or-cases (not (nat_lt (size_in sizes j) (size_in sizes t))) (nat_le (headroom (size_in sizes j) + size_in sizes j) (headroom (size_in sizes t))) test)
+    let step : headroom (size_in sizes j) + size_in sizes j ≤ headroom (size_in sizes t) = elim (or-cases (not (nat_lt (size_in sizes j) (size_in sizes t))) (nat_le (headroom (size_in sizes j) + size_in sizes j) (headroom (size_in sizes t))) test)
     as (λ _. headroom (size_in sizes j) + size_in sizes j ≤ headroom (size_in sizes t)) [
       | inl lost ↦ absurd (true≢false (sym lost ∙ ap not (lt-ltb (size_in sizes j) (size_in sizes t) (omega (arith, n_is, o_is, less)))))
       | inr fits ↦ leb-true (headroom (size_in sizes j) + size_in sizes j) (headroom (size_in sizes t)) fits

@@ -111,10 +111,8 @@ module _ {T : Type 0} (q : List Bool) (reading : List ℕ → Option Node) (valu
           ];
           not_root = λ e. clash _ gone (ap (λ x. is_some (p.to.later (path_of x))) e ∙ ap is_some p.to.hold.rooted);
           no_key = λ k has. false_from_ne_true (begins u k) (λ hit.
-              let value : is_some (with_value values (path_of q) (bit_of q) None (path_of k) (bit_of k)) ≡ true =
-              ap is_some (sym (entries_without reading values paths v w holds q s is k)) ∙ has in
-              let node : is_some (p.to.later (path_of k)) ≡ true =
-              needs (p.to.later (path_of k)) (bit_of k) (sym (pruned_holds.cells.set_where (path_of k) (bit_of k)) ∙ value) in
+              let value : is_some (with_value values (path_of q) (bit_of q) None (path_of k) (bit_of k)) ≡ true = ap is_some (sym (entries_without reading values paths v w holds q s is k)) ∙ has in
+              let node : is_some (p.to.later (path_of k)) ≡ true = needs (p.to.later (path_of k)) (bit_of k) (sym (pruned_holds.cells.set_where (path_of k) (bit_of k)) ∙ value) in
               clash _ gone (above_left (path_of u) (path_of k) node (begins-way u k five ∙ hit)));
           alone = λ x there_x below. elim (cases_Bool (is_start (path_of x) (path_of q))) as (λ _. begins x (home q) ≡ true) [
             | inl on ↦ begins_home x (five_of x there_x) on
@@ -135,15 +133,13 @@ module _ {T : Type 0} (q : List Bool) (reading : List ℕ → Option Node) (valu
     value_left : (u : List Bool) (b : ℕ) → length u % 5 ≡ 0 → is_start (path_of u) (take p.level (path_of q)) ≡ true → has_bit p.node.value_bitmap b ≡ true →
         ((k : List Bool) → contains_key (without_entry s.entries q) k ≡ true → begins u k ≡ false) → ⊥
     value_left u b five start set none =
-        let value : is_some (with_value values (path_of q) (bit_of q) None (take p.level (path_of q)) b) ≡ true =
-        pruned_holds.cells.set_where (take p.level (path_of q)) b ∙ ap (λ o. has_value o b) p.to.is ∙ set in
+        let value : is_some (with_value values (path_of q) (bit_of q) None (take p.level (path_of q)) b) ≡ true = pruned_holds.cells.set_where (take p.level (path_of q)) b ∙ ap (λ o. has_value o b) p.to.is ∙ set in
         let r = string_at b (pruned_holds.cells.within (take p.level (path_of q)) b value) in
         let at = below_node p.level (take (5 * p.level) q) r.0 stop_long r.1 in
         let key : List Bool = take (5 * p.level) q ++ r.0 in
         let key_path : path_of (take (5 * p.level) q ++ r.0) ≡ take p.level (path_of q) = at.0 ∙ stop_path in
         let key_bit : bit_of (take (5 * p.level) q ++ r.0) ≡ b = ap value_bit at.1 ∙ r.2 in
-        let stored : contains_key (without_entry s.entries q) (take (5 * p.level) q ++ r.0) ≡ true =
-        ap is_some (entries_without reading values paths v w holds q s is (take (5 * p.level) q ++ r.0))
+        let stored : contains_key (without_entry s.entries q) (take (5 * p.level) q ++ r.0) ≡ true = ap is_some (entries_without reading values paths v w holds q s is (take (5 * p.level) q ++ r.0))
         ∙ ap₂ (λ x i. is_some (with_value values (path_of q) (bit_of q) None x i)) key_path key_bit ∙ value in
         clash (begins u (take (5 * p.level) q ++ r.0)) (none (take (5 * p.level) q ++ r.0) stored)
         (sym (begins-way u (take (5 * p.level) q ++ r.0) five) ∙ ap (is_start (path_of u)) key_path ∙ start)
@@ -153,26 +149,19 @@ module _ {T : Type 0} (q : List Bool) (reading : List ℕ → Option Node) (valu
         ((x : List Bool) → has_node s.nodes x ≡ true → begins u x ≡ true → begins x (home q) ≡ true) → ⊥
     child_left u c five start set alone =
         let child : List Bool = take (5 * p.level) q ++ digits 5 c in
-        let child_path : path_of (take (5 * p.level) q ++ digits 5 c) ≡ take p.level (path_of q) ++ c ∷ [] =
-        step_below p.level (take (5 * p.level) q) c stop_long (has_bit-below p.node.child_bitmap c set) ∙ ap (λ x. x ++ c ∷ []) stop_path in
+        let child_path : path_of (take (5 * p.level) q ++ digits 5 c) ≡ take p.level (path_of q) ++ c ∷ [] = step_below p.level (take (5 * p.level) q) c stop_long (has_bit-below p.node.child_bitmap c set) ∙ ap (λ x. x ++ c ∷ []) stop_path in
         let long : length (take (5 * p.level) q ++ digits 5 c) ≡ 5 * p.level + 5 = omega (arith, length-append (take (5 * p.level) q) (digits 5 c), length-digits 5 c, stop_long) in
         let five_child : length (take (5 * p.level) q ++ digits 5 c) % 5 ≡ 0 = five_more (length (take (5 * p.level) q ++ digits 5 c)) p.level long in
-        let some : is_some (p.to.later (take p.level (path_of q) ++ c ∷ [])) ≡ true =
-        p.to.hold.linked (take p.level (path_of q)) c ∙ ap (λ o. has_child o c) p.to.is ∙ set in
-        let node : has_node s.nodes (take (5 * p.level) q ++ digits 5 c) ≡ true =
-        shape_nodes reading values paths v w holds s is (take (5 * p.level) q ++ digits 5 c)
+        let some : is_some (p.to.later (take p.level (path_of q) ++ c ∷ [])) ≡ true = p.to.hold.linked (take p.level (path_of q)) c ∙ ap (λ o. has_child o c) p.to.is ∙ set in
+        let node : has_node s.nodes (take (5 * p.level) q ++ digits 5 c) ≡ true = shape_nodes reading values paths v w holds s is (take (5 * p.level) q ++ digits 5 c)
         ∙ and-join (is_node_depth (take (5 * p.level) q ++ digits 5 c)) (is_some (reading (path_of (take (5 * p.level) q ++ digits 5 c))))
         (eq-eqb (length (take (5 * p.level) q ++ digits 5 c) % 5) 0 five_child)
         (ap (λ x. is_some (reading x)) child_path ∙ only_old (take p.level (path_of q) ++ c ∷ []) some) in
-        let begun : begins u (take (5 * p.level) q ++ digits 5 c) ≡ true =
-        sym (begins-way u (take (5 * p.level) q ++ digits 5 c) five) ∙ ap (is_start (path_of u)) child_path ∙ start in
-        let on : is_start (take p.level (path_of q) ++ c ∷ []) (path_of q) ≡ true =
-        ap (λ x. is_start x (path_of q)) (sym child_path) ∙ on_way_of (take (5 * p.level) q ++ digits 5 c) five_child (alone (take (5 * p.level) q ++ digits 5 c) node begun) in
+        let begun : begins u (take (5 * p.level) q ++ digits 5 c) ≡ true = sym (begins-way u (take (5 * p.level) q ++ digits 5 c) five) ∙ ap (is_start (path_of u)) child_path ∙ start in
+        let on : is_start (take p.level (path_of q) ++ c ∷ []) (path_of q) ≡ true = ap (λ x. is_start x (path_of q)) (sym child_path) ∙ on_way_of (take (5 * p.level) q ++ digits 5 c) five_child (alone (take (5 * p.level) q ++ digits 5 c) node begun) in
         let at = start_is (take p.level (path_of q) ++ c ∷ []) (path_of q) on in
-        let deep : length (take p.level (path_of q) ++ c ∷ []) ≡ p.level + 1 =
-        length-append (take p.level (path_of q)) (c ∷ []) ∙ ap (λ n. n + 1) (length-take-le p.level (path_of q) p.to.within) in
-        let none : p.to.later (take p.level (path_of q) ++ c ∷ []) ≡ None =
-        ap p.to.later (sym at.0) ∙ p.to.gone (length (take p.level (path_of q) ++ c ∷ [])) (omega arith) at.1 in
+        let deep : length (take p.level (path_of q) ++ c ∷ []) ≡ p.level + 1 = length-append (take p.level (path_of q)) (c ∷ []) ∙ ap (λ n. n + 1) (length-take-le p.level (path_of q) p.to.within) in
+        let none : p.to.later (take p.level (path_of q) ++ c ∷ []) ≡ None = ap p.to.later (sym at.0) ∙ p.to.gone (length (take p.level (path_of q) ++ c ∷ [])) (omega arith) at.1 in
         clash (is_some (p.to.later (take p.level (path_of q) ++ c ∷ []))) (ap is_some none) some
 
     -- what the model takes out is gone

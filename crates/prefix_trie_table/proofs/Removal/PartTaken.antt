@@ -270,6 +270,5 @@ pub seen_trie : {T : Type 0} {width count : ℕ} {v : Store Node} {w : Store (Op
     {inside m : Contents T} → inside ≡ m → state inside ≡ shape.0 →
     AreWithin width m.entries → AreNodes width m.entries m.nodes → IsTrie width count v w shape.0
 seen_trie {T} {width} shape is seen same within are =
-    let known : AreWithin width shape.0.entries × AreNodes width shape.0.entries shape.0.nodes =
-    subst (λ (x : State T). AreWithin width x.entries × AreNodes width x.entries x.nodes) (ap state (sym seen) ∙ same) (within, are) in
+    let known : AreWithin width shape.0.entries × AreNodes width shape.0.entries shape.0.nodes = subst (λ (x : State T). AreWithin width x.entries × AreNodes width x.entries x.nodes) (ap state (sym seen) ∙ same) (within, are) in
     record { table = is; shaped = shape.1; within = known.0; nodes = known.1 }

@@ -177,8 +177,7 @@ module _ {T : Type 0} (key : List Bool) (v v2 : Store Node) (w w2 : Store (Optio
       let t = some_table is in
       let p : List Bool = take (5 * l.stop) key in
       let inside : 5 * l.stop ≤ length key = fifths (length key) l.stop (length (path_of key)) l.stop_within (path-length key) in
-      let depth : is_node_depth (take (5 * l.stop) key) ≡ true =
-      eq-eqb (length (take (5 * l.stop) key) % 5) 0 (whole l.stop (length (take (5 * l.stop) key)) (length-take-le (5 * l.stop) key inside)) in
+      let depth : is_node_depth (take (5 * l.stop) key) ≡ true = eq-eqb (length (take (5 * l.stop) key) % 5) 0 (whole l.stop (length (take (5 * l.stop) key)) (length-take-le (5 * l.stop) key inside)) in
       let path : path_of (take (5 * l.stop) key) ≡ take l.stop (path_of key) = path-take l.stop key inside in (
         p,
         steps_read {c = 0} {d = 0} (λ _ _ o n. GrowsBy MakesFew child_block_sizes v v2 o n) refl refl

@@ -242,7 +242,6 @@ module _ {F T : Type 0} (asks : F → List Bool → T → Bool → F → Type 0)
       ((q : List Bool) → is_at_some s ts q ≡ true → is_at_some s us q ≡ true → ⊥) →
       MayAskInOrder asks accepts f (listing_at_places x.entries s (ts ++ us)) → MayAskInOrder asks accepts g (listing_at_places y.entries s us)
   may_ask_then s ts us f g x y first apart may =
-      let same : listing_at_places y.entries s us ≡ listing_at_places x.entries s us =
-      places_same y.entries x.entries s us (λ k at. first.others k (no_or_yes (is_at_some s ts k) (λ before. apart k before at))) in
+      let same : listing_at_places y.entries s us ≡ listing_at_places x.entries s us = places_same y.entries x.entries s us (λ k at. first.others k (no_or_yes (is_at_some s ts k) (λ before. apart k before at))) in
       first.may_ask (listing_at_places y.entries s us)
       (subst (MayAskInOrder asks accepts f) (flat_map-append (listing_at_place x.entries s) ts us ∙ ap (λ es. listing_at_places x.entries s ts ++ es) (sym same)) may)

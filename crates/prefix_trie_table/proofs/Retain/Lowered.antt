@@ -178,8 +178,7 @@ module _ {K T : Type 0} (IsKey : K → Type 0) (bits : K → List Bool) (width :
       stocked_needed (inr some) =
           let bit = some_bit left.child_bitmap some in
           let within = has_bit-below left.child_bitmap bit.0 bit.1 in
-          let there : has_node to.after.nodes (take b.depth (bits b.key) ++ digits 5 bit.0) ≡ true =
-          child_iff IsKey bits width v2 b left later long_b count2 w2 to.after to.trie (digits 5 bit.0) (length-digits 5 bit.0)
+          let there : has_node to.after.nodes (take b.depth (bits b.key) ++ digits 5 bit.0) ≡ true = child_iff IsKey bits width v2 b left later long_b count2 w2 to.after to.trie (digits 5 bit.0) (length-digits 5 bit.0)
           ∙ ap (has left.child_bitmap) (number-bits 5 bit.0 within) ∙ sym (has_bit-is left.child_bitmap bit.0 within) ∙ bit.1 in
           let need = below_needed (take b.depth (bits b.key) ++ digits 5 bit.0) (begins-append (take b.depth (bits b.key)) (digits 5 bit.0))
           (λ e. longer_not (take b.depth (bits b.key)) (digits 5 bit.0) (length-digits 5 bit.0) e) there in

@@ -48,8 +48,7 @@ module _ {K T : Type 0} (IsKey : K → Type 0) (bits : K → List Bool) (width :
   child_iff t five =
       let h = some_table trie.table in
       let small = number-small t five in
-      let way : path_of (take p.depth (bits p.key) ++ t) ≡ path_of (take p.depth (bits p.key)) ++ number t ∷ [] =
-      ap (λ u. path_of (take p.depth (bits p.key) ++ u)) (sym (digits-number t) ∙ ap (λ k. digits k (number t)) five)
+      let way : path_of (take p.depth (bits p.key) ++ t) ≡ path_of (take p.depth (bits p.key)) ++ number t ∷ [] = ap (λ u. path_of (take p.depth (bits p.key) ++ u)) (sym (digits-number t) ∙ ap (λ k. digits k (number t)) five)
       ∙ step_below (p.depth / 5) (take p.depth (bits p.key)) (number t) (here_levels IsKey bits width v p n at long) small in
       let depth : is_node_depth (take p.depth (bits p.key) ++ t) ≡ true =
       ap (λ k. k == 0) (whole_more (length (take p.depth (bits p.key))) (length t) (length (take p.depth (bits p.key) ++ t)) (here_whole IsKey bits width v p n at long) five (length-append (take p.depth (bits p.key)) t)) in

@@ -185,8 +185,7 @@ module _ {K : Type 0} (IsKey : K → Type 0) (bits : K → List Bool) (width : �
         pub some_counted : 0 < count
         some_counted =
             let a = taken held_table.reading held_table.paths held_table.values held_table.holds in
-            let one : one_if (is_some (held_table.values (path_of (take p.depth (bits p.key) ++ t)) (bit_of (take p.depth (bits p.key) ++ t)))) ≡ 1 =
-            ap one_if (some_there held_table.reading held_table.paths held_table.values held_table.holds) in
+            let one : one_if (is_some (held_table.values (path_of (take p.depth (bits p.key) ++ t)) (bit_of (take p.depth (bits p.key) ++ t)))) ≡ 1 = ap one_if (some_there held_table.reading held_table.paths held_table.values held_table.holds) in
             omega (arith, a.counted, trie.table.counted, one)
 
         pub removed_is : get s.entries (take p.depth (bits p.key) ++ t) ≡ removed

@@ -52,8 +52,7 @@ module _ {Y : Type 0} where
   map_from f g old new b zero same eq = refl
   map_from f g old new b (suc n) same eq =
       let first : map g (bits_from new b n) ≡ map f (bits_from old b n) = map_from f g old new b n same eq in
-      let last : map g (if_set (has_bit new (b + n)) (b + n)) ≡ map f (if_set (has_bit old (b + n)) (b + n)) =
-      ap (λ s. map g (if_set s (b + n))) (same (b + n) (omega arith)) ∙ map_if f g (has_bit old (b + n)) (b + n) (eq (b + n) (omega arith)) in
+      let last : map g (if_set (has_bit new (b + n)) (b + n)) ≡ map f (if_set (has_bit old (b + n)) (b + n)) = ap (λ s. map g (if_set s (b + n))) (same (b + n) (omega arith)) ∙ map_if f g (has_bit old (b + n)) (b + n) (eq (b + n) (omega arith)) in
       map-append g (bits_from new b n) (if_set (has_bit new (b + n)) (b + n)) ∙ (λ i. first i ++ last i)
       ∙ sym (map-append f (bits_from old b n) (if_set (has_bit old (b + n)) (b + n)))
 

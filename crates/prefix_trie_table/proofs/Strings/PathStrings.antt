@@ -133,8 +133,7 @@ module _ (sizes : List ℕ) (nodes : List ℕ → Option Node) (paths : List (Li
       into s h =
           let some : is_some (nodes (path_of s)) ≡ true = and-second (is_node_depth s) (is_some (nodes (path_of s))) h in
           let there : times (path_of s) paths ≡ 1 = hold.listed (path_of s) ∙ ap one_if some in
-          let same : string_at (path_of s) ≡ s =
-          same_way (string_at (path_of s)) s (string_depth (path_of s)) (eqb-true (length s % 5) 0 (and-first (is_node_depth s)
+          let same : string_at (path_of s) ≡ s = same_way (string_at (path_of s)) s (string_depth (path_of s)) (eqb-true (length s % 5) 0 (and-first (is_node_depth s)
           (is_some (nodes (path_of s))) h)) (string_path (path_of s) (steps_small (path_of s) some)) in
           subst (λ t. list_any (same_string t) (map string_at paths) ≡ true) same (listed-string (path_of s) paths (omega arith))
 

@@ -25,8 +25,7 @@ pub sum_lacking : (g : Option Node → ℕ) (nodes : List ℕ → Option Node) (
 sum_lacking g nodes paths p c n m leaf is below once leaf_once =
     let apart : p ≢ p ++ c ∷ [] = λ e. let l : length p ≡ length p + 1 = ap (λ (xs : List ℕ). length xs) e ∙ length-append p (c ∷ []) in omega arith in
     let left : times p (without (p ++ c ∷ []) paths) ≡ 1 = times_out (p ++ c ∷ []) p paths (omega arith) apart ∙ once in
-    let none : times (p ++ c ∷ []) (without p (without (p ++ c ∷ []) paths)) ≡ 0 =
-    times_out p (p ++ c ∷ []) (without (p ++ c ∷ []) paths) (omega arith) (λ e. apart (sym e)) ∙ times_out_same (p ++ c ∷ []) paths leaf_once in
+    let none : times (p ++ c ∷ []) (without p (without (p ++ c ∷ []) paths)) ≡ 0 = times_out p (p ++ c ∷ []) (without (p ++ c ∷ []) paths) (omega arith) (λ e. apart (sym e)) ∙ times_out_same (p ++ c ∷ []) paths leaf_once in
     let out_leaf = sum_out (λ q. g (nodes q)) (p ++ c ∷ []) paths (omega arith) in
     let out_before = sum_out (λ q. g (nodes q)) p (without (p ++ c ∷ []) paths) (omega arith) in
     let out_after = sum_out (λ q. g (lacking_child nodes p m c q)) p (without (p ++ c ∷ []) paths) (omega arith) in

@@ -123,8 +123,7 @@ module _ (sizes : List ℕ) (nodes : List ℕ → Option Node) (paths : List (Li
       let later : List ℕ → Option Node = changed nodes p m c o in
       let w : Store Node = record u { slots = set u.slots s m } in
       let here : later p ≡ Some m = changed_here nodes p m c o p refl in
-      let written : Sound blank_node (own ++ flat_map (child_blocks sizes later) rest) w =
-      node_set sizes nodes paths v hold rest p s n m later own u parents stands is first
+      let written : Sound blank_node (own ++ flat_map (child_blocks sizes later) rest) w = node_set sizes nodes paths v hold rest p s n m later own u parents stands is first
       (λ q h. changed_other nodes p m c o q (not_listed p rest none_p q h) (not_listed (p ++ c ∷ []) rest none_r q h))
       (λ q d h not_p. changed_other nodes p m c o (q ++ d ∷ []) not_p (λ e. not_listed p rest none_p q h (snoc_inj q p d c e).0)) here sound in
       record {
@@ -160,8 +159,7 @@ module _ (sizes : List ℕ) (nodes : List ℕ → Option Node) (paths : List (Li
       let items : child_items later p m.child_bitmap ≡ put = grown.1
       ∙ ap (λ y. insert (child_items nodes p n.child_bitmap) (rank n.child_bitmap c) (node_or_blank y))
       (changed_below nodes p m c (Some blank_node) (p ++ c ∷ []) refl) in
-      let none : child_blocks sizes later (p ++ c ∷ []) ≡ [] =
-      blank_blocks sizes later (p ++ c ∷ []) (changed_below nodes p m c (Some blank_node) (p ++ c ∷ []) refl) in
+      let none : child_blocks sizes later (p ++ c ∷ []) ≡ [] = blank_blocks sizes later (p ++ c ∷ []) (changed_below nodes p m c (Some blank_node) (p ++ c ∷ []) refl) in
       child_changed p s n m c (Some blank_node) u (block m.child_tier m.child_block (size_in sizes m.child_tier) put ∷ []) (without p paths) ((p ++ c ∷ []) ∷ paths)
       stands is bit_c bit_i (λ d. hold.linked (p ++ c ∷ []) d ∙ ap (λ o. has_child o d) gone ∙ sym (has_bit-zero d)) first sizes_are kept
       (times_out_same p paths once) (times_out p (p ++ c ∷ []) paths (omega arith) (snoc_not_same p c) ∙ none_r) (parents sizes nodes paths v hold p n is)
@@ -220,12 +218,10 @@ module _ (sizes : List ℕ) (nodes : List ℕ → Option Node) (paths : List (Li
       let not_p = not_listed p (without p paths) (times_out_same p paths once) in
       let own : List (UsedBlock Node) = held n.child_tier n.child_block (size_in sizes n.child_tier) (child_items nodes p n.child_bitmap) in
       let here : later p ≡ Some m = with_here nodes p m p refl in
-      let written : Sound blank_node (own ++ flat_map (child_blocks sizes later) (without p paths)) w =
-      node_set sizes nodes paths v hold (without p paths) p s n m later own v (parents sizes nodes paths v hold p n is) stands is hold.first_is
+      let written : Sound blank_node (own ++ flat_map (child_blocks sizes later) (without p paths)) w = node_set sizes nodes paths v hold (without p paths) p s n m later own v (parents sizes nodes paths v hold p n is) stands is hold.first_is
       (λ q h. with_other nodes p m q (not_p q h)) (λ q d h other. with_other nodes p m (q ++ d ∷ []) other) here
       (own_first sizes nodes paths v hold p n is) in
-      let items : child_items later p m.child_bitmap ≡ child_items nodes p n.child_bitmap =
-      map_same (λ d. node_or_blank (nodes (p ++ d ∷ []))) (λ d. node_or_blank (later (p ++ d ∷ []))) n.child_bitmap m.child_bitmap
+      let items : child_items later p m.child_bitmap ≡ child_items nodes p n.child_bitmap = map_same (λ d. node_or_blank (nodes (p ++ d ∷ []))) (λ d. node_or_blank (later (p ++ d ∷ []))) n.child_bitmap m.child_bitmap
       (λ i. ap (λ b. has_bit b i) same_bits) (λ d. ap node_or_blank (with_other nodes p m (p ++ d ∷ []) (snoc_not_same p d))) in
       let own_is : child_blocks sizes later p ≡ own = ap (child_blocks_of sizes later p) here
       ∙ (λ i. held (same_tier i) (same_block i) (size_in sizes (same_tier i)) (items i)) in
@@ -268,16 +264,14 @@ module _ (sizes : List ℕ) (nodes : List ℕ → Option Node) (paths : List (Li
       let once_r : times (p ++ c ∷ []) paths ≡ 1 = listed_once sizes nodes paths v hold (p ++ c ∷ []) leaf there in
       let in_p : times (p ++ c ∷ []) (without p paths) ≡ 1 = times_out p (p ++ c ∷ []) paths (omega arith) (snoc_not_same p c) ∙ once_r in
       let apart : p ≢ p ++ c ∷ [] = λ e. snoc_not_same p c (sym e) in
-      let none_p : times p (without (p ++ c ∷ []) (without p paths)) ≡ 0 =
-      times_out (p ++ c ∷ []) p (without p paths) (omega arith) apart ∙ times_out_same p paths once in
+      let none_p : times p (without (p ++ c ∷ []) (without p paths)) ≡ 0 = times_out (p ++ c ∷ []) p (without p paths) (omega arith) apart ∙ times_out_same p paths once in
       let had : has_bit n.child_bitmap c ≡ true = sym (hold.linked p c ∙ ap (λ o. has_child o c) is) ∙ ap is_some there in
       let own : List (UsedBlock Node) = held m.child_tier m.child_block (size_in sizes m.child_tier)
       (remove (child_items nodes p n.child_bitmap) (rank n.child_bitmap c)) in
       let leaf_blocks : child_blocks sizes nodes (p ++ c ∷ []) ≡ [] = ap (child_blocks_of sizes nodes (p ++ c ∷ [])) there
       ∙ ap (λ cs. held leaf.child_tier leaf.child_block (size_in sizes leaf.child_tier)
       (map (λ d. node_or_blank (nodes ((p ++ c ∷ []) ++ d ∷ []))) cs)) (bits-none leaf.child_bitmap bare) in
-      let dropped : Sound blank_node (own ++ flat_map (child_blocks sizes nodes) rest) u =
-      Sound-permuted blank_node (own ++ flat_map (child_blocks sizes nodes) (without p paths)) (own ++ flat_map (child_blocks sizes nodes) rest) u
+      let dropped : Sound blank_node (own ++ flat_map (child_blocks sizes nodes) rest) u = Sound-permuted blank_node (own ++ flat_map (child_blocks sizes nodes) (without p paths)) (own ++ flat_map (child_blocks sizes nodes) rest) u
       (IsPermutation-append_right own (flat_map (child_blocks sizes nodes) (without p paths)) (flat_map (child_blocks sizes nodes) rest)
       (subst (λ bs. IsPermutation (flat_map (child_blocks sizes nodes) (without p paths)) (bs ++ flat_map (child_blocks sizes nodes) rest)) leaf_blocks
       (flat_map_out (child_blocks sizes nodes) (p ++ c ∷ []) (without p paths) (omega arith)))) sound in

@@ -182,8 +182,7 @@ module _ {T : Type 0} (C : T → T → Type 0) (R : Option T → Option T → Ty
   pub copied_entries : (t : Shaped v2.slots w2.slots) → AreCloned C s.0.entries t.0.entries
   copied_entries t q =
       let before : get s.0.entries q ≡ value_of w.slots (read v.slots (path_of q)) (bit_of q) = s.1.1 q in
-      let after : get t.0.entries q ≡ value_at q =
-      ap (λ (y : State T). get y.entries q) (copied_only t) ∙ get_put value_at s.0.entries stored_there q in
+      let after : get t.0.entries q ≡ value_at q = ap (λ (y : State T). get y.entries q) (copied_only t) ∙ get_put value_at s.0.entries stored_there q in
       subst (λ o. IsCloned C o (get t.0.entries q)) (sym before)
       (subst (λ o. IsCloned C (value_of w.slots (read v.slots (path_of q)) (bit_of q)) o) (sym after) (of_cloned (read v.slots (path_of q)) (bit_of q)))
 
@@ -212,6 +211,5 @@ module _ {T : Type 0} (C : T → T → Type 0) (R : Option T → Option T → Ty
   pub copied_same : (z : Sized v.slots) → ((x y : T) → C x y → y ≡ x) → (t : Shaped v2.slots w2.slots) (k : Sized v2.slots) →
       seen_of v2 w2 t.0 k ≡ seen_of v w s.0 z
   copied_same z law t k =
-      let values : t.0.entries ≡ s.0.entries =
-      same_entries t.0.entries s.0.entries (λ q. cloned_same C law (get s.0.entries q) (get t.0.entries q) (copied_entries t q)) in
+      let values : t.0.entries ≡ s.0.entries = same_entries t.0.entries s.0.entries (λ q. cloned_same C law (get s.0.entries q) (get t.0.entries q) (copied_entries t q)) in
       λ i. record { entries = values i; nodes = copied_nodes t i; room = copied_room z t k i; layout = copied_layout z t k i; build = (nodes i).slots }

@@ -90,8 +90,7 @@ module _ (sizes : List ℕ) (nodes : List ℕ → Option Node) (paths : List (Li
       let g = map_get f n.child_bitmap c blank_node (has_bit-below n.child_bitmap c bit) bit in
       let s : Sound blank_node (block_of p n ∷ flat_map (child_blocks sizes nodes) (without p paths)) v = block_first p n e (let x = g.0 in omega arith) in
       let w = block_inside blank_node (block_of p n) (flat_map (child_blocks sizes nodes) (without p paths)) v s in
-      let fits : length (child_items nodes p n.child_bitmap) ≤ size_in sizes n.child_tier =
-      fits_block blank_node (block_of p n) (flat_map (child_blocks sizes nodes) (without p paths)) v s in (
+      let fits : length (child_items nodes p n.child_bitmap) ≤ size_in sizes n.child_tier = fits_block blank_node (block_of p n) (flat_map (child_blocks sizes nodes) (without p paths)) v s in (
         g.0,
         slot_of_block blank_node (block_of p n) (flat_map (child_blocks sizes nodes) (without p paths)) v (rank n.child_bitmap c) blank_node g.0 s
             ∙ g.1,
@@ -156,8 +155,7 @@ module _ (sizes : List ℕ) (nodes : List ℕ → Option Node) (paths : List (Li
       → Sound blank_node (own ++ flat_map (child_blocks sizes nodes) rest) u
       → Sound blank_node (own ++ flat_map (child_blocks sizes later) rest) (record u { slots = set u.slots s m })
   node_set rest p s n m later own u parents (at_root) is first kept under here sound =
-      let same : flat_map (child_blocks sizes later) rest ≡ flat_map (child_blocks sizes nodes) rest =
-      flat_map_same (child_blocks sizes nodes) (child_blocks sizes later) rest
+      let same : flat_map (child_blocks sizes later) rest ≡ flat_map (child_blocks sizes nodes) rest = flat_map_same (child_blocks sizes nodes) (child_blocks sizes later) rest
       (λ q h. child_blocks-same sizes nodes later q (kept q h) (λ c. under q c h (snoc_not_nil q c))) in
       subst (λ bs. Sound blank_node (own ++ bs) (record u { slots = set u.slots 0 m })) (sym same)
       (Sound-set_before blank_node (own ++ flat_map (child_blocks sizes nodes) rest) u 0 m (omega arith) sound)
@@ -171,16 +169,14 @@ module _ (sizes : List ℕ) (nodes : List ℕ → Option Node) (paths : List (Li
       (set (child_items nodes q k.child_bitmap) (rank k.child_bitmap c) m) in
       let f_is : child_blocks sizes nodes q ≡ b ∷ [] = ap (child_blocks_of sizes nodes q) parent
       ∙ held_some k.child_tier k.child_block (size_in sizes k.child_tier) (child_items nodes q k.child_bitmap) (let x = start.0 in omega arith) in
-      let items_are : child_items later q k.child_bitmap ≡ set (child_items nodes q k.child_bitmap) (rank k.child_bitmap c) m =
-      map_set (λ d. node_or_blank (nodes (q ++ d ∷ []))) (λ d. node_or_blank (later (q ++ d ∷ []))) k.child_bitmap c
+      let items_are : child_items later q k.child_bitmap ≡ set (child_items nodes q k.child_bitmap) (rank k.child_bitmap c) m = map_set (λ d. node_or_blank (nodes (q ++ d ∷ []))) (λ d. node_or_blank (later (q ++ d ∷ []))) k.child_bitmap c
       (has_bit-below k.child_bitmap c bit) bit (λ i ne. ap node_or_blank (under q i there (λ e. ne (snoc_inj q q i c e).1)))
       ∙ ap (λ y. set (child_items nodes q k.child_bitmap) (rank k.child_bitmap c) (node_or_blank y)) here in
       let g_is : child_blocks sizes later q ≡ b' ∷ [] = ap (child_blocks_of sizes later q) (kept q there ∙ parent)
       ∙ ap (held k.child_tier k.child_block (size_in sizes k.child_tier)) items_are
       ∙ held_some k.child_tier k.child_block (size_in sizes k.child_tier) (set (child_items nodes q k.child_bitmap) (rank k.child_bitmap c) m)
       (let x = start.0 in let l = length-set (child_items nodes q k.child_bitmap) (rank k.child_bitmap c) m in omega arith) in
-      let tail_is : flat_map (child_blocks sizes later) twice ≡ flat_map (child_blocks sizes nodes) twice =
-      flat_map_same (child_blocks sizes nodes) (child_blocks sizes later) twice (λ x h.
+      let tail_is : flat_map (child_blocks sizes later) twice ≡ flat_map (child_blocks sizes nodes) twice = flat_map_same (child_blocks sizes nodes) (child_blocks sizes later) twice (λ x h.
       let in_rest_x : 0 < times x rest = (let e = times_without q x rest there in omega arith) in
       child_blocks-same sizes nodes later x (kept x in_rest_x)
       (λ d. under x d in_rest_x (λ e. let z : times x twice ≡ 0 = ap (λ y. times y twice) (snoc_inj x q d c e).0
@@ -190,15 +186,12 @@ module _ (sizes : List ℕ) (nodes : List ℕ → Option Node) (paths : List (Li
       λ f. IsPermutation-trans (own ++ flat_map f rest) (own ++ (f q ++ flat_map f twice)) (f q ++ (own ++ flat_map f twice))
       (IsPermutation-append_right own (flat_map f rest) (f q ++ flat_map f twice) (flat_map_out f q rest there))
       (swap_fronts own (f q) (flat_map f twice)) in
-      let front : Sound blank_node (b ∷ (own ++ flat_map (child_blocks sizes nodes) twice)) u =
-      subst (λ bs. Sound blank_node (bs ++ (own ++ flat_map (child_blocks sizes nodes) twice)) u) f_is
+      let front : Sound blank_node (b ∷ (own ++ flat_map (child_blocks sizes nodes) twice)) u = subst (λ bs. Sound blank_node (bs ++ (own ++ flat_map (child_blocks sizes nodes) twice)) u) f_is
       (Sound-permuted blank_node (own ++ flat_map (child_blocks sizes nodes) rest)
       (child_blocks sizes nodes q ++ (own ++ flat_map (child_blocks sizes nodes) twice)) u (out (child_blocks sizes nodes)) sound) in
       let w : Store Node = record u { slots = set u.slots (child_slot k c) m } in
-      let written : Sound blank_node (b' ∷ (own ++ flat_map (child_blocks sizes nodes) twice)) w =
-      Sound-set blank_node b (own ++ flat_map (child_blocks sizes nodes) twice) u (rank k.child_bitmap c) m start.0 front in
-      let renamed : Sound blank_node (child_blocks sizes later q ++ (own ++ flat_map (child_blocks sizes later) twice)) w =
-      subst (λ bs. Sound blank_node (bs ++ (own ++ flat_map (child_blocks sizes later) twice)) w) (sym g_is)
+      let written : Sound blank_node (b' ∷ (own ++ flat_map (child_blocks sizes nodes) twice)) w = Sound-set blank_node b (own ++ flat_map (child_blocks sizes nodes) twice) u (rank k.child_bitmap c) m start.0 front in
+      let renamed : Sound blank_node (child_blocks sizes later q ++ (own ++ flat_map (child_blocks sizes later) twice)) w = subst (λ bs. Sound blank_node (bs ++ (own ++ flat_map (child_blocks sizes later) twice)) w) (sym g_is)
       (subst (λ bs. Sound blank_node (b' ∷ (own ++ bs)) w) (sym tail_is) written) in
       Sound-permuted blank_node (child_blocks sizes later q ++ (own ++ flat_map (child_blocks sizes later) twice))
       (own ++ flat_map (child_blocks sizes later) rest) w

@@ -55,8 +55,7 @@ module _ {T : Type 0} (sizes node_sizes : List ℕ) (nodes : List ℕ → Option
       → Sound None (own ++ flat_map (value_blocks sizes nodes values) (without p paths)) u → Sound None (flat_map (value_blocks sizes later after) paths) u
   cells_changed p n own later after u is own_is others sound =
       let once : times p paths ≡ 1 = listed_once node_sizes nodes paths v hold p n is in
-      let rest : flat_map (value_blocks sizes later after) (without p paths) ≡ flat_map (value_blocks sizes nodes values) (without p paths) =
-      flat_map_same (value_blocks sizes nodes values) (value_blocks sizes later after) (without p paths)
+      let rest : flat_map (value_blocks sizes later after) (without p paths) ≡ flat_map (value_blocks sizes nodes values) (without p paths) = flat_map_same (value_blocks sizes nodes values) (value_blocks sizes later after) (without p paths)
       (λ q h. others q (not_listed p (without p paths) (times_out_same p paths once) q h)) in
       node_back sizes later paths None (value_blocks sizes later after) u p (omega arith)
       (subst (λ bs. Sound None (bs ++ flat_map (value_blocks sizes later after) (without p paths)) u) (sym own_is)
@@ -70,8 +69,7 @@ module _ {T : Type 0} (sizes node_sizes : List ℕ) (nodes : List ℕ → Option
       let small = has_bit-below n.value_bitmap b bit in
       let g = map_get (values p) n.value_bitmap b None small bit in
       let put : List (Option T) = set (items_of p n) (rank n.value_bitmap b) x in
-      let own : value_blocks sizes later (with_value values p b x) p ≡ block n.value_tier n.value_block (size_in sizes n.value_tier) put ∷ [] =
-      ap (value_blocks_of sizes (with_value values p b x) p) here
+      let own : value_blocks sizes later (with_value values p b x) p ≡ block n.value_tier n.value_block (size_in sizes n.value_tier) put ∷ [] = ap (value_blocks_of sizes (with_value values p b x) p) here
       ∙ ap (held n.value_tier n.value_block (size_in sizes n.value_tier))
       (map_set (values p) (with_value values p b x p) n.value_bitmap b small bit (λ i ne. value_other values p b x p i (λ e. ne (snoc_inj p p i b e).1))
       ∙ ap (set (items_of p n) (rank n.value_bitmap b)) (value_here values p b x p b refl))
@@ -98,8 +96,7 @@ module _ {T : Type 0} (sizes node_sizes : List ℕ) (nodes : List ℕ → Option
         let g = map_get (values p) n.value_bitmap b None (has_bit-below n.value_bitmap b bit) bit in
         let s = block_first w cells.sound p n e (let x = g.0 in omega arith) in
         let at = block_inside None (block_of p n) (flat_map (value_blocks sizes nodes values) (without p paths)) w s in
-        let fits : length (items_of p n) ≤ size_in sizes n.value_tier =
-        fits_block None (block_of p n) (flat_map (value_blocks sizes nodes values) (without p paths)) w s in (
+        let fits : length (items_of p n) ≤ size_in sizes n.value_tier = fits_block None (block_of p n) (flat_map (value_blocks sizes nodes values) (without p paths)) w s in (
           g.0,
           slot_of_block None (block_of p n) (flat_map (value_blocks sizes nodes values) (without p paths)) w (rank n.value_bitmap b) None g.0 s
               ∙ g.1,
@@ -148,8 +145,7 @@ module _ {T : Type 0} (sizes node_sizes : List ℕ) (nodes : List ℕ → Option
       cells_with_child c missing =
           let gone : nodes (p ++ c ∷ []) ≡ None = is_none-None (nodes (p ++ c ∷ [])) (hold.linked p c ∙ ap (λ o. has_child o c) is ∙ missing) in
           let bare : (b : ℕ) → has_value (Some blank_node) b ≡ has_value (nodes (p ++ c ∷ [])) b = λ b. has_bit-zero b ∙ sym (ap (λ x. has_value x b) gone) in
-          let new : value_blocks sizes (with_child nodes p m c) values (p ++ c ∷ []) ≡ [] =
-          ap (value_blocks_of sizes values (p ++ c ∷ [])) (changed_below nodes p m c (Some blank_node) (p ++ c ∷ []) refl)
+          let new : value_blocks sizes (with_child nodes p m c) values (p ++ c ∷ []) ≡ [] = ap (value_blocks_of sizes values (p ++ c ∷ [])) (changed_below nodes p m c (Some blank_node) (p ++ c ∷ []) refl)
           ∙ ap (λ bs. held 0 0 (size_in sizes 0) (map (values (p ++ c ∷ [])) bs)) bits-zero in
           let rest = rest_same c (Some blank_node) bare paths (hold.listed (p ++ c ∷ []) ∙ ap (λ o. one_if (is_some o)) gone) in
           cells_around c (Some blank_node) bare ((p ++ c ∷ []) ∷ paths) (subst (λ bs. Sound None bs w) (sym (λ i. new i ++ rest i)) cells.sound)

@@ -10,13 +10,11 @@ pub way_more : (reading : List ℕ → Option Node) (path : List ℕ) (way : Lis
     length way ≡ level → IsSlot reading (take level path) (s.start + s.place) → IsWay reading path (way ++ s ∷ []) (level + 1)
 way_more reading path way level s is long next k h = elim (cases_lt k level) as (λ _. IsSlot reading (take k path) (slot_in (way ++ s ∷ []) k)) [
   | inl less ↦
-      let same : get_or (way ++ s ∷ []) k (record { start = 0; place = 0 }) ≡ get_or way k (record { start = 0; place = 0 }) =
-      get_or_append_left way (s ∷ []) (record { start = 0; place = 0 }) k (omega arith) in
+      let same : get_or (way ++ s ∷ []) k (record { start = 0; place = 0 }) ≡ get_or way k (record { start = 0; place = 0 }) = get_or_append_left way (s ∷ []) (record { start = 0; place = 0 }) k (omega arith) in
       subst (λ (x : NodeSlot). IsSlot reading (take k path) (x.start + x.place)) (sym same) (is k less)
   | inr last ↦
       let e : k ≡ length way = omega arith in
-      let same : get_or (way ++ s ∷ []) k (record { start = 0; place = 0 }) ≡ s =
-      ap (λ i. get_or (way ++ s ∷ []) i (record { start = 0; place = 0 })) e ∙ get_or-append_seam way s [] (record { start = 0; place = 0 }) in
+      let same : get_or (way ++ s ∷ []) k (record { start = 0; place = 0 }) ≡ s = ap (λ i. get_or (way ++ s ∷ []) i (record { start = 0; place = 0 })) e ∙ get_or-append_seam way s [] (record { start = 0; place = 0 }) in
       subst (λ (x : NodeSlot). IsSlot reading (take k path) (x.start + x.place)) (sym same)
       (subst (λ i. IsSlot reading (take i path) (s.start + s.place)) (let at : level ≡ k = omega arith in at) next)
 ]

@@ -49,18 +49,14 @@ module _ {T : Type 0} (v : Store Node) (w : Store (Option T)) (t : SomeTable v w
       let once : times p t.paths ≡ 1 = listed_once node_sizes t.reading t.paths v t.holds.hold p n is in
       let once2 : times q t.paths ≡ 1 = listed_once node_sizes t.reading t.paths v t.holds.hold q m at in
       let there : times q others ≡ times q t.paths = times_out p q t.paths (omega (arith, once)) ne in
-      let first : Sound None (own p n ∷ flat_map blocks_at others) w =
-      subst (λ bs. Sound None (bs ++ flat_map blocks_at others) w) (sym (ap (value_blocks_of cell_sizes t.values p) is) ∙ own_block p n b is bit)
+      let first : Sound None (own p n ∷ flat_map blocks_at others) w = subst (λ bs. Sound None (bs ++ flat_map blocks_at others) w) (sym (ap (value_blocks_of cell_sizes t.values p) is) ∙ own_block p n b is bit)
       (values_first cell_sizes node_sizes t.reading t.paths v t.holds.hold t.values w t.holds.cells p n is) in
-      let both : Sound None (own p n ∷ own q m ∷ rest) w =
-      subst (λ bs. Sound None (own p n ∷ (bs ++ rest)) w) (own_block q m c at bit2)
+      let both : Sound None (own p n ∷ own q m ∷ rest) w = subst (λ bs. Sound None (own p n ∷ (bs ++ rest)) w) (own_block q m c at bit2)
       (Sound-permuted None (own p n ∷ flat_map blocks_at others) (own p n ∷ (blocks_at q ++ rest)) w
       (IsPermutation-cons (own p n) (flat_map blocks_at others) (blocks_at q ++ rest) (flat_map_out blocks_at q others (omega (arith, there, once2)))) first) in
-      let swapped : Sound None (own q m ∷ flat_map blocks_at (without q t.paths)) w =
-      subst (λ bs. Sound None (bs ++ flat_map blocks_at (without q t.paths)) w) (sym (ap (value_blocks_of cell_sizes t.values q) at) ∙ own_block q m c at bit2)
+      let swapped : Sound None (own q m ∷ flat_map blocks_at (without q t.paths)) w = subst (λ bs. Sound None (bs ++ flat_map blocks_at (without q t.paths)) w) (sym (ap (value_blocks_of cell_sizes t.values q) at) ∙ own_block q m c at bit2)
       (values_first cell_sizes node_sizes t.reading t.paths v t.holds.hold t.values w t.holds.cells q m at) in
-      let apart : Disjoint (extent (own p n)) (extent (own q m)) =
-      All-head (Disjoint (extent (own p n))) (extent (own q m)) (map extent rest ++ free_extents w.tiers)
+      let apart : Disjoint (extent (own p n)) (extent (own q m)) = All-head (Disjoint (extent (own p n))) (extent (own q m)) (map extent rest ++ free_extents w.tiers)
       (others_apart (tier_sizes w.tiers) w.first (length w.slots) (extent (own p n)) (extent (own q m) ∷ map extent rest) (free_extents w.tiers) both.blocks) in
       let small = place_below p n b (own q m ∷ rest) bit both in
       let small2 = place_below q m c (flat_map blocks_at (without q t.paths)) bit2 swapped in
@@ -76,8 +72,7 @@ module _ {T : Type 0} (v : Store Node) (w : Store (Option T)) (t : SomeTable v w
           let both : Some b.node ≡ Some a.node = sym b.is ∙ ap t.reading way ∙ a.is in
           let node : b.node ≡ a.node = cc in
           let bits_differ : bit_of q ≢ bit_of s = (λ e. ne (string_is q s (sym way) e)) in
-          let slots : a.node.value_block + rank a.node.value_bitmap (bit_of q) ≡ a.node.value_block + rank a.node.value_bitmap (bit_of s) =
-          sym a.slot_is ∙ same ∙ b.slot_is ∙ ap (λ (n : Node). n.value_block + rank n.value_bitmap (bit_of s)) node in
+          let slots : a.node.value_block + rank a.node.value_bitmap (bit_of q) ≡ a.node.value_block + rank a.node.value_bitmap (bit_of s) = sym a.slot_is ∙ same ∙ b.slot_is ∙ ap (λ (n : Node). n.value_block + rank n.value_bitmap (bit_of s)) node in
           ranks_differ a.node.value_bitmap (bit_of q) (bit_of s) a.set (subst (λ (n : Node). has_bit n.value_bitmap (bit_of s) ≡ true) node b.set) bits_differ
           (omega (arith, slots))
       at (inr apart) =

@@ -54,8 +54,7 @@ module _ {T : Type 0} (m : Entries T) (s : List Bool) where
     -- a string that goes on by c begins nothing at other places
     stay-others : (us : List (List Bool)) → All IsShort us → All (IsOther c) us → filter (λ e. not (begins z e.0)) (listing_at_places m s us) ≡ listing_at_places m s us
     stay-others us h o =
-        let all : filter (λ e. not (begins (s ++ c) e.0)) (listing_at_places m s us) ≡ listing_at_places m s us =
-        sym (stay-places c (omega (arith, five)) us h) ∙ ap (listing_at_places m s) (none-begun us h o) in
+        let all : filter (λ e. not (begins (s ++ c) e.0)) (listing_at_places m s us) ≡ listing_at_places m s us = sym (stay-places c (omega (arith, five)) us h) ∙ ap (listing_at_places m s) (none-begun us h o) in
         ap (filter (λ e. not (begins z e.0))) (sym all)
         ∙ one-answer (λ e. not (begins z e.0)) (λ e. not (begins (s ++ c) e.0)) true (λ e b. longer e.0 b) (listing_at_places m s us)
         ∙ all

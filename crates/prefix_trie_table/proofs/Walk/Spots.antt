@@ -20,8 +20,7 @@ weight-child : (d e vs cs : ℕ) (ss : List (List Bool)) → e ≡ d + 5 → e �
 weight-child d e vs cs ss is fits all =
     let few : length ss ≤ 63 = omega (arith, ap length all, length-filter_both (is_in vs cs) (λ s. not (is_in vs cs s)) (λ s. refl) (strings 5), count-strings) in
     let level : 10 + 2 * (130 - e) ≡ 2 * (130 - d) = omega (arith, is, fits) in
-    let below : suc (length ss) * 2 ^ (2 * (130 - e)) < 2 ^ (2 * (130 - d)) =
-    subst (λ k. suc (length ss) * 2 ^ (2 * (130 - e)) < 2 ^ k) level (shl_below (suc (length ss)) 10 (2 * (130 - e)) (omega (arith, few))) in
+    let below : suc (length ss) * 2 ^ (2 * (130 - e)) < 2 ^ (2 * (130 - d)) = subst (λ k. suc (length ss) * 2 ^ (2 * (130 - e)) < 2 ^ k) level (shl_below (suc (length ss)) 10 (2 * (130 - e)) (omega (arith, few))) in
     omega (arith, below, one-less (length ss) (2 ^ (2 * (130 - e))), pow_pos (2 * (130 - e)))
 
 -- ---- which place it is
@@ -80,8 +79,7 @@ module _ {K : Type 0} (IsKey : K → Type 0) (bits : K → List Bool) (width : �
     weight_is : weight p ≡ 2 ^ (2 * (130 - p.depth)) + weight after
     weight_is =
         let e = one-less (length (to_come later)) (2 ^ (2 * (130 - p.depth))) in
-        let l : length (to_come p.places) * 2 ^ (2 * (130 - p.depth)) ≡ suc (length (to_come later)) * 2 ^ (2 * (130 - p.depth)) =
-        ap (λ ss. length ss * 2 ^ (2 * (130 - p.depth))) first in
+        let l : length (to_come p.places) * 2 ^ (2 * (130 - p.depth)) ≡ suc (length (to_come later)) * 2 ^ (2 * (130 - p.depth)) = ap (λ ss. length ss * 2 ^ (2 * (130 - p.depth))) first in
         omega (arith, e, l)
 
     pub lighter : weight after < weight p
@@ -155,8 +153,7 @@ module _ {K : Type 0} (IsKey : K → Type 0) (bits : K → List Bool) (width : �
             bits key ≡ take p.depth (bits way) ++ digits 5 b ++ rest → IsPassed bits key (record p { places = later })
         unfolding IsStrictlySortedBy
         child_passed sorted b b_is key rest extended =
-            let child : take 5 (drop p.depth (bits key)) ≡ s =
-            ap (λ k. take 5 (drop p.depth k)) (extended ∙ append_assoc (take p.depth (bits way)) (digits 5 b) rest) ∙ ap (take 5) (drop_at (take p.depth (bits way)) (digits 5 b ++ rest) p.depth string-length)
+            let child : take 5 (drop p.depth (bits key)) ≡ s = ap (λ k. take 5 (drop p.depth k)) (extended ∙ append_assoc (take p.depth (bits way)) (digits 5 b) rest) ∙ ap (take 5) (drop_at (take p.depth (bits way)) (digits 5 b ++ rest) p.depth string-length)
             ∙ take_at (digits 5 b) rest 5 (length-digits 5 b) ∙ ap₂ digits (sym five) b_is ∙ digits-number s in
             subst (λ c. All (IsOther c) (to_come later)) (sym child) (others_after s (to_come later) (subst (IsStrictlySortedBy listing_cmp) first sorted).0)
 

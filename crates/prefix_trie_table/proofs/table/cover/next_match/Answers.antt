@@ -40,8 +40,7 @@ pub way-preserved : goal.way-preserved
 way-preserved g c =
     let step = c.in-Some-step_down.ensures.step (g.K.Key.bits c.args.key) c.way.invariant.1.on_way c.behind-rest.ensures.value in
     let left = c.matches_in.ensures in
-    let now =
-    gone_down _ _ c.way.invariant.0 _ _ _ _ _ (gone_nowhere _ _ c.way.invariant.0 _ _ _ _ _ c.way.invariant.1) c.take_match.new.matches c.in_default.ensures _ _ _ _ step.0 step.1 left in (
+    let now = gone_down _ _ c.way.invariant.0 _ _ _ _ _ (gone_nowhere _ _ c.way.invariant.0 _ _ _ _ _ c.way.invariant.1) c.take_match.new.matches c.in_default.ensures _ _ _ _ step.0 step.1 left in (
       now.to,
       now.stands,
       λ before at. gone_down _ _ before _ _ _ _ _ (c.way.invariant.2 before at) c.take_match.new.matches c.in_default.ensures _ _ _ _ step.0 step.1 left,

@@ -25,8 +25,7 @@ returns-in_err-own-clause-memory g t c =
     (c.count.ensures ∙ sym (rank-ones values 32 (omega arith))) (kept c.args.node.value_bitmap c.masks-values.result.0)
     (own_within c.args.from.now c.args.node c.args.levels c.requires.source) in
     let split = slots_split value_slots c.args.from.now.slots c.args.levels c.args.node in
-    let memory : c.in_err-own.field-0.0 ≡ Memory =
-    for_memory c.in_err-own.field-0.0 (λ is. let past = c.in_err-own.ensures.range is in absurd (omega (arith, past, packed, split, c.requires.cells.space))) in
+    let memory : c.in_err-own.field-0.0 ≡ Memory = for_memory c.in_err-own.field-0.0 (λ is. let past = c.in_err-own.ensures.range is in absurd (omega (arith, past, packed, split, c.requires.cells.space))) in
     search (rules, memory)
 
 pub loop-child-init : goal.loop-child-init
@@ -157,8 +156,7 @@ returns-in_err-list-clause-memory g t c =
     let sums = ap (sum_to (slots_at_child child_slots c.args.from.now.slots c.args.levels c.args.node)) all in
     let left = can_lay_then blank_node c.args.nodes.now c.loop-child.nodes node_sizes _ _ (child_slots c.args.node) _ c.requires.nodes c.loop-child.invariant.nodes
     (omega (arith, slots_split child_slots c.args.from.now.slots c.args.levels c.args.node, sums)) in
-    let memory : c.in_err-list.field-0.0 ≡ Memory =
-    for_memory c.in_err-list.field-0.0 (λ is. let past = c.in_err-list.ensures.range is in absurd (omega (arith, past, packed, left.space))) in
+    let memory : c.in_err-list.field-0.0 ≡ Memory = for_memory c.in_err-list.field-0.0 (λ is. let past = c.in_err-list.ensures.range is in absurd (omega (arith, past, packed, left.space))) in
     search (rules, memory)
 
 pub overflow_cast-laid-2 : goal.overflow_cast-laid-2

@@ -44,8 +44,7 @@ overflow_cast-block g c =
     let h = has_list c.args.nodes.now (c.args.at.start + c.args.at.place) c.args.node.now c.count.result c.requires.stands c.requires.node
     (c.count.ensures ∙ sym (rank-ones c.args.node.now.child_bitmap 32 (omega arith))) in
     let s = c.insert_blank-block.ensures.sound h.size h.items h.live h.sound h.is_count in
-    let small : c.insert_blank-block.result.tier < 7 =
-    tier_small blank_node _ h.live c.insert_blank-block.new.self node_sizes s
+    let small : c.insert_blank-block.result.tier < 7 = tier_small blank_node _ h.live c.insert_blank-block.new.self node_sizes s
     (c.insert_blank-block.ensures.turnover.keeps.sizes ∙ c.requires.stands.0.hold.sizes_are) in
     omega arith
 
@@ -63,8 +62,7 @@ returns-clause-free g c = λ size.
     let v = c.args.nodes.now in
     let w = c.insert_blank-block.new.self in
     let same : c.count.result ≡ rank c.args.node.now.child_bitmap 32 = c.count.ensures ∙ sym (rank-ones c.args.node.now.child_bitmap 32 (omega arith)) in
-    let need : list_need v.tiers c.args.node.now.child_tier c.count.result ≡ child_need (Some c.args.node.now) =
-    ap (list_need v.tiers c.args.node.now.child_tier) same
+    let need : list_need v.tiers c.args.node.now.child_tier c.count.result ≡ child_need (Some c.args.node.now) = ap (list_need v.tiers c.args.node.now.child_tier) same
     ∙ ap (λ ns. block_needed ns (size_if_any (rank c.args.node.now.child_bitmap 32) (size_in ns c.args.node.now.child_tier)) (rank c.args.node.now.child_bitmap 32)) c.requires.stands.0.hold.sizes_are in
     let left = free_entered v w _ _ _ c.insert_blank-block.ensures.stands c.insert_blank-block.ensures.turnover size in
     subst (λ (x : Store Node). free_in v.tiers size ≤ free_in x.tiers size + one_of (child_need (Some c.args.node.now)) size) (sym c.put.ensures.slots)

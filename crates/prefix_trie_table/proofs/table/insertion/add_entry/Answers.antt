@@ -69,8 +69,7 @@ loop-level-init g c =
     let inside : c.args.reached.now.level < c.args.len / 5 = omega (arith, more) in
     let within : c.args.reached.now.level < length (path_of (take c.args.len b)) = omega (arith, inside, steps-all b c.args.len at.long) in
     let step = step-read b c.args.len now at.long c.child_bit_of-child.result more c.child_bit_of-child.ensures.value in
-    let lacks : has_bit (node_at c.args.nodes.now.slots (c.args.reached.now.at.start + c.args.reached.now.at.place)).child_bitmap c.child_bit_of-child.result ≡ false =
-    ap (λ (k : Node). has_bit k.child_bitmap c.child_bit_of-child.result) (sym at.node_is)
+    let lacks : has_bit (node_at c.args.nodes.now.slots (c.args.reached.now.at.start + c.args.reached.now.at.place)).child_bitmap c.child_bit_of-child.result ≡ false = ap (λ (k : Node). has_bit k.child_bitmap c.child_bit_of-child.result) (sym at.node_is)
     ∙ ap (has_bit c.args.reached.now.node.child_bitmap) (sym step) ∙ at.missing more in
     let first = walked_more t.reading t.values t.paths path now slot c.child_bit_of-child.result
     (c.add_child-at.result.start + c.add_child-at.result.place) c.args.nodes.now c.add_child-at.new.nodes c.args.cells.now

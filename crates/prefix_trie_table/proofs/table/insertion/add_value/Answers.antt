@@ -48,8 +48,7 @@ overflow_cast-block g c =
     let h = has_values c.args.nodes.now c.args.cells.now (c.args.at.start + c.args.at.place) c.args.node.now c.count.result c.requires.stands
     c.requires.node (c.count.ensures ∙ sym (rank-ones c.args.node.now.value_bitmap 32 (omega arith))) in
     let s = c.insert_at-block.ensures.sound h.size h.items h.live h.sound h.is_count in
-    let small : c.insert_at-block.result.tier < 7 =
-    tier_small None _ h.live c.insert_at-block.new.self cell_sizes s
+    let small : c.insert_at-block.result.tier < 7 = tier_small None _ h.live c.insert_at-block.new.self cell_sizes s
     (c.insert_at-block.ensures.turnover.keeps.sizes ∙ c.requires.stands.0.holds.cells.sizes_are) in
     omega arith
 

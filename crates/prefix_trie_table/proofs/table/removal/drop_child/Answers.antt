@@ -55,8 +55,7 @@ lost : (g : given.Over) (c : goal.After-put g) → Lost blank_node node_sizes c.
     c.visit-node.result.child_block (rank c.visit-node.result.child_bitmap 32) (rank c.visit-node.result.child_bitmap c.args.child)
     c.remove_at-rest.result.tier c.remove_at-rest.result.start
 lost g c =
-    let same : c.count.result ≡ rank c.visit-node.result.child_bitmap 32 =
-    c.count.ensures ∙ sym (rank-ones c.visit-node.result.child_bitmap 32 (omega arith)) in
+    let same : c.count.result ≡ rank c.visit-node.result.child_bitmap 32 = c.count.ensures ∙ sym (rank-ones c.visit-node.result.child_bitmap 32 (omega arith)) in
     let list = has_list c.args.nodes.now (c.args.at.start + c.args.at.place) c.visit-node.result c.count.result c.requires.stands c.visit-node.ensures.node same in
     let left = c.remove_at-rest.ensures in
     lost_one blank_node c.args.nodes.now c.remove_at-rest.new.self c.visit-node.result.child_tier c.visit-node.result.child_block c.count.result c.rank.result

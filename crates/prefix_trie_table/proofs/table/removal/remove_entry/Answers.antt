@@ -31,8 +31,7 @@ returns-clause-removed g c = λ reading paths values holds.
     let own = reached_own b c.args.len (c.args.len / 5) _ c.in-Some.node c.args.nodes.now c.in-Some.ensures.found.0 reading paths holds.hold
     (level_last (c.args.len / 5) c.args.len refl) in
     let taken = c.take_entry-value.ensures.taken reading paths values holds in
-    let slots : IsWay taken.0.later path c.deref.result.now (c.args.len / 5) =
-    subst (λ (xs : List NodeSlot). IsWay taken.0.later path xs (c.args.len / 5)) (sym c.deref.ensures.0)
+    let slots : IsWay taken.0.later path c.deref.result.now (c.args.len / 5) = subst (λ (xs : List NodeSlot). IsWay taken.0.later path xs (c.args.len / 5)) (sym c.deref.ensures.0)
     (λ k h. taken.0.stands _ _ (c.in-Some.ensures.found.2 reading paths holds.hold k h)) in
     inr (
       c.take_entry-value.new.nodes,

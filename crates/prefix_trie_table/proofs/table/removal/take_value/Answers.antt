@@ -83,8 +83,7 @@ returns-clause-value g c = λ reading paths values p n hold cells stands is.
     let at = slot_holds node_sizes reading paths c.args.nodes.now hold p (c.args.at.start + c.args.at.place) n stands is in
     let here = is ∙ ap Some (sym (c.requires.node ∙ at.0)) in
     let same : c.count.result ≡ rank c.args.node.value_bitmap 32 = c.count.ensures ∙ sym (rank-ones c.args.node.value_bitmap 32 (omega arith)) in
-    let place : c.rank.result ≡ rank c.args.node.value_bitmap c.args.bit =
-    c.rank.ensures ∙ sym (rank-ones c.args.node.value_bitmap c.args.bit (omega (arith, c.requires.bit))) in
+    let place : c.rank.result ≡ rank c.args.node.value_bitmap c.args.bit = c.rank.ensures ∙ sym (rank-ones c.args.node.value_bitmap c.args.bit (omega (arith, c.requires.bit))) in
     let got = map_get (values p) c.args.node.value_bitmap c.args.bit c.remove_at-value.result.0 (omega (arith, c.requires.bit)) c.requires.there in
     c.remove_at-value.ensures.value _ (map (values p) (bits c.args.node.value_bitmap)) _
     (values_first cell_sizes node_sizes reading paths c.args.nodes.now hold values c.args.cells.now cells p c.args.node here)

@@ -12,11 +12,9 @@ returns-clause-turnover g c =
     let t : Tier = c.push.new.self in
     let within : c.args.k < length v.lists.items = rw (← c.self.view_is) at c.requires.within in
     let at_k : old ≡ tier_at v.lists.items c.args.k = c.index_mut-list.ensures.value ∙ sym (get_or_default v.lists.items c.args.k _ old within) in
-    let is : t ≡ record (tier_at v.lists.items c.args.k) { starts = (tier_at v.lists.items c.args.k).starts ++ c.args.start ∷ [] } =
-    c.push.ensures ∙ ap (λ (u : Tier). record u { starts = u.starts ++ c.args.start ∷ [] }) at_k in
+    let is : t ≡ record (tier_at v.lists.items c.args.k) { starts = (tier_at v.lists.items c.args.k).starts ++ c.args.start ∷ [] } = c.push.ensures ∙ ap (λ (u : Tier). record u { starts = u.starts ++ c.args.start ∷ [] }) at_k in
     let size : t.size ≡ (tier_at v.lists.items c.args.k).size = ap (λ (u : Tier). u.size) is in
-    let starts : length t.starts ≡ length (tier_at v.lists.items c.args.k).starts + 1 =
-    ap (λ (u : Tier). length u.starts) is ∙ length-append (tier_at v.lists.items c.args.k).starts (c.args.start ∷ []) in
+    let starts : length t.starts ≡ length (tier_at v.lists.items c.args.k).starts + 1 = ap (λ (u : Tier). length u.starts) is ∙ length-append (tier_at v.lists.items c.args.k).starts (c.args.start ∷ []) in
     rw (← c.self.view_is) (Turnover-given _ c.args.k t (sizes_up v.lists.items c.self.invariant.2) within size _ (size_at v.lists.items c.args.k) (ap (λ (u : Tier). u.made) is) starts)
 
 pub returns-clause-sound : goal.returns-clause-sound

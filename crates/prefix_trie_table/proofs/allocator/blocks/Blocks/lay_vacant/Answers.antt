@@ -49,8 +49,7 @@ returns-in_err-obtain-clause-range g c =
     let v = c.args.self.now in
     let size : ℕ = size_in (tier_sizes c.args.self.now.tiers) c.tier_holding-tier.result in
     let made = c.in_err-obtain.ensures.err in
-    let full : c.in_err-obtain.field-0.0 ≡ IndexRange → v.limit < length v.slots + packed_slots (tier_sizes v.tiers) c.args.count =
-    λ is.
+    let full : c.in_err-obtain.field-0.0 ≡ IndexRange → v.limit < length v.slots + packed_slots (tier_sizes v.tiers) c.args.count = λ is.
     let packed = packed_size v.tiers c.args.count size c.tier_holding-tier.ensures.size (let some = c.if-count-eq0.false in omega (arith, some)) in
     let room = room_turned v c.obtain.new.self _ None None (λ n. many-none size made.0 n (let h = made.1 in omega (arith, h))) made.2 in
     let l = room.0 in let m = room.2 in

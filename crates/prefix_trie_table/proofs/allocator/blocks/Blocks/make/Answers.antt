@@ -52,8 +52,7 @@ returns-clause-made g c =
     added ∙ ap (λ (u : Tier). record u { made = u.made + 1; starts = u.starts ++ c.len-len.result ∷ [] }) (sym at_k) in
     let size : c.size_of-size.result ≡ size_in (tier_sizes v.lists.items) c.args.k = rw (← c.self.view_is) at c.size_of-size.ensures in
     let before : c.len-len.result ≡ length v.slots.items = rw (← c.self.view_is) at c.len-len.ensures.len in
-    let starts : length (c.push_made.new.self).starts ≡ length (tier_at v.lists.items c.args.k).starts + 1 =
-    ap (λ (u : Tier). length u.starts) is ∙ length-append (tier_at v.lists.items c.args.k).starts (c.len-len.result ∷ []) in
+    let starts : length (c.push_made.new.self).starts ≡ length (tier_at v.lists.items c.args.k).starts + 1 = ap (λ (u : Tier). length u.starts) is ∙ length-append (tier_at v.lists.items c.args.k).starts (c.len-len.result ∷ []) in
     let slots = c.push_vacant.ensures ∙ ap (λ xs. xs ++ replicate c.size_of-size.result g.S.Slot.vacant) c.make_room.ensures.items ∙ ap (λ n. v.slots.items ++ replicate n g.S.Slot.vacant) size in
     rw (← c.self.view_is) (Turnover-grown _ c.args.k c.push_made.new.self (sizes_up v.lists.items c.self.invariant.2) within (ap (λ (u : Tier). u.size) is) _
     (size_at v.lists.items c.args.k) g.S.Slot.vacant _ slots (omega (arith, c.self.invariant.1, v.slots.ok.0)) (omega (arith, c.if-len-size.false, size, before)) (ap (λ (u : Tier). u.made) is) starts)

@@ -29,8 +29,7 @@ returns-clause-sound g c = λ a b live s0 from to count none room.
     let s = rw (← c.self.view_is) at s0 in
     let xs = c.self.inside.slots.items in
     let n = c.args.count in
-    let written : c.move_in.new.slots.items ≡ put_run (put_run xs a.start (replicate n g.S.Slot.vacant)) b.start (insert a.items c.args.place c.args.value) =
-    c.move_in.ensures.items
+    let written : c.move_in.new.slots.items ≡ put_run (put_run xs a.start (replicate n g.S.Slot.vacant)) b.start (insert a.items c.args.place c.args.value) = c.move_in.ensures.items
     ∙ ap (λ i. put_run (put_run xs i (replicate n g.S.Slot.vacant)) c.args.to (insert (run xs i n) c.args.place c.args.value)) (sym from)
     ∙ ap (λ i. put_run (put_run xs a.start (replicate n g.S.Slot.vacant)) i (insert (run xs a.start n) c.args.place c.args.value)) (sym to)
     ∙ ap (λ ys. put_run (put_run xs a.start (replicate n g.S.Slot.vacant)) b.start (insert ys c.args.place c.args.value)) (run_items g.S.Slot.vacant a b live _ none s n count) in

@@ -75,8 +75,7 @@ returns-clause-unchanged g c = λ free.
           let o : one_of (list_need v.tiers c.args.k c.args.count) s ≡ 1 = ap (λ o. one_of o s) need ∙ many_here s 1 in omega (arith, f, h, o))
       | in_default w ↦ w.self-is
     ] in
-    let few : c.match-lacking.singles ≤ free_in c.match-lacking.self.tiers (size_in (tier_sizes c.match-lacking.self.tiers) 0) =
-    subst (λ n. c.match-lacking.singles ≤ free_in c.match-lacking.self.tiers n) (sym one)
+    let few : c.match-lacking.singles ≤ free_in c.match-lacking.self.tiers (size_in (tier_sizes c.match-lacking.self.tiers) 0) = subst (λ n. c.match-lacking.singles ≤ free_in c.match-lacking.self.tiers n) (sym one)
     (let r = way.rest 1 in let f = free 1 in let h = many_here 1 (c.match-lacking.singles - free_in c.match-lacking.self.tiers 1) in omega (arith, r, f, h)) in
     c.obtain-2.ensures.unchanged few ∙ same
 

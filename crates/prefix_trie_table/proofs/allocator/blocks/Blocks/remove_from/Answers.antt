@@ -68,8 +68,7 @@ tier_holding-tier-requires g c =
     let b = block c.args.k c.args.start u.size u.items in
     let of = tier_of_block g.S.Slot.vacant b u.live _ u.sound in
     let tiers : c.remove_within-value.new.self.tiers ≡ c.args.self.now.tiers = ap (λ (v : Store g.row.S.Denot). v.tiers) c.remove_within-value.ensures.slots in
-    let fits : c.args.count - 1 ≤ size_in (tier_sizes c.args.self.now.tiers) c.args.k =
-    omega (arith, of.size_is, fits_block g.S.Slot.vacant b u.live _ u.sound, u.is_count, size_at c.args.self.now.tiers c.args.k) in
+    let fits : c.args.count - 1 ≤ size_in (tier_sizes c.args.self.now.tiers) c.args.k = omega (arith, of.size_is, fits_block g.S.Slot.vacant b u.live _ u.sound, u.is_count, size_at c.args.self.now.tiers c.args.k) in
     subst (λ ts. IsSome (smallest_size (tier_sizes ts) (c.args.count - 1))) (sym tiers)
     (ap is_some (smallest_there c.args.self.now.tiers (c.args.count - 1) c.args.k c.requires.sizes of.within fits).found)
 
@@ -173,8 +172,7 @@ returns-clause-loses g c = record {
       let of = tier_of_block g.S.Slot.vacant b u.live _ u.sound in
       let tiers : c.remove_within-value.new.self.tiers ≡ c.args.self.now.tiers = ap (λ (v : Store g.row.S.Denot). v.tiers) c.remove_within-value.ensures.slots in
       let to : ℕ = c.tier_holding-tier.result in
-      let found : smallest_size (tier_sizes v.tiers) (c.args.count - 1) ≡ Some (size_in (tier_sizes v.tiers) to) =
-      subst (λ ts. smallest_size (tier_sizes ts) (c.args.count - 1) ≡ Some (size_in (tier_sizes ts) to)) tiers c.tier_holding-tier.ensures.size in
+      let found : smallest_size (tier_sizes v.tiers) (c.args.count - 1) ≡ Some (size_in (tier_sizes v.tiers) to) = subst (λ ts. smallest_size (tier_sizes ts) (c.args.count - 1) ≡ Some (size_in (tier_sizes ts) to)) tiers c.tier_holding-tier.ensures.size in
       let within : to < length v.tiers = subst (λ (ts : List Tier). to < length ts) tiers c.tier_holding-tier.ensures.within in
       let fits : c.args.count ≤ size_in (tier_sizes v.tiers) c.args.k = omega (arith, of.size_is, fits_block g.S.Slot.vacant b u.live _ u.sound, u.is_count, size_at v.tiers c.args.k) in
       let some : 0 < c.args.count = omega (arith, c.requires.place) in
