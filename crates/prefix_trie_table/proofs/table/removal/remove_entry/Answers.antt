@@ -1,42 +1,60 @@
-use Rattle.prefix_trie_table.proofs.Prelude.{◌/◌, inl, inr, List, take, is_some, refl, sym, ap, subst, NodeSlot, path_of, IsWay}
-use Rattle.prefix_trie_table.proofs.Removal.OneEntry.{nothing_taken, no_value}
+use Rattle.prefix_trie_table.proofs.Prelude.{◌/◌, inl, inr, List, length, take, is_some, refl, sym, ap, ◌∙◌, subst, arith, NodeSlot, path_of, IsWay}
+use Rattle.prefix_trie_table.proofs.Blocks.Turnovers.{made_same}
+use Rattle.prefix_trie_table.proofs.Insertion.Rooms.{Grows-same, Grows-after}
 use Rattle.prefix_trie_table.proofs.Lookup.Finding.{reached_own}
 use Rattle.prefix_trie_table.proofs.Lookup.Going.{level_last}
+use Rattle.prefix_trie_table.proofs.Removal.OneEntry.{nothing_taken, no_value}
 use Rattle.prefix_trie_table.proofs.table.removal.remove_entry.Goals as goal
 
-pub returns-in_default-clause-removed : goal.returns-in_default-clause-removed
-returns-in_default-clause-removed g c = λ reading paths values holds.
-    let none = c.in_default.ensures.missing reading paths holds.hold in
-    inl (none, refl, nothing_taken reading values paths c.args.nodes.now c.args.cells.now holds _ _ (no_value reading values paths _ _ holds _ _ none))
+pub returns-in_default : goal.returns-in_default
+returns-in_default g c = record {
+  value = λ reading paths values holds. sym (no_value reading values paths _ _ holds _ _ (c.in_default.ensures.missing reading paths holds.hold));
+  removed = λ reading paths values holds.
+      let none = c.in_default.ensures.missing reading paths holds.hold in
+      inl (none, refl, nothing_taken reading values paths c.args.nodes.now c.args.cells.now holds _ _ (no_value reading values paths _ _ holds _ _ none));
+  counted = omega arith;
+  node_room = Grows-same _ _ 24 refl;
+  cell_room = Grows-same _ _ 24 refl;
+}
 
-pub prune_up-requires-clause-stands : goal.prune_up-requires-clause-stands
-prune_up-requires-clause-stands g c =
+pub take_entry-value-requires : goal.take_entry-value-requires
+take_entry-value-requires g c = record { key = c.requires.key; within = c.requires.within; reached = c.in-Some.ensures.found.0; table = c.requires.table }
+
+pub prune_up-requires : goal.prune_up-requires
+prune_up-requires g c =
     let b = g.K.Key.bits c.args.key in
     let path = path_of (take c.args.len b) in
     let t = c.requires.table.0 in
     let taken = c.take_entry-value.ensures.taken t.reading t.paths t.values t.holds in
     record {
-      reading = taken.0.later;
-      paths = t.paths;
-      hold = taken.0.holds.hold;
-      slots = subst (λ (xs : List NodeSlot). IsWay taken.0.later path xs (c.args.len / 5)) (sym c.deref.ensures.0)
-          (λ k h. taken.0.stands _ _ (c.in-Some.ensures.found.2 t.reading t.paths t.holds.hold k h));
-      is = taken.1;
+      key = c.requires.key;
+      within = c.requires.within;
+      long = ap (λ (xs : List NodeSlot). length xs) c.deref.ensures.0 ∙ c.in-Some.ensures.found.1;
+      stands = record {
+        reading = taken.0.later;
+        paths = t.paths;
+        hold = taken.0.holds.hold;
+        slots = subst (λ (xs : List NodeSlot). IsWay taken.0.later path xs (c.args.len / 5)) (sym c.deref.ensures.0)
+            (λ k h. taken.0.stands _ _ (c.in-Some.ensures.found.2 t.reading t.paths t.holds.hold k h));
+        is = taken.1;
+      };
     }
 
-pub returns-clause-removed : goal.returns-clause-removed
-returns-clause-removed g c = λ reading paths values holds.
+pub returns : goal.returns
+returns g c =
     let b = g.K.Key.bits c.args.key in
     let path = path_of (take c.args.len b) in
-    let own = reached_own b c.args.len (c.args.len / 5) _ c.in-Some.node c.args.nodes.now c.in-Some.ensures.found.0 reading paths holds.hold
-    (level_last (c.args.len / 5) c.args.len refl) in
-    let taken = c.take_entry-value.ensures.taken reading paths values holds in
-    let slots : IsWay taken.0.later path c.deref.result.now (c.args.len / 5) = subst (λ (xs : List NodeSlot). IsWay taken.0.later path xs (c.args.len / 5)) (sym c.deref.ensures.0)
-    (λ k h. taken.0.stands _ _ (c.in-Some.ensures.found.2 reading paths holds.hold k h)) in
-    inr (
-      c.take_entry-value.new.nodes,
-      ap is_some own,
-      taken.0,
-      c.prune_up.ensures.pruned taken.0.later paths taken.0.holds.hold slots taken.1,
-      c.take_entry-value.ensures.node_blocks,
-    )
+    let e = c.take_entry-value.ensures in
+    record {
+      value = e.value;
+      removed = λ reading paths values holds.
+          let own = reached_own b c.args.len (c.args.len / 5) _ c.in-Some.node c.args.nodes.now c.in-Some.ensures.found.0 reading paths holds.hold
+          (level_last (c.args.len / 5) c.args.len refl) in
+          let taken = e.taken reading paths values holds in
+          let slots : IsWay taken.0.later path c.deref.result.now (c.args.len / 5) = subst (λ (xs : List NodeSlot). IsWay taken.0.later path xs (c.args.len / 5)) (sym c.deref.ensures.0)
+          (λ k h. taken.0.stands _ _ (c.in-Some.ensures.found.2 reading paths holds.hold k h)) in
+          inr (c.take_entry-value.new.nodes, ap is_some own, taken.0, c.prune_up.ensures.pruned taken.0.later paths taken.0.holds.hold slots taken.1, e.node_blocks);
+      counted = e.counted;
+      node_room = Grows-after _ _ _ 24 e.node_blocks.room (made_same c.args.nodes.now c.take_entry-value.new.nodes e.node_blocks.tiers) c.prune_up.ensures.room;
+      cell_room = e.cell_room;
+    }

@@ -1,15 +1,34 @@
-use Rattle.prefix_trie_table.proofs.Prelude.{sym}
-use Rattle.prefix_trie_table.proofs.Removal.OneEntry.{nothing_taken}
+use Rattle.prefix_trie_table.proofs.Prelude.{◌+◌, refl, sym, subst, arith, IsReached}
+use Rattle.prefix_trie_table.proofs.Insertion.Rooms.{Grows-same}
 use Rattle.prefix_trie_table.proofs.Lookup.Finding.{no_value_below}
+use Rattle.prefix_trie_table.proofs.Lookup.Going.{level_past}
+use Rattle.prefix_trie_table.proofs.Removal.OneEntry.{nothing_taken}
 use Rattle.prefix_trie_table.proofs.table.removal.remove_value.Goals as goal
 
-pub returns-then-reached-len-clause-value : goal.returns-then-reached-len-clause-value
-returns-then-reached-len-clause-value g c = λ reading paths values holds.
-    sym (no_value_below (g.K.Key.bits c.args.key) c.args.len c.descend.result.0.level _ c.descend.result.0.node c.args.nodes.now
-    c.descend.ensures.reached reading values paths c.args.cells.now holds c.if-reached-len.true)
+pub returns-then-reached-len : goal.returns-then-reached-len
+returns-then-reached-len g c =
+    let none = no_value_below (g.K.Key.bits c.args.key) c.args.len c.descend.result.0.level _ c.descend.result.0.node c.args.nodes.now c.descend.ensures.reached in
+    record {
+      value = λ reading paths values holds. sym (none reading values paths c.args.cells.now holds c.if-reached-len.true);
+      taken = λ reading paths values holds.
+          nothing_taken reading values paths c.args.nodes.now c.args.cells.now holds _ _ (none reading values paths c.args.cells.now holds c.if-reached-len.true);
+      counted = omega arith;
+      node_blocks = record { room = (refl, refl, refl); tiers = refl };
+      cell_room = Grows-same _ _ 24 refl;
+    }
 
-pub returns-then-reached-len-clause-taken : goal.returns-then-reached-len-clause-taken
-returns-then-reached-len-clause-taken g c = λ reading paths values holds.
-    nothing_taken reading values paths c.args.nodes.now c.args.cells.now holds _ _
-    (no_value_below (g.K.Key.bits c.args.key) c.args.len c.descend.result.0.level _ c.descend.result.0.node c.args.nodes.now
-    c.descend.ensures.reached reading values paths c.args.cells.now holds c.if-reached-len.true)
+pub take_entry-requires : goal.take_entry-requires
+take_entry-requires g c =
+    let at = c.descend.result.0 in
+    let end = level_past at.level c.args.len c.if-reached-len.false c.descend.ensures.reached.whole in
+    record {
+      key = c.requires.key;
+      within = c.requires.within;
+      reached = subst (λ n. IsReached (g.K.Key.bits c.args.key) c.args.len n at.node (at.at.start + at.at.place) c.args.nodes.now) end c.descend.ensures.reached;
+      table = c.requires.table;
+    }
+
+pub returns : goal.returns
+returns g c =
+    let e = c.take_entry.ensures in
+    record { value = e.value; taken = λ reading paths values holds. (e.taken reading paths values holds).0; counted = e.counted; node_blocks = e.node_blocks; cell_room = e.cell_room }
