@@ -1,7 +1,8 @@
-use Rattle.prefix_trie_table.proofs.Prelude.{◌≡◌, ◌+◌, ◌<◌, ◌∷◌, [], ◌++◌, length, replicate, length-append, get_or, sym, ap, ◌∙◌, arith, rules, length-replicate, get_or_default, get_or_append_left, Tier, tier_at, tier_sizes, size_in}
+use Rattle.prefix_trie_table.proofs.Prelude.{◌≡◌, ℕ, ◌+◌, ◌<◌, ◌≤◌, ◌↔◌, ◌∷◌, [], ◌++◌, length, replicate, length-append, get_or, set, set-get_or, sym, ap, ◌∙◌, subst, arith, rules, length-replicate, get_or_default, get_or_append_left, Memory, IndexRange, Sound, Store, Tier, tier_at, tier_sizes, size_in}
 use Rattle.prefix_trie_table.proofs.Blocks.BySize.{size_at, sizes_up}
 use Rattle.prefix_trie_table.proofs.Blocks.Turnovers.{Turnover-grown}
 use Rattle.prefix_trie_table.proofs.Blocks.Soundness.{made_fits, Sound-grown_as}
+use Rattle.prefix_trie_table.proofs.Blocks.Told.{told_ok, told_err}
 use Rattle.prefix_trie_table.proofs.Blocks.Tiers.{sizes_kept, made_within, sizes_positive}
 use Rattle.prefix_trie_table.proofs.allocator.blocks.Blocks.make.Goals as goal
 
@@ -10,7 +11,7 @@ invariant_of-self-2 g c =
     let v = c.self.inside in
     let old = c.index_mut-list.result.now in
     let within : c.args.k < length v.lists.items = rw (← c.self.view_is) at c.requires in
-    let added : c.push_made.new.self ≡ record old { made = old.made + 1; starts = old.starts ++ c.len-len.result ∷ [] } = search rules in
+    let added : c.push_made.new.self ≡ record old { made = old.made + 1; starts = old.starts ++ c.len-len.result ∷ [] } = told_ok c.push_made.result c.if-is_err-2.ensures.value c.push_made.ensures.ok in
     let size : c.size_of-size.result ≡ old.size = (rw (← c.self.view_is) at c.size_of-size.ensures) ∙ sym (size_at v.lists.items c.args.k) ∙ ap (λ (t : Tier). t.size) (get_or_default v.lists.items c.args.k _ old within ∙ sym c.index_mut-list.ensures.value) in
     let len : length c.push_vacant.new.slots.items ≡ length v.slots.items + old.size = ap (λ xs. length xs) c.push_vacant.ensures ∙ length-append c.make_room.new.items.items (replicate c.size_of-size.result g.S.Slot.vacant) ∙ (let r = length-replicate c.size_of-size.result g.S.Slot.vacant in let e : length c.make_room.new.items.items ≡ length v.slots.items = ap (λ xs. length xs) c.make_room.ensures.items in omega arith) in
     let made = made_fits v.lists.items c.args.k old c.push_made.new.self (old.starts ++ c.len-len.result ∷ []) v.first (length v.slots.items) within c.index_mut-list.ensures.value added (c.self.invariant.1 ∙ v.slots.ok.0) in
@@ -24,12 +25,42 @@ returns-clause-sound g c = λ live s.
     let old = c.index_mut-list.result.now in
     let within : c.args.k < length v.lists.items = rw (← c.self.view_is) at c.requires in
     let at_k : tier_at v.lists.items c.args.k ≡ old = get_or_default v.lists.items c.args.k _ old within ∙ sym c.index_mut-list.ensures.value in
-    let added : c.push_made.new.self ≡ record old { made = old.made + 1; starts = old.starts ++ c.len-len.result ∷ [] } = search rules in
+    let added : c.push_made.new.self ≡ record old { made = old.made + 1; starts = old.starts ++ c.len-len.result ∷ [] } = told_ok c.push_made.result c.if-is_err-2.ensures.value c.push_made.ensures.ok in
     let size : c.size_of-size.result ≡ (tier_at v.lists.items c.args.k).size = (rw (← c.self.view_is) at c.size_of-size.ensures) ∙ sym (size_at v.lists.items c.args.k) in
     Sound-grown_as g.S.Slot.vacant live _ c.args.k c.size_of-size.result c.len-len.result c.push_made.new.self c.push_vacant.new.slots.items within (c.push_vacant.ensures ∙ ap (λ xs. xs ++ replicate c.size_of-size.result g.S.Slot.vacant) c.make_room.ensures.items) size (rw (← c.self.view_is) at c.len-len.ensures.len) (added ∙ ap (λ (t : Tier). record t { made = t.made + 1; starts = t.starts ++ c.len-len.result ∷ [] }) (sym at_k)) (rw (← c.self.view_is) at s)
 
 pub returns-then-len-size-clause-range : goal.returns-then-len-size-clause-range
 returns-then-len-size-clause-range g c = search rules
+
+-- memory was refused where the limit has room
+no_range : (limit len size : ℕ) → len + size ≤ limit → (Memory ≡ IndexRange) ↔ (limit < len + size)
+no_range limit len size fits = (λ e. search (rules, e), λ more. absurd (omega (arith, fits, more)))
+
+pub returns-then-is_err : goal.returns-then-is_err
+returns-then-is_err g c =
+    let v = c.self.inside in
+    let same : (record { slots = c.make_room.new.items.items; first = v.first; tiers = v.lists.items; limit = v.limit }) ≡ c.args.self.now = rw (← c.self.view_is) (λ i. record { slots = c.make_room.ensures.items i; first = v.first; tiers = v.lists.items; limit = v.limit }) in
+    record {
+      made = tt;
+      err = same;
+      range = no_range _ _ _ (omega (arith, c.if-len-size.false, c.size_of-size.ensures, c.len-len.ensures.len, ap (λ (a : Store g.row.S.Denot). a.limit) c.self.view_is));
+      kept = λ i d h. ap (λ (a : Store g.row.S.Denot). get_or a.slots i d) same;
+      sound = λ live s. subst (Sound g.S.Slot.vacant live) (sym same) s;
+    }
+
+pub returns-then-is_err-2 : goal.returns-then-is_err-2
+returns-then-is_err-2 g c =
+    let v = c.self.inside in
+    let list = told_err c.push_made.result c.if-is_err-2.ensures.value c.push_made.ensures.err in
+    let lists = ap (set v.lists.items c.args.k) (list ∙ c.index_mut-list.ensures.value) ∙ set-get_or v.lists.items c.args.k c.index_mut-list.result.now in
+    let same : (record { slots = c.make_room.new.items.items; first = v.first; tiers = set v.lists.items c.args.k c.push_made.new.self; limit = v.limit }) ≡ c.args.self.now = rw (← c.self.view_is) (λ i. record { slots = c.make_room.ensures.items i; first = v.first; tiers = lists i; limit = v.limit }) in
+    record {
+      made = tt;
+      err = same;
+      range = no_range _ _ _ (omega (arith, c.if-len-size.false, c.size_of-size.ensures, c.len-len.ensures.len, ap (λ (a : Store g.row.S.Denot). a.limit) c.self.view_is));
+      kept = λ i d h. ap (λ (a : Store g.row.S.Denot). get_or a.slots i d) same;
+      sound = λ live s. subst (Sound g.S.Slot.vacant live) (sym same) s;
+    }
 
 pub push_made-requires : goal.push_made-requires
 push_made-requires g c =
@@ -47,7 +78,7 @@ returns-clause-made g c =
     let old = c.index_mut-list.result.now in
     let within : c.args.k < length v.lists.items = rw (← c.self.view_is) at c.requires in
     let at_k : tier_at v.lists.items c.args.k ≡ old = get_or_default v.lists.items c.args.k _ old within ∙ sym c.index_mut-list.ensures.value in
-    let added : c.push_made.new.self ≡ record old { made = old.made + 1; starts = old.starts ++ c.len-len.result ∷ [] } = search rules in
+    let added : c.push_made.new.self ≡ record old { made = old.made + 1; starts = old.starts ++ c.len-len.result ∷ [] } = told_ok c.push_made.result c.if-is_err-2.ensures.value c.push_made.ensures.ok in
     let is : c.push_made.new.self ≡ record (tier_at v.lists.items c.args.k) { made = (tier_at v.lists.items c.args.k).made + 1; starts = (tier_at v.lists.items c.args.k).starts ++ c.len-len.result ∷ [] } =
     added ∙ ap (λ (u : Tier). record u { made = u.made + 1; starts = u.starts ++ c.len-len.result ∷ [] }) (sym at_k) in
     let size : c.size_of-size.result ≡ size_in (tier_sizes v.lists.items) c.args.k = rw (← c.self.view_is) at c.size_of-size.ensures in
