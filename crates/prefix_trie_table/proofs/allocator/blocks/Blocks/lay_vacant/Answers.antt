@@ -1,9 +1,23 @@
 use Rattle.prefix_trie_table.proofs.Prelude.{◌≡◌, ℕ, ◌+◌, ◌-◌, ◌<◌, ◌≤◌, ◌++◌, [], ◌∷◌, length, replicate, None, Some, refl, sym, ap, ◌∙◌, subst, arith, rules, Contains, length-replicate, IndexRange, smallest_size, packed_slots, Sound, Turnover, block, tier_at, tier_sizes, size_in, free_in, many_of, none_of}
-use Rattle.prefix_trie_table.proofs.Blocks.BySize.{size_at, sizes_up, size_among, tiers_long, smallest_holds, many-none}
+use Rattle.prefix_trie_table.proofs.Blocks.BySize.{size_at, sizes_up, size_among, tiers_long, smallest_holds, many_here, many-none}
 use Rattle.prefix_trie_table.proofs.Blocks.Laying.{Sound-vacant, laid_none_free, laid_longer, packed_size}
 use Rattle.prefix_trie_table.proofs.Blocks.Turnovers.{Keeps-then, size_kept, room_turned}
 use Rattle.prefix_trie_table.proofs.Tree.Trees.{held_some}
 use Rattle.prefix_trie_table.proofs.allocator.blocks.Blocks.lay_vacant.Goals as goal
+
+pub obtain-requires : goal.obtain-requires
+obtain-requires g c = c.tier_holding-tier.ensures.within
+
+pub take-start-requires : goal.take-start-requires
+take-start-requires g c =
+    let v = c.args.self.now in
+    let u = c.obtain.new.self in
+    let size : ℕ = size_in (tier_sizes c.args.self.now.tiers) c.tier_holding-tier.result in
+    let made : Turnover v u (many_of size (1 - free_in v.tiers size)) None None = c.in_ok-obtain.ensures.made in
+    record {
+      within = omega (arith, tiers_long u.tiers (tier_sizes v.tiers) made.keeps.sizes, tiers_long v.tiers (tier_sizes v.tiers) refl, c.tier_holding-tier.ensures.within);
+      ready = subst (λ n. 0 < free_in u.tiers n) (sym (ap (λ ns. size_in ns c.tier_holding-tier.result) made.keeps.sizes)) (omega (arith, made.free_is size, many_here size (1 - free_in v.tiers size)));
+    }
 
 pub returns-clause-laid : goal.returns-clause-laid
 returns-clause-laid g c =
@@ -13,7 +27,7 @@ returns-clause-laid g c =
     let w = c.take-start.new.self in
     let size : ℕ = size_in (tier_sizes c.args.self.now.tiers) c.tier_holding-tier.result in
     let found : smallest_size (tier_sizes v.tiers) c.args.count ≡ Some size = c.tier_holding-tier.ensures.size in
-    let made : Turnover v u (many_of size (1 - free_in v.tiers size)) None None = search rules in
+    let made : Turnover v u (many_of size (1 - free_in v.tiers size)) None None = c.in_ok-obtain.ensures.made in
     let took = subst (λ ns. Turnover u w none_of None (Some (size_in ns k))) made.keeps.sizes c.take-start.ensures.turnover in
     let many = length-replicate c.args.count g.S.Slot.vacant in
     let fits : c.args.count ≤ (tier_at v.tiers k).size = (let h = (smallest_holds (tier_sizes v.tiers) c.args.count size found).1 in omega (arith, h, size_at v.tiers k)) in
@@ -38,7 +52,7 @@ returns-clause-longer g c =
     let u = c.obtain.new.self in
     let w = c.take-start.new.self in
     let size : ℕ = size_in (tier_sizes c.args.self.now.tiers) c.tier_holding-tier.result in
-    let made : Turnover v u (many_of size (1 - free_in v.tiers size)) None None = search rules in
+    let made : Turnover v u (many_of size (1 - free_in v.tiers size)) None None = c.in_ok-obtain.ensures.made in
     let took = subst (λ ns. Turnover u w none_of None (Some (size_in ns k))) made.keeps.sizes c.take-start.ensures.turnover in
     let among : Contains (tier_sizes v.tiers) size = size_among (tier_sizes v.tiers) k (let l = tiers_long v.tiers (tier_sizes v.tiers) refl in let i = c.tier_holding-tier.ensures.within in omega (arith, l, i)) in
     let packed = packed_size v.tiers c.args.count size c.tier_holding-tier.ensures.size (let some = c.if-count-eq0.false in omega (arith, some)) in

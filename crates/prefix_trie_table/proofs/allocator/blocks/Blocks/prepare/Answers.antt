@@ -1,4 +1,4 @@
-use Rattle.prefix_trie_table.proofs.Prelude.{◌≡◌, ℕ, ◌+◌, ◌-◌, ◌<◌, ◌≤◌, ◌↔◌, Option, None, Some, OnOk, OnErr, IfErr, length, refl, sym, ap, ◌∙◌, subst, arith, option_map, Contains, err_from_is_err_and, IndexRange, one_of, Store, Turnover, free_in, many_of, needs, list_need, tier_sizes, size_in}
+use Rattle.prefix_trie_table.proofs.Prelude.{◌≡◌, ℕ, List, UsedBlock, Sound, SameSlots, ◌+◌, ◌-◌, ◌<◌, ◌≤◌, ◌↔◌, Option, None, Some, OnOk, OnErr, IfErr, length, refl, sym, ap, ◌∙◌, subst, arith, option_map, Contains, err_from_is_err_and, IndexRange, one_of, Store, Turnover, free_in, many_of, needs, list_need, tier_sizes, size_in}
 use Rattle.prefix_trie_table.proofs.Blocks.BySize.{sizes_up, size_among, tiers_long, first_size, sizes_rise, many_here}
 use Rattle.prefix_trie_table.proofs.Blocks.Preparing.{LastWay, way_same, way_own, way_first, way_second, how_many-needs, obtained, obtained_part}
 use Rattle.prefix_trie_table.proofs.allocator.blocks.Blocks.prepare.Given as given
@@ -29,6 +29,32 @@ last g c =
           (way_second v w.obtain.new.self s c.args.lists (λ e. omega (arith, e, up, first)) w.in_ok-obtain.ensures.made))
       | in_default w ↦ seen None v (need None w.in_default.is) w.self-is (way_same v None c.args.lists c.match-lacking.singles (λ size. omega (arith, ap (λ n. many_of 1 n size) w.singles-is)))
     ]
+
+-- what was in use before the last call is as it was
+held : (g : given.Over) (c : goal.After-obtain-2 g) → SameSlots c.args.self.now c.match-lacking.self × ((live : List (UsedBlock g.row.S.Denot)) → Sound g.S.Slot.vacant live c.args.self.now → Sound g.S.Slot.vacant live c.match-lacking.self)
+held g c =
+    let stays = λ (u : Store g.row.S.Denot) (is : c.match-lacking.self ≡ u) (kept : SameSlots c.args.self.now u) (sound : (live : List (UsedBlock g.row.S.Denot)) → Sound g.S.Slot.vacant live c.args.self.now → Sound g.S.Slot.vacant live u).
+    subst (λ x. SameSlots c.args.self.now x × ((live : List (UsedBlock g.row.S.Denot)) → Sound g.S.Slot.vacant live c.args.self.now → Sound g.S.Slot.vacant live x)) (sym is) (kept, sound) in
+    elim c.match-lacking.branch [
+      | in-Some+then-tier-eq0 w ↦ stays c.args.self.now w.self-is (λ i d h. refl) (λ live s. s)
+      | in-Some+else-tier-eq0+in_ok-obtain w ↦ stays w.obtain.new.self w.self-is w.obtain.ensures.kept w.obtain.ensures.sound
+      | in_default w ↦ stays c.args.self.now w.self-is (λ i d h. refl) (λ live s. s)
+    ]
+
+pub obtain-requires : goal.obtain-requires
+obtain-requires g c = c.in-Some.ensures.within
+
+pub returns-clause-kept : goal.returns-clause-kept
+returns-clause-kept g c = λ i d h. c.obtain-2.ensures.kept i d (omega (arith, h, (last g c).way.turnover.keeps.longer)) ∙ (held g c).0 i d h
+
+pub returns-clause-sound : goal.returns-clause-sound
+returns-clause-sound g c = λ live s. c.obtain-2.ensures.sound live ((held g c).1 live s)
+
+pub returns-in_err-obtain-clause-kept : goal.returns-in_err-obtain-clause-kept
+returns-in_err-obtain-clause-kept g c = c.obtain.ensures.kept
+
+pub returns-in_err-obtain-clause-sound : goal.returns-in_err-obtain-clause-sound
+returns-in_err-obtain-clause-sound g c = c.obtain.ensures.sound
 
 pub returns-clause-obtains : goal.returns-clause-obtains
 returns-clause-obtains g c =
