@@ -108,8 +108,7 @@ slots_of-le (size ∷ sizes) m n le = (let rest = slots_of-le sizes m n le in om
 
 pub slots_of-same : (sizes : List ℕ) (m n : ℕ → ℕ) → ((size : ℕ) → Contains sizes size → m size ≡ n size) → slots_of sizes m ≡ slots_of sizes n
 slots_of-same [] m n e = refl
-slots_of-same (size ∷ sizes) m n e =
-    ap₂ (λ a b. size * a + b) (e size (first_in size sizes)) (slots_of-same sizes m n (λ s at. e s (later_in size sizes s at)))
+slots_of-same (size ∷ sizes) m n e = ap₂ (λ a b. size * a + b) (e size (first_in size sizes)) (slots_of-same sizes m n (λ s at. e s (later_in size sizes s at)))
 
 pub slots_of-add : (sizes : List ℕ) (m n : ℕ → ℕ) → slots_of sizes (λ s. m s + n s) ≡ slots_of sizes m + slots_of sizes n
 slots_of-add [] m n = refl
@@ -176,8 +175,7 @@ sizes_rise below (s ∷ sizes) up zero zero less inside = absurd (omega (arith, 
 sizes_rise below (s ∷ sizes) up zero (suc k) less inside =
     above s sizes (both (nat_lt below s) (goes_up s sizes) up).1 (size_in sizes k) (size_among sizes k (omega (arith, inside)))
 sizes_rise below (s ∷ sizes) up (suc j) zero less inside = absurd (omega (arith, less))
-sizes_rise below (s ∷ sizes) up (suc j) (suc k) less inside =
-    sizes_rise s sizes (both (nat_lt below s) (goes_up s sizes) up).1 j k (omega (arith, less)) (omega (arith, inside))
+sizes_rise below (s ∷ sizes) up (suc j) (suc k) less inside = sizes_rise s sizes (both (nat_lt below s) (goes_up s sizes) up).1 j k (omega (arith, less)) (omega (arith, inside))
 
 -- ---- the block of a list
 

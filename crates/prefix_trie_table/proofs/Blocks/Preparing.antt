@@ -17,8 +17,7 @@ how_many-needs (Some n) lists size = omega (arith, how_many-more size n (replica
 module _ {S : Type 0} where
   -- the lacking slots, size by size
   pub slots_lacking-are : (v : Store S) (needed : List ℕ) → goes_up 0 (tier_sizes v.tiers) ≡ true → slots_lacking v needed ≡ slots_of (tier_sizes v.tiers) (lacking_in v needed)
-  slots_lacking-are v needed up =
-      slots_lack 0 (tier_sizes v.tiers) (free_counts v.tiers) needed up (length-map v.tiers (λ t. length t.starts) ∙ sym (length-map v.tiers (λ t. t.size)))
+  slots_lacking-are v needed up = slots_lack 0 (tier_sizes v.tiers) (free_counts v.tiers) needed up (length-map v.tiers (λ t. length t.starts) ∙ sym (length-map v.tiers (λ t. t.size)))
 
   -- of the lacking blocks some were made, and n of the size s must be free yet
   pub record Way (v w : Store S) (needed : List ℕ) (s n : ℕ) : Type 0 where

@@ -18,30 +18,25 @@ module _ {X : Type 0} where
   length-run xs a n inside = length-take-le n (drop a xs) (omega (arith, length-drop a xs))
 
   pub length-put_run : (xs : List X) (a : ℕ) (ys : List X) → a + length ys ≤ length xs → length (put_run xs a ys) ≡ length xs
-  length-put_run xs a ys inside =
-      omega (arith, length-append (take a xs) (ys ++ drop (a + length ys) xs), length-append ys (drop (a + length ys) xs), length-take a xs, length-drop (a + length ys) xs)
+  length-put_run xs a ys inside = omega (arith, length-append (take a xs) (ys ++ drop (a + length ys) xs), length-append ys (drop (a + length ys) xs), length-take a xs, length-drop (a + length ys) xs)
 
   -- what stands in a run of the front
   pub run-append_left : (xs ys : List X) (a n : ℕ) → a + n ≤ length xs → run (xs ++ ys) a n ≡ run xs a n
-  run-append_left xs ys a n inside =
-      rw (drop-append-le a xs ys (omega arith)) (take-append-le n (drop a xs) ys (omega (arith, length-drop a xs)))
+  run-append_left xs ys a n inside = rw (drop-append-le a xs ys (omega arith)) (take-append-le n (drop a xs) ys (omega (arith, length-drop a xs)))
 
   pub run-append_right : (xs ys : List X) (n : ℕ) → n ≡ length ys → run (xs ++ ys) (length xs) n ≡ ys
-  run-append_right xs ys n e =
-      rw (drop_at xs ys (length xs) refl) (ap (λ m. take m ys) e ∙ take_all (length ys) ys (omega arith))
+  run-append_right xs ys n e = rw (drop_at xs ys (length xs) refl) (ap (λ m. take m ys) e ∙ take_all (length ys) ys (omega arith))
 
   -- a list round its run
   pub round_run : (xs : List X) (a n : ℕ) → xs ≡ take a xs ++ (run xs a n ++ drop (a + n) xs)
-  round_run xs a n =
-      sym (take-append-drop a xs) ∙ ap (λ ys. take a xs ++ ys) (sym (take-append-drop n (drop a xs)) ∙ ap (λ ys. run xs a n ++ ys) (drop-drop n a xs))
+  round_run xs a n = sym (take-append-drop a xs) ∙ ap (λ ys. take a xs ++ ys) (sym (take-append-drop n (drop a xs)) ∙ ap (λ ys. run xs a n ++ ys) (drop-drop n a xs))
 
   -- a run written over itself
   pub put_run_self : (xs : List X) (a n : ℕ) → a + n ≤ length xs → put_run xs a (run xs a n) ≡ xs
   put_run_self xs a n inside = ap (λ k. take a xs ++ (run xs a n ++ drop (a + k) xs)) (length-run xs a n inside) ∙ sym (round_run xs a n)
 
   pub run-put_run_same : (xs : List X) (a : ℕ) (ys : List X) → a + length ys ≤ length xs → run (put_run xs a ys) a (length ys) ≡ ys
-  run-put_run_same xs a ys inside =
-      rw (drop_at (take a xs) (ys ++ drop (a + length ys) xs) a (length-take-le a xs (omega arith))) (take_at ys (drop (a + length ys) xs) (length ys) refl)
+  run-put_run_same xs a ys inside = rw (drop_at (take a xs) (ys ++ drop (a + length ys) xs) a (length-take-le a xs (omega arith))) (take_at ys (drop (a + length ys) xs) (length ys) refl)
 
   pub run-put_run_other : (xs : List X) (a : ℕ) (ys : List X) (b n : ℕ) → a + length ys ≤ length xs → Apart a (length ys) b n → run (put_run xs a ys) b n ≡ run xs b n
   run-put_run_other xs a ys b n inside apart = elim (cases_lt b (a + length ys)) as (λ _. run (put_run xs a ys) b n ≡ run xs b n) [
@@ -80,8 +75,7 @@ module _ {X : Type 0} where
   get_or-run xs a n i d h = get_or-take n (drop a xs) i d h ∙ get_or-drop a xs i d
 
   pub get_or-put_run_in : (xs : List X) (a : ℕ) (ys : List X) (i : ℕ) (d : X) → a + length ys ≤ length xs → i < length ys → get_or (put_run xs a ys) (a + i) d ≡ get_or ys i d
-  get_or-put_run_in xs a ys i d inside h =
-      sym (get_or-run (put_run xs a ys) a (length ys) i d h) ∙ ap (λ zs. get_or zs i d) (run-put_run_same xs a ys inside)
+  get_or-put_run_in xs a ys i d inside h = sym (get_or-run (put_run xs a ys) a (length ys) i d h) ∙ ap (λ zs. get_or zs i d) (run-put_run_same xs a ys inside)
 
   pub get_or-put_run_out : (xs : List X) (a : ℕ) (ys : List X) (k : ℕ) (d : X) → a + length ys ≤ length xs → (k < a + length ys → k < a) → get_or (put_run xs a ys) k d ≡ get_or xs k d
   get_or-put_run_out xs a ys k d inside out =

@@ -6,8 +6,7 @@ use Rattle.prefix_trie_table.proofs.Blocks.Tilings.{blocks_sum}
 -- a sum over lists joined end to end
 pub sum_by-flat_map : {X Y : Type 0} (h : Y → ℕ) (g : X → List Y) (xs : List X) → sum_by h (flat_map g xs) ≡ sum_by (λ x. sum_by h (g x)) xs
 sum_by-flat_map h g [] = refl
-sum_by-flat_map h g (x ∷ xs) =
-    sum_by-append h (g x) (flat_map g xs) ∙ ap (λ n. sum_by h (g x) + n) (sum_by-flat_map h g xs) ∙ sym (sum_by-cons (λ y. sum_by h (g y)) x xs)
+sum_by-flat_map h g (x ∷ xs) = sum_by-append h (g x) (flat_map g xs) ∙ ap (λ n. sum_by h (g x) + n) (sum_by-flat_map h g xs) ∙ sym (sum_by-cons (λ y. sum_by h (g y)) x xs)
 
 -- terms that are the same have the same sum
 pub sum_by-same : {X : Type 0} (f g : X → ℕ) (xs : List X) → ((x : X) → g x ≡ f x) → sum_by g xs ≡ sum_by f xs

@@ -63,8 +63,7 @@ module _ {S : Type 0} where
   -- a fact of each extent is one of each block
   pub All-extent : (P : Extent → Type 0) (live : List (UsedBlock S)) → All P (map extent live) → All (λ b. P (extent b)) live
   All-extent P [] all = All-nil (λ b. P (extent b))
-  All-extent P (b ∷ live) all =
-      All-cons (λ b. P (extent b)) b live (All-head P (extent b) (map extent live) all) (All-extent P live (All-tail P (extent b) (map extent live) all))
+  All-extent P (b ∷ live) all = All-cons (λ b. P (extent b)) b live (All-head P (extent b) (map extent live) all) (All-extent P live (All-tail P (extent b) (map extent live) all))
 
   length-filled : (vacant : S) (n : ℕ) (xs : List S) → length xs ≤ n → length (filled vacant n xs) ≡ n
   length-filled vacant n xs fits =
@@ -155,12 +154,10 @@ module _ {S : Type 0} where
   count_of k live = count_by (λ (b : UsedBlock S). eqb b.tier k) live
 
   count-cons_same : (b : UsedBlock S) (live : List (UsedBlock S)) (k : ℕ) → b.tier ≡ k → count_of k (b ∷ live) ≡ suc (count_of k live)
-  count-cons_same b live k e =
-      omega (arith, sum_by-cons (one_of k) b live, count_same b k e)
+  count-cons_same b live k e = omega (arith, sum_by-cons (one_of k) b live, count_same b k e)
 
   count-cons_other : (b : UsedBlock S) (live : List (UsedBlock S)) (k : ℕ) → b.tier ≢ k → count_of k (b ∷ live) ≡ count_of k live
-  count-cons_other b live k e =
-      omega (arith, sum_by-cons (one_of k) b live, count_other b k e)
+  count-cons_other b live k e = omega (arith, sum_by-cons (one_of k) b live, count_other b k e)
 
   -- a free block comes into use
   pub Sound-taken : (vacant : S) (live : List (UsedBlock S)) (v : Store S) (k : ℕ) (t : Tier) (x : ℕ) → k < length v.tiers → t.size ≡ (tier_at v.tiers k).size → t.made ≡ (tier_at v.tiers k).made → (tier_at v.tiers k).starts ≡ t.starts ++ x ∷ [] → Sound vacant live v → Sound vacant (block k x (tier_at v.tiers k).size [] ∷ live) (with_tier v k t)
@@ -266,8 +263,7 @@ module _ {S : Type 0} where
 
   -- the first two blocks change places
   pub Sound-exchanged : (vacant : S) (a b : UsedBlock S) (live : List (UsedBlock S)) (v : Store S) → Sound vacant (a ∷ b ∷ live) v → Sound vacant (b ∷ a ∷ live) v
-  Sound-exchanged vacant a b live v s =
-      Sound-permuted vacant (a ∷ b ∷ live) (b ∷ a ∷ live) v (IsPermutation-middle (a ∷ []) b live) s
+  Sound-exchanged vacant a b live v s = Sound-permuted vacant (a ∷ b ∷ live) (b ∷ a ∷ live) v (IsPermutation-middle (a ∷ []) b live) s
 
   -- the tier of a block in use
   pub tier_of_block : (vacant : S) (b : UsedBlock S) (live : List (UsedBlock S)) (v : Store S) → Sound vacant (b ∷ live) v → IsOfTier v.tiers b
@@ -302,8 +298,7 @@ none_made ts = All-map (λ t. (t.made ≡ 0) × (t.starts ≡ [])) (λ (t : Tier
 
 none_free : (ts : List Tier) → All (λ t. (t.made ≡ 0) × (t.starts ≡ [])) ts → free_extents ts ≡ []
 none_free [] none = refl
-none_free (t ∷ ts) none =
-    ap (λ xs. map (of_size t.size) xs ++ free_extents ts) (none 0 t (omega arith)).1 ∙ none_free ts (All-tail (λ u. (u.made ≡ 0) × (u.starts ≡ [])) t ts none)
+none_free (t ∷ ts) none = ap (λ xs. map (of_size t.size) xs ++ free_extents ts) (none 0 t (omega arith)).1 ∙ none_free ts (All-tail (λ u. (u.made ≡ 0) × (u.starts ≡ [])) t ts none)
 
 module _ {S : Type 0} where
   pub Sound-new : (vacant : S) (v : Store S) → v.first ≡ length v.slots → All (λ t. (t.made ≡ 0) × (t.starts ≡ [])) v.tiers → Sound vacant [] v

@@ -6,8 +6,7 @@ use Rattle.prefix_trie_table.proofs.Blocks.BySize.{size_at, sizes_set, tiers_lon
 
 pub sizes_kept : (ts : List Tier) (k : ℕ) (t : Tier) → HasSizes ts → t.size ≡ (tier_at ts k).size → HasSizes (set ts k t)
 unfolding HasSizes
-sizes_kept ts k t has same =
-    ⊎_elim (λ (e : tier_sizes ts ≡ cell_sizes). inl (sizes_set ts k t same ∙ e)) (λ (e : tier_sizes ts ≡ node_sizes). inr (sizes_set ts k t same ∙ e)) has
+sizes_kept ts k t has same = ⊎_elim (λ (e : tier_sizes ts ≡ cell_sizes). inl (sizes_set ts k t same ∙ e)) (λ (e : tier_sizes ts ≡ node_sizes). inr (sizes_set ts k t same ∙ e)) has
 
 -- a tier of which a block is taken or given back: the slots that the tiers take, and their sizes
 pub tier_turned : (ts : List Tier) (k first len : ℕ) (t old : Tier) → k < length ts → old ≡ get_or ts k old → t.size ≡ old.size → t.made ≡ old.made →
@@ -33,8 +32,7 @@ node_tiers = inr refl
 
 pub cleared_sizes : (ts : List Tier) → HasSizes ts → HasSizes (map (λ t. no_blocks t.size) ts)
 unfolding HasSizes
-cleared_sizes ts has =
-    ⊎_elim (λ (e : tier_sizes ts ≡ cell_sizes). inl (none_sizes ts ∙ e)) (λ (e : tier_sizes ts ≡ node_sizes). inr (none_sizes ts ∙ e)) has
+cleared_sizes ts has = ⊎_elim (λ (e : tier_sizes ts ≡ cell_sizes). inl (none_sizes ts ∙ e)) (λ (e : tier_sizes ts ≡ node_sizes). inr (none_sizes ts ∙ e)) has
 
 -- each size of the two arrays
 module _ (P : ℕ → Type 0) (cells : (k : ℕ) → k < 7 → P (size_in cell_sizes k)) (nodes : (k : ℕ) → k < 7 → P (size_in node_sizes k)) where

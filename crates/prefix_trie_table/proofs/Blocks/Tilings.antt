@@ -53,8 +53,7 @@ overlap-apart e f none h = elim (cases_lt e.start (f.start + f.size)) as (λ _. 
 
 no_overlap : (e : Extent) (fs : List Extent) → All (Disjoint e) fs → sum_by (overlap e) fs ≡ 0
 no_overlap e [] all = refl
-no_overlap e (f ∷ fs) all =
-    omega (arith, sum_by-cons (overlap e) f fs, apart-overlap e f (All-head (Disjoint e) f fs all), no_overlap e fs (All-tail (Disjoint e) f fs all))
+no_overlap e (f ∷ fs) all = omega (arith, sum_by-cons (overlap e) f fs, apart-overlap e f (All-head (Disjoint e) f fs all), no_overlap e fs (All-tail (Disjoint e) f fs all))
 
 module _ (sizes : List ℕ) (first end : ℕ) where
   -- a block in use is apart from all others, in use and free
@@ -87,9 +86,7 @@ module _ (sizes : List ℕ) (first end : ℕ) where
 
 -- the parts of a fact of each element
 pub All-append_left : {X : Type 0} (P : X → Type 0) (xs ys : List X) → All P (xs ++ ys) → All P xs
-All-append_left P xs ys all k d inside =
-    subst P (get_or_append_left xs ys d k inside) (all k d (omega (arith, length-append xs ys)))
+All-append_left P xs ys all k d inside = subst P (get_or_append_left xs ys d k inside) (all k d (omega (arith, length-append xs ys)))
 
 pub All-append_right : {X : Type 0} (P : X → Type 0) (xs ys : List X) → All P (xs ++ ys) → All P ys
-All-append_right P xs ys all k d inside =
-    subst P (get_or-append-add xs ys k d) (all (length xs + k) d (omega (arith, length-append xs ys)))
+All-append_right P xs ys all k d inside = subst P (get_or-append-add xs ys k d) (all (length xs + k) d (omega (arith, length-append xs ys)))

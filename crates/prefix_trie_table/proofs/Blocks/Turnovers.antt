@@ -25,8 +25,7 @@ module _ {S : Type 0} where
 
   -- where none is made the array is as long
   pub room_turned : (v w : Store S) (m : ℕ → ℕ) (o p : Option ℕ) → ((size : ℕ) → m size ≡ 0) → Turnover v w m o p → SameRoom v w
-  room_turned v w m o p none t =
-      ((let l = t.longer in let n = slots_of-none (tier_sizes v.tiers) m none in omega (arith, l, n)), t.keeps.first_is, t.keeps.limit_is)
+  room_turned v w m o p none t = ((let l = t.longer in let n = slots_of-none (tier_sizes v.tiers) m none in omega (arith, l, n)), t.keeps.first_is, t.keeps.limit_is)
 
   -- and has as many
   pub none_turned : (v w : Store S) (o p : Option ℕ) → Turnover v w none_of o p → MakesNone v w
@@ -164,8 +163,7 @@ module _ {S : Type 0} where
 
   -- nor does writing a slot make one
   pub none_written : (v w u : Store S) (i : ℕ) (x : S) → MakesNone v w → u ≡ record w { slots = set w.slots i x } → MakesNone v u
-  none_written v w u i x none e =
-      subst (λ y. MakesNone v y) (sym e) (record { room = (length-set w.slots i x ∙ none.room.0, none.room.1, none.room.2); made = none.made })
+  none_written v w u i x none e = subst (λ y. MakesNone v y) (sym e) (record { room = (length-set w.slots i x ∙ none.room.0, none.room.1, none.room.2); made = none.made })
 
   pub none_same : (v : Store S) → MakesNone v v
   none_same v = record { room = (refl, refl, refl); made = λ size. refl }

@@ -15,14 +15,12 @@ count_sum f (x ∷ paths) = ap (λ k. own_count (f x) + k) (count_sum f paths) �
 -- one node's own first
 count_out : (f : List ℕ → Option Node) (p : List ℕ) (paths : List (List ℕ)) → 0 < times p paths →
     entry_count f paths ≡ own_count (f p) + entry_count f (without p paths)
-count_out f p paths there =
-    count_sum f paths ∙ sum_out (λ q. own_count (f q)) p paths there ∙ ap (λ k. own_count (f p) + k) (sym (count_sum f (without p paths)))
+count_out f p paths there = count_sum f paths ∙ sum_out (λ q. own_count (f q)) p paths there ∙ ap (λ k. own_count (f p) + k) (sym (count_sum f (without p paths)))
 
 -- nodes with as many values each have as many in all
 count_same : (f g : List ℕ → Option Node) (paths : List (List ℕ)) → ((q : List ℕ) → 0 < times q paths → own_count (g q) ≡ own_count (f q)) →
     entry_count g paths ≡ entry_count f paths
-count_same f g paths same =
-    count_sum g paths ∙ sum_same (λ q. own_count (f q)) (λ q. own_count (g q)) paths same ∙ sym (count_sum f paths)
+count_same f g paths same = count_sum g paths ∙ sum_same (λ q. own_count (f q)) (λ q. own_count (g q)) paths same ∙ sym (count_sum f paths)
 
 -- the node at p becomes m
 pub count_with_node : (f : List ℕ → Option Node) (p : List ℕ) (m : Node) (paths : List (List ℕ)) → times p paths ≡ 1 →
@@ -119,5 +117,4 @@ module _ {T : Type 0} (nodes : List ℕ → Option Node) (values : List ℕ → 
 -- there are no more entries than cells
 pub entries_bound : {T : Type 0} (nodes : List ℕ → Option Node) (values : List ℕ → ℕ → Option T) (paths : List (List ℕ)) (w : Store (Option T)) →
     CellsHold cell_sizes nodes values paths w → entry_count nodes paths ≤ length w.slots
-entries_bound nodes values paths w cells =
-    subst (λ n. n ≤ length w.slots) (all_items nodes values paths) (items_bound None (flat_map (value_blocks cell_sizes nodes values) paths) w cells.sound)
+entries_bound nodes values paths w cells = subst (λ n. n ≤ length w.slots) (all_items nodes values paths) (items_bound None (flat_map (value_blocks cell_sizes nodes values) paths) w cells.sound)

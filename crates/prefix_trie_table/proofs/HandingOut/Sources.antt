@@ -28,5 +28,4 @@ module _ (v : Store Node) (n : Node) (levels : ℕ) (s : IsSource v n levels) (c
 
 -- a source's own values
 pub own_within : (v : Store Node) (n : Node) (levels : ℕ) → IsSource v n levels → (b : ℕ) → has_bit n.value_bitmap b ≡ true → b < 31
-own_within v n levels s b set =
-    s.within [] b (ap (λ x. has_value (s.reading x) b) (append-nil s.path) ∙ ap (λ o. has_value o b) s.is ∙ set)
+own_within v n levels s b set = s.within [] b (ap (λ x. has_value (s.reading x) b) (append-nil s.path) ∙ ap (λ o. has_value o b) s.is ∙ set)

@@ -63,8 +63,7 @@ module _ (own : Node → ℕ) (nodes : List Node) where
   -- a node and its children before c leave what the child has
   pub child_room : (levels : ℕ) (n lower : Node) (c : ℕ) → c < 32 → slots_at_child own nodes levels n c ≡ slots_below own nodes (levels - 1) lower →
       own n + sum_to (slots_at_child own nodes levels n) c + slots_below own nodes (levels - 1) lower ≤ slots_below own nodes levels n
-  child_room levels n lower c small is =
-      omega (arith, slots_split levels n, sum_to_part (slots_at_child own nodes levels n) c 32 small, is)
+  child_room levels n lower c small is = omega (arith, slots_split levels n, sum_to_part (slots_at_child own nodes levels n) c 32 small, is)
 
 -- ---- blocks of fewer items
 

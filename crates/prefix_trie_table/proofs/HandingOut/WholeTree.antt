@@ -139,8 +139,7 @@ module _ (own : Node → ℕ) (reading : List ℕ → Option Node) (paths : List
 
   within_paths : (levels : ℕ) (p : List ℕ) (n : Node) → reading p ≡ Some n → slots_below own v.slots levels n ≤ all_under p
   within_paths zero p n is = let c = own_counted p n is in omega (arith, c)
-  within_paths (suc levels) p n is =
-      omega (arith, own_counted p n is, sum_to_less (at_child levels n) (λ c. all_under (p ++ c ∷ [])) 32 (child_within levels p n is (within_paths levels)))
+  within_paths (suc levels) p n is = omega (arith, own_counted p n is, sum_to_less (at_child levels n) (λ c. all_under (p ++ c ∷ [])) 32 (child_within levels p n is (within_paths levels)))
 
   -- all that the root has below it is what all nodes have
   pub whole_tree : (levels : ℕ) (n : Node) → reading [] ≡ Some n → slots_below own v.slots levels n ≤ sum_by own_at paths

@@ -31,13 +31,11 @@ module _ (node : Node) (level len : ℕ) where
 -- ---- what lists need, by nodes
 
 pub child_list_need : (v : Store Node) (n : Node) (count : ℕ) → tier_sizes v.tiers ≡ node_sizes → count ≡ rank n.child_bitmap 32 → list_need v.tiers n.child_tier count ≡ child_need (Some n)
-child_list_need v n count are same =
-    ap (list_need v.tiers n.child_tier) same ∙ ap (λ ns. block_needed ns (size_if_any (rank n.child_bitmap 32) (size_in ns n.child_tier)) (rank n.child_bitmap 32)) are
+child_list_need v n count are same = ap (list_need v.tiers n.child_tier) same ∙ ap (λ ns. block_needed ns (size_if_any (rank n.child_bitmap 32) (size_in ns n.child_tier)) (rank n.child_bitmap 32)) are
 
 pub value_list_need : {T : Type 0} (w : Store (Option T)) (n : Node) (count : ℕ) → tier_sizes w.tiers ≡ cell_sizes → count ≡ rank n.value_bitmap 32 →
     list_need w.tiers n.value_tier count ≡ value_need (Some n)
-value_list_need w n count are same =
-    ap (list_need w.tiers n.value_tier) same ∙ ap (λ ns. block_needed ns (size_if_any (rank n.value_bitmap 32) (size_in ns n.value_tier)) (rank n.value_bitmap 32)) are
+value_list_need w n count are same = ap (list_need w.tiers n.value_tier) same ∙ ap (λ ns. block_needed ns (size_if_any (rank n.value_bitmap 32) (size_in ns n.value_tier)) (rank n.value_bitmap 32)) are
 
 pub first_list_need : {T : Type 0} (w : Store (Option T)) → tier_sizes w.tiers ≡ cell_sizes → list_need w.tiers 0 0 ≡ value_need None
 first_list_need w are = ap (λ ns. block_needed ns None 0) are

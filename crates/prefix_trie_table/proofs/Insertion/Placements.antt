@@ -19,8 +19,7 @@ obtaining : {T E : Type 0} (for_limit for_memory : E → Type 0) (v v2 : Store N
     ObtainsBoth for_limit for_memory r v v2 w w2 nodes cells → ObtainsBoth for_limit for_memory (inserting {T = T} r) v v2 w w2 nodes cells
 obtaining for_limit for_memory v v2 w w2 nodes cells (Ok seat) o =
     record { nodes_made = o.nodes_made; cells_made = o.cells_made; range = tt; memory = tt; lacks = tt }
-obtaining for_limit for_memory v v2 w w2 nodes cells (Err e) o =
-    record { nodes_made = o.nodes_made; cells_made = o.cells_made; range = o.range; memory = o.memory; lacks = o.lacks }
+obtaining for_limit for_memory v v2 w w2 nodes cells (Err e) o = record { nodes_made = o.nodes_made; cells_made = o.cells_made; range = o.range; memory = o.memory; lacks = o.lacks }
 
 module _ {T E : Type 0} (q : List Bool) (x : T) (v v2 : Store Node) (w w2 : Store (Option T)) (count count2 : ℕ) (s : Shaped v.slots w.slots)
     (is : IsTable v w count s.0) where

@@ -30,13 +30,11 @@ module _ {X : Type 0} where
 
   none_pass : (p : X → Bool) (es : List X) → ((e : X) → Contains es e → p e ≡ false) → filter p es ≡ []
   none_pass p [] h = refl
-  none_pass p (x ∷ es) h =
-      ap (λ b. cond b (x ∷ filter p es) (filter p es)) (h x (first_in x es)) ∙ none_pass p es (λ e has. h e (later_in x es e has))
+  none_pass p (x ∷ es) h = ap (λ b. cond b (x ∷ filter p es) (filter p es)) (h x (first_in x es)) ∙ none_pass p es (λ e has. h e (later_in x es e has))
 
   all_pass : (p : X → Bool) (es : List X) → ((e : X) → Contains es e → p e ≡ true) → filter p es ≡ es
   all_pass p [] h = refl
-  all_pass p (x ∷ es) h =
-      ap (λ b. cond b (x ∷ filter p es) (filter p es)) (h x (first_in x es)) ∙ ap (λ ys. x ∷ ys) (all_pass p es (λ e has. h e (later_in x es e has)))
+  all_pass p (x ∷ es) h = ap (λ b. cond b (x ∷ filter p es) (filter p es)) (h x (first_in x es)) ∙ ap (λ ys. x ∷ ys) (all_pass p es (λ e has. h e (later_in x es e has)))
 
 -- ---- of a list of beginnings, those of so many bits or more
 

@@ -216,5 +216,4 @@ at_root b len level node slot matches v long on_way left = record {
 pub cover_on : {K T : Type 0} {IsKey : K → Type 0} {bits : K → List Bool} (width : ℕ) (key : K) (len level deeper : ℕ) (node below : Node) (slot place matches rest : ℕ)
     (o : Option Match) (v : Store Node) (w : Store (Option T)) (at : IsCover IsKey bits width key len level node slot matches v w)
     → GoesOn (bits key) len deeper below place rest at.first o v → IsCover IsKey bits width key len deeper below place rest v w
-cover_on width key len level deeper node below slot place matches rest o v w at gone =
-    record { is_key = at.is_key; short = at.short; table = at.table; first = gone.later; stands = gone.stands }
+cover_on width key len level deeper node below slot place matches rest o v w at gone = record { is_key = at.is_key; short = at.short; table = at.table; first = gone.later; stands = gone.stands }

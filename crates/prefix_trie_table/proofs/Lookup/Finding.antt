@@ -39,8 +39,7 @@ none_below nodes paths v path depth hold end inside =
 -- whether the node reached has a value at the bit that the code reads
 pub bit_set : (b : List Bool) (len level slot : ℕ) (node : Node) (v : Store Node) → IsReached b len level node slot v → len < 5 * level + 5 → (x : ℕ) → x < 31 →
     x ≡ value_bit (drop (5 * level) (take len b)) → has_bit node.value_bitmap (bit_of (take len b)) ≡ has node.value_bitmap x
-bit_set b len level slot node v at less x small read =
-    ap (has_bit node.value_bitmap) (bit-read b len level at.long x at.whole less read) ∙ has_bit-is node.value_bitmap x (omega arith)
+bit_set b len level slot node v at less x small read = ap (has_bit node.value_bitmap) (bit-read b len level at.long x at.whole less read) ∙ has_bit-is node.value_bitmap x (omega arith)
 
 module _ (b : List Bool) (len level slot : ℕ) (node : Node) (v : Store Node) (at : IsReached b len level node slot v) (reading : List ℕ → Option Node)
     (paths : List (List ℕ)) (hold : NodesHold node_sizes reading paths v) where

@@ -21,8 +21,7 @@ module _ (b : List Bool) (len level : ℕ) (within : len ≤ length b) where
 
   -- the child bit that the code reads is the next step
   pub step-read : (x : ℕ) → 5 * level + 5 ≤ len → x ≡ number (take 5 (drop (5 * level) b)) → get_or (path_of (take len b)) level 0 ≡ x
-  step-read x h e =
-      step-is (take len b) level (step-inside h) ∙ ap number (window-of-front b len (5 * level) 5 h) ∙ sym e
+  step-read x h e = step-is (take len b) level (step-inside h) ∙ ap number (window-of-front b len (5 * level) 5 h) ∙ sym e
 
   -- where no whole step is left, the way is at its end
   pub steps-end : 5 * level ≤ len → len < 5 * level + 5 → length (path_of (take len b)) ≡ level
@@ -30,8 +29,7 @@ module _ (b : List Bool) (len level : ℕ) (within : len ≤ length b) where
 
   -- the value bit that the code reads is the string's own
   pub bit-read : (x : ℕ) → 5 * level ≤ len → len < 5 * level + 5 → x ≡ value_bit (drop (5 * level) (take len b)) → bit_of (take len b) ≡ x
-  bit-read x h k e =
-      ap value_bit (rest-is (take len b) ∙ ap (λ n. drop (5 * n) (take len b)) (steps-end h k)) ∙ sym e
+  bit-read x h k e = ap value_bit (rest-is (take len b) ∙ ap (λ n. drop (5 * n) (take len b)) (steps-end h k)) ∙ sym e
 
 -- ---- the node where the way stands
 
@@ -48,8 +46,7 @@ module _ (reading : List ℕ → Option Node) (paths : List (List ℕ)) (v : Sto
 
   -- the node in the slot is the one on the way
   pub deepest_is : (k : Node) → k ≡ node_at v.slots slot → reading (take depth path) ≡ Some k
-  deepest_is k read =
-      deep.is ∙ ap Some (sym (slot_holds node_sizes reading paths v hold (take depth path) slot deep.node deep.stands deep.is).0 ∙ sym read)
+  deepest_is k read = deep.is ∙ ap Some (sym (slot_holds node_sizes reading paths v hold (take depth path) slot deep.node deep.stands deep.is).0 ∙ sym read)
 
   -- a child that is there is one step deeper
   pub deepest_more : (place : ℕ) (k : Node) → depth < length path → k ≡ node_at v.slots slot → has_bit k.child_bitmap (get_or path depth 0) ≡ true →

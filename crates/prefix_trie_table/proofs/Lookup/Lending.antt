@@ -205,8 +205,7 @@ module _ {T : Type 0} (v : Store Node) (w : Store (Option T)) (t : SomeTable v w
       let none : r ≡ None = subst (λ y. MatchOption y (r ≡ None) (λ seat. option_copied_mut r ≡ get_or w.slots (seat.start + seat.place) None)) at e in
       subst (λ y. MatchOption y (longest_match s.entries asked ≡ None) (λ x. (n ≤ len) × (longest_match s.entries asked ≡ Some (take n asked, x.now)))) (sym none)
       (longest_none v w t s is b len long held)
-  longest_lent (Some m) o at held r e =
-      handed_out m held.0 held.1 at.1 r (subst (λ y. MatchOption y (r ≡ None) (λ seat. option_copied_mut r ≡ get_or w.slots (seat.start + seat.place) None)) at.0 e)
+  longest_lent (Some m) o at held r e = handed_out m held.0 held.1 at.1 r (subst (λ y. MatchOption y (r ≡ None) (λ seat. option_copied_mut r ≡ get_or w.slots (seat.start + seat.place) None)) at.0 e)
 
 -- the bit of a match is one of a node's
 pub longest_small : (reading : List ℕ → Option Node) (q : List Bool) (end : ℕ) (longest : Option Match) → LongestHeld reading q 0 end longest → IfSome longest (λ m. m.bit < 31)

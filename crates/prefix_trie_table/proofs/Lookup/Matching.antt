@@ -15,16 +15,14 @@ clear-small m fits clear =
 
 -- the value bit of some first bits
 bit-small : (n bit : ℕ) (rest : List Bool) → n ≤ 4 → n ≤ length rest → bit ≡ value_bit (take n rest) → bit < 31
-bit-small n bit rest short within is =
-    subst (λ x. x < 31) (sym is) (value_bit-small (take n rest) (omega (arith, length-take-le n rest within)))
+bit-small n bit rest short within is = subst (λ x. x < 31) (sym is) (value_bit-small (take n rest) (omega (arith, length-take-le n rest within)))
 
 -- ---- a beginning of i bits, at least as many as lead to a node
 
 module _ (q : List Bool) (level i : ℕ) (from : 5 * level ≤ i) (within : i ≤ length q) where
   -- it goes the same way to that node
   pub take_way : take level (path_of (take i q)) ≡ take level (path_of q)
-  take_way =
-      sym (path-take level (take i q) (omega (arith, length-take-le i q within))) ∙ ap path_of (take-take (5 * level) i q from) ∙ path-take level q (omega arith)
+  take_way = sym (path-take level (take i q) (omega (arith, length-take-le i q within))) ∙ ap path_of (take-take (5 * level) i q from) ∙ path-take level q (omega arith)
 
   module _ (last : i < 5 * level + 5) where
     own_steps : length (path_of (take i q)) ≡ level
@@ -57,8 +55,7 @@ module _ (q : List Bool) (level : ℕ) (whole : 5 * level ≤ length q) (reading
   rest-length = length-drop (5 * level) q
 
   pub none_here : NoneBegins node.value_bitmap (drop (5 * level) q) → NoneHeld reading q (5 * level) (5 * level + 5)
-  none_here none i from last within =
-      held_is q level i from within last reading node is ∙ none (i - 5 * level) (omega arith) (omega (arith, rest-length))
+  none_here none i from last within = held_is q level i from within last reading node is ∙ none (i - 5 * level) (omega arith) (omega (arith, rest-length))
 
   -- a value behind the first n bits of the rest
   pub held_here : (n bit : ℕ) → n ≤ 4 → n ≤ length (drop (5 * level) q) → bit ≡ value_bit (take n (drop (5 * level) q)) → has node.value_bitmap bit ≡ true → IsHeld reading q (5 * level + n) bit node
@@ -79,8 +76,7 @@ module _ (q : List Bool) (level : ℕ) (whole : 5 * level ≤ length q) (reading
 
   -- the length that a value bit tells
   bit-length : (n bit d x : ℕ) → n ≤ length (drop (5 * level) q) → bit ≡ value_bit (take n (drop (5 * level) q)) → ((s : List Bool) → value_bit s ≡ bit → s ≡ digits d x) → n ≡ d
-  bit-length n bit d x within bit_is only =
-      sym (length-take-le n (drop (5 * level) q) within) ∙ ap length (only (take n (drop (5 * level) q)) (sym bit_is)) ∙ length-digits d x
+  bit-length n bit d x within bit_is only = sym (length-take-le n (drop (5 * level) q) within) ∙ ap length (only (take n (drop (5 * level) q)) (sym bit_is)) ∙ length-digits d x
 
   module _ (bit d x : ℕ) (only : (s : List Bool) → value_bit s ≡ bit → s ≡ digits d x) where
     pub longest_here : IsLongest node.value_bitmap (drop (5 * level) q) bit → IsHeld reading q (5 * level + d) bit node × NoneHeld reading q (5 * level + d + 1) (5 * level + 5)
@@ -125,8 +121,7 @@ none_past reading paths v q level end hold at i from last within =
 
 -- the node on the way is the one at its path
 pub on_way_is : (b : List Bool) (len level slot : ℕ) (node : Node) (v : Store Node) → IsOnWay b len level node slot v → (reading : List ℕ → Option Node) (paths : List (List ℕ)) → NodesHold node_sizes reading paths v → reading (take level (path_of (take len b))) ≡ Some node
-on_way_is b len level slot node v at reading paths hold =
-    deepest_is reading paths v (path_of (take len b)) level slot hold (at.deepest reading paths hold) node at.node_is
+on_way_is b len level slot node v at reading paths hold = deepest_is reading paths v (path_of (take len b)) level slot hold (at.deepest reading paths hold) node at.node_is
 
 -- ---- the longest of two parts
 

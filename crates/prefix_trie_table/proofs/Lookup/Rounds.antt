@@ -44,8 +44,7 @@ module _ {P K : Type 0} (number : P → K) (len : P → ℕ) (IsFitting : P → 
 
   -- what is asked for prefixes that fit can be asked
   can_ask : (i : ℕ) (q : K × ℕ) → i < length questions → q ≡ get_or questions i q → CanAsk IsKey width q
-  can_ask i q inside is =
-      subst (CanAsk IsKey width) (sym is) (All-map (CanAsk IsKey width) (asks number len) prefixes (λ k d inside. can (get_or prefixes k d) (fit k d inside)) i q inside)
+  can_ask i q inside is = subst (CanAsk IsKey width) (sym is) (All-map (CanAsk IsKey width) (asks number len) prefixes (λ k d inside. can (get_or prefixes k d) (fit k d inside)) i q inside)
 
   new_is_way : (i : ℕ) → i < length (questions_of number len prefixes) → IsWay bits v (questions_of number len prefixes) 0 (new_way i)
   new_is_way i inside =

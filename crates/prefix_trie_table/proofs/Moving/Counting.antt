@@ -33,8 +33,7 @@ all_listed paths [] each = none paths
     none : (ps : List (List ℕ)) → sum_by (at_path []) ps ≡ 0
     none [] = refl
     none (p ∷ ps) = omega (arith, sum_by-cons (at_path []) p ps, none ps)
-all_listed paths (k ∷ ks) each =
-    omega (arith, one_more k ks paths, All-head (λ x. times (path_of x) paths ≡ 1) k ks each, all_listed paths ks (All-tail (λ x. times (path_of x) paths ≡ 1) k ks each))
+all_listed paths (k ∷ ks) each = omega (arith, one_more k ks paths, All-head (λ x. times (path_of x) paths ≡ 1) k ks each, all_listed paths ks (All-tail (λ x. times (path_of x) paths ≡ 1) k ks each))
 
 home_path : (k : List Bool) → path_of (home k) ≡ path_of k
 home_path k = path-take (length k / 5) k (omega arith) ∙ take_all (length k / 5) (path_of k) (omega (arith, path-length k))

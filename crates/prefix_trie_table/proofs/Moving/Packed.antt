@@ -18,8 +18,7 @@ use Rattle.prefix_trie_table.proofs.Tree.Shapes.{reads_node, shape_nodes}
 
 no_extents : (ts : List Tier) → ((j : ℕ) → j < length ts → length (tier_at ts j).starts ≡ 0) → free_extents ts ≡ []
 no_extents [] none = refl
-no_extents (t ∷ ts) none =
-    ap₂ (λ xs es. map (of_size t.size) xs ++ es) (nil_from_length t.starts (none 0 (omega arith))) (no_extents ts (λ j h. none (suc j) (omega arith)))
+no_extents (t ∷ ts) none = ap₂ (λ xs es. map (of_size t.size) xs ++ es) (nil_from_length t.starts (none 0 (omega arith))) (no_extents ts (λ j h. none (suc j) (omega arith)))
 
 no_counts : (ts : List Tier) → ((j : ℕ) → j < length ts → length (tier_at ts j).starts ≡ 0) → (n : ℕ) → length ts ≡ n → free_counts ts ≡ replicate n 0
 no_counts [] none n e = ap (λ k. replicate k 0) e
@@ -46,8 +45,7 @@ module _ {S : Type 0} where
   -- all slots behind those that stand before the blocks are of blocks in use
   all_slots : (vacant : S) (f : List ℕ → List (UsedBlock S)) (paths : List (List ℕ)) (v : Store S) → Sound vacant (flat_map f paths) v → HasSizes v.tiers → NoneFree v →
       length v.slots ≡ v.first + sum_by (λ p. sum_by block_size (f p)) paths
-  all_slots vacant f paths v sound has none =
-      omega (arith, slots_told vacant f paths v sound, ap (λ es. sum_by size_of_extent es) (no_extents v.tiers (none_at v has none)))
+  all_slots vacant f paths v sound has none = omega (arith, slots_told vacant f paths v sound, ap (λ es. sum_by size_of_extent es) (no_extents v.tiers (none_at v has none)))
 
 -- a sum over the nodes is one over their paths
 by_paths : (reading : List ℕ → Option Node) (paths : List (List ℕ)) (v : Store Node) → NodesHold node_sizes reading paths v → (n : Nodes) →

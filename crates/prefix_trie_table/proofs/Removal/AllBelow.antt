@@ -79,8 +79,7 @@ module _ {T : Type 0} where
 module _ {F T : Type 0} (asks : F → List Bool → T → Bool → F → Type 0) (no : (f : F) (k : List Bool) (x : T) (b : Bool) (g : F) → asks f k x b g → b ≡ false) where
   none_kept : (f : F) (es kept : List (List Bool × T)) → AsksInOrder asks f es kept → kept ≡ []
   none_kept f [] kept h = h
-  none_kept f (e ∷ es) kept h =
-      h.5 ∙ ap (λ b. cond b (e ∷ h.2) h.2) (no f e.0 e.1 h.0 h.1 h.3) ∙ none_kept h.1 es h.2 h.4
+  none_kept f (e ∷ es) kept h = h.5 ∙ ap (λ b. cond b (e ∷ h.2) h.2) (no f e.0 e.1 h.0 h.1 h.3) ∙ none_kept h.1 es h.2 h.4
 
   module _ (accepts : F → List Bool → T → Type 0) (q : List Bool) (ts : List (List Bool)) (f g : F) (before after : State T)
       (retains : Retains asks accepts (home q) ts f before g after) (are : AreBelow q ts before) where
@@ -186,8 +185,7 @@ module _ {T : Type 0} (width count : ℕ) (v : Store Node) (w : Store (Option T)
       ∙ ap (λ b. is_in n.value_bitmap n.child_bitmap u && b) (in_masks u most)
 
   member : (u : List Bool) → length u ≤ 5 → is_in n.value_bitmap n.child_bitmap u ≡ true → begins q (home q ++ u) ≡ true → Contains ts u
-  member u most here goes_on =
-      (each u).1 (most, in_both u most ∙ and-join (is_in n.value_bitmap n.child_bitmap u) (begins rest u) here (to_rest q rest is u goes_on))
+  member u most here goes_on = (each u).1 (most, in_both u most ∙ and-join (is_in n.value_bitmap n.child_bitmap u) (begins rest u) here (to_rest q rest is u goes_on))
 
   all_below : All (λ u. begins q (home q ++ u) ≡ true) ts
   all_below =
@@ -292,8 +290,7 @@ module _ {T : Type 0} where
   -- and a node that stands is one of the set
   pub home_stands : (width count : ℕ) (v : Store Node) (w : Store (Option T)) (s : State T) (q : List Bool) (n : Node) → IsTrie width count v w s → read v.slots (path_of (home q)) ≡ Some n →
       has_node s.nodes (home q) ≡ true
-  home_stands width count v w s q n trie stands =
-      trie.shaped.0 (home q) ∙ ap₂ (λ d o. d && is_some o) (ap (λ k. k == 0) (home-depth q)) stands
+  home_stands width count v w s q n trie stands = trie.shaped.0 (home q) ∙ ap₂ (λ d o. d && is_some o) (ap (λ k. k == 0) (home-depth q)) stands
 
   -- once all below q is gone, q itself is not stored
   pub own_gone : (m : Entries T) (q : List Bool) → get (without_below m q) q ≡ None

@@ -55,8 +55,7 @@ module _ {T : Type 0} (q : List Bool) (reading : List ℕ → Option Node) (valu
 
   -- where the node of the string is missing, nothing is pruned
   pub none_pruned : reading (path_of q) ≡ None → nodes_without s.nodes s.entries q ≡ s.nodes
-  none_pruned missing =
-      ap (λ b. cond b (retain_keys s.nodes (λ t. not (is_pruned s.nodes (without_entry s.entries q) (home q) t))) s.nodes) (home_is ∙ ap is_some missing)
+  none_pruned missing = ap (λ b. cond b (retain_keys s.nodes (λ t. not (is_pruned s.nodes (without_entry s.entries q) (home q) t))) s.nodes) (home_is ∙ ap is_some missing)
 
   module _ (there : is_some (reading (path_of q)) ≡ true) (v1 v2 : Store Node) (w2 : Store (Option T))
       (t : EntryTaken reading paths values (path_of q) (bit_of q) v1 w w2) (p : Pruned t.later paths (path_of q) v1 v2) where

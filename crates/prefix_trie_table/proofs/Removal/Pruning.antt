@@ -208,5 +208,4 @@ count_lacking f ps v p c n m leaf hold is below bare same =
 pub drops_count : (reading : List ℕ → Option Node) (paths : List (List ℕ)) (later : List ℕ → Option Node) (left : List (List ℕ)) → Drops reading paths later left →
     entry_count later left ≡ entry_count reading paths
 drops_count reading paths later left (none) = refl
-drops_count reading paths later left (more f ps v p c n m leaf drops hold is below bare same) =
-    count_lacking f ps v p c n m leaf hold is below bare same ∙ drops_count reading paths f ps drops
+drops_count reading paths later left (more f ps v p c n m leaf drops hold is below bare same) = count_lacking f ps v p c n m leaf hold is below bare same ∙ drops_count reading paths f ps drops

@@ -17,19 +17,16 @@ use Rattle.prefix_trie_table.proofs.Tree.Trees.{reads, is_none-None}
 -- the size by the string of a node is that by its path
 pub size_read : (size : Option Node → Option ℕ) (nodes : List Node) (f : List ℕ → Option Node) (m : Sizes) →
     AreSizesBy size nodes m → ((x : List ℕ) → read nodes x ≡ f x) → (p : List Bool) → is_node_depth p ≡ true → get m p ≡ size (f (path_of p))
-size_read size nodes f m m_are reading_is p depth =
-    m_are p ∙ ap (λ b. cond b (size (read nodes (path_of p))) None) depth ∙ ap size (reading_is (path_of p))
+size_read size nodes f m m_are reading_is p depth = m_are p ∙ ap (λ b. cond b (size (read nodes (path_of p))) None) depth ∙ ap size (reading_is (path_of p))
 
 -- and at a string with this path
 size_there : (size : Option Node → Option ℕ) (reading : List ℕ → Option Node) (paths : List (List ℕ)) (v : Store Node) → NodesHold node_sizes reading paths v →
     (m : Sizes) → AreSizesBy size v.slots m → (p : List Bool) (x : List ℕ) → is_node_depth p ≡ true → path_of p ≡ x → get m p ≡ size (reading x)
-size_there size reading paths v hold m m_are p x depth path =
-    size_read size v.slots reading m m_are (reads node_sizes reading paths v hold) p depth ∙ ap (λ q. size (reading q)) path
+size_there size reading paths v hold m m_are p x depth path = size_read size v.slots reading m m_are (reads node_sizes reading paths v hold) p depth ∙ ap (λ q. size (reading q)) path
 
 -- the sizes of blocks by the strings of nodes are related so, and no others are there
 abbrev StepsAt : (ℕ → ℕ → Option ℕ → Option ℕ → Type 0) → Nodes → (List Bool → ℕ) → (List Bool → ℕ) → Sizes → Sizes → Type 0
-StepsAt R n before after old new =
-    ((p : List Bool) → has_node n p ≡ true → R (before p) (after p) (get old p) (get new p)) × ((p : List Bool) → has_node n p ≡ false → get new p ≡ None)
+StepsAt R n before after old new = ((p : List Bool) → has_node n p ≡ true → R (before p) (after p) (get old p) (get new p)) × ((p : List Bool) → has_node n p ≡ false → get new p ≡ None)
 
 -- it is so where those by paths are
 sizes_step : (size : Option Node → Option ℕ) (count : Option Node → ℕ) (R : ℕ → ℕ → Option ℕ → Option ℕ → Type 0) (reading later : List ℕ → Option Node) →

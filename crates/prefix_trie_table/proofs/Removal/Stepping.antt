@@ -29,8 +29,7 @@ children_kept free n m e = steps_same node_sizes free (own_children n) (own_chil
 
 -- the same numbers and sizes
 pub steps_read : {c c2 d d2 : ℕ} {o o2 n n2 : Option ℕ} (R : ℕ → ℕ → Option ℕ → Option ℕ → Type 0) → c2 ≡ c → d2 ≡ d → o2 ≡ o → n2 ≡ n → R c d o n → R c2 d2 o2 n2
-steps_read R ec ed eo en r =
-    subst (λ (x : ℕ × ℕ × Option ℕ × Option ℕ). R x.0 x.1 x.2 x.3) (λ i. (sym ec i, sym ed i, sym eo i, sym en i)) r
+steps_read R ec ed eo en r = subst (λ (x : ℕ × ℕ × Option ℕ × Option ℕ). R x.0 x.1 x.2 x.3) (λ i. (sym ec i, sym ed i, sym eo i, sym en i)) r
 
 -- the same of an array that was as long, and cut in the same way
 pub grows_same : {S : Type 0} (sizes : List ℕ) (u v w : Store S) (old new : Option ℕ) → u.tiers ≡ v.tiers → length u.slots ≡ length v.slots →

@@ -61,8 +61,7 @@ module _ {K T : Type 0} (IsKey : K → Type 0) (bits : K → List Bool) (width :
 
   -- at a place that the node does not have is nothing
   pub nothing_at : (u : List Bool) → length u ≤ 5 → is_in n.value_bitmap n.child_bitmap u ≡ false → listing_at_place s.entries (take p.depth (bits p.key)) u ≡ []
-  nothing_at =
-      unset width v (record { count = count; cells = w; shape = s }) trie (take p.depth (bits p.key)) n (here_whole IsKey bits width v p n at long) at.stands
+  nothing_at = unset width v (record { count = count; cells = w; shape = s }) trie (take p.depth (bits p.key)) n (here_whole IsKey bits width v p n at long) at.stands
 
   -- and no node stands below it
   pub none_below_it : (u q : List Bool) → length u ≡ 5 → is_in n.value_bitmap n.child_bitmap u ≡ false → begins (take p.depth (bits p.key) ++ u) q ≡ true → has_node s.nodes q ≡ true → ⊥
@@ -122,8 +121,7 @@ apart_more s u before rest short all sorted apart q done coming =
 
 pub not_in_rest : (u : List Bool) (rest : List (List Bool)) → IsStrictlySortedBy listing_cmp (u ∷ rest) → All (λ t. t ≡ u → ⊥) rest
 unfolding IsStrictlySortedBy
-not_in_rest u rest sorted =
-    All-weaker (λ t. listing_cmp u t ≡ Less) (λ t. t ≡ u → ⊥) (λ t less e. not_itself u t less (sym e)) rest (All-from_recursion (λ t. listing_cmp u t ≡ Less) rest sorted.0)
+not_in_rest u rest sorted = All-weaker (λ t. listing_cmp u t ≡ Less) (λ t. t ≡ u → ⊥) (λ t less e. not_itself u t less (sym e)) rest (All-from_recursion (λ t. listing_cmp u t ≡ Less) rest sorted.0)
 
 module _ {K T F : Type 0} (IsKey : K → Type 0) (bits : K → List Bool) (width : ℕ) (asks : F → List Bool → T → Bool → F → Type 0) (accepts : F → List Bool → T → Type 0)
     (p : Site K) (long : length (bits p.key) ≡ width) (ts before : List (List Bool)) (u : List Bool) (rest : List (List Bool)) (first : ts ≡ u ∷ rest) (short : length u ≤ 5)

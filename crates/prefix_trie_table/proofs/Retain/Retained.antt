@@ -53,8 +53,7 @@ module _ {T : Type 0} where
   -- the table read by the array itself
   pub read_held : (reading : List ℕ → Option Node) (values : List ℕ → ℕ → Option T) (paths : List (List ℕ)) (v : Store Node) (w : Store (Option T)) →
       Holds reading values paths v w → Holds (read v.slots) values paths v w
-  read_held reading values paths v w holds =
-      subst (λ (f : List ℕ → Option Node). Holds f values paths v w) (λ i q. sym (reads_node reading values paths v w holds q) i) holds
+  read_held reading values paths v w holds = subst (λ (f : List ℕ → Option Node). Holds f values paths v w) (λ i q. sym (reads_node reading values paths v w holds q) i) holds
 
 -- ---- a node that is at hand
 

@@ -58,8 +58,7 @@ below_more p c bitmap n =
 -- the child c of p is not among those below c, and once among those of a higher bound if it is there
 none_below : (p : List ℕ) (c bitmap n : ℕ) → n ≤ c → times (step p c) (map (step p) (bits_below bitmap n)) ≡ 0
 none_below p c bitmap zero h = refl
-none_below p c bitmap (suc n) h =
-    omega (arith, below_more p c bitmap n, none_below p c bitmap n (omega arith), step_once p c (has_bit bitmap n) n (λ e. omega arith))
+none_below p c bitmap (suc n) h = omega (arith, below_more p c bitmap n, none_below p c bitmap n (omega arith), step_once p c (has_bit bitmap n) n (λ e. omega arith))
 
 one_below : (p : List ℕ) (c bitmap n : ℕ) → c < n → times (step p c) (map (step p) (bits_below bitmap n)) ≡ one_if (has_bit bitmap c)
 one_below p c bitmap zero h = absurd (omega arith)

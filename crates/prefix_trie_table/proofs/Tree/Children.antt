@@ -18,8 +18,7 @@ bits-zero = bits-none 0 has_bit-zero
 
 -- a blank node has no block of children
 pub blank_blocks : (sizes : List ℕ) (nodes : List ℕ → Option Node) (q : List ℕ) → nodes q ≡ Some blank_node → child_blocks sizes nodes q ≡ []
-blank_blocks sizes nodes q e =
-    ap (child_blocks_of sizes nodes q) e ∙ ap (λ cs. held 0 0 (size_in sizes 0) (map (λ c. node_or_blank (nodes (q ++ c ∷ []))) cs)) bits-zero
+blank_blocks sizes nodes q e = ap (child_blocks_of sizes nodes q) e ∙ ap (λ cs. held 0 0 (size_in sizes 0) (map (λ c. node_or_blank (nodes (q ++ c ∷ []))) cs)) bits-zero
 
 module _ (nodes : List ℕ → Option Node) (p : List ℕ) (m : Node) (c : ℕ) (o : Option Node) where
   -- the nodes with two changed

@@ -47,8 +47,7 @@ module _ (reading : List ℕ → Option Node) (path : List ℕ) where
       ∙ and_none (is_start q path) (not (is_some (reading (take (length q + 1) path))))
 
   gains_there : (depth : ℕ) (q : List ℕ) → is_some (reading (take (length q + 1) path)) ≡ true → gains reading path depth q ≡ false
-  gains_there depth q some =
-      ap (λ b. is_start q path && (nat_lt (length q) depth && not b)) some ∙ and_false (is_start q path) (nat_lt (length q) depth)
+  gains_there depth q some = ap (λ b. is_start q path && (nat_lt (length q) depth && not b)) some ∙ and_false (is_start q path) (nat_lt (length q) depth)
 
   -- the node where the way is gets one
   gains_here : (depth : ℕ) → depth < length path → is_some (reading (take (depth + 1) path)) ≡ false → gains reading path (depth + 1) (take depth path) ≡ true

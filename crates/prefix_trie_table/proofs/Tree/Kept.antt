@@ -58,8 +58,7 @@ module _ {T : Type 0} (v v2 : Store Node) (w w2 : Store (Option T)) (count : ℕ
 
   -- with blocks of the sizes that there were
   pub kept_sizes : (sized : Sized v.slots) (later : Sized v2.slots) → (later.0 ≡ sized.0) × (later.1.0 ≡ sized.1.0)
-  kept_sizes sized later =
-      sizes_kept is.reading is.values is.paths v w (some_table is).holds s.0 s.1 sized v2 w2 later kept_holds
+  kept_sizes sized later = sizes_kept is.reading is.values is.paths v w (some_table is).holds s.0 s.1 sized v2 w2 later kept_holds
 
   module _ (b : List Bool) (len : ℕ) (end : WayEnd)
       (at : IsReached b len end.reached.level end.reached.node (end.reached.at.start + end.reached.at.place) v) where

@@ -51,8 +51,7 @@ module _ {T : Type 0} (v v2 : Store Node) (w w2 : Store (Option T)) (count count
   }
 
   one_longer : Grows v v2 24 → Grows w w2 24 → LeavesRoom (len s.0.nodes) (storage_of v w z).room (storage_of v2 w2 z2).room
-  one_longer nodes cells =
-      few_slots nodes.limit_is (omega (arith, nodes.at_most)) (omega (arith, cells.at_most))
+  one_longer nodes cells = few_slots nodes.limit_is (omega (arith, nodes.at_most)) (omega (arith, cells.at_most))
 
   pub longer_room : Grows v v2 56 → Grows w w2 31 → LeavesRoom (len s.0.nodes) (storage_of v w z).room (storage_of v2 w2 z2).room
   longer_room nodes cells = (let c = cells.at_most in few_slots nodes.limit_is nodes.at_most (omega (arith, c)))

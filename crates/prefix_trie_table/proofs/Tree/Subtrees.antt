@@ -24,8 +24,7 @@ read_from-append nodes at (c ∷ p) q = read_from-append nodes (below nodes at c
 -- below a missing node no node stands
 pub read-missing : (nodes : List Node) (p q : List ℕ) → read nodes p ≡ None → read nodes (p ++ q) ≡ None
 unfolding read
-read-missing nodes p q h =
-    read_from-append nodes (Some (node_at nodes 0)) p q ∙ ap (λ o. read_from nodes o q) h ∙ read_from-none nodes q
+read-missing nodes p q h = read_from-append nodes (Some (node_at nodes 0)) p q ∙ ap (λ o. read_from nodes o q) h ∙ read_from-none nodes q
 
 some-is : {X : Type 0} (o : Option X) → is_some o ≡ true → (x : X) × (o ≡ Some x)
 some-is None h = absurd (false≢true h)
@@ -35,8 +34,7 @@ pub is_in-value : (values children : ℕ) (s : List Bool) → length s < 5 → i
 is_in-value values children s h = ap (λ c. cond c (has values (value_bit s)) (has children (number s))) (lt-ltb (length s) 5 h)
 
 pub is_in-child : (values children : ℕ) (s : List Bool) → length s ≡ 5 → is_in values children s ≡ has children (number s)
-is_in-child values children s h =
-    ap (λ c. cond c (has values (value_bit s)) (has children (number s))) (le-ltb (length s) 5 (omega arith))
+is_in-child values children s h = ap (λ c. cond c (has values (value_bit s)) (has children (number s))) (le-ltb (length s) 5 (omega arith))
 
 -- a child's number is one of 32
 pub number-small : (s : List Bool) → length s ≡ 5 → number s < 32

@@ -130,8 +130,7 @@ child_blocks_of-same sizes nodes later q (Some n) below =
 -- the same node and the same children have the same block
 pub child_blocks-same : (sizes : List ℕ) (nodes later : List ℕ → Option Node) (q : List ℕ) → later q ≡ nodes q →
     ((c : ℕ) → later (q ++ c ∷ []) ≡ nodes (q ++ c ∷ [])) → child_blocks sizes later q ≡ child_blocks sizes nodes q
-child_blocks-same sizes nodes later q here below =
-    ap (child_blocks_of sizes later q) here ∙ child_blocks_of-same sizes nodes later q (nodes q) below
+child_blocks-same sizes nodes later q here below = ap (child_blocks_of sizes later q) here ∙ child_blocks_of-same sizes nodes later q (nodes q) below
 
 -- a list's first p is out
 pub times_out : (p q : List ℕ) (paths : List (List ℕ)) → 0 < times p paths → q ≢ p → times q (without p paths) ≡ times q paths

@@ -10,8 +10,7 @@ module _ {X Y : Type 0} (f : List Bool × X → List Bool × Y) (keeps : (e : Li
 
   pub sorted_mapped : (es : List (List Bool × X)) → is_sorted listing_cmp (map f es) ≡ is_sorted listing_cmp es
   sorted_mapped [] = refl
-  sorted_mapped (e ∷ es) =
-      ap₂ (λ a b. a && b) (ap (λ k. below_all listing_cmp k (map f es)) (keeps e) ∙ below_mapped e.0 es) (sorted_mapped es)
+  sorted_mapped (e ∷ es) = ap₂ (λ a b. a && b) (ap (λ k. below_all listing_cmp k (map f es)) (keeps e) ∙ below_mapped e.0 es) (sorted_mapped es)
 
 module _ {T : Type 0} where
   -- a pair without its value

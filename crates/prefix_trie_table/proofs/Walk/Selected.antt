@@ -153,8 +153,7 @@ module _ {X : Type 0} where
   ] refl
 
 first-bits : (s t u : List Bool) → length t ≡ 5 → take 5 (drop (length s) ((s ++ t) ++ u)) ≡ t
-first-bits s t u five =
-    ap (λ k. take 5 (drop (length s) k)) (append_assoc s t u) ∙ ap (take 5) (drop_at s (t ++ u) (length s) refl) ∙ take_at t u 5 five
+first-bits s t u five = ap (λ k. take 5 (drop (length s) k)) (append_assoc s t u) ∙ ap (take 5) (drop_at s (t ++ u) (length s) refl) ∙ take_at t u 5 five
 
 -- a pair passes if its place does
 module _ {T : Type 0} (m : Entries T) (s : List Bool) (passes : List Bool × T → Bool) (test : List Bool → Bool)

@@ -127,8 +127,7 @@ module _ {K : Type 0} (IsKey : K → Type 0) (bits : K → List Bool) (width : �
 -- what is after a string is another
 pub others_after : (s : List Bool) (ss : List (List Bool)) → AllByRecursion (λ t. listing_cmp s t ≡ Less) ss → All (IsOther s) ss
 others_after s [] h = All-nil (IsOther s)
-others_after s (t ∷ ss) h =
-    All-cons (IsOther s) t ss (λ e. let less : listing_cmp s s ≡ Less = ap (listing_cmp s) (sym e) ∙ h.0 in let tie = listing-refl s in cc) (others_after s ss h.1)
+others_after s (t ∷ ss) h = All-cons (IsOther s) t ss (λ e. let less : listing_cmp s s ≡ Less = ap (listing_cmp s) (sym e) ∙ h.0 in let tie = listing-refl s in cc) (others_after s ss h.1)
 
 module _ {K : Type 0} (bits : K → List Bool) (key : K) where
   pub passed-below : (all below : List Spot) (p : Spot) → all ≡ below ++ p ∷ [] → ArePassed bits key all → All (IsPassed bits key) below

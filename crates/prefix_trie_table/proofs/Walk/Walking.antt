@@ -48,8 +48,7 @@ module _ {K T : Type 0} (IsKey : K → Type 0) (bits : K → List Bool) (width :
   pub same_rest : (arrays : Option (Bor (Store Node) × Bor (Store (Option T)))) (s u : ShapeOf arrays) (key : K) (ps qs : List Spot) → qs ≡ ps →
       rest_of_walk bits arrays u key qs ≡ rest_of_walk bits arrays s key ps
   same_rest None s u key ps qs e = refl
-  same_rest (Some a) s u key ps qs e =
-      ap (λ (x : State T). pending bits x.entries key qs) (same_shape a.0.now.slots a.1.now.slots u.0 s.0 u.1 s.1) ∙ ap (pending bits s.0.entries key) e
+  same_rest (Some a) s u key ps qs e = ap (λ (x : State T). pending bits x.entries key qs) (same_shape a.0.now.slots a.1.now.slots u.0 s.0 u.1 s.1) ∙ ap (pending bits s.0.entries key) e
 
   pub same_walk : (arrays : Option (Bor (Store Node) × Bor (Store (Option T)))) (s u : ShapeOf arrays) (key : K) (ps qs : List Spot) → qs ≡ ps →
       IsWalk IsKey bits width arrays s key ps → IsWalk IsKey bits width arrays u key qs

@@ -3,8 +3,7 @@ use Rattle.prefix_trie_table.proofs.Tree.Invariant.{sized_trie}
 use Rattle.prefix_trie_table.proofs.table.Table.into_walk_below.Goals as goal
 
 pub below-requires-clause-tree : goal.below-requires-clause-tree
-below-requires-clause-tree g c =
-    sized_trie _ _ _ _ c.self.inside.shape c.self.invariant _ c.self.view_is c.requires.within c.requires.nodes
+below-requires-clause-tree g c = sized_trie _ _ _ _ c.self.inside.shape c.self.invariant _ c.self.view_is c.requires.within c.requires.nodes
 
 pub returns : goal.returns
 returns g c =

@@ -9,8 +9,7 @@ use Rattle.prefix_trie_table.proofs.table.Table.remove_children.Goals as goal
 use Rattle.prefix_trie_table.proofs.table.Table.remove_children.Goals.{then-len-eq0, else-len-eq0}
 
 pub lay_part-requires-clause-trie : goal.lay_part-requires-clause-trie
-lay_part-requires-clause-trie g c =
-    (c.self.inside.shape.0, c.self.inside.count, seen_trie c.self.inside.shape c.self.invariant c.self.view_is refl c.requires.within c.requires.nodes)
+lay_part-requires-clause-trie g c = (c.self.inside.shape.0, c.self.inside.count, seen_trie c.self.inside.shape c.self.invariant c.self.view_is refl c.requires.within c.requires.nodes)
 
 pub same-self : goal.same-self
 same-self g c =
@@ -20,8 +19,7 @@ same-self g c =
     (Shaped-prop g.row.T.coded i.nodes.slots i.cells.slots own.0 i.shape) (Sized-prop i.nodes.slots own.1.0 i.sizes)
 
 pub move_part-nodes-requires-clause-trie : goal.move_part-nodes-requires-clause-trie
-move_part-nodes-requires-clause-trie g c =
-    (c.self.inside.shape.0, seen_trie c.self.inside.shape c.self.invariant c.self.view_is refl c.requires.within c.requires.nodes)
+move_part-nodes-requires-clause-trie g c = (c.self.inside.shape.0, seen_trie c.self.inside.shape c.self.invariant c.self.view_is refl c.requires.within c.requires.nodes)
 
 pub invariant_of-self-inside-2 : goal.invariant_of-self-inside-2
 invariant_of-self-inside-2 g c =
@@ -34,8 +32,7 @@ overflow_sub-second g c =
     (rest_counted g.K.Key.bit_width _ c.self.inside.count _ _ c.self.inside.shape.0 (take c.args.len (g.K.Key.bits c.args.key)) left c.self.invariant.sized).0
 
 pub invariant_of-self : goal.invariant_of-self
-invariant_of-self g c =
-    table_seen (c.move_part-nodes.ensures.removed _ (seen_trie c.self.inside.shape c.self.invariant c.self.view_is refl c.requires.within c.requires.nodes)) c.self-2-1.given.0
+invariant_of-self g c = table_seen (c.move_part-nodes.ensures.removed _ (seen_trie c.self.inside.shape c.self.invariant c.self.view_is refl c.requires.within c.requires.nodes)) c.self-2-1.given.0
 
 pub invariant_of-self-else-len-eq0 : goal.invariant_of-self-else-len-eq0
 invariant_of-self-else-len-eq0 g c =

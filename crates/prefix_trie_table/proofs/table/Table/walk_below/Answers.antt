@@ -3,8 +3,7 @@ use Rattle.prefix_trie_table.proofs.Tree.Invariant.{sized_trie}
 use Rattle.prefix_trie_table.proofs.table.Table.walk_below.Goals as goal
 
 pub walk_at-requires-clause-tree : goal.walk_at-requires-clause-tree
-walk_at-requires-clause-tree g c =
-    sized_trie _ _ _ _ c.self.inside.shape c.self.invariant _ c.self.view_is c.requires.within c.requires.nodes
+walk_at-requires-clause-tree g c = sized_trie _ _ _ _ c.self.inside.shape c.self.invariant _ c.self.view_is c.requires.within c.requires.nodes
 
 pub returns : goal.returns
 returns g c =

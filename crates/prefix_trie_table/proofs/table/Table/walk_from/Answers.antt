@@ -4,8 +4,7 @@ use Rattle.prefix_trie_table.proofs.table.Table.walk_from.Goals as goal
 use Rattle.prefix_trie_table.proofs.table.Table.walk_from.Goals.{then-inclusive, else-inclusive}
 
 pub walk_at-requires-clause-tree : goal.walk_at-requires-clause-tree
-walk_at-requires-clause-tree g c =
-    sized_trie _ _ _ _ c.self.inside.shape c.self.invariant _ c.self.view_is c.requires.within c.requires.nodes
+walk_at-requires-clause-tree g c = sized_trie _ _ _ _ c.self.inside.shape c.self.invariant _ c.self.view_is c.requires.within c.requires.nodes
 
 pub returns : goal.returns
 returns g c =

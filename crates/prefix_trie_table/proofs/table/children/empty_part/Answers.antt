@@ -51,5 +51,4 @@ returns-clause-emptied g c = λ s trie.
     }
 
 pub returns-clause-node : goal.returns-clause-node
-returns-clause-node g c =
-    ap (read c.retain_places.new.nodes.slots) (sym (home_steps (g.K.Key.bits c.args.key) c.args.len c.requires.reached.long)) ∙ c.retain_places.ensures.node.stands
+returns-clause-node g c = ap (read c.retain_places.new.nodes.slots) (sym (home_steps (g.K.Key.bits c.args.key) c.args.len c.requires.reached.long)) ∙ c.retain_places.ensures.node.stands

@@ -27,5 +27,4 @@ returns-clause-nodes g c = λ reading paths hold.
     ∙ sym (nodes_counted _ reading paths c.args.nodes.now hold)
 
 pub returns-clause-visits : goal.returns-clause-visits
-returns-clause-visits g c =
-    omega (arith, c.loop-slot.invariant.1, c.len-slot-end.ensures.len, c.loop-slot-test.false, c.loop-slot.auto.slot-end)
+returns-clause-visits g c = omega (arith, c.loop-slot.invariant.1, c.len-slot-end.ensures.len, c.loop-slot-test.false, c.loop-slot.auto.slot-end)

@@ -15,8 +15,7 @@ returns-in_err-second_nodes-clause-range g c =
     rw (p.1, p.2) (for_memory c.in_err-second_nodes.field-0.0 (λ e. let none = (c.in_err-second_nodes.ensures.range).0 e in absurd (omega (arith, none, stands, within))))
 
 pub visit-root-requires : goal.visit-root-requires
-visit-root-requires g c =
-    root_slot c.args.nodes.now c.args.cells.now (some_table c.requires.trie.2.table)
+visit-root-requires g c = root_slot c.args.nodes.now c.args.cells.now (some_table c.requires.trie.2.table)
 
 pub lay_node-requires-clause-source : goal.lay_node-requires-clause-source
 lay_node-requires-clause-source g c =

@@ -96,8 +96,7 @@ add_child-at-requires-in-loop-level-clause-stands g c =
     (record { reading = a.later; paths = a.paths; hold = a.holds.hold }, deepest_there a.deep)
 
 pub add_child-at-requires-in-loop-level-clause-missing : goal.add_child-at-requires-in-loop-level-clause-missing
-add_child-at-requires-in-loop-level-clause-missing g c =
-    ap (λ (k : Node). has_bit k.child_bitmap c.child_bit_of.result) c.blank.ensures ∙ has_bit-zero c.child_bit_of.result
+add_child-at-requires-in-loop-level-clause-missing g c = ap (λ (k : Node). has_bit k.child_bitmap c.child_bit_of.result) c.blank.ensures ∙ has_bit-zero c.child_bit_of.result
 
 pub add_child-at-requires-in-loop-level-clause-ready : goal.add_child-at-requires-in-loop-level-clause-ready
 add_child-at-requires-in-loop-level-clause-ready g c =
@@ -146,8 +145,7 @@ add_value-requires-2-clause-stands g c =
     (record { reading = a.later; values = t.values; paths = a.paths; holds = a.holds }, deepest_there a.deep)
 
 pub add_value-requires-2-clause-missing : goal.add_value-requires-2-clause-missing
-add_value-requires-2-clause-missing g c =
-    ap (λ (k : Node). has_bit k.value_bitmap c.value_bit_of-bit-2.result) c.blank-2.ensures ∙ has_bit-zero c.value_bit_of-bit-2.result
+add_value-requires-2-clause-missing g c = ap (λ (k : Node). has_bit k.value_bitmap c.value_bit_of-bit-2.result) c.blank-2.ensures ∙ has_bit-zero c.value_bit_of-bit-2.result
 
 pub add_value-requires-2-clause-ready : goal.add_value-requires-2-clause-ready
 add_value-requires-2-clause-ready g c =

@@ -79,9 +79,7 @@ returns-after-loop-level-clause-pruned g c = λ reading paths hold slots is.
     record { level = c.loop-level.level; node = c.loop-level.node; to = p.to; stops = inl (omega (arith, c.loop-level-test.false)) }
 
 pub returns-else-is_bare-clause-settles : goal.returns-else-is_bare-clause-settles
-returns-else-is_bare-clause-settles g c =
-    (let s = c.requires.stands in (c.loop-level.invariant.pruned s.reading s.paths s.hold s.slots s.is).to.settles)
+returns-else-is_bare-clause-settles g c = (let s = c.requires.stands in (c.loop-level.invariant.pruned s.reading s.paths s.hold s.slots s.is).to.settles)
 
 pub returns-after-loop-level-clause-settles : goal.returns-after-loop-level-clause-settles
-returns-after-loop-level-clause-settles g c =
-    (let s = c.requires.stands in (c.loop-level.invariant.pruned s.reading s.paths s.hold s.slots s.is).to.settles)
+returns-after-loop-level-clause-settles g c = (let s = c.requires.stands in (c.loop-level.invariant.pruned s.reading s.paths s.hold s.slots s.is).to.settles)

@@ -32,8 +32,7 @@ take_value-taken-requires-clause-there g c =
 
 -- the bit of the value is set
 there : (g : given.Over) (c : goal.After-row_known-1 g) → is_set c.args.node.value_bitmap c.value_bit_of-bit.result ≡ true
-there g c =
-    has_bit-is c.args.node.value_bitmap c.value_bit_of-bit.result (omega (arith, c.value_bit_of-bit.ensures.small)) ∙ sym c.has_bit.ensures ∙ c.if-not-has_bit.false
+there g c = has_bit-is c.args.node.value_bitmap c.value_bit_of-bit.result (omega (arith, c.value_bit_of-bit.ensures.small)) ∙ sym c.has_bit.ensures ∙ c.if-not-has_bit.false
 
 pub returns-clause-value : goal.returns-clause-value
 returns-clause-value g c = λ reading paths values holds.

@@ -42,8 +42,7 @@ pub rank-requires : goal.rank-requires
 rank-requires g c = omega (arith, c.requires.bit)
 
 pub put-requires : goal.put-requires
-put-requires g c =
-    (at_is c.args.nodes.now (c.args.at.start + c.args.at.place) (at_values c.args.nodes.now c.args.cells.now (c.args.at.start + c.args.at.place) c.requires.stands)).1
+put-requires g c = (at_is c.args.nodes.now (c.args.at.start + c.args.at.place) (at_values c.args.nodes.now c.args.cells.now (c.args.at.start + c.args.at.place) c.requires.stands)).1
 
 pub overflow_cast-left : goal.overflow_cast-left
 overflow_cast-left g c = omega (arith, c.remove_at-value.ensures.tier, tiers_long c.args.cells.now.tiers cell_sizes c.requires.stands.0.holds.cells.sizes_are)

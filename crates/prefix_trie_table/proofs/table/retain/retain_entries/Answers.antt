@@ -7,8 +7,7 @@ use Rattle.prefix_trie_table.proofs.Tree.Trees.{read-nil}
 use Rattle.prefix_trie_table.proofs.table.retain.retain_entries.Goals as goal
 
 pub visit-root-requires : goal.visit-root-requires
-visit-root-requires g c =
-    root_inside g.K.Key.bit_width c.args.nodes.now _ c.requires.trie.1
+visit-root-requires g c = root_inside g.K.Key.bit_width c.args.nodes.now _ c.requires.trie.1
 
 pub new-places-requires : goal.new-places-requires
 new-places-requires g c =

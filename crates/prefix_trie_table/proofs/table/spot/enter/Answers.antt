@@ -4,8 +4,7 @@ use Rattle.prefix_trie_table.proofs.Lookup.Matching.{clear-small}
 use Rattle.prefix_trie_table.proofs.table.spot.enter.Goals as goal
 
 pub new-places-requires : goal.new-places-requires
-new-places-requires g c =
-    clear-small c.visit-node.result.value_bitmap (omega arith) (ap (λ n. has_bit n.value_bitmap 31) c.visit-node.ensures.node ∙ c.requires.few)
+new-places-requires g c = clear-small c.visit-node.result.value_bitmap (omega arith) (ap (λ n. has_bit n.value_bitmap 31) c.visit-node.ensures.node ∙ c.requires.few)
 
 pub returns-clause-each : goal.returns-clause-each
 returns-clause-each g c =

@@ -8,8 +8,7 @@ pub enter-requires-clause-stands : goal.enter-requires-clause-stands
 enter-requires-clause-stands g c = root_inside g.K.Key.bit_width c.args.nodes.now _ c.requires.1
 
 pub enter-requires-clause-few : goal.enter-requires-clause-few
-enter-requires-clause-few g c =
-    few_at g.K.Key.bit_width c.args.nodes.now _ c.requires.1 [] (node_at c.args.nodes.now.slots 0) (read-nil c.args.nodes.now.slots)
+enter-requires-clause-few g c = few_at g.K.Key.bit_width c.args.nodes.now _ c.requires.1 [] (node_at c.args.nodes.now.slots 0) (read-nil c.args.nodes.now.slots)
 
 pub invariant_of-result-2 : goal.invariant_of-result-2
 invariant_of-result-2 g c =

@@ -61,8 +61,7 @@ insert_moving-start-requires-clause-ready g c =
     omega (arith, c.requires.ready.1 size, how_many-needs (list_need ts c.args.k c.args.count) 0 size, one)
 
 pub insert_moving-start-requires-clause-holds : goal.insert_moving-start-requires-clause-holds
-insert_moving-start-requires-clause-holds g c =
-    (let h = (smallest_holds (tier_sizes c.args.self.now.tiers) (c.args.count + 1) _ c.tier_holding-tier.ensures.size).1 in omega (arith, h))
+insert_moving-start-requires-clause-holds g c = (let h = (smallest_holds (tier_sizes c.args.self.now.tiers) (c.args.count + 1) _ c.tier_holding-tier.ensures.size).1 in omega (arith, h))
 
 moves : (g : given.Over) (c : goal.After-insert_moving-start g) → list_need c.args.self.now.tiers c.args.k c.args.count ≡ Some (size_in (tier_sizes c.args.self.now.tiers) c.tier_holding-tier.result)
 moves g c = need_full c.args.self.now.tiers c.args.k c.args.count c.requires.some (omega (arith, c.if-count-size_of.false, c.size_of.ensures)) ∙ c.tier_holding-tier.ensures.size

@@ -11,8 +11,7 @@ returns-then-count-eq0-clause-size g c =
     need_first c.args.self.now.tiers c.args.k c.args.count c.if-count-eq0.true ∙ one.0 ∙ ap Some (sym one.1)
 
 pub returns-then-count-size_of-clause-size : goal.returns-then-count-size_of-clause-size
-returns-then-count-size_of-clause-size g c =
-    need_none c.args.self.now.tiers c.args.k c.args.count (omega (arith, c.if-count-eq0.false)) (omega (arith, c.if-count-size_of.true, c.size_of.ensures))
+returns-then-count-size_of-clause-size g c = need_none c.args.self.now.tiers c.args.k c.args.count (omega (arith, c.if-count-eq0.false)) (omega (arith, c.if-count-size_of.true, c.size_of.ensures))
 
 pub returns-clause-size : goal.returns-clause-size
 returns-clause-size g c =

@@ -23,8 +23,7 @@ returns-in-Some-clause-loses g c =
 -- the block of the rest
 rest : {S : Type 0} (vacant : S) (v w : Store S) (xs : List S) (live : List (UsedBlock S)) (o : Option BlockRef) (p : BlockRef) → o ≡ Some p →
     MatchOption o (Sound vacant live w) (λ p. Sound vacant (block p.tier p.start (tier_at v.tiers p.tier).size xs ∷ live) w) → Sound vacant (block p.tier p.start (tier_at v.tiers p.tier).size xs ∷ live) w
-rest {S} vacant v w xs live o p is =
-    subst (λ (q : Option BlockRef). MatchOption q (Sound vacant live w) (λ p. Sound vacant (block p.tier p.start (tier_at v.tiers p.tier).size xs ∷ live) w)) is
+rest {S} vacant v w xs live o p is = subst (λ (q : Option BlockRef). MatchOption q (Sound vacant live w) (λ p. Sound vacant (block p.tier p.start (tier_at v.tiers p.tier).size xs ∷ live) w)) is
 
 pub returns-in-Some-clause-sound : goal.returns-in-Some-clause-sound
 returns-in-Some-clause-sound g c = λ n xs live s count.

@@ -87,8 +87,7 @@ pub step_down-requires-clause-within : goal.step_down-requires-clause-within
 step_down-requires-clause-within g c = c.tier_holding-tier.ensures.within
 
 pub step_down-requires-clause-holds : goal.step_down-requires-clause-holds
-step_down-requires-clause-holds g c =
-    (smallest_holds (tier_sizes c.remove_within-value.new.self.tiers) (c.args.count - 1) _ c.tier_holding-tier.ensures.size).1
+step_down-requires-clause-holds g c = (smallest_holds (tier_sizes c.remove_within-value.new.self.tiers) (c.args.count - 1) _ c.tier_holding-tier.ensures.size).1
 
 pub returns-in-Some-clause-value : goal.returns-in-Some-clause-value
 returns-in-Some-clause-value g c = λ n xs live sound count.

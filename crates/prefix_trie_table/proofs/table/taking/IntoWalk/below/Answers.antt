@@ -4,12 +4,10 @@ use Rattle.prefix_trie_table.proofs.Walk.Taking.{seated, walk_below, below_given
 use Rattle.prefix_trie_table.proofs.table.taking.IntoWalk.below.Goals as goal
 
 pub start_at-stack-requires-clause-tree : goal.start_at-stack-requires-clause-tree
-start_at-stack-requires-clause-tree g c =
-    (record { count = size c.requires.tree.0.entries; cells = c.args.cells; shape = c.requires.tree.0 }, c.requires.tree.1)
+start_at-stack-requires-clause-tree g c = (record { count = size c.requires.tree.0.entries; cells = c.args.cells; shape = c.requires.tree.0 }, c.requires.tree.1)
 
 pub invariant_of-result : goal.invariant_of-result
-invariant_of-result g c =
-    (seated g.K.Key.IsKey g.K.Key.bits g.K.Key.bit_width c.args.nodes c.args.cells c.requires.tree.0 c.requires.tree.1, tt)
+invariant_of-result g c = (seated g.K.Key.IsKey g.K.Key.bits g.K.Key.bit_width c.args.nodes c.args.cells c.requires.tree.0 c.requires.tree.1, tt)
 
 pub invariant_of-result-2 : goal.invariant_of-result-2
 invariant_of-result-2 g c =
