@@ -76,7 +76,8 @@ module _ {K : Type 0} (bits : K → List Bool) where
 
   -- each question has its answer
   abbrev pub AreAnswers : List Node → List (K × ℕ) → List (Option Found) → Type 0
-  AreAnswers nodes questions found = (i : ℕ) (q : K × ℕ) (a : Option Found) → i < length questions → q ≡ slice_index_or questions i q → a ≡ slice_index_or found i a → IsAnswer nodes q a
+  AreAnswers nodes questions found =
+      (i : ℕ) (q : K × ℕ) (a : Option Found) → i < length questions → q ≡ slice_index_or questions i q → a ≡ slice_index_or found i a → IsAnswer nodes q a
 
   module _ (v : Store Node) (questions : List (K × ℕ)) where
     -- the way of a question has come to the node ahead, and the longest match above it is known

@@ -121,11 +121,13 @@ module _ {T : Type 0} where
 
 -- the nodes where p has become m, with a blank child c more
 abbrev pub with_child : (List ℕ → Option Node) → List ℕ → Node → ℕ → List ℕ → Option Node
-with_child nodes p m c q = cond (same_path q (p ++ c ∷ [])) (Some blank_node) (cond (same_path q p) (Some m) (nodes q))
+with_child nodes p m c q =
+    cond (same_path q (p ++ c ∷ [])) (Some blank_node) (cond (same_path q p) (Some m) (nodes q))
 
 -- the nodes where p has become m, with the child c less
 abbrev pub lacking_child : (List ℕ → Option Node) → List ℕ → Node → ℕ → List ℕ → Option Node
-lacking_child nodes p m c q = cond (same_path q (p ++ c ∷ [])) None (cond (same_path q p) (Some m) (nodes q))
+lacking_child nodes p m c q =
+    cond (same_path q (p ++ c ∷ [])) None (cond (same_path q p) (Some m) (nodes q))
 
 -- the nodes where p has become m
 abbrev pub with_node : (List ℕ → Option Node) → List ℕ → Node → List ℕ → Option Node

@@ -39,11 +39,13 @@ SeatAt o seat n = MatchOption o (seat ≡ None) (λ m. (seat ≡ Some (match_sea
 
 -- of the beginnings of q whose length is `first` or more and below `end`, the longest that has a value, if any has one
 abbrev pub LongestHeld : (List ℕ → Option Node) → List Bool → ℕ → ℕ → Option Match → Type 0
-LongestHeld reading q first end o = MatchOption o (NoneHeld reading q first end) (λ m. IsHeld reading q m.len m.bit m.node × NoneHeld reading q (m.len + 1) end)
+LongestHeld reading q first end o =
+    MatchOption o (NoneHeld reading q first end) (λ m. IsHeld reading q m.len m.bit m.node × NoneHeld reading q (m.len + 1) end)
 
 -- the shortest that has one
 abbrev pub ShortestHeld : (List ℕ → Option Node) → List Bool → ℕ → ℕ → Option Match → Type 0
-ShortestHeld reading q first end o = MatchOption o (NoneHeld reading q first end) (λ m. IsHeld reading q m.len m.bit m.node × NoneHeld reading q first m.len)
+ShortestHeld reading q first end o =
+    MatchOption o (NoneHeld reading q first end) (λ m. IsHeld reading q m.len m.bit m.node × NoneHeld reading q first m.len)
 
 -- no node has a value bit 31
 abbrev pub LackLastBit : (List ℕ → Option Node) → Type 0

@@ -114,11 +114,13 @@ module _ {F T : Type 0} (asks : F → List Bool → T → Bool → F → Type 0)
     pub retains : Retains s ts f before f' after
 
   abbrev pub RetainsIn : ℕ → List Bool → List (List Bool) → F → ℕ → Store Node → Store (Option T) → F → ℕ → Store Node → Store (Option T) → Type 0
-  RetainsIn width s ts f count v w f' count2 v2 w2 = (before : State T) → IsTrie width count v w before → RetainsTo width s ts f before f' count2 v2 w2
+  RetainsIn width s ts f count v w f' count2 v2 w2 =
+      (before : State T) → IsTrie width count v w before → RetainsTo width s ts f before f' count2 v2 w2
 
   -- the test may be asked at each entry of these places
   abbrev pub MayAskAt : ℕ → List Bool → List (List Bool) → F → ℕ → Store Node → Store (Option T) → Type 0
-  MayAskAt width s ts f count v w = (before : State T) → IsTrie width count v w before → MayAskInOrder asks accepts f (listing_at_places before.entries s ts)
+  MayAskAt width s ts f count v w =
+      (before : State T) → IsTrie width count v w before → MayAskInOrder asks accepts f (listing_at_places before.entries s ts)
 
   -- the test may be asked at each entry below q
   abbrev pub MayAskBelow : ℕ → List Bool → F → ℕ → Store Node → Store (Option T) → Type 0

@@ -30,4 +30,5 @@ pub record IsSeat (reading : List ℕ → Option Node) (path : List ℕ) (b : �
 
 -- the seat of the value at a bit string, if there is one
 abbrev pub SeatOf : (List ℕ → Option Node) → List Bool → Option Seat → Type 0
-SeatOf reading q o = MatchOption o (has_value (reading (path_of q)) (bit_of q) ≡ false) (λ seat. IsSeat reading (path_of q) (bit_of q) seat)
+SeatOf reading q o =
+    MatchOption o (has_value (reading (path_of q)) (bit_of q) ≡ false) (λ seat. IsSeat reading (path_of q) (bit_of q) seat)

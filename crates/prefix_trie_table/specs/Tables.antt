@@ -73,7 +73,8 @@ pub record GrowsBoth {T X E : Type 0} (for_limit : E → Type 0) (r : Result X E
 module _ {T : Type 0} where
   -- a fact about each way to read these arrays as a table: its nodes, their paths and its values
   abbrev pub ForHeld : Store Node → Store (Option T) → ((List ℕ → Option Node) → List (List ℕ) → (List ℕ → ℕ → Option T) → Type 0) → Type 0
-  ForHeld v w P = (reading : List ℕ → Option Node) (paths : List (List ℕ)) (values : List ℕ → ℕ → Option T) → Holds reading values paths v w → P reading paths values
+  ForHeld v w P =
+      (reading : List ℕ → Option Node) (paths : List (List ℕ)) (values : List ℕ → ℕ → Option T) → Holds reading values paths v w → P reading paths values
 
   -- the value at the first len bits of b
   abbrev pub own_value : (List ℕ → ℕ → Option T) → List Bool → ℕ → Option T
@@ -81,4 +82,5 @@ module _ {T : Type 0} where
 
   -- the value at the first len bits of b was set to x, and the nodes on the way were added
   abbrev pub EntrySet : (List ℕ → Option Node) → List (List ℕ) → (List ℕ → ℕ → Option T) → List Bool → ℕ → T → Store Node → Store (Option T) → Type 0
-  EntrySet reading paths values b len x v w = EntryAdded reading values paths (path_of (take len b)) (bit_of (take len b)) (Some x) v w
+  EntrySet reading paths values b len x v w =
+      EntryAdded reading values paths (path_of (take len b)) (bit_of (take len b)) (Some x) v w

@@ -55,7 +55,8 @@ sum_to f (suc n) = sum_to f n + f n
 -- what a node has and all nodes below it on so many levels
 abbrev pub slots_below : (Node → ℕ) → List Node → ℕ → Node → ℕ
 slots_below own nodes zero n = own n
-slots_below own nodes (suc levels) n = own n + sum_to (λ c. cond (has_bit n.child_bitmap c) (slots_below own nodes levels (node_at nodes (child_slot n c))) 0) 32
+slots_below own nodes (suc levels) n =
+    own n + sum_to (λ c. cond (has_bit n.child_bitmap c) (slots_below own nodes levels (node_at nodes (child_slot n c))) 0) 32
 
 -- what a child has and all nodes below it
 abbrev pub slots_at_child : (Node → ℕ) → List Node → ℕ → Node → ℕ → ℕ

@@ -14,7 +14,8 @@ use Rattle.prefix_trie_table.specs.Matching.{NoneHeld, IsHeld, IsOnWay}
 
 -- the matches are the value bits of a node, at so many bits of q, whose strings begin q and have `first` bits or more with the node's
 abbrev pub AreLeft : ℕ → ℕ → ℕ → ℕ → List Bool → Type 0
-AreLeft matches bitmap depth first q = HoldsValues matches (λ s. begins s (drop depth q) && (nat_le first (depth + length s) && has bitmap (value_bit s)))
+AreLeft matches bitmap depth first q =
+    HoldsValues matches (λ s. begins s (drop depth q) && (nat_le first (depth + length s) && has bitmap (value_bit s)))
 
 -- the walk over the first len bits of b stands at this node, and the beginnings of `first` bits or more are still to come
 pub record IsCovering (b : List Bool) (len level : ℕ) (node : Node) (slot matches first : ℕ) (v : Store Node) : Type 0 where
@@ -51,7 +52,8 @@ pub record GoesOn (b : List Bool) (len level : ℕ) (node : Node) (slot matches 
 
 -- whether a beginning is still to come, by the matches of the node where the walk stands
 abbrev pub is_ahead : ℕ → ℕ → List Bool → Bool
-is_ahead level matches s = nat_le (5 * level + 5) (length s) || (nat_le (5 * level) (length s) && has matches (value_bit (drop (5 * level) s)))
+is_ahead level matches s =
+    nat_le (5 * level + 5) (length s) || (nat_le (5 * level) (length s) && has matches (value_bit (drop (5 * level) s)))
 
 -- the entries still to come
 abbrev pub still_covering : {T : Type 0} → Entries T → List Bool → ℕ → ℕ → List (List Bool × T)

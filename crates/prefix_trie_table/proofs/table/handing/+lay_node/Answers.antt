@@ -1,4 +1,4 @@
-use Rattle.prefix_trie_table.proofs.Prelude.{rules, ℕ, None, replicate, sym, ap, subst, ◌∙◌, arith, ◌≡◌, ◌+◌, ◌-◌, List, [], length, drop, take, bit_and, Memory, node_at, blank_node, node_sizes, cell_sizes, Node, child_slots, value_slots, sum_to, slots_at_child, slots_below, IsBough, IsLaid, NothingLaid, LaysNode, LaysList, Lays, tier_sizes}
+use Rattle.prefix_trie_table.proofs.Prelude.{ℕ, None, replicate, sym, ap, subst, ◌∙◌, arith, ◌≡◌, ◌+◌, ◌-◌, List, [], length, drop, take, bit_and, err_from_is_err_and, Memory, node_at, blank_node, node_sizes, cell_sizes, Node, child_slots, value_slots, sum_to, slots_at_child, slots_below, IsBough, IsLaid, NothingLaid, LaysNode, LaysList, Lays, tier_sizes}
 use Rattle.prefix_trie_table.proofs.HandingOut.Boughs.{first, bough_start, bough_few, bough_clear, bough_passed, bough_grafted, bough_closed, bough_bare}
 use Rattle.prefix_trie_table.proofs.HandingOut.Ground.{Lays-none, can_lay_then}
 use Rattle.prefix_trie_table.proofs.HandingOut.Parts.{kept, own_values, left_out, below_it}
@@ -10,7 +10,13 @@ use Rattle.prefix_trie_table.proofs.Strings.Bits.{has_bit-is, rank-ones}
 use Rattle.prefix_trie_table.proofs.Strings.BitLists.{rank-le, rank-lacks}
 use Rattle.prefix_trie_table.proofs.table.handing.+lay_node.Goals as goal
 
+pub masks-values-requires : goal.masks-values-requires
+masks-values-requires g t c = record { key = c.requires.key; whole = c.requires.whole; within = c.requires.within }
+
 -- the values that are laid, and their block
+pub lay_vacant-requires-clause-sound : goal.lay_vacant-requires-clause-sound
+lay_vacant-requires-clause-sound g t c = (c.requires.cells.live, c.requires.cells.sound)
+
 pub lay_vacant-requires-clause-fits : goal.lay_vacant-requires-clause-fits
 lay_vacant-requires-clause-fits g t c =
     let values : ℕ = bit_and c.args.node.value_bitmap c.masks-values.result.0 in
@@ -18,15 +24,18 @@ lay_vacant-requires-clause-fits g t c =
     let counted = c.count.ensures ∙ sym (rank-ones values 32 (omega arith)) in
     cell_fits c.args.cells.now.tiers c.count.result c.requires.cells.sizes_are (omega (arith, few, counted))
 
-pub returns-in_err-own-clause-memory : goal.returns-in_err-own-clause-memory
-returns-in_err-own-clause-memory g t c =
+pub overflow_cast-laid : goal.overflow_cast-laid
+overflow_cast-laid g t c = omega (arith, laid_tier None c.args.cells.now c.lay_vacant.new.self _ c.in_ok-own.own cell_sizes c.requires.cells.sizes_are (omega arith) c.in_ok-own.ensures.laid)
+
+pub returns-in_err-own : goal.returns-in_err-own
+returns-in_err-own g t c =
     let values : ℕ = bit_and c.args.node.value_bitmap c.masks-values.result.0 in
     let packed = values_packed c.args.node (tier_sizes c.args.cells.now.tiers) values c.count.result c.requires.cells.sizes_are
     (c.count.ensures ∙ sym (rank-ones values 32 (omega arith))) (kept c.args.node.value_bitmap c.masks-values.result.0)
     (own_within c.args.from.now c.args.node c.args.levels c.requires.source) in
     let split = slots_split value_slots c.args.from.now.slots c.args.levels c.args.node in
     let memory : c.in_err-own.field-0.0 ≡ Memory = for_memory c.in_err-own.field-0.0 (λ is. let past = c.in_err-own.ensures.range is in absurd (omega (arith, past, packed, split, c.requires.cells.space))) in
-    search (rules, memory)
+    let p = err_from_is_err_and c.from_residual.result c.from_residual.ensures.1 in rw (p.1, p.2) (record { laid = tt; memory = memory })
 
 pub loop-child-init : goal.loop-child-init
 loop-child-init g t c =
@@ -82,6 +91,9 @@ lay_node-requires g t c κs within =
     c.requires.cells inv.cells (let r = room value_slots in omega (arith, r)) in
     (omega (arith, some), (within.0, (within.1.0, (within.1.1.0, (within.1.1.1, (c.requires.key, (c.requires.within, (c.masks-values.ensures.most, (below, (nodes, cells))))))))))
 
+pub returns-in_err-twig : goal.returns-in_err-twig
+returns-in_err-twig g t c = let p = err_from_is_err_and c.from_residual-in_err-twig.result c.from_residual-in_err-twig.ensures.1 in rw (p.1, p.2) (record { laid = tt; memory = c.in_err-twig.ensures.memory })
+
 pub loop-child-preserved-in_default : goal.loop-child-preserved-in_default
 loop-child-preserved-in_default g t c =
     let child : ℕ = c.loop-child.child in
@@ -103,6 +115,9 @@ pub push-requires : goal.push-requires
 push-requires g t c =
     let clear = bough_clear c.loop-child.invariant c.loop-child.child (omega arith) in
     (omega arith, omega (arith, bough_few c.loop-child.invariant, rank-lacks c.loop-child.laid.child_bitmap 32 c.loop-child.child c.loop-child-test.true clear))
+
+pub with_bit-requires-clause-bit : goal.with_bit-requires-clause-bit
+with_bit-requires-clause-bit g t c = c.loop-child-test.true
 
 pub with_bit-requires-clause-clear : goal.with_bit-requires-clause-clear
 with_bit-requires-clause-clear g t c =
@@ -147,8 +162,11 @@ lay-requires-clause-fits g t c =
     let most = rank-le c.loop-child.laid.child_bitmap 32 in
     node_fits c.loop-child.nodes.tiers (length c.deref.result.now) (c.loop-child.invariant.nodes.keeps.sizes ∙ c.requires.nodes.sizes_are) (omega (arith, few, same, most))
 
-pub returns-in_err-list-clause-memory : goal.returns-in_err-list-clause-memory
-returns-in_err-list-clause-memory g t c =
+pub lay-requires-clause-few : goal.lay-requires-clause-few
+lay-requires-clause-few g t c = omega (arith, bough_few c.loop-child.invariant, ap (λ (xs : List Node). length xs) c.deref.ensures.0, rank-le c.loop-child.laid.child_bitmap 32)
+
+pub returns-in_err-list : goal.returns-in_err-list
+returns-in_err-list g t c =
     let all : c.loop-child.child ≡ 32 = (let h = c.loop-child-test.false in let e = c.loop-child.auto.child-end in omega (arith, h, e)) in
     let same = ap (λ (xs : List Node). length xs) c.deref.ensures.0 in
     let packed = children_packed c.args.node (tier_sizes c.loop-child.nodes.tiers) c.loop-child.laid.child_bitmap (length c.deref.result.now)
@@ -157,7 +175,7 @@ returns-in_err-list-clause-memory g t c =
     let left = can_lay_then blank_node c.args.nodes.now c.loop-child.nodes node_sizes _ _ (child_slots c.args.node) _ c.requires.nodes c.loop-child.invariant.nodes
     (omega (arith, slots_split child_slots c.args.from.now.slots c.args.levels c.args.node, sums)) in
     let memory : c.in_err-list.field-0.0 ≡ Memory = for_memory c.in_err-list.field-0.0 (λ is. let past = c.in_err-list.ensures.range is in absurd (omega (arith, past, packed, left.space))) in
-    search (rules, memory)
+    let p = err_from_is_err_and c.from_residual-in_err-list.result c.from_residual-in_err-list.ensures.1 in rw (p.1, p.2) (record { laid = tt; memory = memory })
 
 pub overflow_cast-laid-2 : goal.overflow_cast-laid-2
 overflow_cast-laid-2 g t c =
