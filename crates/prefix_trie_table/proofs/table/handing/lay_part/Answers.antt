@@ -7,12 +7,15 @@ use Rattle.prefix_trie_table.proofs.Tree.Invariant.{some_table}
 use Rattle.prefix_trie_table.proofs.table.handing.lay_part.Goals.{in-Some, in_default-top}
 use Rattle.prefix_trie_table.proofs.table.handing.lay_part.Goals as goal
 
-pub returns-in_err-second_nodes-clause-range : goal.returns-in_err-second_nodes-clause-range
-returns-in_err-second_nodes-clause-range g c =
+pub returns-in_err-second_nodes : goal.returns-in_err-second_nodes
+returns-in_err-second_nodes g c =
     let p = err_from_is_err_and c.from_residual.result c.from_residual.ensures.1 in
     let stands = root_slot c.args.nodes.now c.args.cells.now (some_table c.requires.trie.2.table) in
     let within = c.requires.trie.2.table.nodes_within in
-    rw (p.1, p.2) (for_memory c.in_err-second_nodes.field-0.0 (λ e. let none = (c.in_err-second_nodes.ensures.range).0 e in absurd (omega (arith, none, stands, within))))
+    rw (p.1, p.2) (record { laid = tt; range = for_memory c.in_err-second_nodes.field-0.0 (λ e. let none = (c.in_err-second_nodes.ensures.range).0 e in absurd (omega (arith, none, stands, within))) })
+
+pub returns-in_err-top : goal.returns-in_err-top
+returns-in_err-top g c = let p = err_from_is_err_and c.from_residual-in_err-top.result c.from_residual-in_err-top.ensures.1 in rw (p.1, p.2) (record { laid = tt; range = c.in_err-top.ensures.memory })
 
 pub visit-root-requires : goal.visit-root-requires
 visit-root-requires g c = root_slot c.args.nodes.now c.args.cells.now (some_table c.requires.trie.2.table)

@@ -12,6 +12,9 @@ use Rattle.prefix_trie_table.proofs.table.insertion.add_entry.Goals as goal
 
 -- ---- a value in a node that stands
 
+pub add_value-requires-clause-bit : goal.add_value-requires-clause-bit
+add_value-requires-clause-bit g c = c.value_bit_of-bit.ensures.small
+
 pub add_value-requires-clause-stands : goal.add_value-requires-clause-stands
 add_value-requires-clause-stands g c = end_there (g.K.Key.bits c.args.key) c.args.len c.args.reached.now c.requires.table c.requires.ends
 
@@ -24,6 +27,12 @@ add_value-requires-clause-missing g c =
 pub add_value-requires-clause-ready : goal.add_value-requires-clause-ready
 add_value-requires-clause-ready g c =
     subst (AreFree c.args.cells.now.tiers) (cells_here c.args.reached.now.node c.args.reached.now.level c.args.len (level_last c.args.reached.now.level c.args.len c.if-reached-last.true)) c.requires.room.1
+
+pub returns-then-reached-last-clause-nodes : goal.returns-then-reached-last-clause-nodes
+returns-then-reached-last-clause-nodes g c = c.add_value.ensures.nodes
+
+pub returns-then-reached-last-clause-cells : goal.returns-then-reached-last-clause-cells
+returns-then-reached-last-clause-cells g c = c.add_value.ensures.cells
 
 pub returns-then-reached-last-clause-added : goal.returns-then-reached-last-clause-added
 returns-then-reached-last-clause-added g c = λ reading paths values holds.
@@ -39,6 +48,9 @@ returns-then-reached-last-clause-seat g c =
     c.if-reached-last.true c.value_bit_of-bit.ensures.value c.add_value.ensures.added c.add_value.result c.add_value.ensures.seat
 
 -- ---- the first new node
+
+pub add_child-at-requires-clause-child : goal.add_child-at-requires-clause-child
+add_child-at-requires-clause-child g c = c.child_bit_of-child.ensures.small
 
 pub add_child-at-requires-clause-stands : goal.add_child-at-requires-clause-stands
 add_child-at-requires-clause-stands g c =
@@ -137,6 +149,9 @@ loop-level-preserved g c =
     }
 
 -- ---- the value in the last
+
+pub add_value-requires-2-clause-bit : goal.add_value-requires-2-clause-bit
+add_value-requires-2-clause-bit g c = c.value_bit_of-bit-2.ensures.small
 
 pub add_value-requires-2-clause-stands : goal.add_value-requires-2-clause-stands
 add_value-requires-2-clause-stands g c =

@@ -8,23 +8,29 @@ use Rattle.prefix_trie_table.proofs.table.insertion.place_entry.Goals as goal
 pub prepare-requires-clause-ends : goal.prepare-requires-clause-ends
 prepare-requires-clause-ends g c = (g.K.Key.bits c.args.key, c.requires.ends)
 
-pub returns-in-Err-clause-placed : goal.returns-in-Err-clause-placed
-returns-in-Err-clause-placed g c = c.prepare.ensures.kept
-
-pub add_entry-seat-requires-clause-table : goal.add_entry-seat-requires-clause-table
-add_entry-seat-requires-clause-table g c =
-    let t = c.requires.table.0 in record {
-      reading = t.reading;
-      values = t.values;
-      paths = t.paths;
-      holds = c.prepare.ensures.kept t.reading t.paths t.values t.holds;
+pub returns-in-Err : goal.returns-in-Err
+returns-in-Err g c =
+    let grows = c.in-Err.ensures.grows in
+    let o = c.in-Err.ensures.obtains in
+    record {
+      placed = c.prepare.ensures.kept;
+      counted = refl;
+      answer = refl;
+      grows = record { nodes = grows.nodes; cells = grows.cells; range = grows.range };
+      obtains = record { nodes_made = o.nodes_made; cells_made = o.cells_made; range = o.range; memory = o.memory; lacks = o.lacks };
     }
 
-pub add_entry-seat-requires-clause-ends : goal.add_entry-seat-requires-clause-ends
-add_entry-seat-requires-clause-ends g c =
+pub add_entry-seat-requires : goal.add_entry-seat-requires
+add_entry-seat-requires g c =
     let t = c.requires.table.0 in
-    ends_still (g.K.Key.bits c.args.key) c.args.len c.args.end.reached c.args.nodes.now c.prepare.new.nodes t.reading t.paths c.requires.ends t.holds.hold
-    (c.prepare.ensures.kept t.reading t.paths t.values t.holds).hold
+    let kept = c.prepare.ensures.kept t.reading t.paths t.values t.holds in
+    record {
+      key = c.requires.key;
+      within = c.requires.within;
+      table = record { reading = t.reading; values = t.values; paths = t.paths; holds = kept };
+      ends = ends_still (g.K.Key.bits c.args.key) c.args.len c.args.end.reached c.args.nodes.now c.prepare.new.nodes t.reading t.paths c.requires.ends t.holds.hold kept.hold;
+      room = c.in_default.ensures.room;
+    }
 
 pub returns-clause-placed : goal.returns-clause-placed
 returns-clause-placed g c = λ reading paths values holds. c.add_entry-seat.ensures.added reading paths values (c.prepare.ensures.kept reading paths values holds)
@@ -55,6 +61,3 @@ returns-clause-obtains g c =
       memory = tt;
       lacks = tt;
     }
-
-pub returns-in-Err-clause-counted : goal.returns-in-Err-clause-counted
-returns-in-Err-clause-counted g c = refl

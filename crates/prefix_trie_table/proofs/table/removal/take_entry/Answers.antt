@@ -1,34 +1,36 @@
-use Rattle.prefix_trie_table.proofs.Prelude.{◌≡◌, true, is_some, take, sym, ap, ◌∙◌, arith, path_of, bit_of, one_if}
+use Rattle.prefix_trie_table.proofs.Prelude.{◌≡◌, true, is_some, take, refl, sym, ap, ◌∙◌, arith, path_of, bit_of, one_if}
 use Rattle.prefix_trie_table.specs.Bitmaps.{has_bit as is_set}
 use Rattle.prefix_trie_table.proofs.Tree.Invariant.{deepest_there}
+use Rattle.prefix_trie_table.proofs.Insertion.Rooms.{Grows-same}
 use Rattle.prefix_trie_table.proofs.Strings.Bits.{has_bit-is}
 use Rattle.prefix_trie_table.proofs.Removal.OneEntry.{none_there, none_taken, some_there, value_there, entry_taken}
 use Rattle.prefix_trie_table.proofs.table.removal.take_entry.Given as given
 use Rattle.prefix_trie_table.proofs.table.removal.take_entry.Goals as goal
 
-pub returns-then-not-has_bit-clause-value : goal.returns-then-not-has_bit-clause-value
-returns-then-not-has_bit-clause-value g c = λ reading paths values holds.
-    sym (none_there (g.K.Key.bits c.args.key) c.args.len _ c.args.node c.args.nodes.now c.requires.reached c.value_bit_of-bit.result
-    c.value_bit_of-bit.ensures.value reading paths values c.args.cells.now holds
-    (has_bit-is c.args.node.value_bitmap c.value_bit_of-bit.result (omega (arith, c.value_bit_of-bit.ensures.small))
-    ∙ sym c.has_bit.ensures ∙ c.if-not-has_bit.true))
+pub returns-then-not-has_bit : goal.returns-then-not-has_bit
+returns-then-not-has_bit g c =
+    let lacks = has_bit-is c.args.node.value_bitmap c.value_bit_of-bit.result (omega (arith, c.value_bit_of-bit.ensures.small)) ∙ sym c.has_bit.ensures ∙ c.if-not-has_bit.true in
+    record {
+      value = λ reading paths values holds.
+          sym (none_there (g.K.Key.bits c.args.key) c.args.len _ c.args.node c.args.nodes.now c.requires.reached c.value_bit_of-bit.result
+          c.value_bit_of-bit.ensures.value reading paths values c.args.cells.now holds lacks);
+      taken = λ reading paths values holds.
+          none_taken (g.K.Key.bits c.args.key) c.args.len _ c.args.node c.args.nodes.now c.requires.reached c.value_bit_of-bit.result
+          c.value_bit_of-bit.ensures.value reading paths values c.args.cells.now holds lacks;
+      counted = omega arith;
+      node_blocks = record { room = (refl, refl, refl); tiers = refl };
+      cell_room = Grows-same _ _ 24 refl;
+    }
 
-pub returns-then-not-has_bit-clause-taken : goal.returns-then-not-has_bit-clause-taken
-returns-then-not-has_bit-clause-taken g c = λ reading paths values holds.
-    none_taken (g.K.Key.bits c.args.key) c.args.len _ c.args.node c.args.nodes.now c.requires.reached c.value_bit_of-bit.result
-    c.value_bit_of-bit.ensures.value reading paths values c.args.cells.now holds
-    (has_bit-is c.args.node.value_bitmap c.value_bit_of-bit.result (omega (arith, c.value_bit_of-bit.ensures.small))
-    ∙ sym c.has_bit.ensures ∙ c.if-not-has_bit.true)
-
-pub take_value-taken-requires-clause-stands : goal.take_value-taken-requires-clause-stands
-take_value-taken-requires-clause-stands g c =
+pub take_value-taken-requires : goal.take_value-taken-requires
+take_value-taken-requires g c =
     let t = c.requires.table.0 in
-    (t, deepest_there (c.requires.reached.deepest t.reading t.paths t.holds.hold))
-
-pub take_value-taken-requires-clause-there : goal.take_value-taken-requires-clause-there
-take_value-taken-requires-clause-there g c =
-    has_bit-is c.args.node.value_bitmap c.value_bit_of-bit.result (omega (arith, c.value_bit_of-bit.ensures.small))
-    ∙ sym c.has_bit.ensures ∙ c.if-not-has_bit.false
+    record {
+      bit = c.value_bit_of-bit.ensures.small;
+      stands = (t, deepest_there (c.requires.reached.deepest t.reading t.paths t.holds.hold));
+      node = c.requires.reached.node_is;
+      there = has_bit-is c.args.node.value_bitmap c.value_bit_of-bit.result (omega (arith, c.value_bit_of-bit.ensures.small)) ∙ sym c.has_bit.ensures ∙ c.if-not-has_bit.false;
+    }
 
 -- the bit of the value is set
 there : (g : given.Over) (c : goal.After-row_known-1 g) → is_set c.args.node.value_bitmap c.value_bit_of-bit.result ≡ true
