@@ -5,8 +5,8 @@ use Rattle.prefix_trie_table.proofs.Blocks.Soundness.{Sound-given}
 use Rattle.prefix_trie_table.proofs.Blocks.Tiers.{tier_turned}
 use Rattle.prefix_trie_table.proofs.allocator.blocks.Blocks.give_back.Goals as goal
 
-pub returns-clause-turnover : goal.returns-clause-turnover
-returns-clause-turnover g c =
+pub returns : goal.returns
+returns g c =
     let v = c.self.inside in
     let old = c.index_mut-list.result.now in
     let t : Tier = c.push.new.self in
@@ -14,16 +14,13 @@ returns-clause-turnover g c =
     let at_k : old ≡ tier_at v.lists.items c.args.k = c.index_mut-list.ensures.value ∙ sym (get_or_default v.lists.items c.args.k _ old within) in
     let is : t ≡ record (tier_at v.lists.items c.args.k) { starts = (tier_at v.lists.items c.args.k).starts ++ c.args.start ∷ [] } = c.push.ensures ∙ ap (λ (u : Tier). record u { starts = u.starts ++ c.args.start ∷ [] }) at_k in
     let size : t.size ≡ (tier_at v.lists.items c.args.k).size = ap (λ (u : Tier). u.size) is in
-    let starts : length t.starts ≡ length (tier_at v.lists.items c.args.k).starts + 1 = ap (λ (u : Tier). length u.starts) is ∙ length-append (tier_at v.lists.items c.args.k).starts (c.args.start ∷ []) in
-    rw (← c.self.view_is) (Turnover-given _ c.args.k t (sizes_up v.lists.items c.self.invariant.2) within size _ (size_at v.lists.items c.args.k) (ap (λ (u : Tier). u.made) is) starts)
-
-pub returns-clause-sound : goal.returns-clause-sound
-returns-clause-sound g c = λ live n s.
-    let v = c.self.inside in
-    let old = c.index_mut-list.result.now in
-    let within : c.args.k < length v.lists.items = rw (← c.self.view_is) at c.requires.within in
-    let at_k : old ≡ tier_at v.lists.items c.args.k = c.index_mut-list.ensures.value ∙ sym (get_or_default v.lists.items c.args.k _ old within) in
-    Sound-given g.S.Slot.vacant (block c.args.k c.args.start n []) live _ c.push.new.self refl (ap (λ (t : Tier). t.size) c.push.ensures ∙ ap (λ (t : Tier). t.size) at_k) (ap (λ (t : Tier). t.made) c.push.ensures ∙ ap (λ (t : Tier). t.made) at_k) (ap (λ (t : Tier). t.starts) c.push.ensures ∙ ap (λ (t : Tier). t.starts ++ c.args.start ∷ []) at_k) (rw (← c.self.view_is) at s)
+    let made : t.made ≡ (tier_at v.lists.items c.args.k).made = ap (λ (u : Tier). u.made) is in
+    let starts : t.starts ≡ (tier_at v.lists.items c.args.k).starts ++ c.args.start ∷ [] = ap (λ (u : Tier). u.starts) is in
+    record {
+      turnover = rw (← c.self.view_is) (Turnover-given _ c.args.k t (sizes_up v.lists.items c.self.invariant.2) within size _ (size_at v.lists.items c.args.k) made
+          (ap length starts ∙ length-append (tier_at v.lists.items c.args.k).starts (c.args.start ∷ [])));
+      sound = λ live n s. Sound-given g.S.Slot.vacant (block c.args.k c.args.start n []) live _ t refl size made starts (rw (← c.self.view_is) at s);
+    }
 
 pub invariant_of-self : goal.invariant_of-self
 invariant_of-self g c =

@@ -13,8 +13,8 @@ pop-requires g c =
     let some : 0 < free_in v.lists.items (size_in (tier_sizes v.lists.items) c.args.k) = rw (← c.self.view_is) at c.requires.ready in
     omega (arith, some, free_at v.lists.items c.args.k c.self.invariant.2 within, ap (λ (t : Tier). length t.starts) at_k)
 
-pub returns-clause-turnover : goal.returns-clause-turnover
-returns-clause-turnover g c =
+pub returns : goal.returns
+returns g c =
     let v = c.self.inside in
     let old = c.index_mut-list.result.now in
     let t : Tier = c.pop.new.self in
@@ -22,17 +22,12 @@ returns-clause-turnover g c =
     let at_k : tier_at v.lists.items c.args.k ≡ old = get_or_default v.lists.items c.args.k _ old within ∙ sym c.index_mut-list.ensures.value in
     let size : t.size ≡ (tier_at v.lists.items c.args.k).size = ap (λ (u : Tier). u.size) c.pop.ensures.rest ∙ ap (λ (u : Tier). u.size) (sym at_k) in
     let made : t.made ≡ (tier_at v.lists.items c.args.k).made = ap (λ (u : Tier). u.made) c.pop.ensures.rest ∙ ap (λ (u : Tier). u.made) (sym at_k) in
-    let starts : length (tier_at v.lists.items c.args.k).starts ≡ length (t.starts ++ c.pop.result ∷ []) = ap length (ap (λ (u : Tier). u.starts) at_k ∙ c.pop.ensures.starts) in
+    let starts : (tier_at v.lists.items c.args.k).starts ≡ t.starts ++ c.pop.result ∷ [] = ap (λ (u : Tier). u.starts) at_k ∙ c.pop.ensures.starts in
     let one = length-append t.starts (c.pop.result ∷ []) in
-    rw (← c.self.view_is) (Turnover-taken _ c.args.k t (sizes_up v.lists.items c.self.invariant.2) within size _ (size_at v.lists.items c.args.k) made (omega (arith, starts, one)))
-
-pub returns-clause-sound : goal.returns-clause-sound
-returns-clause-sound g c = λ live s.
-    let v = c.self.inside in
-    let old = c.index_mut-list.result.now in
-    let within : c.args.k < length v.lists.items = rw (← c.self.view_is) at c.requires.within in
-    let at_k : tier_at v.lists.items c.args.k ≡ old = get_or_default v.lists.items c.args.k _ old within ∙ sym c.index_mut-list.ensures.value in
-    rw (← c.self.view_is) (Sound-taken g.S.Slot.vacant live _ c.args.k c.pop.new.self c.pop.result within (ap (λ (t : Tier). t.size) c.pop.ensures.rest ∙ ap (λ (t : Tier). t.size) (sym at_k)) (ap (λ (t : Tier). t.made) c.pop.ensures.rest ∙ ap (λ (t : Tier). t.made) (sym at_k)) (ap (λ (t : Tier). t.starts) at_k ∙ c.pop.ensures.starts) (rw (← c.self.view_is) at s))
+    record {
+      turnover = rw (← c.self.view_is) (Turnover-taken _ c.args.k t (sizes_up v.lists.items c.self.invariant.2) within size _ (size_at v.lists.items c.args.k) made (omega (arith, ap length starts, one)));
+      sound = λ live s. rw (← c.self.view_is) (Sound-taken g.S.Slot.vacant live _ c.args.k t c.pop.result within size made starts (rw (← c.self.view_is) at s));
+    }
 
 pub invariant_of-self : goal.invariant_of-self
 invariant_of-self g c =
