@@ -98,12 +98,7 @@ table_sizes v w t = sizes_of node_sizes t.reading t.paths v t.holds.hold
 
 -- the layout of arrays with these nodes and tiers
 abbrev pub layout_of : (nodes : List Node) → List Tier → List Tier → Sized nodes → Layout
-layout_of nodes ts us sized = record {
-  child_blocks = sized.0;
-  value_blocks = sized.1.0;
-  free_child_blocks = free_counts ts;
-  free_value_blocks = free_counts us;
-}
+layout_of nodes ts us sized = record { child_blocks = sized.0; value_blocks = sized.1.0; free_child_blocks = free_counts ts; free_value_blocks = free_counts us }
 
 -- how arrays with such a layout are stored
 abbrev pub storage_of : {T : Type 0} (v : Store Node) → Store (Option T) → Sized v.slots → Storage
@@ -130,9 +125,4 @@ root_layout v w holds tiers cell_tiers x =
     let only = sizes_only node_sizes root_reading ([] ∷ []) v holds.hold x in
     let children : x.0 ≡ empty = only.0 ∙ root_sizes child_block_size (ap child_block_size root_here ∙ ap (λ n. size_if_any n (size_in node_sizes 0)) rank-zero-all) in
     let values : x.1.0 ≡ empty = only.1 ∙ root_sizes value_block_size (ap value_block_size root_here ∙ ap (λ n. size_if_any n (size_in cell_sizes 0)) rank-zero-all) in
-    λ i. record {
-      child_blocks = children i;
-      value_blocks = values i;
-      free_child_blocks = free_counts (tiers i);
-      free_value_blocks = free_counts (cell_tiers i);
-    }
+    λ i. record { child_blocks = children i; value_blocks = values i; free_child_blocks = free_counts (tiers i); free_value_blocks = free_counts (cell_tiers i) }

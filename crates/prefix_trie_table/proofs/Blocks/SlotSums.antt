@@ -50,13 +50,7 @@ module _ {S : Type 0} (f : S → ℕ) where
     live_sum : (slots : List S) (live : List (UsedBlock S)) → All (HoldsItems vacant slots) live → sum_by (extent_sum slots) (map extent live) ≡ sum_by items_sum live
     live_sum slots [] h = refl
     live_sum slots (b ∷ bs) h =
-        omega (
-          arith,
-          sum_by-cons (extent_sum slots) (extent b) (map extent bs),
-          sum_by-cons items_sum b bs,
-          block_sum slots b (All-head (HoldsItems vacant slots) b bs h),
-          live_sum slots bs (All-tail (HoldsItems vacant slots) b bs h),
-        )
+        omega (arith, sum_by-cons (extent_sum slots) (extent b) (map extent bs), sum_by-cons items_sum b bs, block_sum slots b (All-head (HoldsItems vacant slots) b bs h), live_sum slots bs (All-tail (HoldsItems vacant slots) b bs h))
 
     -- what counts 0 where nothing is
     pub slots_sum : (live : List (UsedBlock S)) (v : Store S) → Sound vacant live v →

@@ -81,12 +81,7 @@ module _ {S : Type 0} (vacant : S) (slots : List S) where
   items-sum : (live : List (UsedBlock S)) → All (HoldsItems vacant slots) live → items_count live ≤ sum_by size_of_extent (map extent live)
   items-sum [] h = omega arith
   items-sum (b ∷ bs) h =
-      omega (
-        arith,
-        sum_by-cons size_of_extent (extent b) (map extent bs),
-        items-sum bs (All-tail (HoldsItems vacant slots) b bs h),
-        item_fits b (All-head (HoldsItems vacant slots) b bs h),
-      )
+      omega (arith, sum_by-cons size_of_extent (extent b) (map extent bs), items-sum bs (All-tail (HoldsItems vacant slots) b bs h), item_fits b (All-head (HoldsItems vacant slots) b bs h))
 
 -- the blocks in use hold no more items than there are slots
 pub items_bound : {S : Type 0} (vacant : S) (live : List (UsedBlock S)) (v : Store S) → Sound vacant live v → items_count live ≤ length v.slots

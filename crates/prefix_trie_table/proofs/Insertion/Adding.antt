@@ -58,14 +58,7 @@ block_after ts sizes are k tier count more e stands =
 pub added : (v u w : Store Node) (slot place c tier start bitmap : ℕ) (k m : Node)
     → k ≡ node_at v.slots slot
     → Sets k.child_bitmap c bitmap
-    → m ≡ record {
-      value_bitmap = k.value_bitmap;
-      child_bitmap = bitmap;
-      value_block = k.value_block;
-      child_block = start;
-      value_tier = k.value_tier;
-      child_tier = tier;
-    }
+    → m ≡ record { value_bitmap = k.value_bitmap; child_bitmap = bitmap; value_block = k.value_block; child_block = start; value_tier = k.value_tier; child_tier = tier }
     → Keeps v u
     → ((n : ℕ) (xs : List Node) (live : List (UsedBlock Node)) → Sound blank_node (held k.child_tier k.child_block n xs ++ live) v →
     length xs ≡ rank k.child_bitmap 32 → Sound blank_node (block tier start (tier_at v.tiers tier).size (insert xs place blank_node) ∷ live) u)

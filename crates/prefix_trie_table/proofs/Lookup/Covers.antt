@@ -150,12 +150,7 @@ module _ (b : List Bool) (len first level : ℕ) (node : Node) (slot matches : �
 
   -- the walk stands where it stood, with the matches that are left
   stays : IsCovering b len level node slot new taken.later v
-  stays = record {
-    on_way = gone.stands.on_way;
-    low = (let l = gone.stands.low in let m = taken.low in omega (arith, l, m));
-    high = taken.high;
-    left = taken.left;
-  }
+  stays = record { on_way = gone.stands.on_way; low = (let l = gone.stands.low in let m = taken.low in omega (arith, l, m)); high = taken.high; left = taken.left }
 
   taken_next : (reading : List ℕ → Option Node) (paths : List (List ℕ)) → NodesHold node_sizes reading paths v → NextHeld reading (take len b) (5 * level + 5) gone.to taken.later o
   taken_next reading paths hold = taken.next reading (on_way_is b len level slot node v gone.stands.on_way reading paths hold)
@@ -205,12 +200,7 @@ gone_down b len first level node slot matches v gone new takes deeper below plac
 pub at_root : (b : List Bool) (len level : ℕ) (node : Node) (slot matches : ℕ) (v : Store Node) → len ≤ length b
     → ((k : List Bool) (n : ℕ) → n ≤ length k → IsOnWay k n level node slot v) → AreLeft matches node.value_bitmap (5 * level) (5 * level) (take len b)
     → IsCovering b len level node slot matches (5 * level) v
-at_root b len level node slot matches v long on_way left = record {
-  on_way = on_way b len long;
-  low = omega arith;
-  high = omega arith;
-  left = left;
-}
+at_root b len level node slot matches v long on_way left = record { on_way = on_way b len long; low = omega arith; high = omega arith; left = left }
 
 -- what holds of a walk's fields holds after a step
 pub cover_on : {K T : Type 0} {IsKey : K → Type 0} {bits : K → List Bool} (width : ℕ) (key : K) (len level deeper : ℕ) (node below : Node) (slot place matches rest : ℕ)

@@ -12,12 +12,7 @@ use Rattle.prefix_trie_table.proofs.Removal.Stepping.{same_values, drops_values,
 -- where no item was taken
 pub between_same : (sizes : List ℕ) (before after : ℕ) (old new : Option ℕ) → after ≡ before → new ≡ old → (after ≡ 0 → new ≡ None) →
     StepsBetween sizes before after old new
-between_same sizes before after old new count same empty = record {
-  fewer = omega arith;
-  same = λ _. same;
-  none = empty;
-  between = λ less some. absurd (omega arith);
-}
+between_same sizes before after old new count same empty = record { fewer = omega arith; same = λ _. same; none = empty; between = λ less some. absurd (omega arith) }
 
 -- a step after another
 pub between_then : (sizes : List ℕ) (b m a : ℕ) (o x n : Option ℕ) → StepsBetween sizes b m o x → StepsBetween sizes m a x n → StepsBetween sizes b a o n
@@ -62,10 +57,7 @@ blocks_still n m e = record {
 }
 
 pub blocks_then : (a b c : Option Node) → BlocksBetween a b → BlocksBetween b c → BlocksBetween a c
-blocks_then a b c x y = record {
-  values = between_then cell_sizes _ _ _ _ _ _ x.values y.values;
-  children = between_then node_sizes _ _ _ _ _ _ x.children y.children;
-}
+blocks_then a b c x y = record { values = between_then cell_sizes _ _ _ _ _ _ x.values y.values; children = between_then node_sizes _ _ _ _ _ _ x.children y.children }
 
 -- where a value was taken
 pub taken_between : {T : Type 0} (reading : List ℕ → Option Node) (paths : List (List ℕ)) (values : List ℕ → ℕ → Option T) (p : List ℕ) (b : ℕ) (n m : Node)
@@ -104,10 +96,7 @@ pub pruned_between : (reading : List ℕ → Option Node) (paths : List (List �
 pruned_between reading paths path level node v v2 p x =
     let same = drops_values reading paths p.later p.left p.drops x in
     let steps = pruned_children reading paths path level node v v2 p x in
-    record {
-      values = values_between (reading x) (p.later x) same.0 same.1;
-      children = steps_between node_sizes (free_counts v.tiers) _ _ _ _ refl steps.1 steps.0;
-    }
+    record { values = values_between (reading x) (p.later x) same.0 same.1; children = steps_between node_sizes (free_counts v.tiers) _ _ _ _ refl steps.1 steps.0 }
 
 -- ---- arrays that stay
 

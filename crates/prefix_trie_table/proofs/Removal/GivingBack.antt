@@ -6,11 +6,7 @@ use Rattle.prefix_trie_table.proofs.Insertion.Rooms.{none_then}
 
 -- a node written leaves the room and the free blocks
 pub gives_written : {S : Type 0} (v w x : Store S) (slot : ℕ) (m : S) → GivesBack v w → x ≡ record w { slots = set w.slots slot m } → GivesBack v x
-gives_written v w x slot m back e = subst (λ y. GivesBack v y) (sym e) (record {
-  none = none_written v w _ slot m back.none refl;
-  sizes = back.sizes;
-  free = back.free;
-})
+gives_written v w x slot m back e = subst (λ y. GivesBack v y) (sym e) (record { none = none_written v w _ slot m back.none refl; sizes = back.sizes; free = back.free })
 
 pub grows_written : {S : Type 0} (v w x : Store S) (slot : ℕ) (m : S) (most : ℕ) → Grows v w most → x ≡ record w { slots = set w.slots slot m } → Grows v x most
 grows_written v w x slot m most grows e = subst (λ y. Grows v y most) (sym e) (record {
@@ -27,8 +23,4 @@ pub gives_same : {S : Type 0} (v : Store S) → GivesBack v v
 gives_same v = record { none = none_same v; sizes = refl; free = λ j. omega arith }
 
 pub gives_then : {S : Type 0} (v w x : Store S) → GivesBack v w → GivesBack w x → GivesBack v x
-gives_then v w x a b = record {
-  none = none_then v w x a.none b.none;
-  sizes = b.sizes ∙ a.sizes;
-  free = λ j. (let f = a.free j in let h = b.free j in omega arith);
-}
+gives_then v w x a b = record { none = none_then v w x a.none b.none; sizes = b.sizes ∙ a.sizes; free = λ j. (let f = a.free j in let h = b.free j in omega arith) }

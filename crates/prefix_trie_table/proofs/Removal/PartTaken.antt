@@ -173,13 +173,7 @@ module _ {T : Type 0} (width : ℕ) (b : List Bool) (len : ℕ) (within : len �
   pub end_left : StandsAtEnd (path_of (take len b)) way (len / 5) n v2
   end_left =
       let t = some_table emptied.table in
-      record {
-        reading = read v2.slots;
-        paths = t.paths;
-        hold = (read_held t.reading t.values t.paths v2 w2 t.holds).hold;
-        slots = way_left;
-        is = is;
-      }
+      record { reading = read v2.slots; paths = t.paths; hold = (read_held t.reading t.values t.paths v2 w2 t.holds).hold; slots = way_left; is = is }
 
   -- the node of the string stood there
   home_stood : has_node s.nodes (home (take len b)) ≡ true

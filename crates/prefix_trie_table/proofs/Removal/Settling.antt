@@ -56,10 +56,7 @@ value_settles v v2 w w2 slot k m read inside v2_is same shrunk =
     let long = length-set v.slots slot m in
     let child_is : child_headroom (node_at v.slots slot) ≡ child_headroom m = ap child_headroom (sym read) ∙ ap headroom_if_any (sym same) in
     let value_is : value_headroom (node_at v.slots slot) ≡ value_headroom k = ap value_headroom (sym read) in
-    subst (λ u. Settles v u w w2) (sym v2_is) (record {
-      nodes = omega (arith, children, long, child_is);
-      cells = omega (arith, values, value_is, shrunk);
-    })
+    subst (λ u. Settles v u w w2) (sym v2_is) (record { nodes = omega (arith, children, long, child_is); cells = omega (arith, values, value_is, shrunk) })
 
 -- ---- a child is gone
 

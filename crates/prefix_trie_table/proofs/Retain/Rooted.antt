@@ -9,14 +9,7 @@ use Rattle.prefix_trie_table.proofs.Tree.Trees.{read-nil}
 module _ {K : Type 0} (IsKey : K → Type 0) (bits : K → List Bool) (width : ℕ) (v : Store Node) (key : K) (is_key : IsKey key) (n : Node) (n_is : n ≡ node_at v.slots 0) where
   -- the root stands in the first slot
   pub root_site : IsSite IsKey bits width v (record { slot = record { start = 0; place = 0 }; key = key; depth = 0 }) n
-  root_site = record {
-    key = is_key;
-    level = 0;
-    depth_is = refl;
-    within = omega arith;
-    stands = read-nil v.slots ∙ ap Some (sym n_is);
-    slot_is = at_root;
-  }
+  root_site = record { key = is_key; level = 0; depth_is = refl; within = omega arith; stands = read-nil v.slots ∙ ap Some (sym n_is); slot_is = at_root }
 
   module _ {T : Type 0} (long : length (bits key) ≡ width) (count : ℕ) (w : Store (Option T)) (s : State T) (trie : IsTrie width count v w s) (ts : List (List Bool)) (all : ts ≡ places n.value_bitmap n.child_bitmap) where
     root_listing : listing_at_places s.entries [] ts ≡ listing s.entries

@@ -13,11 +13,7 @@ pub loop-level-init : goal.loop-level-init
 loop-level-init g c =
     let path : List ℕ = path_of (take c.args.len (g.K.Key.bits c.args.key)) in
     record {
-      down = record {
-        whole = omega arith;
-        node_is = c.visit-node.ensures.node;
-        deepest = λ reading paths hold. deepest_root reading paths c.args.nodes.now path hold;
-      };
+      down = record { whole = omega arith; node_is = c.visit-node.ensures.node; deepest = λ reading paths hold. deepest_root reading paths c.args.nodes.now path hold };
       way = λ reading paths hold. way_first reading path c.args.above.now.items;
       long = ap (λ (xs : List NodeSlot). length xs) c.requires.empty;
       within = omega arith;

@@ -5,15 +5,7 @@ use Rattle.prefix_trie_table.proofs.table.removal.is_bare.Goals as goal
 
 pub overflow_add-result : goal.overflow_add-result
 overflow_add-result c =
-    omega (
-      arith,
-      c.count.ensures,
-      c.count-2.ensures,
-      rank-ones c.args.node.value_bitmap 32 (omega arith),
-      rank-ones c.args.node.child_bitmap 32 (omega arith),
-      rank-le c.args.node.value_bitmap 32,
-      rank-le c.args.node.child_bitmap 32,
-    )
+    omega (arith, c.count.ensures, c.count-2.ensures, rank-ones c.args.node.value_bitmap 32 (omega arith), rank-ones c.args.node.child_bitmap 32 (omega arith), rank-le c.args.node.value_bitmap 32, rank-le c.args.node.child_bitmap 32)
 
 pub returns-clause-bare : goal.returns-clause-bare
 returns-clause-bare c = λ none.
