@@ -1,4 +1,4 @@
-use Rattle.prefix_trie_table.proofs.Prelude.{◌+◌, None, is_some, take, refl, sym, ap, ◌∙◌, false≢true, get_or_default, err_from_is_err_and, path_of, bit_of, SomeTable, one_if}
+use Rattle.prefix_trie_table.proofs.Prelude.{◌+◌, None, is_some, take, refl, sym, ap, ◌∙◌, arith, false≢true, get_or_default, err_from_is_err_and, path_of, bit_of, SomeTable, one_if}
 use Rattle.prefix_trie_table.proofs.Lookup.Lending.{cell_there, value_there}
 use Rattle.prefix_trie_table.proofs.Insertion.Asks.{at_end}
 use Rattle.prefix_trie_table.proofs.Insertion.Rooms.{Grows-same}
@@ -48,66 +48,36 @@ returns-in-Stored-clause-asked g c = λ reading paths values holds none.
     let at = is_seat c.args.nodes.now reading paths holds.hold q c.in-Stored.seat c.in-Stored.ensures.place in
     absurd (false≢true (sym (ap is_some none) ∙ value_there c.args.nodes.now c.args.cells.now t q c.in-Stored.seat at))
 
-pub returns-in_err-place_entry-in-Missing-clause-inserted :
-    goal.returns-in_err-place_entry-in-Missing-clause-inserted
-returns-in_err-place_entry-in-Missing-clause-inserted g c =
-    let p = err_from_is_err_and c.from_residual.result c.from_residual.ensures.1 in
-    rw p.1 c.in_err-place_entry-in-Missing.ensures.placed
-
-pub returns-in_err-place_entry-in-Missing-clause-grows : goal.returns-in_err-place_entry-in-Missing-clause-grows
-returns-in_err-place_entry-in-Missing-clause-grows g c =
-    let p = err_from_is_err_and c.from_residual.result c.from_residual.ensures.1 in
-    let o = c.in_err-place_entry-in-Missing.ensures.grows in
-    rw (p.1, p.2) (record { nodes = o.nodes; cells = o.cells; range = o.range })
-
-pub returns-in_err-place_entry-in-Missing-clause-asked :
-    goal.returns-in_err-place_entry-in-Missing-clause-asked
-returns-in_err-place_entry-in-Missing-clause-asked g c =
+pub returns-in_err-place_entry-in-Missing : goal.returns-in_err-place_entry-in-Missing
+returns-in_err-place_entry-in-Missing g c =
     let p = err_from_is_err_and c.from_residual.result c.from_residual.ensures.1 in
     let end = c.in-Missing.end.reached in
-    let o = c.in_err-place_entry-in-Missing.ensures.obtains in
-    rw (p.1, p.2) (λ reading paths values holds none.
-    at_end (g.K.Key.bits c.args.key) c.args.len end.level _ end.node c.args.nodes.now c.in-Missing.ensures.place.1 reading paths holds.hold (record {
-      nodes_made = o.nodes_made;
-      cells_made = o.cells_made;
-      range = o.range;
-      memory = o.memory;
-      lacks = o.lacks;
-    }))
-
-pub returns-in_err-place_entry-in-Missing-clause-stored :
-    goal.returns-in_err-place_entry-in-Missing-clause-stored
-returns-in_err-place_entry-in-Missing-clause-stored g c = λ reading paths values holds some.
-    let q = take c.args.len (g.K.Key.bits c.args.key) in
-    absurd (false≢true (sym (ap is_some (missing_value c.args.nodes.now reading paths holds.hold q values c.args.cells.now holds.cells c.in-Missing.ensures.place.0)) ∙ some))
-
-pub returns-in_ok-place_entry-in-Missing-clause-inserted :
-    goal.returns-in_ok-place_entry-in-Missing-clause-inserted
-returns-in_ok-place_entry-in-Missing-clause-inserted g c = λ reading paths values holds. (
-  sym (missing_value c.args.nodes.now reading paths holds.hold (take c.args.len (g.K.Key.bits c.args.key)) values c.args.cells.now holds.cells c.in-Missing.ensures.place.0),
-  c.in_ok-place_entry-in-Missing.ensures.placed reading paths values holds,
-)
-
-pub returns-in_ok-place_entry-in-Missing-clause-grows : goal.returns-in_ok-place_entry-in-Missing-clause-grows
-returns-in_ok-place_entry-in-Missing-clause-grows g c =
-    let o = c.in_ok-place_entry-in-Missing.ensures.grows in
-    record { nodes = o.nodes; cells = o.cells; range = tt }
-
-pub returns-in_ok-place_entry-in-Missing-clause-asked :
-    goal.returns-in_ok-place_entry-in-Missing-clause-asked
-returns-in_ok-place_entry-in-Missing-clause-asked g c = λ reading paths values holds none.
-    let end = c.in-Missing.end.reached in
-    let o = c.in_ok-place_entry-in-Missing.ensures.obtains in
-    at_end (g.K.Key.bits c.args.key) c.args.len end.level _ end.node c.args.nodes.now c.in-Missing.ensures.place.1 reading paths holds.hold (record {
-      nodes_made = o.nodes_made;
-      cells_made = o.cells_made;
-      range = tt;
-      memory = tt;
-      lacks = tt;
+    let e = c.in_err-place_entry-in-Missing.ensures in
+    let o = e.obtains in
+    rw (p.1, p.2) (record {
+      inserted = e.placed;
+      counted = e.counted;
+      grows = record { nodes = e.grows.nodes; cells = e.grows.cells; range = e.grows.range };
+      asked = λ reading paths values holds none.
+          at_end (g.K.Key.bits c.args.key) c.args.len end.level _ end.node c.args.nodes.now c.in-Missing.ensures.place.1 reading paths holds.hold
+          (record { nodes_made = o.nodes_made; cells_made = o.cells_made; range = o.range; memory = o.memory; lacks = o.lacks });
+      returned = e.answer;
+      stored = λ reading paths values holds some.
+          absurd (false≢true (sym (ap is_some (missing_value c.args.nodes.now reading paths holds.hold (take c.args.len (g.K.Key.bits c.args.key)) values c.args.cells.now holds.cells c.in-Missing.ensures.place.0)) ∙ some));
     })
 
-pub returns-in_ok-place_entry-in-Missing-clause-stored :
-    goal.returns-in_ok-place_entry-in-Missing-clause-stored
-returns-in_ok-place_entry-in-Missing-clause-stored g c = λ reading paths values holds some.
-    let q = take c.args.len (g.K.Key.bits c.args.key) in
-    absurd (false≢true (sym (ap is_some (missing_value c.args.nodes.now reading paths holds.hold q values c.args.cells.now holds.cells c.in-Missing.ensures.place.0)) ∙ some))
+pub returns-in_ok-place_entry-in-Missing : goal.returns-in_ok-place_entry-in-Missing
+returns-in_ok-place_entry-in-Missing g c =
+    let end = c.in-Missing.end.reached in
+    let e = c.in_ok-place_entry-in-Missing.ensures in
+    record {
+      inserted = λ reading paths values holds. (sym (missing_value c.args.nodes.now reading paths holds.hold (take c.args.len (g.K.Key.bits c.args.key)) values c.args.cells.now holds.cells c.in-Missing.ensures.place.0), e.placed reading paths values holds);
+      counted = omega (arith, e.counted);
+      grows = record { nodes = e.grows.nodes; cells = e.grows.cells; range = tt };
+      asked = λ reading paths values holds none.
+          at_end (g.K.Key.bits c.args.key) c.args.len end.level _ end.node c.args.nodes.now c.in-Missing.ensures.place.1 reading paths holds.hold
+          (record { nodes_made = e.obtains.nodes_made; cells_made = e.obtains.cells_made; range = tt; memory = tt; lacks = tt });
+      returned = tt;
+      stored = λ reading paths values holds some.
+          absurd (false≢true (sym (ap is_some (missing_value c.args.nodes.now reading paths holds.hold (take c.args.len (g.K.Key.bits c.args.key)) values c.args.cells.now holds.cells c.in-Missing.ensures.place.0)) ∙ some));
+    }

@@ -68,6 +68,12 @@ loop-level-preserved g c =
       within = omega (arith, below);
     }
 
+pub returns-else-is_bare-clause-room : goal.returns-else-is_bare-clause-room
+returns-else-is_bare-clause-room g c = c.loop-level.invariant.room
+
+pub returns-after-loop-level-clause-room : goal.returns-after-loop-level-clause-room
+returns-after-loop-level-clause-room g c = c.loop-level.invariant.room
+
 pub returns-else-is_bare-clause-pruned : goal.returns-else-is_bare-clause-pruned
 returns-else-is_bare-clause-pruned g c = λ reading paths hold slots is.
     let p = c.loop-level.invariant.pruned reading paths hold slots is in
