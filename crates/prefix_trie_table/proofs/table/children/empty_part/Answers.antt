@@ -1,4 +1,4 @@
-use Rattle.prefix_trie_table.proofs.Prelude.{◌*◌, ◌/◌, ◌≤◌, length, take, drop, sym, ap, ◌∙◌, subst, All-weaker, All-contains_itself, is_in, to_come, and-first, is_in-and, MayAskInOrder, AsksUpTo, path_of, read, IsPlaceOf}
+use Rattle.prefix_trie_table.proofs.Prelude.{◌≡◌, ◌*◌, ◌/◌, ◌≤◌, length, take, drop, sym, ap, ◌∙◌, subst, arith, All-weaker, All-contains_itself, is_in, to_come, and-first, is_in-and, MayAskInOrder, AsksUpTo, Lasts, path_of, read, IsPlaceOf}
 use Rattle.std.specs.List.{Contains}
 use Rattle.prefix_trie_table.proofs.Removal.AllBelow.{covers_below}
 use Rattle.prefix_trie_table.proofs.Removal.PartTaken.{home_is, home_rest, home_steps, reached_site, part_emptied, part_listed}
@@ -52,3 +52,11 @@ returns-clause-emptied g c = λ s trie.
 
 pub returns-clause-node : goal.returns-clause-node
 returns-clause-node g c = ap (read c.retain_places.new.nodes.slots) (sym (home_steps (g.K.Key.bits c.args.key) c.args.len c.requires.reached.long)) ∙ c.retain_places.ensures.node.stands
+
+pub returns-clause-lasts : goal.returns-clause-lasts
+returns-clause-lasts g c =
+    let whole : c.args.len / 5 * 5 / 5 ≡ c.args.len / 5 = omega arith in
+    subst (λ n. Lasts n c.args.nodes.now c.retain_places.new.nodes c.args.cells.now c.retain_places.new.cells) whole c.retain_places.ensures.lasts
+
+pub retain_places-requires-clause-trie : goal.retain_places-requires-clause-trie
+retain_places-requires-clause-trie g c = c.requires.trie

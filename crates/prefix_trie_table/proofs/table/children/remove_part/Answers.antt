@@ -1,5 +1,6 @@
 use Rattle.prefix_trie_table.proofs.Prelude.{◌/◌, ◌≤◌, List, length, take, refl, sym, ap, ◌∙◌, subst, arith, NodeSlot, path_of, IsWay, AsksUpTo}
 use Rattle.prefix_trie_table.proofs.Removal.PartTaken.{end_left, part_taken, part_lasts, part_missing, part_unlisted}
+use Rattle.prefix_trie_table.proofs.Retain.Placed.{lasts_none}
 use Rattle.prefix_trie_table.proofs.table.children.remove_part.Goals as goal
 
 pub returns-in_default-clause-removed : goal.returns-in_default-clause-removed
@@ -12,6 +13,9 @@ returns-in_default-clause-up_to g c = λ s trie.
     let long : c.args.len ≤ length (g.K.Key.bits c.args.key) = omega (arith, g.met.K.Key.key_laws.bits_length c.args.key c.requires.key, c.requires.within) in
     subst (λ es. AsksUpTo g.F.Keep.asks c.args.keep.now es c.args.keep.now)
     (sym (part_unlisted g.K.Key.bit_width (g.K.Key.bits c.args.key) c.args.len long c.args.nodes.now c.args.cells.now c.args.entries.now s trie c.in_default.ensures.missing)) refl
+
+pub returns-in_default-clause-lasts : goal.returns-in_default-clause-lasts
+returns-in_default-clause-lasts g c = lasts_none _ c.args.nodes.now c.args.cells.now
 
 pub prune_up-requires-clause-long : goal.prune_up-requires-clause-long
 prune_up-requires-clause-long g c = ap (λ (xs : List NodeSlot). length xs) c.deref.ensures.0 ∙ c.in-Some.ensures.found.1

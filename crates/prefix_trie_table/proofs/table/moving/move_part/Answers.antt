@@ -29,11 +29,11 @@ filled g c = λ s trie.
     (take c.args.len (g.K.Key.bits c.args.key)) (record { nodes = c.args.laid; cells = c.args.vacant; key = c.args.key; stack = c.start_at-stack.result })
     c.requires.second c.start_at-stack.ensures.stack c.start_at-stack.ensures.rest c.remove_part.new.keep (c.remove_part.ensures.up_to s trie)
 
-pub returns-clause-moved : goal.returns-clause-moved
-returns-clause-moved g c = λ s trie. (filled g c s trie).awaits.trie
-
-pub returns-clause-nodes : goal.returns-clause-nodes
-returns-clause-nodes g c = (filled g c c.requires.trie.0 c.requires.trie.1).nodes
-
-pub returns-clause-cells : goal.returns-clause-cells
-returns-clause-cells g c = (filled g c c.requires.trie.0 c.requires.trie.1).cells
+pub returns : goal.returns
+returns g c = record {
+  removed = c.remove_part.ensures.removed;
+  lasts = c.remove_part.ensures.lasts;
+  moved = λ s trie. (filled g c s trie).awaits.trie;
+  nodes = (filled g c c.requires.trie.0 c.requires.trie.1).nodes;
+  cells = (filled g c c.requires.trie.0 c.requires.trie.1).cells;
+}

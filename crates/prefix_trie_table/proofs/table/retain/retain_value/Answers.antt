@@ -2,6 +2,7 @@ use Rattle.prefix_trie_table.proofs.Prelude.{◌≡◌, ◌-◌, ◌+◌, [], �
 use Rattle.prefix_trie_table.proofs.Strings.Bits.{has_bit-is}
 use Rattle.prefix_trie_table.proofs.Retain.Retained.{site_holds, site_values}
 use Rattle.prefix_trie_table.proofs.Insertion.Rooms.{Grows-none}
+use Rattle.prefix_trie_table.proofs.Retain.Placed.{lasts_none}
 use Rattle.prefix_trie_table.proofs.Removal.Between.{stays_grown}
 use Rattle.prefix_trie_table.proofs.Retain.Seen.{short, value_slot, value_got, value_some, value_room, key_filled, may_ask_here, stays_here, goes_here, taken_here, counted_here, above_here, blocks_here, site_here, trie_goes}
 use Rattle.prefix_trie_table.proofs.table.retain.retain_value.Goals as goal
@@ -38,6 +39,12 @@ returns-then-keeps-clause-retains g c = λ t few is before trie.
     subst (λ u. RetainsTo g.F.Keep.asks g.F.Keep.accepts g.K.Key.bit_width (take c.args.site.depth (g.K.Key.bits c.args.site.key)) (u ∷ []) c.args.keep.now before c.keeps.new.self c.args.entries.now c.args.nodes.now c.args.cells.now)
     (sym (c.string_of-n.ensures.only t is))
     (stays_here g.K.Key.IsKey g.K.Key.bits g.K.Key.bit_width c.args.nodes.now c.args.site c.args.node c.requires.site g.met.K.Key.key_laws.bits_length c.args.entries.now c.args.cells.now before trie c.args.bit c.string_of-n.result.0 c.string_of-n.result.1 c.requires.bit c.string_of-n.ensures.short c.string_of-n.ensures.bit c.requires.set c.extend-key.result c.extend-key.ensures.value g.F.Keep.asks g.F.Keep.accepts c.in-Some.value.now (got ∙ (sym c.as_ref.ensures.value ∙ ap option_copied c.in-Some.is)) c.args.keep.now c.keeps.new.self true (c.keeps.ensures.yes c.if-keeps.true) refl)
+
+pub returns-then-keeps-clause-node : goal.returns-then-keeps-clause-node
+returns-then-keeps-clause-node g c = c.requires.site
+
+pub returns-then-keeps-clause-lasts : goal.returns-then-keeps-clause-lasts
+returns-then-keeps-clause-lasts g c = lasts_none _ c.args.nodes.now c.args.cells.now
 
 pub take_value-found-requires : goal.take_value-found-requires
 take_value-found-requires g c =
