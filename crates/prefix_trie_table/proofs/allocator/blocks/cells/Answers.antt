@@ -1,4 +1,4 @@
-use Rattle.prefix_trie_table.proofs.Prelude.{All, [], ◌≡◌, refl, sym, ap, ◌∙◌, arith, subst, All-map, HasSizes, Tier, no_blocks, cell_sizes}
+use Rattle.prefix_trie_table.proofs.Prelude.{[], ◌≡◌, refl, sym, ◌∙◌, arith, subst, All-map, HasSizes, Tier, no_blocks, cell_sizes}
 use Rattle.prefix_trie_table.proofs.Blocks.Tiers.{cell_tiers}
 use Rattle.prefix_trie_table.proofs.allocator.blocks.cells.Goals as goal
 

@@ -1,4 +1,4 @@
-use Rattle.prefix_trie_table.proofs.Prelude.{◌++◌, ◌∷◌, [], map, take, sym, ap, ◌∙◌, take_all, no_blocks}
+use Rattle.prefix_trie_table.proofs.Prelude.{◌++◌, ◌∷◌, [], map, sym, ap, ◌∙◌, take_all, no_blocks}
 use Rattle.std.proofs.lemmas.List.{map_more}
 use Rattle.prefix_trie_table.proofs.allocator.blocks.empty_lists.Goals as goal
 

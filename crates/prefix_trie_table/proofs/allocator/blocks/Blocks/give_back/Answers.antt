@@ -1,4 +1,4 @@
-use Rattle.prefix_trie_table.proofs.Prelude.{◌≡◌, ◌+◌, ◌<◌, ◌∷◌, [], ◌++◌, length, length-append, refl, sym, ap, ◌∙◌, get_or_default, Tier, tier_at, block}
+use Rattle.prefix_trie_table.proofs.Prelude.{◌≡◌, ◌<◌, ◌∷◌, [], ◌++◌, length, length-append, refl, sym, ap, ◌∙◌, get_or_default, Tier, tier_at, block}
 use Rattle.prefix_trie_table.proofs.Blocks.BySize.{size_at, sizes_up}
 use Rattle.prefix_trie_table.proofs.Blocks.Turnovers.{Turnover-given}
 use Rattle.prefix_trie_table.proofs.Blocks.Soundness.{Sound-given}
