@@ -58,10 +58,14 @@ retain_place-drop_child-requires g t c =
       there = ap (λ n. has_bit n.child_bitmap c.in-Child.child) held.0 ∙ child_there g.K.Key.IsKey g.K.Key.bits g.K.Key.bit_width g.met.K.Key.key_laws.bits_length c.args.nodes.now c.args.site c.args.node c.requires.site c.args.entries.now c.args.cells.now c.requires.trie.0 c.requires.trie.1 c.requires.place c.in-Child.child c.in-Child.is c.rank.result c.rank.ensures;
     }
 
-pub retain_place-returns-in-Value-clause-retains : goal.retain_place-returns-in-Value-clause-retains
-retain_place-returns-in-Value-clause-retains g t c = λ u few is x h.
-    let kind = place-value u c.in-Value.bit few (sym c.in-Value.is ∙ is) in
-    c.retain_value.ensures.retains u kind.0 (sym kind.1) x h
+pub retain_place-returns-in-Value : goal.retain_place-returns-in-Value
+retain_place-returns-in-Value g t c = record {
+  retains = λ u few is x h.
+      let kind = place-value u c.in-Value.bit few (sym c.in-Value.is ∙ is) in
+      c.retain_value.ensures.retains u kind.0 (sym kind.1) x h;
+  node = c.retain_value.ensures.node;
+  lasts = c.retain_value.ensures.lasts;
+}
 
 pub retain_place-returns-then-is_bare-clause-retains : goal.retain_place-returns-then-is_bare-clause-retains
 retain_place-returns-then-is_bare-clause-retains g t c = λ u few is x h.

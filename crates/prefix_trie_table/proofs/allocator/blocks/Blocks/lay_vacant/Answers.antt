@@ -1,4 +1,4 @@
-use Rattle.prefix_trie_table.proofs.Prelude.{◌≡◌, ℕ, ◌+◌, ◌-◌, ◌<◌, ◌≤◌, ◌++◌, [], ◌∷◌, length, replicate, None, Some, refl, sym, ap, ◌∙◌, subst, arith, rules, Contains, length-replicate, IndexRange, smallest_size, packed_slots, Sound, Turnover, block, tier_at, tier_sizes, size_in, free_in, many_of, none_of}
+use Rattle.prefix_trie_table.proofs.Prelude.{◌≡◌, ℕ, ◌+◌, ◌-◌, ◌<◌, ◌≤◌, ◌++◌, [], ◌∷◌, length, replicate, None, Some, refl, sym, ap, ◌∙◌, subst, arith, Contains, err_from_is_err_and, length-replicate, IndexRange, smallest_size, packed_slots, Sound, Turnover, block, tier_at, tier_sizes, size_in, free_in, many_of, none_of}
 use Rattle.prefix_trie_table.proofs.Blocks.BySize.{size_at, sizes_up, size_among, tiers_long, smallest_holds, many_here, many-none}
 use Rattle.prefix_trie_table.proofs.Blocks.Laying.{Sound-vacant, laid_none_free, laid_longer, packed_size}
 use Rattle.prefix_trie_table.proofs.Blocks.Turnovers.{Keeps-then, size_kept, room_turned}
@@ -68,4 +68,4 @@ returns-in_err-obtain-clause-range g c =
     let room = room_turned v c.obtain.new.self _ None None (λ n. many-none size made.0 n (let h = made.1 in omega (arith, h))) made.2 in
     let l = room.0 in let m = room.2 in
     omega (arith, c.in_err-obtain.ensures.range.0 is, packed, l, m) in
-    search (rules, full)
+    let p = err_from_is_err_and c.from_residual.result c.from_residual.ensures.1 in rw (p.1, p.2) full

@@ -1,4 +1,4 @@
-use Rattle.prefix_trie_table.proofs.Prelude.{◌≡◌, ℕ, ◌+◌, ◌-◌, None, refl, sym, ap, ◌∙◌, subst, arith, rules, Turnover, tier_sizes, size_in, free_in, many_of, none_of}
+use Rattle.prefix_trie_table.proofs.Prelude.{◌≡◌, ℕ, ◌+◌, ◌-◌, None, refl, sym, ap, ◌∙◌, subst, arith, Turnover, tier_sizes, size_in, free_in, many_of, none_of}
 use Rattle.prefix_trie_table.proofs.Blocks.BySize.{tiers_long, many-add, many-none}
 use Rattle.prefix_trie_table.proofs.Blocks.Turnovers.{Turnover-as, Turnover-then, Turnover-same}
 use Rattle.prefix_trie_table.proofs.allocator.blocks.Blocks.obtain.Goals as goal
@@ -28,7 +28,7 @@ loop-i-preserved g c =
     let size : ℕ = size_in (tier_sizes c.args.self.now.tiers) c.args.k in
     let free : ℕ = free_in c.args.self.now.tiers (size_in (tier_sizes c.args.self.now.tiers) c.args.k) in
     let same : size_in (tier_sizes c.loop-i.self.tiers) c.args.k ≡ size_in (tier_sizes c.args.self.now.tiers) c.args.k = ap (λ ns. size_in ns c.args.k) inv.made.keeps.sizes in
-    let one : Turnover c.loop-i.self c.make.new.self (many_of (size_in (tier_sizes c.loop-i.self.tiers) c.args.k) 1) None None = search rules in
+    let one : Turnover c.loop-i.self c.make.new.self (many_of (size_in (tier_sizes c.loop-i.self.tiers) c.args.k) 1) None None = c.in_ok-make.ensures.made in
     let more = subst (λ n. Turnover c.loop-i.self c.make.new.self (many_of n 1) None None) same one in
     record {
       made = Turnover-as v c.make.new.self _ _ None None
