@@ -20,17 +20,16 @@ returns-in-Err g c =
       obtains = record { nodes_made = o.nodes_made; cells_made = o.cells_made; range = o.range; memory = o.memory; lacks = o.lacks };
     }
 
-pub add_entry-seat-requires : goal.add_entry-seat-requires
-add_entry-seat-requires g c =
+pub add_entry-seat-requires-clause-table : goal.add_entry-seat-requires-clause-table
+add_entry-seat-requires-clause-table g c =
     let t = c.requires.table.0 in
-    let kept = c.prepare.ensures.kept t.reading t.paths t.values t.holds in
-    record {
-      key = c.requires.key;
-      within = c.requires.within;
-      table = record { reading = t.reading; values = t.values; paths = t.paths; holds = kept };
-      ends = ends_still (g.K.Key.bits c.args.key) c.args.len c.args.end.reached c.args.nodes.now c.prepare.new.nodes t.reading t.paths c.requires.ends t.holds.hold kept.hold;
-      room = c.in_default.ensures.room;
-    }
+    record { reading = t.reading; values = t.values; paths = t.paths; holds = c.prepare.ensures.kept t.reading t.paths t.values t.holds }
+
+pub add_entry-seat-requires-clause-ends : goal.add_entry-seat-requires-clause-ends
+add_entry-seat-requires-clause-ends g c =
+    let t = c.requires.table.0 in
+    ends_still (g.K.Key.bits c.args.key) c.args.len c.args.end.reached c.args.nodes.now c.prepare.new.nodes t.reading t.paths c.requires.ends t.holds.hold
+    (c.prepare.ensures.kept t.reading t.paths t.values t.holds).hold
 
 pub returns-clause-placed : goal.returns-clause-placed
 returns-clause-placed g c = λ reading paths values holds. c.add_entry-seat.ensures.added reading paths values (c.prepare.ensures.kept reading paths values holds)

@@ -17,27 +17,27 @@ returns-in_default g c = record {
   cell_room = Grows-same _ _ 24 refl;
 }
 
-pub take_entry-value-requires : goal.take_entry-value-requires
-take_entry-value-requires g c = record { key = c.requires.key; within = c.requires.within; reached = c.in-Some.ensures.found.0; table = c.requires.table }
+pub take_entry-value-requires-clause-reached : goal.take_entry-value-requires-clause-reached
+take_entry-value-requires-clause-reached g c = c.in-Some.ensures.found.0
 
-pub prune_up-requires : goal.prune_up-requires
-prune_up-requires g c =
-    let b = g.K.Key.bits c.args.key in
-    let path = path_of (take c.args.len b) in
+pub take_entry-value-requires-clause-table : goal.take_entry-value-requires-clause-table
+take_entry-value-requires-clause-table g c = c.requires.table
+
+pub prune_up-requires-clause-long : goal.prune_up-requires-clause-long
+prune_up-requires-clause-long g c = ap (λ (xs : List NodeSlot). length xs) c.deref.ensures.0 ∙ c.in-Some.ensures.found.1
+
+pub prune_up-requires-clause-stands : goal.prune_up-requires-clause-stands
+prune_up-requires-clause-stands g c =
+    let path = path_of (take c.args.len (g.K.Key.bits c.args.key)) in
     let t = c.requires.table.0 in
     let taken = c.take_entry-value.ensures.taken t.reading t.paths t.values t.holds in
     record {
-      key = c.requires.key;
-      within = c.requires.within;
-      long = ap (λ (xs : List NodeSlot). length xs) c.deref.ensures.0 ∙ c.in-Some.ensures.found.1;
-      stands = record {
-        reading = taken.0.later;
-        paths = t.paths;
-        hold = taken.0.holds.hold;
-        slots = subst (λ (xs : List NodeSlot). IsWay taken.0.later path xs (c.args.len / 5)) (sym c.deref.ensures.0)
-            (λ k h. taken.0.stands _ _ (c.in-Some.ensures.found.2 t.reading t.paths t.holds.hold k h));
-        is = taken.1;
-      };
+      reading = taken.0.later;
+      paths = t.paths;
+      hold = taken.0.holds.hold;
+      slots = subst (λ (xs : List NodeSlot). IsWay taken.0.later path xs (c.args.len / 5)) (sym c.deref.ensures.0)
+          (λ k h. taken.0.stands _ _ (c.in-Some.ensures.found.2 t.reading t.paths t.holds.hold k h));
+      is = taken.1;
     }
 
 pub returns : goal.returns

@@ -17,16 +17,14 @@ returns-then-reached-len g c =
       cell_room = Grows-same _ _ 24 refl;
     }
 
-pub take_entry-requires : goal.take_entry-requires
-take_entry-requires g c =
+pub take_entry-requires-clause-reached : goal.take_entry-requires-clause-reached
+take_entry-requires-clause-reached g c =
     let at = c.descend.result.0 in
     let end = level_past at.level c.args.len c.if-reached-len.false c.descend.ensures.reached.whole in
-    record {
-      key = c.requires.key;
-      within = c.requires.within;
-      reached = subst (λ n. IsReached (g.K.Key.bits c.args.key) c.args.len n at.node (at.at.start + at.at.place) c.args.nodes.now) end c.descend.ensures.reached;
-      table = c.requires.table;
-    }
+    subst (λ n. IsReached (g.K.Key.bits c.args.key) c.args.len n at.node (at.at.start + at.at.place) c.args.nodes.now) end c.descend.ensures.reached
+
+pub take_entry-requires-clause-table : goal.take_entry-requires-clause-table
+take_entry-requires-clause-table g c = c.requires.table
 
 pub returns : goal.returns
 returns g c =
