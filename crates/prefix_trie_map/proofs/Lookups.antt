@@ -1,5 +1,5 @@
 -- What a match of the table is to users, by the prefix rebuilt from it, and what a lookup reads.
-use Rattle.prefix_trie_map.proofs.Prelude.{◌≡◌, ℕ, ◌+◌, ◌≤◌, Bool, List, take, Option, Some, None, Bor, IfSome, MatchOption, sym, ap, ◌∙◌, subst, arith, option_map, take-take, IsMap, Entries, shown_match, visits, visits_to_match, ReadsWay, ReadsToMatch, visits-bound, visit_laws, Contents, state, lent_item}
+use Rattle.prefix_trie_map.proofs.Prelude.{◌≡◌, ℕ, ◌+◌, ◌≤◌, Bool, List, take, Option, Some, None, Bor, MatchOption, sym, ap, ◌∙◌, subst, arith, option_map, take-take, IsMap, Entries, shown_match, visits, visits_to_match, ReadsWay, ReadsToMatch, visits-bound, visit_laws, Contents, state, lent_item}
 
 module _ {T : Type 0} where
   -- what the table finds of a match m of the first len bits
@@ -10,11 +10,6 @@ module _ {T : Type 0} where
   pub by_bits : (bits : List Bool) (len : ℕ) (m : Option (List Bool × T)) (found : Option (ℕ × Bor T)) → Finds bits len m found → option_map (λ f. (take f.0 bits, f.1.now)) found ≡ m
   by_bits bits len m None none = sym none
   by_bits bits len m (Some f) some = ap (λ s. Some (s, f.1.now)) (sym (take-take f.0 len bits some.0)) ∙ sym some.1
-
-  -- it is no longer than a key
-  pub match_within : (width : ℕ) (bits : List Bool) (len : ℕ) (m : Option (List Bool × T)) (found : Option (ℕ × Bor T)) → Finds bits len m found → len ≤ width → IfSome found (λ f. f.0 ≤ width)
-  match_within width bits len m None finds within = tt
-  match_within width bits len m (Some f) finds within = omega (arith, finds.0, within)
 
 module _ {P T : Type 0} (back : List Bool → P) where
   -- the same with the prefix of the bits

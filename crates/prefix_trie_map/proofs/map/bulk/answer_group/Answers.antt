@@ -1,6 +1,5 @@
-use Rattle.prefix_trie_map.proofs.Prelude.{◌≡◌, ◌+◌, ◌<◌, None, length, get_or, refl, sym, ap₂, subst, arith, get_or_default, IsAnswer, AreAnswered, right_for}
+use Rattle.prefix_trie_map.proofs.Prelude.{◌≡◌, ◌+◌, ◌<◌, None, length, get_or, sym, ap₂, subst, arith, get_or_default, IsAnswer, AreAnswered, right_for}
 use Rattle.prefix_trie_map.proofs.Bulk.{answered_more, right_match}
-use Rattle.prefix_trie_map.proofs.Lookups.{match_within}
 use Rattle.prefix_trie_map.proofs.map.bulk.answer_group.Goals as goal
 
 pub value_found-requires-clause-answer : goal.value_found-requires-clause-answer
@@ -24,9 +23,6 @@ loop-i-preserved g c = λ so_far.
     (right_match entries g.X.Answer.right (g.P.R.Key.bits c.parts-question.result.0) c.parts-question.result.1 (g.P.Prefix.path p) c.parts-question.ensures.path
     c.value_found.result c.value_found.ensures _ c.of_match.ensures)
 
-pub find_group-count-requires : goal.find_group-count-requires
-find_group-count-requires g c = record { fit = c.requires.fit; some = c.requires.some; room = refl }
-
 pub loop-i-init : goal.loop-i-init
 loop-i-init g c = λ so_far.
     let none : c.args.from ≡ c.args.from + 0 = omega arith in
@@ -38,21 +34,11 @@ bounds-prefixes-from g c = omega (arith, c.loop-i-test.true, c.find_group-count.
 pub loop-i-smaller : goal.loop-i-smaller
 loop-i-smaller g c = omega (arith, c.loop-i-test.true)
 
-pub parts-question-requires : goal.parts-question-requires
-parts-question-requires g c =
-    subst g.P.Prefix.IsFitting (sym c.index-prefixes-from.is)
-    (c.requires.fit (c.args.from + c.loop-i.i) c.index-prefixes-from.result (omega (arith, c.loop-i-test.true, c.find_group-count.ensures.group.2)))
-
 pub bounds-found-i : goal.bounds-found-i
 bounds-found-i g c = omega (arith, c.loop-i-test.true, c.find_group-count.ensures.group.1)
 
 pub value_found-requires-clause-asks : goal.value_found-requires-clause-asks
 value_found-requires-clause-asks g c = (c.parts-question.ensures.key, c.parts-question.ensures.within)
-
-pub of_match-requires : goal.of_match-requires
-of_match-requires g c = λ k.
-    let asked = c.parts-question.ensures in
-    ((refl, tt), (asked.key, match_within g.P.R.Key.bit_width (g.P.R.Key.bits c.parts-question.result.0) c.parts-question.result.1 _ c.value_found.result c.value_found.ensures asked.within))
 
 pub bounds-out-from : goal.bounds-out-from
 bounds-out-from g c = omega (arith, c.loop-i-test.true, c.find_group-count.ensures.group.2, c.requires.same_length, c.loop-i.auto.out)

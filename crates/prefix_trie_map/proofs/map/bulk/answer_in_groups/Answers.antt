@@ -1,12 +1,9 @@
-use Rattle.prefix_trie_map.proofs.Prelude.{refl, ◌∙◌, arith, right_for}
+use Rattle.prefix_trie_map.proofs.Prelude.{refl, arith, right_for}
 use Rattle.prefix_trie_map.proofs.Bulk.{answered_all, read_all}
 use Rattle.prefix_trie_map.proofs.map.bulk.answer_in_groups.Goals as goal
 
 pub groups-init : goal.groups-init
 groups-init g c = record { within = omega arith; answered = refl; read = omega arith }
-
-pub answer_group-from-requires : goal.answer_group-from-requires
-answer_group-from-requires g c = λ k. ((refl, tt), (c.requires.fit, (c.groups.auto.out ∙ c.requires.same_length, c.groups-test.true)))
 
 pub groups-preserved : goal.groups-preserved
 groups-preserved g c =

@@ -1,6 +1,5 @@
 use Rattle.prefix_trie_map.proofs.Prelude.{◌<◌, length, refl, sym, subst, arith, right_for}
 use Rattle.prefix_trie_map.proofs.Bulk.{answered_all, answered_more, read_all, reads_one, right_match}
-use Rattle.prefix_trie_map.proofs.Lookups.{match_within}
 use Rattle.prefix_trie_map.proofs.map.bulk.answer_singly.Goals as goal
 
 pub loop-i-preserved : goal.loop-i-preserved
@@ -32,11 +31,6 @@ parts-key-requires g c = subst g.P.Prefix.IsFitting (sym c.index-prefixes-i.is) 
 
 pub find_longest-requires : goal.find_longest-requires
 find_longest-requires g c = record { key = c.parts-key.ensures.key; within = c.parts-key.ensures.within }
-
-pub of_match-requires : goal.of_match-requires
-of_match-requires g c = λ k.
-    let asked = c.parts-key.ensures in
-    ((refl, tt), (asked.key, match_within g.P.R.Key.bit_width (g.P.R.Key.bits c.parts-key.result.0) c.parts-key.result.1 _ c.find_longest.result c.find_longest.ensures.value asked.within))
 
 pub returns : goal.returns
 returns g c =
