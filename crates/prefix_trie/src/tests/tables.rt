@@ -10,8 +10,8 @@ mod walks;
 
 use crate::tests::trials::{How, Table, all};
 
-/// The tables that are run with each request refused in turn. As a constant the list is half as dear to check as in the test.
-const IN_TURN: [&[Table<'static, u32>]; 9] = [
+/// The tables that are run with each request refused in turn. As a static the list is a third as dear to check as a constant.
+static IN_TURN: [&[Table<'static, u32>]; 9] = [
     &growth::NEW,
     &growth::GROWTHS,
     &growth::LIMITS,
@@ -24,7 +24,7 @@ const IN_TURN: [&[Table<'static, u32>]; 9] = [
 ];
 
 /// Those that are run with every request refused.
-const STARVED: [&[Table<'static, u32>]; 3] = [&entries::STORED, &copies::FREE, &blocks::AMONG_FREE];
+static STARVED: [&[Table<'static, u32>]; 3] = [&entries::STORED, &copies::FREE, &blocks::AMONG_FREE];
 
 #[test]
 fn tables_with_each_request_refused_in_turn(rt: HostRuntime) {
