@@ -5,6 +5,7 @@ pub mod Insertions
 pub mod Listed
 pub mod Lookups
 pub mod Refusals
+pub mod Removed
 pub mod Runs
 pub mod Lending
 pub mod Steps

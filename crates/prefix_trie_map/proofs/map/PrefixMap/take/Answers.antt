@@ -1,8 +1,10 @@
-use Rattle.prefix_trie_map.proofs.Prelude.{rules}
 use Rattle.prefix_trie_map.proofs.map.PrefixMap.take.Goals as goal
 
+pub returns-clause-entries : goal.returns-clause-entries
+returns-clause-entries g c = c.in-Some.ensures.entries
+
 pub returns-clause-nodes : goal.returns-clause-nodes
-returns-clause-nodes g c = search rules
+returns-clause-nodes g c = c.in-Some.ensures.nodes
 
 pub returns-clause-step : goal.returns-clause-step
-returns-clause-step g c = search rules
+returns-clause-step g c = c.in-Some.ensures.step

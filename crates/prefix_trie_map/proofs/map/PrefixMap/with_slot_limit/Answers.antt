@@ -1,4 +1,4 @@
-use Rattle.prefix_trie_map.proofs.Prelude.{sym, subst, no_entries, IsMap}
+use Rattle.prefix_trie_map.proofs.Prelude.{err_from_is_err_and, refl, sym, subst, no_entries, IsMap}
 use Rattle.prefix_trie_map.proofs.Insertions.{IsMap-empty}
 use Rattle.prefix_trie_map.proofs.map.PrefixMap.with_slot_limit.Goals as goal
 
@@ -13,3 +13,8 @@ pub returns : goal.returns
 returns g c =
     let made = c.in_ok-new.ensures in
     record { entries = made.entries; nodes = made.nodes; room = made.room; layout = made.layout; range = tt; none = made.none }
+
+pub returns-in_err-new : goal.returns-in_err-new
+returns-in_err-new g c =
+    let p = err_from_is_err_and c.from_residual.result c.from_residual.ensures.1 in
+    rw (p.1, p.2) (record { entries = tt; nodes = tt; room = tt; layout = tt; range = c.in_err-new.ensures.range; none = λ _. refl })
