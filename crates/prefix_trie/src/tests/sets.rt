@@ -22,11 +22,10 @@ fn of_prefixes<P: Prefix, A: Allocator + Clone>(
 
 /// How many prefixes the set of two hosts and a network has.
 fn collected(heap: &Heap) -> Result<usize, Refusal> {
-    let Ok(keys) = vec![in heap.inner(); (0_u32, 32_u8), (0, 8), (0x8000_0000, 32)] else {
-        return Err(Refusal::Memory);
-    };
-    let set = of_prefixes(heap, keys)?;
-    Ok(set.len())
+    match vec![in heap.inner(); (0_u32, 32_u8), (0, 8), (0x8000_0000, 32)] {
+        Ok(keys) => Ok(of_prefixes(heap, keys)?.len()),
+        Err(_) => Err(Refusal::Memory),
+    }
 }
 
 /// Collects them with so many requests refused from another one on each time. Answers whether some were, each time with a refusal, and

@@ -242,17 +242,26 @@ fn are_taken<P: Prefix, A: Allocator + Clone>(map: &PrefixMap<P, u64, A>, ones: 
     true
 }
 
-/// Whether a new map and a new set take both prefixes of each length for one, in all calls; the bits are those of a number.
+/// Whether a new map takes both prefixes of each length for one, in all calls; the bits are those of a number.
+fn is_map_alike<P: Prefix + Copy + PartialEq, A: Allocator + Copy>(
+    heap: &Refusing<Global>,
+    alloc: A,
+    ones: P::R,
+) -> bool {
+    match stored_alike::<P::R, A, PrefixMap<P, u64, A>>(heap, alloc, ones) {
+        Some(map) => are_taken(&map, ones),
+        None => false,
+    }
+}
+
+/// The same of a new set and a new map.
 fn are_alike_anew<P: Prefix + Copy + PartialEq, A: Allocator + Copy>(
     heap: &Refusing<Global>,
     alloc: A,
     ones: P::R,
 ) -> bool {
-    let set = stored_alike::<P::R, A, PrefixSet<P, A>>(heap, alloc, ones);
-    match stored_alike::<P::R, A, PrefixMap<P, u64, A>>(heap, alloc, ones) {
-        Some(map) => are_taken(&map, ones) & set.is_some(),
-        None => false,
-    }
+    stored_alike::<P::R, A, PrefixSet<P, A>>(heap, alloc, ones).is_some()
+        & is_map_alike::<P, A>(heap, alloc, ones)
 }
 
 /// The same of prefixes that are pairs.

@@ -6,7 +6,7 @@ use crate::tests::cases::Case::{
 };
 use crate::tests::cases::Pair;
 use crate::tests::refusing::Refusing;
-use crate::tests::trials::{How, Table, on_both, on_maps};
+use crate::tests::trials::{How, Table, Wrong, on_both, on_maps};
 use std::alloc::{AllocError, Global};
 use std::test::Fail;
 
@@ -49,79 +49,6 @@ pub const OFF_THE_WAY: [Table<'static, u32>; 1] = [(
     ],
 )];
 
-type Cases = Vec<Case<'static, u32>, Global>;
-
-/// A network of 15 bits.
-fn numbered(number: u32) -> Pair<u32> {
-    (number << 17, 15)
-}
-
-/// Stores the networks that are numbered below this, with their numbers as values.
-fn puts(alloc: Global, end: u32) -> Result<Cases, AllocError> {
-    let mut cases = Vec::new(alloc);
-    for number in 0..end {
-        cases.push(Inserts(numbered(number), u64::from(number), None))?;
-    }
-    Ok(cases)
-}
-
-/// Takes each second of them out, from the first on, and once more: it is then not there, and that behind it is.
-fn takes_even(alloc: Global, end: u32) -> Result<Cases, AllocError> {
-    let mut cases = Vec::new(alloc);
-    for step in 0..end.saturating_add(end % 2) {
-        let number = step - step % 2;
-        let before = if number == step {
-            Some(u64::from(number))
-        } else {
-            None
-        };
-        cases.push(Removes(numbered(number), before))?;
-    }
-    Ok(cases)
-}
-
-/// Adds that the others are there, and no more.
-fn has_odd(cases: &mut Cases, end: u32) -> Result<(), AllocError> {
-    for number in 0..end {
-        let at = numbered(number);
-        let left = if number % 2 == 1 {
-            Some((at, u64::from(number)))
-        } else {
-            None
-        };
-        cases.push(Finds(at, left, left, left))?;
-    }
-    cases.push(Len(end as usize / 2))?;
-    Ok(())
-}
-
-/// Both.
-fn takes_even_alone(alloc: Global, end: u32) -> Result<Cases, AllocError> {
-    let mut cases = takes_even(alloc, end)?;
-    has_odd(&mut cases, end)?;
-    Ok(cases)
-}
-
-/// Takes them out with each request of the removals refused in turn, or with every one refused.
-fn even_taken(alloc: Global, end: u32, how: How) -> Result<(), Fail> {
-    let heap = Refusing::new(alloc);
-    let first = puts(alloc, end)?;
-    let then = takes_even_alone(alloc, end)?;
-    let table = (first.as_slice(), then.as_slice());
-    on_both::<Ipv4Prefix>(&heap, &table, how)?;
-    Ok(())
-}
-
-#[test]
-fn others_stay(rt: HostRuntime) -> Result<(), Fail> {
-    even_taken(rt.alloc(), 255, How::InTurn)
-}
-
-#[test]
-fn removals_need_no_memory(rt: HostRuntime) -> Result<(), Fail> {
-    even_taken(rt.alloc(), 50, How::All)
-}
-
 /// How far apart 16 groups of five networks stand, and the networks in a group.
 #[derive(Clone, Copy)]
 struct Groups {
@@ -161,15 +88,28 @@ fn network(groups: Groups, group: u32, item: u32) -> Pair<u32> {
     )
 }
 
-/// Stores all networks, a group after the other: then a group takes the small blocks that the one before it left.
-fn puts_groups(alloc: Global, groups: Groups) -> Result<Cases, AllocError> {
-    let mut cases = Vec::new(alloc);
-    for index in 0..80_u32 {
-        let item = index % 5;
-        let at = network(groups, index / 5, item);
-        cases.push(Inserts(at, u64::from(item), None))?;
+/// A network of 15 bits.
+fn numbered(number: u32) -> Pair<u32> {
+    (number << 17, 15)
+}
+
+/// What is made of the networks that are numbered below this: each second of them is taken out, from the first on, and once more: it
+/// is then not there, and that behind it is. Then the others are there, and no more.
+fn takes_even(end: u32, step: u32) -> Case<'static, u32> {
+    let steps = end.saturating_add(end % 2);
+    let number = step % steps.max(1);
+    let even = number - number % 2;
+    let at = numbered(number);
+    let left = match number % 2 {
+        1 => Some((at, u64::from(number))),
+        _ => None,
+    };
+    match step / steps.max(1) {
+        0 if even == number => Removes(numbered(even), Some(u64::from(even))),
+        0 => Removes(numbered(even), None),
+        1 if number < end => Finds(at, left, left, left),
+        _ => Len(end as usize / 2),
     }
-    Ok(cases)
 }
 
 /// Takes a network of this value out; by a prefix that is shorter by two bits also those beside it, and by a test those of the
@@ -192,20 +132,102 @@ fn left_after(item: u32, by: By) -> usize {
     }
 }
 
-/// Takes all networks out, the first of each group before any second: then a group needs small blocks that none has left. Each
-/// removal does all that it should, and no more.
-fn takes_groups(alloc: Global, groups: Groups, by: By) -> Result<Cases, AllocError> {
-    let mut cases = Vec::new(alloc);
-    for index in 0..80_u32 {
-        let item = index / 16;
-        let at = network(groups, index % 16, item);
-        cases.push(taking(at, item, by))?;
-        cases.push(Finds(at, None, None, None))?;
-        if index % 16 == 15 {
-            cases.push(Len(left_after(item, by).wrapping_mul(16)))?;
+/// What is made of groups: all networks are taken out, the first of each group before any second: then a group needs small blocks that
+/// none has left. Each removal does all that it should, and no more.
+fn takes_groups(groups: Groups, by: By, step: u32) -> Case<'static, u32> {
+    let (item, place) = (step / 33, step % 33);
+    let at = network(groups, place / 2, item);
+    match place % 2 {
+        _ if place == 32 => Len(left_after(item, by).wrapping_mul(16)),
+        0 => taking(at, item, by),
+        _ => Finds(at, None, None, None),
+    }
+}
+
+/// A list of cases.
+#[derive(Clone, Copy)]
+enum List {
+    /// Stores the networks of 15 bits, with their numbers as values.
+    Puts,
+    /// Takes each second of so many out.
+    TakesEven(u32),
+    /// Stores groups, one after the other: then a group takes the small blocks that the one before it left.
+    PutsGroups(Groups),
+    /// Takes groups out.
+    TakesGroups(Groups, By),
+}
+
+/// The case of this number.
+fn case_at(list: List, number: u32) -> Case<'static, u32> {
+    match list {
+        List::Puts => Inserts(numbered(number), u64::from(number), None),
+        List::TakesEven(end) => takes_even(end, number),
+        List::PutsGroups(groups) => {
+            let item = number % 5;
+            Inserts(network(groups, number / 5, item), u64::from(item), None)
         }
+        List::TakesGroups(groups, by) => takes_groups(groups, by, number),
+    }
+}
+
+type Cases = Vec<Case<'static, u32>, Global>;
+
+/// The first cases of a list.
+fn cases_of(alloc: Global, list: List, len: u32) -> Result<Cases, AllocError> {
+    let mut cases = Vec::new(alloc);
+    for number in 0..len {
+        cases.push(case_at(list, number))?;
     }
     Ok(cases)
+}
+
+/// Runs a table, on maps and, unless a set has no such call, on sets.
+fn run(
+    heap: &Refusing<Global>,
+    table: &Table<'_, u32>,
+    is_of_sets: bool,
+    how: How,
+) -> Result<(), Wrong> {
+    if is_of_sets {
+        on_both::<Ipv4Prefix>(heap, table, how)
+    } else {
+        on_maps::<Ipv4Prefix>(heap, table, how)
+    }
+}
+
+/// The same of the first cases of two lists.
+fn run_lists(
+    heap: &Refusing<Global>,
+    first: Result<Cases, AllocError>,
+    then: Result<Cases, AllocError>,
+    is_of_sets: bool,
+    how: How,
+) -> Result<(), Fail> {
+    let (first, then) = (first?, then?);
+    run(heap, &(first.as_slice(), then.as_slice()), is_of_sets, how)?;
+    Ok(())
+}
+
+/// Takes each second network out with each request of the removals refused in turn, or with every one refused.
+fn even_taken(alloc: Global, end: u32, how: How) -> Result<(), Fail> {
+    let heap = Refusing::new(alloc);
+    let first = cases_of(alloc, List::Puts, end);
+    let steps = end
+        .saturating_add(end % 2)
+        .saturating_add(end)
+        .saturating_add(1);
+    let then = cases_of(alloc, List::TakesEven(end), steps);
+    run_lists(&heap, first, then, true, how)
+}
+
+#[test]
+fn others_stay(rt: HostRuntime) -> Result<(), Fail> {
+    even_taken(rt.alloc(), 255, How::InTurn)
+}
+
+#[test]
+fn removals_need_no_memory(rt: HostRuntime) -> Result<(), Fail> {
+    even_taken(rt.alloc(), 50, How::All)
 }
 
 /// Takes groups out with each request of the removals refused in turn.
@@ -215,14 +237,13 @@ fn taken_in_turn(
     groups: Groups,
     by: By,
 ) -> Result<(), Fail> {
-    let first = puts_groups(alloc, groups)?;
-    let then = takes_groups(alloc, groups, by)?;
-    let table = (first.as_slice(), then.as_slice());
-    match by {
-        By::Retain => on_maps::<Ipv4Prefix>(heap, &table, How::InTurn)?,
-        _ => on_both::<Ipv4Prefix>(heap, &table, How::InTurn)?,
-    }
-    Ok(())
+    let first = cases_of(alloc, List::PutsGroups(groups), 80);
+    let then = cases_of(alloc, List::TakesGroups(groups, by), 165);
+    let is_of_sets = match by {
+        By::Retain => false,
+        _ => true,
+    };
+    run_lists(heap, first, then, is_of_sets, How::InTurn)
 }
 
 #[test]

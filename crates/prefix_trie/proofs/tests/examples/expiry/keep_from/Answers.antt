@@ -1,9 +1,6 @@
 use Rattle.prefix_trie.proofs.Prelude.{rules, nat_le, of_calls}
-use Rattle.prefix_trie.proofs.Callers.{may_ask_always, keeps_filter}
+use Rattle.prefix_trie.proofs.Callers.{keeps_filter}
 use Rattle.prefix_trie.proofs.tests.examples.expiry.keep_from.Goals as goal
-
-pub retain-requires : goal.retain-requires
-retain-requires g c = may_ask_always _ _ _ _ (λ f k v p q is eq. search (rules, of_calls))
 
 pub returns-clause-kept : goal.returns-clause-kept
 returns-clause-kept g c =
