@@ -236,8 +236,16 @@ fn copies<W: Named>(heap: &Heap, named: W, first: usize) -> Option<u64> {
     None
 }
 
-/// The same of one that is made anew.
-fn requests<A: Allocator + Copy, W: Made<A>>(heap: &Heap, alloc: A) -> Option<u64> {
+/// The same of one that is made anew, and of one that has given the first of three.
+fn requests<A: Allocator + Copy, W: Made<A>>(heap: &Heap, alloc: A) -> (Option<u64>, Option<u64>) {
+    (
+        requests_of_whole::<A, W>(heap, alloc),
+        requests_left::<A, W>(heap, alloc),
+    )
+}
+
+/// The first of these.
+fn requests_of_whole<A: Allocator + Copy, W: Made<A>>(heap: &Heap, alloc: A) -> Option<u64> {
     copies(heap, W::made(heap, alloc)?, 0)
 }
 
@@ -246,7 +254,7 @@ fn requests_of_part<A: Allocator + Copy>(heap: &Heap, alloc: A) -> Option<u64> {
     copies(heap, Names::made(heap, alloc)?.into_children(&key_at(1)), 1)
 }
 
-/// The same of a walk that has given the first of three.
+/// The second of them.
 fn requests_left<A: Allocator + Copy, W: Made<A>>(heap: &Heap, alloc: A) -> Option<u64> {
     let mut named = W::made(heap, alloc)?;
     let is_given = named.gives(0);
@@ -264,27 +272,26 @@ fn put_keys<A: Allocator>(set: &mut PrefixSet<Key, A>) -> bool {
     true
 }
 
-/// Whether the copy of a map of names, and that of each walk which takes it apart, make as many requests, and one less where the first
-/// name was given.
+/// Whether the copy of a map of names, and that of each walk which takes it apart, make as many requests, and one less where a walk gave
+/// the first name.
 fn are_requests<A: Allocator + Copy>(heap: &Heap, alloc: A) -> bool {
-    let of_two = requests_left::<A, Items<A>>(heap, alloc);
-    let of_three = Some(of_two.unwrap_or(0).wrapping_add(1));
-    (of_two.unwrap_or(0) > 2)
-        & (requests::<A, Names<A>>(heap, alloc) == of_three)
+    let of_items = requests::<A, Items<A>>(heap, alloc);
+    let of_two = of_items.1.unwrap_or(0);
+    let of_three = Some(of_two.wrapping_add(1));
+    (of_two > 2)
+        & (of_items.0 == of_three)
+        & (requests::<A, Names<A>>(heap, alloc) == (of_three, of_three))
         & (requests_of_part(heap, alloc) == of_three)
-        & (requests::<A, Items<A>>(heap, alloc) == of_three)
-        & (requests::<A, Keys<A>>(heap, alloc) == of_three)
-        & (requests::<A, Values<A>>(heap, alloc) == of_three)
-        & (requests_left::<A, Keys<A>>(heap, alloc) == of_two)
-        & (requests_left::<A, Values<A>>(heap, alloc) == of_two)
+        & (requests::<A, Keys<A>>(heap, alloc) == of_items)
+        & (requests::<A, Values<A>>(heap, alloc) == of_items)
 }
 
 /// Whether the copy of a set, and that of the walk that takes it apart, makes as many requests as the other, and some.
 fn are_alike<A: Allocator + Copy>(heap: &Heap, alloc: A) -> bool {
     let of_set = requests::<A, Set<A>>(heap, alloc);
-    (of_set.unwrap_or(0) > 0)
+    (of_set.0.unwrap_or(0) > 0)
+        & (of_set.1 == of_set.0)
         & (requests::<A, SetKeys<A>>(heap, alloc) == of_set)
-        & (requests_left::<A, SetKeys<A>>(heap, alloc) == of_set)
 }
 
 #[test]

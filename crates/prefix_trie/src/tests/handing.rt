@@ -110,8 +110,22 @@ fn is_split<A: Allocator + Clone>(map: &mut Map<'_, A>, drops: &Cell<u64>) -> Op
     }
 }
 
-/// Splits a new map, with so many requests passed on and so many behind them refused. Answers whether one was, if the split is granted
-/// where none was.
+/// Splits it with so many requests passed on and so many behind them refused. Answers whether one was, if the split is granted where none
+/// was.
+fn is_split_or_refused<A: Allocator + Clone>(
+    heap: &Heap,
+    map: &mut Map<'_, A>,
+    drops: &Cell<u64>,
+    passed: u64,
+    refused: u64,
+) -> Option<bool> {
+    heap.refuse(passed, refused);
+    let is_granted = is_split::<A>(map, drops)?;
+    let is_refused = heap.left() != refused;
+    (is_refused | (is_granted & (map.cell_slots() == 15))).then_some(is_refused)
+}
+
+/// The same of a new map, if all six are dropped with it.
 fn is_split_anew<A: Allocator + Clone>(
     heap: &Heap,
     alloc: A,
@@ -120,13 +134,9 @@ fn is_split_anew<A: Allocator + Clone>(
 ) -> Option<bool> {
     let drops = Cell::new(0);
     let mut map = six(heap, alloc, &drops)?;
-    heap.refuse(passed, refused);
-    let is_granted = is_split::<A>(&mut map, &drops)?;
-    let is_refused = heap.left() != refused;
-    let is_stored_alike = map.cell_slots() == 15;
+    let is_refused = is_split_or_refused::<A>(heap, &mut map, &drops, passed, refused);
     let_go(map);
-    let are_dropped = drops.get() == 6;
-    (are_dropped & (is_refused | (is_granted & is_stored_alike))).then_some(is_refused)
+    if drops.get() == 6 { is_refused } else { None }
 }
 
 /// Splits new maps, with another request refused each time, and as many behind it as are to be refused. Answers how many were, until at

@@ -1,5 +1,5 @@
 //! Cases that ask a map for a prefix, and for its counts.
-ghost use Rattle.std.specs.Prelude.{◌≡◌, All, length};
+ghost use Rattle.std.specs.Prelude.{◌≡◌, ◌∷◌, [], All, IfOk, length};
 
 use crate::tests::cases::{Entry, Pair, prefix_of};
 use crate::tests::refusing::Refusing;
@@ -141,23 +141,63 @@ fn has_value_in_bulk<'a, P: Prefix + Copy, A: Allocator>(
     is_first & is_found_value(found[0], value)
 }
 
-/// Whether the lookups of many longest matches answer so for this prefix alone. What they are handed stands in memory of its own.
+/// One item, in memory of its own.
+fn one_in<T: Drop>(alloc: Global, item: T) -> Result<Vec<T>, AllocError>
+    ensures { IfOk result (λ items. items.items ≡ item ∷ []) }
+{
+    let mut items = Vec::new(alloc);
+    items.push(item)?;
+    Ok(items)
+}
+
+/// Whether the lookups of many longest matches answer so for one prefix. What they answer stands in memory of its own.
+fn has_entry_in_bulk<P: Prefix + Copy, A: Allocator>(
+    alloc: Global,
+    map: &PrefixMap<P, u64, A>,
+    asked: &[P],
+    longest: Option<Entry<P::R>>,
+) -> bool
+    requires fit { All P.IsFitting asked.now }
+    requires one { length asked.now ≡ 1 }
+{
+    match one_in(alloc, None) {
+        Ok(mut found) => has_longest_in_bulk(map, asked, &mut found, longest),
+        Err(AllocError) => false,
+    }
+}
+
+/// Whether those of their values do.
+fn has_only_value_in_bulk<P: Prefix + Copy, A: Allocator>(
+    alloc: Global,
+    map: &PrefixMap<P, u64, A>,
+    asked: &[P],
+    value: Option<u64>,
+) -> bool
+    requires fit { All P.IsFitting asked.now }
+    requires one { length asked.now ≡ 1 }
+{
+    match one_in(alloc, None) {
+        Ok(mut found) => has_value_in_bulk(map, asked, &mut found, value),
+        Err(AllocError) => false,
+    }
+}
+
+/// Whether both do for this prefix alone.
 fn has_in_bulk<P: Prefix + Copy, A: Allocator>(
     alloc: Global,
     map: &PrefixMap<P, u64, A>,
     prefix: P,
     longest: Option<Entry<P::R>>,
-) -> Result<bool, AllocError>
+) -> bool
     requires { P.IsFitting prefix }
 {
-    let mut asked = Vec::new(alloc);
-    asked.push(prefix)?;
-    let mut found = Vec::new(alloc);
-    found.push(None)?;
-    let mut values = Vec::new(alloc);
-    values.push(None)?;
-    let has_entry = has_longest_in_bulk(map, &asked, &mut found, longest);
-    Ok(has_entry & has_value_in_bulk(map, &asked, &mut values, value_in(longest)))
+    match one_in(alloc, prefix) {
+        Ok(asked) => {
+            has_entry_in_bulk(alloc, map, &asked, longest)
+                & has_only_value_in_bulk(alloc, map, &asked, value_in(longest))
+        }
+        Err(AllocError) => false,
+    }
 }
 
 /// Whether the lookups of the shortest match answer so.
@@ -199,7 +239,7 @@ pub fn finds<P: Prefix + Copy, A: Allocator>(
     let prefix = prefix_of(at);
     has(map, &prefix, exact)
         & has_longest(map, &prefix, longest)
-        & (has_in_bulk(alloc, map, prefix, longest) == Ok(true))
+        & has_in_bulk(alloc, map, prefix, longest)
         & has_shortest(map, &prefix, shortest)
 }
 

@@ -96,13 +96,13 @@ fn drops_of<W: Taking>(walk: W, taken: u64, drops: &Cell<u64>) -> Option<(u64, u
 }
 
 /// The same of each walk.
-fn dropped(alloc: Global, taken: u64) -> Option<[(u64, u64, u64); 4]> {
+fn dropped(alloc: Global, taken: u64) -> Option<[Option<(u64, u64, u64)>; 4]> {
     let drops = Cell::new(0);
-    let items = drops_of(three(alloc, &drops)?.into_iter(), taken, &drops)?;
+    let items = drops_of(three(alloc, &drops)?.into_iter(), taken, &drops);
     let part = three(alloc, &drops)?.into_children(&(0, 1));
-    let part = drops_of(part, taken, &drops)?;
-    let keys = drops_of(three(alloc, &drops)?.into_keys(), taken, &drops)?;
-    let values = drops_of(three(alloc, &drops)?.into_values(), taken, &drops)?;
+    let part = drops_of(part, taken, &drops);
+    let keys = drops_of(three(alloc, &drops)?.into_keys(), taken, &drops);
+    let values = drops_of(three(alloc, &drops)?.into_values(), taken, &drops);
     Some([items, part, keys, values])
 }
 
@@ -110,14 +110,14 @@ fn dropped(alloc: Global, taken: u64) -> Option<[(u64, u64, u64); 4]> {
 #[test]
 fn what_is_not_taken_is_dropped_with_the_walk(rt: HostRuntime) {
     let alloc = rt.alloc();
-    let none = (0, 3, 6);
+    let none = Some((0, 3, 6));
     assert!(rt; dropped(alloc, 0) == Some([none, none, none, none]));
-    let one = (1, 3, 5);
-    assert!(rt; dropped(alloc, 1) == Some([one, (1, 3, 5), one, one]));
-    let two = (2, 3, 4);
-    assert!(rt; dropped(alloc, 2) == Some([two, (2, 3, 4), two, two]));
-    let all = (3, 3, 3);
-    assert!(rt; dropped(alloc, 4) == Some([all, (2, 3, 4), all, all]));
+    let one = Some((1, 3, 5));
+    assert!(rt; dropped(alloc, 1) == Some([one, one, one, one]));
+    let two = Some((2, 3, 4));
+    assert!(rt; dropped(alloc, 2) == Some([two, two, two, two]));
+    let all = Some((3, 3, 3));
+    assert!(rt; dropped(alloc, 4) == Some([all, two, all, all]));
 }
 
 /// How many are dropped once three are stored and one of them is replaced, one is taken out, and all are cleared.
