@@ -152,9 +152,6 @@ impl<P: Prefix + Copy + PartialEq, A: Allocator + Copy> Tried<P::R, A> for Prefi
 
     fn changes_as(&mut self, case: &Case<'_, P::R>) -> bool {
         match case {
-            Case::Removes(at, before) => self.remove(&prefix_of(*at)) == before.is_some(),
-            Case::Empties(at, before) => self.remove_keep_tree(&prefix_of(*at)) == before.is_some(),
-            Case::TakesOut(at, _) => self.remove_keep_tree(&prefix_of(*at)),
             Case::ChangesEntry(at, _, _) => put(self, prefix_of(*at)) == Ok(false),
             Case::DropsChildren(at) => {
                 self.drop_children(&prefix_of(*at));
@@ -168,7 +165,7 @@ impl<P: Prefix + Copy + PartialEq, A: Allocator + Copy> Tried<P::R, A> for Prefi
                 self.clear();
                 self.is_empty()
             }
-            _ => true,
+            _ => is_taken_out(self, case),
         }
     }
 
@@ -193,5 +190,15 @@ impl<P: Prefix + Copy + PartialEq, A: Allocator + Copy> Tried<P::R, A> for Prefi
             }
             _ => true,
         }
+    }
+}
+
+/// Whether the call of a case that takes one key out answers so.
+fn is_taken_out<P: Prefix, A: Allocator>(set: &mut PrefixSet<P, A>, case: &Case<'_, P::R>) -> bool {
+    match case {
+        Case::Removes(at, before) => set.remove(&prefix_of(*at)) == before.is_some(),
+        Case::Empties(at, before) => set.remove_keep_tree(&prefix_of(*at)) == before.is_some(),
+        Case::TakesOut(at, _) => set.remove_keep_tree(&prefix_of(*at)),
+        _ => true,
     }
 }
