@@ -1,4 +1,4 @@
-use Rattle.prefix_trie.proofs.Prelude.{rules, ap₂, sym, get, ◌∙◌}
+use Rattle.prefix_trie.proofs.Prelude.{ap₂, sym, get, ◌∙◌}
 use Rattle.prefix_trie.proofs.tests.entry_callers.take_out.Goals as goal
 
 pub returns-in-Occupied-clause-value : goal.returns-in-Occupied-clause-value
