@@ -333,13 +333,20 @@ fn drops_children<P: Written>(map: &mut Map<P>, pair: Pair) -> bool {
 fn retains<P: Prefix>(map: &mut Map<P>, asked: &[(u64, bool)]) -> bool {
     let mut count = 0_usize;
     let mut in_order = true;
-    map.retain(|_, value| {
+    keep_where(map, |_, value| {
         let (expected, is_kept) = asked.get(count).copied().unwrap_or((0, false));
         in_order = in_order && *value == expected;
         count = count.saturating_add(1);
         is_kept
     });
     in_order && count == asked.len()
+}
+
+/// Keeps the entries at which a test answers true. It has no `ensures`, which its caller would have to read.
+fn keep_where<P: Prefix, F: FnMut(&P, &u64) -> bool + Drop>(map: &mut Map<P>, test: F)
+    requires { F.IsAlwaysCallable test }
+{
+    map.retain(test);
 }
 
 fn clears<P: Prefix>(map: &mut Map<P>) -> bool {

@@ -6,12 +6,12 @@ use std::alloc::Global;
 
 pub fn gives_children<P: Written>(map: &Map<P>, pair: Pair, entries: &[Entry]) -> bool {
     match (map.clone(), fitting::<P>(pair)) {
-        (Ok(copy), Some(prefix)) => are_entries(copy.into_children(&prefix), entries),
+        (Ok(copy), Some(prefix)) => are_entries(&mut copy.into_children(&prefix), entries),
         _ => false,
     }
 }
 
-fn are_entries<P: Prefix>(mut walk: IntoIter<P, u64, Global>, entries: &[Entry]) -> bool {
+fn are_entries<P: Prefix>(walk: &mut IntoIter<P, u64, Global>, entries: &[Entry]) -> bool {
     for (pair, value) in entries {
         match walk.next() {
             Some((prefix, taken)) if is(&prefix, *pair) && taken == *value => {}
@@ -23,12 +23,12 @@ fn are_entries<P: Prefix>(mut walk: IntoIter<P, u64, Global>, entries: &[Entry])
 
 pub fn gives_keys<P: Prefix>(map: &Map<P>, pairs: &[Pair]) -> bool {
     match map.clone() {
-        Ok(copy) => are_keys(copy.into_keys(), pairs),
+        Ok(copy) => are_keys(&mut copy.into_keys(), pairs),
         Err(_) => false,
     }
 }
 
-fn are_keys<P: Prefix>(mut walk: IntoKeys<P, u64, Global>, pairs: &[Pair]) -> bool {
+fn are_keys<P: Prefix>(walk: &mut IntoKeys<P, u64, Global>, pairs: &[Pair]) -> bool {
     for pair in pairs {
         match walk.next() {
             Some(prefix) if is(&prefix, *pair) => {}
