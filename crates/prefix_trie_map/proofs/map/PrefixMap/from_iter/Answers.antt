@@ -30,6 +30,3 @@ returns-in_err-fill g c =
       limit = tt;
       range = λ range. let many = c.in_err-fill.ensures.range range in (many.0, many.1, many.2, many.3, many.4, many_pass _ _ c.in_ok-map.ensures.room many.5);
     })
-
-pub fill-requires : goal.fill-requires
-fill-requires g c = c.requires

@@ -5,8 +5,11 @@ use Rattle.prefix_trie_map.proofs.map.PrefixMap.remove_children.Goals as goal
 pub parts-key-requires : goal.parts-key-requires
 parts-key-requires g c = c.requires
 
-pub remove_children-requires : goal.remove_children-requires
-remove_children-requires g c = record { key = c.parts-key.ensures.key; long = c.parts-key.ensures.within; within = c.self.invariant.keys_within; nodes = c.self.invariant.are_nodes }
+pub remove_children-requires-clause-within : goal.remove_children-requires-clause-within
+remove_children-requires-clause-within g c = c.self.invariant.keys_within
+
+pub remove_children-requires-clause-nodes : goal.remove_children-requires-clause-nodes
+remove_children-requires-clause-nodes g c = c.self.invariant.are_nodes
 
 pub invariant_of-result : goal.invariant_of-result
 invariant_of-result g c =

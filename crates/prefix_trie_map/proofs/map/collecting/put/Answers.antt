@@ -10,9 +10,6 @@ returns-clause-ok g c =
     puts_one g.P.Prefix.path c.args.map.now c.insert.new.self c.args.prefix c.args.value (inserted c.insert.result)
     c.len.ensures.whole (omega (arith, short, width)) c.in_ok-insert.ensures.entries c.in_ok-insert.ensures.nodes c.insert.ensures.step
 
-pub insert-requires : goal.insert-requires
-insert-requires g c = c.requires
-
 pub returns-in_err-insert : goal.returns-in_err-insert
 returns-in_err-insert g c =
     let p = err_from_is_err_and c.from_residual.result c.from_residual.ensures.1 in

@@ -2,10 +2,11 @@ use Rattle.prefix_trie_map.proofs.Prelude.{Some, sym, ap, ◌∙◌, subst, get,
 use Rattle.prefix_trie_bits.specs.Model.Entries.{without_entry}
 use Rattle.prefix_trie_map.proofs.map.entry.OccupiedEntry.remove.Goals as goal
 
-pub take-requires : goal.take-requires
-take-requires g c =
-    let m = c.args.self.map.now in
-    record { fits = c.prefix.ensures.fits; stored = ap (λ k. contains_key m.entries (g.P.Prefix.path k)) c.prefix.ensures.value ∙ c.args.self.stored }
+pub take-requires-clause-fits : goal.take-requires-clause-fits
+take-requires-clause-fits g c = c.prefix.ensures.fits
+
+pub take-requires-clause-stored : goal.take-requires-clause-stored
+take-requires-clause-stored g c = ap (λ k. contains_key c.args.self.map.now.entries (g.P.Prefix.path k)) c.prefix.ensures.value ∙ c.args.self.stored
 
 pub returns : goal.returns
 returns g c =

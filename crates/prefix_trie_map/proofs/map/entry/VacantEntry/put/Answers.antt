@@ -2,15 +2,14 @@ use Rattle.prefix_trie_map.proofs.Prelude.{refl, sym, ap, ◌∙◌, subst, cont
 use Rattle.prefix_trie_map.proofs.Entries.{Fills-handed, Refuses-handed}
 use Rattle.prefix_trie_map.proofs.map.entry.VacantEntry.put.Goals as goal
 
-pub place-requires : goal.place-requires
-place-requires g c =
-    let is = c.prefix.ensures.value in
-    let e = c.args.self in
-    record {
-      fits = c.prefix.ensures.fits;
-      absent = ap (λ k. contains_key e.map.now.entries (g.P.Prefix.path k)) is ∙ e.absent;
-      end = subst (λ k. IsWayEnd e.map.now.build (g.P.Prefix.path k) e.end) (sym is) e.ends;
-    }
+pub place-requires-clause-fits : goal.place-requires-clause-fits
+place-requires-clause-fits g c = c.prefix.ensures.fits
+
+pub place-requires-clause-absent : goal.place-requires-clause-absent
+place-requires-clause-absent g c = let e = c.args.self in ap (λ k. contains_key e.map.now.entries (g.P.Prefix.path k)) c.prefix.ensures.value ∙ e.absent
+
+pub place-requires-clause-end : goal.place-requires-clause-end
+place-requires-clause-end g c = let e = c.args.self in subst (λ k. IsWayEnd e.map.now.build (g.P.Prefix.path k) e.end) (sym c.prefix.ensures.value) e.ends
 
 pub returns-in-Ok : goal.returns-in-Ok
 returns-in-Ok g c =
