@@ -21,17 +21,24 @@ pub extend-key-requires-clause-within : goal.extend-key-requires-clause-within
 extend-key-requires-clause-within g c =
     value_room g.K.Key.IsKey g.K.Key.bits g.K.Key.bit_width c.args.nodes.now c.args.site c.args.node c.requires.site g.met.K.Key.key_laws.bits_length c.args.entries.now c.args.cells.now c.requires.trie.0 c.requires.trie.1 c.args.bit c.string_of-n.result.0 c.string_of-n.result.1 c.requires.bit c.string_of-n.ensures.short c.string_of-n.ensures.bit c.requires.set
 
-pub keeps-requires : goal.keeps-requires
-keeps-requires g c =
+pub keeps-requires-clause-key : goal.keeps-requires-clause-key
+keeps-requires-clause-key g c =
+    c.extend-key.ensures.key
+
+pub keeps-requires-clause-within : goal.keeps-requires-clause-within
+keeps-requires-clause-within g c =
+    value_room g.K.Key.IsKey g.K.Key.bits g.K.Key.bit_width c.args.nodes.now c.args.site c.args.node c.requires.site g.met.K.Key.key_laws.bits_length c.args.entries.now c.args.cells.now c.requires.trie.0 c.requires.trie.1 c.args.bit c.string_of-n.result.0 c.string_of-n.result.1 c.requires.bit c.string_of-n.ensures.short c.string_of-n.ensures.bit c.requires.set
+
+pub keeps-requires-clause-filled : goal.keeps-requires-clause-filled
+keeps-requires-clause-filled g c =
+    key_filled g.K.Key.IsKey g.K.Key.bits g.K.Key.bit_width c.args.nodes.now c.args.site c.args.node c.requires.site g.met.K.Key.key_laws.bits_length c.args.entries.now c.args.cells.now c.requires.trie.0 c.requires.trie.1 c.args.bit c.string_of-n.result.0 c.string_of-n.result.1 c.requires.bit c.string_of-n.ensures.short c.string_of-n.ensures.bit c.requires.set c.extend-key.result c.extend-key.ensures.value
+
+pub keeps-requires-clause-accepts : goal.keeps-requires-clause-accepts
+keeps-requires-clause-accepts g c =
     let got = value_got g.K.Key.IsKey g.K.Key.bits g.K.Key.bit_width c.args.nodes.now c.args.site c.args.node c.requires.site g.met.K.Key.key_laws.bits_length c.args.entries.now c.args.cells.now c.requires.trie.0 c.requires.trie.1 c.args.bit c.string_of-n.result.0 c.string_of-n.result.1 c.requires.bit c.string_of-n.ensures.short c.string_of-n.ensures.bit c.requires.set c.rank.result c.at.result.now c.rank.ensures c.at.ensures.slot in
     let few = short g.K.Key.IsKey g.K.Key.bits g.K.Key.bit_width c.args.nodes.now c.args.site c.args.node c.requires.site g.met.K.Key.key_laws.bits_length c.args.entries.now c.args.cells.now c.requires.trie.0 c.requires.trie.1 c.args.bit c.string_of-n.result.0 c.string_of-n.result.1 c.requires.bit c.string_of-n.ensures.short c.string_of-n.ensures.bit c.requires.set in
-    record {
-      key = c.extend-key.ensures.key;
-      within = value_room g.K.Key.IsKey g.K.Key.bits g.K.Key.bit_width c.args.nodes.now c.args.site c.args.node c.requires.site g.met.K.Key.key_laws.bits_length c.args.entries.now c.args.cells.now c.requires.trie.0 c.requires.trie.1 c.args.bit c.string_of-n.result.0 c.string_of-n.result.1 c.requires.bit c.string_of-n.ensures.short c.string_of-n.ensures.bit c.requires.set;
-      filled = key_filled g.K.Key.IsKey g.K.Key.bits g.K.Key.bit_width c.args.nodes.now c.args.site c.args.node c.requires.site g.met.K.Key.key_laws.bits_length c.args.entries.now c.args.cells.now c.requires.trie.0 c.requires.trie.1 c.args.bit c.string_of-n.result.0 c.string_of-n.result.1 c.requires.bit c.string_of-n.ensures.short c.string_of-n.ensures.bit c.requires.set c.extend-key.result c.extend-key.ensures.value;
-      accepts = may_ask_here g.K.Key.IsKey g.K.Key.bits g.K.Key.bit_width c.args.nodes.now c.args.site c.args.node c.requires.site g.met.K.Key.key_laws.bits_length c.args.entries.now c.args.cells.now c.requires.trie.0 c.requires.trie.1 c.args.bit c.string_of-n.result.0 c.string_of-n.result.1 c.requires.bit c.string_of-n.ensures.short c.string_of-n.ensures.bit c.requires.set c.extend-key.result c.extend-key.ensures.value g.F.Keep.asks g.F.Keep.accepts c.in-Some.value.now (got ∙ (sym c.as_ref.ensures.value ∙ ap option_copied c.in-Some.is)) c.args.keep.now
-          (c.requires.may_ask (digits c.string_of-n.result.0 c.string_of-n.result.1) few c.string_of-n.ensures.bit c.requires.trie.0 c.requires.trie.1);
-    }
+    may_ask_here g.K.Key.IsKey g.K.Key.bits g.K.Key.bit_width c.args.nodes.now c.args.site c.args.node c.requires.site g.met.K.Key.key_laws.bits_length c.args.entries.now c.args.cells.now c.requires.trie.0 c.requires.trie.1 c.args.bit c.string_of-n.result.0 c.string_of-n.result.1 c.requires.bit c.string_of-n.ensures.short c.string_of-n.ensures.bit c.requires.set c.extend-key.result c.extend-key.ensures.value g.F.Keep.asks g.F.Keep.accepts c.in-Some.value.now (got ∙ (sym c.as_ref.ensures.value ∙ ap option_copied c.in-Some.is)) c.args.keep.now
+    (c.requires.may_ask (digits c.string_of-n.result.0 c.string_of-n.result.1) few c.string_of-n.ensures.bit c.requires.trie.0 c.requires.trie.1)
 
 pub returns-then-keeps-clause-retains : goal.returns-then-keeps-clause-retains
 returns-then-keeps-clause-retains g c = λ t few is before trie.
@@ -46,15 +53,23 @@ returns-then-keeps-clause-node g c = c.requires.site
 pub returns-then-keeps-clause-lasts : goal.returns-then-keeps-clause-lasts
 returns-then-keeps-clause-lasts g c = lasts_none _ c.args.nodes.now c.args.cells.now
 
-pub take_value-found-requires : goal.take_value-found-requires
-take_value-found-requires g c =
+pub take_value-found-requires-clause-bit : goal.take_value-found-requires-clause-bit
+take_value-found-requires-clause-bit g c =
+    c.requires.bit
+
+pub take_value-found-requires-clause-stands : goal.take_value-found-requires-clause-stands
+take_value-found-requires-clause-stands g c =
     let long = g.met.K.Key.key_laws.bits_length c.args.site.key c.requires.site.key in
-    record {
-      bit = c.requires.bit;
-      stands = site_values g.K.Key.IsKey g.K.Key.bits g.K.Key.bit_width c.args.nodes.now c.args.site c.args.node c.requires.site long c.args.entries.now c.args.cells.now c.requires.trie.0 c.requires.trie.1;
-      node = sym (site_holds g.K.Key.IsKey g.K.Key.bits g.K.Key.bit_width c.args.nodes.now c.args.site c.args.node c.requires.site long c.args.entries.now c.args.cells.now c.requires.trie.0 c.requires.trie.1).0;
-      there = has_bit-is c.args.node.value_bitmap c.args.bit (let h = c.requires.bit in omega (arith, h)) ∙ c.requires.set;
-    }
+    site_values g.K.Key.IsKey g.K.Key.bits g.K.Key.bit_width c.args.nodes.now c.args.site c.args.node c.requires.site long c.args.entries.now c.args.cells.now c.requires.trie.0 c.requires.trie.1
+
+pub take_value-found-requires-clause-node : goal.take_value-found-requires-clause-node
+take_value-found-requires-clause-node g c =
+    let long = g.met.K.Key.key_laws.bits_length c.args.site.key c.requires.site.key in
+    sym (site_holds g.K.Key.IsKey g.K.Key.bits g.K.Key.bit_width c.args.nodes.now c.args.site c.args.node c.requires.site long c.args.entries.now c.args.cells.now c.requires.trie.0 c.requires.trie.1).0
+
+pub take_value-found-requires-clause-there : goal.take_value-found-requires-clause-there
+take_value-found-requires-clause-there g c =
+    has_bit-is c.args.node.value_bitmap c.args.bit (let h = c.requires.bit in omega (arith, h)) ∙ c.requires.set
 
 pub overflow_sub-entries : goal.overflow_sub-entries
 overflow_sub-entries g c =
@@ -67,21 +82,27 @@ unreachable-requires-in_default-found g c =
     let some = value_some g.K.Key.IsKey g.K.Key.bits g.K.Key.bit_width c.args.nodes.now c.args.site c.args.node c.requires.site g.met.K.Key.key_laws.bits_length c.args.entries.now c.args.cells.now c.requires.trie.0 c.requires.trie.1 c.args.bit c.string_of-n.result.0 c.string_of-n.result.1 c.requires.bit c.string_of-n.ensures.short c.string_of-n.ensures.bit c.requires.set in
     false≢true (sym (ap is_some (is ∙ c.in_default-found.is)) ∙ some)
 
-pub taken-requires : goal.taken-requires
-taken-requires g c =
+pub taken-requires-clause-key : goal.taken-requires-clause-key
+taken-requires-clause-key g c =
+    c.extend-key.ensures.key
+
+pub taken-requires-clause-within : goal.taken-requires-clause-within
+taken-requires-clause-within g c =
+    value_room g.K.Key.IsKey g.K.Key.bits g.K.Key.bit_width c.args.nodes.now c.args.site c.args.node c.requires.site g.met.K.Key.key_laws.bits_length c.args.entries.now c.args.cells.now c.requires.trie.0 c.requires.trie.1 c.args.bit c.string_of-n.result.0 c.string_of-n.result.1 c.requires.bit c.string_of-n.ensures.short c.string_of-n.ensures.bit c.requires.set
+
+pub taken-requires-clause-filled : goal.taken-requires-clause-filled
+taken-requires-clause-filled g c =
+    key_filled g.K.Key.IsKey g.K.Key.bits g.K.Key.bit_width c.args.nodes.now c.args.site c.args.node c.requires.site g.met.K.Key.key_laws.bits_length c.args.entries.now c.args.cells.now c.requires.trie.0 c.requires.trie.1 c.args.bit c.string_of-n.result.0 c.string_of-n.result.1 c.requires.bit c.string_of-n.ensures.short c.string_of-n.ensures.bit c.requires.set c.extend-key.result c.extend-key.ensures.value
+
+pub taken-requires-clause-refused : goal.taken-requires-clause-refused
+taken-requires-clause-refused g c =
     let got = value_got g.K.Key.IsKey g.K.Key.bits g.K.Key.bit_width c.args.nodes.now c.args.site c.args.node c.requires.site g.met.K.Key.key_laws.bits_length c.args.entries.now c.args.cells.now c.requires.trie.0 c.requires.trie.1 c.args.bit c.string_of-n.result.0 c.string_of-n.result.1 c.requires.bit c.string_of-n.ensures.short c.string_of-n.ensures.bit c.requires.set c.rank.result c.at.result.now c.rank.ensures c.at.ensures.slot in
     let is = taken_here g.K.Key.IsKey g.K.Key.bits g.K.Key.bit_width c.args.nodes.now c.args.site c.args.node c.requires.site g.met.K.Key.key_laws.bits_length c.args.entries.now c.args.cells.now c.requires.trie.0 c.requires.trie.1 c.args.bit c.string_of-n.result.0 c.string_of-n.result.1 c.requires.bit c.string_of-n.ensures.short c.string_of-n.ensures.bit c.requires.set c.take_value-found.result.0 c.take_value-found.result.1 c.take_value-found.new.nodes c.take_value-found.new.cells c.take_value-found.ensures.value c.take_value-found.ensures.taken in
-    let asked : Some c.in-Some.value.now ≡ Some c.in-Some-found.value = sym (got ∙ (sym c.as_ref.ensures.value ∙ ap option_copied c.in-Some.is)) ∙ is ∙ c.in-Some-found.is in
-    record {
-      key = c.extend-key.ensures.key;
-      within = value_room g.K.Key.IsKey g.K.Key.bits g.K.Key.bit_width c.args.nodes.now c.args.site c.args.node c.requires.site g.met.K.Key.key_laws.bits_length c.args.entries.now c.args.cells.now c.requires.trie.0 c.requires.trie.1 c.args.bit c.string_of-n.result.0 c.string_of-n.result.1 c.requires.bit c.string_of-n.ensures.short c.string_of-n.ensures.bit c.requires.set;
-      filled = key_filled g.K.Key.IsKey g.K.Key.bits g.K.Key.bit_width c.args.nodes.now c.args.site c.args.node c.requires.site g.met.K.Key.key_laws.bits_length c.args.entries.now c.args.cells.now c.requires.trie.0 c.requires.trie.1 c.args.bit c.string_of-n.result.0 c.string_of-n.result.1 c.requires.bit c.string_of-n.ensures.short c.string_of-n.ensures.bit c.requires.set c.extend-key.result c.extend-key.ensures.value;
-      refused = (
-        c.args.keep.now,
-        subst (λ v. g.F.Keep.refuses c.args.keep.now (take (c.args.site.depth + c.string_of-n.result.0) (g.K.Key.bits c.extend-key.result)) v c.keeps.new.self)
-            (ap (λ o. unwrap_or o c.in-Some-found.value) asked) (c.keeps.ensures.no c.if-keeps.false),
-      );
-    }
+    let asked : Some c.in-Some.value.now ≡ Some c.in-Some-found.value = sym (got ∙ (sym c.as_ref.ensures.value ∙ ap option_copied c.in-Some.is)) ∙ is ∙ c.in-Some-found.is in (
+      c.args.keep.now,
+      subst (λ v. g.F.Keep.refuses c.args.keep.now (take (c.args.site.depth + c.string_of-n.result.0) (g.K.Key.bits c.extend-key.result)) v c.keeps.new.self)
+          (ap (λ o. unwrap_or o c.in-Some-found.value) asked) (c.keeps.ensures.no c.if-keeps.false),
+    )
 
 pub returns-clause-retains : goal.returns-clause-retains
 returns-clause-retains g c = λ t few is before trie.
