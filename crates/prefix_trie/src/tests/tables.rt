@@ -24,7 +24,11 @@ static IN_TURN: [&[Table<'static, u32>]; 9] = [
 ];
 
 /// Those that are run with every request refused.
-static STARVED: [&[Table<'static, u32>]; 3] = [&entries::STORED, &copies::FREE, &blocks::AMONG_FREE];
+static STARVED: [&[Table<'static, u32>]; 3] = [
+    &entries::STORED,
+    &copies::FREE,
+    &blocks::AMONG_FREE,
+];
 
 #[test]
 fn tables_with_each_request_refused_in_turn(rt: HostRuntime) {
