@@ -278,6 +278,7 @@ fn retain_at_least<P: Prefix, A: Allocator>(
 }
 
 // Keeps the entries at which a test says yes that may always be called.
+#[tactic(auto, using(crate::proofs::Asking::may_ask_of_map))]
 fn keep_where<P: Prefix, A: Allocator, F: FnMut(&P, &u64) -> bool + Drop>(
     map: &mut PrefixMap<P, u64, A>,
     test: F,

@@ -343,6 +343,7 @@ fn retains<P: Prefix>(map: &mut Map<P>, asked: &[(u64, bool)]) -> bool {
 }
 
 /// Keeps the entries at which a test answers true. It has no `ensures`, which its caller would have to read.
+#[tactic(auto, using(prefix_trie::proofs::Always::may_ask_of_map))]
 fn keep_where<P: Prefix, F: FnMut(&P, &u64) -> bool + Drop>(map: &mut Map<P>, test: F)
     requires { F.IsAlwaysCallable test }
 {
