@@ -6,9 +6,6 @@ use Rattle.prefix_trie.proofs.tests.examples.pages.read_all.Goals as goal
 pub loop-read-init : goal.loop-read-init
 loop-read-init g c = (shown g.P.Prefix.back (listing c.args.map.now.entries), ap (λ xs. xs ++ shown g.P.Prefix.back (listing c.args.map.now.entries)) (sym c.new-read.ensures.items))
 
-pub read_page-requires : goal.read_page-requires
-read_page-requires g c = c.loop-read.invariant
-
 pub loop-read-smaller : goal.loop-read-smaller
 loop-read-smaller g c = page_goes_on g.P.Prefix.back c.args.map.now.entries c.loop-read.read.items _ c.args.size c.in_ok-read_page.ensures c.requires (search rules)
 
