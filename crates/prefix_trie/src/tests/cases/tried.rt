@@ -43,10 +43,10 @@ pub trait Tried<K: Key, A: Allocator + Copy>: Drop {
     /// Whether its arrays have room for what it has, as its blocks are.
     fn has_sums(&self) -> bool;
 
-    /// Makes the call of a case that is of one alone and cannot be refused, and compares its answer. A map knows every case.
+    /// Makes the call of a case that is of one alone and cannot be refused, and compares its answer. A question changes nothing here.
     fn changes_as(&mut self, case: &Case<'_, K>) -> bool;
 
-    /// Asks the question of a case, and compares its answer. A map knows every question.
+    /// Asks the question of a case, and compares its answer.
     fn answers_as(&self, heap: &Refusing<Global>, case: &Case<'_, K>) -> bool;
 }
 
@@ -171,11 +171,20 @@ fn lists<K: Key, A: Allocator + Copy, M: Tried<K, A>>(
 ) -> bool {
     for (index, entry) in entries.iter().enumerate() {
         let case = Case::ListsFrom(entry.0, entries.get(index..).unwrap_or(&[]));
-        if !(tried.changes_as(&case) & tried.answers_as(heap, &case)) {
+        if !changes_and_answers_as::<K, A, M>(heap, tried, &case) {
             return false;
         }
     }
-    tried.answers_as(heap, &Case::Lists(entries))
+    changes_and_answers_as::<K, A, M>(heap, tried, &Case::Lists(entries))
+}
+
+/// Makes the call of a case that is no insertion, and compares its answer.
+fn changes_and_answers_as<K: Key, A: Allocator + Copy, M: Tried<K, A>>(
+    heap: &Refusing<Global>,
+    tried: &mut M,
+    case: &Case<'_, K>,
+) -> bool {
+    tried.changes_as(case) & tried.answers_as(heap, case)
 }
 
 /// Makes the call of a case, and compares its answer. Whether it is as said, and the arrays have the room that they should.
@@ -226,16 +235,7 @@ fn holds_in<K: Key, A: Allocator + Copy, M: Tried<K, A>>(
         Case::Fills(call, at, value) => {
             stores::<K, A, M>(heap, tried, *call, &(*at, *value), Ok(None))
         }
-        Case::ListsFrom(..) => tried.changes_as(case) & tried.answers_as(heap, case),
-        Case::Finds(..)
-        | Case::Covers(..)
-        | Case::Len(_)
-        | Case::Addresses(_)
-        | Case::Nodes(_)
-        | Case::Slots(..)
-        | Case::NodeBlocks(..)
-        | Case::CellBlocks(..) => tried.answers_as(heap, case),
-        _ => tried.changes_as(case),
+        _ => changes_and_answers_as::<K, A, M>(heap, tried, case),
     }
 }
 
