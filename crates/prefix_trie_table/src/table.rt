@@ -44,7 +44,7 @@ ghost use Rattle.prefix_trie_table.specs.Layouts.{Sized, Sized-prop};
 ghost use Rattle.prefix_trie_table.specs.Shape.{Shaped, Shaped-prop, state, storage};
 ghost use Rattle.prefix_trie_table.specs.Steps.{stored, inserted, SettlesInStorage};
 
-use crate::allocator::blocks::{Blocks, cells};
+use crate::allocator::blocks::{Cells, cells};
 use crate::allocator::nodes::{NodeAllocator, Tick};
 use crate::table::children::{KeepNothing, remove_part};
 use crate::table::cursor::{Start, walk_at};
@@ -67,7 +67,7 @@ pub use walk::Walk;
 #[derive(Drop)]
 pub struct Table<T: Drop, A: Allocator, V: Tick> {
     nodes: NodeAllocator<A, V>,
-    cells: Blocks<Option<T>, A>,
+    cells: Cells<T, A>,
     count: usize,
     ghost shape: { Shaped nodes.slots cells.slots } by { Shaped-prop T.code nodes.slots cells.slots },
     ghost sizes: { Sized nodes.slots } by { Sized-prop nodes.slots },

@@ -11,7 +11,7 @@ ghost use Rattle.prefix_trie_table.specs.Tables.{IsTrie};
 ghost use Rattle.prefix_trie_table.specs.Walking.Walks.{Tree, ArePassed, IsStack, IsPlaceOf, pending};
 ghost use Rattle.prefix_trie_table.specs.Walking.Cursors.{selected, behind, kept, places_in};
 
-use crate::allocator::blocks::Blocks;
+use crate::allocator::blocks::Cells;
 use crate::allocator::node::{Node, NodeSlot};
 use crate::allocator::nodes::{NodeAllocator, Tick};
 use crate::table::spot::Spot;
@@ -38,7 +38,7 @@ pub enum Start {
 /// The walk of a selection of the entries that the arrays hold. Each node on the way of the bit string is read once.
 pub fn walk_at<'a, K: Key, T: Drop, A: Allocator, V: Tick>(
     nodes: &'a NodeAllocator<A, V>,
-    cells: &'a Blocks<Option<T>, A>,
+    cells: &'a Cells<T, A>,
     key: K,
     len: u32,
     from: Start,

@@ -12,7 +12,7 @@ ghost use Rattle.prefix_trie_table.specs.Tables.{GrowsBoth, ForHeld, own_value, 
 ghost use Rattle.prefix_trie_table.specs.Asked.{nodes_needed, cells_needed, HasRoom, AtDeepest, ObtainsBoth};
 ghost use Rattle.prefix_trie_bits.specs.declared.prefix.Refusal.TheVariants.{Memory, IndexRange};
 
-use crate::allocator::blocks::Blocks;
+use crate::allocator::blocks::Cells;
 use crate::allocator::node::{Node, NodeSlot};
 use crate::allocator::nodes::{NodeAllocator, Tick};
 use crate::table::lookup::{Reached, locate_in};
@@ -70,7 +70,7 @@ fn add_child<A: Allocator, V: Tick>(
 #[inline(always)]
 fn add_value<T: Drop, A: Allocator, V: Tick>(
     nodes: &mut NodeAllocator<A, V>,
-    cells: &mut Blocks<Option<T>, A>,
+    cells: &mut Cells<T, A>,
     at: NodeSlot,
     node: &Node,
     bit: u32,
@@ -122,7 +122,7 @@ fn add_value<T: Drop, A: Allocator, V: Tick>(
 #[inline(always)]
 pub fn prepare<T: Drop, A: Allocator, V: Tick>(
     nodes: &mut NodeAllocator<A, V>,
-    cells: &mut Blocks<Option<T>, A>,
+    cells: &mut Cells<T, A>,
     reached: &Reached,
     len: u32,
 ) -> Result<(), Refusal>
@@ -155,7 +155,7 @@ pub fn prepare<T: Drop, A: Allocator, V: Tick>(
 #[inline(always)]
 fn add_entry<K: Key, T: Drop, A: Allocator, V: Tick>(
     nodes: &mut NodeAllocator<A, V>,
-    cells: &mut Blocks<Option<T>, A>,
+    cells: &mut Cells<T, A>,
     reached: &Reached,
     key: K,
     len: u32,
@@ -192,7 +192,7 @@ fn add_entry<K: Key, T: Drop, A: Allocator, V: Tick>(
 #[inline(always)]
 pub fn place_entry<K: Key, T: Drop, A: Allocator, V: Tick>(
     nodes: &mut NodeAllocator<A, V>,
-    cells: &mut Blocks<Option<T>, A>,
+    cells: &mut Cells<T, A>,
     entries: &mut usize,
     end: WayEnd,
     key: K,
@@ -232,7 +232,7 @@ pub fn place_entry<K: Key, T: Drop, A: Allocator, V: Tick>(
 #[inline(always)]
 pub fn insert_entry<K: Key, T: Drop, A: Allocator, V: Tick>(
     nodes: &mut NodeAllocator<A, V>,
-    cells: &mut Blocks<Option<T>, A>,
+    cells: &mut Cells<T, A>,
     entries: &mut usize,
     key: K,
     len: u32,

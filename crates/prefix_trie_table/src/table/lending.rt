@@ -9,7 +9,7 @@ ghost use Rattle.prefix_trie_table.specs.Matching.{SeatAt};
 ghost use Rattle.prefix_trie_table.specs.Slots.{HasValue};
 ghost use Rattle.prefix_trie_table.specs.Lending.Blocks.{lends_held, lends_cell, lends_cell_if};
 
-use crate::allocator::blocks::Blocks;
+use crate::allocator::blocks::Cells;
 use crate::allocator::nodes::Tick;
 use crate::table::Table;
 use crate::table::lookup::find_seat;
@@ -33,7 +33,7 @@ fn held<T>(cell: &mut Option<T>) -> &mut T
 
 /// The value at a seat. All writing of single values goes through this call.
 #[inline]
-pub fn lend<T: Drop, A: Allocator>(cells: &mut Blocks<Option<T>, A>, seat: Seat) -> &mut T
+pub fn lend<T: Drop, A: Allocator>(cells: &mut Cells<T, A>, seat: Seat) -> &mut T
     requires { HasValue cells.old seat }
     ensures* writes_back { sem 𝓛 (lends_cell T.row A.row A.Allocator cells.entry seat result) }
     ensures value { slice_index_or cells.old.slots (seat.start + seat.place) None ≡ Some result.now }
@@ -43,10 +43,7 @@ pub fn lend<T: Drop, A: Allocator>(cells: &mut Blocks<Option<T>, A>, seat: Seat)
 
 /// The value at a seat that may be missing.
 #[inline]
-fn lend_if<T: Drop, A: Allocator>(
-    cells: &mut Blocks<Option<T>, A>,
-    seat: Option<Seat>,
-) -> Option<&mut T>
+fn lend_if<T: Drop, A: Allocator>(cells: &mut Cells<T, A>, seat: Option<Seat>) -> Option<&mut T>
     requires { IfSome seat (λ s. HasValue cells.old s) }
     ensures* writes_back { sem 𝓛 (lends_cell_if T.row A.row A.Allocator cells.entry seat result) }
     ensures value { MatchOption seat (result ≡ None)

@@ -12,7 +12,7 @@ ghost use Rattle.prefix_trie_table.specs.Tables.{IsReached, ForHeld, own_value};
 ghost use Rattle.prefix_trie_table.specs.Slots.{SeatOf};
 ghost use Rattle.prefix_trie_table.specs.Store.{Store};
 
-use crate::allocator::blocks::Blocks;
+use crate::allocator::blocks::Cells;
 use crate::allocator::node::{Node, NodeSlot};
 use crate::allocator::nodes::{NodeAllocator, Tick};
 use crate::table::seat::{Location, Seat, WayEnd};
@@ -188,7 +188,7 @@ pub fn find_seat<K: Key, A: Allocator, V: Tick>(
 #[inline(always)]
 pub fn find_value<'a, K: Key, T: Drop, A: Allocator, V: Tick>(
     nodes: &NodeAllocator<A, V>,
-    cells: &'a Blocks<Option<T>, A>,
+    cells: &'a Cells<T, A>,
     key: K,
     len: u32,
     counter: &mut V,

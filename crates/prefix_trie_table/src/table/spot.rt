@@ -7,7 +7,7 @@ ghost use Rattle.prefix_trie_table.specs.Cells.{node_at};
 ghost use Rattle.prefix_trie_table.specs.Tables.{IsTrie};
 ghost use Rattle.prefix_trie_table.specs.Walking.Walks.{Tree, IsSpot, IsPlaceOf, IsSeated, KeepsWay, Skips, Steps, slot_of};
 
-use crate::allocator::blocks::Blocks;
+use crate::allocator::blocks::Cells;
 use crate::allocator::node::{Node, NodeSlot};
 use crate::allocator::nodes::{NodeAllocator, Tick};
 use crate::table::seat::Seat;
@@ -118,7 +118,7 @@ pub fn skip_below<K: Key>(spot: &mut Spot, key: K, len: u32)
 
 /// The value at a seat.
 #[inline]
-pub fn value_at<T: Drop, A: Allocator>(cells: &Blocks<Option<T>, A>, seat: Seat) -> &T
+pub fn value_at<T: Drop, A: Allocator>(cells: &Cells<T, A>, seat: Seat) -> &T
     requires stands { slot_of seat < length cells.now.slots }
     requires set { (v : T) × (slice_index_or cells.now.slots (slot_of seat) None ≡ Some v) }
     ensures { slice_index_or cells.now.slots (slot_of seat) None ≡ Some result.now }

@@ -9,7 +9,7 @@ ghost use Rattle.prefix_trie_table.specs.Tables.{IsTrie};
 ghost use Rattle.prefix_trie_table.specs.Walking.Items.{GivesFilled, GivesOutermost};
 ghost use Rattle.prefix_trie_table.specs.Walking.Walks.{Tree, ArePassed, EndsLast, IsStack, SkipsLast, pending, GivesSeat, ShapeOf, ShapeOf-prop};
 
-use crate::allocator::blocks::Blocks;
+use crate::allocator::blocks::Cells;
 use crate::allocator::node::NodeSlot;
 use crate::allocator::nodes::{NodeAllocator, Tick};
 use crate::table::seat::Seat;
@@ -23,7 +23,7 @@ use std::marker::Model;
 /// The entries of a table that are still to come, in listing order.
 #[derive(Drop)]
 pub struct Walk<'a, K: Key, T: Drop, A: Allocator, V: Tick> {
-    arrays: Option<(&'a NodeAllocator<A, V>, &'a Blocks<Option<T>, A>)>,
+    arrays: Option<(&'a NodeAllocator<A, V>, &'a Cells<T, A>)>,
     // The path of each spot begins it.
     key: K,
     stack: ArrayVec<Spot, 26>,
@@ -47,7 +47,7 @@ impl<'a, K: Key, T: Drop, A: Allocator, V: Tick> Walk<'a, K, T, A, V> {
     #[inline]
     pub fn over(
         nodes: &'a NodeAllocator<A, V>,
-        cells: &'a Blocks<Option<T>, A>,
+        cells: &'a Cells<T, A>,
         key: K,
         stack: ArrayVec<Spot, 26>,
     ) -> Self
@@ -138,7 +138,7 @@ impl<'a, K: Key, T: Drop, A: Allocator, V: Tick> Default for Walk<'a, K, T, A, V
 /// The walk of all entries that the arrays hold. The root is read.
 pub fn walk_of<'a, K: Key, T: Drop, A: Allocator, V: Tick>(
     nodes: &'a NodeAllocator<A, V>,
-    cells: &'a Blocks<Option<T>, A>,
+    cells: &'a Cells<T, A>,
     counter: &mut V,
 ) -> Walk<'a, K, T, A, V>
     requires { (s : State T) × IsTrie K.bit_width (len s.entries) nodes.now cells.now s }

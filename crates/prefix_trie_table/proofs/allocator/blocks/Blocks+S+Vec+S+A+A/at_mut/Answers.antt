@@ -1,6 +1,6 @@
 use Rattle.prefix_trie_table.proofs.Prelude.{◌∷◌, ◌+◌, set, refl, subst, Sound, with_slot}
 use Rattle.prefix_trie_table.proofs.Blocks.Soundness.{Sound-set}
-use Rattle.prefix_trie_table.proofs.allocator.blocks.Blocks.at_mut.Goals as goal
+use Rattle.prefix_trie_table.proofs.allocator.blocks.Blocks+S+Vec+S+A+A.at_mut.Goals as goal
 
 pub returns : goal.returns
 returns g c =
