@@ -181,7 +181,7 @@ fn ipv6(rt: HostRuntime) {
     assert!(rt; answers == [true; 7]);
 }
 
-/// Whether these are the debug text of a value and the other.
+/// Whether these are the debug text and the display text of a value.
 fn shows<T: Debug + Display>(alloc: Global, value: &T, expected: &str) -> bool {
     match format!(in alloc; "{value:?} {value}") {
         Ok(text) => text.as_str() == expected,
@@ -199,14 +199,14 @@ fn texts(rt: HostRuntime) {
         shows(
             rt.alloc(),
             &six,
-            "0000:0000:0000:0000:0000:0000:0000:0001/128 0000:0000:0000:0000:0000:0000:0000:0001/128"
+            "0000:0000:0000:0000:0000:0000:0000:0001/128 ::1/128"
         )
     );
     assert!(rt;
         shows(
             rt.alloc(),
             &documentation,
-            "2001:0db8:0000:0000:0000:0000:0000:00ff/32 2001:0db8:0000:0000:0000:0000:0000:00ff/32"
+            "2001:0db8:0000:0000:0000:0000:0000:00ff/32 2001:db8::ff/32"
         )
     );
 }
