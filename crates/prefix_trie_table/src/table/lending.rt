@@ -30,7 +30,9 @@ fn held<T>(cell: &mut Option<T>) -> &mut T
     }
 }
 
-/// The value at a seat. All writing of single values goes through this call.
+/// The value at a seat. Each call that changes a stored value in its place goes through this one.
+// What comes to a table or leaves it does not: an insertion or a removal shifts a list of cells, and a value that moves to another
+// owner fills a vacant cell or leaves one.
 #[inline]
 pub fn lend<T: Drop, A: Allocator>(cells: &mut Cells<T, A>, seat: Seat) -> &mut T
     requires { HasValue cells.old seat }

@@ -2,7 +2,7 @@ use Rattle.prefix_trie_table.proofs.Prelude.{◌∙◌, arith, and_le_l, All-wea
 use Rattle.std.specs.List.{Contains}
 use Rattle.prefix_trie_table.proofs.Walk.Cursors.{masked, in_first}
 use Rattle.prefix_trie_table.proofs.Lookup.Matching.{clear-small}
-use Rattle.prefix_trie_table.proofs.table.cursor.spot_in.Goals as goal
+use Rattle.prefix_trie_table.proofs.table.spot.spot_in.Goals as goal
 
 pub new-places-requires : goal.new-places-requires
 new-places-requires c =
