@@ -3,7 +3,7 @@ use Rattle.prefix_trie.proofs.Prelude.{Bool, List, [], ◌∷◌, refl}
 use Rattle.std.specs.Borrow.{Bor}
 use Rattle.std.specs.Fn.{Mut, always_mut}
 use Rattle.prefix_trie_bits.specs.Model.Asking.{MayAskInOrder}
-use Rattle.prefix_trie_map.specs.Sets.{AsksKeyAt, TakesKeyAt}
+use Rattle.prefix_trie.specs.Sets.{AsksKeyAt, TakesKeyAt}
 use denote.Param.Always.{mut_next}
 pub use Rattle.prefix_trie_map.proofs.Asking.{may_ask_of_map}
 

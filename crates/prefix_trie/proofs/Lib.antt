@@ -18,3 +18,9 @@ pub mod Modifying
 mod Comparing
 mod Paging
 mod Tidying
+mod ByPrefix
+mod CountedSteps
+mod Removed
+mod SameKeys
+mod WalkItems
+mod Closures

@@ -14,7 +14,3 @@ pub mod Entry
 pub mod Resumed
 pub mod Writing
 pub mod WritingWalks
-pub mod Sets
-pub mod Replay
-pub mod Reads
-pub mod NotesFall

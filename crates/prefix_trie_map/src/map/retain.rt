@@ -71,20 +71,13 @@ impl<P: Prefix, T: Drop, A: Allocator> PrefixMap<P, T, A> {
         // rest, and no slot and no block goes.
         ensures step { RetainsInStorage (AsksAt F.FnMut P.back) test (stored self.old) (stored self.new) }
     {
-        self.retain_by(ByPrefix::<P, F> {
-            test,
-            marker: PhantomData,
-        });
-    }
-
-    // The same with a test of keys and values.
-    pub(crate) fn retain_by<K: Keep<P::R, T, Visits>>(&mut self, keep: K)
-        requires { MayAskInOrder K.asks K.accepts keep (listing self.old.entries) }
-        ensures whole { IsWhole P.R.bit_width self.old }
-        ensures step { RetainsInStorage K.asks keep (stored self.old) (stored self.new) }
-    {
         // The proof learns from it that the map is whole.
         let _ = self.len();
-        self.table.retain::<P::R, K>(keep, &mut Visits::new());
+        let keep = ByPrefix::<P, F> {
+            test,
+            marker: PhantomData,
+        };
+        self.table
+            .retain::<P::R, ByPrefix<P, F>>(keep, &mut Visits::new());
     }
 }
