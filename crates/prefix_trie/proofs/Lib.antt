@@ -1,12 +1,6 @@
 pub mod Prelude
-pub mod Allocators
-pub mod Always
-pub mod AnyMap
-pub mod Batches
 pub mod Putting
-pub mod Ran
 pub mod Rewriting
-pub mod Swapping
 pub mod Callers
 pub mod Collecting
 mod Stored
