@@ -9,7 +9,9 @@ pub use Rattle.prefix_trie_bits.specs.Model.Matches.{first_item, last_item, cove
 pub use Rattle.prefix_trie_bits.specs.Model.Addresses.{addresses, address_answer}
 pub use Rattle.prefix_trie_bits.specs.Model.HandsOut.{HandsOut, IsPacked, packed_node_slots, packed_cell_slots}
 pub use Rattle.prefix_trie_bits.specs.Laws.HandsOut.{Splits}
+pub use Rattle.prefix_trie_table.specs.Settling.{headroom_of}
 pub use Rattle.prefix_trie_table.specs.Shape.{with_value_at, with_match_at, with_longest_at}
+pub use Rattle.prefix_trie_table.specs.Steps.{SettlesInStorage}
 pub use Rattle.prefix_trie_map.specs.Walks.{lent_item}
 pub use Rattle.prefix_trie_map.specs.Whole.{IsWhole}
 pub use Rattle.prefix_trie.specs.Sets.{AsksKeyAt, TakesKeyAt, as_item, put_in, same_keys, same_parts, taken_out}

@@ -8,7 +8,9 @@ pub use Rattle.std.proofs.lemmas.List.{drop-take, get_or-drop, get_or-map, get_o
 pub use Rattle.std.proofs.lemmas.List.Elements.{All-contains_itself, All-filter, All-head, All-map, All-pop, All-same, All-tail, All-weaker, filter_passes}
 pub use Rattle.std.proofs.lemmas.List.Filters.{length-filter_both}
 pub use Rattle.std.proofs.lemmas.List.Sums.{count_by-le-length, length-filter, sum_by-take-drop, sum_by_push}
+pub use Rattle.std.proofs.lemmas.Option.{none-some, same_Some}
 pub use Rattle.std.proofs.lemmas.Result.{err_from_is_err_and}
+pub use Rattle.std.specs.Prelude.{IsSomeAnd, zero}
 pub use Rattle.std.proofs.lemmas.Simd.{map-map}
 pub use Rattle.std.specs.Cmp.Lexicographic.{pointwise}
 pub use Rattle.std.specs.Coded.{Coded-set, coded_bool}
@@ -55,8 +57,9 @@ pub use Rattle.prefix_trie_table.proofs.Tree.Copying.{cloned_there}
 pub use Rattle.prefix_trie_table.proofs.Tree.Trees.{is_none-None}
 pub use Rattle.prefix_trie_table.proofs.Walk.KeySets.{pending_again}
 pub use Rattle.prefix_trie_table.specs.Bulk.{AreAnswers, IsAnswer, asks, questions_of}
-pub use Rattle.prefix_trie_table.specs.Copies.{AreCloned, IsPairCloned}
+pub use Rattle.prefix_trie_table.specs.Copies.{AreCloned, IsCloned, IsPairCloned}
 pub use Rattle.prefix_trie_table.specs.Locations.{IsWayEnd, is_seat-prop, seat_of}
+pub use Rattle.prefix_trie_table.specs.Steps.{SettlesInStorage}
 pub use Rattle.prefix_trie_table.specs.Shape.{Contents, with_longest_at, with_match_at, with_stored_at, with_value_at}
 pub use Rattle.prefix_trie_table.specs.Walking.Cursors.{selected}
 pub use Rattle.prefix_trie_table.specs.Walking.Items.{GivesOutermost}

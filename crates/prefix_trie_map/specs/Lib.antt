@@ -11,6 +11,8 @@ pub mod Whole
 pub mod Walks
 pub mod Lending
 pub mod Entry
+pub mod Filled
+pub mod Settled
 pub mod Resumed
 pub mod Writing
 pub mod WritingWalks

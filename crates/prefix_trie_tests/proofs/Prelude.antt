@@ -49,5 +49,5 @@ pub use Rattle.prefix_trie_map.specs.WritingWalks.{EndsIn, FirstIn, IsOverIn, Pa
 pub use Rattle.prefix_trie_map.specs.declared.map.entry.Entry.{Entry}
 pub use Rattle.prefix_trie_map.specs.declared.map.writing.course.Course.{Course}
 pub use Rattle.prefix_trie.specs.Laws.Putting.{Leads}
-pub use Rattle.prefix_trie_map.specs.Replay.{IsFittingCall}
+pub use Rattle.prefix_trie.specs.Replay.{IsFittingCall}
 pub use Rattle.prefix_trie.specs.Words.{Joins, covers, ipv4_address, ipv4_back, longest_match}

@@ -1,4 +1,4 @@
-use Rattle.prefix_trie_map.proofs.Prelude.{subst, RetainsInStorage, Contents, state, stored, AsksAt}
+use Rattle.prefix_trie_map.proofs.Prelude.{subst, RetainsInStorage, SettlesInStorage, Contents, state, storage, stored, AsksAt}
 use Rattle.prefix_trie_map.proofs.Asking.{IsMap-tidied}
 use Rattle.prefix_trie_map.proofs.map.PrefixMap.retain.Goals as goal
 
@@ -15,6 +15,10 @@ returns-clause-kept g c = (returns-clause-step g c).kept
 
 pub returns-clause-nodes : goal.returns-clause-nodes
 returns-clause-nodes g c = (returns-clause-step g c).nodes
+
+pub returns-clause-settles : goal.returns-clause-settles
+returns-clause-settles g c =
+    subst (λ (m : Contents g.row.T.Denot). SettlesInStorage (storage m) (storage c.retain.new.self)) c.self.view_is c.retain.ensures.settles
 
 pub invariant_of-self : goal.invariant_of-self
 invariant_of-self g c = IsMap-tidied g.P.R.Key.bit_width (state c.retain.new.self) c.retain.ensures.fits (returns-clause-step g c).nodes
