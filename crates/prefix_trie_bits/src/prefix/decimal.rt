@@ -8,7 +8,8 @@ pub(super) fn read_decimal(text: &str, most: u64) -> Option<u64>
     let Some(first) = text.as_bytes().first() else {
         return None;
     };
-    if *first == b'+' || *first == b'0' && text.len() > 1 {
+    let has_plus = *first == b'+';
+    if has_plus || *first == b'0' && text.len() > 1 {
         return None;
     }
     let Ok(number) = text.parse::<u64>() else {

@@ -1,7 +1,7 @@
 use Rattle.std.proofs.Common.{◌≡◌, ◌<◌, length, get_or, sym, ◌∙◌, inl, inr, arith}
 use Rattle.std.proofs.lemmas.Grind.{common_steps}
 use Rattle.prefix_trie_bits.proofs.Texts.Decimals.{IsPlain, decimal-plain, read, reads}
-use Rattle.prefix_trie_bits.proofs.prefix.decimal.read_decimal.Goals.{then-first-eq43-via-then-first-eq43, then-first-eq43-via-else-first-eq43+then-text-gt1}
+use Rattle.prefix_trie_bits.proofs.prefix.decimal.read_decimal.Goals.{then-has_plus-via-then-has_plus, then-has_plus-via-else-has_plus+then-text-gt1}
 use Rattle.prefix_trie_bits.proofs.prefix.decimal.read_decimal.Goals as goal
 
 pub returns-in_default : goal.returns-in_default
@@ -10,13 +10,13 @@ returns-in_default c n low is =
     let some : 0 < length c.args.text.now = plain.some in
     grind (arith, common_steps)
 
-pub returns-then-first-eq43 : goal.returns-then-first-eq43
-returns-then-first-eq43 c n low is =
+pub returns-then-has_plus : goal.returns-then-has_plus
+returns-then-has_plus c n low is =
     let plain = decimal-plain c.args.text.now n (omega arith) is in
     let first : get_or c.args.text.now 0 0 ≡ c.in-Some.first.now = grind (arith, common_steps) in
-    elim c.then-first-eq43.branch [
-      | then-first-eq43-via-then-first-eq43 w ↦ plain.no_plus (first ∙ w.if-first-eq43.true)
-      | then-first-eq43-via-else-first-eq43+then-text-gt1 w ↦
+    elim c.then-has_plus.branch [
+      | then-has_plus-via-then-has_plus w ↦ plain.no_plus (first ∙ w.if-has_plus.true)
+      | then-has_plus-via-else-has_plus+then-text-gt1 w ↦
           let one = plain.no_zero (first ∙ w.if-text-gt1.true.0) in
           omega (arith, w.if-text-gt1.true.1)
     ]
@@ -39,7 +39,7 @@ returns c =
     let some : 0 < length c.args.text.now = grind (arith, common_steps) in
     let plain : IsPlain c.args.text.now = record {
       some = some;
-      no_plus = λ plus. c.if-first-eq43.false (sym first ∙ plus);
+      no_plus = λ plus. c.if-has_plus.false (sym first ∙ plus);
       no_zero = λ zero. elim c.if-text-gt1.either [
         | inl one ↦ omega (arith, one.1, some)
         | inr other ↦ absurd (other (sym first ∙ zero))
