@@ -1,5 +1,5 @@
 -- The words that proofs of this crate name: of std, of the crates below, and of its own definitions.
-pub use Rattle.std.proofs.Common.{Bool, Bor, Equal, Err, Greater, IfErr, IfNone, IfOk, IfSome, Less, List, MatchOption, MatchResult, MutBor, None, Ok, OnErr, OnOk, Option, Result, Some, [], add-sub_of_le, ap, ap₂, arith, cond, drop, eq-eqb, eqb-true, false, filter, get_or, if◌then◌else◌, inl, inr, is_le, is_lt, is_some, length, length-append, length-drop, lit<, map, not, pow_pos, refl, rules, set, slice_range, subst, suc, sum_by, sym, take, true, true≢false, w32, ℕ, ◌%◌, ◌&&◌, ◌*◌, ◌++◌, ◌+◌, ◌-◌, ◌<◌, ◌^◌, ◌↔◌, ◌∙◌, ◌∷◌, ◌≡◌, ◌≢◌, ◌≤◌}
+pub use Rattle.std.proofs.Common.{Bool, Bor, Equal, Err, Greater, IfErr, IfNone, IfOk, IfSome, Less, List, MatchOption, MatchResult, MutBor, None, Ok, OnErr, OnOk, Option, Result, Some, [], add-sub_of_le, ap, ap₂, arith, cond, drop, eq-eqb, eqb-true, false, filter, get_or, if◌then◌else◌, inl, inr, is_le, is_lt, is_some, length, length-append, length-drop, lit<, map, not, pow_pos, refl, rules, set, slice_range, subst, suc, sum_by, sym, take, true, true≢false, w32, zero, ℕ, ◌%◌, ◌&&◌, ◌*◌, ◌++◌, ◌+◌, ◌-◌, ◌<◌, ◌^◌, ◌↔◌, ◌∙◌, ◌∷◌, ◌≡◌, ◌≢◌, ◌≤◌}
 pub use Rattle.std.proofs.RcSteps.{none_of}
 pub use Rattle.std.proofs.iter.Next.{Yields-more}
 pub use Rattle.std.proofs.iter.runs.Sources.{as_is, from_front}
