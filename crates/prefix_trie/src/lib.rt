@@ -12,6 +12,9 @@ pub mod set;
 #[cfg(test)]
 mod tests;
 
-pub use prefix_trie_bits::prefix::{Ipv4Prefix, Ipv6Prefix, Key, Narrow, Prefix, Refusal, Refused};
+pub use prefix_trie_bits::prefix::{
+    Ipv4Prefix, Ipv6Prefix, Key, Narrow, ParseNarrowError, ParseNetworkError, Prefix, Refusal,
+    Refused,
+};
 pub use prefix_trie_map::map::{BlockCount, PrefixMap, Visits};
 pub use set::PrefixSet;
