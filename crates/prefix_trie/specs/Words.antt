@@ -1,7 +1,9 @@
 -- The words of the model and of the map that a caller's own contract needs, under one name.
 pub use Rattle.prefix_trie_bits.specs.Bits.{begins, digits, number, zeros}
 pub use Rattle.prefix_trie_bits.specs.Keys.{narrow_width}
+pub use Rattle.prefix_trie_bits.specs.Networks.{network_path, network_back, network_cmp, lowest_address, highest_address, HasNoHostBits}
 pub use Rattle.prefix_trie_bits.specs.Order.{IsBefore, listing_cmp}
+pub use Rattle.prefix_trie_bits.specs.Texts.{ipv4_network_text, ipv6_network_text, ipv6_full_text, IsIpv4NetworkText, IsIpv6NetworkText, ParsesIpv4Network, ParsesIpv6Network, IsNarrowText, ParsesNarrow, parse_network_error_text, parse_narrow_error_text}
 pub use Rattle.prefix_trie_bits.specs.Model.Entries.{Entries, no_entries, with_entry, without_entry, without_below, part_below, put_all, AreWithin}
 pub use Rattle.prefix_trie_bits.specs.Model.Nodes.{Nodes, needed, with_needed, nodes_without, nodes_without_below, root_alone, AreNodes, IsTidy}
 pub use Rattle.prefix_trie_bits.specs.Model.Selections.{listing, listing_from, listing_after, listing_below, shown}

@@ -10,6 +10,9 @@ pub mod map;
 pub mod replay;
 pub mod set;
 
-pub use prefix_trie_bits::prefix::{Ipv4Prefix, Ipv6Prefix, Key, Narrow, Prefix, Refusal, Refused};
+pub use prefix_trie_bits::prefix::{
+    Ipv4Prefix, Ipv6Prefix, Key, Narrow, ParseNarrowError, ParseNetworkError, Prefix, Refusal,
+    Refused,
+};
 pub use prefix_trie_map::map::{BlockCount, PrefixMap, Visits};
 pub use set::PrefixSet;
