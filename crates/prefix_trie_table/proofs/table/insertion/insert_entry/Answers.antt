@@ -11,7 +11,7 @@ pub put-requires : goal.put-requires
 put-requires g c =
     let t = c.requires.table.0 in
     let q = take c.args.len (g.K.Key.bits c.args.key) in
-    (cell_there c.args.nodes.now c.args.cells.now t q c.in-Stored.seat (is_seat c.args.nodes.now t.reading t.paths t.holds.hold q c.in-Stored.seat c.in-Stored.ensures.place)).0
+    record { within = (cell_there c.args.nodes.now c.args.cells.now t q c.in-Stored.seat (is_seat c.args.nodes.now t.reading t.paths t.holds.hold q c.in-Stored.seat c.in-Stored.ensures.place)).0; value = tt }
 
 pub returns-in-Stored-clause-inserted : goal.returns-in-Stored-clause-inserted
 returns-in-Stored-clause-inserted g c = λ reading paths values holds.
