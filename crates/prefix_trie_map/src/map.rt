@@ -27,6 +27,7 @@ mod into_iter;
 mod iter;
 mod lending;
 mod lookup;
+mod memory;
 mod parts;
 mod places;
 mod projection;

@@ -22,6 +22,8 @@ mod examples;
 #[cfg(test)]
 mod handing;
 #[cfg(test)]
+mod memory;
+#[cfg(test)]
 mod node;
 #[cfg(test)]
 mod on_new;
