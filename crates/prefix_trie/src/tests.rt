@@ -9,6 +9,7 @@ mod drops;
 mod entry_callers;
 mod examples;
 mod handing;
+mod key_order;
 mod node;
 mod on_new;
 mod own_key;
