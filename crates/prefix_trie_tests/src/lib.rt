@@ -22,6 +22,8 @@ mod examples;
 #[cfg(test)]
 mod handing;
 #[cfg(test)]
+mod key_order;
+#[cfg(test)]
 mod memory;
 #[cfg(test)]
 mod node;
