@@ -19,5 +19,6 @@ mod runs;
 mod sets;
 mod stored;
 mod tables;
+mod texts;
 mod trials;
 mod walks;
