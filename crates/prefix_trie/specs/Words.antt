@@ -11,11 +11,13 @@ pub use Rattle.prefix_trie_bits.specs.Model.Matches.{first_item, last_item, cove
 pub use Rattle.prefix_trie_bits.specs.Model.Addresses.{addresses, address_answer}
 pub use Rattle.prefix_trie_bits.specs.Model.HandsOut.{HandsOut, IsPacked, packed_node_slots, packed_cell_slots}
 pub use Rattle.prefix_trie_bits.specs.Laws.HandsOut.{Splits}
+pub use Rattle.prefix_trie_table.specs.Settling.{headroom_of}
 pub use Rattle.prefix_trie_table.specs.Shape.{with_value_at, with_match_at, with_longest_at}
+pub use Rattle.prefix_trie_table.specs.Steps.{SettlesInStorage}
 pub use Rattle.prefix_trie_map.specs.Walks.{lent_item}
 pub use Rattle.prefix_trie_map.specs.Whole.{IsWhole}
-pub use Rattle.prefix_trie_map.specs.Sets.{AsksKeyAt, TakesKeyAt, as_item, put_in, same_keys, same_parts, taken_out}
-pub use Rattle.prefix_trie_map.specs.Replay.{IsFittingCall, call_of, calls_of, reply_of, replies_of}
+pub use Rattle.prefix_trie.specs.Sets.{AsksKeyAt, TakesKeyAt, as_item, put_in, same_keys, same_parts, taken_out}
+pub use Rattle.prefix_trie.specs.Replay.{IsFittingCall, call_of, calls_of, reply_of, replies_of}
 pub use Rattle.prefix_trie.specs.Networks.{ipv4_address, ipv4_path, ipv4_back, ipv6_address, ipv6_path, ipv6_back}
 pub use Rattle.prefix_trie.specs.Laws.Lookups.{IsUncovered}
 pub use Rattle.prefix_trie.specs.Laws.Putting.{Leads}

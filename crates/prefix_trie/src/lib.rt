@@ -9,8 +9,6 @@ pub mod laws;
 pub mod map;
 pub mod replay;
 pub mod set;
-#[cfg(test)]
-mod tests;
 
 pub use prefix_trie_bits::prefix::{
     Ipv4Prefix, Ipv6Prefix, Key, Narrow, ParseNarrowError, ParseNetworkError, Prefix, Refusal,

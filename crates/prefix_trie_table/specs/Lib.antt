@@ -1,4 +1,5 @@
 pub mod Runs
+pub mod Growth
 pub mod Store
 pub mod Losing
 pub mod Cells
@@ -23,3 +24,4 @@ pub mod HandingOut
 pub mod Retaining
 pub mod Copies
 pub mod Walking
+pub mod NodeArrays

@@ -1,5 +1,5 @@
 //! Laying a part of a table anew, with all its blocks at their final sizes and without its values.
-ghost use Rattle.std.specs.Prelude.{◌≡◌, ℕ, ◌≤◌, None, drop, take, IfOk, IfErr};
+ghost use Rattle.std.specs.Prelude.{◌≡◌, ℕ, ◌≤◌, None, drop, take, IfOk, IfErr, IfSome};
 ghost use Rattle.prefix_trie_bits.specs.declared.prefix.Refusal.TheVariants.{Memory};
 ghost use Rattle.prefix_trie_bits.specs.Model.Step.{State};
 ghost use Rattle.prefix_trie_bits.specs.Bits.{begins};
@@ -8,9 +8,10 @@ ghost use Rattle.prefix_trie_table.specs.Cells.{blank_node, node_sizes, cell_siz
 ghost use Rattle.prefix_trie_table.specs.HandingOut.Laid.{IsSource, LaysNode, child_slots, value_slots, slots_below};
 ghost use Rattle.prefix_trie_table.specs.HandingOut.Laying.{CanLay};
 ghost use Rattle.prefix_trie_table.specs.HandingOut.Skeleton.{IsSecond};
+ghost use Rattle.prefix_trie_table.specs.NodeArrays.{FitsByte};
 ghost use Rattle.prefix_trie_table.specs.Tables.{IsTrie};
 
-use crate::allocator::blocks::{self, Blocks};
+use crate::allocator::blocks::{self, Cells};
 use crate::allocator::node::{Node, NodeSlot};
 use crate::allocator::nodes::{NodeAllocator, Tick};
 use crate::table::removal::is_bare;
@@ -51,7 +52,7 @@ fn lay_node<K: Key, T: Drop, A: Allocator, V: Tick>(
     depth: u32,
     levels: u32,
     nodes: &mut NodeAllocator<A, V>,
-    cells: &mut Blocks<Option<T>, A>,
+    cells: &mut Cells<T, A>,
     counter: &mut V,
 ) -> Result<Option<Node>, Refusal>
     requires key { K.IsKey key }
@@ -62,6 +63,7 @@ fn lay_node<K: Key, T: Drop, A: Allocator, V: Tick>(
     requires cells { CanLay None cell_sizes (slots_below value_slots from.now.slots levels node) cells.old }
     ensures laid { IfOk result (λ top. LaysNode from.now.slots levels node (drop depth (take len (K.bits key)))
         nodes.old nodes.new cells.old cells.new top) }
+    ensures fits { IfOk result (λ top. IfSome top FitsByte) }
     ensures memory { IfErr result (λ cause. cause ≡ Memory) }
 {
     let (values, children, deeper) = masks(key, depth, len);
@@ -102,11 +104,11 @@ fn lay_node<K: Key, T: Drop, A: Allocator, V: Tick>(
 /// those that the same nodes have here.
 pub(super) fn lay_part<K: Key, T: Drop, A: Allocator + Clone, V: Tick>(
     nodes: &NodeAllocator<A, V>,
-    cells: &Blocks<Option<T>, A>,
+    cells: &Cells<T, A>,
     key: K,
     len: u32,
     counter: &mut V,
-) -> Result<(NodeAllocator<A, V>, Blocks<Option<T>, A>), Refusal>
+) -> Result<(NodeAllocator<A, V>, Cells<T, A>), Refusal>
     requires key { K.IsKey key }
     requires within { len ≤ K.bit_width }
     requires trie { (s : State T) × (count : ℕ) × IsTrie K.bit_width count nodes.now cells.now s }

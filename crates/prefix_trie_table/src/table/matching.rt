@@ -9,7 +9,7 @@ ghost use Rattle.prefix_trie_table.specs.Forest.{NodesHold, SomeNodes, IsEnd};
 ghost use Rattle.prefix_trie_table.specs.Tables.{IsReached};
 ghost use Rattle.prefix_trie_table.specs.Matching.{LackLastBit, IsOnWay, LongestHeld, ShortestHeld, cell_slot, match_seat};
 
-use crate::allocator::blocks::Blocks;
+use crate::allocator::blocks::Cells;
 use crate::allocator::node::Node;
 use crate::allocator::nodes::{NodeAllocator, Tick};
 use crate::table::lookup::{Reached, root, step_down};
@@ -93,7 +93,7 @@ pub fn longest_on_way<K: Key, A: Allocator, V: Tick>(
 }
 
 /// The shortest beginning of a bit string that has its value in this node on the way.
-#[inline]
+#[inline(always)]
 fn shortest_in<K: Key>(here: Reached, rest: K, len: u32) -> Option<Match>
     requires key { K.IsKey rest }
     requires within { len ≤ K.bit_width }
@@ -118,6 +118,7 @@ fn shortest_in<K: Key>(here: Reached, rest: K, len: u32) -> Option<Match>
 
 /// The shortest beginning of a bit string that has a value. The nodes on the way are read once each, down to the one of
 /// that beginning.
+#[inline(always)]
 pub fn shortest_on_way<K: Key, A: Allocator, V: Tick>(
     nodes: &NodeAllocator<A, V>,
     key: K,
@@ -154,7 +155,7 @@ pub fn shortest_on_way<K: Key, A: Allocator, V: Tick>(
 /// The value of a match, behind the length of its string.
 #[inline(always)]
 pub fn value_of_match<'a, T: Drop, A: Allocator>(
-    cells: &'a Blocks<Option<T>, A>,
+    cells: &'a Cells<T, A>,
     found: Match,
 ) -> Option<(u32, &'a T)>
     requires bit { found.bit < 31 }

@@ -5,14 +5,15 @@ ghost use Rattle.std.specs.List.{AllZip};
 use crate::allocator::blocks::Blocks;
 use crate::allocator::slots::Slot;
 use std::alloc::{AllocError, Allocator};
+use std::marker::PhantomData;
 
-impl<S: Slot + Clone, A: Allocator + Clone> Blocks<S, A> {
+impl<S: Slot + Clone, A: Allocator + Clone> Blocks<S, Vec<S, A>, A> {
     /// An array with the same blocks, used and free, in memory of its own. All of that is asked for before the first value
     /// is cloned. Refused only where memory is, for the array or for a value.
     pub fn clone(&self) -> Result<Self, AllocError>
         ensures slots { IfOk result (λ copy. AllZip S.is_clone self.now.slots copy.slots) }
-        ensures rest { IfOk result (λ copy. copy ≡ record self.now { slots = copy.slots }) }
-        ensures same { IfOk result (λ copy. ((x y : S) → S.is_clone x y → y ≡ x) → copy ≡ self.now) }
+        ensures rest { IfOk result (λ copy. copy ≡ record self.now { slots = copy.slots; capacity = copy.capacity }) }
+        ensures same { IfOk result (λ copy. ((x y : S) → S.is_clone x y → y ≡ x) → copy ≡ record self.now { capacity = copy.capacity }) }
     {
         let lists = Vec::from_clones(self.lists.allocator().clone()?, &self.lists)?;
         let slots = Vec::from_clones(self.slots.allocator().clone()?, &self.slots)?;
@@ -21,6 +22,7 @@ impl<S: Slot + Clone, A: Allocator + Clone> Blocks<S, A> {
             first: self.first,
             lists,
             limit: self.limit,
+            of: PhantomData,
         })
     }
 }

@@ -5,11 +5,12 @@ ghost use Rattle.prefix_trie_table.specs.Runs.{run, put_run};
 ghost use Rattle.prefix_trie_table.specs.Cells.{HasSizes};
 ghost use Rattle.prefix_trie_table.specs.Store.{UsedBlock, Sound, Turnover, InUse, HasList, IsReady, tier_at, tier_sizes, size_in, free_in, none_of, block, held, list_size, list_need};
 
+use crate::allocator::array::SlotArray;
 use crate::allocator::blocks::{BlockRef, Blocks};
-use crate::allocator::slots::{Slot, move_in, shift_in};
+use crate::allocator::slots::{Slot, move_in};
 use std::alloc::Allocator;
 
-impl<S: Slot, A: Allocator> Blocks<S, A> {
+impl<S: Slot, R: SlotArray<S>, A: Allocator> Blocks<S, R, A> {
     /// Puts a value into the list of `count` values in a block of tier `k` that starts at `start` (none if `count` is 0), and says
     /// where the list stands then. A block with room keeps it. Else it moves to a free block of the smallest size that holds it,
     /// and its old block is free. It makes no block and asks for no memory: `prepare` does that before.
@@ -18,6 +19,7 @@ impl<S: Slot, A: Allocator> Blocks<S, A> {
         requires sizes { HasSizes self.old.tiers }
         requires ready { IsReady self.old.tiers k count }
         requires place { place ≤ count }
+        requires value { R.can_hold value }
         ensures stands { list_size self.old.tiers result.tier (count + 1)
             ≡ option_or (list_need self.old.tiers k count) (list_size self.old.tiers k count) }
         ensures stays { list_need self.old.tiers k count ≡ None → result ≡ record { tier = k; start = start } }
@@ -44,6 +46,7 @@ impl<S: Slot, A: Allocator> Blocks<S, A> {
         requires sizes { HasSizes self.old.tiers }
         requires ready { IsReady self.old.tiers k count }
         requires place { place ≤ count }
+        requires value { R.can_hold value }
         ensures stands { list_size self.old.tiers result.tier (count + 1)
             ≡ option_or (list_need self.old.tiers k count) (list_size self.old.tiers k count) }
         ensures stays { list_need self.old.tiers k count ≡ None → result ≡ record { tier = k; start = start } }
@@ -78,6 +81,7 @@ impl<S: Slot, A: Allocator> Blocks<S, A> {
         requires ready { 0 < free_in self.old.tiers (size_in (tier_sizes self.old.tiers) to) }
         requires holds { count < size_in (tier_sizes self.old.tiers) to }
         requires place { place ≤ count }
+        requires value { R.can_hold value }
         ensures turnover { Turnover self.old self.new none_of (Some (size_in (tier_sizes self.old.tiers) k)) (Some (size_in (tier_sizes self.old.tiers) to)) }
         ensures sound { (n : ℕ) (xs : List S) (live : List (UsedBlock S))
             → Sound S.vacant (block k outgrown n xs ∷ live) self.old → length xs ≡ count
@@ -95,6 +99,7 @@ impl<S: Slot, A: Allocator> Blocks<S, A> {
             × Sound S.vacant (a ∷ b ∷ live) self.old × (a.start ≡ from) × (b.start ≡ to)
             × (length a.items ≡ count) × (b.items ≡ []) × (count < b.size) }
         requires place { place ≤ count }
+        requires value { R.can_hold value }
         ensures slots { self.new ≡ record self.old { slots = put_run (put_run self.old.slots from (replicate count S.vacant)) to (insert (run self.old.slots from count) place value) } }
         ensures len { length self.new.slots ≡ length self.old.slots }
         ensures sound { (a b : UsedBlock S) (live : List (UsedBlock S))
@@ -116,6 +121,7 @@ impl<S: Slot, A: Allocator> Blocks<S, A> {
     fn insert_within(&mut self, start: u32, count: u32, place: u32, value: S)
         requires room { start + count < length self.old.slots }
         requires place { place ≤ count }
+        requires value { R.can_hold value }
         ensures slots { self.new ≡ record self.old { slots = insert (remove self.old.slots (start + count)) (start + place) value } }
         ensures len { length self.new.slots ≡ length self.old.slots }
         ensures sound { (b : UsedBlock S) (live : List (UsedBlock S)) → Sound S.vacant (b ∷ live) self.old
@@ -123,11 +129,7 @@ impl<S: Slot, A: Allocator> Blocks<S, A> {
             → Sound S.vacant (record b { items = insert b.items place value } ∷ live) self.new }
     {
         let start = start as usize;
-        shift_in(
-            &mut self.slots,
-            start + place as usize,
-            start + count as usize,
-            value,
-        );
+        self.slots
+            .insert_shifting(start + place as usize, start + count as usize, value);
     }
 }
