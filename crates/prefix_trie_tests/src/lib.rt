@@ -46,6 +46,8 @@ mod stored;
 #[cfg(test)]
 mod tables;
 #[cfg(test)]
+mod texts;
+#[cfg(test)]
 mod trials;
 #[cfg(test)]
 mod walks;
