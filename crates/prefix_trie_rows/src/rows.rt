@@ -24,7 +24,7 @@ use prefix_trie::{Ipv4Prefix, Ipv6Prefix, Narrow, Refusal};
 use std::alloc::Global;
 
 /// The tables of a row.
-pub type Row = &'static [Table];
+type Row = &'static [Table];
 
 /// A table with the prefixes of its maps: IP networks, or pairs of a number and a length.
 #[derive(Drop)]
@@ -57,8 +57,14 @@ pub enum Set {
     U128(&'static [SetLine]),
 }
 
-/// The rows in order, each with its number.
-pub const ROWS: [(u32, Row); 46] = [
+/// The numbers of the rows, in order.
+pub const NUMBERS: [u32; 46] = [
+    1, 2, 3, 4, 5, 6, 7, 8, 9, 10, 11, 13, 14, 15, 17, 18, 19, 20, 21, 22, 23, 24, 25, 26, 27, 28,
+    29, 30, 31, 32, 33, 34, 35, 36, 37, 38, 39, 40, 41, 42, 44, 45, 46, 47, 48, 49,
+];
+
+/// The rows, each with its number.
+const ROWS: [(u32, Row); 46] = [
     (1, &[Table::Ipv4(&lookups::EXACT)]),
     (2, &[Table::Ipv4(&entries::HOST_BITS)]),
     (3, &[Table::Ipv4(&lookups::MATCHES)]),
@@ -174,8 +180,17 @@ pub const ROWS: [(u32, Row); 46] = [
     (49, &[Table::U8(&handing::UNDER_THREE_SLOTS)]),
 ];
 
-/// Whether each table of a row comes out as it should.
-pub fn comes_out(alloc: Global, row: &[Table]) -> bool {
+/// Whether there is a row of this number, and each of its tables comes out as it should.
+pub fn comes_out(alloc: Global, number: u32) -> bool {
+    for (other, row) in &ROWS {
+        if *other == number {
+            return all_hold_in(alloc, row);
+        }
+    }
+    false
+}
+
+fn all_hold_in(alloc: Global, row: &[Table]) -> bool {
     for table in row {
         if holds(alloc, table) != Ok(true) {
             return false;

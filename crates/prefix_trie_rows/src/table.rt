@@ -1,7 +1,7 @@
 //! Tables: calls of a map beside the answers that they should have, and what puts them to a map.
 ghost use Rattle.std.specs.Prelude.{IfSome};
 
-mod collecting;
+mod comparing;
 mod entries;
 mod handing;
 pub mod narrow;
@@ -97,7 +97,7 @@ pub enum Line {
     CellBlocks([usize; 7], [usize; 7]),
     /// A copy is equal to its map, and has its slots and blocks.
     Clone,
-    /// Whether the map is equal to the one of these items, collected in this order.
+    /// Whether a new map, into which these entries are inserted in this order, is equal to the map.
     Equals(&'static [Entry], bool),
     /// The map as text.
     Text(&'static str),
@@ -186,7 +186,7 @@ fn holds<P: Written>(alloc: Global, map: &mut Map<P>, line: &Line) -> bool {
         Line::IterFromMut(pair, inclusive, more) => writing::adds(map, *pair, *inclusive, *more),
         Line::ChildrenMut(pair, factor) => writing::multiplies(map, *pair, *factor),
         Line::ValuesMut(value) => writing::sets_first(map, *value),
-        Line::Equals(entries, answer) => collecting::equals(alloc, map, entries, *answer),
+        Line::Equals(entries, answer) => comparing::equals(alloc, map, entries, *answer),
         Line::Text(text) => texts::is_text(alloc, map, text),
         Line::PrefixText(pair, text) => texts::is_prefix_text::<P>(alloc, *pair, text),
         _ => holds_at_entry(map, line),
@@ -235,7 +235,7 @@ fn answers<P: Written>(map: &Map<P>, line: &Line) -> bool {
         Line::CellBlocks(used, free) => are(map.cell_blocks(), CELL_SIZES, *used, *free),
         Line::IntoChildren(pair, entries) => taking::gives_children(map, *pair, entries),
         Line::IntoKeys(pairs) => taking::gives_keys(map, pairs),
-        Line::Clone => clones(map),
+        Line::Clone => comparing::clones(map),
         _ => answers_alone::<P>(line),
     }
 }
@@ -413,20 +413,6 @@ fn are(blocks: [BlockCount; 7], sizes: [usize; 7], used: [usize; 7], free: [usiz
     blocks.iter().map(|block| block.size).eq(sizes)
         && blocks.iter().map(|block| block.used).eq(used)
         && blocks.iter().map(|block| block.free).eq(free)
-}
-
-fn clones<P: Written>(map: &Map<P>) -> bool {
-    match map.clone() {
-        Ok(copy) => *map == copy && is_stored_alike(map, &copy),
-        Err(_) => false,
-    }
-}
-
-fn is_stored_alike<P: Prefix>(map: &Map<P>, copy: &Map<P>) -> bool {
-    copy.node_slots() == map.node_slots()
-        && copy.cell_slots() == map.cell_slots()
-        && copy.node_blocks() == map.node_blocks()
-        && copy.cell_blocks() == map.cell_blocks()
 }
 
 // ---- what a prefix answers by itself
