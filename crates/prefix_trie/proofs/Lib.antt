@@ -1,12 +1,6 @@
 pub mod Prelude
-pub mod Allocators
-pub mod Always
-pub mod AnyMap
-pub mod Batches
 pub mod Putting
-pub mod Ran
 pub mod Rewriting
-pub mod Swapping
 pub mod Callers
 pub mod Collecting
 mod Stored
@@ -18,3 +12,9 @@ pub mod Modifying
 mod Comparing
 mod Paging
 mod Tidying
+mod ByPrefix
+mod CountedSteps
+mod Removed
+mod SameKeys
+mod WalkItems
+mod Closures

@@ -1,5 +1,5 @@
 -- What a loop that changes each value by a function of the old one has done so far.
-use Rattle.prefix_trie.proofs.Prelude.{◌≡◌, ℕ, ◌<◌, Bool, true, false, cond, ◌||◌, ◌&&◌, List, [], ◌∷◌, length, map, Option, None, Some, is_some, is_lt, is_eq, Ordering, Less, Equal, Greater, refl, sym, ap, ◌∙◌, subst, arith, true≢false, list_any, option_map, get, contains_key-keys, entries_sorted, is_sorted, below_all, listing_cmp, same_string, Entries, with_entry, listing, and-first, and-second, or-right, get-with_entry, is-same_string, same_string-is, sorted-head, sorted-tail, t-true, true-t, Contents, bare, sorted_mapped, Course, keys_left, IsFirst, GoesOver, ComesToEnd, StartsIn, HandsBack, PassesIn, EndsIn, FirstIn, left_at_start, left_behind, none_left, keyed, AreOrdered, is_left, Rewrites, RewritesIn, OrderedIn}
+use Rattle.prefix_trie.proofs.Prelude.{◌≡◌, ℕ, ◌<◌, Bool, true, false, cond, ◌||◌, ◌&&◌, List, [], ◌∷◌, length, map, Option, None, Some, is_some, is_lt, is_eq, Ordering, Less, Equal, Greater, refl, sym, ap, ◌∙◌, subst, arith, true≢false, list_any, option_map, get, contains_key-keys, entries_sorted, is_sorted, below_all, listing_cmp, same_string, Entries, with_entry, listing, and-first, and-second, or-right, get-with_entry, is-same_string, same_string-is, same_entries, sorted-head, sorted-tail, t-true, true-t, Contents, bare, sorted_mapped, Course, keys_left, IsFirst, GoesOver, ComesToEnd, StartsIn, HandsBack, PassesIn, EndsIn, FirstIn, left_at_start, left_behind, none_left, keyed, AreOrdered, is_left, Rewrites, RewritesIn, OrderedIn}
 use lib.Dec.{T as IsT}
 use Rattle.std.specs.Borrow.{MutBor}
 use Rattle.std.specs.declared.cmp.PartialEq as partial
@@ -46,6 +46,14 @@ module _ {P T A R : Type 0} {p : prefix.Ghosts P R} {shows : debug.Ghosts P} {k 
   pub starts_ordered : (m : MutBor (Contents T)) (o : Option (Course P T A R p shows k same writes)) → StartsIn m (listing m.now.entries) o → OrderedIn o
   starts_ordered m None starts = absurd starts
   starts_ordered m (Some c) starts = subst AreOrdered (sym (left_at_start m _ c starts)) (listing_ordered m.now.entries)
+
+  -- a walk at its end changes nothing more
+  pub only_once : (f g : T → T) (c d e : Course P T A R p shows k same writes) → Rewrites f c d → Rewrites g d e → e.map.now ≡ d.map.now
+  only_once f g c d e first second =
+      let m = d.map.now.entries in
+      second.others
+      ∙ ap (λ es. record d.map.now { entries = es })
+      (same_entries e.map.now.entries m (λ s. second.values s ∙ ap (λ ks. cond (list_any (same_string s) ks) (option_map g (get m s)) (get m s)) first.ended))
 
 module _ {P T A R : Type 0} {p : prefix.Ghosts P R} {shows : debug.Ghosts P} {k : key.Ghosts R} {same : partial.Ghosts R} {writes : debug.Ghosts R} (f : T → T) where
   -- what was to come at first and is not any more has its value changed

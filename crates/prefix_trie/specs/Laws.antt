@@ -8,3 +8,4 @@ pub mod Paging
 pub mod Paths
 pub mod Networks
 pub mod Numbers
+pub mod Rewriting

@@ -10,14 +10,19 @@ ghost use Rattle.prefix_trie.specs.Laws.Networks.{NetworkLaws};
 ghost use Rattle.prefix_trie.specs.Laws.Numbers.{NumberLaws};
 ghost use Rattle.prefix_trie.specs.Laws.Paging.{PageLaws};
 ghost use Rattle.prefix_trie.specs.Laws.Paths.{PathLaws};
+ghost use Rattle.prefix_trie.specs.Laws.Rewriting.{RewriteLaws};
 ghost use Rattle.prefix_trie_bits.specs.Keys.{narrow_width};
 
 pub use prefix_trie_bits::laws::{
-    address_laws, counted_laws, determined_laws, handing_laws, listing_laws, match_laws, node_laws,
-    pruning_laws, slot_laws, step_laws, storage_laws, total_laws, visit_laws,
+    address_laws, counted_laws, determined_laws, handing_laws, listing_laws, match_laws,
+    network_order_laws, node_laws, pruning_laws, slot_laws, step_laws, storage_laws, text_laws,
+    total_laws, visit_laws,
 };
 use prefix_trie_bits::prefix::Prefix;
-pub use prefix_trie_map::laws::{copy_laws, cover_laws, listed_laws, resume_laws};
+pub use prefix_trie_map::laws::{
+    copy_laws, cover_laws, fill_laws, listed_laws, resume_laws, settling_laws, whole_laws,
+};
+use std::alloc::Allocator;
 
 /// What is stored once a key was set or taken out; and two maps that have the same value at each key are one.
 pub fn stored_laws<T>()
@@ -64,4 +69,9 @@ pub fn network_laws()
 /// Of `Narrow<W>`: the path of the pair of a number and the width is the number, and which numbers a pair contains, by numbers.
 pub fn narrow_laws<const W: u32>()
     ensures { NumberLaws (narrow_width W) }
+{}
+
+/// What loops over one walk for writing leave: the first one goes to the end, so a second one changes nothing.
+pub fn rewrite_laws<P: Prefix, T: Drop, A: Allocator>()
+    ensures { RewriteLaws P T A P.R P.Prefix.own P.Debug P.R.Key.own P.R.PartialEq P.R.Debug }
 {}

@@ -9,9 +9,10 @@ pub mod laws;
 pub mod map;
 pub mod replay;
 pub mod set;
-#[cfg(test)]
-mod tests;
 
-pub use prefix_trie_bits::prefix::{Ipv4Prefix, Ipv6Prefix, Key, Narrow, Prefix, Refusal, Refused};
+pub use prefix_trie_bits::prefix::{
+    Ipv4Prefix, Ipv6Prefix, Key, Narrow, ParseNarrowError, ParseNetworkError, Prefix, Refusal,
+    Refused,
+};
 pub use prefix_trie_map::map::{BlockCount, PrefixMap, Visits};
 pub use set::PrefixSet;

@@ -10,3 +10,5 @@ pub mod Picks
 pub mod Strings
 pub mod Matches
 pub mod Model
+pub mod Networks
+pub mod Texts

@@ -34,7 +34,7 @@ unfoldable pub use Rattle.prefix_trie_bits.specs.Bits.{begins, digits, number}
 pub use Rattle.prefix_trie_bits.specs.Facts.{FactsHold}
 pub use Rattle.prefix_trie_bits.specs.Facts.Blocks.{BlocksHold, at_slot, none_free, room_of, six_free}
 pub use Rattle.prefix_trie_bits.specs.Facts.Insertions.{Blocks, InsertionsHold, by_path, far_children, far_layout, lacking, layout_at, ones_free, sizes_at, three_slots, with_one}
-pub use Rattle.prefix_trie_bits.specs.Facts.Steps.{FilledFacts, KeepsFacts, StepsHold, Takes, child_value, four_free, root_child, root_value, two_free}
+pub use Rattle.prefix_trie_bits.specs.Facts.Steps.{FilledFacts, KeepsFacts, StepsHold, Takes, both_free, child_value, four_free, root_child, root_value, two_free}
 pub use Rattle.prefix_trie_bits.specs.Laws.Addresses.{AddressLaws}
 pub use Rattle.prefix_trie_bits.specs.Laws.Counted.{CountedLaws}
 pub use Rattle.prefix_trie_bits.specs.Laws.Determined.{DeterminedLaws, is_memory, is_refusal, may_refuse}
@@ -54,7 +54,7 @@ pub use Rattle.prefix_trie_bits.specs.Model.Asking.{AsksInOrder, MayAskInOrder}
 pub use Rattle.prefix_trie_bits.specs.Model.Blocks.{AreBlocksOf, Block, HasBlock, Layout, LongerByOne, LosesNoBlock, NodesHaveBlocks, Sizes, SizesStepBetween, SizesStepDown, StepsBetween, StepsDown, Tiles, child_block_count, child_block_sizes, child_count, free_of, made_of, no_layout, one_of, own_entries, smallest_size, used_of, value_block_count, value_block_sizes}
 pub use Rattle.prefix_trie_bits.specs.Model.Counted.{CountedFrom, CountedStep, CountsReads, TidyIf, tidy_after, tidy_after_all}
 pub use Rattle.prefix_trie_bits.specs.Model.Entries.{AreWithin, Entries, no_entries, part_at_least, part_below, put_all, with_entry, without_below, without_entry}
-pub use Rattle.prefix_trie_bits.specs.Model.HandsOut.{HandsOut, packed_slots}
+pub use Rattle.prefix_trie_bits.specs.Model.HandsOut.{ArePacked, HandsOut, HandsOutInStorage, packed_block, packed_cell_slots, packed_node_slots, packed_slots}
 pub use Rattle.prefix_trie_bits.specs.Model.Insertion.{LacksWithinLimit, TakesBlocks, block_needed, cell_slots_lacking, child_block_needed, child_blocks_lacking, child_blocks_needed, gains_child, lacking_of, lacking_slots, node_slots_lacking, value_block_needed, value_blocks_lacking, value_blocks_needed}
 pub use Rattle.prefix_trie_bits.specs.Model.Matches.{IsLongestMatch, IsMatch, IsShortestMatch, covers, first_item, last_item, longest_match, shortest_match, shown_match}
 pub use Rattle.prefix_trie_bits.specs.Model.NodeListings.{listing_at_place, listing_at_places, pair_of}

@@ -88,6 +88,10 @@ pub record FactsHold : Type 0 where
       AsksInOrder (λ f _ (_ : ℕ) b f'. (b ≡ (f % 2 == 0)) × (f' ≡ f + 1)) 0
       ((false ∷ [], 1) ∷ (false ∷ false ∷ [], 2) ∷ (false ∷ false ∷ false ∷ [], 4) ∷ (false ∷ true ∷ [], 3) ∷ (false ∷ true ∷ false ∷ [], 5) ∷ [])
       ((false ∷ [], 1) ∷ (false ∷ false ∷ false ∷ [], 4) ∷ (false ∷ true ∷ false ∷ [], 5) ∷ [])
+  -- such a test is not true twice in a row, since each call starts in the state that the call before it left
+  pub not_from_one_state :
+      ¬ (AsksInOrder (λ f _ (_ : ℕ) b f'. (b ≡ (f % 2 == 0)) × (f' ≡ f + 1)) 0
+      ((false ∷ [], 1) ∷ (true ∷ [], 2) ∷ []) ((false ∷ [], 1) ∷ (true ∷ [], 2) ∷ []))
   -- row 34: a writing walk that starts behind (5, 8) adds ten to each value that it lends, and no other value changes. It does not end with a key to come
   pub written : LeadsTo 8 five_calls (λ t.
       (first : WritingWalk ℕ) × (second : WritingWalk ℕ) × (third : WritingWalk ℕ) × (last : WritingWalk ℕ)

@@ -8,6 +8,8 @@ pub mod Places
 pub mod Walks
 pub mod Model
 pub mod Refusals
+pub mod Networks
+pub mod Texts
 pub mod Laws
 pub mod Rows
 pub mod Facts

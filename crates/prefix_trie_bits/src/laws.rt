@@ -1,16 +1,20 @@
 //! What follows from the definitions of the model, and worked rows of it. Each function does nothing: its contract is
 //! a law or a list of rows, so that the check proves it.
 
+ghost use Rattle.std.specs.Prelude.{◌≡◌, ℕ};
+ghost use Rattle.prefix_trie_bits.specs.Networks.{network_cmp};
 ghost use Rattle.prefix_trie_bits.specs.Laws.Addresses.{AddressLaws};
 ghost use Rattle.prefix_trie_bits.specs.Laws.Counted.{CountedLaws};
 ghost use Rattle.prefix_trie_bits.specs.Laws.Determined.{DeterminedLaws};
 ghost use Rattle.prefix_trie_bits.specs.Laws.HandsOut.{HandingLaws};
 ghost use Rattle.prefix_trie_bits.specs.Laws.Listings.{ListingLaws};
 ghost use Rattle.prefix_trie_bits.specs.Laws.Matches.{MatchLaws};
+ghost use Rattle.prefix_trie_bits.specs.Laws.NetworkOrder.{NetworkOrderLaws};
 ghost use Rattle.prefix_trie_bits.specs.Laws.Nodes.{NodeLaws};
 ghost use Rattle.prefix_trie_bits.specs.Laws.Pruning.{PruningLaws};
 ghost use Rattle.prefix_trie_bits.specs.Laws.Slots.{SlotLaws};
 ghost use Rattle.prefix_trie_bits.specs.Laws.Steps.{StepLaws};
+ghost use Rattle.prefix_trie_bits.specs.Laws.Texts.{TextLaws};
 ghost use Rattle.prefix_trie_bits.specs.Laws.Storage.{StorageLaws};
 ghost use Rattle.prefix_trie_bits.specs.Laws.Total.{TotalLaws};
 ghost use Rattle.prefix_trie_bits.specs.Laws.Visits.{VisitLaws};
@@ -24,6 +28,8 @@ ghost use Rattle.prefix_trie_bits.specs.Rows.Lookups.{LookupsHold};
 ghost use Rattle.prefix_trie_bits.specs.Rows.Removals.{RemovalsHold};
 ghost use Rattle.prefix_trie_bits.specs.Rows.Walks.{WalksHold};
 ghost use Rattle.prefix_trie_bits.specs.Rows.Widths.{WidthsHold};
+
+use crate::prefix::{Ipv4Prefix, Ipv6Prefix};
 
 /// The listing has each pair of the map once, in listing order: a string before its extensions, and 0 before 1. A walk
 /// that starts behind the last item read gives the rest of the listing. `remove_children` removes exactly what
@@ -190,4 +196,18 @@ pub fn worked_insertions()
 #[tactic(auto, using(crate::proofs::Model::Worked::Steps::steps_hold))]
 pub fn worked_storages()
     ensures { StepsHold }
+{}
+
+/// What `Display` writes of a network or of a number is read back by `parse`, and a text is of one network at most.
+#[tactic(auto, using(crate::proofs::Texts::Laws::text_laws))]
+pub fn text_laws()
+    ensures { TextLaws }
+{}
+
+/// The order of networks: of networks without host bits, `Ord` is the order in which a map lists them.
+#[tactic(auto, using(crate::proofs::Networks::Order::network_order_laws))]
+pub fn network_order_laws()
+    ensures listing { NetworkOrderLaws }
+    ensures ipv4 { (p q : ℕ × ℕ) → ⟦<Ipv4Prefix as Ord>⟧.cmp p q ≡ network_cmp p q }
+    ensures ipv6 { (p q : ℕ × ℕ) → ⟦<Ipv6Prefix as Ord>⟧.cmp p q ≡ network_cmp p q }
 {}

@@ -5,14 +5,15 @@ ghost use Rattle.prefix_trie_bits.specs.Bits.{number, digits, zeros, begins};
 
 use std::fmt::Debug;
 
+mod decimal;
 mod narrow;
 mod networks;
 mod numbers;
 mod pair;
 mod refusals;
 
-pub use narrow::Narrow;
-pub use networks::{Ipv4Prefix, Ipv6Prefix};
+pub use narrow::{Narrow, ParseNarrowError};
+pub use networks::{Ipv4Prefix, Ipv6Prefix, ParseNetworkError};
 
 /// A number that is read as a string of bits, the most significant first.
 ///

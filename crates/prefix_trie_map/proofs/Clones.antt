@@ -1,5 +1,5 @@
 -- The copy of a map, and walks whose pairs are clones.
-use Rattle.prefix_trie_map.proofs.Prelude.{◌≡◌, ◌↔◌, ℕ, true, List, Bool, sym, ◌∙◌, subst, get, contains_key, Entries, Nodes, AreNodes, IsTidy, needed, State, IsMap, same_nodes, needed_fewer, AreCloned, cloned_there, CopyLaws, [], ◌∷◌, map, refl, ap, ap₂, AllZip, shown, IsPairCloned}
+use Rattle.prefix_trie_map.proofs.Prelude.{◌≡◌, ◌↔◌, ℕ, true, List, Bool, sym, ◌∙◌, subst, get, contains_key, Entries, Nodes, AreNodes, IsTidy, needed, State, IsMap, same_nodes, needed_fewer, AreCloned, cloned_there, CopyLaws, [], ◌∷◌, map, refl, ap, ap₂, AllZip, shown, IsPairCloned, Option, None, Some, IsSomeAnd, IsCloned, same_entries, none-some, same_Some}
 
 -- the copy of a map, with the same keys and nodes, is a map
 pub IsMap-copied : {T : Type 0} (C : T → T → Type 0) (width : ℕ) (s copy : State T) → AreCloned C s.entries copy.entries → copy.nodes ≡ s.nodes →
@@ -30,8 +30,23 @@ module _ {T : Type 0} (C : T → T → Type 0) where
   as_tidy : (m copy : Entries T) (n : Nodes) → AreCloned C m copy → IsTidy m n ↔ IsTidy copy n
   as_tidy m copy n cloned = (λ tidy. tidy ∙ sym (same_needed m copy cloned), λ tidy. tidy ∙ same_needed m copy cloned)
 
+  has_clone : (m copy : Entries T) → AreCloned C m copy → (k : List Bool) (v : T) → get m k ≡ Some v → IsSomeAnd (get copy k) (C v)
+  has_clone m copy cloned k v e = at (get m k) e (cloned k)
+    where
+      at : (x : Option T) → x ≡ Some v → IsCloned C x (get copy k) → IsSomeAnd (get copy k) (C v)
+      at None h c = absurd (none-some v h)
+      at (Some u) h c = subst (λ w. IsSomeAnd (get copy k) (C w)) (same_Some u v h) c
+
+  is_same : ((v w : T) → C v w → w ≡ v) → (m copy : Entries T) → AreCloned C m copy → copy ≡ m
+  is_same exact m copy cloned = same_entries copy m (λ k. at (get m k) (get copy k) (cloned k))
+    where
+      at : (x y : Option T) → IsCloned C x y → y ≡ x
+      at None y c = c
+      at (Some v) None c = absurd c
+      at (Some v) (Some w) c = ap Some (exact v w c)
+
   pub copy_laws : CopyLaws C
-  copy_laws = record { same_needed = same_needed; as_tidy = as_tidy }
+  copy_laws = record { same_needed = same_needed; as_tidy = as_tidy; has_clone = has_clone; is_same = is_same }
 
 module _ {T : Type 0} (C : T → T → Type 0) where
   -- as users see them

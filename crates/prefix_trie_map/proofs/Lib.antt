@@ -5,7 +5,6 @@ pub mod Insertions
 pub mod Listed
 pub mod Lookups
 pub mod Refusals
-pub mod Removed
 pub mod Runs
 pub mod Lending
 pub mod Steps
@@ -20,6 +19,3 @@ pub mod Writing
 pub mod Collected
 pub mod Equality
 pub mod Addresses
-pub mod WalkItems
-pub mod ByPrefix
-pub mod SameKeys

@@ -1,5 +1,5 @@
 -- The words that proofs of this crate name: of std, of the crates below, and of its own definitions.
-pub use Rattle.std.proofs.Common.{Bool, Bor, Equal, Err, Greater, IfErr, IfNone, IfOk, IfSome, Less, List, MatchOption, MatchResult, MutBor, None, Ok, OnErr, OnOk, Option, Result, Some, [], add-sub_of_le, ap, ap₂, arith, cond, drop, eq-eqb, eqb-true, false, filter, get_or, if◌then◌else◌, inl, inr, is_le, is_lt, is_some, length, length-append, length-drop, lit<, map, nat_eq, not, of_calls, pow_pos, refl, rules, set, slice_range, subst, suc, sum_by, sym, take, true, true≢false, vec_capacity, vec_len, w32, ℕ, ◌%◌, ◌&&◌, ◌*◌, ◌++◌, ◌+◌, ◌-◌, ◌<◌, ◌^◌, ◌↔◌, ◌∙◌, ◌∷◌, ◌≡◌, ◌≢◌, ◌≤◌}
+pub use Rattle.std.proofs.Common.{Bool, Bor, Equal, Err, Greater, IfErr, IfNone, IfOk, IfSome, Less, List, MatchOption, MatchResult, MutBor, None, Ok, OnErr, OnOk, Option, Result, Some, [], add-sub_of_le, ap, ap₂, arith, cond, drop, eq-eqb, eqb-true, false, filter, get_or, if◌then◌else◌, inl, inr, is_le, is_lt, is_some, length, length-append, length-drop, lit<, map, not, pow_pos, refl, rules, set, slice_range, subst, suc, sum_by, sym, take, true, true≢false, w32, zero, ℕ, ◌%◌, ◌&&◌, ◌*◌, ◌++◌, ◌+◌, ◌-◌, ◌<◌, ◌^◌, ◌↔◌, ◌∙◌, ◌∷◌, ◌≡◌, ◌≢◌, ◌≤◌}
 pub use Rattle.std.proofs.RcSteps.{none_of}
 pub use Rattle.std.proofs.iter.Next.{Yields-more}
 pub use Rattle.std.proofs.iter.runs.Sources.{as_is, from_front}
@@ -8,42 +8,36 @@ pub use Rattle.std.proofs.lemmas.List.{drop-take, get_or-drop, get_or-map, get_o
 pub use Rattle.std.proofs.lemmas.List.Elements.{All-contains_itself, All-filter, All-head, All-map, All-pop, All-same, All-tail, All-weaker, filter_passes}
 pub use Rattle.std.proofs.lemmas.List.Filters.{length-filter_both}
 pub use Rattle.std.proofs.lemmas.List.Sums.{count_by-le-length, length-filter, sum_by-take-drop, sum_by_push}
+pub use Rattle.std.proofs.lemmas.Option.{none-some, same_Some}
 pub use Rattle.std.proofs.lemmas.Result.{err_from_is_err_and}
+pub use Rattle.std.specs.Prelude.{IsSomeAnd, zero}
 pub use Rattle.std.proofs.lemmas.Simd.{map-map}
-pub use Rattle.std.specs.Bool.{Decides, one_answer}
-pub use Rattle.std.specs.Cmp.Lexicographic.{pointwise, pointwise_decides}
+pub use Rattle.std.specs.Cmp.Lexicographic.{pointwise}
 pub use Rattle.std.specs.Coded.{Coded-set, coded_bool}
-pub use Rattle.std.specs.FinMap.{contains_key, contains_key-keys, empty_of_len, get, get-empty, len, len-empty, len-entries, retain_keys, same_entries_map}
-pub use Rattle.std.specs.Fn.{Called, Mut}
-pub use Rattle.std.specs.Iterator.{ComparesItemsByEq, Drains, HoldsAlong, Yields, YieldsThen}
-pub use Rattle.std.specs.Iterator.Adapters.{map_source, map_steps}
-pub use Rattle.std.specs.List.{All, AllZip, Contains, list_any}
+pub use Rattle.std.specs.FinMap.{contains_key, empty_of_len, get, get-empty, len, len-empty, len-entries, retain_keys}
+pub use Rattle.std.specs.Iterator.{ComparesItemsByEq, YieldsThen}
+pub use Rattle.std.specs.List.{All, AllZip, Contains}
 pub use Rattle.std.specs.Map.Iter.{GivesInOrder, ShowsInOrder, TakesFirst, deref}
 pub use Rattle.std.specs.Option.{UnwrapsOrElse, ghost_name_of, option_copied_mut, option_map, unwrap_or}
-pub use Rattle.std.specs.Ordering.{on}
-pub use Rattle.std.specs.declared.iter.Map.{Map}
-pub use Rattle.prefix_trie_bits.proofs.Model.Counted.{StepsSoFar, all_fit_more, counted_laws, run_counted, step_pushed}
 pub use Rattle.prefix_trie_bits.proofs.Model.HandsOut.{handing_laws}
 pub use Rattle.prefix_trie_bits.proofs.Model.Listings.{listing_laws}
 pub use Rattle.prefix_trie_bits.proofs.Model.Matches.{match_laws}
-pub use Rattle.prefix_trie_bits.proofs.Model.Members.{and-first, and-join, and-second, get-with_entry, is-same_string, needs, or-cases, or-left, or-right, same_entries, same_nodes, same_string-is}
+pub use Rattle.prefix_trie_bits.proofs.Model.Members.{and-first, and-second, get-with_entry, is-same_string, needs, or-cases, or-left, same_entries, same_nodes}
 pub use Rattle.prefix_trie_bits.proofs.Model.NodeListings.{listing_of_root}
 pub use Rattle.prefix_trie_bits.proofs.Model.NodeSets.{AreNodes-needed, AreNodes-no_entries, AreNodes-stored, has-with_needed, key_cases, needed_insert, tidy-no_entries}
 pub use Rattle.prefix_trie_bits.proofs.Model.Ordered.{entries-retained, lt-less}
 pub use Rattle.prefix_trie_bits.proofs.Model.Outermost.{IsCounted, answer-number, counted-all, counted-end, counted-next, counted-start}
 pub use Rattle.prefix_trie_bits.proofs.Model.Pruning.{needed_fewer}
-pub use Rattle.prefix_trie_bits.proofs.Model.Retained.{at_least_step}
-pub use Rattle.prefix_trie_bits.proofs.Model.Runs.{run_of_stored}
 pub use Rattle.prefix_trie_bits.proofs.Model.Steps.{stays_map}
 pub use Rattle.prefix_trie_bits.proofs.Model.Storage.Readied.{no_cell_slots_lack, no_node_slots_lack, readied_inserts}
 pub use Rattle.prefix_trie_bits.proofs.Model.Storage.Slots.{slot_laws}
 pub use Rattle.prefix_trie_bits.proofs.Model.Visits.{visit_laws, visits-bound}
 pub use Rattle.prefix_trie_bits.specs.BitStrings.{number-lt, number_of_digits, zero_bits}
 pub use Rattle.prefix_trie_bits.specs.Bits.{begins, number, zeros}
-pub use Rattle.prefix_trie_bits.specs.Keys.{KeyLaws, PrefixLaws, back_from_bits, fits_back, len_back, path_back, path_within}
+pub use Rattle.prefix_trie_bits.specs.Keys.{KeyLaws, PrefixLaws, back_from_bits, fits_back, path_back, path_within}
 pub use Rattle.prefix_trie_bits.specs.Laws.Steps.{IsMap}
 pub use Rattle.prefix_trie_bits.specs.Model.Addresses.{address_answer}
-pub use Rattle.prefix_trie_bits.specs.Model.Asking.{AsksInOrder, MayAskInOrder}
+pub use Rattle.prefix_trie_bits.specs.Model.Asking.{MayAskInOrder}
 pub use Rattle.prefix_trie_bits.specs.Model.Entries.{AreWithin, Entries, no_entries, put_all, with_entry}
 pub use Rattle.prefix_trie_bits.specs.Model.HandsOut.{HandsOutInStorage}
 pub use Rattle.prefix_trie_bits.specs.Model.Insertion.{cell_slots_lacking, node_slots_lacking}
@@ -52,7 +46,7 @@ pub use Rattle.prefix_trie_bits.specs.Model.Nodes.{AreNodes, IsTidy, Nodes, has_
 pub use Rattle.prefix_trie_bits.specs.Model.Room.{LeavesRoom, MayPassLimit}
 pub use Rattle.prefix_trie_bits.specs.Model.Selections.{listing, listing_after, listing_below, listing_from, shown}
 pub use Rattle.prefix_trie_bits.specs.Model.Step.{Call, CallFits, Clear, Done, Insert, Remove, RemoveChildren, RemoveKeepTree, Reply, State, Step, Value}
-pub use Rattle.prefix_trie_bits.specs.Model.Storage.{InsertsInStorage, ReadiesInStorage, RefusesInStorage, RetainsInStorage, StepByPath, StepInStorage, Storage}
+pub use Rattle.prefix_trie_bits.specs.Model.Storage.{InsertsInStorage, ReadiesInStorage, RefusesInStorage, RetainsInStorage, StepByPath, Storage}
 pub use Rattle.prefix_trie_bits.specs.Model.Visits.{ReadsToMatch, ReadsWay, visits, visits_to_match}
 pub use Rattle.prefix_trie_bits.specs.Order.{listing_cmp, listing_same, listing_total, same_string}
 pub use Rattle.prefix_trie_bits.specs.declared.prefix.Refusal.{Refusal}
@@ -63,8 +57,9 @@ pub use Rattle.prefix_trie_table.proofs.Tree.Copying.{cloned_there}
 pub use Rattle.prefix_trie_table.proofs.Tree.Trees.{is_none-None}
 pub use Rattle.prefix_trie_table.proofs.Walk.KeySets.{pending_again}
 pub use Rattle.prefix_trie_table.specs.Bulk.{AreAnswers, IsAnswer, asks, questions_of}
-pub use Rattle.prefix_trie_table.specs.Copies.{AreCloned, IsPairCloned}
+pub use Rattle.prefix_trie_table.specs.Copies.{AreCloned, IsCloned, IsPairCloned}
 pub use Rattle.prefix_trie_table.specs.Locations.{IsWayEnd, is_seat-prop, seat_of}
+pub use Rattle.prefix_trie_table.specs.Steps.{SettlesInStorage}
 pub use Rattle.prefix_trie_table.specs.Shape.{Contents, with_longest_at, with_match_at, with_stored_at, with_value_at}
 pub use Rattle.prefix_trie_table.specs.Walking.Cursors.{selected}
 pub use Rattle.prefix_trie_table.specs.Walking.Items.{GivesOutermost}
@@ -80,9 +75,7 @@ pub use Rattle.prefix_trie_map.specs.Covers.{CoverLaws}
 pub use Rattle.prefix_trie_map.specs.Entry.{Fills, ModifiesEntry, Occupied, RefusesToFill, Vacant, entry_value, stays_stored, with_value_in}
 pub use Rattle.prefix_trie_map.specs.Lending.{lends_entry_if, lends_longest_if, lent_beside}
 pub use Rattle.prefix_trie_map.specs.Listed.{ListedLaws}
-pub use Rattle.prefix_trie_map.specs.Replay.{call_of, calls_of, replies_of, reply_of}
 pub use Rattle.prefix_trie_map.specs.Resumed.{ResumeLaws}
-pub use Rattle.prefix_trie_map.specs.Sets.{AsksKeyAt, TakesKeyAt, as_item, same_keys, same_parts}
 pub use Rattle.prefix_trie_map.specs.Steps.{inserted, placed, state, storage, stored}
 pub use Rattle.prefix_trie_map.specs.Walks.{lent_item, lent_item_mut}
 pub use Rattle.prefix_trie_map.specs.Whole.{IsWhole}

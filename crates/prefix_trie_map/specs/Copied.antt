@@ -1,5 +1,6 @@
--- What the copy of a map needs. This project's own.
-use Rattle.std.specs.Prelude.{◌≡◌, ◌↔◌}
+-- What the copy of a map has and needs. This project's own.
+use Rattle.std.specs.Prelude.{◌≡◌, ◌↔◌, Bool, List, Some, IsSomeAnd}
+use Rattle.std.specs.FinMap.{get}
 use Rattle.prefix_trie_bits.specs.Model.Entries.{Entries}
 use Rattle.prefix_trie_bits.specs.Model.Nodes.{Nodes, IsTidy, needed}
 use Rattle.prefix_trie_table.specs.Copies.{AreCloned}
@@ -10,3 +11,7 @@ pub record CopyLaws {T : Type 0} (is_clone : T → T → Type 0) : Type 0 where
   pub same_needed : (m copy : Entries T) → AreCloned is_clone m copy → needed copy ≡ needed m
   -- so with the same nodes it is as tidy
   pub as_tidy : (m copy : Entries T) (n : Nodes) → AreCloned is_clone m copy → IsTidy m n ↔ IsTidy copy n
+  -- at each key of its source it has a clone of the value
+  pub has_clone : (m copy : Entries T) → AreCloned is_clone m copy → (k : List Bool) (v : T) → get m k ≡ Some v → IsSomeAnd (get copy k) (is_clone v)
+  -- so if each clone is equal to its source, the entries are the same
+  pub is_same : ((v w : T) → is_clone v w → w ≡ v) → (m copy : Entries T) → AreCloned is_clone m copy → copy ≡ m

@@ -11,10 +11,8 @@ pub mod Whole
 pub mod Walks
 pub mod Lending
 pub mod Entry
+pub mod Filled
+pub mod Settled
 pub mod Resumed
 pub mod Writing
 pub mod WritingWalks
-pub mod Sets
-pub mod Replay
-pub mod Reads
-pub mod NotesFall

@@ -1,9 +1,10 @@
 -- What holds of every map. This project's own.
 use Rattle.std.specs.Prelude.{ℕ, ◌<◌, ◌≤◌, ◌^◌}
 use Rattle.prefix_trie_bits.specs.Laws.Steps.{IsMap}
+use Rattle.prefix_trie_bits.specs.Laws.Total.{IsStoredMap}
 use Rattle.prefix_trie_bits.specs.Model.Storage.{HaveBlocks}
 use Rattle.prefix_trie_table.specs.Shape.{Contents}
-use Rattle.prefix_trie_map.specs.Steps.{state}
+use Rattle.prefix_trie_map.specs.Steps.{state, stored}
 
 -- a map of prefixes of so many bits: no key is longer, the nodes are such as the keys need, each has its blocks, and neither array
 -- passes the limit, which is below 2^32
@@ -13,3 +14,10 @@ pub record IsWhole {T : Type 0} (width : ℕ) (map : Contents T) : Type 0 where
   pub limit_below : map.room.limit < 2 ^ 32
   pub nodes_within : map.room.node_slots ≤ map.room.limit
   pub cells_within : map.room.cell_slots ≤ map.room.limit
+
+-- what follows of how such a map is stored
+pub record WholeLaws (T : Type 0) (width : ℕ) : Type 0 where
+  -- each array has fewer than 2^32 slots
+  pub slots_below : (m : Contents T) → IsWhole width m → (m.room.node_slots < 2 ^ 32) × (m.room.cell_slots < 2 ^ 32)
+  -- the map is stored as `total_laws` requires, if the root has a slot under the limit
+  pub is_stored : (m : Contents T) → IsWhole width m → 0 < m.room.limit → IsStoredMap width (stored m)

@@ -1,8 +1,6 @@
-//! Maps and sets of prefixes, over a table of bit strings, and runs of calls of a map.
+//! Maps from prefixes to values, over a table of bit strings.
 #![tactic(auto)]
 
 mod fmt;
 pub mod laws;
 pub mod map;
-pub mod replay;
-pub mod set;

@@ -39,7 +39,6 @@ mod writing;
 pub use cover::{Cover, CoverKeys, CoverValues};
 pub use into_iter::{IntoIter, IntoKeys, IntoValues};
 pub use iter::{Iter, Keys, Values};
-pub(crate) use lookup::rebuilt;
 use parts::parts;
 use prefix_trie_bits::prefix::{Prefix, Refusal, Refused};
 pub use prefix_trie_table::allocator::block_count::BlockCount;

@@ -17,3 +17,4 @@ pub mod Sizing
 pub mod Copies
 pub mod KeptBlocks
 pub mod Housed
+pub mod NodeLists

@@ -23,3 +23,4 @@ pub mod HandingOut
 pub mod Retaining
 pub mod Copies
 pub mod Walking
+pub mod NodeArrays

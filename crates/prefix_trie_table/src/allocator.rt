@@ -9,9 +9,11 @@
 //! array's end, only where none of its size is free, and its place in the list of free ones is reserved with it: so giving a
 //! block back never asks for memory. Apart from making or copying an array only `prepare` can be refused, and it writes no
 //! list: what a change needs is obtained first, as free blocks, and the change itself then always succeeds.
+pub mod array;
 pub mod block_count;
 pub mod blocks;
 mod free_list;
 pub mod node;
+pub mod node_array;
 pub mod nodes;
 pub mod slots;

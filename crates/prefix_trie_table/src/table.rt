@@ -44,22 +44,22 @@ ghost use Rattle.prefix_trie_table.specs.Layouts.{Sized, Sized-prop};
 ghost use Rattle.prefix_trie_table.specs.Shape.{Shaped, Shaped-prop, state, storage};
 ghost use Rattle.prefix_trie_table.specs.Steps.{stored, inserted, SettlesInStorage};
 
-use crate::allocator::blocks::{Blocks, cells};
+use crate::allocator::blocks::{Cells, cells};
 use crate::allocator::nodes::{NodeAllocator, Tick};
 use crate::table::children::{KeepNothing, remove_part};
 use crate::table::cursor::{Start, walk_at};
 use crate::table::handing::lay_part;
-use crate::table::insertion::insert_entry;
-use crate::table::lookup::find_value;
 use crate::table::matching::{longest_on_way, shortest_on_way, value_of_match};
 use crate::table::moving::move_part;
 use crate::table::removal::{clear_entries, remove_entry, remove_value};
 use crate::table::retain::{Keep, retain_entries};
+use crate::table::seat::Location;
 use crate::table::walk::walk_of;
 pub use cover::Cover;
 use prefix_trie_bits::prefix::{Key, Refusal, Refused};
 use std::alloc::Allocator;
 use std::marker::Model;
+use std::mem;
 pub use taking::IntoWalk;
 pub use walk::Walk;
 
@@ -67,7 +67,7 @@ pub use walk::Walk;
 #[derive(Drop)]
 pub struct Table<T: Drop, A: Allocator, V: Tick> {
     nodes: NodeAllocator<A, V>,
-    cells: Blocks<Option<T>, A>,
+    cells: Cells<T, A>,
     count: usize,
     ghost shape: { Shaped nodes.slots cells.slots } by { Shaped-prop T.code nodes.slots cells.slots },
     ghost sizes: { Sized nodes.slots } by { Sized-prop nodes.slots },
@@ -200,7 +200,10 @@ impl<T: Drop, A: Allocator, V: Tick> Table<T, A, V> {
         ensures visits { V.count counter.new
             ≡ V.count counter.old + visits self.now.nodes (take len (K.bits key)) }
     {
-        find_value(&self.nodes, &self.cells, key, len, counter)
+        match self.locate(key, len, counter) {
+            Location::Stored(seat) => Some(self.at(key, len, seat)),
+            Location::Missing(_) => None,
+        }
     }
 
     /// The value at the longest beginning of a bit string that has one, behind the number of bits of that beginning. Each
@@ -303,15 +306,15 @@ impl<T: Drop, A: Allocator, V: Tick> Table<T, A, V> {
         ensures step { (width : ℕ) → StepByPath width (stored self.old) (Insert (take len (K.bits key)) value) (inserted result)
             (stored self.new) }
     {
-        insert_entry(
-            &mut self.nodes,
-            &mut self.cells,
-            &mut self.count,
-            key,
-            len,
-            value,
-            counter,
-        )
+        // Read for the proof alone: neither array passes the limit.
+        let _entries = self.len();
+        match self.locate(key, len, counter) {
+            Location::Stored(seat) => Ok(Some(mem::replace(self.at_mut(key, len, seat), value))),
+            Location::Missing(end) => match self.place(key, len, end, value) {
+                Ok(_) => Ok(None),
+                Err(refused) => Err(refused),
+            },
+        }
     }
 
     /// Takes the value at a bit string out, if it is there, and then the nodes that have nothing left, from the string's own

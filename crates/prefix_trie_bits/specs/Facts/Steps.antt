@@ -3,7 +3,7 @@ use Rattle.std.specs.Prelude.{◌≡◌, ℕ, List, [], ◌∷◌}
 use Rattle.std.specs.FinMap.{empty}
 use Rattle.prefix_trie_bits.specs.Model.Blocks.{Layout, KeepsBlocks, NodesHaveBlocks, value_block_sizes, own_entries}
 use Rattle.prefix_trie_bits.specs.Model.Insertion.{value_block_needed, TakesBlocks}
-use Rattle.prefix_trie_bits.specs.Model.Step.{State, Call, Insert, Remove, RemoveKeepTree, RetainAtLeast, Reply, Refused, Refusal, Memory, IndexRange}
+use Rattle.prefix_trie_bits.specs.Model.Step.{State, Call, Insert, Remove, RemoveKeepTree, RemoveChildren, RetainAtLeast, Reply, Refused, Refusal, Memory, IndexRange}
 use Rattle.prefix_trie_bits.specs.Model.Storage.{Storage, cleared, StepInStorage}
 use Rattle.prefix_trie_bits.specs.Rows.Examples.{path_at, back_at, LeadsTo, sets}
 use Rattle.prefix_trie_bits.specs.Facts.Blocks.{none_free, room_of}
@@ -17,9 +17,13 @@ stored nodes cells layout = record { room = room_of 10 nodes cells; layout = lay
 abbrev pub filled : Storage
 filled = stored 2 3 three_slots
 
--- no step of the call leads from the map t, so stored, to this storage
+-- no step of the call leads from the map t, stored in the first way, to the second storage
+abbrev pub CannotLead : State ℕ → Storage → Call (ℕ × ℕ) ℕ → Storage → Type 0
+CannotLead t before call after = (reply : Reply (ℕ × ℕ) ℕ) (u : State ℕ) → ¬ (StepInStorage (path_at 8) (back_at 8) 8 (t, before) call reply (u, after))
+
+-- none leads from the map as first filled to this storage
 abbrev pub CannotLeave : State ℕ → Call (ℕ × ℕ) ℕ → Storage → Type 0
-CannotLeave t call after = (reply : Reply (ℕ × ℕ) ℕ) (u : State ℕ) → ¬ (StepInStorage (path_at 8) (back_at 8) 8 (t, filled) call reply (u, after))
+CannotLeave t = CannotLead t filled
 
 -- an insertion is not refused for the cause with the storage left that is named last
 abbrev pub CannotRefuse : State ℕ → Storage → ℕ × ℕ → Refusal → Storage → Type 0
@@ -49,14 +53,16 @@ root_value size = ((0, 0), size) ∷ ((0, 5), 1) ∷ []
 abbrev pub child_value : Blocks
 child_value = ((0, 5), 1) ∷ []
 
--- the root's value block may step down from two to one, which is made. Its old block is not lost, no other is made, and no other
--- block, no slot for nodes and no limit changes
+-- The root's value block may step down from two to one, for which a block of one is made. The old block is not lost, no second block is
+-- made, and no other block, no slot for nodes and no limit changes
 pub record RemoveFacts (t : State ℕ) : Type 0 where
   pub not_lost : CannotLeave t (Remove (0, 1)) (stored 2 4 (layout_at 8 root_child (root_value 1) none_free none_free))
   pub not_by_two : CannotLeave t (Remove (0, 1)) (stored 2 5 (layout_at 8 root_child (root_value 1) none_free two_free))
   pub not_another : CannotLeave t (Remove (0, 1)) (stored 2 3 (layout_at 8 root_child (((0, 0), 2) ∷ ((0, 5), 2) ∷ []) none_free (ones_free 1)))
   pub not_elsewhere : CannotLeave t (Remove (0, 1)) (stored 2 3 (layout_at 8 root_child (((0, 0), 2) ∷ ((0, 5), 1) ∷ ((128, 5), 1) ∷ []) none_free none_free))
-  pub not_nodes_longer : CannotLeave t (Remove (0, 1)) (stored 3 3 (layout_at 8 root_child (root_value 2) (ones_free 1) none_free))
+  pub not_nodes_longer : CannotLeave t (Remove (0, 1)) (stored 3 3 three_slots)
+  pub not_made : CannotLeave t (Remove (0, 1)) (stored 2 3 (layout_at 8 root_child (root_value 2) none_free (ones_free 1)))
+  pub not_child_made : CannotLeave t (Remove (0, 1)) (stored 2 3 (layout_at 8 root_child (root_value 2) (ones_free 1) none_free))
   pub not_children : CannotLeave t (Remove (0, 1)) (stored 4 3 (layout_at 8 (((0, 0), 2) ∷ []) (root_value 2) (ones_free 1) none_free))
   pub not_limit : CannotLeave t (Remove (0, 1)) (record { room = room_of 11 2 3; layout = three_slots })
 
@@ -86,19 +92,35 @@ pub record RetainFacts (t : State ℕ) : Type 0 where
   pub not_nodes_shorter : CannotLeave t (RetainAtLeast 6) (stored 1 3 (layout_at 8 [] [] (ones_free 1) both_free))
   pub not_cells_longer : CannotLeave t (RetainAtLeast 0) (stored 2 4 (layout_at 8 root_child (root_value 2) none_free (ones_free 1)))
 
--- the root's third entry lacks four slots. It is not set with a block lost; and it is not refused for want of slots,
--- since these lie within the limit, nor with other slots made, nor with blocks of one made in place of one of four, nor with a block
--- lost, nor where a block of four is free
+-- `drop_children` of (0, 5) removes its node, which frees that node's value block and the root's child block, and it shortens no array.
+-- (128, 5) has no node, and then no array gets longer
+pub record DropChildrenFacts (t : State ℕ) : Type 0 where
+  pub not_lost : CannotLeave t (RemoveChildren (0, 5)) (stored 2 3 (layout_at 8 [] (((0, 0), 2) ∷ []) none_free (ones_free 1)))
+  pub not_nodes_shorter : CannotLeave t (RemoveChildren (0, 5)) (stored 1 3 (layout_at 8 [] (((0, 0), 2) ∷ []) (ones_free 1) (ones_free 1)))
+  pub not_cells_shorter : CannotLeave t (RemoveChildren (0, 5)) (stored 2 2 (layout_at 8 [] (((0, 0), 2) ∷ []) (ones_free 1) (ones_free 1)))
+  pub not_nodes_longer : CannotLeave t (RemoveChildren (128, 5)) (stored 3 3 (layout_at 8 root_child (root_value 2) (ones_free 1) none_free))
+  pub not_cells_longer : CannotLeave t (RemoveChildren (128, 5)) (stored 2 4 (layout_at 8 root_child (root_value 2) none_free (ones_free 1)))
+
+-- The root's third entry, (64, 2), lacks a block of four for its value, and (0, 6) a block of two. Each fact names what no insertion does:
+-- it loses no block, and makes no child block if it needs none. It is not refused for want of slots if the limit leaves space for them,
+-- and not refused for memory once the block is there. A refusal neither loses blocks nor makes others than those that lacked
 pub record InsertFacts (t : State ℕ) : Type 0 where
   pub not_lost : CannotLeave t (Insert (64, 2) 5) (stored 2 7 (layout_at 8 root_child (root_value 4) none_free none_free))
+  pub not_made : CannotLeave t (Insert (64, 2) 5) (stored 2 7 (layout_at 8 root_child (root_value 4) none_free both_free))
+  pub not_child_made : CannotLeave t (Insert (64, 2) 5) (stored 2 7 (layout_at 8 root_child (root_value 4) (ones_free 1) two_free))
+  pub not_child_lost : CannotLead t (stored 3 3 (layout_at 8 root_child (root_value 2) (ones_free 1) none_free)) (Insert (64, 2) 5)
+      (stored 3 7 (layout_at 8 root_child (root_value 4) none_free two_free))
   pub not_refused_for_slots : CannotRefuse t filled (64, 2) IndexRange filled
-  pub not_refused_cells_more : CannotRefuse t filled (64, 2) Memory (stored 2 8 (layout_at 8 root_child (root_value 2) none_free four_free))
-  pub not_refused_with_ones : CannotRefuse t filled (64, 2) Memory (stored 2 7 (layout_at 8 root_child (root_value 2) none_free (ones_free 4)))
+  pub not_refused_cells_more : CannotRefuse t filled (0, 6) Memory (stored 2 6 three_slots)
+  pub not_refused_once_made : CannotRefuse t filled (64, 2) Memory (stored 2 7 (layout_at 8 root_child (root_value 2) none_free four_free))
+  pub not_refused_made : CannotRefuse t filled (64, 2) Memory (stored 2 3 (layout_at 8 root_child (root_value 2) none_free (ones_free 1)))
+  pub not_refused_child_made : CannotRefuse t filled (64, 2) Memory (stored 2 3 (layout_at 8 root_child (root_value 2) (ones_free 1) none_free))
   pub not_refused_cells_fewer : CannotRefuse t filled (64, 2) Memory (stored 2 2 three_slots)
-  pub not_refused_nodes_more : CannotRefuse t filled (64, 2) Memory (stored 3 3 (layout_at 8 root_child (root_value 2) (ones_free 1) none_free))
+  pub not_refused_nodes_more : CannotRefuse t filled (64, 2) Memory (stored 3 3 three_slots)
   pub not_refused_nodes_fewer : CannotRefuse t filled (64, 2) Memory (stored 1 3 three_slots)
   pub not_refused_lost : CannotRefuse t (stored 2 5 (layout_at 8 root_child (root_value 2) none_free two_free)) (64, 2) Memory
       (stored 2 5 three_slots)
+  pub not_refused_child_lost : CannotRefuse t (stored 3 3 (layout_at 8 root_child (root_value 2) (ones_free 1) none_free)) (64, 2) Memory (stored 3 3 three_slots)
   pub not_refused_beside_free : CannotRefuse t (stored 2 7 (layout_at 8 root_child (root_value 2) none_free four_free)) (64, 2) Memory
       (stored 2 7 (layout_at 8 root_child (root_value 2) none_free four_free))
 
@@ -121,6 +143,7 @@ pub record FilledFacts (t : State ℕ) : Type 0 where
   pub prune : PruneFacts t
   pub keep_tree : KeepTreeFacts t
   pub retain : RetainFacts t
+  pub drop_children : DropChildrenFacts t
   pub insert : InsertFacts t
   pub takes : TakenFacts t
   -- each node has a block that holds its items, and no other string has one

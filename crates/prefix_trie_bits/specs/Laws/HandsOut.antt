@@ -1,13 +1,15 @@
 -- What is handed out and what is left are together what there was.
-use Rattle.std.specs.Prelude.{◌≡◌, ℕ, ◌+◌, Bool, true, false, List, None}
+use Rattle.std.specs.Prelude.{◌≡◌, ℕ, ◌+◌, ◌≤◌, Bool, true, false, List, length, None}
 use Rattle.std.specs.FinMap.{get, len}
 use Rattle.prefix_trie_bits.specs.Bits.{begins}
 use Rattle.prefix_trie_bits.specs.Model.Entries.{put_all}
-use Rattle.prefix_trie_bits.specs.Model.HandsOut.{HandsOut}
+use Rattle.prefix_trie_bits.specs.Model.HandsOut.{HandsOut, HandsOutInStorage}
 use Rattle.prefix_trie_bits.specs.Model.Nodes.{IsTidy}
 use Rattle.prefix_trie_bits.specs.Model.Selections.{listing}
 use Rattle.prefix_trie_bits.specs.Model.Step.{State}
+use Rattle.prefix_trie_bits.specs.Model.Storage.{Storage}
 use Rattle.prefix_trie_bits.specs.Laws.Steps.{IsMap}
+use Rattle.prefix_trie_bits.specs.Laws.Total.{IsStoredMap}
 
 module _ {T : Type 0} where
   -- each entry there was is in one of the two maps, and neither has another
@@ -23,3 +25,9 @@ pub record HandingLaws (T : Type 0) : Type 0 where
   -- both are maps, and the second is tidy
   pub are_maps : (width : ℕ) (before : State T) (q : List Bool) (second after : State T) → IsMap width before → HandsOut before q second after
       → IsMap width second × IsTidy second.entries second.nodes × IsMap width after
+  -- the entries, the nodes and the storage of the second map are determined
+  pub stored_alike : (before : State T × Storage) (q : List Bool) (second after other later : State T × Storage)
+      → HandsOutInStorage before q second after → HandsOutInStorage before q other later → second ≡ other
+  -- and each map is stored as every map is: each node has its blocks, and neither array passes the limit
+  pub are_stored : (width : ℕ) (before : State T × Storage) (q : List Bool) (second after : State T × Storage) → IsStoredMap width before → length q ≤ width
+      → HandsOutInStorage before q second after → IsStoredMap width second × IsStoredMap width after

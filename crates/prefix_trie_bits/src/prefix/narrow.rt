@@ -10,14 +10,20 @@ use crate::prefix::Key;
 use std::fmt::{self, Debug, Formatter, Write};
 use std::marker::Model;
 
+mod text;
+
+pub use text::ParseNarrowError;
+
 /// A number of `W` bits as a key: a label, a VLAN, digits of a telephone number, a part of an address.
 ///
 /// Its width is `W`, raised to 1 where `W` is 0 and cut to 63 where `W` is larger. With a length, it is a prefix:
-/// `(Narrow<W>, u8)`. Its text in debug form is the number in decimal.
+/// `(Narrow<W>, u8)`. Its text is the number in plain decimal, which `parse` reads back.
 ///
 /// ```text
 /// let vlan = Narrow::<12>::new(100)    Some(100), whose bits are 0000 0110 0100
 /// map.insert((vlan, 10), "office")     VLANs 100 to 103
+/// "100".parse::<Narrow<12>>()          Ok(100)
+/// "4096".parse::<Narrow<12>>()         Err(ParseNarrowError), as for "0100", "+100" and ""
 /// ```
 #[derive(Clone, Copy, PartialEq, Eq)]
 pub struct Narrow<const W: u32> {

@@ -3,15 +3,34 @@ ghost use Rattle.std.specs.Prelude.{◌≡◌, ℕ, ◌-◌, ◌^◌, ◌<◌, �
 ghost use Rattle.std.proofs.Common.{lit≤};
 ghost use Rattle.prefix_trie_bits.specs.Keys.{number_keys};
 ghost use Rattle.prefix_trie_bits.specs.Bits.{number, digits, zeros};
+ghost use Rattle.prefix_trie_bits.specs.Networks.{network_back, network_path};
 
 use crate::prefix::{Key, Prefix};
-use std::fmt::{self, Debug, Display, Formatter, Write};
 use std::marker::Model;
 
-/// An IPv4 network: an address, with its host bits, and a length of at most 32. Two are equal if both numbers are.
+mod addresses;
+mod text;
+
+pub use text::ParseNetworkError;
+
+/// An IPv4 network: an address, with its host bits, and a length of at most 32.
 ///
-/// Its text, debug or not, is four decimal numbers joined by dots, a slash and the length: `10.1.2.3/8`.
-#[derive(Clone, Copy, PartialEq, Eq)]
+/// Two networks are equal if both numbers are. They are ordered by address and then by length, so networks without host bits are
+/// ordered as a map lists them.
+///
+/// The text of a network, for `Display`, `Debug` and `parse`, is the address, a slash and the length in plain decimal: `10.1.2.3/8`.
+/// `parse` keeps host bits, and reads no other text.
+///
+/// # Examples
+///
+/// ```text
+/// let network: Ipv4Prefix = "10.1.2.3/8".parse()?;
+/// network.network()   10.0.0.0
+/// network.last()      10.255.255.255
+/// network.parent()    Some(10.0.0.0/7)
+/// "10.1.2.3".parse::<Ipv4Prefix>()   Err(ParseNetworkError::MissingSlash)
+/// ```
+#[derive(Clone, Copy, PartialEq, Eq, PartialOrd, Ord, Hash)]
 pub struct Ipv4Prefix {
     addr: u32,
     len: u8,
@@ -68,22 +87,23 @@ impl Ipv4Prefix {
         self.addr
     }
 
-    // Its text, as `Debug` and `Display` write it.
-    fn write_text<F: Write>(&self, f: &mut Formatter<F>) -> fmt::Result {
-        let [a, b, c, d] = self.addr.to_be_bytes();
-        write!(f, "{a}.{b}.{c}.{d}/{}", self.len)
-    }
-}
-
-impl Debug for Ipv4Prefix {
-    fn fmt<F: Write>(&self, f: &mut Formatter<F>) -> fmt::Result {
-        self.write_text(f)
-    }
-}
-
-impl Display for Ipv4Prefix {
-    fn fmt<F: Write>(&self, f: &mut Formatter<F>) -> fmt::Result {
-        self.write_text(f)
+    /// Returns the network one bit shorter that contains this one, without host bits: None exactly if the length is 0.
+    ///
+    /// ```text
+    /// of 10.1.2.3/16   Some(10.0.0.0/15)
+    /// of 0.0.0.0/0     None
+    /// ```
+    #[inline]
+    pub fn parent(&self) -> Option<Self>
+        ensures { MatchOption result (self.now.1 ≡ 0)
+            (λ p. (0 < self.now.1) × (p ≡ network_back 32 (take (self.now.1 - 1) (network_path 32 self.now)))) }
+    {
+        if self.len == 0 {
+            return None;
+        }
+        let len = self.len - 1;
+        let addr = self.addr.keep(u32::from(len));
+        Some(Ipv4Prefix { addr, len })
     }
 }
 
@@ -138,10 +158,25 @@ impl Prefix for Ipv4Prefix {
     }
 }
 
-/// An IPv6 network: an address, with its host bits, and a length of at most 128. Two are equal if both numbers are.
+/// An IPv6 network: an address, with its host bits, and a length of at most 128.
 ///
-/// Its text, debug or not, is eight groups of four hexadecimal digits in lower case, joined by colons, a slash and the length: `2001:0db8:0000:0000:0000:0000:0000:0001/32`.
-#[derive(Clone, Copy, PartialEq, Eq)]
+/// Two networks are equal if both numbers are. They are ordered by address and then by length, so networks without host bits are
+/// ordered as a map lists them.
+///
+/// `Display` writes the address as RFC 5952 has it, a slash and the length in plain decimal: `2001:db8::1/32`. `Debug` writes all
+/// eight groups in full: `2001:0db8:0000:0000:0000:0000:0000:0001/32`. `parse` reads each text that std's `Ipv6Addr` reads, with a
+/// slash and a length after it, and keeps host bits.
+///
+/// # Examples
+///
+/// ```text
+/// let network: Ipv6Prefix = "2001:db8::1/32".parse()?;
+/// network.network()   2001:db8::
+/// network.last()      2001:db8:ffff:ffff:ffff:ffff:ffff:ffff
+/// network.parent()    Some(2001:db8::/31)
+/// "::/129".parse::<Ipv6Prefix>()   Err(ParseNetworkError::Length)
+/// ```
+#[derive(Clone, Copy, PartialEq, Eq, PartialOrd, Ord, Hash)]
 pub struct Ipv6Prefix {
     addr: u128,
     len: u8,
@@ -162,7 +197,7 @@ impl Ipv6Prefix {
     /// The network of an address and a length: None exactly if the length is above 128. Host bits are kept.
     ///
     /// ```text
-    /// Ipv6Prefix::new(0x2001_0db8 << 96, 32)   Some(2001:0db8:0000:0000:0000:0000:0000:0000/32)
+    /// Ipv6Prefix::new(0x2001_0db8 << 96, 32)   Some(2001:db8::/32)
     /// Ipv6Prefix::new(0, 129)                  None
     /// ```
     #[inline]
@@ -179,7 +214,7 @@ impl Ipv6Prefix {
     /// The network of one address: all 128 bits count.
     ///
     /// ```text
-    /// Ipv6Prefix::host(1)   0000:0000:0000:0000:0000:0000:0000:0001/128
+    /// Ipv6Prefix::host(1)   ::1/128
     /// ```
     #[inline]
     pub fn host(addr: u128) -> Self
@@ -198,26 +233,23 @@ impl Ipv6Prefix {
         self.addr
     }
 
-    // Its text, as `Debug` and `Display` write it.
-    fn write_text<F: Write>(&self, f: &mut Formatter<F>) -> fmt::Result {
-        for i in 0..8_u32 {
-            let group = (self.addr >> (112 - 16 * i)) % 65536;
-            let end = if i < 7 { ":" } else { "/" };
-            write!(f, "{group:04x}{end}")?;
+    /// Returns the network one bit shorter that contains this one, without host bits: None exactly if the length is 0.
+    ///
+    /// ```text
+    /// of 2001:db8::1/32   Some(2001:db8::/31)
+    /// of ::/0             None
+    /// ```
+    #[inline]
+    pub fn parent(&self) -> Option<Self>
+        ensures { MatchOption result (self.now.1 ≡ 0)
+            (λ p. (0 < self.now.1) × (p ≡ network_back 128 (take (self.now.1 - 1) (network_path 128 self.now)))) }
+    {
+        if self.len == 0 {
+            return None;
         }
-        write!(f, "{}", self.len)
-    }
-}
-
-impl Debug for Ipv6Prefix {
-    fn fmt<F: Write>(&self, f: &mut Formatter<F>) -> fmt::Result {
-        self.write_text(f)
-    }
-}
-
-impl Display for Ipv6Prefix {
-    fn fmt<F: Write>(&self, f: &mut Formatter<F>) -> fmt::Result {
-        self.write_text(f)
+        let len = self.len - 1;
+        let addr = self.addr.keep(u32::from(len));
+        Some(Ipv6Prefix { addr, len })
     }
 }
 

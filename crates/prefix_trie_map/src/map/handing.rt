@@ -1,10 +1,11 @@
 //! Handing entries out as a second map.
-ghost use Rattle.std.specs.Prelude.{◌≡◌, IfOk, OnOk, IfErr, OnErr};
+ghost use Rattle.std.specs.Prelude.{◌≡◌, ◌<◌, length, IfOk, OnOk, IfErr, OnErr};
 ghost use Rattle.prefix_trie_bits.specs.declared.prefix.Refusal.TheVariants.{Memory};
 ghost use Rattle.prefix_trie_bits.specs.Model.Entries.{without_below, part_below};
 ghost use Rattle.prefix_trie_bits.specs.Model.HandsOut.{HandsOutInStorage};
 ghost use Rattle.prefix_trie_bits.specs.Model.Nodes.{needed, nodes_without_below};
-ghost use Rattle.prefix_trie_map.specs.Steps.{stored};
+ghost use Rattle.prefix_trie_table.specs.Steps.{SettlesInStorage};
+ghost use Rattle.prefix_trie_map.specs.Steps.{storage, stored};
 
 use crate::map::parts::parts;
 use crate::map::{PrefixMap, Visits};
@@ -38,6 +39,7 @@ impl<P: Prefix, T: Drop, A: Allocator + Clone> PrefixMap<P, T, A> {
 
         // It is a step of the model, of the storage of both maps too.
         ensures step { IfOk result (λ second. HandsOutInStorage (stored self.old) (P.path prefix.now) (stored second) (stored self.new)) }
+        ensures settles { 0 < length (P.path prefix.now) → IfOk result (λ _. SettlesInStorage (storage self.old) (storage self.new)) }
         ensures unchanged { OnErr result (stored self.new ≡ stored self.old) }
         ensures only_memory { IfErr result (λ cause. cause ≡ Memory) }
     {

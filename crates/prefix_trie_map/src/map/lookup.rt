@@ -233,7 +233,7 @@ impl<P: Prefix, T: Drop, A: Allocator> PrefixMap<P, T, A> {
 
 /// The prefix of the first bits of a key, without host bits.
 #[inline]
-pub(crate) fn rebuilt<P: Prefix>(key: P::R, len: u32) -> P
+pub(super) fn rebuilt<P: Prefix>(key: P::R, len: u32) -> P
     requires key { P.R.IsKey key }
     requires within { len ≤ P.R.bit_width }
     ensures { result ≡ P.back (take len (P.R.bits key)) }

@@ -1,11 +1,12 @@
 //! Taking entries out.
-ghost use Rattle.std.specs.Prelude.{◌≡◌};
+ghost use Rattle.std.specs.Prelude.{◌≡◌, ◌<◌, length};
 ghost use Rattle.std.specs.FinMap.{get};
 ghost use Rattle.prefix_trie_bits.specs.Model.Entries.{no_entries, without_entry, without_below};
 ghost use Rattle.prefix_trie_bits.specs.Model.Nodes.{root_alone, nodes_without, nodes_without_below};
 ghost use Rattle.prefix_trie_bits.specs.Model.Step.{Remove, RemoveKeepTree, RemoveChildren, Clear, Done, Value};
 ghost use Rattle.prefix_trie_bits.specs.Model.Storage.{StepByPath};
-ghost use Rattle.prefix_trie_map.specs.Steps.{stored};
+ghost use Rattle.prefix_trie_table.specs.Steps.{SettlesInStorage};
+ghost use Rattle.prefix_trie_map.specs.Steps.{storage, stored};
 
 use crate::map::parts::parts;
 use crate::map::{PrefixMap, Visits};
@@ -80,6 +81,7 @@ impl<P: Prefix, T: Drop, A: Allocator> PrefixMap<P, T, A> {
 
         // It is a step of the model, of the storage too. No slots go, but at length 0.
         ensures step { StepByPath P.R.bit_width (stored self.old) (RemoveChildren (P.path prefix.now)) Done (stored self.new) }
+        ensures settles { 0 < length (P.path prefix.now) → SettlesInStorage (storage self.old) (storage self.new) }
     {
         let (key, len) = parts(prefix);
         self.table.drop_children(key, len, &mut Visits::new());

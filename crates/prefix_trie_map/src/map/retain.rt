@@ -5,7 +5,8 @@ ghost use Rattle.prefix_trie_bits.specs.Model.Nodes.{needed};
 ghost use Rattle.prefix_trie_bits.specs.Model.Selections.{listing};
 ghost use Rattle.prefix_trie_bits.specs.Model.Storage.{RetainsInStorage};
 ghost use Rattle.prefix_trie_map.specs.Asking.{AsksAt, TakesAt};
-ghost use Rattle.prefix_trie_map.specs.Steps.{stored};
+ghost use Rattle.prefix_trie_table.specs.Steps.{SettlesInStorage};
+ghost use Rattle.prefix_trie_map.specs.Steps.{storage, stored};
 ghost use Rattle.prefix_trie_map.specs.Whole.{IsWhole};
 
 use crate::map::PrefixMap;
@@ -70,21 +71,17 @@ impl<P: Prefix, T: Drop, A: Allocator> PrefixMap<P, T, A> {
         // It is a step of the model, of the storage too: each block that lost items is between its old size and the smallest that holds the
         // rest, and no slot and no block goes.
         ensures step { RetainsInStorage (AsksAt F.FnMut P.back) test (stored self.old) (stored self.new) }
-    {
-        self.retain_by(ByPrefix::<P, F> {
-            test,
-            marker: PhantomData,
-        });
-    }
 
-    // The same with a test of keys and values.
-    pub(crate) fn retain_by<K: Keep<P::R, T, Visits>>(&mut self, keep: K)
-        requires { MayAskInOrder K.asks K.accepts keep (listing self.old.entries) }
-        ensures whole { IsWhole P.R.bit_width self.old }
-        ensures step { RetainsInStorage K.asks keep (stored self.old) (stored self.new) }
+        // The arrays get longer by at most the headroom that their blocks had, over any number of calls (`settling_laws`).
+        ensures settles { SettlesInStorage (storage self.old) (storage self.new) }
     {
         // The proof learns from it that the map is whole.
         let _ = self.len();
-        self.table.retain::<P::R, K>(keep, &mut Visits::new());
+        let keep = ByPrefix::<P, F> {
+            test,
+            marker: PhantomData,
+        };
+        self.table
+            .retain::<P::R, ByPrefix<P, F>>(keep, &mut Visits::new());
     }
 }

@@ -1,5 +1,5 @@
 -- What the calls that add leave of a table.
-use Rattle.prefix_trie_table.proofs.Prelude.{◌≡◌, ◌≢◌, ℕ, ◌+◌, ◌<◌, ◌⊎◌, inl, inr, Bool, true, false, ◌||◌, nat_eq, List, [], ◌∷◌, ◌++◌, length, get_or, set, insert, map, flat_map, Option, None, Some, is_some, refl, sym, ap, ap₂, ◌∙◌, subst, arith, length-map, Sets, Node, has_bit, bits, rank, Store, Tier, UsedBlock, Sound, block, held, HasList, Keeps, tier_at, tier_sizes, size_in, list_size, list_need, size_if_any, false≢true, block_needed, option_or, child_need, value_need, without, child_items, child_blocks, IsSlot, at_child, NodesHold, with_child, SomeTable, SomeNodes, IsNodeAt, ChildAdded, ValueSet, CellsHold, value_blocks, with_node, with_value, has_value, own_count, one_if, blank_node, node_at, node_sizes, cell_sizes}
+use Rattle.prefix_trie_table.proofs.Prelude.{◌≡◌, ◌≢◌, ℕ, ◌+◌, ◌<◌, ◌⊎◌, inl, inr, Bool, true, false, ◌||◌, nat_eq, List, [], ◌∷◌, ◌++◌, length, get_or, set, insert, map, flat_map, Option, None, Some, is_some, refl, sym, ap, ◌∙◌, subst, arith, length-map, Sets, Node, has_bit, bits, rank, Store, Tier, UsedBlock, Sound, block, held, HasList, Keeps, tier_at, tier_sizes, size_in, list_size, list_need, size_if_any, block_needed, option_or, child_need, value_need, without, child_items, child_blocks, IsSlot, at_child, NodesHold, with_child, SomeTable, SomeNodes, IsNodeAt, ChildAdded, ValueSet, CellsHold, value_blocks, with_node, has_value, own_count, one_if, blank_node, node_at, node_sizes, cell_sizes}
 use Rattle.prefix_trie_table.specs.OwnBlocks.{child_block_size, value_block_size}
 use Rattle.prefix_trie_table.proofs.Tree.Invariant.{some_nodes}
 use Rattle.prefix_trie_table.proofs.Blocks.Soundness.{tier_of_block}
@@ -8,7 +8,7 @@ use Rattle.prefix_trie_table.proofs.Strings.Bits.{has_bit-sets}
 use Rattle.prefix_trie_table.proofs.Strings.BitLists.{rank-all, rank-same, rank-more-one}
 use Rattle.prefix_trie_table.proofs.Tree.Trees.{own_first, slot_holds}
 use Rattle.prefix_trie_table.proofs.Tree.Children.{child_added, changed_here, same_number, other_number, same_or, with_here, with_other, node_changed}
-use Rattle.prefix_trie_table.proofs.Tree.Values.{values_first, value_stands, value_added, value_replaced}
+use Rattle.prefix_trie_table.proofs.Tree.Values.{values_first, value_stands, value_added}
 
 -- what the node at a slot is
 pub at_is : (v : Store Node) (slot : ℕ) (a : (n : SomeNodes v) × IsNodeAt n.reading slot) → (node_at v.slots slot ≡ a.1.node) × (slot < length v.slots)
@@ -209,24 +209,3 @@ module _ {T : Type 0} where
       let same : k ≡ n = read ∙ at.0 in
       let there = value_stands cell_sizes node_sizes reading paths v hold values w cells p k b (is ∙ ap Some (sym same)) bit in
       ((let x = there.2 in omega arith), ap (λ i. get_or w.slots (k.value_block + i) None) place_is ∙ there.1)
-
-  -- a value written over another sets the value
-  pub values_replaced : (v : Store Node) (w u : Store (Option T)) (slot place b : ℕ) (k : Node) (x : T) → k ≡ node_at v.slots slot →
-      place ≡ rank k.value_bitmap b → has_bit k.value_bitmap b ≡ true → u ≡ record w { slots = set w.slots (k.value_block + place) (Some x) }
-      → (reading : List ℕ → Option Node) (paths : List (List ℕ)) (values : List ℕ → ℕ → Option T) (p : List ℕ) (n : Node) →
-      NodesHold node_sizes reading paths v → CellsHold cell_sizes reading values paths w → IsSlot reading p slot → reading p ≡ Some n
-      → ValueSet reading paths values p b (Some x) v u
-  values_replaced v w u slot place b k x read place_is bit u_is reading paths values p n hold cells stands is =
-      let at = slot_holds node_sizes reading paths v hold p slot n stands is in
-      let same : k ≡ n = read ∙ at.0 in
-      let here : reading p ≡ Some k = is ∙ ap Some (sym same) in
-      let put = value_replaced cell_sizes node_sizes reading paths v hold values w cells p k b (Some x) here bit refl in
-      record {
-        node = k;
-        hold = subst (λ f. NodesHold node_sizes f paths v) (sym (with_same reading p k here)) hold;
-        cells = subst (λ y. CellsHold cell_sizes (with_node reading p k) (with_value values p b (Some x)) paths y)
-            (ap (λ i. record w { slots = set w.slots (k.value_block + i) (Some x) }) (sym place_is) ∙ sym u_is) put;
-        counted = ap₂ (λ a c. a + one_if c) (ap own_count (sym here)) (cells.set_where p b ∙ ap (λ o. has_value o b) here ∙ bit);
-        children = ap child_block_size (sym here);
-        sized = λ none. absurd (false≢true (ap is_some (sym none) ∙ cells.set_where p b ∙ ap (λ o. has_value o b) here ∙ bit));
-      }

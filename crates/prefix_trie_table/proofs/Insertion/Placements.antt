@@ -1,5 +1,5 @@
 -- What a call leaves that adds a missing value where its way ends, in the words for an insertion.
-use Rattle.prefix_trie_table.proofs.Prelude.{◌≡◌, ℕ, ◌+◌, false, Bool, List, take, Option, None, Some, Result, Ok, Err, MatchResult, IfErr, sym, ◌∙◌, true≢false, arith, get, contains_key, Refused, Memory, IndexRange, Insert, InsertsInStorage, RefusesInStorage, StepByPath, Node, Seat, WayEnd, ObtainsBoth, nodes_needed, cells_needed, path_of, bit_of, Holds, EntryAdded, Sized, Shaped, inserted, placed, Store, IsReached, IsTable, ForHeld, GrowsBoth, MayPass}
+use Rattle.prefix_trie_table.proofs.Prelude.{◌≡◌, ℕ, ◌+◌, false, Bool, List, take, Option, None, Some, Result, Ok, Err, MatchResult, IfErr, sym, ◌∙◌, arith, get, contains_key, Refused, Memory, IndexRange, Insert, InsertsInStorage, RefusesInStorage, StepByPath, Node, Seat, WayEnd, ObtainsBoth, nodes_needed, cells_needed, path_of, bit_of, Holds, EntryAdded, Sized, Shaped, inserted, placed, Store, IsReached, IsTable, ForHeld, GrowsBoth, MayPass}
 use Rattle.prefix_trie_table.proofs.Insertion.Asks.{at_end}
 use Rattle.prefix_trie_table.proofs.Insertion.Foreseen.{obtained}
 use Rattle.prefix_trie_table.proofs.Insertion.Inserted.{inserted_in}
@@ -70,7 +70,7 @@ module _ {T : Type 0} (b : List Bool) (len : ℕ) (x : T) (v v2 : Store Node) (w
       (width : ℕ) → StepByPath width (s.0, storage_of v w sized) (Insert (take len b) x) (placed r) (t.0, storage_of v2 w2 later)
   placed_step r leaves obtains grows width = answered width r (inserts_step v v2 w w2 count count2 s is sized t left later (take len b) x (inserting r) (record {
     leaves = leaves;
-    stays = λ there. absurd (true≢false (sym there ∙ absent));
-    takes = λ new. taken r leaves obtains;
+    absent = absent;
+    takes = taken r leaves obtains;
     range = range_given r grows.range;
   }) grows.nodes grows.cells width)

@@ -1,5 +1,5 @@
 -- What a table is after a value of it was written over where it stands.
-use Rattle.prefix_trie_table.proofs.Prelude.{◌≡◌, ℕ, ◌+◌, ◌<◌, ◌≤◌, Bool, true, cond, if◌then◌else◌, List, length, take, get_or, Option, None, Some, IfSome, MatchOption, is_some, refl, sym, ap, ap₂, ◌∙◌, subst, arith, inr, false≢true, MutBor, option_copied_mut, ghost_name_of, get, get-insert, len-insert, contains_key, len, listing_total, with_entry, longest_match, State, Node, Seat, Match, has_bit, rank, node_sizes, cell_sizes, path_of, bit_of, Store, Holds, SomeTable, CellsHold, with_node, with_value, has_value, IsHeld, NoneHeld, LongestHeld, SeatAt, match_seat, cell_slot, with_slot, with_cell, HasValue, IsSeat, SeatOf, Sized, Sized-prop, Contents, with_value_at, with_stored_at, with_match_at, with_longest_at, IsShapeOf, Shaped, same_shape, IsTable}
+use Rattle.prefix_trie_table.proofs.Prelude.{◌≡◌, ℕ, ◌+◌, ◌<◌, ◌≤◌, Bool, true, cond, List, length, take, get_or, Option, None, Some, IfSome, MatchOption, is_some, refl, sym, ap, ap₂, ◌∙◌, subst, arith, inr, false≢true, MutBor, option_copied_mut, ghost_name_of, get, get-insert, len-insert, len, listing_total, with_entry, longest_match, State, Node, Seat, Match, has_bit, rank, node_sizes, cell_sizes, path_of, bit_of, Store, Holds, SomeTable, CellsHold, with_node, with_value, has_value, IsHeld, NoneHeld, LongestHeld, SeatAt, match_seat, cell_slot, with_slot, with_cell, HasValue, IsSeat, Sized, Sized-prop, Contents, with_value_at, with_match_at, with_longest_at, IsShapeOf, Shaped, same_shape, IsTable}
 use Rattle.std.proofs.lemmas.List.{length-set, length-take-le}
 use borrow.Follows.Closed.{read_of}
 use Rattle.prefix_trie_table.proofs.Tree.Invariant.{some_table}
@@ -8,7 +8,6 @@ use Rattle.prefix_trie_table.proofs.Insertion.Adding.{with_same}
 use Rattle.prefix_trie_table.proofs.Lookup.Matched.{cell_some, longest_at, longest_there, longest_none}
 use Rattle.prefix_trie_table.proofs.Blocks.Sizing.{layout_of}
 use Rattle.prefix_trie_table.proofs.Tree.Shapes.{shape_of, shape_nodes, shape_entries}
-use Rattle.prefix_trie_table.proofs.Tree.Trees.{is_none-None}
 use Rattle.prefix_trie_table.proofs.Tree.Values.{value_stands, value_replaced}
 
 module _ {T : Type 0} (v : Store Node) (w : Store (Option T)) (t : SomeTable v w) (q : List Bool) where
@@ -102,26 +101,6 @@ module _ {T : Type 0} (v : Store Node) (w : Store (Option T)) (count : ℕ) (s :
   pub can_lend : (o : Option Seat) → IfSome o (λ seat. IsSeat table.reading (path_of q) (bit_of q) seat) → IfSome o (λ seat. HasValue w seat)
   can_lend None at = tt
   can_lend (Some seat) at = seat_has v w table q seat at
-
-  -- where there is a seat, a value is stored
-  pub stored_written : (z : Sized v.slots) (o : Option Seat) → IfSome o (λ seat. IsSeat table.reading (path_of q) (bit_of q) seat) → (seat : Seat) (x : T) → o ≡ Some seat →
-      with_value_at (seen_of v w s.0 z) q x ≡ with_stored_at (seen_of v w s.0 z) q x
-  stored_written z None at seat x e = absurd (false≢true (ap is_some e))
-  stored_written z (Some there) at seat x e =
-      let stored : contains_key s.0.entries q ≡ true = ap is_some stored_is ∙ value_there v w table q there at in
-      ap (λ b. if b then with_value_at (seen_of v w s.0 z) q x else seen_of v w s.0 z) (sym stored)
-
-  -- where the seat is that of q or missing, it is that of q
-  pub seat_of : (o : Option Seat) → SeatOf table.reading q o → IfSome o (λ seat. IsSeat table.reading (path_of q) (bit_of q) seat)
-  seat_of None at = tt
-  seat_of (Some seat) at = at
-
-  -- the value lent is the one at q
-  pub value_lent : (o : Option Seat) → SeatOf table.reading q o → (r : Option (MutBor T)) →
-      MatchOption o (r ≡ None) (λ seat. option_copied_mut r ≡ get_or w.slots (seat.start + seat.place) None) → option_copied_mut r ≡ get s.0.entries q
-  value_lent None at r e =
-      ap option_copied_mut e ∙ sym (stored_is ∙ is_none-None (table.values (path_of q) (bit_of q)) (table.holds.cells.set_where (path_of q) (bit_of q) ∙ at))
-  value_lent (Some seat) at r e = e ∙ (cell_there v w table q seat at).1 ∙ sym stored_is
 
   -- the table as it was, by any of its shapes
   pub table_kept : (u : Shaped v.slots w.slots) → IsTable v w count u.0

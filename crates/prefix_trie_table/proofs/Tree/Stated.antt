@@ -1,13 +1,12 @@
 -- A call that changes a table is a step of the model.
-use Rattle.prefix_trie_table.proofs.Prelude.{◌≡◌, ℕ, ◌+◌, ◌<◌, ◌≤◌, inl, inr, Bool, true, false, cond, ◌&&◌, List, [], ◌∷◌, length, Option, Result, Ok, Err, IfErr, MatchResult, IsOk, IsTrue, is_some, refl, sym, ap, ◌∙◌, true≢false, subst, arith, get, contains_key, len, Refused, Refusal, IndexRange, AsksInOrder, no_entries, without_entry, without_below, has_node, is_node_depth, root_alone, with_needed, nodes_without, nodes_without_below, needed, AreNodes, MayPassLimit, LeavesRoom, listing, State, Reply, Step, Insert, Remove, RemoveKeepTree, RemoveChildren, Clear, Done, Storage, cleared, InsertsInStorage, RefusesInStorage, RemovesValueInStorage, PrunesInStorage, RemovesManyInStorage, LeavesStorage, StepByPath, RetainsInStorage, same_nodes, Node, path_of, read, Sized, Lasts, Shaped, inserted, SettlesInStorage, Store, SameRoom, free_counts, IsTable, Grows, MayPass}
+use Rattle.prefix_trie_table.proofs.Prelude.{◌≡◌, ℕ, ◌+◌, ◌<◌, ◌≤◌, inl, inr, Bool, true, false, cond, List, [], ◌∷◌, length, Option, Result, Ok, Err, IfErr, MatchResult, is_some, refl, sym, ap, ◌∙◌, true≢false, subst, arith, get, contains_key, len, Refused, Refusal, IndexRange, AsksInOrder, no_entries, without_entry, without_below, root_alone, with_needed, nodes_without, nodes_without_below, needed, AreNodes, MayPassLimit, LeavesRoom, listing, State, Reply, Step, Insert, Remove, RemoveKeepTree, RemoveChildren, Clear, Done, Storage, cleared, InsertsInStorage, RefusesInStorage, RemovesValueInStorage, PrunesInStorage, RemovesManyInStorage, LeavesStorage, StepByPath, RetainsInStorage, Node, Sized, Lasts, Shaped, inserted, SettlesInStorage, Store, free_counts, IsTable, Grows, MayPass}
 use Rattle.prefix_trie_bits.specs.Model.Step.{Value}
 use Rattle.prefix_trie_table.proofs.Tree.Invariant.{some_table}
 use Rattle.prefix_trie_table.proofs.Blocks.KeptBlocks.{kept_blocks}
 use Rattle.prefix_trie_table.proofs.Removal.PartTaken.{all_gone, root_left}
-use Rattle.prefix_trie_table.proofs.Strings.Plain.{no_or_yes}
 use Rattle.prefix_trie_table.proofs.Removal.Settling.{settled_room, some_nodes}
 use Rattle.prefix_trie_table.proofs.Tree.Shapes.{Leaves, before_left, left_only, shape_nodes}
-use Rattle.prefix_trie_table.proofs.Blocks.Sizing.{same_layout, storage_of}
+use Rattle.prefix_trie_table.proofs.Blocks.Sizing.{storage_of}
 use Rattle.prefix_trie_table.proofs.Removal.Stepped.{retained_values, retained_children}
 use Rattle.prefix_trie_table.proofs.Removal.Still.{nodes_settled, cells_settled, still}
 
@@ -149,35 +148,19 @@ module _ {T : Type 0} (v v2 : Store Node) (w w2 : Store (Option T)) (count count
         storage = emptied;
       }
 
-  -- ---- one is set
+  -- ---- one is added
 
   module _ (q : List Bool) (x : T) where
-    -- what an insertion says of the arrays
+    -- what the insertion of a missing key says of the arrays
     pub record Inserts (r : Result (Option T) (Refused T)) : Type 0 where
       pub leaves : Leaves q x v v2 w w2 count count2 s is r
-      pub stays : IsTrue (contains_key s.0.entries q) → IsOk r × SameRoom w w2 × (v2 ≡ v) × (w2.tiers ≡ w.tiers)
-      pub takes : contains_key s.0.entries q ≡ false → MatchResult r (λ _. InsertsInStorage s.0 q (storage_of v w z) (storage_of v2 w2 z2))
+      pub absent : contains_key s.0.entries q ≡ false
+      pub takes : MatchResult r (λ _. InsertsInStorage s.0 q (storage_of v w z) (storage_of v2 w2 z2))
           (λ refused. RefusesInStorage s.0 q refused.cause (storage_of v w z) (storage_of v2 w2 z2))
       pub range : IfErr r (λ refused. refused.cause ≡ IndexRange → MayPass v w)
 
-    same_set : v2 ≡ v → s2.0.nodes ≡ s.0.nodes
-    same_set e = same_nodes s2.0.nodes s.0.nodes (λ p there. sym (shape_is p) ∙ there) (λ p there. shape_is p ∙ there)
-      where
-        shape_is : (p : List Bool) → has_node s2.0.nodes p ≡ has_node s.0.nodes p
-        shape_is p = s2.1.0 p ∙ ap (λ (a : Store Node). is_node_depth p && is_some (read a.slots (path_of p))) e ∙ sym (s.1.0 p)
-
-    -- a stored key needs no node
-    nodes_set : (b : Bool) → (b ≡ true → v2 ≡ v) → s2.0.nodes ≡ with_needed s.0.nodes q → s2.0.nodes ≡ cond b s.0.nodes (with_needed s.0.nodes q)
-    nodes_set true same e = same_set (same refl)
-    nodes_set false same e = e
-
-    stored_same : (r : Result (Option T) (Refused T)) → IsOk r × SameRoom w w2 × (v2 ≡ v) × (w2.tiers ≡ w.tiers) → storage_of v2 w2 z2 ≡ storage_of v w z
-    stored_same r same =
-        let layout = same_layout _ _ _ _ _ _ z z2 (ap (λ (a : Store Node). a.slots) same.2) (ap (λ (a : Store Node). a.tiers) same.2) same.3 in
-        λ i. record { room = record { limit = (same.2 i).limit; node_slots = length (same.2 i).slots; cell_slots = same.1.0 i }; layout = layout i }
-
-    refused_new : (e : Refused T) → Inserts (Err e) → contains_key s.0.entries q ≡ false
-    refused_new e h = no_or_yes (contains_key s.0.entries q) (λ has. true≢false (sym (h.stays has).0))
+    never : {A : Type 0} (r : Result (Option T) (Refused T)) → Inserts r → contains_key s.0.entries q ≡ true → A
+    never r h has = absurd (true≢false (sym has ∙ h.absent))
 
     same_cause : (c d : Refusal) → ◌≡◌ {A = Reply (List Bool) T} (Reply.Refused c) (Reply.Refused d) → c ≡ d
     same_cause c d e = cc
@@ -185,17 +168,17 @@ module _ {T : Type 0} (v v2 : Store Node) (w w2 : Store (Option T)) (count count
     model_step : (width : ℕ) (r : Result (Option T) (Refused T)) → Inserts r → Step (λ p. p) (λ p. p) width s.0 (Insert q x) (inserted r) s2.0
     model_step width (Ok old) h =
         let only = left_only q x v v2 w w2 count count2 s is {E = Refused T} (Ok old) h.leaves s2 in
-        let nodes = nodes_set (contains_key s.0.entries q) (λ has. (h.stays has).2) (ap (λ (a : State T). a.nodes) only) in
+        let nodes = ap (λ (a : State T). a.nodes) only ∙ ap (λ has. cond has s.0.nodes (with_needed s.0.nodes q)) (sym h.absent) in
         inl (ap Value (before_left q x v v2 w w2 count count2 s is {E = Refused T} (Ok old) h.leaves), λ i. record { entries = (only i).entries; nodes = nodes i })
-    model_step width (Err e) h = inr (refused_new e h, e.cause, refl, left_only q x v v2 w w2 count count2 s is {E = Refused T} (Err e) h.leaves s2)
+    model_step width (Err e) h = inr (h.absent, e.cause, refl, left_only q x v v2 w w2 count count2 s is {E = Refused T} (Err e) h.leaves s2)
 
     leaves_storage : (r : Result (Option T) (Refused T)) → Inserts r →
         LeavesStorage (λ p. p) s.0 (Insert q x) (inserted r) s2.0 (storage_of v w z) (storage_of v2 w2 z2)
-    leaves_storage (Ok old) h = (λ has. stored_same (Ok old) (h.stays has), λ was new e. h.takes new, λ cause e. absurd (no_refusal old cause e))
+    leaves_storage (Ok old) h = (never (Ok old) h, λ was new e. h.takes, λ cause e. absurd (no_refusal old cause e))
     leaves_storage (Err refused) h = (
-      λ has. stored_same (Err refused) (h.stays has),
+      never (Err refused) h,
       λ was new e. absurd (no_refusal was refused.cause (sym e)),
-      λ cause e. subst (λ c. RefusesInStorage s.0 q c (storage_of v w z) (storage_of v2 w2 z2)) (same_cause refused.cause cause e) (h.takes (refused_new refused h)),
+      λ cause e. subst (λ c. RefusesInStorage s.0 q c (storage_of v w z) (storage_of v2 w2 z2)) (same_cause refused.cause cause e) h.takes,
     )
 
     range_given : (r : Result (Option T) (Refused T)) → Inserts r → ◌≡◌ {A = Reply (List Bool) T} (inserted r) (Reply.Refused IndexRange) →

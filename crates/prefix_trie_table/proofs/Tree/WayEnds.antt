@@ -1,12 +1,10 @@
 -- Where nodes stand by their paths, and the end of a way.
-use Rattle.prefix_trie_table.proofs.Prelude.{◌≡◌, ℕ, ◌+◌, ◌*◌, ◌/◌, ◌≤◌, Bool, true, List, [], ◌∷◌, ◌++◌, length, get_or, take, Option, Some, is_some, refl, sym, ap, ◌∙◌, subst, arith, Node, Seat, WayEnd, rank, node_at, node_sizes, path_of, child_slot, IsSlot, at_root, at_child, NodesHold, Holds, Deepest, EntryAdded, has_child, node_or_blank, slot_from, IsWayEnd, IsSeat, with_slot, Store, IsReached, take_more}
-use Rattle.std.proofs.lemmas.List.{take_all, length-take-le}
-use Rattle.prefix_trie_table.proofs.Insertion.Adding.{values_replaced}
+use Rattle.prefix_trie_table.proofs.Prelude.{◌≡◌, ℕ, ◌+◌, ◌*◌, ◌/◌, ◌≤◌, Bool, true, List, [], ◌∷◌, ◌++◌, length, get_or, take, Option, is_some, refl, sym, ap, ◌∙◌, subst, arith, Node, WayEnd, node_at, node_sizes, path_of, child_slot, IsSlot, at_root, at_child, NodesHold, Deepest, has_child, node_or_blank, slot_from, IsWayEnd, Store, IsReached, take_more}
+use Rattle.std.proofs.lemmas.List.{length-take-le}
 use Rattle.prefix_trie_table.proofs.Strings.Digits.{path-length}
 use Rattle.prefix_trie_table.proofs.Strings.Plain.{needs_node}
 use Rattle.prefix_trie_table.proofs.Lookup.Finding.{reached_end}
 use Rattle.prefix_trie_table.proofs.Lookup.Going.{step-inside, deepest_is}
-use Rattle.prefix_trie_table.proofs.Tree.Growing.{walked_start, entry_added}
 use Rattle.prefix_trie_table.proofs.Strings.Paths.{snoc_ind}
 use Rattle.prefix_trie_table.proofs.Tree.Trees.{reads, slot_holds, is_some-Some}
 
@@ -36,24 +34,6 @@ module _ (v : Store Node) (reading : List ℕ → Option Node) (paths : List (Li
   slot_only p slot (at_child q c n is bit) =
       let at = slot_holds node_sizes reading paths v hold q (slot_from v.slots 0 q) n (slot_stands q (ap is_some is)) is in
       ap (λ (k : Node). child_slot k c) (sym at.0) ∙ sym (slot_from-snoc v.slots 0 q c)
-
--- a value written over another, where it stands, sets the value of the string
-pub entry_replaced : {T : Type 0} (reading : List ℕ → Option Node) (values : List ℕ → ℕ → Option T) (paths : List (List ℕ)) (v : Store Node) (w u : Store (Option T)) →
-    Holds reading values paths v w → (path : List ℕ) (b : ℕ) (seat : Seat) → IsSeat reading path b seat → (x : T) →
-    u ≡ with_slot w (seat.start + seat.place) (Some x) → EntryAdded reading values paths path b (Some x) v u
-entry_replaced reading values paths v w u holds path b seat at x u_is =
-    let slot = slot_from v.slots 0 path in
-    let whole : take (length path) path ≡ path = take_all (length path) path (omega arith) in
-    let stands = slot_stands v reading paths holds.hold path (ap is_some at.is) in
-    let here = slot_holds node_sizes reading paths v holds.hold path slot at.node stands at.is in
-    let deep : Deepest reading path (length path) (slot_from v.slots 0 path) v = record {
-      node = at.node;
-      stands = subst (λ p. IsSlot reading p (slot_from v.slots 0 path)) (sym whole) stands;
-      is = ap reading whole ∙ at.is;
-    } in
-    entry_added reading values paths path (length path) slot b (Some x) v v w u (walked_start reading values paths path (length path) slot v w holds deep) refl
-    (λ nodes ps p n hold cells stands is. values_replaced v w u slot (rank at.node.value_bitmap b) b at.node x (sym here.0) refl at.set
-    (u_is ∙ ap (λ i. with_slot w i (Some x)) at.slot_is) nodes ps values p n hold cells stands is)
 
 module _ (v : Store Node) (reading : List ℕ → Option Node) (paths : List (List ℕ)) (hold : NodesHold node_sizes reading paths v) (b : List Bool) (len : ℕ) (end : WayEnd) where
   abbrev way : List ℕ

@@ -7,7 +7,7 @@ mod moving;
 mod removal;
 mod tiers;
 
-ghost use Rattle.std.specs.Prelude.{◌≡◌, ◌+◌, ◌*◌, ◌^◌, ◌<◌, ◌≤◌, ◌↔◌, [], ◌∷◌, List, length, take, All, map, None, IfOk, IsErr, IfErr, vec_len, slice_index_or, slice_set};
+ghost use Rattle.std.specs.Prelude.{◌≡◌, ◌+◌, ◌*◌, ◌^◌, ◌<◌, ◌≤◌, ◌↔◌, [], ◌∷◌, List, length, take, All, map, None, IfOk, IsErr, IfErr, slice_index_or, slice_set};
 ghost use Rattle.prefix_trie_table.specs.Store.{Store, UsedBlock, Sound, tier_at, tier_sizes, size_in, free_in, slots_made, no_blocks};
 ghost use Rattle.prefix_trie_table.specs.BlockCounts.{tier_count};
 ghost use Rattle.prefix_trie_table.specs.Cells.{blank_node, cell_sizes, node_sizes, HasSizes};
@@ -16,14 +16,15 @@ ghost use Rattle.prefix_trie_table.specs.Slots.{with_slot};
 ghost use Rattle.prefix_trie_table.specs.Lending.Blocks.{lends_slot};
 ghost use Rattle.prefix_trie_bits.specs.declared.prefix.Refusal.TheVariants.{IndexRange};
 
+use crate::allocator::array::SlotArray;
 use crate::allocator::block_count::BlockCount;
 use crate::allocator::free_list::{FreeList, clear_all};
 use crate::allocator::node::Node;
+use crate::allocator::node_array::NodeArray;
 use crate::allocator::slots::Slot;
 use prefix_trie_bits::prefix::Refusal;
 use std::alloc::{AllocError, Allocator};
-use std::marker::Model;
-use std::mem;
+use std::marker::{Model, PhantomData};
 
 /// Where a block stands: the number of its size among the array's sizes, ascending from 0, and its first slot.
 #[derive(Clone, Copy)]
@@ -42,27 +43,28 @@ pub struct BlockRef {
 /// let (value, rest) = cells.remove_at(at.tier, at.start, 1, 0);
 /// ```
 #[derive(Drop)]
-pub struct Blocks<S: Slot, A: Allocator> {
-    slots: Vec<S, A>,
+pub struct Blocks<S: Slot, R: SlotArray<S>, A: Allocator> {
+    slots: R,
     first: u32,
     lists: Vec<FreeList<A>, A>,
     limit: u32,
+    of: PhantomData<S>,
 }
 
 // Clauses see the array, the place where its first block starts, its tiers and its limit.
-impl<S: Slot, A: Allocator> Model for Blocks<S, A> {
-    ghost use Rattle.std.specs.Prelude.{◌≡◌, ◌+◌, ◌≤◌, ◌<◌, length, All, vec_len};
+impl<S: Slot, R: SlotArray<S>, A: Allocator> Model for Blocks<S, R, A> {
+    ghost use Rattle.std.specs.Prelude.{◌≡◌, ◌+◌, ◌≤◌, ◌<◌, length, All};
     ghost use Rattle.prefix_trie_table.specs.Store.{Store, slots_made};
     ghost use Rattle.prefix_trie_table.specs.Cells.{HasSizes};
 
     ghost Value = { Store S };
 
-    ghost view = { λ a. record { slots = a.slots.items; first = a.first; tiers = a.lists.items; limit = a.limit } };
+    ghost view = { λ a. record { slots = R.list a.slots; first = a.first; tiers = a.lists.items; limit = a.limit } };
 
-    ghost invariant = { λ a. (vec_len a.slots ≤ a.limit) × (a.first + slots_made a.lists.items ≡ vec_len a.slots) × HasSizes a.lists.items };
+    ghost invariant = { λ a. (length (R.list a.slots) ≤ a.limit) × (a.first + slots_made a.lists.items ≡ length (R.list a.slots)) × HasSizes a.lists.items };
 }
 
-impl<S: Slot, A: Allocator> Blocks<S, A> {
+impl<S: Slot, R: SlotArray<S>, A: Allocator> Blocks<S, R, A> {
     /// The number of slots: those before the first block, and of each size the blocks that were made, used or free.
     /// Never more than the limit, which is below 2^32.
     #[inline]
@@ -74,7 +76,7 @@ impl<S: Slot, A: Allocator> Blocks<S, A> {
     {
         // Read for the proof alone: it is below 2^32.
         let _limit = self.limit;
-        self.slots.len()
+        self.slots.count()
     }
 
     /// How many slots a block of tier `k` has.
@@ -120,6 +122,57 @@ impl<S: Slot, A: Allocator> Blocks<S, A> {
         self.lists[k].count()
     }
 
+    /// Writes over the value in a slot, of a block in use or before the first block, and hands out what stood there.
+    #[inline]
+    pub fn put(&mut self, start: u32, place: u32, value: S) -> S
+        requires { start + place < length self.old.slots }
+        ensures slots { self.new ≡ record self.old { slots = slice_set self.old.slots (start + place) value } }
+        ensures value { result ≡ slice_index_or self.old.slots (start + place) result }
+        ensures sound { (b : UsedBlock S) (live : List (UsedBlock S)) → Sound S.vacant (b ∷ live) self.old
+            → b.start ≡ start → place < length b.items
+            → Sound S.vacant (record b { items = slice_set b.items place value } ∷ live) self.new }
+        ensures before { (live : List (UsedBlock S)) → start + place < self.old.first
+            → Sound S.vacant live self.old → Sound S.vacant live self.new }
+    {
+        self.slots.put(start as usize + place as usize, value)
+    }
+
+    /// Takes all blocks out of the array, and lets the values in them go. What stands before the first block stays.
+    /// It asks for no memory.
+    pub fn clear(&mut self)
+        ensures value { self.new ≡ record self.old {
+          slots = take self.old.first self.old.slots;
+          tiers = map (λ t. no_blocks t.size) self.old.tiers;
+        } }
+        ensures sound { Sound S.vacant [] self.new }
+    {
+        self.slots.cut(self.first as usize);
+        clear_all(&mut self.lists);
+    }
+
+    /// An array whose slots all stand outside every block, with a list for each size, of which no block is made.
+    fn new(slots: R, lists: Vec<FreeList<A>, A>, limit: u32) -> Self
+        requires within { length (R.list slots) ≤ limit }
+        requires sizes { HasSizes lists.items }
+        requires none_made { All (λ t. (t.made ≡ 0) × (t.starts ≡ [])) lists.items }
+        ensures value { result ≡ record { slots = R.list slots; first = length (R.list slots); tiers = lists.items; limit = limit } }
+        ensures sound { Sound S.vacant [] result }
+    {
+        let first = slots.count() as u32;
+        Blocks {
+            slots,
+            first,
+            lists,
+            limit,
+            of: PhantomData,
+        }
+    }
+}
+
+/// The array of values.
+pub type Cells<T, A> = Blocks<Option<T>, Vec<Option<T>, A>, A>;
+
+impl<S: Slot, A: Allocator> Blocks<S, Vec<S, A>, A> {
     /// The value in a slot: of the block that starts at `start`, the one at `place`.
     #[inline]
     pub fn at(&self, start: u32, place: u32) -> &S
@@ -144,50 +197,35 @@ impl<S: Slot, A: Allocator> Blocks<S, A> {
     {
         &mut self.slots[start as usize + place as usize]
     }
+}
 
-    /// Writes over the value in a slot, of a block in use or before the first block, and hands out what stood there.
+impl<A: Allocator> Blocks<Node, NodeArray<A>, A> {
+    ghost use Rattle.prefix_trie_table.specs.Cells.{node_at};
+
+    /// The node in a slot: of the block that starts at `start`, the one at `place`.
     #[inline]
-    pub fn put(&mut self, start: u32, place: u32, value: S) -> S
-        requires { start + place < length self.old.slots }
-        ensures slots { self.new ≡ record self.old { slots = slice_set self.old.slots (start + place) value } }
-        ensures value { result ≡ slice_index_or self.old.slots (start + place) result }
-        ensures sound { (b : UsedBlock S) (live : List (UsedBlock S)) → Sound S.vacant (b ∷ live) self.old
-            → b.start ≡ start → place < length b.items
-            → Sound S.vacant (record b { items = slice_set b.items place value } ∷ live) self.new }
-        ensures before { (live : List (UsedBlock S)) → start + place < self.old.first
-            → Sound S.vacant live self.old → Sound S.vacant live self.new }
+    pub(super) fn node(&self, start: u32, place: u32) -> Node
+        requires { start + place < length self.now.slots }
+        ensures { result ≡ node_at self.now.slots (start + place) }
     {
-        mem::replace(&mut self.slots[start as usize + place as usize], value)
+        self.slots.get(start as usize + place as usize)
     }
+}
 
-    /// Takes all blocks out of the array, and lets the values in them go. What stands before the first block stays.
-    /// It asks for no memory.
-    pub fn clear(&mut self)
-        ensures value { self.new ≡ record self.old {
-          slots = take self.old.first self.old.slots;
-          tiers = map (λ t. no_blocks t.size) self.old.tiers;
-        } }
-        ensures sound { Sound S.vacant [] self.new }
+impl<A: Allocator + Clone> Blocks<Node, NodeArray<A>, A> {
+    /// An array with the same nodes and blocks, in memory of its own. Refused only for memory.
+    pub(super) fn clone_nodes(&self) -> Result<Self, AllocError>
+        ensures { IfOk result (λ copy. copy ≡ self.now) }
     {
-        self.slots.truncate(self.first as usize);
-        clear_all(&mut self.lists);
-    }
-
-    /// An array whose slots all stand outside every block, with a list for each size, of which no block is made.
-    fn new(slots: Vec<S, A>, lists: Vec<FreeList<A>, A>, limit: u32) -> Self
-        requires within { vec_len slots ≤ limit }
-        requires sizes { HasSizes lists.items }
-        requires none_made { All (λ t. (t.made ≡ 0) × (t.starts ≡ [])) lists.items }
-        ensures value { result ≡ record { slots = slots.items; first = vec_len slots; tiers = lists.items; limit = limit } }
-        ensures sound { Sound S.vacant [] result }
-    {
-        let first = slots.len() as u32;
-        Blocks {
+        let lists = Vec::from_clones(self.lists.allocator().clone()?, &self.lists)?;
+        let slots = self.slots.clone()?;
+        Ok(Blocks {
             slots,
-            first,
+            first: self.first,
             lists,
-            limit,
-        }
+            limit: self.limit,
+            of: PhantomData,
+        })
     }
 }
 
@@ -212,7 +250,7 @@ const CELL_SIZES: [u32; 7] = [1, 2, 4, 8, 16, 24, 31];
 pub fn cells<T: Drop, A: Allocator + Clone>(
     alloc: &A,
     limit: u32,
-) -> Result<Blocks<Option<T>, A>, AllocError>
+) -> Result<Cells<T, A>, AllocError>
     ensures empty { IfOk result
         (λ b. b ≡ record { slots = []; first = 0; tiers = map no_blocks cell_sizes; limit = limit }) }
     ensures sound { IfOk result (λ b. Sound None [] b) }
@@ -229,7 +267,7 @@ const NODE_SIZES: [u32; 7] = [1, 2, 4, 8, 16, 24, 32];
 pub(super) fn node_blocks<A: Allocator + Clone>(
     alloc: &A,
     limit: u32,
-) -> Result<Blocks<Node, A>, Refusal>
+) -> Result<Blocks<Node, NodeArray<A>, A>, Refusal>
     ensures empty { IfOk result
         (λ b. b ≡ record { slots = blank_node ∷ []; first = 1; tiers = map no_blocks node_sizes; limit = limit }) }
     ensures sound { IfOk result (λ b. Sound blank_node [] b) }
@@ -243,14 +281,18 @@ pub(super) fn node_blocks<A: Allocator + Clone>(
 }
 
 /// The same under a limit that has room for the root.
-fn node_array<A: Allocator + Clone>(alloc: &A, limit: u32) -> Result<Blocks<Node, A>, AllocError>
+fn node_array<A: Allocator + Clone>(
+    alloc: &A,
+    limit: u32,
+) -> Result<Blocks<Node, NodeArray<A>, A>, AllocError>
     requires { 0 < limit }
     ensures empty { IfOk result
         (λ b. b ≡ record { slots = blank_node ∷ []; first = 1; tiers = map no_blocks node_sizes; limit = limit }) }
     ensures sound { IfOk result (λ b. Sound blank_node [] b) }
 {
     let lists = empty_lists(alloc, &NODE_SIZES)?;
-    let mut slots = Vec::new(alloc.clone()?);
-    slots.push(Node::blank())?;
+    let mut slots = NodeArray::new(alloc)?;
+    slots.make_room(1)?;
+    slots.append(Node::blank());
     Ok(Blocks::new(slots, lists, limit))
 }

@@ -13,6 +13,7 @@ ghost use Rattle.prefix_trie_bits.specs.declared.prefix.Refusal.TheVariants.{Mem
 use crate::allocator::block_count::BlockCount;
 use crate::allocator::blocks::{BlockRef, Blocks, node_blocks};
 use crate::allocator::node::{Node, NodeSlot};
+use crate::allocator::node_array::NodeArray;
 use prefix_trie_bits::prefix::Refusal;
 use std::alloc::{AllocError, Allocator};
 use std::marker::{Model, PhantomData};
@@ -31,7 +32,7 @@ pub trait Tick: Sized + Drop {
 /// `visit` is the only way to read a node, and counts it, and `put` and the changes of a block are the only ways to write one.
 #[derive(Drop)]
 pub struct NodeAllocator<A: Allocator, V: Drop> {
-    blocks: Blocks<Node, A>,
+    blocks: Blocks<Node, NodeArray<A>, A>,
     counter: PhantomData<V>,
 }
 
@@ -77,7 +78,7 @@ impl<A: Allocator + Clone, V: Drop> NodeAllocator<A, V> {
         ensures same { IfOk result (λ copy. copy ≡ self.now) }
     {
         Ok(NodeAllocator {
-            blocks: self.blocks.clone()?,
+            blocks: self.blocks.clone_nodes()?,
             counter: PhantomData,
         })
     }
@@ -94,7 +95,7 @@ impl<A: Allocator, V: Tick> NodeAllocator<A, V> {
         ensures one_more { V.count counter.new ≡ V.count counter.old + 1 }
     {
         counter.tick();
-        *self.blocks.at(at.start, at.place)
+        self.blocks.node(at.start, at.place)
     }
 }
 

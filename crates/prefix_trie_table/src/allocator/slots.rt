@@ -2,8 +2,8 @@
 ghost use Rattle.std.specs.Prelude.{◌≡◌, ℕ, ◌+◌, ◌<◌, ◌≤◌, ◌⊎◌, ◌++◌, length, replicate, insert, remove, vec_len, vec_capacity, slice_index_or, OnOk, OnErr, IsOk};
 ghost use Rattle.prefix_trie_table.specs.Runs.{run, put_run, swap_runs};
 
+use crate::allocator::array::SlotArray;
 use std::alloc::{AllocError, Allocator};
-use std::mem;
 
 /// What can stand in a slot of an array of blocks, with a value for a slot that is not used.
 pub trait Slot: Drop {
@@ -68,85 +68,90 @@ fn grow<S, A: Allocator>(items: &mut Vec<S, A>, count: usize) -> Result<(), Allo
 }
 
 /// Appends unused places, for which there is room.
-pub(super) fn push_vacant<S: Slot, A: Allocator>(slots: &mut Vec<S, A>, count: u32)
-    requires { vec_len slots.old + count ≤ vec_capacity slots.old }
-    ensures { slots.new.items ≡ slots.old.items ++ replicate count S.vacant }
+pub(super) fn push_vacant<S: Slot, R: SlotArray<S>>(slots: &mut R, count: u32)
+    requires { length (R.list slots.old) + count ≤ R.room slots.old }
+    ensures { R.list slots.new ≡ R.list slots.old ++ replicate count S.vacant }
 {
     for _i in 0..count {
-        slots.push_reserved(S::vacant());
+        slots.append(S::vacant());
     }
 }
 
 /// Puts `value` at `from`, moves what stood from there to before `to` one place on, and lets what stood at `to` go.
-pub(super) fn shift_in<S: Slot, A: Allocator>(
-    slots: &mut Vec<S, A>,
-    from: usize,
-    to: usize,
-    value: S,
-)
+pub(super) fn shift_in<S: Slot, R: SlotArray<S>>(slots: &mut R, from: usize, to: usize, value: S)
     requires in_order { from ≤ to }
-    requires within { to < vec_len slots.old }
-    ensures items { slots.new.items ≡ insert (remove slots.old.items to) from value }
-    ensures len { vec_len slots.new ≡ vec_len slots.old }
+    requires within { to < length (R.list slots.old) }
+    ensures items { R.list slots.new ≡ insert (remove (R.list slots.old) to) from value }
+    ensures len { length (R.list slots.new) ≡ length (R.list slots.old) }
 {
-    let mut carried = mem::replace(&mut slots[from], value);
+    let mut carried = slots.put(from, value);
     for i in from..to {
-        carried = mem::replace(&mut slots[i + 1], carried);
+        carried = slots.put(i + 1, carried);
     }
 }
 
 /// Takes the value at `from`, moves what stood from there to `to` one place back, and leaves the place `to` unused.
-pub(super) fn shift_out<S: Slot, A: Allocator>(slots: &mut Vec<S, A>, from: usize, to: usize) -> S
+pub(super) fn shift_out<S: Slot, R: SlotArray<S>>(slots: &mut R, from: usize, to: usize) -> S
     requires in_order { from ≤ to }
-    requires within { to < vec_len slots.old }
-    ensures value { result ≡ slice_index_or slots.old.items from result }
-    ensures items { slots.new.items ≡ insert (remove slots.old.items from) to S.vacant }
-    ensures len { vec_len slots.new ≡ vec_len slots.old }
+    requires within { to < length (R.list slots.old) }
+    ensures value { result ≡ slice_index_or (R.list slots.old) from result }
+    ensures items { R.list slots.new ≡ insert (remove (R.list slots.old) from) to S.vacant }
+    ensures len { length (R.list slots.new) ≡ length (R.list slots.old) }
 {
-    let value = mem::replace(&mut slots[from], S::vacant());
-    slots[from..to + 1].rotate_left(1);
+    let value = slots.put(from, S::vacant());
+    for i in from..to {
+        slots.exchange(i, i + 1);
+    }
     value
 }
 
 /// Exchanges two runs of `count` places.
-pub(super) fn exchange<S, A: Allocator>(slots: &mut Vec<S, A>, a: usize, b: usize, count: usize)
-    requires a_within { a + count ≤ vec_len slots.old }
-    requires b_within { b + count ≤ vec_len slots.old }
-    ensures items { slots.new.items ≡ swap_runs slots.old.items a b count }
-    ensures len { vec_len slots.new ≡ vec_len slots.old }
+pub(super) fn exchange<S: Slot, R: SlotArray<S>>(slots: &mut R, a: usize, b: usize, count: usize)
+    requires a_within { a + count ≤ length (R.list slots.old) }
+    requires b_within { b + count ≤ length (R.list slots.old) }
+    ensures items { R.list slots.new ≡ swap_runs (R.list slots.old) a b count }
+    ensures len { length (R.list slots.new) ≡ length (R.list slots.old) }
 {
+    // Read for the proof alone: the length is a number of the machine.
+    let _count = slots.count();
     for i in 0..count {
-        slots.swap(a + i, b + i);
+        slots.exchange(a + i, b + i);
     }
 }
 
 /// Moves `count` values to unused places, with one more among them at `place`, and leaves theirs unused.
-pub(super) fn move_in<S: Slot, A: Allocator>(
-    slots: &mut Vec<S, A>,
+pub(super) fn move_in<S: Slot, R: SlotArray<S>>(
+    slots: &mut R,
     from: usize,
     to: usize,
     count: usize,
     place: usize,
     value: S,
 )
-    requires from_within { from + count ≤ vec_len slots.old }
-    requires to_within { to + count < vec_len slots.old }
+    requires from_within { from + count ≤ length (R.list slots.old) }
+    requires to_within { to + count < length (R.list slots.old) }
     requires apart { (from + count ≤ to) ⊎ (to + count < from) }
-    requires unused { run slots.old.items to (count + 1) ≡ replicate (count + 1) S.vacant }
+    requires unused { run (R.list slots.old) to (count + 1) ≡ replicate (count + 1) S.vacant }
     requires place { place ≤ count }
-    ensures items { slots.new.items ≡ put_run (put_run slots.old.items from (replicate count S.vacant)) to (insert (run slots.old.items from count) place value) }
-    ensures len { vec_len slots.new ≡ vec_len slots.old }
+    ensures items { R.list slots.new ≡ put_run (put_run (R.list slots.old) from (replicate count S.vacant)) to (insert (run (R.list slots.old) from count) place value) }
+    ensures len { length (R.list slots.new) ≡ length (R.list slots.old) }
 {
+    // Read for the proof alone.
+    let _count = slots.count();
     exchange(slots, from, to, place);
-    slots[to + place] = value;
+    slots.put(to + place, value);
     exchange(slots, from + place, to + place + 1, count - place);
 }
 
 /// Writes items over as many places from `from` on.
-pub(super) fn write_run<S: Copy, A: Allocator>(slots: &mut Vec<S, A>, from: usize, items: &[S])
-    requires within { from + length items.now ≤ vec_len slots.old }
-    ensures written { slots.new.items ≡ put_run slots.old.items from items.now }
-    ensures len { vec_len slots.new ≡ vec_len slots.old }
+pub(super) fn write_run<S: Slot + Copy, R: SlotArray<S>>(slots: &mut R, from: usize, items: &[S])
+    requires within { from + length items.now ≤ length (R.list slots.old) }
+    ensures written { R.list slots.new ≡ put_run (R.list slots.old) from items.now }
+    ensures len { length (R.list slots.new) ≡ length (R.list slots.old) }
 {
-    slots[from..from + items.len()].copy_from_slice(items);
+    // Read for the proof alone.
+    let _count = slots.count();
+    for i in 0..items.len() {
+        slots.put(from + i, items[i]);
+    }
 }

@@ -14,7 +14,7 @@ ghost use Rattle.prefix_trie_table.specs.Matching.{IsOnWay};
 ghost use Rattle.prefix_trie_table.specs.Store.{Store};
 ghost use Rattle.prefix_trie_table.specs.Tables.{IsReached};
 
-use crate::allocator::blocks::Blocks;
+use crate::allocator::blocks::Cells;
 use crate::allocator::node::{Node, NodeSlot};
 use crate::allocator::nodes::{NodeAllocator, Tick};
 use crate::table::Table;
@@ -216,10 +216,7 @@ fn answer_each<P: Prefix, A: Allocator, V: Tick>(
 
 /// The value of a match, behind the length of its string.
 #[inline(always)]
-fn value_at<'a, T: Drop, A: Allocator>(
-    cells: &'a Blocks<Option<T>, A>,
-    found: Found,
-) -> Option<(u32, &'a T)>
+fn value_at<'a, T: Drop, A: Allocator>(cells: &'a Cells<T, A>, found: Found) -> Option<(u32, &'a T)>
     requires stands { found.seat.start + found.seat.place < length cells.now.slots }
     ensures { MatchOption result
         (slice_index_or cells.now.slots (found.seat.start + found.seat.place) None ≡ None)

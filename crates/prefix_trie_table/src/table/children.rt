@@ -9,7 +9,7 @@ ghost use Rattle.prefix_trie_table.specs.Forest.{read};
 ghost use Rattle.prefix_trie_table.specs.Tables.{IsReached, IsTrie};
 ghost use Rattle.prefix_trie_table.specs.Retaining.{AsksUpTo, SaysNo, MayAskBelow, TakesBelow, Lasts};
 
-use crate::allocator::blocks::Blocks;
+use crate::allocator::blocks::Cells;
 use crate::allocator::node::{Node, NodeSlot};
 use crate::allocator::nodes::{NodeAllocator, Tick};
 use crate::table::removal::{descend_keeping_way, prune_up};
@@ -41,7 +41,7 @@ impl<K: Key, T: Drop, V: Tick> Keep<K, T, V> for KeepNothing {
 /// Answers what the node is then.
 fn empty_part<K: Key, T: Drop, A: Allocator, V: Tick, F: Keep<K, T, V>>(
     nodes: &mut NodeAllocator<A, V>,
-    cells: &mut Blocks<Option<T>, A>,
+    cells: &mut Cells<T, A>,
     entries: &mut usize,
     keep: &mut F,
     key: K,
@@ -80,7 +80,7 @@ fn empty_part<K: Key, T: Drop, A: Allocator, V: Tick, F: Keep<K, T, V>>(
 /// no at each.
 pub fn remove_part<K: Key, T: Drop, A: Allocator, V: Tick, F: Keep<K, T, V>>(
     nodes: &mut NodeAllocator<A, V>,
-    cells: &mut Blocks<Option<T>, A>,
+    cells: &mut Cells<T, A>,
     entries: &mut usize,
     keep: &mut F,
     key: K,

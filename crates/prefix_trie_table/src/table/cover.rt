@@ -7,7 +7,7 @@ ghost use Rattle.prefix_trie_table.specs.Matching.{LackLastBit};
 ghost use Rattle.prefix_trie_table.specs.Shape.{Shaped, Shaped-prop};
 ghost use Rattle.prefix_trie_table.specs.Walking.Covers.{AreLeft, IsCovering, GoesOn, TakesShortest};
 
-use crate::allocator::blocks::Blocks;
+use crate::allocator::blocks::Cells;
 use crate::allocator::nodes::{NodeAllocator, Tick};
 use crate::table::Table;
 use crate::table::lookup::{Reached, root, step_down};
@@ -22,7 +22,7 @@ use std::marker::Model;
 #[derive(Drop)]
 pub struct Cover<'a, K: Key, T: Drop, A: Allocator, V: Tick> {
     nodes: &'a NodeAllocator<A, V>,
-    cells: &'a Blocks<Option<T>, A>,
+    cells: &'a Cells<T, A>,
     key: K,
     len: u32,
     here: Reached,

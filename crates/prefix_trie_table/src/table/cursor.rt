@@ -1,24 +1,22 @@
 //! Walks that start at a bit string: one way down, which lays the stack of each of them.
-ghost use Rattle.std.specs.Prelude.{◌≡◌, ◌+◌, ◌<◌, ◌≤◌, List, Bool, length, take, drop, false, All};
+ghost use Rattle.std.specs.Prelude.{◌≡◌, ◌+◌, ◌<◌, ◌≤◌, List, Bool, length, take, drop};
 ghost use Rattle.std.specs.FinMap.{len as size};
 ghost use Rattle.prefix_trie_bits.specs.Bits.{number};
 ghost use Rattle.prefix_trie_bits.specs.Places.{HoldsPlaces};
-ghost use Rattle.prefix_trie_bits.specs.Walks.{to_come};
 ghost use Rattle.prefix_trie_bits.specs.Model.Step.{State};
-ghost use Rattle.prefix_trie_table.specs.Bitmaps.{has_bit as is_set};
 ghost use Rattle.prefix_trie_table.specs.Shape.{IsShapeOf};
 ghost use Rattle.prefix_trie_table.specs.Tables.{IsTrie};
-ghost use Rattle.prefix_trie_table.specs.Walking.Walks.{Tree, ArePassed, IsStack, IsPlaceOf, pending};
-ghost use Rattle.prefix_trie_table.specs.Walking.Cursors.{selected, behind, kept, places_in};
+ghost use Rattle.prefix_trie_table.specs.Walking.Walks.{Tree, ArePassed, IsStack, pending};
+ghost use Rattle.prefix_trie_table.specs.Walking.Cursors.{selected, behind, kept};
 
-use crate::allocator::blocks::Blocks;
-use crate::allocator::node::{Node, NodeSlot};
+use crate::allocator::blocks::Cells;
+use crate::allocator::node::NodeSlot;
 use crate::allocator::nodes::{NodeAllocator, Tick};
-use crate::table::spot::Spot;
+use crate::table::spot::{Spot, spot_in};
 use crate::table::walk::Walk;
 use arrayvec::ArrayVec;
 use prefix_trie_bits::node::{
-    Places, behind_child, child_bit_of, child_cover_mask, from_value, has_bit, value_bit_of,
+    behind_child, child_bit_of, child_cover_mask, from_value, has_bit, value_bit_of,
     value_cover_mask, without_bit,
 };
 use prefix_trie_bits::prefix::Key;
@@ -38,7 +36,7 @@ pub enum Start {
 /// The walk of a selection of the entries that the arrays hold. Each node on the way of the bit string is read once.
 pub fn walk_at<'a, K: Key, T: Drop, A: Allocator, V: Tick>(
     nodes: &'a NodeAllocator<A, V>,
-    cells: &'a Blocks<Option<T>, A>,
+    cells: &'a Cells<T, A>,
     key: K,
     len: u32,
     from: Start,
@@ -85,23 +83,6 @@ pub(super) fn start_at<K: Key, T: Drop, A: Allocator, V: Tick>(
     }
     stack.push(spot_in(node, depth, places_kept(from, key, depth, len)));
     stack
-}
-
-/// The places of a node that are in these masks.
-#[inline]
-fn spot_in(node: Node, depth: u32, chosen: (u32, u32)) -> Spot
-    requires few { is_set node.value_bitmap 31 ≡ false }
-    ensures node { result.node ≡ node }
-    ensures depth { result.depth ≡ depth }
-    ensures places { to_come result.places ≡ places_in node chosen.0 chosen.1 }
-    ensures each { All (IsPlaceOf node) (to_come result.places) }
-{
-    let places = Places::new(node.value_bitmap & chosen.0, node.child_bitmap & chosen.1);
-    Spot {
-        node,
-        depth,
-        places,
-    }
 }
 
 /// Masks of what is selected at a node that is passed, but for what is below the child that is taken.

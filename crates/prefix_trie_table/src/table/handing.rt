@@ -10,7 +10,7 @@ ghost use Rattle.prefix_trie_table.specs.HandingOut.Laying.{CanLay};
 ghost use Rattle.prefix_trie_table.specs.HandingOut.Skeleton.{IsSecond};
 ghost use Rattle.prefix_trie_table.specs.Tables.{IsTrie};
 
-use crate::allocator::blocks::{self, Blocks};
+use crate::allocator::blocks::{self, Cells};
 use crate::allocator::node::{Node, NodeSlot};
 use crate::allocator::nodes::{NodeAllocator, Tick};
 use crate::table::removal::is_bare;
@@ -51,7 +51,7 @@ fn lay_node<K: Key, T: Drop, A: Allocator, V: Tick>(
     depth: u32,
     levels: u32,
     nodes: &mut NodeAllocator<A, V>,
-    cells: &mut Blocks<Option<T>, A>,
+    cells: &mut Cells<T, A>,
     counter: &mut V,
 ) -> Result<Option<Node>, Refusal>
     requires key { K.IsKey key }
@@ -102,11 +102,11 @@ fn lay_node<K: Key, T: Drop, A: Allocator, V: Tick>(
 /// those that the same nodes have here.
 pub(super) fn lay_part<K: Key, T: Drop, A: Allocator + Clone, V: Tick>(
     nodes: &NodeAllocator<A, V>,
-    cells: &Blocks<Option<T>, A>,
+    cells: &Cells<T, A>,
     key: K,
     len: u32,
     counter: &mut V,
-) -> Result<(NodeAllocator<A, V>, Blocks<Option<T>, A>), Refusal>
+) -> Result<(NodeAllocator<A, V>, Cells<T, A>), Refusal>
     requires key { K.IsKey key }
     requires within { len ≤ K.bit_width }
     requires trie { (s : State T) × (count : ℕ) × IsTrie K.bit_width count nodes.now cells.now s }

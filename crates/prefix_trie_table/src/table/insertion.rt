@@ -12,7 +12,7 @@ ghost use Rattle.prefix_trie_table.specs.Tables.{GrowsBoth, ForHeld, own_value, 
 ghost use Rattle.prefix_trie_table.specs.Asked.{nodes_needed, cells_needed, HasRoom, AtDeepest, ObtainsBoth};
 ghost use Rattle.prefix_trie_bits.specs.declared.prefix.Refusal.TheVariants.{Memory, IndexRange};
 
-use crate::allocator::blocks::Blocks;
+use crate::allocator::blocks::Cells;
 use crate::allocator::node::{Node, NodeSlot};
 use crate::allocator::nodes::{NodeAllocator, Tick};
 use crate::table::lookup::{Reached, locate_in};
@@ -70,7 +70,7 @@ fn add_child<A: Allocator, V: Tick>(
 #[inline(always)]
 fn add_value<T: Drop, A: Allocator, V: Tick>(
     nodes: &mut NodeAllocator<A, V>,
-    cells: &mut Blocks<Option<T>, A>,
+    cells: &mut Cells<T, A>,
     at: NodeSlot,
     node: &Node,
     bit: u32,
@@ -122,7 +122,7 @@ fn add_value<T: Drop, A: Allocator, V: Tick>(
 #[inline(always)]
 pub fn prepare<T: Drop, A: Allocator, V: Tick>(
     nodes: &mut NodeAllocator<A, V>,
-    cells: &mut Blocks<Option<T>, A>,
+    cells: &mut Cells<T, A>,
     reached: &Reached,
     len: u32,
 ) -> Result<(), Refusal>
@@ -155,7 +155,7 @@ pub fn prepare<T: Drop, A: Allocator, V: Tick>(
 #[inline(always)]
 fn add_entry<K: Key, T: Drop, A: Allocator, V: Tick>(
     nodes: &mut NodeAllocator<A, V>,
-    cells: &mut Blocks<Option<T>, A>,
+    cells: &mut Cells<T, A>,
     reached: &Reached,
     key: K,
     len: u32,
@@ -192,7 +192,7 @@ fn add_entry<K: Key, T: Drop, A: Allocator, V: Tick>(
 #[inline(always)]
 pub fn place_entry<K: Key, T: Drop, A: Allocator, V: Tick>(
     nodes: &mut NodeAllocator<A, V>,
-    cells: &mut Blocks<Option<T>, A>,
+    cells: &mut Cells<T, A>,
     entries: &mut usize,
     end: WayEnd,
     key: K,
@@ -225,47 +225,4 @@ pub fn place_entry<K: Key, T: Drop, A: Allocator, V: Tick>(
     prove!(*entries < slots);
     *entries += 1;
     Ok(seat)
-}
-
-/// Sets the value at a bit string, adds the nodes of its way that are missing, and counts a new value. On a refusal nothing is
-/// added.
-#[inline(always)]
-pub fn insert_entry<K: Key, T: Drop, A: Allocator, V: Tick>(
-    nodes: &mut NodeAllocator<A, V>,
-    cells: &mut Blocks<Option<T>, A>,
-    entries: &mut usize,
-    key: K,
-    len: u32,
-    value: T,
-    counter: &mut V,
-) -> Result<Option<T>, Refused<T>>
-    requires key { K.IsKey key }
-    requires within { len ≤ K.bit_width }
-    requires table { (t : SomeTable nodes.old cells.old)
-        × (entries.old ≡ entry_count t.reading t.paths) }
-    ensures inserted { ForHeld nodes.old cells.old (λ reading paths values. MatchResult result
-        (λ before. (before ≡ own_value values (K.bits key) len)
-        × EntrySet reading paths values (K.bits key) len value nodes.new cells.new)
-        (λ _. Holds reading values paths nodes.new cells.new)) }
-    ensures counted { MatchResult result (λ before. entries.new + one_if (is_some before) ≡ entries.old + 1) (λ _. entries.new ≡ entries.old) }
-    ensures grows { GrowsBoth (λ refused. refused.cause ≡ IndexRange) result nodes.old nodes.new cells.old cells.new }
-    ensures asked { ForHeld nodes.old cells.old (λ reading paths values.
-        own_value values (K.bits key) len ≡ None
-        → AtDeepest reading (K.bits key) len (λ node level.
-        ObtainsBoth (λ refused. refused.cause ≡ IndexRange) (λ refused. refused.cause ≡ Memory)
-        result nodes.old nodes.new cells.old cells.new
-        (nodes_needed node level len) (cells_needed node level len))) }
-    ensures returned { IfErr result (λ refused. refused.value ≡ value) }
-    ensures stored { ForHeld nodes.old cells.old (λ reading paths values.
-        is_some (own_value values (K.bits key) len) ≡ true
-        → IsOk result × SameRoom cells.old cells.new × (nodes.new ≡ nodes.old)
-        × (cells.new.tiers ≡ cells.old.tiers)) }
-{
-    match locate_in(nodes, key, len, counter) {
-        Location::Stored(seat) => Ok(cells.put(seat.start, seat.place, Some(value))),
-        Location::Missing(end) => {
-            place_entry(nodes, cells, entries, end, key, len, value)?;
-            Ok(None)
-        }
-    }
 }

@@ -9,12 +9,11 @@ ghost use Rattle.prefix_trie_table.specs.Matching.{SeatAt};
 ghost use Rattle.prefix_trie_table.specs.Slots.{HasValue};
 ghost use Rattle.prefix_trie_table.specs.Lending.Blocks.{lends_held, lends_cell, lends_cell_if};
 
-use crate::allocator::blocks::Blocks;
+use crate::allocator::blocks::Cells;
 use crate::allocator::nodes::Tick;
 use crate::table::Table;
-use crate::table::lookup::find_seat;
 use crate::table::matching::{Match, longest_on_way};
-use crate::table::seat::Seat;
+use crate::table::seat::{Location, Seat};
 use prefix_trie_bits::prefix::Key;
 use std::alloc::Allocator;
 
@@ -31,9 +30,11 @@ fn held<T>(cell: &mut Option<T>) -> &mut T
     }
 }
 
-/// The value at a seat. All writing of single values goes through this call.
+/// The value at a seat. Each call that changes a stored value in its place goes through this one.
+// What comes to a table or leaves it does not: an insertion or a removal shifts a list of cells, and a value that moves to another
+// owner fills a vacant cell or leaves one.
 #[inline]
-pub fn lend<T: Drop, A: Allocator>(cells: &mut Blocks<Option<T>, A>, seat: Seat) -> &mut T
+pub fn lend<T: Drop, A: Allocator>(cells: &mut Cells<T, A>, seat: Seat) -> &mut T
     requires { HasValue cells.old seat }
     ensures* writes_back { sem 𝓛 (lends_cell T.row A.row A.Allocator cells.entry seat result) }
     ensures value { slice_index_or cells.old.slots (seat.start + seat.place) None ≡ Some result.now }
@@ -43,10 +44,7 @@ pub fn lend<T: Drop, A: Allocator>(cells: &mut Blocks<Option<T>, A>, seat: Seat)
 
 /// The value at a seat that may be missing.
 #[inline]
-fn lend_if<T: Drop, A: Allocator>(
-    cells: &mut Blocks<Option<T>, A>,
-    seat: Option<Seat>,
-) -> Option<&mut T>
+fn lend_if<T: Drop, A: Allocator>(cells: &mut Cells<T, A>, seat: Option<Seat>) -> Option<&mut T>
     requires { IfSome seat (λ s. HasValue cells.old s) }
     ensures* writes_back { sem 𝓛 (lends_cell_if T.row A.row A.Allocator cells.entry seat result) }
     ensures value { MatchOption seat (result ≡ None)
@@ -87,8 +85,11 @@ impl<T: Drop, A: Allocator, V: Tick> Table<T, A, V> {
         ensures visits { V.count counter.new
             ≡ V.count counter.old + visits self.old.nodes (take len (K.bits key)) }
     {
-        let seat = find_seat(&self.nodes, key, len, counter);
-        lend_if(&mut self.cells, seat)
+        let place = self.locate(key, len, counter);
+        match place {
+            Location::Stored(seat) => Some(self.at_mut(key, len, seat)),
+            Location::Missing(_) => None,
+        }
     }
 
     /// The value at the longest beginning of a bit string that has one, for writing. The number of bits of that beginning goes

@@ -12,7 +12,7 @@ ghost use Rattle.prefix_trie_table.specs.Tables.{IsReached, ForHeld, own_value};
 ghost use Rattle.prefix_trie_table.specs.Slots.{SeatOf};
 ghost use Rattle.prefix_trie_table.specs.Store.{Store};
 
-use crate::allocator::blocks::Blocks;
+use crate::allocator::blocks::Cells;
 use crate::allocator::node::{Node, NodeSlot};
 use crate::allocator::nodes::{NodeAllocator, Tick};
 use crate::table::seat::{Location, Seat, WayEnd};
@@ -157,52 +157,4 @@ pub fn locate_in<K: Key, A: Allocator, V: Tick>(
         return Location::Missing(WayEnd { reached });
     }
     Location::Stored(reached.node.value_seat(bit))
-}
-
-/// Where the value at a bit string stands, if there is one.
-#[inline(always)]
-pub fn find_seat<K: Key, A: Allocator, V: Tick>(
-    nodes: &NodeAllocator<A, V>,
-    key: K,
-    len: u32,
-    counter: &mut V,
-) -> Option<Seat>
-    requires key { K.IsKey key }
-    requires within { len ≤ K.bit_width }
-    requires sound { SomeNodes nodes.now }
-    ensures seat { (reading : List ℕ → Option Node) (paths : List (List ℕ))
-        → NodesHold node_sizes reading paths nodes.now
-        → SeatOf reading (take len (K.bits key)) result }
-    ensures visits { (reading : List ℕ → Option Node) (paths : List (List ℕ))
-        → NodesHold node_sizes reading paths nodes.now
-        → (level : ℕ) × IsEnd reading (path_of (take len (K.bits key))) level
-        × (V.count counter.new ≡ V.count counter.old + (level + 1)) }
-{
-    match locate_in(nodes, key, len, counter) {
-        Location::Stored(seat) => Some(seat),
-        Location::Missing(_) => None,
-    }
-}
-
-/// The value at a bit string.
-#[inline(always)]
-pub fn find_value<'a, K: Key, T: Drop, A: Allocator, V: Tick>(
-    nodes: &NodeAllocator<A, V>,
-    cells: &'a Blocks<Option<T>, A>,
-    key: K,
-    len: u32,
-    counter: &mut V,
-) -> Option<&'a T>
-    requires key { K.IsKey key }
-    requires within { len ≤ K.bit_width }
-    requires table { SomeTable nodes.now cells.now }
-    ensures value { ForHeld nodes.now cells.now (λ reading paths values.
-        option_copied result ≡ own_value values (K.bits key) len) }
-    ensures visits { (reading : List ℕ → Option Node) (paths : List (List ℕ))
-        → NodesHold node_sizes reading paths nodes.now
-        → (level : ℕ) × IsEnd reading (path_of (take len (K.bits key))) level
-        × (V.count counter.new ≡ V.count counter.old + (level + 1)) }
-{
-    let seat = find_seat(nodes, key, len, counter)?;
-    cells.at(seat.start, seat.place).as_ref()
 }

@@ -9,7 +9,7 @@ ghost use Rattle.prefix_trie_table.specs.Forest.{NodesHold, SomeNodes, IsEnd};
 ghost use Rattle.prefix_trie_table.specs.Tables.{IsReached};
 ghost use Rattle.prefix_trie_table.specs.Matching.{LackLastBit, IsOnWay, LongestHeld, ShortestHeld, cell_slot, match_seat};
 
-use crate::allocator::blocks::Blocks;
+use crate::allocator::blocks::Cells;
 use crate::allocator::node::Node;
 use crate::allocator::nodes::{NodeAllocator, Tick};
 use crate::table::lookup::{Reached, root, step_down};
@@ -154,7 +154,7 @@ pub fn shortest_on_way<K: Key, A: Allocator, V: Tick>(
 /// The value of a match, behind the length of its string.
 #[inline(always)]
 pub fn value_of_match<'a, T: Drop, A: Allocator>(
-    cells: &'a Blocks<Option<T>, A>,
+    cells: &'a Cells<T, A>,
     found: Match,
 ) -> Option<(u32, &'a T)>
     requires bit { found.bit < 31 }

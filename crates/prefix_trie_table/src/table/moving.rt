@@ -9,7 +9,7 @@ ghost use Rattle.prefix_trie_table.specs.Retaining.{Lasts};
 ghost use Rattle.prefix_trie_table.specs.HandingOut.Skeleton.{IsSecond};
 ghost use Rattle.prefix_trie_table.specs.Tables.{IsTrie};
 
-use crate::allocator::blocks::Blocks;
+use crate::allocator::blocks::Cells;
 use crate::allocator::nodes::{NodeAllocator, Tick};
 use crate::table::children::remove_part;
 use crate::table::cursor::{Start, start_at};
@@ -25,7 +25,7 @@ use std::alloc::Allocator;
 #[derive(Drop)]
 struct Seats<K: Key, T: Drop, A: Allocator, V: Tick> {
     nodes: NodeAllocator<A, V>,
-    cells: Blocks<Option<T>, A>,
+    cells: Cells<T, A>,
     // The path of each spot begins it.
     key: K,
     stack: ArrayVec<Spot, 26>,
@@ -60,14 +60,14 @@ impl<K: Key, T: Drop, A: Allocator, V: Tick> Keep<K, T, V> for Seats<K, T, A, V>
 /// It asks for no memory but what the first table's blocks may take there. Answers the arrays of the second.
 pub(super) fn move_part<K: Key, T: Drop, A: Allocator, V: Tick>(
     nodes: &mut NodeAllocator<A, V>,
-    cells: &mut Blocks<Option<T>, A>,
+    cells: &mut Cells<T, A>,
     entries: &mut usize,
     laid: NodeAllocator<A, V>,
-    vacant: Blocks<Option<T>, A>,
+    vacant: Cells<T, A>,
     key: K,
     len: u32,
     counter: &mut V,
-) -> (NodeAllocator<A, V>, Blocks<Option<T>, A>)
+) -> (NodeAllocator<A, V>, Cells<T, A>)
     requires key { K.IsKey key }
     requires within { len ≤ K.bit_width }
     requires trie { (s : State T) × IsTrie K.bit_width entries.old nodes.old cells.old s }

@@ -10,7 +10,7 @@ ghost use Rattle.prefix_trie_table.specs.Removals.{ValueTaken, EntryTaken, SameB
 ghost use Rattle.prefix_trie_table.specs.Settling.{Settles, NodesSettle};
 ghost use Rattle.prefix_trie_table.specs.Tables.{IsReached, Grows, ForHeld, own_value};
 
-use crate::allocator::blocks::Blocks;
+use crate::allocator::blocks::Cells;
 use crate::allocator::node::{Node, NodeSlot};
 use crate::allocator::nodes::{NodeAllocator, Tick};
 use crate::table::lookup::descend;
@@ -22,7 +22,7 @@ use std::alloc::Allocator;
 /// Takes all values out, and all nodes but the root.
 pub fn clear_entries<T: Drop, A: Allocator, V: Tick>(
     nodes: &mut NodeAllocator<A, V>,
-    cells: &mut Blocks<Option<T>, A>,
+    cells: &mut Cells<T, A>,
     entries: &mut usize,
 )
     requires table { SomeTable nodes.old cells.old }
@@ -52,7 +52,7 @@ pub fn clear_entries<T: Drop, A: Allocator, V: Tick>(
 #[inline(always)]
 pub fn take_value<T: Drop, A: Allocator, V: Tick>(
     nodes: &mut NodeAllocator<A, V>,
-    cells: &mut Blocks<Option<T>, A>,
+    cells: &mut Cells<T, A>,
     at: NodeSlot,
     node: Node,
     bit: u32,
@@ -98,7 +98,7 @@ pub fn take_value<T: Drop, A: Allocator, V: Tick>(
 /// Takes the value at a bit string out of the string's own node, if it is there, and answers it and what the node is then.
 fn take_entry<K: Key, T: Drop, A: Allocator, V: Tick>(
     nodes: &mut NodeAllocator<A, V>,
-    cells: &mut Blocks<Option<T>, A>,
+    cells: &mut Cells<T, A>,
     entries: &mut usize,
     key: K,
     len: u32,
@@ -132,7 +132,7 @@ fn take_entry<K: Key, T: Drop, A: Allocator, V: Tick>(
 /// Takes the value at a bit string out, if it is there. All nodes stay.
 pub fn remove_value<K: Key, T: Drop, A: Allocator, V: Tick>(
     nodes: &mut NodeAllocator<A, V>,
-    cells: &mut Blocks<Option<T>, A>,
+    cells: &mut Cells<T, A>,
     entries: &mut usize,
     key: K,
     len: u32,
@@ -286,7 +286,7 @@ pub fn prune_up<K: Key, A: Allocator, V: Tick>(
 /// string's own node upward. Where this node is missing nothing changes.
 pub fn remove_entry<K: Key, T: Drop, A: Allocator, V: Tick>(
     nodes: &mut NodeAllocator<A, V>,
-    cells: &mut Blocks<Option<T>, A>,
+    cells: &mut Cells<T, A>,
     entries: &mut usize,
     key: K,
     len: u32,

@@ -12,7 +12,7 @@ ghost use Rattle.prefix_trie_table.specs.Walking.Walks.{IsPlaceOf};
 ghost use Rattle.prefix_trie_table.specs.Retaining.{HasPlace, IsSite, Lasts, RetainsIn, RetainsAll, MayAskAt};
 ghost use Rattle.prefix_trie_table.specs.Tables.{IsTrie};
 
-use crate::allocator::blocks::Blocks;
+use crate::allocator::blocks::Cells;
 use crate::allocator::node::{Node, NodeSlot};
 use crate::allocator::nodes::{NodeAllocator, Tick};
 use crate::table::removal::{drop_child, is_bare, take_value};
@@ -74,7 +74,7 @@ impl<K: Key> Clone for Site<K> {
 /// Asks at a value of a node, and takes it out and hands it over where the answer is no. Answers what the node is then.
 fn retain_value<K: Key, T: Drop, A: Allocator, V: Tick, F: Keep<K, T, V>>(
     nodes: &mut NodeAllocator<A, V>,
-    cells: &mut Blocks<Option<T>, A>,
+    cells: &mut Cells<T, A>,
     entries: &mut usize,
     keep: &mut F,
     site: Site<K>,
@@ -119,7 +119,7 @@ fn retain_value<K: Key, T: Drop, A: Allocator, V: Tick, F: Keep<K, T, V>>(
 #[cycle(retain)]
 fn retain_place<K: Key, T: Drop, A: Allocator, V: Tick, F: Keep<K, T, V>>(
     nodes: &mut NodeAllocator<A, V>,
-    cells: &mut Blocks<Option<T>, A>,
+    cells: &mut Cells<T, A>,
     entries: &mut usize,
     keep: &mut F,
     site: Site<K>,
@@ -166,7 +166,7 @@ fn retain_place<K: Key, T: Drop, A: Allocator, V: Tick, F: Keep<K, T, V>>(
 #[cycle(retain)]
 pub(super) fn retain_places<K: Key, T: Drop, A: Allocator, V: Tick, F: Keep<K, T, V>>(
     nodes: &mut NodeAllocator<A, V>,
-    cells: &mut Blocks<Option<T>, A>,
+    cells: &mut Cells<T, A>,
     entries: &mut usize,
     keep: &mut F,
     site: Site<K>,
@@ -196,7 +196,7 @@ pub(super) fn retain_places<K: Key, T: Drop, A: Allocator, V: Tick, F: Keep<K, T
 /// Asks at each entry, in listing order, and takes out those at which the answer is no, and all nodes that have nothing left.
 pub fn retain_entries<K: Key, T: Drop, A: Allocator, V: Tick, F: Keep<K, T, V>>(
     nodes: &mut NodeAllocator<A, V>,
-    cells: &mut Blocks<Option<T>, A>,
+    cells: &mut Cells<T, A>,
     entries: &mut usize,
     keep: F,
     counter: &mut V,

@@ -1,16 +1,18 @@
 //! A place in the middle of a table, from which a walk goes on: a node and which of its places are still to come.
-ghost use Rattle.std.specs.Prelude.{◌≡◌, ℕ, ◌+◌, ◌<◌, ◌≤◌, [], false, Some, None, All, length, slice_index_or};
+ghost use Rattle.std.specs.Prelude.{◌≡◌, ℕ, ◌+◌, ◌<◌, ◌≤◌, [], ◌∷◌, ◌++◌, List, false, Some, None, All, length, slice_index_or};
 ghost use Rattle.prefix_trie_bits.specs.Places.{places};
 ghost use Rattle.prefix_trie_bits.specs.Walks.{to_come};
 ghost use Rattle.prefix_trie_table.specs.Bitmaps.{has_bit as is_set};
 ghost use Rattle.prefix_trie_table.specs.Cells.{node_at};
 ghost use Rattle.prefix_trie_table.specs.Tables.{IsTrie};
+ghost use Rattle.prefix_trie_table.specs.Walking.Cursors.{places_in};
 ghost use Rattle.prefix_trie_table.specs.Walking.Walks.{Tree, IsSpot, IsPlaceOf, IsSeated, KeepsWay, Skips, Steps, slot_of};
 
-use crate::allocator::blocks::Blocks;
+use crate::allocator::blocks::Cells;
 use crate::allocator::node::{Node, NodeSlot};
 use crate::allocator::nodes::{NodeAllocator, Tick};
 use crate::table::seat::Seat;
+use arrayvec::ArrayVec;
 use prefix_trie_bits::node::{Place, Places, string_of, value_bit_of};
 use prefix_trie_bits::prefix::Key;
 use std::alloc::Allocator;
@@ -18,9 +20,9 @@ use std::alloc::Allocator;
 /// A node, whose path is the first `depth` bits of a walk's key, and the places of the node that are still to come.
 #[derive(Clone, Copy)]
 pub struct Spot {
-    pub node: Node,
-    pub depth: u32,
-    pub places: Places,
+    node: Node,
+    depth: u32,
+    places: Places,
 }
 
 impl Default for Spot {
@@ -68,6 +70,23 @@ pub fn enter<A: Allocator, V: Tick>(
     }
 }
 
+/// The spot of a node whose path has `depth` bits, with those of its places to come that are in these masks.
+#[inline]
+pub fn spot_in(node: Node, depth: u32, chosen: (u32, u32)) -> Spot
+    requires few { is_set node.value_bitmap 31 ≡ false }
+    ensures node { result.node ≡ node }
+    ensures depth { result.depth ≡ depth }
+    ensures places { to_come result.places ≡ places_in node chosen.0 chosen.1 }
+    ensures each { All (IsPlaceOf node) (to_come result.places) }
+{
+    let places = Places::new(node.value_bitmap & chosen.0, node.child_bitmap & chosen.1);
+    Spot {
+        node,
+        depth,
+        places,
+    }
+}
+
 /// Takes the next place of a spot on the way of a key, in listing order. A child is read, and nothing else.
 #[inline]
 pub fn next_at<K: Key, A: Allocator, V: Tick, T: Drop>(
@@ -104,6 +123,17 @@ pub fn next_at<K: Key, A: Allocator, V: Tick, T: Drop>(
     }
 }
 
+/// Writes the places of a spot at the last spot of a stack, of which nothing else changes.
+#[inline]
+pub fn put_places(stack: &mut ArrayVec<Spot, 26>, spot: Spot)
+    requires some { 0 < length stack.old.items }
+    ensures put { (below : List Spot) (last : Spot) → stack.old.items ≡ below ++ last ∷ []
+        → stack.new.items ≡ below ++ record last { places = spot.places } ∷ [] }
+{
+    let last = stack.len() - 1;
+    stack[last].places = spot.places;
+}
+
 /// Drops the places that a key begins, which ends at the node of the spot.
 #[inline]
 pub fn skip_below<K: Key>(spot: &mut Spot, key: K, len: u32)
@@ -118,7 +148,7 @@ pub fn skip_below<K: Key>(spot: &mut Spot, key: K, len: u32)
 
 /// The value at a seat.
 #[inline]
-pub fn value_at<T: Drop, A: Allocator>(cells: &Blocks<Option<T>, A>, seat: Seat) -> &T
+pub fn value_at<T: Drop, A: Allocator>(cells: &Cells<T, A>, seat: Seat) -> &T
     requires stands { slot_of seat < length cells.now.slots }
     requires set { (v : T) × (slice_index_or cells.now.slots (slot_of seat) None ≡ Some v) }
     ensures { slice_index_or cells.now.slots (slot_of seat) None ≡ Some result.now }

@@ -12,7 +12,7 @@ ghost use Rattle.prefix_trie_table.specs.Shape.{IsShapeOf};
 ghost use Rattle.prefix_trie_table.specs.Tables.{IsTrie};
 ghost use Rattle.prefix_trie_table.specs.Walking.Taking.{Seated, Seated-prop};
 
-use crate::allocator::blocks::Blocks;
+use crate::allocator::blocks::Cells;
 use crate::allocator::nodes::{NodeAllocator, Tick};
 use crate::table::Table;
 use crate::table::cursor::{Start, start_at};
@@ -34,7 +34,7 @@ use std::marker::Model;
 pub struct IntoWalk<K: Key, T: Drop, A: Allocator, V: Tick> {
     nodes: NodeAllocator<A, V>,
     // Those of the values that were taken are vacant. Else they and the nodes are those of the table.
-    cells: Blocks<Option<T>, A>,
+    cells: Cells<T, A>,
     // The path of each spot begins it.
     key: K,
     stack: ArrayVec<Spot, 26>,
@@ -59,7 +59,7 @@ impl<K: Key, T: Drop, A: Allocator, V: Tick> IntoWalk<K, T, A, V> {
     #[inline]
     pub(super) fn below(
         nodes: NodeAllocator<A, V>,
-        cells: Blocks<Option<T>, A>,
+        cells: Cells<T, A>,
         key: K,
         len: u32,
         counter: &mut V,

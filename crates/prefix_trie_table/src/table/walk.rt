@@ -9,13 +9,12 @@ ghost use Rattle.prefix_trie_table.specs.Tables.{IsTrie};
 ghost use Rattle.prefix_trie_table.specs.Walking.Items.{GivesFilled, GivesOutermost};
 ghost use Rattle.prefix_trie_table.specs.Walking.Walks.{Tree, ArePassed, EndsLast, IsStack, SkipsLast, pending, GivesSeat, ShapeOf, ShapeOf-prop};
 
-use crate::allocator::blocks::Blocks;
+use crate::allocator::blocks::Cells;
 use crate::allocator::node::NodeSlot;
 use crate::allocator::nodes::{NodeAllocator, Tick};
 use crate::table::seat::Seat;
-use crate::table::spot::{Spot, Step, enter, next_at, skip_below, value_at};
+use crate::table::spot::{Spot, Step, enter, next_at, put_places, skip_below, value_at};
 use arrayvec::ArrayVec;
-use prefix_trie_bits::node::Places;
 use prefix_trie_bits::prefix::Key;
 use std::alloc::Allocator;
 use std::marker::Model;
@@ -23,7 +22,7 @@ use std::marker::Model;
 /// The entries of a table that are still to come, in listing order.
 #[derive(Drop)]
 pub struct Walk<'a, K: Key, T: Drop, A: Allocator, V: Tick> {
-    arrays: Option<(&'a NodeAllocator<A, V>, &'a Blocks<Option<T>, A>)>,
+    arrays: Option<(&'a NodeAllocator<A, V>, &'a Cells<T, A>)>,
     // The path of each spot begins it.
     key: K,
     stack: ArrayVec<Spot, 26>,
@@ -47,7 +46,7 @@ impl<'a, K: Key, T: Drop, A: Allocator, V: Tick> Walk<'a, K, T, A, V> {
     #[inline]
     pub fn over(
         nodes: &'a NodeAllocator<A, V>,
-        cells: &'a Blocks<Option<T>, A>,
+        cells: &'a Cells<T, A>,
         key: K,
         stack: ArrayVec<Spot, 26>,
     ) -> Self
@@ -138,7 +137,7 @@ impl<'a, K: Key, T: Drop, A: Allocator, V: Tick> Default for Walk<'a, K, T, A, V
 /// The walk of all entries that the arrays hold. The root is read.
 pub fn walk_of<'a, K: Key, T: Drop, A: Allocator, V: Tick>(
     nodes: &'a NodeAllocator<A, V>,
-    cells: &'a Blocks<Option<T>, A>,
+    cells: &'a Cells<T, A>,
     counter: &mut V,
 ) -> Walk<'a, K, T, A, V>
     requires { (s : State T) × IsTrie K.bit_width (len s.entries) nodes.now cells.now s }
@@ -174,11 +173,11 @@ pub fn advance<K: Key, A: Allocator, V: Tick, T: Drop>(
     while let Some(mut spot) = last_spot(stack) {
         match next_at::<K, A, V, T>(nodes, &mut spot, *key, counter) {
             Step::Entry(found, len, seat) => {
-                put_places(stack, spot.places);
+                put_places(stack, spot);
                 return Some((found, len, seat));
             }
             Step::Child(child, below) => {
-                put_places(stack, spot.places);
+                put_places(stack, spot);
                 stack.push(child);
                 *key = below;
             }
@@ -197,17 +196,6 @@ fn last_spot(stack: &ArrayVec<Spot, 26>) -> Option<Spot>
         (λ spot. (below : List Spot) × (stack.now.items ≡ below ++ spot ∷ [])) }
 {
     stack.last().copied()
-}
-
-/// Writes the places of the last spot, and nothing else of it.
-#[inline]
-fn put_places(stack: &mut ArrayVec<Spot, 26>, places: Places)
-    requires some { 0 < length stack.old.items }
-    ensures put { (below : List Spot) (last : Spot) → stack.old.items ≡ below ++ last ∷ []
-        → stack.new.items ≡ below ++ record last { places = places } ∷ [] }
-{
-    let last = stack.len() - 1;
-    stack[last].places = places;
 }
 
 /// Drops what a key begins from what is to come at the last spot, at whose node the key ends.

@@ -86,7 +86,7 @@ any-short s h = at_string 4 (λ r. list_any (same_string r) (strings 4)) refl s 
 behind : (p k : List Bool) (l : ℕ) → length k ≡ length p + l → length (drop (length p) k) ≡ l
 behind p k l e = (let d = length-drop (length p) k in omega (arith, d, e))
 
-children_most : (n : Nodes) (p : List Bool) → child_count n p ≤ 32
+pub children_most : (n : Nodes) (p : List Bool) → child_count n p ≤ 32
 unfolding strings
 children_most n p =
     let test : List Bool → Bool = λ k. begins p k && (length k == length p + 5) in
@@ -98,7 +98,7 @@ children_most n p =
     let count : length of_five ≡ 32 = refl in
     omega (arith, few, is, count)
 
-entries_most : {T : Type 0} (m : Entries T) (p : List Bool) → own_entries m p ≤ 31
+pub entries_most : {T : Type 0} (m : Entries T) (p : List Bool) → own_entries m p ≤ 31
 unfolding strings
 entries_most m p =
     let test : List Bool → Bool = λ k. begins p k && nat_lt (length k) (length p + 5) in

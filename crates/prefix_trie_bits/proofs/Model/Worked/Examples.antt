@@ -1,5 +1,5 @@
 -- The worked examples of what replies do not show.
-use Rattle.prefix_trie_bits.proofs.Prelude.{◌≡◌, ℕ, ◌+◌, ◌==◌, ◌&&◌, Bool, true, false, not, cond, List, [], ◌∷◌, map, filter, length, nat_lt, nat_le, is_lt, is_some, sum_by, Option, Some, None, refl, ap, ap₂, ◌∙◌, lit<, list_any, entries, len-entries, entries-insert, find, put, digits, number, begins, listing_cmp, listing_total, Entries, with_entry, part_below, without_below, listing_after, shown, first_item, Nodes, home, needed, nodes_without_below, child_block_sizes, value_block_sizes, packed_slots, visits_of_match, visits_to_match, WritingWalk, walk_over, State, path_at, back_at, FactsHold, at_slot}
+use Rattle.prefix_trie_bits.proofs.Prelude.{◌≡◌, ℕ, ◌+◌, ◌%◌, ◌==◌, ◌&&◌, Bool, true, false, not, cond, List, [], ◌∷◌, map, filter, length, nat_lt, nat_le, is_lt, is_some, sum_by, Option, Some, None, refl, ap, ap₂, ◌∙◌, lit<, list_any, entries, len-entries, entries-insert, find, put, digits, number, begins, listing_cmp, listing_total, Entries, with_entry, part_below, without_below, listing_after, shown, first_item, Nodes, home, needed, nodes_without_below, child_block_sizes, value_block_sizes, packed_slots, visits_of_match, visits_to_match, WritingWalk, walk_over, State, path_at, back_at, FactsHold, at_slot, AsksInOrder}
 use Rattle.prefix_trie_bits.proofs.Model.Worked.Plain.{keys_of, Shows, Marks, needed-is, needed_marks, pruned_marks, marks_not_below, nodes_without_below-is}
 use Rattle.prefix_trie_bits.proofs.Model.Ordered.{entries-retained}
 use Rattle.prefix_trie_bits.proofs.Model.Worked.Played.{leads}
@@ -56,6 +56,15 @@ behind_in es = keys_of (filter (λ e. is_lt (listing_cmp (path_at 8 (5, 8)) e.0)
 abbrev left_marks : List Bool → List (List Bool × ℕ) → Marks → Marks
 left_marks q es ns = cond (is_some (find listing_cmp (home q) ns)) (pruned_marks (marks_not_below ns q) (keys_of (filter (λ e. not (begins q e.0)) es)) q) ns
 
+-- a test that is true at every other call is not true twice in a row
+not_twice : AsksInOrder (λ (f : ℕ) (_ : List Bool) (_ : ℕ) b (f' : ℕ). (b ≡ (f % 2 == 0)) × (f' ≡ f + 1)) 0
+    ((false ∷ [], 1) ∷ (true ∷ [], 2) ∷ []) ((false ∷ [], 1) ∷ (true ∷ [], 2) ∷ []) → ⊥
+not_twice (b, f, later, asked, (c, g, last, again, ends, is), kept) =
+    let second : c ≡ false = again.0 ∙ ap (λ n. n % 2 == 0) asked.1 in
+    let none : later ≡ [] = is ∙ ap₂ (λ x xs. cond x ((true ∷ [], 2) ∷ xs) xs) second ends in
+    let one = kept ∙ ap₂ (λ x xs. cond x ((false ∷ [], 1) ∷ xs) xs) asked.0 none in
+    differ 2 1 refl (ap (λ (xs : List (List Bool × ℕ)). length xs) one)
+
 pub facts_hold : FactsHold
 unfolding digits number begins
 facts_hold = record {
@@ -103,6 +112,7 @@ facts_hold = record {
   };
   empty_array = record { blocks = []; tiles = refl; rearranged = record { moves = []; below = tt; is = refl } };
   odd_askings = (true, 1, _, (refl, refl), (false, 2, _, (refl, refl), (true, 3, _, (refl, refl), (false, 4, _, (refl, refl), (true, 5, _, (refl, refl), refl, refl), refl), refl), refl), refl);
+  not_from_one_state = not_twice;
   written = leads refl (λ t s.
       let a = path_at 8 (6, 8) in
       let b = path_at 8 (8, 5) in

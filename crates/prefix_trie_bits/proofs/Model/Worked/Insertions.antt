@@ -85,7 +85,7 @@ neither_more limit a b lack_a lack_b n m e f p q (inl l) = absurd (omega arith)
 neither_more limit a b lack_a lack_b n m e f p q (inr l) = absurd (omega arith)
 
 -- the sizes of the blocks that are needed
-children_needed : (t : State ℕ) (layout : Layout) (q : List Bool) {es cs : Sized} {ns : Marks} → Shows t es ns → entries layout.child_blocks ≡ cs
+pub children_needed : (t : State ℕ) (layout : Layout) (q : List Bool) {es cs : Sized} {ns : Marks} → Shows t es ns → entries layout.child_blocks ≡ cs
     → child_blocks_needed t.nodes layout q ≡ filter_map (child_needed_in ns cs q) (nodes_above q)
 children_needed t layout q s c =
     (λ i. filter_map (λ p. child-is t.nodes layout.child_blocks q p i) (nodes_above q)) ∙ ap₂ (λ ns bs. filter_map (child_needed_in ns bs q) (nodes_above q)) s.of_nodes c
@@ -96,7 +96,7 @@ values_needed t layout q s v =
     ap option_to_list (value-is t.entries layout.value_blocks q (home q) ∙ ap₂ (λ es bs. value_needed_in es bs q (home q)) s.of_entries v)
 
 -- where one block is needed, none lacks of another size
-lacks_one : (sizes free needed : List ℕ) (n size : ℕ) → needed ≡ n ∷ [] → 0 < lacking_of sizes free needed size → size ≡ n
+pub lacks_one : (sizes free needed : List ℕ) (n size : ℕ) → needed ≡ n ∷ [] → 0 < lacking_of sizes free needed size → size ≡ n
 lacks_one sizes free needed n size e l = elim (cases_Bool (n == size)) as (λ _. size ≡ n) [
   | inl is ↦ sym (eqb-true n size is)
   | inr other ↦
@@ -105,7 +105,7 @@ lacks_one sizes free needed n size e l = elim (cases_Bool (n == size)) as (λ _.
       absurd (omega (arith, none, some))
 ]
 
-lacks_none : (sizes free needed : List ℕ) (size : ℕ) → needed ≡ [] → 0 < lacking_of sizes free needed size → ⊥
+pub lacks_none : (sizes free needed : List ℕ) (size : ℕ) → needed ≡ [] → 0 < lacking_of sizes free needed size → ⊥
 lacks_none sizes free needed size e l =
     let none : length (filter (λ s. s == size) needed) ≡ 0 = ap (λ ns. length (filter (λ s. s == size) ns)) e in
     let some : 0 < length (filter (λ s. s == size) needed) - free_of sizes free size = l in

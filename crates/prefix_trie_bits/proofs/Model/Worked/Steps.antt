@@ -1,11 +1,11 @@
 -- The worked facts on storages that no step leaves.
-use Rattle.prefix_trie_bits.proofs.Prelude.{◌≡◌, ℕ, zero, suc, ◌+◌, ◌<◌, ◌≤◌, ◌==◌, Bool, false, List, [], ◌∷◌, map, length, get_or, is_some, Option, Some, None, refl, sym, ap, ap₂, ◌∙◌, subst, inl, inr, arith, lit<, lit≤, slice_index_or, Contains, count_by, option_or, entries, get, contains_key, values, entries-from_sorted, get-from_sorted, find, digits, number, begins, listing_cmp, has_node, value_block_sizes, child_block_sizes, free_of, own_entries, used_of, HasBlock, LongerByOne, LosesNoBlock, value_block_needed, lacking_of, value_blocks_lacking, State, Call, Remove, RemoveKeepTree, RetainAtLeast, Reply, Memory, IndexRange, Step, is_refusal, path_at, back_at, sets, none_free, Blocks, sizes_at, three_slots, two_free, four_free, root_child, root_value, child_value, Takes, KeepsFacts, FilledFacts, StepsHold}
+use Rattle.prefix_trie_bits.proofs.Prelude.{◌≡◌, ℕ, zero, suc, ◌+◌, ◌-◌, ◌<◌, ◌≤◌, ◌==◌, Bool, false, List, [], ◌∷◌, map, length, get_or, is_some, Option, Some, None, refl, sym, ap, ap₂, ◌∙◌, subst, inl, inr, arith, le_of_eq, lit<, lit≤, slice_index_or, Contains, count_by, option_or, entries, get, contains_key, values, entries-from_sorted, get-from_sorted, find, digits, number, begins, listing_cmp, has_node, value_block_sizes, child_block_sizes, free_of, own_entries, used_of, HasBlock, LongerByOne, LosesNoBlock, value_block_needed, value_blocks_needed, child_blocks_lacking, lacking_of, value_blocks_lacking, made_of, one_of, home, State, Call, Remove, RemoveKeepTree, RetainAtLeast, Reply, Memory, IndexRange, Step, is_refusal, path_at, back_at, sets, none_free, both_free, Blocks, layout_at, ones_free, sizes_at, three_slots, two_free, four_free, root_child, root_value, child_value, Takes, KeepsFacts, FilledFacts, StepsHold}
 use Rattle.prefix_trie_bits.proofs.Model.Worked.Plain.{Shows, Marks, play, step_at, has-is}
 use Rattle.prefix_trie_bits.proofs.Model.Worked.Played.{last_entries, last_marks, leads}
 use Rattle.prefix_trie_bits.proofs.Model.Worked.Examples.{said, own_in, children_in}
 use Rattle.prefix_trie_bits.proofs.Model.Determined.{same}
 use Rattle.prefix_trie_bits.proofs.Model.Worked.Blocks.{some_is, not_some, unlike, differ, not_in}
-use Rattle.prefix_trie_bits.proofs.Model.Worked.Insertions.{value_needed_in, value-is, values_needed, sizes-is, Sized, listed, InOrder, lacks, neither_more}
+use Rattle.prefix_trie_bits.proofs.Model.Worked.Insertions.{children_needed, lacks_one, lacks_none, value_needed_in, value-is, values_needed, sizes-is, Sized, listed, InOrder, lacks, neither_more}
 
 -- the entries and the nodes of the map, as lists
 abbrev es8 : Sized
@@ -70,6 +70,18 @@ lost sizes old new f g size h k c fewer keeps =
     (subst (λ y. number_of sizes (values (sizes_at 8 old)) f size ≤ number_of sizes y g size) (all_sizes new k) (keeps size c)) in
     never _ _ fewer l
 
+-- blocks of a size that were made although none of it lacked
+made : (sizes : List ℕ) (old new : Blocks) (f g : List ℕ) (size lack : ℕ) → InOrder 8 old → InOrder 8 new → lack ≡ 0 → number_of sizes (sizes_of old) f size < number_of sizes (sizes_of new) g size
+    → used_of (sizes_at 8 new) size + free_of sizes g size ≤ used_of (sizes_at 8 old) size + free_of sizes f size + lack → ⊥
+made sizes old new f g size lack h k none more most =
+    let l : number_of sizes (sizes_of new) g size ≤ number_of sizes (sizes_of old) f size + lack =
+    subst (λ x. number_of sizes (sizes_of new) g size ≤ number_of sizes x f size + lack) (all_sizes old h)
+    (subst (λ y. number_of sizes y g size ≤ number_of sizes (values (sizes_at 8 old)) f size + lack) (all_sizes new k) most) in
+    above _ _ lack none more l
+  where
+    above : (a b n : ℕ) → n ≡ 0 → a < b → b ≤ a + n → ⊥
+    above a b n e l m = absurd (omega arith)
+
 -- an array that is longer by another number than that of its new block's slots, or although no block changed
 by_wrong : (sizes free : List ℕ) (old new : Option ℕ) (before now size : ℕ) → new ≡ Some size → (now == before) ≡ false → (now == before + size) ≡ false → LongerByOne sizes free old new before now → ⊥
 by_wrong sizes free old new before now size is p q (inl e) = differ now before p e
@@ -100,6 +112,13 @@ none_lack a b e f l = absurd (omega arith)
 lost_value : LosesNoBlock value_block_sizes (sizes_at 8 (root_value 2)) none_free (sizes_at 8 (root_value 4)) none_free → ⊥
 unfolding digits number begins
 lost_value = lost value_block_sizes (root_value 2) (root_value 4) none_free none_free 2 tt tt (1, lit< tt, refl) (lit< tt)
+
+-- a list that keeps its block makes none
+none_made : (block : Option ℕ) (sizes free : List ℕ) (size : ℕ) → made_of sizes free block block size ≡ 0
+none_made block sizes free size = gone (one_of block size) (free_of sizes free size)
+  where
+    gone : (a f : ℕ) → a - (a + f) ≡ 0
+    gone a f = omega arith
 
 -- what the root needs for its third entry
 needs : (t : State ℕ) → Shows t es8 ns8 → value_block_needed t.entries three_slots.value_blocks (path_at 8 (64, 2)) [] ≡ Some 4
@@ -160,6 +179,11 @@ filled_facts t s = record {
         let p = path_at 8 (128, 5) in
         there _ 1 (block_at (((0, 0), 2) ∷ ((0, 5), 1) ∷ ((128, 5), 1) ∷ []) p tt) (h.storage.0.value_blocks.elsewhere p (has t p s));
     not_nodes_longer = λ reply u h. by_none child_block_sizes none_free _ 2 3 refl h.storage.1.nodes_longer.1;
+    not_made = λ reply u h. made value_block_sizes (root_value 2) (root_value 2) none_free (ones_free 1) 1 _ tt tt
+        (none_made (get (sizes_at 8 (root_value 2)) (home (path_at 8 (0, 1)))) value_block_sizes none_free 1) (lit< tt)
+        (le_of_eq (h.storage.0.value_blocks_made 1 (0, lit< tt, refl)));
+    not_child_made = λ reply u h. made child_block_sizes root_child root_child none_free (ones_free 1) 1 _ tt tt
+        (none_made (get (sizes_at 8 root_child) h.storage.1.nodes_longer.0) child_block_sizes none_free 1) (lit< tt) (h.storage.1.nodes_longer.2 1 (0, lit< tt, refl)).1;
     not_children = λ reply u h.
         let v = after t u (Remove (0, 1)) reply s (ap is_refusal h.step.0) refl h.step in
         other _ _ 2 1 (block_at (((0, 0), 2) ∷ []) [] tt) (block_at root_child [] tt) refl
@@ -205,26 +229,63 @@ filled_facts t s = record {
     not_nodes_shorter = λ reply u h. let l : 2 ≤ 1 = h.storage.node_slots in absurd (omega arith);
     not_cells_longer = λ reply u h. differ 4 3 refl (h.storage.cells_still refl);
   };
+  drop_children = record {
+    not_lost = λ reply u h. lost child_block_sizes root_child [] none_free none_free 1 tt tt (0, lit< tt, refl) (lit< tt) (h.storage.1 (lit< tt)).keeps.0;
+    not_nodes_shorter = λ reply u h. let l : 2 ≤ 1 = (h.storage.1 (lit< tt)).node_slots in absurd (omega arith);
+    not_cells_shorter = λ reply u h. let l : 3 ≤ 2 = (h.storage.1 (lit< tt)).cell_slots in absurd (omega arith);
+    not_nodes_longer = λ reply u h. differ 3 2 refl ((h.storage.1 (lit< tt)).nodes_still refl);
+    not_cells_longer = λ reply u h. differ 4 3 refl ((h.storage.1 (lit< tt)).cells_still refl);
+  };
   insert =
       let q = path_at 8 (64, 2) in
       let lacking = lacks 8 t root_child (root_value 2) none_free none_free (64, 2) s tt tt in
+      let no_child : child_blocks_lacking t.nodes three_slots q 1 ≡ 0 =
+      ap (λ ns. lacking_of child_block_sizes none_free ns 1) (children_needed t three_slots q s (sizes-is 8 root_child tt)) in
+      let no_value : value_blocks_lacking t.entries three_slots q 1 ≡ 0 =
+      ap (λ ns. lacking_of value_block_sizes none_free ns 1) (values_needed t three_slots q s (sizes-is 8 (root_value 2) tt)) in
+      let moved : get (sizes_at 8 (root_value 4)) [] ≡ get (sizes_at 8 (root_value 2)) [] → ⊥ =
+      other _ _ 4 2 (block_at (root_value 4) [] tt) (block_at (root_value 2) [] tt) refl in
       record {
         not_lost = λ reply u h. elim h.step [
           | inl done ↦ lost_value (λ size c. no_fewer _ _ _ ((h.storage.1 _ (stored_key t q s) done.0).value_blocks_made size c))
           | inr refused ↦ lost_value (λ size c. ((h.storage.2 refused.1 refused.2).value_blocks_made size c).0)
         ];
+        not_made = λ reply u h. elim h.step [
+          | inl done ↦ made value_block_sizes (root_value 2) (root_value 4) none_free both_free 1 _ tt tt no_value (lit< tt)
+              (le_of_eq ((h.storage.1 _ (stored_key t q s) done.0).value_blocks_made 1 (0, lit< tt, refl)))
+          | inr refused ↦ moved (ap (λ b. get b []) (h.storage.2 refused.1 refused.2).value_blocks)
+        ];
+        not_child_made = λ reply u h. elim h.step [
+          | inl done ↦ made child_block_sizes root_child root_child none_free (ones_free 1) 1 _ tt tt no_child (lit< tt)
+              (le_of_eq ((h.storage.1 _ (stored_key t q s) done.0).child_blocks_made 1 (0, lit< tt, refl)))
+          | inr refused ↦ moved (ap (λ b. get b []) (h.storage.2 refused.1 refused.2).value_blocks)
+        ];
+        not_child_lost = λ reply u h. elim h.step [
+          | inl done ↦ lost child_block_sizes root_child root_child (ones_free 1) none_free 1 tt tt (0, lit< tt, refl) (lit< tt)
+              (λ size c. no_fewer _ _ _ ((h.storage.1 _ (stored_key t q s) done.0).child_blocks_made size c))
+          | inr refused ↦ moved (ap (λ b. get b []) (h.storage.2 refused.1 refused.2).value_blocks)
+        ];
         not_refused_for_slots = λ u h. neither_more 10 2 3 _ _ 0 4 (ap (λ x. x.0) lacking) (ap (λ x. x.1) lacking) (lit≤ tt) (lit≤ tt) ((h.storage.2 IndexRange refl).range refl);
-        not_refused_cells_more = λ u h. too_many 8 3 _ 4 (ap (λ x. x.1) lacking) (lit< tt) (h.storage.2 Memory refl).cell_slots.1;
-        not_refused_with_ones = λ u h.
-            let none : value_blocks_lacking t.entries three_slots q 1 ≡ 0 =
-            ap (λ ns. lacking_of value_block_sizes none_free ns 1) (values_needed t three_slots q s (sizes-is 8 (root_value 2) tt)) in
-            let made : used_of (sizes_at 8 (root_value 2)) 1 + 4 ≤ used_of (sizes_at 8 (root_value 2)) 1 + 0 + value_blocks_lacking t.entries three_slots q 1 =
-            ((h.storage.2 Memory refl).value_blocks_made 1 (0, lit< tt, refl)).1 in
-            absurd (omega (arith, none, made));
+        not_refused_cells_more = λ u h. too_many 6 3 _ 2 (ap (λ x. x.1) (lacks 8 t root_child (root_value 2) none_free none_free (0, 6) s tt tt)) (lit< tt) (h.storage.2 Memory refl).cell_slots.1;
+        not_refused_once_made = λ u h.
+            let made = layout_at 8 root_child (root_value 2) none_free four_free in
+            let v = values_needed t made q s (sizes-is 8 (root_value 2) tt) in
+            elim ((h.storage.2 Memory refl).memory refl) [
+              | inl (size, l, room) ↦ lacks_none child_block_sizes none_free _ size (children_needed t made q s (sizes-is 8 root_child tt)) l
+              | inr (size, l, room) ↦
+                  let none : lacking_of value_block_sizes four_free (value_blocks_needed t.entries made q) size ≡ 0 =
+                  ap₂ (λ ns n. lacking_of value_block_sizes four_free ns n) v (lacks_one value_block_sizes four_free _ 4 size v l) in
+                  absurd (omega (arith, none, l))
+            ];
+        not_refused_made = λ u h. made value_block_sizes (root_value 2) (root_value 2) none_free (ones_free 1) 1 _ tt tt no_value (lit< tt)
+            ((h.storage.2 Memory refl).value_blocks_made 1 (0, lit< tt, refl)).1;
+        not_refused_child_made = λ u h. made child_block_sizes root_child root_child none_free (ones_free 1) 1 _ tt tt no_child (lit< tt)
+            ((h.storage.2 Memory refl).child_blocks_made 1 (0, lit< tt, refl)).1;
         not_refused_cells_fewer = λ u h. let l : 3 ≤ 2 = (h.storage.2 Memory refl).cell_slots.0 in absurd (omega arith);
         not_refused_nodes_more = λ u h. too_many 3 2 _ 0 (ap (λ x. x.0) lacking) (lit< tt) (h.storage.2 Memory refl).node_slots.1;
         not_refused_nodes_fewer = λ u h. let l : 2 ≤ 1 = (h.storage.2 Memory refl).node_slots.0 in absurd (omega arith);
         not_refused_lost = λ u h. lost value_block_sizes (root_value 2) (root_value 2) two_free none_free 2 tt tt (1, lit< tt, refl) (lit< tt) (λ size c. ((h.storage.2 Memory refl).value_blocks_made size c).0);
+        not_refused_child_lost = λ u h. lost child_block_sizes root_child root_child (ones_free 1) none_free 1 tt tt (0, lit< tt, refl) (lit< tt) (λ size c. ((h.storage.2 Memory refl).child_blocks_made size c).0);
         not_refused_beside_free = λ u h.
             let free = lacks 8 t root_child (root_value 2) none_free four_free (64, 2) s tt tt in
             none_lack _ _ (ap (λ x. x.0) free) (ap (λ x. x.1) free) (h.storage.2 Memory refl).lacks;

@@ -5,8 +5,9 @@ ghost use Rattle.std.specs.List.{AllZip};
 use crate::allocator::blocks::Blocks;
 use crate::allocator::slots::Slot;
 use std::alloc::{AllocError, Allocator};
+use std::marker::PhantomData;
 
-impl<S: Slot + Clone, A: Allocator + Clone> Blocks<S, A> {
+impl<S: Slot + Clone, A: Allocator + Clone> Blocks<S, Vec<S, A>, A> {
     /// An array with the same blocks, used and free, in memory of its own. All of that is asked for before the first value
     /// is cloned. Refused only where memory is, for the array or for a value.
     pub fn clone(&self) -> Result<Self, AllocError>
@@ -21,6 +22,7 @@ impl<S: Slot + Clone, A: Allocator + Clone> Blocks<S, A> {
             first: self.first,
             lists,
             limit: self.limit,
+            of: PhantomData,
         })
     }
 }

@@ -5,11 +5,12 @@ ghost use Rattle.prefix_trie_table.specs.Runs.{run, put_run};
 ghost use Rattle.prefix_trie_table.specs.Cells.{HasSizes};
 ghost use Rattle.prefix_trie_table.specs.Store.{UsedBlock, Sound, Turnover, InUse, HasList, IsReady, tier_at, tier_sizes, size_in, free_in, none_of, block, held, list_size, list_need};
 
+use crate::allocator::array::SlotArray;
 use crate::allocator::blocks::{BlockRef, Blocks};
 use crate::allocator::slots::{Slot, move_in, shift_in};
 use std::alloc::Allocator;
 
-impl<S: Slot, A: Allocator> Blocks<S, A> {
+impl<S: Slot, R: SlotArray<S>, A: Allocator> Blocks<S, R, A> {
     /// Puts a value into the list of `count` values in a block of tier `k` that starts at `start` (none if `count` is 0), and says
     /// where the list stands then. A block with room keeps it. Else it moves to a free block of the smallest size that holds it,
     /// and its old block is free. It makes no block and asks for no memory: `prepare` does that before.

@@ -6,15 +6,16 @@ ghost use Rattle.prefix_trie_bits.specs.Model.Blocks.{smallest_size};
 ghost use Rattle.prefix_trie_bits.specs.Model.HandsOut.{packed_slots};
 ghost use Rattle.prefix_trie_bits.specs.declared.prefix.Refusal.TheVariants.{IndexRange};
 
+use crate::allocator::array::SlotArray;
 use crate::allocator::blocks::{BlockRef, Blocks};
 use crate::allocator::slots::{Slot, write_run};
 use prefix_trie_bits::prefix::Refusal;
 use std::alloc::Allocator;
 
-impl<S: Slot, A: Allocator> Blocks<S, A> {
+impl<S: Slot, R: SlotArray<S>, A: Allocator> Blocks<S, R, A> {
     /// Where the array has its memory from.
     pub fn allocator(&self) -> &A {
-        self.slots.allocator()
+        self.lists.allocator()
     }
 
     /// The length that the array never passes.
@@ -46,7 +47,7 @@ impl<S: Slot, A: Allocator> Blocks<S, A> {
     }
 }
 
-impl<S: Slot + Copy, A: Allocator> Blocks<S, A> {
+impl<S: Slot + Copy, R: SlotArray<S>, A: Allocator> Blocks<S, R, A> {
     /// The same for a list of these items.
     pub fn lay(&mut self, items: &[S]) -> Result<BlockRef, Refusal>
         requires sound { (live : List (UsedBlock S)) × Sound S.vacant live self.old }

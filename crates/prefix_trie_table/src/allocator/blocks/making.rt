@@ -5,12 +5,13 @@ ghost use Rattle.prefix_trie_table.specs.Cells.{HasSizes};
 ghost use Rattle.prefix_trie_table.specs.Store.{UsedBlock, Sound, Turnover, Obtains, SameSlots, tier_sizes, size_in, free_in, many_of, list_need, needs, AreFree};
 ghost use Rattle.prefix_trie_bits.specs.declared.prefix.Refusal.TheVariants.{Memory, IndexRange};
 
+use crate::allocator::array::SlotArray;
 use crate::allocator::blocks::Blocks;
-use crate::allocator::slots::{Slot, make_room, push_vacant};
+use crate::allocator::slots::{Slot, push_vacant};
 use prefix_trie_bits::prefix::Refusal;
 use std::alloc::Allocator;
 
-impl<S: Slot, A: Allocator> Blocks<S, A> {
+impl<S: Slot, R: SlotArray<S>, A: Allocator> Blocks<S, R, A> {
     /// Sees to it that a list of `count` values in a block of tier `k` (none if `count` is 0) can take one more, and that
     /// `lists` other lists can then take their first. What lacks beyond the free blocks, size by size, is made at the array's end.
     ///
@@ -73,7 +74,7 @@ impl<S: Slot, A: Allocator> Blocks<S, A> {
         if len + size as usize > self.limit as usize {
             return Err(Refusal::IndexRange);
         }
-        if make_room(&mut self.slots, size as usize).is_err() {
+        if self.slots.make_room(size as usize).is_err() {
             return Err(Refusal::Memory);
         }
         let list = &mut self.lists[k];

@@ -3,11 +3,12 @@ ghost use Rattle.std.specs.Prelude.{◌≡◌, ℕ, ◌+◌, ◌<◌, ◌≤◌,
 ghost use Rattle.prefix_trie_table.specs.Runs.{swap_runs};
 ghost use Rattle.prefix_trie_table.specs.Store.{UsedBlock, Sound, Turnover, tier_at, tier_sizes, size_in, free_in, none_of, block};
 
+use crate::allocator::array::SlotArray;
 use crate::allocator::blocks::Blocks;
 use crate::allocator::slots::{Slot, exchange};
 use std::alloc::Allocator;
 
-impl<S: Slot, A: Allocator> Blocks<S, A> {
+impl<S: Slot, R: SlotArray<S>, A: Allocator> Blocks<S, R, A> {
     /// Takes a free block of tier `k`.
     pub(super) fn take(&mut self, k: usize) -> u32
         requires within { k < length self.old.tiers }

@@ -4,11 +4,12 @@ ghost use Rattle.prefix_trie_table.specs.Cells.{HasSizes};
 ghost use Rattle.prefix_trie_table.specs.Losing.{LosesOne};
 ghost use Rattle.prefix_trie_table.specs.Store.{UsedBlock, Sound, Turnover, InUse, HasList, tier_at, tier_sizes, size_in, free_in, none_of, many_of, block, held, list_size};
 
+use crate::allocator::array::SlotArray;
 use crate::allocator::blocks::{BlockRef, Blocks};
 use crate::allocator::slots::{Slot, shift_out};
 use std::alloc::Allocator;
 
-impl<S: Slot, A: Allocator> Blocks<S, A> {
+impl<S: Slot, R: SlotArray<S>, A: Allocator> Blocks<S, R, A> {
     /// Takes a value out of the list of `count` values in a block of tier `k` that starts at `start`, and says where the rest
     /// stands. Where a smaller size holds the rest it moves to a block of the smallest, if one is free or can be made, and else
     /// it stays. The block that it leaves is free. An empty rest stands nowhere (tier 0, start 0). Never refused.

@@ -4,11 +4,12 @@ ghost use Rattle.prefix_trie_bits.specs.Model.Blocks.{smallest_size};
 ghost use Rattle.prefix_trie_table.specs.Cells.{HasSizes};
 ghost use Rattle.prefix_trie_table.specs.Store.{tier_sizes, size_in};
 
+use crate::allocator::array::SlotArray;
 use crate::allocator::blocks::Blocks;
 use crate::allocator::slots::Slot;
 use std::alloc::Allocator;
 
-impl<S: Slot, A: Allocator> Blocks<S, A> {
+impl<S: Slot, R: SlotArray<S>, A: Allocator> Blocks<S, R, A> {
     /// The tier of the smallest blocks that have `n` slots or more, where there are such.
     #[inline]
     pub(super) fn tier_holding(&self, n: usize) -> usize

@@ -1,5 +1,5 @@
 use Rattle.prefix_trie_map.proofs.Prelude.{ap, State, RemoveChildren, Done, StepByPath, stored}
-use Rattle.prefix_trie_map.proofs.Steps.{by_key, stays}
+use Rattle.prefix_trie_map.proofs.Steps.{by_key, settles_from, stays}
 use Rattle.prefix_trie_map.proofs.map.PrefixMap.drop_children.Goals as goal
 
 pub drop_children-requires-clause-within : goal.drop_children-requires-clause-within
@@ -20,3 +20,7 @@ returns-clause-entries g c = ap (λ (s : State g.row.T.Denot). s.entries) (retur
 
 pub returns-clause-nodes : goal.returns-clause-nodes
 returns-clause-nodes g c = ap (λ (s : State g.row.T.Denot). s.nodes) (returns-clause-step g c).step.1
+
+pub returns-clause-settles : goal.returns-clause-settles
+returns-clause-settles g c =
+    settles_from c.drop_children.new.self _ _ c.self.view_is c.parts-key.ensures.path c.drop_children.ensures.settles

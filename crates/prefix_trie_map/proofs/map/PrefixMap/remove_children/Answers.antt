@@ -1,5 +1,5 @@
 use Rattle.prefix_trie_map.proofs.Prelude.{sym, subst, err_from_is_err_and, IsMap, State, Storage, HandsOutInStorage, handing_laws, state, stored}
-use Rattle.prefix_trie_map.proofs.Steps.{by_key}
+use Rattle.prefix_trie_map.proofs.Steps.{by_key, settles_from}
 use Rattle.prefix_trie_map.proofs.map.PrefixMap.remove_children.Goals as goal
 
 pub parts-key-requires : goal.parts-key-requires
@@ -25,6 +25,10 @@ pub returns-clause-step : goal.returns-clause-step
 returns-clause-step g c =
     by_key (λ old k. HandsOutInStorage (stored old) k (stored c.in_ok-table.table) (stored c.remove_children.new.self)) c.self.view_is c.parts-key.ensures.path
     c.in_ok-table.ensures.handed
+
+pub returns-clause-settles : goal.returns-clause-settles
+returns-clause-settles g c =
+    settles_from c.remove_children.new.self _ _ c.self.view_is c.parts-key.ensures.path c.in_ok-table.ensures.settles
 
 pub returns-clause-handed : goal.returns-clause-handed
 returns-clause-handed g c = (returns-clause-step g c).hands_out.handed

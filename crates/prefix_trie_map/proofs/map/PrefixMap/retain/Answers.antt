@@ -1,6 +1,24 @@
+use Rattle.prefix_trie_map.proofs.Prelude.{subst, RetainsInStorage, SettlesInStorage, Contents, state, storage, stored, AsksAt}
+use Rattle.prefix_trie_map.proofs.Asking.{IsMap-tidied}
 use Rattle.prefix_trie_map.proofs.map.PrefixMap.retain.Goals as goal
 
-pub returns : goal.returns
-returns g c =
-    let step = c.retain_by.ensures.step in
-    record { whole = c.retain_by.ensures.whole; kept = step.kept; nodes = step.nodes; step = step }
+pub retain-requires-clause-within : goal.retain-requires-clause-within
+retain-requires-clause-within g c = c.self.invariant.keys_within
+
+pub returns-clause-step : goal.returns-clause-step
+returns-clause-step g c =
+    subst (λ (m : Contents g.row.T.Denot). RetainsInStorage (AsksAt g.F.FnMut g.P.Prefix.back) c.args.test (stored m) (stored c.retain.new.self)) c.self.view_is
+    c.retain.ensures.step
+
+pub returns-clause-kept : goal.returns-clause-kept
+returns-clause-kept g c = (returns-clause-step g c).kept
+
+pub returns-clause-nodes : goal.returns-clause-nodes
+returns-clause-nodes g c = (returns-clause-step g c).nodes
+
+pub returns-clause-settles : goal.returns-clause-settles
+returns-clause-settles g c =
+    subst (λ (m : Contents g.row.T.Denot). SettlesInStorage (storage m) (storage c.retain.new.self)) c.self.view_is c.retain.ensures.settles
+
+pub invariant_of-self : goal.invariant_of-self
+invariant_of-self g c = IsMap-tidied g.P.R.Key.bit_width (state c.retain.new.self) c.retain.ensures.fits (returns-clause-step g c).nodes

@@ -1,5 +1,5 @@
-use Rattle.prefix_trie_table.proofs.Prelude.{◌≡◌, vec_len, swap_runs}
+use Rattle.prefix_trie_table.proofs.Prelude.{◌≡◌, length, swap_runs}
 use Rattle.prefix_trie_table.proofs.allocator.slots.exchange.Given as goal
 
 abbrev pub invariant-loop-i : goal.invariant-loop-i
-invariant-loop-i g l = record { items : l.slots.items ≡ swap_runs l.initial.slots.items l.a l.b l.i; len : vec_len l.slots ≡ vec_len l.initial.slots }
+invariant-loop-i g l = record { items : (g.R.SlotArray.list l.slots) ≡ swap_runs (g.R.SlotArray.list l.initial.slots) l.a l.b l.i; len : length (g.R.SlotArray.list l.slots) ≡ length (g.R.SlotArray.list l.initial.slots) }

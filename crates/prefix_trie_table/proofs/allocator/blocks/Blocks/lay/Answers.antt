@@ -5,8 +5,8 @@ use Rattle.prefix_trie_table.proofs.allocator.blocks.Blocks.lay.Goals as goal
 pub write_run-requires : goal.write_run-requires
 write_run-requires g c =
     let inside = run_inside g.S.Slot.vacant c.args.self.now c.lay_vacant.new.self c.in_ok-at.at c.requires.sound.0 c.requires.sound.1 c.args.items.now c.in_ok-at.ensures.laid in
-    let seen : c.in_ok-at.at.start + length c.args.items.now ≤ length c.self.inside.slots.items = rw (← c.self.view_is) at inside in
-    record { within = omega (arith, seen, c.self.inside.slots.ok.0) }
+    let seen : c.in_ok-at.at.start + length c.args.items.now ≤ length (g.R.SlotArray.list c.self.inside.slots) = rw (← c.self.view_is) at inside in
+    record { within = omega (arith, seen) }
 
 pub returns-clause-laid : goal.returns-clause-laid
 returns-clause-laid g c =

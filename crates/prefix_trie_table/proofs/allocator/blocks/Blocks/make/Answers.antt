@@ -13,11 +13,11 @@ invariant_of-self-2 g c =
     let within : c.args.k < length v.lists.items = rw (← c.self.view_is) at c.requires in
     let added : c.push_made.new.self ≡ record old { made = old.made + 1; starts = old.starts ++ c.len-len.result ∷ [] } = told_ok c.push_made.result c.if-is_err-2.ensures.value c.push_made.ensures.ok in
     let size : c.size_of-size.result ≡ old.size = (rw (← c.self.view_is) at c.size_of-size.ensures) ∙ sym (size_at v.lists.items c.args.k) ∙ ap (λ (t : Tier). t.size) (get_or_default v.lists.items c.args.k _ old within ∙ sym c.index_mut-list.ensures.value) in
-    let len : length c.push_vacant.new.slots.items ≡ length v.slots.items + old.size = ap (λ xs. length xs) c.push_vacant.ensures ∙ length-append c.make_room.new.items.items (replicate c.size_of-size.result g.S.Slot.vacant) ∙ (let r = length-replicate c.size_of-size.result g.S.Slot.vacant in let e : length c.make_room.new.items.items ≡ length v.slots.items = ap (λ xs. length xs) c.make_room.ensures.items in omega arith) in
-    let made = made_fits v.lists.items c.args.k old c.push_made.new.self (old.starts ++ c.len-len.result ∷ []) v.first (length v.slots.items) within c.index_mut-list.ensures.value added (c.self.invariant.1 ∙ v.slots.ok.0) in
+    let len : length (g.R.SlotArray.list c.push_vacant.new.slots) ≡ length (g.R.SlotArray.list v.slots) + old.size = ap (λ xs. length xs) c.push_vacant.ensures ∙ length-append (g.R.SlotArray.list c.make_room.new.self) (replicate c.size_of-size.result g.S.Slot.vacant) ∙ (let r = length-replicate c.size_of-size.result g.S.Slot.vacant in let e : length (g.R.SlotArray.list c.make_room.new.self) ≡ length (g.R.SlotArray.list v.slots) = ap (λ xs. length xs) c.make_room.ensures.list in omega arith) in
+    let made = made_fits v.lists.items c.args.k old c.push_made.new.self (old.starts ++ c.len-len.result ∷ []) v.first (length (g.R.SlotArray.list v.slots)) within c.index_mut-list.ensures.value added (c.self.invariant.1) in
     let kept = sizes_kept v.lists.items c.args.k c.push_made.new.self c.self.invariant.2 (ap (λ (t : Tier). t.size) added ∙ ap (λ (t : Tier). t.size) (c.index_mut-list.ensures.value ∙ sym (get_or_default v.lists.items c.args.k _ old within))) in
-    let before : c.len-len.result ≡ length v.slots.items = rw (← c.self.view_is) at c.len-len.ensures.len in
-    (omega (arith, len, before, c.if-len-size.false, c.push_vacant.new.slots.ok.0, v.slots.ok.0), made ∙ sym len ∙ sym c.push_vacant.new.slots.ok.0, kept)
+    let before : c.len-len.result ≡ length (g.R.SlotArray.list v.slots) = rw (← c.self.view_is) at c.len-len.ensures.len in
+    (omega (arith, len, before, c.if-len-size.false), made ∙ sym len, kept)
 
 pub returns-clause-sound : goal.returns-clause-sound
 returns-clause-sound g c = λ live s.
@@ -27,7 +27,7 @@ returns-clause-sound g c = λ live s.
     let at_k : tier_at v.lists.items c.args.k ≡ old = get_or_default v.lists.items c.args.k _ old within ∙ sym c.index_mut-list.ensures.value in
     let added : c.push_made.new.self ≡ record old { made = old.made + 1; starts = old.starts ++ c.len-len.result ∷ [] } = told_ok c.push_made.result c.if-is_err-2.ensures.value c.push_made.ensures.ok in
     let size : c.size_of-size.result ≡ (tier_at v.lists.items c.args.k).size = (rw (← c.self.view_is) at c.size_of-size.ensures) ∙ sym (size_at v.lists.items c.args.k) in
-    Sound-grown_as g.S.Slot.vacant live _ c.args.k c.size_of-size.result c.len-len.result c.push_made.new.self c.push_vacant.new.slots.items within (c.push_vacant.ensures ∙ ap (λ xs. xs ++ replicate c.size_of-size.result g.S.Slot.vacant) c.make_room.ensures.items) size (rw (← c.self.view_is) at c.len-len.ensures.len) (added ∙ ap (λ (t : Tier). record t { made = t.made + 1; starts = t.starts ++ c.len-len.result ∷ [] }) (sym at_k)) (rw (← c.self.view_is) at s)
+    Sound-grown_as g.S.Slot.vacant live _ c.args.k c.size_of-size.result c.len-len.result c.push_made.new.self (g.R.SlotArray.list c.push_vacant.new.slots) within (c.push_vacant.ensures ∙ ap (λ xs. xs ++ replicate c.size_of-size.result g.S.Slot.vacant) c.make_room.ensures.list) size (rw (← c.self.view_is) at c.len-len.ensures.len) (added ∙ ap (λ (t : Tier). record t { made = t.made + 1; starts = t.starts ++ c.len-len.result ∷ [] }) (sym at_k)) (rw (← c.self.view_is) at s)
 
 pub returns-then-len-size-clause-range : goal.returns-then-len-size-clause-range
 returns-then-len-size-clause-range g c = search rules
@@ -39,7 +39,7 @@ no_range limit len size fits = (λ e. search (rules, e), λ more. absurd (omega 
 pub returns-then-is_err : goal.returns-then-is_err
 returns-then-is_err g c =
     let v = c.self.inside in
-    let same : (record { slots = c.make_room.new.items.items; first = v.first; tiers = v.lists.items; limit = v.limit }) ≡ c.args.self.now = rw (← c.self.view_is) (λ i. record { slots = c.make_room.ensures.items i; first = v.first; tiers = v.lists.items; limit = v.limit }) in
+    let same : (record { slots = (g.R.SlotArray.list c.make_room.new.self); first = v.first; tiers = v.lists.items; limit = v.limit }) ≡ c.args.self.now = rw (← c.self.view_is) (λ i. record { slots = c.make_room.ensures.list i; first = v.first; tiers = v.lists.items; limit = v.limit }) in
     record {
       made = tt;
       err = same;
@@ -53,7 +53,7 @@ returns-then-is_err-2 g c =
     let v = c.self.inside in
     let list = told_err c.push_made.result c.if-is_err-2.ensures.value c.push_made.ensures.err in
     let lists = ap (set v.lists.items c.args.k) (list ∙ c.index_mut-list.ensures.value) ∙ set-get_or v.lists.items c.args.k c.index_mut-list.result.now in
-    let same : (record { slots = c.make_room.new.items.items; first = v.first; tiers = set v.lists.items c.args.k c.push_made.new.self; limit = v.limit }) ≡ c.args.self.now = rw (← c.self.view_is) (λ i. record { slots = c.make_room.ensures.items i; first = v.first; tiers = lists i; limit = v.limit }) in
+    let same : (record { slots = (g.R.SlotArray.list c.make_room.new.self); first = v.first; tiers = set v.lists.items c.args.k c.push_made.new.self; limit = v.limit }) ≡ c.args.self.now = rw (← c.self.view_is) (λ i. record { slots = c.make_room.ensures.list i; first = v.first; tiers = lists i; limit = v.limit }) in
     record {
       made = tt;
       err = same;
@@ -69,8 +69,8 @@ push_made-requires g c =
     let old = c.index_mut-list.result.now in
     let at_k : (tier_at v.lists.items c.args.k).made ≡ old.made = ap (λ (t : Tier). t.made) (get_or_default v.lists.items c.args.k _ old within ∙ sym c.index_mut-list.ensures.value) in
     let size : c.size_of-size.result ≡ (tier_at v.lists.items c.args.k).size = (rw (← c.self.view_is) at c.size_of-size.ensures) ∙ sym (size_at v.lists.items c.args.k) in
-    let before : c.len-len.result ≡ length v.slots.items = rw (← c.self.view_is) at c.len-len.ensures.len in
-    omega (arith, at_k, size, before, made_within v.lists.items c.args.k c.self.invariant.2 within, sizes_positive v.lists.items c.self.invariant.2 c.args.k within, c.self.invariant.1, v.slots.ok.0, c.if-len-size.false, c.ranges)
+    let before : c.len-len.result ≡ length (g.R.SlotArray.list v.slots) = rw (← c.self.view_is) at c.len-len.ensures.len in
+    omega (arith, at_k, size, before, made_within v.lists.items c.args.k c.self.invariant.2 within, sizes_positive v.lists.items c.self.invariant.2 c.args.k within, c.self.invariant.1, c.if-len-size.false, c.ranges)
 
 pub returns-clause-made : goal.returns-clause-made
 returns-clause-made g c =
@@ -82,14 +82,14 @@ returns-clause-made g c =
     let is : c.push_made.new.self ≡ record (tier_at v.lists.items c.args.k) { made = (tier_at v.lists.items c.args.k).made + 1; starts = (tier_at v.lists.items c.args.k).starts ++ c.len-len.result ∷ [] } =
     added ∙ ap (λ (u : Tier). record u { made = u.made + 1; starts = u.starts ++ c.len-len.result ∷ [] }) (sym at_k) in
     let size : c.size_of-size.result ≡ size_in (tier_sizes v.lists.items) c.args.k = rw (← c.self.view_is) at c.size_of-size.ensures in
-    let before : c.len-len.result ≡ length v.slots.items = rw (← c.self.view_is) at c.len-len.ensures.len in
+    let before : c.len-len.result ≡ length (g.R.SlotArray.list v.slots) = rw (← c.self.view_is) at c.len-len.ensures.len in
     let starts : length (c.push_made.new.self).starts ≡ length (tier_at v.lists.items c.args.k).starts + 1 = ap (λ (u : Tier). length u.starts) is ∙ length-append (tier_at v.lists.items c.args.k).starts (c.len-len.result ∷ []) in
-    let slots = c.push_vacant.ensures ∙ ap (λ xs. xs ++ replicate c.size_of-size.result g.S.Slot.vacant) c.make_room.ensures.items ∙ ap (λ n. v.slots.items ++ replicate n g.S.Slot.vacant) size in
+    let slots = c.push_vacant.ensures ∙ ap (λ xs. xs ++ replicate c.size_of-size.result g.S.Slot.vacant) c.make_room.ensures.list ∙ ap (λ n. (g.R.SlotArray.list v.slots) ++ replicate n g.S.Slot.vacant) size in
     rw (← c.self.view_is) (Turnover-grown _ c.args.k c.push_made.new.self (sizes_up v.lists.items c.self.invariant.2) within (ap (λ (u : Tier). u.size) is) _
-    (size_at v.lists.items c.args.k) g.S.Slot.vacant _ slots (omega (arith, c.self.invariant.1, v.slots.ok.0)) (omega (arith, c.if-len-size.false, size, before)) (ap (λ (u : Tier). u.made) is) starts)
+    (size_at v.lists.items c.args.k) g.S.Slot.vacant _ slots (omega (arith, c.self.invariant.1)) (omega (arith, c.if-len-size.false, size, before)) (ap (λ (u : Tier). u.made) is) starts)
 
 pub returns-clause-kept : goal.returns-clause-kept
 returns-clause-kept g c =
     let v = c.self.inside in
-    rw (← c.self.view_is) (λ i d h. ap (λ xs. get_or xs i d) (c.push_vacant.ensures ∙ ap (λ xs. xs ++ replicate c.size_of-size.result g.S.Slot.vacant) c.make_room.ensures.items)
-    ∙ get_or_append_left v.slots.items (replicate c.size_of-size.result g.S.Slot.vacant) d i h)
+    rw (← c.self.view_is) (λ i d h. ap (λ xs. get_or xs i d) (c.push_vacant.ensures ∙ ap (λ xs. xs ++ replicate c.size_of-size.result g.S.Slot.vacant) c.make_room.ensures.list)
+    ∙ get_or_append_left (g.R.SlotArray.list v.slots) (replicate c.size_of-size.result g.S.Slot.vacant) d i h)

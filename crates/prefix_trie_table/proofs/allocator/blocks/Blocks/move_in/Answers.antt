@@ -14,24 +14,24 @@ move_in-requires g c =
     let wb = block_inside g.S.Slot.vacant b (a ∷ q.2) _ (Sound-exchanged g.S.Slot.vacant a b q.2 _ s) in
     let fits = fits_block g.S.Slot.vacant a (b ∷ q.2) _ s in
     record {
-      from_within = omega (arith, wa.before, fits, q.4, q.6, v.slots.ok.0);
-      to_within = omega (arith, wb.before, q.5, q.8, v.slots.ok.0);
+      from_within = omega (arith, wa.before, fits, q.4, q.6);
+      to_within = omega (arith, wb.before, q.5, q.8);
       apart = elim (cases_lt c.args.to (c.args.from + c.args.count)) [
         | inl h ↦ inr (let apart = two_apart g.S.Slot.vacant a b q.2 _ q.7 s in omega (arith, apart, h, fits, q.4, q.5, q.6, q.8))
         | inr h ↦ inl h
       ];
-      unused = ap (λ n. run v.slots.items n (c.args.count + 1)) (sym q.5) ∙ (run_none g.S.Slot.vacant a b q.2 _ q.7 s (c.args.count + 1) (omega (arith, q.8)));
+      unused = ap (λ n. run (g.R.SlotArray.list v.slots) n (c.args.count + 1)) (sym q.5) ∙ (run_none g.S.Slot.vacant a b q.2 _ q.7 s (c.args.count + 1) (omega (arith, q.8)));
       place = c.requires.place;
     }
 
 pub returns-clause-sound : goal.returns-clause-sound
 returns-clause-sound g c = λ a b live s0 from to count none room.
     let s = rw (← c.self.view_is) at s0 in
-    let xs = c.self.inside.slots.items in
+    let xs = (g.R.SlotArray.list c.self.inside.slots) in
     let n = c.args.count in
-    let written : c.move_in.new.slots.items ≡ put_run (put_run xs a.start (replicate n g.S.Slot.vacant)) b.start (insert a.items c.args.place c.args.value) = c.move_in.ensures.items
+    let written : (g.R.SlotArray.list c.move_in.new.slots) ≡ put_run (put_run xs a.start (replicate n g.S.Slot.vacant)) b.start (insert a.items c.args.place c.args.value) = c.move_in.ensures.items
     ∙ ap (λ i. put_run (put_run xs i (replicate n g.S.Slot.vacant)) c.args.to (insert (run xs i n) c.args.place c.args.value)) (sym from)
     ∙ ap (λ i. put_run (put_run xs a.start (replicate n g.S.Slot.vacant)) i (insert (run xs a.start n) c.args.place c.args.value)) (sym to)
     ∙ ap (λ ys. put_run (put_run xs a.start (replicate n g.S.Slot.vacant)) b.start (insert ys c.args.place c.args.value)) (run_items g.S.Slot.vacant a b live _ none s n count) in
     let long = length-insert a.items c.args.place c.args.value (omega (arith, count, c.requires.place)) in
-    Sound-put_over g.S.Slot.vacant a b live _ none s n (insert a.items c.args.place c.args.value) c.move_in.new.slots.items count (omega (arith, long, count, room)) written
+    Sound-put_over g.S.Slot.vacant a b live _ none s n (insert a.items c.args.place c.args.value) (g.R.SlotArray.list c.move_in.new.slots) count (omega (arith, long, count, room)) written

@@ -1,9 +1,9 @@
-use Rattle.prefix_trie_table.proofs.Prelude.{arith, ◌∙◌}
+use Rattle.prefix_trie_table.proofs.Prelude.{arith}
 use Rattle.prefix_trie_table.proofs.Blocks.Soundness.{no_slots_made, Sound-new}
 use Rattle.prefix_trie_table.proofs.allocator.blocks.Blocks.new.Goals as goal
 
 pub invariant_of-result : goal.invariant_of-result
-invariant_of-result g c = (c.requires.within, omega (arith, no_slots_made c.args.lists.items c.requires.none_made, c.len-first.ensures), c.requires.sizes)
+invariant_of-result g c = (c.requires.within, omega (arith, no_slots_made c.args.lists.items c.requires.none_made, c.count-first.ensures), c.requires.sizes)
 
 pub returns-clause-sound : goal.returns-clause-sound
-returns-clause-sound g c = Sound-new g.S.Slot.vacant _ (c.len-first.ensures ∙ c.args.slots.ok.0) c.requires.none_made
+returns-clause-sound g c = Sound-new g.S.Slot.vacant _ (c.count-first.ensures) c.requires.none_made

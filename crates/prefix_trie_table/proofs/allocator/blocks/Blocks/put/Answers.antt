@@ -4,10 +4,10 @@ use Rattle.prefix_trie_table.proofs.allocator.blocks.Blocks.put.Goals as goal
 
 pub returns-clause-sound : goal.returns-clause-sound
 returns-clause-sound g c = λ b live s starts within.
-    let xs = c.self.inside.slots.items in
-    let written : set xs (c.args.start + c.args.place) c.replace.new.dest ≡ set xs (b.start + c.args.place) c.args.value = ap (λ y. set xs (c.args.start + c.args.place) y) c.replace.ensures.after ∙ ap (λ n. set xs (n + c.args.place) c.args.value) (sym starts) in
+    let xs = g.R.SlotArray.list c.self.inside.slots in
+    let written : g.R.SlotArray.list c.put.new.self ≡ set xs (b.start + c.args.place) c.args.value = c.put.ensures.list ∙ ap (λ n. set xs (n + c.args.place) c.args.value) (sym starts) in
     rw written (Sound-set g.S.Slot.vacant b live _ c.args.place c.args.value within (rw (← c.self.view_is) at s))
 
 pub returns-clause-before : goal.returns-clause-before
 returns-clause-before g c = λ live before s.
-    Sound-set_before g.S.Slot.vacant live _ (c.args.start + c.args.place) c.replace.new.dest (rw (← c.self.view_is) at before) (rw (← c.self.view_is) at s)
+    rw c.put.ensures.list (Sound-set_before g.S.Slot.vacant live _ (c.args.start + c.args.place) c.args.value (rw (← c.self.view_is) at before) (rw (← c.self.view_is) at s))

@@ -1,0 +1,5 @@
+use Rattle.prefix_trie.proofs.Rewriting.{only_once}
+use Rattle.prefix_trie.proofs.laws.rewrite_laws.Goals as goal
+
+pub returns : goal.returns
+returns g c = record { only_once = only_once }

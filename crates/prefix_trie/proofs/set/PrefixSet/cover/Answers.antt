@@ -1,0 +1,4 @@
+use Rattle.prefix_trie.proofs.set.PrefixSet.cover.Goals as goal
+
+pub returns : goal.returns
+returns g c = rw (← c.self.view_is) c.cover_keys.ensures

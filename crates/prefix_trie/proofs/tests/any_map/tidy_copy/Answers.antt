@@ -1,5 +1,0 @@
-use Rattle.prefix_trie.proofs.AnyMap.{tidy_copied}
-use Rattle.prefix_trie.proofs.tests.any_map.tidy_copy.Goals as goal
-
-pub returns : goal.returns
-returns g c = tidy_copied g.T.Clone.is_clone c.args.map.now c.copy_laws.ensures c.requires c.clone.result c.clone.ensures.entries c.clone.ensures.nodes

@@ -1,5 +1,0 @@
-use Rattle.prefix_trie.proofs.Prelude.{sym, ◌∙◌}
-use Rattle.prefix_trie.proofs.tests.examples.inventory.addresses.Goals as goal
-
-pub returns : goal.returns
-returns g c = sym (c.network_laws.ensures.ipv4_count c.address_count.result c.address_count.ensures.key) ∙ c.address_count.ensures.count

@@ -1,8 +1,0 @@
-use Rattle.prefix_trie.proofs.Prelude.{ℕ, ap, sym, ◌∙◌, needed, tidy-no_entries}
-use Rattle.prefix_trie.proofs.Ran.{nodes_of_tidy}
-use Rattle.prefix_trie.proofs.tests.runs.callers.nodes_of_new.Goals as goal
-
-pub returns-in-Ok : goal.returns-in-Ok
-returns-in-Ok g c =
-    let made = c.in_ok-map.ensures in
-    nodes_of_tidy _ _ _ _ _ _ _ _ _ (made.nodes ∙ tidy-no_entries ℕ ∙ ap needed (sym made.entries)) c.in-Ok.ensures.counted.1

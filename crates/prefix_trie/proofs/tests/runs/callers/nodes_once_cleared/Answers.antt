@@ -1,7 +1,0 @@
-use Rattle.prefix_trie.proofs.Prelude.{IfOk-weaker}
-use Rattle.prefix_trie.proofs.Ran.{nodes_cleared}
-use Rattle.prefix_trie.proofs.tests.runs.callers.nodes_once_cleared.Goals as goal
-
-pub returns : goal.returns
-returns g c =
-    IfOk-weaker c.run.result _ _ (λ replies counted. nodes_cleared _ _ _ _ _ _ _ _ _ counted.1) c.run.ensures.counted

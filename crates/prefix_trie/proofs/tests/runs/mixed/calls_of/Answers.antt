@@ -1,7 +1,0 @@
-use Rattle.prefix_trie.proofs.Prelude.{All, sym, subst, All-push, IsFittingCall}
-use Rattle.prefix_trie.proofs.tests.runs.mixed.calls_of.Goals as goal
-
-pub loop-draw-preserved : goal.loop-draw-preserved
-loop-draw-preserved g c =
-    subst (All (IsFittingCall g.P.Prefix.IsFitting)) (sym c.in_ok-push.ensures.items)
-    (All-push (IsFittingCall g.P.Prefix.IsFitting) c.loop-draw.calls.items _ c.loop-draw.invariant c.call_of.ensures)

@@ -1,5 +1,0 @@
-use Rattle.prefix_trie.proofs.Prelude.{All, IsFittingCall}
-use Rattle.prefix_trie.proofs.tests.runs.mixed.calls_of.Given as goal
-
-abbrev pub invariant-loop-draw : goal.invariant-loop-draw
-invariant-loop-draw g l = All (IsFittingCall g.P.Prefix.IsFitting) l.calls.items

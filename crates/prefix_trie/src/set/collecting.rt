@@ -1,0 +1,40 @@
+//! Sets of the prefixes that an iterator gives.
+ghost use Rattle.std.specs.Prelude.{◌≡◌, List, ◌+◌, ◌-◌, ◌*◌, ◌^◌, ◌<◌, length, map, All, IfOk, IfErr};
+ghost use Rattle.std.specs.Iterator.{IsFinite, HoldsAlong, Yields, Drains};
+ghost use Rattle.prefix_trie_bits.specs.declared.prefix.Refusal.TheVariants.{IndexRange};
+ghost use Rattle.prefix_trie_bits.specs.Model.Entries.{no_entries, put_all};
+ghost use Rattle.prefix_trie_bits.specs.Model.Nodes.{IsTidy};
+ghost use Rattle.prefix_trie.specs.Sets.{as_item};
+
+use crate::set::PrefixSet;
+use prefix_trie_bits::prefix::{Prefix, Refusal};
+use prefix_trie_map::map::PrefixMap;
+use std::alloc::Allocator;
+use std::iter::IntoIterator;
+
+impl<P: Prefix, A: Allocator + Clone> PrefixSet<P, A> {
+    /// The set of the prefixes that an iterator gives, put in in turn. It has the limit of `new`. Asks that the iterator comes to
+    /// its end, and that each prefix that it gives fits.
+    ///
+    /// Errors: as of `insert`, `Memory`, or `IndexRange` where the prefixes are very many: each makes at most 56 slots of an array.
+    /// Then no set exists, and what was taken is dropped.
+    ///
+    /// ```text
+    /// PrefixSet::from_iter(alloc, vec![in alloc; 10.1.0.0/16, 10.1.255.255/16]?)?
+    ///     has one key, 10.1.0.0/16, since both have one path
+    /// ```
+    pub fn from_iter<I: IntoIterator<Item = P> + Drop>(alloc: A, items: I) -> Result<Self, Refusal>
+        requires ends { (it : I.IntoIter) → I.into_iter_gives items it → I.IntoIter.can_next it × IsFinite (I.IntoIter.remaining it) }
+        requires fit { (it : I.IntoIter) → I.into_iter_gives items it → HoldsAlong I.IntoIter.next_gives it (All P.IsFitting) }
+        ensures entries { IfOk result (λ set. (it : I.IntoIter) × (xs : List P) × I.into_iter_gives items it × Drains I.IntoIter.next_gives it xs × (set.entries ≡ put_all P.path (map as_item xs) no_entries)) }
+        ensures tidy { IfOk result (λ set. IsTidy set.entries set.nodes) }
+        ensures limit { IfOk result (λ set. set.room.limit ≡ 2 ^ 32 - 1) }
+
+        // For want of slots only where so many prefixes came that 56 slots for each pass the limit.
+        ensures range { IfErr result (λ cause. cause ≡ IndexRange → (it : I.IntoIter) × (xs : List P) × (rest : I.IntoIter) × I.into_iter_gives items it × Yields I.IntoIter.next_gives it xs rest × (2 ^ 32 - 1 < 1 + 56 * length xs)) }
+    {
+        let units = items.into_iter().map(|prefix| (prefix, ()));
+        let map = PrefixMap::from_iter(alloc, units)?;
+        Ok(PrefixSet { map })
+    }
+}

@@ -1,0 +1,4 @@
+-- Networks by numbers: their ends, parents and order.
+pub mod Ends
+pub mod Parents
+pub mod Order

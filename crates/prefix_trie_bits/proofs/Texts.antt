@@ -1,0 +1,8 @@
+-- The texts of networks and of numbers.
+pub mod Bytes
+pub mod Decimals
+pub mod Slashes
+pub mod Parsing
+pub mod Inline
+pub mod FullGroups
+pub mod Laws

@@ -1,0 +1,12 @@
+use Rattle.std.proofs.Common.{◌≡◌, ◌-◌, ◌<◌, ◌≤◌, ap, ◌∙◌, subst, arith}
+use Rattle.prefix_trie_bits.proofs.Networks.Parents.{parent_is}
+use Rattle.prefix_trie_bits.proofs.prefix.networks.Ipv4Prefix.parent.Goals as goal
+
+pub returns : goal.returns
+returns c =
+    let addr : c.self.inside.addr ≡ c.args.self.now.0 = ap (λ p. p.0) c.self.view_is in
+    let len : c.self.inside.len ≡ c.args.self.now.1 = ap (λ p. p.1) c.self.view_is in
+    let within : c.args.self.now.1 ≤ 32 = subst (λ n. n ≤ 32) len c.self.invariant in
+    let shorter : c.self.inside.len - 1 ≡ c.args.self.now.1 - 1 = ap (λ n. n - 1) len in
+    let positive : 0 < c.args.self.now.1 = omega (arith, len, c.if-self-eq0.false) in
+    (positive, parent_is 32 c.args.self.now c.keep-addr.result c.self.inside.addr (c.self.inside.len - 1) c.from.result addr shorter (c.from.ensures ∙ shorter) within c.keep-addr.ensures.key c.keep-addr.ensures.value)

@@ -1,0 +1,6 @@
+use Rattle.std.proofs.Common.{◌-◌, ap, arith}
+use Rattle.std.proofs.lemmas.Nat.{one_shl}
+use Rattle.prefix_trie_bits.proofs.prefix.networks.addresses.host_u32.Goals as goal
+
+pub returns : goal.returns
+returns c = ap (λ x. x - 1) (one_shl (32 - c.args.len) 32 (omega arith))

@@ -1,0 +1,28 @@
+-- IP networks as pairs of an address and a length, by the width of an address in bits. This project's own.
+use Rattle.std.specs.Prelude.{◌≡◌, ℕ, ◌-◌, ◌++◌, Bool, List, length, take}
+use Rattle.std.specs.declared.cmp.Ordering.{Ordering}
+use Rattle.std.specs.Ordering.{nat_cmp, on, then_cmp}
+use Rattle.prefix_trie_bits.specs.Bits.{number, digits, zeros, ones}
+
+-- the path: the first bits of the address, as many as the length
+abbrev pub network_path : ℕ → ℕ × ℕ → List Bool
+network_path width network = take network.1 (digits width network.0)
+
+-- the network with a path, without host bits
+abbrev pub network_back : ℕ → List Bool → ℕ × ℕ
+network_back width s = (number (s ++ zeros (width - length s)), length s)
+
+-- the lowest and the highest address: the path, and then zeros or ones
+abbrev pub lowest_address : ℕ → ℕ × ℕ → ℕ
+lowest_address width network = number (network_path width network ++ zeros (width - network.1))
+
+abbrev pub highest_address : ℕ → ℕ × ℕ → ℕ
+highest_address width network = number (network_path width network ++ ones (width - network.1))
+
+-- each host bit is 0
+abbrev pub HasNoHostBits : ℕ → ℕ × ℕ → Type 0
+HasNoHostBits width network = network.0 ≡ lowest_address width network
+
+-- the order of networks: by address, and then by length
+abbrev pub network_cmp : ℕ × ℕ → ℕ × ℕ → Ordering
+network_cmp = then_cmp (on (λ network. network.0) nat_cmp) (on (λ network. network.1) nat_cmp)

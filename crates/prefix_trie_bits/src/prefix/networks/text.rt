@@ -1,0 +1,217 @@
+//! The text of networks: what `Display` writes, and what `parse` reads.
+ghost use Rattle.std.specs.Char.{digit_char};
+ghost use Rattle.std.specs.Fmt.{DisplaysOnOk, DisplaysStyledOnOk, formatter_spec, padded};
+ghost use Rattle.std.specs.Option.{option_map};
+ghost use Rattle.std.specs.Prelude.{◌≡◌, ◌<◌, Some};
+
+use super::{Ipv4Prefix, Ipv6Prefix};
+use crate::prefix::decimal::read_decimal;
+use std::error::Error;
+use std::fmt::{self, Debug, Display, Formatter, InlineText, Write};
+use std::net::{Ipv4Addr, Ipv6Addr};
+use std::str::{self, FromStr};
+
+/// Why a text is not a network.
+///
+/// ```text
+/// "10.0.0.0".parse::<Ipv4Prefix>()      Err(ParseNetworkError::MissingSlash)
+/// "10.0.0/8".parse::<Ipv4Prefix>()      Err(ParseNetworkError::Address)
+/// "10.0.0.0/33".parse::<Ipv4Prefix>()   Err(ParseNetworkError::Length)
+/// ```
+#[derive(Clone, Copy, Debug, PartialEq, Eq)]
+pub enum ParseNetworkError {
+    /// The text has no slash.
+    MissingSlash,
+    /// The text before the first slash is not an address of the family.
+    Address,
+    /// The text after the first slash is not a length: a decimal number up to the width, with no sign and no leading zero.
+    Length,
+}
+
+impl ParseNetworkError {
+    ghost use Rattle.prefix_trie_bits.specs.Texts.{parse_network_error_text};
+
+    // Its text.
+    fn words(self) -> &'static str
+        ensures { result.now ≡ parse_network_error_text self }
+    {
+        match self {
+            ParseNetworkError::MissingSlash => "missing slash between address and length",
+            ParseNetworkError::Address => "invalid address before the slash",
+            ParseNetworkError::Length => "invalid length after the slash",
+        }
+    }
+}
+
+impl Display for ParseNetworkError {
+    ghost use Rattle.prefix_trie_bits.specs.Texts.{parse_network_error_text};
+
+    ghost output = { λ error. Some (parse_network_error_text error) };
+
+    ghost styled_output = { λ error spec. Some (padded spec (parse_network_error_text error)) };
+
+    fn fmt<F: Write>(&self, f: &mut Formatter<F>) -> fmt::Result {
+        f.pad(self.words())
+    }
+}
+
+impl Error for ParseNetworkError {}
+
+// The longest text: eight groups of four digits, seven colons, a slash and three digits.
+const LONGEST: usize = 43;
+
+// Writes `value` as a whole, under the options of the formatter.
+fn pad<F: Write, D: Display + Drop>(f: &mut Formatter<F>, value: D) -> fmt::Result
+    ensures writes { DisplaysOnOk F.Write.write_str_gives f.old result (D.Display.output value) f.new }
+    ensures styled { DisplaysStyledOnOk F.Write.write_str_gives f.old result (option_map (padded (formatter_spec f.old)) (D.Display.output value)) f.new }
+{
+    let mut text = InlineText::<LONGEST>::new();
+    text.write(value)?;
+    f.pad(text.as_str())
+}
+
+impl Display for Ipv4Prefix {
+    ghost use Rattle.prefix_trie_bits.specs.Texts.{ipv4_network_text};
+
+    ghost output = { λ p. Some (ipv4_network_text p) };
+
+    ghost styled_output = { λ p spec. Some (padded spec (ipv4_network_text p)) };
+
+    fn fmt<F: Write>(&self, f: &mut Formatter<F>) -> fmt::Result {
+        pad(f, format_args!("{}/{}", self.address(), self.len))
+    }
+}
+
+impl Display for Ipv6Prefix {
+    ghost use Rattle.prefix_trie_bits.specs.Texts.{ipv6_network_text};
+
+    ghost output = { λ p. Some (ipv6_network_text p) };
+
+    ghost styled_output = { λ p spec. Some (padded spec (ipv6_network_text p)) };
+
+    fn fmt<F: Write>(&self, f: &mut Formatter<F>) -> fmt::Result {
+        pad(f, format_args!("{}/{}", self.address(), self.len))
+    }
+}
+
+impl Debug for Ipv4Prefix {
+    ghost use Rattle.prefix_trie_bits.specs.Texts.{ipv4_network_text};
+
+    ghost debug_output = { λ p. Some (ipv4_network_text p) };
+
+    fn fmt<F: Write>(&self, f: &mut Formatter<F>) -> fmt::Result {
+        Display::fmt(self, f)
+    }
+}
+
+// A hexadecimal digit, in lower case.
+fn digit(value: u16) -> u8
+    requires { value < 16 }
+    ensures { result ≡ digit_char value }
+{
+    if value < 10 {
+        b'0' + value as u8
+    } else {
+        b'a' + (value - 10) as u8
+    }
+}
+
+// A segment as four hexadecimal digits.
+#[derive(Clone, Copy)]
+struct Group(u16);
+
+impl Display for Group {
+    ghost use Rattle.prefix_trie_bits.specs.Texts.{four_digits};
+
+    ghost output = { λ g. Some (four_digits g.0) };
+
+    fn fmt<F: Write>(&self, f: &mut Formatter<F>) -> fmt::Result {
+        let segment = self.0;
+        let digits = [
+            digit(segment / 0x1000),
+            digit(segment / 0x100 % 16),
+            digit(segment / 0x10 % 16),
+            digit(segment % 16),
+        ];
+        f.write_str(str::from_utf8(&digits).map_err(|_| fmt::Error)?)
+    }
+}
+
+// Segments with colons between them.
+#[derive(Clone, Copy)]
+struct Groups<'a>(&'a [u16]);
+
+impl Display for Groups<'_> {
+    ghost use Rattle.prefix_trie_bits.specs.Texts.{full_groups};
+
+    ghost output = { λ g. Some (full_groups g.0.now) };
+
+    fn fmt<F: Write>(&self, f: &mut Formatter<F>) -> fmt::Result {
+        if let [first, rest @ ..] = self.0 {
+            f.write(Group(*first))?;
+            for segment in rest {
+                write!(f, ":{}", Group(*segment))?;
+            }
+        }
+        Ok(())
+    }
+}
+
+impl Debug for Ipv6Prefix {
+    ghost use Rattle.prefix_trie_bits.specs.Texts.{ipv6_full_text};
+
+    ghost debug_output = { λ p. Some (ipv6_full_text p) };
+
+    fn fmt<F: Write>(&self, f: &mut Formatter<F>) -> fmt::Result {
+        let segments = self.address().segments();
+        write!(f, "{}/{}", Groups(&segments), self.len)
+    }
+}
+
+impl FromStr for Ipv4Prefix {
+    type Err = ParseNetworkError;
+
+    ghost use Rattle.prefix_trie_bits.specs.Texts.{ParsesIpv4Network};
+
+    ghost from_str_gives = { ParsesIpv4Network };
+
+    fn from_str(text: &str) -> Result<Ipv4Prefix, ParseNetworkError> {
+        let Some((address, len)) = text.split_once('/') else {
+            return Err(ParseNetworkError::MissingSlash);
+        };
+        let Ok(address) = address.parse::<Ipv4Addr>() else {
+            return Err(ParseNetworkError::Address);
+        };
+        let Some(len) = read_decimal(len, 32) else {
+            return Err(ParseNetworkError::Length);
+        };
+        Ok(Ipv4Prefix {
+            addr: address.to_bits(),
+            len: len as u8,
+        })
+    }
+}
+
+impl FromStr for Ipv6Prefix {
+    type Err = ParseNetworkError;
+
+    ghost use Rattle.prefix_trie_bits.specs.Texts.{ParsesIpv6Network};
+
+    ghost from_str_gives = { ParsesIpv6Network };
+
+    fn from_str(text: &str) -> Result<Ipv6Prefix, ParseNetworkError> {
+        let Some((address, len)) = text.split_once('/') else {
+            return Err(ParseNetworkError::MissingSlash);
+        };
+        let Ok(address) = address.parse::<Ipv6Addr>() else {
+            return Err(ParseNetworkError::Address);
+        };
+        let Some(len) = read_decimal(len, 128) else {
+            return Err(ParseNetworkError::Length);
+        };
+        Ok(Ipv6Prefix {
+            addr: address.to_bits(),
+            len: len as u8,
+        })
+    }
+}

@@ -1,6 +1,0 @@
-use Rattle.prefix_trie_map.proofs.Prelude.{lent_item}
-use Rattle.prefix_trie_map.proofs.WalkItems.{has_walk}
-use Rattle.prefix_trie_map.proofs.replay.children.Goals as goal
-
-pub returns : goal.returns
-returns g c = has_walk lent_item (λ v. v.items) c.copied.result c.copied.ensures c.children-2.ensures.items

@@ -1,5 +1,0 @@
-use Rattle.prefix_trie_map.proofs.ByPrefix.{clear_step}
-use Rattle.prefix_trie_map.proofs.replay.clear.Goals as goal
-
-pub returns : goal.returns
-returns g c = clear_step g.P.Prefix.path g.P.Prefix.back g.P.R.Key.bit_width _ _ c.clear.ensures.step

@@ -1,5 +1,0 @@
-use Rattle.prefix_trie_map.proofs.Prelude.{rules}
-use Rattle.prefix_trie_map.proofs.replay.count_addresses.Goals as goal
-
-pub returns : goal.returns
-returns g c = search rules

@@ -1,5 +1,0 @@
-use Rattle.prefix_trie_map.proofs.ByPrefix.{children_step}
-use Rattle.prefix_trie_map.proofs.replay.drop_children.Goals as goal
-
-pub returns : goal.returns
-returns g c = children_step g.P.Prefix.path g.P.Prefix.back g.P.R.Key.bit_width _ _ c.args.prefix.now c.drop_children.ensures.step

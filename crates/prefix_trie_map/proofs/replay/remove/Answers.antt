@@ -1,5 +1,0 @@
-use Rattle.prefix_trie_map.proofs.ByPrefix.{remove_step}
-use Rattle.prefix_trie_map.proofs.replay.remove.Goals as goal
-
-pub returns : goal.returns
-returns g c = remove_step g.P.Prefix.path g.P.Prefix.back g.P.R.Key.bit_width _ _ c.args.prefix.now c.remove.result c.remove.ensures.step

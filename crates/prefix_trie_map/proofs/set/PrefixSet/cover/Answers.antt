@@ -1,4 +1,0 @@
-use Rattle.prefix_trie_map.proofs.set.PrefixSet.cover.Goals as goal
-
-pub returns : goal.returns
-returns g c = rw (← c.self.view_is) c.cover_keys.ensures

@@ -1,5 +1,0 @@
-use Rattle.prefix_trie_map.proofs.Prelude.{rules}
-use Rattle.prefix_trie_map.proofs.set.PrefixSet.get_lpm.Goals as goal
-
-pub returns : goal.returns
-returns g c = search rules

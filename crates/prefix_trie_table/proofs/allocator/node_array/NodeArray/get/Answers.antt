@@ -1,0 +1,22 @@
+use Rattle.prefix_trie_table.proofs.Prelude.{◌<◌, length, get_or, ap, ◌∙◌, arith, blank_node}
+use Rattle.prefix_trie_table.specs.NodeArrays.{NodeList, node_of, nodes_of}
+use Rattle.prefix_trie_table.proofs.Blocks.NodeLists.{length-nodes, get_or-nodes}
+use Rattle.prefix_trie_table.proofs.allocator.node_array.NodeArray.get.Goals as goal
+
+pub index-head-requires : goal.index-head-requires
+index-head-requires g c =
+    let v = c.self.inside in
+    let within : c.args.at < length (nodes_of v.heads.items v.sizes.items) = rw (← c.self.view_is) at c.requires in
+    omega (arith, within, length-nodes v.heads.items v.sizes.items c.self.invariant, v.heads.ok.0)
+
+pub index-sizes-requires : goal.index-sizes-requires
+index-sizes-requires g c =
+    let v = c.self.inside in
+    let within : c.args.at < length (nodes_of v.heads.items v.sizes.items) = rw (← c.self.view_is) at c.requires in
+    omega (arith, within, length-nodes v.heads.items v.sizes.items c.self.invariant, c.self.invariant, v.sizes.ok.0)
+
+pub returns : goal.returns
+returns g c =
+    let v = c.self.inside in
+    let within : c.args.at < length (nodes_of v.heads.items v.sizes.items) = rw (← c.self.view_is) at c.requires in
+    (λ i. node_of (c.index-head.ensures i) (c.index-sizes.ensures i)) ∙ get_or-nodes v.heads.items v.sizes.items c.args.at c.index-head.result.now c.index-sizes.result.now blank_node c.self.invariant (omega (arith, within, length-nodes v.heads.items v.sizes.items c.self.invariant)) ∙ ap (λ (a : NodeList). get_or a.list c.args.at blank_node) c.self.view_is

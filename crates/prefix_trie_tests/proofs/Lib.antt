@@ -1,0 +1,7 @@
+pub mod Prelude
+pub mod Allocators
+pub mod Always
+pub mod AnyMap
+pub mod Batches
+pub mod Ran
+pub mod Swapping

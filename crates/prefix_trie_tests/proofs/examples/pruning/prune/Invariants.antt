@@ -1,0 +1,10 @@
+use Rattle.prefix_trie_tests.proofs.Prelude.{All}
+use Rattle.prefix_trie.specs.Words.{IsTidy}
+use Rattle.prefix_trie_tests.proofs.examples.pruning.prune.Given as goal
+
+abbrev pub invariant-loop-prefix : goal.invariant-loop-prefix
+invariant-loop-prefix g l =
+    (goal.iterator-loop-prefix g).can_next l.prefix-iterator
+    × (goal.iterator-loop-prefix g).is_finite l.prefix-iterator
+    × All (λ e. g.P.Prefix.IsFitting e.0) l.prefix-iterator
+    × IsTidy l.map.entries l.map.nodes

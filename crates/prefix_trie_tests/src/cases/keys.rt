@@ -1,0 +1,204 @@
+//! Cases, as calls of a set: of an entry the key counts.
+use crate::cases::filling::Fill;
+use crate::cases::lists::below;
+use crate::cases::questions::{found_pair, is_found_pair, pair_in, pair_of, was_refused};
+use crate::cases::tried::{Answer, State, Tried};
+use crate::cases::{Case, Entry, Pair, prefix_of};
+use crate::refusing::Refusing;
+use crate::retain::retain_long_keys;
+use prefix_trie::map::CoverKeys;
+use prefix_trie::set::Iter;
+use prefix_trie::{Prefix, PrefixSet, Refusal, Refused};
+use std::alloc::{AllocError, Allocator, Global};
+
+/// Whether a walk gives these keys.
+pub fn gives_keys<P: Prefix + Copy + PartialEq, A: Allocator>(
+    walk: Iter<'_, P, A>,
+    keys: &[P],
+) -> bool {
+    walk.eq(keys.iter().copied())
+}
+
+/// Inserts a prefix. It has no `ensures`: those of `insert` would be checked again at each call.
+pub fn put<P: Prefix, A: Allocator>(set: &mut PrefixSet<P, A>, prefix: P) -> Result<bool, Refusal>
+    requires { P.IsFitting prefix }
+{
+    set.insert(prefix)
+}
+
+/// Inserts a prefix. Answers whether it fits and is new.
+pub fn adds_key<P: Prefix, A: Allocator>(set: &mut PrefixSet<P, A>, prefix: P) -> bool {
+    prefix.fits() && put(set, prefix) == Ok(true)
+}
+
+/// All keys, as entries.
+fn entries_of<P: Prefix + Copy, A: Allocator>(
+    alloc: Global,
+    set: &PrefixSet<P, A>,
+) -> Result<Vec<Entry<P::R>>, AllocError> {
+    let mut entries = Vec::new(alloc);
+    for prefix in set.iter() {
+        entries.push((pair_of(prefix), 0))?;
+    }
+    Ok(entries)
+}
+
+/// Whether a walk gives the keys of these entries.
+fn gives<P: Prefix + Copy, A: Allocator>(
+    mut walk: Iter<'_, P, A>,
+    entries: &[Entry<P::R>],
+) -> bool {
+    for entry in entries {
+        if found_pair(walk.next()) != Some(entry.0) {
+            return false;
+        }
+    }
+    walk.next().is_none()
+}
+
+/// Whether the walks from a prefix on, behind it and below it give the keys of these entries, which begin with its own.
+fn gives_from<P: Prefix + Copy, A: Allocator>(
+    set: &PrefixSet<P, A>,
+    at: Pair<P::R>,
+    entries: &[Entry<P::R>],
+) -> bool {
+    let prefix = prefix_of(at);
+    gives(set.iter_from(&prefix, true), entries)
+        & gives(
+            set.iter_from(&prefix, false),
+            entries.get(1..).unwrap_or(&[]),
+        )
+        & gives(set.children(&prefix), below(entries))
+}
+
+/// Whether a walk around a prefix gives these keys.
+fn covers<P: Prefix + Copy, A: Allocator>(
+    mut walk: CoverKeys<'_, P, (), A>,
+    entries: &[Entry<P::R>],
+) -> bool {
+    for entry in entries {
+        if found_pair(walk.next()) != Some(entry.0) {
+            return false;
+        }
+    }
+    walk.next().is_none()
+}
+
+/// Whether all lookups of a prefix answer so.
+fn finds<P: Prefix + Copy, A: Allocator>(
+    set: &PrefixSet<P, A>,
+    at: Pair<P::R>,
+    exact: Option<Pair<P::R>>,
+    longest: Option<Pair<P::R>>,
+    shortest: Option<Pair<P::R>>,
+) -> bool {
+    let prefix = prefix_of(at);
+    is_found_pair(set.get(&prefix), exact)
+        & (set.contains(&prefix) == exact.is_some())
+        & is_found_pair(set.get_lpm(&prefix), longest)
+        & is_found_pair(set.get_spm(&prefix), shortest)
+        & (set.is_covered(&prefix) == shortest.is_some())
+}
+
+impl<P: Prefix + Copy + PartialEq, A: Allocator + Copy> Tried<P::R, A> for PrefixSet<P, A> {
+    fn made(alloc: A, limit: Option<u32>) -> Result<Self, Refusal> {
+        match limit {
+            Some(slots) => PrefixSet::with_slot_limit(alloc, slots),
+            None => PrefixSet::new(alloc),
+        }
+    }
+
+    fn copied(&self) -> Result<Self, AllocError> {
+        self.clone()
+    }
+
+    fn part(&mut self, at: Pair<P::R>) -> Option<Self> {
+        self.remove_children(&prefix_of(at)).ok()
+    }
+
+    fn store(&mut self, _call: Fill, at: Pair<P::R>, _value: u64) -> Answer {
+        match put(self, prefix_of(at)) {
+            Ok(true) => Ok(None),
+            Ok(false) => Ok(Some(0)),
+            Err(cause) => Err(Refused { cause, value: 0 }),
+        }
+    }
+
+    fn kept(_value: u64) -> u64 {
+        0
+    }
+
+    fn state(&self, alloc: Global) -> Result<State<P::R>, AllocError> {
+        Ok((entries_of(alloc, self)?, self.node_count()))
+    }
+
+    fn is_as(&self, state: &State<P::R>) -> bool {
+        gives(self.iter(), &state.0)
+            & (self.len() == state.0.len())
+            & (self.node_count() == state.1)
+    }
+
+    fn is_same(&self, other: &Self) -> bool {
+        (*self == *other)
+            & self.iter().eq(other.iter())
+            & (self.node_count() == other.node_count())
+            & (self.node_slots() == other.node_slots())
+            & (self.cell_slots() == other.cell_slots())
+    }
+
+    fn has_sums(&self) -> bool {
+        (self.node_count() <= self.node_slots()) & (self.len() <= self.cell_slots())
+    }
+
+    fn changes_as(&mut self, case: &Case<'_, P::R>) -> bool {
+        match case {
+            Case::ChangesEntry(at, _, _) => put(self, prefix_of(*at)) == Ok(false),
+            Case::DropsChildren(at) => {
+                self.drop_children(&prefix_of(*at));
+                true
+            }
+            Case::RetainsLong(len) => {
+                retain_long_keys(self, *len);
+                true
+            }
+            Case::Clears => {
+                self.clear();
+                self.is_empty()
+            }
+            _ => is_taken_out(self, case),
+        }
+    }
+
+    fn answers_as(&self, heap: &Refusing<Global>, case: &Case<'_, P::R>) -> bool {
+        match case {
+            Case::Finds(at, exact, longest, shortest) => {
+                let found = (pair_in(*exact), pair_in(*longest), pair_in(*shortest));
+                finds(self, *at, found.0, found.1, found.2)
+            }
+            Case::Lists(entries) => {
+                (self.len() == entries.len())
+                    & gives(self.iter(), entries)
+                    & gives(self.iter().clone(), entries)
+            }
+            Case::ListsFrom(at, entries) => gives_from(self, *at, entries),
+            Case::Covers(at, entries) => covers(self.cover(&prefix_of(*at)), entries),
+            Case::Len(len) => (self.len(), self.is_empty()) == (*len, *len == 0),
+            Case::Addresses(count) => self.address_count() == *count,
+            Case::Nodes(nodes) => self.node_count() == *nodes,
+            Case::Slots(nodes, cells) => {
+                was_refused(heap) || (self.node_slots(), self.cell_slots()) == (*nodes, *cells)
+            }
+            _ => true,
+        }
+    }
+}
+
+/// Whether the call of a case that takes one key out answers so.
+fn is_taken_out<P: Prefix, A: Allocator>(set: &mut PrefixSet<P, A>, case: &Case<'_, P::R>) -> bool {
+    match case {
+        Case::Removes(at, before) => set.remove(&prefix_of(*at)) == before.is_some(),
+        Case::Empties(at, before) => set.remove_keep_tree(&prefix_of(*at)) == before.is_some(),
+        Case::TakesOut(at, _) => set.remove_keep_tree(&prefix_of(*at)),
+        _ => true,
+    }
+}

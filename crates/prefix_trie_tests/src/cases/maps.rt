@@ -1,0 +1,135 @@
+//! Cases, as calls of a map.
+use crate::cases::changes::{writes, writes_longest};
+use crate::cases::filling::{Fill, changes, filled, is_vacant, takes_out};
+use crate::cases::lists::{
+    covers, entries_of, gives, gives_from, gives_same, gives_twice, lends_from,
+};
+use crate::cases::questions::{finds, has_cells, has_nodes, has_sums, was_refused};
+use crate::cases::tried::{Answer, State, Tried};
+use crate::cases::{Case, Pair, prefix_of};
+use crate::examples::expiry::keep_from;
+use crate::refusing::Refusing;
+use crate::retain::retain_long;
+use prefix_trie::{Prefix, PrefixMap, Refusal};
+use std::alloc::{AllocError, Allocator, Global};
+
+impl<P: Prefix + Copy + PartialEq, A: Allocator + Copy> Tried<P::R, A> for PrefixMap<P, u64, A> {
+    fn made(alloc: A, limit: Option<u32>) -> Result<Self, Refusal> {
+        match limit {
+            Some(slots) => PrefixMap::with_slot_limit(alloc, slots),
+            None => PrefixMap::new(alloc),
+        }
+    }
+
+    fn copied(&self) -> Result<Self, AllocError> {
+        self.clone()
+    }
+
+    fn part(&mut self, at: Pair<P::R>) -> Option<Self> {
+        self.remove_children(&prefix_of(at)).ok()
+    }
+
+    fn store(&mut self, call: Fill, at: Pair<P::R>, value: u64) -> Answer {
+        filled(self, call, at, value)
+    }
+
+    fn kept(value: u64) -> u64 {
+        value
+    }
+
+    fn state(&self, alloc: Global) -> Result<State<P::R>, AllocError> {
+        Ok((entries_of(alloc, self)?, self.node_count()))
+    }
+
+    fn is_as(&self, state: &State<P::R>) -> bool {
+        gives(self.iter(), &state.0)
+            & (self.len() == state.0.len())
+            & (self.node_count() == state.1)
+            & has_sums(self)
+    }
+
+    fn is_same(&self, other: &Self) -> bool {
+        (*self == *other)
+            & gives_same(self.iter(), other.iter())
+            & (self.node_count() == other.node_count())
+            & (self.node_blocks() == other.node_blocks())
+            & (self.cell_blocks() == other.cell_blocks())
+    }
+
+    fn has_sums(&self) -> bool {
+        has_sums(self)
+    }
+
+    fn changes_as(&mut self, case: &Case<'_, P::R>) -> bool {
+        match case {
+            Case::Removes(at, before) => self.remove(&prefix_of(*at)) == *before,
+            Case::Empties(at, before) => self.remove_keep_tree(&prefix_of(*at)) == *before,
+            Case::DropsChildren(at) => {
+                self.drop_children(&prefix_of(*at));
+                true
+            }
+            Case::RetainsFrom(least) => {
+                keep_from(self, *least);
+                true
+            }
+            Case::RetainsLong(len) => {
+                retain_long(self, *len);
+                true
+            }
+            Case::Clears => {
+                self.clear();
+                self.is_empty()
+            }
+            _ => is_written(self, case),
+        }
+    }
+
+    fn answers_as(&self, heap: &Refusing<Global>, case: &Case<'_, P::R>) -> bool {
+        match case {
+            Case::Finds(at, exact, longest, shortest) => {
+                finds(heap.inner(), self, *at, *exact, *longest, *shortest)
+            }
+            Case::Lists(entries) => {
+                (self.len() == entries.len())
+                    & gives(self.into_iter(), entries)
+                    & gives_twice(self.iter(), self.keys(), self.values(), entries)
+            }
+            Case::ListsFrom(at, entries) => gives_from(self, *at, entries),
+            Case::Covers(at, entries) => covers(self, *at, entries),
+            Case::Len(len) => (self.len(), self.is_empty()) == (*len, *len == 0),
+            Case::Addresses(count) => self.address_count() == *count,
+            Case::Nodes(nodes) => self.node_count() == *nodes,
+            _ => was_refused(heap) || is_stored_in(self, case),
+        }
+    }
+}
+
+/// Whether the call of a case that writes values, or lends them for it, answers so.
+fn is_written<P: Prefix + Copy, A: Allocator>(
+    map: &mut PrefixMap<P, u64, A>,
+    case: &Case<'_, P::R>,
+) -> bool {
+    match case {
+        Case::Writes(at, value, before) => writes(map, *at, *value, *before),
+        Case::WritesLongest(at, value, before) => writes_longest(map, *at, *value, *before),
+        Case::LeavesVacant(at) => is_vacant(map, *at),
+        Case::TakesOut(at, before) => takes_out(map, *at, *before),
+        Case::ChangesEntry(at, value, before) => changes(map, *at, *value, *before),
+        Case::ListsFrom(at, entries) => lends_from(map, *at, entries),
+        _ => true,
+    }
+}
+
+/// Whether the slots or the blocks of a map are as a case says. Which these are is asked only where no request was refused, since a
+/// removal may then take fewer.
+fn is_stored_in<P: Prefix, A: Allocator>(
+    map: &PrefixMap<P, u64, A>,
+    case: &Case<'_, P::R>,
+) -> bool {
+    match case {
+        Case::Slots(nodes, cells) => (map.node_slots(), map.cell_slots()) == (*nodes, *cells),
+        Case::NodeBlocks(size, used, free) => has_nodes(map, *size, *used, *free),
+        Case::CellBlocks(size, used, free) => has_cells(map, *size, *used, *free),
+        _ => true,
+    }
+}

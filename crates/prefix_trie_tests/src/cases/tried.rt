@@ -1,0 +1,256 @@
+//! What cases are calls of, maps and sets, and what is the same of both: calls that may be refused, and those of two at once.
+//!
+//! Where a request is refused, the call that made it is refused with `Memory`, changes nothing and is made once more, with none
+//! refused from then on; but a removal does all that it should.
+use crate::cases::filling::Fill;
+use crate::cases::{Case, Entry, Pair};
+use crate::refusing::Refusing;
+use prefix_trie::{Key, Refusal, Refused};
+use std::alloc::{AllocError, Allocator, Global};
+use std::mem;
+
+/// What an insertion answers.
+pub type Answer = Result<Option<u64>, Refused<u64>>;
+
+/// Entries in listing order, and how many nodes there are.
+pub type State<K> = (Vec<Entry<K>>, usize);
+
+/// A map or a set of prefixes, which are handed over as pairs. A value of a set is 0. What a case says of values and of the sizes of
+/// blocks a set passes over.
+pub trait Tried<K: Key, A: Allocator + Copy>: Drop {
+    /// A new one, under a limit of slots or none.
+    fn made(alloc: A, limit: Option<u32>) -> Result<Self, Refusal>;
+
+    /// A copy.
+    fn copied(&self) -> Result<Self, AllocError>;
+
+    /// What it hands out, as what a pair contains.
+    fn part(&mut self, at: Pair<K>) -> Option<Self>;
+
+    /// Stores a value by a call.
+    fn store(&mut self, call: Fill, at: Pair<K>, value: u64) -> Answer;
+
+    /// What a value is once it is stored.
+    fn kept(value: u64) -> u64;
+
+    fn state(&self, alloc: Global) -> Result<State<K>, AllocError>;
+
+    fn is_as(&self, state: &State<K>) -> bool;
+
+    /// Whether another has the same entries, nodes and blocks.
+    fn is_same(&self, other: &Self) -> bool;
+
+    /// Whether its arrays have room for what it has, as its blocks are.
+    fn has_sums(&self) -> bool;
+
+    /// Makes the call of a case that is of one alone and cannot be refused, and compares its answer. A question changes nothing here.
+    fn changes_as(&mut self, case: &Case<'_, K>) -> bool;
+
+    /// Asks the question of a case, and compares its answer.
+    fn answers_as(&self, heap: &Refusing<Global>, case: &Case<'_, K>) -> bool;
+}
+
+/// Puts what was made, if it was, in place of another, and answers whether it is there.
+fn replaces<V: Drop, E: Drop>(place: &mut V, made: Result<V, E>) -> bool {
+    match made {
+        Ok(new) => {
+            *place = new;
+            true
+        }
+        Err(_) => false,
+    }
+}
+
+/// Makes a new one in place of one. Answers whether it was refused where a request was, and only there.
+fn makes<K: Key, A: Allocator + Copy, M: Tried<K, A>>(
+    heap: &Refusing<Global>,
+    alloc: A,
+    tried: &mut M,
+    limit: Option<u32>,
+) -> bool {
+    let left = heap.left();
+    let answer = M::made(alloc, limit);
+    if heap.left() == left {
+        return replaces(tried, answer);
+    }
+    heap.refuse(0, 0);
+    (answer.err() == Some(Refusal::Memory)) & replaces(tried, M::made(alloc, limit))
+}
+
+/// Puts a copy in place of the other. Answers whether it was refused where a request was, and only there.
+fn copies<K: Key, A: Allocator + Copy, M: Tried<K, A>>(
+    heap: &Refusing<Global>,
+    tried: &M,
+    other: &mut M,
+) -> bool {
+    let left = heap.left();
+    let answer = tried.copied();
+    if heap.left() == left {
+        return replaces(other, answer) & tried.is_same(other);
+    }
+    heap.refuse(0, 0);
+    answer.is_err() & replaces(other, tried.copied()) & tried.is_same(other)
+}
+
+/// Whether the answer of an insertion is as wanted, and nothing was changed where that is a refusal.
+fn is_answered<K: Key, A: Allocator + Copy, M: Tried<K, A>>(
+    tried: &M,
+    old: &State<K>,
+    answer: Answer,
+    wanted: &Answer,
+) -> bool {
+    (answer == *wanted) & (answer.is_ok() || tried.is_as(old))
+}
+
+/// Makes an insertion into one of this state, as `stores` does.
+fn stores_into<K: Key, A: Allocator + Copy, M: Tried<K, A>>(
+    heap: &Refusing<Global>,
+    tried: &mut M,
+    old: &State<K>,
+    call: Fill,
+    added: &Entry<K>,
+    wanted: &Answer,
+) -> bool {
+    let (at, value) = *added;
+    let left = heap.left();
+    let answer = tried.store(call, at, value);
+    if heap.left() == left {
+        return is_answered::<K, A, M>(tried, old, answer, wanted);
+    }
+    let value_back = M::kept(value);
+    let refused = Err(Refused {
+        cause: Refusal::Memory,
+        value: value_back,
+    });
+    let is_refused = is_answered::<K, A, M>(tried, old, answer, &refused);
+    heap.refuse(0, 0);
+    let again = tried.store(call, at, value);
+    is_refused & is_answered::<K, A, M>(tried, old, again, wanted)
+}
+
+/// What an insertion of a value answers: the value that was there, or a refusal that hands this one back.
+fn answer_of<K: Key, A: Allocator + Copy, M: Tried<K, A>>(
+    outcome: Result<Option<u64>, Refusal>,
+    value: u64,
+) -> Answer {
+    match outcome {
+        Ok(Some(before)) => Ok(Some(M::kept(before))),
+        Ok(None) => Ok(None),
+        Err(cause) => Err(Refused {
+            cause,
+            value: M::kept(value),
+        }),
+    }
+}
+
+/// Makes an insertion, and once more where a request was refused. Answers whether it was answered as wanted, but with `Memory`
+/// where a request was refused and only there, and changed nothing where it was refused. Where none is left to be refused, the
+/// answer alone is looked at.
+fn stores<K: Key, A: Allocator + Copy, M: Tried<K, A>>(
+    heap: &Refusing<Global>,
+    tried: &mut M,
+    call: Fill,
+    added: &Entry<K>,
+    wanted: Result<Option<u64>, Refusal>,
+) -> bool {
+    let wanted = answer_of::<K, A, M>(wanted, added.1);
+    if heap.left() == 0 {
+        return tried.store(call, added.0, added.1) == wanted;
+    }
+    match tried.state(heap.inner()) {
+        Ok(old) => stores_into::<K, A, M>(heap, tried, &old, call, added, &wanted),
+        Err(AllocError) => false,
+    }
+}
+
+/// Whether all walks give these entries.
+fn lists<K: Key, A: Allocator + Copy, M: Tried<K, A>>(
+    heap: &Refusing<Global>,
+    tried: &mut M,
+    entries: &[Entry<K>],
+) -> bool {
+    for (index, entry) in entries.iter().enumerate() {
+        let case = Case::ListsFrom(entry.0, entries.get(index..).unwrap_or(&[]));
+        if !changes_and_answers_as::<K, A, M>(heap, tried, &case) {
+            return false;
+        }
+    }
+    changes_and_answers_as::<K, A, M>(heap, tried, &Case::Lists(entries))
+}
+
+/// Makes the call of a case that is no insertion, and compares its answer.
+fn changes_and_answers_as<K: Key, A: Allocator + Copy, M: Tried<K, A>>(
+    heap: &Refusing<Global>,
+    tried: &mut M,
+    case: &Case<'_, K>,
+) -> bool {
+    tried.changes_as(case) & tried.answers_as(heap, case)
+}
+
+/// Makes the call of a case, and compares its answer. Whether it is as said, and the arrays have the room that they should.
+pub fn holds<K: Key, A: Allocator + Copy, M: Tried<K, A>>(
+    heap: &Refusing<Global>,
+    alloc: A,
+    tried: &mut M,
+    other: &mut M,
+    case: &Case<'_, K>,
+) -> bool {
+    let is_held = match case {
+        Case::Makes(limit) => makes::<K, A, M>(heap, alloc, tried, *limit),
+        Case::Copies => copies::<K, A, M>(heap, tried, other),
+        Case::Same => tried.is_same(other),
+        Case::Turns => {
+            mem::swap(tried, other);
+            true
+        }
+        Case::Lists(entries) => lists::<K, A, M>(heap, tried, entries),
+        _ => holds_in::<K, A, M>(heap, tried, case),
+    };
+    is_held & tried.has_sums()
+}
+
+/// The same of a case that is of one alone.
+pub fn holds_alone<K: Key, A: Allocator + Copy, M: Tried<K, A>>(
+    heap: &Refusing<Global>,
+    tried: &mut M,
+    case: &Case<'_, K>,
+) -> bool {
+    holds_in::<K, A, M>(heap, tried, case) & tried.has_sums()
+}
+
+/// The same without the arrays.
+fn holds_in<K: Key, A: Allocator + Copy, M: Tried<K, A>>(
+    heap: &Refusing<Global>,
+    tried: &mut M,
+    case: &Case<'_, K>,
+) -> bool {
+    match case {
+        Case::Inserts(at, value, before) => {
+            stores::<K, A, M>(heap, tried, Fill::Map, &(*at, *value), Ok(*before))
+        }
+        Case::PassesLimit(at, value) => {
+            let refused = Err(Refusal::IndexRange);
+            stores::<K, A, M>(heap, tried, Fill::Map, &(*at, *value), refused)
+        }
+        Case::Fills(call, at, value) => {
+            stores::<K, A, M>(heap, tried, *call, &(*at, *value), Ok(None))
+        }
+        _ => changes_and_answers_as::<K, A, M>(heap, tried, case),
+    }
+}
+
+/// Whether all cases hold of one, beside another; else the first that does not.
+pub fn first_wrong<K: Key, A: Allocator + Copy, M: Tried<K, A>>(
+    heap: &Refusing<Global>,
+    alloc: A,
+    tried: &mut M,
+    other: &mut M,
+    cases: &[Case<'_, K>],
+) -> Option<usize> {
+    for (index, case) in cases.iter().enumerate() {
+        if !holds::<K, A, M>(heap, alloc, tried, other, case) {
+            return Some(index);
+        }
+    }
+    None
+}

@@ -1,0 +1,302 @@
+//! Copies of a map and a set, and of the walks that take them apart, with each request for memory refused in turn: each value is cloned
+//! once.
+use crate::cases::keys::adds_key;
+use crate::cases::prefix_of;
+use crate::refusing::Refusing;
+use crate::stored::adds;
+use prefix_trie::map::{IntoIter, IntoKeys, IntoValues};
+use prefix_trie::{Prefix, PrefixMap, PrefixSet};
+use std::alloc::{AllocError, Allocator, Global};
+
+/// More requests than one copy makes.
+const MANY: u64 = 100;
+
+type Heap = Refusing<Global>;
+
+type Key = (u32, u8);
+
+/// Names, each of which asks for memory once when it is cloned.
+type Names<A> = PrefixMap<Key, String<A>, A>;
+
+/// The walks that take them apart.
+type Items<A> = IntoIter<Key, String<A>, A>;
+
+type Keys<A> = IntoKeys<Key, String<A>, A>;
+
+type Values<A> = IntoValues<Key, String<A>, A>;
+
+/// The keys alone, and the walk that takes them apart.
+type Set<A> = PrefixSet<Key, A>;
+
+type SetKeys<A> = IntoKeys<Key, (), A>;
+
+/// Three keys, and one that is not stored.
+const KEYS: [Key; 4] = [
+    (0x0a00_0000, 8),
+    (0x0a00_0000, 9),
+    (0x0a01_0000, 24),
+    (0, 0),
+];
+
+/// The names at the keys.
+const NAMES: [&str; 3] = ["outer", "next", "inner"];
+
+/// The key at a place.
+fn key_at(place: usize) -> Key
+    ensures { ⟦<Key as Prefix>⟧.IsFitting result }
+{
+    prefix_of(KEYS[place % 4])
+}
+
+/// Stores the three names.
+fn put_names<A: Allocator + Copy>(alloc: A, names: &mut Names<A>) -> Result<bool, AllocError> {
+    for (place, text) in NAMES.iter().enumerate() {
+        let name = String::from_str(alloc, text)?;
+        if !adds(names, key_at(place), name) {
+            return Ok(false);
+        }
+    }
+    Ok(true)
+}
+
+/// What has a copy, which may be refused.
+pub trait Copied: Drop {
+    /// A copy of it.
+    fn copy(&self) -> Result<Self, AllocError>;
+}
+
+impl<P: Prefix, T: Clone, A: Allocator + Clone> Copied for PrefixMap<P, T, A> {
+    fn copy(&self) -> Result<Self, AllocError> {
+        self.clone()
+    }
+}
+
+impl<P: Prefix, A: Allocator + Clone> Copied for PrefixSet<P, A> {
+    fn copy(&self) -> Result<Self, AllocError> {
+        self.clone()
+    }
+}
+
+impl<P: Prefix, T: Clone, A: Allocator + Clone> Copied for IntoIter<P, T, A> {
+    fn copy(&self) -> Result<Self, AllocError> {
+        self.clone()
+    }
+}
+
+impl<P: Prefix, T: Clone, A: Allocator + Clone> Copied for IntoKeys<P, T, A> {
+    fn copy(&self) -> Result<Self, AllocError> {
+        self.clone()
+    }
+}
+
+impl<P: Prefix, T: Clone, A: Allocator + Clone> Copied for IntoValues<P, T, A> {
+    fn copy(&self) -> Result<Self, AllocError> {
+        self.clone()
+    }
+}
+
+/// What has three names, or their keys, which a walk gives in turn.
+trait Named: Copied {
+    /// Whether it has or gives the one at a place, and at the fourth none.
+    fn gives(&mut self, place: usize) -> bool;
+}
+
+impl<A: Allocator + Clone> Named for Names<A> {
+    fn gives(&mut self, place: usize) -> bool {
+        is_name(self.get(&key_at(place)), place) & (self.len() == 3)
+    }
+}
+
+impl<A: Allocator + Clone> Named for PrefixSet<Key, A> {
+    fn gives(&mut self, place: usize) -> bool {
+        (self.contains(&key_at(place)) == (place < 3)) & (self.len() == 3)
+    }
+}
+
+impl<A: Allocator + Clone> Named for IntoIter<Key, String<A>, A> {
+    fn gives(&mut self, place: usize) -> bool {
+        match self.next() {
+            Some((key, name)) => (key == key_at(place)) & is_name(Some(&name), place),
+            None => place == 3,
+        }
+    }
+}
+
+impl<T: Clone, A: Allocator + Clone> Named for IntoKeys<Key, T, A> {
+    fn gives(&mut self, place: usize) -> bool {
+        match self.next() {
+            Some(key) => (key == key_at(place)) & (place < 3),
+            None => place == 3,
+        }
+    }
+}
+
+impl<A: Allocator + Clone> Named for IntoValues<Key, String<A>, A> {
+    fn gives(&mut self, place: usize) -> bool {
+        is_name(self.next().as_ref(), place)
+    }
+}
+
+/// Whether a name is that at a place, where there is one.
+fn is_name<A: Allocator>(name: Option<&String<A>>, place: usize) -> bool {
+    match name {
+        Some(name) => NAMES.get(place) == Some(&name.as_str()),
+        None => place == 3,
+    }
+}
+
+/// What can be made anew, with every request refused from then on.
+trait Made<A: Allocator + Copy>: Named {
+    /// One of all three, in memory of an allocator.
+    fn made(heap: &Heap, alloc: A) -> Option<Self>;
+}
+
+impl<A: Allocator + Copy> Made<A> for Names<A> {
+    fn made(heap: &Heap, alloc: A) -> Option<Names<A>> {
+        heap.refuse(0, 0);
+        let mut names = PrefixMap::new(alloc).ok()?;
+        let is_filled = put_names(alloc, &mut names) == Ok(true);
+        heap.refuse(0, u64::MAX);
+        if is_filled { Some(names) } else { None }
+    }
+}
+
+impl<A: Allocator + Copy> Made<A> for Items<A> {
+    fn made(heap: &Heap, alloc: A) -> Option<Items<A>> {
+        Some(Names::made(heap, alloc)?.into_iter())
+    }
+}
+
+impl<A: Allocator + Copy> Made<A> for Keys<A> {
+    fn made(heap: &Heap, alloc: A) -> Option<Keys<A>> {
+        Some(Names::made(heap, alloc)?.into_keys())
+    }
+}
+
+impl<A: Allocator + Copy> Made<A> for Values<A> {
+    fn made(heap: &Heap, alloc: A) -> Option<Values<A>> {
+        Some(Names::made(heap, alloc)?.into_values())
+    }
+}
+
+impl<A: Allocator + Copy> Made<A> for Set<A> {
+    fn made(heap: &Heap, alloc: A) -> Option<Set<A>> {
+        heap.refuse(0, 0);
+        let mut set = PrefixSet::new(alloc).ok()?;
+        let is_filled = put_keys(&mut set);
+        heap.refuse(0, u64::MAX);
+        if is_filled { Some(set) } else { None }
+    }
+}
+
+impl<A: Allocator + Copy> Made<A> for SetKeys<A> {
+    fn made(heap: &Heap, alloc: A) -> Option<SetKeys<A>> {
+        Some(Set::made(heap, alloc)?.into_iter())
+    }
+}
+
+/// Whether it gives all from a place on.
+fn gives_from<W: Named>(named: &mut W, first: usize) -> bool {
+    for place in first..4_usize {
+        if !named.gives(place) {
+            return false;
+        }
+    }
+    true
+}
+
+/// Whether a copy is refused exactly where a request is, with all refused once so many were passed on.
+fn is_refused_from<W: Named>(heap: &Heap, named: &W, passed: u64) -> bool {
+    heap.refuse(passed, u64::MAX);
+    named.copy().is_err() == (heap.left() < u64::MAX)
+}
+
+/// Copies what was made with every request refused, with another request refused each time: it alone, and with all behind it. Answers
+/// how many were, if each copy was refused exactly where one was, and at last both the copy and what was copied give their names from a
+/// place on with every request refused, of which none comes.
+fn copies<W: Named>(heap: &Heap, named: W, first: usize) -> Option<u64> {
+    let mut named = named;
+    let is_unasked = heap.left() == u64::MAX;
+    for passed in 0..MANY {
+        let is_refused = is_refused_from(heap, &named, passed);
+        heap.refuse(passed, 1);
+        let answer = named.copy();
+        if !is_refused || answer.is_err() != (heap.left() == 0) {
+            return None;
+        }
+        if let Ok(copy) = answer {
+            let mut copy = copy;
+            heap.refuse(0, u64::MAX);
+            let give_all = gives_from(&mut copy, first)
+                & gives_from(&mut named, first)
+                & (heap.left() == u64::MAX);
+            return (is_unasked & give_all).then_some(passed);
+        }
+    }
+    None
+}
+
+/// The same of one that is made anew, and of one that has given the first of three.
+fn requests<A: Allocator + Copy, W: Made<A>>(heap: &Heap, alloc: A) -> (Option<u64>, Option<u64>) {
+    (
+        requests_of_whole::<A, W>(heap, alloc),
+        requests_left::<A, W>(heap, alloc),
+    )
+}
+
+/// The first of these.
+fn requests_of_whole<A: Allocator + Copy, W: Made<A>>(heap: &Heap, alloc: A) -> Option<u64> {
+    copies(heap, W::made(heap, alloc)?, 0)
+}
+
+/// The same of the part of a map behind its first name.
+fn requests_of_part<A: Allocator + Copy>(heap: &Heap, alloc: A) -> Option<u64> {
+    copies(heap, Names::made(heap, alloc)?.into_children(&key_at(1)), 1)
+}
+
+/// The second of them.
+fn requests_left<A: Allocator + Copy, W: Made<A>>(heap: &Heap, alloc: A) -> Option<u64> {
+    let mut named = W::made(heap, alloc)?;
+    let is_given = named.gives(0);
+    let requests = copies(heap, named, 1)?;
+    is_given.then_some(requests)
+}
+
+/// Stores the three keys.
+fn put_keys<A: Allocator>(set: &mut PrefixSet<Key, A>) -> bool {
+    for place in 0..3_usize {
+        if !adds_key(set, key_at(place)) {
+            return false;
+        }
+    }
+    true
+}
+
+/// Whether the copy of a map of names, and that of each walk which takes it apart, make as many requests, and one less where a walk gave
+/// the first name.
+fn are_requests<A: Allocator + Copy>(heap: &Heap, alloc: A) -> bool {
+    let of_items = requests::<A, Items<A>>(heap, alloc);
+    let of_two = of_items.1.unwrap_or(0);
+    let of_three = Some(of_two.wrapping_add(1));
+    (of_two > 2)
+        & (of_items.0 == of_three)
+        & (requests::<A, Names<A>>(heap, alloc) == (of_three, of_three))
+        & (requests_of_part(heap, alloc) == of_three)
+        & (requests::<A, Keys<A>>(heap, alloc) == of_items)
+        & (requests::<A, Values<A>>(heap, alloc) == of_items)
+}
+
+/// Whether the copy of a set, and that of the walk that takes it apart, makes as many requests as the other, and some.
+fn are_alike<A: Allocator + Copy>(heap: &Heap, alloc: A) -> bool {
+    let of_set = requests::<A, Set<A>>(heap, alloc);
+    (of_set.0.unwrap_or(0) > 0)
+        & (of_set.1 == of_set.0)
+        & (requests::<A, SetKeys<A>>(heap, alloc) == of_set)
+}
+
+#[test]
+fn each_request_of_a_copy_refused(rt: HostRuntime) {
+    let heap = Refusing::new(rt.alloc());
+    assert!(rt; are_requests(&heap, &heap));
+    assert!(rt; are_alike(&heap, &heap));
+}

@@ -1,0 +1,214 @@
+//! Callers of entries, and what they know of the map afterwards.
+ghost use Rattle.std.specs.Prelude.{◌≡◌, true, ℕ, ◌+◌, ◌-◌, ◌<◌, ◌^◌, IfOk, OnOk, OnErr, None, Some, IsTrue, IsFalse, is_some};
+ghost use Rattle.std.specs.FinMap.{get, contains_key, len};
+ghost use Rattle.prefix_trie.specs.Words.{listing, put_all, shown, with_entry, with_needed, with_value_at, without_entry};
+ghost use Rattle.prefix_trie_bits.specs.Model.Room.{LeavesRoom};
+
+use crate::examples::counter::count;
+use crate::on_new::{on_new, on_two_new};
+use crate::stored::{has_values, stores};
+use prefix_trie::map::Entry;
+use prefix_trie::{Prefix, PrefixMap, Refusal, Refused};
+use std::alloc::{Allocator, Global};
+
+// Stores nine, whether the prefix is new or not.
+fn store_nine<P: Prefix, A: Allocator>(
+    map: &mut PrefixMap<P, u64, A>,
+    prefix: P,
+) -> Result<(), Refusal>
+    requires { P.IsFitting prefix }
+    ensures entries { OnOk result (map.new.entries ≡ with_entry map.old.entries (P.path prefix) 9) }
+    ensures nodes { OnOk result (map.new.nodes ≡ with_needed map.old.nodes (P.path prefix)) }
+    ensures unchanged { OnErr result ((map.new.entries ≡ map.old.entries) × (map.new.nodes ≡ map.old.nodes)) }
+{
+    let value = map.entry(prefix).or_insert_with(|| 5)?;
+    *value = 9;
+    Ok(())
+}
+
+// Writes over a value that is known to be stored, which is not refused.
+fn write_stored<P: Prefix, A: Allocator>(map: &mut PrefixMap<P, u64, A>, prefix: P, value: u64)
+    requires fits { P.IsFitting prefix }
+    requires stored { contains_key map.old.entries (P.path prefix) ≡ true }
+    ensures entries { map.new.entries ≡ with_entry map.old.entries (P.path prefix) value }
+{
+    match map.entry(prefix).or_insert(0) {
+        Ok(lent) => *lent = value,
+        Err(_) => unreachable!(),
+    }
+}
+
+// Takes an entry out, if it is there.
+fn take_out<P: Prefix, T: Drop, A: Allocator>(map: &mut PrefixMap<P, T, A>, prefix: P) -> Option<T>
+    requires { P.IsFitting prefix }
+    ensures value { result ≡ get map.old.entries (P.path prefix) }
+    ensures entries { IsTrue (is_some result) → map.new.entries ≡ without_entry map.old.entries (P.path prefix) }
+    ensures unchanged { IsFalse (is_some result) → map.new ≡ map.old }
+    ensures nodes { map.new.nodes ≡ map.old.nodes }
+{
+    match map.entry(prefix) {
+        Entry::Occupied(entry) => Some(entry.remove()),
+        Entry::Vacant(_unfilled) => None,
+    }
+}
+
+// Writes over a stored value, and says whether there was one.
+fn rewrite<P: Prefix, T: Drop, A: Allocator>(
+    map: &mut PrefixMap<P, T, A>,
+    prefix: P,
+    value: T,
+) -> bool
+    requires { P.IsFitting prefix }
+    ensures written { IsTrue result → map.new ≡ with_value_at map.old (P.path prefix) value }
+    ensures unchanged { IsFalse result → map.new ≡ map.old }
+{
+    match map.entry(prefix) {
+        Entry::Occupied(entry) => {
+            *entry.into_mut() = value;
+            true
+        }
+        Entry::Vacant(_unfilled) => false,
+    }
+}
+
+// Copies a stored value, and lets the entry go.
+fn look<P: Prefix, T: Copy, A: Allocator>(map: &mut PrefixMap<P, T, A>, prefix: P) -> Option<T>
+    requires { P.IsFitting prefix }
+    ensures value { result ≡ get map.old.entries (P.path prefix) }
+    ensures unchanged { map.new ≡ map.old }
+{
+    match map.entry(prefix) {
+        Entry::Occupied(entry) => {
+            let value = *entry.get();
+            entry.release();
+            Some(value)
+        }
+        Entry::Vacant(_unfilled) => None,
+    }
+}
+
+// Counts a prefix once more if it is stored.
+fn count_again<P: Prefix, A: Allocator>(map: &mut PrefixMap<P, u64, A>, prefix: P)
+    requires { P.IsFitting prefix }
+    ensures again { (n : ℕ) → get map.old.entries (P.path prefix) ≡ Some n → n < 2 ^ 64 - 1
+        → map.new ≡ with_value_at map.old (P.path prefix) (n + 1) }
+    ensures unchanged { get map.old.entries (P.path prefix) ≡ None → map.new ≡ map.old }
+{
+    match map.entry(prefix).and_modify(|n| *n = n.saturating_add(1)) {
+        Entry::Occupied(entry) => entry.release(),
+        Entry::Vacant(_unfilled) => {}
+    }
+}
+
+// Swaps a stored value for another.
+fn swap<P: Prefix, T: Drop, A: Allocator>(
+    map: &mut PrefixMap<P, T, A>,
+    prefix: P,
+    value: T,
+) -> Option<T>
+    requires { P.IsFitting prefix }
+    ensures before { result ≡ get map.old.entries (P.path prefix) }
+    ensures written { IsTrue (is_some result) → map.new ≡ with_value_at map.old (P.path prefix) value }
+    ensures unchanged { IsFalse (is_some result) → map.new ≡ map.old }
+{
+    match map.entry(prefix) {
+        Entry::Occupied(entry) => Some(entry.insert(value)),
+        Entry::Vacant(_unfilled) => None,
+    }
+}
+
+// Sets a value by its entry.
+fn set<P: Prefix, T: Drop, A: Allocator>(
+    map: &mut PrefixMap<P, T, A>,
+    prefix: P,
+    value: T,
+) -> Result<Option<T>, Refused<T>>
+    requires { P.IsFitting prefix }
+    ensures before { IfOk result (λ before. before ≡ get map.old.entries (P.path prefix)) }
+    ensures entries { OnOk result (map.new.entries ≡ with_entry map.old.entries (P.path prefix) value) }
+    ensures unchanged { OnErr result ((map.new.entries ≡ map.old.entries) × (map.new.nodes ≡ map.old.nodes)) }
+    ensures room { LeavesRoom (len map.old.nodes) map.old.room map.new.room }
+{
+    map.entry(prefix).put(value).answer()
+}
+
+// Puts all entries of one map into another, and stops where one is refused.
+fn fill_from<P: Prefix, A: Allocator>(
+    to: &mut PrefixMap<P, u64, A>,
+    from: &PrefixMap<P, u64, A>,
+) -> Result<(), Refused<u64>>
+    ensures { OnOk result (to.new.entries ≡ put_all P.path (shown P.back (listing from.now.entries)) to.old.entries) }
+{
+    for (prefix, value) in from {
+        to.entry(prefix).put(*value).answer()?;
+    }
+    Ok(())
+}
+
+/// Whether a value that is stored is written over.
+fn writes_stored(map: &mut PrefixMap<(u8, u8), u64, Global>) -> bool {
+    if !map.contains_key(&(0xa5, 8)) {
+        return false;
+    }
+    write_stored(map, (0xa5, 8), 6);
+    map.get(&(0xa5, 8)) == Some(&6)
+}
+
+/// Whether the entry of a prefix that is not stored lends no value for writing.
+fn lends_none(map: &mut PrefixMap<(u8, u8), u64, Global>) -> bool {
+    let mut entry = map.entry((0xc0, 3));
+    entry.get_mut().is_none()
+}
+
+/// Whether one more is counted where a count is stored, and none where not. Asking a vacant entry for its value changes nothing.
+fn counts_once_more(map: &mut PrefixMap<(u8, u8), u64, Global>) -> bool {
+    count_again(map, (0xa0, 3));
+    count_again(map, (0xc0, 3));
+    lends_none(map) & (look(map, (0xa0, 3)) == Some(4)) & look(map, (0xc0, 3)).is_none()
+}
+
+/// Whether counting and storing answer so.
+fn counts(map: &mut PrefixMap<(u8, u8), u64, Global>) -> bool {
+    count(map, (0xa5, 8)).is_ok()
+        & count(map, (0xa5, 8)).is_ok()
+        & writes_stored(map)
+        & rewrite(map, (0xa5, 8), 7)
+        & (swap(map, (0xa5, 8), 8) == Some(7))
+        & store_nine(map, (0xa0, 3)).is_ok()
+        & (set(map, (0xbf, 3), 3) == Ok(Some(9)))
+        & counts_once_more(map)
+}
+
+/// Whether one of the two that are there then is taken out.
+fn takes_one_out(map: &mut PrefixMap<(u8, u8), u64, Global>) -> bool {
+    has_values(map, &[4, 8])
+        & (take_out(map, (0xa5, 8)) == Some(8))
+        & take_out(map, (0xa5, 8)).is_none()
+        & (map.len() == 1)
+}
+
+/// Both in turn.
+fn are_counted(map: &mut PrefixMap<(u8, u8), u64, Global>, _: ()) -> bool {
+    counts(map) & takes_one_out(map)
+}
+
+#[test]
+fn entries_are_counted(rt: HostRuntime) {
+    assert!(rt; on_new(PrefixMap::new(rt.alloc()), (), are_counted) == Ok(true));
+}
+
+type Numbers = PrefixMap<(u16, u8), u64, Global>;
+
+/// Whether a stored number of one map takes the place of that in another.
+fn is_put(from: &mut Numbers, to: &mut Numbers, _: ()) -> bool {
+    stores(from, &[((0x0a00, 8), 9)])
+        & stores(to, &[((0x0a00, 8), 1)])
+        & fill_from(to, from).is_ok()
+        & has_values(to, &[9])
+}
+
+#[test]
+fn entries_of_another_map_are_put(rt: HostRuntime) {
+    let (from, to) = (PrefixMap::new(rt.alloc()), PrefixMap::new(rt.alloc()));
+    assert!(rt; on_two_new(from, to, (), is_put) == Ok(true));
+}

@@ -1,0 +1,168 @@
+//! Programs over the crate as a user writes them, each with a contract of its own.
+pub mod access;
+pub mod batch;
+pub mod cache;
+pub mod copy;
+pub mod counter;
+pub mod delegations;
+pub mod expiry;
+pub mod forwarding;
+pub mod inventory;
+pub mod merge;
+pub mod pages;
+pub mod pruning;
+pub mod ranges;
+pub mod rerouting;
+pub mod scaling;
+pub mod splitting;
+
+use crate::on_new::{on_new, on_two_new};
+use crate::stored::stores;
+use access::{may_enter, reasons};
+use cache::store;
+use copy::copied;
+use counter::{add_all, total};
+use delegations::{holder, record};
+use forwarding::{add, next_hop};
+use inventory::{addresses, count, next};
+use pages::read_all;
+use prefix_trie::{Ipv4Prefix, Ipv6Prefix, Narrow, PrefixMap, PrefixSet};
+use pruning::without;
+use ranges::{assign, owner};
+use rerouting::{are_same, reroute};
+use scaling::double_each;
+use std::alloc::{AllocError, Global};
+
+type Numbers = PrefixMap<Ipv4Prefix, u32, Global>;
+
+type Delegated = PrefixMap<Ipv6Prefix, u32, Global>;
+
+type Vlans = PrefixMap<(Narrow<12>, u8), u32, Global>;
+
+type Networks = PrefixSet<Ipv4Prefix, Global>;
+
+type Counts = PrefixMap<(u8, u8), u64, Global>;
+
+/// Whether two tables are the same until a route of one is changed, which changes its next hops.
+fn differs_once_rerouted(map: &Numbers, copy: &mut Numbers) -> bool {
+    are_same(map, copy)
+        & !reroute(copy, 0x0b00_0000, 5)
+        & are_same(map, copy)
+        & reroute(copy, 0x0a01_0203, 4)
+        & !are_same(map, copy)
+        & (next_hop(copy, 0x0a01_0203) == Some(4))
+        & (next_hop(copy, 0x0a02_0203) == Some(1))
+}
+
+/// The same of a map and its copy.
+fn is_copied(map: &Numbers, alloc: Global) -> bool {
+    match copied(map, alloc) {
+        Ok(mut copy) => differs_once_rerouted(map, &mut copy),
+        Err(_) => false,
+    }
+}
+
+/// Whether a network and one within it are a forwarding table, an inventory and a cache.
+fn stands_for_both(map: &mut Numbers) -> bool {
+    let wide = Ipv4Prefix::new(0x0a00_0000, 8).unwrap();
+    let near = Ipv4Prefix::new(0x0a01_0000, 16).unwrap();
+    add(map, wide, 1).is_ok()
+        & add(map, near, 2).is_ok()
+        & (next_hop(map, 0x0a01_0203) == Some(2))
+        & (next_hop(map, 0x0a02_0203) == Some(1))
+        & next_hop(map, 0x0b00_0000).is_none()
+        & (next(map, wide) == Some((near, 2)))
+        & (count(map, wide) == 2)
+        & (addresses(map) == Some(0x0100_0000))
+        & (store(map, near, 3) == Ok(true))
+        & (next_hop(map, 0x0a01_0203) == Some(3))
+}
+
+/// The same, and of its copy.
+fn stands_for_both_and_copy(map: &mut Numbers, alloc: Global) -> bool {
+    stands_for_both(map) & is_copied(map, alloc)
+}
+
+/// Whether the holder of a network is found at its addresses alone.
+fn is_held(table: &mut Delegated, _: ()) -> bool {
+    let network = Ipv6Prefix::new(0x2001_0db8 << 96, 32).unwrap();
+    record(table, network, 7).is_ok()
+        & (holder(table, 0x2001_0db8 << 96 | 1) == Some(7))
+        & holder(table, 1).is_none()
+}
+
+/// Whether the networks that keep an address out are this one.
+fn is_reason(denied: &Networks, addr: u32, network: Ipv4Prefix, alloc: Global) -> bool {
+    match reasons(denied, addr, alloc) {
+        Ok(networks) => networks.as_slice() == [network].as_slice(),
+        Err(AllocError) => false,
+    }
+}
+
+/// Whether a network within an allowed one is kept out, and no other address of that.
+fn keeps_out(allowed: &mut Networks, denied: &mut Networks, alloc: Global) -> bool {
+    let wide = Ipv4Prefix::new(0x0a00_0000, 8).unwrap();
+    let near = Ipv4Prefix::new(0x0a01_0000, 16).unwrap();
+    (allowed.insert(wide) == Ok(true))
+        & (denied.insert(near) == Ok(true))
+        & may_enter(allowed, denied, 0x0a02_0203)
+        & !may_enter(allowed, denied, 0x0a01_0203)
+        & !may_enter(allowed, denied, 0x0b00_0000)
+        & is_reason(denied, 0x0a01_0203, near, alloc)
+}
+
+/// Whether numbers of 12 bits have the owners of the narrowest ranges with them.
+fn is_owned(plan: &mut Vlans, _: ()) -> bool {
+    let office = Narrow::<12>::new(0x640).unwrap();
+    let printers = Narrow::<12>::new(0x642).unwrap();
+    let guests = Narrow::<12>::new(0x7ff).unwrap();
+    assign(plan, office, 8, 1).is_ok()
+        & assign(plan, printers, 11, 2).is_ok()
+        & (owner(plan, office) == Some(1))
+        & (owner(plan, printers) == Some(2))
+        & owner(plan, guests).is_none()
+}
+
+/// Whether the counts of two maps are added up and doubled.
+fn adds_up(counts: &mut Counts, more: &mut Counts) -> bool {
+    let is_filled = stores(counts, &[((0xa0, 3), 1), ((0xa5, 8), 2)])
+        & stores(more, &[((0xa5, 8), 5), ((0x80, 1), 7)])
+        & add_all(counts, more).is_ok()
+        & (total(counts) == 15);
+    double_each(counts);
+    is_filled & (total(counts) == 30)
+}
+
+/// Whether pages of two have the three counts then.
+fn is_read(counts: &Counts, alloc: Global) -> bool {
+    match read_all(counts, 2, alloc) {
+        Ok(read) => read.as_slice()
+            == [((0x80, 1), 14), ((0xa0, 3), 2), ((0xa5, 8), 14)].as_slice(),
+        Err(AllocError) => false,
+    }
+}
+
+/// Whether the one of them that the other map has not is left alone, in the root.
+fn is_pruned(counts: &Counts, out: &Counts, alloc: Global) -> bool {
+    match without(counts, out, alloc) {
+        Ok(map) => (map.get(&(0xa0, 3)) == Some(&2)) & (map.len() == 1) & (map.node_count() == 1),
+        Err(_) => false,
+    }
+}
+
+/// All three in turn.
+fn are_counts(counts: &mut Counts, more: &mut Counts, alloc: Global) -> bool {
+    adds_up(counts, more) & is_read(counts, alloc) & is_pruned(counts, more, alloc)
+}
+
+#[test]
+fn examples_run(rt: HostRuntime) {
+    let alloc = rt.alloc();
+    assert!(rt; on_new(PrefixMap::new(alloc), alloc, stands_for_both_and_copy) == Ok(true));
+    assert!(rt; on_new(PrefixMap::new(alloc), (), is_held) == Ok(true));
+    let (allowed, denied) = (PrefixSet::new(alloc), PrefixSet::new(alloc));
+    assert!(rt; on_two_new(allowed, denied, alloc, keeps_out) == Ok(true));
+    assert!(rt; on_new(PrefixMap::new(alloc), (), is_owned) == Ok(true));
+    let (counts, more) = (PrefixMap::new(alloc), PrefixMap::new(alloc));
+    assert!(rt; on_two_new(counts, more, alloc, are_counts) == Ok(true));
+}

@@ -1,0 +1,21 @@
+//! A copy of a map, in memory of another allocator.
+ghost use Rattle.std.specs.Prelude.{◌≡◌, IfOk};
+
+use prefix_trie::laws::put_laws;
+use prefix_trie::{Prefix, PrefixMap, Refusal};
+use std::alloc::Allocator;
+
+/// A map with the same entries.
+pub fn copied<P: Prefix, T: Copy + Drop, A: Allocator, B: Allocator + Clone>(
+    from: &PrefixMap<P, T, A>,
+    alloc: B,
+) -> Result<PrefixMap<P, T, B>, Refusal>
+    ensures { IfOk result (λ to. to.entries ≡ from.now.entries) }
+{
+    put_laws::<P, T>();
+    let mut to = PrefixMap::new(alloc)?;
+    for (prefix, value) in from {
+        to.insert(prefix, *value)?;
+    }
+    Ok(to)
+}

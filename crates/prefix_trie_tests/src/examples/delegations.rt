@@ -1,0 +1,35 @@
+//! Delegations: IPv6 networks, each with the number of the one who holds it.
+ghost use Rattle.std.specs.Prelude.{◌≡◌, ◌≤◌, List, Bool, true, Some, IfSome, length, OnOk, OnErr};
+ghost use Rattle.std.specs.Option.{option_map};
+ghost use Rattle.prefix_trie.specs.Words.{begins, ipv6_address, ipv6_path, longest_match};
+
+use prefix_trie::laws::lookup_laws;
+use prefix_trie::{Ipv6Prefix, PrefixMap};
+use std::alloc::Allocator;
+use std::io;
+
+/// Networks, each with the number of its holder.
+type Delegations<A> = PrefixMap<Ipv6Prefix, u32, A>;
+
+/// Records who holds a network, unless memory lacks. Addresses within it that no longer one contains are the holder's from then on.
+pub fn record<A: Allocator>(
+    table: &mut Delegations<A>,
+    network: Ipv6Prefix,
+    holder: u32,
+) -> io::Result<()>
+    ensures found { OnOk result ((addr : List Bool) → begins (ipv6_path network) addr ≡ true
+        → IfSome (longest_match table.old.entries addr) (λ known. length known.0 ≤ length (ipv6_path network))
+        → longest_match table.new.entries addr ≡ Some (ipv6_path network, holder)) }
+    ensures unchanged { OnErr result (table.new.entries ≡ table.old.entries) }
+{
+    lookup_laws::<Ipv6Prefix, u32>();
+    table.insert(network, holder)?;
+    Ok(())
+}
+
+/// Who holds an address.
+pub fn holder<A: Allocator>(table: &Delegations<A>, addr: u128) -> Option<u32>
+    ensures { result ≡ option_map (λ found. found.1) (longest_match table.now.entries (ipv6_address addr)) }
+{
+    table.get_lpm_value(&Ipv6Prefix::host(addr)).copied()
+}

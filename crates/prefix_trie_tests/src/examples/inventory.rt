@@ -1,0 +1,35 @@
+//! An inventory: networks, each with the number of its owner.
+ghost use Rattle.std.specs.Prelude.{◌≡◌, length};
+ghost use Rattle.prefix_trie.specs.Words.{address_answer, first_item, ipv4_back, ipv4_path, listing_after, listing_below, shown};
+
+use prefix_trie::laws::network_laws;
+use prefix_trie::{Ipv4Prefix, PrefixMap};
+use std::alloc::Allocator;
+
+/// Networks, each with the number of its owner.
+type Inventory<A> = PrefixMap<Ipv4Prefix, u32, A>;
+
+/// The first network behind the one that was read last, and its owner.
+pub fn next<A: Allocator>(networks: &Inventory<A>, last: Ipv4Prefix) -> Option<(Ipv4Prefix, u32)>
+    ensures { result ≡ first_item (shown ipv4_back (listing_after networks.now.entries (ipv4_path last))) }
+{
+    match networks.iter_from(&last, false).next() {
+        Some((network, owner)) => Some((network, *owner)),
+        None => None,
+    }
+}
+
+/// How many networks a block contains.
+pub fn count<A: Allocator>(networks: &Inventory<A>, block: Ipv4Prefix) -> usize
+    ensures { result ≡ length (listing_below networks.now.entries (ipv4_path block)) }
+{
+    networks.children(&block).count()
+}
+
+/// How many addresses the networks have, each counted once; none where that is all of them.
+pub fn addresses<A: Allocator>(networks: &Inventory<A>) -> Option<u32>
+    ensures { result ≡ address_answer 32 networks.now.entries }
+{
+    network_laws();
+    networks.address_count()
+}

@@ -1,0 +1,49 @@
+//! Values that are all changed in place.
+ghost use Rattle.std.specs.Prelude.{◌≡◌, ◌*◌, ◌%◌, ◌^◌, List, Bool};
+ghost use Rattle.std.specs.FinMap.{get};
+ghost use Rattle.std.specs.Option.{option_map};
+ghost use Rattle.prefix_trie.specs.Words.{OrderedIn, RewritesIn};
+
+use prefix_trie::map::{IterMut, ValuesMut};
+use prefix_trie::{Prefix, PrefixMap};
+use std::alloc::Allocator;
+
+// Doubles the values that are still to come.
+fn double_rest<'b, 'a, P: Prefix, A: Allocator>(walk: &'b mut ValuesMut<'a, P, u64, A>)
+    requires { OrderedIn walk.old.walk.course }
+    ensures { RewritesIn (λ v. (v * 2) % 2 ^ 64) walk.old.walk.course walk.new.walk.course }
+{
+    while let Some(place) = walk.next() {
+        *place = place.wrapping_mul(2);
+    }
+}
+
+/// Doubles all values of a map, modulo 2^64.
+pub fn double_all<P: Prefix, A: Allocator>(map: &mut PrefixMap<P, u64, A>)
+    ensures entries { (s : List Bool) → get map.new.entries s ≡ option_map (λ v. (v * 2) % 2 ^ 64) (get map.old.entries s) }
+    ensures others { map.new ≡ record map.old { entries = map.new.entries } }
+{
+    let mut walk = map.values_mut();
+    double_rest(&mut walk);
+    if let Some(_map) = walk.into_map() {}
+}
+
+// Doubles the values of the entries that are still to come.
+fn double_entries<'b, 'a, P: Prefix, A: Allocator>(walk: &'b mut IterMut<'a, P, u64, A>)
+    requires { OrderedIn walk.old.course }
+    ensures { RewritesIn (λ v. (v * 2) % 2 ^ 64) walk.old.course walk.new.course }
+{
+    while let Some((_prefix, stop)) = walk.step() {
+        let place = walk.value(stop);
+        *place = place.wrapping_mul(2);
+    }
+}
+
+/// The same by a walk that gives the prefixes too.
+pub fn double_each<P: Prefix, A: Allocator>(map: &mut PrefixMap<P, u64, A>)
+    ensures entries { (s : List Bool) → get map.new.entries s ≡ option_map (λ v. (v * 2) % 2 ^ 64) (get map.old.entries s) }
+{
+    let mut walk = map.iter_mut();
+    double_entries(&mut walk);
+    if let Some(_map) = walk.into_map() {}
+}

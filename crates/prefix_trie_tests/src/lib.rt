@@ -1,0 +1,47 @@
+//! The tests of all crates, and programs over `prefix_trie` as a user writes them.
+//!
+//! What a table can say is a list of cases, which `trials` runs; the rest is code.
+#![tactic(auto)]
+
+#[cfg(test)]
+mod any_map;
+#[cfg(test)]
+mod bulk;
+#[cfg(test)]
+mod cases;
+#[cfg(test)]
+mod clones;
+#[cfg(test)]
+mod collecting;
+#[cfg(test)]
+mod drops;
+#[cfg(test)]
+mod entry_callers;
+#[cfg(test)]
+mod examples;
+#[cfg(test)]
+mod handing;
+#[cfg(test)]
+mod node;
+#[cfg(test)]
+mod on_new;
+#[cfg(test)]
+mod own_key;
+#[cfg(test)]
+mod prefix;
+#[cfg(test)]
+mod refusing;
+#[cfg(test)]
+mod retain;
+#[cfg(test)]
+mod runs;
+#[cfg(test)]
+mod sets;
+#[cfg(test)]
+mod stored;
+#[cfg(test)]
+mod tables;
+#[cfg(test)]
+mod trials;
+#[cfg(test)]
+mod walks;

@@ -1,0 +1,59 @@
+//! Callers of `retain`: with any test that may always be asked, and at concrete types.
+
+use crate::examples::expiry::keep_from;
+use crate::on_new::on_new;
+use crate::stored::{has_keys, stores};
+use prefix_trie::{Prefix, PrefixMap, PrefixSet};
+use std::alloc::{Allocator, Global};
+
+/// Keeps the entries at which a test answers true. It has no `ensures`, which each caller would have to read.
+#[tactic(auto, using(crate::proofs::Always::may_ask_of_map))]
+pub fn keep_where<P: Prefix, A: Allocator, F: FnMut(&P, &u64) -> bool + Drop>(
+    map: &mut PrefixMap<P, u64, A>,
+    test: F,
+)
+    requires { F.IsAlwaysCallable test }
+{
+    map.retain(test);
+}
+
+/// The same of a set.
+#[tactic(auto, using(crate::proofs::Always::may_ask_of_set))]
+pub fn keep_keys_where<P: Prefix, A: Allocator, F: FnMut(&P) -> bool + Drop>(
+    set: &mut PrefixSet<P, A>,
+    test: F,
+)
+    requires { F.IsAlwaysCallable test }
+{
+    set.retain(test);
+}
+
+/// Keeps the entries whose keys have at least so many bits.
+pub fn retain_long<P: Prefix, A: Allocator>(map: &mut PrefixMap<P, u64, A>, len: u8) {
+    keep_where(map, move |prefix, _| len <= prefix.prefix_len());
+}
+
+/// The same of a set.
+pub fn retain_long_keys<P: Prefix, A: Allocator>(set: &mut PrefixSet<P, A>, len: u8) {
+    keep_keys_where(set, move |prefix| len <= prefix.prefix_len());
+}
+
+/// Four numbers, of which two are below three.
+const FOUR: [((u8, u8), u64); 4] = [
+    ((0xa5, 8), 4),
+    ((0xbf, 3), 1),
+    ((0xff, 1), 3),
+    ((0x07, 8), 2),
+];
+
+/// Whether the other two are left.
+fn keeps_two(map: &mut PrefixMap<(u8, u8), u64, Global>, _: ()) -> bool {
+    let is_filled = stores(map, &FOUR);
+    keep_from(map, 3);
+    is_filled & (map.len() == 2) & has_keys(map, &[(0x80, 1), (0xa5, 8)])
+}
+
+#[test]
+fn numbers_from_three_on(rt: HostRuntime) {
+    assert!(rt; on_new(PrefixMap::new(rt.alloc()), (), keeps_two) == Ok(true));
+}

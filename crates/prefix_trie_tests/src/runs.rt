@@ -1,0 +1,278 @@
+//! Runs: one with each of its requests for memory refused, the nodes that removals leave, and a list that is long.
+
+mod callers;
+mod mixed;
+mod mixed_sets;
+
+use crate::cases::questions::has_sums;
+use crate::on_new::on_new;
+use crate::refusing::Refusing;
+use crate::stored::{put, stores};
+use prefix_trie::replay::{Call, Reply, run};
+use prefix_trie::{PrefixMap, Refusal};
+use std::alloc::{AllocError, Allocator, Global};
+
+/// More requests than one run makes.
+const MANY: u64 = 100;
+
+type Key = (u32, u8);
+
+type Map<A> = PrefixMap<Key, u64, A>;
+
+/// Two networks that are there before the run.
+const TWO: [(Key, u64); 2] = [((0, 0), 7), ((0x0a00_0000, 8), 8)];
+
+/// What the six calls of a run answer as numbers, and the nodes then: with none refused, and where the insertion is.
+const GRANTED: [usize; 7] = [2, 1, 1, 1, 0, 3, 8];
+
+const WITHOUT_INSERTION: [usize; 7] = [2, 1, 1, 1, 0, 2, 2];
+
+/// The place of the insertion among the calls. Those before it list, and the one behind it counts.
+const INSERTION: usize = 4;
+
+/// Runs six calls on a map.
+fn run_six<A: Allocator + Clone>(
+    alloc: A,
+    map: &mut Map<A>,
+) -> Result<Vec<Reply<Key, A>, A>, AllocError> {
+    let calls = [
+        Call::List,
+        Call::ListFrom((0, 0), false),
+        Call::Children((0x0a00_0000, 8)),
+        Call::Cover((3, 32)),
+        Call::Insert((3, 32), 1),
+        Call::Len,
+    ];
+    run(alloc, map, &calls)
+}
+
+/// A reply as a number: of entries, a count, or a value, which is 0 where there is none. None if no memory was found.
+fn number_of<A: Allocator>(reply: &Reply<Key, A>) -> Option<usize> {
+    match reply {
+        Reply::Entries(entries) => Some(entries.len()),
+        Reply::Count(count) => Some(*count),
+        Reply::Value(None) => Some(0),
+        Reply::Refused(Refusal::Memory) => None,
+        _ => Some(usize::MAX),
+    }
+}
+
+/// The place of the first call that was refused, or that behind the last call.
+fn first_refused<A: Allocator>(replies: &[Reply<Key, A>]) -> usize {
+    for (place, reply) in replies.iter().enumerate() {
+        if number_of(reply).is_none() {
+            return place;
+        }
+    }
+    replies.len()
+}
+
+/// Whether the call at a place is refused, where that at another is the first, alone or with all behind it that ask for memory.
+fn is_lost(place: usize, first: usize, is_all: bool) -> bool {
+    place == first || is_all && first < place && place <= INSERTION
+}
+
+/// Whether the replies and the map are as they should be, where the call at this place is the first that is refused.
+fn are_from<A: Allocator>(
+    replies: &[Reply<Key, A>],
+    map: &Map<A>,
+    first: usize,
+    is_all: bool,
+) -> bool {
+    let wanted = if is_lost(INSERTION, first, is_all) {
+        WITHOUT_INSERTION
+    } else {
+        GRANTED
+    };
+    for (place, reply) in replies.iter().enumerate() {
+        let number = if is_lost(place, first, is_all) {
+            None
+        } else {
+            wanted.get(place).copied()
+        };
+        if number_of(reply) != number {
+            return false;
+        }
+    }
+    (replies.len() == 6) & (map.len() == wanted[5]) & (map.node_count() == wanted[6])
+}
+
+/// What is the first that was refused: 0 is the run, in which then no call was carried out, and the calls follow. None where the
+/// replies or the map are not as they should be then.
+fn first_part<A: Allocator>(
+    outcome: &Result<Vec<Reply<Key, A>, A>, AllocError>,
+    map: &Map<A>,
+    is_all: bool,
+) -> Option<usize> {
+    let (part, is_right) = match outcome {
+        Ok(replies) => {
+            let first = first_refused(replies);
+            (first.wrapping_add(1), are_from(replies, map, first, is_all))
+        }
+        Err(AllocError) => (0, (map.len() == 2) & (map.node_count() == 2)),
+    };
+    (is_right & has_sums(map)).then_some(part)
+}
+
+/// Runs the calls with so many requests refused, once so many were passed on.
+fn run_refused<A: Allocator + Clone>(
+    heap: &Refusing<Global>,
+    alloc: A,
+    map: &mut Map<A>,
+    requests: (u64, u64),
+) -> Option<usize> {
+    let is_stored = stores(map, &TWO);
+    heap.refuse(requests.0, requests.1);
+    let outcome = run_six(alloc, map);
+    let part = first_part(&outcome, map, requests.1 > 1);
+    if is_stored { part } else { None }
+}
+
+/// The same of a new map.
+fn run_once<A: Allocator + Copy>(
+    heap: &Refusing<Global>,
+    alloc: A,
+    requests: (u64, u64),
+) -> Result<Option<usize>, Refusal> {
+    heap.refuse(0, 0);
+    let mut map = PrefixMap::new(alloc)?;
+    Ok(run_refused::<A>(heap, alloc, &mut map, requests))
+}
+
+/// Whether the requests refused in turn, so many each time, are that for the replies, which comes first, one or more of each list and of
+/// the insertion, and none.
+fn are_refused_in_turn<A: Allocator + Copy>(
+    heap: &Refusing<Global>,
+    alloc: A,
+    refused: u64,
+) -> Result<bool, Refusal> {
+    let mut last = 0;
+    for passed in 0..MANY {
+        let Some(part) = run_once(heap, alloc, (passed, refused))? else {
+            return Ok(false);
+        };
+        if heap.left() == refused {
+            return Ok(last == 5 && part == 7);
+        }
+        if part < last || last.wrapping_add(1) < part || (part == 0) != (passed == 0) {
+            return Ok(false);
+        }
+        last = part;
+    }
+    Ok(false)
+}
+
+#[test]
+fn each_request_of_a_run_refused(rt: HostRuntime) {
+    let heap = Refusing::new(rt.alloc());
+    assert!(rt; are_refused_in_turn(&heap, &heap, 1) == Ok(true));
+    assert!(rt; are_refused_in_turn(&heap, &heap, u64::MAX) == Ok(true));
+}
+
+/// How many nodes there are once a key of 24 bits is stored, is taken out alone, and with its nodes; once keys of 8, 16 and 7 bits are
+/// stored, those of 8 bits and more are kept, what the key of 16 contains is taken out, and that of 8.
+const NODES_LEFT: [usize; 7] = [5, 5, 1, 5, 4, 2, 1];
+
+/// Runs removals, and counts the nodes behind each.
+fn run_removals(
+    alloc: Global,
+    map: &mut Map<Global>,
+) -> Result<Vec<Reply<Key, Global>>, AllocError> {
+    let calls = [
+        Call::Insert((0x0a01_0100, 24), 1),
+        Call::NodeCount,
+        Call::RemoveKeepTree((0x0a01_01ff, 24)),
+        Call::NodeCount,
+        Call::Remove((0x0a01_0100, 24)),
+        Call::NodeCount,
+        Call::Insert((0x0a00_0000, 8), 2),
+        Call::Insert((0x0a01_0000, 16), 3),
+        Call::Insert((0xc000_0000, 7), 4),
+        Call::NodeCount,
+        Call::RetainAtLeast(8),
+        Call::NodeCount,
+        Call::RemoveChildren((0x0a01_ffff, 16)),
+        Call::NodeCount,
+        Call::Remove((0x0aff_ffff, 8)),
+        Call::NodeCount,
+    ];
+    run(alloc, map, &calls)
+}
+
+/// Whether the counts among replies are these, in turn.
+fn has_counts(replies: &[Reply<Key, Global>], wanted: &[usize]) -> bool {
+    let mut place = 0_usize;
+    for reply in replies {
+        if let Reply::Count(count) = reply {
+            if wanted.get(place) != Some(count) {
+                return false;
+            }
+            place = place.wrapping_add(1);
+        }
+    }
+    place == wanted.len()
+}
+
+/// Whether removals leave so many nodes in a map without entries.
+fn leaves_nodes(map: &mut Map<Global>, alloc: Global) -> bool {
+    match run_removals(alloc, map) {
+        Ok(replies) => has_counts(&replies, &NODES_LEFT),
+        Err(AllocError) => false,
+    }
+}
+
+#[test]
+fn nodes_that_removals_leave(rt: HostRuntime) {
+    assert!(rt; on_new(PrefixMap::new(rt.alloc()), rt.alloc(), leaves_nodes) == Ok(true));
+}
+
+/// How many entries a long list has: a prime, so that multiples of a smaller number come in another order.
+const LONG: u32 = 1_031;
+
+/// The network of 16 bits that has this number, with the number as value.
+fn numbered(number: u32) -> (Key, u64) {
+    ((number << 16, 16), u64::from(number))
+}
+
+/// Stores all of them, in another order than they are listed in. Answers whether each is new.
+fn stores_all(map: &mut Map<Global>) -> bool {
+    for step in 0..LONG {
+        let number = step * 389 % LONG;
+        if put(map, (number << 16, 16), u64::from(number)) != Ok(None) {
+            return false;
+        }
+    }
+    true
+}
+
+/// Whether a list has all of them, in order.
+fn has_all(list: &[(Key, u64)]) -> bool {
+    for (entry, number) in list.iter().zip(0..LONG) {
+        if *entry != numbered(number) {
+            return false;
+        }
+    }
+    list.len() == LONG as usize
+}
+
+/// Whether the one reply is the list of all.
+fn lists_all(replies: &[Reply<Key, Global>]) -> bool {
+    match replies {
+        [Reply::Entries(entries)] => has_all(entries),
+        _ => false,
+    }
+}
+
+/// Whether a run lists all of them, once they are stored.
+fn is_long(map: &mut Map<Global>, alloc: Global) -> bool {
+    let is_stored = stores_all(map);
+    match run(alloc, map, &[Call::List]) {
+        Ok(replies) => is_stored & lists_all(&replies),
+        Err(AllocError) => false,
+    }
+}
+
+#[test]
+fn a_list_of_more_than_a_thousand(rt: HostRuntime) {
+    assert!(rt; on_new(PrefixMap::new(rt.alloc()), rt.alloc(), is_long) == Ok(true));
+}

@@ -1,0 +1,104 @@
+//! What a caller of a run learns of its replies, by its contract alone.
+ghost use Rattle.std.specs.Prelude.{◌≡◌, ◌≤◌, ◌+◌, ◌/◌, ℕ, [], ◌∷◌, Some, IfOk, OnOk, length};
+ghost use Rattle.std.specs.FinMap.{len};
+ghost use Rattle.prefix_trie.specs.Words.{longest_match, needed, replies_of, shown_match};
+ghost use Rattle.prefix_trie_map.specs.Steps.{state};
+ghost use Rattle.prefix_trie_bits.specs.Model.Step.{Match, Done, Count, Reply as Answer};
+
+use crate::on_new::on_new;
+use prefix_trie::replay::{Call, Reads, Reply, run, run_counted};
+use prefix_trie::{Key, Prefix, PrefixMap, Refusal};
+use std::alloc::{AllocError, Allocator, Global};
+
+type Pair = (u16, u8);
+
+type Numbers<A> = PrefixMap<Pair, u64, A>;
+
+// Asks a map for a longest match, whatever was done to it before: the match, and how many nodes were read.
+fn longest_of<A: Allocator + Clone>(
+    alloc: A,
+    map: &mut Numbers<A>,
+    prefix: Pair,
+) -> Result<(Vec<Reply<Pair, A>, A>, Reads), AllocError>
+    requires { ⟦<Pair as Prefix>⟧.IsFitting prefix }
+    ensures reply { IfOk result (λ ran. replies_of ⟦<u16 as Key>⟧.bits ran.0.items
+        ≡ Match (shown_match ⟦<Pair as Prefix>⟧.back (longest_match map.old.entries (⟦<Pair as Prefix>⟧.path prefix))) ∷ []) }
+    ensures reads { IfOk result (λ ran. (n : ℕ) × (ran.1 ≡ Some n ∷ []) × (n ≤ length (⟦<Pair as Prefix>⟧.path prefix) / 5 + 1)) }
+    ensures unchanged { OnOk result (state map.new ≡ state map.old) }
+{
+    run_counted(alloc, map, &[Call::Lpm(prefix)])
+}
+
+// Counts the nodes of a map that is emptied and gets a key, whatever was done to it before.
+fn nodes_once_cleared<A: Allocator + Clone>(
+    alloc: A,
+    map: &mut Numbers<A>,
+    prefix: Pair,
+) -> Result<Vec<Reply<Pair, A>, A>, AllocError>
+    requires { ⟦<Pair as Prefix>⟧.IsFitting prefix }
+    ensures { IfOk result (λ replies. (inserted : Answer (ℕ × ℕ) ℕ) × (replies_of ⟦<u16 as Key>⟧.bits replies.items
+        ≡ Done ∷ inserted ∷ Count (len (needed map.new.entries)) ∷ [])) }
+{
+    let calls = [Call::Clear, Call::Insert(prefix, 1), Call::NodeCount];
+    run(alloc, map, &calls)
+}
+
+// Counts the nodes of a new map that gets a key.
+fn nodes_of_new<A: Allocator + Clone>(
+    alloc: A,
+    other: A,
+    prefix: Pair,
+) -> Result<(Numbers<A>, Vec<Reply<Pair, A>, A>), Refusal>
+    requires { ⟦<Pair as Prefix>⟧.IsFitting prefix }
+    ensures { IfOk result (λ made. (inserted : Answer (ℕ × ℕ) ℕ) × (replies_of ⟦<u16 as Key>⟧.bits made.1.items
+        ≡ inserted ∷ Count (len (needed made.0.entries)) ∷ [])) }
+{
+    let mut map = PrefixMap::new(alloc)?;
+    match run(other, &mut map, &[Call::Insert(prefix, 1), Call::NodeCount]) {
+        Ok(replies) => Ok((map, replies)),
+        Err(AllocError) => Err(Refusal::Memory),
+    }
+}
+
+/// Whether the last reply is this number of nodes.
+fn ends_in(replies: &[Reply<Pair, Global>], nodes: usize) -> bool {
+    match replies.last() {
+        Some(Reply::Count(count)) => *count == nodes,
+        _ => false,
+    }
+}
+
+/// Whether a map has two nodes once it is emptied and gets a key of eight bits.
+fn has_two(map: &mut Numbers<Global>, alloc: Global) -> bool {
+    match nodes_once_cleared(alloc, map, (0x0a00, 8)) {
+        Ok(replies) => ends_in(&replies, 2),
+        Err(AllocError) => false,
+    }
+}
+
+/// Whether one match is found then.
+fn finds_one(map: &mut Numbers<Global>, alloc: Global) -> bool {
+    match longest_of(alloc, map, (0x0a0b, 16)) {
+        Ok(found) => found.0.len() == 1,
+        Err(AllocError) => false,
+    }
+}
+
+/// Both in turn.
+fn is_counted(map: &mut Numbers<Global>, alloc: Global) -> bool {
+    has_two(map, alloc) & finds_one(map, alloc)
+}
+
+/// Whether a new map that gets such a key has two nodes.
+fn has_two_anew(alloc: Global) -> bool {
+    match nodes_of_new(alloc, alloc, (0x0a00, 8)) {
+        Ok(made) => ends_in(&made.1, 2),
+        Err(_) => false,
+    }
+}
+
+#[test]
+fn runs_on_a_map(rt: HostRuntime) {
+    assert!(rt; has_two_anew(rt.alloc()));
+    assert!(rt; on_new(PrefixMap::new(rt.alloc()), rt.alloc(), is_counted) == Ok(true));
+}

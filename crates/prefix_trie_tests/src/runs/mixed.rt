@@ -1,0 +1,315 @@
+//! A long run: calls of all sixteen kinds, and their replies beside those of a plain sorted list.
+ghost use Rattle.std.specs.Prelude.{◌≤◌, All, IfOk};
+ghost use Rattle.prefix_trie.specs.Words.{IsFittingCall};
+
+use crate::cases::questions::has_sums;
+use crate::cases::{Pair, prefix_of};
+use crate::on_new::on_new;
+use prefix_trie::replay::{Call, Reply, run};
+use prefix_trie::{Prefix, PrefixMap};
+use std::alloc::{AllocError, Global};
+
+/// How many runs are made, and of how many calls.
+const RUNS: u64 = 100;
+
+const CALLS: u64 = 1_000;
+
+/// A number and a length.
+pub type Key = (u8, u8);
+
+/// A key without host bits, and its value.
+type Entry = (Key, u64);
+
+type Map = PrefixMap<Key, u64, Global>;
+
+/// What is drawn of a call.
+#[derive(Clone, Copy)]
+struct Draw<K> {
+    kind: u64,
+    at: Pair<K>,
+    is_even: bool,
+}
+
+/// The draw after this one.
+fn drawn(x: u64) -> u64 {
+    x.wrapping_mul(1_103_515_245).wrapping_add(12_345) % 0x8000_0000
+}
+
+/// The next call's number, and the key that it asks for; the draws are moved on.
+pub fn drawn_call(x: &mut u64) -> (u64, Key)
+    ensures { result.1.1 ≤ 8 }
+{
+    let call = drawn(*x);
+    let number = drawn(call);
+    let len = drawn(number);
+    *x = len;
+    (
+        call / 65_536 % 1024,
+        ((number / 65_536 % 256) as u8, (len / 65_536 % 9) as u8),
+    )
+}
+
+/// The key of as many bits of this number, without host bits.
+fn cleared(number: u8, len: u8) -> Key {
+    let host_bits = 0xff_u8.checked_shr(u32::from(len)).unwrap_or(0);
+    (number & !host_bits, len)
+}
+
+/// Where a key without host bits stands in listing order: a string comes before its extensions, and 0 before 1.
+fn rank(key: Key) -> u16 {
+    u16::from(key.0) * 256 + u16::from(key.1)
+}
+
+/// Whether an entry of this key contains what is asked for.
+fn contains(key: Key, asked: Key) -> bool {
+    key.1 <= asked.1 && key == cleared(asked.0, key.1)
+}
+
+fn exact(list: &[Entry], asked: Key) -> Option<u64> {
+    for entry in list {
+        if entry.0 == cleared(asked.0, asked.1) {
+            return Some(entry.1);
+        }
+    }
+    None
+}
+
+/// The first entry that contains the key: in listing order, the shortest.
+fn shortest(list: &[Entry], asked: Key) -> Option<Entry> {
+    for entry in list {
+        if contains(entry.0, asked) {
+            return Some(*entry);
+        }
+    }
+    None
+}
+
+/// The last entry that contains the key: in listing order, the longest.
+fn longest(list: &[Entry], asked: Key) -> Option<Entry> {
+    let mut last = None;
+    for entry in list {
+        if contains(entry.0, asked) {
+            last = Some(*entry);
+        }
+    }
+    last
+}
+
+/// How many keys of all eight bits an entry contains. None if all.
+fn addresses(list: &[Entry]) -> Option<u8> {
+    let mut count = 0_u8;
+    for number in 0..256_u16 {
+        if shortest(list, (number as u8, 8)).is_some() {
+            count = count.checked_add(1)?;
+        }
+    }
+    Some(count)
+}
+
+/// One of the thirteen kinds of call that are drawn alike.
+fn other_call<P: Prefix>(which: u64, at: P, inclusive: bool) -> Call<P>
+    requires { P.IsFitting at }
+    ensures { IsFittingCall P.IsFitting result }
+{
+    match which {
+        0 => Call::Get(at),
+        1 => Call::Lpm(at),
+        2 => Call::Spm(at),
+        3 => Call::Remove(at),
+        4 => Call::RemoveKeepTree(at),
+        5 => Call::RemoveChildren(at),
+        6 => Call::Len,
+        7 => Call::NodeCount,
+        8 => Call::AddressCount,
+        9 => Call::List,
+        10 => Call::ListFrom(at, inclusive),
+        11 => Call::Children(at),
+        _ => Call::Cover(at),
+    }
+}
+
+/// The call of a draw, in which an insertion sets this value.
+fn call_of<P: Prefix>(draw: &Draw<P::R>, value: u64) -> Call<P>
+    ensures { IsFittingCall P.IsFitting result }
+{
+    let at = prefix_of::<P>(draw.at);
+    match draw.kind {
+        0..600 => Call::Insert(at, value),
+        600 => Call::Clear,
+        601 => Call::RetainAtLeast(draw.at.1),
+        kind => other_call(kind.wrapping_sub(602) % 13, at, draw.is_even),
+    }
+}
+
+/// The calls of a run, of which the first has this index.
+fn calls_of<P: Prefix>(
+    alloc: Global,
+    draws: &[Draw<P::R>],
+    first: u64,
+) -> Result<Vec<Call<P>>, AllocError>
+    ensures { IfOk result (λ calls. All (IsFittingCall P.IsFitting) calls.items) }
+{
+    let mut calls = Vec::new(alloc);
+    for draw in draws {
+        let index = first.wrapping_add(calls.len() as u64);
+        calls.push(call_of::<P>(draw, index))?;
+    }
+    Ok(calls)
+}
+
+/// The draws of a run.
+fn drawn_run(alloc: Global, x: &mut u64) -> Result<Vec<Draw<u8>>, AllocError> {
+    let mut draws = Vec::new(alloc);
+    for _index in 0..CALLS {
+        let (kind, at) = drawn_call(x);
+        let is_even = at.0 % 2 == 0;
+        draws.push(Draw { kind, at, is_even })?;
+    }
+    Ok(draws)
+}
+
+/// Whether a list that a call asks for has the entry of this key.
+fn selects(call: &Call<Key>, key: Key) -> bool {
+    match call {
+        Call::List => true,
+        Call::ListFrom((number, len), inclusive) => {
+            let from = rank(cleared(*number, *len));
+            from < rank(key) || (*inclusive && from == rank(key))
+        }
+        Call::Children((number, len)) => contains(cleared(*number, *len), key),
+        Call::Cover(at) => contains(key, *at),
+        _ => false,
+    }
+}
+
+/// Whether a list is the one that a call asks for.
+fn are_selected(entries: &[Entry], call: &Call<Key>, list: &[Entry]) -> bool {
+    let mut place = 0_usize;
+    for entry in list {
+        if selects(call, entry.0) {
+            if entries.get(place) != Some(entry) {
+                return false;
+            }
+            place = place.wrapping_add(1);
+        }
+    }
+    place == entries.len()
+}
+
+/// Whether a reply is that of the list, to which the call was not yet made. Of a count of nodes the list says nothing.
+fn is_reply(reply: &Reply<Key, Global>, call: &Call<Key>, list: &[Entry]) -> bool {
+    match (call, reply) {
+        (Call::Insert(at, _), Reply::Value(value)) => *value == exact(list, *at),
+        (Call::Get(at), Reply::Value(value)) => *value == exact(list, *at),
+        (Call::Remove(at), Reply::Value(value)) => *value == exact(list, *at),
+        (Call::RemoveKeepTree(at), Reply::Value(value)) => *value == exact(list, *at),
+        (Call::Lpm(at), Reply::Match(found)) => *found == longest(list, *at),
+        (Call::Spm(at), Reply::Match(found)) => *found == shortest(list, *at),
+        (Call::Len, Reply::Count(count)) => *count == list.len(),
+        (Call::NodeCount, Reply::Count(count)) => 1 <= *count,
+        (Call::AddressCount, Reply::Addresses(count)) => *count == addresses(list),
+        (Call::RemoveChildren(_), Reply::Done) => true,
+        (Call::RetainAtLeast(_), Reply::Done) => true,
+        (Call::Clear, Reply::Done) => true,
+        (_, Reply::Entries(entries)) => are_selected(entries, call, list),
+        _ => false,
+    }
+}
+
+/// Whether the entry of this key stays as it is.
+fn keeps(call: &Call<Key>, key: Key) -> bool {
+    match call {
+        Call::Insert((number, len), _) => key != cleared(*number, *len),
+        Call::Remove((number, len)) => key != cleared(*number, *len),
+        Call::RemoveKeepTree((number, len)) => key != cleared(*number, *len),
+        Call::RemoveChildren((number, len)) => !contains(cleared(*number, *len), key),
+        Call::RetainAtLeast(len) => *len <= key.1,
+        Call::Clear => false,
+        _ => true,
+    }
+}
+
+/// The list of the entries that stay as they are.
+fn kept(alloc: Global, list: &[Entry], call: &Call<Key>) -> Result<Vec<Entry>, AllocError> {
+    let mut left = Vec::new(alloc);
+    for entry in list {
+        if keeps(call, entry.0) {
+            left.push(*entry)?;
+        }
+    }
+    Ok(left)
+}
+
+/// The list with this entry before the first of a higher rank. No entry has its key.
+fn with(alloc: Global, list: &[Entry], added: Entry) -> Result<Vec<Entry>, AllocError> {
+    let mut all = Vec::new(alloc);
+    let mut is_in = false;
+    for entry in list {
+        if !is_in && rank(added.0) < rank(entry.0) {
+            all.push(added)?;
+            is_in = true;
+        }
+        all.push(*entry)?;
+    }
+    if !is_in {
+        all.push(added)?;
+    }
+    Ok(all)
+}
+
+/// The list once a call was made.
+fn changed(alloc: Global, list: &[Entry], call: &Call<Key>) -> Result<Vec<Entry>, AllocError> {
+    let left = kept(alloc, list, call)?;
+    match call {
+        Call::Insert((number, len), value) => with(alloc, &left, (cleared(*number, *len), *value)),
+        _ => Ok(left),
+    }
+}
+
+/// Makes the calls on the list in turn. Answers whether each reply is that of the list.
+fn are_replies(
+    alloc: Global,
+    replies: &[Reply<Key, Global>],
+    calls: &[Call<Key>],
+    list: &mut Vec<Entry>,
+) -> Result<bool, AllocError> {
+    for (call, reply) in calls.iter().zip(replies) {
+        if !is_reply(reply, call, list) {
+            return Ok(false);
+        }
+        *list = changed(alloc, list, call)?;
+    }
+    Ok(replies.len() == calls.len())
+}
+
+/// Makes one run. Answers whether each reply is that of the list, and both arrays are as long as their blocks afterwards.
+fn runs_alike(
+    alloc: Global,
+    map: &mut Map,
+    calls: &[Call<Key>],
+    list: &mut Vec<Entry>,
+) -> Result<bool, AllocError>
+    requires { All (IsFittingCall ⟦<Key as Prefix>⟧.IsFitting) calls.now }
+{
+    let replies = run(alloc, map, calls)?;
+    Ok(are_replies(alloc, &replies, calls, list)? & has_sums(map))
+}
+
+/// Draws and makes all runs. Answers whether all replies are those of a list.
+fn all_run_alike(map: &mut Map, alloc: Global) -> Result<bool, AllocError> {
+    let mut list = Vec::new(alloc);
+    let mut x = 1;
+    for number in 0..RUNS {
+        let draws = drawn_run(alloc, &mut x)?;
+        let calls = calls_of::<Key>(alloc, &draws, number.wrapping_mul(CALLS))?;
+        if !runs_alike(alloc, map, &calls, &mut list)? {
+            return Ok(false);
+        }
+    }
+    Ok(!list.is_empty())
+}
+
+#[test]
+fn a_long_run_as_on_a_sorted_list(rt: HostRuntime) {
+    assert!(rt; on_new(PrefixMap::new(rt.alloc()), rt.alloc(), all_run_alike) == Ok(Ok(true)));
+}

@@ -1,0 +1,131 @@
+//! Mixed calls of a map, each of which a set has to answer alike.
+ghost use Rattle.std.specs.Prelude.{◌≤◌};
+
+use crate::cases::Case::{
+    self, Addresses, Clears, Covers, DropsChildren, Empties, Finds, Inserts, Len, Lists, Nodes,
+    Removes, RetainsLong,
+};
+use crate::cases::Entry;
+use crate::cases::lists::entries_of;
+use crate::cases::questions::shown;
+use crate::cases::tried::holds_alone;
+use crate::on_new::on_two_new;
+use crate::refusing::Refusing;
+use crate::retain::retain_long;
+use crate::runs::mixed::{Key, drawn_call};
+use crate::stored::put;
+use prefix_trie::{PrefixMap, PrefixSet};
+use std::alloc::{AllocError, Global};
+
+/// How many calls are made.
+const CALLS: u64 = 20_000;
+
+/// The number of a call that lists all entries.
+const LISTS: u64 = 610;
+
+type Map = PrefixMap<Key, u64, Global>;
+
+type Set = PrefixSet<Key, Global>;
+
+/// Makes a call that stores, or takes out all or what is short. Answers it beside its answer.
+fn changed(map: &mut Map, a: u64, asked: Key) -> Case<'static, u8>
+    requires { asked.1 ≤ 8 }
+{
+    match a {
+        600 => {
+            map.clear();
+            Clears
+        }
+        601 => {
+            retain_long(map, asked.1);
+            RetainsLong(asked.1)
+        }
+        _ => Inserts(asked, a, put(map, asked, a).unwrap_or(None)),
+    }
+}
+
+/// The same of a removal.
+fn removed(map: &mut Map, which: u64, asked: Key) -> Case<'static, u8>
+    requires { asked.1 ≤ 8 }
+{
+    match which {
+        10 => Removes(asked, map.remove(&asked)),
+        11 => Empties(asked, map.remove_keep_tree(&asked)),
+        _ => {
+            map.drop_children(&asked);
+            DropsChildren(asked)
+        }
+    }
+}
+
+/// The same of a question.
+fn answered(map: &Map, which: u64, asked: Key) -> Case<'static, u8>
+    requires { asked.1 ≤ 8 }
+{
+    match which {
+        5 => Len(map.len()),
+        6 => Nodes(map.node_count()),
+        7 => Addresses(map.address_count()),
+        _ => Finds(
+            asked,
+            shown(map.get_key_value(&asked)),
+            shown(map.get_lpm(&asked)),
+            shown(map.get_spm(&asked)),
+        ),
+    }
+}
+
+/// The entries that a call lists: all, or those around a prefix.
+fn listed(alloc: Global, map: &Map, which: u64, asked: Key) -> Result<Vec<Entry<u8>>, AllocError>
+    requires { asked.1 ≤ 8 }
+{
+    if which == 8 {
+        return entries_of(alloc, map);
+    }
+    let mut entries = Vec::new(alloc);
+    for (prefix, value) in map.cover(&asked) {
+        entries.push((prefix, *value))?;
+    }
+    Ok(entries)
+}
+
+/// Makes one call on a map. Answers whether a set answers it alike.
+fn agrees(
+    heap: &Refusing<Global>,
+    map: &mut Map,
+    set: &mut Set,
+    a: u64,
+    asked: Key,
+) -> Result<bool, AllocError>
+    requires { asked.1 ≤ 8 }
+{
+    let which = a.wrapping_sub(602) % 13;
+    let entries = listed(heap.inner(), map, which, asked)?;
+    let case = match a {
+        0..602 => changed(map, a, asked),
+        _ if which == 8 => Lists(&entries),
+        _ if which == 9 => Covers(asked, &entries),
+        _ if 9 < which => removed(map, which, asked),
+        _ => answered(map, which, asked),
+    };
+    Ok(holds_alone::<u8, Global, Set>(heap, set, &case))
+}
+
+/// Makes all calls. Answers whether each was answered alike, and both have the same keys at the end.
+fn answer_alike(map: &mut Map, set: &mut Set, heap: &Refusing<Global>) -> Result<bool, AllocError> {
+    let mut x = 1;
+    for _index in 0..CALLS {
+        let (a, asked) = drawn_call(&mut x);
+        if !agrees(heap, map, set, a, asked)? {
+            return Ok(false);
+        }
+    }
+    agrees(heap, map, set, LISTS, (0, 0))
+}
+
+#[test]
+fn mixed_calls_of_a_set_as_of_a_map(rt: HostRuntime) {
+    let heap = Refusing::new(rt.alloc());
+    let (map, set) = (PrefixMap::new(rt.alloc()), PrefixSet::new(rt.alloc()));
+    assert!(rt; on_two_new(map, set, &heap, answer_alike) == Ok(Ok(true)));
+}

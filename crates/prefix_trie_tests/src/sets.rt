@@ -1,0 +1,51 @@
+//! Sets of the prefixes of an iterator, with each request for memory refused in turn.
+ghost use Rattle.std.specs.Prelude.{All};
+
+use crate::refusing::Refusing;
+use prefix_trie::{Prefix, PrefixSet, Refusal};
+use std::alloc::{Allocator, Global};
+
+/// More requests than one call makes.
+const MANY: u64 = 100;
+
+type Heap = Refusing<Global>;
+
+// The set of the prefixes of a vector.
+fn of_prefixes<P: Prefix, A: Allocator + Clone>(
+    alloc: A,
+    prefixes: Vec<P>,
+) -> Result<PrefixSet<P, A>, Refusal>
+    requires { All P.IsFitting prefixes.items }
+{
+    PrefixSet::from_iter(alloc, prefixes)
+}
+
+/// How many prefixes the set of two hosts and a network has.
+fn collected(heap: &Heap) -> Result<usize, Refusal> {
+    match vec![in heap.inner(); (0_u32, 32_u8), (0, 8), (0x8000_0000, 32)] {
+        Ok(keys) => Ok(of_prefixes(heap, keys)?.len()),
+        Err(_) => Err(Refusal::Memory),
+    }
+}
+
+/// Collects them with so many requests refused from another one on each time. Answers whether some were, each time with a refusal, and
+/// at last there are three prefixes.
+fn is_refused_in_turn(heap: &Heap, refused: u64) -> bool {
+    for passed in 0..MANY {
+        heap.refuse(passed, refused);
+        let answer = collected(heap);
+        if heap.left() == refused {
+            return 0 < passed && answer == Ok(3);
+        }
+        if answer != Err(Refusal::Memory) {
+            return false;
+        }
+    }
+    false
+}
+
+#[test]
+fn each_request_of_a_set_of_prefixes_refused(rt: HostRuntime) {
+    let heap = Refusing::new(rt.alloc());
+    assert!(rt; is_refused_in_turn(&heap, 1) & is_refused_in_turn(&heap, u64::MAX));
+}

@@ -1,0 +1,231 @@
+//! Free blocks: what takes them with every request for memory refused, and a removal that makes one.
+use crate::cases::Case::{
+    self, Addresses, CellBlocks, Clears, Covers, DropsChildren, Empties, Finds, Inserts,
+    LeavesVacant, Len, Lists, Makes, NodeBlocks, Nodes, Removes, Slots, Writes, WritesLongest,
+};
+use crate::cases::Entry;
+use crate::refusing::Refusing;
+use crate::trials::{How, Table, on_both};
+
+/// The first 24 of all pairs of at most four bits, which stand in a block of 24 once the other seven are gone.
+const LEFT: [Entry<u8>; 24] = [
+    ((0, 0), 0),
+    ((0, 1), 1),
+    ((0, 2), 2),
+    ((0, 3), 3),
+    ((0, 4), 4),
+    ((16, 4), 5),
+    ((32, 3), 6),
+    ((32, 4), 7),
+    ((48, 4), 8),
+    ((64, 2), 9),
+    ((64, 3), 10),
+    ((64, 4), 11),
+    ((80, 4), 12),
+    ((96, 3), 13),
+    ((96, 4), 14),
+    ((112, 4), 15),
+    ((128, 1), 16),
+    ((128, 2), 17),
+    ((128, 3), 18),
+    ((128, 4), 19),
+    ((144, 4), 20),
+    ((160, 3), 21),
+    ((160, 4), 22),
+    ((176, 4), 23),
+];
+
+/// With every request refused the 25th goes into the free block of 31 and out again, a value is replaced, and all are taken out.
+const FREE: Table<'static, u8> = (
+    &[
+        Inserts((0, 0), 0, None),
+        Inserts((0, 1), 1, None),
+        Inserts((0, 2), 2, None),
+        Inserts((0, 3), 3, None),
+        Inserts((0, 4), 4, None),
+        Inserts((16, 4), 5, None),
+        Inserts((32, 3), 6, None),
+        Inserts((32, 4), 7, None),
+        Inserts((48, 4), 8, None),
+        Inserts((64, 2), 9, None),
+        Inserts((64, 3), 10, None),
+        Inserts((64, 4), 11, None),
+        Inserts((80, 4), 12, None),
+        Inserts((96, 3), 13, None),
+        Inserts((96, 4), 14, None),
+        Inserts((112, 4), 15, None),
+        Inserts((128, 1), 16, None),
+        Inserts((128, 2), 17, None),
+        Inserts((128, 3), 18, None),
+        Inserts((128, 4), 19, None),
+        Inserts((144, 4), 20, None),
+        Inserts((160, 3), 21, None),
+        Inserts((160, 4), 22, None),
+        Inserts((176, 4), 23, None),
+        Inserts((192, 2), 24, None),
+        Inserts((192, 3), 25, None),
+        Inserts((192, 4), 26, None),
+        Inserts((208, 4), 27, None),
+        Inserts((224, 3), 28, None),
+        Inserts((224, 4), 29, None),
+        Inserts((240, 4), 30, None),
+        Removes((192, 2), Some(24)),
+        Removes((192, 3), Some(25)),
+        Removes((192, 4), Some(26)),
+        Removes((208, 4), Some(27)),
+        Removes((224, 3), Some(28)),
+        Removes((224, 4), Some(29)),
+        Removes((240, 4), Some(30)),
+    ],
+    &[
+        Slots(1, 86),
+        CellBlocks(24, 1, 0),
+        CellBlocks(31, 0, 1),
+        Nodes(1),
+        Lists(&LEFT),
+        Finds(
+            (128, 1),
+            Some(((128, 1), 16)),
+            Some(((128, 1), 16)),
+            Some(((0, 0), 0)),
+        ),
+        Finds((240, 4), None, Some(((128, 1), 16)), Some(((0, 0), 0))),
+        Finds((255, 8), None, Some(((128, 1), 16)), Some(((0, 0), 0))),
+        Inserts((240, 4), 24, None),
+        CellBlocks(24, 0, 1),
+        CellBlocks(31, 1, 0),
+        Slots(1, 86),
+        Removes((240, 4), Some(24)),
+        Slots(1, 86),
+        CellBlocks(24, 1, 0),
+        CellBlocks(31, 0, 1),
+        Nodes(1),
+        Lists(&LEFT),
+        Inserts((128, 1), 77, Some(16)),
+        Clears,
+        Slots(1, 0),
+    ],
+);
+
+#[test]
+fn a_free_block_grants_an_insertion(rt: HostRuntime) {
+    let heap = Refusing::new(rt.alloc());
+    assert_eq!(rt; on_both::<(u8, u8)>(&heap, &FREE, How::Starved), Ok(()));
+}
+
+/// Once the root has one value, no block of one is free, and the limit has room for another: a removal that takes only free blocks
+/// makes none.
+const MADE: Table<'static, u8> = (
+    &[],
+    &[
+        Makes(Some(4)),
+        Inserts((0, 1), 1, None),
+        Inserts((128, 1), 2, None),
+        Inserts((0, 5), 3, None),
+        Slots(2, 3),
+        Removes((0, 1), Some(1)),
+        Slots(2, 4),
+        Lists(&[((0, 5), 3), ((128, 1), 2)]),
+    ],
+);
+
+#[test]
+fn removal_steps_down_not_only_onto_free_blocks(rt: HostRuntime) {
+    let heap = Refusing::new(rt.alloc());
+    assert_eq!(rt; on_both::<(u8, u8)>(&heap, &MADE, How::InTurn), Ok(()));
+}
+
+/// Five networks, each in the one before it.
+const FIVE: [Entry<u32>; 5] = [
+    ((0, 0), 0),
+    ((0, 1), 1),
+    ((0x0a00_0000, 8), 8),
+    ((0x0a01_0100, 24), 24),
+    ((0x0a01_0101, 32), 32),
+];
+
+/// The root's two values come last: so a block of one is free.
+const PUT_FIVE: [Case<'static, u32>; 5] = [
+    Inserts((0x0a00_0000, 8), 8, None),
+    Inserts((0x0a01_0100, 24), 24, None),
+    Inserts((0x0a01_0101, 32), 32, None),
+    Inserts((0, 0), 0, None),
+    Inserts((0, 1), 1, None),
+];
+
+/// All questions, and changes, of the five networks.
+pub const AMONG_FREE: [Table<'static, u32>; 2] = [
+    (
+        &PUT_FIVE,
+        &[
+            Len(5),
+            Addresses(None),
+            LeavesVacant((0x0a01_0102, 32)),
+            LeavesVacant((0xffff_ffff, 32)),
+            Nodes(7),
+            Slots(7, 6),
+            NodeBlocks(1, 6, 0),
+            CellBlocks(1, 3, 1),
+            CellBlocks(2, 1, 0),
+            Lists(&FIVE),
+            Covers((0x0a01_0101, 32), &FIVE),
+            Finds(
+                (0x0a01_0101, 32),
+                Some(((0x0a01_0101, 32), 32)),
+                Some(((0x0a01_0101, 32), 32)),
+                Some(((0, 0), 0)),
+            ),
+            Finds(
+                (0x0a01_0100, 24),
+                Some(((0x0a01_0100, 24), 24)),
+                Some(((0x0a01_0100, 24), 24)),
+                Some(((0, 0), 0)),
+            ),
+            Finds(
+                (0x0a01_0200, 24),
+                None,
+                Some(((0x0a00_0000, 8), 8)),
+                Some(((0, 0), 0)),
+            ),
+            Finds((0x0b00_0000, 8), None, Some(((0, 1), 1)), Some(((0, 0), 0))),
+            Finds((0xff00_0000, 8), None, Some(((0, 0), 0)), Some(((0, 0), 0))),
+            Writes((0x0a01_0101, 32), 32, Some(32)),
+            Writes((0x0a01_0200, 24), 9, None),
+            WritesLongest((0x0a01_0101, 32), 32, Some(((0x0a01_0101, 32), 32))),
+            WritesLongest((0x0a01_0100, 24), 24, Some(((0x0a01_0100, 24), 24))),
+            WritesLongest((0x0a01_0200, 24), 8, Some(((0x0a00_0000, 8), 8))),
+            WritesLongest((0x0b00_0000, 8), 1, Some(((0, 1), 1))),
+            WritesLongest((0xff00_0000, 8), 0, Some(((0, 0), 0))),
+        ],
+    ),
+    // A host and a half of all addresses go and come, and then all are taken out. The root's second value moves the first to the free
+    // block of one and back.
+    (
+        &PUT_FIVE,
+        &[
+            Inserts((0x0a01_0101, 32), 99, Some(32)),
+            Removes((0x0a01_0101, 32), Some(99)),
+            Inserts((0x0a01_0101, 32), 32, None),
+            Empties((0x0a01_0101, 32), Some(32)),
+            Removes((0x0a01_0101, 32), None),
+            Inserts((0x0a01_0101, 32), 32, None),
+            Inserts((0, 1), 99, Some(1)),
+            Removes((0, 1), Some(99)),
+            Inserts((0, 1), 1, None),
+            Empties((0, 1), Some(1)),
+            Removes((0, 1), None),
+            Inserts((0, 1), 1, None),
+            Nodes(7),
+            Slots(7, 6),
+            NodeBlocks(1, 6, 0),
+            CellBlocks(1, 3, 1),
+            CellBlocks(2, 1, 0),
+            Lists(&FIVE),
+            Covers((0x0a01_0101, 32), &FIVE),
+            DropsChildren((0x0a00_0000, 8)),
+            Len(2),
+            Clears,
+            Slots(1, 0),
+        ],
+    ),
+];

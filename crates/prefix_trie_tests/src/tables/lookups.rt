@@ -1,0 +1,55 @@
+//! All forms of lookups, counted ones too: of a count there is nothing to read.
+use crate::cases::Case::{Finds, Inserts, Lists, Writes, WritesLongest};
+use crate::refusing::Refusing;
+use crate::trials::{How, Table, on_both};
+use prefix_trie::Visits;
+use std::mem::size_of;
+
+/// Asked for the longer with host bits, for an address in it, and for one that neither contains.
+const BOTH: Table<'static, u16> = (
+    &[],
+    &[
+        Inserts((0x8000, 1), 1, None),
+        Inserts((0xb800, 8), 2, None),
+        Finds(
+            (0xb8ff, 8),
+            Some(((0xb800, 8), 2)),
+            Some(((0xb800, 8), 2)),
+            Some(((0x8000, 1), 1)),
+        ),
+        Finds(
+            (0xb8ff, 16),
+            None,
+            Some(((0xb800, 8), 2)),
+            Some(((0x8000, 1), 1)),
+        ),
+        Finds((0x3800, 8), None, None, None),
+        Writes((0x3800, 8), 5, None),
+        WritesLongest((0x3800, 8), 5, None),
+        Writes((0xffff, 1), 3, Some(1)),
+        WritesLongest((0xb8ff, 16), 4, Some(((0xb800, 8), 2))),
+        Lists(&[((0x8000, 1), 3), ((0xb800, 8), 4)]),
+    ],
+);
+
+#[test]
+fn answers_and_writes_of_all_lookups(rt: HostRuntime) {
+    let heap = Refusing::new(rt.alloc());
+    assert_eq!(rt; on_both::<(u16, u8)>(&heap, &BOTH, How::InTurn), Ok(()));
+}
+
+/// In an empty map, and beside a stored network or above it.
+pub const NONE: [Table<'static, u32>; 1] = [(
+    &[],
+    &[
+        Finds((0xc0a8_0000, 23), None, None, None),
+        Inserts((0xc0a8_0000, 23), 1, None),
+        Finds((0xc0a8_0200, 24), None, None, None),
+        Finds((0xc0a8_0000, 22), None, None, None),
+    ],
+)];
+
+#[test]
+fn a_counter_has_no_bytes(rt: HostRuntime) {
+    assert_eq!(rt; size_of::<Visits>(), 0);
+}
