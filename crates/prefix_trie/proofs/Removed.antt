@@ -1,5 +1,5 @@
 -- What a set answers of a removal is the reply of the model.
-use Rattle.prefix_trie.proofs.Prelude.{◌≡◌, Bool, false, true, false≢true, true≢false, List, Option, None, Some, is_some, refl, sym, Reply, Value}
+use Rattle.prefix_trie.proofs.Prelude.{◌≡◌, Bool, false, true, false≢true, true≢false, List, Option, None, Some, is_some, refl, Reply, Value}
 use Rattle.prefix_trie.specs.Sets.{taken_out}
 
 -- the unit that was taken out, as the answer shows it

@@ -21,6 +21,7 @@ mod collecting;
 mod handing;
 mod iter;
 mod lookup;
+mod memory;
 mod removal;
 mod shown;
 

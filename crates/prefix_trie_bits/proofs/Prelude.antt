@@ -31,6 +31,7 @@ pub use Rattle.prefix_trie_bits.specs.Begins.{begins-antisymm, begins-append, be
 pub use Rattle.prefix_trie_bits.specs.BitStrings.{bits-number, digits-extend, digits-number, extend-below, length-digits, number-below, number-digits, number-lt, number-power, number-window, number-window-inside, number-window-past, same-from-number, window-of-five}
 pub use Rattle.prefix_trie_bits.specs.Bits.{same_bit, zeros}
 unfoldable pub use Rattle.prefix_trie_bits.specs.Bits.{begins, digits, number}
+pub use Rattle.prefix_trie_bits.specs.Comparing.{order-filled, order-here, order-later, order-numbers}
 pub use Rattle.prefix_trie_bits.specs.Facts.{FactsHold}
 pub use Rattle.prefix_trie_bits.specs.Facts.Blocks.{BlocksHold, at_slot, none_free, room_of, six_free}
 pub use Rattle.prefix_trie_bits.specs.Facts.Insertions.{Blocks, InsertionsHold, by_path, far_children, far_layout, lacking, layout_at, ones_free, sizes_at, three_slots, with_one}
@@ -39,7 +40,7 @@ pub use Rattle.prefix_trie_bits.specs.Laws.Addresses.{AddressLaws}
 pub use Rattle.prefix_trie_bits.specs.Laws.Counted.{CountedLaws}
 pub use Rattle.prefix_trie_bits.specs.Laws.Determined.{DeterminedLaws, is_memory, is_refusal, may_refuse}
 pub use Rattle.prefix_trie_bits.specs.Laws.HandsOut.{HandingLaws, Splits}
-pub use Rattle.prefix_trie_bits.specs.Laws.Listings.{ListingLaws}
+pub use Rattle.prefix_trie_bits.specs.Laws.Listings.{IsListedBefore, ListingLaws}
 pub use Rattle.prefix_trie_bits.specs.Laws.Matches.{MatchLaws}
 pub use Rattle.prefix_trie_bits.specs.Laws.Nodes.{BeginsKey, IsHome, NodeLaws}
 pub use Rattle.prefix_trie_bits.specs.Laws.Pruning.{IsPruning, IsTakenOut, PruningLaws}

@@ -3,6 +3,7 @@ pub mod BitStrings
 pub mod Begins
 pub mod Windows
 pub mod Order
+pub mod Comparing
 pub mod Keys
 pub mod Places
 pub mod Walks

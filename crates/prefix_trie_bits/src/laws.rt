@@ -31,10 +31,10 @@ ghost use Rattle.prefix_trie_bits.specs.Rows.Widths.{WidthsHold};
 
 use crate::prefix::{Ipv4Prefix, Ipv6Prefix};
 
-/// The listing has each pair of the map once, in listing order: a string before its extensions, and 0 before 1. A walk
-/// that starts behind the last item read gives the rest of the listing. `remove_children` removes exactly what
-/// `children` lists, which is what is handed out. What is below a string is what stands at the places of a node there, one
-/// after another.
+/// The listing has each pair of the map once, in listing order: a string before its extensions, and 0 before 1. So strings of one
+/// length are in the order of their numbers. Of the keys that pass a test the listing is a filter. A walk that starts behind the last
+/// item read gives the rest of the listing. `remove_children` removes exactly what `children` lists, which is what is handed out.
+/// What is below a string is what stands at the places of a node there, one after another.
 #[tactic(auto, using(crate::proofs::Model::Listings::listing_laws))]
 pub fn listing_laws<T>()
     ensures { ListingLaws T }

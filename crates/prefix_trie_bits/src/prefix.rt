@@ -2,7 +2,9 @@
 ghost use Rattle.std.specs.Prelude.{◌≡◌, ℕ, ◌+◌, ◌-◌, ◌^◌, ◌<◌, ◌≤◌, ◌++◌, List, Bool, take, drop, IsTrue, MatchOption, true, ◌↔◌};
 ghost use Rattle.prefix_trie_bits.specs.Keys.{KeyLaws, PrefixLaws};
 ghost use Rattle.prefix_trie_bits.specs.Bits.{number, digits, zeros, begins};
+ghost use Rattle.prefix_trie_bits.specs.Order.{listing_cmp};
 
+use std::cmp::Ordering;
 use std::fmt::Debug;
 
 mod decimal;
@@ -21,7 +23,8 @@ pub use networks::{Ipv4Prefix, Ipv6Prefix, ParseNetworkError};
 /// many bits is that of exactly one key. Of `u8`, `u16`, `u32`, `u64`, `u128` and `usize` (64 bits)
 /// every number is a key, of `Narrow<W>` every number below `2^width`. Keys that are `==` are the same.
 ///
-/// `behind` and `power` have bodies here, which a type may replace. That of `behind` moves five bits at a time.
+/// `behind`, `power` and `compare` have bodies here, which a type may replace. Those of `behind` and `compare` read five bits at a
+/// time.
 ///
 /// ```text
 /// 0xd4adbeef_u32 has the bits 1101 0100 1010 1101 ..
@@ -130,6 +133,34 @@ pub trait Key: Copy + Eq + Debug {
     fn plus(self, other: Self) -> Option<Self>
         ensures { MatchOption result (2 ^ bit_width ≤ number (bits self) + number (bits other))
             (λ sum. IsKey sum × (number (bits sum) ≡ number (bits self) + number (bits other))) };
+
+    /// Compares two keys in listing order: the first bit in which they differ decides, and 0 comes before 1.
+    ///
+    /// So keys compare as their numbers. Prefixes without host bits are in listing order if their numbers are compared first and, if
+    /// these are equal, their lengths (`by_filled` of `listing_laws`).
+    ///
+    /// ```text
+    /// 0b0100_0000_u8.compare(0b0110_0000)   Less
+    /// ```
+    #[inline]
+    fn compare(self, other: Self) -> Ordering
+        ensures { result ≡ listing_cmp (bits self) (bits other) }
+    {
+        // The proof learns from these calls that the numbers in hand are keys.
+        let _ = self.is_key();
+        let _ = other.is_key();
+        let width = Self::width();
+        let mut depth = 0;
+        while depth < width {
+            let len = (width - depth).min(5);
+            let order = self.window(depth, len).cmp(&other.window(depth, len));
+            if order.is_ne() {
+                return order;
+            }
+            depth += len;
+        }
+        Ordering::Equal
+    }
 
     // every string of bit_width bits is that of exactly one key
     ghost key_laws: { KeyLaws bit_width IsKey bits key_of };

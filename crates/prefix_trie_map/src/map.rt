@@ -27,6 +27,7 @@ mod into_iter;
 mod iter;
 mod lending;
 mod lookup;
+mod memory;
 mod parts;
 mod places;
 mod projection;
@@ -52,7 +53,7 @@ pub use writing::{IterMut, ValuesMut};
 /// A map from prefixes to values, in memory of the allocator `A`.
 ///
 /// Prefixes are not kept: of a key the map knows its path alone. Every call that takes a prefix asks that it fits. In examples
-/// `10.1.0.0/16` stands for the prefix of that address and length.
+/// `10.1.0.0/16` stands for the network of that text, `"10.1.0.0/16".parse::<Ipv4Prefix>()?`.
 ///
 /// ```text
 /// let mut map = PrefixMap::new(alloc)?;

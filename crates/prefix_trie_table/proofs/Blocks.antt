@@ -7,6 +7,7 @@ pub mod RunLemmas
 pub mod Soundness
 pub mod Moving
 pub mod Tiers
+pub mod Capacity
 pub mod Turnovers
 pub mod Told
 pub mod Laying

@@ -10,4 +10,5 @@ pub mod Ways
 pub mod Subtrees
 pub mod Kept
 pub mod Copying
+pub mod Capacities
 pub mod Stated

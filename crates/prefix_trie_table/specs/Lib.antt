@@ -1,4 +1,5 @@
 pub mod Runs
+pub mod Growth
 pub mod Store
 pub mod Losing
 pub mod Cells

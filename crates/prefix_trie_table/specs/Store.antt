@@ -2,6 +2,7 @@
 use Rattle.std.specs.Prelude.{◌≡◌, ℕ, zero, suc, ◌+◌, ◌-◌, ◌*◌, ◌≤◌, ◌<◌, ◌==◌, cond, List, [], ◌∷◌, ◌++◌, Option, length, map, filter, count_by, sum_by, replicate, slice_index_or, slice_set, All, option_to_list, None, Some, IsSome, Result, MatchResult, IfErr, OnErr}
 use Rattle.prefix_trie_bits.specs.Model.Blocks.{AreBlocksOf, Block as Extent, smallest_size, free_of, one_of}
 use Rattle.prefix_trie_bits.specs.Model.Insertion.{block_needed, lacking_of, lacking_slots}
+use Rattle.prefix_trie_table.specs.Growth.{Reserves}
 use Rattle.prefix_trie_table.specs.Runs.{run}
 
 -- the blocks of one size: how many stand in the array, and where the free ones start
@@ -10,12 +11,13 @@ pub record Tier : Type 0 where
   pub made : ℕ
   pub starts : List ℕ
 
--- the array, the place where its first block starts, its tiers, and the length that it never passes
+-- the array, the place where its first block starts, its tiers, the length that it never passes, and how many slots it has memory for
 pub record Store (S : Type 0) : Type 0 where
   pub slots : List S
   pub first : ℕ
   pub tiers : List Tier
   pub limit : ℕ
+  pub capacity : ℕ
 
 -- a block in use: its tier, where it starts, its size, and the list that it holds
 pub record UsedBlock (S : Type 0) : Type 0 where
@@ -201,7 +203,8 @@ pub record MakesNone {S : Type 0} (v w : Store S) : Type 0 where
   pub made : SameMade v w
 
 -- the first block starts where it did, the sizes are the same, nothing before the first block was written, and where the limit
--- held it holds
+-- held it holds. The capacity grew as for the slots that there are now and one block more, which is one that was not made if memory for
+-- its place in the list of free ones was refused
 pub record Keeps {S : Type 0} (v w : Store S) : Type 0 where
   pub first_is : w.first ≡ v.first
   pub limit_is : w.limit ≡ v.limit
@@ -209,6 +212,7 @@ pub record Keeps {S : Type 0} (v w : Store S) : Type 0 where
   pub before : (i : ℕ) (d : S) → i < v.first → slice_index_or w.slots i d ≡ slice_index_or v.slots i d
   pub longer : length v.slots ≤ length w.slots
   pub within : length v.slots ≤ v.limit → length w.slots ≤ w.limit
+  pub grown : Reserves v.capacity (length w.slots + 32) w.capacity
 
 -- so many blocks of each size were made, by whose slots the array is longer, and a list that stood in a block of the size `old` stands in
 -- one of the size `new`; each other block in use or free is so still

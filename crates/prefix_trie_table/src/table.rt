@@ -16,6 +16,7 @@ mod insertion;
 mod lending;
 mod lookup;
 mod matching;
+mod memory;
 mod moving;
 mod places;
 mod removal;

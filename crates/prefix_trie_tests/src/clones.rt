@@ -214,8 +214,7 @@ fn is_refused_from<W: Named>(heap: &Heap, named: &W, passed: u64) -> bool {
 /// Copies what was made with every request refused, with another request refused each time: it alone, and with all behind it. Answers
 /// how many were, if each copy was refused exactly where one was, and at last both the copy and what was copied give their names from a
 /// place on with every request refused, of which none comes.
-fn copies<W: Named>(heap: &Heap, named: W, first: usize) -> Option<u64> {
-    let mut named = named;
+fn copies<W: Named>(heap: &Heap, mut named: W, first: usize) -> Option<u64> {
     let is_unasked = heap.left() == u64::MAX;
     for passed in 0..MANY {
         let is_refused = is_refused_from(heap, &named, passed);
@@ -224,8 +223,7 @@ fn copies<W: Named>(heap: &Heap, named: W, first: usize) -> Option<u64> {
         if !is_refused || answer.is_err() != (heap.left() == 0) {
             return None;
         }
-        if let Ok(copy) = answer {
-            let mut copy = copy;
+        if let Ok(mut copy) = answer {
             heap.refuse(0, u64::MAX);
             let give_all = gives_from(&mut copy, first)
                 & gives_from(&mut named, first)

@@ -117,7 +117,7 @@ fn a_map_is_equal_to_its_copy(rt: HostRuntime) {
 
 /// The number of entries of two items at one key, and the value there.
 fn later_of_two(alloc: Global) -> Result<(usize, Option<u64>), Refusal> {
-    let Ok(pairs) = vec![in alloc; ((0_u8, 1_u8), 1_u64), ((0, 1), 2)] else {
+    let Ok(pairs) = vec![in alloc; ((0_u32, 1_u8), 1_u64), ((0, 1), 2)] else {
         return Err(Refusal::Memory);
     };
     let map = of_pairs(alloc, pairs)?;

@@ -12,7 +12,9 @@ pub mod merge;
 pub mod pages;
 pub mod pruning;
 pub mod ranges;
+pub mod reread;
 pub mod rerouting;
+pub mod routes_from_text;
 pub mod scaling;
 pub mod splitting;
 

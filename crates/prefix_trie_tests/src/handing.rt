@@ -1,6 +1,7 @@
 //! Maps and sets that are split: what refused requests for memory leave, and what is dropped when.
 use crate::cases::keys::adds_key;
 use crate::cases::prefix_of;
+use crate::cases::questions::{has_cells, pair_of};
 use crate::drops::let_go;
 use crate::examples::splitting::split_and_merge;
 use crate::on_new::on_new;
@@ -40,6 +41,9 @@ const NETWORKS: [(u32, u8); 6] = [
     (0xc0a8_0400, 23),
 ];
 
+/// The numbers of all six.
+const ALL: [u64; 6] = [1, 2, 3, 4, 5, 6];
+
 /// Stores them. Answers whether each is new.
 fn put_six<'a, A: Allocator>(map: &mut Map<'a, A>, drops: &'a Cell<u64>) -> bool {
     let mut number = 0_u64;
@@ -64,34 +68,35 @@ fn six<'a, A: Allocator + Clone>(
     if is_filled { Some(map) } else { None }
 }
 
-/// Whether a map has these numbers, in listing order.
-fn has_numbers<A: Allocator>(map: &Map<'_, A>, numbers: &[u64]) -> bool {
-    let mut values = map.values();
+/// Whether a map has these networks, by their numbers, and no others.
+fn has_networks<A: Allocator>(map: &Map<'_, A>, numbers: &[u64]) -> bool {
+    let mut entries = map.iter();
     for number in numbers {
-        match values.next() {
-            Some(value) if value.number == *number => {}
+        let network = NETWORKS.get((*number as usize).wrapping_sub(1)).copied();
+        match entries.next() {
+            Some((prefix, value)) if value.number == *number => {
+                if network != Some(pair_of(prefix)) {
+                    return false;
+                }
+            }
             _ => return false,
         }
     }
-    values.next().is_none()
+    entries.next().is_none()
 }
 
-/// Whether it has all six, and is stored as they were put.
-fn is_whole<A: Allocator>(map: &Map<'_, A>) -> bool {
-    has_numbers(map, &[1, 2, 3, 4, 5, 6]) & (map.node_count() == 5) & (map.cell_slots() == 15)
-}
-
-/// Whether it has those that the second network does not contain.
-fn is_rest<A: Allocator>(map: &Map<'_, A>) -> bool {
-    has_numbers(map, &[1, 5, 6]) & (map.node_count() == 5)
+/// Whether a map has these networks, in as many nodes and slots as all six needed.
+fn has_in_place<A: Allocator>(map: &Map<'_, A>, numbers: &[u64]) -> bool {
+    has_networks(map, numbers) & (map.node_count() == 5) & (map.cell_slots() == 15)
 }
 
 /// Whether it has those that the second network contains, and no free slots.
 fn is_part<A: Allocator>(map: &Map<'_, A>) -> bool {
-    has_numbers(map, &[2, 3, 4])
+    has_networks(map, &[2, 3, 4])
         & (map.node_count() == 5)
         & (map.node_slots() == 5)
         & (map.cell_slots() == 4)
+        & has_cells(map, 4, 1, 0)
 }
 
 /// Splits a map of the six along the second network. Answers whether that was granted, if no value is dropped by it, and both maps are as
@@ -99,12 +104,12 @@ fn is_part<A: Allocator>(map: &Map<'_, A>) -> bool {
 fn is_split<A: Allocator + Clone>(map: &mut Map<'_, A>, drops: &Cell<u64>) -> Option<bool> {
     match map.remove_children(&prefix_of((0xc0a8_0000, 22))) {
         Ok(part) => {
-            let are_right = is_rest(map) & is_part(&part) & (drops.get() == 0);
+            let are_right = has_in_place(map, &[1, 5, 6]) & is_part(&part) & (drops.get() == 0);
             let_go(part);
             (are_right & (drops.get() == 3)).then_some(true)
         }
         Err(cause) => {
-            let is_as_before = is_whole(map) & (drops.get() == 0);
+            let is_as_before = has_in_place(map, &ALL) & (drops.get() == 0);
             (is_as_before & (cause == Refusal::Memory)).then_some(false)
         }
     }
@@ -122,7 +127,7 @@ fn is_split_or_refused<A: Allocator + Clone>(
     heap.refuse(passed, refused);
     let is_granted = is_split::<A>(map, drops)?;
     let is_refused = heap.left() != refused;
-    (is_refused | (is_granted & (map.cell_slots() == 15))).then_some(is_refused)
+    (is_refused | is_granted).then_some(is_refused)
 }
 
 /// The same of a new map, if all six are dropped with it.
@@ -205,7 +210,7 @@ fn hands_out_hosts<A: Allocator + Clone>(set: &mut PrefixSet<(u32, u8), A>, heap
 /// Whether a map of the six is split and merged again.
 fn is_merged_again<A: Allocator + Clone>(map: &mut Map<'_, A>) -> bool {
     let count = split_and_merge(map, &prefix_of((0xc0a8_0000, 22)));
-    (count == Ok(3)) & is_whole(map)
+    (count == Ok(3)) & has_in_place(map, &ALL)
 }
 
 /// The same of a new map.

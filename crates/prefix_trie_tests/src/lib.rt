@@ -22,6 +22,10 @@ mod examples;
 #[cfg(test)]
 mod handing;
 #[cfg(test)]
+mod key_order;
+#[cfg(test)]
+mod memory;
+#[cfg(test)]
 mod node;
 #[cfg(test)]
 mod on_new;
@@ -41,6 +45,8 @@ mod sets;
 mod stored;
 #[cfg(test)]
 mod tables;
+#[cfg(test)]
+mod texts;
 #[cfg(test)]
 mod trials;
 #[cfg(test)]

@@ -1,9 +1,9 @@
 -- The listing and its selections.
-use Rattle.prefix_trie_bits.proofs.Prelude.{◌≡◌, ◌≢◌, ◌↔◌, ◌⊎◌, Bool, true, false, cond, not, ◌&&◌, T, List, [], ◌∷◌, ◌++◌, filter, is_lt, is_le, Ordering, Less, Equal, Greater, refl, sym, ap, ◌∙◌, subst, Some, inl, inr, true≢false, ordering_reverse, entries_sorted, get, get-entries, is_sorted, below_all, begins, listing_cmp, listing_total, listing_same, listing-refl, listing-common, IsBefore, Entries, listing, listing_from, listing_after, is_root, ListingLaws}
+use Rattle.prefix_trie_bits.proofs.Prelude.{◌≡◌, ◌≢◌, ◌↔◌, ◌⊎◌, Bool, true, false, cond, not, ◌&&◌, T, List, [], ◌∷◌, ◌++◌, filter, is_lt, is_le, Ordering, Less, Equal, Greater, refl, sym, ap, ◌∙◌, subst, Some, inl, inr, true≢false, ordering_reverse, entries_sorted, get, get-entries, is_sorted, below_all, begins, listing_cmp, listing_total, listing_same, listing-refl, listing-common, IsBefore, Entries, listing, listing_from, listing_after, is_root, ListingLaws, IsListedBefore, All, All-nil, All-cons, order-filled, order-numbers}
 use lib.Dec.{T as IsT}
 use Rattle.std.specs.List.{Contains}
 use Rattle.prefix_trie_bits.proofs.Model.Members.{and-first, and-second}
-use Rattle.prefix_trie_bits.proofs.Model.Ordered.{t-true, true-t, lt-less, sorted-tail, sorted-head, sorted-neighbours, Contains-from_find, find-from_Contains, entries-retained}
+use Rattle.prefix_trie_bits.proofs.Model.Ordered.{t-true, true-t, lt-less, not_itself, not_less, sorted-tail, sorted-head, sorted-neighbours, Contains-from_find, find-from_Contains, entries-retained}
 use Rattle.prefix_trie_bits.proofs.Model.NodeListings.{listing_by_places}
 use Rattle.prefix_trie_bits.proofs.Model.Pruning.{begins-nil}
 
@@ -92,6 +92,30 @@ module _ {T : Type 0} where
   in_order : (m : Entries T) (front rest : List (List Bool × T)) (d e : List Bool × T) → listing m ≡ front ++ d ∷ e ∷ rest → IsBefore d.0 e.0
   in_order m front rest d e is = less-before d.0 e.0 (sorted-neighbours front rest d e (subst (λ es. IsT (is_sorted listing_cmp es)) is (entries_sorted m)))
 
+module _ {X : Type 0} where
+  before_it : (front : List (List Bool × X)) (e : List Bool × X) (rest : List (List Bool × X)) → T (is_sorted listing_cmp (front ++ e ∷ rest)) → All (λ d. IsListedBefore d e) front
+  before_it [] e rest h = All-nil (λ d. IsListedBefore d e)
+  before_it (x ∷ front) e rest h =
+      All-cons (λ d. IsListedBefore d e) x front (heads-before x front e rest (sorted-head x (front ++ e ∷ rest) h)) (before_it front e rest (sorted-tail x (front ++ e ∷ rest) h))
+
+  below_it : (e : List Bool × X) (rest : List (List Bool × X)) → T (below_all listing_cmp e.0 rest) → All (λ d. IsListedBefore e d) rest
+  below_it e [] h = All-nil (λ d. IsListedBefore e d)
+  below_it e (x ∷ rest) h =
+      let all = t-true (is_lt (listing_cmp e.0 x.0) && below_all listing_cmp e.0 rest) h in
+      All-cons (λ d. IsListedBefore e d) x rest (lt-less (listing_cmp e.0 x.0) (and-first (is_lt (listing_cmp e.0 x.0)) (below_all listing_cmp e.0 rest) all))
+      (below_it e rest (true-t (below_all listing_cmp e.0 rest) (and-second (is_lt (listing_cmp e.0 x.0)) (below_all listing_cmp e.0 rest) all)))
+
+  after_it : (front : List (List Bool × X)) (e : List Bool × X) (rest : List (List Bool × X)) → T (is_sorted listing_cmp (front ++ e ∷ rest)) → All (λ d. IsListedBefore e d) rest
+  after_it [] e rest h = below_it e rest (sorted-head e rest h)
+  after_it (x ∷ front) e rest h = after_it front e rest (sorted-tail x (front ++ e ∷ rest) h)
+
+module _ {T : Type 0} where
+  all_before : (m : Entries T) (front rest : List (List Bool × T)) (e : List Bool × T) → listing m ≡ front ++ e ∷ rest → All (λ d. IsListedBefore d e) front
+  all_before m front rest e is = before_it front e rest (subst (λ es. IsT (is_sorted listing_cmp es)) is (entries_sorted m))
+
+  all_after : (m : Entries T) (front rest : List (List Bool × T)) (e : List Bool × T) → listing m ≡ front ++ e ∷ rest → All (λ d. IsListedBefore e d) rest
+  all_after m front rest e is = after_it front e rest (subst (λ es. IsT (is_sorted listing_cmp es)) is (entries_sorted m))
+
 le-cases : (s t : List Bool) (o : Ordering) → listing_cmp s t ≡ o → is_le o ≡ true → (s ≡ t) ⊎ IsBefore s t
 le-cases s t Less e h = inr (less-before s t e)
 le-cases s t Equal e h = inl (listing_same s t e)
@@ -110,6 +134,13 @@ pub listing_laws : (T : Type 0) → ListingLaws T
 listing_laws T = record {
   order = λ s t. (less-before s t, before-less s t);
   order_or_same = order_or_same;
+  one_way = not_less;
+  not_itself = not_itself;
+  by_numbers = order-numbers;
+  by_filled = order-filled;
+  all_before = all_before;
+  all_after = all_after;
+  retained = entries-retained;
   has_each = has_each;
   in_order = in_order;
   resumes = λ m read last rest e. record { behind = resumes m read last rest e; at = resumes_at m read last rest e };

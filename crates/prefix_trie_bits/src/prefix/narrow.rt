@@ -7,6 +7,7 @@ ghost use Rattle.prefix_trie_bits.specs.Keys.{narrow_width, narrow_keys};
 
 use crate::digits::{behind_of, extend_of, keep_of, window_of};
 use crate::prefix::Key;
+use std::cmp::Ordering;
 use std::fmt::{self, Debug, Formatter, Write};
 use std::marker::Model;
 
@@ -137,5 +138,11 @@ impl<const W: u32> Key for Narrow<W> {
     #[tactic(auto, using(crate::specs::BitStrings::number_of_digits))]
     fn plus(self, other: Self) -> Option<Self> {
         Narrow::new(self.value + other.value)
+    }
+
+    #[inline]
+    #[tactic(auto, using(crate::specs::Comparing::ordered_as_numbers))]
+    fn compare(self, other: Self) -> Ordering {
+        self.get().cmp(&other.get())
     }
 }

@@ -7,6 +7,7 @@ ghost use Rattle.prefix_trie_bits.specs.Bits.{number, digits};
 use crate::digits::{extend_of, keep_of, short_window_of, window_of};
 use crate::prefix::Key;
 use crate::wide_digits;
+use std::cmp::Ordering;
 
 impl Key for u8 {
     ghost bit_width = { 8 };
@@ -63,6 +64,12 @@ impl Key for u8 {
     #[tactic(auto, using(crate::specs::BitStrings::number_of_digits))]
     fn plus(self, other: u8) -> Option<u8> {
         self.checked_add(other)
+    }
+
+    #[inline]
+    #[tactic(auto, using(crate::specs::Comparing::ordered_as_numbers))]
+    fn compare(self, other: u8) -> Ordering {
+        self.cmp(&other)
     }
 }
 
@@ -122,6 +129,12 @@ impl Key for u16 {
     fn plus(self, other: u16) -> Option<u16> {
         self.checked_add(other)
     }
+
+    #[inline]
+    #[tactic(auto, using(crate::specs::Comparing::ordered_as_numbers))]
+    fn compare(self, other: u16) -> Ordering {
+        self.cmp(&other)
+    }
 }
 
 impl Key for u32 {
@@ -179,6 +192,12 @@ impl Key for u32 {
     #[tactic(auto, using(crate::specs::BitStrings::number_of_digits))]
     fn plus(self, other: u32) -> Option<u32> {
         self.checked_add(other)
+    }
+
+    #[inline]
+    #[tactic(auto, using(crate::specs::Comparing::ordered_as_numbers))]
+    fn compare(self, other: u32) -> Ordering {
+        self.cmp(&other)
     }
 }
 
@@ -238,6 +257,12 @@ impl Key for u64 {
     fn plus(self, other: u64) -> Option<u64> {
         self.checked_add(other)
     }
+
+    #[inline]
+    #[tactic(auto, using(crate::specs::Comparing::ordered_as_numbers))]
+    fn compare(self, other: u64) -> Ordering {
+        self.cmp(&other)
+    }
 }
 
 impl Key for usize {
@@ -296,6 +321,12 @@ impl Key for usize {
     fn plus(self, other: usize) -> Option<usize> {
         self.checked_add(other)
     }
+
+    #[inline]
+    #[tactic(auto, using(crate::specs::Comparing::ordered_as_numbers))]
+    fn compare(self, other: usize) -> Ordering {
+        self.cmp(&other)
+    }
 }
 
 impl Key for u128 {
@@ -353,5 +384,11 @@ impl Key for u128 {
     #[tactic(auto, using(crate::specs::BitStrings::number_of_digits))]
     fn plus(self, other: u128) -> Option<u128> {
         self.checked_add(other)
+    }
+
+    #[inline]
+    #[tactic(auto, using(crate::specs::Comparing::ordered_as_numbers))]
+    fn compare(self, other: u128) -> Ordering {
+        self.cmp(&other)
     }
 }

@@ -1,35 +1,83 @@
 -- The nodes of two arrays of their parts, where both are as long.
-use Rattle.prefix_trie_table.proofs.Prelude.{◌≡◌, ℕ, zero, suc, ◌<◌, List, [], ◌∷◌, ◌++◌, length, get_or, set, take, refl, ap, arith, Node}
-use Rattle.prefix_trie_table.specs.NodeArrays.{node_of, nodes_of}
+use Rattle.prefix_trie_table.proofs.Prelude.{◌≡◌, ℕ, zero, suc, ◌+◌, ◌*◌, ◌/◌, ◌%◌, ◌<◌, ⊎_elim, subst, List, [], ◌∷◌, ◌++◌, length, get_or, set, take, insert, remove, swap, refl, sym, ap, ap₂, ◌∙◌, arith, Node, length-set}
+use Rattle.std.proofs.lemmas.List.Edits.{swap_is}
+use Rattle.prefix_trie_table.specs.NodeArrays.{FitsByte, FitsOver, node_of, nodes_of}
 use Rattle.prefix_trie_table.specs.declared.allocator.node_array.Head.{Head}
-use Rattle.prefix_trie_table.specs.declared.allocator.node_array.Sizes.{Sizes}
 
-pub length-nodes : (hs : List Head) (ss : List Sizes) → length hs ≡ length ss → length (nodes_of hs ss) ≡ length hs
-length-nodes [] ss e = refl
+pub length-nodes : (hs : List Head) (ns : List ℕ) → length hs ≡ length ns → length (nodes_of hs ns) ≡ length hs
+length-nodes [] ns e = refl
 length-nodes (h ∷ hs) [] e = absurd (omega (arith, e))
-length-nodes (h ∷ hs) (s ∷ ss) e = ap suc (length-nodes hs ss (omega (arith, e)))
+length-nodes (h ∷ hs) (n ∷ ns) e = ap suc (length-nodes hs ns (omega (arith, e)))
 
-pub nodes-append : (hs : List Head) (ss : List Sizes) (h : Head) (s : Sizes) → length hs ≡ length ss → nodes_of (hs ++ h ∷ []) (ss ++ s ∷ []) ≡ nodes_of hs ss ++ node_of h s ∷ []
-nodes-append [] [] h s e = refl
-nodes-append [] (t ∷ ss) h s e = absurd (omega (arith, e))
-nodes-append (g ∷ hs) [] h s e = absurd (omega (arith, e))
-nodes-append (g ∷ hs) (t ∷ ss) h s e = ap (λ xs. node_of g t ∷ xs) (nodes-append hs ss h s (omega (arith, e)))
+pub nodes-append : (hs : List Head) (ns : List ℕ) (h : Head) (n : ℕ) → length hs ≡ length ns → nodes_of (hs ++ h ∷ []) (ns ++ n ∷ []) ≡ nodes_of hs ns ++ node_of h n ∷ []
+nodes-append [] [] h n e = refl
+nodes-append [] (m ∷ ns) h n e = absurd (omega (arith, e))
+nodes-append (g ∷ hs) [] h n e = absurd (omega (arith, e))
+nodes-append (g ∷ hs) (m ∷ ns) h n e = ap (λ xs. node_of g m ∷ xs) (nodes-append hs ns h n (omega (arith, e)))
 
-pub nodes-set : (hs : List Head) (ss : List Sizes) (i : ℕ) (h : Head) (s : Sizes) → length hs ≡ length ss → nodes_of (set hs i h) (set ss i s) ≡ set (nodes_of hs ss) i (node_of h s)
-nodes-set [] ss zero h s e = refl
-nodes-set [] ss (suc i) h s e = refl
-nodes-set (g ∷ hs) [] i h s e = absurd (omega (arith, e))
-nodes-set (g ∷ hs) (t ∷ ss) zero h s e = refl
-nodes-set (g ∷ hs) (t ∷ ss) (suc i) h s e = ap (λ xs. node_of g t ∷ xs) (nodes-set hs ss i h s (omega (arith, e)))
+pub nodes-set : (hs : List Head) (ns : List ℕ) (i : ℕ) (h : Head) (n : ℕ) → length hs ≡ length ns → nodes_of (set hs i h) (set ns i n) ≡ set (nodes_of hs ns) i (node_of h n)
+nodes-set [] ns zero h n e = refl
+nodes-set [] ns (suc i) h n e = refl
+nodes-set (g ∷ hs) [] i h n e = absurd (omega (arith, e))
+nodes-set (g ∷ hs) (m ∷ ns) zero h n e = refl
+nodes-set (g ∷ hs) (m ∷ ns) (suc i) h n e = ap (λ xs. node_of g m ∷ xs) (nodes-set hs ns i h n (omega (arith, e)))
 
-pub nodes-take : (n : ℕ) (hs : List Head) (ss : List Sizes) → length hs ≡ length ss → nodes_of (take n hs) (take n ss) ≡ take n (nodes_of hs ss)
-nodes-take zero hs ss e = refl
-nodes-take (suc n) [] ss e = refl
-nodes-take (suc n) (h ∷ hs) [] e = absurd (omega (arith, e))
-nodes-take (suc n) (h ∷ hs) (s ∷ ss) e = ap (λ xs. node_of h s ∷ xs) (nodes-take n hs ss (omega (arith, e)))
+pub nodes-take : (k : ℕ) (hs : List Head) (ns : List ℕ) → length hs ≡ length ns → nodes_of (take k hs) (take k ns) ≡ take k (nodes_of hs ns)
+nodes-take zero hs ns e = refl
+nodes-take (suc k) [] ns e = refl
+nodes-take (suc k) (h ∷ hs) [] e = absurd (omega (arith, e))
+nodes-take (suc k) (h ∷ hs) (n ∷ ns) e = ap (λ xs. node_of h n ∷ xs) (nodes-take k hs ns (omega (arith, e)))
 
-pub get_or-nodes : (hs : List Head) (ss : List Sizes) (i : ℕ) (h : Head) (s : Sizes) (d : Node) → length hs ≡ length ss → i < length hs → node_of (get_or hs i h) (get_or ss i s) ≡ get_or (nodes_of hs ss) i d
-get_or-nodes [] ss i h s d e w = absurd (omega (arith, w))
-get_or-nodes (g ∷ hs) [] i h s d e w = absurd (omega (arith, e))
-get_or-nodes (g ∷ hs) (t ∷ ss) zero h s d e w = refl
-get_or-nodes (g ∷ hs) (t ∷ ss) (suc i) h s d e w = get_or-nodes hs ss i h s d (omega (arith, e)) (omega (arith, w))
+pub nodes-insert : (hs : List Head) (ns : List ℕ) (i : ℕ) (h : Head) (n : ℕ) → length hs ≡ length ns → nodes_of (insert hs i h) (insert ns i n) ≡ insert (nodes_of hs ns) i (node_of h n)
+nodes-insert [] [] zero h n e = refl
+nodes-insert [] [] (suc i) h n e = refl
+nodes-insert [] (m ∷ ns) i h n e = absurd (omega (arith, e))
+nodes-insert (g ∷ hs) [] i h n e = absurd (omega (arith, e))
+nodes-insert (g ∷ hs) (m ∷ ns) zero h n e = refl
+nodes-insert (g ∷ hs) (m ∷ ns) (suc i) h n e = ap (λ xs. node_of g m ∷ xs) (nodes-insert hs ns i h n (omega (arith, e)))
+
+pub nodes-remove : (hs : List Head) (ns : List ℕ) (i : ℕ) → length hs ≡ length ns → nodes_of (remove hs i) (remove ns i) ≡ remove (nodes_of hs ns) i
+nodes-remove [] [] zero e = refl
+nodes-remove [] [] (suc i) e = refl
+nodes-remove [] (m ∷ ns) i e = absurd (omega (arith, e))
+nodes-remove (g ∷ hs) [] i e = absurd (omega (arith, e))
+nodes-remove (g ∷ hs) (m ∷ ns) zero e = refl
+nodes-remove (g ∷ hs) (m ∷ ns) (suc i) e = ap (λ xs. node_of g m ∷ xs) (nodes-remove hs ns i (omega (arith, e)))
+
+pub get_or-nodes : (hs : List Head) (ns : List ℕ) (i : ℕ) (h : Head) (n : ℕ) (d : Node) → length hs ≡ length ns → i < length hs → node_of (get_or hs i h) (get_or ns i n) ≡ get_or (nodes_of hs ns) i d
+get_or-nodes [] ns i h n d e w = absurd (omega (arith, w))
+get_or-nodes (g ∷ hs) [] i h n d e w = absurd (omega (arith, e))
+get_or-nodes (g ∷ hs) (m ∷ ns) zero h n d e w = refl
+get_or-nodes (g ∷ hs) (m ∷ ns) (suc i) h n d e w = get_or-nodes hs ns i h n d (omega (arith, e)) (omega (arith, w))
+
+pub nodes-swap : (hs : List Head) (ns : List ℕ) (a b : ℕ) (h : Head) (n : ℕ) (d : Node) → length hs ≡ length ns → a < length hs → b < length hs →
+    nodes_of (swap hs a b) (swap ns a b) ≡ swap (nodes_of hs ns) a b
+nodes-swap hs ns a b h n d e in_a in_b =
+    let long = length-nodes hs ns e in
+    let one : length (set hs a (get_or hs b h)) ≡ length (set ns a (get_or ns b n)) = length-set hs a (get_or hs b h) ∙ e ∙ sym (length-set ns a (get_or ns b n)) in
+    (λ i. nodes_of (sym (swap_is hs a b h in_a in_b) i) (sym (swap_is ns a b n (omega (arith, e, in_a)) (omega (arith, e, in_b))) i))
+    ∙ nodes-set (set hs a (get_or hs b h)) (set ns a (get_or ns b n)) b (get_or hs a h) (get_or ns a n) one
+    ∙ (λ i. set (nodes-set hs ns a (get_or hs b h) (get_or ns b n) e i) b (get_or-nodes hs ns a h n d e in_a i))
+    ∙ ap (λ x. set (set (nodes_of hs ns) a x) b (get_or (nodes_of hs ns) a d)) (get_or-nodes hs ns b h n d e in_b)
+    ∙ swap_is (nodes_of hs ns) a b d (omega (arith, long, in_a)) (omega (arith, long, in_b))
+
+-- both sizes come back from one byte
+pub packed : (n : Node) → FitsByte n → node_of (record { value_bitmap = n.value_bitmap; child_bitmap = n.child_bitmap; value_block = n.value_block; child_block = n.child_block }) (n.value_tier + 8 * n.child_tier) ≡ n
+packed n fits =
+    let low : (n.value_tier + 8 * n.child_tier) % 8 ≡ n.value_tier = omega (arith, fits.value_tier) in
+    let high : (n.value_tier + 8 * n.child_tier) / 8 ≡ n.child_tier = omega (arith, fits.value_tier) in
+    λ i. record { value_bitmap = n.value_bitmap; child_bitmap = n.child_bitmap; value_block = n.value_block; child_block = n.child_block; value_tier = low i; child_tier = high i }
+
+pub unpacked : (h : Head) (n : ℕ) → n < 256 → FitsByte (node_of h n)
+unpacked h n small = record { value_tier = omega arith; child_tier = omega arith }
+
+-- the sizes of each node fit
+pub nodes_fit : (hs : List Head) (ns : List ℕ) (i : ℕ) (h : Head) (d : Node) → length hs ≡ length ns → ((k : ℕ) → get_or ns k 0 < 256) → i < length hs → FitsByte (get_or (nodes_of hs ns) i d)
+nodes_fit hs ns i h d e small within = subst FitsByte (get_or-nodes hs ns i h 0 d e within) (unpacked (get_or hs i h) (get_or ns i 0) (small i))
+
+-- a node that is written over another has sizes that fit
+pub fits_over : (old new : Node) → FitsByte old → FitsOver old new → FitsByte new
+fits_over old new fits over = record {
+  value_tier = ⊎_elim (λ (h : new.value_tier < 8). h) (λ (e : new.value_tier ≡ old.value_tier). (let f = fits.value_tier in omega (arith, f, e))) over.value_tier;
+  child_tier = ⊎_elim (λ (h : new.child_tier < 32). h) (λ (e : new.child_tier ≡ old.child_tier). (let f = fits.child_tier in omega (arith, f, e))) over.child_tier;
+}

@@ -59,7 +59,7 @@ made_within ts k has inside =
     le_times zero m most h le = absurd (omega arith)
     le_times (suc n) m most h le = (let e : suc n * m ≡ m + n * m = omega arith in omega arith)
 
-sizes_small : (ts : List Tier) → HasSizes ts → (k : ℕ) → k < length ts → (tier_at ts k).size < 33
+pub sizes_small : (ts : List Tier) → HasSizes ts → (k : ℕ) → k < length ts → (tier_at ts k).size < 33
 sizes_small =
     each_size (λ n. n < 33) (at_seven (λ k. size_in cell_sizes k < 33) (omega arith) (omega arith) (omega arith) (omega arith) (omega arith) (omega arith) (omega arith))
     (at_seven (λ k. size_in node_sizes k < 33) (omega arith) (omega arith) (omega arith) (omega arith) (omega arith) (omega arith) (omega arith))

@@ -3,12 +3,13 @@ use Rattle.prefix_trie_table.proofs.Prelude.{◌≡◌, ◌≢◌, ℕ, ◌+◌,
 use lib.Dec.{T as IsT}
 use Rattle.std.specs.List.{All, Contains}
 use Rattle.std.proofs.lemmas.List.{length-set}
-use Rattle.prefix_trie_table.specs.Walking.Walks.{slot_of}
+use Rattle.prefix_trie_table.specs.Walking.Walks.{IsTrail, slot_of, start}
 use Rattle.prefix_trie_table.proofs.Tree.Invariant.{some_table}
 use Rattle.prefix_trie_table.proofs.Walk.KeySets.{bare, strings_of, has-strings_of, pending_bare}
 use Rattle.prefix_trie_table.proofs.Lookup.Located.{stored_if}
 use Rattle.prefix_trie_table.proofs.Lookup.Locating.{is_seat}
 use Rattle.prefix_trie_table.proofs.Walk.Seats.{seats_differ}
+use Rattle.prefix_trie_table.proofs.Blocks.Capacity.{IsTrie-capacity}
 use Rattle.prefix_trie_table.proofs.Tree.Copying.{clones_at, cloned_there, cells_cloned}
 
 -- ---- cells and seats
@@ -242,7 +243,7 @@ module _ {T : Type 0} (C : T → T → Type 0) where
 -- the nodes and the spots of a copy are the same, and what is in its cells are clones
 module _ {K T : Type 0} (IsKey : K → Type 0) (bits : K → List Bool) (width : ℕ) (C : T → T → Type 0) (R : Option T → Option T → Type 0)
     (means : (x y : Option T) → R x y → IsCloned C x y) (v v2 : Store Node) (w w2 : Store (Option T)) (s : Seated v.slots) (key : K) (ps qs : List Spot)
-    (at : IsTaking IsKey bits width v w s.0 key ps) (nodes : v2 ≡ v) (clones : AllZip R w.slots w2.slots) (spots : qs ≡ ps) where
+    (at : IsTaking IsKey bits width v w s.0 key ps) (nodes : v2 ≡ record v { capacity = v2.capacity }) (clones : AllZip R w.slots w2.slots) (spots : qs ≡ ps) where
   cloned : (i : ℕ) → IsCloned C (get_or w.slots i None) (get_or w2.slots i None)
   cloned i = clones_at C R means w.slots w2.slots clones i
 
@@ -256,16 +257,27 @@ module _ {K T : Type 0} (IsKey : K → Type 0) (bits : K → List Bool) (width :
       IsTaking IsKey bits width y w2 keys.0 key rs
       × AllZip (IsPairCloned C) (pairs_in v.slots w.slots (pending bits s.0 key ps)) (pairs_in y.slots w2.slots (pending bits keys.0 key rs))
 
+  abbrev moved : Store Node
+  moved = record v { capacity = v2.capacity }
+
+  trail_moved : (n : ℕ) (rs : List Spot) → IsTrail IsKey bits width v n key rs → IsTrail IsKey bits width moved n key rs
+  trail_moved n [] h = tt
+  trail_moved n (r ∷ rs) h = (
+    h.0,
+    record { is_key = h.1.is_key; level = h.1.level; depth_is = h.1.depth_is; within = h.1.within; stands = h.1.stands; each = h.1.each },
+    trail_moved (n + 5) rs h.2,
+  )
+
   -- it is a walk, with clones of the same pairs
   pub copied_walk : (keys : Seated v2.slots) → IsCopy v2 keys qs
   copied_walk =
       subst (λ (y : Store Node). (keys : Seated y.slots) → IsCopy y keys qs) (sym nodes) (λ keys.
-      subst (λ (k : Seated v.slots). IsCopy v k qs) (Seated-prop v.slots s keys) (subst (IsCopy v s) (sym spots) (
+      subst (λ (k : Seated v.slots). IsCopy moved k qs) (Seated-prop v.slots s keys) (subst (IsCopy moved s) (sym spots) (
         record {
           tree = at.tree;
-          trie = at.trie;
+          trie = IsTrie-capacity v at.tree.cells v2.capacity at.tree.cells.capacity at.tree.count at.tree.shape width at.trie;
           long = sym (length_all_zip R w.slots w2.slots clones) ∙ at.long;
-          stack = at.stack;
+          stack = trail_moved (start ps) ps at.stack;
           held = held_cloned C v.slots w.slots w2.slots cloned (pending bits s.0 key ps) at.held;
           apart = at.apart;
         },

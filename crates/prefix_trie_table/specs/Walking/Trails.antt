@@ -17,7 +17,7 @@ use Rattle.prefix_trie_table.specs.Walking.Walks.{IsSpot, IsTrail, IsStack, star
 
 -- an array of these nodes
 abbrev pub array_of : List Node → Store Node
-array_of nodes = record { slots = nodes; first = 0; tiers = []; limit = 0 }
+array_of nodes = record { slots = nodes; first = 0; tiers = []; limit = 0; capacity = 0 }
 
 same_level : (d l m : ℕ) → d ≡ 5 * l → d ≡ 5 * m → l ≡ m
 same_level d l m e f = omega (arith, e, f)

@@ -1,60 +1,96 @@
-//! The array that is cut into blocks: what `Blocks` asks of it. Contracts see a list and how long it may grow without memory.
-ghost use Rattle.std.specs.Prelude.{◌≡◌, ℕ, ◌+◌, ◌<◌, ◌≤◌, ◌++◌, [], ◌∷◌, List, length, swap, take, slice_index_or, slice_set, OnOk, OnErr, IsOk};
+//! An array of slots, which `Blocks` cuts into blocks. Contracts see a list and a capacity.
+ghost use Rattle.std.specs.Prelude.{◌≡◌, ℕ, ◌+◌, ◌<◌, ◌≤◌, ◌++◌, [], ◌∷◌, List, length, swap, take, insert, remove, slice_index_or, slice_set, OnOk, OnErr, IsOk};
+ghost use Rattle.prefix_trie_table.specs.Growth.{Reserves};
 
-use crate::allocator::slots::{Slot, make_room};
+use crate::allocator::slots::{Slot, make_room, shift_in, shift_out, shrink};
 use std::alloc::{AllocError, Allocator};
 use std::mem;
 
 /// An array of slots.
 pub trait SlotArray<S: Slot>: Drop {
-    // what stands in the slots
+    // the values of the slots
     ghost list: { Self → List S };
 
     // how many slots there is memory for
-    ghost room: { Self → ℕ };
+    ghost capacity: { Self → ℕ };
+
+    // what a slot can hold
+    ghost can_hold: { S → Type 0 };
 
     /// The number of slots.
     fn count(&self) -> usize
         ensures { result ≡ length (list self.now) };
 
-    /// Makes room for so many more slots.
+    /// Reserves memory for `count` more slots.
     fn make_room(&mut self, count: usize) -> Result<(), AllocError>
         ensures list { list self.new ≡ list self.old }
-        ensures ok { OnOk result (length (list self.new) + count ≤ room self.new) }
-        ensures room { room self.old ≤ room self.new };
+        ensures ok { OnOk result (length (list self.new) + count ≤ capacity self.new) }
+        ensures grown { Reserves (capacity self.old) (length (list self.old) + count) (capacity self.new) }
+        ensures succeeds { length (list self.old) + count ≤ capacity self.old → IsOk result };
 
-    /// Appends a slot, for which there is room.
+    /// Appends a slot, for which there is memory.
     fn append(&mut self, value: S)
-        requires { length (list self.old) < room self.old }
+        requires memory { length (list self.old) < capacity self.old }
+        requires value { can_hold value }
         ensures list { list self.new ≡ list self.old ++ value ∷ [] }
-        ensures room { room self.new ≡ room self.old };
+        ensures capacity { capacity self.new ≡ capacity self.old };
 
-    /// Writes over a slot, and hands out what stood there.
+    /// Writes a slot, and returns its previous value.
     fn put(&mut self, at: usize, value: S) -> S
-        requires { at < length (list self.old) }
+        requires at { at < length (list self.old) }
+        requires value { can_hold value }
         ensures list { list self.new ≡ slice_set (list self.old) at value }
         ensures value { result ≡ slice_index_or (list self.old) at result }
-        ensures room { room self.new ≡ room self.old };
+        ensures capacity { capacity self.new ≡ capacity self.old };
 
     /// Exchanges two slots.
     fn exchange(&mut self, a: usize, b: usize)
         requires a { a < length (list self.old) }
         requires b { b < length (list self.old) }
         ensures list { list self.new ≡ swap (list self.old) a b }
-        ensures room { room self.new ≡ room self.old };
+        ensures capacity { capacity self.new ≡ capacity self.old };
 
-    /// Takes all slots out from `count` on.
+    /// Puts `value` at `from`, moves the values from there to before `to` one slot on, and drops the one at `to`.
+    fn insert_shifting(&mut self, from: usize, to: usize, value: S)
+        requires in_order { from ≤ to }
+        requires within { to < length (list self.old) }
+        requires value { can_hold value }
+        ensures list { list self.new ≡ insert (remove (list self.old) to) from value }
+        ensures capacity { capacity self.new ≡ capacity self.old };
+
+    /// Takes the value at `from`, moves those after it up to `to` one slot back, and leaves the slot `to` vacant.
+    fn remove_shifting(&mut self, from: usize, to: usize) -> S
+        requires in_order { from ≤ to }
+        requires within { to < length (list self.old) }
+        ensures value { result ≡ slice_index_or (list self.old) from result }
+        ensures list { list self.new ≡ insert (remove (list self.old) from) to S.vacant }
+        ensures capacity { capacity self.new ≡ capacity self.old };
+
+    /// Drops all slots from `count` on. It frees no memory.
     fn cut(&mut self, count: usize)
         ensures list { list self.new ≡ take count (list self.old) }
-        ensures room { room self.new ≡ room self.old };
+        ensures capacity { capacity self.new ≡ capacity self.old };
+
+    /// Frees the memory that no slot needs.
+    fn shrink(&mut self) -> Result<(), AllocError>
+        ensures list { list self.new ≡ list self.old }
+        ensures ok { OnOk result (capacity self.new ≤ length (list self.new)) }
+        ensures capacity { capacity self.new ≤ capacity self.old };
+
+    // a vacant slot is one
+    ghost holds_vacant: { can_hold S.vacant };
 }
 
 impl<S: Slot, A: Allocator> SlotArray<S> for Vec<S, A> {
-    ghost use Rattle.std.specs.Prelude.{vec_capacity};
+    ghost use Rattle.std.specs.Prelude.{⊤, vec_capacity};
 
     ghost list = { λ v. v.items };
 
-    ghost room = { λ v. vec_capacity v };
+    ghost capacity = { λ v. vec_capacity v };
+
+    ghost can_hold = { λ _. ⊤ };
+
+    ghost holds_vacant = { tt };
 
     #[inline]
     fn count(&self) -> usize {
@@ -78,11 +114,25 @@ impl<S: Slot, A: Allocator> SlotArray<S> for Vec<S, A> {
 
     #[inline]
     fn exchange(&mut self, a: usize, b: usize) {
-        self.as_mut_slice().swap(a, b);
+        self.swap(a, b);
+    }
+
+    #[inline]
+    fn insert_shifting(&mut self, from: usize, to: usize, value: S) {
+        shift_in(self, from, to, value);
+    }
+
+    #[inline]
+    fn remove_shifting(&mut self, from: usize, to: usize) -> S {
+        shift_out(self, from, to, S::vacant())
     }
 
     #[inline]
     fn cut(&mut self, count: usize) {
         self.truncate(count);
+    }
+
+    fn shrink(&mut self) -> Result<(), AllocError> {
+        shrink(self, 0)
     }
 }

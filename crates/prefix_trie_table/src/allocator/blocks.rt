@@ -7,7 +7,7 @@ mod moving;
 mod removal;
 mod tiers;
 
-ghost use Rattle.std.specs.Prelude.{◌≡◌, ◌+◌, ◌*◌, ◌^◌, ◌<◌, ◌≤◌, ◌↔◌, [], ◌∷◌, List, length, take, All, map, None, IfOk, IsErr, IfErr, slice_index_or, slice_set};
+ghost use Rattle.std.specs.Prelude.{◌≡◌, ◌+◌, ◌*◌, ◌^◌, ◌<◌, ◌≤◌, ◌↔◌, [], ◌∷◌, List, length, take, All, map, None, OnOk, IfOk, IsErr, IfErr, slice_index_or, slice_set};
 ghost use Rattle.prefix_trie_table.specs.Store.{Store, UsedBlock, Sound, tier_at, tier_sizes, size_in, free_in, slots_made, no_blocks};
 ghost use Rattle.prefix_trie_table.specs.BlockCounts.{tier_count};
 ghost use Rattle.prefix_trie_table.specs.Cells.{blank_node, cell_sizes, node_sizes, HasSizes};
@@ -18,7 +18,7 @@ ghost use Rattle.prefix_trie_bits.specs.declared.prefix.Refusal.TheVariants.{Ind
 
 use crate::allocator::array::SlotArray;
 use crate::allocator::block_count::BlockCount;
-use crate::allocator::free_list::{FreeList, clear_all};
+use crate::allocator::free_list::{FreeList, clear_all, shrink_all};
 use crate::allocator::node::Node;
 use crate::allocator::node_array::NodeArray;
 use crate::allocator::slots::Slot;
@@ -59,7 +59,7 @@ impl<S: Slot, R: SlotArray<S>, A: Allocator> Model for Blocks<S, R, A> {
 
     ghost Value = { Store S };
 
-    ghost view = { λ a. record { slots = R.list a.slots; first = a.first; tiers = a.lists.items; limit = a.limit } };
+    ghost view = { λ a. record { slots = R.list a.slots; first = a.first; tiers = a.lists.items; limit = a.limit; capacity = R.capacity a.slots } };
 
     ghost invariant = { λ a. (length (R.list a.slots) ≤ a.limit) × (a.first + slots_made a.lists.items ≡ length (R.list a.slots)) × HasSizes a.lists.items };
 }
@@ -125,7 +125,8 @@ impl<S: Slot, R: SlotArray<S>, A: Allocator> Blocks<S, R, A> {
     /// Writes over the value in a slot, of a block in use or before the first block, and hands out what stood there.
     #[inline]
     pub fn put(&mut self, start: u32, place: u32, value: S) -> S
-        requires { start + place < length self.old.slots }
+        requires within { start + place < length self.old.slots }
+        requires value { R.can_hold value }
         ensures slots { self.new ≡ record self.old { slots = slice_set self.old.slots (start + place) value } }
         ensures value { result ≡ slice_index_or self.old.slots (start + place) result }
         ensures sound { (b : UsedBlock S) (live : List (UsedBlock S)) → Sound S.vacant (b ∷ live) self.old
@@ -150,12 +151,22 @@ impl<S: Slot, R: SlotArray<S>, A: Allocator> Blocks<S, R, A> {
         clear_all(&mut self.lists);
     }
 
+    /// Frees the memory that no slot needs and no place in a list of free blocks that was reserved for a block.
+    pub fn shrink_to_fit(&mut self) -> Result<(), AllocError>
+        ensures kept { self.new ≡ record self.old { capacity = self.new.capacity } }
+        ensures fits { OnOk result (self.new.capacity ≤ length self.new.slots) }
+        ensures less { self.new.capacity ≤ self.old.capacity }
+    {
+        self.slots.shrink()?;
+        shrink_all(&mut self.lists)
+    }
+
     /// An array whose slots all stand outside every block, with a list for each size, of which no block is made.
     fn new(slots: R, lists: Vec<FreeList<A>, A>, limit: u32) -> Self
         requires within { length (R.list slots) ≤ limit }
         requires sizes { HasSizes lists.items }
         requires none_made { All (λ t. (t.made ≡ 0) × (t.starts ≡ [])) lists.items }
-        ensures value { result ≡ record { slots = R.list slots; first = length (R.list slots); tiers = lists.items; limit = limit } }
+        ensures value { result ≡ record { slots = R.list slots; first = length (R.list slots); tiers = lists.items; limit = limit; capacity = R.capacity slots } }
         ensures sound { Sound S.vacant [] result }
     {
         let first = slots.count() as u32;
@@ -200,13 +211,24 @@ impl<S: Slot, A: Allocator> Blocks<S, Vec<S, A>, A> {
 }
 
 impl<A: Allocator> Blocks<Node, NodeArray<A>, A> {
+    ghost use Rattle.std.specs.Prelude.{ℕ};
     ghost use Rattle.prefix_trie_table.specs.Cells.{node_at};
+    ghost use Rattle.prefix_trie_table.specs.NodeArrays.{FitsByte};
+
+    /// As `NodeArray::sizes_fit`.
+    #[inline]
+    pub(super) fn sizes_fit(&self)
+        ensures { (slot : ℕ) → slot < length self.now.slots → FitsByte (node_at self.now.slots slot) }
+    {
+        self.slots.sizes_fit();
+    }
 
     /// The node in a slot: of the block that starts at `start`, the one at `place`.
     #[inline]
     pub(super) fn node(&self, start: u32, place: u32) -> Node
         requires { start + place < length self.now.slots }
-        ensures { result ≡ node_at self.now.slots (start + place) }
+        ensures node { result ≡ node_at self.now.slots (start + place) }
+        ensures fits { FitsByte result }
     {
         self.slots.get(start as usize + place as usize)
     }
@@ -215,7 +237,7 @@ impl<A: Allocator> Blocks<Node, NodeArray<A>, A> {
 impl<A: Allocator + Clone> Blocks<Node, NodeArray<A>, A> {
     /// An array with the same nodes and blocks, in memory of its own. Refused only for memory.
     pub(super) fn clone_nodes(&self) -> Result<Self, AllocError>
-        ensures { IfOk result (λ copy. copy ≡ self.now) }
+        ensures { IfOk result (λ copy. copy ≡ record self.now { capacity = copy.capacity }) }
     {
         let lists = Vec::from_clones(self.lists.allocator().clone()?, &self.lists)?;
         let slots = self.slots.clone()?;
@@ -252,7 +274,7 @@ pub fn cells<T: Drop, A: Allocator + Clone>(
     limit: u32,
 ) -> Result<Cells<T, A>, AllocError>
     ensures empty { IfOk result
-        (λ b. b ≡ record { slots = []; first = 0; tiers = map no_blocks cell_sizes; limit = limit }) }
+        (λ b. b ≡ record { slots = []; first = 0; tiers = map no_blocks cell_sizes; limit = limit; capacity = b.capacity }) }
     ensures sound { IfOk result (λ b. Sound None [] b) }
 {
     let lists = empty_lists(alloc, &CELL_SIZES)?;
@@ -269,7 +291,7 @@ pub(super) fn node_blocks<A: Allocator + Clone>(
     limit: u32,
 ) -> Result<Blocks<Node, NodeArray<A>, A>, Refusal>
     ensures empty { IfOk result
-        (λ b. b ≡ record { slots = blank_node ∷ []; first = 1; tiers = map no_blocks node_sizes; limit = limit }) }
+        (λ b. b ≡ record { slots = blank_node ∷ []; first = 1; tiers = map no_blocks node_sizes; limit = limit; capacity = b.capacity }) }
     ensures sound { IfOk result (λ b. Sound blank_node [] b) }
     ensures range { IfErr result (λ e. (e ≡ IndexRange) ↔ (limit ≡ 0)) }
     ensures room { limit ≡ 0 → IsErr result }
@@ -287,7 +309,7 @@ fn node_array<A: Allocator + Clone>(
 ) -> Result<Blocks<Node, NodeArray<A>, A>, AllocError>
     requires { 0 < limit }
     ensures empty { IfOk result
-        (λ b. b ≡ record { slots = blank_node ∷ []; first = 1; tiers = map no_blocks node_sizes; limit = limit }) }
+        (λ b. b ≡ record { slots = blank_node ∷ []; first = 1; tiers = map no_blocks node_sizes; limit = limit; capacity = b.capacity }) }
     ensures sound { IfOk result (λ b. Sound blank_node [] b) }
 {
     let lists = empty_lists(alloc, &NODE_SIZES)?;

@@ -4,7 +4,7 @@ ghost use Rattle.prefix_trie_table.specs.Store.{no_blocks};
 ghost use Rattle.prefix_trie_table.specs.BlockCounts.{tier_count};
 
 use crate::allocator::block_count::BlockCount;
-use crate::allocator::slots::make_room;
+use crate::allocator::slots::{make_room, shrink};
 use std::alloc::{AllocError, Allocator};
 use std::marker::Model;
 
@@ -96,6 +96,14 @@ impl<A: Allocator> FreeList<A> {
     {
         self.starts.push_reserved(start);
     }
+
+    /// Frees the memory beyond a place for each block that was made.
+    pub fn shrink_to_fit(&mut self) -> Result<(), AllocError>
+        ensures { self.new ≡ self.old }
+    {
+        shrink(&mut self.starts, self.made as usize)
+    }
+
     /// Forgets all blocks, the free ones too. The places that were reserved stay.
     pub fn clear(&mut self)
         ensures { self.new ≡ no_blocks self.old.size }
@@ -130,4 +138,15 @@ pub fn clear_all<A: Allocator>(lists: &mut Vec<FreeList<A>, A>)
     for list in lists.iter_mut() {
         list.clear();
     }
+}
+
+/// Frees the memory that the lists have beyond a place for each block that was made.
+pub fn shrink_all<A: Allocator>(lists: &mut Vec<FreeList<A>, A>) -> Result<(), AllocError>
+    ensures { lists.new.items ≡ lists.old.items }
+{
+    for k in 0..lists.len() {
+        let list = &mut lists[k];
+        list.shrink_to_fit()?;
+    }
+    Ok(())
 }

@@ -1,12 +1,15 @@
-//! The nodes in two arrays: sixteen bytes of each, which no lookup leaves, and the sizes of its blocks.
-ghost use Rattle.std.specs.Prelude.{◌≡◌, ℕ, ◌+◌, ◌<◌, ◌≤◌, ◌++◌, [], ◌∷◌, List, length, take, slice_index_or, slice_set, OnOk, OnErr, IfOk};
+//! The nodes in two arrays: sixteen bytes of each, which are all that a lookup reads, and the sizes of its blocks.
+ghost use Rattle.std.specs.Prelude.{◌≡◌, ℕ, ◌+◌, ◌*◌, ◌^◌, ◌<◌, ◌≤◌, ◌++◌, [], ◌∷◌, List, length, take, insert, remove, slice_index, slice_index_or, slice_set, OnOk, OnErr, IfOk};
 ghost use Rattle.prefix_trie_table.specs.Cells.{node_at};
+ghost use Rattle.prefix_trie_table.specs.Growth.{Reserves};
+ghost use Rattle.prefix_trie_table.specs.NodeArrays.{FitsByte, blank_fits, node_of};
 
 use crate::allocator::array::SlotArray;
 use crate::allocator::node::Node;
-use crate::allocator::slots::make_room;
+use crate::allocator::slots::{growth, shift_in, shift_out, shrink};
 use std::alloc::{AllocError, Allocator};
 use std::marker::Model;
+use std::mem;
 
 // What a lookup reads of a node.
 #[derive(Clone, Copy)]
@@ -17,30 +20,48 @@ pub struct Head {
     child_block: u32,
 }
 
-// The numbers of the sizes of a node's blocks.
-#[derive(Clone, Copy)]
-pub struct Sizes {
-    value_tier: u8,
-    child_tier: u8,
-}
-
 /// An array of nodes.
 #[derive(Drop)]
 pub struct NodeArray<A: Allocator> {
     heads: Vec<Head, A>,
-    sizes: Vec<Sizes, A>,
+    // Of each node the numbers of the sizes of its blocks: of values, and 8 times that of children.
+    tiers: Vec<u8, A>,
 }
 
-// Clauses see the nodes, and how many there is memory for. The two arrays are as long as each other.
+// Clauses see the nodes, and how many there is memory for. Both arrays have the same length, and memory for a head for each byte.
 impl<A: Allocator> Model for NodeArray<A> {
-    ghost use Rattle.std.specs.Prelude.{◌≡◌, length, vec_capacity, min};
+    ghost use Rattle.std.specs.Prelude.{◌≡◌, ◌≤◌, length, vec_capacity};
     ghost use Rattle.prefix_trie_table.specs.NodeArrays.{NodeList, nodes_of};
 
     ghost Value = { NodeList };
 
-    ghost view = { λ a. record { list = nodes_of a.heads.items a.sizes.items; room = min (vec_capacity a.heads) (vec_capacity a.sizes) } };
+    ghost view = { λ a. record { list = nodes_of a.heads.items a.tiers.items; capacity = vec_capacity a.tiers } };
 
-    ghost invariant = { λ a. length a.heads.items ≡ length a.sizes.items };
+    ghost invariant = { λ a. (length a.heads.items ≡ length a.tiers.items) × (vec_capacity a.tiers ≤ vec_capacity a.heads) };
+}
+
+// Bytes are below 256. It does nothing: its contract is a law.
+#[inline]
+fn are_bytes(bytes: &[u8])
+    ensures { (k : ℕ) → slice_index bytes.now k < 256 }
+{
+    let _count = bytes.len();
+}
+
+/// A node of its two parts.
+#[inline]
+fn joined(head: Head, tiers: u8) -> Node
+    ensures node { result ≡ node_of head tiers }
+    ensures fits { FitsByte result }
+{
+    Node {
+        value_bitmap: head.value_bitmap,
+        child_bitmap: head.child_bitmap,
+        value_block: head.value_block,
+        child_block: head.child_block,
+        value_tier: tiers % 8,
+        child_tier: tiers / 8,
+    }
 }
 
 impl<A: Allocator> NodeArray<A> {
@@ -48,18 +69,35 @@ impl<A: Allocator> NodeArray<A> {
     #[inline]
     pub fn get(&self, at: usize) -> Node
         requires { at < length self.now.list }
-        ensures { result ≡ node_at self.now.list at }
+        ensures node { result ≡ node_at self.now.list at }
+        ensures fits { FitsByte result }
     {
         let head = self.heads[at];
-        let sizes = self.sizes[at];
-        Node {
-            value_bitmap: head.value_bitmap,
-            child_bitmap: head.child_bitmap,
-            value_block: head.value_block,
-            child_block: head.child_block,
-            value_tier: sizes.value_tier,
-            child_tier: sizes.child_tier,
-        }
+        let tiers = self.tiers[at];
+        joined(head, tiers)
+    }
+
+    /// The sizes of each node's blocks fit. It does nothing: its contract is a law.
+    #[inline]
+    pub fn sizes_fit(&self)
+        ensures { (at : ℕ) → at < length self.now.list → FitsByte (node_at self.now.list at) }
+    {
+        are_bytes(&self.tiers);
+    }
+
+    // The part of `make_room` that requests memory, apart so that the test is inlined. The second array is the one that may be shorter, so
+    // where it is refused the next call begins with the same capacity.
+    #[cold]
+    #[inline(never)]
+    fn grow(&mut self, count: usize) -> Result<(), AllocError>
+        requires { self.old.capacity < length self.old.list + count }
+        ensures list { self.new.list ≡ self.old.list }
+        ensures ok { OnOk result (length self.new.list + count ≤ self.new.capacity) }
+        ensures grown { Reserves self.old.capacity (length self.old.list + count) self.new.capacity }
+    {
+        let more = growth(self.tiers.capacity(), self.tiers.len(), count);
+        self.heads.reserve_exact(more)?;
+        self.tiers.reserve_exact(more)
     }
 }
 
@@ -69,8 +107,8 @@ impl<A: Allocator + Clone> NodeArray<A> {
         ensures { IfOk result (λ a. a.list ≡ []) }
     {
         let heads = Vec::new(alloc.clone()?);
-        let sizes = Vec::new(alloc.clone()?);
-        Ok(NodeArray { heads, sizes })
+        let tiers = Vec::new(alloc.clone()?);
+        Ok(NodeArray { heads, tiers })
     }
 
     /// An array of the same nodes, in memory of its own.
@@ -78,8 +116,10 @@ impl<A: Allocator + Clone> NodeArray<A> {
         ensures { IfOk result (λ a. a.list ≡ self.now.list) }
     {
         let heads = Vec::from_clones(self.heads.allocator().clone()?, &self.heads)?;
-        let sizes = Vec::from_clones(self.sizes.allocator().clone()?, &self.sizes)?;
-        Ok(NodeArray { heads, sizes })
+        let mut tiers = Vec::from_clones(self.tiers.allocator().clone()?, &self.tiers)?;
+        // It has no memory to free, which `from_clones` does not promise.
+        shrink(&mut tiers, 0)?;
+        Ok(NodeArray { heads, tiers })
     }
 }
 
@@ -96,54 +136,75 @@ fn head_of(node: Node) -> Head
 }
 
 #[inline]
-fn sizes_of(node: Node) -> Sizes
-    ensures { result ≡ record { value_tier = node.value_tier; child_tier = node.child_tier } }
+fn tiers_of(node: Node) -> u8
+    requires { FitsByte node }
+    ensures { result ≡ node.value_tier + 8 * node.child_tier }
 {
-    Sizes {
-        value_tier: node.value_tier,
-        child_tier: node.child_tier,
-    }
+    node.value_tier + 8 * node.child_tier
 }
 
 impl<A: Allocator> SlotArray<Node> for NodeArray<A> {
     ghost list = { λ a. a.list };
 
-    ghost room = { λ a. a.room };
+    ghost capacity = { λ a. a.capacity };
+
+    ghost can_hold = { FitsByte };
+
+    ghost holds_vacant = { blank_fits };
 
     #[inline]
     fn count(&self) -> usize {
         self.heads.len()
     }
 
+    #[inline]
     fn make_room(&mut self, count: usize) -> Result<(), AllocError> {
-        make_room(&mut self.heads, count)?;
-        make_room(&mut self.sizes, count)
+        if count <= self.tiers.capacity() - self.tiers.len() {
+            return Ok(());
+        }
+        self.grow(count)
     }
 
     #[inline]
     fn append(&mut self, value: Node) {
         self.heads.push_reserved(head_of(value));
-        self.sizes.push_reserved(sizes_of(value));
+        self.tiers.push_reserved(tiers_of(value));
     }
 
     #[inline]
     fn put(&mut self, at: usize, value: Node) -> Node {
-        let old = self.get(at);
-        self.heads[at] = head_of(value);
-        self.sizes[at] = sizes_of(value);
-        old
+        let head = mem::replace(&mut self.heads[at], head_of(value));
+        let tiers = mem::replace(&mut self.tiers[at], tiers_of(value));
+        joined(head, tiers)
     }
 
     #[inline]
     fn exchange(&mut self, a: usize, b: usize) {
-        let second = self.get(b);
-        let first = self.put(a, second);
-        self.put(b, first);
+        self.heads.swap(a, b);
+        self.tiers.swap(a, b);
+    }
+
+    #[inline]
+    fn insert_shifting(&mut self, from: usize, to: usize, value: Node) {
+        shift_in(&mut self.heads, from, to, head_of(value));
+        shift_in(&mut self.tiers, from, to, tiers_of(value));
+    }
+
+    #[inline]
+    fn remove_shifting(&mut self, from: usize, to: usize) -> Node {
+        let head = shift_out(&mut self.heads, from, to, head_of(Node::blank()));
+        let tiers = shift_out(&mut self.tiers, from, to, 0);
+        joined(head, tiers)
     }
 
     #[inline]
     fn cut(&mut self, count: usize) {
         self.heads.truncate(count);
-        self.sizes.truncate(count);
+        self.tiers.truncate(count);
+    }
+
+    fn shrink(&mut self) -> Result<(), AllocError> {
+        shrink(&mut self.tiers, 0)?;
+        shrink(&mut self.heads, self.tiers.capacity())
     }
 }

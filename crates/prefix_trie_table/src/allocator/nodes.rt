@@ -1,5 +1,5 @@
 //! The array of nodes. Every read of a node is counted.
-ghost use Rattle.std.specs.Prelude.{◌≡◌, ℕ, ◌+◌, ◌-◌, ◌^◌, ◌<◌, ◌≤◌, ◌↔◌, [], ◌∷◌, ◌++◌, List, None, IfOk, IfErr, IsErr, IsSome, length, map, insert, remove, slice_set};
+ghost use Rattle.std.specs.Prelude.{◌≡◌, ℕ, ◌+◌, ◌-◌, ◌^◌, ◌<◌, ◌≤◌, ◌↔◌, [], ◌∷◌, ◌++◌, All, List, None, OnOk, IfOk, IfErr, IsErr, IsSome, length, map, insert, remove, slice_set};
 ghost use Rattle.std.specs.Option.{option_or};
 ghost use Rattle.prefix_trie_bits.specs.Model.Blocks.{StepsDown, smallest_size, made_of};
 ghost use Rattle.prefix_trie_bits.specs.Model.HandsOut.{packed_slots};
@@ -7,6 +7,7 @@ ghost use Rattle.prefix_trie_table.specs.BlockCounts.{tier_count};
 ghost use Rattle.prefix_trie_table.specs.Cells.{HasSizes, blank_node, node_at, node_sizes};
 ghost use Rattle.prefix_trie_table.specs.HandingOut.Laying.{LaysList};
 ghost use Rattle.prefix_trie_table.specs.Losing.{LosesOne};
+ghost use Rattle.prefix_trie_table.specs.NodeArrays.{FitsByte, FitsOver};
 ghost use Rattle.prefix_trie_table.specs.Store.{Store, UsedBlock, Sound, Turnover, Obtains, HasList, AreFree, IsReady, SameSlots, tier_at, tier_sizes, slots_made, free_counts, none_of, no_blocks, block, held, list_size, list_need, needs};
 ghost use Rattle.prefix_trie_bits.specs.declared.prefix.Refusal.TheVariants.{Memory, IndexRange};
 
@@ -51,7 +52,7 @@ impl<A: Allocator + Clone, V: Drop> NodeAllocator<A, V> {
     /// `limit` is 0, and with `Memory` only where memory was refused.
     pub fn new(alloc: &A, limit: u32) -> Result<Self, Refusal>
         ensures empty { IfOk result
-            (λ a. a ≡ record { slots = blank_node ∷ []; first = 1; tiers = map no_blocks node_sizes; limit = limit }) }
+            (λ a. a ≡ record { slots = blank_node ∷ []; first = 1; tiers = map no_blocks node_sizes; limit = limit; capacity = a.capacity }) }
         ensures sound { IfOk result (λ a. Sound blank_node [] a) }
         ensures range { IfErr result (λ e. (e ≡ IndexRange) ↔ (limit ≡ 0)) }
         ensures room { limit ≡ 0 → IsErr result }
@@ -66,7 +67,7 @@ impl<A: Allocator + Clone, V: Drop> NodeAllocator<A, V> {
     /// A new array under the same limit, in memory of its own. Refused as `new` is.
     pub fn another(&self) -> Result<Self, Refusal>
         ensures empty { IfOk result
-            (λ a. a ≡ record { slots = blank_node ∷ []; first = 1; tiers = map no_blocks node_sizes; limit = self.now.limit }) }
+            (λ a. a ≡ record { slots = blank_node ∷ []; first = 1; tiers = map no_blocks node_sizes; limit = self.now.limit; capacity = a.capacity }) }
         ensures sound { IfOk result (λ a. Sound blank_node [] a) }
         ensures range { IfErr result (λ e. (e ≡ IndexRange) ↔ (self.now.limit ≡ 0)) }
     {
@@ -75,7 +76,7 @@ impl<A: Allocator + Clone, V: Drop> NodeAllocator<A, V> {
 
     /// An array with the same root and blocks, in memory of its own. Refused only for memory.
     pub fn clone(&self) -> Result<Self, AllocError>
-        ensures same { IfOk result (λ copy. copy ≡ self.now) }
+        ensures same { IfOk result (λ copy. copy ≡ record self.now { capacity = copy.capacity }) }
     {
         Ok(NodeAllocator {
             blocks: self.blocks.clone_nodes()?,
@@ -92,6 +93,7 @@ impl<A: Allocator, V: Tick> NodeAllocator<A, V> {
     pub fn visit(&self, at: NodeSlot, counter: &mut V) -> Node
         requires { at.start + at.place < length self.now.slots }
         ensures node { result ≡ node_at self.now.slots (at.start + at.place) }
+        ensures fits { FitsByte result }
         ensures one_more { V.count counter.new ≡ V.count counter.old + 1 }
     {
         counter.tick();
@@ -102,10 +104,11 @@ impl<A: Allocator, V: Tick> NodeAllocator<A, V> {
 impl<A: Allocator, V: Drop> NodeAllocator<A, V> {
     ghost use Rattle.prefix_trie_table.specs.declared.allocator.node.Node.{Node};
 
-    /// Writes a node over the one in a slot.
+    /// Writes a node over the one in a slot. The number of a size is one of the seven, or that of the node in the slot.
     #[inline]
     pub fn put(&mut self, at: NodeSlot, node: Node)
-        requires { at.start + at.place < length self.old.slots }
+        requires within { at.start + at.place < length self.old.slots }
+        requires tiers { FitsOver (node_at self.old.slots (at.start + at.place)) node }
         ensures slots { self.new ≡ record self.old { slots = slice_set self.old.slots (at.start + at.place) node } }
         ensures sound { (b : UsedBlock Node) (live : List (UsedBlock Node))
             → Sound blank_node (b ∷ live) self.old
@@ -114,6 +117,8 @@ impl<A: Allocator, V: Drop> NodeAllocator<A, V> {
         ensures before { (live : List (UsedBlock Node)) → at.start + at.place < self.old.first
             → Sound blank_node live self.old → Sound blank_node live self.new }
     {
+        // Read for the proof alone: the sizes of the node in the slot fit.
+        let _old = self.blocks.node(at.start, at.place);
         self.blocks.put(at.start, at.place, node);
     }
 
@@ -166,10 +171,13 @@ impl<A: Allocator, V: Drop> NodeAllocator<A, V> {
             ≡ option_or (list_need self.old.tiers k count) (list_size self.old.tiers k count) }
         ensures stays { list_need self.old.tiers k count ≡ None → result ≡ record { tier = k; start = start } }
         ensures turnover { Turnover self.old self.new none_of (list_size self.old.tiers k count) (list_size self.old.tiers result.tier (count + 1)) }
+        ensures tiers { (slot : ℕ) → slot < length self.old.slots → FitsByte (node_at self.old.slots slot) }
         ensures sound { (n : ℕ) (xs : List Node) (live : List (UsedBlock Node))
             → Sound blank_node (held k start n xs ++ live) self.old → length xs ≡ count
             → Sound blank_node (block result.tier result.start (tier_at self.old.tiers result.tier).size (insert xs place blank_node) ∷ live) self.new }
     {
+        // Read for the proof alone.
+        self.blocks.sizes_fit();
         self.blocks.insert_at(k, start, count, place, Node::blank())
     }
 
@@ -193,6 +201,7 @@ impl<A: Allocator, V: Drop> NodeAllocator<A, V> {
 
     /// As `Blocks::lay`: lays a list of these nodes in a block of the smallest size that holds them, and says where it stands.
     pub fn lay(&mut self, items: &[Node]) -> Result<BlockRef, Refusal>
+        requires tiers { All FitsByte items.now }
         requires sound { (live : List (UsedBlock Node)) × Sound blank_node live self.old }
         requires fits { IsSome (smallest_size (tier_sizes self.old.tiers) (length items.now)) }
         requires few { length items.now < 2 ^ 32 }
@@ -203,6 +212,15 @@ impl<A: Allocator, V: Drop> NodeAllocator<A, V> {
             → self.old.limit < length self.old.slots + packed_slots (tier_sizes self.old.tiers) (length items.now)) }
     {
         self.blocks.lay(items)
+    }
+
+    /// As `Blocks::shrink_to_fit`.
+    pub fn shrink_to_fit(&mut self) -> Result<(), AllocError>
+        ensures kept { self.new ≡ record self.old { capacity = self.new.capacity } }
+        ensures fits { OnOk result (self.new.capacity ≤ length self.new.slots) }
+        ensures less { self.new.capacity ≤ self.old.capacity }
+    {
+        self.blocks.shrink_to_fit()
     }
 
     /// Takes all nodes out but the root, which is then blank. It asks for no memory.

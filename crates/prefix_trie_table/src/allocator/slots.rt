@@ -1,9 +1,11 @@
 //! What a slot of an array can hold, and work on runs of slots. None of these asks for memory.
-ghost use Rattle.std.specs.Prelude.{◌≡◌, ℕ, ◌+◌, ◌<◌, ◌≤◌, ◌⊎◌, ◌++◌, length, replicate, insert, remove, vec_len, vec_capacity, slice_index_or, OnOk, OnErr, IsOk};
+ghost use Rattle.std.specs.Prelude.{◌≡◌, ℕ, ◌+◌, ◌^◌, ◌<◌, ◌≤◌, ◌⊎◌, ◌++◌, All, length, min, max, replicate, insert, remove, vec_len, vec_capacity, slice_index_or, OnOk, OnErr, IsOk};
+ghost use Rattle.prefix_trie_table.specs.Growth.{Reserves};
 ghost use Rattle.prefix_trie_table.specs.Runs.{run, put_run, swap_runs};
 
 use crate::allocator::array::SlotArray;
 use std::alloc::{AllocError, Allocator};
+use std::mem;
 
 /// What can stand in a slot of an array of blocks, with a value for a slot that is not used.
 pub trait Slot: Drop {
@@ -25,7 +27,7 @@ impl<T: Drop> Slot for Option<T> {
     }
 }
 
-/// Makes room for so many more items, by one request for memory at most.
+/// Reserves memory for so many more items, by one request for memory at most.
 #[inline]
 pub(super) fn make_room<S, A: Allocator>(
     items: &mut Vec<S, A>,
@@ -34,7 +36,7 @@ pub(super) fn make_room<S, A: Allocator>(
     ensures items { items.new.items ≡ items.old.items }
     ensures len { vec_len items.new ≡ vec_len items.old }
     ensures ok { OnOk result (vec_len items.new + count ≤ vec_capacity items.new) }
-    ensures capacity { vec_capacity items.old ≤ vec_capacity items.new }
+    ensures grown { Reserves (vec_capacity items.old) (vec_len items.old + count) (vec_capacity items.new) }
     ensures succeeds { vec_len items.old + count ≤ vec_capacity items.old → IsOk result }
     ensures err { OnErr result (vec_capacity items.new ≡ vec_capacity items.old) }
 {
@@ -44,11 +46,7 @@ pub(super) fn make_room<S, A: Allocator>(
     grow(items, count)
 }
 
-// An array with room for so many items or more grows by a half, a shorter one to twice its room: then the less of a long one
-// stands empty, and a short one is seldom moved.
-const LONG: usize = 262_144;
-
-// The part of `make_room` that asks for memory, apart so that the test is inlined.
+// The part of `make_room` that requests memory, apart so that the test is inlined.
 #[cold]
 #[inline(never)]
 fn grow<S, A: Allocator>(items: &mut Vec<S, A>, count: usize) -> Result<(), AllocError>
@@ -56,51 +54,100 @@ fn grow<S, A: Allocator>(items: &mut Vec<S, A>, count: usize) -> Result<(), Allo
     ensures items { items.new.items ≡ items.old.items }
     ensures len { vec_len items.new ≡ vec_len items.old }
     ensures ok { OnOk result (vec_len items.new + count ≤ vec_capacity items.new) }
-    ensures capacity { vec_capacity items.old ≤ vec_capacity items.new }
+    ensures grown { Reserves (vec_capacity items.old) (vec_len items.old + count) (vec_capacity items.new) }
     ensures err { OnErr result (vec_capacity items.new ≡ vec_capacity items.old) }
 {
-    let room = items.capacity();
-    if room < LONG {
-        return items.reserve(count);
-    }
-    let longer = room + room / 2;
-    items.reserve_exact(count.max(longer - items.len()))
+    let more = growth(items.capacity(), items.len(), count);
+    items.reserve_exact(more)
 }
 
-/// Appends unused places, for which there is room.
+// An array of this capacity or more grows by half, a shorter one to twice its capacity: so little of a long one is unused, and a
+// short one is seldom moved.
+const LONG: usize = 262_144;
+
+// The slots that an array gets at least when it grows.
+const LEAST: usize = 4;
+
+/// How many slots more than `len` an array of this capacity reserves when it lacks some of the next `count`.
+pub(super) fn growth(capacity: usize, len: usize, count: usize) -> usize
+    requires long { len ≤ capacity }
+    requires short { capacity < 2 ^ 63 }
+    requires lacks { capacity < len + count }
+    ensures enough { count ≤ result }
+    ensures grown { Reserves capacity (len + count) (len + result) }
+{
+    let step = if capacity < LONG {
+        capacity.max(LEAST)
+    } else {
+        capacity / 2
+    };
+    count.max(capacity + step - len)
+}
+
+/// Frees the memory behind the items, except for the first `least` of all.
+pub(super) fn shrink<S, A: Allocator>(items: &mut Vec<S, A>, least: usize) -> Result<(), AllocError>
+    ensures items { items.new.items ≡ items.old.items }
+    ensures len { vec_len items.new ≡ vec_len items.old }
+    ensures ok { OnOk result (vec_capacity items.new ≤ max least (vec_len items.new)) }
+    ensures kept { min least (vec_capacity items.old) ≤ vec_capacity items.new }
+    ensures capacity { vec_capacity items.new ≤ vec_capacity items.old }
+{
+    items.shrink_to(least);
+    if items.capacity() > least.max(items.len()) {
+        return Err(AllocError);
+    }
+    Ok(())
+}
+
+/// Appends vacant slots, for which there is memory.
 pub(super) fn push_vacant<S: Slot, R: SlotArray<S>>(slots: &mut R, count: u32)
-    requires { length (R.list slots.old) + count ≤ R.room slots.old }
-    ensures { R.list slots.new ≡ R.list slots.old ++ replicate count S.vacant }
+    requires { length (R.list slots.old) + count ≤ R.capacity slots.old }
+    ensures list { R.list slots.new ≡ R.list slots.old ++ replicate count S.vacant }
+    ensures capacity { R.capacity slots.new ≡ R.capacity slots.old }
 {
     for _i in 0..count {
         slots.append(S::vacant());
     }
 }
 
-/// Puts `value` at `from`, moves what stood from there to before `to` one place on, and lets what stood at `to` go.
-pub(super) fn shift_in<S: Slot, R: SlotArray<S>>(slots: &mut R, from: usize, to: usize, value: S)
+/// Puts `value` at `from`, moves the items from there to before `to` one place on, and drops the one at `to`.
+#[inline]
+pub(super) fn shift_in<S: Drop, A: Allocator>(
+    items: &mut Vec<S, A>,
+    from: usize,
+    to: usize,
+    value: S,
+)
     requires in_order { from ≤ to }
-    requires within { to < length (R.list slots.old) }
-    ensures items { R.list slots.new ≡ insert (remove (R.list slots.old) to) from value }
-    ensures len { length (R.list slots.new) ≡ length (R.list slots.old) }
+    requires within { to < length items.old.items }
+    ensures items { items.new.items ≡ insert (remove items.old.items to) from value }
+    ensures len { vec_len items.new ≡ vec_len items.old }
+    ensures capacity { vec_capacity items.new ≡ vec_capacity items.old }
 {
-    let mut carried = slots.put(from, value);
+    let mut carried = mem::replace(&mut items[from], value);
     for i in from..to {
-        carried = slots.put(i + 1, carried);
+        carried = mem::replace(&mut items[i + 1], carried);
     }
 }
 
-/// Takes the value at `from`, moves what stood from there to `to` one place back, and leaves the place `to` unused.
-pub(super) fn shift_out<S: Slot, R: SlotArray<S>>(slots: &mut R, from: usize, to: usize) -> S
+/// Takes the item at `from`, moves those after it up to `to` one place back, and puts `vacant` at `to`.
+#[inline]
+pub(super) fn shift_out<S: Drop, A: Allocator>(
+    items: &mut Vec<S, A>,
+    from: usize,
+    to: usize,
+    vacant: S,
+) -> S
     requires in_order { from ≤ to }
-    requires within { to < length (R.list slots.old) }
-    ensures value { result ≡ slice_index_or (R.list slots.old) from result }
-    ensures items { R.list slots.new ≡ insert (remove (R.list slots.old) from) to S.vacant }
-    ensures len { length (R.list slots.new) ≡ length (R.list slots.old) }
+    requires within { to < length items.old.items }
+    ensures value { result ≡ slice_index_or items.old.items from result }
+    ensures items { items.new.items ≡ insert (remove items.old.items from) to vacant }
+    ensures len { vec_len items.new ≡ vec_len items.old }
+    ensures capacity { vec_capacity items.new ≡ vec_capacity items.old }
 {
-    let value = slots.put(from, S::vacant());
+    let value = mem::replace(&mut items[from], vacant);
     for i in from..to {
-        slots.exchange(i, i + 1);
+        items.swap(i, i + 1);
     }
     value
 }
@@ -111,6 +158,7 @@ pub(super) fn exchange<S: Slot, R: SlotArray<S>>(slots: &mut R, a: usize, b: usi
     requires b_within { b + count ≤ length (R.list slots.old) }
     ensures items { R.list slots.new ≡ swap_runs (R.list slots.old) a b count }
     ensures len { length (R.list slots.new) ≡ length (R.list slots.old) }
+    ensures capacity { R.capacity slots.new ≡ R.capacity slots.old }
 {
     // Read for the proof alone: the length is a number of the machine.
     let _count = slots.count();
@@ -133,8 +181,10 @@ pub(super) fn move_in<S: Slot, R: SlotArray<S>>(
     requires apart { (from + count ≤ to) ⊎ (to + count < from) }
     requires unused { run (R.list slots.old) to (count + 1) ≡ replicate (count + 1) S.vacant }
     requires place { place ≤ count }
+    requires value { R.can_hold value }
     ensures items { R.list slots.new ≡ put_run (put_run (R.list slots.old) from (replicate count S.vacant)) to (insert (run (R.list slots.old) from count) place value) }
     ensures len { length (R.list slots.new) ≡ length (R.list slots.old) }
+    ensures capacity { R.capacity slots.new ≡ R.capacity slots.old }
 {
     // Read for the proof alone.
     let _count = slots.count();
@@ -146,8 +196,10 @@ pub(super) fn move_in<S: Slot, R: SlotArray<S>>(
 /// Writes items over as many places from `from` on.
 pub(super) fn write_run<S: Slot + Copy, R: SlotArray<S>>(slots: &mut R, from: usize, items: &[S])
     requires within { from + length items.now ≤ length (R.list slots.old) }
+    requires values { All R.can_hold items.now }
     ensures written { R.list slots.new ≡ put_run (R.list slots.old) from items.now }
     ensures len { length (R.list slots.new) ≡ length (R.list slots.old) }
+    ensures capacity { R.capacity slots.new ≡ R.capacity slots.old }
 {
     // Read for the proof alone.
     let _count = slots.count();

@@ -1,5 +1,5 @@
 //! Laying a part of a table anew, with all its blocks at their final sizes and without its values.
-ghost use Rattle.std.specs.Prelude.{◌≡◌, ℕ, ◌≤◌, None, drop, take, IfOk, IfErr};
+ghost use Rattle.std.specs.Prelude.{◌≡◌, ℕ, ◌≤◌, None, drop, take, IfOk, IfErr, IfSome};
 ghost use Rattle.prefix_trie_bits.specs.declared.prefix.Refusal.TheVariants.{Memory};
 ghost use Rattle.prefix_trie_bits.specs.Model.Step.{State};
 ghost use Rattle.prefix_trie_bits.specs.Bits.{begins};
@@ -8,6 +8,7 @@ ghost use Rattle.prefix_trie_table.specs.Cells.{blank_node, node_sizes, cell_siz
 ghost use Rattle.prefix_trie_table.specs.HandingOut.Laid.{IsSource, LaysNode, child_slots, value_slots, slots_below};
 ghost use Rattle.prefix_trie_table.specs.HandingOut.Laying.{CanLay};
 ghost use Rattle.prefix_trie_table.specs.HandingOut.Skeleton.{IsSecond};
+ghost use Rattle.prefix_trie_table.specs.NodeArrays.{FitsByte};
 ghost use Rattle.prefix_trie_table.specs.Tables.{IsTrie};
 
 use crate::allocator::blocks::{self, Cells};
@@ -62,6 +63,7 @@ fn lay_node<K: Key, T: Drop, A: Allocator, V: Tick>(
     requires cells { CanLay None cell_sizes (slots_below value_slots from.now.slots levels node) cells.old }
     ensures laid { IfOk result (λ top. LaysNode from.now.slots levels node (drop depth (take len (K.bits key)))
         nodes.old nodes.new cells.old cells.new top) }
+    ensures fits { IfOk result (λ top. IfSome top FitsByte) }
     ensures memory { IfErr result (λ cause. cause ≡ Memory) }
 {
     let (values, children, deeper) = masks(key, depth, len);

@@ -93,7 +93,7 @@ pub fn longest_on_way<K: Key, A: Allocator, V: Tick>(
 }
 
 /// The shortest beginning of a bit string that has its value in this node on the way.
-#[inline]
+#[inline(always)]
 fn shortest_in<K: Key>(here: Reached, rest: K, len: u32) -> Option<Match>
     requires key { K.IsKey rest }
     requires within { len ≤ K.bit_width }
@@ -118,6 +118,7 @@ fn shortest_in<K: Key>(here: Reached, rest: K, len: u32) -> Option<Match>
 
 /// The shortest beginning of a bit string that has a value. The nodes on the way are read once each, down to the one of
 /// that beginning.
+#[inline(always)]
 pub fn shortest_on_way<K: Key, A: Allocator, V: Tick>(
     nodes: &NodeAllocator<A, V>,
     key: K,

@@ -116,7 +116,7 @@ pub fn filled<P: Prefix, A: Allocator>(
         Fill::OrInsertWith => or_insert_with(map, at, value),
         Fill::OrDefault => made(entry_at(map, at).or_default(), value),
         Fill::InsertWith => insert_with(map, at, value),
-        _ => filled_vacant(map, fill, at, value),
+        Fill::Insert | Fill::Default => filled_vacant(map, fill, at, value),
     }
 }
 

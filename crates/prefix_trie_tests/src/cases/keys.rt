@@ -150,36 +150,20 @@ impl<P: Prefix + Copy + PartialEq, A: Allocator + Copy> Tried<P::R, A> for Prefi
         (self.node_count() <= self.node_slots()) & (self.len() <= self.cell_slots())
     }
 
-    fn changes_as(&mut self, case: &Case<'_, P::R>) -> bool {
+    fn is_as_said(&mut self, heap: &Refusing<Global>, case: &Case<'_, P::R>) -> bool {
         match case {
+            Case::Removes(at, before) => self.remove(&prefix_of(*at)) == before.is_some(),
+            Case::Empties(at, before) => {
+                self.remove_keep_tree(&prefix_of(*at)) == before.is_some()
+            }
+            Case::TakesOut(at, _) => self.remove_keep_tree(&prefix_of(*at)),
             Case::ChangesEntry(at, _, _) => put(self, prefix_of(*at)) == Ok(false),
-            Case::DropsChildren(at) => {
-                self.drop_children(&prefix_of(*at));
-                true
-            }
-            Case::RetainsLong(len) => {
-                retain_long_keys(self, *len);
-                true
-            }
-            Case::Clears => {
-                self.clear();
-                self.is_empty()
-            }
-            _ => is_taken_out(self, case),
-        }
-    }
-
-    fn answers_as(&self, heap: &Refusing<Global>, case: &Case<'_, P::R>) -> bool {
-        match case {
+            Case::DropsChildren(_) | Case::RetainsLong(_) | Case::Clears => is_reduced(self, case),
             Case::Finds(at, exact, longest, shortest) => {
                 let found = (pair_in(*exact), pair_in(*longest), pair_in(*shortest));
                 finds(self, *at, found.0, found.1, found.2)
             }
-            Case::Lists(entries) => {
-                (self.len() == entries.len())
-                    & gives(self.iter(), entries)
-                    & gives(self.iter().clone(), entries)
-            }
+            Case::Lists(entries) => lists(self, entries),
             Case::ListsFrom(at, entries) => gives_from(self, *at, entries),
             Case::Covers(at, entries) => covers(self.cover(&prefix_of(*at)), entries),
             Case::Len(len) => (self.len(), self.is_empty()) == (*len, *len == 0),
@@ -188,17 +172,36 @@ impl<P: Prefix + Copy + PartialEq, A: Allocator + Copy> Tried<P::R, A> for Prefi
             Case::Slots(nodes, cells) => {
                 was_refused(heap) || (self.node_slots(), self.cell_slots()) == (*nodes, *cells)
             }
-            _ => true,
+            // A set has no values, no entries to fill, and no call for the sizes of its blocks.
+            Case::RetainsFrom(_) | Case::Writes(..) | Case::WritesLongest(..) => true,
+            Case::LeavesVacant(_) | Case::NodeBlocks(..) | Case::CellBlocks(..) => true,
+            // `tried` makes these calls itself.
+            Case::Makes(_) | Case::Copies | Case::Same | Case::Turns => false,
+            Case::Inserts(..) | Case::PassesLimit(..) | Case::Fills(..) => false,
         }
     }
 }
 
-/// Whether the call of a case that takes one key out answers so.
-fn is_taken_out<P: Prefix, A: Allocator>(set: &mut PrefixSet<P, A>, case: &Case<'_, P::R>) -> bool {
+/// Makes the call of a case that removes all that a prefix contains, or all that a test rejects, or all.
+fn is_reduced<P: Prefix, A: Allocator>(set: &mut PrefixSet<P, A>, case: &Case<'_, P::R>) -> bool {
     match case {
-        Case::Removes(at, before) => set.remove(&prefix_of(*at)) == before.is_some(),
-        Case::Empties(at, before) => set.remove_keep_tree(&prefix_of(*at)) == before.is_some(),
-        Case::TakesOut(at, _) => set.remove_keep_tree(&prefix_of(*at)),
-        _ => true,
+        Case::DropsChildren(at) => {
+            set.drop_children(&prefix_of(*at));
+            true
+        }
+        Case::RetainsLong(len) => {
+            retain_long_keys(set, *len);
+            true
+        }
+        Case::Clears => {
+            set.clear();
+            set.is_empty()
+        }
+        _ => false,
     }
+}
+
+/// Whether a set has the keys of these entries, and a walk and its clone give them.
+fn lists<P: Prefix + Copy, A: Allocator>(set: &PrefixSet<P, A>, entries: &[Entry<P::R>]) -> bool {
+    (set.len() == entries.len()) & gives(set.iter(), entries) & gives(set.iter().clone(), entries)
 }

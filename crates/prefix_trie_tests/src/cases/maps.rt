@@ -6,7 +6,7 @@ use crate::cases::lists::{
 };
 use crate::cases::questions::{finds, has_cells, has_nodes, has_sums, was_refused};
 use crate::cases::tried::{Answer, State, Tried};
-use crate::cases::{Case, Pair, prefix_of};
+use crate::cases::{Case, Entry, Pair, prefix_of};
 use crate::examples::expiry::keep_from;
 use crate::refusing::Refusing;
 use crate::retain::retain_long;
@@ -60,51 +60,65 @@ impl<P: Prefix + Copy + PartialEq, A: Allocator + Copy> Tried<P::R, A> for Prefi
         has_sums(self)
     }
 
-    fn changes_as(&mut self, case: &Case<'_, P::R>) -> bool {
+    fn is_as_said(&mut self, heap: &Refusing<Global>, case: &Case<'_, P::R>) -> bool {
         match case {
             Case::Removes(at, before) => self.remove(&prefix_of(*at)) == *before,
             Case::Empties(at, before) => self.remove_keep_tree(&prefix_of(*at)) == *before,
-            Case::DropsChildren(at) => {
-                self.drop_children(&prefix_of(*at));
-                true
-            }
-            Case::RetainsFrom(least) => {
-                keep_from(self, *least);
-                true
-            }
-            Case::RetainsLong(len) => {
-                retain_long(self, *len);
-                true
-            }
-            Case::Clears => {
-                self.clear();
-                self.is_empty()
-            }
-            _ => is_written(self, case),
-        }
-    }
-
-    fn answers_as(&self, heap: &Refusing<Global>, case: &Case<'_, P::R>) -> bool {
-        match case {
+            Case::DropsChildren(_) | Case::RetainsFrom(_) | Case::RetainsLong(_) | Case::Clears =>
+                is_reduced(self, case),
+            Case::Writes(..)
+            | Case::WritesLongest(..)
+            | Case::LeavesVacant(_)
+            | Case::TakesOut(..)
+            | Case::ChangesEntry(..) => is_written(self, case),
             Case::Finds(at, exact, longest, shortest) => {
                 finds(heap.inner(), self, *at, *exact, *longest, *shortest)
             }
-            Case::Lists(entries) => {
-                (self.len() == entries.len())
-                    & gives(self.into_iter(), entries)
-                    & gives_twice(self.iter(), self.keys(), self.values(), entries)
+            Case::Lists(entries) => lists(self, entries),
+            Case::ListsFrom(at, entries) => {
+                gives_from(self, *at, entries) & lends_from(self, *at, entries)
             }
-            Case::ListsFrom(at, entries) => gives_from(self, *at, entries),
             Case::Covers(at, entries) => covers(self, *at, entries),
             Case::Len(len) => (self.len(), self.is_empty()) == (*len, *len == 0),
             Case::Addresses(count) => self.address_count() == *count,
             Case::Nodes(nodes) => self.node_count() == *nodes,
-            _ => was_refused(heap) || is_stored_in(self, case),
+            Case::Slots(..) | Case::NodeBlocks(..) | Case::CellBlocks(..) => {
+                was_refused(heap) || is_stored_in(self, case)
+            }
+            // `tried` makes these calls itself.
+            Case::Makes(_) | Case::Copies | Case::Same | Case::Turns => false,
+            Case::Inserts(..) | Case::PassesLimit(..) | Case::Fills(..) => false,
         }
     }
 }
 
-/// Whether the call of a case that writes values, or lends them for it, answers so.
+/// Makes the call of a case that removes all that a prefix contains, or all that a test rejects, or all.
+fn is_reduced<P: Prefix, A: Allocator>(
+    map: &mut PrefixMap<P, u64, A>,
+    case: &Case<'_, P::R>,
+) -> bool {
+    match case {
+        Case::DropsChildren(at) => {
+            map.drop_children(&prefix_of(*at));
+            true
+        }
+        Case::RetainsFrom(least) => {
+            keep_from(map, *least);
+            true
+        }
+        Case::RetainsLong(len) => {
+            retain_long(map, *len);
+            true
+        }
+        Case::Clears => {
+            map.clear();
+            map.is_empty()
+        }
+        _ => false,
+    }
+}
+
+/// Whether the call of a case that writes a value or takes an entry out returns what it should.
 fn is_written<P: Prefix + Copy, A: Allocator>(
     map: &mut PrefixMap<P, u64, A>,
     case: &Case<'_, P::R>,
@@ -115,12 +129,21 @@ fn is_written<P: Prefix + Copy, A: Allocator>(
         Case::LeavesVacant(at) => is_vacant(map, *at),
         Case::TakesOut(at, before) => takes_out(map, *at, *before),
         Case::ChangesEntry(at, value, before) => changes(map, *at, *value, *before),
-        Case::ListsFrom(at, entries) => lends_from(map, *at, entries),
-        _ => true,
+        _ => false,
     }
 }
 
-/// Whether the slots or the blocks of a map are as a case says. Which these are is asked only where no request was refused, since a
+/// Whether all walks give these entries.
+fn lists<P: Prefix + Copy, A: Allocator>(
+    map: &PrefixMap<P, u64, A>,
+    entries: &[Entry<P::R>],
+) -> bool {
+    (map.len() == entries.len())
+        & gives(map.into_iter(), entries)
+        & gives_twice(map.iter(), map.keys(), map.values(), entries)
+}
+
+/// Whether the slots or the blocks of a map are as a case says. Which these are is asked only if no request was refused, since a
 /// removal may then take fewer.
 fn is_stored_in<P: Prefix, A: Allocator>(
     map: &PrefixMap<P, u64, A>,
@@ -130,6 +153,6 @@ fn is_stored_in<P: Prefix, A: Allocator>(
         Case::Slots(nodes, cells) => (map.node_slots(), map.cell_slots()) == (*nodes, *cells),
         Case::NodeBlocks(size, used, free) => has_nodes(map, *size, *used, *free),
         Case::CellBlocks(size, used, free) => has_cells(map, *size, *used, *free),
-        _ => true,
+        _ => false,
     }
 }

@@ -278,8 +278,8 @@ pub fn has_nodes<P: Prefix, A: Allocator>(
     has_blocks(&map.node_blocks(), BlockCount { size, used, free })
 }
 
-pub fn has_cells<P: Prefix, A: Allocator>(
-    map: &PrefixMap<P, u64, A>,
+pub fn has_cells<P: Prefix, T: Drop, A: Allocator>(
+    map: &PrefixMap<P, T, A>,
     size: usize,
     used: usize,
     free: usize,

@@ -15,8 +15,7 @@ pub type Answer = Result<Option<u64>, Refused<u64>>;
 /// Entries in listing order, and how many nodes there are.
 pub type State<K> = (Vec<Entry<K>>, usize);
 
-/// A map or a set of prefixes, which are handed over as pairs. A value of a set is 0. What a case says of values and of the sizes of
-/// blocks a set passes over.
+/// A map or a set of prefixes, which are handed over as pairs. A value of a set is 0.
 pub trait Tried<K: Key, A: Allocator + Copy>: Drop {
     /// A new one, under a limit of slots or none.
     fn made(alloc: A, limit: Option<u32>) -> Result<Self, Refusal>;
@@ -43,11 +42,8 @@ pub trait Tried<K: Key, A: Allocator + Copy>: Drop {
     /// Whether its arrays have room for what it has, as its blocks are.
     fn has_sums(&self) -> bool;
 
-    /// Makes the call of a case that is of one alone and cannot be refused, and compares its answer. A question changes nothing here.
-    fn changes_as(&mut self, case: &Case<'_, K>) -> bool;
-
-    /// Asks the question of a case, and compares its answer.
-    fn answers_as(&self, heap: &Refusing<Global>, case: &Case<'_, K>) -> bool;
+    /// Makes the call of a case that is of one alone and cannot be refused, and compares its answer.
+    fn is_as_said(&mut self, heap: &Refusing<Global>, case: &Case<'_, K>) -> bool;
 }
 
 /// Puts what was made, if it was, in place of another, and answers whether it is there.
@@ -171,20 +167,11 @@ fn lists<K: Key, A: Allocator + Copy, M: Tried<K, A>>(
 ) -> bool {
     for (index, entry) in entries.iter().enumerate() {
         let case = Case::ListsFrom(entry.0, entries.get(index..).unwrap_or(&[]));
-        if !changes_and_answers_as::<K, A, M>(heap, tried, &case) {
+        if !tried.is_as_said(heap, &case) {
             return false;
         }
     }
-    changes_and_answers_as::<K, A, M>(heap, tried, &Case::Lists(entries))
-}
-
-/// Makes the call of a case that is no insertion, and compares its answer.
-fn changes_and_answers_as<K: Key, A: Allocator + Copy, M: Tried<K, A>>(
-    heap: &Refusing<Global>,
-    tried: &mut M,
-    case: &Case<'_, K>,
-) -> bool {
-    tried.changes_as(case) & tried.answers_as(heap, case)
+    tried.is_as_said(heap, &Case::Lists(entries))
 }
 
 /// Makes the call of a case, and compares its answer. Whether it is as said, and the arrays have the room that they should.
@@ -235,7 +222,7 @@ fn holds_in<K: Key, A: Allocator + Copy, M: Tried<K, A>>(
         Case::Fills(call, at, value) => {
             stores::<K, A, M>(heap, tried, *call, &(*at, *value), Ok(None))
         }
-        _ => changes_and_answers_as::<K, A, M>(heap, tried, case),
+        _ => tried.is_as_said(heap, case),
     }
 }
 

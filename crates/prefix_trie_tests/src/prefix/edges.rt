@@ -46,7 +46,9 @@ fn case_at<'a, K: Key + 'a>(step: u32, at: Pair<K>, other: Pair<K>, clean: Pair<
         10 => Empties(at, Some(1)),
         12 => DropsChildren(at),
         13 => Len(0),
-        _ => Inserts(other, 1, None),
+        1 | 9 | 11 | 14 => Inserts(other, 1, None),
+        // No other step is one of them, so this never holds.
+        _ => Len(usize::MAX),
     }
 }
 
@@ -87,10 +89,7 @@ fn hands_out<K: Key, A: Allocator + Copy, M: Tried<K, A>>(
     entry: Entry<K>,
 ) -> bool {
     match tried.part(at) {
-        Some(part) => {
-            let mut part = part;
-            is_part::<K, A, M>(heap, tried, &mut part, entry)
-        }
+        Some(mut part) => is_part::<K, A, M>(heap, tried, &mut part, entry),
         None => false,
     }
 }

@@ -178,7 +178,10 @@ fn selects(call: &Call<Key>, key: Key) -> bool {
         }
         Call::Children((number, len)) => contains(cleared(*number, *len), key),
         Call::Cover(at) => contains(key, *at),
-        _ => false,
+        Call::Insert(..) | Call::Get(_) | Call::Lpm(_) | Call::Spm(_) => false,
+        Call::Remove(_) | Call::RemoveKeepTree(_) | Call::RemoveChildren(_) => false,
+        Call::RetainAtLeast(_) | Call::Clear => false,
+        Call::Len | Call::NodeCount | Call::AddressCount => false,
     }
 }
 
@@ -198,34 +201,38 @@ fn are_selected(entries: &[Entry], call: &Call<Key>, list: &[Entry]) -> bool {
 
 /// Whether a reply is that of the list, to which the call was not yet made. Of a count of nodes the list says nothing.
 fn is_reply(reply: &Reply<Key, Global>, call: &Call<Key>, list: &[Entry]) -> bool {
-    match (call, reply) {
-        (Call::Insert(at, _), Reply::Value(value)) => *value == exact(list, *at),
-        (Call::Get(at), Reply::Value(value)) => *value == exact(list, *at),
-        (Call::Remove(at), Reply::Value(value)) => *value == exact(list, *at),
-        (Call::RemoveKeepTree(at), Reply::Value(value)) => *value == exact(list, *at),
-        (Call::Lpm(at), Reply::Match(found)) => *found == longest(list, *at),
-        (Call::Spm(at), Reply::Match(found)) => *found == shortest(list, *at),
-        (Call::Len, Reply::Count(count)) => *count == list.len(),
-        (Call::NodeCount, Reply::Count(count)) => 1 <= *count,
-        (Call::AddressCount, Reply::Addresses(count)) => *count == addresses(list),
-        (Call::RemoveChildren(_), Reply::Done) => true,
-        (Call::RetainAtLeast(_), Reply::Done) => true,
-        (Call::Clear, Reply::Done) => true,
-        (_, Reply::Entries(entries)) => are_selected(entries, call, list),
-        _ => false,
+    match call {
+        Call::Insert(at, _) | Call::Get(at) | Call::Remove(at) | Call::RemoveKeepTree(at) => {
+            matches!(reply, Reply::Value(value) if *value == exact(list, *at))
+        }
+        Call::Lpm(at) => matches!(reply, Reply::Match(found) if *found == longest(list, *at)),
+        Call::Spm(at) => matches!(reply, Reply::Match(found) if *found == shortest(list, *at)),
+        Call::Len => matches!(reply, Reply::Count(count) if *count == list.len()),
+        Call::NodeCount => matches!(reply, Reply::Count(count) if 1 <= *count),
+        Call::AddressCount => {
+            matches!(reply, Reply::Addresses(count) if *count == addresses(list))
+        }
+        Call::RemoveChildren(_) | Call::RetainAtLeast(_) | Call::Clear => {
+            matches!(reply, Reply::Done)
+        }
+        Call::List | Call::ListFrom(..) | Call::Children(_) | Call::Cover(_) => {
+            matches!(reply, Reply::Entries(entries) if are_selected(entries, call, list))
+        }
     }
 }
 
 /// Whether the entry of this key stays as it is.
 fn keeps(call: &Call<Key>, key: Key) -> bool {
     match call {
-        Call::Insert((number, len), _) => key != cleared(*number, *len),
-        Call::Remove((number, len)) => key != cleared(*number, *len),
-        Call::RemoveKeepTree((number, len)) => key != cleared(*number, *len),
+        Call::Insert((number, len), _)
+        | Call::Remove((number, len))
+        | Call::RemoveKeepTree((number, len)) => key != cleared(*number, *len),
         Call::RemoveChildren((number, len)) => !contains(cleared(*number, *len), key),
         Call::RetainAtLeast(len) => *len <= key.1,
         Call::Clear => false,
-        _ => true,
+        Call::Get(_) | Call::Lpm(_) | Call::Spm(_) => true,
+        Call::Len | Call::NodeCount | Call::AddressCount => true,
+        Call::List | Call::ListFrom(..) | Call::Children(_) | Call::Cover(_) => true,
     }
 }
 

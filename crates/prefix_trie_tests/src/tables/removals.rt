@@ -241,7 +241,7 @@ fn taken_in_turn(
     let then = cases_of(alloc, List::TakesGroups(groups, by), 165);
     let is_of_sets = match by {
         By::Retain => false,
-        _ => true,
+        By::Remove | By::KeepTree | By::Children => true,
     };
     run_lists(heap, first, then, is_of_sets, How::InTurn)
 }

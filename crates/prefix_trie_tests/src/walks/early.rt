@@ -4,13 +4,13 @@ use crate::drops::{Counted, let_go};
 use crate::on_new::on_new;
 use crate::retain::{keep_keys_where, keep_where};
 use crate::stored::{has_keys, stores};
-use crate::walks::taking::three;
+use crate::walks::taking::{CHAIN, three};
 use prefix_trie::map::{IterMut, ValuesMut};
 use prefix_trie::{PrefixMap, PrefixSet, Refusal};
 use std::alloc::Global;
 use std::cell::Cell;
 
-type Key = (u8, u8);
+type Key = (u32, u8);
 
 /// Whether a walk gives so many, and is dropped then.
 fn gives<I: Iterator + Drop>(mut walk: I, count: usize) -> bool
@@ -97,7 +97,7 @@ fn drops_of_lending<'a>(
 /// How many are dropped by walks over a new map that are dropped so early, and by letting it go. None where one gives another number.
 fn drops_of_early(alloc: Global, count: u8) -> Option<(u64, [u64; 4], u64)> {
     let drops = Cell::new(0);
-    let mut map = three(alloc, &drops)?;
+    let mut map = three(alloc, &CHAIN, &drops)?;
     let is_given = are_read(&map, usize::from(count)) & are_covered(&map, usize::from(count));
     let reading = drops.get();
     let lending = drops_of_lending(&mut map, &drops, u64::from(count));
@@ -111,6 +111,12 @@ fn walks_dropped_early(rt: HostRuntime) {
     assert!(rt; drops_of_early(alloc, 0) == Some((0, [0, 0, 0, 0], 3)));
     assert!(rt; drops_of_early(alloc, 1) == Some((0, [1, 1, 1, 1], 3)));
     assert!(rt; drops_of_early(alloc, 2) == Some((0, [2, 2, 2, 2], 3)));
+    for count in 0..3_usize {
+        assert!(rt;
+            is_taken_early(alloc, count) == Ok(true),
+            "a set after {count}"
+        );
+    }
 }
 
 /// Keeps the first key of a map, the third and so on.
@@ -138,23 +144,28 @@ fn is_kept(map: &mut PrefixMap<Key, u64, Global>, _: ()) -> bool {
     is_filled & has_keys(map, &[(0, 0), (0, 8)])
 }
 
+/// Adds three keys to a set. Returns whether each is new.
+fn adds_three(set: &mut PrefixSet<Key, Global>) -> bool {
+    adds_key(set, CHAIN[0]) & adds_key(set, CHAIN[1]) & adds_key(set, CHAIN[2])
+}
+
 /// The same of a set, whose walks are dropped early before.
-fn is_kept_in_set(set: &mut PrefixSet<Key, Global>) -> bool {
-    let is_filled = adds_key(set, (0, 0)) & adds_key(set, (0, 1)) & adds_key(set, (0, 8));
+fn is_kept_in_set(set: &mut PrefixSet<Key, Global>, _: ()) -> bool {
+    let is_filled = adds_three(set);
     let is_given = are_keys_read(set, 0) & are_keys_read(set, 1) & are_keys_read(set, 2);
     keep_each_second_key(set);
     is_filled & is_given & gives_keys(set.iter(), &[(0, 0), (0, 8)])
 }
 
-/// The same of a new set, which is given up with its second key.
-fn is_kept_in_new_set(alloc: Global) -> Result<bool, Refusal> {
+/// Whether the walk that takes a new set of three apart gives so many, and is dropped then.
+fn is_taken_early(alloc: Global, count: usize) -> Result<bool, Refusal> {
     let mut set = PrefixSet::new(alloc)?;
-    let is_kept = is_kept_in_set(&mut set);
-    Ok(is_kept & set.into_iter().next().is_some())
+    let is_filled = adds_three(&mut set);
+    Ok(is_filled & gives(set.into_iter(), count))
 }
 
 #[test]
 fn a_test_with_a_state(rt: HostRuntime) {
     assert!(rt; on_new(PrefixMap::new(rt.alloc()), (), is_kept) == Ok(true));
-    assert!(rt; is_kept_in_new_set(rt.alloc()) == Ok(true));
+    assert!(rt; on_new(PrefixSet::new(rt.alloc()), (), is_kept_in_set) == Ok(true));
 }

@@ -24,19 +24,22 @@ fn pour<P: Prefix, T: Drop, A: Allocator>(
     Ok(())
 }
 
-type Key = (u8, u8);
+type Key = (u32, u8);
 
 type Counting<'a> = PrefixMap<Key, Counted<'a>, Global>;
 
 /// More requests than one copy makes.
 const MANY: u64 = 100;
 
-/// The keys of three that count.
-const KEYS: [Key; 3] = [(0, 0), (0, 1), (0, 8)];
+/// The keys of three that count. The first contains the others.
+const KEYS: [Key; 3] = [(0, 0), (0, 1), (0x8000_0000, 1)];
+
+/// The same of a chain: each contains the next.
+pub const CHAIN: [Key; 3] = [(0, 0), (0, 1), (0, 8)];
 
 /// Stores them. Answers whether each is new.
-fn put_three<'a>(map: &mut Counting<'a>, drops: &'a Cell<u64>) -> bool {
-    for key in &KEYS {
+fn put_three<'a>(map: &mut Counting<'a>, keys: &[Key; 3], drops: &'a Cell<u64>) -> bool {
+    for key in keys {
         if !adds(map, *key, Counted { drops }) {
             return false;
         }
@@ -45,9 +48,9 @@ fn put_three<'a>(map: &mut Counting<'a>, drops: &'a Cell<u64>) -> bool {
 }
 
 /// A map of them.
-pub fn three<'a>(alloc: Global, drops: &'a Cell<u64>) -> Option<Counting<'a>> {
+pub fn three<'a>(alloc: Global, keys: &[Key; 3], drops: &'a Cell<u64>) -> Option<Counting<'a>> {
     let mut map = PrefixMap::new(alloc).ok()?;
-    let is_filled = put_three(&mut map, drops);
+    let is_filled = put_three(&mut map, keys, drops);
     if is_filled { Some(map) } else { None }
 }
 
@@ -83,8 +86,7 @@ fn take<W: Taking>(walk: &mut W, count: u64) {
 }
 
 /// How many are dropped once a walk gave so many items, once its copy gave all that are left and was dropped, and once the walk was.
-fn drops_of<W: Taking>(walk: W, taken: u64, drops: &Cell<u64>) -> Option<(u64, u64, u64)> {
-    let mut walk = walk;
+fn drops_of<W: Taking>(mut walk: W, taken: u64, drops: &Cell<u64>) -> Option<(u64, u64, u64)> {
     take(&mut walk, taken);
     let first = drops.get();
     let mut copy = walk.copy().ok()?;
@@ -98,18 +100,29 @@ fn drops_of<W: Taking>(walk: W, taken: u64, drops: &Cell<u64>) -> Option<(u64, u
 /// The same of each walk.
 fn dropped(alloc: Global, taken: u64) -> Option<[Option<(u64, u64, u64)>; 4]> {
     let drops = Cell::new(0);
-    let items = drops_of(three(alloc, &drops)?.into_iter(), taken, &drops);
-    let part = three(alloc, &drops)?.into_children(&(0, 1));
+    let items = drops_of(three(alloc, &KEYS, &drops)?.into_iter(), taken, &drops);
+    let part = three(alloc, &CHAIN, &drops)?.into_children(&(0, 1));
     let part = drops_of(part, taken, &drops);
-    let keys = drops_of(three(alloc, &drops)?.into_keys(), taken, &drops);
-    let values = drops_of(three(alloc, &drops)?.into_values(), taken, &drops);
+    let keys = drops_of(three(alloc, &KEYS, &drops)?.into_keys(), taken, &drops);
+    let values = drops_of(three(alloc, &KEYS, &drops)?.into_values(), taken, &drops);
     Some([items, part, keys, values])
+}
+
+/// How many are dropped once a walk gave the first of three values, and once the walk was dropped.
+fn drops_of_one_taken(alloc: Global) -> Option<(u64, u64)> {
+    let drops = Cell::new(0);
+    let mut walk = three(alloc, &KEYS, &drops)?.into_iter();
+    take(&mut walk, 1);
+    let first = drops.get();
+    let_go(walk);
+    Some((first, drops.get()))
 }
 
 // The part has two items, and the value above them beside.
 #[test]
 fn what_is_not_taken_is_dropped_with_the_walk(rt: HostRuntime) {
     let alloc = rt.alloc();
+    assert!(rt; drops_of_one_taken(alloc) == Some((1, 3)));
     let none = Some((0, 3, 6));
     assert!(rt; dropped(alloc, 0) == Some([none, none, none, none]));
     let one = Some((1, 3, 5));
@@ -122,7 +135,7 @@ fn what_is_not_taken_is_dropped_with_the_walk(rt: HostRuntime) {
 
 /// How many are dropped once three are stored and one of them is replaced, one is taken out, and all are cleared.
 fn drops_of_calls<'a>(map: &mut Counting<'a>, drops: &'a Cell<u64>) -> Option<[u64; 4]> {
-    let are_put = put_three(map, drops);
+    let are_put = put_three(map, &KEYS, drops);
     let first = drops.get();
     let is_replaced = stored::put(map, (0, 1), Counted { drops }).is_ok();
     let second = drops.get();
@@ -145,7 +158,7 @@ fn drops_of_map(alloc: Global) -> Option<([u64; 4], u64)> {
 fn drops_of_refused(alloc: Global) -> Option<[u64; 3]> {
     let drops = Cell::new(0);
     let mut map = PrefixMap::with_slot_limit(alloc, 1).ok()?;
-    let answer = stored::put(&mut map, KEYS[2], Counted { drops: &drops });
+    let answer = stored::put(&mut map, CHAIN[2], Counted { drops: &drops });
     let first = drops.get();
     let is_refused = answer.is_err();
     let_go(answer);

@@ -12,8 +12,8 @@ impl<S: Slot + Clone, A: Allocator + Clone> Blocks<S, Vec<S, A>, A> {
     /// is cloned. Refused only where memory is, for the array or for a value.
     pub fn clone(&self) -> Result<Self, AllocError>
         ensures slots { IfOk result (λ copy. AllZip S.is_clone self.now.slots copy.slots) }
-        ensures rest { IfOk result (λ copy. copy ≡ record self.now { slots = copy.slots }) }
-        ensures same { IfOk result (λ copy. ((x y : S) → S.is_clone x y → y ≡ x) → copy ≡ self.now) }
+        ensures rest { IfOk result (λ copy. copy ≡ record self.now { slots = copy.slots; capacity = copy.capacity }) }
+        ensures same { IfOk result (λ copy. ((x y : S) → S.is_clone x y → y ≡ x) → copy ≡ record self.now { capacity = copy.capacity }) }
     {
         let lists = Vec::from_clones(self.lists.allocator().clone()?, &self.lists)?;
         let slots = Vec::from_clones(self.slots.allocator().clone()?, &self.slots)?;

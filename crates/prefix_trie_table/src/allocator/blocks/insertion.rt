@@ -7,7 +7,7 @@ ghost use Rattle.prefix_trie_table.specs.Store.{UsedBlock, Sound, Turnover, InUs
 
 use crate::allocator::array::SlotArray;
 use crate::allocator::blocks::{BlockRef, Blocks};
-use crate::allocator::slots::{Slot, move_in, shift_in};
+use crate::allocator::slots::{Slot, move_in};
 use std::alloc::Allocator;
 
 impl<S: Slot, R: SlotArray<S>, A: Allocator> Blocks<S, R, A> {
@@ -19,6 +19,7 @@ impl<S: Slot, R: SlotArray<S>, A: Allocator> Blocks<S, R, A> {
         requires sizes { HasSizes self.old.tiers }
         requires ready { IsReady self.old.tiers k count }
         requires place { place ≤ count }
+        requires value { R.can_hold value }
         ensures stands { list_size self.old.tiers result.tier (count + 1)
             ≡ option_or (list_need self.old.tiers k count) (list_size self.old.tiers k count) }
         ensures stays { list_need self.old.tiers k count ≡ None → result ≡ record { tier = k; start = start } }
@@ -45,6 +46,7 @@ impl<S: Slot, R: SlotArray<S>, A: Allocator> Blocks<S, R, A> {
         requires sizes { HasSizes self.old.tiers }
         requires ready { IsReady self.old.tiers k count }
         requires place { place ≤ count }
+        requires value { R.can_hold value }
         ensures stands { list_size self.old.tiers result.tier (count + 1)
             ≡ option_or (list_need self.old.tiers k count) (list_size self.old.tiers k count) }
         ensures stays { list_need self.old.tiers k count ≡ None → result ≡ record { tier = k; start = start } }
@@ -79,6 +81,7 @@ impl<S: Slot, R: SlotArray<S>, A: Allocator> Blocks<S, R, A> {
         requires ready { 0 < free_in self.old.tiers (size_in (tier_sizes self.old.tiers) to) }
         requires holds { count < size_in (tier_sizes self.old.tiers) to }
         requires place { place ≤ count }
+        requires value { R.can_hold value }
         ensures turnover { Turnover self.old self.new none_of (Some (size_in (tier_sizes self.old.tiers) k)) (Some (size_in (tier_sizes self.old.tiers) to)) }
         ensures sound { (n : ℕ) (xs : List S) (live : List (UsedBlock S))
             → Sound S.vacant (block k outgrown n xs ∷ live) self.old → length xs ≡ count
@@ -96,6 +99,7 @@ impl<S: Slot, R: SlotArray<S>, A: Allocator> Blocks<S, R, A> {
             × Sound S.vacant (a ∷ b ∷ live) self.old × (a.start ≡ from) × (b.start ≡ to)
             × (length a.items ≡ count) × (b.items ≡ []) × (count < b.size) }
         requires place { place ≤ count }
+        requires value { R.can_hold value }
         ensures slots { self.new ≡ record self.old { slots = put_run (put_run self.old.slots from (replicate count S.vacant)) to (insert (run self.old.slots from count) place value) } }
         ensures len { length self.new.slots ≡ length self.old.slots }
         ensures sound { (a b : UsedBlock S) (live : List (UsedBlock S))
@@ -117,6 +121,7 @@ impl<S: Slot, R: SlotArray<S>, A: Allocator> Blocks<S, R, A> {
     fn insert_within(&mut self, start: u32, count: u32, place: u32, value: S)
         requires room { start + count < length self.old.slots }
         requires place { place ≤ count }
+        requires value { R.can_hold value }
         ensures slots { self.new ≡ record self.old { slots = insert (remove self.old.slots (start + count)) (start + place) value } }
         ensures len { length self.new.slots ≡ length self.old.slots }
         ensures sound { (b : UsedBlock S) (live : List (UsedBlock S)) → Sound S.vacant (b ∷ live) self.old
@@ -124,11 +129,7 @@ impl<S: Slot, R: SlotArray<S>, A: Allocator> Blocks<S, R, A> {
             → Sound S.vacant (record b { items = insert b.items place value } ∷ live) self.new }
     {
         let start = start as usize;
-        shift_in(
-            &mut self.slots,
-            start + place as usize,
-            start + count as usize,
-            value,
-        );
+        self.slots
+            .insert_shifting(start + place as usize, start + count as usize, value);
     }
 }

@@ -1,5 +1,5 @@
 //! Laying a whole list at once, in a block of its final size.
-ghost use Rattle.std.specs.Prelude.{◌≡◌, ◌+◌, ◌^◌, ◌<◌, ◌≤◌, List, length, replicate, IfOk, IfErr, IsSome};
+ghost use Rattle.std.specs.Prelude.{◌≡◌, ◌+◌, ◌^◌, ◌<◌, ◌≤◌, All, List, length, replicate, IfOk, IfErr, IsSome};
 ghost use Rattle.prefix_trie_table.specs.HandingOut.Laying.{LaysList};
 ghost use Rattle.prefix_trie_table.specs.Store.{UsedBlock, Sound, tier_sizes};
 ghost use Rattle.prefix_trie_bits.specs.Model.Blocks.{smallest_size};
@@ -50,6 +50,7 @@ impl<S: Slot, R: SlotArray<S>, A: Allocator> Blocks<S, R, A> {
 impl<S: Slot + Copy, R: SlotArray<S>, A: Allocator> Blocks<S, R, A> {
     /// The same for a list of these items.
     pub fn lay(&mut self, items: &[S]) -> Result<BlockRef, Refusal>
+        requires values { All R.can_hold items.now }
         requires sound { (live : List (UsedBlock S)) × Sound S.vacant live self.old }
         requires fits { IsSome (smallest_size (tier_sizes self.old.tiers) (length items.now)) }
         requires few { length items.now < 2 ^ 32 }

@@ -2,7 +2,7 @@
 ghost use Rattle.std.specs.Prelude.{◌≡◌, ℕ, ◌+◌, ◌-◌, ◌^◌, ◌<◌, ◌≤◌, ◌↔◌, List, None, length, option_map, IfSome, OnOk, OnErr, IfErr, IsSome};
 ghost use Rattle.prefix_trie_bits.specs.Model.Blocks.{smallest_size};
 ghost use Rattle.prefix_trie_table.specs.Cells.{HasSizes};
-ghost use Rattle.prefix_trie_table.specs.Store.{UsedBlock, Sound, Turnover, Obtains, SameSlots, tier_sizes, size_in, free_in, many_of, list_need, needs, AreFree};
+ghost use Rattle.prefix_trie_table.specs.Store.{UsedBlock, Sound, Turnover, Obtains, SameSlots, tier_sizes, size_in, free_in, many_of, none_of, list_need, needs, AreFree};
 ghost use Rattle.prefix_trie_bits.specs.declared.prefix.Refusal.TheVariants.{Memory, IndexRange};
 
 use crate::allocator::array::SlotArray;
@@ -62,7 +62,7 @@ impl<S: Slot, R: SlotArray<S>, A: Allocator> Blocks<S, R, A> {
     fn make(&mut self, k: usize) -> Result<(), Refusal>
         requires { k < length self.old.tiers }
         ensures made { OnOk result (Turnover self.old self.new (many_of (size_in (tier_sizes self.old.tiers) k) 1) None None) }
-        ensures err { OnErr result (self.new ≡ self.old) }
+        ensures err { OnErr result (Turnover self.old self.new none_of None None) }
         ensures range { IfErr result
             (λ e. (e ≡ IndexRange) ↔ (self.old.limit < length self.old.slots + size_in (tier_sizes self.old.tiers) k)) }
         ensures kept { SameSlots self.old self.new }

@@ -6,7 +6,7 @@ ghost use Rattle.prefix_trie_table.specs.Store.{UsedBlock, Sound, Turnover, InUs
 
 use crate::allocator::array::SlotArray;
 use crate::allocator::blocks::{BlockRef, Blocks};
-use crate::allocator::slots::{Slot, shift_out};
+use crate::allocator::slots::Slot;
 use std::alloc::Allocator;
 
 impl<S: Slot, R: SlotArray<S>, A: Allocator> Blocks<S, R, A> {
@@ -104,10 +104,7 @@ impl<S: Slot, R: SlotArray<S>, A: Allocator> Blocks<S, R, A> {
             → Sound S.vacant (record b { items = remove b.items place } ∷ live) self.new }
     {
         let start = start as usize;
-        shift_out(
-            &mut self.slots,
-            start + place as usize,
-            start + count as usize - 1,
-        )
+        self.slots
+            .remove_shifting(start + place as usize, start + count as usize - 1)
     }
 }

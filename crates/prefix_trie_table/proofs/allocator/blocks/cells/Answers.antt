@@ -1,4 +1,4 @@
-use Rattle.prefix_trie_table.proofs.Prelude.{[], ◌≡◌, refl, sym, ◌∙◌, arith, subst, All-map, HasSizes, Tier, no_blocks, cell_sizes}
+use Rattle.prefix_trie_table.proofs.Prelude.{[], ◌≡◌, ap, Option, Store, refl, sym, ◌∙◌, arith, subst, All-map, HasSizes, Tier, no_blocks, cell_sizes}
 use Rattle.prefix_trie_table.proofs.Blocks.Tiers.{cell_tiers}
 use Rattle.prefix_trie_table.proofs.allocator.blocks.cells.Goals as goal
 
@@ -11,6 +11,6 @@ new-requires g c = record {
 
 pub returns : goal.returns
 returns g c = record {
-  empty = c.new.ensures.value ∙ (λ i. record { slots = c.new-slots.ensures.items i; first = (sym c.new-slots.result.ok.0 ∙ c.new-slots.ensures.len) i; tiers = c.in_ok-lists.ensures i; limit = c.args.limit });
+  empty = c.new.ensures.value ∙ (λ i. record { slots = c.new-slots.ensures.items i; first = (sym c.new-slots.result.ok.0 ∙ c.new-slots.ensures.len) i; tiers = c.in_ok-lists.ensures i; limit = c.args.limit; capacity = (sym (ap (λ (x : Store (Option g.row.T.Denot)). x.capacity) c.new.ensures.value)) i });
   sound = c.new.ensures.sound;
 }

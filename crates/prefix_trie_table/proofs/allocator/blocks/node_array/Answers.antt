@@ -1,4 +1,4 @@
-use Rattle.prefix_trie_table.proofs.Prelude.{◌≡◌, [], ◌∷◌, ◌++◌, length, refl, sym, ap, ◌∙◌, subst, arith, All-map, HasSizes, Tier, no_blocks, node_sizes, blank_node}
+use Rattle.prefix_trie_table.proofs.Prelude.{◌≡◌, [], ◌∷◌, ◌++◌, Node, Store, length, refl, sym, ap, ◌∙◌, subst, arith, All-map, HasSizes, Tier, no_blocks, node_sizes, blank_node}
 use Rattle.prefix_trie_table.proofs.Blocks.Tiers.{node_tiers}
 use Rattle.prefix_trie_table.proofs.allocator.blocks.node_array.Goals as goal
 
@@ -15,6 +15,6 @@ pub returns : goal.returns
 returns g c =
     let root : c.append.new.self.list ≡ blank_node ∷ [] = c.append.ensures.list ∙ (λ i. (c.make_room.ensures.list ∙ c.in_ok-slots.ensures) i ++ c.blank.ensures i ∷ []) in
     record {
-      empty = c.new-2.ensures.value ∙ (λ i. record { slots = root i; first = length (root i); tiers = c.in_ok-lists.ensures i; limit = c.args.limit });
+      empty = c.new-2.ensures.value ∙ (λ i. record { slots = root i; first = length (root i); tiers = c.in_ok-lists.ensures i; limit = c.args.limit; capacity = (sym (ap (λ (x : Store Node). x.capacity) c.new-2.ensures.value)) i });
       sound = c.new-2.ensures.sound;
     }

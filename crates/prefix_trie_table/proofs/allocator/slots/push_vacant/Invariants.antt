@@ -3,4 +3,8 @@ use Rattle.prefix_trie_table.proofs.allocator.slots.push_vacant.Given as goal
 
 abbrev pub invariant-loop-i : goal.invariant-loop-i
 invariant-loop-i g l =
-    record { items : (g.R.SlotArray.list l.slots) ≡ (g.R.SlotArray.list l.initial.slots) ++ replicate l._i g.S.Slot.vacant; len : length (g.R.SlotArray.list l.slots) ≡ length (g.R.SlotArray.list l.initial.slots) + l._i; capacity : g.R.SlotArray.room l.slots ≡ g.R.SlotArray.room l.initial.slots }
+    record {
+      items : (g.R.SlotArray.list l.slots) ≡ (g.R.SlotArray.list l.initial.slots) ++ replicate l._i g.S.Slot.vacant;
+      len : length (g.R.SlotArray.list l.slots) ≡ length (g.R.SlotArray.list l.initial.slots) + l._i;
+      capacity : g.R.SlotArray.capacity l.slots ≡ g.R.SlotArray.capacity l.initial.slots;
+    }

@@ -1,4 +1,5 @@
-use Rattle.prefix_trie_table.proofs.Prelude.{◌+◌, ◌≡◌, [], ◌++◌, length, length-set, set, take, drop, take_all, put_run, sym, ap, ◌∙◌, arith, rules, take-append-drop}
+use Rattle.std.proofs.lemmas.List.Elements.{All-get_or}
+use Rattle.prefix_trie_table.proofs.Prelude.{subst, ◌+◌, ◌≡◌, [], ◌++◌, length, length-set, set, take, drop, take_all, put_run, sym, ap, ◌∙◌, arith, rules, take-append-drop}
 use Rattle.prefix_trie_table.proofs.Blocks.Shifts.{put_run_more}
 use Rattle.prefix_trie_table.proofs.allocator.slots.write_run.Goals as goal
 
@@ -9,6 +10,7 @@ loop-i-init g c =
     record {
       items = sym (take-append-drop c.args.from xs) ∙ ap (λ n. take c.args.from xs ++ ([] ++ drop n xs)) e;
       len = search rules;
+      capacity = search rules;
     }
 
 pub loop-i-preserved : goal.loop-i-preserved
@@ -19,10 +21,16 @@ loop-i-preserved g c =
     record {
       items = c.put.ensures.list ∙ ap (λ ys. set ys (c.args.from + l.i) v) l.invariant.items ∙ put_run_more xs c.args.from l.i c.args.items.now v c.loop-i-test.true c.requires.within (sym c.index-items-i.is);
       len = ap length c.put.ensures.list ∙ length-set (g.R.SlotArray.list l.slots) (c.args.from + l.i) v ∙ l.invariant.len;
+      capacity = c.put.ensures.capacity ∙ l.invariant.capacity;
     }
 
 pub put-requires : goal.put-requires
-put-requires g c = omega (arith, c.loop-i.invariant.len, c.requires.within, c.loop-i-test.true)
+put-requires g c =
+    let v = c.index-items-i.result in
+    record {
+      at = omega (arith, c.loop-i.invariant.len, c.requires.within, c.loop-i-test.true);
+      value = subst g.R.SlotArray.can_hold (sym c.index-items-i.is) (All-get_or g.R.SlotArray.can_hold c.args.items.now c.loop-i.i v c.loop-i-test.true c.requires.values);
+    }
 
 pub returns-clause-written : goal.returns-clause-written
 returns-clause-written g c =

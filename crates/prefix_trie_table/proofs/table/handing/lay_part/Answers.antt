@@ -1,4 +1,5 @@
-use Rattle.prefix_trie_table.proofs.Prelude.{refl, ◌∙◌, ◌<◌, sym, ap, subst, length, arith, ◌/◌, take, err_from_is_err_and, node_at, LaysNode, Node, Store, tier_sizes, IsSecond}
+use Rattle.prefix_trie_table.specs.NodeArrays.{FitsByte}
+use Rattle.prefix_trie_table.proofs.Prelude.{inl, IfSome, refl, ◌∙◌, ◌<◌, sym, ap, subst, length, arith, ◌/◌, take, err_from_is_err_and, node_at, LaysNode, Node, Store, tier_sizes, IsSecond}
 use Rattle.prefix_trie_table.proofs.HandingOut.RootSpace.{root_nodes, root_cells}
 use Rattle.prefix_trie_table.proofs.HandingOut.Space.{for_memory}
 use Rattle.prefix_trie_table.proofs.HandingOut.Second.{root_source, second_laid, second_bare}
@@ -38,6 +39,10 @@ lay_node-requires-clause-cells g c =
     root_cells g.K.Key.bit_width c.requires.trie.1 c.args.nodes.now c.args.cells.now c.requires.trie.0 c.requires.trie.2 c.visit-root.result c.visit-root.ensures.node
     (c.width.result / 5) c.in-Ok.second_cells c.in-Ok.ensures.sound (ap (λ (x : Store _). tier_sizes x.tiers) empty) (ap (λ (x : Store _). length x.slots) empty)
     (ap (λ (x : Store _). x.limit) empty ∙ c.limit.ensures ∙ c.requires.trie.2.table.one_limit)
+
+pub put-requires-clause-tiers : goal.put-requires-clause-tiers
+put-requires-clause-tiers g c =
+    let fits = subst (λ o. IfSome o FitsByte) c.in-Some.is c.in_ok-top.ensures.fits in record { value_tier = inl fits.value_tier; child_tier = inl fits.child_tier }
 
 pub returns-clause-laid : goal.returns-clause-laid
 returns-clause-laid g c =

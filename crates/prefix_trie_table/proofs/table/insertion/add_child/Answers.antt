@@ -1,4 +1,5 @@
-use Rattle.prefix_trie_table.proofs.Prelude.{◌≡◌, ◌+◌, ◌<◌, ◌≤◌, Some, ap, sym, ◌∙◌, refl, subst, arith, option_or, one_of, block_needed, Node, rank, blank_node, node_sizes, child_need, Store, AreFree, free_in, size_in, size_if_any, list_size, list_need, needs}
+use Rattle.prefix_trie_table.specs.NodeArrays.{FitsByte}
+use Rattle.prefix_trie_table.proofs.Prelude.{inl, ◌≡◌, ◌+◌, ◌<◌, ◌≤◌, Some, ap, sym, ◌∙◌, refl, subst, arith, option_or, one_of, block_needed, Node, rank, blank_node, node_sizes, child_need, Store, AreFree, free_in, size_in, size_if_any, list_size, list_need, needs}
 use Rattle.prefix_trie_table.proofs.Strings.Bits.{has_bit-is, rank-ones}
 use Rattle.prefix_trie_table.proofs.Strings.BitLists.{rank-within, rank-lacks}
 use Rattle.prefix_trie_table.proofs.Insertion.Adding.{at_is, has_list, tier_small, added}
@@ -46,12 +47,21 @@ overflow_cast-block g c =
     let s = c.insert_blank-block.ensures.sound h.size h.items h.live h.sound h.is_count in
     let small : c.insert_blank-block.result.tier < 7 = tier_small blank_node _ h.live c.insert_blank-block.new.self node_sizes s
     (c.insert_blank-block.ensures.turnover.keeps.sizes ∙ c.requires.stands.0.hold.sizes_are) in
-    omega arith
+    omega (arith, small)
 
 pub put-requires : goal.put-requires
 put-requires g c =
     let at = at_is c.args.nodes.now (c.args.at.start + c.args.at.place) c.requires.stands in
-    (let l = c.insert_blank-block.ensures.turnover.keeps.longer in omega (arith, at.1, l))
+    let h = has_list c.args.nodes.now (c.args.at.start + c.args.at.place) c.args.node.now c.count.result c.requires.stands c.requires.node
+    (c.count.ensures ∙ sym (rank-ones c.args.node.now.child_bitmap 32 (omega arith))) in
+    let s = c.insert_blank-block.ensures.sound h.size h.items h.live h.sound h.is_count in
+    let small : c.insert_blank-block.result.tier < 7 = tier_small blank_node _ h.live c.insert_blank-block.new.self node_sizes s
+    (c.insert_blank-block.ensures.turnover.keeps.sizes ∙ c.requires.stands.0.hold.sizes_are) in
+    let fits = subst FitsByte (sym c.requires.node) (c.insert_blank-block.ensures.tiers (c.args.at.start + c.args.at.place) at.1) in
+    record {
+      within = (let l = c.insert_blank-block.ensures.turnover.keeps.longer in omega (arith, at.1, l));
+      tiers = record { value_tier = inl fits.value_tier; child_tier = inl (omega (arith, small)) };
+    }
 
 pub returns-clause-stays : goal.returns-clause-stays
 returns-clause-stays g c =

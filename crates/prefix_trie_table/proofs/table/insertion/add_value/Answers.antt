@@ -1,4 +1,4 @@
-use Rattle.prefix_trie_table.proofs.Prelude.{◌≡◌, ◌+◌, ◌<◌, None, Some, ap, sym, ◌∙◌, refl, subst, arith, option_or, block_needed, rank, cell_sizes, AreFree, size_in, size_if_any, list_size, list_need, needs}
+use Rattle.prefix_trie_table.proofs.Prelude.{Node, inl, inr, ◌≡◌, ◌+◌, ◌<◌, None, Some, ap, sym, ◌∙◌, refl, subst, arith, option_or, block_needed, rank, cell_sizes, AreFree, size_in, size_if_any, list_size, list_need, needs}
 use Rattle.prefix_trie_table.proofs.Strings.Bits.{has_bit-is, rank-ones}
 use Rattle.prefix_trie_table.proofs.Strings.BitLists.{rank-within}
 use Rattle.prefix_trie_table.proofs.Insertion.Adding.{at_is, at_values, has_values, tier_small, values_added}
@@ -50,10 +50,19 @@ overflow_cast-block g c =
     let s = c.insert_at-block.ensures.sound h.size h.items h.live h.sound h.is_count in
     let small : c.insert_at-block.result.tier < 7 = tier_small None _ h.live c.insert_at-block.new.self cell_sizes s
     (c.insert_at-block.ensures.turnover.keeps.sizes ∙ c.requires.stands.0.holds.cells.sizes_are) in
-    omega arith
+    omega (arith, small)
 
 pub put-requires : goal.put-requires
-put-requires g c = (at_is c.args.nodes.now (c.args.at.start + c.args.at.place) (at_values _ _ _ c.requires.stands)).1
+put-requires g c =
+    let h = has_values c.args.nodes.now c.args.cells.now (c.args.at.start + c.args.at.place) c.args.node.now c.count.result c.requires.stands
+    c.requires.node (c.count.ensures ∙ sym (rank-ones c.args.node.now.value_bitmap 32 (omega arith))) in
+    let s = c.insert_at-block.ensures.sound h.size h.items h.live h.sound h.is_count in
+    let small : c.insert_at-block.result.tier < 7 = tier_small None _ h.live c.insert_at-block.new.self cell_sizes s
+    (c.insert_at-block.ensures.turnover.keeps.sizes ∙ c.requires.stands.0.holds.cells.sizes_are) in
+    record {
+      within = (at_is c.args.nodes.now (c.args.at.start + c.args.at.place) (at_values _ _ _ c.requires.stands)).1;
+      tiers = record { value_tier = inl (omega (arith, small)); child_tier = inr (ap (λ (n : Node). n.child_tier) c.requires.node) };
+    }
 
 pub returns-clause-nodes : goal.returns-clause-nodes
 returns-clause-nodes g c = none_written _ _ _ (c.args.at.start + c.args.at.place) _ (none_same c.args.nodes.now) c.put.ensures.slots

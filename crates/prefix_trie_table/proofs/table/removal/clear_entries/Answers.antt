@@ -1,4 +1,4 @@
-use Rattle.prefix_trie_table.proofs.Prelude.{[], ◌∷◌, take, ◌∙◌, blank_node, node_sizes, cell_sizes}
+use Rattle.prefix_trie_table.proofs.Prelude.{[], ◌∷◌, take, ap, sym, ◌∙◌, Option, Node, Store, blank_node, node_sizes, cell_sizes}
 use Rattle.prefix_trie_table.proofs.Removal.Clearing.{cleared_tiers, root_slot}
 use Rattle.prefix_trie_table.proofs.table.removal.clear_entries.Goals as goal
 
@@ -10,11 +10,11 @@ returns-clause-nodes g c =
     let hold = c.requires.table.holds.hold in
     let tiers = cleared_tiers c.args.nodes.now.tiers node_sizes hold.sizes_are in
     c.clear.ensures.value
-    ∙ (λ i. record { slots = blank_node ∷ []; first = hold.first_is i; tiers = tiers i; limit = c.args.nodes.now.limit })
+    ∙ (λ i. record { slots = blank_node ∷ []; first = hold.first_is i; tiers = tiers i; limit = c.args.nodes.now.limit; capacity = (sym (ap (λ (x : Store Node). x.capacity) c.clear.ensures.value)) i })
 
 pub returns-clause-cells : goal.returns-clause-cells
 returns-clause-cells g c =
     let cells = c.requires.table.holds.cells in
     let tiers = cleared_tiers c.args.cells.now.tiers cell_sizes cells.sizes_are in
     c.clear-2.ensures.value
-    ∙ (λ i. record { slots = take (c.requires.first i) c.args.cells.now.slots; first = c.requires.first i; tiers = tiers i; limit = c.args.cells.now.limit })
+    ∙ (λ i. record { slots = take (c.requires.first i) c.args.cells.now.slots; first = c.requires.first i; tiers = tiers i; limit = c.args.cells.now.limit; capacity = (sym (ap (λ (x : Store (Option g.row.T.Denot)). x.capacity) c.clear-2.ensures.value)) i })

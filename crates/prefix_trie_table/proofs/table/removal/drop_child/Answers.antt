@@ -1,4 +1,4 @@
-use Rattle.prefix_trie_table.proofs.Prelude.{◌≡◌, ◌+◌, ap, sym, ◌∙◌, refl, arith, Node, has_bit, rank, blank_node, node_sizes}
+use Rattle.prefix_trie_table.proofs.Prelude.{inl, ◌≡◌, ◌+◌, ap, sym, ◌∙◌, refl, arith, Node, has_bit, rank, blank_node, node_sizes}
 use Rattle.prefix_trie_table.proofs.Strings.Bare.{one_fewer}
 use Rattle.prefix_trie_table.proofs.Strings.Bits.{has_bit-is, rank-ones}
 use Rattle.prefix_trie_table.proofs.Strings.BitLists.{rank-below}
@@ -45,7 +45,14 @@ pub rank-requires : goal.rank-requires
 rank-requires g c = c.requires.child
 
 pub put-requires : goal.put-requires
-put-requires g c = omega (arith, (at_is c.args.nodes.now (c.args.at.start + c.args.at.place) c.requires.stands).1, c.remove_at-rest.ensures.loses.turnover.keeps.longer)
+put-requires g c =
+    record {
+      within = omega (arith, (at_is c.args.nodes.now (c.args.at.start + c.args.at.place) c.requires.stands).1, c.remove_at-rest.ensures.loses.turnover.keeps.longer);
+      tiers = record {
+        value_tier = inl c.visit-node.ensures.fits.value_tier;
+        child_tier = inl (omega (arith, c.remove_at-rest.ensures.tier, tiers_long c.args.nodes.now.tiers node_sizes c.requires.stands.0.hold.sizes_are));
+      };
+    }
 
 pub overflow_cast-left : goal.overflow_cast-left
 overflow_cast-left g c = omega (arith, c.remove_at-rest.ensures.tier, tiers_long c.args.nodes.now.tiers node_sizes c.requires.stands.0.hold.sizes_are)

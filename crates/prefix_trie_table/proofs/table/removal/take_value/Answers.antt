@@ -1,4 +1,4 @@
-use Rattle.prefix_trie_table.proofs.Prelude.{◌≡◌, ◌<◌, ◌+◌, Some, None, get_or, map, sym, ap, ◌∙◌, subst, refl, arith, length-set, rank, bits, node_sizes, cell_sizes}
+use Rattle.prefix_trie_table.proofs.Prelude.{Node, inl, inr, ◌≡◌, ◌<◌, ◌+◌, Some, None, get_or, map, sym, ap, ◌∙◌, subst, refl, arith, length-set, rank, bits, node_sizes, cell_sizes}
 use Rattle.prefix_trie_table.specs.Removals.{SameBlocks}
 use Rattle.prefix_trie_table.proofs.Strings.Bare.{one_fewer}
 use Rattle.prefix_trie_table.proofs.Strings.Bits.{has_bit-is, rank-ones}
@@ -42,7 +42,14 @@ pub rank-requires : goal.rank-requires
 rank-requires g c = omega (arith, c.requires.bit)
 
 pub put-requires : goal.put-requires
-put-requires g c = (at_is c.args.nodes.now (c.args.at.start + c.args.at.place) (at_values c.args.nodes.now c.args.cells.now (c.args.at.start + c.args.at.place) c.requires.stands)).1
+put-requires g c =
+    record {
+      within = (at_is c.args.nodes.now (c.args.at.start + c.args.at.place) (at_values c.args.nodes.now c.args.cells.now (c.args.at.start + c.args.at.place) c.requires.stands)).1;
+      tiers = record {
+        value_tier = inl (omega (arith, c.remove_at-value.ensures.tier, tiers_long c.args.cells.now.tiers cell_sizes c.requires.stands.0.holds.cells.sizes_are));
+        child_tier = inr (ap (λ (n : Node). n.child_tier) c.requires.node);
+      };
+    }
 
 pub overflow_cast-left : goal.overflow_cast-left
 overflow_cast-left g c = omega (arith, c.remove_at-value.ensures.tier, tiers_long c.args.cells.now.tiers cell_sizes c.requires.stands.0.holds.cells.sizes_are)

@@ -1,9 +1,10 @@
 use Rattle.prefix_trie_table.proofs.Prelude.{◌≡◌, ◌+◌, insert, remove, sym, ap, ◌∙◌}
+use Rattle.prefix_trie_table.proofs.Blocks.Capacity.{Sound-capacity}
 use Rattle.prefix_trie_table.proofs.Blocks.Soundness.{Sound-inserted}
 use Rattle.prefix_trie_table.proofs.allocator.blocks.Blocks.insert_within.Goals as goal
 
 pub returns-clause-sound : goal.returns-clause-sound
 returns-clause-sound g c = λ b live s starts count room.
     let xs = (g.R.SlotArray.list c.self.inside.slots) in
-    let written : (g.R.SlotArray.list c.shift_in.new.slots) ≡ insert (remove xs (b.start + c.args.count)) (b.start + c.args.place) c.args.value = c.shift_in.ensures.items ∙ ap (λ n. insert (remove xs (n + c.args.count)) (n + c.args.place) c.args.value) (sym starts) in
-    rw written (Sound-inserted g.S.Slot.vacant b live _ c.args.count c.args.place c.args.value count room c.requires.place (rw (← c.self.view_is) at s))
+    let written : (g.R.SlotArray.list c.insert_shifting.new.self) ≡ insert (remove xs (b.start + c.args.count)) (b.start + c.args.place) c.args.value = c.insert_shifting.ensures.list ∙ ap (λ n. insert (remove xs (n + c.args.count)) (n + c.args.place) c.args.value) (sym starts) in
+    rw written (Sound-capacity g.S.Slot.vacant _ _ (g.R.SlotArray.capacity c.insert_shifting.new.self) (Sound-inserted g.S.Slot.vacant b live _ c.args.count c.args.place c.args.value count room c.requires.place (rw (← c.self.view_is) at s)))

@@ -1,4 +1,5 @@
 use Rattle.prefix_trie_table.proofs.Prelude.{◌≡◌, ◌+◌, ◌∷◌, inl, inr, replicate, insert, sym, ap, ◌∙◌, arith, cases_lt, length-insert, run, put_run}
+use Rattle.prefix_trie_table.proofs.Blocks.Capacity.{Sound-capacity}
 use Rattle.prefix_trie_table.proofs.Blocks.Soundness.{Sound-exchanged, block_inside, fits_block}
 use Rattle.prefix_trie_table.proofs.Blocks.Moving.{Sound-put_over, two_apart, run_items, run_none}
 use Rattle.prefix_trie_table.proofs.allocator.blocks.Blocks.move_in.Goals as goal
@@ -22,6 +23,7 @@ move_in-requires g c =
       ];
       unused = ap (λ n. run (g.R.SlotArray.list v.slots) n (c.args.count + 1)) (sym q.5) ∙ (run_none g.S.Slot.vacant a b q.2 _ q.7 s (c.args.count + 1) (omega (arith, q.8)));
       place = c.requires.place;
+      value = c.requires.value;
     }
 
 pub returns-clause-sound : goal.returns-clause-sound
@@ -34,4 +36,5 @@ returns-clause-sound g c = λ a b live s0 from to count none room.
     ∙ ap (λ i. put_run (put_run xs a.start (replicate n g.S.Slot.vacant)) i (insert (run xs a.start n) c.args.place c.args.value)) (sym to)
     ∙ ap (λ ys. put_run (put_run xs a.start (replicate n g.S.Slot.vacant)) b.start (insert ys c.args.place c.args.value)) (run_items g.S.Slot.vacant a b live _ none s n count) in
     let long = length-insert a.items c.args.place c.args.value (omega (arith, count, c.requires.place)) in
-    Sound-put_over g.S.Slot.vacant a b live _ none s n (insert a.items c.args.place c.args.value) (g.R.SlotArray.list c.move_in.new.slots) count (omega (arith, long, count, room)) written
+    Sound-capacity g.S.Slot.vacant _ _ (g.R.SlotArray.capacity c.move_in.new.slots)
+    (Sound-put_over g.S.Slot.vacant a b live _ none s n (insert a.items c.args.place c.args.value) (g.R.SlotArray.list c.move_in.new.slots) count (omega (arith, long, count, room)) written)

@@ -1,5 +1,5 @@
-use Rattle.prefix_trie_table.proofs.Prelude.{◌≡◌, ℕ, ◌+◌, ◌-◌, None, refl, sym, ap, ◌∙◌, subst, arith, Turnover, tier_sizes, size_in, free_in, many_of, none_of}
-use Rattle.prefix_trie_table.proofs.Blocks.BySize.{tiers_long, many-add, many-none}
+use Rattle.prefix_trie_table.proofs.Prelude.{◌≡◌, ℕ, ◌+◌, ◌-◌, None, refl, sym, ap, ◌∙◌, subst, arith, err_from_is_err_and, Turnover, tier_sizes, size_in, free_in, many_of, none_of}
+use Rattle.prefix_trie_table.proofs.Blocks.BySize.{tiers_long, many-add, many-none, slots_of-none}
 use Rattle.prefix_trie_table.proofs.Blocks.Turnovers.{Turnover-as, Turnover-then, Turnover-same}
 use Rattle.prefix_trie_table.proofs.allocator.blocks.Blocks.obtain.Goals as goal
 
@@ -53,3 +53,31 @@ pub returns-clause-unchanged : goal.returns-clause-unchanged
 returns-clause-unchanged g c = λ few.
     let inv = c.loop-i.invariant in
     inv.unchanged (omega (arith, few, inv.from, inv.bound))
+
+pub returns-in_err-make : goal.returns-in_err-make
+returns-in_err-make g c =
+    let v = c.args.self.now in
+    let u = c.loop-i.self in
+    let w = c.make.new.self in
+    let inv = c.loop-i.invariant in
+    let size : ℕ = size_in (tier_sizes c.args.self.now.tiers) c.args.k in
+    let free : ℕ = free_in c.args.self.now.tiers (size_in (tier_sizes c.args.self.now.tiers) c.args.k) in
+    let none : Turnover u w none_of None None = c.in_err-make.ensures.err in
+    let long = none.longer in
+    let nothing = slots_of-none (tier_sizes u.tiers) none_of (λ j. refl) in
+    let limit = none.keeps.limit_is in
+    let same : size_in (tier_sizes u.tiers) c.args.k ≡ size = ap (λ ns. size_in ns c.args.k) inv.made.keeps.sizes in
+    let range = c.in_err-make.ensures.range in
+    let p = err_from_is_err_and c.from_residual.result c.from_residual.ensures.1 in
+    rw (p.1, p.2) (record {
+      made = tt;
+      err = (
+        c.loop-i._i - free,
+        omega (arith, inv.from, c.loop-i-test.true),
+        Turnover-as v w _ _ None None (λ s. omega arith) (Turnover-then v u w _ none_of None None None None None None (λ s. refl) inv.made none),
+      );
+      range = (λ e. (let past = range.0 e in omega (arith, past, long, nothing, limit, same)), λ past. range.1 (omega (arith, past, long, nothing, limit, same)));
+      unchanged = λ few. absurd (omega (arith, few, inv.from, c.loop-i-test.true));
+      kept = λ i d h. c.make.ensures.kept i d (let l = inv.made.keeps.longer in omega (arith, h, l)) ∙ inv.kept i d h;
+      sound = λ live s. c.make.ensures.sound live (inv.sound live s);
+    })

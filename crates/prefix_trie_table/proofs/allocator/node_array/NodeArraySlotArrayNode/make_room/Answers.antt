@@ -1,15 +1,26 @@
-use Rattle.prefix_trie_table.proofs.Prelude.{◌≡◌, ◌+◌, ◌≤◌, length, sym, ap, ◌∙◌, arith, vec_len, vec_capacity}
+use Rattle.prefix_trie_table.proofs.Prelude.{◌≡◌, ◌+◌, ◌<◌, ◌≤◌, length, sym, ◌∙◌, subst, arith, vec_len, vec_capacity}
+use Rattle.prefix_trie_table.specs.NodeArrays.{NodeList, nodes_of}
 use Rattle.prefix_trie_table.proofs.Blocks.NodeLists.{length-nodes}
 use Rattle.prefix_trie_table.proofs.allocator.node_array.NodeArraySlotArrayNode.make_room.Goals as goal
-use Rattle.std.proofs.lemmas.Result.{on_ok_weaker}
-use Rattle.std.proofs.Math.Nat.{le-min}
 
-pub returns-clause-ok : goal.returns-clause-ok
-returns-clause-ok g c =
+pub returns-then-count-capacity-clause-ok : goal.returns-then-count-capacity-clause-ok
+returns-then-count-capacity-clause-ok g c =
     let v = c.self.inside in
-    let first = c.make_room.new.items in
-    let second = c.make_room-2.new.items in
-    let same : length first.items ≡ length second.items = ap length c.make_room.ensures.items ∙ c.self.invariant ∙ sym (ap length c.make_room-2.ensures.items) in
-    let long = length-nodes first.items second.items same in
-    let room : vec_len first + c.args.count ≤ vec_capacity first = c.in_ok-make_room.ensures.ok in
-    on_ok_weaker c.make_room-2.result (λ (h : vec_len second + c.args.count ≤ vec_capacity second). le-min (omega (arith, long, room, first.ok.0)) (omega (arith, long, same, h, second.ok.0))) c.make_room-2.ensures.ok
+    let long = length-nodes v.heads.items v.tiers.items c.self.invariant.0 in
+    let fits : length (nodes_of v.heads.items v.tiers.items) + c.args.count ≤ vec_capacity v.tiers = omega (arith, long, c.self.invariant.0, v.tiers.ok.0, v.tiers.ok.1, c.capacity.ensures, c.len.ensures, c.if-count-capacity.true) in
+    subst (λ (a : NodeList). length a.list + c.args.count ≤ a.capacity) c.self.view_is fits
+
+pub grow-requires : goal.grow-requires
+grow-requires g c =
+    let v = c.self.inside in
+    let long = length-nodes v.heads.items v.tiers.items c.self.invariant.0 in
+    let lacks : vec_capacity v.tiers < length (nodes_of v.heads.items v.tiers.items) + c.args.count = omega (arith, long, c.self.invariant.0, v.tiers.ok.0, c.capacity.ensures, c.len.ensures, c.if-count-capacity.false) in
+    subst (λ (a : NodeList). a.capacity < length a.list + c.args.count) c.self.view_is lacks
+
+pub returns-clause-succeeds : goal.returns-clause-succeeds
+returns-clause-succeeds g c = λ fits.
+    let v = c.self.inside in
+    let long = length-nodes v.heads.items v.tiers.items c.self.invariant.0 in
+    let lacks : vec_capacity v.tiers < length (nodes_of v.heads.items v.tiers.items) + c.args.count = omega (arith, long, c.self.invariant.0, v.tiers.ok.0, c.capacity.ensures, c.len.ensures, c.if-count-capacity.false) in
+    let less : c.args.self.now.capacity < length c.args.self.now.list + c.args.count = subst (λ (a : NodeList). a.capacity < length a.list + c.args.count) c.self.view_is lacks in
+    absurd (omega (arith, fits, less))

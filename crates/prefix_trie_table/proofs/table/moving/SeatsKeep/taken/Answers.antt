@@ -26,8 +26,11 @@ put-requires g c =
     let s = c.args.self.now in
     let n = subst (Next g (take c.args._len (g.K.Key.bits c.args._key)) c.args.value) (sym c.requires.refused.1.0) c.requires.refused.1.1 in
     let t = whole_tree g.K.Key.IsKey g.K.Key.bits g.K.Key.bit_width s.nodes s.cells s.key s.stack.items _ _ n.shape n.later n.awaits in
-    seat_inside g.K.Key.IsKey g.K.Key.bits g.K.Key.bit_width s.nodes s.cells s.key s.stack.items _ _ n.shape n.later n.awaits
-    c.advance.new.key c.advance.new.stack.items _ _ c.in-Some.seat (c.in-Some.ensures.entry t n.awaits.trie)
+    record {
+      within = seat_inside g.K.Key.IsKey g.K.Key.bits g.K.Key.bit_width s.nodes s.cells s.key s.stack.items _ _ n.shape n.later n.awaits
+          c.advance.new.key c.advance.new.stack.items _ _ c.in-Some.seat (c.in-Some.ensures.entry t n.awaits.trie);
+      value = tt;
+    }
 
 pub returns : goal.returns
 returns g c = λ before refused.

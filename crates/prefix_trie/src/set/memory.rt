@@ -1,0 +1,42 @@
+//! Giving memory back.
+ghost use Rattle.std.specs.Prelude.{◌≡◌, OnOk, OnErr, IfErr};
+ghost use Rattle.prefix_trie_bits.specs.declared.prefix.Refusal.TheVariants.{Memory};
+ghost use Rattle.prefix_trie_bits.specs.Model.HandsOut.{IsPacked};
+ghost use Rattle.prefix_trie_bits.specs.Model.Nodes.{needed};
+ghost use Rattle.prefix_trie_map.specs.Steps.{state, stored};
+ghost use Rattle.prefix_trie_table.specs.Shape.{storage};
+
+use crate::set::PrefixSet;
+use prefix_trie_bits::prefix::{Prefix, Refusal};
+use std::alloc::{AllocError, Allocator};
+
+impl<P: Prefix, A: Allocator> PrefixSet<P, A> {
+    /// Frees the memory that the set has reserved and does not use, as `PrefixMap::shrink_to_fit`.
+    ///
+    /// # Errors
+    ///
+    /// Returns an error if memory of a smaller size could not be allocated. In both cases the set is the same.
+    pub fn shrink_to_fit(&mut self) -> Result<(), AllocError>
+        ensures { self.new ≡ self.old }
+    {
+        self.map.shrink_to_fit()
+    }
+}
+
+impl<P: Prefix, A: Allocator + Clone> PrefixSet<P, A> {
+    /// Moves all keys to new arrays that are as small as those of a set with these keys can be, as `PrefixMap::compact`.
+    ///
+    /// # Errors
+    ///
+    /// Returns `Memory` if an allocation failed, and never `IndexRange`. The set is as it was then, its slots and blocks too.
+    pub fn compact(&mut self) -> Result<(), Refusal>
+        ensures entries { OnOk result (self.new.entries ≡ self.old.entries) }
+        ensures nodes { OnOk result (self.new.nodes ≡ needed self.old.entries) }
+        ensures packed { OnOk result (IsPacked (state self.new) (storage self.new)) }
+        ensures limit { OnOk result (self.new.room.limit ≡ self.old.room.limit) }
+        ensures unchanged { OnErr result (stored self.new ≡ stored self.old) }
+        ensures only_memory { IfErr result (λ cause. cause ≡ Memory) }
+    {
+        self.map.compact()
+    }
+}

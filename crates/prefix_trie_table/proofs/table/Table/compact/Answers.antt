@@ -1,0 +1,15 @@
+use Rattle.prefix_trie_table.proofs.Prelude.{◌≡◌, cond, [], None, get, ap, ◌∙◌, begins-nil, get-part_below, needed, same_entries}
+use Rattle.prefix_trie_bits.specs.Model.Entries.{Entries, part_below}
+use Rattle.prefix_trie_table.proofs.table.Table.compact.Goals as goal
+
+-- the empty string begins each key
+all_below : {T : Type 0} (m : Entries T) → part_below m [] ≡ m
+all_below m = same_entries (part_below m []) m (λ t. get-part_below m [] t ∙ ap (λ b. cond b (get m t) None) (begins-nil t))
+
+pub returns-clause-entries : goal.returns-clause-entries
+returns-clause-entries g c = c.in_ok-compacted.ensures.handed.hands_out.handed ∙ all_below c.args.self.now.entries
+
+pub returns-clause-nodes : goal.returns-clause-nodes
+returns-clause-nodes g c =
+    let handed = c.in_ok-compacted.ensures.handed.hands_out in
+    handed.handed_nodes ∙ ap needed (handed.handed ∙ all_below c.args.self.now.entries)

@@ -1,0 +1,50 @@
+//! Memory that a table does not need: what is reserved and unused, and blocks that are free or larger than their lists.
+ghost use Rattle.std.specs.Prelude.{◌≡◌, OnOk, OnErr, IfErr};
+ghost use Rattle.prefix_trie_bits.specs.declared.prefix.Refusal.TheVariants.{Memory};
+ghost use Rattle.prefix_trie_bits.specs.Model.Entries.{AreWithin};
+ghost use Rattle.prefix_trie_bits.specs.Model.HandsOut.{IsPacked};
+ghost use Rattle.prefix_trie_bits.specs.Model.Nodes.{AreNodes, needed};
+ghost use Rattle.prefix_trie_table.specs.Shape.{state, storage};
+ghost use Rattle.prefix_trie_table.specs.Steps.{stored};
+
+use crate::allocator::nodes::Tick;
+use crate::table::Table;
+use prefix_trie_bits::prefix::{Key, Refusal};
+use std::alloc::{AllocError, Allocator};
+
+impl<T: Drop, A: Allocator, V: Tick> Table<T, A, V> {
+    /// Frees the memory that no slot needs and no place for a block that may be given back. Contracts see no change.
+    ///
+    /// # Errors
+    ///
+    /// Returns an error if an allocation of less memory failed. What was freed until then stays free.
+    pub fn shrink_to_fit(&mut self) -> Result<(), AllocError>
+        ensures { self.new ≡ self.old }
+    {
+        self.nodes.shrink_to_fit()?;
+        self.cells.shrink_to_fit()
+    }
+}
+
+impl<T: Drop, A: Allocator + Clone, V: Tick> Table<T, A, V> {
+    /// Moves all entries to new arrays, which have just the nodes that the entries need, in the smallest blocks that hold their lists, in
+    /// listing order, and no free block. The limit is the same.
+    ///
+    /// # Errors
+    ///
+    /// Returns `Memory` if an allocation failed. All memory is allocated before the first value moves, so the table is as it was then.
+    pub fn compact<K: Key>(&mut self, counter: &mut V) -> Result<(), Refusal>
+        requires within { AreWithin K.bit_width self.old.entries }
+        requires nodes { AreNodes K.bit_width self.old.entries self.old.nodes }
+        ensures entries { OnOk result (self.new.entries ≡ self.old.entries) }
+        ensures nodes { OnOk result (self.new.nodes ≡ needed self.old.entries) }
+        ensures packed { OnOk result (IsPacked (state self.new) (storage self.new)) }
+        ensures limit { OnOk result (self.new.room.limit ≡ self.old.room.limit) }
+        ensures kept { OnErr result (stored self.new ≡ stored self.old) }
+        ensures memory { IfErr result (λ cause. cause ≡ Memory) }
+    {
+        let compacted = self.remove_children(K::zero(), 0, counter)?;
+        *self = compacted;
+        Ok(())
+    }
+}
