@@ -18,8 +18,9 @@ pub const EQUAL: [SetLine; 3] = [
 ];
 
 /// Row 24: the text of a set.
-pub const PAIRS_AS_TEXT: [SetLine; 2] = [
+pub const PAIRS_AS_TEXT: [SetLine; 3] = [
     FromIter(&[(0, 0), (0, 1), (0x8000_0000, 1)]),
+    Keys(&[(0, 0), (0, 1), (0x8000_0000, 1)]),
     Text("{(0, 0), (0, 1), (2147483648, 1)}"),
 ];
 

@@ -1,7 +1,7 @@
 //! Tables of sets: calls of a set beside the answers that they should have, and what puts them to a set.
 ghost use Rattle.std.specs.Prelude.{All, IfSome, IfOk};
 
-use crate::table::{Number, Pair, Written, fitting, is_number};
+use crate::table::{Number, Pair, Written, fitting, is, is_number};
 use prefix_trie::{Prefix, PrefixSet, Refusal};
 use std::alloc::{AllocError, Global};
 
@@ -28,6 +28,8 @@ pub enum SetLine {
     NodeCount(usize),
     /// The debug text.
     Text(&'static str),
+    /// All keys in order, in a `for` over the set and in one that takes a copy apart.
+    Keys(&'static [Pair]),
 }
 
 /// Whether each call of a table has its answer, in order. Refused if there is no memory for the first set.
@@ -59,6 +61,7 @@ fn holds<P: Written>(alloc: Global, set: &mut Set<P>, line: &SetLine) -> bool {
         SetLine::Len(count) => set.len() == *count && set.is_empty() == (*count == 0),
         SetLine::NodeCount(count) => set.node_count() == *count,
         SetLine::Text(text) => has_text(alloc, set, text),
+        SetLine::Keys(pairs) => lists(set, pairs) && gives_up(set, pairs),
     }
 }
 
@@ -135,4 +138,35 @@ fn has_text<P: Prefix>(alloc: Global, set: &Set<P>, text: &str) -> bool {
         Ok(written) => written.as_str() == text,
         Err(_) => false,
     }
+}
+
+/// Whether a loop over a set gives these keys. This crate lists `prefix_trie` alone, as a user's may.
+fn lists<P: Prefix>(set: &Set<P>, pairs: &[Pair]) -> bool {
+    let mut rest = pairs.iter();
+    for prefix in set {
+        match rest.next() {
+            Some(pair) if is(&prefix, *pair) => {}
+            _ => return false,
+        }
+    }
+    rest.next().is_none()
+}
+
+/// Whether a loop that takes a copy of a set apart gives these keys.
+fn gives_up<P: Prefix>(set: &Set<P>, pairs: &[Pair]) -> bool {
+    match set.clone() {
+        Ok(copy) => are_keys(copy, pairs),
+        Err(_) => false,
+    }
+}
+
+fn are_keys<P: Prefix>(set: Set<P>, pairs: &[Pair]) -> bool {
+    let mut rest = pairs.iter();
+    for prefix in set {
+        match rest.next() {
+            Some(pair) if is(&prefix, *pair) => {}
+            _ => return false,
+        }
+    }
+    rest.next().is_none()
 }
