@@ -1,4 +1,5 @@
 pub mod Prelude
+pub mod Always
 pub mod Putting
 pub mod Rewriting
 pub mod Callers

@@ -7,7 +7,7 @@ use prefix_trie::{Prefix, PrefixMap, PrefixSet};
 use std::alloc::{Allocator, Global};
 
 /// Keeps the entries at which a test answers true. It has no `ensures`, which each caller would have to read.
-#[tactic(auto, using(crate::proofs::Always::may_ask_of_map))]
+#[tactic(auto, using(prefix_trie::proofs::Always::may_ask_of_map))]
 pub fn keep_where<P: Prefix, A: Allocator, F: FnMut(&P, &u64) -> bool + Drop>(
     map: &mut PrefixMap<P, u64, A>,
     test: F,
@@ -18,7 +18,7 @@ pub fn keep_where<P: Prefix, A: Allocator, F: FnMut(&P, &u64) -> bool + Drop>(
 }
 
 /// The same of a set.
-#[tactic(auto, using(crate::proofs::Always::may_ask_of_set))]
+#[tactic(auto, using(prefix_trie::proofs::Always::may_ask_of_set))]
 pub fn keep_keys_where<P: Prefix, A: Allocator, F: FnMut(&P) -> bool + Drop>(
     set: &mut PrefixSet<P, A>,
     test: F,

@@ -1,5 +1,5 @@
 -- A test that may always be called may be asked at each entry, or at each key, in turn.
-use Rattle.prefix_trie_tests.proofs.Prelude.{Bool, List, [], ◌∷◌, refl}
+use Rattle.prefix_trie.proofs.Prelude.{Bool, List, [], ◌∷◌, refl}
 use Rattle.std.specs.Borrow.{Bor}
 use Rattle.std.specs.Fn.{Mut, always_mut}
 use Rattle.prefix_trie_bits.specs.Model.Asking.{MayAskInOrder}
